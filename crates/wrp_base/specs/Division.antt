@@ -1,0 +1,11 @@
+-- Quotients of whole numbers by a positive one, rounded down and up.
+use Rattle.std.specs.Prelude.{ℤ, neg_ℤ}
+use Rattle.std.specs.Int.{int_div_euclid}
+
+-- a / b rounded down
+abbrev pub floor_quotient : ℤ → ℤ → ℤ
+floor_quotient a b = int_div_euclid a b
+
+-- a / b rounded up
+abbrev pub ceil_quotient : ℤ → ℤ → ℤ
+ceil_quotient a b = neg_ℤ (int_div_euclid (neg_ℤ a) b)

@@ -1,0 +1,4 @@
+pub mod Circle
+pub mod Clock
+pub mod Division
+pub mod Message
