@@ -1,10 +1,8 @@
 -- Messages: which ones can be sent (IEEE 1588-2019, and this project's profile for the Sync).
-use Rattle.std.specs.Prelude.{ℕ, ◌≡◌, ◌<◌, ◌^◌}
+use Rattle.std.specs.Prelude.{◌<◌, ◌^◌}
 use Rattle.wrp_base.specs.declared.time.Ts.{Ts}
-use Rattle.wrp_base.specs.declared.message.Head.{Head}
 use Rattle.wrp_base.specs.declared.message.Body.{Body}
-use Rattle.wrp_base.specs.declared.message.Body.TheVariants.{Sync, DelayReq, FollowUp, DelayResp, Announce, Signal}
-use Rattle.wrp_base.specs.declared.message.PtpMsg.{PtpMsg}
+use Rattle.wrp_base.specs.declared.message.Body.TheVariants.{Sync}
 
 -- a timestamp that fits its 48 bits of seconds and has less than a second of nanoseconds
 abbrev pub FitsTimestamp : Ts → Type 0

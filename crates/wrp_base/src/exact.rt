@@ -1,6 +1,7 @@
 //! Exact arithmetic on tau: the only place where anything is rounded, and the few operations whose
 //! results are known to fit.
 ghost use Rattle.std.specs.Prelude.{◌≡◌, ℕ, ℤ, pos, ◌+◌, ◌^◌, ◌<◌, ◌≤◌, ◌≤ℤ◌, ◌<ℤ◌, ◌+ℤ◌, ◌-ℤ◌, ◌*ℤ◌, unsigned_abs};
+ghost use Rattle.std.specs.Int.{int_rem_euclid};
 ghost use Rattle.wrp_base.specs.Division.{floor_quotient, ceil_quotient};
 ghost use Rattle.wrp_base.specs.Circle.{distance_round};
 
@@ -9,7 +10,9 @@ use crate::{Clock, Tau};
 /// `a / b` rounded down, towards minus infinity.
 pub fn floor_div(a: i128, b: i128) -> i128
     requires { pos 0 <ℤ b }
-    ensures { result ≡ floor_quotient a b }
+    ensures value { result ≡ floor_quotient a b }
+    ensures at_most { (b *ℤ result) ≤ℤ a }
+    ensures next { a <ℤ (b *ℤ result +ℤ b) }
 {
     a.div_euclid(b)
 }
@@ -17,20 +20,33 @@ pub fn floor_div(a: i128, b: i128) -> i128
 /// `a / b` rounded up, towards infinity.
 pub fn ceil_div(a: i128, b: i128) -> i128
     requires { pos 0 <ℤ b }
-    ensures { result ≡ ceil_quotient a b }
+    ensures value { result ≡ ceil_quotient a b }
+    ensures at_least { a ≤ℤ (b *ℤ result) }
+    ensures next { (b *ℤ result) <ℤ (a +ℤ b) }
 {
     if 0 < a { (a - 1) / b + 1 } else { a / b }
 }
 
 /// The distance of `a` and `b` round the period, in tau: from 0 to half a period.
 pub fn circ(a: Tau, b: Tau, clock: Clock) -> Tau
-    requires a { unsigned_abs a < 2 ^ 100 }
-    requires b { unsigned_abs b < 2 ^ 100 }
+    requires a { unsigned_abs a ≤ 2 ^ 100 }
+    requires b { unsigned_abs b ≤ 2 ^ 100 }
     ensures { result ≡ pos (distance_round clock a b) }
 {
-    let period = clock.period();
-    let ahead = (a - b).rem_euclid(period);
-    ahead.min(period - ahead)
+    let period = clock.period().unsigned_abs();
+    let ahead = remainder(difference(a, b), period);
+    let distance = ahead.min(period - ahead);
+    distance as i128
+}
+
+// What is left of `a` when whole periods are taken away or added: from 0 to below the period.
+fn remainder(a: Tau, period: u128) -> u128
+    requires positive { 0 < period }
+    requires small { period < 2 ^ 31 }
+    ensures value { result ≡ unsigned_abs (int_rem_euclid a (pos period)) }
+    ensures below { result < period }
+{
+    a.rem_euclid(period as i128).unsigned_abs()
 }
 
 /// `a * b`, where it is known to fit.
@@ -61,4 +77,53 @@ pub fn difference(a: i128, b: i128) -> i128
     ensures size { unsigned_abs result ≤ 2 ^ 126 }
 {
     a - b
+}
+
+#[cfg(test)]
+mod tests {
+    use super::*;
+
+    // a, b, a / b rounded down, a / b rounded up
+    const QUOTIENTS: [(i128, i128, i128, i128); 8] = [
+        (0, 5, 0, 0),
+        (7, 2, 3, 4),
+        (-7, 2, -4, -3),
+        (6, 3, 2, 2),
+        (-6, 3, -2, -2),
+        (1, 1_000_000_000_000, 0, 1),
+        (-1, 1_000_000_000_000, -1, 0),
+        (i128::MIN, 1, i128::MIN, i128::MIN),
+    ];
+
+    // a, b, the distance round the period of 125 MHz
+    const DISTANCES: [(Tau, Tau, Tau); 6] = [
+        (0, 0, 0),
+        (524_288_000, 0, 0),
+        (1, 524_287_999, 2),
+        (-1, 1, 2),
+        (262_144_000, 0, 262_144_000),
+        (0, 262_144_001, 262_143_999),
+    ];
+
+    #[test]
+    fn quotients(rt: HostRuntime) {
+        for (a, b, down, up) in QUOTIENTS {
+            assert!(rt; b > 0);
+            assert_eq!(rt; floor_div(a, b), down, "{a} / {b} down");
+            assert_eq!(rt; ceil_div(a, b), up, "{a} / {b} up");
+        }
+    }
+
+    #[test]
+    fn distances(rt: HostRuntime) {
+        for (a, b, apart) in DISTANCES {
+            assert!(rt; a.unsigned_abs() < 1 << 100 && b.unsigned_abs() < 1 << 100);
+            assert_eq!(rt; circ(a, b, Clock::Mhz125), apart, "{a} and {b}");
+        }
+        assert_eq!(rt; circ(1, 1_048_575_999, Clock::Mhz62), 2);
+        assert_eq!(rt;
+            (product(-3, 5), sum(-3, 5), difference(-3, 5)),
+            (-15, 2, -8)
+        );
+    }
 }
