@@ -27,7 +27,9 @@ pub data Row : Type 0 where
   Resends : List WrMsg → Row
   -- the handshake failed
   Fails : Row
-  -- the tick is counted, and nothing else
+  -- the timer runs on
+  Waits : Row
+  -- the tick is counted by the counts of the state
   Counts : Row
   -- the carrier came, with this module
   CarrierComes : Option Module → Row
@@ -94,13 +96,15 @@ resent l Locked = LOCKED ∷ []
 resent l Calibrated = own_calibrate ∷ (own_calibrated l.fitted ∷ [])
 resent l _ = []
 
--- the row of a tick in a waiting state: its timer runs, or ends with a retry left or without
+-- the row of a tick in a waiting state: its timer runs on, or it ends, with a retry left or without
 abbrev pub timer_row : LinkAt → Option Waiting → Row
-timer_row l None = Counts
-timer_row l (Some w) = cond (eqb w.ticks 1) (cond (ltb 0 w.retries) (Resends (resent l l.state)) Fails) Counts
+timer_row l (Some w) = cond (eqb w.ticks 1) (cond (ltb 0 w.retries) (Resends (resent l l.state)) Fails) Waits
+timer_row l None = Waits
 
 -- the rows of a tick, with the lock detector locked or not
 abbrev pub tick_row : LinkAt → LinkState → Bool → Row
+tick_row l Idle _ = Counts
+tick_row l LinkOn _ = Counts
 tick_row l SLock true = Moves Locked (LOCKED ∷ [])
 tick_row l Calibration _ = Moves Calibrated (own_calibrated l.fitted ∷ [])
 tick_row l _ _ = timer_row l l.waiting

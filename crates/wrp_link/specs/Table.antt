@@ -11,7 +11,7 @@ use Rattle.wrp_link.specs.declared.interface.LinkIn.{LinkIn}
 use Rattle.wrp_link.specs.declared.interface.LinkIn.TheVariants.{Msg}
 use Rattle.wrp_link.specs.declared.interface.LinkSet.{LinkSet}
 use Rattle.wrp_link.specs.LinkAt.{LinkAt, Waiting, new_link, wait_of, armed, entering, failed, with_carrier}
-use Rattle.wrp_link.specs.Rows.{Row, NoRow, Stays, Moves, Keeps, Resends, Fails, Counts, CarrierComes, CarrierGoes, row_of}
+use Rattle.wrp_link.specs.Rows.{Row, NoRow, Stays, Moves, Keeps, Resends, Fails, Waits, Counts, CarrierComes, CarrierGoes, row_of}
 
 -- one tick less on a timer
 abbrev pub ticked : Option Waiting → Option Waiting
@@ -23,12 +23,12 @@ abbrev pub retried : Option Waiting → Option ℕ → Option Waiting
 retried (Some w) ticks = armed ticks (w.retries - 1)
 retried None ticks = None
 
--- the link after a tick that is only counted: in IDLE the quiet time and the holdoff run, in WR_LINK_ON
--- the ticks of that state, which stand still at the end of their type, elsewhere the timer
+-- the link after a tick that is counted: in IDLE the quiet time and the holdoff run, in WR_LINK_ON the
+-- ticks of that state are counted, up to the end of their type
 abbrev pub counted : LinkAt → LinkState → LinkAt
 counted l Idle = record l { quiet = l.quiet - 1; holdoff = l.holdoff - 1 }
 counted l LinkOn = record l { on_ticks = min (l.on_ticks + 1) 4_294_967_295 }
-counted l _ = record l { waiting = ticked l.waiting }
+counted l _ = l
 
 -- the link after a row
 abbrev pub by_row : LinkAt → Row → LinkAt
@@ -38,6 +38,7 @@ by_row l (Moves next sends) = entering l next
 by_row l (Keeps tx rx next sends) = record (entering l next) { deltas = Some (tx, rx) }
 by_row l (Resends sends) = record l { waiting = retried l.waiting (wait_of l.set l.state) }
 by_row l Fails = failed l
+by_row l Waits = record l { waiting = ticked l.waiting }
 by_row l Counts = counted l l.state
 by_row l (CarrierComes fitted) = with_carrier l fitted
 by_row l CarrierGoes = new_link l.role l.set
@@ -62,6 +63,15 @@ sends_of l input = sent_by (row_of l input)
 abbrev pub is_row : Row → Bool
 is_row NoRow = false
 is_row _ = true
+
+-- what a row answers to a message: None where there is none
+abbrev pub answer_by : Row → Option (List WrMsg)
+answer_by row = cond (is_row row) (Some (sent_by row)) None
+
+-- what an input answers: None for a message without a row
+abbrev pub answer_to : LinkAt → LinkIn → Option (List WrMsg)
+answer_to l (Msg message) = answer_by (row_of l (Msg message))
+answer_to l input = Some (sends_of l input)
 
 -- whether an input is used: only a message without a row is not
 abbrev pub is_used : LinkAt → LinkIn → Bool
