@@ -1,11 +1,12 @@
 -- What is due for the words of the command line and the octets of the input: one status and the octets
 -- that are written (this project's profile).
-use Rattle.std.specs.Prelude.{◌≡◌, ◌≢◌, ℕ, ◌+◌, ◌<◌, ◌≤◌, List, [], ◌∷◌, ◌++◌, length}
+use Rattle.std.specs.Prelude.{◌≡◌, ◌≢◌, true, ℕ, ◌+◌, ◌<◌, ◌≤◌, List, [], ◌∷◌, ◌++◌, length}
 use Rattle.wrp_run.specs.declared.status.Status.{Status}
-use Rattle.wrp_run.specs.declared.status.Status.TheVariants.{Done, Usage, BadNetwork, BadTrace, TooLarge}
+use Rattle.wrp_run.specs.declared.status.Status.TheVariants.{Done, Usage, BadNetwork, BadTrace, Broken, TooLarge}
 use Rattle.wrp_run.specs.declared.records.Record.{Record}
 use Rattle.wrp_run.specs.declared.network.TheConstants.{TWO_NODES}
 use Rattle.wrp_run.specs.declared.reading.TheConstants.{INPUT_LIMIT}
+use Rattle.wrp_run.specs.Statuses.{is_answer}
 use Rattle.wrp_run.specs.Words.{IsReplay}
 use Rattle.wrp_run.specs.Input.{network_text, record_lines}
 use Rattle.wrp_run.specs.Records.{IsNoRecord, AreRecords}
@@ -38,3 +39,10 @@ abbrev pub Answer : List (List ℕ) → List ℕ → Status → List ℕ → Typ
 Answer words input Usage octets = (IsReplay words → ⊥) × (octets ≡ usage_line)
 Answer words input TooLarge octets = IsReplay words × (INPUT_LIMIT < length input) × (octets ≡ too_large_line)
 Answer words input status octets = IsReplay words × (length input ≤ INPUT_LIMIT) × InputAnswer input status octets
+
+-- what the words alone say of an answer, whatever the input is
+pub record IsReplyTo (words : List (List ℕ)) (status : Status) (octets : List ℕ) : Type 0 where
+  pub answer : is_answer status ≡ true
+  pub usage : (IsReplay words → ⊥) → (status ≡ Usage) × (octets ≡ usage_line)
+  pub command : status ≡ Usage → IsReplay words → ⊥
+  pub unbroken : status ≡ Broken → ⊥

@@ -14,4 +14,5 @@ mod text;
 mod words;
 mod writing;
 
+pub use command::run;
 pub use status::Status;

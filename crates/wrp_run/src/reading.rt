@@ -1,6 +1,6 @@
 //! The whole input, read before the first record is handled.
-ghost use Rattle.std.specs.Prelude.{◌≡◌, ◌<◌, ◌≤◌, ℕ, length};
-ghost use Rattle.std.specs.Io.KnownBytes.{Consumes, IsAtEnd};
+ghost use Rattle.std.specs.Prelude.{◌≡◌, ◌<◌, ◌≤◌, ℕ, length, IfSome};
+ghost use Rattle.std.specs.Io.KnownBytes.{IsAtEnd};
 ghost use Rattle.wrp_io.specs.Faults.{Rose};
 
 use std::alloc::Global;
@@ -36,8 +36,9 @@ pub(crate) struct Taken {
 
 /// Takes all that a source has, up to the limit.
 pub(crate) fn take_all<S: Source>(alloc: Global, source: &mut S) -> Taken
-    ensures whole { result.end ≡ End.Whole → Consumes (S.left source.old) (S.left source.new) result.bytes.items × IsAtEnd (S.left source.new) × (length result.bytes.items ≤ INPUT_LIMIT) }
-    ensures too_large { result.end ≡ End.TooLarge → Consumes (S.left source.old) (S.left source.new) result.bytes.items × (INPUT_LIMIT < length result.bytes.items) }
+    ensures whole { result.end ≡ End.Whole → IfSome (S.left source.old) (λ input. input ≡ result.bytes.items) }
+    ensures end { result.end ≡ End.Whole → IsAtEnd (S.left source.new) × (length result.bytes.items ≤ INPUT_LIMIT) }
+    ensures too_large { result.end ≡ End.TooLarge → IfSome (S.left source.old) (λ input. INPUT_LIMIT < length input) }
     ensures failed { result.end ≡ End.Failed → Rose (S.faults source.old) (S.faults source.new) }
 {
     let mut bytes = Vec::new(alloc);
