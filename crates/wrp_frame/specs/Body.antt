@@ -1,6 +1,6 @@
 -- The body of each kind at its fixed places (IEEE 1588-2019), with the White Rabbit message or
 -- suffix of the list of TLVs behind it. Reserved octets are free.
-use Rattle.std.specs.Prelude.{ℕ, List, slice_index}
+use Rattle.std.specs.Prelude.{ℕ, List, Option, slice_index}
 use Rattle.wrp_base.specs.declared.message.Body.{Body}
 use Rattle.wrp_base.specs.declared.message.Body.TheVariants as bodies
 use Rattle.wrp_base.specs.declared.message.PtpMsg.{PtpMsg}
@@ -12,13 +12,10 @@ use Rattle.wrp_frame.specs.Header.{head_at}
 use Rattle.wrp_frame.specs.TlvList.{TypedValue}
 use Rattle.wrp_frame.specs.WhiteRabbit.{first_message, first_suffix}
 
--- the body of the kind
-abbrev pub body_at : MessageType → List TypedValue → List ℕ → Body
-body_at Sync tlvs octets = bodies.Sync (timestamp_at TIMESTAMP_AT octets)
-body_at DelayReq tlvs octets = bodies.DelayReq (timestamp_at TIMESTAMP_AT octets)
-body_at FollowUp tlvs octets = bodies.FollowUp (timestamp_at TIMESTAMP_AT octets)
-body_at DelayResp tlvs octets = bodies.DelayResp (timestamp_at TIMESTAMP_AT octets) (identity_at REQUESTING_AT octets)
-body_at Announce tlvs octets = bodies.Announce
+-- the body of an Announce, with the wrFlags of its suffix
+abbrev pub announce_at : Option ℕ → List ℕ → Body
+announce_at suffix octets =
+    bodies.Announce
     (timestamp_at TIMESTAMP_AT octets)
     (signed_16_at UTC_OFFSET_AT octets)
     (slice_index octets PRIORITY1_AT)
@@ -27,7 +24,15 @@ body_at Announce tlvs octets = bodies.Announce
     (number_at GRANDMASTER_AT 8 octets)
     (number_at STEPS_AT 2 octets)
     (slice_index octets TIME_SOURCE_AT)
-    (first_suffix tlvs)
+    suffix
+
+-- the body of the kind
+abbrev pub body_at : MessageType → List TypedValue → List ℕ → Body
+body_at Sync tlvs octets = bodies.Sync (timestamp_at TIMESTAMP_AT octets)
+body_at DelayReq tlvs octets = bodies.DelayReq (timestamp_at TIMESTAMP_AT octets)
+body_at FollowUp tlvs octets = bodies.FollowUp (timestamp_at TIMESTAMP_AT octets)
+body_at DelayResp tlvs octets = bodies.DelayResp (timestamp_at TIMESTAMP_AT octets) (identity_at REQUESTING_AT octets)
+body_at Announce tlvs octets = announce_at (first_suffix tlvs) octets
 body_at Signaling tlvs octets = bodies.Signal (identity_at TARGET_AT octets) (first_message tlvs)
 
 -- the message of the kind: the header's fields and the body's

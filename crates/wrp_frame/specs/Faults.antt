@@ -10,7 +10,7 @@ use Rattle.wrp_frame.specs.declared.places.TheConstants.{HEADER_LENGTH, PTP_VERS
 use Rattle.wrp_frame.specs.Octets.{timestamp_at}
 use Rattle.wrp_frame.specs.MessageTypes.{least_length, has_timestamp, reads_white_rabbit}
 use Rattle.wrp_frame.specs.Header.{version_of, kind_of, message_length}
-use Rattle.wrp_frame.specs.TlvList.{TypedValue, Fills}
+use Rattle.wrp_frame.specs.TlvList.{TypedValue, Fills, IsFilledByNone}
 use Rattle.wrp_frame.specs.WhiteRabbit.{read_of, is_bad}
 use Rattle.wrp_frame.specs.Grammar.{tlv_part, IsTwoStep}
 
@@ -18,7 +18,7 @@ use Rattle.wrp_frame.specs.Grammar.{tlv_part, IsTwoStep}
 abbrev pub HasFaultOf : FrameFault → MessageType → List ℕ → Type 0
 HasFaultOf Length kind octets = (message_length octets < least_length kind) ⊎ (length octets < message_length octets)
 HasFaultOf Time kind octets = (has_timestamp kind ≡ true) × (NANOS_PER_SECOND ≤ (timestamp_at TIMESTAMP_AT octets).nanos)
-HasFaultOf Tlv kind octets = (tlvs : List TypedValue) → Fills tlvs (tlv_part kind octets) → ⊥
+HasFaultOf Tlv kind octets = IsFilledByNone (tlv_part kind octets)
 HasFaultOf BadWr kind octets =
     (reads_white_rabbit kind ≡ true)
     × ((tlvs : List TypedValue) × Fills tlvs (tlv_part kind octets) × (list_any (λ tlv. is_bad (read_of tlv)) tlvs ≡ true))

@@ -27,9 +27,11 @@ HasTime kind octets = has_timestamp kind ≡ true → (timestamp_at TIMESTAMP_AT
 abbrev pub tlv_part : MessageType → List ℕ → List ℕ
 tlv_part kind octets = slice_range octets (least_length kind) (message_length octets)
 
--- no TLV of the list is a bad one of White Rabbit, where the kind reads them
-abbrev pub HasSoundTlvs : MessageType → List TypedValue → Type 0
-HasSoundTlvs kind tlvs = reads_white_rabbit kind ≡ true → list_any (λ tlv. is_bad (read_of tlv)) tlvs ≡ false
+-- the list fills the part behind the body, and where the kind reads White Rabbit TLVs, none of them
+-- is a bad one
+pub record HasTlvs (kind : MessageType) (tlvs : List TypedValue) (octets : List ℕ) : Type 0 where
+  pub filled : Fills tlvs (tlv_part kind octets)
+  pub sound : reads_white_rabbit kind ≡ true → list_any (λ tlv. is_bad (read_of tlv)) tlvs ≡ false
 
 -- twoStepFlag is set
 abbrev pub IsTwoStep : List ℕ → Type 0
@@ -43,7 +45,10 @@ pub record Spells (octets : List ℕ) (message : PtpMsg) : Type 0 where
   pub sized : HasLength kind octets
   pub time : HasTime kind octets
   pub tlvs : List TypedValue
-  pub filled : Fills tlvs (tlv_part kind octets)
-  pub sound : HasSoundTlvs kind tlvs
+  pub listed : HasTlvs kind tlvs octets
   pub two_step : kind ≡ Sync → IsTwoStep octets
   pub is : message ≡ message_at kind tlvs octets
+
+-- no octets spell two messages
+abbrev pub SpellOneMessage : Type 0
+SpellOneMessage = (octets : List ℕ) (one other : PtpMsg) → Spells octets one → Spells octets other → one ≡ other

@@ -5,14 +5,10 @@ use Rattle.std.specs.Prelude.{ℕ, Bool, true, false, Option, Some, None, ◌==�
 use Rattle.wrp_frame.specs.declared.message_type.MessageType.{MessageType}
 use Rattle.wrp_frame.specs.declared.message_type.MessageType.TheVariants.{Sync, DelayReq, FollowUp, DelayResp, Announce, Signaling}
 
--- the kind that a messageType stands for, of those that are read
+-- the kind that a messageType stands for, of those that are read: so far the two of link setup
 abbrev pub kind_numbered : ℕ → Option MessageType
 kind_numbered n =
-    if n == 0x0 then Some Sync
-    else if n == 0x1 then Some DelayReq
-    else if n == 0x8 then Some FollowUp
-    else if n == 0x9 then Some DelayResp
-    else if n == 0xB then Some Announce
+    if n == 0xB then Some Announce
     else if n == 0xC then Some Signaling
     else None
 

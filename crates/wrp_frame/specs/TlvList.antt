@@ -19,3 +19,7 @@ abbrev pub Fills : List TypedValue → List ℕ → Type 0
 Fills [] octets = octets ≡ []
 Fills (tlv ∷ tlvs) octets =
     (head : List ℕ) × (rest : List ℕ) × (octets ≡ head ++ (tlv.value ++ rest)) × IsTlvHeader head tlv × Fills tlvs rest
+
+-- no list of whole TLVs fills the octets
+abbrev pub IsFilledByNone : List ℕ → Type 0
+IsFilledByNone octets = (tlvs : List TypedValue) → Fills tlvs octets → ⊥

@@ -3,11 +3,17 @@
 //! fields are read, which are free and which are refused is this project's profile.
 #![tactic(auto)]
 
+mod body;
 mod fault;
+mod found;
+mod header;
 mod message_type;
+mod numbers;
 pub mod places;
+mod reading;
 mod tlv;
 
 pub use fault::FrameFault;
 pub use message_type::MessageType;
-pub use tlv::{Tlv, TlvFault, WrRead};
+pub use reading::{decode, one_message};
+pub use tlv::{Tlv, TlvFault, WrRead, tlv_at, wr_of};
