@@ -17,3 +17,8 @@ pub use fault::FrameFault;
 pub use message_type::MessageType;
 pub use reading::{decode, one_message};
 pub use tlv::{Tlv, TlvFault, WrRead, tlv_at, wr_of};
+
+#[cfg(test)]
+mod tests;
+#[cfg(test)]
+mod vectors;
