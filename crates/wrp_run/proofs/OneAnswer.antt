@@ -1,10 +1,15 @@
 -- For words and an input one status and one text are due, and no others.
-use Rattle.std.proofs.Common.{◌≡◌, ◌≢◌, ◌⊎◌, inl, inr, ℕ, ◌+◌, ◌<◌, ◌≤◌, Option, None, Some, List, [], ◌∷◌, ◌++◌, length, IfSome, refl, sym, ap, ◌∙◌, subst, arith}
+use Rattle.std.proofs.Common.{◌≡◌, ◌≢◌, ◌⊎◌, inl, inr, ℕ, ◌+◌, ◌<◌, ◌≤◌, Option, None, Some, Result, Ok, Err, List, [], ◌∷◌, ◌++◌, length, IfSome, refl, sym, ap, ◌∙◌, subst, arith, codes}
 use Rattle.wrp_run.specs.declared.status.Status.{Status}
 use Rattle.wrp_run.specs.declared.status.Status.TheVariants.{Done, Usage, BadNetwork, BadTrace, Broken, ReadFault, WriteFault, LinkFault, TooLarge, OutOfMemory}
 use Rattle.wrp_run.specs.declared.records.Record.{Record}
-use Rattle.wrp_run.specs.declared.records.Record.TheVariants.{Reset, Tick, Up}
-use Rattle.wrp_run.specs.Records.{IsRecord, IsNoRecord, AreRecords}
+use Rattle.wrp_run.specs.declared.records.Record.TheVariants.{Reset, Tick, Up, Frame}
+use Rattle.wrp_base.specs.declared.message.PtpMsg.{PtpMsg}
+use Rattle.wrp_frame.specs.declared.fault.FrameFault.{FrameFault}
+use Rattle.wrp_frame.proofs.Exact.{spells_one, exactly_refused}
+use Rattle.wrp_run.specs.Fields.{parts_of}
+use Rattle.wrp_run.specs.Frames.{Says, IsHexOf}
+use Rattle.wrp_run.specs.Records.{IsRecord, IsNoRecord, IsUp, IsFrame, HasParts, AreRecords}
 use Rattle.std.specs.Io.KnownBytes.{Appends}
 use Rattle.wrp_run.specs.declared.network.TheConstants.{TWO_NODES}
 use Rattle.wrp_run.specs.declared.reading.TheConstants.{INPUT_LIMIT}
@@ -13,17 +18,52 @@ use Rattle.wrp_run.specs.Input.{network_text, record_lines}
 use Rattle.wrp_run.specs.Texts.{text_of, usage_line, bad_network_line, bad_trace_line, too_large_line}
 use Rattle.wrp_run.specs.Answer.{Answer, InputAnswer, ReplayAnswer, IsRefusedAfter}
 
+-- octets say one thing
+says_one : (octets : List ℕ) (a b : Result PtpMsg FrameFault) → Says octets a → Says octets b → a ≡ b
+says_one octets (Ok a) (Ok b) p q = ap (λ m. Ok m) (spells_one octets a b p q)
+says_one octets (Ok a) (Err b) p q = (exactly_refused octets (Ok a) p tt b).1 q
+says_one octets (Err a) (Ok b) p q = sym ((exactly_refused octets (Ok b) q tt a).1 p)
+says_one octets (Err a) (Err b) p q = (exactly_refused octets (Err a) tt p b).1 q
+
+-- a hex text says one thing
+one_hex : (text : List ℕ) (a b : Result PtpMsg FrameFault) → IsHexOf text a → IsHexOf text b → a ≡ b
+one_hex text a b p q =
+    let same : Ok p.octets ≡ Ok q.octets = sym p.is ∙ q.is in
+    let octets : p.octets ≡ q.octets = cc in
+    says_one p.octets a b p.says (subst (λ (o : List ℕ). Says o b) (sym octets) q.says)
+
+-- the fields of a frame say one thing
+one_frame : (parts : List (List ℕ)) (a b : Result PtpMsg FrameFault) → IsFrame parts a → IsFrame parts b → a ≡ b
+one_frame (kind ∷ port ∷ hex ∷ stamp) a b p q = one_hex hex a b p.0.is_hex q.0.is_hex
+one_frame _ a b p q = absurd p
+
+-- no parts are those of two kinds of line
+not_two_kinds : (parts : List (List ℕ)) (heard : Result PtpMsg FrameFault) → IsUp parts → IsFrame parts heard → ⊥
+not_two_kinds (kind ∷ port ∷ fitted ∷ []) heard p q = q.1
+not_two_kinds _ heard p q = absurd p
+
+-- a word alone has no parts of its own
+not_word : (line word : List ℕ) (found : Record) → line ≡ word → (HasParts (parts_of word) found → ⊥) → HasParts (parts_of line) found → ⊥
+not_word line word found is none has = none (subst (λ (l : List ℕ). HasParts (parts_of l) found) is has)
+
 -- a line is one record
 one_record : (line : List ℕ) (a b : Record) → IsRecord line a → IsRecord line b → a ≡ b
 one_record line Reset Reset p q = refl
 one_record line Tick Tick p q = refl
 one_record line Up Up p q = refl
+one_record line (Frame a) (Frame b) p q = ap (λ heard. Frame heard) (one_frame (parts_of line) a b p q)
 one_record line Reset Tick p q = cc
-one_record line Reset Up p q = cc
 one_record line Tick Reset p q = cc
-one_record line Tick Up p q = cc
-one_record line Up Reset p q = cc
-one_record line Up Tick p q = cc
+one_record line Reset Up p q = absurd (not_word line (codes "reset") Up p (λ has. has) q)
+one_record line Tick Up p q = absurd (not_word line (codes "tick") Up p (λ has. has) q)
+one_record line Up Reset p q = absurd (not_word line (codes "reset") Up q (λ has. has) p)
+one_record line Up Tick p q = absurd (not_word line (codes "tick") Up q (λ has. has) p)
+one_record line Reset (Frame b) p q = absurd (not_word line (codes "reset") (Frame b) p (λ has. has) q)
+one_record line Tick (Frame b) p q = absurd (not_word line (codes "tick") (Frame b) p (λ has. has) q)
+one_record line (Frame a) Reset p q = absurd (not_word line (codes "reset") (Frame a) q (λ has. has) p)
+one_record line (Frame a) Tick p q = absurd (not_word line (codes "tick") (Frame a) q (λ has. has) p)
+one_record line Up (Frame b) p q = absurd (not_two_kinds (parts_of line) b p q)
+one_record line (Frame a) Up p q = absurd (not_two_kinds (parts_of line) a q p)
 
 -- lines are one list of records
 one_list : (lines : List (List ℕ)) (a b : List Record) → AreRecords lines a → AreRecords lines b → a ≡ b

@@ -1,4 +1,6 @@
 pub mod Answer
+pub mod Fields
+pub mod Frames
 pub mod History
 pub mod Input
 pub mod Lines

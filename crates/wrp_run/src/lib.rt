@@ -4,6 +4,8 @@
 #![tactic(auto)]
 
 mod command;
+mod fields;
+mod frames;
 mod line;
 mod network;
 mod reading;

@@ -2,17 +2,19 @@
 ghost use Rattle.std.specs.Prelude.{◌≡◌, ◌<◌, ◌≤◌, ◌+◌, ◌++◌, ◌^◌, ℕ, List, [], ◌∷◌, map, length, IfOk};
 ghost use Rattle.wrp_run.specs.declared.records.Record.{Record};
 ghost use Rattle.wrp_run.specs.Lines.{lines_of, content_of};
-ghost use Rattle.wrp_run.specs.History.{default_set, violet, link_after, ticks_since_reset, word_after};
+ghost use Rattle.wrp_run.specs.History.{default_set, violet, link_heard, link_after, ticks_since_reset, word_after};
 ghost use Rattle.wrp_run.specs.Texts.{written_by, change_line};
 ghost use Rattle.wrp_run.specs.Answer.{ReplayAnswer};
 ghost use Rattle.wrp_run.specs.Replayed.{HasReplayed};
 
+use crate::frames::link_input;
 use crate::line::{content, first_line};
 use crate::records::{Record, read_record};
 use crate::status::Status;
 use crate::text::{append_bad_trace, append_change};
 use std::alloc::{AllocError, Global};
-use wrp_base::{Module, Role};
+use wrp_base::{Module, PtpMsg, Role};
+use wrp_frame::FrameFault;
 use wrp_link::{Link, LinkIn, LinkSet};
 
 /// The counts of a link where the network text gives none.
@@ -75,6 +77,19 @@ impl ReplayedNode {
             Record::Up => {
                 let _out = self.link.step(LinkIn::CarrierUp(Some(VIOLET)));
             }
+            Record::Frame(heard) => self.hear(heard),
+        }
+    }
+
+    // Hands a frame to the link. One that is dropped changes nothing.
+    fn hear(&mut self, heard: Result<PtpMsg, FrameFault>)
+        ensures link { self.new.link ≡ link_heard self.old.link heard }
+        ensures ticks { self.new.ticks ≡ self.old.ticks }
+    {
+        if let Ok(message) = heard {
+            if let Some(input) = link_input(self.link.word(), &message) {
+                let _out = self.link.step(input);
+            }
         }
     }
 
@@ -104,7 +119,8 @@ pub(crate) fn replay(alloc: Global, octets: &[u8]) -> Result<Reply, AllocError>
     while at < octets.len() {
         let end = at + first_line(&octets[at..]);
         number += 1;
-        match read_record(content(&octets[at..end])) {
+        let read = read_record(alloc, content(&octets[at..end]))?;
+        match read {
             Some(found) => replay.write(alloc, found, &mut text)?,
             None => {
                 append_bad_trace(alloc, &mut text, number)?;

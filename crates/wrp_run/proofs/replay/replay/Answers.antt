@@ -29,7 +29,7 @@ returns-in-None c =
     let said = says_from c.args.octets.now c.content.result.now c.loop-at.at c.first_line.result c.first_line.ensures.line c.content.ensures in
     is_refused _ _ _ _ _ _ c.loop-at.number
     (subst (λ (rest : List (List ℕ)). Progress (map content_of (lines_of c.args.octets.now)) rest c.loop-at.replay c.loop-at.text.items c.loop-at.number) said c.loop-at.invariant.progress)
-    c.in-None.ensures c.in_ok-append_bad_trace-in-None.ensures
+    (rw c.in-None.is at c.in_ok-read.ensures) c.in_ok-append_bad_trace-in-None.ensures
 
 pub loop-at-preserved : goal.loop-at-preserved
 loop-at-preserved c =
@@ -41,5 +41,5 @@ loop-at-preserved c =
       progress =
           goes_on _ _ _ _ _ _ _ c.loop-at.number c.in-Some.found
           (subst (λ (rest : List (List ℕ)). Progress (map content_of (lines_of c.args.octets.now)) rest c.loop-at.replay c.loop-at.text.items c.loop-at.number) said c.loop-at.invariant.progress)
-          c.in-Some.ensures c.write.ensures.stands c.in_ok-write-in-Some.ensures.text;
+          (rw c.in-Some.is at c.in_ok-read.ensures) c.write.ensures.stands c.in_ok-write-in-Some.ensures.text;
     }
