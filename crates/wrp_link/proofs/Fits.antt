@@ -1,5 +1,5 @@
 -- What each row of the handshake table keeps: the order of the states, and what is known of the peer.
-use Rattle.std.proofs.Common.{◌≡◌, refl, ℕ, inl, inr, Bool, true, false, cond, eqb, ltb, [], ◌∷◌, ◌++◌, Option, None, Some}
+use Rattle.std.proofs.Common.{◌≡◌, refl, ℕ, Bool, true, false, cond, eqb, ltb, [], ◌∷◌, ◌++◌, Option, None, Some}
 use Rattle.wrp_base.specs.declared.link.LinkState.{LinkState}
 use Rattle.wrp_base.specs.declared.link.LinkState.TheVariants.{Idle, Present, SLock, MLock, Locked, Calibration, Calibrated, RespCalib, LinkOn}
 use Rattle.wrp_base.specs.declared.link.Role.{Role}
@@ -95,7 +95,7 @@ slave_fits Calibrated WR_MODE_ON =
     record {
       follows = record { belongs = tt; order = refl; leaves = refl; out = refl };
       known = refl;
-      turns = λ e. inl (refl, refl, refl);
+      turns = λ e. (refl, refl);
     }
 slave_fits _ _ = tt
 
@@ -126,7 +126,7 @@ master_fits l RespCalib (CALIBRATED tx rx) =
       unknown = refl;
       known = refl;
       told = refl;
-      turns = λ e. inr (refl, refl, (tx, (rx, refl)));
+      turns = λ e. (refl, (tx, (rx, refl)));
     }
 master_fits l LinkOn SLAVE_PRESENT = under_fits _ Master LinkOn (Msg SLAVE_PRESENT) Fails tt
 master_fits l _ _ = tt

@@ -1,5 +1,5 @@
 -- What the handshake table makes sure of, in the field's words. This project's profile.
-use Rattle.std.specs.Prelude.{◌≡◌, ◌≢◌, ◌⊎◌, ℕ, Bool, cond, ltb, true, List, [], ◌∷◌, map, length, None}
+use Rattle.std.specs.Prelude.{◌≡◌, ◌≢◌, ℕ, Bool, cond, ltb, true, List, [], ◌∷◌, map, length, None}
 use Rattle.wrp_base.specs.declared.link.LinkState.{LinkState}
 use Rattle.wrp_base.specs.declared.link.LinkState.TheVariants.{Idle, Calibrated, RespCalib, LinkOn}
 use Rattle.wrp_base.specs.declared.link.LinkWord.TheVariants.{Quiet, Ptp}
@@ -13,14 +13,15 @@ use Rattle.wrp_link.specs.LinkAt.{LinkAt, new_link}
 use Rattle.wrp_link.specs.Order.{order_of, up_to, passed_by}
 use Rattle.wrp_link.specs.Table.{after, run_of, Stands, word_of}
 
+-- a CALIBRATED, with whatever delays
+abbrev pub TellsDeltas : LinkIn → Type 0
+TellsDeltas input = (tx : ℕ) × ((rx : ℕ) × (input ≡ Msg (CALIBRATED tx rx)))
+
 -- the message that turns a link on: WR_MODE_ON at a slave in CALIBRATED, CALIBRATED at a master in
 -- RESP_CALIB_REQ
 abbrev pub TurnsOn : Role → LinkState → LinkIn → Type 0
-TurnsOn role state input =
-    ((role ≡ Slave) × (state ≡ Calibrated) × (input ≡ Msg WR_MODE_ON))
-    ⊎ ((role ≡ Master)
-    × (state ≡ RespCalib)
-    × ((tx : ℕ) × ((rx : ℕ) × (input ≡ Msg (CALIBRATED tx rx)))))
+TurnsOn Slave state input = (state ≡ Calibrated) × (input ≡ Msg WR_MODE_ON)
+TurnsOn Master state input = (state ≡ RespCalib) × TellsDeltas input
 
 -- a port enters WR_LINK_ON by the message of its role alone
 abbrev pub OneMessageTurnsOn : Type 0
