@@ -1,5 +1,5 @@
 -- What the handshake table makes sure of, in the field's words. This project's profile.
-use Rattle.std.specs.Prelude.{◌≡◌, ◌≢◌, ℕ, Bool, cond, ltb, true, List, [], ◌∷◌, map, length, None}
+use Rattle.std.specs.Prelude.{◌≡◌, ◌≢◌, ℕ, Bool, ◌+◌, ◌*◌, ◌<◌, ◌≤◌, cond, ltb, true, false, List, [], ◌∷◌, map, length, replicate, None, Some}
 use Rattle.wrp_base.specs.declared.link.LinkState.{LinkState}
 use Rattle.wrp_base.specs.declared.link.LinkState.TheVariants.{Idle, Calibrated, RespCalib, LinkOn}
 use Rattle.wrp_base.specs.declared.link.LinkWord.TheVariants.{Quiet, Ptp}
@@ -9,7 +9,7 @@ use Rattle.wrp_base.specs.declared.message.WrMsg.TheVariants.{Calibrated as CALI
 use Rattle.wrp_link.specs.declared.interface.LinkIn.{LinkIn}
 use Rattle.wrp_link.specs.declared.interface.LinkIn.TheVariants.{Msg, Tick}
 use Rattle.wrp_link.specs.declared.interface.LinkSet.{LinkSet}
-use Rattle.wrp_link.specs.LinkAt.{LinkAt, new_link}
+use Rattle.wrp_link.specs.LinkAt.{LinkAt, Waiting, new_link, wait_of}
 use Rattle.wrp_link.specs.Order.{order_of, up_to, passed_by}
 use Rattle.wrp_link.specs.Table.{after, run_of, Stands, word_of}
 
@@ -50,3 +50,20 @@ QuietTimeLasts =
     (l : LinkAt) (ticks : List Bool) →
     l.carrier ≡ true → l.state ≡ Idle →
     word_of (run_of l (map Tick ticks)) ≡ cond (ltb (length ticks) l.quiet) Quiet Ptp
+
+-- the ticks that a waiting state has left: those of its timer, and a whole wait for each retry
+abbrev pub patience_of : ℕ → Waiting → ℕ
+patience_of wait w = w.ticks + wait * w.retries
+
+-- a port in a waiting state to which nothing comes but ticks, with the lock detector not locked, stays
+-- there for exactly the ticks that it has left, less one, and fails at the last
+abbrev pub UnheardFails : Type 0
+UnheardFails =
+    (l : LinkAt) (w : Waiting) (wait : ℕ) (ticks : ℕ) →
+    l.carrier ≡ true →
+    wait_of l.set l.state ≡ Some wait →
+    l.waiting ≡ Some w →
+    1 ≤ wait →
+    1 ≤ w.ticks →
+    (ticks < patience_of wait w → (run_of l (replicate ticks (Tick false))).state ≡ l.state)
+    × (ticks ≡ patience_of wait w → (run_of l (replicate ticks (Tick false))).state ≡ Idle)
