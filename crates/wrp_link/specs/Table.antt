@@ -90,9 +90,13 @@ place_of Calibrated = 6
 place_of RespCalib = 7
 place_of LinkOn = 8
 
+-- whether two states are one
+abbrev pub is_same : LinkState → LinkState → Bool
+is_same a b = eqb (place_of a) (place_of b)
+
 -- the second of two states, where it differs from the first
 abbrev pub change_of : LinkState → LinkState → Option LinkState
-change_of from to = cond (eqb (place_of from) (place_of to)) None (Some to)
+change_of from to = cond (is_same from to) None (Some to)
 
 -- the state that an input moves the link to, where it differs from the one before
 abbrev pub moved_by : LinkAt → LinkIn → Option LinkState

@@ -5,7 +5,14 @@
 #![tactic(auto)]
 
 mod interface;
+mod laws;
 mod machine;
+#[cfg(test)]
+mod tests;
 
 pub use interface::{LinkIn, LinkOut, LinkSet};
+pub use laws::{
+    each_state_in_its_turn, idle_keeps_no_deltas, one_message_turns_on, quiet_time_lasts,
+    unheard_fails,
+};
 pub use machine::Link;

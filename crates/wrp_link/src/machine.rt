@@ -3,11 +3,12 @@ mod rows;
 mod states;
 mod ticks;
 
-ghost use Rattle.std.specs.Prelude.{◌≡◌, ◌≤◌, List, [], ◌∷◌, ◌++◌, Option, None, Some, option_map};
+ghost use Rattle.std.specs.Prelude.{◌≡◌, ◌≤◌, ◌↔◌, ℕ, List, [], ◌∷◌, ◌++◌, Option, None, Some, option_map};
 ghost use Rattle.wrp_base.specs.declared.link.Role.{Role};
 ghost use Rattle.wrp_link.specs.declared.interface.LinkIn.{LinkIn};
 ghost use Rattle.wrp_link.specs.declared.interface.LinkSet.{LinkSet};
 ghost use Rattle.wrp_link.specs.LinkAt.{new_link};
+ghost use Rattle.wrp_link.specs.Order.{Told};
 ghost use Rattle.wrp_link.specs.Table.{after, sends_of, moved_by, is_used, change_of, answer_to, Stands, word_of, deltas_of};
 
 use crate::{LinkIn, LinkOut, LinkSet};
@@ -62,7 +63,8 @@ impl Link {
         requires quiet { 1 ≤ set.quiet }
         requires wait { 1 ≤ set.wait }
         requires lock_wait { 1 ≤ set.lock_wait }
-        ensures { result ≡ new_link role set }
+        ensures value { result ≡ new_link role set }
+        ensures stands { Stands role set result [] }
     {
         Link {
             role,
@@ -128,7 +130,8 @@ impl Link {
     /// The peer's deltaTx and deltaRx, in tau: those of the CALIBRATED that moved this handshake, until
     /// the port returns to IDLE.
     pub fn peer_deltas(&self) -> Option<(u64, u64)>
-        ensures { result ≡ deltas_of self.now }
+        ensures value { result ≡ deltas_of self.now }
+        ensures told { (role : Role) (set : LinkSet) (inputs : List LinkIn) → Stands role set self.now inputs → (tx rx : ℕ) → (result ≡ Some (tx, rx)) ↔ Told (new_link role set) inputs tx rx }
     {
         self.deltas
     }

@@ -6,6 +6,9 @@ ghost use Rattle.wrp_link.specs.Rows.{message_row, slave_row, master_row, announ
 ghost use Rattle.wrp_link.specs.Table.{by_row, answer_by, sent_by};
 
 use super::{Link, Sends};
+use wrp_base::LinkState::{
+    Calibrated, Calibration, Idle, LinkOn, Locked, MLock, Present, RespCalib, SLock,
+};
 use wrp_base::{LinkState, Role, WrMsg};
 
 impl Link {
@@ -26,15 +29,12 @@ impl Link {
         ensures answer { option_map (λ sends. sends.items) result ≡ answer_by (slave_row self.old.state message) }
     {
         match (self.state, message) {
-            (LinkState::Present, WrMsg::Lock) => self.moves(LinkState::SLock, none()),
-            (LinkState::Locked, WrMsg::Calibrate { .. }) => self.moves(
-                LinkState::RespCalib,
-                none(),
-            ),
-            (LinkState::RespCalib, WrMsg::Calibrated { tx, rx }) => {
-                self.keeps(tx, rx, LinkState::Calibration, one(own_calibrate()))
+            (Present, WrMsg::Lock) => self.moves(SLock, none()),
+            (Locked, WrMsg::Calibrate { .. }) => self.moves(RespCalib, none()),
+            (RespCalib, WrMsg::Calibrated { tx, rx }) => {
+                self.keeps(tx, rx, Calibration, one(own_calibrate()))
             }
-            (LinkState::Calibrated, WrMsg::ModeOn) => self.moves(LinkState::LinkOn, none()),
+            (Calibrated, WrMsg::ModeOn) => self.moves(LinkOn, none()),
             _ => None,
         }
     }
@@ -45,21 +45,15 @@ impl Link {
         ensures answer { option_map (λ sends. sends.items) result ≡ answer_by (master_row self.old self.old.state message) }
     {
         match (self.state, message) {
-            (LinkState::Idle, WrMsg::Present) if self.may_leave_idle() => {
-                self.moves(LinkState::MLock, one(WrMsg::Lock))
+            (Idle, WrMsg::Present) if self.may_leave_idle() => self.moves(MLock, one(WrMsg::Lock)),
+            (MLock, WrMsg::Present) => Some(one(WrMsg::Lock)),
+            (MLock, WrMsg::Locked) => self.moves(Calibration, one(own_calibrate())),
+            (Calibrated, WrMsg::Calibrate { .. }) => self.moves(RespCalib, none()),
+            (RespCalib, WrMsg::Calibrated { tx, rx }) => {
+                self.keeps(tx, rx, LinkOn, one(WrMsg::ModeOn))
             }
-            (LinkState::MLock, WrMsg::Present) => Some(one(WrMsg::Lock)),
-            (LinkState::MLock, WrMsg::Locked) => {
-                self.moves(LinkState::Calibration, one(own_calibrate()))
-            }
-            (LinkState::Calibrated, WrMsg::Calibrate { .. }) => {
-                self.moves(LinkState::RespCalib, none())
-            }
-            (LinkState::RespCalib, WrMsg::Calibrated { tx, rx }) => {
-                self.keeps(tx, rx, LinkState::LinkOn, one(WrMsg::ModeOn))
-            }
-            (LinkState::LinkOn, WrMsg::Calibrated { .. }) => Some(one(WrMsg::ModeOn)),
-            (LinkState::LinkOn, WrMsg::Present) if self.on_ticks >= self.set.quiet => {
+            (LinkOn, WrMsg::Calibrated { .. }) => Some(one(WrMsg::ModeOn)),
+            (LinkOn, WrMsg::Present) if self.on_ticks >= self.set.quiet => {
                 self.fail();
                 Some(none())
             }
@@ -73,9 +67,9 @@ impl Link {
         ensures sends { result.items ≡ sent_by (announce_row self.old self.old.role self.old.state suffix) }
     {
         match (self.role, self.state) {
-            (Role::Slave, LinkState::Idle)
+            (Role::Slave, Idle)
                 if offers_white_rabbit(suffix) && self.holdoff == 0 && self.may_leave_idle() => {
-                self.enter(LinkState::Present);
+                self.enter(Present);
                 one(WrMsg::Present)
             }
             _ => none(),

@@ -58,18 +58,6 @@ impl Link {
         self.deltas = None;
     }
 
-    /// A carrier comes: IDLE, in quiet time, whatever was before.
-    pub(super) fn carrier_comes(&mut self, fitted: Option<Module>) -> Sends
-        ensures state { self.new ≡ with_carrier self.old fitted }
-        ensures sends { result.items ≡ [] }
-    {
-        *self = Link::new(self.role, self.set);
-        self.carrier = true;
-        self.quiet = self.set.quiet;
-        self.fitted = fitted;
-        Sends::new()
-    }
-
     /// The carrier goes: the link is as a new one.
     pub(super) fn carrier_goes(&mut self) -> Sends
         ensures state { self.new ≡ new_link self.old.role self.old.set }
@@ -77,5 +65,17 @@ impl Link {
     {
         *self = Link::new(self.role, self.set);
         Sends::new()
+    }
+
+    /// A carrier comes: IDLE, in quiet time, whatever was before.
+    pub(super) fn carrier_comes(&mut self, fitted: Option<Module>) -> Sends
+        ensures state { self.new ≡ with_carrier self.old fitted }
+        ensures sends { result.items ≡ [] }
+    {
+        let sends = self.carrier_goes();
+        self.carrier = true;
+        self.quiet = self.set.quiet;
+        self.fitted = fitted;
+        sends
     }
 }

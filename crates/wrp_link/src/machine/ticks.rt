@@ -6,7 +6,8 @@ ghost use Rattle.wrp_link.specs.Table.{by_row, sent_by};
 
 use super::rows::{none, one, own_calibrate};
 use super::{Link, Sends, Wait};
-use wrp_base::{LinkState, WrMsg};
+use wrp_base::LinkState::{Calibrated, Calibration, Idle, LinkOn, Locked, MLock, Present, SLock};
+use wrp_base::WrMsg;
 
 impl Link {
     /// What a tick does, and the messages that it sends. In S_LOCK the lock detector is asked before
@@ -16,21 +17,21 @@ impl Link {
         ensures sends { result.items ≡ sent_by (tick_row self.old self.old.state locked) }
     {
         match self.state {
-            LinkState::Idle => {
+            Idle => {
                 self.quiet = self.quiet.saturating_sub(1);
                 self.holdoff = self.holdoff.saturating_sub(1);
                 none()
             }
-            LinkState::LinkOn => {
+            LinkOn => {
                 self.on_ticks = self.on_ticks.saturating_add(1);
                 none()
             }
-            LinkState::SLock if locked => {
-                self.enter(LinkState::Locked);
+            SLock if locked => {
+                self.enter(Locked);
                 one(WrMsg::Locked)
             }
-            LinkState::Calibration => {
-                self.enter(LinkState::Calibrated);
+            Calibration => {
+                self.enter(Calibrated);
                 one(self.own_calibrated())
             }
             _ => self.waits(),
@@ -69,10 +70,10 @@ impl Link {
         ensures { result.items ≡ resent self.now self.now.state }
     {
         match self.state {
-            LinkState::Present => one(WrMsg::Present),
-            LinkState::MLock => one(WrMsg::Lock),
-            LinkState::Locked => one(WrMsg::Locked),
-            LinkState::Calibrated => two(own_calibrate(), self.own_calibrated()),
+            Present => one(WrMsg::Present),
+            MLock => one(WrMsg::Lock),
+            Locked => one(WrMsg::Locked),
+            Calibrated => two(own_calibrate(), self.own_calibrated()),
             _ => none(),
         }
     }
