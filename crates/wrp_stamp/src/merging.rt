@@ -1,6 +1,6 @@
 //! The rule by which two counters and a tag become one reading.
-ghost use Rattle.std.specs.Prelude.{◌≡◌, ℕ, ◌+◌, ◌-◌, ◌*◌, ◌/◌, ◌%◌, ◌^◌, ◌<◌, ◌≤◌, pos, nat_lt, if◌then◌else◌};
-ghost use Rattle.wrp_base.specs.Clock.{period_of, step_of};
+ghost use Rattle.std.specs.Prelude.{◌≡◌, ◌^◌, ◌<◌, pos};
+ghost use Rattle.wrp_base.specs.Clock.{period_of};
 ghost use Rattle.wrp_stamp.specs.Merge.{place_of, periods_at, merged};
 
 use wrp_base::{Clock, Raw, Tau};
