@@ -1,7 +1,10 @@
 //! The exchange: its calls, and the four stamps that it answers.
-use crate::delay::{DelayHalf, Sent};
+ghost use Rattle.std.specs.Prelude.{◌≡◌};
+ghost use Rattle.wrp_exch.specs.Exchange.{join_pairs};
+
+use crate::delay::{DelayHalf, DelayPair, Sent};
 use crate::ring::{GoodSample, SampleRing, phase_of};
-use crate::sync::{HeldSync, SyncHalf};
+use crate::sync::{HeldSync, SyncHalf, SyncPair};
 use circular_buffer::HeapCircularBuffer;
 use std::alloc::{AllocError, Global};
 use std::marker::Model;
@@ -28,13 +31,14 @@ impl Model for Exchange {
 }
 
 impl Exchange {
-    ghost use Rattle.std.specs.Prelude.{◌≡◌, ℕ, ◌^◌, ◌<◌, ◌≤◌, unsigned_abs, List, [], ◌∷◌, IfOk, IfSome};
+    ghost use Rattle.std.specs.Prelude.{◌≡◌, ℕ, ◌^◌, ◌<◌, ◌≤◌, unsigned_abs, List, [], ◌∷◌, ◌++◌, IfOk, IfSome};
     ghost use Rattle.std.specs.Option.{is_some};
     ghost use Rattle.wrp_exch.specs.Call.{Call, CallStart, CallClear, CallSample, CallSync, CallFollowUp, CallReqOut, CallReqSent, CallResp};
     ghost use Rattle.wrp_exch.specs.Chain.{phase_since};
     ghost use Rattle.wrp_exch.specs.SyncPair.{kept_sync, followed_pair};
     ghost use Rattle.wrp_exch.specs.DelayPair.{kept_sent, answered_pair};
     ghost use Rattle.wrp_exch.specs.Exchange.{Stands, four_of, HasTimes};
+    ghost use Rattle.wrp_exch.specs.Ticks.{TicksRise, NotOlder};
 
     /// An exchange with no chain, which knows the last `ring` good samples: 1 to 4096. It takes all
     /// the memory that it will need.
@@ -157,18 +161,11 @@ impl Exchange {
     pub fn four(&self) -> Option<Four>
         ensures value { (ring : ℕ) (calls : List Call) → Stands ring self.now calls → result ≡ four_of ring calls }
         ensures times { IfSome result HasTimes }
+
+        // As long as the ticks that are told do not fall, it is not older than any four before it.
+        ensures rises { (ring : ℕ) (since calls : List Call) → Stands ring self.now (since ++ calls) → TicksRise (since ++ calls) → NotOlder (four_of ring calls) result }
     {
-        let sync = self.sync.pair?;
-        let delay = self.delay.pair?;
-        Some(Four {
-            t1: sync.t1,
-            t2: sync.t2,
-            t3: delay.t3,
-            t4: delay.t4,
-            u2: sync.u2,
-            u3: delay.u3,
-            tick: sync.tick.min(delay.tick),
-        })
+        join(self.sync.pair, self.delay.pair)
     }
 
     /// The phase at the sample that a stamp latched, in tau, where a chain stands, the sample is at
@@ -181,4 +178,21 @@ impl Exchange {
             _ => None,
         }
     }
+}
+
+/// The four stamps of the two pairs, if both are there.
+fn join(sync: Option<SyncPair>, delay: Option<DelayPair>) -> Option<Four>
+    ensures { result ≡ join_pairs sync delay }
+{
+    let sync = sync?;
+    let delay = delay?;
+    Some(Four {
+        t1: sync.t1,
+        t2: sync.t2,
+        t3: delay.t3,
+        t4: delay.t4,
+        u2: sync.u2,
+        u3: delay.u3,
+        tick: sync.tick.min(delay.tick),
+    })
 }
