@@ -31,10 +31,10 @@ impl Model for Exchange {
 }
 
 impl Exchange {
-    ghost use Rattle.std.specs.Prelude.{◌≡◌, ℕ, ◌^◌, ◌<◌, ◌≤◌, unsigned_abs, List, [], ◌∷◌, ◌++◌, IfOk, IfSome};
+    ghost use Rattle.std.specs.Prelude.{◌≡◌, ℕ, ◌^◌, ◌<◌, ◌≤◌, unsigned_abs, false, List, [], ◌∷◌, ◌++◌, IfOk, IfSome, IsNone};
     ghost use Rattle.std.specs.Option.{is_some};
     ghost use Rattle.wrp_exch.specs.Call.{Call, CallStart, CallClear, CallSample, CallSync, CallFollowUp, CallReqOut, CallReqSent, CallResp};
-    ghost use Rattle.wrp_exch.specs.Chain.{phase_since};
+    ghost use Rattle.wrp_exch.specs.Chain.{first_sample, phase_since};
     ghost use Rattle.wrp_exch.specs.SyncPair.{kept_sync, followed_pair};
     ghost use Rattle.wrp_exch.specs.DelayPair.{kept_sent, answered_pair};
     ghost use Rattle.wrp_exch.specs.Exchange.{Stands, four_of, HasTimes};
@@ -92,6 +92,7 @@ impl Exchange {
     pub fn sync(&mut self, seq: u16, correction: i64, t2: Stamp, tick: u32) -> bool
         requires { unsigned_abs t2.value < 2 ^ 104 }
         ensures kept { (ring : ℕ) (calls : List Call) → Stands ring self.old calls → result ≡ is_some (kept_sync ring calls seq correction t2 tick) }
+        ensures no_chain { (ring : ℕ) (calls : List Call) → Stands ring self.old calls → IsNone (first_sample calls) → result ≡ false }
         ensures stands { (ring : ℕ) (calls : List Call) → Stands ring self.old calls → Stands ring self.new (CallSync seq correction t2 tick ∷ calls) }
     {
         match self.latched(t2.sample) {
@@ -116,6 +117,7 @@ impl Exchange {
     pub fn follow_up(&mut self, seq: u16, precise: Tau) -> bool
         requires { unsigned_abs precise < 2 ^ 104 }
         ensures made { (ring : ℕ) (calls : List Call) → Stands ring self.old calls → result ≡ is_some (followed_pair ring calls seq precise) }
+        ensures no_chain { (ring : ℕ) (calls : List Call) → Stands ring self.old calls → IsNone (first_sample calls) → result ≡ false }
         ensures stands { (ring : ℕ) (calls : List Call) → Stands ring self.old calls → Stands ring self.new (CallFollowUp seq precise ∷ calls) }
     {
         self.sync.follow_up(seq, precise, &self.ring)
@@ -123,7 +125,8 @@ impl Exchange {
 
     /// Notes that a Delay_Req was put out. Without a chain it is ignored.
     pub fn req_out(&mut self, seq: u16)
-        ensures { (ring : ℕ) (calls : List Call) → Stands ring self.old calls → Stands ring self.new (CallReqOut seq ∷ calls) }
+        ensures stands { (ring : ℕ) (calls : List Call) → Stands ring self.old calls → Stands ring self.new (CallReqOut seq ∷ calls) }
+        ensures no_chain { (ring : ℕ) (calls : List Call) → Stands ring self.old calls → IsNone (first_sample calls) → self.new ≡ self.old }
     {
         self.delay.ask(self.first.map(|_| seq));
     }
@@ -134,6 +137,7 @@ impl Exchange {
     pub fn req_sent(&mut self, seq: u16, t3: Stamp, tick: u32) -> bool
         requires { unsigned_abs t3.value < 2 ^ 104 }
         ensures kept { (ring : ℕ) (calls : List Call) → Stands ring self.old calls → result ≡ is_some (kept_sent ring calls seq t3 tick) }
+        ensures no_chain { (ring : ℕ) (calls : List Call) → Stands ring self.old calls → IsNone (first_sample calls) → result ≡ false }
         ensures stands { (ring : ℕ) (calls : List Call) → Stands ring self.old calls → Stands ring self.new (CallReqSent seq t3 tick ∷ calls) }
     {
         let phase = self.latched(t3.sample);
@@ -151,6 +155,7 @@ impl Exchange {
     pub fn resp(&mut self, seq: u16, t4: Tau) -> bool
         requires { unsigned_abs t4 < 2 ^ 104 }
         ensures made { (ring : ℕ) (calls : List Call) → Stands ring self.old calls → result ≡ is_some (answered_pair ring calls seq t4) }
+        ensures no_chain { (ring : ℕ) (calls : List Call) → Stands ring self.old calls → IsNone (first_sample calls) → result ≡ false }
         ensures stands { (ring : ℕ) (calls : List Call) → Stands ring self.old calls → Stands ring self.new (CallResp seq t4 ∷ calls) }
     {
         self.delay.answer(seq, t4)
