@@ -11,6 +11,7 @@ use std::marker::Model;
 use wrp_base::{Four, Stamp, Tau};
 
 /// The two-step exchange of one slave port.
+#[derive(Debug, Drop)]
 pub struct Exchange {
     ring: SampleRing,
     first: Option<u32>,
@@ -60,9 +61,7 @@ impl Exchange {
     pub fn start(&mut self, n: u32)
         ensures { (ring : ℕ) (calls : List Call) → Stands ring self.old calls → Stands ring self.new (CallStart n ∷ calls) }
     {
-        self.first = Some(n);
-        self.sync = SyncHalf::new();
-        self.delay = DelayHalf::new();
+        self.renew(Some(n));
     }
 
     /// Ends the chain: all pieces, pairs and samples are dropped.
@@ -70,9 +69,7 @@ impl Exchange {
         ensures { (ring : ℕ) (calls : List Call) → Stands ring self.old calls → Stands ring self.new (CallClear ∷ calls) }
     {
         self.ring.clear();
-        self.first = None;
-        self.sync = SyncHalf::new();
-        self.delay = DelayHalf::new();
+        self.renew(None);
     }
 
     /// Takes a good sample: its number, which rises from one to the next, and the unwrapped phase at
@@ -171,6 +168,15 @@ impl Exchange {
         ensures rises { (ring : ℕ) (since calls : List Call) → Stands ring self.now (since ++ calls) → TicksRise (since ++ calls) → NotOlder (four_of ring calls) result }
     {
         join(self.sync.pair, self.delay.pair)
+    }
+
+    /// Drops all pieces and pairs, and sets the chain's first sample.
+    fn renew(&mut self, first: Option<u32>)
+        ensures { self.new ≡ record { ring = self.old.ring; first = first; sync = record { pending = None; pair = None }; delay = record { request = None; pair = None } } }
+    {
+        self.first = first;
+        self.sync = SyncHalf::new();
+        self.delay = DelayHalf::new();
     }
 
     /// The phase at the sample that a stamp latched, in tau, where a chain stands, the sample is at

@@ -10,3 +10,6 @@ mod ring;
 mod sync;
 
 pub use exchange::Exchange;
+
+#[cfg(test)]
+mod tests;
