@@ -1,12 +1,8 @@
 -- The sending of the last request: what is answered was sent, and which sending is kept.
-use Rattle.std.proofs.Common.{◌≡◌, ℕ, ℤ, Bool, true, false, ◌&&◌, ◌||◌, ◌==◌, not, List, [], ◌∷◌, Option, Some, None, refl, arith}
-use Rattle.std.specs.Option.{is_some, option_map, option_or, option_and_then}
-use Rattle.wrp_base.specs.declared.time.Stamp.{Stamp}
-use Rattle.wrp_exch.specs.declared.delay.Sent.{Sent}
+use Rattle.std.proofs.Common.{◌≡◌, ℕ, Bool, true, false, ◌&&◌, ◌||◌, ◌==◌, List, [], ◌∷◌, Option, Some, None, refl}
+use Rattle.std.specs.Option.{is_some, option_or}
 use Rattle.wrp_exch.specs.Call.{Call, CallStart, CallClear, CallSample, CallSync, CallFollowUp, CallReqOut, CallReqSent, CallResp}
-use Rattle.wrp_exch.specs.Chain.{latched_phase}
-use Rattle.wrp_exch.specs.DelayPair.{last_request, first_sent, is_answered, usable_sent, kept_sent, held_sent}
-use Rattle.wrp_exch.specs.DelayHalf.{awaits_sent, delay_half}
+use Rattle.wrp_exch.specs.DelayPair.{first_sent, is_answered, usable_sent}
 
 or_some : {A : Type 0} (o p : Option A) → is_some o ≡ true → is_some (option_or o p) ≡ true
 or_some None p h = cc

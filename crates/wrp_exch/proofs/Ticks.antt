@@ -1,9 +1,8 @@
 -- Neither pair's tick falls when the pair is replaced, and so the four's tick never falls, as long as
 -- the ticks that are told do not fall.
-use Rattle.std.proofs.Common.{◌≡◌, ℕ, ℤ, ◌≤◌, min, Bool, true, false, if◌then◌else◌, ◌==◌, ◌&&◌, not, List, [], ◌∷◌, ◌++◌, Option, Some, None, IfSome, arith}
+use Rattle.std.proofs.Common.{ℕ, ℤ, ◌≤◌, Bool, true, false, if◌then◌else◌, ◌==◌, ◌&&◌, not, List, [], ◌∷◌, ◌++◌, Option, Some, None, IfSome, arith}
 use Rattle.std.specs.Option.{is_some, option_map, option_or, option_and_then}
 use Rattle.wrp_base.specs.declared.time.Stamp.{Stamp}
-use Rattle.wrp_base.specs.declared.measurement.Four.{Four}
 use Rattle.wrp_exch.specs.declared.sync.HeldSync.{HeldSync}
 use Rattle.wrp_exch.specs.declared.sync.SyncPair.{SyncPair}
 use Rattle.wrp_exch.specs.declared.delay.Sent.{Sent}
@@ -13,8 +12,8 @@ use Rattle.wrp_exch.specs.Samples.{phase_in, last_samples}
 use Rattle.wrp_exch.specs.Chain.{latched_phase}
 use Rattle.wrp_exch.specs.SyncPair.{held_sync, kept_sync, last_sync, is_followed, pair_of_sync, followed_pair, sync_pair}
 use Rattle.wrp_exch.specs.DelayPair.{held_sent, last_request, usable_sent, first_sent, is_answered, pair_of_sent, answered_pair, delay_pair}
-use Rattle.wrp_exch.specs.Exchange.{four_of, four_from, join_pairs}
-use Rattle.wrp_exch.specs.Ticks.{tick_of, NoneAfter, TicksRise, NotOlder}
+use Rattle.wrp_exch.specs.Exchange.{four_of, join_pairs}
+use Rattle.wrp_exch.specs.Ticks.{NoneAfter, TicksRise, NotOlder}
 
 -- ---- what holds of a value, if there is one
 
@@ -241,3 +240,12 @@ joined (Some p) (Some q) (Some d) (Some e) a b = omega arith
 pub four_of-rises : (ring : ℕ) (since calls : List Call) → TicksRise (since ++ calls) → NotOlder (four_of ring calls) (four_of ring (since ++ calls))
 four_of-rises ring since calls h =
     joined (sync_pair ring calls) (sync_pair ring (since ++ calls)) (delay_pair ring calls) (delay_pair ring (since ++ calls)) (sync_pair-rises ring since calls h) (delay_pair-rises ring since calls h)
+
+within : (tick : ℕ) (p : Option SyncPair) (d : Option DelayPair) → IfSome p (λ x. x.tick ≤ tick) → IfSome (join_pairs p d) (λ f. f.tick ≤ tick)
+within tick None d h = tt
+within tick (Some p) None h = tt
+within tick (Some p) (Some d) h = omega arith
+
+-- the four's tick was told
+pub four_of-told : (ring tick : ℕ) (calls : List Call) → NoneAfter tick calls → IfSome (four_of ring calls) (λ f. f.tick ≤ tick)
+four_of-told ring tick calls h = within tick (sync_pair ring calls) (delay_pair ring calls) (sync_pair-told ring tick calls h)

@@ -1,6 +1,6 @@
 -- What an exchange keeps of Delay_Req and Delay_Resp, and what looking back finds in its place.
-use Rattle.std.specs.Prelude.{ℕ, ℤ, ◌+◌, ◌^◌, ◌<◌, ◌==◌, ◌&&◌, not, unsigned_abs, if◌then◌else◌, List, Option, Some, None, IfSome}
-use Rattle.std.specs.Option.{is_some, option_map, option_or, option_and_then}
+use Rattle.std.specs.Prelude.{ℕ, ℤ, ◌^◌, ◌<◌, ◌==◌, ◌&&◌, not, unsigned_abs, if◌then◌else◌, List, Option, Some, None, IfSome}
+use Rattle.std.specs.Option.{is_some, option_map, option_and_then}
 use Rattle.wrp_exch.specs.declared.delay.Sent.{Sent}
 use Rattle.wrp_exch.specs.declared.delay.Request.{Request}
 use Rattle.wrp_exch.specs.declared.delay.DelayPair.{DelayPair}

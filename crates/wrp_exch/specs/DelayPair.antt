@@ -1,6 +1,6 @@
 -- The delay pair of a two-step exchange: a Delay_Req that was sent and its Delay_Resp, matched by
 -- sequenceId (IEEE 1588-2019; which sending is kept is this project's profile).
-use Rattle.std.specs.Prelude.{ℕ, ℤ, ◌==◌, ◌&&◌, ◌||◌, not, Bool, true, false, if◌then◌else◌, List, [], ◌∷◌, Option, Some, None}
+use Rattle.std.specs.Prelude.{ℕ, ℤ, ◌==◌, ◌&&◌, ◌||◌, not, Bool, false, if◌then◌else◌, List, [], ◌∷◌, Option, None}
 use Rattle.std.specs.Option.{is_some, option_map, option_or, option_and_then}
 use Rattle.wrp_base.specs.declared.time.Stamp.{Stamp}
 use Rattle.wrp_exch.specs.declared.delay.Sent.{Sent}

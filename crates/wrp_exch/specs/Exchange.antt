@@ -1,5 +1,5 @@
 -- A two-step exchange: its four stamps, and the list of calls that it stands for.
-use Rattle.std.specs.Prelude.{◌≡◌, ℕ, ◌^◌, ◌<◌, min, unsigned_abs, List, Option}
+use Rattle.std.specs.Prelude.{◌≡◌, ℕ, ◌^◌, ◌<◌, min, unsigned_abs, List, ◌∷◌, Option}
 use Rattle.std.specs.Option.{option_map, option_and_then}
 use Rattle.circular_buffer.specs.Buffer.{Buffer, buffer}
 use Rattle.wrp_base.specs.declared.measurement.Four.{Four}
@@ -43,3 +43,7 @@ pub record ExchangeAt : Type 0 where
 abbrev pub Stands : ℕ → ExchangeAt → List Call → Type 0
 Stands ring exchange calls =
     exchange ≡ record { ring = buffer (last_samples ring calls) ring; first = first_sample calls; sync = sync_half ring calls; delay = delay_half ring calls }
+
+-- the new exchange stands for what the old one stood for, with this call added
+abbrev pub Adds : ExchangeAt → ExchangeAt → Call → Type 0
+Adds old new call = (ring : ℕ) (calls : List Call) → Stands ring old calls → Stands ring new (call ∷ calls)

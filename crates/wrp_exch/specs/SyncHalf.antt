@@ -1,6 +1,6 @@
 -- What an exchange keeps of Sync and Follow_Up, and what looking back finds in its place.
-use Rattle.std.specs.Prelude.{ℕ, ℤ, ◌+◌, ◌^◌, ◌<◌, ◌==◌, pos, unsigned_abs, if◌then◌else◌, List, Option, Some, None, IfSome}
-use Rattle.std.specs.Option.{option_map, option_or, option_and_then}
+use Rattle.std.specs.Prelude.{ℕ, ℤ, ◌^◌, ◌<◌, ◌==◌, unsigned_abs, if◌then◌else◌, List, Option, Some, None, IfSome}
+use Rattle.std.specs.Option.{option_map, option_and_then}
 use Rattle.wrp_exch.specs.declared.ring.GoodSample.{GoodSample}
 use Rattle.wrp_exch.specs.declared.sync.HeldSync.{HeldSync}
 use Rattle.wrp_exch.specs.declared.sync.SyncPair.{SyncPair}

@@ -2,7 +2,7 @@
 use wrp_base::Tau;
 
 /// A Delay_Req's sending.
-#[derive(Clone, Copy, Debug, Default, PartialEq, Eq)]
+#[derive(Clone, Copy, Debug)]
 pub struct Sent {
     /// The slave's sending, in tau.
     pub t3: Tau,
@@ -13,7 +13,7 @@ pub struct Sent {
 }
 
 /// The newest Delay_Req that was put out, while it is not answered.
-#[derive(Clone, Copy, Debug, Default, PartialEq, Eq)]
+#[derive(Clone, Copy, Debug)]
 pub struct Request {
     /// sequenceId.
     pub seq: u16,
@@ -22,7 +22,7 @@ pub struct Request {
 }
 
 /// A Delay_Req's sending with its Delay_Resp.
-#[derive(Clone, Copy, Debug, Default, PartialEq, Eq)]
+#[derive(Clone, Copy, Debug)]
 pub struct DelayPair {
     /// The slave's sending, in tau.
     pub t3: Tau,
@@ -35,7 +35,7 @@ pub struct DelayPair {
 }
 
 /// What is kept of Delay_Req and Delay_Resp.
-#[derive(Clone, Copy, Debug, Default, PartialEq, Eq)]
+#[derive(Clone, Copy, Debug)]
 pub struct DelayHalf {
     /// The newest request.
     pub request: Option<Request>,

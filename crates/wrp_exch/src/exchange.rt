@@ -32,14 +32,14 @@ impl Model for Exchange {
 }
 
 impl Exchange {
-    ghost use Rattle.std.specs.Prelude.{◌≡◌, ℕ, ◌^◌, ◌<◌, ◌≤◌, unsigned_abs, false, List, [], ◌∷◌, ◌++◌, IfOk, IfSome, IsNone};
+    ghost use Rattle.std.specs.Prelude.{◌≡◌, ℕ, ◌^◌, ◌<◌, ◌≤◌, unsigned_abs, false, List, [], ◌++◌, IfOk, IfSome, IsNone};
     ghost use Rattle.std.specs.Option.{is_some};
     ghost use Rattle.wrp_exch.specs.Call.{Call, CallStart, CallClear, CallSample, CallSync, CallFollowUp, CallReqOut, CallReqSent, CallResp};
     ghost use Rattle.wrp_exch.specs.Chain.{first_sample, phase_since};
     ghost use Rattle.wrp_exch.specs.SyncPair.{kept_sync, followed_pair};
     ghost use Rattle.wrp_exch.specs.DelayPair.{kept_sent, answered_pair};
-    ghost use Rattle.wrp_exch.specs.Exchange.{Stands, four_of, HasTimes};
-    ghost use Rattle.wrp_exch.specs.Ticks.{TicksRise, NotOlder};
+    ghost use Rattle.wrp_exch.specs.Exchange.{Stands, Adds, four_of, HasTimes};
+    ghost use Rattle.wrp_exch.specs.Ticks.{NoneAfter, TicksRise, NotOlder};
 
     /// An exchange with no chain, which knows the last `ring` good samples: 1 to 4096. It takes all
     /// the memory that it will need.
@@ -59,23 +59,23 @@ impl Exchange {
     /// Starts a chain, whose first sample has the number `n`. All pieces and pairs of an earlier
     /// chain are dropped; the ring stays.
     pub fn start(&mut self, n: u32)
-        ensures { (ring : ℕ) (calls : List Call) → Stands ring self.old calls → Stands ring self.new (CallStart n ∷ calls) }
+        ensures { Adds self.old self.new (CallStart n) }
     {
         self.renew(Some(n));
     }
 
     /// Ends the chain: all pieces, pairs and samples are dropped.
     pub fn clear(&mut self)
-        ensures { (ring : ℕ) (calls : List Call) → Stands ring self.old calls → Stands ring self.new (CallClear ∷ calls) }
+        ensures { Adds self.old self.new CallClear }
     {
         self.ring.clear();
         self.renew(None);
     }
 
-    /// Takes a good sample: its number, which rises from one to the next, and the unwrapped phase at
-    /// it, in tau.
+    /// Takes a good sample: its number and the unwrapped phase at it, in tau. A node numbers its
+    /// samples upwards; where a number comes again, the newest sample of it counts.
     pub fn sample(&mut self, n: u32, u: i64)
-        ensures { (ring : ℕ) (calls : List Call) → Stands ring self.old calls → Stands ring self.new (CallSample n u ∷ calls) }
+        ensures { Adds self.old self.new (CallSample n u) }
     {
         let _oldest = self.ring.push_front(GoodSample {
             number: n,
@@ -90,7 +90,7 @@ impl Exchange {
         requires { unsigned_abs t2.value < 2 ^ 104 }
         ensures kept { (ring : ℕ) (calls : List Call) → Stands ring self.old calls → result ≡ is_some (kept_sync ring calls seq correction t2 tick) }
         ensures no_chain { (ring : ℕ) (calls : List Call) → Stands ring self.old calls → IsNone (first_sample calls) → result ≡ false }
-        ensures stands { (ring : ℕ) (calls : List Call) → Stands ring self.old calls → Stands ring self.new (CallSync seq correction t2 tick ∷ calls) }
+        ensures stands { Adds self.old self.new (CallSync seq correction t2 tick) }
     {
         match self.latched(t2.sample) {
             Some(u2) => {
@@ -115,14 +115,14 @@ impl Exchange {
         requires { unsigned_abs precise < 2 ^ 104 }
         ensures made { (ring : ℕ) (calls : List Call) → Stands ring self.old calls → result ≡ is_some (followed_pair ring calls seq precise) }
         ensures no_chain { (ring : ℕ) (calls : List Call) → Stands ring self.old calls → IsNone (first_sample calls) → result ≡ false }
-        ensures stands { (ring : ℕ) (calls : List Call) → Stands ring self.old calls → Stands ring self.new (CallFollowUp seq precise ∷ calls) }
+        ensures stands { Adds self.old self.new (CallFollowUp seq precise) }
     {
         self.sync.follow_up(seq, precise, &self.ring)
     }
 
     /// Notes that a Delay_Req was put out. Without a chain it is ignored.
     pub fn req_out(&mut self, seq: u16)
-        ensures stands { (ring : ℕ) (calls : List Call) → Stands ring self.old calls → Stands ring self.new (CallReqOut seq ∷ calls) }
+        ensures stands { Adds self.old self.new (CallReqOut seq) }
         ensures no_chain { (ring : ℕ) (calls : List Call) → Stands ring self.old calls → IsNone (first_sample calls) → self.new ≡ self.old }
     {
         self.delay.ask(self.first.map(|_| seq));
@@ -135,7 +135,7 @@ impl Exchange {
         requires { unsigned_abs t3.value < 2 ^ 104 }
         ensures kept { (ring : ℕ) (calls : List Call) → Stands ring self.old calls → result ≡ is_some (kept_sent ring calls seq t3 tick) }
         ensures no_chain { (ring : ℕ) (calls : List Call) → Stands ring self.old calls → IsNone (first_sample calls) → result ≡ false }
-        ensures stands { (ring : ℕ) (calls : List Call) → Stands ring self.old calls → Stands ring self.new (CallReqSent seq t3 tick ∷ calls) }
+        ensures stands { Adds self.old self.new (CallReqSent seq t3 tick) }
     {
         let phase = self.latched(t3.sample);
         let sent = phase.map(|u3| Sent {
@@ -153,7 +153,7 @@ impl Exchange {
         requires { unsigned_abs t4 < 2 ^ 104 }
         ensures made { (ring : ℕ) (calls : List Call) → Stands ring self.old calls → result ≡ is_some (answered_pair ring calls seq t4) }
         ensures no_chain { (ring : ℕ) (calls : List Call) → Stands ring self.old calls → IsNone (first_sample calls) → result ≡ false }
-        ensures stands { (ring : ℕ) (calls : List Call) → Stands ring self.old calls → Stands ring self.new (CallResp seq t4 ∷ calls) }
+        ensures stands { Adds self.old self.new (CallResp seq t4) }
     {
         self.delay.answer(seq, t4)
     }
@@ -163,6 +163,9 @@ impl Exchange {
     pub fn four(&self) -> Option<Four>
         ensures value { (ring : ℕ) (calls : List Call) → Stands ring self.now calls → result ≡ four_of ring calls }
         ensures times { IfSome result HasTimes }
+
+        // Its tick is one that was told.
+        ensures told { (ring tick : ℕ) (calls : List Call) → Stands ring self.now calls → NoneAfter tick calls → IfSome result (λ four. four.tick ≤ tick) }
 
         // As long as the ticks that are told do not fall, it is not older than any four before it.
         ensures rises { (ring : ℕ) (since calls : List Call) → Stands ring self.now (since ++ calls) → TicksRise (since ++ calls) → NotOlder (four_of ring calls) result }

@@ -5,7 +5,7 @@ ghost use Rattle.wrp_exch.specs.Samples.{phase_in};
 use circular_buffer::HeapCircularBuffer;
 
 /// A good phase sample.
-#[derive(Clone, Copy, Debug, Default, PartialEq, Eq)]
+#[derive(Clone, Copy, Debug)]
 pub struct GoodSample {
     /// Its number.
     pub number: u32,

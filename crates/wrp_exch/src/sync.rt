@@ -5,7 +5,7 @@ use crate::ring::{SampleRing, phase_of};
 use wrp_base::Tau;
 
 /// A Sync that was kept, and waits for its Follow_Up.
-#[derive(Clone, Copy, Debug, Default, PartialEq, Eq)]
+#[derive(Clone, Copy, Debug)]
 pub struct HeldSync {
     /// sequenceId.
     pub seq: u16,
@@ -22,7 +22,7 @@ pub struct HeldSync {
 }
 
 /// A Sync with its Follow_Up.
-#[derive(Clone, Copy, Debug, Default, PartialEq, Eq)]
+#[derive(Clone, Copy, Debug)]
 pub struct SyncPair {
     /// The master's sending, both corrections included, in tau.
     pub t1: Tau,
@@ -35,7 +35,7 @@ pub struct SyncPair {
 }
 
 /// What is kept of Sync and Follow_Up.
-#[derive(Clone, Copy, Debug, Default, PartialEq, Eq)]
+#[derive(Clone, Copy, Debug)]
 pub struct SyncHalf {
     /// The Sync that waits for its Follow_Up.
     pub pending: Option<HeldSync>,
