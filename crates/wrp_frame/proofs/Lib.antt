@@ -1,0 +1,4 @@
+pub mod FirstFaults
+pub mod Filling
+pub mod Walk
+pub mod Exact

@@ -1,0 +1,24 @@
+//! The frames of a White Rabbit node: octets read as the PTP messages of six kinds, with the White
+//! Rabbit message or suffix among their TLVs (IEEE 1588-2019, White Rabbit Specification 2.0). Which
+//! fields are read, which are free and which are refused is this project's profile.
+#![tactic(auto)]
+
+mod body;
+mod fault;
+mod found;
+mod header;
+mod message_type;
+mod numbers;
+pub mod places;
+mod reading;
+mod tlv;
+
+pub use fault::FrameFault;
+pub use message_type::MessageType;
+pub use reading::{decode, one_message};
+pub use tlv::{Tlv, TlvFault, WrRead, tlv_at, wr_of};
+
+#[cfg(test)]
+mod tests;
+#[cfg(test)]
+mod vectors;

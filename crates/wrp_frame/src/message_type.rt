@@ -1,0 +1,61 @@
+//! The kinds of message, by their messageType (IEEE 1588-2019).
+ghost use Rattle.std.specs.Prelude.{◌≡◌};
+ghost use Rattle.wrp_frame.specs.MessageTypes.{kind_numbered, least_length, has_timestamp, reads_white_rabbit};
+
+/// The kind of a message.
+#[derive(Clone, Copy, Debug, PartialEq, Eq)]
+pub enum MessageType {
+    /// messageType 0x0.
+    Sync,
+    /// messageType 0x1.
+    DelayReq,
+    /// messageType 0x8.
+    FollowUp,
+    /// messageType 0x9.
+    DelayResp,
+    /// messageType 0xB.
+    Announce,
+    /// messageType 0xC.
+    Signaling,
+}
+
+impl MessageType {
+    /// The kind that a messageType stands for; None for one that is not read.
+    pub fn numbered(number: u8) -> Option<MessageType>
+        ensures { result ≡ kind_numbered number }
+    {
+        match number {
+            0xB => Some(MessageType::Announce),
+            0xC => Some(MessageType::Signaling),
+            _ => None,
+        }
+    }
+
+    /// The octets that each message of the kind has at least: header and body.
+    pub fn least_length(self) -> usize
+        ensures { result ≡ least_length self }
+    {
+        match self {
+            MessageType::Sync
+            | MessageType::DelayReq
+            | MessageType::FollowUp
+            | MessageType::Signaling => 44,
+            MessageType::DelayResp => 54,
+            MessageType::Announce => 64,
+        }
+    }
+
+    /// Whether the body begins with a Timestamp.
+    pub fn has_timestamp(self) -> bool
+        ensures { result ≡ has_timestamp self }
+    {
+        !matches!(self, MessageType::Signaling)
+    }
+
+    /// Whether White Rabbit TLVs of the kind are read.
+    pub fn reads_white_rabbit(self) -> bool
+        ensures { result ≡ reads_white_rabbit self }
+    {
+        matches!(self, MessageType::Announce | MessageType::Signaling)
+    }
+}

@@ -1,0 +1,40 @@
+//! `decode`: the message that octets spell, or the first fault that they have.
+ghost use Rattle.std.specs.Prelude.{◌≡◌, ◌↔◌, IfOk, IfErr};
+ghost use Rattle.wrp_frame.specs.Faults.{IsFirstFault};
+ghost use Rattle.wrp_frame.specs.Grammar.{Spells, SpellOneMessage};
+
+use crate::FrameFault;
+use crate::body::{body_of, check_time, check_two_step, tlvs_found};
+use crate::header::{head_of, message_end, message_type_of};
+use wrp_base::PtpMsg;
+
+/// The message that the octets spell. Octets after messageLength are padding. The fault is the first
+/// of `FrameFault`'s order that the octets have.
+pub fn decode(bytes: &[u8]) -> Result<PtpMsg, FrameFault>
+    ensures spelled { (message : PtpMsg) → (result ≡ Ok message) ↔ Spells bytes.now message }
+    ensures refused { (fault : FrameFault) → (result ≡ Err fault) ↔ IsFirstFault fault bytes.now }
+{
+    read_message(bytes)
+}
+
+/// No octets spell two messages.
+pub fn one_message()
+    ensures { SpellOneMessage }
+{}
+
+/// Reads the header, then the body, then the TLVs, each after its tests.
+#[tactic(auto, using(crate::proofs::Exact::spelled))]
+fn read_message(octets: &[u8]) -> Result<PtpMsg, FrameFault>
+    ensures ok { IfOk result (Spells octets.now) }
+    ensures err { IfErr result (λ fault. IsFirstFault fault octets.now) }
+{
+    let kind = message_type_of(octets)?;
+    let end = message_end(octets, kind)?;
+    check_time(octets, kind)?;
+    let found = tlvs_found(octets, kind, end)?;
+    check_two_step(octets, kind, &found)?;
+    Ok(PtpMsg {
+        head: head_of(octets),
+        body: body_of(octets, kind, &found),
+    })
+}

@@ -1,0 +1,5 @@
+pub mod Holds
+pub mod LinkAt
+pub mod Peer
+pub mod Rows
+pub mod Table

@@ -1,0 +1,4 @@
+pub mod LineLemmas
+pub mod OneAnswer
+pub mod Pieces
+pub mod Progress
