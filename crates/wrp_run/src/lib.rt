@@ -18,3 +18,6 @@ mod writing;
 
 pub use command::run;
 pub use status::Status;
+
+#[cfg(test)]
+mod tests;
