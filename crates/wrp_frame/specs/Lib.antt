@@ -5,3 +5,6 @@ pub mod Found
 pub mod Grammar
 pub mod Header
 pub mod MessageTypes
+pub mod Fitting
+pub mod Sent
+pub mod SentOctets

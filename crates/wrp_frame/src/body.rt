@@ -9,8 +9,8 @@ ghost use Rattle.wrp_frame.specs.MessageTypes.{least_length};
 ghost use Rattle.wrp_tlv.specs.TlvList.{TypedValue};
 ghost use Rattle.wrp_frame.specs.declared.message_type.MessageType.TheVariants.{Sync};
 
-use crate::found::{Found, found_among};
 use crate::fields::{read_identity, read_timestamp};
+use crate::found::{Found, found_among};
 use crate::places::{
     FLAGS_AT, GRANDMASTER_AT, NANOS_PER_SECOND, NANOS_WITHIN, PRIORITY1_AT, PRIORITY2_AT,
     QUALITY_AT, REQUESTING_AT, STEPS_AT, TARGET_AT, TIME_SOURCE_AT, TIMESTAMP_AT, TWO_STEP,

@@ -4,7 +4,7 @@ ghost use Rattle.wrp_frame.specs.Header.{HasHeader, head_at, message_length};
 ghost use Rattle.wrp_frame.specs.Grammar.{HasLength};
 ghost use Rattle.wrp_frame.specs.Faults.{IsFirstFault};
 
-use crate::fields::{read_identity};
+use crate::fields::read_identity;
 use crate::places::{
     CORRECTION_AT, DOMAIN_AT, FLAGS_AT, HEADER_LENGTH, INTERVAL_AT, MESSAGE_LENGTH_AT,
     MESSAGE_TYPE_AT, PTP_VERSION, SEQUENCE_AT, SOURCE_AT, VERSION_AT,

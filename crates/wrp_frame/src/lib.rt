@@ -11,10 +11,12 @@ mod header;
 mod message_type;
 pub mod places;
 mod reading;
+mod writing;
 
 pub use fault::FrameFault;
 pub use message_type::MessageType;
 pub use reading::{decode, one_message};
+pub use writing::encode;
 
 #[cfg(test)]
 mod tests;

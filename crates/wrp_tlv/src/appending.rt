@@ -1,6 +1,7 @@
 //! Appends numbers to a frame, big-endian.
 ghost use Rattle.std.specs.Prelude.{◌≡◌, ◌+◌, ◌≤◌, ◌<◌, ◌^◌, ◌++◌, length};
 ghost use Rattle.arrayvec.specs.ArrayVec.{array_vec_len};
+ghost use Rattle.std.specs.Int.{w16, w64, cast_signed, cast_unsigned};
 ghost use Rattle.byteorder.specs.Endian.{big_bytes};
 
 use byteorder::{BigEndian, ByteOrder};
@@ -57,6 +58,26 @@ pub fn put_u64(out: &mut Frame, number: u64)
     let mut octets = [0u8; 8];
     BigEndian::write_u64(&mut octets, number);
     put_all(out, &octets);
+}
+
+/// Appends a signed number in 2 octets.
+pub fn put_i16(out: &mut Frame, number: i16)
+    requires { array_vec_len out.old + 2 ≤ 256 }
+    ensures items { out.new.items ≡ out.old.items ++ big_bytes 2 (cast_unsigned w16 number) }
+    ensures fits { cast_unsigned w16 number < 256 ^ 2 }
+    ensures read_back { cast_signed w16 (cast_unsigned w16 number) ≡ number }
+{
+    put_u16(out, number.cast_unsigned());
+}
+
+/// Appends a signed number in 8 octets.
+pub fn put_i64(out: &mut Frame, number: i64)
+    requires { array_vec_len out.old + 8 ≤ 256 }
+    ensures items { out.new.items ≡ out.old.items ++ big_bytes 8 (cast_unsigned w64 number) }
+    ensures fits { cast_unsigned w64 number < 256 ^ 8 }
+    ensures read_back { cast_signed w64 (cast_unsigned w64 number) ≡ number }
+{
+    put_u64(out, number.cast_unsigned());
 }
 
 /// Appends octets.

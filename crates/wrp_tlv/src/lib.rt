@@ -11,7 +11,7 @@ mod writing;
 
 pub use tlv::{ORGANIZATION_EXTENSION, Tlv, TlvFault, tlv_at};
 pub use white_rabbit::{WrRead, wr_of};
-pub use writing::{put_suffix, put_wr};
+pub use writing::{SUFFIX_TLV_LENGTH, put_suffix, put_wr, wr_length};
 
 #[cfg(test)]
 mod tests;

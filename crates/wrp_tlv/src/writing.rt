@@ -7,12 +7,15 @@ ghost use Rattle.wrp_tlv.specs.TlvList.{tlv_octets, extension};
 ghost use Rattle.wrp_tlv.specs.WhiteRabbit.{wr_read, wr_value, suffix_value, value_start, id_of, data_of, FitsOctets};
 
 use crate::appending::{put_u8, put_u16, put_u32, put_u48, put_u64};
-use crate::tlv::ORGANIZATION_EXTENSION;
+use crate::tlv::{ORGANIZATION_EXTENSION, TLV_HEADER};
 use crate::white_rabbit::{
     ANN_SUFIX, CALIBRATE, CALIBRATE_LENGTH, CALIBRATED, CALIBRATED_LENGTH, ID_LENGTH, LOCK, LOCKED,
     SLAVE_PRESENT, SUFFIX_LENGTH, WHITE_RABBIT, WR_MODE_ON,
 };
 use wrp_base::{Frame, WrMsg};
+
+/// The octets of the whole TLV of a White Rabbit suffix.
+pub const SUFFIX_TLV_LENGTH: usize = 14;
 
 /// Appends the whole TLV of a White Rabbit message: 12, 18 or 28 octets.
 pub fn put_wr(m: &WrMsg, out: &mut Frame)
@@ -23,6 +26,14 @@ pub fn put_wr(m: &WrMsg, out: &mut Frame)
     let (id, length) = row_of(m);
     put_start(id, length, out);
     put_data(m, out);
+}
+
+/// The octets of the whole TLV of a White Rabbit message: 12, 18 or 28.
+pub fn wr_length(m: &WrMsg) -> usize
+    ensures { result ≡ length (tlv_octets (extension (wr_value m.now))) }
+{
+    let (_id, length) = row_of(m);
+    TLV_HEADER + length
 }
 
 /// Appends the whole TLV of a White Rabbit suffix with these wrFlags: 14 octets.
