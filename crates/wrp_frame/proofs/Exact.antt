@@ -9,7 +9,7 @@ use Rattle.wrp_frame.specs.declared.fault.FrameFault.{FrameFault}
 use Rattle.wrp_frame.specs.declared.found.Found.{Found}
 use Rattle.wrp_frame.specs.declared.message_type.MessageType.{MessageType}
 use Rattle.wrp_frame.specs.declared.message_type.MessageType.TheVariants.{Sync}
-use Rattle.wrp_frame.specs.TlvList.{TypedValue}
+use Rattle.wrp_tlv.specs.TlvList.{TypedValue}
 use Rattle.wrp_frame.specs.Header.{HasHeader, head_at}
 use Rattle.wrp_frame.specs.Body.{body_at, message_at}
 use Rattle.wrp_frame.specs.Grammar.{HasLength, HasTime, HasTlvs, IsTwoStep, tlv_part, Spells, SpellOneMessage}

@@ -4,8 +4,8 @@ use Rattle.std.proofs.Math.Seq.{take-append_seam, drop-append_seam, drop-append-
 use Rattle.std.proofs.lemmas.List.{take-append-drop, drop-append-le, drop-drop, drop-take, length-take-le}
 use Rattle.byteorder.specs.Endian.{big_number}
 use Rattle.byteorder.specs.Numbers.{big_from-append, big_from-take}
-use Rattle.wrp_frame.specs.Octets.{number_at}
-use Rattle.wrp_frame.specs.TlvList.{TypedValue, IsTlvHeader, Fills}
+use Rattle.wrp_tlv.specs.Octets.{number_at}
+use Rattle.wrp_tlv.specs.TlvList.{TypedValue, IsTlvHeader, Fills}
 
 -- the first TLV of the octets, and where it ends
 abbrev pub first_tlv : List ℕ → TypedValue

@@ -7,11 +7,11 @@ use Rattle.wrp_frame.specs.declared.fault.FrameFault.TheVariants.{Short, Version
 use Rattle.wrp_frame.specs.declared.message_type.MessageType.{MessageType}
 use Rattle.wrp_frame.specs.declared.message_type.MessageType.TheVariants.{Sync}
 use Rattle.wrp_frame.specs.declared.places.TheConstants.{HEADER_LENGTH, PTP_VERSION, TIMESTAMP_AT, NANOS_PER_SECOND}
-use Rattle.wrp_frame.specs.Octets.{timestamp_at}
+use Rattle.wrp_frame.specs.Fields.{timestamp_at}
 use Rattle.wrp_frame.specs.MessageTypes.{has_timestamp, least_length}
 use Rattle.wrp_frame.specs.Header.{HasHeader, version_of, kind_of, message_length}
-use Rattle.wrp_frame.specs.TlvList.{TypedValue, Fills}
-use Rattle.wrp_frame.specs.WhiteRabbit.{read_of, is_bad}
+use Rattle.wrp_tlv.specs.TlvList.{TypedValue, Fills}
+use Rattle.wrp_tlv.specs.WhiteRabbitList.{read_of, is_bad}
 use Rattle.wrp_frame.specs.Grammar.{HasLength, HasTime, HasTlvs, tlv_part, IsTwoStep}
 use Rattle.wrp_frame.proofs.Filling.{fills_one}
 use Rattle.wrp_frame.specs.Faults.{HasFault, HasFaultOf, IsFirstFault, fault_number}

@@ -5,11 +5,11 @@ use Rattle.std.proofs.lemmas.List.{drop-drop, drop_all}
 use Rattle.std.proofs.Math.Bool.{or-false}
 use Rattle.byteorder.specs.Endian.{big_number}
 use Rattle.wrp_frame.specs.declared.found.Found.{Found}
-use Rattle.wrp_frame.specs.declared.tlv.Tlv.{Tlv}
-use Rattle.wrp_frame.specs.Octets.{number_at}
-use Rattle.wrp_frame.specs.TlvAt.{StandsAt}
-use Rattle.wrp_frame.specs.TlvList.{TypedValue, Fills, IsFilledByNone}
-use Rattle.wrp_frame.specs.WhiteRabbit.{read_of}
+use Rattle.wrp_tlv.specs.declared.tlv.Tlv.{Tlv}
+use Rattle.wrp_tlv.specs.Octets.{number_at}
+use Rattle.wrp_tlv.specs.TlvAt.{StandsAt}
+use Rattle.wrp_tlv.specs.TlvList.{TypedValue, Fills, IsFilledByNone}
+use Rattle.wrp_tlv.specs.WhiteRabbitList.{read_of}
 use Rattle.wrp_frame.specs.Found.{found_in, joined, with_first, IsFoundAmong}
 use Rattle.wrp_frame.proofs.Filling.{first_tlv, first_end, fills_on, fills_begin}
 

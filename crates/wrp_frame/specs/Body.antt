@@ -7,10 +7,11 @@ use Rattle.wrp_base.specs.declared.message.PtpMsg.{PtpMsg}
 use Rattle.wrp_frame.specs.declared.message_type.MessageType.{MessageType}
 use Rattle.wrp_frame.specs.declared.message_type.MessageType.TheVariants.{Sync, DelayReq, FollowUp, DelayResp, Announce, Signaling}
 use Rattle.wrp_frame.specs.declared.places.TheConstants.{TIMESTAMP_AT, TARGET_AT, REQUESTING_AT, UTC_OFFSET_AT, PRIORITY1_AT, QUALITY_AT, PRIORITY2_AT, GRANDMASTER_AT, STEPS_AT, TIME_SOURCE_AT}
-use Rattle.wrp_frame.specs.Octets.{number_at, signed_16_at, timestamp_at, identity_at}
+use Rattle.wrp_tlv.specs.Octets.{number_at, signed_16_at}
+use Rattle.wrp_frame.specs.Fields.{timestamp_at, identity_at}
 use Rattle.wrp_frame.specs.Header.{head_at}
-use Rattle.wrp_frame.specs.TlvList.{TypedValue}
-use Rattle.wrp_frame.specs.WhiteRabbit.{first_message, first_suffix}
+use Rattle.wrp_tlv.specs.TlvList.{TypedValue}
+use Rattle.wrp_tlv.specs.WhiteRabbitList.{first_message, first_suffix}
 
 -- the body of an Announce, with the wrFlags of its suffix
 abbrev pub announce_at : Option ℕ → List ℕ → Body

@@ -7,11 +7,11 @@ use Rattle.wrp_frame.specs.declared.fault.FrameFault.TheVariants.{Short, Version
 use Rattle.wrp_frame.specs.declared.message_type.MessageType.{MessageType}
 use Rattle.wrp_frame.specs.declared.message_type.MessageType.TheVariants.{Sync}
 use Rattle.wrp_frame.specs.declared.places.TheConstants.{HEADER_LENGTH, PTP_VERSION, TIMESTAMP_AT, NANOS_PER_SECOND}
-use Rattle.wrp_frame.specs.Octets.{timestamp_at}
+use Rattle.wrp_frame.specs.Fields.{timestamp_at}
 use Rattle.wrp_frame.specs.MessageTypes.{least_length, has_timestamp, reads_white_rabbit}
 use Rattle.wrp_frame.specs.Header.{version_of, kind_of, message_length}
-use Rattle.wrp_frame.specs.TlvList.{TypedValue, Fills, IsFilledByNone}
-use Rattle.wrp_frame.specs.WhiteRabbit.{read_of, is_bad}
+use Rattle.wrp_tlv.specs.TlvList.{TypedValue, Fills, IsFilledByNone}
+use Rattle.wrp_tlv.specs.WhiteRabbitList.{read_of, is_bad}
 use Rattle.wrp_frame.specs.Grammar.{tlv_part, IsTwoStep}
 
 -- the octets, whose kind is this one, have the fault

@@ -4,10 +4,10 @@ use Rattle.std.specs.Prelude.{◌≡◌, ◌||◌, ℕ, List}
 use Rattle.std.specs.List.{list_any}
 use Rattle.std.specs.Option.{option_or}
 use Rattle.wrp_frame.specs.declared.found.Found.{Found}
-use Rattle.wrp_frame.specs.declared.tlv.WrRead.{WrRead}
+use Rattle.wrp_tlv.specs.declared.white_rabbit.WrRead.{WrRead}
 use Rattle.wrp_frame.specs.declared.message_type.MessageType.{MessageType}
-use Rattle.wrp_frame.specs.TlvList.{TypedValue, Fills}
-use Rattle.wrp_frame.specs.WhiteRabbit.{read_of, is_bad, message_or, suffix_or, first_message, first_suffix}
+use Rattle.wrp_tlv.specs.TlvList.{TypedValue, Fills}
+use Rattle.wrp_tlv.specs.WhiteRabbitList.{read_of, is_bad, message_or, suffix_or, first_message, first_suffix}
 use Rattle.wrp_frame.specs.Grammar.{HasTlvs}
 
 -- what the list says

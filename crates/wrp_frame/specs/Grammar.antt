@@ -7,11 +7,12 @@ use Rattle.wrp_base.specs.declared.message.PtpMsg.{PtpMsg}
 use Rattle.wrp_frame.specs.declared.message_type.MessageType.{MessageType}
 use Rattle.wrp_frame.specs.declared.message_type.MessageType.TheVariants.{Sync}
 use Rattle.wrp_frame.specs.declared.places.TheConstants.{TWO_STEP, FLAGS_AT, TIMESTAMP_AT, NANOS_PER_SECOND}
-use Rattle.wrp_frame.specs.Octets.{number_at, timestamp_at}
+use Rattle.wrp_tlv.specs.Octets.{number_at}
+use Rattle.wrp_frame.specs.Fields.{timestamp_at}
 use Rattle.wrp_frame.specs.MessageTypes.{least_length, has_timestamp, reads_white_rabbit}
 use Rattle.wrp_frame.specs.Header.{HasHeader, message_length}
-use Rattle.wrp_frame.specs.TlvList.{TypedValue, Fills}
-use Rattle.wrp_frame.specs.WhiteRabbit.{read_of, is_bad}
+use Rattle.wrp_tlv.specs.TlvList.{TypedValue, Fills}
+use Rattle.wrp_tlv.specs.WhiteRabbitList.{read_of, is_bad}
 use Rattle.wrp_frame.specs.Body.{message_at}
 
 -- messageLength is at least the kind's, and no more than there are octets

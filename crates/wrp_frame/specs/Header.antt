@@ -5,7 +5,8 @@ use Rattle.wrp_base.specs.declared.message.Head.{Head}
 use Rattle.wrp_frame.specs.declared.message_type.MessageType.{MessageType}
 use Rattle.wrp_frame.specs.declared.places.TheConstants.{MESSAGE_TYPE_AT, VERSION_AT, PTP_VERSION, MESSAGE_LENGTH_AT, DOMAIN_AT, FLAGS_AT, CORRECTION_AT, SOURCE_AT, SEQUENCE_AT, INTERVAL_AT, HEADER_LENGTH}
 use Rattle.wrp_frame.specs.MessageTypes.{kind_numbered}
-use Rattle.wrp_frame.specs.Octets.{number_at, signed_64_at, identity_at}
+use Rattle.wrp_tlv.specs.Octets.{number_at, signed_64_at}
+use Rattle.wrp_frame.specs.Fields.{identity_at}
 
 -- versionPTP, the low nibble of octet 1
 abbrev pub version_of : List ℕ → ℕ

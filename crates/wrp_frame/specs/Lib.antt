@@ -1,10 +1,10 @@
 pub mod Body
 pub mod Faults
+pub mod Fields
 pub mod Found
 pub mod Grammar
 pub mod Header
 pub mod MessageTypes
-pub mod Octets
-pub mod TlvAt
-pub mod TlvList
-pub mod WhiteRabbit
+pub mod Fitting
+pub mod Sent
+pub mod SentOctets

@@ -6,11 +6,11 @@ ghost use Rattle.wrp_frame.specs.Found.{HasFound, found_in};
 ghost use Rattle.wrp_frame.specs.Grammar.{HasLength, HasTime, IsTwoStep};
 ghost use Rattle.wrp_frame.specs.Header.{HasHeader, message_length};
 ghost use Rattle.wrp_frame.specs.MessageTypes.{least_length};
-ghost use Rattle.wrp_frame.specs.TlvList.{TypedValue};
+ghost use Rattle.wrp_tlv.specs.TlvList.{TypedValue};
 ghost use Rattle.wrp_frame.specs.declared.message_type.MessageType.TheVariants.{Sync};
 
+use crate::fields::{read_identity, read_timestamp};
 use crate::found::{Found, found_among};
-use crate::numbers::{i16_at, read_identity, read_timestamp, u16_at, u32_at, u64_at};
 use crate::places::{
     FLAGS_AT, GRANDMASTER_AT, NANOS_PER_SECOND, NANOS_WITHIN, PRIORITY1_AT, PRIORITY2_AT,
     QUALITY_AT, REQUESTING_AT, STEPS_AT, TARGET_AT, TIME_SOURCE_AT, TIMESTAMP_AT, TWO_STEP,
@@ -18,6 +18,7 @@ use crate::places::{
 };
 use crate::{FrameFault, MessageType};
 use wrp_base::Body;
+use wrp_tlv::numbers::{i16_at, u16_at, u32_at, u64_at};
 
 /// Tests that the nanosecondsField of a kind that has one is below a second.
 #[tactic(auto, using(crate::proofs::FirstFaults::first_time))]

@@ -1,13 +1,13 @@
 //! Walks the TLVs behind a body, and keeps what they say of White Rabbit.
 ghost use Rattle.std.specs.Prelude.{◌≡◌, ◌<◌, length, IfOk, IfErr};
 ghost use Rattle.wrp_frame.specs.Found.{IsFoundAmong};
-ghost use Rattle.wrp_frame.specs.TlvAt.{StandsAt};
-ghost use Rattle.wrp_frame.specs.TlvList.{IsFilledByNone};
-ghost use Rattle.wrp_frame.specs.WhiteRabbit.{read_of};
+ghost use Rattle.wrp_tlv.specs.TlvAt.{StandsAt};
+ghost use Rattle.wrp_tlv.specs.TlvList.{IsFilledByNone};
+ghost use Rattle.wrp_tlv.specs.WhiteRabbitList.{read_of};
 
 use crate::FrameFault;
-use crate::tlv::{ORGANIZATION_EXTENSION, Tlv, WrRead, tlv_at, wr_of};
 use wrp_base::WrMsg;
+use wrp_tlv::{ORGANIZATION_EXTENSION, Tlv, WrRead, tlv_at, wr_of};
 
 /// What a list of TLVs says of White Rabbit.
 #[derive(Clone, Copy, Debug, Default, PartialEq, Eq)]

@@ -4,13 +4,14 @@ ghost use Rattle.wrp_frame.specs.Header.{HasHeader, head_at, message_length};
 ghost use Rattle.wrp_frame.specs.Grammar.{HasLength};
 ghost use Rattle.wrp_frame.specs.Faults.{IsFirstFault};
 
-use crate::numbers::{i64_at, read_identity, u16_at};
+use crate::fields::read_identity;
 use crate::places::{
     CORRECTION_AT, DOMAIN_AT, FLAGS_AT, HEADER_LENGTH, INTERVAL_AT, MESSAGE_LENGTH_AT,
     MESSAGE_TYPE_AT, PTP_VERSION, SEQUENCE_AT, SOURCE_AT, VERSION_AT,
 };
 use crate::{FrameFault, MessageType};
 use wrp_base::Head;
+use wrp_tlv::numbers::{i64_at, u16_at};
 
 /// The kind of the message whose header the octets begin with.
 #[tactic(auto, using(crate::proofs::FirstFaults::header_faults))]

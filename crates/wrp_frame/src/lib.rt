@@ -5,18 +5,18 @@
 
 mod body;
 mod fault;
+mod fields;
 mod found;
 mod header;
 mod message_type;
-mod numbers;
 pub mod places;
 mod reading;
-mod tlv;
+mod writing;
 
 pub use fault::FrameFault;
 pub use message_type::MessageType;
 pub use reading::{decode, one_message};
-pub use tlv::{Tlv, TlvFault, WrRead, tlv_at, wr_of};
+pub use writing::encode;
 
 #[cfg(test)]
 mod tests;

@@ -1,5 +1,6 @@
 //! `decode`: the message that octets spell, or the first fault that they have.
 ghost use Rattle.std.specs.Prelude.{◌≡◌, ◌↔◌, IfOk, IfErr};
+ghost use Rattle.wrp_base.specs.Message.{IsSound};
 ghost use Rattle.wrp_frame.specs.Faults.{IsFirstFault};
 ghost use Rattle.wrp_frame.specs.Grammar.{Spells, SpellOneMessage};
 
@@ -12,6 +13,7 @@ use wrp_base::PtpMsg;
 /// of `FrameFault`'s order that the octets have.
 pub fn decode(bytes: &[u8]) -> Result<PtpMsg, FrameFault>
     ensures spelled { (message : PtpMsg) → (result ≡ Ok message) ↔ Spells bytes.now message }
+    ensures sound { IfOk result IsSound }
     ensures refused { (fault : FrameFault) → (result ≡ Err fault) ↔ IsFirstFault fault bytes.now }
 {
     read_message(bytes)

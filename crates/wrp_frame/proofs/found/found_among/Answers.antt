@@ -3,7 +3,7 @@ use Rattle.wrp_frame.proofs.Walk.{walk_on, walk_fails, typed}
 use Rattle.std.proofs.Common.{◌≡◌, ap, ◌∙◌}
 use Rattle.wrp_frame.specs.declared.found.Found.{Found}
 use Rattle.wrp_frame.specs.Found.{joined, with_first}
-use Rattle.wrp_frame.specs.WhiteRabbit.{read_of}
+use Rattle.wrp_tlv.specs.WhiteRabbitList.{read_of}
 use Rattle.wrp_frame.proofs.found.found_among.Goals as goal
 
 pub returns-in_err-tlv-clause-err : goal.returns-in_err-tlv-clause-err

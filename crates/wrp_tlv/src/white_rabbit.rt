@@ -1,16 +1,10 @@
-//! TLVs: what stands at a place of the octets, and what a White Rabbit TLV says.
-ghost use Rattle.std.specs.Prelude.{◌≡◌, ◌<◌, ◌≤◌, ◌+◌, ◌↔◌, length};
-ghost use Rattle.wrp_frame.specs.Octets.{number_at};
-ghost use Rattle.wrp_frame.specs.TlvAt.{StandsAt};
-ghost use Rattle.wrp_frame.specs.WhiteRabbit.{wr_read, read_by_id};
+//! What the value of a White Rabbit TLV says (White Rabbit Specification 2.0).
+ghost use Rattle.std.specs.Prelude.{◌≡◌};
+ghost use Rattle.wrp_tlv.specs.WhiteRabbit.{wr_read, read_by_id};
 
 use crate::numbers::{u16_at, u32_at, u48_at, u64_at};
 use wrp_base::WrMsg;
 
-/// The octets of a TLV's tlvType and lengthField, before its value.
-pub const TLV_HEADER: usize = 4;
-/// tlvType ORGANIZATION_EXTENSION.
-pub const ORGANIZATION_EXTENSION: u16 = 0x0003;
 /// organizationId 08 00 30 and organizationSubType DE AD 01, with which a White Rabbit value begins.
 pub const WHITE_RABBIT: u64 = 0x0800_30DE_AD01;
 /// The octets of organizationId and organizationSubType.
@@ -40,26 +34,6 @@ pub const CALIBRATED_LENGTH: usize = 24;
 /// The lengthField of the suffix.
 pub const SUFFIX_LENGTH: usize = 10;
 
-/// A TLV among octets: its type, and where its value begins and ends. The next one begins at `to`.
-#[derive(Clone, Copy, Debug, PartialEq, Eq)]
-pub struct Tlv {
-    /// tlvType.
-    pub kind: u16,
-    /// The place of the value's first octet.
-    pub from: usize,
-    /// The place behind the value's last octet.
-    pub to: usize,
-}
-
-/// Why no whole TLV stands at a place.
-#[derive(Clone, Copy, Debug, PartialEq, Eq)]
-pub enum TlvFault {
-    /// 1: fewer than the 4 octets of tlvType and lengthField are left.
-    TlvShort,
-    /// 2: the value would run past the end.
-    TlvOverrun,
-}
-
 /// What the value of an ORGANIZATION_EXTENSION says.
 #[derive(Clone, Copy, Debug, PartialEq, Eq)]
 pub enum WrRead {
@@ -71,30 +45,6 @@ pub enum WrRead {
     Other,
     /// A White Rabbit value without an id, or with another length than its id has.
     BadWr,
-}
-
-/// The TLV that stands at `n`. `TlvShort` where fewer than 4 octets are left there, `TlvOverrun`
-/// where the value would run past the end.
-pub fn tlv_at(bytes: &[u8], n: usize) -> Result<Tlv, TlvFault>
-    requires { n < length bytes.now }
-    ensures ok { (tlv : Tlv) → (result ≡ Ok tlv) ↔ StandsAt bytes.now n tlv }
-    ensures short { (result ≡ Err TlvFault.TlvShort) ↔ (length bytes.now < n + TLV_HEADER) }
-    ensures overrun { (result ≡ Err TlvFault.TlvOverrun)
-        ↔ ((n + TLV_HEADER ≤ length bytes.now) × (length bytes.now < n + TLV_HEADER + number_at (n + 2) 2 bytes.now)) }
-{
-    if bytes.len() - n < TLV_HEADER {
-        return Err(TlvFault::TlvShort);
-    }
-    let from = n + TLV_HEADER;
-    let length = usize::from(u16_at(bytes, n + 2));
-    if bytes.len() - from < length {
-        return Err(TlvFault::TlvOverrun);
-    }
-    Ok(Tlv {
-        kind: u16_at(bytes, n),
-        from,
-        to: from + length,
-    })
 }
 
 /// What the value of an ORGANIZATION_EXTENSION says. `Other` where it is none of White Rabbit, or of

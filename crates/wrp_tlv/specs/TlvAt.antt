@@ -1,8 +1,8 @@
 -- The TLV that stands at a place of the octets (IEEE 1588-2019).
 use Rattle.std.specs.Prelude.{◌≡◌, ◌≤◌, ◌+◌, ℕ, List, length}
-use Rattle.wrp_frame.specs.declared.tlv.Tlv.{Tlv}
-use Rattle.wrp_frame.specs.declared.tlv.TheConstants.{TLV_HEADER}
-use Rattle.wrp_frame.specs.Octets.{number_at}
+use Rattle.wrp_tlv.specs.declared.tlv.Tlv.{Tlv}
+use Rattle.wrp_tlv.specs.declared.tlv.TheConstants.{TLV_HEADER}
+use Rattle.wrp_tlv.specs.Octets.{number_at}
 
 -- a whole TLV stands at n: tlvType and lengthField, and then the value, which ends within the octets
 pub record StandsAt (octets : List ℕ) (n : ℕ) (tlv : Tlv) : Type 0 where

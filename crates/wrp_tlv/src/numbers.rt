@@ -1,10 +1,8 @@
-//! Reads the numbers, timestamps and identities that stand at a place of the octets, big-endian.
+//! Reads the numbers that stand at a place of the octets, big-endian.
 ghost use Rattle.std.specs.Prelude.{◌≡◌, ◌+◌, ◌≤◌, length};
-ghost use Rattle.wrp_frame.specs.Octets.{number_at, signed_16_at, signed_64_at, timestamp_at, identity_at};
+ghost use Rattle.wrp_tlv.specs.Octets.{number_at, signed_16_at, signed_64_at};
 
-use crate::places::{NANOS_WITHIN, PORT_WITHIN};
 use byteorder::{BigEndian, ByteOrder};
-use wrp_base::{PortIdentity, Ts};
 
 /// The number in the 2 octets from `at` on.
 pub fn u16_at(octets: &[u8], at: usize) -> u16
@@ -52,26 +50,4 @@ pub fn i64_at(octets: &[u8], at: usize) -> i64
     ensures { result ≡ signed_64_at at octets.now }
 {
     u64_at(octets, at).cast_signed()
-}
-
-/// The Timestamp in the 10 octets from `at` on.
-pub fn read_timestamp(octets: &[u8], at: usize) -> Ts
-    requires { at + 10 ≤ length octets.now }
-    ensures { result ≡ timestamp_at at octets.now }
-{
-    Ts {
-        seconds: u48_at(octets, at),
-        nanos: u32_at(octets, at + NANOS_WITHIN),
-    }
-}
-
-/// The PortIdentity in the 10 octets from `at` on.
-pub fn read_identity(octets: &[u8], at: usize) -> PortIdentity
-    requires { at + 10 ≤ length octets.now }
-    ensures { result ≡ identity_at at octets.now }
-{
-    PortIdentity {
-        clock: u64_at(octets, at),
-        port: u16_at(octets, at + PORT_WITHIN),
-    }
 }

@@ -1,7 +1,8 @@
 -- Lists of TLVs that fill a part of the octets (IEEE 1588-2019).
 use Rattle.std.specs.Prelude.{◌≡◌, ℕ, List, [], ◌∷◌, ◌++◌, length}
-use Rattle.wrp_frame.specs.declared.tlv.TheConstants.{TLV_HEADER}
-use Rattle.wrp_frame.specs.Octets.{number_at}
+use Rattle.wrp_tlv.specs.declared.tlv.TheConstants.{TLV_HEADER, ORGANIZATION_EXTENSION}
+use Rattle.byteorder.specs.Endian.{big_bytes}
+use Rattle.wrp_tlv.specs.Octets.{number_at}
 
 -- a whole TLV, wherever it stands: its tlvType and its value
 pub record TypedValue : Type 0 where
@@ -23,3 +24,11 @@ Fills (tlv ∷ tlvs) octets =
 -- no list of whole TLVs fills the octets
 abbrev pub IsFilledByNone : List ℕ → Type 0
 IsFilledByNone octets = (tlvs : List TypedValue) → Fills tlvs octets → ⊥
+
+-- the octets of a TLV: tlvType, lengthField, value
+abbrev pub tlv_octets : TypedValue → List ℕ
+tlv_octets tlv = big_bytes 2 tlv.kind ++ (big_bytes 2 (length tlv.value) ++ tlv.value)
+
+-- an ORGANIZATION_EXTENSION with this value
+abbrev pub extension : List ℕ → TypedValue
+extension value = record { kind = ORGANIZATION_EXTENSION; value = value }

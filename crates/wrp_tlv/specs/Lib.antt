@@ -1,0 +1,5 @@
+pub mod Octets
+pub mod TlvAt
+pub mod TlvList
+pub mod WhiteRabbit
+pub mod WhiteRabbitList

@@ -1,0 +1,84 @@
+-- The values of White Rabbit TLVs: the table of ids and lengths, read and written (White Rabbit
+-- Specification 2.0).
+use Rattle.std.specs.Prelude.{ℕ, Bool, ◌&&◌, ◌==◌, nat_le, nat_lt, if◌then◌else◌, List, [], ◌++◌, ◌<◌, ◌^◌, length, slice_index}
+use Rattle.wrp_base.specs.declared.message.WrMsg.{WrMsg}
+use Rattle.wrp_base.specs.declared.message.WrMsg.TheVariants.{Present, Lock, Locked, Calibrate, Calibrated, ModeOn}
+use Rattle.wrp_tlv.specs.declared.white_rabbit.WrRead.{WrRead}
+use Rattle.wrp_tlv.specs.declared.white_rabbit.WrRead.TheVariants.{Wr, Suffix, Other, BadWr}
+use Rattle.wrp_tlv.specs.declared.white_rabbit.TheConstants.{WHITE_RABBIT, PREFIX_LENGTH, ID_LENGTH, CALIBRATE_LENGTH, CALIBRATED_LENGTH, SUFFIX_LENGTH, SLAVE_PRESENT, LOCK, LOCKED, CALIBRATE, CALIBRATED, WR_MODE_ON, ANN_SUFIX}
+use Rattle.byteorder.specs.Endian.{big_bytes}
+use Rattle.wrp_tlv.specs.Octets.{number_at}
+
+-- the value begins with White Rabbit's organizationId and organizationSubType
+abbrev pub is_white_rabbit : List ℕ → Bool
+is_white_rabbit value = nat_le PREFIX_LENGTH (length value) && (number_at 0 6 value == WHITE_RABBIT)
+
+-- what is said by a value of this length, and nothing by one of another length
+abbrev pub sized : ℕ → List ℕ → WrRead → WrRead
+sized n value read = if length value == n then read else BadWr
+
+-- CALIBRATE: calSendPattern, calRetry and calPeriod
+abbrev pub calibrate_at : List ℕ → WrMsg
+calibrate_at value = Calibrate (slice_index value 8) (slice_index value 9) (number_at 10 4 value)
+
+-- CALIBRATED: deltaTx and deltaRx
+abbrev pub calibrated_at : List ℕ → WrMsg
+calibrated_at value = Calibrated (number_at 8 8 value) (number_at 16 8 value)
+
+-- the table of ids, each with its length and its message
+unfoldable pub read_by_id : ℕ → List ℕ → WrRead
+read_by_id id value =
+    if id == SLAVE_PRESENT then sized ID_LENGTH value (Wr Present)
+    else if id == LOCK then sized ID_LENGTH value (Wr Lock)
+    else if id == LOCKED then sized ID_LENGTH value (Wr Locked)
+    else if id == CALIBRATE then sized CALIBRATE_LENGTH value (Wr (calibrate_at value))
+    else if id == CALIBRATED then sized CALIBRATED_LENGTH value (Wr (calibrated_at value))
+    else if id == WR_MODE_ON then sized ID_LENGTH value (Wr ModeOn)
+    else if id == ANN_SUFIX then sized SUFFIX_LENGTH value (Suffix (number_at 8 2 value))
+    else Other
+
+-- what the value of an ORGANIZATION_EXTENSION says: without an id it is a bad one of White Rabbit
+unfoldable pub wr_read : List ℕ → WrRead
+wr_read value =
+    if is_white_rabbit value
+    then if nat_lt (length value) ID_LENGTH then BadWr else read_by_id (number_at PREFIX_LENGTH 2 value) value
+    else Other
+
+-- with what the value of an id begins: organizationId, organizationSubType, and the id
+abbrev pub value_start : ℕ → List ℕ
+value_start id = big_bytes PREFIX_LENGTH WHITE_RABBIT ++ big_bytes 2 id
+
+-- the id of a message
+abbrev pub id_of : WrMsg → ℕ
+id_of Present = SLAVE_PRESENT
+id_of Lock = LOCK
+id_of Locked = LOCKED
+id_of (Calibrate pattern retry period) = CALIBRATE
+id_of (Calibrated tx rx) = CALIBRATED
+id_of ModeOn = WR_MODE_ON
+
+-- the data behind the id
+abbrev pub data_of : WrMsg → List ℕ
+data_of Present = []
+data_of Lock = []
+data_of Locked = []
+data_of (Calibrate pattern retry period) = big_bytes 1 pattern ++ (big_bytes 1 retry ++ big_bytes 4 period)
+data_of (Calibrated tx rx) = big_bytes 8 tx ++ big_bytes 8 rx
+data_of ModeOn = []
+
+-- the value that carries a message
+abbrev pub wr_value : WrMsg → List ℕ
+wr_value message = value_start (id_of message) ++ data_of message
+
+-- the numbers of a message fit their octets
+abbrev pub FitsOctets : WrMsg → Type 0
+FitsOctets Present = Unit {0}
+FitsOctets Lock = Unit {0}
+FitsOctets Locked = Unit {0}
+FitsOctets (Calibrate pattern retry period) = (pattern < 256) × (retry < 256) × (period < 256 ^ 4)
+FitsOctets (Calibrated tx rx) = (tx < 256 ^ 8) × (rx < 256 ^ 8)
+FitsOctets ModeOn = Unit {0}
+
+-- the value that carries the wrFlags of a suffix
+abbrev pub suffix_value : ℕ → List ℕ
+suffix_value flags = value_start ANN_SUFIX ++ big_bytes 2 flags
