@@ -1,4 +1,5 @@
--- Distance round the period: how far two times are apart, whole periods left aside.
+-- Distance round the period: how far two times are apart, whole periods left aside (this project's
+-- profile).
 use Rattle.std.specs.Prelude.{ℕ, ℤ, pos, ◌-◌, ◌-ℤ◌, min, unsigned_abs}
 use Rattle.std.specs.Int.{int_rem_euclid}
 use Rattle.wrp_base.specs.declared.time.Clock.{Clock}

@@ -1,4 +1,5 @@
--- Quotients of whole numbers by a positive one, rounded down and up.
+-- Quotients of whole numbers by a positive one, rounded down and up (this project's profile: nothing else
+-- is rounded).
 use Rattle.std.specs.Prelude.{ℤ, neg_ℤ}
 use Rattle.std.specs.Int.{int_div_euclid}
 

@@ -72,10 +72,10 @@ pub struct NetCfg {
     pub nodes: Nodes,
     /// The links; a link is named by its place from 0.
     pub links: Links,
-    /// The greatest `err` of the listed modules, in tau; 0 where none is listed.
+    /// The greatest `err` of the listed modules, in tau: 0 to `10^9`, and 0 where none is listed.
     pub e_db: u64,
-    /// The greatest `tx` of the listed modules, in tau; 0 where none is listed.
+    /// The greatest `tx` of the listed modules, in tau: 0 to `10^12`, and 0 where none is listed.
     pub tx_max: u64,
-    /// The greatest `rx` of the listed modules, in tau; 0 where none is listed.
+    /// The greatest `rx` of the listed modules, in tau: 0 to `10^12`, and 0 where none is listed.
     pub rx_max: u64,
 }

@@ -78,7 +78,7 @@ pub struct Module {
     pub tx: u64,
     /// The reception delay, in tau: 0 to `10^12`.
     pub rx: u64,
-    /// The tag at which the two counters change over, in detector steps: 0 to 16383.
+    /// The tag at which a new period begins, in detector steps: 0 to 16383.
     pub transition: u16,
     /// How far each true delay may be from its entry, in tau: 0 to `10^9`.
     pub err: u64,
@@ -93,7 +93,7 @@ pub struct Fibre {
     pub err: u64,
 }
 
-/// The four fixed delays of a link's two ports, each in tau.
+/// The four fixed delays of a link's two ports, each in tau: 0 to `10^12`.
 #[derive(Clone, Copy, Debug, Default, PartialEq, Eq)]
 pub struct Deltas {
     /// The master's transmission delay.
@@ -109,7 +109,7 @@ pub struct Deltas {
 /// One change of a port's link state.
 #[derive(Clone, Copy, Debug, Default, PartialEq, Eq)]
 pub struct Mark {
-    /// The true time of the change, in tau.
+    /// The true time of the change, in tau: at least the epoch of the world.
     pub at: Tau,
     /// The state before it.
     pub from: LinkState,

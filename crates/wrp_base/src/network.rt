@@ -62,6 +62,6 @@ pub struct LinkCfg {
     pub up_nm: u16,
     /// The greatest `err` of the modules at the link's ends, in tau: 0 to `10^9`.
     pub e_db: u64,
-    /// The error of the link's stored delay law, in tau: at least 1.
+    /// The error of the link's stored delay law, in tau: 1 to `10^9 + 1`.
     pub law_err: u64,
 }

@@ -1,5 +1,5 @@
 -- For words and an input one status and one text are due, and no others.
-use Rattle.std.proofs.Common.{◌≡◌, ◌≢◌, ◌⊎◌, inl, inr, ℕ, ◌+◌, ◌<◌, ◌≤◌, Option, None, Some, Result, Ok, Err, List, [], ◌∷◌, ◌++◌, length, IfSome, refl, sym, ap, ◌∙◌, subst, arith, codes}
+use Rattle.std.proofs.Common.{true, false, ◌≡◌, ◌≢◌, ◌⊎◌, inl, inr, ℕ, ◌+◌, ◌<◌, ◌≤◌, Option, None, Some, Result, Ok, Err, List, [], ◌∷◌, ◌++◌, length, IfSome, refl, sym, ap, ◌∙◌, subst, arith, codes}
 use Rattle.wrp_run.specs.declared.status.Status.{Status}
 use Rattle.wrp_run.specs.declared.status.Status.TheVariants.{Done, Usage, BadNetwork, BadTrace, Broken, ReadFault, WriteFault, LinkFault, TooLarge, OutOfMemory}
 use Rattle.wrp_run.specs.declared.records.Record.{Record}
@@ -12,11 +12,11 @@ use Rattle.wrp_run.specs.Frames.{Says, IsHexOf}
 use Rattle.wrp_run.specs.Records.{IsRecord, IsNoRecord, IsUp, IsFrame, HasParts, AreRecords}
 use Rattle.std.specs.Io.KnownBytes.{Appends}
 use Rattle.wrp_run.specs.declared.network.TheConstants.{TWO_NODES}
-use Rattle.wrp_run.specs.declared.reading.TheConstants.{INPUT_LIMIT}
+use Rattle.wrp_run.specs.Statuses.{is_answer}
 use Rattle.wrp_run.specs.Words.{IsReplay}
 use Rattle.wrp_run.specs.Input.{network_text, record_lines}
 use Rattle.wrp_run.specs.Texts.{text_of, usage_line, bad_network_line, bad_trace_line, too_large_line}
-use Rattle.wrp_run.specs.Answer.{Answer, InputAnswer, ReplayAnswer, IsRefusedAfter}
+use Rattle.wrp_run.specs.Answer.{input_limit, Answer, InputAnswer, ReplayAnswer, IsRefusedAfter}
 
 -- octets say one thing
 says_one : (octets : List ℕ) (a b : Result PtpMsg FrameFault) → Says octets a → Says octets b → a ≡ b
@@ -170,10 +170,10 @@ abbrev Unread : List (List ℕ) → Status → List ℕ → Type 0
 Unread words s o = (s ≡ Usage) × (IsReplay words → ⊥) × (o ≡ usage_line)
 
 abbrev TooMuch : List (List ℕ) → List ℕ → Status → List ℕ → Type 0
-TooMuch words input s o = (s ≡ TooLarge) × IsReplay words × (INPUT_LIMIT < length input) × (o ≡ too_large_line)
+TooMuch words input s o = (s ≡ TooLarge) × IsReplay words × (input_limit < length input) × (o ≡ too_large_line)
 
 abbrev Read : List (List ℕ) → List ℕ → Status → List ℕ → Type 0
-Read words input s o = IsReplay words × (length input ≤ INPUT_LIMIT) × InputAnswer input s o
+Read words input s o = IsReplay words × (length input ≤ input_limit) × InputAnswer input s o
 
 answer_is : (words : List (List ℕ)) (input : List ℕ) (s : Status) (o : List ℕ) → Answer words input s o → Unread words s o ⊎ (TooMuch words input s o ⊎ Read words input s o)
 answer_is words input Usage o p = inl (refl, p.0, p.1)
@@ -220,3 +220,11 @@ told_one (Some input) words answered s t held now text octets due is appends =
     λ other.
     let one : AreOne s t text octets = one_answer words input s t text octets due other in
     (is ∙ one.0, subst (λ (o : List ℕ). Appends held now o) one.1 appends)
+
+-- a status that is no other than an answer
+pub answered : (status : Status) → (is_answer status ≡ false → ⊥) → is_answer status ≡ true
+answered ReadFault other = absurd (other refl)
+answered WriteFault other = absurd (other refl)
+answered LinkFault other = absurd (other refl)
+answered OutOfMemory other = absurd (other refl)
+answered _ other = refl

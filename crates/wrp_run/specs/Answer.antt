@@ -5,7 +5,6 @@ use Rattle.wrp_run.specs.declared.status.Status.{Status}
 use Rattle.wrp_run.specs.declared.status.Status.TheVariants.{Done, Usage, BadNetwork, BadTrace, Broken, TooLarge}
 use Rattle.wrp_run.specs.declared.records.Record.{Record}
 use Rattle.wrp_run.specs.declared.network.TheConstants.{TWO_NODES}
-use Rattle.wrp_run.specs.declared.reading.TheConstants.{INPUT_LIMIT}
 use Rattle.wrp_run.specs.Statuses.{is_answer}
 use Rattle.wrp_run.specs.Words.{IsReplay}
 use Rattle.wrp_run.specs.Input.{network_text, record_lines}
@@ -34,11 +33,15 @@ abbrev pub InputAnswer : List ℕ → Status → List ℕ → Type 0
 InputAnswer input BadNetwork octets = (network_text input ≢ TWO_NODES.now) × (octets ≡ bad_network_line)
 InputAnswer input status octets = (network_text input ≡ TWO_NODES.now) × ReplayAnswer (record_lines input) status octets
 
+-- how many octets an input may have
+abbrev pub input_limit : ℕ
+input_limit = 33_554_432
+
 -- what is due for words and an input
 abbrev pub Answer : List (List ℕ) → List ℕ → Status → List ℕ → Type 0
 Answer words input Usage octets = (IsReplay words → ⊥) × (octets ≡ usage_line)
-Answer words input TooLarge octets = IsReplay words × (INPUT_LIMIT < length input) × (octets ≡ too_large_line)
-Answer words input status octets = IsReplay words × (length input ≤ INPUT_LIMIT) × InputAnswer input status octets
+Answer words input TooLarge octets = IsReplay words × (input_limit < length input) × (octets ≡ too_large_line)
+Answer words input status octets = IsReplay words × (length input ≤ input_limit) × InputAnswer input status octets
 
 -- what the words alone say of an answer, whatever the input is
 pub record IsReplyTo (words : List (List ℕ)) (status : Status) (octets : List ℕ) : Type 0 where

@@ -1,6 +1,7 @@
 -- Frames of a replay: what a hex text says, and which messages reach the link of port 1 of sw1. A frame
 -- is dropped where it is malformed, of another domain, from a stranger, for another port, or comes
--- without carrier or in quiet time (this project's profile).
+-- without carrier or in quiet time; one that is no Announce and has no White Rabbit message is of no use
+-- to the link (this project's profile).
 use Rattle.std.specs.Prelude.{◌≡◌, ℕ, ◌≤◌, ◌==◌, ◌&&◌, ◌||◌, Bool, true, false, if◌then◌else◌, Option, None, Some, Result, Ok, Err, List, length}
 use Rattle.hex.specs.Hex.{decode_of}
 use Rattle.wrp_base.specs.declared.link.LinkWord.{LinkWord}
@@ -14,7 +15,6 @@ use Rattle.wrp_frame.specs.Faults.{IsFirstFault}
 use Rattle.wrp_frame.specs.Grammar.{Spells}
 use Rattle.wrp_link.specs.declared.interface.LinkIn.{LinkIn}
 use Rattle.wrp_link.specs.declared.interface.LinkIn.TheVariants.{Msg, Announce as AnnounceOf}
-use Rattle.wrp_run.specs.declared.frames.TheConstants.{OWN, PEER, EVERY_PORT, DOMAIN, FRAME_LIMIT}
 
 -- the octets say a message, or have this first fault
 abbrev pub Says : List ℕ → Result PtpMsg FrameFault → Type 0
@@ -25,8 +25,20 @@ Says octets (Err fault) = IsFirstFault fault octets
 pub record IsHexOf (text : List ℕ) (heard : Result PtpMsg FrameFault) : Type 0 where
   pub octets : List ℕ
   pub is : decode_of text ≡ Ok octets
-  pub fits : length octets ≤ FRAME_LIMIT
+  pub fits : length octets ≤ 256
   pub says : Says octets heard
+
+-- port 1 of sw1, to which the frames come
+abbrev pub own : PortIdentity
+own = record { clock = 0x001b_c5ff_fe00_0002; port = 1 }
+
+-- port 1 of gm, which is the peer
+abbrev pub peer : PortIdentity
+peer = record { clock = 0x001b_c5ff_fe00_0001; port = 1 }
+
+-- the portIdentity that stands for every port: all ones
+abbrev pub every_port : PortIdentity
+every_port = record { clock = 0xffff_ffff_ffff_ffff; port = 0xffff }
 
 -- whether two port identities are one
 abbrev pub is_port : PortIdentity → PortIdentity → Bool
@@ -42,10 +54,10 @@ takes_frames _ = true
 -- port or for every port
 abbrev pub input_of : Body → Option LinkIn
 input_of (Announce origin utc p1 quality p2 gm steps source suffix) = Some (AnnounceOf suffix)
-input_of (Signal target (Some message)) = if is_port target OWN || is_port target EVERY_PORT then Some (Msg message) else None
+input_of (Signal target (Some message)) = if is_port target own || is_port target every_port then Some (Msg message) else None
 input_of _ = None
 
 -- what a message is to the link of a port with this word: nothing where it is dropped
 abbrev pub input_to : LinkWord → PtpMsg → Option LinkIn
 input_to word message =
-    if (message.head.domain == DOMAIN) && is_port message.head.source PEER && takes_frames word then input_of message.body else None
+    if (message.head.domain == 0) && is_port message.head.source peer && takes_frames word then input_of message.body else None

@@ -7,5 +7,6 @@ pub mod Lines
 pub mod Records
 pub mod Replayed
 pub mod Statuses
+pub mod Taking
 pub mod Texts
 pub mod Words

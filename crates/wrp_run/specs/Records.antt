@@ -1,17 +1,16 @@
 -- Records: which lines are recorded inputs of the node sw1, whose only port is 1 (this project's
 -- profile).
-use Rattle.std.specs.Prelude.{◌≡◌, ℕ, ◌≤◌, Result, Some, IsSomeAnd, List, [], ◌∷◌, codes}
+use Rattle.std.specs.Prelude.{◌≡◌, ℕ, ◌-◌, ◌^◌, ◌≤◌, Result, Some, IsSomeAnd, List, [], ◌∷◌, codes}
 use Rattle.wrp_base.specs.declared.message.PtpMsg.{PtpMsg}
 use Rattle.wrp_frame.specs.declared.fault.FrameFault.{FrameFault}
 use Rattle.wrp_run.specs.declared.records.Record.{Record}
 use Rattle.wrp_run.specs.declared.records.Record.TheVariants.{Reset, Tick, Up, Frame}
-use Rattle.wrp_run.specs.declared.records.TheConstants.{PORT, COUNTER_LIMIT, TAG_LIMIT, SAMPLE_LIMIT}
 use Rattle.wrp_run.specs.Fields.{parts_of, natural_up_to}
 use Rattle.wrp_run.specs.Frames.{IsHexOf}
 
 -- the text is the number of the port
 abbrev pub IsPort : List ℕ → Type 0
-IsPort text = natural_up_to PORT text ≡ Some PORT
+IsPort text = natural_up_to 1 text ≡ Some 1
 
 -- the text is a number from low to high
 abbrev pub IsBetween : ℕ → ℕ → List ℕ → Type 0
@@ -20,7 +19,7 @@ IsBetween low high text = IsSomeAnd (natural_up_to high text) (λ number. low �
 -- the parts are the counters, the tag and the sample of a receive stamp
 abbrev pub IsStamp : List (List ℕ) → Type 0
 IsStamp (rising ∷ falling ∷ tag ∷ sample ∷ []) =
-    IsBetween 1 COUNTER_LIMIT rising × IsBetween 1 COUNTER_LIMIT falling × IsBetween 0 TAG_LIMIT tag × IsBetween 0 SAMPLE_LIMIT sample
+    IsBetween 1 (2 ^ 63 - 1) rising × IsBetween 1 (2 ^ 63 - 1) falling × IsBetween 0 16_383 tag × IsBetween 0 (2 ^ 32 - 1) sample
 IsStamp _ = ⊥
 
 -- the texts begin a line that tells what port 1 heard

@@ -1,6 +1,7 @@
 -- The lines that a run prints (this project's profile).
 use Rattle.std.specs.Prelude.{ℕ, ◌+◌, Bool, if◌then◌else◌, ◌==◌, List, [], ◌∷◌, ◌++◌, reverse, codes}
 use Rattle.std.specs.Fmt.{decimal}
+use Rattle.std.specs.Str.{bytes_eq}
 use Rattle.wrp_base.specs.declared.link.LinkState.TheVariants.{Idle, Present, SLock, MLock, Locked, Calibration, Calibrated, RespCalib, LinkOn}
 use Rattle.wrp_base.specs.declared.link.LinkWord.{LinkWord}
 use Rattle.wrp_base.specs.declared.link.LinkWord.TheVariants.{Down, Quiet, Ptp, In}
@@ -22,32 +23,13 @@ word_text (In Calibrated) = codes "calibrated"
 word_text (In RespCalib) = codes "resp-calib"
 word_text (In LinkOn) = codes "link-on"
 
--- a place of its own for each word
-abbrev pub place_of : LinkWord → ℕ
-place_of Down = 0
-place_of Quiet = 1
-place_of Ptp = 2
-place_of (In Idle) = 3
-place_of (In Present) = 4
-place_of (In SLock) = 5
-place_of (In MLock) = 6
-place_of (In Locked) = 7
-place_of (In Calibration) = 8
-place_of (In Calibrated) = 9
-place_of (In RespCalib) = 10
-place_of (In LinkOn) = 11
-
--- whether two words are one
-abbrev pub is_same : LinkWord → LinkWord → Bool
-is_same a b = place_of a == place_of b
-
 -- the line of port 1's word at a tick
 abbrev pub link_line : ℕ → LinkWord → List ℕ
 link_line ticks word = codes "sw1 " ++ decimal ticks ++ codes " link 1 " ++ word_text word ++ 10 ∷ []
 
--- what a record writes: the line of the word, where it differs from the one before
+-- what a record writes: the line of the word, where it is written otherwise than the one before
 abbrev pub change_line : ℕ → LinkWord → LinkWord → List ℕ
-change_line ticks before now = if is_same before now then [] else link_line ticks now
+change_line ticks before now = if bytes_eq (word_text before) (word_text now) then [] else link_line ticks now
 
 -- what a history has written, newest record first
 abbrev pub written_by : List Record → List ℕ

@@ -4,10 +4,10 @@ ghost use Rattle.std.specs.Io.KnownBytes.{Appends, Keeps, IsAtEnd};
 ghost use Rattle.wrp_io.specs.Faults.{Rose};
 ghost use Rattle.wrp_run.specs.declared.status.Status.{Status};
 ghost use Rattle.wrp_run.specs.Statuses.{is_answer};
+ghost use Rattle.wrp_run.specs.Taking.{TakesUpTo};
 ghost use Rattle.wrp_run.specs.Words.{IsReplay};
 ghost use Rattle.wrp_run.specs.Texts.{usage_line};
-ghost use Rattle.wrp_run.specs.Answer.{Answer, InputAnswer, IsReplyTo};
-ghost use Rattle.wrp_run.specs.declared.reading.TheConstants.{INPUT_LIMIT};
+ghost use Rattle.wrp_run.specs.Answer.{input_limit, Answer, InputAnswer, IsReplyTo};
 
 use crate::network::{TWO_NODES, divide};
 use crate::reading::{End, take_all};
@@ -63,7 +63,7 @@ fn line_reply(alloc: Global, status: Status, line: &str) -> Result<Reply, NoRepl
 
 // What is due for an input whose size is within the limit.
 fn reply_to(alloc: Global, input: &[u8]) -> Result<Reply, NoReply>
-    requires { length input.now ≤ INPUT_LIMIT }
+    requires { length input.now ≤ input_limit }
     ensures due { IfOk result (λ reply. InputAnswer input.now reply.status reply.text.items) }
     ensures memory { IfErr result (λ cause. cause ≡ NoReply.Memory) }
 {
@@ -80,7 +80,9 @@ fn reply<S: Source>(alloc: Global, words: &[&str], source: &mut S) -> Result<Rep
         Answer (map (λ word. word.now) words.now) input reply.status reply.text.items)) }
     ensures untold { IfOk result (λ reply. IsReplyTo (map (λ word. word.now) words.now) reply.status reply.text.items) }
     ensures done { IfOk result (λ reply. reply.status ≡ Status.Done → IsAtEnd (S.left source.new)) }
-    ensures failed { IfErr result (λ cause. cause ≡ NoReply.Failed → Rose (S.faults source.old) (S.faults source.new)) }
+    ensures failed { IfErr result (λ cause. cause ≡ NoReply.Failed → IsReplay (map (λ word. word.now) words.now)
+        × Rose (S.faults source.old) (S.faults source.new) × TakesUpTo input_limit (S.left source.old) (S.left source.new)) }
+    ensures untouched { (IsReplay (map (λ word. word.now) words.now) → ⊥) → source.new ≡ source.old }
 {
     if !is_replay(words) {
         return line_reply(alloc, Status::Usage, USAGE_LINE);
@@ -101,7 +103,7 @@ pub fn run<S: Source, K: Sink, N: Link>(
     words: &[&str],
     source: &mut S,
     sink: &mut K,
-    _link: &mut N,
+    link: &mut N,
 ) -> Status
     // A status that is an answer is the one that is due, and what is due is written.
     ensures answer { is_answer result ≡ true → IfSome (S.left source.old) (λ input. (octets : List ℕ)
@@ -113,24 +115,34 @@ pub fn run<S: Source, K: Sink, N: Link>(
         Answer (map (λ word. word.now) words.now) input status octets
         → (result ≡ status) × Appends (K.held sink.old) (K.held sink.new) octets) }
 
-    // Whether the words are a command shows without the input.
+    // Without a fault, and with memory, it is answered and written.
+    ensures complete { (status : Status) (octets : List ℕ) → (result ≡ Status.OutOfMemory → ⊥)
+        → (Rose (S.faults source.old) (S.faults source.new) → ⊥) → (Rose (K.faults sink.old) (K.faults sink.new) → ⊥)
+        → IfSome (S.left source.old) (λ input. Answer (map (λ word. word.now) words.now) input status octets
+        → (result ≡ status) × Appends (K.held sink.old) (K.held sink.new) octets) }
+
+    // Whether the words are a command shows without the input, which is then not read.
     ensures usage { is_answer result ≡ true → (IsReplay (map (λ word. word.now) words.now) → ⊥)
         → (result ≡ Status.Usage) × Appends (K.held sink.old) (K.held sink.new) usage_line }
     ensures command { result ≡ Status.Usage → IsReplay (map (λ word. word.now) words.now) → ⊥ }
+    ensures unread { (IsReplay (map (λ word. word.now) words.now) → ⊥) → source.new ≡ source.old }
 
     // Done is answered at the end of the input.
     ensures done { result ≡ Status.Done → IsAtEnd (S.left source.new) }
 
-    // A fault has its cause, and what stands after it is known.
+    // A fault has its cause, and what stands after it is known. A read fails only where no refusal is
+    // known yet: the words are a command, and the octets that were taken are within the limit.
     ensures read_fault { result ≡ Status.ReadFault → Rose (S.faults source.old) (S.faults source.new) × Keeps (K.held sink.old) (K.held sink.new) }
+    ensures too_soon { result ≡ Status.ReadFault → IsReplay (map (λ word. word.now) words.now) × TakesUpTo input_limit (S.left source.old) (S.left source.new) }
     ensures write_fault { result ≡ Status.WriteFault → Rose (K.faults sink.old) (K.faults sink.new)
         × IfSome (S.left source.old) (λ input. (status : Status) × (octets : List ℕ) × (count : ℕ)
         × Answer (map (λ word. word.now) words.now) input status octets
         × Appends (K.held sink.old) (K.held sink.new) (take count octets)) }
     ensures memory { result ≡ Status.OutOfMemory → Keeps (K.held sink.old) (K.held sink.new) }
 
-    // No premise is tried, and the link is not called.
+    // No premise is tried, and the link stays as it is.
     ensures never { (result ≡ Status.Broken → ⊥) × (result ≡ Status.LinkFault → ⊥) }
+    ensures link { link.new ≡ link.old }
 {
     match reply(alloc, words, source) {
         Ok(reply) => answer(sink, reply.status, &reply.text),

@@ -2,6 +2,8 @@
 ghost use Rattle.std.specs.Prelude.{◌≡◌, ◌<◌, ◌≤◌, ℕ, length, IfSome};
 ghost use Rattle.std.specs.Io.KnownBytes.{IsAtEnd};
 ghost use Rattle.wrp_io.specs.Faults.{Rose};
+ghost use Rattle.wrp_run.specs.Answer.{input_limit};
+ghost use Rattle.wrp_run.specs.Taking.{TakesUpTo};
 
 use std::alloc::Global;
 use wrp_io::Source;
@@ -37,9 +39,9 @@ pub(crate) struct Taken {
 /// Takes all that a source has, up to the limit.
 pub(crate) fn take_all<S: Source>(alloc: Global, source: &mut S) -> Taken
     ensures whole { result.end ≡ End.Whole → IfSome (S.left source.old) (λ input. input ≡ result.bytes.items) }
-    ensures end { result.end ≡ End.Whole → IsAtEnd (S.left source.new) × (length result.bytes.items ≤ INPUT_LIMIT) }
-    ensures too_large { result.end ≡ End.TooLarge → IfSome (S.left source.old) (λ input. INPUT_LIMIT < length input) }
-    ensures failed { result.end ≡ End.Failed → Rose (S.faults source.old) (S.faults source.new) }
+    ensures end { result.end ≡ End.Whole → IsAtEnd (S.left source.new) × (length result.bytes.items ≤ input_limit) }
+    ensures too_large { result.end ≡ End.TooLarge → IfSome (S.left source.old) (λ input. input_limit < length input) }
+    ensures failed { result.end ≡ End.Failed → Rose (S.faults source.old) (S.faults source.new) × TakesUpTo input_limit (S.left source.old) (S.left source.new) }
 {
     let mut bytes = Vec::new(alloc);
     let mut piece = [0u8; PIECE];

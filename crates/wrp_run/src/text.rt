@@ -1,6 +1,6 @@
 //! The lines that a run prints.
 ghost use Rattle.std.specs.Prelude.{◌≡◌, ◌++◌, ◌∷◌, [], ℕ, IfOk, OnErr};
-ghost use Rattle.wrp_run.specs.Texts.{word_text, place_of, change_line, link_line, bad_trace_line};
+ghost use Rattle.wrp_run.specs.Texts.{word_text, change_line, link_line, bad_trace_line};
 
 use std::alloc::{AllocError, Global};
 use wrp_base::{LinkState, LinkWord};
@@ -35,26 +35,6 @@ fn text_of(word: LinkWord) -> &'static str
     }
 }
 
-// A place of its own for each word.
-fn place(word: LinkWord) -> u8
-    ensures { result ≡ place_of word }
-{
-    match word {
-        LinkWord::Down => 0,
-        LinkWord::Quiet => 1,
-        LinkWord::Ptp => 2,
-        LinkWord::In(LinkState::Idle) => 3,
-        LinkWord::In(LinkState::Present) => 4,
-        LinkWord::In(LinkState::SLock) => 5,
-        LinkWord::In(LinkState::MLock) => 6,
-        LinkWord::In(LinkState::Locked) => 7,
-        LinkWord::In(LinkState::Calibration) => 8,
-        LinkWord::In(LinkState::Calibrated) => 9,
-        LinkWord::In(LinkState::RespCalib) => 10,
-        LinkWord::In(LinkState::LinkOn) => 11,
-    }
-}
-
 /// Appends the line of a port's word at a tick, where the word differs from the one before.
 pub(crate) fn append_change(
     alloc: Global,
@@ -65,8 +45,8 @@ pub(crate) fn append_change(
 ) -> Result<(), AllocError>
     ensures { IfOk result (λ _. text.new.items ≡ text.old.items ++ change_line ticks before now) }
 {
-    if place(before) != place(now) {
-        let word = text_of(now);
+    let word = text_of(now);
+    if text_of(before) != word {
         let line = format!(in alloc; "sw1 {ticks} link 1 {word}\n")?;
         text.extend_from_slice(line.as_bytes())?;
     }

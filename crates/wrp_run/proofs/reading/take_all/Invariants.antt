@@ -1,6 +1,6 @@
 use Rattle.std.proofs.Common.{◌-◌, ◌+◌, ◌≤◌, length}
 use Rattle.std.specs.Io.KnownBytes.{Consumes}
-use Rattle.wrp_run.specs.declared.reading.TheConstants.{INPUT_LIMIT}
+use Rattle.wrp_run.specs.Answer.{input_limit}
 use Rattle.wrp_run.proofs.reading.take_all.Given as goal
 
 abbrev pub invariant-loop-piece : goal.invariant-loop-piece
@@ -11,4 +11,4 @@ invariant-loop-piece g l =
     }
 
 abbrev pub decreases-loop-piece : goal.decreases-loop-piece
-decreases-loop-piece g l = INPUT_LIMIT + 1 - length l.bytes.items
+decreases-loop-piece g l = input_limit + 1 - length l.bytes.items
