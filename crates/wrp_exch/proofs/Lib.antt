@@ -1,0 +1,4 @@
+pub mod Sendings
+pub mod Ticks
+pub mod NoChain
+pub mod Times

@@ -1,0 +1,9 @@
+pub mod Call
+pub mod Samples
+pub mod Chain
+pub mod SyncPair
+pub mod DelayPair
+pub mod SyncHalf
+pub mod DelayHalf
+pub mod Exchange
+pub mod Ticks

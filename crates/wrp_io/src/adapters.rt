@@ -1,0 +1,76 @@
+//! The trusted edge: a source over a reader of std, and a sink over a writer. They tell no octets.
+ghost use Rattle.std.specs.Prelude.{◌≡◌, ◌<◌, ◌≤◌, ℕ, length, IfSome};
+
+use crate::sink::Sink;
+use crate::source::{Failed, Source};
+use std::io::{Read, Write};
+
+/// A source over a reader, as standard input.
+#[derive(Drop)]
+pub struct StdSource<R: Read> {
+    reader: R,
+    faults: u64,
+}
+
+impl<R: Read> StdSource<R> {
+    /// A source that gives what `reader` reads. An error of the reader is a fault.
+    pub fn new(reader: R) -> StdSource<R> {
+        StdSource { reader, faults: 0 }
+    }
+}
+
+impl<R: Read> Source for StdSource<R> {
+    ghost faults = { λ s. s.faults };
+
+    fn read(&mut self, buf: &mut [u8]) -> Result<usize, Failed> {
+        match self.reader.read(buf) {
+            Ok(given) => Ok(given),
+            Err(_) => {
+                self.faults = self.faults.saturating_add(1);
+                Err(Failed)
+            }
+        }
+    }
+}
+
+/// A sink over a writer, as standard output. What it wrote it flushes.
+#[derive(Drop)]
+pub struct StdSink<W: Write> {
+    writer: W,
+    faults: u64,
+}
+
+impl<W: Write> StdSink<W> {
+    /// A sink that writes to `writer`. An error of the writer or of its flush is a fault, and so is
+    /// a writer that takes none of a piece that is not empty.
+    pub fn new(writer: W) -> StdSink<W> {
+        StdSink { writer, faults: 0 }
+    }
+}
+
+// Writes and flushes: how much was taken, or None for a fault.
+fn write_through<W: Write>(writer: &mut W, piece: &[u8]) -> Option<usize>
+    ensures bound { IfSome result (λ n. n ≤ length piece.now) }
+    ensures some { 0 < length piece.now → IfSome result (λ n. 0 < n) }
+{
+    let taken = writer.write(piece).ok()?;
+    writer.flush().ok()?;
+    if taken == 0 && !piece.is_empty() {
+        return None;
+    }
+    Some(taken)
+}
+
+impl<W: Write> Sink for StdSink<W> {
+    ghost faults = { λ s. s.faults };
+
+    fn write(&mut self, piece: &[u8]) -> Result<usize, Failed> {
+        match write_through(&mut self.writer, piece) {
+            Some(taken) => Ok(taken),
+            None => {
+                self.faults = self.faults.saturating_add(1);
+                Err(Failed)
+            }
+        }
+    }
+}

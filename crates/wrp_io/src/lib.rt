@@ -1,0 +1,21 @@
+//! The outside of `wrnet` as three traits, each with a meaning that contracts can cite: a `Source`
+//! of octets, a `Sink` of octets and a `Link` that carries frames between the ends of a network's
+//! links. Objects in memory tell their octets; the adapters over std's readers and writers are the
+//! trusted edge and tell none. The whole is this project's profile.
+#![tactic(auto)]
+
+mod adapters;
+mod link;
+mod memory_link;
+mod memory_sink;
+mod memory_source;
+mod sink;
+mod source;
+
+pub use adapters::{StdSink, StdSource};
+pub use link::{Link, StartFault};
+pub use memory_link::MemLink;
+pub use memory_sink::MemSink;
+pub use memory_source::MemSource;
+pub use sink::Sink;
+pub use source::{Failed, Source};

@@ -1,0 +1,25 @@
+//! Where octets come from.
+ghost use Rattle.std.specs.Prelude.{Option, None, List, ℕ, length, ◌≤◌, IfOk};
+ghost use Rattle.std.specs.Io.KnownBytes.{ReadConsumes};
+ghost use Rattle.wrp_io.specs.Faults.{HasCause};
+
+/// A call of a source, a sink or a link failed. It took nothing and appended nothing, and the
+/// object's count of faults rose.
+#[derive(Clone, Copy, Debug, PartialEq, Eq)]
+pub struct Failed;
+
+/// Where octets come from.
+pub trait Source {
+    /// The octets that are left, where the source tells them.
+    ghost left: { Self → Option (List ℕ) } = { λ _. None };
+
+    /// How often the source has failed. The count is a u64, and stays at its greatest value.
+    ghost faults: { Self → ℕ };
+
+    /// Puts the next octets that are left at the front of `buf`, and answers how many. For a buffer
+    /// with room 0 is the end.
+    fn read(&mut self, buf: &mut [u8]) -> Result<usize, Failed>
+        ensures bound { IfOk result (λ n. n ≤ length buf.new) }
+        ensures octets { ReadConsumes (left self.old) (left self.new) result buf.new }
+        ensures cause { HasCause (faults self.old) (faults self.new) result };
+}

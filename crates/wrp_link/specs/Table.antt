@@ -1,0 +1,125 @@
+-- The handshake table as a machine: what a link is after an input and after a list of them, what it
+-- sends, and what it reports. The rows stand in Rows; the counts are this project's profile.
+use Rattle.std.specs.Prelude.{◌≡◌, ℕ, ◌+◌, ◌-◌, min, Bool, true, false, cond, eqb, List, [], ◌∷◌, Option, None, Some}
+use Rattle.wrp_base.specs.declared.link.LinkState.{LinkState}
+use Rattle.wrp_base.specs.declared.link.LinkState.TheVariants.{Idle, Present, SLock, MLock, Locked, Calibration, Calibrated, RespCalib, LinkOn}
+use Rattle.wrp_base.specs.declared.link.LinkWord.{LinkWord}
+use Rattle.wrp_base.specs.declared.link.LinkWord.TheVariants.{Down, Quiet, Ptp, In}
+use Rattle.wrp_base.specs.declared.link.Role.{Role}
+use Rattle.wrp_base.specs.declared.message.WrMsg.{WrMsg}
+use Rattle.wrp_link.specs.declared.interface.LinkIn.{LinkIn}
+use Rattle.wrp_link.specs.declared.interface.LinkIn.TheVariants.{Msg}
+use Rattle.wrp_link.specs.declared.interface.LinkSet.{LinkSet}
+use Rattle.wrp_link.specs.LinkAt.{LinkAt, Waiting, new_link, wait_of, armed, entering, failed, with_carrier}
+use Rattle.wrp_link.specs.Rows.{Row, NoRow, Stays, Moves, Keeps, Resends, Fails, Waits, Counts, CarrierComes, CarrierGoes, row_of}
+
+-- one tick less on a timer
+abbrev pub ticked : Option Waiting → Option Waiting
+ticked None = None
+ticked (Some w) = Some (record w { ticks = w.ticks - 1 })
+
+-- one retry less, and the timer armed again with so many ticks
+abbrev pub retried : Option Waiting → Option ℕ → Option Waiting
+retried (Some w) ticks = armed ticks (w.retries - 1)
+retried None ticks = None
+
+-- the link after a tick that is counted: in IDLE the quiet time and the holdoff run, in WR_LINK_ON the
+-- ticks of that state are counted, up to the end of their type
+abbrev pub counted : LinkAt → LinkState → LinkAt
+counted l Idle = record l { quiet = l.quiet - 1; holdoff = l.holdoff - 1 }
+counted l LinkOn = record l { on_ticks = min (l.on_ticks + 1) 4_294_967_295 }
+counted l _ = l
+
+-- the link after a row
+abbrev pub by_row : LinkAt → Row → LinkAt
+by_row l NoRow = l
+by_row l (Stays sends) = l
+by_row l (Moves next sends) = entering l next
+by_row l (Keeps tx rx next sends) = record (entering l next) { deltas = Some (tx, rx) }
+by_row l (Resends sends) = record l { waiting = retried l.waiting (wait_of l.set l.state) }
+by_row l Fails = failed l
+by_row l Waits = record l { waiting = ticked l.waiting }
+by_row l Counts = counted l l.state
+by_row l (CarrierComes fitted) = with_carrier l fitted
+by_row l CarrierGoes = new_link l.role l.set
+
+-- the messages that a row sends, in their order
+abbrev pub sent_by : Row → List WrMsg
+sent_by (Stays sends) = sends
+sent_by (Moves next sends) = sends
+sent_by (Keeps tx rx next sends) = sends
+sent_by (Resends sends) = sends
+sent_by _ = []
+
+-- the link after an input
+abbrev pub after : LinkAt → LinkIn → LinkAt
+after l input = by_row l (row_of l input)
+
+-- the messages that an input sends
+abbrev pub sends_of : LinkAt → LinkIn → List WrMsg
+sends_of l input = sent_by (row_of l input)
+
+-- a row that is there
+abbrev pub is_row : Row → Bool
+is_row NoRow = false
+is_row _ = true
+
+-- what a row answers to a message: None where there is none
+abbrev pub answer_by : Row → Option (List WrMsg)
+answer_by row = cond (is_row row) (Some (sent_by row)) None
+
+-- what an input answers: None for a message without a row
+abbrev pub answer_to : LinkAt → LinkIn → Option (List WrMsg)
+answer_to l (Msg message) = answer_by (row_of l (Msg message))
+answer_to l input = Some (sends_of l input)
+
+-- whether an input is used: only a message without a row is not
+abbrev pub is_used : LinkAt → LinkIn → Bool
+is_used l (Msg message) = is_row (row_of l (Msg message))
+is_used l _ = true
+
+-- the place of a state in the list of states
+abbrev pub place_of : LinkState → ℕ
+place_of Idle = 0
+place_of Present = 1
+place_of SLock = 2
+place_of MLock = 3
+place_of Locked = 4
+place_of Calibration = 5
+place_of Calibrated = 6
+place_of RespCalib = 7
+place_of LinkOn = 8
+
+-- whether two states are one
+abbrev pub is_same : LinkState → LinkState → Bool
+is_same a b = eqb (place_of a) (place_of b)
+
+-- the second of two states, where it differs from the first
+abbrev pub change_of : LinkState → LinkState → Option LinkState
+change_of from to = cond (is_same from to) None (Some to)
+
+-- the state that an input moves the link to, where it differs from the one before
+abbrev pub moved_by : LinkAt → LinkIn → Option LinkState
+moved_by l input = change_of l.state (after l input).state
+
+-- the link after a list of inputs, the first of the list first
+abbrev pub run_of : LinkAt → List LinkIn → LinkAt
+run_of l [] = l
+run_of l (input ∷ inputs) = run_of (after l input) inputs
+
+-- the link is what these inputs, and no others, made of a new one
+abbrev pub Stands : Role → LinkSet → LinkAt → List LinkIn → Type 0
+Stands role set l inputs = l ≡ run_of (new_link role set) inputs
+
+-- the word for a state with a carrier, by the quiet time that is left
+abbrev pub word_in : LinkState → ℕ → LinkWord
+word_in Idle quiet = cond (eqb quiet 0) Ptp Quiet
+word_in state quiet = In state
+
+-- the word that the port reports
+abbrev pub word_of : LinkAt → LinkWord
+word_of l = cond l.carrier (word_in l.state l.quiet) Down
+
+-- the peer's deltaTx and deltaRx that stand, in tau
+abbrev pub deltas_of : LinkAt → Option (ℕ × ℕ)
+deltas_of l = l.deltas

@@ -1,0 +1,161 @@
+//! The link itself: what it holds, and the calls of its user.
+mod rows;
+mod states;
+mod ticks;
+
+ghost use Rattle.std.specs.Prelude.{◌≡◌, ◌≤◌, ◌↔◌, ℕ, List, [], ◌∷◌, ◌++◌, Option, None, Some, option_map};
+ghost use Rattle.wrp_base.specs.declared.link.Role.{Role};
+ghost use Rattle.wrp_link.specs.declared.interface.LinkIn.{LinkIn};
+ghost use Rattle.wrp_link.specs.declared.interface.LinkSet.{LinkSet};
+ghost use Rattle.wrp_link.specs.LinkAt.{new_link};
+ghost use Rattle.wrp_link.specs.Order.{Told};
+ghost use Rattle.wrp_link.specs.Table.{after, sends_of, moved_by, is_used, change_of, answer_to, Stands, word_of, deltas_of};
+
+use crate::{LinkIn, LinkOut, LinkSet};
+use arrayvec::ArrayVec;
+use std::marker::Model;
+use wrp_base::{LinkState, LinkWord, Module, Role, WrMsg};
+use wrp_timer::{Retry, Timer};
+
+/// The messages of one answer.
+type Sends = ArrayVec<WrMsg, 2>;
+
+/// The timer of a waiting state.
+#[derive(Debug, Drop)]
+struct Wait {
+    /// The ticks until it ends.
+    timer: Timer,
+    /// The retries that are left.
+    retry: Retry,
+}
+
+/// One port's side of White Rabbit link setup.
+#[derive(Debug, Drop)]
+pub struct Link {
+    role: Role,
+    set: LinkSet,
+    carrier: bool,
+    state: LinkState,
+    quiet: u32,
+    holdoff: u32,
+    wait: Option<Wait>,
+    on_ticks: u32,
+    fitted: Option<Module>,
+    deltas: Option<(u64, u64)>,
+}
+
+impl Model for Link {
+    ghost use Rattle.std.specs.Prelude.{◌≤◌};
+    ghost use Rattle.wrp_link.specs.LinkAt.{LinkAt};
+
+    ghost Value = { LinkAt };
+
+    ghost use Rattle.wrp_link.specs.Holds.{holds_of, HasLengths};
+
+    ghost view = { holds_of };
+
+    ghost invariant = { HasLengths };
+}
+
+impl Link {
+    /// A link without carrier. `quiet`, `wait` and `lock_wait` of the set are at least 1.
+    pub fn new(role: Role, set: LinkSet) -> Link
+        requires quiet { 1 ≤ set.quiet }
+        requires wait { 1 ≤ set.wait }
+        requires lock_wait { 1 ≤ set.lock_wait }
+        ensures value { result ≡ new_link role set }
+        ensures stands { Stands role set result [] }
+    {
+        Link {
+            role,
+            set,
+            carrier: false,
+            state: LinkState::Idle,
+            quiet: 0,
+            holdoff: 0,
+            wait: None,
+            on_ticks: 0,
+            fitted: None,
+            deltas: None,
+        }
+    }
+
+    /// Takes one input, and answers what it sends, whether it moved the state, and whether it was of
+    /// use. An input without a row in the handshake table changes nothing.
+    pub fn step(&mut self, input: LinkIn) -> LinkOut
+        ensures state { self.new ≡ after self.old input }
+        ensures sends { result.sends.items ≡ sends_of self.old input }
+        ensures moved { result.moved ≡ moved_by self.old input }
+        ensures used { result.used ≡ is_used self.old input }
+
+        // The link stands for the list of its inputs.
+        ensures stands { (role : Role) (set : LinkSet) (inputs : List LinkIn) → Stands role set self.old inputs → Stands role set self.new (inputs ++ input ∷ []) }
+    {
+        let from = self.state;
+        let answer = self.answer(input);
+        let moved = change(from, self.state);
+        match answer {
+            Some(sends) => LinkOut {
+                sends,
+                moved,
+                used: true,
+            },
+            None => LinkOut {
+                sends: Sends::new(),
+                moved,
+                used: false,
+            },
+        }
+    }
+
+    /// The state of link setup.
+    pub fn state(&self) -> LinkState
+        ensures { result ≡ self.now.state }
+    {
+        self.state
+    }
+
+    /// What the port reports: its state, or in IDLE whether it is down, in quiet time or in plain PTP.
+    pub fn word(&self) -> LinkWord
+        ensures { result ≡ word_of self.now }
+    {
+        match self.state {
+            _ if !self.carrier => LinkWord::Down,
+            LinkState::Idle if self.quiet > 0 => LinkWord::Quiet,
+            LinkState::Idle => LinkWord::Ptp,
+            state => LinkWord::In(state),
+        }
+    }
+
+    /// The peer's deltaTx and deltaRx, in tau: those of the CALIBRATED that moved this handshake, until
+    /// the port returns to IDLE.
+    pub fn peer_deltas(&self) -> Option<(u64, u64)>
+        ensures value { result ≡ deltas_of self.now }
+        ensures told { (role : Role) (set : LinkSet) (inputs : List LinkIn) → Stands role set self.now inputs → (tx rx : ℕ) → (result ≡ Some (tx, rx)) ↔ Told (new_link role set) inputs tx rx }
+    {
+        self.deltas
+    }
+
+    /// The messages that an input sends; None for a message without a row.
+    fn answer(&mut self, input: LinkIn) -> Option<Sends>
+        ensures state { self.new ≡ after self.old input }
+        ensures answer { option_map (λ sends. sends.items) result ≡ answer_to self.old input }
+    {
+        match input {
+            LinkIn::CarrierUp(fitted) => Some(self.carrier_comes(fitted)),
+            LinkIn::Msg(_) if !self.carrier => None,
+            _ if !self.carrier => Some(Sends::new()),
+            LinkIn::Msg(message) => self.message(message),
+            LinkIn::Announce(suffix) => Some(self.announce(suffix)),
+            LinkIn::Tick(locked) => Some(self.tick(locked)),
+            LinkIn::CarrierDown => Some(self.carrier_goes()),
+        }
+    }
+}
+
+/// The second state, where it differs from the first.
+fn change(from: LinkState, to: LinkState) -> Option<LinkState>
+    ensures { result ≡ change_of from to }
+{
+    if from == to { None } else { Some(to) }
+}

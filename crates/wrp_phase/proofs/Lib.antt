@@ -1,0 +1,3 @@
+pub mod Beats
+pub mod TagError
+pub mod UnwrapLaws

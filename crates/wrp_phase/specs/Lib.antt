@@ -1,0 +1,3 @@
+pub mod Beat
+pub mod BeatPattern
+pub mod Unwrapping

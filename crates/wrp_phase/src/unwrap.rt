@@ -1,0 +1,139 @@
+//! The unwrapped phase: successive tags, added up across the ends of the period.
+ghost use Rattle.std.specs.Prelude.{◌≡◌, ℕ, ◌^◌, ◌<◌, ◌≤◌, unsigned_abs, List, [], ◌∷◌, ◌++◌};
+ghost use Rattle.std.specs.Option.{ForSome};
+ghost use Rattle.wrp_phase.specs.Unwrapping.{added_by, StandsFor};
+
+use crate::STEPS;
+use std::marker::Model;
+use wrp_base::Clock;
+
+/// Adds up the wrapped differences of successive tags.
+#[derive(Clone, Copy, Debug, PartialEq, Eq)]
+pub struct Unwrap {
+    clock: Clock,
+    last: Option<u16>,
+    answer: i64,
+}
+
+impl Model for Unwrap {
+    ghost use Rattle.std.specs.Prelude.{ℕ, ◌<◌};
+    ghost use Rattle.std.specs.Option.{ForSome};
+    ghost use Rattle.wrp_phase.specs.Unwrapping.{Unwrapping};
+
+    ghost Value = { Unwrapping };
+
+    ghost view = { λ u. record { clock = u.clock; last = u.last; answer = u.answer } };
+
+    ghost invariant = { λ u. ForSome u.last (λ tag. tag < 16384) };
+
+    ghost inverse = { λ v. record { clock = v.clock; last = v.last; answer = v.answer } };
+}
+
+impl Unwrap {
+    /// An unwrapper that has taken no tag.
+    pub fn new(clock: Clock) -> Unwrap
+        ensures clock { result.clock ≡ clock }
+        ensures stands { StandsFor result [] }
+    {
+        Unwrap {
+            clock,
+            last: None,
+            answer: 0,
+        }
+    }
+
+    /// Forgets the tags: the next one gives 0.
+    pub fn restart(&mut self)
+        ensures clock { self.new.clock ≡ self.old.clock }
+        ensures stands { StandsFor self.new [] }
+    {
+        self.last = None;
+        self.answer = 0;
+    }
+
+    /// Takes a tag, in detector steps, 0 to 16383, and answers the unwrapped phase, in tau: the sum of
+    /// the wrapped differences of the tags since the last restart. The first one gives 0.
+    pub fn push(&mut self, tag: u16) -> i64
+        requires tag { tag < 16384 }
+        requires answer { unsigned_abs self.old.answer < 2 ^ 60 }
+        ensures clock { self.new.clock ≡ self.old.clock }
+        ensures stands { (tags : List ℕ) → StandsFor self.old tags → StandsFor self.new (tags ++ tag ∷ []) }
+        ensures answer { result ≡ self.new.answer }
+    {
+        self.answer += added(self.clock, self.last, tag);
+        self.last = Some(tag);
+        self.answer
+    }
+}
+
+// What a tag adds to the phase after the one before it, if there is one.
+fn added(clock: Clock, before: Option<u16>, tag: u16) -> i64
+    requires before { ForSome before (λ last. last < 16384) }
+    requires tag { tag < 16384 }
+    ensures value { result ≡ added_by clock before tag }
+    ensures size { unsigned_abs result ≤ 2 ^ 29 }
+{
+    match before {
+        None => 0,
+        Some(last) => difference_round(clock, last, tag),
+    }
+}
+
+// The difference of the phases that two tags tell, brought into half a period on either side.
+fn difference_round(clock: Clock, before: u16, tag: u16) -> i64
+    requires before { before < 16384 }
+    requires tag { tag < 16384 }
+    ensures value { result ≡ added_by clock (Some before) tag }
+    ensures size { unsigned_abs result ≤ 2 ^ 29 }
+{
+    let step = clock.step().unsigned_abs() as i64;
+    let ahead = (tag + STEPS + STEPS / 2 - before) % STEPS;
+    step * (i64::from(ahead) - i64::from(STEPS / 2))
+}
+
+#[cfg(test)]
+mod tests {
+    use super::*;
+
+    // Three tags after a restart, and the unwrapped phase after each, in tau.
+    const PHASES: [(Clock, [u16; 3], [i64; 3]); 8] = [
+        // across the end of the period, upwards and downwards
+        (Clock::Mhz125, [16383, 0, 1], [0, 32_000, 64_000]),
+        (Clock::Mhz62, [16383, 0, 1], [0, 64_000, 128_000]),
+        (Clock::Mhz125, [0, 16383, 8191], [0, -32_000, -262_176_000]),
+        // half a period either way is brought to its lower end
+        (Clock::Mhz125, [0, 8192, 0], [0, -262_144_000, -524_288_000]),
+        (
+            Clock::Mhz62,
+            [0, 8192, 0],
+            [0, -524_288_000, -1_048_576_000],
+        ),
+        // the step before it and the one past it
+        (
+            Clock::Mhz125,
+            [0, 8191, 16382],
+            [0, 262_112_000, 524_224_000],
+        ),
+        (Clock::Mhz125, [5, 8198, 5], [0, -262_112_000, 0]),
+        (Clock::Mhz125, [9, 9, 10], [0, 0, 32_000]),
+    ];
+
+    #[test]
+    fn unwraps(rt: HostRuntime) {
+        for (clock, tags, phases) in PHASES {
+            let mut unwrap = Unwrap::new(clock);
+            let [first, second, third] = tags;
+            assert!(rt; first < STEPS && second < STEPS && third < STEPS);
+            let one = unwrap.push(first);
+            assert!(rt; one == phases[0] && one.unsigned_abs() < 1 << 60, "{first}");
+            let two = unwrap.push(second);
+            assert!(rt;
+                two == phases[1] && two.unsigned_abs() < 1 << 60,
+                "{second}"
+            );
+            assert_eq!(rt; unwrap.push(third), phases[2], "{third}");
+            unwrap.restart();
+            assert_eq!(rt; unwrap.push(second), 0);
+        }
+    }
+}

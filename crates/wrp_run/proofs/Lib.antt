@@ -1,0 +1,5 @@
+pub mod LineLemmas
+pub mod OneAnswer
+pub mod Parts
+pub mod Pieces
+pub mod Progress

@@ -1,0 +1,11 @@
+pub mod Answer
+pub mod Fields
+pub mod Frames
+pub mod History
+pub mod Input
+pub mod Lines
+pub mod Records
+pub mod Replayed
+pub mod Statuses
+pub mod Texts
+pub mod Words

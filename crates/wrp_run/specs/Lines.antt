@@ -1,0 +1,35 @@
+-- Lines of octets: each ends with LF, and the last may lack it; one CR before the LF belongs to the
+-- line's end (this project's profile).
+use Rattle.std.specs.Prelude.{ℕ, if◌then◌else◌, ◌==◌, List, [], ◌∷◌, reverse}
+
+-- the octet that ends a line
+abbrev pub line_feed : ℕ
+line_feed = 10
+
+-- the octet that may stand before it
+abbrev pub carriage_return : ℕ
+carriage_return = 13
+
+-- an octet in front of the first of some lines
+abbrev pub onto : ℕ → List (List ℕ) → List (List ℕ)
+onto octet [] = (octet ∷ []) ∷ []
+onto octet (line ∷ lines) = (octet ∷ line) ∷ lines
+
+-- the lines of the octets, each with its LF
+abbrev pub lines_of : List ℕ → List (List ℕ)
+lines_of [] = []
+lines_of (octet ∷ octets) = if octet == line_feed then (octet ∷ []) ∷ lines_of octets else onto octet (lines_of octets)
+
+-- octets that are read from the last one: without a CR where they begin with one
+abbrev pub without_return : List ℕ → List ℕ
+without_return [] = []
+without_return (octet ∷ octets) = if octet == carriage_return then octets else octet ∷ octets
+
+-- the same without an LF, and a CR behind it, where they begin with an LF
+abbrev pub without_end : List ℕ → List ℕ
+without_end [] = []
+without_end (octet ∷ octets) = if octet == line_feed then without_return octets else octet ∷ octets
+
+-- what a line says: the line without the LF that it ends with, and one CR before that
+abbrev pub content_of : List ℕ → List ℕ
+content_of line = reverse (without_end (reverse line))

@@ -1,0 +1,140 @@
+//! The top call.
+ghost use Rattle.std.specs.Prelude.{◌≡◌, ◌≢◌, ℕ, List, length, map, take, true, false, ◌≤◌, IfOk, IfErr, IfSome};
+ghost use Rattle.std.specs.Io.KnownBytes.{Appends, Keeps, IsAtEnd};
+ghost use Rattle.wrp_io.specs.Faults.{Rose};
+ghost use Rattle.wrp_run.specs.declared.status.Status.{Status};
+ghost use Rattle.wrp_run.specs.Statuses.{is_answer};
+ghost use Rattle.wrp_run.specs.Words.{IsReplay};
+ghost use Rattle.wrp_run.specs.Texts.{usage_line};
+ghost use Rattle.wrp_run.specs.Answer.{Answer, InputAnswer, IsReplyTo};
+ghost use Rattle.wrp_run.specs.declared.reading.TheConstants.{INPUT_LIMIT};
+
+use crate::network::{TWO_NODES, divide};
+use crate::reading::{End, take_all};
+use crate::replay::{Reply, replay};
+use crate::status::Status;
+use crate::text::{BAD_NETWORK_LINE, TOO_LARGE_LINE, USAGE_LINE};
+use crate::words::is_replay;
+use crate::writing::write_all;
+use std::alloc::{AllocError, Global};
+use wrp_io::{Link, Sink, Source};
+
+// Writes the text of an answer, and answers its status, or WriteFault.
+fn answer<K: Sink>(sink: &mut K, status: Status, text: &[u8]) -> Status
+    requires { is_answer status ≡ true }
+    ensures whole { is_answer result ≡ true → (result ≡ status) × Appends (K.held sink.old) (K.held sink.new) text.now }
+    ensures cut { is_answer result ≡ false → (result ≡ Status.WriteFault) × ((count : ℕ) × Appends (K.held sink.old) (K.held sink.new) (take count text.now)) }
+    ensures rose { result ≡ Status.WriteFault → Rose (K.faults sink.old) (K.faults sink.new) }
+{
+    if write_all(sink, text) {
+        status
+    } else {
+        Status::WriteFault
+    }
+}
+
+// Why there is no reply.
+#[derive(Clone, Copy, Debug, PartialEq, Eq)]
+enum NoReply {
+    // The source failed.
+    Failed,
+    // There was no memory.
+    Memory,
+}
+
+impl From<AllocError> for NoReply {
+    ghost use Rattle.wrp_run.specs.declared.command.NoReply.TheVariants.{Memory};
+
+    ghost from_gives = { λ _ cause. cause ≡ Memory };
+
+    fn from(_: AllocError) -> NoReply {
+        NoReply::Memory
+    }
+}
+
+// A reply of one line.
+fn line_reply(alloc: Global, status: Status, line: &str) -> Result<Reply, NoReply>
+    ensures reply { IfOk result (λ reply. (reply.status ≡ status) × (reply.text.items ≡ line.now)) }
+    ensures memory { IfErr result (λ cause. cause ≡ NoReply.Memory) }
+{
+    let text = line.as_bytes().to_vec(alloc)?;
+    Ok(Reply { status, text })
+}
+
+// What is due for an input whose size is within the limit.
+fn reply_to(alloc: Global, input: &[u8]) -> Result<Reply, NoReply>
+    requires { length input.now ≤ INPUT_LIMIT }
+    ensures due { IfOk result (λ reply. InputAnswer input.now reply.status reply.text.items) }
+    ensures memory { IfErr result (λ cause. cause ≡ NoReply.Memory) }
+{
+    let divided = divide(input);
+    if divided.network != TWO_NODES.as_bytes() {
+        return line_reply(alloc, Status::BadNetwork, BAD_NETWORK_LINE);
+    }
+    Ok(replay(alloc, divided.records)?)
+}
+
+// What is due for words and what a source gives.
+fn reply<S: Source>(alloc: Global, words: &[&str], source: &mut S) -> Result<Reply, NoReply>
+    ensures told { IfOk result (λ reply. IfSome (S.left source.old) (λ input.
+        Answer (map (λ word. word.now) words.now) input reply.status reply.text.items)) }
+    ensures untold { IfOk result (λ reply. IsReplyTo (map (λ word. word.now) words.now) reply.status reply.text.items) }
+    ensures done { IfOk result (λ reply. reply.status ≡ Status.Done → IsAtEnd (S.left source.new)) }
+    ensures failed { IfErr result (λ cause. cause ≡ NoReply.Failed → Rose (S.faults source.old) (S.faults source.new)) }
+{
+    if !is_replay(words) {
+        return line_reply(alloc, Status::Usage, USAGE_LINE);
+    }
+    let taken = take_all(alloc, source);
+    match taken.end {
+        End::Failed => Err(NoReply::Failed),
+        End::Memory => Err(NoReply::Memory),
+        End::TooLarge => line_reply(alloc, Status::TooLarge, TOO_LARGE_LINE),
+        End::Whole => reply_to(alloc, &taken.bytes),
+    }
+}
+
+/// Runs the command that the words name: reads the source, writes what is due to the sink, and
+/// answers the status. `Answer` says which status and which octets are due.
+pub fn run<S: Source, K: Sink, N: Link>(
+    alloc: Global,
+    words: &[&str],
+    source: &mut S,
+    sink: &mut K,
+    _link: &mut N,
+) -> Status
+    // A status that is an answer is the one that is due, and what is due is written.
+    ensures answer { is_answer result ≡ true → IfSome (S.left source.old) (λ input. (octets : List ℕ)
+        × Answer (map (λ word. word.now) words.now) input result octets
+        × Appends (K.held sink.old) (K.held sink.new) octets) }
+
+    // What is due is what is answered, but for a fault and for want of memory.
+    ensures due { (status : Status) (octets : List ℕ) → is_answer result ≡ true → IfSome (S.left source.old) (λ input.
+        Answer (map (λ word. word.now) words.now) input status octets
+        → (result ≡ status) × Appends (K.held sink.old) (K.held sink.new) octets) }
+
+    // Whether the words are a command shows without the input.
+    ensures usage { is_answer result ≡ true → (IsReplay (map (λ word. word.now) words.now) → ⊥)
+        → (result ≡ Status.Usage) × Appends (K.held sink.old) (K.held sink.new) usage_line }
+    ensures command { result ≡ Status.Usage → IsReplay (map (λ word. word.now) words.now) → ⊥ }
+
+    // Done is answered at the end of the input.
+    ensures done { result ≡ Status.Done → IsAtEnd (S.left source.new) }
+
+    // A fault has its cause, and what stands after it is known.
+    ensures read_fault { result ≡ Status.ReadFault → Rose (S.faults source.old) (S.faults source.new) × Keeps (K.held sink.old) (K.held sink.new) }
+    ensures write_fault { result ≡ Status.WriteFault → Rose (K.faults sink.old) (K.faults sink.new)
+        × IfSome (S.left source.old) (λ input. (status : Status) × (octets : List ℕ) × (count : ℕ)
+        × Answer (map (λ word. word.now) words.now) input status octets
+        × Appends (K.held sink.old) (K.held sink.new) (take count octets)) }
+    ensures memory { result ≡ Status.OutOfMemory → Keeps (K.held sink.old) (K.held sink.new) }
+
+    // No premise is tried, and the link is not called.
+    ensures never { (result ≡ Status.Broken → ⊥) × (result ≡ Status.LinkFault → ⊥) }
+{
+    match reply(alloc, words, source) {
+        Ok(reply) => answer(sink, reply.status, &reply.text),
+        Err(NoReply::Failed) => Status::ReadFault,
+        Err(NoReply::Memory) => Status::OutOfMemory,
+    }
+}

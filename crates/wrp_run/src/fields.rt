@@ -1,0 +1,68 @@
+//! The fields of a line: its parts between commas, and the numbers that they write.
+ghost use Rattle.std.specs.Prelude.{◌≡◌, ◌==◌, ◌<◌, ◌-◌, ◌^◌, ℕ, min, map, IfOk};
+ghost use Rattle.std.specs.List.{slice_split, list_all};
+ghost use Rattle.std.specs.Char.{is_ascii_digit};
+ghost use Rattle.wrp_run.specs.Fields.{natural_up_to, digits_up_to, is_number, value_of};
+
+use std::alloc::{AllocError, Global};
+
+/// The most digits that a number may have.
+const MOST_DIGITS: usize = 39;
+
+/// The parts of a line between its commas.
+pub(crate) fn parts(alloc: Global, line: &[u8]) -> Result<Vec<&[u8]>, AllocError>
+    ensures { IfOk result (λ parts. map (λ part. part.now) parts.items ≡ slice_split (λ octet. octet == 44) line.now) }
+{
+    line.split(|octet| *octet == b',').collect(alloc)
+}
+
+/// The number that a text writes: an optional `-`, then 1 to 39 digits. None where it is no number,
+/// is below 0, or is above `most`.
+pub(crate) fn natural(text: &[u8], most: u64) -> Option<u64>
+    requires { most < 2 ^ 64 - 1 }
+    ensures { result ≡ natural_up_to most text.now }
+{
+    match text {
+        [b'-', digits @ ..] => digits_to(digits, 0),
+        digits => digits_to(digits, most),
+    }
+}
+
+// The number of 1 to 39 digits, where it is at most `most`.
+fn digits_to(digits: &[u8], most: u64) -> Option<u64>
+    requires { most < 2 ^ 64 - 1 }
+    ensures { result ≡ digits_up_to most digits.now }
+{
+    if !are_digits(digits) {
+        return None;
+    }
+    let value = value(digits);
+    if value <= most { Some(value) } else { None }
+}
+
+// Whether octets are 1 to 39 digits.
+fn are_digits(digits: &[u8]) -> bool
+    ensures { result ≡ is_number digits.now }
+{
+    1 <= digits.len() && digits.len() <= MOST_DIGITS && all_digits(digits)
+}
+
+// Whether all octets are digits.
+fn all_digits(digits: &[u8]) -> bool
+    ensures { result ≡ list_all is_ascii_digit digits.now }
+{
+    digits.iter().all(|digit| digit.is_ascii_digit())
+}
+
+// The value of some digits, held at the greatest u64.
+fn value(digits: &[u8]) -> u64
+    ensures { result ≡ min (value_of digits.now) (2 ^ 64 - 1) }
+{
+    let mut value = 0u64;
+    for digit in digits {
+        value = value
+            .saturating_mul(10)
+            .saturating_add(u64::from(digit.saturating_sub(b'0')));
+    }
+    value
+}

@@ -1,0 +1,23 @@
+//! The top call of `wrnet`: words and octets in, lines and a status out. `Answer`, in the folder
+//! `specs`, says which status and which octets are due for words and an input, and `run` meets it in
+//! both directions. Words, inputs, lines and statuses are this project's profile.
+#![tactic(auto)]
+
+mod command;
+mod fields;
+mod frames;
+mod line;
+mod network;
+mod reading;
+mod records;
+mod replay;
+mod status;
+mod text;
+mod words;
+mod writing;
+
+pub use command::run;
+pub use status::Status;
+
+#[cfg(test)]
+mod tests;
