@@ -14,7 +14,7 @@ use Rattle.wrp_tlv.specs.TlvList.{TypedValue, Fills, IsFilledByNone}
 use Rattle.wrp_tlv.specs.WhiteRabbitList.{read_of, is_bad}
 use Rattle.wrp_frame.specs.Grammar.{tlv_part, IsTwoStep}
 
--- the octets, whose kind is this one, have the fault
+-- the octets, whose kind is this one, have the fault; the first three faults are of no kind
 abbrev pub HasFaultOf : FrameFault → MessageType → List ℕ → Type 0
 HasFaultOf Length kind octets = (message_length octets < least_length kind) ⊎ (length octets < message_length octets)
 HasFaultOf Time kind octets = (has_timestamp kind ≡ true) × (NANOS_PER_SECOND ≤ (timestamp_at TIMESTAMP_AT octets).nanos)

@@ -1,8 +1,7 @@
 -- The grammar of frames: which octets spell which message (IEEE 1588-2019, White Rabbit
 -- Specification 2.0). What follows messageLength is padding, and free.
-use Rattle.std.specs.Prelude.{◌≡◌, ◌<◌, ◌≤◌, ℕ, true, false, List, length, slice_range}
+use Rattle.std.specs.Prelude.{◌≡◌, ◌≢◌, ◌<◌, ◌≤◌, ℕ, true, false, List, length, slice_range, bit_and}
 use Rattle.std.specs.List.{list_any}
-use Rattle.std.specs.Prelude.{bit_and, ◌≢◌}
 use Rattle.wrp_base.specs.declared.message.PtpMsg.{PtpMsg}
 use Rattle.wrp_frame.specs.declared.message_type.MessageType.{MessageType}
 use Rattle.wrp_frame.specs.declared.message_type.MessageType.TheVariants.{Sync}

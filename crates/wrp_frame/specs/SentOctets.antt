@@ -1,6 +1,6 @@
 -- The octets of a message, one field appended after another (IEEE 1588-2019; what reserved places and
 -- controlField are sent with is this project's profile).
-use Rattle.std.specs.Prelude.{ℕ, ◌+◌, List, [], ◌∷◌, ◌++◌, length, Option, Some, None}
+use Rattle.std.specs.Prelude.{ℕ, ℤ, ◌+◌, List, [], ◌∷◌, ◌++◌, length, Option, Some, None}
 use Rattle.std.specs.Int.{w16, w64, cast_unsigned}
 use Rattle.byteorder.specs.Endian.{big_bytes}
 use Rattle.wrp_base.specs.declared.time.Ts.{Ts}
@@ -16,9 +16,11 @@ use Rattle.wrp_frame.specs.declared.message_type.MessageType.{MessageType}
 use Rattle.wrp_frame.specs.declared.places.TheConstants.{PTP_VERSION}
 use Rattle.wrp_frame.specs.MessageTypes.{number_of, control_of, kind_of_body, least_length}
 
+-- with a Timestamp: 48 bits of seconds and 32 of nanoseconds
 abbrev pub with_timestamp : List ℕ → Ts → List ℕ
 with_timestamp octets t = (octets ++ big_bytes 6 t.seconds) ++ big_bytes 4 t.nanos
 
+-- with a PortIdentity: clockIdentity and portNumber
 abbrev pub with_identity : List ℕ → PortIdentity → List ℕ
 with_identity octets i = (octets ++ big_bytes 8 i.clock) ++ big_bytes 2 i.port
 
@@ -35,28 +37,41 @@ with_head_end octets kind head =
     ++ big_bytes 1 (control_of kind))
     ++ big_bytes 1 head.interval
 
+-- with the whole header
 abbrev pub with_head : List ℕ → MessageType → ℕ → Head → List ℕ
 with_head octets kind size head = with_head_end (with_head_start octets kind size head) kind head
 
+-- octets 44 to 52 of an Announce: currentUtcOffset, a reserved octet, grandmasterPriority1,
+-- grandmasterClockQuality, grandmasterPriority2
+abbrev pub with_quality : List ℕ → ℤ → ℕ → ℕ → ℕ → List ℕ
+with_quality octets utc p1 quality p2 =
+    ((((octets ++ big_bytes 2 (cast_unsigned w16 utc)) ++ big_bytes 1 0) ++ big_bytes 1 p1) ++ big_bytes 4 quality) ++ big_bytes 1 p2
+
+-- octets 53 to 63 of an Announce: grandmasterIdentity, stepsRemoved, timeSource
+abbrev pub with_grandmaster : List ℕ → ℕ → ℕ → ℕ → List ℕ
+with_grandmaster octets gm steps source = ((octets ++ big_bytes 8 gm) ++ big_bytes 2 steps) ++ big_bytes 1 source
+
+-- with the body
 abbrev pub with_body : List ℕ → Body → List ℕ
 with_body octets (Sync origin) = with_timestamp octets origin
 with_body octets (DelayReq origin) = with_timestamp octets origin
 with_body octets (FollowUp precise) = with_timestamp octets precise
 with_body octets (DelayResp receive requesting) = with_identity (with_timestamp octets receive) requesting
 with_body octets (Announce origin utc p1 quality p2 gm steps source suffix) =
-    (((((((with_timestamp octets origin ++ big_bytes 2 (cast_unsigned w16 utc)) ++ big_bytes 1 0) ++ big_bytes 1 p1)
-    ++ big_bytes 4 quality) ++ big_bytes 1 p2) ++ big_bytes 8 gm) ++ big_bytes 2 steps) ++ big_bytes 1 source
+    with_grandmaster (with_quality (with_timestamp octets origin) utc p1 quality p2) gm steps source
 with_body octets (Signal target wr) = with_identity octets target
 
--- the TLVs of a body: that of its White Rabbit message or suffix, if it has one
+-- the TLV of a suffix, if there is one
 abbrev pub suffix_tlvs : Option ℕ → List TypedValue
 suffix_tlvs None = []
 suffix_tlvs (Some flags) = extension (suffix_value flags) ∷ []
 
+-- the TLV of a White Rabbit message, if there is one
 abbrev pub message_tlvs : Option WrMsg → List TypedValue
 message_tlvs None = []
 message_tlvs (Some message) = extension (wr_value message) ∷ []
 
+-- the TLVs of a body: that of its White Rabbit message or suffix
 abbrev pub tlvs_of : Body → List TypedValue
 tlvs_of (Sync origin) = []
 tlvs_of (DelayReq origin) = []

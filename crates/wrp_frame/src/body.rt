@@ -9,14 +9,15 @@ ghost use Rattle.wrp_frame.specs.MessageTypes.{least_length};
 ghost use Rattle.wrp_tlv.specs.TlvList.{TypedValue};
 ghost use Rattle.wrp_frame.specs.declared.message_type.MessageType.TheVariants.{Sync};
 
+use crate::FrameFault;
 use crate::fields::{read_identity, read_timestamp};
 use crate::found::{Found, found_among};
+use crate::message_type::MessageType;
 use crate::places::{
     FLAGS_AT, GRANDMASTER_AT, NANOS_PER_SECOND, NANOS_WITHIN, PRIORITY1_AT, PRIORITY2_AT,
     QUALITY_AT, REQUESTING_AT, STEPS_AT, TARGET_AT, TIME_SOURCE_AT, TIMESTAMP_AT, TWO_STEP,
     UTC_OFFSET_AT,
 };
-use crate::{FrameFault, MessageType};
 use wrp_base::Body;
 use wrp_tlv::numbers::{i16_at, u16_at, u32_at, u64_at};
 

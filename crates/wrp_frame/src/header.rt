@@ -4,12 +4,13 @@ ghost use Rattle.wrp_frame.specs.Header.{HasHeader, head_at, message_length};
 ghost use Rattle.wrp_frame.specs.Grammar.{HasLength};
 ghost use Rattle.wrp_frame.specs.Faults.{IsFirstFault};
 
+use crate::FrameFault;
 use crate::fields::read_identity;
+use crate::message_type::MessageType;
 use crate::places::{
     CORRECTION_AT, DOMAIN_AT, FLAGS_AT, HEADER_LENGTH, INTERVAL_AT, MESSAGE_LENGTH_AT,
     MESSAGE_TYPE_AT, PTP_VERSION, SEQUENCE_AT, SOURCE_AT, VERSION_AT,
 };
-use crate::{FrameFault, MessageType};
 use wrp_base::Head;
 use wrp_tlv::numbers::{i64_at, u16_at};
 

@@ -9,12 +9,14 @@ use crate::body::{body_of, check_time, check_two_step, tlvs_found};
 use crate::header::{head_of, message_end, message_type_of};
 use wrp_base::PtpMsg;
 
-/// The message that the octets spell. Octets after messageLength are padding. The fault is the first
-/// of `FrameFault`'s order that the octets have.
+/// The message that the octets spell, which is sound. Octets after messageLength are padding, TLVs of
+/// unknown types are passed over, and reserved places are free.
+///
+/// Refused with the first fault, in the order of `FrameFault`, that the octets have.
 pub fn decode(bytes: &[u8]) -> Result<PtpMsg, FrameFault>
     ensures spelled { (message : PtpMsg) → (result ≡ Ok message) ↔ Spells bytes.now message }
-    ensures sound { IfOk result IsSound }
     ensures refused { (fault : FrameFault) → (result ≡ Err fault) ↔ IsFirstFault fault bytes.now }
+    ensures sound { IfOk result IsSound }
 {
     read_message(bytes)
 }

@@ -1,21 +1,24 @@
 //! `encode`: the octets of a message, field after field.
 ghost use Rattle.std.specs.Prelude.{◌≡◌, ◌↔◌, Result, ◌+◌, ◌≤◌, ◌<◌, ◌^◌, ◌++◌};
-ghost use Rattle.std.specs.Int.{w64, cast_signed, cast_unsigned};
+ghost use Rattle.std.specs.Int.{w16, w64, cast_signed, cast_unsigned};
 ghost use Rattle.arrayvec.specs.ArrayVec.{array_vec_len};
 ghost use Rattle.wrp_base.specs.Message.{IsSound, FitsTimestamp, HasFittingTimes};
 ghost use Rattle.wrp_frame.specs.Fitting.{FitsHead, FitsTime, FitsIdentity, FitsBody, IsReadBack, IsSuffixReadBack, IsMessageReadBack};
 ghost use Rattle.wrp_frame.specs.Grammar.{Spells};
 ghost use Rattle.wrp_frame.specs.Sent.{IsFrameOf};
-ghost use Rattle.wrp_frame.specs.SentOctets.{with_timestamp, with_identity, with_head_start, with_head_end, with_head, with_body, octets_of_tlvs, tlvs_of, suffix_tlvs, message_tlvs, size_of, octets_of};
+ghost use Rattle.wrp_frame.specs.SentOctets.{with_timestamp, with_identity, with_head_start, with_head_end, with_head, with_quality, with_grandmaster, with_body, octets_of_tlvs, tlvs_of, suffix_tlvs, message_tlvs, size_of, octets_of};
 
+use crate::FrameFault;
+use crate::message_type::MessageType;
 use crate::places::PTP_VERSION;
-use crate::{FrameFault, MessageType};
 use wrp_base::{Body, Frame, Head, PortIdentity, PtpMsg, Ts, WrMsg};
 use wrp_tlv::appending::{put_i16, put_i64, put_u8, put_u16, put_u32, put_u48, put_u64};
 use wrp_tlv::{SUFFIX_TLV_LENGTH, put_suffix, put_wr, wr_length};
 
-/// The frame of a message: as many octets as messageLength says, 0 in each reserved place, and no TLV
-/// but that of the message's White Rabbit message or suffix.
+/// The frame of a sound message, 44 to 78 octets: as many as messageLength says, 0 in each reserved
+/// place, the kind's own controlField, and no TLV but that of the White Rabbit message or suffix. A
+/// message is sound where each timestamp has seconds below `2^48` and nanoseconds below `10^9`, and a
+/// Sync has twoStepFlag.
 pub fn encode(m: &PtpMsg) -> Frame
     requires { IsSound m.now }
     ensures spelled { Spells result.items m.now }
@@ -34,8 +37,8 @@ fn put_timestamp(t: &Ts, out: &mut Frame)
     ensures items { out.new.items ≡ with_timestamp out.old.items t.now }
     ensures fits { FitsTime t.now }
 {
-    put_u48(out, t.seconds);
-    put_u32(out, t.nanos);
+    put_u48(t.seconds, out);
+    put_u32(t.nanos, out);
 }
 
 /// Appends a PortIdentity: 10 octets.
@@ -44,8 +47,8 @@ fn put_identity(identity: &PortIdentity, out: &mut Frame)
     ensures items { out.new.items ≡ with_identity out.old.items identity.now }
     ensures fits { FitsIdentity identity.now }
 {
-    put_u64(out, identity.clock);
-    put_u16(out, identity.port);
+    put_u64(identity.clock, out);
+    put_u16(identity.port, out);
 }
 
 /// Appends the header up to flagField: 8 octets.
@@ -55,12 +58,12 @@ fn put_head_start(kind: MessageType, size: u16, head: &Head, out: &mut Frame)
     ensures domain { head.now.domain < 256 ^ 1 }
     ensures flags { head.now.flags < 256 ^ 2 }
 {
-    put_u8(out, kind.number());
-    put_u8(out, PTP_VERSION);
-    put_u16(out, size);
-    put_u8(out, head.domain);
-    put_u8(out, 0);
-    put_u16(out, head.flags);
+    put_u8(kind.number(), out);
+    put_u8(PTP_VERSION, out);
+    put_u16(size, out);
+    put_u8(head.domain, out);
+    put_u8(0, out);
+    put_u16(head.flags, out);
 }
 
 /// Appends the header from correctionField on: 26 octets.
@@ -73,12 +76,12 @@ fn put_head_end(kind: MessageType, head: &Head, out: &mut Frame)
     ensures seq { head.now.seq < 256 ^ 2 }
     ensures interval { head.now.interval < 256 ^ 1 }
 {
-    put_i64(out, head.correction);
-    put_u32(out, 0);
+    put_i64(head.correction, out);
+    put_u32(0, out);
     put_identity(&head.source, out);
-    put_u16(out, head.seq);
-    put_u8(out, kind.control());
-    put_u8(out, head.interval);
+    put_u16(head.seq, out);
+    put_u8(kind.control(), out);
+    put_u8(head.interval, out);
 }
 
 /// Appends the whole header: 34 octets.
@@ -89,6 +92,36 @@ fn put_head(kind: MessageType, size: u16, head: &Head, out: &mut Frame)
 {
     put_head_start(kind, size, head, out);
     put_head_end(kind, head, out);
+}
+
+/// Appends currentUtcOffset to grandmasterPriority2 of an Announce: 9 octets.
+fn put_quality(utc: i16, p1: u8, quality: u32, p2: u8, out: &mut Frame)
+    requires { array_vec_len out.old + 9 ≤ 256 }
+    ensures items { out.new.items ≡ with_quality out.old.items utc p1 quality p2 }
+    ensures utc { cast_unsigned w16 utc < 256 ^ 2 }
+    ensures signed { cast_signed w16 (cast_unsigned w16 utc) ≡ utc }
+    ensures p1 { p1 < 256 ^ 1 }
+    ensures quality { quality < 256 ^ 4 }
+    ensures p2 { p2 < 256 ^ 1 }
+{
+    put_i16(utc, out);
+    put_u8(0, out);
+    put_u8(p1, out);
+    put_u32(quality, out);
+    put_u8(p2, out);
+}
+
+/// Appends grandmasterIdentity, stepsRemoved and timeSource of an Announce: 11 octets.
+fn put_grandmaster(gm: u64, steps: u16, source: u8, out: &mut Frame)
+    requires { array_vec_len out.old + 11 ≤ 256 }
+    ensures items { out.new.items ≡ with_grandmaster out.old.items gm steps source }
+    ensures gm { gm < 256 ^ 8 }
+    ensures steps { steps < 256 ^ 2 }
+    ensures source { source < 256 ^ 1 }
+{
+    put_u64(gm, out);
+    put_u16(steps, out);
+    put_u8(source, out);
 }
 
 /// Appends the body: 10 to 30 octets.
@@ -121,14 +154,8 @@ fn put_body(body: &Body, out: &mut Frame)
             ..
         } => {
             put_timestamp(origin, out);
-            put_i16(out, *utc);
-            put_u8(out, 0);
-            put_u8(out, *p1);
-            put_u32(out, *quality);
-            put_u8(out, *p2);
-            put_u64(out, *gm);
-            put_u16(out, *steps);
-            put_u8(out, *source);
+            put_quality(*utc, *p1, *quality, *p2, out);
+            put_grandmaster(*gm, *steps, *source, out);
         }
         Body::Signal { target, .. } => put_identity(target, out),
     }

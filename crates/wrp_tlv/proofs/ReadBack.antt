@@ -1,12 +1,11 @@
 -- The value of a message or a suffix is read as that message or suffix.
-use Rattle.std.proofs.Common.{◌≡◌, ◌<◌, ◌^◌, ◌%◌, ℕ, [], refl, ap, ◌∙◌, arith}
+use Rattle.std.proofs.Common.{◌≡◌, ◌<◌, ◌^◌, ◌%◌, ℕ, [], refl, ap, ◌∙◌}
 use Rattle.std.proofs.Math.Nat.{mod-eq_of_lt}
 use Rattle.byteorder.specs.Endian.{big_number, big_bytes}
 use Rattle.byteorder.specs.Numbers.{big_number-reads_back}
 use Rattle.wrp_base.specs.declared.message.WrMsg.{WrMsg}
 use Rattle.wrp_base.specs.declared.message.WrMsg.TheVariants.{Present, Lock, Locked, Calibrate, Calibrated, ModeOn}
-use Rattle.wrp_tlv.specs.declared.white_rabbit.WrRead.{WrRead}
-use Rattle.wrp_tlv.specs.declared.white_rabbit.WrRead.TheVariants.{Wr, Suffix, Other, BadWr}
+use Rattle.wrp_tlv.specs.declared.white_rabbit.WrRead.TheVariants.{Wr, Suffix}
 use Rattle.wrp_tlv.specs.WhiteRabbit.{wr_read, read_by_id, wr_value, suffix_value, FitsOctets}
 
 pub message_read_back : (message : WrMsg) → FitsOctets message → wr_read (wr_value message) ≡ Wr message

@@ -8,7 +8,7 @@ use byteorder::{BigEndian, ByteOrder};
 use wrp_base::Frame;
 
 /// Appends an octet.
-pub fn put_u8(out: &mut Frame, number: u8)
+pub fn put_u8(number: u8, out: &mut Frame)
     requires { array_vec_len out.old + 1 ≤ 256 }
     ensures items { out.new.items ≡ out.old.items ++ big_bytes 1 number }
     ensures fits { number < 256 ^ 1 }
@@ -17,71 +17,71 @@ pub fn put_u8(out: &mut Frame, number: u8)
 }
 
 /// Appends a number in 2 octets.
-pub fn put_u16(out: &mut Frame, number: u16)
+pub fn put_u16(number: u16, out: &mut Frame)
     requires { array_vec_len out.old + 2 ≤ 256 }
     ensures items { out.new.items ≡ out.old.items ++ big_bytes 2 number }
     ensures fits { number < 256 ^ 2 }
 {
     let mut octets = [0u8; 2];
     BigEndian::write_u16(&mut octets, number);
-    put_all(out, &octets);
+    put_all(&octets, out);
 }
 
 /// Appends a number in 4 octets.
-pub fn put_u32(out: &mut Frame, number: u32)
+pub fn put_u32(number: u32, out: &mut Frame)
     requires { array_vec_len out.old + 4 ≤ 256 }
     ensures items { out.new.items ≡ out.old.items ++ big_bytes 4 number }
     ensures fits { number < 256 ^ 4 }
 {
     let mut octets = [0u8; 4];
     BigEndian::write_u32(&mut octets, number);
-    put_all(out, &octets);
+    put_all(&octets, out);
 }
 
 /// Appends a number below `2^48` in 6 octets.
-pub fn put_u48(out: &mut Frame, number: u64)
+pub fn put_u48(number: u64, out: &mut Frame)
     requires room { array_vec_len out.old + 6 ≤ 256 }
     requires fits { number < 2 ^ 48 }
     ensures items { out.new.items ≡ out.old.items ++ big_bytes 6 number }
 {
     let mut octets = [0u8; 6];
     BigEndian::write_u48(&mut octets, number);
-    put_all(out, &octets);
+    put_all(&octets, out);
 }
 
 /// Appends a number in 8 octets.
-pub fn put_u64(out: &mut Frame, number: u64)
+pub fn put_u64(number: u64, out: &mut Frame)
     requires { array_vec_len out.old + 8 ≤ 256 }
     ensures items { out.new.items ≡ out.old.items ++ big_bytes 8 number }
     ensures fits { number < 256 ^ 8 }
 {
     let mut octets = [0u8; 8];
     BigEndian::write_u64(&mut octets, number);
-    put_all(out, &octets);
+    put_all(&octets, out);
 }
 
 /// Appends a signed number in 2 octets.
-pub fn put_i16(out: &mut Frame, number: i16)
+pub fn put_i16(number: i16, out: &mut Frame)
     requires { array_vec_len out.old + 2 ≤ 256 }
     ensures items { out.new.items ≡ out.old.items ++ big_bytes 2 (cast_unsigned w16 number) }
     ensures fits { cast_unsigned w16 number < 256 ^ 2 }
     ensures read_back { cast_signed w16 (cast_unsigned w16 number) ≡ number }
 {
-    put_u16(out, number.cast_unsigned());
+    put_u16(number.cast_unsigned(), out);
 }
 
 /// Appends a signed number in 8 octets.
-pub fn put_i64(out: &mut Frame, number: i64)
+pub fn put_i64(number: i64, out: &mut Frame)
     requires { array_vec_len out.old + 8 ≤ 256 }
     ensures items { out.new.items ≡ out.old.items ++ big_bytes 8 (cast_unsigned w64 number) }
     ensures fits { cast_unsigned w64 number < 256 ^ 8 }
     ensures read_back { cast_signed w64 (cast_unsigned w64 number) ≡ number }
 {
-    put_u64(out, number.cast_unsigned());
+    put_u64(number.cast_unsigned(), out);
 }
 
 /// Appends octets.
-fn put_all(out: &mut Frame, octets: &[u8])
+fn put_all(octets: &[u8], out: &mut Frame)
     requires { array_vec_len out.old + length octets.now ≤ 256 }
     ensures { out.new.items ≡ out.old.items ++ octets.now }
 {

@@ -43,7 +43,7 @@ pub fn put_suffix(flags: u16, out: &mut Frame)
     ensures read_back { wr_read (suffix_value flags) ≡ Suffix flags }
 {
     put_start(ANN_SUFIX, SUFFIX_LENGTH, out);
-    put_u16(out, flags);
+    put_u16(flags, out);
 }
 
 /// The id of a message and its lengthField.
@@ -73,13 +73,13 @@ fn put_data(m: &WrMsg, out: &mut Frame)
             retry,
             period,
         } => {
-            put_u8(out, pattern);
-            put_u8(out, retry);
-            put_u32(out, period);
+            put_u8(pattern, out);
+            put_u8(retry, out);
+            put_u32(period, out);
         }
         WrMsg::Calibrated { tx, rx } => {
-            put_u64(out, tx);
-            put_u64(out, rx);
+            put_u64(tx, out);
+            put_u64(rx, out);
         }
         WrMsg::Present | WrMsg::Lock | WrMsg::Locked | WrMsg::ModeOn => {}
     }
@@ -91,8 +91,8 @@ fn put_start(id: u16, length: usize, out: &mut Frame)
     requires long { length < 2 ^ 16 }
     ensures { out.new.items ≡ out.old.items ++ (big_bytes 2 ORGANIZATION_EXTENSION ++ (big_bytes 2 length ++ value_start id)) }
 {
-    put_u16(out, ORGANIZATION_EXTENSION);
-    put_u16(out, length as u16);
-    put_u48(out, WHITE_RABBIT);
-    put_u16(out, id);
+    put_u16(ORGANIZATION_EXTENSION, out);
+    put_u16(length as u16, out);
+    put_u48(WHITE_RABBIT, out);
+    put_u16(id, out);
 }
