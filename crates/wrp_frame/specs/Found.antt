@@ -1,5 +1,5 @@
 -- What a list of TLVs says of White Rabbit: its first message, its first suffix, and whether a bad
--- one is among them.
+-- one is among them (White Rabbit Specification 2.0; which one counts is this project's profile).
 use Rattle.std.specs.Prelude.{◌≡◌, ◌||◌, ℕ, List}
 use Rattle.std.specs.List.{list_any}
 use Rattle.std.specs.Option.{option_or}

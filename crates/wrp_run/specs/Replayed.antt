@@ -1,4 +1,5 @@
--- What a replayed node holds: the link and the tick count that a history of records makes.
+-- What a replayed node holds: the link and the tick count that a history of records makes (this project's
+-- profile).
 use Rattle.std.specs.Prelude.{◌≡◌, List}
 use Rattle.wrp_run.specs.declared.records.Record.{Record}
 use Rattle.wrp_run.specs.declared.replay.ReplayedNode.{ReplayedNode}
