@@ -23,6 +23,8 @@ pub fn encode(m: &PtpMsg) -> Frame
     requires { IsSound m.now }
     ensures spelled { Spells result.items m.now }
     ensures frame { IsFrameOf m.now result.items }
+    ensures octets { result.items ≡ octets_of m.now }
+
     // `decode` answers these octets with the message again.
     ensures read_back { (answer : Result PtpMsg FrameFault)
         → ((message : PtpMsg) → (answer ≡ Ok message) ↔ Spells result.items message) → answer ≡ Ok m.now }

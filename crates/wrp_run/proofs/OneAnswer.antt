@@ -1,19 +1,21 @@
 -- For words and an input one status and one text are due, and no others.
-use Rattle.std.proofs.Common.{true, false, ◌≡◌, ◌≢◌, ◌⊎◌, inl, inr, ℕ, ◌+◌, ◌<◌, ◌≤◌, Option, None, Some, Result, Ok, Err, List, [], ◌∷◌, ◌++◌, length, IfSome, refl, sym, ap, ◌∙◌, subst, arith, codes}
+use Rattle.std.proofs.Common.{true, false, ◌≡◌, ◌≢◌, ◌⊎◌, inl, inr, ℕ, ◌+◌, ◌<◌, ◌≤◌, Option, None, Some, Result, Ok, Err, List, [], ◌∷◌, ◌++◌, length, take, IfSome, refl, sym, ap, ◌∙◌, subst, arith, codes}
 use Rattle.wrp_run.specs.declared.status.Status.{Status}
 use Rattle.wrp_run.specs.declared.status.Status.TheVariants.{Done, Usage, BadNetwork, BadTrace, Broken, ReadFault, WriteFault, LinkFault, TooLarge, OutOfMemory}
+use Rattle.wrp_run.specs.declared.nodes.Node.{Node}
+use Rattle.wrp_run.specs.declared.nodes.Node.TheVariants.{Gm, Sw1}
 use Rattle.wrp_run.specs.declared.records.Record.{Record}
-use Rattle.wrp_run.specs.declared.records.Record.TheVariants.{Reset, Tick, Up, Frame}
+use Rattle.wrp_run.specs.declared.records.Record.TheVariants.{Reset, Tick, Up, Down, Frame}
 use Rattle.wrp_base.specs.declared.message.PtpMsg.{PtpMsg}
 use Rattle.wrp_frame.specs.declared.fault.FrameFault.{FrameFault}
 use Rattle.wrp_frame.proofs.Exact.{spells_one, exactly_refused}
 use Rattle.wrp_run.specs.Fields.{parts_of}
 use Rattle.wrp_run.specs.Frames.{Says, IsHexOf}
-use Rattle.wrp_run.specs.Records.{IsRecord, IsNoRecord, IsUp, IsFrame, HasParts, AreRecords}
+use Rattle.wrp_run.specs.Records.{IsRecord, IsNoRecord, IsUp, IsDown, IsFrame, HasParts, AreRecords}
 use Rattle.std.specs.Io.KnownBytes.{Appends}
 use Rattle.wrp_run.specs.declared.network.TheConstants.{TWO_NODES}
 use Rattle.wrp_run.specs.Statuses.{is_answer}
-use Rattle.wrp_run.specs.Words.{IsReplay}
+use Rattle.wrp_run.specs.Words.{IsReplay, IsCommand}
 use Rattle.wrp_run.specs.Input.{network_text, record_lines}
 use Rattle.wrp_run.specs.Texts.{text_of, usage_line, bad_network_line, bad_trace_line, too_large_line}
 use Rattle.wrp_run.specs.Answer.{input_limit, Answer, InputAnswer, ReplayAnswer, IsRefusedAfter}
@@ -38,51 +40,69 @@ one_frame (kind ∷ port ∷ hex ∷ stamp) a b p q = one_hex hex a b p.0.is_hex
 one_frame _ a b p q = absurd p
 
 -- no parts are those of two kinds of line
-not_two_kinds : (parts : List (List ℕ)) (heard : Result PtpMsg FrameFault) → IsUp parts → IsFrame parts heard → ⊥
-not_two_kinds (kind ∷ port ∷ fitted ∷ []) heard p q = q.1
-not_two_kinds _ heard p q = absurd p
+up_no_frame : (node : Node) (parts : List (List ℕ)) (heard : Result PtpMsg FrameFault) → IsUp node parts → IsFrame parts heard → ⊥
+up_no_frame node (kind ∷ port ∷ fitted ∷ []) heard p q = q.1
+up_no_frame node _ heard p q = absurd p
+
+down_no_frame : (parts : List (List ℕ)) (heard : Result PtpMsg FrameFault) → IsDown parts → IsFrame parts heard → ⊥
+down_no_frame (kind ∷ port ∷ []) heard p q = q
+down_no_frame _ heard p q = absurd p
+
+up_no_down : (node : Node) (parts : List (List ℕ)) → IsUp node parts → IsDown parts → ⊥
+up_no_down node (kind ∷ port ∷ fitted ∷ []) p q = q
+up_no_down node _ p q = absurd p
 
 -- a word alone has no parts of its own
-not_word : (line word : List ℕ) (found : Record) → line ≡ word → (HasParts (parts_of word) found → ⊥) → HasParts (parts_of line) found → ⊥
-not_word line word found is none has = none (subst (λ (l : List ℕ). HasParts (parts_of l) found) is has)
+not_word : (node : Node) (line word : List ℕ) (found : Record) → line ≡ word → (HasParts node (parts_of word) found → ⊥) → HasParts node (parts_of line) found → ⊥
+not_word node line word found is none has = none (subst (λ (l : List ℕ). HasParts node (parts_of l) found) is has)
 
 -- a line is one record
-one_record : (line : List ℕ) (a b : Record) → IsRecord line a → IsRecord line b → a ≡ b
-one_record line Reset Reset p q = refl
-one_record line Tick Tick p q = refl
-one_record line Up Up p q = refl
-one_record line (Frame a) (Frame b) p q = ap (λ heard. Frame heard) (one_frame (parts_of line) a b p q)
-one_record line Reset Tick p q = cc
-one_record line Tick Reset p q = cc
-one_record line Reset Up p q = absurd (not_word line (codes "reset") Up p (λ has. has) q)
-one_record line Tick Up p q = absurd (not_word line (codes "tick") Up p (λ has. has) q)
-one_record line Up Reset p q = absurd (not_word line (codes "reset") Up q (λ has. has) p)
-one_record line Up Tick p q = absurd (not_word line (codes "tick") Up q (λ has. has) p)
-one_record line Reset (Frame b) p q = absurd (not_word line (codes "reset") (Frame b) p (λ has. has) q)
-one_record line Tick (Frame b) p q = absurd (not_word line (codes "tick") (Frame b) p (λ has. has) q)
-one_record line (Frame a) Reset p q = absurd (not_word line (codes "reset") (Frame a) q (λ has. has) p)
-one_record line (Frame a) Tick p q = absurd (not_word line (codes "tick") (Frame a) q (λ has. has) p)
-one_record line Up (Frame b) p q = absurd (not_two_kinds (parts_of line) b p q)
-one_record line (Frame a) Up p q = absurd (not_two_kinds (parts_of line) a q p)
+one_record : (node : Node) (line : List ℕ) (a b : Record) → IsRecord node line a → IsRecord node line b → a ≡ b
+one_record node line Reset Reset p q = refl
+one_record node line Tick Tick p q = refl
+one_record node line Up Up p q = refl
+one_record node line Down Down p q = refl
+one_record node line (Frame a) (Frame b) p q = ap (λ heard. Frame heard) (one_frame (parts_of line) a b p q)
+one_record node line Reset Tick p q = cc
+one_record node line Tick Reset p q = cc
+one_record node line Reset Up p q = absurd (not_word node line (codes "reset") Up p (λ has. has) q)
+one_record node line Tick Up p q = absurd (not_word node line (codes "tick") Up p (λ has. has) q)
+one_record node line Up Reset p q = absurd (not_word node line (codes "reset") Up q (λ has. has) p)
+one_record node line Up Tick p q = absurd (not_word node line (codes "tick") Up q (λ has. has) p)
+one_record node line Reset Down p q = absurd (not_word node line (codes "reset") Down p (λ has. has) q)
+one_record node line Tick Down p q = absurd (not_word node line (codes "tick") Down p (λ has. has) q)
+one_record node line Down Reset p q = absurd (not_word node line (codes "reset") Down q (λ has. has) p)
+one_record node line Down Tick p q = absurd (not_word node line (codes "tick") Down q (λ has. has) p)
+one_record node line Reset (Frame b) p q = absurd (not_word node line (codes "reset") (Frame b) p (λ has. has) q)
+one_record node line Tick (Frame b) p q = absurd (not_word node line (codes "tick") (Frame b) p (λ has. has) q)
+one_record node line (Frame a) Reset p q = absurd (not_word node line (codes "reset") (Frame a) q (λ has. has) p)
+one_record node line (Frame a) Tick p q = absurd (not_word node line (codes "tick") (Frame a) q (λ has. has) p)
+one_record node line Up Down p q = absurd (up_no_down node (parts_of line) p q)
+one_record node line Down Up p q = absurd (up_no_down node (parts_of line) q p)
+one_record node line Up (Frame b) p q = absurd (up_no_frame node (parts_of line) b p q)
+one_record node line (Frame a) Up p q = absurd (up_no_frame node (parts_of line) a q p)
+one_record node line Down (Frame b) p q = absurd (down_no_frame (parts_of line) b p q)
+one_record node line (Frame a) Down p q = absurd (down_no_frame (parts_of line) a q p)
 
 -- lines are one list of records
-one_list : (lines : List (List ℕ)) (a b : List Record) → AreRecords lines a → AreRecords lines b → a ≡ b
-one_list [] [] [] p q = refl
-one_list [] (x ∷ a) b p q = absurd p
-one_list [] [] (y ∷ b) p q = absurd q
-one_list (line ∷ lines) [] b p q = absurd p
-one_list (line ∷ lines) (x ∷ a) [] p q = absurd q
-one_list (line ∷ lines) (x ∷ a) (y ∷ b) p q =
-    let same : x ≡ y = one_record line x y p.0 q.0 in
-    let rest : a ≡ b = one_list lines a b p.1 q.1 in
+one_list : (node : Node) (lines : List (List ℕ)) (a b : List Record) → AreRecords node lines a → AreRecords node lines b → a ≡ b
+one_list node [] [] [] p q = refl
+one_list node [] (x ∷ a) b p q = absurd p
+one_list node [] [] (y ∷ b) p q = absurd q
+one_list node (line ∷ lines) [] b p q = absurd p
+one_list node (line ∷ lines) (x ∷ a) [] p q = absurd q
+one_list node (line ∷ lines) (x ∷ a) (y ∷ b) p q =
+    let same : x ≡ y = one_record node line x y p.0 q.0 in
+    let rest : a ≡ b = one_list node lines a b p.1 q.1 in
     ap (λ r. r ∷ a) same ∙ ap (λ l. y ∷ l) rest
 
 -- where a line is no record, the lines are none
-not_all : (before behind : List (List ℕ)) (refused : List ℕ) (records : List Record) → IsNoRecord refused → AreRecords (before ++ refused ∷ behind) records → ⊥
-not_all [] behind refused [] none are = are
-not_all [] behind refused (x ∷ records) none are = none x are.0
-not_all (line ∷ before) behind refused [] none are = are
-not_all (line ∷ before) behind refused (x ∷ records) none are = not_all before behind refused records none are.1
+not_all : (node : Node) (before behind : List (List ℕ)) (refused : List ℕ) (records : List Record) → IsNoRecord node refused
+    → AreRecords node (before ++ refused ∷ behind) records → ⊥
+not_all node [] behind refused [] none are = are
+not_all node [] behind refused (x ∷ records) none are = none x are.0
+not_all node (line ∷ before) behind refused [] none are = are
+not_all node (line ∷ before) behind refused (x ∷ records) none are = not_all node before behind refused records none are.1
 
 -- the head and the rest of one list
 heads : (a b : List ℕ) (as_ bs : List (List ℕ)) → a ∷ as_ ≡ b ∷ bs → a ≡ b
@@ -92,21 +112,21 @@ tails : (a b : List ℕ) (as_ bs : List (List ℕ)) → a ∷ as_ ≡ b ∷ bs �
 tails a b as_ bs e = cc
 
 -- the first line that is no record is one, and so are the records before it
-one_refusal : (p q behind further : List (List ℕ)) (x y : List ℕ) (a b : List Record) → p ++ x ∷ behind ≡ q ++ y ∷ further
-    → AreRecords p a → AreRecords q b → IsNoRecord x → IsNoRecord y → a ≡ b
-one_refusal [] [] behind further x y [] [] same pa qb none other = refl
-one_refusal [] q behind further x y (r ∷ a) b same pa qb none other = absurd pa
-one_refusal [] [] behind further x y [] (r ∷ b) same pa qb none other = absurd qb
-one_refusal [] (line ∷ q) behind further x y [] [] same pa qb none other = absurd qb
-one_refusal [] (line ∷ q) behind further x y [] (r ∷ b) same pa qb none other =
-    absurd (none r (subst (λ (l : List ℕ). IsRecord l r) (sym (heads x line behind (q ++ y ∷ further) same)) qb.0))
-one_refusal (line ∷ p) q behind further x y [] b same pa qb none other = absurd pa
-one_refusal (line ∷ p) [] behind further x y (r ∷ a) b same pa qb none other =
-    absurd (other r (subst (λ (l : List ℕ). IsRecord l r) (heads line y (p ++ x ∷ behind) further same) pa.0))
-one_refusal (line ∷ p) (l ∷ q) behind further x y (r ∷ a) [] same pa qb none other = absurd qb
-one_refusal (line ∷ p) (l ∷ q) behind further x y (r ∷ a) (s ∷ b) same pa qb none other =
-    let first : r ≡ s = one_record line r s pa.0 (subst (λ (k : List ℕ). IsRecord k s) (sym (heads line l (p ++ x ∷ behind) (q ++ y ∷ further) same)) qb.0) in
-    let rest : a ≡ b = one_refusal p q behind further x y a b (tails line l (p ++ x ∷ behind) (q ++ y ∷ further) same) pa.1 qb.1 none other in
+one_refusal : (node : Node) (p q behind further : List (List ℕ)) (x y : List ℕ) (a b : List Record) → p ++ x ∷ behind ≡ q ++ y ∷ further
+    → AreRecords node p a → AreRecords node q b → IsNoRecord node x → IsNoRecord node y → a ≡ b
+one_refusal node [] [] behind further x y [] [] same pa qb none other = refl
+one_refusal node [] q behind further x y (r ∷ a) b same pa qb none other = absurd pa
+one_refusal node [] [] behind further x y [] (r ∷ b) same pa qb none other = absurd qb
+one_refusal node [] (line ∷ q) behind further x y [] [] same pa qb none other = absurd qb
+one_refusal node [] (line ∷ q) behind further x y [] (r ∷ b) same pa qb none other =
+    absurd (none r (subst (λ (l : List ℕ). IsRecord node l r) (sym (heads x line behind (q ++ y ∷ further) same)) qb.0))
+one_refusal node (line ∷ p) q behind further x y [] b same pa qb none other = absurd pa
+one_refusal node (line ∷ p) [] behind further x y (r ∷ a) b same pa qb none other =
+    absurd (other r (subst (λ (l : List ℕ). IsRecord node l r) (heads line y (p ++ x ∷ behind) further same) pa.0))
+one_refusal node (line ∷ p) (l ∷ q) behind further x y (r ∷ a) [] same pa qb none other = absurd qb
+one_refusal node (line ∷ p) (l ∷ q) behind further x y (r ∷ a) (s ∷ b) same pa qb none other =
+    let first : r ≡ s = one_record node line r s pa.0 (subst (λ (k : List ℕ). IsRecord node k s) (sym (heads line l (p ++ x ∷ behind) (q ++ y ∷ further) same)) qb.0) in
+    let rest : a ≡ b = one_refusal node p q behind further x y a b (tails line l (p ++ x ∷ behind) (q ++ y ∷ further) same) pa.1 qb.1 none other in
     ap (λ k. k ∷ a) first ∙ ap (λ k. s ∷ k) rest
 
 -- one status and one text
@@ -114,66 +134,79 @@ abbrev pub AreOne : Status → Status → List ℕ → List ℕ → Type 0
 AreOne s t o u = (s ≡ t) × (o ≡ u)
 
 -- all lines are records, or one is none
-both_done : (lines : List (List ℕ)) (o u : List ℕ) → ReplayAnswer lines Done o → ReplayAnswer lines Done u → AreOne Done Done o u
-both_done lines o u p q = (refl, p.2 ∙ ap text_of (one_list lines p.0 q.0 p.1 q.1) ∙ sym q.2)
+both_done : (node : Node) (lines : List (List ℕ)) (o u : List ℕ) → ReplayAnswer node lines Done o → ReplayAnswer node lines Done u → AreOne Done Done o u
+both_done node lines o u p q = (refl, p.2 ∙ ap (text_of node) (one_list node lines p.0 q.0 p.1 q.1) ∙ sym q.2)
 
-both_refused : (lines : List (List ℕ)) (o u : List ℕ) → ReplayAnswer lines BadTrace o → ReplayAnswer lines BadTrace u → AreOne BadTrace BadTrace o u
-both_refused lines o u p q =
+both_refused : (node : Node) (lines : List (List ℕ)) (o u : List ℕ) → ReplayAnswer node lines BadTrace o → ReplayAnswer node lines BadTrace u → AreOne BadTrace BadTrace o u
+both_refused node lines o u p q =
     let records : p.0 ≡ q.0 =
-    one_refusal p.1.before q.1.before p.1.behind q.1.behind p.1.refused q.1.refused p.0 q.0 (sym p.1.divided ∙ q.1.divided) p.1.read q.1.read p.1.none q.1.none in
-    (refl, p.2 ∙ ap (λ r. text_of r ++ bad_trace_line (length r + 1)) records ∙ sym q.2)
+    one_refusal node p.1.before q.1.before p.1.behind q.1.behind p.1.refused q.1.refused p.0 q.0 (sym p.1.divided ∙ q.1.divided) p.1.read q.1.read p.1.none q.1.none in
+    (refl, p.2 ∙ ap (λ r. text_of node r ++ bad_trace_line (length r + 1)) records ∙ sym q.2)
 
-not_both : (lines : List (List ℕ)) (o u : List ℕ) → ReplayAnswer lines Done o → ReplayAnswer lines BadTrace u → ⊥
-not_both lines o u p q =
-    not_all q.1.before q.1.behind q.1.refused p.0 q.1.none (subst (λ (l : List (List ℕ)). AreRecords l p.0) q.1.divided p.1)
+not_both : (node : Node) (lines : List (List ℕ)) (o u : List ℕ) → ReplayAnswer node lines Done o → ReplayAnswer node lines BadTrace u → ⊥
+not_both node lines o u p q =
+    not_all node q.1.before q.1.behind q.1.refused p.0 q.1.none (subst (λ (l : List (List ℕ)). AreRecords node l p.0) q.1.divided p.1)
 
-one_replay_from_done : (lines : List (List ℕ)) (t : Status) (o u : List ℕ) → ReplayAnswer lines Done o → ReplayAnswer lines t u → AreOne Done t o u
-one_replay_from_done lines Done o u p q = both_done lines o u p q
-one_replay_from_done lines BadTrace o u p q = absurd (not_both lines o u p q)
-one_replay_from_done lines _ o u p q = absurd q
+one_replay_from_done : (node : Node) (lines : List (List ℕ)) (t : Status) (o u : List ℕ) → ReplayAnswer node lines Done o → ReplayAnswer node lines t u → AreOne Done t o u
+one_replay_from_done node lines Done o u p q = both_done node lines o u p q
+one_replay_from_done node lines BadTrace o u p q = absurd (not_both node lines o u p q)
+one_replay_from_done node lines _ o u p q = absurd q
 
-one_replay_from_refused : (lines : List (List ℕ)) (t : Status) (o u : List ℕ) → ReplayAnswer lines BadTrace o → ReplayAnswer lines t u → AreOne BadTrace t o u
-one_replay_from_refused lines Done o u p q = absurd (not_both lines u o q p)
-one_replay_from_refused lines BadTrace o u p q = both_refused lines o u p q
-one_replay_from_refused lines _ o u p q = absurd q
+one_replay_from_refused : (node : Node) (lines : List (List ℕ)) (t : Status) (o u : List ℕ) → ReplayAnswer node lines BadTrace o → ReplayAnswer node lines t u → AreOne BadTrace t o u
+one_replay_from_refused node lines Done o u p q = absurd (not_both node lines u o q p)
+one_replay_from_refused node lines BadTrace o u p q = both_refused node lines o u p q
+one_replay_from_refused node lines _ o u p q = absurd q
 
-pub one_replay : (lines : List (List ℕ)) (s t : Status) (o u : List ℕ) → ReplayAnswer lines s o → ReplayAnswer lines t u → AreOne s t o u
-one_replay lines Done t o u p q = one_replay_from_done lines t o u p q
-one_replay lines BadTrace t o u p q = one_replay_from_refused lines t o u p q
-one_replay lines _ t o u p q = absurd p
+pub one_replay : (node : Node) (lines : List (List ℕ)) (s t : Status) (o u : List ℕ) → ReplayAnswer node lines s o → ReplayAnswer node lines t u → AreOne s t o u
+one_replay node lines Done t o u p q = one_replay_from_done node lines t o u p q
+one_replay node lines BadTrace t o u p q = one_replay_from_refused node lines t o u p q
+one_replay node lines _ t o u p q = absurd p
 
 -- the network text is another, or the replay's answer is due
-input_of : (input : List ℕ) (s : Status) (o : List ℕ) → InputAnswer input s o
-    → ((s ≡ BadNetwork) × (network_text input ≢ TWO_NODES.now) × (o ≡ bad_network_line)) ⊎ ((network_text input ≡ TWO_NODES.now) × ReplayAnswer (record_lines input) s o)
-input_of input BadNetwork o p = inl (refl, p.0, p.1)
-input_of input Done o p = inr p
-input_of input Usage o p = inr p
-input_of input BadTrace o p = inr p
-input_of input Broken o p = inr p
-input_of input ReadFault o p = inr p
-input_of input WriteFault o p = inr p
-input_of input LinkFault o p = inr p
-input_of input TooLarge o p = inr p
-input_of input OutOfMemory o p = inr p
+input_of : (node : Node) (input : List ℕ) (s : Status) (o : List ℕ) → InputAnswer node input s o
+    → ((s ≡ BadNetwork) × (network_text input ≢ TWO_NODES.now) × (o ≡ bad_network_line)) ⊎ ((network_text input ≡ TWO_NODES.now) × ReplayAnswer node (record_lines input) s o)
+input_of node input BadNetwork o p = inl (refl, p.0, p.1)
+input_of node input Done o p = inr p
+input_of node input Usage o p = inr p
+input_of node input BadTrace o p = inr p
+input_of node input Broken o p = inr p
+input_of node input ReadFault o p = inr p
+input_of node input WriteFault o p = inr p
+input_of node input LinkFault o p = inr p
+input_of node input TooLarge o p = inr p
+input_of node input OutOfMemory o p = inr p
 
-one_input : (input : List ℕ) (s t : Status) (o u : List ℕ) → InputAnswer input s o → InputAnswer input t u → AreOne s t o u
-one_input input s t o u p q =
-    elim (input_of input s o p) [
+one_input : (node : Node) (input : List ℕ) (s t : Status) (o u : List ℕ) → InputAnswer node input s o → InputAnswer node input t u → AreOne s t o u
+one_input node input s t o u p q =
+    elim (input_of node input s o p) [
       | inl (is, other, line) ↦
-          elim (input_of input t u q) [ inl (is', other', line') ↦ (is ∙ sym is', line ∙ sym line') | inr (same, due) ↦ absurd (other same) ]
+          elim (input_of node input t u q) [ inl (is', other', line') ↦ (is ∙ sym is', line ∙ sym line') | inr (same, due) ↦ absurd (other same) ]
       | inr (same, due) ↦
-          elim (input_of input t u q) [ inl (is', other', line') ↦ absurd (other' same) | inr (same', due') ↦ one_replay (record_lines input) s t o u due due' ]
+          elim (input_of node input t u q) [ inl (is', other', line') ↦ absurd (other' same) | inr (same', due') ↦ one_replay node (record_lines input) s t o u due due' ]
     ]
 
 -- the words are no command, or the input is too large, or the input's answer is due
 abbrev Unread : List (List ℕ) → Status → List ℕ → Type 0
-Unread words s o = (s ≡ Usage) × (IsReplay words → ⊥) × (o ≡ usage_line)
+Unread words s o = (s ≡ Usage) × (IsCommand words → ⊥) × (o ≡ usage_line)
 
 abbrev TooMuch : List (List ℕ) → List ℕ → Status → List ℕ → Type 0
-TooMuch words input s o = (s ≡ TooLarge) × IsReplay words × (input_limit < length input) × (o ≡ too_large_line)
+TooMuch words input s o = (s ≡ TooLarge) × IsCommand words × (input_limit < length input) × (o ≡ too_large_line)
 
 abbrev Read : List (List ℕ) → List ℕ → Status → List ℕ → Type 0
-Read words input s o = IsReplay words × (length input ≤ input_limit) × InputAnswer input s o
+Read words input s o = (node : Node) × IsReplay words node × (length input ≤ input_limit) × InputAnswer node input s o
+
+-- words name one node
+one_node : (words : List (List ℕ)) (a b : Node) → IsReplay words a → IsReplay words b → a ≡ b
+one_node words Gm Gm p q = refl
+one_node words Sw1 Sw1 p q = refl
+one_node words Gm Sw1 p q = let same = sym p ∙ q in cc
+one_node words Sw1 Gm p q = let same = sym p ∙ q in cc
+
+-- two answers for an input of one node
+both_read : (words : List (List ℕ)) (input : List ℕ) (s t : Status) (o u : List ℕ) → Read words input s o → Read words input t u → AreOne s t o u
+both_read words input s t o u p q =
+    let same : q.0 ≡ p.0 = one_node words q.0 p.0 q.1 p.1 in
+    one_input p.0 input s t o u p.3 (subst (λ (n : Node). InputAnswer n input t u) same q.3)
 
 answer_is : (words : List (List ℕ)) (input : List ℕ) (s : Status) (o : List ℕ) → Answer words input s o → Unread words s o ⊎ (TooMuch words input s o ⊎ Read words input s o)
 answer_is words input Usage o p = inl (refl, p.0, p.1)
@@ -194,19 +227,19 @@ one_answer words input s t o u p q =
       | inl (is, none, line) ↦
           elim (answer_is words input t u q) [
             | inl (is', none', line') ↦ (is ∙ sym is', line ∙ sym line')
-            | inr more ↦ elim more [ inl (is', command, over, line') ↦ absurd (none command) | inr (command, within, due) ↦ absurd (none command) ]
+            | inr more ↦ elim more [ inl (is', command, over, line') ↦ absurd (none command) | inr read ↦ absurd (none (read.0, read.1)) ]
           ]
       | inr some ↦
           elim some [
             | inl (is, command, over, line) ↦
                 elim (answer_is words input t u q) [
                   | inl (is', none, line') ↦ absurd (none command)
-                  | inr more ↦ elim more [ inl (is', command', over', line') ↦ (is ∙ sym is', line ∙ sym line') | inr (command', within, due) ↦ absurd (omega arith) ]
+                  | inr more ↦ elim more [ inl (is', command', over', line') ↦ (is ∙ sym is', line ∙ sym line') | inr read ↦ absurd (omega (arith, over, read.2)) ]
                 ]
-            | inr (command, within, due) ↦
+            | inr read ↦
                 elim (answer_is words input t u q) [
-                  | inl (is', none, line') ↦ absurd (none command)
-                  | inr more ↦ elim more [ inl (is', command', over, line') ↦ absurd (omega arith) | inr (command', within', due') ↦ one_input input s t o u due due' ]
+                  | inl (is', none, line') ↦ absurd (none (read.0, read.1))
+                  | inr more ↦ elim more [ inl (is', command', over, line') ↦ absurd (omega (arith, over, read.2)) | inr read' ↦ both_read words input s t o u read read' ]
                 ]
           ]
     ]
@@ -228,3 +261,10 @@ answered WriteFault other = absurd (other refl)
 answered LinkFault other = absurd (other refl)
 answered OutOfMemory other = absurd (other refl)
 answered _ other = refl
+
+-- where the source tells the input, a part of what is due was written
+pub told_cut : (before : Option (List ℕ)) (words : List (List ℕ)) (s : Status) (held now : Option (List ℕ)) (text : List ℕ) (count : ℕ)
+    → IfSome before (λ input. Answer words input s text) → Appends held now (take count text)
+    → IfSome before (λ input. (status : Status) × (octets : List ℕ) × (part : ℕ) × Answer words input status octets × Appends held now (take part octets))
+told_cut None words s held now text count due appends = tt
+told_cut (Some input) words s held now text count due appends = (s, text, count, due, appends)

@@ -1,78 +1,79 @@
 -- How far a replay has come: the lines that were read, their records, and what they made and wrote.
 use Rattle.std.proofs.Common.{◌≡◌, ℕ, ◌+◌, List, [], ◌∷◌, ◌++◌, length, reverse, refl, sym, ap, ◌∙◌, subst, append_assoc, append-nil, arith, length-append}
 use Rattle.std.proofs.lemmas.List.{reverse-append}
+use Rattle.wrp_run.specs.declared.nodes.Node.{Node}
 use Rattle.wrp_run.specs.declared.records.Record.{Record}
 use Rattle.wrp_run.specs.declared.replay.ReplayedNode.{ReplayedNode}
 use Rattle.wrp_run.specs.declared.status.Status.TheVariants.{Done, BadTrace}
 use Rattle.wrp_run.specs.Records.{IsRecord, IsNoRecord, AreRecords}
 use Rattle.wrp_run.specs.Replayed.{HasReplayed}
-use Rattle.wrp_run.specs.History.{ticks_since_reset, word_after}
-use Rattle.wrp_run.specs.Texts.{written_by, text_of, change_line, bad_trace_line}
+use Rattle.wrp_run.specs.Texts.{written_by, text_of, record_lines_of, bad_trace_line}
 use Rattle.wrp_run.specs.Answer.{ReplayAnswer, IsRefusedAfter}
 
 -- of all lines the first are these records, the node holds what they made, and they wrote this text
-pub record Progress (lines rest : List (List ℕ)) (held : ReplayedNode) (text : List ℕ) (number : ℕ) : Type 0 where
+pub record Progress (node : Node) (lines rest : List (List ℕ)) (held : ReplayedNode) (text : List ℕ) (number : ℕ) : Type 0 where
   pub read : List (List ℕ)
   pub records : List Record
   pub divided : lines ≡ read ++ rest
-  pub are : AreRecords read records
+  pub are : AreRecords node read records
+  pub is : held.node ≡ node
   pub stands : HasReplayed (reverse records) held
-  pub written : text ≡ text_of records
+  pub written : text ≡ text_of node records
   pub counted : number ≡ length records
 
--- what a record writes after these
-abbrev pub NextLine : List Record → Record → List ℕ
-NextLine earlier found = change_line (ticks_since_reset (found ∷ earlier)) (word_after earlier) (word_after (found ∷ earlier))
-
 -- one more line that is a record
-are_more : (lines : List (List ℕ)) (records : List Record) (line : List ℕ) (found : Record) → AreRecords lines records → IsRecord line found
-    → AreRecords (lines ++ line ∷ []) (records ++ found ∷ [])
-are_more [] [] line found are is = (is, tt)
-are_more (l ∷ lines) (r ∷ records) line found are is = (are.0, are_more lines records line found are.1 is)
-are_more [] (r ∷ records) line found are is = absurd are
-are_more (l ∷ lines) [] line found are is = absurd are
+are_more : (node : Node) (lines : List (List ℕ)) (records : List Record) (line : List ℕ) (found : Record) → AreRecords node lines records → IsRecord node line found
+    → AreRecords node (lines ++ line ∷ []) (records ++ found ∷ [])
+are_more node [] [] line found are is = (is, tt)
+are_more node (l ∷ lines) (r ∷ records) line found are is = (are.0, are_more node lines records line found are.1 is)
+are_more node [] (r ∷ records) line found are is = absurd are
+are_more node (l ∷ lines) [] line found are is = absurd are
 
 -- the newest record stands first in the history
 newest_first : (records : List Record) (found : Record) → reverse (records ++ found ∷ []) ≡ found ∷ reverse records
 newest_first records found = reverse-append records (found ∷ [])
 
 -- before the first line
-pub begins : (lines : List (List ℕ)) (held : ReplayedNode) → HasReplayed [] held → Progress lines lines held [] 0
-begins lines held stands = record { read = []; records = []; divided = refl; are = tt; stands = stands; written = refl; counted = refl }
+pub begins : (node : Node) (lines : List (List ℕ)) (held : ReplayedNode) → held.node ≡ node → HasReplayed [] held → Progress node lines lines held [] 0
+begins node lines held is stands = record { read = []; records = []; divided = refl; are = tt; is = is; stands = stands; written = refl; counted = refl }
 
 -- a line that is a record
-pub goes_on : (lines rest : List (List ℕ)) (held now : ReplayedNode) (text after line : List ℕ) (number : ℕ) (found : Record)
-    → (so_far : Progress lines (line ∷ rest) held text number) → IsRecord line found
+pub goes_on : (node : Node) (lines rest : List (List ℕ)) (held now : ReplayedNode) (text after line : List ℕ) (number : ℕ) (found : Record)
+    → (so_far : Progress node lines (line ∷ rest) held text number) → IsRecord node line found
+    → now.node ≡ held.node
     → ((earlier : List Record) → HasReplayed earlier held → HasReplayed (found ∷ earlier) now)
-    → ((earlier : List Record) → HasReplayed earlier held → after ≡ text ++ NextLine earlier found)
-    → Progress lines rest now after (number + 1)
-goes_on lines rest held now text after line number found so_far is stands writes =
+    → ((earlier : List Record) → HasReplayed earlier held → after ≡ text ++ record_lines_of held.node earlier found)
+    → Progress node lines rest now after (number + 1)
+goes_on node lines rest held now text after line number found so_far is stays stands writes =
     let records = so_far.records in
     let turned : reverse (records ++ found ∷ []) ≡ found ∷ reverse records = newest_first records found in
     let count : length (records ++ found ∷ []) ≡ length records + 1 = length-append records (found ∷ []) in
     let before : number ≡ length records = so_far.counted in
+    let wrote : after ≡ text ++ record_lines_of node (reverse records) found =
+    subst (λ (n : Node). after ≡ text ++ record_lines_of n (reverse records) found) so_far.is (writes (reverse records) so_far.stands) in
     record {
       read = so_far.read ++ line ∷ [];
       records = records ++ found ∷ [];
       divided = so_far.divided ∙ sym (append_assoc so_far.read (line ∷ []) rest);
-      are = are_more so_far.read records line found so_far.are is;
+      are = are_more node so_far.read records line found so_far.are is;
+      is = stays ∙ so_far.is;
       stands = subst (λ (history : List Record). HasReplayed history now) (sym turned) (stands (reverse records) so_far.stands);
-      written = writes (reverse records) so_far.stands ∙ ap (λ t. t ++ NextLine (reverse records) found) so_far.written ∙ ap written_by (sym turned);
+      written = wrote ∙ ap (λ t. t ++ record_lines_of node (reverse records) found) so_far.written ∙ ap (written_by node) (sym turned);
       counted = omega arith;
     }
 
 -- after the last line
-pub is_done : (lines : List (List ℕ)) (held : ReplayedNode) (text : List ℕ) (number : ℕ) → Progress lines [] held text number → ReplayAnswer lines Done text
-is_done lines held text number so_far =
+pub is_done : (node : Node) (lines : List (List ℕ)) (held : ReplayedNode) (text : List ℕ) (number : ℕ) → Progress node lines [] held text number → ReplayAnswer node lines Done text
+is_done node lines held text number so_far =
     let all : so_far.read ≡ lines = sym (so_far.divided ∙ append-nil so_far.read) in
-    (so_far.records, subst (λ (l : List (List ℕ)). AreRecords l so_far.records) all so_far.are, so_far.written)
+    (so_far.records, subst (λ (l : List (List ℕ)). AreRecords node l so_far.records) all so_far.are, so_far.written)
 
 -- at a line that is no record
-pub is_refused : (lines rest : List (List ℕ)) (held : ReplayedNode) (text after line : List ℕ) (number : ℕ)
-    → (so_far : Progress lines (line ∷ rest) held text number) → IsNoRecord line → after ≡ text ++ bad_trace_line (number + 1)
-    → ReplayAnswer lines BadTrace after
-is_refused lines rest held text after line number so_far none writes = (
+pub is_refused : (node : Node) (lines rest : List (List ℕ)) (held : ReplayedNode) (text after line : List ℕ) (number : ℕ)
+    → (so_far : Progress node lines (line ∷ rest) held text number) → IsNoRecord node line → after ≡ text ++ bad_trace_line (number + 1)
+    → ReplayAnswer node lines BadTrace after
+is_refused node lines rest held text after line number so_far none writes = (
   so_far.records,
   record { before = so_far.read; refused = line; behind = rest; divided = so_far.divided; read = so_far.are; none = none },
-  writes ∙ ap (λ t. t ++ bad_trace_line (number + 1)) so_far.written ∙ ap (λ n. text_of so_far.records ++ bad_trace_line (n + 1)) so_far.counted,
+  writes ∙ ap (λ t. t ++ bad_trace_line (number + 1)) so_far.written ∙ ap (λ n. text_of node so_far.records ++ bad_trace_line (n + 1)) so_far.counted,
 )

@@ -1,4 +1,4 @@
--- Frames of a replay: what a hex text says, and which messages reach the link of port 1 of sw1. A frame
+-- Frames of a replay: what a hex text says, and which messages reach the link of a node's port. A frame
 -- is dropped where it is malformed, of another domain, from a stranger, for another port, or comes
 -- without carrier or in quiet time; one that is no Announce and has no White Rabbit message is of no use
 -- to the link (this project's profile).
@@ -7,12 +7,14 @@ use Rattle.hex.specs.Hex.{decode_of}
 use Rattle.wrp_base.specs.declared.link.LinkWord.{LinkWord}
 use Rattle.wrp_base.specs.declared.link.LinkWord.TheVariants.{Down, Quiet}
 use Rattle.wrp_base.specs.declared.message.Body.{Body}
-use Rattle.wrp_base.specs.declared.message.Body.TheVariants.{Announce, Signal}
+use Rattle.wrp_base.specs.declared.message.Body.TheVariants.{Announce, Signal, DelayResp}
 use Rattle.wrp_base.specs.declared.message.PortIdentity.{PortIdentity}
 use Rattle.wrp_base.specs.declared.message.PtpMsg.{PtpMsg}
 use Rattle.wrp_frame.specs.declared.fault.FrameFault.{FrameFault}
 use Rattle.wrp_frame.specs.Faults.{IsFirstFault}
 use Rattle.wrp_frame.specs.Grammar.{Spells}
+use Rattle.wrp_run.specs.declared.nodes.Node.{Node}
+use Rattle.wrp_run.specs.Nodes.{own_of, peer_of}
 use Rattle.wrp_link.specs.declared.interface.LinkIn.{LinkIn}
 use Rattle.wrp_link.specs.declared.interface.LinkIn.TheVariants.{Msg, Announce as AnnounceOf}
 
@@ -28,14 +30,6 @@ pub record IsHexOf (text : List ℕ) (heard : Result PtpMsg FrameFault) : Type 0
   pub fits : length octets ≤ 256
   pub says : Says octets heard
 
--- port 1 of sw1, to which the frames come
-abbrev pub own : PortIdentity
-own = record { clock = 0x001b_c5ff_fe00_0002; port = 1 }
-
--- port 1 of gm, which is the peer
-abbrev pub peer : PortIdentity
-peer = record { clock = 0x001b_c5ff_fe00_0001; port = 1 }
-
 -- the portIdentity that stands for every port: all ones
 abbrev pub every_port : PortIdentity
 every_port = record { clock = 0xffff_ffff_ffff_ffff; port = 0xffff }
@@ -50,14 +44,24 @@ takes_frames Down = false
 takes_frames Quiet = false
 takes_frames _ = true
 
--- what a message's body is to a link: an Announce, or the White Rabbit message of a Signaling for this
--- port or for every port
+-- whether a body is for this node's port: a Signaling for it or for every port, a Delay_Resp for it, and
+-- each other kind
+abbrev pub is_addressed : Node → Body → Bool
+is_addressed node (Signal target message) = is_port target (own_of node) || is_port target every_port
+is_addressed node (DelayResp receive requesting) = is_port requesting (own_of node)
+is_addressed node _ = true
+
+-- whether a message of the peer reaches the link of a port with this word
+abbrev pub arrives : Node → LinkWord → PtpMsg → Bool
+arrives node word message =
+    (message.head.domain == 0) && is_port message.head.source (peer_of node) && is_addressed node message.body && takes_frames word
+
+-- what a message's body is to a link: an Announce, or the White Rabbit message of a Signaling
 abbrev pub input_of : Body → Option LinkIn
 input_of (Announce origin utc p1 quality p2 gm steps source suffix) = Some (AnnounceOf suffix)
-input_of (Signal target (Some message)) = if is_port target own || is_port target every_port then Some (Msg message) else None
+input_of (Signal target (Some message)) = Some (Msg message)
 input_of _ = None
 
 -- what a message is to the link of a port with this word: nothing where it is dropped
-abbrev pub input_to : LinkWord → PtpMsg → Option LinkIn
-input_to word message =
-    if (message.head.domain == 0) && is_port message.head.source peer && takes_frames word then input_of message.body else None
+abbrev pub input_to : Node → LinkWord → PtpMsg → Option LinkIn
+input_to node word message = if arrives node word message then input_of message.body else None

@@ -1,54 +1,70 @@
--- What stands at the node after a history of records, by a look back from the newest: the link of its
--- port, and its tick count (this project's profile).
-use Rattle.std.specs.Prelude.{ℕ, ◌+◌, Bool, true, List, [], ◌∷◌, Option, None, Some, Result, Ok, Err}
-use Rattle.wrp_base.specs.declared.link.Module.{Module}
+-- What stands at a node after a history of records, by a look back from the newest: the link of its port,
+-- its tick count, and the sequenceId of its next Signaling (this project's profile).
+use Rattle.std.specs.Prelude.{ℕ, ◌+◌, ◌%◌, Bool, true, List, [], ◌∷◌, length, Option, None, Some, Result, Ok, Err}
 use Rattle.wrp_base.specs.declared.link.LinkWord.{LinkWord}
-use Rattle.wrp_base.specs.declared.link.Role.TheVariants.{Slave}
-use Rattle.wrp_base.specs.declared.message.PtpMsg.{PtpMsg}
-use Rattle.wrp_frame.specs.declared.fault.FrameFault.{FrameFault}
+use Rattle.wrp_base.specs.declared.message.WrMsg.{WrMsg}
 use Rattle.wrp_link.specs.declared.interface.LinkIn.{LinkIn}
-use Rattle.wrp_link.specs.declared.interface.LinkIn.TheVariants.{Tick as TickOf, CarrierUp}
+use Rattle.wrp_link.specs.declared.interface.LinkIn.TheVariants.{Tick as TickOf, CarrierUp, CarrierDown}
 use Rattle.wrp_link.specs.declared.interface.LinkSet.{LinkSet}
 use Rattle.wrp_link.specs.LinkAt.{LinkAt, new_link}
-use Rattle.wrp_link.specs.Table.{after, word_of}
+use Rattle.wrp_link.specs.Table.{after, sends_of, word_of}
 use Rattle.wrp_run.specs.Frames.{input_to}
+use Rattle.wrp_run.specs.Nodes.{role_of, fitted_of}
+use Rattle.wrp_run.specs.declared.nodes.Node.{Node}
 use Rattle.wrp_run.specs.declared.records.Record.{Record}
-use Rattle.wrp_run.specs.declared.records.Record.TheVariants.{Reset, Tick, Up, Frame}
+use Rattle.wrp_run.specs.declared.records.Record.TheVariants.{Reset, Tick, Up, Down, Frame}
 
 -- the counts of a link where the network text gives none
 abbrev pub default_set : LinkSet
 default_set = record { quiet = 24; wait = 30; lock_wait = 1500; retries = 3; holdoff = 300; wr = true }
 
--- the module violet of the two-node network
-abbrev pub violet : Module
-violet = record { tx = 14_811_136_000; rx = 14_876_672_000; transition = 0; err = 1_310_720 }
+-- the link of a node before any record: without carrier
+abbrev pub first_link : Node → LinkAt
+first_link node = new_link (role_of node) default_set
+
+-- what a record is to the link of a node's port: every tick counts as locked, and what is malformed or
+-- dropped is nothing
+abbrev pub input_by : Node → LinkAt → Record → Option LinkIn
+input_by node l Reset = None
+input_by node l Tick = Some (TickOf true)
+input_by node l Up = Some (CarrierUp (Some (fitted_of node)))
+input_by node l Down = Some CarrierDown
+input_by node l (Frame (Err fault)) = None
+input_by node l (Frame (Ok message)) = input_to node (word_of l) message
 
 -- a link after an input, if there is one
 abbrev pub after_input : LinkAt → Option LinkIn → LinkAt
 after_input l None = l
 after_input l (Some input) = after l input
 
--- a link after a frame that says this: what is malformed changes nothing
-abbrev pub link_heard : LinkAt → Result PtpMsg FrameFault → LinkAt
-link_heard l (Err fault) = l
-link_heard l (Ok message) = after_input l (input_to (word_of l) message)
+-- what a link sends for an input, if there is one
+abbrev pub sends_for : LinkAt → Option LinkIn → List WrMsg
+sends_for l None = []
+sends_for l (Some input) = sends_of l input
 
--- the link of port 1 after a history, newest record first; every tick counts as locked
-abbrev pub link_after : List Record → LinkAt
-link_after [] = new_link Slave default_set
-link_after (Reset ∷ earlier) = new_link Slave default_set
-link_after (Tick ∷ earlier) = after (link_after earlier) (TickOf true)
-link_after (Up ∷ earlier) = after (link_after earlier) (CarrierUp (Some violet))
-link_after (Frame heard ∷ earlier) = link_heard (link_after earlier) heard
+-- the link of a node's port after a history, newest record first
+abbrev pub link_after : Node → List Record → LinkAt
+link_after node [] = first_link node
+link_after node (Reset ∷ earlier) = first_link node
+link_after node (newest ∷ earlier) = after_input (link_after node earlier) (input_by node (link_after node earlier) newest)
 
--- the word of port 1 after a history
-abbrev pub word_after : List Record → LinkWord
-word_after history = word_of (link_after history)
+-- the word of the port after a history
+abbrev pub word_after : Node → List Record → LinkWord
+word_after node history = word_of (link_after node history)
+
+-- the White Rabbit messages that a record makes the node send
+abbrev pub sends_by : Node → List Record → Record → List WrMsg
+sends_by node earlier newest = sends_for (link_after node earlier) (input_by node (link_after node earlier) newest)
 
 -- how many ticks a history has since its last reset
 abbrev pub ticks_since_reset : List Record → ℕ
 ticks_since_reset [] = 0
 ticks_since_reset (Reset ∷ earlier) = 0
 ticks_since_reset (Tick ∷ earlier) = ticks_since_reset earlier + 1
-ticks_since_reset (Up ∷ earlier) = ticks_since_reset earlier
-ticks_since_reset (Frame heard ∷ earlier) = ticks_since_reset earlier
+ticks_since_reset (_ ∷ earlier) = ticks_since_reset earlier
+
+-- the sequenceId of the next Signaling: how many were sent since the last reset, in 16 bits
+abbrev pub next_sequence : Node → List Record → ℕ
+next_sequence node [] = 0
+next_sequence node (Reset ∷ earlier) = 0
+next_sequence node (newest ∷ earlier) = (next_sequence node earlier + length (sends_by node earlier newest)) % 65536

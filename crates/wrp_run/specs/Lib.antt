@@ -4,6 +4,7 @@ pub mod Frames
 pub mod History
 pub mod Input
 pub mod Lines
+pub mod Nodes
 pub mod Records
 pub mod Replayed
 pub mod Statuses

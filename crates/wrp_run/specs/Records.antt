@@ -1,10 +1,11 @@
--- Records: which lines are recorded inputs of the node sw1, whose only port is 1 (this project's
--- profile).
+-- Records: which lines are recorded inputs of a node, whose only port is 1 (this project's profile).
 use Rattle.std.specs.Prelude.{◌≡◌, ℕ, ◌-◌, ◌^◌, ◌≤◌, Result, Some, IsSomeAnd, List, [], ◌∷◌, codes}
 use Rattle.wrp_base.specs.declared.message.PtpMsg.{PtpMsg}
 use Rattle.wrp_frame.specs.declared.fault.FrameFault.{FrameFault}
 use Rattle.wrp_run.specs.declared.records.Record.{Record}
-use Rattle.wrp_run.specs.declared.records.Record.TheVariants.{Reset, Tick, Up, Frame}
+use Rattle.wrp_run.specs.declared.records.Record.TheVariants.{Reset, Tick, Up, Down, Frame}
+use Rattle.wrp_run.specs.declared.nodes.Node.{Node}
+use Rattle.wrp_run.specs.Nodes.{fitted_name_of}
 use Rattle.wrp_run.specs.Fields.{parts_of, natural_up_to}
 use Rattle.wrp_run.specs.Frames.{IsHexOf}
 
@@ -33,30 +34,36 @@ abbrev pub IsFrame : List (List ℕ) → Result PtpMsg FrameFault → Type 0
 IsFrame (kind ∷ port ∷ hex ∷ stamp) heard = IsHeard kind port hex heard × IsStamp stamp
 IsFrame _ heard = ⊥
 
--- the parts are those of a line that tells that the carrier of the port comes
-abbrev pub IsUp : List (List ℕ) → Type 0
-IsUp (kind ∷ port ∷ fitted ∷ []) = (kind ≡ codes "up") × IsPort port × (fitted ≡ codes "violet")
-IsUp _ = ⊥
+-- the parts are those of a line that tells that the carrier of the port comes, with the node's module
+abbrev pub IsUp : Node → List (List ℕ) → Type 0
+IsUp node (kind ∷ port ∷ fitted ∷ []) = (kind ≡ codes "up") × IsPort port × (fitted ≡ fitted_name_of node)
+IsUp node _ = ⊥
+
+-- the parts are those of a line that tells that the carrier of the port goes
+abbrev pub IsDown : List (List ℕ) → Type 0
+IsDown (kind ∷ port ∷ []) = (kind ≡ codes "down") × IsPort port
+IsDown _ = ⊥
 
 -- the parts of a line are those of a record of several fields
-abbrev pub HasParts : List (List ℕ) → Record → Type 0
-HasParts parts Reset = ⊥
-HasParts parts Tick = ⊥
-HasParts parts Up = IsUp parts
-HasParts parts (Frame heard) = IsFrame parts heard
+abbrev pub HasParts : Node → List (List ℕ) → Record → Type 0
+HasParts node parts Reset = ⊥
+HasParts node parts Tick = ⊥
+HasParts node parts Up = IsUp node parts
+HasParts node parts Down = IsDown parts
+HasParts node parts (Frame heard) = IsFrame parts heard
 
--- the line is the record
-abbrev pub IsRecord : List ℕ → Record → Type 0
-IsRecord line Reset = line ≡ codes "reset"
-IsRecord line Tick = line ≡ codes "tick"
-IsRecord line found = HasParts (parts_of line) found
+-- the line is the record, of this node
+abbrev pub IsRecord : Node → List ℕ → Record → Type 0
+IsRecord node line Reset = line ≡ codes "reset"
+IsRecord node line Tick = line ≡ codes "tick"
+IsRecord node line found = HasParts node (parts_of line) found
 
 -- the line is no record
-abbrev pub IsNoRecord : List ℕ → Type 0
-IsNoRecord line = (found : Record) → IsRecord line found → ⊥
+abbrev pub IsNoRecord : Node → List ℕ → Type 0
+IsNoRecord node line = (found : Record) → IsRecord node line found → ⊥
 
 -- each line is the record in its place
-abbrev pub AreRecords : List (List ℕ) → List Record → Type 0
-AreRecords [] [] = Unit {0}
-AreRecords (line ∷ lines) (found ∷ records) = IsRecord line found × AreRecords lines records
-AreRecords _ _ = ⊥
+abbrev pub AreRecords : Node → List (List ℕ) → List Record → Type 0
+AreRecords node [] [] = Unit {0}
+AreRecords node (line ∷ lines) (found ∷ records) = IsRecord node line found × AreRecords node lines records
+AreRecords node _ _ = ⊥

@@ -1,12 +1,19 @@
 -- The lines that a run prints (this project's profile).
-use Rattle.std.specs.Prelude.{ℕ, ◌+◌, Bool, if◌then◌else◌, ◌==◌, List, [], ◌∷◌, ◌++◌, reverse, codes}
+use Rattle.std.specs.Prelude.{ℕ, pos, ◌+◌, ◌%◌, if◌then◌else◌, Some, List, [], ◌∷◌, ◌++◌, reverse, codes}
 use Rattle.std.specs.Fmt.{decimal}
 use Rattle.std.specs.Str.{bytes_eq}
 use Rattle.wrp_base.specs.declared.link.LinkState.TheVariants.{Idle, Present, SLock, MLock, Locked, Calibration, Calibrated, RespCalib, LinkOn}
+use Rattle.hex.specs.Hex.{encode_lower}
 use Rattle.wrp_base.specs.declared.link.LinkWord.{LinkWord}
+use Rattle.wrp_base.specs.declared.message.Body.TheVariants.{Signal}
+use Rattle.wrp_base.specs.declared.message.PtpMsg.{PtpMsg}
+use Rattle.wrp_base.specs.declared.message.WrMsg.{WrMsg}
+use Rattle.wrp_frame.specs.SentOctets.{octets_of}
 use Rattle.wrp_base.specs.declared.link.LinkWord.TheVariants.{Down, Quiet, Ptp, In}
 use Rattle.wrp_run.specs.declared.records.Record.{Record}
-use Rattle.wrp_run.specs.History.{word_after, ticks_since_reset}
+use Rattle.wrp_run.specs.declared.nodes.Node.{Node}
+use Rattle.wrp_run.specs.Nodes.{name_of, own_of, peer_of}
+use Rattle.wrp_run.specs.History.{word_after, ticks_since_reset, next_sequence, sends_by}
 
 -- how a link word is written
 abbrev pub word_text : LinkWord → List ℕ
@@ -24,22 +31,46 @@ word_text (In RespCalib) = codes "resp-calib"
 word_text (In LinkOn) = codes "link-on"
 
 -- the line of port 1's word at a tick
-abbrev pub link_line : ℕ → LinkWord → List ℕ
-link_line ticks word = codes "sw1 " ++ decimal ticks ++ codes " link 1 " ++ word_text word ++ 10 ∷ []
+abbrev pub link_line : Node → ℕ → LinkWord → List ℕ
+link_line node ticks word = name_of node ++ codes " " ++ decimal ticks ++ codes " link 1 " ++ word_text word ++ 10 ∷ []
 
 -- what a record writes: the line of the word, where it is written otherwise than the one before
-abbrev pub change_line : ℕ → LinkWord → LinkWord → List ℕ
-change_line ticks before now = if bytes_eq (word_text before) (word_text now) then [] else link_line ticks now
+abbrev pub change_line : Node → ℕ → LinkWord → LinkWord → List ℕ
+change_line node ticks before now = if bytes_eq (word_text before) (word_text now) then [] else link_line node ticks now
+
+-- the Signaling that carries a White Rabbit message to the peer
+abbrev pub signaling : Node → ℕ → WrMsg → PtpMsg
+signaling node sequence message =
+    record {
+      head = record { domain = 0; flags = 0; correction = pos 0; source = own_of node; seq = sequence; interval = 0x7f };
+      body = Signal (peer_of node) (Some message);
+    }
+
+-- the line of a Signaling that port 1 sends at a tick, in hex
+abbrev pub send_line : Node → ℕ → ℕ → WrMsg → List ℕ
+send_line node ticks sequence message =
+    name_of node ++ codes " " ++ decimal ticks ++ codes " send 1 " ++ encode_lower (octets_of (signaling node sequence message)) ++ 10 ∷ []
+
+-- the lines of several, whose sequenceIds count from this one
+abbrev pub send_lines : Node → ℕ → ℕ → List WrMsg → List ℕ
+send_lines node ticks sequence [] = []
+send_lines node ticks sequence (message ∷ messages) =
+    send_line node ticks sequence message ++ send_lines node ticks ((sequence + 1) % 65536) messages
+
+-- what the newest record of a history writes: the line of a changed word, then those of what is sent
+abbrev pub record_lines_of : Node → List Record → Record → List ℕ
+record_lines_of node earlier newest =
+    change_line node (ticks_since_reset (newest ∷ earlier)) (word_after node earlier) (word_after node (newest ∷ earlier))
+    ++ send_lines node (ticks_since_reset (newest ∷ earlier)) (next_sequence node earlier) (sends_by node earlier newest)
 
 -- what a history has written, newest record first
-abbrev pub written_by : List Record → List ℕ
-written_by [] = []
-written_by (newest ∷ earlier) =
-    written_by earlier ++ change_line (ticks_since_reset (newest ∷ earlier)) (word_after earlier) (word_after (newest ∷ earlier))
+abbrev pub written_by : Node → List Record → List ℕ
+written_by node [] = []
+written_by node (newest ∷ earlier) = written_by node earlier ++ record_lines_of node earlier newest
 
 -- the text that is due for a list of records
-abbrev pub text_of : List Record → List ℕ
-text_of records = written_by (reverse records)
+abbrev pub text_of : Node → List Record → List ℕ
+text_of node records = written_by node (reverse records)
 
 -- the only line where the words are no command
 abbrev pub usage_line : List ℕ

@@ -1,6 +1,12 @@
 -- The words of the command line (this project's profile).
 use Rattle.std.specs.Prelude.{◌≡◌, ℕ, List, [], ◌∷◌, codes}
+use Rattle.wrp_run.specs.declared.nodes.Node.{Node}
+use Rattle.wrp_run.specs.Nodes.{name_of}
 
--- the words are `replay --node sw1`
-abbrev pub IsReplay : List (List ℕ) → Type 0
-IsReplay words = words ≡ codes "replay" ∷ codes "--node" ∷ codes "sw1" ∷ []
+-- the words are `replay --node` and the node's name
+abbrev pub IsReplay : List (List ℕ) → Node → Type 0
+IsReplay words node = words ≡ codes "replay" ∷ codes "--node" ∷ name_of node ∷ []
+
+-- the words are a command
+abbrev pub IsCommand : List (List ℕ) → Type 0
+IsCommand words = (node : Node) × IsReplay words node

@@ -5,16 +5,17 @@ ghost use Rattle.wrp_io.specs.Faults.{Rose};
 ghost use Rattle.wrp_run.specs.declared.status.Status.{Status};
 ghost use Rattle.wrp_run.specs.Statuses.{is_answer};
 ghost use Rattle.wrp_run.specs.Taking.{TakesUpTo};
-ghost use Rattle.wrp_run.specs.Words.{IsReplay};
+ghost use Rattle.wrp_run.specs.Words.{IsCommand};
 ghost use Rattle.wrp_run.specs.Texts.{usage_line};
 ghost use Rattle.wrp_run.specs.Answer.{input_limit, Answer, InputAnswer, IsReplyTo};
 
 use crate::network::{TWO_NODES, divide};
+use crate::nodes::Node;
 use crate::reading::{End, take_all};
 use crate::replay::{Reply, replay};
 use crate::status::Status;
 use crate::text::{BAD_NETWORK_LINE, TOO_LARGE_LINE, USAGE_LINE};
-use crate::words::is_replay;
+use crate::words::replayed;
 use crate::writing::write_all;
 use std::alloc::{AllocError, Global};
 use wrp_io::{Link, Sink, Source};
@@ -62,16 +63,16 @@ fn line_reply(alloc: Global, status: Status, line: &str) -> Result<Reply, NoRepl
 }
 
 // What is due for an input whose size is within the limit.
-fn reply_to(alloc: Global, input: &[u8]) -> Result<Reply, NoReply>
+fn reply_to(alloc: Global, node: Node, input: &[u8]) -> Result<Reply, NoReply>
     requires { length input.now ≤ input_limit }
-    ensures due { IfOk result (λ reply. InputAnswer input.now reply.status reply.text.items) }
+    ensures due { IfOk result (λ reply. InputAnswer node input.now reply.status reply.text.items) }
     ensures memory { IfErr result (λ cause. cause ≡ NoReply.Memory) }
 {
     let divided = divide(input);
     if divided.network != TWO_NODES.as_bytes() {
         return line_reply(alloc, Status::BadNetwork, BAD_NETWORK_LINE);
     }
-    Ok(replay(alloc, divided.records)?)
+    Ok(replay(alloc, node, divided.records)?)
 }
 
 // What is due for words and what a source gives.
@@ -80,19 +81,19 @@ fn reply<S: Source>(alloc: Global, words: &[&str], source: &mut S) -> Result<Rep
         Answer (map (λ word. word.now) words.now) input reply.status reply.text.items)) }
     ensures untold { IfOk result (λ reply. IsReplyTo (map (λ word. word.now) words.now) reply.status reply.text.items) }
     ensures done { IfOk result (λ reply. reply.status ≡ Status.Done → IsAtEnd (S.left source.new)) }
-    ensures failed { IfErr result (λ cause. cause ≡ NoReply.Failed → IsReplay (map (λ word. word.now) words.now)
+    ensures failed { IfErr result (λ cause. cause ≡ NoReply.Failed → IsCommand (map (λ word. word.now) words.now)
         × Rose (S.faults source.old) (S.faults source.new) × TakesUpTo input_limit (S.left source.old) (S.left source.new)) }
-    ensures untouched { (IsReplay (map (λ word. word.now) words.now) → ⊥) → source.new ≡ source.old }
+    ensures untouched { (IsCommand (map (λ word. word.now) words.now) → ⊥) → source.new ≡ source.old }
 {
-    if !is_replay(words) {
+    let Some(node) = replayed(words) else {
         return line_reply(alloc, Status::Usage, USAGE_LINE);
-    }
+    };
     let taken = take_all(alloc, source);
     match taken.end {
         End::Failed => Err(NoReply::Failed),
         End::Memory => Err(NoReply::Memory),
         End::TooLarge => line_reply(alloc, Status::TooLarge, TOO_LARGE_LINE),
-        End::Whole => reply_to(alloc, &taken.bytes),
+        End::Whole => reply_to(alloc, node, &taken.bytes),
     }
 }
 
@@ -122,10 +123,10 @@ pub fn run<S: Source, K: Sink, N: Link>(
         → (result ≡ status) × Appends (K.held sink.old) (K.held sink.new) octets) }
 
     // Whether the words are a command shows without the input, which is then not read.
-    ensures usage { is_answer result ≡ true → (IsReplay (map (λ word. word.now) words.now) → ⊥)
+    ensures usage { is_answer result ≡ true → (IsCommand (map (λ word. word.now) words.now) → ⊥)
         → (result ≡ Status.Usage) × Appends (K.held sink.old) (K.held sink.new) usage_line }
-    ensures command { result ≡ Status.Usage → IsReplay (map (λ word. word.now) words.now) → ⊥ }
-    ensures unread { (IsReplay (map (λ word. word.now) words.now) → ⊥) → source.new ≡ source.old }
+    ensures command { result ≡ Status.Usage → IsCommand (map (λ word. word.now) words.now) → ⊥ }
+    ensures unread { (IsCommand (map (λ word. word.now) words.now) → ⊥) → source.new ≡ source.old }
 
     // Done is answered at the end of the input.
     ensures done { result ≡ Status.Done → IsAtEnd (S.left source.new) }
@@ -133,7 +134,7 @@ pub fn run<S: Source, K: Sink, N: Link>(
     // A fault has its cause, and what stands after it is known. A read fails only where no refusal is
     // known yet: the words are a command, and the octets that were taken are within the limit.
     ensures read_fault { result ≡ Status.ReadFault → Rose (S.faults source.old) (S.faults source.new) × Keeps (K.held sink.old) (K.held sink.new) }
-    ensures too_soon { result ≡ Status.ReadFault → IsReplay (map (λ word. word.now) words.now) × TakesUpTo input_limit (S.left source.old) (S.left source.new) }
+    ensures too_soon { result ≡ Status.ReadFault → IsCommand (map (λ word. word.now) words.now) × TakesUpTo input_limit (S.left source.old) (S.left source.new) }
     ensures write_fault { result ≡ Status.WriteFault → Rose (K.faults sink.old) (K.faults sink.new)
         × IfSome (S.left source.old) (λ input. (status : Status) × (octets : List ℕ) × (count : ℕ)
         × Answer (map (λ word. word.now) words.now) input status octets

@@ -8,6 +8,7 @@ mod fields;
 mod frames;
 mod line;
 mod network;
+mod nodes;
 mod reading;
 mod records;
 mod replay;

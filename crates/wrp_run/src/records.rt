@@ -3,10 +3,11 @@ ghost use Rattle.std.specs.Prelude.{◌≡◌, ◌↔◌, ◌<◌, ◌-◌, ◌^
 ghost use Rattle.wrp_base.specs.declared.message.PtpMsg.{PtpMsg};
 ghost use Rattle.wrp_frame.specs.declared.fault.FrameFault.{FrameFault};
 ghost use Rattle.wrp_run.specs.declared.records.Record.{Record};
-ghost use Rattle.wrp_run.specs.Records.{IsRecord, IsNoRecord, HasParts, IsPort, IsBetween, IsUp, IsStamp, IsFrame};
+ghost use Rattle.wrp_run.specs.Records.{IsRecord, IsNoRecord, HasParts, IsPort, IsBetween, IsUp, IsDown, IsStamp, IsFrame};
 
 use crate::fields::{natural, parts};
 use crate::frames::message_in;
+use crate::nodes::Node;
 use std::alloc::{AllocError, Global};
 use wrp_base::PtpMsg;
 use wrp_frame::FrameFault;
@@ -23,23 +24,29 @@ const TAG_LIMIT: u64 = 16_383;
 /// The greatest number of a sample.
 const SAMPLE_LIMIT: u64 = (1 << 32) - 1;
 
-/// One recorded input of the node `sw1` (this project's profile).
+/// One recorded input of a node (this project's profile).
 #[derive(Clone, Copy, Debug, PartialEq, Eq)]
 pub(crate) enum Record {
     /// `reset`: all but the counters starts anew.
     Reset,
     /// `tick`: one tick of the node.
     Tick,
-    /// `up,PORT,violet`: the carrier of port 1 comes, with the module violet.
+    /// `up,PORT,MODULE`: the carrier of port 1 comes, with the node's module.
     Up,
+    /// `down,PORT`: the carrier of port 1 goes.
+    Down,
     /// `frame,PORT,HEX,RISING,FALLING,TAG,SAMPLE`: octets that port 1 received, as the message that
     /// they say or the first fault that they have. The stamp is read, and not used yet.
     Frame(Result<PtpMsg, FrameFault>),
 }
 
 /// The record that a line is, or None where it is none.
-pub(crate) fn read_record(alloc: Global, line: &[u8]) -> Result<Option<Record>, AllocError>
-    ensures { IfOk result (λ read. MatchOption read (IsNoRecord line.now) (λ found. IsRecord line.now found)) }
+pub(crate) fn read_record(
+    alloc: Global,
+    node: Node,
+    line: &[u8],
+) -> Result<Option<Record>, AllocError>
+    ensures { IfOk result (λ read. MatchOption read (IsNoRecord node line.now) (λ found. IsRecord node line.now found)) }
 {
     if line == b"reset".as_slice() {
         return Ok(Some(Record::Reset));
@@ -48,25 +55,36 @@ pub(crate) fn read_record(alloc: Global, line: &[u8]) -> Result<Option<Record>, 
         return Ok(Some(Record::Tick));
     }
     let parts = parts(alloc, line)?;
-    Ok(read_parts(&parts))
+    Ok(read_parts(node, &parts))
 }
 
 // The record of a line's parts.
-fn read_parts(parts: &[&[u8]]) -> Option<Record>
-    ensures { MatchOption result ((found : Record) → HasParts (map (λ part. part.now) parts.now) found → ⊥) (HasParts (map (λ part. part.now) parts.now)) }
+fn read_parts(node: Node, parts: &[&[u8]]) -> Option<Record>
+    ensures { MatchOption result ((found : Record) → HasParts node (map (λ part. part.now) parts.now) found → ⊥) (HasParts node (map (λ part. part.now) parts.now)) }
 {
     match parts {
-        [kind, port, fitted] => read_up(kind, port, fitted),
-        [kind, port, hex, rising, stamp @ ..] => read_frame(kind, port, hex, rising, stamp),
+        [kind, port] => read_down(kind, port),
+        [kind, port, fitted] => read_up(node, kind, port, fitted),
+        [kind, port, hex, rising, stamp @ ..] => read_frame(node, kind, port, hex, rising, stamp),
         _ => None,
     }
 }
 
-// The record of three parts.
-fn read_up(kind: &[u8], port: &[u8], fitted: &[u8]) -> Option<Record>
-    ensures { MatchOption result (IsUp (kind.now ∷ port.now ∷ fitted.now ∷ []) → ⊥) (λ found. (found ≡ Record.Up) × IsUp (kind.now ∷ port.now ∷ fitted.now ∷ [])) }
+// The record of two parts.
+fn read_down(kind: &[u8], port: &[u8]) -> Option<Record>
+    ensures { MatchOption result (IsDown (kind.now ∷ port.now ∷ []) → ⊥) (λ found. (found ≡ Record.Down) × IsDown (kind.now ∷ port.now ∷ [])) }
 {
-    if kind == b"up".as_slice() && is_port(port) && fitted == b"violet".as_slice() {
+    if kind == b"down".as_slice() && is_port(port) {
+        return Some(Record::Down);
+    }
+    None
+}
+
+// The record of three parts.
+fn read_up(node: Node, kind: &[u8], port: &[u8], fitted: &[u8]) -> Option<Record>
+    ensures { MatchOption result (IsUp node (kind.now ∷ port.now ∷ fitted.now ∷ []) → ⊥) (λ found. (found ≡ Record.Up) × IsUp node (kind.now ∷ port.now ∷ fitted.now ∷ [])) }
+{
+    if kind == b"up".as_slice() && is_port(port) && fitted == node.fitted_name().as_bytes() {
         return Some(Record::Up);
     }
     None
@@ -74,6 +92,7 @@ fn read_up(kind: &[u8], port: &[u8], fitted: &[u8]) -> Option<Record>
 
 // The record of four parts and the rest of a receive stamp.
 fn read_frame(
+    node: Node,
     kind: &[u8],
     port: &[u8],
     hex: &[u8],
@@ -81,7 +100,7 @@ fn read_frame(
     stamp: &[&[u8]],
 ) -> Option<Record>
     ensures { let parts = kind.now ∷ port.now ∷ hex.now ∷ rising.now ∷ map (λ part. part.now) stamp.now in
-        MatchOption result ((found : Record) → HasParts parts found → ⊥) (HasParts parts) }
+        MatchOption result ((found : Record) → HasParts node parts found → ⊥) (HasParts node parts) }
 {
     if !is_frame(kind, port) || !is_stamp(rising, stamp) {
         return None;

@@ -1,9 +1,15 @@
 //! The lines that a run prints.
 ghost use Rattle.std.specs.Prelude.{◌≡◌, ◌++◌, ◌∷◌, [], ℕ, IfOk, OnErr};
-ghost use Rattle.wrp_run.specs.Texts.{word_text, change_line, link_line, bad_trace_line};
+ghost use Rattle.std.specs.String.{string_bytes};
+ghost use Rattle.hex.specs.Hex.{encode_lower};
+ghost use Rattle.wrp_base.specs.Message.{IsSound};
+ghost use Rattle.wrp_frame.specs.SentOctets.{octets_of};
+ghost use Rattle.wrp_run.specs.Texts.{word_text, change_line, link_line, send_line, send_lines, signaling as signaling_of, bad_trace_line};
 
+use crate::nodes::Node;
 use std::alloc::{AllocError, Global};
-use wrp_base::{LinkState, LinkWord};
+use wrp_base::{Body, Head, LinkState, LinkWord, PtpMsg, WrMsg};
+use wrp_frame::encode;
 
 /// The line where the words are no command.
 pub(crate) const USAGE_LINE: &str =
@@ -39,18 +45,88 @@ fn text_of(word: LinkWord) -> &'static str
 pub(crate) fn append_change(
     alloc: Global,
     text: &mut Vec<u8>,
+    node: Node,
     ticks: u64,
     before: LinkWord,
     now: LinkWord,
 ) -> Result<(), AllocError>
-    ensures { IfOk result (λ _. text.new.items ≡ text.old.items ++ change_line ticks before now) }
+    ensures { IfOk result (λ _. text.new.items ≡ text.old.items ++ change_line node ticks before now) }
 {
     let word = text_of(now);
     if text_of(before) != word {
-        let line = format!(in alloc; "sw1 {ticks} link 1 {word}\n")?;
+        let name = node.name();
+        let line = format!(in alloc; "{name} {ticks} link 1 {word}\n")?;
         text.extend_from_slice(line.as_bytes())?;
     }
     Ok(())
+}
+
+/// Appends the lines of the Signaling that the port sends at a tick, whose sequenceIds count from `first`.
+pub(crate) fn append_sends(
+    alloc: Global,
+    text: &mut Vec<u8>,
+    node: Node,
+    ticks: u64,
+    first: u16,
+    messages: &[WrMsg],
+) -> Result<(), AllocError>
+    ensures { IfOk result (λ _. text.new.items ≡ text.old.items ++ send_lines node ticks first messages.now) }
+{
+    let mut sequence = first;
+    for message in messages {
+        append_send(alloc, text, node, ticks, sequence, *message)?;
+        sequence = sequence.wrapping_add(1);
+    }
+    Ok(())
+}
+
+// Appends the line of one Signaling.
+fn append_send(
+    alloc: Global,
+    text: &mut Vec<u8>,
+    node: Node,
+    ticks: u64,
+    sequence: u16,
+    message: WrMsg,
+) -> Result<(), AllocError>
+    ensures { IfOk result (λ _. text.new.items ≡ text.old.items ++ send_line node ticks sequence message) }
+{
+    let name = node.name();
+    let octets = sent_hex(alloc, node, sequence, message)?;
+    let octets = octets.as_str();
+    let line = format!(in alloc; "{name} {ticks} send 1 {octets}\n")?;
+    text.extend_from_slice(line.as_bytes())?;
+    Ok(())
+}
+
+// The octets of one Signaling, in hex.
+fn sent_hex(alloc: Global, node: Node, sequence: u16, message: WrMsg) -> Result<String, AllocError>
+    ensures { IfOk result (λ text. string_bytes text ≡ encode_lower (octets_of (signaling_of node sequence message))) }
+{
+    let signaling = signaling(node, sequence, message);
+    let frame = encode(&signaling);
+    hex::encode(alloc, frame.as_slice())
+}
+
+// The Signaling that carries a message to the peer.
+fn signaling(node: Node, sequence: u16, message: WrMsg) -> PtpMsg
+    ensures value { result ≡ signaling_of node sequence message }
+    ensures sound { IsSound result }
+{
+    PtpMsg {
+        head: Head {
+            domain: 0,
+            flags: 0,
+            correction: 0,
+            source: node.own(),
+            seq: sequence,
+            interval: 0x7f,
+        },
+        body: Body::Signal {
+            target: node.peer(),
+            wr: Some(message),
+        },
+    }
 }
 
 /// Appends the line of a refused record.

@@ -8,5 +8,5 @@ use Rattle.wrp_run.proofs.records.read_record.Goals as goal
 pub returns : goal.returns
 returns c =
     let are = ap (map (λ part. part.now)) c.deref.ensures.value ∙ c.in_ok-parts.ensures in
-    by_parts c.args.line.now c.read_parts.result (search rules) (search rules)
-    (subst (λ (parts : List (List ℕ)). MatchOption c.read_parts.result ((found : Record) → HasParts parts found → ⊥) (HasParts parts)) are c.read_parts.ensures)
+    by_parts c.args.node c.args.line.now c.read_parts.result (search rules) (search rules)
+    (subst (λ (parts : List (List ℕ)). MatchOption c.read_parts.result ((found : Record) → HasParts c.args.node parts found → ⊥) (HasParts c.args.node parts)) are c.read_parts.ensures)

@@ -18,17 +18,17 @@ loop-at-init c =
     record {
       within = search rules;
       counted = search rules;
-      ticks = omega (arith, c.new-replay.ensures.1);
+      ticks = omega (arith, c.new-replay.ensures.ticks);
       progress =
-          subst (λ (text : List ℕ). Progress (map content_of (lines_of c.args.octets.now)) (map content_of (lines_of c.args.octets.now)) c.new-replay.result text 0) (sym c.new-text.ensures.items)
-          (begins _ c.new-replay.result (record { link = c.new-replay.ensures.0; ticks = c.new-replay.ensures.1 }));
+          subst (λ (text : List ℕ). Progress c.args.node (map content_of (lines_of c.args.octets.now)) (map content_of (lines_of c.args.octets.now)) c.new-replay.result text 0) (sym c.new-text.ensures.items)
+          (begins c.args.node _ c.new-replay.result c.new-replay.ensures.node c.new-replay.ensures.stands);
     }
 
 pub returns-in-None : goal.returns-in-None
 returns-in-None c =
     let said = says_from c.args.octets.now c.content.result.now c.loop-at.at c.first_line.result c.first_line.ensures.line c.content.ensures in
-    is_refused _ _ _ _ _ _ c.loop-at.number
-    (subst (λ (rest : List (List ℕ)). Progress (map content_of (lines_of c.args.octets.now)) rest c.loop-at.replay c.loop-at.text.items c.loop-at.number) said c.loop-at.invariant.progress)
+    is_refused c.args.node _ _ _ _ _ _ c.loop-at.number
+    (subst (λ (rest : List (List ℕ)). Progress c.args.node (map content_of (lines_of c.args.octets.now)) rest c.loop-at.replay c.loop-at.text.items c.loop-at.number) said c.loop-at.invariant.progress)
     (rw c.in-None.is at c.in_ok-read.ensures) c.in_ok-append_bad_trace-in-None.ensures
 
 pub loop-at-preserved : goal.loop-at-preserved
@@ -39,7 +39,7 @@ loop-at-preserved c =
       counted = omega (arith, c.loop-at.invariant.counted, c.first_line.ensures.some);
       ticks = omega (arith, c.write.ensures.size, c.loop-at.invariant.ticks);
       progress =
-          goes_on _ _ _ _ _ _ _ c.loop-at.number c.in-Some.found
-          (subst (λ (rest : List (List ℕ)). Progress (map content_of (lines_of c.args.octets.now)) rest c.loop-at.replay c.loop-at.text.items c.loop-at.number) said c.loop-at.invariant.progress)
-          (rw c.in-Some.is at c.in_ok-read.ensures) c.write.ensures.stands c.in_ok-write-in-Some.ensures.text;
+          goes_on c.args.node _ _ _ _ _ _ _ c.loop-at.number c.in-Some.found
+          (subst (λ (rest : List (List ℕ)). Progress c.args.node (map content_of (lines_of c.args.octets.now)) rest c.loop-at.replay c.loop-at.text.items c.loop-at.number) said c.loop-at.invariant.progress)
+          (rw c.in-Some.is at c.in_ok-read.ensures) c.write.ensures.node c.write.ensures.stands c.in_ok-write-in-Some.ensures.text;
     }

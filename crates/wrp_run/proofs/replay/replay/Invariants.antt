@@ -9,7 +9,7 @@ invariant-loop-at l =
       within : l.at ≤ length l.octets;
       counted : l.number ≤ l.at;
       ticks : l.replay.ticks ≤ l.number;
-      progress : Progress (map content_of (lines_of l.octets)) (map content_of (lines_of (drop l.at l.octets))) l.replay l.text.items l.number;
+      progress : Progress l.node (map content_of (lines_of l.octets)) (map content_of (lines_of (drop l.at l.octets))) l.replay l.text.items l.number;
     }
 
 abbrev pub decreases-loop-at : goal.decreases-loop-at
