@@ -1,0 +1,3 @@
+pub mod Announce
+pub mod Counters
+pub mod Reason
