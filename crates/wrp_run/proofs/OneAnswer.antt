@@ -17,7 +17,7 @@ use Rattle.wrp_run.specs.declared.network.TheConstants.{TWO_NODES}
 use Rattle.wrp_run.specs.Statuses.{is_answer}
 use Rattle.wrp_run.specs.Words.{IsReplay, IsCommand}
 use Rattle.wrp_run.specs.Input.{network_text, record_lines}
-use Rattle.wrp_run.specs.Texts.{text_of, usage_line, bad_network_line, bad_trace_line, too_large_line}
+use Rattle.wrp_run.specs.Texts.{lines_of_records, text_of, usage_line, bad_network_line, bad_trace_line, too_large_line}
 use Rattle.wrp_run.specs.Answer.{input_limit, Answer, InputAnswer, ReplayAnswer, IsRefusedAfter}
 
 -- octets say one thing
@@ -141,7 +141,7 @@ both_refused : (node : Node) (lines : List (List ℕ)) (o u : List ℕ) → Repl
 both_refused node lines o u p q =
     let records : p.0 ≡ q.0 =
     one_refusal node p.1.before q.1.before p.1.behind q.1.behind p.1.refused q.1.refused p.0 q.0 (sym p.1.divided ∙ q.1.divided) p.1.read q.1.read p.1.none q.1.none in
-    (refl, p.2 ∙ ap (λ r. text_of node r ++ bad_trace_line (length r + 1)) records ∙ sym q.2)
+    (refl, p.2 ∙ ap (λ r. lines_of_records node r ++ bad_trace_line (length r + 1)) records ∙ sym q.2)
 
 not_both : (node : Node) (lines : List (List ℕ)) (o u : List ℕ) → ReplayAnswer node lines Done o → ReplayAnswer node lines BadTrace u → ⊥
 not_both node lines o u p q =

@@ -7,7 +7,9 @@ use Rattle.wrp_run.specs.declared.replay.ReplayedNode.{ReplayedNode}
 use Rattle.wrp_run.specs.declared.status.Status.TheVariants.{Done, BadTrace}
 use Rattle.wrp_run.specs.Records.{IsRecord, IsNoRecord, AreRecords}
 use Rattle.wrp_run.specs.Replayed.{HasReplayed}
-use Rattle.wrp_run.specs.Texts.{written_by, text_of, record_lines_of, bad_trace_line}
+use Rattle.wrp_run.specs.Texts.{written_by, lines_of_records, record_lines_of, count_lines, bad_trace_line}
+use Rattle.wrp_run.specs.History.{counters_after}
+use Rattle.wrp_data.specs.Counters.{nonzero_counts}
 use Rattle.wrp_run.specs.Answer.{ReplayAnswer, IsRefusedAfter}
 
 -- of all lines the first are these records, the node holds what they made, and they wrote this text
@@ -18,7 +20,7 @@ pub record Progress (node : Node) (lines rest : List (List ℕ)) (held : Replaye
   pub are : AreRecords node read records
   pub is : held.node ≡ node
   pub stands : HasReplayed (reverse records) held
-  pub written : text ≡ text_of node records
+  pub written : text ≡ lines_of_records node records
   pub counted : number ≡ length records
 
 -- one more line that is a record
@@ -62,11 +64,18 @@ goes_on node lines rest held now text after line number found so_far is stays st
       counted = omega arith;
     }
 
--- after the last line
-pub is_done : (node : Node) (lines : List (List ℕ)) (held : ReplayedNode) (text : List ℕ) (number : ℕ) → Progress node lines [] held text number → ReplayAnswer node lines Done text
-is_done node lines held text number so_far =
+-- after the last line, once the counters are told
+pub is_done : (node : Node) (lines : List (List ℕ)) (held : ReplayedNode) (text after : List ℕ) (number : ℕ) → Progress node lines [] held text number
+    → after ≡ text ++ count_lines node (nonzero_counts held.counters) → ReplayAnswer node lines Done after
+is_done node lines held text after number so_far told =
     let all : so_far.read ≡ lines = sym (so_far.divided ∙ append-nil so_far.read) in
-    (so_far.records, subst (λ (l : List (List ℕ)). AreRecords node l so_far.records) all so_far.are, so_far.written)
+    let counted : held.counters ≡ counters_after node (reverse so_far.records) =
+    subst (λ (n : Node). held.counters ≡ counters_after n (reverse so_far.records)) so_far.is so_far.stands.counters in (
+      so_far.records,
+      subst (λ (l : List (List ℕ)). AreRecords node l so_far.records) all so_far.are,
+      told ∙ ap (λ t. t ++ count_lines node (nonzero_counts held.counters)) so_far.written
+          ∙ ap (λ c. lines_of_records node so_far.records ++ count_lines node (nonzero_counts c)) counted,
+    )
 
 -- at a line that is no record
 pub is_refused : (node : Node) (lines rest : List (List ℕ)) (held : ReplayedNode) (text after line : List ℕ) (number : ℕ)
@@ -75,5 +84,5 @@ pub is_refused : (node : Node) (lines rest : List (List ℕ)) (held : ReplayedNo
 is_refused node lines rest held text after line number so_far none writes = (
   so_far.records,
   record { before = so_far.read; refused = line; behind = rest; divided = so_far.divided; read = so_far.are; none = none },
-  writes ∙ ap (λ t. t ++ bad_trace_line (number + 1)) so_far.written ∙ ap (λ n. text_of node so_far.records ++ bad_trace_line (n + 1)) so_far.counted,
+  writes ∙ ap (λ t. t ++ bad_trace_line (number + 1)) so_far.written ∙ ap (λ n. lines_of_records node so_far.records ++ bad_trace_line (n + 1)) so_far.counted,
 )

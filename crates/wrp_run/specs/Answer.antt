@@ -10,7 +10,7 @@ use Rattle.wrp_run.specs.Statuses.{is_answer}
 use Rattle.wrp_run.specs.Words.{IsReplay, IsCommand}
 use Rattle.wrp_run.specs.Input.{network_text, record_lines}
 use Rattle.wrp_run.specs.Records.{IsNoRecord, AreRecords}
-use Rattle.wrp_run.specs.Texts.{text_of, usage_line, bad_network_line, bad_trace_line, too_large_line}
+use Rattle.wrp_run.specs.Texts.{lines_of_records, text_of, usage_line, bad_network_line, bad_trace_line, too_large_line}
 
 -- the first record lines are these records, and the next line is none
 pub record IsRefusedAfter (node : Node) (lines : List (List ℕ)) (records : List Record) : Type 0 where
@@ -26,7 +26,7 @@ pub record IsRefusedAfter (node : Node) (lines : List (List ℕ)) (records : Lis
 abbrev pub ReplayAnswer : Node → List (List ℕ) → Status → List ℕ → Type 0
 ReplayAnswer node lines Done octets = (records : List Record) × AreRecords node lines records × (octets ≡ text_of node records)
 ReplayAnswer node lines BadTrace octets =
-    (records : List Record) × IsRefusedAfter node lines records × (octets ≡ text_of node records ++ bad_trace_line (length records + 1))
+    (records : List Record) × IsRefusedAfter node lines records × (octets ≡ lines_of_records node records ++ bad_trace_line (length records + 1))
 ReplayAnswer node lines _ octets = ⊥
 
 -- what is due for an input whose size is within the limit

@@ -1,14 +1,18 @@
 -- What stands at a node after a history of records, by a look back from the newest: the link of its port,
--- its tick count, and the sequenceId of its next Signaling (this project's profile).
-use Rattle.std.specs.Prelude.{ℕ, ◌+◌, ◌%◌, Bool, true, List, [], ◌∷◌, length, Option, None, Some, Result, Ok, Err}
+-- its tick count, the sequenceId of its next Signaling and its counters of dropped frames (this project's
+-- profile).
+use Rattle.std.specs.Prelude.{ℕ, ◌+◌, ◌%◌, Bool, true, false, List, [], ◌∷◌, length, Option, None, Some, Result, Ok, Err}
 use Rattle.wrp_base.specs.declared.link.LinkWord.{LinkWord}
 use Rattle.wrp_base.specs.declared.message.WrMsg.{WrMsg}
+use Rattle.wrp_data.specs.Counters.{no_counts, counts_after}
+use Rattle.wrp_data.specs.Reason.{number_of}
+use Rattle.wrp_data.specs.declared.reason.Reason.{Reason}
 use Rattle.wrp_link.specs.declared.interface.LinkIn.{LinkIn}
 use Rattle.wrp_link.specs.declared.interface.LinkIn.TheVariants.{Tick as TickOf, CarrierUp, CarrierDown}
 use Rattle.wrp_link.specs.declared.interface.LinkSet.{LinkSet}
 use Rattle.wrp_link.specs.LinkAt.{LinkAt, new_link}
-use Rattle.wrp_link.specs.Table.{after, sends_of, word_of}
-use Rattle.wrp_run.specs.Frames.{input_to}
+use Rattle.wrp_link.specs.Table.{after, sends_of, is_used, word_of}
+use Rattle.wrp_run.specs.Frames.{input_to, drop_of, fault_reason, is_of_use, unless_of_use}
 use Rattle.wrp_run.specs.Nodes.{role_of, fitted_of}
 use Rattle.wrp_run.specs.declared.nodes.Node.{Node}
 use Rattle.wrp_run.specs.declared.records.Record.{Record}
@@ -55,6 +59,36 @@ word_after node history = word_of (link_after node history)
 -- the White Rabbit messages that a record makes the node send
 abbrev pub sends_by : Node → List Record → Record → List WrMsg
 sends_by node earlier newest = sends_for (link_after node earlier) (input_by node (link_after node earlier) newest)
+
+-- whether a link uses an input, if there is one
+abbrev pub used_by : LinkAt → Option LinkIn → Bool
+used_by l None = false
+used_by l (Some input) = is_used l input
+
+-- the reason for which a record's frame is dropped before the link knows of it
+abbrev pub early_reason : Node → LinkWord → Record → Option Reason
+early_reason node word (Frame (Err fault)) = Some (fault_reason fault)
+early_reason node word (Frame (Ok message)) = drop_of node word message
+early_reason node word _ = None
+
+-- the reason for which a record's frame is dropped: that one, or that it is of no use
+abbrev pub late_reason : Node → Record → Option Reason → Bool → Option Reason
+late_reason node (Frame (Ok message)) None used = unless_of_use (is_of_use (role_of node) message.body used)
+late_reason node found early used = early
+
+-- the first reason for which a record's frame is dropped, if there is one
+abbrev pub reason_by : Node → LinkAt → Record → Option Reason
+reason_by node l found = late_reason node found (early_reason node (word_of l) found) (used_by l (input_by node l found))
+
+-- the counters after a reason, if there is one
+abbrev pub counts_by : List ℕ → Option Reason → List ℕ
+counts_by counters None = counters
+counts_by counters (Some reason) = counts_after counters (number_of reason)
+
+-- the counters of dropped frames after a history: a reset leaves them
+abbrev pub counters_after : Node → List Record → List ℕ
+counters_after node [] = no_counts
+counters_after node (newest ∷ earlier) = counts_by (counters_after node earlier) (reason_by node (link_after node earlier) newest)
 
 -- how many ticks a history has since its last reset
 abbrev pub ticks_since_reset : List Record → ℕ

@@ -8,12 +8,15 @@ use Rattle.wrp_base.specs.declared.link.LinkWord.{LinkWord}
 use Rattle.wrp_base.specs.declared.message.Body.TheVariants.{Signal}
 use Rattle.wrp_base.specs.declared.message.PtpMsg.{PtpMsg}
 use Rattle.wrp_base.specs.declared.message.WrMsg.{WrMsg}
+use Rattle.wrp_data.specs.Counters.{nonzero_counts}
+use Rattle.wrp_data.specs.Reason.{name_of as reason_name}
+use Rattle.wrp_data.specs.declared.reason.Reason.{Reason}
 use Rattle.wrp_frame.specs.SentOctets.{octets_of}
 use Rattle.wrp_base.specs.declared.link.LinkWord.TheVariants.{Down, Quiet, Ptp, In}
 use Rattle.wrp_run.specs.declared.records.Record.{Record}
 use Rattle.wrp_run.specs.declared.nodes.Node.{Node}
 use Rattle.wrp_run.specs.Nodes.{name_of, own_of, peer_of}
-use Rattle.wrp_run.specs.History.{word_after, ticks_since_reset, next_sequence, sends_by}
+use Rattle.wrp_run.specs.History.{word_after, ticks_since_reset, next_sequence, sends_by, counters_after}
 
 -- how a link word is written
 abbrev pub word_text : LinkWord → List ℕ
@@ -68,9 +71,23 @@ abbrev pub written_by : Node → List Record → List ℕ
 written_by node [] = []
 written_by node (newest ∷ earlier) = written_by node earlier ++ record_lines_of node earlier newest
 
--- the text that is due for a list of records
+-- the line of a counter of port 1
+abbrev pub count_line : Node → Reason → ℕ → List ℕ
+count_line node reason times = name_of node ++ codes " count 1 " ++ reason_name reason ++ codes " " ++ decimal times ++ 10 ∷ []
+
+-- the lines of several
+abbrev pub count_lines : Node → List (Reason × ℕ) → List ℕ
+count_lines node [] = []
+count_lines node (count ∷ counts) = count_line node count.0 count.1 ++ count_lines node counts
+
+-- what a list of records writes, line after line
+abbrev pub lines_of_records : Node → List Record → List ℕ
+lines_of_records node records = written_by node (reverse records)
+
+-- the text that is due for a list of records at the end of the input: their lines, and then those of the
+-- counters that are not 0
 abbrev pub text_of : Node → List Record → List ℕ
-text_of node records = written_by node (reverse records)
+text_of node records = lines_of_records node records ++ count_lines node (nonzero_counts (counters_after node (reverse records)))
 
 -- the only line where the words are no command
 abbrev pub usage_line : List ℕ

@@ -1,9 +1,10 @@
 //! The frames of a replay: what one says, and whether it reaches the link of the port.
 ghost use Rattle.std.specs.Prelude.{◌≡◌, ◌<◌, ◌≤◌, ⊤, ℕ, Result, List, length, MatchOption};
-ghost use Rattle.wrp_run.specs.Frames.{IsHexOf, input_to, arrives, is_addressed};
+ghost use Rattle.wrp_run.specs.Frames.{IsHexOf, input_to, drop_of, fault_reason, is_of_use, is_addressed};
 
 use crate::nodes::Node;
-use wrp_base::{Body, LinkWord, PortIdentity, PtpMsg};
+use wrp_base::{Body, LinkWord, PortIdentity, PtpMsg, Role};
+use wrp_data::Reason;
 use wrp_frame::{FrameFault, decode};
 use wrp_link::LinkIn;
 
@@ -41,7 +42,7 @@ pub(crate) fn message_in(hex: &[u8]) -> Option<Result<PtpMsg, FrameFault>>
 pub(crate) fn link_input(node: Node, word: LinkWord, message: &PtpMsg) -> Option<LinkIn>
     ensures { result ≡ input_to node word message.now }
 {
-    if !is_for(node, word, message) {
+    if drop_reason(node, word, message).is_some() {
         return None;
     }
     match message.body {
@@ -51,15 +52,50 @@ pub(crate) fn link_input(node: Node, word: LinkWord, message: &PtpMsg) -> Option
     }
 }
 
-// Whether a message is of the domain, from the peer, for the port, and comes while the port takes frames.
-fn is_for(node: Node, word: LinkWord, message: &PtpMsg) -> bool
-    ensures { result ≡ arrives node word message.now }
+/// The reason for which a message is dropped before the link knows of it: the first that applies.
+pub(crate) fn drop_reason(node: Node, word: LinkWord, message: &PtpMsg) -> Option<Reason>
+    ensures { result ≡ drop_of node word message.now }
 {
-    let is_quiet = matches!(word, LinkWord::Down | LinkWord::Quiet);
-    message.head.domain == DOMAIN
-        && message.head.source == node.peer()
-        && is_addressed(node, &message.body)
-        && !is_quiet
+    if message.head.domain != DOMAIN {
+        return Some(Reason::Domain);
+    }
+    if message.head.source != node.peer() {
+        return Some(Reason::Stranger);
+    }
+    if !is_addressed(node, &message.body) {
+        return Some(Reason::NotForUs);
+    }
+    match word {
+        LinkWord::Down | LinkWord::Quiet => Some(Reason::Quiet),
+        _ => None,
+    }
+}
+
+/// The reason that a fault of the octets is.
+pub(crate) fn reason_of(fault: FrameFault) -> Reason
+    ensures { result ≡ fault_reason fault }
+{
+    match fault {
+        FrameFault::Short => Reason::Short,
+        FrameFault::Version => Reason::Version,
+        FrameFault::Kind => Reason::Kind,
+        FrameFault::Length => Reason::Length,
+        FrameFault::Time => Reason::Time,
+        FrameFault::Tlv => Reason::Tlv,
+        FrameFault::BadWr => Reason::BadWr,
+        FrameFault::OneStep => Reason::OneStep,
+    }
+}
+
+/// Whether a port with this role uses a message that reached it; `used` says whether the link did.
+pub(crate) fn is_useful(role: Role, body: &Body, used: bool) -> bool
+    ensures { result ≡ is_of_use role body.now used }
+{
+    match *body {
+        Body::Announce { .. } => role == Role::Slave,
+        Body::DelayReq { .. } => role == Role::Master,
+        _ => used,
+    }
 }
 
 // Whether a body is for the node's port.

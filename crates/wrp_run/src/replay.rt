@@ -2,20 +2,22 @@
 ghost use Rattle.std.specs.Prelude.{◌≡◌, ◌<◌, ◌≤◌, ◌+◌, ◌%◌, ◌++◌, ◌^◌, ℕ, List, [], ◌∷◌, map, length, IfOk};
 ghost use Rattle.wrp_run.specs.declared.records.Record.{Record};
 ghost use Rattle.wrp_run.specs.Lines.{lines_of, content_of};
-ghost use Rattle.wrp_run.specs.History.{input_by, after_input, sends_for, sends_by};
+ghost use Rattle.wrp_link.specs.Table.{word_of};
+ghost use Rattle.wrp_run.specs.History.{input_by, after_input, sends_for, sends_by, used_by, counts_by, early_reason as early_reason_of, late_reason as late_reason_of};
 ghost use Rattle.wrp_run.specs.Texts.{record_lines_of};
 ghost use Rattle.wrp_run.specs.Answer.{ReplayAnswer};
 ghost use Rattle.wrp_run.specs.Replayed.{HasReplayed};
 
-use crate::frames::link_input;
+use crate::frames::{drop_reason, is_useful, link_input, reason_of};
 use crate::line::{content, first_line};
 use crate::nodes::Node;
 use crate::records::{Record, read_record};
 use crate::status::Status;
-use crate::text::{append_bad_trace, append_change, append_sends};
+use crate::text::{append_bad_trace, append_change, append_counts, append_sends};
 use arrayvec::ArrayVec;
 use std::alloc::{AllocError, Global};
 use wrp_base::WrMsg;
+use wrp_data::{Counters, Reason};
 use wrp_link::{Link, LinkIn, LinkSet};
 
 /// The counts of a link where the network text gives none.
@@ -40,14 +42,22 @@ pub(crate) struct Reply {
     pub text: Vec<u8>,
 }
 
-// The node as far as it is replayed: the link of its port 1, its tick count, and the sequenceId of its
-// next Signaling.
+// What the link answered: what it sends, and whether it used the input.
+#[derive(Drop)]
+struct Stepped {
+    sends: Sends,
+    used: bool,
+}
+
+// The node as far as it is replayed: the link of its port 1, its tick count, the sequenceId of its next
+// Signaling, and its counters of dropped frames.
 #[derive(Drop)]
 struct ReplayedNode {
     node: Node,
     link: Link,
     ticks: u64,
     next: u16,
+    counters: Counters,
 }
 
 impl ReplayedNode {
@@ -62,7 +72,19 @@ impl ReplayedNode {
             link: Link::new(node.role(), DEFAULT_SET),
             ticks: 0,
             next: 0,
+            counters: Counters::new(),
         }
+    }
+
+    // Starts anew, but for the counters.
+    fn reset(&mut self)
+        ensures stands { (earlier : List Record) → HasReplayed earlier self.old → HasReplayed (Record.Reset ∷ earlier) self.new }
+        ensures node { self.new.node ≡ self.old.node }
+        ensures ticks { self.new.ticks ≡ 0 }
+    {
+        self.link = Link::new(self.node.role(), DEFAULT_SET);
+        self.ticks = 0;
+        self.next = 0;
     }
 
     // What a record is to the link.
@@ -79,20 +101,48 @@ impl ReplayedNode {
         }
     }
 
-    // Gives the link an input, if there is one, and answers what it sends.
-    fn step(&mut self, input: Option<LinkIn>) -> Sends
-        ensures sends { result.items ≡ sends_for self.old.link input }
+    // The reason for which a record's frame is dropped before the link knows of it.
+    fn early_reason(&self, found: Record) -> Option<Reason>
+        ensures { result ≡ early_reason_of self.now.node (word_of self.now.link) found }
+    {
+        match found {
+            Record::Frame(Err(fault)) => Some(reason_of(fault)),
+            Record::Frame(Ok(message)) => drop_reason(self.node, self.link.word(), &message),
+            _ => None,
+        }
+    }
+
+    // Gives the link an input, if there is one.
+    fn step(&mut self, input: Option<LinkIn>) -> Stepped
+        ensures sends { result.sends.items ≡ sends_for self.old.link input }
+        ensures used { result.used ≡ used_by self.old.link input }
         ensures link { self.new.link ≡ after_input self.old.link input }
         ensures next { self.new.next ≡ (self.old.next + length (sends_for self.old.link input)) % 65536 }
-        ensures rest { (self.new.node ≡ self.old.node) × (self.new.ticks ≡ self.old.ticks) }
+        ensures rest { (self.new.node ≡ self.old.node) × (self.new.ticks ≡ self.old.ticks) × (self.new.counters ≡ self.old.counters) }
     {
         let next = self.next;
         let Some(input) = input else {
-            return Sends::new();
+            return Stepped {
+                sends: Sends::new(),
+                used: false,
+            };
         };
-        let sends = self.link.step(input).sends;
-        self.next = next.wrapping_add(sends.len() as u16);
-        sends
+        let out = self.link.step(input);
+        self.next = next.wrapping_add(out.sends.len() as u16);
+        Stepped {
+            sends: out.sends,
+            used: out.used,
+        }
+    }
+
+    // Counts a reason, if there is one.
+    fn count(&mut self, reason: Option<Reason>)
+        ensures counters { self.new.counters ≡ counts_by self.old.counters reason }
+        ensures rest { (self.new.node ≡ self.old.node) × (self.new.link ≡ self.old.link) × (self.new.ticks ≡ self.old.ticks) × (self.new.next ≡ self.old.next) }
+    {
+        if let Some(reason) = reason {
+            self.counters.count(reason.number());
+        }
     }
 
     // Takes a record, and answers what the link sends.
@@ -104,14 +154,17 @@ impl ReplayedNode {
         ensures size { self.new.ticks ≤ self.old.ticks + 1 }
     {
         if found == Record::Reset {
-            *self = ReplayedNode::new(self.node);
+            self.reset();
             return Sends::new();
         }
+        let early = self.early_reason(found);
         let input = self.input(found);
         if found == Record::Tick {
             self.ticks += 1;
         }
-        self.step(input)
+        let stepped = self.step(input);
+        self.count(late_reason(self.node, found, early, stepped.used));
+        stepped.sends
     }
 
     // Takes a record, and appends the lines that it writes.
@@ -128,6 +181,22 @@ impl ReplayedNode {
         let sends = self.take(found);
         append_change(alloc, text, self.node, self.ticks, before, self.link.word())?;
         append_sends(alloc, text, self.node, self.ticks, first, &sends)
+    }
+}
+
+// The reason for which a record's frame is dropped, where the link was told of it or not.
+fn late_reason(node: Node, found: Record, early: Option<Reason>, used: bool) -> Option<Reason>
+    ensures { result ≡ late_reason_of node found early used }
+{
+    match (found, early) {
+        (Record::Frame(Ok(message)), None) => {
+            if is_useful(node.role(), &message.body, used) {
+                None
+            } else {
+                Some(Reason::Unmatched)
+            }
+        }
+        _ => early,
     }
 }
 
@@ -156,6 +225,7 @@ pub(crate) fn replay(alloc: Global, node: Node, octets: &[u8]) -> Result<Reply, 
         }
         at = end;
     }
+    append_counts(alloc, &mut text, node, &replay.counters)?;
     Ok(Reply {
         status: Status::Done,
         text,

@@ -1,13 +1,15 @@
 //! Whole runs over memory: what is written, and the status.
-mod lines;
+mod frames;
 
 use crate::network::TWO_NODES;
 use crate::{Status, run};
-use lines::{
-    ANNOUNCE, ANNOUNCE_OF_A_STRANGER, ANNOUNCE_OF_ANOTHER_DOMAIN, BAD_SUFFIX, BAD_TIME, CALIBRATE,
-    CALIBRATED, LOCK, LOCK_FOR_ALL, LOCK_FOR_ANOTHER, LOCK_OF_A_STRANGER, ONE_STEP_SYNC,
-    OTHER_KIND, OTHER_VERSION, PLAIN_ANNOUNCE, SHORT, TICK, TICKS_23, TLV_OVERRUN, TOO_LONG, UP,
-    WR_MODE_ON,
+use frames::{
+    ANNOUNCE, BAD_TIME, BAD_WR, DELAY_REQ, DELAY_RESP, DELAY_RESP_FOR_ANOTHER, FOLLOW_UP,
+    FOR_ANOTHER, GM_CALIBRATE, GM_CALIBRATED, GM_LOCK, GM_MODE_ON, LOCK_FOR_ALL, NO_MESSAGE,
+    ONE_STEP_SYNC, OTHER_DOMAIN, OTHER_KIND, OTHER_VERSION, OTHER_VERSION_AND_KIND, PLAIN_ANNOUNCE,
+    SHORT, STRANGER, STRANGER_OF_OTHER_DOMAIN, SW1_ANNOUNCE, SW1_CALIBRATE, SW1_CALIBRATE_AGAIN,
+    SW1_CALIBRATED, SW1_CALIBRATED_AGAIN, SW1_LOCKED, SW1_PRESENT, SW1_PRESENT_1, SW1_PRESENT_2,
+    SW1_PRESENT_3, SW1_PRESENT_4, SYNC, TLV_OVERRUN, TOO_LONG,
 };
 use std::alloc::{AllocError, Global};
 use std::test::Fail;
@@ -49,251 +51,692 @@ fn run_over(
     Ok(Outcome { status, text })
 }
 
-// A replay on the two-node network: its name, its records, and the status and the lines that are due.
-type Replay = (&'static str, &'static [&'static str], Status, &'static str);
+const UP: &str = "up,1,violet\n";
 
-const REPLAYS: [Replay; 34] = [
-    ("no records", &[], Status::Done, ""),
+const TICK: &str = "tick\n";
+
+const TICKS_23: &str =
+    "tick\ntick\ntick\ntick\ntick\ntick\ntick\ntick\ntick\ntick\ntick\ntick\ntick\ntick\ntick\ntick\ntick\ntick\ntick\ntick\ntick\ntick\ntick\n";
+
+const TICKS_24: &str =
+    "tick\ntick\ntick\ntick\ntick\ntick\ntick\ntick\ntick\ntick\ntick\ntick\ntick\ntick\ntick\ntick\ntick\ntick\ntick\ntick\ntick\ntick\ntick\ntick\n";
+
+// A replay on the two-node network: its name, the node, its records, and the status and the lines that are
+// due. A piece that is hex is a frame: among the records its octets came in, among the lines they go out.
+type Replay = (
+    &'static str,
+    &'static str,
+    &'static [&'static str],
+    Status,
+    &'static [&'static str],
+);
+
+const REPLAYS: [Replay; 56] = [
+    ("no records", "sw1", &[], Status::Done, &[]),
     (
         "carrier and ticks",
-        &["reset\n", UP, TICKS_23, TICK],
+        "sw1",
+        &["reset\n", "up,1,violet\n", TICKS_24],
         Status::Done,
-        "sw1 0 link 1 quiet\nsw1 24 link 1 ptp\n",
+        &["sw1 0 link 1 quiet\nsw1 24 link 1 ptp\n"],
     ),
     (
-        "one tick less",
-        &["reset\n", UP, TICKS_23],
+        "one tick less, and an announce in quiet time",
+        "sw1",
+        &["reset\n", "up,1,violet\n", TICKS_23, ANNOUNCE],
         Status::Done,
-        "sw1 0 link 1 quiet\n",
+        &["sw1 0 link 1 quiet\nsw1 count 1 quiet 1\n"],
     ),
     (
         "an announce",
-        &["reset\n", UP, TICKS_23, TICK, ANNOUNCE],
+        "sw1",
+        &["reset\n", "up,1,violet\n", TICKS_24, ANNOUNCE],
         Status::Done,
-        PRESENT_LINES,
+        &[
+            "sw1 0 link 1 quiet\nsw1 24 link 1 ptp\nsw1 24 link 1 present\nsw1 24 send 1 ",
+            SW1_PRESENT,
+        ],
     ),
     (
-        "a whole handshake",
+        "a whole handshake of the slave",
+        "sw1",
         &[
-            "reset\n", UP, TICKS_23, TICK, ANNOUNCE, LOCK, TICK, CALIBRATE, CALIBRATED, TICK,
-            WR_MODE_ON,
+            "reset\n",
+            "up,1,violet\n",
+            TICKS_24,
+            ANNOUNCE,
+            GM_LOCK,
+            TICK,
+            GM_CALIBRATE,
+            GM_CALIBRATED,
+            TICK,
+            GM_MODE_ON,
         ],
         Status::Done,
-        "sw1 0 link 1 quiet\nsw1 24 link 1 ptp\nsw1 24 link 1 present\nsw1 24 link 1 s-lock\n\
-         sw1 25 link 1 locked\nsw1 25 link 1 resp-calib\nsw1 25 link 1 calibration\n\
-         sw1 26 link 1 calibrated\nsw1 26 link 1 link-on\n",
+        &[
+            "sw1 0 link 1 quiet\nsw1 24 link 1 ptp\nsw1 24 link 1 present\nsw1 24 send 1 ",
+            SW1_PRESENT,
+            "sw1 24 link 1 s-lock\n",
+            "sw1 25 link 1 locked\nsw1 25 send 1 ",
+            SW1_LOCKED,
+            "sw1 25 link 1 resp-calib\nsw1 25 link 1 calibration\nsw1 25 send 1 ",
+            SW1_CALIBRATE,
+            "sw1 26 link 1 calibrated\nsw1 26 send 1 ",
+            SW1_CALIBRATED,
+            "sw1 26 link 1 link-on\n",
+        ],
+    ),
+    (
+        "a whole handshake of the master",
+        "gm",
+        &[
+            "reset\n",
+            "up,1,blue\n",
+            TICKS_24,
+            SW1_PRESENT,
+            SW1_LOCKED,
+            TICK,
+            SW1_CALIBRATE,
+            SW1_CALIBRATED,
+        ],
+        Status::Done,
+        &[
+            "gm 0 link 1 quiet\ngm 24 link 1 ptp\ngm 24 link 1 m-lock\ngm 24 send 1 ",
+            GM_LOCK,
+            "gm 24 link 1 calibration\ngm 24 send 1 ",
+            GM_CALIBRATE,
+            "gm 25 link 1 calibrated\ngm 25 send 1 ",
+            GM_CALIBRATED,
+            "gm 25 link 1 resp-calib\ngm 25 link 1 link-on\ngm 25 send 1 ",
+            GM_MODE_ON,
+        ],
+    ),
+    (
+        "a lost calibrate and a late locked, at the slave",
+        "sw1",
+        &[
+            "reset\n",
+            "up,1,violet\n",
+            TICKS_24,
+            ANNOUNCE,
+            GM_LOCK,
+            TICK,
+            GM_CALIBRATE,
+            GM_CALIBRATED,
+            TICK,
+            TICKS_24,
+            TICK,
+            TICK,
+            TICK,
+            TICK,
+            TICK,
+            TICK,
+            GM_MODE_ON,
+        ],
+        Status::Done,
+        &[
+            "sw1 0 link 1 quiet\nsw1 24 link 1 ptp\nsw1 24 link 1 present\nsw1 24 send 1 ",
+            SW1_PRESENT,
+            "sw1 24 link 1 s-lock\n",
+            "sw1 25 link 1 locked\nsw1 25 send 1 ",
+            SW1_LOCKED,
+            "sw1 25 link 1 resp-calib\nsw1 25 link 1 calibration\nsw1 25 send 1 ",
+            SW1_CALIBRATE,
+            "sw1 26 link 1 calibrated\nsw1 26 send 1 ",
+            SW1_CALIBRATED,
+            "sw1 56 send 1 ",
+            SW1_CALIBRATE_AGAIN,
+            "sw1 56 send 1 ",
+            SW1_CALIBRATED_AGAIN,
+            "sw1 56 link 1 link-on\n",
+        ],
+    ),
+    (
+        "a lost calibrate and a late locked, at the master",
+        "gm",
+        &[
+            "reset\n",
+            "up,1,blue\n",
+            TICKS_24,
+            SW1_PRESENT,
+            SW1_LOCKED,
+            TICK,
+            SW1_LOCKED,
+            SW1_CALIBRATED,
+            TICKS_24,
+            TICK,
+            TICK,
+            TICK,
+            TICK,
+            TICK,
+            SW1_CALIBRATE_AGAIN,
+            SW1_CALIBRATED_AGAIN,
+        ],
+        Status::Done,
+        &[
+            "gm 0 link 1 quiet\ngm 24 link 1 ptp\ngm 24 link 1 m-lock\ngm 24 send 1 ",
+            GM_LOCK,
+            "gm 24 link 1 calibration\ngm 24 send 1 ",
+            GM_CALIBRATE,
+            "gm 25 link 1 calibrated\ngm 25 send 1 ",
+            GM_CALIBRATED,
+            "gm 54 link 1 resp-calib\ngm 54 link 1 link-on\ngm 54 send 1 ",
+            GM_MODE_ON,
+            "gm count 1 unmatched 2\n",
+        ],
+    ),
+    (
+        "a slave that hears nothing but announces",
+        "sw1",
+        &[
+            "reset\n",
+            "up,1,violet\n",
+            TICKS_24,
+            ANNOUNCE,
+            TICKS_24,
+            TICKS_24,
+            TICKS_24,
+            ANNOUNCE,
+            TICKS_24,
+            TICKS_24,
+            TICKS_24,
+            ANNOUNCE,
+            TICKS_24,
+            TICKS_24,
+            TICKS_24,
+            TICKS_24,
+            TICKS_24,
+            TICKS_24,
+            TICKS_24,
+            TICKS_24,
+            TICKS_24,
+            TICKS_24,
+            TICKS_24,
+            TICK,
+            TICK,
+            TICK,
+            TICK,
+            TICK,
+            TICK,
+            TICK,
+            TICK,
+            TICK,
+            TICK,
+            TICK,
+            ANNOUNCE,
+            TICK,
+            ANNOUNCE,
+        ],
+        Status::Done,
+        &[
+            "sw1 0 link 1 quiet\nsw1 24 link 1 ptp\nsw1 24 link 1 present\nsw1 24 send 1 ",
+            SW1_PRESENT,
+            "sw1 54 send 1 ",
+            SW1_PRESENT_1,
+            "sw1 84 send 1 ",
+            SW1_PRESENT_2,
+            "sw1 114 send 1 ",
+            SW1_PRESENT_3,
+            "sw1 144 link 1 quiet\nsw1 168 link 1 ptp\nsw1 444 link 1 present\nsw1 444 send 1 ",
+            SW1_PRESENT_4,
+        ],
     ),
     (
         "an announce without suffix",
-        &["reset\n", UP, TICKS_23, TICK, PLAIN_ANNOUNCE],
+        "sw1",
+        &["reset\n", "up,1,violet\n", TICKS_24, PLAIN_ANNOUNCE],
         Status::Done,
-        PTP_LINES,
-    ),
-    (
-        "an announce in quiet time",
-        &["reset\n", UP, TICKS_23, ANNOUNCE, TICK],
-        Status::Done,
-        PTP_LINES,
+        &["sw1 0 link 1 quiet\nsw1 24 link 1 ptp\n"],
     ),
     (
         "an announce without carrier",
-        &["reset\n", ANNOUNCE, TICKS_23, TICK],
+        "sw1",
+        &["reset\n", ANNOUNCE],
         Status::Done,
-        "",
+        &["sw1 count 1 quiet 1\n"],
     ),
     (
         "a lock before the announce",
-        &["reset\n", UP, TICKS_23, TICK, LOCK],
+        "sw1",
+        &["reset\n", "up,1,violet\n", TICKS_24, GM_LOCK],
         Status::Done,
-        PTP_LINES,
+        &["sw1 0 link 1 quiet\nsw1 24 link 1 ptp\nsw1 count 1 unmatched 1\n"],
     ),
     (
         "each announce once",
-        &["reset\n", UP, TICKS_23, TICK, ANNOUNCE, ANNOUNCE],
+        "sw1",
+        &["reset\n", "up,1,violet\n", TICKS_24, ANNOUNCE, ANNOUNCE],
         Status::Done,
-        PRESENT_LINES,
+        &[
+            "sw1 0 link 1 quiet\nsw1 24 link 1 ptp\nsw1 24 link 1 present\nsw1 24 send 1 ",
+            SW1_PRESENT,
+        ],
     ),
     (
         "messages out of order",
+        "sw1",
         &[
-            "reset\n", UP, TICKS_23, TICK, ANNOUNCE, CALIBRATE, CALIBRATED, WR_MODE_ON,
+            "reset\n",
+            "up,1,violet\n",
+            TICKS_24,
+            ANNOUNCE,
+            GM_CALIBRATE,
+            GM_CALIBRATED,
+            GM_MODE_ON,
         ],
         Status::Done,
-        PRESENT_LINES,
+        &[
+            "sw1 0 link 1 quiet\nsw1 24 link 1 ptp\nsw1 24 link 1 present\nsw1 24 send 1 ",
+            SW1_PRESENT,
+            "sw1 count 1 unmatched 3\n",
+        ],
     ),
     (
         "a lock for every port",
-        &["reset\n", UP, TICKS_23, TICK, ANNOUNCE, LOCK_FOR_ALL],
+        "sw1",
+        &["reset\n", "up,1,violet\n", TICKS_24, ANNOUNCE, LOCK_FOR_ALL],
         Status::Done,
-        LOCK_LINES,
+        &[
+            "sw1 0 link 1 quiet\nsw1 24 link 1 ptp\nsw1 24 link 1 present\nsw1 24 send 1 ",
+            SW1_PRESENT,
+            "sw1 24 link 1 s-lock\n",
+        ],
     ),
     (
         "a lock twice",
-        &["reset\n", UP, TICKS_23, TICK, ANNOUNCE, LOCK, LOCK],
+        "sw1",
+        &[
+            "reset\n",
+            "up,1,violet\n",
+            TICKS_24,
+            ANNOUNCE,
+            GM_LOCK,
+            GM_LOCK,
+        ],
         Status::Done,
-        LOCK_LINES,
+        &[
+            "sw1 0 link 1 quiet\nsw1 24 link 1 ptp\nsw1 24 link 1 present\nsw1 24 send 1 ",
+            SW1_PRESENT,
+            "sw1 24 link 1 s-lock\n",
+            "sw1 count 1 unmatched 1\n",
+        ],
     ),
     (
         "calibrated without calibrate",
+        "sw1",
         &[
-            "reset\n", UP, TICKS_23, TICK, ANNOUNCE, LOCK, TICK, CALIBRATED,
+            "reset\n",
+            "up,1,violet\n",
+            TICKS_24,
+            ANNOUNCE,
+            GM_LOCK,
+            TICK,
+            GM_CALIBRATED,
         ],
         Status::Done,
-        LOCKED_LINES,
+        &[
+            "sw1 0 link 1 quiet\nsw1 24 link 1 ptp\nsw1 24 link 1 present\nsw1 24 send 1 ",
+            SW1_PRESENT,
+            "sw1 24 link 1 s-lock\n",
+            "sw1 25 link 1 locked\nsw1 25 send 1 ",
+            SW1_LOCKED,
+            "sw1 count 1 unmatched 1\n",
+        ],
     ),
     (
-        "an announce of a stranger",
-        &["reset\n", UP, TICKS_23, TICK, ANNOUNCE_OF_A_STRANGER],
+        "the carrier goes in s-lock",
+        "sw1",
+        &[
+            "reset\n",
+            "up,1,violet\n",
+            TICKS_24,
+            ANNOUNCE,
+            GM_LOCK,
+            "down,1\n",
+            TICK,
+        ],
         Status::Done,
-        PTP_LINES,
+        &[
+            "sw1 0 link 1 quiet\nsw1 24 link 1 ptp\nsw1 24 link 1 present\nsw1 24 send 1 ",
+            SW1_PRESENT,
+            "sw1 24 link 1 s-lock\n",
+            "sw1 24 link 1 down\n",
+        ],
     ),
     (
-        "a lock of a stranger",
-        &["reset\n", UP, TICKS_23, TICK, ANNOUNCE, LOCK_OF_A_STRANGER],
+        "short",
+        "sw1",
+        &["reset\n", "up,1,violet\n", TICKS_24, SHORT],
         Status::Done,
-        PRESENT_LINES,
+        &["sw1 0 link 1 quiet\nsw1 24 link 1 ptp\nsw1 count 1 short 1\n"],
     ),
     (
-        "a lock for another",
-        &["reset\n", UP, TICKS_23, TICK, ANNOUNCE, LOCK_FOR_ANOTHER],
+        "another version",
+        "sw1",
+        &["reset\n", "up,1,violet\n", TICKS_24, OTHER_VERSION],
         Status::Done,
-        PRESENT_LINES,
+        &["sw1 0 link 1 quiet\nsw1 24 link 1 ptp\nsw1 count 1 version 1\n"],
+    ),
+    (
+        "another kind",
+        "sw1",
+        &["reset\n", "up,1,violet\n", TICKS_24, OTHER_KIND],
+        Status::Done,
+        &["sw1 0 link 1 quiet\nsw1 24 link 1 ptp\nsw1 count 1 kind 1\n"],
+    ),
+    (
+        "a length past the octets",
+        "sw1",
+        &["reset\n", "up,1,violet\n", TICKS_24, TOO_LONG],
+        Status::Done,
+        &["sw1 0 link 1 quiet\nsw1 24 link 1 ptp\nsw1 count 1 length 1\n"],
+    ),
+    (
+        "nanoseconds of a second",
+        "sw1",
+        &["reset\n", "up,1,violet\n", TICKS_24, BAD_TIME],
+        Status::Done,
+        &["sw1 0 link 1 quiet\nsw1 24 link 1 ptp\nsw1 count 1 time 1\n"],
+    ),
+    (
+        "a TLV past messageLength",
+        "sw1",
+        &["reset\n", "up,1,violet\n", TICKS_24, TLV_OVERRUN],
+        Status::Done,
+        &["sw1 0 link 1 quiet\nsw1 24 link 1 ptp\nsw1 count 1 tlv 1\n"],
+    ),
+    (
+        "a CALIBRATED of another length",
+        "sw1",
+        &["reset\n", "up,1,violet\n", TICKS_24, BAD_WR],
+        Status::Done,
+        &["sw1 0 link 1 quiet\nsw1 24 link 1 ptp\nsw1 count 1 badwr 1\n"],
+    ),
+    (
+        "a Sync of one step",
+        "sw1",
+        &["reset\n", "up,1,violet\n", TICKS_24, ONE_STEP_SYNC],
+        Status::Done,
+        &["sw1 0 link 1 quiet\nsw1 24 link 1 ptp\nsw1 count 1 onestep 1\n"],
     ),
     (
         "another domain",
-        &["reset\n", UP, TICKS_23, TICK, ANNOUNCE_OF_ANOTHER_DOMAIN],
+        "sw1",
+        &["reset\n", "up,1,violet\n", TICKS_24, OTHER_DOMAIN],
         Status::Done,
-        PTP_LINES,
+        &["sw1 0 link 1 quiet\nsw1 24 link 1 ptp\nsw1 count 1 domain 1\n"],
     ),
     (
-        "malformed frames",
+        "a stranger",
+        "sw1",
+        &["reset\n", "up,1,violet\n", TICKS_24, STRANGER],
+        Status::Done,
+        &["sw1 0 link 1 quiet\nsw1 24 link 1 ptp\nsw1 count 1 stranger 1\n"],
+    ),
+    (
+        "a lock for another",
+        "sw1",
+        &["reset\n", "up,1,violet\n", TICKS_24, FOR_ANOTHER],
+        Status::Done,
+        &["sw1 0 link 1 quiet\nsw1 24 link 1 ptp\nsw1 count 1 notforus 1\n"],
+    ),
+    (
+        "a response for another",
+        "sw1",
+        &["reset\n", "up,1,violet\n", TICKS_24, DELAY_RESP_FOR_ANOTHER],
+        Status::Done,
+        &["sw1 0 link 1 quiet\nsw1 24 link 1 ptp\nsw1 count 1 notforus 1\n"],
+    ),
+    (
+        "a sync",
+        "sw1",
+        &["reset\n", "up,1,violet\n", TICKS_24, SYNC],
+        Status::Done,
+        &["sw1 0 link 1 quiet\nsw1 24 link 1 ptp\nsw1 count 1 unmatched 1\n"],
+    ),
+    (
+        "a follow-up",
+        "sw1",
+        &["reset\n", "up,1,violet\n", TICKS_24, FOLLOW_UP],
+        Status::Done,
+        &["sw1 0 link 1 quiet\nsw1 24 link 1 ptp\nsw1 count 1 unmatched 1\n"],
+    ),
+    (
+        "a response",
+        "sw1",
+        &["reset\n", "up,1,violet\n", TICKS_24, DELAY_RESP],
+        Status::Done,
+        &["sw1 0 link 1 quiet\nsw1 24 link 1 ptp\nsw1 count 1 unmatched 1\n"],
+    ),
+    (
+        "a Signaling without message",
+        "sw1",
+        &["reset\n", "up,1,violet\n", TICKS_24, NO_MESSAGE],
+        Status::Done,
+        &["sw1 0 link 1 quiet\nsw1 24 link 1 ptp\nsw1 count 1 unmatched 1\n"],
+    ),
+    (
+        "a version and a kind",
+        "sw1",
+        &["reset\n", "up,1,violet\n", TICKS_24, OTHER_VERSION_AND_KIND],
+        Status::Done,
+        &["sw1 0 link 1 quiet\nsw1 24 link 1 ptp\nsw1 count 1 version 1\n"],
+    ),
+    (
+        "a stranger of another domain",
+        "sw1",
         &[
             "reset\n",
-            UP,
-            TICKS_23,
-            TICK,
-            SHORT,
-            OTHER_VERSION,
-            OTHER_KIND,
-            TOO_LONG,
-            BAD_TIME,
-            TLV_OVERRUN,
-            BAD_SUFFIX,
-            ONE_STEP_SYNC,
+            "up,1,violet\n",
+            TICKS_24,
+            STRANGER_OF_OTHER_DOMAIN,
         ],
         Status::Done,
-        PTP_LINES,
+        &["sw1 0 link 1 quiet\nsw1 24 link 1 ptp\nsw1 count 1 domain 1\n"],
+    ),
+    (
+        "a stranger in quiet time",
+        "sw1",
+        &["up,1,violet\n", STRANGER],
+        Status::Done,
+        &["sw1 0 link 1 quiet\nsw1 count 1 stranger 1\n"],
+    ),
+    (
+        "a request at the slave",
+        "sw1",
+        &["reset\n", "up,1,violet\n", TICKS_24, DELAY_REQ],
+        Status::Done,
+        &["sw1 0 link 1 quiet\nsw1 24 link 1 ptp\nsw1 count 1 stranger 1\n"],
+    ),
+    (
+        "a request at the master",
+        "gm",
+        &["reset\n", "up,1,blue\n", TICKS_24, DELAY_REQ],
+        Status::Done,
+        &["gm 0 link 1 quiet\ngm 24 link 1 ptp\n"],
+    ),
+    (
+        "an announce at the master",
+        "gm",
+        &["reset\n", "up,1,blue\n", TICKS_24, SW1_ANNOUNCE],
+        Status::Done,
+        &["gm 0 link 1 quiet\ngm 24 link 1 ptp\ngm count 1 unmatched 1\n"],
+    ),
+    (
+        "counters in the order of their reasons, kept at a reset",
+        "sw1",
+        &[
+            SHORT,
+            "up,1,violet\n",
+            SHORT,
+            STRANGER,
+            "reset\n",
+            OTHER_KIND,
+        ],
+        Status::Done,
+        &[
+            "sw1 0 link 1 quiet\nsw1 0 link 1 down\nsw1 count 1 short 2\nsw1 count 1 kind 1\nsw1 count 1 stranger 1\n",
+        ],
     ),
     (
         "a frame of no octets",
-        &["reset\n", UP, TICKS_23, TICK, "frame,1,,1000,1000,0,0\n"],
+        "sw1",
+        &[
+            "reset\n",
+            "up,1,violet\n",
+            TICKS_24,
+            "frame,1,,1000,1000,0,0\n",
+        ],
         Status::Done,
-        PTP_LINES,
+        &["sw1 0 link 1 quiet\nsw1 24 link 1 ptp\nsw1 count 1 short 1\n"],
     ),
     (
         "reset on a port with carrier",
-        &[UP, "reset\n"],
+        "sw1",
+        &["up,1,violet\n", "reset\n"],
         Status::Done,
-        "sw1 0 link 1 quiet\nsw1 0 link 1 down\n",
+        &["sw1 0 link 1 quiet\nsw1 0 link 1 down\n"],
     ),
     (
         "records before any reset",
-        &[TICK, UP],
+        "sw1",
+        &[TICK, "up,1,violet\n"],
         Status::Done,
-        "sw1 1 link 1 quiet\n",
+        &["sw1 1 link 1 quiet\n"],
     ),
     (
         "up on a port that is up",
-        &[UP, TICKS_23, TICK, UP, TICKS_23, TICK],
+        "sw1",
+        &["up,1,violet\n", TICKS_24, "up,1,violet\n", TICKS_24],
         Status::Done,
-        "sw1 0 link 1 quiet\nsw1 24 link 1 ptp\nsw1 24 link 1 quiet\nsw1 48 link 1 ptp\n",
+        &["sw1 0 link 1 quiet\nsw1 24 link 1 ptp\nsw1 24 link 1 quiet\nsw1 48 link 1 ptp\n"],
     ),
     (
         "CR LF, and a last line without LF",
+        "sw1",
         &["up,1,violet\r\n", TICKS_23, "tick"],
         Status::Done,
-        PTP_LINES,
+        &["sw1 0 link 1 quiet\nsw1 24 link 1 ptp\n"],
     ),
     (
         "a last line with CR and without LF",
+        "sw1",
         &["tick\r"],
         Status::BadTrace,
-        "bad-trace 1\n",
+        &["bad-trace 1\n"],
     ),
     (
         "leading zeros and a minus zero",
-        &["up,0001,violet\n", "frame,01,0C0b,01,1,-0,00\n"],
-        Status::Done,
-        "sw1 0 link 1 quiet\n",
+        "sw1",
+        &[
+            "up,0001,violet\n",
+            "frame,01,0C0b,01,1,-0,00\n",
+            "down,-0\n",
+        ],
+        Status::BadTrace,
+        &["sw1 0 link 1 quiet\nbad-trace 3\n"],
     ),
     (
         "an unknown record",
-        &[UP, "down,1\n", TICK],
+        "sw1",
+        &["up,1,violet\n", OTHER_KIND, "sent,1\n", TICK],
         Status::BadTrace,
-        "sw1 0 link 1 quiet\nbad-trace 2\n",
+        &["sw1 0 link 1 quiet\nbad-trace 3\n"],
     ),
     (
         "another port",
+        "sw1",
         &["up,2,violet\n"],
         Status::BadTrace,
-        "bad-trace 1\n",
+        &["bad-trace 1\n"],
     ),
     (
-        "another module",
+        "the module of the other node",
+        "sw1",
         &["up,1,blue\n"],
         Status::BadTrace,
-        "bad-trace 1\n",
+        &["bad-trace 1\n"],
     ),
     (
         "an empty line",
+        "sw1",
         &[TICK, "\n"],
         Status::BadTrace,
-        "bad-trace 2\n",
+        &["bad-trace 2\n"],
     ),
     (
         "a field too many",
+        "sw1",
         &["tick,1\n"],
         Status::BadTrace,
-        "bad-trace 1\n",
+        &["bad-trace 1\n"],
     ),
     (
         "half an octet",
+        "sw1",
         &["frame,1,0,1,1,0,0\n"],
         Status::BadTrace,
-        "bad-trace 1\n",
+        &["bad-trace 1\n"],
     ),
     (
         "a counter of 0",
+        "sw1",
         &["frame,1,,0,1,0,0\n"],
         Status::BadTrace,
-        "bad-trace 1\n",
+        &["bad-trace 1\n"],
     ),
     (
         "a tag of 16384",
+        "sw1",
         &["frame,1,,1,1,16384,0\n"],
         Status::BadTrace,
-        "bad-trace 1\n",
+        &["bad-trace 1\n"],
     ),
 ];
 
-const PTP_LINES: &str = "sw1 0 link 1 quiet\nsw1 24 link 1 ptp\n";
+// The records, one behind the other.
+fn records_of(alloc: Global, pieces: &[&str]) -> Result<String, AllocError> {
+    let mut all = String::new(alloc);
+    for piece in pieces {
+        if piece.starts_with('0') {
+            all.push_str("frame,1,")?;
+            all.push_str(piece)?;
+            all.push_str(",1000,1000,0,0\n")?;
+        } else {
+            all.push_str(piece)?;
+        }
+    }
+    Ok(all)
+}
 
-const PRESENT_LINES: &str = "sw1 0 link 1 quiet\nsw1 24 link 1 ptp\nsw1 24 link 1 present\n";
-
-const LOCK_LINES: &str =
-    "sw1 0 link 1 quiet\nsw1 24 link 1 ptp\nsw1 24 link 1 present\nsw1 24 link 1 s-lock\n";
-
-const LOCKED_LINES: &str =
-    "sw1 0 link 1 quiet\nsw1 24 link 1 ptp\nsw1 24 link 1 present\nsw1 24 link 1 s-lock\nsw1 25 link 1 locked\n";
+// The lines, one behind the other.
+fn lines_of(alloc: Global, pieces: &[&str]) -> Result<String, AllocError> {
+    let mut all = String::new(alloc);
+    for piece in pieces {
+        all.push_str(piece)?;
+        if piece.starts_with('0') {
+            all.push_str("\n")?;
+        }
+    }
+    Ok(all)
+}
 
 #[test]
 fn replays(rt: HostRuntime) -> Result<(), Fail> {
     let alloc = rt.alloc();
-    for (name, records, status, lines) in REPLAYS {
-        let input = format!(in alloc; "{TWO_NODES}---\n{}", joined(alloc, records)?)?;
-        let got = run_over(alloc, &REPLAY, input.as_str(), 4096, &[], &[])?;
+    for (name, node, records, status, lines) in REPLAYS {
+        let input = format!(in alloc; "{TWO_NODES}---\n{}", records_of(alloc, records)?)?;
+        let got = run_over(
+            alloc,
+            &["replay", "--node", node],
+            input.as_str(),
+            4096,
+            &[],
+            &[],
+        )?;
+        let due = lines_of(alloc, lines)?;
         assert_eq!(rt; got.status, status, "{name}");
-        assert_eq!(rt; got.text.as_str(), lines, "{name}");
+        assert_eq!(rt; got.text.as_str(), due.as_str(), "{name}");
     }
     Ok(())
 }
@@ -306,7 +749,7 @@ const OTHER_WORDS: [&[&str]; 9] = [
     &[],
     &["replay"],
     &["replay", "--node"],
-    &["replay", "--node", "gm"],
+    &["replay", "--node", "leaf"],
     &["replay", "--node=sw1"],
     &["replay", "--node", "sw1", "sw1"],
     &["audit"],

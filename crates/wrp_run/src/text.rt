@@ -3,12 +3,14 @@ ghost use Rattle.std.specs.Prelude.{◌≡◌, ◌++◌, ◌∷◌, [], ℕ, IfO
 ghost use Rattle.std.specs.String.{string_bytes};
 ghost use Rattle.hex.specs.Hex.{encode_lower};
 ghost use Rattle.wrp_base.specs.Message.{IsSound};
+ghost use Rattle.wrp_data.specs.Counters.{nonzero_counts};
 ghost use Rattle.wrp_frame.specs.SentOctets.{octets_of};
-ghost use Rattle.wrp_run.specs.Texts.{word_text, change_line, link_line, send_line, send_lines, signaling as signaling_of, bad_trace_line};
+ghost use Rattle.wrp_run.specs.Texts.{word_text, change_line, link_line, send_line, send_lines, signaling as signaling_of, count_line, count_lines, bad_trace_line};
 
 use crate::nodes::Node;
 use std::alloc::{AllocError, Global};
 use wrp_base::{Body, Head, LinkState, LinkWord, PtpMsg, WrMsg};
+use wrp_data::{Counters, Reason};
 use wrp_frame::encode;
 
 /// The line where the words are no command.
@@ -127,6 +129,51 @@ fn signaling(node: Node, sequence: u16, message: WrMsg) -> PtpMsg
             wr: Some(message),
         },
     }
+}
+
+/// Appends the lines of the counters that are not 0.
+pub(crate) fn append_counts(
+    alloc: Global,
+    text: &mut Vec<u8>,
+    node: Node,
+    counters: &Counters,
+) -> Result<(), AllocError>
+    ensures { IfOk result (λ _. text.new.items ≡ text.old.items ++ count_lines node (nonzero_counts counters.now)) }
+{
+    let counts = counters.nonzero();
+    append_each(alloc, text, node, counts.as_slice())
+}
+
+// Appends the line of each counter.
+fn append_each(
+    alloc: Global,
+    text: &mut Vec<u8>,
+    node: Node,
+    counts: &[(Reason, u32)],
+) -> Result<(), AllocError>
+    ensures { IfOk result (λ _. text.new.items ≡ text.old.items ++ count_lines node counts.now) }
+{
+    for (reason, times) in counts {
+        append_count(alloc, text, node, *reason, *times)?;
+    }
+    Ok(())
+}
+
+// Appends the line of one counter.
+fn append_count(
+    alloc: Global,
+    text: &mut Vec<u8>,
+    node: Node,
+    reason: Reason,
+    times: u32,
+) -> Result<(), AllocError>
+    ensures { IfOk result (λ _. text.new.items ≡ text.old.items ++ count_line node reason times) }
+{
+    let name = node.name();
+    let reason = reason.name();
+    let line = format!(in alloc; "{name} count 1 {reason} {times}\n")?;
+    text.extend_from_slice(line.as_bytes())?;
+    Ok(())
 }
 
 /// Appends the line of a refused record.
