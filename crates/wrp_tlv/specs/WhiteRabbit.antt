@@ -1,6 +1,6 @@
 -- The values of White Rabbit TLVs: the table of ids and lengths, read and written (White Rabbit
 -- Specification 2.0).
-use Rattle.std.specs.Prelude.{ℕ, Bool, ◌&&◌, ◌==◌, nat_le, nat_lt, if◌then◌else◌, List, [], ◌++◌, ◌<◌, ◌^◌, length, slice_index}
+use Rattle.std.specs.Prelude.{◌≡◌, ℕ, Bool, ◌&&◌, ◌==◌, nat_le, nat_lt, if◌then◌else◌, List, [], ◌++◌, ◌<◌, ◌^◌, length, slice_index}
 use Rattle.wrp_base.specs.declared.message.WrMsg.{WrMsg}
 use Rattle.wrp_base.specs.declared.message.WrMsg.TheVariants.{Present, Lock, Locked, Calibrate, Calibrated, ModeOn}
 use Rattle.wrp_tlv.specs.declared.white_rabbit.WrRead.{WrRead}
@@ -82,3 +82,12 @@ FitsOctets ModeOn = Unit {0}
 -- the value that carries the wrFlags of a suffix
 abbrev pub suffix_value : ℕ → List ℕ
 suffix_value flags = value_start ANN_SUFIX ++ big_bytes 2 flags
+
+-- each is an octet
+abbrev pub AreOctets : List ℕ → Type 0
+AreOctets octets = (i : ℕ) → slice_index octets i < 256
+
+-- only the value of a message is read as that message, and only that of a suffix as that suffix
+pub record HaveOneValue : Type 0 where
+  pub message : (value : List ℕ) (message : WrMsg) → AreOctets value → wr_read value ≡ Wr message → value ≡ wr_value message
+  pub suffix : (value : List ℕ) (flags : ℕ) → AreOctets value → wr_read value ≡ Suffix flags → value ≡ suffix_value flags

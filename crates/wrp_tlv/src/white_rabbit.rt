@@ -1,6 +1,6 @@
 //! What the value of a White Rabbit TLV says (White Rabbit Specification 2.0).
 ghost use Rattle.std.specs.Prelude.{◌≡◌};
-ghost use Rattle.wrp_tlv.specs.WhiteRabbit.{wr_read, read_by_id};
+ghost use Rattle.wrp_tlv.specs.WhiteRabbit.{wr_read, read_by_id, HaveOneValue};
 
 use crate::numbers::{u16_at, u32_at, u48_at, u64_at};
 use wrp_base::WrMsg;
@@ -61,6 +61,11 @@ pub fn wr_of(value: &[u8]) -> WrRead
     }
     by_id(u16_at(value, PREFIX_LENGTH), value)
 }
+
+/// Only the value that a message is sent as is read as that message, and so it is with a suffix.
+pub fn one_value()
+    ensures { HaveOneValue }
+{}
 
 /// What a White Rabbit value of this id says.
 #[tactic(auto, unfolding(crate::specs::WhiteRabbit::read_by_id))]
