@@ -1,3 +1,6 @@
 pub mod Calls
 pub mod Faults
+pub mod Link
 pub mod Memory
+pub mod Queue
+pub mod Waiting
