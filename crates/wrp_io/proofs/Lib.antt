@@ -1,1 +1,3 @@
+pub mod CarryLemmas
+pub mod QueueLemmas
 pub mod Reading

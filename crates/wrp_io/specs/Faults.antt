@@ -11,12 +11,14 @@ greatest_count = 2 ^ 64 - 1
 abbrev pub Rose : ℕ → ℕ → Type 0
 Rose before now = (before < now) ⊎ ((before ≡ greatest_count) × (now ≡ greatest_count))
 
--- the count never falls, and it rose where the call failed
+-- the count never falls, stays at its greatest value, and rose where the call failed
 pub record HasCause {T E : Type 0} (before now : ℕ) (result : Result T E) : Type 0 where
   pub later : before ≤ now
+  pub stays : before ≡ greatest_count → now ≡ greatest_count
   pub rose : IsErr result → Rose before now
 
--- the count never falls, and it rose where the start failed for another cause than memory
+-- the count never falls, stays at its greatest value, and rose where the start failed for another cause than memory
 pub record IsFailedStart (before now : ℕ) (result : Result (Unit {0}) StartFault) : Type 0 where
   pub later : before ≤ now
+  pub stays : before ≡ greatest_count → now ≡ greatest_count
   pub rose : result ≡ Err Failed → Rose before now

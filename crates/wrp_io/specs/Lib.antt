@@ -1,3 +1,7 @@
+pub mod Adapters
 pub mod Calls
 pub mod Faults
+pub mod Link
 pub mod Memory
+pub mod Queue
+pub mod Waiting

@@ -1,5 +1,9 @@
-//! The trusted edge: a source over a reader of std, and a sink over a writer. They tell no octets.
-ghost use Rattle.std.specs.Prelude.{◌≡◌, ◌<◌, ◌≤◌, ℕ, length, IfSome};
+//! The trusted edge: a source over a reader of std, and a sink over a writer. The source tells what
+//! its reader knows to be left, which is nothing of a file. The sink tells no octets, since a flush
+//! that fails comes after octets were taken.
+ghost use Rattle.std.specs.Prelude.{◌≡◌, ◌<◌, ◌≤◌, ℕ, None, length, take, IfOk, IfSome};
+ghost use Rattle.std.specs.Io.KnownBytes.{Appends, WriteAppends};
+ghost use Rattle.wrp_io.specs.Faults.{HasCause};
 
 use crate::sink::Sink;
 use crate::source::{Failed, Source};
@@ -14,12 +18,17 @@ pub struct StdSource<R: Read> {
 
 impl<R: Read> StdSource<R> {
     /// A source that gives what `reader` reads. An error of the reader is a fault.
-    pub fn new(reader: R) -> StdSource<R> {
+    pub fn new(reader: R) -> StdSource<R>
+        ensures left { ⟦<StdSource<R> as Source>⟧.left result ≡ R.remaining reader }
+        ensures faults { ⟦<StdSource<R> as Source>⟧.faults result ≡ 0 }
+    {
         StdSource { reader, faults: 0 }
     }
 }
 
 impl<R: Read> Source for StdSource<R> {
+    ghost left = { λ s. R.remaining s.reader };
+
     ghost faults = { λ s. s.faults };
 
     fn read(&mut self, buf: &mut [u8]) -> Result<usize, Failed> {
@@ -41,9 +50,14 @@ pub struct StdSink<W: Write> {
 }
 
 impl<W: Write> StdSink<W> {
+    ghost use Rattle.wrp_io.specs.Adapters.{writer_of};
+
     /// A sink that writes to `writer`. An error of the writer or of its flush is a fault, and so is
     /// a writer that takes none of a piece that is not empty.
-    pub fn new(writer: W) -> StdSink<W> {
+    pub fn new(writer: W) -> StdSink<W>
+        ensures writer { writer_of result ≡ writer }
+        ensures faults { ⟦<StdSink<W> as Sink>⟧.faults result ≡ 0 }
+    {
         StdSink { writer, faults: 0 }
     }
 }
@@ -52,6 +66,7 @@ impl<W: Write> StdSink<W> {
 fn write_through<W: Write>(writer: &mut W, piece: &[u8]) -> Option<usize>
     ensures bound { IfSome result (λ n. n ≤ length piece.now) }
     ensures some { 0 < length piece.now → IfSome result (λ n. 0 < n) }
+    ensures octets { IfSome result (λ n. Appends (W.contents writer.old) (W.contents writer.new) (take n piece.now)) }
 {
     let taken = writer.write(piece).ok()?;
     writer.flush().ok()?;
@@ -62,9 +77,19 @@ fn write_through<W: Write>(writer: &mut W, piece: &[u8]) -> Option<usize>
 }
 
 impl<W: Write> Sink for StdSink<W> {
+    ghost use Rattle.wrp_io.specs.Adapters.{writer_of};
+
     ghost faults = { λ s. s.faults };
 
-    fn write(&mut self, piece: &[u8]) -> Result<usize, Failed> {
+    fn write(&mut self, piece: &[u8]) -> Result<usize, Failed>
+        ensures bound { IfOk result (λ n. n ≤ length piece.now) }
+        ensures some { 0 < length piece.now → IfOk result (λ n. 0 < n) }
+        ensures octets { WriteAppends None None result piece.now }
+        ensures cause { HasCause self.old.faults self.new.faults result }
+
+        // Where the writer's octets are known, it took the first of the piece.
+        ensures taken { IfOk result (λ n. Appends (W.contents (writer_of self.old)) (W.contents (writer_of self.new)) (take n piece.now)) }
+    {
         match write_through(&mut self.writer, piece) {
             Some(taken) => Ok(taken),
             None => {

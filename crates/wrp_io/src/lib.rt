@@ -5,15 +5,19 @@
 #![tactic(auto)]
 
 mod adapters;
+mod calls;
 mod link;
 mod memory_link;
 mod memory_sink;
 mod memory_source;
+mod queue;
 mod sink;
 mod source;
+#[cfg(test)]
+mod tests;
 
 pub use adapters::{StdSink, StdSource};
-pub use link::{Link, StartFault};
+pub use link::{Link, LinkCall, StartFault};
 pub use memory_link::MemLink;
 pub use memory_sink::MemSink;
 pub use memory_source::MemSource;

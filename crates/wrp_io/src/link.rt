@@ -1,5 +1,5 @@
 //! What carries frames between the ends of a network's links.
-ghost use Rattle.std.specs.Prelude.{ℕ, length, ◌≤◌};
+ghost use Rattle.std.specs.Prelude.{ℕ, List, Option, None, Some, Ok, true, length, ◌≡◌, ◌≢◌, ◌≤◌};
 ghost use Rattle.wrp_io.specs.Faults.{HasCause, IsFailedStart};
 
 use crate::source::Failed;
@@ -15,22 +15,52 @@ pub enum StartFault {
     Memory(AllocError),
 }
 
+/// A call of a link that answered `Ok`, with its answer.
+#[derive(Debug, Drop)]
+pub enum LinkCall {
+    /// `start` with this number of ends.
+    Start(u32),
+    /// `send` from this end, of these octets.
+    Send(u32, Frame),
+    /// `recv` at this end, with the octets that it gave if its answer was true.
+    Receive(u32, Option<Frame>),
+}
+
 /// What carries frames. Link number k of a network has the end 2k above and the end 2k + 1 below.
+/// A link may tell its calls, and what waits at its ends.
 pub trait Link {
+    ghost use Rattle.wrp_io.specs.declared.link.LinkCall.{LinkCall};
+    ghost use Rattle.wrp_io.specs.declared.link.LinkCall.TheVariants.{Start, Send, Receive};
+    ghost use Rattle.wrp_io.specs.Link.{frame_of, answered, Tells, Waits, Sends, Receives};
+
     /// How often the link has failed. The count is a u64, and stays at its greatest value.
     ghost faults: { Self → ℕ };
 
+    /// The calls that answered `Ok`, the oldest first, where the link tells them.
+    ghost told: { Self → Option (List LinkCall) } = { λ _. None };
+
+    /// The octets that wait at an end, the longest waiting first, where the link tells them.
+    ghost waiting: { Self → ℕ → Option (List (List ℕ)) } = { λ _ _. None };
+
     /// Makes `ends` ends, numbered from 0.
     fn start(&mut self, ends: u32) -> Result<(), StartFault>
-        ensures cause { IsFailedStart (faults self.old) (faults self.new) result };
+        ensures cause { IsFailedStart (faults self.old) (faults self.new) result }
+        ensures tells { Tells (told self.old) (told self.new) result (λ _. Start ends) }
+        ensures waits { Waits (waiting self.old) (waiting self.new) };
 
-    /// Sends the octets of one frame from an end: at most 256.
+    /// Sends the octets of one frame from an end: at most 256. They wait at the other end of that
+    /// link.
     fn send(&mut self, end: u32, bytes: &[u8]) -> Result<(), Failed>
         requires { length bytes.now ≤ 256 }
-        ensures cause { HasCause (faults self.old) (faults self.new) result };
+        ensures cause { HasCause (faults self.old) (faults self.new) result }
+        ensures tells { Tells (told self.old) (told self.new) result (λ _. Send end (frame_of bytes.now)) }
+        ensures waits { Sends (waiting self.old) (waiting self.new) result end bytes.now };
 
-    /// Puts the octets of a frame that waits at an end in place of what `out` held, and answers
-    /// whether one waited.
+    /// Answers whether a frame waited at an end. If one did, the octets of the one that waited
+    /// longest stand in `out`, in place of what it held, and wait no more.
     fn recv(&mut self, end: u32, out: &mut Frame) -> Result<bool, Failed>
-        ensures cause { HasCause (faults self.old) (faults self.new) result };
+        ensures cause { HasCause (faults self.old) (faults self.new) result }
+        ensures tells { Tells (told self.old) (told self.new) result (λ answer. Receive end (answered answer out.new.items)) }
+        ensures waits { Receives (waiting self.old) (waiting self.new) result end out.new.items }
+        ensures stays { result ≢ Ok true → out.new ≡ out.old };
 }

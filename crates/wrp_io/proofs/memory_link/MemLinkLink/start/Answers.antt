@@ -1,0 +1,27 @@
+-- A start moves nothing.
+use Rattle.std.proofs.Common.{◌≡◌, ◌++◌, ◌∷◌, [], subst, ap, arith}
+use Rattle.std.proofs.lemmas.Grind.{common_steps}
+use Rattle.wrp_io.specs.declared.link.LinkCall.TheVariants.{Start}
+use Rattle.wrp_io.specs.Link.{Waits}
+use Rattle.wrp_io.specs.Waiting.{waiting_of}
+use Rattle.wrp_io.specs.Queue.{Carries}
+use Rattle.wrp_io.proofs.CarryLemmas.{started}
+use Rattle.wrp_io.proofs.memory_link.MemLinkLink.start.Goals as goal
+
+-- what the call leaves
+left : (c : goal.After-unwrap)
+    → Carries c.push.new.self.items c.self.inside.queue.items × Waits (waiting_of c.self.inside.told.items) (waiting_of c.push.new.self.items)
+left c = started c.self.inside.told.items c.push.new.self.items c.self.inside.queue.items c.args.ends (grind (arith, common_steps)) c.self.invariant.carries
+
+pub invariant_of-self-2 : goal.invariant_of-self-2
+invariant_of-self-2 c = record {
+  carries = (left c).0;
+  called = grind (arith, common_steps);
+  held = grind (arith, common_steps);
+  told_room = grind (arith, common_steps);
+  queue_room = grind (arith, common_steps);
+}
+
+pub returns-clause-waits : goal.returns-clause-waits
+returns-clause-waits c =
+    subst (λ calls. Waits (waiting_of calls) (waiting_of c.push.new.self.items)) (ap (λ s. s.told) c.self.view_is) (left c).1

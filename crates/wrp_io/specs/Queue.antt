@@ -1,0 +1,31 @@
+-- The frames that a link in memory keeps, in the order of their sending, as what waits at each end.
+use Rattle.std.specs.Prelude.{◌≡◌, ◌≢◌, ℕ, ◌≤◌, ◌==◌, if◌then◌else◌, List, [], ◌∷◌, ◌++◌, filter_map, length, Option, Some, None, MatchOption}
+use Rattle.arrayvec.specs.ArrayVec.{ArrayVec}
+use Rattle.wrp_io.specs.declared.link.LinkCall.{LinkCall}
+use Rattle.wrp_io.specs.declared.queue.Held.{Held}
+use Rattle.wrp_io.specs.Waiting.{sent_to, received_at}
+
+-- the octets of a frame that is held for this end
+abbrev pub held_for : ℕ → Held → Option (List ℕ)
+held_for end held = if held.end == end then Some held.frame.items else None
+
+-- the octets of all the frames that are held for this end
+abbrev pub held_at : ℕ → List Held → List (List ℕ)
+held_at end queue = filter_map (held_for end) queue
+
+-- the queue holds what was sent and not yet received: at each end what was sent is what was received, and then what is held
+abbrev pub Carries : List LinkCall → List Held → Type 0
+Carries calls queue = (end : ℕ) → sent_to end calls ≡ received_at end calls ++ held_at end queue
+
+-- the frame was the first that was held for this end, and the others are held as before; or none was
+abbrev pub TakesFirst : List Held → List Held → ℕ → Option (ArrayVec ℕ) → Type 0
+TakesFirst before now end found = MatchOption found ((held_at end before ≡ []) × (now ≡ before)) (λ frame. (held_at end before ≡ frame.items ∷ held_at end now) × ((other : ℕ) → other ≢ end → held_at other now ≡ held_at other before))
+
+-- what a link in memory keeps: the queue carries what was sent, no more is held than was told and no
+-- more was told than was called, and there is room for as many calls as it takes
+pub record Keeps (told : List LinkCall) (queue : List Held) (made room told_capacity queue_capacity : ℕ) : Type 0 where
+  pub carries : Carries told queue
+  pub called : length told ≤ made
+  pub held : length queue ≤ length told
+  pub told_room : room ≤ told_capacity
+  pub queue_room : room ≤ queue_capacity
