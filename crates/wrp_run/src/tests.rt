@@ -61,7 +61,7 @@ const TICKS_23: &str =
 const TICKS_24: &str =
     "tick\ntick\ntick\ntick\ntick\ntick\ntick\ntick\ntick\ntick\ntick\ntick\ntick\ntick\ntick\ntick\ntick\ntick\ntick\ntick\ntick\ntick\ntick\ntick\n";
 
-// A replay on the two-node network: its name, the node, its records, and the status and the lines that are
+// A replay on the two-node network: what it shows, the node, its records, and the status and the lines that are
 // due. A piece that is hex is a frame: among the records its octets came in, among the lines they go out.
 type Replay = (
     &'static str,
@@ -71,7 +71,8 @@ type Replay = (
     &'static [&'static str],
 );
 
-const REPLAYS: [Replay; 56] = [
+// Link setup: whole handshakes, lost and repeated messages, carriers that come and go.
+const HANDSHAKES: [Replay; 21] = [
     ("no records", "sw1", &[], Status::Done, &[]),
     (
         "carrier and ticks",
@@ -404,6 +405,31 @@ const REPLAYS: [Replay; 56] = [
         ],
     ),
     (
+        "reset on a port with carrier",
+        "sw1",
+        &["up,1,violet\n", "reset\n"],
+        Status::Done,
+        &["sw1 0 link 1 quiet\nsw1 0 link 1 down\n"],
+    ),
+    (
+        "records before any reset",
+        "sw1",
+        &[TICK, "up,1,violet\n"],
+        Status::Done,
+        &["sw1 1 link 1 quiet\n"],
+    ),
+    (
+        "up on a port that is up",
+        "sw1",
+        &["up,1,violet\n", TICKS_24, "up,1,violet\n", TICKS_24],
+        Status::Done,
+        &["sw1 0 link 1 quiet\nsw1 24 link 1 ptp\nsw1 24 link 1 quiet\nsw1 48 link 1 ptp\n"],
+    ),
+];
+
+// Frames that are dropped, each for its reason.
+const DROPS: [Replay; 24] = [
+    (
         "short",
         "sw1",
         &["reset\n", "up,1,violet\n", TICKS_24, SHORT],
@@ -590,27 +616,10 @@ const REPLAYS: [Replay; 56] = [
         Status::Done,
         &["sw1 0 link 1 quiet\nsw1 24 link 1 ptp\nsw1 count 1 short 1\n"],
     ),
-    (
-        "reset on a port with carrier",
-        "sw1",
-        &["up,1,violet\n", "reset\n"],
-        Status::Done,
-        &["sw1 0 link 1 quiet\nsw1 0 link 1 down\n"],
-    ),
-    (
-        "records before any reset",
-        "sw1",
-        &[TICK, "up,1,violet\n"],
-        Status::Done,
-        &["sw1 1 link 1 quiet\n"],
-    ),
-    (
-        "up on a port that is up",
-        "sw1",
-        &["up,1,violet\n", TICKS_24, "up,1,violet\n", TICKS_24],
-        Status::Done,
-        &["sw1 0 link 1 quiet\nsw1 24 link 1 ptp\nsw1 24 link 1 quiet\nsw1 48 link 1 ptp\n"],
-    ),
+];
+
+// Lines that are records, and lines that are none.
+const LINES: [Replay; 11] = [
     (
         "CR LF, and a last line without LF",
         "sw1",
@@ -721,20 +730,46 @@ fn lines_of(alloc: Global, pieces: &[&str]) -> Result<String, AllocError> {
     Ok(all)
 }
 
+// A replay of a node over these records.
+fn replay_of(alloc: Global, node: &str, records: &[&str]) -> Result<Outcome, Fail> {
+    let input = format!(in alloc; "{TWO_NODES}---\n{}", records_of(alloc, records)?)?;
+    run_over(
+        alloc,
+        &["replay", "--node", node],
+        input.as_str(),
+        4096,
+        &[],
+        &[],
+    )
+}
+
 #[test]
-fn replays(rt: HostRuntime) -> Result<(), Fail> {
-    let alloc = rt.alloc();
-    for (name, node, records, status, lines) in REPLAYS {
-        let input = format!(in alloc; "{TWO_NODES}---\n{}", records_of(alloc, records)?)?;
-        let got = run_over(
-            alloc,
-            &["replay", "--node", node],
-            input.as_str(),
-            4096,
-            &[],
-            &[],
-        )?;
-        let due = lines_of(alloc, lines)?;
+fn handshakes(rt: HostRuntime) -> Result<(), Fail> {
+    for (name, node, records, status, lines) in HANDSHAKES {
+        let got = replay_of(rt.alloc(), node, records)?;
+        let due = lines_of(rt.alloc(), lines)?;
+        assert_eq!(rt; got.status, status, "{name}");
+        assert_eq!(rt; got.text.as_str(), due.as_str(), "{name}");
+    }
+    Ok(())
+}
+
+#[test]
+fn drops(rt: HostRuntime) -> Result<(), Fail> {
+    for (name, node, records, status, lines) in DROPS {
+        let got = replay_of(rt.alloc(), node, records)?;
+        let due = lines_of(rt.alloc(), lines)?;
+        assert_eq!(rt; got.status, status, "{name}");
+        assert_eq!(rt; got.text.as_str(), due.as_str(), "{name}");
+    }
+    Ok(())
+}
+
+#[test]
+fn record_lines(rt: HostRuntime) -> Result<(), Fail> {
+    for (name, node, records, status, lines) in LINES {
+        let got = replay_of(rt.alloc(), node, records)?;
+        let due = lines_of(rt.alloc(), lines)?;
         assert_eq!(rt; got.status, status, "{name}");
         assert_eq!(rt; got.text.as_str(), due.as_str(), "{name}");
     }
