@@ -14,8 +14,8 @@ use std::alloc::{AllocError, Global};
 use std::marker::Model;
 use wrp_base::Frame;
 
-/// A link that takes a number of calls, and carries what is sent from one end of a link to the other
-/// end. It tells its calls, and what waits at its ends.
+/// A link that takes a number of calls, and carries what is sent from one end of a link to its
+/// other end. It tells its calls, and what waits at its ends.
 #[derive(Drop)]
 pub struct MemLink {
     told: Vec<LinkCall>,
