@@ -1,8 +1,6 @@
 -- The queue of a link in memory holds for each end what waits there, looking back over the calls.
 use Rattle.std.proofs.Common.{◌≡◌, ◌≢◌, ℕ, ◌==◌, if◌then◌else◌, List, [], ◌∷◌, ◌++◌, length, drop, Option, Some, None, IfSome, MatchBool, is_some, refl, sym, ap, ap₂, subst, ◌∙◌, append_assoc, append-nil, Bool, true, false, arith}
-use Rattle.std.specs.Option.{option_map}
-use Rattle.std.specs.List.{filter_map, cons_option}
-use Rattle.std.proofs.lemmas.Grind.{common_steps}
+use Rattle.std.specs.List.{cons_option}
 use Rattle.std.proofs.lemmas.Bool.Decides.{nat_tests}
 use Rattle.std.proofs.lemmas.List.Elements.{filter_map-append}
 use Rattle.std.proofs.Math.Seq.{drop-append_seam}
@@ -11,7 +9,7 @@ use Rattle.wrp_io.specs.declared.link.LinkCall.{LinkCall}
 use Rattle.wrp_io.specs.declared.link.LinkCall.TheVariants.{Start, Send, Receive}
 use Rattle.wrp_io.specs.declared.queue.Held.{Held}
 use Rattle.wrp_io.specs.Link.{other_end, Waits, PutsAt, TakesFrom, FindsNone}
-use Rattle.wrp_io.specs.Waiting.{sent_by, received_by, sent_to, received_at, waiting_at, waiting_of}
+use Rattle.wrp_io.specs.Waiting.{sent_by, received_by, received_at, waiting_at, waiting_of}
 use Rattle.wrp_io.specs.Queue.{held_for, held_at, Carries, TakesFirst}
 use Rattle.wrp_io.proofs.QueueLemmas.{own, foreign}
 

@@ -1,6 +1,6 @@
 -- The queue of a link in memory: taking out the first frame that is held for an end.
-use Rattle.std.proofs.Common.{◌≡◌, ◌≢◌, ◌+◌, ◌<◌, ◌≤◌, ◌==◌, nat_lt, ℕ, List, [], ◌∷◌, ◌++◌, length, take, drop, get_or, Option, Some, None, refl, sym, ap, ◌∙◌, eq-eqb, suc, Bool, true, false, cond, subst, arith, rules}
-use Rattle.std.specs.List.{position, position_or_len, remove, filter_map, cons_option}
+use Rattle.std.proofs.Common.{◌≡◌, ◌≢◌, ◌+◌, ◌<◌, ◌≤◌, ◌==◌, ℕ, List, [], ◌∷◌, ◌++◌, length, take, drop, get_or, Some, None, refl, sym, ap, ◌∙◌, eq-eqb, suc, true, false, subst, arith}
+use Rattle.std.specs.List.{position, position_or_len, remove, cons_option}
 use Rattle.std.proofs.lemmas.Grind.{common_steps}
 use Rattle.std.proofs.lemmas.Bool.Decides.{nat_tests}
 use Rattle.std.proofs.lemmas.List.Elements.{filter_map-append}

@@ -1,5 +1,5 @@
 -- The numbered calls of an object in memory, and which of them fail (this project's profile).
-use Rattle.std.specs.Prelude.{◌≡◌, ℕ, ◌+◌, min, ◌⊎◌, ◌↔◌, List, Contains, IsTrue, Bool, Result, IsErr, OnOk, OnErr}
+use Rattle.std.specs.Prelude.{ℕ, ◌+◌, min, List, Contains}
 use Rattle.wrp_io.specs.Faults.{greatest_count}
 
 -- one more, up to the greatest count

@@ -1,7 +1,7 @@
 -- Counts of faults: a call fails only where the count of its object rose (this project's profile).
-use Rattle.std.specs.Prelude.{◌≡◌, ◌⊎◌, ℕ, ◌-◌, ◌^◌, ◌<◌, ◌≤◌, Result, Ok, Err, IsErr}
+use Rattle.std.specs.Prelude.{◌≡◌, ◌⊎◌, ℕ, ◌-◌, ◌^◌, ◌<◌, ◌≤◌, Result, Err, IsErr}
 use Rattle.wrp_io.specs.declared.link.StartFault.{StartFault}
-use Rattle.wrp_io.specs.declared.link.StartFault.TheVariants.{Failed, Memory}
+use Rattle.wrp_io.specs.declared.link.StartFault.TheVariants.{Failed}
 
 -- the greatest count, where it stays
 abbrev pub greatest_count : ℕ

@@ -3,7 +3,7 @@
 use Rattle.std.specs.Prelude.{ℕ, ◌==◌, if◌then◌else◌, List, filter_map, length, drop, Option, Some, None}
 use Rattle.std.specs.Option.{option_map}
 use Rattle.wrp_io.specs.declared.link.LinkCall.{LinkCall}
-use Rattle.wrp_io.specs.declared.link.LinkCall.TheVariants.{Start, Send, Receive}
+use Rattle.wrp_io.specs.declared.link.LinkCall.TheVariants.{Send, Receive}
 use Rattle.wrp_io.specs.Link.{other_end, Waiting}
 
 -- the octets that a call sent to this end

@@ -8,7 +8,7 @@ use std::marker::Model;
 
 /// How many calls were made, which of them fail, and how many failed. Both counts stay at their
 /// greatest value.
-#[derive(Debug, Drop)]
+#[derive(Drop)]
 pub(crate) struct Calls {
     made: u64,
     fails: Vec<u32>,

@@ -1,7 +1,8 @@
 //! The outside of `wrnet` as three traits, each with a meaning that contracts can cite: a `Source`
 //! of octets, a `Sink` of octets and a `Link` that carries frames between the ends of a network's
-//! links. Objects in memory tell their octets; the adapters over std's readers and writers are the
-//! trusted edge and tell none. The whole is this project's profile.
+//! links. Objects in memory tell what they hold, and fail exactly where they are told to. The
+//! adapters over std's readers and writers are the trusted edge. The whole is this project's
+//! profile.
 #![tactic(auto)]
 
 mod adapters;

@@ -3,6 +3,7 @@ ghost use Rattle.std.specs.Prelude.{Option, Some, Ok, true, ◌≡◌, ◌≢◌
 ghost use Rattle.wrp_io.specs.Faults.{HasCause, IsFailedStart};
 ghost use Rattle.wrp_io.specs.Link.{other_end, frame_of, answered, Tells, Waits, Sends, Receives};
 ghost use Rattle.wrp_io.specs.Waiting.{waiting_of};
+ghost use Rattle.wrp_io.specs.Queue.{Keeps};
 ghost use Rattle.wrp_io.specs.Memory.{LinkAt, LinkFails, with_call, with_fault};
 
 use crate::calls::Calls;
@@ -13,8 +14,8 @@ use std::alloc::{AllocError, Global};
 use std::marker::Model;
 use wrp_base::Frame;
 
-/// A link that takes a number of calls, and carries what is sent from one end of a link to the other
-/// end. It tells its calls, and what waits at its ends.
+/// A link that takes a number of calls, and carries what is sent from one end of a link to its
+/// other end. It tells its calls, and what waits at its ends.
 #[derive(Drop)]
 pub struct MemLink {
     told: Vec<LinkCall>,
@@ -24,12 +25,7 @@ pub struct MemLink {
 }
 
 impl Model for MemLink {
-    ghost use Rattle.wrp_io.specs.Memory.{LinkAt};
-    ghost use Rattle.std.specs.Prelude.{vec_capacity};
-
     ghost Value = { LinkAt };
-
-    ghost use Rattle.wrp_io.specs.Queue.{Keeps};
 
     ghost view = { λ s. record { told = s.told.items; room = s.room; calls = s.calls } };
 

@@ -5,7 +5,7 @@ ghost use Rattle.wrp_io.specs.Queue.{TakesFirst};
 use wrp_base::Frame;
 
 /// A frame that is held until it is received.
-#[derive(Debug, Drop)]
+#[derive(Drop)]
 pub(crate) struct Held {
     /// The end at which it waits.
     pub(crate) end: u32,

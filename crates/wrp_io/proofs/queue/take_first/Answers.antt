@@ -1,7 +1,5 @@
 -- What the search found is the first frame that is held for the end.
-use Rattle.std.proofs.Common.{◌≡◌, ◌∙◌, sym, ap, rules, subst, List}
-use Rattle.wrp_io.specs.declared.queue.Held.{Held}
-use Rattle.wrp_io.specs.Queue.{TakesFirst}
+use Rattle.std.proofs.Common.{rules}
 use Rattle.wrp_io.proofs.QueueLemmas.{none_held, first_held}
 use Rattle.wrp_io.proofs.queue.take_first.Goals as goal
 

@@ -1,5 +1,5 @@
 -- A recv takes its frame out of the queue.
-use Rattle.std.proofs.Common.{◌≡◌, ◌++◌, ◌∷◌, [], is_some, MatchBool, sym, subst, ap, arith}
+use Rattle.std.proofs.Common.{is_some, MatchBool, sym, subst, ap, arith}
 use Rattle.std.proofs.lemmas.Grind.{common_steps}
 use Rattle.wrp_io.specs.Link.{Waiting, TakesFrom, FindsNone}
 use Rattle.wrp_io.specs.Waiting.{waiting_of}

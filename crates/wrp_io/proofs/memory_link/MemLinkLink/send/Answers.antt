@@ -1,5 +1,5 @@
 -- A send puts its octets into the queue.
-use Rattle.std.proofs.Common.{◌≡◌, ◌++◌, ◌∷◌, [], subst, ap, arith}
+use Rattle.std.proofs.Common.{subst, ap, arith}
 use Rattle.std.proofs.lemmas.Grind.{common_steps}
 use Rattle.wrp_io.specs.declared.queue.Held.{Held}
 use Rattle.wrp_io.specs.Link.{other_end, PutsAt}

@@ -1,7 +1,6 @@
 -- A start moves nothing.
-use Rattle.std.proofs.Common.{◌≡◌, ◌++◌, ◌∷◌, [], subst, ap, arith}
+use Rattle.std.proofs.Common.{subst, ap, arith}
 use Rattle.std.proofs.lemmas.Grind.{common_steps}
-use Rattle.wrp_io.specs.declared.link.LinkCall.TheVariants.{Start}
 use Rattle.wrp_io.specs.Link.{Waits}
 use Rattle.wrp_io.specs.Waiting.{waiting_of}
 use Rattle.wrp_io.specs.Queue.{Carries}
