@@ -1,3 +1,4 @@
+pub mod DropLaws
 pub mod LineLemmas
 pub mod OneAnswer
 pub mod Parts

@@ -1,4 +1,5 @@
 pub mod Answer
+pub mod Drops
 pub mod Fields
 pub mod Frames
 pub mod History

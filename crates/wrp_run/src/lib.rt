@@ -6,6 +6,7 @@
 mod command;
 mod fields;
 mod frames;
+mod laws;
 mod line;
 mod network;
 mod nodes;
@@ -18,6 +19,7 @@ mod words;
 mod writing;
 
 pub use command::run;
+pub use laws::drop_changes_only_its_counter;
 pub use status::Status;
 
 #[cfg(test)]
