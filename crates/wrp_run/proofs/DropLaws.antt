@@ -1,5 +1,5 @@
 -- A dropped frame changes the counter of its reason, and nothing else.
-use Rattle.std.proofs.Common.{◌≡◌, ℕ, ◌+◌, ◌%◌, ◌<◌, true, List, [], ◌∷◌, Option, None, Some, Result, Ok, Err, length, refl, sym, ap, ◌∙◌, subst, arith}
+use Rattle.std.proofs.Common.{◌≡◌, ℕ, ◌+◌, ◌%◌, ◌<◌, true, List, [], ◌∷◌, Some, Ok, Err, refl, ap, arith}
 use Rattle.std.specs.Str.{bytes_eq}
 use Rattle.std.proofs.Math.Nat.{mod-lt}
 use Rattle.wrp_base.specs.declared.link.LinkWord.{LinkWord}
@@ -8,13 +8,10 @@ use Rattle.wrp_base.specs.declared.link.LinkState.TheVariants.{Idle, Present, SL
 use Rattle.wrp_base.specs.declared.message.PtpMsg.{PtpMsg}
 use Rattle.wrp_data.specs.declared.reason.Reason.{Reason}
 use Rattle.wrp_frame.specs.declared.fault.FrameFault.{FrameFault}
-use Rattle.wrp_link.specs.LinkAt.{LinkAt}
-use Rattle.wrp_link.specs.Table.{word_of}
 use Rattle.wrp_run.specs.declared.nodes.Node.{Node}
 use Rattle.wrp_run.specs.declared.records.Record.{Record}
 use Rattle.wrp_run.specs.declared.records.Record.TheVariants.{Reset, Tick, Up, Down as DownOf, Frame}
-use Rattle.wrp_run.specs.Frames.{drop_of, input_unless}
-use Rattle.wrp_run.specs.History.{link_after, word_after, next_sequence, early_reason, late_reason, used_by, input_by, counts_by, counters_after}
+use Rattle.wrp_run.specs.History.{word_after, next_sequence, early_reason, counts_by, counters_after}
 use Rattle.wrp_run.specs.Texts.{word_text}
 use Rattle.wrp_run.specs.Drops.{ChangesOnlyItsCounter, DropChangesOnlyItsCounter}
 

@@ -18,7 +18,7 @@ use Rattle.wrp_run.specs.Statuses.{is_answer}
 use Rattle.wrp_run.specs.Words.{IsReplay, IsCommand}
 use Rattle.wrp_run.specs.Input.{network_text, record_lines}
 use Rattle.wrp_run.specs.Texts.{lines_of_records, text_of, usage_line, bad_network_line, bad_trace_line, too_large_line}
-use Rattle.wrp_run.specs.Answer.{input_limit, Answer, InputAnswer, ReplayAnswer, IsRefusedAfter}
+use Rattle.wrp_run.specs.Answer.{input_limit, Answer, InputAnswer, ReplayAnswer}
 
 -- octets say one thing
 says_one : (octets : List ℕ) (a b : Result PtpMsg FrameFault) → Says octets a → Says octets b → a ≡ b

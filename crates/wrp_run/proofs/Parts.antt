@@ -1,5 +1,5 @@
 -- The parts of a line: how many there are for each record.
-use Rattle.std.proofs.Common.{◌≡◌, ℕ, ◌<◌, ◌≤◌, Option, None, Some, Result, List, [], ◌∷◌, length, MatchOption, codes, refl, ap, subst, sym, arith}
+use Rattle.std.proofs.Common.{◌≡◌, ℕ, ◌<◌, Option, None, Some, Result, List, [], ◌∷◌, length, MatchOption, codes, refl, arith}
 use Rattle.wrp_base.specs.declared.message.PtpMsg.{PtpMsg}
 use Rattle.wrp_frame.specs.declared.fault.FrameFault.{FrameFault}
 use Rattle.wrp_run.specs.declared.records.Record.{Record}
@@ -7,7 +7,7 @@ use Rattle.wrp_run.specs.declared.records.Record.TheVariants.{Reset, Tick, Up, D
 use Rattle.wrp_run.specs.declared.nodes.Node.{Node}
 use Rattle.wrp_run.specs.Fields.{parts_of}
 use Rattle.wrp_run.specs.Frames.{IsHexOf}
-use Rattle.wrp_run.specs.Records.{HasParts, IsUp, IsFrame, IsStamp, IsRecord, IsNoRecord}
+use Rattle.wrp_run.specs.Records.{HasParts, IsStamp, IsRecord, IsNoRecord}
 
 -- fewer than two parts are no record
 pub no_record_of_few : (node : Node) (parts : List (List ℕ)) (found : Record) → length parts < 2 → HasParts node parts found → ⊥

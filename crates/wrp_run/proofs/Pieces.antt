@@ -1,10 +1,10 @@
 -- Pieces of some octets: what stands from a place on, and what follows the next piece.
-use Rattle.std.proofs.Common.{◌≡◌, ℕ, ◌+◌, ◌-◌, ◌<◌, ◌≤◌, min, Bool, true, false, Option, List, [], ◌∷◌, ◌++◌, length, take, drop, refl, sym, ap, ◌∙◌, subst, append_assoc, arith, length-drop, length-take}
+use Rattle.std.proofs.Common.{◌≡◌, ℕ, ◌+◌, ◌-◌, ◌≤◌, min, false, Option, List, ◌∷◌, ◌++◌, length, take, drop, refl, sym, ap, ◌∙◌, subst, append_assoc, arith, length-drop, length-take}
 use Rattle.std.proofs.lemmas.List.{take_all, take-take, drop-drop}
 use Rattle.std.proofs.Math.Seq.{take-add}
 use Rattle.std.proofs.KnownBytes.{Appends-trans}
 use Rattle.std.specs.Io.KnownBytes.{Appends}
-use Rattle.wrp_run.specs.Lines.{lines_of, content_of}
+use Rattle.wrp_run.specs.Lines.{lines_of}
 use Rattle.wrp_run.specs.Input.{is_separator, network_text, before_separator, behind_separator}
 
 -- all that stands from a place on

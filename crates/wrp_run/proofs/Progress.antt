@@ -10,7 +10,7 @@ use Rattle.wrp_run.specs.Replayed.{HasReplayed}
 use Rattle.wrp_run.specs.Texts.{written_by, lines_of_records, record_lines_of, count_lines, bad_trace_line}
 use Rattle.wrp_run.specs.History.{counters_after}
 use Rattle.wrp_data.specs.Counters.{nonzero_counts}
-use Rattle.wrp_run.specs.Answer.{ReplayAnswer, IsRefusedAfter}
+use Rattle.wrp_run.specs.Answer.{ReplayAnswer}
 
 -- of all lines the first are these records, the node holds what they made, and they wrote this text
 pub record Progress (node : Node) (lines rest : List (List ℕ)) (held : ReplayedNode) (text : List ℕ) (number : ℕ) : Type 0 where

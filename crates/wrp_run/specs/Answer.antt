@@ -1,6 +1,6 @@
 -- What is due for the words of the command line and the octets of the input: one status and the octets
 -- that are written (this project's profile).
-use Rattle.std.specs.Prelude.{◌≡◌, ◌≢◌, true, ℕ, ◌+◌, ◌<◌, ◌≤◌, List, [], ◌∷◌, ◌++◌, length}
+use Rattle.std.specs.Prelude.{◌≡◌, ◌≢◌, true, ℕ, ◌+◌, ◌<◌, ◌≤◌, List, ◌∷◌, ◌++◌, length}
 use Rattle.wrp_run.specs.declared.status.Status.{Status}
 use Rattle.wrp_run.specs.declared.status.Status.TheVariants.{Done, Usage, BadNetwork, BadTrace, Broken, TooLarge}
 use Rattle.wrp_run.specs.declared.nodes.Node.{Node}

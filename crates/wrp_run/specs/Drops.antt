@@ -1,5 +1,5 @@
 -- What a dropped frame changes: the counter of its reason, and nothing else (this project's profile).
-use Rattle.std.specs.Prelude.{◌≡◌, ℕ, List, [], ◌∷◌, Some, Result}
+use Rattle.std.specs.Prelude.{◌≡◌, List, [], ◌∷◌, Some, Result}
 use Rattle.wrp_base.specs.declared.message.PtpMsg.{PtpMsg}
 use Rattle.wrp_data.specs.declared.reason.Reason.{Reason}
 use Rattle.wrp_data.specs.Counters.{counts_after}

@@ -1,7 +1,7 @@
 -- What stands at a node after a history of records, by a look back from the newest: the link of its port,
 -- its tick count, the sequenceId of its next Signaling and its counters of dropped frames (this project's
 -- profile).
-use Rattle.std.specs.Prelude.{ℕ, ◌+◌, ◌%◌, Bool, true, false, List, [], ◌∷◌, length, Option, None, Some, Result, Ok, Err}
+use Rattle.std.specs.Prelude.{ℕ, ◌+◌, ◌%◌, Bool, true, false, List, [], ◌∷◌, length, Option, None, Some, Ok, Err}
 use Rattle.wrp_base.specs.declared.link.LinkWord.{LinkWord}
 use Rattle.wrp_base.specs.declared.message.WrMsg.{WrMsg}
 use Rattle.wrp_data.specs.Counters.{no_counts, counts_after}

@@ -1,5 +1,5 @@
 -- The first LF ends the first line; where there is none, all octets are one line.
-use Rattle.std.proofs.Common.{◌≡◌, ◌∙◌, ◌∷◌, [], length, take, drop, ap, sym, add-one, arith, refl}
+use Rattle.std.proofs.Common.{◌∙◌, ◌∷◌, [], length, take, ap, sym, add-one, arith}
 use Rattle.std.proofs.lemmas.List.{take_all, drop_all}
 use Rattle.wrp_run.specs.Lines.{lines_of}
 use Rattle.wrp_run.proofs.LineLemmas.{lines_of-ended, lines_of-open}

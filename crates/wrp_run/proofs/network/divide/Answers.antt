@@ -1,5 +1,5 @@
 -- The line that was read does not end the network text.
-use Rattle.std.proofs.Common.{◌≡◌, ◌∙◌, ◌+◌, ◌-◌, ◌∷◌, false, length, take, drop, ap, refl, sym, rules, []}
+use Rattle.std.proofs.Common.{◌≡◌, ◌∙◌, ◌+◌, ◌-◌, ◌∷◌, false, take, drop, ap, refl, sym, rules, []}
 use Rattle.std.specs.Str.{bytes_eq}
 use Rattle.wrp_run.specs.Lines.{lines_of}
 use Rattle.wrp_run.specs.Input.{is_separator}

@@ -1,5 +1,5 @@
 -- The line is neither of the two words, and its parts say the rest.
-use Rattle.std.proofs.Common.{◌≡◌, ◌∙◌, ℕ, Option, List, MatchOption, map, ap, subst, rules}
+use Rattle.std.proofs.Common.{◌∙◌, ℕ, List, MatchOption, map, ap, subst, rules}
 use Rattle.wrp_run.specs.declared.records.Record.{Record}
 use Rattle.wrp_run.specs.Records.{HasParts}
 use Rattle.wrp_run.proofs.Parts.{by_parts}

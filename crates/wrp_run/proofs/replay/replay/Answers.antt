@@ -1,5 +1,5 @@
 -- The next line is read, and either its record goes on or it ends the replay.
-use Rattle.std.proofs.Common.{◌≡◌, ◌∙◌, ℕ, ◌+◌, ◌-◌, ◌∷◌, List, [], length, take, drop, map, ap, ap₂, sym, subst, rules, arith}
+use Rattle.std.proofs.Common.{◌≡◌, ◌∙◌, ℕ, ◌+◌, ◌-◌, ◌∷◌, List, length, take, drop, map, ap, sym, subst, rules, arith}
 use Rattle.wrp_run.specs.Lines.{lines_of, content_of}
 use Rattle.wrp_run.proofs.Pieces.{lines_from}
 use Rattle.wrp_run.proofs.Progress.{Progress, begins, goes_on, is_refused}

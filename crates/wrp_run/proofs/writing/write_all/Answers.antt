@@ -1,5 +1,5 @@
 -- What the sink took follows what it took before.
-use Rattle.std.proofs.Common.{rules, arith}
+use Rattle.std.proofs.Common.{rules}
 use Rattle.wrp_run.proofs.Pieces.{written_on}
 use Rattle.wrp_run.proofs.writing.write_all.Goals as goal
 
