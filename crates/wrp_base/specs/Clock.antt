@@ -17,3 +17,7 @@ step_of Mhz62 = 64_000
 abbrev pub periods_per_second : Clock → ℕ
 periods_per_second Mhz125 = 125_000_000
 periods_per_second Mhz62 = 62_500_000
+
+-- the steps of the phase detector in one period
+abbrev pub steps_of_period : ℕ
+steps_of_period = 16_384

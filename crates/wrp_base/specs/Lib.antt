@@ -1,4 +1,9 @@
+pub mod Calls
 pub mod Circle
 pub mod Clock
 pub mod Division
+pub mod Held
+pub mod Lines
 pub mod Message
+pub mod Network
+pub mod Octets

@@ -1,6 +1,7 @@
 -- Messages: which ones can be sent (IEEE 1588-2019, and this project's profile for the Sync).
 use Rattle.std.specs.Prelude.{ℕ, ◌<◌, ◌^◌, ◌≢◌, bit_and}
 use Rattle.wrp_base.specs.declared.time.Ts.{Ts}
+use Rattle.wrp_base.specs.declared.message.PortIdentity.{PortIdentity}
 use Rattle.wrp_base.specs.declared.message.Body.{Body}
 use Rattle.wrp_base.specs.declared.message.Body.TheVariants.{Sync, DelayReq, FollowUp, DelayResp, Announce, Signal}
 use Rattle.wrp_base.specs.declared.message.PtpMsg.{PtpMsg}
@@ -35,3 +36,7 @@ pub record IsSound (message : PtpMsg) : Type 0 where
 -- the body that stands in an unused place
 abbrev pub empty_body : Body
 empty_body = Sync (record { seconds = 0; nanos = 0 })
+
+-- the portIdentity of all ones, which stands for every port of every clock
+abbrev pub every_port : PortIdentity
+every_port = record { clock = 0xffff_ffff_ffff_ffff; port = 0xffff }

@@ -1,9 +1,10 @@
 //! Exact arithmetic on tau: the only place where anything is rounded, and the few operations whose
 //! results are known to fit.
-ghost use Rattle.std.specs.Prelude.{◌≡◌, ℕ, ℤ, pos, ◌+◌, ◌^◌, ◌<◌, ◌≤◌, ◌≤ℤ◌, ◌<ℤ◌, ◌+ℤ◌, ◌-ℤ◌, ◌*ℤ◌, unsigned_abs};
-ghost use Rattle.std.specs.Int.{int_rem_euclid};
-ghost use Rattle.wrp_base.specs.Division.{floor_quotient, ceil_quotient};
+ghost use Rattle.std.specs.Prelude.{◌≡◌, ℕ, ℤ, pos, ◌+◌, ◌^◌, ◌<◌, ◌≤◌, ◌≤ℤ◌, ◌<ℤ◌, ◌+ℤ◌, ◌-ℤ◌, ◌*ℤ◌, neg_ℤ, unsigned_abs, FitsSigned};
+ghost use Rattle.std.specs.Int.{int_rem_euclid, w64};
+ghost use Rattle.wrp_base.specs.Division.{floor_quotient, ceil_quotient, trunc_quotient};
 ghost use Rattle.wrp_base.specs.Circle.{distance_round};
+ghost use Rattle.wrp_base.specs.Held.{held_within};
 
 use crate::{Clock, Tau};
 
@@ -25,6 +26,15 @@ pub fn ceil_div(a: i128, b: i128) -> i128
     ensures next { (b *ℤ result) <ℤ (a +ℤ b) }
 {
     if 0 < a { (a - 1) / b + 1 } else { a / b }
+}
+
+/// `a / b` rounded towards zero.
+pub fn trunc_div(a: i128, b: i128) -> i128
+    requires { pos 0 <ℤ b }
+    ensures value { result ≡ trunc_quotient a b }
+    ensures size { unsigned_abs result ≤ unsigned_abs a }
+{
+    a / b
 }
 
 /// The distance of `a` and `b` round the period, in tau: from 0 to half a period.
@@ -79,20 +89,37 @@ pub fn difference(a: i128, b: i128) -> i128
     a - b
 }
 
+/// `x` held within `-limit` to `limit`; `limit` is not negative.
+pub fn hold(limit: i128, x: i128) -> i128
+    requires { pos 0 ≤ℤ limit }
+    ensures value { result ≡ held_within limit x }
+    ensures size { unsigned_abs result ≤ unsigned_abs limit }
+{
+    x.min(limit).max(-limit)
+}
+
+/// The same number in 64 bits, where it is known to fit.
+pub fn narrow(a: i128) -> i64
+    requires { FitsSigned w64 a }
+    ensures { result ≡ a }
+{
+    a as i64
+}
+
 #[cfg(test)]
 mod tests {
     use super::*;
 
-    // a, b, a / b rounded down, a / b rounded up
-    const QUOTIENTS: [(i128, i128, i128, i128); 8] = [
-        (0, 5, 0, 0),
-        (7, 2, 3, 4),
-        (-7, 2, -4, -3),
-        (6, 3, 2, 2),
-        (-6, 3, -2, -2),
-        (1, 1_000_000_000_000, 0, 1),
-        (-1, 1_000_000_000_000, -1, 0),
-        (i128::MIN, 1, i128::MIN, i128::MIN),
+    // a, b, a / b rounded down, up, and towards zero
+    const QUOTIENTS: [(i128, i128, i128, i128, i128); 8] = [
+        (0, 5, 0, 0, 0),
+        (7, 2, 3, 4, 3),
+        (-7, 2, -4, -3, -3),
+        (6, 3, 2, 2, 2),
+        (-6, 3, -2, -2, -2),
+        (1, 1_000_000_000_000, 0, 1, 0),
+        (-1, 1_000_000_000_000, -1, 0, 0),
+        (i128::MIN, 1, i128::MIN, i128::MIN, i128::MIN),
     ];
 
     // a, b, the distance round the period of 125 MHz
@@ -107,11 +134,14 @@ mod tests {
 
     #[test]
     fn quotients(rt: HostRuntime) {
-        for (a, b, down, up) in QUOTIENTS {
+        for (a, b, down, up, inwards) in QUOTIENTS {
             assert!(rt; b > 0);
             assert_eq!(rt; floor_div(a, b), down, "{a} / {b} down");
             assert_eq!(rt; ceil_div(a, b), up, "{a} / {b} up");
+            assert_eq!(rt; trunc_div(a, b), inwards, "{a} / {b} towards zero");
         }
+        assert_eq!(rt; (hold(5, 6), hold(5, -6), hold(5, -5)), (5, -5, -5));
+        assert_eq!(rt; narrow(-9_223_372_036_854_775_808), i64::MIN);
     }
 
     #[test]

@@ -1,6 +1,25 @@
-//! Why a line was refused.
+//! Why a line, a network file or a calibration text was refused.
+use arrayvec::ArrayString;
 use std::alloc::AllocError;
 use thiserror::Error;
+
+/// Why a network file or a calibration text was refused (codes and places are this project's
+/// profile).
+#[derive(Debug, Drop, Error)]
+pub enum ConfFault {
+    /// The text has a fault: the least code that it has, at the first place that has this code.
+    #[error("fault {code} at {place}")]
+    Fault {
+        /// 1 Syntax, 2 UnknownKey, 3 Missing, 4 Range, 5 Twice, 7 NotATree, 8 TwoSlaves, 9 TooDeep,
+        /// 10 Clash.
+        code: u8,
+        /// The key, the table or the inequality, as `node.2.slew`; `-` for Syntax.
+        place: ArrayString<96>,
+    },
+    /// There was no memory.
+    #[error("out of memory")]
+    Memory(AllocError),
+}
 
 /// Why a line is no record. A field is its place from 1.
 #[derive(Debug, Drop, Error)]

@@ -6,6 +6,9 @@ ghost use Rattle.std.specs.Prelude.{◌≡◌};
 use crate::Ts;
 use arrayvec::ArrayVec;
 
+/// How many octets a frame has room for (this project's profile).
+pub const FRAME_ROOM: usize = 256;
+
 /// The octets of one frame, from majorSdoId and messageType on: at most 256.
 pub type Frame = ArrayVec<u8, 256>;
 
@@ -17,6 +20,12 @@ pub struct PortIdentity {
     /// portNumber: 1 to 18 in this project's profile; 65,535 stands for every port.
     pub port: u16,
 }
+
+/// The portIdentity of all ones, which stands for every port of every clock (IEEE 1588-2019).
+pub const EVERY_PORT: PortIdentity = PortIdentity {
+    clock: u64::MAX,
+    port: u16::MAX,
+};
 
 /// A White Rabbit message of link setup, carried by a Signaling.
 #[derive(Clone, Copy, Debug, Default, PartialEq, Eq)]

@@ -35,6 +35,9 @@ pub struct Raw {
     pub tag: u16,
 }
 
+/// The steps of the phase detector in one period (this project's profile).
+pub const STEPS_OF_PERIOD: u16 = 16_384;
+
 /// The clock of a network (this project's profile).
 #[derive(Clone, Copy, Debug, Default, PartialEq, Eq)]
 pub enum Clock {
