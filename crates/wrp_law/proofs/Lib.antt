@@ -1,0 +1,4 @@
+mod Between
+mod Segments
+mod Tables
+mod Walk
