@@ -12,7 +12,6 @@ use Rattle.wrp_base.specs.declared.message.Body.TheVariants.{Sync, DelayReq, Fol
 use Rattle.wrp_base.specs.declared.message.PtpMsg.{PtpMsg}
 use Rattle.wrp_base.specs.Message.{IsSound, HasFittingTimes, HasTwoStepFlag}
 use Rattle.byteorder.specs.Endian.{big_bytes}
-use Rattle.wrp_tlv.specs.declared.tlv.TheConstants.{ORGANIZATION_EXTENSION}
 use Rattle.wrp_tlv.specs.TlvList.{Fills, tlv_octets, extension}
 use Rattle.wrp_tlv.specs.WhiteRabbit.{wr_value, suffix_value}
 use Rattle.wrp_tlv.specs.WhiteRabbitList.{read_of, is_bad, message_or, suffix_or, first_message, first_suffix}
@@ -100,7 +99,7 @@ body_read size head (Signal target wr) rest fits back =
 -- a value of few octets fills what it is sent as
 value_fills : (value : List ℕ) → length value < 256 ^ 2 → Fills (extension value ∷ []) (octets_of_tlvs (extension value ∷ []))
 value_fills value fits =
-    (big_bytes 2 ORGANIZATION_EXTENSION ++ big_bytes 2 (length value), [], refl, record { whole = refl; kind = refl; long = sym (same 2 (length value) fits) }, refl)
+    (big_bytes 2 0x0003 ++ big_bytes 2 (length value), [], refl, record { whole = refl; kind = refl; long = sym (same 2 (length value) fits) }, refl)
 
 message_fits : (message : WrMsg) → length (wr_value message) < 25
 message_fits Present = omega arith

@@ -6,7 +6,6 @@ use Rattle.wrp_frame.specs.declared.fault.FrameFault.{FrameFault}
 use Rattle.wrp_frame.specs.declared.fault.FrameFault.TheVariants.{Short, Version, Kind, Length, Time, Tlv, BadWr, OneStep}
 use Rattle.wrp_frame.specs.declared.message_type.MessageType.{MessageType}
 use Rattle.wrp_frame.specs.declared.message_type.MessageType.TheVariants.{Sync}
-use Rattle.wrp_frame.specs.declared.places.TheConstants.{HEADER_LENGTH, PTP_VERSION, TIMESTAMP_AT, NANOS_PER_SECOND}
 use Rattle.wrp_frame.specs.Fields.{timestamp_at}
 use Rattle.wrp_frame.specs.MessageTypes.{has_timestamp, least_length}
 use Rattle.wrp_frame.specs.Header.{HasHeader, version_of, kind_of, message_length}
@@ -84,10 +83,10 @@ one_more octets fault n is below not other low has =
 pub kind_is_one : (octets : List ℕ) (kind other : MessageType) → HasHeader kind octets → kind_of octets ≡ Some other → other ≡ kind
 kind_is_one octets kind other header is = let own = header.kind_is in cc
 
-not_short : (octets : List ℕ) → HEADER_LENGTH ≤ length octets → HasNoneBelow 2 octets
-not_short octets long = one_more octets Short 1 refl (none_below_first octets) (λ (short : length octets < HEADER_LENGTH). omega arith)
+not_short : (octets : List ℕ) → 34 ≤ length octets → HasNoneBelow 2 octets
+not_short octets long = one_more octets Short 1 refl (none_below_first octets) (λ (short : length octets < 34). omega arith)
 
-not_version : (octets : List ℕ) → HEADER_LENGTH ≤ length octets → version_of octets ≡ PTP_VERSION → HasNoneBelow 3 octets
+not_version : (octets : List ℕ) → 34 ≤ length octets → version_of octets ≡ 2 → HasNoneBelow 3 octets
 not_version octets long version = one_more octets Version 2 refl (not_short octets long) (λ other. other version)
 
 not_kind : (octets : List ℕ) (kind : MessageType) → HasHeader kind octets → HasNoneBelow 4 octets
@@ -135,13 +134,13 @@ no_fault octets kind tlvs header sized time listed two_step fault has =
     (λ has. let (sync, one_step) = own_fault octets kind OneStep header has in one_step (two_step sync))
     fault (at_most fault) has
 
-pub first_short : (octets : List ℕ) → length octets < HEADER_LENGTH → IsFirstFault Short octets
+pub first_short : (octets : List ℕ) → length octets < 34 → IsFirstFault Short octets
 first_short octets short = record { has = short; none_before = none_below_first octets }
 
-pub first_version : (octets : List ℕ) → HEADER_LENGTH ≤ length octets → version_of octets ≢ PTP_VERSION → IsFirstFault Version octets
+pub first_version : (octets : List ℕ) → 34 ≤ length octets → version_of octets ≢ 2 → IsFirstFault Version octets
 first_version octets long version = record { has = version; none_before = not_short octets long }
 
-pub first_kind : (octets : List ℕ) → HEADER_LENGTH ≤ length octets → version_of octets ≡ PTP_VERSION → kind_of octets ≡ None → IsFirstFault Kind octets
+pub first_kind : (octets : List ℕ) → 34 ≤ length octets → version_of octets ≡ 2 → kind_of octets ≡ None → IsFirstFault Kind octets
 first_kind octets long version none = record { has = none; none_before = not_version octets long version }
 
 pub first_low : (octets : List ℕ) (kind : MessageType) → HasHeader kind octets → message_length octets < least_length kind → IsFirstFault Length octets
@@ -153,7 +152,7 @@ first_high octets kind header high =
     record { has = (kind, header.kind_is, inr high); none_before = not_kind octets kind header }
 
 pub first_time : (octets : List ℕ) (kind : MessageType) → HasHeader kind octets → HasLength kind octets
-    → has_timestamp kind ≡ true → NANOS_PER_SECOND ≤ (timestamp_at TIMESTAMP_AT octets).nanos → IsFirstFault Time octets
+    → has_timestamp kind ≡ true → 1_000_000_000 ≤ (timestamp_at 34 octets).nanos → IsFirstFault Time octets
 first_time octets kind header sized stamped late =
     record { has = (kind, header.kind_is, (stamped, late)); none_before = not_length octets kind header sized }
 

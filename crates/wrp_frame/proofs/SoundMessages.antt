@@ -8,7 +8,6 @@ use Rattle.wrp_base.specs.Message.{IsSound, FitsTimestamp}
 use Rattle.wrp_frame.specs.declared.fault.FrameFault.{FrameFault}
 use Rattle.wrp_frame.specs.declared.message_type.MessageType.{MessageType}
 use Rattle.wrp_frame.specs.declared.message_type.MessageType.TheVariants.{Sync, DelayReq, FollowUp, DelayResp, Announce, Signaling}
-use Rattle.wrp_frame.specs.declared.places.TheConstants.{TIMESTAMP_AT}
 use Rattle.wrp_tlv.specs.TlvList.{TypedValue}
 use Rattle.wrp_frame.specs.Fields.{timestamp_at}
 use Rattle.wrp_frame.specs.Body.{message_at}
@@ -18,7 +17,7 @@ use Rattle.wrp_frame.specs.Grammar.{Spells, HasTime, IsTwoStep}
 abbrev pub AreOctets : List ℕ → Type 0
 AreOctets octets = (i : ℕ) → slice_index octets i < 256
 
-fits_time : (octets : List ℕ) → AreOctets octets → (timestamp_at TIMESTAMP_AT octets).nanos < 1_000_000_000 → FitsTimestamp (timestamp_at TIMESTAMP_AT octets)
+fits_time : (octets : List ℕ) → AreOctets octets → (timestamp_at 34 octets).nanos < 1_000_000_000 → FitsTimestamp (timestamp_at 34 octets)
 fits_time octets small nanos = (big_from-lt 0 6 (drop 34 octets) (λ k. let octet = small (34 + k) in rw (get_or-drop 34 octets k 0) octet), nanos)
 
 sound_at : (kind : MessageType) (tlvs : List TypedValue) (octets : List ℕ) → AreOctets octets → HasTime kind octets → (kind ≡ Sync → IsTwoStep octets) → IsSound (message_at kind tlvs octets)

@@ -6,35 +6,37 @@ use Rattle.wrp_base.specs.declared.message.Body.TheVariants as bodies
 use Rattle.wrp_base.specs.declared.message.PtpMsg.{PtpMsg}
 use Rattle.wrp_frame.specs.declared.message_type.MessageType.{MessageType}
 use Rattle.wrp_frame.specs.declared.message_type.MessageType.TheVariants.{Sync, DelayReq, FollowUp, DelayResp, Announce, Signaling}
-use Rattle.wrp_frame.specs.declared.places.TheConstants.{TIMESTAMP_AT, TARGET_AT, REQUESTING_AT, UTC_OFFSET_AT, PRIORITY1_AT, QUALITY_AT, PRIORITY2_AT, GRANDMASTER_AT, STEPS_AT, TIME_SOURCE_AT}
 use Rattle.wrp_tlv.specs.Octets.{number_at, signed_16_at}
 use Rattle.wrp_frame.specs.Fields.{timestamp_at, identity_at}
 use Rattle.wrp_frame.specs.Header.{head_at}
 use Rattle.wrp_tlv.specs.TlvList.{TypedValue}
 use Rattle.wrp_tlv.specs.WhiteRabbitList.{first_message, first_suffix}
 
--- the body of an Announce, with the wrFlags of its suffix
+-- the body of an Announce: originTimestamp, currentUtcOffset, grandmasterPriority1,
+-- grandmasterClockQuality, grandmasterPriority2, grandmasterIdentity, stepsRemoved, timeSource, and
+-- the wrFlags of its suffix
 abbrev pub announce_at : Option ℕ → List ℕ → Body
 announce_at suffix octets =
     bodies.Announce
-    (timestamp_at TIMESTAMP_AT octets)
-    (signed_16_at UTC_OFFSET_AT octets)
-    (slice_index octets PRIORITY1_AT)
-    (number_at QUALITY_AT 4 octets)
-    (slice_index octets PRIORITY2_AT)
-    (number_at GRANDMASTER_AT 8 octets)
-    (number_at STEPS_AT 2 octets)
-    (slice_index octets TIME_SOURCE_AT)
+    (timestamp_at 34 octets)
+    (signed_16_at 44 octets)
+    (slice_index octets 47)
+    (number_at 48 4 octets)
+    (slice_index octets 52)
+    (number_at 53 8 octets)
+    (number_at 61 2 octets)
+    (slice_index octets 63)
     suffix
 
--- the body of the kind
+-- the body of the kind: its Timestamp first; requestingPortIdentity of a Delay_Resp,
+-- targetPortIdentity of a Signaling
 abbrev pub body_at : MessageType → List TypedValue → List ℕ → Body
-body_at Sync tlvs octets = bodies.Sync (timestamp_at TIMESTAMP_AT octets)
-body_at DelayReq tlvs octets = bodies.DelayReq (timestamp_at TIMESTAMP_AT octets)
-body_at FollowUp tlvs octets = bodies.FollowUp (timestamp_at TIMESTAMP_AT octets)
-body_at DelayResp tlvs octets = bodies.DelayResp (timestamp_at TIMESTAMP_AT octets) (identity_at REQUESTING_AT octets)
+body_at Sync tlvs octets = bodies.Sync (timestamp_at 34 octets)
+body_at DelayReq tlvs octets = bodies.DelayReq (timestamp_at 34 octets)
+body_at FollowUp tlvs octets = bodies.FollowUp (timestamp_at 34 octets)
+body_at DelayResp tlvs octets = bodies.DelayResp (timestamp_at 34 octets) (identity_at 44 octets)
 body_at Announce tlvs octets = announce_at (first_suffix tlvs) octets
-body_at Signaling tlvs octets = bodies.Signal (identity_at TARGET_AT octets) (first_message tlvs)
+body_at Signaling tlvs octets = bodies.Signal (identity_at 34 octets) (first_message tlvs)
 
 -- the message of the kind: the header's fields and the body's
 abbrev pub message_at : MessageType → List TypedValue → List ℕ → PtpMsg

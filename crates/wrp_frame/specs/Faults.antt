@@ -6,7 +6,6 @@ use Rattle.wrp_frame.specs.declared.fault.FrameFault.{FrameFault}
 use Rattle.wrp_frame.specs.declared.fault.FrameFault.TheVariants.{Short, Version, Kind, Length, Time, Tlv, BadWr, OneStep}
 use Rattle.wrp_frame.specs.declared.message_type.MessageType.{MessageType}
 use Rattle.wrp_frame.specs.declared.message_type.MessageType.TheVariants.{Sync}
-use Rattle.wrp_frame.specs.declared.places.TheConstants.{HEADER_LENGTH, PTP_VERSION, TIMESTAMP_AT, NANOS_PER_SECOND}
 use Rattle.wrp_frame.specs.Fields.{timestamp_at}
 use Rattle.wrp_frame.specs.MessageTypes.{least_length, has_timestamp, reads_white_rabbit}
 use Rattle.wrp_frame.specs.Header.{version_of, kind_of, message_length}
@@ -17,7 +16,7 @@ use Rattle.wrp_frame.specs.Grammar.{tlv_part, IsTwoStep}
 -- the octets, whose kind is this one, have the fault; the first three faults are of no kind
 abbrev pub HasFaultOf : FrameFault → MessageType → List ℕ → Type 0
 HasFaultOf Length kind octets = (message_length octets < least_length kind) ⊎ (length octets < message_length octets)
-HasFaultOf Time kind octets = (has_timestamp kind ≡ true) × (NANOS_PER_SECOND ≤ (timestamp_at TIMESTAMP_AT octets).nanos)
+HasFaultOf Time kind octets = (has_timestamp kind ≡ true) × (1_000_000_000 ≤ (timestamp_at 34 octets).nanos)
 HasFaultOf Tlv kind octets = IsFilledByNone (tlv_part kind octets)
 HasFaultOf BadWr kind octets =
     (reads_white_rabbit kind ≡ true)
@@ -27,8 +26,8 @@ HasFaultOf _ kind octets = ⊥
 
 -- the octets have the fault, whatever other faults they have
 abbrev pub HasFault : FrameFault → List ℕ → Type 0
-HasFault Short octets = length octets < HEADER_LENGTH
-HasFault Version octets = version_of octets ≢ PTP_VERSION
+HasFault Short octets = length octets < 34
+HasFault Version octets = version_of octets ≢ 2
 HasFault Kind octets = kind_of octets ≡ None
 HasFault fault octets = (kind : MessageType) × (kind_of octets ≡ Some kind) × HasFaultOf fault kind octets
 

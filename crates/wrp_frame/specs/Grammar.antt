@@ -5,7 +5,6 @@ use Rattle.std.specs.List.{list_any}
 use Rattle.wrp_base.specs.declared.message.PtpMsg.{PtpMsg}
 use Rattle.wrp_frame.specs.declared.message_type.MessageType.{MessageType}
 use Rattle.wrp_frame.specs.declared.message_type.MessageType.TheVariants.{Sync}
-use Rattle.wrp_frame.specs.declared.places.TheConstants.{TWO_STEP, FLAGS_AT, TIMESTAMP_AT, NANOS_PER_SECOND}
 use Rattle.wrp_tlv.specs.Octets.{number_at}
 use Rattle.wrp_frame.specs.Fields.{timestamp_at}
 use Rattle.wrp_frame.specs.MessageTypes.{least_length, has_timestamp, reads_white_rabbit}
@@ -21,7 +20,7 @@ pub record HasLength (kind : MessageType) (octets : List ℕ) : Type 0 where
 
 -- the nanosecondsField of a kind that has one is below a second
 abbrev pub HasTime : MessageType → List ℕ → Type 0
-HasTime kind octets = has_timestamp kind ≡ true → (timestamp_at TIMESTAMP_AT octets).nanos < NANOS_PER_SECOND
+HasTime kind octets = has_timestamp kind ≡ true → (timestamp_at 34 octets).nanos < 1_000_000_000
 
 -- the octets between the body and messageLength
 abbrev pub tlv_part : MessageType → List ℕ → List ℕ
@@ -33,9 +32,9 @@ pub record HasTlvs (kind : MessageType) (tlvs : List TypedValue) (octets : List 
   pub filled : Fills tlvs (tlv_part kind octets)
   pub sound : reads_white_rabbit kind ≡ true → list_any (λ tlv. is_bad (read_of tlv)) tlvs ≡ false
 
--- twoStepFlag is set
+-- twoStepFlag is set in flagField
 abbrev pub IsTwoStep : List ℕ → Type 0
-IsTwoStep octets = bit_and (number_at FLAGS_AT 2 octets) TWO_STEP ≢ 0
+IsTwoStep octets = bit_and (number_at 6 2 octets) 0x0200 ≢ 0
 
 -- the octets spell the message: a header and a body of its kind, a list of whole TLVs up to
 -- messageLength, then any padding

@@ -6,7 +6,6 @@ use Rattle.wrp_tlv.specs.Octets.{number_at}
 use Rattle.wrp_tlv.specs.TlvList.{Fills}
 use Rattle.wrp_frame.specs.declared.message_type.MessageType.{MessageType}
 use Rattle.wrp_frame.specs.declared.message_type.MessageType.TheVariants.{Announce}
-use Rattle.wrp_frame.specs.declared.places.TheConstants.{MESSAGE_TYPE_AT, VERSION_AT, PTP_VERSION, SDO_ID_AT, SPECIFIC_AT, CONTROL_AT, RESERVED_AT}
 use Rattle.wrp_frame.specs.Grammar.{tlv_part}
 use Rattle.wrp_frame.specs.Header.{message_length}
 use Rattle.wrp_frame.specs.MessageTypes.{number_of, control_of, kind_of_body}
@@ -15,13 +14,13 @@ use Rattle.wrp_frame.specs.SentOctets.{tlvs_of}
 -- the octets are those of a message of this kind as it is sent
 pub record IsSent (kind : MessageType) (octets : List ℕ) : Type 0 where
   -- the high nibbles are 0
-  pub number : slice_index octets MESSAGE_TYPE_AT ≡ number_of kind
-  pub version : slice_index octets VERSION_AT ≡ PTP_VERSION
+  pub number : slice_index octets 0 ≡ number_of kind
+  pub version : slice_index octets 1 ≡ 2
   -- minorSdoId, messageTypeSpecific and the reserved octet of an Announce are 0
-  pub sdo_id : slice_index octets SDO_ID_AT ≡ 0
-  pub specific : number_at SPECIFIC_AT 4 octets ≡ 0
-  pub reserved : kind ≡ Announce → slice_index octets RESERVED_AT ≡ 0
-  pub control : slice_index octets CONTROL_AT ≡ control_of kind
+  pub sdo_id : slice_index octets 5 ≡ 0
+  pub specific : number_at 16 4 octets ≡ 0
+  pub reserved : kind ≡ Announce → slice_index octets 46 ≡ 0
+  pub control : slice_index octets 32 ≡ control_of kind
   -- messageLength is the number of octets: there is no padding
   pub whole : message_length octets ≡ length octets
 

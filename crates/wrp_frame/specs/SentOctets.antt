@@ -13,7 +13,6 @@ use Rattle.wrp_base.specs.declared.message.PtpMsg.{PtpMsg}
 use Rattle.wrp_tlv.specs.TlvList.{TypedValue, tlv_octets, extension}
 use Rattle.wrp_tlv.specs.WhiteRabbit.{wr_value, suffix_value}
 use Rattle.wrp_frame.specs.declared.message_type.MessageType.{MessageType}
-use Rattle.wrp_frame.specs.declared.places.TheConstants.{PTP_VERSION}
 use Rattle.wrp_frame.specs.MessageTypes.{number_of, control_of, kind_of_body, least_length}
 
 -- with a Timestamp: 48 bits of seconds and 32 of nanoseconds
@@ -27,7 +26,7 @@ with_identity octets i = (octets ++ big_bytes 8 i.clock) ++ big_bytes 2 i.port
 -- octets 0 to 7: messageType, version, messageLength, domainNumber, a reserved octet, flags
 abbrev pub with_head_start : List ℕ → MessageType → ℕ → Head → List ℕ
 with_head_start octets kind size head =
-    (((((octets ++ big_bytes 1 (number_of kind)) ++ big_bytes 1 PTP_VERSION) ++ big_bytes 2 size) ++ big_bytes 1 head.domain) ++ big_bytes 1 0) ++ big_bytes 2 head.flags
+    (((((octets ++ big_bytes 1 (number_of kind)) ++ big_bytes 1 2) ++ big_bytes 2 size) ++ big_bytes 1 head.domain) ++ big_bytes 1 0) ++ big_bytes 2 head.flags
 
 -- octets 8 to 33: correctionField, 4 reserved octets, sourcePortIdentity, sequenceId, controlField,
 -- logMessageInterval

@@ -49,7 +49,7 @@ pub fn message_end(octets: &[u8], kind: MessageType) -> Result<usize, FrameFault
 
 /// The fields of the header that a node keeps.
 pub fn head_of(octets: &[u8]) -> Head
-    requires { HEADER_LENGTH ≤ length octets.now }
+    requires { 34 ≤ length octets.now }
     ensures { result ≡ head_at octets.now }
 {
     Head {

@@ -133,7 +133,7 @@ struct Damage {
 const ALL: &[u8] = &[0x0, 0x1, 0x8, 0x9, 0xb, 0xc];
 
 /// In the order of their faults.
-static DAMAGES: [Damage; 9] = [
+static DAMAGES: [Damage; 11] = [
     Damage {
         fault: FrameFault::Short,
         kinds: ALL,
@@ -148,6 +148,16 @@ static DAMAGES: [Damage; 9] = [
         fault: FrameFault::Kind,
         kinds: ALL,
         change: Change::Write(0, &[0x02]),
+    },
+    Damage {
+        fault: FrameFault::Length,
+        kinds: ALL,
+        change: Change::Cut(34),
+    },
+    Damage {
+        fault: FrameFault::Length,
+        kinds: ALL,
+        change: Change::Cut(35),
     },
     Damage {
         fault: FrameFault::Length,

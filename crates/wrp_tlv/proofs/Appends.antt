@@ -2,7 +2,6 @@
 use Rattle.std.proofs.Common.{◌≡◌, ◌++◌, ℕ, List, length, ap, ◌∙◌, append_assoc}
 use Rattle.byteorder.specs.Endian.{big_bytes}
 use Rattle.wrp_base.specs.declared.message.WrMsg.{WrMsg}
-use Rattle.wrp_tlv.specs.declared.tlv.TheConstants.{ORGANIZATION_EXTENSION}
 use Rattle.wrp_tlv.specs.TlvList.{tlv_octets, extension}
 use Rattle.wrp_tlv.specs.WhiteRabbit.{value_start, id_of, data_of, wr_value}
 
@@ -19,7 +18,7 @@ appended_4 old one two three four a b c d first second third fourth =
 
 -- what stands before a value's data
 abbrev pub start_octets : ℕ → ℕ → List ℕ
-start_octets id long = big_bytes 2 ORGANIZATION_EXTENSION ++ (big_bytes 2 long ++ value_start id)
+start_octets id long = big_bytes 2 0x0003 ++ (big_bytes 2 long ++ value_start id)
 
 -- a start and the data are the TLV of the message
 pub message_appended : (old one two : List ℕ) (message : WrMsg) (id long : ℕ) → id ≡ id_of message → long ≡ length (wr_value message)

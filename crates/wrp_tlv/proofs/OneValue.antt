@@ -11,7 +11,6 @@ use Rattle.wrp_base.specs.declared.message.WrMsg.{WrMsg}
 use Rattle.wrp_base.specs.declared.message.WrMsg.TheVariants.{Present, Lock, Locked, ModeOn}
 use Rattle.wrp_tlv.specs.declared.white_rabbit.WrRead.TheVariants.{Wr, Suffix, Other, BadWr}
 use Rattle.wrp_tlv.specs.Octets.{number_at}
-use Rattle.wrp_tlv.specs.declared.white_rabbit.TheConstants.{WHITE_RABBIT, SLAVE_PRESENT, LOCK, LOCKED, CALIBRATE, CALIBRATED, WR_MODE_ON, ANN_SUFIX}
 use Rattle.wrp_tlv.specs.WhiteRabbit.{wr_read, read_by_id, sized, is_white_rabbit, calibrate_at, calibrated_at, wr_value, suffix_value, value_start, AreOctets, HaveOneValue}
 
 -- of two numbers in digits of one base, the first digits are one
@@ -92,8 +91,8 @@ both_true false b is = cc
 start_is : (value : List ℕ) (id : ℕ) → AreOctets value → is_white_rabbit value ≡ true → 8 ≤ length value → number_at 6 2 value ≡ id
     → value ≡ value_start id ++ drop 8 value
 start_is value id octets white long is =
-    from_place 0 6 value WHITE_RABBIT octets (omega arith) (eqb-true (number_at 0 6 value) WHITE_RABBIT (both_true (nat_le 6 (length value)) (number_at 0 6 value == WHITE_RABBIT) white))
-    ∙ ap (λ l. big_bytes 6 WHITE_RABBIT ++ l) (from_place 6 2 value id octets (omega arith) is)
+    from_place 0 6 value 0x0800_30DE_AD01 octets (omega arith) (eqb-true (number_at 0 6 value) 0x0800_30DE_AD01 (both_true (nat_le 6 (length value)) (number_at 0 6 value == 0x0800_30DE_AD01) white))
+    ∙ ap (λ l. big_bytes 6 0x0800_30DE_AD01 ++ l) (from_place 6 2 value id octets (omega arith) is)
 
 bare_is : (value : List ℕ) (id : ℕ) → AreOctets value → is_white_rabbit value ≡ true → number_at 6 2 value ≡ id → length value ≡ 8
     → value ≡ value_start id ++ []
@@ -106,11 +105,11 @@ octet_read at value =
     let octet : slice_index (drop at value) 0 ≡ slice_index value at = get_or-drop at value 0 0 ∙ ap (λ n. slice_index value n) none_more in
     omega (arith, octet)
 
-calibrate_is : (value : List ℕ) → AreOctets value → is_white_rabbit value ≡ true → number_at 6 2 value ≡ CALIBRATE → length value ≡ 14
+calibrate_is : (value : List ℕ) → AreOctets value → is_white_rabbit value ≡ true → number_at 6 2 value ≡ 0x1003 → length value ≡ 14
     → value ≡ wr_value (calibrate_at value)
 calibrate_is value octets white is long =
-    start_is value CALIBRATE octets white (omega arith) is
-    ∙ ap (λ l. value_start CALIBRATE ++ l)
+    start_is value 0x1003 octets white (omega arith) is
+    ∙ ap (λ l. value_start 0x1003 ++ l)
     (from_place 8 1 value (slice_index value 8) octets (omega arith) (octet_read 8 value)
     ∙ ap (λ l. big_bytes 1 (slice_index value 8) ++ l)
     (from_place 9 1 value (slice_index value 9) octets (omega arith) (octet_read 9 value)
@@ -118,21 +117,21 @@ calibrate_is value octets white is long =
     (from_place 10 4 value (number_at 10 4 value) octets (omega arith) refl
     ∙ ap (λ l. big_bytes 4 (number_at 10 4 value) ++ l) (drop_all 14 value (omega arith)))))
 
-calibrated_is : (value : List ℕ) → AreOctets value → is_white_rabbit value ≡ true → number_at 6 2 value ≡ CALIBRATED → length value ≡ 24
+calibrated_is : (value : List ℕ) → AreOctets value → is_white_rabbit value ≡ true → number_at 6 2 value ≡ 0x1004 → length value ≡ 24
     → value ≡ wr_value (calibrated_at value)
 calibrated_is value octets white is long =
-    start_is value CALIBRATED octets white (omega arith) is
-    ∙ ap (λ l. value_start CALIBRATED ++ l)
+    start_is value 0x1004 octets white (omega arith) is
+    ∙ ap (λ l. value_start 0x1004 ++ l)
     (from_place 8 8 value (number_at 8 8 value) octets (omega arith) refl
     ∙ ap (λ l. big_bytes 8 (number_at 8 8 value) ++ l)
     (from_place 16 8 value (number_at 16 8 value) octets (omega arith) refl
     ∙ ap (λ l. big_bytes 8 (number_at 16 8 value) ++ l) (drop_all 24 value (omega arith))))
 
-suffix_is : (value : List ℕ) → AreOctets value → is_white_rabbit value ≡ true → number_at 6 2 value ≡ ANN_SUFIX → length value ≡ 10
+suffix_is : (value : List ℕ) → AreOctets value → is_white_rabbit value ≡ true → number_at 6 2 value ≡ 0x2000 → length value ≡ 10
     → value ≡ suffix_value (number_at 8 2 value)
 suffix_is value octets white is long =
-    start_is value ANN_SUFIX octets white (omega arith) is
-    ∙ ap (λ l. value_start ANN_SUFIX ++ l)
+    start_is value 0x2000 octets white (omega arith) is
+    ∙ ap (λ l. value_start 0x2000 ++ l)
     (from_place 8 2 value (number_at 8 2 value) octets (omega arith) refl
     ∙ ap (λ l. big_bytes 2 (number_at 8 2 value) ++ l) (drop_all 10 value (omega arith)))
 
@@ -154,19 +153,19 @@ suffix_not_message n value flags message is = elim (chosen (length value == n) (
 message_by_id : (value : List ℕ) (message : WrMsg) → AreOctets value → is_white_rabbit value ≡ true
     → (id : ℕ) → number_at 6 2 value ≡ id → read_by_id id value ≡ Wr message → value ≡ wr_value message
 unfolding read_by_id
-message_by_id value message octets white id at_6 is = elim (chosen (id == SLAVE_PRESENT) _ _ (Wr message) is) [
-  | inl (own, row) ↦ message_sized 8 value Present message (bare_is value SLAVE_PRESENT octets white (at_6 ∙ eqb-true id SLAVE_PRESENT own)) row
-  | inr (_, rest) ↦ elim (chosen (id == LOCK) _ _ (Wr message) rest) [
-    | inl (own, row) ↦ message_sized 8 value Lock message (bare_is value LOCK octets white (at_6 ∙ eqb-true id LOCK own)) row
-    | inr (_, rest) ↦ elim (chosen (id == LOCKED) _ _ (Wr message) rest) [
-      | inl (own, row) ↦ message_sized 8 value Locked message (bare_is value LOCKED octets white (at_6 ∙ eqb-true id LOCKED own)) row
-      | inr (_, rest) ↦ elim (chosen (id == CALIBRATE) _ _ (Wr message) rest) [
-        | inl (own, row) ↦ message_sized 14 value (calibrate_at value) message (calibrate_is value octets white (at_6 ∙ eqb-true id CALIBRATE own)) row
-        | inr (_, rest) ↦ elim (chosen (id == CALIBRATED) _ _ (Wr message) rest) [
-          | inl (own, row) ↦ message_sized 24 value (calibrated_at value) message (calibrated_is value octets white (at_6 ∙ eqb-true id CALIBRATED own)) row
-          | inr (_, rest) ↦ elim (chosen (id == WR_MODE_ON) _ _ (Wr message) rest) [
-            | inl (own, row) ↦ message_sized 8 value ModeOn message (bare_is value WR_MODE_ON octets white (at_6 ∙ eqb-true id WR_MODE_ON own)) row
-            | inr (_, rest) ↦ elim (chosen (id == ANN_SUFIX) _ _ (Wr message) rest) [
+message_by_id value message octets white id at_6 is = elim (chosen (id == 0x1000) _ _ (Wr message) is) [
+  | inl (own, row) ↦ message_sized 8 value Present message (bare_is value 0x1000 octets white (at_6 ∙ eqb-true id 0x1000 own)) row
+  | inr (_, rest) ↦ elim (chosen (id == 0x1001) _ _ (Wr message) rest) [
+    | inl (own, row) ↦ message_sized 8 value Lock message (bare_is value 0x1001 octets white (at_6 ∙ eqb-true id 0x1001 own)) row
+    | inr (_, rest) ↦ elim (chosen (id == 0x1002) _ _ (Wr message) rest) [
+      | inl (own, row) ↦ message_sized 8 value Locked message (bare_is value 0x1002 octets white (at_6 ∙ eqb-true id 0x1002 own)) row
+      | inr (_, rest) ↦ elim (chosen (id == 0x1003) _ _ (Wr message) rest) [
+        | inl (own, row) ↦ message_sized 14 value (calibrate_at value) message (calibrate_is value octets white (at_6 ∙ eqb-true id 0x1003 own)) row
+        | inr (_, rest) ↦ elim (chosen (id == 0x1004) _ _ (Wr message) rest) [
+          | inl (own, row) ↦ message_sized 24 value (calibrated_at value) message (calibrated_is value octets white (at_6 ∙ eqb-true id 0x1004 own)) row
+          | inr (_, rest) ↦ elim (chosen (id == 0x1005) _ _ (Wr message) rest) [
+            | inl (own, row) ↦ message_sized 8 value ModeOn message (bare_is value 0x1005 octets white (at_6 ∙ eqb-true id 0x1005 own)) row
+            | inr (_, rest) ↦ elim (chosen (id == 0x2000) _ _ (Wr message) rest) [
               | inl (own, row) ↦ absurd (suffix_not_message 10 value (number_at 8 2 value) message row)
               | inr (_, other) ↦ cc
             ]
@@ -203,20 +202,20 @@ suffix_sized value flags whole is = elim (chosen (length value == 10) (Suffix (n
 suffix_by_id : (value : List ℕ) (flags : ℕ) → AreOctets value → is_white_rabbit value ≡ true
     → (id : ℕ) → number_at 6 2 value ≡ id → read_by_id id value ≡ Suffix flags → value ≡ suffix_value flags
 unfolding read_by_id
-suffix_by_id value flags octets white id at_6 is = elim (chosen (id == SLAVE_PRESENT) _ _ (Suffix flags) is) [
+suffix_by_id value flags octets white id at_6 is = elim (chosen (id == 0x1000) _ _ (Suffix flags) is) [
   | inl (own, row) ↦ absurd (message_not_suffix 8 value Present flags row)
-  | inr (_, rest) ↦ elim (chosen (id == LOCK) _ _ (Suffix flags) rest) [
+  | inr (_, rest) ↦ elim (chosen (id == 0x1001) _ _ (Suffix flags) rest) [
     | inl (own, row) ↦ absurd (message_not_suffix 8 value Lock flags row)
-    | inr (_, rest) ↦ elim (chosen (id == LOCKED) _ _ (Suffix flags) rest) [
+    | inr (_, rest) ↦ elim (chosen (id == 0x1002) _ _ (Suffix flags) rest) [
       | inl (own, row) ↦ absurd (message_not_suffix 8 value Locked flags row)
-      | inr (_, rest) ↦ elim (chosen (id == CALIBRATE) _ _ (Suffix flags) rest) [
+      | inr (_, rest) ↦ elim (chosen (id == 0x1003) _ _ (Suffix flags) rest) [
         | inl (own, row) ↦ absurd (message_not_suffix 14 value (calibrate_at value) flags row)
-        | inr (_, rest) ↦ elim (chosen (id == CALIBRATED) _ _ (Suffix flags) rest) [
+        | inr (_, rest) ↦ elim (chosen (id == 0x1004) _ _ (Suffix flags) rest) [
           | inl (own, row) ↦ absurd (message_not_suffix 24 value (calibrated_at value) flags row)
-          | inr (_, rest) ↦ elim (chosen (id == WR_MODE_ON) _ _ (Suffix flags) rest) [
+          | inr (_, rest) ↦ elim (chosen (id == 0x1005) _ _ (Suffix flags) rest) [
             | inl (own, row) ↦ absurd (message_not_suffix 8 value ModeOn flags row)
-            | inr (_, rest) ↦ elim (chosen (id == ANN_SUFIX) _ _ (Suffix flags) rest) [
-              | inl (own, row) ↦ suffix_sized value flags (suffix_is value octets white (at_6 ∙ eqb-true id ANN_SUFIX own)) row
+            | inr (_, rest) ↦ elim (chosen (id == 0x2000) _ _ (Suffix flags) rest) [
+              | inl (own, row) ↦ suffix_sized value flags (suffix_is value octets white (at_6 ∙ eqb-true id 0x2000 own)) row
               | inr (_, other) ↦ cc
             ]
           ]

@@ -1,6 +1,5 @@
 -- Lists of TLVs that fill a part of the octets (IEEE 1588-2019).
 use Rattle.std.specs.Prelude.{◌≡◌, ℕ, List, [], ◌∷◌, ◌++◌, length}
-use Rattle.wrp_tlv.specs.declared.tlv.TheConstants.{TLV_HEADER, ORGANIZATION_EXTENSION}
 use Rattle.byteorder.specs.Endian.{big_bytes}
 use Rattle.wrp_tlv.specs.Octets.{number_at}
 
@@ -11,7 +10,7 @@ pub record TypedValue : Type 0 where
 
 -- the four octets before a TLV's value: tlvType, and the value's length
 pub record IsTlvHeader (head : List ℕ) (tlv : TypedValue) : Type 0 where
-  pub whole : length head ≡ TLV_HEADER
+  pub whole : length head ≡ 4
   pub kind : tlv.kind ≡ number_at 0 2 head
   pub long : length tlv.value ≡ number_at 2 2 head
 
@@ -29,6 +28,6 @@ IsFilledByNone octets = (tlvs : List TypedValue) → Fills tlvs octets → ⊥
 abbrev pub tlv_octets : TypedValue → List ℕ
 tlv_octets tlv = big_bytes 2 tlv.kind ++ (big_bytes 2 (length tlv.value) ++ tlv.value)
 
--- an ORGANIZATION_EXTENSION with this value
+-- an ORGANIZATION_EXTENSION, which is tlvType 3, with this value
 abbrev pub extension : List ℕ → TypedValue
-extension value = record { kind = ORGANIZATION_EXTENSION; value = value }
+extension value = record { kind = 0x0003; value = value }

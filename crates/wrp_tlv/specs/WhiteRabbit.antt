@@ -5,13 +5,12 @@ use Rattle.wrp_base.specs.declared.message.WrMsg.{WrMsg}
 use Rattle.wrp_base.specs.declared.message.WrMsg.TheVariants.{Present, Lock, Locked, Calibrate, Calibrated, ModeOn}
 use Rattle.wrp_tlv.specs.declared.white_rabbit.WrRead.{WrRead}
 use Rattle.wrp_tlv.specs.declared.white_rabbit.WrRead.TheVariants.{Wr, Suffix, Other, BadWr}
-use Rattle.wrp_tlv.specs.declared.white_rabbit.TheConstants.{WHITE_RABBIT, PREFIX_LENGTH, ID_LENGTH, CALIBRATE_LENGTH, CALIBRATED_LENGTH, SUFFIX_LENGTH, SLAVE_PRESENT, LOCK, LOCKED, CALIBRATE, CALIBRATED, WR_MODE_ON, ANN_SUFIX}
 use Rattle.byteorder.specs.Endian.{big_bytes}
 use Rattle.wrp_tlv.specs.Octets.{number_at}
 
--- the value begins with White Rabbit's organizationId and organizationSubType
+-- the value begins with organizationId 08 00 30 and organizationSubType DE AD 01
 abbrev pub is_white_rabbit : List ℕ → Bool
-is_white_rabbit value = nat_le PREFIX_LENGTH (length value) && (number_at 0 6 value == WHITE_RABBIT)
+is_white_rabbit value = nat_le 6 (length value) && (number_at 0 6 value == 0x0800_30DE_AD01)
 
 -- what is said by a value of this length, and nothing by one of another length
 abbrev pub sized : ℕ → List ℕ → WrRead → WrRead
@@ -25,37 +24,38 @@ calibrate_at value = Calibrate (slice_index value 8) (slice_index value 9) (numb
 abbrev pub calibrated_at : List ℕ → WrMsg
 calibrated_at value = Calibrated (number_at 8 8 value) (number_at 16 8 value)
 
--- the table of ids, each with its length and its message
+-- the table of ids, each with its lengthField and its message: SLAVE_PRESENT, LOCK, LOCKED, CALIBRATE,
+-- CALIBRATED, WR_MODE_ON, and ANN_SUFIX, the suffix of an Announce
 unfoldable pub read_by_id : ℕ → List ℕ → WrRead
 read_by_id id value =
-    if id == SLAVE_PRESENT then sized ID_LENGTH value (Wr Present)
-    else if id == LOCK then sized ID_LENGTH value (Wr Lock)
-    else if id == LOCKED then sized ID_LENGTH value (Wr Locked)
-    else if id == CALIBRATE then sized CALIBRATE_LENGTH value (Wr (calibrate_at value))
-    else if id == CALIBRATED then sized CALIBRATED_LENGTH value (Wr (calibrated_at value))
-    else if id == WR_MODE_ON then sized ID_LENGTH value (Wr ModeOn)
-    else if id == ANN_SUFIX then sized SUFFIX_LENGTH value (Suffix (number_at 8 2 value))
+    if id == 0x1000 then sized 8 value (Wr Present)
+    else if id == 0x1001 then sized 8 value (Wr Lock)
+    else if id == 0x1002 then sized 8 value (Wr Locked)
+    else if id == 0x1003 then sized 14 value (Wr (calibrate_at value))
+    else if id == 0x1004 then sized 24 value (Wr (calibrated_at value))
+    else if id == 0x1005 then sized 8 value (Wr ModeOn)
+    else if id == 0x2000 then sized 10 value (Suffix (number_at 8 2 value))
     else Other
 
 -- what the value of an ORGANIZATION_EXTENSION says: without an id it is a bad one of White Rabbit
 unfoldable pub wr_read : List ℕ → WrRead
 wr_read value =
     if is_white_rabbit value
-    then if nat_lt (length value) ID_LENGTH then BadWr else read_by_id (number_at PREFIX_LENGTH 2 value) value
+    then if nat_lt (length value) 8 then BadWr else read_by_id (number_at 6 2 value) value
     else Other
 
 -- with what the value of an id begins: organizationId, organizationSubType, and the id
 abbrev pub value_start : ℕ → List ℕ
-value_start id = big_bytes PREFIX_LENGTH WHITE_RABBIT ++ big_bytes 2 id
+value_start id = big_bytes 6 0x0800_30DE_AD01 ++ big_bytes 2 id
 
 -- the id of a message
 abbrev pub id_of : WrMsg → ℕ
-id_of Present = SLAVE_PRESENT
-id_of Lock = LOCK
-id_of Locked = LOCKED
-id_of (Calibrate pattern retry period) = CALIBRATE
-id_of (Calibrated tx rx) = CALIBRATED
-id_of ModeOn = WR_MODE_ON
+id_of Present = 0x1000
+id_of Lock = 0x1001
+id_of Locked = 0x1002
+id_of (Calibrate pattern retry period) = 0x1003
+id_of (Calibrated tx rx) = 0x1004
+id_of ModeOn = 0x1005
 
 -- the data behind the id
 abbrev pub data_of : WrMsg → List ℕ
@@ -81,7 +81,7 @@ FitsOctets ModeOn = Unit {0}
 
 -- the value that carries the wrFlags of a suffix
 abbrev pub suffix_value : ℕ → List ℕ
-suffix_value flags = value_start ANN_SUFIX ++ big_bytes 2 flags
+suffix_value flags = value_start 0x2000 ++ big_bytes 2 flags
 
 -- each is an octet
 abbrev pub AreOctets : List ℕ → Type 0

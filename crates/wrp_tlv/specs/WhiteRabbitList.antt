@@ -2,15 +2,14 @@
 -- project's profile.
 use Rattle.std.specs.Prelude.{ℕ, Bool, true, false, ◌==◌, if◌then◌else◌, List, [], ◌∷◌, Option, Some, None}
 use Rattle.wrp_base.specs.declared.message.WrMsg.{WrMsg}
-use Rattle.wrp_tlv.specs.declared.tlv.TheConstants.{ORGANIZATION_EXTENSION}
 use Rattle.wrp_tlv.specs.declared.white_rabbit.WrRead.{WrRead}
 use Rattle.wrp_tlv.specs.declared.white_rabbit.WrRead.TheVariants.{Wr, Suffix, Other, BadWr}
 use Rattle.wrp_tlv.specs.TlvList.{TypedValue}
 use Rattle.wrp_tlv.specs.WhiteRabbit.{wr_read}
 
--- what a TLV says: only an ORGANIZATION_EXTENSION says something
+-- what a TLV says: only an ORGANIZATION_EXTENSION, tlvType 3, says something
 abbrev pub read_of : TypedValue → WrRead
-read_of tlv = if tlv.kind == ORGANIZATION_EXTENSION then wr_read tlv.value else Other
+read_of tlv = if tlv.kind == 0x0003 then wr_read tlv.value else Other
 
 -- a TLV of White Rabbit that no reader understands
 abbrev pub is_bad : WrRead → Bool

@@ -89,7 +89,7 @@ fn put_data(m: &WrMsg, out: &mut Frame)
 fn put_start(id: u16, length: usize, out: &mut Frame)
     requires room { array_vec_len out.old + 12 ≤ 256 }
     requires long { length < 2 ^ 16 }
-    ensures { out.new.items ≡ out.old.items ++ (big_bytes 2 ORGANIZATION_EXTENSION ++ (big_bytes 2 length ++ value_start id)) }
+    ensures { out.new.items ≡ out.old.items ++ (big_bytes 2 0x0003 ++ (big_bytes 2 length ++ value_start id)) }
 {
     put_u16(ORGANIZATION_EXTENSION, out);
     put_u16(length as u16, out);
