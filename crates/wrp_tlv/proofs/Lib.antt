@@ -1,3 +1,4 @@
 pub mod Appends
+pub mod Written
 pub mod OneValue
 pub mod ReadBack
