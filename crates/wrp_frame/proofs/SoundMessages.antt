@@ -1,9 +1,9 @@
 -- What octets spell is a sound message.
 use Rattle.std.proofs.Common.{◌≡◌, ◌<◌, ◌+◌, ℕ, List, drop, refl, sym, subst, Result, Ok, Err, IfOk}
-use Rattle.std.specs.Prelude.{slice_index}
 use Rattle.std.proofs.lemmas.List.{get_or-drop}
 use Rattle.byteorder.specs.Numbers.{big_from-lt}
 use Rattle.wrp_base.specs.declared.message.PtpMsg.{PtpMsg}
+use Rattle.wrp_base.specs.Octets.{AreOctets}
 use Rattle.wrp_base.specs.Message.{IsSound, FitsTimestamp}
 use Rattle.wrp_frame.specs.declared.fault.FrameFault.{FrameFault}
 use Rattle.wrp_frame.specs.declared.message_type.MessageType.{MessageType}
@@ -12,10 +12,6 @@ use Rattle.wrp_tlv.specs.TlvList.{TypedValue}
 use Rattle.wrp_frame.specs.Fields.{timestamp_at}
 use Rattle.wrp_frame.specs.Body.{message_at}
 use Rattle.wrp_frame.specs.Grammar.{Spells, HasTime, IsTwoStep}
-
--- each octet is below 256
-abbrev pub AreOctets : List ℕ → Type 0
-AreOctets octets = (i : ℕ) → slice_index octets i < 256
 
 fits_time : (octets : List ℕ) → AreOctets octets → (timestamp_at 34 octets).nanos < 1_000_000_000 → FitsTimestamp (timestamp_at 34 octets)
 fits_time octets small nanos = (big_from-lt 0 6 (drop 34 octets) (λ k. let octet = small (34 + k) in rw (get_or-drop 34 octets k 0) octet), nanos)

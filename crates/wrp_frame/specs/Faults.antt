@@ -15,12 +15,16 @@ use Rattle.wrp_frame.specs.Grammar.{tlv_part, IsTwoStep}
 
 -- the octets, whose kind is this one, have the fault; the first three faults are of no kind
 abbrev pub HasFaultOf : FrameFault → MessageType → List ℕ → Type 0
-HasFaultOf Length kind octets = (message_length octets < least_length kind) ⊎ (length octets < message_length octets)
-HasFaultOf Time kind octets = (has_timestamp kind ≡ true) × (1_000_000_000 ≤ (timestamp_at 34 octets).nanos)
+HasFaultOf Length kind octets =
+    (message_length octets < least_length kind) ⊎ (length octets < message_length octets)
+HasFaultOf Time kind octets =
+    (has_timestamp kind ≡ true) × (1_000_000_000 ≤ (timestamp_at 34 octets).nanos)
 HasFaultOf Tlv kind octets = IsFilledByNone (tlv_part kind octets)
 HasFaultOf BadWr kind octets =
     (reads_white_rabbit kind ≡ true)
-    × ((tlvs : List TypedValue) × Fills tlvs (tlv_part kind octets) × (list_any (λ tlv. is_bad (read_of tlv)) tlvs ≡ true))
+    × ((tlvs : List TypedValue)
+    × Fills tlvs (tlv_part kind octets)
+    × (list_any (λ tlv. is_bad (read_of tlv)) tlvs ≡ true))
 HasFaultOf OneStep kind octets = (kind ≡ Sync) × (IsTwoStep octets → ⊥)
 HasFaultOf _ kind octets = ⊥
 
@@ -29,7 +33,8 @@ abbrev pub HasFault : FrameFault → List ℕ → Type 0
 HasFault Short octets = length octets < 34
 HasFault Version octets = version_of octets ≢ 2
 HasFault Kind octets = kind_of octets ≡ None
-HasFault fault octets = (kind : MessageType) × (kind_of octets ≡ Some kind) × HasFaultOf fault kind octets
+HasFault fault octets =
+    (kind : MessageType) × (kind_of octets ≡ Some kind) × HasFaultOf fault kind octets
 
 -- the number of a fault: of several the least is told
 abbrev pub fault_number : FrameFault → ℕ
@@ -45,4 +50,5 @@ fault_number OneStep = 8
 -- the octets have the fault and none of a lower number
 pub record IsFirstFault (fault : FrameFault) (octets : List ℕ) : Type 0 where
   pub has : HasFault fault octets
-  pub none_before : (other : FrameFault) → fault_number other < fault_number fault → HasFault other octets → ⊥
+  pub none_before : (other : FrameFault)
+      → fault_number other < fault_number fault → HasFault other octets → ⊥

@@ -1,5 +1,5 @@
--- Each number of a message fits the octets that it is sent in, and its White Rabbit part is read as it
--- was sent.
+-- Each number of a message fits the octets that it is sent in, and its White Rabbit part is read as
+-- it was sent.
 use Rattle.std.specs.Prelude.{ℕ, ℤ, ◌≡◌, ◌<◌, ◌^◌, Option, Some, None}
 use Rattle.std.specs.Int.{w16, w64, cast_signed, cast_unsigned}
 use Rattle.wrp_base.specs.declared.time.Ts.{Ts}
@@ -32,7 +32,8 @@ pub record FitsTime (t : Ts) : Type 0 where
   pub nanos : t.nanos < 256 ^ 4
 
 -- the fields of an Announce
-pub record FitsAnnounce (time : Ts) (offset : ℤ) (first class second grandmaster hops clock : ℕ) : Type 0 where
+pub record FitsAnnounce
+    (time : Ts) (offset : ℤ) (first class second grandmaster hops clock : ℕ) : Type 0 where
   pub origin : FitsTime time
   pub utc : cast_unsigned w16 offset < 256 ^ 2
   pub signed : cast_signed w16 (cast_unsigned w16 offset) ≡ offset
@@ -49,7 +50,8 @@ FitsBody (Sync origin) = FitsTime origin
 FitsBody (DelayReq origin) = FitsTime origin
 FitsBody (FollowUp precise) = FitsTime precise
 FitsBody (DelayResp receive requesting) = FitsTime receive × FitsIdentity requesting
-FitsBody (Announce origin utc p1 quality p2 gm steps source suffix) = FitsAnnounce origin utc p1 quality p2 gm steps source
+FitsBody (Announce origin utc p1 quality p2 gm steps source suffix) =
+    FitsAnnounce origin utc p1 quality p2 gm steps source
 FitsBody (Signal target wr) = FitsIdentity target
 
 -- the value that a suffix is sent as is read as that suffix

@@ -50,4 +50,5 @@ pub record Spells (octets : List ℕ) (message : PtpMsg) : Type 0 where
 
 -- no octets spell two messages
 abbrev pub SpellOneMessage : Type 0
-SpellOneMessage = (octets : List ℕ) (one other : PtpMsg) → Spells octets one → Spells octets other → one ≡ other
+SpellOneMessage =
+    (octets : List ℕ) (one other : PtpMsg) → Spells octets one → Spells octets other → one ≡ other

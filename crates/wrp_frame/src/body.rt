@@ -11,7 +11,7 @@ ghost use Rattle.wrp_frame.specs.declared.message_type.MessageType.TheVariants.{
 
 use crate::FrameFault;
 use crate::fields::{read_identity, read_timestamp};
-use crate::found::{Found, found_among};
+use crate::found::{Found, read_tlvs};
 use crate::message_type::MessageType;
 use crate::places::{
     FLAGS_AT, GRANDMASTER_AT, NANOS_PER_SECOND, NANOS_WITHIN, PRIORITY1_AT, PRIORITY2_AT,
@@ -37,7 +37,7 @@ pub fn check_time(octets: &[u8], kind: MessageType) -> Result<(), FrameFault>
 
 /// What the TLVs behind the body say of White Rabbit: `end` is messageLength.
 #[tactic(auto, using(crate::proofs::FirstFaults::tlv_faults))]
-pub fn tlvs_found(octets: &[u8], kind: MessageType, end: usize) -> Result<Found, FrameFault>
+pub fn check_tlvs(octets: &[u8], kind: MessageType, end: usize) -> Result<Found, FrameFault>
     requires header { HasHeader kind octets.now }
     requires sized { HasLength kind octets.now }
     requires time { HasTime kind octets.now }
@@ -45,7 +45,7 @@ pub fn tlvs_found(octets: &[u8], kind: MessageType, end: usize) -> Result<Found,
     ensures ok { IfOk result (HasFound kind octets.now) }
     ensures err { IfErr result (λ fault. IsFirstFault fault octets.now) }
 {
-    let found = found_among(&octets[kind.least_length()..end])?;
+    let found = read_tlvs(&octets[kind.least_length()..end])?;
     if kind.reads_white_rabbit() && found.bad {
         return Err(FrameFault::BadWr);
     }
@@ -71,7 +71,8 @@ pub fn check_two_step(octets: &[u8], kind: MessageType, found: &Found) -> Result
 /// The body of the kind, with what its TLVs say.
 pub fn body_of(octets: &[u8], kind: MessageType, found: &Found) -> Body
     requires { least_length kind ≤ length octets.now }
-    ensures { (tlvs : List TypedValue) → found.now ≡ found_in tlvs → result ≡ body_at kind tlvs octets.now }
+    ensures { (tlvs : List TypedValue)
+        → found.now ≡ found_in tlvs → result ≡ body_at kind tlvs octets.now }
 {
     match kind {
         MessageType::Sync => Body::Sync {
@@ -95,7 +96,7 @@ pub fn body_of(octets: &[u8], kind: MessageType, found: &Found) -> Body
     }
 }
 
-/// The body of an Announce, with the wrFlags of its suffix.
+// The body of an Announce, with the wrFlags of its suffix.
 fn announce_of(octets: &[u8], suffix: Option<u16>) -> Body
     requires { 64 ≤ length octets.now }
     ensures { result ≡ announce_at suffix octets.now }

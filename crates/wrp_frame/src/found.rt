@@ -1,7 +1,7 @@
 //! Walks the TLVs behind a body, and keeps what they say of White Rabbit.
 ghost use Rattle.std.specs.Prelude.{◌≡◌, ◌<◌, length, IfOk, IfErr};
 ghost use Rattle.wrp_frame.specs.Found.{IsFoundAmong};
-ghost use Rattle.wrp_tlv.specs.TlvAt.{StandsAt};
+ghost use Rattle.wrp_tlv.specs.TlvAt.{HasNoTlvAt, StandsAt};
 ghost use Rattle.wrp_tlv.specs.TlvList.{IsFilledByNone};
 ghost use Rattle.wrp_tlv.specs.WhiteRabbitList.{read_of};
 
@@ -25,7 +25,7 @@ impl Found {
     ghost use Rattle.wrp_frame.specs.Found.{joined, with_first};
 
     /// What stands after one more TLV: what came first counts.
-    pub fn followed_by(self, read: WrRead) -> Found
+    pub fn add(self, read: WrRead) -> Found
         ensures { (later : Found) → joined result later ≡ joined self (with_first read later) }
     {
         match read {
@@ -43,7 +43,7 @@ impl Found {
     }
 }
 
-/// What a TLV of this type and value says: only an ORGANIZATION_EXTENSION says something.
+// What a TLV of this type and value says: only an ORGANIZATION_EXTENSION says something.
 fn read_value(kind: u16, value: &[u8]) -> WrRead
     ensures { result ≡ read_of (record { kind = kind; value = value.now }) }
 {
@@ -54,11 +54,11 @@ fn read_value(kind: u16, value: &[u8]) -> WrRead
     }
 }
 
-/// The whole TLV that stands at a place of the part.
+// The whole TLV that stands at a place of the part.
 fn whole_tlv_at(part: &[u8], at: usize) -> Result<Tlv, FrameFault>
     requires { at < length part.now }
     ensures ok { IfOk result (StandsAt part.now at) }
-    ensures err { IfErr result (λ fault. (fault ≡ FrameFault.Tlv) × ((tlv : Tlv) → StandsAt part.now at tlv → ⊥)) }
+    ensures err { IfErr result (λ fault. (fault ≡ FrameFault.Tlv) × HasNoTlvAt part.now at) }
 {
     match tlv_at(part, at) {
         Ok(tlv) => Ok(tlv),
@@ -66,9 +66,9 @@ fn whole_tlv_at(part: &[u8], at: usize) -> Result<Tlv, FrameFault>
     }
 }
 
-/// What the TLVs that fill the part say of White Rabbit. `Tlv` where no list of whole TLVs fills it.
+/// What the TLVs that fill the part say of White Rabbit. `Tlv` where no list of TLVs fills it.
 #[tactic(auto, using(crate::proofs::Walk::walks))]
-pub fn found_among(part: &[u8]) -> Result<Found, FrameFault>
+pub fn read_tlvs(part: &[u8]) -> Result<Found, FrameFault>
     ensures ok { IfOk result (IsFoundAmong part.now) }
     ensures err { IfErr result (λ fault. (fault ≡ FrameFault.Tlv) × IsFilledByNone part.now) }
 {
@@ -76,7 +76,7 @@ pub fn found_among(part: &[u8]) -> Result<Found, FrameFault>
     let mut at = 0;
     while at < part.len() {
         let tlv = whole_tlv_at(part, at)?;
-        found = found.followed_by(read_value(tlv.kind, &part[tlv.from..tlv.to]));
+        found = found.add(read_value(tlv.kind, &part[tlv.from..tlv.to]));
         at = tlv.to;
     }
     Ok(found)

@@ -26,7 +26,7 @@ pub fn message_type_of(octets: &[u8]) -> Result<MessageType, FrameFault>
     if octets[VERSION_AT] & 0x0F != PTP_VERSION {
         return Err(FrameFault::Version);
     }
-    match MessageType::numbered(octets[MESSAGE_TYPE_AT] & 0x0F) {
+    match MessageType::of_number(octets[MESSAGE_TYPE_AT] & 0x0F) {
         Some(kind) => Ok(kind),
         None => Err(FrameFault::Kind),
     }

@@ -1,6 +1,7 @@
 //! The kinds of message, by their messageType (IEEE 1588-2019).
 ghost use Rattle.std.specs.Prelude.{◌≡◌};
-ghost use Rattle.wrp_frame.specs.MessageTypes.{kind_numbered, kind_of_body, number_of, control_of, least_length, has_timestamp, reads_white_rabbit};
+ghost use Rattle.wrp_frame.specs.MessageTypes.{number_of, kind_numbered, kind_of_body, control_of};
+ghost use Rattle.wrp_frame.specs.MessageTypes.{least_length, has_timestamp, reads_white_rabbit};
 
 use wrp_base::Body;
 
@@ -64,7 +65,7 @@ impl MessageType {
     }
 
     /// The kind that a messageType stands for; None for one that is not read.
-    pub fn numbered(number: u8) -> Option<MessageType>
+    pub fn of_number(number: u8) -> Option<MessageType>
         ensures { result ≡ kind_numbered number }
     {
         match number {

@@ -5,12 +5,12 @@ ghost use Rattle.wrp_frame.specs.Faults.{IsFirstFault};
 ghost use Rattle.wrp_frame.specs.Grammar.{Spells, SpellOneMessage};
 
 use crate::FrameFault;
-use crate::body::{body_of, check_time, check_two_step, tlvs_found};
+use crate::body::{body_of, check_time, check_tlvs, check_two_step};
 use crate::header::{head_of, message_end, message_type_of};
 use wrp_base::PtpMsg;
 
-/// The message that the octets spell, which is sound. Octets after messageLength are padding, TLVs of
-/// unknown types are passed over, and reserved places are free.
+/// The message that the octets spell, which is sound. Octets after messageLength are padding, TLVs
+/// of unknown types are passed over, and reserved places are free.
 ///
 /// Refused with the first fault, in the order of `FrameFault`, that the octets have.
 pub fn decode(bytes: &[u8]) -> Result<PtpMsg, FrameFault>
@@ -26,7 +26,7 @@ pub fn one_message()
     ensures { SpellOneMessage }
 {}
 
-/// Reads the header, then the body, then the TLVs, each after its tests.
+// Reads the header, then the body, then the TLVs, each after its tests.
 #[tactic(auto, using(crate::proofs::Exact::spelled))]
 fn read_message(octets: &[u8]) -> Result<PtpMsg, FrameFault>
     ensures ok { IfOk result (Spells octets.now) }
@@ -35,7 +35,7 @@ fn read_message(octets: &[u8]) -> Result<PtpMsg, FrameFault>
     let kind = message_type_of(octets)?;
     let end = message_end(octets, kind)?;
     check_time(octets, kind)?;
-    let found = tlvs_found(octets, kind, end)?;
+    let found = check_tlvs(octets, kind, end)?;
     check_two_step(octets, kind, &found)?;
     Ok(PtpMsg {
         head: head_of(octets),

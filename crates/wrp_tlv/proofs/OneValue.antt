@@ -7,8 +7,9 @@ use Rattle.byteorder.specs.Endian.{big_bytes}
 use Rattle.wrp_base.specs.declared.message.WrMsg.TheVariants.{Present, Lock, Locked, Calibrate, ModeOn}
 use Rattle.wrp_tlv.specs.declared.white_rabbit.WrRead.{WrRead}
 use Rattle.wrp_tlv.specs.declared.white_rabbit.WrRead.TheVariants.{Wr, Suffix, Other, BadWr}
+use Rattle.wrp_base.specs.Octets.{AreOctets}
 use Rattle.wrp_tlv.specs.Octets.{number_at}
-use Rattle.wrp_tlv.specs.WhiteRabbit.{wr_read, read_by_id, sized, is_white_rabbit, calibrate_at, calibrated_at, wr_value, suffix_value, value_start, AreOctets, HaveOneValue}
+use Rattle.wrp_tlv.specs.WhiteRabbit.{wr_read, read_by_id, sized, is_white_rabbit, calibrate_at, calibrated_at, wr_value, suffix_value, value_start, HaveOneValue}
 use Rattle.wrp_tlv.proofs.Written.{width_of, sent_from, all_sent}
 
 -- the value is the one that this is sent as

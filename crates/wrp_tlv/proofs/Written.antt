@@ -6,8 +6,8 @@ use Rattle.std.proofs.lemmas.Nat.{div-mul-add, mod-mul-add}
 use Rattle.std.proofs.lemmas.List.{drop-drop, drop_all, get_or-drop}
 use Rattle.byteorder.specs.Endian.{big_from, big_bytes}
 use Rattle.byteorder.specs.Numbers.{big_from-cons, big_from-lt}
+use Rattle.wrp_base.specs.Octets.{AreOctets}
 use Rattle.wrp_tlv.specs.Octets.{number_at}
-use Rattle.wrp_tlv.specs.WhiteRabbit.{AreOctets}
 
 -- an octet of a number, by what stands above and below it
 octet_of : (k high x low : ℕ) → low < 256 ^ k → x < 256 → byte_at k ((high * 256 + x) * 256 ^ k + low) ≡ x

@@ -18,7 +18,11 @@ pub record IsTlvHeader (head : List ℕ) (tlv : TypedValue) : Type 0 where
 abbrev pub Fills : List TypedValue → List ℕ → Type 0
 Fills [] octets = octets ≡ []
 Fills (tlv ∷ tlvs) octets =
-    (head : List ℕ) × (rest : List ℕ) × (octets ≡ head ++ (tlv.value ++ rest)) × IsTlvHeader head tlv × Fills tlvs rest
+    (head : List ℕ)
+    × (rest : List ℕ)
+    × (octets ≡ head ++ (tlv.value ++ rest))
+    × IsTlvHeader head tlv
+    × Fills tlvs rest
 
 -- no list of whole TLVs fills the octets
 abbrev pub IsFilledByNone : List ℕ → Type 0
@@ -26,7 +30,7 @@ IsFilledByNone octets = (tlvs : List TypedValue) → Fills tlvs octets → ⊥
 
 -- the octets of a TLV: tlvType, lengthField, value
 abbrev pub tlv_octets : TypedValue → List ℕ
-tlv_octets tlv = big_bytes 2 tlv.kind ++ (big_bytes 2 (length tlv.value) ++ tlv.value)
+tlv_octets tlv = big_bytes 2 tlv.kind ++ big_bytes 2 (length tlv.value) ++ tlv.value
 
 -- an ORGANIZATION_EXTENSION, which is tlvType 3, with this value
 abbrev pub extension : List ℕ → TypedValue

@@ -6,6 +6,7 @@ use Rattle.wrp_base.specs.declared.message.WrMsg.TheVariants.{Present, Lock, Loc
 use Rattle.wrp_tlv.specs.declared.white_rabbit.WrRead.{WrRead}
 use Rattle.wrp_tlv.specs.declared.white_rabbit.WrRead.TheVariants.{Wr, Suffix, Other, BadWr}
 use Rattle.byteorder.specs.Endian.{big_bytes}
+use Rattle.wrp_base.specs.Octets.{AreOctets}
 use Rattle.wrp_tlv.specs.Octets.{number_at}
 
 -- the value begins with organizationId 08 00 30 and organizationSubType DE AD 01
@@ -24,8 +25,8 @@ calibrate_at value = Calibrate (slice_index value 8) (slice_index value 9) (numb
 abbrev pub calibrated_at : List ℕ → WrMsg
 calibrated_at value = Calibrated (number_at 8 8 value) (number_at 16 8 value)
 
--- the table of ids, each with its lengthField and its message: SLAVE_PRESENT, LOCK, LOCKED, CALIBRATE,
--- CALIBRATED, WR_MODE_ON, and ANN_SUFIX, the suffix of an Announce
+-- the table of ids, each with its lengthField and its message: SLAVE_PRESENT, LOCK, LOCKED,
+-- CALIBRATE, CALIBRATED, WR_MODE_ON, and ANN_SUFIX, the suffix of an Announce
 unfoldable pub read_by_id : ℕ → List ℕ → WrRead
 read_by_id id value =
     if id == 0x1000 then sized 8 value (Wr Present)
@@ -62,7 +63,8 @@ abbrev pub data_of : WrMsg → List ℕ
 data_of Present = []
 data_of Lock = []
 data_of Locked = []
-data_of (Calibrate pattern retry period) = big_bytes 1 pattern ++ (big_bytes 1 retry ++ big_bytes 4 period)
+data_of (Calibrate pattern retry period) =
+    big_bytes 1 pattern ++ big_bytes 1 retry ++ big_bytes 4 period
 data_of (Calibrated tx rx) = big_bytes 8 tx ++ big_bytes 8 rx
 data_of ModeOn = []
 
@@ -83,11 +85,9 @@ FitsOctets ModeOn = Unit {0}
 abbrev pub suffix_value : ℕ → List ℕ
 suffix_value flags = value_start 0x2000 ++ big_bytes 2 flags
 
--- each is an octet
-abbrev pub AreOctets : List ℕ → Type 0
-AreOctets octets = (i : ℕ) → slice_index octets i < 256
-
 -- only the value of a message is read as that message, and only that of a suffix as that suffix
 pub record HaveOneValue : Type 0 where
-  pub message : (value : List ℕ) (message : WrMsg) → AreOctets value → wr_read value ≡ Wr message → value ≡ wr_value message
-  pub suffix : (value : List ℕ) (flags : ℕ) → AreOctets value → wr_read value ≡ Suffix flags → value ≡ suffix_value flags
+  pub message : (value : List ℕ) (message : WrMsg)
+      → AreOctets value → wr_read value ≡ Wr message → value ≡ wr_value message
+  pub suffix : (value : List ℕ) (flags : ℕ)
+      → AreOctets value → wr_read value ≡ Suffix flags → value ≡ suffix_value flags

@@ -1,5 +1,5 @@
--- What a list of TLVs says of White Rabbit: that the first message and the first suffix count is this
--- project's profile.
+-- What a list of TLVs says of White Rabbit: that the first message and the first suffix count is
+-- this project's profile.
 use Rattle.std.specs.Prelude.{ℕ, Bool, true, false, ◌==◌, if◌then◌else◌, List, [], ◌∷◌, Option, Some, None}
 use Rattle.wrp_base.specs.declared.message.WrMsg.{WrMsg}
 use Rattle.wrp_tlv.specs.declared.white_rabbit.WrRead.{WrRead}

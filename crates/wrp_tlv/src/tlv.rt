@@ -36,7 +36,8 @@ pub fn tlv_at(bytes: &[u8], n: usize) -> Result<Tlv, TlvFault>
     ensures ok { (tlv : Tlv) → (result ≡ Ok tlv) ↔ StandsAt bytes.now n tlv }
     ensures short { (result ≡ Err TlvFault.TlvShort) ↔ (length bytes.now < n + 4) }
     ensures overrun { (result ≡ Err TlvFault.TlvOverrun)
-        ↔ ((n + 4 ≤ length bytes.now) × (length bytes.now < n + 4 + number_at (n + 2) 2 bytes.now)) }
+        ↔ ((n + 4 ≤ length bytes.now)
+        × (length bytes.now < n + 4 + number_at (n + 2) 2 bytes.now)) }
 {
     if bytes.len() - n < TLV_HEADER {
         return Err(TlvFault::TlvShort);

@@ -5,7 +5,7 @@ ghost use Rattle.wrp_tlv.specs.WhiteRabbit.{wr_read, read_by_id, HaveOneValue};
 use crate::numbers::{u16_at, u32_at, u48_at, u64_at};
 use wrp_base::WrMsg;
 
-/// organizationId 08 00 30 and organizationSubType DE AD 01, with which a White Rabbit value begins.
+/// organizationId 08 00 30 and organizationSubType DE AD 01: a White Rabbit value begins with them.
 pub const WHITE_RABBIT: u64 = 0x0800_30DE_AD01;
 /// The octets of organizationId and organizationSubType.
 pub const PREFIX_LENGTH: usize = 6;
@@ -47,8 +47,8 @@ pub enum WrRead {
     BadWr,
 }
 
-/// What the value of an ORGANIZATION_EXTENSION says. `Other` where it is none of White Rabbit, or of
-/// an id that is not listed; `BadWr` where no id follows, or the id has another length.
+/// What the value of an ORGANIZATION_EXTENSION says. `Other` where it is none of White Rabbit, or
+/// of an id that is not listed; `BadWr` where no id follows, or the id has another length.
 #[tactic(auto, unfolding(crate::specs::WhiteRabbit::wr_read))]
 pub fn wr_of(value: &[u8]) -> WrRead
     ensures { result ≡ wr_read value.now }
@@ -67,7 +67,7 @@ pub fn one_value()
     ensures { HaveOneValue }
 {}
 
-/// What a White Rabbit value of this id says.
+// What a White Rabbit value of this id says.
 #[tactic(auto, unfolding(crate::specs::WhiteRabbit::read_by_id))]
 fn by_id(id: u16, value: &[u8]) -> WrRead
     ensures { result ≡ read_by_id id value.now }

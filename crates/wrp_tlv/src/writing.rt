@@ -1,10 +1,11 @@
 //! Appends the TLV of a White Rabbit message or suffix to a frame.
-ghost use Rattle.std.specs.Prelude.{◌≡◌, ◌+◌, ◌≤◌, ◌<◌, ◌^◌, ◌++◌, length};
-ghost use Rattle.arrayvec.specs.ArrayVec.{array_vec_len};
+ghost use Rattle.std.specs.Prelude.{◌≡◌, ◌<◌, ◌^◌, ◌++◌, length};
 ghost use Rattle.byteorder.specs.Endian.{big_bytes};
 ghost use Rattle.wrp_tlv.specs.declared.white_rabbit.WrRead.TheVariants.{Wr, Suffix};
+ghost use Rattle.wrp_tlv.specs.Appending.{Appends, HasRoom};
 ghost use Rattle.wrp_tlv.specs.TlvList.{tlv_octets, extension};
-ghost use Rattle.wrp_tlv.specs.WhiteRabbit.{wr_read, wr_value, suffix_value, value_start, id_of, data_of, FitsOctets};
+ghost use Rattle.wrp_tlv.specs.WhiteRabbit.{wr_read, wr_value, suffix_value, value_start};
+ghost use Rattle.wrp_tlv.specs.WhiteRabbit.{id_of, data_of, FitsOctets};
 
 use crate::appending::{put_u8, put_u16, put_u32, put_u48, put_u64};
 use crate::tlv::{ORGANIZATION_EXTENSION, TLV_HEADER};
@@ -19,8 +20,8 @@ pub const SUFFIX_TLV_LENGTH: usize = 14;
 
 /// Appends the whole TLV of a White Rabbit message: 12, 18 or 28 octets.
 pub fn put_wr(m: &WrMsg, out: &mut Frame)
-    requires { array_vec_len out.old + 28 ≤ 256 }
-    ensures appended { out.new.items ≡ out.old.items ++ tlv_octets (extension (wr_value m.now)) }
+    requires { HasRoom 28 out.old }
+    ensures appended { Appends out.old (tlv_octets (extension (wr_value m.now))) out.new }
     ensures read_back { wr_read (wr_value m.now) ≡ Wr m.now }
 {
     let (id, length) = row_of(m);
@@ -38,15 +39,15 @@ pub fn wr_length(m: &WrMsg) -> usize
 
 /// Appends the whole TLV of a White Rabbit suffix with these wrFlags: 14 octets.
 pub fn put_suffix(flags: u16, out: &mut Frame)
-    requires { array_vec_len out.old + 28 ≤ 256 }
-    ensures appended { out.new.items ≡ out.old.items ++ tlv_octets (extension (suffix_value flags)) }
+    requires { HasRoom 28 out.old }
+    ensures appended { Appends out.old (tlv_octets (extension (suffix_value flags))) out.new }
     ensures read_back { wr_read (suffix_value flags) ≡ Suffix flags }
 {
     put_start(ANN_SUFIX, SUFFIX_LENGTH, out);
     put_u16(flags, out);
 }
 
-/// The id of a message and its lengthField.
+// The id of a message and its lengthField.
 fn row_of(m: &WrMsg) -> (u16, usize)
     ensures row { result ≡ (id_of m.now, length (wr_value m.now)) }
     ensures long { result.1 < 2 ^ 16 }
@@ -61,10 +62,10 @@ fn row_of(m: &WrMsg) -> (u16, usize)
     }
 }
 
-/// Appends the data behind the id.
+// Appends the data behind the id.
 fn put_data(m: &WrMsg, out: &mut Frame)
-    requires { array_vec_len out.old + 16 ≤ 256 }
-    ensures appended { out.new.items ≡ out.old.items ++ data_of m.now }
+    requires { HasRoom 16 out.old }
+    ensures appended { Appends out.old (data_of m.now) out.new }
     ensures fits { FitsOctets m.now }
 {
     match *m {
@@ -85,11 +86,11 @@ fn put_data(m: &WrMsg, out: &mut Frame)
     }
 }
 
-/// Appends tlvType, lengthField and the first 8 octets of the value: 12 octets.
+// Appends tlvType, lengthField and the first 8 octets of the value: 12 octets.
 fn put_start(id: u16, length: usize, out: &mut Frame)
-    requires room { array_vec_len out.old + 12 ≤ 256 }
+    requires room { HasRoom 12 out.old }
     requires long { length < 2 ^ 16 }
-    ensures { out.new.items ≡ out.old.items ++ (big_bytes 2 0x0003 ++ (big_bytes 2 length ++ value_start id)) }
+    ensures { Appends out.old (big_bytes 2 0x0003 ++ big_bytes 2 length ++ value_start id) out.new }
 {
     put_u16(ORGANIZATION_EXTENSION, out);
     put_u16(length as u16, out);
