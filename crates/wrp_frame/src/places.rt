@@ -1,5 +1,5 @@
-//! Where each field of a frame stands, in octets from the frame's first, and the numbers that have
-//! a meaning there (IEEE 1588-2019; the ids and lengths of TLVs: White Rabbit Specification 2.0).
+//! Where each field that is read stands, in octets from the frame's first, and the numbers that have
+//! a meaning there (IEEE 1588-2019). Octets 5, 16 to 19, 32, and 46 of an Announce are free.
 
 /// versionPTP, the low nibble of octet 1.
 pub const PTP_VERSION: u8 = 2;
@@ -16,20 +16,14 @@ pub const VERSION_AT: usize = 1;
 pub const MESSAGE_LENGTH_AT: usize = 2;
 /// domainNumber: 1 octet.
 pub const DOMAIN_AT: usize = 4;
-/// minorSdoId: 1 octet, sent 0, free on reading.
-pub const SDO_ID_AT: usize = 5;
 /// flagField: 2 octets.
 pub const FLAGS_AT: usize = 6;
 /// correctionField: 8 octets, signed.
 pub const CORRECTION_AT: usize = 8;
-/// messageTypeSpecific: 4 octets, sent 0, free on reading.
-pub const SPECIFIC_AT: usize = 16;
 /// sourcePortIdentity: 10 octets.
 pub const SOURCE_AT: usize = 20;
 /// sequenceId: 2 octets.
 pub const SEQUENCE_AT: usize = 30;
-/// controlField: 1 octet, sent by the kind, free on reading.
-pub const CONTROL_AT: usize = 32;
 /// logMessageInterval: 1 octet.
 pub const INTERVAL_AT: usize = 33;
 /// The length of the header, and where the body begins.
@@ -43,8 +37,6 @@ pub const TARGET_AT: usize = 34;
 pub const REQUESTING_AT: usize = 44;
 /// currentUtcOffset of an Announce: 2 octets, signed.
 pub const UTC_OFFSET_AT: usize = 44;
-/// The reserved octet of an Announce, sent 0, free on reading.
-pub const RESERVED_AT: usize = 46;
 /// grandmasterPriority1 of an Announce: 1 octet.
 pub const PRIORITY1_AT: usize = 47;
 /// grandmasterClockQuality of an Announce: 4 octets.
