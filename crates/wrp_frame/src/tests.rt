@@ -4,7 +4,7 @@ use std::alloc::{AllocError, Global};
 use std::test::Fail;
 use wrp_base::{Body, Head, PortIdentity, PtpMsg, Ts, WrMsg};
 
-/// The header of the first message that a port sends.
+// The header of the first message that a port sends.
 fn first_head(source: PortIdentity, interval: u8) -> Head {
     Head {
         domain: 0,
@@ -16,7 +16,7 @@ fn first_head(source: PortIdentity, interval: u8) -> Head {
     }
 }
 
-/// The first Signaling of sw1 to gm.
+// The first Signaling of sw1 to gm.
 fn signaling(wr: Option<WrMsg>) -> PtpMsg {
     PtpMsg {
         head: first_head(SW1, 0x7f),
@@ -24,7 +24,7 @@ fn signaling(wr: Option<WrMsg>) -> PtpMsg {
     }
 }
 
-/// The first Announce of gm.
+// The first Announce of gm.
 fn announce(suffix: Option<u16>) -> PtpMsg {
     PtpMsg {
         head: first_head(GM, 0),
@@ -45,7 +45,7 @@ fn announce(suffix: Option<u16>) -> PtpMsg {
     }
 }
 
-/// The octets in these pieces of hex.
+// The octets in these pieces of hex.
 fn octets_of(alloc: Global, pieces: &[&str]) -> Result<Vec<u8>, Fail> {
     let mut octets = Vec::new(alloc);
     for piece in pieces {
@@ -209,7 +209,7 @@ fn apply(change: Change, octets: &mut Vec<u8>) -> Result<(), AllocError> {
     Ok(())
 }
 
-/// Each fault alone, and each two of them in one frame, where the lower one is told.
+// Each fault alone, and each two of them in one frame, where the lower one is told.
 #[test]
 fn faults_in_their_order(rt: HostRuntime) -> Result<(), Fail> {
     for vector in WHOLE_FRAMES {
