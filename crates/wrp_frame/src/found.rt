@@ -66,7 +66,8 @@ fn whole_tlv_at(part: &[u8], at: usize) -> Result<Tlv, FrameFault>
     }
 }
 
-/// What the TLVs that fill the part say of White Rabbit. `Tlv` where no list of TLVs fills it.
+/// What the TLVs that fill the part say of White Rabbit. `Tlv` where no list of whole TLVs fills
+/// it.
 #[tactic(auto, using(crate::proofs::Walk::walks))]
 pub fn read_tlvs(part: &[u8]) -> Result<Found, FrameFault>
     ensures ok { IfOk result (IsFoundAmong part.now) }
