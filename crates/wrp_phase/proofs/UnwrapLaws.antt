@@ -1,42 +1,25 @@
--- A wrapped difference is the difference but for whole periods, and one more tag adds its own.
-use Rattle.std.proofs.Common.{◌≡◌, ℕ, ℤ, pos, negsuc, neg_ℤ, ◌+◌, ◌*◌, ◌/◌, ◌%◌, ◌<◌, ◌+ℤ◌, ◌≤ℤ◌, ◌<ℤ◌, lit<, Option, None, Some, List, [], ◌∷◌, ◌++◌, refl, ap, ◌∙◌, sym, arith, subst}
+-- One more tag adds its wrapped difference, which is the difference but for whole periods.
+use Rattle.std.proofs.Common.{◌≡◌, ℕ, ℤ, pos, negsuc, neg_ℤ, ◌+◌, ◌*◌, ◌/◌, ◌%◌, ◌<◌, ◌+ℤ◌, ◌≤ℤ◌, ◌<ℤ◌, lit<, Option, List, ◌∷◌, refl, ap₂, sym, arith, subst}
 use Rattle.std.proofs.lemmas.Int.{ints}
 use Rattle.std.proofs.Math.Nat.{div-add-mod, mod-lt}
 use Rattle.std.specs.Int.{int_rem_euclid}
-use Rattle.std.specs.List.{last_or}
 use Rattle.wrp_base.specs.declared.time.Clock.{Clock}
 use Rattle.wrp_base.specs.declared.time.Clock.TheVariants.{Mhz125, Mhz62}
 use Rattle.wrp_base.specs.Clock.{period_of}
-use Rattle.wrp_phase.specs.Unwrapping.{brought_round, added_by, added_by_all, unwrapped, Unwrapping, StandsFor}
+use Rattle.wrp_phase.specs.Calls.{Adds}
+use Rattle.wrp_phase.specs.Unwrapping.{brought_round, added_by, Unwrapping, pushed, StandsFor}
 
--- what a list with one more tag adds
-pub added_by_all-append : (clock : Clock) (before : Option ℕ) (tags : List ℕ) (tag : ℕ) →
-    added_by_all clock before (tags ++ tag ∷ []) ≡ added_by_all clock before tags +ℤ added_by clock (last_or before tags) tag
-added_by_all-append clock before [] tag =
-    let swapped : (a : ℤ) → a +ℤ pos 0 ≡ pos 0 +ℤ a = λ a. omega (arith, ints) in
-    swapped (added_by clock before tag)
-added_by_all-append clock before (first ∷ tags) tag =
-    let rest : added_by_all clock (Some first) (tags ++ tag ∷ []) ≡ added_by_all clock (Some first) tags +ℤ added_by clock (last_or (Some first) tags) tag =
-    added_by_all-append clock (Some first) tags tag in
-    let grouped : (a b c d : ℤ) → d ≡ b +ℤ c → a +ℤ d ≡ (a +ℤ b) +ℤ c = λ a b c d e. omega (arith, ints) in
-    grouped (added_by clock before first) _ _ _ rest
+-- an unwrapper that took this tag stands for it in front of those before
+StandsFor-pushed : (u : Unwrapping) (tag : ℕ) (tags : List ℕ) → StandsFor u tags → StandsFor (pushed u tag) (tag ∷ tags)
+StandsFor-pushed u tag tags stands = record {
+  last = refl;
+  answer = ap₂ (λ (a : ℤ) (l : Option ℕ). a +ℤ added_by u.clock l tag) stands.answer stands.last;
+}
 
--- the last of a list with one more tag
-pub last_or-append : (before : Option ℕ) (tags : List ℕ) (tag : ℕ) → last_or before (tags ++ tag ∷ []) ≡ Some tag
-last_or-append before [] tag = refl
-last_or-append before (first ∷ tags) tag = last_or-append (Some first) tags tag
-
--- an unwrapper that added this tag has taken it
-pub StandsFor-push : (old : Unwrapping) (clock : Clock) (last : Option ℕ) (answer more : ℤ) (tag : ℕ) →
-    record { clock = clock; last = last; answer = answer } ≡ old → more ≡ answer +ℤ added_by clock last tag →
-    (tags : List ℕ) → StandsFor old tags → StandsFor (record { clock = clock; last = Some tag; answer = more }) (tags ++ tag ∷ [])
-StandsFor-push old clock last answer more tag is sum tags stands =
-    let P : Unwrapping → Type 0 = λ u. StandsFor u tags in
-    let before : StandsFor (record { clock = clock; last = last; answer = answer }) tags = subst P (sym is) stands in
-    record {
-      last = sym (last_or-append None tags tag);
-      answer = sum ∙ ap (λ (a : ℤ). a +ℤ added_by clock last tag) before.answer ∙ ap (λ (l : Option ℕ). unwrapped clock tags +ℤ added_by clock l tag) before.last ∙ sym (added_by_all-append clock None tags tag);
-    }
+pub Adds-pushed : (old new : Unwrapping) (tag : ℕ) → new ≡ pushed old tag → Adds StandsFor old new tag
+Adds-pushed old new tag is tags stands =
+    let P : Unwrapping → Type 0 = λ u. StandsFor u (tag ∷ tags) in
+    subst P (sym is) (StandsFor-pushed old tag tags stands)
 
 -- what is left of z when whole multiples of p are taken away or added
 rem_is : (z : ℤ) (p : ℕ) → 0 < p →

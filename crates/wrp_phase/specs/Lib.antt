@@ -1,3 +1,4 @@
 pub mod Beat
 pub mod BeatPattern
+pub mod Calls
 pub mod Unwrapping

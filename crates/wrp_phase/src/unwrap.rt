@@ -1,11 +1,17 @@
 //! The unwrapped phase: successive tags, added up across the ends of the period.
-ghost use Rattle.std.specs.Prelude.{◌≡◌, ℕ, ◌^◌, ◌<◌, ◌≤◌, unsigned_abs, List, [], ◌∷◌, ◌++◌};
-ghost use Rattle.std.specs.Option.{ForSome};
-ghost use Rattle.wrp_phase.specs.Unwrapping.{added_by, StandsFor};
+ghost use Rattle.std.specs.Prelude.{◌≡◌, ◌^◌, ◌<◌, ◌≤◌, unsigned_abs, []};
+ghost use Rattle.wrp_phase.specs.Calls.{Adds};
+ghost use Rattle.wrp_phase.specs.Unwrapping.{added_by, untouched, pushed, StandsFor};
 
 use crate::STEPS;
 use std::marker::Model;
 use wrp_base::Clock;
+
+/// Half a period, in detector steps.
+const HALF_PERIOD: u32 = 8192;
+
+/// Whole periods that no tag passes, in detector steps.
+const WHOLE_PERIODS: u32 = 65536;
 
 /// Adds up the wrapped differences of successive tags.
 #[derive(Clone, Copy, Debug, PartialEq, Eq)]
@@ -16,15 +22,11 @@ pub struct Unwrap {
 }
 
 impl Model for Unwrap {
-    ghost use Rattle.std.specs.Prelude.{ℕ, ◌<◌};
-    ghost use Rattle.std.specs.Option.{ForSome};
     ghost use Rattle.wrp_phase.specs.Unwrapping.{Unwrapping};
 
     ghost Value = { Unwrapping };
 
     ghost view = { λ u. record { clock = u.clock; last = u.last; answer = u.answer } };
-
-    ghost invariant = { λ u. ForSome u.last (λ tag. tag < 16384) };
 
     ghost inverse = { λ v. record { clock = v.clock; last = v.last; answer = v.answer } };
 }
@@ -32,7 +34,7 @@ impl Model for Unwrap {
 impl Unwrap {
     /// An unwrapper that has taken no tag.
     pub fn new(clock: Clock) -> Unwrap
-        ensures clock { result.clock ≡ clock }
+        ensures value { result ≡ untouched clock }
         ensures stands { StandsFor result [] }
     {
         Unwrap {
@@ -44,21 +46,22 @@ impl Unwrap {
 
     /// Forgets the tags: the next one gives 0.
     pub fn restart(&mut self)
-        ensures clock { self.new.clock ≡ self.old.clock }
+        ensures value { self.new ≡ untouched self.old.clock }
         ensures stands { StandsFor self.new [] }
     {
         self.last = None;
         self.answer = 0;
     }
 
-    /// Takes a tag, in detector steps, 0 to 16383, and answers the unwrapped phase, in tau: the sum of
-    /// the wrapped differences of the tags since the last restart. The first one gives 0.
+    /// Takes a tag, in detector steps, and answers the unwrapped phase, in tau: the sum of the wrapped
+    /// differences of the tags since the last restart. The first one gives 0. A tag of a period or
+    /// more counts round the period.
     pub fn push(&mut self, tag: u16) -> i64
-        requires tag { tag < 16384 }
-        requires answer { unsigned_abs self.old.answer < 2 ^ 60 }
-        ensures clock { self.new.clock ≡ self.old.clock }
-        ensures stands { (tags : List ℕ) → StandsFor self.old tags → StandsFor self.new (tags ++ tag ∷ []) }
+        requires { unsigned_abs self.old.answer < 2 ^ 60 }
+        ensures value { self.new ≡ pushed self.old tag }
+        ensures stands { Adds StandsFor self.old self.new tag }
         ensures answer { result ≡ self.new.answer }
+        ensures size { unsigned_abs result < 2 ^ 61 }
     {
         self.answer += added(self.clock, self.last, tag);
         self.last = Some(tag);
@@ -68,8 +71,6 @@ impl Unwrap {
 
 // What a tag adds to the phase after the one before it, if there is one.
 fn added(clock: Clock, before: Option<u16>, tag: u16) -> i64
-    requires before { ForSome before (λ last. last < 16384) }
-    requires tag { tag < 16384 }
     ensures value { result ≡ added_by clock before tag }
     ensures size { unsigned_abs result ≤ 2 ^ 29 }
 {
@@ -81,14 +82,13 @@ fn added(clock: Clock, before: Option<u16>, tag: u16) -> i64
 
 // The difference of the phases that two tags tell, brought into half a period on either side.
 fn difference_round(clock: Clock, before: u16, tag: u16) -> i64
-    requires before { before < 16384 }
-    requires tag { tag < 16384 }
     ensures value { result ≡ added_by clock (Some before) tag }
     ensures size { unsigned_abs result ≤ 2 ^ 29 }
 {
     let step = clock.step().unsigned_abs() as i64;
-    let ahead = (tag + STEPS + STEPS / 2 - before) % STEPS;
-    step * (i64::from(ahead) - i64::from(STEPS / 2))
+    let ahead = (u32::from(tag) + WHOLE_PERIODS + HALF_PERIOD - u32::from(before))
+        % u32::from(STEPS);
+    step * (i64::from(ahead) - i64::from(HALF_PERIOD))
 }
 
 #[cfg(test)]
@@ -96,7 +96,7 @@ mod tests {
     use super::*;
 
     // Three tags after a restart, and the unwrapped phase after each, in tau.
-    const PHASES: [(Clock, [u16; 3], [i64; 3]); 8] = [
+    const PHASES: [(Clock, [u16; 3], [i64; 3]); 9] = [
         // across the end of the period, upwards and downwards
         (Clock::Mhz125, [16383, 0, 1], [0, 32_000, 64_000]),
         (Clock::Mhz62, [16383, 0, 1], [0, 64_000, 128_000]),
@@ -116,6 +116,8 @@ mod tests {
         ),
         (Clock::Mhz125, [5, 8198, 5], [0, -262_112_000, 0]),
         (Clock::Mhz125, [9, 9, 10], [0, 0, 32_000]),
+        // tags of a period and more count round it
+        (Clock::Mhz125, [0, 65535, 16384], [0, -32_000, 0]),
     ];
 
     #[test]
@@ -123,7 +125,6 @@ mod tests {
         for (clock, tags, phases) in PHASES {
             let mut unwrap = Unwrap::new(clock);
             let [first, second, third] = tags;
-            assert!(rt; first < STEPS && second < STEPS && third < STEPS);
             let one = unwrap.push(first);
             assert!(rt; one == phases[0] && one.unsigned_abs() < 1 << 60, "{first}");
             let two = unwrap.push(second);

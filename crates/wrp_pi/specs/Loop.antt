@@ -1,5 +1,5 @@
 -- The integer loop: a proportional and integral controller of a DAC, over the errors since its last restart (this project's profile).
-use Rattle.std.specs.Prelude.{ℕ, ℤ, pos, neg_ℤ, ◌≡◌, ◌^◌, ◌+ℤ◌, ◌*ℤ◌, Bool, ◌&&◌, ◌||◌, int_lt, if◌then◌else◌, List, fold}
+use Rattle.std.specs.Prelude.{ℕ, ℤ, pos, neg_ℤ, ◌≡◌, ◌^◌, ◌+ℤ◌, ◌*ℤ◌, Bool, ◌&&◌, ◌||◌, int_lt, if◌then◌else◌, List, [], ◌∷◌}
 use Rattle.std.specs.Int.{int_min, int_max, saturate_unsigned, w16}
 use Rattle.wrp_base.specs.Division.{floor_quotient}
 
@@ -27,9 +27,10 @@ abbrev pub next_accumulated : Gains → ℤ → ℤ → ℤ
 next_accumulated gains before e =
     if is_frozen (drive gains (raised before e) e) e then before else raised before e
 
--- the accumulated error after these errors since a restart, oldest first
+-- the accumulated error after these errors since a restart, newest first
 abbrev pub accumulated : Gains → List ℤ → ℤ
-accumulated gains errors = fold (next_accumulated gains) (pos 0) errors
+accumulated gains [] = pos 0
+accumulated gains (e ∷ before) = next_accumulated gains (accumulated gains before) e
 
 -- the DAC value at an error after these errors: the drive, held within 0 to 65535
 abbrev pub dac_value : Gains → List ℤ → ℤ → ℕ
@@ -40,6 +41,18 @@ pub record Loop : Type 0 where
   pub gains : Gains
   pub accumulated : ℤ
 
--- the loop has taken these errors since its last restart, oldest first
+-- a loop at rest
+abbrev pub rested : Gains → Loop
+rested gains = record { gains = gains; accumulated = pos 0 }
+
+-- a loop that took one more error
+abbrev pub updated : Loop → ℤ → Loop
+updated pi e = record { gains = pi.gains; accumulated = next_accumulated pi.gains pi.accumulated e }
+
+-- the DAC value at that error: the drive, held within 0 to 65535
+abbrev pub value_at : Loop → ℤ → ℕ
+value_at pi e = saturate_unsigned w16 (drive pi.gains (raised pi.accumulated e) e)
+
+-- the loop has taken these errors since its last restart, newest first
 pub record StandsFor (pi : Loop) (errors : List ℤ) : Type 0 where
   pub accumulated : pi.accumulated ≡ accumulated pi.gains errors

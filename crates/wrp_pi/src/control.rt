@@ -1,7 +1,8 @@
 //! The controller: from a phase error to a DAC value.
-ghost use Rattle.std.specs.Prelude.{◌≡◌, ℤ, ◌^◌, ◌≤◌, unsigned_abs, if◌then◌else◌, List, [], ◌∷◌, ◌++◌};
+ghost use Rattle.std.specs.Prelude.{◌≡◌, ℤ, ◌^◌, ◌≤◌, unsigned_abs, if◌then◌else◌, List, []};
 ghost use Rattle.std.specs.Int.{saturate_unsigned, w16};
-ghost use Rattle.wrp_pi.specs.Loop.{raised, drive, is_frozen, dac_value, StandsFor};
+ghost use Rattle.wrp_pi.specs.Calls.{Adds};
+ghost use Rattle.wrp_pi.specs.Loop.{raised, drive, is_frozen, dac_value, rested, updated, value_at, StandsFor};
 
 use std::marker::Model;
 use wrp_base::{floor_div, product, sum};
@@ -41,7 +42,7 @@ impl Pi {
     /// A loop at rest. `kp` and `ki` are the proportional and the integral gain in `1/4096`; `bias` is
     /// the DAC value at rest.
     pub fn new(kp: u16, ki: u16, bias: u16) -> Pi
-        ensures gains { result.gains ≡ record { kp = kp; ki = ki; bias = bias } }
+        ensures value { result ≡ rested (record { kp = kp; ki = ki; bias = bias }) }
         ensures stands { StandsFor result [] }
     {
         Pi {
@@ -54,7 +55,7 @@ impl Pi {
 
     /// Sets the accumulated error to 0.
     pub fn restart(&mut self)
-        ensures gains { self.new.gains ≡ self.old.gains }
+        ensures value { self.new ≡ rested self.old.gains }
         ensures stands { StandsFor self.new [] }
     {
         self.accumulated = 0;
@@ -66,9 +67,11 @@ impl Pi {
     /// as it was where the DAC is out of its range and the error would drive it further out.
     pub fn update(&mut self, e: i32) -> u16
         requires { unsigned_abs e ≤ 2 ^ 20 }
-        ensures gains { self.new.gains ≡ self.old.gains }
-        ensures stands { (errors : List ℤ) → StandsFor self.old errors → StandsFor self.new (errors ++ e ∷ []) }
-        ensures value { (errors : List ℤ) → StandsFor self.old errors → result ≡ dac_value self.old.gains errors e }
+        ensures value { self.new ≡ updated self.old e }
+        ensures dac { result ≡ value_at self.old e }
+        ensures stands { Adds StandsFor self.old self.new e }
+        ensures drives { (errors : List ℤ) → StandsFor self.old errors →
+            result ≡ dac_value self.old.gains errors e }
     {
         let raised = raised_by(self.accumulated, e);
         let drive = self.driven(raised, e);

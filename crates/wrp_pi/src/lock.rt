@@ -1,6 +1,7 @@
 //! The lock detector: a count of small errors, with hysteresis.
-ghost use Rattle.std.specs.Prelude.{◌≡◌, ℤ, ◌<◌, ◌≤◌, ◌||◌, ◌&&◌, ◌==◌, nat_lt, List, [], ◌∷◌, ◌++◌};
-ghost use Rattle.wrp_pi.specs.Lock.{next_count, StandsFor};
+ghost use Rattle.std.specs.Prelude.{◌≡◌, ◌<◌, ◌≤◌, []};
+ghost use Rattle.wrp_pi.specs.Calls.{Adds};
+ghost use Rattle.wrp_pi.specs.Lock.{next_count, is_locked_at, rested, updated, StandsFor};
 
 use std::marker::Model;
 
@@ -32,7 +33,7 @@ impl LockDet {
     /// unlocks at `delock`.
     pub fn new(threshold: u32, lock: u32, delock: u32) -> LockDet
         requires { delock < lock }
-        ensures limits { result.limits ≡ record { threshold = threshold; lock = lock; delock = delock } }
+        ensures value { result ≡ rested (record { threshold = threshold; lock = lock; delock = delock }) }
         ensures stands { StandsFor result [] }
     {
         LockDet {
@@ -46,7 +47,7 @@ impl LockDet {
 
     /// Sets the count to 0, and unlocks.
     pub fn restart(&mut self)
-        ensures limits { self.new.limits ≡ self.old.limits }
+        ensures value { self.new ≡ rested self.old.limits }
         ensures stands { StandsFor self.new [] }
     {
         self.count = 0;
@@ -66,8 +67,8 @@ impl LockDet {
     /// lets a count above `delock` fall by one; a count then at or below `delock` becomes 0, and it is
     /// unlocked.
     pub fn update(&mut self, e: i32) -> bool
-        ensures limits { self.new.limits ≡ self.old.limits }
-        ensures stands { (errors : List ℤ) → StandsFor self.old errors → StandsFor self.new (errors ++ e ∷ []) }
+        ensures value { self.new ≡ updated self.old e }
+        ensures stands { Adds StandsFor self.old self.new e }
         ensures locked { result ≡ self.new.locked }
     {
         let count = self.next_count(e);
@@ -94,7 +95,7 @@ impl LockDet {
 
     // Whether it is locked at this next count: from `lock` on, until the count is 0.
     fn is_locked_at(&self, count: u32) -> bool
-        ensures { result ≡ (count == self.now.limits.lock || (self.now.locked && nat_lt 0 count)) }
+        ensures { result ≡ is_locked_at self.now count }
     {
         count == self.lock || (self.locked && count > 0)
     }

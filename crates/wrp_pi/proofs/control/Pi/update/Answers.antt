@@ -1,8 +1,10 @@
--- The accumulated error moves by the rule.
-use Rattle.std.proofs.Common.{arith}
-use Rattle.std.proofs.lemmas.Int.{to_z-of_z}
-use Rattle.wrp_pi.proofs.LoopLaws.{StandsFor-update}
+-- The error goes in front of those before.
+use Rattle.std.proofs.Common.{rules}
+use Rattle.wrp_pi.proofs.LoopLaws.{Adds-updated}
 use Rattle.wrp_pi.proofs.control.Pi.update.Goals as goal
 
+pub returns-clause-value : goal.returns-clause-value
+returns-clause-value c = search rules
+
 pub returns-clause-stands : goal.returns-clause-stands
-returns-clause-stands c = StandsFor-update _ _ _ _ _ c.self.view_is (grind (arith, to_z-of_z))
+returns-clause-stands c = Adds-updated _ _ _ (returns-clause-value c)
