@@ -25,8 +25,8 @@ counts_after counters reason =
 abbrev pub times_among : List ℕ → ℕ → ℕ
 times_among counted reason = min (count_by (λ r. r == reason) counted) greatest_count
 
--- the counters stand for the reasons that were counted: each is how often its own reason was
-pub record Stands (counters counted : List ℕ) : Type 0 where
+-- the counters stand for the reasons that were counted, newest first: each is how often its own reason was
+pub record StandsFor (counters counted : List ℕ) : Type 0 where
   pub one_each : length counters ≡ 15
   pub times : (reason : ℕ) → 1 ≤ reason → reason ≤ 15 → count_at counters reason ≡ times_among counted reason
 

@@ -1,6 +1,7 @@
 //! How often a port dropped something, by reason.
-ghost use Rattle.std.specs.Prelude.{◌≡◌, ◌≤◌, ℕ, List, [], ◌∷◌, ◌++◌};
-ghost use Rattle.wrp_data.specs.Counters.{no_counts, count_at, counts_after, nonzero_counts, Stands};
+ghost use Rattle.std.specs.Prelude.{◌≡◌, ◌≤◌, []};
+ghost use Rattle.wrp_base.specs.Calls.{Adds};
+ghost use Rattle.wrp_data.specs.Counters.{no_counts, count_at, counts_after, nonzero_counts, StandsFor};
 
 use crate::Reason;
 use arrayvec::ArrayVec;
@@ -26,7 +27,7 @@ impl Counters {
     /// Counters that are all 0.
     pub fn new() -> Counters
         ensures value { result ≡ no_counts }
-        ensures stands { Stands result [] }
+        ensures stands { StandsFor result [] }
     {
         Counters { numbers: [0; 15] }
     }
@@ -39,7 +40,7 @@ impl Counters {
         ensures raises { self.new ≡ counts_after self.old reason }
 
         // The counters stand for the list of the reasons that were counted.
-        ensures stands { (counted : List ℕ) → Stands self.old counted → Stands self.new (counted ++ reason ∷ []) }
+        ensures stands { Adds StandsFor self.old self.new reason }
     {
         let counter = &mut self.numbers[reason as usize - 1];
         *counter = counter.saturating_add(1);

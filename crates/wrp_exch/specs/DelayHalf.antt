@@ -16,6 +16,10 @@ open_request ring calls = option_and_then (λ id. if is_answered ring id calls t
 abbrev pub delay_half : ℕ → List Call → DelayHalf
 delay_half ring calls = record { request = open_request ring calls; pair = delay_pair ring calls }
 
+-- the half with the request of this id, if one is given, in place of the old one
+abbrev pub asked : DelayHalf → Option ℕ → DelayHalf
+asked half seq = record { request = option_map (λ id. record { seq = id; sent = None }) seq; pair = half.pair }
+
 -- the request has this id and waits for its sending
 abbrev pub awaits_sent : DelayHalf → ℕ → Option Request
 awaits_sent half seq = option_and_then (λ r. if (r.seq == seq) && not (is_some r.sent) then Some r else None) half.request

@@ -1,5 +1,5 @@
 -- A two-step exchange: its four stamps, and the list of calls that it stands for.
-use Rattle.std.specs.Prelude.{◌≡◌, ℕ, ◌^◌, ◌<◌, min, unsigned_abs, List, ◌∷◌, Option}
+use Rattle.std.specs.Prelude.{◌≡◌, ℕ, ◌^◌, ◌<◌, min, unsigned_abs, List, Option, None}
 use Rattle.std.specs.Option.{option_map, option_and_then}
 use Rattle.circular_buffer.specs.Buffer.{Buffer, buffer}
 use Rattle.wrp_base.specs.declared.measurement.Four.{Four}
@@ -39,11 +39,23 @@ pub record ExchangeAt : Type 0 where
   pub sync : SyncHalf
   pub delay : DelayHalf
 
--- an exchange with a ring of `ring` samples stands for these calls: it keeps what looking back finds
-abbrev pub Stands : ℕ → ExchangeAt → List Call → Type 0
-Stands ring exchange calls =
-    exchange ≡ record { ring = buffer (last_samples ring calls) ring; first = first_sample calls; sync = sync_half ring calls; delay = delay_half ring calls }
+-- an exchange whose chain begins at this sample, if one does, with its samples and nothing else kept
+abbrev pub renewed : ExchangeAt → Option ℕ → ExchangeAt
+renewed e first =
+    record {
+      ring = e.ring;
+      first = first;
+      sync = record { pending = None; pair = None };
+      delay = record { request = None; pair = None };
+    }
 
--- the new exchange stands for what the old one stood for, with this call added
-abbrev pub Adds : ExchangeAt → ExchangeAt → Call → Type 0
-Adds old new call = (ring : ℕ) (calls : List Call) → Stands ring old calls → Stands ring new (call ∷ calls)
+-- an exchange with a ring of `ring` samples stands for these calls: it keeps what looking back finds
+abbrev pub StandsFor : ℕ → ExchangeAt → List Call → Type 0
+StandsFor ring exchange calls =
+    exchange
+    ≡ record {
+      ring = buffer (last_samples ring calls) ring;
+      first = first_sample calls;
+      sync = sync_half ring calls;
+      delay = delay_half ring calls;
+    }

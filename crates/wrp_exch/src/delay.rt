@@ -44,9 +44,9 @@ pub struct DelayHalf {
 }
 
 impl DelayHalf {
-    ghost use Rattle.std.specs.Prelude.{◌≡◌, ℕ, ◌^◌, ◌<◌, ◌==◌, ◌&&◌, unsigned_abs, option_map, IfSome};
+    ghost use Rattle.std.specs.Prelude.{◌≡◌, ℕ, ◌^◌, ◌<◌, ◌==◌, ◌&&◌, unsigned_abs, IfSome};
     ghost use Rattle.std.specs.Option.{is_some, option_or};
-    ghost use Rattle.wrp_exch.specs.DelayHalf.{awaits_sent, told_request, left_request, new_delay_pair, HasDelayTimes};
+    ghost use Rattle.wrp_exch.specs.DelayHalf.{asked, awaits_sent, told_request, left_request, new_delay_pair, HasDelayTimes};
 
     /// Nothing kept.
     pub fn new() -> DelayHalf
@@ -62,7 +62,7 @@ impl DelayHalf {
     /// Forgets the request, and keeps the one of this id, if one is given, in its place.
     pub fn ask(&mut self, seq: Option<u16>)
         requires old { HasDelayTimes self.old }
-        ensures value { self.new ≡ record { request = option_map (λ id. record { seq = id; sent = None }) seq; pair = self.old.pair } }
+        ensures value { self.new ≡ asked self.old seq }
         ensures times { HasDelayTimes self.new }
     {
         self.request = seq.map(|seq| Request { seq, sent: None });
@@ -74,7 +74,8 @@ impl DelayHalf {
         requires old { HasDelayTimes self.old }
         requires t3 { IfSome sent (λ s. unsigned_abs s.t3 < 2 ^ 104) }
         ensures kept { result ≡ (is_some (awaits_sent self.old seq) && is_some sent) }
-        ensures value { self.new ≡ record { request = told_request self.old seq sent; pair = self.old.pair } }
+        ensures value { self.new
+            ≡ record { request = told_request self.old seq sent; pair = self.old.pair } }
         ensures times { HasDelayTimes self.new }
     {
         match self.request {

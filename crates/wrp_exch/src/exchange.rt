@@ -38,7 +38,8 @@ impl Exchange {
     ghost use Rattle.wrp_exch.specs.Chain.{first_sample, phase_since};
     ghost use Rattle.wrp_exch.specs.SyncPair.{kept_sync, followed_pair};
     ghost use Rattle.wrp_exch.specs.DelayPair.{kept_sent, answered_pair};
-    ghost use Rattle.wrp_exch.specs.Exchange.{Stands, Adds, four_of, HasTimes};
+    ghost use Rattle.wrp_base.specs.Calls.{Adds};
+    ghost use Rattle.wrp_exch.specs.Exchange.{StandsFor, renewed, four_of, HasTimes};
     ghost use Rattle.wrp_exch.specs.Ticks.{NoneAfter, TicksRise, NotOlder};
 
     /// An exchange with no chain, which knows the last `ring` good samples: 1 to 4096. It takes all
@@ -46,7 +47,7 @@ impl Exchange {
     pub fn new(alloc: Global, ring: usize) -> Result<Exchange, AllocError>
         requires least { 1 ≤ ring }
         requires greatest { ring ≤ 4096 }
-        ensures { IfOk result (λ exchange. Stands ring exchange []) }
+        ensures { IfOk result (λ exchange. StandsFor ring exchange []) }
     {
         Ok(Exchange {
             ring: HeapCircularBuffer::with_capacity(alloc, ring)?,
@@ -59,23 +60,32 @@ impl Exchange {
     /// Starts a chain, whose first sample has the number `n`. All pieces and pairs of an earlier
     /// chain are dropped; the ring stays.
     pub fn start(&mut self, n: u32)
-        ensures { Adds self.old self.new (CallStart n) }
+        ensures { (ring : ℕ) → Adds (StandsFor ring) self.old self.new (CallStart n) }
     {
         self.renew(Some(n));
     }
 
     /// Ends the chain: all pieces, pairs and samples are dropped.
     pub fn clear(&mut self)
-        ensures { Adds self.old self.new CallClear }
+        ensures { (ring : ℕ) → Adds (StandsFor ring) self.old self.new CallClear }
     {
         self.ring.clear();
         self.renew(None);
     }
 
+    /// Makes the exchange one without calls: beside what a clear drops it forgets the ticks that were
+    /// told, which may start anew.
+    pub fn reset(&mut self)
+        ensures { (ring : ℕ) (calls : List Call) → StandsFor ring self.old calls →
+            StandsFor ring self.new [] }
+    {
+        self.clear();
+    }
+
     /// Takes a good sample: its number and the unwrapped phase at it, in tau. A node numbers its
     /// samples upwards; where a number comes again, the newest sample of it counts.
     pub fn sample(&mut self, n: u32, u: i64)
-        ensures { Adds self.old self.new (CallSample n u) }
+        ensures { (ring : ℕ) → Adds (StandsFor ring) self.old self.new (CallSample n u) }
     {
         let _oldest = self.ring.push_front(GoodSample {
             number: n,
@@ -88,11 +98,14 @@ impl Exchange {
     /// at or after the chain's start and is still known. It then takes the place of an earlier one.
     pub fn sync(&mut self, seq: u16, correction: i64, t2: Stamp, tick: u32) -> bool
         requires { unsigned_abs t2.value < 2 ^ 104 }
-        ensures kept { (ring : ℕ) (calls : List Call) → Stands ring self.old calls → result ≡ is_some (kept_sync ring calls seq correction t2 tick) }
-        ensures no_chain { (ring : ℕ) (calls : List Call) → Stands ring self.old calls → IsNone (first_sample calls) → result ≡ false }
-        ensures stands { Adds self.old self.new (CallSync seq correction t2 tick) }
+        ensures kept { (ring : ℕ) (calls : List Call) → StandsFor ring self.old calls →
+            result ≡ is_some (kept_sync ring calls seq correction t2 tick) }
+        ensures no_chain { (ring : ℕ) (calls : List Call) → StandsFor ring self.old calls →
+            IsNone (first_sample calls) → result ≡ false }
+        ensures stands { (ring : ℕ) →
+            Adds (StandsFor ring) self.old self.new (CallSync seq correction t2 tick) }
     {
-        match self.latched(t2.sample) {
+        match self.latched_phase(t2.sample) {
             Some(u2) => {
                 self.sync.hold(HeldSync {
                     seq,
@@ -113,17 +126,21 @@ impl Exchange {
     /// Follow_Up of that sequenceId came in between, and the Sync's sample is still known.
     pub fn follow_up(&mut self, seq: u16, precise: Tau) -> bool
         requires { unsigned_abs precise < 2 ^ 104 }
-        ensures made { (ring : ℕ) (calls : List Call) → Stands ring self.old calls → result ≡ is_some (followed_pair ring calls seq precise) }
-        ensures no_chain { (ring : ℕ) (calls : List Call) → Stands ring self.old calls → IsNone (first_sample calls) → result ≡ false }
-        ensures stands { Adds self.old self.new (CallFollowUp seq precise) }
+        ensures made { (ring : ℕ) (calls : List Call) → StandsFor ring self.old calls →
+            result ≡ is_some (followed_pair ring calls seq precise) }
+        ensures no_chain { (ring : ℕ) (calls : List Call) → StandsFor ring self.old calls →
+            IsNone (first_sample calls) → result ≡ false }
+        ensures stands { (ring : ℕ) →
+            Adds (StandsFor ring) self.old self.new (CallFollowUp seq precise) }
     {
         self.sync.follow_up(seq, precise, &self.ring)
     }
 
     /// Notes that a Delay_Req was put out. Without a chain it is ignored.
     pub fn req_out(&mut self, seq: u16)
-        ensures stands { Adds self.old self.new (CallReqOut seq) }
-        ensures no_chain { (ring : ℕ) (calls : List Call) → Stands ring self.old calls → IsNone (first_sample calls) → self.new ≡ self.old }
+        ensures stands { (ring : ℕ) → Adds (StandsFor ring) self.old self.new (CallReqOut seq) }
+        ensures no_chain { (ring : ℕ) (calls : List Call) → StandsFor ring self.old calls →
+            IsNone (first_sample calls) → self.new ≡ self.old }
     {
         self.delay.ask(self.first.map(|_| seq));
     }
@@ -133,11 +150,14 @@ impl Exchange {
     /// stamp's sample is at or after the chain's start and is still known.
     pub fn req_sent(&mut self, seq: u16, t3: Stamp, tick: u32) -> bool
         requires { unsigned_abs t3.value < 2 ^ 104 }
-        ensures kept { (ring : ℕ) (calls : List Call) → Stands ring self.old calls → result ≡ is_some (kept_sent ring calls seq t3 tick) }
-        ensures no_chain { (ring : ℕ) (calls : List Call) → Stands ring self.old calls → IsNone (first_sample calls) → result ≡ false }
-        ensures stands { Adds self.old self.new (CallReqSent seq t3 tick) }
+        ensures kept { (ring : ℕ) (calls : List Call) → StandsFor ring self.old calls →
+            result ≡ is_some (kept_sent ring calls seq t3 tick) }
+        ensures no_chain { (ring : ℕ) (calls : List Call) → StandsFor ring self.old calls →
+            IsNone (first_sample calls) → result ≡ false }
+        ensures stands { (ring : ℕ) →
+            Adds (StandsFor ring) self.old self.new (CallReqSent seq t3 tick) }
     {
-        let phase = self.latched(t3.sample);
+        let phase = self.latched_phase(t3.sample);
         let sent = phase.map(|u3| Sent {
             t3: t3.value,
             u3,
@@ -151,9 +171,11 @@ impl Exchange {
     /// no Delay_Resp of that sequenceId came since that sending.
     pub fn resp(&mut self, seq: u16, t4: Tau) -> bool
         requires { unsigned_abs t4 < 2 ^ 104 }
-        ensures made { (ring : ℕ) (calls : List Call) → Stands ring self.old calls → result ≡ is_some (answered_pair ring calls seq t4) }
-        ensures no_chain { (ring : ℕ) (calls : List Call) → Stands ring self.old calls → IsNone (first_sample calls) → result ≡ false }
-        ensures stands { Adds self.old self.new (CallResp seq t4) }
+        ensures made { (ring : ℕ) (calls : List Call) → StandsFor ring self.old calls →
+            result ≡ is_some (answered_pair ring calls seq t4) }
+        ensures no_chain { (ring : ℕ) (calls : List Call) → StandsFor ring self.old calls →
+            IsNone (first_sample calls) → result ≡ false }
+        ensures stands { (ring : ℕ) → Adds (StandsFor ring) self.old self.new (CallResp seq t4) }
     {
         self.delay.answer(seq, t4)
     }
@@ -161,30 +183,35 @@ impl Exchange {
     /// The newest matched four; None exactly where one of the two pairs is missing since the chain's
     /// start.
     pub fn four(&self) -> Option<Four>
-        ensures value { (ring : ℕ) (calls : List Call) → Stands ring self.now calls → result ≡ four_of ring calls }
+        ensures value { (ring : ℕ) (calls : List Call) → StandsFor ring self.now calls →
+            result ≡ four_of ring calls }
         ensures times { IfSome result HasTimes }
 
         // Its tick is one that was told.
-        ensures told { (ring tick : ℕ) (calls : List Call) → Stands ring self.now calls → NoneAfter tick calls → IfSome result (λ four. four.tick ≤ tick) }
+        ensures told { (ring tick : ℕ) (calls : List Call) → StandsFor ring self.now calls →
+            NoneAfter tick calls → IfSome result (λ four. four.tick ≤ tick) }
 
         // As long as the ticks that are told do not fall, it is not older than any four before it.
-        ensures rises { (ring : ℕ) (since calls : List Call) → Stands ring self.now (since ++ calls) → TicksRise (since ++ calls) → NotOlder (four_of ring calls) result }
+        ensures rises { (ring : ℕ) (since calls : List Call) →
+            StandsFor ring self.now (since ++ calls) →
+            TicksRise (since ++ calls) →
+            NotOlder (four_of ring calls) result }
     {
         join(self.sync.pair, self.delay.pair)
     }
 
-    /// Drops all pieces and pairs, and sets the chain's first sample.
+    // Drops all pieces and pairs, and sets the chain's first sample.
     fn renew(&mut self, first: Option<u32>)
-        ensures { self.new ≡ record { ring = self.old.ring; first = first; sync = record { pending = None; pair = None }; delay = record { request = None; pair = None } } }
+        ensures { self.new ≡ renewed self.old first }
     {
         self.first = first;
         self.sync = SyncHalf::new();
         self.delay = DelayHalf::new();
     }
 
-    /// The phase at the sample that a stamp latched, in tau, where a chain stands, the sample is at
-    /// or after its start, and the ring still has it.
-    fn latched(&self, sample: u32) -> Option<i64>
+    // The phase at the sample that a stamp latched, in tau, where a chain stands, the sample is at
+    // or after its start, and the ring still has it.
+    fn latched_phase(&self, sample: u32) -> Option<i64>
         ensures { result ≡ phase_since self.now.first self.now.ring.items sample }
     {
         match self.first {
@@ -194,7 +221,7 @@ impl Exchange {
     }
 }
 
-/// The four stamps of the two pairs, if both are there.
+// The four stamps of the two pairs, if both are there.
 fn join(sync: Option<SyncPair>, delay: Option<DelayPair>) -> Option<Four>
     ensures { result ≡ join_pairs sync delay }
 {

@@ -76,7 +76,8 @@ impl SyncHalf {
         requires precise { unsigned_abs precise < 2 ^ 104 }
         ensures made { result ≡ is_some (new_sync_pair self.old ring.now.items seq precise) }
         ensures pending { self.new.pending ≡ left_pending self.old seq }
-        ensures pair { self.new.pair ≡ option_or (new_sync_pair self.old ring.now.items seq precise) self.old.pair }
+        ensures pair { self.new.pair
+            ≡ option_or (new_sync_pair self.old ring.now.items seq precise) self.old.pair }
         ensures times { HasSyncTimes self.new }
     {
         match self.pending {
@@ -99,15 +100,15 @@ impl HeldSync {
     ghost use Rattle.std.specs.Prelude.{◌≡◌, ℕ, ◌^◌, ◌<◌, unsigned_abs};
     ghost use Rattle.wrp_exch.specs.SyncPair.{pair_of_sync};
 
-    /// The pair that this Sync makes with its Follow_Up, whose preciseOriginTimestamp is given with
-    /// its own correction, in tau.
+    // The pair that this Sync makes with its Follow_Up, whose preciseOriginTimestamp is given with
+    // its own correction, in tau.
     fn pair_with(&self, precise: Tau) -> SyncPair
         requires precise { unsigned_abs precise < 2 ^ 104 }
         ensures value { result ≡ pair_of_sync self.now precise }
         ensures t1 { unsigned_abs result.t1 < 2 ^ 105 }
     {
         SyncPair {
-            t1: corrected(precise, self.correction),
+            t1: corrected_time(precise, self.correction),
             t2: self.t2,
             u2: self.u2,
             tick: self.tick,
@@ -115,8 +116,8 @@ impl HeldSync {
     }
 }
 
-/// A time with a correctionField added, in tau.
-fn corrected(precise: Tau, correction: i64) -> Tau
+// A time with a correctionField added, in tau.
+fn corrected_time(precise: Tau, correction: i64) -> Tau
     requires { unsigned_abs precise < 2 ^ 104 }
     ensures value { result ≡ precise +ℤ (pos 1000 *ℤ correction) }
     ensures size { unsigned_abs result < 2 ^ 105 }

@@ -10,7 +10,7 @@ use rows::ROWS;
 use std::test::Fail;
 use wrp_base::{Four, Stamp};
 
-/// Makes one call. Answers whether its piece was kept, where the call says that.
+// Makes one call. Answers whether its piece was kept, where the call says that.
 fn make(exchange: &mut Exchange, call: Call) -> Option<bool> {
     match call {
         Call::Start(first) => exchange.start(first),

@@ -7,13 +7,12 @@ use Rattle.wrp_base.specs.declared.link.Role.TheVariants.{Master, Slave}
 use Rattle.wrp_base.specs.declared.message.WrMsg.TheVariants.{Calibrated as CALIBRATED}
 use Rattle.wrp_link.specs.declared.interface.LinkIn.{LinkIn}
 use Rattle.wrp_link.specs.declared.interface.LinkIn.TheVariants.{Msg}
-use Rattle.wrp_link.specs.declared.interface.LinkSet.{LinkSet}
 use Rattle.wrp_link.specs.LinkAt.{LinkAt, new_link}
 use Rattle.wrp_link.specs.Order.{StaysOut, Told}
 use Rattle.wrp_link.specs.Rows.{Row, Keeps, Fails, Counts, CarrierComes, CarrierGoes, under, slave_row, master_row, message_row, row_of}
-use Rattle.wrp_link.specs.Table.{by_row, after, run_of, Stands, is_same}
+use Rattle.wrp_link.specs.Table.{by_row, after, run_of, StandsFor, is_same}
 use Rattle.wrp_link.proofs.Fits.{Fits, row_fits}
-use Rattle.wrp_link.proofs.Orders.{IsOrdered, counted_deltas, after_ordered, new_ordered, idle_unknown_of}
+use Rattle.wrp_link.proofs.Orders.{IsOrdered, counted_deltas, after_ordered, run_ordered, new_ordered, idle_unknown_of}
 
 -- the delays that stand are in a link that is out of IDLE
 out_of_idle : (l : LinkAt) (tx rx : ℕ) → IsOrdered l → l.deltas ≡ Some (tx, rx) → l.state ≢ Idle
@@ -54,7 +53,7 @@ stood_or_told l input (Keeps tx' rx' next sends) tx rx is f e =
     inr (record { is = told; moved = moved })
 stood_or_told l input Fails tx rx is f e = cc
 stood_or_told l input Counts tx rx is f e = inl (sym (counted_deltas l l.state) ∙ e)
-stood_or_told l input (CarrierComes fitted) tx rx is f e = cc
+stood_or_told l input (CarrierComes own_module) tx rx is f e = cc
 stood_or_told l input CarrierGoes tx rx is f e = cc
 stood_or_told l input _ tx rx is f e = inl e
 
@@ -70,7 +69,7 @@ stand_on l input (Keeps tx' rx' next sends) tx rx f o e out =
     cc
 stand_on l input Fails tx rx f o e out = absurd (out refl)
 stand_on l input Counts tx rx f o e out = counted_deltas l l.state ∙ e
-stand_on l input (CarrierComes fitted) tx rx f o e out = absurd (out refl)
+stand_on l input (CarrierComes own_module) tx rx f o e out = absurd (out refl)
 stand_on l input CarrierGoes tx rx f o e out = absurd (out refl)
 stand_on l input _ tx rx f o e out = e
 
@@ -102,84 +101,64 @@ kept :
 kept l tx rx =
     under_keeps l tx rx l.carrier (message_row l l.role (CALIBRATED tx rx)) (message_keeps l l.role tx rx)
 
--- staying out of IDLE begins there
-stays_here : (l : LinkAt) (inputs : List LinkIn) → StaysOut l inputs → l.state ≢ Idle
-stays_here l [] out = out
-stays_here l (input ∷ inputs) out = out.0
-
 none_is_not_some : {A : Type 0} {a : A} → None ≡ Some a → ⊥
 none_is_not_some e = cc
 
 -- delays stand as long as the link stays out of IDLE
 stand_over :
-    (l : LinkAt) (inputs : List LinkIn) (tx rx : ℕ) →
-    IsOrdered l → l.deltas ≡ Some (tx, rx) → StaysOut l inputs → (run_of l inputs).deltas ≡ Some (tx, rx)
-stand_over l [] tx rx o e out = e
-stand_over l (input ∷ inputs) tx rx o e out =
-    stand_over (after l input) inputs tx rx
-    (after_ordered l input o)
-    (stand_on l input (row_of l input) tx rx (row_fits l input o.belongs) o e (stays_here (after l input) inputs out.1))
-    out.1
-
--- the CALIBRATED that told them stands among the inputs
-told_stand :
-    (l : LinkAt) (before since : List LinkIn) (tx rx : ℕ) →
+    (l : LinkAt) (since before : List LinkIn) (tx rx : ℕ) →
     IsOrdered l →
-    (run_of l before).state ≢ (after (run_of l before) (Msg (CALIBRATED tx rx))).state →
-    StaysOut (after (run_of l before) (Msg (CALIBRATED tx rx))) since →
-    (run_of l (before ++ Msg (CALIBRATED tx rx) ∷ since)).deltas ≡ Some (tx, rx)
-told_stand l [] since tx rx o moved stays =
-    stand_over (after l (Msg (CALIBRATED tx rx))) since tx rx
-    (after_ordered l (Msg (CALIBRATED tx rx)) o)
-    (kept l tx rx moved)
-    stays
-told_stand l (input ∷ before) since tx rx o moved stays =
-    told_stand (after l input) before since tx rx (after_ordered l input o) moved stays
+    (run_of l before).deltas ≡ Some (tx, rx) →
+    StaysOut l since before → (run_of l (since ++ before)).deltas ≡ Some (tx, rx)
+stand_over l [] before tx rx o e out = e
+stand_over l (input ∷ since) before tx rx o e out =
+    let k : LinkAt = run_of l (since ++ before) in
+    let ordered : IsOrdered k = run_ordered l (since ++ before) o in
+    stand_on k input (row_of k input) tx rx
+    (row_fits k input ordered.belongs)
+    ordered
+    (stand_over l since before tx rx o e out.1)
+    out.0
 
--- the delays that stand after inputs were told among them, or stood before and the link stayed out
+-- the delays that stand after inputs were told among them
 stand_told :
     (l : LinkAt) (inputs : List LinkIn) (tx rx : ℕ) →
-    IsOrdered l →
-    (run_of l inputs).deltas ≡ Some (tx, rx) →
-    Told l inputs tx rx ⊎ ((l.deltas ≡ Some (tx, rx)) × StaysOut l inputs)
-stand_told l [] tx rx o e = inr (e, out_of_idle l tx rx o e)
-stand_told l (input ∷ inputs) tx rx o e =
-    elim (stand_told (after l input) inputs tx rx (after_ordered l input o) e) [
-      | inl t ↦
-          inl (record {
-            before = input ∷ t.before;
-            since = t.since;
+    IsOrdered l → l.deltas ≡ None → (run_of l inputs).deltas ≡ Some (tx, rx) → Told l inputs tx rx
+stand_told l [] tx rx o none e = absurd (none_is_not_some (sym none ∙ e))
+stand_told l (input ∷ before) tx rx o none e =
+    let k : LinkAt = run_of l before in
+    let ordered : IsOrdered k = run_ordered l before o in
+    let out : (after k input).state ≢ Idle = out_of_idle (after k input) tx rx (after_ordered k input ordered) e in
+    elim (stood_or_told k input (row_of k input) tx rx refl (row_fits k input ordered.belongs) e) [
+      | inl stood ↦
+          let t : Told l before tx rx = stand_told l before tx rx o none stood in
+          record {
+            since = input ∷ t.since;
+            before = t.before;
             splits = ap (λ xs. input ∷ xs) t.splits;
             moved = t.moved;
-            stays = t.stays;
-          })
-      | inr s ↦
-          elim (stood_or_told l input (row_of l input) tx rx refl (row_fits l input o.belongs) s.0) [
-            | inl stood ↦ inr (stood, (out_of_idle l tx rx o stood, s.1))
-            | inr t ↦
-                inl (record {
-                  before = [];
-                  since = inputs;
-                  splits = ap (λ i. i ∷ inputs) t.is;
-                  moved = subst (λ i. l.state ≢ (after l i).state) t.is t.moved;
-                  stays = subst (λ i. StaysOut (after l i) inputs) t.is s.1;
-                })
-          ]
+            stays = (subst (λ xs. (run_of l (input ∷ xs)).state ≢ Idle) t.splits out, t.stays);
+          }
+      | inr t ↦
+          record {
+            since = [];
+            before = before;
+            splits = ap (λ i. i ∷ before) t.is;
+            moved = subst (λ i. k.state ≢ (after k i).state) t.is t.moved;
+            stays = subst (λ i. (after k i).state ≢ Idle) t.is out;
+          }
     ]
 
 -- the delays of a link are those that the peer told
 pub deltas_are_told :
-    (role : Role) (set : LinkSet) (l : LinkAt) (inputs : List LinkIn) →
-    Stands role set l inputs →
-    (tx rx : ℕ) → (l.deltas ≡ Some (tx, rx)) ↔ Told (new_link role set) inputs tx rx
-deltas_are_told role set l inputs stood tx rx = (
-  λ e.
-      elim (stand_told (new_link role set) inputs tx rx (new_ordered role set) (ap (λ k. k.deltas) (sym stood) ∙ e)) [
-        | inl t ↦ t
-        | inr s ↦ absurd (none_is_not_some s.0)
-      ],
-  λ t.
-      ap (λ k. k.deltas) stood
-      ∙ ap (λ xs. (run_of (new_link role set) xs).deltas) t.splits
-      ∙ told_stand (new_link role set) t.before t.since tx rx (new_ordered role set) t.moved t.stays,
-)
+    (l : LinkAt) (inputs : List LinkIn) →
+    StandsFor l inputs → (tx rx : ℕ) → (l.deltas ≡ Some (tx, rx)) ↔ Told (new_link l.role l.set) inputs tx rx
+deltas_are_told l inputs stood tx rx =
+    let start : LinkAt = new_link l.role l.set in
+    let o : IsOrdered start = new_ordered l.role l.set in (
+      λ e. stand_told start inputs tx rx o refl (ap (λ k. k.deltas) (sym stood) ∙ e),
+      λ t.
+          ap (λ k. k.deltas) stood
+          ∙ ap (λ xs. (run_of start xs).deltas) t.splits
+          ∙ stand_over start t.since (Msg (CALIBRATED tx rx) ∷ t.before) tx rx o (kept (run_of start t.before) tx rx t.moved) t.stays,
+    )

@@ -195,4 +195,4 @@ row_fits l (Announce suffix) h =
 row_fits l (Tick locked) h =
     under_fits l.carrier l.role l.state (Tick locked) (tick_row l l.state locked) (tick_fits l l.role l.state locked h)
 row_fits l CarrierDown h = under_fits l.carrier l.role l.state CarrierDown CarrierGoes tt
-row_fits l (CarrierUp fitted) h = tt
+row_fits l (CarrierUp own_module) h = tt

@@ -11,8 +11,9 @@ use Rattle.wrp_link.specs.Laws.{OneMessageTurnsOn, EachStateInItsTurn, IdleKeeps
 use Rattle.wrp_link.specs.LinkAt.{LinkAt, new_link}
 use Rattle.wrp_link.specs.Order.{order_of, up_to, passing, passed_by}
 use Rattle.wrp_link.specs.Rows.{Row, Moves, Keeps, Fails, Counts, CarrierComes, CarrierGoes, row_of}
-use Rattle.wrp_link.specs.Table.{counted, by_row, after, run_of, Stands}
+use Rattle.wrp_link.specs.Table.{counted, by_row, after, run_of, StandsFor}
 use Rattle.wrp_link.proofs.Fits.{Belongs, knows, Fits, Follows, row_fits}
+use Rattle.wrp_link.proofs.Runs.{by_row_role}
 
 -- a link in a state of its role that knows the peer's delays exactly where it is to
 pub record IsOrdered (l : LinkAt) : Type 0 where
@@ -36,11 +37,7 @@ counted_ordered l Idle o = record { belongs = o.belongs; known = o.known }
 counted_ordered l LinkOn o = record { belongs = o.belongs; known = o.known }
 counted_ordered l _ o = o
 
--- counting a tick leaves role, state and deltas
-pub counted_role : (l : LinkAt) (state : LinkState) → (counted l state).role ≡ l.role
-counted_role l Idle = refl
-counted_role l _ = refl
-
+-- counting a tick leaves state and deltas
 pub counted_state : (l : LinkAt) (state : LinkState) → (counted l state).state ≡ l.state
 counted_state l Idle = refl
 counted_state l _ = refl
@@ -48,11 +45,6 @@ counted_state l _ = refl
 pub counted_deltas : (l : LinkAt) (state : LinkState) → (counted l state).deltas ≡ l.deltas
 counted_deltas l Idle = refl
 counted_deltas l _ = refl
-
--- no row changes the role
-by_row_role : (l : LinkAt) (row : Row) → (by_row l row).role ≡ l.role
-by_row_role l Counts = counted_role l l.state
-by_row_role l _ = refl
 
 pub by_row_ordered :
     (l : LinkAt) (input : LinkIn) (row : Row) →
@@ -63,7 +55,7 @@ by_row_ordered l input (Keeps tx rx next sends) f o =
     record { belongs = f.follows.belongs; known = sym f.known }
 by_row_ordered l input Fails f o = record { belongs = idle_belongs l.role; known = idle_unknown l.role }
 by_row_ordered l input Counts f o = counted_ordered l l.state o
-by_row_ordered l input (CarrierComes fitted) f o =
+by_row_ordered l input (CarrierComes own_module) f o =
     record { belongs = idle_belongs l.role; known = idle_unknown l.role }
 by_row_ordered l input CarrierGoes f o = record { belongs = idle_belongs l.role; known = idle_unknown l.role }
 by_row_ordered l input _ f o = record { belongs = o.belongs; known = o.known }
@@ -73,16 +65,18 @@ after_ordered l input o = by_row_ordered l input (row_of l input) (row_fits l in
 
 pub run_ordered : (l : LinkAt) (inputs : List LinkIn) → IsOrdered l → IsOrdered (run_of l inputs)
 run_ordered l [] o = o
-run_ordered l (input ∷ inputs) o = run_ordered (after l input) inputs (after_ordered l input o)
+run_ordered l (input ∷ before) o = after_ordered (run_of l before) input (run_ordered l before o)
 
 pub new_ordered : (role : Role) (set : LinkSet) → IsOrdered (new_link role set)
 new_ordered role set = record { belongs = idle_belongs role; known = idle_unknown role }
 
-pub stands_ordered :
-    (role : Role) (set : LinkSet) (l : LinkAt) (inputs : List LinkIn) →
-    Stands role set l inputs → IsOrdered l
-stands_ordered role set l inputs stood =
-    subst IsOrdered (sym stood) (run_ordered (new_link role set) inputs (new_ordered role set))
+stands_ordered : (l : LinkAt) (inputs : List LinkIn) → StandsFor l inputs → IsOrdered l
+stands_ordered l inputs stood =
+    subst IsOrdered (sym stood) (run_ordered (new_link l.role l.set) inputs (new_ordered l.role l.set))
+
+run_role : (l : LinkAt) (inputs : List LinkIn) → (run_of l inputs).role ≡ l.role
+run_role l [] = refl
+run_role l (input ∷ before) = by_row_role (run_of l before) (row_of (run_of l before) input) ∙ run_role l before
 
 -- a state that stays passes nothing
 passing_same : (role : Role) (s : LinkState) → passing (up_to s (order_of role)) s s ≡ up_to s (order_of role)
@@ -108,31 +102,27 @@ passing_by_row l input (Moves next sends) f = passing_next l.role l.state next f
 passing_by_row l input (Keeps tx rx next sends) f = passing_next l.role l.state next f.follows
 passing_by_row l input Fails f = passing_idle (up_to l.state (order_of l.role)) l.state l.role
 passing_by_row l input Counts f = rw (counted_state l l.state) (passing_same l.role l.state)
-passing_by_row l input (CarrierComes fitted) f = passing_idle (up_to l.state (order_of l.role)) l.state l.role
+passing_by_row l input (CarrierComes own_module) f = passing_idle (up_to l.state (order_of l.role)) l.state l.role
 passing_by_row l input CarrierGoes f = passing_idle (up_to l.state (order_of l.role)) l.state l.role
 passing_by_row l input _ f = passing_same l.role l.state
 
 -- over all inputs the states are passed in their order
 passed_in_order :
-    (l : LinkAt) (passed : List LinkState) (inputs : List LinkIn) →
-    IsOrdered l →
-    passed ≡ up_to l.state (order_of l.role) →
-    passed_by l passed inputs ≡ up_to (run_of l inputs).state (order_of l.role)
-passed_in_order l passed [] o e = e
-passed_in_order l passed (input ∷ inputs) o e =
-    let same : (after l input).role ≡ l.role = by_row_role l (row_of l input) in
-    let here : passing passed l.state (after l input).state ≡ up_to (after l input).state (order_of l.role) =
-    ap (λ p. passing p l.state (after l input).state) e
-    ∙ passing_by_row l input (row_of l input) (row_fits l input o.belongs) in
-    let there : passing passed l.state (after l input).state ≡ up_to (after l input).state (order_of (after l input).role) =
-    here ∙ ap (λ r. up_to (after l input).state (order_of r)) (sym same) in
-    passed_in_order (after l input) (passing passed l.state (after l input).state) inputs (after_ordered l input o) there
-    ∙ ap (λ r. up_to (run_of (after l input) inputs).state (order_of r)) same
+    (l : LinkAt) (inputs : List LinkIn) →
+    IsOrdered l → l.state ≡ Idle → passed_by l inputs ≡ up_to (run_of l inputs).state (order_of l.role)
+passed_in_order l [] o idle = idle_way l.role ∙ ap (λ s. up_to s (order_of l.role)) (sym idle)
+passed_in_order l (input ∷ before) o idle =
+    let k : LinkAt = run_of l before in
+    let next : LinkAt = after k input in
+    let here : passing (up_to k.state (order_of k.role)) k.state next.state ≡ up_to next.state (order_of k.role) =
+    passing_by_row k input (row_of k input) (row_fits k input (run_ordered l before o).belongs) in
+    let P : Role → Type 0 = λ r. passing (up_to k.state (order_of r)) k.state next.state ≡ up_to next.state (order_of r) in
+    ap (λ p. passing p k.state next.state) (passed_in_order l before o idle) ∙ subst P (run_role l before) here
 
 pub each_state_in_its_turn : EachStateInItsTurn
-each_state_in_its_turn role set l inputs stood =
-    passed_in_order (new_link role set) (Idle ∷ []) inputs (new_ordered role set) (idle_way role)
-    ∙ ap (λ k. up_to k.state (order_of role)) (sym stood)
+each_state_in_its_turn l inputs stood =
+    passed_in_order (new_link l.role l.set) inputs (new_ordered l.role l.set) refl
+    ∙ ap (λ k. up_to k.state (order_of l.role)) (sym stood)
 
 -- the delays are known in no link that is in IDLE
 pub idle_unknown_of : (l : LinkAt) → IsOrdered l → l.state ≡ Idle → is_some l.deltas ≡ false
@@ -143,8 +133,7 @@ none_of None e = refl
 none_of (Some a) e = cc
 
 pub idle_keeps_no_deltas : IdleKeepsNoDeltas
-idle_keeps_no_deltas role set l inputs stood e =
-    none_of l.deltas (idle_unknown_of l (stands_ordered role set l inputs stood) e)
+idle_keeps_no_deltas l inputs stood e = none_of l.deltas (idle_unknown_of l (stands_ordered l inputs stood) e)
 
 -- a row that ends in WR_LINK_ON
 turned_on :
@@ -154,17 +143,10 @@ turned_on l input (Moves next sends) f off on = f.turns on
 turned_on l input (Keeps tx rx next sends) f off on = f.turns on
 turned_on l input Fails f off on = cc
 turned_on l input Counts f off on = absurd (off (sym (counted_state l l.state) ∙ on))
-turned_on l input (CarrierComes fitted) f off on = cc
+turned_on l input (CarrierComes own_module) f off on = cc
 turned_on l input CarrierGoes f off on = cc
 turned_on l input _ f off on = absurd (off on)
 
-run_role : (l : LinkAt) (inputs : List LinkIn) → (run_of l inputs).role ≡ l.role
-run_role l [] = refl
-run_role l (input ∷ inputs) = run_role (after l input) inputs ∙ by_row_role l (row_of l input)
-
 pub one_message_turns_on : OneMessageTurnsOn
-one_message_turns_on role set l inputs input stood off on =
-    let is_role : l.role ≡ role = ap (λ k. k.role) stood ∙ run_role (new_link role set) inputs in
-    let o : IsOrdered l = stands_ordered role set l inputs stood in
-    subst (λ r. TurnsOn r l.state input) is_role
-    (turned_on l input (row_of l input) (row_fits l input o.belongs) off on)
+one_message_turns_on l inputs input stood off on =
+    turned_on l input (row_of l input) (row_fits l input (stands_ordered l inputs stood).belongs) off on

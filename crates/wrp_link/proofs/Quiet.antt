@@ -1,33 +1,36 @@
 -- Quiet time lasts the ticks that are left of it.
-use Rattle.std.proofs.Common.{◌≡◌, refl, ap, ◌∙◌, ℕ, ◌-◌, suc, Bool, true, cond, eqb, ltb, [], ◌∷◌, length, arith}
+use Rattle.std.proofs.Common.{◌≡◌, refl, ap, ℕ, ◌-◌, Bool, true, if◌then◌else◌, nat_lt, ◌==◌, List, [], ◌∷◌, map, length, arith}
 use Rattle.std.proofs.lemmas.Bool.Decides.{nat_tests}
 use Rattle.wrp_base.specs.declared.link.LinkState.TheVariants.{Idle}
 use Rattle.wrp_base.specs.declared.link.LinkWord.TheVariants.{Quiet, Ptp}
 use Rattle.wrp_link.specs.declared.interface.LinkIn.TheVariants.{Tick}
 use Rattle.wrp_link.specs.Laws.{QuietTimeLasts}
 use Rattle.wrp_link.specs.LinkAt.{LinkAt}
-use Rattle.wrp_link.specs.Table.{after}
+use Rattle.wrp_link.specs.Table.{after, run_of, word_of}
 
--- what a tick leaves of a link in IDLE: its quiet time is one tick less
-record StaysQuiet (l next : LinkAt) : Type 0 where
-  lit : next.carrier ≡ true
-  idle : next.state ≡ Idle
-  less : next.quiet ≡ l.quiet - 1
+-- a link in IDLE, with a carrier and so many ticks of quiet time left
+record IsQuiet (l : LinkAt) (quiet : ℕ) : Type 0 where
+  lit : l.carrier ≡ true
+  idle : l.state ≡ Idle
+  left : l.quiet ≡ quiet
 
-quiet_tick : (l : LinkAt) (locked : Bool) → l.carrier ≡ true → l.state ≡ Idle → StaysQuiet l (after l (Tick locked))
-quiet_tick l locked lit idle =
-    record { lit = rw (lit, idle) refl; idle = rw (lit, idle) refl; less = rw (lit, idle) refl }
+quiet_tick : (l : LinkAt) (quiet : ℕ) (locked : Bool) → IsQuiet l quiet → IsQuiet (after l (Tick locked)) (quiet - 1)
+quiet_tick l quiet locked h =
+    record { lit = rw (h.lit, h.idle) refl; idle = rw (h.lit, h.idle) refl; left = rw (h.lit, h.idle) (ap (λ q. q - 1) h.left) }
 
-quiet_word : (quiet : ℕ) → cond (eqb quiet 0) Ptp Quiet ≡ cond (ltb 0 quiet) Quiet Ptp
-quiet_word quiet = grind (arith, nat_tests)
+quiet_ticks :
+    (l : LinkAt) (ticks : List Bool) →
+    l.carrier ≡ true → l.state ≡ Idle → IsQuiet (run_of l (map Tick ticks)) (l.quiet - length ticks)
+quiet_ticks l [] lit idle = record { lit = lit; idle = idle; left = omega arith }
+quiet_ticks l (t ∷ ticks) lit idle =
+    let next : IsQuiet (after (run_of l (map Tick ticks)) (Tick t)) (l.quiet - length ticks - 1) =
+    quiet_tick (run_of l (map Tick ticks)) (l.quiet - length ticks) t (quiet_ticks l ticks lit idle) in
+    record { lit = next.lit; idle = next.idle; left = omega arith }
 
-one_less : (n quiet : ℕ) → cond (ltb n (quiet - 1)) Quiet Ptp ≡ cond (ltb (suc n) quiet) Quiet Ptp
-one_less n quiet = grind (arith, nat_tests)
+quiet_word : (l : LinkAt) (n quiet : ℕ) → IsQuiet l (quiet - n) → word_of l ≡ (if nat_lt n quiet then Quiet else Ptp)
+quiet_word l n quiet h =
+    let words : (if (quiet - n) == 0 then Ptp else Quiet) ≡ (if nat_lt n quiet then Quiet else Ptp) = grind (arith, nat_tests) in
+    rw (h.lit, h.idle, h.left) words
 
 pub quiet_time_lasts : QuietTimeLasts
-quiet_time_lasts l [] lit idle = rw (lit, idle) (quiet_word l.quiet)
-quiet_time_lasts l (t ∷ ticks) lit idle =
-    let next : StaysQuiet l (after l (Tick t)) = quiet_tick l t lit idle in
-    quiet_time_lasts (after l (Tick t)) ticks next.lit next.idle
-    ∙ ap (λ q. cond (ltb (length ticks) q) Quiet Ptp) next.less
-    ∙ one_less (length ticks) l.quiet
+quiet_time_lasts l ticks lit idle = quiet_word (run_of l (map Tick ticks)) (length ticks) l.quiet (quiet_ticks l ticks lit idle)

@@ -3,6 +3,7 @@ use Rattle.std.proofs.Common.{◌≡◌, ◌≢◌, ◌⊎◌, inl, inr, refl, a
 use Rattle.std.proofs.lemmas.Bool.Decides.{nat_tests}
 use Rattle.wrp_base.specs.declared.link.LinkState.{LinkState}
 use Rattle.wrp_base.specs.declared.link.LinkState.TheVariants.{Idle, Calibration, LinkOn}
+use Rattle.wrp_link.specs.declared.interface.LinkIn.{LinkIn}
 use Rattle.wrp_link.specs.declared.interface.LinkIn.TheVariants.{Tick}
 use Rattle.wrp_link.specs.declared.interface.LinkSet.{LinkSet}
 use Rattle.wrp_link.specs.Laws.{UnheardFails, patience_of}
@@ -56,6 +57,11 @@ fails_then l wait w h last none =
     let retry : ltb 0 w.retries ≡ false = grind (arith, nat_tests) in
     waiting_row l wait w h ∙ rw (ends, retry) refl
 
+-- of equal inputs one may be taken before the others
+first_of : (n : ℕ) (l : LinkAt) (input : LinkIn) → run_of l (replicate (suc n) input) ≡ run_of (after l input) (replicate n input)
+first_of zero l input = refl
+first_of (suc n) l input = ap (λ k. after k input) (first_of n l input)
+
 one_or_more : (t : ℕ) → (t ≡ 1) ⊎ (t ≢ 1)
 one_or_more zero = inr (λ e. absurd (omega arith))
 one_or_more (suc zero) = inl refl
@@ -86,6 +92,8 @@ unheard :
     IsWaiting l wait w → 1 ≤ wait → 1 ≤ w.ticks → FailsAt l wait w ticks
 unheard zero l wait w h long left = record { before = λ _. refl; at = λ e. absurd (omega arith) }
 unheard (suc n) l wait w h long left =
+    let first : (run_of l (replicate (suc n) (Tick false))).state ≡ (run_of (after l (Tick false)) (replicate n (Tick false))).state =
+    ap (λ k. k.state) (first_of n l (Tick false)) in
     elim (one_or_more w.ticks) [
       | inr more ↦
           let w' : Waiting = record w { ticks = w.ticks - 1 } in
@@ -95,8 +103,8 @@ unheard (suc n) l wait w h long left =
           let then : FailsAt l' wait w' n =
           unheard n l' wait w' (record { lit = h.lit; length = h.length; timer = refl }) long left' in
           record {
-            before = λ lt. ap (λ k. (run_of k (replicate n (Tick false))).state) e ∙ then.before (omega arith);
-            at = λ is. ap (λ k. (run_of k (replicate n (Tick false))).state) e ∙ then.at (omega arith);
+            before = λ lt. first ∙ ap (λ k. (run_of k (replicate n (Tick false))).state) e ∙ then.before (omega arith);
+            at = λ is. first ∙ ap (λ k. (run_of k (replicate n (Tick false))).state) e ∙ then.at (omega arith);
           }
       | inl last ↦
           elim (none_or_some w.retries) [
@@ -108,8 +116,8 @@ unheard (suc n) l wait w h long left =
                 let then : FailsAt l' wait w' n =
                 unheard n l' wait w' (record { lit = h.lit; length = h.length; timer = refl }) long long in
                 record {
-                  before = λ lt. ap (λ k. (run_of k (replicate n (Tick false))).state) e ∙ then.before (omega arith);
-                  at = λ is. ap (λ k. (run_of k (replicate n (Tick false))).state) e ∙ then.at (omega arith);
+                  before = λ lt. first ∙ ap (λ k. (run_of k (replicate n (Tick false))).state) e ∙ then.before (omega arith);
+                  at = λ is. first ∙ ap (λ k. (run_of k (replicate n (Tick false))).state) e ∙ then.at (omega arith);
                 }
             | inl none ↦
                 let e : after l (Tick false) ≡ failed l = fails_then l wait w h last none in
@@ -118,7 +126,7 @@ unheard (suc n) l wait w h long left =
                   before = λ lt. absurd (omega arith);
                   at = λ is.
                       let now : n ≡ 0 = omega arith in
-                      ap (λ k. (run_of (after l (Tick false)) (replicate k (Tick false))).state) now ∙ ap (λ k. k.state) e;
+                      first ∙ ap (λ k. (run_of (after l (Tick false)) (replicate k (Tick false))).state) now ∙ ap (λ k. k.state) e;
                 }
           ]
     ]

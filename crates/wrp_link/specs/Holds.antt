@@ -21,7 +21,7 @@ holds_of l =
       holdoff = l.holdoff;
       waiting = waiting_of l.wait;
       on_ticks = l.on_ticks;
-      fitted = l.fitted;
+      own_module = l.own_module;
       deltas = l.deltas;
     }
 

@@ -1,5 +1,5 @@
 -- What the handshake table makes sure of, in the field's words. This project's profile.
-use Rattle.std.specs.Prelude.{◌≡◌, ◌≢◌, ℕ, Bool, ◌+◌, ◌*◌, ◌<◌, ◌≤◌, cond, ltb, true, false, List, [], ◌∷◌, map, length, replicate, None, Some}
+use Rattle.std.specs.Prelude.{◌≡◌, ◌≢◌, ℕ, Bool, ◌+◌, ◌*◌, ◌<◌, ◌≤◌, if◌then◌else◌, nat_lt, true, false, List, map, length, replicate, None, Some}
 use Rattle.wrp_base.specs.declared.link.LinkState.{LinkState}
 use Rattle.wrp_base.specs.declared.link.LinkState.TheVariants.{Idle, Calibrated, RespCalib, LinkOn}
 use Rattle.wrp_base.specs.declared.link.LinkWord.TheVariants.{Quiet, Ptp}
@@ -8,10 +8,9 @@ use Rattle.wrp_base.specs.declared.link.Role.TheVariants.{Master, Slave}
 use Rattle.wrp_base.specs.declared.message.WrMsg.TheVariants.{Calibrated as CALIBRATED, ModeOn as WR_MODE_ON}
 use Rattle.wrp_link.specs.declared.interface.LinkIn.{LinkIn}
 use Rattle.wrp_link.specs.declared.interface.LinkIn.TheVariants.{Msg, Tick}
-use Rattle.wrp_link.specs.declared.interface.LinkSet.{LinkSet}
 use Rattle.wrp_link.specs.LinkAt.{LinkAt, Waiting, new_link, wait_of}
 use Rattle.wrp_link.specs.Order.{order_of, up_to, passed_by}
-use Rattle.wrp_link.specs.Table.{after, run_of, Stands, word_of}
+use Rattle.wrp_link.specs.Table.{after, run_of, StandsFor, word_of}
 
 -- a CALIBRATED, with whatever delays
 abbrev pub TellsDeltas : LinkIn → Type 0
@@ -26,30 +25,29 @@ TurnsOn Master state input = (state ≡ RespCalib) × TellsDeltas input
 -- a port enters WR_LINK_ON by the message of its role alone
 abbrev pub OneMessageTurnsOn : Type 0
 OneMessageTurnsOn =
-    (role : Role) (set : LinkSet) (l : LinkAt) (inputs : List LinkIn) (input : LinkIn) →
-    Stands role set l inputs →
-    l.state ≢ LinkOn → (after l input).state ≡ LinkOn → TurnsOn role l.state input
+    (l : LinkAt) (inputs : List LinkIn) (input : LinkIn) →
+    StandsFor l inputs →
+    l.state ≢ LinkOn → (after l input).state ≡ LinkOn → TurnsOn l.role l.state input
 
 -- the states that a port passed since it last was in IDLE are those of its role up to its own, each in
 -- its turn
 abbrev pub EachStateInItsTurn : Type 0
 EachStateInItsTurn =
-    (role : Role) (set : LinkSet) (l : LinkAt) (inputs : List LinkIn) →
-    Stands role set l inputs →
-    passed_by (new_link role set) (Idle ∷ []) inputs ≡ up_to l.state (order_of role)
+    (l : LinkAt) (inputs : List LinkIn) →
+    StandsFor l inputs →
+    passed_by (new_link l.role l.set) inputs ≡ up_to l.state (order_of l.role)
 
 -- a port in IDLE keeps no deltas of its peer
 abbrev pub IdleKeepsNoDeltas : Type 0
 IdleKeepsNoDeltas =
-    (role : Role) (set : LinkSet) (l : LinkAt) (inputs : List LinkIn) →
-    Stands role set l inputs → l.state ≡ Idle → l.deltas ≡ None
+    (l : LinkAt) (inputs : List LinkIn) → StandsFor l inputs → l.state ≡ Idle → l.deltas ≡ None
 
 -- quiet time lasts exactly the ticks that are left of it, whatever the lock detector says
 abbrev pub QuietTimeLasts : Type 0
 QuietTimeLasts =
     (l : LinkAt) (ticks : List Bool) →
     l.carrier ≡ true → l.state ≡ Idle →
-    word_of (run_of l (map Tick ticks)) ≡ cond (ltb (length ticks) l.quiet) Quiet Ptp
+    word_of (run_of l (map Tick ticks)) ≡ (if nat_lt (length ticks) l.quiet then Quiet else Ptp)
 
 -- the ticks that a waiting state has left: those of its timer, and a whole wait for each retry
 abbrev pub patience_of : ℕ → Waiting → ℕ

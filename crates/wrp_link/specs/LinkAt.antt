@@ -30,7 +30,7 @@ pub record LinkAt : Type 0 where
   -- the ticks since WR_LINK_ON was entered
   pub on_ticks : ℕ
   -- the port's module, where the calibration database lists it
-  pub fitted : Option Module
+  pub own_module : Option Module
   -- the peer's deltaTx and deltaRx of this handshake, in tau
   pub deltas : Option (ℕ × ℕ)
 
@@ -46,7 +46,7 @@ new_link role set =
       holdoff = 0;
       waiting = None;
       on_ticks = 0;
-      fitted = None;
+      own_module = None;
       deltas = None;
     }
 
@@ -82,4 +82,4 @@ failed l = record (entering l Idle) { quiet = l.set.quiet; holdoff = holdoff_of 
 
 -- the link as a carrier comes: IDLE, in quiet time, whatever was before
 abbrev pub with_carrier : LinkAt → Option Module → LinkAt
-with_carrier l fitted = record (new_link l.role l.set) { carrier = true; quiet = l.set.quiet; fitted = fitted }
+with_carrier l own_module = record (new_link l.role l.set) { carrier = true; quiet = l.set.quiet; own_module = own_module }

@@ -1,7 +1,7 @@
 -- The handshake table: for each role and state, what a message, an Announce or a tick leads to and
 -- which messages it sends. The names of messages and states are those of the White Rabbit
 -- Specification 2.0; the rows are this project's profile.
-use Rattle.std.specs.Prelude.{ℕ, ◌%◌, Bool, true, false, cond, ◌&&◌, eqb, ltb, leb, is_some, List, [], ◌∷◌, Option, None, Some}
+use Rattle.std.specs.Prelude.{ℕ, ◌%◌, Bool, true, false, if◌then◌else◌, ◌&&◌, ◌==◌, nat_lt, nat_le, is_some, List, [], ◌∷◌, Option, None, Some}
 use Rattle.wrp_base.specs.declared.link.LinkState.{LinkState}
 use Rattle.wrp_base.specs.declared.link.LinkState.TheVariants.{Idle, Present, SLock, MLock, Locked, Calibration, Calibrated, RespCalib, LinkOn}
 use Rattle.wrp_base.specs.declared.link.Module.{Module}
@@ -38,7 +38,7 @@ pub data Row : Type 0 where
 
 -- a row that holds under a condition
 abbrev pub under : Bool → Row → Row
-under holds row = cond holds row NoRow
+under holds row = if holds then row else NoRow
 
 -- the CALIBRATE that a port sends: calSendPattern, calRetry and calPeriod are 0
 abbrev pub own_calibrate : WrMsg
@@ -46,12 +46,12 @@ own_calibrate = CALIBRATE 0 0 0
 
 -- the CALIBRATED that a port sends: its own module's delays
 abbrev pub own_calibrated : Option Module → WrMsg
-own_calibrated (Some fitted) = CALIBRATED fitted.tx fitted.rx
+own_calibrated (Some own_module) = CALIBRATED own_module.tx own_module.rx
 own_calibrated None = CALIBRATED 0 0
 
 -- a port may leave IDLE: quiet time is over, its module is listed, and the link is a White Rabbit one
 abbrev pub may_leave_idle : LinkAt → Bool
-may_leave_idle l = eqb l.quiet 0 && (is_some l.fitted && l.set.wr)
+may_leave_idle l = (l.quiet == 0) && (is_some l.own_module && l.set.wr)
 
 -- the rows of a message at a slave
 abbrev pub slave_row : LinkState → WrMsg → Row
@@ -69,7 +69,7 @@ master_row l MLock LOCKED = Moves Calibration (own_calibrate ∷ [])
 master_row l Calibrated (CALIBRATE _ _ _) = Moves RespCalib []
 master_row l RespCalib (CALIBRATED tx rx) = Keeps tx rx LinkOn (WR_MODE_ON ∷ [])
 master_row l LinkOn (CALIBRATED _ _) = Stays (WR_MODE_ON ∷ [])
-master_row l LinkOn SLAVE_PRESENT = under (leb l.set.quiet l.on_ticks) Fails
+master_row l LinkOn SLAVE_PRESENT = under (nat_le l.set.quiet l.on_ticks) Fails
 master_row l _ _ = NoRow
 
 -- the rows of a message, by role
@@ -79,13 +79,13 @@ message_row l Master message = master_row l l.state message
 
 -- wrFlags that offer White Rabbit: bit 0 is set
 abbrev pub offers : Option ℕ → Bool
-offers (Some flags) = eqb (flags % 2) 1
+offers (Some flags) = (flags % 2) == 1
 offers None = false
 
 -- the row of an Announce: a slave in IDLE begins, once its holdoff is over too
 abbrev pub announce_row : LinkAt → Role → LinkState → Option ℕ → Row
 announce_row l Slave Idle suffix =
-    under (offers suffix && (eqb l.holdoff 0 && may_leave_idle l)) (Moves Present (SLAVE_PRESENT ∷ []))
+    under (offers suffix && ((l.holdoff == 0) && may_leave_idle l)) (Moves Present (SLAVE_PRESENT ∷ []))
 announce_row l _ _ suffix = NoRow
 
 -- what a state sends again when its timer ends
@@ -93,12 +93,13 @@ abbrev pub resent : LinkAt → LinkState → List WrMsg
 resent l Present = SLAVE_PRESENT ∷ []
 resent l MLock = LOCK ∷ []
 resent l Locked = LOCKED ∷ []
-resent l Calibrated = own_calibrate ∷ (own_calibrated l.fitted ∷ [])
+resent l Calibrated = own_calibrate ∷ (own_calibrated l.own_module ∷ [])
 resent l _ = []
 
 -- the row of a tick in a waiting state: its timer runs on, or it ends, with a retry left or without
 abbrev pub timer_row : LinkAt → Option Waiting → Row
-timer_row l (Some w) = cond (eqb w.ticks 1) (cond (ltb 0 w.retries) (Resends (resent l l.state)) Fails) Waits
+timer_row l (Some w) =
+    if w.ticks == 1 then (if nat_lt 0 w.retries then Resends (resent l l.state) else Fails) else Waits
 timer_row l None = Waits
 
 -- the rows of a tick, with the lock detector locked or not
@@ -106,7 +107,7 @@ abbrev pub tick_row : LinkAt → LinkState → Bool → Row
 tick_row l Idle _ = Counts
 tick_row l LinkOn _ = Counts
 tick_row l SLock true = Moves Locked (LOCKED ∷ [])
-tick_row l Calibration _ = Moves Calibrated (own_calibrated l.fitted ∷ [])
+tick_row l Calibration _ = Moves Calibrated (own_calibrated l.own_module ∷ [])
 tick_row l _ _ = timer_row l l.waiting
 
 -- the row of any input: without a carrier there is none but that of a carrier that comes
@@ -115,4 +116,4 @@ row_of l (Msg message) = under l.carrier (message_row l l.role message)
 row_of l (Announce suffix) = under l.carrier (announce_row l l.role l.state suffix)
 row_of l (Tick locked) = under l.carrier (tick_row l l.state locked)
 row_of l CarrierDown = under l.carrier CarrierGoes
-row_of l (CarrierUp fitted) = CarrierComes fitted
+row_of l (CarrierUp own_module) = CarrierComes own_module

@@ -1,15 +1,13 @@
 -- The handshake table as a machine: what a link is after an input and after a list of them, what it
 -- sends, and what it reports. The rows stand in Rows; the counts are this project's profile.
-use Rattle.std.specs.Prelude.{◌≡◌, ℕ, ◌+◌, ◌-◌, min, Bool, true, false, cond, eqb, List, [], ◌∷◌, Option, None, Some}
+use Rattle.std.specs.Prelude.{◌≡◌, ℕ, ◌+◌, ◌-◌, min, Bool, true, false, if◌then◌else◌, ◌==◌, List, [], ◌∷◌, Option, None, Some}
 use Rattle.wrp_base.specs.declared.link.LinkState.{LinkState}
 use Rattle.wrp_base.specs.declared.link.LinkState.TheVariants.{Idle, Present, SLock, MLock, Locked, Calibration, Calibrated, RespCalib, LinkOn}
 use Rattle.wrp_base.specs.declared.link.LinkWord.{LinkWord}
 use Rattle.wrp_base.specs.declared.link.LinkWord.TheVariants.{Down, Quiet, Ptp, In}
-use Rattle.wrp_base.specs.declared.link.Role.{Role}
 use Rattle.wrp_base.specs.declared.message.WrMsg.{WrMsg}
 use Rattle.wrp_link.specs.declared.interface.LinkIn.{LinkIn}
 use Rattle.wrp_link.specs.declared.interface.LinkIn.TheVariants.{Msg}
-use Rattle.wrp_link.specs.declared.interface.LinkSet.{LinkSet}
 use Rattle.wrp_link.specs.LinkAt.{LinkAt, Waiting, new_link, wait_of, armed, entering, failed, with_carrier}
 use Rattle.wrp_link.specs.Rows.{Row, NoRow, Stays, Moves, Keeps, Resends, Fails, Waits, Counts, CarrierComes, CarrierGoes, row_of}
 
@@ -40,7 +38,7 @@ by_row l (Resends sends) = record l { waiting = retried l.waiting (wait_of l.set
 by_row l Fails = failed l
 by_row l Waits = record l { waiting = ticked l.waiting }
 by_row l Counts = counted l l.state
-by_row l (CarrierComes fitted) = with_carrier l fitted
+by_row l (CarrierComes own_module) = with_carrier l own_module
 by_row l CarrierGoes = new_link l.role l.set
 
 -- the messages that a row sends, in their order
@@ -66,7 +64,7 @@ is_row _ = true
 
 -- what a row answers to a message: None where there is none
 abbrev pub answer_by : Row → Option (List WrMsg)
-answer_by row = cond (is_row row) (Some (sent_by row)) None
+answer_by row = if is_row row then Some (sent_by row) else None
 
 -- what an input answers: None for a message without a row
 abbrev pub answer_to : LinkAt → LinkIn → Option (List WrMsg)
@@ -92,33 +90,33 @@ place_of LinkOn = 8
 
 -- whether two states are one
 abbrev pub is_same : LinkState → LinkState → Bool
-is_same a b = eqb (place_of a) (place_of b)
+is_same a b = place_of a == place_of b
 
 -- the second of two states, where it differs from the first
 abbrev pub change_of : LinkState → LinkState → Option LinkState
-change_of from to = cond (is_same from to) None (Some to)
+change_of from to = if is_same from to then None else Some to
 
 -- the state that an input moves the link to, where it differs from the one before
 abbrev pub moved_by : LinkAt → LinkIn → Option LinkState
 moved_by l input = change_of l.state (after l input).state
 
--- the link after a list of inputs, the first of the list first
+-- the link after a list of inputs, newest first
 abbrev pub run_of : LinkAt → List LinkIn → LinkAt
 run_of l [] = l
-run_of l (input ∷ inputs) = run_of (after l input) inputs
+run_of l (input ∷ before) = after (run_of l before) input
 
--- the link is what these inputs, and no others, made of a new one
-abbrev pub Stands : Role → LinkSet → LinkAt → List LinkIn → Type 0
-Stands role set l inputs = l ≡ run_of (new_link role set) inputs
+-- the link is what these inputs, newest first, and no others, made of a new one of its role and set
+abbrev pub StandsFor : LinkAt → List LinkIn → Type 0
+StandsFor l inputs = l ≡ run_of (new_link l.role l.set) inputs
 
 -- the word for a state with a carrier, by the quiet time that is left
 abbrev pub word_in : LinkState → ℕ → LinkWord
-word_in Idle quiet = cond (eqb quiet 0) Ptp Quiet
+word_in Idle quiet = if quiet == 0 then Ptp else Quiet
 word_in state quiet = In state
 
 -- the word that the port reports
 abbrev pub word_of : LinkAt → LinkWord
-word_of l = cond l.carrier (word_in l.state l.quiet) Down
+word_of l = if l.carrier then word_in l.state l.quiet else Down
 
 -- the peer's deltaTx and deltaRx that stand, in tau
 abbrev pub deltas_of : LinkAt → Option (ℕ × ℕ)

@@ -3,13 +3,12 @@ mod rows;
 mod states;
 mod ticks;
 
-ghost use Rattle.std.specs.Prelude.{◌≡◌, ◌≤◌, ◌↔◌, ℕ, List, [], ◌∷◌, ◌++◌, Option, None, Some, option_map};
-ghost use Rattle.wrp_base.specs.declared.link.Role.{Role};
+ghost use Rattle.std.specs.Prelude.{◌≡◌, ◌≤◌, ◌↔◌, ℕ, List, [], Some, option_map};
+ghost use Rattle.wrp_base.specs.Calls.{Adds};
 ghost use Rattle.wrp_link.specs.declared.interface.LinkIn.{LinkIn};
-ghost use Rattle.wrp_link.specs.declared.interface.LinkSet.{LinkSet};
 ghost use Rattle.wrp_link.specs.LinkAt.{new_link};
 ghost use Rattle.wrp_link.specs.Order.{Told};
-ghost use Rattle.wrp_link.specs.Table.{after, sends_of, moved_by, is_used, change_of, answer_to, Stands, word_of, deltas_of};
+ghost use Rattle.wrp_link.specs.Table.{after, sends_of, moved_by, is_used, change_of, answer_to, StandsFor, word_of, deltas_of};
 
 use crate::{LinkIn, LinkOut, LinkSet};
 use arrayvec::ArrayVec;
@@ -17,10 +16,10 @@ use std::marker::Model;
 use wrp_base::{LinkState, LinkWord, Module, Role, WrMsg};
 use wrp_timer::{Retry, Timer};
 
-/// The messages of one answer.
+// The messages of one answer.
 type Sends = ArrayVec<WrMsg, 2>;
 
-/// The timer of a waiting state.
+// The timer of a waiting state.
 #[derive(Debug, Drop)]
 struct Wait {
     /// The ticks until it ends.
@@ -40,7 +39,7 @@ pub struct Link {
     holdoff: u32,
     wait: Option<Wait>,
     on_ticks: u32,
-    fitted: Option<Module>,
+    own_module: Option<Module>,
     deltas: Option<(u64, u64)>,
 }
 
@@ -64,7 +63,7 @@ impl Link {
         requires wait { 1 ≤ set.wait }
         requires lock_wait { 1 ≤ set.lock_wait }
         ensures value { result ≡ new_link role set }
-        ensures stands { Stands role set result [] }
+        ensures stands { StandsFor result [] }
     {
         Link {
             role,
@@ -75,7 +74,7 @@ impl Link {
             holdoff: 0,
             wait: None,
             on_ticks: 0,
-            fitted: None,
+            own_module: None,
             deltas: None,
         }
     }
@@ -89,7 +88,7 @@ impl Link {
         ensures used { result.used ≡ is_used self.old input }
 
         // The link stands for the list of its inputs.
-        ensures stands { (role : Role) (set : LinkSet) (inputs : List LinkIn) → Stands role set self.old inputs → Stands role set self.new (inputs ++ input ∷ []) }
+        ensures stands { Adds StandsFor self.old self.new input }
     {
         let from = self.state;
         let answer = self.answer(input);
@@ -131,18 +130,19 @@ impl Link {
     /// the port returns to IDLE.
     pub fn peer_deltas(&self) -> Option<(u64, u64)>
         ensures value { result ≡ deltas_of self.now }
-        ensures told { (role : Role) (set : LinkSet) (inputs : List LinkIn) → Stands role set self.now inputs → (tx rx : ℕ) → (result ≡ Some (tx, rx)) ↔ Told (new_link role set) inputs tx rx }
+        ensures told { (inputs : List LinkIn) → StandsFor self.now inputs → (tx rx : ℕ) →
+            (result ≡ Some (tx, rx)) ↔ Told (new_link self.now.role self.now.set) inputs tx rx }
     {
         self.deltas
     }
 
-    /// The messages that an input sends; None for a message without a row.
+    // The messages that an input sends; None for a message without a row.
     fn answer(&mut self, input: LinkIn) -> Option<Sends>
         ensures state { self.new ≡ after self.old input }
         ensures answer { option_map (λ sends. sends.items) result ≡ answer_to self.old input }
     {
         match input {
-            LinkIn::CarrierUp(fitted) => Some(self.carrier_comes(fitted)),
+            LinkIn::CarrierUp(own_module) => Some(self.carrier_comes(own_module)),
             LinkIn::Msg(_) if !self.carrier => None,
             _ if !self.carrier => Some(Sends::new()),
             LinkIn::Msg(message) => self.message(message),
@@ -153,7 +153,7 @@ impl Link {
     }
 }
 
-/// The second state, where it differs from the first.
+// The second state, where it differs from the first.
 fn change(from: LinkState, to: LinkState) -> Option<LinkState>
     ensures { result ≡ change_of from to }
 {

@@ -398,14 +398,14 @@ fn tries_again(rt: &impl Abort) {
 /// A slave in plain PTP that begins nothing: no suffix, none that offers, no listed module, no `wr`.
 fn tries_no_beginning(rt: &impl Abort) {
     let plain = LinkSet { wr: false, ..SET };
-    for (set, fitted, suffix) in [
+    for (set, own_module, suffix) in [
         (SET, Some(VIOLET), None),
         (SET, Some(VIOLET), Some(12)),
         (SET, None, Some(13)),
         (plain, Some(VIOLET), Some(13)),
     ] {
         let mut link = Link::new(Role::Slave, set);
-        let _ = link.step(LinkIn::CarrierUp(fitted));
+        let _ = link.step(LinkIn::CarrierUp(own_module));
         ticks(&mut link, 24);
         let out = link.step(LinkIn::Announce(suffix));
         assert!(rt; out.used && out.sends.is_empty());

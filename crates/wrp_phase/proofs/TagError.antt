@@ -3,6 +3,7 @@ use Rattle.std.proofs.Common.{◌≡◌, ℕ, ℤ, pos, negsuc, ◌+◌, ◌%◌
 use Rattle.std.proofs.lemmas.Int.{ints}
 use Rattle.wrp_base.specs.declared.time.Clock.{Clock}
 use Rattle.wrp_base.specs.declared.time.Clock.TheVariants.{Mhz125, Mhz62}
+use Rattle.wrp_base.specs.Clock.{steps_of_period}
 use Rattle.wrp_base.specs.Circle.{distance_round}
 use Rattle.wrp_phase.specs.Beat.{phase_of, beat_bit, deglitched, tag_of}
 use Rattle.wrp_phase.specs.BeatPattern.{true_step, steps_past, detector_error, TagWithinDetectorError}
@@ -11,10 +12,10 @@ use Rattle.std.specs.Int.{count_zeros, leading_zeros, trailing_ones, w64}
 use Rattle.std.proofs.lemmas.Bool.Decides.{nat_tests}
 
 -- a count of steps from the base that is within `beat` of those to the true step gives a tag within the detector's error
-near_tag : (clock : Clock) (base count beat : ℕ) (phase : ℤ) → base < 16384 →
+near_tag : (clock : Clock) (base count beat : ℕ) (phase : ℤ) → base < steps_of_period →
     (steps_past (true_step clock phase) base -ℤ pos beat) ≤ℤ pos count →
     pos count ≤ℤ (steps_past (true_step clock phase) base +ℤ pos beat) →
-    distance_round clock (pos (phase_of clock ((base + count) % 16384))) phase ≤ detector_error clock beat
+    distance_round clock (pos (phase_of clock ((base + count) % steps_of_period))) phase ≤ detector_error clock beat
 near_tag Mhz125 base count beat (pos phase) h least most = grind (arith, ints)
 near_tag Mhz125 base count beat (negsuc phase) h least most = grind (arith, ints)
 near_tag Mhz62 base count beat (pos phase) h least most = grind (arith, ints)

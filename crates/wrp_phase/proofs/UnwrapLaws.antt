@@ -6,7 +6,7 @@ use Rattle.std.specs.Int.{int_rem_euclid}
 use Rattle.wrp_base.specs.declared.time.Clock.{Clock}
 use Rattle.wrp_base.specs.declared.time.Clock.TheVariants.{Mhz125, Mhz62}
 use Rattle.wrp_base.specs.Clock.{period_of}
-use Rattle.wrp_phase.specs.Calls.{Adds}
+use Rattle.wrp_base.specs.Calls.{Adds}
 use Rattle.wrp_phase.specs.Unwrapping.{brought_round, added_by, Unwrapping, pushed, StandsFor}
 
 -- an unwrapper that took this tag stands for it in front of those before

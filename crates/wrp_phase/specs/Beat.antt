@@ -2,7 +2,7 @@
 use Rattle.std.specs.Prelude.{ℕ, ◌+◌, ◌-◌, ◌*◌, ◌%◌, Bool, ◌||◌, nat_lt, if◌then◌else◌, Option, None, Some}
 use Rattle.std.specs.Int.{bit_at, count_zeros, leading_zeros, trailing_ones, w64}
 use Rattle.wrp_base.specs.declared.time.Clock.{Clock}
-use Rattle.wrp_base.specs.Clock.{step_of}
+use Rattle.wrp_base.specs.Clock.{step_of, steps_of_period}
 
 -- the beat bit at the place i of a sample, the most significant first
 abbrev pub beat_bit : ℕ → ℕ → ℕ
@@ -14,7 +14,7 @@ is_glitched bits = nat_lt (leading_zeros w64 bits) 8 || nat_lt (trailing_ones w6
 
 -- the tag of a sample: its base and the number of its zero bits, round the steps of a period
 abbrev pub tag_of : ℕ → ℕ → ℕ
-tag_of base bits = (base + count_zeros w64 bits) % 16384
+tag_of base bits = (base + count_zeros w64 bits) % steps_of_period
 
 -- what the detector tells of a sample: nothing of a glitched one
 abbrev pub deglitched : ℕ → ℕ → Option ℕ

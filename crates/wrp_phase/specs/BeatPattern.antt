@@ -2,7 +2,7 @@
 use Rattle.std.specs.Prelude.{ℕ, ℤ, pos, ◌≡◌, ◌+◌, ◌*◌, ◌/◌, ◌<◌, ◌≤◌, ◌^◌, ◌+ℤ◌, ◌-ℤ◌, ◌≤ℤ◌, ◌<ℤ◌, unsigned_abs, Some}
 use Rattle.std.specs.Int.{int_rem_euclid}
 use Rattle.wrp_base.specs.declared.time.Clock.{Clock}
-use Rattle.wrp_base.specs.Clock.{period_of, step_of}
+use Rattle.wrp_base.specs.Clock.{period_of, step_of, steps_of_period}
 use Rattle.wrp_base.specs.Circle.{distance_round}
 use Rattle.wrp_phase.specs.Beat.{beat_bit, deglitched, phase_of}
 
@@ -12,7 +12,8 @@ true_step clock phase = unsigned_abs (int_rem_euclid phase (pos (period_of clock
 
 -- how many steps that is past the base, brought into -8192 to 8191
 abbrev pub steps_past : ℕ → ℕ → ℤ
-steps_past step base = int_rem_euclid ((pos step -ℤ pos base) +ℤ pos 8192) (pos 16384) -ℤ pos 8192
+steps_past step base =
+    int_rem_euclid ((pos step -ℤ pos base) +ℤ pos (steps_of_period / 2)) (pos steps_of_period) -ℤ pos (steps_of_period / 2)
 
 -- the beat bits are 0 up to `beat` steps before the true one, and 1 from `beat` steps past it on
 pub record KeepsBeatPattern (clock : Clock) (base bits beat : ℕ) (phase : ℤ) : Type 0 where
@@ -27,5 +28,5 @@ detector_error clock beat = (beat + 1) * step_of clock
 abbrev pub TagWithinDetectorError : Type 0
 TagWithinDetectorError =
     (clock : Clock) (base bits beat tag : ℕ) (phase : ℤ) →
-    base < 16384 → bits < 2 ^ 64 → KeepsBeatPattern clock base bits beat phase → deglitched base bits ≡ Some tag →
+    base < steps_of_period → bits < 2 ^ 64 → KeepsBeatPattern clock base bits beat phase → deglitched base bits ≡ Some tag →
     distance_round clock (pos (phase_of clock tag)) phase ≤ detector_error clock beat

@@ -1,4 +1,3 @@
 pub mod Beat
 pub mod BeatPattern
-pub mod Calls
 pub mod Unwrapping

@@ -1,8 +1,9 @@
 //! The rule by which 64 beat bits become a tag.
 ghost use Rattle.std.specs.Prelude.{◌≡◌, ◌<◌};
+ghost use Rattle.wrp_base.specs.Clock.{steps_of_period};
 ghost use Rattle.wrp_phase.specs.Beat.{deglitched};
 
-use crate::STEPS;
+use wrp_base::STEPS_OF_PERIOD;
 
 /// The least number of leading zeros, and of trailing ones, that a sample needs.
 const SETTLED: u32 = 8;
@@ -13,14 +14,14 @@ const SETTLED: u32 = 8;
 /// and the number of zero bits, round the period. None where the bits have fewer than 8 leading zeros
 /// or fewer than 8 trailing ones, so that the edge is not known to lie between them.
 pub fn deglitch(base: u16, bits: u64) -> Option<u16>
-    requires { base < 16384 }
+    requires { base < steps_of_period }
     ensures { result ≡ deglitched base bits }
 {
     if bits.leading_zeros() < SETTLED || bits.trailing_ones() < SETTLED {
         return None;
     }
     let zeros = bits.count_zeros() as u16;
-    Some((base + zeros) % STEPS)
+    Some((base + zeros) % STEPS_OF_PERIOD)
 }
 
 #[cfg(test)]
@@ -53,7 +54,7 @@ mod tests {
     #[test]
     fn deglitches(rt: HostRuntime) {
         for (base, bits, tag) in TAGS {
-            assert!(rt; base < STEPS);
+            assert!(rt; base < STEPS_OF_PERIOD);
             assert_eq!(rt; deglitch(base, bits), tag, "{base} {bits:016x}");
         }
         crate::tag_within_detector_error();

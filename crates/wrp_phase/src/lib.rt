@@ -10,6 +10,3 @@ mod unwrap;
 pub use detector::deglitch;
 pub use error_statement::tag_within_detector_error;
 pub use unwrap::Unwrap;
-
-/// The detector steps of one period.
-const STEPS: u16 = 16384;

@@ -1,17 +1,16 @@
 //! The unwrapped phase: successive tags, added up across the ends of the period.
 ghost use Rattle.std.specs.Prelude.{◌≡◌, ◌^◌, ◌<◌, ◌≤◌, unsigned_abs, []};
-ghost use Rattle.wrp_phase.specs.Calls.{Adds};
+ghost use Rattle.wrp_base.specs.Calls.{Adds};
 ghost use Rattle.wrp_phase.specs.Unwrapping.{added_by, untouched, pushed, StandsFor};
 
-use crate::STEPS;
 use std::marker::Model;
-use wrp_base::Clock;
+use wrp_base::{Clock, STEPS_OF_PERIOD};
 
 /// Half a period, in detector steps.
-const HALF_PERIOD: u32 = 8192;
+const HALF_PERIOD: u32 = 8_192;
 
 /// Whole periods that no tag passes, in detector steps.
-const WHOLE_PERIODS: u32 = 65536;
+const WHOLE_PERIODS: u32 = 65_536;
 
 /// Adds up the wrapped differences of successive tags.
 #[derive(Clone, Copy, Debug, PartialEq, Eq)]
@@ -63,14 +62,14 @@ impl Unwrap {
         ensures answer { result ≡ self.new.answer }
         ensures size { unsigned_abs result < 2 ^ 61 }
     {
-        self.answer += added(self.clock, self.last, tag);
+        self.answer += addend(self.clock, self.last, tag);
         self.last = Some(tag);
         self.answer
     }
 }
 
 // What a tag adds to the phase after the one before it, if there is one.
-fn added(clock: Clock, before: Option<u16>, tag: u16) -> i64
+fn addend(clock: Clock, before: Option<u16>, tag: u16) -> i64
     ensures value { result ≡ added_by clock before tag }
     ensures size { unsigned_abs result ≤ 2 ^ 29 }
 {
@@ -87,7 +86,7 @@ fn difference_round(clock: Clock, before: u16, tag: u16) -> i64
 {
     let step = clock.step().unsigned_abs() as i64;
     let ahead = (u32::from(tag) + WHOLE_PERIODS + HALF_PERIOD - u32::from(before))
-        % u32::from(STEPS);
+        % u32::from(STEPS_OF_PERIOD);
     step * (i64::from(ahead) - i64::from(HALF_PERIOD))
 }
 

@@ -2,7 +2,7 @@
 use Rattle.std.proofs.Common.{◌≡◌, ◌≢◌, ℕ, ℤ, zero, suc, ◌<◌, ◌≤◌, ◌↔◌, inl, inr, IsTrue, List, ◌∷◌, drop, ap, sym, subst, arith}
 use Rattle.std.proofs.lemmas.Bool.{cases_eq}
 use Rattle.std.proofs.lemmas.Bool.Decides.{nat_tests}
-use Rattle.wrp_pi.specs.Calls.{Adds}
+use Rattle.wrp_base.specs.Calls.{Adds}
 use Rattle.wrp_pi.specs.Lock.{Limits, next_count, count_after, IsLocked, Detector, is_locked_at, updated, StandsFor}
 
 -- at a count of `lock` it is locked

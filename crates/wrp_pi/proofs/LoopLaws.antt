@@ -1,6 +1,6 @@
 -- One more error moves the accumulated error by the rule.
 use Rattle.std.proofs.Common.{◌≡◌, ℤ, ◌∷◌, ap, sym, subst}
-use Rattle.wrp_pi.specs.Calls.{Adds}
+use Rattle.wrp_base.specs.Calls.{Adds}
 use Rattle.wrp_pi.specs.Loop.{next_accumulated, Loop, updated, StandsFor}
 
 -- a loop that took this error stands for it in front of those before

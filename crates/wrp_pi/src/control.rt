@@ -1,7 +1,7 @@
 //! The controller: from a phase error to a DAC value.
 ghost use Rattle.std.specs.Prelude.{◌≡◌, ℤ, ◌^◌, ◌≤◌, unsigned_abs, if◌then◌else◌, List, []};
 ghost use Rattle.std.specs.Int.{saturate_unsigned, w16};
-ghost use Rattle.wrp_pi.specs.Calls.{Adds};
+ghost use Rattle.wrp_base.specs.Calls.{Adds};
 ghost use Rattle.wrp_pi.specs.Loop.{raised, drive, is_frozen, dac_value, rested, updated, value_at, StandsFor};
 
 use std::marker::Model;
@@ -73,14 +73,14 @@ impl Pi {
         ensures drives { (errors : List ℤ) → StandsFor self.old errors →
             result ≡ dac_value self.old.gains errors e }
     {
-        let raised = raised_by(self.accumulated, e);
-        let drive = self.driven(raised, e);
-        self.accumulated = kept(self.accumulated, raised, drive, e);
+        let raised = raise(self.accumulated, e);
+        let drive = self.drive(raised, e);
+        self.accumulated = keep(self.accumulated, raised, drive, e);
         within_range(drive)
     }
 
     // Where an accumulated error and an error drive the DAC, before it is held within its range.
-    fn driven(&self, raised: i64, e: i32) -> i128
+    fn drive(&self, raised: i64, e: i32) -> i128
         requires raised { unsigned_abs raised ≤ 2 ^ 40 }
         requires e { unsigned_abs e ≤ 2 ^ 20 }
         ensures { result ≡ drive self.now.gains raised e }
@@ -93,7 +93,7 @@ impl Pi {
 }
 
 // The accumulated error with one more error, held within its bound.
-fn raised_by(accumulated: i64, e: i32) -> i64
+fn raise(accumulated: i64, e: i32) -> i64
     requires accumulated { unsigned_abs accumulated ≤ 2 ^ 40 }
     requires e { unsigned_abs e ≤ 2 ^ 20 }
     ensures value { result ≡ raised accumulated e }
@@ -105,7 +105,7 @@ fn raised_by(accumulated: i64, e: i32) -> i64
 }
 
 // The accumulated error that is kept: the old one where the error would drive the DAC further out.
-fn kept(before: i64, raised: i64, drive: i128, e: i32) -> i64
+fn keep(before: i64, raised: i64, drive: i128, e: i32) -> i64
     ensures { result ≡ (if is_frozen drive e then before else raised) }
 {
     if is_out(drive, e) { before } else { raised }
@@ -181,8 +181,8 @@ mod tests {
         for (drive, e, frozen) in FROZEN {
             assert_eq!(rt; is_out(drive, e), frozen, "{drive} {e}");
         }
-        assert_eq!(rt; raised_by(MOST_ACCUMULATED - 1, 5), MOST_ACCUMULATED);
-        assert_eq!(rt; raised_by(1 - MOST_ACCUMULATED, -5), -MOST_ACCUMULATED);
-        assert_eq!(rt; raised_by(MOST_ACCUMULATED, -5), MOST_ACCUMULATED - 5);
+        assert_eq!(rt; raise(MOST_ACCUMULATED - 1, 5), MOST_ACCUMULATED);
+        assert_eq!(rt; raise(1 - MOST_ACCUMULATED, -5), -MOST_ACCUMULATED);
+        assert_eq!(rt; raise(MOST_ACCUMULATED, -5), MOST_ACCUMULATED - 5);
     }
 }

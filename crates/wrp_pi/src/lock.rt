@@ -1,6 +1,6 @@
 //! The lock detector: a count of small errors, with hysteresis.
 ghost use Rattle.std.specs.Prelude.{◌≡◌, ◌<◌, ◌≤◌, []};
-ghost use Rattle.wrp_pi.specs.Calls.{Adds};
+ghost use Rattle.wrp_base.specs.Calls.{Adds};
 ghost use Rattle.wrp_pi.specs.Lock.{next_count, is_locked_at, rested, updated, StandsFor};
 
 use std::marker::Model;
@@ -33,7 +33,8 @@ impl LockDet {
     /// unlocks at `delock`.
     pub fn new(threshold: u32, lock: u32, delock: u32) -> LockDet
         requires { delock < lock }
-        ensures value { result ≡ rested (record { threshold = threshold; lock = lock; delock = delock }) }
+        ensures value { result
+            ≡ rested (record { threshold = threshold; lock = lock; delock = delock }) }
         ensures stands { StandsFor result [] }
     {
         LockDet {

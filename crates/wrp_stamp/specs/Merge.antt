@@ -2,7 +2,7 @@
 use Rattle.std.specs.Prelude.{ℕ, ◌+◌, ◌-◌, ◌*◌, ◌/◌, ◌%◌, nat_lt, if◌then◌else◌}
 use Rattle.wrp_base.specs.declared.time.Clock.{Clock}
 use Rattle.wrp_base.specs.declared.time.Raw.{Raw}
-use Rattle.wrp_base.specs.Clock.{period_of, step_of}
+use Rattle.wrp_base.specs.Clock.{period_of, step_of, steps_of_period}
 
 -- a quarter of the period, in tau
 abbrev pub quarter_of : Clock → ℕ
@@ -10,7 +10,7 @@ quarter_of clock = period_of clock / 4
 
 -- the place in the period, in tau, that a tag tells: it is counted from the transition, where the counters change over
 abbrev pub place_of : Clock → ℕ → ℕ → ℕ
-place_of clock tag transition = step_of clock * ((tag + 16384 - transition) % 16384)
+place_of clock tag transition = step_of clock * ((tag + steps_of_period - transition) % steps_of_period)
 
 -- the whole periods at that place: the rising counter's in the two middle quarters, the falling counter's in the first quarter, and one less in the last
 abbrev pub periods_at : Clock → Raw → ℕ → ℕ

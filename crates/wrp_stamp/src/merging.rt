@@ -1,12 +1,9 @@
 //! The rule by which two counters and a tag become one reading.
 ghost use Rattle.std.specs.Prelude.{◌≡◌, ◌^◌, ◌<◌, pos};
-ghost use Rattle.wrp_base.specs.Clock.{period_of};
+ghost use Rattle.wrp_base.specs.Clock.{period_of, steps_of_period};
 ghost use Rattle.wrp_stamp.specs.Merge.{place_of, periods_at, merged};
 
-use wrp_base::{Clock, Raw, Tau};
-
-/// The tags of one period.
-const TAGS: u16 = 16384;
+use wrp_base::{Clock, Raw, STEPS_OF_PERIOD, Tau};
 
 /// The reading of the local clock at a frame's arrival, in tau, merged from the raw stamp.
 ///
@@ -18,8 +15,8 @@ pub fn merge(raw: &Raw, transition: u16, clock: Clock) -> Tau
     requires rising_most { raw.now.rising < 2 ^ 63 }
     requires falling_least { 0 < raw.now.falling }
     requires falling_most { raw.now.falling < 2 ^ 63 }
-    requires tag { raw.now.tag < 16384 }
-    requires transition { transition < 16384 }
+    requires tag { raw.now.tag < steps_of_period }
+    requires transition { transition < steps_of_period }
     ensures { result ≡ pos (merged clock raw.now transition) }
 {
     let place = place_in_period(raw.tag, transition, clock);
@@ -30,12 +27,12 @@ pub fn merge(raw: &Raw, transition: u16, clock: Clock) -> Tau
 
 // Where in its period a frame arrived, in tau.
 fn place_in_period(tag: u16, transition: u16, clock: Clock) -> u128
-    requires tag { tag < 16384 }
-    requires transition { transition < 16384 }
+    requires tag { tag < steps_of_period }
+    requires transition { transition < steps_of_period }
     ensures value { result ≡ place_of clock tag transition }
     ensures within { result < period_of clock }
 {
-    let steps = (tag + TAGS - transition) % TAGS;
+    let steps = (tag + STEPS_OF_PERIOD - transition) % STEPS_OF_PERIOD;
     clock.step().unsigned_abs() * u128::from(steps)
 }
 
@@ -99,7 +96,7 @@ mod tests {
     fn check(rt: &impl Abort, clock: Clock, case: (u16, u16, u64, u64, Tau)) {
         let (transition, tag, rising, falling, reading) = case;
         assert!(rt; 0 < rising && rising < 1 << 63 && 0 < falling && falling < 1 << 63);
-        assert!(rt; tag < TAGS && transition < TAGS);
+        assert!(rt; tag < STEPS_OF_PERIOD && transition < STEPS_OF_PERIOD);
         let raw = Raw {
             rising,
             falling,

@@ -2,28 +2,28 @@
 //! list of calls at each question. The oldest call comes first.
 use wrp_base::Four;
 
-/// One call of an exchange. Times and phases are in tau.
+// One call of an exchange. Times and phases are in tau.
 #[derive(Clone, Copy, Debug)]
 pub enum Call {
-    /// `start`: the chain's first sample.
+    // `start`: the chain's first sample.
     Start(u32),
-    /// `clear`.
+    // `clear`.
     Clear,
-    /// `sample`: number, phase.
+    // `sample`: number, phase.
     Sample(u32, i64),
-    /// `sync`: sequenceId, correction, t2, its sample, tick.
+    // `sync`: sequenceId, correction, t2, its sample, tick.
     Sync(u16, i64, i64, u32, u32),
-    /// `follow_up`: sequenceId, precise.
+    // `follow_up`: sequenceId, precise.
     FollowUp(u16, i64),
-    /// `req_out`: sequenceId.
+    // `req_out`: sequenceId.
     ReqOut(u16),
-    /// `req_sent`: sequenceId, t3, its sample, tick.
+    // `req_sent`: sequenceId, t3, its sample, tick.
     ReqSent(u16, i64, u32, u32),
-    /// `resp`: sequenceId, t4.
+    // `resp`: sequenceId, t4.
     Resp(u16, i64),
 }
 
-/// The part of a four that a Sync and its Follow_Up give.
+// The part of a four that a Sync and its Follow_Up give.
 #[derive(Clone, Copy)]
 struct Down {
     t1: i128,
@@ -32,7 +32,7 @@ struct Down {
     tick: u32,
 }
 
-/// The part of a four that a Delay_Req's sending and its Delay_Resp give.
+// The part of a four that a Delay_Req's sending and its Delay_Resp give.
 #[derive(Clone, Copy)]
 struct Up {
     t3: i64,
@@ -41,7 +41,7 @@ struct Up {
     tick: u32,
 }
 
-/// Where the chain that stands after these calls began, and its first sample.
+// Where the chain that stands after these calls began, and its first sample.
 fn chain(calls: &[Call]) -> Option<(usize, u32)> {
     let mut found = None;
     for (at, call) in calls.iter().enumerate() {
@@ -54,7 +54,7 @@ fn chain(calls: &[Call]) -> Option<(usize, u32)> {
     found
 }
 
-/// The phase at this sample, if it is among the last `ring` good samples.
+// The phase at this sample, if it is among the last `ring` good samples.
 fn known_phase(ring: usize, calls: &[Call], sample: u32) -> Option<i64> {
     let mut left = ring;
     for call in calls.iter().rev() {
@@ -75,7 +75,7 @@ fn known_phase(ring: usize, calls: &[Call], sample: u32) -> Option<i64> {
     None
 }
 
-/// The phase at this sample, if a chain stands that it is not before, and it is known.
+// The phase at this sample, if a chain stands that it is not before, and it is known.
 fn usable_phase(ring: usize, calls: &[Call], sample: u32) -> Option<i64> {
     let (_, first) = chain(calls)?;
     if sample < first {
@@ -84,7 +84,7 @@ fn usable_phase(ring: usize, calls: &[Call], sample: u32) -> Option<i64> {
     known_phase(ring, calls, sample)
 }
 
-/// What a Follow_Up after these calls makes.
+// What a Follow_Up after these calls makes.
 fn followed(ring: usize, calls: &[Call], seq: u16, precise: i64) -> Option<Down> {
     let (start, _) = chain(calls)?;
     let mut last = None;
@@ -110,7 +110,7 @@ fn followed(ring: usize, calls: &[Call], seq: u16, precise: i64) -> Option<Down>
     Some(Down { t1, t2, u2, tick })
 }
 
-/// The sending told after these calls, if it is of the last request: t3, phase, tick.
+// The sending told after these calls, if it is of the last request: t3, phase, tick.
 fn told(ring: usize, calls: &[Call], seq: u16, sample: u32) -> Option<i64> {
     let (start, _) = chain(calls)?;
     let mut last = None;
@@ -125,7 +125,7 @@ fn told(ring: usize, calls: &[Call], seq: u16, sample: u32) -> Option<i64> {
     usable_phase(ring, calls, sample)
 }
 
-/// The first kept sending of the last request, with the calls that came after it: t3, phase, tick.
+// The first kept sending of the last request, with the calls that came after it: t3, phase, tick.
 fn first_sending(ring: usize, calls: &[Call]) -> Option<(usize, i64, i64, u32)> {
     let (start, _) = chain(calls)?;
     let mut first = None;
@@ -143,7 +143,7 @@ fn first_sending(ring: usize, calls: &[Call]) -> Option<(usize, i64, i64, u32)> 
     first
 }
 
-/// What a Delay_Resp after these calls makes.
+// What a Delay_Resp after these calls makes.
 fn answered(ring: usize, calls: &[Call], seq: u16, t4: i64) -> Option<Up> {
     let (sent, t3, u3, tick) = first_sending(ring, calls)?;
     for at in sent..calls.len() {
@@ -165,7 +165,7 @@ fn answered(ring: usize, calls: &[Call], seq: u16, t4: i64) -> Option<Up> {
     Some(Up { t3, t4, u3, tick })
 }
 
-/// Whether the piece that this call brings after these calls is kept.
+// Whether the piece that this call brings after these calls is kept.
 pub fn keeps(ring: usize, calls: &[Call], call: Call) -> bool {
     match call {
         Call::Sync(_, _, _, sample, _) => usable_phase(ring, calls, sample).is_some(),
@@ -178,7 +178,7 @@ pub fn keeps(ring: usize, calls: &[Call], call: Call) -> bool {
     }
 }
 
-/// The newest matched four after these calls.
+// The newest matched four after these calls.
 pub fn four(ring: usize, calls: &[Call]) -> Option<Four> {
     let (start, _) = chain(calls)?;
     let mut down = None;

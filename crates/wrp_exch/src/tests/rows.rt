@@ -1,21 +1,21 @@
 //! Lists of calls, with the answers and the last four that follow from the rules by hand.
 use super::lookback::Call::{self, Clear, FollowUp, ReqOut, ReqSent, Resp, Sample, Start, Sync};
 
-/// One list of calls.
+// One list of calls.
 pub struct Row {
-    /// What it shows.
+    // What it shows.
     pub name: &'static str,
-    /// The size of the ring.
+    // The size of the ring.
     pub ring: usize,
-    /// The calls, the oldest first.
+    // The calls, the oldest first.
     pub calls: &'static [Call],
-    /// The answers of the calls that have one: `y` kept, `n` not.
+    // The answers of the calls that have one: `y` kept, `n` not.
     pub answers: &'static str,
-    /// t1, t2, t3, t4, u2, u3 and tick after the last call.
+    // t1, t2, t3, t4, u2, u3 and tick after the last call.
     pub four: Option<[i64; 7]>,
 }
 
-/// The table.
+// The table.
 pub const ROWS: [Row; 30] = [
     Row {
         name: "one exchange",

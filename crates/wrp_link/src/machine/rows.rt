@@ -12,10 +12,11 @@ use wrp_base::LinkState::{
 use wrp_base::{LinkState, Role, WrMsg};
 
 impl Link {
-    /// What a message does, and the messages that it is answered with; None where it has no row.
+    // What a message does, and the messages that it is answered with; None where it has no row.
     pub(super) fn message(&mut self, message: WrMsg) -> Option<Sends>
         ensures state { self.new ≡ by_row self.old (message_row self.old self.old.role message) }
-        ensures answer { option_map (λ sends. sends.items) result ≡ answer_by (message_row self.old self.old.role message) }
+        ensures answer { option_map (λ sends. sends.items) result
+            ≡ answer_by (message_row self.old self.old.role message) }
     {
         match self.role {
             Role::Slave => self.at_slave(message),
@@ -23,10 +24,11 @@ impl Link {
         }
     }
 
-    /// The slave's rows.
+    // The slave's rows.
     fn at_slave(&mut self, message: WrMsg) -> Option<Sends>
         ensures state { self.new ≡ by_row self.old (slave_row self.old.state message) }
-        ensures answer { option_map (λ sends. sends.items) result ≡ answer_by (slave_row self.old.state message) }
+        ensures answer { option_map (λ sends. sends.items) result
+            ≡ answer_by (slave_row self.old.state message) }
     {
         match (self.state, message) {
             (Present, WrMsg::Lock) => self.moves(SLock, none()),
@@ -39,10 +41,11 @@ impl Link {
         }
     }
 
-    /// The master's rows.
+    // The master's rows.
     fn at_master(&mut self, message: WrMsg) -> Option<Sends>
         ensures state { self.new ≡ by_row self.old (master_row self.old self.old.state message) }
-        ensures answer { option_map (λ sends. sends.items) result ≡ answer_by (master_row self.old self.old.state message) }
+        ensures answer { option_map (λ sends. sends.items) result
+            ≡ answer_by (master_row self.old self.old.state message) }
     {
         match (self.state, message) {
             (Idle, WrMsg::Present) if self.may_leave_idle() => self.moves(MLock, one(WrMsg::Lock)),
@@ -61,10 +64,12 @@ impl Link {
         }
     }
 
-    /// The row of an Announce: a slave in IDLE begins, once its holdoff is over too.
+    // The row of an Announce: a slave in IDLE begins, once its holdoff is over too.
     pub(super) fn announce(&mut self, suffix: Option<u16>) -> Sends
-        ensures state { self.new ≡ by_row self.old (announce_row self.old self.old.role self.old.state suffix) }
-        ensures sends { result.items ≡ sent_by (announce_row self.old self.old.role self.old.state suffix) }
+        ensures state { self.new
+            ≡ by_row self.old (announce_row self.old self.old.role self.old.state suffix) }
+        ensures sends { result.items
+            ≡ sent_by (announce_row self.old self.old.role self.old.state suffix) }
     {
         match (self.role, self.state) {
             (Role::Slave, Idle)
@@ -76,14 +81,14 @@ impl Link {
         }
     }
 
-    /// Whether quiet time is over, the module is listed, and the link is a White Rabbit one.
+    // Whether quiet time is over, the module is listed, and the link is a White Rabbit one.
     fn may_leave_idle(&self) -> bool
         ensures { result ≡ may_leave_idle self.now }
     {
-        self.quiet == 0 && self.fitted.is_some() && self.set.wr
+        self.quiet == 0 && self.own_module.is_some() && self.set.wr
     }
 
-    /// A row that enters a state and sends messages.
+    // A row that enters a state and sends messages.
     pub(super) fn moves(&mut self, next: LinkState, sends: Sends) -> Option<Sends>
         ensures state { self.new ≡ entering self.old next }
         ensures sends { result ≡ Some sends }
@@ -92,7 +97,7 @@ impl Link {
         Some(sends)
     }
 
-    /// The same, and the peer's deltaTx and deltaRx are kept.
+    // The same, and the peer's deltaTx and deltaRx are kept.
     fn keeps(&mut self, tx: u64, rx: u64, next: LinkState, sends: Sends) -> Option<Sends>
         ensures state { self.new ≡ record (entering self.old next) { deltas = Some (tx, rx) } }
         ensures sends { result ≡ Some sends }
@@ -103,7 +108,7 @@ impl Link {
     }
 }
 
-/// Whether the wrFlags of an Announce's suffix offer White Rabbit: bit 0 is set.
+// Whether the wrFlags of an Announce's suffix offer White Rabbit: bit 0 is set.
 fn offers_white_rabbit(suffix: Option<u16>) -> bool
     ensures { result ≡ offers suffix }
 {
@@ -113,7 +118,7 @@ fn offers_white_rabbit(suffix: Option<u16>) -> bool
     }
 }
 
-/// The CALIBRATE that a port sends: calSendPattern, calRetry and calPeriod are 0.
+// The CALIBRATE that a port sends: calSendPattern, calRetry and calPeriod are 0.
 pub(super) fn own_calibrate() -> WrMsg
     ensures { result ≡ own_calibrate }
 {
@@ -124,14 +129,14 @@ pub(super) fn own_calibrate() -> WrMsg
     }
 }
 
-/// No message.
+// No message.
 pub(super) fn none() -> Sends
     ensures { result.items ≡ [] }
 {
     Sends::new()
 }
 
-/// One message.
+// One message.
 pub(super) fn one(message: WrMsg) -> Sends
     ensures { result.items ≡ message ∷ [] }
 {

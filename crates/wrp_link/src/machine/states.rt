@@ -7,7 +7,7 @@ use crate::LinkSet;
 use wrp_base::{LinkState, Module, Role};
 use wrp_timer::{Retry, Timer};
 
-/// How many ticks a state waits until its timer ends; None for a state without a timer.
+// How many ticks a state waits until its timer ends; None for a state without a timer.
 fn wait_in(set: &LinkSet, state: LinkState) -> Option<u32>
     requires wait { 1 ≤ set.now.wait }
     requires lock_wait { 1 ≤ set.now.lock_wait }
@@ -23,7 +23,7 @@ fn wait_in(set: &LinkSet, state: LinkState) -> Option<u32>
 }
 
 impl Link {
-    /// Enters a state: its timer is armed with all retries.
+    // Enters a state: its timer is armed with all retries.
     pub(super) fn enter(&mut self, next: LinkState)
         ensures { self.new ≡ entering self.old next }
     {
@@ -32,9 +32,10 @@ impl Link {
         self.arm(Retry::new(self.set.retries));
     }
 
-    /// Arms the timer of the state that the link is in, with the retries that are left.
+    // Arms the timer of the state that the link is in, with the retries that are left.
     pub(super) fn arm(&mut self, retry: Retry)
-        ensures { self.new ≡ record self.old { waiting = armed (wait_of self.old.set self.old.state) retry } }
+        ensures { self.new
+            ≡ record self.old { waiting = armed (wait_of self.old.set self.old.state) retry } }
     {
         self.wait = match wait_in(&self.set, self.state) {
             Some(ticks) => Some(Wait {
@@ -45,7 +46,7 @@ impl Link {
         };
     }
 
-    /// The handshake failed: IDLE, in quiet time, and a slave holds off before it starts anew.
+    // The handshake failed: IDLE, in quiet time, and a slave holds off before it starts anew.
     pub(super) fn fail(&mut self)
         ensures { self.new ≡ failed self.old }
     {
@@ -58,7 +59,7 @@ impl Link {
         self.deltas = None;
     }
 
-    /// The carrier goes: the link is as a new one.
+    // The carrier goes: the link is as a new one.
     pub(super) fn carrier_goes(&mut self) -> Sends
         ensures state { self.new ≡ new_link self.old.role self.old.set }
         ensures sends { result.items ≡ [] }
@@ -67,15 +68,15 @@ impl Link {
         Sends::new()
     }
 
-    /// A carrier comes: IDLE, in quiet time, whatever was before.
-    pub(super) fn carrier_comes(&mut self, fitted: Option<Module>) -> Sends
-        ensures state { self.new ≡ with_carrier self.old fitted }
+    // A carrier comes: IDLE, in quiet time, whatever was before.
+    pub(super) fn carrier_comes(&mut self, own_module: Option<Module>) -> Sends
+        ensures state { self.new ≡ with_carrier self.old own_module }
         ensures sends { result.items ≡ [] }
     {
         let sends = self.carrier_goes();
         self.carrier = true;
         self.quiet = self.set.quiet;
-        self.fitted = fitted;
+        self.own_module = own_module;
         sends
     }
 }

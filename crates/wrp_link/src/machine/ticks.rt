@@ -10,8 +10,8 @@ use wrp_base::LinkState::{Calibrated, Calibration, Idle, LinkOn, Locked, MLock, 
 use wrp_base::WrMsg;
 
 impl Link {
-    /// What a tick does, and the messages that it sends. In S_LOCK the lock detector is asked before
-    /// the timer.
+    // What a tick does, and the messages that it sends. In S_LOCK the lock detector is asked before
+    // the timer.
     pub(super) fn tick(&mut self, locked: bool) -> Sends
         ensures state { self.new ≡ by_row self.old (tick_row self.old self.old.state locked) }
         ensures sends { result.items ≡ sent_by (tick_row self.old self.old.state locked) }
@@ -38,8 +38,8 @@ impl Link {
         }
     }
 
-    /// A tick of the timer of a waiting state. Where it ends with a retry left, the state's messages
-    /// are sent again and the timer is armed again; without, the handshake fails.
+    // A tick of the timer of a waiting state. Where it ends with a retry left, the state's messages
+    // are sent again and the timer is armed again; without, the handshake fails.
     fn waits(&mut self) -> Sends
         ensures state { self.new ≡ by_row self.old (timer_row self.old self.old.waiting) }
         ensures sends { result.items ≡ sent_by (timer_row self.old self.old.waiting) }
@@ -58,15 +58,15 @@ impl Link {
             none()
         } else if retry.take() {
             self.arm(retry);
-            self.resent()
+            self.resend()
         } else {
             self.fail();
             none()
         }
     }
 
-    /// What the state sends again when its timer ends.
-    fn resent(&self) -> Sends
+    // What the state sends again when its timer ends.
+    fn resend(&self) -> Sends
         ensures { result.items ≡ resent self.now self.now.state }
     {
         match self.state {
@@ -78,21 +78,21 @@ impl Link {
         }
     }
 
-    /// The CALIBRATED that a port sends: its own module's delays, in tau.
+    // The CALIBRATED that a port sends: its own module's delays, in tau.
     fn own_calibrated(&self) -> WrMsg
-        ensures { result ≡ own_calibrated self.now.fitted }
+        ensures { result ≡ own_calibrated self.now.own_module }
     {
-        match self.fitted {
-            Some(fitted) => WrMsg::Calibrated {
-                tx: fitted.tx,
-                rx: fitted.rx,
+        match self.own_module {
+            Some(own_module) => WrMsg::Calibrated {
+                tx: own_module.tx,
+                rx: own_module.rx,
             },
             None => WrMsg::Calibrated { tx: 0, rx: 0 },
         }
     }
 }
 
-/// Two messages, in their order.
+// Two messages, in their order.
 fn two(first: WrMsg, second: WrMsg) -> Sends
     ensures { result.items ≡ first ∷ (second ∷ []) }
 {
