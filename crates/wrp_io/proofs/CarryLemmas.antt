@@ -8,35 +8,35 @@ use Rattle.arrayvec.specs.ArrayVec.{ArrayVec}
 use Rattle.wrp_io.specs.declared.link.LinkCall.{LinkCall}
 use Rattle.wrp_io.specs.declared.link.LinkCall.TheVariants.{Start, Send, Receive}
 use Rattle.wrp_io.specs.declared.queue.Held.{Held}
-use Rattle.wrp_io.specs.Link.{other_end, Waits, PutsAt, TakesFrom, FindsNone}
-use Rattle.wrp_io.specs.Waiting.{sent_by, received_by, received_at, waiting_at, waiting_of}
+use Rattle.wrp_io.specs.Link.{other_end, SameWaits, PutsAt, TakesFrom, FindsNone}
+use Rattle.wrp_io.specs.FramesWaiting.{octets_sent_to, octets_received_at, all_received_at, waiting_at, frames_waiting}
 use Rattle.wrp_io.specs.Queue.{held_for, held_at, Carries, TakesFirst}
 use Rattle.wrp_io.proofs.QueueLemmas.{own, foreign}
 
 -- what waits at an end is what is held for it
 waiting_is_held : (calls : List LinkCall) (queue : List Held) → Carries calls queue → (end : ℕ) → waiting_at end calls ≡ held_at end queue
 waiting_is_held calls queue carries end =
-    ap (drop (length (received_at end calls))) (carries end) ∙ drop-append_seam (received_at end calls) (held_at end queue)
+    ap (drop (length (all_received_at end calls))) (carries end) ∙ drop-append_seam (all_received_at end calls) (held_at end queue)
 
 -- one more call, which moves what it sent into the queue and what it received out of it
 carries_on : (calls : List LinkCall) (call : LinkCall) (before now : List Held) → Carries calls before
-    → ((end : ℕ) → held_at end before ++ cons_option (sent_by end call) [] ≡ cons_option (received_by end call) [] ++ held_at end now)
+    → ((end : ℕ) → held_at end before ++ cons_option (octets_sent_to end call) [] ≡ cons_option (octets_received_at end call) [] ++ held_at end now)
     → Carries (calls ++ call ∷ []) now
 carries_on calls call before now carries moves end =
-    let received : List (List ℕ) = received_at end calls in
-    filter_map-append (sent_by end) calls (call ∷ [])
-    ∙ ap (λ xs. xs ++ cons_option (sent_by end call) []) (carries end)
-    ∙ append_assoc received (held_at end before) (cons_option (sent_by end call) [])
+    let received : List (List ℕ) = all_received_at end calls in
+    filter_map-append (octets_sent_to end) calls (call ∷ [])
+    ∙ ap (λ xs. xs ++ cons_option (octets_sent_to end call) []) (carries end)
+    ∙ append_assoc received (held_at end before) (cons_option (octets_sent_to end call) [])
     ∙ ap (λ xs. received ++ xs) (moves end)
-    ∙ sym (append_assoc received (cons_option (received_by end call) []) (held_at end now))
-    ∙ ap (λ xs. xs ++ held_at end now) (sym (filter_map-append (received_by end) calls (call ∷ [])))
+    ∙ sym (append_assoc received (cons_option (octets_received_at end call) []) (held_at end now))
+    ∙ ap (λ xs. xs ++ held_at end now) (sym (filter_map-append (octets_received_at end) calls (call ∷ [])))
 
 -- a start moves nothing
 carries_start : (calls : List LinkCall) (queue : List Held) (ends : ℕ) → Carries calls queue → Carries (calls ++ Start ends ∷ []) queue
 carries_start calls queue ends carries = carries_on calls (Start ends) queue queue carries (λ end. append-nil (held_at end queue))
 
 -- after a start the same waits
-same_waits : (before now : List LinkCall) (queue : List Held) → Carries before queue → Carries now queue → Waits (waiting_of before) (waiting_of now)
+same_waits : (before now : List LinkCall) (queue : List Held) → Carries before queue → Carries now queue → SameWaits (frames_waiting before) (frames_waiting now)
 same_waits before now queue carried carries end =
     ap Some (waiting_is_held now queue carries end ∙ sym (waiting_is_held before queue carried end))
 
@@ -50,7 +50,7 @@ carries_send calls queue end frame held is same carries =
 
 -- after a send its octets wait last at the other end
 puts : (before now : List LinkCall) (queue : List Held) (end : ℕ) (octets : List ℕ) (held : Held) → held.end ≡ other_end end → held.frame.items ≡ octets
-    → Carries before queue → Carries now (queue ++ held ∷ []) → PutsAt (waiting_of before) (waiting_of now) (other_end end) octets
+    → Carries before queue → Carries now (queue ++ held ∷ []) → PutsAt (frames_waiting before) (frames_waiting now) (other_end end) octets
 puts before now queue end octets held is same carried carries = record {
   last = ap Some (waiting_is_held now (queue ++ held ∷ []) carries (other_end end)
       ∙ filter_map-append (held_for (other_end end)) queue (held ∷ [])
@@ -70,7 +70,7 @@ nothing false xs = refl
 
 -- what is taken out of the queue was received
 moved_out : (before now : List Held) (end : ℕ) (found : Option (ArrayVec ℕ)) → TakesFirst before now end found
-    → (at : ℕ) → held_at at before ++ [] ≡ cons_option (received_by at (Receive end found)) [] ++ held_at at now
+    → (at : ℕ) → held_at at before ++ [] ≡ cons_option (octets_received_at at (Receive end found)) [] ++ held_at at now
 moved_out before now end None taken at =
     append-nil (held_at at before) ∙ sym (ap (held_at at) taken.1) ∙ nothing (end == at) (held_at at now)
 moved_out before now end (Some frame) taken at =
@@ -92,7 +92,7 @@ carries_receive calls before now end found taken carries =
 -- a recv finds the frame that waited longest, or none
 takes : (before now : List LinkCall) (queue rest : List Held) (end : ℕ) (found : Option (ArrayVec ℕ)) (octets : List ℕ) → TakesFirst queue rest end found
     → IfSome found (λ frame. octets ≡ frame.items) → Carries before queue → Carries now rest
-    → MatchBool (is_some found) (TakesFrom (waiting_of before) (waiting_of now) end octets) (FindsNone (waiting_of before) (waiting_of now) end)
+    → MatchBool (is_some found) (TakesFrom (frames_waiting before) (frames_waiting now) end octets) (FindsNone (frames_waiting before) (frames_waiting now) end)
 takes before now queue rest end None octets taken same carried carries = record {
   none = waiting_is_held before queue carried end ∙ taken.0;
   same = λ at. ap Some (waiting_is_held now rest carries at ∙ ap (held_at at) taken.1 ∙ sym (waiting_is_held before queue carried at));
@@ -106,7 +106,7 @@ takes before now queue rest end (Some frame) octets taken same carried carries =
 
 -- what a start leaves
 pub started : (before now : List LinkCall) (queue : List Held) (ends : ℕ) → now ≡ before ++ Start ends ∷ [] → Carries before queue
-    → Carries now queue × Waits (waiting_of before) (waiting_of now)
+    → Carries now queue × SameWaits (frames_waiting before) (frames_waiting now)
 started before now queue ends told carried =
     let carries : Carries now queue = subst (λ xs. Carries xs queue) (sym told) (carries_start before queue ends carried) in
     (carries, same_waits before now queue carried carries)
@@ -114,7 +114,7 @@ started before now queue ends told carried =
 -- what a send leaves
 pub sent : (before now : List LinkCall) (queue more : List Held) (end : ℕ) (octets : List ℕ) (frame : ArrayVec ℕ) (held : Held)
     → now ≡ before ++ Send end frame ∷ [] → more ≡ queue ++ held ∷ [] → held.end ≡ other_end end → held.frame.items ≡ octets → frame.items ≡ octets → Carries before queue
-    → Carries now more × PutsAt (waiting_of before) (waiting_of now) (other_end end) octets
+    → Carries now more × PutsAt (frames_waiting before) (frames_waiting now) (other_end end) octets
 sent before now queue more end octets frame held told put is same copied carried =
     let back : List Held = queue ++ held ∷ [] in
     let carries : Carries now back = subst (λ xs. Carries xs back) (sym told) (carries_send before queue end frame held is (same ∙ sym copied) carried) in
@@ -123,7 +123,7 @@ sent before now queue more end octets frame held told put is same copied carried
 -- what a recv leaves
 pub received : (before now : List LinkCall) (queue rest : List Held) (end : ℕ) (found : Option (ArrayVec ℕ)) (octets : List ℕ)
     → now ≡ before ++ Receive end found ∷ [] → TakesFirst queue rest end found → IfSome found (λ frame. octets ≡ frame.items) → Carries before queue
-    → Carries now rest × MatchBool (is_some found) (TakesFrom (waiting_of before) (waiting_of now) end octets) (FindsNone (waiting_of before) (waiting_of now) end)
+    → Carries now rest × MatchBool (is_some found) (TakesFrom (frames_waiting before) (frames_waiting now) end octets) (FindsNone (frames_waiting before) (frames_waiting now) end)
 received before now queue rest end found octets told taken same carried =
     let carries : Carries now rest = subst (λ xs. Carries xs rest) (sym told) (carries_receive before queue rest end found taken carried) in
     (carries, takes before now queue rest end found octets taken same carried carries)

@@ -1,9 +1,10 @@
--- Counts of faults: a call fails only where the count of its object rose (this project's profile).
-use Rattle.std.specs.Prelude.{◌≡◌, ◌⊎◌, ℕ, ◌-◌, ◌^◌, ◌<◌, ◌≤◌, Result, Err, IsErr}
+-- Counts of faults: the count of an object rises exactly where a call of it fails (this project's
+-- profile).
+use Rattle.std.specs.Prelude.{◌≡◌, ◌≢◌, ◌⊎◌, ℕ, ◌-◌, ◌^◌, ◌<◌, ◌≤◌, Result, Err, IsErr, OnOk}
 use Rattle.wrp_io.specs.declared.link.StartFault.{StartFault}
 use Rattle.wrp_io.specs.declared.link.StartFault.TheVariants.{Failed}
 
--- the greatest count, where it stays
+-- the greatest u64, where a count stays
 abbrev pub greatest_count : ℕ
 greatest_count = 2 ^ 64 - 1
 
@@ -11,14 +12,19 @@ greatest_count = 2 ^ 64 - 1
 abbrev pub Rose : ℕ → ℕ → Type 0
 Rose before now = (before < now) ⊎ ((before ≡ greatest_count) × (now ≡ greatest_count))
 
--- the count never falls, stays at its greatest value, and rose where the call failed
+-- the count never falls and is never above the greatest u64, where it stays; a call that answers Ok
+-- leaves it as it was, and one that failed raised it
 pub record HasCause {T E : Type 0} (before now : ℕ) (result : Result T E) : Type 0 where
+  pub within : now ≤ greatest_count
   pub later : before ≤ now
   pub stays : before ≡ greatest_count → now ≡ greatest_count
+  pub kept : OnOk result (now ≡ before)
   pub rose : IsErr result → Rose before now
 
--- the count never falls, stays at its greatest value, and rose where the start failed for another cause than memory
-pub record IsFailedStart (before now : ℕ) (result : Result (Unit {0}) StartFault) : Type 0 where
+-- the same at a start: want of memory is no failure, and leaves the count as it was
+pub record HasStartCause (before now : ℕ) (result : Result (Unit {0}) StartFault) : Type 0 where
+  pub within : now ≤ greatest_count
   pub later : before ≤ now
   pub stays : before ≡ greatest_count → now ≡ greatest_count
+  pub kept : result ≢ Err Failed → now ≡ before
   pub rose : result ≡ Err Failed → Rose before now

@@ -4,4 +4,4 @@ pub mod Faults
 pub mod Link
 pub mod Memory
 pub mod Queue
-pub mod Waiting
+pub mod FramesWaiting

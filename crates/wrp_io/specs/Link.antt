@@ -22,32 +22,32 @@ abbrev pub Tells : {T E : Type 0} → Option (List LinkCall) → Option (List Li
 Tells before now result call = MatchResult result (λ answer. now ≡ option_map (λ calls. calls ++ call answer ∷ []) before) (λ _. now ≡ before)
 
 -- what waits at each end, in the order of waiting, where it is told
-abbrev pub Waiting : Type 0
-Waiting = ℕ → Option (List (List ℕ))
+abbrev pub FramesWaiting : Type 0
+FramesWaiting = ℕ → Option (List (List ℕ))
 
 -- the same waits at every end
-abbrev pub Waits : Waiting → Waiting → Type 0
-Waits before now = (end : ℕ) → now end ≡ before end
+abbrev pub SameWaits : FramesWaiting → FramesWaiting → Type 0
+SameWaits before now = (end : ℕ) → now end ≡ before end
 
 -- the octets wait behind those that waited at this end before, and at the other ends the same waits
-pub record PutsAt (before now : Waiting) (end : ℕ) (octets : List ℕ) : Type 0 where
+pub record PutsAt (before now : FramesWaiting) (end : ℕ) (octets : List ℕ) : Type 0 where
   pub last : now end ≡ option_map (λ waiting. waiting ++ octets ∷ []) (before end)
   pub elsewhere : (other : ℕ) → other ≢ end → now other ≡ before other
 
 -- the octets waited longest at this end and wait no more, and at the other ends the same waits
-pub record TakesFrom (before now : Waiting) (end : ℕ) (octets : List ℕ) : Type 0 where
+pub record TakesFrom (before now : FramesWaiting) (end : ℕ) (octets : List ℕ) : Type 0 where
   pub first : before end ≡ option_map (λ waiting. octets ∷ waiting) (now end)
   pub elsewhere : (other : ℕ) → other ≢ end → now other ≡ before other
 
 -- nothing waited at this end, and the same waits everywhere
-pub record FindsNone (before now : Waiting) (end : ℕ) : Type 0 where
+pub record FindsNone (before now : FramesWaiting) (end : ℕ) : Type 0 where
   pub none : IfSome (before end) (λ waiting. waiting ≡ [])
-  pub same : Waits before now
+  pub same : SameWaits before now
 
 -- what a `send` from this end leaves waiting
-abbrev pub Sends : {E : Type 0} → Waiting → Waiting → Result (Unit {0}) E → ℕ → List ℕ → Type 0
-Sends before now result end octets = MatchResult result (λ _. PutsAt before now (other_end end) octets) (λ _. Waits before now)
+abbrev pub Sends : {E : Type 0} → FramesWaiting → FramesWaiting → Result (Unit {0}) E → ℕ → List ℕ → Type 0
+Sends before now result end octets = MatchResult result (λ _. PutsAt before now (other_end end) octets) (λ _. SameWaits before now)
 
 -- what a `recv` at this end leaves waiting, where these are the octets of its frame
-abbrev pub Receives : {E : Type 0} → Waiting → Waiting → Result Bool E → ℕ → List ℕ → Type 0
-Receives before now result end octets = MatchResult result (λ answer. MatchBool answer (TakesFrom before now end octets) (FindsNone before now end)) (λ _. Waits before now)
+abbrev pub Receives : {E : Type 0} → FramesWaiting → FramesWaiting → Result Bool E → ℕ → List ℕ → Type 0
+Receives before now result end octets = MatchResult result (λ answer. MatchBool answer (TakesFrom before now end octets) (FindsNone before now end)) (λ _. SameWaits before now)

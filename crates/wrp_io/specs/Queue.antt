@@ -3,7 +3,7 @@ use Rattle.std.specs.Prelude.{◌≡◌, ◌≢◌, ℕ, ◌≤◌, ◌==◌, if
 use Rattle.arrayvec.specs.ArrayVec.{ArrayVec}
 use Rattle.wrp_io.specs.declared.link.LinkCall.{LinkCall}
 use Rattle.wrp_io.specs.declared.queue.Held.{Held}
-use Rattle.wrp_io.specs.Waiting.{sent_to, received_at}
+use Rattle.wrp_io.specs.FramesWaiting.{all_sent_to, all_received_at}
 
 -- the octets of a frame that is held for this end
 abbrev pub held_for : ℕ → Held → Option (List ℕ)
@@ -15,7 +15,7 @@ held_at end queue = filter_map (held_for end) queue
 
 -- the queue holds what was sent and not yet received: at each end what was sent is what was received, and then what is held
 abbrev pub Carries : List LinkCall → List Held → Type 0
-Carries calls queue = (end : ℕ) → sent_to end calls ≡ received_at end calls ++ held_at end queue
+Carries calls queue = (end : ℕ) → all_sent_to end calls ≡ all_received_at end calls ++ held_at end queue
 
 -- the frame was the first that was held for this end, and the others are held as before; or none was
 abbrev pub TakesFirst : List Held → List Held → ℕ → Option (ArrayVec ℕ) → Type 0

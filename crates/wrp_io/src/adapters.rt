@@ -32,10 +32,11 @@ impl<R: Read> Source for StdSource<R> {
     ghost faults = { λ s. s.faults };
 
     fn read(&mut self, buf: &mut [u8]) -> Result<usize, Failed> {
+        let faults = self.faults;
         match self.reader.read(buf) {
             Ok(given) => Ok(given),
             Err(_) => {
-                self.faults = self.faults.saturating_add(1);
+                self.faults = faults.saturating_add(1);
                 Err(Failed)
             }
         }
@@ -90,10 +91,11 @@ impl<W: Write> Sink for StdSink<W> {
         // Where the writer's octets are known, it took the first of the piece.
         ensures taken { IfOk result (λ n. Appends (W.contents (writer_of self.old)) (W.contents (writer_of self.new)) (take n piece.now)) }
     {
+        let faults = self.faults;
         match write_through(&mut self.writer, piece) {
             Some(taken) => Ok(taken),
             None => {
-                self.faults = self.faults.saturating_add(1);
+                self.faults = faults.saturating_add(1);
                 Err(Failed)
             }
         }

@@ -47,9 +47,10 @@ impl Calls {
         ensures good { OnOk result (self.new ≡ after_good self.old) }
         ensures bad { OnErr result (self.new ≡ after_fault self.old) }
     {
+        let faults = self.faults;
         self.made = self.made.saturating_add(1);
         if used_up || is_listed(&self.fails, self.made) {
-            self.faults = self.faults.saturating_add(1);
+            self.faults = faults.saturating_add(1);
             return Err(Failed);
         }
         Ok(())

@@ -1,6 +1,6 @@
 //! What carries frames between the ends of a network's links.
 ghost use Rattle.std.specs.Prelude.{ℕ, List, Option, None, Some, Ok, true, length, ◌≡◌, ◌≢◌, ◌≤◌};
-ghost use Rattle.wrp_io.specs.Faults.{HasCause, IsFailedStart};
+ghost use Rattle.wrp_io.specs.Faults.{HasCause, HasStartCause};
 
 use crate::source::Failed;
 use std::alloc::AllocError;
@@ -31,7 +31,7 @@ pub enum LinkCall {
 pub trait Link {
     ghost use Rattle.wrp_io.specs.declared.link.LinkCall.{LinkCall};
     ghost use Rattle.wrp_io.specs.declared.link.LinkCall.TheVariants.{Start, Send, Receive};
-    ghost use Rattle.wrp_io.specs.Link.{frame_of, answered, Tells, Waits, Sends, Receives};
+    ghost use Rattle.wrp_io.specs.Link.{frame_of, answered, Tells, SameWaits, Sends, Receives};
 
     /// How often the link has failed. The count is a u64, and stays at its greatest value.
     ghost faults: { Self → ℕ };
@@ -44,9 +44,9 @@ pub trait Link {
 
     /// Makes `ends` ends, numbered from 0.
     fn start(&mut self, ends: u32) -> Result<(), StartFault>
-        ensures cause { IsFailedStart (faults self.old) (faults self.new) result }
+        ensures cause { HasStartCause (faults self.old) (faults self.new) result }
         ensures tells { Tells (told self.old) (told self.new) result (λ _. Start ends) }
-        ensures waits { Waits (waiting self.old) (waiting self.new) };
+        ensures waits { SameWaits (waiting self.old) (waiting self.new) };
 
     /// Sends the octets of one frame from an end: at most 256. They wait at the other end of that
     /// link.

@@ -1,10 +1,10 @@
 //! A link in memory, with a limit on its calls and a list of those that fail.
 ghost use Rattle.std.specs.Prelude.{Option, Some, Ok, true, ◌≡◌, ◌≢◌, ◌↔◌, ◌≤◌, [], IsTrue, IfOk, IfErr, IsErr, OnOk, OnErr, length, vec_capacity};
-ghost use Rattle.wrp_io.specs.Faults.{HasCause, IsFailedStart};
-ghost use Rattle.wrp_io.specs.Link.{other_end, frame_of, answered, Tells, Waits, Sends, Receives};
-ghost use Rattle.wrp_io.specs.Waiting.{waiting_of};
+ghost use Rattle.wrp_io.specs.Faults.{HasCause, HasStartCause};
+ghost use Rattle.wrp_io.specs.Link.{other_end, frame_of, answered, Tells, SameWaits, Sends, Receives};
+ghost use Rattle.wrp_io.specs.FramesWaiting.{frames_waiting};
 ghost use Rattle.wrp_io.specs.Queue.{Keeps};
-ghost use Rattle.wrp_io.specs.Memory.{LinkAt, LinkFails, with_call, with_fault};
+ghost use Rattle.wrp_io.specs.Memory.{MemLinkAt, LinkFails, with_call, with_fault};
 
 use crate::calls::Calls;
 use crate::link::{Link, LinkCall, StartFault};
@@ -25,7 +25,7 @@ pub struct MemLink {
 }
 
 impl Model for MemLink {
-    ghost Value = { LinkAt };
+    ghost Value = { MemLinkAt };
 
     ghost view = { λ s. record { told = s.told.items; room = s.room; calls = s.calls } };
 
@@ -75,12 +75,12 @@ impl Link for MemLink {
 
     ghost told = { λ s. Some s.told };
 
-    ghost waiting = { λ s. waiting_of s.told };
+    ghost waiting = { λ s. frames_waiting s.told };
 
     fn start(&mut self, ends: u32) -> Result<(), StartFault>
-        ensures cause { IsFailedStart self.old.calls.faults self.new.calls.faults result }
+        ensures cause { HasStartCause self.old.calls.faults self.new.calls.faults result }
         ensures tells { Tells (Some self.old.told) (Some self.new.told) result (λ _. Start ends) }
-        ensures waits { Waits (waiting_of self.old.told) (waiting_of self.new.told) }
+        ensures waits { SameWaits (frames_waiting self.old.told) (frames_waiting self.new.told) }
 
         // It fails exactly at a listed call and where the link was called as often as it takes, and
         // never for want of memory.
@@ -101,7 +101,7 @@ impl Link for MemLink {
         requires { length bytes.now ≤ 256 }
         ensures cause { HasCause self.old.calls.faults self.new.calls.faults result }
         ensures tells { Tells (Some self.old.told) (Some self.new.told) result (λ _. Send end (frame_of bytes.now)) }
-        ensures waits { Sends (waiting_of self.old.told) (waiting_of self.new.told) result end bytes.now }
+        ensures waits { Sends (frames_waiting self.old.told) (frames_waiting self.new.told) result end bytes.now }
 
         // It fails exactly at a listed call and where the link was called as often as it takes.
         ensures fails { IsErr result ↔ LinkFails self.old }
@@ -122,7 +122,7 @@ impl Link for MemLink {
     fn recv(&mut self, end: u32, out: &mut Frame) -> Result<bool, Failed>
         ensures cause { HasCause self.old.calls.faults self.new.calls.faults result }
         ensures tells { Tells (Some self.old.told) (Some self.new.told) result (λ answer. Receive end (answered answer out.new.items)) }
-        ensures waits { Receives (waiting_of self.old.told) (waiting_of self.new.told) result end out.new.items }
+        ensures waits { Receives (frames_waiting self.old.told) (frames_waiting self.new.told) result end out.new.items }
         ensures stays { result ≢ Ok true → out.new ≡ out.old }
 
         // It fails exactly at a listed call and where the link was called as often as it takes.

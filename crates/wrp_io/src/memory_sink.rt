@@ -3,7 +3,7 @@ ghost use Rattle.std.specs.Prelude.{Option, Some, ◌≡◌, ◌⊎◌, ◌↔�
 ghost use Rattle.std.specs.Io.KnownBytes.{WriteAppends};
 ghost use Rattle.wrp_io.specs.Faults.{HasCause};
 ghost use Rattle.wrp_io.specs.Calls.{IsListed, after_good, after_fault};
-ghost use Rattle.wrp_io.specs.Memory.{SinkAt};
+ghost use Rattle.wrp_io.specs.Memory.{MemSinkAt};
 
 use crate::calls::Calls;
 use crate::sink::Sink;
@@ -20,7 +20,7 @@ pub struct MemSink {
 }
 
 impl Model for MemSink {
-    ghost Value = { SinkAt };
+    ghost Value = { MemSinkAt };
 
     ghost view = { λ s. record { held = s.octets.items; room = s.room; calls = s.calls } };
 

@@ -3,7 +3,7 @@ ghost use Rattle.std.specs.Prelude.{Option, Some, ◌≡◌, ◌⊎◌, ◌↔�
 ghost use Rattle.std.specs.Io.KnownBytes.{ReadConsumes};
 ghost use Rattle.wrp_io.specs.Faults.{HasCause};
 ghost use Rattle.wrp_io.specs.Calls.{IsListed, after_good, after_fault};
-ghost use Rattle.wrp_io.specs.Memory.{SourceAt};
+ghost use Rattle.wrp_io.specs.Memory.{MemSourceAt};
 
 use crate::calls::Calls;
 use crate::source::{Failed, Source};
@@ -18,7 +18,7 @@ pub struct MemSource {
 }
 
 impl Model for MemSource {
-    ghost Value = { SourceAt };
+    ghost Value = { MemSourceAt };
 
     ghost view = { λ s. record { left = drop s.at s.bytes.items; calls = s.calls } };
 

@@ -1,0 +1,33 @@
+-- What waits at the ends of a link in memory, looking back over the calls that answered Ok
+-- (this project's profile).
+use Rattle.std.specs.Prelude.{ℕ, ◌==◌, if◌then◌else◌, List, filter_map, length, drop, Option, Some, None}
+use Rattle.std.specs.Option.{option_map}
+use Rattle.wrp_io.specs.declared.link.LinkCall.{LinkCall}
+use Rattle.wrp_io.specs.declared.link.LinkCall.TheVariants.{Send, Receive}
+use Rattle.wrp_io.specs.Link.{other_end, FramesWaiting}
+
+-- the octets that a call sent to this end
+abbrev pub octets_sent_to : ℕ → LinkCall → Option (List ℕ)
+octets_sent_to end (Send from octets) = if other_end from == end then Some octets.items else None
+octets_sent_to end _ = None
+
+-- the octets that a call received at this end
+abbrev pub octets_received_at : ℕ → LinkCall → Option (List ℕ)
+octets_received_at end (Receive at octets) = if at == end then option_map (λ frame. frame.items) octets else None
+octets_received_at end _ = None
+
+-- all that was sent to this end, in order
+abbrev pub all_sent_to : ℕ → List LinkCall → List (List ℕ)
+all_sent_to end calls = filter_map (octets_sent_to end) calls
+
+-- all that was received at this end, in order
+abbrev pub all_received_at : ℕ → List LinkCall → List (List ℕ)
+all_received_at end calls = filter_map (octets_received_at end) calls
+
+-- what waits at this end: what was sent to it, but for as many of the first as were received there
+abbrev pub waiting_at : ℕ → List LinkCall → List (List ℕ)
+waiting_at end calls = drop (length (all_received_at end calls)) (all_sent_to end calls)
+
+-- what waits at each end, as a link tells it that tells these calls
+abbrev pub frames_waiting : List LinkCall → FramesWaiting
+frames_waiting calls end = Some (waiting_at end calls)
