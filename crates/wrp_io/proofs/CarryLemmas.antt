@@ -1,5 +1,5 @@
 -- The queue of a link in memory holds for each end what waits there, looking back over the calls.
-use Rattle.std.proofs.Common.{◌≡◌, ◌≢◌, ℕ, ◌==◌, if◌then◌else◌, List, [], ◌∷◌, ◌++◌, length, drop, Option, Some, None, IfSome, MatchBool, is_some, refl, sym, ap, ap₂, subst, ◌∙◌, append_assoc, append-nil, Bool, true, false, arith}
+use Rattle.std.proofs.Common.{◌≡◌, ◌≢◌, ℕ, ◌==◌, if◌then◌else◌, List, [], ◌∷◌, ◌++◌, length, drop, slice_get, Option, Some, None, refl, sym, ap, ap₂, subst, ◌∙◌, append_assoc, append-nil, Bool, true, false, arith}
 use Rattle.std.specs.List.{cons_option}
 use Rattle.std.proofs.lemmas.Bool.Decides.{nat_tests}
 use Rattle.std.proofs.lemmas.List.Elements.{filter_map-append}
@@ -8,13 +8,13 @@ use Rattle.arrayvec.specs.ArrayVec.{ArrayVec}
 use Rattle.wrp_io.specs.declared.link.LinkCall.{LinkCall}
 use Rattle.wrp_io.specs.declared.link.LinkCall.TheVariants.{Start, Send, Receive}
 use Rattle.wrp_io.specs.declared.queue.Held.{Held}
-use Rattle.wrp_io.specs.Link.{other_end, SameWaits, PutsAt, TakesFrom, FindsNone}
-use Rattle.wrp_io.specs.FramesWaiting.{octets_sent_to, octets_received_at, all_received_at, waiting_at, frames_waiting}
-use Rattle.wrp_io.specs.Queue.{held_for, held_at, Carries, TakesFirst}
+use Rattle.wrp_io.specs.Link.{other_end, octets_of, PutsAt}
+use Rattle.wrp_io.specs.FramesWaiting.{octets_sent_to, octets_received_at, all_received_at, waiting_at, frames_waiting, IsNext, Moves}
+use Rattle.wrp_io.specs.Queue.{held_for, held_at, Carries, TakesFirst, MovesFrame}
 use Rattle.wrp_io.proofs.QueueLemmas.{own, foreign}
 
 -- what waits at an end is what is held for it
-waiting_is_held : (calls : List LinkCall) (queue : List Held) → Carries calls queue → (end : ℕ) → waiting_at end calls ≡ held_at end queue
+pub waiting_is_held : (calls : List LinkCall) (queue : List Held) → Carries calls queue → (end : ℕ) → waiting_at end calls ≡ held_at end queue
 waiting_is_held calls queue carries end =
     ap (drop (length (all_received_at end calls))) (carries end) ∙ drop-append_seam (all_received_at end calls) (held_at end queue)
 
@@ -31,22 +31,17 @@ carries_on calls call before now carries moves end =
     ∙ sym (append_assoc received (cons_option (octets_received_at end call) []) (held_at end now))
     ∙ ap (λ xs. xs ++ held_at end now) (sym (filter_map-append (octets_received_at end) calls (call ∷ [])))
 
+-- the first that is held for an end waits there longest
+pub next_is_held : (calls : List LinkCall) (queue : List Held) (end : ℕ) (found : Option (ArrayVec ℕ)) → Carries calls queue
+    → octets_of found ≡ slice_get (held_at end queue) 0 → IsNext calls (Receive end found)
+next_is_held calls queue end found carries is = is ∙ ap (λ waiting. slice_get waiting 0) (sym (waiting_is_held calls queue carries end))
+
 -- a start moves nothing
-carries_start : (calls : List LinkCall) (queue : List Held) (ends : ℕ) → Carries calls queue → Carries (calls ++ Start ends ∷ []) queue
-carries_start calls queue ends carries = carries_on calls (Start ends) queue queue carries (λ end. append-nil (held_at end queue))
-
--- after a start the same waits
-same_waits : (before now : List LinkCall) (queue : List Held) → Carries before queue → Carries now queue → SameWaits (frames_waiting before) (frames_waiting now)
-same_waits before now queue carried carries end =
-    ap Some (waiting_is_held now queue carries end ∙ sym (waiting_is_held before queue carried end))
-
--- a send moves its octets to the back of the queue
-carries_send : (calls : List LinkCall) (queue : List Held) (end : ℕ) (frame : ArrayVec ℕ) (held : Held) → held.end ≡ other_end end → held.frame.items ≡ frame.items
-    → Carries calls queue → Carries (calls ++ Send end frame ∷ []) (queue ++ held ∷ [])
-carries_send calls queue end frame held is same carries =
-    carries_on calls (Send end frame) queue (queue ++ held ∷ []) carries
-    (λ at. ap₂ (λ n octets. held_at at queue ++ cons_option (if n == at then Some octets else None) []) (sym is) (sym same)
-    ∙ sym (filter_map-append (held_for at) queue (held ∷ [])))
+pub moves_start : (queue : List Held) (ends : ℕ) → MovesFrame queue queue (Start ends)
+moves_start queue ends calls carried next =
+    let carries : Carries (calls ++ Start ends ∷ []) queue =
+    carries_on calls (Start ends) queue queue carried (λ end. append-nil (held_at end queue)) in
+    (carries, λ end. ap Some (waiting_is_held (calls ++ Start ends ∷ []) queue carries end ∙ sym (waiting_is_held calls queue carried end)))
 
 -- after a send its octets wait last at the other end
 puts : (before now : List LinkCall) (queue : List Held) (end : ℕ) (octets : List ℕ) (held : Held) → held.end ≡ other_end end → held.frame.items ≡ octets
@@ -62,6 +57,16 @@ puts before now queue end octets held is same carried carries = record {
       ∙ append-nil (held_at other queue)
       ∙ sym (waiting_is_held before queue carried other));
 }
+
+-- a send moves its octets to the back of the queue
+pub moves_send : (queue : List Held) (end : ℕ) (frame : ArrayVec ℕ) (held : Held) → held.end ≡ other_end end → held.frame.items ≡ frame.items
+    → MovesFrame queue (queue ++ held ∷ []) (Send end frame)
+moves_send queue end frame held is same calls carried next =
+    let carries : Carries (calls ++ Send end frame ∷ []) (queue ++ held ∷ []) =
+    carries_on calls (Send end frame) queue (queue ++ held ∷ []) carried
+    (λ at. ap₂ (λ n octets. held_at at queue ++ cons_option (if n == at then Some octets else None) []) (sym is) (sym same)
+    ∙ sym (filter_map-append (held_for at) queue (held ∷ []))) in
+    (carries, puts calls (calls ++ Send end frame ∷ []) queue end frame.items held is same carried carries)
 
 -- no octets, whichever way the test goes
 nothing : (b : Bool) (xs : List (List ℕ)) → xs ≡ cons_option (if b then None else None) [] ++ xs
@@ -83,47 +88,39 @@ moved_out before now end (Some frame) taken at =
           append-nil (held_at at before) ∙ sym (taken.1 at differ)
     ] refl
 
--- a recv moves its frame out of the queue
-carries_receive : (calls : List LinkCall) (before now : List Held) (end : ℕ) (found : Option (ArrayVec ℕ)) → TakesFirst before now end found
-    → Carries calls before → Carries (calls ++ Receive end found ∷ []) now
-carries_receive calls before now end found taken carries =
-    carries_on calls (Receive end found) before now carries (moved_out before now end found taken)
+-- the frame that is taken out is the one that the call receives
+same_octets : (calls : List LinkCall) (before now : List Held) (end : ℕ) (found taken : Option (ArrayVec ℕ)) → Carries calls before
+    → IsNext calls (Receive end found) → TakesFirst before now end taken → octets_of taken ≡ octets_of found
+same_octets calls before now end found None carried next none =
+    ap (λ waiting. slice_get waiting 0) (sym none.0 ∙ sym (waiting_is_held calls before carried end)) ∙ sym next
+same_octets calls before now end found (Some frame) carried next first =
+    ap (λ waiting. slice_get waiting 0) (sym first.0 ∙ sym (waiting_is_held calls before carried end)) ∙ sym next
 
--- a recv finds the frame that waited longest, or none
-takes : (before now : List LinkCall) (queue rest : List Held) (end : ℕ) (found : Option (ArrayVec ℕ)) (octets : List ℕ) → TakesFirst queue rest end found
-    → IfSome found (λ frame. octets ≡ frame.items) → Carries before queue → Carries now rest
-    → MatchBool (is_some found) (TakesFrom (frames_waiting before) (frames_waiting now) end octets) (FindsNone (frames_waiting before) (frames_waiting now) end)
-takes before now queue rest end None octets taken same carried carries = record {
+-- what the call received leaves the rest waiting
+takes : (before now : List LinkCall) (queue rest : List Held) (end : ℕ) (found taken : Option (ArrayVec ℕ)) → octets_of taken ≡ octets_of found
+    → TakesFirst queue rest end taken → Carries before queue → Carries now rest
+    → Moves (frames_waiting before) (frames_waiting now) (Receive end found)
+takes before now queue rest end None None same taken carried carries = record {
   none = waiting_is_held before queue carried end ∙ taken.0;
   same = λ at. ap Some (waiting_is_held now rest carries at ∙ ap (held_at at) taken.1 ∙ sym (waiting_is_held before queue carried at));
 }
-takes before now queue rest end (Some frame) octets taken same carried carries = record {
-  first = ap Some (waiting_is_held before queue carried end ∙ taken.0
-      ∙ ap (λ x. x ∷ held_at end rest) (sym same)
-      ∙ ap (λ xs. octets ∷ xs) (sym (waiting_is_held now rest carries end)));
-  elsewhere = λ other ne. ap Some (waiting_is_held now rest carries other ∙ taken.1 other ne ∙ sym (waiting_is_held before queue carried other));
-}
+takes before now queue rest end None (Some frame) same taken carried carries = cc
+takes before now queue rest end (Some frame) None same taken carried carries = cc
+takes before now queue rest end (Some given) (Some frame) same taken carried carries =
+    let octets : frame.items ≡ given.items = cc in
+    record {
+      first = ap Some (waiting_is_held before queue carried end ∙ taken.0
+          ∙ ap (λ x. x ∷ held_at end rest) octets
+          ∙ ap (λ xs. given.items ∷ xs) (sym (waiting_is_held now rest carries end)));
+      elsewhere = λ other ne. ap Some (waiting_is_held now rest carries other ∙ taken.1 other ne ∙ sym (waiting_is_held before queue carried other));
+    }
 
--- what a start leaves
-pub started : (before now : List LinkCall) (queue : List Held) (ends : ℕ) → now ≡ before ++ Start ends ∷ [] → Carries before queue
-    → Carries now queue × SameWaits (frames_waiting before) (frames_waiting now)
-started before now queue ends told carried =
-    let carries : Carries now queue = subst (λ xs. Carries xs queue) (sym told) (carries_start before queue ends carried) in
-    (carries, same_waits before now queue carried carries)
-
--- what a send leaves
-pub sent : (before now : List LinkCall) (queue more : List Held) (end : ℕ) (octets : List ℕ) (frame : ArrayVec ℕ) (held : Held)
-    → now ≡ before ++ Send end frame ∷ [] → more ≡ queue ++ held ∷ [] → held.end ≡ other_end end → held.frame.items ≡ octets → frame.items ≡ octets → Carries before queue
-    → Carries now more × PutsAt (frames_waiting before) (frames_waiting now) (other_end end) octets
-sent before now queue more end octets frame held told put is same copied carried =
-    let back : List Held = queue ++ held ∷ [] in
-    let carries : Carries now back = subst (λ xs. Carries xs back) (sym told) (carries_send before queue end frame held is (same ∙ sym copied) carried) in
-    (subst (λ xs. Carries now xs) (sym put) carries, puts before now queue end octets held is same carried carries)
-
--- what a recv leaves
-pub received : (before now : List LinkCall) (queue rest : List Held) (end : ℕ) (found : Option (ArrayVec ℕ)) (octets : List ℕ)
-    → now ≡ before ++ Receive end found ∷ [] → TakesFirst queue rest end found → IfSome found (λ frame. octets ≡ frame.items) → Carries before queue
-    → Carries now rest × MatchBool (is_some found) (TakesFrom (frames_waiting before) (frames_waiting now) end octets) (FindsNone (frames_waiting before) (frames_waiting now) end)
-received before now queue rest end found octets told taken same carried =
-    let carries : Carries now rest = subst (λ xs. Carries xs rest) (sym told) (carries_receive before queue rest end found taken carried) in
-    (carries, takes before now queue rest end found octets taken same carried carries)
+-- a recv moves its frame out of the queue
+pub moves_receive : (queue rest : List Held) (end : ℕ) (found taken : Option (ArrayVec ℕ)) → TakesFirst queue rest end taken
+    → MovesFrame queue rest (Receive end found)
+moves_receive queue rest end found taken first calls carried next =
+    let same : octets_of taken ≡ octets_of found = same_octets calls queue rest end found taken carried next first in
+    let carries : Carries (calls ++ Receive end found ∷ []) rest =
+    carries_on calls (Receive end found) queue rest carried
+    (λ at. moved_out queue rest end taken first at ∙ ap (λ octets. cons_option (if end == at then octets else None) [] ++ held_at at rest) same) in
+    (carries, takes calls (calls ++ Receive end found ∷ []) queue rest end found taken same first carried carries)

@@ -12,6 +12,10 @@ pub record CallsAt : Type 0 where
   pub fails : List ℕ
   pub faults : ℕ
 
+-- no calls yet
+abbrev pub no_calls : List ℕ → CallsAt
+no_calls fails = record { made = 0; fails = fails; faults = 0 }
+
 -- the next call is one of those that fail
 abbrev pub IsListed : CallsAt → Type 0
 IsListed calls = Contains calls.fails (one_more calls.made)

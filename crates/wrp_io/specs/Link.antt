@@ -13,13 +13,21 @@ other_end end = if end % 2 == 0 then end + 1 else end - 1
 abbrev pub frame_of : List ℕ → ArrayVec ℕ
 frame_of octets = record { items = octets }
 
+-- the octets of a frame, if there is one
+abbrev pub octets_of : Option (ArrayVec ℕ) → Option (List ℕ)
+octets_of found = option_map (λ frame. frame.items) found
+
 -- the frame that a `recv` answers: that of the octets, where its answer is true
 abbrev pub answered : Bool → List ℕ → Option (ArrayVec ℕ)
 answered answer octets = if answer then Some (frame_of octets) else None
 
 -- a call that answers Ok is the last one told, with its answer; one that fails is not told
-abbrev pub Tells : {T E : Type 0} → Option (List LinkCall) → Option (List LinkCall) → Result T E → (T → LinkCall) → Type 0
-Tells before now result call = MatchResult result (λ answer. now ≡ option_map (λ calls. calls ++ call answer ∷ []) before) (λ _. now ≡ before)
+abbrev pub Tells : {T E : Type 0} → Option (List LinkCall) → Option (List LinkCall) → Result T E
+    → (T → LinkCall) → Type 0
+Tells before now result call =
+    MatchResult result
+    (λ answer. now ≡ option_map (λ calls. calls ++ call answer ∷ []) before)
+    (λ _. now ≡ before)
 
 -- what waits at each end, in the order of waiting, where it is told
 abbrev pub FramesWaiting : Type 0
@@ -45,9 +53,15 @@ pub record FindsNone (before now : FramesWaiting) (end : ℕ) : Type 0 where
   pub same : SameWaits before now
 
 -- what a `send` from this end leaves waiting
-abbrev pub Sends : {E : Type 0} → FramesWaiting → FramesWaiting → Result (Unit {0}) E → ℕ → List ℕ → Type 0
-Sends before now result end octets = MatchResult result (λ _. PutsAt before now (other_end end) octets) (λ _. SameWaits before now)
+abbrev pub Sends : {E : Type 0} → FramesWaiting → FramesWaiting → Result (Unit {0}) E → ℕ → List ℕ
+    → Type 0
+Sends before now result end octets =
+    MatchResult result (λ _. PutsAt before now (other_end end) octets) (λ _. SameWaits before now)
 
 -- what a `recv` at this end leaves waiting, where these are the octets of its frame
-abbrev pub Receives : {E : Type 0} → FramesWaiting → FramesWaiting → Result Bool E → ℕ → List ℕ → Type 0
-Receives before now result end octets = MatchResult result (λ answer. MatchBool answer (TakesFrom before now end octets) (FindsNone before now end)) (λ _. SameWaits before now)
+abbrev pub Receives : {E : Type 0} → FramesWaiting → FramesWaiting → Result Bool E → ℕ → List ℕ
+    → Type 0
+Receives before now result end octets =
+    MatchResult result
+    (λ answer. MatchBool answer (TakesFrom before now end octets) (FindsNone before now end))
+    (λ _. SameWaits before now)

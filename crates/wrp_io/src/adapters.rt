@@ -67,7 +67,8 @@ impl<W: Write> StdSink<W> {
 fn write_through<W: Write>(writer: &mut W, piece: &[u8]) -> Option<usize>
     ensures bound { IfSome result (λ n. n ≤ length piece.now) }
     ensures some { 0 < length piece.now → IfSome result (λ n. 0 < n) }
-    ensures octets { IfSome result (λ n. Appends (W.contents writer.old) (W.contents writer.new) (take n piece.now)) }
+    ensures octets { IfSome result (λ n.
+        Appends (W.contents writer.old) (W.contents writer.new) (take n piece.now)) }
 {
     let taken = writer.write(piece).ok()?;
     writer.flush().ok()?;
@@ -89,7 +90,9 @@ impl<W: Write> Sink for StdSink<W> {
         ensures cause { HasCause self.old.faults self.new.faults result }
 
         // Where the writer's octets are known, it took the first of the piece.
-        ensures taken { IfOk result (λ n. Appends (W.contents (writer_of self.old)) (W.contents (writer_of self.new)) (take n piece.now)) }
+        ensures taken { IfOk result (λ n.
+            Appends (W.contents (writer_of self.old)) (W.contents (writer_of self.new))
+            (take n piece.now)) }
     {
         let faults = self.faults;
         match write_through(&mut self.writer, piece) {

@@ -1,7 +1,7 @@
 //! The numbered calls of an object in memory, of which listed ones fail.
 ghost use Rattle.std.specs.Prelude.{◌≡◌, ◌⊎◌, ◌↔◌, ℕ, List, IsTrue, IsErr, OnOk, OnErr, Contains};
 ghost use Rattle.wrp_io.specs.Faults.{HasCause};
-ghost use Rattle.wrp_io.specs.Calls.{CallsAt, IsListed, after_good, after_fault};
+ghost use Rattle.wrp_io.specs.Calls.{CallsAt, IsListed, no_calls, after_good, after_fault};
 
 use crate::source::Failed;
 use std::marker::Model;
@@ -9,7 +9,7 @@ use std::marker::Model;
 /// How many calls were made, which of them fail, and how many failed. Both counts stay at their
 /// greatest value.
 #[derive(Drop)]
-pub(crate) struct Calls {
+pub struct Calls {
     made: u64,
     fails: Vec<u32>,
     faults: u64,
@@ -23,8 +23,8 @@ impl Model for Calls {
 
 impl Calls {
     /// No calls yet. Those with a number in `fails`, counted from 1, fail.
-    pub(crate) fn new(fails: Vec<u32>) -> Calls
-        ensures { result ≡ record { made = 0; fails = fails.items; faults = 0 } }
+    pub fn new(fails: Vec<u32>) -> Calls
+        ensures { result ≡ no_calls fails.items }
     {
         Calls {
             made: 0,
@@ -34,14 +34,14 @@ impl Calls {
     }
 
     /// How many calls were made.
-    pub(crate) fn made(&self) -> u64
+    pub fn made(&self) -> u64
         ensures { result ≡ self.now.made }
     {
         self.made
     }
 
     /// Counts one more call. It fails if it is listed, or if the object's room is used up.
-    pub(crate) fn next(&mut self, used_up: bool) -> Result<(), Failed>
+    pub fn next(&mut self, used_up: bool) -> Result<(), Failed>
         ensures cause { HasCause self.old.faults self.new.faults result }
         ensures fails { IsErr result ↔ (IsListed self.old ⊎ IsTrue used_up) }
         ensures good { OnOk result (self.new ≡ after_good self.old) }

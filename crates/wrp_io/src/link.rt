@@ -53,14 +53,16 @@ pub trait Link {
     fn send(&mut self, end: u32, bytes: &[u8]) -> Result<(), Failed>
         requires { length bytes.now ≤ 256 }
         ensures cause { HasCause (faults self.old) (faults self.new) result }
-        ensures tells { Tells (told self.old) (told self.new) result (λ _. Send end (frame_of bytes.now)) }
+        ensures tells { Tells (told self.old) (told self.new) result
+            (λ _. Send end (frame_of bytes.now)) }
         ensures waits { Sends (waiting self.old) (waiting self.new) result end bytes.now };
 
     /// Answers whether a frame waited at an end. If one did, the octets of the one that waited
     /// longest stand in `out`, in place of what it held, and wait no more.
     fn recv(&mut self, end: u32, out: &mut Frame) -> Result<bool, Failed>
         ensures cause { HasCause (faults self.old) (faults self.new) result }
-        ensures tells { Tells (told self.old) (told self.new) result (λ answer. Receive end (answered answer out.new.items)) }
+        ensures tells { Tells (told self.old) (told self.new) result
+            (λ answer. Receive end (answered answer out.new.items)) }
         ensures waits { Receives (waiting self.old) (waiting self.new) result end out.new.items }
         ensures stays { result ≢ Ok true → out.new ≡ out.old };
 }

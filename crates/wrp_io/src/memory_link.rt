@@ -1,14 +1,14 @@
 //! A link in memory, with a limit on its calls and a list of those that fail.
 ghost use Rattle.std.specs.Prelude.{Option, Some, Ok, true, ◌≡◌, ◌≢◌, ◌↔◌, ◌≤◌, [], IsTrue, IfOk, IfErr, IsErr, OnOk, OnErr, length, vec_capacity};
 ghost use Rattle.wrp_io.specs.Faults.{HasCause, HasStartCause};
-ghost use Rattle.wrp_io.specs.Link.{other_end, frame_of, answered, Tells, SameWaits, Sends, Receives};
-ghost use Rattle.wrp_io.specs.FramesWaiting.{frames_waiting};
+ghost use Rattle.wrp_io.specs.Link.{frame_of, answered, Tells, SameWaits, Sends, Receives};
+ghost use Rattle.wrp_io.specs.FramesWaiting.{frames_waiting, IsNext, Moves};
 ghost use Rattle.wrp_io.specs.Queue.{Keeps};
-ghost use Rattle.wrp_io.specs.Memory.{MemLinkAt, LinkFails, with_call, with_fault};
+ghost use Rattle.wrp_io.specs.Memory.{MemLinkAt, LinkFails, new_link, with_call, with_fault};
 
 use crate::calls::Calls;
 use crate::link::{Link, LinkCall, StartFault};
-use crate::queue::{Held, copy_of, put_into, take_first};
+use crate::queue::{Held, copied, copy_of, first_held, move_frame, put_into};
 use crate::source::Failed;
 use std::alloc::{AllocError, Global};
 use std::marker::Model;
@@ -29,14 +29,17 @@ impl Model for MemLink {
 
     ghost view = { λ s. record { told = s.told.items; room = s.room; calls = s.calls } };
 
-    ghost invariant = { λ s. Keeps s.told.items s.queue.items s.calls.made s.room (vec_capacity s.told) (vec_capacity s.queue) };
+    ghost invariant = { λ s. Keeps s.told.items s.queue.items s.calls.made s.room
+        (vec_capacity s.told) (vec_capacity s.queue) };
 }
 
 impl MemLink {
+    ghost use Rattle.wrp_io.specs.declared.link.LinkCall.TheVariants.{Receive};
+
     /// A link that takes `calls` calls, of which those with a number in `fails`, counted from 1,
     /// fail. It takes all the memory that it will need.
     pub fn new(alloc: Global, calls: u32, fails: Vec<u32>) -> Result<MemLink, AllocError>
-        ensures { IfOk result (λ link. link ≡ record { told = []; room = calls; calls = record { made = 0; fails = fails.items; faults = 0 } }) }
+        ensures { IfOk result (λ link. link ≡ new_link calls fails.items) }
     {
         Ok(MemLink {
             told: Vec::with_capacity(alloc, calls as usize)?,
@@ -59,13 +62,30 @@ impl MemLink {
     {
         self.calls.made() >= u64::from(self.room)
     }
-}
 
-// The other end of the same link.
-fn other_end_of(end: u32) -> u32
-    ensures { result ≡ other_end end }
-{
-    if end % 2 == 0 { end + 1 } else { end - 1 }
+    // The frame that has waited longest at this end, if one waits there.
+    fn next_frame(&self, end: u32) -> Option<Frame>
+        ensures { IsNext self.now.told (Receive end result) }
+    {
+        first_held(&self.queue, end)
+    }
+
+    // Makes a call, whose frame waits at the other end from now on, or waits no more.
+    fn make(&mut self, call: LinkCall) -> Result<(), Failed>
+        requires { IsNext self.old.told call }
+        ensures cause { HasCause self.old.calls.faults self.new.calls.faults result }
+        ensures fails { IsErr result ↔ LinkFails self.old }
+        ensures good { OnOk result (self.new ≡ with_call self.old call) }
+        ensures bad { OnErr result (self.new ≡ with_fault self.old) }
+        ensures moves { OnOk result
+            (Moves (frames_waiting self.old.told) (frames_waiting self.new.told) call) }
+    {
+        let used_up = self.is_used_up();
+        self.calls.next(used_up)?;
+        move_frame(&mut self.queue, &call);
+        self.told.push(call).unwrap();
+        Ok(())
+    }
 }
 
 impl Link for MemLink {
@@ -89,52 +109,44 @@ impl Link for MemLink {
         ensures good { OnOk result (self.new ≡ with_call self.old (Start ends)) }
         ensures bad { OnErr result (self.new ≡ with_fault self.old) }
     {
-        let used_up = self.is_used_up();
-        if self.calls.next(used_up).is_err() {
-            return Err(StartFault::Failed);
+        match self.make(LinkCall::Start(ends)) {
+            Ok(()) => Ok(()),
+            Err(Failed) => Err(StartFault::Failed),
         }
-        self.told.push(LinkCall::Start(ends)).unwrap();
-        Ok(())
     }
 
     fn send(&mut self, end: u32, bytes: &[u8]) -> Result<(), Failed>
         requires { length bytes.now ≤ 256 }
         ensures cause { HasCause self.old.calls.faults self.new.calls.faults result }
-        ensures tells { Tells (Some self.old.told) (Some self.new.told) result (λ _. Send end (frame_of bytes.now)) }
-        ensures waits { Sends (frames_waiting self.old.told) (frames_waiting self.new.told) result end bytes.now }
+        ensures tells { Tells (Some self.old.told) (Some self.new.told) result
+            (λ _. Send end (frame_of bytes.now)) }
+        ensures waits { Sends (frames_waiting self.old.told) (frames_waiting self.new.told)
+            result end bytes.now }
 
         // It fails exactly at a listed call and where the link was called as often as it takes.
         ensures fails { IsErr result ↔ LinkFails self.old }
         ensures good { OnOk result (self.new ≡ with_call self.old (Send end (frame_of bytes.now))) }
         ensures bad { OnErr result (self.new ≡ with_fault self.old) }
     {
-        let used_up = self.is_used_up();
-        self.calls.next(used_up)?;
-        let held = Held {
-            end: other_end_of(end),
-            frame: copy_of(bytes),
-        };
-        self.queue.push(held).unwrap();
-        self.told.push(LinkCall::Send(end, copy_of(bytes))).unwrap();
-        Ok(())
+        self.make(LinkCall::Send(end, copy_of(bytes)))
     }
 
     fn recv(&mut self, end: u32, out: &mut Frame) -> Result<bool, Failed>
         ensures cause { HasCause self.old.calls.faults self.new.calls.faults result }
-        ensures tells { Tells (Some self.old.told) (Some self.new.told) result (λ answer. Receive end (answered answer out.new.items)) }
-        ensures waits { Receives (frames_waiting self.old.told) (frames_waiting self.new.told) result end out.new.items }
+        ensures tells { Tells (Some self.old.told) (Some self.new.told) result
+            (λ answer. Receive end (answered answer out.new.items)) }
+        ensures waits { Receives (frames_waiting self.old.told) (frames_waiting self.new.told)
+            result end out.new.items }
         ensures stays { result ≢ Ok true → out.new ≡ out.old }
 
         // It fails exactly at a listed call and where the link was called as often as it takes.
         ensures fails { IsErr result ↔ LinkFails self.old }
-        ensures good { IfOk result (λ answer. self.new ≡ with_call self.old (Receive end (answered answer out.new.items))) }
+        ensures good { IfOk result (λ answer.
+            self.new ≡ with_call self.old (Receive end (answered answer out.new.items))) }
         ensures bad { OnErr result (self.new ≡ with_fault self.old) }
     {
-        let used_up = self.is_used_up();
-        self.calls.next(used_up)?;
-        let frame = take_first(&mut self.queue, end);
-        let waited = put_into(out, &frame);
-        self.told.push(LinkCall::Receive(end, frame)).unwrap();
-        Ok(waited)
+        let frame = self.next_frame(end);
+        self.make(LinkCall::Receive(end, copied(&frame)))?;
+        Ok(put_into(out, frame))
     }
 }

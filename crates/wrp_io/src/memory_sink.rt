@@ -2,8 +2,8 @@
 ghost use Rattle.std.specs.Prelude.{Option, Some, ◌≡◌, ◌⊎◌, ◌↔◌, ◌+◌, ◌-◌, ◌<◌, ◌≤◌, ℕ, List, [], length, min, vec_len, vec_capacity, IfOk, IsErr, OnOk, OnErr};
 ghost use Rattle.std.specs.Io.KnownBytes.{WriteAppends};
 ghost use Rattle.wrp_io.specs.Faults.{HasCause};
-ghost use Rattle.wrp_io.specs.Calls.{IsListed, after_good, after_fault};
-ghost use Rattle.wrp_io.specs.Memory.{MemSinkAt};
+ghost use Rattle.wrp_io.specs.Calls.{IsListed, no_calls, after_good, after_fault};
+ghost use Rattle.wrp_io.specs.Memory.{MemSinkAt, SinkFails, room_left};
 
 use crate::calls::Calls;
 use crate::sink::Sink;
@@ -31,7 +31,8 @@ impl MemSink {
     /// A sink with room for `room` octets, whose calls with a number in `fails`, counted from 1,
     /// fail. It takes all the memory that it will need.
     pub fn new(alloc: Global, room: usize, fails: Vec<u32>) -> Result<MemSink, AllocError>
-        ensures { IfOk result (λ sink. sink ≡ record { held = []; room = room; calls = record { made = 0; fails = fails.items; faults = 0 } }) }
+        ensures { IfOk result (λ sink.
+            sink ≡ record { held = []; room = room; calls = no_calls fails.items }) }
     {
         Ok(MemSink {
             octets: Vec::with_capacity(alloc, room)?,
@@ -61,8 +62,8 @@ impl Sink for MemSink {
 
         // It fails exactly at the listed calls and where its room is used up, and else takes all
         // that there is room for.
-        ensures fails { IsErr result ↔ (IsListed self.old.calls ⊎ ((0 < length piece.now) × (self.old.room ≤ length self.old.held))) }
-        ensures takes { IfOk result (λ n. n ≡ min (length piece.now) (self.old.room - length self.old.held)) }
+        ensures fails { IsErr result ↔ SinkFails self.old piece.now }
+        ensures takes { IfOk result (λ n. n ≡ min (length piece.now) (room_left self.old)) }
         ensures room { self.new.room ≡ self.old.room }
         ensures good { OnOk result (self.new.calls ≡ after_good self.old.calls) }
         ensures bad { OnErr result (self.new.calls ≡ after_fault self.old.calls) }

@@ -2,7 +2,7 @@
 ghost use Rattle.std.specs.Prelude.{Option, Some, ◌≡◌, ◌⊎◌, ◌↔◌, ◌+◌, ◌<◌, ◌≤◌, ℕ, List, length, min, take, drop, IfOk, IsErr, OnOk, OnErr};
 ghost use Rattle.std.specs.Io.KnownBytes.{ReadConsumes};
 ghost use Rattle.wrp_io.specs.Faults.{HasCause};
-ghost use Rattle.wrp_io.specs.Calls.{IsListed, after_good, after_fault};
+ghost use Rattle.wrp_io.specs.Calls.{IsListed, no_calls, after_good, after_fault};
 ghost use Rattle.wrp_io.specs.Memory.{MemSourceAt};
 
 use crate::calls::Calls;
@@ -28,7 +28,7 @@ impl Model for MemSource {
 impl MemSource {
     /// A source that gives `bytes`, and whose calls with a number in `fails`, counted from 1, fail.
     pub fn new(bytes: Vec<u8>, fails: Vec<u32>) -> MemSource
-        ensures { result ≡ record { left = bytes.items; calls = record { made = 0; fails = fails.items; faults = 0 } } }
+        ensures { result ≡ record { left = bytes.items; calls = no_calls fails.items } }
     {
         MemSource {
             bytes,

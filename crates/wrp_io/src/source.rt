@@ -3,8 +3,8 @@ ghost use Rattle.std.specs.Prelude.{Option, None, List, ℕ, length, ◌≤◌, 
 ghost use Rattle.std.specs.Io.KnownBytes.{ReadConsumes};
 ghost use Rattle.wrp_io.specs.Faults.{HasCause};
 
-/// A call of a source, a sink or a link failed. It took nothing and appended nothing, and the
-/// object's count of faults rose.
+/// A call of a source, a sink or a link failed, and the object's count of faults rose. Where the
+/// object tells its octets or its frames, the call took nothing and appended nothing.
 #[derive(Clone, Copy, Debug, PartialEq, Eq)]
 pub struct Failed;
 
