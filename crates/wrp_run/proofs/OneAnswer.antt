@@ -9,15 +9,16 @@ use Rattle.wrp_run.specs.declared.records.Record.TheVariants.{Reset, Tick, Up, D
 use Rattle.wrp_base.specs.declared.message.PtpMsg.{PtpMsg}
 use Rattle.wrp_frame.specs.declared.fault.FrameFault.{FrameFault}
 use Rattle.wrp_frame.proofs.Exact.{spells_one, exactly_refused}
-use Rattle.wrp_run.specs.Fields.{parts_of}
+use Rattle.wrp_base.specs.Lines.{parts_of}
 use Rattle.wrp_run.specs.Frames.{Says, IsHexOf}
 use Rattle.wrp_run.specs.Records.{IsRecord, IsNoRecord, IsUp, IsDown, IsFrame, HasParts, AreRecords}
 use Rattle.std.specs.Io.KnownBytes.{Appends}
-use Rattle.wrp_run.specs.declared.network.TheConstants.{TWO_NODES}
 use Rattle.wrp_run.specs.Statuses.{is_answer}
+use Rattle.wrp_run.specs.Taking.{AppendsPart}
 use Rattle.wrp_run.specs.Words.{IsReplay, IsCommand}
 use Rattle.wrp_run.specs.Input.{network_text, record_lines}
 use Rattle.wrp_run.specs.Texts.{lines_of_records, text_of, usage_line, bad_network_line, bad_trace_line, too_large_line}
+use Rattle.wrp_run.specs.TwoNodes.{two_nodes}
 use Rattle.wrp_run.specs.Answer.{input_limit, Answer, InputAnswer, ReplayAnswer}
 
 -- octets say one thing
@@ -164,7 +165,7 @@ one_replay node lines _ t o u p q = absurd p
 
 -- the network text is another, or the replay's answer is due
 input_of : (node : Node) (input : List ℕ) (s : Status) (o : List ℕ) → InputAnswer node input s o
-    → ((s ≡ BadNetwork) × (network_text input ≢ TWO_NODES.now) × (o ≡ bad_network_line)) ⊎ ((network_text input ≡ TWO_NODES.now) × ReplayAnswer node (record_lines input) s o)
+    → ((s ≡ BadNetwork) × (network_text input ≢ two_nodes) × (o ≡ bad_network_line)) ⊎ ((network_text input ≡ two_nodes) × ReplayAnswer node (record_lines input) s o)
 input_of node input BadNetwork o p = inl (refl, p.0, p.1)
 input_of node input Done o p = inr p
 input_of node input Usage o p = inr p
@@ -265,6 +266,6 @@ answered _ other = refl
 -- where the source tells the input, a part of what is due was written
 pub told_cut : (before : Option (List ℕ)) (words : List (List ℕ)) (s : Status) (held now : Option (List ℕ)) (text : List ℕ) (count : ℕ)
     → IfSome before (λ input. Answer words input s text) → Appends held now (take count text)
-    → IfSome before (λ input. (status : Status) × (octets : List ℕ) × (part : ℕ) × Answer words input status octets × Appends held now (take part octets))
+    → IfSome before (λ input. (status : Status) × (octets : List ℕ) × Answer words input status octets × AppendsPart held now octets)
 told_cut None words s held now text count due appends = tt
-told_cut (Some input) words s held now text count due appends = (s, text, count, due, appends)
+told_cut (Some input) words s held now text count due appends = (s, text, due, (count, appends))

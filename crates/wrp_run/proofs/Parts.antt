@@ -5,7 +5,7 @@ use Rattle.wrp_frame.specs.declared.fault.FrameFault.{FrameFault}
 use Rattle.wrp_run.specs.declared.records.Record.{Record}
 use Rattle.wrp_run.specs.declared.records.Record.TheVariants.{Reset, Tick, Up, Down, Frame}
 use Rattle.wrp_run.specs.declared.nodes.Node.{Node}
-use Rattle.wrp_run.specs.Fields.{parts_of}
+use Rattle.wrp_base.specs.Lines.{parts_of}
 use Rattle.wrp_run.specs.Frames.{IsHexOf}
 use Rattle.wrp_run.specs.Records.{HasParts, IsStamp, IsRecord, IsNoRecord}
 

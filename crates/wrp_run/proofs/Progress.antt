@@ -6,7 +6,8 @@ use Rattle.wrp_run.specs.declared.records.Record.{Record}
 use Rattle.wrp_run.specs.declared.replay.ReplayedNode.{ReplayedNode}
 use Rattle.wrp_run.specs.declared.status.Status.TheVariants.{Done, BadTrace}
 use Rattle.wrp_run.specs.Records.{IsRecord, IsNoRecord, AreRecords}
-use Rattle.wrp_run.specs.Replayed.{HasReplayed}
+use Rattle.wrp_base.specs.Calls.{Adds}
+use Rattle.wrp_run.specs.StandsFor.{StandsFor}
 use Rattle.wrp_run.specs.Texts.{written_by, lines_of_records, record_lines_of, count_lines, bad_trace_line}
 use Rattle.wrp_run.specs.History.{counters_after}
 use Rattle.wrp_data.specs.Counters.{nonzero_counts}
@@ -19,7 +20,7 @@ pub record Progress (node : Node) (lines rest : List (List ℕ)) (held : Replaye
   pub divided : lines ≡ read ++ rest
   pub are : AreRecords node read records
   pub is : held.node ≡ node
-  pub stands : HasReplayed (reverse records) held
+  pub stands : StandsFor held (reverse records)
   pub written : text ≡ lines_of_records node records
   pub counted : number ≡ length records
 
@@ -36,15 +37,15 @@ newest_first : (records : List Record) (found : Record) → reverse (records ++ 
 newest_first records found = reverse-append records (found ∷ [])
 
 -- before the first line
-pub begins : (node : Node) (lines : List (List ℕ)) (held : ReplayedNode) → held.node ≡ node → HasReplayed [] held → Progress node lines lines held [] 0
+pub begins : (node : Node) (lines : List (List ℕ)) (held : ReplayedNode) → held.node ≡ node → StandsFor held [] → Progress node lines lines held [] 0
 begins node lines held is stands = record { read = []; records = []; divided = refl; are = tt; is = is; stands = stands; written = refl; counted = refl }
 
 -- a line that is a record
 pub goes_on : (node : Node) (lines rest : List (List ℕ)) (held now : ReplayedNode) (text after line : List ℕ) (number : ℕ) (found : Record)
     → (so_far : Progress node lines (line ∷ rest) held text number) → IsRecord node line found
     → now.node ≡ held.node
-    → ((earlier : List Record) → HasReplayed earlier held → HasReplayed (found ∷ earlier) now)
-    → ((earlier : List Record) → HasReplayed earlier held → after ≡ text ++ record_lines_of held.node earlier found)
+    → Adds StandsFor held now found
+    → ((earlier : List Record) → StandsFor held earlier → after ≡ text ++ record_lines_of held.node earlier found)
     → Progress node lines rest now after (number + 1)
 goes_on node lines rest held now text after line number found so_far is stays stands writes =
     let records = so_far.records in
@@ -59,7 +60,7 @@ goes_on node lines rest held now text after line number found so_far is stays st
       divided = so_far.divided ∙ sym (append_assoc so_far.read (line ∷ []) rest);
       are = are_more node so_far.read records line found so_far.are is;
       is = stays ∙ so_far.is;
-      stands = subst (λ (history : List Record). HasReplayed history now) (sym turned) (stands (reverse records) so_far.stands);
+      stands = subst (StandsFor now) (sym turned) (stands (reverse records) so_far.stands);
       written = wrote ∙ ap (λ t. t ++ record_lines_of node (reverse records) found) so_far.written ∙ ap (written_by node) (sym turned);
       counted = omega arith;
     }

@@ -1,4 +1,5 @@
--- What a dropped frame changes: the counter of its reason, and nothing else (this project's profile).
+-- What a dropped frame changes: the counter of its reason, and nothing else (this project's
+-- profile).
 use Rattle.std.specs.Prelude.{◌≡◌, List, [], ◌∷◌, Some, Result}
 use Rattle.wrp_base.specs.declared.message.PtpMsg.{PtpMsg}
 use Rattle.wrp_data.specs.declared.reason.Reason.{Reason}
@@ -12,8 +13,10 @@ use Rattle.wrp_run.specs.History.{link_after, word_after, ticks_since_reset, nex
 use Rattle.wrp_run.specs.Texts.{record_lines_of}
 
 -- after a history a frame is dropped for this reason, and changes its counter alone
-pub record ChangesOnlyItsCounter (node : Node) (earlier : List Record) (heard : Result PtpMsg FrameFault) (reason : Reason) : Type 0 where
-  pub counter : counters_after node (Frame heard ∷ earlier) ≡ counts_after (counters_after node earlier) (number_of reason)
+pub record ChangesOnlyItsCounter (node : Node) (earlier : List Record)
+    (heard : Result PtpMsg FrameFault) (reason : Reason) : Type 0 where
+  pub counter : counters_after node (Frame heard ∷ earlier)
+      ≡ counts_after (counters_after node earlier) (number_of reason)
   pub silent : record_lines_of node earlier (Frame heard) ≡ []
   pub link : link_after node (Frame heard ∷ earlier) ≡ link_after node earlier
   pub ticks : ticks_since_reset (Frame heard ∷ earlier) ≡ ticks_since_reset earlier
@@ -23,4 +26,5 @@ pub record ChangesOnlyItsCounter (node : Node) (earlier : List Record) (heard : 
 abbrev pub DropChangesOnlyItsCounter : Type 0
 DropChangesOnlyItsCounter =
     (node : Node) (earlier : List Record) (heard : Result PtpMsg FrameFault) (reason : Reason)
-    → early_reason node (word_after node earlier) (Frame heard) ≡ Some reason → ChangesOnlyItsCounter node earlier heard reason
+    → early_reason node (word_after node earlier) (Frame heard) ≡ Some reason
+    → ChangesOnlyItsCounter node earlier heard reason

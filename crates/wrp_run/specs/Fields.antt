@@ -1,12 +1,7 @@
--- Fields of a line: the parts between its commas, and the numbers that they write (this project's
--- profile).
+-- Fields of a line: the numbers that they write (this project's profile).
 use Rattle.std.specs.Prelude.{ℕ, ◌+◌, ◌-◌, ◌*◌, ◌==◌, ◌&&◌, nat_le, Bool, if◌then◌else◌, Option, None, Some, List, [], ◌∷◌, length}
-use Rattle.std.specs.List.{fold, list_all, slice_split}
+use Rattle.std.specs.List.{fold, list_all}
 use Rattle.std.specs.Char.{is_ascii_digit}
-
--- the parts of a line between its commas
-abbrev pub parts_of : List ℕ → List (List ℕ)
-parts_of line = slice_split (λ octet. octet == 44) line
 
 -- what decimal digits are worth: each is worth ten of the next
 abbrev pub value_of : List ℕ → ℕ
@@ -14,13 +9,16 @@ value_of digits = fold (λ value digit. value * 10 + (digit - 48)) 0 digits
 
 -- whether octets are 1 to 39 decimal digits
 abbrev pub is_number : List ℕ → Bool
-is_number digits = nat_le 1 (length digits) && nat_le (length digits) 39 && list_all is_ascii_digit digits
+is_number digits =
+    nat_le 1 (length digits) && nat_le (length digits) 39 && list_all is_ascii_digit digits
 
 -- the number that digits write, where it is one and at most this
 abbrev pub digits_up_to : ℕ → List ℕ → Option ℕ
-digits_up_to most digits = if is_number digits && nat_le (value_of digits) most then Some (value_of digits) else None
+digits_up_to most digits =
+    if is_number digits && nat_le (value_of digits) most then Some (value_of digits) else None
 
 -- the number from 0 to most that a text writes: digits, or a minus sign and digits that are worth 0
 abbrev pub natural_up_to : ℕ → List ℕ → Option ℕ
 natural_up_to most [] = None
-natural_up_to most (octet ∷ octets) = if octet == 45 then digits_up_to 0 octets else digits_up_to most (octet ∷ octets)
+natural_up_to most (octet ∷ octets) =
+    if octet == 45 then digits_up_to 0 octets else digits_up_to most (octet ∷ octets)

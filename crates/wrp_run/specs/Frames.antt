@@ -1,9 +1,11 @@
--- Frames of a replay: what a hex text says, and which messages reach the link of a node's port. A frame
--- is dropped where it is malformed, of another domain, from a stranger, for another port, or comes
--- without carrier or in quiet time; one that is no Announce and has no White Rabbit message is of no use
--- to the link (this project's profile).
+-- Frames of a replay: what a hex text says, and which messages reach the link of a node's port. A
+-- frame is dropped where it is malformed, of another domain, from a stranger, for another port, or
+-- comes without carrier or in quiet time; one that is no Announce and has no White Rabbit message is
+-- of no use to the link (this project's profile).
 use Rattle.std.specs.Prelude.{◌≡◌, ℕ, ◌≤◌, ◌==◌, ◌&&◌, ◌||◌, Bool, true, false, if◌then◌else◌, Option, None, Some, Result, Ok, Err, List, length}
 use Rattle.hex.specs.Hex.{decode_of}
+use Rattle.wrp_base.specs.Message.{every_port}
+use Rattle.wrp_base.specs.Octets.{frame_room}
 use Rattle.wrp_base.specs.declared.link.LinkWord.{LinkWord}
 use Rattle.wrp_base.specs.declared.link.LinkWord.TheVariants.{Down, Quiet as QuietWord}
 use Rattle.wrp_base.specs.declared.message.Body.{Body}
@@ -28,16 +30,16 @@ abbrev pub Says : List ℕ → Result PtpMsg FrameFault → Type 0
 Says octets (Ok message) = Spells octets message
 Says octets (Err fault) = IsFirstFault fault octets
 
--- the text is the hex of at most 256 octets that say this
+-- the text is the hex of the octets of a frame, which say this
 pub record IsHexOf (text : List ℕ) (heard : Result PtpMsg FrameFault) : Type 0 where
   pub octets : List ℕ
   pub is : decode_of text ≡ Ok octets
-  pub fits : length octets ≤ 256
+  pub fits : length octets ≤ frame_room
   pub says : Says octets heard
 
--- the portIdentity that stands for every port: all ones
-abbrev pub every_port : PortIdentity
-every_port = record { clock = 0xffff_ffff_ffff_ffff; port = 0xffff }
+-- the text is the hex of no frame
+abbrev pub IsNoHex : List ℕ → Type 0
+IsNoHex text = (heard : Result PtpMsg FrameFault) → IsHexOf text heard → ⊥
 
 -- whether two port identities are one
 abbrev pub is_port : PortIdentity → PortIdentity → Bool
@@ -49,10 +51,11 @@ takes_frames Down = false
 takes_frames QuietWord = false
 takes_frames _ = true
 
--- whether a body is for this node's port: a Signaling for it or for every port, a Delay_Resp for it, and
--- each other kind
+-- whether a body is for this node's port: a Signaling for it or for every port, a Delay_Resp for it,
+-- and each other kind
 abbrev pub is_addressed : Node → Body → Bool
-is_addressed node (Signal target message) = is_port target (own_of node) || is_port target every_port
+is_addressed node (Signal target message) =
+    is_port target (own_of node) || is_port target every_port
 is_addressed node (DelayResp receive requesting) = is_port requesting (own_of node)
 is_addressed node _ = true
 
@@ -93,9 +96,9 @@ fault_reason faults.Tlv = Tlv
 fault_reason faults.BadWr = BadWr
 fault_reason faults.OneStep = OneStep
 
--- whether a port with this role uses a message that reached it: an Announce is for a slave, a Delay_Req
--- for a master, and a link message is used where the link uses it; without samples a slave has no use for
--- the pieces of the exchange
+-- whether a port with this role uses a message that reached it: an Announce is for a slave, a
+-- Delay_Req for a master, and a link message is used where the link uses it; without samples a slave
+-- has no use for the pieces of the exchange
 abbrev pub is_of_use : Role → Body → Bool → Bool
 is_of_use Slave (Announce origin utc p1 quality p2 gm steps source suffix) used = true
 is_of_use Master (Announce origin utc p1 quality p2 gm steps source suffix) used = false

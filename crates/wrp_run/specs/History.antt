@@ -1,6 +1,6 @@
--- What stands at a node after a history of records, by a look back from the newest: the link of its port,
--- its tick count, the sequenceId of its next Signaling and its counters of dropped frames (this project's
--- profile).
+-- What stands at a node after a history of records, by a look back from the newest: the link of its
+-- port, its tick count, the sequenceId of its next Signaling and its counters of dropped frames (this
+-- project's profile).
 use Rattle.std.specs.Prelude.{ℕ, ◌+◌, ◌%◌, Bool, true, false, List, [], ◌∷◌, length, Option, None, Some, Ok, Err}
 use Rattle.wrp_base.specs.declared.link.LinkWord.{LinkWord}
 use Rattle.wrp_base.specs.declared.message.WrMsg.{WrMsg}
@@ -20,14 +20,15 @@ use Rattle.wrp_run.specs.declared.records.Record.TheVariants.{Reset, Tick, Up, D
 
 -- the counts of a link where the network text gives none
 abbrev pub default_set : LinkSet
-default_set = record { quiet = 24; wait = 30; lock_wait = 1500; retries = 3; holdoff = 300; wr = true }
+default_set =
+    record { quiet = 24; wait = 30; lock_wait = 1500; retries = 3; holdoff = 300; wr = true }
 
 -- the link of a node before any record: without carrier
 abbrev pub first_link : Node → LinkAt
 first_link node = new_link (role_of node) default_set
 
--- what a record is to the link of a node's port: every tick counts as locked, and what is malformed or
--- dropped is nothing
+-- what a record is to the link of a node's port: every tick counts as locked, and what is malformed
+-- or dropped is nothing
 abbrev pub input_by : Node → LinkAt → Record → Option LinkIn
 input_by node l Reset = None
 input_by node l Tick = Some (TickOf true)
@@ -50,7 +51,8 @@ sends_for l (Some input) = sends_of l input
 abbrev pub link_after : Node → List Record → LinkAt
 link_after node [] = first_link node
 link_after node (Reset ∷ earlier) = first_link node
-link_after node (newest ∷ earlier) = after_input (link_after node earlier) (input_by node (link_after node earlier) newest)
+link_after node (newest ∷ earlier) =
+    after_input (link_after node earlier) (input_by node (link_after node earlier) newest)
 
 -- the word of the port after a history
 abbrev pub word_after : Node → List Record → LinkWord
@@ -58,7 +60,8 @@ word_after node history = word_of (link_after node history)
 
 -- the White Rabbit messages that a record makes the node send
 abbrev pub sends_by : Node → List Record → Record → List WrMsg
-sends_by node earlier newest = sends_for (link_after node earlier) (input_by node (link_after node earlier) newest)
+sends_by node earlier newest =
+    sends_for (link_after node earlier) (input_by node (link_after node earlier) newest)
 
 -- whether a link uses an input, if there is one
 abbrev pub used_by : LinkAt → Option LinkIn → Bool
@@ -78,7 +81,8 @@ late_reason node found early used = early
 
 -- the first reason for which a record's frame is dropped, if there is one
 abbrev pub reason_by : Node → LinkAt → Record → Option Reason
-reason_by node l found = late_reason node found (early_reason node (word_of l) found) (used_by l (input_by node l found))
+reason_by node l found =
+    late_reason node found (early_reason node (word_of l) found) (used_by l (input_by node l found))
 
 -- the counters after a reason, if there is one
 abbrev pub counts_by : List ℕ → Option Reason → List ℕ
@@ -88,7 +92,8 @@ counts_by counters (Some reason) = counts_after counters (number_of reason)
 -- the counters of dropped frames after a history: a reset leaves them
 abbrev pub counters_after : Node → List Record → List ℕ
 counters_after node [] = no_counts
-counters_after node (newest ∷ earlier) = counts_by (counters_after node earlier) (reason_by node (link_after node earlier) newest)
+counters_after node (newest ∷ earlier) =
+    counts_by (counters_after node earlier) (reason_by node (link_after node earlier) newest)
 
 -- how many ticks a history has since its last reset
 abbrev pub ticks_since_reset : List Record → ℕ
@@ -101,4 +106,5 @@ ticks_since_reset (_ ∷ earlier) = ticks_since_reset earlier
 abbrev pub next_sequence : Node → List Record → ℕ
 next_sequence node [] = 0
 next_sequence node (Reset ∷ earlier) = 0
-next_sequence node (newest ∷ earlier) = (next_sequence node earlier + length (sends_by node earlier newest)) % 65536
+next_sequence node (newest ∷ earlier) =
+    (next_sequence node earlier + length (sends_by node earlier newest)) % 65536

@@ -7,8 +7,9 @@ pub mod Input
 pub mod Lines
 pub mod Nodes
 pub mod Records
-pub mod Replayed
+pub mod StandsFor
 pub mod Statuses
 pub mod Taking
 pub mod Texts
+pub mod TwoNodes
 pub mod Words

@@ -18,7 +18,10 @@ onto octet (line ∷ lines) = (octet ∷ line) ∷ lines
 -- the lines of the octets, each with its LF
 abbrev pub lines_of : List ℕ → List (List ℕ)
 lines_of [] = []
-lines_of (octet ∷ octets) = if octet == line_feed then (octet ∷ []) ∷ lines_of octets else onto octet (lines_of octets)
+lines_of (octet ∷ octets) =
+    if octet == line_feed
+    then (octet ∷ []) ∷ lines_of octets
+    else onto octet (lines_of octets)
 
 -- octets that are read from the last one: without a CR where they begin with one
 abbrev pub without_return : List ℕ → List ℕ

@@ -1,5 +1,5 @@
--- The nodes of the two-node network: what its text says of each, whose only port is 1 (this project's
--- profile).
+-- The nodes of the two-node network: what its text says of each, whose only port is 1 (this
+-- project's profile).
 use Rattle.std.specs.Prelude.{ℕ, List, codes}
 use Rattle.wrp_base.specs.declared.link.Module.{Module}
 use Rattle.wrp_base.specs.declared.link.Role.{Role}

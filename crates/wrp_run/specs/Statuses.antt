@@ -1,4 +1,5 @@
--- Statuses: their numbers, and which of them are answers to words and input (this project's profile).
+-- Statuses: their numbers, and which of them are answers to words and input (this project's
+-- profile).
 use Rattle.std.specs.Prelude.{ℕ, Bool, true, false}
 use Rattle.wrp_run.specs.declared.status.Status.{Status}
 use Rattle.wrp_run.specs.declared.status.Status.TheVariants.{Done, Usage, BadNetwork, BadTrace, Broken, ReadFault, WriteFault, LinkFault, TooLarge, OutOfMemory}
@@ -16,7 +17,8 @@ number_of LinkFault = 7
 number_of TooLarge = 8
 number_of OutOfMemory = 9
 
--- whether a status answers words and input, and tells neither a fault of the outside nor want of memory
+-- whether a status answers words and input, and tells neither a fault of the outside nor want of
+-- memory
 abbrev pub is_answer : Status → Bool
 is_answer ReadFault = false
 is_answer WriteFault = false

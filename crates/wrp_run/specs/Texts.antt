@@ -35,24 +35,34 @@ word_text (In LinkOn) = codes "link-on"
 
 -- the line of port 1's word at a tick
 abbrev pub link_line : Node → ℕ → LinkWord → List ℕ
-link_line node ticks word = name_of node ++ codes " " ++ decimal ticks ++ codes " link 1 " ++ word_text word ++ 10 ∷ []
+link_line node ticks word =
+    name_of node ++ codes " " ++ decimal ticks ++ codes " link 1 " ++ word_text word ++ 10 ∷ []
 
 -- what a record writes: the line of the word, where it is written otherwise than the one before
 abbrev pub change_line : Node → ℕ → LinkWord → LinkWord → List ℕ
-change_line node ticks before now = if bytes_eq (word_text before) (word_text now) then [] else link_line node ticks now
+change_line node ticks before now =
+    if bytes_eq (word_text before) (word_text now) then [] else link_line node ticks now
 
 -- the Signaling that carries a White Rabbit message to the peer
 abbrev pub signaling : Node → ℕ → WrMsg → PtpMsg
 signaling node sequence message =
     record {
-      head = record { domain = 0; flags = 0; correction = pos 0; source = own_of node; seq = sequence; interval = 0x7f };
+      head = record {
+        domain = 0;
+        flags = 0;
+        correction = pos 0;
+        source = own_of node;
+        seq = sequence;
+        interval = 0x7f;
+      };
       body = Signal (peer_of node) (Some message);
     }
 
 -- the line of a Signaling that port 1 sends at a tick, in hex
 abbrev pub send_line : Node → ℕ → ℕ → WrMsg → List ℕ
 send_line node ticks sequence message =
-    name_of node ++ codes " " ++ decimal ticks ++ codes " send 1 " ++ encode_lower (octets_of (signaling node sequence message)) ++ 10 ∷ []
+    name_of node ++ codes " " ++ decimal ticks ++ codes " send 1 "
+    ++ encode_lower (octets_of (signaling node sequence message)) ++ 10 ∷ []
 
 -- the lines of several, whose sequenceIds count from this one
 abbrev pub send_lines : Node → ℕ → ℕ → List WrMsg → List ℕ
@@ -60,11 +70,14 @@ send_lines node ticks sequence [] = []
 send_lines node ticks sequence (message ∷ messages) =
     send_line node ticks sequence message ++ send_lines node ticks ((sequence + 1) % 65536) messages
 
--- what the newest record of a history writes: the line of a changed word, then those of what is sent
+-- what the newest record of a history writes: the line of a changed word, then those of what is
+-- sent
 abbrev pub record_lines_of : Node → List Record → Record → List ℕ
 record_lines_of node earlier newest =
-    change_line node (ticks_since_reset (newest ∷ earlier)) (word_after node earlier) (word_after node (newest ∷ earlier))
-    ++ send_lines node (ticks_since_reset (newest ∷ earlier)) (next_sequence node earlier) (sends_by node earlier newest)
+    change_line node (ticks_since_reset (newest ∷ earlier))
+    (word_after node earlier) (word_after node (newest ∷ earlier))
+    ++ send_lines node (ticks_since_reset (newest ∷ earlier))
+    (next_sequence node earlier) (sends_by node earlier newest)
 
 -- what a history has written, newest record first
 abbrev pub written_by : Node → List Record → List ℕ
@@ -73,7 +86,8 @@ written_by node (newest ∷ earlier) = written_by node earlier ++ record_lines_o
 
 -- the line of a counter of port 1
 abbrev pub count_line : Node → Reason → ℕ → List ℕ
-count_line node reason times = name_of node ++ codes " count 1 " ++ reason_name reason ++ codes " " ++ decimal times ++ 10 ∷ []
+count_line node reason times =
+    name_of node ++ codes " count 1 " ++ reason_name reason ++ codes " " ++ decimal times ++ 10 ∷ []
 
 -- the lines of several
 abbrev pub count_lines : Node → List (Reason × ℕ) → List ℕ
@@ -84,14 +98,16 @@ count_lines node (count ∷ counts) = count_line node count.0 count.1 ++ count_l
 abbrev pub lines_of_records : Node → List Record → List ℕ
 lines_of_records node records = written_by node (reverse records)
 
--- the text that is due for a list of records at the end of the input: their lines, and then those of the
--- counters that are not 0
+-- the text that is due for a list of records at the end of the input: their lines, and then those
+-- of the counters that are not 0
 abbrev pub text_of : Node → List Record → List ℕ
-text_of node records = lines_of_records node records ++ count_lines node (nonzero_counts (counters_after node (reverse records)))
+text_of node records =
+    lines_of_records node records ++ count_lines node (nonzero_counts (counters_after node (reverse records)))
 
 -- the only line where the words are no command
 abbrev pub usage_line : List ℕ
-usage_line = codes "usage: wrnet audit [--emit NODE] | replay --node NODE | simulate --seed N | loop --seed N\n"
+usage_line =
+    codes "usage: wrnet audit [--emit NODE] | replay --node NODE | simulate --seed N | loop --seed N\n"
 
 -- the only line where the network text is another
 abbrev pub bad_network_line : List ℕ

@@ -1,7 +1,12 @@
 -- The words of the command line (this project's profile).
-use Rattle.std.specs.Prelude.{◌≡◌, ℕ, List, [], ◌∷◌, codes}
+use Rattle.std.specs.Prelude.{◌≡◌, ℕ, List, [], ◌∷◌, map, codes}
+use Rattle.std.specs.Borrow.{Bor}
 use Rattle.wrp_run.specs.declared.nodes.Node.{Node}
 use Rattle.wrp_run.specs.Nodes.{name_of}
+
+-- the texts of words that are lent
+abbrev pub texts_of : List (Bor (List ℕ)) → List (List ℕ)
+texts_of words = map (λ word. word.now) words
 
 -- the words are `replay --node` and the node's name
 abbrev pub IsReplay : List (List ℕ) → Node → Type 0

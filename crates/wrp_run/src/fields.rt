@@ -1,24 +1,26 @@
 //! The fields of a line: its parts between commas, and the numbers that they write.
-ghost use Rattle.std.specs.Prelude.{◌≡◌, ◌==◌, ◌<◌, ◌-◌, ◌^◌, ℕ, min, map, IfOk};
-ghost use Rattle.std.specs.List.{slice_split, list_all};
+ghost use Rattle.std.specs.Prelude.{◌≡◌, ◌<◌, ◌-◌, ◌^◌, min, IfOk};
+ghost use Rattle.std.specs.List.{list_all};
 ghost use Rattle.std.specs.Char.{is_ascii_digit};
+ghost use Rattle.wrp_base.specs.Lines.{parts_of};
 ghost use Rattle.wrp_run.specs.Fields.{natural_up_to, digits_up_to, is_number, value_of};
+ghost use Rattle.wrp_run.specs.Words.{texts_of};
 
 use std::alloc::{AllocError, Global};
 
-/// The most digits that a number may have.
+// The most digits that a number may have.
 const MOST_DIGITS: usize = 39;
 
 /// The parts of a line between its commas.
-pub(crate) fn parts(alloc: Global, line: &[u8]) -> Result<Vec<&[u8]>, AllocError>
-    ensures { IfOk result (λ parts. map (λ part. part.now) parts.items ≡ slice_split (λ octet. octet == 44) line.now) }
+pub fn parts(alloc: Global, line: &[u8]) -> Result<Vec<&[u8]>, AllocError>
+    ensures { IfOk result (λ parts. texts_of parts.items ≡ parts_of line.now) }
 {
     line.split(|octet| *octet == b',').collect(alloc)
 }
 
 /// The number that a text writes: an optional `-`, then 1 to 39 digits. None where it is no number,
 /// is below 0, or is above `most`.
-pub(crate) fn natural(text: &[u8], most: u64) -> Option<u64>
+pub fn natural(text: &[u8], most: u64) -> Option<u64>
     requires { most < 2 ^ 64 - 1 }
     ensures { result ≡ natural_up_to most text.now }
 {

@@ -1,35 +1,26 @@
 //! The frames of a replay: what one says, and whether it reaches the link of the port.
 ghost use Rattle.std.specs.Prelude.{◌≡◌, ◌<◌, ◌≤◌, ⊤, ℕ, Result, List, length, MatchOption};
-ghost use Rattle.wrp_run.specs.Frames.{IsHexOf, input_to, drop_of, fault_reason, is_of_use, is_addressed};
+ghost use Rattle.wrp_run.specs.Frames.{IsHexOf, IsNoHex, input_to, drop_of, fault_reason, is_of_use, is_addressed};
 
 use crate::nodes::Node;
-use wrp_base::{Body, LinkWord, PortIdentity, PtpMsg, Role};
+use wrp_base::{Body, EVERY_PORT, FRAME_ROOM, LinkWord, PtpMsg, Role};
 use wrp_data::Reason;
 use wrp_frame::{FrameFault, decode};
 use wrp_link::LinkIn;
 
-/// How many octets a frame may have.
-const FRAME_LIMIT: usize = 256;
-
-/// The portIdentity that stands for every port.
-const EVERY_PORT: PortIdentity = PortIdentity {
-    clock: u64::MAX,
-    port: u16::MAX,
-};
-
-/// The domainNumber of the network.
+// The domainNumber of the network.
 const DOMAIN: u8 = 0;
 
 /// What the octets of a hex text say: a message, or the first fault that they have. None where the
 /// text is no hex of at most 256 octets.
-pub(crate) fn message_in(hex: &[u8]) -> Option<Result<PtpMsg, FrameFault>>
-    ensures { MatchOption result ((heard : Result PtpMsg FrameFault) → IsHexOf hex.now heard → ⊥) (λ heard. IsHexOf hex.now heard) }
+pub fn message_in(hex: &[u8]) -> Option<Result<PtpMsg, FrameFault>>
+    ensures { MatchOption result (IsNoHex hex.now) (IsHexOf hex.now) }
 {
     let size = hex.len() / 2;
-    if size > FRAME_LIMIT {
+    if size > FRAME_ROOM {
         return None;
     }
-    let mut room = [0u8; FRAME_LIMIT];
+    let mut room = [0u8; FRAME_ROOM];
     let octets = &mut room[..size];
     if hex::decode_to_slice(hex, octets).is_err() {
         return None;
@@ -37,9 +28,9 @@ pub(crate) fn message_in(hex: &[u8]) -> Option<Result<PtpMsg, FrameFault>>
     Some(decode(octets))
 }
 
-/// What a message is to the link of a node's port, at the port's word. None for one that is dropped, and
-/// for one that the link knows nothing of.
-pub(crate) fn link_input(node: Node, word: LinkWord, message: &PtpMsg) -> Option<LinkIn>
+/// What a message is to the link of a node's port, at the port's word. None for one that is dropped,
+/// and for one that the link knows nothing of.
+pub fn link_input(node: Node, word: LinkWord, message: &PtpMsg) -> Option<LinkIn>
     ensures { result ≡ input_to node word message.now }
 {
     if drop_reason(node, word, message).is_some() {
@@ -53,7 +44,7 @@ pub(crate) fn link_input(node: Node, word: LinkWord, message: &PtpMsg) -> Option
 }
 
 /// The reason for which a message is dropped before the link knows of it: the first that applies.
-pub(crate) fn drop_reason(node: Node, word: LinkWord, message: &PtpMsg) -> Option<Reason>
+pub fn drop_reason(node: Node, word: LinkWord, message: &PtpMsg) -> Option<Reason>
     ensures { result ≡ drop_of node word message.now }
 {
     if message.head.domain != DOMAIN {
@@ -72,7 +63,7 @@ pub(crate) fn drop_reason(node: Node, word: LinkWord, message: &PtpMsg) -> Optio
 }
 
 /// The reason that a fault of the octets is.
-pub(crate) fn reason_of(fault: FrameFault) -> Reason
+pub fn reason_of(fault: FrameFault) -> Reason
     ensures { result ≡ fault_reason fault }
 {
     match fault {
@@ -88,7 +79,7 @@ pub(crate) fn reason_of(fault: FrameFault) -> Reason
 }
 
 /// Whether a port with this role uses a message that reached it; `used` says whether the link did.
-pub(crate) fn is_useful(role: Role, body: &Body, used: bool) -> bool
+pub fn is_useful(role: Role, body: &Body, used: bool) -> bool
     ensures { result ≡ is_of_use role body.now used }
 {
     match *body {

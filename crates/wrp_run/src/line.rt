@@ -3,11 +3,12 @@ ghost use Rattle.std.specs.Prelude.{◌≡◌, ℕ, ◌<◌, ◌≤◌, ◌∷�
 ghost use Rattle.wrp_run.specs.Lines.{lines_of, content_of};
 
 /// How many octets the first line has, its LF among them.
-pub(crate) fn first_line(octets: &[u8]) -> usize
+pub fn first_line(octets: &[u8]) -> usize
     requires { 0 < length octets.now }
     ensures some { 0 < result }
     ensures within { result ≤ length octets.now }
-    ensures line { lines_of octets.now ≡ take result octets.now ∷ lines_of (drop result octets.now) }
+    ensures line { lines_of octets.now
+        ≡ take result octets.now ∷ lines_of (drop result octets.now) }
 {
     for (i, octet) in octets.iter().enumerate() {
         if *octet == b'\n' {
@@ -18,7 +19,7 @@ pub(crate) fn first_line(octets: &[u8]) -> usize
 }
 
 /// What a line says: the line without its LF and one CR before it.
-pub(crate) fn content(line: &[u8]) -> &[u8]
+pub fn content(line: &[u8]) -> &[u8]
     ensures { result.now ≡ content_of line.now }
 {
     let size = line.len();

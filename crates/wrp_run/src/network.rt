@@ -1,12 +1,13 @@
 //! The network text, which stands before the first line `---`.
-ghost use Rattle.std.specs.Prelude.{◌≡◌, ◌↔◌, ◌≤◌, length, take, drop, IsTrue};
+ghost use Rattle.std.specs.Prelude.{◌≡◌, ◌↔◌, ◌≤◌, length, IsTrue};
 ghost use Rattle.wrp_run.specs.Lines.{lines_of};
 ghost use Rattle.wrp_run.specs.Input.{network_text, behind_separator};
+ghost use Rattle.wrp_run.specs.TwoNodes.{two_nodes};
 
 use crate::line::{content, first_line};
 
 /// The network text of the two-node network: a grandmaster `gm` and a switch `sw1` on one fibre.
-pub(crate) const TWO_NODES: &str = "\
+pub const TWO_NODES: &str = "\
     [[node]]\n\
     name = \"gm\"\n\
     identity = \"001bc5fffe000001\"\n\
@@ -37,9 +38,16 @@ pub(crate) const TWO_NODES: &str = "\
     kappa = 73622176\n\
     err = 1310720\n";
 
+/// Whether a text is that of the two-node network.
+pub fn is_two_nodes(text: &[u8]) -> bool
+    ensures { IsTrue result ↔ (text.now ≡ two_nodes) }
+{
+    text == TWO_NODES.as_bytes()
+}
+
 /// The input, divided at its first line `---`.
 #[derive(Clone, Copy)]
-pub(crate) struct Divided<'a> {
+pub struct Divided<'a> {
     /// The network text.
     pub network: &'a [u8],
     /// The octets of the records' lines.
@@ -47,7 +55,7 @@ pub(crate) struct Divided<'a> {
 }
 
 /// The network text, and the octets behind the line that ends it.
-pub(crate) fn divide(input: &[u8]) -> Divided<'_>
+pub fn divide(input: &[u8]) -> Divided<'_>
     ensures network { result.network.now ≡ network_text input.now }
     ensures records { lines_of result.records.now ≡ behind_separator (lines_of input.now) }
     ensures size { length result.records.now ≤ length input.now }

@@ -6,7 +6,7 @@ use wrp_base::{Module, PortIdentity, Role};
 
 /// A node of the two-node network.
 #[derive(Clone, Copy, Debug, PartialEq, Eq)]
-pub(crate) enum Node {
+pub enum Node {
     /// The grandmaster `gm`, whose port 1 is the upper end of the fibre.
     Gm,
     /// The switch `sw1`, whose port 1 is the lower end.
@@ -15,7 +15,7 @@ pub(crate) enum Node {
 
 impl Node {
     /// The name of the node.
-    pub(crate) fn name(self) -> &'static str
+    pub fn name(self) -> &'static str
         ensures { result.now ≡ name_of self }
     {
         match self {
@@ -25,7 +25,7 @@ impl Node {
     }
 
     /// The role of its port.
-    pub(crate) fn role(self) -> Role
+    pub fn role(self) -> Role
         ensures { result ≡ role_of self }
     {
         match self {
@@ -35,7 +35,7 @@ impl Node {
     }
 
     /// The portIdentity of its port.
-    pub(crate) fn own(self) -> PortIdentity
+    pub fn own(self) -> PortIdentity
         ensures { result ≡ own_of self }
     {
         let clock = match self {
@@ -46,7 +46,7 @@ impl Node {
     }
 
     /// The portIdentity of the other end.
-    pub(crate) fn peer(self) -> PortIdentity
+    pub fn peer(self) -> PortIdentity
         ensures { result ≡ peer_of self }
     {
         match self {
@@ -56,7 +56,7 @@ impl Node {
     }
 
     /// The module of its port.
-    pub(crate) fn fitted(self) -> Module
+    pub fn fitted(self) -> Module
         ensures { result ≡ fitted_of self }
     {
         let (tx, rx) = match self {
@@ -72,7 +72,7 @@ impl Node {
     }
 
     /// The name of that module.
-    pub(crate) fn fitted_name(self) -> &'static str
+    pub fn fitted_name(self) -> &'static str
         ensures { result.now ≡ fitted_name_of self }
     {
         match self {

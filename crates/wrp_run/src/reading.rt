@@ -8,15 +8,15 @@ ghost use Rattle.wrp_run.specs.Taking.{TakesUpTo};
 use std::alloc::Global;
 use wrp_io::Source;
 
-/// How many octets an input may have: 32 MiB.
-pub(crate) const INPUT_LIMIT: usize = 33_554_432;
+// How many octets an input may have: 32 MiB.
+const INPUT_LIMIT: usize = 33_554_432;
 
-/// How many octets are asked for at a time.
+// How many octets are asked for at a time.
 const PIECE: usize = 65_536;
 
 /// How the reading ended.
 #[derive(Clone, Copy, Debug, PartialEq, Eq)]
-pub(crate) enum End {
+pub enum End {
     /// At the end of the input.
     Whole,
     /// The source failed.
@@ -29,7 +29,7 @@ pub(crate) enum End {
 
 /// What was taken from a source, and how it ended.
 #[derive(Drop)]
-pub(crate) struct Taken {
+pub struct Taken {
     /// The octets.
     pub bytes: Vec<u8>,
     /// How the reading ended.
@@ -37,11 +37,16 @@ pub(crate) struct Taken {
 }
 
 /// Takes all that a source has, up to the limit.
-pub(crate) fn take_all<S: Source>(alloc: Global, source: &mut S) -> Taken
-    ensures whole { result.end ≡ End.Whole → IfSome (S.left source.old) (λ input. input ≡ result.bytes.items) }
-    ensures end { result.end ≡ End.Whole → IsAtEnd (S.left source.new) × (length result.bytes.items ≤ input_limit) }
-    ensures too_large { result.end ≡ End.TooLarge → IfSome (S.left source.old) (λ input. input_limit < length input) }
-    ensures failed { result.end ≡ End.Failed → Rose (S.faults source.old) (S.faults source.new) × TakesUpTo input_limit (S.left source.old) (S.left source.new) }
+pub fn take_all<S: Source>(alloc: Global, source: &mut S) -> Taken
+    ensures whole { result.end ≡ End.Whole
+        → IfSome (S.left source.old) (λ input. input ≡ result.bytes.items) }
+    ensures end { result.end ≡ End.Whole
+        → IsAtEnd (S.left source.new) × (length result.bytes.items ≤ input_limit) }
+    ensures too_large { result.end ≡ End.TooLarge
+        → IfSome (S.left source.old) (λ input. input_limit < length input) }
+    ensures failed { result.end ≡ End.Failed
+        → Rose (S.faults source.old) (S.faults source.new)
+        × TakesUpTo input_limit (S.left source.old) (S.left source.new) }
 {
     let mut bytes = Vec::new(alloc);
     let mut piece = [0u8; PIECE];

@@ -1,32 +1,30 @@
 //! The records of a replay: what each line may say.
-ghost use Rattle.std.specs.Prelude.{◌≡◌, ◌↔◌, ◌<◌, ◌-◌, ◌^◌, [], ◌∷◌, ⊤, codes, map, Result, MatchOption, IfOk, IsTrue};
-ghost use Rattle.wrp_base.specs.declared.message.PtpMsg.{PtpMsg};
-ghost use Rattle.wrp_frame.specs.declared.fault.FrameFault.{FrameFault};
-ghost use Rattle.wrp_run.specs.declared.records.Record.{Record};
-ghost use Rattle.wrp_run.specs.Records.{IsRecord, IsNoRecord, HasParts, IsPort, IsBetween, IsUp, IsDown, IsStamp, IsFrame};
+ghost use Rattle.std.specs.Prelude.{◌≡◌, ◌↔◌, ◌<◌, ◌-◌, ◌^◌, [], ◌∷◌, codes, MatchOption, IfOk, IsTrue};
+ghost use Rattle.wrp_run.specs.Records.{ReadsLine, ReadsParts, IsPort, IsBetween, IsUp, IsDown, IsStamp};
+ghost use Rattle.wrp_run.specs.Words.{texts_of};
 
 use crate::fields::{natural, parts};
 use crate::frames::message_in;
 use crate::nodes::Node;
 use std::alloc::{AllocError, Global};
-use wrp_base::PtpMsg;
+use wrp_base::{PtpMsg, STEPS_OF_PERIOD};
 use wrp_frame::FrameFault;
 
-/// The number of the node's only port.
+// The number of the node's only port.
 const PORT: u64 = 1;
 
-/// The greatest count of a receive stamp's counters.
+// The greatest count of a receive stamp's counters.
 const COUNTER_LIMIT: u64 = (1 << 63) - 1;
 
-/// The greatest tag of a receive stamp, in detector steps.
-const TAG_LIMIT: u64 = 16_383;
+// The greatest tag of a receive stamp, in detector steps.
+const TAG_LIMIT: u64 = STEPS_OF_PERIOD as u64 - 1;
 
-/// The greatest number of a sample.
+// The greatest number of a sample.
 const SAMPLE_LIMIT: u64 = (1 << 32) - 1;
 
 /// One recorded input of a node (this project's profile).
 #[derive(Clone, Copy, Debug, PartialEq, Eq)]
-pub(crate) enum Record {
+pub enum Record {
     /// `reset`: all but the counters starts anew.
     Reset,
     /// `tick`: one tick of the node.
@@ -41,12 +39,12 @@ pub(crate) enum Record {
 }
 
 /// The record that a line is, or None where it is none.
-pub(crate) fn read_record(
+pub fn read_record(
     alloc: Global,
     node: Node,
     line: &[u8],
 ) -> Result<Option<Record>, AllocError>
-    ensures { IfOk result (λ read. MatchOption read (IsNoRecord node line.now) (λ found. IsRecord node line.now found)) }
+    ensures { IfOk result (ReadsLine node line.now) }
 {
     if line == b"reset".as_slice() {
         return Ok(Some(Record::Reset));
@@ -60,7 +58,7 @@ pub(crate) fn read_record(
 
 // The record of a line's parts.
 fn read_parts(node: Node, parts: &[&[u8]]) -> Option<Record>
-    ensures { MatchOption result ((found : Record) → HasParts node (map (λ part. part.now) parts.now) found → ⊥) (HasParts node (map (λ part. part.now) parts.now)) }
+    ensures { ReadsParts node (texts_of parts.now) result }
 {
     match parts {
         [kind, port] => read_down(kind, port),
@@ -72,7 +70,8 @@ fn read_parts(node: Node, parts: &[&[u8]]) -> Option<Record>
 
 // The record of two parts.
 fn read_down(kind: &[u8], port: &[u8]) -> Option<Record>
-    ensures { MatchOption result (IsDown (kind.now ∷ port.now ∷ []) → ⊥) (λ found. (found ≡ Record.Down) × IsDown (kind.now ∷ port.now ∷ [])) }
+    ensures { let parts = kind.now ∷ port.now ∷ [] in
+        MatchOption result (IsDown parts → ⊥) (λ found. (found ≡ Record.Down) × IsDown parts) }
 {
     if kind == b"down".as_slice() && is_port(port) {
         return Some(Record::Down);
@@ -82,7 +81,8 @@ fn read_down(kind: &[u8], port: &[u8]) -> Option<Record>
 
 // The record of three parts.
 fn read_up(node: Node, kind: &[u8], port: &[u8], fitted: &[u8]) -> Option<Record>
-    ensures { MatchOption result (IsUp node (kind.now ∷ port.now ∷ fitted.now ∷ []) → ⊥) (λ found. (found ≡ Record.Up) × IsUp node (kind.now ∷ port.now ∷ fitted.now ∷ [])) }
+    ensures { let parts = kind.now ∷ port.now ∷ fitted.now ∷ [] in
+        MatchOption result (IsUp node parts → ⊥) (λ found. (found ≡ Record.Up) × IsUp node parts) }
 {
     if kind == b"up".as_slice() && is_port(port) && fitted == node.fitted_name().as_bytes() {
         return Some(Record::Up);
@@ -99,8 +99,8 @@ fn read_frame(
     rising: &[u8],
     stamp: &[&[u8]],
 ) -> Option<Record>
-    ensures { let parts = kind.now ∷ port.now ∷ hex.now ∷ rising.now ∷ map (λ part. part.now) stamp.now in
-        MatchOption result ((found : Record) → HasParts node parts found → ⊥) (HasParts node parts) }
+    ensures { ReadsParts node
+        (kind.now ∷ port.now ∷ hex.now ∷ rising.now ∷ texts_of stamp.now) result }
 {
     if !is_frame(kind, port) || !is_stamp(rising, stamp) {
         return None;
@@ -120,7 +120,7 @@ fn is_frame(kind: &[u8], port: &[u8]) -> bool
 
 // Whether parts are the counters, the tag and the sample of a receive stamp.
 fn is_stamp(rising: &[u8], others: &[&[u8]]) -> bool
-    ensures { IsTrue result ↔ IsStamp (rising.now ∷ map (λ part. part.now) others.now) }
+    ensures { IsTrue result ↔ IsStamp (rising.now ∷ texts_of others.now) }
 {
     match others {
         [falling, tag, sample] => are_numbers(rising, falling, tag, sample),

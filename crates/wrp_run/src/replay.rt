@@ -2,11 +2,12 @@
 ghost use Rattle.std.specs.Prelude.{◌≡◌, ◌<◌, ◌≤◌, ◌+◌, ◌%◌, ◌++◌, ◌^◌, ℕ, List, [], ◌∷◌, map, length, IfOk};
 ghost use Rattle.wrp_run.specs.declared.records.Record.{Record};
 ghost use Rattle.wrp_run.specs.Lines.{lines_of, content_of};
+ghost use Rattle.wrp_base.specs.Calls.{Adds};
 ghost use Rattle.wrp_link.specs.Table.{word_of};
 ghost use Rattle.wrp_run.specs.History.{input_by, after_input, sends_for, sends_by, used_by, counts_by, early_reason as early_reason_of, late_reason as late_reason_of};
 ghost use Rattle.wrp_run.specs.Texts.{record_lines_of};
 ghost use Rattle.wrp_run.specs.Answer.{ReplayAnswer};
-ghost use Rattle.wrp_run.specs.Replayed.{HasReplayed};
+ghost use Rattle.wrp_run.specs.StandsFor.{StandsFor};
 
 use crate::frames::{drop_reason, is_useful, link_input, reason_of};
 use crate::line::{content, first_line};
@@ -20,7 +21,7 @@ use wrp_base::WrMsg;
 use wrp_data::{Counters, Reason};
 use wrp_link::{Link, LinkIn, LinkSet};
 
-/// The counts of a link where the network text gives none.
+// The counts of a link where the network text gives none.
 const DEFAULT_SET: LinkSet = LinkSet {
     quiet: 24,
     wait: 30,
@@ -30,12 +31,12 @@ const DEFAULT_SET: LinkSet = LinkSet {
     wr: true,
 };
 
-/// The messages that one record makes the link send.
+// The messages that one record makes the link send.
 type Sends = ArrayVec<WrMsg, 2>;
 
 /// A status, and the text that goes with it.
 #[derive(Drop)]
-pub(crate) struct Reply {
+pub struct Reply {
     /// What the run ends with.
     pub status: Status,
     /// What it writes.
@@ -49,8 +50,8 @@ struct Stepped {
     used: bool,
 }
 
-// The node as far as it is replayed: the link of its port 1, its tick count, the sequenceId of its next
-// Signaling, and its counters of dropped frames.
+// The node as far as it is replayed: the link of its port 1, its tick count, the sequenceId of its
+// next Signaling, and its counters of dropped frames.
 #[derive(Drop)]
 struct ReplayedNode {
     node: Node,
@@ -63,7 +64,7 @@ struct ReplayedNode {
 impl ReplayedNode {
     // A node before its first record.
     fn new(node: Node) -> ReplayedNode
-        ensures stands { HasReplayed [] result }
+        ensures stands { StandsFor result [] }
         ensures node { result.node ≡ node }
         ensures ticks { result.ticks ≡ 0 }
     {
@@ -78,7 +79,7 @@ impl ReplayedNode {
 
     // Starts anew, but for the counters.
     fn reset(&mut self)
-        ensures stands { (earlier : List Record) → HasReplayed earlier self.old → HasReplayed (Record.Reset ∷ earlier) self.new }
+        ensures stands { Adds StandsFor self.old self.new Record.Reset }
         ensures node { self.new.node ≡ self.old.node }
         ensures ticks { self.new.ticks ≡ 0 }
     {
@@ -117,8 +118,10 @@ impl ReplayedNode {
         ensures sends { result.sends.items ≡ sends_for self.old.link input }
         ensures used { result.used ≡ used_by self.old.link input }
         ensures link { self.new.link ≡ after_input self.old.link input }
-        ensures next { self.new.next ≡ (self.old.next + length (sends_for self.old.link input)) % 65536 }
-        ensures rest { (self.new.node ≡ self.old.node) × (self.new.ticks ≡ self.old.ticks) × (self.new.counters ≡ self.old.counters) }
+        ensures next { self.new.next
+            ≡ (self.old.next + length (sends_for self.old.link input)) % 65536 }
+        ensures rest { (self.new.node ≡ self.old.node) × (self.new.ticks ≡ self.old.ticks)
+            × (self.new.counters ≡ self.old.counters) }
     {
         let next = self.next;
         let Some(input) = input else {
@@ -138,7 +141,8 @@ impl ReplayedNode {
     // Counts a reason, if there is one.
     fn count(&mut self, reason: Option<Reason>)
         ensures counters { self.new.counters ≡ counts_by self.old.counters reason }
-        ensures rest { (self.new.node ≡ self.old.node) × (self.new.link ≡ self.old.link) × (self.new.ticks ≡ self.old.ticks) × (self.new.next ≡ self.old.next) }
+        ensures rest { (self.new.node ≡ self.old.node) × (self.new.link ≡ self.old.link)
+            × (self.new.ticks ≡ self.old.ticks) × (self.new.next ≡ self.old.next) }
     {
         if let Some(reason) = reason {
             self.counters.count(reason.number());
@@ -149,8 +153,9 @@ impl ReplayedNode {
     fn take(&mut self, found: Record) -> Sends
         requires { self.old.ticks < 2 ^ 63 }
         ensures node { self.new.node ≡ self.old.node }
-        ensures stands { (earlier : List Record) → HasReplayed earlier self.old → HasReplayed (found ∷ earlier) self.new }
-        ensures sends { (earlier : List Record) → HasReplayed earlier self.old → result.items ≡ sends_by self.old.node earlier found }
+        ensures stands { Adds StandsFor self.old self.new found }
+        ensures sends { (earlier : List Record) → StandsFor self.old earlier
+            → result.items ≡ sends_by self.old.node earlier found }
         ensures size { self.new.ticks ≤ self.old.ticks + 1 }
     {
         if found == Record::Reset {
@@ -171,8 +176,8 @@ impl ReplayedNode {
     fn write(&mut self, alloc: Global, found: Record, text: &mut Vec<u8>) -> Result<(), AllocError>
         requires { self.old.ticks < 2 ^ 63 }
         ensures node { self.new.node ≡ self.old.node }
-        ensures stands { (earlier : List Record) → HasReplayed earlier self.old → HasReplayed (found ∷ earlier) self.new }
-        ensures text { (earlier : List Record) → HasReplayed earlier self.old → IfOk result (λ _.
+        ensures stands { Adds StandsFor self.old self.new found }
+        ensures text { (earlier : List Record) → StandsFor self.old earlier → IfOk result (λ _.
             text.new.items ≡ text.old.items ++ record_lines_of self.old.node earlier found) }
         ensures size { self.new.ticks ≤ self.old.ticks + 1 }
     {
@@ -201,9 +206,10 @@ fn late_reason(node: Node, found: Record, early: Option<Reason>, used: bool) -> 
 }
 
 /// Replays the lines of some octets: the status and the text that are due.
-pub(crate) fn replay(alloc: Global, node: Node, octets: &[u8]) -> Result<Reply, AllocError>
+pub fn replay(alloc: Global, node: Node, octets: &[u8]) -> Result<Reply, AllocError>
     requires { length octets.now < 2 ^ 62 }
-    ensures { IfOk result (λ reply. ReplayAnswer node (map content_of (lines_of octets.now)) reply.status reply.text.items) }
+    ensures { IfOk result (λ reply.
+        ReplayAnswer node (map content_of (lines_of octets.now)) reply.status reply.text.items) }
 {
     let mut replay = ReplayedNode::new(node);
     let mut text = Vec::new(alloc);

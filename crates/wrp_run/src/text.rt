@@ -14,14 +14,14 @@ use wrp_data::{Counters, Reason};
 use wrp_frame::encode;
 
 /// The line where the words are no command.
-pub(crate) const USAGE_LINE: &str =
+pub const USAGE_LINE: &str =
     "usage: wrnet audit [--emit NODE] | replay --node NODE | simulate --seed N | loop --seed N\n";
 
 /// The line where the network text is another.
-pub(crate) const BAD_NETWORK_LINE: &str = "bad-network\n";
+pub const BAD_NETWORK_LINE: &str = "bad-network\n";
 
 /// The line where the whole input is too large.
-pub(crate) const TOO_LARGE_LINE: &str = "too-large 0\n";
+pub const TOO_LARGE_LINE: &str = "too-large 0\n";
 
 // How a link word is written.
 fn text_of(word: LinkWord) -> &'static str
@@ -44,7 +44,7 @@ fn text_of(word: LinkWord) -> &'static str
 }
 
 /// Appends the line of a port's word at a tick, where the word differs from the one before.
-pub(crate) fn append_change(
+pub fn append_change(
     alloc: Global,
     text: &mut Vec<u8>,
     node: Node,
@@ -52,7 +52,8 @@ pub(crate) fn append_change(
     before: LinkWord,
     now: LinkWord,
 ) -> Result<(), AllocError>
-    ensures { IfOk result (λ _. text.new.items ≡ text.old.items ++ change_line node ticks before now) }
+    ensures { IfOk result (λ _.
+        text.new.items ≡ text.old.items ++ change_line node ticks before now) }
 {
     let word = text_of(now);
     if text_of(before) != word {
@@ -63,8 +64,9 @@ pub(crate) fn append_change(
     Ok(())
 }
 
-/// Appends the lines of the Signaling that the port sends at a tick, whose sequenceIds count from `first`.
-pub(crate) fn append_sends(
+/// Appends the lines of the Signaling that the port sends at a tick, whose sequenceIds count from
+/// `first`.
+pub fn append_sends(
     alloc: Global,
     text: &mut Vec<u8>,
     node: Node,
@@ -72,7 +74,8 @@ pub(crate) fn append_sends(
     first: u16,
     messages: &[WrMsg],
 ) -> Result<(), AllocError>
-    ensures { IfOk result (λ _. text.new.items ≡ text.old.items ++ send_lines node ticks first messages.now) }
+    ensures { IfOk result (λ _.
+        text.new.items ≡ text.old.items ++ send_lines node ticks first messages.now) }
 {
     let mut sequence = first;
     for message in messages {
@@ -91,7 +94,8 @@ fn append_send(
     sequence: u16,
     message: WrMsg,
 ) -> Result<(), AllocError>
-    ensures { IfOk result (λ _. text.new.items ≡ text.old.items ++ send_line node ticks sequence message) }
+    ensures { IfOk result (λ _.
+        text.new.items ≡ text.old.items ++ send_line node ticks sequence message) }
 {
     let name = node.name();
     let octets = sent_hex(alloc, node, sequence, message)?;
@@ -103,7 +107,8 @@ fn append_send(
 
 // The octets of one Signaling, in hex.
 fn sent_hex(alloc: Global, node: Node, sequence: u16, message: WrMsg) -> Result<String, AllocError>
-    ensures { IfOk result (λ text. string_bytes text ≡ encode_lower (octets_of (signaling_of node sequence message))) }
+    ensures { IfOk result (λ text.
+        string_bytes text ≡ encode_lower (octets_of (signaling_of node sequence message))) }
 {
     let signaling = signaling(node, sequence, message);
     let frame = encode(&signaling);
@@ -132,13 +137,14 @@ fn signaling(node: Node, sequence: u16, message: WrMsg) -> PtpMsg
 }
 
 /// Appends the lines of the counters that are not 0.
-pub(crate) fn append_counts(
+pub fn append_counts(
     alloc: Global,
     text: &mut Vec<u8>,
     node: Node,
     counters: &Counters,
 ) -> Result<(), AllocError>
-    ensures { IfOk result (λ _. text.new.items ≡ text.old.items ++ count_lines node (nonzero_counts counters.now)) }
+    ensures { IfOk result (λ _.
+        text.new.items ≡ text.old.items ++ count_lines node (nonzero_counts counters.now)) }
 {
     let counts = counters.nonzero();
     append_each(alloc, text, node, counts.as_slice())
@@ -177,7 +183,7 @@ fn append_count(
 }
 
 /// Appends the line of a refused record.
-pub(crate) fn append_bad_trace(
+pub fn append_bad_trace(
     alloc: Global,
     text: &mut Vec<u8>,
     number: usize,

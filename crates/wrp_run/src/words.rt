@@ -1,12 +1,14 @@
 //! The words of the command line.
-ghost use Rattle.std.specs.Prelude.{◌≡◌, ◌↔◌, IsTrue, ⊤, [], ◌∷◌, codes, map, MatchOption};
-ghost use Rattle.wrp_run.specs.Words.{IsReplay, IsCommand};
+ghost use Rattle.std.specs.Prelude.{◌↔◌, IsTrue, MatchOption};
+ghost use Rattle.wrp_run.specs.Words.{texts_of, IsReplay, IsCommand};
 
 use crate::nodes::Node;
 
 /// The node whose replay the words ask for, or None where they are no command.
-pub(crate) fn replayed(words: &[&str]) -> Option<Node>
-    ensures { MatchOption result (IsCommand (map (λ word. word.now) words.now) → ⊥) (IsReplay (map (λ word. word.now) words.now)) }
+pub fn replayed(words: &[&str]) -> Option<Node>
+    ensures { MatchOption result
+        (IsCommand (texts_of words.now) → ⊥)
+        (IsReplay (texts_of words.now)) }
 {
     if is_replay_of_gm(words) {
         return Some(Node::Gm);
@@ -19,7 +21,7 @@ pub(crate) fn replayed(words: &[&str]) -> Option<Node>
 
 // Whether the words are `replay --node gm`.
 fn is_replay_of_gm(words: &[&str]) -> bool
-    ensures { IsTrue result ↔ (map (λ word. word.now) words.now ≡ codes "replay" ∷ codes "--node" ∷ codes "gm" ∷ []) }
+    ensures { IsTrue result ↔ IsReplay (texts_of words.now) Node.Gm }
 {
     match words {
         ["replay", "--node", "gm"] => true,
@@ -29,7 +31,7 @@ fn is_replay_of_gm(words: &[&str]) -> bool
 
 // Whether the words are `replay --node sw1`.
 fn is_replay_of_sw1(words: &[&str]) -> bool
-    ensures { IsTrue result ↔ (map (λ word. word.now) words.now ≡ codes "replay" ∷ codes "--node" ∷ codes "sw1" ∷ []) }
+    ensures { IsTrue result ↔ IsReplay (texts_of words.now) Node.Sw1 }
 {
     match words {
         ["replay", "--node", "sw1"] => true,

@@ -10,7 +10,7 @@ use super::frames::{
 };
 use crate::Status;
 
-pub(crate) const UP: &str = "up,1,violet\n";
+pub const UP: &str = "up,1,violet\n";
 
 const TICK: &str = "tick\n";
 
@@ -22,7 +22,7 @@ const TICKS_24: &str =
 
 // A replay on the two-node network: what it shows, the node, its records, and the status and the lines that are
 // due. A piece that is hex is a frame: among the records its octets came in, among the lines they go out.
-pub(crate) type Replay = (
+pub type Replay = (
     &'static str,
     &'static str,
     &'static [&'static str],
@@ -31,7 +31,7 @@ pub(crate) type Replay = (
 );
 
 // Link setup: whole handshakes, lost and repeated messages, carriers that come and go.
-pub(crate) const HANDSHAKES: [Replay; 21] = [
+pub const HANDSHAKES: [Replay; 21] = [
     ("no records", "sw1", &[], Status::Done, &[]),
     (
         "carrier and ticks",
@@ -387,7 +387,7 @@ pub(crate) const HANDSHAKES: [Replay; 21] = [
 ];
 
 // Frames that are dropped, each for its reason.
-pub(crate) const DROPS: [Replay; 24] = [
+pub const DROPS: [Replay; 24] = [
     (
         "short",
         "sw1",
@@ -578,7 +578,7 @@ pub(crate) const DROPS: [Replay; 24] = [
 ];
 
 // Lines that are records, and lines that are none.
-pub(crate) const LINES: [Replay; 11] = [
+pub const LINES: [Replay; 11] = [
     (
         "CR LF, and a last line without LF",
         "sw1",
