@@ -39,11 +39,7 @@ pub enum Record {
 }
 
 /// The record that a line is, or None where it is none.
-pub fn read_record(
-    alloc: Global,
-    node: Node,
-    line: &[u8],
-) -> Result<Option<Record>, AllocError>
+pub fn read_record(alloc: Global, node: Node, line: &[u8]) -> Result<Option<Record>, AllocError>
     ensures { IfOk result (ReadsLine node line.now) }
 {
     if line == b"reset".as_slice() {

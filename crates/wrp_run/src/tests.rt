@@ -1,243 +1,137 @@
 //! Whole runs over memory: what is written, and the status.
 mod frames;
 mod rows;
+mod runs;
 
 use crate::network::TWO_NODES;
 use crate::{Status, run};
-use rows::{DROPS, HANDSHAKES, LINES, UP};
+use frames::hex_of;
+use rows::{DROPS, Due, HANDSHAKES, LINES, Replay, Step};
+use runs::{Faults, NO_FAULTS, RUNS, Run};
 use std::alloc::{AllocError, Global};
 use std::test::Fail;
 use wrp_io::{MemLink, MemSink, MemSource};
 
-const REPLAY: [&str; 3] = ["replay", "--node", "sw1"];
-
-// What one run answers, and what it wrote.
+// What a run answers, and what it wrote.
 #[derive(Drop)]
 struct Outcome {
     status: Status,
     text: String,
 }
 
-// The texts, one behind the other.
-fn joined(alloc: Global, pieces: &[&str]) -> Result<String, AllocError> {
-    let mut all = String::new(alloc);
-    for piece in pieces {
-        all.push_str(piece)?;
+// Appends what goes in.
+fn push_step(alloc: Global, input: &mut String, step: Step) -> Result<(), Fail> {
+    match step {
+        Step::Network => input.push_str(TWO_NODES)?,
+        Step::Record(lines) => input.push_str(lines)?,
+        Step::Ticks(count) => input.push_str(&"tick\n".repeat(alloc, count)?)?,
+        Step::Frame(frame) => {
+            input.push_str("frame,1,")?;
+            input.push_str(hex_of(frame))?;
+            input.push_str(",1000,1000,0,0\n")?;
+        }
+        Step::Octets(count) => input.push_str(&String::from_utf8(vec![in alloc; b'a'; count]?)?)?,
     }
-    Ok(all)
+    Ok(())
 }
 
-// A run over an input, with the calls of the source and of the sink that fail.
-fn run_over(
-    alloc: Global,
-    words: &[&str],
-    input: &str,
-    room: usize,
-    source_fails: &[u32],
-    sink_fails: &[u32],
-) -> Result<Outcome, Fail> {
+// The input of these steps.
+fn input_of(alloc: Global, steps: &[Step]) -> Result<String, Fail> {
+    let mut input = String::new(alloc);
+    for step in steps {
+        push_step(alloc, &mut input, *step)?;
+    }
+    Ok(input)
+}
+
+// Appends what comes out of a node's run.
+fn push_due(alloc: Global, text: &mut String, node: &str, due: Due) -> Result<(), AllocError> {
+    match due {
+        Due::Lines(lines) => text.push_str(lines),
+        Due::Sent(ticks, frame) => {
+            let hex = hex_of(frame);
+            text.push_str(&format!(in alloc; "{node} {ticks} send 1 {hex}\n")?)
+        }
+    }
+}
+
+// The text of the lines that are due for a node's run.
+fn text_of(alloc: Global, node: &str, due: &[Due]) -> Result<String, AllocError> {
+    let mut text = String::new(alloc);
+    for lines in due {
+        push_due(alloc, &mut text, node, *lines)?;
+    }
+    Ok(text)
+}
+
+// The outcome of a run over an input.
+fn run_over(alloc: Global, words: &[&str], faults: Faults, input: &str) -> Result<Outcome, Fail> {
     let bytes = input.as_bytes().to_vec(alloc)?;
-    let mut source = MemSource::new(bytes, source_fails.to_vec(alloc)?);
-    let mut sink = MemSink::new(alloc, room, sink_fails.to_vec(alloc)?)?;
+    let mut source = MemSource::new(bytes, faults.source.to_vec(alloc)?);
+    let mut sink = MemSink::new(alloc, faults.room, faults.sink.to_vec(alloc)?)?;
     let mut link = MemLink::new(alloc, 0, Vec::new(alloc))?;
     let status = run(alloc, words, &mut source, &mut sink, &mut link);
     let text = String::from_utf8(sink.octets().to_vec(alloc)?)?;
     Ok(Outcome { status, text })
 }
 
-// The records, one behind the other.
-fn records_of(alloc: Global, pieces: &[&str]) -> Result<String, AllocError> {
-    let mut all = String::new(alloc);
-    for piece in pieces {
-        if piece.starts_with('0') {
-            all.push_str("frame,1,")?;
-            all.push_str(piece)?;
-            all.push_str(",1000,1000,0,0\n")?;
-        } else {
-            all.push_str(piece)?;
-        }
-    }
-    Ok(all)
+// Whether a replay answers and writes what is due.
+fn replays_so(alloc: Global, replay: Replay) -> Result<bool, Fail> {
+    let (_, node, steps, status, due) = replay;
+    let records = input_of(alloc, steps)?;
+    let input = format!(in alloc; "{TWO_NODES}---\n{records}")?;
+    let got = run_over(alloc, &["replay", "--node", node], NO_FAULTS, &input)?;
+    Ok(got.status == status && got.text == text_of(alloc, node, due)?)
 }
 
-// The lines, one behind the other.
-fn lines_of(alloc: Global, pieces: &[&str]) -> Result<String, AllocError> {
-    let mut all = String::new(alloc);
-    for piece in pieces {
-        all.push_str(piece)?;
-        if piece.starts_with('0') {
-            all.push_str("\n")?;
+// The first replay that answers or writes something else, by its name.
+fn wrong_replay(alloc: Global, replays: &[Replay]) -> Result<Option<&'static str>, Fail> {
+    for replay in replays {
+        if !replays_so(alloc, *replay)? {
+            return Ok(Some(replay.0));
         }
     }
-    Ok(all)
+    Ok(None)
 }
 
-// A replay of a node over these records.
-fn replay_of(alloc: Global, node: &str, records: &[&str]) -> Result<Outcome, Fail> {
-    let input = format!(in alloc; "{TWO_NODES}---\n{}", records_of(alloc, records)?)?;
-    run_over(
-        alloc,
-        &["replay", "--node", node],
-        input.as_str(),
-        4096,
-        &[],
-        &[],
-    )
+// Whether a run answers and writes what is due.
+fn runs_so(alloc: Global, run: Run) -> Result<bool, Fail> {
+    let (_, words, faults, steps, status, lines) = run;
+    let got = run_over(alloc, words, faults, &input_of(alloc, steps)?)?;
+    Ok(got.status == status && got.text.as_str() == lines)
+}
+
+// The first run that answers or writes something else, by its name.
+fn wrong_run(alloc: Global, runs: &[Run]) -> Result<Option<&'static str>, Fail> {
+    for run in runs {
+        if !runs_so(alloc, *run)? {
+            return Ok(Some(run.0));
+        }
+    }
+    Ok(None)
 }
 
 #[test]
 fn handshakes(rt: HostRuntime) -> Result<(), Fail> {
-    for (name, node, records, status, lines) in HANDSHAKES {
-        let got = replay_of(rt.alloc(), node, records)?;
-        let due = lines_of(rt.alloc(), lines)?;
-        assert_eq!(rt; got.status, status, "{name}");
-        assert_eq!(rt; got.text.as_str(), due.as_str(), "{name}");
-    }
+    assert_eq!(rt; wrong_replay(rt.alloc(), HANDSHAKES)?, None);
     Ok(())
 }
 
 #[test]
 fn drops(rt: HostRuntime) -> Result<(), Fail> {
-    for (name, node, records, status, lines) in DROPS {
-        let got = replay_of(rt.alloc(), node, records)?;
-        let due = lines_of(rt.alloc(), lines)?;
-        assert_eq!(rt; got.status, status, "{name}");
-        assert_eq!(rt; got.text.as_str(), due.as_str(), "{name}");
-    }
+    assert_eq!(rt; wrong_replay(rt.alloc(), DROPS)?, None);
     Ok(())
 }
 
 #[test]
 fn record_lines(rt: HostRuntime) -> Result<(), Fail> {
-    for (name, node, records, status, lines) in LINES {
-        let got = replay_of(rt.alloc(), node, records)?;
-        let due = lines_of(rt.alloc(), lines)?;
-        assert_eq!(rt; got.status, status, "{name}");
-        assert_eq!(rt; got.text.as_str(), due.as_str(), "{name}");
-    }
+    assert_eq!(rt; wrong_replay(rt.alloc(), LINES)?, None);
     Ok(())
 }
 
-const USAGE: &str =
-    "usage: wrnet audit [--emit NODE] | replay --node NODE | simulate --seed N | loop --seed N\n";
-
-// Words that are no command.
-const OTHER_WORDS: [&[&str]; 9] = [
-    &[],
-    &["replay"],
-    &["replay", "--node"],
-    &["replay", "--node", "leaf"],
-    &["replay", "--node=sw1"],
-    &["replay", "--node", "sw1", "sw1"],
-    &["audit"],
-    &["simulate", "--seed", "1"],
-    &["loop", "--seed", "1"],
-];
-
-// An input behind which no records stand, and what is due for it.
-type Input = (&'static str, &'static [&'static str], Status, &'static str);
-
-const INPUTS: [Input; 6] = [
-    ("nothing", &[], Status::BadNetwork, "bad-network\n"),
-    ("no separator", &[TWO_NODES], Status::Done, ""),
-    (
-        "a separator with CR",
-        &[TWO_NODES, "---\r\n", UP],
-        Status::Done,
-        "sw1 0 link 1 quiet\n",
-    ),
-    (
-        "a separator at the end",
-        &[TWO_NODES, "---"],
-        Status::Done,
-        "",
-    ),
-    (
-        "another network",
-        &["# two nodes\n", TWO_NODES, "---\n", UP],
-        Status::BadNetwork,
-        "bad-network\n",
-    ),
-    (
-        "a last line with CR is no separator",
-        &[TWO_NODES, "---\r"],
-        Status::BadNetwork,
-        "bad-network\n",
-    ),
-];
-
 #[test]
-fn words_and_networks(rt: HostRuntime) -> Result<(), Fail> {
-    let alloc = rt.alloc();
-    for words in OTHER_WORDS {
-        let got = run_over(alloc, words, TWO_NODES, 4096, &[], &[])?;
-        assert_eq!(rt;
-            (got.status, got.text.as_str()),
-            (Status::Usage, USAGE),
-            "{words:?}"
-        );
-    }
-    for (name, pieces, status, lines) in INPUTS {
-        let got = run_over(
-            alloc,
-            &REPLAY,
-            joined(alloc, pieces)?.as_str(),
-            4096,
-            &[],
-            &[],
-        )?;
-        assert_eq!(rt; got.status, status, "{name}");
-        assert_eq!(rt; got.text.as_str(), lines, "{name}");
-    }
-    Ok(())
-}
-
-// Calls that fail, or room that is used up: the room, the failing calls of the source and of the
-// sink, and the status and the lines that are due.
-type Fault = (usize, &'static [u32], &'static [u32], Status, &'static str);
-
-const FAULTS: [Fault; 7] = [
-    (4096, &[], &[], Status::Done, "sw1 0 link 1 quiet\n"),
-    (4096, &[1], &[], Status::ReadFault, ""),
-    (4096, &[2], &[], Status::ReadFault, ""),
-    (4096, &[], &[1], Status::WriteFault, ""),
-    (5, &[], &[], Status::WriteFault, "sw1 0"),
-    (19, &[], &[], Status::Done, "sw1 0 link 1 quiet\n"),
-    (0, &[3], &[2], Status::WriteFault, ""),
-];
-
-#[test]
-fn faults_and_sizes(rt: HostRuntime) -> Result<(), Fail> {
-    let alloc = rt.alloc();
-    let input = joined(alloc, &[TWO_NODES, "---\n", UP])?;
-    for (room, source_fails, sink_fails, status, lines) in FAULTS {
-        let got = run_over(
-            alloc,
-            &REPLAY,
-            input.as_str(),
-            room,
-            source_fails,
-            sink_fails,
-        )?;
-        assert_eq!(rt;
-            got.status,
-            status,
-            "{room} {source_fails:?} {sink_fails:?}"
-        );
-        assert_eq!(rt;
-            got.text.as_str(),
-            lines,
-            "{room} {source_fails:?} {sink_fails:?}"
-        );
-    }
-    for (size, status, lines) in [
-        (33_554_432, Status::BadNetwork, "bad-network\n"),
-        (33_554_433, Status::TooLarge, "too-large 0\n"),
-    ] {
-        let large = String::from_utf8(vec![in alloc; b'a'; size]?)?;
-        let got = run_over(alloc, &REPLAY, large.as_str(), 4096, &[], &[])?;
-        assert_eq!(rt; (got.status, got.text.as_str()), (status, lines), "{size}");
-    }
+fn whole_runs(rt: HostRuntime) -> Result<(), Fail> {
+    assert_eq!(rt; wrong_run(rt.alloc(), RUNS)?, None);
     Ok(())
 }
 

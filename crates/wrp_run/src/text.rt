@@ -183,11 +183,7 @@ fn append_count(
 }
 
 /// Appends the line of a refused record.
-pub fn append_bad_trace(
-    alloc: Global,
-    text: &mut Vec<u8>,
-    number: usize,
-) -> Result<(), AllocError>
+pub fn append_bad_trace(alloc: Global, text: &mut Vec<u8>, number: usize) -> Result<(), AllocError>
     ensures { IfOk result (λ _. text.new.items ≡ text.old.items ++ bad_trace_line number) }
 {
     let line = format!(in alloc; "bad-trace {number}\n")?;

@@ -1,0 +1,274 @@
+//! Runs for the tests: words, networks, sizes and faults, and what is due.
+use super::rows::Step::{self, Network, Octets, Record};
+use super::rows::UP;
+use crate::Status;
+
+/// What fails in a run: how many octets the sink has room for, and the calls of the source and of
+/// the sink that fail.
+#[derive(Clone, Copy)]
+pub struct Faults {
+    /// The room of the sink.
+    pub room: usize,
+    /// The calls of the source that fail.
+    pub source: &'static [u32],
+    /// The calls of the sink that fail.
+    pub sink: &'static [u32],
+}
+
+/// Nothing fails.
+pub const NO_FAULTS: Faults = Faults {
+    room: 4096,
+    source: &[],
+    sink: &[],
+};
+
+const FIRST_READ: Faults = Faults {
+    room: 4096,
+    source: &[1],
+    sink: &[],
+};
+
+const SECOND_READ: Faults = Faults {
+    room: 4096,
+    source: &[2],
+    sink: &[],
+};
+
+const FIRST_WRITE: Faults = Faults {
+    room: 4096,
+    source: &[],
+    sink: &[1],
+};
+
+const ROOM_OF_5: Faults = Faults {
+    room: 5,
+    source: &[],
+    sink: &[],
+};
+
+const ROOM_OF_19: Faults = Faults {
+    room: 19,
+    source: &[],
+    sink: &[],
+};
+
+const NO_ROOM: Faults = Faults {
+    room: 0,
+    source: &[3],
+    sink: &[2],
+};
+
+/// A run: what it shows, its words, what fails, what goes in, and the status and the lines that are
+/// due.
+pub type Run = (
+    &'static str,
+    &'static [&'static str],
+    Faults,
+    &'static [Step],
+    Status,
+    &'static str,
+);
+
+const REPLAY: &[&str] = &["replay", "--node", "sw1"];
+
+const USAGE: &str =
+    "usage: wrnet audit [--emit NODE] | replay --node NODE | simulate --seed N | loop --seed N\n";
+
+const BAD_NETWORK: &str = "bad-network\n";
+
+const QUIET: &str = "sw1 0 link 1 quiet\n";
+
+const LINE: Step = Record("---\n");
+
+/// The runs.
+pub const RUNS: &[Run] = &[
+    // Words that are no command.
+    ("no words", &[], NO_FAULTS, &[Network], Status::Usage, USAGE),
+    (
+        "no option",
+        &["replay"],
+        NO_FAULTS,
+        &[Network],
+        Status::Usage,
+        USAGE,
+    ),
+    (
+        "no node",
+        &["replay", "--node"],
+        NO_FAULTS,
+        &[Network],
+        Status::Usage,
+        USAGE,
+    ),
+    (
+        "a node of another network",
+        &["replay", "--node", "leaf"],
+        NO_FAULTS,
+        &[Network],
+        Status::Usage,
+        USAGE,
+    ),
+    (
+        "a node behind =",
+        &["replay", "--node=sw1"],
+        NO_FAULTS,
+        &[Network],
+        Status::Usage,
+        USAGE,
+    ),
+    (
+        "a word too many",
+        &["replay", "--node", "sw1", "sw1"],
+        NO_FAULTS,
+        &[Network],
+        Status::Usage,
+        USAGE,
+    ),
+    (
+        "audit",
+        &["audit"],
+        NO_FAULTS,
+        &[Network],
+        Status::Usage,
+        USAGE,
+    ),
+    (
+        "simulate",
+        &["simulate", "--seed", "1"],
+        NO_FAULTS,
+        &[Network],
+        Status::Usage,
+        USAGE,
+    ),
+    (
+        "loop",
+        &["loop", "--seed", "1"],
+        NO_FAULTS,
+        &[Network],
+        Status::Usage,
+        USAGE,
+    ),
+    // Network texts, and the line that ends one.
+    (
+        "no network",
+        REPLAY,
+        NO_FAULTS,
+        &[],
+        Status::BadNetwork,
+        BAD_NETWORK,
+    ),
+    (
+        "no line that ends the network",
+        REPLAY,
+        NO_FAULTS,
+        &[Network],
+        Status::Done,
+        "",
+    ),
+    (
+        "a line --- with CR",
+        REPLAY,
+        NO_FAULTS,
+        &[Network, Record("---\r\n"), UP],
+        Status::Done,
+        QUIET,
+    ),
+    (
+        "a line --- at the end",
+        REPLAY,
+        NO_FAULTS,
+        &[Network, Record("---")],
+        Status::Done,
+        "",
+    ),
+    (
+        "another network",
+        REPLAY,
+        NO_FAULTS,
+        &[Record("# two nodes\n"), Network, LINE, UP],
+        Status::BadNetwork,
+        BAD_NETWORK,
+    ),
+    (
+        "a last line --- with CR",
+        REPLAY,
+        NO_FAULTS,
+        &[Network, Record("---\r")],
+        Status::BadNetwork,
+        BAD_NETWORK,
+    ),
+    // Calls that fail, and room that is used up.
+    (
+        "no fault",
+        REPLAY,
+        NO_FAULTS,
+        &[Network, LINE, UP],
+        Status::Done,
+        QUIET,
+    ),
+    (
+        "the first read fails",
+        REPLAY,
+        FIRST_READ,
+        &[Network, LINE, UP],
+        Status::ReadFault,
+        "",
+    ),
+    (
+        "the second read fails",
+        REPLAY,
+        SECOND_READ,
+        &[Network, LINE, UP],
+        Status::ReadFault,
+        "",
+    ),
+    (
+        "the first write fails",
+        REPLAY,
+        FIRST_WRITE,
+        &[Network, LINE, UP],
+        Status::WriteFault,
+        "",
+    ),
+    (
+        "room for five octets",
+        REPLAY,
+        ROOM_OF_5,
+        &[Network, LINE, UP],
+        Status::WriteFault,
+        "sw1 0",
+    ),
+    (
+        "room for all octets",
+        REPLAY,
+        ROOM_OF_19,
+        &[Network, LINE, UP],
+        Status::Done,
+        QUIET,
+    ),
+    (
+        "no room",
+        REPLAY,
+        NO_ROOM,
+        &[Network, LINE, UP],
+        Status::WriteFault,
+        "",
+    ),
+    // The greatest size, and one octet more.
+    (
+        "the greatest size",
+        REPLAY,
+        NO_FAULTS,
+        &[Octets(33_554_432)],
+        Status::BadNetwork,
+        BAD_NETWORK,
+    ),
+    (
+        "one octet too many",
+        REPLAY,
+        NO_FAULTS,
+        &[Octets(33_554_433)],
+        Status::TooLarge,
+        "too-large 0\n",
+    ),
+];
