@@ -1,0 +1,4 @@
+pub mod Handshake
+pub mod Judged
+pub mod Required
+pub mod Stretches
