@@ -1,5 +1,5 @@
 -- States that were entered in their order: how many of them, as one mark comes after another.
-use Rattle.std.proofs.Common.{◌≡◌, ◌⊎◌, refl, sym, ap, ◌∙◌, subst, inl, inr, ℕ, suc, ◌+◌, ◌<◌, ◌≤◌, ℤ, ◌≤ℤ◌, List, [], ◌∷◌, ◌++◌, length, reverse, take, drop, get_or, pos, Option, None, arith}
+use Rattle.std.proofs.Common.{◌≡◌, sym, ap, ◌∙◌, subst, inl, inr, ℕ, ◌+◌, ◌<◌, ◌≤◌, ℤ, ◌≤ℤ◌, List, [], ◌∷◌, ◌++◌, length, reverse, take, drop, get_or, pos, Option, None, arith}
 use Rattle.std.proofs.lemmas.List.{take_all, take-append-drop, drop_more}
 use Rattle.std.proofs.lemmas.Option.{slice_get_cases, slice_get-get_or}
 use Rattle.std.specs.List.{slice_get}
@@ -42,13 +42,13 @@ enters time states marks count mark lt is by h =
     record {
       within = omega arith;
       entered =
-        subst (λ (ss : List LinkState). Entered time ss (mark ∷ marks)) (sym more)
-        (inl (record { is = is; by = by; others = h.entered }));
+          subst (λ (ss : List LinkState). Entered time ss (mark ∷ marks)) (sym more)
+          (inl (record { is = is; by = by; others = h.entered }));
       most = λ lt' both.
-        elim (subst (λ (ss : List LinkState). Entered time (get_or states (count + 1) Idle ∷ ss) (mark ∷ marks)) more both) [
-          | inl x ↦ h.most lt x.others
-          | inr x ↦ h.most lt (entered_less time (get_or states (count + 1) Idle) (get_or states count Idle ∷ reverse (take count states)) marks x)
-        ];
+          elim (subst (λ (ss : List LinkState). Entered time (get_or states (count + 1) Idle ∷ ss) (mark ∷ marks)) more both) [
+            | inl x ↦ h.most lt x.others
+            | inr x ↦ h.most lt (entered_less time (get_or states (count + 1) Idle) (get_or states count Idle ∷ reverse (take count states)) marks x)
+          ];
     }
 
 -- any other mark

@@ -9,7 +9,7 @@ use Rattle.wrp_base.specs.declared.message.WrMsg.{WrMsg}
 use Rattle.wrp_check.specs.declared.verdict.Verdict.{Verdict}
 use Rattle.wrp_check.specs.declared.verdict.Verdict.TheVariants.{NotOn, NoStretch, Missing}
 use Rattle.wrp_check.specs.Handshake.{IsNewestWith, SentIn, IsBacked, SameHandshake}
-use Rattle.wrp_check.specs.Judged.{LeadsOn, Lacks, LacksFirst, Misses, Judges}
+use Rattle.wrp_check.specs.Judged.{Lacks, LacksFirst, Misses, Judges}
 use Rattle.wrp_check.specs.Required.{required_of}
 use Rattle.wrp_check.specs.Stretches.{stretches_of, newest_of, Entered, movers_of, LiesIn}
 use Rattle.wrp_check.proofs.Backwards.{All-middle}
@@ -69,7 +69,7 @@ lacked : (time : ℤ) (marks : List Mark) (state : LinkState) (front mid : List 
     (Entered time (state ∷ reverse front) marks → ⊥) → Entered time (reverse (front ++ state ∷ mid)) marks → ⊥
 lacked time marks state front mid missing h =
     let turned : reverse (front ++ state ∷ mid) ≡ reverse mid ++ state ∷ reverse front =
-        reverse-append front (state ∷ mid) ∙ ap (λ ss. ss ++ reverse front) (reverse-append (state ∷ []) mid) ∙ append_assoc (reverse mid) (state ∷ []) (reverse front) in
+    reverse-append front (state ∷ mid) ∙ ap (λ ss. ss ++ reverse front) (reverse-append (state ∷ []) mid) ∙ append_assoc (reverse mid) (state ∷ []) (reverse front) in
     missing (front_entered time (reverse mid) (state ∷ reverse front) marks (subst (λ (ss : List LinkState). Entered time ss marks) turned h))
 
 -- the first state that is not there is one, and then they are not all there
@@ -95,10 +95,10 @@ one_first role stretch movers s t h k =
           one_state (required_of role h.mover.0) h.mover.1 stretch s t h.lacks (subst P (sym i) k.lacks)
       | before mid f r ↦
           absurd (not_backed (required_of role k.mover.0) k.mover.1 stretch t k.lacks
-            (All-middle (λ m. IsBacked role stretch m) mid k.mover k.earlier (subst (AllByRecursion (λ m. IsBacked role stretch m)) r h.backed)))
+          (All-middle (λ m. IsBacked role stretch m) mid k.mover k.earlier (subst (AllByRecursion (λ m. IsBacked role stretch m)) r h.backed)))
       | behind mid f r ↦
           absurd (not_backed (required_of role h.mover.0) h.mover.1 stretch s h.lacks
-            (All-middle (λ m. IsBacked role stretch m) mid h.mover h.earlier (subst (AllByRecursion (λ m. IsBacked role stretch m)) r k.backed)))
+          (All-middle (λ m. IsBacked role stretch m) mid h.mover h.earlier (subst (AllByRecursion (λ m. IsBacked role stretch m)) r k.backed)))
     ]
 
 one_missing : (role : Role) (own peer : List Mark) (s t : LinkState) → Misses role own peer s → Misses role own peer t → s ≡ t

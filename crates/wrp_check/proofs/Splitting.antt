@@ -1,5 +1,5 @@
 -- The newest stretch of a history, and the search for the one in which a time lies.
-use Rattle.std.proofs.Common.{◌≡◌, ◌⊎◌, ◌↔◌, refl, sym, ap, ◌∙◌, subst, inl, inr, ℕ, suc, ◌+◌, ◌<◌, ◌≤◌, ℤ, ◌≤ℤ◌, Bool, true, false, List, [], ◌∷◌, ◌++◌, length, reverse, take, drop, get_or, Some, arith, append_assoc, length-append}
+use Rattle.std.proofs.Common.{◌≡◌, ◌⊎◌, ◌↔◌, refl, sym, ap, ◌∙◌, subst, inl, inr, ℕ, ◌+◌, ◌<◌, ◌≤◌, ℤ, ◌≤ℤ◌, true, false, List, [], ◌∷◌, ◌++◌, length, reverse, take, drop, get_or, Some, arith, append_assoc, length-append}
 use Rattle.std.proofs.lemmas.List.{take_all, take_more, take-append-drop, reverse-append, append_cancel_left, append-nil}
 use Rattle.std.specs.List.{AllByRecursion, slice_get}
 use Rattle.wrp_base.specs.declared.link.LinkState.TheVariants.{Idle}
@@ -36,13 +36,15 @@ pub begins_at : (marks : List Mark) (i : ℕ) (d : Mark) → i < length marks �
 begins_at marks i d lt idle =
     let mark : Mark = get_or marks i d in
     let same : is_idle mark.from ≡ true = ap is_idle idle in
-    inr (omega arith,
+    inr (
+      omega arith,
       record {
         part = mark ∷ [];
         splits = take_more marks i d lt;
         some = omega arith;
         stretches = ap stretches_of (reverse_more marks i d lt) ∙ rw same refl;
-      })
+      },
+    )
 
 -- any other joins the newest one
 joins : (front part : List Mark) (mark : Mark) → is_idle mark.from ≡ false →
@@ -63,21 +65,25 @@ goes_on marks start i d lt other h =
       | inl (at_0, from_0) ↦
           let none : take i marks ≡ [] = ap (λ n. take n marks) at_0 in
           let front : take start marks ≡ [] = ap (λ n. take n marks) from_0 in
-          inr (omega arith,
+          inr (
+            omega arith,
             record {
               part = mark ∷ [];
               splits = ends ∙ ap (λ ms. ms ++ mark ∷ []) (none ∙ sym front);
               some = omega arith;
               stretches = ap stretches_of (more ∙ ap (λ ms. mark ∷ reverse ms) none) ∙ first_mark mark other ∙ ap (λ ms. (mark ∷ []) ∷ stretches_of (reverse ms)) (sym front);
-            })
+            },
+          )
       | inr (less, found) ↦
-          inr (omega arith,
+          inr (
+            omega arith,
             record {
               part = found.part ++ mark ∷ [];
               splits = ends ∙ ap (λ ms. ms ++ mark ∷ []) found.splits ∙ append_assoc (take start marks) found.part (mark ∷ []);
               some = omega (arith, length-append found.part (mark ∷ []));
               stretches = ap stretches_of more ∙ joins (take start marks) found.part mark other (reverse (take i marks)) found.stretches;
-            })
+            },
+          )
     ]
 
 -- what split_newest answers

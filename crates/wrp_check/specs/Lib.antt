@@ -1,4 +1,5 @@
 pub mod Handshake
 pub mod Judged
+pub mod Laws
 pub mod Required
 pub mod Stretches

@@ -4,10 +4,14 @@
 #![tactic(auto)]
 
 mod judging;
+mod laws;
 mod movers;
 mod required;
 mod stretch;
+#[cfg(test)]
+mod tests;
 mod verdict;
 
 pub use judging::judge;
+pub use laws::stretches_are_parts;
 pub use verdict::Verdict;

@@ -2,8 +2,10 @@
 ghost use Rattle.std.specs.Prelude.{◌≡◌};
 ghost use Rattle.wrp_check.specs.Required.{required_of};
 
+use wrp_base::LinkState::{
+    Calibrated, Calibration, LinkOn, Locked, MLock, Present, RespCalib, SLock,
+};
 use wrp_base::{LinkState, Role, WrMsg};
-use wrp_base::LinkState::{Calibrated, Calibration, LinkOn, Locked, MLock, Present, RespCalib, SLock};
 
 // The states that the peer has entered, in their order, when it sends the message that moves a port of
 // this role.

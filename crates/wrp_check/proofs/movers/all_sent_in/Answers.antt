@@ -10,9 +10,10 @@ use mir.Val.{SFits}
 pub returns-then-not-lies_in : goal.returns-then-not-lies_in
 returns-then-not-lies_in c =
     let fits : SFits w128 c.in-Some.at = search rules in
-    let lies = simp to_z-of_z at c.if-not-lies_in.ensures in
-    (λ h. cc,
-     λ all. lies.1 (All-at (λ found. LiesIn found.1 (reverse c.args.stretch.now)) _ _ _ _ c.loop-mark-test.true c.in-Some.ensures all))
+    let lies = simp to_z-of_z at c.if-not-lies_in.ensures in (
+      λ h. cc,
+      λ all. lies.1 (All-at (λ found. LiesIn found.1 (reverse c.args.stretch.now)) _ _ _ _ c.loop-mark-test.true c.in-Some.ensures all),
+    )
 
 pub loop-mark-preserved : goal.loop-mark-preserved
 loop-mark-preserved c =

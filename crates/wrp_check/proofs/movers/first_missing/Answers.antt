@@ -1,7 +1,6 @@
-use Rattle.std.proofs.Common.{◌≡◌, ℤ, refl, sym, ap, ◌∙◌, subst, reverse, take, drop, ◌+◌, List, rules}
+use Rattle.std.proofs.Common.{subst, reverse, take, drop, ◌+◌, List, rules}
 use Rattle.std.proofs.lemmas.Int.{to_z-of_z}
 use Rattle.wrp_base.specs.declared.link.LinkState.{LinkState}
-use Rattle.wrp_base.specs.declared.message.WrMsg.{WrMsg}
 use Rattle.wrp_check.specs.Handshake.{IsBacked}
 use Rattle.wrp_check.specs.Judged.{Lacks}
 use Rattle.wrp_check.specs.Stretches.{Entered, movers_of}

@@ -1,14 +1,10 @@
-use Rattle.std.proofs.Common.{◌≡◌, ℤ, ℕ, List, ◌∷◌, ◌+◌, sym, ap, ◌∙◌, subst, refl, take, reverse, rules, arith, Some, None}
+use Rattle.std.proofs.Common.{◌≡◌, List, subst, refl, reverse, arith}
 use Rattle.std.proofs.lemmas.Grind.{common_steps}
 use Rattle.std.proofs.lemmas.Int.{to_z-of_z}
 use Rattle.std.proofs.lemmas.List.{take_all}
 use Rattle.std.proofs.lemmas.Option.{gets}
 use Rattle.std.specs.List.{slice_get}
-use Rattle.std.specs.Option.{MatchOption}
-use Rattle.wrp_base.specs.declared.link.LinkState.{LinkState}
 use Rattle.wrp_base.specs.declared.link.Mark.{Mark}
-use Rattle.wrp_check.specs.Judged.{Lacks}
-use Rattle.wrp_check.specs.Stretches.{Entered}
 use Rattle.wrp_check.proofs.Entering.{EnteredSoFar, enters, passes_by, no_mark, next_mark, missing_is}
 use Rattle.wrp_check.proofs.movers.missing.Goals.{then-entered-states+then-enters, else-entered-states, else-entered-states-via-then-entered-states+else-enters, else-entered-states-via-else-entered-states}
 use Rattle.wrp_check.proofs.movers.missing.Goals as goal
@@ -35,6 +31,6 @@ returns c =
     let fits : SFits w128 c.args.time = c.ranges.time in
     let h = simp to_z-of_z at c.loop-mark.invariant in
     let whole : EnteredSoFar c.args.time c.args.states.now (reverse c.args.stretch.now) c.loop-mark.entered =
-        subst (λ (ms : List Mark). EnteredSoFar c.args.time c.args.states.now (reverse ms) c.loop-mark.entered) (take_all _ _ c.loop-mark-test.false) h in
+    subst (λ (ms : List Mark). EnteredSoFar c.args.time c.args.states.now (reverse ms) c.loop-mark.entered) (take_all _ _ c.loop-mark-test.false) h in
     let got : c.copied.result ≡ slice_get c.args.states.now c.loop-mark.entered = grind (arith, common_steps, gets) in
     rw got (missing_is _ _ _ _ whole)

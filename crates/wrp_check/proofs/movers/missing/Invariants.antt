@@ -1,4 +1,4 @@
-use Rattle.std.proofs.Common.{ℕ, take, reverse}
+use Rattle.std.proofs.Common.{take, reverse}
 use Rattle.wrp_check.proofs.Entering.{EnteredSoFar}
 use Rattle.wrp_check.proofs.movers.missing.Given as goal
 

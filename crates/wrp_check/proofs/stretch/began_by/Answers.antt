@@ -1,4 +1,4 @@
-use Rattle.std.proofs.Common.{◌↔◌, ℤ, ◌≤ℤ◌, reverse, arith}
+use Rattle.std.proofs.Common.{◌↔◌, ◌≤ℤ◌, reverse, arith}
 use Rattle.std.proofs.lemmas.Int.{ints}
 use Rattle.wrp_check.specs.Stretches.{BeganBy}
 use Rattle.wrp_check.proofs.Splitting.{began_by}

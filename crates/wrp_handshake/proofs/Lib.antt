@@ -1,0 +1,13 @@
+pub mod Changes
+pub mod Deltas
+pub mod Inputs
+pub mod Keeps
+pub mod Lit
+pub mod Moves
+pub mod Parts
+pub mod Ports
+pub mod Proved
+pub mod RowFits
+pub mod Same
+pub mod Stages
+pub mod Times

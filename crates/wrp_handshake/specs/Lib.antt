@@ -1,0 +1,3 @@
+pub mod Deltas
+pub mod Ends
+pub mod Laws
