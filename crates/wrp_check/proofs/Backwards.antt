@@ -5,7 +5,7 @@ use Rattle.std.specs.List.{AllByRecursion}
 use Rattle.wrp_base.specs.declared.link.Mark.{Mark}
 use Rattle.wrp_base.specs.declared.message.WrMsg.{WrMsg}
 use Rattle.wrp_base.specs.declared.message.WrMsg.TheVariants.{Present as SLAVE_PRESENT}
-use Rattle.wrp_check.specs.Stretches.{with_mover, movers_of}
+use Rattle.wrp_check.specs.Stretches.{with_mover, HasNoMover, HasMover, movers_of}
 
 -- the element at i comes first, read from behind
 pub reverse_more : {A : Type 0} (xs : List A) (i : ℕ) (d : A) → i < length xs → reverse (take (i + 1) xs) ≡ get_or xs i d ∷ reverse (take i xs)
@@ -40,24 +40,16 @@ movers_split : (marks : List Mark) (i : ℕ) (d : Mark) → i < length marks →
 movers_split marks i d lt =
     ap movers_of (reverse_split marks i d lt) ∙ movers-append (reverse (drop (i + 1) marks)) (get_or marks i d ∷ reverse (take i marks))
 
--- a mark has no message that counts
-abbrev pub HasNone : Mark → Type 0
-HasNone mark = (movers : List (WrMsg × ℤ)) → with_mover mark.by movers ≡ movers
-
--- a mark has this message
-abbrev pub Has : Mark → WrMsg × ℤ → Type 0
-Has mark found = (movers : List (WrMsg × ℤ)) → with_mover mark.by movers ≡ found ∷ movers
-
 -- the messages up to the mark at i, and all of them
-pub movers_none : (marks : List Mark) (i : ℕ) (d : Mark) → i < length marks → HasNone (get_or marks i d) →
+pub movers_none : (marks : List Mark) (i : ℕ) (d : Mark) → i < length marks → HasNoMover (get_or marks i d) →
     movers_of (reverse (take (i + 1) marks)) ≡ movers_of (reverse (take i marks))
 movers_none marks i d lt has = movers_more marks i d lt ∙ has (movers_of (reverse (take i marks)))
 
-pub movers_one : (marks : List Mark) (i : ℕ) (d : Mark) (found : WrMsg × ℤ) → i < length marks → Has (get_or marks i d) found →
+pub movers_one : (marks : List Mark) (i : ℕ) (d : Mark) (found : WrMsg × ℤ) → i < length marks → HasMover (get_or marks i d) found →
     movers_of (reverse (take (i + 1) marks)) ≡ found ∷ movers_of (reverse (take i marks))
 movers_one marks i d found lt has = movers_more marks i d lt ∙ has (movers_of (reverse (take i marks)))
 
-pub movers_all : (marks : List Mark) (i : ℕ) (d : Mark) (found : WrMsg × ℤ) → i < length marks → Has (get_or marks i d) found →
+pub movers_all : (marks : List Mark) (i : ℕ) (d : Mark) (found : WrMsg × ℤ) → i < length marks → HasMover (get_or marks i d) found →
     movers_of (reverse marks) ≡ movers_of (reverse (drop (i + 1) marks)) ++ found ∷ movers_of (reverse (take i marks))
 movers_all marks i d found lt has =
     movers_split marks i d lt ∙ ap (λ ms. movers_of (reverse (drop (i + 1) marks)) ++ ms) (has (movers_of (reverse (take i marks))))
@@ -68,16 +60,16 @@ All-middle P [] y ys h = h.0
 All-middle P (x ∷ xs) y ys h = All-middle P xs y ys h.1
 
 -- what holds of the messages so far, with the mark at i
-pub All-none : (P : WrMsg × ℤ → Type 0) (marks : List Mark) (i : ℕ) (d : Mark) → i < length marks → HasNone (get_or marks i d) →
+pub All-none : (P : WrMsg × ℤ → Type 0) (marks : List Mark) (i : ℕ) (d : Mark) → i < length marks → HasNoMover (get_or marks i d) →
     AllByRecursion P (movers_of (reverse (take i marks))) → AllByRecursion P (movers_of (reverse (take (i + 1) marks)))
 All-none P marks i d lt has h = subst (AllByRecursion P) (sym (movers_none marks i d lt has)) h
 
-pub All-one : (P : WrMsg × ℤ → Type 0) (marks : List Mark) (i : ℕ) (d : Mark) (found : WrMsg × ℤ) → i < length marks → Has (get_or marks i d) found →
+pub All-one : (P : WrMsg × ℤ → Type 0) (marks : List Mark) (i : ℕ) (d : Mark) (found : WrMsg × ℤ) → i < length marks → HasMover (get_or marks i d) found →
     P found → AllByRecursion P (movers_of (reverse (take i marks))) → AllByRecursion P (movers_of (reverse (take (i + 1) marks)))
 All-one P marks i d found lt has p h = subst (AllByRecursion P) (sym (movers_one marks i d found lt has)) (p, h)
 
 -- and what holds of all messages holds of that of the mark at i
-pub All-at : (P : WrMsg × ℤ → Type 0) (marks : List Mark) (i : ℕ) (d : Mark) (found : WrMsg × ℤ) → i < length marks → Has (get_or marks i d) found →
+pub All-at : (P : WrMsg × ℤ → Type 0) (marks : List Mark) (i : ℕ) (d : Mark) (found : WrMsg × ℤ) → i < length marks → HasMover (get_or marks i d) found →
     AllByRecursion P (movers_of (reverse marks)) → P found
 All-at P marks i d found lt has h =
     All-middle P (movers_of (reverse (drop (i + 1) marks))) found (movers_of (reverse (take i marks))) (subst (AllByRecursion P) (movers_all marks i d found lt has) h)

@@ -1,7 +1,6 @@
 -- How a handshake is judged: which verdict is due for the histories of a link's two ports, the newest
 -- mark first. This project's profile.
 use Rattle.std.specs.Prelude.{◌≡◌, ℤ, List, [], ◌∷◌, ◌++◌, reverse, Result, Ok, Err}
-use Rattle.std.specs.List.{AllByRecursion}
 use Rattle.wrp_base.specs.declared.link.LinkState.{LinkState}
 use Rattle.wrp_base.specs.declared.link.LinkState.TheVariants.{LinkOn}
 use Rattle.wrp_base.specs.declared.link.Mark.{Mark}
@@ -9,7 +8,7 @@ use Rattle.wrp_base.specs.declared.link.Role.{Role}
 use Rattle.wrp_base.specs.declared.message.WrMsg.{WrMsg}
 use Rattle.wrp_check.specs.declared.verdict.Verdict.{Verdict}
 use Rattle.wrp_check.specs.declared.verdict.Verdict.TheVariants.{NotOn, NoStretch, Missing}
-use Rattle.wrp_check.specs.Handshake.{SentIn, IsBacked, SameHandshake}
+use Rattle.wrp_check.specs.Handshake.{SentIn, AllBacked, SameHandshake}
 use Rattle.wrp_check.specs.Required.{required_of}
 use Rattle.wrp_check.specs.Stretches.{stretches_of, newest_of, Entered, movers_of}
 
@@ -34,7 +33,7 @@ pub record LacksFirst (role : Role) (stretch : List Mark) (movers : List (WrMsg 
   pub mover : WrMsg × ℤ
   pub earlier : List (WrMsg × ℤ)
   pub splits : movers ≡ later ++ mover ∷ earlier
-  pub backed : AllByRecursion (λ m. IsBacked role stretch m) earlier
+  pub backed : AllBacked role stretch earlier
   pub lacks : Lacks (required_of role mover.0) mover.1 stretch state
 
 -- the messages that moved a port in its last stretch were sent in one of the peer's, which lacks this

@@ -2,6 +2,7 @@
 -- parts from a mark that leaves IDLE to the mark that leads back to IDLE, or to the end of the history.
 -- This project's profile.
 use Rattle.std.specs.Prelude.{◌≡◌, ◌⊎◌, ℤ, ◌≤ℤ◌, Bool, true, false, cond, List, [], ◌∷◌, Option, None, Some}
+use Rattle.std.specs.List.{AllByRecursion}
 use Rattle.wrp_base.specs.declared.link.LinkState.{LinkState}
 use Rattle.wrp_base.specs.declared.link.LinkState.TheVariants.{Idle}
 use Rattle.wrp_base.specs.declared.link.Mark.{Mark}
@@ -48,6 +49,10 @@ pub record LiesIn (time : ℤ) (stretch : List Mark) : Type 0 where
   pub began : BeganBy time stretch
   pub lasts : LastsTo time stretch
 
+-- a time lies in none of some stretches
+abbrev pub LiesInNone : ℤ → List (List Mark) → Type 0
+LiesInNone time stretches = AllByRecursion (λ stretch. LiesIn time stretch → ⊥) stretches
+
 -- these states, the newest first, were entered in a stretch in their order, at or before a time
 abbrev pub Entered : ℤ → List LinkState → List Mark → Type 0
 Entered time [] marks = Unit {0}
@@ -62,6 +67,14 @@ abbrev pub with_mover : Option (WrMsg × ℤ) → List (WrMsg × ℤ) → List (
 with_mover None movers = movers
 with_mover (Some (SLAVE_PRESENT, at)) movers = movers
 with_mover (Some (message, at)) movers = (message, at) ∷ movers
+
+-- a mark has no message that counts
+abbrev pub HasNoMover : Mark → Type 0
+HasNoMover mark = (movers : List (WrMsg × ℤ)) → with_mover mark.by movers ≡ movers
+
+-- a mark has this message
+abbrev pub HasMover : Mark → WrMsg × ℤ → Type 0
+HasMover mark found = (movers : List (WrMsg × ℤ)) → with_mover mark.by movers ≡ found ∷ movers
 
 -- the messages other than SLAVE_PRESENT that moved a port in a stretch, with their sending times, the
 -- newest first

@@ -1,10 +1,8 @@
 //! The messages that moved a port in a stretch, but for SLAVE_PRESENT. Slices have the oldest mark first.
-ghost use Rattle.std.specs.Prelude.{◌≡◌, ◌↔◌, ◌∷◌, IsTrue, MatchOption, List, ℤ, ◌≤ℤ◌, reverse, slice_get};
-ghost use Rattle.std.specs.List.{AllByRecursion};
-ghost use Rattle.wrp_base.specs.declared.message.WrMsg.{WrMsg};
-ghost use Rattle.wrp_check.specs.Handshake.{IsBacked};
+ghost use Rattle.std.specs.Prelude.{◌≡◌, ◌↔◌, ◌≤ℤ◌, IsTrue, MatchOption, reverse, slice_get};
+ghost use Rattle.wrp_check.specs.Handshake.{AllBacked, AllSentIn};
 ghost use Rattle.wrp_check.specs.Judged.{Lacks, LacksFirst};
-ghost use Rattle.wrp_check.specs.Stretches.{Entered, LiesIn, with_mover, movers_of};
+ghost use Rattle.wrp_check.specs.Stretches.{Entered, HasMover, HasNoMover, movers_of};
 
 use crate::required::required;
 use crate::stretch::lies_in;
@@ -12,7 +10,7 @@ use wrp_base::{LinkState, Mark, Role, Tau, WrMsg};
 
 // The message of a mark with its sending time, where it is one other than SLAVE_PRESENT.
 fn mover(mark: &Mark) -> Option<(WrMsg, Tau)>
-    ensures { MatchOption result ((movers : List (WrMsg × ℤ)) → with_mover mark.now.by movers ≡ movers) (λ found. (movers : List (WrMsg × ℤ)) → with_mover mark.now.by movers ≡ found ∷ movers) }
+    ensures { MatchOption result (HasNoMover mark.now) (λ found. HasMover mark.now found) }
 {
     match mark.by {
         Some((WrMsg::Present, _)) => None,
@@ -35,7 +33,7 @@ pub(crate) fn last_mover(own: &[Mark]) -> Option<(WrMsg, Tau)>
 
 // Whether all messages of a stretch were sent in a stretch of the peer.
 pub(crate) fn all_sent_in(own: &[Mark], stretch: &[Mark]) -> bool
-    ensures { IsTrue result ↔ AllByRecursion (λ found. LiesIn found.1 (reverse stretch.now)) (movers_of (reverse own.now)) }
+    ensures { IsTrue result ↔ AllSentIn (reverse stretch.now) (movers_of (reverse own.now)) }
 {
     for mark in own {
         if let Some((_, at)) = mover(mark) {
@@ -54,9 +52,13 @@ fn enters(mark: &Mark, state: LinkState, time: Tau) -> bool
     mark.to == state && mark.at <= time
 }
 
-// The first of these states that was not entered in the stretch behind the others, at or before the time.
+// The first of these states that was not entered in the stretch behind those before it, at or before a
+// time.
 fn missing(states: &[LinkState], time: Tau, stretch: &[Mark]) -> Option<LinkState>
-    ensures { MatchOption result (Entered time (reverse states.now) (reverse stretch.now)) (λ state. Lacks states.now time (reverse stretch.now) state) }
+    ensures {
+        MatchOption result (Entered time (reverse states.now) (reverse stretch.now))
+        (λ state. Lacks states.now time (reverse stretch.now) state)
+    }
 {
     let mut entered = 0;
     for mark in stretch {
@@ -69,7 +71,10 @@ fn missing(states: &[LinkState], time: Tau, stretch: &[Mark]) -> Option<LinkStat
 
 // What the first message whose required states are not all there lacks first.
 pub(crate) fn first_missing(role: Role, own: &[Mark], stretch: &[Mark]) -> Option<LinkState>
-    ensures { MatchOption result (AllByRecursion (λ found. IsBacked role (reverse stretch.now) found) (movers_of (reverse own.now))) (λ state. LacksFirst role (reverse stretch.now) (movers_of (reverse own.now)) state) }
+    ensures {
+        MatchOption result (AllBacked role (reverse stretch.now) (movers_of (reverse own.now)))
+        (λ state. LacksFirst role (reverse stretch.now) (movers_of (reverse own.now)) state)
+    }
 {
     for mark in own {
         if let Some((message, at)) = mover(mark) {
