@@ -168,6 +168,9 @@ new_keeps life dmin time role set h =
       unbound = λ x. cc;
       sources = λ x. cc;
       frames = λ f i. absurd i;
+      turns = tt;
+      left = tt;
+      awake = λ o. absurd (o refl);
     }
 
 start_keeps :

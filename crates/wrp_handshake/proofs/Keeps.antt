@@ -82,6 +82,14 @@ pub record IsEngaged (time : ℤ) (role : Role) (state : LinkState) (marks : Lis
   pub began : BeganBy time g.latest
   pub lasts : (t : ℤ) → LastsTo t g.latest
 
+-- a mark by which a port came past PRESENT is not after a time
+abbrev pub TurnedBy : Role → ℤ → Mark → Type 0
+TurnedBy role time mark = engaged role mark.from ≡ false → engaged role mark.to ≡ true → mark.at ≤ℤ time
+
+-- a mark that led to IDLE is not after a time
+abbrev pub LeftBy : ℤ → Mark → Type 0
+LeftBy time mark = mark.to ≡ Idle → mark.at ≤ℤ time
+
 -- a port by itself
 pub record PortKeeps (life dmin : ℕ) (time : ℤ) (v : View) (g : Ghost) : Type 0 where
   pub belongs : Belongs v.role v.state
@@ -97,6 +105,9 @@ pub record PortKeeps (life dmin : ℕ) (time : ℤ) (v : View) (g : Ghost) : Typ
   pub unbound : engaged v.role v.state ≡ true → bound v.role v.state ≡ false → movers_of g.latest ≡ []
   pub sources : bound v.role v.state ≡ true → (f : Sending) → IsAmong f v.sent → opens v.role f.0 ≡ true → f.1 ≤ℤ g.bind
   pub frames : (f : Sending) → IsAmong f v.sent → SentKeeps life time v.role v.marks g f
+  pub turns : AllByRecursion (λ m. TurnedBy v.role g.turn m) v.marks
+  pub left : AllByRecursion (λ m. LeftBy g.rest m) v.marks
+  pub awake : v.state ≢ Idle → (g.rest +ℤ pos (2 * life)) <ℤ time
 
 -- a message that moved a port is of the peer's last stretch in which that was engaged
 pub record FromLatest (sent : List Sending) (turn : ℤ) (m : Sending) : Type 0 where

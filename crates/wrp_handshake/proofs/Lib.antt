@@ -1,5 +1,6 @@
 pub mod Changes
 pub mod Deltas
+pub mod Histories
 pub mod Inputs
 pub mod Keeps
 pub mod Lit
@@ -9,5 +10,6 @@ pub mod Ports
 pub mod Proved
 pub mod RowFits
 pub mod Same
+pub mod Since
 pub mod Stages
 pub mod Times

@@ -18,8 +18,9 @@ use Rattle.wrp_link.specs.Table.{is_same, by_row, sent_by, counted, ticked, retr
 use Rattle.wrp_link.specs.LinkAt.{wait_of}
 use Rattle.wrp_link.proofs.Fits.{Fits, knows, row_fits as link_fits}
 use Rattle.wrp_link.proofs.Orders.{IsOrdered, after_ordered, by_row_ordered, new_ordered, idle_unknown_of}
-use Rattle.wrp_handshake.specs.Ends.{Sending, Port, Ends, Change, Passes, Hears, Starts, Lights, other_of, end_of, with_end, IsAmong, stamped, mover_of, ticked_by, marked, port_by, heard, MayHear, IsNoCarrier, changed, MayCome, ends_after, AllMayCome, new_ends, OutlivesFrames, CanBe}
+use Rattle.wrp_handshake.specs.Ends.{Sending, Port, Ends, Change, Passes, Hears, Starts, Lights, other_of, end_of, with_end, IsAmong, stamped, mover_of, ticked_by, marked, port_by, heard, MayHear, IsNoCarrier, changed, MayCome, ends_after, AllMayCome, new_ends, lit_by, lit_at, OutlivesFrames, CanBe}
 use Rattle.wrp_handshake.specs.Deltas.{KnowsDeltas}
+use Rattle.wrp_handshake.specs.Laws.{IsAwake, IsLongAgo}
 use Rattle.wrp_handshake.proofs.Stages.{Kind, opening, engaging, answering, binding, going_on, FitsMove}
 use Rattle.wrp_handshake.proofs.RowFits.{RowFits, row_fits}
 use Rattle.wrp_handshake.proofs.Times.{Calm, at_once, later, passes, passes_below, calm_later, calm_tick, calm_over}
@@ -121,14 +122,14 @@ from_where role from l input next (binding e u f b m) = inr (engaged_awake role 
 from_where role from l input next (going_on e u f b) = inr (engaged_awake role from e)
 
 -- what a move finds
-record IsAwake (life : ℕ) (time lit : ℤ) (l : LinkAt) : Type 0 where
+record FoundAwake (life : ℕ) (time lit : ℤ) (l : LinkAt) : Type 0 where
   long : (lit +ℤ pos (2 * life)) <ℤ time
   lit_on : l.carrier ≡ true
   listed : is_some l.fitted ≡ true
 
 awake_at :
     (life dmin : ℕ) (time lit : ℤ) (l : LinkAt) (tick : ℤ) (marks : List Mark) (sent : List Sending) (input : LinkIn) (next : LinkState) →
-    LitPort life dmin time lit l tick marks sent → Kind l.role l.state l input next → IsAwake life time lit l
+    LitPort life dmin time lit l tick marks sent → Kind l.role l.state l input next → FoundAwake life time lit l
 awake_at life dmin time lit l tick marks sent input next k kind =
     elim (from_where l.role l.state l input next kind) [
       | inl x ↦
@@ -151,7 +152,7 @@ lit_moves :
     LitPort life dmin time lit (record (entering p.link next) { deltas = deltas }) (ticked_by input time p.ticked)
     (marked time p.link.state next (mover_of input at) p.marks) (stamped time ms p.sent)
 lit_moves life dmin time lit p input at next deltas ms k f o own kn =
-    let a : IsAwake life time lit p.link = awake_at life dmin time lit p.link p.ticked p.marks p.sent input next k f.kind in
+    let a : FoundAwake life time lit p.link = awake_at life dmin time lit p.link p.ticked p.marks p.sent input next k f.kind in
     subst
     (λ (xs : List Mark). LitPort life dmin time lit (record (entering p.link next) { deltas = deltas }) (ticked_by input time p.ticked) xs (stamped time ms p.sent))
     (marked_new time p.link.state next (mover_of input at) p.marks f.changes)
@@ -306,7 +307,7 @@ pair_moves :
     FitsMove p.link.role p.link.state p.link input next ms →
     q.link.carrier ≡ true → (m : Sending) → IsAmong m (now_moved (marked time p.link.state next (mover_of input at) p.marks)) → IsOwn q.link.fitted m.0
 pair_moves life dmin time lit p q input at next ms k kq pair h f e m i =
-    let a : IsAwake life time lit p.link = awake_at life dmin time lit p.link p.ticked p.marks p.sent input next k f.kind in
+    let a : FoundAwake life time lit p.link = awake_at life dmin time lit p.link p.ticked p.marks p.sent input next k f.kind in
     let mark : Mark = mark_at time p.link.state next (mover_of input at) in
     let j : IsAmong m (now_moved (mark ∷ p.marks)) =
     subst (λ (xs : List Mark). IsAmong m (now_moved xs)) (sym (marked_new time p.link.state next (mover_of input at) p.marks f.changes)) i in
@@ -377,8 +378,22 @@ pair_peer p q q' same pair =
 
 -- ---- a link
 
-pub record LitKeeps (life dmin : ℕ) (w : Ends) : Type 0 where
-  pub lit : ℤ
+-- a port whose quiet time is over got its carrier long ago
+pub lit_long_ago :
+    (life dmin : ℕ) (time lit : ℤ) (p : Port) → LitAt life dmin time lit p → IsAwake p → IsLongAgo life time lit
+lit_long_ago life dmin time lit p k h =
+    elim (idle_or_not p.link.state) [
+      | inl idle ↦
+          elim h.over [
+            | inl out ↦ absurd (out idle)
+            | inr over ↦
+                calm_over life dmin p.link.set.quiet p.ticked time lit k.counts k.tick_past
+                (subst (λ (n : ℕ). Calm dmin p.link.set.quiet n p.ticked lit) over (k.calm idle h.lit))
+          ]
+      | inr out ↦ k.awake out
+    ]
+
+pub record LitKeeps (life dmin : ℕ) (w : Ends) (lit : ℤ) : Type 0 where
   pub master : LitAt life dmin w.time lit w.master
   pub slave : LitAt life dmin w.time lit w.slave
   pub down : LitPair w.master w.slave
@@ -387,34 +402,32 @@ pub record LitKeeps (life dmin : ℕ) (w : Ends) : Type 0 where
   pub is_slave : w.slave.link.role ≡ Slave
 
 pub lit_hears :
-    (life dmin : ℕ) (w : Ends) (role : Role) (input : LinkIn) (at : ℤ) →
+    (life dmin : ℕ) (w : Ends) (lit : ℤ) (role : Role) (input : LinkIn) (at : ℤ) →
     MayHear life dmin w.time (end_of w role) (end_of w (other_of role)) input at → IsNoCarrier input →
-    LitKeeps life dmin w → LitKeeps life dmin (with_end w role (heard w.time (end_of w role) input at))
-lit_hears life dmin w Master input at h n k =
+    LitKeeps life dmin w lit → LitKeeps life dmin (with_end w role (heard w.time (end_of w role) input at)) lit
+lit_hears life dmin w lit Master input at h n k =
     let f : RowFits w.master.link.role w.master.link.state w.master.link input (row_of w.master.link input) =
     row_fits w.master.link input k.master.ordered.belongs in
     record {
-      lit = k.lit;
-      master = lit_heard life dmin w.time k.lit w.master w.slave input at k.master h n;
+      master = lit_heard life dmin w.time lit w.master w.slave input at k.master h n;
       slave = k.slave;
-      down = pair_row life dmin w.time k.lit w.master w.slave input at (row_of w.master.link input) k.master k.slave k.down h f;
+      down = pair_row life dmin w.time lit w.master w.slave input at (row_of w.master.link input) k.master k.slave k.down h f;
       up =
         pair_peer w.slave w.master (heard w.time w.master input at)
         (row_module w.master.link.role w.master.link input (row_of w.master.link input) f n) k.up;
       is_master = by_row_role w.master.link (row_of w.master.link input) ∙ k.is_master;
       is_slave = k.is_slave;
     }
-lit_hears life dmin w Slave input at h n k =
+lit_hears life dmin w lit Slave input at h n k =
     let f : RowFits w.slave.link.role w.slave.link.state w.slave.link input (row_of w.slave.link input) =
     row_fits w.slave.link input k.slave.ordered.belongs in
     record {
-      lit = k.lit;
       master = k.master;
-      slave = lit_heard life dmin w.time k.lit w.slave w.master input at k.slave h n;
+      slave = lit_heard life dmin w.time lit w.slave w.master input at k.slave h n;
       down =
         pair_peer w.master w.slave (heard w.time w.slave input at)
         (row_module w.slave.link.role w.slave.link input (row_of w.slave.link input) f n) k.down;
-      up = pair_row life dmin w.time k.lit w.slave w.master input at (row_of w.slave.link input) k.slave k.master k.up h f;
+      up = pair_row life dmin w.time lit w.slave w.master input at (row_of w.slave.link input) k.slave k.master k.up h f;
       is_master = k.is_master;
       is_slave = by_row_role w.slave.link (row_of w.slave.link input) ∙ k.is_slave;
     }
@@ -466,51 +479,49 @@ lit_comes life dmin time lit p fitted k =
     (λ _ f i new. absurd (never f.1 time (k.past f i) new))
 
 pub lit_lights :
-    (life dmin : ℕ) (w : Ends) (fm fs : Option Module) → LitKeeps life dmin w → LitKeeps life dmin (changed w (Lights fm fs))
-lit_lights life dmin w fm fs k =
+    (life dmin : ℕ) (w : Ends) (lit : ℤ) (fm fs : Option Module) → LitKeeps life dmin w lit → LitKeeps life dmin (changed w (Lights fm fs)) w.time
+lit_lights life dmin w lit fm fs k =
     record {
-      lit = w.time;
-      master = lit_comes life dmin w.time k.lit w.master fm k.master;
-      slave = lit_comes life dmin w.time k.lit w.slave fs k.slave;
+      master = lit_comes life dmin w.time lit w.master fm k.master;
+      slave = lit_comes life dmin w.time lit w.slave fs k.slave;
       down = λ a. absurd (a refl);
       up = λ a. absurd (a refl);
       is_master = k.is_master;
       is_slave = k.is_slave;
     }
 
-pub lit_changes : (life dmin : ℕ) (w : Ends) (c : Change) → MayCome life dmin w c → LitKeeps life dmin w → LitKeeps life dmin (changed w c)
-lit_changes life dmin w (Passes dt) h k =
+lit_changes :
+    (life dmin : ℕ) (w : Ends) (lit : ℤ) (c : Change) → MayCome life dmin w c → LitKeeps life dmin w lit →
+    LitKeeps life dmin (changed w c) (lit_by w c lit)
+lit_changes life dmin w lit (Passes dt) h k =
     record {
-      lit = k.lit;
-      master = lit_later life dmin w.time k.lit w.master dt k.master;
-      slave = lit_later life dmin w.time k.lit w.slave dt k.slave;
+      master = lit_later life dmin w.time lit w.master dt k.master;
+      slave = lit_later life dmin w.time lit w.slave dt k.slave;
       down = k.down;
       up = k.up;
       is_master = k.is_master;
       is_slave = k.is_slave;
     }
-lit_changes life dmin w (Hears role input at) h k = lit_hears life dmin w role input at h.1 h.0 k
-lit_changes life dmin w (Starts Master) h k =
+lit_changes life dmin w lit (Hears role input at) h k = lit_hears life dmin w lit role input at h.1 h.0 k
+lit_changes life dmin w lit (Starts Master) h k =
     record {
-      lit = k.lit;
-      master = lit_starts life dmin w.time k.lit w.master k.master;
+      master = lit_starts life dmin w.time lit w.master k.master;
       slave = k.slave;
       down = k.down;
       up = k.up;
       is_master = k.is_master;
       is_slave = k.is_slave;
     }
-lit_changes life dmin w (Starts Slave) h k =
+lit_changes life dmin w lit (Starts Slave) h k =
     record {
-      lit = k.lit;
       master = k.master;
-      slave = lit_starts life dmin w.time k.lit w.slave k.slave;
+      slave = lit_starts life dmin w.time lit w.slave k.slave;
       down = k.down;
       up = k.up;
       is_master = k.is_master;
       is_slave = k.is_slave;
     }
-lit_changes life dmin w (Lights fm fs) h k = lit_lights life dmin w fm fs k
+lit_changes life dmin w lit (Lights fm fs) h k = lit_lights life dmin w lit fm fs k
 
 lit_new : (life dmin : ℕ) (time : ℤ) (role : Role) (set : LinkSet) → 2 * life < (set.quiet - 1) * dmin →
     LitPort life dmin time time (new_link role set) time [] []
@@ -520,10 +531,9 @@ lit_new life dmin time role set c1 =
 
 lit_start :
     (life dmin : ℕ) (time : ℤ) (of_master of_slave : LinkSet) → OutlivesFrames life dmin of_master → OutlivesFrames life dmin of_slave →
-    LitKeeps life dmin (new_ends of_master of_slave time)
+    LitKeeps life dmin (new_ends of_master of_slave time) time
 lit_start life dmin time of_master of_slave hm hs =
     record {
-      lit = time;
       master = lit_new life dmin time Master of_master hm;
       slave = lit_new life dmin time Slave of_slave hs;
       down = λ a. absurd (a refl);
@@ -533,16 +543,18 @@ lit_start life dmin time of_master of_slave hm hs =
     }
 
 lit_all :
-    (life dmin : ℕ) (ends : Ends) (changes : List Change) → AllMayCome life dmin ends changes → LitKeeps life dmin ends →
-    LitKeeps life dmin (ends_after ends changes)
+    (life dmin : ℕ) (ends : Ends) (changes : List Change) → AllMayCome life dmin ends changes → LitKeeps life dmin ends ends.time →
+    LitKeeps life dmin (ends_after ends changes) (lit_at ends changes)
 lit_all life dmin ends [] h k = k
 lit_all life dmin ends (change ∷ older) h k =
-    lit_changes life dmin (ends_after ends older) change h.0 (lit_all life dmin ends older h.1 k)
+    lit_changes life dmin (ends_after ends older) (lit_at ends older) change h.0 (lit_all life dmin ends older h.1 k)
 
 -- of all ends that can be
-pub can_keep_lit : (life dmin : ℕ) (ends : Ends) → CanBe life dmin ends → LitKeeps life dmin ends
+pub can_keep_lit :
+    (life dmin : ℕ) (ends : Ends) (can : CanBe life dmin ends) →
+    LitKeeps life dmin ends (lit_at (new_ends can.of_master can.of_slave can.start) can.changes)
 can_keep_lit life dmin ends h =
-    subst (λ (e : Ends). LitKeeps life dmin e) (sym h.is)
+    subst (λ (e : Ends). LitKeeps life dmin e (lit_at (new_ends h.of_master h.of_slave h.start) h.changes)) (sym h.is)
     (lit_all life dmin (new_ends h.of_master h.of_slave h.start) h.changes h.come
      (lit_start life dmin h.start h.of_master h.of_slave h.master_quiet h.slave_quiet))
 
@@ -554,8 +566,8 @@ module_at : (f : Option Module) → is_some f ≡ true → (x : Module) × (f �
 module_at None e = cc
 module_at (Some x) e = (x, refl)
 
-pub deltas_by : (life dmin : ℕ) (w : Ends) → LitKeeps life dmin w → w.slave.link.state ≡ LinkOn → w.master.link.carrier ≡ true → KnowsDeltas w.slave w.master
-deltas_by life dmin w k on e =
+pub deltas_by : (life dmin : ℕ) (w : Ends) (lit : ℤ) → LitKeeps life dmin w lit → w.slave.link.state ≡ LinkOn → w.master.link.carrier ≡ true → KnowsDeltas w.slave w.master
+deltas_by life dmin w lit k on e =
     let out : w.slave.link.state ≢ Idle = λ i. (let x : LinkOn ≡ Idle = sym on ∙ i in cc) in
     let knows_at : knows w.slave.link.role w.slave.link.state ≡ true =
     ap (λ (r : Role). knows r w.slave.link.state) k.is_slave ∙ ap (λ (s : LinkState). knows Slave s) on in

@@ -15,7 +15,7 @@ use Rattle.wrp_handshake.proofs.Stages.{engaged, bound, numbered, opens, way_of,
 use Rattle.wrp_handshake.proofs.Times.{Calm, at_once, later, older, no_opener, not_old, too_late, calm_over}
 use Rattle.wrp_handshake.proofs.Keeps.{View, Ghost, Current, SentKeeps, IsOpen, IsEngaged, PortKeeps, FromLatest, Bond, Tied}
 use Rattle.wrp_handshake.proofs.Parts.{by_bool, mark_at, not_same_idle, not_idle, idle_shut, idle_unbound, idle_way, bound_engaged, began_cons, entered_now, entered_cons, joins, begins, stays_sent, stamped_in}
-use Rattle.wrp_handshake.proofs.Ports.{fresh, longer_sent}
+use Rattle.wrp_handshake.proofs.Ports.{fresh, longer_sent, turns_later}
 
 -- a port and its peer
 pub record Peers (life dmin : ℕ) (time : ℤ) (v : View) (g : Ghost) (q : View) (gq : Ghost) : Type 0 where
@@ -107,7 +107,8 @@ from_idle time role s e =
 shut_at : (role : Role) (s : LinkState) → s ≡ Idle → engaged role s ≡ false
 shut_at role s e = ap (λ (x : LinkState). engaged role x) e ∙ idle_shut role
 
-quiet_over :
+-- quiet time is over only long after it began
+pub quiet_over :
     (life dmin : ℕ) (time : ℤ) (v : View) (g : Ghost) →
     PortKeeps life dmin time v g → v.state ≡ Idle → v.carrier ≡ true → v.quiet ≡ 0 → (g.rest +ℤ pos (2 * life)) <ℤ time
 quiet_over life dmin time v g k idle lit over =
@@ -193,6 +194,9 @@ opening_moves life dmin time v g q gq next ticked by ms c t b out w s idle lit o
                               ];
                       }
                 ];
+          turns = (λ _ x. cc, k.turns);
+          left = (λ i. absurd (not_idle next out i), k.left);
+          awake = λ _. r;
         };
       tied = λ x. let y : engaged v.role next ≡ true = bound_engaged v.role next x in cc;
       back = λ x. bond_more life gq.bind gq.latest v.sent g.turn time ms (c.back x);
@@ -264,6 +268,9 @@ engaging_moves life dmin time v g q gq next ticked m at ms c t b out w s idle li
                   | inl x ↦ fresh life time v.role next (mark ∷ v.marks) g' f (at_once time) (λ _. n) x.0 x.1
                   | inr j ↦ old_turn life dmin time v g g' (mark ∷ v.marks) f k was r refl j
                 ];
+          turns = (λ _ _. at_once time, turns_later v.role g.turn time v.marks k.turn k.turns);
+          left = (λ i. absurd (not_idle next out i), k.left);
+          awake = λ _. r;
         };
       tied = λ x. cc;
       back = λ x. absurd (not_engaged_anew life dmin time v g q gq m at c told op was r x);
@@ -322,6 +329,9 @@ answering_moves life dmin time v g q gq next ticked m at ms c t b out w s awake 
                   | inl x ↦ fresh life time v.role next (mark ∷ v.marks) g' f (at_once time) (λ _. n) x.0 x.1
                   | inr j ↦ old_turn life dmin time v g g' (mark ∷ v.marks) f k was o.calm refl j
                 ];
+          turns = (λ _ _. at_once time, turns_later v.role g.turn time v.marks k.turn k.turns);
+          left = (λ i. absurd (not_idle next out i), k.left);
+          awake = λ _. o.calm;
         };
       tied =
         λ _.
@@ -392,6 +402,9 @@ going_on_moves life dmin time v g q gq next ticked by ms bind c t b out w s awak
                   | inl x ↦ fresh life time v.role next (mark ∷ v.marks) g' f k.turn (λ _. n) x.0 x.1
                   | inr j ↦ longer_sent life time v.role v.marks g g.rest bind mark f e refl (k.frames f j)
                 ];
+          turns = (λ x _. cc, k.turns);
+          left = (λ i. absurd (not_idle next out i), k.left);
+          awake = λ _. k.awake awake;
         };
       tied = λ _. bond;
       back = λ x. bond_more life gq.bind gq.latest v.sent g.turn time ms (c.back x);

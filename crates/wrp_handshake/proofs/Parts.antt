@@ -105,3 +105,8 @@ stamped_in time role s (m ∷ ms) sent f all h =
             | inr j ↦ inr j
           ]
     ]
+
+-- what holds of each element, weakened
+pub All-weaker : {A : Type 0} (P Q : A → Type 0) → ((x : A) → P x → Q x) → (xs : List A) → AllByRecursion P xs → AllByRecursion Q xs
+All-weaker P Q w [] h = tt
+All-weaker P Q w (x ∷ xs) h = (w x h.0, All-weaker P Q w xs h.1)

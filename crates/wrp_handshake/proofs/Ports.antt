@@ -12,8 +12,8 @@ use Rattle.wrp_check.specs.Stretches.{joined, stretches_of, BeganBy, LiesIn}
 use Rattle.wrp_handshake.specs.Ends.{Sending, stamped}
 use Rattle.wrp_handshake.proofs.Stages.{engaged, bound, numbered, shut_sends, bound_sends, opens, sends_entered, Sends, SendsAll}
 use Rattle.wrp_handshake.proofs.Times.{Calm, at_once, later, passes, passes_below}
-use Rattle.wrp_handshake.proofs.Keeps.{View, Ghost, Current, SentKeeps, IsOpen, IsEngaged, PortKeeps}
-use Rattle.wrp_handshake.proofs.Parts.{by_bool, mark_at, not_same_idle, idle_shut, idle_unbound, began_cons, began_later, entered_cons, entered_later, joins, stamped_in}
+use Rattle.wrp_handshake.proofs.Keeps.{View, Ghost, Current, SentKeeps, IsOpen, IsEngaged, TurnedBy, LeftBy, PortKeeps}
+use Rattle.wrp_handshake.proofs.Parts.{by_bool, mark_at, not_same_idle, idle_shut, idle_unbound, began_cons, began_later, entered_cons, entered_later, joins, stamped_in, All-weaker}
 
 -- a message that an engaged port sends now
 fresh_current :
@@ -44,6 +44,13 @@ fresh life time role state marks g f t en s e =
             (λ y. let k : numbered f.0 ≡ false = shut_sends role state f.0 y s in cc);
     } in
     subst (λ (x : ℤ). SentKeeps life time role marks g (f.0, x)) (sym e) now
+
+-- marks that were not after a time are not after a later one
+pub turns_later : (role : Role) (a b : ℤ) (marks : List Mark) → a ≤ℤ b → AllByRecursion (λ m. TurnedBy role a m) marks → AllByRecursion (λ m. TurnedBy role b m) marks
+turns_later role a b marks le h = All-weaker (λ m. TurnedBy role a m) (λ m. TurnedBy role b m) (λ m t was is. later (t was is) le) marks h
+
+pub left_later : (a b : ℤ) (marks : List Mark) → a ≤ℤ b → AllByRecursion (λ m. LeftBy a m) marks → AllByRecursion (λ m. LeftBy b m) marks
+left_later a b marks le h = All-weaker (λ m. LeftBy a m) (λ m. LeftBy b m) (λ m t is. later (t is) le) marks h
 
 -- the state stays
 pub stays :
@@ -83,6 +90,9 @@ stays life dmin time v g ticked quiet ms k t c s =
               | inl x ↦ fresh life time v.role v.state v.marks g f k.turn k.engages x.0 x.1
               | inr j ↦ k.frames f j
             ];
+      turns = k.turns;
+      left = k.left;
+      awake = k.awake;
     }
 
 -- a message of the last turn, where that stretch has one mark more
@@ -147,6 +157,9 @@ falls_engaged life dmin time v g carrier quiet ticked by k out en b t c =
       unbound = λ x. cc;
       sources = λ x. cc;
       frames = λ f i. longer_sent life time v.role v.marks g time g.bind mark f e refl (k.frames f i);
+      turns = (λ _ x. cc, k.turns);
+      left = (λ _. at_once time, left_later g.rest time v.marks k.rest k.left);
+      awake = λ o. absurd (o refl);
     }
 
 tail_is : (x y : List Mark) (xs ys : List (List Mark)) → x ∷ xs ≡ y ∷ ys → xs ≡ ys
@@ -210,6 +223,9 @@ falls_open life dmin time v g carrier quiet ticked by k out o b t c =
                       | inr z ↦ inr (still_current life time v.role v.state v.marks g time mark f o e z)
                     ];
             };
+      turns = (λ _ x. cc, k.turns);
+      left = (λ _. at_once time, left_later g.rest time v.marks k.rest k.left);
+      awake = λ o. absurd (o refl);
     }
 
 -- a port in IDLE begins its quiet time anew
@@ -248,6 +264,9 @@ rests life dmin time v g carrier quiet ticked k b t c =
                       | inr z ↦ inr (record { since = z.since; splits = z.splits; misses = z.misses; lies = z.lies; entered = z.entered })
                     ];
             };
+      turns = k.turns;
+      left = left_later g.rest time v.marks k.rest k.left;
+      awake = λ o. absurd (o refl);
     }
 
 -- time passes
@@ -292,4 +311,7 @@ passes_port life dmin time v g dt k =
       unbound = k.unbound;
       sources = k.sources;
       frames = λ f i. record { past = later (k.frames f i).past le; place = (k.frames f i).place };
+      turns = k.turns;
+      left = k.left;
+      awake = λ a. passes_below g.rest time (2 * life) dt (k.awake a);
     }

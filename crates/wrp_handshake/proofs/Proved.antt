@@ -1,15 +1,20 @@
 -- The laws, from what is kept.
-use Rattle.std.proofs.Common.{◌≡◌, subst, ℕ}
-use Rattle.wrp_base.specs.declared.link.LinkState.TheVariants.{LinkOn}
+use Rattle.std.proofs.Common.{◌≡◌, subst, ℕ, ℤ}
+use Rattle.std.specs.List.{AllByRecursion}
+use Rattle.wrp_base.specs.declared.link.LinkState.TheVariants.{Idle, LinkOn}
 use Rattle.wrp_base.specs.declared.link.Role.{Role}
 use Rattle.wrp_base.specs.declared.link.Role.TheVariants.{Master, Slave}
+use Rattle.wrp_base.specs.declared.message.WrMsg.TheVariants.{Lock as LOCK, Locked as LOCKED}
 use Rattle.wrp_check.specs.Handshake.{SameHandshake}
+use Rattle.wrp_check.specs.Laws.{IsHistory}
 use Rattle.wrp_handshake.specs.Ends.{Ends, other_of, end_of}
-use Rattle.wrp_handshake.specs.Laws.{OnInTheSameHandshake, OnWithTheDeltas}
+use Rattle.wrp_handshake.specs.Laws.{OnInTheSameHandshake, OnWithTheDeltas, MarksAreAHistory, IsAwake, IsLongAgo, QuietTimeOutlivesFrames, MasterStaysFromLock, SlaveStaysFromLocked}
 use Rattle.wrp_handshake.proofs.Keeps.{view_of}
 use Rattle.wrp_handshake.proofs.Changes.{EndsKeep, from_master, from_slave, can_keep}
-use Rattle.wrp_handshake.proofs.Lit.{can_keep_lit, deltas_by}
+use Rattle.wrp_handshake.proofs.Histories.{EndsLead, can_lead}
+use Rattle.wrp_handshake.proofs.Lit.{LitKeeps, can_keep_lit, deltas_by, lit_long_ago}
 use Rattle.wrp_handshake.proofs.Same.{same_by}
+use Rattle.wrp_handshake.proofs.Since.{since_of, no_stretch_since, no_lock_since, left_long_ago}
 
 at_end :
     (life dmin : ℕ) (ends : Ends) (role : Role) → EndsKeep life dmin ends → (end_of ends role).link.state ≡ LinkOn →
@@ -25,4 +30,36 @@ pub on_in_the_same_handshake : OnInTheSameHandshake
 on_in_the_same_handshake life dmin ends role can on = at_end life dmin ends role (can_keep life dmin ends can) on
 
 pub on_with_the_deltas : OnWithTheDeltas
-on_with_the_deltas life dmin ends can on lit = deltas_by life dmin ends (can_keep_lit life dmin ends can) on lit
+on_with_the_deltas life dmin ends can on lit = deltas_by life dmin ends _ (can_keep_lit life dmin ends can) on lit
+
+history_at : (ends : Ends) (role : Role) → EndsLead ends → IsHistory (end_of ends role).marks
+history_at ends Master h = h.master.history
+history_at ends Slave h = h.slave.history
+
+pub marks_are_a_history : MarksAreAHistory
+marks_are_a_history life dmin ends role can = history_at ends role (can_lead life dmin ends can)
+
+long_ago_at : (life dmin : ℕ) (ends : Ends) (role : Role) (lit : ℤ) → EndsKeep life dmin ends → LitKeeps life dmin ends lit → IsAwake (end_of ends role) →
+    IsLongAgo life ends.time lit × AllByRecursion (λ mark. mark.to ≡ Idle → IsLongAgo life ends.time mark.at) (end_of ends role).marks
+long_ago_at life dmin ends Master lit k l h =
+    (lit_long_ago life dmin ends.time lit ends.master l.master h, left_long_ago life dmin ends.time ends.master k.of_master k.master h)
+long_ago_at life dmin ends Slave lit k l h =
+    (lit_long_ago life dmin ends.time lit ends.slave l.slave h, left_long_ago life dmin ends.time ends.slave k.of_slave k.slave h)
+
+pub quiet_time_outlives_frames : QuietTimeOutlivesFrames
+quiet_time_outlives_frames life dmin ends role can h =
+    long_ago_at life dmin ends role _ (can_keep life dmin ends can) (can_keep_lit life dmin ends can) h
+
+pub master_stays_from_lock : MasterStaysFromLock
+master_stays_from_lock life dmin ends at can moved =
+    let k : EndsKeep life dmin ends = can_keep life dmin ends can in
+    no_stretch_since ends.master.link.role k.of_master.turn at ends.master.marks k.is_master
+    (since_of life dmin ends.time (view_of ends.slave) k.of_slave (view_of ends.master) k.of_master (LOCK, at) (from_slave life dmin ends k) moved.stays moved.among)
+    (can_lead life dmin ends can).master.history k.master.turns
+
+pub slave_stays_from_locked : SlaveStaysFromLocked
+slave_stays_from_locked life dmin ends at can moved =
+    let k : EndsKeep life dmin ends = can_keep life dmin ends can in
+    no_lock_since ends.slave.link.role k.of_slave.turn at ends.slave.marks k.is_slave
+    (since_of life dmin ends.time (view_of ends.master) k.of_master (view_of ends.slave) k.of_slave (LOCKED, at) (from_master life dmin ends k) moved.stays moved.among)
+    k.slave.turns

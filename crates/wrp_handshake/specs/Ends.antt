@@ -165,3 +165,13 @@ pub record CanBe (life dmin : ℕ) (ends : Ends) : Type 0 where
   pub slave_quiet : OutlivesFrames life dmin of_slave
   pub come : AllMayCome life dmin (new_ends of_master of_slave start) changes
   pub is : ends ≡ ends_after (new_ends of_master of_slave start) changes
+
+-- when the carriers last came, once a change came too
+abbrev pub lit_by : Ends → Change → ℤ → ℤ
+lit_by ends (Lights of_master of_slave) before = ends.time
+lit_by ends _ before = before
+
+-- when the carriers last came, over a list of changes, the newest first; the start, where they never did
+abbrev pub lit_at : Ends → List Change → ℤ
+lit_at ends [] = ends.time
+lit_at ends (change ∷ older) = lit_by (ends_after ends older) change (lit_at ends older)

@@ -1,6 +1,6 @@
 //! The laws of one link. Each function here does nothing: its contract is a law, and its proof shows that
 //! it holds after every list of changes that may come.
-ghost use Rattle.wrp_handshake.specs.Laws.{OnInTheSameHandshake, OnWithTheDeltas};
+ghost use Rattle.wrp_handshake.specs.Laws.{MarksAreAHistory, MasterStaysFromLock, OnInTheSameHandshake, OnWithTheDeltas, QuietTimeOutlivesFrames, SlaveStaysFromLocked};
 
 /// A port in WR_LINK_ON is in the same handshake as its peer.
 pub fn on_in_the_same_handshake()
@@ -11,4 +11,27 @@ pub fn on_in_the_same_handshake()
 /// both ends, and the peer's were told in the slave's present stretch.
 pub fn on_with_the_deltas()
     ensures { OnWithTheDeltas }
+{}
+
+/// The marks of a port are a history: each is a change of the state to which those before it led.
+pub fn marks_are_a_history()
+    ensures { MarksAreAHistory }
+{}
+
+/// A port that has its carrier and whose quiet time is over got the carrier, and left its last stretch,
+/// more than two lives of a frame ago.
+pub fn quiet_time_outlives_frames()
+    ensures { QuietTimeOutlivesFrames }
+{}
+
+/// From the sending of the LOCK that moved a slave on, its master begins no new stretch while the slave
+/// stays in its own.
+pub fn master_stays_from_lock()
+    ensures { MasterStaysFromLock }
+{}
+
+/// From the sending of the LOCKED that moved a master on, its slave comes from PRESENT to S_LOCK in no
+/// other stretch while the master stays in its own.
+pub fn slave_stays_from_locked()
+    ensures { SlaveStaysFromLocked }
 {}

@@ -7,4 +7,7 @@
 
 mod laws;
 
-pub use laws::{on_in_the_same_handshake, on_with_the_deltas};
+pub use laws::{
+    marks_are_a_history, master_stays_from_lock, on_in_the_same_handshake, on_with_the_deltas,
+    quiet_time_outlives_frames, slave_stays_from_locked,
+};
