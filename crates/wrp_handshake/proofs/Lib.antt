@@ -13,3 +13,4 @@ pub mod Same
 pub mod Since
 pub mod Stages
 pub mod Times
+pub mod Worked

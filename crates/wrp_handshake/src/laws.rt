@@ -1,6 +1,8 @@
 //! The laws of one link. Each function here does nothing: its contract is a law, and its proof shows that
 //! it holds after every list of changes that may come.
-ghost use Rattle.wrp_handshake.specs.Laws.{MarksAreAHistory, MasterStaysFromLock, OnInTheSameHandshake, OnWithTheDeltas, QuietTimeOutlivesFrames, SlaveStaysFromLocked};
+ghost use Rattle.wrp_handshake.specs.Laws.{MarksAreAHistory, MasterStaysFromLock, OnInTheSameHandshake};
+ghost use Rattle.wrp_handshake.specs.Laws.{OnWithTheDeltas, QuietTimeOutlivesFrames, SlaveStaysFromLocked};
+ghost use Rattle.wrp_handshake.specs.Worked.{WorkedHandshake};
 
 /// A port in WR_LINK_ON is in the same handshake as its peer.
 pub fn on_in_the_same_handshake()
@@ -34,4 +36,10 @@ pub fn master_stays_from_lock()
 /// other stretch while the master stays in its own.
 pub fn slave_stays_from_locked()
     ensures { SlaveStaysFromLocked }
+{}
+
+/// The laws are not empty: a handshake worked out from the first carrier to WR_LINK_ON at both ends is one
+/// that can be, and with one state of the master's history exchanged it is not the same handshake.
+pub fn worked_handshake()
+    ensures { WorkedHandshake }
 {}
