@@ -1,7 +1,7 @@
 -- A port's history as a list of its marks, the newest first, and the stretches that it consists of: the
 -- parts from a mark that leaves IDLE to the mark that leads back to IDLE, or to the end of the history.
 -- This project's profile.
-use Rattle.std.specs.Prelude.{◌≡◌, ◌⊎◌, ℤ, ◌≤ℤ◌, Bool, true, false, cond, List, [], ◌∷◌, Option, None, Some}
+use Rattle.std.specs.Prelude.{◌≡◌, ◌⊎◌, ℤ, ◌≤ℤ◌, Bool, true, false, if◌then◌else◌, List, [], ◌∷◌, Option, None, Some}
 use Rattle.std.specs.List.{AllByRecursion}
 use Rattle.wrp_base.specs.declared.link.LinkState.{LinkState}
 use Rattle.wrp_base.specs.declared.link.LinkState.TheVariants.{Idle}
@@ -21,7 +21,7 @@ joined mark (stretch ∷ stretches) = (mark ∷ stretch) ∷ stretches
 
 -- the stretches of a history with one more mark: a mark from IDLE begins a new one
 abbrev pub with_mark : Mark → List (List Mark) → List (List Mark)
-with_mark mark stretches = cond (is_idle mark.from) ((mark ∷ []) ∷ stretches) (joined mark stretches)
+with_mark mark stretches = if is_idle mark.from then (mark ∷ []) ∷ stretches else joined mark stretches
 
 -- the stretches of a history: the newest first, and in each the newest mark first
 abbrev pub stretches_of : List Mark → List (List Mark)

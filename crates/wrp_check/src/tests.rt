@@ -7,7 +7,7 @@ use std::alloc::{AllocError, Global};
 use std::test::Fail;
 use wrp_base::{LinkState, Mark};
 
-/// The history of a port that takes these steps, from IDLE on.
+// The history of a port that takes these steps, from IDLE on.
 fn history(alloc: Global, steps: &[Step]) -> Result<Vec<Mark>, AllocError> {
     let mut marks = Vec::new(alloc);
     let mut from = LinkState::Idle;

@@ -65,32 +65,32 @@ announce_owns : (fitted : Option Module) (l : LinkAt) (role : Role) (from : Link
 announce_owns fitted l Slave Idle suffix = under_owns _ fitted (Moves Present (SLAVE_PRESENT ∷ [])) (λ a b e. cc, tt)
 announce_owns fitted l _ _ suffix = tt
 
-resent_owns : (l : LinkAt) (s : LinkState) → (s ≢ Idle → is_some l.fitted ≡ true) → OwnAll l.fitted (resent l s)
+resent_owns : (l : LinkAt) (s : LinkState) → (s ≢ Idle → is_some l.own_module ≡ true) → OwnAll l.own_module (resent l s)
 resent_owns l Present h = (λ a b e. cc, tt)
 resent_owns l MLock h = (λ a b e. cc, tt)
 resent_owns l Locked h = (λ a b e. cc, tt)
-resent_owns l Calibrated h = (λ a b e. cc, (own_of l.fitted (h (λ e. cc)), tt))
+resent_owns l Calibrated h = (λ a b e. cc, (own_of l.own_module (h (λ e. cc)), tt))
 resent_owns l _ h = tt
 
-timer_owns : (l : LinkAt) (w : Option Waiting) → (l.state ≢ Idle → is_some l.fitted ≡ true) → OwnAll l.fitted (sent_by (timer_row l w))
+timer_owns : (l : LinkAt) (w : Option Waiting) → (l.state ≢ Idle → is_some l.own_module ≡ true) → OwnAll l.own_module (sent_by (timer_row l w))
 timer_owns l None h = tt
 timer_owns l (Some w) h =
-    cond_owns (eqb w.ticks 1) l.fitted (cond (ltb 0 w.retries) (Resends (resent l l.state)) Fails) Waits
-    (cond_owns (ltb 0 w.retries) l.fitted (Resends (resent l l.state)) Fails (resent_owns l l.state h) tt)
+    cond_owns (eqb w.ticks 1) l.own_module (cond (ltb 0 w.retries) (Resends (resent l l.state)) Fails) Waits
+    (cond_owns (ltb 0 w.retries) l.own_module (Resends (resent l l.state)) Fails (resent_owns l l.state h) tt)
     tt
 
-tick_owns : (l : LinkAt) (s : LinkState) (locked : Bool) → (l.state ≢ Idle → is_some l.fitted ≡ true) → l.state ≡ s → OwnAll l.fitted (sent_by (tick_row l s locked))
+tick_owns : (l : LinkAt) (s : LinkState) (locked : Bool) → (l.state ≢ Idle → is_some l.own_module ≡ true) → l.state ≡ s → OwnAll l.own_module (sent_by (tick_row l s locked))
 tick_owns l SLock true h e = (λ a b e. cc, tt)
-tick_owns l Calibration locked h e = (own_of l.fitted (h (λ i. let x : Calibration ≡ Idle = sym e ∙ i in cc)), tt)
+tick_owns l Calibration locked h e = (own_of l.own_module (h (λ i. let x : Calibration ≡ Idle = sym e ∙ i in cc)), tt)
 tick_owns l Idle locked h e = tt
 tick_owns l LinkOn locked h e = tt
 tick_owns l _ locked h e = timer_owns l l.waiting h
 
-pub row_owns : (l : LinkAt) (input : LinkIn) → (l.state ≢ Idle → is_some l.fitted ≡ true) → OwnAll l.fitted (sent_by (row_of l input))
-row_owns l (Msg m) h = under_owns l.carrier l.fitted (message_row l l.role m) (message_owns l.fitted l l.role m)
-row_owns l (Announce suffix) h = under_owns l.carrier l.fitted (announce_row l l.role l.state suffix) (announce_owns l.fitted l l.role l.state suffix)
-row_owns l (Tick locked) h = under_owns l.carrier l.fitted (tick_row l l.state locked) (tick_owns l l.state locked h refl)
-row_owns l CarrierDown h = under_owns l.carrier l.fitted CarrierGoes tt
+pub row_owns : (l : LinkAt) (input : LinkIn) → (l.state ≢ Idle → is_some l.own_module ≡ true) → OwnAll l.own_module (sent_by (row_of l input))
+row_owns l (Msg m) h = under_owns l.carrier l.own_module (message_row l l.role m) (message_owns l.own_module l l.role m)
+row_owns l (Announce suffix) h = under_owns l.carrier l.own_module (announce_row l l.role l.state suffix) (announce_owns l.own_module l l.role l.state suffix)
+row_owns l (Tick locked) h = under_owns l.carrier l.own_module (tick_row l l.state locked) (tick_owns l l.state locked h refl)
+row_owns l CarrierDown h = under_owns l.carrier l.own_module CarrierGoes tt
 row_owns l (CarrierUp fitted) h = tt
 
 -- ---- movers of the newest stretch

@@ -42,8 +42,8 @@ pub record LitPort (life dmin : ℕ) (time lit : ℤ) (l : LinkAt) (tick : ℤ) 
   pub calm : l.state ≡ Idle → l.carrier ≡ true → Calm dmin l.set.quiet l.quiet tick lit
   pub awake : l.state ≢ Idle → (lit +ℤ pos (2 * life)) <ℤ time
   pub lit_on : l.state ≢ Idle → l.carrier ≡ true
-  pub listed : l.state ≢ Idle → is_some l.fitted ≡ true
-  pub told : l.carrier ≡ true → (f : Sending) → IsAmong f sent → lit <ℤ f.1 → IsOwn l.fitted f.0
+  pub listed : l.state ≢ Idle → is_some l.own_module ≡ true
+  pub told : l.carrier ≡ true → (f : Sending) → IsAmong f sent → lit <ℤ f.1 → IsOwn l.own_module f.0
   pub knows : (tx rx : ℕ) → l.deltas ≡ Some (tx, rx) → Among marks tx rx
 
 abbrev pub LitAt : (life dmin : ℕ) → (time lit : ℤ) → Port → Type 0
@@ -52,7 +52,7 @@ LitAt life dmin time lit p = LitPort life dmin time lit p.link p.ticked p.marks 
 -- what moved a port, the module at the peer told
 abbrev pub LitPair : Port → Port → Type 0
 LitPair p q =
-    p.link.state ≢ Idle → q.link.carrier ≡ true → (m : Sending) → IsAmong m (now_moved p.marks) → IsOwn q.link.fitted m.0
+    p.link.state ≢ Idle → q.link.carrier ≡ true → (m : Sending) → IsAmong m (now_moved p.marks) → IsOwn q.link.own_module m.0
 
 past_now : (life dmin : ℕ) (time : ℤ) (fitted : Option Module) (ms : List WrMsg) (sent : List Sending) →
     OwnAll fitted ms → ((f : Sending) → IsAmong f sent → f.1 ≤ℤ time) → (f : Sending) → IsAmong f (stamped time ms sent) → f.1 ≤ℤ time
@@ -70,7 +70,7 @@ lit_same :
     IsOrdered (record l { quiet = quiet; holdoff = holdoff; waiting = waiting; on_ticks = on_ticks }) →
     tick' ≤ℤ time →
     (l.state ≡ Idle → l.carrier ≡ true → Calm dmin l.set.quiet quiet tick' lit) →
-    OwnAll l.fitted ms →
+    OwnAll l.own_module ms →
     LitPort life dmin time lit (record l { quiet = quiet; holdoff = holdoff; waiting = waiting; on_ticks = on_ticks }) tick'
     (marked time l.state l.state None marks) (stamped time ms sent)
 lit_same life dmin time lit l tick marks sent quiet holdoff on_ticks waiting tick' ms k o t c own =
@@ -83,14 +83,14 @@ lit_same life dmin time lit l tick marks sent quiet holdoff on_ticks waiting tic
       counts = k.counts;
       tick_past = t;
       lit_past = k.lit_past;
-      past = past_now life dmin time l.fitted ms sent own k.past;
+      past = past_now life dmin time l.own_module ms sent own k.past;
       calm = c;
       awake = k.awake;
       lit_on = k.lit_on;
       listed = k.listed;
       told =
         λ e f i new.
-            elim (stamped_own time l.fitted ms sent f own i) [ inl x ↦ x.0 | inr j ↦ k.told e f j new ];
+            elim (stamped_own time l.own_module ms sent f own i) [ inl x ↦ x.0 | inr j ↦ k.told e f j new ];
       knows = k.knows;
     })
 
@@ -99,7 +99,7 @@ other_mover time s by marks = sym (marked_same time s s None marks (same_state s
 
 lit_stays :
     (life dmin : ℕ) (time lit : ℤ) (p : Port) (input : LinkIn) (at : ℤ) (waiting : Option Waiting) (ms : List WrMsg) →
-    LitAt life dmin time lit p → IsOrdered (record p.link { waiting = waiting }) → OwnAll p.link.fitted ms →
+    LitAt life dmin time lit p → IsOrdered (record p.link { waiting = waiting }) → OwnAll p.link.own_module ms →
     LitPort life dmin time lit (record p.link { waiting = waiting }) (ticked_by input time p.ticked)
     (marked time p.link.state p.link.state (mover_of input at) p.marks) (stamped time ms p.sent)
 lit_stays life dmin time lit p input at waiting ms k o own =
@@ -114,7 +114,7 @@ lit_stays life dmin time lit p input at waiting ms k o own =
 
 -- where a move begins
 from_where : (role : Role) (from : LinkState) (l : LinkAt) (input : LinkIn) (next : LinkState) → Kind role from l input next →
-    ((from ≡ Idle) × (l.carrier ≡ true) × (is_some l.fitted ≡ true) × (l.quiet ≡ 0)) ⊎ (from ≢ Idle)
+    ((from ≡ Idle) × (l.carrier ≡ true) × (is_some l.own_module ≡ true) × (l.quiet ≡ 0)) ⊎ (from ≢ Idle)
 from_where role from l input next (opening i c f q s a) = inl (i, c, f, q)
 from_where role from l input next (engaging i c f q e b m r) = inl (i, c, f, q)
 from_where role from l input next (answering a e f b m r) = inr a
@@ -125,7 +125,7 @@ from_where role from l input next (going_on e u f b) = inr (engaged_awake role f
 record FoundAwake (life : ℕ) (time lit : ℤ) (l : LinkAt) : Type 0 where
   long : (lit +ℤ pos (2 * life)) <ℤ time
   lit_on : l.carrier ≡ true
-  listed : is_some l.fitted ≡ true
+  listed : is_some l.own_module ≡ true
 
 awake_at :
     (life dmin : ℕ) (time lit : ℤ) (l : LinkAt) (tick : ℤ) (marks : List Mark) (sent : List Sending) (input : LinkIn) (next : LinkState) →
@@ -147,7 +147,7 @@ awake_at life dmin time lit l tick marks sent input next k kind =
 lit_moves :
     (life dmin : ℕ) (time lit : ℤ) (p : Port) (input : LinkIn) (at : ℤ) (next : LinkState) (deltas : Option (ℕ × ℕ)) (ms : List WrMsg) →
     LitAt life dmin time lit p → FitsMove p.link.role p.link.state p.link input next ms →
-    IsOrdered (record (entering p.link next) { deltas = deltas }) → OwnAll p.link.fitted ms →
+    IsOrdered (record (entering p.link next) { deltas = deltas }) → OwnAll p.link.own_module ms →
     ((tx rx : ℕ) → deltas ≡ Some (tx, rx) → Among (mark_at time p.link.state next (mover_of input at) ∷ p.marks) tx rx) →
     LitPort life dmin time lit (record (entering p.link next) { deltas = deltas }) (ticked_by input time p.ticked)
     (marked time p.link.state next (mover_of input at) p.marks) (stamped time ms p.sent)
@@ -161,14 +161,14 @@ lit_moves life dmin time lit p input at next deltas ms k f o own kn =
       counts = k.counts;
       tick_past = tick_past input time p.ticked k.tick_past;
       lit_past = k.lit_past;
-      past = past_now life dmin time p.link.fitted ms p.sent own k.past;
+      past = past_now life dmin time p.link.own_module ms p.sent own k.past;
       calm = λ i. absurd (not_idle next f.leaves i);
       awake = λ _. a.long;
       lit_on = λ _. a.lit_on;
       listed = λ _. a.listed;
       told =
         λ e g i new.
-            elim (stamped_own time p.link.fitted ms p.sent g own i) [ inl x ↦ x.0 | inr j ↦ k.told e g j new ];
+            elim (stamped_own time p.link.own_module ms p.sent g own i) [ inl x ↦ x.0 | inr j ↦ k.told e g j new ];
       knows = kn;
     })
 
@@ -207,7 +207,7 @@ lit_idle :
     IsOrdered l → l.state ≡ Idle → 2 * life < (l.set.quiet - 1) * dmin → tick ≤ℤ time → lit ≤ℤ time →
     ((f : Sending) → IsAmong f sent → f.1 ≤ℤ time) →
     (l.carrier ≡ true → Calm dmin l.set.quiet l.quiet tick lit) →
-    (l.carrier ≡ true → (f : Sending) → IsAmong f sent → lit <ℤ f.1 → IsOwn l.fitted f.0) →
+    (l.carrier ≡ true → (f : Sending) → IsAmong f sent → lit <ℤ f.1 → IsOwn l.own_module f.0) →
     LitPort life dmin time lit l tick marks sent
 lit_idle life dmin time lit l tick marks sent o idle counts t lp past calm told =
     record {
@@ -245,7 +245,7 @@ lit_row :
     (life dmin : ℕ) (time lit : ℤ) (p q : Port) (input : LinkIn) (at : ℤ) (row : Row) →
     LitAt life dmin time lit p → MayHear life dmin time p q input at → IsNoCarrier input →
     RowFits p.link.role p.link.state p.link input row → Fits p.link.role p.link.state input row →
-    IsOrdered (by_row p.link row) → OwnAll p.link.fitted (sent_by row) →
+    IsOrdered (by_row p.link row) → OwnAll p.link.own_module (sent_by row) →
     LitAt life dmin time lit (port_by time p input at row)
 lit_row life dmin time lit p q input at NoRow k h n f g o own = lit_stays life dmin time lit p input at p.link.waiting [] k o tt
 lit_row life dmin time lit p q input at (Stays ms) k h n f g o own = lit_stays life dmin time lit p input at p.link.waiting ms k o own
@@ -296,7 +296,7 @@ sent_since life lit at time h k = omega (arith, ints)
 told_now :
     (life dmin : ℕ) (time lit : ℤ) (p q : Port) (input : LinkIn) (at : ℤ) (m : Sending) →
     LitAt life dmin time lit q → MayHear life dmin time p q input at → (lit +ℤ pos (2 * life)) <ℤ time →
-    q.link.carrier ≡ true → input ≡ Msg m.0 → IsOwn q.link.fitted m.0
+    q.link.carrier ≡ true → input ≡ Msg m.0 → IsOwn q.link.own_module m.0
 told_now life dmin time lit p q input at m k h long e is =
     let there : MayHear life dmin time p q (Msg m.0) at = subst (λ (i : LinkIn). MayHear life dmin time p q i at) is h in
     k.told e (m.0, at) there.0 (sent_since life lit at time long there.1)
@@ -305,7 +305,7 @@ pair_moves :
     (life dmin : ℕ) (time lit : ℤ) (p q : Port) (input : LinkIn) (at : ℤ) (next : LinkState) (ms : List WrMsg) →
     LitAt life dmin time lit p → LitAt life dmin time lit q → LitPair p q → MayHear life dmin time p q input at →
     FitsMove p.link.role p.link.state p.link input next ms →
-    q.link.carrier ≡ true → (m : Sending) → IsAmong m (now_moved (marked time p.link.state next (mover_of input at) p.marks)) → IsOwn q.link.fitted m.0
+    q.link.carrier ≡ true → (m : Sending) → IsAmong m (now_moved (marked time p.link.state next (mover_of input at) p.marks)) → IsOwn q.link.own_module m.0
 pair_moves life dmin time lit p q input at next ms k kq pair h f e m i =
     let a : FoundAwake life time lit p.link = awake_at life dmin time lit p.link p.ticked p.marks p.sent input next k f.kind in
     let mark : Mark = mark_at time p.link.state next (mover_of input at) in
@@ -327,7 +327,7 @@ pair_moves life dmin time lit p q input at next ms k kq pair h f e m i =
 
 pair_stays :
     (p q : Port) (time : ℤ) (by : Option Sending) → LitPair p q →
-    p.link.state ≢ Idle → q.link.carrier ≡ true → (m : Sending) → IsAmong m (now_moved (marked time p.link.state p.link.state by p.marks)) → IsOwn q.link.fitted m.0
+    p.link.state ≢ Idle → q.link.carrier ≡ true → (m : Sending) → IsAmong m (now_moved (marked time p.link.state p.link.state by p.marks)) → IsOwn q.link.own_module m.0
 pair_stays p q time by pair a e m i =
     pair a e m
     (subst (λ (xs : List Mark). IsAmong m (now_moved xs)) (sym (marked_same time p.link.state p.link.state by p.marks (same_state p.link.state))) i)
@@ -335,7 +335,7 @@ pair_stays p q time by pair a e m i =
 counts_pair :
     (p q : Port) (time : ℤ) (by : Option Sending) (s : LinkState) → LitPair p q →
     (counted p.link s).state ≢ Idle → q.link.carrier ≡ true → (m : Sending) →
-    IsAmong m (now_moved (marked time p.link.state (counted p.link s).state by p.marks)) → IsOwn q.link.fitted m.0
+    IsAmong m (now_moved (marked time p.link.state (counted p.link s).state by p.marks)) → IsOwn q.link.own_module m.0
 counts_pair p q time by Idle pair a e m i = pair_stays p q time by pair a e m i
 counts_pair p q time by _ pair a e m i = pair_stays p q time by pair a e m i
 
@@ -357,7 +357,7 @@ pair_row life dmin time lit p q input at CarrierGoes k kq pair h f = λ a. absur
 -- the peer's module stays while its carrier stays
 record SameModule (l l' : LinkAt) : Type 0 where
   was : l.carrier ≡ true
-  same : l'.fitted ≡ l.fitted
+  same : l'.own_module ≡ l.own_module
 
 counted_module : (l : LinkAt) (s : LinkState) → (counted l s).carrier ≡ true → SameModule l (counted l s)
 counted_module l Idle e = record { was = e; same = refl }
@@ -572,9 +572,9 @@ deltas_by life dmin w lit k on e =
     let knows_at : knows w.slave.link.role w.slave.link.state ≡ true =
     ap (λ (r : Role). knows r w.slave.link.state) k.is_slave ∙ ap (λ (s : LinkState). knows Slave s) on in
     let known : (t : ℕ × ℕ) × (w.slave.link.deltas ≡ Some t) = known_at w.slave.link.deltas (k.slave.ordered.known ∙ knows_at) in
-    let own : (x : Module) × (w.slave.link.fitted ≡ Some x) = module_at w.slave.link.fitted (k.slave.listed out) in
+    let own : (x : Module) × (w.slave.link.own_module ≡ Some x) = module_at w.slave.link.own_module (k.slave.listed out) in
     let among : Among w.slave.marks known.0.0 known.0.1 = k.slave.knows known.0.0 known.0.1 known.1 in
-    let x : (y : Module) × ((w.master.link.fitted ≡ Some y) × (known.0.0 ≡ y.tx) × (known.0.1 ≡ y.rx)) =
+    let x : (y : Module) × ((w.master.link.own_module ≡ Some y) × (known.0.0 ≡ y.tx) × (known.0.1 ≡ y.rx)) =
     k.up out e (CALIBRATED known.0.0 known.0.1, among.0) among.1 known.0.0 known.0.1 refl in
     record {
       own = own.0;

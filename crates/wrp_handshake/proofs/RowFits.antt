@@ -44,8 +44,8 @@ and_right false b e = cc
 over : (l : LinkAt) → may_leave_idle l ≡ true → l.quiet ≡ 0
 over l e = eqb-true l.quiet 0 (and_left (eqb l.quiet 0) _ e)
 
-listed : (l : LinkAt) → may_leave_idle l ≡ true → is_some l.fitted ≡ true
-listed l e = and_left (is_some l.fitted) l.set.wr (and_right (eqb l.quiet 0) _ e)
+listed : (l : LinkAt) → may_leave_idle l ≡ true → is_some l.own_module ≡ true
+listed l e = and_left (is_some l.own_module) l.set.wr (and_right (eqb l.quiet 0) _ e)
 
 calibrated_sent : (role : Role) (m : Option Module) → Sends role Calibrated (own_calibrated m)
 calibrated_sent Slave None = tt
@@ -108,8 +108,8 @@ resent_fits : (l : LinkAt) (role : Role) (s : LinkState) → Belongs role s → 
 resent_fits l Slave Present b = (tt, tt)
 resent_fits l Master MLock b = (tt, tt)
 resent_fits l Slave Locked b = (tt, tt)
-resent_fits l Slave Calibrated b = (tt, (calibrated_sent Slave l.fitted, tt))
-resent_fits l Master Calibrated b = (tt, (calibrated_sent Master l.fitted, tt))
+resent_fits l Slave Calibrated b = (tt, (calibrated_sent Slave l.own_module, tt))
+resent_fits l Master Calibrated b = (tt, (calibrated_sent Master l.own_module, tt))
 resent_fits l Slave MLock b = absurd b
 resent_fits l Master Present b = absurd b
 resent_fits l Master Locked b = absurd b
@@ -149,12 +149,12 @@ tick_fits Master SLock l true r s b = absurd b
 tick_fits Slave Calibration l locked r s b =
     record {
       kind = going_on refl refl refl refl; way = refl; belongs = tt; changes = refl; leaves = refl;
-      sends = (calibrated_sent Slave l.fitted, tt);
+      sends = (calibrated_sent Slave l.own_module, tt);
     }
 tick_fits Master Calibration l locked r s b =
     record {
       kind = going_on refl refl refl refl; way = refl; belongs = tt; changes = refl; leaves = refl;
-      sends = (calibrated_sent Master l.fitted, tt);
+      sends = (calibrated_sent Master l.own_module, tt);
     }
 tick_fits role Idle l locked r s b = (locked, refl)
 tick_fits role LinkOn l locked r s b = (locked, refl)

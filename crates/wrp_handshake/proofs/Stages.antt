@@ -131,11 +131,11 @@ sends_entered time marks _ _ _ h e = absurd h
 pub data Kind (role : Role) (from : LinkState) (l : LinkAt) (input : LinkIn) (next : LinkState) : Type 0 where
   -- a slave in IDLE to PRESENT
   opening :
-    from ≡ Idle → l.carrier ≡ true → is_some l.fitted ≡ true → l.quiet ≡ 0 → engaged role next ≡ false →
+    from ≡ Idle → l.carrier ≡ true → is_some l.own_module ≡ true → l.quiet ≡ 0 → engaged role next ≡ false →
     ((suffix : Option ℕ) × (input ≡ Announce suffix)) → Kind role from l input next
   -- a master in IDLE to M_LOCK
   engaging :
-    from ≡ Idle → l.carrier ≡ true → is_some l.fitted ≡ true → l.quiet ≡ 0 → engaged role next ≡ true → bound role next ≡ false →
+    from ≡ Idle → l.carrier ≡ true → is_some l.own_module ≡ true → l.quiet ≡ 0 → engaged role next ≡ true → bound role next ≡ false →
     input ≡ Msg SLAVE_PRESENT → role ≡ Master → Kind role from l input next
   -- a slave in PRESENT to S_LOCK
   answering :

@@ -10,8 +10,8 @@ use Rattle.wrp_handshake.specs.Ends.{Port, IsAmong}
 pub record KnowsDeltas (slave master : Port) : Type 0 where
   pub own : Module
   pub peers : Module
-  pub own_is : slave.link.fitted ≡ Some own
-  pub peers_is : master.link.fitted ≡ Some peers
+  pub own_is : slave.link.own_module ≡ Some own
+  pub peers_is : master.link.own_module ≡ Some peers
   pub deltas : slave.link.deltas ≡ Some (peers.tx, peers.rx)
   pub at : ℤ
   pub told : IsAmong (CALIBRATED peers.tx peers.rx, at) (movers_of (newest_of (stretches_of slave.marks)))

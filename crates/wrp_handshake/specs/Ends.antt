@@ -1,7 +1,7 @@
 -- One link by itself: its two ports with all that they ever sent, and the ways in which it changes. What
 -- is lost, late, repeated or out of order is a choice of changes; the physics behind it is this project's
 -- profile.
-use Rattle.std.specs.Prelude.{◌≡◌, ◌⊎◌, ℕ, ◌-◌, ◌*◌, ◌<◌, ℤ, pos, ◌+ℤ◌, ◌≤ℤ◌, cond, List, [], ◌∷◌, Option, None, Some}
+use Rattle.std.specs.Prelude.{◌≡◌, ◌⊎◌, ℕ, ◌-◌, ◌*◌, ◌<◌, ℤ, pos, ◌+ℤ◌, ◌≤ℤ◌, if◌then◌else◌, List, [], ◌∷◌, Option, None, Some}
 use Rattle.wrp_base.specs.declared.link.LinkState.{LinkState}
 use Rattle.wrp_base.specs.declared.link.Mark.{Mark}
 use Rattle.wrp_base.specs.declared.link.Module.{Module}
@@ -73,7 +73,7 @@ ticked_by _ time before = before
 -- the history once the state became another, or stayed
 abbrev pub marked : ℤ → LinkState → LinkState → Option Sending → List Mark → List Mark
 marked time old new mover marks =
-    cond (is_same old new) marks (record { at = time; from = old; to = new; by = mover } ∷ marks)
+    if is_same old new then marks else record { at = time; from = old; to = new; by = mover } ∷ marks
 
 -- a port after this row of the handshake table; an input that is a message was sent at the second time
 abbrev pub port_by : ℤ → Port → LinkIn → ℤ → Row → Port

@@ -7,10 +7,10 @@ use wrp_base::LinkState::{
 use wrp_base::Role::{Master, Slave};
 use wrp_base::{LinkState, Role, Tau, WrMsg};
 
-/// When a port changed, to which state, and the message that moved it with its sending time.
+// When a port changed, to which state, and the message that moved it with its sending time.
 pub type Step = (Tau, LinkState, Option<(WrMsg, Tau)>);
 
-/// Two histories, the role of the first one's port, and the verdict on it.
+// Two histories, the role of the first one's port, and the verdict on it.
 pub struct Case {
     pub name: &'static str,
     pub own: &'static [Step],
@@ -27,7 +27,7 @@ const CALIBRATE: WrMsg = WrMsg::Calibrate {
 
 const CALIBRATED: WrMsg = WrMsg::Calibrated { tx: 7, rx: 8 };
 
-/// A slave's whole way, and that of its master.
+// A slave's whole way, and that of its master.
 const SLAVE: [Step; 7] = [
     (10, Present, None),
     (35, SLock, Some((WrMsg::Lock, 30))),
