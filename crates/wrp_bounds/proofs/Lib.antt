@@ -1,0 +1,6 @@
+pub mod Counts
+pub mod Kept
+pub mod Placed
+pub mod Rounding
+pub mod Rooms
+pub mod WayUp

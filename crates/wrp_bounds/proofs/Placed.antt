@@ -1,0 +1,39 @@
+-- A link that is found above a node is one of the network's, so its ends are nodes.
+use Rattle.std.proofs.Common.{◌≡◌, ℕ, zero, suc, ◌+◌, refl, ap, sym, ◌∙◌, List, [], ◌∷◌, Bool, true, false, Option, Some, None, slice_get, Bor, IfSome, option_map}
+use Rattle.std.specs.Prelude.{◌==◌, find}
+use Rattle.wrp_base.specs.declared.configuration.NetCfg.{NetCfg}
+use Rattle.wrp_base.specs.declared.network.LinkCfg.{LinkCfg}
+use Rattle.wrp_base.specs.Network.{HasRanges, IsTree, IsLink, link_above}
+use Rattle.wrp_base.specs.declared.network.NodeCfg.{NodeCfg}
+use Rattle.wrp_bounds.specs.Bounds.{IsPlaced, numbers_over, numbers_between}
+
+-- what a search finds stands at some place
+pub found_at : {X : Type 0} (p : X → Bool) (xs : List X) (x : X) → find p xs ≡ Some x → (i : ℕ) × (slice_get xs i ≡ Some x)
+found_at p [] x found = absurd (cc)
+found_at p (y ∷ ys) x found =
+    elim (p y) as (λ b. p y ≡ b → (i : ℕ) × (slice_get (y ∷ ys) i ≡ Some x)) [
+      | true ↦ λ is. (0, rw is at found)
+      | false ↦ λ is. let later : (i : ℕ) × (slice_get ys i ≡ Some x) = found_at p ys x (rw is at found) in (suc later.0, later.1)
+    ] refl
+
+-- the link above a node is placed
+pub placed_above : (net : NetCfg) (n : ℕ) (link : LinkCfg) → HasRanges net → IsTree net → link_above net n ≡ Some link → IsPlaced net link
+placed_above net n link ranges tree found =
+    let at : (l : ℕ) × IsLink net l link = found_at (λ link. link.lower == n) net.links.items link found in
+    record {
+      ranges = ranges.links at.0 link at.1;
+      upper = (tree.ends at.0 link at.1).0;
+      lower = (tree.ends at.0 link at.1).1;
+    }
+
+-- the same of a reference to it
+pub placed_where_found : (net : NetCfg) (n : ℕ) (found : Option (Bor LinkCfg)) → HasRanges net → IsTree net → option_map (λ link. link.now) found ≡ link_above net n → IfSome found (λ link. IsPlaced net link.now)
+placed_where_found net n None ranges tree is = tt
+placed_where_found net n (Some link) ranges tree is = placed_above net n link.now ranges tree (sym is)
+
+-- the numbers of a hop between two nodes
+pub numbers_over-at : (net : NetCfg) (link : LinkCfg) (own parent : NodeCfg) →
+    slice_get net.nodes.items link.lower ≡ Some own → slice_get net.nodes.items link.upper ≡ Some parent →
+    numbers_over net link ≡ numbers_between net link (Some own) (Some parent)
+unfolding numbers_over
+numbers_over-at net link own parent below above = rw (below, above) refl

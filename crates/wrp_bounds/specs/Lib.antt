@@ -1,0 +1,5 @@
+pub mod Bounds
+pub mod Hop
+pub mod Inequalities
+pub mod Motion
+pub mod Times

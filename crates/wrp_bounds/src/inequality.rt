@@ -1,0 +1,81 @@
+//! One inequality: its number, its sides, and how they have to lie.
+ghost use Rattle.std.specs.Prelude.{◌≡◌, ◌^◌, ◌≤◌, List, find, not};
+
+use wrp_base::Tau;
+
+/// The least numbered inequality that a network breaks, at the first node in file order, and both its
+/// sides: in tau, or in ticks or counts where the inequality is of such.
+#[derive(Clone, Copy, Debug, Default, PartialEq, Eq)]
+pub struct Clash {
+    /// The inequality's number: 1 to 9.
+    pub number: u8,
+    /// Its left side.
+    pub left: Tau,
+    /// Its right side.
+    pub right: Tau,
+}
+
+/// How the left side of an inequality has to lie to the right one.
+#[derive(Clone, Copy, Debug, PartialEq, Eq)]
+pub enum Order {
+    /// Below it.
+    Less,
+    /// Not above it.
+    AtMost,
+    /// Above it.
+    More,
+}
+
+/// One inequality.
+#[derive(Clone, Copy, Debug, PartialEq, Eq)]
+pub struct Inequality {
+    /// Its number: 1 to 9.
+    pub number: u8,
+    /// Its left side.
+    pub left: Tau,
+    /// How the left side has to lie to the right one.
+    pub order: Order,
+    /// Its right side.
+    pub right: Tau,
+}
+
+impl Inequality {
+    ghost use Rattle.std.specs.Prelude.{◌≡◌, ◌^◌, ◌≤◌, not};
+    ghost use Rattle.wrp_bounds.specs.Inequalities.{inequality, is_broken};
+
+    // An inequality of sides without sign.
+    pub fn new(number: u8, left: u128, order: Order, right: u128) -> Inequality
+        requires left { left ≤ 2 ^ 120 }
+        requires right { right ≤ 2 ^ 120 }
+        ensures { result ≡ inequality number left order right }
+    {
+        Inequality {
+            number,
+            left: left as i128,
+            order,
+            right: right as i128,
+        }
+    }
+
+    // Whether its sides do not lie as they have to.
+    pub fn is_broken(&self) -> bool
+        ensures { result ≡ is_broken self.now }
+    {
+        match self.order {
+            Order::Less => self.left >= self.right,
+            Order::AtMost => self.left > self.right,
+            Order::More => self.left <= self.right,
+        }
+    }
+
+    // What is told of it where it is broken.
+    pub fn clash(&self) -> Clash
+        ensures { result ≡ record { number = self.now.number; left = self.now.left; right = self.now.right } }
+    {
+        Clash {
+            number: self.number,
+            left: self.left,
+            right: self.right,
+        }
+    }
+}

@@ -1,0 +1,1 @@
+//! Laws of the bounds, over all networks. Each function computes nothing.
