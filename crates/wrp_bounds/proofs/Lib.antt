@@ -1,4 +1,5 @@
 pub mod Counts
+pub mod FirstBroken
 pub mod Kept
 pub mod Placed
 pub mod Rounding

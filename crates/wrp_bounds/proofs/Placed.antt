@@ -1,5 +1,6 @@
 -- A link that is found above a node is one of the network's, so its ends are nodes.
-use Rattle.std.proofs.Common.{◌≡◌, ℕ, zero, suc, ◌+◌, refl, ap, sym, ◌∙◌, List, [], ◌∷◌, Bool, true, false, Option, Some, None, slice_get, Bor, IfSome, option_map}
+use Rattle.std.proofs.lemmas.Option.{slice_get_read}
+use Rattle.std.proofs.Common.{◌≡◌, ℕ, zero, suc, ◌+◌, ◌<◌, length, get_or, refl, ap, sym, ◌∙◌, List, [], ◌∷◌, Bool, true, false, Option, Some, None, slice_get, Bor, IfSome, option_map}
 use Rattle.std.specs.Prelude.{◌==◌, find}
 use Rattle.wrp_base.specs.declared.configuration.NetCfg.{NetCfg}
 use Rattle.wrp_base.specs.declared.network.LinkCfg.{LinkCfg}
@@ -37,3 +38,7 @@ pub numbers_over-at : (net : NetCfg) (link : LinkCfg) (own parent : NodeCfg) →
     numbers_over net link ≡ numbers_between net link (Some own) (Some parent)
 unfolding numbers_over
 numbers_over-at net link own parent below above = rw (below, above) refl
+
+-- what is read at a node's place is that node
+pub node_read : (read items : List NodeCfg) (i n : ℕ) (node : NodeCfg) → read ≡ items → i ≡ n → n < length items → node ≡ get_or read i node → slice_get items n ≡ Some node
+node_read read items i n node same place within is = slice_get_read items (length items) n node refl within (cc)

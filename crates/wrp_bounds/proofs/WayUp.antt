@@ -1,5 +1,5 @@
 -- The way up from a node: its links, one by one.
-use Rattle.std.proofs.Common.{◌≡◌, ℕ, zero, suc, ◌+◌, ◌-◌, ◌<◌, refl, ap, sym, ◌∙◌, List, [], ◌∷◌, arith, Some, None}
+use Rattle.std.proofs.Common.{◌≡◌, ℕ, zero, suc, ◌+◌, ◌-◌, ◌<◌, ◌≤◌, refl, ap, sym, ◌∙◌, List, [], ◌∷◌, arith, Some, None}
 use Rattle.std.specs.Prelude.{sum_by}
 use Rattle.std.proofs.lemmas.List.Sums.{sum_by-cons}
 use Rattle.wrp_base.specs.declared.configuration.NetCfg.{NetCfg}
@@ -35,4 +35,12 @@ sum_on net n link passed sum hop held whole few so_far above hop_is held_is =
 pub sum_at_top : (net : NetCfg) (n most sum whole : ℕ) → sum + sum_by (step_over net) (links_up most net n) ≡ whole → link_above net n ≡ None → sum ≡ whole
 sum_at_top net n most sum whole so_far top =
     let none : sum_by (step_over net) (links_up most net n) ≡ 0 = ap (sum_by (step_over net)) (links_up-top most net n top) in
+    omega (arith, none)
+
+-- and after eight links too
+pub sum_at_end : (net : NetCfg) (n passed sum whole : ℕ) → 8 ≤ passed → sum + sum_by (step_over net) (links_up (8 - passed) net n) ≡ whole → sum ≡ whole
+unfolding links_up
+sum_at_end net n passed sum whole all so_far =
+    let left : 8 - passed ≡ 0 = omega arith in
+    let none : sum_by (step_over net) (links_up (8 - passed) net n) ≡ 0 = ap (λ (most : ℕ). sum_by (step_over net) (links_up most net n)) left in
     omega (arith, none)

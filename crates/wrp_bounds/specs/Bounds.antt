@@ -1,7 +1,7 @@
 -- The bounds of a network's nodes: hop, path and holdover, by the tree of its links (this project's
 -- profile).
 use Rattle.std.specs.Prelude.{ℕ, zero, suc, ◌≡◌, ◌+◌, ◌*◌, ◌<◌, max, unsigned_abs, if◌then◌else◌, List, [], ◌∷◌, sum_by, Option, None, Some, slice_get}
-use Rattle.std.specs.Option.{is_some, option_map_or}
+use Rattle.std.specs.Option.{is_some, option_map_or, option_and_then}
 use Rattle.wrp_base.specs.declared.configuration.NetCfg.{NetCfg}
 use Rattle.wrp_base.specs.declared.network.NodeCfg.{NodeCfg}
 use Rattle.wrp_base.specs.declared.network.LinkCfg.{LinkCfg}
@@ -48,9 +48,13 @@ numbers_over net link =
 abbrev pub hop_over : NetCfg → LinkCfg → ℕ
 hop_over net link = option_map_or hop_bound (numbers_over net link) 0
 
+-- the numbers of a node's hop, from the node above it
+abbrev pub numbers_of : NetCfg → ℕ → Option HopNumbers
+numbers_of net n = option_and_then (numbers_over net) (link_above net n)
+
 -- the bound of a node's hop: how far it may be from its parent in TRACK
 abbrev pub hop_of : NetCfg → ℕ → ℕ
-hop_of net n = option_map_or (hop_over net) (link_above net n) 0
+hop_of net n = option_map_or hop_bound (numbers_of net n) 0
 
 -- how far a node with a link above it may move in HOLDOVER
 abbrev pub held_by : NetCfg → Option LinkCfg → Option NodeCfg → ℕ

@@ -2,19 +2,18 @@
 -- file order (this project's profile).
 use Rattle.std.specs.Prelude.{ℕ, ℤ, pos, ◌≡◌, ◌+◌, ◌-◌, ◌*◌, ◌<◌, ◌≤◌, min, unsigned_abs, Bool, not, int_lt, List, [], ◌∷◌, ◌++◌, find, Option, None, Some, Result, Ok, Err}
 use Rattle.std.specs.List.{filter_map, enumerate_from}
-use Rattle.std.specs.Option.{option_map, option_and_then}
+use Rattle.std.specs.Option.{option_map}
 use Rattle.wrp_base.specs.declared.configuration.NetCfg.{NetCfg}
-use Rattle.wrp_base.specs.declared.network.LinkCfg.{LinkCfg}
 use Rattle.wrp_base.specs.declared.network.NodeCfg.{NodeCfg}
 use Rattle.wrp_base.specs.Clock.{period_of}
-use Rattle.wrp_base.specs.Network.{link_above, node_count}
+use Rattle.wrp_base.specs.Network.{node_count}
 use Rattle.wrp_bounds.specs.declared.inequality.Clash.{Clash}
 use Rattle.wrp_bounds.specs.declared.inequality.Order.{Order}
 use Rattle.wrp_bounds.specs.declared.inequality.Order.TheVariants.{Less, AtMost, More}
 use Rattle.wrp_bounds.specs.declared.inequality.Inequality.{Inequality}
 use Rattle.wrp_bounds.specs.declared.numbers.HopNumbers.{HopNumbers}
 use Rattle.wrp_bounds.specs.Hop.{gap_motion, detector_error}
-use Rattle.wrp_bounds.specs.Bounds.{numbers_over}
+use Rattle.wrp_bounds.specs.Bounds.{numbers_of}
 use Rattle.wrp_bounds.specs.Times.{shortest_tick, longest_tick, frame_life, reach, gap_time}
 
 -- an inequality of this number: how its left side has to lie to its right one
@@ -75,7 +74,7 @@ port_delays net = inequality 9 (net.tx_max + net.rx_max + 2 * net.e_db) AtMost (
 
 -- the third inequality at a node, if it has a parent
 unfoldable pub phase_room_of : NetCfg → ℕ → Option Inequality
-phase_room_of net n = option_map phase_room (option_and_then (numbers_over net) (link_above net n))
+phase_room_of net n = option_map phase_room (numbers_of net n)
 
 -- the third inequality at these nodes, the first of which has this number
 abbrev pub phase_rooms_from : NetCfg → ℕ → List NodeCfg → List Inequality
@@ -100,7 +99,7 @@ answer_of (Some i) = Err (record { number = i.number; left = i.left; right = i.r
 pub record KeepsInequalities (net : NetCfg) : Type 0 where
   pub quiet_time : 2 * frame_life net < (unsigned_abs net.quiet - 1) * shortest_tick net
   pub holdover_time : (unsigned_abs net.lease + 1) * longest_tick net + frame_life net < (unsigned_abs net.holdover - 1) * shortest_tick net
-  pub phase_room : (n : ℕ) (link : LinkCfg) (k : HopNumbers) → n < node_count net → link_above net n ≡ Some link → numbers_over net link ≡ Some k → 2 * gap_motion k + 4 * detector_error k < period_of net.clock
+  pub phase_room : (n : ℕ) (k : HopNumbers) → n < node_count net → numbers_of net n ≡ Some k → 2 * gap_motion k + 4 * detector_error k < period_of k.clock
   pub tick_times : shortest_tick net ≤ longest_tick net
   pub holdoff_time : unsigned_abs net.quiet ≤ unsigned_abs net.holdoff
   pub flight_time : reach net ≤ frame_life net
