@@ -93,24 +93,24 @@ none_of_three None (Some x) c none = absurd (cc)
 none_of_three (Some x) b c none = absurd (cc)
 
 -- the third inequality at a node is that of the node's hop
-room_of : (o : Option HopNumbers) (room : Inequality) → option_map phase_room o ≡ Some room → (k : HopNumbers) × (o ≡ Some k) × (phase_room k ≡ room)
-room_of None room is = absurd (cc)
-room_of (Some k) room is = (k, refl, cc)
+room_of : (net : NetCfg) (o : Option HopNumbers) (room : Inequality) → option_map (phase_room net) o ≡ Some room → (k : HopNumbers) × (o ≡ Some k) × (phase_room net k ≡ room)
+room_of net None room is = absurd (cc)
+room_of net (Some k) room is = (k, refl, cc)
 
 room_kept : (net : NetCfg) (n : ℕ) (k : HopNumbers) → find is_broken (phase_rooms net) ≡ None → n < node_count net → numbers_of net n ≡ Some k →
-    2 * gap_motion k + 4 * detector_error k < period_of k.clock
+    2 * gap_motion k + 4 * detector_error k < period_of net.clock
 unfolding phase_room phase_room_of
 room_kept net n k none within is =
     let place : 0 + n ≡ n = omega arith in
-    less_kept (2 * gap_motion k + 4 * detector_error k) (period_of k.clock)
-    (rooms_kept net 0 net.nodes.items none n (phase_room k) within (ap (phase_room_of net) place ∙ ap (option_map phase_room) is))
+    less_kept (2 * gap_motion k + 4 * detector_error k) (period_of net.clock)
+    (rooms_kept net 0 net.nodes.items none n (phase_room net k) within (ap (phase_room_of net) place ∙ ap (option_map (phase_room net)) is))
 
 room_keeps : (net : NetCfg) (n : ℕ) (room : Inequality) → KeepsInequalities net → n < node_count net → phase_room_of net (0 + n) ≡ Some room → is_broken room ≡ false
 unfolding phase_room phase_room_of
 room_keeps net n room keeps within is =
     let place : n ≡ 0 + n = omega arith in
-    let at : (k : HopNumbers) × (numbers_of net n ≡ Some k) × (phase_room k ≡ room) = room_of (numbers_of net n) room (ap (phase_room_of net) place ∙ is) in
-    ap is_broken (sym at.2) ∙ less_keeps (2 * gap_motion at.0 + 4 * detector_error at.0) (period_of at.0.clock) (keeps.phase_room n at.0 within at.1)
+    let at : (k : HopNumbers) × (numbers_of net n ≡ Some k) × (phase_room net k ≡ room) = room_of net (numbers_of net n) room (ap (phase_room_of net) place ∙ is) in
+    ap is_broken (sym at.2) ∙ less_keeps (2 * gap_motion at.0 + 4 * detector_error at.0) (period_of net.clock) (keeps.phase_room n at.0 within at.1)
 
 -- where no inequality is broken, each is kept
 pub kept_of_none : (net : NetCfg) → find is_broken (inequalities net) ≡ None → KeepsInequalities net

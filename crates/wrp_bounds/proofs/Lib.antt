@@ -1,6 +1,7 @@
 pub mod Counts
 pub mod FirstBroken
 pub mod Kept
+pub mod PathLaws
 pub mod Placed
 pub mod Rounding
 pub mod Rooms

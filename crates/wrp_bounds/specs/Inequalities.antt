@@ -43,8 +43,8 @@ holdover_time net =
     ((unsigned_abs net.lease + 1) * longest_tick net + frame_life net)
 
 -- between two good samples the phase moves so little that its whole periods are known
-unfoldable pub phase_room : HopNumbers → Inequality
-phase_room k = inequality 3 (2 * gap_motion k + 4 * detector_error k) Less (period_of k.clock)
+unfoldable pub phase_room : NetCfg → HopNumbers → Inequality
+phase_room net k = inequality 3 (2 * gap_motion k + 4 * detector_error k) Less (period_of net.clock)
 
 -- the shortest tick is no longer than the longest
 unfoldable pub tick_times : NetCfg → Inequality
@@ -74,7 +74,7 @@ port_delays net = inequality 9 (net.tx_max + net.rx_max + 2 * net.e_db) AtMost (
 
 -- the third inequality at a node, if it has a parent
 unfoldable pub phase_room_of : NetCfg → ℕ → Option Inequality
-phase_room_of net n = option_map phase_room (numbers_of net n)
+phase_room_of net n = option_map (phase_room net) (numbers_of net n)
 
 -- the third inequality at these nodes, the first of which has this number
 abbrev pub phase_rooms_from : NetCfg → ℕ → List NodeCfg → List Inequality
@@ -99,7 +99,7 @@ answer_of (Some i) = Err (record { number = i.number; left = i.left; right = i.r
 pub record KeepsInequalities (net : NetCfg) : Type 0 where
   pub quiet_time : 2 * frame_life net < (unsigned_abs net.quiet - 1) * shortest_tick net
   pub holdover_time : (unsigned_abs net.lease + 1) * longest_tick net + frame_life net < (unsigned_abs net.holdover - 1) * shortest_tick net
-  pub phase_room : (n : ℕ) (k : HopNumbers) → n < node_count net → numbers_of net n ≡ Some k → 2 * gap_motion k + 4 * detector_error k < period_of k.clock
+  pub phase_room : (n : ℕ) (k : HopNumbers) → n < node_count net → numbers_of net n ≡ Some k → 2 * gap_motion k + 4 * detector_error k < period_of net.clock
   pub tick_times : shortest_tick net ≤ longest_tick net
   pub holdoff_time : unsigned_abs net.quiet ≤ unsigned_abs net.holdoff
   pub flight_time : reach net ≤ frame_life net

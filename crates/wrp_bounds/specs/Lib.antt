@@ -1,5 +1,6 @@
 pub mod Bounds
 pub mod Hop
 pub mod Inequalities
+pub mod Laws
 pub mod Motion
 pub mod Times

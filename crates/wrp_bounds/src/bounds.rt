@@ -1,5 +1,5 @@
 //! The bounds of a node: of its hop, in TRACK, and in HOLDOVER.
-ghost use Rattle.std.specs.Prelude.{◌≡◌, pos, ◌+◌, ◌^◌, ◌<◌, ◌≤◌, IsSome};
+ghost use Rattle.std.specs.Prelude.{◌≡◌, pos, ◌+◌, ◌^◌, ◌<◌, ◌≤◌, ◌≤ℤ◌, ◌<ℤ◌, IsSome};
 ghost use Rattle.wrp_base.specs.Network as network;
 ghost use Rattle.wrp_base.specs.Network.{HasRanges, IsTree, node_count};
 ghost use Rattle.wrp_bounds.specs.Bounds as spec;
@@ -18,7 +18,7 @@ pub fn hop(cfg: &NetCfg, n: u8) -> Tau
     requires node { n < node_count cfg.now }
     requires slave { IsSome (network.link_above cfg.now n) }
     ensures value { result ≡ pos (hop_of cfg.now n) }
-    ensures size { hop_of cfg.now n < 2 ^ 100 }
+    ensures range { (pos 0 ≤ℤ result) × (result <ℤ pos (2 ^ 100)) }
 {
     match link_above(cfg, n) {
         Some(link) => hop_over(cfg, link) as i128,
@@ -33,7 +33,7 @@ pub fn path(cfg: &NetCfg, n: u8) -> Tau
     requires tree { IsTree cfg.now }
     requires node { n < node_count cfg.now }
     ensures value { result ≡ pos (path_of cfg.now n) }
-    ensures size { path_of cfg.now n < 2 ^ 100 }
+    ensures range { (pos 0 ≤ℤ result) × (result <ℤ pos (2 ^ 100)) }
 {
     path_sum(cfg, n) as i128
 }
@@ -45,7 +45,7 @@ pub fn holdover(cfg: &NetCfg, n: u8) -> Tau
     requires tree { IsTree cfg.now }
     requires node { n < node_count cfg.now }
     ensures value { result ≡ pos (holdover_of cfg.now n) }
-    ensures size { holdover_of cfg.now n < 2 ^ 100 }
+    ensures range { (pos 0 ≤ℤ result) × (result <ℤ pos (2 ^ 100)) }
 {
     (path_sum(cfg, n) + held_motion(cfg, n)) as i128
 }

@@ -96,19 +96,19 @@ fn phase_room_of(cfg: &NetCfg, n: u8) -> Option<Inequality>
     ensures { result ≡ spec.phase_room_of cfg.now n }
 {
     match link_above(cfg, n) {
-        Some(link) => Some(phase_room(&numbers_over(cfg, link))),
+        Some(link) => Some(phase_room(cfg, &numbers_over(cfg, link))),
         None => None,
     }
 }
 
 // 3: the phase moves so little between two good samples that its whole periods are known.
 #[tactic(auto, unfolding(crate::specs::Inequalities::phase_room))]
-fn phase_room(numbers: &HopNumbers) -> Inequality
+fn phase_room(cfg: &NetCfg, numbers: &HopNumbers) -> Inequality
     requires { IsInRange numbers.now }
-    ensures { result ≡ spec.phase_room numbers.now }
+    ensures { result ≡ spec.phase_room cfg.now numbers.now }
 {
     let motion = 2 * numbers.gap_motion() + 4 * numbers.detector_error();
-    let period = numbers.clock.period().unsigned_abs();
+    let period = cfg.clock.period().unsigned_abs();
     Inequality::new(3, motion, Order::Less, period)
 }
 

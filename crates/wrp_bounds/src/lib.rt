@@ -14,3 +14,4 @@ mod times;
 pub use bounds::{holdover, hop, path};
 pub use inequalities::check;
 pub use inequality::Clash;
+pub use laws::{grandmaster_is_exact, path_of_child};
