@@ -9,6 +9,8 @@ mod laws;
 mod motion;
 mod network;
 mod numbers;
+#[cfg(test)]
+mod tests;
 mod times;
 
 pub use bounds::{holdover, hop, path};

@@ -72,7 +72,7 @@ impl HopNumbers {
     }
 
     // How far the parent and the fibre move while a frame is on the fibre.
-    fn reach_motion(&self) -> u128
+    pub fn reach_motion(&self) -> u128
         requires { IsInRange self.now }
         ensures value { result ≡ spec.reach_motion self.now }
         ensures size { result ≤ 2 ^ 72 }
@@ -81,7 +81,7 @@ impl HopNumbers {
     }
 
     // The error of what is measured on the way down.
-    fn down_error(&self) -> u128
+    pub fn down_error(&self) -> u128
         requires { IsInRange self.now }
         ensures value { result ≡ spec.down_error self.now }
         ensures size { result ≤ 2 ^ 74 }
@@ -94,7 +94,7 @@ impl HopNumbers {
     }
 
     // The error of what is measured on the way up.
-    fn up_error(&self) -> u128
+    pub fn up_error(&self) -> u128
         requires { IsInRange self.now }
         ensures value { result ≡ spec.up_error self.now }
         ensures size { result ≤ 2 ^ 74 }
@@ -107,7 +107,7 @@ impl HopNumbers {
     }
 
     // How far both ways of the fibre move until a measurement is used last.
-    fn age_motion(&self) -> u128
+    pub fn age_motion(&self) -> u128
         requires { IsInRange self.now }
         ensures value { result ≡ spec.age_motion self.now }
         ensures size { result ≤ 2 ^ 72 }
@@ -125,7 +125,7 @@ impl HopNumbers {
     }
 
     // What of the error of both ways goes into the way down.
-    fn scaled_error(&self) -> u128
+    pub fn scaled_error(&self) -> u128
         requires { IsInRange self.now }
         ensures value { result ≡ spec.scaled_error self.now }
         ensures size { result ≤ 2 ^ 77 }
@@ -139,9 +139,9 @@ impl HopNumbers {
         ensures value { result ≡ spec.estimate_error self.now }
         ensures size { result ≤ 2 ^ 78 }
     {
+        let phase = self.detector_error() + self.gap_motion();
         self.down_error()
-            + self.detector_error()
-            + self.gap_motion()
+            + phase
             + self.scaled_error()
             + 2 * u128::from(self.e_db)
             + u128::from(self.e_asym)

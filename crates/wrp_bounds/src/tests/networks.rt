@@ -1,0 +1,188 @@
+//! Networks whose nodes hang one below the other.
+ghost use Rattle.std.specs.Prelude.{◌≡◌, ℕ, suc, ◌+◌, ◌-◌, ◌<◌, ◌≤◌, Some, IsSome, length, slice_get};
+ghost use Rattle.wrp_base.specs.Network.{HasRanges, HasNodeRanges, HasLinkRanges, IsTree, link_above, node_count};
+ghost use Rattle.wrp_base.specs.declared.network.NodeCfg.{NodeCfg};
+ghost use Rattle.wrp_base.specs.declared.network.LinkCfg.{LinkCfg};
+
+use arrayvec::ArrayVec;
+use std::process::Abort;
+use wrp_base::{Clock, LinkCfg, Name, NetCfg, NodeCfg};
+
+/// A node, and the error of the fibre above it.
+#[derive(Clone, Copy)]
+pub struct Node {
+    pub e_tx: u64,
+    pub beat: u16,
+    pub slew: u64,
+    pub held: u64,
+    pub e_asym: u64,
+}
+
+/// A node of the reference network.
+pub const REFERENCE: Node = Node {
+    e_tx: 655_360,
+    beat: 4,
+    slew: 500,
+    held: 10,
+    e_asym: 1_310_720,
+};
+
+/// The numbers of a network that the tests change.
+#[derive(Clone, Copy)]
+pub struct Settings {
+    pub dmin_ns: i64,
+    pub reach_ns: i64,
+    pub quiet: i64,
+    pub holdover: i64,
+    pub holdoff: i64,
+    pub gap: i64,
+    pub sync: i64,
+    pub ring: i64,
+    pub delock_samples: i64,
+}
+
+impl Settings {
+    /// Those of the reference network.
+    pub fn reference() -> Settings {
+        Settings {
+            dmin_ns: 9_000_000,
+            reach_ns: 100_000,
+            quiet: 24,
+            holdover: 320,
+            holdoff: 300,
+            gap: 2,
+            sync: 25,
+            ring: 64,
+            delock_samples: 50,
+        }
+    }
+}
+
+// One node.
+fn node(rt: &impl Abort, clock: Clock, of: Node) -> NodeCfg
+    ensures { HasNodeRanges clock result }
+{
+    assert!(rt; 1000 <= of.e_tx && of.e_tx <= 1_000_000_000 && of.beat <= 24);
+    assert!(rt; of.slew <= 1_000_000_000 && of.held <= 1_000_000_000);
+    NodeCfg {
+        name: Name::new(),
+        identity: 0,
+        e_tx: of.e_tx,
+        e_tag: 64_000,
+        beat: of.beat,
+        slew: of.slew,
+        held: of.held,
+    }
+}
+
+// The link from this node to the next one.
+fn link(rt: &impl Abort, upper: u8, below: Node) -> LinkCfg
+    requires { upper < 64 }
+    ensures ranges { HasLinkRanges result }
+    ensures upper { result.upper ≡ upper }
+    ensures lower { result.lower ≡ suc upper }
+{
+    assert!(rt; 1 <= below.e_asym && below.e_asym <= 1_000_000_000);
+    LinkCfg {
+        name: Name::new(),
+        upper,
+        upper_port: 2,
+        lower: upper + 1,
+        lower_port: 1,
+        wr: true,
+        upper_module: Name::new(),
+        lower_module: Name::new(),
+        fibre: Name::new(),
+        kappa: 73_622_176,
+        e_asym: below.e_asym,
+        down_nm: 0,
+        up_nm: 0,
+        e_db: 1_310_720,
+        law_err: 1,
+    }
+}
+
+// The nodes.
+fn nodes(rt: &impl Abort, clock: Clock, of: &[Node]) -> ArrayVec<NodeCfg, 64>
+    requires { length of.now ≤ 9 }
+    ensures count { length result.items ≡ length of.now }
+    ensures ranges { (n : ℕ) (node : NodeCfg) → slice_get result.items n ≡ Some node → HasNodeRanges clock node }
+{
+    let mut nodes = ArrayVec::new();
+    for n in 0..of.len() {
+        nodes.push(node(rt, clock, of[n]));
+    }
+    nodes
+}
+
+// The links between them.
+fn links(rt: &impl Abort, of: &[Node]) -> ArrayVec<LinkCfg, 63>
+    requires { length of.now ≤ 9 }
+    ensures count { length result.items ≡ length of.now - 1 }
+    ensures ranges { (l : ℕ) (link : LinkCfg) → slice_get result.items l ≡ Some link → HasLinkRanges link }
+    ensures ends { (l : ℕ) (link : LinkCfg) → slice_get result.items l ≡ Some link → (link.upper ≡ l) × (link.lower ≡ suc l) }
+{
+    let mut links = ArrayVec::new();
+    for l in 1..of.len() {
+        links.push(link(rt, l as u8 - 1, of[l]));
+    }
+    links
+}
+
+/// The network with these nodes, the first of which gives the time.
+pub fn network(rt: &impl Abort, clock: Clock, set: Settings, of: &[Node]) -> NetCfg
+    requires some { 0 < length of.now }
+    requires few { length of.now ≤ 9 }
+    ensures ranges { HasRanges result }
+    ensures tree { IsTree result }
+    ensures nodes { node_count result ≡ length of.now }
+    ensures slaves { (n : ℕ) → suc n < length of.now → IsSome (link_above result (suc n)) }
+{
+    assert!(rt; 1000 <= set.dmin_ns && set.dmin_ns <= 1_000_000_000);
+    assert!(rt; 1 <= set.reach_ns && set.reach_ns <= 1_000_000_000);
+    assert!(rt; 2 <= set.quiet && set.quiet <= 1_000_000);
+    assert!(rt; 2 <= set.holdover && set.holdover <= 1_000_000);
+    assert!(rt; 1 <= set.holdoff && set.holdoff <= 1_000_000);
+    assert!(rt; 1 <= set.gap && set.gap <= 100);
+    assert!(rt; 1 <= set.sync && set.sync <= 10_000);
+    assert!(rt; 1 <= set.ring && set.ring <= 4096);
+    assert!(rt; 0 <= set.delock_samples && set.delock_samples <= 1_000_000);
+    NetCfg {
+        epoch: 1_000_000,
+        domain: 0,
+        dmin_ns: set.dmin_ns,
+        dmax_ns: 11_000_000,
+        life_ns: 100_000_000,
+        reach_ns: set.reach_ns,
+        quiet: set.quiet,
+        holdover: set.holdover,
+        wait: 30,
+        lock_wait: 1500,
+        holdoff: set.holdoff,
+        lease: 250,
+        age: 300,
+        report: 100,
+        stable: 50,
+        lock_samples: 100,
+        retries: 3,
+        gap: set.gap,
+        announce: 100,
+        sync: set.sync,
+        delay: 25,
+        ring: set.ring,
+        track_tau: 3_276_800,
+        loop_tau: 3_276_800,
+        phase_step: 100_000,
+        kp: 125,
+        ki: 5,
+        bias: 32768,
+        threshold: 6400,
+        delock_samples: set.delock_samples,
+        clock,
+        nodes: nodes(rt, clock, of),
+        links: links(rt, of),
+        e_db: 1_310_720,
+        tx_max: 14_811_136_000,
+        rx_max: 14_876_672_000,
+    }
+}
