@@ -1,5 +1,5 @@
 -- Nodes that hang one below the other make a tree.
-use Rattle.std.proofs.Common.{◌≡◌, ◌≢◌, ℕ, zero, suc, ◌+◌, ◌<◌, ◌≤◌, refl, ap, sym, subst, ◌∙◌, List, [], ◌∷◌, ◌++◌, Bool, true, false, Option, Some, None, length, slice_get, arith}
+use Rattle.std.proofs.Common.{◌≡◌, ◌≢◌, ℕ, zero, suc, ◌+◌, ◌<◌, ◌≤◌, refl, ap, sym, subst, ◌∙◌, List, [], ◌∷◌, ◌++◌, Bool, true, false, Option, Some, None, length, slice_get, arith, rules}
 use Rattle.std.proofs.lemmas.Bool.{eq-eqb, eqb-true}
 use Rattle.std.proofs.lemmas.Bool.Decides.{nat_tests}
 use Rattle.std.proofs.lemmas.Option.{slice_get_within}
@@ -68,8 +68,8 @@ pub chain-tree : (net : NetCfg) → IsChain net → IsTree net
 chain-tree net chain = record {
   some_node = omega (arith, chain.count);
   ends = λ l link is.
-  let within : l < length net.links.items = slice_get_within net.links.items l link is in
-  (omega (arith, chain.count, (chain.ends l link is).0), omega (arith, chain.count, (chain.ends l link is).1));
+      let within : l < length net.links.items = slice_get_within net.links.items l link is in
+      (omega (arith, chain.count, (chain.ends l link is).0), omega (arith, chain.count, (chain.ends l link is).1));
   one_parent = λ k l a b is_a is_b same. omega (arith, (chain.ends k a is_a).1, (chain.ends l b is_b).1);
   one_grandmaster = λ m n top_m top_n. grandmaster_is net m chain top_m ∙ sym (grandmaster_is net n chain top_n);
   shallow = λ n within. (n, omega (arith, chain.count, chain.few), depth_is net n chain within);
@@ -82,3 +82,18 @@ each_pushed P [] x each last zero y is = let same : x ≡ y = cc in subst (λ z.
 each_pushed P [] x each last (suc n) y is = absurd (cc)
 each_pushed P (z ∷ zs) x each last zero y is = each 0 y is
 each_pushed P (z ∷ zs) x each last (suc n) y is = each_pushed (λ n y. P (suc n) y) zs x (λ n y. each (suc n) y) last n y is
+
+-- the same of a list that became longer by that one
+pub each_of_pushed : {X : Type 0} (P : ℕ → X → Type 0) (xs ys : List X) (x : X) → ys ≡ xs ++ x ∷ [] → ((n : ℕ) (y : X) → slice_get xs n ≡ Some y → P n y) → P (length xs) x →
+    (n : ℕ) (y : X) → slice_get ys n ≡ Some y → P n y
+each_of_pushed P xs ys x pushed each last n y is = each_pushed P xs x each last n y (rw pushed at is)
+
+-- and anything holds of each element of none
+pub each_of_none : {X : Type 0} (P : ℕ → X → Type 0) (xs : List X) → xs ≡ [] → (n : ℕ) (y : X) → slice_get xs n ≡ Some y → P n y
+each_of_none P xs none n y is = let nothing : None ≡ Some y = rw none at is in absurd (cc)
+
+-- a node that is not the first has a link above it
+pub above_some : {net : NetCfg} {count : ℕ} → IsTree net → IsChain net → count ≡ node_count net → (n : ℕ) → suc n < count → IsSome (link_above net (suc n))
+above_some {net = net} tree chain all n within =
+    let at : (link : LinkCfg) × (link_above net (suc n) ≡ Some link) × IsLink net n link = above_next net n chain (omega (arith, all)) in
+    rw at.1 (search rules)

@@ -100,7 +100,7 @@ const CHAIN: [Node; 9] = [
 #[test]
 fn bounds(rt: HostRuntime) {
     for (clock, [hop_1, holdover_1, hop_2, path_2, holdover_2]) in REFERENCE_BOUNDS {
-        let net = network(&rt, clock, Settings::reference(), &[REFERENCE; 3]);
+        let net = network(clock, Settings::reference(), &[REFERENCE; 3]);
         assert_eq!(rt; (path(&net, 0), holdover(&net, 0)), (0, 0));
         assert_eq!(rt; (hop(&net, 1), path(&net, 1)), (hop_1, hop_1));
         assert_eq!(rt; holdover(&net, 1), holdover_1);
@@ -108,14 +108,14 @@ fn bounds(rt: HostRuntime) {
         assert_eq!(rt; holdover(&net, 2), holdover_2);
         assert_eq!(rt; check(&net), Ok(()));
     }
-    let chain = network(&rt, Clock::Mhz125, Settings::reference(), &CHAIN);
+    let chain = network(Clock::Mhz125, Settings::reference(), &CHAIN);
     assert_eq!(rt; path(&chain, 4), 266_880_964);
     assert_eq!(rt; path(&chain, 8), 893_871_826);
 }
 
 #[test]
 fn parts(rt: HostRuntime) {
-    let net = network(&rt, Clock::Mhz125, Settings::reference(), &[REFERENCE; 3]);
+    let net = network(Clock::Mhz125, Settings::reference(), &[REFERENCE; 3]);
     assert_eq!(rt; held_motion(&net, 1), 2_314_077);
     for (n, [gap, reach, down, up, scaled]) in PARTS {
         if let Some(link) = link_above(&net, n) {
@@ -234,12 +234,7 @@ fn clashes(rt: HostRuntime) {
         ),
     ];
     for (settings, middle, number, left, right) in rows {
-        let net = network(
-            &rt,
-            Clock::Mhz125,
-            settings,
-            &[REFERENCE, middle, REFERENCE],
-        );
+        let net = network(Clock::Mhz125, settings, &[REFERENCE, middle, REFERENCE]);
         assert_eq!(rt;
             check(&net),
             Err(Clash {

@@ -1,11 +1,10 @@
 //! Networks whose nodes hang one below the other.
 ghost use Rattle.std.specs.Prelude.{◌≡◌, ℕ, suc, ◌+◌, ◌-◌, ◌<◌, ◌≤◌, Some, IsSome, length, slice_get};
-ghost use Rattle.wrp_base.specs.Network.{HasRanges, HasNodeRanges, HasLinkRanges, IsTree, link_above, node_count};
+ghost use Rattle.wrp_base.specs.Network.{HasRanges, IsFromTo, HasNodeRanges, HasLinkRanges, IsTree, link_above, node_count};
 ghost use Rattle.wrp_base.specs.declared.network.NodeCfg.{NodeCfg};
 ghost use Rattle.wrp_base.specs.declared.network.LinkCfg.{LinkCfg};
 
 use arrayvec::ArrayVec;
-use std::process::Abort;
 use wrp_base::{Clock, LinkCfg, Name, NetCfg, NodeCfg};
 
 /// A node, and the error of the fibre above it.
@@ -58,31 +57,36 @@ impl Settings {
     }
 }
 
+// A number held within its range, which leaves those of the tests as they are.
+fn within(number: i64, least: u32, most: u32) -> i64
+    requires { least ≤ most }
+    ensures { IsFromTo least most result }
+{
+    number.max(i64::from(least)).min(i64::from(most))
+}
+
 // One node.
-fn node(rt: &impl Abort, clock: Clock, of: Node) -> NodeCfg
+fn node_of(clock: Clock, of: Node) -> NodeCfg
     ensures { HasNodeRanges clock result }
 {
-    assert!(rt; 1000 <= of.e_tx && of.e_tx <= 1_000_000_000 && of.beat <= 24);
-    assert!(rt; of.slew <= 1_000_000_000 && of.held <= 1_000_000_000);
     NodeCfg {
         name: Name::new(),
         identity: 0,
-        e_tx: of.e_tx,
+        e_tx: of.e_tx.max(1000).min(1_000_000_000),
         e_tag: 64_000,
-        beat: of.beat,
-        slew: of.slew,
-        held: of.held,
+        beat: of.beat.min(24),
+        slew: of.slew.min(1_000_000_000),
+        held: of.held.min(1_000_000_000),
     }
 }
 
 // The link from this node to the next one.
-fn link(rt: &impl Abort, upper: u8, below: Node) -> LinkCfg
+fn link_of(upper: u8, below: Node) -> LinkCfg
     requires { upper < 64 }
     ensures ranges { HasLinkRanges result }
     ensures upper { result.upper ≡ upper }
     ensures lower { result.lower ≡ suc upper }
 {
-    assert!(rt; 1 <= below.e_asym && below.e_asym <= 1_000_000_000);
     LinkCfg {
         name: Name::new(),
         upper,
@@ -94,7 +98,7 @@ fn link(rt: &impl Abort, upper: u8, below: Node) -> LinkCfg
         lower_module: Name::new(),
         fibre: Name::new(),
         kappa: 73_622_176,
-        e_asym: below.e_asym,
+        e_asym: below.e_asym.max(1).min(1_000_000_000),
         down_nm: 0,
         up_nm: 0,
         e_db: 1_310_720,
@@ -103,34 +107,35 @@ fn link(rt: &impl Abort, upper: u8, below: Node) -> LinkCfg
 }
 
 // The nodes.
-fn nodes(rt: &impl Abort, clock: Clock, of: &[Node]) -> ArrayVec<NodeCfg, 64>
+fn nodes(clock: Clock, of: &[Node]) -> ArrayVec<NodeCfg, 64>
     requires { length of.now ≤ 9 }
     ensures count { length result.items ≡ length of.now }
     ensures ranges { (n : ℕ) (node : NodeCfg) → slice_get result.items n ≡ Some node → HasNodeRanges clock node }
 {
     let mut nodes = ArrayVec::new();
     for n in 0..of.len() {
-        nodes.push(node(rt, clock, of[n]));
+        nodes.push(node_of(clock, of[n]));
     }
     nodes
 }
 
 // The links between them.
-fn links(rt: &impl Abort, of: &[Node]) -> ArrayVec<LinkCfg, 63>
-    requires { length of.now ≤ 9 }
+fn links(of: &[Node]) -> ArrayVec<LinkCfg, 63>
+    requires some { 0 < length of.now }
+    requires few { length of.now ≤ 9 }
     ensures count { length result.items ≡ length of.now - 1 }
     ensures ranges { (l : ℕ) (link : LinkCfg) → slice_get result.items l ≡ Some link → HasLinkRanges link }
     ensures ends { (l : ℕ) (link : LinkCfg) → slice_get result.items l ≡ Some link → (link.upper ≡ l) × (link.lower ≡ suc l) }
 {
     let mut links = ArrayVec::new();
     for l in 1..of.len() {
-        links.push(link(rt, l as u8 - 1, of[l]));
+        links.push(link_of(l as u8 - 1, of[l]));
     }
     links
 }
 
 /// The network with these nodes, the first of which gives the time.
-pub fn network(rt: &impl Abort, clock: Clock, set: Settings, of: &[Node]) -> NetCfg
+pub fn network(clock: Clock, set: Settings, of: &[Node]) -> NetCfg
     requires some { 0 < length of.now }
     requires few { length of.now ≤ 9 }
     ensures ranges { HasRanges result }
@@ -138,38 +143,38 @@ pub fn network(rt: &impl Abort, clock: Clock, set: Settings, of: &[Node]) -> Net
     ensures nodes { node_count result ≡ length of.now }
     ensures slaves { (n : ℕ) → suc n < length of.now → IsSome (link_above result (suc n)) }
 {
-    assert!(rt; 1000 <= set.dmin_ns && set.dmin_ns <= 1_000_000_000);
-    assert!(rt; 1 <= set.reach_ns && set.reach_ns <= 1_000_000_000);
-    assert!(rt; 2 <= set.quiet && set.quiet <= 1_000_000);
-    assert!(rt; 2 <= set.holdover && set.holdover <= 1_000_000);
-    assert!(rt; 1 <= set.holdoff && set.holdoff <= 1_000_000);
-    assert!(rt; 1 <= set.gap && set.gap <= 100);
-    assert!(rt; 1 <= set.sync && set.sync <= 10_000);
-    assert!(rt; 1 <= set.ring && set.ring <= 4096);
-    assert!(rt; 0 <= set.delock_samples && set.delock_samples <= 1_000_000);
+    let dmin_ns = within(set.dmin_ns, 1000, 1_000_000_000);
+    let reach_ns = within(set.reach_ns, 1, 1_000_000_000);
+    let quiet = within(set.quiet, 2, 1_000_000);
+    let holdover = within(set.holdover, 2, 1_000_000);
+    let holdoff = within(set.holdoff, 1, 1_000_000);
+    let gap = within(set.gap, 1, 100);
+    let sync = within(set.sync, 1, 10_000);
+    let ring = within(set.ring, 1, 4096);
+    let delock_samples = within(set.delock_samples, 0, 1_000_000);
     NetCfg {
         epoch: 1_000_000,
         domain: 0,
-        dmin_ns: set.dmin_ns,
+        dmin_ns,
         dmax_ns: 11_000_000,
         life_ns: 100_000_000,
-        reach_ns: set.reach_ns,
-        quiet: set.quiet,
-        holdover: set.holdover,
+        reach_ns,
+        quiet,
+        holdover,
         wait: 30,
         lock_wait: 1500,
-        holdoff: set.holdoff,
+        holdoff,
         lease: 250,
         age: 300,
         report: 100,
         stable: 50,
         lock_samples: 100,
         retries: 3,
-        gap: set.gap,
+        gap,
         announce: 100,
-        sync: set.sync,
+        sync,
         delay: 25,
-        ring: set.ring,
+        ring,
         track_tau: 3_276_800,
         loop_tau: 3_276_800,
         phase_step: 100_000,
@@ -177,10 +182,10 @@ pub fn network(rt: &impl Abort, clock: Clock, set: Settings, of: &[Node]) -> Net
         ki: 5,
         bias: 32768,
         threshold: 6400,
-        delock_samples: set.delock_samples,
+        delock_samples,
         clock,
-        nodes: nodes(rt, clock, of),
-        links: links(rt, of),
+        nodes: nodes(clock, of),
+        links: links(of),
         e_db: 1_310_720,
         tx_max: 14_811_136_000,
         rx_max: 14_876_672_000,
