@@ -20,8 +20,10 @@ rate_of net n node = if is_some (link_above net n) then max node.slew node.held 
 abbrev pub end_of : NetCfg → ℕ → NodeCfg → End
 end_of net n node = record { e_tx = node.e_tx; e_tag = node.e_tag; rate = rate_of net n node }
 
--- what the bound of a hop is made of: the two nodes', the link's and the network's numbers
-abbrev pub numbers_between : NetCfg → LinkCfg → Option NodeCfg → Option NodeCfg → Option HopNumbers
+-- what the bound of a hop is made of: the two nodes', the link's and the network's numbers; there is
+-- none where an end is no node
+abbrev pub numbers_between :
+    NetCfg → LinkCfg → Option NodeCfg → Option NodeCfg → Option HopNumbers
 numbers_between net link (Some own) (Some parent) = Some (record {
   clock = net.clock;
   track_tau = unsigned_abs net.track_tau;
@@ -39,10 +41,11 @@ numbers_between net link (Some own) (Some parent) = Some (record {
 })
 numbers_between net link _ _ = None
 
--- the numbers of the hop over a link, whose ends are nodes
+-- the numbers of the hop over a link
 unfoldable pub numbers_over : NetCfg → LinkCfg → Option HopNumbers
 numbers_over net link =
-    numbers_between net link (slice_get net.nodes.items link.lower) (slice_get net.nodes.items link.upper)
+    numbers_between net link
+    (slice_get net.nodes.items link.lower) (slice_get net.nodes.items link.upper)
 
 -- the bound of the hop over a link
 abbrev pub hop_over : NetCfg → LinkCfg → ℕ
@@ -61,14 +64,15 @@ abbrev pub held_by : NetCfg → Option LinkCfg → Option NodeCfg → ℕ
 held_by net (Some link) (Some node) = motion node.held (held_time net)
 held_by net _ _ = 0
 
--- how far a node may move in HOLDOVER: the grandmaster has none
+-- how far a node may move in HOLDOVER, in tau: the grandmaster has none
 unfoldable pub held_motion : NetCfg → ℕ → ℕ
 held_motion net n = held_by net (link_above net n) (slice_get net.nodes.items n)
 
 -- the links from a node up to the grandmaster, at most so many
 unfoldable pub links_up : ℕ → NetCfg → ℕ → List LinkCfg
 links_up zero net n = []
-links_up (suc most) net n = elim (link_above net n) [ None ↦ [] | Some link ↦ link ∷ links_up most net link.upper ]
+links_up (suc most) net n =
+    elim (link_above net n) [ None ↦ [] | Some link ↦ link ∷ links_up most net link.upper ]
 
 -- what a link adds to the bounds of all nodes below it: the bound of its hop, and how far the node
 -- above it may have moved in HOLDOVER

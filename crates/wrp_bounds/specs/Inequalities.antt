@@ -1,5 +1,5 @@
--- The inequalities that a network must pass, by number, as far as they depend on a node at the nodes in
--- file order (this project's profile).
+-- The nine inequalities that a network must pass, in the order in which they are tried (this
+-- project's profile).
 use Rattle.std.specs.Prelude.{ℕ, ℤ, pos, ◌≡◌, ◌+◌, ◌-◌, ◌*◌, ◌<◌, ◌≤◌, min, unsigned_abs, Bool, not, int_lt, List, [], ◌∷◌, ◌++◌, find, Option, None, Some, Result, Ok, Err}
 use Rattle.std.specs.List.{filter_map, enumerate_from}
 use Rattle.std.specs.Option.{option_map}
@@ -21,13 +21,13 @@ abbrev pub inequality : ℕ → ℕ → Order → ℕ → Inequality
 inequality number left order right =
     record { number = number; left = pos left; order = order; right = pos right }
 
--- the left side lies to the right one as it has to
+-- the left side lies to the right one as this order wants it
 abbrev pub is_ordered : Order → ℤ → ℤ → Bool
 is_ordered Less left right = int_lt left right
 is_ordered AtMost left right = not (int_lt right left)
 is_ordered More left right = int_lt right left
 
--- it does not
+-- an inequality whose sides do not lie so
 abbrev pub is_broken : Inequality → Bool
 is_broken i = not (is_ordered i.order i.left i.right)
 
@@ -44,7 +44,7 @@ holdover_time net =
 
 -- between two good samples the phase moves so little that its whole periods are known
 unfoldable pub phase_room : NetCfg → HopNumbers → Inequality
-phase_room net k = inequality 3 (2 * gap_motion k + 4 * detector_error k) Less (period_of net.clock)
+phase_room net hop = inequality 3 (2 * gap_motion hop + 4 * detector_error hop) Less (period_of net.clock)
 
 -- the shortest tick is no longer than the longest
 unfoldable pub tick_times : NetCfg → Inequality
@@ -62,10 +62,11 @@ flight_time net = inequality 6 (reach net) AtMost (frame_life net)
 unfoldable pub lock_counts : NetCfg → Inequality
 lock_counts net = inequality 7 (unsigned_abs net.delock_samples) Less (unsigned_abs net.lock_samples)
 
--- a sequenceId does not come again while a frame of it, or a phase that goes with it, is still about
+-- a sequenceId does not come again while a frame of it, or a sample that goes with it, is about
 unfoldable pub id_reuse : NetCfg → Inequality
 id_reuse net =
-    inequality 8 (65_000 * min (unsigned_abs net.sync) (unsigned_abs net.delay) * shortest_tick net) More
+    inequality 8
+    (65_000 * min (unsigned_abs net.sync) (unsigned_abs net.delay) * shortest_tick net) More
     (unsigned_abs net.ring * gap_time net + 4 * frame_life net)
 
 -- the delays of two ports leave room for a fibre
@@ -78,7 +79,8 @@ phase_room_of net n = option_map (phase_room net) (numbers_of net n)
 
 -- the third inequality at these nodes, the first of which has this number
 abbrev pub phase_rooms_from : NetCfg → ℕ → List NodeCfg → List Inequality
-phase_rooms_from net n nodes = filter_map (λ place. phase_room_of net place.0) (enumerate_from n nodes)
+phase_rooms_from net n nodes =
+    filter_map (λ place. phase_room_of net place.0) (enumerate_from n nodes)
 
 -- the third inequality at each node that has a parent, in file order
 abbrev pub phase_rooms : NetCfg → List Inequality
@@ -88,7 +90,8 @@ phase_rooms net = phase_rooms_from net 0 net.nodes.items
 unfoldable pub inequalities : NetCfg → List Inequality
 inequalities net =
     (quiet_time net ∷ (holdover_time net ∷ [])) ++ phase_rooms net ++
-    (tick_times net ∷ (holdoff_time net ∷ (flight_time net ∷ (lock_counts net ∷ (id_reuse net ∷ (port_delays net ∷ []))))))
+    (tick_times net ∷ (holdoff_time net ∷ (flight_time net ∷
+    (lock_counts net ∷ (id_reuse net ∷ (port_delays net ∷ []))))))
 
 -- the answer where this inequality is the first that is broken, or none is
 abbrev pub answer_of : Option Inequality → Result (Unit {0}) Clash
@@ -98,11 +101,17 @@ answer_of (Some i) = Err (record { number = i.number; left = i.left; right = i.r
 -- the network keeps all nine inequalities, the third at each node that has a parent
 pub record KeepsInequalities (net : NetCfg) : Type 0 where
   pub quiet_time : 2 * frame_life net < (unsigned_abs net.quiet - 1) * shortest_tick net
-  pub holdover_time : (unsigned_abs net.lease + 1) * longest_tick net + frame_life net < (unsigned_abs net.holdover - 1) * shortest_tick net
-  pub phase_room : (n : ℕ) (k : HopNumbers) → n < node_count net → numbers_of net n ≡ Some k → 2 * gap_motion k + 4 * detector_error k < period_of net.clock
+  pub holdover_time :
+      (unsigned_abs net.lease + 1) * longest_tick net + frame_life net
+      < (unsigned_abs net.holdover - 1) * shortest_tick net
+  pub phase_room :
+      (n : ℕ) (hop : HopNumbers) → n < node_count net → numbers_of net n ≡ Some hop →
+      2 * gap_motion hop + 4 * detector_error hop < period_of net.clock
   pub tick_times : shortest_tick net ≤ longest_tick net
   pub holdoff_time : unsigned_abs net.quiet ≤ unsigned_abs net.holdoff
   pub flight_time : reach net ≤ frame_life net
   pub lock_counts : unsigned_abs net.delock_samples < unsigned_abs net.lock_samples
-  pub id_reuse : unsigned_abs net.ring * gap_time net + 4 * frame_life net < 65_000 * min (unsigned_abs net.sync) (unsigned_abs net.delay) * shortest_tick net
+  pub id_reuse :
+      unsigned_abs net.ring * gap_time net + 4 * frame_life net
+      < 65_000 * min (unsigned_abs net.sync) (unsigned_abs net.delay) * shortest_tick net
   pub port_delays : net.tx_max + net.rx_max + 2 * net.e_db ≤ reach net

@@ -1,5 +1,6 @@
-//! The bounds that a network's nodes keep, and the inequalities that it must pass for them. All rules
-//! are this project's profile.
+//! How far each node of a network may be from its parent and from the grandmaster, in TRACK and in
+//! HOLDOVER, and the nine inequalities that the network must pass for it. All rules are this project's
+//! profile.
 #![tactic(auto)]
 
 mod bounds;
@@ -16,4 +17,4 @@ mod times;
 pub use bounds::{holdover, hop, path};
 pub use inequalities::check;
 pub use inequality::Clash;
-pub use laws::{grandmaster_is_exact, path_of_child};
+pub use laws::{grandmaster_is_exact, path_of_child, rounds_up};
