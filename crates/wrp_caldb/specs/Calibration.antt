@@ -1,0 +1,212 @@
+-- The rows of a calibration text, and the order of its places (this project's profile).
+use Rattle.std.specs.Prelude.{◌&&◌, ◌+◌, ℕ, ℤ, pos, negsuc, neg_ℤ, unsigned_abs, List, [], ◌∷◌, Bool, true, false, Option, Some, None, option_and_then, codes, take, if◌then◌else◌}
+use Rattle.std.specs.Option.{is_some, option_or}
+use Rattle.std.specs.Ordering.{int_eq}
+use Rattle.std.specs.List.{list_any}
+use Rattle.toml.specs.Data.{Data, Members, as_integer, as_str, as_table, get, get_member}
+use Rattle.wrp_caldb.specs.Key.{Key, required_key, optional_key, number_key, default_key}
+use Rattle.wrp_caldb.specs.Name.{same_name}
+use Rattle.wrp_caldb.specs.Place.{PlaceAt}
+use Rattle.wrp_caldb.specs.Rows.{number_in, tables_at}
+use Rattle.wrp_caldb.specs.Refusal.{table_place, place_of_keys, place_of_others, place_in_table, on_table, first_among, IsLeast, HasNone}
+use Rattle.wrp_caldb.specs.declared.place.At.{At}
+use Rattle.wrp_caldb.specs.declared.place.At.TheVariants as tables
+use Rattle.wrp_caldb.specs.declared.row.Code.{Code}
+use Rattle.wrp_caldb.specs.declared.row.Code.TheVariants as co
+use Rattle.wrp_caldb.specs.declared.row.Linear.{Linear}
+use Rattle.wrp_caldb.specs.declared.row.Sort.TheVariants as so
+use Rattle.wrp_caldb.specs.declared.keys.Version.{Version}
+use Rattle.wrp_caldb.specs.declared.keys.Version.TheVariants.{One, Two}
+use Rattle.wrp_caldb.specs.declared.keys.Others.{Others}
+use Rattle.wrp_caldb.specs.declared.keys.Others.TheVariants.{Refused, Ignored}
+
+-- the rows
+
+abbrev pub version_key : Key
+version_key = default_key (codes "version") (pos 1) (pos 2) (pos 1)
+
+abbrev pub module_key : Key
+module_key = optional_key (codes "module") (so.Tables 0 None)
+
+abbrev pub fibre_key : Key
+fibre_key = optional_key (codes "fibre") (so.Tables 0 None)
+
+abbrev pub top_keys : List Key
+top_keys = version_key ∷ module_key ∷ fibre_key ∷ []
+
+abbrev pub tx_key : Key
+tx_key = number_key (codes "tx") (pos 0) (pos 1_000_000_000_000)
+
+abbrev pub rx_key : Key
+rx_key = number_key (codes "rx") (pos 0) (pos 1_000_000_000_000)
+
+abbrev pub transition_key : Key
+transition_key = number_key (codes "transition") (pos 0) (pos 16383)
+
+abbrev pub module_err_key : Key
+module_err_key = number_key (codes "err") (pos 0) (pos 1_000_000_000)
+
+abbrev pub module_name_key : Key
+module_name_key = required_key (codes "name") so.ModuleName
+
+-- a module of version 1 has its numbers beside its name, one of version 2 a list of pairs
+abbrev pub module_keys : Version → List Key
+module_keys One = module_name_key ∷ tx_key ∷ rx_key ∷ transition_key ∷ module_err_key ∷ []
+module_keys Two = module_name_key ∷ required_key (codes "pair") (so.Tables 1 (Some 16)) ∷ []
+
+abbrev pub tx_nm_key : Key
+tx_nm_key = required_key (codes "tx_nm") so.Wavelength
+
+-- the second wavelength of a pair whose first one is this
+abbrev pub rx_nm_key : Option ℤ → Key
+rx_nm_key first = required_key (codes "rx_nm") (so.SecondWavelength first)
+
+-- the first wavelength that stands in a pair
+abbrev pub first_wavelength : Members → Option ℤ
+first_wavelength pair = option_and_then as_integer (get_member (codes "tx_nm") pair)
+
+abbrev pub pair_keys : Members → List Key
+pair_keys pair =
+    tx_nm_key ∷ rx_nm_key (first_wavelength pair) ∷ tx_key ∷ rx_key ∷ transition_key ∷ module_err_key ∷ []
+
+abbrev pub fibre_name_key : Key
+fibre_name_key = required_key (codes "name") so.Name
+
+abbrev pub kappa_key : Key
+kappa_key = number_key (codes "kappa") (negsuc 274_877_906_943) (pos 274_877_906_944)
+
+abbrev pub fibre_err_key : Key
+fibre_err_key = number_key (codes "err") (pos 1) (pos 1_000_000_000)
+
+abbrev pub table_err_key : Key
+table_err_key = default_key (codes "table_err") (pos 0) (pos 1_000_000_000) (pos 0)
+
+abbrev pub linear_law : Option ℤ → Option ℤ → Option Linear
+linear_law (Some kappa) (Some err) = Some (record { kappa = kappa; err = unsigned_abs err })
+linear_law _ _ = None
+
+-- the law that a fibre's points have to keep to; none where its numbers are out of their ranges
+abbrev pub law_of : Members → Option Linear
+law_of fibre = linear_law (number_in kappa_key (get_member (codes "kappa") fibre))
+    (number_in table_err_key (get_member (codes "table_err") fibre))
+
+abbrev pub table_key : Option Linear → Key
+table_key law = optional_key (codes "table") (so.Points law)
+
+-- `table_err` is a key beside `table` alone
+abbrev pub fibre_keys : Members → List Key
+fibre_keys fibre =
+    fibre_name_key ∷ kappa_key ∷ fibre_err_key ∷ table_key (law_of fibre)
+    ∷ (if is_some (get_member (codes "table") fibre) then table_err_key ∷ [] else [])
+
+-- a text is of version 2 where it says so, and else of version 1
+abbrev pub version_in : Option ℤ → Version
+version_in None = One
+version_in (Some z) = if int_eq z (pos 2) then Two else One
+
+abbrev pub version_of : Members → Version
+version_of doc = version_in (option_and_then as_integer (get_member (codes "version") doc))
+
+-- what stands twice
+
+abbrev pub are_same_texts : Option (List ℕ) → Option (List ℕ) → Bool
+are_same_texts (Some a) (Some b) = same_name a b
+are_same_texts _ _ = false
+
+abbrev pub are_same_numbers : Option ℤ → Option ℤ → Bool
+are_same_numbers (Some a) (Some b) = int_eq a b
+are_same_numbers _ _ = false
+
+-- the text at `name`
+abbrev pub name_in : Members → Option (List ℕ)
+name_in table = option_and_then as_str (get_member (codes "name") table)
+
+abbrev pub has_name_of : Members → Data → Bool
+has_name_of table d = are_same_texts (option_and_then name_in (as_table d)) (name_in table)
+
+-- the number at a key
+abbrev pub integer_in : List ℕ → Members → Option ℤ
+integer_in key table = option_and_then as_integer (get_member key table)
+
+-- the two tables have the same number at a key
+abbrev pub has_number_of : List ℕ → Members → Data → Bool
+has_number_of key table d =
+    are_same_numbers (option_and_then (integer_in key) (as_table d)) (integer_in key table)
+
+abbrev pub has_wavelengths_of : Members → Data → Bool
+has_wavelengths_of table d = has_number_of (codes "tx_nm") table d && has_number_of (codes "rx_nm") table d
+
+-- a table's key `name`, where one of the earlier tables has the same name
+abbrev pub place_of_name : Code → At → List Data → Members → Option PlaceAt
+place_of_name co.UnknownKey at earlier table = None
+place_of_name co.Missing at earlier table = None
+place_of_name co.Range at earlier table = None
+place_of_name co.Twice at earlier table =
+    if list_any (has_name_of table) earlier
+    then Some (record { at = at; key = Some (codes "name") }) else None
+
+-- a pair, where one of the earlier pairs has the same two wavelengths
+abbrev pub place_of_pair : Code → At → List Data → Members → Option PlaceAt
+place_of_pair co.UnknownKey at earlier table = None
+place_of_pair co.Missing at earlier table = None
+place_of_pair co.Range at earlier table = None
+place_of_pair co.Twice at earlier table =
+    if list_any (has_wavelengths_of table) earlier then Some (table_place at) else None
+
+-- the order of places
+
+-- the first place of a code in pair m of module n, both from 0
+abbrev pub place_in_pair : Code → ℕ → List Data → ℕ → Data → Option PlaceAt
+place_in_pair code n pairs m d = on_table (λ table. option_or
+    (place_in_table code (tables.Pair (n + 1) (m + 1)) (pair_keys table) table)
+    (place_of_pair code (tables.Pair (n + 1) (m + 1)) (take m pairs) table)) d
+
+abbrev pub place_in_pairs : Version → Code → ℕ → List Data → Option PlaceAt
+place_in_pairs One code n pairs = None
+place_in_pairs Two code n pairs = first_among (place_in_pair code n pairs) 0 pairs
+
+-- in module n from 0: its own keys, then its pairs
+abbrev pub place_in_module : Version → Code → List Data → ℕ → Data → Option PlaceAt
+place_in_module version code modules n d = on_table (λ table. option_or
+    (place_in_table code (tables.Module (n + 1)) (module_keys version) table)
+    (option_or (place_of_name code (tables.Module (n + 1)) (take n modules) table)
+    (place_in_pairs version code n (tables_at (codes "pair") table)))) d
+
+-- in fibre n from 0
+abbrev pub place_in_fibre : Code → List Data → ℕ → Data → Option PlaceAt
+place_in_fibre code fibres n d = on_table (λ table. option_or
+    (place_in_table code (tables.Fibre (n + 1)) (fibre_keys table) table)
+    (place_of_name code (tables.Fibre (n + 1)) (take n fibres) table)) d
+
+abbrev pub place_in_modules : Version → Code → List Data → Option PlaceAt
+place_in_modules version code modules = first_among (place_in_module version code modules) 0 modules
+
+abbrev pub place_in_fibres : Code → List Data → Option PlaceAt
+place_in_fibres code fibres = first_among (place_in_fibre code fibres) 0 fibres
+
+-- behind the top: the key `module`, the modules, the key `fibre`, the fibres
+abbrev pub place_in_lists : Code → Members → Option PlaceAt
+place_in_lists code doc =
+    option_or (place_of_keys code tables.Top (module_key ∷ []) doc)
+    (option_or (place_in_modules (version_of doc) code (tables_at (codes "module") doc))
+    (option_or (place_of_keys code tables.Top (fibre_key ∷ []) doc)
+    (place_in_fibres code (tables_at (codes "fibre") doc))))
+
+-- the top, where other keys than those of a calibration text are refused or ignored
+abbrev pub place_in_top : Others → Code → Members → Option PlaceAt
+place_in_top Refused code doc =
+    option_or (place_of_others code tables.Top top_keys doc)
+    (place_of_keys code tables.Top (version_key ∷ []) doc)
+place_in_top Ignored code doc = place_of_keys code tables.Top (version_key ∷ []) doc
+
+-- the first place of a code in a calibration text
+abbrev pub first_place : Others → Members → Code → Option PlaceAt
+first_place others doc code = option_or (place_in_top others code doc) (place_in_lists code doc)
+
+-- the text is refused for this code at this place
+abbrev pub IsRefused : Others → Members → Code → PlaceAt → Type 0
+IsRefused others doc code place = IsLeast (first_place others doc) code place
+
+-- the text is taken
+abbrev pub IsAccepted : Others → Members → Type 0
+IsAccepted others doc = HasNone (first_place others doc)

@@ -1,0 +1,2 @@
+-- What a calibration text lists (this project's profile).
+use Rattle.std.specs.Prelude.{ℕ}

@@ -1,0 +1,22 @@
+//! The calibration database: the delays of modules and the asymmetries of fibres, as a calibration
+//! laboratory writes them down in TOML, and every mistake in such a text with its code and its place
+//! (this project's profile). The rows, places and refusals serve the network file too.
+#![tactic(auto)]
+
+mod keys;
+mod name;
+mod place;
+mod points;
+mod refusal;
+mod row;
+mod sort;
+mod value;
+
+pub use keys::{Others, Version};
+pub use name::{is_module_name, is_name};
+pub use place::{At, Place};
+pub use points::{Points, is_table_of_points, stored_points};
+pub use refusal::{place_in_table, place_of_keys, place_of_others};
+pub use row::{Code, Linear, Need, Row, Sort};
+pub use sort::{fits, number_at};
+pub use value::{array_of, tables_at, value_at};

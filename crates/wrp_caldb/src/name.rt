@@ -1,0 +1,42 @@
+//! Names of nodes, links, modules and fibres.
+ghost use Rattle.std.specs.Prelude.{◌≡◌, ◌&&◌, length, nat_le};
+ghost use Rattle.std.specs.List.{list_all};
+ghost use Rattle.wrp_caldb.specs.Name.{is_name_octet, is_name, is_module_name};
+
+// A letter, a digit or `_`.
+fn is_name_octet(octet: u8) -> bool
+    ensures { result ≡ is_name_octet octet }
+{
+    matches!(octet, b'a'..=b'z' | b'0'..=b'9' | b'_')
+}
+
+fn are_name_octets(octets: &[u8]) -> bool
+    ensures { result ≡ list_all is_name_octet octets.now }
+{
+    octets.iter().all(|octet| is_name_octet(*octet))
+}
+
+// Whether these octets may stand behind a name's first letter.
+fn ends_name(rest: &[u8]) -> bool
+    ensures { result ≡ (list_all is_name_octet rest.now && nat_le (length rest.now) 15) }
+{
+    are_name_octets(rest) && rest.len() <= 15
+}
+
+/// Whether a text is a name: a letter `a` to `z`, then letters `a` to `z`, digits and `_`; at most 16
+/// octets.
+pub fn is_name(text: &str) -> bool
+    ensures { result ≡ is_name text.now }
+{
+    match text.as_bytes() {
+        [first, rest @ ..] => first.is_ascii_lowercase() && ends_name(rest),
+        [] => false,
+    }
+}
+
+/// Whether a module may have this name: any but `unlisted`, which stands for a module of no entry.
+pub fn is_module_name(text: &str) -> bool
+    ensures { result ≡ is_module_name text.now }
+{
+    is_name(text) && text != "unlisted"
+}

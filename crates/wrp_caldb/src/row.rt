@@ -1,0 +1,153 @@
+//! Rows as data: one row for each key of a table of a TOML text, with whether it is needed and the
+//! sort of its value. The network file has the same kind of rows.
+ghost use Rattle.std.specs.Prelude.{◌≡◌, ◌≤◌, length};
+ghost use Rattle.wrp_caldb.specs.Key.{required_key, optional_key, number_key, default_key};
+
+use std::marker::Model;
+
+/// A linear delay law: the way down takes `(2^39 + kappa) / 2^40` of both ways.
+#[derive(Clone, Copy, Debug, PartialEq, Eq)]
+pub struct Linear {
+    /// The asymmetry, from `-2^38` to `2^38`.
+    pub kappa: i64,
+    /// How far a stored point may be from the law, in tau: 0 to `10^9`.
+    pub err: u64,
+}
+
+/// The sort of a key's value.
+#[derive(Clone, Copy, Debug, PartialEq, Eq)]
+pub enum Sort {
+    /// A whole number from `least` to `greatest`.
+    Number { least: i64, greatest: i64 },
+    /// A wavelength in nm: 0 for any, or 800 to 1700.
+    Wavelength,
+    /// A wavelength that is 0 exactly where the first one of its pair is.
+    SecondWavelength { first: Option<i64> },
+    /// An array of 2 to 32 points, each an array of a two-way delay x and a one-way delay y, in tau:
+    /// x from `-2^30` to `2^53` and rising, y from `-2^53` to `2^53` and not falling, each within the
+    /// law's `err` of the law where there is one.
+    Points { law: Option<Linear> },
+    /// `true` or `false`.
+    Flag,
+    /// Any text.
+    Text,
+    /// A name: a letter `a` to `z`, then letters, digits and `_`, at most 16 octets.
+    Name,
+    /// A name other than `unlisted`.
+    ModuleName,
+    /// A table.
+    Table,
+    /// An array of tables alone, at least `least` and at most `greatest` of them.
+    Tables { least: usize, greatest: Option<usize> },
+}
+
+/// What stands for a key that is missing.
+#[derive(Clone, Copy, Debug, PartialEq, Eq)]
+pub enum Need {
+    /// Nothing: the key has to be there.
+    Required,
+    /// Nothing, and the key may be missing.
+    Optional,
+    /// This number.
+    Default(i64),
+}
+
+/// Why a table is refused, by the number that a refusal's line has.
+#[derive(Clone, Copy, Debug, PartialEq, Eq)]
+pub enum Code {
+    /// A table has a key that is not listed.
+    UnknownKey = 2,
+    /// A required key is missing.
+    Missing = 3,
+    /// A value is of the wrong sort, or out of its range.
+    Range = 4,
+    /// A value repeats one that has to be alone.
+    Twice = 5,
+}
+
+/// A key of a table; its name has at most 16 octets.
+#[derive(Debug, Drop)]
+pub struct Row {
+    key: &'static str,
+    need: Need,
+    sort: Sort,
+}
+
+impl Model for Row {
+    ghost use Rattle.std.specs.Prelude.{◌≤◌, length};
+    ghost use Rattle.wrp_caldb.specs.Key.{Key};
+
+    ghost Value = { Key };
+
+    ghost view = { λ r. record { name = r.key.now; need = r.need; sort = r.sort } };
+
+    ghost invariant = { λ r. length r.key.now ≤ 16 };
+}
+
+impl Row {
+    /// A key that has to be there.
+    pub fn required(key: &'static str, sort: Sort) -> Row
+        requires { length key.now ≤ 16 }
+        ensures { result ≡ required_key key.now sort }
+    {
+        Row {
+            key,
+            need: Need::Required,
+            sort,
+        }
+    }
+
+    /// A key that may be missing.
+    pub fn optional(key: &'static str, sort: Sort) -> Row
+        requires { length key.now ≤ 16 }
+        ensures { result ≡ optional_key key.now sort }
+    {
+        Row {
+            key,
+            need: Need::Optional,
+            sort,
+        }
+    }
+
+    /// A key of a whole number from `least` to `greatest` that has to be there.
+    pub fn number(key: &'static str, least: i64, greatest: i64) -> Row
+        requires { length key.now ≤ 16 }
+        ensures { result ≡ number_key key.now least greatest }
+    {
+        Row::required(key, Sort::Number { least, greatest })
+    }
+
+    /// A key of a whole number from `least` to `greatest`, and what stands for it where it is missing.
+    pub fn with_default(key: &'static str, least: i64, greatest: i64, default: i64) -> Row
+        requires { length key.now ≤ 16 }
+        ensures { result ≡ default_key key.now least greatest default }
+    {
+        Row {
+            key,
+            need: Need::Default(default),
+            sort: Sort::Number { least, greatest },
+        }
+    }
+
+    /// The key's name: at most 16 octets.
+    pub fn key(&self) -> &'static str
+        ensures value { result.now ≡ self.now.name }
+        ensures short { length result.now ≤ 16 }
+    {
+        self.key
+    }
+
+    /// What stands for the key where it is missing.
+    pub fn need(&self) -> Need
+        ensures { result ≡ self.now.need }
+    {
+        self.need
+    }
+
+    /// The sort of its value.
+    pub fn sort(&self) -> Sort
+        ensures { result ≡ self.now.sort }
+    {
+        self.sort
+    }
+}
