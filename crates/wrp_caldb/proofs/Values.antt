@@ -1,5 +1,6 @@
 -- The values of an array and the keys of a table, beside the items and members that they stand for.
-use Rattle.std.proofs.Common.{◌≡◌, ◌&&◌, ◌||◌, not, ℕ, List, [], ◌∷◌, Bool, false, map, String, Global, refl, ap}
+use Rattle.std.proofs.Common.{◌≡◌, ◌&&◌, ◌||◌, not, ℕ, List, [], ◌∷◌, Bool, false, map, take, String, Global, refl, ap, ◌∙◌}
+use Rattle.std.proofs.lemmas.List.{take-map}
 use Rattle.std.specs.Prelude.{string_bytes}
 use Rattle.std.specs.List.{list_all, list_any}
 use Rattle.toml.specs.Data.{Data}
@@ -32,3 +33,7 @@ unknown_among keys (name ∷ names) = not (is_listed keys (string_bytes name)) |
 pub any_unknown : (keys : List Key) (es : List (String Global × Value)) → has_unknown keys (members_view es) ≡ unknown_among keys (map (λ e. e.0) es)
 any_unknown keys [] = refl
 any_unknown keys (e ∷ es) = ap (λ (b : Bool). not (is_listed keys (string_bytes e.0)) || b) (any_unknown keys es)
+
+-- a test of the data of the first values
+pub list_any-first : {X Y : Type 0} (p : Y → Bool) (f : X → Y) (n : ℕ) (xs : List X) → list_any p (take n (map f xs)) ≡ list_any (λ x. p (f x)) (take n xs)
+list_any-first p f n xs = ap (list_any p) (take-map f n xs) ∙ list_any-map p f (take n xs)

@@ -155,34 +155,37 @@ place_of_pair co.Twice at earlier table =
 
 -- the order of places
 
--- the first place of a code in pair m of module n, both from 0
-abbrev pub place_in_pair : Code → ℕ → List Data → ℕ → Data → Option PlaceAt
-place_in_pair code n pairs m d = on_table (λ table. option_or
-    (place_in_table code (tables.Pair (n + 1) (m + 1)) (pair_keys table) table)
-    (place_of_pair code (tables.Pair (n + 1) (m + 1)) (take m pairs) table)) d
+-- the first place of a code in a pair of module n, with m pairs before it
+abbrev pub place_in_pair : Code → ℕ → List Data → ℕ → Members → Option PlaceAt
+place_in_pair code n pairs m table =
+    option_or (place_in_table code (tables.Pair n (m + 1)) (pair_keys table) table)
+    (place_of_pair code (tables.Pair n (m + 1)) (take m pairs) table)
 
+-- in the pairs of module n, which a module of version 1 has not
 abbrev pub place_in_pairs : Version → Code → ℕ → List Data → Option PlaceAt
 place_in_pairs One code n pairs = None
-place_in_pairs Two code n pairs = first_among (place_in_pair code n pairs) 0 pairs
+place_in_pairs Two code n pairs = first_among (λ m d. on_table (place_in_pair code n pairs m) d) 0 pairs
 
--- in module n from 0: its own keys, then its pairs
-abbrev pub place_in_module : Version → Code → List Data → ℕ → Data → Option PlaceAt
-place_in_module version code modules n d = on_table (λ table. option_or
-    (place_in_table code (tables.Module (n + 1)) (module_keys version) table)
+-- in a module with n modules before it: its own keys, then its pairs
+abbrev pub place_in_module : Version → Code → List Data → ℕ → Members → Option PlaceAt
+place_in_module version code modules n table =
+    option_or (place_in_table code (tables.Module (n + 1)) (module_keys version) table)
     (option_or (place_of_name code (tables.Module (n + 1)) (take n modules) table)
-    (place_in_pairs version code n (tables_at (codes "pair") table)))) d
+    (place_in_pairs version code (n + 1) (tables_at (codes "pair") table)))
 
--- in fibre n from 0
-abbrev pub place_in_fibre : Code → List Data → ℕ → Data → Option PlaceAt
-place_in_fibre code fibres n d = on_table (λ table. option_or
-    (place_in_table code (tables.Fibre (n + 1)) (fibre_keys table) table)
-    (place_of_name code (tables.Fibre (n + 1)) (take n fibres) table)) d
+-- in a fibre with n fibres before it
+abbrev pub place_in_fibre : Code → List Data → ℕ → Members → Option PlaceAt
+place_in_fibre code fibres n table =
+    option_or (place_in_table code (tables.Fibre (n + 1)) (fibre_keys table) table)
+    (place_of_name code (tables.Fibre (n + 1)) (take n fibres) table)
 
 abbrev pub place_in_modules : Version → Code → List Data → Option PlaceAt
-place_in_modules version code modules = first_among (place_in_module version code modules) 0 modules
+place_in_modules version code modules =
+    first_among (λ n d. on_table (place_in_module version code modules n) d) 0 modules
 
 abbrev pub place_in_fibres : Code → List Data → Option PlaceAt
-place_in_fibres code fibres = first_among (place_in_fibre code fibres) 0 fibres
+place_in_fibres code fibres =
+    first_among (λ n d. on_table (place_in_fibre code fibres n) d) 0 fibres
 
 -- behind the top: the key `module`, the modules, the key `fibre`, the fibres
 abbrev pub place_in_lists : Code → Members → Option PlaceAt

@@ -56,6 +56,16 @@ abbrev pub IsLeast : (Code → Option PlaceAt) → Code → PlaceAt → Type 0
 IsLeast first code place = (first code ≡ Some place)
     × ((lower : Code) → number_of lower < number_of code → first lower ≡ None)
 
+abbrev pub with_code : Code → Option PlaceAt → Option (Code × PlaceAt)
+with_code code None = None
+with_code code (Some place) = Some (code, place)
+
+-- the codes tried in turn
+abbrev pub least_of : (Code → Option PlaceAt) → Option (Code × PlaceAt)
+least_of first = option_or (with_code co.UnknownKey (first co.UnknownKey))
+    (option_or (with_code co.Missing (first co.Missing))
+    (option_or (with_code co.Range (first co.Range)) (with_code co.Twice (first co.Twice))))
+
 -- no code has a place
 abbrev pub HasNone : (Code → Option PlaceAt) → Type 0
 HasNone first = (code : Code) → first code ≡ None

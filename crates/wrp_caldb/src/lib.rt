@@ -3,20 +3,22 @@
 //! (this project's profile). The rows, places and refusals serve the network file too.
 #![tactic(auto)]
 
+mod faults;
+mod judging;
 mod keys;
 mod name;
 mod place;
 mod points;
-mod refusal;
 mod row;
 mod sort;
 mod value;
 
+pub use faults::{place_in_table, place_of_keys, place_of_others};
+pub use judging::{place_in_lists, refusal};
 pub use keys::{Others, Version};
 pub use name::{is_module_name, is_name};
 pub use place::{At, Place};
 pub use points::{Points, is_table_of_points, stored_points};
-pub use refusal::{place_in_table, place_of_keys, place_of_others};
 pub use row::{Code, Linear, Need, Row, Sort};
 pub use sort::{fits, number_at};
 pub use value::{array_of, tables_at, value_at};

@@ -92,11 +92,7 @@ fn short_text(text: &str) -> ArrayString<96>
 }
 
 // Appends a number in decimal.
-fn push_number(
-    alloc: Global,
-    text: &mut ArrayString<96>,
-    number: usize,
-) -> Result<(), AllocError>
+fn push_number(alloc: Global, text: &mut ArrayString<96>, number: usize) -> Result<(), AllocError>
     requires { array_string_len text.old ≤ 64 }
     ensures ok { OnOk result (text.new.bytes ≡ text.old.bytes ++ decimal number) }
     ensures short { array_string_len text.new ≤ array_string_len text.old + 20 }

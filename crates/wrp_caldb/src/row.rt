@@ -18,15 +18,22 @@ pub struct Linear {
 #[derive(Clone, Copy, Debug, PartialEq, Eq)]
 pub enum Sort {
     /// A whole number from `least` to `greatest`.
-    Number { least: i64, greatest: i64 },
+    Number {
+        least: i64,
+        greatest: i64,
+    },
     /// A wavelength in nm: 0 for any, or 800 to 1700.
     Wavelength,
     /// A wavelength that is 0 exactly where the first one of its pair is.
-    SecondWavelength { first: Option<i64> },
+    SecondWavelength {
+        first: Option<i64>,
+    },
     /// An array of 2 to 32 points, each an array of a two-way delay x and a one-way delay y, in tau:
     /// x from `-2^30` to `2^53` and rising, y from `-2^53` to `2^53` and not falling, each within the
     /// law's `err` of the law where there is one.
-    Points { law: Option<Linear> },
+    Points {
+        law: Option<Linear>,
+    },
     /// `true` or `false`.
     Flag,
     /// Any text.
@@ -38,7 +45,10 @@ pub enum Sort {
     /// A table.
     Table,
     /// An array of tables alone, at least `least` and at most `greatest` of them.
-    Tables { least: usize, greatest: Option<usize> },
+    Tables {
+        least: usize,
+        greatest: Option<usize>,
+    },
 }
 
 /// What stands for a key that is missing.
