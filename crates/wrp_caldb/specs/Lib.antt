@@ -4,5 +4,6 @@ pub mod Key
 pub mod Name
 pub mod Place
 pub mod Points
+pub mod Reading
 pub mod Refusal
 pub mod Rows

@@ -18,7 +18,7 @@ use crate::value::{tables_at, value_at};
 use toml::{Table, Value};
 
 // The text at `name`.
-fn name_in<'a>(table: &'a Table) -> Option<&'a str>
+pub(crate) fn name_in<'a>(table: &'a Table) -> Option<&'a str>
     ensures { option_copied result ≡ name_in (table_view table.now) }
 {
     match value_at(table, "name") {

@@ -3,16 +3,19 @@
 //! (this project's profile). The rows, places and refusals serve the network file too.
 #![tactic(auto)]
 
+mod database;
 mod faults;
 mod judging;
 mod keys;
 mod name;
 mod place;
 mod points;
+mod reading;
 mod row;
 mod sort;
 mod value;
 
+pub use database::{CalDb, Entry, ListedFibre, ListedModule};
 pub use faults::{place_in_table, place_of_keys, place_of_others};
 pub use judging::{place_in_lists, refusal};
 pub use keys::{Others, Version};
@@ -22,3 +25,6 @@ pub use points::{Points, is_table_of_points, stored_points};
 pub use row::{Code, Linear, Need, Row, Sort};
 pub use sort::{fits, number_at};
 pub use value::{array_of, tables_at, value_at};
+
+#[cfg(test)]
+mod tests;

@@ -2,6 +2,7 @@
 //! sort of its value. The network file has the same kind of rows.
 ghost use Rattle.std.specs.Prelude.{◌≡◌, ◌≤◌, length};
 ghost use Rattle.wrp_caldb.specs.Key.{required_key, optional_key, number_key, default_key};
+ghost use Rattle.wrp_caldb.specs.Refusal.{number_of};
 
 use std::marker::Model;
 
@@ -73,6 +74,15 @@ pub enum Code {
     Range = 4,
     /// A value repeats one that has to be alone.
     Twice = 5,
+}
+
+impl Code {
+    /// The code's number.
+    pub fn number(self) -> u8
+        ensures { result ≡ number_of self }
+    {
+        self as u8
+    }
 }
 
 /// A key of a table; its name has at most 16 octets.

@@ -1,0 +1,71 @@
+//! Texts with their codes and places, and what a text lists. Each expected value follows from the rules.
+use crate::CalDb;
+use std::test::*;
+use wrp_base::{ConfFault, Fibre, Module};
+
+mod texts;
+
+use texts::{FAULTS, VERSION_1, VERSION_2};
+
+#[test]
+fn faults(rt: HostRuntime) -> Result<(), Fail> {
+    for (text, number, at) in FAULTS {
+        match CalDb::read(rt.alloc(), text.as_bytes()) {
+            Ok(_) => assert_eq!(rt; number, 0, "{text}"),
+            Err(ConfFault::Fault { code, place }) => {
+                assert_eq!(rt; code, number, "{text}");
+                assert_eq!(rt; place.as_str(), at, "{text}");
+            }
+            Err(ConfFault::Memory(_)) => return Err("memory".into()),
+        }
+    }
+    Ok(())
+}
+
+const fn delays(tx: u64, rx: u64, transition: u16, err: u64) -> Module {
+    Module {
+        tx,
+        rx,
+        transition,
+        err,
+    }
+}
+
+const LISTED: [(&str, u16, u16, Option<Module>); 9] = [
+    ("blue", 1310, 1490, Some(delays(1, 2, 3, 1000))),
+    ("blue", 1490, 1310, Some(delays(4, 5, 6, 2000))),
+    ("blue", 0, 0, Some(delays(4, 5, 6, 2000))),
+    ("violet", 1490, 1310, Some(delays(7, 8, 9, 10))),
+    ("violet", 1310, 1490, None),
+    ("violet", 0, 0, None),
+    ("amber", 1310, 1490, Some(delays(11, 12, 13, 14))),
+    ("smf", 0, 0, None),
+    ("unlisted", 0, 0, None),
+];
+
+#[test]
+fn listed(rt: HostRuntime) -> Result<(), Fail> {
+    let old = CalDb::read(rt.alloc(), VERSION_1.as_bytes()).ok().ok_or("version 1")?;
+    assert_eq!(rt; old.module_at("blue", 1310, 1490), Some(delays(14_745_600_000, 14_745_600_001, 5, 1_310_720)));
+    let database = CalDb::read(rt.alloc(), VERSION_2.as_bytes()).ok().ok_or("version 2")?;
+    for (name, tx_nm, rx_nm, found) in LISTED {
+        assert_eq!(rt; database.module_at(name, tx_nm, rx_nm), found, "{name} {tx_nm} {rx_nm}");
+    }
+    assert_eq!(rt; database.module("amber"), Some(delays(11, 12, 13, 14)));
+    assert_eq!(rt; database.fibre("smf"), Some(Fibre { kappa: -5, err: 6 }));
+    assert_eq!(rt; database.fibre("stored"), Some(Fibre { kappa: 0, err: 7 }));
+    assert_eq!(rt; database.fibre("blue"), None);
+    assert!(rt; database.table("smf").is_none());
+    match database.table("stored") {
+        Some((points, err)) => {
+            assert_eq!(rt; points, [(-2, -1), (8, 4)].as_slice());
+            assert_eq!(rt; err, 1);
+        }
+        None => return Err("a table".into()),
+    }
+    let names = ["blue", "violet", "amber"];
+    for i in 0..3 {
+        assert_eq!(rt; database.modules().get(i).map(|module| module.name()), Some(names[i]));
+    }
+    Ok(())
+}
