@@ -7,6 +7,7 @@ use Rattle.toml.specs.Data.{Data, Members, as_integer, as_str, as_table, get, ge
 use Rattle.wrp_caldb.specs.Key.{Key, required_key, optional_key, number_key, default_key}
 use Rattle.wrp_caldb.specs.Name.{same_name}
 use Rattle.wrp_caldb.specs.Place.{PlaceAt}
+use Rattle.wrp_caldb.specs.Repeats.{place_of_name, place_of_pair}
 use Rattle.wrp_caldb.specs.Rows.{number_in, tables_at}
 use Rattle.wrp_caldb.specs.Refusal.{table_place, place_of_keys, place_of_others, place_in_table, on_table, first_among, IsLeast, HasNone}
 use Rattle.wrp_caldb.specs.declared.place.At.{At}
@@ -67,7 +68,8 @@ first_wavelength pair = option_and_then as_integer (get_member (codes "tx_nm") p
 
 abbrev pub pair_keys : Members → List Key
 pair_keys pair =
-    tx_nm_key ∷ rx_nm_key (first_wavelength pair) ∷ tx_key ∷ rx_key ∷ transition_key ∷ module_err_key ∷ []
+    tx_nm_key ∷ rx_nm_key (first_wavelength pair)
+    ∷ tx_key ∷ rx_key ∷ transition_key ∷ module_err_key ∷ []
 
 abbrev pub fibre_name_key : Key
 fibre_name_key = required_key (codes "name") so.Name
@@ -93,11 +95,15 @@ law_of fibre = linear_law (number_in kappa_key (get_member (codes "kappa") fibre
 abbrev pub table_key : Option Linear → Key
 table_key law = optional_key (codes "table") (so.Points law)
 
+-- the keys of a fibre, before these
+abbrev pub linear_keys : Members → List Key → List Key
+linear_keys fibre more =
+    fibre_name_key ∷ kappa_key ∷ fibre_err_key ∷ table_key (law_of fibre) ∷ more
+
 -- `table_err` is a key beside `table` alone
 abbrev pub fibre_keys : Members → List Key
 fibre_keys fibre =
-    fibre_name_key ∷ kappa_key ∷ fibre_err_key ∷ table_key (law_of fibre)
-    ∷ (if is_some (get_member (codes "table") fibre) then table_err_key ∷ [] else [])
+    linear_keys fibre (if is_some (get_member (codes "table") fibre) then table_err_key ∷ [] else [])
 
 -- a text is of version 2 where it says so, and else of version 1
 abbrev pub version_in : Option ℤ → Version
@@ -106,52 +112,6 @@ version_in (Some z) = if int_eq z (pos 2) then Two else One
 
 abbrev pub version_of : Members → Version
 version_of doc = version_in (option_and_then as_integer (get_member (codes "version") doc))
-
--- what stands twice
-
-abbrev pub are_same_texts : Option (List ℕ) → Option (List ℕ) → Bool
-are_same_texts (Some a) (Some b) = same_name a b
-are_same_texts _ _ = false
-
-abbrev pub are_same_numbers : Option ℤ → Option ℤ → Bool
-are_same_numbers (Some a) (Some b) = int_eq a b
-are_same_numbers _ _ = false
-
--- the text at `name`
-abbrev pub name_in : Members → Option (List ℕ)
-name_in table = option_and_then as_str (get_member (codes "name") table)
-
-abbrev pub has_name_of : Members → Data → Bool
-has_name_of table d = are_same_texts (option_and_then name_in (as_table d)) (name_in table)
-
--- the number at a key
-abbrev pub integer_in : List ℕ → Members → Option ℤ
-integer_in key table = option_and_then as_integer (get_member key table)
-
--- the two tables have the same number at a key
-abbrev pub has_number_of : List ℕ → Members → Data → Bool
-has_number_of key table d =
-    are_same_numbers (option_and_then (integer_in key) (as_table d)) (integer_in key table)
-
-abbrev pub has_wavelengths_of : Members → Data → Bool
-has_wavelengths_of table d = has_number_of (codes "tx_nm") table d && has_number_of (codes "rx_nm") table d
-
--- a table's key `name`, where one of the earlier tables has the same name
-abbrev pub place_of_name : Code → At → List Data → Members → Option PlaceAt
-place_of_name co.UnknownKey at earlier table = None
-place_of_name co.Missing at earlier table = None
-place_of_name co.Range at earlier table = None
-place_of_name co.Twice at earlier table =
-    if list_any (has_name_of table) earlier
-    then Some (record { at = at; key = Some (codes "name") }) else None
-
--- a pair, where one of the earlier pairs has the same two wavelengths
-abbrev pub place_of_pair : Code → At → List Data → Members → Option PlaceAt
-place_of_pair co.UnknownKey at earlier table = None
-place_of_pair co.Missing at earlier table = None
-place_of_pair co.Range at earlier table = None
-place_of_pair co.Twice at earlier table =
-    if list_any (has_wavelengths_of table) earlier then Some (table_place at) else None
 
 -- the order of places
 
@@ -164,7 +124,8 @@ place_in_pair code n pairs m table =
 -- in the pairs of module n, which a module of version 1 has not
 abbrev pub place_in_pairs : Version → Code → ℕ → List Data → Option PlaceAt
 place_in_pairs One code n pairs = None
-place_in_pairs Two code n pairs = first_among (λ m d. on_table (place_in_pair code n pairs m) d) 0 pairs
+place_in_pairs Two code n pairs =
+    first_among (λ m d. on_table (place_in_pair code n pairs m) d) 0 pairs
 
 -- in a module with n modules before it: its own keys, then its pairs
 abbrev pub place_in_module : Version → Code → List Data → ℕ → Members → Option PlaceAt

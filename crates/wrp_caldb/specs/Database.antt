@@ -6,10 +6,11 @@ use Rattle.std.specs.List.{find, filter_map}
 use Rattle.toml.specs.Data.{Data, Members, as_str, as_table, get_member}
 use Rattle.wrp_base.specs.declared.link.Module.{Module}
 use Rattle.wrp_base.specs.declared.link.Fibre.{Fibre}
-use Rattle.wrp_caldb.specs.Calibration.{tx_key, rx_key, transition_key, module_err_key, tx_nm_key, rx_nm_key, first_wavelength, kappa_key, fibre_err_key, table_err_key, version_of, name_in}
+use Rattle.wrp_caldb.specs.Calibration.{tx_key, rx_key, transition_key, module_err_key, tx_nm_key, rx_nm_key, kappa_key, fibre_err_key, table_err_key, version_of}
 use Rattle.wrp_caldb.specs.Key.{Key}
 use Rattle.wrp_caldb.specs.Name.{same_name, is_name}
 use Rattle.wrp_caldb.specs.Points.{stored_points}
+use Rattle.wrp_caldb.specs.Repeats.{name_in}
 use Rattle.wrp_caldb.specs.Rows.{number_in, tables_at}
 use Rattle.wrp_caldb.specs.declared.database.Entry.{Entry}
 use Rattle.wrp_caldb.specs.declared.keys.Version.{Version}
@@ -90,7 +91,7 @@ delays_of table = record {
 abbrev pub entry_of : Members → Entry
 entry_of pair = record {
   tx_nm = natural_at tx_nm_key pair;
-  rx_nm = natural_at (rx_nm_key (first_wavelength pair)) pair;
+  rx_nm = natural_at (rx_nm_key None) pair;
   delays = delays_of pair;
 }
 

@@ -6,4 +6,6 @@ pub mod Place
 pub mod Points
 pub mod Reading
 pub mod Refusal
+pub mod Repeats
 pub mod Rows
+pub mod Text

@@ -20,7 +20,8 @@ IsFaultOf others doc number text = (code : Code) × (place : PlaceAt)
 
 -- the fault has the number of this code and the text of this place
 abbrev pub IsFaultAt : Code → PlaceAt → ConfFault → Type 0
-IsFaultAt code place (Fault number text) = (number ≡ number_of code) × (text.bytes ≡ place_text place)
+IsFaultAt code place (Fault number text) =
+    (number ≡ number_of code) × (text.bytes ≡ place_text place)
 IsFaultAt code place (Memory e) = Unit {0}
 
 -- code 1, at the place `-`
@@ -28,8 +29,8 @@ abbrev pub IsSyntax : ConfFault → Type 0
 IsSyntax (Fault number text) = (number ≡ 1) × (text.bytes ≡ codes "-")
 IsSyntax (Memory e) = ⊥
 
--- the answer for a table: its database where it is accepted, else the least code at its first place;
--- want of memory may come for any
+-- the answer for a table: its database where it is accepted, else the least code at its first
+-- place; want of memory may come for any
 abbrev pub IsAnswerOf : Others → Members → Result Database ConfFault → Type 0
 IsAnswerOf others doc (Ok db) = IsAccepted others doc × (db ≡ database_of doc)
 IsAnswerOf others doc (Err (Fault number place)) = IsFaultOf others doc number place.bytes

@@ -44,7 +44,8 @@ is_below (Some greatest) n = nat_le n greatest
 -- tables alone, from least to greatest of them
 abbrev pub are_tables : ℕ → Option ℕ → List Data → Bool
 are_tables least greatest ds =
-    list_all (λ d. is_some (as_table d)) ds && (nat_le least (length ds) && is_below greatest (length ds))
+    list_all (λ d. is_some (as_table d)) ds
+    && (nat_le least (length ds) && is_below greatest (length ds))
 
 abbrev pub is_array_of_tables : ℕ → Option ℕ → Option (List Data) → Bool
 is_array_of_tables least greatest None = false
@@ -74,10 +75,14 @@ default_of ne.Required = None
 default_of ne.Optional = None
 default_of (ne.Default n) = Some n
 
+-- the number of a value that is of this sort
+abbrev pub fitting_number : Sort → Data → Option ℤ
+fitting_number sort d = if fits_sort sort d then as_integer d else None
+
 -- the number that stands for a key: a value of its sort, or its default where it is missing
 abbrev pub number_in : Key → Option Data → Option ℤ
 number_in key None = default_of key.need
-number_in key (Some d) = if fits_sort key.sort d then as_integer d else None
+number_in key (Some d) = fitting_number key.sort d
 
 -- a row's key, with what stands at it, has a fault of this code
 abbrev pub has_fault : Code → Key → Option Data → Bool

@@ -50,8 +50,8 @@ impl ListedModule {
         self.entries.as_slice()
     }
 
-    /// The numbers for a pair of wavelengths in nm: those of that pair, else those of 0 and 0. `None`
-    /// where the module has neither.
+    /// The numbers for a pair of wavelengths in nm: those of that pair, else those of 0 and 0.
+    /// `None` where the module has neither.
     pub fn at(&self, tx_nm: u16, rx_nm: u16) -> Option<Module>
         ensures { result ≡ delays_at self.now.entries tx_nm rx_nm }
     {

@@ -78,8 +78,8 @@ pub fn place_of_others(at: At, table: &Table, rows: &[Row], code: Code) -> Optio
     }
 }
 
-/// The first place of a code in a table with these rows: the table where it has a key without a row,
-/// then the keys in the order of the rows.
+/// The first place of a code in a table with these rows: the table where it has a key without a
+/// row, then the keys in the order of the rows.
 pub fn place_in_table(at: At, table: &Table, rows: &[Row], code: Code) -> Option<Place>
     ensures { result ≡ place_in_table code at rows.now (table_view table.now) }
 {

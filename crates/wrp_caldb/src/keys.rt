@@ -2,7 +2,7 @@
 ghost use Rattle.std.specs.Prelude.{◌≡◌, ◌∷◌, [], option_and_then, codes, Some, None};
 ghost use Rattle.toml.specs.Data.{get_member, as_integer};
 ghost use Rattle.toml.specs.View.{table_view};
-ghost use Rattle.wrp_caldb.specs.Calibration.{version_key, module_key, fibre_key, top_keys, tx_key, rx_key, transition_key, module_err_key, module_name_key, module_keys, tx_nm_key, rx_nm_key, first_wavelength, pair_keys, fibre_name_key, kappa_key, fibre_err_key, table_err_key, law_of, table_key, version_of};
+ghost use Rattle.wrp_caldb.specs.Calibration.{version_key, module_key, fibre_key, top_keys, tx_key, rx_key, transition_key, module_err_key, module_name_key, module_keys, tx_nm_key, rx_nm_key, first_wavelength, pair_keys, fibre_name_key, kappa_key, fibre_err_key, table_err_key, law_of, table_key, linear_keys, version_of};
 ghost use Rattle.wrp_caldb.specs.declared.keys.Version.TheVariants.{One, Two};
 
 use crate::row::{Linear, Row, Sort};
@@ -224,7 +224,7 @@ fn table_row(law: Option<Linear>) -> Row
 
 /// The rows of a fibre without a table.
 pub fn fibre_rows(fibre: &Table) -> [Row; 4]
-    ensures { result ≡ fibre_name_key ∷ kappa_key ∷ fibre_err_key ∷ table_key (law_of (table_view fibre.now)) ∷ [] }
+    ensures { result ≡ linear_keys (table_view fibre.now) [] }
 {
     [
         fibre_name_row(),
@@ -236,7 +236,7 @@ pub fn fibre_rows(fibre: &Table) -> [Row; 4]
 
 /// The rows of a fibre with a table.
 pub fn tabled_fibre_rows(fibre: &Table) -> [Row; 5]
-    ensures { result ≡ fibre_name_key ∷ kappa_key ∷ fibre_err_key ∷ table_key (law_of (table_view fibre.now)) ∷ table_err_key ∷ [] }
+    ensures { result ≡ linear_keys (table_view fibre.now) (table_err_key ∷ []) }
 {
     [
         fibre_name_row(),

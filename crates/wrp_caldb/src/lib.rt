@@ -1,6 +1,6 @@
 //! The calibration database: the delays of modules and the asymmetries of fibres, as a calibration
-//! laboratory writes them down in TOML, and every mistake in such a text with its code and its place
-//! (this project's profile). The rows, places and refusals serve the network file too.
+//! laboratory writes them down in TOML, and every mistake in such a text with its code and its
+//! place (this project's profile). The rows, places and refusals serve the network file too.
 #![tactic(auto)]
 
 mod database;
@@ -11,6 +11,7 @@ mod name;
 mod place;
 mod points;
 mod reading;
+mod repeats;
 mod row;
 mod sort;
 mod value;

@@ -23,8 +23,8 @@ fn ends_name(rest: &[u8]) -> bool
     are_name_octets(rest) && rest.len() <= 15
 }
 
-/// Whether a text is a name: a letter `a` to `z`, then letters `a` to `z`, digits and `_`; at most 16
-/// octets.
+/// Whether a text is a name: a letter `a` to `z`, then letters `a` to `z`, digits and `_`; at most
+/// 16 octets.
 pub fn is_name(text: &str) -> bool
     ensures { result ≡ is_name text.now }
 {

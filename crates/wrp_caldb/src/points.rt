@@ -62,7 +62,8 @@ fn few_points(values: &[Value]) -> Option<Points>
     }
 }
 
-/// The points of an array of 2 to 32 arrays of two whole numbers; `None` where the value is another.
+/// The points of an array of 2 to 32 arrays of two whole numbers; `None` where the value is
+/// another.
 pub fn stored_points(value: &Value) -> Option<Points>
     ensures { option_map (λ ps. ps.items) result ≡ stored_points (view value.now) }
 {

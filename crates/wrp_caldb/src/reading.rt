@@ -2,21 +2,22 @@
 ghost use Rattle.std.specs.Prelude.{◌≡◌, ◌≤◌, ℕ, IfOk, Some, None, map, option_map, option_copied};
 ghost use Rattle.std.specs.Str.{IsUtf8};
 ghost use Rattle.toml.specs.View.{view, table_view};
-ghost use Rattle.wrp_caldb.specs.Calibration.{transition_key, tx_nm_key, rx_nm_key, first_wavelength};
+ghost use Rattle.wrp_caldb.specs.Calibration.{transition_key, tx_nm_key, rx_nm_key};
 ghost use Rattle.wrp_caldb.specs.Database.{number_at, natural_at, name_at, name_or_none, delays_of, entry_of, each_table, entries_of, module_of, table_of, fibre_of, database_of};
 ghost use Rattle.wrp_caldb.specs.Reading.{IsFaultAt, IsSyntax, IsAnswerOf, IsReadingOf};
 ghost use Rattle.wrp_caldb.specs.declared.keys.Others.TheVariants.{Refused, Ignored};
 ghost use Rattle.wrp_caldb.specs.declared.keys.Version.TheVariants.{One};
 
 use crate::database::{CalDb, Entry, ListedFibre, ListedModule, StoredTable};
-use crate::judging::{name_in, refusal};
+use crate::judging::refusal;
 use crate::keys::{
-    Others, Version, fibre_err_row, first_wavelength, kappa_row, module_err_row, rx_nm_row, rx_row,
-    table_err_row, transition_row, tx_nm_row, tx_row, version_of,
+    Others, Version, fibre_err_row, kappa_row, module_err_row, rx_nm_row, rx_row, table_err_row,
+    transition_row, tx_nm_row, tx_row, version_of,
 };
 use crate::name::is_name;
 use crate::place::Place;
 use crate::points::stored_points;
+use crate::repeats::name_in;
 use crate::row::{Code, Row};
 use crate::sort::number_at;
 use crate::value::{tables_at, value_at};
@@ -53,9 +54,9 @@ fn first_nm(pair: &Table) -> u16
 }
 
 fn second_nm(pair: &Table) -> u16
-    ensures { result ≡ natural_at (rx_nm_key (first_wavelength (table_view pair.now))) (table_view pair.now) }
+    ensures { result ≡ natural_at (rx_nm_key None) (table_view pair.now) }
 {
-    natural(pair, &rx_nm_row(first_wavelength(pair))) as u16
+    natural(pair, &rx_nm_row(None)) as u16
 }
 
 // The name at `name`; none where no name stands there.
@@ -264,8 +265,9 @@ fn answer_for(alloc: Global, text: &str) -> Result<CalDb, ConfFault>
 
 impl CalDb {
     /// Reads a calibration text: TOML with the keys `version`, `module` and `fibre`. A fault is the
-    /// least code that the text has, at the first place that has it: 1 Syntax at `-` where the octets
-    /// are no UTF-8 or no TOML, 2 UnknownKey, 3 Missing, 4 Range, 5 Twice (this project's profile).
+    /// least code that the text has, at the first place that has it: 1 Syntax at `-` where the
+    /// octets are no UTF-8 or no TOML, 2 UnknownKey, 3 Missing, 4 Range, 5 Twice (this project's
+    /// profile). Want of memory is an answer of its own.
     pub fn read(alloc: Global, bytes: &[u8]) -> Result<CalDb, ConfFault>
         ensures { IsReadingOf bytes.now result }
     {
@@ -275,9 +277,9 @@ impl CalDb {
         }
     }
 
-    /// Reads the keys `version`, `module` and `fibre` of a table, and looks at no other. A fault is the
-    /// least code that they have, at the first place that has it: 2 UnknownKey, 3 Missing, 4 Range, 5
-    /// Twice.
+    /// Reads the keys `version`, `module` and `fibre` of a table, and looks at no other. A fault is
+    /// the least code that they have, at the first place that has it: 2 UnknownKey, 3 Missing, 4
+    /// Range, 5 Twice. Want of memory is an answer of its own.
     pub fn from_table(alloc: Global, t: &Table) -> Result<CalDb, ConfFault>
         ensures { IsAnswerOf Ignored (table_view t.now) result }
     {

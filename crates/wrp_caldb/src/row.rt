@@ -29,9 +29,9 @@ pub enum Sort {
     SecondWavelength {
         first: Option<i64>,
     },
-    /// An array of 2 to 32 points, each an array of a two-way delay x and a one-way delay y, in tau:
-    /// x from `-2^30` to `2^53` and rising, y from `-2^53` to `2^53` and not falling, each within the
-    /// law's `err` of the law where there is one.
+    /// An array of 2 to 32 points, each an array of a two-way delay x and a one-way delay y, in
+    /// tau: x from `-2^30` to `2^53` and rising, y from `-2^53` to `2^53` and not falling, each
+    /// within the law's `err` of the law where there is one.
     Points {
         law: Option<Linear>,
     },
@@ -137,7 +137,8 @@ impl Row {
         Row::required(key, Sort::Number { least, greatest })
     }
 
-    /// A key of a whole number from `least` to `greatest`, and what stands for it where it is missing.
+    /// A key of a whole number from `least` to `greatest`, and what stands for it where it is
+    /// missing.
     pub fn with_default(key: &'static str, least: i64, greatest: i64, default: i64) -> Row
         requires { length key.now ≤ 16 }
         ensures { result ≡ default_key key.now least greatest default }

@@ -3,7 +3,7 @@ ghost use Rattle.std.specs.Prelude.{◌≡◌, ℕ, ℤ, List, Bool, Some, None,
 ghost use Rattle.toml.specs.Data.{get_member};
 ghost use Rattle.toml.specs.View.{view, table_view};
 ghost use Rattle.wrp_caldb.specs.Points.{values_of};
-ghost use Rattle.wrp_caldb.specs.Rows.{is_wavelength, fits_first, is_below, are_tables, is_array_of_tables, fits_sort, number_in};
+ghost use Rattle.wrp_caldb.specs.Rows.{is_wavelength, fits_first, is_below, are_tables, is_array_of_tables, fits_sort, fitting_number, default_of, number_in};
 
 use crate::name::{is_module_name, is_name};
 use crate::points::is_table_of_points;
@@ -84,21 +84,33 @@ pub fn fits(sort: Sort, value: &Value) -> bool
     }
 }
 
+// The number of a value that is of a sort.
+fn fitting_number(sort: Sort, value: &Value) -> Option<i64>
+    ensures { result ≡ fitting_number sort (view value.now) }
+{
+    if fits(sort, value) {
+        value.as_integer()
+    } else {
+        None
+    }
+}
+
+// What stands for a key that is missing.
+fn default_of(need: Need) -> Option<i64>
+    ensures { result ≡ default_of need }
+{
+    match need {
+        Need::Default(default) => Some(default),
+        Need::Required | Need::Optional => None,
+    }
+}
+
 /// The number that stands for a row's key: a value of its sort, or its default where it is missing.
 pub fn number_at(table: &Table, row: &Row) -> Option<i64>
     ensures { result ≡ number_in row.now (get_member row.now.name (table_view table.now)) }
 {
     match value_at(table, row.key()) {
-        Some(value) => {
-            if fits(row.sort(), value) {
-                value.as_integer()
-            } else {
-                None
-            }
-        }
-        None => match row.need() {
-            Need::Default(default) => Some(default),
-            _ => None,
-        },
+        Some(value) => fitting_number(row.sort(), value),
+        None => default_of(row.need()),
     }
 }

@@ -1,4 +1,5 @@
-//! Texts with their codes and places, and what a text lists. Each expected value follows from the rules.
+//! Texts with their codes and places, and what a text lists. Each expected value follows from the
+//! rules.
 use crate::CalDb;
 use std::test::*;
 use wrp_base::{ConfFault, Fibre, Module};
@@ -22,7 +23,7 @@ fn faults(rt: HostRuntime) -> Result<(), Fail> {
     Ok(())
 }
 
-const fn delays(tx: u64, rx: u64, transition: u16, err: u64) -> Module {
+fn delays((tx, rx, transition, err): (u64, u64, u16, u64)) -> Module {
     Module {
         tx,
         rx,
@@ -31,27 +32,39 @@ const fn delays(tx: u64, rx: u64, transition: u16, err: u64) -> Module {
     }
 }
 
-const LISTED: [(&str, u16, u16, Option<Module>); 9] = [
-    ("blue", 1310, 1490, Some(delays(1, 2, 3, 1000))),
-    ("blue", 1490, 1310, Some(delays(4, 5, 6, 2000))),
-    ("blue", 0, 0, Some(delays(4, 5, 6, 2000))),
-    ("violet", 1490, 1310, Some(delays(7, 8, 9, 10))),
+// a name, two wavelengths, and tx, rx, transition and err there
+const LISTED: [(&str, u16, u16, Option<(u64, u64, u16, u64)>); 9] = [
+    ("blue", 1310, 1490, Some((1, 2, 3, 1000))),
+    ("blue", 1490, 1310, Some((4, 5, 6, 2000))),
+    ("blue", 0, 0, Some((4, 5, 6, 2000))),
+    ("violet", 1490, 1310, Some((7, 8, 9, 10))),
     ("violet", 1310, 1490, None),
     ("violet", 0, 0, None),
-    ("amber", 1310, 1490, Some(delays(11, 12, 13, 14))),
+    ("amber", 1310, 1490, Some((11, 12, 13, 14))),
     ("smf", 0, 0, None),
     ("unlisted", 0, 0, None),
 ];
 
 #[test]
 fn listed(rt: HostRuntime) -> Result<(), Fail> {
-    let old = CalDb::read(rt.alloc(), VERSION_1.as_bytes()).ok().ok_or("version 1")?;
-    assert_eq!(rt; old.module_at("blue", 1310, 1490), Some(delays(14_745_600_000, 14_745_600_001, 5, 1_310_720)));
-    let database = CalDb::read(rt.alloc(), VERSION_2.as_bytes()).ok().ok_or("version 2")?;
+    let old = CalDb::read(rt.alloc(), VERSION_1.as_bytes())
+        .ok()
+        .ok_or("version 1")?;
+    assert_eq!(rt;
+        old.module_at("blue", 1310, 1490),
+        Some(delays((14_745_600_000, 14_745_600_001, 5, 1_310_720)))
+    );
+    let database = CalDb::read(rt.alloc(), VERSION_2.as_bytes())
+        .ok()
+        .ok_or("version 2")?;
     for (name, tx_nm, rx_nm, found) in LISTED {
-        assert_eq!(rt; database.module_at(name, tx_nm, rx_nm), found, "{name} {tx_nm} {rx_nm}");
+        assert_eq!(rt;
+            database.module_at(name, tx_nm, rx_nm),
+            found.map(delays),
+            "{name} {tx_nm} {rx_nm}"
+        );
     }
-    assert_eq!(rt; database.module("amber"), Some(delays(11, 12, 13, 14)));
+    assert_eq!(rt; database.module("amber"), Some(delays((11, 12, 13, 14))));
     assert_eq!(rt; database.fibre("smf"), Some(Fibre { kappa: -5, err: 6 }));
     assert_eq!(rt; database.fibre("stored"), Some(Fibre { kappa: 0, err: 7 }));
     assert_eq!(rt; database.fibre("blue"), None);
@@ -65,7 +78,10 @@ fn listed(rt: HostRuntime) -> Result<(), Fail> {
     }
     let names = ["blue", "violet", "amber"];
     for i in 0..3 {
-        assert_eq!(rt; database.modules().get(i).map(|module| module.name()), Some(names[i]));
+        assert_eq!(rt;
+            database.modules().get(i).map(|module| module.name()),
+            Some(names[i])
+        );
     }
     Ok(())
 }
