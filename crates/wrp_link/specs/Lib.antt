@@ -2,6 +2,5 @@ pub mod Holds
 pub mod Laws
 pub mod LinkAt
 pub mod Order
-pub mod Peer
 pub mod Rows
 pub mod Table
