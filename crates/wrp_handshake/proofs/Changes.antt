@@ -168,12 +168,13 @@ new_keeps life dmin time role set h =
       unbound = λ x. cc;
       sources = λ x. cc;
       frames = λ f i. absurd i;
+      alone = λ _. refl;
       turns = tt;
       left = tt;
       awake = λ o. absurd (o refl);
     }
 
-start_keeps :
+pub start_keeps :
     (life dmin : ℕ) (time : ℤ) (of_master of_slave : LinkSet) → OutlivesFrames life dmin of_master → OutlivesFrames life dmin of_slave →
     EndsKeep life dmin (new_ends of_master of_slave time)
 start_keeps life dmin time of_master of_slave hm hs =
@@ -188,7 +189,7 @@ start_keeps life dmin time of_master of_slave hm hs =
       is_slave = refl;
     }
 
-all_keep :
+pub all_keep :
     (life dmin : ℕ) (ends : Ends) (changes : List Change) → AllMayCome life dmin ends changes → EndsKeep life dmin ends →
     EndsKeep life dmin (ends_after ends changes)
 all_keep life dmin ends [] h k = k

@@ -36,7 +36,7 @@ stayed life dmin time v g q gq ticked quiet ms c t calm s =
       ghost = g;
       keeps = stays life dmin time v g ticked quiet ms c.keeps t calm s;
       tied = λ x. c.tied x;
-      back = λ x. bond_more life gq.bind gq.latest v.sent g.turn time ms (c.back x);
+      back = λ x. bond_more q.role life gq.bind gq.latest v.sent g.turn time ms (c.back x);
     }
 
 pub idle_or_not : (s : LinkState) → (s ≡ Idle) ⊎ (s ≢ Idle)
@@ -99,7 +99,7 @@ fallen life dmin time v g q gq carrier quiet ticked by c t full =
                let o : IsOpen life time v.role v.state v.marks g = c.keeps.opened awake e in
                record {
                  ghost = record g { rest = time; newer = (mark_at time v.state Idle by ∷ (o.mark ∷ [])) ∷ o.after };
-                 keeps = falls_open life dmin time v g carrier quiet ticked by c.keeps awake o b t full;
+                 keeps = falls_open life dmin time v g carrier quiet ticked by c.keeps awake e o b t full;
                  tied = λ x. cc;
                  back = c.back;
                }))
@@ -122,12 +122,19 @@ none_more : (m : WrMsg) (at : ℤ) (xs : List Sending) → numbered m ≡ false 
 none_more SLAVE_PRESENT at xs e = refl
 none_more _ at xs e = cc
 
+-- a slave is bound as soon as it is engaged
+not_between : (role : Role) (s : LinkState) → role ≡ Slave → engaged role s ≡ true → bound role s ≡ false → ⊥
+not_between Slave Idle r en un = cc
+not_between Slave Present r en un = cc
+not_between Slave _ r en un = cc
+not_between Master _ r en un = cc
+
 -- a bond, with one mark more
 longer_bond :
     (life dmin : ℕ) (time : ℤ) (p q : Port) (gq : Ghost) (input : LinkIn) (at : ℤ) (old next : LinkState) (bind : ℤ) (latest : List Mark) →
     PortKeeps life dmin time (view_of q) gq → MayHear life dmin time p q input at →
-    Bond life bind latest q.sent gq.turn →
-    Bond life bind (mark_at time old next (mover_of input at) ∷ latest) q.sent gq.turn
+    Bond p.link.role life bind latest q.sent gq.turn →
+    Bond p.link.role life bind (mark_at time old next (mover_of input at) ∷ latest) q.sent gq.turn
 longer_bond life dmin time p q gq (Msg m) at old next bind latest k h b =
     by_bool (numbered m)
     (λ n.
@@ -137,6 +144,7 @@ longer_bond life dmin time p q gq (Msg m) at old next bind latest k h b =
           there = b.there;
           counted = b.counted;
           fresh = b.fresh;
+          takes = b.takes;
           last = (m, at);
           others = movers_of latest;
           movers = e;
@@ -151,6 +159,7 @@ longer_bond life dmin time p q gq (Msg m) at old next bind latest k h b =
           there = b.there;
           counted = b.counted;
           fresh = b.fresh;
+          takes = b.takes;
           last = b.last;
           others = b.others;
           movers = e ∙ b.movers;
@@ -162,6 +171,7 @@ longer_bond life dmin time p q gq _ at old next bind latest k h b =
       there = b.there;
       counted = b.counted;
       fresh = b.fresh;
+      takes = b.takes;
       last = b.last;
       others = b.others;
       movers = b.movers;
@@ -215,6 +225,7 @@ kind_moves life dmin time p g q gq input at next ms c h f (binding was un en bo 
        there = told.0;
        counted = refl;
        fresh = told.1;
+       takes = λ slave. absurd (not_between p.link.role p.link.state slave was un);
        last = (LOCKED, at);
        others = [];
        movers = one;

@@ -1,10 +1,11 @@
 -- What is kept of a link: of each port by itself, and of each port towards its peer.
-use Rattle.std.proofs.Common.{◌≡◌, ◌≢◌, ◌⊎◌, ℕ, ◌-◌, ◌*◌, ◌<◌, ℤ, pos, ◌+ℤ◌, ◌≤ℤ◌, ◌<ℤ◌, Bool, true, false, List, [], ◌∷◌, ◌++◌, reverse, Option, None}
+use Rattle.std.proofs.Common.{◌≡◌, ◌≢◌, ◌⊎◌, ℕ, ◌-◌, ◌*◌, ◌<◌, ℤ, pos, ◌+ℤ◌, ◌≤ℤ◌, ◌<ℤ◌, Bool, true, false, List, [], ◌∷◌, ◌++◌, map, reverse, Option, None}
 use Rattle.std.specs.List.{AllByRecursion}
 use Rattle.wrp_base.specs.declared.link.LinkState.{LinkState}
 use Rattle.wrp_base.specs.declared.link.LinkState.TheVariants.{Idle}
 use Rattle.wrp_base.specs.declared.link.Mark.{Mark}
 use Rattle.wrp_base.specs.declared.link.Role.{Role}
+use Rattle.wrp_base.specs.declared.link.Role.TheVariants.{Master, Slave}
 use Rattle.wrp_check.specs.Required.{required_of}
 use Rattle.wrp_link.proofs.Fits.{Belongs}
 use Rattle.wrp_check.specs.Stretches.{stretches_of, BeganBy, LastsTo, LiesIn, Entered, movers_of}
@@ -62,6 +63,10 @@ pub record SentKeeps (life : ℕ) (time : ℤ) (role : Role) (marks : List Mark)
   pub past : f.1 ≤ℤ time
   pub place : numbered f.0 ≡ true → ((f.1 +ℤ pos (2 * life)) <ℤ g.turn) ⊎ Current role marks g f
 
+-- the state to which a mark led
+abbrev pub led_to : Mark → LinkState
+led_to mark = mark.to
+
 -- a port in PRESENT
 pub record IsOpen (life : ℕ) (time : ℤ) (role : Role) (state : LinkState) (marks : List Mark) (g : Ghost) : Type 0 where
   pub mark : Mark
@@ -71,6 +76,7 @@ pub record IsOpen (life : ℕ) (time : ℤ) (role : Role) (state : LinkState) (m
   pub stretches : stretches_of marks ≡ (mark ∷ []) ∷ before
   pub newer : g.newer ≡ (mark ∷ []) ∷ after
   pub way : Entered time (way_of role state) (mark ∷ [])
+  pub path : mark.to ∷ [] ≡ way_of role state
   pub began : mark.at ≤ℤ time
   pub unmoved : mark.by ≡ None
 
@@ -79,7 +85,9 @@ pub record IsEngaged (time : ℤ) (role : Role) (state : LinkState) (marks : Lis
   pub stretches : stretches_of marks ≡ g.latest ∷ g.older
   pub newer : g.newer ≡ []
   pub way : Entered time (way_of role state) g.latest
+  pub path : map led_to g.latest ≡ way_of role state
   pub began : BeganBy time g.latest
+  pub first : role ≡ Master → (t : ℤ) → BeganBy t g.latest → g.turn ≤ℤ t
   pub lasts : (t : ℤ) → LastsTo t g.latest
 
 -- a mark by which a port came past PRESENT is not after a time
@@ -105,6 +113,7 @@ pub record PortKeeps (life dmin : ℕ) (time : ℤ) (v : View) (g : Ghost) : Typ
   pub unbound : engaged v.role v.state ≡ true → bound v.role v.state ≡ false → movers_of g.latest ≡ []
   pub sources : bound v.role v.state ≡ true → (f : Sending) → IsAmong f v.sent → opens v.role f.0 ≡ true → f.1 ≤ℤ g.bind
   pub frames : (f : Sending) → IsAmong f v.sent → SentKeeps life time v.role v.marks g f
+  pub alone : v.role ≡ Master → g.newer ≡ []
   pub turns : AllByRecursion (λ m. TurnedBy v.role g.turn m) v.marks
   pub left : AllByRecursion (λ m. LeftBy g.rest m) v.marks
   pub awake : v.state ≢ Idle → (g.rest +ℤ pos (2 * life)) <ℤ time
@@ -116,11 +125,12 @@ pub record FromLatest (sent : List Sending) (turn : ℤ) (m : Sending) : Type 0 
   pub since : turn ≤ℤ m.1
 
 -- a bound port, with what its peer sent and when that was engaged last
-pub record Bond (life : ℕ) (bind : ℤ) (latest : List Mark) (sent : List Sending) (turn : ℤ) : Type 0 where
+pub record Bond (role : Role) (life : ℕ) (bind : ℤ) (latest : List Mark) (sent : List Sending) (turn : ℤ) : Type 0 where
   pub source : Sending
   pub there : IsAmong source sent
   pub counted : numbered source.0 ≡ true
   pub fresh : bind ≤ℤ (source.1 +ℤ pos life)
+  pub takes : role ≡ Slave → opens Master source.0 ≡ true
   pub last : Sending
   pub others : List Sending
   pub movers : movers_of latest ≡ last ∷ others
@@ -128,4 +138,4 @@ pub record Bond (life : ℕ) (bind : ℤ) (latest : List Mark) (sent : List Send
 
 -- a port towards its peer
 abbrev pub Tied : ℕ → View → Ghost → View → Ghost → Type 0
-Tied life p gp q gq = bound p.role p.state ≡ true → Bond life gp.bind gp.latest q.sent gq.turn
+Tied life p gp q gq = bound p.role p.state ≡ true → Bond p.role life gp.bind gp.latest q.sent gq.turn

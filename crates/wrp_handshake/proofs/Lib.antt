@@ -1,5 +1,6 @@
 pub mod Changes
 pub mod Deltas
+pub mod Failing
 pub mod Histories
 pub mod Inputs
 pub mod Keeps
@@ -12,5 +13,7 @@ pub mod RowFits
 pub mod Same
 pub mod Since
 pub mod Stages
+pub mod Staying
 pub mod Times
+pub mod Together
 pub mod Worked

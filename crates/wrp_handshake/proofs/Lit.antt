@@ -8,10 +8,11 @@ use Rattle.wrp_base.specs.declared.link.Module.{Module}
 use Rattle.wrp_base.specs.declared.link.Role.{Role}
 use Rattle.wrp_base.specs.declared.link.Role.TheVariants.{Master, Slave}
 use Rattle.wrp_base.specs.declared.message.WrMsg.{WrMsg}
-use Rattle.wrp_base.specs.declared.message.WrMsg.TheVariants.{Calibrated as CALIBRATED}
+use Rattle.wrp_base.specs.declared.message.WrMsg.TheVariants.{Calibrated as CALIBRATED, ModeOn as WR_MODE_ON}
 use Rattle.wrp_link.specs.declared.interface.LinkIn.{LinkIn}
 use Rattle.wrp_link.specs.declared.interface.LinkIn.TheVariants.{Msg, Tick, CarrierDown, CarrierUp}
 use Rattle.wrp_link.specs.declared.interface.LinkSet.{LinkSet}
+use Rattle.wrp_link.specs.Laws.{TurnsOn}
 use Rattle.wrp_link.specs.LinkAt.{LinkAt, Waiting, new_link, entering, failed, with_carrier}
 use Rattle.wrp_link.specs.Rows.{Row, NoRow, Stays, Moves, Keeps, Resends, Fails, Waits, Counts, CarrierComes, CarrierGoes, row_of}
 use Rattle.wrp_link.specs.Table.{is_same, by_row, sent_by, counted, ticked, retried}
@@ -45,6 +46,10 @@ pub record LitPort (life dmin : ℕ) (time lit : ℤ) (l : LinkAt) (tick : ℤ) 
   pub listed : l.state ≢ Idle → is_some l.own_module ≡ true
   pub told : l.carrier ≡ true → (f : Sending) → IsAmong f sent → lit <ℤ f.1 → IsOwn l.own_module f.0
   pub knows : (tx rx : ℕ) → l.deltas ≡ Some (tx, rx) → Among marks tx rx
+  -- what moved the port was sent since the carriers came
+  pub fresh : l.state ≢ Idle → (m : Sending) → IsAmong m (now_moved marks) → lit <ℤ m.1
+  -- a slave in WR_LINK_ON was moved by WR_MODE_ON
+  pub turned_on : l.role ≡ Slave → l.state ≡ LinkOn → (at : ℤ) × IsAmong (WR_MODE_ON, at) (now_moved marks)
 
 abbrev pub LitAt : (life dmin : ℕ) → (time lit : ℤ) → Port → Type 0
 LitAt life dmin time lit p = LitPort life dmin time lit p.link p.ticked p.marks p.sent
@@ -92,6 +97,8 @@ lit_same life dmin time lit l tick marks sent quiet holdoff on_ticks waiting tic
         λ e f i new.
             elim (stamped_own time l.own_module ms sent f own i) [ inl x ↦ x.0 | inr j ↦ k.told e f j new ];
       knows = k.knows;
+      fresh = k.fresh;
+      turned_on = k.turned_on;
     })
 
 other_mover : (time : ℤ) (s : LinkState) (by : Option Sending) (marks : List Mark) → marked time s s None marks ≡ marked time s s by marks
@@ -143,15 +150,36 @@ awake_at life dmin time lit l tick marks sent input next k kind =
       | inr a ↦ record { long = k.awake a; lit_on = k.lit_on a; listed = k.listed a }
     ]
 
+-- a message that is heard was sent since the carriers came
+sent_since : (life : ℕ) (lit at time : ℤ) → (lit +ℤ pos (2 * life)) <ℤ time → time ≤ℤ (at +ℤ pos life) → lit <ℤ at
+sent_since life lit at time h k = omega (arith, ints)
+
+since_lit :
+    (life dmin : ℕ) (time lit : ℤ) (p q : Port) (input : LinkIn) (at : ℤ) (m : WrMsg) →
+    MayHear life dmin time p q input at → (lit +ℤ pos (2 * life)) <ℤ time → input ≡ Msg m → lit <ℤ at
+since_lit life dmin time lit p q input at m h long is =
+    let there : MayHear life dmin time p q (Msg m) at = subst (λ (i : LinkIn). MayHear life dmin time p q i at) is h in
+    sent_since life lit at time long there.1
+
+mode_on_among :
+    (time : ℤ) (old next : LinkState) (marks : List Mark) (at : ℤ) → old ≢ Idle →
+    IsAmong (WR_MODE_ON, at) (now_moved (mark_at time old next (Some (WR_MODE_ON, at)) ∷ marks))
+mode_on_among time old next marks at out =
+    subst (λ (xs : List Sending). IsAmong (WR_MODE_ON, at) xs)
+    (sym (moved_more (mark_at time old next (Some (WR_MODE_ON, at))) marks (not_same_idle old out))) (inl refl)
+
 -- a move
 lit_moves :
     (life dmin : ℕ) (time lit : ℤ) (p : Port) (input : LinkIn) (at : ℤ) (next : LinkState) (deltas : Option (ℕ × ℕ)) (ms : List WrMsg) →
     LitAt life dmin time lit p → FitsMove p.link.role p.link.state p.link input next ms →
     IsOrdered (record (entering p.link next) { deltas = deltas }) → OwnAll p.link.own_module ms →
     ((tx rx : ℕ) → deltas ≡ Some (tx, rx) → Among (mark_at time p.link.state next (mover_of input at) ∷ p.marks) tx rx) →
+    ((lit +ℤ pos (2 * life)) <ℤ time → (m : WrMsg) → input ≡ Msg m → lit <ℤ at) →
+    (next ≡ LinkOn → TurnsOn p.link.role p.link.state input) →
     LitPort life dmin time lit (record (entering p.link next) { deltas = deltas }) (ticked_by input time p.ticked)
     (marked time p.link.state next (mover_of input at) p.marks) (stamped time ms p.sent)
-lit_moves life dmin time lit p input at next deltas ms k f o own kn =
+lit_moves life dmin time lit p input at next deltas ms k f o own kn since turns =
+    let mark : Mark = mark_at time p.link.state next (mover_of input at) in
     let a : FoundAwake life time lit p.link = awake_at life dmin time lit p.link p.ticked p.marks p.sent input next k f.kind in
     subst
     (λ (xs : List Mark). LitPort life dmin time lit (record (entering p.link next) { deltas = deltas }) (ticked_by input time p.ticked) xs (stamped time ms p.sent))
@@ -170,6 +198,27 @@ lit_moves life dmin time lit p input at next deltas ms k f o own kn =
         λ e g i new.
             elim (stamped_own time p.link.own_module ms p.sent g own i) [ inl x ↦ x.0 | inr j ↦ k.told e g j new ];
       knows = kn;
+      fresh =
+        λ _ m i.
+            elim (idle_or_not p.link.state) [
+              | inl idle ↦
+                  elim (of_with input at [] m (subst (λ (xs : List Sending). IsAmong m xs) (moved_first mark p.marks idle) i)) [
+                    | inl x ↦ subst (λ (t : ℤ). lit <ℤ t) (sym x.1) (since a.long m.0 x.0)
+                    | inr x ↦ absurd x
+                  ]
+              | inr awake ↦
+                  elim (of_with input at (now_moved p.marks) m
+                        (subst (λ (xs : List Sending). IsAmong m xs) (moved_more mark p.marks (not_same_idle p.link.state awake)) i)) [
+                    | inl x ↦ subst (λ (t : ℤ). lit <ℤ t) (sym x.1) (since a.long m.0 x.0)
+                    | inr x ↦ k.fresh awake m x
+                  ]
+            ];
+      turned_on =
+        λ slave on.
+            let turn : TurnsOn Slave p.link.state input = subst (λ (r : Role). TurnsOn r p.link.state input) slave (turns on) in
+            (at,
+             subst (λ (i : LinkIn). IsAmong (WR_MODE_ON, at) (now_moved (mark_at time p.link.state next (mover_of i at) ∷ p.marks))) (sym turn.1)
+             (mode_on_among time p.link.state next p.marks at (λ i. let x : Calibrated ≡ Idle = sym turn.0 ∙ i in cc)));
     })
 
 -- delays that stood before a move stand among what moved
@@ -222,6 +271,8 @@ lit_idle life dmin time lit l tick marks sent o idle counts t lp past calm told 
       listed = λ a. absurd (a idle);
       told = told;
       knows = λ tx rx e. absurd (known_out l tx rx o e idle);
+      fresh = λ a. absurd (a idle);
+      turned_on = λ _ on. (let x : LinkOn ≡ Idle = sym on ∙ idle in cc);
     }
 
 counts_lit :
@@ -252,12 +303,14 @@ lit_row life dmin time lit p q input at (Stays ms) k h n f g o own = lit_stays l
 lit_row life dmin time lit p q input at (Moves next ms) k h n f g o own =
     lit_moves life dmin time lit p input at next p.link.deltas ms k f o own
     (λ tx rx e. still_among time p.link.state next (mover_of input at) p.marks tx rx (known_out p.link tx rx k.ordered e) (k.knows tx rx e))
+    (λ long m is. since_lit life dmin time lit p q input at m h long is) g.turns
 lit_row life dmin time lit p q input at (Keeps tx rx next ms) k h n f g o own =
     lit_moves life dmin time lit p input at next (Some (tx, rx)) ms k f o own
     (λ tx' rx' e.
         subst (λ (d : ℕ × ℕ). Among (mark_at time p.link.state next (mover_of input at) ∷ p.marks) d.0 d.1) (some_is (tx, rx) (tx', rx') e)
         (subst (λ (i : LinkIn). Among (mark_at time p.link.state next (mover_of i at) ∷ p.marks) tx rx) (sym g.told)
          (now_among time p.link.state next p.marks tx rx at)))
+    (λ long m is. since_lit life dmin time lit p q input at m h long is) g.turns
 lit_row life dmin time lit p q input at (Resends ms) k h n f g o own =
     lit_stays life dmin time lit p input at (retried p.link.waiting (wait_of p.link.set p.link.state)) ms k o own
 lit_row life dmin time lit p q input at Fails k h n f g o own =
@@ -288,9 +341,6 @@ lit_heard life dmin time lit p q input at k h n =
     (row_owns p.link input k.listed)
 
 -- ---- a port and its peer
-
-sent_since : (life : ℕ) (lit at time : ℤ) → (lit +ℤ pos (2 * life)) <ℤ time → time ≤ℤ (at +ℤ pos life) → lit <ℤ at
-sent_since life lit at time h k = omega (arith, ints)
 
 -- a message that is handed over is of the module that is now at the peer
 told_now :
@@ -447,6 +497,8 @@ lit_later life dmin time lit p dt k =
       listed = k.listed;
       told = k.told;
       knows = k.knows;
+      fresh = k.fresh;
+      turned_on = k.turned_on;
     }
 
 lit_starts : (life dmin : ℕ) (time lit : ℤ) (p : Port) → LitAt life dmin time lit p → LitAt life dmin time lit (record p { ticked = time })
@@ -463,6 +515,8 @@ lit_starts life dmin time lit p k =
       listed = k.listed;
       told = k.told;
       knows = k.knows;
+      fresh = k.fresh;
+      turned_on = k.turned_on;
     }
 
 never : (a b : ℤ) → a ≤ℤ b → b <ℤ a → ⊥

@@ -5,6 +5,7 @@ use Rattle.wrp_base.specs.declared.link.LinkState.{LinkState}
 use Rattle.wrp_base.specs.declared.link.LinkState.TheVariants.{Idle}
 use Rattle.wrp_base.specs.declared.link.Mark.{Mark}
 use Rattle.wrp_base.specs.declared.link.Role.{Role}
+use Rattle.wrp_base.specs.declared.link.Role.TheVariants.{Master, Slave}
 use Rattle.wrp_base.specs.declared.message.WrMsg.{WrMsg}
 use Rattle.wrp_base.specs.declared.message.WrMsg.TheVariants.{Present as SLAVE_PRESENT, Lock as LOCK, Locked as LOCKED, Calibrate as CALIBRATE, Calibrated as CALIBRATED, ModeOn as WR_MODE_ON}
 use Rattle.wrp_link.specs.Table.{is_same}
@@ -14,7 +15,7 @@ use Rattle.wrp_handshake.specs.Ends.{Sending, other_of, IsAmong, stamped}
 use Rattle.wrp_handshake.proofs.Stages.{engaged, bound, numbered, opens, way_of, shut_sends, bound_sends, Sends, SendsAll}
 use Rattle.wrp_handshake.proofs.Times.{Calm, at_once, later, older, no_opener, not_old, too_late, calm_over}
 use Rattle.wrp_handshake.proofs.Keeps.{View, Ghost, Current, SentKeeps, IsOpen, IsEngaged, PortKeeps, FromLatest, Bond, Tied}
-use Rattle.wrp_handshake.proofs.Parts.{by_bool, mark_at, not_same_idle, not_idle, idle_shut, idle_unbound, idle_way, bound_engaged, began_cons, entered_now, entered_cons, joins, begins, stays_sent, stamped_in}
+use Rattle.wrp_handshake.proofs.Parts.{by_bool, mark_at, not_same_idle, not_idle, idle_shut, idle_unbound, idle_way, bound_engaged, began_cons, began_rest, not_opening, entered_now, entered_cons, joins, begins, stays_sent, stamped_in}
 use Rattle.wrp_handshake.proofs.Ports.{fresh, longer_sent, turns_later}
 
 -- a port and its peer
@@ -47,14 +48,15 @@ taken_more time ms sent turn (x ∷ xs) h =
 
 -- a bond stays where the peer sends more
 pub bond_more :
-    (life : ℕ) (bind : ℤ) (latest : List Mark) (sent : List Sending) (turn time : ℤ) (ms : List WrMsg) →
-    Bond life bind latest sent turn → Bond life bind latest (stamped time ms sent) turn
-bond_more life bind latest sent turn time ms b =
+    (role : Role) (life : ℕ) (bind : ℤ) (latest : List Mark) (sent : List Sending) (turn time : ℤ) (ms : List WrMsg) →
+    Bond role life bind latest sent turn → Bond role life bind latest (stamped time ms sent) turn
+bond_more role life bind latest sent turn time ms b =
     record {
       source = b.source;
       there = stays_sent time ms sent b.source b.there;
       counted = b.counted;
       fresh = b.fresh;
+      takes = b.takes;
       last = b.last;
       others = b.others;
       movers = b.movers;
@@ -83,7 +85,7 @@ pub not_engaged_anew :
     engaged v.role v.state ≡ false → (g.rest +ℤ pos (2 * life)) <ℤ time →
     bound q.role q.state ≡ true → ⊥
 not_engaged_anew life dmin time v g q gq m at c h o s r e =
-    let b : Bond life gq.bind gq.latest v.sent g.turn = c.back e in
+    let b : Bond q.role life gq.bind gq.latest v.sent g.turn = c.back e in
     no_opener life at gq.bind b.source.1 g.rest time
     (c.peer.sources e (m, at) h.there o)
     b.fresh
@@ -124,6 +126,13 @@ moved_to time v next ticked by ms =
       marks = mark_at time v.state next by ∷ v.marks;
       sent = stamped time ms v.sent;
     }
+
+-- the path from IDLE
+path_from : (role : Role) (s next : LinkState) → s ≡ Idle → way_of role next ≡ next ∷ way_of role s → next ∷ [] ≡ way_of role next
+path_from role s next idle w = sym (w ∙ ap (λ (ss : List LinkState). next ∷ ss) (ap (λ (x : LinkState). way_of role x) idle ∙ idle_way role))
+
+opens_as : (m : WrMsg) (role : Role) → role ≡ Master → opens role m ≡ true → opens Master m ≡ true
+opens_as m role r e = ap (λ (x : Role). opens x m) (sym r) ∙ e
 
 -- a slave begins
 pub opening_moves :
@@ -166,6 +175,7 @@ opening_moves life dmin time v g q gq next ticked by ms c t b out w s idle lit o
                   stretches = e;
                   newer = refl;
                   way = way_now time v.role v.state next by [] w (from_idle time v.role v.state idle);
+                  path = path_from v.role v.state next idle w;
                   began = at_once time;
                   unmoved = un;
                 };
@@ -194,12 +204,13 @@ opening_moves life dmin time v g q gq next ticked by ms c t b out w s idle lit o
                               ];
                       }
                 ];
+          alone = λ master. absurd (not_opening v.role next master (not_idle next out) sh);
           turns = (λ _ x. cc, k.turns);
           left = (λ i. absurd (not_idle next out i), k.left);
           awake = λ _. r;
         };
       tied = λ x. let y : engaged v.role next ≡ true = bound_engaged v.role next x in cc;
-      back = λ x. bond_more life gq.bind gq.latest v.sent g.turn time ms (c.back x);
+      back = λ x. bond_more q.role life gq.bind gq.latest v.sent g.turn time ms (c.back x);
     }
 
 no_mover : (m : WrMsg) (at : ℤ) → numbered m ≡ false → with_mover (Some (m, at)) [] ≡ []
@@ -243,7 +254,9 @@ engaging_moves life dmin time v g q gq next ticked m at ms c t b out w s idle li
       stretches = begins mark v.marks idle;
       newer = refl;
       way = way_now time v.role v.state next (Some (m, at)) [] w (from_idle time v.role v.state idle);
+      path = path_from v.role v.state next idle w;
       began = at_once time;
+      first = λ _ t h. h;
       lasts = λ t i. absurd (not_idle next out i);
     } in
     record {
@@ -268,6 +281,7 @@ engaging_moves life dmin time v g q gq next ticked m at ms c t b out w s idle li
                   | inl x ↦ fresh life time v.role next (mark ∷ v.marks) g' f (at_once time) (λ _. n) x.0 x.1
                   | inr j ↦ old_turn life dmin time v g g' (mark ∷ v.marks) f k was r refl j
                 ];
+          alone = λ _. refl;
           turns = (λ _ _. at_once time, turns_later v.role g.turn time v.marks k.turn k.turns);
           left = (λ i. absurd (not_idle next out i), k.left);
           awake = λ _. r;
@@ -296,7 +310,9 @@ answering_moves life dmin time v g q gq next ticked m at ms c t b out w s awake 
         joins mark v.marks (not_same_idle v.state awake) ∙ ap (λ (ss : List (List Mark)). joined mark ss) o.stretches;
       newer = refl;
       way = way_now time v.role v.state next (Some (m, at)) (o.mark ∷ []) w o.way;
+      path = ap (λ (ss : List LinkState). next ∷ ss) o.path ∙ sym w;
       began = o.began;
+      first = λ master. absurd (not_opening v.role v.state master awake was);
       lasts = λ t i. absurd (not_idle next out i);
     } in
     let one : movers_of (mark ∷ (o.mark ∷ [])) ≡ (m, at) ∷ [] =
@@ -329,6 +345,7 @@ answering_moves life dmin time v g q gq next ticked m at ms c t b out w s awake 
                   | inl x ↦ fresh life time v.role next (mark ∷ v.marks) g' f (at_once time) (λ _. n) x.0 x.1
                   | inr j ↦ old_turn life dmin time v g g' (mark ∷ v.marks) f k was o.calm refl j
                 ];
+          alone = λ _. refl;
           turns = (λ _ _. at_once time, turns_later v.role g.turn time v.marks k.turn k.turns);
           left = (λ i. absurd (not_idle next out i), k.left);
           awake = λ _. o.calm;
@@ -340,6 +357,7 @@ answering_moves life dmin time v g q gq next ticked m at ms c t b out w s awake 
               there = told.there;
               counted = counted;
               fresh = told.recent;
+              takes = λ slave. opens_as m q.role (c.roles ∙ ap (λ (r : Role). other_of r) slave) op;
               last = (m, at);
               others = [];
               movers = one;
@@ -358,7 +376,7 @@ pub going_on_moves :
     v.state ≢ Idle → engaged v.role v.state ≡ true → engaged v.role next ≡ true → bound v.role next ≡ true →
     bind ≤ℤ time →
     ((f : Sending) → IsAmong f v.sent → opens v.role f.0 ≡ true → f.1 ≤ℤ bind) →
-    Bond life bind (mark_at time v.state next by ∷ g.latest) q.sent gq.turn →
+    Bond v.role life bind (mark_at time v.state next by ∷ g.latest) q.sent gq.turn →
     Moved life dmin time (moved_to time v next ticked by ms) q gq
 going_on_moves life dmin time v g q gq next ticked by ms bind c t b out w s awake was en bo past sources bond =
     let mark : Mark = mark_at time v.state next by in
@@ -372,7 +390,9 @@ going_on_moves life dmin time v g q gq next ticked by ms bind c t b out w s awak
       stretches = e;
       newer = refl;
       way = way_now time v.role v.state next by g.latest w o.way;
+      path = ap (λ (ss : List LinkState). next ∷ ss) o.path ∙ sym w;
       began = began_cons time mark g.latest o.began;
+      first = λ master t h. o.first master t (began_rest time t mark g.latest o.began h);
       lasts = λ t i. absurd (not_idle next out i);
     } in
     record {
@@ -402,10 +422,11 @@ going_on_moves life dmin time v g q gq next ticked by ms bind c t b out w s awak
                   | inl x ↦ fresh life time v.role next (mark ∷ v.marks) g' f k.turn (λ _. n) x.0 x.1
                   | inr j ↦ longer_sent life time v.role v.marks g g.rest bind mark f e refl (k.frames f j)
                 ];
+          alone = λ _. refl;
           turns = (λ x _. cc, k.turns);
           left = (λ i. absurd (not_idle next out i), k.left);
           awake = λ _. k.awake awake;
         };
       tied = λ _. bond;
-      back = λ x. bond_more life gq.bind gq.latest v.sent g.turn time ms (c.back x);
+      back = λ x. bond_more q.role life gq.bind gq.latest v.sent g.turn time ms (c.back x);
     }

@@ -55,6 +55,21 @@ pub began_cons : (t : ℤ) (mark : Mark) (marks : List Mark) → BeganBy t marks
 began_cons t mark [] h = absurd h
 began_cons t mark (m ∷ ms) h = h
 
+-- what a longer part of a history began by, the part did
+pub began_rest : (s t : ℤ) (mark : Mark) (marks : List Mark) → BeganBy s marks → BeganBy t (mark ∷ marks) → BeganBy t marks
+began_rest s t mark [] h k = absurd h
+began_rest s t mark (m ∷ ms) h k = k
+
+-- a master out of IDLE is engaged
+pub out_engaged : (s : LinkState) → s ≢ Idle → engaged Master s ≡ true
+out_engaged Idle h = absurd (h refl)
+out_engaged _ h = refl
+
+pub not_opening : (role : Role) (s : LinkState) → role ≡ Master → s ≢ Idle → engaged role s ≡ false → ⊥
+not_opening role s r out shut =
+    let yes : engaged role s ≡ true = ap (λ (x : Role). engaged x s) r ∙ out_engaged s out in
+    cc
+
 pub began_later : (a b : ℤ) (marks : List Mark) → a ≤ℤ b → BeganBy a marks → BeganBy b marks
 began_later a b [] le h = absurd h
 began_later a b (m ∷ []) le h = later h le

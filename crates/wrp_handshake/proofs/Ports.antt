@@ -13,7 +13,7 @@ use Rattle.wrp_handshake.specs.Ends.{Sending, stamped}
 use Rattle.wrp_handshake.proofs.Stages.{engaged, bound, numbered, shut_sends, bound_sends, opens, sends_entered, Sends, SendsAll}
 use Rattle.wrp_handshake.proofs.Times.{Calm, at_once, later, passes, passes_below}
 use Rattle.wrp_handshake.proofs.Keeps.{View, Ghost, Current, SentKeeps, IsOpen, IsEngaged, TurnedBy, LeftBy, PortKeeps}
-use Rattle.wrp_handshake.proofs.Parts.{by_bool, mark_at, not_same_idle, idle_shut, idle_unbound, began_cons, began_later, entered_cons, entered_later, joins, stamped_in, All-weaker}
+use Rattle.wrp_handshake.proofs.Parts.{by_bool, mark_at, not_same_idle, idle_shut, idle_unbound, not_opening, began_cons, began_later, entered_cons, entered_later, joins, stamped_in, All-weaker}
 
 -- a message that an engaged port sends now
 fresh_current :
@@ -90,6 +90,7 @@ stays life dmin time v g ticked quiet ms k t c s =
               | inl x ↦ fresh life time v.role v.state v.marks g f k.turn k.engages x.0 x.1
               | inr j ↦ k.frames f j
             ];
+      alone = k.alone;
       turns = k.turns;
       left = k.left;
       awake = k.awake;
@@ -157,6 +158,7 @@ falls_engaged life dmin time v g carrier quiet ticked by k out en b t c =
       unbound = λ x. cc;
       sources = λ x. cc;
       frames = λ f i. longer_sent life time v.role v.marks g time g.bind mark f e refl (k.frames f i);
+      alone = λ _. refl;
       turns = (λ _ x. cc, k.turns);
       left = (λ _. at_once time, left_later g.rest time v.marks k.rest k.left);
       awake = λ o. absurd (o refl);
@@ -188,12 +190,12 @@ still_current life time role state marks g rest mark f o e c =
 pub falls_open :
     (life dmin : ℕ) (time : ℤ) (v : View) (g : Ghost) (carrier : Bool) (quiet : ℕ) (ticked : ℤ) (by : Option Sending) →
     PortKeeps life dmin time v g →
-    v.state ≢ Idle → (o : IsOpen life time v.role v.state v.marks g) → Belongs v.role Idle →
+    v.state ≢ Idle → engaged v.role v.state ≡ false → (o : IsOpen life time v.role v.state v.marks g) → Belongs v.role Idle →
     ticked ≤ℤ time → (carrier ≡ true → quiet ≡ v.full) →
     PortKeeps life dmin time
     (record v { state = Idle; carrier = carrier; quiet = quiet; ticked = ticked; marks = mark_at time v.state Idle by ∷ v.marks })
     (record g { rest = time; newer = (mark_at time v.state Idle by ∷ (o.mark ∷ [])) ∷ o.after })
-falls_open life dmin time v g carrier quiet ticked by k out o b t c =
+falls_open life dmin time v g carrier quiet ticked by k out was o b t c =
     let mark : Mark = mark_at time v.state Idle by in
     let e : stretches_of (mark ∷ v.marks) ≡ (mark ∷ (o.mark ∷ [])) ∷ o.before =
     joins mark v.marks (not_same_idle v.state out) ∙ ap (λ (ss : List (List Mark)). joined mark ss) o.stretches in
@@ -223,6 +225,7 @@ falls_open life dmin time v g carrier quiet ticked by k out o b t c =
                       | inr z ↦ inr (still_current life time v.role v.state v.marks g time mark f o e z)
                     ];
             };
+      alone = λ master. absurd (not_opening v.role v.state master out was);
       turns = (λ _ x. cc, k.turns);
       left = (λ _. at_once time, left_later g.rest time v.marks k.rest k.left);
       awake = λ o. absurd (o refl);
@@ -264,6 +267,7 @@ rests life dmin time v g carrier quiet ticked k b t c =
                       | inr z ↦ inr (record { since = z.since; splits = z.splits; misses = z.misses; lies = z.lies; entered = z.entered })
                     ];
             };
+      alone = k.alone;
       turns = k.turns;
       left = left_later g.rest time v.marks k.rest k.left;
       awake = λ o. absurd (o refl);
@@ -295,6 +299,7 @@ passes_port life dmin time v g dt k =
               stretches = o.stretches;
               newer = o.newer;
               way = entered_later time (time +ℤ pos dt) _ _ le o.way;
+              path = o.path;
               began = later o.began le;
               unmoved = o.unmoved;
             };
@@ -305,12 +310,15 @@ passes_port life dmin time v g dt k =
               stretches = n.stretches;
               newer = n.newer;
               way = entered_later time (time +ℤ pos dt) _ _ le n.way;
+              path = n.path;
               began = began_later time (time +ℤ pos dt) g.latest le n.began;
+              first = n.first;
               lasts = n.lasts;
             };
       unbound = k.unbound;
       sources = k.sources;
       frames = λ f i. record { past = later (k.frames f i).past le; place = (k.frames f i).place };
+      alone = k.alone;
       turns = k.turns;
       left = k.left;
       awake = λ a. passes_below g.rest time (2 * life) dt (k.awake a);

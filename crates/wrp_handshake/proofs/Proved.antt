@@ -8,13 +8,15 @@ use Rattle.wrp_base.specs.declared.message.WrMsg.TheVariants.{Lock as LOCK, Lock
 use Rattle.wrp_check.specs.Handshake.{SameHandshake}
 use Rattle.wrp_check.specs.Laws.{IsHistory}
 use Rattle.wrp_handshake.specs.Ends.{Ends, other_of, end_of}
-use Rattle.wrp_handshake.specs.Laws.{OnInTheSameHandshake, OnWithTheDeltas, MarksAreAHistory, IsAwake, IsLongAgo, QuietTimeOutlivesFrames, MasterStaysFromLock, SlaveStaysFromLocked}
+use Rattle.wrp_handshake.specs.Laws.{OnInTheSameHandshake, OnWithTheDeltas, MarksAreAHistory, IsAwake, IsLongAgo, QuietTimeOutlivesFrames, MasterStaysFromLock, SlaveStaysFromLocked, SlaveOnWithItsMaster}
 use Rattle.wrp_handshake.proofs.Keeps.{view_of}
 use Rattle.wrp_handshake.proofs.Changes.{EndsKeep, from_master, from_slave, can_keep}
 use Rattle.wrp_handshake.proofs.Histories.{EndsLead, can_lead}
 use Rattle.wrp_handshake.proofs.Lit.{LitKeeps, can_keep_lit, deltas_by, lit_long_ago}
 use Rattle.wrp_handshake.proofs.Same.{same_by}
 use Rattle.wrp_handshake.proofs.Since.{since_of, no_stretch_since, no_lock_since, left_long_ago}
+use Rattle.wrp_handshake.proofs.Staying.{can_stay}
+use Rattle.wrp_handshake.proofs.Together.{master_on}
 
 at_end :
     (life dmin : ℕ) (ends : Ends) (role : Role) → EndsKeep life dmin ends → (end_of ends role).link.state ≡ LinkOn →
@@ -63,3 +65,7 @@ slave_stays_from_locked life dmin ends at can moved =
     no_lock_since ends.slave.link.role k.of_slave.turn at ends.slave.marks k.is_slave
     (since_of life dmin ends.time (view_of ends.master) k.of_master (view_of ends.slave) k.of_slave (LOCKED, at) (from_master life dmin ends k) moved.stays moved.among)
     k.slave.turns
+
+pub slave_on_with_its_master : SlaveOnWithItsMaster
+slave_on_with_its_master life dmin ends can on lit =
+    master_on life dmin ends _ (can_keep life dmin ends can) (can_keep_lit life dmin ends can) (can_stay life dmin ends can) on lit

@@ -27,7 +27,8 @@ twice_other Slave = refl
 too_new : (life : ℕ) (at turn : ℤ) → (at +ℤ pos (2 * life)) <ℤ turn → turn ≤ℤ at → ⊥
 too_new life at turn h k = omega (arith, ints)
 
-current_of :
+-- a message of the peer's last turn
+pub current_of :
     (life dmin : ℕ) (time : ℤ) (q : View) (gq : Ghost) (m : Sending) →
     PortKeeps life dmin time q gq → FromLatest q.sent gq.turn m → Current q.role q.marks gq m
 current_of life dmin time q gq m k f =
@@ -65,7 +66,7 @@ pub same_by :
     Peers life dmin time v g q gq → v.state ≡ LinkOn → SameHandshake v.role v.marks q.marks
 same_by life dmin time v g q gq c on =
     let bo : bound v.role v.state ≡ true = ap (λ (s : LinkState). bound v.role s) on ∙ on_bound v.role in
-    let b : Bond life g.bind g.latest q.sent gq.turn = c.tied bo in
+    let b : Bond v.role life g.bind g.latest q.sent gq.turn = c.tied bo in
     let n : IsEngaged time v.role v.state v.marks g = c.keeps.engages (bound_engaged v.role v.state bo) in
     let taken : AllByRecursion (λ m. FromLatest q.sent gq.turn m) (b.last ∷ b.others) =
     subst (λ (xs : List Sending). AllByRecursion (λ m. FromLatest q.sent gq.turn m) xs) b.movers b.taken in

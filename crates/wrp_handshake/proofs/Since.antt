@@ -13,7 +13,7 @@ use Rattle.wrp_handshake.specs.Laws.{IsAwake, IsLongAgo}
 use Rattle.wrp_handshake.proofs.Stages.{engaged, bound}
 use Rattle.wrp_handshake.proofs.Times.{later, older}
 use Rattle.wrp_handshake.proofs.Keeps.{View, view_of, Ghost, IsOpen, IsEngaged, TurnedBy, LeftBy, PortKeeps, FromLatest, Bond}
-use Rattle.wrp_handshake.proofs.Parts.{by_bool, idle_shut, All-weaker}
+use Rattle.wrp_handshake.proofs.Parts.{by_bool, out_engaged, idle_shut, All-weaker}
 use Rattle.wrp_handshake.proofs.Moves.{Peers, quiet_over}
 use Rattle.wrp_handshake.proofs.Inputs.{idle_or_not}
 
@@ -25,11 +25,11 @@ none_among : (m : Sending) (xs : List Sending) → xs ≡ [] → IsAmong m xs �
 none_among m [] e i = i
 none_among m (x ∷ xs) e i = cc
 
--- the peer came past PRESENT for the last time before it sent the message
-pub since_of :
+-- a message that moved a port in its present stretch is of the peer's last turn
+pub latest_of :
     (life dmin : ℕ) (time : ℤ) (v : View) (g : Ghost) (q : View) (gq : Ghost) (m : Sending) →
-    Peers life dmin time v g q gq → v.state ≢ Idle → IsAmong m (movers_of (newest_of (stretches_of v.marks))) → gq.turn ≤ℤ m.1
-since_of life dmin time v g q gq m c out among =
+    Peers life dmin time v g q gq → v.state ≢ Idle → IsAmong m (movers_of (newest_of (stretches_of v.marks))) → FromLatest q.sent gq.turn m
+latest_of life dmin time v g q gq m c out among =
     by_bool (engaged v.role v.state)
     (λ en.
         let n : IsEngaged time v.role v.state v.marks g = c.keeps.engages en in
@@ -38,8 +38,8 @@ since_of life dmin time v g q gq m c out among =
         let i : IsAmong m (movers_of g.latest) = subst (λ (xs : List Sending). IsAmong m xs) newest among in
         by_bool (bound v.role v.state)
         (λ bo.
-            let b : Bond life g.bind g.latest q.sent gq.turn = c.tied bo in
-            (all_among (λ x. FromLatest q.sent gq.turn x) m (movers_of g.latest) b.taken i).since)
+            let b : Bond v.role life g.bind g.latest q.sent gq.turn = c.tied bo in
+            all_among (λ x. FromLatest q.sent gq.turn x) m (movers_of g.latest) b.taken i)
         (λ un. absurd (none_among m (movers_of g.latest) (c.keeps.unbound en un) i)))
     (λ shut.
         let o : IsOpen life time v.role v.state v.marks g = c.keeps.opened out shut in
@@ -47,9 +47,11 @@ since_of life dmin time v g q gq m c out among =
         ap (λ (ss : List (List Mark)). movers_of (newest_of ss)) o.stretches ∙ ap (λ (x : Option Sending). with_mover x []) o.unmoved in
         absurd (none_among m (movers_of (newest_of (stretches_of v.marks))) none among))
 
-out_engaged : (s : LinkState) → s ≢ Idle → engaged Master s ≡ true
-out_engaged Idle h = absurd (h refl)
-out_engaged _ h = refl
+-- the peer came past PRESENT for the last time before it sent the message
+pub since_of :
+    (life dmin : ℕ) (time : ℤ) (v : View) (g : Ghost) (q : View) (gq : Ghost) (m : Sending) →
+    Peers life dmin time v g q gq → v.state ≢ Idle → IsAmong m (movers_of (newest_of (stretches_of v.marks))) → gq.turn ≤ℤ m.1
+since_of life dmin time v g q gq m c out among = (latest_of life dmin time v g q gq m c out among).since
 
 -- a master that came past PRESENT by a time began no stretch after it
 pub no_stretch_since :

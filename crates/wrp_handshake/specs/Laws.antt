@@ -74,3 +74,12 @@ SlaveStaysFromLocked =
     CanBe life dmin ends →
     Moved ends.master LOCKED at →
     AllByRecursion (λ mark. mark.from ≡ Present → mark.to ≡ SLock → mark.at ≤ℤ at) ends.slave.marks
+
+-- a slave in WR_LINK_ON whose master has its carrier has its master in WR_LINK_ON
+abbrev pub SlaveOnWithItsMaster : Type 0
+SlaveOnWithItsMaster =
+    (life dmin : ℕ) (ends : Ends) →
+    CanBe life dmin ends →
+    ends.slave.link.state ≡ LinkOn →
+    ends.master.link.carrier ≡ true →
+    ends.master.link.state ≡ LinkOn

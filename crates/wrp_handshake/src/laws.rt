@@ -1,7 +1,8 @@
 //! The laws of one link. Each function here does nothing: its contract is a law, and its proof shows that
 //! it holds after every list of changes that may come.
 ghost use Rattle.wrp_handshake.specs.Laws.{MarksAreAHistory, MasterStaysFromLock, OnInTheSameHandshake};
-ghost use Rattle.wrp_handshake.specs.Laws.{OnWithTheDeltas, QuietTimeOutlivesFrames, SlaveStaysFromLocked};
+ghost use Rattle.wrp_handshake.specs.Laws.{OnWithTheDeltas, QuietTimeOutlivesFrames, SlaveOnWithItsMaster};
+ghost use Rattle.wrp_handshake.specs.Laws.{SlaveStaysFromLocked};
 ghost use Rattle.wrp_handshake.specs.Worked.{WorkedHandshake};
 
 /// A port in WR_LINK_ON is in the same handshake as its peer.
@@ -36,6 +37,11 @@ pub fn master_stays_from_lock()
 /// other stretch while the master stays in its own.
 pub fn slave_stays_from_locked()
     ensures { SlaveStaysFromLocked }
+{}
+
+/// A slave in WR_LINK_ON whose master has its carrier has its master in WR_LINK_ON.
+pub fn slave_on_with_its_master()
+    ensures { SlaveOnWithItsMaster }
 {}
 
 /// The laws are not empty: a handshake worked out from the first carrier to WR_LINK_ON at both ends is one
