@@ -1,13 +1,13 @@
 -- The path of a child, and that of the grandmaster.
-use Rattle.std.proofs.Common.{◌≡◌, ℕ, zero, suc, ◌+◌, ◌<◌, ◌≤◌, refl, ap, sym, subst, ◌∙◌, List, [], ◌∷◌, Option, Some, None, arith}
+use Rattle.std.proofs.Common.{◌≡◌, ℕ, zero, suc, ◌+◌, ◌≤◌, refl, ap, sym, subst, ◌∙◌, List, ◌∷◌, Option, Some, None, arith}
 use Rattle.std.specs.Prelude.{sum_by}
 use Rattle.std.specs.Option.{option_map_or, option_and_then}
 use Rattle.std.proofs.lemmas.List.Sums.{sum_by-cons}
 use Rattle.wrp_base.specs.declared.configuration.NetCfg.{NetCfg}
 use Rattle.wrp_base.specs.declared.network.LinkCfg.{LinkCfg}
-use Rattle.wrp_base.specs.Network.{IsTree, HasDepth, link_above, node_count}
+use Rattle.wrp_base.specs.Network.{HasDepth, link_above}
 use Rattle.wrp_bounds.specs.Hop.{hop_bound}
-use Rattle.wrp_bounds.specs.Bounds.{numbers_over, hop_of, hop_over, held_motion, links_up, step_over, path_of, holdover_of}
+use Rattle.wrp_bounds.specs.Bounds.{numbers_over, hop_of, hop_over, held_motion, links_up, step_over, path_of}
 use Rattle.wrp_bounds.specs.Laws.{PathOfChild, GrandmasterIsExact}
 use Rattle.wrp_bounds.proofs.WayUp.{links_up-top, links_up-step}
 

@@ -1,6 +1,6 @@
 -- A link that is found above a node is one of the network's, so its ends are nodes.
 use Rattle.std.proofs.lemmas.Option.{slice_get_read}
-use Rattle.std.proofs.Common.{◌≡◌, ℕ, zero, suc, ◌+◌, ◌<◌, length, get_or, refl, ap, sym, ◌∙◌, List, [], ◌∷◌, Bool, true, false, Option, Some, None, slice_get, Bor, IfSome, option_map}
+use Rattle.std.proofs.Common.{◌≡◌, ℕ, suc, ◌<◌, length, get_or, refl, sym, List, [], ◌∷◌, Bool, true, false, Option, Some, None, slice_get, Bor, IfSome, option_map}
 use Rattle.std.specs.Prelude.{◌==◌, find}
 use Rattle.wrp_base.specs.declared.configuration.NetCfg.{NetCfg}
 use Rattle.wrp_base.specs.declared.network.LinkCfg.{LinkCfg}

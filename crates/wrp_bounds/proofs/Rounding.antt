@@ -1,5 +1,5 @@
 -- A quotient rounded up is the least whole number that is at least the exact one.
-use Rattle.std.proofs.Common.{◌≡◌, ℕ, zero, suc, ◌+◌, ◌*◌, ◌/◌, ◌%◌, ◌<◌, ◌≤◌, refl, ap, arith}
+use Rattle.std.proofs.Common.{◌≡◌, ℕ, zero, suc, ◌+◌, ◌*◌, ◌/◌, ◌%◌, ◌<◌, refl, ap, arith}
 use Rattle.std.proofs.Math.Nat.{div-add-mod, mod-lt, zero-div}
 use Rattle.wrp_bounds.specs.Motion.{rounded_up}
 use Rattle.wrp_bounds.specs.Laws.{RoundsUp}

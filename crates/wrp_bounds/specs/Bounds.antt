@@ -1,11 +1,11 @@
 -- The bounds of a network's nodes: hop, path and holdover, by the tree of its links (this project's
 -- profile).
-use Rattle.std.specs.Prelude.{ℕ, zero, suc, ◌≡◌, ◌+◌, ◌*◌, ◌<◌, max, unsigned_abs, if◌then◌else◌, List, [], ◌∷◌, sum_by, Option, None, Some, slice_get}
+use Rattle.std.specs.Prelude.{ℕ, zero, suc, ◌+◌, ◌<◌, max, unsigned_abs, if◌then◌else◌, List, [], ◌∷◌, sum_by, Option, None, Some, slice_get}
 use Rattle.std.specs.Option.{is_some, option_map_or, option_and_then}
 use Rattle.wrp_base.specs.declared.configuration.NetCfg.{NetCfg}
 use Rattle.wrp_base.specs.declared.network.NodeCfg.{NodeCfg}
 use Rattle.wrp_base.specs.declared.network.LinkCfg.{LinkCfg}
-use Rattle.wrp_base.specs.Network.{IsTree, HasLinkRanges, link_above, node_count}
+use Rattle.wrp_base.specs.Network.{HasLinkRanges, link_above, node_count}
 use Rattle.wrp_bounds.specs.declared.numbers.End.{End}
 use Rattle.wrp_bounds.specs.declared.numbers.HopNumbers.{HopNumbers}
 use Rattle.wrp_bounds.specs.Hop.{hop_bound}

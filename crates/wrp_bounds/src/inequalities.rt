@@ -68,9 +68,8 @@ fn broken_phase_room(cfg: &NetCfg) -> Option<Inequality>
     ensures { result ≡ find is_broken (phase_rooms cfg.now) }
 {
     for n in 0..cfg.nodes.len() {
-        match broken_phase_room_at(cfg, n as u8) {
-            Some(room) => return Some(room),
-            None => {}
+        if let Some(room) = broken_phase_room_at(cfg, n as u8) {
+            return Some(room);
         }
     }
     None

@@ -1,8 +1,5 @@
 -- None is broken exactly where each is kept.
 use Rattle.std.proofs.Common.{◌≡◌, refl, sym, ◌∙◌, Some, None}
-use Rattle.std.specs.Prelude.{find}
-use Rattle.wrp_bounds.specs.declared.inequality.Inequality.{Inequality}
-use Rattle.wrp_bounds.specs.Inequalities.{is_broken, inequalities}
 use Rattle.wrp_bounds.proofs.Kept.{kept_of_none, none_of_kept}
 use Rattle.wrp_bounds.proofs.inequalities.check.Goals as goal
 

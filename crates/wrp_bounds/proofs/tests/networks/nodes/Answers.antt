@@ -1,5 +1,5 @@
 -- Each node that is pushed is in its ranges.
-use Rattle.std.proofs.Common.{arith, length, ap, length-append}
+use Rattle.std.proofs.Common.{arith, length, ap}
 use Rattle.wrp_base.specs.Network.{HasNodeRanges}
 use Rattle.wrp_bounds.proofs.Chain.{each_of_pushed, each_of_none}
 use Rattle.wrp_bounds.proofs.tests.networks.nodes.Goals as goal
