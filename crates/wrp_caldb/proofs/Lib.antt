@@ -1,3 +1,5 @@
 pub mod Values
 pub mod Refusals
 pub mod Refused
+pub mod Inserts
+pub mod Depth

@@ -43,12 +43,16 @@ table_members (Some t) =
     member (codes "table") (array (items_of (map point_data t.points)))
     (member (codes "table_err") (number t.err) no_members)
 
--- a fibre with its points
-abbrev pub fibre_members : FibreAt → Members
-fibre_members f =
+-- a fibre, before these members
+abbrev pub linear_members : FibreAt → Members → Members
+linear_members f more =
     member (codes "err") (number f.fibre.err)
     (member (codes "kappa") (integer f.fibre.kappa)
-    (member (codes "name") (string f.name) (table_members f.table)))
+    (member (codes "name") (string f.name) more))
+
+-- a fibre with its points
+abbrev pub fibre_members : FibreAt → Members
+fibre_members f = linear_members f (table_members f.table)
 
 -- the document of a database
 abbrev pub document_of : Database → Members

@@ -14,6 +14,7 @@ mod reading;
 mod repeats;
 mod row;
 mod sort;
+mod text;
 mod value;
 
 pub use database::{CalDb, Entry, ListedFibre, ListedModule};

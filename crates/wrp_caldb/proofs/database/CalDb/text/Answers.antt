@@ -1,0 +1,14 @@
+use Rattle.std.proofs.Common.{◌≡◌, ◌≤◌, Some, ap, sym, subst, ◌∙◌}
+use Rattle.std.specs.Str.{IsUtf8}
+use Rattle.toml.specs.Data.{members_depth}
+use Rattle.toml.specs.Parse.{parse_document}
+use Rattle.wrp_caldb.proofs.Depth.{document_depth}
+use Rattle.wrp_caldb.proofs.database.CalDb.text.Goals as goal
+
+pub returns : goal.returns
+returns c =
+    let shallow = subst (λ ms. members_depth ms ≤ 80) (sym c.in_ok-document.ensures) (document_depth c.args.self.now) in
+    (
+      subst IsUtf8 (sym c.octets_of.ensures.value) c.octets_of.ensures.utf8,
+      ap parse_document c.octets_of.ensures.value ∙ c.in_ok-text.ensures shallow ∙ ap Some c.in_ok-document.ensures,
+    )
