@@ -8,7 +8,7 @@ use Rattle.wrp_exch.specs.declared.sync.HeldSync.{HeldSync}
 use Rattle.wrp_exch.specs.declared.sync.SyncPair.{SyncPair}
 use Rattle.wrp_exch.specs.declared.delay.Sent.{Sent}
 use Rattle.wrp_exch.specs.declared.delay.DelayPair.{DelayPair}
-use Rattle.wrp_exch.specs.Call.{Call, CallStart, CallClear, CallSample, CallSync, CallFollowUp, CallReqOut, CallReqSent, CallResp}
+use Rattle.wrp_exch.specs.Call.{Call, CallStart, CallClear, CallSync, CallFollowUp, CallReqOut, CallReqSent, CallResp}
 use Rattle.wrp_exch.specs.Samples.{phase_in, last_samples}
 use Rattle.wrp_exch.specs.Chain.{latched_phase}
 use Rattle.wrp_exch.specs.SyncPair.{held_sync, kept_sync, last_sync, is_followed, pair_of_sync, followed_pair, sync_pair}
