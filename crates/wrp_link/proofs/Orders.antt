@@ -70,7 +70,7 @@ run_ordered l (input ∷ before) o = after_ordered (run_of l before) input (run_
 pub new_ordered : (role : Role) (set : LinkSet) → IsOrdered (new_link role set)
 new_ordered role set = record { belongs = idle_belongs role; known = idle_unknown role }
 
-stands_ordered : (l : LinkAt) (inputs : List LinkIn) → StandsFor l inputs → IsOrdered l
+pub stands_ordered : (l : LinkAt) (inputs : List LinkIn) → StandsFor l inputs → IsOrdered l
 stands_ordered l inputs stood =
     subst IsOrdered (sym stood) (run_ordered (new_link l.role l.set) inputs (new_ordered l.role l.set))
 

@@ -126,6 +126,13 @@ impl Link {
         }
     }
 
+    /// The port's own module, where the calibration database lists it; None without a carrier.
+    pub fn own_module(&self) -> Option<Module>
+        ensures { result ≡ self.now.own_module }
+    {
+        self.own_module
+    }
+
     /// The peer's deltaTx and deltaRx, in tau: those of the CALIBRATED that moved this handshake, until
     /// the port returns to IDLE.
     pub fn peer_deltas(&self) -> Option<(u64, u64)>
