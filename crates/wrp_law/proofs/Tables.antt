@@ -1,5 +1,5 @@
 -- The value of a table: where it begins, that it does not fall, and how near it is to the exact fraction.
-use Rattle.std.proofs.Common.{◌≡◌, ℕ, suc, ℤ, ◌^◌, ◌+◌, ◌-◌, ◌≤◌, ◌≤ℤ◌, ◌<ℤ◌, Bool, true, false, cond, int_le, pos, ◌*◌, unsigned_abs, length, get_or, List, [], ◌∷◌, refl, subst, arith}
+use Rattle.std.proofs.Common.{◌≡◌, ℕ, suc, ℤ, ◌^◌, ◌+◌, ◌-◌, ◌≤◌, ◌≤ℤ◌, ◌<ℤ◌, true, false, cond, int_le, pos, ◌*◌, unsigned_abs, length, get_or, List, [], ◌∷◌, refl, subst, arith}
 use Rattle.std.proofs.lemmas.Int.{ints}
 use Rattle.wrp_law.specs.Law.{IsNear}
 use Rattle.wrp_law.specs.Table.{Rises, IsWithin, TableNeverFalls, first_x, last_x, segment_value, table_value}

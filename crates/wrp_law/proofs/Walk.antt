@@ -1,5 +1,5 @@
 -- The walk along a table: the points that are ahead have the value at x.
-use Rattle.std.proofs.Common.{◌≡◌, ℕ, suc, ℤ, pos, ◌+◌, ◌-◌, ◌<◌, ◌≤◌, ◌≤ℤ◌, ◌<ℤ◌, false, int_le, length, get_or, take, drop, List, [], ◌∷◌, refl, subst, ap, ◌∙◌, sym, arith, add-one}
+use Rattle.std.proofs.Common.{◌≡◌, ℕ, suc, ℤ, pos, ◌+◌, ◌-◌, ◌<◌, ◌≤◌, ◌≤ℤ◌, false, int_le, length, get_or, take, drop, List, [], ◌∷◌, refl, subst, ap, ◌∙◌, sym, arith, add-one}
 use Rattle.std.proofs.lemmas.List.{take_all}
 use Rattle.std.proofs.Math.Seq.{drop-cons}
 use Rattle.std.proofs.lemmas.Int.{ints}

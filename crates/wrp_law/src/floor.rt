@@ -3,7 +3,7 @@ ghost use Rattle.std.specs.Prelude.{◌≡◌, ◌^◌, ◌<◌, ◌≤◌, unsi
 ghost use Rattle.wrp_law.specs.Law.{floor_at, IsNear};
 ghost use Rattle.wrp_law.specs.declared.delay.LawKind.TheVariants.{Linear};
 
-use wrp_base::{floor_div, product, sum};
+use wrp_base::{floor_div, narrow, product, sum};
 
 /// `(2^39 + kappa) x / 2^40` rounded down, for `kappa` from `-2^38` to `2^38` and `x` from `-2^53` to
 /// `2^53` tau: within 1 of the exact fraction.
@@ -13,7 +13,7 @@ pub fn floor_of(kappa: i64, x: i64) -> i64
     ensures value { result ≡ floor_at kappa x }
     ensures near { IsNear (Linear kappa) 1 x result }
 {
-    narrowed(quotient(kappa, x))
+    narrow(quotient(kappa, x))
 }
 
 // The floor, before it is known to fit 64 bits.
@@ -26,12 +26,4 @@ fn quotient(kappa: i64, x: i64) -> i128
 {
     let part = sum(1 << 39, i128::from(kappa));
     floor_div(product(i128::from(x), part), 1 << 40)
-}
-
-// A number that fits 64 bits.
-pub fn narrowed(a: i128) -> i64
-    requires { unsigned_abs a < 2 ^ 63 }
-    ensures { result ≡ a }
-{
-    a as i64
 }

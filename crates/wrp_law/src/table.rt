@@ -5,8 +5,7 @@ ghost use Rattle.wrp_law.specs.Law.{IsNear};
 ghost use Rattle.wrp_law.specs.Table.{IsTable, FitsPoint, IsOnTable, IsWithin, last_x, segment_value, table_value, TableNeverFalls};
 ghost use Rattle.wrp_law.specs.declared.delay.LawKind.TheVariants.{Linear};
 
-use crate::floor::narrowed;
-use wrp_base::{difference, floor_div, product, sum};
+use wrp_base::{difference, floor_div, narrow, product, sum};
 
 /// The value at `x` of a table of points `(x, y)`, each in tau: `y1 + (x - x1) (y2 - y1) / (x2 - x1)`,
 /// the quotient rounded down, for the first segment of the table that has `x`. The table has 2 to 32
@@ -54,7 +53,7 @@ fn on_segment(start: (i64, i64), end: (i64, i64), x: i64) -> i64
         offset(start.0, end.0),
         offset(start.1, end.1),
     );
-    narrowed(sum(i128::from(start.1), rise))
+    narrow(sum(i128::from(start.1), rise))
 }
 
 // How far a segment has risen at a place along it, rounded down.

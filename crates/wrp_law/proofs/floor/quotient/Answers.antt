@@ -1,10 +1,9 @@
 -- The quotient rounded down is within one of the exact one.
-use Rattle.std.proofs.Common.{◌≡◌, ℕ, pos, ◌^◌, ◌*◌, ◌<◌, ◌≤◌, ◌+ℤ◌, ◌*ℤ◌, ◌-ℤ◌, ◌≤ℤ◌, ◌<ℤ◌, ℤ, unsigned_abs, to_z, of_z, rules, arith, subst, ap, ◌∙◌, sym}
+use Rattle.std.proofs.Common.{ℕ, pos, ◌^◌, ◌*◌, ◌<◌, ◌≤◌, ◌+ℤ◌, ◌*ℤ◌, ◌-ℤ◌, ◌≤ℤ◌, ◌<ℤ◌, ℤ, unsigned_abs, arith}
 use Rattle.std.proofs.Math.Nat.{mul-le-mul}
 use Rattle.std.proofs.lemmas.Int.{ints, to_z-of_z, unsigned_abs-mul}
-use Rattle.std.specs.Int.{w64, w128}
 use Rattle.wrp_law.specs.declared.delay.LawKind.TheVariants.{Linear}
-use Rattle.wrp_law.specs.Law.{floor_at, IsNear, numerator}
+use Rattle.wrp_law.specs.Law.{floor_at, numerator}
 use Rattle.wrp_base.specs.Division.{floor_quotient}
 use Rattle.wrp_base.proofs.DivisionLaws.{floor_quotient-at_most, floor_quotient-next}
 use Rattle.wrp_law.proofs.floor.quotient.Goals as goal

@@ -1,5 +1,5 @@
 -- The value is near the exact fraction where the points are.
-use Rattle.std.proofs.Common.{◌≡◌, ◌+◌, ◌≤◌, arith, length, to_z, of_z, w64, sym, subst}
+use Rattle.std.proofs.Common.{◌≡◌, ◌+◌, ◌≤◌, arith, length, to_z, of_z, w64, subst}
 use Rattle.std.proofs.lemmas.Int.{to_z-of_z}
 use Rattle.wrp_law.specs.Law.{IsNear}
 use Rattle.wrp_law.specs.Table.{table_value}
