@@ -1,5 +1,5 @@
-//! Where each field that is read stands, in octets from the frame's first, and the numbers that have
-//! a meaning there (IEEE 1588-2019). Octets 5, 16 to 19, 32, and 46 of an Announce are free.
+//! Where each field that is read stands, in octets from the frame's first, and the numbers that
+//! have a meaning there (IEEE 1588-2019). Octets 5, 16 to 19, 32, and 46 of an Announce are free.
 
 /// versionPTP, the low nibble of octet 1.
 pub const PTP_VERSION: u8 = 2;
