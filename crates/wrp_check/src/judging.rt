@@ -51,10 +51,8 @@ fn judgement(own: &[Mark], peer: &[Mark], role: Role) -> Result<(), Verdict>
 /// the [`Verdict`] says why not.
 pub fn judge(own: &[Mark], peer: &[Mark], role: Role) -> Result<(), Verdict>
     // Each verdict comes exactly where it is due for the two histories, read from the newest mark.
-    ensures {
-        (verdict : Result Unit VerdictOf) →
-        (result ≡ verdict) ↔ Judges role (reverse own.now) (reverse peer.now) verdict
-    }
+    ensures { (verdict : Result Unit VerdictOf) →
+        (result ≡ verdict) ↔ Judges role (reverse own.now) (reverse peer.now) verdict }
 {
     judgement(own, peer, role)
 }

@@ -55,10 +55,8 @@ fn enters(mark: &Mark, state: LinkState, time: Tau) -> bool
 // The first of these states that was not entered in the stretch behind those before it, at or before a
 // time.
 fn missing(states: &[LinkState], time: Tau, stretch: &[Mark]) -> Option<LinkState>
-    ensures {
-        MatchOption result (Entered time (reverse states.now) (reverse stretch.now))
-        (λ state. Lacks states.now time (reverse stretch.now) state)
-    }
+    ensures { MatchOption result (Entered time (reverse states.now) (reverse stretch.now))
+        (λ state. Lacks states.now time (reverse stretch.now) state) }
 {
     let mut entered = 0;
     for mark in stretch {
@@ -71,10 +69,8 @@ fn missing(states: &[LinkState], time: Tau, stretch: &[Mark]) -> Option<LinkStat
 
 // What the first message whose required states are not all there lacks first.
 pub(crate) fn first_missing(role: Role, own: &[Mark], stretch: &[Mark]) -> Option<LinkState>
-    ensures {
-        MatchOption result (AllBacked role (reverse stretch.now) (movers_of (reverse own.now)))
-        (λ state. LacksFirst role (reverse stretch.now) (movers_of (reverse own.now)) state)
-    }
+    ensures { MatchOption result (AllBacked role (reverse stretch.now) (movers_of (reverse own.now)))
+        (λ state. LacksFirst role (reverse stretch.now) (movers_of (reverse own.now)) state) }
 {
     for mark in own {
         if let Some((message, at)) = mover(mark) {

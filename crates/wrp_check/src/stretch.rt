@@ -10,9 +10,7 @@ pub(crate) fn split_newest(marks: &[Mark]) -> (&[Mark], &[Mark])
     requires { 0 < length marks.now }
     ensures parts { marks.now ≡ result.0.now ++ result.1.now }
     ensures some { 0 < length result.1.now }
-    ensures stretches {
-        stretches_of (reverse marks.now) ≡ reverse result.1.now ∷ stretches_of (reverse result.0.now)
-    }
+    ensures stretches { stretches_of (reverse marks.now) ≡ reverse result.1.now ∷ stretches_of (reverse result.0.now) }
 {
     let mut start = 0;
     for (i, mark) in marks.iter().enumerate() {
@@ -52,10 +50,8 @@ pub(crate) fn lies_in(time: Tau, stretch: &[Mark]) -> bool
 
 // The newest stretch of a history in which a time lies.
 pub(crate) fn stretch_with(time: Tau, marks: &[Mark]) -> Option<&[Mark]>
-    ensures {
-        MatchOption result (LiesInNone time (stretches_of (reverse marks.now)))
-        (λ found. IsNewestWith time (stretches_of (reverse marks.now)) (reverse found.now))
-    }
+    ensures { MatchOption result (LiesInNone time (stretches_of (reverse marks.now)))
+        (λ found. IsNewestWith time (stretches_of (reverse marks.now)) (reverse found.now)) }
 {
     let mut older = marks;
     while !older.is_empty() {

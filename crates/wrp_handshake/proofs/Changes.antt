@@ -1,5 +1,5 @@
 -- What is kept of a link is kept over every list of changes.
-use Rattle.std.proofs.Common.{◌≡◌, ◌≢◌, refl, ap, sym, ◌∙◌, subst, ℕ, ◌-◌, ℤ, pos, ◌*◌, ◌<◌, ◌+ℤ◌, ◌≤ℤ◌, ◌<ℤ◌, Bool, true, false, List, [], ◌∷◌}
+use Rattle.std.proofs.Common.{◌≡◌, refl, ap, sym, ◌∙◌, subst, ℕ, ◌-◌, ℤ, pos, ◌*◌, ◌<◌, false, List, [], ◌∷◌}
 use Rattle.wrp_base.specs.declared.link.LinkState.{LinkState}
 use Rattle.wrp_base.specs.declared.link.LinkState.TheVariants.{Idle}
 use Rattle.wrp_base.specs.declared.link.Role.{Role}
@@ -7,14 +7,14 @@ use Rattle.wrp_base.specs.declared.link.Role.TheVariants.{Master, Slave}
 use Rattle.wrp_link.specs.declared.interface.LinkIn.{LinkIn}
 use Rattle.wrp_link.specs.declared.interface.LinkIn.TheVariants.{CarrierUp}
 use Rattle.wrp_link.specs.declared.interface.LinkSet.{LinkSet}
-use Rattle.wrp_link.specs.LinkAt.{LinkAt, new_link}
+use Rattle.wrp_link.specs.LinkAt.{LinkAt}
 use Rattle.wrp_link.specs.Rows.{Row, Counts, row_of}
 use Rattle.wrp_link.specs.Table.{counted, by_row}
 use Rattle.wrp_link.proofs.Fits.{Belongs}
 use Rattle.wrp_handshake.specs.Ends.{Port, Ends, Change, Passes, Hears, Starts, Lights, other_of, end_of, with_end, heard, MayHear, changed, MayCome, ends_after, AllMayCome, new_port, new_ends, OutlivesFrames, CanBe}
 use Rattle.wrp_handshake.proofs.Stages.{engaged, bound}
 use Rattle.wrp_handshake.proofs.Times.{at_once, calm_later}
-use Rattle.wrp_handshake.proofs.Keeps.{View, view_of, Ghost, PortKeeps, Tied}
+use Rattle.wrp_handshake.proofs.Keeps.{view_of, Ghost, PortKeeps, Tied}
 use Rattle.wrp_handshake.proofs.Parts.{idle_shut, idle_unbound}
 use Rattle.wrp_handshake.proofs.Ports.{stays, passes_port}
 use Rattle.wrp_handshake.proofs.Moves.{Peers, Moved}
@@ -201,4 +201,4 @@ pub can_keep : (life dmin : ℕ) (ends : Ends) → CanBe life dmin ends → Ends
 can_keep life dmin ends h =
     subst (λ (e : Ends). EndsKeep life dmin e) (sym h.is)
     (all_keep life dmin (new_ends h.of_master h.of_slave h.start) h.changes h.come
-     (start_keeps life dmin h.start h.of_master h.of_slave h.master_quiet h.slave_quiet))
+    (start_keeps life dmin h.start h.of_master h.of_slave h.master_quiet h.slave_quiet))

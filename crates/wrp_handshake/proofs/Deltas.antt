@@ -1,7 +1,6 @@
 -- The deltas of a slave are those of the module at its peer: both carriers came together, and what is
 -- still in force was sent since then.
-use Rattle.std.proofs.Common.{◌≡◌, ◌≢◌, ◌⊎◌, inl, inr, refl, ap, sym, ◌∙◌, subst, ℕ, ◌-◌, ◌*◌, ◌<◌, ℤ, pos, ◌+ℤ◌, ◌≤ℤ◌, ◌<ℤ◌, Bool, true, false, cond, eqb, ltb, is_some, List, [], ◌∷◌, Option, None, Some, arith}
-use Rattle.std.proofs.lemmas.Int.{ints}
+use Rattle.std.proofs.Common.{◌≡◌, ◌≢◌, ◌⊎◌, inl, inr, refl, ap, sym, ◌∙◌, subst, ℕ, ℤ, Bool, true, false, cond, eqb, ltb, is_some, List, [], ◌∷◌, Option, None, Some}
 use Rattle.std.specs.List.{AllByRecursion}
 use Rattle.wrp_base.specs.declared.link.LinkState.{LinkState}
 use Rattle.wrp_base.specs.declared.link.LinkState.TheVariants.{Idle, Present, SLock, MLock, Locked, Calibration, Calibrated, RespCalib, LinkOn}
@@ -14,11 +13,11 @@ use Rattle.wrp_base.specs.declared.message.WrMsg.TheVariants.{Present as SLAVE_P
 use Rattle.wrp_link.specs.declared.interface.LinkIn.{LinkIn}
 use Rattle.wrp_link.specs.declared.interface.LinkIn.TheVariants.{Msg, Announce, Tick, CarrierDown, CarrierUp}
 use Rattle.wrp_link.specs.LinkAt.{LinkAt, Waiting}
-use Rattle.wrp_link.specs.Rows.{Row, NoRow, Stays, Moves, Keeps, Resends, Fails, Waits, Counts, CarrierComes, CarrierGoes, under, may_leave_idle, own_calibrated, slave_row, master_row, message_row, announce_row, resent, timer_row, tick_row, row_of}
-use Rattle.wrp_link.specs.Table.{is_same, by_row, sent_by, sends_of, counted}
+use Rattle.wrp_link.specs.Rows.{Row, Moves, Resends, Fails, Waits, CarrierGoes, under, may_leave_idle, own_calibrated, slave_row, master_row, message_row, announce_row, resent, timer_row, tick_row, row_of}
+use Rattle.wrp_link.specs.Table.{sent_by}
 use Rattle.wrp_check.specs.Stretches.{is_idle, joined, stretches_of, newest_of, movers_of, with_mover}
-use Rattle.wrp_handshake.specs.Ends.{Sending, Port, IsAmong, stamped, mover_of}
-use Rattle.wrp_handshake.proofs.Parts.{joins, begins, mark_at}
+use Rattle.wrp_handshake.specs.Ends.{Sending, IsAmong, stamped, mover_of}
+use Rattle.wrp_handshake.proofs.Parts.{joins, begins}
 
 -- a CALIBRATED of this module
 abbrev pub IsOwn : Option Module → WrMsg → Type 0

@@ -1,5 +1,5 @@
 -- A port in WR_LINK_ON fails by SLAVE_PRESENT alone, and only once its quiet time was ticked in that state.
-use Rattle.std.proofs.Common.{◌≡◌, ◌≢◌, refl, ℕ, ◌≤◌, Bool, true, false, cond, eqb, ltb, leb, List, [], ◌∷◌, Option, None, Some}
+use Rattle.std.proofs.Common.{◌≡◌, ◌≢◌, refl, ℕ, ◌≤◌, Bool, true, false, cond, eqb, ltb, leb, [], ◌∷◌, Option, None, Some}
 use Rattle.std.proofs.lemmas.Bool.{leb-true}
 use Rattle.wrp_base.specs.declared.link.LinkState.{LinkState}
 use Rattle.wrp_base.specs.declared.link.LinkState.TheVariants.{Idle, Present, SLock, MLock, Locked, Calibration, Calibrated, RespCalib, LinkOn}
@@ -10,7 +10,7 @@ use Rattle.wrp_base.specs.declared.message.WrMsg.TheVariants.{Present as SLAVE_P
 use Rattle.wrp_link.specs.declared.interface.LinkIn.{LinkIn}
 use Rattle.wrp_link.specs.declared.interface.LinkIn.TheVariants.{Msg, Announce, Tick, CarrierDown, CarrierUp}
 use Rattle.wrp_link.specs.LinkAt.{LinkAt, Waiting}
-use Rattle.wrp_link.specs.Rows.{Row, NoRow, Stays, Moves, Keeps, Resends, Fails, Waits, Counts, CarrierComes, CarrierGoes, under, may_leave_idle, slave_row, master_row, message_row, announce_row, resent, timer_row, tick_row, row_of}
+use Rattle.wrp_link.specs.Rows.{Row, Moves, Resends, Fails, Waits, CarrierGoes, under, may_leave_idle, slave_row, master_row, message_row, announce_row, resent, timer_row, tick_row, row_of}
 
 -- what a row that fails says of a port in WR_LINK_ON
 abbrev pub FailsBy : LinkAt → LinkState → LinkIn → Row → Type 0

@@ -1,5 +1,5 @@
 -- The marks of a port are a history that leads to its state.
-use Rattle.std.proofs.Common.{◌≡◌, ◌≢◌, refl, sym, ap, ◌∙◌, subst, ℕ, ℤ, pos, Bool, true, false, cond, eqb, List, [], ◌∷◌, Option, None}
+use Rattle.std.proofs.Common.{◌≡◌, ◌≢◌, refl, sym, ap, ◌∙◌, subst, ℕ, ℤ, pos, true, false, cond, eqb, List, [], ◌∷◌, Option}
 use Rattle.std.proofs.lemmas.Bool.{eqb-true}
 use Rattle.wrp_base.specs.declared.link.LinkState.{LinkState}
 use Rattle.wrp_base.specs.declared.link.LinkState.TheVariants.{Idle, Present, SLock, MLock, Locked, Calibration, Calibrated, RespCalib, LinkOn}
@@ -10,7 +10,7 @@ use Rattle.wrp_link.specs.declared.interface.LinkIn.TheVariants.{CarrierUp}
 use Rattle.wrp_link.specs.Rows.{row_of}
 use Rattle.wrp_link.specs.Table.{is_same, place_of, by_row}
 use Rattle.wrp_check.specs.Laws.{state_after, IsHistory}
-use Rattle.wrp_handshake.specs.Ends.{Sending, Port, Ends, Change, Passes, Hears, Starts, Lights, end_of, marked, mover_of, heard, changed, ends_after, new_ends, CanBe}
+use Rattle.wrp_handshake.specs.Ends.{Sending, Port, Ends, Change, Passes, Hears, Starts, Lights, marked, mover_of, heard, changed, ends_after, new_ends, CanBe}
 use Rattle.wrp_handshake.proofs.Parts.{by_bool}
 use Rattle.wrp_handshake.proofs.Inputs.{marked_new, marked_same, same_state}
 
@@ -50,11 +50,11 @@ leads_now : (time : ℤ) (old new : LinkState) (by : Option Sending) (marks : Li
 leads_now time old new by marks h =
     by_bool (is_same old new)
     (λ same.
-        subst (λ (ms : List Mark). LeadsTo new ms) (marked_same time old new by marks same)
-        (record { history = h.history; leads = h.leads ∙ same_is old new same }))
+    subst (λ (ms : List Mark). LeadsTo new ms) (marked_same time old new by marks same)
+    (record { history = h.history; leads = h.leads ∙ same_is old new same }))
     (λ other.
-        subst (λ (ms : List Mark). LeadsTo new ms) (marked_new time old new by marks other)
-        (record { history = (sym h.leads, not_same old new other, h.history); leads = refl }))
+    subst (λ (ms : List Mark). LeadsTo new ms) (marked_new time old new by marks other)
+    (record { history = (sym h.leads, not_same old new other, h.history); leads = refl }))
 
 -- of both ends
 pub record EndsLead (ends : Ends) : Type 0 where
@@ -85,4 +85,4 @@ pub can_lead : (life dmin : ℕ) (ends : Ends) → CanBe life dmin ends → Ends
 can_lead life dmin ends h =
     subst (λ (e : Ends). EndsLead e) (sym h.is)
     (all_lead (new_ends h.of_master h.of_slave h.start) h.changes
-     (record { master = record { history = tt; leads = refl }; slave = record { history = tt; leads = refl } }))
+    (record { master = record { history = tt; leads = refl }; slave = record { history = tt; leads = refl } }))

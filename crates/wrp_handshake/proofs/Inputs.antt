@@ -1,28 +1,27 @@
 -- A port that is given an input: each row of the handshake table keeps what is kept of it and its peer.
-use Rattle.std.proofs.Common.{◌≡◌, ◌≢◌, ◌⊎◌, inl, inr, refl, ap, sym, ◌∙◌, subst, ℕ, ◌-◌, ℤ, pos, ◌*◌, ◌+ℤ◌, ◌≤ℤ◌, ◌<ℤ◌, Bool, true, false, cond, List, [], ◌∷◌, ◌++◌, Option, None, Some}
+use Rattle.std.proofs.Common.{◌≡◌, ◌≢◌, ◌⊎◌, inl, inr, refl, ap, sym, ◌∙◌, subst, ℕ, ◌-◌, ℤ, pos, ◌+ℤ◌, ◌≤ℤ◌, Bool, true, false, List, [], ◌∷◌, Option, None, Some}
 use Rattle.std.specs.List.{AllByRecursion}
 use Rattle.wrp_base.specs.declared.link.LinkState.{LinkState}
-use Rattle.wrp_base.specs.declared.link.LinkState.TheVariants.{Idle, Present, SLock, MLock, Locked, Calibration, Calibrated, RespCalib, LinkOn}
+use Rattle.wrp_base.specs.declared.link.LinkState.TheVariants.{Idle, Present}
 use Rattle.wrp_base.specs.declared.link.Mark.{Mark}
 use Rattle.wrp_base.specs.declared.link.Role.{Role}
 use Rattle.wrp_base.specs.declared.link.Role.TheVariants.{Master, Slave}
 use Rattle.wrp_base.specs.declared.message.WrMsg.{WrMsg}
 use Rattle.wrp_base.specs.declared.message.WrMsg.TheVariants.{Present as SLAVE_PRESENT, Lock as LOCK, Locked as LOCKED}
 use Rattle.wrp_link.specs.declared.interface.LinkIn.{LinkIn}
-use Rattle.wrp_link.specs.declared.interface.LinkIn.TheVariants.{Msg, Announce, Tick, CarrierDown, CarrierUp}
-use Rattle.wrp_link.specs.LinkAt.{LinkAt}
+use Rattle.wrp_link.specs.declared.interface.LinkIn.TheVariants.{Msg, Tick}
 use Rattle.wrp_link.specs.Rows.{Row, NoRow, Stays, Moves, Keeps, Resends, Fails, Waits, Counts, CarrierComes, CarrierGoes, row_of}
 use Rattle.wrp_link.specs.Table.{is_same, counted}
 use Rattle.wrp_link.proofs.Fits.{Belongs}
 use Rattle.wrp_check.specs.Stretches.{movers_of, with_mover}
-use Rattle.wrp_handshake.specs.Ends.{Sending, Port, other_of, IsAmong, stamped, mover_of, ticked_by, marked, port_by, heard, MayHear}
-use Rattle.wrp_handshake.proofs.Stages.{engaged, bound, numbered, opens, way_of, Sends, SendsAll, Kind, opening, engaging, answering, binding, going_on, FitsMove}
+use Rattle.wrp_handshake.specs.Ends.{Sending, Port, other_of, stamped, mover_of, ticked_by, marked, port_by, heard, MayHear}
+use Rattle.wrp_handshake.proofs.Stages.{engaged, bound, numbered, opens, SendsAll, Kind, opening, engaging, answering, binding, going_on, FitsMove}
 use Rattle.wrp_handshake.proofs.RowFits.{RowFits, row_fits}
-use Rattle.wrp_handshake.proofs.Times.{Calm, at_once, later, calm_later, calm_tick}
-use Rattle.wrp_handshake.proofs.Keeps.{View, view_of, Ghost, IsOpen, PortKeeps, FromLatest, Bond, Tied}
+use Rattle.wrp_handshake.proofs.Times.{Calm, at_once, calm_later, calm_tick}
+use Rattle.wrp_handshake.proofs.Keeps.{View, view_of, Ghost, IsOpen, PortKeeps, FromLatest, Bond}
 use Rattle.wrp_handshake.proofs.Parts.{by_bool, mark_at, differs, idle_shut, idle_unbound}
 use Rattle.wrp_handshake.proofs.Ports.{stays, falls_engaged, falls_open, rests}
-use Rattle.wrp_handshake.proofs.Moves.{Peers, Told, Moved, bond_more, from_latest, moved_to, opening_moves, engaging_moves, answering_moves, going_on_moves, is_mover}
+use Rattle.wrp_handshake.proofs.Moves.{Peers, Moved, bond_more, from_latest, moved_to, opening_moves, engaging_moves, answering_moves, going_on_moves, is_mover}
 
 -- the state stays
 stayed :
@@ -74,7 +73,7 @@ fallen life dmin time v g q gq carrier quiet ticked by c t full =
       | inl idle ↦
           subst
           (λ (ms : List Mark).
-              Moved life dmin time (record v { state = Idle; carrier = carrier; quiet = quiet; ticked = ticked; marks = ms }) q gq)
+          Moved life dmin time (record v { state = Idle; carrier = carrier; quiet = quiet; ticked = ticked; marks = ms }) q gq)
           (marked_same time v.state Idle by v.marks (ap (λ (s : LinkState). is_same s Idle) idle))
           (record {
             ghost = record g { rest = time };
@@ -85,24 +84,24 @@ fallen life dmin time v g q gq carrier quiet ticked by c t full =
       | inr awake ↦
           subst
           (λ (ms : List Mark).
-              Moved life dmin time (record v { state = Idle; carrier = carrier; quiet = quiet; ticked = ticked; marks = ms }) q gq)
+          Moved life dmin time (record v { state = Idle; carrier = carrier; quiet = quiet; ticked = ticked; marks = ms }) q gq)
           (marked_new time v.state Idle by v.marks (differs v.state awake))
           (by_bool (engaged v.role v.state)
-           (λ e.
-               record {
-                 ghost = record g { rest = time; newer = []; latest = mark_at time v.state Idle by ∷ g.latest };
-                 keeps = falls_engaged life dmin time v g carrier quiet ticked by c.keeps awake e b t full;
-                 tied = λ x. cc;
-                 back = c.back;
-               })
-           (λ e.
-               let o : IsOpen life time v.role v.state v.marks g = c.keeps.opened awake e in
-               record {
-                 ghost = record g { rest = time; newer = (mark_at time v.state Idle by ∷ (o.mark ∷ [])) ∷ o.after };
-                 keeps = falls_open life dmin time v g carrier quiet ticked by c.keeps awake e o b t full;
-                 tied = λ x. cc;
-                 back = c.back;
-               }))
+          (λ e.
+          record {
+            ghost = record g { rest = time; newer = []; latest = mark_at time v.state Idle by ∷ g.latest };
+            keeps = falls_engaged life dmin time v g carrier quiet ticked by c.keeps awake e b t full;
+            tied = λ x. cc;
+            back = c.back;
+          })
+          (λ e.
+          let o : IsOpen life time v.role v.state v.marks g = c.keeps.opened awake e in
+          record {
+            ghost = record g { rest = time; newer = (mark_at time v.state Idle by ∷ (o.mark ∷ [])) ∷ o.after };
+            keeps = falls_open life dmin time v g carrier quiet ticked by c.keeps awake e o b t full;
+            tied = λ x. cc;
+            back = c.back;
+          }))
     ]
 
 pub tick_past : (input : LinkIn) (time before : ℤ) → before ≤ℤ time → ticked_by input time before ≤ℤ time
@@ -138,33 +137,33 @@ longer_bond :
 longer_bond life dmin time p q gq (Msg m) at old next bind latest k h b =
     by_bool (numbered m)
     (λ n.
-        let e : with_mover (Some (m, at)) (movers_of latest) ≡ (m, at) ∷ movers_of latest = is_mover m at (movers_of latest) n in
-        record {
-          source = b.source;
-          there = b.there;
-          counted = b.counted;
-          fresh = b.fresh;
-          takes = b.takes;
-          last = (m, at);
-          others = movers_of latest;
-          movers = e;
-          taken =
-            subst (λ (xs : List Sending). AllByRecursion (λ x. FromLatest q.sent gq.turn x) xs) (sym e)
-            (from_latest life dmin time (view_of q) gq m at k (record { there = h.0; recent = h.1 }) n, b.taken);
-        })
+    let e : with_mover (Some (m, at)) (movers_of latest) ≡ (m, at) ∷ movers_of latest = is_mover m at (movers_of latest) n in
+    record {
+      source = b.source;
+      there = b.there;
+      counted = b.counted;
+      fresh = b.fresh;
+      takes = b.takes;
+      last = (m, at);
+      others = movers_of latest;
+      movers = e;
+      taken =
+          subst (λ (xs : List Sending). AllByRecursion (λ x. FromLatest q.sent gq.turn x) xs) (sym e)
+          (from_latest life dmin time (view_of q) gq m at k (record { there = h.0; recent = h.1 }) n, b.taken);
+    })
     (λ n.
-        let e : with_mover (Some (m, at)) (movers_of latest) ≡ movers_of latest = none_more m at (movers_of latest) n in
-        record {
-          source = b.source;
-          there = b.there;
-          counted = b.counted;
-          fresh = b.fresh;
-          takes = b.takes;
-          last = b.last;
-          others = b.others;
-          movers = e ∙ b.movers;
-          taken = subst (λ (xs : List Sending). AllByRecursion (λ x. FromLatest q.sent gq.turn x) xs) (sym e) b.taken;
-        })
+    let e : with_mover (Some (m, at)) (movers_of latest) ≡ movers_of latest = none_more m at (movers_of latest) n in
+    record {
+      source = b.source;
+      there = b.there;
+      counted = b.counted;
+      fresh = b.fresh;
+      takes = b.takes;
+      last = b.last;
+      others = b.others;
+      movers = e ∙ b.movers;
+      taken = subst (λ (xs : List Sending). AllByRecursion (λ x. FromLatest q.sent gq.turn x) xs) (sym e) b.taken;
+    })
 longer_bond life dmin time p q gq _ at old next bind latest k h b =
     record {
       source = b.source;
@@ -195,20 +194,20 @@ kind_moves life dmin time p g q gq input at next ms c h f (engaging idle lit li 
     (λ (by : Option Sending). Moved life dmin time (moved_to time (view_of p) next (ticked_by input time p.ticked) by ms) (view_of q) gq)
     (sym (ap (λ (i : LinkIn). mover_of i at) is))
     (engaging_moves life dmin time (view_of p) g (view_of q) gq next (ticked_by input time p.ticked) SLAVE_PRESENT at ms c
-     (tick_past input time p.ticked c.keeps.ticked) f.belongs f.leaves f.way f.sends idle lit over en un
-     (record { there = told.0; recent = told.1 })
-     (ap (λ (r : Role). opens r SLAVE_PRESENT) (c.roles ∙ ap (λ (r : Role). other_of r) master))
-     refl)
+    (tick_past input time p.ticked c.keeps.ticked) f.belongs f.leaves f.way f.sends idle lit over en un
+    (record { there = told.0; recent = told.1 })
+    (ap (λ (r : Role). opens r SLAVE_PRESENT) (c.roles ∙ ap (λ (r : Role). other_of r) master))
+    refl)
 kind_moves life dmin time p g q gq input at next ms c h f (answering awake was en bo is slave) =
     let told : MayHear life dmin time p q (Msg LOCK) at = subst (λ (i : LinkIn). MayHear life dmin time p q i at) is h in
     subst
     (λ (by : Option Sending). Moved life dmin time (moved_to time (view_of p) next (ticked_by input time p.ticked) by ms) (view_of q) gq)
     (sym (ap (λ (i : LinkIn). mover_of i at) is))
     (answering_moves life dmin time (view_of p) g (view_of q) gq next (ticked_by input time p.ticked) LOCK at ms c
-     (tick_past input time p.ticked c.keeps.ticked) f.belongs f.leaves f.way f.sends awake was en bo
-     (record { there = told.0; recent = told.1 })
-     (ap (λ (r : Role). opens r LOCK) (c.roles ∙ ap (λ (r : Role). other_of r) slave))
-     refl)
+    (tick_past input time p.ticked c.keeps.ticked) f.belongs f.leaves f.way f.sends awake was en bo
+    (record { there = told.0; recent = told.1 })
+    (ap (λ (r : Role). opens r LOCK) (c.roles ∙ ap (λ (r : Role). other_of r) slave))
+    refl)
 kind_moves life dmin time p g q gq input at next ms c h f (binding was un en bo is) =
     let told : MayHear life dmin time p q (Msg LOCKED) at = subst (λ (i : LinkIn). MayHear life dmin time p q i at) is h in
     let one : movers_of (mark_at time p.link.state next (Some (LOCKED, at)) ∷ g.latest) ≡ (LOCKED, at) ∷ [] =
@@ -217,22 +216,22 @@ kind_moves life dmin time p g q gq input at next ms c h f (binding was un en bo 
     (λ (by : Option Sending). Moved life dmin time (moved_to time (view_of p) next (ticked_by input time p.ticked) by ms) (view_of q) gq)
     (sym (ap (λ (i : LinkIn). mover_of i at) is))
     (going_on_moves life dmin time (view_of p) g (view_of q) gq next (ticked_by input time p.ticked) (Some (LOCKED, at)) ms time c
-     (tick_past input time p.ticked c.keeps.ticked) f.belongs f.leaves f.way f.sends
-     (engaged_awake p.link.role p.link.state was) was en bo (at_once time)
-     (λ m i _. (c.keeps.frames m i).past)
-     (record {
-       source = (LOCKED, at);
-       there = told.0;
-       counted = refl;
-       fresh = told.1;
-       takes = λ slave. absurd (not_between p.link.role p.link.state slave was un);
-       last = (LOCKED, at);
-       others = [];
-       movers = one;
-       taken =
-         subst (λ (xs : List Sending). AllByRecursion (λ x. FromLatest q.sent gq.turn x) xs) (sym one)
-         (from_latest life dmin time (view_of q) gq LOCKED at c.peer (record { there = told.0; recent = told.1 }) refl, tt);
-     }))
+    (tick_past input time p.ticked c.keeps.ticked) f.belongs f.leaves f.way f.sends
+    (engaged_awake p.link.role p.link.state was) was en bo (at_once time)
+    (λ m i _. (c.keeps.frames m i).past)
+    (record {
+      source = (LOCKED, at);
+      there = told.0;
+      counted = refl;
+      fresh = told.1;
+      takes = λ slave. absurd (not_between p.link.role p.link.state slave was un);
+      last = (LOCKED, at);
+      others = [];
+      movers = one;
+      taken =
+          subst (λ (xs : List Sending). AllByRecursion (λ x. FromLatest q.sent gq.turn x) xs) (sym one)
+          (from_latest life dmin time (view_of q) gq LOCKED at c.peer (record { there = told.0; recent = told.1 }) refl, tt);
+    }))
 kind_moves life dmin time p g q gq input at next ms c h f (going_on was bo en bo') =
     going_on_moves life dmin time (view_of p) g (view_of q) gq next (ticked_by input time p.ticked) (mover_of input at) ms g.bind c
     (tick_past input time p.ticked c.keeps.ticked) f.belongs f.leaves f.way f.sends
@@ -248,9 +247,9 @@ moves_by :
 moves_by life dmin time p g q gq input at next ms c h f =
     subst
     (λ (marks : List Mark).
-        Moved life dmin time
-        (record (view_of p) { state = next; ticked = ticked_by input time p.ticked; marks = marks; sent = stamped time ms p.sent })
-        (view_of q) gq)
+    Moved life dmin time
+    (record (view_of p) { state = next; ticked = ticked_by input time p.ticked; marks = marks; sent = stamped time ms p.sent })
+    (view_of q) gq)
     (marked_new time p.link.state next (mover_of input at) p.marks f.changes)
     (kind_moves life dmin time p g q gq input at next ms c h f f.kind)
 
@@ -269,15 +268,15 @@ stays_by :
 stays_by life dmin time p g q gq input at ms c s =
     subst
     (λ (marks : List Mark).
-        Moved life dmin time
-        (record (view_of p) { ticked = ticked_by input time p.ticked; marks = marks; sent = stamped time ms p.sent })
-        (view_of q) gq)
+    Moved life dmin time
+    (record (view_of p) { ticked = ticked_by input time p.ticked; marks = marks; sent = stamped time ms p.sent })
+    (view_of q) gq)
     (marked_same time p.link.state p.link.state (mover_of input at) p.marks (same_state p.link.state))
     (stayed life dmin time (view_of p) g (view_of q) gq (ticked_by input time p.ticked) p.link.quiet ms c
-     (tick_past input time p.ticked c.keeps.ticked)
-     (λ i lit. calm_later dmin p.link.set.quiet p.link.quiet p.ticked (ticked_by input time p.ticked) g.rest
-         (tick_grows input time p.ticked c.keeps.ticked) (c.keeps.calm i lit))
-     s)
+    (tick_past input time p.ticked c.keeps.ticked)
+    (λ i lit. calm_later dmin p.link.set.quiet p.link.quiet p.ticked (ticked_by input time p.ticked) g.rest
+    (tick_grows input time p.ticked c.keeps.ticked) (c.keeps.calm i lit))
+    s)
 
 -- a tick that is counted
 counts_by :
@@ -294,11 +293,11 @@ counts_by :
 counts_by life dmin time p g q gq locked at Idle c h =
     subst
     (λ (marks : List Mark).
-        Moved life dmin time (record (view_of p) { ticked = time; quiet = p.link.quiet - 1; marks = marks }) (view_of q) gq)
+    Moved life dmin time (record (view_of p) { ticked = time; quiet = p.link.quiet - 1; marks = marks }) (view_of q) gq)
     (marked_same time p.link.state p.link.state None p.marks (same_state p.link.state))
     (stayed life dmin time (view_of p) g (view_of q) gq time (p.link.quiet - 1) [] c (at_once time)
-     (λ i lit. calm_tick dmin p.link.set.quiet p.link.quiet p.ticked time g.rest h c.keeps.rest (c.keeps.calm i lit))
-     tt)
+    (λ i lit. calm_tick dmin p.link.set.quiet p.link.quiet p.ticked time g.rest h c.keeps.rest (c.keeps.calm i lit))
+    tt)
 counts_by life dmin time p g q gq locked at _ c h = stays_by life dmin time p g q gq (Tick locked) at [] c tt
 
 -- each row

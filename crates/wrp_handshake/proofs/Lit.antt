@@ -10,16 +10,16 @@ use Rattle.wrp_base.specs.declared.link.Role.TheVariants.{Master, Slave}
 use Rattle.wrp_base.specs.declared.message.WrMsg.{WrMsg}
 use Rattle.wrp_base.specs.declared.message.WrMsg.TheVariants.{Calibrated as CALIBRATED, ModeOn as WR_MODE_ON}
 use Rattle.wrp_link.specs.declared.interface.LinkIn.{LinkIn}
-use Rattle.wrp_link.specs.declared.interface.LinkIn.TheVariants.{Msg, Tick, CarrierDown, CarrierUp}
+use Rattle.wrp_link.specs.declared.interface.LinkIn.TheVariants.{Msg, CarrierUp}
 use Rattle.wrp_link.specs.declared.interface.LinkSet.{LinkSet}
 use Rattle.wrp_link.specs.Laws.{TurnsOn}
 use Rattle.wrp_link.specs.LinkAt.{LinkAt, Waiting, new_link, entering, failed, with_carrier}
 use Rattle.wrp_link.specs.Rows.{Row, NoRow, Stays, Moves, Keeps, Resends, Fails, Waits, Counts, CarrierComes, CarrierGoes, row_of}
-use Rattle.wrp_link.specs.Table.{is_same, by_row, sent_by, counted, ticked, retried}
+use Rattle.wrp_link.specs.Table.{by_row, sent_by, counted, ticked, retried}
 use Rattle.wrp_link.specs.LinkAt.{wait_of}
 use Rattle.wrp_link.proofs.Fits.{Fits, knows, row_fits as link_fits}
-use Rattle.wrp_link.proofs.Orders.{IsOrdered, after_ordered, by_row_ordered, new_ordered, idle_unknown_of}
-use Rattle.wrp_handshake.specs.Ends.{Sending, Port, Ends, Change, Passes, Hears, Starts, Lights, other_of, end_of, with_end, IsAmong, stamped, mover_of, ticked_by, marked, port_by, heard, MayHear, IsNoCarrier, changed, MayCome, ends_after, AllMayCome, new_ends, lit_by, lit_at, OutlivesFrames, CanBe}
+use Rattle.wrp_link.proofs.Orders.{IsOrdered, after_ordered, new_ordered, idle_unknown_of}
+use Rattle.wrp_handshake.specs.Ends.{Sending, Port, Ends, Change, Passes, Hears, Starts, Lights, other_of, end_of, with_end, IsAmong, stamped, mover_of, ticked_by, marked, port_by, heard, MayHear, IsNoCarrier, changed, MayCome, ends_after, AllMayCome, new_ends, lit_by, lit_at, placed_by, placed_at, OutlivesFrames, CanBe}
 use Rattle.wrp_handshake.specs.Deltas.{KnowsDeltas}
 use Rattle.wrp_handshake.specs.Laws.{IsAwake, IsLongAgo}
 use Rattle.wrp_handshake.proofs.Stages.{Kind, opening, engaging, answering, binding, going_on, FitsMove}
@@ -34,7 +34,22 @@ use Rattle.wrp_handshake.proofs.Deltas.{IsOwn, OwnAll, row_owns, now_moved, move
 abbrev Among : List Mark → ℕ → ℕ → Type 0
 Among marks tx rx = (at : ℤ) × IsAmong (CALIBRATED tx rx, at) (now_moved marks)
 
-pub record LitPort (life dmin : ℕ) (time lit : ℤ) (l : LinkAt) (tick : ℤ) (marks : List Mark) (sent : List Sending) : Type 0 where
+-- a port has the module in place, or no carrier and none
+abbrev pub InPlace : Option Module → LinkAt → Type 0
+InPlace placed l = (l.own_module ≡ placed) ⊎ ((l.own_module ≡ None) × (l.carrier ≡ false))
+
+no_own : (placed : Option Module) (m : WrMsg) → IsOwn None m → IsOwn placed m
+no_own placed m h = λ tx rx e. (let none : None ≡ Some (h tx rx e).0 = (h tx rx e).1.0 in absurd cc)
+
+-- what a port sends is of the module in place
+own_placed : (placed : Option Module) (l : LinkAt) (m : WrMsg) → InPlace placed l → IsOwn l.own_module m → IsOwn placed m
+own_placed placed l m at own =
+    elim at [
+      | inl e ↦ subst (λ (x : Option Module). IsOwn x m) e own
+      | inr e ↦ no_own placed m (subst (λ (x : Option Module). IsOwn x m) e.0 own)
+    ]
+
+pub record LitPort (life dmin : ℕ) (time lit : ℤ) (placed : Option Module) (l : LinkAt) (tick : ℤ) (marks : List Mark) (sent : List Sending) : Type 0 where
   pub ordered : IsOrdered l
   pub counts : 2 * life < (l.set.quiet - 1) * dmin
   pub tick_past : tick ≤ℤ time
@@ -44,20 +59,20 @@ pub record LitPort (life dmin : ℕ) (time lit : ℤ) (l : LinkAt) (tick : ℤ) 
   pub awake : l.state ≢ Idle → (lit +ℤ pos (2 * life)) <ℤ time
   pub lit_on : l.state ≢ Idle → l.carrier ≡ true
   pub listed : l.state ≢ Idle → is_some l.own_module ≡ true
-  pub told : l.carrier ≡ true → (f : Sending) → IsAmong f sent → lit <ℤ f.1 → IsOwn l.own_module f.0
+  pub in_place : InPlace placed l
+  pub told : (f : Sending) → IsAmong f sent → lit <ℤ f.1 → IsOwn placed f.0
   pub knows : (tx rx : ℕ) → l.deltas ≡ Some (tx, rx) → Among marks tx rx
   -- what moved the port was sent since the carriers came
   pub fresh : l.state ≢ Idle → (m : Sending) → IsAmong m (now_moved marks) → lit <ℤ m.1
   -- a slave in WR_LINK_ON was moved by WR_MODE_ON
   pub turned_on : l.role ≡ Slave → l.state ≡ LinkOn → (at : ℤ) × IsAmong (WR_MODE_ON, at) (now_moved marks)
 
-abbrev pub LitAt : (life dmin : ℕ) → (time lit : ℤ) → Port → Type 0
-LitAt life dmin time lit p = LitPort life dmin time lit p.link p.ticked p.marks p.sent
+abbrev pub LitAt : (life dmin : ℕ) → (time lit : ℤ) → Option Module → Port → Type 0
+LitAt life dmin time lit placed p = LitPort life dmin time lit placed p.link p.ticked p.marks p.sent
 
 -- what moved a port, the module at the peer told
-abbrev pub LitPair : Port → Port → Type 0
-LitPair p q =
-    p.link.state ≢ Idle → q.link.carrier ≡ true → (m : Sending) → IsAmong m (now_moved p.marks) → IsOwn q.link.own_module m.0
+abbrev pub LitPair : Port → Option Module → Type 0
+LitPair p peers = p.link.state ≢ Idle → (m : Sending) → IsAmong m (now_moved p.marks) → IsOwn peers m.0
 
 past_now : (life dmin : ℕ) (time : ℤ) (fitted : Option Module) (ms : List WrMsg) (sent : List Sending) →
     OwnAll fitted ms → ((f : Sending) → IsAmong f sent → f.1 ≤ℤ time) → (f : Sending) → IsAmong f (stamped time ms sent) → f.1 ≤ℤ time
@@ -69,19 +84,19 @@ past_now life dmin time fitted ms sent own h f i =
 
 -- the state stays
 lit_same :
-    (life dmin : ℕ) (time lit : ℤ) (l : LinkAt) (tick : ℤ) (marks : List Mark) (sent : List Sending)
+    (life dmin : ℕ) (time lit : ℤ) (placed : Option Module) (l : LinkAt) (tick : ℤ) (marks : List Mark) (sent : List Sending)
     (quiet holdoff on_ticks : ℕ) (waiting : Option Waiting) (tick' : ℤ) (ms : List WrMsg) →
-    LitPort life dmin time lit l tick marks sent →
+    LitPort life dmin time lit placed l tick marks sent →
     IsOrdered (record l { quiet = quiet; holdoff = holdoff; waiting = waiting; on_ticks = on_ticks }) →
     tick' ≤ℤ time →
     (l.state ≡ Idle → l.carrier ≡ true → Calm dmin l.set.quiet quiet tick' lit) →
     OwnAll l.own_module ms →
-    LitPort life dmin time lit (record l { quiet = quiet; holdoff = holdoff; waiting = waiting; on_ticks = on_ticks }) tick'
+    LitPort life dmin time lit placed (record l { quiet = quiet; holdoff = holdoff; waiting = waiting; on_ticks = on_ticks }) tick'
     (marked time l.state l.state None marks) (stamped time ms sent)
-lit_same life dmin time lit l tick marks sent quiet holdoff on_ticks waiting tick' ms k o t c own =
+lit_same life dmin time lit placed l tick marks sent quiet holdoff on_ticks waiting tick' ms k o t c own =
     subst
     (λ (xs : List Mark).
-        LitPort life dmin time lit (record l { quiet = quiet; holdoff = holdoff; waiting = waiting; on_ticks = on_ticks }) tick' xs (stamped time ms sent))
+    LitPort life dmin time lit placed (record l { quiet = quiet; holdoff = holdoff; waiting = waiting; on_ticks = on_ticks }) tick' xs (stamped time ms sent))
     (marked_same time l.state l.state None marks (same_state l.state))
     (record {
       ordered = o;
@@ -93,9 +108,10 @@ lit_same life dmin time lit l tick marks sent quiet holdoff on_ticks waiting tic
       awake = k.awake;
       lit_on = k.lit_on;
       listed = k.listed;
+      in_place = k.in_place;
       told =
-        λ e f i new.
-            elim (stamped_own time l.own_module ms sent f own i) [ inl x ↦ x.0 | inr j ↦ k.told e f j new ];
+          λ f i new.
+          elim (stamped_own time l.own_module ms sent f own i) [ inl x ↦ own_placed placed l f.0 k.in_place x.0 | inr j ↦ k.told f j new ];
       knows = k.knows;
       fresh = k.fresh;
       turned_on = k.turned_on;
@@ -105,19 +121,19 @@ other_mover : (time : ℤ) (s : LinkState) (by : Option Sending) (marks : List M
 other_mover time s by marks = sym (marked_same time s s None marks (same_state s)) ∙ marked_same time s s by marks (same_state s)
 
 lit_stays :
-    (life dmin : ℕ) (time lit : ℤ) (p : Port) (input : LinkIn) (at : ℤ) (waiting : Option Waiting) (ms : List WrMsg) →
-    LitAt life dmin time lit p → IsOrdered (record p.link { waiting = waiting }) → OwnAll p.link.own_module ms →
-    LitPort life dmin time lit (record p.link { waiting = waiting }) (ticked_by input time p.ticked)
+    (life dmin : ℕ) (time lit : ℤ) (placed : Option Module) (p : Port) (input : LinkIn) (at : ℤ) (waiting : Option Waiting) (ms : List WrMsg) →
+    LitAt life dmin time lit placed p → IsOrdered (record p.link { waiting = waiting }) → OwnAll p.link.own_module ms →
+    LitPort life dmin time lit placed (record p.link { waiting = waiting }) (ticked_by input time p.ticked)
     (marked time p.link.state p.link.state (mover_of input at) p.marks) (stamped time ms p.sent)
-lit_stays life dmin time lit p input at waiting ms k o own =
+lit_stays life dmin time lit placed p input at waiting ms k o own =
     subst
-    (λ (xs : List Mark). LitPort life dmin time lit (record p.link { waiting = waiting }) (ticked_by input time p.ticked) xs (stamped time ms p.sent))
+    (λ (xs : List Mark). LitPort life dmin time lit placed (record p.link { waiting = waiting }) (ticked_by input time p.ticked) xs (stamped time ms p.sent))
     (other_mover time p.link.state (mover_of input at) p.marks)
-    (lit_same life dmin time lit p.link p.ticked p.marks p.sent p.link.quiet p.link.holdoff p.link.on_ticks waiting
-     (ticked_by input time p.ticked) ms k o (tick_past input time p.ticked k.tick_past)
-     (λ i lit'. calm_later dmin p.link.set.quiet p.link.quiet p.ticked (ticked_by input time p.ticked) lit
-         (tick_grows input time p.ticked k.tick_past) (k.calm i lit'))
-     own)
+    (lit_same life dmin time lit placed p.link p.ticked p.marks p.sent p.link.quiet p.link.holdoff p.link.on_ticks waiting
+    (ticked_by input time p.ticked) ms k o (tick_past input time p.ticked k.tick_past)
+    (λ i lit'. calm_later dmin p.link.set.quiet p.link.quiet p.ticked (ticked_by input time p.ticked) lit
+    (tick_grows input time p.ticked k.tick_past) (k.calm i lit'))
+    own)
 
 -- where a move begins
 from_where : (role : Role) (from : LinkState) (l : LinkAt) (input : LinkIn) (next : LinkState) → Kind role from l input next →
@@ -135,15 +151,15 @@ record FoundAwake (life : ℕ) (time lit : ℤ) (l : LinkAt) : Type 0 where
   listed : is_some l.own_module ≡ true
 
 awake_at :
-    (life dmin : ℕ) (time lit : ℤ) (l : LinkAt) (tick : ℤ) (marks : List Mark) (sent : List Sending) (input : LinkIn) (next : LinkState) →
-    LitPort life dmin time lit l tick marks sent → Kind l.role l.state l input next → FoundAwake life time lit l
-awake_at life dmin time lit l tick marks sent input next k kind =
+    (life dmin : ℕ) (time lit : ℤ) (placed : Option Module) (l : LinkAt) (tick : ℤ) (marks : List Mark) (sent : List Sending) (input : LinkIn) (next : LinkState) →
+    LitPort life dmin time lit placed l tick marks sent → Kind l.role l.state l input next → FoundAwake life time lit l
+awake_at life dmin time lit placed l tick marks sent input next k kind =
     elim (from_where l.role l.state l input next kind) [
       | inl x ↦
           record {
             long =
-              calm_over life dmin l.set.quiet tick time lit k.counts k.tick_past
-              (subst (λ (n : ℕ). Calm dmin l.set.quiet n tick lit) x.3 (k.calm x.0 x.1));
+                calm_over life dmin l.set.quiet tick time lit k.counts k.tick_past
+                (subst (λ (n : ℕ). Calm dmin l.set.quiet n tick lit) x.3 (k.calm x.0 x.1));
             lit_on = x.1;
             listed = x.2;
           }
@@ -170,19 +186,19 @@ mode_on_among time old next marks at out =
 
 -- a move
 lit_moves :
-    (life dmin : ℕ) (time lit : ℤ) (p : Port) (input : LinkIn) (at : ℤ) (next : LinkState) (deltas : Option (ℕ × ℕ)) (ms : List WrMsg) →
-    LitAt life dmin time lit p → FitsMove p.link.role p.link.state p.link input next ms →
+    (life dmin : ℕ) (time lit : ℤ) (placed : Option Module) (p : Port) (input : LinkIn) (at : ℤ) (next : LinkState) (deltas : Option (ℕ × ℕ)) (ms : List WrMsg) →
+    LitAt life dmin time lit placed p → FitsMove p.link.role p.link.state p.link input next ms →
     IsOrdered (record (entering p.link next) { deltas = deltas }) → OwnAll p.link.own_module ms →
     ((tx rx : ℕ) → deltas ≡ Some (tx, rx) → Among (mark_at time p.link.state next (mover_of input at) ∷ p.marks) tx rx) →
     ((lit +ℤ pos (2 * life)) <ℤ time → (m : WrMsg) → input ≡ Msg m → lit <ℤ at) →
     (next ≡ LinkOn → TurnsOn p.link.role p.link.state input) →
-    LitPort life dmin time lit (record (entering p.link next) { deltas = deltas }) (ticked_by input time p.ticked)
+    LitPort life dmin time lit placed (record (entering p.link next) { deltas = deltas }) (ticked_by input time p.ticked)
     (marked time p.link.state next (mover_of input at) p.marks) (stamped time ms p.sent)
-lit_moves life dmin time lit p input at next deltas ms k f o own kn since turns =
+lit_moves life dmin time lit placed p input at next deltas ms k f o own kn since turns =
     let mark : Mark = mark_at time p.link.state next (mover_of input at) in
-    let a : FoundAwake life time lit p.link = awake_at life dmin time lit p.link p.ticked p.marks p.sent input next k f.kind in
+    let a : FoundAwake life time lit p.link = awake_at life dmin time lit placed p.link p.ticked p.marks p.sent input next k f.kind in
     subst
-    (λ (xs : List Mark). LitPort life dmin time lit (record (entering p.link next) { deltas = deltas }) (ticked_by input time p.ticked) xs (stamped time ms p.sent))
+    (λ (xs : List Mark). LitPort life dmin time lit placed (record (entering p.link next) { deltas = deltas }) (ticked_by input time p.ticked) xs (stamped time ms p.sent))
     (marked_new time p.link.state next (mover_of input at) p.marks f.changes)
     (record {
       ordered = o;
@@ -194,41 +210,44 @@ lit_moves life dmin time lit p input at next deltas ms k f o own kn since turns 
       awake = λ _. a.long;
       lit_on = λ _. a.lit_on;
       listed = λ _. a.listed;
+      in_place = k.in_place;
       told =
-        λ e g i new.
-            elim (stamped_own time p.link.own_module ms p.sent g own i) [ inl x ↦ x.0 | inr j ↦ k.told e g j new ];
+          λ g i new.
+          elim (stamped_own time p.link.own_module ms p.sent g own i) [ inl x ↦ own_placed placed p.link g.0 k.in_place x.0 | inr j ↦ k.told g j new ];
       knows = kn;
       fresh =
-        λ _ m i.
-            elim (idle_or_not p.link.state) [
-              | inl idle ↦
-                  elim (of_with input at [] m (subst (λ (xs : List Sending). IsAmong m xs) (moved_first mark p.marks idle) i)) [
-                    | inl x ↦ subst (λ (t : ℤ). lit <ℤ t) (sym x.1) (since a.long m.0 x.0)
-                    | inr x ↦ absurd x
-                  ]
-              | inr awake ↦
-                  elim (of_with input at (now_moved p.marks) m
-                        (subst (λ (xs : List Sending). IsAmong m xs) (moved_more mark p.marks (not_same_idle p.link.state awake)) i)) [
-                    | inl x ↦ subst (λ (t : ℤ). lit <ℤ t) (sym x.1) (since a.long m.0 x.0)
-                    | inr x ↦ k.fresh awake m x
-                  ]
-            ];
+          λ _ m i.
+          elim (idle_or_not p.link.state) [
+            | inl idle ↦
+                elim (of_with input at [] m (subst (λ (xs : List Sending). IsAmong m xs) (moved_first mark p.marks idle) i)) [
+                  | inl x ↦ subst (λ (t : ℤ). lit <ℤ t) (sym x.1) (since a.long m.0 x.0)
+                  | inr x ↦ absurd x
+                ]
+            | inr awake ↦
+                elim (of_with input at (now_moved p.marks) m
+                (subst (λ (xs : List Sending). IsAmong m xs) (moved_more mark p.marks (not_same_idle p.link.state awake)) i)) [
+                  | inl x ↦ subst (λ (t : ℤ). lit <ℤ t) (sym x.1) (since a.long m.0 x.0)
+                  | inr x ↦ k.fresh awake m x
+                ]
+          ];
       turned_on =
-        λ slave on.
-            let turn : TurnsOn Slave p.link.state input = subst (λ (r : Role). TurnsOn r p.link.state input) slave (turns on) in
-            (at,
-             subst (λ (i : LinkIn). IsAmong (WR_MODE_ON, at) (now_moved (mark_at time p.link.state next (mover_of i at) ∷ p.marks))) (sym turn.1)
-             (mode_on_among time p.link.state next p.marks at (λ i. let x : Calibrated ≡ Idle = sym turn.0 ∙ i in cc)));
+          λ slave on.
+          let turn : TurnsOn Slave p.link.state input = subst (λ (r : Role). TurnsOn r p.link.state input) slave (turns on) in (
+            at,
+            subst (λ (i : LinkIn). IsAmong (WR_MODE_ON, at) (now_moved (mark_at time p.link.state next (mover_of i at) ∷ p.marks))) (sym turn.1)
+                (mode_on_among time p.link.state next p.marks at (λ i. let x : Calibrated ≡ Idle = sym turn.0 ∙ i in cc)),
+          );
     })
 
 -- delays that stood before a move stand among what moved
 still_among :
     (time : ℤ) (old next : LinkState) (by : Option Sending) (marks : List Mark) (tx rx : ℕ) →
     old ≢ Idle → Among marks tx rx → Among (mark_at time old next by ∷ marks) tx rx
-still_among time old next by marks tx rx a h =
-    (h.0,
-     subst (λ (xs : List Sending). IsAmong (CALIBRATED tx rx, h.0) xs) (sym (moved_more (mark_at time old next by) marks (not_same_idle old a)))
-     (in_with by (now_moved marks) (CALIBRATED tx rx, h.0) h.1))
+still_among time old next by marks tx rx a h = (
+  h.0,
+  subst (λ (xs : List Sending). IsAmong (CALIBRATED tx rx, h.0) xs) (sym (moved_more (mark_at time old next by) marks (not_same_idle old a)))
+      (in_with by (now_moved marks) (CALIBRATED tx rx, h.0) h.1),
+)
 
 known_out : (l : LinkAt) (tx rx : ℕ) → IsOrdered l → l.deltas ≡ Some (tx, rx) → l.state ≢ Idle
 known_out l tx rx o e i =
@@ -239,26 +258,27 @@ known_out l tx rx o e i =
 now_among :
     (time : ℤ) (old next : LinkState) (marks : List Mark) (tx rx : ℕ) (at : ℤ) →
     Among (mark_at time old next (Some (CALIBRATED tx rx, at)) ∷ marks) tx rx
-now_among time old next marks tx rx at =
-    (at,
-     elim (idle_or_not old) [
-       | inl i ↦
-           subst (λ (xs : List Sending). IsAmong (CALIBRATED tx rx, at) xs)
-           (sym (moved_first (mark_at time old next (Some (CALIBRATED tx rx, at))) marks i)) (inl refl)
-       | inr a ↦
-           subst (λ (xs : List Sending). IsAmong (CALIBRATED tx rx, at) xs)
-           (sym (moved_more (mark_at time old next (Some (CALIBRATED tx rx, at))) marks (not_same_idle old a))) (inl refl)
-     ])
+now_among time old next marks tx rx at = (
+  at,
+  elim (idle_or_not old) [
+    | inl i ↦
+        subst (λ (xs : List Sending). IsAmong (CALIBRATED tx rx, at) xs)
+        (sym (moved_first (mark_at time old next (Some (CALIBRATED tx rx, at))) marks i)) (inl refl)
+    | inr a ↦
+        subst (λ (xs : List Sending). IsAmong (CALIBRATED tx rx, at) xs)
+        (sym (moved_more (mark_at time old next (Some (CALIBRATED tx rx, at))) marks (not_same_idle old a))) (inl refl)
+  ],
+)
 
 -- a port in IDLE
 lit_idle :
-    (life dmin : ℕ) (time lit : ℤ) (l : LinkAt) (tick : ℤ) (marks : List Mark) (sent : List Sending) →
+    (life dmin : ℕ) (time lit : ℤ) (placed : Option Module) (l : LinkAt) (tick : ℤ) (marks : List Mark) (sent : List Sending) →
     IsOrdered l → l.state ≡ Idle → 2 * life < (l.set.quiet - 1) * dmin → tick ≤ℤ time → lit ≤ℤ time →
     ((f : Sending) → IsAmong f sent → f.1 ≤ℤ time) →
     (l.carrier ≡ true → Calm dmin l.set.quiet l.quiet tick lit) →
-    (l.carrier ≡ true → (f : Sending) → IsAmong f sent → lit <ℤ f.1 → IsOwn l.own_module f.0) →
-    LitPort life dmin time lit l tick marks sent
-lit_idle life dmin time lit l tick marks sent o idle counts t lp past calm told =
+    InPlace placed l → ((f : Sending) → IsAmong f sent → lit <ℤ f.1 → IsOwn placed f.0) →
+    LitPort life dmin time lit placed l tick marks sent
+lit_idle life dmin time lit placed l tick marks sent o idle counts t lp past calm at told =
     record {
       ordered = o;
       counts = counts;
@@ -269,6 +289,7 @@ lit_idle life dmin time lit l tick marks sent o idle counts t lp past calm told 
       awake = λ a. absurd (a idle);
       lit_on = λ a. absurd (a idle);
       listed = λ a. absurd (a idle);
+      in_place = at;
       told = told;
       knows = λ tx rx e. absurd (known_out l tx rx o e idle);
       fresh = λ a. absurd (a idle);
@@ -276,65 +297,65 @@ lit_idle life dmin time lit l tick marks sent o idle counts t lp past calm told 
     }
 
 counts_lit :
-    (life dmin : ℕ) (time lit : ℤ) (p : Port) (locked : Bool) (at : ℤ) (s : LinkState) →
-    LitAt life dmin time lit p → IsOrdered (counted p.link s) → (p.ticked +ℤ pos dmin) ≤ℤ time →
-    LitPort life dmin time lit (counted p.link s) time (marked time p.link.state (counted p.link s).state None p.marks) p.sent
-counts_lit life dmin time lit p locked at Idle k o h =
-    lit_same life dmin time lit p.link p.ticked p.marks p.sent (p.link.quiet - 1) (p.link.holdoff - 1) p.link.on_ticks p.link.waiting time [] k o
+    (life dmin : ℕ) (time lit : ℤ) (placed : Option Module) (p : Port) (locked : Bool) (at : ℤ) (s : LinkState) →
+    LitAt life dmin time lit placed p → IsOrdered (counted p.link s) → (p.ticked +ℤ pos dmin) ≤ℤ time →
+    LitPort life dmin time lit placed (counted p.link s) time (marked time p.link.state (counted p.link s).state None p.marks) p.sent
+counts_lit life dmin time lit placed p locked at Idle k o h =
+    lit_same life dmin time lit placed p.link p.ticked p.marks p.sent (p.link.quiet - 1) (p.link.holdoff - 1) p.link.on_ticks p.link.waiting time [] k o
     (at_once time) (λ i e. calm_tick dmin p.link.set.quiet p.link.quiet p.ticked time lit h k.lit_past (k.calm i e)) tt
-counts_lit life dmin time lit p locked at LinkOn k o h =
-    lit_same life dmin time lit p.link p.ticked p.marks p.sent p.link.quiet p.link.holdoff _ p.link.waiting time [] k o
+counts_lit life dmin time lit placed p locked at LinkOn k o h =
+    lit_same life dmin time lit placed p.link p.ticked p.marks p.sent p.link.quiet p.link.holdoff _ p.link.waiting time [] k o
     (at_once time) (λ i e. calm_later dmin p.link.set.quiet p.link.quiet p.ticked time lit k.tick_past (k.calm i e)) tt
-counts_lit life dmin time lit p locked at _ k o h =
-    lit_same life dmin time lit p.link p.ticked p.marks p.sent p.link.quiet p.link.holdoff p.link.on_ticks p.link.waiting time [] k o
+counts_lit life dmin time lit placed p locked at _ k o h =
+    lit_same life dmin time lit placed p.link p.ticked p.marks p.sent p.link.quiet p.link.holdoff p.link.on_ticks p.link.waiting time [] k o
     (at_once time) (λ i e. calm_later dmin p.link.set.quiet p.link.quiet p.ticked time lit k.tick_past (k.calm i e)) tt
 
 some_is : {A : Type 0} (a b : A) → Some a ≡ Some b → a ≡ b
 some_is a b e = cc
 
 lit_row :
-    (life dmin : ℕ) (time lit : ℤ) (p q : Port) (input : LinkIn) (at : ℤ) (row : Row) →
-    LitAt life dmin time lit p → MayHear life dmin time p q input at → IsNoCarrier input →
+    (life dmin : ℕ) (time lit : ℤ) (placed : Option Module) (p q : Port) (input : LinkIn) (at : ℤ) (row : Row) →
+    LitAt life dmin time lit placed p → MayHear life dmin time p q input at → IsNoCarrier input →
     RowFits p.link.role p.link.state p.link input row → Fits p.link.role p.link.state input row →
     IsOrdered (by_row p.link row) → OwnAll p.link.own_module (sent_by row) →
-    LitAt life dmin time lit (port_by time p input at row)
-lit_row life dmin time lit p q input at NoRow k h n f g o own = lit_stays life dmin time lit p input at p.link.waiting [] k o tt
-lit_row life dmin time lit p q input at (Stays ms) k h n f g o own = lit_stays life dmin time lit p input at p.link.waiting ms k o own
-lit_row life dmin time lit p q input at (Moves next ms) k h n f g o own =
-    lit_moves life dmin time lit p input at next p.link.deltas ms k f o own
+    LitAt life dmin time lit placed (port_by time p input at row)
+lit_row life dmin time lit placed p q input at NoRow k h n f g o own = lit_stays life dmin time lit placed p input at p.link.waiting [] k o tt
+lit_row life dmin time lit placed p q input at (Stays ms) k h n f g o own = lit_stays life dmin time lit placed p input at p.link.waiting ms k o own
+lit_row life dmin time lit placed p q input at (Moves next ms) k h n f g o own =
+    lit_moves life dmin time lit placed p input at next p.link.deltas ms k f o own
     (λ tx rx e. still_among time p.link.state next (mover_of input at) p.marks tx rx (known_out p.link tx rx k.ordered e) (k.knows tx rx e))
     (λ long m is. since_lit life dmin time lit p q input at m h long is) g.turns
-lit_row life dmin time lit p q input at (Keeps tx rx next ms) k h n f g o own =
-    lit_moves life dmin time lit p input at next (Some (tx, rx)) ms k f o own
+lit_row life dmin time lit placed p q input at (Keeps tx rx next ms) k h n f g o own =
+    lit_moves life dmin time lit placed p input at next (Some (tx, rx)) ms k f o own
     (λ tx' rx' e.
-        subst (λ (d : ℕ × ℕ). Among (mark_at time p.link.state next (mover_of input at) ∷ p.marks) d.0 d.1) (some_is (tx, rx) (tx', rx') e)
-        (subst (λ (i : LinkIn). Among (mark_at time p.link.state next (mover_of i at) ∷ p.marks) tx rx) (sym g.told)
-         (now_among time p.link.state next p.marks tx rx at)))
+    subst (λ (d : ℕ × ℕ). Among (mark_at time p.link.state next (mover_of input at) ∷ p.marks) d.0 d.1) (some_is (tx, rx) (tx', rx') e)
+    (subst (λ (i : LinkIn). Among (mark_at time p.link.state next (mover_of i at) ∷ p.marks) tx rx) (sym g.told)
+    (now_among time p.link.state next p.marks tx rx at)))
     (λ long m is. since_lit life dmin time lit p q input at m h long is) g.turns
-lit_row life dmin time lit p q input at (Resends ms) k h n f g o own =
-    lit_stays life dmin time lit p input at (retried p.link.waiting (wait_of p.link.set p.link.state)) ms k o own
-lit_row life dmin time lit p q input at Fails k h n f g o own =
-    lit_idle life dmin time lit (failed p.link) (ticked_by input time p.ticked)
+lit_row life dmin time lit placed p q input at (Resends ms) k h n f g o own =
+    lit_stays life dmin time lit placed p input at (retried p.link.waiting (wait_of p.link.set p.link.state)) ms k o own
+lit_row life dmin time lit placed p q input at Fails k h n f g o own =
+    lit_idle life dmin time lit placed (failed p.link) (ticked_by input time p.ticked)
     (marked time p.link.state Idle (mover_of input at) p.marks) p.sent o refl k.counts
-    (tick_past input time p.ticked k.tick_past) k.lit_past k.past (λ _. inl refl) k.told
-lit_row life dmin time lit p q input at Waits k h n f g o own =
-    lit_stays life dmin time lit p input at (ticked p.link.waiting) [] k o tt
-lit_row life dmin time lit p q input at Counts k h n f g o own =
+    (tick_past input time p.ticked k.tick_past) k.lit_past k.past (λ _. inl refl) k.in_place k.told
+lit_row life dmin time lit placed p q input at Waits k h n f g o own =
+    lit_stays life dmin time lit placed p input at (ticked p.link.waiting) [] k o tt
+lit_row life dmin time lit placed p q input at Counts k h n f g o own =
     let early : (p.ticked +ℤ pos dmin) ≤ℤ time = subst (λ (i : LinkIn). MayHear life dmin time p q i at) f.1 h in
-    subst (λ (i : LinkIn). LitAt life dmin time lit (port_by time p i at Counts)) (sym f.1)
-    (counts_lit life dmin time lit p f.0 at p.link.state k o early)
-lit_row life dmin time lit p q input at (CarrierComes fitted) k h n f g o own =
+    subst (λ (i : LinkIn). LitAt life dmin time lit placed (port_by time p i at Counts)) (sym f.1)
+    (counts_lit life dmin time lit placed p f.0 at p.link.state k o early)
+lit_row life dmin time lit placed p q input at (CarrierComes fitted) k h n f g o own =
     absurd (subst (λ (i : LinkIn). IsNoCarrier i) f n)
-lit_row life dmin time lit p q input at CarrierGoes k h n f g o own =
-    lit_idle life dmin time lit (new_link p.link.role p.link.set) (ticked_by input time p.ticked)
+lit_row life dmin time lit placed p q input at CarrierGoes k h n f g o own =
+    lit_idle life dmin time lit placed (new_link p.link.role p.link.set) (ticked_by input time p.ticked)
     (marked time p.link.state Idle (mover_of input at) p.marks) p.sent o refl k.counts
-    (tick_past input time p.ticked k.tick_past) k.lit_past k.past (λ e. cc) (λ e. cc)
+    (tick_past input time p.ticked k.tick_past) k.lit_past k.past (λ e. cc) (inr (refl, refl)) k.told
 
 lit_heard :
-    (life dmin : ℕ) (time lit : ℤ) (p q : Port) (input : LinkIn) (at : ℤ) →
-    LitAt life dmin time lit p → MayHear life dmin time p q input at → IsNoCarrier input → LitAt life dmin time lit (heard time p input at)
-lit_heard life dmin time lit p q input at k h n =
-    lit_row life dmin time lit p q input at (row_of p.link input) k h n
+    (life dmin : ℕ) (time lit : ℤ) (placed : Option Module) (p q : Port) (input : LinkIn) (at : ℤ) →
+    LitAt life dmin time lit placed p → MayHear life dmin time p q input at → IsNoCarrier input → LitAt life dmin time lit placed (heard time p input at)
+lit_heard life dmin time lit placed p q input at k h n =
+    lit_row life dmin time lit placed p q input at (row_of p.link input) k h n
     (row_fits p.link input k.ordered.belongs)
     (link_fits p.link input k.ordered.belongs)
     (after_ordered p.link input k.ordered)
@@ -342,96 +363,76 @@ lit_heard life dmin time lit p q input at k h n =
 
 -- ---- a port and its peer
 
--- a message that is handed over is of the module that is now at the peer
+-- a message that is handed over is of the module in place at the peer
 told_now :
-    (life dmin : ℕ) (time lit : ℤ) (p q : Port) (input : LinkIn) (at : ℤ) (m : Sending) →
-    LitAt life dmin time lit q → MayHear life dmin time p q input at → (lit +ℤ pos (2 * life)) <ℤ time →
-    q.link.carrier ≡ true → input ≡ Msg m.0 → IsOwn q.link.own_module m.0
-told_now life dmin time lit p q input at m k h long e is =
+    (life dmin : ℕ) (time lit : ℤ) (peers : Option Module) (p q : Port) (input : LinkIn) (at : ℤ) (m : Sending) →
+    LitAt life dmin time lit peers q → MayHear life dmin time p q input at → (lit +ℤ pos (2 * life)) <ℤ time →
+    input ≡ Msg m.0 → IsOwn peers m.0
+told_now life dmin time lit peers p q input at m k h long is =
     let there : MayHear life dmin time p q (Msg m.0) at = subst (λ (i : LinkIn). MayHear life dmin time p q i at) is h in
-    k.told e (m.0, at) there.0 (sent_since life lit at time long there.1)
+    k.told (m.0, at) there.0 (sent_since life lit at time long there.1)
 
 pair_moves :
-    (life dmin : ℕ) (time lit : ℤ) (p q : Port) (input : LinkIn) (at : ℤ) (next : LinkState) (ms : List WrMsg) →
-    LitAt life dmin time lit p → LitAt life dmin time lit q → LitPair p q → MayHear life dmin time p q input at →
+    (life dmin : ℕ) (time lit : ℤ) (placed peers : Option Module) (p q : Port) (input : LinkIn) (at : ℤ) (next : LinkState) (ms : List WrMsg) →
+    LitAt life dmin time lit placed p → LitAt life dmin time lit peers q → LitPair p peers → MayHear life dmin time p q input at →
     FitsMove p.link.role p.link.state p.link input next ms →
-    q.link.carrier ≡ true → (m : Sending) → IsAmong m (now_moved (marked time p.link.state next (mover_of input at) p.marks)) → IsOwn q.link.own_module m.0
-pair_moves life dmin time lit p q input at next ms k kq pair h f e m i =
-    let a : FoundAwake life time lit p.link = awake_at life dmin time lit p.link p.ticked p.marks p.sent input next k f.kind in
+    (m : Sending) → IsAmong m (now_moved (marked time p.link.state next (mover_of input at) p.marks)) → IsOwn peers m.0
+pair_moves life dmin time lit placed peers p q input at next ms k kq pair h f m i =
+    let a : FoundAwake life time lit p.link = awake_at life dmin time lit placed p.link p.ticked p.marks p.sent input next k f.kind in
     let mark : Mark = mark_at time p.link.state next (mover_of input at) in
     let j : IsAmong m (now_moved (mark ∷ p.marks)) =
     subst (λ (xs : List Mark). IsAmong m (now_moved xs)) (sym (marked_new time p.link.state next (mover_of input at) p.marks f.changes)) i in
     elim (idle_or_not p.link.state) [
       | inl idle ↦
           elim (of_with input at [] m (subst (λ (xs : List Sending). IsAmong m xs) (moved_first mark p.marks idle) j)) [
-            | inl x ↦ told_now life dmin time lit p q input at m kq h a.long e x.0
+            | inl x ↦ told_now life dmin time lit peers p q input at m kq h a.long x.0
             | inr x ↦ absurd x
           ]
       | inr awake ↦
           elim (of_with input at (now_moved p.marks) m
-                (subst (λ (xs : List Sending). IsAmong m xs) (moved_more mark p.marks (not_same_idle p.link.state awake)) j)) [
-            | inl x ↦ told_now life dmin time lit p q input at m kq h a.long e x.0
-            | inr x ↦ pair awake e m x
+          (subst (λ (xs : List Sending). IsAmong m xs) (moved_more mark p.marks (not_same_idle p.link.state awake)) j)) [
+            | inl x ↦ told_now life dmin time lit peers p q input at m kq h a.long x.0
+            | inr x ↦ pair awake m x
           ]
     ]
 
 pair_stays :
-    (p q : Port) (time : ℤ) (by : Option Sending) → LitPair p q →
-    p.link.state ≢ Idle → q.link.carrier ≡ true → (m : Sending) → IsAmong m (now_moved (marked time p.link.state p.link.state by p.marks)) → IsOwn q.link.own_module m.0
-pair_stays p q time by pair a e m i =
-    pair a e m
+    (peers : Option Module) (p : Port) (time : ℤ) (by : Option Sending) → LitPair p peers →
+    p.link.state ≢ Idle → (m : Sending) → IsAmong m (now_moved (marked time p.link.state p.link.state by p.marks)) → IsOwn peers m.0
+pair_stays peers p time by pair a m i =
+    pair a m
     (subst (λ (xs : List Mark). IsAmong m (now_moved xs)) (sym (marked_same time p.link.state p.link.state by p.marks (same_state p.link.state))) i)
 
 counts_pair :
-    (p q : Port) (time : ℤ) (by : Option Sending) (s : LinkState) → LitPair p q →
-    (counted p.link s).state ≢ Idle → q.link.carrier ≡ true → (m : Sending) →
-    IsAmong m (now_moved (marked time p.link.state (counted p.link s).state by p.marks)) → IsOwn q.link.own_module m.0
-counts_pair p q time by Idle pair a e m i = pair_stays p q time by pair a e m i
-counts_pair p q time by _ pair a e m i = pair_stays p q time by pair a e m i
+    (peers : Option Module) (p : Port) (time : ℤ) (by : Option Sending) (s : LinkState) → LitPair p peers →
+    (counted p.link s).state ≢ Idle → (m : Sending) →
+    IsAmong m (now_moved (marked time p.link.state (counted p.link s).state by p.marks)) → IsOwn peers m.0
+counts_pair peers p time by Idle pair a m i = pair_stays peers p time by pair a m i
+counts_pair peers p time by _ pair a m i = pair_stays peers p time by pair a m i
 
 pair_row :
-    (life dmin : ℕ) (time lit : ℤ) (p q : Port) (input : LinkIn) (at : ℤ) (row : Row) →
-    LitAt life dmin time lit p → LitAt life dmin time lit q → LitPair p q → MayHear life dmin time p q input at →
-    RowFits p.link.role p.link.state p.link input row → LitPair (port_by time p input at row) q
-pair_row life dmin time lit p q input at NoRow k kq pair h f = pair_stays p q time (mover_of input at) pair
-pair_row life dmin time lit p q input at (Stays ms) k kq pair h f = pair_stays p q time (mover_of input at) pair
-pair_row life dmin time lit p q input at (Moves next ms) k kq pair h f = λ a. pair_moves life dmin time lit p q input at next ms k kq pair h f
-pair_row life dmin time lit p q input at (Keeps tx rx next ms) k kq pair h f = λ a. pair_moves life dmin time lit p q input at next ms k kq pair h f
-pair_row life dmin time lit p q input at (Resends ms) k kq pair h f = pair_stays p q time (mover_of input at) pair
-pair_row life dmin time lit p q input at Fails k kq pair h f = λ a. absurd (a refl)
-pair_row life dmin time lit p q input at Waits k kq pair h f = pair_stays p q time (mover_of input at) pair
-pair_row life dmin time lit p q input at Counts k kq pair h f = counts_pair p q time (mover_of input at) p.link.state pair
-pair_row life dmin time lit p q input at (CarrierComes fitted) k kq pair h f = λ a. absurd (a refl)
-pair_row life dmin time lit p q input at CarrierGoes k kq pair h f = λ a. absurd (a refl)
-
--- the peer's module stays while its carrier stays
-record SameModule (l l' : LinkAt) : Type 0 where
-  was : l.carrier ≡ true
-  same : l'.own_module ≡ l.own_module
-
-counted_module : (l : LinkAt) (s : LinkState) → (counted l s).carrier ≡ true → SameModule l (counted l s)
-counted_module l Idle e = record { was = e; same = refl }
-counted_module l _ e = record { was = e; same = refl }
-
-row_module :
-    (role : Role) (l : LinkAt) (input : LinkIn) (row : Row) →
-    RowFits role l.state l input row → IsNoCarrier input → (by_row l row).carrier ≡ true → SameModule l (by_row l row)
-row_module role l input Counts f n e = counted_module l l.state e
-row_module role l input (CarrierComes fitted) f n e = absurd (subst (λ (i : LinkIn). IsNoCarrier i) f n)
-row_module role l input CarrierGoes f n e = cc
-row_module role l input _ f n e = record { was = e; same = refl }
-
-pair_peer : (p q q' : Port) → (q'.link.carrier ≡ true → SameModule q.link q'.link) → LitPair p q → LitPair p q'
-pair_peer p q q' same pair =
-    λ a e m i.
-        subst (λ (f : Option Module). IsOwn f m.0) (sym (same e).same) (pair a (same e).was m i)
+    (life dmin : ℕ) (time lit : ℤ) (placed peers : Option Module) (p q : Port) (input : LinkIn) (at : ℤ) (row : Row) →
+    LitAt life dmin time lit placed p → LitAt life dmin time lit peers q → LitPair p peers → MayHear life dmin time p q input at →
+    RowFits p.link.role p.link.state p.link input row → LitPair (port_by time p input at row) peers
+pair_row life dmin time lit placed peers p q input at NoRow k kq pair h f = pair_stays peers p time (mover_of input at) pair
+pair_row life dmin time lit placed peers p q input at (Stays ms) k kq pair h f = pair_stays peers p time (mover_of input at) pair
+pair_row life dmin time lit placed peers p q input at (Moves next ms) k kq pair h f =
+    λ a. pair_moves life dmin time lit placed peers p q input at next ms k kq pair h f
+pair_row life dmin time lit placed peers p q input at (Keeps tx rx next ms) k kq pair h f =
+    λ a. pair_moves life dmin time lit placed peers p q input at next ms k kq pair h f
+pair_row life dmin time lit placed peers p q input at (Resends ms) k kq pair h f = pair_stays peers p time (mover_of input at) pair
+pair_row life dmin time lit placed peers p q input at Fails k kq pair h f = λ a. absurd (a refl)
+pair_row life dmin time lit placed peers p q input at Waits k kq pair h f = pair_stays peers p time (mover_of input at) pair
+pair_row life dmin time lit placed peers p q input at Counts k kq pair h f = counts_pair peers p time (mover_of input at) p.link.state pair
+pair_row life dmin time lit placed peers p q input at (CarrierComes fitted) k kq pair h f = λ a. absurd (a refl)
+pair_row life dmin time lit placed peers p q input at CarrierGoes k kq pair h f = λ a. absurd (a refl)
 
 -- ---- a link
 
 -- a port whose quiet time is over got its carrier long ago
 pub lit_long_ago :
-    (life dmin : ℕ) (time lit : ℤ) (p : Port) → LitAt life dmin time lit p → IsAwake p → IsLongAgo life time lit
-lit_long_ago life dmin time lit p k h =
+    (life dmin : ℕ) (time lit : ℤ) (placed : Option Module) (p : Port) → LitAt life dmin time lit placed p → IsAwake p → IsLongAgo life time lit
+lit_long_ago life dmin time lit placed p k h =
     elim (idle_or_not p.link.state) [
       | inl idle ↦
           elim h.over [
@@ -443,47 +444,43 @@ lit_long_ago life dmin time lit p k h =
       | inr out ↦ k.awake out
     ]
 
-pub record LitKeeps (life dmin : ℕ) (w : Ends) (lit : ℤ) : Type 0 where
-  pub master : LitAt life dmin w.time lit w.master
-  pub slave : LitAt life dmin w.time lit w.slave
-  pub down : LitPair w.master w.slave
-  pub up : LitPair w.slave w.master
+pub record LitKeeps (life dmin : ℕ) (w : Ends) (lit : ℤ) (placed : Role → Option Module) : Type 0 where
+  pub master : LitAt life dmin w.time lit (placed Master) w.master
+  pub slave : LitAt life dmin w.time lit (placed Slave) w.slave
+  pub down : LitPair w.master (placed Slave)
+  pub up : LitPair w.slave (placed Master)
   pub is_master : w.master.link.role ≡ Master
   pub is_slave : w.slave.link.role ≡ Slave
 
-pub lit_hears :
-    (life dmin : ℕ) (w : Ends) (lit : ℤ) (role : Role) (input : LinkIn) (at : ℤ) →
+lit_hears :
+    (life dmin : ℕ) (w : Ends) (lit : ℤ) (placed : Role → Option Module) (role : Role) (input : LinkIn) (at : ℤ) →
     MayHear life dmin w.time (end_of w role) (end_of w (other_of role)) input at → IsNoCarrier input →
-    LitKeeps life dmin w lit → LitKeeps life dmin (with_end w role (heard w.time (end_of w role) input at)) lit
-lit_hears life dmin w lit Master input at h n k =
+    LitKeeps life dmin w lit placed → LitKeeps life dmin (with_end w role (heard w.time (end_of w role) input at)) lit placed
+lit_hears life dmin w lit placed Master input at h n k =
     let f : RowFits w.master.link.role w.master.link.state w.master.link input (row_of w.master.link input) =
     row_fits w.master.link input k.master.ordered.belongs in
     record {
-      master = lit_heard life dmin w.time lit w.master w.slave input at k.master h n;
+      master = lit_heard life dmin w.time lit (placed Master) w.master w.slave input at k.master h n;
       slave = k.slave;
-      down = pair_row life dmin w.time lit w.master w.slave input at (row_of w.master.link input) k.master k.slave k.down h f;
-      up =
-        pair_peer w.slave w.master (heard w.time w.master input at)
-        (row_module w.master.link.role w.master.link input (row_of w.master.link input) f n) k.up;
+      down = pair_row life dmin w.time lit (placed Master) (placed Slave) w.master w.slave input at (row_of w.master.link input) k.master k.slave k.down h f;
+      up = k.up;
       is_master = by_row_role w.master.link (row_of w.master.link input) ∙ k.is_master;
       is_slave = k.is_slave;
     }
-lit_hears life dmin w lit Slave input at h n k =
+lit_hears life dmin w lit placed Slave input at h n k =
     let f : RowFits w.slave.link.role w.slave.link.state w.slave.link input (row_of w.slave.link input) =
     row_fits w.slave.link input k.slave.ordered.belongs in
     record {
       master = k.master;
-      slave = lit_heard life dmin w.time lit w.slave w.master input at k.slave h n;
-      down =
-        pair_peer w.master w.slave (heard w.time w.slave input at)
-        (row_module w.slave.link.role w.slave.link input (row_of w.slave.link input) f n) k.down;
-      up = pair_row life dmin w.time lit w.slave w.master input at (row_of w.slave.link input) k.slave k.master k.up h f;
+      slave = lit_heard life dmin w.time lit (placed Slave) w.slave w.master input at k.slave h n;
+      down = k.down;
+      up = pair_row life dmin w.time lit (placed Slave) (placed Master) w.slave w.master input at (row_of w.slave.link input) k.slave k.master k.up h f;
       is_master = k.is_master;
       is_slave = by_row_role w.slave.link (row_of w.slave.link input) ∙ k.is_slave;
     }
 
-lit_later : (life dmin : ℕ) (time lit : ℤ) (p : Port) (dt : ℕ) → LitAt life dmin time lit p → LitAt life dmin (time +ℤ pos dt) lit p
-lit_later life dmin time lit p dt k =
+lit_later : (life dmin : ℕ) (time lit : ℤ) (placed : Option Module) (p : Port) (dt : ℕ) → LitAt life dmin time lit placed p → LitAt life dmin (time +ℤ pos dt) lit placed p
+lit_later life dmin time lit placed p dt k =
     let le : time ≤ℤ (time +ℤ pos dt) = passes time time dt (at_once time) in
     record {
       ordered = k.ordered;
@@ -495,14 +492,15 @@ lit_later life dmin time lit p dt k =
       awake = λ a. passes_below lit time (2 * life) dt (k.awake a);
       lit_on = k.lit_on;
       listed = k.listed;
+      in_place = k.in_place;
       told = k.told;
       knows = k.knows;
       fresh = k.fresh;
       turned_on = k.turned_on;
     }
 
-lit_starts : (life dmin : ℕ) (time lit : ℤ) (p : Port) → LitAt life dmin time lit p → LitAt life dmin time lit (record p { ticked = time })
-lit_starts life dmin time lit p k =
+lit_starts : (life dmin : ℕ) (time lit : ℤ) (placed : Option Module) (p : Port) → LitAt life dmin time lit placed p → LitAt life dmin time lit placed (record p { ticked = time })
+lit_starts life dmin time lit placed p k =
     record {
       ordered = k.ordered;
       counts = k.counts;
@@ -513,6 +511,7 @@ lit_starts life dmin time lit p k =
       awake = k.awake;
       lit_on = k.lit_on;
       listed = k.listed;
+      in_place = k.in_place;
       told = k.told;
       knows = k.knows;
       fresh = k.fresh;
@@ -523,69 +522,65 @@ never : (a b : ℤ) → a ≤ℤ b → b <ℤ a → ⊥
 never a b h k = omega (arith, ints)
 
 lit_comes :
-    (life dmin : ℕ) (time lit : ℤ) (p : Port) (fitted : Option Module) →
-    LitAt life dmin time lit p → LitAt life dmin time time (heard time p (CarrierUp fitted) (pos 0))
-lit_comes life dmin time lit p fitted k =
-    lit_idle life dmin time time (with_carrier p.link fitted) p.ticked
+    (life dmin : ℕ) (time lit : ℤ) (placed : Option Module) (p : Port) (fitted : Option Module) →
+    LitAt life dmin time lit placed p → LitAt life dmin time time fitted (heard time p (CarrierUp fitted) (pos 0))
+lit_comes life dmin time lit placed p fitted k =
+    lit_idle life dmin time time fitted (with_carrier p.link fitted) p.ticked
     (marked time p.link.state Idle None p.marks) p.sent
     (after_ordered p.link (CarrierUp fitted) k.ordered) refl k.counts k.tick_past (at_once time) k.past
-    (λ _. inl refl)
-    (λ _ f i new. absurd (never f.1 time (k.past f i) new))
-
-pub lit_lights :
-    (life dmin : ℕ) (w : Ends) (lit : ℤ) (fm fs : Option Module) → LitKeeps life dmin w lit → LitKeeps life dmin (changed w (Lights fm fs)) w.time
-lit_lights life dmin w lit fm fs k =
-    record {
-      master = lit_comes life dmin w.time lit w.master fm k.master;
-      slave = lit_comes life dmin w.time lit w.slave fs k.slave;
-      down = λ a. absurd (a refl);
-      up = λ a. absurd (a refl);
-      is_master = k.is_master;
-      is_slave = k.is_slave;
-    }
+    (λ _. inl refl) (inl refl)
+    (λ f i new. absurd (never f.1 time (k.past f i) new))
 
 lit_changes :
-    (life dmin : ℕ) (w : Ends) (lit : ℤ) (c : Change) → MayCome life dmin w c → LitKeeps life dmin w lit →
-    LitKeeps life dmin (changed w c) (lit_by w c lit)
-lit_changes life dmin w lit (Passes dt) h k =
+    (life dmin : ℕ) (w : Ends) (lit : ℤ) (placed : Role → Option Module) (c : Change) → MayCome life dmin w c → LitKeeps life dmin w lit placed →
+    LitKeeps life dmin (changed w c) (lit_by w c lit) (λ role. placed_by c role (placed role))
+lit_changes life dmin w lit placed (Passes dt) h k =
     record {
-      master = lit_later life dmin w.time lit w.master dt k.master;
-      slave = lit_later life dmin w.time lit w.slave dt k.slave;
+      master = lit_later life dmin w.time lit (placed Master) w.master dt k.master;
+      slave = lit_later life dmin w.time lit (placed Slave) w.slave dt k.slave;
       down = k.down;
       up = k.up;
       is_master = k.is_master;
       is_slave = k.is_slave;
     }
-lit_changes life dmin w lit (Hears role input at) h k = lit_hears life dmin w lit role input at h.1 h.0 k
-lit_changes life dmin w lit (Starts Master) h k =
+lit_changes life dmin w lit placed (Hears role input at) h k = lit_hears life dmin w lit placed role input at h.1 h.0 k
+lit_changes life dmin w lit placed (Starts Master) h k =
     record {
-      master = lit_starts life dmin w.time lit w.master k.master;
+      master = lit_starts life dmin w.time lit (placed Master) w.master k.master;
       slave = k.slave;
       down = k.down;
       up = k.up;
       is_master = k.is_master;
       is_slave = k.is_slave;
     }
-lit_changes life dmin w lit (Starts Slave) h k =
+lit_changes life dmin w lit placed (Starts Slave) h k =
     record {
       master = k.master;
-      slave = lit_starts life dmin w.time lit w.slave k.slave;
+      slave = lit_starts life dmin w.time lit (placed Slave) w.slave k.slave;
       down = k.down;
       up = k.up;
       is_master = k.is_master;
       is_slave = k.is_slave;
     }
-lit_changes life dmin w lit (Lights fm fs) h k = lit_lights life dmin w lit fm fs k
+lit_changes life dmin w lit placed (Lights of_master of_slave) h k =
+    record {
+      master = lit_comes life dmin w.time lit (placed Master) w.master of_master k.master;
+      slave = lit_comes life dmin w.time lit (placed Slave) w.slave of_slave k.slave;
+      down = λ a. absurd (a refl);
+      up = λ a. absurd (a refl);
+      is_master = k.is_master;
+      is_slave = k.is_slave;
+    }
 
-lit_new : (life dmin : ℕ) (time : ℤ) (role : Role) (set : LinkSet) → 2 * life < (set.quiet - 1) * dmin →
-    LitPort life dmin time time (new_link role set) time [] []
+lit_new : (life dmin : ℕ) (time : ℤ) (role : Role) (set : LinkSet) → OutlivesFrames life dmin set →
+    LitPort life dmin time time None (new_link role set) time [] []
 lit_new life dmin time role set c1 =
-    lit_idle life dmin time time (new_link role set) time [] [] (new_ordered role set) refl c1 (at_once time) (at_once time)
-    (λ f i. absurd i) (λ e. cc) (λ e f i. absurd i)
+    lit_idle life dmin time time None (new_link role set) time [] [] (new_ordered role set) refl c1 (at_once time) (at_once time)
+    (λ f i. absurd i) (λ e. cc) (inl refl) (λ f i. absurd i)
 
 lit_start :
     (life dmin : ℕ) (time : ℤ) (of_master of_slave : LinkSet) → OutlivesFrames life dmin of_master → OutlivesFrames life dmin of_slave →
-    LitKeeps life dmin (new_ends of_master of_slave time) time
+    LitKeeps life dmin (new_ends of_master of_slave time) time (placed_at [])
 lit_start life dmin time of_master of_slave hm hs =
     record {
       master = lit_new life dmin time Master of_master hm;
@@ -597,20 +592,20 @@ lit_start life dmin time of_master of_slave hm hs =
     }
 
 lit_all :
-    (life dmin : ℕ) (ends : Ends) (changes : List Change) → AllMayCome life dmin ends changes → LitKeeps life dmin ends ends.time →
-    LitKeeps life dmin (ends_after ends changes) (lit_at ends changes)
+    (life dmin : ℕ) (ends : Ends) (changes : List Change) → AllMayCome life dmin ends changes → LitKeeps life dmin ends ends.time (placed_at []) →
+    LitKeeps life dmin (ends_after ends changes) (lit_at ends changes) (placed_at changes)
 lit_all life dmin ends [] h k = k
 lit_all life dmin ends (change ∷ older) h k =
-    lit_changes life dmin (ends_after ends older) (lit_at ends older) change h.0 (lit_all life dmin ends older h.1 k)
+    lit_changes life dmin (ends_after ends older) (lit_at ends older) (placed_at older) change h.0 (lit_all life dmin ends older h.1 k)
 
 -- of all ends that can be
 pub can_keep_lit :
     (life dmin : ℕ) (ends : Ends) (can : CanBe life dmin ends) →
-    LitKeeps life dmin ends (lit_at (new_ends can.of_master can.of_slave can.start) can.changes)
+    LitKeeps life dmin ends (lit_at (new_ends can.of_master can.of_slave can.start) can.changes) (placed_at can.changes)
 can_keep_lit life dmin ends h =
-    subst (λ (e : Ends). LitKeeps life dmin e (lit_at (new_ends h.of_master h.of_slave h.start) h.changes)) (sym h.is)
+    subst (λ (e : Ends). LitKeeps life dmin e (lit_at (new_ends h.of_master h.of_slave h.start) h.changes) (placed_at h.changes)) (sym h.is)
     (lit_all life dmin (new_ends h.of_master h.of_slave h.start) h.changes h.come
-     (lit_start life dmin h.start h.of_master h.of_slave h.master_quiet h.slave_quiet))
+    (lit_start life dmin h.start h.of_master h.of_slave h.master_quiet h.slave_quiet))
 
 known_at : (d : Option (ℕ × ℕ)) → is_some d ≡ true → (t : ℕ × ℕ) × (d ≡ Some t)
 known_at None e = cc
@@ -620,24 +615,35 @@ module_at : (f : Option Module) → is_some f ≡ true → (x : Module) × (f �
 module_at None e = cc
 module_at (Some x) e = (x, refl)
 
-pub deltas_by : (life dmin : ℕ) (w : Ends) (lit : ℤ) → LitKeeps life dmin w lit → w.slave.link.state ≡ LinkOn → w.master.link.carrier ≡ true → KnowsDeltas w.slave w.master
-deltas_by life dmin w lit k on e =
+listed_in_place : (placed : Option Module) (l : LinkAt) (x : Module) → InPlace placed l → l.own_module ≡ Some x → placed ≡ Some x
+listed_in_place placed l x at e =
+    elim at [ inl same ↦ sym same ∙ e | inr none ↦ (let no : None ≡ Some x = sym none.0 ∙ e in absurd cc) ]
+
+pub deltas_by :
+    (life dmin : ℕ) (w : Ends) (lit : ℤ) (placed : Role → Option Module) → LitKeeps life dmin w lit placed → w.slave.link.state ≡ LinkOn →
+    KnowsDeltas w.slave (placed Master) (placed Slave)
+deltas_by life dmin w lit placed k on =
     let out : w.slave.link.state ≢ Idle = λ i. (let x : LinkOn ≡ Idle = sym on ∙ i in cc) in
     let knows_at : knows w.slave.link.role w.slave.link.state ≡ true =
     ap (λ (r : Role). knows r w.slave.link.state) k.is_slave ∙ ap (λ (s : LinkState). knows Slave s) on in
     let known : (t : ℕ × ℕ) × (w.slave.link.deltas ≡ Some t) = known_at w.slave.link.deltas (k.slave.ordered.known ∙ knows_at) in
     let own : (x : Module) × (w.slave.link.own_module ≡ Some x) = module_at w.slave.link.own_module (k.slave.listed out) in
     let among : Among w.slave.marks known.0.0 known.0.1 = k.slave.knows known.0.0 known.0.1 known.1 in
-    let x : (y : Module) × ((w.master.link.own_module ≡ Some y) × (known.0.0 ≡ y.tx) × (known.0.1 ≡ y.rx)) =
-    k.up out e (CALIBRATED known.0.0 known.0.1, among.0) among.1 known.0.0 known.0.1 refl in
+    let x : (y : Module) × ((placed Master ≡ Some y) × (known.0.0 ≡ y.tx) × (known.0.1 ≡ y.rx)) =
+    k.up out (CALIBRATED known.0.0 known.0.1, among.0) among.1 known.0.0 known.0.1 refl in
     record {
       own = own.0;
       peers = x.0;
       own_is = own.1;
-      peers_is = x.1.0;
+      own_placed = listed_in_place (placed Slave) w.slave.link own.0 k.slave.in_place own.1;
+      peers_placed = x.1.0;
       deltas = known.1 ∙ ap (λ (a : ℕ). Some (a, known.0.1)) x.1.1 ∙ ap (λ (b : ℕ). Some (x.0.tx, b)) x.1.2;
       at = among.0;
       told =
-        subst (λ (a : ℕ). IsAmong (CALIBRATED a x.0.rx, among.0) (now_moved w.slave.marks)) x.1.1
-        (subst (λ (b : ℕ). IsAmong (CALIBRATED known.0.0 b, among.0) (now_moved w.slave.marks)) x.1.2 among.1);
+          subst (λ (a : ℕ). IsAmong (CALIBRATED a x.0.rx, among.0) (now_moved w.slave.marks)) x.1.1
+          (subst (λ (b : ℕ). IsAmong (CALIBRATED known.0.0 b, among.0) (now_moved w.slave.marks)) x.1.2 among.1);
     }
+
+-- a port with its carrier has the module in place
+pub module_in_place : (placed : Option Module) (l : LinkAt) → InPlace placed l → l.carrier ≡ true → l.own_module ≡ placed
+module_in_place placed l at lit = elim at [ inl same ↦ same | inr none ↦ (let no : true ≡ false = sym lit ∙ none.1 in absurd cc) ]

@@ -1,21 +1,21 @@
 -- A port that moves from state to state, and what that leaves of the tie to its peer.
-use Rattle.std.proofs.Common.{◌≡◌, ◌≢◌, ◌⊎◌, inl, inr, refl, ap, sym, ◌∙◌, subst, ℕ, ℤ, pos, ◌*◌, ◌+ℤ◌, ◌≤ℤ◌, ◌<ℤ◌, Bool, true, false, List, [], ◌∷◌, ◌++◌, Option, None, Some}
+use Rattle.std.proofs.Common.{◌≡◌, ◌≢◌, inl, inr, refl, ap, sym, ◌∙◌, subst, ℕ, ℤ, pos, ◌*◌, ◌+ℤ◌, ◌≤ℤ◌, ◌<ℤ◌, true, false, List, [], ◌∷◌, Option, None, Some}
 use Rattle.std.specs.List.{AllByRecursion}
 use Rattle.wrp_base.specs.declared.link.LinkState.{LinkState}
 use Rattle.wrp_base.specs.declared.link.LinkState.TheVariants.{Idle}
 use Rattle.wrp_base.specs.declared.link.Mark.{Mark}
 use Rattle.wrp_base.specs.declared.link.Role.{Role}
-use Rattle.wrp_base.specs.declared.link.Role.TheVariants.{Master, Slave}
+use Rattle.wrp_base.specs.declared.link.Role.TheVariants.{Master}
 use Rattle.wrp_base.specs.declared.message.WrMsg.{WrMsg}
-use Rattle.wrp_base.specs.declared.message.WrMsg.TheVariants.{Present as SLAVE_PRESENT, Lock as LOCK, Locked as LOCKED, Calibrate as CALIBRATE, Calibrated as CALIBRATED, ModeOn as WR_MODE_ON}
+use Rattle.wrp_base.specs.declared.message.WrMsg.TheVariants.{Present as SLAVE_PRESENT}
 use Rattle.wrp_link.specs.Table.{is_same}
 use Rattle.wrp_link.proofs.Fits.{Belongs}
-use Rattle.wrp_check.specs.Stretches.{joined, stretches_of, BeganBy, LastsTo, LiesIn, Entered, movers_of, with_mover}
+use Rattle.wrp_check.specs.Stretches.{joined, stretches_of, Entered, movers_of, with_mover}
 use Rattle.wrp_handshake.specs.Ends.{Sending, other_of, IsAmong, stamped}
-use Rattle.wrp_handshake.proofs.Stages.{engaged, bound, numbered, opens, way_of, shut_sends, bound_sends, Sends, SendsAll}
-use Rattle.wrp_handshake.proofs.Times.{Calm, at_once, later, older, no_opener, not_old, too_late, calm_over}
-use Rattle.wrp_handshake.proofs.Keeps.{View, Ghost, Current, SentKeeps, IsOpen, IsEngaged, PortKeeps, FromLatest, Bond, Tied}
-use Rattle.wrp_handshake.proofs.Parts.{by_bool, mark_at, not_same_idle, not_idle, idle_shut, idle_unbound, idle_way, bound_engaged, began_cons, began_rest, not_opening, entered_now, entered_cons, joins, begins, stays_sent, stamped_in}
+use Rattle.wrp_handshake.proofs.Stages.{engaged, bound, numbered, opens, way_of, shut_sends, bound_sends, SendsAll}
+use Rattle.wrp_handshake.proofs.Times.{Calm, at_once, older, no_opener, not_old, too_late, calm_over}
+use Rattle.wrp_handshake.proofs.Keeps.{View, Ghost, SentKeeps, IsOpen, IsEngaged, PortKeeps, FromLatest, Bond, Tied}
+use Rattle.wrp_handshake.proofs.Parts.{mark_at, not_same_idle, not_idle, idle_shut, idle_way, bound_engaged, began_cons, began_rest, not_opening, entered_now, joins, begins, stays_sent, stamped_in}
 use Rattle.wrp_handshake.proofs.Ports.{fresh, longer_sent, turns_later}
 
 -- a port and its peer
@@ -42,9 +42,10 @@ taken_more :
     (time : ℤ) (ms : List WrMsg) (sent : List Sending) (turn : ℤ) (xs : List Sending) →
     AllByRecursion (λ m. FromLatest sent turn m) xs → AllByRecursion (λ m. FromLatest (stamped time ms sent) turn m) xs
 taken_more time ms sent turn [] h = tt
-taken_more time ms sent turn (x ∷ xs) h =
-    (record { there = stays_sent time ms sent x h.0.there; counted = h.0.counted; since = h.0.since },
-     taken_more time ms sent turn xs h.1)
+taken_more time ms sent turn (x ∷ xs) h = (
+  record { there = stays_sent time ms sent x h.0.there; counted = h.0.counted; since = h.0.since },
+  taken_more time ms sent turn xs h.1,
+)
 
 -- a bond stays where the peer sends more
 pub bond_more :
@@ -72,10 +73,10 @@ from_latest life dmin time q gq m at k h n =
       there = h.there;
       counted = n;
       since =
-        elim ((k.frames (m, at) h.there).place n) [
-          | inl o ↦ absurd (not_old life at gq.turn time o k.turn h.recent)
-          | inr c ↦ c.since
-        ];
+          elim ((k.frames (m, at) h.there).place n) [
+            | inl o ↦ absurd (not_old life at gq.turn time o k.turn h.recent)
+            | inr c ↦ c.since
+          ];
     }
 
 -- while its peer is bound a port is not engaged anew
@@ -151,22 +152,22 @@ opening_moves life dmin time v g q gq next ticked by ms c t b out w s idle lit o
     record {
       ghost = g';
       keeps =
-        record {
-          belongs = b;
-          counts = k.counts;
-          ticked = t;
-          rest = k.rest;
-          turn = k.turn;
-          bind = k.bind;
-          calm = λ i. absurd (not_idle next out i);
-          shut =
-            λ _ f i n.
+          record {
+            belongs = b;
+            counts = k.counts;
+            ticked = t;
+            rest = k.rest;
+            turn = k.turn;
+            bind = k.bind;
+            calm = λ i. absurd (not_idle next out i);
+            shut =
+                λ _ f i n.
                 elim (stamped_in time v.role next ms v.sent f s i) [
                   | inl x ↦ let z : numbered f.0 ≡ false = shut_sends v.role next f.0 sh x.0 in cc
                   | inr j ↦ k.shut was f j n
                 ];
-          opened =
-            λ _ _.
+            opened =
+                λ _ _.
                 record {
                   mark = mark;
                   after = g.newer;
@@ -179,36 +180,36 @@ opening_moves life dmin time v g q gq next ticked by ms c t b out w s idle lit o
                   began = at_once time;
                   unmoved = un;
                 };
-          engages = λ x. cc;
-          unbound = λ x. cc;
-          sources = λ x. let y : engaged v.role next ≡ true = bound_engaged v.role next x in cc;
-          frames =
-            λ f i.
+            engages = λ x. cc;
+            unbound = λ x. cc;
+            sources = λ x. let y : engaged v.role next ≡ true = bound_engaged v.role next x in cc;
+            frames =
+                λ f i.
                 elim (stamped_in time v.role next ms v.sent f s i) [
                   | inl x ↦ fresh life time v.role next (mark ∷ v.marks) g' f k.turn (λ y. cc) x.0 x.1
                   | inr j ↦
                       record {
                         past = (k.frames f j).past;
                         place =
-                          λ n.
-                              elim ((k.frames f j).place n) [
-                                | inl z ↦ inl z
-                                | inr z ↦
-                                    inr (record {
-                                      since = z.since;
-                                      splits = e ∙ ap (λ (ss : List (List Mark)). (mark ∷ []) ∷ ss) z.splits;
-                                      misses = (λ late. too_late life f.1 g.rest time (k.shut was f j n) r late, z.misses);
-                                      lies = z.lies;
-                                      entered = z.entered;
-                                    })
-                              ];
+                            λ n.
+                            elim ((k.frames f j).place n) [
+                              | inl z ↦ inl z
+                              | inr z ↦
+                                  inr (record {
+                                    since = z.since;
+                                    splits = e ∙ ap (λ (ss : List (List Mark)). (mark ∷ []) ∷ ss) z.splits;
+                                    misses = (λ late. too_late life f.1 g.rest time (k.shut was f j n) r late, z.misses);
+                                    lies = z.lies;
+                                    entered = z.entered;
+                                  })
+                            ];
                       }
                 ];
-          alone = λ master. absurd (not_opening v.role next master (not_idle next out) sh);
-          turns = (λ _ x. cc, k.turns);
-          left = (λ i. absurd (not_idle next out i), k.left);
-          awake = λ _. r;
-        };
+            alone = λ master. absurd (not_opening v.role next master (not_idle next out) sh);
+            turns = (λ _ x. cc, k.turns);
+            left = (λ i. absurd (not_idle next out i), k.left);
+            awake = λ _. r;
+          };
       tied = λ x. let y : engaged v.role next ≡ true = bound_engaged v.role next x in cc;
       back = λ x. bond_more q.role life gq.bind gq.latest v.sent g.turn time ms (c.back x);
     }
@@ -229,9 +230,9 @@ old_turn life dmin time v g g' marks f k was r turn i =
     record {
       past = (k.frames f i).past;
       place =
-        λ n.
-            inl (subst (λ (t : ℤ). (f.1 +ℤ pos (2 * life)) <ℤ t) (sym turn)
-            (older life f.1 g.rest time (k.shut was f i n) r));
+          λ n.
+          inl (subst (λ (t : ℤ). (f.1 +ℤ pos (2 * life)) <ℤ t) (sym turn)
+          (older life f.1 g.rest time (k.shut was f i n) r));
     }
 
 -- a master is engaged
@@ -262,30 +263,30 @@ engaging_moves life dmin time v g q gq next ticked m at ms c t b out w s idle li
     record {
       ghost = g';
       keeps =
-        record {
-          belongs = b;
-          counts = k.counts;
-          ticked = t;
-          rest = k.rest;
-          turn = at_once time;
-          bind = k.bind;
-          calm = λ i. absurd (not_idle next out i);
-          shut = λ x. cc;
-          opened = λ _ x. cc;
-          engages = λ _. n;
-          unbound = λ _ _. no_mover m at uncounted;
-          sources = λ x. cc;
-          frames =
-            λ f i.
+          record {
+            belongs = b;
+            counts = k.counts;
+            ticked = t;
+            rest = k.rest;
+            turn = at_once time;
+            bind = k.bind;
+            calm = λ i. absurd (not_idle next out i);
+            shut = λ x. cc;
+            opened = λ _ x. cc;
+            engages = λ _. n;
+            unbound = λ _ _. no_mover m at uncounted;
+            sources = λ x. cc;
+            frames =
+                λ f i.
                 elim (stamped_in time v.role next ms v.sent f s i) [
                   | inl x ↦ fresh life time v.role next (mark ∷ v.marks) g' f (at_once time) (λ _. n) x.0 x.1
                   | inr j ↦ old_turn life dmin time v g g' (mark ∷ v.marks) f k was r refl j
                 ];
-          alone = λ _. refl;
-          turns = (λ _ _. at_once time, turns_later v.role g.turn time v.marks k.turn k.turns);
-          left = (λ i. absurd (not_idle next out i), k.left);
-          awake = λ _. r;
-        };
+            alone = λ _. refl;
+            turns = (λ _ _. at_once time, turns_later v.role g.turn time v.marks k.turn k.turns);
+            left = (λ i. absurd (not_idle next out i), k.left);
+            awake = λ _. r;
+          };
       tied = λ x. cc;
       back = λ x. absurd (not_engaged_anew life dmin time v g q gq m at c told op was r x);
     }
@@ -307,7 +308,7 @@ answering_moves life dmin time v g q gq next ticked m at ms c t b out w s awake 
     let n : IsEngaged time v.role next (mark ∷ v.marks) g' =
     record {
       stretches =
-        joins mark v.marks (not_same_idle v.state awake) ∙ ap (λ (ss : List (List Mark)). joined mark ss) o.stretches;
+          joins mark v.marks (not_same_idle v.state awake) ∙ ap (λ (ss : List (List Mark)). joined mark ss) o.stretches;
       newer = refl;
       way = way_now time v.role v.state next (Some (m, at)) (o.mark ∷ []) w o.way;
       path = ap (λ (ss : List LinkState). next ∷ ss) o.path ∙ sym w;
@@ -321,50 +322,50 @@ answering_moves life dmin time v g q gq next ticked m at ms c t b out w s awake 
     record {
       ghost = g';
       keeps =
-        record {
-          belongs = b;
-          counts = k.counts;
-          ticked = t;
-          rest = k.rest;
-          turn = at_once time;
-          bind = at_once time;
-          calm = λ i. absurd (not_idle next out i);
-          shut = λ x. cc;
-          opened = λ _ x. cc;
-          engages = λ _. n;
-          unbound = λ _ x. cc;
-          sources =
-            λ x f i p.
+          record {
+            belongs = b;
+            counts = k.counts;
+            ticked = t;
+            rest = k.rest;
+            turn = at_once time;
+            bind = at_once time;
+            calm = λ i. absurd (not_idle next out i);
+            shut = λ x. cc;
+            opened = λ _ x. cc;
+            engages = λ _. n;
+            unbound = λ _ x. cc;
+            sources =
+                λ x f i p.
                 elim (stamped_in time v.role next ms v.sent f s i) [
                   | inl y ↦ let z : opens v.role f.0 ≡ false = bound_sends v.role next f.0 bo y.0 in cc
                   | inr j ↦ (k.frames f j).past
                 ];
-          frames =
-            λ f i.
+            frames =
+                λ f i.
                 elim (stamped_in time v.role next ms v.sent f s i) [
                   | inl x ↦ fresh life time v.role next (mark ∷ v.marks) g' f (at_once time) (λ _. n) x.0 x.1
                   | inr j ↦ old_turn life dmin time v g g' (mark ∷ v.marks) f k was o.calm refl j
                 ];
-          alone = λ _. refl;
-          turns = (λ _ _. at_once time, turns_later v.role g.turn time v.marks k.turn k.turns);
-          left = (λ i. absurd (not_idle next out i), k.left);
-          awake = λ _. o.calm;
-        };
+            alone = λ _. refl;
+            turns = (λ _ _. at_once time, turns_later v.role g.turn time v.marks k.turn k.turns);
+            left = (λ i. absurd (not_idle next out i), k.left);
+            awake = λ _. o.calm;
+          };
       tied =
-        λ _.
-            record {
-              source = (m, at);
-              there = told.there;
-              counted = counted;
-              fresh = told.recent;
-              takes = λ slave. opens_as m q.role (c.roles ∙ ap (λ (r : Role). other_of r) slave) op;
-              last = (m, at);
-              others = [];
-              movers = one;
-              taken =
+          λ _.
+          record {
+            source = (m, at);
+            there = told.there;
+            counted = counted;
+            fresh = told.recent;
+            takes = λ slave. opens_as m q.role (c.roles ∙ ap (λ (r : Role). other_of r) slave) op;
+            last = (m, at);
+            others = [];
+            movers = one;
+            taken =
                 subst (λ (xs : List Sending). AllByRecursion (λ x. FromLatest q.sent gq.turn x) xs) (sym one)
                 (from_latest life dmin time q gq m at c.peer told counted, tt);
-            };
+          };
       back = λ x. absurd (not_engaged_anew life dmin time v g q gq m at c told op was o.calm x);
     }
 
@@ -398,35 +399,35 @@ going_on_moves life dmin time v g q gq next ticked by ms bind c t b out w s awak
     record {
       ghost = g';
       keeps =
-        record {
-          belongs = b;
-          counts = k.counts;
-          ticked = t;
-          rest = k.rest;
-          turn = k.turn;
-          bind = past;
-          calm = λ i. absurd (not_idle next out i);
-          shut = λ x. cc;
-          opened = λ _ x. cc;
-          engages = λ _. n;
-          unbound = λ _ x. cc;
-          sources =
-            λ x f i p.
+          record {
+            belongs = b;
+            counts = k.counts;
+            ticked = t;
+            rest = k.rest;
+            turn = k.turn;
+            bind = past;
+            calm = λ i. absurd (not_idle next out i);
+            shut = λ x. cc;
+            opened = λ _ x. cc;
+            engages = λ _. n;
+            unbound = λ _ x. cc;
+            sources =
+                λ x f i p.
                 elim (stamped_in time v.role next ms v.sent f s i) [
                   | inl y ↦ let z : opens v.role f.0 ≡ false = bound_sends v.role next f.0 bo y.0 in cc
                   | inr j ↦ sources f j p
                 ];
-          frames =
-            λ f i.
+            frames =
+                λ f i.
                 elim (stamped_in time v.role next ms v.sent f s i) [
                   | inl x ↦ fresh life time v.role next (mark ∷ v.marks) g' f k.turn (λ _. n) x.0 x.1
                   | inr j ↦ longer_sent life time v.role v.marks g g.rest bind mark f e refl (k.frames f j)
                 ];
-          alone = λ _. refl;
-          turns = (λ x _. cc, k.turns);
-          left = (λ i. absurd (not_idle next out i), k.left);
-          awake = λ _. k.awake awake;
-        };
+            alone = λ _. refl;
+            turns = (λ x _. cc, k.turns);
+            left = (λ i. absurd (not_idle next out i), k.left);
+            awake = λ _. k.awake awake;
+          };
       tied = λ _. bond;
       back = λ x. bond_more q.role life gq.bind gq.latest v.sent g.turn time ms (c.back x);
     }

@@ -1,14 +1,13 @@
 -- A port by itself: while time passes, in a state that stays, and where it returns to IDLE.
-use Rattle.std.proofs.Common.{◌≡◌, ◌≢◌, ◌⊎◌, inl, inr, refl, ap, sym, ◌∙◌, subst, ℕ, ℤ, pos, ◌*◌, ◌+ℤ◌, ◌≤ℤ◌, ◌<ℤ◌, Bool, true, false, List, [], ◌∷◌, ◌++◌, Option}
+use Rattle.std.proofs.Common.{◌≡◌, ◌≢◌, inl, inr, refl, ap, sym, ◌∙◌, subst, ℕ, ℤ, pos, ◌*◌, ◌+ℤ◌, ◌≤ℤ◌, Bool, true, false, List, [], ◌∷◌, ◌++◌, Option}
 use Rattle.std.specs.List.{AllByRecursion}
 use Rattle.wrp_base.specs.declared.link.LinkState.{LinkState}
 use Rattle.wrp_base.specs.declared.link.LinkState.TheVariants.{Idle}
 use Rattle.wrp_base.specs.declared.link.Mark.{Mark}
 use Rattle.wrp_base.specs.declared.link.Role.{Role}
 use Rattle.wrp_base.specs.declared.message.WrMsg.{WrMsg}
-use Rattle.wrp_link.specs.Table.{is_same}
 use Rattle.wrp_link.proofs.Fits.{Belongs}
-use Rattle.wrp_check.specs.Stretches.{joined, stretches_of, BeganBy, LiesIn}
+use Rattle.wrp_check.specs.Stretches.{joined, stretches_of, BeganBy}
 use Rattle.wrp_handshake.specs.Ends.{Sending, stamped}
 use Rattle.wrp_handshake.proofs.Stages.{engaged, bound, numbered, shut_sends, bound_sends, opens, sends_entered, Sends, SendsAll}
 use Rattle.wrp_handshake.proofs.Times.{Calm, at_once, later, passes, passes_below}
@@ -38,10 +37,10 @@ fresh life time role state marks g f t en s e =
     record {
       past = at_once time;
       place =
-        λ n.
-            by_bool (engaged role state)
-            (λ y. inr (fresh_current time role state marks g f.0 t (en y) s))
-            (λ y. let k : numbered f.0 ≡ false = shut_sends role state f.0 y s in cc);
+          λ n.
+          by_bool (engaged role state)
+          (λ y. inr (fresh_current time role state marks g f.0 t (en y) s))
+          (λ y. let k : numbered f.0 ≡ false = shut_sends role state f.0 y s in cc);
     } in
     subst (λ (x : ℤ). SentKeeps life time role marks g (f.0, x)) (sym e) now
 
@@ -70,26 +69,26 @@ stays life dmin time v g ticked quiet ms k t c s =
       bind = k.bind;
       calm = c;
       shut =
-        λ e f i n.
-            elim (stamped_in time v.role v.state ms v.sent f s i) [
-              | inl x ↦ let z : numbered f.0 ≡ false = shut_sends v.role v.state f.0 e x.0 in cc
-              | inr j ↦ k.shut e f j n
-            ];
+          λ e f i n.
+          elim (stamped_in time v.role v.state ms v.sent f s i) [
+            | inl x ↦ let z : numbered f.0 ≡ false = shut_sends v.role v.state f.0 e x.0 in cc
+            | inr j ↦ k.shut e f j n
+          ];
       opened = k.opened;
       engages = k.engages;
       unbound = k.unbound;
       sources =
-        λ e f i n.
-            elim (stamped_in time v.role v.state ms v.sent f s i) [
-              | inl x ↦ let z : opens v.role f.0 ≡ false = bound_sends v.role v.state f.0 e x.0 in cc
-              | inr j ↦ k.sources e f j n
-            ];
+          λ e f i n.
+          elim (stamped_in time v.role v.state ms v.sent f s i) [
+            | inl x ↦ let z : opens v.role f.0 ≡ false = bound_sends v.role v.state f.0 e x.0 in cc
+            | inr j ↦ k.sources e f j n
+          ];
       frames =
-        λ f i.
-            elim (stamped_in time v.role v.state ms v.sent f s i) [
-              | inl x ↦ fresh life time v.role v.state v.marks g f k.turn k.engages x.0 x.1
-              | inr j ↦ k.frames f j
-            ];
+          λ f i.
+          elim (stamped_in time v.role v.state ms v.sent f s i) [
+            | inl x ↦ fresh life time v.role v.state v.marks g f k.turn k.engages x.0 x.1
+            | inr j ↦ k.frames f j
+          ];
       alone = k.alone;
       turns = k.turns;
       left = k.left;
@@ -122,11 +121,11 @@ longer_sent life time role marks g rest bind mark f e at k =
     record {
       past = k.past;
       place =
-        λ n.
-            elim (k.place n) [
-              | inl o ↦ inl o
-              | inr c ↦ inr (longer role marks g rest bind mark f e (λ i. subst (λ (t : ℤ). f.1 ≤ℤ t) (sym at) k.past) c)
-            ];
+          λ n.
+          elim (k.place n) [
+            | inl o ↦ inl o
+            | inr c ↦ inr (longer role marks g rest bind mark f e (λ i. subst (λ (t : ℤ). f.1 ≤ℤ t) (sym at) k.past) c)
+          ];
     }
 
 -- an engaged port returns to IDLE
@@ -215,16 +214,16 @@ falls_open life dmin time v g carrier quiet ticked by k out was o b t c =
       unbound = λ x. cc;
       sources = λ x. cc;
       frames =
-        λ f i.
-            record {
-              past = (k.frames f i).past;
-              place =
+          λ f i.
+          record {
+            past = (k.frames f i).past;
+            place =
                 λ n.
-                    elim ((k.frames f i).place n) [
-                      | inl z ↦ inl z
-                      | inr z ↦ inr (still_current life time v.role v.state v.marks g time mark f o e z)
-                    ];
-            };
+                elim ((k.frames f i).place n) [
+                  | inl z ↦ inl z
+                  | inr z ↦ inr (still_current life time v.role v.state v.marks g time mark f o e z)
+                ];
+          };
       alone = λ master. absurd (not_opening v.role v.state master out was);
       turns = (λ _ x. cc, k.turns);
       left = (λ _. at_once time, left_later g.rest time v.marks k.rest k.left);
@@ -257,16 +256,16 @@ rests life dmin time v g carrier quiet ticked k b t c =
       unbound = λ x. cc;
       sources = λ x. cc;
       frames =
-        λ f i.
-            record {
-              past = (k.frames f i).past;
-              place =
+          λ f i.
+          record {
+            past = (k.frames f i).past;
+            place =
                 λ n.
-                    elim ((k.frames f i).place n) [
-                      | inl z ↦ inl z
-                      | inr z ↦ inr (record { since = z.since; splits = z.splits; misses = z.misses; lies = z.lies; entered = z.entered })
-                    ];
-            };
+                elim ((k.frames f i).place n) [
+                  | inl z ↦ inl z
+                  | inr z ↦ inr (record { since = z.since; splits = z.splits; misses = z.misses; lies = z.lies; entered = z.entered })
+                ];
+          };
       alone = k.alone;
       turns = k.turns;
       left = left_later g.rest time v.marks k.rest k.left;
@@ -289,32 +288,32 @@ passes_port life dmin time v g dt k =
       calm = k.calm;
       shut = k.shut;
       opened =
-        λ i e.
-            let o : IsOpen life time v.role v.state v.marks g = k.opened i e in
-            record {
-              mark = o.mark;
-              after = o.after;
-              before = o.before;
-              calm = passes_below g.rest time (2 * life) dt o.calm;
-              stretches = o.stretches;
-              newer = o.newer;
-              way = entered_later time (time +ℤ pos dt) _ _ le o.way;
-              path = o.path;
-              began = later o.began le;
-              unmoved = o.unmoved;
-            };
+          λ i e.
+          let o : IsOpen life time v.role v.state v.marks g = k.opened i e in
+          record {
+            mark = o.mark;
+            after = o.after;
+            before = o.before;
+            calm = passes_below g.rest time (2 * life) dt o.calm;
+            stretches = o.stretches;
+            newer = o.newer;
+            way = entered_later time (time +ℤ pos dt) _ _ le o.way;
+            path = o.path;
+            began = later o.began le;
+            unmoved = o.unmoved;
+          };
       engages =
-        λ e.
-            let n : IsEngaged time v.role v.state v.marks g = k.engages e in
-            record {
-              stretches = n.stretches;
-              newer = n.newer;
-              way = entered_later time (time +ℤ pos dt) _ _ le n.way;
-              path = n.path;
-              began = began_later time (time +ℤ pos dt) g.latest le n.began;
-              first = n.first;
-              lasts = n.lasts;
-            };
+          λ e.
+          let n : IsEngaged time v.role v.state v.marks g = k.engages e in
+          record {
+            stretches = n.stretches;
+            newer = n.newer;
+            way = entered_later time (time +ℤ pos dt) _ _ le n.way;
+            path = n.path;
+            began = began_later time (time +ℤ pos dt) g.latest le n.began;
+            first = n.first;
+            lasts = n.lasts;
+          };
       unbound = k.unbound;
       sources = k.sources;
       frames = λ f i. record { past = later (k.frames f i).past le; place = (k.frames f i).place };

@@ -1,18 +1,19 @@
 -- The laws, from what is kept.
-use Rattle.std.proofs.Common.{◌≡◌, subst, ℕ, ℤ}
+use Rattle.std.proofs.Common.{◌≡◌, subst, ℕ, ℤ, true, Option}
 use Rattle.std.specs.List.{AllByRecursion}
 use Rattle.wrp_base.specs.declared.link.LinkState.TheVariants.{Idle, LinkOn}
+use Rattle.wrp_base.specs.declared.link.Module.{Module}
 use Rattle.wrp_base.specs.declared.link.Role.{Role}
 use Rattle.wrp_base.specs.declared.link.Role.TheVariants.{Master, Slave}
 use Rattle.wrp_base.specs.declared.message.WrMsg.TheVariants.{Lock as LOCK, Locked as LOCKED}
 use Rattle.wrp_check.specs.Handshake.{SameHandshake}
 use Rattle.wrp_check.specs.Laws.{IsHistory}
-use Rattle.wrp_handshake.specs.Ends.{Ends, other_of, end_of}
-use Rattle.wrp_handshake.specs.Laws.{OnInTheSameHandshake, OnWithTheDeltas, MarksAreAHistory, IsAwake, IsLongAgo, QuietTimeOutlivesFrames, MasterStaysFromLock, SlaveStaysFromLocked, SlaveOnWithItsMaster}
+use Rattle.wrp_handshake.specs.Ends.{Ends, other_of, end_of, placed_at}
+use Rattle.wrp_handshake.specs.Laws.{OnInTheSameHandshake, OnWithTheDeltas, CarrierWithItsModule, MarksAreAHistory, IsAwake, IsLongAgo, QuietTimeOutlivesFrames, MasterStaysFromLock, SlaveStaysFromLocked, SlaveOnWithItsMaster}
 use Rattle.wrp_handshake.proofs.Keeps.{view_of}
 use Rattle.wrp_handshake.proofs.Changes.{EndsKeep, from_master, from_slave, can_keep}
 use Rattle.wrp_handshake.proofs.Histories.{EndsLead, can_lead}
-use Rattle.wrp_handshake.proofs.Lit.{LitKeeps, can_keep_lit, deltas_by, lit_long_ago}
+use Rattle.wrp_handshake.proofs.Lit.{LitKeeps, can_keep_lit, deltas_by, lit_long_ago, module_in_place}
 use Rattle.wrp_handshake.proofs.Same.{same_by}
 use Rattle.wrp_handshake.proofs.Since.{since_of, no_stretch_since, no_lock_since, left_long_ago}
 use Rattle.wrp_handshake.proofs.Staying.{can_stay}
@@ -32,7 +33,15 @@ pub on_in_the_same_handshake : OnInTheSameHandshake
 on_in_the_same_handshake life dmin ends role can on = at_end life dmin ends role (can_keep life dmin ends can) on
 
 pub on_with_the_deltas : OnWithTheDeltas
-on_with_the_deltas life dmin ends can on lit = deltas_by life dmin ends _ (can_keep_lit life dmin ends can) on lit
+on_with_the_deltas life dmin ends can on = deltas_by life dmin ends _ (placed_at can.changes) (can_keep_lit life dmin ends can) on
+
+module_at : (life dmin : ℕ) (ends : Ends) (role : Role) (lit : ℤ) (placed : Role → Option Module) → LitKeeps life dmin ends lit placed →
+    (end_of ends role).link.carrier ≡ true → (end_of ends role).link.own_module ≡ placed role
+module_at life dmin ends Master lit placed k h = module_in_place (placed Master) ends.master.link k.master.in_place h
+module_at life dmin ends Slave lit placed k h = module_in_place (placed Slave) ends.slave.link k.slave.in_place h
+
+pub carrier_with_its_module : CarrierWithItsModule
+carrier_with_its_module life dmin ends role can h = module_at life dmin ends role _ (placed_at can.changes) (can_keep_lit life dmin ends can) h
 
 history_at : (ends : Ends) (role : Role) → EndsLead ends → IsHistory (end_of ends role).marks
 history_at ends Master h = h.master.history
@@ -41,16 +50,16 @@ history_at ends Slave h = h.slave.history
 pub marks_are_a_history : MarksAreAHistory
 marks_are_a_history life dmin ends role can = history_at ends role (can_lead life dmin ends can)
 
-long_ago_at : (life dmin : ℕ) (ends : Ends) (role : Role) (lit : ℤ) → EndsKeep life dmin ends → LitKeeps life dmin ends lit → IsAwake (end_of ends role) →
+long_ago_at : (life dmin : ℕ) (ends : Ends) (role : Role) (lit : ℤ) (placed : Role → Option Module) → EndsKeep life dmin ends → LitKeeps life dmin ends lit placed → IsAwake (end_of ends role) →
     IsLongAgo life ends.time lit × AllByRecursion (λ mark. mark.to ≡ Idle → IsLongAgo life ends.time mark.at) (end_of ends role).marks
-long_ago_at life dmin ends Master lit k l h =
-    (lit_long_ago life dmin ends.time lit ends.master l.master h, left_long_ago life dmin ends.time ends.master k.of_master k.master h)
-long_ago_at life dmin ends Slave lit k l h =
-    (lit_long_ago life dmin ends.time lit ends.slave l.slave h, left_long_ago life dmin ends.time ends.slave k.of_slave k.slave h)
+long_ago_at life dmin ends Master lit placed k l h =
+    (lit_long_ago life dmin ends.time lit (placed Master) ends.master l.master h, left_long_ago life dmin ends.time ends.master k.of_master k.master h)
+long_ago_at life dmin ends Slave lit placed k l h =
+    (lit_long_ago life dmin ends.time lit (placed Slave) ends.slave l.slave h, left_long_ago life dmin ends.time ends.slave k.of_slave k.slave h)
 
 pub quiet_time_outlives_frames : QuietTimeOutlivesFrames
 quiet_time_outlives_frames life dmin ends role can h =
-    long_ago_at life dmin ends role _ (can_keep life dmin ends can) (can_keep_lit life dmin ends can) h
+    long_ago_at life dmin ends role _ (placed_at can.changes) (can_keep life dmin ends can) (can_keep_lit life dmin ends can) h
 
 pub master_stays_from_lock : MasterStaysFromLock
 master_stays_from_lock life dmin ends at can moved =
@@ -68,4 +77,4 @@ slave_stays_from_locked life dmin ends at can moved =
 
 pub slave_on_with_its_master : SlaveOnWithItsMaster
 slave_on_with_its_master life dmin ends can on lit =
-    master_on life dmin ends _ (can_keep life dmin ends can) (can_keep_lit life dmin ends can) (can_stay life dmin ends can) on lit
+    master_on life dmin ends _ (placed_at can.changes) (can_keep life dmin ends can) (can_keep_lit life dmin ends can) (can_stay life dmin ends can) on lit

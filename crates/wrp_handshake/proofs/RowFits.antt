@@ -1,5 +1,5 @@
 -- Each row of the handshake table moves and sends as the stages say.
-use Rattle.std.proofs.Common.{◌≡◌, ◌≢◌, refl, ap, sym, ◌∙◌, subst, subst₂, ℕ, Bool, true, false, cond, eqb, ltb, ◌&&◌, is_some, List, [], ◌∷◌, Option, None, Some}
+use Rattle.std.proofs.Common.{◌≡◌, ◌≢◌, refl, sym, ◌∙◌, subst₂, ℕ, Bool, true, false, cond, eqb, ltb, ◌&&◌, is_some, [], ◌∷◌, Option, None, Some}
 use Rattle.std.proofs.lemmas.Bool.{eqb-true}
 use Rattle.wrp_base.specs.declared.link.LinkState.{LinkState}
 use Rattle.wrp_base.specs.declared.link.LinkState.TheVariants.{Idle, Present, SLock, MLock, Locked, Calibration, Calibrated, RespCalib, LinkOn}
@@ -11,9 +11,9 @@ use Rattle.wrp_base.specs.declared.message.WrMsg.TheVariants.{Present as SLAVE_P
 use Rattle.wrp_link.specs.declared.interface.LinkIn.{LinkIn}
 use Rattle.wrp_link.specs.declared.interface.LinkIn.TheVariants.{Msg, Announce, Tick, CarrierDown, CarrierUp}
 use Rattle.wrp_link.specs.LinkAt.{LinkAt, Waiting}
-use Rattle.wrp_link.specs.Rows.{Row, NoRow, Stays, Moves, Keeps, Resends, Fails, Waits, Counts, CarrierComes, CarrierGoes, under, may_leave_idle, offers, own_calibrate, own_calibrated, slave_row, master_row, message_row, announce_row, resent, timer_row, tick_row, row_of}
+use Rattle.wrp_link.specs.Rows.{Row, NoRow, Stays, Moves, Keeps, Resends, Fails, Waits, Counts, CarrierComes, CarrierGoes, under, may_leave_idle, offers, own_calibrated, slave_row, master_row, message_row, announce_row, resent, timer_row, tick_row, row_of}
 use Rattle.wrp_link.proofs.Fits.{Belongs}
-use Rattle.wrp_handshake.proofs.Stages.{Sends, SendsAll, Kind, opening, engaging, answering, binding, going_on, FitsMove}
+use Rattle.wrp_handshake.proofs.Stages.{Sends, SendsAll, opening, engaging, answering, binding, going_on, FitsMove}
 
 abbrev pub RowFits : Role → LinkState → LinkAt → LinkIn → Row → Type 0
 RowFits role from l input NoRow = Unit {0}
@@ -58,7 +58,11 @@ slave_fits : (l : LinkAt) (from : LinkState) (m : WrMsg) → RowFits Slave from 
 slave_fits l Present LOCK =
     record {
       kind = answering (λ e. cc) refl refl refl refl refl;
-      way = refl; belongs = tt; changes = refl; leaves = refl; sends = tt;
+      way = refl;
+      belongs = tt;
+      changes = refl;
+      leaves = refl;
+      sends = tt;
     }
 slave_fits l Locked (CALIBRATE _ _ _) =
     record { kind = going_on refl refl refl refl; way = refl; belongs = tt; changes = refl; leaves = refl; sends = tt }
@@ -73,10 +77,14 @@ master_fits : (l : LinkAt) (from : LinkState) (m : WrMsg) → l.carrier ≡ true
 master_fits l Idle SLAVE_PRESENT lit =
     under_fits (may_leave_idle l) Master Idle l (Msg SLAVE_PRESENT) (Moves MLock (LOCK ∷ []))
     (λ e.
-        record {
-          kind = engaging refl lit (listed l e) (over l e) refl refl refl refl;
-          way = refl; belongs = tt; changes = refl; leaves = refl; sends = (tt, tt);
-        })
+    record {
+      kind = engaging refl lit (listed l e) (over l e) refl refl refl refl;
+      way = refl;
+      belongs = tt;
+      changes = refl;
+      leaves = refl;
+      sends = (tt, tt);
+    })
 master_fits l MLock SLAVE_PRESENT lit = (tt, tt)
 master_fits l MLock LOCKED lit =
     record { kind = binding refl refl refl refl refl; way = refl; belongs = tt; changes = refl; leaves = refl; sends = (tt, tt) }
@@ -98,10 +106,14 @@ announce_fits :
 announce_fits l Slave Idle suffix lit =
     under_fits _ Slave Idle l (Announce suffix) (Moves Present (SLAVE_PRESENT ∷ []))
     (λ e.
-        record {
-          kind = opening refl lit (listed l (and_right _ _ (and_right (offers suffix) _ e))) (over l (and_right _ _ (and_right (offers suffix) _ e))) refl (suffix, refl);
-          way = refl; belongs = tt; changes = refl; leaves = refl; sends = (tt, tt);
-        })
+    record {
+      kind = opening refl lit (listed l (and_right _ _ (and_right (offers suffix) _ e))) (over l (and_right _ _ (and_right (offers suffix) _ e))) refl (suffix, refl);
+      way = refl;
+      belongs = tt;
+      changes = refl;
+      leaves = refl;
+      sends = (tt, tt);
+    })
 announce_fits l _ _ suffix lit = tt
 
 resent_fits : (l : LinkAt) (role : Role) (s : LinkState) → Belongs role s → SendsAll role s (resent l s)
@@ -137,8 +149,8 @@ timer_at :
 timer_at role from l locked r s b out =
     subst₂ (λ (x : Role) (y : LinkState). RowFits x y l (Tick locked) (timer_row l l.waiting)) r s
     (timer_fits l (Tick locked) l.waiting
-     (subst₂ (λ (x : Role) (y : LinkState). Belongs x y) (sym r) (sym s) b)
-     (λ e. out (sym s ∙ e)))
+    (subst₂ (λ (x : Role) (y : LinkState). Belongs x y) (sym r) (sym s) b)
+    (λ e. out (sym s ∙ e)))
 
 tick_fits :
     (role : Role) (from : LinkState) (l : LinkAt) (locked : Bool) →
@@ -148,12 +160,20 @@ tick_fits Slave SLock l true r s b =
 tick_fits Master SLock l true r s b = absurd b
 tick_fits Slave Calibration l locked r s b =
     record {
-      kind = going_on refl refl refl refl; way = refl; belongs = tt; changes = refl; leaves = refl;
+      kind = going_on refl refl refl refl;
+      way = refl;
+      belongs = tt;
+      changes = refl;
+      leaves = refl;
       sends = (calibrated_sent Slave l.own_module, tt);
     }
 tick_fits Master Calibration l locked r s b =
     record {
-      kind = going_on refl refl refl refl; way = refl; belongs = tt; changes = refl; leaves = refl;
+      kind = going_on refl refl refl refl;
+      way = refl;
+      belongs = tt;
+      changes = refl;
+      leaves = refl;
       sends = (calibrated_sent Master l.own_module, tt);
     }
 tick_fits role Idle l locked r s b = (locked, refl)

@@ -1,5 +1,5 @@
 -- What is kept of a link makes a port in WR_LINK_ON share its handshake.
-use Rattle.std.proofs.Common.{◌≡◌, ◌≢◌, ◌⊎◌, inl, inr, refl, ap, sym, ◌∙◌, subst, ℕ, ℤ, pos, ◌*◌, ◌+ℤ◌, ◌≤ℤ◌, ◌<ℤ◌, Bool, true, false, List, [], ◌∷◌, ◌++◌, reverse, arith}
+use Rattle.std.proofs.Common.{◌≡◌, inl, inr, refl, ap, sym, ◌∙◌, subst, ℕ, ℤ, pos, ◌*◌, ◌+ℤ◌, ◌≤ℤ◌, ◌<ℤ◌, true, List, [], ◌∷◌, reverse, arith}
 use Rattle.std.proofs.lemmas.Int.{ints}
 use Rattle.std.specs.List.{AllByRecursion}
 use Rattle.wrp_base.specs.declared.link.LinkState.{LinkState}
@@ -9,9 +9,9 @@ use Rattle.wrp_base.specs.declared.link.Role.{Role}
 use Rattle.wrp_base.specs.declared.link.Role.TheVariants.{Master, Slave}
 use Rattle.wrp_check.specs.Required.{required_of}
 use Rattle.wrp_check.specs.Stretches.{stretches_of, newest_of, BeganBy, LiesIn, Entered, movers_of}
-use Rattle.wrp_check.specs.Handshake.{IsNewestWith, IsBacked, SameHandshake}
+use Rattle.wrp_check.specs.Handshake.{IsBacked, SameHandshake}
 use Rattle.wrp_handshake.specs.Ends.{Sending, other_of}
-use Rattle.wrp_handshake.proofs.Stages.{engaged, bound}
+use Rattle.wrp_handshake.proofs.Stages.{bound}
 use Rattle.wrp_handshake.proofs.Keeps.{View, Ghost, Current, IsEngaged, PortKeeps, FromLatest, Bond}
 use Rattle.wrp_handshake.proofs.Parts.{bound_engaged}
 use Rattle.wrp_handshake.proofs.Moves.{Peers}
@@ -51,9 +51,10 @@ backed_by :
 backed_by life dmin time role q gq [] k r h = tt
 backed_by life dmin time role q gq (x ∷ xs) k r h =
     let c : Current q.role q.marks gq x = current_of life dmin time q gq x k h.0 in
-    let same : other_of q.role ≡ role = ap (λ (s : Role). other_of s) r ∙ twice_other role in
-    (subst (λ (s : Role). Entered x.1 (reverse (required_of s x.0)) gq.latest) same c.entered,
-     backed_by life dmin time role q gq xs k r h.1)
+    let same : other_of q.role ≡ role = ap (λ (s : Role). other_of s) r ∙ twice_other role in (
+      subst (λ (s : Role). Entered x.1 (reverse (required_of s x.0)) gq.latest) same c.entered,
+      backed_by life dmin time role q gq xs k r h.1,
+    )
 
 misses_by :
     (t : ℤ) (ss : List (List Mark)) →
@@ -76,21 +77,21 @@ same_by life dmin time v g q gq c on =
     record {
       stretch = gq.latest;
       sent =
-        record {
-          last = b.last;
-          others = b.others;
-          movers = movers ∙ b.movers;
-          newest =
-            record {
-              newer = gq.newer;
-              older = gq.older;
-              splits = last.splits;
-              misses = misses_by b.last.1 gq.newer last.misses;
-              lies = last.lies;
-            };
-          sent = lies_by life dmin time q gq (b.last ∷ b.others) c.peer taken;
-        };
+          record {
+            last = b.last;
+            others = b.others;
+            movers = movers ∙ b.movers;
+            newest =
+                record {
+                  newer = gq.newer;
+                  older = gq.older;
+                  splits = last.splits;
+                  misses = misses_by b.last.1 gq.newer last.misses;
+                  lies = last.lies;
+                };
+            sent = lies_by life dmin time q gq (b.last ∷ b.others) c.peer taken;
+          };
       backed =
-        subst (λ (xs : List Sending). AllByRecursion (λ m. IsBacked v.role gq.latest m) xs) (sym movers)
-        (backed_by life dmin time v.role q gq (movers_of g.latest) c.peer c.roles b.taken);
+          subst (λ (xs : List Sending). AllByRecursion (λ m. IsBacked v.role gq.latest m) xs) (sym movers)
+          (backed_by life dmin time v.role q gq (movers_of g.latest) c.peer c.roles b.taken);
     }

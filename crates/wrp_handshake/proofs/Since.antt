@@ -1,5 +1,5 @@
 -- What a message that moved a port tells of its peer's later history.
-use Rattle.std.proofs.Common.{◌≡◌, ◌≢◌, ◌⊎◌, inl, inr, refl, sym, ap, ◌∙◌, subst, ℕ, ℤ, pos, ◌*◌, ◌+ℤ◌, ◌≤ℤ◌, ◌<ℤ◌, Bool, true, false, List, [], ◌∷◌, Option}
+use Rattle.std.proofs.Common.{◌≡◌, ◌≢◌, inl, inr, sym, ap, ◌∙◌, subst, ℕ, ℤ, pos, ◌*◌, ◌+ℤ◌, ◌≤ℤ◌, ◌<ℤ◌, true, false, List, [], ◌∷◌, Option}
 use Rattle.std.specs.List.{AllByRecursion}
 use Rattle.wrp_base.specs.declared.link.LinkState.{LinkState}
 use Rattle.wrp_base.specs.declared.link.LinkState.TheVariants.{Idle, Present, SLock}
@@ -32,20 +32,20 @@ pub latest_of :
 latest_of life dmin time v g q gq m c out among =
     by_bool (engaged v.role v.state)
     (λ en.
-        let n : IsEngaged time v.role v.state v.marks g = c.keeps.engages en in
-        let newest : movers_of (newest_of (stretches_of v.marks)) ≡ movers_of g.latest =
-        ap (λ (ss : List (List Mark)). movers_of (newest_of ss)) n.stretches in
-        let i : IsAmong m (movers_of g.latest) = subst (λ (xs : List Sending). IsAmong m xs) newest among in
-        by_bool (bound v.role v.state)
-        (λ bo.
-            let b : Bond v.role life g.bind g.latest q.sent gq.turn = c.tied bo in
-            all_among (λ x. FromLatest q.sent gq.turn x) m (movers_of g.latest) b.taken i)
-        (λ un. absurd (none_among m (movers_of g.latest) (c.keeps.unbound en un) i)))
+    let n : IsEngaged time v.role v.state v.marks g = c.keeps.engages en in
+    let newest : movers_of (newest_of (stretches_of v.marks)) ≡ movers_of g.latest =
+    ap (λ (ss : List (List Mark)). movers_of (newest_of ss)) n.stretches in
+    let i : IsAmong m (movers_of g.latest) = subst (λ (xs : List Sending). IsAmong m xs) newest among in
+    by_bool (bound v.role v.state)
+    (λ bo.
+    let b : Bond v.role life g.bind g.latest q.sent gq.turn = c.tied bo in
+    all_among (λ x. FromLatest q.sent gq.turn x) m (movers_of g.latest) b.taken i)
+    (λ un. absurd (none_among m (movers_of g.latest) (c.keeps.unbound en un) i)))
     (λ shut.
-        let o : IsOpen life time v.role v.state v.marks g = c.keeps.opened out shut in
-        let none : movers_of (newest_of (stretches_of v.marks)) ≡ [] =
-        ap (λ (ss : List (List Mark)). movers_of (newest_of ss)) o.stretches ∙ ap (λ (x : Option Sending). with_mover x []) o.unmoved in
-        absurd (none_among m (movers_of (newest_of (stretches_of v.marks))) none among))
+    let o : IsOpen life time v.role v.state v.marks g = c.keeps.opened out shut in
+    let none : movers_of (newest_of (stretches_of v.marks)) ≡ [] =
+    ap (λ (ss : List (List Mark)). movers_of (newest_of ss)) o.stretches ∙ ap (λ (x : Option Sending). with_mover x []) o.unmoved in
+    absurd (none_among m (movers_of (newest_of (stretches_of v.marks))) none among))
 
 -- the peer came past PRESENT for the last time before it sent the message
 pub since_of :
@@ -58,13 +58,14 @@ pub no_stretch_since :
     (role : Role) (turn at : ℤ) (marks : List Mark) → role ≡ Master → turn ≤ℤ at → IsHistory marks →
     AllByRecursion (λ m. TurnedBy role turn m) marks → AllByRecursion (λ mark. mark.from ≡ Idle → mark.at ≤ℤ at) marks
 no_stretch_since role turn at [] r le h t = tt
-no_stretch_since role turn at (mark ∷ marks) r le h t =
-    (λ idle.
-        let from : engaged role mark.from ≡ false = ap (λ (s : LinkState). engaged role s) idle ∙ idle_shut role in
-        let to : engaged role mark.to ≡ true =
-        ap (λ (x : Role). engaged x mark.to) r ∙ out_engaged mark.to (λ e. h.1 (idle ∙ sym e)) in
-        later (t.0 from to) le,
-     no_stretch_since role turn at marks r le h.2 t.1)
+no_stretch_since role turn at (mark ∷ marks) r le h t = (
+  λ idle.
+      let from : engaged role mark.from ≡ false = ap (λ (s : LinkState). engaged role s) idle ∙ idle_shut role in
+      let to : engaged role mark.to ≡ true =
+      ap (λ (x : Role). engaged x mark.to) r ∙ out_engaged mark.to (λ e. h.1 (idle ∙ sym e)) in
+      later (t.0 from to) le,
+  no_stretch_since role turn at marks r le h.2 t.1,
+)
 
 -- a slave that came past PRESENT by a time did not do so after it
 pub no_lock_since :
@@ -73,9 +74,9 @@ pub no_lock_since :
 no_lock_since role turn at marks r le t =
     All-weaker (λ m. TurnedBy role turn m) (λ mark. mark.from ≡ Present → mark.to ≡ SLock → mark.at ≤ℤ at)
     (λ mark turned present lock.
-        let from : engaged role mark.from ≡ false = ap (λ (x : Role). engaged x mark.from) r ∙ ap (λ (s : LinkState). engaged Slave s) present in
-        let to : engaged role mark.to ≡ true = ap (λ (x : Role). engaged x mark.to) r ∙ ap (λ (s : LinkState). engaged Slave s) lock in
-        later (turned from to) le)
+    let from : engaged role mark.from ≡ false = ap (λ (x : Role). engaged x mark.from) r ∙ ap (λ (s : LinkState). engaged Slave s) present in
+    let to : engaged role mark.to ≡ true = ap (λ (x : Role). engaged x mark.to) r ∙ ap (λ (s : LinkState). engaged Slave s) lock in
+    later (turned from to) le)
     marks t
 
 -- a port whose quiet time is over left its last stretch long ago

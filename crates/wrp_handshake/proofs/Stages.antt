@@ -1,5 +1,5 @@
 -- How far a port is in a handshake, what it sends there, and what a move from state to state is.
-use Rattle.std.proofs.Common.{◌≡◌, ◌≢◌, refl, ap, sym, ◌∙◌, subst, ℕ, ℤ, Bool, true, false, is_some, List, [], ◌∷◌, ◌++◌, reverse, Option, None, Some, inl, inr}
+use Rattle.std.proofs.Common.{◌≡◌, ◌≢◌, refl, ℕ, ℤ, Bool, true, false, is_some, List, [], ◌∷◌, reverse, Option, inl, inr}
 use Rattle.std.specs.List.{AllByRecursion}
 use Rattle.wrp_base.specs.declared.link.LinkState.{LinkState}
 use Rattle.wrp_base.specs.declared.link.LinkState.TheVariants.{Idle, Present, SLock, MLock, Locked, Calibration, Calibrated, RespCalib, LinkOn}
@@ -9,7 +9,7 @@ use Rattle.wrp_base.specs.declared.link.Mark.{Mark}
 use Rattle.wrp_base.specs.declared.message.WrMsg.{WrMsg}
 use Rattle.wrp_base.specs.declared.message.WrMsg.TheVariants.{Present as SLAVE_PRESENT, Lock as LOCK, Locked as LOCKED, Calibrate as CALIBRATE, Calibrated as CALIBRATED, ModeOn as WR_MODE_ON}
 use Rattle.wrp_link.specs.declared.interface.LinkIn.{LinkIn}
-use Rattle.wrp_link.specs.declared.interface.LinkIn.TheVariants.{Msg, Announce, Tick, CarrierDown, CarrierUp}
+use Rattle.wrp_link.specs.declared.interface.LinkIn.TheVariants.{Msg, Announce}
 use Rattle.wrp_link.specs.LinkAt.{LinkAt}
 use Rattle.wrp_check.specs.Required.{required_of}
 use Rattle.wrp_link.specs.Table.{is_same}
@@ -131,23 +131,23 @@ sends_entered time marks _ _ _ h e = absurd h
 pub data Kind (role : Role) (from : LinkState) (l : LinkAt) (input : LinkIn) (next : LinkState) : Type 0 where
   -- a slave in IDLE to PRESENT
   opening :
-    from ≡ Idle → l.carrier ≡ true → is_some l.own_module ≡ true → l.quiet ≡ 0 → engaged role next ≡ false →
-    ((suffix : Option ℕ) × (input ≡ Announce suffix)) → Kind role from l input next
+      from ≡ Idle → l.carrier ≡ true → is_some l.own_module ≡ true → l.quiet ≡ 0 → engaged role next ≡ false →
+      ((suffix : Option ℕ) × (input ≡ Announce suffix)) → Kind role from l input next
   -- a master in IDLE to M_LOCK
   engaging :
-    from ≡ Idle → l.carrier ≡ true → is_some l.own_module ≡ true → l.quiet ≡ 0 → engaged role next ≡ true → bound role next ≡ false →
-    input ≡ Msg SLAVE_PRESENT → role ≡ Master → Kind role from l input next
+      from ≡ Idle → l.carrier ≡ true → is_some l.own_module ≡ true → l.quiet ≡ 0 → engaged role next ≡ true → bound role next ≡ false →
+      input ≡ Msg SLAVE_PRESENT → role ≡ Master → Kind role from l input next
   -- a slave in PRESENT to S_LOCK
   answering :
-    from ≢ Idle → engaged role from ≡ false → engaged role next ≡ true → bound role next ≡ true →
-    input ≡ Msg LOCK → role ≡ Slave → Kind role from l input next
+      from ≢ Idle → engaged role from ≡ false → engaged role next ≡ true → bound role next ≡ true →
+      input ≡ Msg LOCK → role ≡ Slave → Kind role from l input next
   -- a master in M_LOCK to CALIBRATION
   binding :
-    engaged role from ≡ true → bound role from ≡ false → engaged role next ≡ true → bound role next ≡ true →
-    input ≡ Msg LOCKED → Kind role from l input next
+      engaged role from ≡ true → bound role from ≡ false → engaged role next ≡ true → bound role next ≡ true →
+      input ≡ Msg LOCKED → Kind role from l input next
   going_on :
-    engaged role from ≡ true → bound role from ≡ true → engaged role next ≡ true → bound role next ≡ true →
-    Kind role from l input next
+      engaged role from ≡ true → bound role from ≡ true → engaged role next ≡ true → bound role next ≡ true →
+      Kind role from l input next
 
 -- a row that moves
 pub record FitsMove (role : Role) (from : LinkState) (l : LinkAt) (input : LinkIn) (next : LinkState) (ms : List WrMsg) : Type 0 where

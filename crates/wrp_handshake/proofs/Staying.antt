@@ -1,27 +1,27 @@
 -- A slave in WR_LINK_ON has its master there: the master leaves that state only by a SLAVE_PRESENT that was
 -- sent after each LOCK was too old to be heard, or with its carrier.
-use Rattle.std.proofs.Common.{◌≡◌, ◌≢◌, ◌⊎◌, inl, inr, refl, ap, sym, ◌∙◌, subst, ℕ, suc, zero, ◌+◌, ◌-◌, ◌*◌, ◌<◌, ◌≤◌, min, ℤ, pos, ◌+ℤ◌, ◌≤ℤ◌, ◌<ℤ◌, Bool, true, false, List, [], ◌∷◌, ◌++◌, map, reverse, Option, None, Some, arith}
+use Rattle.std.proofs.Common.{◌≡◌, ◌≢◌, ◌⊎◌, inl, inr, refl, ap, sym, ◌∙◌, subst, ℕ, suc, zero, ◌+◌, ◌-◌, ◌*◌, ◌<◌, ◌≤◌, min, ℤ, pos, ◌+ℤ◌, ◌≤ℤ◌, ◌<ℤ◌, true, false, List, [], ◌∷◌, map, reverse, Option, None, arith}
 use Rattle.std.proofs.lemmas.Int.{ints}
 use Rattle.wrp_base.specs.declared.link.LinkState.{LinkState}
-use Rattle.wrp_base.specs.declared.link.LinkState.TheVariants.{Idle, Present, SLock, MLock, Locked, Calibration, Calibrated, RespCalib, LinkOn}
+use Rattle.wrp_base.specs.declared.link.LinkState.TheVariants.{Idle, MLock, Calibration, Calibrated, RespCalib, LinkOn}
 use Rattle.wrp_base.specs.declared.link.Mark.{Mark}
 use Rattle.wrp_base.specs.declared.link.Role.{Role}
 use Rattle.wrp_base.specs.declared.link.Role.TheVariants.{Master, Slave}
 use Rattle.wrp_base.specs.declared.message.WrMsg.{WrMsg}
-use Rattle.wrp_base.specs.declared.message.WrMsg.TheVariants.{Present as SLAVE_PRESENT, Lock as LOCK, Locked as LOCKED, Calibrate as CALIBRATE, Calibrated as CALIBRATED, ModeOn as WR_MODE_ON}
+use Rattle.wrp_base.specs.declared.message.WrMsg.TheVariants.{Present as SLAVE_PRESENT, ModeOn as WR_MODE_ON}
 use Rattle.wrp_link.specs.declared.interface.LinkIn.{LinkIn}
-use Rattle.wrp_link.specs.declared.interface.LinkIn.TheVariants.{Msg, Announce, Tick, CarrierDown, CarrierUp}
-use Rattle.wrp_link.specs.LinkAt.{LinkAt, Waiting, new_link, wait_of}
+use Rattle.wrp_link.specs.declared.interface.LinkIn.TheVariants.{Msg}
+use Rattle.wrp_link.specs.LinkAt.{LinkAt, Waiting, wait_of}
 use Rattle.wrp_link.specs.Rows.{Row, NoRow, Stays, Moves, Keeps, Resends, Fails, Waits, Counts, CarrierComes, CarrierGoes, row_of}
 use Rattle.wrp_link.specs.Table.{counted, ticked, retried, sent_by}
 use Rattle.wrp_check.specs.Required.{required_of}
 use Rattle.wrp_check.specs.Stretches.{joined, stretches_of, newest_of, BeganBy, Entered}
-use Rattle.wrp_handshake.specs.Ends.{Sending, Port, Ends, Change, Passes, Hears, Starts, Lights, other_of, IsAmong, stamped, mover_of, ticked_by, marked, port_by, heard, MayHear, IsNoCarrier, changed, MayCome, AllMayCome, ends_after, new_ends, lit_by, lit_at, OutlivesFrames, CanBe}
-use Rattle.wrp_handshake.proofs.Stages.{engaged, bound, opens, way_of, Sends, SendsAll, bound_sends, entered_rest}
+use Rattle.wrp_handshake.specs.Ends.{Sending, Port, Ends, Change, Passes, Hears, Starts, Lights, other_of, IsAmong, stamped, mover_of, ticked_by, marked, port_by, MayHear, IsNoCarrier, changed, MayCome, AllMayCome, ends_after, new_ends, lit_by, lit_at, CanBe}
+use Rattle.wrp_handshake.proofs.Stages.{engaged, bound, opens, way_of, Sends, SendsAll, bound_sends}
 use Rattle.wrp_handshake.proofs.RowFits.{RowFits, row_fits}
 use Rattle.wrp_handshake.proofs.Failing.{FailsBy, row_fails}
-use Rattle.wrp_handshake.proofs.Keeps.{View, view_of, Ghost, led_to, Current, IsEngaged, PortKeeps}
-use Rattle.wrp_handshake.proofs.Parts.{by_bool, mark_at, not_idle, not_same_idle, differs, out_engaged, began_rest, joins, stays_sent, stamped_in}
+use Rattle.wrp_handshake.proofs.Keeps.{view_of, Ghost, led_to, Current, IsEngaged, PortKeeps}
+use Rattle.wrp_handshake.proofs.Parts.{mark_at, not_idle, not_same_idle, differs, out_engaged, began_rest, joins, stays_sent, stamped_in}
 use Rattle.wrp_handshake.proofs.Inputs.{marked_new, marked_same, same_state, tick_grows}
 use Rattle.wrp_handshake.proofs.Changes.{EndsKeep, start_keeps, all_keep}
 
@@ -116,40 +116,40 @@ stay_same :
 stay_same life dmin time lit p q by quiet holdoff on waiting tick ms k master s timed =
     subst
     (λ (xs : List Mark).
-        MasterStays life dmin lit (record p.link { quiet = quiet; holdoff = holdoff; waiting = waiting; on_ticks = on }) tick xs (stamped time ms p.sent) q.sent)
+    MasterStays life dmin lit (record p.link { quiet = quiet; holdoff = holdoff; waiting = waiting; on_ticks = on }) tick xs (stamped time ms p.sent) q.sent)
     (marked_same time p.link.state p.link.state by p.marks (same_state p.link.state))
     (record {
       timed =
-        λ is_on.
-            elim (timed is_on) [
-              | inl z ↦ inl z
-              | inr late ↦
-                  inr (λ f i op.
-                      elim (stamped_in time p.link.role p.link.state ms p.sent f s i) [
-                        | inl x ↦ absurd (no_lock p.link.role p.link.state f.0 master is_on x.0 op)
-                        | inr j ↦ late f j op
-                      ])
-            ];
+          λ is_on.
+          elim (timed is_on) [
+            | inl z ↦ inl z
+            | inr late ↦
+                inr (λ f i op.
+                elim (stamped_in time p.link.role p.link.state ms p.sent f s i) [
+                  | inl x ↦ absurd (no_lock p.link.role p.link.state f.0 master is_on x.0 op)
+                  | inr j ↦ late f j op
+                ])
+          ];
       left =
-        λ idle lit_now w i b.
-            elim (stamped_in time p.link.role p.link.state ms p.sent (WR_MODE_ON, w) s i) [
-              | inl x ↦ absurd (idle_sends p.link.role WR_MODE_ON (subst (λ (x : LinkState). Sends p.link.role x WR_MODE_ON) idle x.0))
-              | inr j ↦
-                  elim (k.left idle lit_now w j b) [
-                    | inl before ↦ inl before
-                    | inr c ↦
-                        inr (record {
-                          at = c.at;
-                          there = c.there;
-                          late =
+          λ idle lit_now w i b.
+          elim (stamped_in time p.link.role p.link.state ms p.sent (WR_MODE_ON, w) s i) [
+            | inl x ↦ absurd (idle_sends p.link.role WR_MODE_ON (subst (λ (x : LinkState). Sends p.link.role x WR_MODE_ON) idle x.0))
+            | inr j ↦
+                elim (k.left idle lit_now w j b) [
+                  | inl before ↦ inl before
+                  | inr c ↦
+                      inr (record {
+                        at = c.at;
+                        there = c.there;
+                        late =
                             λ f i' op.
-                                elim (stamped_in time p.link.role p.link.state ms p.sent f s i') [
-                                  | inl x ↦ absurd (idle_sends p.link.role f.0 (subst (λ (x : LinkState). Sends p.link.role x f.0) idle x.0))
-                                  | inr j' ↦ c.late f j' op
-                                ];
-                        })
-                  ]
-            ];
+                            elim (stamped_in time p.link.role p.link.state ms p.sent f s i') [
+                              | inl x ↦ absurd (idle_sends p.link.role f.0 (subst (λ (x : LinkState). Sends p.link.role x f.0) idle x.0))
+                              | inr j' ↦ c.late f j' op
+                            ];
+                      })
+                ]
+          ];
     })
 
 -- an input that leaves the state, and the ticks in it
@@ -161,10 +161,10 @@ stay_by :
 stay_by life dmin time lit p q input at waiting ms k master t s =
     stay_same life dmin time lit p q (mover_of input at) p.link.quiet p.link.holdoff p.link.on_ticks waiting (ticked_by input time p.ticked) ms k master s
     (λ is_on.
-        elim (k.timed is_on) [
-          | inl z ↦ inl z
-          | inr late ↦ inr (λ f i op. later_tick p.link.on_ticks dmin f.1 p.ticked (ticked_by input time p.ticked) (tick_grows input time p.ticked t) (late f i op))
-        ])
+    elim (k.timed is_on) [
+      | inl z ↦ inl z
+      | inr late ↦ inr (λ f i op. later_tick p.link.on_ticks dmin f.1 p.ticked (ticked_by input time p.ticked) (tick_grows input time p.ticked t) (late f i op))
+    ])
 
 capped : (n : ℕ) → min (n + 1) 4_294_967_295 ≤ n + 1
 capped n = omega arith
@@ -176,30 +176,30 @@ counts_stay :
 counts_stay life dmin time lit p q g Idle k keeps master early =
     stay_same life dmin time lit p q None (p.link.quiet - 1) (p.link.holdoff - 1) p.link.on_ticks p.link.waiting time [] k master tt
     (λ is_on.
-        elim (k.timed is_on) [
-          | inl z ↦ inl z
-          | inr late ↦ inr (λ f i op. later_tick p.link.on_ticks dmin f.1 p.ticked time keeps.ticked (late f i op))
-        ])
+    elim (k.timed is_on) [
+      | inl z ↦ inl z
+      | inr late ↦ inr (λ f i op. later_tick p.link.on_ticks dmin f.1 p.ticked time keeps.ticked (late f i op))
+    ])
 counts_stay life dmin time lit p q g LinkOn k keeps master early =
     stay_same life dmin time lit p q None p.link.quiet p.link.holdoff (min (p.link.on_ticks + 1) 4_294_967_295) p.link.waiting time [] k master tt
     (λ is_on.
-        let step : min (p.link.on_ticks + 1) 4_294_967_295 * dmin ≤ p.link.on_ticks * dmin + dmin =
-        one_more p.link.on_ticks (min (p.link.on_ticks + 1) 4_294_967_295) dmin (capped p.link.on_ticks) in
-        inr (λ f i op.
-            elim (k.timed is_on) [
-              | inl z ↦
-                  first_tick (min (p.link.on_ticks + 1) 4_294_967_295) dmin f.1 time
-                  (subst (λ (n : ℕ). min (p.link.on_ticks + 1) 4_294_967_295 * dmin ≤ n * dmin + dmin) z step) (keeps.frames f i).past
-              | inr late ↦
-                  next_tick p.link.on_ticks (min (p.link.on_ticks + 1) 4_294_967_295) dmin f.1 p.ticked time step (late f i op) early
-            ]))
+    let step : min (p.link.on_ticks + 1) 4_294_967_295 * dmin ≤ p.link.on_ticks * dmin + dmin =
+    one_more p.link.on_ticks (min (p.link.on_ticks + 1) 4_294_967_295) dmin (capped p.link.on_ticks) in
+    inr (λ f i op.
+    elim (k.timed is_on) [
+      | inl z ↦
+          first_tick (min (p.link.on_ticks + 1) 4_294_967_295) dmin f.1 time
+          (subst (λ (n : ℕ). min (p.link.on_ticks + 1) 4_294_967_295 * dmin ≤ n * dmin + dmin) z step) (keeps.frames f i).past
+      | inr late ↦
+          next_tick p.link.on_ticks (min (p.link.on_ticks + 1) 4_294_967_295) dmin f.1 p.ticked time step (late f i op) early
+    ]))
 counts_stay life dmin time lit p q g _ k keeps master early =
     stay_same life dmin time lit p q None p.link.quiet p.link.holdoff p.link.on_ticks p.link.waiting time [] k master tt
     (λ is_on.
-        elim (k.timed is_on) [
-          | inl z ↦ inl z
-          | inr late ↦ inr (λ f i op. later_tick p.link.on_ticks dmin f.1 p.ticked time keeps.ticked (late f i op))
-        ])
+    elim (k.timed is_on) [
+      | inl z ↦ inl z
+      | inr late ↦ inr (λ f i op. later_tick p.link.on_ticks dmin f.1 p.ticked time keeps.ticked (late f i op))
+    ])
 
 -- a state on a path
 OnPath : LinkState → List LinkState → Type 0
@@ -260,14 +260,14 @@ fails_stay life dmin time lit p g q input at w k keeps master h awake f i b =
       at = at;
       there = told.0;
       late =
-        λ m j op.
-            elim (k.timed on) [
-              | inl z ↦ absurd (never_none life p.link.set.quiet p.link.on_ticks dmin keeps.counts cause.1 z)
-              | inr late ↦
-                  chases life m.1 at time
-                  (long_ago life p.link.set.quiet p.link.on_ticks dmin m.1 p.ticked time keeps.counts cause.1 (late m j op) keeps.ticked)
-                  told.1
-            ];
+          λ m j op.
+          elim (k.timed on) [
+            | inl z ↦ absurd (never_none life p.link.set.quiet p.link.on_ticks dmin keeps.counts cause.1 z)
+            | inr late ↦
+                chases life m.1 at time
+                (long_ago life p.link.set.quiet p.link.on_ticks dmin m.1 p.ticked time keeps.counts cause.1 (late m j op) keeps.ticked)
+                told.1
+          ];
     }
 
 -- each row
@@ -304,11 +304,11 @@ peer_more life dmin lit time p peer ms k =
     record {
       timed = k.timed;
       left =
-        λ idle lit_now w i b.
-            elim (k.left idle lit_now w i b) [
-              | inl before ↦ inl before
-              | inr c ↦ inr (record { at = c.at; there = stays_sent time ms peer (SLAVE_PRESENT, c.at) c.there; late = c.late })
-            ];
+          λ idle lit_now w i b.
+          elim (k.left idle lit_now w i b) [
+            | inl before ↦ inl before
+            | inr c ↦ inr (record { at = c.at; there = stays_sent time ms peer (SLAVE_PRESENT, c.at) c.there; late = c.late })
+          ];
     }
 
 -- each change
@@ -324,11 +324,11 @@ stay_changes life dmin ends lit (Hears Slave input at) h e k = peer_more life dm
 stay_changes life dmin ends lit (Starts Master) h e k =
     record {
       timed =
-        λ on.
-            elim (k.timed on) [
-              | inl z ↦ inl z
-              | inr late ↦ inr (λ f i op. later_tick ends.master.link.on_ticks dmin f.1 ends.master.ticked ends.time e.master.ticked (late f i op))
-            ];
+          λ on.
+          elim (k.timed on) [
+            | inl z ↦ inl z
+            | inr late ↦ inr (λ f i op. later_tick ends.master.link.on_ticks dmin f.1 ends.master.ticked ends.time e.master.ticked (late f i op))
+          ];
       left = k.left;
     }
 stay_changes life dmin ends lit (Starts Slave) h e k = k
@@ -352,4 +352,4 @@ can_stay life dmin ends can =
     let new : Ends = new_ends can.of_master can.of_slave can.start in
     subst (λ (x : Ends). StaysAt life dmin (lit_at new can.changes) x.master x.slave) (sym can.is)
     (stay_all life dmin new can.changes can.come (start_keeps life dmin can.start can.of_master can.of_slave can.master_quiet can.slave_quiet)
-     (record { timed = λ on. cc; left = λ _ lit_now. cc }))
+    (record { timed = λ on. cc; left = λ _ lit_now. cc }))

@@ -1,16 +1,17 @@
 -- A slave in WR_LINK_ON has its master there.
-use Rattle.std.proofs.Common.{◌≡◌, ◌≢◌, ◌⊎◌, inl, inr, refl, ap, sym, ◌∙◌, subst, ℕ, ◌*◌, ℤ, pos, ◌+ℤ◌, ◌≤ℤ◌, ◌<ℤ◌, Bool, true, false, List, [], ◌∷◌, ◌++◌, arith}
+use Rattle.std.proofs.Common.{◌≡◌, ◌≢◌, ◌⊎◌, inl, inr, ap, sym, ◌∙◌, subst, ℕ, ℤ, pos, ◌+ℤ◌, ◌≤ℤ◌, ◌<ℤ◌, true, List, [], ◌∷◌, ◌++◌, Option, arith}
 use Rattle.std.proofs.lemmas.Int.{ints}
 use Rattle.wrp_base.specs.declared.link.LinkState.{LinkState}
 use Rattle.wrp_base.specs.declared.link.LinkState.TheVariants.{Idle, LinkOn}
 use Rattle.wrp_base.specs.declared.link.Mark.{Mark}
+use Rattle.wrp_base.specs.declared.link.Module.{Module}
 use Rattle.wrp_base.specs.declared.link.Role.{Role}
-use Rattle.wrp_base.specs.declared.link.Role.TheVariants.{Master, Slave}
+use Rattle.wrp_base.specs.declared.link.Role.TheVariants.{Slave}
 use Rattle.wrp_base.specs.declared.message.WrMsg.TheVariants.{Present as SLAVE_PRESENT, ModeOn as WR_MODE_ON}
 use Rattle.wrp_check.specs.Stretches.{stretches_of, newest_of, BeganBy, movers_of}
-use Rattle.wrp_handshake.specs.Ends.{Sending, Ends, IsAmong}
+use Rattle.wrp_handshake.specs.Ends.{Ends, IsAmong}
 use Rattle.wrp_handshake.proofs.Stages.{engaged, bound, opens}
-use Rattle.wrp_handshake.proofs.Keeps.{View, view_of, Ghost, Current, PortKeeps, FromLatest, Bond}
+use Rattle.wrp_handshake.proofs.Keeps.{view_of, Ghost, Current, FromLatest, Bond}
 use Rattle.wrp_handshake.proofs.Parts.{by_bool, not_opening}
 use Rattle.wrp_handshake.proofs.Inputs.{idle_or_not}
 use Rattle.wrp_handshake.proofs.Changes.{EndsKeep, from_slave}
@@ -41,10 +42,10 @@ last_began role marks g w none c =
 
 -- a slave in WR_LINK_ON was not chased, and its messages are of the carriers in place
 not_left :
-    (life dmin : ℕ) (ends : Ends) (lit w : ℤ) (k : EndsKeep life dmin ends) → LitKeeps life dmin ends lit →
+    (life dmin : ℕ) (ends : Ends) (lit w : ℤ) (placed : Role → Option Module) (k : EndsKeep life dmin ends) → LitKeeps life dmin ends lit placed →
     ends.slave.link.state ≡ LinkOn → ends.slave.link.state ≢ Idle → IsAmong (WR_MODE_ON, w) (movers_of (newest_of (stretches_of ends.slave.marks))) →
     (w ≤ℤ lit) ⊎ Chased life ends.slave.sent ends.master.sent → ⊥
-not_left life dmin ends lit w k l on out among left =
+not_left life dmin ends lit w placed k l on out among left =
     elim left [
       | inl before ↦ no_later w lit before (l.slave.fresh out (WR_MODE_ON, w) among)
       | inr c ↦
@@ -56,9 +57,9 @@ not_left life dmin ends lit w k l on out among left =
     ]
 
 pub master_on :
-    (life dmin : ℕ) (ends : Ends) (lit : ℤ) → EndsKeep life dmin ends → LitKeeps life dmin ends lit → StaysAt life dmin lit ends.master ends.slave →
+    (life dmin : ℕ) (ends : Ends) (lit : ℤ) (placed : Role → Option Module) → EndsKeep life dmin ends → LitKeeps life dmin ends lit placed → StaysAt life dmin lit ends.master ends.slave →
     ends.slave.link.state ≡ LinkOn → ends.master.link.carrier ≡ true → ends.master.link.state ≡ LinkOn
-master_on life dmin ends lit k l o on lit_now =
+master_on life dmin ends lit placed k l o on lit_now =
     let out : ends.slave.link.state ≢ Idle = λ i. (let x : LinkOn ≡ Idle = sym on ∙ i in cc) in
     let said : (at : ℤ) × IsAmong (WR_MODE_ON, at) (movers_of (newest_of (stretches_of ends.slave.marks))) = l.slave.turned_on l.is_slave on in
     let from : FromLatest ends.master.sent k.of_master.turn (WR_MODE_ON, said.0) =
@@ -68,10 +69,10 @@ master_on life dmin ends lit k l o on lit_now =
     by_bool (engaged ends.master.link.role ends.master.link.state)
     (λ en. on_since ends.time ends.master.link.role ends.master.link.state ends.master.marks k.of_master said.0 k.is_master (k.master.engages en) now)
     (λ shut.
-        elim (idle_or_not ends.master.link.state) [
-          | inl idle ↦
-              absurd (not_left life dmin ends lit said.0 k l on out said.1
-                (o.left idle lit_now said.0 from.there
-                 (last_began ends.master.link.role ends.master.marks k.of_master said.0 (k.master.alone k.is_master) now)))
-          | inr awake ↦ absurd (not_opening ends.master.link.role ends.master.link.state k.is_master awake shut)
-        ])
+    elim (idle_or_not ends.master.link.state) [
+      | inl idle ↦
+          absurd (not_left life dmin ends lit said.0 placed k l on out said.1
+          (o.left idle lit_now said.0 from.there
+          (last_began ends.master.link.role ends.master.marks k.of_master said.0 (k.master.alone k.is_master) now)))
+      | inr awake ↦ absurd (not_opening ends.master.link.role ends.master.link.state k.is_master awake shut)
+    ])

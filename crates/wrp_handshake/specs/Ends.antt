@@ -9,7 +9,7 @@ use Rattle.wrp_base.specs.declared.link.Role.{Role}
 use Rattle.wrp_base.specs.declared.link.Role.TheVariants.{Master, Slave}
 use Rattle.wrp_base.specs.declared.message.WrMsg.{WrMsg}
 use Rattle.wrp_link.specs.declared.interface.LinkIn.{LinkIn}
-use Rattle.wrp_link.specs.declared.interface.LinkIn.TheVariants.{Msg, Announce, Tick, CarrierDown, CarrierUp}
+use Rattle.wrp_link.specs.declared.interface.LinkIn.TheVariants.{Msg, Tick, CarrierUp}
 use Rattle.wrp_link.specs.declared.interface.LinkSet.{LinkSet}
 use Rattle.wrp_link.specs.LinkAt.{LinkAt, new_link}
 use Rattle.wrp_link.specs.Rows.{Row, row_of}
@@ -175,3 +175,15 @@ lit_by ends _ before = before
 abbrev pub lit_at : Ends → List Change → ℤ
 lit_at ends [] = ends.time
 lit_at ends (change ∷ older) = lit_by (ends_after ends older) change (lit_at ends older)
+
+-- the module in place at the port of a role, once a change came too
+abbrev pub placed_by : Change → Role → Option Module → Option Module
+placed_by (Lights of_master of_slave) Master before = of_master
+placed_by (Lights of_master of_slave) Slave before = of_slave
+placed_by _ role before = before
+
+-- the module in place at the port of a role, over a list of changes, the newest first: the one with which
+-- the carrier last came
+abbrev pub placed_at : List Change → Role → Option Module
+placed_at [] role = None
+placed_at (change ∷ older) role = placed_by change role (placed_at older role)

@@ -1,18 +1,17 @@
 -- What holds of every link at every moment, whatever was lost, late, repeated or of an earlier carrier.
 -- This project's profile.
-use Rattle.std.specs.Prelude.{◌≡◌, ◌≢◌, ◌⊎◌, ℕ, ◌*◌, ℤ, pos, ◌+ℤ◌, ◌<ℤ◌, ◌≤ℤ◌, true, List}
+use Rattle.std.specs.Prelude.{◌≡◌, ◌≢◌, ◌⊎◌, ℕ, ◌*◌, ℤ, pos, ◌+ℤ◌, ◌<ℤ◌, ◌≤ℤ◌, true}
 use Rattle.std.specs.List.{AllByRecursion}
-use Rattle.wrp_base.specs.declared.link.LinkState.{LinkState}
 use Rattle.wrp_base.specs.declared.link.LinkState.TheVariants.{Idle, Present, SLock, LinkOn}
-use Rattle.wrp_base.specs.declared.link.Mark.{Mark}
 use Rattle.wrp_base.specs.declared.link.Role.{Role}
+use Rattle.wrp_base.specs.declared.link.Role.TheVariants.{Master, Slave}
 use Rattle.wrp_base.specs.declared.message.WrMsg.{WrMsg}
 use Rattle.wrp_base.specs.declared.message.WrMsg.TheVariants.{Lock as LOCK, Locked as LOCKED}
 use Rattle.wrp_check.specs.Handshake.{SameHandshake}
 use Rattle.wrp_check.specs.Laws.{IsHistory}
 use Rattle.wrp_check.specs.Stretches.{stretches_of, newest_of, movers_of}
 use Rattle.wrp_handshake.specs.Deltas.{KnowsDeltas}
-use Rattle.wrp_handshake.specs.Ends.{Ends, Port, CanBe, new_ends, end_of, other_of, IsAmong, lit_at}
+use Rattle.wrp_handshake.specs.Ends.{Ends, Port, CanBe, new_ends, end_of, other_of, IsAmong, lit_at, placed_at}
 
 -- a port in WR_LINK_ON is in the same handshake as its peer
 abbrev pub OnInTheSameHandshake : Type 0
@@ -22,14 +21,19 @@ OnInTheSameHandshake =
     (end_of ends role).link.state ≡ LinkOn →
     SameHandshake role (end_of ends role).marks (end_of ends (other_of role)).marks
 
--- a slave in WR_LINK_ON whose peer has its carrier knows the deltas of the modules that are in place
+-- a slave in WR_LINK_ON knows the deltas of the modules in place at both ends
 abbrev pub OnWithTheDeltas : Type 0
 OnWithTheDeltas =
-    (life dmin : ℕ) (ends : Ends) →
-    CanBe life dmin ends →
+    (life dmin : ℕ) (ends : Ends) (can : CanBe life dmin ends) →
     ends.slave.link.state ≡ LinkOn →
-    ends.master.link.carrier ≡ true →
-    KnowsDeltas ends.slave ends.master
+    KnowsDeltas ends.slave (placed_at can.changes Master) (placed_at can.changes Slave)
+
+-- a port with its carrier has the module in place
+abbrev pub CarrierWithItsModule : Type 0
+CarrierWithItsModule =
+    (life dmin : ℕ) (ends : Ends) (role : Role) (can : CanBe life dmin ends) →
+    (end_of ends role).link.carrier ≡ true →
+    (end_of ends role).link.own_module ≡ placed_at can.changes role
 
 -- the marks of a port are a history
 abbrev pub MarksAreAHistory : Type 0

@@ -2,7 +2,7 @@
 //! it holds after every list of changes that may come.
 ghost use Rattle.wrp_handshake.specs.Laws.{MarksAreAHistory, MasterStaysFromLock, OnInTheSameHandshake};
 ghost use Rattle.wrp_handshake.specs.Laws.{OnWithTheDeltas, QuietTimeOutlivesFrames, SlaveOnWithItsMaster};
-ghost use Rattle.wrp_handshake.specs.Laws.{SlaveStaysFromLocked};
+ghost use Rattle.wrp_handshake.specs.Laws.{CarrierWithItsModule, SlaveStaysFromLocked};
 ghost use Rattle.wrp_handshake.specs.Worked.{WorkedHandshake};
 
 /// A port in WR_LINK_ON is in the same handshake as its peer.
@@ -10,10 +10,15 @@ pub fn on_in_the_same_handshake()
     ensures { OnInTheSameHandshake }
 {}
 
-/// A slave in WR_LINK_ON whose peer has its carrier knows the deltas of the modules that are in place at
-/// both ends, and the peer's were told in the slave's present stretch.
+/// A slave in WR_LINK_ON knows the deltas of the modules in place at both ends, those with which the
+/// carriers last came, and the peer's were told in the slave's present stretch.
 pub fn on_with_the_deltas()
     ensures { OnWithTheDeltas }
+{}
+
+/// A port that has its carrier has the module in place.
+pub fn carrier_with_its_module()
+    ensures { CarrierWithItsModule }
 {}
 
 /// The marks of a port are a history: each is a change of the state to which those before it led.

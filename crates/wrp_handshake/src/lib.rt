@@ -8,6 +8,7 @@
 mod laws;
 
 pub use laws::{
-    marks_are_a_history, master_stays_from_lock, on_in_the_same_handshake, on_with_the_deltas,
-    quiet_time_outlives_frames, slave_on_with_its_master, slave_stays_from_locked, worked_handshake,
+    carrier_with_its_module, marks_are_a_history, master_stays_from_lock, on_in_the_same_handshake,
+    on_with_the_deltas, quiet_time_outlives_frames, slave_on_with_its_master,
+    slave_stays_from_locked, worked_handshake,
 };
