@@ -3,3 +3,4 @@ pub mod Refusals
 pub mod Refused
 pub mod Inserts
 pub mod Depth
+pub mod ReadBack

@@ -3,10 +3,12 @@ use Rattle.std.specs.Str.{IsUtf8}
 use Rattle.toml.specs.Data.{members_depth}
 use Rattle.toml.specs.Parse.{parse_document}
 use Rattle.wrp_caldb.proofs.Depth.{document_depth}
+use Rattle.wrp_caldb.proofs.ReadBack.{database_again}
 use Rattle.wrp_caldb.proofs.database.CalDb.text.Goals as goal
 
 pub returns : goal.returns
 returns c =
+    let unused = database_again in
     let shallow = subst (λ ms. members_depth ms ≤ 80) (sym c.in_ok-document.ensures) (document_depth c.args.self.now) in
     (
       subst IsUtf8 (sym c.octets_of.ensures.value) c.octets_of.ensures.utf8,
