@@ -20,8 +20,8 @@ rate_of net n node = if is_some (link_above net n) then max node.slew node.held 
 abbrev pub end_of : NetCfg → ℕ → NodeCfg → End
 end_of net n node = record { e_tx = node.e_tx; e_tag = node.e_tag; rate = rate_of net n node }
 
--- what the bound of a hop is made of: the two nodes', the link's and the network's numbers; there is
--- none where an end is no node
+-- what the bound of a hop is made of: the two nodes', the link's and the network's numbers; there
+-- is none where an end is no node
 abbrev pub numbers_between :
     NetCfg → LinkCfg → Option NodeCfg → Option NodeCfg → Option HopNumbers
 numbers_between net link (Some own) (Some parent) = Some (record {

@@ -23,11 +23,13 @@ reach_motion hop = motion (hop.parent.rate + fibre_rate) hop.reach
 
 -- the error of the way down: the parent's send stamp, the own receive stamp, and their phase
 abbrev pub down_error : HopNumbers → ℕ
-down_error hop = hop.parent.e_tx + hop.own.e_tag + reach_motion hop + detector_error hop + gap_motion hop
+down_error hop =
+    hop.parent.e_tx + hop.own.e_tag + reach_motion hop + detector_error hop + gap_motion hop
 
 -- the error of the way up: the own send stamp, the parent's receive stamp, and their phase
 abbrev pub up_error : HopNumbers → ℕ
-up_error hop = hop.own.e_tx + hop.parent.e_tag + reach_motion hop + detector_error hop + gap_motion hop
+up_error hop =
+    hop.own.e_tx + hop.parent.e_tag + reach_motion hop + detector_error hop + gap_motion hop
 
 -- how far both ways of the fibre move from a measurement's stamps to its last use
 abbrev pub age_motion : HopNumbers → ℕ

@@ -44,7 +44,8 @@ holdover_time net =
 
 -- between two good samples the phase moves so little that its whole periods are known
 unfoldable pub phase_room : NetCfg → HopNumbers → Inequality
-phase_room net hop = inequality 3 (2 * gap_motion hop + 4 * detector_error hop) Less (period_of net.clock)
+phase_room net hop =
+    inequality 3 (2 * gap_motion hop + 4 * detector_error hop) Less (period_of net.clock)
 
 -- the shortest tick is no longer than the longest
 unfoldable pub tick_times : NetCfg → Inequality
@@ -60,7 +61,8 @@ flight_time net = inequality 6 (reach net) AtMost (frame_life net)
 
 -- the lock detector unlocks below the count at which it locks
 unfoldable pub lock_counts : NetCfg → Inequality
-lock_counts net = inequality 7 (unsigned_abs net.delock_samples) Less (unsigned_abs net.lock_samples)
+lock_counts net =
+    inequality 7 (unsigned_abs net.delock_samples) Less (unsigned_abs net.lock_samples)
 
 -- a sequenceId does not come again while a frame of it, or a sample that goes with it, is about
 unfoldable pub id_reuse : NetCfg → Inequality
@@ -93,10 +95,14 @@ inequalities net =
     (tick_times net ∷ (holdoff_time net ∷ (flight_time net ∷
     (lock_counts net ∷ (id_reuse net ∷ (port_delays net ∷ []))))))
 
+-- what is told of an inequality that is broken
+abbrev pub clash_of : Inequality → Clash
+clash_of i = record { number = i.number; left = i.left; right = i.right }
+
 -- the answer where this inequality is the first that is broken, or none is
 abbrev pub answer_of : Option Inequality → Result (Unit {0}) Clash
 answer_of None = Ok tt
-answer_of (Some i) = Err (record { number = i.number; left = i.left; right = i.right })
+answer_of (Some i) = Err (clash_of i)
 
 -- the network keeps all nine inequalities, the third at each node that has a parent
 pub record KeepsInequalities (net : NetCfg) : Type 0 where

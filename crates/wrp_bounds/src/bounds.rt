@@ -26,8 +26,8 @@ pub fn hop(cfg: &NetCfg, n: u8) -> Tau
     }
 }
 
-/// How far a node in TRACK may be from the grandmaster, in tau: its hop and the bound in HOLDOVER of
-/// its parent, and 0 of the grandmaster.
+/// How far a node in TRACK may be from the grandmaster, in tau: its hop and the bound in HOLDOVER
+/// of its parent, and 0 of the grandmaster.
 pub fn path(cfg: &NetCfg, n: u8) -> Tau
     requires ranges { HasRanges cfg.now }
     requires tree { IsTree cfg.now }
@@ -38,8 +38,8 @@ pub fn path(cfg: &NetCfg, n: u8) -> Tau
     path_sum(cfg, n) as i128
 }
 
-/// How far a node in HOLDOVER may be from the grandmaster, in tau: its bound in TRACK, and how far it
-/// moves in the longest HOLDOVER. 0 of the grandmaster.
+/// How far a node in HOLDOVER may be from the grandmaster, in tau: its bound in TRACK, and how far
+/// it moves in the longest HOLDOVER. 0 of the grandmaster.
 pub fn holdover(cfg: &NetCfg, n: u8) -> Tau
     requires ranges { HasRanges cfg.now }
     requires tree { IsTree cfg.now }

@@ -11,12 +11,12 @@ use crate::numbers::HopNumbers;
 use crate::times::{count, frame_life, gap_time, longest_tick, reach, shortest_tick, ticks_of};
 use wrp_base::NetCfg;
 
-/// How many Syncs or Delay_Reqs a port may send before a sequenceId comes again: somewhat fewer than
-/// there are.
+/// How many Syncs or Delay_Reqs a port may send before a sequenceId comes again: somewhat fewer
+/// than there are sequenceIds.
 const IDS: u64 = 65_000;
 
-/// Tries the nine inequalities in their order, and answers the first that fails, with both its sides. One
-/// that speaks of a node is tried at the nodes in file order.
+/// Tries the nine inequalities in their order, and answers the first that is broken, with both its
+/// sides. The third is tried at each node that has a parent, in file order.
 pub fn check(cfg: &NetCfg) -> Result<(), Clash>
     requires ranges { HasRanges cfg.now }
     requires tree { IsTree cfg.now }

@@ -3,8 +3,8 @@ ghost use Rattle.std.specs.Prelude.{◌≡◌, ◌^◌, ◌≤◌, List, find, n
 
 use wrp_base::Tau;
 
-/// The least numbered inequality that a network breaks, at the first node in file order, and both its
-/// sides: in tau, or in ticks or counts where the inequality is of such.
+/// The least numbered inequality that a network breaks, at the first node in file order, and both
+/// its sides: in tau, but of the fifth in ticks and of the seventh in counts.
 #[derive(Clone, Copy, Debug, Default, PartialEq, Eq)]
 pub struct Clash {
     /// The inequality's number: 1 to 9.
@@ -41,7 +41,7 @@ pub struct Inequality {
 
 impl Inequality {
     ghost use Rattle.std.specs.Prelude.{◌≡◌, ◌^◌, ◌≤◌, not};
-    ghost use Rattle.wrp_bounds.specs.Inequalities.{inequality, is_broken};
+    ghost use Rattle.wrp_bounds.specs.Inequalities.{inequality, is_broken, clash_of};
 
     // An inequality of sides without sign.
     pub fn new(number: u8, left: u128, order: Order, right: u128) -> Inequality
@@ -70,7 +70,7 @@ impl Inequality {
 
     // What is told of it where it is broken.
     pub fn clash(&self) -> Clash
-        ensures { result ≡ record { number = self.now.number; left = self.now.left; right = self.now.right } }
+        ensures { result ≡ clash_of self.now }
     {
         Clash {
             number: self.number,

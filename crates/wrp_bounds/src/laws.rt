@@ -1,8 +1,8 @@
 //! Laws of the bounds, over all networks. Each function computes nothing.
 ghost use Rattle.wrp_bounds.specs.Laws.{PathOfChild, GrandmasterIsExact, RoundsUp};
 
-/// In a tree the bound in TRACK of a node that has a parent is the bound of its own hop and the bound in
-/// HOLDOVER of its parent.
+/// In a tree the bound in TRACK of a node that has a parent is the bound of its own hop and the bound
+/// in HOLDOVER of its parent.
 pub fn path_of_child()
     ensures { PathOfChild }
 {}

@@ -1,6 +1,6 @@
 //! How far each node of a network may be from its parent and from the grandmaster, in TRACK and in
-//! HOLDOVER, and the nine inequalities that the network must pass for it. All rules are this project's
-//! profile.
+//! HOLDOVER, and the nine inequalities that the network must pass for it. All rules are this
+//! project's profile.
 #![tactic(auto)]
 
 mod bounds;

@@ -8,8 +8,8 @@ use crate::{check, holdover, hop, path};
 use networks::{Node, REFERENCE, Settings, network};
 use wrp_base::{Clock, Tau};
 
-// The clock, then of the reference network the hop and the holdover of the middle node, and the hop,
-// the path and the holdover of the lowest.
+// The clock, then of the reference network the hop and the holdover of the middle node, and the
+// hop, the path and the holdover of the lowest.
 const REFERENCE_BOUNDS: [(Clock, [Tau; 5]); 2] = [
     (
         Clock::Mhz125,
@@ -21,16 +21,16 @@ const REFERENCE_BOUNDS: [(Clock, [Tau; 5]); 2] = [
     ),
 ];
 
-// Of the middle and of the lowest node at 125 MHz: the motion between two good samples, that over the
-// reach, the errors of the way down and up, and the scaled part.
+// Of the middle and of the lowest node at 125 MHz: the motion between two good samples, that over
+// the reach, the errors of the way down and up, and the scaled part.
 const PARTS: [(u8, [u128; 5]); 2] = [
     (1, [1_085_670, 14, 1_965_044, 1_965_044, 5_035_687]),
     (2, [2_167_014, 3_290, 3_049_664, 3_049_664, 6_120_453]),
 ];
 
 // A chain of nine nodes. By hop: 19,747,547, 24,553,193, 26,069,492, 27,583,170, 29,099,467,
-// 29,964,308, 32,128,129, 33,644,429; motion in HOLDOVER of the nodes between: 2,314,077, 161,985,332,
-// 4,628,153, 208,266,855, 6,942,229, 9,256,305, 277,689,140.
+// 29,964,308, 32,128,129, 33,644,429; motion in HOLDOVER of the nodes between: 2,314,077,
+// 161,985,332, 4,628,153, 208,266,855, 6,942,229, 9,256,305, 277,689,140.
 const CHAIN: [Node; 9] = [
     Node {
         e_tx: 655_360,
@@ -164,7 +164,8 @@ fn clashes(rt: HostRuntime) {
             186_974_208_000_000_000,
             187_498_496_000_000_000,
         ),
-        // h is 200,002 * 33 ms / 10^12, rounded up to 432,541,926; the lowest node's, 433,623,270, comes later
+        // h is 200,002 * 33 ms / 10^12, rounded up to 432,541,926; that of the lowest node,
+        // 433,623,270, comes later
         (reference, fast, 3, 865_723_852, 524_288_000),
         // 12 ms and 11 ms
         (

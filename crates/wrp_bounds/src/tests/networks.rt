@@ -125,7 +125,8 @@ fn links(of: &[Node]) -> ArrayVec<LinkCfg, 63>
     requires few { length of.now ≤ 9 }
     ensures count { length result.items ≡ length of.now - 1 }
     ensures ranges { (l : ℕ) (link : LinkCfg) → slice_get result.items l ≡ Some link → HasLinkRanges link }
-    ensures ends { (l : ℕ) (link : LinkCfg) → slice_get result.items l ≡ Some link → (link.upper ≡ l) × (link.lower ≡ suc l) }
+    ensures ends { (l : ℕ) (link : LinkCfg) → slice_get result.items l ≡ Some link →
+        (link.upper ≡ l) × (link.lower ≡ suc l) }
 {
     let mut links = ArrayVec::new();
     for l in 1..of.len() {
