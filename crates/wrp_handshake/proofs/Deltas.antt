@@ -92,7 +92,7 @@ row_owns l (Tick locked) h = under_owns l.carrier l.own_module (tick_row l l.sta
 row_owns l CarrierDown h = under_owns l.carrier l.own_module CarrierGoes tt
 row_owns l (CarrierUp fitted) h = tt
 
--- ---- movers of the newest stretch
+-- movers of the newest stretch
 
 newest_joined : (mark : Mark) (ss : List (List Mark)) → newest_of (joined mark ss) ≡ mark ∷ newest_of ss
 newest_joined mark [] = refl

@@ -361,7 +361,7 @@ lit_heard life dmin time lit placed p q input at k h n =
     (after_ordered p.link input k.ordered)
     (row_owns p.link input k.listed)
 
--- ---- a port and its peer
+-- a port and its peer
 
 -- a message that is handed over is of the module in place at the peer
 told_now :
@@ -427,7 +427,7 @@ pair_row life dmin time lit placed peers p q input at Counts k kq pair h f = cou
 pair_row life dmin time lit placed peers p q input at (CarrierComes fitted) k kq pair h f = λ a. absurd (a refl)
 pair_row life dmin time lit placed peers p q input at CarrierGoes k kq pair h f = λ a. absurd (a refl)
 
--- ---- a link
+-- a link
 
 -- a port whose quiet time is over got its carrier long ago
 pub lit_long_ago :

@@ -1,5 +1,6 @@
-//! The laws of one link. Each function here does nothing: its contract is a law, and its proof shows that
-//! it holds after every list of changes that may come.
+//! The laws of one link. Each function here does nothing: its contract is a law, and its proof shows that it
+//! holds after every list of changes that may come, where `quiet - 1` ticks of the least length are longer
+//! than two lives of a frame, at both ends.
 ghost use Rattle.wrp_handshake.specs.Laws.{MarksAreAHistory, MasterStaysFromLock, OnInTheSameHandshake};
 ghost use Rattle.wrp_handshake.specs.Laws.{OnWithTheDeltas, QuietTimeOutlivesFrames, SlaveOnWithItsMaster};
 ghost use Rattle.wrp_handshake.specs.Laws.{CarrierWithItsModule, SlaveStaysFromLocked};
