@@ -4,3 +4,10 @@ pub mod Refused
 pub mod Inserts
 pub mod Depth
 pub mod ReadBack
+pub mod Kept
+pub mod KeptNames
+pub mod KeptNumbers
+pub mod KeptPairs
+pub mod KeptModules
+pub mod KeptFibres
+pub mod Migration

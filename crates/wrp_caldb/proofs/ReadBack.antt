@@ -55,7 +55,7 @@ signed_again test o false e = zero_either (test (Some (pos 0)))
 signed_again test None true e = zero_either (test (Some (pos 0)))
 signed_again test (Some z) true e = rw e refl
 
-in_range_small : (a b : ℕ) → b ≤ 9_223_372_036_854_775_807 → IsSmallTest (in_range (pos a) (pos b))
+pub in_range_small : (a b : ℕ) → b ≤ 9_223_372_036_854_775_807 → IsSmallTest (in_range (pos a) (pos b))
 in_range_small a b h = record {
   none = refl;
   negative = λ m. refl;
@@ -65,7 +65,7 @@ in_range_small a b h = record {
 wavelength_at_most : (m : ℕ) → is_wavelength (Some (pos m)) ≡ true → m ≤ 9_223_372_036_854_775_807
 wavelength_at_most m e = grind (arith, nat_tests)
 
-wavelength_small : IsSmallTest is_wavelength
+pub wavelength_small : IsSmallTest is_wavelength
 wavelength_small = record {
   none = refl;
   negative = λ m. refl;
@@ -227,15 +227,15 @@ stored_if : (values : Option (List Data)) (ps : List (ℤ × ℤ)) → option_an
 stored_if None ps is = cc is
 stored_if (Some ds) ps is = few_again ds ps is
 
-stored_again : (found : Option Data) (ps : List (ℤ × ℤ)) → option_and_then stored_points found ≡ Some ps
+pub stored_again : (found : Option Data) (ps : List (ℤ × ℤ)) → option_and_then stored_points found ≡ Some ps
     → few_points (map point_data ps) ≡ Some ps
 stored_again None ps is = cc is
 stored_again (Some d) ps is = stored_if (values_of d) ps is
 
-abbrev table_with : ℕ → List (ℤ × ℤ) → TableAt
+abbrev pub table_with : ℕ → List (ℤ × ℤ) → TableAt
 table_with err ps = record { points = ps; err = err }
 
-abbrev listed_fibre : List ℕ → Fibre → Option TableAt → FibreAt
+abbrev pub listed_fibre : List ℕ → Fibre → Option TableAt → FibreAt
 listed_fibre name fibre points = record { name = name; fibre = fibre; table = points }
 
 table_if : (t : Members) (name : List ℕ) (fibre : Fibre) (o : Option (List (ℤ × ℤ)))
@@ -249,7 +249,7 @@ table_if t name fibre (Some ps) h =
     ap (λ ds. option_map (table_with n) (few_points ds)) (list_of-items_of (map point_data ps))
     ∙ ap (option_map (table_with n)) (h ps refl) ∙ ap (λ k. Some (table_with k ps)) err
 
-abbrev fibre_with : ℤ → ℕ → Fibre
+abbrev pub fibre_with : ℤ → ℕ → Fibre
 fibre_with kappa err = record { kappa = kappa; err = err }
 
 fibre_again : (t : Members) → fibre_of (fibre_members (fibre_of t)) ≡ fibre_of t

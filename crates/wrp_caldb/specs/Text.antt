@@ -1,11 +1,15 @@
 -- The text of version 2 that a database is written as (this project's profile).
-use Rattle.std.specs.Prelude.{◌∷◌, [], ℕ, ℤ, pos, List, Option, Some, None, map, min, codes}
+use Rattle.std.specs.Prelude.{◌≡◌, ◌∷◌, [], ℕ, ℤ, pos, List, Option, Some, None, map, min, codes, Result, Ok, Err}
 use Rattle.std.specs.Ordering.{nat_cmp, match_ordering}
 use Rattle.std.specs.Cmp.Lexicographic.{slice_cmp}
 use Rattle.toml.specs.Data.{Data, string, integer, array, table, Items, no_items, item, Members, no_members, member}
 use Rattle.toml.specs.View.{items_of}
-use Rattle.wrp_caldb.specs.Database.{Database, ModuleAt, FibreAt, TableAt}
+use Rattle.wrp_caldb.specs.Calibration.{IsAccepted}
+use Rattle.wrp_caldb.specs.Database.{Database, ModuleAt, FibreAt, TableAt, database_of}
+use Rattle.wrp_base.specs.declared.fault.ConfFault.{ConfFault}
+use Rattle.wrp_base.specs.declared.fault.ConfFault.TheVariants.{Fault, Memory}
 use Rattle.wrp_caldb.specs.declared.database.Entry.{Entry}
+use Rattle.wrp_caldb.specs.declared.keys.Others.{Others}
 
 -- a whole number of a text, which has at most 63 bits
 abbrev pub number : ℕ → Data
@@ -60,3 +64,13 @@ document_of db =
     member (codes "fibre") (array (items_of (map (λ f. table (fibre_members f)) db.fibres)))
     (member (codes "module") (array (items_of (map (λ m. table (module_members m)) db.modules)))
     (member (codes "version") (number 2) no_members))
+
+-- the database is that of an accepted text
+abbrev pub IsListed : Database → Type 0
+IsListed db = (others : Others) × (doc : Members) × IsAccepted others doc × (db ≡ database_of doc)
+
+-- an answer that is this database, or want of memory
+abbrev pub IsSame : Database → Result Database ConfFault → Type 0
+IsSame db (Ok back) = back ≡ db
+IsSame db (Err (Fault number place)) = ⊥
+IsSame db (Err (Memory e)) = Unit {0}

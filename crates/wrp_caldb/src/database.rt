@@ -141,10 +141,14 @@ pub struct CalDb {
 
 impl Model for CalDb {
     ghost use Rattle.wrp_caldb.specs.Database.{Database};
+    ghost use Rattle.wrp_caldb.specs.Text.{IsListed};
 
     ghost Value = { Database };
 
     ghost view = { λ d. record { modules = d.modules.items; fibres = d.fibres.items } };
+
+    ghost invariant = { λ d.
+        IsListed (record { modules = d.modules.items; fibres = d.fibres.items }) };
 }
 
 // The module of a name.

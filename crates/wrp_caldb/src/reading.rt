@@ -2,7 +2,7 @@
 ghost use Rattle.std.specs.Prelude.{◌≡◌, ◌≤◌, ℕ, IfOk, Some, None, map, option_map, option_copied};
 ghost use Rattle.std.specs.Str.{IsUtf8};
 ghost use Rattle.toml.specs.View.{view, table_view};
-ghost use Rattle.wrp_caldb.specs.Calibration.{transition_key, tx_nm_key, rx_nm_key};
+ghost use Rattle.wrp_caldb.specs.Calibration.{IsAccepted, transition_key, tx_nm_key, rx_nm_key};
 ghost use Rattle.wrp_caldb.specs.Database.{number_at, natural_at, name_at, name_or_none, delays_of, entry_of, each_table, entries_of, module_of, table_of, fibre_of, database_of};
 ghost use Rattle.wrp_caldb.specs.Reading.{IsFaultAt, IsSyntax, IsAnswerOf, IsReadingOf};
 ghost use Rattle.wrp_caldb.specs.declared.keys.Others.TheVariants.{Refused, Ignored};
@@ -202,8 +202,9 @@ fn fibres_of(alloc: Global, values: &[Value]) -> Result<Vec<ListedFibre>, AllocE
     Ok(fibres)
 }
 
-// The database of a text.
-fn database_of(alloc: Global, doc: &Table) -> Result<CalDb, AllocError>
+// The database of an accepted text.
+fn database_of(alloc: Global, others: Others, doc: &Table) -> Result<CalDb, AllocError>
+    requires { IsAccepted others (table_view doc.now) }
     ensures { IfOk result (λ db. db ≡ database_of (table_view doc.now)) }
 {
     let modules = modules_of(alloc, version_of(doc), tables_at(doc, "module"))?;
@@ -230,7 +231,7 @@ fn answer_of(alloc: Global, others: Others, doc: &Table) -> Result<CalDb, ConfFa
 {
     match refusal(others, doc) {
         Some((code, place)) => Err(fault_at(alloc, code, &place)),
-        None => match database_of(alloc, doc) {
+        None => match database_of(alloc, others, doc) {
             Ok(database) => Ok(database),
             Err(error) => Err(ConfFault::Memory(error)),
         },

@@ -1,11 +1,13 @@
 //! A database as a calibration text of version 2.
-ghost use Rattle.std.specs.Prelude.{◌≡◌, ◌≤◌, Some, IfOk, OnOk, map, string_bytes};
+ghost use Rattle.std.specs.Prelude.{◌≡◌, ◌≤◌, Some, Result, IfOk, OnOk, map, string_bytes};
+ghost use Rattle.wrp_base.specs.declared.fault.ConfFault.{ConfFault};
+ghost use Rattle.wrp_caldb.specs.Database.{Database};
 ghost use Rattle.std.specs.Str.{IsUtf8};
 ghost use Rattle.toml.specs.Data.{array, table, no_members, members_depth};
 ghost use Rattle.toml.specs.Parse.{parse_document};
 ghost use Rattle.toml.specs.View.{view, items_of, table_view};
-ghost use Rattle.wrp_caldb.specs.Reading.{IsTextOf};
-ghost use Rattle.wrp_caldb.specs.Text.{number, with_member, pair_members, module_members, point_data, linear_members, fibre_members, document_of};
+ghost use Rattle.wrp_caldb.specs.Reading.{IsTextOf, IsReadingOf};
+ghost use Rattle.wrp_caldb.specs.Text.{number, with_member, pair_members, module_members, point_data, linear_members, fibre_members, document_of, IsSame};
 
 use crate::database::{CalDb, Entry, ListedFibre, ListedModule};
 use std::alloc::{AllocError, Global};
@@ -164,10 +166,13 @@ fn octets_of(text: String) -> Vec<u8>
 
 impl CalDb {
     /// The database as a calibration text of version 2, as `toml` prints it. A module of version 1
-    /// has one pair there, of the wavelengths 0 and 0.
+    /// has one pair there, of the wavelengths 0 and 0. Reading the text gives the same database.
     pub fn text(&self, alloc: Global) -> Result<Vec<u8>, AllocError>
-        ensures { IfOk result (λ octets. IsTextOf (document_of self.now) octets.items) }
+        ensures text { IfOk result (λ octets. IsTextOf (document_of self.now) octets.items) }
+        ensures same { IfOk result (λ octets. (answer : Result Database ConfFault)
+            → IsReadingOf octets.items answer → IsSame self.now answer) }
     {
+        let _modules = &self.modules;
         let document = document_of(alloc, self)?;
         let text = printed(alloc, &document)?;
         Ok(octets_of(text))
