@@ -168,13 +168,13 @@ some_rows t (Some d) line e range =
     let first = find_parts (at_fault co.Range t) (table_key (law_of t)) (table_err_key ∷ []) range in
     let second = find_parts (at_fault co.Range t) table_err_key [] first.1 in
     let here : has_fault co.Range (table_key (law_of t)) (Some d) ≡ false =
-        subst (λ found. has_fault co.Range (table_key (law_of t)) found ≡ false) e first.0 in
+    subst (λ found. has_fault co.Range (table_key (law_of t)) found ≡ false) e first.0 in
     let s = stored_of (law_of t) d here in
     let some : table_of t ≡ Some (table_with (natural_at table_err_key t) s.points) =
-        ap (λ o. option_map (table_with (natural_at table_err_key t)) (option_and_then stored_points o)) e
-        ∙ ap (option_map (table_with (natural_at table_err_key t))) s.is in
+    ap (λ o. option_map (table_with (natural_at table_err_key t)) (option_and_then stored_points o)) e
+    ∙ ap (option_map (table_with (natural_at table_err_key t))) s.is in
     subst (λ tab. find (at_fault co.Range (fibre_text t tab)) (fibre_keys (fibre_text t tab)) ≡ None) (sym some)
-      (table_rows t d line (err_of (get_member (codes "table_err") t) second.0) s)
+    (table_rows t d line (err_of (get_member (codes "table_err") t) second.0) s)
 
 -- the rows behind those of the line
 abbrev behind_line : Members → List Key
@@ -189,12 +189,14 @@ line_of t missing range =
     let m2 = find_parts (at_fault co.Missing t) kappa_key (fibre_err_key ∷ behind_line t) m1.1 in
     let r2 = find_parts (at_fault co.Range t) kappa_key (fibre_err_key ∷ behind_line t) r1.1 in
     let m3 = find_parts (at_fault co.Missing t) fibre_err_key (behind_line t) m2.1 in
-    let r3 = find_parts (at_fault co.Range t) fibre_err_key (behind_line t) r2.1 in
-    (record {
-      name = plain_text (codes "name") (get_member (codes "name") t) m1.0 r1.0;
-      kappa = kappa_of (get_member (codes "kappa") t) m2.0 r2.0;
-      err = number_kept (codes "err") 1 1_000_000_000 (omega arith) (get_member (codes "err") t) m3.0 r3.0;
-    }, r3.1)
+    let r3 = find_parts (at_fault co.Range t) fibre_err_key (behind_line t) r2.1 in (
+      record {
+        name = plain_text (codes "name") (get_member (codes "name") t) m1.0 r1.0;
+        kappa = kappa_of (get_member (codes "kappa") t) m2.0 r2.0;
+        err = number_kept (codes "err") 1 1_000_000_000 (omega arith) (get_member (codes "err") t) m3.0 r3.0;
+      },
+      r3.1,
+    )
 
 -- no key of a fibre that is written again is unknown or missing
 known_again : (at : At) (t : Members) (tab : Option TableAt) → place_in_table co.UnknownKey at (fibre_keys (fibre_text t tab)) (fibre_text t tab) ≡ None
@@ -236,10 +238,10 @@ fibre_kept ts n t none code =
 pub fibres_kept : (values : Option (List Data))
     → ((code : Code) → place_in_fibres code (tables_of values) ≡ None)
     → (code : Code) → place_in_fibres code
-        (tables_of (values_of (array (items_of (map (λ f. table (fibre_members f)) (each_table fibre_of (tables_of values))))))) ≡ None
+    (tables_of (values_of (array (items_of (map (λ f. table (fibre_members f)) (each_table fibre_of (tables_of values))))))) ≡ None
 fibres_kept values none code =
     let ts = members_in (tables_of values) in
     let listed = λ (b : Code). subst (λ ds. place_in_fibres b ds ≡ None) (tables_of-members values) (none b) in
     ap (place_in_fibres code) (relisted fibre_of fibre_members values)
     ∙ among (λ b. place_in_fibre b (map table ts)) (λ b. place_in_fibre b (map table (map fibre_again_of ts)))
-        fibre_again_of (fibre_kept ts) 0 ts listed code
+    fibre_again_of (fibre_kept ts) 0 ts listed code

@@ -111,7 +111,7 @@ only_pair_fits co.UnknownKey owner pairs t = refl
 only_pair_fits co.Missing owner pairs t = refl
 only_pair_fits co.Range owner pairs t =
     let keys = find_none (at_fault co.Range (only_pair t)) tx_nm_key (rx_nm_key (Some (pos 0)) ∷ delay_keys) refl
-        (find_none (at_fault co.Range (only_pair t)) (rx_nm_key (Some (pos 0))) delay_keys refl (delays_fit t 0 0)) in
+    (find_none (at_fault co.Range (only_pair t)) (rx_nm_key (Some (pos 0))) delay_keys refl (delays_fit t 0 0)) in
     rw (no_place co.Range (tables.Pair owner 1) (pair_keys (only_pair t)) (only_pair t) refl keys) refl
 only_pair_fits co.Twice owner pairs t = refl
 
@@ -128,10 +128,10 @@ all_pairs Two owner t none code =
     let ps = members_in (tables_of values) in
     let listed = λ (b : Code). subst (λ ds. place_in_pairs Two b owner ds ≡ None) (tables_of-members values) (none b) in
     let all = each_passes (λ b. place_in_pair b owner (map table ps)) has_waves
-        (λ n p free. has_waves_in p (waves_in owner (map table ps) n p free)) 0 ps listed in
+    (λ n p free. has_waves_in p (waves_in owner (map table ps) n p free)) 0 ps listed in
     ap (place_in_pairs Two code owner) (relisted entry_of pair_members values)
     ∙ among (λ b. place_in_pair b owner (map table ps)) (λ b. place_in_pair b owner (map table (map pair_again ps)))
-        pair_again (pair_kept owner ps all) 0 ps listed code
+    pair_again (pair_kept owner ps all) 0 ps listed code
 
 -- a module without a place, written again, has none
 module_kept : (v : Version) (ts : List Members) (n : ℕ) (t : Members)
@@ -140,9 +140,9 @@ module_kept : (v : Version) (ts : List Members) (n : ℕ) (t : Members)
 module_kept v ts n t none code =
     let at = tables.Module (n + 1) in
     let parts = λ (b : Code). none_parts (place_in_table b at (module_keys v) t)
-        (option_or (place_of_name b at (take n (map table ts)) t) (place_in_pairs v b (n + 1) (tables_at (codes "pair") t))) (none b) in
+    (option_or (place_of_name b at (take n (map table ts)) t) (place_in_pairs v b (n + 1) (tables_at (codes "pair") t))) (none b) in
     let more = λ (b : Code). none_parts (place_of_name b at (take n (map table ts)) t)
-        (place_in_pairs v b (n + 1) (tables_at (codes "pair") t)) (parts b).1 in
+    (place_in_pairs v b (n + 1) (tables_at (codes "pair") t)) (parts b).1 in
     let keys = λ (b : Code). no_key b at (module_keys v) t (parts b).0 in
     let name = module_text (codes "name") (get_member (codes "name") t) (name_row v co.Missing t (keys co.Missing)) (name_row v co.Range t (keys co.Range)) in
     let some = entry_count v t (keys co.Missing) (keys co.Range) in
@@ -153,10 +153,10 @@ module_kept v ts n t none code =
 pub modules_kept : (v : Version) (values : Option (List Data))
     → ((code : Code) → place_in_modules v code (tables_of values) ≡ None)
     → (code : Code) → place_in_modules Two code
-        (tables_of (values_of (array (items_of (map (λ m. table (module_members m)) (each_table (module_of v) (tables_of values))))))) ≡ None
+    (tables_of (values_of (array (items_of (map (λ m. table (module_members m)) (each_table (module_of v) (tables_of values))))))) ≡ None
 modules_kept v values none code =
     let ts = members_in (tables_of values) in
     let listed = λ (b : Code). subst (λ ds. place_in_modules v b ds ≡ None) (tables_of-members values) (none b) in
     ap (place_in_modules Two code) (relisted (module_of v) module_members values)
     ∙ among (λ b. place_in_module v b (map table ts)) (λ b. place_in_module Two b (map table (map (module_again_of v) ts)))
-        (module_again_of v) (module_kept v ts) 0 ts listed code
+    (module_again_of v) (module_kept v ts) 0 ts listed code

@@ -85,7 +85,7 @@ names_kept co.Range at h n ts t reads valid none = refl
 names_kept co.Twice at h n ts t reads valid none =
     let fresh = if_none (list_any (has_name_of t) (take n (map table ts))) _ none in
     let still = any_kept (has_name_of t) (has_name_of (h t)) h (λ s. true)
-        (λ s well differ. rw (reads s, reads t) (other_read s t valid differ)) n ts (all_true ts) fresh in
+    (λ s well differ. rw (reads s, reads t) (other_read s t valid differ)) n ts (all_true ts) fresh in
     rw still refl
 
 -- the name of a module that is read

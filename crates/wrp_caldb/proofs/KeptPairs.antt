@@ -68,13 +68,13 @@ pub delays_fit : (t : Members) (tx rx : ℕ)
 delays_fit t tx rx =
     let test = at_fault co.Range (pair_members (record { tx_nm = tx; rx_nm = rx; delays = delays_of t })) in
     find_none test tx_key (rx_key ∷ transition_key ∷ module_err_key ∷ [])
-      (number_fits (codes "tx") 1_000_000_000_000 (omega arith) (get_member (codes "tx") t))
+    (number_fits (codes "tx") 1_000_000_000_000 (omega arith) (get_member (codes "tx") t))
     (find_none test rx_key (transition_key ∷ module_err_key ∷ [])
-      (number_fits (codes "rx") 1_000_000_000_000 (omega arith) (get_member (codes "rx") t))
+    (number_fits (codes "rx") 1_000_000_000_000 (omega arith) (get_member (codes "rx") t))
     (find_none test transition_key (module_err_key ∷ [])
-      (number_fits (codes "transition") 16383 (omega arith) (get_member (codes "transition") t))
+    (number_fits (codes "transition") 16383 (omega arith) (get_member (codes "transition") t))
     (find_none test module_err_key []
-      (number_fits (codes "err") 1_000_000_000 (omega arith) (get_member (codes "err") t)) refl)))
+    (number_fits (codes "err") 1_000_000_000 (omega arith) (get_member (codes "err") t)) refl)))
 
 fits_two : (a b : Option ℤ) → is_wavelength b ≡ true → fits_first a b ≡ true → not (is_wavelength b && fits_first a b) ≡ false
 fits_two a b is fits = rw (is, fits) refl
@@ -85,10 +85,10 @@ range_again p w =
     let first : is_wavelength (first_wavelength p) ≡ true = rw w.first.is w.first.passes in
     let second : is_wavelength (integer_in (codes "rx_nm") p) ≡ true = rw w.second.is w.second.passes in
     find_none (at_fault co.Range again) tx_nm_key (after_first again)
-      (ap (λ x. not (is_wavelength x)) (first_again p w.first) ∙ ap not first)
+    (ap (λ x. not (is_wavelength x)) (first_again p w.first) ∙ ap not first)
     (find_none (at_fault co.Range again) (rx_nm_key (first_wavelength again)) delay_keys
-      (ap₂ (λ a b. not (is_wavelength b && fits_first a b)) (first_again p w.first) (second_again p w.second)
-        ∙ fits_two (first_wavelength p) (integer_in (codes "rx_nm") p) second w.fits)
+    (ap₂ (λ a b. not (is_wavelength b && fits_first a b)) (first_again p w.first) (second_again p w.second)
+    ∙ fits_two (first_wavelength p) (integer_in (codes "rx_nm") p) second w.fits)
     (delays_fit p (natural_at tx_nm_key p) (natural_at (rx_nm_key None) p)))
 
 -- the rows of a pair that is written again
@@ -114,7 +114,7 @@ wavelengths_again p s w all =
     let s1 = first_again s (wave_in (get_member (codes "tx_nm") s) ws.0) in
     let s2 = second_again s (wave_in (get_member (codes "rx_nm") s) ws.1) in
     ap₂ (λ (a b : Bool). a && b)
-      (ap₂ are_same_numbers s1 (first_again p w.first)) (ap₂ are_same_numbers s2 (second_again p w.second))
+    (ap₂ are_same_numbers s1 (first_again p w.first)) (ap₂ are_same_numbers s2 (second_again p w.second))
 
 pairs_kept : (code : Code) (at : At) (n : ℕ) (ps : List Members) (p : Members) → HasWaves p → list_all has_waves ps ≡ true
     → place_of_pair code at (take n (map table ps)) p ≡ None
@@ -125,7 +125,7 @@ pairs_kept co.Range at n ps p w all none = refl
 pairs_kept co.Twice at n ps p w all none =
     let fresh = if_none (list_any (has_wavelengths_of p) (take n (map table ps))) _ none in
     let still = any_kept (has_wavelengths_of p) (has_wavelengths_of (pair_again p)) pair_again has_waves
-        (λ s well differ. wavelengths_again p s w well ∙ differ) n ps all fresh in
+    (λ s well differ. wavelengths_again p s w well ∙ differ) n ps all fresh in
     rw still refl
 
 -- the wavelengths of a pair without a place
@@ -133,7 +133,7 @@ pub waves_in : (owner : ℕ) (pairs : List Data) (n : ℕ) (p : Members) → ((c
 waves_in owner pairs n p none =
     let at = tables.Pair owner (n + 1) in
     let rows = λ (code : Code). no_key code at (pair_keys p) p
-        (none_parts (place_in_table code at (pair_keys p) p) (place_of_pair code at (take n pairs) p) (none code)).0 in
+    (none_parts (place_in_table code at (pair_keys p) p) (place_of_pair code at (take n pairs) p) (none code)).0 in
     waves_of p (rows co.Missing) (rows co.Range)
 
 pub has_waves_in : (p : Members) → HasWaves p → has_waves p ≡ true

@@ -58,9 +58,9 @@ accepted_again others doc accepted code =
     let fibres = tables_at (codes "fibre") doc in
     let lists = λ (b : Code). (none_parts (place_in_top others b doc) (place_in_lists b doc) (accepted b)).1 in
     let behind = λ (b : Code). (none_parts (place_of_keys b tables.Top (module_key ∷ []) doc)
-        (option_or (place_in_modules v b modules) (option_or (place_of_keys b tables.Top (fibre_key ∷ []) doc) (place_in_fibres b fibres))) (lists b)).1 in
+    (option_or (place_in_modules v b modules) (option_or (place_of_keys b tables.Top (fibre_key ∷ []) doc) (place_in_fibres b fibres))) (lists b)).1 in
     let parts = λ (b : Code). none_parts (place_in_modules v b modules)
-        (option_or (place_of_keys b tables.Top (fibre_key ∷ []) doc) (place_in_fibres b fibres)) (behind b) in
+    (option_or (place_of_keys b tables.Top (fibre_key ∷ []) doc) (place_in_fibres b fibres)) (behind b) in
     let last = λ (b : Code). (none_parts (place_of_keys b tables.Top (fibre_key ∷ []) doc) (place_in_fibres b fibres) (parts b).1).1 in
     let kept_modules = modules_kept v (option_and_then values_of (get_member (codes "module") doc)) (λ b. (parts b).0) code in
     let kept_fibres = fibres_kept (option_and_then values_of (get_member (codes "fibre") doc)) last code in
@@ -77,7 +77,7 @@ pub same_again : (db : Database) (octets : List ℕ) → IsListed db → IsTextO
 same_again db octets listed text (Ok back) reading =
     let same_doc : reading.0 ≡ document_of db = cc (reading.1.1, text.1) in
     let written : database_of (document_of db) ≡ db =
-        ap (λ d. database_of (document_of d)) listed.3 ∙ database_again listed.1 ∙ sym listed.3 in
+    ap (λ d. database_of (document_of d)) listed.3 ∙ database_again listed.1 ∙ sym listed.3 in
     reading.3 ∙ ap database_of same_doc ∙ written
 same_again db octets listed text (Err (Memory e)) reading = tt
 same_again db octets listed text (Err (Fault number place)) (inl none) = no_text octets (document_of db) text none.0

@@ -270,6 +270,6 @@ database_again doc =
     let fibres = tables_at (codes "fibre") doc in
     ap₂ listed
     (ap (each_table (module_of Two)) (tables_of-array module_members (each_table (module_of (version_of doc)) modules))
-      ∙ each_again (module_of (version_of doc)) module_members (module_of Two) (module_again (version_of doc)) modules)
+    ∙ each_again (module_of (version_of doc)) module_members (module_of Two) (module_again (version_of doc)) modules)
     (ap (each_table fibre_of) (tables_of-array fibre_members (each_table fibre_of fibres))
-      ∙ each_again fibre_of fibre_members fibre_of fibre_again fibres)
+    ∙ each_again fibre_of fibre_members fibre_of fibre_again fibres)

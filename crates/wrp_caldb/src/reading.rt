@@ -212,8 +212,8 @@ fn database_of(alloc: Global, others: Others, doc: &Table) -> Result<CalDb, Allo
     Ok(CalDb { modules, fibres })
 }
 
-// The fault of a code at a place.
-fn fault_at(alloc: Global, code: Code, place: &Place) -> ConfFault
+/// The fault of a code at a place, or want of memory for the place's text.
+pub fn fault_at(alloc: Global, code: Code, place: &Place) -> ConfFault
     ensures { IsFaultAt code place.now result }
 {
     match place.text(alloc) {
@@ -238,8 +238,8 @@ fn answer_of(alloc: Global, others: Others, doc: &Table) -> Result<CalDb, ConfFa
     }
 }
 
-// The fault of octets that are no text: 1 Syntax, at `-`.
-fn syntax() -> ConfFault
+/// The fault of octets that are no text: 1 Syntax, at `-`.
+pub fn syntax() -> ConfFault
     ensures { IsSyntax result }
 {
     let mut place = ArrayString::new();

@@ -9,7 +9,7 @@ use crate::row::Code;
 use crate::value::value_at;
 use toml::{Table, Value};
 
-// The text at `name`.
+/// The text at `name`.
 pub fn name_in<'a>(table: &'a Table) -> Option<&'a str>
     ensures { option_copied result ≡ name_in (table_view table.now) }
 {
@@ -54,7 +54,8 @@ fn has_name_before(values: &[Value], count: usize, table: &Table) -> bool
     any_has_name_of(table, &values[..count])
 }
 
-// The key `name`, where one of the first values is a table with the same name.
+/// The key `name`, where the code is `Twice` and one of the first values is a table with the same
+/// name.
 pub fn place_of_name(
     code: Code,
     at: At,

@@ -46,42 +46,56 @@ const LISTED: [(&str, u16, u16, Option<(u64, u64, u16, u64)>); 9] = [
 ];
 
 #[test]
-fn listed(rt: HostRuntime) -> Result<(), Fail> {
-    let old = CalDb::read(rt.alloc(), VERSION_1.as_bytes())
+fn version_1(rt: HostRuntime) -> Result<(), Fail> {
+    let doc = toml::table_from_str(rt.alloc(), VERSION_1)
         .ok()
-        .ok_or("version 1")?;
-    assert_eq!(rt;
-        old.module_at("blue", 1310, 1490),
-        Some(delays((14_745_600_000, 14_745_600_001, 5, 1_310_720)))
-    );
-    let database = CalDb::read(rt.alloc(), VERSION_2.as_bytes())
+        .ok_or("a table")?;
+    let database = CalDb::from_table(rt.alloc(), &doc).ok().ok_or("version 1")?;
+    let blue = delays((14_745_600_000, 14_745_600_001, 5, 1_310_720));
+    assert_eq!(rt; database.module_at("blue", 1310, 1490), Some(blue));
+    assert_eq!(rt; database.module("blue"), Some(blue));
+    assert!(rt; CalDb::read(rt.alloc(), VERSION_1.as_bytes()).is_err());
+    let empty = CalDb::read(rt.alloc(), b"").ok().ok_or("the empty text")?;
+    assert!(rt; empty.modules().is_empty() && empty.fibres().is_empty());
+    Ok(())
+}
+
+// The database of a text, and that of what it is written as.
+#[test]
+fn version_2(rt: HostRuntime) -> Result<(), Fail> {
+    let first = CalDb::read(rt.alloc(), VERSION_2.as_bytes())
         .ok()
         .ok_or("version 2")?;
-    for (name, tx_nm, rx_nm, found) in LISTED {
-        assert_eq!(rt;
-            database.module_at(name, tx_nm, rx_nm),
-            found.map(delays),
-            "{name} {tx_nm} {rx_nm}"
-        );
-    }
-    assert_eq!(rt; database.module("amber"), Some(delays((11, 12, 13, 14))));
-    assert_eq!(rt; database.fibre("smf"), Some(Fibre { kappa: -5, err: 6 }));
-    assert_eq!(rt; database.fibre("stored"), Some(Fibre { kappa: 0, err: 7 }));
-    assert_eq!(rt; database.fibre("blue"), None);
-    assert!(rt; database.table("smf").is_none());
-    match database.table("stored") {
-        Some((points, err)) => {
-            assert_eq!(rt; points, [(-2, -1), (8, 4)].as_slice());
-            assert_eq!(rt; err, 1);
+    let text = first.text(rt.alloc())?;
+    let again = CalDb::read(rt.alloc(), text.as_slice())
+        .ok()
+        .ok_or("what it is written as")?;
+    for database in [&first, &again] {
+        for (name, tx_nm, rx_nm, found) in LISTED {
+            assert_eq!(rt;
+                database.module_at(name, tx_nm, rx_nm),
+                found.map(delays),
+                "{name} {tx_nm} {rx_nm}"
+            );
         }
-        None => return Err("a table".into()),
-    }
-    let names = ["blue", "violet", "amber"];
-    for i in 0..3 {
-        assert_eq!(rt;
-            database.modules().get(i).map(|module| module.name()),
-            Some(names[i])
-        );
+        assert_eq!(rt; database.fibre("smf"), Some(Fibre { kappa: -5, err: 6 }));
+        assert_eq!(rt; database.fibre("stored"), Some(Fibre { kappa: 0, err: 7 }));
+        assert_eq!(rt; database.fibre("blue"), None);
+        assert!(rt; database.table("smf").is_none());
+        match database.table("stored") {
+            Some((points, err)) => {
+                assert_eq!(rt; points, [(-2, -1), (8, 4)].as_slice());
+                assert_eq!(rt; err, 1);
+            }
+            None => return Err("a table".into()),
+        }
+        let names = ["blue", "violet", "amber"];
+        for i in 0..3 {
+            assert_eq!(rt;
+                database.modules().get(i).map(|module| module.name()),
+                Some(names[i])
+            );
+        }
     }
     Ok(())
 }

@@ -37,7 +37,12 @@ fn pair_table(alloc: Global, entry: &Entry) -> Result<Table, AllocError>
     put(alloc, &mut pair, "err", number(entry.delays.err))?;
     put(alloc, &mut pair, "rx", number(entry.delays.rx))?;
     put(alloc, &mut pair, "rx_nm", number(u64::from(entry.rx_nm)))?;
-    put(alloc, &mut pair, "transition", number(u64::from(entry.delays.transition)))?;
+    put(
+        alloc,
+        &mut pair,
+        "transition",
+        number(u64::from(entry.delays.transition)),
+    )?;
     put(alloc, &mut pair, "tx", number(entry.delays.tx))?;
     put(alloc, &mut pair, "tx_nm", number(u64::from(entry.tx_nm)))?;
     Ok(pair)
@@ -60,8 +65,18 @@ fn module_table(alloc: Global, module: &ListedModule) -> Result<Table, AllocErro
     ensures { IfOk result (λ t. table_view t ≡ module_members «module».now) }
 {
     let mut members = Table::new(alloc);
-    put(alloc, &mut members, "name", Value::string(alloc, module.name())?)?;
-    put(alloc, &mut members, "pair", pairs_value(alloc, module.entries())?)?;
+    put(
+        alloc,
+        &mut members,
+        "name",
+        Value::string(alloc, module.name())?,
+    )?;
+    put(
+        alloc,
+        &mut members,
+        "pair",
+        pairs_value(alloc, module.entries())?,
+    )?;
     Ok(members)
 }
 
@@ -104,8 +119,18 @@ fn linear_table(alloc: Global, fibre: &ListedFibre) -> Result<Table, AllocError>
 {
     let mut members = Table::new(alloc);
     put(alloc, &mut members, "err", number(fibre.fibre().err))?;
-    put(alloc, &mut members, "kappa", Value::Integer(fibre.fibre().kappa))?;
-    put(alloc, &mut members, "name", Value::string(alloc, fibre.name())?)?;
+    put(
+        alloc,
+        &mut members,
+        "kappa",
+        Value::Integer(fibre.fibre().kappa),
+    )?;
+    put(
+        alloc,
+        &mut members,
+        "name",
+        Value::string(alloc, fibre.name())?,
+    )?;
     Ok(members)
 }
 
@@ -138,8 +163,18 @@ fn document_of(alloc: Global, database: &CalDb) -> Result<Table, AllocError>
     ensures { IfOk result (λ t. table_view t ≡ document_of database.now) }
 {
     let mut document = Table::new(alloc);
-    put(alloc, &mut document, "fibre", fibres_value(alloc, database.fibres())?)?;
-    put(alloc, &mut document, "module", modules_value(alloc, database.modules())?)?;
+    put(
+        alloc,
+        &mut document,
+        "fibre",
+        fibres_value(alloc, database.fibres())?,
+    )?;
+    put(
+        alloc,
+        &mut document,
+        "module",
+        modules_value(alloc, database.modules())?,
+    )?;
     put(alloc, &mut document, "version", number(2))?;
     Ok(document)
 }

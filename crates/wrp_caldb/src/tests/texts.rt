@@ -190,6 +190,7 @@ pub const FAULTS: [(&str, u8, &str); 50] = [
 ];
 
 pub const VERSION_1: &str = "
+reader = 'another'
 [[module]]
 name = 'blue'
 tx = 14745600000
