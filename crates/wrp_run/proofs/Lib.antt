@@ -1,6 +1,10 @@
 pub mod DropLaws
+pub mod Feeds
 pub mod LineLemmas
 pub mod OneAnswer
 pub mod Parts
 pub mod Pieces
 pub mod Progress
+pub mod Reaching
+pub mod ReaderLemmas
+pub mod WordLemmas

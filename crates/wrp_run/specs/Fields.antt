@@ -22,3 +22,8 @@ abbrev pub natural_up_to : ℕ → List ℕ → Option ℕ
 natural_up_to most [] = None
 natural_up_to most (octet ∷ octets) =
     if octet == 45 then digits_up_to 0 octets else digits_up_to most (octet ∷ octets)
+
+-- the seed that a text writes: 1 to 20 digits, whose number is at most the greatest u64
+abbrev pub seed_of : List ℕ → Option ℕ
+seed_of text =
+    if nat_le (length text) 20 then digits_up_to 18_446_744_073_709_551_615 text else None

@@ -1,6 +1,6 @@
 -- Lines of octets: each ends with LF, and the last may lack it; one CR before the LF belongs to the
 -- line's end (this project's profile).
-use Rattle.std.specs.Prelude.{ℕ, if◌then◌else◌, ◌==◌, List, [], ◌∷◌, reverse}
+use Rattle.std.specs.Prelude.{◌≡◌, false, ℕ, if◌then◌else◌, ◌==◌, List, [], ◌∷◌, ◌++◌, reverse}
 
 -- the octet that ends a line
 abbrev pub line_feed : ℕ
@@ -36,3 +36,14 @@ without_end (octet ∷ octets) = if octet == line_feed then without_return octet
 -- what a line says: the line without the LF that it ends with, and one CR before that
 abbrev pub content_of : List ℕ → List ℕ
 content_of line = reverse (without_end (reverse line))
+
+-- no octet is an LF
+abbrev pub HasNoFeed : List ℕ → Type 0
+HasNoFeed [] = Unit {0}
+HasNoFeed (octet ∷ octets) = ((octet == line_feed) ≡ false) × HasNoFeed octets
+
+-- a line with its LF
+pub record IsWhole (line : List ℕ) : Type 0 where
+  pub front : List ℕ
+  pub is : line ≡ front ++ line_feed ∷ []
+  pub plain : HasNoFeed front

@@ -3,13 +3,16 @@ ghost use Rattle.std.specs.Prelude.{◌≡◌, ◌<◌, ◌-◌, ◌^◌, min, I
 ghost use Rattle.std.specs.List.{list_all};
 ghost use Rattle.std.specs.Char.{is_ascii_digit};
 ghost use Rattle.wrp_base.specs.Lines.{parts_of};
-ghost use Rattle.wrp_run.specs.Fields.{natural_up_to, digits_up_to, is_number, value_of};
+ghost use Rattle.wrp_run.specs.Fields.{natural_up_to, digits_up_to, seed_of, is_number, value_of};
 ghost use Rattle.wrp_run.specs.Words.{texts_of};
 
 use std::alloc::{AllocError, Global};
 
 // The most digits that a number may have.
 const MOST_DIGITS: usize = 39;
+
+// The most digits that a seed may have.
+const SEED_DIGITS: usize = 20;
 
 /// The parts of a line between its commas.
 pub fn parts(alloc: Global, line: &[u8]) -> Result<Vec<&[u8]>, AllocError>
@@ -21,7 +24,6 @@ pub fn parts(alloc: Global, line: &[u8]) -> Result<Vec<&[u8]>, AllocError>
 /// The number that a text writes: an optional `-`, then 1 to 39 digits. None where it is no number,
 /// is below 0, or is above `most`.
 pub fn natural(text: &[u8], most: u64) -> Option<u64>
-    requires { most < 2 ^ 64 - 1 }
     ensures { result ≡ natural_up_to most text.now }
 {
     match text {
@@ -30,16 +32,31 @@ pub fn natural(text: &[u8], most: u64) -> Option<u64>
     }
 }
 
+/// The seed that a text writes: 1 to 20 digits. None where it is no number, or is above the greatest
+/// u64.
+pub fn seed(text: &[u8]) -> Option<u64>
+    ensures { result ≡ seed_of text.now }
+{
+    if text.len() <= SEED_DIGITS {
+        digits_to(text, u64::MAX)
+    } else {
+        None
+    }
+}
+
 // The number of 1 to 39 digits, where it is at most `most`.
 fn digits_to(digits: &[u8], most: u64) -> Option<u64>
-    requires { most < 2 ^ 64 - 1 }
     ensures { result ≡ digits_up_to most digits.now }
 {
     if !are_digits(digits) {
         return None;
     }
     let value = value(digits);
-    if value <= most { Some(value) } else { None }
+    if value <= u128::from(most) {
+        Some(value as u64)
+    } else {
+        None
+    }
 }
 
 // Whether octets are 1 to 39 digits.
@@ -56,15 +73,15 @@ fn all_digits(digits: &[u8]) -> bool
     digits.iter().all(|digit| digit.is_ascii_digit())
 }
 
-// The value of some digits, held at the greatest u64.
-fn value(digits: &[u8]) -> u64
-    ensures { result ≡ min (value_of digits.now) (2 ^ 64 - 1) }
+// The value of some digits, held at the greatest u128.
+fn value(digits: &[u8]) -> u128
+    ensures { result ≡ min (value_of digits.now) (2 ^ 128 - 1) }
 {
-    let mut value = 0u64;
+    let mut value = 0u128;
     for digit in digits {
         value = value
             .saturating_mul(10)
-            .saturating_add(u64::from(digit.saturating_sub(b'0')));
+            .saturating_add(u128::from(digit.saturating_sub(b'0')));
     }
     value
 }

@@ -4,12 +4,17 @@
 #![tactic(auto)]
 
 mod command;
+mod command_line;
+mod engine;
+mod feed;
 mod fields;
 mod frames;
 mod laws;
 mod line;
+mod machine;
 mod network;
 mod nodes;
+mod reader;
 mod reading;
 mod records;
 mod replay;

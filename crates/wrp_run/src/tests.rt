@@ -2,6 +2,7 @@
 mod frames;
 mod rows;
 mod runs;
+mod streams;
 
 use crate::network::TWO_NODES;
 use crate::{Status, run};

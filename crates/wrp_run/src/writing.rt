@@ -14,6 +14,7 @@ pub fn write_all<K: Sink>(sink: &mut K, text: &[u8]) -> bool
     ensures whole { result ≡ true → Appends (K.held sink.old) (K.held sink.new) text.now }
     ensures cut { result ≡ false → AppendsPart (K.held sink.old) (K.held sink.new) text.now }
     ensures rose { result ≡ false → Rose (K.faults sink.old) (K.faults sink.new) }
+    ensures kept { result ≡ true → K.faults sink.new ≡ K.faults sink.old }
 {
     let mut at = 0;
     while at < text.len() {

@@ -8,5 +8,5 @@ loop-at-preserved g c =
     record {
       within = search rules;
       written = written_on _ _ _ _ _ _ _ c.in-Ok.ensures.bound c.loop-at.invariant.written c.in-Ok.ensures.octets;
-      later = search rules;
+      kept = search rules;
     }

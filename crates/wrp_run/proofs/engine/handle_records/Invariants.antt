@@ -1,0 +1,19 @@
+use Rattle.std.proofs.Common.{◌≡◌, ◌-◌, ◌^◌, ◌≤◌, true}
+use Rattle.std.specs.Io.KnownBytes.{IsAtEnd}
+use Rattle.wrp_run.proofs.Reaching.{Reached}
+use Rattle.wrp_run.proofs.engine.handle_records.Given as goal
+
+abbrev pub invariant-records : goal.invariant-records
+invariant-records g l =
+    record {
+      reached : Reached (g.M.Machine.accepts (g.M.Machine.setting l.fn.machine)) (g.M.Machine.has_taken l.machine) l.fn.reader.rest l.reader
+          (g.S.Source.left l.fn.source) (g.S.Source.left l.source) (g.K.Sink.held l.fn.sink) (g.K.Sink.held l.sink) l.waiting.items l.number;
+      setting : g.M.Machine.setting l.machine ≡ g.M.Machine.setting l.fn.machine;
+      count : g.M.Machine.count l.machine ≤ l.number;
+      at_end : l.reader.ended ≡ true → IsAtEnd (g.S.Source.left l.source);
+      source : g.S.Source.faults l.source ≡ g.S.Source.faults l.fn.source;
+      sink : g.K.Sink.faults l.sink ≡ g.K.Sink.faults l.fn.sink;
+    }
+
+abbrev pub decreases-records : goal.decreases-records
+decreases-records g l = 2 ^ 32 - l.number

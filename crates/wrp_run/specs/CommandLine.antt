@@ -1,0 +1,51 @@
+-- The command line: which words are a command (this project's profile).
+use Rattle.std.specs.Prelude.{◌≡◌, ℕ, Some, Option, MatchOption, List, [], ◌∷◌, ◌++◌, codes}
+use Rattle.std.specs.Borrow.{Bor}
+use Rattle.wrp_run.specs.declared.command_line.Command.{Command}
+use Rattle.wrp_run.specs.declared.command_line.Command.TheVariants.{Audit, Emit, Replay, Simulate, Loop}
+use Rattle.wrp_run.specs.Fields.{seed_of}
+
+-- the text begins with a minus sign
+abbrev pub IsDashed : List ℕ → Type 0
+IsDashed text = (rest : List ℕ) × (text ≡ 45 ∷ rest)
+
+-- the words are the option with this value: behind `=`, or as the next word, which has no minus sign
+-- in front
+abbrev pub HasOption : List ℕ → List (List ℕ) → List ℕ → Type 0
+HasOption option (word ∷ []) value = word ≡ option ++ codes "=" ++ value
+HasOption option (given ∷ next ∷ []) value =
+    (given ≡ option) × (next ≡ value) × (IsDashed value → ⊥)
+HasOption option _ value = ⊥
+
+-- the words are a command with one option of this value
+abbrev pub IsCommandWith : List ℕ → List ℕ → List (List ℕ) → List ℕ → Type 0
+IsCommandWith command option (first ∷ rest) value = (first ≡ command) × HasOption option rest value
+IsCommandWith command option [] value = ⊥
+
+-- the words are a command with a seed
+abbrev pub IsSeeded : List ℕ → List (List ℕ) → ℕ → Type 0
+IsSeeded command words seed =
+    (text : List ℕ) × IsCommandWith command (codes "--seed") words text
+    × (seed_of text ≡ Some seed)
+
+-- the words are this command
+abbrev pub IsWords : List (List ℕ) → Command → Type 0
+IsWords words Audit = words ≡ codes "audit" ∷ []
+IsWords words (Emit name) = IsCommandWith (codes "audit") (codes "--emit") words name.now
+IsWords words (Replay name) = IsCommandWith (codes "replay") (codes "--node") words name.now
+IsWords words (Simulate seed) = IsSeeded (codes "simulate") words seed
+IsWords words (Loop seed) = IsSeeded (codes "loop") words seed
+
+-- the value that the words give an option, or none
+abbrev pub GivesOption : List ℕ → List (List ℕ) → Option (Bor (List ℕ)) → Type 0
+GivesOption option words found =
+    MatchOption found
+    ((value : List ℕ) → HasOption option words value → ⊥)
+    (λ value. HasOption option words value.now)
+
+-- the value that the words give a command's option, or none
+abbrev pub GivesValue : List ℕ → List ℕ → List (List ℕ) → Option (Bor (List ℕ)) → Type 0
+GivesValue command option words found =
+    MatchOption found
+    ((value : List ℕ) → IsCommandWith command option words value → ⊥)
+    (λ value. IsCommandWith command option words value.now)

@@ -1,0 +1,149 @@
+//! The command line: the command that the words are.
+ghost use Rattle.std.specs.Prelude.{◌≡◌, ◌↔◌, ◌++◌, ◌∷◌, [], ℕ, List, codes, IsTrue, MatchOption};
+ghost use Rattle.wrp_run.specs.declared.command_line.Command.{Command};
+ghost use Rattle.wrp_run.specs.CommandLine.{IsDashed, IsSeeded, IsWords, GivesOption, GivesValue};
+ghost use Rattle.wrp_run.specs.Words.{texts_of};
+
+use crate::fields;
+
+/// A command of the command line.
+#[derive(Clone, Copy, Debug, PartialEq, Eq)]
+pub enum Command<'a> {
+    /// `audit`.
+    Audit,
+    /// `audit --emit NODE`.
+    Emit(&'a str),
+    /// `replay --node NODE`.
+    Replay(&'a str),
+    /// `simulate --seed N`.
+    Simulate(u64),
+    /// `loop --seed N`.
+    Loop(u64),
+}
+
+// Whether a text begins with a minus sign.
+fn is_dashed(text: &str) -> bool
+    ensures { IsTrue result ↔ IsDashed text.now }
+{
+    match text.as_bytes() {
+        [b'-', ..] => true,
+        _ => false,
+    }
+}
+
+// What follows a prefix of a word.
+fn behind<'a>(word: &'a str, prefix: &str) -> Option<&'a str>
+    ensures { MatchOption result
+        ((rest : List ℕ) → word.now ≡ prefix.now ++ rest → ⊥)
+        (λ rest. word.now ≡ prefix.now ++ rest.now) }
+{
+    word.strip_prefix(prefix)
+}
+
+// The value behind `=` in one word.
+fn of_one<'a>(option: &str, joined: &str, word: &'a str) -> Option<&'a str>
+    requires { joined.now ≡ option.now ++ codes "=" }
+    ensures { GivesOption option.now (word.now ∷ []) result }
+{
+    let _option = option;
+    behind(word, joined)
+}
+
+// The value that is the second of two words.
+fn of_two<'a>(option: &str, given: &str, value: &'a str) -> Option<&'a str>
+    ensures { GivesOption option.now (given.now ∷ value.now ∷ []) result }
+{
+    if given != option {
+        return None;
+    }
+    if is_dashed(value) {
+        return None;
+    }
+    Some(value)
+}
+
+// The value of an option that the words are.
+fn option_value<'a>(option: &str, joined: &str, words: &[&'a str]) -> Option<&'a str>
+    requires { joined.now ≡ option.now ++ codes "=" }
+    ensures { GivesOption option.now (texts_of words.now) result }
+{
+    match words {
+        [one] => of_one(option, joined, one),
+        [given, value] => of_two(option, given, value),
+        _ => None,
+    }
+}
+
+// The value of a command's only option, of a first word and the others.
+fn of_rest<'a>(
+    command: &str,
+    option: &str,
+    joined: &str,
+    first: &str,
+    rest: &[&'a str],
+) -> Option<&'a str>
+    requires { joined.now ≡ option.now ++ codes "=" }
+    ensures { GivesValue command.now option.now (first.now ∷ texts_of rest.now) result }
+{
+    if first != command {
+        return None;
+    }
+    option_value(option, joined, rest)
+}
+
+// The value of a command's only option.
+fn command_with<'a>(command: &str, option: &str, joined: &str, words: &[&'a str]) -> Option<&'a str>
+    requires { joined.now ≡ option.now ++ codes "=" }
+    ensures { GivesValue command.now option.now (texts_of words.now) result }
+{
+    match words.split_first() {
+        Some((first, rest)) => of_rest(command, option, joined, first, rest),
+        None => None,
+    }
+}
+
+// The seed of a command.
+fn seeded(command: &str, words: &[&str]) -> Option<u64>
+    ensures { MatchOption result
+        ((seed : ℕ) → IsSeeded command.now (texts_of words.now) seed → ⊥)
+        (IsSeeded command.now (texts_of words.now)) }
+{
+    match command_with(command, "--seed", "--seed=", words) {
+        Some(text) => fields::seed(text.as_bytes()),
+        None => None,
+    }
+}
+
+// Whether the words are `audit` alone.
+fn is_audit(words: &[&str]) -> bool
+    ensures { IsTrue result ↔ (texts_of words.now ≡ codes "audit" ∷ []) }
+{
+    match words {
+        ["audit"] => true,
+        _ => false,
+    }
+}
+
+/// The command that the words are, or None where they are none.
+pub fn command_of<'a>(words: &[&'a str]) -> Option<Command<'a>>
+    ensures { MatchOption result
+        ((command : Command) → IsWords (texts_of words.now) command → ⊥)
+        (IsWords (texts_of words.now)) }
+{
+    if is_audit(words) {
+        return Some(Command::Audit);
+    }
+    if let Some(name) = command_with("audit", "--emit", "--emit=", words) {
+        return Some(Command::Emit(name));
+    }
+    if let Some(name) = command_with("replay", "--node", "--node=", words) {
+        return Some(Command::Replay(name));
+    }
+    if let Some(seed) = seeded("simulate", words) {
+        return Some(Command::Simulate(seed));
+    }
+    if let Some(seed) = seeded("loop", words) {
+        return Some(Command::Loop(seed));
+    }
+    None
+}
