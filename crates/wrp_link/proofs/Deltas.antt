@@ -121,7 +121,7 @@ stand_over l (input ∷ since) before tx rx o e out =
     out.0
 
 -- the delays that stand after inputs were told among them
-stand_told :
+pub stand_told :
     (l : LinkAt) (inputs : List LinkIn) (tx rx : ℕ) →
     IsOrdered l → l.deltas ≡ None → (run_of l inputs).deltas ≡ Some (tx, rx) → Told l inputs tx rx
 stand_told l [] tx rx o none e = absurd (none_is_not_some (sym none ∙ e))

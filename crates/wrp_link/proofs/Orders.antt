@@ -74,7 +74,7 @@ pub stands_ordered : (l : LinkAt) (inputs : List LinkIn) → StandsFor l inputs 
 stands_ordered l inputs stood =
     subst IsOrdered (sym stood) (run_ordered (new_link l.role l.set) inputs (new_ordered l.role l.set))
 
-run_role : (l : LinkAt) (inputs : List LinkIn) → (run_of l inputs).role ≡ l.role
+pub run_role : (l : LinkAt) (inputs : List LinkIn) → (run_of l inputs).role ≡ l.role
 run_role l [] = refl
 run_role l (input ∷ before) = by_row_role (run_of l before) (row_of (run_of l before) input) ∙ run_role l before
 
