@@ -1,0 +1,6 @@
+-- What was told last.
+use Rattle.wrp_servo.proofs.ToldLaws.{last_told}
+use Rattle.wrp_servo.proofs.laws.told_last.Goals as goal
+
+pub returns : goal.returns
+returns c = last_told

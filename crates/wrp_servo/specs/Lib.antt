@@ -1,0 +1,15 @@
+pub mod Following
+pub mod Table
+pub mod Sampling
+pub mod Measuring
+pub mod Sizes
+pub mod Call
+pub mod Since
+pub mod Servo
+pub mod Chain
+pub mod Told
+pub mod Tracking
+pub mod Laws
+pub mod Holdover
+pub mod Valid
+pub mod Tags

@@ -1,0 +1,65 @@
+//! Laws over all lists of calls. Each function here computes nothing: its contract is the law.
+ghost use Rattle.wrp_servo.specs.Laws.{TrackSince, ChainSince, LeaseSince, TrackHasChain, TrackIsNear, ChainIsHeld, ChainHasSignals, ChainKeepsGap, PhaseMovesByTags, NoStepInTrack};
+ghost use Rattle.wrp_servo.specs.Holdover.{HoldoverSince};
+ghost use Rattle.wrp_servo.specs.Tags.{PhaseIsSum};
+ghost use Rattle.wrp_servo.specs.Told.{ToldLast};
+
+/// TRACK stands exactly where a call entered it and none after that left it.
+pub fn track_since()
+    ensures { TrackSince }
+{}
+
+/// A chain stands exactly where a call started it and none after that ended it.
+pub fn chain_since()
+    ensures { ChainSince }
+{}
+
+/// The lease is fresh exactly where a call told so, and none after that told its lapse or was a reset.
+pub fn lease_since()
+    ensures { LeaseSince }
+{}
+
+/// HOLDOVER stands exactly where a call other than a reset left TRACK, and since then there were no
+/// reset and fewer than `holdover` ticks.
+pub fn holdover_since()
+    ensures { HoldoverSince }
+{}
+
+/// In TRACK a chain and a four stand, and the loop's error and the residual are within their limits.
+pub fn track_is_near()
+    ensures chain { TrackHasChain }
+    ensures near { TrackIsNear }
+{}
+
+/// With a chain the state is not HOLDOVER, and the lock detector is locked, or the loop restarted since
+/// its last good sample.
+pub fn chain_is_held()
+    ensures { ChainIsHeld }
+{}
+
+/// With a chain there are a carrier, a link that is on and a fresh lease, as they were told last.
+pub fn chain_has_signals()
+    ensures { ChainHasSignals }
+{}
+
+/// With a chain at most `gap` ticks passed since the last good sample.
+pub fn chain_keeps_gap()
+    ensures { ChainKeepsGap }
+{}
+
+/// u is the sum of the wrapped differences of the good tags since the loop's last restart, and changes
+/// by the next good tag alone.
+pub fn phase_is_sum()
+    ensures sum { PhaseIsSum }
+    ensures moves { PhaseMovesByTags }
+{}
+
+/// No step is commanded in TRACK or HOLDOVER.
+pub fn no_step_in_track()
+    ensures { NoStepInTrack }
+{}
+
+/// Carrier, link, lease and ticks are what the list of calls told last.
+pub fn told_last()
+    ensures { ToldLast }
+{}
