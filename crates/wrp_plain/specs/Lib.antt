@@ -1,0 +1,5 @@
+pub mod Measurement
+pub mod Call
+pub mod Report
+pub mod Out
+pub mod StandsFor
