@@ -75,7 +75,7 @@ starts x v _ = false
 abbrev pub ends_chain : Settings → Core → Call → Bool
 ends_chain x v call = ends x v call || (is_track v.state && strays_at x v call)
 
--- D15 over a list of calls: what starts a chain, what ends it, what enters TRACK and what leaves it
+-- over a list of calls: what starts a chain, what ends it, what enters TRACK and what leaves it
 abbrev pub chain_starts : Settings → List Call → Call → Bool
 chain_starts x calls call = not (is_some (run x calls).first) && starts x (run x calls) call
 
