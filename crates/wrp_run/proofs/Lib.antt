@@ -1,6 +1,7 @@
 pub mod DropLaws
 pub mod Feeds
 pub mod LineLemmas
+pub mod Networking
 pub mod OneAnswer
 pub mod Parts
 pub mod Pieces

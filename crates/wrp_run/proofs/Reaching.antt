@@ -65,7 +65,7 @@ pub large_whole : (line : List ℕ) (r : ReaderAt) (number : ℕ) → IsNext lin
 large_whole line r number next large = (inl next, next_some line r next, large)
 
 -- the lines so far are handled, what they write is written or waits, and the reader holds what follows
-pub record Reached (A : Accepting) (T : List (List ℕ) → Type 0) (start : List ℕ) (r : ReaderAt) (left rest held now : Option (List ℕ)) (waiting : List ℕ) (number : ℕ) : Type 0 where
+pub record Reached (H : Accepting) (T : List (List ℕ) → Type 0) (start : List ℕ) (r : ReaderAt) (left rest held now : Option (List ℕ)) (waiting : List ℕ) (number : ℕ) : Type 0 where
   pub given : List ℕ
   pub lines : List (List ℕ)
   pub text : List ℕ
@@ -75,12 +75,12 @@ pub record Reached (A : Accepting) (T : List (List ℕ) → Type 0) (start : Lis
   pub waits : text ≡ out ++ waiting
   pub all : start ++ given ≡ concat lines ++ r.rest
   pub first : AllByRecursion IsWhole lines ⊎ ((r.ended ≡ true) × (r.rest ≡ []) × (lines_of (start ++ given) ≡ lines))
-  pub handled : Handles A lines text
+  pub handled : H lines text
   pub has : T (map content_of lines)
   pub count : number ≡ length lines
 
 -- the same, and something was taken behind them
-pub record Coming (A : Accepting) (T : List (List ℕ) → Type 0) (start line : List ℕ) (r : ReaderAt) (left rest held now : Option (List ℕ)) (waiting : List ℕ) (number : ℕ) : Type 0 where
+pub record Coming (H : Accepting) (T : List (List ℕ) → Type 0) (start line : List ℕ) (r : ReaderAt) (left rest held now : Option (List ℕ)) (waiting : List ℕ) (number : ℕ) : Type 0 where
   pub given : List ℕ
   pub lines : List (List ℕ)
   pub text : List ℕ
@@ -90,13 +90,13 @@ pub record Coming (A : Accepting) (T : List (List ℕ) → Type 0) (start line :
   pub waits : text ≡ out ++ waiting
   pub all : start ++ given ≡ concat lines ++ (line ++ r.rest)
   pub first : AllByRecursion IsWhole lines ⊎ ((r.ended ≡ true) × (line ++ r.rest ≡ []) × (lines_of (start ++ given) ≡ lines))
-  pub handled : Handles A lines text
+  pub handled : H lines text
   pub has : T (map content_of lines)
   pub count : number ≡ length lines
 
 -- before the first line
 pub begins : (A : Accepting) (T : List (List ℕ) → Type 0) (r : ReaderAt) (left held : Option (List ℕ)) (waiting : List ℕ) → A [] [] → T []
-    → Consumes left left [] → Appends held held [] → waiting ≡ [] → Reached A T r.rest r left left held held waiting 0
+    → Consumes left left [] → Appends held held [] → waiting ≡ [] → Reached (Handles A) T r.rest r left left held held waiting 0
 begins A T r left held waiting accepted has taken written none = record {
   given = [];
   lines = [];
@@ -176,7 +176,7 @@ all_written A T start line r left rest held now waiting number so_far none =
 
 -- at the end
 pub ends : (A : Accepting) (R : Refusing) (T : List (List ℕ) → Type 0) (start line : List ℕ) (r : ReaderAt) (left rest held now : Option (List ℕ)) (waiting : List ℕ) (number : ℕ)
-    → Coming A T start line r left rest held now waiting number → waiting ≡ [] → IsLast r → line ≡ [] → Handling A R T start r left rest held now Done
+    → Coming (Handles A) T start line r left rest held now waiting number → waiting ≡ [] → IsLast r → line ≡ [] → Handling A R T start r left rest held now Done
 ends A R T start line r left rest held now waiting number so_far written last none =
     let nothing : line ++ r.rest ≡ [] = ap (λ l. l ++ r.rest) none ∙ last.none in
     let are : lines_of (start ++ so_far.given) ≡ so_far.lines =
@@ -188,14 +188,14 @@ ends A R T start line r left rest held now waiting number so_far written last no
       given = so_far.given;
       text = so_far.text;
       taken = so_far.taken;
-      written = all_written A T start line r left rest held now waiting number so_far written;
+      written = all_written (Handles A) T start line r left rest held now waiting number so_far written;
       stands = (last, subst (λ (ls : List (List ℕ)). Handles A ls so_far.text) (sym are) so_far.handled);
       done = λ _. subst (λ (ls : List (List ℕ)). T (map content_of ls)) (sym are) so_far.has;
     }
 
 -- where the source failed
 pub fails : (A : Accepting) (R : Refusing) (T : List (List ℕ) → Type 0) (start line : List ℕ) (r : ReaderAt) (left rest held now : Option (List ℕ)) (waiting : List ℕ) (number : ℕ)
-    → Coming A T start line r left rest held now waiting number → waiting ≡ [] → IsCutWithin line r number → Handling A R T start r left rest held now ReadFault
+    → Coming (Handles A) T start line r left rest held now waiting number → waiting ≡ [] → IsCutWithin line r number → Handling A R T start r left rest held now ReadFault
 fails A R T start line r left rest held now waiting number so_far written cut =
     let count : number ≡ length so_far.lines = so_far.count in
     let whole : AllByRecursion IsWhole so_far.lines = elim so_far.first [ inl whole ↦ whole | inr last ↦ let never = sym last.0 ∙ cut.3 in cc ] in
@@ -203,7 +203,7 @@ fails A R T start line r left rest held now waiting number so_far written cut =
       given = so_far.given;
       text = so_far.text;
       taken = so_far.taken;
-      written = all_written A T start line r left rest held now waiting number so_far written;
+      written = all_written (Handles A) T start line r left rest held now waiting number so_far written;
       stands = record {
         lines = so_far.lines;
         cut = line;
@@ -292,7 +292,7 @@ finishes A R U start r left rest held now then_ given out waiting text status re
 
 -- some first lines
 first_of : (A : Accepting) (T : List (List ℕ) → Type 0) (start line : List ℕ) (r : ReaderAt) (left rest held now : Option (List ℕ)) (waiting : List ℕ) (number : ℕ)
-    → (so_far : Coming A T start line r left rest held now waiting number) → FirstHandled A (start ++ so_far.given) r so_far.text
+    → (so_far : Coming (Handles A) T start line r left rest held now waiting number) → FirstHandled A (start ++ so_far.given) r so_far.text
 first_of A T start line r left rest held now waiting number so_far = record {
   lines = so_far.lines;
   more = line ++ r.rest;
@@ -303,25 +303,25 @@ first_of A T start line r left rest held now waiting number so_far = record {
 
 -- where the sink failed before the source was asked
 pub unwritten : (A : Accepting) (R : Refusing) (T U : List (List ℕ) → Type 0) (start line : List ℕ) (r : ReaderAt) (left rest held now then_ : Option (List ℕ)) (waiting : List ℕ) (number : ℕ)
-    → Coming A T start line r left rest held now waiting number → AppendsPart now then_ waiting → Handling A R U start r left rest held then_ WriteFault
+    → Coming (Handles A) T start line r left rest held now waiting number → AppendsPart now then_ waiting → Handling A R U start r left rest held then_ WriteFault
 unwritten A R T U start line r left rest held now then_ waiting number so_far cut =
     unwritten_of A R U start r left rest held now then_ so_far.given so_far.out waiting so_far.text OutOfMemory so_far.taken so_far.written so_far.waits
     (first_of A T start line r left rest held now waiting number so_far) cut
 
 -- without memory
 pub no_memory : (A : Accepting) (R : Refusing) (T U : List (List ℕ) → Type 0) (start line : List ℕ) (r : ReaderAt) (left rest held now then_ : Option (List ℕ)) (waiting was : List ℕ) (number : ℕ) (result : Status)
-    → Coming A T start line r left rest held now was number → waiting ≡ was → Finishes OutOfMemory result now then_ waiting → Handling A R U start r left rest held then_ result
+    → Coming (Handles A) T start line r left rest held now was number → waiting ≡ was → Finishes OutOfMemory result now then_ waiting → Handling A R U start r left rest held then_ result
 no_memory A R T U start line r left rest held now then_ waiting was number result so_far same how =
     finishes A R U start r left rest held now then_ so_far.given so_far.out waiting so_far.text OutOfMemory result so_far.taken so_far.written
     (so_far.waits ∙ ap (λ l. so_far.out ++ l) (sym same)) (first_of A T start line r left rest held now was number so_far) how
 
 -- one more part waits
-more_waits : (text out was now last : List ℕ) → text ≡ out ++ was → now ≡ was ++ last → text ++ last ≡ out ++ now
+pub more_waits : (text out was now last : List ℕ) → text ≡ out ++ was → now ≡ was ++ last → text ++ last ≡ out ++ now
 more_waits text out was now last waits is = ap (λ l. l ++ last) waits ∙ append_assoc out was last ∙ ap (λ l. out ++ l) (sym is)
 
 -- a line that is too large
 pub too_large : (A : Accepting) (R : Refusing) (T U : List (List ℕ) → Type 0) (start line : List ℕ) (r : ReaderAt) (left rest held now then_ : Option (List ℕ)) (was waiting : List ℕ) (number : ℕ) (e : Ended) (result : Status)
-    → Coming A T start line r left rest held now was number → IsLargeNext line r number → TellsLarge (number + 1) was waiting e
+    → Coming (Handles A) T start line r left rest held now was number → IsLargeNext line r number → TellsLarge (number + 1) was waiting e
     → Finishes (status_by e) result now then_ waiting → Handling A R U start r left rest held then_ result
 too_large A R T U start line r left rest held now then_ was waiting number ended.TooLarge result so_far large tells how =
     finishes A R U start r left rest held now then_ so_far.given so_far.out waiting (so_far.text ++ large_line (number + 1)) TooLarge result so_far.taken so_far.written
@@ -331,7 +331,7 @@ too_large A R T U start line r left rest held now then_ was waiting number ended
       line = line;
       before = so_far.text;
       all = so_far.all;
-      whole = whole_before A T start line r left rest held now was number so_far large.1;
+      whole = whole_before (Handles A) T start line r left rest held now was number so_far large.1;
       next = large.0;
       some = large.1;
       large = subst (IsTooLarge line) so_far.count large.2;
@@ -344,7 +344,7 @@ too_large A R T U start line r left rest held now then_ was waiting number (ende
 
 -- a line that is refused
 refused_at : (A : Accepting) (R : Refusing) (T : List (List ℕ) → Type 0) (start line said : List ℕ) (r : ReaderAt) (left rest held now : Option (List ℕ)) (waiting : List ℕ) (number : ℕ) (refusal : Refusal) (last : List ℕ)
-    → (so_far : Coming A T start line r left rest held now waiting number) → IsNext line r × (length r.rest ≤ piece_limit) × IsWithin line × (number + 1 < number_limit)
+    → (so_far : Coming (Handles A) T start line r left rest held now waiting number) → IsNext line r × (length r.rest ≤ piece_limit) × IsWithin line × (number + 1 < number_limit)
     → said ≡ content_of line → R (map content_of so_far.lines) said refusal last
     → RefusedAt A R refusal (start ++ so_far.given) r (so_far.text ++ last)
 refused_at A R T start line said r left rest held now waiting number refusal last so_far next is refused = record {
@@ -352,7 +352,7 @@ refused_at A R T start line said r left rest held now waiting number refusal las
   line = line;
   before = so_far.text;
   last = last;
-  stands = record { all = so_far.all; whole = whole_before A T start line r left rest held now waiting number so_far (next_some line r next.0); piece = next.1 };
+  stands = record { all = so_far.all; whole = whole_before (Handles A) T start line r left rest held now waiting number so_far (next_some line r next.0); piece = next.1 };
   next = next.0;
   within = next.2;
   number = subst (λ n. n + 1 < number_limit) so_far.count next.3;
@@ -363,7 +363,7 @@ refused_at A R T start line said r left rest held now waiting number refusal las
 
 -- where a line's handling ends the run
 pub stops : (A : Accepting) (R : Refusing) (T U : List (List ℕ) → Type 0) (start line said : List ℕ) (r : ReaderAt) (left rest held now then_ : Option (List ℕ)) (was waiting : List ℕ) (number : ℕ) (e : Ended) (result : Status)
-    → (so_far : Coming A T start line r left rest held now was number) → IsNext line r × (length r.rest ≤ piece_limit) × IsWithin line × (number + 1 < number_limit)
+    → (so_far : Coming (Handles A) T start line r left rest held now was number) → IsNext line r × (length r.rest ≤ piece_limit) × IsWithin line × (number + 1 < number_limit)
     → said ≡ content_of line → LineOutcome A R U (map content_of so_far.lines) said so_far.text was waiting (Some e)
     → Finishes (status_by e) result now then_ waiting → Handling A R U start r left rest held then_ result
 stops A R T U start line said r left rest held now then_ was waiting number (ended.Refused refusals.BadTrace) result so_far next is refused how =
@@ -378,30 +378,27 @@ stops A R T U start line said r left rest held now then_ was waiting number ende
     no_memory A R T U start line r left rest held now then_ waiting was number result so_far same how
 stops A R T U start line said r left rest held now then_ was waiting number ended.TooLarge result so_far next is never how = absurd never
 
--- one more record is handled
-pub goes_on : (A : Accepting) (R : Refusing) (T U : List (List ℕ) → Type 0) (start line said : List ℕ) (r : ReaderAt) (left rest held now : Option (List ℕ)) (was waiting : List ℕ) (number : ℕ)
-    → (so_far : Coming A T start line r left rest held now was number) → IsNext line r × (length r.rest ≤ piece_limit) × IsWithin line × (number + 1 < number_limit)
-    → said ≡ content_of line → LineOutcome A R U (map content_of so_far.lines) said so_far.text was waiting None
-    → Reached A U start r left rest held now waiting (number + 1)
-goes_on A R T U start line said r left rest held now was waiting number so_far next is more =
-    let whole : AllByRecursion IsWhole so_far.lines = whole_before A T start line r left rest held now was number so_far (next_some line r next.0) in
+-- one more line is handled
+unfoldable pub goes_on_with : (H : Accepting) (T U : List (List ℕ) → Type 0) (start line : List ℕ) (r : ReaderAt) (left rest held now : Option (List ℕ)) (was waiting more : List ℕ) (number : ℕ)
+    → (so_far : Coming H T start line r left rest held now was number) → IsNext line r
+    → U (map content_of (so_far.lines ++ line ∷ [])) → H (so_far.lines ++ line ∷ []) (so_far.text ++ more) → waiting ≡ was ++ more
+    → Reached H U start r left rest held now waiting (number + 1)
+goes_on_with H T U start line r left rest held now was waiting more number so_far next has handled waits =
+    let whole : AllByRecursion IsWhole so_far.lines = whole_before H T start line r left rest held now was number so_far (next_some line r next) in
     let joined : concat (so_far.lines ++ line ∷ []) ++ r.rest ≡ concat so_far.lines ++ (line ++ r.rest) =
     ap (λ l. l ++ r.rest) (concat-snoc so_far.lines line) ∙ append_assoc (concat so_far.lines) line r.rest in
-    let said_all : map content_of so_far.lines ++ said ∷ [] ≡ map content_of (so_far.lines ++ line ∷ []) =
-    ap (λ l. map content_of so_far.lines ++ l ∷ []) is ∙ sym (map-append content_of so_far.lines (line ∷ [])) in
     let size : length (so_far.lines ++ line ∷ []) ≡ length so_far.lines + 1 = length-append so_far.lines (line ∷ []) in
     let count : number ≡ length so_far.lines = so_far.count in
-    let room : number + 1 < number_limit = next.3 in
     record {
       given = so_far.given;
       lines = so_far.lines ++ line ∷ [];
-      text = so_far.text ++ more.0;
+      text = so_far.text ++ more;
       out = so_far.out;
       taken = so_far.taken;
       written = so_far.written;
-      waits = more_waits so_far.text so_far.out was waiting more.0 so_far.waits more.1;
+      waits = more_waits so_far.text so_far.out was waiting more so_far.waits waits;
       all = so_far.all ∙ sym joined;
-      first = elim next.0 [
+      first = elim next [
         | inl one ↦ inl (all-snoc IsWhole so_far.lines line whole one)
         | inr end ↦
             let alone : start ++ so_far.given ≡ concat so_far.lines ++ line =
@@ -412,14 +409,27 @@ goes_on A R T U start line said r left rest held now was waiting number so_far n
               ap lines_of alone ∙ lines_behind so_far.lines line whole ∙ ap (λ ls. so_far.lines ++ ls) (lines_of-open line end.some end.plain),
             )
       ];
-      handled = record {
-        sizes = all-snoc IsWithin so_far.lines line so_far.handled.sizes next.2;
-        count = omega arith;
-        accepted = subst (λ (ls : List (List ℕ)). A ls (so_far.text ++ more.0)) said_all more.3;
-      };
-      has = subst U said_all more.2;
+      handled = handled;
+      has = has;
       count = omega arith;
     }
+
+-- one more record is handled
+pub goes_on : (A : Accepting) (R : Refusing) (T U : List (List ℕ) → Type 0) (start line said : List ℕ) (r : ReaderAt) (left rest held now : Option (List ℕ)) (was waiting : List ℕ) (number : ℕ)
+    → (so_far : Coming (Handles A) T start line r left rest held now was number) → IsNext line r × (length r.rest ≤ piece_limit) × IsWithin line × (number + 1 < number_limit)
+    → said ≡ content_of line → LineOutcome A R U (map content_of so_far.lines) said so_far.text was waiting None
+    → Reached (Handles A) U start r left rest held now waiting (number + 1)
+goes_on A R T U start line said r left rest held now was waiting number so_far next is more =
+    let said_all : map content_of so_far.lines ++ said ∷ [] ≡ map content_of (so_far.lines ++ line ∷ []) =
+    ap (λ l. map content_of so_far.lines ++ l ∷ []) is ∙ sym (map-append content_of so_far.lines (line ∷ [])) in
+    let size : length (so_far.lines ++ line ∷ []) ≡ length so_far.lines + 1 = length-append so_far.lines (line ∷ []) in
+    let count : number ≡ length so_far.lines = so_far.count in
+    let room : number + 1 < number_limit = next.3 in
+    goes_on_with (Handles A) T U start line r left rest held now was waiting more.0 number so_far next.0 (subst U said_all more.2) (record {
+      sizes = all-snoc IsWithin so_far.lines line so_far.handled.sizes next.2;
+      count = omega arith;
+      accepted = subst (λ (ls : List (List ℕ)). A ls (so_far.text ++ more.0)) said_all more.3;
+    }) more.1
 
 -- a fact of equal things
 pub moved : {X : Type 0} (P : X → Type 0) (s t : X) → s ≡ t → P s → P t

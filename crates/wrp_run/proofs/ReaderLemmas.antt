@@ -2,8 +2,9 @@
 use Rattle.std.proofs.Common.{◌≡◌, ℕ, ◌+◌, ◌-◌, ◌≤◌, min, Option, List, [], Bool, true, false, ◌++◌, append_assoc, append-nil, length, take, drop, sym, ap, ◌∙◌, subst, arith, length-take}
 use Rattle.std.proofs.lemmas.List.{take-take, drop-take, drop-drop, take-append-drop}
 use Rattle.std.proofs.Math.Seq.{take-add}
-use Rattle.std.proofs.KnownBytes.{Appends-trans, Consumes-trans}
-use Rattle.std.specs.Io.KnownBytes.{Appends, Consumes}
+use Rattle.std.proofs.KnownBytes.{Consumes-trans}
+use Rattle.std.specs.Io.KnownBytes.{Consumes}
+use Rattle.wrp_run.specs.Reader.{ReaderAt, Takes}
 
 -- what was given behind some octets, and what is held behind it, are what was held
 pub held_on : (piece before after : List ℕ) (at size end : ℕ) → size ≤ length (take (end - at) (drop at piece))
@@ -33,3 +34,16 @@ more_taken first before now start line rest after none more was is will so_far g
       ap (λ l. l ++ more) (all ∙ so_far.2) ∙ append_assoc start so_far.0 more,
       λ ended. let both = (so_far.3 ended).1 in cc,
     )
+
+-- what was taken before, and then by one more request
+pub takes_on : (first mid now : Option (List ℕ)) (held line after : List ℕ) (ended : Bool) (r s : ReaderAt)
+    → Takes first mid held ended r line → Takes mid now (line ++ r.rest) r.ended s after → Takes first now held ended s after
+takes_on first mid now held line after ended r s so_far more = (
+  so_far.0 ++ more.0,
+  Consumes-trans first mid now so_far.0 more.0 so_far.1 more.1,
+  more.2 ∙ ap (λ l. l ++ more.0) so_far.2 ∙ append_assoc held so_far.0 more.0,
+  λ was.
+      let none = so_far.3 was in
+      let further = more.3 none.1 in
+      (ap (λ l. l ++ more.0) none.0 ∙ further.0, further.1),
+)

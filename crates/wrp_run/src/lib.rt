@@ -13,6 +13,7 @@ mod laws;
 mod line;
 mod machine;
 mod network;
+mod network_text;
 mod nodes;
 mod reader;
 mod reading;

@@ -5,6 +5,7 @@ ghost use Rattle.std.specs.Prelude.{◌+◌, ◌≤◌, ⊤};
 use crate::command_line::{Command, command_of};
 use crate::engine::handle_records;
 use crate::machine::{Machine, Refusal, Taken};
+use crate::network_text::{End, take_network};
 use crate::reader::Reader;
 use crate::status::Status;
 use std::alloc::{AllocError, Global};
@@ -242,6 +243,31 @@ fn sizes(rt: HostRuntime) -> Result<(), Fail> {
             streams_so(rt.alloc(), &input, 0, 0, status, text)?,
             "{size}"
         );
+    }
+    Ok(())
+}
+
+// How the reading of a network text of so many octets ends.
+fn network_of(alloc: Global, size: usize) -> Result<End, Fail> {
+    let mut input = vec![in alloc; b'#'; size.saturating_sub(1)]?;
+    input.extend_from_slice(b"\n---\n")?;
+    let mut source = Drops {
+        octets: &input,
+        fails: 0,
+        calls: 0,
+        faults: 0,
+    };
+    Ok(take_network(alloc, &mut Reader::new(), &mut source).end)
+}
+
+#[test]
+fn network_sizes(rt: HostRuntime) -> Result<(), Fail> {
+    for (size, end) in [
+        (262_143, End::Whole),
+        (262_144, End::Whole),
+        (262_145, End::TooLong),
+    ] {
+        assert_eq!(rt; network_of(rt.alloc(), size)?, end, "{size}");
     }
     Ok(())
 }

@@ -1,12 +1,13 @@
 use Rattle.std.proofs.Common.{◌≡◌, ◌-◌, ◌^◌, ◌≤◌, true}
 use Rattle.std.specs.Io.KnownBytes.{IsAtEnd}
+use Rattle.wrp_run.specs.Stream.{Handles}
 use Rattle.wrp_run.proofs.Reaching.{Reached}
 use Rattle.wrp_run.proofs.engine.handle_records.Given as goal
 
 abbrev pub invariant-records : goal.invariant-records
 invariant-records g l =
     record {
-      reached : Reached (g.M.Machine.accepts (g.M.Machine.setting l.fn.machine)) (g.M.Machine.has_taken l.machine) l.fn.reader.rest l.reader
+      reached : Reached (Handles (g.M.Machine.accepts (g.M.Machine.setting l.fn.machine))) (g.M.Machine.has_taken l.machine) l.fn.reader.rest l.reader
           (g.S.Source.left l.fn.source) (g.S.Source.left l.source) (g.K.Sink.held l.fn.sink) (g.K.Sink.held l.sink) l.waiting.items l.number;
       setting : g.M.Machine.setting l.machine ≡ g.M.Machine.setting l.fn.machine;
       count : g.M.Machine.count l.machine ≤ l.number;
