@@ -12,10 +12,12 @@ use Rattle.wrp_servo.specs.Measuring.{deltas_in_chain, is_in, x_of, delay_of, an
 use Rattle.wrp_servo.specs.Call.{Call, CallSample, CallMeasured, CallTick, CallLease, CallLink, CallCarrier, CallReset, Settings, after, run}
 use Rattle.wrp_servo.specs.Tracking.{enters, enters_by, is_wait_stable}
 use Rattle.wrp_servo.proofs.Leaving.{leaves, leaves_at, leaves_by}
-use Rattle.wrp_servo.specs.Chain.{unlocks, is_outside, steps, strays, strays_by, ends, strays_at, starts, ends_chain, chain_starts, chain_ends, enters_track, leaves_track}
+use Rattle.wrp_servo.specs.Chain.{unlocks, is_outside, steps, strays, strays_by, ends, strays_at, starts, ends_chain}
+use Rattle.wrp_servo.specs.LookBack.{chain_starts, chain_ends, enters_track, leaves_track, seen}
 use Rattle.wrp_servo.specs.Since.{Since}
 use Rattle.wrp_servo.proofs.Tracks.{Ends, tracker, call-track, call-at, stands}
 use Rattle.wrp_servo.proofs.ChainLaws.{call-other}
+use Rattle.wrp_servo.proofs.SeenLaws.{seen-is}
 use Rattle.wrp_servo.proofs.SinceLaws.{Runs, stands_since}
 
 -- ---- in TRACK the chain stands exactly as long as TRACK does
@@ -158,11 +160,20 @@ next-at x v Holdover first call h = next-other x v Holdover first call refl (cal
 pub next : (x : Settings) (calls : List Call) (call : Call) → Next x (run x calls) call
 next x calls call = next-at x (run x calls) (run x calls).state (run x calls).first call (stands x calls).chain
 
+-- the same, asked of what looking back finds
+pub next-seen : (x : Settings) (calls : List Call) (call : Call) → is_track (run x (call ∷ calls)).state ≡ cond (is_track (run x calls).state) (not (leaves_track x calls call)) (enters_track x calls call)
+next-seen x calls call =
+    subst (λ (v : Core). is_track (run x (call ∷ calls)).state ≡ cond (is_track (run x calls).state) (not (ends x v call || strays_at x v call)) (enters x v call)) (seen-is x calls)
+    (next x calls call).track
+
 tracks : (x : Settings) → Runs (enters_track x) (leaves_track x) (λ calls. is_track (run x calls).state)
 tracks x = record {
   first = refl;
-  next = λ call calls. (next x calls call).track;
-  apart = λ call calls h e. let n : enters x (run x calls) call ≡ false = enters-of x (run x calls) call h in absurd cc;
+  next = λ call calls. next-seen x calls call;
+  apart = λ call calls h e.
+      let n : enters x (run x calls) call ≡ false = enters-of x (run x calls) call h in
+      let m : enters x (seen x calls) call ≡ false = subst (λ (v : Core). enters x v call ≡ false) (seen-is x calls) n in
+      absurd cc;
 }
 
 -- TRACK stands exactly where a call enters it and none after it leaves it
@@ -181,11 +192,16 @@ not_both : (b q : Bool) (A : Type 0) → b ≡ true → (not b && q) ≡ true �
 not_both true q A h e = absurd cc
 not_both false q A h e = absurd cc
 
+next-chain : (x : Settings) (calls : List Call) (call : Call) → is_some (run x (call ∷ calls)).first ≡ cond (is_some (run x calls).first) (not (chain_ends x calls call)) (starts x (seen x calls) call)
+next-chain x calls call =
+    subst (λ (v : Core). is_some (run x (call ∷ calls)).first ≡ cond (is_some (run x calls).first) (not (ends_chain x v call)) (starts x v call)) (seen-is x calls)
+    (next x calls call).chain
+
 chains : (x : Settings) → Runs (chain_starts x) (chain_ends x) (λ calls. is_some (run x calls).first)
 chains x = record {
   first = refl;
-  next = λ call calls. (next x calls call).chain ∙ none_stands (is_some (run x calls).first) (not (ends_chain x (run x calls) call)) (starts x (run x calls) call);
-  apart = λ call calls h e. not_both (is_some (run x calls).first) (starts x (run x calls) call) _ h e;
+  next = λ call calls. next-chain x calls call ∙ none_stands (is_some (run x calls).first) (not (chain_ends x calls call)) (starts x (seen x calls) call);
+  apart = λ call calls h e. not_both (is_some (run x calls).first) (starts x (seen x calls) call) _ h e;
 }
 
 -- a chain stands exactly where a call starts it and none after it ends it

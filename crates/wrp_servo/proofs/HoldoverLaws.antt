@@ -1,5 +1,5 @@
 -- HOLDOVER is entered from TRACK alone, and left at its last tick or by a reset.
-use Rattle.std.proofs.Common.{◌≡◌, refl, ap, ◌∙◌, sym, ℕ, ℤ, ◌+◌, ◌-◌, ◌<◌, ◌≤◌, Bool, true, false, cond, not, ◌&&◌, ◌||◌, nat_le, is_some, Option, None, Some, List, [], ◌∷◌, ◌++◌, subst, arith}
+use Rattle.std.proofs.Common.{◌≡◌, ◌↔◌, refl, ap, ◌∙◌, sym, ℕ, ℤ, ◌+◌, ◌-◌, ◌<◌, ◌≤◌, Bool, true, false, cond, not, ◌&&◌, ◌||◌, nat_le, is_some, Option, None, Some, List, [], ◌∷◌, ◌++◌, subst, arith}
 use Rattle.std.proofs.lemmas.Bool.Decides.{nat_tests}
 use Rattle.wrp_base.specs.declared.link.Deltas.{Deltas}
 use Rattle.wrp_base.specs.declared.link.ServoState.{ServoState}
@@ -10,15 +10,17 @@ use Rattle.wrp_servo.specs.declared.machine.Measurement.{Measurement}
 use Rattle.wrp_servo.specs.declared.machine.Core.{Core}
 use Rattle.wrp_servo.specs.Following.{restarted}
 use Rattle.wrp_servo.specs.Table.{is_track, is_past_gap, is_old, one_tick, ended, ended_by_age, by_tick}
-use Rattle.wrp_servo.specs.Sampling.{hears, is_holdover, good_tag, is_far, is_within, residual, with_tag, with_last, followed, stays_near, judged, chained, may_start, good, heard, lost}
+use Rattle.wrp_servo.specs.Sampling.{hears, is_holdover, good_tag, is_far, is_within, residual, with_tag, with_last, followed, stays_near, judged, chained, may_start, good, heard, lost, by_sample}
 use Rattle.wrp_servo.specs.Measuring.{is_in, x_of, delay_of, answered, placed, aimed}
 use Rattle.wrp_servo.specs.Call.{Call, CallSample, CallMeasured, CallTick, CallLease, CallLink, CallCarrier, CallReset, Settings, after, run, is_reset}
-use Rattle.wrp_servo.specs.Chain.{ends, strays_at, leaves_track}
+use Rattle.wrp_servo.specs.Chain.{ends, strays_at}
+use Rattle.wrp_servo.specs.LookBack.{enters_track, leaves_track}
 use Rattle.wrp_servo.specs.Holdover.{ticks_among, NoneResets, InHoldover, HoldoverSince}
+use Rattle.wrp_servo.specs.Laws.{InChain}
 use Rattle.wrp_servo.specs.Tracking.{enters}
 use Rattle.wrp_servo.proofs.Tracks.{tracker, stands}
-use Rattle.wrp_servo.proofs.BothLaws.{next}
-use Rattle.wrp_servo.proofs.ChainGap.{set_is}
+use Rattle.wrp_servo.proofs.BothLaws.{next-seen}
+use Rattle.wrp_servo.proofs.Gone.{set_is}
 use Rattle.wrp_servo.proofs.Locked.{chain_stays_held}
 use Rattle.wrp_servo.proofs.Outside.{out, call-low}
 
@@ -200,8 +202,8 @@ holds : (x : Settings) (since : List Call) (leave : Call) (before : List Call) �
 holds x [] leave before stood left no_reset none few =
     let v : Core = run x before in
     let off : is_track (after x v leave).state ≡ false =
-    (next x before leave).track
-    ∙ ap (λ (b : Bool). cond b (not (ends x v leave || strays_at x v leave)) (enters x v leave)) stood
+    next-seen x before leave
+    ∙ ap (λ (b : Bool). cond b (not (leaves_track x before leave)) (enters_track x before leave)) stood
     ∙ ap not left in
     falls-at x v v.state v.first leave stood (stands x before).chain no_reset off
 holds x (call ∷ since) leave before stood left no_reset none few =
@@ -242,8 +244,8 @@ way x calls call Track e h =
     let v : Core = run x calls in
     let stood : is_track v.state ≡ true = ap is_track e in
     let stays : not (leaves_track x calls call) ≡ false =
-    sym (ap (λ (b : Bool). cond b (not (ends x v call || strays_at x v call)) (enters x v call)) stood)
-    ∙ sym (next x calls call).track
+    sym (ap (λ (b : Bool). cond b (not (leaves_track x calls call)) (enters_track x calls call)) stood)
+    ∙ sym (next-seen x calls call)
     ∙ off_track (after x v call).state h in
     Left stood (not_false (leaves_track x calls call) stays) (no_reset_to x v call h)
 way x calls call Holdover e h = Stays (ap is_holdover e) (no_reset_to x (run x calls) call h)

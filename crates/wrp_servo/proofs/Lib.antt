@@ -20,3 +20,6 @@ mod StepLaws
 mod Outside
 mod HoldoverLaws
 mod Ticks
+mod Gone
+mod LastLaws
+mod SeenLaws

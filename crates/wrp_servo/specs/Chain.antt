@@ -1,12 +1,14 @@
--- The chain of good samples: which call starts it, and which one ends it.
-use Rattle.std.specs.Prelude.{ℕ, ℤ, Bool, true, false, not, ◌&&◌, ◌||◌, is_some, Option, None, Some, List}
+-- The chain of good samples: which call starts it, which one ends it, and what leaves TRACK alone (this project's
+-- profile). Each cause is asked of what stands before the call.
+use Rattle.std.specs.Prelude.{◌≡◌, ℕ, ℤ, Bool, true, false, cond, not, ◌&&◌, ◌||◌, nat_le, is_some, Option, None, Some, List, [], ◌∷◌}
 use Rattle.wrp_base.specs.declared.link.Deltas.{Deltas}
 use Rattle.wrp_base.specs.declared.link.ServoState.{ServoState}
-use Rattle.wrp_base.specs.declared.link.ServoState.TheVariants.{SyncTai, SyncNsec}
+use Rattle.wrp_base.specs.declared.link.ServoState.TheVariants.{Uninit, SyncTai, SyncNsec, SyncPhase, WaitStable, Track, Holdover}
 use Rattle.wrp_base.specs.declared.measurement.Four.{Four}
+use Rattle.wrp_servo.specs.declared.machine.Measurement.{Measurement}
 use Rattle.wrp_servo.specs.declared.machine.Core.{Core}
 use Rattle.wrp_servo.specs.Table.{is_track, is_past_gap, is_old, one_tick}
-use Rattle.wrp_servo.specs.Sampling.{hears, is_holdover, good_tag, is_far, is_calm, is_near, is_within, residual, with_tag, followed, est_of}
+use Rattle.wrp_servo.specs.Sampling.{hears, is_holdover, good_tag, is_far, is_calm, is_near, is_within, residual, with_tag, followed, may_start, stays_near, est_of}
 use Rattle.wrp_servo.specs.Measuring.{is_in, x_of, delay_of, is_half, is_below_second}
 use Rattle.wrp_servo.specs.Tracking.{enters}
 use Rattle.wrp_servo.specs.Call.{Call, CallSample, CallMeasured, CallTick, CallLease, CallLink, CallCarrier, CallReset, Settings, run}
@@ -65,7 +67,9 @@ strays_at x v _ = false
 -- a call starts a chain: a good sample that leaves the detector locked, with the link on and the lease fresh
 abbrev pub starts_by : Core → Option ℕ → Bool
 starts_by v None = false
-starts_by v (Some tag) = not (is_far (with_tag v tag).phase.u) && ((followed (with_tag v tag)).phase.lock.locked && (is_some v.signals.link && v.signals.lease))
+starts_by v (Some tag) =
+    not (is_far (with_tag v tag).phase.u)
+    && ((followed (with_tag v tag)).phase.lock.locked && (is_some v.signals.link && v.signals.lease))
 
 abbrev pub starts : Settings → Core → Call → Bool
 starts x v (CallSample n base bits) = hears v && starts_by v (good_tag v.last n base bits)
@@ -74,18 +78,3 @@ starts x v _ = false
 -- a call ends the chain: whatever the state, or by leaving TRACK
 abbrev pub ends_chain : Settings → Core → Call → Bool
 ends_chain x v call = ends x v call || (is_track v.state && strays_at x v call)
-
--- over a list of calls: what starts a chain, what ends it, what enters TRACK and what leaves it
-abbrev pub chain_starts : Settings → List Call → Call → Bool
-chain_starts x calls call = not (is_some (run x calls).first) && starts x (run x calls) call
-
-abbrev pub chain_ends : Settings → List Call → Call → Bool
-chain_ends x calls call = ends_chain x (run x calls) call
-
--- what enters TRACK
-abbrev pub enters_track : Settings → List Call → Call → Bool
-enters_track x calls call = enters x (run x calls) call
-
--- what leaves TRACK: any end of the chain, and the causes of its own
-abbrev pub leaves_track : Settings → List Call → Call → Bool
-leaves_track x calls call = ends x (run x calls) call || strays_at x (run x calls) call

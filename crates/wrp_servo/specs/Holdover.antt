@@ -3,7 +3,7 @@ use Rattle.std.specs.Prelude.{◌≡◌, ◌↔◌, ℕ, ◌+◌, ◌<◌, ◌�
 use Rattle.wrp_servo.specs.Table.{is_track}
 use Rattle.wrp_servo.specs.Sampling.{is_holdover}
 use Rattle.wrp_servo.specs.Call.{Call, CallTick, Settings, run, is_reset}
-use Rattle.wrp_servo.specs.Chain.{leaves_track}
+use Rattle.wrp_servo.specs.LookBack.{leaves_track}
 
 -- the ticks among these calls
 abbrev pub ticks_among : List Call → ℕ

@@ -9,6 +9,7 @@ pub mod Servo
 pub mod Chain
 pub mod Told
 pub mod Tracking
+pub mod LookBack
 pub mod Laws
 pub mod Holdover
 pub mod Valid

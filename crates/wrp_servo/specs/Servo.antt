@@ -25,7 +25,7 @@ pub record ServoOf (F : Type 0) : Type 0 where
 abbrev pub settings_of : {F : Type 0} → ServoSet → LawOf F → Settings
 settings_of set law = record { set = set; lo = law.lo; hi = law.hi }
 
--- the answer beside a measurement is one of the law's, where the law is deltas_in_chain
+-- the answer beside a measurement is one of the law's, where the law is asked
 abbrev pub IsAnswer : (ℤ → ℤ → Type 0) → Settings → Core → Four → ℤ → Type 0
 IsAnswer answers x v f y = (d : Deltas) → deltas_in_chain v ≡ Some d → IsTrue (is_in x.lo x.hi (x_of d f)) → answers (x_of d f) y
 
@@ -56,12 +56,22 @@ news_of (Some m) None = Ended
 news_of None (Some n) = Started n
 news_of _ _ = Same
 
+-- what becomes of the chain at a call
+abbrev pub news_at : Settings → Core → Call → ChainNews
+news_at x v call = news_of v.first (after x v call).first
+
+-- an answer without a sample
+abbrev pub plain_out : ℤ → ChainNews → Option ℕ → ServoOut
+plain_out cycles chain refused =
+    record { cycles = cycles; dac = None; unwrapped = None; chain = chain; refused = refused }
+
 -- an answer by what became of a sample
 abbrev pub out_by : Heard → Core → ChainNews → ServoOut
-out_by Ignored v chain = record { cycles = pos 0; dac = None; unwrapped = None; chain = chain; refused = None }
-out_by Refused v chain = record { cycles = pos 0; dac = None; unwrapped = None; chain = chain; refused = Some 15 }
+out_by Ignored v chain = plain_out (pos 0) chain None
+out_by Refused v chain = plain_out (pos 0) chain (Some 15)
 out_by Lost v chain = record { cycles = pos 0; dac = None; unwrapped = Some v.phase.u; chain = chain; refused = None }
-out_by Followed v chain = record { cycles = pos 0; dac = Some v.phase.dac; unwrapped = Some v.phase.u; chain = chain; refused = None }
+out_by Followed v chain =
+    record { cycles = pos 0; dac = Some v.phase.dac; unwrapped = Some v.phase.u; chain = chain; refused = None }
 
 -- the reason for which a measurement is refused
 abbrev pub refused_by : Settings → Four → Option Deltas → Option ℕ
@@ -70,9 +80,11 @@ refused_by x f (Some d) = cond (is_in x.lo x.hi (x_of d f)) None (Some 14)
 
 -- the answer to a call
 abbrev pub answer_to : Settings → Core → Call → ServoOut
-answer_to x v (CallSample n base bits) = out_by (heard_as v n base bits) (after x v (CallSample n base bits)) (news_of v.first (after x v (CallSample n base bits)).first)
-answer_to x v (CallMeasured f y) = record { cycles = cycles_of x.lo x.hi v f y; dac = None; unwrapped = None; chain = news_of v.first (after x v (CallMeasured f y)).first; refused = refused_by x f (deltas_in_chain v) }
-answer_to x v call = record { cycles = pos 0; dac = None; unwrapped = None; chain = news_of v.first (after x v call).first; refused = None }
+answer_to x v (CallSample n base bits) =
+    out_by (heard_as v n base bits) (after x v (CallSample n base bits)) (news_at x v (CallSample n base bits))
+answer_to x v (CallMeasured f y) =
+    plain_out (cycles_of x.lo x.hi v f y) (news_at x v (CallMeasured f y)) (refused_by x f (deltas_in_chain v))
+answer_to x v call = plain_out (pos 0) (news_at x v call) None
 
 -- the answer of a servo to a call
 abbrev pub out_of : {F : Type 0} → ServoOf F → Call → ServoOut

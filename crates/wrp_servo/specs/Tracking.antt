@@ -12,11 +12,14 @@ abbrev pub is_wait_stable : ServoState → Bool
 is_wait_stable WaitStable = true
 is_wait_stable _ = false
 
--- a measurement enters TRACK: in WAIT_STABLE, calm at `stable`, x in range, and r, e_tau and the four's age within their limits
+-- a measurement enters TRACK: in WAIT_STABLE, calm at `stable`, x in range, and r, e_tau and the four's age within their
+-- limits
 abbrev pub enters_by : Settings → Core → Four → ℤ → Option Deltas → Bool
 enters_by x v f y None = false
 enters_by x v f y (Some d) =
-    is_wait_stable v.state && (is_in x.lo x.hi (x_of d f) && (nat_le v.set.stable v.calm && may_track v (record { four = f; delay = delay_of d y })))
+    is_wait_stable v.state
+    && (is_in x.lo x.hi (x_of d f)
+    && (nat_le v.set.stable v.calm && may_track v (record { four = f; delay = delay_of d y })))
 
 abbrev pub enters : Settings → Core → Call → Bool
 enters x v (CallMeasured f y) = enters_by x v f y (deltas_in_chain v)

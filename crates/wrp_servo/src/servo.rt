@@ -5,9 +5,9 @@ ghost use Rattle.wrp_law.specs.Law.{LawOf, KeepsFact};
 ghost use Rattle.wrp_servo.specs.Call.{Call, CallSample, CallMeasured, CallTick, CallLease, CallLink, CallCarrier, CallReset, Settings, after};
 ghost use Rattle.wrp_servo.specs.Measuring.{is_in, deltas_in_chain, x_of, placed, kept_of, cycles_in};
 ghost use Rattle.wrp_servo.specs.Sampling.{est_of};
-ghost use Rattle.wrp_servo.specs.Servo.{ServoOf, StandsFor, AddsCall, AddsMeasured, after_call, settings_of, IsAnswer, out_of, est_now, news_of};
+ghost use Rattle.wrp_servo.specs.Servo.{plain_out, ServoOf, StandsFor, AddsCall, AddsMeasured, after_call, settings_of, IsAnswer, out_of, est_now, news_of};
 ghost use Rattle.wrp_servo.specs.Sizes.{FitsTimes, FitsServoSet};
-ghost use Rattle.wrp_servo.specs.Chain.{enters_track, leaves_track};
+ghost use Rattle.wrp_servo.specs.LookBack.{enters_track, leaves_track};
 ghost use Rattle.wrp_servo.specs.Since.{Since};
 ghost use Rattle.wrp_servo.specs.Table.{is_track, new_core};
 
@@ -31,7 +31,7 @@ pub struct Servo<F: Fn(i64) -> i64> {
 }
 
 impl<F: Fn(i64) -> i64> Model for Servo<F> {
-    ghost use Rattle.wrp_servo.specs.Servo.{ServoOf};
+    ghost use Rattle.wrp_servo.specs.Servo.{plain_out, ServoOf};
 
     ghost Value = { ServoOf F };
 
@@ -110,13 +110,15 @@ impl<F: Fn(i64) -> i64> Servo<F> {
         out
     }
 
-    // A measurement, with the law's answer, which is 0 where the law is not deltas_in_chain.
+    // A measurement, with the law's answer, which is 0 where the law is not asked.
     fn ask(&mut self, four: &Four) -> (ServoOut, i64)
         requires law { KeepsFact F.pre F.post self.old.law }
         requires four { FitsTimes four.now }
         ensures law { self.new.law ≡ self.old.law }
-        ensures answer { IsAnswer (F.post self.old.law.closure) (settings_of self.old.core.set self.old.law) self.old.core four.now result.1 }
-        ensures core { self.new.core ≡ after (settings_of self.old.core.set self.old.law) self.old.core (CallMeasured four.now result.1) }
+        ensures answer { IsAnswer (F.post self.old.law.closure) (settings_of self.old.core.set self.old.law)
+            self.old.core four.now result.1 }
+        ensures core { self.new.core ≡ after (settings_of self.old.core.set self.old.law)
+            self.old.core (CallMeasured four.now result.1) }
         ensures out { result.0 ≡ out_of self.old (CallMeasured four.now result.1) }
     {
         let before = self.core.first();
@@ -159,7 +161,8 @@ impl<F: Fn(i64) -> i64> Servo<F> {
 
     // x, where it is in the law's range.
     fn x_in(&self, x: Tau) -> Option<i64>
-        ensures some { IfSome result (λ z. (z ≡ x) × (self.now.law.lo ≤ℤ z) × (z ≤ℤ self.now.law.hi) × (is_in self.now.law.lo self.now.law.hi x ≡ true)) }
+        ensures some { IfSome result (λ z. (z ≡ x) × (self.now.law.lo ≤ℤ z) × (z ≤ℤ self.now.law.hi)
+            × (is_in self.now.law.lo self.now.law.hi x ≡ true)) }
         ensures value { result ≡ cond (is_in self.now.law.lo self.now.law.hi x) (Some x) None }
     {
         if i128::from(self.law.lo()) <= x && x <= i128::from(self.law.hi()) {
@@ -273,7 +276,7 @@ impl<F: Fn(i64) -> i64> Servo<F> {
 
 // An answer that has no sample.
 fn plain_out(cycles: i64, chain: ChainNews, refused: Option<u8>) -> ServoOut
-    ensures { result ≡ record { cycles = cycles; dac = None; unwrapped = None; chain = chain; refused = refused } }
+    ensures { result ≡ plain_out cycles chain refused }
 {
     ServoOut {
         cycles,

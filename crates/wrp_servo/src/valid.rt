@@ -106,7 +106,8 @@ impl Machine {
         requires four { FitsTimes four.now }
         requires deltas_in_chain { deltas_in_chain self.old ≡ Some deltas.now }
         ensures value { self.new ≡ placed self.old (kept_of four.now deltas.now answer) }
-        ensures cycles { result ≡ cycles_in self.old (est_of self.old.phase.u (kept_of four.now deltas.now answer)) self.old.state }
+        ensures cycles { result ≡ cycles_in self.old
+            (est_of self.old.phase.u (kept_of four.now deltas.now answer)) self.old.state }
     {
         self.core.place(kept_by(four, deltas, answer))
     }

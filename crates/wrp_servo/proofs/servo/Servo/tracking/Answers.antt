@@ -3,7 +3,7 @@ use Rattle.std.proofs.Common.{◌≡◌, ◌↔◌, Bool, true, ap, ◌∙◌, s
 use Rattle.std.specs.Bool.{IsTrue}
 use Rattle.wrp_servo.specs.declared.machine.Core.{Core}
 use Rattle.wrp_servo.specs.Call.{run}
-use Rattle.wrp_servo.specs.Chain.{enters_track, leaves_track}
+use Rattle.wrp_servo.specs.LookBack.{enters_track, leaves_track}
 use Rattle.wrp_servo.specs.Since.{Since}
 use Rattle.wrp_servo.specs.Table.{is_track}
 use Rattle.wrp_servo.proofs.BothLaws.{track_stands_since}
