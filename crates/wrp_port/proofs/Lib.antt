@@ -1,0 +1,3 @@
+pub mod DeltaLaws
+pub mod LineLaws
+pub mod Signals

@@ -1,0 +1,222 @@
+//! The port itself: its calls.
+mod hears;
+mod takes;
+
+ghost use Rattle.std.specs.Prelude.{◌≡◌, ◌≤◌, nat_lt, ℕ, List, [], IfOk, IfSome, IsTrue};
+ghost use Rattle.wrp_base.specs.Calls.{Adds};
+ghost use Rattle.wrp_exch.specs.Call.{Call};
+ghost use Rattle.wrp_exch.specs.Exchange.{StandsFor as ExchangeStandsFor};
+ghost use Rattle.wrp_link.specs.LinkAt.{new_link};
+ghost use Rattle.wrp_link.specs.Order.{Told};
+ghost use Rattle.wrp_link.specs.Table.{word_of};
+ghost use Rattle.wrp_port.specs.declared.interface.PortIn.{PortIn};
+ghost use Rattle.wrp_port.specs.History.{link_inputs, is_fresh};
+ghost use Rattle.wrp_port.specs.Outputs.{sends_of, drop_of, measured_by, changed_word, is_dropped_early};
+ghost use Rattle.wrp_port.specs.PortAt.{IsFit, StandsFor, deltas_of};
+
+use crate::line::Line;
+use crate::messages::Sends;
+use crate::setting::Setting;
+use crate::{PortIn, PortOut, Sched};
+use std::alloc::{AllocError, Global};
+use std::marker::Model;
+use wrp_base::{Deltas, Four, LinkState, LinkWord, Role};
+use wrp_data::{DefaultDs, PortDs, Reason};
+use wrp_exch::Exchange;
+use wrp_link::LinkSet;
+
+/// One port of a node.
+#[derive(Debug, Drop)]
+pub struct Port {
+    set: Setting,
+    line: Line,
+    exchange: Exchange,
+}
+
+impl Model for Port {
+    ghost use Rattle.wrp_port.specs.PortAt.{PortAt, IsSetting};
+
+    ghost Value = { PortAt };
+
+    ghost view = { λ p. record { set = p.set; line = p.line; exchange = p.exchange } };
+
+    ghost invariant = { λ p. IsSetting p.set };
+}
+
+// What a port answers, but for its word.
+#[derive(Drop)]
+struct Answer {
+    // The messages to send.
+    sends: Sends,
+    // The number of the reason for which a message was dropped.
+    drop: Option<u8>,
+    // A new measurement.
+    measured: Option<Four>,
+}
+
+impl Port {
+    /// A port without carrier, whose exchange knows the last `ring` good samples: 1 to 4096. It takes
+    /// all the memory that it will need. `default` is what its node knows of itself.
+    pub fn new(
+        alloc: Global,
+        ds: PortDs,
+        default: DefaultDs,
+        set: LinkSet,
+        sched: Sched,
+        ring: usize,
+    ) -> Result<Port, AllocError>
+        requires quiet { 1 ≤ set.quiet }
+        requires wait { 1 ≤ set.wait }
+        requires lock_wait { 1 ≤ set.lock_wait }
+        requires announce { 1 ≤ sched.announce }
+        requires sync { 1 ≤ sched.sync }
+        requires delay { 1 ≤ sched.delay }
+        requires lease { 1 ≤ sched.lease }
+        requires least { 1 ≤ ring }
+        requires greatest { ring ≤ 4096 }
+        ensures set { IfOk result (λ port.
+            port.set ≡ record { own = default; ds = ds; link = set; sched = sched; ring = ring }) }
+        ensures stands { IfOk result (λ port. StandsFor port []) }
+    {
+        let exchange = Exchange::new(alloc, ring)?;
+        let set = Setting {
+            own: default,
+            ds,
+            link: set,
+            sched,
+            ring,
+        };
+        Ok(Port {
+            line: Line::new(&set),
+            set,
+            exchange,
+        })
+    }
+
+    /// Takes one input, and answers the new word, what the port sends, why a message was dropped, and
+    /// a new measurement. A stamp's value is 0 to `2^93`.
+    pub fn step(&mut self, input: PortIn) -> PortOut
+        requires { IsFit input }
+        ensures set { self.new.set ≡ self.old.set }
+        ensures word { result.word
+            ≡ changed_word (word_of self.old.line.link) (word_of self.new.line.link) }
+        ensures sends { result.sends.items ≡ sends_of self.old.set self.old.line input }
+        ensures drop { (calls : List Call) → ExchangeStandsFor self.old.set.ring self.old.exchange calls →
+            result.drop ≡ drop_of self.old.set self.old.line calls input }
+        ensures measured { (calls : List Call) → ExchangeStandsFor self.old.set.ring self.old.exchange calls →
+            result.measured ≡ measured_by self.old.set self.old.line calls input }
+
+        // The port stands for the list of its inputs.
+        ensures stands { Adds StandsFor self.old self.new input }
+
+        // A message of another domain, of a stranger, for another port, or in quiet time leaves no
+        // trace.
+        ensures silent { IsTrue (is_dropped_early self.old.set self.old.line input) → self.new ≡ self.old }
+    {
+        let before = self.line.link.word();
+        let answer = self.take(input);
+        PortOut {
+            word: change(before, self.line.link.word()),
+            sends: answer.sends,
+            drop: answer.drop,
+            measured: answer.measured,
+        }
+    }
+
+    /// Whether the lease of the parent's time is fresh: an Announce without synchronizationUncertain
+    /// came fewer turns of the lease ago than it has, with no loss of the carrier and no reset since.
+    pub fn lease(&self) -> bool
+        ensures value { result ≡ nat_lt 0 self.now.line.lease }
+        ensures fresh { (inputs : List PortIn) → StandsFor self.now inputs → result ≡ is_fresh self.now.set inputs }
+    {
+        self.line.lease > 0
+    }
+
+    /// The four delays of the link, each in tau: Some exactly for a slave port in WR_LINK_ON. The
+    /// master's are those that it told in this handshake.
+    pub fn deltas(&self) -> Option<Deltas>
+        ensures value { result ≡ deltas_of self.now.set.ds.role self.now.line.link }
+        ensures told { (inputs : List PortIn) → StandsFor self.now inputs →
+            IfSome result (λ deltas.
+            Told (new_link self.now.set.ds.role self.now.set.link) (link_inputs self.now.set inputs)
+            deltas.txm deltas.rxm) }
+    {
+        self.link_deltas()
+    }
+
+    /// What the port reports of its link.
+    pub fn word(&self) -> LinkWord
+        ensures { result ≡ word_of self.now.line.link }
+    {
+        self.line.link.word()
+    }
+
+    // The four delays of the link of a slave port in WR_LINK_ON.
+    fn link_deltas(&self) -> Option<Deltas>
+        ensures { result ≡ deltas_of self.now.set.ds.role self.now.line.link }
+    {
+        if self.set.ds.role == Role::Master || self.line.link.state() != LinkState::LinkOn {
+            return None;
+        }
+        let (txm, rxm) = self.line.link.peer_deltas().unwrap_or((0, 0));
+        let (txs, rxs) = match self.line.link.own_module() {
+            Some(own_module) => (own_module.tx, own_module.rx),
+            None => (0, 0),
+        };
+        Some(Deltas { txm, rxm, txs, rxs })
+    }
+}
+
+impl Answer {
+    ghost use Rattle.std.specs.Prelude.{◌≡◌, [], None, Some};
+    ghost use Rattle.wrp_data.specs.Reason.{number_of};
+    ghost use Rattle.wrp_port.specs.Outputs.{number_by, reason_by};
+
+    // These messages are sent, and nothing else.
+    fn sending(sends: Sends) -> Answer
+        ensures { result ≡ record { sends = sends; drop = None; measured = None } }
+    {
+        Answer {
+            sends,
+            drop: None,
+            measured: None,
+        }
+    }
+
+    // A message is dropped for this reason.
+    fn dropping(reason: Reason) -> Answer
+        ensures sends { result.sends.items ≡ [] }
+        ensures drop { result.drop ≡ Some (number_of reason) }
+        ensures measured { result.measured ≡ None }
+    {
+        Answer {
+            sends: Sends::new(),
+            drop: Some(reason.number()),
+            measured: None,
+        }
+    }
+
+    // A message was of use or not.
+    fn using(used: bool, sends: Sends, measured: Option<Four>) -> Answer
+        ensures sends { result.sends ≡ sends }
+        ensures drop { result.drop ≡ number_by (reason_by None used) }
+        ensures measured { result.measured ≡ measured }
+    {
+        Answer {
+            sends,
+            drop: if used {
+                None
+            } else {
+                Some(Reason::Unmatched.number())
+            },
+            measured,
+        }
+    }
+}
+
+// The second word, where it differs from the first.
+fn change(from: LinkWord, to: LinkWord) -> Option<LinkWord>
+    ensures { result ≡ changed_word from to }
+{
+    if from == to { None } else { Some(to) }
+}

@@ -1,0 +1,214 @@
+//! What a port does with each kind of input.
+ghost use Rattle.std.specs.Prelude.{◌≡◌, ◌≤◌, ◌^◌, [], List, None, unsigned_abs, IsTrue, true, false};
+ghost use Rattle.wrp_exch.specs.Call.{Call};
+ghost use Rattle.wrp_exch.specs.Exchange.{StandsFor as ExchangeStandsFor};
+ghost use Rattle.wrp_link.specs.declared.interface.LinkIn.TheVariants as link;
+ghost use Rattle.wrp_port.specs.LineAfter.{new_line, after, told};
+ghost use Rattle.wrp_port.specs.Outputs.{sends_of, due_request, sent_call, sample_call, news_call, with_call, calls_after, drop_of, measured_by, follow_ups, is_dropped_early, is_newest};
+ghost use Rattle.wrp_port.specs.PortAt.{IsFit, IsStamp};
+
+use super::{Answer, Port};
+use crate::PortIn;
+use crate::hearing::is_open;
+use crate::line::Line;
+use crate::messages::{Sends, follow_up, signals};
+use wrp_base::{ChainNews, Module, Role, Stamp};
+use wrp_link::LinkIn;
+
+impl Port {
+    // Takes an input, of whatever kind.
+    pub(super) fn take(&mut self, input: PortIn) -> Answer
+        requires { IsFit input }
+        ensures set { self.new.set ≡ self.old.set }
+        ensures line { self.new.line ≡ after self.old.set self.old.line input }
+        ensures exchange { (calls : List Call) → ExchangeStandsFor self.old.set.ring self.old.exchange calls →
+            ExchangeStandsFor self.old.set.ring self.new.exchange
+            (calls_after self.old.set self.old.line input calls) }
+        ensures sends { result.sends.items ≡ sends_of self.old.set self.old.line input }
+        ensures drop { (calls : List Call) → ExchangeStandsFor self.old.set.ring self.old.exchange calls →
+            result.drop ≡ drop_of self.old.set self.old.line calls input }
+        ensures measured { (calls : List Call) → ExchangeStandsFor self.old.set.ring self.old.exchange calls →
+            result.measured ≡ measured_by self.old.set self.old.line calls input }
+        ensures silent { IsTrue (is_dropped_early self.old.set self.old.line input) → self.new ≡ self.old }
+    {
+        match input {
+            PortIn::Msg { msg, stamp, tick } => self.hear(&msg, stamp, tick),
+            PortIn::Lease => {
+                self.lease_turn();
+                Answer::sending(Sends::new())
+            }
+            PortIn::Tick { locked, certain } => Answer::sending(self.tick(locked, certain)),
+            PortIn::Sent {
+                delay: false,
+                seq,
+                stamp,
+                ..
+            } => Answer::sending(self.sync_sent(seq, stamp)),
+            PortIn::Sent {
+                delay: true,
+                seq,
+                stamp,
+                tick,
+            } => {
+                self.request_sent(seq, stamp, tick);
+                Answer::sending(Sends::new())
+            }
+            PortIn::Carrier { up: true, module } => {
+                self.carrier_comes(module);
+                Answer::sending(Sends::new())
+            }
+            PortIn::Carrier { up: false, .. } => {
+                self.carrier_goes();
+                Answer::sending(Sends::new())
+            }
+            PortIn::Sample { n, u } => {
+                self.sample(n, u);
+                Answer::sending(Sends::new())
+            }
+            PortIn::Chain(news) => {
+                self.chain(news);
+                Answer::sending(Sends::new())
+            }
+            PortIn::Reset => {
+                self.reset();
+                Answer::sending(Sends::new())
+            }
+        }
+    }
+
+    // One turn of the lease.
+    fn lease_turn(&mut self)
+        ensures { self.new ≡ record self.old { line = after self.old.set self.old.line PortIn.Lease } }
+    {
+        self.line.lease = self.line.lease.saturating_sub(1);
+    }
+
+    // A tick: first the link, then what is due. A Delay_Req that is sent is told to the exchange.
+    fn tick(&mut self, locked: bool, certain: bool) -> Sends
+        ensures set { self.new.set ≡ self.old.set }
+        ensures line { self.new.line ≡ after self.old.set self.old.line (PortIn.Tick locked certain) }
+        ensures exchange { (calls : List Call) → ExchangeStandsFor self.old.set.ring self.old.exchange calls →
+            ExchangeStandsFor self.old.set.ring self.new.exchange
+            (calls_after self.old.set self.old.line (PortIn.Tick locked certain) calls) }
+        ensures sends { result.items ≡ sends_of self.old.set self.old.line (PortIn.Tick locked certain) }
+    {
+        let first = self.line.ids.signal;
+        let out = self.line.tick(&self.set, locked);
+        self.note_request();
+        let mut sends = signals(&self.set, first, &out.sends);
+        self.line.schedule(&self.set, certain, &mut sends);
+        sends
+    }
+
+    // Tells the exchange of a slave the Delay_Req that is due.
+    fn note_request(&mut self)
+        ensures set { self.new.set ≡ self.old.set }
+        ensures line { self.new.line ≡ self.old.line }
+        ensures exchange { (calls : List Call) → ExchangeStandsFor self.old.set.ring self.old.exchange calls →
+            ExchangeStandsFor self.old.set.ring self.new.exchange
+            (with_call (due_request self.old.set.ds.role self.old.line) calls) }
+    {
+        match self.set.ds.role {
+            Role::Slave if self.line.requests() => self.exchange.req_out(self.line.ids.request),
+            _ => {}
+        }
+    }
+
+    // The sending of a Sync is told: the newest one's gives its Follow_Up while the port is open.
+    fn sync_sent(&self, seq: u16, stamp: Stamp) -> Sends
+        requires { IsStamp stamp }
+        ensures { result.items ≡ follow_ups self.now.set self.now.line seq stamp }
+    {
+        let mut sends = Sends::new();
+        if self.is_newest(seq) && is_open(&self.line.link) {
+            sends.push(follow_up(&self.set, seq, stamp));
+        }
+        sends
+    }
+
+    // Whether a sequenceId is that of the newest Sync.
+    fn is_newest(&self, seq: u16) -> bool
+        ensures { result ≡ is_newest self.now.line.ids.newest_sync seq }
+    {
+        match self.line.ids.newest_sync {
+            Some(newest) => newest == seq,
+            None => false,
+        }
+    }
+
+    // The sending of a Delay_Req is told: a slave's exchange keeps it.
+    fn request_sent(&mut self, seq: u16, stamp: Stamp, tick: u32)
+        requires { IsStamp stamp }
+        ensures set { self.new.set ≡ self.old.set }
+        ensures line { self.new.line ≡ self.old.line }
+        ensures exchange { (calls : List Call) → ExchangeStandsFor self.old.set.ring self.old.exchange calls →
+            ExchangeStandsFor self.old.set.ring self.new.exchange
+            (with_call (sent_call self.old.set.ds.role seq stamp tick) calls) }
+    {
+        match self.set.ds.role {
+            Role::Slave => {
+                let _kept = self.exchange.req_sent(seq, stamp, tick);
+            }
+            Role::Master => {}
+        }
+    }
+
+    // A carrier comes: the lease stays.
+    fn carrier_comes(&mut self, own_module: Option<Module>)
+        ensures { self.new
+            ≡ record self.old { line = told self.old.line (link.CarrierUp own_module) } }
+    {
+        let _out = self.line.tell(LinkIn::CarrierUp(own_module));
+    }
+
+    // The carrier goes, and the lease with it.
+    fn carrier_goes(&mut self)
+        ensures { self.new
+            ≡ record self.old {
+              line = record (told self.old.line link.CarrierDown) { lease = 0 };
+            } }
+    {
+        let _out = self.line.tell(LinkIn::CarrierDown);
+        self.line.lease = 0;
+    }
+
+    // A good sample: a slave's exchange keeps it.
+    fn sample(&mut self, n: u32, u: i64)
+        ensures set { self.new.set ≡ self.old.set }
+        ensures line { self.new.line ≡ self.old.line }
+        ensures exchange { (calls : List Call) → ExchangeStandsFor self.old.set.ring self.old.exchange calls →
+            ExchangeStandsFor self.old.set.ring self.new.exchange
+            (with_call (sample_call self.old.set.ds.role n u) calls) }
+    {
+        match self.set.ds.role {
+            Role::Slave => self.exchange.sample(n, u),
+            Role::Master => {}
+        }
+    }
+
+    // What became of the servo's chain: a slave's exchange begins or ends with it.
+    fn chain(&mut self, news: ChainNews)
+        ensures set { self.new.set ≡ self.old.set }
+        ensures line { self.new.line ≡ self.old.line }
+        ensures exchange { (calls : List Call) → ExchangeStandsFor self.old.set.ring self.old.exchange calls →
+            ExchangeStandsFor self.old.set.ring self.new.exchange
+            (with_call (news_call self.old.set.ds.role news) calls) }
+    {
+        match (self.set.ds.role, news) {
+            (Role::Slave, ChainNews::Started(first)) => self.exchange.start(first),
+            (Role::Slave, ChainNews::Ended) => self.exchange.clear(),
+            _ => {}
+        }
+    }
+
+    // The node starts anew.
+    fn reset(&mut self)
+        ensures set { self.new.set ≡ self.old.set }
+        ensures line { self.new.line ≡ new_line self.old.set }
+        ensures exchange { (calls : List Call) → ExchangeStandsFor self.old.set.ring self.old.exchange calls →
+            ExchangeStandsFor self.old.set.ring self.new.exchange [] }
+    {
+        self.line = Line::new(&self.set);
+        self.exchange.reset();
+    }
+}
