@@ -23,30 +23,39 @@ use Rattle.wrp_caldb.specs.declared.keys.Others.TheVariants.{Refused, Ignored}
 
 -- the rows
 
+-- the version of the text, 1 where it is missing
 abbrev pub version_key : Key
 version_key = default_key (codes "version") (pos 1) (pos 2) (pos 1)
 
+-- the modules, which may be missing
 abbrev pub module_key : Key
 module_key = optional_key (codes "module") (so.Tables 0 None)
 
+-- the fibres, which may be missing
 abbrev pub fibre_key : Key
 fibre_key = optional_key (codes "fibre") (so.Tables 0 None)
 
+-- the keys of the text itself
 abbrev pub top_keys : List Key
 top_keys = version_key ∷ module_key ∷ fibre_key ∷ []
 
+-- a transmission delay, in tau
 abbrev pub tx_key : Key
 tx_key = number_key (codes "tx") (pos 0) (pos 1_000_000_000_000)
 
+-- a reception delay, in tau
 abbrev pub rx_key : Key
 rx_key = number_key (codes "rx") (pos 0) (pos 1_000_000_000_000)
 
+-- the tag at which a new period begins, in detector steps
 abbrev pub transition_key : Key
 transition_key = number_key (codes "transition") (pos 0) (pos 16383)
 
+-- how far each true delay may be from its entry, in tau
 abbrev pub module_err_key : Key
 module_err_key = number_key (codes "err") (pos 0) (pos 1_000_000_000)
 
+-- the name of a module
 abbrev pub module_name_key : Key
 module_name_key = required_key (codes "name") so.ModuleName
 
@@ -55,6 +64,7 @@ abbrev pub module_keys : Version → List Key
 module_keys One = module_name_key ∷ tx_key ∷ rx_key ∷ transition_key ∷ module_err_key ∷ []
 module_keys Two = module_name_key ∷ required_key (codes "pair") (so.Tables 1 (Some 16)) ∷ []
 
+-- the wavelength that a module sends, in nm
 abbrev pub tx_nm_key : Key
 tx_nm_key = required_key (codes "tx_nm") so.Wavelength
 
@@ -66,23 +76,29 @@ rx_nm_key first = required_key (codes "rx_nm") (so.SecondWavelength first)
 abbrev pub first_wavelength : Members → Option ℤ
 first_wavelength pair = option_and_then as_integer (get_member (codes "tx_nm") pair)
 
+-- the keys of a pair
 abbrev pub pair_keys : Members → List Key
 pair_keys pair =
     tx_nm_key ∷ rx_nm_key (first_wavelength pair)
     ∷ tx_key ∷ rx_key ∷ transition_key ∷ module_err_key ∷ []
 
+-- the name of a fibre
 abbrev pub fibre_name_key : Key
 fibre_name_key = required_key (codes "name") so.Name
 
+-- the asymmetry of a fibre, from -2^38 to 2^38
 abbrev pub kappa_key : Key
 kappa_key = number_key (codes "kappa") (negsuc 274_877_906_943) (pos 274_877_906_944)
 
+-- how far the delay down may be from its part of both ways, in tau
 abbrev pub fibre_err_key : Key
 fibre_err_key = number_key (codes "err") (pos 1) (pos 1_000_000_000)
 
+-- how far a point may be from the law, in tau, 0 where it is missing
 abbrev pub table_err_key : Key
 table_err_key = default_key (codes "table_err") (pos 0) (pos 1_000_000_000) (pos 0)
 
+-- the law of this asymmetry, whose points are within this error
 abbrev pub linear_law : Option ℤ → Option ℤ → Option Linear
 linear_law (Some kappa) (Some err) = Some (record { kappa = kappa; err = unsigned_abs err })
 linear_law _ _ = None
@@ -92,6 +108,7 @@ abbrev pub law_of : Members → Option Linear
 law_of fibre = linear_law (number_in kappa_key (get_member (codes "kappa") fibre))
     (number_in table_err_key (get_member (codes "table_err") fibre))
 
+-- the points of a fibre, which may be missing
 abbrev pub table_key : Option Linear → Key
 table_key law = optional_key (codes "table") (so.Points law)
 
@@ -110,6 +127,7 @@ abbrev pub version_in : Option ℤ → Version
 version_in None = One
 version_in (Some z) = if int_eq z (pos 2) then Two else One
 
+-- the version of a text
 abbrev pub version_of : Members → Version
 version_of doc = version_in (option_and_then as_integer (get_member (codes "version") doc))
 
@@ -140,10 +158,12 @@ place_in_fibre code fibres n table =
     option_or (place_in_table code (tables.Fibre (n + 1)) (fibre_keys table) table)
     (place_of_name code (tables.Fibre (n + 1)) (take n fibres) table)
 
+-- in the modules, each in its turn
 abbrev pub place_in_modules : Version → Code → List Data → Option PlaceAt
 place_in_modules version code modules =
     first_among (λ n d. on_table (place_in_module version code modules n) d) 0 modules
 
+-- in the fibres, each in its turn
 abbrev pub place_in_fibres : Code → List Data → Option PlaceAt
 place_in_fibres code fibres =
     first_among (λ n d. on_table (place_in_fibre code fibres n) d) 0 fibres

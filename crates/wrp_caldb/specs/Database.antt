@@ -48,16 +48,20 @@ entry_at tx rx entries =
 abbrev pub delays_at : List Entry → ℕ → ℕ → Option Module
 delays_at entries tx rx = option_or (entry_at tx rx entries) (entry_at 0 0 entries)
 
+-- the numbers of a name for a pair of wavelengths
 abbrev pub module_at : Database → List ℕ → ℕ → ℕ → Option Module
 module_at db name tx rx =
     option_and_then (λ m. delays_at m.entries tx rx) (find (λ m. same_name m.name name) db.modules)
 
+-- the fibre of a name
 abbrev pub fibre_named : Database → List ℕ → Option FibreAt
 fibre_named db name = find (λ f. same_name f.name name) db.fibres
 
+-- the asymmetry of a name, and its error
 abbrev pub fibre_at : Database → List ℕ → Option Fibre
 fibre_at db name = option_map (λ f. f.fibre) (fibre_named db name)
 
+-- the points of a name, and their error
 abbrev pub table_at : Database → List ℕ → Option TableAt
 table_at db name = option_and_then (λ f. f.table) (fibre_named db name)
 
@@ -68,9 +72,11 @@ table_at db name = option_and_then (λ f. f.table) (fibre_named db name)
 abbrev pub number_at : Key → Members → ℤ
 number_at key table = unwrap_or (number_in key (get_member key.name table)) (pos 0)
 
+-- the same, without a sign
 abbrev pub natural_at : Key → Members → ℕ
 natural_at key table = unsigned_abs (number_at key table)
 
+-- the text where it is a name
 abbrev pub name_or_none : Option (List ℕ) → List ℕ
 name_or_none None = []
 name_or_none (Some name) = if is_name name then name else []
@@ -79,6 +85,7 @@ name_or_none (Some name) = if is_name name then name else []
 abbrev pub name_at : Members → List ℕ
 name_at table = name_or_none (name_in table)
 
+-- the delays that stand in a table
 abbrev pub delays_of : Members → Module
 delays_of table = record {
   tx = natural_at tx_key table;
@@ -104,6 +111,7 @@ abbrev pub entries_of : Version → Members → List Entry
 entries_of One table = record { tx_nm = 0; rx_nm = 0; delays = delays_of table } ∷ []
 entries_of Two table = each_table entry_of (tables_at (codes "pair") table)
 
+-- the module of a table
 abbrev pub module_of : Version → Members → ModuleAt
 module_of version table = record { name = name_at table; entries = entries_of version table }
 
@@ -113,6 +121,7 @@ table_of fibre =
     option_map (λ ps. record { points = ps; err = natural_at table_err_key fibre })
     (option_and_then stored_points (get_member (codes "table") fibre))
 
+-- the fibre of a table
 abbrev pub fibre_of : Members → FibreAt
 fibre_of table = record {
   name = name_at table;

@@ -6,6 +6,7 @@ use Rattle.wrp_caldb.specs.declared.row.Sort.TheVariants as so
 use Rattle.wrp_caldb.specs.declared.row.Need.{Need}
 use Rattle.wrp_caldb.specs.declared.row.Need.TheVariants as ne
 
+-- a key of a table
 pub record Key : Type 0 where
   pub name : List ℕ
   pub need : Need

@@ -4,6 +4,7 @@ use Rattle.std.specs.Prelude.{◌++◌, ℕ, List, [], Option, None, Some, codes
 use Rattle.wrp_caldb.specs.declared.place.At.TheVariants as tables
 use Rattle.wrp_caldb.specs.declared.place.At.{At}
 
+-- a table, and a key of it or none
 pub record PlaceAt : Type 0 where
   pub at : At
   pub key : Option (List ℕ)
@@ -23,6 +24,7 @@ abbrev pub key_text : At → List ℕ → List ℕ
 key_text tables.Top key = key
 key_text at key = table_text at ++ codes "." ++ key
 
+-- a table or a key of it
 abbrev pub text_of : At → Option (List ℕ) → List ℕ
 text_of at None = table_text at
 text_of at (Some key) = key_text at key

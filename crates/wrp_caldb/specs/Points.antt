@@ -15,10 +15,12 @@ list_of (item d ds) = d ∷ list_of ds
 abbrev pub values_of : Data → Option (List Data)
 values_of d = option_map list_of (as_array d)
 
+-- a point of two numbers, where both are there
 abbrev pub both : Option ℤ → Option ℤ → Option (ℤ × ℤ)
 both (Some x) (Some y) = Some (x, y)
 both _ _ = None
 
+-- the point that two values say
 abbrev pub two_numbers : List Data → Option (ℤ × ℤ)
 two_numbers (x ∷ y ∷ []) = both (as_integer x) (as_integer y)
 two_numbers _ = None
@@ -27,6 +29,7 @@ two_numbers _ = None
 abbrev pub point_of : Data → Option (ℤ × ℤ)
 point_of d = option_and_then two_numbers (values_of d)
 
+-- a point before others, where all are there
 abbrev pub with_point : Option (ℤ × ℤ) → Option (List (ℤ × ℤ)) → Option (List (ℤ × ℤ))
 with_point (Some p) (Some ps) = Some (p ∷ ps)
 with_point _ _ = None
@@ -36,6 +39,7 @@ abbrev pub points_of : List Data → Option (List (ℤ × ℤ))
 points_of [] = Some []
 points_of (d ∷ ds) = with_point (point_of d) (points_of ds)
 
+-- the points of 2 to 32 values
 abbrev pub few_points : List Data → Option (List (ℤ × ℤ))
 few_points ds = if nat_le 2 (length ds) && nat_le (length ds) 32 then points_of ds else None
 
@@ -52,10 +56,12 @@ has_bounds p = (le_z (neg_ℤ (pos (2 ^ 30))) p.0 && le_z p.0 (pos (2 ^ 53)))
 abbrev pub is_step : ℤ × ℤ → ℤ × ℤ → Bool
 is_step p q = lt_z p.0 q.0 && le_z p.1 q.1
 
+-- the same from a point through the points behind it
 abbrev pub rises_from : ℤ × ℤ → List (ℤ × ℤ) → Bool
 rises_from p [] = true
 rises_from p (q ∷ qs) = is_step p q && rises_from q qs
 
+-- x rises strictly and y does not fall, from each point to the next
 abbrev pub rises : List (ℤ × ℤ) → Bool
 rises [] = true
 rises (p ∷ ps) = rises_from p ps
@@ -70,6 +76,7 @@ abbrev pub is_near : Option Linear → ℤ × ℤ → Bool
 is_near None p = true
 is_near (Some law) p = nat_le (distance_from law p) (2 ^ 40 * law.err)
 
+-- the point is within the bounds and near the law
 abbrev pub is_sound : Option Linear → ℤ × ℤ → Bool
 is_sound law p = has_bounds p && is_near law p
 

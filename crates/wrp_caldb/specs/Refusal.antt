@@ -10,10 +10,12 @@ use Rattle.wrp_caldb.specs.declared.place.At.{At}
 use Rattle.wrp_caldb.specs.declared.row.Code.{Code}
 use Rattle.wrp_caldb.specs.declared.row.Code.TheVariants as co
 
+-- the place of a key of a table, where there is one
 abbrev pub key_place : At → Option (List ℕ) → Option PlaceAt
 key_place at None = None
 key_place at (Some name) = Some (record { at = at; key = Some name })
 
+-- the place of a table as a whole
 abbrev pub table_place : At → PlaceAt
 table_place at = record { at = at; key = None }
 
@@ -56,6 +58,7 @@ abbrev pub IsLeast : (Code → Option PlaceAt) → Code → PlaceAt → Type 0
 IsLeast first code place = (first code ≡ Some place)
     × ((lower : Code) → number_of lower < number_of code → first lower ≡ None)
 
+-- a place together with its code
 abbrev pub with_code : Code → Option PlaceAt → Option (Code × PlaceAt)
 with_code code None = None
 with_code code (Some place) = Some (code, place)

@@ -11,10 +11,12 @@ use Rattle.wrp_caldb.specs.declared.place.At.{At}
 use Rattle.wrp_caldb.specs.declared.row.Code.{Code}
 use Rattle.wrp_caldb.specs.declared.row.Code.TheVariants as co
 
+-- both are there and have the same octets
 abbrev pub are_same_texts : Option (List ℕ) → Option (List ℕ) → Bool
 are_same_texts (Some a) (Some b) = same_name a b
 are_same_texts _ _ = false
 
+-- both are there and are the same number
 abbrev pub are_same_numbers : Option ℤ → Option ℤ → Bool
 are_same_numbers (Some a) (Some b) = int_eq a b
 are_same_numbers _ _ = false
@@ -23,6 +25,7 @@ are_same_numbers _ _ = false
 abbrev pub name_in : Members → Option (List ℕ)
 name_in table = option_and_then as_str (get_member (codes "name") table)
 
+-- the value is a table with the same name
 abbrev pub has_name_of : Members → Data → Bool
 has_name_of table d = are_same_texts (option_and_then name_in (as_table d)) (name_in table)
 
@@ -35,6 +38,7 @@ abbrev pub has_number_of : List ℕ → Members → Data → Bool
 has_number_of key table d =
     are_same_numbers (option_and_then (integer_in key) (as_table d)) (integer_in key table)
 
+-- the value is a table with the same two wavelengths
 abbrev pub has_wavelengths_of : Members → Data → Bool
 has_wavelengths_of table d =
     has_number_of (codes "tx_nm") table d && has_number_of (codes "rx_nm") table d

@@ -32,6 +32,7 @@ fits_first (Some first) (Some z) =
     if int_eq first (pos 0) then int_eq z (pos 0) else not (int_eq z (pos 0))
 fits_first _ _ = true
 
+-- a text that passes the test
 abbrev pub is_text_of : (List ℕ → Bool) → Option (List ℕ) → Bool
 is_text_of p None = false
 is_text_of p (Some text) = p text
@@ -47,6 +48,7 @@ are_tables least greatest ds =
     list_all (λ d. is_some (as_table d)) ds
     && (nat_le least (length ds) && is_below greatest (length ds))
 
+-- an array of tables alone, from least to greatest of them
 abbrev pub is_array_of_tables : ℕ → Option ℕ → Option (List Data) → Bool
 is_array_of_tables least greatest None = false
 is_array_of_tables least greatest (Some ds) = are_tables least greatest ds
@@ -65,11 +67,13 @@ fits_sort so.ModuleName d = is_text_of is_module_name (as_str d)
 fits_sort so.Table d = is_some (as_table d)
 fits_sort (so.Tables least greatest) d = is_array_of_tables least greatest (values_of d)
 
+-- the key has to be there
 abbrev pub is_required : Need → Bool
 is_required ne.Required = true
 is_required ne.Optional = false
 is_required (ne.Default n) = false
 
+-- the number that stands for a missing key
 abbrev pub default_of : Need → Option ℤ
 default_of ne.Required = None
 default_of ne.Optional = None
@@ -111,9 +115,11 @@ has_unknown keys (member name d rest) = not (is_listed keys name) || has_unknown
 abbrev pub all_tables : List Data → List Data
 all_tables ds = if list_all (λ d. is_some (as_table d)) ds then ds else []
 
+-- the tables of an array
 abbrev pub tables_of : Option (List Data) → List Data
 tables_of None = []
 tables_of (Some ds) = all_tables ds
 
+-- the tables of the array at a key
 abbrev pub tables_at : List ℕ → Members → List Data
 tables_at key table = tables_of (option_and_then values_of (get_member key table))

@@ -41,6 +41,7 @@ module_members m =
 abbrev pub point_data : ℤ × ℤ → Data
 point_data p = array (item (integer p.0) (item (integer p.1) no_items))
 
+-- the points and their error, where there are some
 abbrev pub table_members : Option TableAt → Members
 table_members None = no_members
 table_members (Some t) =

@@ -61,6 +61,7 @@ pub fn fibre_row() -> Row
     )
 }
 
+/// The rows of the text itself.
 pub fn top_rows() -> [Row; 3]
     ensures { result ≡ top_keys }
 {
@@ -80,30 +81,35 @@ pub fn version_of(doc: &Table) -> Version
     }
 }
 
+/// `tx`: a transmission delay in tau, 0 to `10^12`.
 pub fn tx_row() -> Row
     ensures { result ≡ tx_key }
 {
     Row::number("tx", 0, 1_000_000_000_000)
 }
 
+/// `rx`: a reception delay in tau, 0 to `10^12`.
 pub fn rx_row() -> Row
     ensures { result ≡ rx_key }
 {
     Row::number("rx", 0, 1_000_000_000_000)
 }
 
+/// `transition`: the tag at which a new period begins, 0 to 16383.
 pub fn transition_row() -> Row
     ensures { result ≡ transition_key }
 {
     Row::number("transition", 0, 16_383)
 }
 
+/// `err` of a module: in tau, 0 to `10^9`.
 pub fn module_err_row() -> Row
     ensures { result ≡ module_err_key }
 {
     Row::number("err", 0, 1_000_000_000)
 }
 
+/// `name` of a module.
 pub fn module_name_row() -> Row
     ensures { result ≡ module_name_key }
 {
@@ -139,6 +145,7 @@ pub fn paired_module_rows() -> [Row; 2]
     ]
 }
 
+/// `tx_nm`: the wavelength that a module sends, in nm.
 pub fn tx_nm_row() -> Row
     ensures { result ≡ tx_nm_key }
 {
@@ -176,24 +183,28 @@ pub fn pair_rows(pair: &Table) -> [Row; 6]
     ]
 }
 
+/// `name` of a fibre.
 pub fn fibre_name_row() -> Row
     ensures { result ≡ fibre_name_key }
 {
     Row::required("name", Sort::Name)
 }
 
+/// `kappa`: the asymmetry, from `-2^38` to `2^38`.
 pub fn kappa_row() -> Row
     ensures { result ≡ kappa_key }
 {
     Row::number("kappa", -274_877_906_944, 274_877_906_944)
 }
 
+/// `err` of a fibre: in tau, 1 to `10^9`.
 pub fn fibre_err_row() -> Row
     ensures { result ≡ fibre_err_key }
 {
     Row::number("err", 1, 1_000_000_000)
 }
 
+/// `table_err`: in tau, 0 to `10^9`, and 0 where it is missing.
 pub fn table_err_row() -> Row
     ensures { result ≡ table_err_key }
 {
@@ -216,6 +227,7 @@ pub fn law_of(fibre: &Table) -> Option<Linear>
     }
 }
 
+// `table`: the points of a fibre that has this law.
 fn table_row(law: Option<Linear>) -> Row
     ensures { result ≡ table_key law }
 {
