@@ -1,19 +1,18 @@
 -- How far the reading of the network text has come.
-use Rattle.std.proofs.Common.{◌≡◌, ◌⊎◌, inl, inr, true, false, ℕ, ◌+◌, ◌<◌, ◌≤◌, Option, None, Bool, List, [], ◌∷◌, ◌++◌, length, map, refl, sym, ap, ◌∙◌, subst, append_assoc, append-nil, length-append, arith, codes, min, length-take, take, drop, reverse, eq-eqb, ◌==◌}
+use Rattle.std.proofs.Common.{◌≡◌, ◌⊎◌, inl, inr, true, false, ℕ, ◌+◌, ◌<◌, ◌≤◌, Option, None, Bool, List, [], ◌∷◌, ◌++◌, length, refl, sym, ap, ◌∙◌, subst, append_assoc, append-nil, length-append, arith, codes, min, length-take, take, drop, reverse, eq-eqb, ◌==◌}
 use Rattle.std.specs.List.{concat, AllByRecursion}
-use Rattle.std.specs.Str.{bytes_eq}
 use Rattle.std.specs.Io.{StartsWith}
 use Rattle.std.proofs.lemmas.Bool.Decides.{nat_tests}
 use Rattle.std.proofs.KnownBytes.{starts_with_rest}
 use Rattle.std.proofs.lemmas.Slice.Eq.{bytes_eq-Decides}
 use Rattle.std.proofs.lemmas.List.{reverse-reverse, nil_from_length}
-use Rattle.std.specs.Io.KnownBytes.{Appends, Consumes}
-use Rattle.std.proofs.KnownBytes.{Consumes-trans, Consumes-nil}
+use Rattle.std.specs.Io.KnownBytes.{Consumes}
+use Rattle.std.proofs.KnownBytes.{Consumes-nil}
 use Rattle.wrp_run.specs.Lines.{lines_of, content_of, without_end, HasNoFeed, IsWhole}
-use Rattle.wrp_run.specs.Input.{is_separator, before_separator, behind_separator, network_text, network_limit, Divides, IsDivided, IsTooLong, IsUndivided, BeginsSeparator, NetworkOutcome}
+use Rattle.wrp_run.specs.Input.{is_separator, before_separator, behind_separator, network_text, network_limit, IsDivided, IsTooLong, IsUndivided, BeginsSeparator, NetworkOutcome}
 use Rattle.wrp_run.specs.declared.network_text.End.{End}
 use Rattle.wrp_run.specs.declared.network_text.End.TheVariants.{Whole, TooLong, Failed, Memory}
-use Rattle.wrp_run.specs.Reader.{ReaderAt, Takes, IsNext, IsCut, IsLast, EndsInput}
+use Rattle.wrp_run.specs.Reader.{ReaderAt, Takes, IsNext, IsCut, IsLast}
 use Rattle.wrp_run.proofs.Feeds.{lines_of-whole, lines_of-open}
 use Rattle.wrp_run.proofs.Reaching.{Reached, Coming, comes, whole_before, next_some, goes_on_with, lines_behind, concat-snoc, all-snoc}
 

@@ -1,5 +1,5 @@
 -- How far the handling of records has come, and what stands where it stops.
-use Rattle.std.proofs.Common.{◌≡◌, ◌⊎◌, inl, inr, true, false, ℕ, ◌+◌, ◌<◌, ◌≤◌, Option, None, Some, Bool, List, [], ◌∷◌, ◌++◌, length, map, take, refl, sym, ap, ◌∙◌, subst, append_assoc, append-nil, length-append, arith}
+use Rattle.std.proofs.Common.{◌≡◌, ◌⊎◌, inl, inr, true, ℕ, ◌+◌, ◌<◌, ◌≤◌, Option, None, Some, List, [], ◌∷◌, ◌++◌, length, map, take, refl, sym, ap, ◌∙◌, subst, append_assoc, append-nil, length-append, arith}
 use Rattle.std.specs.List.{concat, AllByRecursion}
 use Rattle.std.specs.Io.KnownBytes.{Appends, Consumes}
 use Rattle.std.proofs.KnownBytes.{Appends-trans, Consumes-trans}
@@ -13,9 +13,9 @@ use Rattle.wrp_run.specs.declared.machine.Refusal.TheVariants as refusals
 use Rattle.wrp_run.specs.declared.status.Status.{Status}
 use Rattle.wrp_run.specs.declared.status.Status.TheVariants.{Done, Usage, BadNetwork, BadTrace, Broken, ReadFault, WriteFault, LinkFault, TooLarge, OutOfMemory}
 use Rattle.wrp_run.specs.Engine.{Waits, LineOutcome, TellsLarge, Finishes, MostAt, status_by}
-use Rattle.wrp_run.specs.Lines.{lines_of, content_of, HasNoFeed, IsWhole}
-use Rattle.wrp_run.specs.Reader.{ReaderAt, Takes, IsNext, IsCut, IsLast, EndsInput, piece_limit}
-use Rattle.wrp_run.specs.Stream.{Accepting, Refusing, Handles, IsWithin, IsTooLarge, IsLargeNext, IsCutWithin, size_of, line_limit, number_limit, large_line, StandsBehind, FirstHandled, CutHandled, RefusedAt, TooLargeAt, Due, Outcome, Handling}
+use Rattle.wrp_run.specs.Lines.{lines_of, content_of, IsWhole}
+use Rattle.wrp_run.specs.Reader.{ReaderAt, Takes, IsNext, IsCut, IsLast, piece_limit}
+use Rattle.wrp_run.specs.Stream.{Accepting, Refusing, Handles, IsWithin, IsTooLarge, IsLargeNext, IsCutWithin, line_limit, number_limit, large_line, FirstHandled, RefusedAt, Due, Handling}
 use Rattle.wrp_run.specs.Taking.{AppendsPart}
 use Rattle.wrp_run.proofs.Feeds.{lines_of-whole, lines_of-open, size_plain}
 

@@ -1,7 +1,6 @@
 -- What a reader gives and holds.
-use Rattle.std.proofs.Common.{◌≡◌, ℕ, ◌+◌, ◌-◌, ◌≤◌, min, Option, List, [], Bool, true, false, ◌++◌, append_assoc, append-nil, length, take, drop, sym, ap, ◌∙◌, subst, arith, length-take}
-use Rattle.std.proofs.lemmas.List.{take-take, drop-take, drop-drop, take-append-drop}
-use Rattle.std.proofs.Math.Seq.{take-add}
+use Rattle.std.proofs.Common.{◌≡◌, ℕ, ◌+◌, ◌-◌, ◌≤◌, min, Option, List, [], Bool, true, false, ◌++◌, append_assoc, append-nil, length, take, drop, sym, ap, ◌∙◌, arith, length-take}
+use Rattle.std.proofs.lemmas.List.{drop-take, drop-drop, take-append-drop}
 use Rattle.std.proofs.KnownBytes.{Consumes-trans}
 use Rattle.std.specs.Io.KnownBytes.{Consumes}
 use Rattle.wrp_run.specs.Reader.{ReaderAt, Takes}

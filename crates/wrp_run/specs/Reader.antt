@@ -1,6 +1,6 @@
 -- A reader of lines: what it holds of what it took, and whether the input ended (this project's
 -- profile).
-use Rattle.std.specs.Prelude.{◌≡◌, true, ℕ, ◌<◌, ◌≤◌, ◌⊎◌, Bool, Option, List, [], ◌++◌, length}
+use Rattle.std.specs.Prelude.{◌≡◌, true, ℕ, ◌<◌, ◌⊎◌, Bool, Option, List, [], ◌++◌, length}
 use Rattle.std.specs.Io.KnownBytes.{Consumes}
 use Rattle.wrp_run.specs.Lines.{HasNoFeed, IsWhole}
 

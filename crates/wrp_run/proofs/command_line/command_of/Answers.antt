@@ -1,5 +1,4 @@
 -- The words are none of the commands.
-use Rattle.std.proofs.Common.{rules}
 use Rattle.wrp_run.specs.Words.{texts_of}
 use Rattle.wrp_run.proofs.WordLemmas.{no_command}
 use Rattle.wrp_run.proofs.command_line.command_of.Goals as goal

@@ -1,5 +1,5 @@
 -- Each record is handled, or ends the handling.
-use Rattle.std.proofs.Common.{◌≡◌, ◌∙◌, ℕ, ◌+◌, None, Some, [], length, map, refl, sym, ap, rules, arith}
+use Rattle.std.proofs.Common.{◌≡◌, ◌∙◌, ◌+◌, None, Some, length, map, refl, sym, ap, rules, arith}
 use Rattle.std.proofs.KnownBytes.{Appends-nil, Consumes-nil}
 use Rattle.std.proofs.lemmas.List.{length-map}
 use Rattle.wrp_run.specs.declared.status.Status.TheVariants.{OutOfMemory}

@@ -1,6 +1,5 @@
 -- A line that passes the size has more octets than are taken.
-use Rattle.std.proofs.Common.{◌≡◌, ◌∙◌, refl, inl, inr, sym, ap, rules}
-use Rattle.wrp_run.specs.declared.reader.Next.TheVariants.{Line, TooLong}
+use Rattle.std.proofs.Common.{inl, inr, rules}
 use Rattle.wrp_run.proofs.Reaching.{large_cut, large_whole}
 use Rattle.wrp_run.proofs.engine.next_record.Goals as goal
 

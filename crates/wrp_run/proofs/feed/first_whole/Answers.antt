@@ -1,5 +1,5 @@
 -- By the place of the first LF.
-use Rattle.std.proofs.Common.{sym, ◌∙◌}
+use Rattle.std.proofs.Common.{sym}
 use Rattle.wrp_run.proofs.Feeds.{none_anywhere, whole_at}
 use Rattle.wrp_run.proofs.feed.first_whole.Goals as goal
 

@@ -1,5 +1,5 @@
 -- The line is read on as long as it may still end the network text.
-use Rattle.std.proofs.Common.{◌≡◌, ℕ, ◌<◌, ◌≤◌, length, refl, inr, subst, rules, arith}
+use Rattle.std.proofs.Common.{◌≡◌, ◌≤◌, length, refl, inr, subst, rules, arith}
 use Rattle.wrp_run.specs.Input.{BeginsSeparator}
 use Rattle.wrp_run.proofs.Networking.{begun_fails, begins_fits}
 use Rattle.wrp_run.proofs.ReaderLemmas.{takes_on}

@@ -1,5 +1,5 @@
 -- Each line belongs to the network text, or ends its reading.
-use Rattle.std.proofs.Common.{◌≡◌, ◌⊎◌, inl, inr, ℕ, ◌+◌, ◌<◌, ◌≤◌, true, false, List, length, refl, rules, arith}
+use Rattle.std.proofs.Common.{◌≡◌, ◌⊎◌, inl, inr, ◌+◌, ◌<◌, ◌≤◌, true, false, length, refl, rules, arith}
 use Rattle.wrp_run.specs.Input.{network_limit, is_separator, BeginsSeparator}
 use Rattle.wrp_run.proofs.Networking.{begins_network, network_ends, network_divides, network_cut_long, network_line_long, network_fails, network_no_memory, network_goes_on}
 use Rattle.wrp_run.proofs.network_text.take_lines.Goals as goal

@@ -1,5 +1,5 @@
 -- What was given and what is held are what was held.
-use Rattle.std.proofs.Common.{ap, sym, ◌∙◌, ◌++◌}
+use Rattle.std.proofs.Common.{ap, ◌∙◌, ◌++◌}
 use Rattle.wrp_run.proofs.ReaderLemmas.{held_on}
 use Rattle.wrp_run.proofs.reader.Reader.give.Goals as goal
 
