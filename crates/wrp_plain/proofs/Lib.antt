@@ -1,3 +1,4 @@
 pub mod Least
 pub mod Marks
 pub mod Adding
+pub mod Bound

@@ -3,3 +3,4 @@ pub mod Call
 pub mod Report
 pub mod Out
 pub mod StandsFor
+pub mod Truth

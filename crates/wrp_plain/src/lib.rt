@@ -4,9 +4,11 @@
 #![tactic(auto)]
 
 mod kept;
+mod law;
 mod servo;
 mod settings;
 
+pub use law::measured_within_bound;
 pub use servo::Plain;
 pub use settings::{PlainOut, PlainReport, PlainSet};
 

@@ -1,6 +1,6 @@
 //! Answers by hand, at the edges.
 ghost use Rattle.wrp_plain.specs.Measurement.{HasRanges};
-ghost use Rattle.std.specs.Prelude.{◌^◌, ◌≤◌, unsigned_abs};
+ghost use Rattle.std.specs.Prelude.{◌^◌, ◌≤◌, ◌≤ℤ◌, unsigned_abs};
 
 use super::{Plain, PlainOut, PlainReport, PlainSet};
 use std::test::Fail;
@@ -172,18 +172,59 @@ const ROWS: [Row; 7] = [
     },
 ];
 
+// A number, held within its range.
+fn between(low: i64, n: i64, high: i64) -> i64
+    requires { low ≤ℤ high }
+    ensures least { low ≤ℤ result }
+    ensures greatest { result ≤ℤ high }
+{
+    if n < low {
+        low
+    } else if n > high {
+        high
+    } else {
+        n
+    }
+}
+
+fn at_most(n: u64, high: u64) -> u64
+    ensures { result ≤ high }
+{
+    if n > high { high } else { n }
+}
+
+fn room(n: usize) -> usize
+    ensures least { 1 ≤ result }
+    ensures greatest { result ≤ 64 }
+{
+    if n < 1 {
+        1
+    } else if n > 64 {
+        64
+    } else {
+        n
+    }
+}
+
 // The settings, held within their ranges.
 fn within(set: &PlainSet) -> PlainSet
     ensures { HasRanges result }
 {
+    let rate = at_most(set.rate, 1_000_000_000);
+    let err = at_most(set.err, 1_000_000_000);
+    let least = between(0, set.least, 1_000_000_000_000_000);
+    let span = between(0, set.span, 1_000_000_000_000_000);
+    let dmax = between(1, set.dmax, 1_000_000_000_000_000_000);
+    let ring = room(set.ring);
+    let step = between(1, set.step, 1 << 60);
     PlainSet {
-        rate: set.rate.min(1_000_000_000),
-        err: set.err.min(1_000_000_000),
-        least: set.least.max(0).min(1_000_000_000_000_000),
-        span: set.span.max(0).min(1_000_000_000_000_000),
-        dmax: set.dmax.max(1).min(1_000_000_000_000_000_000),
-        ring: set.ring.max(1).min(64),
-        step: set.step.max(1).min(1 << 60),
+        rate,
+        err,
+        least,
+        span,
+        dmax,
+        ring,
+        step,
     }
 }
 
