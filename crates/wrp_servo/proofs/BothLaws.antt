@@ -1,5 +1,5 @@
 -- The chain and TRACK over a list of calls, looking back.
-use Rattle.std.proofs.Common.{◌≡◌, refl, ap, ◌∙◌, sym, ◌↔◌, ℕ, ℤ, Bool, true, false, cond, not, ◌&&◌, ◌||◌, is_some, Option, None, Some, List, subst}
+use Rattle.std.proofs.Common.{◌≡◌, refl, ap, ◌∙◌, sym, ◌↔◌, ℕ, ℤ, Bool, true, false, cond, not, ◌&&◌, ◌||◌, is_some, Option, None, Some, List, subst, ◌∷◌}
 use Rattle.wrp_base.specs.declared.link.Deltas.{Deltas}
 use Rattle.wrp_base.specs.declared.link.ServoState.{ServoState}
 use Rattle.wrp_base.specs.declared.link.ServoState.TheVariants.{Uninit, SyncTai, SyncNsec, SyncPhase, WaitStable, Track, Holdover}
