@@ -1,6 +1,6 @@
 -- How deep the text of a database nests.
-use Rattle.std.proofs.Common.{◌≤◌, ℕ, suc, List, [], ◌∷◌, Option, None, Some, map, arith}
-use Rattle.toml.specs.Data.{Data, table, array, depth, items_depth, members_depth}
+use Rattle.std.proofs.Common.{◌≤◌, ℕ, List, [], ◌∷◌, Option, None, Some, map, arith}
+use Rattle.toml.specs.Data.{Data, table, depth, items_depth, members_depth}
 use Rattle.toml.specs.View.{items_of}
 use Rattle.wrp_caldb.specs.Database.{Database, ModuleAt, FibreAt, TableAt}
 use Rattle.wrp_caldb.specs.Text.{pair_members, module_members, point_data, table_members, fibre_members, document_of}

@@ -1,6 +1,6 @@
 -- The parts of a text that has no place of any code.
-use Rattle.std.proofs.Common.{◌≡◌, ◌<◌, ◌≤◌, ◌+◌, ◌&&◌, ◌||◌, not, ℕ, ℤ, pos, negsuc, zero, suc, List, [], ◌∷◌, Bool, true, false, Option, None, Some, map, option_map, length, take, unsigned_abs, min, cond, refl, sym, ap, subst, ap₂, ◌∙◌, arith, rules, lit<}
-use Rattle.std.proofs.lemmas.Bool.{and_parts, false≢true}
+use Rattle.std.proofs.Common.{◌≡◌, ◌+◌, ◌&&◌, ◌||◌, not, ℕ, zero, suc, List, [], ◌∷◌, Bool, true, false, Option, None, Some, map, option_map, length, take, cond, refl, ap, arith}
+use Rattle.std.proofs.lemmas.Bool.{and_parts}
 use Rattle.std.proofs.lemmas.Bool.Decides.{nat_tests}
 use Rattle.std.specs.Prelude.{nat_le, if◌then◌else◌}
 use Rattle.std.specs.Option.{option_or, is_some}
@@ -9,11 +9,10 @@ use Rattle.toml.specs.Data.{Data, Members, table, string, integer, float, boolea
 use Rattle.wrp_caldb.specs.Database.{each_table}
 use Rattle.wrp_caldb.specs.Key.{Key}
 use Rattle.wrp_caldb.specs.Place.{PlaceAt}
-use Rattle.wrp_caldb.specs.Refusal.{key_place, place_of_keys, place_of_others, place_in_table, on_table, first_among, HasNone}
-use Rattle.wrp_caldb.specs.Rows.{has_fault, first_key, are_tables, all_tables, tables_of}
+use Rattle.wrp_caldb.specs.Refusal.{key_place, place_of_keys, place_of_others, place_in_table, on_table, first_among}
+use Rattle.wrp_caldb.specs.Rows.{has_fault, are_tables, tables_of}
 use Rattle.wrp_caldb.specs.declared.place.At.{At}
 use Rattle.wrp_caldb.specs.declared.row.Code.{Code}
-use Rattle.wrp_caldb.specs.declared.row.Code.TheVariants as co
 
 pub none_parts : {T : Type 0} (a b : Option T) → option_or a b ≡ None → (a ≡ None) × (b ≡ None)
 none_parts None b e = (refl, e)

@@ -1,20 +1,19 @@
 -- The fibres of a text that has no place of any code, written again, have none.
-use Rattle.std.proofs.Common.{◌≡◌, ◌≤◌, ◌+◌, ◌&&◌, not, ℕ, ℤ, pos, negsuc, zero, suc, List, [], ◌∷◌, Bool, true, false, Option, None, Some, map, option_map, take, unsigned_abs, min, refl, sym, ap, subst, ap₂, ◌∙◌, arith}
-use Rattle.std.proofs.lemmas.Bool.{and_parts, false≢true}
+use Rattle.std.proofs.Common.{◌≡◌, ◌≤◌, ◌+◌, not, ℕ, ℤ, pos, negsuc, List, [], ◌∷◌, Bool, true, false, Option, None, Some, map, option_map, take, unsigned_abs, min, refl, sym, ap, subst, ap₂, ◌∙◌, arith}
+use Rattle.std.proofs.lemmas.Bool.{false≢true}
 use Rattle.std.specs.Prelude.{unwrap_or, option_and_then, codes, if◌then◌else◌}
-use Rattle.std.specs.Option.{is_some, option_or}
+use Rattle.std.specs.Option.{is_some}
 use Rattle.std.specs.List.{find}
 use Rattle.toml.specs.Data.{Data, Members, table, array, integer, as_integer, get_member}
 use Rattle.toml.specs.View.{items_of}
 use Rattle.wrp_caldb.specs.Calibration.{fibre_name_key, kappa_key, fibre_err_key, table_err_key, table_key, linear_law, law_of, linear_keys, fibre_keys, place_in_fibre, place_in_fibres}
-use Rattle.wrp_caldb.specs.Database.{FibreAt, TableAt, natural_at, number_at, name_at, name_or_none, each_table, table_of, fibre_of}
-use Rattle.wrp_caldb.specs.Key.{Key, number_key, default_key}
+use Rattle.wrp_caldb.specs.Database.{TableAt, natural_at, number_at, name_at, each_table, table_of, fibre_of}
+use Rattle.wrp_caldb.specs.Key.{Key}
 use Rattle.wrp_caldb.specs.Name.{is_name}
-use Rattle.wrp_caldb.specs.Place.{PlaceAt}
 use Rattle.wrp_caldb.specs.Points.{stored_points, values_of, few_points, is_table}
-use Rattle.wrp_caldb.specs.Refusal.{place_in_table, on_table, first_among}
+use Rattle.wrp_caldb.specs.Refusal.{place_in_table}
 use Rattle.wrp_caldb.specs.Repeats.{name_in, place_of_name}
-use Rattle.wrp_caldb.specs.Rows.{has_fault, in_range, number_in, tables_of, tables_at}
+use Rattle.wrp_caldb.specs.Rows.{has_fault, in_range, number_in, tables_of}
 use Rattle.wrp_caldb.specs.Text.{number, point_data, fibre_members}
 use Rattle.wrp_caldb.specs.declared.place.At.{At}
 use Rattle.wrp_caldb.specs.declared.place.At.TheVariants as tables

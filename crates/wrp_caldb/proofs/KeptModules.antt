@@ -1,8 +1,8 @@
 -- The modules of a text that has no place of any code, written again, have none.
-use Rattle.std.proofs.Common.{◌≡◌, ◌≤◌, ◌+◌, ◌&&◌, not, ℕ, pos, zero, suc, List, [], ◌∷◌, Bool, true, false, Option, None, Some, map, take, length, refl, sym, ap, subst, ap₂, ◌∙◌, arith}
+use Rattle.std.proofs.Common.{◌≡◌, ◌+◌, ◌&&◌, not, ℕ, pos, List, [], ◌∷◌, Bool, true, false, Option, None, Some, map, take, length, refl, sym, ap, subst, ◌∙◌, arith}
 use Rattle.std.proofs.lemmas.Bool.{and_parts, false≢true}
 use Rattle.std.proofs.lemmas.List.{length-map}
-use Rattle.std.specs.Prelude.{option_and_then, codes, nat_le, if◌then◌else◌}
+use Rattle.std.specs.Prelude.{option_and_then, codes, nat_le}
 use Rattle.std.specs.Option.{is_some, option_or}
 use Rattle.std.specs.List.{find, list_all}
 use Rattle.toml.specs.Data.{Data, Members, table, array, as_table, get_member}
@@ -10,11 +10,10 @@ use Rattle.toml.specs.View.{items_of}
 use Rattle.wrp_caldb.specs.Calibration.{tx_key, rx_key, transition_key, module_err_key, tx_nm_key, rx_nm_key, module_keys, module_name_key, pair_keys, place_in_pair, place_in_pairs, place_in_module, place_in_modules}
 use Rattle.wrp_caldb.specs.Database.{delays_of, entry_of, each_table, entries_of, module_of}
 use Rattle.wrp_caldb.specs.Key.{Key, required_key}
-use Rattle.wrp_caldb.specs.Place.{PlaceAt}
-use Rattle.wrp_caldb.specs.Points.{list_of, values_of}
-use Rattle.wrp_caldb.specs.Refusal.{place_in_table, on_table, first_among}
+use Rattle.wrp_caldb.specs.Points.{values_of}
+use Rattle.wrp_caldb.specs.Refusal.{place_in_table}
 use Rattle.wrp_caldb.specs.Repeats.{name_in, place_of_name}
-use Rattle.wrp_caldb.specs.Rows.{has_fault, all_tables, are_tables, is_array_of_tables, tables_of, tables_at}
+use Rattle.wrp_caldb.specs.Rows.{has_fault, are_tables, is_array_of_tables, tables_of, tables_at}
 use Rattle.wrp_caldb.specs.Name.{is_module_name}
 use Rattle.wrp_caldb.specs.Text.{pair_members, module_members}
 use Rattle.wrp_caldb.specs.declared.database.Entry.{Entry}

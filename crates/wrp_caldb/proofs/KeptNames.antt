@@ -1,13 +1,12 @@
 -- A name that a text may have is the name that is read, and no two become one.
-use Rattle.std.proofs.Common.{◌≡◌, ◌&&◌, not, ℕ, List, [], ◌∷◌, Bool, true, false, Option, None, Some, map, take, refl, sym, ap, subst, ◌∙◌, arith}
-use Rattle.std.proofs.lemmas.Bool.{and_parts, false≢true}
+use Rattle.std.proofs.Common.{◌≡◌, not, ℕ, List, [], ◌∷◌, Bool, true, false, Option, None, Some, map, take, refl, ap, ◌∙◌}
+use Rattle.std.proofs.lemmas.Bool.{and_parts}
 use Rattle.std.specs.Prelude.{option_and_then, codes, if◌then◌else◌}
 use Rattle.std.specs.List.{list_any}
-use Rattle.toml.specs.Data.{Data, Members, table, as_str, get_member}
+use Rattle.toml.specs.Data.{Data, Members, table, as_str}
 use Rattle.wrp_caldb.specs.Database.{name_at, name_or_none}
-use Rattle.wrp_caldb.specs.Key.{Key, required_key}
+use Rattle.wrp_caldb.specs.Key.{required_key}
 use Rattle.wrp_caldb.specs.Name.{same_name, is_name, is_module_name}
-use Rattle.wrp_caldb.specs.Place.{PlaceAt}
 use Rattle.wrp_caldb.specs.Repeats.{are_same_texts, name_in, has_name_of, place_of_name}
 use Rattle.wrp_caldb.specs.Rows.{has_fault, is_text_of}
 use Rattle.wrp_caldb.specs.declared.place.At.{At}

@@ -1,11 +1,11 @@
 -- A number that a text may have is the number that is read, and fits again.
-use Rattle.std.proofs.Common.{◌≡◌, ◌≤◌, ◌&&◌, ◌||◌, not, ℕ, ℤ, pos, negsuc, zero, suc, List, [], ◌∷◌, Bool, true, false, Option, None, Some, unsigned_abs, min, refl, sym, ap, subst, ◌∙◌, arith}
+use Rattle.std.proofs.Common.{◌≡◌, ◌≤◌, ◌&&◌, not, ℕ, ℤ, pos, negsuc, List, Bool, true, false, Option, None, Some, unsigned_abs, min, refl, sym, ap, subst, ◌∙◌, arith}
 use Rattle.std.proofs.lemmas.Bool.{and_parts, false≢true}
 use Rattle.std.proofs.lemmas.Bool.Decides.{nat_tests}
-use Rattle.std.specs.Prelude.{unwrap_or, option_and_then, nat_le, if◌then◌else◌}
+use Rattle.std.specs.Prelude.{unwrap_or, option_and_then, nat_le}
 use Rattle.toml.specs.Data.{Data, as_integer}
-use Rattle.wrp_caldb.specs.Calibration.{kappa_key, tx_nm_key, rx_nm_key}
-use Rattle.wrp_caldb.specs.Key.{Key, number_key, default_key}
+use Rattle.wrp_caldb.specs.Calibration.{tx_nm_key, rx_nm_key}
+use Rattle.wrp_caldb.specs.Key.{number_key, default_key}
 use Rattle.wrp_caldb.specs.Rows.{has_fault, in_range, is_wavelength, fits_first, number_in}
 use Rattle.wrp_caldb.specs.Text.{number}
 use Rattle.wrp_caldb.specs.declared.row.Code.TheVariants as co

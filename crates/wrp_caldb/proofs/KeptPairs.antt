@@ -1,19 +1,16 @@
 -- The pairs of a module that has no place of any code, written again, have none.
-use Rattle.std.proofs.Common.{◌≡◌, ◌≤◌, ◌+◌, ◌&&◌, ◌||◌, not, ℕ, ℤ, pos, zero, suc, List, [], ◌∷◌, Bool, true, false, Option, None, Some, map, take, unsigned_abs, min, refl, sym, ap, subst, ap₂, ◌∙◌, arith}
-use Rattle.std.proofs.lemmas.Bool.{and_parts, false≢true}
-use Rattle.std.specs.Prelude.{option_and_then, codes, if◌then◌else◌}
+use Rattle.std.proofs.Common.{◌≡◌, ◌+◌, ◌&&◌, not, ℕ, ℤ, pos, List, [], ◌∷◌, Bool, true, false, Option, None, Some, map, take, min, refl, sym, ap, ap₂, ◌∙◌, arith}
+use Rattle.std.proofs.lemmas.Bool.{and_parts}
+use Rattle.std.specs.Prelude.{codes}
 use Rattle.std.specs.List.{find, list_all, list_any}
-use Rattle.std.specs.Option.{option_or}
-use Rattle.toml.specs.Data.{Data, Members, table, as_integer, get_member}
+use Rattle.toml.specs.Data.{Data, Members, table, get_member}
 use Rattle.wrp_caldb.specs.Calibration.{tx_key, rx_key, transition_key, module_err_key, tx_nm_key, rx_nm_key, first_wavelength, pair_keys, place_in_pair}
 use Rattle.wrp_caldb.specs.Database.{natural_at, delays_of, entry_of}
 use Rattle.wrp_caldb.specs.Key.{Key}
-use Rattle.wrp_caldb.specs.Place.{PlaceAt}
 use Rattle.wrp_caldb.specs.Refusal.{place_in_table}
 use Rattle.wrp_caldb.specs.Repeats.{are_same_numbers, integer_in, has_wavelengths_of, place_of_pair}
-use Rattle.wrp_caldb.specs.Rows.{has_fault, is_wavelength, fits_first}
-use Rattle.wrp_caldb.specs.Text.{number, pair_members}
-use Rattle.wrp_caldb.specs.declared.database.Entry.{Entry}
+use Rattle.wrp_caldb.specs.Rows.{is_wavelength, fits_first}
+use Rattle.wrp_caldb.specs.Text.{pair_members}
 use Rattle.wrp_caldb.specs.declared.place.At.{At}
 use Rattle.wrp_caldb.specs.declared.place.At.TheVariants as tables
 use Rattle.wrp_caldb.specs.declared.row.Code.{Code}

@@ -1,22 +1,20 @@
 -- The text of a database of an accepted text is accepted, and is of the same database.
-use Rattle.std.proofs.Common.{◌≡◌, ℕ, List, Bool, true, Option, None, Some, Ok, Err, map, refl, sym, ap, subst, ◌∙◌, [], ◌∷◌, inl, inr}
+use Rattle.std.proofs.Common.{◌≡◌, ℕ, List, true, None, Ok, Err, map, refl, sym, ap, subst, ◌∙◌, [], ◌∷◌, inl, inr}
 use Rattle.std.specs.Prelude.{option_and_then, codes, Result}
 use Rattle.std.specs.Option.{option_or}
-use Rattle.toml.specs.Data.{Data, Members, table, array, get_member}
-use Rattle.toml.specs.Parse.{parse_document}
+use Rattle.toml.specs.Data.{Members, table, get_member}
 use Rattle.toml.specs.View.{items_of}
 use Rattle.wrp_base.specs.declared.fault.ConfFault.{ConfFault}
 use Rattle.wrp_base.specs.declared.fault.ConfFault.TheVariants.{Fault, Memory}
-use Rattle.wrp_caldb.specs.Calibration.{module_key, fibre_key, top_keys, version_key, version_of, place_in_modules, place_in_fibres, place_in_lists, place_in_top, first_place, IsAccepted}
-use Rattle.wrp_caldb.specs.Database.{Database, ModuleAt, FibreAt, database_of}
-use Rattle.wrp_caldb.specs.Key.{Key}
+use Rattle.wrp_caldb.specs.Calibration.{module_key, fibre_key, version_of, place_in_modules, place_in_fibres, place_in_lists, place_in_top, IsAccepted}
+use Rattle.wrp_caldb.specs.Database.{Database, database_of}
 use Rattle.wrp_caldb.specs.Points.{list_of, values_of}
 use Rattle.wrp_caldb.specs.Reading.{IsTextOf, IsReadingOf, IsFaultOf, IsNoText}
 use Rattle.wrp_caldb.specs.Refusal.{place_of_keys}
-use Rattle.wrp_caldb.specs.Rows.{are_tables, tables_at, tables_of}
+use Rattle.wrp_caldb.specs.Rows.{are_tables, tables_at}
 use Rattle.wrp_caldb.specs.Text.{module_members, fibre_members, document_of, IsListed, IsSame}
 use Rattle.wrp_caldb.specs.declared.keys.Others.{Others}
-use Rattle.wrp_caldb.specs.declared.keys.Others.TheVariants.{Refused, Ignored}
+use Rattle.wrp_caldb.specs.declared.keys.Others.TheVariants.{Refused}
 use Rattle.wrp_caldb.specs.declared.place.At.TheVariants as tables
 use Rattle.wrp_caldb.specs.declared.row.Code.{Code}
 use Rattle.wrp_caldb.specs.declared.row.Code.TheVariants as co

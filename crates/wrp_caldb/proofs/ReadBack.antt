@@ -1,5 +1,5 @@
 -- A database that is written and read again: the entries of its text are its own.
-use Rattle.std.proofs.Common.{◌≡◌, ◌<◌, ◌≤◌, ◌+◌, ◌&&◌, ◌++◌, not, ℕ, ℤ, pos, negsuc, zero, suc, List, [], ◌∷◌, Bool, true, false, Option, None, Some, map, option_map, length, unsigned_abs, min, cond, refl, sym, ap, subst, ap₂, ◌∙◌, arith, rules, lit<}
+use Rattle.std.proofs.Common.{◌≡◌, ◌≤◌, ◌+◌, ◌&&◌, ℕ, ℤ, pos, negsuc, List, [], ◌∷◌, Bool, true, false, Option, None, Some, map, option_map, length, unsigned_abs, min, refl, sym, ap, ap₂, ◌∙◌, arith}
 use Rattle.std.proofs.lemmas.Bool.{and_parts, false≢true}
 use Rattle.std.proofs.lemmas.Bool.Decides.{nat_tests}
 use Rattle.std.proofs.lemmas.List.{length-map}
@@ -7,17 +7,17 @@ use Rattle.wrp_base.specs.declared.link.Module.{Module}
 use Rattle.wrp_base.specs.declared.link.Fibre.{Fibre}
 use Rattle.std.specs.Prelude.{unwrap_or, option_and_then, codes, nat_le, if◌then◌else◌}
 use Rattle.std.specs.Option.{is_some}
-use Rattle.std.specs.List.{filter_map, list_all, cons_option}
-use Rattle.toml.specs.Data.{Data, Members, Items, array, table, string, integer, as_table, as_integer, get_member}
+use Rattle.std.specs.List.{list_all, cons_option}
+use Rattle.toml.specs.Data.{Data, Members, array, table, integer, as_table, as_integer, get_member}
 use Rattle.toml.specs.View.{items_of}
-use Rattle.wrp_caldb.specs.Calibration.{tx_key, rx_key, transition_key, module_err_key, tx_nm_key, rx_nm_key, kappa_key, fibre_err_key, table_err_key, version_of}
-use Rattle.wrp_caldb.specs.Database.{Database, ModuleAt, FibreAt, TableAt, natural_at, number_at, name_at, name_or_none, delays_of, entry_of, each_table, entries_of, module_of, table_of, fibre_of, database_of}
-use Rattle.wrp_caldb.specs.Key.{Key, number_key, default_key}
+use Rattle.wrp_caldb.specs.Calibration.{tx_nm_key, rx_nm_key, kappa_key, table_err_key, version_of}
+use Rattle.wrp_caldb.specs.Database.{Database, ModuleAt, FibreAt, TableAt, natural_at, name_at, name_or_none, delays_of, entry_of, each_table, entries_of, module_of, table_of, fibre_of, database_of}
+use Rattle.wrp_caldb.specs.Key.{number_key, default_key}
 use Rattle.wrp_caldb.specs.Name.{is_name}
-use Rattle.wrp_caldb.specs.Points.{list_of, few_points, point_of, points_of, stored_points, values_of, with_point, two_numbers}
+use Rattle.wrp_caldb.specs.Points.{few_points, point_of, points_of, stored_points, values_of, with_point}
 use Rattle.wrp_caldb.specs.Repeats.{name_in}
 use Rattle.wrp_caldb.specs.Rows.{all_tables, tables_of, tables_at, in_range, is_wavelength, fits_first, number_in}
-use Rattle.wrp_caldb.specs.Text.{number, pair_members, module_members, point_data, table_members, fibre_members, document_of}
+use Rattle.wrp_caldb.specs.Text.{number, pair_members, module_members, point_data, fibre_members, document_of}
 use Rattle.wrp_caldb.specs.declared.database.Entry.{Entry}
 use Rattle.wrp_caldb.specs.declared.keys.Version.{Version}
 use Rattle.wrp_caldb.specs.declared.keys.Version.TheVariants.{One, Two}

@@ -1,5 +1,5 @@
 -- The codes tried in turn give the least one that has a place.
-use Rattle.std.proofs.Common.{◌≡◌, ◌↔◌, ◌<◌, ℕ, Option, None, Some, refl, sym, subst, arith, lit<}
+use Rattle.std.proofs.Common.{◌≡◌, ◌↔◌, ◌<◌, Option, None, Some, refl, subst, arith}
 use Rattle.std.specs.Option.{option_or}
 use Rattle.wrp_caldb.specs.Place.{PlaceAt}
 use Rattle.wrp_caldb.specs.Refusal.{IsLeast, HasNone, least_of, number_of, with_code}

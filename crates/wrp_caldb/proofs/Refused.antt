@@ -1,5 +1,5 @@
 -- A refusal as an answer.
-use Rattle.std.proofs.Common.{◌≡◌, Err}
+use Rattle.std.proofs.Common.{Err}
 use Rattle.toml.specs.Data.{Members}
 use Rattle.wrp_base.specs.declared.fault.ConfFault.{ConfFault}
 use Rattle.wrp_base.specs.declared.fault.ConfFault.TheVariants.{Fault, Memory}

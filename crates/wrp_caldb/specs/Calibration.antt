@@ -1,19 +1,15 @@
 -- The rows of a calibration text, and the order of its places (this project's profile).
-use Rattle.std.specs.Prelude.{◌&&◌, ◌+◌, ℕ, ℤ, pos, negsuc, neg_ℤ, unsigned_abs, List, [], ◌∷◌, Bool, true, false, Option, Some, None, option_and_then, codes, take, if◌then◌else◌}
+use Rattle.std.specs.Prelude.{◌+◌, ℕ, ℤ, pos, negsuc, unsigned_abs, List, [], ◌∷◌, Option, Some, None, option_and_then, codes, take, if◌then◌else◌}
 use Rattle.std.specs.Option.{is_some, option_or}
 use Rattle.std.specs.Ordering.{int_eq}
-use Rattle.std.specs.List.{list_any}
-use Rattle.toml.specs.Data.{Data, Members, as_integer, as_str, as_table, get, get_member}
+use Rattle.toml.specs.Data.{Data, Members, as_integer, get_member}
 use Rattle.wrp_caldb.specs.Key.{Key, required_key, optional_key, number_key, default_key}
-use Rattle.wrp_caldb.specs.Name.{same_name}
 use Rattle.wrp_caldb.specs.Place.{PlaceAt}
 use Rattle.wrp_caldb.specs.Repeats.{place_of_name, place_of_pair}
 use Rattle.wrp_caldb.specs.Rows.{number_in, tables_at}
-use Rattle.wrp_caldb.specs.Refusal.{table_place, place_of_keys, place_of_others, place_in_table, on_table, first_among, IsLeast, HasNone}
-use Rattle.wrp_caldb.specs.declared.place.At.{At}
+use Rattle.wrp_caldb.specs.Refusal.{place_of_keys, place_of_others, place_in_table, on_table, first_among, IsLeast, HasNone}
 use Rattle.wrp_caldb.specs.declared.place.At.TheVariants as tables
 use Rattle.wrp_caldb.specs.declared.row.Code.{Code}
-use Rattle.wrp_caldb.specs.declared.row.Code.TheVariants as co
 use Rattle.wrp_caldb.specs.declared.row.Linear.{Linear}
 use Rattle.wrp_caldb.specs.declared.row.Sort.TheVariants as so
 use Rattle.wrp_caldb.specs.declared.keys.Version.{Version}

@@ -1,9 +1,9 @@
 -- The database of a calibration text: what it lists, and what a name and two wavelengths find in it
 -- (this project's profile).
-use Rattle.std.specs.Prelude.{◌==◌, ◌&&◌, ◌∷◌, [], ℕ, ℤ, pos, unsigned_abs, List, Bool, Option, Some, None, option_map, option_and_then, unwrap_or, codes, if◌then◌else◌}
+use Rattle.std.specs.Prelude.{◌==◌, ◌&&◌, ◌∷◌, [], ℕ, ℤ, pos, unsigned_abs, List, Option, Some, None, option_map, option_and_then, unwrap_or, codes, if◌then◌else◌}
 use Rattle.std.specs.Option.{option_or}
 use Rattle.std.specs.List.{find, filter_map}
-use Rattle.toml.specs.Data.{Data, Members, as_str, as_table, get_member}
+use Rattle.toml.specs.Data.{Data, Members, as_table, get_member}
 use Rattle.wrp_base.specs.declared.link.Module.{Module}
 use Rattle.wrp_base.specs.declared.link.Fibre.{Fibre}
 use Rattle.wrp_caldb.specs.Calibration.{tx_key, rx_key, transition_key, module_err_key, tx_nm_key, rx_nm_key, kappa_key, fibre_err_key, table_err_key, version_of}

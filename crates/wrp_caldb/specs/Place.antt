@@ -1,6 +1,6 @@
 -- A place of a text: a table, or a key of it, as a refusal's line writes it (this project's
 -- profile).
-use Rattle.std.specs.Prelude.{◌++◌, ℕ, List, [], Option, None, Some, codes, decimal}
+use Rattle.std.specs.Prelude.{◌++◌, ℕ, List, Option, None, Some, codes, decimal}
 use Rattle.wrp_caldb.specs.declared.place.At.TheVariants as tables
 use Rattle.wrp_caldb.specs.declared.place.At.{At}
 

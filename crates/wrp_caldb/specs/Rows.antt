@@ -1,6 +1,6 @@
 -- What the value at a row's key may be, and what a table with rows is refused for (this project's
 -- profile).
-use Rattle.std.specs.Prelude.{◌&&◌, ◌||◌, not, ℕ, ℤ, pos, List, [], ◌∷◌, Bool, true, false, Option, Some, None, option_map, option_and_then, length, nat_le, if◌then◌else◌}
+use Rattle.std.specs.Prelude.{◌&&◌, ◌||◌, not, ℕ, ℤ, pos, List, [], Bool, true, false, Option, Some, None, option_map, option_and_then, length, nat_le, if◌then◌else◌}
 use Rattle.std.specs.Option.{is_some}
 use Rattle.std.specs.Ordering.{int_eq}
 use Rattle.std.specs.List.{find, list_all, list_any}

@@ -1,4 +1,4 @@
-use Rattle.std.proofs.Common.{◌≡◌, ◌≤◌, Some, ap, sym, subst, ◌∙◌}
+use Rattle.std.proofs.Common.{◌≤◌, Some, ap, sym, subst, ◌∙◌}
 use Rattle.std.specs.Str.{IsUtf8}
 use Rattle.toml.specs.Data.{members_depth}
 use Rattle.toml.specs.Parse.{parse_document}
