@@ -1,0 +1,17 @@
+pub mod ChainPhases
+pub mod Chains
+pub mod DelayHalves
+pub mod ErrorSums
+pub mod Histories
+pub mod HopsInTrack
+pub mod Kept
+pub mod Measured
+pub mod Parts
+pub mod References
+pub mod Servos
+pub mod Sides
+pub mod Sums
+pub mod SyncHalves
+pub mod TickTimes
+pub mod Trees
+pub mod WorkedHops

@@ -1,0 +1,17 @@
+pub mod Chain
+pub mod ChainPhase
+pub mod Closeness
+pub mod DelayPieces
+pub mod ErrorSum
+pub mod History
+pub mod HopInTrack
+pub mod Measured
+pub mod Moment
+pub mod Parts
+pub mod Reference
+pub mod ServoGives
+pub mod Sides
+pub mod SyncPieces
+pub mod Ticks
+pub mod Tree
+pub mod Worked
