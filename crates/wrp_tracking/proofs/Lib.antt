@@ -1,3 +1,4 @@
+pub mod Ages
 pub mod ChainPhases
 pub mod Chains
 pub mod DelayHalves

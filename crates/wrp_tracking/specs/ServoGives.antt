@@ -1,15 +1,16 @@
 -- What the servo of a node gives to the bound of its hop, over all lists of its calls, the newest first
 -- (this project's profile).
-use Rattle.std.specs.Prelude.{ℤ, pos, ◌≡◌, true, List, ◌∷◌, ◌++◌, Some}
+use Rattle.std.specs.Prelude.{ℤ, pos, ◌≡◌, ◌+◌, ◌≤◌, true, List, [], ◌∷◌, ◌++◌, Some, IfSome}
 use Rattle.wrp_base.specs.declared.link.Deltas.{Deltas}
 use Rattle.wrp_servo.specs.declared.interface.ServoSet.{ServoSet}
 use Rattle.wrp_servo.specs.declared.machine.Measurement.{Measurement}
 use Rattle.wrp_servo.specs.declared.machine.Core.{Core}
 use Rattle.wrp_servo.specs.Following.{e_tau}
+use Rattle.wrp_servo.specs.Table.{is_track}
 use Rattle.wrp_servo.specs.Sampling.{est_of}
 use Rattle.wrp_servo.specs.Measuring.{deltas_in_chain, is_in, x_of, delay_of}
 use Rattle.wrp_servo.specs.Call.{Call, CallMeasured, Settings, run}
-use Rattle.wrp_servo.specs.Laws.{InTrack}
+use Rattle.wrp_servo.specs.Laws.{InTrack, TrackHasChain, TrackIsNear}
 use Rattle.wrp_bounds.specs.declared.numbers.HopNumbers.{HopNumbers}
 use Rattle.wrp_tracking.specs.ErrorSum.{TrackFacts}
 
@@ -49,3 +50,20 @@ KeptIsMeasured =
     (x : Settings) (calls : List Call) (kept : Measurement) →
     (run x calls).kept ≡ Some kept →
     WasMeasured x calls kept
+
+-- no measured four is older than the one that stands
+abbrev pub FoursRise : Settings → List Call → Type 0
+FoursRise x [] = Unit {0}
+FoursRise x (CallMeasured f y ∷ calls) =
+    IfSome (run x calls).kept (λ k. k.four.tick ≤ f.tick) × FoursRise x calls
+FoursRise x (call ∷ calls) = FoursRise x calls
+
+-- then in TRACK, where a chain and a four stand as the servo's laws tell, that four is young
+abbrev pub TrackIsYoung : Type 0
+TrackIsYoung =
+    (x : Settings) (calls : List Call) (kept : Measurement) →
+    TrackHasChain → TrackIsNear →
+    FoursRise x calls →
+    is_track (run x calls).state ≡ true →
+    (run x calls).kept ≡ Some kept →
+    (run x calls).ticks ≤ kept.four.tick + (run x calls).set.age

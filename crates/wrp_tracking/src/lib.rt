@@ -21,5 +21,5 @@ pub use pieces::{
     delay_half_by_moments, delay_half_is_kept, four_tells, latched_phase_tells,
     sync_half_by_messages, sync_half_is_kept,
 };
-pub use servo::{kept_is_measured, track_gives};
+pub use servo::{kept_is_measured, track_gives, track_is_young};
 pub use tree::{held_within_motion, reference_bounds, tree_sum};
