@@ -5,9 +5,11 @@ ghost use Rattle.wrp_law.specs.Law.{KeepsFact};
 ghost use Rattle.wrp_servo.specs.Sizes.{FitsTimes};
 
 mod lists;
+mod plain;
 
 use crate::{Servo, ServoOut, ServoSet};
 use lists::{Do, PREFIXES, ROWS, Says};
+use plain::{drawn, tracking};
 use std::process::Abort;
 use wrp_base::{ChainNews, Clock, Deltas, Four, ServoState, Tau};
 use wrp_law::{DelayLaw, LawKind, floor_of};
@@ -257,4 +259,73 @@ fn lists_of_calls(rt: HostRuntime) {
         assert!(rt; servo.locked() == locked && servo.est() == est, "{list:?}");
         assert!(rt; servo.dac() == 32768);
     }
+}
+
+// The servo after a list of calls, beside the plain program at every eighth call. Answers how often
+// TRACK stood there.
+fn compares<F: Fn(i64) -> i64>(
+    rt: &impl Abort,
+    servo: &mut Servo<F>,
+    count: &mut u32,
+    list: &[Do],
+) -> u32
+    requires law { KeepsFact F.pre F.post servo.old.law }
+    requires ticks { servo.old.core.ticks ≤ count.old }
+{
+    let mut tracked: u32 = 0;
+    for n in 0..list.len() {
+        assert!(rt; *count < 1 << 20);
+        let _out = call(servo, list[n]);
+        *count += 1;
+        if n % 8 == 7 {
+            let tracks = tracking(&list[..=n]);
+            assert!(rt; servo.tracking() == tracks, "{:?}", &list[..=n]);
+            tracked = tracked.saturating_add(u32::from(tracks));
+        }
+    }
+    tracked
+}
+
+// A list of calls that a number draws, after a carrier, a link and a lease.
+fn drawn_list(seed: u32) -> [Do; 64] {
+    let mut list = [Do::Lease(true); 64];
+    list[0] = Do::Carrier(true);
+    list[1] = Do::LinkOn;
+    let mut draw = u64::from(seed);
+    let mut ticks: u32 = 0;
+    for n in 3..64u32 {
+        draw = draw
+            .wrapping_mul(6_364_136_223_846_793_005)
+            .wrapping_add(1_442_695_040_888_963_407);
+        let x = drawn(draw >> 33, n, ticks);
+        match x {
+            Do::Tick => ticks = ticks.wrapping_add(1),
+            Do::Reset => ticks = 0,
+            _ => {}
+        }
+        list[n as usize] = x;
+    }
+    list
+}
+
+// A thousand lists.
+#[test]
+fn tracking_looks_back(rt: HostRuntime) {
+    let mut tracked: u32 = 0;
+    for seed in 0..1000u32 {
+        let law = DelayLaw::new(
+            |x: i64|
+                requires { unsigned_abs x ≤ 2 ^ 53 }
+            { floor_of(0, x) },
+            LawKind::Linear { kappa: 0 },
+            -(1 << 30),
+            1 << 53,
+            1,
+        );
+        let mut servo = Servo::new(SMALL, law);
+        let mut count = 0;
+        let stood = compares(&rt, &mut servo, &mut count, &drawn_list(seed));
+        tracked = tracked.saturating_add(stood);
+    }
+    assert!(rt; tracked > 100, "{tracked}");
 }
