@@ -1,14 +1,10 @@
 //! A port beside values that are worked out by hand.
-ghost use Rattle.wrp_base.specs.Message.{HasFittingTimes, HasTwoStepFlag};
-ghost use Rattle.wrp_port.specs.PortAt.{IsFit};
 
 use crate::{Port, PortIn, Sched};
 use arrayvec::ArrayVec;
 use std::alloc::{AllocError, Global};
 use std::test::Fail;
-use wrp_base::{
-    Body, ChainNews, Four, Head, LinkWord, Module, PortIdentity, PtpMsg, Role, Stamp, Ts,
-};
+use wrp_base::{Body, Head, LinkWord, PortIdentity, PtpMsg, Role, Ts};
 use wrp_data::{DefaultDs, PortDs};
 use wrp_link::LinkSet;
 
@@ -55,12 +51,6 @@ const ZERO: Ts = Ts {
     nanos: 0,
 };
 
-// One nanosecond and two units of the correctionField.
-const STAMP: Stamp = Stamp {
-    value: 65_538_000,
-    sample: 7,
-};
-
 fn new_port(alloc: Global, role: Role) -> Result<Port, AllocError> {
     let ds = PortDs {
         own: OWN,
@@ -69,37 +59,6 @@ fn new_port(alloc: Global, role: Role) -> Result<Port, AllocError> {
         wr: false,
     };
     Port::new(alloc, ds, NODE, LINK, SCHED, 8)
-}
-
-// A message of the peer.
-fn message(flags: u16, seq: u16, body: Body) -> PtpMsg
-    ensures head { result.head.flags ≡ flags }
-    ensures body { result.body ≡ body }
-{
-    PtpMsg {
-        head: Head {
-            domain: 0,
-            flags,
-            correction: 0,
-            source: PEER,
-            seq,
-            interval: 0,
-        },
-        body,
-    }
-}
-
-// A message that came.
-fn came(msg: PtpMsg) -> PortIn
-    requires times { HasFittingTimes msg.body }
-    requires two_step { HasTwoStepFlag msg.head.flags msg.body }
-    ensures { IsFit result }
-{
-    PortIn::Msg {
-        msg,
-        stamp: STAMP,
-        tick: 9,
-    }
 }
 
 // What the schedule sends at the k-th tick after quiet time.
