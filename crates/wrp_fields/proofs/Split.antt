@@ -8,7 +8,8 @@ use Rattle.csv.specs.Reading.{default_config, strip_bom}
 use Rattle.csv.specs.declared.parser.State.{State}
 use Rattle.csv.specs.declared.parser.State.TheVariants as st
 use Rattle.csv.proofs.RoundTrip.{start-same, record-same}
-use Rattle.wrp_fields.specs.Lines.{IsLine, IsPlainOctet, parts}
+use Rattle.wrp_base.specs.Lines.{parts_of}
+use Rattle.wrp_fields.specs.Lines.{IsLine, IsPlainOctet}
 use Rattle.wrp_fields.specs.Block.{StartsPlain}
 
 -- the first part with these octets before it
@@ -20,11 +21,11 @@ onto-first : (x : ℕ) (ps : List (List ℕ)) → onto [] (onto_first x ps) ≡ 
 onto-first x [] = refl
 onto-first x (p ∷ ps) = refl
 
-onto-nil : (xs : List ℕ) → onto [] (parts xs) ≡ parts xs
+onto-nil : (xs : List ℕ) → onto [] (parts_of xs) ≡ parts_of xs
 onto-nil [] = refl
 onto-nil (x ∷ xs) = elim (cases_Bool (x == 44)) [
   | inl same ↦ rw same refl
-  | inr other ↦ rw other (onto-first x (parts xs))
+  | inr other ↦ rw other (onto-first x (parts_of xs))
 ]
 
 onto-more : (field : List ℕ) (x : ℕ) (ps : List (List ℕ)) → onto (field ++ x ∷ []) ps ≡ onto field (onto_first x ps)
@@ -47,21 +48,21 @@ start_same fields [] tail empty plain = empty fields
 start_same fields (x ∷ xs) tail empty plain = start-same fields [] x (xs ++ tail) plain.0.0
 
 in_field : (fields : List (List ℕ)) (field xs tail : List ℕ) (after : State) (rest : List ℕ) → EndsRecord tail after rest → EndsEmpty tail → AllByRecursion IsPlainOctet xs
-    → next_record default_config st.InField fields field (xs ++ tail) ≡ Some ((fields ++ onto field (parts xs), after, rest))
+    → next_record default_config st.InField fields field (xs ++ tail) ≡ Some ((fields ++ onto field (parts_of xs), after, rest))
 unfolding next_record
 in_field fields field [] tail after rest ends empty plain = rw (append-nil field) (ends fields field)
 in_field fields field (x ∷ xs) tail after rest ends empty plain = elim (cases_Bool (x == 44)) [
   | inl comma ↦
-      let after_comma : Some (((fields ++ (field ∷ [])) ++ onto [] (parts xs), after, rest)) ≡ Some ((fields ++ ((field ++ []) ∷ parts xs), after, rest)) =
-      rw (onto-nil xs, append-nil field) (ap (λ (ps : List (List ℕ)). Some ((ps, after, rest))) (append_assoc fields (field ∷ []) (parts xs))) in
+      let after_comma : Some (((fields ++ (field ∷ [])) ++ onto [] (parts_of xs), after, rest)) ≡ Some ((fields ++ ((field ++ []) ∷ parts_of xs), after, rest)) =
+      rw (onto-nil xs, append-nil field) (ap (λ (ps : List (List ℕ)). Some ((ps, after, rest))) (append_assoc fields (field ∷ []) (parts_of xs))) in
       rw comma (start_same (fields ++ (field ∷ [])) xs tail empty plain.1 ∙ in_field (fields ++ (field ∷ [])) [] xs tail after rest ends empty plain.1 ∙ after_comma)
   | inr other ↦
       rw (other, plain.0.1, plain.0.2) (in_field fields (field ++ x ∷ []) xs tail after rest ends empty plain.1
-      ∙ ap (λ (ps : List (List ℕ)). Some ((fields ++ ps, after, rest))) (onto-more field x (parts xs)))
+      ∙ ap (λ (ps : List (List ℕ)). Some ((fields ++ ps, after, rest))) (onto-more field x (parts_of xs)))
 ]
 
 ends_at : (line tail : List ℕ) (after : State) (rest : List ℕ) → EndsRecord tail after rest → EndsEmpty tail → IsLine line
-    → next_record default_config st.StartRecord [] [] (line ++ tail) ≡ Some ((parts line, after, rest))
+    → next_record default_config st.StartRecord [] [] (line ++ tail) ≡ Some ((parts_of line, after, rest))
 ends_at [] tail after rest ends empty is = absurd (is.0 refl)
 ends_at (x ∷ xs) tail after rest ends empty is =
     let plain = is.1 in
@@ -94,17 +95,17 @@ end_empty fields = refl
 
 -- a line with its LF is one record, of its parts
 pub first_line : (line rest : List ℕ) → IsLine line
-    → next_record default_config st.StartRecord [] [] (line ++ 10 ∷ rest) ≡ Some (parts line, st.StartRecord, rest)
+    → next_record default_config st.StartRecord [] [] (line ++ 10 ∷ rest) ≡ Some (parts_of line, st.StartRecord, rest)
 first_line line rest is = ends_at line (10 ∷ rest) st.StartRecord rest (feed_ends rest) (feed_empty rest) is
 
 -- and so is a line with a CR and its LF
 pub return_line : (line rest : List ℕ) → IsLine line
-    → next_record default_config st.StartRecord [] [] (line ++ 13 ∷ 10 ∷ rest) ≡ Some (parts line, st.AfterCr, 10 ∷ rest)
+    → next_record default_config st.StartRecord [] [] (line ++ 13 ∷ 10 ∷ rest) ≡ Some (parts_of line, st.AfterCr, 10 ∷ rest)
 return_line line rest is = ends_at line (13 ∷ 10 ∷ rest) st.AfterCr (10 ∷ rest) (return_ends rest) (return_empty rest) is
 
 -- and so is a line at the end of the text
 pub last_line : (line : List ℕ) → IsLine line
-    → next_record default_config st.StartRecord [] [] line ≡ Some (parts line, st.StartRecord, [])
+    → next_record default_config st.StartRecord [] [] line ≡ Some (parts_of line, st.StartRecord, [])
 last_line line is = rw (append-nil line) at (ends_at line [] st.StartRecord [] end_ends end_empty is)
 
 -- there is no record in no octets

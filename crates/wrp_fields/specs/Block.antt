@@ -4,7 +4,7 @@ use Rattle.csv.specs.declared.parser.State.{State}
 use Rattle.csv.specs.declared.parser.State.TheVariants.{StartRecord, AfterCr}
 use Rattle.csv.specs.declared.reader.Reader.{Reader}
 use Rattle.csv.specs.declared.reader.Trim.TheVariants as trim
-use Rattle.wrp_fields.specs.Lines.{parts}
+use Rattle.wrp_base.specs.Lines.{parts_of}
 use Rattle.csv.specs.Reading.{Ready, default_config, has_failed, is_flexible, reader_config, reader_trim}
 
 -- the first octet, if any, is below 128
@@ -31,4 +31,4 @@ IsPlainReader r = has_failed r ≡ false
 
 -- a read found this line: the row has its parts, and the rest is left
 abbrev pub IsFound : List ℕ → List ℕ → Bool → List (List ℕ) → Option (List ℕ) → Type 0
-IsFound line rest found row left = (found ≡ true) × (row ≡ parts line) × (left ≡ Some rest)
+IsFound line rest found row left = (found ≡ true) × (row ≡ parts_of line) × (left ≡ Some rest)

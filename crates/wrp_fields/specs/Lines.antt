@@ -1,6 +1,6 @@
--- Plain lines and the parts between their commas (this project's profile).
+-- Plain lines (this project's profile).
 use Rattle.std.specs.Prelude.{◌==◌, ◌<◌, ◌≢◌, ◌≡◌, ℕ, false, List, []}
-use Rattle.std.specs.List.{slice_split, AllByRecursion}
+use Rattle.std.specs.List.{AllByRecursion}
 
 -- an octet below 128 that is no quotation mark, CR or LF
 abbrev pub IsPlainOctet : ℕ → Type 0
@@ -10,7 +10,3 @@ IsPlainOctet octet =
 -- a line that is split at its commas: some octets, each of them plain
 abbrev pub IsLine : List ℕ → Type 0
 IsLine line = (line ≢ []) × AllByRecursion IsPlainOctet line
-
--- the parts between the commas: one more than there are commas
-abbrev pub parts : List ℕ → List (List ℕ)
-parts line = slice_split (λ octet. octet == 44) line
