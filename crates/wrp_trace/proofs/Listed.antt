@@ -1,5 +1,5 @@
 -- A module that is listed at a port is printed by a name that finds it again.
-use Rattle.std.proofs.Common.{◌≡◌, ℕ, zero, suc, ◌&&◌, List, [], ◌∷◌, Bool, true, false, Option, None, Some, cond, refl, sym, ap, subst, ◌∙◌, absurd}
+use Rattle.std.proofs.Common.{◌≡◌, ℕ, zero, suc, ◌&&◌, List, [], ◌∷◌, Bool, true, false, Option, None, Some, cond, refl, sym, ap, subst, ◌∙◌}
 use Rattle.std.specs.Prelude.{◌==◌, not, slice_get, unwrap_or, option_map, option_and_then, codes}
 use Rattle.std.specs.List.{find}
 use Rattle.std.proofs.lemmas.Bool.{and_parts, and_from, eq-eqb, eqb-true, false≢true, not-true}

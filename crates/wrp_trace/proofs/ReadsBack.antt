@@ -1,5 +1,5 @@
 -- A printed line reads back as the input that was printed.
-use Rattle.std.proofs.Common.{◌≡◌, ℕ, ℤ, pos, negsuc, length, ◌+◌, ◌<◌, ◌≤◌, ◌^◌, List, [], ◌∷◌, Bool, true, false, Option, None, Some, Result, Ok, refl, sym, ap, ◌∙◌, absurd, arith}
+use Rattle.std.proofs.Common.{◌≡◌, ℕ, ℤ, pos, negsuc, length, ◌+◌, ◌<◌, ◌≤◌, ◌^◌, List, [], ◌∷◌, Bool, true, false, Option, None, Some, Result, Ok, refl, sym, ap, ◌∙◌, arith}
 use Rattle.std.specs.Prelude.{codes, unwrap_or, ok_or, if◌then◌else◌, not}
 use Rattle.std.specs.List.{join_with_byte}
 use Rattle.std.specs.Fmt.{decimal, signed_decimal}
@@ -116,7 +116,7 @@ pub sample_back : (site : Site) (n base bits : ℕ) → is_grandmaster site ≡ 
     → read_of site (line_of site (inputs.Sample n base bits)) ≡ Ok (inputs.Sample n base bits)
 sample_back site n base bits slave small low few =
     line_says site 115 (codes "ample") (decimal n ∷ decimal base ∷ bits_text bits ∷ [])
-    (refl, short_text n (omega arith), short_text base (omega arith), hex_text (big_bytes 8 bits) (number_octets 8 bits), tt)
+    (refl, (short_text n (omega arith), (short_text base (omega arith), (hex_text (big_bytes 8 bits) (number_octets 8 bits), tt))))
     ∙ sample_says site n base bits slave small low few
 
 frame_says : (site : Site) (port : ℕ) (frame : ArrayVec ℕ) (raw : Raw) (sample : ℕ) → has_port site port ≡ true → port < 2 ^ 16
@@ -133,7 +133,7 @@ pub frame_line_back : (site : Site) (port : ℕ) (frame : ArrayVec ℕ) (raw : R
     → read_of site (line_of site (inputs.Frame port frame raw sample)) ≡ Ok (inputs.Frame port frame raw sample)
 frame_line_back site port frame raw sample has small fit few is last =
     line_says site 102 (codes "rame") (decimal port ∷ encode_lower frame.items ∷ decimal raw.rising ∷ decimal raw.falling ∷ decimal raw.tag ∷ decimal sample ∷ [])
-    (refl, short_text port (omega arith), hex_text frame.items fit, short_text raw.rising (omega (arith, is.rising.1)), short_text raw.falling (omega (arith, is.falling.1)), short_text raw.tag (omega (arith, is.tag)), short_text sample (omega arith), tt)
+    (refl, (short_text port (omega arith), (hex_text frame.items fit, (short_text raw.rising (omega (arith, is.rising.1)), (short_text raw.falling (omega (arith, is.falling.1)), (short_text raw.tag (omega (arith, is.tag)), (short_text sample (omega arith), tt)))))))
     ∙ frame_says site port frame raw sample has small fit few is last
 
 message_read : (delay : Bool) (fields : List (List ℕ)) → field_of 3 fields ≡ message_text delay → message_at 3 fields ≡ Ok delay
@@ -161,7 +161,7 @@ pub sent_back : (site : Site) (port seq : ℕ) (delay : Bool) (stamp : Stamp) �
     → read_of site (line_of site (inputs.Sent port seq delay stamp)) ≡ Ok (inputs.Sent port seq delay stamp)
 sent_back site port seq delay stamp has small low is last =
     line_says site 115 (codes "ent") (decimal port ∷ message_text delay ∷ decimal seq ∷ signed_decimal stamp.value ∷ decimal stamp.sample ∷ [])
-    (refl, short_text port (omega arith), message_is_text delay, short_text seq (omega arith), time_text stamp.value is, short_text stamp.sample (omega arith), tt)
+    (refl, (short_text port (omega arith), (message_is_text delay, (short_text seq (omega arith), (time_text stamp.value is, (short_text stamp.sample (omega arith), tt))))))
     ∙ sent_says site port seq delay stamp has small low is last
 
 -- what names a module at a port, and the module that it names
@@ -196,7 +196,7 @@ up_back site port entry sound has small listed =
     let named = some_name site port entry sound listed in
     let is = named.1 in
     ap (λ name. read_of site (join_with_byte 44 (codes "up" ∷ decimal port ∷ name ∷ []))) is.printed
-    ∙ line_says site 117 (codes "p") (decimal port ∷ named.0 ∷ []) (refl, short_text port (omega arith), is.text, tt)
+    ∙ line_says site 117 (codes "p") (decimal port ∷ named.0 ∷ []) (refl, (short_text port (omega arith), (is.text, tt)))
     ∙ up_says site port entry named.0 has small is.finds
 
 down_says : (site : Site) (port : ℕ) → has_port site port ≡ true → port < 2 ^ 16
@@ -208,7 +208,7 @@ down_says site port has small =
 pub down_back : (site : Site) (port : ℕ) (entry : Option Module) → has_port site port ≡ true → port < 2 ^ 16 → entry ≡ None
     → read_of site (line_of site (inputs.Carrier port false entry)) ≡ Ok (inputs.Carrier port false entry)
 down_back site port entry has small none =
-    line_says site 100 (codes "own") (decimal port ∷ []) (refl, short_text port (omega arith), tt)
+    line_says site 100 (codes "own") (decimal port ∷ []) (refl, (short_text port (omega arith), tt))
     ∙ down_says site port has small ∙ ap (λ e. Ok (inputs.Carrier port false e)) (sym none)
 
 -- each line that can be printed reads back

@@ -1,6 +1,7 @@
 //! The fields of a line, by their places from 1: what each says, or its fault.
 ghost use Rattle.std.specs.Prelude.{◌≡◌, ◌<◌, ◌≤◌, ◌^◌, IfOk, true};
 ghost use Rattle.csv.specs.Records.{fields_of};
+ghost use Rattle.wrp_base.specs.declared.fault.TraceFault.TheVariants.{Number, Name};
 ghost use Rattle.wrp_trace.specs.Reading.{field_of};
 ghost use Rattle.wrp_trace.specs.Inputs.{number_at, short_at, long_at, step_at, counter_at, bits_at, octets_at, time_at, raw_from, stamp_from, port_at, message_at, module_at};
 ghost use Rattle.wrp_trace.specs.InputAt.{IsRaw, IsTime, IsListed};
@@ -27,15 +28,29 @@ const LAST_STEP: u64 = 16_383;
 const MOST_COUNT: u64 = (1 << 63) - 1;
 
 /// The field of a place; no octets where the line has none there.
-#[tactic(auto, using(crate::proofs::FieldLemmas::field_is))]
 pub fn field(row: &ByteRecord, place: u32) -> &[u8]
     requires { 0 < place }
     ensures { result.now ≡ field_of place (fields_of row.now) }
 {
     match row.get(place as usize - 1) {
         Some(field) => field,
-        None => b"".as_slice(),
+        None => &[],
     }
+}
+
+// A field is no number, or out of its range.
+fn number_fault(place: u32) -> TraceFault
+    requires { 0 < place }
+    ensures { result ≡ Number place }
+{
+    TraceFault::Number { field: place }
+}
+
+// A field is no known name.
+fn name_fault(place: u32) -> TraceFault
+    ensures { result ≡ Name place }
+{
+    TraceFault::Name { field: place }
 }
 
 // The number from `least` to `greatest` in the field of a place.
@@ -46,7 +61,7 @@ fn number_at(row: &ByteRecord, place: u32, least: u64, greatest: u64) -> Result<
 {
     match natural(field(row, place), least, greatest) {
         Some(number) => Ok(number),
-        None => Err(TraceFault::Number { field: place }),
+        None => Err(number_fault(place)),
     }
 }
 
@@ -94,7 +109,7 @@ pub fn bits_at(row: &ByteRecord, place: u32) -> Result<u64, TraceFault>
 {
     match bits(field(row, place)) {
         Some(bits) => Ok(bits),
-        None => Err(TraceFault::Number { field: place }),
+        None => Err(number_fault(place)),
     }
 }
 
@@ -105,7 +120,7 @@ pub fn octets_at(row: &ByteRecord, place: u32) -> Result<Frame, TraceFault>
 {
     match octets(field(row, place)) {
         Some(octets) => Ok(octets),
-        None => Err(TraceFault::Number { field: place }),
+        None => Err(number_fault(place)),
     }
 }
 
@@ -117,7 +132,7 @@ fn time_at(row: &ByteRecord, place: u32) -> Result<Tau, TraceFault>
 {
     match time(field(row, place)) {
         Some(time) => Ok(time),
-        None => Err(TraceFault::Number { field: place }),
+        None => Err(number_fault(place)),
     }
 }
 
@@ -159,7 +174,7 @@ pub fn port_at(row: &ByteRecord, place: u32, net: &Network, node: u8) -> Result<
     if has_port(net, node, port) {
         Ok(port)
     } else {
-        Err(TraceFault::Name { field: place })
+        Err(name_fault(place))
     }
 }
 
@@ -174,7 +189,7 @@ pub fn message_at(row: &ByteRecord, place: u32) -> Result<bool, TraceFault>
     } else if text == b"delay".as_slice() {
         Ok(true)
     } else {
-        Err(TraceFault::Name { field: place })
+        Err(name_fault(place))
     }
 }
 
@@ -192,6 +207,6 @@ pub fn module_at(
 {
     match named_at(net, node, port, field(row, place)) {
         Some(module) => Ok(module),
-        None => Err(TraceFault::Name { field: place }),
+        None => Err(name_fault(place)),
     }
 }

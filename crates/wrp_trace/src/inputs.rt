@@ -131,7 +131,6 @@ fn down(row: &ByteRecord, net: &Network, node: u8) -> Result<Input, TraceFault>
 }
 
 // Whether a line has octets, each below 128, and among them no quotation mark, CR or LF.
-#[tactic(auto, using(crate::proofs::PlainLemmas::same_test))]
 fn is_plain_line(line: &[u8]) -> bool
     ensures { result ≡ is_plain line.now }
 {

@@ -4,11 +4,10 @@ ghost use Rattle.std.specs.String.{string_bytes};
 ghost use Rattle.hex.specs.Hex.{encode_lower};
 ghost use Rattle.wrp_base.specs.Octets.{AreOctets};
 ghost use Rattle.wrp_config.specs.Accepted.{IsAccepted};
-ghost use Rattle.wrp_node.specs.declared.interface.Input.TheVariants as inputs;
 ghost use Rattle.wrp_trace.specs.Inputs.{read_of};
 ghost use Rattle.wrp_trace.specs.InputAt.{IsInputAt, FitsTypes};
-ghost use Rattle.wrp_trace.specs.Printing.{bits_text, message_text, line_of};
-ghost use Rattle.wrp_trace.specs.Site.{Site, site_of};
+ghost use Rattle.wrp_trace.specs.Printing.{bits_text, message_text, joined, sample_texts, frame_texts, sent_texts, carrier_texts, line_of};
+ghost use Rattle.wrp_trace.specs.Site.{site_of};
 
 use crate::site::module_name;
 use std::alloc::{AllocError, Global};
@@ -30,7 +29,14 @@ pub fn input_line(
         read_of (site_of net.now node) line.items ≡ Ok x.now) }
 {
     let text = text_of(alloc, node, x, net)?;
-    Ok(text.into_bytes())
+    Ok(octets_of(text))
+}
+
+// The octets of a text.
+fn octets_of(text: String) -> Vec<u8>
+    ensures { result.items ≡ string_bytes text }
+{
+    text.into_bytes()
 }
 
 // The same as text.
@@ -61,8 +67,7 @@ fn text_of(alloc: Global, node: u8, x: &Input, net: &Network) -> Result<String, 
 
 // The line of a sample.
 fn sample_text(alloc: Global, n: u32, base: u16, bits: u64) -> Result<String, AllocError>
-    ensures text { IfOk result (λ text.
-        (site : Site) → string_bytes text ≡ line_of site (inputs.Sample n base bits)) }
+    ensures text { IfOk result (λ text. string_bytes text ≡ joined (sample_texts n base bits)) }
     ensures fits { (n < 2 ^ 32) × (bits < 2 ^ 64) }
 {
     let digits = bits_text(alloc, bits)?;
@@ -95,7 +100,7 @@ fn frame_text(
     sample: u32,
 ) -> Result<String, AllocError>
     ensures text { IfOk result (λ text.
-        (site : Site) → string_bytes text ≡ line_of site (inputs.Frame port bytes.now raw sample)) }
+        string_bytes text ≡ joined (frame_texts port bytes.now.items raw sample)) }
     ensures numbers { (port < 2 ^ 16) × (sample < 2 ^ 32) }
     ensures octets { AreOctets bytes.now.items × (length bytes.now.items ≤ 256) }
 {
@@ -123,7 +128,7 @@ fn sent_text(
     stamp: Stamp,
 ) -> Result<String, AllocError>
     ensures text { IfOk result (λ text.
-        (site : Site) → string_bytes text ≡ line_of site (inputs.Sent port seq delay stamp)) }
+        string_bytes text ≡ joined (sent_texts port seq delay stamp)) }
     ensures fits { (port < 2 ^ 16) × (seq < 2 ^ 16) × (stamp.sample < 2 ^ 32) }
 {
     let message = message_text(delay);
@@ -142,7 +147,7 @@ fn carrier_text(
     module: Option<Module>,
 ) -> Result<String, AllocError>
     ensures text { IfOk result (λ text.
-        string_bytes text ≡ line_of (site_of net.now node) (inputs.Carrier port up «module»)) }
+        string_bytes text ≡ joined (carrier_texts (site_of net.now node) port up «module»)) }
     ensures fits { port < 2 ^ 16 }
 {
     if up {
