@@ -108,12 +108,14 @@ printed_name site port values sound (name, there) =
     let passes : test it.listed ≡ true =
     ap (λ n. has_values values (module_of site port n)) it.same ∙ ap (has_values values) there ∙ same_itself values in
     let first = finds test site.db.modules it.place it.listed it.stands passes in
-    let is = found test site.db.modules first.0 first.1 in
-    (first.0.name, record {
-      printed = ap (option_map (λ m. m.name)) first.1;
-      valid = (sound.modules is.place first.0 is.stands).name;
-      values_there = values_are values (module_of site port first.0.name) is.passes;
-    })
+    let is = found test site.db.modules first.0 first.1 in (
+      first.0.name,
+      record {
+        printed = ap (option_map (λ m. m.name)) first.1;
+        valid = (sound.modules is.place first.0 is.stands).name;
+        values_there = values_are values (module_of site port first.0.name) is.passes;
+      },
+    )
 
 -- a name that may be listed is not `unlisted`
 pub not_unlisted : (name : List ℕ) → is_module_name name ≡ true → same_name name (codes "unlisted") ≡ false

@@ -5,7 +5,7 @@ use Rattle.std.specs.List.{list_all, AllByRecursion}
 use Rattle.std.proofs.lemmas.Bool.{lt-ltb, ltb-true, not-true, and_parts, and_from, false_from_ne_true}
 use Rattle.wrp_fields.specs.Block.{StartsPlain}
 use Rattle.wrp_fields.specs.Lines.{IsPlainOctet, IsLine}
-use Rattle.wrp_trace.specs.Inputs.{is_plain_octet, is_plain}
+use Rattle.wrp_trace.specs.Reading.{is_plain_octet, is_plain}
 
 octet_passes : (c : ℕ) → IsPlainOctet c → is_plain_octet c ≡ true
 octet_passes c (no_quote, no_return, no_feed, small) = rw (no_quote, no_return, no_feed, lt-ltb c 128 small) refl

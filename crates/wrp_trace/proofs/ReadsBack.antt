@@ -15,7 +15,8 @@ use Rattle.wrp_config.specs.Accepted.{IsSoundDatabase}
 use Rattle.wrp_node.specs.declared.interface.Input.{Input}
 use Rattle.wrp_node.specs.declared.interface.Input.TheVariants as inputs
 use Rattle.wrp_trace.specs.Digits.{frame_of as frame_octets, bits_of}
-use Rattle.wrp_trace.specs.Inputs.{number_at, short_at, long_at, step_at, counter_at, bits_at, octets_at, time_at, raw_from, stamp_from, message_at, own_port, port_at, module_at, sample_of, frame_of, sent_of, up_of, down_of, input_of, read_of}
+use Rattle.wrp_trace.specs.Fields.{number_at, short_at, long_at, step_at, counter_at, bits_at, octets_at, time_at, raw_from, stamp_from, message_at, own_port, port_at, module_at}
+use Rattle.wrp_trace.specs.Inputs.{sample_of, frame_of, sent_of, up_of, down_of, input_of, read_of}
 use Rattle.wrp_trace.specs.Numbers.{natural_in, time_of}
 use Rattle.wrp_trace.specs.InputAt.{IsRaw, IsTime, IsListed, HasModule, IsInputAt, FitsTypes}
 use Rattle.wrp_trace.specs.Printing.{bits_text, message_text, module_text, texts_of, line_of}
@@ -175,12 +176,14 @@ some_name : (site : Site) (port : ℕ) (entry : Option Module) → IsSoundDataba
 some_name site port None sound listed = (codes "unlisted", record { printed = refl; text = refl; finds = refl })
 some_name site port (Some values) sound listed =
     let found = printed_name site port values sound listed in
-    let is = found.1 in
-    (found.0, record {
-      printed = ap (λ o. unwrap_or o []) is.printed;
-      text = name_text found.0 (plain_name found.0 is.valid);
-      finds = name_finds site port values found.0 is;
-    })
+    let is = found.1 in (
+      found.0,
+      record {
+        printed = ap (λ o. unwrap_or o []) is.printed;
+        text = name_text found.0 (plain_name found.0 is.valid);
+        finds = name_finds site port values found.0 is;
+      },
+    )
 
 up_says : (site : Site) (port : ℕ) (entry : Option Module) (name : List ℕ) → has_port site port ≡ true → port < 2 ^ 16
     → named_at site port name ≡ Some entry

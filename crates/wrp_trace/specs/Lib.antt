@@ -1,4 +1,5 @@
 pub mod Digits
+pub mod Fields
 pub mod InputAt
 pub mod Inputs
 pub mod Kinds

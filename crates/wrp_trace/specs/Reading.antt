@@ -1,8 +1,19 @@
--- Reading the fields of a line: they count from 1, and the first fault from the left is the line's
--- (this project's profile).
-use Rattle.std.specs.Prelude.{◌≡◌, ℕ, ◌-◌, Option, unwrap_or, ok_or, Result, Ok, Err, List, [], slice_get}
+-- Reading a line: which octets it may have, its fields, which count from 1, and its fault, which is the
+-- first from the left (this project's profile).
+use Rattle.std.specs.Prelude.{◌≡◌, ◌==◌, ◌&&◌, not, nat_lt, Bool, false, ℕ, ◌-◌, Option, unwrap_or, ok_or, Result, Ok, Err, List, [], ◌∷◌, slice_get}
+use Rattle.std.specs.List.{list_all}
 use Rattle.wrp_base.specs.declared.fault.TraceFault.{TraceFault}
 use Rattle.wrp_base.specs.declared.fault.TraceFault.TheVariants.{Number, Name, Memory}
+
+-- whether an octet may stand in a line: below 128, and no quotation mark, CR or LF
+abbrev pub is_plain_octet : ℕ → Bool
+is_plain_octet octet =
+    not (octet == 34) && (not (octet == 13) && (not (octet == 10) && nat_lt octet 128))
+
+-- whether a line has octets, and only such ones
+abbrev pub is_plain : List ℕ → Bool
+is_plain [] = false
+is_plain (octet ∷ octets) = list_all is_plain_octet (octet ∷ octets)
 
 -- the field of this place; no octets where there is none
 abbrev pub field_of : ℕ → List (List ℕ) → List ℕ

@@ -2,10 +2,10 @@
 ghost use Rattle.std.specs.Prelude.{◌≡◌, IfOk, OnOk, true, false};
 ghost use Rattle.csv.specs.Records.{fields_of};
 ghost use Rattle.wrp_base.specs.Lines.{parts_of};
-ghost use Rattle.wrp_trace.specs.Inputs.{sample_of, frame_of, sent_of, up_of, down_of, fields_of_kind, input_of, is_plain, read_of};
+ghost use Rattle.wrp_trace.specs.Inputs.{sample_of, frame_of, sent_of, up_of, down_of, fields_of_kind, input_of, read_of};
 ghost use Rattle.wrp_trace.specs.InputAt.{IsInputAt};
 ghost use Rattle.wrp_trace.specs.Kinds.{has_kind};
-ghost use Rattle.wrp_trace.specs.Reading.{IsReading};
+ghost use Rattle.wrp_trace.specs.Reading.{IsReading, is_plain};
 ghost use Rattle.wrp_trace.specs.Site.{site_of, is_grandmaster};
 
 use crate::fields::{
@@ -24,7 +24,7 @@ use wrp_node::Input;
 const KIND: u32 = 1;
 
 /// What the fields of a line say to a node.
-pub fn read_fields(row: &ByteRecord, net: &Network, node: u8) -> Result<Input, TraceFault>
+pub fn read_input_fields(row: &ByteRecord, net: &Network, node: u8) -> Result<Input, TraceFault>
     ensures value { result ≡ input_of (site_of net.now node) (fields_of row.now) }
     ensures input { IfOk result (IsInputAt (site_of net.now node)) }
 {
@@ -148,12 +148,7 @@ fn split(alloc: Global, line: &[u8], row: &mut ByteRecord) -> Result<(), AllocEr
 }
 
 /// What a line says to a node.
-pub fn read_input(
-    alloc: Global,
-    line: &[u8],
-    net: &Network,
-    node: u8,
-) -> Result<Input, TraceFault>
+pub fn read_input(alloc: Global, line: &[u8], net: &Network, node: u8) -> Result<Input, TraceFault>
     ensures value { IsReading (read_of (site_of net.now node) line.now) result }
     ensures input { IfOk result (IsInputAt (site_of net.now node)) }
 {
@@ -162,7 +157,7 @@ pub fn read_input(
     }
     let mut row = ByteRecord::new(alloc);
     match split(alloc, line, &mut row) {
-        Ok(()) => read_fields(&row, net, node),
+        Ok(()) => read_input_fields(&row, net, node),
         Err(e) => Err(TraceFault::Memory(e)),
     }
 }

@@ -10,7 +10,7 @@ mod numbers;
 mod printing;
 mod site;
 
-pub use inputs::{read_fields, read_input};
+pub use inputs::{read_input, read_input_fields};
 pub use kinds::InputKind;
 pub use printing::input_line;
 pub use wrp_base::TraceFault;

@@ -16,12 +16,7 @@ use wrp_config::Network;
 use wrp_node::Input;
 
 /// The line of an input at a node, without LF.
-pub fn input_line(
-    alloc: Global,
-    node: u8,
-    x: &Input,
-    net: &Network,
-) -> Result<Vec<u8>, AllocError>
+pub fn input_line(alloc: Global, node: u8, x: &Input, net: &Network) -> Result<Vec<u8>, AllocError>
     requires accepted { IsAccepted net.now.cfg net.now.db }
     requires printable { IsInputAt (site_of net.now node) x.now }
     ensures text { IfOk result (λ line. line.items ≡ line_of (site_of net.now node) x.now) }

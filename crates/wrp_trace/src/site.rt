@@ -150,19 +150,11 @@ fn has_values(net: &Network, node: u8, port: u16, name: &str, values: Module) ->
 }
 
 // The first listed module, in file order, whose name has these values at a port of a node.
-fn valued<'a>(
-    net: &'a Network,
-    node: u8,
-    port: u16,
-    values: Module,
-) -> Option<&'a ListedModule>
+fn valued<'a>(net: &'a Network, node: u8, port: u16, values: Module) -> Option<&'a ListedModule>
     ensures { option_map (λ m. m.now) result
         ≡ find (λ m. has_values values (module_of (site_of net.now node) port m.name)) net.now.db.modules }
 {
-    net.db
-        .modules()
-        .iter()
-        .find(|module| has_values(net, node, port, module.name(), values))
+    net.db.modules().iter().find(|module| has_values(net, node, port, module.name(), values))
 }
 
 // The first listed name, in file order, whose module at a port of a node has these values.
@@ -177,12 +169,7 @@ fn name_of<'a>(net: &'a Network, node: u8, port: u16, values: Module) -> Option<
 
 /// How a module is named at a port of a node: by the first listed name whose values it has, and by
 /// `unlisted` where the database does not list it.
-pub fn module_name<'a>(
-    net: &'a Network,
-    node: u8,
-    port: u16,
-    module: Option<Module>,
-) -> &'a str
+pub fn module_name<'a>(net: &'a Network, node: u8, port: u16, module: Option<Module>) -> &'a str
     ensures { result.now ≡ module_text (site_of net.now node) port «module» }
 {
     match module {
