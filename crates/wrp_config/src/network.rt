@@ -1,11 +1,11 @@
 //! The network that a file describes, and what its names find.
-ghost use Rattle.std.specs.Prelude.{◌≡◌, ◌<◌, length, option_map};
+ghost use Rattle.std.specs.Prelude.{◌≡◌, ◌<◌, length, option_map, IfSome};
 ghost use Rattle.std.specs.List.{find, position};
 ghost use Rattle.wrp_caldb.specs.Name.{same_name};
 ghost use Rattle.wrp_config.specs.Names as spec;
 ghost use Rattle.wrp_config.specs.Names.{has_port, is_lower_end, is_upper_end, pair_at, pair_of, listed_at};
 
-use wrp_base::{LinkCfg, Module, NetCfg};
+use wrp_base::{LinkCfg, Module, NetCfg, NodeCfg};
 use wrp_caldb::CalDb;
 
 /// A network: its numbers, nodes and links, and the calibration database of its modules and fibres.
@@ -22,12 +22,7 @@ impl Network {
     pub fn node_named(&self, name: &str) -> Option<u8>
         ensures { result ≡ spec.node_named self.now.cfg name.now }
     {
-        match self
-            .cfg
-            .nodes
-            .iter()
-            .position(|node| node.name.as_str() == name)
-        {
+        match node_place(&self.cfg.nodes, name) {
             Some(n) => Some(n as u8),
             None => None,
         }
@@ -37,12 +32,7 @@ impl Network {
     pub fn link_named(&self, name: &str) -> Option<u8>
         ensures { result ≡ spec.link_named self.now.cfg name.now }
     {
-        match self
-            .cfg
-            .links
-            .iter()
-            .position(|link| link.name.as_str() == name)
-        {
+        match link_place(&self.cfg.links, name) {
             Some(l) => Some(l as u8),
             None => None,
         }
@@ -75,6 +65,34 @@ impl Network {
             None => None,
         }
     }
+}
+
+// Whether a node has a name.
+fn is_node_named(node: &NodeCfg, name: &str) -> bool
+    ensures { result ≡ same_name node.now.name.bytes name.now }
+{
+    node.name.as_str() == name
+}
+
+fn node_place(nodes: &[NodeCfg], name: &str) -> Option<usize>
+    ensures value { result ≡ position (λ node. same_name node.name.bytes name.now) nodes.now }
+    ensures within { IfSome result (λ n. n < length nodes.now) }
+{
+    nodes.iter().position(|node| is_node_named(node, name))
+}
+
+// Whether a link has a name.
+fn is_link_named(link: &LinkCfg, name: &str) -> bool
+    ensures { result ≡ same_name link.now.name.bytes name.now }
+{
+    link.name.as_str() == name
+}
+
+fn link_place(links: &[LinkCfg], name: &str) -> Option<usize>
+    ensures value { result ≡ position (λ link. same_name link.name.bytes name.now) links.now }
+    ensures within { IfSome result (λ l. l < length links.now) }
+{
+    links.iter().position(|link| is_link_named(link, name))
 }
 
 fn is_upper_end(link: &LinkCfg, node: u8, port: u16) -> bool
