@@ -1,6 +1,6 @@
 -- Octets and bits that were printed read back.
-use Rattle.std.proofs.Common.{◌≡◌, ℕ, zero, suc, ◌*◌, ◌/◌, ◌<◌, ◌≤◌, ◌^◌, ◌%◌, List, [], Option, None, Some, Result, Ok, Err, length, refl, arith}
-use Rattle.std.specs.Prelude.{slice_index, option_map, option_and_then}
+use Rattle.std.proofs.Common.{◌≡◌, ℕ, zero, suc, ◌*◌, ◌/◌, ◌<◌, ◌≤◌, ◌^◌, List, [], None, Some, Result, Ok, Err, length, refl, arith}
+use Rattle.std.specs.Prelude.{option_map, option_and_then}
 use Rattle.std.specs.Result.{result_ok}
 use Rattle.std.specs.Int.{byte_at, bytes_high_first}
 use Rattle.std.proofs.lemmas.Bool.{le-leb, lt-leb}

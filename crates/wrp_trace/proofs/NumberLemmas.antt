@@ -1,7 +1,7 @@
 -- Numbers that were printed read back, and numbers that are held at a limit are out of range as they
 -- were before.
-use Rattle.std.proofs.Common.{◌≡◌, ◌⊎◌, inl, inr, ℕ, ℤ, pos, negsuc, neg_ℤ, zero, suc, ◌<◌, ◌≤◌, ◌≤ℤ◌, ◌+◌, ◌-◌, ◌*◌, ◌%◌, ◌^◌, ◌&&◌, min, List, [], ◌∷◌, Bool, true, false, Option, None, Some, length, refl, sym, ap, ◌∙◌, arith, rules, lit<}
-use Rattle.std.specs.Prelude.{◌==◌, nat_le, int_le, unsigned_abs, unwrap_or, option_map, option_and_then, if◌then◌else◌}
+use Rattle.std.proofs.Common.{◌≡◌, ◌⊎◌, inl, inr, ℕ, ℤ, pos, negsuc, neg_ℤ, zero, suc, ◌<◌, ◌≤◌, ◌+◌, ◌-◌, ◌*◌, ◌%◌, ◌^◌, min, List, [], ◌∷◌, true, false, Option, None, Some, length, refl, sym, ap, ◌∙◌, arith, rules, lit<}
+use Rattle.std.specs.Prelude.{◌==◌, int_le, unsigned_abs, unwrap_or, option_map, option_and_then}
 use Rattle.std.specs.Char.{is_ascii_digit}
 use Rattle.std.specs.List.{fold, list_all}
 use Rattle.std.specs.Fmt.{decimal, signed_decimal}
@@ -9,7 +9,7 @@ use Rattle.std.specs.Str.Parse.{AllDigits, digits_value}
 use Rattle.std.proofs.lemmas.Bool.{ne_eqb, eq-eqb, le-leb, lt-leb, cases_lt}
 use Rattle.std.proofs.lemmas.Fmt.{decimal_is_IsNumeral_wide, length-decimal-le_wide}
 use Rattle.std.proofs.lemmas.Str.Parse.{IsNumeralModel, numerals_by_fold, digit_from_value}
-use Rattle.wrp_trace.specs.Numbers.{value_of, are_digits, digits_of, number_of, kept_in, number_in, natural_in, time_of}
+use Rattle.wrp_trace.specs.Numbers.{value_of, number_of, kept_in, natural_in, time_of}
 use Rattle.wrp_trace.specs.InputAt.{IsTime}
 
 -- Limits

@@ -1,5 +1,5 @@
 -- A line is plain where the splitting of lines says so.
-use Rattle.std.proofs.Common.{◌≡◌, ◌↔◌, ◌<◌, ◌&&◌, not, ℕ, List, [], ◌∷◌, Bool, true, false, refl, sym, ap, ◌∙◌, arith}
+use Rattle.std.proofs.Common.{◌≡◌, ◌↔◌, ◌&&◌, not, ℕ, List, [], ◌∷◌, Bool, true, false, refl, sym}
 use Rattle.std.specs.Prelude.{◌==◌, nat_lt, IsTrue}
 use Rattle.std.specs.List.{list_all, AllByRecursion}
 use Rattle.std.proofs.lemmas.Bool.{lt-ltb, ltb-true, not-true, and_parts, and_from, false_from_ne_true}

@@ -1,7 +1,7 @@
 -- Texts that may stand in a field, and the lines that they make.
-use Rattle.std.proofs.Common.{◌≡◌, ℕ, zero, suc, ◌<◌, ◌≤◌, ◌+◌, ◌/◌, ◌%◌, ◌^◌, ◌&&◌, ◌||◌, not, ◌⊎◌, List, [], ◌∷◌, ◌++◌, Bool, true, false, length, get_or, refl, sym, ap, subst, ◌∙◌, inl, inr, arith}
+use Rattle.std.proofs.Common.{◌≡◌, ℕ, suc, ◌<◌, ◌≤◌, ◌/◌, ◌%◌, ◌^◌, ◌&&◌, ◌||◌, not, ◌⊎◌, List, [], ◌∷◌, Bool, true, false, length, refl, ap, ◌∙◌, inl, inr, arith}
 use Rattle.std.specs.Prelude.{◌==◌, nat_le, slice_index, slice_index_or}
-use Rattle.std.specs.List.{list_all, join_with_byte, slice_split, All}
+use Rattle.std.specs.List.{list_all, join_with_byte, All}
 use Rattle.std.specs.Fmt.{decimal}
 use Rattle.std.specs.Str.Parse.{AllDigits}
 use Rattle.std.proofs.lemmas.Bool.{ne_eqb, lt-ltb, not-true, leb-true, eqb-true, and_parts, and_from, or_cases}

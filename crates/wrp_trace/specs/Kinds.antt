@@ -1,6 +1,6 @@
 -- The kinds of input lines: the word that each begins with, and its number of fields (this project's
 -- profile).
-use Rattle.std.specs.Prelude.{ℕ, ◌&&◌, not, Bool, true, false, Option, List, [], ◌∷◌, codes}
+use Rattle.std.specs.Prelude.{ℕ, ◌&&◌, not, Bool, true, Option, List, [], ◌∷◌, codes}
 use Rattle.std.specs.List.{find}
 use Rattle.wrp_caldb.specs.Name.{same_name}
 use Rattle.wrp_trace.specs.declared.kinds.InputKind.{InputKind}

@@ -1,5 +1,5 @@
 -- Where a line of inputs belongs: a node of a network (this project's profile).
-use Rattle.std.specs.Prelude.{◌==◌, ◌&&◌, ℕ, Bool, true, false, if◌then◌else◌, Option, Some, None, is_none, is_some, option_map, List, codes}
+use Rattle.std.specs.Prelude.{◌==◌, ◌&&◌, ℕ, Bool, false, if◌then◌else◌, Option, Some, None, is_none, is_some, option_map, List, codes}
 use Rattle.std.specs.List.{find}
 use Rattle.wrp_base.specs.declared.configuration.NetCfg.{NetCfg}
 use Rattle.wrp_base.specs.declared.link.Module.{Module}

@@ -1,5 +1,5 @@
 -- The line reads back, since each line that can be printed does.
-use Rattle.std.proofs.Common.{◌≡◌, ◌∙◌, Ok, ap, rules}
+use Rattle.std.proofs.Common.{◌∙◌, ap}
 use Rattle.wrp_trace.specs.Inputs.{read_of}
 use Rattle.wrp_trace.specs.Site.{site_of}
 use Rattle.wrp_trace.proofs.ReadsBack.{reads_back}
