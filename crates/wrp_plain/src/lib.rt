@@ -19,4 +19,6 @@ pub use settings::{PlainOut, PlainReport, PlainSet};
 pub use world::PlainWorld;
 
 #[cfg(test)]
+mod runs;
+#[cfg(test)]
 mod tests;

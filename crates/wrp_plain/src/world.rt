@@ -147,16 +147,16 @@ impl PlainWorld {
         requires stamps { AreStamps t.now }
         requires long { least_round self.old.servo.set ≤ℤ round_of (t1_of t.now) (t2_of t.now) (t3_of t.now) (t4_of t.now) }
         ensures seen { (set : PlainSet) (off : ℤ) (events : List PlainEvent) (span dms dsm o2 o3 : ℤ) → HadEvents set off self.old events → result ≡ seen_of set off events (Exch span dms dsm o2 o3 t.now) }
-        ensures stands { (set : PlainSet) (off : ℤ) (events : List PlainEvent) (span dms dsm o2 o3 : ℤ) → HadEvents set off self.old events → broken_after set off events (Exch span dms dsm o2 o3 t.now) ≡ None → HadEvents set off self.new (Exch span dms dsm o2 o3 t.now ∷ events) }
+        ensures stands { (set : PlainSet) (off : ℤ) (events : List PlainEvent) (span dms dsm o2 o3 : ℤ) → HadEvents set off self.old events → HasFields (Exch span dms dsm o2 o3 t.now) → broken_after set off events (Exch span dms dsm o2 o3 t.now) ≡ None → HadEvents set off self.new (Exch span dms dsm o2 o3 t.now ∷ events) }
     {
         let (report, command) = taken(self.servo.measured(t[0], t[1], t[2], t[3]));
-        let off = self.off;
-        self.off = sum(off, command.into());
+        let before = self.off;
+        self.off = sum(before, command.into());
         self.events += 1;
         PlainSeen {
             report: Some(report),
             command,
-            off,
+            off: before,
         }
     }
 }
