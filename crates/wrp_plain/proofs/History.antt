@@ -1,6 +1,5 @@
 -- What each event adds to the list that a world stands for.
-use Rattle.std.proofs.Common.{◌≡◌, ℕ, ℤ, pos, ◌+◌, ◌^◌, ◌≤◌, ◌≤ℤ◌, ◌+ℤ◌, unsigned_abs, List, [], ◌∷◌, length, Option, Some, None, refl, ap, ◌∙◌, sym, subst, arith}
-use Rattle.std.proofs.lemmas.Int.{ints}
+use Rattle.std.proofs.Common.{◌≡◌, ℕ, ℤ, pos, ◌+◌, ◌+ℤ◌, unsigned_abs, List, ◌∷◌, length, Option, Some, None, ap, ◌∙◌, sym, subst, arith}
 use Rattle.wrp_plain.specs.declared.settings.PlainSet.{PlainSet}
 use Rattle.wrp_plain.specs.declared.settings.PlainReport.{PlainReport}
 use Rattle.wrp_plain.specs.declared.settings.PlainOut.TheVariants.{Taken}
@@ -11,8 +10,8 @@ use Rattle.wrp_plain.specs.Call.{Call, CallCommand}
 use Rattle.wrp_plain.specs.Report.{report_of}
 use Rattle.wrp_plain.specs.Out.{IsOut}
 use Rattle.wrp_plain.specs.StandsFor.{PlainAt, StandsFor}
-use Rattle.wrp_plain.specs.Event.{t1_of, t2_of, t3_of, t4_of, HasFields, time_since_tick, drifts}
-use Rattle.wrp_plain.specs.Seen.{told_by, command_against, calls_of, commands, true_offset, offset_before_command, seen_of}
+use Rattle.wrp_plain.specs.Event.{t1_of, t2_of, t3_of, t4_of, HasFields, drifts}
+use Rattle.wrp_plain.specs.Seen.{told_by, command_against, calls_of, commands, true_offset, seen_of}
 use Rattle.wrp_plain.specs.Premises.{broken_by, broken_after}
 use Rattle.wrp_plain.specs.World.{WorldAt, HadEvents}
 use Rattle.wrp_plain.proofs.Near.{drifted, steered}

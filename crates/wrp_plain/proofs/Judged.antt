@@ -1,5 +1,5 @@
 -- What an event that breaks no premise keeps.
-use Rattle.std.proofs.Common.{◌≡◌, ℕ, ℤ, pos, ◌+◌, ◌*◌, ◌/◌, ◌^◌, ◌≤◌, ◌≤ℤ◌, ◌+ℤ◌, ◌-ℤ◌, neg_ℤ, unsigned_abs, Bool, true, false, int_lt, cond, List, [], ◌∷◌, Option, Some, None, Result, Ok, Err, refl, ap, ◌∙◌, sym, arith}
+use Rattle.std.proofs.Common.{◌≡◌, ℕ, ℤ, pos, ◌+◌, ◌*◌, ◌/◌, ◌^◌, ◌≤◌, ◌≤ℤ◌, ◌-ℤ◌, unsigned_abs, Bool, true, false, int_lt, cond, List, [], ◌∷◌, Option, Some, None, Result, Ok, Err, refl, ap, ◌∙◌, sym, arith}
 use Rattle.std.proofs.lemmas.Int.{ints}
 use Rattle.std.proofs.Math.Nat.{mul-le-mul_left}
 use Rattle.wrp_plain.specs.declared.settings.PlainSet.{PlainSet}
@@ -7,8 +7,8 @@ use Rattle.wrp_plain.specs.declared.event.PlainEvent.{PlainEvent}
 use Rattle.wrp_plain.specs.declared.event.PlainEvent.TheVariants.{Pass, Exch}
 use Rattle.wrp_plain.specs.declared.event.PlainBroken.{PlainBroken}
 use Rattle.wrp_plain.specs.Measurement.{moves_within, exchange_move, round_of, least_round}
-use Rattle.wrp_plain.specs.Event.{t1_of, t2_of, t3_of, t4_of, HasFields, IsShort}
-use Rattle.wrp_plain.specs.Truth.{Exchange, Keeps}
+use Rattle.wrp_plain.specs.Event.{t1_of, t2_of, t3_of, t4_of}
+use Rattle.wrp_plain.specs.Truth.{Keeps}
 use Rattle.wrp_plain.specs.Premises.{over, below, first_broken, down_error, up_error, span_broken, move_broken, moves_broken, least_broken, stamps_broken, tick_late, rate_broken, broken_by, found_broken}
 use Rattle.wrp_plain.proofs.Bound.{measured_within_bound_holds}
 

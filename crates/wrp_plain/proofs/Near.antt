@@ -1,19 +1,17 @@
 -- In an accepted list of events each measurement stays near the true offset: it may have moved for all the time since.
-use Rattle.std.proofs.Common.{◌≡◌, ℕ, zero, suc, ℤ, pos, ◌+◌, ◌*◌, ◌/◌, ◌^◌, ◌≤◌, ◌≤ℤ◌, ◌+ℤ◌, ◌-ℤ◌, unsigned_abs, List, [], ◌∷◌, map, take, All, None, refl, ap, ◌∙◌, sym, subst, arith}
+use Rattle.std.proofs.Common.{◌≡◌, ℕ, ℤ, pos, ◌+◌, ◌*◌, ◌^◌, ◌≤◌, ◌≤ℤ◌, ◌+ℤ◌, ◌-ℤ◌, unsigned_abs, List, [], ◌∷◌, map, All, None, sym, subst, arith}
 use Rattle.std.proofs.lemmas.Int.{ints}
-use Rattle.std.proofs.lemmas.List.Elements.{All-cons, All-weaker, All-map, All-take, All-same}
+use Rattle.std.proofs.lemmas.List.Elements.{All-cons, All-weaker, All-map, All-same}
 use Rattle.std.proofs.Math.Nat.{mul-le-mul_left, mul-add}
 use Rattle.wrp_plain.specs.declared.settings.PlainSet.{PlainSet}
-use Rattle.wrp_plain.specs.declared.settings.PlainReport.{PlainReport}
 use Rattle.wrp_plain.specs.declared.event.PlainEvent.{PlainEvent}
 use Rattle.wrp_plain.specs.declared.event.PlainEvent.TheVariants.{Pass, Tick, Exch}
-use Rattle.wrp_plain.specs.Measurement.{moves_within, est_of, base_of, round_of}
-use Rattle.wrp_plain.specs.Call.{Call, CallMeasured, CallTick, CallCommand, Mark, marks, marks_before}
-use Rattle.wrp_plain.specs.Report.{report_at, report_of, kept_reports}
+use Rattle.wrp_plain.specs.Measurement.{est_of, base_of, round_of}
+use Rattle.wrp_plain.specs.Call.{Call, CallTick, CallCommand, Mark, marks}
+use Rattle.wrp_plain.specs.Report.{report_of}
 use Rattle.wrp_plain.specs.Event.{t1_of, t2_of, t3_of, t4_of, time_since_tick, drifts, HasFields}
-use Rattle.wrp_plain.specs.Seen.{told_by, commanded_by, calls_of, commands, command_against, true_offset, offset_before_command}
+use Rattle.wrp_plain.specs.Seen.{told_by, calls_of, commands, command_against, true_offset, offset_before_command}
 use Rattle.wrp_plain.specs.Premises.{broken_after, Accepts}
-use Rattle.wrp_plain.specs.World.{IsWithinBound}
 use Rattle.wrp_plain.proofs.Bound.{measured_within_bound_holds}
 use Rattle.wrp_plain.proofs.Marks.{later, moved_by, marks_before-tick, marks_before-moved}
 use Rattle.wrp_plain.proofs.Judged.{KeepsPass, keeps_pass, keeps_exchange}

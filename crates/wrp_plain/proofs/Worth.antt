@@ -1,5 +1,5 @@
 -- What the report of an accepted event is worth.
-use Rattle.std.proofs.Common.{◌≡◌, ◌≢◌, ℕ, zero, suc, ℤ, pos, ◌+◌, ◌*◌, ◌/◌, ◌^◌, ◌<◌, ◌≤◌, ◌≤ℤ◌, ◌+ℤ◌, ◌-ℤ◌, unsigned_abs, Bool, true, false, not, ◌&&◌, int_lt, cond, List, [], ◌∷◌, length, map, take, find, All, Contains, Option, Some, None, IfSome, IsSome, rules, refl, ap, ◌∙◌, sym, subst, arith}
+use Rattle.std.proofs.Common.{◌≡◌, ◌≢◌, ℕ, zero, suc, ℤ, pos, ◌+◌, ◌*◌, ◌/◌, ◌≤◌, ◌≤ℤ◌, ◌+ℤ◌, ◌-ℤ◌, unsigned_abs, Bool, true, false, not, ◌&&◌, int_lt, cond, List, [], ◌∷◌, take, find, All, Contains, Option, Some, None, IfSome, refl, subst, arith}
 use Rattle.std.specs.List.{list_all}
 use Rattle.std.proofs.lemmas.Int.{ints}
 use Rattle.std.proofs.lemmas.List.Elements.{All-cons, All-weaker, All-map, All-take, All-contains}
@@ -8,7 +8,7 @@ use Rattle.wrp_plain.specs.declared.settings.PlainReport.{PlainReport}
 use Rattle.wrp_plain.specs.declared.event.PlainEvent.{PlainEvent}
 use Rattle.wrp_plain.specs.declared.event.PlainEvent.TheVariants.{Pass, Tick, Exch}
 use Rattle.wrp_plain.specs.Measurement.{HasRanges, moves_within, est_of, base_of, round_of}
-use Rattle.wrp_plain.specs.Call.{Call, CallMeasured, CallTick, Mark, marks, marks_before}
+use Rattle.wrp_plain.specs.Call.{Call, CallTick, Mark, marks}
 use Rattle.wrp_plain.specs.Report.{report_at, is_least, least_report, report_of, kept_reports}
 use Rattle.wrp_plain.specs.Event.{t1_of, t2_of, t3_of, t4_of, time_since_tick, HasFields}
 use Rattle.wrp_plain.specs.Seen.{told_by, calls_of, true_offset, offset_before_command, seen_of}

@@ -1,5 +1,5 @@
 -- What a plain servo answers to a measurement (this project's profile).
-use Rattle.std.specs.Prelude.{ℕ, ℤ, ◌≡◌, ◌≤◌, ◌^◌, ◌≤ℤ◌, ◌<ℤ◌, unsigned_abs, List, ◌∷◌, Some}
+use Rattle.std.specs.Prelude.{ℤ, ◌≡◌, ◌≤◌, ◌^◌, ◌≤ℤ◌, ◌<ℤ◌, unsigned_abs, List, ◌∷◌, Some}
 use Rattle.wrp_plain.specs.declared.settings.PlainSet.{PlainSet}
 use Rattle.wrp_plain.specs.declared.settings.PlainOut.{PlainOut}
 use Rattle.wrp_plain.specs.declared.settings.PlainOut.TheVariants.{Short, Taken}

@@ -58,19 +58,19 @@ up_error t dsm o3 = ((t4_of t -ℤ t3_of t) -ℤ dsm) +ℤ o3
 -- 6: each way is measured to within the errors of its two stamps
 abbrev pub stamps_broken : PlainSet → ℤ → ℤ → Option PlainBroken
 stamps_broken set down up = first_broken (
-  over 6 (pos (unsigned_abs down)) (pos (2 * set.err)) ∷ over 6 (pos (unsigned_abs up)) (pos (2 * set.err)) ∷ []
-)
+    over 6 (pos (unsigned_abs down)) (pos (2 * set.err)) ∷ over 6 (pos (unsigned_abs up)) (pos (2 * set.err)) ∷ []
+    )
 
 -- the first premise that an event breaks, where this is the true offset and so much time passed since the last tick
 abbrev pub broken_by : PlainSet → ℤ → ℕ → PlainEvent → Option PlainBroken
 broken_by set off since (Pass dt drift) = first_broken (tick_late set since dt ∷ rate_broken set dt drift ∷ [])
 broken_by set off since Tick = None
 broken_by set off since (Exch span dms dsm o2 o3 t) = first_broken (
-  span_broken set span ∷
-  least_broken set dms dsm ∷
-  moves_broken set off span o2 o3 ∷
-  stamps_broken set (down_error t dms o2) (up_error t dsm o3) ∷ []
-)
+    span_broken set span ∷
+    least_broken set dms dsm ∷
+    moves_broken set off span o2 o3 ∷
+    stamps_broken set (down_error t dms o2) (up_error t dsm o3) ∷ []
+    )
 
 -- the first premise that an event breaks after these events
 abbrev pub broken_after : PlainSet → ℤ → List PlainEvent → PlainEvent → Option PlainBroken

@@ -1,6 +1,6 @@
 -- The list of events that a world with a plain servo stands for, and what its reports are worth (this project's
 -- profile).
-use Rattle.std.specs.Prelude.{◌≡◌, ℕ, ℤ, pos, ◌≤ℤ◌, ◌-ℤ◌, unsigned_abs, List, ◌∷◌, length, All, Contains, IfSome, IsSome}
+use Rattle.std.specs.Prelude.{◌≡◌, ℕ, ℤ, pos, ◌≤ℤ◌, ◌-ℤ◌, unsigned_abs, List, length, All, Contains, IfSome, IsSome}
 use Rattle.wrp_plain.specs.declared.settings.PlainSet.{PlainSet}
 use Rattle.wrp_plain.specs.declared.settings.PlainReport.{PlainReport}
 use Rattle.wrp_plain.specs.declared.event.PlainEvent.{PlainEvent}

@@ -5,21 +5,13 @@ ghost use Rattle.wrp_plain.specs.Event.{IsShort, HasFields, AreStamps, t1_of, t2
 ghost use Rattle.wrp_plain.specs.Premises.{over, below, first_broken, tick_late, rate_broken, span_broken, least_broken, move_broken, moves_broken, stamps_broken, down_error, up_error, broken_by, found_broken};
 
 use crate::event::{PlainBroken, PlainEvent};
-use crate::numbers::{apart, moves_within};
+use crate::numbers::{RATE_UNIT, apart, moves_within};
 use crate::settings::PlainSet;
 use wrp_base::{difference, sum};
 
-/// A tau has this many of the units in which a rate is told.
-const TAU: u128 = 1_000_000_000_000;
-
 /// Judges an event where this is the true offset, and so much time passed since the last tick or the
 /// start: the first premise that it breaks is refused.
-pub fn judge(
-    set: &PlainSet,
-    off: i128,
-    since: u64,
-    event: &PlainEvent,
-) -> Result<(), PlainBroken>
+pub fn judge(set: &PlainSet, off: i128, since: u64, event: &PlainEvent) -> Result<(), PlainBroken>
     requires set { HasRanges set.now }
     requires off { unsigned_abs off ≤ 2 ^ 94 }
     requires since { since ≤ 10 ^ 18 }
@@ -73,13 +65,7 @@ fn judge_least(set: &PlainSet, dms: i64, dsm: i64) -> Result<(), PlainBroken>
 }
 
 // At both stamps of the slave the offset is no further from what it is now than it may move.
-fn judge_moves(
-    set: &PlainSet,
-    off: i128,
-    span: i64,
-    o2: i128,
-    o3: i128,
-) -> Result<(), PlainBroken>
+fn judge_moves(set: &PlainSet, off: i128, span: i64, o2: i128, o3: i128) -> Result<(), PlainBroken>
     requires set { HasRanges set.now }
     requires off { unsigned_abs off ≤ 2 ^ 94 }
     requires o2 { unsigned_abs o2 ≤ 2 ^ 94 }
@@ -152,7 +138,7 @@ fn time_since(since: u64, dt: i64) -> i128
 fn moved(drift: i64) -> i128
     ensures { result ≡ pos (unsigned_abs drift * 10 ^ 12) }
 {
-    (u128::from(drift.unsigned_abs()) * TAU) as i128
+    (u128::from(drift.unsigned_abs()) * RATE_UNIT) as i128
 }
 
 // By how much it may move in a time, in the units of a rate.

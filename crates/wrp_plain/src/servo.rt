@@ -10,8 +10,8 @@ ghost use Rattle.wrp_plain.specs.Out.{IsOut, IsTaken, HasSmallCommand, calls_aft
 ghost use Rattle.wrp_plain.specs.StandsFor.{StandsFor, mark_of, marks_at, IsKept, HasSmallEst, better};
 
 use crate::kept::Kept;
-use crate::settings::{PlainOut, PlainReport, PlainSet};
 use crate::numbers::{half, moves_within, offset, raised, round_trip, steer_against};
+use crate::settings::{PlainOut, PlainReport, PlainSet};
 use circular_buffer::HeapCircularBuffer;
 use std::alloc::{AllocError, Global};
 use std::marker::Model;

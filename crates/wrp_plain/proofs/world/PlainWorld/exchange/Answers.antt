@@ -1,10 +1,8 @@
 -- An exchange adds itself, and moves the clock by its command.
-use Rattle.std.proofs.Common.{◌≡◌, ℕ, ℤ, pos, ◌+◌, ◌*◌, ◌^◌, ◌≤◌, ◌<◌, ◌+ℤ◌, ◌∷◌, unsigned_abs, to_z, of_z, FitsSigned, Some, ap, ap₂, ◌∙◌, sym, subst, refl, arith, rules}
+use Rattle.std.proofs.Common.{◌≡◌, ℕ, ℤ, ◌+◌, ◌*◌, ◌^◌, ◌≤◌, ◌<◌, ◌+ℤ◌, unsigned_abs, to_z, of_z, FitsSigned, Some, ap₂, ◌∙◌, sym, subst, refl, arith}
 use Rattle.std.specs.Int.{w64, w128}
-use Rattle.std.proofs.lemmas.Int.{ints, to_z-of_z, fits_signed_from_abs}
+use Rattle.std.proofs.lemmas.Int.{to_z-of_z, fits_signed_from_abs}
 use Rattle.wrp_plain.specs.declared.settings.PlainOut.{PlainOut}
-use Rattle.wrp_plain.specs.declared.settings.PlainOut.TheVariants.{Taken}
-use Rattle.wrp_plain.specs.declared.event.PlainEvent.TheVariants.{Exch}
 use Rattle.wrp_plain.specs.Event.{t1_of, t2_of, t3_of, t4_of}
 use Rattle.wrp_plain.specs.Out.{IsOut, HasSmallCommand, calls_after}
 use Rattle.wrp_plain.specs.StandsFor.{StandsFor}

@@ -1,7 +1,7 @@
 -- Passing time adds itself, and moves the true offset by its drift.
-use Rattle.std.proofs.Common.{◌≡◌, ℕ, ℤ, pos, ◌+◌, ◌^◌, ◌≤◌, ◌+ℤ◌, unsigned_abs, to_z, of_z, FitsSigned, None, ap, ◌∙◌, sym, subst, refl, arith}
-use Rattle.std.specs.Int.{w64, w128}
-use Rattle.std.proofs.lemmas.Int.{ints, to_z-of_z, fits_signed_from_abs}
+use Rattle.std.proofs.Common.{◌≡◌, ℤ, ◌+◌, ◌^◌, ◌≤◌, ◌+ℤ◌, unsigned_abs, FitsSigned, None, ◌∙◌, sym, subst, refl, arith}
+use Rattle.std.specs.Int.{w128}
+use Rattle.std.proofs.lemmas.Int.{to_z-of_z, fits_signed_from_abs}
 use Rattle.wrp_plain.specs.declared.event.PlainEvent.TheVariants.{Pass}
 use Rattle.wrp_plain.specs.Premises.{broken_by}
 use Rattle.wrp_plain.specs.World.{WorldAt, HadEvents}

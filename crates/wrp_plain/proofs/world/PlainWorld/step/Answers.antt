@@ -1,6 +1,5 @@
 -- What an accepted event gives is true.
 use Rattle.std.proofs.Common.{◌≡◌, None, ap, ◌∙◌, sym, subst, rules}
-use Rattle.wrp_plain.specs.declared.settings.PlainSet.{PlainSet}
 use Rattle.wrp_plain.specs.declared.event.PlainSeen.{PlainSeen}
 use Rattle.wrp_plain.specs.Measurement.{HasRanges}
 use Rattle.wrp_plain.specs.Premises.{broken_by}
