@@ -3,6 +3,7 @@ pub mod Feeds
 pub mod LineLemmas
 pub mod Networking
 pub mod OneAnswer
+pub mod ParsingLemmas
 pub mod Parts
 pub mod Pieces
 pub mod Progress

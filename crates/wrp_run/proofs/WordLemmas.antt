@@ -1,11 +1,11 @@
 -- Words by their number, and the one value of an option.
-use Rattle.std.proofs.Common.{◌≡◌, ℕ, ◌<◌, ◌≤◌, List, [], ◌∷◌, ◌++◌, Option, Some, None, MatchOption, length, map, refl, sym, ap, ◌∙◌, codes, arith}
+use Rattle.std.proofs.Common.{◌≡◌, ℕ, ◌<◌, ◌≤◌, List, [], ◌∷◌, ◌++◌, None, length, map, refl, sym, ap, ◌∙◌, codes, arith}
 use Rattle.std.specs.List.{slice_index_or}
 use Rattle.std.proofs.lemmas.List.{append_cancel_left}
-use Rattle.wrp_run.specs.declared.command_line.Command.{Command}
-use Rattle.wrp_run.specs.declared.command_line.Command.TheVariants.{Audit, Emit, Replay, Simulate, Loop}
+use Rattle.wrp_run.specs.declared.command_line.Form.{Form}
+use Rattle.wrp_run.specs.declared.command_line.Form.TheVariants as forms
 use Rattle.wrp_run.specs.Fields.{seed_of}
-use Rattle.wrp_run.specs.CommandLine.{HasOption, IsCommandWith, IsSeeded, IsWords}
+use Rattle.wrp_run.specs.CommandLine.{HasOption, IsCommandWith, IsForm, IsNoCommand}
 
 -- two words
 pub two_texts : {X : Type 0} (f : X → List ℕ) (ws : List X) (d e : X) → 2 ≤ length ws → length ws < 3 → map f ws ≡ f (slice_index_or ws 0 d) ∷ f (slice_index_or ws 1 e) ∷ []
@@ -26,22 +26,46 @@ one_value : (command option : List ℕ) (words : List (List ℕ)) (a b : List �
 one_value command option [] a b p q = absurd p
 one_value command option (first ∷ rest) a b p q = one_option option rest a b p.1 q.1
 
--- the seed that a command's value writes, or none
-pub seed_found : (command text : List ℕ) (words : List (List ℕ)) (found : Option ℕ) → IsCommandWith command (codes "--seed") words text → found ≡ seed_of text
-    → MatchOption found ((seed : ℕ) → IsSeeded command words seed → ⊥) (IsSeeded command words)
-seed_found command text words (Some seed) has is = (text, has, sym is)
-seed_found command text words None has is = λ seed other.
-    let same : text ≡ other.0 = one_value command (codes "--seed") words text other.0 has other.1 in
-    let never = is ∙ ap seed_of same ∙ other.2 in
-    cc
+-- the first octet of the first word
+abbrev initial : List (List ℕ) → ℕ
+initial ((octet ∷ word) ∷ words) = octet
+initial _ = 0
 
--- words that are none of the commands
-pub no_command : (words : List (List ℕ)) → (words ≡ codes "audit" ∷ [] → ⊥)
-    → ((name : List ℕ) → IsCommandWith (codes "audit") (codes "--emit") words name → ⊥) → ((name : List ℕ) → IsCommandWith (codes "replay") (codes "--node") words name → ⊥)
-    → ((seed : ℕ) → IsSeeded (codes "simulate") words seed → ⊥) → ((seed : ℕ) → IsSeeded (codes "loop") words seed → ⊥)
-    → (command : Command) → IsWords words command → ⊥
-no_command words audit emit replay simulate loops Audit is = audit is
-no_command words audit emit replay simulate loops (Emit name) is = emit name.now is
-no_command words audit emit replay simulate loops (Replay name) is = replay name.now is
-no_command words audit emit replay simulate loops (Simulate seed) is = simulate seed is
-no_command words audit emit replay simulate loops (Loop seed) is = loops seed is
+-- of a command with an option it is the command's
+initial_of : (octet : ℕ) (command option : List ℕ) (words : List (List ℕ)) (value : List ℕ) → IsCommandWith (octet ∷ command) option words value → initial words ≡ octet
+initial_of octet command option [] value is = absurd is
+initial_of octet command option (first ∷ rest) value is = ap (λ word. initial (word ∷ rest)) is.0
+
+-- of a form it is the command's
+abbrev letter : Form → ℕ
+letter forms.Audit = 97
+letter forms.Emit = 97
+letter forms.Replay = 114
+letter forms.Simulate = 115
+letter forms.Loop = 108
+
+initial_letter : (form : Form) (words : List (List ℕ)) (value : List ℕ) → IsForm form words value → initial words ≡ letter form
+initial_letter forms.Audit words value is = ap initial is.0
+initial_letter forms.Emit words value is = initial_of 97 _ (codes "--emit") words value is
+initial_letter forms.Replay words value is = initial_of 114 _ (codes "--node") words value is
+initial_letter forms.Simulate words value is = initial_of 115 _ (codes "--seed") words value is
+initial_letter forms.Loop words value is = initial_of 108 _ (codes "--seed") words value is
+
+-- a seed that is none makes no command
+pub no_simulate : (words : List (List ℕ)) (text : List ℕ) → IsCommandWith (codes "simulate") (codes "--seed") words text → None ≡ seed_of text → IsNoCommand words
+no_simulate words text has none forms.Simulate value is sound =
+    let same : text ≡ value = one_value (codes "simulate") (codes "--seed") words text value has is in
+    let never = none ∙ ap seed_of same ∙ sound.1 in
+    cc
+no_simulate words text has none form value is sound =
+    let bad : 115 ≡ letter form = sym (initial_of 115 _ (codes "--seed") words text has) ∙ initial_letter form words value is in
+    absurd (omega (arith, bad))
+
+pub no_loop : (words : List (List ℕ)) (text : List ℕ) → IsCommandWith (codes "loop") (codes "--seed") words text → None ≡ seed_of text → IsNoCommand words
+no_loop words text has none forms.Loop value is sound =
+    let same : text ≡ value = one_value (codes "loop") (codes "--seed") words text value has is in
+    let never = none ∙ ap seed_of same ∙ sound.1 in
+    cc
+no_loop words text has none form value is sound =
+    let bad : 108 ≡ letter form = sym (initial_of 108 _ (codes "--seed") words text has) ∙ initial_letter form words value is in
+    absurd (omega (arith, bad))

@@ -1,8 +1,10 @@
 -- The command line: which words are a command (this project's profile).
 use Rattle.std.specs.Prelude.{◌≡◌, ℕ, Some, Option, MatchOption, List, [], ◌∷◌, ◌++◌, codes}
 use Rattle.std.specs.Borrow.{Bor}
-use Rattle.wrp_run.specs.declared.command_line.Command.{Command}
-use Rattle.wrp_run.specs.declared.command_line.Command.TheVariants.{Audit, Emit, Replay, Simulate, Loop}
+use Rattle.wrp_run.specs.declared.command_line.Form.{Form}
+use Rattle.wrp_run.specs.declared.command_line.Form.TheVariants as form
+use Rattle.wrp_run.specs.declared.parse.Command.{Command}
+use Rattle.wrp_run.specs.declared.parse.Command.TheVariants.{Audit, Emit, Replay, Simulate, Loop}
 use Rattle.wrp_run.specs.Fields.{seed_of}
 
 -- the text begins with a minus sign
@@ -22,6 +24,18 @@ abbrev pub IsCommandWith : List ℕ → List ℕ → List (List ℕ) → List �
 IsCommandWith command option (first ∷ rest) value = (first ≡ command) × HasOption option rest value
 IsCommandWith command option [] value = ⊥
 
+-- the words have this form, with this value of the option
+abbrev pub IsForm : Form → List (List ℕ) → List ℕ → Type 0
+IsForm form.Audit words value = (words ≡ codes "audit" ∷ []) × (value ≡ [])
+IsForm form.Emit words value = IsCommandWith (codes "audit") (codes "--emit") words value
+IsForm form.Replay words value = IsCommandWith (codes "replay") (codes "--node") words value
+IsForm form.Simulate words value = IsCommandWith (codes "simulate") (codes "--seed") words value
+IsForm form.Loop words value = IsCommandWith (codes "loop") (codes "--seed") words value
+
+-- the words have this form
+abbrev pub HasForm : List (List ℕ) → Form → Type 0
+HasForm words form = (value : List ℕ) × IsForm form words value
+
 -- the words are a command with a seed
 abbrev pub IsSeeded : List ℕ → List (List ℕ) → ℕ → Type 0
 IsSeeded command words seed =
@@ -35,6 +49,21 @@ IsWords words (Emit name) = IsCommandWith (codes "audit") (codes "--emit") words
 IsWords words (Replay name) = IsCommandWith (codes "replay") (codes "--node") words name.now
 IsWords words (Simulate seed) = IsSeeded (codes "simulate") words seed
 IsWords words (Loop seed) = IsSeeded (codes "loop") words seed
+
+-- a value that the form takes: that of `--seed` is a seed
+abbrev pub IsValue : Form → List ℕ → Type 0
+IsValue form.Simulate value = (seed : ℕ) × (seed_of value ≡ Some seed)
+IsValue form.Loop value = (seed : ℕ) × (seed_of value ≡ Some seed)
+IsValue _ value = Unit {0}
+
+-- the words are no command
+abbrev pub IsNoCommand : List (List ℕ) → Type 0
+IsNoCommand words =
+    (form : Form) (value : List ℕ) → IsForm form words value → IsValue form value → ⊥
+
+-- the command that the words are, or none where they are none
+abbrev pub IsCommandOf : List (List ℕ) → Option Command → Type 0
+IsCommandOf words found = MatchOption found (IsNoCommand words) (IsWords words)
 
 -- the value that the words give an option, or none
 abbrev pub GivesOption : List ℕ → List (List ℕ) → Option (Bor (List ℕ)) → Type 0

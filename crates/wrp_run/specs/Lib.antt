@@ -8,6 +8,7 @@ pub mod History
 pub mod Input
 pub mod Lines
 pub mod Nodes
+pub mod Parsing
 pub mod Reader
 pub mod Records
 pub mod StandsFor

@@ -1,24 +1,22 @@
-//! The command line: the command that the words are.
+//! The form of the command line: a scan of the words, which tells whether they have that of a command.
 ghost use Rattle.std.specs.Prelude.{◌≡◌, ◌↔◌, ◌++◌, ◌∷◌, [], ℕ, List, codes, IsTrue, MatchOption};
-ghost use Rattle.wrp_run.specs.declared.command_line.Command.{Command};
-ghost use Rattle.wrp_run.specs.CommandLine.{IsDashed, IsSeeded, IsWords, GivesOption, GivesValue};
+ghost use Rattle.wrp_run.specs.declared.command_line.Form.{Form};
+ghost use Rattle.wrp_run.specs.CommandLine.{IsDashed, IsForm, HasForm, GivesOption, GivesValue};
 ghost use Rattle.wrp_run.specs.Words.{texts_of};
 
-use crate::fields;
-
-/// A command of the command line.
+/// The form of a command line.
 #[derive(Clone, Copy, Debug, PartialEq, Eq)]
-pub enum Command<'a> {
+pub enum Form {
     /// `audit`.
     Audit,
     /// `audit --emit NODE`.
-    Emit(&'a str),
+    Emit,
     /// `replay --node NODE`.
-    Replay(&'a str),
+    Replay,
     /// `simulate --seed N`.
-    Simulate(u64),
+    Simulate,
     /// `loop --seed N`.
-    Loop(u64),
+    Loop,
 }
 
 // Whether a text begins with a minus sign.
@@ -102,18 +100,6 @@ fn command_with<'a>(command: &str, option: &str, joined: &str, words: &[&'a str]
     }
 }
 
-// The seed of a command.
-fn seeded(command: &str, words: &[&str]) -> Option<u64>
-    ensures { MatchOption result
-        ((seed : ℕ) → IsSeeded command.now (texts_of words.now) seed → ⊥)
-        (IsSeeded command.now (texts_of words.now)) }
-{
-    match command_with(command, "--seed", "--seed=", words) {
-        Some(text) => fields::seed(text.as_bytes()),
-        None => None,
-    }
-}
-
 // Whether the words are `audit` alone.
 fn is_audit(words: &[&str]) -> bool
     ensures { IsTrue result ↔ (texts_of words.now ≡ codes "audit" ∷ []) }
@@ -124,26 +110,26 @@ fn is_audit(words: &[&str]) -> bool
     }
 }
 
-/// The command that the words are, or None where they are none.
-pub fn command_of<'a>(words: &[&'a str]) -> Option<Command<'a>>
+/// The form of the command line that the words are, or None where they have none.
+pub fn form_of(words: &[&str]) -> Option<Form>
     ensures { MatchOption result
-        ((command : Command) → IsWords (texts_of words.now) command → ⊥)
-        (IsWords (texts_of words.now)) }
+        ((form : Form) (value : List ℕ) → IsForm form (texts_of words.now) value → ⊥)
+        (HasForm (texts_of words.now)) }
 {
     if is_audit(words) {
-        return Some(Command::Audit);
+        return Some(Form::Audit);
     }
-    if let Some(name) = command_with("audit", "--emit", "--emit=", words) {
-        return Some(Command::Emit(name));
+    if let Some(_) = command_with("audit", "--emit", "--emit=", words) {
+        return Some(Form::Emit);
     }
-    if let Some(name) = command_with("replay", "--node", "--node=", words) {
-        return Some(Command::Replay(name));
+    if let Some(_) = command_with("replay", "--node", "--node=", words) {
+        return Some(Form::Replay);
     }
-    if let Some(seed) = seeded("simulate", words) {
-        return Some(Command::Simulate(seed));
+    if let Some(_) = command_with("simulate", "--seed", "--seed=", words) {
+        return Some(Form::Simulate);
     }
-    if let Some(seed) = seeded("loop", words) {
-        return Some(Command::Loop(seed));
+    if let Some(_) = command_with("loop", "--seed", "--seed=", words) {
+        return Some(Form::Loop);
     }
     None
 }

@@ -8,6 +8,9 @@ ghost use Rattle.wrp_run.specs.Reader.{Takes, IsNext, IsCut, IsLast, piece_limit
 ghost use Rattle.wrp_run.specs.Stream.{size_of, IsWithin, IsTooLarge, IsLargeNext, IsCutWithin, number_limit, large_line, Handling};
 ghost use Rattle.wrp_run.specs.Engine.{Writes, LineOutcome, Finishes, TellsLarge, MostAt, status_by};
 
+#[cfg(test)]
+mod edges;
+
 use crate::feed::first_feed;
 use crate::line::content;
 use crate::machine::{Machine, Refusal, Taken};

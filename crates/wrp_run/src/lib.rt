@@ -15,6 +15,7 @@ mod machine;
 mod network;
 mod network_text;
 mod nodes;
+mod parse;
 mod reader;
 mod reading;
 mod records;

@@ -2,10 +2,10 @@
 //! failing at one call; and the words of the command line.
 ghost use Rattle.std.specs.Prelude.{◌+◌, ◌≤◌, ⊤};
 
-use crate::command_line::{Command, command_of};
 use crate::engine::handle_records;
 use crate::machine::{Machine, Refusal, Taken};
 use crate::network_text::{End, take_network};
+use crate::parse::{Command, read_words};
 use crate::reader::Reader;
 use crate::status::Status;
 use std::alloc::{AllocError, Global};
@@ -194,6 +194,8 @@ const STREAMS: &[(usize, usize, u32, u32, Status, &str)] = &[
     (20, 20, 0, 1, Status::WriteFault, ""),
     (20, 20, 0, 2, Status::WriteFault, "ticks 1"),
     (20, 20, 0, 3, Status::WriteFault, "ticks 1\n"),
+    (20, 20, 0, 4, Status::WriteFault, "ticks 1\nticks 2"),
+    (20, 20, 0, 5, Status::Done, "ticks 1\nticks 2\n"),
     (20, 20, 4, 4, Status::WriteFault, "ticks 1\nticks 2"),
     (20, 20, 4, 5, Status::ReadFault, "ticks 1\nticks 2\n"),
 ];
@@ -308,8 +310,9 @@ const WORDS: &[(&[&str], Option<Command<'static>>)] = &[
 ];
 
 #[test]
-fn words(rt: HostRuntime) {
+fn words(rt: HostRuntime) -> Result<(), Fail> {
     for (words, command) in WORDS {
-        assert!(rt; command_of(words) == *command, "{words:?}");
+        assert!(rt; read_words(rt.alloc(), words)? == *command, "{words:?}");
     }
+    Ok(())
 }
