@@ -26,6 +26,6 @@ fn numbers(rt: HostRuntime) -> Result<(), Fail> {
     }
     let mut line = Vec::new(rt.alloc());
     append_large(rt.alloc(), &mut line, 4_294_967_296)?;
-    assert!(rt; line == b"too-large 4294967296\n".as_slice());
+    assert!(rt; line.as_slice() == b"too-large 4294967296\n".as_slice());
     Ok(())
 }
