@@ -2,6 +2,10 @@
 //! reports out (IEEE 1588-2019 and the White Rabbit Specification 2.0 in this project's profile).
 #![tactic(auto)]
 
+mod control;
 mod interface;
+mod place;
+mod ports;
+mod told;
 
 pub use interface::{Input, NodeSet, Output, Outputs, Report};

@@ -1,0 +1,150 @@
+//! The servo of a node, which has one exactly where it has a slave port.
+ghost use Rattle.std.specs.Prelude.{◌≡◌, ◌<◌, ℤ, List, None, Some, false, IfSome};
+ghost use Rattle.std.specs.Option.{option_map};
+ghost use Rattle.wrp_node.specs.Control.{AddsCalls, KeepsLaw, HasTick, IsReason, lease_call, link_call, carrier_call};
+ghost use Rattle.wrp_node.specs.NodeStep.{measurement_by};
+ghost use Rattle.wrp_node.specs.Telling.{no_answer};
+ghost use Rattle.wrp_servo.specs.Call.{CallSample, CallTick, CallReset};
+ghost use Rattle.wrp_servo.specs.Sizes.{FitsTimes};
+
+use crate::told::Told;
+use std::marker::Model;
+use wrp_base::{ChainNews, Deltas, Four, ServoState, Tau};
+use wrp_servo::{Servo, ServoOut};
+
+/// The servo, if the node has one.
+#[derive(Drop)]
+pub struct Control<F: Fn(i64) -> i64> {
+    told: Option<Told<F>>,
+    bias: u16,
+}
+
+impl<F: Fn(i64) -> i64> Model for Control<F> {
+    ghost use Rattle.wrp_node.specs.Control.{ControlOf};
+
+    ghost Value = { ControlOf F };
+
+    ghost view = { λ c. record { told = c.told; bias = c.bias } };
+}
+
+// Nothing is told, and nothing comes of it.
+fn no_answer() -> ServoOut
+    ensures { result ≡ no_answer }
+{
+    ServoOut {
+        cycles: 0,
+        dac: None,
+        unwrapped: None,
+        chain: ChainNews::Same,
+        refused: None,
+    }
+}
+
+impl<F: Fn(i64) -> i64> Control<F> {
+    /// The servo before any call, or none.
+    pub fn new(servo: Option<Servo<F>>, bias: u16) -> Control<F>
+        ensures { result ≡ record { told = option_map (λ s. record { servo = s; lease = false; link = false }) servo; bias = bias } }
+    {
+        let told = match servo {
+            Some(servo) => Some(Told {
+                servo,
+                lease: false,
+                link: false,
+            }),
+            None => None,
+        };
+        Control { told, bias }
+    }
+
+    /// A sample, with its number, its base below 16384 and its 64 beat bits.
+    pub fn sample(&mut self, n: u32, base: u16, bits: u64) -> ServoOut
+        requires base { base < 16384 }
+        requires law { KeepsLaw F.pre F.post self.old }
+        ensures law { KeepsLaw F.pre F.post self.new }
+        ensures calls { AddsCalls F.post self.old self.new (λ _. Some (CallSample n base bits)) result }
+        ensures reason { IsReason result.refused }
+    {
+        match &mut self.told {
+            Some(told) => told.sample(n, base, bits),
+            None => no_answer(),
+        }
+    }
+
+    /// A tick.
+    pub fn tick(&mut self) -> ServoOut
+        requires room { HasTick self.old }
+        requires law { KeepsLaw F.pre F.post self.old }
+        ensures law { KeepsLaw F.pre F.post self.new }
+        ensures calls { AddsCalls F.post self.old self.new (λ _. Some CallTick) result }
+        ensures reason { IsReason result.refused }
+    {
+        match &mut self.told {
+            Some(told) => told.tick(),
+            None => no_answer(),
+        }
+    }
+
+    /// The lease, where it is another than was told last.
+    pub fn lease(&mut self, fresh: bool) -> ServoOut
+        requires law { KeepsLaw F.pre F.post self.old }
+        ensures law { KeepsLaw F.pre F.post self.new }
+        ensures calls { AddsCalls F.post self.old self.new (lease_call fresh) result }
+        ensures reason { IsReason result.refused }
+    {
+        match &mut self.told {
+            Some(told) if told.lease != fresh => told.lease(fresh),
+            _ => no_answer(),
+        }
+    }
+
+    /// The link, on with its four delays or off, where this is another than was told last.
+    pub fn link(&mut self, on: Option<Deltas>) -> ServoOut
+        requires law { KeepsLaw F.pre F.post self.old }
+        ensures law { KeepsLaw F.pre F.post self.new }
+        ensures calls { AddsCalls F.post self.old self.new (link_call on) result }
+        ensures reason { IsReason result.refused }
+    {
+        match &mut self.told {
+            Some(told) if told.link != on.is_some() => told.link(on),
+            _ => no_answer(),
+        }
+    }
+
+    /// The carrier of the slave port came or went.
+    pub fn carrier(&mut self, of_slave: bool, up: bool) -> ServoOut
+        requires law { KeepsLaw F.pre F.post self.old }
+        ensures law { KeepsLaw F.pre F.post self.new }
+        ensures calls { AddsCalls F.post self.old self.new (λ _. carrier_call of_slave up) result }
+        ensures reason { IsReason result.refused }
+    {
+        match &mut self.told {
+            Some(told) if of_slave => told.carrier(up),
+            _ => no_answer(),
+        }
+    }
+
+    /// The node starts anew.
+    pub fn reset(&mut self)
+        requires law { KeepsLaw F.pre F.post self.old }
+        ensures law { KeepsLaw F.pre F.post self.new }
+        ensures calls { (out : ServoOut) × AddsCalls F.post self.old self.new (λ _. Some CallReset) out }
+    {
+        if let Some(told) = &mut self.told {
+            let _out = told.reset();
+        }
+    }
+
+    /// A measurement, if there is one.
+    pub fn measured(&mut self, four: &Option<Four>) -> ServoOut
+        requires law { KeepsLaw F.pre F.post self.old }
+        requires four { IfSome four.now FitsTimes }
+        ensures law { KeepsLaw F.pre F.post self.new }
+        ensures calls { (y : ℤ) × AddsCalls F.post self.old self.new (λ _. measurement_by four.now y) result }
+        ensures reason { IsReason result.refused }
+    {
+        match (&mut self.told, four) {
+            (Some(told), Some(four)) => told.measured(four),
+            _ => no_answer(),
+        }
+    }
+}
