@@ -1,14 +1,15 @@
 -- The servo of a node, if it has one, and what it was told last of the lease and of the link.
 use Rattle.std.specs.Prelude.{◌≡◌, ℕ, ℤ, ◌≤◌, ◌+◌, ◌<◌, ◌^◌, Bool, true, false, if◌then◌else◌, List, ◌∷◌, Option, None, Some, is_some, IfSome}
 use Rattle.wrp_base.specs.declared.link.Deltas.{Deltas}
-use Rattle.wrp_base.specs.declared.measurement.Four.{Four}
+use Rattle.wrp_base.specs.declared.link.ServoState.{ServoState}
+use Rattle.wrp_base.specs.declared.link.ServoState.TheVariants.{Uninit}
 use Rattle.wrp_law.specs.Law.{KeepsFact}
 use Rattle.wrp_node.specs.NodeAt.{Fixed, slave_of, settings_of}
-use Rattle.wrp_node.specs.NodeStep.{measurement_by}
 use Rattle.wrp_node.specs.Telling.{answer_of, called, for_slave, is_changed}
 use Rattle.wrp_servo.specs.Call.{Call, CallLease, CallLink, CallCarrier}
 use Rattle.wrp_servo.specs.declared.interface.ServoOut.{ServoOut}
-use Rattle.wrp_servo.specs.Servo.{ServoOf, StandsFor as ServoStandsFor, after_call, out_of, AddsCall}
+use Rattle.wrp_servo.specs.Servo.{ServoOf, StandsFor as ServoStandsFor, est_now}
+use Rattle.wrp_servo.specs.Table.{is_track}
 use Rattle.wrp_servo.specs.Told.{lease_told, link_told}
 
 -- a servo, and whether it was told last that the lease is fresh and that the link is on
@@ -75,3 +76,26 @@ KeepsLaw pre post c = IfSome c.told (λ t. KeepsFact pre post t.servo.law)
 -- one tick more can be counted
 abbrev pub HasTick : {F : Type 0} → ControlOf F → Type 0
 HasTick c = IfSome c.told (λ t. t.servo.core.ticks + 1 < 2 ^ 32)
+
+-- ---- what a servo's part tells of itself
+
+abbrev pub state_in : {F : Type 0} → Option (ToldServo F) → ServoState
+state_in None = Uninit
+state_in (Some t) = t.servo.core.state
+
+abbrev pub locked_in : {F : Type 0} → Option (ToldServo F) → Bool
+locked_in None = false
+locked_in (Some t) = t.servo.core.phase.lock.locked
+
+abbrev pub certain_in : {F : Type 0} → Option (ToldServo F) → Bool
+certain_in None = true
+certain_in (Some t) = is_track t.servo.core.state
+
+abbrev pub dac_in : {F : Type 0} → ℕ → Option (ToldServo F) → ℕ
+dac_in bias None = bias
+dac_in bias (Some t) = t.servo.core.phase.dac
+
+-- the offset from the parent, in TRACK alone
+abbrev pub tracked_in : {F : Type 0} → Option (ToldServo F) → Option ℤ
+tracked_in None = None
+tracked_in (Some t) = if is_track t.servo.core.state then est_now t.servo.core else None

@@ -1,7 +1,10 @@
 pub mod Control
+pub mod Inputs
+pub mod Node
 pub mod NodeAt
 pub mod NodeRun
 pub mod NodeStep
+pub mod Parts
 pub mod Place
 pub mod StandsFor
 pub mod Telling

@@ -1,6 +1,6 @@
 -- A node at a moment: what each of its parts was told, newest first; and what its settings are to its parts (this project's profile).
-use Rattle.std.specs.Prelude.{ℕ, ℤ, pos, ◌==◌, Bool, true, false, if◌then◌else◌, nat_lt, not, List, [], ◌∷◌, ◌++◌, map, Option, None, Some, is_some, Result}
-use Rattle.std.specs.List.{find, filter}
+use Rattle.std.specs.Prelude.{ℕ, ℤ, pos, ◌==◌, Bool, true, false, if◌then◌else◌, nat_lt, List, [], ◌∷◌, map, Option, None, Some, is_some, Result}
+use Rattle.std.specs.List.{find}
 use Rattle.std.specs.Option.{option_map}
 use Rattle.wrp_base.specs.declared.link.Deltas.{Deltas}
 use Rattle.wrp_base.specs.declared.link.Role.{Role}
@@ -53,9 +53,10 @@ pub record NodeAt : Type 0 where
 abbrev pub is_before : PortDs → PortDs → Bool
 is_before one other = nat_lt one.own.port other.own.port
 
--- a port among ports in ascending order: behind those of lower numbers
+-- a port at its place among ports in ascending order: behind those of lower numbers
 abbrev pub placed : PortDs → List PortDs → List PortDs
-placed ds ports = filter (λ other. is_before other ds) ports ++ ds ∷ filter (λ other. not (is_before other ds)) ports
+placed ds [] = ds ∷ []
+placed ds (other ∷ ports) = if is_before other ds then other ∷ placed ds ports else ds ∷ other ∷ ports
 
 -- the ports in ascending order
 abbrev pub in_order : List PortDs → List PortDs
@@ -71,8 +72,11 @@ is_slave Master = false
 is_slave Slave = true
 
 -- the number of the slave port, if there is one
+abbrev pub slave_in : List PortDs → Option ℕ
+slave_in ports = option_map (λ ds. ds.own.port) (find (λ ds. is_slave ds.role) ports)
+
 abbrev pub slave_of : NodeSet → Option ℕ
-slave_of set = option_map (λ ds. ds.own.port) (find (λ ds. is_slave ds.role) set.ports.items)
+slave_of set = slave_in set.ports.items
 
 -- the port that stands for a number which no port has
 abbrev pub no_port : PortDs

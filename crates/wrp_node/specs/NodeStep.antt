@@ -1,5 +1,5 @@
 -- What each input makes of a node: which of its parts is told what, and in which order (this project's profile).
-use Rattle.std.specs.Prelude.{ℕ, ℤ, pos, ◌+◌, ◌==◌, Bool, true, false, if◌then◌else◌, List, [], ◌∷◌, Option, None, Some, Result, Ok, Err}
+use Rattle.std.specs.Prelude.{ℕ, ℤ, pos, ◌+◌, ◌%◌, ◌==◌, Bool, true, false, if◌then◌else◌, List, [], ◌∷◌, Option, None, Some, Result, Ok, Err}
 use Rattle.wrp_base.specs.declared.link.Module.{Module}
 use Rattle.wrp_base.specs.declared.measurement.Four.{Four}
 use Rattle.wrp_base.specs.declared.message.PtpMsg.{PtpMsg}
@@ -54,9 +54,10 @@ ports_ticked fixed s = record s {
 
 -- ---- a frame
 
+-- where in the period the counters of a port change over, in steps of the detector
 abbrev pub transition_of : Option Module → ℕ
 transition_of None = 0
-transition_of (Some own_module) = own_module.transition
+transition_of (Some own_module) = own_module.transition % 16384
 
 -- the stamp of its reception, merged with the transition of the port's module, which is 0 where the module is not listed
 abbrev pub stamp_of : Fixed → NodeAt → ℕ → Raw → ℕ → Stamp
@@ -119,7 +120,7 @@ is_slave_port (Some q) p = q == p
 -- the servo is told of the slave port's carrier
 abbrev pub carried : Fixed → ℕ → Bool → Option Module → NodeAt → Step
 carried fixed p up own_module n =
-    tell fixed (if is_slave_port (slave_of fixed.set) p then Some (CallCarrier up) else None) (handed fixed p (PortCarrier up own_module) n)
+    tell fixed (for_slave fixed (if is_slave_port (slave_of fixed.set) p then Some (CallCarrier up) else None)) (handed fixed p (PortCarrier up own_module) n)
 
 -- a reset clears everything but the counters
 abbrev pub called_reset : Fixed → List Call → List Call

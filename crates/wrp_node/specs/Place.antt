@@ -56,6 +56,9 @@ GivesTo to input old new = GivenWhere (is_to to old.number) input old new
 abbrev pub place_counted : ℕ → ℕ → Place → Place
 place_counted p reason place = if place.number == p then record place { counters = counted (Some reason) place.counters } else place
 
+abbrev pub Counts : ℕ → ℕ → Place → Place → Type 0
+Counts p reason old new = new ≡ place_counted p reason old
+
 -- a port before an input: its word is noted, and nothing is sent yet
 pub record Begins (old new : Place) : Type 0 where
   pub number : new.number ≡ old.number

@@ -1,10 +1,9 @@
 //! The servo of a node, which has one exactly where it has a slave port.
-ghost use Rattle.std.specs.Prelude.{◌≡◌, ◌<◌, ℤ, List, None, Some, false, IfSome};
+ghost use Rattle.std.specs.Prelude.{◌≡◌, ◌<◌, ℤ, List, None, Some, false};
 ghost use Rattle.std.specs.Option.{option_map};
-ghost use Rattle.wrp_node.specs.Control.{AddsCalls, KeepsLaw, HasTick, IsReason, lease_call, link_call, carrier_call};
-ghost use Rattle.wrp_node.specs.NodeStep.{measurement_by};
+ghost use Rattle.wrp_node.specs.Control.{AddsCalls, KeepsLaw, HasTick, IsReason, lease_call, link_call, carrier_call, state_in, locked_in, certain_in, dac_in, tracked_in};
 ghost use Rattle.wrp_node.specs.Telling.{no_answer};
-ghost use Rattle.wrp_servo.specs.Call.{CallSample, CallTick, CallReset};
+ghost use Rattle.wrp_servo.specs.Call.{CallSample, CallMeasured, CallTick, CallReset};
 ghost use Rattle.wrp_servo.specs.Sizes.{FitsTimes};
 
 use crate::told::Told;
@@ -89,6 +88,7 @@ impl<F: Fn(i64) -> i64> Control<F> {
         requires law { KeepsLaw F.pre F.post self.old }
         ensures law { KeepsLaw F.pre F.post self.new }
         ensures calls { AddsCalls F.post self.old self.new (lease_call fresh) result }
+        ensures room { HasTick self.old → HasTick self.new }
         ensures reason { IsReason result.refused }
     {
         match &mut self.told {
@@ -124,27 +124,79 @@ impl<F: Fn(i64) -> i64> Control<F> {
     }
 
     /// The node starts anew.
-    pub fn reset(&mut self)
+    pub fn reset(&mut self) -> ServoOut
         requires law { KeepsLaw F.pre F.post self.old }
         ensures law { KeepsLaw F.pre F.post self.new }
-        ensures calls { (out : ServoOut) × AddsCalls F.post self.old self.new (λ _. Some CallReset) out }
+        ensures calls { AddsCalls F.post self.old self.new (λ _. Some CallReset) result }
+        ensures reason { IsReason result.refused }
     {
-        if let Some(told) = &mut self.told {
-            let _out = told.reset();
+        match &mut self.told {
+            Some(told) => told.reset(),
+            None => no_answer(),
         }
     }
 
-    /// A measurement, if there is one.
-    pub fn measured(&mut self, four: &Option<Four>) -> ServoOut
+    /// A measurement.
+    pub fn measured(&mut self, four: &Four) -> ServoOut
         requires law { KeepsLaw F.pre F.post self.old }
-        requires four { IfSome four.now FitsTimes }
+        requires four { FitsTimes four.now }
         ensures law { KeepsLaw F.pre F.post self.new }
-        ensures calls { (y : ℤ) × AddsCalls F.post self.old self.new (λ _. measurement_by four.now y) result }
+        ensures calls { (y : ℤ) × AddsCalls F.post self.old self.new (λ _. Some (CallMeasured four.now y)) result }
         ensures reason { IsReason result.refused }
     {
-        match (&mut self.told, four) {
-            (Some(told), Some(four)) => told.measured(four),
-            _ => no_answer(),
+        match &mut self.told {
+            Some(told) => told.measured(four),
+            None => no_answer(),
+        }
+    }
+
+    /// The state of the servo; UNINIT where there is none.
+    pub fn state(&self) -> ServoState
+        ensures { result ≡ state_in self.now.told }
+    {
+        match &self.told {
+            Some(told) => told.servo.state(),
+            None => ServoState::Uninit,
+        }
+    }
+
+    /// Whether the lock detector is locked; false where there is none.
+    pub fn locked(&self) -> bool
+        ensures { result ≡ locked_in self.now.told }
+    {
+        match &self.told {
+            Some(told) => told.servo.locked(),
+            None => false,
+        }
+    }
+
+    /// Whether the node's time is certain: it has no servo, or one in TRACK.
+    pub fn certain(&self) -> bool
+        ensures { result ≡ certain_in self.now.told }
+    {
+        match &self.told {
+            Some(told) => told.servo.tracking(),
+            None => true,
+        }
+    }
+
+    /// The last DAC value; the bias where there is no servo.
+    pub fn dac(&self) -> u16
+        ensures { result ≡ dac_in self.now.bias self.now.told }
+    {
+        match &self.told {
+            Some(told) => told.servo.dac(),
+            None => self.bias,
+        }
+    }
+
+    /// The offset from the parent, in tau, in TRACK alone.
+    pub fn tracked(&self) -> Option<Tau>
+        ensures { result ≡ tracked_in self.now.told }
+    {
+        match &self.told {
+            Some(told) if told.servo.tracking() => told.servo.est(),
+            _ => None,
         }
     }
 }

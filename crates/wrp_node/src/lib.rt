@@ -3,9 +3,14 @@
 #![tactic(auto)]
 
 mod control;
+mod inputs;
 mod interface;
+mod node;
+mod order;
+mod parts;
 mod place;
 mod ports;
 mod told;
 
 pub use interface::{Input, NodeSet, Output, Outputs, Report};
+pub use node::Node;

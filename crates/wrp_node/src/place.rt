@@ -1,9 +1,11 @@
 //! A port at its place in a node: with its number, its counters, and what it is about to put out.
-ghost use Rattle.std.specs.Prelude.{◌≡◌, ◌≤◌, ◌<◌, ◌+◌, ◌++◌, length, []};
+ghost use Rattle.std.specs.Prelude.{◌≡◌, ◌≤◌, ◌+◌, ◌++◌, length, map, []};
 ghost use Rattle.std.specs.List.{AllByRecursion};
 ghost use Rattle.wrp_base.specs.Message.{IsSound};
 ghost use Rattle.wrp_data.specs.Counters.{no_counts};
-ghost use Rattle.wrp_node.specs.Place.{Gives, GivesTo, Begins, place_counted, place_out, is_to};
+ghost use Rattle.wrp_node.specs.Place.{newest_sends, Gives, GivesTo, Begins, place_counted, place_out, is_to};
+ghost use Rattle.wrp_link.specs.Table.{word_of};
+ghost use Rattle.wrp_node.specs.NodeRun.{word_out, frame_out};
 ghost use Rattle.wrp_port.specs.PortAt.{IsFit};
 
 use crate::ports::To;
@@ -77,10 +79,19 @@ impl Place {
         if let Some(reason) = out.drop {
             self.counters.count(reason);
         }
-        if !out.sends.is_empty() {
-            self.sends = out.sends;
-        }
+        self.keep(out.sends.as_slice());
         self.measured = out.measured;
+    }
+
+    // Keeps what is to be sent, if there is something.
+    fn keep(&mut self, sends: &[PtpMsg])
+        requires { length sends.now ≤ 4 }
+        ensures { self.new ≡ record self.old { sends = record { items = newest_sends sends.now self.old.sends.items } } }
+    {
+        if !sends.is_empty() {
+            self.sends.clear();
+            let _fits = self.sends.try_extend_from_slice(sends);
+        }
     }
 
     /// Counts a reason, 1 to 15, if it is this port's.
@@ -101,6 +112,17 @@ impl Place {
         ensures items { outs.new.items ≡ outs.old.items ++ place_out self.now }
         ensures room { length outs.new.items ≤ length outs.old.items + 5 }
     {
+        self.put_word(outs);
+        self.put_frames(outs);
+    }
+
+    // Puts out its word, where it changed.
+    fn put_word(&self, outs: &mut Outputs)
+        requires room { length outs.old.items + 1 ≤ 96 }
+        ensures items { outs.new.items ≡ outs.old.items
+            ++ word_out self.now.number self.now.word (word_of self.now.port.line.link) }
+        ensures room { length outs.new.items ≤ length outs.old.items + 1 }
+    {
         let word = self.port.word();
         if word != self.word {
             outs.push(Output::Report(Report::Link {
@@ -108,11 +130,28 @@ impl Place {
                 word,
             }));
         }
+    }
+
+    // Puts out its frames.
+    fn put_frames(&self, outs: &mut Outputs)
+        requires sound { AllByRecursion IsSound self.now.sends.items }
+        requires room { length outs.old.items + 4 ≤ 96 }
+        ensures items { outs.new.items ≡ outs.old.items ++ map (frame_out self.now.number) self.now.sends.items }
+        ensures room { length outs.new.items ≤ length outs.old.items + 4 }
+    {
         for message in self.sends.as_slice() {
-            outs.push(Output::Send {
-                port: self.number,
-                frame: encode(message),
-            });
+            outs.push(self.frame(message));
+        }
+    }
+
+    // A frame of the port.
+    fn frame(&self, message: &PtpMsg) -> Output
+        requires { IsSound message.now }
+        ensures { result ≡ frame_out self.now.number message.now }
+    {
+        Output::Send {
+            port: self.number,
+            frame: encode(message),
         }
     }
 }

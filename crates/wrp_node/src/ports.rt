@@ -1,9 +1,9 @@
 //! The ports of a node, in ascending order, and what they were told.
-ghost use Rattle.std.specs.Prelude.{◌≡◌, ◌≤◌, ◌+◌, ◌*◌, ◌++◌, length, map, flat_map, []};
+ghost use Rattle.std.specs.Prelude.{◌≡◌, ◌≤◌, ◌+◌, ◌*◌, ◌++◌, length, flat_map};
 ghost use Rattle.std.specs.List.{AllByRecursion, AllZip};
 ghost use Rattle.std.specs.Option.{option_map};
 ghost use Rattle.wrp_base.specs.Message.{IsSound};
-ghost use Rattle.wrp_node.specs.Place.{GivesTo, Begins, place_counted, place_of, place_out, is_to};
+ghost use Rattle.wrp_node.specs.Place.{GivesTo, Begins, Counts, place_of, place_out, is_to};
 ghost use Rattle.wrp_port.specs.PortAt.{IsFit};
 
 use crate::Outputs;
@@ -81,7 +81,7 @@ impl Ports {
     pub fn count(&mut self, number: u16, reason: u8)
         requires at_least { 1 ≤ reason }
         requires at_most { reason ≤ 15 }
-        ensures { self.new ≡ map (place_counted number reason) self.old }
+        ensures { AllZip (Counts number reason) self.old self.new }
     {
         for place in self.places.iter_mut() {
             place.count(number, reason);

@@ -53,6 +53,7 @@ impl<F: Fn(i64) -> i64> Told<F> {
     pub fn lease(&mut self, fresh: bool) -> ServoOut
         ensures law { self.new.servo.law ≡ self.old.servo.law }
         ensures calls { AddsTold F.post self.old self.new (CallLease fresh) result }
+        ensures ticks { self.new.servo.core.ticks ≡ self.old.servo.core.ticks }
         ensures reason { IsReason result.refused }
     {
         self.lease = fresh;
