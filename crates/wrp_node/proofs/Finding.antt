@@ -3,12 +3,14 @@ use Rattle.std.proofs.Common.{◌≡◌, ◌∙◌, refl, ap, ap₂, sym, subst,
 use Rattle.std.proofs.lemmas.Bool.{eqb-true}
 use Rattle.std.specs.List.{AllByRecursion, AllZip, list_any, find}
 use Rattle.wrp_base.specs.declared.link.Deltas.{Deltas}
+use Rattle.wrp_data.specs.Counters.{count_at}
+use Rattle.wrp_link.specs.Table.{word_of}
 use Rattle.wrp_node.specs.declared.parts.Parts.{Parts}
 use Rattle.wrp_node.specs.declared.place.Place.{Place}
-use Rattle.wrp_node.specs.Inputs.{lease_in, deltas_in as deltas_of_place, transition_in}
+use Rattle.wrp_node.specs.Inputs.{lease_in, deltas_in as deltas_of_place, transition_in, word_in, times_in}
 use Rattle.wrp_node.specs.NodeAt.{Fixed, NodeAt, slave_of, setting_of, port_of, line_at, link_at, is_fresh_at, deltas_at}
 use Rattle.wrp_node.specs.NodeStep.{transition_of}
-use Rattle.wrp_node.specs.Parts.{PlaceStands, PlaceIn, PartsIn, is_among}
+use Rattle.wrp_node.specs.Parts.{PlaceStands, PlaceIn, PartsAt, PartsIn, is_among}
 use Rattle.wrp_node.specs.Place.{place_of}
 use Rattle.wrp_node.specs.Telling.{Step}
 use Rattle.wrp_node.proofs.Giving.{line_is}
@@ -79,3 +81,20 @@ transition_told fixed before s parts p h e =
     ap transition_in f.is
     ∙ ap (λ (l : Line). transition_of l.link.own_module) (line_is fixed s.node f.place f.holds.stands)
     ∙ ap (λ (q : ℕ). transition_of (link_at fixed.set s.node q).own_module) f.number
+
+-- ---- what a port tells between inputs
+
+pub word_told : (fixed : Fixed) (n : NodeAt) (parts : Parts) (p : ℕ) → PartsAt fixed n parts → is_among p parts.ports ≡ true → word_in (place_of p parts.ports) ≡ word_of (link_at fixed.set n p)
+word_told fixed n parts p h e =
+    let f : Found (PlaceStands fixed n) p parts.ports = found (PlaceStands fixed n) p parts.ports h.places e in
+    ap word_in f.is
+    ∙ ap (λ (l : Line). word_of l.link) (line_is fixed n f.place f.holds)
+    ∙ ap (λ (q : ℕ). word_of (link_at fixed.set n q)) f.number
+
+pub times_told : (fixed : Fixed) (n : NodeAt) (parts : Parts) (p reason : ℕ) → PartsAt fixed n parts → is_among p parts.ports ≡ true →
+    times_in reason (place_of p parts.ports) ≡ count_at (n.counters p) reason
+times_told fixed n parts p reason h e =
+    let f : Found (PlaceStands fixed n) p parts.ports = found (PlaceStands fixed n) p parts.ports h.places e in
+    ap (times_in reason) f.is
+    ∙ ap (λ (cs : List ℕ). count_at cs reason) f.holds.counters
+    ∙ ap (λ (q : ℕ). count_at (n.counters q) reason) f.number

@@ -2,7 +2,11 @@ pub mod Finding
 pub mod Giving
 pub mod Hearing
 pub mod Lists
+pub mod NewNode
 pub mod Nodes
+pub mod NodeTicks
+pub mod Ascending
 pub mod Sound
+pub mod Stepping
 pub mod Telling
 pub mod Ticks

@@ -103,18 +103,21 @@ carrier_node {post} fixed n p up own_module slave out new control report e k f r
 pub inside_in : {F : Type 0} {post : F → ℤ → ℤ → Type 0} {fixed : Fixed} {before : NodeAt} {s : Step} {v w : NodeOf F} → v ≡ w → IsIn post fixed before s w → IsIn post fixed before s v
 inside_in {post} {fixed} {before} {s} e h = subst (λ x. IsIn post fixed before s x) (sym e) h
 
--- where nothing is told, nothing changes
-none_call : Option Call
-none_call = None
+pub inside_at : {F : Type 0} {post : F → ℤ → ℤ → Type 0} {fixed : Fixed} {n : NodeAt} {v w : NodeOf F} → v ≡ w → IsAt post fixed n w → IsAt post fixed n v
+inside_at {post} {fixed} {n} e h = subst (λ x. IsAt post fixed n x) (sym e) h
 
-none_slave : (b : Bool) → (if b then none_call else none_call) ≡ none_call
-none_slave true = refl
-none_slave false = refl
+-- where nothing is told, nothing changes
+same_call : (b : Bool) (o : Option Call) → (if b then o else o) ≡ o
+same_call true o = refl
+same_call false o = refl
+
+none_for : (fixed : Fixed) → for_slave fixed None ≡ None
+none_for fixed = same_call (is_some (slave_of fixed.set)) None
 
 pub nothing_node : {F : Type 0} {post : F → ℤ → ℤ → Type 0} (fixed : Fixed) (before : NodeAt) (s : Step) (call : Option Call) (node : NodeOf F) → call ≡ None → IsIn post fixed before s node →
     IsIn post fixed before (tell fixed (for_slave fixed call) s) node
 nothing_node {post} fixed before s call node e h =
-    subst (λ (o : Option Call). IsIn post fixed before (tell fixed o s) node) (sym (ap (for_slave fixed) e ∙ none_slave (is_some (slave_of fixed.set))))
+    subst (λ (o : Option Call). IsIn post fixed before (tell fixed o s) node) (sym (ap (for_slave fixed) e ∙ none_for fixed))
     (record { parts = nothing_told fixed before s node.parts h.parts; control = h.control; report = h.report })
 
 -- ---- a message
@@ -236,11 +239,13 @@ track_put post fixed before s node Reset h = refl
 pub all_put : {F : Type 0} {post : F → ℤ → ℤ → Type 0} (fixed : Fixed) (before : NodeAt) (s : Step) (node : NodeOf F) (input : Input) (state : ServoState) → IsIn post fixed before s node →
     state ≡ state_of fixed before → puts_out state (is_tick input) node ≡ outputs_of fixed input before s
 all_put {post} fixed before s node input state h e =
-    ap₂ (λ (a b : List Output). a ++ b) (ap step_out h.parts.cycles)
-    (ap₂ (λ (a b : List Output). a ++ b) (ap dac_out h.parts.dac)
-    (ap₂ (λ (a b : List Output). a ++ b) (ap₂ servo_out e (state_is fixed s.node node.control h.control))
-    (ap₂ (λ (a b : List Output). a ++ b) (places_put fixed before s node.parts.ports h.parts.places ∙ ap (λ (ns : List ℕ). flat_map (port_out fixed before s) ns) h.parts.numbers)
-    (track_put post fixed before s node input h))))
+    ap₂ (λ (a b : List Output). a ++ b)
+    (ap₂ (λ (a b : List Output). a ++ b)
+    (ap₂ (λ (a b : List Output). a ++ b)
+    (ap₂ (λ (a b : List Output). a ++ b) (ap step_out h.parts.cycles) (ap dac_out h.parts.dac))
+    (ap₂ servo_out e (state_is fixed s.node node.control h.control)))
+    (places_put fixed before s node.parts.ports h.parts.places ∙ ap (λ (ns : List ℕ). flat_map (port_out fixed before s) ns) h.parts.numbers))
+    (track_put post fixed before s node input h)
 
 pub all_sound : (fixed : Fixed) (before : NodeAt) (s : Step) (places : List Place) → AllByRecursion (PlaceIn fixed before s) places →
     AllByRecursion (λ (x : Place). AllByRecursion IsSound x.sends.items) places

@@ -1,15 +1,19 @@
 //! The servo of a node, which has one exactly where it has a slave port.
-ghost use Rattle.std.specs.Prelude.{◌≡◌, ◌<◌, ℤ, List, None, Some, false};
-ghost use Rattle.std.specs.Option.{option_map};
-ghost use Rattle.wrp_node.specs.Control.{AddsCalls, KeepsLaw, HasTick, IsReason, lease_call, link_call, carrier_call, state_in, locked_in, certain_in, dac_in, tracked_in};
+ghost use Rattle.std.specs.Prelude.{◌≡◌, ◌<◌, ℤ, [], Some, is_some, IfSome};
+ghost use Rattle.wrp_law.specs.Law.{KeepsFact};
+ghost use Rattle.wrp_node.specs.Control.{ControlStands, AddsCalls, KeepsLaw, HasTick, IsReason, lease_call, link_call, carrier_call, state_in, locked_in, certain_in, dac_in, tracked_in};
 ghost use Rattle.wrp_node.specs.Telling.{no_answer};
 ghost use Rattle.wrp_servo.specs.Call.{CallSample, CallMeasured, CallTick, CallReset};
-ghost use Rattle.wrp_servo.specs.Sizes.{FitsTimes};
+ghost use Rattle.wrp_node.specs.declared.interface.NodeSet.{NodeSet};
+ghost use Rattle.wrp_node.specs.New.{fixed_of};
+ghost use Rattle.wrp_node.specs.NodeAt.{slave_of};
+ghost use Rattle.wrp_servo.specs.Sizes.{FitsTimes, FitsServoSet};
 
 use crate::told::Told;
 use std::marker::Model;
 use wrp_base::{ChainNews, Deltas, Four, ServoState, Tau};
-use wrp_servo::{Servo, ServoOut};
+use wrp_law::DelayLaw;
+use wrp_servo::{ServoOut, ServoSet};
 
 /// The servo, if the node has one.
 #[derive(Drop)]
@@ -40,19 +44,22 @@ fn no_answer() -> ServoOut
 }
 
 impl<F: Fn(i64) -> i64> Control<F> {
-    /// The servo before any call, or none.
-    pub fn new(servo: Option<Servo<F>>, bias: u16) -> Control<F>
-        ensures { result ≡ record { told = option_map (λ s. record { servo = s; lease = false; link = false }) servo; bias = bias } }
+    /// The servo before any call, where there is a law for it.
+    pub fn of(set: ServoSet, law: Option<DelayLaw<F>>) -> Control<F>
+        requires set { FitsServoSet set }
+        requires fact { IfSome law (KeepsFact F.pre F.post) }
+        ensures law { KeepsLaw F.pre F.post result }
+        ensures stands { (cfg : NodeSet) → cfg.servo ≡ set → is_some law ≡ is_some (slave_of cfg) →
+            ControlStands F.post (fixed_of cfg law) [] result }
     {
-        let told = match servo {
-            Some(servo) => Some(Told {
-                servo,
-                lease: false,
-                link: false,
-            }),
+        let told = match law {
+            Some(law) => Some(Told::of(set, law)),
             None => None,
         };
-        Control { told, bias }
+        Control {
+            told,
+            bias: set.bias,
+        }
     }
 
     /// A sample, with its number, its base below 16384 and its 64 beat bits.

@@ -1,4 +1,5 @@
 //! The node itself: its calls.
+mod new;
 mod puts;
 mod takes;
 
@@ -13,6 +14,7 @@ use crate::parts::Parts;
 use crate::{Input, Outputs};
 use std::marker::Model;
 use wrp_base::{LinkWord, ServoState};
+use wrp_servo::told_last;
 
 /// A whole node: what it is after a list of inputs, and what it puts out at each, is the node's run
 /// (`StandsFor`).
@@ -42,6 +44,7 @@ impl<F: Fn(i64) -> i64> Node<F> {
         ensures took { Took F.post self.old self.new x.now outs.new.items }
         ensures room { length outs.new.items ≤ 96 }
     {
+        told_last();
         self.parts.begin();
         let before = self.control.state();
         self.take(x);

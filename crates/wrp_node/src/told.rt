@@ -1,13 +1,15 @@
 //! A servo, and what it was told last of the lease and of the link.
-ghost use Rattle.std.specs.Prelude.{◌≡◌, ◌+◌, ◌<◌, ◌^◌, ℤ};
+ghost use Rattle.std.specs.Prelude.{◌≡◌, ◌+◌, ◌<◌, ◌^◌, ℤ, [], false};
 ghost use Rattle.wrp_law.specs.Law.{KeepsFact};
 ghost use Rattle.wrp_node.specs.Control.{AddsTold, IsReason};
 ghost use Rattle.wrp_servo.specs.Call.{CallSample, CallMeasured, CallTick, CallLease, CallLink, CallCarrier, CallReset};
-ghost use Rattle.wrp_servo.specs.Sizes.{FitsTimes};
+ghost use Rattle.wrp_servo.specs.Servo.{StandsFor as ServoStandsFor, settings_of};
+ghost use Rattle.wrp_servo.specs.Sizes.{FitsTimes, FitsServoSet};
 
 use std::marker::Model;
 use wrp_base::{Deltas, Four};
-use wrp_servo::{Servo, ServoOut};
+use wrp_law::DelayLaw;
+use wrp_servo::{Servo, ServoOut, ServoSet};
 
 /// The servo of a slave port.
 #[derive(Drop)]
@@ -29,6 +31,22 @@ impl<F: Fn(i64) -> i64> Model for Told<F> {
 }
 
 impl<F: Fn(i64) -> i64> Told<F> {
+    /// The servo before any call.
+    pub fn of(set: ServoSet, law: DelayLaw<F>) -> Told<F>
+        requires set { FitsServoSet set }
+        requires law { KeepsFact F.pre F.post law }
+        ensures law { result.servo.law ≡ law }
+        ensures servo { ServoStandsFor F.post (settings_of set law) result.servo [] }
+        ensures lease { result.lease ≡ false }
+        ensures link { result.link ≡ false }
+    {
+        Told {
+            servo: Servo::new(set, law),
+            lease: false,
+            link: false,
+        }
+    }
+
     /// A sample.
     pub fn sample(&mut self, n: u32, base: u16, bits: u64) -> ServoOut
         requires { base < 16384 }

@@ -118,13 +118,14 @@ impl<F: Fn(i64) -> i64> Node<F> {
         ensures control { self.new.control ≡ self.old.control }
         ensures takes { NodeTakes F.post (sent_at port seq delay stamp) self.old self.new }
     {
+        let tick = self.parts.ticks;
         self.parts.give(
             To::One(port),
             PortIn::Sent {
                 delay,
                 seq,
                 stamp,
-                tick: self.parts.ticks,
+                tick,
             },
         );
     }
