@@ -1,6 +1,7 @@
 -- Lists of ports: what a loop over them has done so far, and what holds of each.
-use Rattle.std.proofs.Common.{◌≡◌, ◌∙◌, refl, ap, ap₂, sym, subst, ℕ, suc, zero, ◌+◌, ◌<◌, List, [], ◌∷◌, ◌++◌, map, flat_map, take, drop, length, slice_index_or, slice_set, Option, None, Some, Bool, true, false, if◌then◌else◌, arith}
-use Rattle.std.specs.List.{AllByRecursion, AllZip, find, filter}
+use Rattle.std.proofs.Common.{◌≡◌, ◌∙◌, refl, ap, ap₂, sym, subst, ℕ, suc, zero, ◌+◌, ◌<◌, ◌≤◌, List, [], ◌∷◌, ◌++◌, map, flat_map, take, drop, length, slice_index_or, slice_set, Option, None, Some, Bool, true, false, if◌then◌else◌, arith}
+use Rattle.std.proofs.lemmas.List.{take_all}
+use Rattle.std.specs.List.{AllByRecursion, AllZip}
 
 -- a loop has come to the element i: those before are related to what they were, the others are as they were
 abbrev pub Done : {A : Type 0} → (A → A → Type 0) → List A → List A → ℕ → Type 0
@@ -71,3 +72,19 @@ pushed_more f xs i d o h =
 pub five : {A : Type 0} (a b c d e : List A) → ((((([] ++ a) ++ b) ++ c) ++ d) ++ e) ≡ a ++ (b ++ (c ++ (d ++ e)))
 five a b c d e =
     append_assoc ((a ++ b) ++ c) d e ∙ append_assoc (a ++ b) c (d ++ e) ∙ append_assoc a b (c ++ (d ++ e))
+
+-- one more, related to the next
+zip_next : {A B : Type 0} (R : A → B → Type 0) (xs : List A) (ys : List B) (i : ℕ) (d : A) (y : B) → i < length xs → R (slice_index_or xs i d) y → AllZip R (take i xs) ys →
+    AllZip R (take (suc i) xs) (ys ++ (y ∷ []))
+zip_next R [] ys i d y h r z = absurd (omega arith)
+zip_next R (x ∷ xs) [] zero d y h r z = (r, tt)
+zip_next R (x ∷ xs) (v ∷ ys) zero d y h r z = absurd z
+zip_next R (x ∷ xs) [] (suc i) d y h r z = absurd z
+zip_next R (x ∷ xs) (v ∷ ys) (suc i) d y h r z = (z.0, zip_next R xs ys i d y (omega arith) r z.1)
+
+pub zip_more : {A B : Type 0} (R : A → B → Type 0) (xs : List A) (ys : List B) (i : ℕ) (d : A) (y : B) → i < length xs → R (slice_index_or xs i d) y → AllZip R (take i xs) ys →
+    AllZip R (take (i + 1) xs) (ys ++ (y ∷ []))
+zip_more R xs ys i d y h r z = let next : suc i ≡ i + 1 = omega arith in subst (λ k. AllZip R (take k xs) (ys ++ (y ∷ []))) next (zip_next R xs ys i d y h r z)
+
+pub zip_all_of : {A B : Type 0} (R : A → B → Type 0) (xs : List A) (ys : List B) (i : ℕ) → length xs ≤ i → AllZip R (take i xs) ys → AllZip R xs ys
+zip_all_of R xs ys i h z = subst (λ l. AllZip R l ys) (take_all i xs h) z
