@@ -6,6 +6,8 @@ pub mod NewNode
 pub mod Nodes
 pub mod NodeTicks
 pub mod Ascending
+pub mod Drops
+pub mod Settled
 pub mod Sound
 pub mod Stepping
 pub mod Telling

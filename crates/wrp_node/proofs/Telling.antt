@@ -89,11 +89,11 @@ answered fixed before s call number out parts e n h =
     }) refl (ap (λ (o : ServoOut). newest_step o.cycles s.cycles) e) (ap (λ (o : ServoOut). option_or o.dac s.dac) e) h
 
 -- where nothing is told, nothing changes
-told_none : (o : Option ℕ) (number : ℕ) (told : ℕ → List PortIn) (q : ℕ) → told q ≡ told_by o no_answer number told q
+pub told_none : (o : Option ℕ) (number : ℕ) (told : ℕ → List PortIn) (q : ℕ) → told q ≡ told_by o no_answer number told q
 told_none None number told q = refl
 told_none (Some p) number told q = sym (either_same (q == p) (told q))
 
-counted_none : (o : Option ℕ) (counters : ℕ → List ℕ) (q : ℕ) → counters q ≡ counted_by o no_answer counters q
+pub counted_none : (o : Option ℕ) (counters : ℕ → List ℕ) (q : ℕ) → counters q ≡ counted_by o no_answer counters q
 counted_none None counters q = refl
 counted_none (Some p) counters q = sym (either_same (q == p) (counters q))
 

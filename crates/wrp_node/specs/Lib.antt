@@ -1,5 +1,6 @@
 pub mod Control
 pub mod Inputs
+pub mod Laws
 pub mod Node
 pub mod New
 pub mod NodeAt

@@ -5,6 +5,7 @@
 mod control;
 mod inputs;
 mod interface;
+mod laws;
 mod node;
 mod order;
 mod parts;
@@ -13,4 +14,5 @@ mod ports;
 mod told;
 
 pub use interface::{Input, NodeSet, Output, Outputs, Report};
+pub use laws::{dropped_leaves_a_count, step_settles};
 pub use node::Node;
