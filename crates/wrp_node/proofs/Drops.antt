@@ -1,5 +1,5 @@
 -- A frame that is dropped whatever its kind leaves a count, and nothing else.
-use Rattle.std.proofs.Common.{◌≡◌, ◌∙◌, refl, ap, ap₂, sym, ℕ, ℤ, pos, ◌==◌, Bool, true, false, if◌then◌else◌, List, [], ◌∷◌, ◌++◌, map, flat_map, Option, None, Some, Result, Ok, Err, arith}
+use Rattle.std.proofs.Common.{◌≡◌, ◌∙◌, refl, ap, ap₂, sym, ℕ, ℤ, ◌==◌, true, List, [], ◌∷◌, ◌++◌, flat_map, Option, None, Some, Result, Ok, Err, arith}
 use Rattle.std.specs.Option.{option_map}
 use Rattle.wrp_base.specs.declared.link.LinkWord.{LinkWord}
 use Rattle.wrp_base.specs.declared.link.ServoState.{ServoState}
@@ -13,8 +13,8 @@ use Rattle.wrp_link.specs.Table.{word_of}
 use Rattle.wrp_node.specs.declared.interface.Input.{Input}
 use Rattle.wrp_node.specs.declared.interface.Input.TheVariants.{Frame}
 use Rattle.wrp_node.specs.declared.interface.Output.{Output}
-use Rattle.wrp_node.specs.Laws.{IsSettled, reason_of, LeavesACount, DroppedLeavesACount}
-use Rattle.wrp_node.specs.NodeAt.{Taken, Fixed, NodeAt, numbers_of, slave_of, state_of, setting_of, link_at}
+use Rattle.wrp_node.specs.Laws.{IsSettled, reason_of, DroppedLeavesACount}
+use Rattle.wrp_node.specs.NodeAt.{Fixed, NodeAt, numbers_of, slave_of, state_of, setting_of, link_at}
 use Rattle.wrp_node.specs.NodeRun.{place_of, servo_out, word_out, port_out, outputs_of}
 use Rattle.wrp_node.specs.NodeStep.{dropped, heard, heard_unless, message_of, stepped, node_step}
 use Rattle.wrp_node.specs.Telling.{Step, tell, settled, with_lease, link_change}
@@ -76,9 +76,9 @@ silent fixed p reason octets raw sample n =
 pub drop_law : DroppedLeavesACount
 drop_law fixed t n p octets raw sample reason is h e =
     let step : node_step fixed t n ≡ dropped p reason n =
-        ap (λ (x : Input). settled fixed (stepped fixed x t.says t.answer n)) is
-        ∙ ap (settled fixed) (heard_dropped fixed p t.says raw sample t.answer n reason e)
-        ∙ settled_same fixed (dropped p reason n) (record { lease = h.lease; link = h.link }) in
+    ap (λ (x : Input). settled fixed (stepped fixed x t.says t.answer n)) is
+    ∙ ap (settled fixed) (heard_dropped fixed p t.says raw sample t.answer n reason e)
+    ∙ settled_same fixed (dropped p reason n) (record { lease = h.lease; link = h.link }) in
     record {
       node = step;
       silent = ap₂ (λ (x : Input) (s : Step). outputs_of fixed x n s) is step ∙ silent fixed p reason octets raw sample n;

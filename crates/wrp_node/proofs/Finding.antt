@@ -1,14 +1,13 @@
 -- The port of a number among the ports of a node.
-use Rattle.std.proofs.Common.{◌≡◌, ◌∙◌, refl, ap, ap₂, sym, subst, ℕ, ◌==◌, nat_lt, ◌-◌, Bool, true, false, if◌then◌else◌, ◌||◌, List, [], ◌∷◌, map, Option, None, Some, is_some, IfSome, arith}
+use Rattle.std.proofs.Common.{◌≡◌, ◌∙◌, refl, ap, ap₂, sym, subst, ℕ, ◌==◌, nat_lt, Bool, true, false, if◌then◌else◌, ◌||◌, List, [], ◌∷◌, Option, None, Some, IfSome, arith}
 use Rattle.std.proofs.lemmas.Bool.{eqb-true}
-use Rattle.std.specs.List.{AllByRecursion, AllZip, list_any, find}
-use Rattle.wrp_base.specs.declared.link.Deltas.{Deltas}
+use Rattle.std.specs.List.{AllByRecursion}
 use Rattle.wrp_data.specs.Counters.{count_at}
 use Rattle.wrp_link.specs.Table.{word_of}
 use Rattle.wrp_node.specs.declared.parts.Parts.{Parts}
 use Rattle.wrp_node.specs.declared.place.Place.{Place}
 use Rattle.wrp_node.specs.Inputs.{lease_in, deltas_in as deltas_of_place, transition_in, word_in, times_in}
-use Rattle.wrp_node.specs.NodeAt.{Fixed, NodeAt, slave_of, setting_of, port_of, line_at, link_at, is_fresh_at, deltas_at}
+use Rattle.wrp_node.specs.NodeAt.{Fixed, NodeAt, slave_of, setting_of, port_of, link_at, is_fresh_at, deltas_at}
 use Rattle.wrp_node.specs.NodeStep.{transition_of}
 use Rattle.wrp_node.specs.Parts.{PlaceStands, PlaceIn, PartsAt, PartsIn, is_among}
 use Rattle.wrp_node.specs.Place.{place_of}

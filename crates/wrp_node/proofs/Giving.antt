@@ -1,19 +1,16 @@
 -- Some ports are told an input: each that is stands for one input more.
-use Rattle.std.proofs.Common.{◌≡◌, ◌∙◌, refl, ap, ap₂, sym, subst, ℕ, ℤ, pos, ◌==◌, Bool, true, false, if◌then◌else◌, IsTrue, IfSome, List, [], ◌∷◌, map, Option, None, Some, is_some, arith}
+use Rattle.std.proofs.Common.{◌≡◌, ◌∙◌, refl, ap, ap₂, sym, subst, ℕ, pos, ◌==◌, Bool, true, false, if◌then◌else◌, IfSome, List, [], ◌∷◌, map, None, Some}
 use Rattle.std.specs.List.{AllByRecursion, AllZip, list_any}
 use Rattle.wrp_base.specs.declared.message.PtpMsg.{PtpMsg}
-use Rattle.wrp_exch.specs.Call.{Call}
-use Rattle.wrp_exch.specs.Exchange.{HasTimes}
 use Rattle.wrp_node.specs.declared.parts.Parts.{Parts}
 use Rattle.wrp_node.specs.declared.place.Place.{Place}
 use Rattle.wrp_node.specs.declared.ports.To.{To}
-use Rattle.wrp_node.specs.declared.ports.To.TheVariants.{Every, One}
 use Rattle.wrp_link.specs.Table.{word_of}
 use Rattle.wrp_node.specs.NodeAt.{Fixed, NodeAt, setting_of, line_at, link_at, pieces_at}
 use Rattle.wrp_port.specs.declared.line.Line.{Line}
-use Rattle.wrp_node.specs.Parts.{PlaceStands, PlaceIn, PartsAt, PartsIn, is_among, given, told_only, reason_counted, commanded}
+use Rattle.wrp_node.specs.Parts.{PlaceStands, PlaceIn, PartsAt, PartsIn, given, reason_counted, commanded}
 use Rattle.wrp_node.specs.Place.{Gives, GivenWhere, GivesTo, Begins, Counts, is_to, newest_sends}
-use Rattle.wrp_node.specs.Telling.{Step, step_from, counted, counted_at, newest_step}
+use Rattle.wrp_node.specs.Telling.{Step, step_from, counted, newest_step}
 use Rattle.std.specs.Option.{option_or}
 use Rattle.wrp_servo.specs.declared.interface.ServoOut.{ServoOut}
 use Rattle.wrp_node.proofs.Lists.{zip_all, zip_map, all_of}
@@ -71,9 +68,9 @@ told_place : (fixed : Fixed) (before : NodeAt) (s : Step) (to : To) (input : Por
 told_place fixed before s to input old new fit e g h =
     let t : List PortIn = s.node.told old.number in
     let drop_is : drop_of old.port.set old.port.line (calls_of old.port.set t) input ≡ drop_of (setting_of fixed.set old.number) (line_at fixed.set s.node old.number) (pieces_at fixed.set s.node old.number) input =
-        ap₂ (λ (x : Setting) y. drop_of x y (calls_of x t) input) h.stands.set (line_is fixed s.node old h.stands) in
+    ap₂ (λ (x : Setting) y. drop_of x y (calls_of x t) input) h.stands.set (line_is fixed s.node old h.stands) in
     let sends_is : sends_of old.port.set old.port.line input ≡ sends_of (setting_of fixed.set old.number) (line_at fixed.set s.node old.number) input =
-        ap₂ (λ (x : Setting) y. sends_of x y input) h.stands.set (line_is fixed s.node old h.stands) in
+    ap₂ (λ (x : Setting) y. sends_of x y input) h.stands.set (line_is fixed s.node old h.stands) in
     record {
       stands = record {
         set = g.set ∙ h.stands.set ∙ ap (setting_of fixed.set) (sym g.number);
@@ -180,7 +177,7 @@ pub parts_counted : (fixed : Fixed) (before : NodeAt) (s : Step) (p reason : ℕ
     PartsIn fixed before s old → PartsIn fixed before (reason_counted p (Some reason) fixed s) (record old { ports = ys })
 parts_counted fixed before s p reason old ys z h =
     let numbers : map (λ (x : Place). x.number) ys ≡ map (λ (x : Place). x.number) old.ports =
-        zip_map (Counts p reason) (λ (x : Place). x.number) old.ports ys (λ x y g. ap (λ (v : Place). v.number) g ∙ counted_number p reason x (x.number == p)) z in
+    zip_map (Counts p reason) (λ (x : Place). x.number) old.ports ys (λ x y g. ap (λ (v : Place). v.number) g ∙ counted_number p reason x (x.number == p)) z in
     record {
       numbers = numbers ∙ h.numbers;
       places = zip_all (Counts p reason) (PlaceIn fixed before s) (PlaceIn fixed before (reason_counted p (Some reason) fixed s)) old.ports ys (counted_so fixed before s p reason) z h.places;
@@ -223,7 +220,7 @@ pub parts_begun : (fixed : Fixed) (n : NodeAt) (old : Parts) (ys : List Place) �
     PartsIn fixed n (step_from n) (record old { ports = ys; cycles = pos 0; dac = None })
 parts_begun fixed n old ys z h =
     let numbers : map (λ (x : Place). x.number) ys ≡ map (λ (x : Place). x.number) old.ports =
-        zip_map Begins (λ (x : Place). x.number) old.ports ys (λ x y g. g.number) z in
+    zip_map Begins (λ (x : Place). x.number) old.ports ys (λ x y g. g.number) z in
     record {
       numbers = numbers ∙ h.numbers;
       places = zip_all Begins (PlaceStands fixed n) (PlaceIn fixed n (step_from n)) old.ports ys (begun_place fixed n) z h.places;

@@ -2,8 +2,6 @@
 use Rattle.std.proofs.Common.{◌≡◌, ◌∙◌, refl, ap, ap₂, sym, subst, ℕ, ◌==◌, Bool, true, false, if◌then◌else◌, ◌||◌, IsTrue, IfSome, is_some, List, [], ◌∷◌, map, Option, None, Some, arith}
 use Rattle.std.proofs.lemmas.Bool.{eqb-true}
 use Rattle.std.specs.List.{AllByRecursion, AllZip, list_any}
-use Rattle.wrp_base.specs.declared.link.Role.{Role}
-use Rattle.wrp_base.specs.declared.measurement.Four.{Four}
 use Rattle.wrp_base.specs.declared.message.PtpMsg.{PtpMsg}
 use Rattle.wrp_base.specs.declared.time.Raw.{Raw}
 use Rattle.wrp_base.specs.declared.time.Stamp.{Stamp}
@@ -14,14 +12,14 @@ use Rattle.wrp_exch.specs.Exchange.{HasTimes}
 use Rattle.wrp_node.specs.declared.parts.Parts.{Parts}
 use Rattle.wrp_node.specs.declared.place.Place.{Place}
 use Rattle.wrp_node.specs.declared.ports.To.{To}
-use Rattle.wrp_node.specs.declared.ports.To.TheVariants.{Every, One}
+use Rattle.wrp_node.specs.declared.ports.To.TheVariants.{One}
 use Rattle.wrp_node.specs.Inputs.{measured_in}
 use Rattle.wrp_node.specs.NodeAt.{Fixed, NodeAt, setting_of, line_at, link_at, pieces_at}
 use Rattle.wrp_link.specs.Table.{word_of}
 use Rattle.wrp_node.specs.NodeStep.{dropped, used, measured_at, message_of, stamp_of}
-use Rattle.wrp_node.specs.Parts.{PlaceStands, PlaceIn, PartsIn, is_among, given, taken_unless, four_unless, reason_at, HearsAt}
+use Rattle.wrp_node.specs.Parts.{PlaceIn, PartsIn, is_among, given, taken_unless, four_unless, reason_at, HearsAt}
 use Rattle.wrp_node.specs.Place.{Gives, GivenWhere, GivesTo, place_of, newest_sends}
-use Rattle.wrp_node.specs.Telling.{Step, step_from, counted, counted_at}
+use Rattle.wrp_node.specs.Telling.{step_from, counted, counted_at}
 use Rattle.wrp_node.proofs.Giving.{parts_same, parts_given, line_is, numbers_given}
 use Rattle.wrp_node.proofs.Lists.{zip_all}
 use Rattle.wrp_node.proofs.Sound.{AllSound}
@@ -30,8 +28,8 @@ use Rattle.wrp_port.specs.declared.interface.PortIn.TheVariants.{Msg}
 use Rattle.wrp_port.specs.declared.line.Line.{Line}
 use Rattle.wrp_port.specs.declared.setting.Setting.{Setting}
 use Rattle.wrp_port.specs.Hearing.{early_reason, link_input, piece_of, is_of_use}
-use Rattle.wrp_port.specs.History.{line_of, calls_of}
-use Rattle.wrp_port.specs.Outputs.{sends_of, drop_of, measured_by, is_dropped_early, number_by, reason_by, is_used_by, is_kept, sends_unless, four_by, piece_unless}
+use Rattle.wrp_port.specs.History.{calls_of}
+use Rattle.wrp_port.specs.Outputs.{sends_of, drop_of, measured_by, number_by, reason_by, is_used_by, is_kept, sends_unless, four_by, piece_unless}
 use Rattle.wrp_port.specs.PortAt.{IsFit, StandsFor as PortStandsFor}
 
 is_true : (b : Bool) → b ≡ true → IsTrue b
@@ -82,7 +80,7 @@ measured_here : (fixed : Fixed) (n : NodeAt) (p : ℕ) (input : PortIn) (xs ys :
     AllByRecursion (PlaceIn fixed n (step_from n)) xs → is_among p xs ≡ true → measured_in (place_of p ys) ≡ measured_at fixed n p input
 measured_here fixed n p input xs ys z h e =
     let f : FoundBoth (PlaceIn fixed n (step_from n)) (GivesTo (One p) input) p ys =
-        found_both (PlaceIn fixed n (step_from n)) (GivesTo (One p) input) p xs ys (λ x y g. number_kept (One p) input x y (x.number == p) g) z h e in
+    found_both (PlaceIn fixed n (step_from n)) (GivesTo (One p) input) p xs ys (λ x y g. number_kept (One p) input x y (x.number == p) g) z h e in
     let g : Gives input f.old f.new = given_here p input f.old f.new f.number f.related in
     ap measured_in f.is
     ∙ g.measured (calls_of f.old.port.set (n.told f.old.number)) f.holds.stands.told.exchange
@@ -152,7 +150,7 @@ dropped_here : (fixed : Fixed) (n : NodeAt) (p : ℕ) (m : PtpMsg) (stamp : Stam
     Gives (Msg m stamp tick) old new → PlaceIn fixed n (step_from n) old → PlaceIn fixed n (dropped p (reason_number reason) n) new
 dropped_here fixed n p m stamp tick reason old new e at g h =
     let early : early_reason old.port.set old.port.line.link m ≡ Some reason =
-        ap₂ (λ (x : Setting) (l : Line). early_reason x l.link m) h.stands.set (line_is fixed n old h.stands) ∙ ap (λ (q : ℕ). reason_at fixed n q m) at ∙ e in
+    ap₂ (λ (x : Setting) (l : Line). early_reason x l.link m) h.stands.set (line_is fixed n old h.stands) ∙ ap (λ (q : ℕ). reason_at fixed n q m) at ∙ e in
     let same : new.port ≡ old.port = g.silent (is_true (is_some (early_reason old.port.set old.port.line.link m)) (ap is_some early)) in
     let here : (old.number == p) ≡ true = ap (λ (k : ℕ). k == p) at ∙ eq_self p in
     record {

@@ -1,5 +1,5 @@
 -- The servo's count of ticks is the node's.
-use Rattle.std.proofs.Common.{◌≡◌, ◌∙◌, refl, ap, sym, subst, ℕ, ℤ, ◌+◌, Bool, true, false, if◌then◌else◌, List, [], ◌∷◌, Option, None, Some, is_some, Result, Ok, Err}
+use Rattle.std.proofs.Common.{◌≡◌, ◌∙◌, refl, ap, ℕ, ℤ, ◌+◌, Bool, true, false, if◌then◌else◌, List, [], ◌∷◌, Option, None, Some, is_some, Result, Ok, Err}
 use Rattle.wrp_base.specs.declared.measurement.Four.{Four}
 use Rattle.wrp_base.specs.declared.message.PtpMsg.{PtpMsg}
 use Rattle.wrp_data.specs.declared.reason.Reason.{Reason}
@@ -8,11 +8,11 @@ use Rattle.wrp_node.specs.declared.interface.Input.{Input}
 use Rattle.wrp_node.specs.declared.interface.Input.TheVariants.{Tick, Sample, Frame, Sent, Carrier, Reset}
 use Rattle.wrp_node.specs.NodeAt.{Taken, Fixed, NodeAt, slave_of, link_at, setting_of, is_fresh_in, deltas_in}
 use Rattle.wrp_node.specs.NodeRun.{node_after}
-use Rattle.wrp_node.specs.NodeStep.{stepped, node_step, measurement_by, measured_at, message_of, heard_unless, is_slave_port, lease_ticked, counted_tick}
+use Rattle.wrp_node.specs.NodeStep.{stepped, measurement_by, measured_at, message_of, heard_unless, is_slave_port, lease_ticked, counted_tick}
 use Rattle.wrp_node.specs.Telling.{Step, for_slave, called, is_changed, settled, with_lease}
 use Rattle.wrp_port.specs.declared.interface.PortIn.{PortIn}
 use Rattle.wrp_port.specs.Hearing.{early_reason}
-use Rattle.wrp_servo.specs.Call.{Call, CallSample, CallMeasured, CallTick, CallLease, CallLink, CallCarrier, CallReset}
+use Rattle.wrp_servo.specs.Call.{Call, CallSample, CallTick, CallLease, CallLink, CallCarrier, CallReset}
 use Rattle.wrp_servo.specs.Told.{ticks_told, lease_told, link_told}
 
 -- a call that counts no tick

@@ -1,5 +1,5 @@
 -- A node's servo is told something, and what it answers goes to the slave port.
-use Rattle.std.proofs.Common.{◌≡◌, ◌∙◌, refl, ap, ap₂, sym, subst, ℕ, ℤ, ◌==◌, Bool, true, false, if◌then◌else◌, ◌&&◌, ◌%◌, List, [], ◌∷◌, ◌++◌, map, flat_map, Option, None, Some, is_some, Result, Ok, Err, arith}
+use Rattle.std.proofs.Common.{◌≡◌, ◌∙◌, refl, ap, ap₂, sym, subst, ℕ, ℤ, ◌==◌, Bool, true, false, if◌then◌else◌, ◌&&◌, ◌%◌, List, [], ◌∷◌, ◌++◌, map, flat_map, Option, None, Some, is_some, Ok, arith}
 use Rattle.std.specs.List.{AllByRecursion}
 use Rattle.wrp_base.specs.declared.link.Deltas.{Deltas}
 use Rattle.wrp_base.specs.declared.link.LinkWord.{LinkWord}
@@ -14,7 +14,7 @@ use Rattle.wrp_data.specs.Reason.{number_of as reason_number}
 use Rattle.wrp_base.specs.declared.time.Stamp.{Stamp}
 use Rattle.wrp_base.specs.Message.{IsSound}
 use Rattle.wrp_link.specs.Table.{word_of}
-use Rattle.wrp_node.specs.Control.{ToldServo, ControlOf, ToldStands, ServoIs, ControlStands, Calls, lease_call, link_call, carrier_call, state_in, locked_in, certain_in, dac_in, tracked_in}
+use Rattle.wrp_node.specs.Control.{ToldServo, ControlOf, ServoIs, ControlStands, Calls, lease_call, link_call, carrier_call, state_in, locked_in, certain_in, dac_in, tracked_in}
 use Rattle.wrp_node.specs.declared.interface.Input.{Input}
 use Rattle.wrp_node.specs.declared.interface.Input.TheVariants.{Tick, Sample, Frame, Sent, Carrier, Reset}
 use Rattle.wrp_node.specs.declared.interface.Output.{Output}
@@ -22,20 +22,19 @@ use Rattle.wrp_node.specs.declared.parts.Parts.{Parts}
 use Rattle.wrp_node.specs.declared.place.Place.{Place}
 use Rattle.wrp_node.specs.declared.ports.To.TheVariants.{Every, One}
 use Rattle.wrp_node.specs.Node.{track_in, puts_out, is_tick}
-use Rattle.wrp_node.specs.NodeAt.{Fixed, NodeAt, slave_of, state_of, locked_of, certain_of, dac_of, est_of, servo_at, setting_of, line_at, link_at, is_fresh_in, deltas_in}
+use Rattle.wrp_node.specs.NodeAt.{Fixed, NodeAt, slave_of, state_of, locked_of, certain_of, dac_of, est_of, servo_at, setting_of, line_at, is_fresh_in, deltas_in}
 use Rattle.wrp_node.specs.NodeRun.{step_out, dac_out, servo_out, est_out, track_out, port_out, word_out, frame_out, outputs_of}
 use Rattle.wrp_node.specs.NodeStep.{handed, carried, ports_ticked, tick_of, is_slave_port, used, dropped, measured_at, measurement_by, message_of, heard, heard_unless}
-use Rattle.wrp_node.specs.Parts.{PlaceStands, PlaceIn, PartsAt, PartsIn, IsNumber, HearsAt, given, taken_unless, four_unless, reason_at}
+use Rattle.wrp_node.specs.Parts.{PlaceStands, PlaceIn, PartsIn, IsNumber, HearsAt, given, taken_unless, four_unless, reason_at}
 use Rattle.wrp_node.specs.Place.{place_out, newest_sends}
 use Rattle.wrp_node.specs.StandsFor.{NodeOf, IsAt, IsIn}
 use Rattle.wrp_node.specs.Telling.{Step, step_from, for_slave, heard_of, answer_of, number_of, tell, is_changed, with_lease, with_link}
-use Rattle.wrp_node.proofs.Giving.{SameAt, parts_same, line_is}
+use Rattle.wrp_node.proofs.Giving.{parts_same, line_is}
 use Rattle.wrp_node.proofs.Hearing.{sent_here, newest_alone}
 use Rattle.wrp_node.proofs.Telling.{nothing_told}
 use Rattle.wrp_port.specs.declared.interface.PortIn.{PortIn}
 use Rattle.wrp_port.specs.declared.interface.PortIn.TheVariants.{Sent as PortSent, Carrier as PortCarrier, Tick as PortTick}
 use Rattle.wrp_port.specs.declared.line.Line.{Line}
-use Rattle.wrp_port.specs.declared.setting.Setting.{Setting}
 use Rattle.wrp_port.specs.Outputs.{sends_of}
 use Rattle.wrp_servo.specs.Call.{Call, CallSample, CallMeasured, CallLease, CallLink, CallCarrier}
 use Rattle.wrp_servo.specs.Told.{lease_told, link_told}

@@ -1,13 +1,13 @@
 -- After every input the servo knows of the lease and of WR_LINK_ON.
-use Rattle.std.proofs.Common.{◌≡◌, ◌∙◌, refl, ap, sym, ℕ, ℤ, ◌==◌, Bool, true, false, if◌then◌else◌, List, [], ◌∷◌, Option, None, Some, is_some, arith}
+use Rattle.std.proofs.Common.{◌≡◌, ◌∙◌, refl, ap, ℕ, ℤ, ◌==◌, Bool, true, false, if◌then◌else◌, List, Option, None, Some, is_some, arith}
 use Rattle.wrp_base.specs.declared.link.Deltas.{Deltas}
 use Rattle.wrp_base.specs.declared.measurement.ChainNews.{ChainNews}
 use Rattle.wrp_base.specs.declared.measurement.ChainNews.TheVariants.{Same, Started, Ended}
 use Rattle.wrp_link.specs.LinkAt.{LinkAt}
 use Rattle.wrp_node.specs.Laws.{IsSettled, StepSettles}
-use Rattle.wrp_node.specs.NodeAt.{Fixed, NodeAt, slave_of, setting_of, port_of, is_fresh_at, is_fresh_in, deltas_at, deltas_in, link_at}
+use Rattle.wrp_node.specs.NodeAt.{Fixed, slave_of, setting_of, port_of, is_fresh_at, is_fresh_in, deltas_at, deltas_in}
 use Rattle.wrp_node.specs.NodeStep.{stepped}
-use Rattle.wrp_node.specs.Telling.{Step, told_by, heard_of, with_news, with_sample, answer_of, number_of, called, for_slave, is_changed, tell, lease_change, link_change, with_lease, settled}
+use Rattle.wrp_node.specs.Telling.{Step, told_by, heard_of, with_news, with_sample, answer_of, number_of, called, is_changed, tell, lease_change, link_change, with_lease, settled}
 use Rattle.wrp_port.specs.declared.interface.PortIn.{PortIn}
 use Rattle.wrp_port.specs.declared.setting.Setting.{Setting}
 use Rattle.wrp_port.specs.History.{is_fresh, link_of}

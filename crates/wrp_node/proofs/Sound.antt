@@ -1,11 +1,11 @@
 -- Each message that a port sends can be sent.
-use Rattle.std.proofs.Common.{◌≡◌, ◌≢◌, refl, ℕ, ℤ, pos, ◌≤◌, ◌<◌, ◌/◌, ◌%◌, ◌^◌, ◌≤ℤ◌, unsigned_abs, Bool, true, false, if◌then◌else◌, ◌&&◌, List, [], ◌∷◌, ◌++◌, Option, None, Some, arith, lit<}
+use Rattle.std.proofs.Common.{ℕ, ℤ, pos, ◌≤◌, ◌<◌, ◌/◌, ◌%◌, ◌^◌, ◌≤ℤ◌, unsigned_abs, Bool, true, false, ◌&&◌, List, [], ◌∷◌, ◌++◌, Option, None, Some, arith, lit<}
 use Rattle.std.proofs.lemmas.Int.{ints}
 use Rattle.std.specs.List.{AllByRecursion}
 use Rattle.wrp_base.specs.declared.link.Role.{Role}
 use Rattle.wrp_base.specs.declared.link.Role.TheVariants.{Master, Slave}
 use Rattle.wrp_base.specs.declared.message.Body.{Body}
-use Rattle.wrp_base.specs.declared.message.Body.TheVariants.{Sync, DelayReq, FollowUp, DelayResp, Announce, Signal}
+use Rattle.wrp_base.specs.declared.message.Body.TheVariants.{Sync, DelayReq}
 use Rattle.wrp_base.specs.declared.message.Head.{Head}
 use Rattle.wrp_base.specs.declared.message.PtpMsg.{PtpMsg}
 use Rattle.wrp_base.specs.declared.message.WrMsg.{WrMsg}
@@ -21,8 +21,8 @@ use Rattle.wrp_port.specs.declared.line.Line.{Line}
 use Rattle.wrp_port.specs.declared.setting.Setting.{Setting}
 use Rattle.wrp_port.specs.Hearing.{is_open, early_reason, link_input}
 use Rattle.wrp_port.specs.LineAfter.{ticked, announces_on, syncs_on, requests_on}
-use Rattle.wrp_port.specs.Messages.{next_id, signals_of, announce_of, sync_of, request_of, follow_up_of, response_of}
-use Rattle.wrp_port.specs.Outputs.{where_due, scheduled_sends, link_sends, response_to, heard_sends, sends_unless, is_newest, sends_of}
+use Rattle.wrp_port.specs.Messages.{next_id, signals_of, announce_of, sync_of, request_of, follow_up_of}
+use Rattle.wrp_port.specs.Outputs.{where_due, scheduled_sends, link_sends, response_to, sends_unless, is_newest, sends_of}
 use Rattle.wrp_port.specs.PortAt.{IsFit, IsStamp}
 use Rattle.wrp_port.specs.Wire.{timestamp_of}
 

@@ -1,10 +1,10 @@
 -- A whole input, from one stand between inputs to the next.
-use Rattle.std.proofs.Common.{◌≡◌, ◌∙◌, ap, sym, subst, ℕ, ℤ, ◌+◌, ◌<◌, ◌≤◌, ◌^◌, Bool, true, Option, None, Some, is_some, IfSome, List, ◌∷◌, Result}
+use Rattle.std.proofs.Common.{◌≡◌, ◌∙◌, ap, sym, subst, ℕ, ℤ, ◌+◌, ◌<◌, ◌≤◌, ◌^◌, Option, None, Some, IfSome, List, Result}
 use Rattle.wrp_node.specs.Control.{ToldServo, ControlOf, ServoIs, HasTick, state_in}
 use Rattle.wrp_node.specs.declared.interface.Input.{Input}
 use Rattle.wrp_node.specs.declared.interface.Input.TheVariants.{Tick, Sample, Frame, Sent, Carrier, Reset}
 use Rattle.wrp_node.specs.Node.{FitsInput, HasTickFor, Takes, NodeTakes, NodeLeads}
-use Rattle.wrp_node.specs.NodeAt.{Taken, Fixed, NodeAt, slave_of, settings_of, state_of}
+use Rattle.wrp_node.specs.NodeAt.{Taken, Fixed, NodeAt, settings_of, state_of}
 use Rattle.wrp_node.specs.NodeRun.{node_after}
 use Rattle.wrp_node.specs.NodeStep.{stepped, node_step}
 use Rattle.wrp_node.specs.Parts.{Begun}
@@ -15,9 +15,8 @@ use Rattle.wrp_base.specs.declared.message.PtpMsg.{PtpMsg}
 use Rattle.wrp_frame.specs.declared.fault.FrameFault.{FrameFault}
 use Rattle.wrp_node.proofs.Nodes.{inside_at, state_is}
 use Rattle.wrp_node.proofs.NodeTicks.{ticks_agree}
-use Rattle.wrp_servo.specs.Call.{Call, run}
 use Rattle.wrp_servo.specs.declared.machine.Core.{Core}
-use Rattle.wrp_servo.specs.Told.{ToldLast, ticks_told}
+use Rattle.wrp_servo.specs.Told.{ToldLast}
 
 -- an input is what it is
 pub takes_as : {F : Type 0} {post : F → ℤ → ℤ → Type 0} {x y : Input} {old new : NodeOf F} → x ≡ y → Takes post y old new → Takes post x old new

@@ -1,15 +1,14 @@
 -- What the servo answered goes to the slave port and to the counters.
-use Rattle.std.proofs.Common.{◌≡◌, ◌∙◌, refl, ap, ap₂, sym, subst, ℕ, ℤ, ◌+◌, ◌==◌, Bool, true, false, if◌then◌else◌, List, [], ◌∷◌, Option, None, Some}
+use Rattle.std.proofs.Common.{◌≡◌, ◌∙◌, refl, ap, sym, ℕ, ℤ, ◌+◌, ◌==◌, Bool, true, false, if◌then◌else◌, List, ◌∷◌, Option, None, Some}
 use Rattle.std.specs.Option.{option_or}
 use Rattle.wrp_base.specs.declared.measurement.ChainNews.{ChainNews}
-use Rattle.wrp_base.specs.declared.message.PtpMsg.{PtpMsg}
 use Rattle.wrp_node.specs.declared.parts.Parts.{Parts}
-use Rattle.wrp_node.specs.declared.ports.To.TheVariants.{Every, One}
+use Rattle.wrp_node.specs.declared.ports.To.TheVariants.{One}
 use Rattle.wrp_node.specs.NodeAt.{Fixed, NodeAt, slave_of}
 use Rattle.wrp_node.specs.NodeStep.{told_slave}
 use Rattle.wrp_node.specs.Parts.{PlaceIn, PartsIn, given, told_only, reason_counted, commanded, slave_told, tick_counted, IsNumber}
-use Rattle.wrp_node.specs.Telling.{Step, counted_at, counted_by, told_by, heard_of, no_answer, answer_of, number_of, tell, newest_step, with_news, with_sample}
-use Rattle.wrp_node.proofs.Giving.{SameAt, parts_same, place_same}
+use Rattle.wrp_node.specs.Telling.{Step, counted_by, told_by, no_answer, answer_of, number_of, tell, newest_step, with_news, with_sample}
+use Rattle.wrp_node.proofs.Giving.{parts_same, place_same}
 use Rattle.wrp_node.proofs.Lists.{all_of}
 use Rattle.wrp_port.specs.declared.interface.PortIn.{PortIn}
 use Rattle.wrp_port.specs.declared.interface.PortIn.TheVariants.{Lease, Chain, Sample}

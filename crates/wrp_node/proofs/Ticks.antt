@@ -3,7 +3,7 @@ use Rattle.std.proofs.Common.{◌≡◌, refl, Bool, true, false, cond, is_some}
 use Rattle.wrp_base.specs.declared.link.ServoState.{ServoState}
 use Rattle.wrp_base.specs.declared.link.ServoState.TheVariants.{Uninit, SyncTai, SyncNsec, SyncPhase, WaitStable, Track, Holdover}
 use Rattle.wrp_servo.specs.declared.machine.Core.{Core}
-use Rattle.wrp_servo.specs.Table.{ended, ended_in, by_lease}
+use Rattle.wrp_servo.specs.Table.{ended_in, by_lease}
 
 ended_in_ticks : (v : Core) (s : ServoState) → (ended_in v s).ticks ≡ v.ticks
 ended_in_ticks v Track = refl

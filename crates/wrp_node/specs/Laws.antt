@@ -8,7 +8,7 @@ use Rattle.wrp_frame.specs.declared.fault.FrameFault.{FrameFault}
 use Rattle.wrp_frame.specs.Faults.{fault_number}
 use Rattle.wrp_node.specs.declared.interface.Input.TheVariants.{Frame}
 use Rattle.wrp_node.specs.NodeAt.{Taken, Fixed, NodeAt, setting_of, link_at}
-use Rattle.wrp_node.specs.NodeRun.{outputs_of, node_after}
+use Rattle.wrp_node.specs.NodeRun.{outputs_of}
 use Rattle.wrp_node.specs.NodeStep.{dropped, node_step}
 use Rattle.wrp_node.specs.Telling.{lease_change, link_change}
 use Rattle.wrp_port.specs.Hearing.{early_reason}

@@ -1,5 +1,5 @@
 -- A node before any input: what its settings have to meet, and what each of its ports is.
-use Rattle.std.specs.Prelude.{◌≡◌, ◌≢◌, ℕ, ℤ, pos, ◌≤◌, List, [], ◌∷◌, Option, None, Some}
+use Rattle.std.specs.Prelude.{◌≡◌, ◌≢◌, ℤ, pos, ◌≤◌, List, [], ◌∷◌, Option, None, Some}
 use Rattle.std.specs.List.{AllByRecursion}
 use Rattle.wrp_data.specs.Counters.{no_counts}
 use Rattle.wrp_data.specs.declared.datasets.PortDs.{PortDs}

@@ -1,5 +1,5 @@
 -- What each call of a node makes of it, on its way through an input.
-use Rattle.std.specs.Prelude.{◌≡◌, ℕ, ℤ, ◌<◌, ◌≤◌, ◌+◌, ◌%◌, ◌^◌, ◌==◌, ◌&&◌, Bool, true, false, if◌then◌else◌, List, [], ◌∷◌, ◌++◌, flat_map, Option, None, Some, Result, Ok}
+use Rattle.std.specs.Prelude.{◌≡◌, ℕ, ℤ, ◌<◌, ◌≤◌, ◌+◌, ◌%◌, ◌^◌, ◌==◌, ◌&&◌, Bool, true, false, if◌then◌else◌, List, [], ◌++◌, flat_map, Option, None, Some, Result, Ok}
 use Rattle.wrp_base.specs.declared.link.LinkWord.{LinkWord}
 use Rattle.wrp_base.specs.declared.link.ServoState.{ServoState}
 use Rattle.wrp_base.specs.declared.link.Module.{Module}

@@ -1,12 +1,12 @@
 -- A node at a moment: what each of its parts was told, newest first; and what its settings are to its parts (this project's profile).
-use Rattle.std.specs.Prelude.{ℕ, ℤ, pos, ◌==◌, Bool, true, false, if◌then◌else◌, nat_lt, List, [], ◌∷◌, map, Option, None, Some, is_some, Result}
+use Rattle.std.specs.Prelude.{ℕ, ℤ, ◌==◌, Bool, true, false, if◌then◌else◌, nat_lt, List, [], ◌∷◌, map, Option, None, Some, is_some, Result}
 use Rattle.std.specs.List.{find}
 use Rattle.std.specs.Option.{option_map}
 use Rattle.wrp_base.specs.declared.link.Deltas.{Deltas}
 use Rattle.wrp_base.specs.declared.link.Role.{Role}
 use Rattle.wrp_base.specs.declared.link.Role.TheVariants.{Master, Slave}
 use Rattle.wrp_base.specs.declared.link.ServoState.{ServoState}
-use Rattle.wrp_base.specs.declared.link.ServoState.TheVariants.{Uninit, Track}
+use Rattle.wrp_base.specs.declared.link.ServoState.TheVariants.{Uninit}
 use Rattle.wrp_base.specs.declared.message.PtpMsg.{PtpMsg}
 use Rattle.wrp_data.specs.declared.datasets.PortDs.{PortDs}
 use Rattle.wrp_exch.specs.Call.{Call as ExchangeCall}

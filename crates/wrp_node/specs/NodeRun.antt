@@ -1,9 +1,8 @@
 -- The run of a node: what it is after a list of inputs, newest first, and what it puts out at the newest of them, in order (this project's profile).
-use Rattle.std.specs.Prelude.{◌≡◌, ℕ, ℤ, ◌%◌, ◌==◌, ◌&&◌, Bool, true, false, if◌then◌else◌, unsigned_abs, List, [], ◌∷◌, ◌++◌, map, flat_map, Option, None, Some, is_some, Result, Ok, Err}
+use Rattle.std.specs.Prelude.{◌≡◌, ℕ, ℤ, ◌%◌, ◌==◌, ◌&&◌, if◌then◌else◌, unsigned_abs, List, [], ◌∷◌, ◌++◌, map, flat_map, Option, None, Some, Result, Ok, Err}
 use Rattle.wrp_base.specs.declared.link.LinkWord.{LinkWord}
 use Rattle.wrp_base.specs.declared.link.ServoState.{ServoState}
 use Rattle.wrp_base.specs.declared.link.ServoState.TheVariants.{Uninit, SyncTai, SyncNsec, SyncPhase, WaitStable, Track, Holdover}
-use Rattle.wrp_base.specs.declared.measurement.Four.{Four}
 use Rattle.wrp_base.specs.declared.message.PtpMsg.{PtpMsg}
 use Rattle.wrp_data.specs.Counters.{no_counts}
 use Rattle.wrp_frame.specs.declared.fault.FrameFault.{FrameFault}
@@ -16,11 +15,10 @@ use Rattle.wrp_node.specs.declared.interface.Input.TheVariants.{Tick, Frame}
 use Rattle.wrp_node.specs.declared.interface.Output.{Output}
 use Rattle.wrp_node.specs.declared.interface.Output.TheVariants.{Send, Step as StepOf, Dac, Report as ReportOf}
 use Rattle.wrp_node.specs.declared.interface.Report.TheVariants.{Link, Servo, Track as TrackReport}
-use Rattle.wrp_node.specs.NodeAt.{Taken, Fixed, NodeAt, numbers_of, setting_of, settings_of, link_at, state_of, est_of}
+use Rattle.wrp_node.specs.NodeAt.{Taken, Fixed, NodeAt, numbers_of, settings_of, link_at, state_of, est_of}
 use Rattle.wrp_node.specs.NodeStep.{node_step}
 use Rattle.wrp_node.specs.Telling.{Step}
 use Rattle.wrp_port.specs.Outputs.{is_word}
-use Rattle.wrp_servo.specs.Call.{Call, CallMeasured}
 use Rattle.wrp_servo.specs.Servo.{AllAnswered}
 use Rattle.wrp_servo.specs.Table.{is_track}
 

@@ -1,5 +1,5 @@
 -- What each input makes of a node: which of its parts is told what, and in which order (this project's profile).
-use Rattle.std.specs.Prelude.{ℕ, ℤ, pos, ◌+◌, ◌%◌, ◌==◌, Bool, true, false, if◌then◌else◌, List, [], ◌∷◌, Option, None, Some, Result, Ok, Err}
+use Rattle.std.specs.Prelude.{ℕ, ℤ, pos, ◌+◌, ◌%◌, ◌==◌, Bool, false, if◌then◌else◌, List, Option, None, Some, Result, Ok, Err}
 use Rattle.wrp_base.specs.declared.link.Module.{Module}
 use Rattle.wrp_base.specs.declared.measurement.Four.{Four}
 use Rattle.wrp_base.specs.declared.message.PtpMsg.{PtpMsg}

@@ -1,5 +1,5 @@
 -- A node but its servo, on its way through an input: what each of its calls makes of it.
-use Rattle.std.specs.Prelude.{◌≡◌, ℕ, ℤ, ◌<◌, ◌^◌, ◌==◌, Bool, true, false, if◌then◌else◌, List, [], ◌∷◌, map, Option, None, Some, is_some, IfSome}
+use Rattle.std.specs.Prelude.{◌≡◌, ℕ, ◌<◌, ◌^◌, ◌==◌, Bool, true, if◌then◌else◌, List, ◌∷◌, map, Option, None, Some, IfSome}
 use Rattle.std.specs.List.{AllByRecursion, list_any}
 use Rattle.std.specs.Option.{option_or}
 use Rattle.wrp_base.specs.declared.link.Deltas.{Deltas}
@@ -16,7 +16,7 @@ use Rattle.wrp_node.specs.declared.place.Place.{Place}
 use Rattle.wrp_node.specs.declared.ports.To.{To}
 use Rattle.wrp_node.specs.NodeAt.{Fixed, NodeAt, numbers_of, slave_of, setting_of, line_at, link_at, pieces_at, is_fresh_in, deltas_in}
 use Rattle.wrp_node.specs.NodeStep.{counted_tick, stamp_of, message_of, dropped, used, measured_at}
-use Rattle.wrp_node.specs.Place.{is_to, newest_sends, place_of}
+use Rattle.wrp_node.specs.Place.{is_to, newest_sends}
 use Rattle.wrp_node.specs.Telling.{Step, step_from, counted, counted_at, told_all, told_by, counted_by, heard_of, answer_of, number_of, tell, newest_step}
 use Rattle.wrp_port.specs.declared.interface.PortIn.{PortIn}
 use Rattle.wrp_port.specs.declared.interface.PortIn.TheVariants.{Reset as PortReset}

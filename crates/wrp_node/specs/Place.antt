@@ -1,10 +1,8 @@
 -- A port at its place in a node, and what an input makes of it there.
-use Rattle.std.specs.Prelude.{◌≡◌, ℕ, ◌==◌, Bool, true, false, if◌then◌else◌, IsTrue, IfSome, List, [], ◌∷◌, ◌++◌, map, Option, None, Some}
-use Rattle.std.specs.List.{find, AllByRecursion}
+use Rattle.std.specs.Prelude.{◌≡◌, ℕ, ◌==◌, Bool, true, false, if◌then◌else◌, IsTrue, IfSome, List, [], ◌∷◌, ◌++◌, map, Option, Some}
+use Rattle.std.specs.List.{find}
 use Rattle.wrp_base.specs.Calls.{Adds}
-use Rattle.wrp_base.specs.declared.measurement.Four.{Four}
 use Rattle.wrp_base.specs.declared.message.PtpMsg.{PtpMsg}
-use Rattle.wrp_base.specs.Message.{IsSound}
 use Rattle.wrp_exch.specs.Call.{Call}
 use Rattle.wrp_exch.specs.Exchange.{StandsFor as ExchangeStandsFor, HasTimes}
 use Rattle.wrp_link.specs.Table.{word_of}

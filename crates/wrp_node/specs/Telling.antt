@@ -8,7 +8,7 @@ use Rattle.wrp_data.specs.Counters.{counts_after}
 use Rattle.wrp_node.specs.NodeAt.{Fixed, NodeAt, slave_of, settings_of, is_fresh_in, deltas_in}
 use Rattle.wrp_port.specs.declared.interface.PortIn.{PortIn}
 use Rattle.wrp_port.specs.declared.interface.PortIn.TheVariants.{Sample, Chain}
-use Rattle.wrp_servo.specs.Call.{Call, CallSample, CallLease, CallLink, Settings, run}
+use Rattle.wrp_servo.specs.Call.{Call, CallSample, CallLease, CallLink, run}
 use Rattle.wrp_servo.specs.declared.interface.ServoOut.{ServoOut}
 use Rattle.wrp_servo.specs.Servo.{plain_out, answer_to}
 use Rattle.wrp_servo.specs.Told.{lease_told, link_told}

@@ -24,11 +24,7 @@ use wrp_servo::Servo;
 impl<F: Fn(i64) -> i64> Node<F> {
     /// A node before any input: all its ports are down, and its counters 0. It has a law exactly where
     /// it has a slave port. It takes all the memory that it will need.
-    pub fn new(
-        alloc: Global,
-        cfg: NodeSet,
-        law: Option<DelayLaw<F>>,
-    ) -> Result<Node<F>, AllocError>
+    pub fn new(alloc: Global, cfg: NodeSet, law: Option<DelayLaw<F>>) -> Result<Node<F>, AllocError>
         requires set { FitsNodeSet cfg }
         requires law { is_some law ≡ is_some (slave_of cfg) }
         requires fact { IfSome law (KeepsFact F.pre F.post) }

@@ -136,7 +136,13 @@ impl<F: Fn(i64) -> i64> Node<F> {
         ensures law { KeepsLaw F.pre F.post self.new.control }
         ensures takes { NodeTakes F.post (carried_at port up own_module) self.old self.new }
     {
-        self.parts.give(To::One(port), PortIn::Carrier { up, module: own_module });
+        self.parts.give(
+            To::One(port),
+            PortIn::Carrier {
+                up,
+                module: own_module,
+            },
+        );
         let out = self.control.carrier(self.parts.is_slave(port), up);
         self.parts.take_answer(&out, 0);
     }

@@ -1,5 +1,5 @@
 -- The octets say a message, or have a first fault.
-use Rattle.std.proofs.Common.{◌≡◌, ◌∙◌, ap, subst, ℕ, List, pos, Option, Some, Ok, Err}
+use Rattle.std.proofs.Common.{subst, ℕ, List, pos, Ok, Err}
 use Rattle.wrp_frame.specs.Faults.{IsFirstFault}
 use Rattle.wrp_frame.specs.Grammar.{Spells}
 use Rattle.wrp_node.specs.NodeStep.{dropped}

@@ -2,7 +2,6 @@
 use Rattle.std.proofs.Common.{◌∙◌}
 use Rattle.wrp_node.proofs.Nodes.{inside_in, ticks_told, locked_is, certain_is}
 use Rattle.wrp_node.proofs.node.Node.ports_tick.Goals as goal
-use Rattle.wrp_node.specs.declared.ports.To.TheVariants.{Every}
 
 pub returns-clause-lead : goal.returns-clause-lead
 returns-clause-lead g c fixed before s none h =

@@ -1,5 +1,5 @@
 -- The input is taken, the servo is told of what changed, and the outputs are those of the run.
-use Rattle.std.proofs.Common.{◌≡◌, ◌∙◌, ap, Bool, ◌∷◌}
+use Rattle.std.proofs.Common.{◌∙◌, ap, Bool, ◌∷◌}
 use Rattle.wrp_node.specs.Node.{puts_out}
 use Rattle.wrp_node.specs.NodeRun.{node_after}
 use Rattle.wrp_node.specs.NodeStep.{node_step}
@@ -15,7 +15,7 @@ take-requires-clause-ticks g c =
 pub put_out-requires-clause-sound : goal.put_out-requires-clause-sound
 put_out-requires-clause-sound g c =
     let h = came c.args.x.now c.take.ensures.takes.0 c.take.ensures.takes.1 c.self.view_is c.begin.ensures.begun c.take.ensures.takes.3 c.tell_lease.ensures.lead c.tell_link.ensures.lead
-        c.requires.valid.fixed c.requires.valid.inputs c.requires.valid.stands in
+    c.requires.valid.fixed c.requires.valid.inputs c.requires.valid.stands in
     all_sound c.requires.valid.fixed (node_after c.requires.valid.fixed c.requires.valid.inputs)
     (node_step c.requires.valid.fixed (record { input = c.args.x.now; says = c.take.ensures.takes.0; answer = c.take.ensures.takes.1 }) (node_after c.requires.valid.fixed c.requires.valid.inputs))
     c.tell_link.new.self.parts.ports h.parts.places
@@ -23,13 +23,13 @@ put_out-requires-clause-sound g c =
 pub put_out-requires-clause-report : goal.put_out-requires-clause-report
 put_out-requires-clause-report g c =
     let h = came c.args.x.now c.take.ensures.takes.0 c.take.ensures.takes.1 c.self.view_is c.begin.ensures.begun c.take.ensures.takes.3 c.tell_lease.ensures.lead c.tell_link.ensures.lead
-        c.requires.valid.fixed c.requires.valid.inputs c.requires.valid.stands in
+    c.requires.valid.fixed c.requires.valid.inputs c.requires.valid.stands in
     report_kept c.requires.valid.stands h c.requires.valid.report
 
 pub returns-clause-valid : goal.returns-clause-valid
 returns-clause-valid g c =
     let h = came c.args.x.now c.take.ensures.takes.0 c.take.ensures.takes.1 c.self.view_is c.begin.ensures.begun c.take.ensures.takes.3 c.tell_lease.ensures.lead c.tell_link.ensures.lead
-        c.requires.valid.fixed c.requires.valid.inputs c.requires.valid.stands in
+    c.requires.valid.fixed c.requires.valid.inputs c.requires.valid.stands in
     record {
       law = c.tell_link.ensures.law;
       report = report_kept c.requires.valid.stands h c.requires.valid.report;

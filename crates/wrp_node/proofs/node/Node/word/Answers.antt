@@ -1,5 +1,5 @@
 -- The word of the port of this number.
-use Rattle.std.proofs.Common.{◌≡◌, ◌∙◌, ap, sym, subst, true}
+use Rattle.std.proofs.Common.{◌∙◌, ap}
 use Rattle.wrp_node.specs.NodeRun.{node_after}
 use Rattle.wrp_node.specs.Parts.{is_among}
 use Rattle.wrp_node.proofs.Finding.{word_told}

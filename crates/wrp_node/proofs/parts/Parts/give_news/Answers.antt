@@ -1,7 +1,7 @@
 -- A chain that started, or that ended.
 use Rattle.std.proofs.Common.{sym, subst}
 use Rattle.wrp_base.specs.declared.measurement.ChainNews.{ChainNews}
-use Rattle.wrp_base.specs.declared.measurement.ChainNews.TheVariants.{Same, Started, Ended}
+use Rattle.wrp_base.specs.declared.measurement.ChainNews.TheVariants.{Started, Ended}
 use Rattle.wrp_node.specs.Parts.{PartsIn, told_only}
 use Rattle.wrp_node.specs.Telling.{with_news}
 use Rattle.wrp_node.proofs.Telling.{chain_told, none_told}

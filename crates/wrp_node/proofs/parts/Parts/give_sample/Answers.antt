@@ -1,5 +1,5 @@
 -- A good sample.
-use Rattle.std.proofs.Common.{◌≡◌, sym, subst, ℤ, Option, rules, FitsSigned}
+use Rattle.std.proofs.Common.{sym, subst, ℤ, Option, rules, FitsSigned}
 use Rattle.std.proofs.lemmas.Int.{to_z-of_z}
 use Rattle.std.specs.Int.{w64}
 use Rattle.wrp_node.specs.declared.ports.To.TheVariants.{One}

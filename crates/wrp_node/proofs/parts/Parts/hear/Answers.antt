@@ -18,7 +18,7 @@ use Rattle.wrp_port.specs.PortAt.{IsFit}
 pub returns-clause-hears : goal.returns-clause-hears
 returns-clause-hears c fixed n h a =
     let is : Msg c.args.message c.stamp-stamp.result c.args.self.now.ticks ≡ message_of fixed n c.args.port c.args.message c.args.raw.now c.args.sample =
-        ap₂ (λ (t : Stamp) (k : ℕ). Msg c.args.message t k) (c.stamp-stamp.ensures.value fixed n (step_from n) h a) h.ticks in
+    ap₂ (λ (t : Stamp) (k : ℕ). Msg c.args.message t k) (c.stamp-stamp.ensures.value fixed n (step_from n) h a) h.ticks in
     subst (λ (f : Option Four). HearsAt fixed n c.args.port c.args.message c.args.raw.now c.args.sample (record c.args.self.now { ports = c.give.new.self }) f) (sym c.measured.ensures)
     (hears_at fixed n c.args.port c.args.message c.args.raw.now c.args.sample c.args.self.now c.give.new.self
     (subst IsFit is (c.requires.sound, c.stamp-stamp.ensures.fits))

@@ -1,9 +1,8 @@
 -- The raw stamp, merged with the transition of the port's module.
-use Rattle.std.proofs.Common.{◌≡◌, ◌∙◌, ap, ap₂, ℕ, ℤ, pos, rules, FitsSigned}
+use Rattle.std.proofs.Common.{◌∙◌, ap, ap₂, ℕ, ℤ, pos, rules, FitsSigned}
 use Rattle.std.proofs.lemmas.Int.{to_z-of_z}
 use Rattle.std.specs.Int.{w128}
 use Rattle.wrp_base.specs.declared.time.Clock.{Clock}
-use Rattle.wrp_base.specs.declared.time.Stamp.{Stamp}
 use Rattle.wrp_node.proofs.Finding.{transition_told}
 use Rattle.wrp_node.proofs.parts.Parts.stamp.Goals as goal
 use Rattle.wrp_stamp.specs.Merge.{merged}

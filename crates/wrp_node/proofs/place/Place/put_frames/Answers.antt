@@ -1,5 +1,5 @@
 -- One frame more.
-use Rattle.std.proofs.Common.{◌≡◌, ◌∙◌, ap, ap₂, ℕ, pos, ◌<◌, ◌++◌, ◌∷◌, [], List, length, slice_index_or, arith}
+use Rattle.std.proofs.Common.{◌∙◌, ap, ap₂, ℕ, pos, ◌<◌, ◌++◌, ◌∷◌, [], List, length, slice_index_or, arith}
 use Rattle.wrp_base.specs.declared.message.Body.TheVariants.{Sync}
 use Rattle.wrp_base.specs.declared.message.PtpMsg.{PtpMsg}
 use Rattle.wrp_node.specs.declared.interface.Output.{Output}

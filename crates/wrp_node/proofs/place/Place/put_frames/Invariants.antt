@@ -1,5 +1,5 @@
 -- The frames of the messages so far are there.
-use Rattle.std.proofs.Common.{◌≡◌, ◌≤◌, ◌+◌, ◌++◌, length, take, map}
+use Rattle.std.proofs.Common.{◌≡◌, ◌+◌, ◌++◌, length, take, map}
 use Rattle.wrp_node.specs.NodeRun.{frame_out}
 use Rattle.wrp_node.proofs.place.Place.put_frames.Given as goal
 
