@@ -1,5 +1,5 @@
 -- The port of a number among the ports of a node.
-use Rattle.std.proofs.Common.{◌≡◌, ◌∙◌, refl, ap, ap₂, sym, subst, ℕ, ◌==◌, nat_lt, Bool, true, false, if◌then◌else◌, ◌||◌, List, [], ◌∷◌, Option, None, Some, IfSome, arith}
+use Rattle.std.proofs.Common.{◌≡◌, ◌∙◌, refl, ap, ap₂, sym, subst, ℕ, ◌==◌, nat_lt, Bool, true, false, if◌then◌else◌, ◌||◌, List, [], ◌∷◌, Option, None, Some, is_some, IfSome, arith}
 use Rattle.std.proofs.lemmas.Bool.{eqb-true}
 use Rattle.std.specs.List.{AllByRecursion}
 use Rattle.wrp_data.specs.Counters.{count_at}
@@ -97,3 +97,12 @@ times_told fixed n parts p reason h e =
     ap (times_in reason) f.is
     ∙ ap (λ (cs : List ℕ). count_at cs reason) f.holds.counters
     ∙ ap (λ (q : ℕ). count_at (n.counters q) reason) f.number
+
+-- a port is found exactly where its number is among them
+some_where : (p : ℕ) (x : Place) (xs : List Place) (b : Bool) → (x.number == p) ≡ b → is_some (place_of p xs) ≡ is_among p xs → is_some (place_of p (x ∷ xs)) ≡ is_among p (x ∷ xs)
+some_where p x xs true e rest = rw e refl
+some_where p x xs false e rest = rw e rest
+
+pub some_is_among : (p : ℕ) (places : List Place) → is_some (place_of p places) ≡ is_among p places
+some_is_among p [] = refl
+some_is_among p (x ∷ xs) = some_where p x xs (x.number == p) refl (some_is_among p xs)

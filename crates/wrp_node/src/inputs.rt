@@ -4,7 +4,7 @@ ghost use Rattle.wrp_base.specs.Message.{IsSound};
 ghost use Rattle.wrp_exch.specs.Exchange.{HasTimes};
 ghost use Rattle.wrp_node.specs.Inputs.{transition_in, measured_in, lease_in, deltas_in, word_in, times_in};
 ghost use Rattle.wrp_node.specs.NodeStep.{is_slave_port};
-ghost use Rattle.wrp_node.specs.Parts.{Leads, tick_counted, parts_reset, TellsLease, TellsDeltas, TellsStamp, Hears, FitsRaw};
+ghost use Rattle.wrp_node.specs.Parts.{Leads, tick_counted, parts_reset, TellsLease, TellsDeltas, TellsStamp, Hears, FitsRaw, is_among};
 ghost use Rattle.wrp_node.specs.Place.{place_of};
 ghost use Rattle.wrp_port.specs.PortAt.{IsStamp};
 
@@ -115,6 +115,13 @@ impl Parts {
             Some(slave) => slave == port,
             None => false,
         }
+    }
+
+    /// Whether a number is that of one of the ports.
+    pub fn has_port(&self, port: u16) -> bool
+        ensures { result ≡ is_among port self.now.ports }
+    {
+        self.ports.place(port).is_some()
     }
 
     /// The word of a port.

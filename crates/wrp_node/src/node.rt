@@ -1,4 +1,5 @@
 //! The node itself: its calls.
+mod fits;
 mod new;
 mod puts;
 mod takes;
@@ -97,7 +98,8 @@ impl<F: Fn(i64) -> i64> Node<F> {
 
     /// The ticks since the last reset.
     pub fn ticks(&self) -> u32
-        ensures { Tells F.post ticks_at self.now result }
+        ensures value { result ≡ self.now.parts.ticks }
+        ensures run { Tells F.post ticks_at self.now result }
     {
         self.parts.ticks
     }
