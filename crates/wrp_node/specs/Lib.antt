@@ -1,0 +1,12 @@
+pub mod Control
+pub mod Inputs
+pub mod Laws
+pub mod Node
+pub mod New
+pub mod NodeAt
+pub mod NodeRun
+pub mod NodeStep
+pub mod Parts
+pub mod Place
+pub mod StandsFor
+pub mod Telling
