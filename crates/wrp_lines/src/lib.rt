@@ -4,6 +4,8 @@
 
 mod counts;
 mod outputs;
+#[cfg(test)]
+mod tests;
 mod words;
 
 pub use counts::{append_count_line, count_line};
