@@ -1,2 +1,10 @@
 pub mod Accepted
+pub mod Config
+pub mod Ends
+pub mod Greatest
+pub mod Keys
+pub mod Links
 pub mod Names
+pub mod Places
+pub mod Reading
+pub mod Tree

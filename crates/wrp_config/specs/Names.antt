@@ -1,6 +1,6 @@
 -- What a name or a port of a network finds (this project's profile). Nodes and links are told by their places from 0 in
 -- file order.
-use Rattle.std.specs.Prelude.{ℕ, ℤ, ◌==◌, ◌&&◌, ◌||◌, Bool, List, Option, None, Some, slice_get, option_and_then, option_map, if◌then◌else◌, map}
+use Rattle.std.specs.Prelude.{ℕ, ℤ, ◌==◌, ◌&&◌, ◌||◌, Bool, List, Option, slice_get, option_and_then, option_map, if◌then◌else◌, map}
 use Rattle.std.specs.List.{find, flat_map, filter, position}
 use Rattle.wrp_base.specs.declared.configuration.NetCfg.{NetCfg}
 use Rattle.wrp_base.specs.declared.network.LinkCfg.{LinkCfg}

@@ -2,6 +2,18 @@
 //! it with its code and its place (this project's profile).
 #![tactic(auto)]
 
+mod clash;
+mod config;
+mod ends;
+mod greatest;
+mod judging;
+mod keys;
+mod link_rows;
+mod links;
 mod network;
+mod reading;
+mod settings;
+mod tree;
 
 pub use network::Network;
+pub use tree::TreeFault;
