@@ -16,3 +16,4 @@ pub mod Sound
 pub mod Found
 pub mod Accepted
 pub mod Refused
+pub mod Reached

@@ -3,6 +3,7 @@ pub mod Config
 pub mod Ends
 pub mod Greatest
 pub mod Keys
+pub mod Laws
 pub mod Links
 pub mod Names
 pub mod Places

@@ -8,6 +8,7 @@ mod ends;
 mod greatest;
 mod judging;
 mod keys;
+mod laws;
 mod link_rows;
 mod links;
 mod network;
@@ -15,5 +16,6 @@ mod reading;
 mod settings;
 mod tree;
 
+pub use laws::{child_is_deeper, modules_are_listed, one_grandmaster, port_is_of_one_link};
 pub use network::Network;
 pub use tree::TreeFault;
