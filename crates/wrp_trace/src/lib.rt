@@ -14,3 +14,6 @@ pub use inputs::{read_input, read_input_fields};
 pub use kinds::InputKind;
 pub use printing::input_line;
 pub use wrp_base::TraceFault;
+
+#[cfg(test)]
+mod tests;
