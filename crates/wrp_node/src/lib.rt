@@ -11,8 +11,6 @@ mod order;
 mod parts;
 mod place;
 mod ports;
-#[cfg(test)]
-mod tests;
 mod told;
 
 pub use interface::{Input, NodeSet, Output, Outputs, Report};
