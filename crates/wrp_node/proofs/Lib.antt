@@ -1,6 +1,7 @@
 pub mod Finding
 pub mod Giving
 pub mod Hearing
+pub mod Links
 pub mod Lists
 pub mod NewNode
 pub mod Nodes

@@ -1,6 +1,7 @@
 pub mod Control
 pub mod Inputs
 pub mod Laws
+pub mod LinkNews
 pub mod Node
 pub mod New
 pub mod NodeAt

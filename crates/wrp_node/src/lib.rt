@@ -14,5 +14,5 @@ mod ports;
 mod told;
 
 pub use interface::{Input, NodeSet, Output, Outputs, Report};
-pub use laws::{dropped_leaves_a_count, step_settles};
+pub use laws::{dropped_leaves_a_count, step_gives_links, step_settles};
 pub use node::Node;

@@ -30,7 +30,10 @@ impl<F: Fn(i64) -> i64> Node<F> {
 fn fits_raw(raw: &Raw) -> bool
     ensures { IsTrue result ↔ FitsRaw raw.now }
 {
-    let counters = 0 < raw.rising && raw.rising < 1 << 63 && 0 < raw.falling && raw.falling < 1 << 63;
+    let counters = 0 < raw.rising
+        && raw.rising < 1 << 63
+        && 0 < raw.falling
+        && raw.falling < 1 << 63;
     counters && raw.tag < 16_384
 }
 
