@@ -26,7 +26,7 @@ use Rattle.wrp_config.specs.Places.{has_text_of, has_end, context_of, no_node, p
 use Rattle.wrp_config.specs.Tree.{HasNoFault}
 use Rattle.wrp_config.proofs.Found.{fibre_found, link_error, delays_fit}
 use Rattle.wrp_config.proofs.Hex.{identity_once}
-use Rattle.wrp_config.proofs.LinkFacts.{IsSoundLink, IsNewLink, HasEnd, HasFibre, sound_link, new_link, upper_end, lower_end, link_name, link_fibre, upper_module_there, lower_module_there, link_waves}
+use Rattle.wrp_config.proofs.LinkFacts.{IsSoundLink, IsNewLink, HasEnd, HasFibre, sound_link, new_link, upper_end, lower_end, link_name, link_fibre, upper_module_there, lower_module_there, link_waves, link_agrees}
 use Rattle.wrp_config.proofs.Lists.{IsMadeOf, made_of, map_at, apart_of, none_before, none_passes, found_place, greatest_most}
 use Rattle.wrp_config.proofs.NamesApart.{HasNewNames, names_once, read_differ}
 use Rattle.wrp_config.proofs.Nodes.{IsSoundTable, IsNewNode, sound_table, new_node, node_ranges, name_text, identity_text, identity_read}
@@ -264,6 +264,7 @@ link_fits doc taken l t at link is =
     let up = ap (λ (x : LinkCfg). x.up_nm) is in
     let fibre = ap (λ (x : LinkCfg). x.fibre.bytes) is in
     record {
+      wavelengths = rw (down, up) (link_agrees (context_of doc) t sound);
       upper_module = rw (ap (λ (x : LinkCfg). x.upper_module.bytes) is, down, up) (upper_module_there (context_of doc) t sound);
       lower_module = rw (ap (λ (x : LinkCfg). x.lower_module.bytes) is, down, up) (lower_module_there (context_of doc) t sound);
       fibre = rw (fibre, has.read) (has.at ∙ ap Some (sym (fibre_again link has.fibre

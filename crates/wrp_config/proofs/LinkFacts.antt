@@ -1,5 +1,5 @@
 -- The links of a text whose tables are taken: their ends, their names, and what they take from modules and fibres.
-use Rattle.std.proofs.Common.{◌≡◌, ◌+◌, ◌||◌, ◌&&◌, ◌⊎◌, ℕ, ℤ, pos, List, Bool, true, false, Option, None, Some, map, option_map, take, unsigned_abs, refl, ap, arith, inl, inr}
+use Rattle.std.proofs.Common.{◌≡◌, ◌+◌, ◌||◌, ◌&&◌, ◌⊎◌, ℕ, ℤ, pos, List, Bool, true, false, Option, None, Some, map, option_map, take, unsigned_abs, refl, ap, arith, inl, inr, ◌↔◌, not, sym, ◌∙◌}
 use Rattle.std.proofs.lemmas.Bool.{false≢true, and_parts}
 use Rattle.std.specs.Int.Signed.{le_z}
 use Rattle.std.proofs.lemmas.Int.{ints}
@@ -25,7 +25,7 @@ use Rattle.wrp_caldb.proofs.Kept.{none_parts, or_parts, not_false, if_none}
 use Rattle.wrp_caldb.proofs.KeptNames.{IsText, plain_text, module_text, is_plain, name_read}
 use Rattle.wrp_config.specs.Config.{end_at, name_of}
 use Rattle.wrp_config.specs.Ends.{end_in, end_of_value, text_at}
-use Rattle.wrp_config.specs.Links.{LinkKey, Context, link_keys, upper_key, lower_key, fibre_key, upper_module_key, lower_module_key, down_key, up_key, down_in, up_in, first_in, names_one, names_module, may_be_missing, is_stray, has_link_fault, place_of_link_keys, place_in_link_table}
+use Rattle.wrp_config.specs.Links.{LinkKey, Context, link_keys, upper_key, lower_key, fibre_key, upper_module_key, lower_module_key, down_key, up_key, down_in, up_in, first_in, names_one, names_module, may_be_missing, is_stray, has_link_fault, place_of_link_keys, place_in_link_table, is_any, first_of}
 use Rattle.wrp_config.specs.Keys.{name_key}
 use Rattle.wrp_config.specs.declared.link_rows.Names.TheVariants as na
 use Rattle.wrp_caldb.specs.declared.row.Sort.TheVariants as so
@@ -251,3 +251,59 @@ link_waves file t sound =
       down_wave (get_member (codes "down_nm") t) (row_parts co.Range file t down sound.range.1.1.1.1.1.1.1.0).0,
       up_wave (first_in t) (get_member (codes "up_nm") t) (row_parts co.Range file t up sound.range.1.1.1.1.1.1.1.1.0).0,
     )
+
+-- one wavelength is that of any exactly where the other is
+is_zero : (z : ℤ) → unsigned_abs z ≡ 0 → int_eq z (pos 0) ≡ true
+is_zero z e = (Decides-int_eq z (pos 0)).1 (omega (arith, ints, e))
+
+zero_is : (z : ℤ) → int_eq z (pos 0) ≡ true → unsigned_abs z ≡ 0
+zero_is z e = ap unsigned_abs ((Decides-int_eq z (pos 0)).0 e)
+
+not_true : (b : Bool) → not b ≡ true → b ≡ false
+not_true true e = cc e
+not_true false e = refl
+
+agree_if : (z y : ℤ) (any : Bool) → int_eq z (pos 0) ≡ any → (if any then int_eq y (pos 0) else not (int_eq y (pos 0))) ≡ true
+    → (unsigned_abs z ≡ 0) ↔ (unsigned_abs y ≡ 0)
+agree_if z y true is e = (λ h. zero_is y e, λ h. zero_is z is)
+agree_if z y false is e =
+    let other = not_true (int_eq y (pos 0)) e in (
+      λ h. absurd (false≢true (sym is ∙ is_zero z h)),
+      λ h. absurd (false≢true (sym other ∙ is_zero y h)),
+    )
+
+agree : (a b : Option ℤ) → is_wavelength a ≡ true → is_wavelength b ≡ true → fits_first a b ≡ true
+    → (unsigned_abs (unwrap_or a (pos 0)) ≡ 0) ↔ (unsigned_abs (unwrap_or b (pos 0)) ≡ 0)
+agree None b wa wb e = absurd (false≢true wa)
+agree (Some z) None wa wb e = absurd (false≢true wb)
+agree (Some z) (Some y) wa wb e = agree_if z y (int_eq z (pos 0)) refl e
+
+any_fits : (a : Option ℤ) → is_wavelength a ≡ true → is_any a ≡ true → fits_first a (Some (pos 0)) ≡ true
+any_fits None wa e = absurd (false≢true wa)
+any_fits (Some z) wa e = rw e refl
+
+waves_agree : (names : Data → Bool) (down up : Option Data) → has_fault co.Range down_key down ≡ false
+    → has_fault co.Range (up_key (first_of down)) up ≡ false → is_stray co.Range (is_any (first_of down)) names up ≡ false
+    → (unsigned_abs (unwrap_or (number_in down_key down) (pos 0)) ≡ 0) ↔ (unsigned_abs (unwrap_or (number_in (up_key (first_of down)) up) (pos 0)) ≡ 0)
+waves_agree names None None d u s = (λ h. refl, λ h. refl)
+waves_agree names None (Some e) d u s =
+    let fits = not_false (is_wavelength (as_integer e) && fits_first (Some (pos 0)) (as_integer e)) u in
+    let parts = and_parts (is_wavelength (as_integer e)) (fits_first (Some (pos 0)) (as_integer e)) fits in
+    rw fits (agree (Some (pos 0)) (as_integer e) refl parts.0 parts.1)
+waves_agree names (Some x) None d u s =
+    let fits = not_false (is_wavelength (as_integer x)) d in
+    let any = not_false (is_any (as_integer x)) s in
+    rw fits (agree (as_integer x) (Some (pos 0)) fits refl (any_fits (as_integer x) fits any))
+waves_agree names (Some x) (Some e) d u s =
+    let first = not_false (is_wavelength (as_integer x)) d in
+    let fits = not_false (is_wavelength (as_integer e) && fits_first (as_integer x) (as_integer e)) u in
+    let parts = and_parts (is_wavelength (as_integer e)) (fits_first (as_integer x) (as_integer e)) fits in
+    rw (first, fits) (agree (as_integer x) (as_integer e) first parts.0 parts.1)
+
+pub link_agrees : (file : Context) (t : Members) → IsSoundLink file t → (down_in t ≡ 0) ↔ (up_in t ≡ 0)
+link_agrees file t sound =
+    let down : LinkKey = record { key = down_key; names = na.Nothing } in
+    let up : LinkKey = record { key = up_key (first_in t); names = na.Up } in
+    let d = (row_parts co.Range file t down sound.range.1.1.1.1.1.1.1.0).0 in
+    let u = row_parts co.Range file t up sound.range.1.1.1.1.1.1.1.1.0 in
+    waves_agree (names_one file t na.Up) (get_member (codes "down_nm") t) (get_member (codes "up_nm") t) d u.0 u.1

@@ -1,6 +1,6 @@
 -- What an accepted network keeps: the ranges of its numbers, its tree, the inequalities, its names, and what it takes from
 -- its modules and fibres (this project's profile).
-use Rattle.std.specs.Prelude.{ℕ, ℤ, ◌≡◌, ◌≢◌, ◌+◌, ◌≤◌, max, map, fold, unsigned_abs, true, List, Option, None, Some, IsSome, IfSome, slice_get, ◌^◌}
+use Rattle.std.specs.Prelude.{ℕ, ℤ, ◌≡◌, ◌≢◌, ◌↔◌, ◌+◌, ◌≤◌, max, map, fold, unsigned_abs, true, List, Option, None, Some, IsSome, IfSome, slice_get, ◌^◌}
 use Rattle.std.specs.List.{flat_map}
 use Rattle.wrp_base.specs.declared.configuration.NetCfg.{NetCfg}
 use Rattle.wrp_base.specs.declared.network.NodeCfg.{NodeCfg}
@@ -87,9 +87,10 @@ abbrev pub law_error : Option TableAt → ℕ
 law_error None = 1
 law_error (Some table) = table.err + 1
 
--- the modules are listed for the pairs of their ends, of which the upper one sends on the way down, the fibre is listed, and
--- the link's numbers are theirs
+-- both wavelengths are those of any or neither is, the modules are listed for the pairs of their ends, of which the upper
+-- one sends on the way down, the fibre is listed, and the link's numbers are theirs
 pub record FitsDatabase (db : Database) (link : LinkCfg) : Type 0 where
+  pub wavelengths : (link.down_nm ≡ 0) ↔ (link.up_nm ≡ 0)
   pub upper_module : IsSome (module_at db link.upper_module.bytes link.down_nm link.up_nm)
   pub lower_module : IsSome (module_at db link.lower_module.bytes link.up_nm link.down_nm)
   pub fibre : fibre_at db link.fibre.bytes ≡ Some (record { kappa = link.kappa; err = link.e_asym })
@@ -100,7 +101,7 @@ pub record FitsDatabase (db : Database) (link : LinkCfg) : Type 0 where
 abbrev pub all_delays : Database → List Module
 all_delays db = map (λ entry. entry.delays) (flat_map (λ m. m.entries) db.modules)
 
--- all that the reader of a network file tests
+-- all that the reader of a network file tests of the network, and the ranges and names of its modules and fibres
 pub record IsAccepted (cfg : NetCfg) (db : Database) : Type 0 where
   pub ranges : HasRanges cfg
   pub ports : NamesNoPortTwice cfg

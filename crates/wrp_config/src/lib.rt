@@ -18,7 +18,6 @@ mod tree;
 
 pub use laws::{child_is_deeper, modules_are_listed, one_grandmaster, port_is_of_one_link};
 pub use network::Network;
-pub use tree::TreeFault;
 
 #[cfg(test)]
 mod tests;
