@@ -98,12 +98,6 @@ count_lines node (count ∷ counts) = count_line node count.0 count.1 ++ count_l
 abbrev pub lines_of_records : Node → List Record → List ℕ
 lines_of_records node records = written_by node (reverse records)
 
--- the text that is due for a list of records at the end of the input: their lines, and then those
--- of the counters that are not 0
-abbrev pub text_of : Node → List Record → List ℕ
-text_of node records =
-    lines_of_records node records ++ count_lines node (nonzero_counts (counters_after node (reverse records)))
-
 -- the only line where the words are no command
 abbrev pub usage_line : List ℕ
 usage_line =
@@ -117,6 +111,6 @@ bad_network_line = codes "bad-network\n"
 abbrev pub bad_trace_line : ℕ → List ℕ
 bad_trace_line number = codes "bad-trace " ++ decimal number ++ 10 ∷ []
 
--- the only line where the whole input is too large
+-- the only line where the network text is too large
 abbrev pub too_large_line : List ℕ
 too_large_line = codes "too-large 0\n"
