@@ -7,7 +7,7 @@ use Rattle.wrp_run.specs.declared.machine.Refusal.{Refusal}
 use Rattle.wrp_run.specs.declared.machine.Refusal.TheVariants as refusals
 use Rattle.wrp_run.specs.declared.status.Status.{Status}
 use Rattle.wrp_run.specs.declared.status.Status.TheVariants.{Done, Usage, BadNetwork, BadTrace, Broken, ReadFault, WriteFault, LinkFault, TooLarge, OutOfMemory}
-use Rattle.wrp_run.specs.After.{DoneAt, DueAt, After}
+use Rattle.wrp_run.specs.After.{DoneAt, DueAt, After, Closing}
 use Rattle.wrp_run.specs.Engine.{Finishes}
 use Rattle.wrp_run.specs.Lines.{lines_of, onto, content_of, HasNoFeed, IsWhole}
 use Rattle.wrp_run.specs.Meaning.{Meaning}
@@ -172,4 +172,19 @@ at_end_answered M rest given first last held now then_ r written text status tak
           (given, written ++ take part.1.0 text, taken, Appends-trans held now then_ written (take part.1.0 text) wrote part.1.1,
             subst (λ (s : Status). After M (rest ++ given) r s (written ++ take part.1.0 text)) (sym part.0)
             (Done, written ++ text, length written + part.1.0, due, take_two written text part.1.0))
+    ]
+
+-- where what closes the records is written, or a part of it, or there is no memory for it
+pub closed : (M : Meaning) (T : List (List ℕ) → Type 0) (C : List (List ℕ) → List ℕ → Type 0) (rest given written : List ℕ) (first last held mid now : Option (List ℕ)) (r : ReaderAt) (status : Status)
+    → Consumes first last given → Appends held mid written → IsLast r × Handles M.accepts (lines_of (rest ++ given)) written → T (map content_of (lines_of (rest ++ given)))
+    → ((lines : List (List ℕ)) (text : List ℕ) → C lines text → M.closes lines text) → Closing T C status mid now
+    → (g : List ℕ) × (octets : List ℕ) × Consumes first last g × Appends held now octets × After M (rest ++ g) r status octets
+closed M T C rest given written first last held mid now r status taken wrote stands has means how =
+    elim how [
+      | inl (memory, same) ↦
+          (given, written, taken, subst (λ (k : Option (List ℕ)). Appends held k written) (sym same) wrote,
+            subst (λ (s : Status). After M (rest ++ given) r s written) (sym memory) (all_first M (rest ++ given) r written stands))
+      | inr (text, closes, ends) ↦
+          at_end_answered M rest given first last held mid now r written text status taken wrote
+          (at_end_done M (rest ++ given) r written text stands (means (map content_of (lines_of (rest ++ given))) text (closes (map content_of (lines_of (rest ++ given))) has))) ends
     ]

@@ -65,10 +65,10 @@ fn close<K: Sink>(alloc: Global, replayed: &ReplayedNode, sink: &mut K) -> Statu
     ensures kept { (result ≡ Status.WriteFault → ⊥) → K.faults sink.new ≡ K.faults sink.old }
 {
     let mut text = Vec::new(alloc);
-    if replayed.close(alloc, &mut text).is_err() {
-        return Status::OutOfMemory;
+    match replayed.close(alloc, &mut text) {
+        Ok(()) => answer(sink, Status::Done, &text),
+        Err(_) => Status::OutOfMemory,
     }
-    answer(sink, Status::Done, &text)
 }
 
 // Replays the records that a reader gives.

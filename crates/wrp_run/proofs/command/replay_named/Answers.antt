@@ -6,6 +6,8 @@ use Rattle.wrp_run.specs.Answer.{Asks, AsksNone, IsReplay}
 use Rattle.wrp_run.specs.Ends.{Run}
 use Rattle.wrp_run.specs.Input.{NetworkOutcome}
 use Rattle.wrp_run.specs.Replays.{IsAccepted, meaning_of, name_of}
+use Rattle.wrp_run.specs.Texts.{bad_network_line}
+use Rattle.wrp_run.specs.TwoNodes.{two_nodes}
 use Rattle.wrp_run.specs.Words.{texts_of}
 use Rattle.wrp_run.proofs.Asking.{TookNetwork, TookRecords, size_ends, bad_network_ends, no_node_ends, network_fails, memory_ends, records_end}
 use Rattle.wrp_run.proofs.command.replay_named.Goals as goal
@@ -44,6 +46,20 @@ returns-in-Memory-clause-ends g c =
       write_faults = g.K.Sink.faults c.args.sink.now; write_faults_now = g.K.Sink.faults c.args.sink.now;
     } in
     memory_ends run (Appends-nil _)
+
+pub returns-then-not-is_two_nodes-clause-ends : goal.returns-then-not-is_two_nodes-clause-ends
+returns-then-not-is_two_nodes-clause-ends g c =
+    let run : Run = record {
+      words = texts_of c.args.words.now; input = g.S.Source.left c.args.source.now; left = g.S.Source.left c.take_network-network.new.source;
+      held = g.K.Sink.held c.args.sink.now; now = g.K.Sink.held c.answer-then-not-is_two_nodes.new.sink;
+      read_faults = g.S.Source.faults c.args.source.now; read_faults_now = g.S.Source.faults c.take_network-network.new.source;
+      write_faults = g.K.Sink.faults c.args.sink.now; write_faults_now = g.K.Sink.faults c.answer-then-not-is_two_nodes.new.sink;
+    } in
+    let taken = c.take_network-network.ensures.taken in
+    let whole = subst (λ (e : End). NetworkOutcome e taken.0 c.take_network-network.result.text.items c.take_network-network.new.reader) c.in-Whole.is taken.2 in
+    let bad : c.take_network-network.result.text.items ≡ two_nodes → ⊥ = search rules in
+    bad_network_ends run _ _ taken.0 c.take_network-network.result.text.items bad_network_line c.take_network-network.new.reader (c.args.name.now, c.requires) taken.1 whole.0 whole.1 c.take_network-network.ensures.at_end
+    (bad, refl) (rw c.as_bytes-then-not-is_two_nodes.ensures.value at c.answer-then-not-is_two_nodes.ensures.how) c.answer-then-not-is_two_nodes.ensures.rose
 
 pub returns-in_default-clause-ends : goal.returns-in_default-clause-ends
 returns-in_default-clause-ends g c =
