@@ -157,15 +157,31 @@ refused_past words replayed refusal network given text octets r s divided asks a
             | inr end ↦ lines_of-open at.line end.some end.plain
           ] in
           let lines_are : behind_separator (lines_of (front ++ record_octets)) ≡ at.lines ++ at.line ∷ [] =
-          parts.1 ∙ lines_behind at.lines at.line at.stands.whole ∙ ap (λ ls. at.lines ++ ls) one in
-          (front ++ record_octets, s.rest, all, at.stands.piece, record {
-            replayed = replayed; octets = octets; asks = asks_told words text (network_text (front ++ record_octets)) replayed parts.0 asks;
-            refused = record {
-              before = at.lines; line = at.line; behind = []; written = at.before; last = at.last; divided = lines_are;
-              handled = at.handled; within = at.within; number = at.number; refused = at.refused; is = at.is;
-            };
-            last = refl;
-          })
+          parts.1 ∙ lines_behind at.lines at.line at.stands.whole ∙ ap (λ ls. at.lines ++ ls) one in (
+            front ++ record_octets,
+            s.rest,
+            all,
+            at.stands.piece,
+            record {
+              replayed = replayed;
+              octets = octets;
+              asks = asks_told words text (network_text (front ++ record_octets)) replayed parts.0 asks;
+              refused = record {
+                before = at.lines;
+                line = at.line;
+                behind = [];
+                written = at.before;
+                last = at.last;
+                divided = lines_are;
+                handled = at.handled;
+                within = at.within;
+                number = at.number;
+                refused = at.refused;
+                is = at.is;
+              };
+              last = refl;
+            },
+          )
       | inr (end, same, none) ↦
           let nothing : [] ≡ concat at.lines ++ (at.line ++ s.rest) = sym (empty end.ended end.none) ∙ at.stands.all in
           let some : 0 < length at.line = next_some at.line s at.next in
@@ -192,9 +208,13 @@ past_told run middle text r s replayed refusal given octets net taken at =
         λ ended none. ap (λ l. l ++ given) none ∙ none_of_two given left (sym (rest_at_end ended) ∙ two) in
         let found = refused_past run.words replayed refusal net.network given text octets r s net.divided net.asks at empty in
         record {
-          front = found.0; past = found.1; left = left;
+          front = found.0;
+          past = found.1;
+          left = left;
           all = one ∙ ap (λ l. net.network ++ l) two ∙ sym (append_assoc net.network given left) ∙ ap (λ l. l ++ left) found.2 ∙ append_assoc found.0 found.1 left;
-          now = sym ends; piece = found.3; refused = found.4;
+          now = sym ends;
+          piece = found.3;
+          refused = found.4;
         }
 
 -- where the source failed behind the network text
@@ -203,9 +223,15 @@ cut_told : (words : List (List ℕ)) (network given text octets : List ℕ) (r :
 cut_told words network given text octets r replayed divided asks goes cut =
     elim divided [
       | inl (front, all, divides) ↦ record {
-          front = front; back = r.rest ++ given; text = text; replayed = replayed;
-          all = ap (λ l. l ++ given) all ∙ append_assoc front r.rest given; divides = divides; asks = asks; handled = cut;
-        }
+        front = front;
+        back = r.rest ++ given;
+        text = text;
+        replayed = replayed;
+        all = ap (λ l. l ++ given) all ∙ append_assoc front r.rest given;
+        divides = divides;
+        asks = asks;
+        handled = cut;
+      }
       | inr (end, same, none) ↦ absurd (goes end.ended)
     ]
 
@@ -216,14 +242,20 @@ pub records_end : (run : Run) (middle : Option (List ℕ)) (text : List ℕ) (r 
     → (status ≡ Broken → ⊥) → Ends run status
 records_end run middle text r s replayed Done net at done goes reads writes unbroken =
     ((at.octets, at.wrote, answered run.words run.input middle run.left run.held run.now text r s replayed Done net at refl), done refl)
-records_end run middle text r s replayed BadTrace net at done goes reads writes unbroken =
-    ((at.octets, at.wrote, answered run.words run.input middle run.left run.held run.now text r s replayed BadTrace net at refl),
-      past_told run middle text r s replayed refusals.BadTrace at.given at.octets net at.taken at.stands)
+records_end run middle text r s replayed BadTrace net at done goes reads writes unbroken = (
+  (at.octets, at.wrote, answered run.words run.input middle run.left run.held run.now text r s replayed BadTrace net at refl),
+  past_told run middle text r s replayed refusals.BadTrace at.given at.octets net at.taken at.stands,
+)
 records_end run middle text r s replayed TooLarge net at done goes reads writes unbroken =
     (at.octets, at.wrote, answered run.words run.input middle run.left run.held run.now text r s replayed TooLarge net at refl)
-records_end run middle text r s replayed ReadFault net at done goes reads writes unbroken =
-    (reads refl, net.network ++ at.given, at.octets, Consumes-trans run.input middle run.left net.network at.given net.taken at.taken, at.wrote,
-      ((name_of replayed, net.asks.words_are), inr (cut_told run.words net.network at.given text at.octets r replayed net.divided net.asks (goes refl) at.stands)))
+records_end run middle text r s replayed ReadFault net at done goes reads writes unbroken = (
+  reads refl,
+  net.network ++ at.given,
+  at.octets,
+  Consumes-trans run.input middle run.left net.network at.given net.taken at.taken,
+  at.wrote,
+  ((name_of replayed, net.asks.words_are), inr (cut_told run.words net.network at.given text at.octets r replayed net.divided net.asks (goes refl) at.stands)),
+)
 records_end run middle text r s replayed WriteFault net at done goes reads writes unbroken =
     (writes refl, at.octets, at.wrote, parts run.words run.input middle run.left run.held run.now text r s replayed net at)
 records_end run middle text r s replayed OutOfMemory net at done goes reads writes unbroken =

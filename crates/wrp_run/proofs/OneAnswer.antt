@@ -1,5 +1,5 @@
 -- For words and an input one status and one text are due, and no others.
-use Rattle.std.proofs.Common.{true, false, ◌≡◌, ◌⊎◌, inl, inr, ℕ, ◌<◌, ◌≤◌, Option, None, Some, Result, Ok, Err, List, [], ◌∷◌, ◌++◌, length, reverse, refl, sym, ap, ◌∙◌, subst, arith, codes}
+use Rattle.std.proofs.Common.{true, false, ◌≡◌, ◌⊎◌, inl, inr, ℕ, ◌<◌, ◌≤◌, Option, None, Some, IfSome, List, [], ◌∷◌, ◌++◌, length, reverse, refl, sym, ap, ◌∙◌, subst, arith, codes}
 use Rattle.std.specs.Io.KnownBytes.{Appends}
 use Rattle.wrp_data.specs.Counters.{nonzero_counts}
 use Rattle.wrp_run.specs.declared.machine.Refusal.{Refusal}
@@ -158,11 +158,14 @@ Given run status input = (octets : List ℕ) × Wrote run octets × Answer run.w
 
 given_of : (run : Run) (status : Status) (input : List ℕ) → run.input ≡ Some input → Ends run status → is_answer status ≡ true → Given run status input
 given_of run Done input told ends is = (ends.0.0, ends.0.1, subst (λ (i : Option (List ℕ)). IfSome i (λ input. Answer run.words input Done ends.0.0)) told ends.0.2)
-given_of run Usage input told ends is =
-    (usage_line, ends.0, elim ends.1 [
-      | inl none ↦ (inl none, refl)
-      | inr some ↦ (inr (subst (λ (i : Option (List ℕ)). IfSome i (λ input. AsksNone run.words (network_text input))) told some.1), refl)
-    ])
+given_of run Usage input told ends is = (
+  usage_line,
+  ends.0,
+  elim ends.1 [
+    | inl none ↦ (inl none, refl)
+    | inr some ↦ (inr (subst (λ (i : Option (List ℕ)). IfSome i (λ input. AsksNone run.words (network_text input))) told some.1), refl)
+  ],
+)
 given_of run BadNetwork input told ends is = (ends.0, ends.1, subst (λ (i : Option (List ℕ)). IfSome i (λ input. Answer run.words input BadNetwork ends.0)) told ends.2)
 given_of run BadTrace input told ends is = (ends.0.0, ends.0.1, subst (λ (i : Option (List ℕ)). IfSome i (λ input. Answer run.words input BadTrace ends.0.0)) told ends.0.2)
 given_of run TooLarge input told ends is = (ends.0, ends.1, subst (λ (i : Option (List ℕ)). IfSome i (λ input. Answer run.words input TooLarge ends.0)) told ends.2)

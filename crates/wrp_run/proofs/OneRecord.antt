@@ -93,4 +93,3 @@ not_all node [] behind refused [] none are = are
 not_all node [] behind refused (x ∷ records) none are = none x are.0
 not_all node (line ∷ before) behind refused [] none are = are
 not_all node (line ∷ before) behind refused (x ∷ records) none are = not_all node before behind refused records none are.1
-

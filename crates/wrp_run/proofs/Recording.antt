@@ -36,10 +36,12 @@ goes_on held now lines line before after found is stays stands writes taken acce
     let same : accepted.0 ≡ records = one_list held.node lines accepted.0 records accepted.1 taken.1 in
     let wrote : before ≡ written_by held.node (reverse records) = accepted.2 ∙ ap (λ r. written_by held.node (reverse r)) same in
     let both : before ++ after ≡ written_by held.node (reverse records) ++ record_lines_of held.node (reverse records) found =
-    ap (λ t. t ++ after) wrote ∙ ap (λ t. written_by held.node (reverse records) ++ t) (writes (reverse records) taken.2) in
-    (
-      (records ++ found ∷ [], subst (λ (n : Node). AreRecords n (lines ++ line ∷ []) (records ++ found ∷ [])) (sym stays) are,
-        subst (StandsFor now) (sym turned) (stands (reverse records) taken.2)),
+    ap (λ t. t ++ after) wrote ∙ ap (λ t. written_by held.node (reverse records) ++ t) (writes (reverse records) taken.2) in (
+      (
+        records ++ found ∷ [],
+        subst (λ (n : Node). AreRecords n (lines ++ line ∷ []) (records ++ found ∷ [])) (sym stays) are,
+        subst (StandsFor now) (sym turned) (stands (reverse records) taken.2),
+      ),
       (records ++ found ∷ [], are, both ∙ ap (written_by held.node) (sym turned)),
     )
 

@@ -32,11 +32,19 @@ size_grows (octet ∷ cut) tail plain =
 pub refused_told : (M : Meaning) (refusal : Refusal) (octets : List ℕ) (r : ReaderAt) (text : List ℕ) → RefusedAt M.accepts M.refuses refusal octets r text
     → (more : List ℕ) → (r.ended ≡ true → more ≡ []) → IsRefused M refusal (lines_of (octets ++ more)) text
 refused_told M refusal octets r text at more goes = record {
-  before = at.lines; line = at.line; behind = lines_of (r.rest ++ more); written = at.before; last = at.last;
+  before = at.lines;
+  line = at.line;
+  behind = lines_of (r.rest ++ more);
+  written = at.before;
+  last = at.last;
   divided = ap (λ l. lines_of (l ++ more)) at.stands.all ∙ ap lines_of (append_assoc (concat at.lines) (at.line ++ r.rest) more)
       ∙ ap (λ l. lines_of (concat at.lines ++ l)) (append_assoc at.line r.rest more)
       ∙ lines_behind at.lines (at.line ++ (r.rest ++ more)) at.stands.whole ∙ ap (λ ls. at.lines ++ ls) (next_line at.line more r at.next goes);
-  handled = at.handled; within = at.within; number = at.number; refused = at.refused; is = at.is;
+  handled = at.handled;
+  within = at.within;
+  number = at.number;
+  refused = at.refused;
+  is = at.is;
 }
 
 -- a line that is too large
@@ -48,17 +56,28 @@ too_large_told M octets r text at more goes =
     ∙ ap (λ l. lines_of (concat at.lines ++ l)) (append_assoc at.line r.rest more) ∙ lines_behind at.lines (at.line ++ (r.rest ++ more)) at.whole in
     elim at.next [
       | inl next ↦ record {
-          before = at.lines; line = at.line; behind = lines_of (r.rest ++ more); written = at.before;
-          divided = front ∙ ap (λ ls. at.lines ++ ls) (next_line at.line more r next goes); handled = at.handled; large = at.large; is = at.is;
-        }
+        before = at.lines;
+        line = at.line;
+        behind = lines_of (r.rest ++ more);
+        written = at.before;
+        divided = front ∙ ap (λ ls. at.lines ++ ls) (next_line at.line more r next goes);
+        handled = at.handled;
+        large = at.large;
+        is = at.is;
+      }
       | inr cut ↦
           let on = cut_line at.line (r.rest ++ more) cut.plain at.some in
           let grows : length at.line ≤ size_of (at.line ++ on.0) = size_grows at.line on.0 cut.plain in
           let same : size_of at.line ≡ length at.line = size_plain at.line cut.plain in
           record {
-            before = at.lines; line = at.line ++ on.0; behind = on.1; written = at.before;
-            divided = front ∙ ap (λ ls. at.lines ++ ls) on.2; handled = at.handled;
-            large = elim at.large [ inl long ↦ inl (omega (arith, same, grows, long)) | inr last ↦ inr last ]; is = at.is;
+            before = at.lines;
+            line = at.line ++ on.0;
+            behind = on.1;
+            written = at.before;
+            divided = front ∙ ap (λ ls. at.lines ++ ls) on.2;
+            handled = at.handled;
+            large = elim at.large [ inl long ↦ inl (omega (arith, same, grows, long)) | inr last ↦ inr last ];
+            is = at.is;
           }
     ]
 
@@ -68,15 +87,17 @@ pub first_told : (M : Meaning) (octets : List ℕ) (r : ReaderAt) (text : List �
 first_told M octets r text at more goes =
     elim at.first [
       | inl whole ↦ record {
-          front = at.lines; behind = lines_of (at.more ++ more);
-          divided = ap (λ l. lines_of (l ++ more)) at.all ∙ ap lines_of (append_assoc (concat at.lines) at.more more) ∙ lines_behind at.lines (at.more ++ more) whole;
-          handled = at.handled;
-        }
+        front = at.lines;
+        behind = lines_of (at.more ++ more);
+        divided = ap (λ l. lines_of (l ++ more)) at.all ∙ ap lines_of (append_assoc (concat at.lines) at.more more) ∙ lines_behind at.lines (at.more ++ more) whole;
+        handled = at.handled;
+      }
       | inr end ↦ record {
-          front = at.lines; behind = [];
-          divided = ap lines_of (ap (λ l. octets ++ l) (goes end.0) ∙ append-nil octets) ∙ end.2 ∙ sym (append-nil at.lines);
-          handled = at.handled;
-        }
+        front = at.lines;
+        behind = [];
+        divided = ap lines_of (ap (λ l. octets ++ l) (goes end.0) ∙ append-nil octets) ∙ end.2 ∙ sym (append-nil at.lines);
+        handled = at.handled;
+      }
     ]
 
 -- all lines to the end
@@ -148,15 +169,19 @@ all_lines (octet ∷ octets) =
 -- all handled lines are some first ones
 pub all_first : (M : Meaning) (octets : List ℕ) (r : ReaderAt) (text : List ℕ) → IsLast r × Handles M.accepts (lines_of octets) text → FirstHandled M.accepts octets r text
 all_first M octets r text at = record {
-  lines = lines_of octets; more = []; all = sym (append-nil (concat (lines_of octets)) ∙ all_lines octets);
-  first = inr (at.0.ended, refl, refl); handled = at.1;
+  lines = lines_of octets;
+  more = [];
+  all = sym (append-nil (concat (lines_of octets)) ∙ all_lines octets);
+  first = inr (at.0.ended, refl, refl);
+  handled = at.1;
 }
 
 -- at the end of the input
 pub at_end_done : (M : Meaning) (octets : List ℕ) (r : ReaderAt) (written last : List ℕ) → IsLast r × Handles M.accepts (lines_of octets) written
     → M.closes (map content_of (lines_of octets)) last → DoneAt M octets r (written ++ last)
 at_end_done M octets r written last at closed = record {
-  end = at.0; wholly = record { written = written; last = last; handled = at.1; closed = closed; is = refl };
+  end = at.0;
+  wholly = record { written = written; last = last; handled = at.1; closed = closed; is = refl };
 }
 
 -- where the last lines are written, or a part of them
@@ -165,13 +190,21 @@ pub at_end_answered : (M : Meaning) (rest given : List ℕ) (first last held now
     → (g : List ℕ) × (octets : List ℕ) × Consumes first last g × Appends held then_ octets × After M (rest ++ g) r status octets
 at_end_answered M rest given first last held now then_ r written text status taken wrote due how =
     elim how [
-      | inl all ↦
-          (given, written ++ text, taken, Appends-trans held now then_ written text wrote all.1,
-            subst (λ (s : Status). After M (rest ++ given) r s (written ++ text)) (sym all.0) due)
-      | inr part ↦
-          (given, written ++ take part.1.0 text, taken, Appends-trans held now then_ written (take part.1.0 text) wrote part.1.1,
-            subst (λ (s : Status). After M (rest ++ given) r s (written ++ take part.1.0 text)) (sym part.0)
-            (Done, written ++ text, length written + part.1.0, due, take_two written text part.1.0))
+      | inl all ↦ (
+        given,
+        written ++ text,
+        taken,
+        Appends-trans held now then_ written text wrote all.1,
+        subst (λ (s : Status). After M (rest ++ given) r s (written ++ text)) (sym all.0) due,
+      )
+      | inr part ↦ (
+        given,
+        written ++ take part.1.0 text,
+        taken,
+        Appends-trans held now then_ written (take part.1.0 text) wrote part.1.1,
+        subst (λ (s : Status). After M (rest ++ given) r s (written ++ take part.1.0 text)) (sym part.0)
+            (Done, written ++ text, length written + part.1.0, due, take_two written text part.1.0),
+      )
     ]
 
 -- where what closes the records is written, or a part of it, or there is no memory for it
@@ -181,9 +214,13 @@ pub closed : (M : Meaning) (T : List (List ℕ) → Type 0) (C : List (List ℕ)
     → (g : List ℕ) × (octets : List ℕ) × Consumes first last g × Appends held now octets × After M (rest ++ g) r status octets
 closed M T C rest given written first last held mid now r status taken wrote stands has means how =
     elim how [
-      | inl (memory, same) ↦
-          (given, written, taken, subst (λ (k : Option (List ℕ)). Appends held k written) (sym same) wrote,
-            subst (λ (s : Status). After M (rest ++ given) r s written) (sym memory) (all_first M (rest ++ given) r written stands))
+      | inl (memory, same) ↦ (
+        given,
+        written,
+        taken,
+        subst (λ (k : Option (List ℕ)). Appends held k written) (sym same) wrote,
+        subst (λ (s : Status). After M (rest ++ given) r s written) (sym memory) (all_first M (rest ++ given) r written stands),
+      )
       | inr (text, closes, ends) ↦
           at_end_answered M rest given first last held mid now r written text status taken wrote
           (at_end_done M (rest ++ given) r written text stands (means (map content_of (lines_of (rest ++ given))) text (closes (map content_of (lines_of (rest ++ given))) has))) ends

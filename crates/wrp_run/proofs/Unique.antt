@@ -59,9 +59,9 @@ places (l ∷ p) (k ∷ q) b c x y e =
     elim (places p q b c x y tail) [
       | inl (same, line) ↦ inl (ap₂ (λ h t. h ∷ t) head same, line)
       | inr other ↦ elim other [
-          | inl (m, is) ↦ inr (inl (m, ap₂ (λ h t. h ∷ t) (sym head) is))
-          | inr (m, is) ↦ inr (inr (m, ap₂ (λ h t. h ∷ t) head is))
-        ]
+        | inl (m, is) ↦ inr (inl (m, ap₂ (λ h t. h ∷ t) (sym head) is))
+        | inr (m, is) ↦ inr (inr (m, ap₂ (λ h t. h ∷ t) head is))
+      ]
     ]
 
 -- a line among others has what they all have
@@ -108,23 +108,23 @@ pub one_records_answer : (M : Meaning) → IsExact M
 one_records_answer M exact lines a b t u f g =
     elim (answer_is M lines a t f) [
       | inl (is, done) ↦ elim (answer_is M lines b u g) [
-          | inl (is', done') ↦ (is ∙ sym is', done.is ∙ ap₂ (λ k l. k ++ l) (exact.one_text _ done.written done'.written done.handled.accepted done'.handled.accepted) (exact.one_end _ done.last done'.last done.closed done'.closed) ∙ sym done'.is)
-          | inr stop ↦ absurd (never_inside M exact stop.before stop.behind stop.line done.written stop.last b (subst (λ (ls : List (List ℕ)). Handles M.accepts ls done.written) stop.divided done.handled) stop.stops)
-        ]
+        | inl (is', done') ↦ (is ∙ sym is', done.is ∙ ap₂ (λ k l. k ++ l) (exact.one_text _ done.written done'.written done.handled.accepted done'.handled.accepted) (exact.one_end _ done.last done'.last done.closed done'.closed) ∙ sym done'.is)
+        | inr stop ↦ absurd (never_inside M exact stop.before stop.behind stop.line done.written stop.last b (subst (λ (ls : List (List ℕ)). Handles M.accepts ls done.written) stop.divided done.handled) stop.stops)
+      ]
       | inr stop ↦ elim (answer_is M lines b u g) [
-          | inl (is', done) ↦ absurd (never_inside M exact stop.before stop.behind stop.line done.written stop.last a (subst (λ (ls : List (List ℕ)). Handles M.accepts ls done.written) stop.divided done.handled) stop.stops)
-          | inr stop' ↦
-              elim (places stop.before stop'.before stop.behind stop'.behind stop.line stop'.line (sym stop.divided ∙ stop'.divided)) [
-                | inl (same, line) ↦
-                    let moved : Stops M stop'.before stop'.line a stop.last =
-                    subst (λ (x : List ℕ). Stops M stop'.before x a stop.last) line (subst (λ (p : List (List ℕ)). Stops M p stop.line a stop.last) same stop.stops) in
-                    let one = one_stop M exact stop'.before stop'.line stop.last stop'.last a b moved stop'.stops in
-                    let text : stop.written ≡ stop'.written = exact.one_text _ stop.written stop'.written (subst (λ (p : List (List ℕ)). M.accepts (map content_of p) stop.written) same stop.handled.accepted) stop'.handled.accepted in
-                    (one.0, stop.is ∙ ap₂ (λ k l. k ++ l) text one.1 ∙ sym stop'.is)
-                | inr other ↦ elim other [
-                    | inl (m, is) ↦ absurd (never_inside M exact stop.before m stop.line stop'.written stop.last a (subst (λ (p : List (List ℕ)). Handles M.accepts p stop'.written) is stop'.handled) stop.stops)
-                    | inr (m, is) ↦ absurd (never_inside M exact stop'.before m stop'.line stop.written stop'.last b (subst (λ (p : List (List ℕ)). Handles M.accepts p stop.written) is stop.handled) stop'.stops)
-                  ]
+        | inl (is', done) ↦ absurd (never_inside M exact stop.before stop.behind stop.line done.written stop.last a (subst (λ (ls : List (List ℕ)). Handles M.accepts ls done.written) stop.divided done.handled) stop.stops)
+        | inr stop' ↦
+            elim (places stop.before stop'.before stop.behind stop'.behind stop.line stop'.line (sym stop.divided ∙ stop'.divided)) [
+              | inl (same, line) ↦
+                  let moved : Stops M stop'.before stop'.line a stop.last =
+                  subst (λ (x : List ℕ). Stops M stop'.before x a stop.last) line (subst (λ (p : List (List ℕ)). Stops M p stop.line a stop.last) same stop.stops) in
+                  let one = one_stop M exact stop'.before stop'.line stop.last stop'.last a b moved stop'.stops in
+                  let text : stop.written ≡ stop'.written = exact.one_text _ stop.written stop'.written (subst (λ (p : List (List ℕ)). M.accepts (map content_of p) stop.written) same stop.handled.accepted) stop'.handled.accepted in
+                  (one.0, stop.is ∙ ap₂ (λ k l. k ++ l) text one.1 ∙ sym stop'.is)
+              | inr other ↦ elim other [
+                | inl (m, is) ↦ absurd (never_inside M exact stop.before m stop.line stop'.written stop.last a (subst (λ (p : List (List ℕ)). Handles M.accepts p stop'.written) is stop'.handled) stop.stops)
+                | inr (m, is) ↦ absurd (never_inside M exact stop'.before m stop'.line stop.written stop'.last b (subst (λ (p : List (List ℕ)). Handles M.accepts p stop.written) is stop.handled) stop'.stops)
               ]
-        ]
+            ]
+      ]
     ]

@@ -71,39 +71,31 @@ pub record TakesPiece (run : Run) (refusal : Refusal) (input : List ℕ) : Type 
 
 -- how a run ends
 abbrev pub Ends : Run → Status → Type 0
-
 -- the input was read to its end, and what is due is written
 Ends run Done = Answered run Done × IsAtEnd run.left
-
 -- the usage line stands alone; the words show it, or no node of the network has the name
 Ends run Usage =
     Wrote run usage_line
     × ((IsCommand run.words → ⊥)
     ⊎ (IsCommand run.words × IfSome run.input (λ input. AsksNone run.words (network_text input))))
-
 -- a record is refused: at most one piece behind its line was taken
 Ends run BadTrace =
     Answered run BadTrace × IfSome run.input (TakesPiece run refusals.BadTrace)
-
 -- the source failed: the lines of the whole records among what was taken stand, and no refusal
 -- stands in it
 Ends run ReadFault =
     ReadFailed run × (taken : List ℕ) × (octets : List ℕ)
     × Took run taken × Wrote run octets × CutAnswer run.words taken octets
-
 -- the sink failed: the first octets of what is due stand
 Ends run WriteFault =
     WriteFailed run × (octets : List ℕ) × Wrote run octets
     × IfSome run.input (λ input. PartAnswer run.words input octets)
-
 -- there was no memory: the lines of the first records stand
 Ends run OutOfMemory =
     (octets : List ℕ) × Wrote run octets
     × IfSome run.input (λ input. FirstAnswer run.words input octets)
-
 -- no premise is tried, and no link is used
 Ends run Broken = ⊥
 Ends run LinkFault = ⊥
-
 -- the network or a size is refused, and its line is written behind those of the records before it
 Ends run status = Answered run status

@@ -114,11 +114,15 @@ fn replay_named<S: Source, K: Sink>(
 ) -> Status
     requires { IsReplay (texts_of words.now) name.now }
     ensures ends { Ends (record {
-        words = texts_of words.now;
-        input = S.left source.old; left = S.left source.new;
-        held = K.held sink.old; now = K.held sink.new;
-        read_faults = S.faults source.old; read_faults_now = S.faults source.new;
-        write_faults = K.faults sink.old; write_faults_now = K.faults sink.new;
+      words = texts_of words.now;
+      input = S.left source.old;
+      left = S.left source.new;
+      held = K.held sink.old;
+      now = K.held sink.new;
+      read_faults = S.faults source.old;
+      read_faults_now = S.faults source.new;
+      write_faults = K.faults sink.old;
+      write_faults_now = K.faults sink.new;
     }) result }
     ensures read_kept { (result ≡ Status.ReadFault → ⊥)
         → S.faults source.new ≡ S.faults source.old }
@@ -154,11 +158,15 @@ pub fn run<S: Source, K: Sink, N: Link>(
 ) -> Status
     // How it ends, for each status.
     ensures ends { Ends (record {
-        words = texts_of words.now;
-        input = S.left source.old; left = S.left source.new;
-        held = K.held sink.old; now = K.held sink.new;
-        read_faults = S.faults source.old; read_faults_now = S.faults source.new;
-        write_faults = K.faults sink.old; write_faults_now = K.faults sink.new;
+      words = texts_of words.now;
+      input = S.left source.old;
+      left = S.left source.new;
+      held = K.held sink.old;
+      now = K.held sink.new;
+      read_faults = S.faults source.old;
+      read_faults_now = S.faults source.new;
+      write_faults = K.faults sink.old;
+      write_faults_now = K.faults sink.new;
     }) result }
 
     // A fault is told: where the source or the sink failed in this run, the status says so.

@@ -264,4 +264,3 @@ fn late_reason(node: Node, found: Record, early: Option<Reason>, used: bool) -> 
         _ => early,
     }
 }
-

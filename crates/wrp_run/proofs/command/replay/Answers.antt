@@ -29,9 +29,14 @@ returns-in_default g c =
     let h = c.handle_records.ensures.stands in
     let octets : List ℕ = c.args.reader.now.rest ++ h.given in
     record {
-      stands = (h.given, h.text, h.taken, h.written,
+      stands = (
+        h.given,
+        h.text,
+        h.taken,
+        h.written,
         subst (λ (n : Node). After (meaning_of n) octets c.handle_records.new.reader c.handle_records.result h.text) node_is
-        (outcome_after (meaning_of node) octets c.handle_records.new.reader c.handle_records.result h.text h.stands c.in_default.not-Done));
+            (outcome_after (meaning_of node) octets c.handle_records.new.reader c.handle_records.result h.text h.stands c.in_default.not-Done),
+      );
       at_end = search rules;
       done = λ is. absurd (c.in_default.not-Done is);
       goes = c.handle_records.ensures.goes;

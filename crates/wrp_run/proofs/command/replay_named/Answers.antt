@@ -15,10 +15,15 @@ use Rattle.wrp_run.proofs.command.replay_named.Goals as goal
 pub returns-in-TooLong-clause-ends : goal.returns-in-TooLong-clause-ends
 returns-in-TooLong-clause-ends g c =
     let run : Run = record {
-      words = texts_of c.args.words.now; input = g.S.Source.left c.args.source.now; left = g.S.Source.left c.take_network-network.new.source;
-      held = g.K.Sink.held c.args.sink.now; now = g.K.Sink.held c.answer.new.sink;
-      read_faults = g.S.Source.faults c.args.source.now; read_faults_now = g.S.Source.faults c.take_network-network.new.source;
-      write_faults = g.K.Sink.faults c.args.sink.now; write_faults_now = g.K.Sink.faults c.answer.new.sink;
+      words = texts_of c.args.words.now;
+      input = g.S.Source.left c.args.source.now;
+      left = g.S.Source.left c.take_network-network.new.source;
+      held = g.K.Sink.held c.args.sink.now;
+      now = g.K.Sink.held c.answer.new.sink;
+      read_faults = g.S.Source.faults c.args.source.now;
+      read_faults_now = g.S.Source.faults c.take_network-network.new.source;
+      write_faults = g.K.Sink.faults c.args.sink.now;
+      write_faults_now = g.K.Sink.faults c.answer.new.sink;
     } in
     let taken = c.take_network-network.ensures.taken in
     let long = subst (λ (e : End). NetworkOutcome e taken.0 c.take_network-network.result.text.items c.take_network-network.new.reader) c.in-TooLong.is taken.2 in
@@ -28,10 +33,15 @@ returns-in-TooLong-clause-ends g c =
 pub returns-in-Failed-clause-ends : goal.returns-in-Failed-clause-ends
 returns-in-Failed-clause-ends g c =
     let run : Run = record {
-      words = texts_of c.args.words.now; input = g.S.Source.left c.args.source.now; left = g.S.Source.left c.take_network-network.new.source;
-      held = g.K.Sink.held c.args.sink.now; now = g.K.Sink.held c.args.sink.now;
-      read_faults = g.S.Source.faults c.args.source.now; read_faults_now = g.S.Source.faults c.take_network-network.new.source;
-      write_faults = g.K.Sink.faults c.args.sink.now; write_faults_now = g.K.Sink.faults c.args.sink.now;
+      words = texts_of c.args.words.now;
+      input = g.S.Source.left c.args.source.now;
+      left = g.S.Source.left c.take_network-network.new.source;
+      held = g.K.Sink.held c.args.sink.now;
+      now = g.K.Sink.held c.args.sink.now;
+      read_faults = g.S.Source.faults c.args.source.now;
+      read_faults_now = g.S.Source.faults c.take_network-network.new.source;
+      write_faults = g.K.Sink.faults c.args.sink.now;
+      write_faults_now = g.K.Sink.faults c.args.sink.now;
     } in
     let taken = c.take_network-network.ensures.taken in
     let cut = subst (λ (e : End). NetworkOutcome e taken.0 c.take_network-network.result.text.items c.take_network-network.new.reader) c.in-Failed.is taken.2 in
@@ -40,20 +50,30 @@ returns-in-Failed-clause-ends g c =
 pub returns-in-Memory-clause-ends : goal.returns-in-Memory-clause-ends
 returns-in-Memory-clause-ends g c =
     let run : Run = record {
-      words = texts_of c.args.words.now; input = g.S.Source.left c.args.source.now; left = g.S.Source.left c.take_network-network.new.source;
-      held = g.K.Sink.held c.args.sink.now; now = g.K.Sink.held c.args.sink.now;
-      read_faults = g.S.Source.faults c.args.source.now; read_faults_now = g.S.Source.faults c.take_network-network.new.source;
-      write_faults = g.K.Sink.faults c.args.sink.now; write_faults_now = g.K.Sink.faults c.args.sink.now;
+      words = texts_of c.args.words.now;
+      input = g.S.Source.left c.args.source.now;
+      left = g.S.Source.left c.take_network-network.new.source;
+      held = g.K.Sink.held c.args.sink.now;
+      now = g.K.Sink.held c.args.sink.now;
+      read_faults = g.S.Source.faults c.args.source.now;
+      read_faults_now = g.S.Source.faults c.take_network-network.new.source;
+      write_faults = g.K.Sink.faults c.args.sink.now;
+      write_faults_now = g.K.Sink.faults c.args.sink.now;
     } in
     memory_ends run (Appends-nil _)
 
 pub returns-then-not-is_two_nodes-clause-ends : goal.returns-then-not-is_two_nodes-clause-ends
 returns-then-not-is_two_nodes-clause-ends g c =
     let run : Run = record {
-      words = texts_of c.args.words.now; input = g.S.Source.left c.args.source.now; left = g.S.Source.left c.take_network-network.new.source;
-      held = g.K.Sink.held c.args.sink.now; now = g.K.Sink.held c.answer-then-not-is_two_nodes.new.sink;
-      read_faults = g.S.Source.faults c.args.source.now; read_faults_now = g.S.Source.faults c.take_network-network.new.source;
-      write_faults = g.K.Sink.faults c.args.sink.now; write_faults_now = g.K.Sink.faults c.answer-then-not-is_two_nodes.new.sink;
+      words = texts_of c.args.words.now;
+      input = g.S.Source.left c.args.source.now;
+      left = g.S.Source.left c.take_network-network.new.source;
+      held = g.K.Sink.held c.args.sink.now;
+      now = g.K.Sink.held c.answer-then-not-is_two_nodes.new.sink;
+      read_faults = g.S.Source.faults c.args.source.now;
+      read_faults_now = g.S.Source.faults c.take_network-network.new.source;
+      write_faults = g.K.Sink.faults c.args.sink.now;
+      write_faults_now = g.K.Sink.faults c.answer-then-not-is_two_nodes.new.sink;
     } in
     let taken = c.take_network-network.ensures.taken in
     let whole = subst (λ (e : End). NetworkOutcome e taken.0 c.take_network-network.result.text.items c.take_network-network.new.reader) c.in-Whole.is taken.2 in
@@ -64,10 +84,15 @@ returns-then-not-is_two_nodes-clause-ends g c =
 pub returns-in_default-clause-ends : goal.returns-in_default-clause-ends
 returns-in_default-clause-ends g c =
     let run : Run = record {
-      words = texts_of c.args.words.now; input = g.S.Source.left c.args.source.now; left = g.S.Source.left c.take_network-network.new.source;
-      held = g.K.Sink.held c.args.sink.now; now = g.K.Sink.held c.answer-in_default.new.sink;
-      read_faults = g.S.Source.faults c.args.source.now; read_faults_now = g.S.Source.faults c.take_network-network.new.source;
-      write_faults = g.K.Sink.faults c.args.sink.now; write_faults_now = g.K.Sink.faults c.answer-in_default.new.sink;
+      words = texts_of c.args.words.now;
+      input = g.S.Source.left c.args.source.now;
+      left = g.S.Source.left c.take_network-network.new.source;
+      held = g.K.Sink.held c.args.sink.now;
+      now = g.K.Sink.held c.answer-in_default.new.sink;
+      read_faults = g.S.Source.faults c.args.source.now;
+      read_faults_now = g.S.Source.faults c.take_network-network.new.source;
+      write_faults = g.K.Sink.faults c.args.sink.now;
+      write_faults_now = g.K.Sink.faults c.answer-in_default.new.sink;
     } in
     let taken = c.take_network-network.ensures.taken in
     let whole = subst (λ (e : End). NetworkOutcome e taken.0 c.take_network-network.result.text.items c.take_network-network.new.reader) c.in-Whole.is taken.2 in
@@ -80,10 +105,15 @@ returns-in_default-clause-ends g c =
 pub returns-clause-ends : goal.returns-clause-ends
 returns-clause-ends g c =
     let run : Run = record {
-      words = texts_of c.args.words.now; input = g.S.Source.left c.args.source.now; left = g.S.Source.left c.replay.new.source;
-      held = g.K.Sink.held c.args.sink.now; now = g.K.Sink.held c.replay.new.sink;
-      read_faults = g.S.Source.faults c.args.source.now; read_faults_now = g.S.Source.faults c.replay.new.source;
-      write_faults = g.K.Sink.faults c.args.sink.now; write_faults_now = g.K.Sink.faults c.replay.new.sink;
+      words = texts_of c.args.words.now;
+      input = g.S.Source.left c.args.source.now;
+      left = g.S.Source.left c.replay.new.source;
+      held = g.K.Sink.held c.args.sink.now;
+      now = g.K.Sink.held c.replay.new.sink;
+      read_faults = g.S.Source.faults c.args.source.now;
+      read_faults_now = g.S.Source.faults c.replay.new.source;
+      write_faults = g.K.Sink.faults c.args.sink.now;
+      write_faults_now = g.K.Sink.faults c.replay.new.sink;
     } in
     let taken = c.take_network-network.ensures.taken in
     let whole = subst (λ (e : End). NetworkOutcome e taken.0 c.take_network-network.result.text.items c.take_network-network.new.reader) c.in-Whole.is taken.2 in
