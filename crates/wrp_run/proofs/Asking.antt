@@ -1,24 +1,24 @@
 -- What stands at the end of a run, told of the words and the whole input.
-use Rattle.std.proofs.Common.{◌≡◌, ◌⊎◌, inl, inr, true, false, ℕ, ◌+◌, ◌<◌, ◌≤◌, Option, None, Some, IfSome, List, [], ◌∷◌, ◌++◌, length, length-append, map, take, refl, sym, ap, ◌∙◌, subst, append_assoc, append-nil, arith}
-use Rattle.std.specs.List.{concat, AllByRecursion}
+use Rattle.std.proofs.Common.{◌≡◌, inl, inr, true, false, ℕ, ◌+◌, ◌<◌, ◌≤◌, Option, None, Some, IfSome, List, [], ◌∷◌, ◌++◌, length, length-append, take, refl, sym, ap, ◌∙◌, subst, append_assoc, append-nil, arith}
+use Rattle.std.specs.List.{concat}
 use Rattle.std.specs.Io.KnownBytes.{Appends, Consumes, IsAtEnd}
 use Rattle.std.proofs.KnownBytes.{Consumes-trans}
 use Rattle.wrp_run.specs.declared.machine.Refusal.{Refusal}
 use Rattle.wrp_run.specs.declared.machine.Refusal.TheVariants as refusals
 use Rattle.wrp_run.specs.declared.status.Status.{Status}
-use Rattle.wrp_run.specs.declared.status.Status.TheVariants.{Done, Usage, BadNetwork, BadTrace, Broken, ReadFault, WriteFault, LinkFault, TooLarge, OutOfMemory}
-use Rattle.wrp_run.specs.After.{DoneAt, DueAt, After}
-use Rattle.wrp_run.specs.Answer.{Answer, Asks, AsksNone, IsCommand, IsReplay, FirstAnswer, PartAnswer, CutReplay, CutAnswer}
+use Rattle.wrp_run.specs.declared.status.Status.TheVariants.{Done, Usage, BadNetwork, BadTrace, Broken, ReadFault, WriteFault, TooLarge, OutOfMemory}
+use Rattle.wrp_run.specs.After.{After}
+use Rattle.wrp_run.specs.Answer.{Answer, Asks, AsksNone, IsCommand, FirstAnswer, PartAnswer, CutReplay}
 use Rattle.wrp_run.specs.Ends.{Run, Ends, EndsRefused, TakesPiece, ReadFailed, WriteFailed, Wrote}
 use Rattle.wrp_run.specs.Engine.{Finishes}
-use Rattle.wrp_run.specs.Input.{network_text, behind_separator, network_limit, Divides, IsDivided, IsTooLong, IsUndivided}
-use Rattle.wrp_run.specs.Lines.{lines_of, HasNoFeed, IsWhole}
+use Rattle.wrp_run.specs.Input.{network_text, behind_separator, network_limit, IsDivided, IsTooLong, IsUndivided}
+use Rattle.wrp_run.specs.Lines.{lines_of}
 use Rattle.wrp_run.specs.Meaning.{Meaning}
 use Rattle.wrp_run.specs.Reader.{ReaderAt, piece_limit}
-use Rattle.wrp_run.specs.RecordsAnswer.{IsRefused, RecordsAnswer, AreFirst}
-use Rattle.wrp_run.specs.Replays.{Replayed, name_of, meaning_of, IsNetworkOf, IsAccepted, IsRefusedBy}
+use Rattle.wrp_run.specs.RecordsAnswer.{RecordsAnswer, AreFirst}
+use Rattle.wrp_run.specs.Replays.{Replayed, name_of, meaning_of, IsRefusedBy}
 use Rattle.wrp_run.specs.Statuses.{is_answer}
-use Rattle.wrp_run.specs.Stream.{RefusedAt, CutHandled, FirstHandled, Due}
+use Rattle.wrp_run.specs.Stream.{RefusedAt, CutHandled}
 use Rattle.wrp_run.specs.Texts.{usage_line, too_large_line}
 use Rattle.wrp_run.proofs.Feeds.{lines_of-open}
 use Rattle.wrp_run.proofs.Networking.{next_line}

@@ -1,12 +1,11 @@
 -- For words and an input one status and one text are due, and no others.
-use Rattle.std.proofs.Common.{true, false, ◌≡◌, ◌⊎◌, inl, inr, ℕ, ◌<◌, ◌≤◌, Option, None, Some, IfSome, List, [], ◌∷◌, ◌++◌, length, reverse, refl, sym, ap, ◌∙◌, subst, arith, codes}
+use Rattle.std.proofs.Common.{true, false, ◌≡◌, ◌⊎◌, inl, inr, ℕ, ◌<◌, ◌≤◌, Option, None, Some, IfSome, List, ◌∷◌, ◌++◌, length, reverse, refl, sym, ap, ◌∙◌, subst, arith, codes}
 use Rattle.std.specs.Io.KnownBytes.{Appends}
 use Rattle.wrp_data.specs.Counters.{nonzero_counts}
 use Rattle.wrp_run.specs.declared.machine.Refusal.{Refusal}
 use Rattle.wrp_run.specs.declared.machine.Refusal.TheVariants as refusals
 use Rattle.wrp_run.specs.declared.nodes.Node.{Node}
 use Rattle.wrp_run.specs.declared.nodes.Node.TheVariants.{Gm, Sw1}
-use Rattle.wrp_run.specs.declared.records.Record.{Record}
 use Rattle.wrp_run.specs.declared.status.Status.{Status}
 use Rattle.wrp_run.specs.declared.status.Status.TheVariants.{Done, Usage, BadNetwork, BadTrace, Broken, ReadFault, WriteFault, LinkFault, TooLarge, OutOfMemory}
 use Rattle.wrp_run.specs.Answer.{Answer, Asks, AsksNone, IsCommand, ReplayAnswer}
@@ -15,7 +14,6 @@ use Rattle.wrp_run.specs.Statuses.{is_answer}
 use Rattle.wrp_run.specs.History.{counters_after}
 use Rattle.wrp_run.specs.Input.{network_text, behind_separator, network_limit}
 use Rattle.wrp_run.specs.Lines.{lines_of}
-use Rattle.wrp_run.specs.Records.{AreRecords}
 use Rattle.wrp_run.specs.RecordsAnswer.{RecordsAnswer}
 use Rattle.wrp_run.specs.Replays.{Replayed, Accepts, Refuses, IsAccepted, IsNetworkOf, IsRefusedBy, meaning_of, name_of}
 use Rattle.wrp_run.specs.Texts.{lines_of_records, count_lines, usage_line, too_large_line}

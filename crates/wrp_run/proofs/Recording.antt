@@ -1,12 +1,11 @@
 -- How a replay goes on with a line: the records that it has taken, and what they wrote.
-use Rattle.std.proofs.Common.{◌≡◌, ◌∙◌, ℕ, ◌+◌, List, [], ◌∷◌, ◌++◌, length, reverse, refl, sym, ap, subst, append_assoc}
+use Rattle.std.proofs.Common.{◌≡◌, ◌∙◌, ℕ, List, [], ◌∷◌, ◌++◌, reverse, sym, ap, subst}
 use Rattle.std.proofs.lemmas.List.{reverse-append}
 use Rattle.wrp_base.specs.Calls.{Adds}
 use Rattle.wrp_data.specs.Counters.{nonzero_counts}
 use Rattle.wrp_run.specs.declared.nodes.Node.{Node}
 use Rattle.wrp_run.specs.declared.records.Record.{Record}
 use Rattle.wrp_run.specs.declared.replay.ReplayedNode.{ReplayedNode}
-use Rattle.wrp_run.specs.History.{counters_after}
 use Rattle.wrp_run.specs.Records.{IsRecord, AreRecords}
 use Rattle.wrp_run.specs.Replays.{Accepts, Closes}
 use Rattle.wrp_run.specs.StandsFor.{StandsFor, HasTaken}

@@ -1,21 +1,20 @@
 -- What stands where the handling of records ends, told of the whole input.
-use Rattle.std.proofs.Common.{◌≡◌, ◌⊎◌, inl, inr, true, false, ℕ, ◌+◌, ◌<◌, ◌≤◌, ◌==◌, Option, None, Some, IfSome, List, [], ◌∷◌, ◌++◌, length, length-append, map, take, refl, sym, ap, ◌∙◌, subst, append_assoc, append-nil, arith}
-use Rattle.std.specs.List.{concat, AllByRecursion}
-use Rattle.std.specs.Io.KnownBytes.{Appends, Consumes, IsAtEnd}
+use Rattle.std.proofs.Common.{◌≡◌, ◌⊎◌, inl, inr, true, false, ℕ, ◌+◌, ◌≤◌, ◌==◌, Option, List, [], ◌∷◌, ◌++◌, length, map, take, refl, sym, ap, ◌∙◌, subst, append_assoc, append-nil, arith}
+use Rattle.std.specs.List.{concat}
+use Rattle.std.specs.Io.KnownBytes.{Appends, Consumes}
 use Rattle.std.proofs.KnownBytes.{Appends-trans}
 use Rattle.wrp_run.specs.declared.machine.Refusal.{Refusal}
 use Rattle.wrp_run.specs.declared.machine.Refusal.TheVariants as refusals
 use Rattle.wrp_run.specs.declared.status.Status.{Status}
-use Rattle.wrp_run.specs.declared.status.Status.TheVariants.{Done, Usage, BadNetwork, BadTrace, Broken, ReadFault, WriteFault, LinkFault, TooLarge, OutOfMemory}
+use Rattle.wrp_run.specs.declared.status.Status.TheVariants.{Done, BadTrace, Broken, ReadFault, WriteFault, TooLarge, OutOfMemory}
 use Rattle.wrp_run.specs.After.{DoneAt, DueAt, After, Closing}
 use Rattle.wrp_run.specs.Engine.{Finishes}
-use Rattle.wrp_run.specs.Lines.{lines_of, onto, content_of, HasNoFeed, IsWhole}
+use Rattle.wrp_run.specs.Lines.{lines_of, onto, content_of, HasNoFeed}
 use Rattle.wrp_run.specs.Meaning.{Meaning}
-use Rattle.wrp_run.specs.Reader.{ReaderAt, IsNext, IsCut, IsLast}
+use Rattle.wrp_run.specs.Reader.{ReaderAt, IsLast}
 use Rattle.wrp_run.specs.RecordsAnswer.{IsWholly, IsRefused, IsLarge, RecordsAnswer, AreFirst}
 use Rattle.wrp_run.specs.Statuses.{is_answer}
-use Rattle.wrp_run.specs.Stream.{Handles, large_line, IsWithin, size_of, line_limit, RefusedAt, TooLargeAt, Due, Outcome, FirstHandled}
-use Rattle.wrp_run.specs.Taking.{AppendsPart}
+use Rattle.wrp_run.specs.Stream.{Handles, size_of, RefusedAt, TooLargeAt, Due, Outcome, FirstHandled}
 use Rattle.wrp_run.proofs.Feeds.{size_plain}
 use Rattle.wrp_run.proofs.Networking.{next_line, cut_line}
 use Rattle.wrp_run.proofs.Reaching.{lines_behind, take_two}

@@ -3,13 +3,13 @@ use Rattle.std.proofs.Common.{◌≡◌, ◌⊎◌, inl, inr, ℕ, ◌+◌, ◌<
 use Rattle.std.specs.List.{AllByRecursion}
 use Rattle.std.proofs.lemmas.List.{map-append}
 use Rattle.wrp_run.specs.declared.status.Status.{Status}
-use Rattle.wrp_run.specs.declared.status.Status.TheVariants.{Done, Usage, BadNetwork, BadTrace, Broken, ReadFault, WriteFault, LinkFault, TooLarge, OutOfMemory}
+use Rattle.wrp_run.specs.declared.status.Status.TheVariants.{Done, BadTrace, Broken, TooLarge}
 use Rattle.wrp_run.specs.declared.machine.Refusal.{Refusal}
 use Rattle.wrp_run.specs.declared.machine.Refusal.TheVariants as refusals
 use Rattle.wrp_run.specs.Lines.{content_of}
 use Rattle.wrp_run.specs.Stream.{Handles, IsWithin, size_of, line_limit, number_limit, large_line}
 use Rattle.wrp_run.specs.Meaning.{Meaning}
-use Rattle.wrp_run.specs.RecordsAnswer.{IsWholly, IsRefused, IsLarge, RecordsAnswer}
+use Rattle.wrp_run.specs.RecordsAnswer.{RecordsAnswer}
 
 -- what the relations of an exact machine keep
 pub record IsExact (M : Meaning) : Type 0 where

@@ -1,5 +1,4 @@
 -- What the record lines of a command mean (this project's profile).
-use Rattle.std.specs.Prelude.{ℕ, List}
 use Rattle.wrp_run.specs.Stream.{Accepting, Refusing}
 
 -- which lines are records and what they write, which line is refused behind others and what names it,

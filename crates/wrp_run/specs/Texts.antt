@@ -8,7 +8,6 @@ use Rattle.wrp_base.specs.declared.link.LinkWord.{LinkWord}
 use Rattle.wrp_base.specs.declared.message.Body.TheVariants.{Signal}
 use Rattle.wrp_base.specs.declared.message.PtpMsg.{PtpMsg}
 use Rattle.wrp_base.specs.declared.message.WrMsg.{WrMsg}
-use Rattle.wrp_data.specs.Counters.{nonzero_counts}
 use Rattle.wrp_data.specs.Reason.{name_of as reason_name}
 use Rattle.wrp_data.specs.declared.reason.Reason.{Reason}
 use Rattle.wrp_frame.specs.SentOctets.{octets_of}
@@ -16,7 +15,7 @@ use Rattle.wrp_base.specs.declared.link.LinkWord.TheVariants.{Down, Quiet, Ptp, 
 use Rattle.wrp_run.specs.declared.records.Record.{Record}
 use Rattle.wrp_run.specs.declared.nodes.Node.{Node}
 use Rattle.wrp_run.specs.Nodes.{name_of, own_of, peer_of}
-use Rattle.wrp_run.specs.History.{word_after, ticks_since_reset, next_sequence, sends_by, counters_after}
+use Rattle.wrp_run.specs.History.{word_after, ticks_since_reset, next_sequence, sends_by}
 
 -- how a link word is written
 abbrev pub word_text : LinkWord → List ℕ
