@@ -1,12 +1,16 @@
+pub mod Asking
 pub mod DropLaws
 pub mod Feeds
 pub mod LineLemmas
 pub mod Networking
 pub mod OneAnswer
+pub mod OneRecord
 pub mod ParsingLemmas
 pub mod Parts
 pub mod Pieces
-pub mod Progress
 pub mod Reaching
 pub mod ReaderLemmas
+pub mod Recording
+pub mod Telling
+pub mod Unique
 pub mod WordLemmas

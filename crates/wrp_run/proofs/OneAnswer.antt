@@ -1,259 +1,146 @@
 -- For words and an input one status and one text are due, and no others.
-use Rattle.std.proofs.Common.{true, false, ◌≡◌, ◌≢◌, ◌⊎◌, inl, inr, ℕ, ◌+◌, ◌<◌, ◌≤◌, Option, None, Some, Result, Ok, Err, List, [], ◌∷◌, ◌++◌, length, take, IfSome, refl, sym, ap, ◌∙◌, subst, arith, codes}
-use Rattle.wrp_run.specs.declared.status.Status.{Status}
-use Rattle.wrp_run.specs.declared.status.Status.TheVariants.{Done, Usage, BadNetwork, BadTrace, Broken, ReadFault, WriteFault, LinkFault, TooLarge, OutOfMemory}
+use Rattle.std.proofs.Common.{true, false, ◌≡◌, ◌⊎◌, inl, inr, ℕ, ◌<◌, ◌≤◌, Option, None, Some, IfSome, List, ◌∷◌, ◌++◌, length, reverse, refl, sym, ap, ◌∙◌, subst, arith, codes}
+use Rattle.std.specs.Io.KnownBytes.{Appends}
+use Rattle.wrp_data.specs.Counters.{nonzero_counts}
+use Rattle.wrp_run.specs.declared.machine.Refusal.{Refusal}
+use Rattle.wrp_run.specs.declared.machine.Refusal.TheVariants as refusals
 use Rattle.wrp_run.specs.declared.nodes.Node.{Node}
 use Rattle.wrp_run.specs.declared.nodes.Node.TheVariants.{Gm, Sw1}
-use Rattle.wrp_run.specs.declared.records.Record.{Record}
-use Rattle.wrp_run.specs.declared.records.Record.TheVariants.{Reset, Tick, Up, Down, Frame}
-use Rattle.wrp_base.specs.declared.message.PtpMsg.{PtpMsg}
-use Rattle.wrp_frame.specs.declared.fault.FrameFault.{FrameFault}
-use Rattle.wrp_frame.proofs.Exact.{spells_one, exactly_refused}
-use Rattle.wrp_base.specs.Lines.{parts_of}
-use Rattle.wrp_run.specs.Frames.{Says, IsHexOf}
-use Rattle.wrp_run.specs.Records.{IsRecord, IsNoRecord, IsUp, IsDown, IsFrame, HasParts, AreRecords}
-use Rattle.std.specs.Io.KnownBytes.{Appends}
+use Rattle.wrp_run.specs.declared.status.Status.{Status}
+use Rattle.wrp_run.specs.declared.status.Status.TheVariants.{Done, Usage, BadNetwork, BadTrace, Broken, ReadFault, WriteFault, LinkFault, TooLarge, OutOfMemory}
+use Rattle.wrp_run.specs.Answer.{Answer, Asks, AsksNone, IsCommand, ReplayAnswer}
+use Rattle.wrp_run.specs.Ends.{Run, Ends, ReadFailed, WriteFailed, Wrote}
 use Rattle.wrp_run.specs.Statuses.{is_answer}
-use Rattle.wrp_run.specs.Taking.{AppendsPart}
-use Rattle.wrp_run.specs.Words.{IsReplay, IsCommand}
-use Rattle.wrp_run.specs.Input.{network_text, record_lines}
-use Rattle.wrp_run.specs.Texts.{lines_of_records, text_of, usage_line, bad_network_line, bad_trace_line, too_large_line}
-use Rattle.wrp_run.specs.TwoNodes.{two_nodes}
-use Rattle.wrp_run.specs.Answer.{input_limit, Answer, InputAnswer, ReplayAnswer}
+use Rattle.wrp_run.specs.History.{counters_after}
+use Rattle.wrp_run.specs.Input.{network_text, behind_separator, network_limit}
+use Rattle.wrp_run.specs.Lines.{lines_of}
+use Rattle.wrp_run.specs.RecordsAnswer.{RecordsAnswer}
+use Rattle.wrp_run.specs.Replays.{Replayed, Accepts, Refuses, IsAccepted, IsNetworkOf, IsRefusedBy, meaning_of, name_of}
+use Rattle.wrp_run.specs.Texts.{lines_of_records, count_lines, usage_line, too_large_line}
+use Rattle.wrp_run.proofs.OneRecord.{one_list, not_all}
+use Rattle.wrp_run.proofs.Unique.{IsExact, one_records_answer}
+use Rattle.wrp_run.proofs.WordLemmas.{one_value}
 
--- octets say one thing
-says_one : (octets : List ℕ) (a b : Result PtpMsg FrameFault) → Says octets a → Says octets b → a ≡ b
-says_one octets (Ok a) (Ok b) p q = ap (λ m. Ok m) (spells_one octets a b p q)
-says_one octets (Ok a) (Err b) p q = (exactly_refused octets (Ok a) p tt b).1 q
-says_one octets (Err a) (Ok b) p q = sym ((exactly_refused octets (Ok b) q tt a).1 p)
-says_one octets (Err a) (Err b) p q = (exactly_refused octets (Err a) tt p b).1 q
+-- what the relations of a replay keep
+exact_replay : (replayed : Replayed) → IsExact (meaning_of replayed)
+exact_replay node = record {
+  one_text = λ lines t u p q. p.2 ∙ ap (lines_of_records node) (one_list node lines p.0 q.0 p.1 q.1) ∙ sym q.2;
+  not_both = never_both;
+  one_refusal = one_no_record;
+  one_end = λ lines t u p q.
+      p.2 ∙ ap (λ records. count_lines node (nonzero_counts (counters_after node (reverse records)))) (one_list node lines p.0 q.0 p.1 q.1) ∙ sym q.2;
+}
+  where
+    never_both : (before behind : List (List ℕ)) (line t last : List ℕ) (refusal : Refusal) → Accepts node (before ++ line ∷ behind) t → Refuses node before line refusal last → ⊥
+    never_both before behind line t last refusals.BadTrace p q = not_all node before behind line p.0 q.0 p.1
+    never_both before behind line t last refusals.Broken p q = q
 
--- a hex text says one thing
-one_hex : (text : List ℕ) (a b : Result PtpMsg FrameFault) → IsHexOf text a → IsHexOf text b → a ≡ b
-one_hex text a b p q =
-    let same : Ok p.octets ≡ Ok q.octets = sym p.is ∙ q.is in
-    let octets : p.octets ≡ q.octets = cc in
-    says_one p.octets a b p.says (subst (λ (o : List ℕ). Says o b) (sym octets) q.says)
-
--- the fields of a frame say one thing
-one_frame : (parts : List (List ℕ)) (a b : Result PtpMsg FrameFault) → IsFrame parts a → IsFrame parts b → a ≡ b
-one_frame (kind ∷ port ∷ hex ∷ stamp) a b p q = one_hex hex a b p.0.is_hex q.0.is_hex
-one_frame _ a b p q = absurd p
-
--- no parts are those of two kinds of line
-up_no_frame : (node : Node) (parts : List (List ℕ)) (heard : Result PtpMsg FrameFault) → IsUp node parts → IsFrame parts heard → ⊥
-up_no_frame node (kind ∷ port ∷ fitted ∷ []) heard p q = q.1
-up_no_frame node _ heard p q = absurd p
-
-down_no_frame : (parts : List (List ℕ)) (heard : Result PtpMsg FrameFault) → IsDown parts → IsFrame parts heard → ⊥
-down_no_frame (kind ∷ port ∷ []) heard p q = q
-down_no_frame _ heard p q = absurd p
-
-up_no_down : (node : Node) (parts : List (List ℕ)) → IsUp node parts → IsDown parts → ⊥
-up_no_down node (kind ∷ port ∷ fitted ∷ []) p q = q
-up_no_down node _ p q = absurd p
-
--- a word alone has no parts of its own
-not_word : (node : Node) (line word : List ℕ) (found : Record) → line ≡ word → (HasParts node (parts_of word) found → ⊥) → HasParts node (parts_of line) found → ⊥
-not_word node line word found is none has = none (subst (λ (l : List ℕ). HasParts node (parts_of l) found) is has)
-
--- a line is one record
-one_record : (node : Node) (line : List ℕ) (a b : Record) → IsRecord node line a → IsRecord node line b → a ≡ b
-one_record node line Reset Reset p q = refl
-one_record node line Tick Tick p q = refl
-one_record node line Up Up p q = refl
-one_record node line Down Down p q = refl
-one_record node line (Frame a) (Frame b) p q = ap (λ heard. Frame heard) (one_frame (parts_of line) a b p q)
-one_record node line Reset Tick p q = cc
-one_record node line Tick Reset p q = cc
-one_record node line Reset Up p q = absurd (not_word node line (codes "reset") Up p (λ has. has) q)
-one_record node line Tick Up p q = absurd (not_word node line (codes "tick") Up p (λ has. has) q)
-one_record node line Up Reset p q = absurd (not_word node line (codes "reset") Up q (λ has. has) p)
-one_record node line Up Tick p q = absurd (not_word node line (codes "tick") Up q (λ has. has) p)
-one_record node line Reset Down p q = absurd (not_word node line (codes "reset") Down p (λ has. has) q)
-one_record node line Tick Down p q = absurd (not_word node line (codes "tick") Down p (λ has. has) q)
-one_record node line Down Reset p q = absurd (not_word node line (codes "reset") Down q (λ has. has) p)
-one_record node line Down Tick p q = absurd (not_word node line (codes "tick") Down q (λ has. has) p)
-one_record node line Reset (Frame b) p q = absurd (not_word node line (codes "reset") (Frame b) p (λ has. has) q)
-one_record node line Tick (Frame b) p q = absurd (not_word node line (codes "tick") (Frame b) p (λ has. has) q)
-one_record node line (Frame a) Reset p q = absurd (not_word node line (codes "reset") (Frame a) q (λ has. has) p)
-one_record node line (Frame a) Tick p q = absurd (not_word node line (codes "tick") (Frame a) q (λ has. has) p)
-one_record node line Up Down p q = absurd (up_no_down node (parts_of line) p q)
-one_record node line Down Up p q = absurd (up_no_down node (parts_of line) q p)
-one_record node line Up (Frame b) p q = absurd (up_no_frame node (parts_of line) b p q)
-one_record node line (Frame a) Up p q = absurd (up_no_frame node (parts_of line) a q p)
-one_record node line Down (Frame b) p q = absurd (down_no_frame (parts_of line) b p q)
-one_record node line (Frame a) Down p q = absurd (down_no_frame (parts_of line) a q p)
-
--- lines are one list of records
-one_list : (node : Node) (lines : List (List ℕ)) (a b : List Record) → AreRecords node lines a → AreRecords node lines b → a ≡ b
-one_list node [] [] [] p q = refl
-one_list node [] (x ∷ a) b p q = absurd p
-one_list node [] [] (y ∷ b) p q = absurd q
-one_list node (line ∷ lines) [] b p q = absurd p
-one_list node (line ∷ lines) (x ∷ a) [] p q = absurd q
-one_list node (line ∷ lines) (x ∷ a) (y ∷ b) p q =
-    let same : x ≡ y = one_record node line x y p.0 q.0 in
-    let rest : a ≡ b = one_list node lines a b p.1 q.1 in
-    ap (λ r. r ∷ a) same ∙ ap (λ l. y ∷ l) rest
-
--- where a line is no record, the lines are none
-not_all : (node : Node) (before behind : List (List ℕ)) (refused : List ℕ) (records : List Record) → IsNoRecord node refused
-    → AreRecords node (before ++ refused ∷ behind) records → ⊥
-not_all node [] behind refused [] none are = are
-not_all node [] behind refused (x ∷ records) none are = none x are.0
-not_all node (line ∷ before) behind refused [] none are = are
-not_all node (line ∷ before) behind refused (x ∷ records) none are = not_all node before behind refused records none are.1
-
--- the head and the rest of one list
-heads : (a b : List ℕ) (as_ bs : List (List ℕ)) → a ∷ as_ ≡ b ∷ bs → a ≡ b
-heads a b as_ bs e = cc
-
-tails : (a b : List ℕ) (as_ bs : List (List ℕ)) → a ∷ as_ ≡ b ∷ bs → as_ ≡ bs
-tails a b as_ bs e = cc
-
--- the first line that is no record is one, and so are the records before it
-one_refusal : (node : Node) (p q behind further : List (List ℕ)) (x y : List ℕ) (a b : List Record) → p ++ x ∷ behind ≡ q ++ y ∷ further
-    → AreRecords node p a → AreRecords node q b → IsNoRecord node x → IsNoRecord node y → a ≡ b
-one_refusal node [] [] behind further x y [] [] same pa qb none other = refl
-one_refusal node [] q behind further x y (r ∷ a) b same pa qb none other = absurd pa
-one_refusal node [] [] behind further x y [] (r ∷ b) same pa qb none other = absurd qb
-one_refusal node [] (line ∷ q) behind further x y [] [] same pa qb none other = absurd qb
-one_refusal node [] (line ∷ q) behind further x y [] (r ∷ b) same pa qb none other =
-    absurd (none r (subst (λ (l : List ℕ). IsRecord node l r) (sym (heads x line behind (q ++ y ∷ further) same)) qb.0))
-one_refusal node (line ∷ p) q behind further x y [] b same pa qb none other = absurd pa
-one_refusal node (line ∷ p) [] behind further x y (r ∷ a) b same pa qb none other =
-    absurd (other r (subst (λ (l : List ℕ). IsRecord node l r) (heads line y (p ++ x ∷ behind) further same) pa.0))
-one_refusal node (line ∷ p) (l ∷ q) behind further x y (r ∷ a) [] same pa qb none other = absurd qb
-one_refusal node (line ∷ p) (l ∷ q) behind further x y (r ∷ a) (s ∷ b) same pa qb none other =
-    let first : r ≡ s = one_record node line r s pa.0 (subst (λ (k : List ℕ). IsRecord node k s) (sym (heads line l (p ++ x ∷ behind) (q ++ y ∷ further) same)) qb.0) in
-    let rest : a ≡ b = one_refusal node p q behind further x y a b (tails line l (p ++ x ∷ behind) (q ++ y ∷ further) same) pa.1 qb.1 none other in
-    ap (λ k. k ∷ a) first ∙ ap (λ k. s ∷ k) rest
+    one_no_record : (before : List (List ℕ)) (line t u : List ℕ) (a b : Refusal) → Refuses node before line a t → Refuses node before line b u → (a ≡ b) × (t ≡ u)
+    one_no_record before line t u refusals.BadTrace refusals.BadTrace p q = (refl, p.1 ∙ sym q.1)
+    one_no_record before line t u refusals.BadTrace refusals.Broken p q = absurd q
+    one_no_record before line t u refusals.Broken b p q = absurd p
 
 -- one status and one text
 abbrev pub AreOne : Status → Status → List ℕ → List ℕ → Type 0
 AreOne s t o u = (s ≡ t) × (o ≡ u)
 
--- all lines are records, or one is none
-both_done : (node : Node) (lines : List (List ℕ)) (o u : List ℕ) → ReplayAnswer node lines Done o → ReplayAnswer node lines Done u → AreOne Done Done o u
-both_done node lines o u p q = (refl, p.2 ∙ ap (text_of node) (one_list node lines p.0 q.0 p.1 q.1) ∙ sym q.2)
-
-both_refused : (node : Node) (lines : List (List ℕ)) (o u : List ℕ) → ReplayAnswer node lines BadTrace o → ReplayAnswer node lines BadTrace u → AreOne BadTrace BadTrace o u
-both_refused node lines o u p q =
-    let records : p.0 ≡ q.0 =
-    one_refusal node p.1.before q.1.before p.1.behind q.1.behind p.1.refused q.1.refused p.0 q.0 (sym p.1.divided ∙ q.1.divided) p.1.read q.1.read p.1.none q.1.none in
-    (refl, p.2 ∙ ap (λ r. lines_of_records node r ++ bad_trace_line (length r + 1)) records ∙ sym q.2)
-
-not_both : (node : Node) (lines : List (List ℕ)) (o u : List ℕ) → ReplayAnswer node lines Done o → ReplayAnswer node lines BadTrace u → ⊥
-not_both node lines o u p q =
-    not_all node q.1.before q.1.behind q.1.refused p.0 q.1.none (subst (λ (l : List (List ℕ)). AreRecords node l p.0) q.1.divided p.1)
-
-one_replay_from_done : (node : Node) (lines : List (List ℕ)) (t : Status) (o u : List ℕ) → ReplayAnswer node lines Done o → ReplayAnswer node lines t u → AreOne Done t o u
-one_replay_from_done node lines Done o u p q = both_done node lines o u p q
-one_replay_from_done node lines BadTrace o u p q = absurd (not_both node lines o u p q)
-one_replay_from_done node lines _ o u p q = absurd q
-
-one_replay_from_refused : (node : Node) (lines : List (List ℕ)) (t : Status) (o u : List ℕ) → ReplayAnswer node lines BadTrace o → ReplayAnswer node lines t u → AreOne BadTrace t o u
-one_replay_from_refused node lines Done o u p q = absurd (not_both node lines u o q p)
-one_replay_from_refused node lines BadTrace o u p q = both_refused node lines o u p q
-one_replay_from_refused node lines _ o u p q = absurd q
-
-pub one_replay : (node : Node) (lines : List (List ℕ)) (s t : Status) (o u : List ℕ) → ReplayAnswer node lines s o → ReplayAnswer node lines t u → AreOne s t o u
-one_replay node lines Done t o u p q = one_replay_from_done node lines t o u p q
-one_replay node lines BadTrace t o u p q = one_replay_from_refused node lines t o u p q
-one_replay node lines _ t o u p q = absurd p
-
--- the network text is another, or the replay's answer is due
-input_of : (node : Node) (input : List ℕ) (s : Status) (o : List ℕ) → InputAnswer node input s o
-    → ((s ≡ BadNetwork) × (network_text input ≢ two_nodes) × (o ≡ bad_network_line)) ⊎ ((network_text input ≡ two_nodes) × ReplayAnswer node (record_lines input) s o)
-input_of node input BadNetwork o p = inl (refl, p.0, p.1)
-input_of node input Done o p = inr p
-input_of node input Usage o p = inr p
-input_of node input BadTrace o p = inr p
-input_of node input Broken o p = inr p
-input_of node input ReadFault o p = inr p
-input_of node input WriteFault o p = inr p
-input_of node input LinkFault o p = inr p
-input_of node input TooLarge o p = inr p
-input_of node input OutOfMemory o p = inr p
-
-one_input : (node : Node) (input : List ℕ) (s t : Status) (o u : List ℕ) → InputAnswer node input s o → InputAnswer node input t u → AreOne s t o u
-one_input node input s t o u p q =
-    elim (input_of node input s o p) [
-      | inl (is, other, line) ↦
-          elim (input_of node input t u q) [ inl (is', other', line') ↦ (is ∙ sym is', line ∙ sym line') | inr (same, due) ↦ absurd (other same) ]
-      | inr (same, due) ↦
-          elim (input_of node input t u q) [ inl (is', other', line') ↦ absurd (other' same) | inr (same', due') ↦ one_replay node (record_lines input) s t o u due due' ]
-    ]
-
--- the words are no command, or the input is too large, or the input's answer is due
-abbrev Unread : List (List ℕ) → Status → List ℕ → Type 0
-Unread words s o = (s ≡ Usage) × (IsCommand words → ⊥) × (o ≡ usage_line)
-
-abbrev TooMuch : List (List ℕ) → List ℕ → Status → List ℕ → Type 0
-TooMuch words input s o = (s ≡ TooLarge) × IsCommand words × (input_limit < length input) × (o ≡ too_large_line)
-
-abbrev Read : List (List ℕ) → List ℕ → Status → List ℕ → Type 0
-Read words input s o = (node : Node) × IsReplay words node × (length input ≤ input_limit) × InputAnswer node input s o
-
 -- words name one node
-one_node : (words : List (List ℕ)) (a b : Node) → IsReplay words a → IsReplay words b → a ≡ b
-one_node words Gm Gm p q = refl
-one_node words Sw1 Sw1 p q = refl
-one_node words Gm Sw1 p q = let same = sym p ∙ q in cc
-one_node words Sw1 Gm p q = let same = sym p ∙ q in cc
+one_node : (words : List (List ℕ)) (text : List ℕ) (a b : Replayed) → Asks words text a → Asks words text b → a ≡ b
+one_node words text a b p q = same_name a b (one_value (codes "replay") (codes "--node") words (name_of a) (name_of b) p.words_are q.words_are)
+  where
+    same_name : (a b : Node) → name_of a ≡ name_of b → a ≡ b
+    same_name Gm Gm e = refl
+    same_name Sw1 Sw1 e = refl
+    same_name Gm Sw1 e = absurd (cc)
+    same_name Sw1 Gm e = absurd (cc)
 
--- two answers for an input of one node
-both_read : (words : List (List ℕ)) (input : List ℕ) (s t : Status) (o u : List ℕ) → Read words input s o → Read words input t u → AreOne s t o u
-both_read words input s t o u p q =
-    let same : q.0 ≡ p.0 = one_node words q.0 p.0 q.1 p.1 in
-    one_input p.0 input s t o u p.3 (subst (λ (n : Node). InputAnswer n input t u) same q.3)
+-- a text that is refused is refused by one line, and is not accepted
+one_refused : (text o u : List ℕ) → IsRefusedBy text o → IsRefusedBy text u → o ≡ u
+one_refused text o u p q = p.1 ∙ sym q.1
 
-answer_is : (words : List (List ℕ)) (input : List ℕ) (s : Status) (o : List ℕ) → Answer words input s o → Unread words s o ⊎ (TooMuch words input s o ⊎ Read words input s o)
-answer_is words input Usage o p = inl (refl, p.0, p.1)
-answer_is words input TooLarge o p = inr (inl (refl, p.0, p.1, p.2))
-answer_is words input Done o p = inr (inr p)
-answer_is words input BadNetwork o p = inr (inr p)
-answer_is words input BadTrace o p = inr (inr p)
-answer_is words input Broken o p = inr (inr p)
-answer_is words input ReadFault o p = inr (inr p)
-answer_is words input WriteFault o p = inr (inr p)
-answer_is words input LinkFault o p = inr (inr p)
-answer_is words input OutOfMemory o p = inr (inr p)
+not_accepted : (text o : List ℕ) → IsRefusedBy text o → IsAccepted text → ⊥
+not_accepted text o p accepted = p.0 accepted
+
+is_accepted : (text : List ℕ) (replayed : Replayed) → IsNetworkOf text replayed → IsAccepted text
+is_accepted text replayed is = is
+
+-- the cases of an answer
+abbrev IsUnknown : List (List ℕ) → Status → List ℕ → Type 0
+IsUnknown words s o = (s ≡ Usage) × (IsCommand words → ⊥) × (o ≡ usage_line)
+
+abbrev IsTooLong : List (List ℕ) → List ℕ → Status → List ℕ → Type 0
+IsTooLong words text s o = (s ≡ TooLarge) × IsCommand words × (network_limit < length text) × (o ≡ too_large_line)
+
+abbrev IsBadNetwork : List (List ℕ) → List ℕ → Status → List ℕ → Type 0
+IsBadNetwork words text s o = (s ≡ BadNetwork) × IsCommand words × (length text ≤ network_limit) × IsRefusedBy text o
+
+abbrev IsNoNode : List (List ℕ) → List ℕ → Status → List ℕ → Type 0
+IsNoNode words text s o = (s ≡ Usage) × AsksNone words text × (o ≡ usage_line)
+
+abbrev Cases : List (List ℕ) → List ℕ → Status → List ℕ → Type 0
+Cases words input s o =
+    IsUnknown words s o
+    ⊎ (IsTooLong words (network_text input) s o
+    ⊎ (IsBadNetwork words (network_text input) s o
+    ⊎ (IsNoNode words (network_text input) s o
+    ⊎ ReplayAnswer words input s o)))
+
+cases_of : (words : List (List ℕ)) (input : List ℕ) (s : Status) (o : List ℕ) → Answer words input s o → Cases words input s o
+cases_of words input Usage o p = elim p.0 [ inl none ↦ inl (refl, none, p.1) | inr none ↦ inr (inr (inr (inl (refl, none, p.1)))) ]
+cases_of words input BadNetwork o p = inr (inr (inl (refl, p.0, p.1, p.2)))
+cases_of words input TooLarge o p = elim p [ inl long ↦ inr (inl (refl, long.0, long.1, long.2)) | inr due ↦ inr (inr (inr (inr due))) ]
+cases_of words input Done o p = inr (inr (inr (inr p)))
+cases_of words input BadTrace o p = inr (inr (inr (inr p)))
+cases_of words input Broken o p = inr (inr (inr (inr p)))
+cases_of words input ReadFault o p = inr (inr (inr (inr p)))
+cases_of words input WriteFault o p = inr (inr (inr (inr p)))
+cases_of words input LinkFault o p = inr (inr (inr (inr p)))
+cases_of words input OutOfMemory o p = inr (inr (inr (inr p)))
+
+-- the words of each case but the first are a command
+is_replay : (words : List (List ℕ)) (input : List ℕ) (s : Status) (o : List ℕ) → ReplayAnswer words input s o → IsCommand words
+is_replay words input s o p = (name_of p.0, p.1.words_are)
+
+-- two answers that came to the records
+both_replay : (words : List (List ℕ)) (input : List ℕ) (s t : Status) (o u : List ℕ) → ReplayAnswer words input s o → ReplayAnswer words input t u → AreOne s t o u
+both_replay words input s t o u p q =
+    let same : q.0 ≡ p.0 = one_node words (network_text input) q.0 p.0 q.1 p.1 in
+    one_records_answer (meaning_of p.0) (exact_replay p.0) (behind_separator (lines_of input)) s t o u p.2
+    (subst (λ (n : Replayed). RecordsAnswer (meaning_of n) (behind_separator (lines_of input)) t u) same q.2)
+
+-- two answers, of cases in order
+one_of_cases : (words : List (List ℕ)) (input : List ℕ) (s t : Status) (o u : List ℕ) → Cases words input s o → Cases words input t u → AreOne s t o u
+one_of_cases words input s t o u (inl p) (inl q) = (p.0 ∙ sym q.0, p.2 ∙ sym q.2)
+one_of_cases words input s t o u (inl p) (inr (inl q)) = absurd (p.1 q.1)
+one_of_cases words input s t o u (inl p) (inr (inr (inl q))) = absurd (p.1 q.1)
+one_of_cases words input s t o u (inl p) (inr (inr (inr (inl q)))) = absurd (p.1 (q.1.name, q.1.words_are))
+one_of_cases words input s t o u (inl p) (inr (inr (inr (inr q)))) = absurd (p.1 (is_replay words input t u q))
+one_of_cases words input s t o u (inr (inl p)) (inr (inl q)) = (p.0 ∙ sym q.0, p.3 ∙ sym q.3)
+one_of_cases words input s t o u (inr (inl p)) (inr (inr (inl q))) = absurd (omega (arith, p.2, q.2))
+one_of_cases words input s t o u (inr (inl p)) (inr (inr (inr (inl q)))) = absurd (omega (arith, p.2, q.1.within))
+one_of_cases words input s t o u (inr (inl p)) (inr (inr (inr (inr q)))) = absurd (omega (arith, p.2, q.1.within))
+one_of_cases words input s t o u (inr (inr (inl p))) (inr (inr (inl q))) = (p.0 ∙ sym q.0, one_refused (network_text input) o u p.3 q.3)
+one_of_cases words input s t o u (inr (inr (inl p))) (inr (inr (inr (inl q)))) = absurd (not_accepted (network_text input) o p.3 q.1.accepted)
+one_of_cases words input s t o u (inr (inr (inl p))) (inr (inr (inr (inr q)))) = absurd (not_accepted (network_text input) o p.3 (is_accepted (network_text input) q.0 q.1.network))
+one_of_cases words input s t o u (inr (inr (inr (inl p)))) (inr (inr (inr (inl q)))) = (p.0 ∙ sym q.0, p.2 ∙ sym q.2)
+one_of_cases words input s t o u (inr (inr (inr (inl p)))) (inr (inr (inr (inr q)))) =
+    absurd (p.1.none q.0 q.1.network (one_value (codes "replay") (codes "--node") words p.1.name (name_of q.0) p.1.words_are q.1.words_are))
+one_of_cases words input s t o u (inr (inr (inr (inr p)))) (inr (inr (inr (inr q)))) = both_replay words input s t o u p q
+one_of_cases words input s t o u (inr (inl p)) (inl q) = absurd (q.1 p.1)
+one_of_cases words input s t o u (inr (inr (inl p))) (inl q) = absurd (q.1 p.1)
+one_of_cases words input s t o u (inr (inr (inr (inl p)))) (inl q) = absurd (q.1 (p.1.name, p.1.words_are))
+one_of_cases words input s t o u (inr (inr (inr (inr p)))) (inl q) = absurd (q.1 (is_replay words input s o p))
+one_of_cases words input s t o u (inr (inr (inl p))) (inr (inl q)) = absurd (omega (arith, q.2, p.2))
+one_of_cases words input s t o u (inr (inr (inr (inl p)))) (inr (inl q)) = absurd (omega (arith, q.2, p.1.within))
+one_of_cases words input s t o u (inr (inr (inr (inr p)))) (inr (inl q)) = absurd (omega (arith, q.2, p.1.within))
+one_of_cases words input s t o u (inr (inr (inr (inl p)))) (inr (inr (inl q))) = absurd (not_accepted (network_text input) u q.3 p.1.accepted)
+one_of_cases words input s t o u (inr (inr (inr (inr p)))) (inr (inr (inl q))) = absurd (not_accepted (network_text input) u q.3 (is_accepted (network_text input) p.0 p.1.network))
+one_of_cases words input s t o u (inr (inr (inr (inr p)))) (inr (inr (inr (inl q)))) =
+    absurd (q.1.none p.0 p.1.network (one_value (codes "replay") (codes "--node") words q.1.name (name_of p.0) q.1.words_are p.1.words_are))
 
 -- for words and an input one status and one text are due
 pub one_answer : (words : List (List ℕ)) (input : List ℕ) (s t : Status) (o u : List ℕ) → Answer words input s o → Answer words input t u → AreOne s t o u
-one_answer words input s t o u p q =
-    elim (answer_is words input s o p) [
-      | inl (is, none, line) ↦
-          elim (answer_is words input t u q) [
-            | inl (is', none', line') ↦ (is ∙ sym is', line ∙ sym line')
-            | inr more ↦ elim more [ inl (is', command, over, line') ↦ absurd (none command) | inr read ↦ absurd (none (read.0, read.1)) ]
-          ]
-      | inr some ↦
-          elim some [
-            | inl (is, command, over, line) ↦
-                elim (answer_is words input t u q) [
-                  | inl (is', none, line') ↦ absurd (none command)
-                  | inr more ↦ elim more [ inl (is', command', over', line') ↦ (is ∙ sym is', line ∙ sym line') | inr read ↦ absurd (omega (arith, over, read.2)) ]
-                ]
-            | inr read ↦
-                elim (answer_is words input t u q) [
-                  | inl (is', none, line') ↦ absurd (none (read.0, read.1))
-                  | inr more ↦ elim more [ inl (is', command', over, line') ↦ absurd (omega (arith, over, read.2)) | inr read' ↦ both_read words input s t o u read read' ]
-                ]
-          ]
-    ]
-
--- where the source tells the input, what is due is what was answered and written
-pub told_one : (before : Option (List ℕ)) (words : List (List ℕ)) (answered s t : Status) (held now : Option (List ℕ)) (text octets : List ℕ)
-    → IfSome before (λ input. Answer words input s text) → answered ≡ s → Appends held now text
-    → IfSome before (λ input. Answer words input t octets → (answered ≡ t) × Appends held now octets)
-told_one None words answered s t held now text octets due is appends = tt
-told_one (Some input) words answered s t held now text octets due is appends =
-    λ other.
-    let one : AreOne s t text octets = one_answer words input s t text octets due other in
-    (is ∙ one.0, subst (λ (o : List ℕ). Appends held now o) one.1 appends)
+one_answer words input s t o u p q = one_of_cases words input s t o u (cases_of words input s o p) (cases_of words input t u q)
 
 -- a status that is no other than an answer
 pub answered : (status : Status) → (is_answer status ≡ false → ⊥) → is_answer status ≡ true
@@ -263,9 +150,46 @@ answered LinkFault other = absurd (other refl)
 answered OutOfMemory other = absurd (other refl)
 answered _ other = refl
 
--- where the source tells the input, a part of what is due was written
-pub told_cut : (before : Option (List ℕ)) (words : List (List ℕ)) (s : Status) (held now : Option (List ℕ)) (text : List ℕ) (count : ℕ)
-    → IfSome before (λ input. Answer words input s text) → Appends held now (take count text)
-    → IfSome before (λ input. (status : Status) × (octets : List ℕ) × Answer words input status octets × AppendsPart held now octets)
-told_cut None words s held now text count due appends = tt
-told_cut (Some input) words s held now text count due appends = (s, text, due, (count, appends))
+-- how a run ends gives what it answered, where the input is told
+abbrev Given : Run → Status → List ℕ → Type 0
+Given run status input = (octets : List ℕ) × Wrote run octets × Answer run.words input status octets
+
+given_of : (run : Run) (status : Status) (input : List ℕ) → run.input ≡ Some input → Ends run status → is_answer status ≡ true → Given run status input
+given_of run Done input told ends is = (ends.0.0, ends.0.1, subst (λ (i : Option (List ℕ)). IfSome i (λ input. Answer run.words input Done ends.0.0)) told ends.0.2)
+given_of run Usage input told ends is = (
+  usage_line,
+  ends.0,
+  elim ends.1 [
+    | inl none ↦ (inl none, refl)
+    | inr some ↦ (inr (subst (λ (i : Option (List ℕ)). IfSome i (λ input. AsksNone run.words (network_text input))) told some.1), refl)
+  ],
+)
+given_of run BadNetwork input told ends is = (ends.0, ends.1, subst (λ (i : Option (List ℕ)). IfSome i (λ input. Answer run.words input BadNetwork ends.0)) told ends.2)
+given_of run BadTrace input told ends is = (ends.0.0, ends.0.1, subst (λ (i : Option (List ℕ)). IfSome i (λ input. Answer run.words input BadTrace ends.0.0)) told ends.0.2)
+given_of run TooLarge input told ends is = (ends.0, ends.1, subst (λ (i : Option (List ℕ)). IfSome i (λ input. Answer run.words input TooLarge ends.0)) told ends.2)
+given_of run Broken input told ends is = absurd ends
+given_of run LinkFault input told ends is = absurd ends
+given_of run ReadFault input told ends is = absurd (cc)
+given_of run WriteFault input told ends is = absurd (cc)
+given_of run OutOfMemory input told ends is = absurd (cc)
+
+-- where the source tells the input, what is due is what was answered and written
+pub told_one : (run : Run) (answered status : Status) (octets : List ℕ) → Ends run answered → is_answer answered ≡ true
+    → IfSome run.input (λ input. Answer run.words input status octets → (answered ≡ status) × Appends run.held run.now octets)
+told_one run answered status octets ends is = go run.input refl
+  where
+    go : (told : Option (List ℕ)) → run.input ≡ told → IfSome told (λ input. Answer run.words input status octets → (answered ≡ status) × Appends run.held run.now octets)
+    go None told = tt
+    go (Some input) told =
+        λ other.
+        let given = given_of run answered input told ends is in
+        let one : AreOne answered status given.0 octets = one_answer run.words input answered status given.0 octets given.2 other in
+        (one.0, subst (λ (o : List ℕ). Appends run.held run.now o) one.1 given.1)
+
+-- without a fault and with memory a run ends with an answer
+pub ends_answered : (run : Run) (status : Status) → Ends run status → (status ≡ OutOfMemory → ⊥) → (ReadFailed run → ⊥) → (WriteFailed run → ⊥) → is_answer status ≡ true
+ends_answered run ReadFault ends memory reads writes = absurd (reads ends.0)
+ends_answered run WriteFault ends memory reads writes = absurd (writes ends.0)
+ends_answered run OutOfMemory ends memory reads writes = absurd (memory refl)
+ends_answered run LinkFault ends memory reads writes = absurd ends
+ends_answered run _ ends memory reads writes = refl

@@ -2,7 +2,7 @@
 use Rattle.std.proofs.Common.{◌≡◌, ◌==◌, ℕ, true, false, List, [], ◌∷◌, ◌++◌, Option, None, Some, option_map, refl, sym, ap, ap₂, ◌∙◌, subst, codes, ne_eqb}
 use Rattle.std.specs.Prelude.{option_and_then}
 use Rattle.clap.proofs.OnLiterals.{clap_on_literals}
-use Rattle.clap.specs.Words.{Row, first_of, is_simple, takes}
+use Rattle.clap.specs.Words.{Row, first_of, is_simple}
 use Rattle.wrp_run.specs.CommandLine.{IsDashed, IsCommandWith}
 use Rattle.wrp_run.specs.Parsing.{IsRead, value_of_option, wrnet}
 

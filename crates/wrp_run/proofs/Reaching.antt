@@ -218,7 +218,7 @@ fails A R T start line r left rest held now waiting number so_far written cut =
     }
 
 -- a due text of two parts, and what was written of it
-take_two : (front back : List ℕ) (count : ℕ) → front ++ take count back ≡ take (length front + count) (front ++ back)
+pub take_two : (front back : List ℕ) (count : ℕ) → front ++ take count back ≡ take (length front + count) (front ++ back)
 take_two front back count =
     ap (λ l. l ++ take count back) (sym (take-append_seam front back))
     ∙ ap (λ l. take (length front) (front ++ back) ++ take count l) (sym (drop-append_seam front back))

@@ -22,7 +22,7 @@ one_option option (given ∷ next ∷ []) a b p q = sym p.1 ∙ q.1
 one_option option (given ∷ next ∷ more ∷ words) a b p q = absurd p
 
 -- and so has a command's option
-one_value : (command option : List ℕ) (words : List (List ℕ)) (a b : List ℕ) → IsCommandWith command option words a → IsCommandWith command option words b → a ≡ b
+pub one_value : (command option : List ℕ) (words : List (List ℕ)) (a b : List ℕ) → IsCommandWith command option words a → IsCommandWith command option words b → a ≡ b
 one_value command option [] a b p q = absurd p
 one_value command option (first ∷ rest) a b p q = one_option option rest a b p.1 q.1
 
@@ -37,7 +37,7 @@ initial_of octet command option [] value is = absurd is
 initial_of octet command option (first ∷ rest) value is = ap (λ word. initial (word ∷ rest)) is.0
 
 -- of a form it is the command's
-abbrev letter : Form → ℕ
+abbrev pub letter : Form → ℕ
 letter forms.Audit = 97
 letter forms.Emit = 97
 letter forms.Replay = 114
@@ -69,3 +69,9 @@ no_loop words text has none forms.Loop value is sound =
 no_loop words text has none form value is sound =
     let bad : 108 ≡ letter form = sym (initial_of 108 _ (codes "--seed") words text has) ∙ initial_letter form words value is in
     absurd (omega (arith, bad))
+
+-- words of another form are no replay
+pub no_replay : (form : Form) (words : List (List ℕ)) (value : List ℕ) → IsForm form words value → (letter form ≡ 114 → ⊥)
+    → (name : List ℕ) × IsCommandWith (codes "replay") (codes "--node") words name → ⊥
+no_replay form words value is other replay =
+    other (sym (initial_letter form words value is) ∙ initial_of 114 _ (codes "--node") words replay.0 replay.1)

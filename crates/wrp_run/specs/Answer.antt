@@ -1,65 +1,83 @@
 -- What is due for the words of the command line and the octets of the input: one status and the
--- octets that are written (this project's profile).
-use Rattle.std.specs.Prelude.{◌≡◌, ◌≢◌, true, ℕ, ◌+◌, ◌<◌, ◌≤◌, Option, List, ◌∷◌, ◌++◌, length}
-use Rattle.std.specs.Io.KnownBytes.{Appends}
+-- octets that are written (this project's profile). The first refusal decides: the form of the words,
+-- the size of the network text, the network, the node's name, and then the records, one by one.
+use Rattle.std.specs.Prelude.{◌≡◌, ◌⊎◌, ℕ, ◌<◌, ◌≤◌, List, [], ◌++◌, length, take, codes}
 use Rattle.wrp_run.specs.declared.status.Status.{Status}
-use Rattle.wrp_run.specs.declared.status.Status.TheVariants.{Done, Usage, BadNetwork, BadTrace, Broken, TooLarge}
-use Rattle.wrp_run.specs.declared.nodes.Node.{Node}
-use Rattle.wrp_run.specs.declared.records.Record.{Record}
-use Rattle.wrp_run.specs.Statuses.{is_answer}
-use Rattle.wrp_run.specs.Words.{IsReplay, IsCommand}
-use Rattle.wrp_run.specs.Input.{network_text, record_lines}
-use Rattle.wrp_run.specs.Records.{IsNoRecord, AreRecords}
-use Rattle.wrp_run.specs.Texts.{lines_of_records, text_of, usage_line, bad_network_line, bad_trace_line, too_large_line}
-use Rattle.wrp_run.specs.TwoNodes.{two_nodes}
+use Rattle.wrp_run.specs.declared.status.Status.TheVariants.{Usage, BadNetwork, TooLarge}
+use Rattle.wrp_run.specs.CommandLine.{IsCommandWith}
+use Rattle.wrp_run.specs.Input.{network_text, behind_separator, network_limit, Divides, IsUndivided}
+use Rattle.wrp_run.specs.Lines.{lines_of}
+use Rattle.wrp_run.specs.RecordsAnswer.{RecordsAnswer, AreFirst}
+use Rattle.wrp_run.specs.Replays.{Replayed, name_of, meaning_of, IsNetworkOf, IsAccepted, IsRefusedBy}
+use Rattle.wrp_run.specs.Stream.{CutHandled}
+use Rattle.wrp_run.specs.Texts.{usage_line, too_large_line}
 
--- the first record lines are these records, and the next line is none
-pub record IsRefusedAfter (node : Node) (lines : List (List ℕ)) (records : List Record)
-    : Type 0 where
-  pub before : List (List ℕ)
-  pub refused : List ℕ
-  pub behind : List (List ℕ)
-  pub divided : lines ≡ before ++ refused ∷ behind
-  pub read : AreRecords node before records
-  pub none : IsNoRecord node refused
+-- the words ask for the replay of a node of this name
+abbrev pub IsReplay : List (List ℕ) → List ℕ → Type 0
+IsReplay words name = IsCommandWith (codes "replay") (codes "--node") words name
 
--- what is due for an input of the two-node network: all its lines are records, or one is the first
--- that is none
-abbrev pub ReplayAnswer : Node → List (List ℕ) → Status → List ℕ → Type 0
-ReplayAnswer node lines Done octets =
-    (records : List Record) × AreRecords node lines records × (octets ≡ text_of node records)
-ReplayAnswer node lines BadTrace octets =
-    (records : List Record) × IsRefusedAfter node lines records
-    × (octets ≡ lines_of_records node records ++ bad_trace_line (length records + 1))
-ReplayAnswer node lines _ octets = ⊥
+-- the words are a command that is built
+abbrev pub IsCommand : List (List ℕ) → Type 0
+IsCommand words = (name : List ℕ) × IsReplay words name
 
--- what is due for an input whose size is within the limit
-abbrev pub InputAnswer : Node → List ℕ → Status → List ℕ → Type 0
-InputAnswer node input BadNetwork octets =
-    (network_text input ≢ two_nodes) × (octets ≡ bad_network_line)
-InputAnswer node input status octets =
-    (network_text input ≡ two_nodes) × ReplayAnswer node (record_lines input) status octets
+-- the words ask for the replay of this node, whose network this text describes
+pub record Asks (words : List (List ℕ)) (text : List ℕ) (replayed : Replayed) : Type 0 where
+  pub words_are : IsReplay words (name_of replayed)
+  pub within : length text ≤ network_limit
+  pub network : IsNetworkOf text replayed
 
--- how many octets an input may have
-abbrev pub input_limit : ℕ
-input_limit = 33_554_432
+-- the words ask for the replay of a node, and the network that this text describes has none of that
+-- name
+pub record AsksNone (words : List (List ℕ)) (text : List ℕ) : Type 0 where
+  pub name : List ℕ
+  pub words_are : IsReplay words name
+  pub within : length text ≤ network_limit
+  pub accepted : IsAccepted text
+  pub none : (replayed : Replayed) → IsNetworkOf text replayed → name ≡ name_of replayed → ⊥
+
+-- what is due where the words ask for the replay of a node, and it is found
+abbrev pub ReplayAnswer : List (List ℕ) → List ℕ → Status → List ℕ → Type 0
+ReplayAnswer words input status octets =
+    (replayed : Replayed) × Asks words (network_text input) replayed
+    × RecordsAnswer (meaning_of replayed) (behind_separator (lines_of input)) status octets
 
 -- what is due for words and an input
 abbrev pub Answer : List (List ℕ) → List ℕ → Status → List ℕ → Type 0
-Answer words input Usage octets = (IsCommand words → ⊥) × (octets ≡ usage_line)
+Answer words input Usage octets =
+    ((IsCommand words → ⊥) ⊎ AsksNone words (network_text input)) × (octets ≡ usage_line)
+Answer words input BadNetwork octets =
+    IsCommand words × (length (network_text input) ≤ network_limit)
+    × IsRefusedBy (network_text input) octets
 Answer words input TooLarge octets =
-    IsCommand words × (input_limit < length input) × (octets ≡ too_large_line)
-Answer words input status octets =
-    (node : Node) × IsReplay words node × (length input ≤ input_limit)
-    × InputAnswer node input status octets
+    (IsCommand words × (network_limit < length (network_text input)) × (octets ≡ too_large_line))
+    ⊎ ReplayAnswer words input TooLarge octets
+Answer words input status octets = ReplayAnswer words input status octets
 
--- what was done: this status was answered, and these octets were appended to what was held
-abbrev pub Gives : Status → Option (List ℕ) → Option (List ℕ) → Status → List ℕ → Type 0
-Gives given before now status octets = (given ≡ status) × Appends before now octets
+-- the lines of the first records of an input; none, where the records were not reached
+abbrev pub FirstAnswer : List (List ℕ) → List ℕ → List ℕ → Type 0
+FirstAnswer words input octets =
+    (octets ≡ [])
+    ⊎ ((replayed : Replayed) × Asks words (network_text input) replayed
+    × AreFirst (meaning_of replayed) (behind_separator (lines_of input)) octets)
 
--- what the words alone say of an answer, whatever the input is
-pub record IsReplyTo (words : List (List ℕ)) (status : Status) (octets : List ℕ) : Type 0 where
-  pub answer : is_answer status ≡ true
-  pub usage : (IsCommand words → ⊥) → (status ≡ Usage) × (octets ≡ usage_line)
-  pub command : status ≡ Usage → IsCommand words → ⊥
-  pub unbroken : status ≡ Broken → ⊥
+-- the first octets of an answer, or of the lines of the first records
+abbrev pub PartAnswer : List (List ℕ) → List ℕ → List ℕ → Type 0
+PartAnswer words input octets =
+    (due : List ℕ) × (count : ℕ) × (octets ≡ take count due)
+    × (((status : Status) × Answer words input status due) ⊎ FirstAnswer words input due)
+
+-- the `---` line came, and of the octets behind it the lines that are whole are handled
+pub record CutReplay (words : List (List ℕ)) (taken octets : List ℕ) : Type 0 where
+  pub front : List ℕ
+  pub back : List ℕ
+  pub text : List ℕ
+  pub replayed : Replayed
+  pub all : taken ≡ front ++ back
+  pub divides : Divides front text
+  pub asks : Asks words text replayed
+  pub handled : CutHandled (meaning_of replayed).accepts back octets
+
+-- what stands where the source failed behind these octets: no refusal stands in them
+abbrev pub CutAnswer : List (List ℕ) → List ℕ → List ℕ → Type 0
+CutAnswer words taken octets =
+    IsCommand words × ((IsUndivided taken × (octets ≡ [])) ⊎ CutReplay words taken octets)

@@ -1,6 +1,6 @@
 -- The input of a command: the network text up to the first line that says `---`, or to the end, and
 -- then the records, a line each (this project's profile).
-use Rattle.std.specs.Prelude.{◌≡◌, ◌⊎◌, ℕ, ◌<◌, ◌≤◌, Bool, true, false, if◌then◌else◌, List, [], ◌∷◌, ◌++◌, length, map, codes}
+use Rattle.std.specs.Prelude.{◌≡◌, ◌⊎◌, ℕ, ◌<◌, ◌≤◌, Bool, true, false, if◌then◌else◌, List, [], ◌∷◌, ◌++◌, length, codes}
 use Rattle.std.specs.Io.{StartsWith}
 use Rattle.std.specs.List.{concat, AllByRecursion}
 use Rattle.std.specs.Str.{bytes_eq}
@@ -26,10 +26,6 @@ behind_separator (line ∷ lines) = if is_separator line then lines else behind_
 -- the network text of an input
 abbrev pub network_text : List ℕ → List ℕ
 network_text input = before_separator (lines_of input)
-
--- what the record lines of an input say
-abbrev pub record_lines : List ℕ → List (List ℕ)
-record_lines input = map content_of (behind_separator (lines_of input))
 
 -- how many octets a network text may have
 abbrev pub network_limit : ℕ

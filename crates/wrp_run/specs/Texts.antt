@@ -8,7 +8,6 @@ use Rattle.wrp_base.specs.declared.link.LinkWord.{LinkWord}
 use Rattle.wrp_base.specs.declared.message.Body.TheVariants.{Signal}
 use Rattle.wrp_base.specs.declared.message.PtpMsg.{PtpMsg}
 use Rattle.wrp_base.specs.declared.message.WrMsg.{WrMsg}
-use Rattle.wrp_data.specs.Counters.{nonzero_counts}
 use Rattle.wrp_data.specs.Reason.{name_of as reason_name}
 use Rattle.wrp_data.specs.declared.reason.Reason.{Reason}
 use Rattle.wrp_frame.specs.SentOctets.{octets_of}
@@ -16,7 +15,7 @@ use Rattle.wrp_base.specs.declared.link.LinkWord.TheVariants.{Down, Quiet, Ptp, 
 use Rattle.wrp_run.specs.declared.records.Record.{Record}
 use Rattle.wrp_run.specs.declared.nodes.Node.{Node}
 use Rattle.wrp_run.specs.Nodes.{name_of, own_of, peer_of}
-use Rattle.wrp_run.specs.History.{word_after, ticks_since_reset, next_sequence, sends_by, counters_after}
+use Rattle.wrp_run.specs.History.{word_after, ticks_since_reset, next_sequence, sends_by}
 
 -- how a link word is written
 abbrev pub word_text : LinkWord → List ℕ
@@ -98,12 +97,6 @@ count_lines node (count ∷ counts) = count_line node count.0 count.1 ++ count_l
 abbrev pub lines_of_records : Node → List Record → List ℕ
 lines_of_records node records = written_by node (reverse records)
 
--- the text that is due for a list of records at the end of the input: their lines, and then those
--- of the counters that are not 0
-abbrev pub text_of : Node → List Record → List ℕ
-text_of node records =
-    lines_of_records node records ++ count_lines node (nonzero_counts (counters_after node (reverse records)))
-
 -- the only line where the words are no command
 abbrev pub usage_line : List ℕ
 usage_line =
@@ -117,6 +110,6 @@ bad_network_line = codes "bad-network\n"
 abbrev pub bad_trace_line : ℕ → List ℕ
 bad_trace_line number = codes "bad-trace " ++ decimal number ++ 10 ∷ []
 
--- the only line where the whole input is too large
+-- the only line where the network text is too large
 abbrev pub too_large_line : List ℕ
 too_large_line = codes "too-large 0\n"

@@ -254,6 +254,9 @@ pub fn handle_records<M: Machine, S: Source, K: Sink>(
         (S.left source.old) (S.left source.new) (K.held sink.old) (K.held sink.new) result }
     ensures at_end { reader.new.ended ≡ true → IsAtEnd (S.left source.new) }
 
+    // A source that ended is not asked again.
+    ensures goes { result ≡ Status.ReadFault → reader.old.ended ≡ true → ⊥ }
+
     // The source failed exactly where ReadFault is answered, and the sink where WriteFault is.
     ensures read_fault { result ≡ Status.ReadFault
         → Rose (S.faults source.old) (S.faults source.new) }

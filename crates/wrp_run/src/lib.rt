@@ -17,12 +17,10 @@ mod network_text;
 mod nodes;
 mod parse;
 mod reader;
-mod reading;
 mod records;
 mod replay;
 mod status;
 mod text;
-mod words;
 mod writing;
 
 pub use command::run;

@@ -1,5 +1,6 @@
 //! The nodes of the two-node network, as far as a replay knows them: each has one port.
-ghost use Rattle.std.specs.Prelude.{◌≡◌};
+ghost use Rattle.std.specs.Prelude.{◌≡◌, MatchOption};
+ghost use Rattle.wrp_run.specs.declared.nodes.Node.{Node};
 ghost use Rattle.wrp_run.specs.Nodes.{name_of, role_of, own_of, peer_of, fitted_of, fitted_name_of};
 
 use wrp_base::{Module, PortIdentity, Role};
@@ -79,5 +80,18 @@ impl Node {
             Node::Gm => "blue",
             Node::Sw1 => "violet",
         }
+    }
+}
+
+/// The node of a name, if there is one.
+pub fn node_named(name: &str) -> Option<Node>
+    ensures { MatchOption result
+        ((node : Node) → name.now ≡ name_of node → ⊥)
+        (λ node. name.now ≡ name_of node) }
+{
+    match name {
+        "gm" => Some(Node::Gm),
+        "sw1" => Some(Node::Sw1),
+        _ => None,
     }
 }

@@ -1,19 +1,19 @@
 //! The replay of one node's recorded inputs.
 ghost use Rattle.std.specs.Prelude.{◌≡◌, ◌<◌, ◌≤◌, ◌+◌, ◌%◌, ◌++◌, ◌^◌, ℕ, List, [], ◌∷◌, map, length, IfOk};
 ghost use Rattle.wrp_run.specs.declared.records.Record.{Record};
-ghost use Rattle.wrp_run.specs.Lines.{lines_of, content_of};
 ghost use Rattle.wrp_base.specs.Calls.{Adds};
 ghost use Rattle.wrp_link.specs.Table.{word_of};
 ghost use Rattle.wrp_run.specs.History.{input_by, after_input, sends_for, sends_by, used_by, counts_by, early_reason as early_reason_of, late_reason as late_reason_of};
 ghost use Rattle.wrp_run.specs.Texts.{record_lines_of};
-ghost use Rattle.wrp_run.specs.Answer.{ReplayAnswer};
-ghost use Rattle.wrp_run.specs.StandsFor.{StandsFor};
+ghost use Rattle.wrp_run.specs.declared.machine.Refusal.{Refusal};
+ghost use Rattle.wrp_run.specs.declared.machine.Taken.{Taken};
+ghost use Rattle.wrp_run.specs.Replays.{Accepts, Refuses, Closes};
+ghost use Rattle.wrp_run.specs.StandsFor.{StandsFor, HasTaken};
 
 use crate::frames::{drop_reason, is_useful, link_input, reason_of};
-use crate::line::{content, first_line};
+use crate::machine::{Machine, Refusal, Taken};
 use crate::nodes::Node;
 use crate::records::{Record, read_record};
-use crate::status::Status;
 use crate::text::{append_bad_trace, append_change, append_counts, append_sends};
 use arrayvec::ArrayVec;
 use std::alloc::{AllocError, Global};
@@ -34,15 +34,6 @@ const DEFAULT_SET: LinkSet = LinkSet {
 // The messages that one record makes the link send.
 type Sends = ArrayVec<WrMsg, 2>;
 
-/// A status, and the text that goes with it.
-#[derive(Drop)]
-pub struct Reply {
-    /// What the run ends with.
-    pub status: Status,
-    /// What it writes.
-    pub text: Vec<u8>,
-}
-
 // What the link answered: what it sends, and whether it used the input.
 #[derive(Drop)]
 struct Stepped {
@@ -50,10 +41,10 @@ struct Stepped {
     used: bool,
 }
 
-// The node as far as it is replayed: the link of its port 1, its tick count, the sequenceId of its
-// next Signaling, and its counters of dropped frames.
+/// The node as far as it is replayed: the link of its port 1, its tick count, the sequenceId of its
+/// next Signaling, and its counters of dropped frames.
 #[derive(Drop)]
-struct ReplayedNode {
+pub struct ReplayedNode {
     node: Node,
     link: Link,
     ticks: u64,
@@ -62,8 +53,8 @@ struct ReplayedNode {
 }
 
 impl ReplayedNode {
-    // A node before its first record.
-    fn new(node: Node) -> ReplayedNode
+    /// A node before its first record.
+    pub fn new(node: Node) -> ReplayedNode
         ensures stands { StandsFor result [] }
         ensures node { result.node ≡ node }
         ensures ticks { result.ticks ≡ 0 }
@@ -187,6 +178,75 @@ impl ReplayedNode {
         append_change(alloc, text, self.node, self.ticks, before, self.link.word())?;
         append_sends(alloc, text, self.node, self.ticks, first, &sends)
     }
+
+    // Takes what a line says, and appends what it writes, or the line that names it.
+    fn handle(
+        &mut self,
+        alloc: Global,
+        line: &[u8],
+        number: u32,
+        text: &mut Vec<u8>,
+    ) -> Result<Taken, AllocError>
+        requires none { text.old.items ≡ [] }
+        requires room { self.old.ticks + 1 < 2 ^ 32 }
+        ensures count { self.new.ticks ≤ self.old.ticks + 1 }
+        ensures node { self.new.node ≡ self.old.node }
+        ensures accepted { (lines : List (List ℕ)) (before : List ℕ)
+            → IfOk result (λ taken. taken ≡ Taken.Accepted
+            → HasTaken self.old lines → Accepts self.old.node lines before
+            → HasTaken self.new (lines ++ line.now ∷ [])
+            × Accepts self.old.node (lines ++ line.now ∷ []) (before ++ text.new.items)) }
+        ensures refused { (lines : List (List ℕ)) (refusal : Refusal)
+            → IfOk result (λ taken. taken ≡ Taken.Refused refusal
+            → HasTaken self.old lines → number ≡ length lines + 1
+            → Refuses self.old.node lines line.now refusal text.new.items) }
+        ensures enough { IfOk result (λ taken. taken ≡ Taken.Memory → ⊥) }
+    {
+        let read = read_record(alloc, self.node, line)?;
+        match read {
+            Some(found) => {
+                self.write(alloc, found, text)?;
+                Ok(Taken::Accepted)
+            }
+            None => {
+                append_bad_trace(alloc, text, number)?;
+                Ok(Taken::Refused(Refusal::BadTrace))
+            }
+        }
+    }
+
+    /// Appends the lines that close the records.
+    pub fn close(&self, alloc: Global, text: &mut Vec<u8>) -> Result<(), AllocError>
+        requires none { text.old.items ≡ [] }
+        ensures { (lines : List (List ℕ)) → IfOk result (λ _. HasTaken self.now lines
+            → Closes self.now.node lines text.new.items) }
+    {
+        append_counts(alloc, text, self.node, &self.counters)
+    }
+}
+
+impl Machine for ReplayedNode {
+    ghost use Rattle.wrp_run.specs.Replays.{Accepts, Refuses};
+    ghost use Rattle.wrp_run.specs.StandsFor.{HasTaken};
+
+    type Setting = Node;
+
+    ghost setting = { λ s. s.node };
+
+    ghost count = { λ s. s.ticks };
+
+    ghost has_taken = { HasTaken };
+
+    ghost accepts = { Accepts };
+
+    ghost refuses = { Refuses };
+
+    fn take(&mut self, alloc: Global, line: &[u8], number: u32, text: &mut Vec<u8>) -> Taken {
+        match self.handle(alloc, line, number, text) {
+            Ok(taken) => taken,
+            Err(_) => Taken::Memory,
+        }
+    }
 }
 
 // The reason for which a record's frame is dropped, where the link was told of it or not.
@@ -203,37 +263,4 @@ fn late_reason(node: Node, found: Record, early: Option<Reason>, used: bool) -> 
         }
         _ => early,
     }
-}
-
-/// Replays the lines of some octets: the status and the text that are due.
-pub fn replay(alloc: Global, node: Node, octets: &[u8]) -> Result<Reply, AllocError>
-    requires { length octets.now < 2 ^ 62 }
-    ensures { IfOk result (λ reply.
-        ReplayAnswer node (map content_of (lines_of octets.now)) reply.status reply.text.items) }
-{
-    let mut replay = ReplayedNode::new(node);
-    let mut text = Vec::new(alloc);
-    let mut number = 0;
-    let mut at = 0;
-    while at < octets.len() {
-        let end = at + first_line(&octets[at..]);
-        number += 1;
-        let read = read_record(alloc, node, content(&octets[at..end]))?;
-        match read {
-            Some(found) => replay.write(alloc, found, &mut text)?,
-            None => {
-                append_bad_trace(alloc, &mut text, number)?;
-                return Ok(Reply {
-                    status: Status::BadTrace,
-                    text,
-                });
-            }
-        }
-        at = end;
-    }
-    append_counts(alloc, &mut text, node, &replay.counters)?;
-    Ok(Reply {
-        status: Status::Done,
-        text,
-    })
 }

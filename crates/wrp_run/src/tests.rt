@@ -137,6 +137,22 @@ fn whole_runs(rt: HostRuntime) -> Result<(), Fail> {
 }
 
 #[test]
+fn reads_no_further(rt: HostRuntime) -> Result<(), Fail> {
+    let alloc = rt.alloc();
+    let ticks = "tick\n".repeat(alloc, 1_000_000)?;
+    let input = format!(in alloc; "{TWO_NODES}---\ntick,1\n{ticks}")?;
+    let mut source = MemSource::new(input.as_bytes().to_vec(alloc)?, Vec::new(alloc));
+    let mut sink = MemSink::new(alloc, 4096, Vec::new(alloc))?;
+    let mut link = MemLink::new(alloc, 0, Vec::new(alloc))?;
+    let words = ["replay", "--node", "sw1"];
+    let status = run(alloc, words.as_slice(), &mut source, &mut sink, &mut link);
+    assert_eq!(rt; status, Status::BadTrace);
+    assert!(rt; sink.octets() == b"bad-trace 1\n".as_slice());
+    assert!(rt; source.left().len() >= 4_900_000);
+    Ok(())
+}
+
+#[test]
 fn numbers(rt: HostRuntime) {
     let statuses = [
         Status::Done,

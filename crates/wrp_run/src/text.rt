@@ -20,7 +20,7 @@ pub const USAGE_LINE: &str =
 /// The line where the network text is another.
 pub const BAD_NETWORK_LINE: &str = "bad-network\n";
 
-/// The line where the whole input is too large.
+/// The line where the network text is too large.
 pub const TOO_LARGE_LINE: &str = "too-large 0\n";
 
 // How a link word is written.
@@ -183,7 +183,7 @@ fn append_count(
 }
 
 /// Appends the line of a refused record.
-pub fn append_bad_trace(alloc: Global, text: &mut Vec<u8>, number: usize) -> Result<(), AllocError>
+pub fn append_bad_trace(alloc: Global, text: &mut Vec<u8>, number: u32) -> Result<(), AllocError>
     ensures { IfOk result (λ _. text.new.items ≡ text.old.items ++ bad_trace_line number) }
 {
     let line = format!(in alloc; "bad-trace {number}\n")?;

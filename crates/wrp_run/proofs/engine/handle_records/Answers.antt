@@ -15,6 +15,7 @@ records-init g c = record {
   setting = refl;
   count = omega (arith, c.requires.none);
   at_end = c.requires.at_end;
+  ended = λ is. is;
   source = refl;
   sink = refl;
 }
@@ -82,6 +83,7 @@ records-preserved g c =
       setting = search rules;
       count = omega (arith, c.handle_line.ensures.count, c.records.invariant.count);
       at_end = search rules;
+      ended = search rules;
       source = search rules;
       sink = search rules;
     }

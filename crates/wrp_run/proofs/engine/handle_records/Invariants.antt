@@ -12,6 +12,7 @@ invariant-records g l =
       setting : g.M.Machine.setting l.machine ≡ g.M.Machine.setting l.fn.machine;
       count : g.M.Machine.count l.machine ≤ l.number;
       at_end : l.reader.ended ≡ true → IsAtEnd (g.S.Source.left l.source);
+      ended : l.fn.reader.ended ≡ true → l.reader.ended ≡ true;
       source : g.S.Source.faults l.source ≡ g.S.Source.faults l.fn.source;
       sink : g.K.Sink.faults l.sink ≡ g.K.Sink.faults l.fn.sink;
     }

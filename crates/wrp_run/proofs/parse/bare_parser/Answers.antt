@@ -1,5 +1,5 @@
 -- A command line with no command, a setting at a time.
-use Rattle.std.proofs.Common.{ap, true, ◌≡◌, ◌∙◌}
+use Rattle.std.proofs.Common.{ap, true, ◌∙◌}
 use Rattle.clap.specs.Simple.{App, app_of_fields, on_top}
 use Rattle.wrp_run.proofs.parse.bare_parser.Goals as goal
 

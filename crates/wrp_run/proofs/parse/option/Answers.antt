@@ -1,5 +1,5 @@
 -- An option, a setting at a time.
-use Rattle.std.proofs.Common.{rules, ap, Some, ◌≡◌, ◌∙◌}
+use Rattle.std.proofs.Common.{rules, ap, Some, ◌∙◌}
 use Rattle.clap.specs.Words.{Rule, rule_of}
 use Rattle.wrp_run.proofs.parse.option.Goals as goal
 

@@ -1,5 +1,5 @@
 -- The command line, a command at a time.
-use Rattle.std.proofs.Common.{ap₂, codes, ℕ, List, ◌≡◌, ◌∙◌}
+use Rattle.std.proofs.Common.{ap₂, codes, ℕ, List, ◌∙◌}
 use Rattle.std.proofs.lemmas.Result.{IfOk-weaker}
 use Rattle.clap.specs.Words.{App, Rule, new_app, with_rule, with_subcommand}
 use Rattle.wrp_run.proofs.parse.parser.Goals as goal

@@ -1,5 +1,5 @@
 -- The value of the option is that of the rows of the command that was found.
-use Rattle.std.proofs.Common.{ap, sym, ◌≡◌, ◌∙◌}
+use Rattle.std.proofs.Common.{ap, sym, ◌∙◌}
 use Rattle.std.specs.Prelude.{option_and_then}
 use Rattle.clap.proofs.WalkLemmas.{first_value-rows}
 use Rattle.clap.specs.Words.{first_of, found_of, subcommand_rows_of}
