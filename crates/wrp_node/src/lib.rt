@@ -11,6 +11,8 @@ mod order;
 mod parts;
 mod place;
 mod ports;
+#[cfg(test)]
+mod tests;
 mod told;
 
 pub use interface::{Input, NodeSet, Output, Outputs, Report};
