@@ -1,0 +1,3 @@
+mod PortLaws
+mod PairLaws
+mod TheoremLaws

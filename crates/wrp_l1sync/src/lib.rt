@@ -1,0 +1,21 @@
+//! Two ends of a link that agree on coherence by periodic messages, after Annex L of IEEE 1588-2019:
+//! the message and its TLV, the machine of one end, and a pair of ends that hand each other's
+//! messages over late, again or never. The choices that the standard leaves open are this project's
+//! profile.
+#![tactic(auto)]
+
+mod event;
+mod interface;
+mod kept;
+mod message;
+mod one_end;
+mod pair;
+mod port;
+#[cfg(test)]
+mod tests;
+
+pub use event::{L1Event, L1Refused};
+pub use interface::{L1In, L1Out, L1State};
+pub use message::{L1Msg, l1_of, put_l1};
+pub use pair::L1Pair;
+pub use port::L1Port;
