@@ -61,7 +61,7 @@ fn links(rt: HostRuntime) -> Result<(), Fail> {
 
 #[test]
 fn bounds_of_the_reference(rt: HostRuntime) -> Result<(), Fail> {
-    for (part, other, path_of_sw1, holdover_of_sw1, path_of_leaf) in BOUNDS {
+    for (part, other, path_of_sw1, holdover_of_sw1, path_of_leaf, points) in BOUNDS {
         let text = changed(rt.alloc(), part, other).ok().ok_or("memory")?;
         let Ok(network) = Network::read(rt.alloc(), text.as_bytes()) else {
             return Err("not read".into());
@@ -69,7 +69,11 @@ fn bounds_of_the_reference(rt: HostRuntime) -> Result<(), Fail> {
         assert_eq!(rt; network.node_named("leaf"), Some(2));
         assert_eq!(rt; network.node_named("f1"), None);
         assert_eq!(rt; network.link_named("f2"), Some(1));
-        assert!(rt; network.table_of(1).is_none());
+        let stored = match network.table_of(1) {
+            Some(stored) => stored.len(),
+            None => 0,
+        };
+        assert_eq!(rt; stored, points);
         assert_eq!(rt; network.module_at_port(1, 2, "blue").is_some(), true);
         assert_eq!(rt; network.module_at_port(1, 3, "blue"), None);
         assert!(rt; network.cfg.nodes.len() == 3);

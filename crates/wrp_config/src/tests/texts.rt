@@ -265,16 +265,69 @@ pub const LINKS: [(&str, &str, u8, &str); 25] = [
     ),
 ];
 
-/// A part of the reference, what stands for it the first time, and the bounds that come, in tau: in
-/// TRACK and in HOLDOVER of sw1, in TRACK of leaf.
-pub const BOUNDS: [(&str, &str, i128, i128, i128); 3] = [
-    ("gm", "gm", 19_629_219, 21_943_296, 44_823_245),
+// The reference in version 2: each module has one entry, for any pair of wavelengths, and the link of
+// leaf has two of its own.
+const VERSION_2: &str = r#"version = 2
+[[node]]
+name = "gm"
+identity = "001bc5fffe000001"
+[[node]]
+name = "sw1"
+identity = "001bc5fffe000002"
+[[node]]
+name = "leaf"
+identity = "001bc5fffe000003"
+[[link]]
+name = "f1"
+upper = "gm:1"
+lower = "sw1:1"
+fibre = "smf"
+upper_module = "blue"
+lower_module = "violet"
+[[link]]
+name = "f2"
+upper = "sw1:2"
+lower = "leaf:1"
+down_nm = 1490
+up_nm = 1310
+fibre = "smf"
+upper_module = "blue"
+lower_module = "violet"
+[[module]]
+name = "blue"
+[[module.pair]]
+tx_nm = 0
+rx_nm = 0
+tx = 14745600000
+rx = 14745600000
+transition = 0
+err = 1310720
+[[module]]
+name = "violet"
+[[module.pair]]
+tx_nm = 0
+rx_nm = 0
+tx = 14811136000
+rx = 14876672000
+transition = 0
+err = 1310720
+[[fibre]]
+name = "smf"
+kappa = 73622176
+err = 1310720
+"#;
+
+/// A part of the reference, what stands for it the first time, the bounds that come, in tau (in TRACK
+/// and in HOLDOVER of sw1, in TRACK of leaf), and how many points the law of its fibre has.
+pub const BOUNDS: [(&str, &str, i128, i128, i128, usize); 5] = [
+    ("gm", "gm", 19_629_219, 21_943_296, 44_823_245, 0),
     (
         "[[node]]",
         "[network]\nperiod_ps = 16000\n[[node]]",
         20_109_241,
         22_423_318,
         45_783_288,
+        0,
     ),
     (
         "lower = \"leaf:1\"",
@@ -282,5 +335,15 @@ pub const BOUNDS: [(&str, &str, i128, i128, i128); 3] = [
         19_629_219,
         21_943_296,
         44_823_245,
+        0,
+    ),
+    (REFERENCE, VERSION_2, 19_629_219, 21_943_296, 44_823_245, 0),
+    (
+        "kappa = 73622176",
+        "kappa = 73622176\ntable = [[0, 0], [13107200000000, 6554477644730]]\ntable_err = 1",
+        19_629_220,
+        21_943_297,
+        44_823_247,
+        2,
     ),
 ];
