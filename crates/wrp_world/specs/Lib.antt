@@ -1,0 +1,10 @@
+pub mod Checks
+pub mod Given
+pub mod Laws
+pub mod Moved
+pub mod Premises
+pub mod Rows
+pub mod Run
+pub mod Setting
+pub mod Views
+pub mod WorldAt

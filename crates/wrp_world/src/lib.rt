@@ -1,0 +1,9 @@
+//! A network of nodes over true time: clocks, fibres and frames in flight, and the thirteen premises under
+//! which an event may come (this project's profile).
+#![tactic(auto)]
+
+mod event;
+mod laws;
+
+pub use event::{Event, Swap};
+pub use laws::{accepted_is_unbroken, worked_rows};
