@@ -28,3 +28,7 @@ number_key name least greatest = required_key name (so.Number least greatest)
 abbrev pub default_key : List ℕ → ℤ → ℤ → ℤ → Key
 default_key name least greatest default =
     record { name = name; need = ne.Default default; sort = so.Number least greatest }
+
+-- a key with what stands for it where it is missing
+abbrev pub defaulted_key : List ℕ → Sort → ℤ → Key
+defaulted_key name sort default = record { name = name; need = ne.Default default; sort = sort }

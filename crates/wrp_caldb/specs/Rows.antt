@@ -7,7 +7,7 @@ use Rattle.std.specs.List.{find, list_all, list_any}
 use Rattle.std.specs.Int.Signed.{le_z}
 use Rattle.toml.specs.Data.{Data, Members, no_members, member, as_bool, as_integer, as_str, as_table, get_member}
 use Rattle.wrp_caldb.specs.Key.{Key}
-use Rattle.wrp_caldb.specs.Name.{same_name, is_name, is_module_name}
+use Rattle.wrp_caldb.specs.Name.{same_name, is_name, is_module_name, is_identity}
 use Rattle.wrp_caldb.specs.Points.{values_of, stored_points, is_table}
 use Rattle.wrp_caldb.specs.declared.row.Sort.{Sort}
 use Rattle.wrp_caldb.specs.declared.row.Sort.TheVariants as so
@@ -20,6 +20,11 @@ use Rattle.wrp_caldb.specs.declared.row.Code.TheVariants as co
 abbrev pub in_range : ℤ → ℤ → Option ℤ → Bool
 in_range least greatest None = false
 in_range least greatest (Some z) = le_z least z && le_z z greatest
+
+-- one of two whole numbers
+abbrev pub is_one_of : ℤ → ℤ → Option ℤ → Bool
+is_one_of first second None = false
+is_one_of first second (Some z) = int_eq z first || int_eq z second
 
 -- a wavelength in nm: 0, or 800 to 1700
 abbrev pub is_wavelength : Option ℤ → Bool
@@ -56,6 +61,8 @@ is_array_of_tables least greatest (Some ds) = are_tables least greatest ds
 -- the value is of this sort
 abbrev pub fits_sort : Sort → Data → Bool
 fits_sort (so.Number least greatest) d = in_range least greatest (as_integer d)
+fits_sort (so.OneOf first second) d = is_one_of first second (as_integer d)
+fits_sort so.Identity d = is_text_of is_identity (as_str d)
 fits_sort so.Wavelength d = is_wavelength (as_integer d)
 fits_sort (so.SecondWavelength first) d =
     is_wavelength (as_integer d) && fits_first first (as_integer d)

@@ -1,9 +1,10 @@
 //! The calibration database: modules with their entries, fibres with their laws, and the calls that
 //! look a name up.
-ghost use Rattle.std.specs.Prelude.{◌≡◌, option_map, Some, None};
+ghost use Rattle.std.specs.Prelude.{◌≡◌, ◌≤◌, option_map, Some, None, IfSome};
 ghost use Rattle.std.specs.List.{find};
 ghost use Rattle.wrp_caldb.specs.Name.{same_name};
 ghost use Rattle.wrp_caldb.specs.Database.{TableAt, entry_at, delays_at, module_at, fibre_at, table_at};
+ghost use Rattle.wrp_caldb.specs.Text.{IsListed};
 
 use crate::points::Points;
 use std::marker::Model;
@@ -83,11 +84,14 @@ pub struct StoredTable {
 }
 
 impl Model for StoredTable {
+    ghost use Rattle.std.specs.Prelude.{◌≤◌};
     ghost use Rattle.wrp_caldb.specs.Database.{TableAt};
 
     ghost Value = { TableAt };
 
     ghost view = { λ t. record { points = t.points.items; err = t.err } };
+
+    ghost invariant = { λ t. t.err ≤ 1_000_000_000 };
 }
 
 /// A listed fibre.
@@ -123,7 +127,9 @@ impl ListedFibre {
 
     /// The points of its stored law and their error, both in tau; `None` where it has no table.
     pub fn table(&self) -> Option<(&[(i64, i64)], u64)>
-        ensures { option_map (λ t. record { points = t.0.now; err = t.1 }) result ≡ self.now.table }
+        ensures value { option_map (λ t. record { points = t.0.now; err = t.1 }) result
+            ≡ self.now.table }
+        ensures small { IfSome result (λ t. t.1 ≤ 1_000_000_000) }
     {
         match &self.table {
             Some(table) => Some((table.points.as_slice(), table.err)),
@@ -132,11 +138,26 @@ impl ListedFibre {
     }
 }
 
-/// The calibration database.
+/// The modules and the fibres that a table lists, which may not be accepted: what is no number
+/// of its row stands as 0, and what is no name as none.
 #[derive(Debug, Drop)]
-pub struct CalDb {
+pub struct Lists {
     pub(crate) modules: Vec<ListedModule>,
     pub(crate) fibres: Vec<ListedFibre>,
+}
+
+impl Model for Lists {
+    ghost use Rattle.wrp_caldb.specs.Database.{Database};
+
+    ghost Value = { Database };
+
+    ghost view = { λ d. record { modules = d.modules.items; fibres = d.fibres.items } };
+}
+
+/// The calibration database: the modules and the fibres of an accepted text.
+#[derive(Debug, Drop)]
+pub struct CalDb {
+    pub(crate) lists: Lists,
 }
 
 impl Model for CalDb {
@@ -145,10 +166,9 @@ impl Model for CalDb {
 
     ghost Value = { Database };
 
-    ghost view = { λ d. record { modules = d.modules.items; fibres = d.fibres.items } };
+    ghost view = { λ d. d.lists };
 
-    ghost invariant = { λ d.
-        IsListed (record { modules = d.modules.items; fibres = d.fibres.items }) };
+    ghost invariant = { λ d. IsListed d.lists };
 }
 
 // The module of a name.
@@ -165,7 +185,7 @@ fn fibre_named<'a>(fibres: &'a [ListedFibre], name: &str) -> Option<&'a ListedFi
     fibres.iter().find(|fibre| fibre.name() == name)
 }
 
-impl CalDb {
+impl Lists {
     /// The listed modules in the order of the text.
     pub fn modules(&self) -> &[ListedModule]
         ensures { result.now ≡ self.now.modules }
@@ -191,14 +211,6 @@ impl CalDb {
         }
     }
 
-    /// The numbers of a module for any pair of wavelengths. `None` exactly where the name is not
-    /// listed or has no entry of 0 and 0.
-    pub fn module(&self, name: &str) -> Option<Module>
-        ensures { result ≡ module_at self.now name.now 0 0 }
-    {
-        self.module_at(name, 0, 0)
-    }
-
     /// The asymmetry of a fibre and its error. `None` exactly where the name is not listed.
     pub fn fibre(&self, name: &str) -> Option<Fibre>
         ensures { result ≡ fibre_at self.now name.now }
@@ -212,12 +224,77 @@ impl CalDb {
     /// The points of a fibre's stored law, each a two-way delay and a one-way delay down, and their
     /// error `table_err`, all in tau. `None` exactly where the name is not listed or has no table.
     pub fn table(&self, name: &str) -> Option<(&[(i64, i64)], u64)>
-        ensures { option_map (λ t. record { points = t.0.now; err = t.1 }) result
+        ensures value { option_map (λ t. record { points = t.0.now; err = t.1 }) result
             ≡ table_at self.now name.now }
+        ensures small { IfSome result (λ t. t.1 ≤ 1_000_000_000) }
     {
         match fibre_named(self.fibres(), name) {
             Some(fibre) => fibre.table(),
             None => None,
         }
+    }
+}
+
+impl CalDb {
+    /// The database of the lists of an accepted table.
+    pub fn of_lists(lists: Lists) -> CalDb
+        requires { IsListed lists }
+        ensures { result ≡ lists }
+    {
+        CalDb { lists }
+    }
+
+    /// What is listed, by itself.
+    pub fn lists(&self) -> &Lists
+        ensures { result.now ≡ self.now }
+    {
+        &self.lists
+    }
+
+    /// The listed modules in the order of the text.
+    pub fn modules(&self) -> &[ListedModule]
+        ensures { result.now ≡ self.now.modules }
+    {
+        self.lists.modules()
+    }
+
+    /// The listed fibres in the order of the text.
+    pub fn fibres(&self) -> &[ListedFibre]
+        ensures { result.now ≡ self.now.fibres }
+    {
+        self.lists.fibres()
+    }
+
+    /// The numbers of a module for a pair of wavelengths in nm: those of that pair, else those of 0
+    /// and 0. `None` exactly where the name is not listed or has neither.
+    pub fn module_at(&self, name: &str, tx_nm: u16, rx_nm: u16) -> Option<Module>
+        ensures { result ≡ module_at self.now name.now tx_nm rx_nm }
+    {
+        self.lists.module_at(name, tx_nm, rx_nm)
+    }
+
+    /// The numbers of a module for any pair of wavelengths. `None` exactly where the name is not
+    /// listed or has no entry of 0 and 0.
+    pub fn module(&self, name: &str) -> Option<Module>
+        ensures { result ≡ module_at self.now name.now 0 0 }
+    {
+        self.module_at(name, 0, 0)
+    }
+
+    /// The asymmetry of a fibre and its error. `None` exactly where the name is not listed.
+    pub fn fibre(&self, name: &str) -> Option<Fibre>
+        ensures { result ≡ fibre_at self.now name.now }
+    {
+        self.lists.fibre(name)
+    }
+
+    /// The points of a fibre's stored law, each a two-way delay and a one-way delay down, and their
+    /// error `table_err`, all in tau. `None` exactly where the name is not listed or has no table.
+    pub fn table(&self, name: &str) -> Option<(&[(i64, i64)], u64)>
+        ensures value { option_map (λ t. record { points = t.0.now; err = t.1 }) result
+            ≡ table_at self.now name.now }
+        ensures small { IfSome result (λ t. t.1 ≤ 1_000_000_000) }
+    {
+        self.lists.table(name)
     }
 }

@@ -11,8 +11,8 @@ use crate::sort::fits;
 use crate::value::value_at;
 use toml::Table;
 
-// Whether a row's key has a fault of a code.
-fn is_at_fault(table: &Table, row: &Row, code: Code) -> bool
+/// Whether a row's key has a fault of a code.
+pub fn is_at_fault(table: &Table, row: &Row, code: Code) -> bool
     ensures { result ≡ has_fault code row.now (get_member row.now.name (table_view table.now)) }
 {
     match code {

@@ -17,14 +17,14 @@ mod sort;
 mod text;
 mod value;
 
-pub use database::{CalDb, Entry, ListedFibre, ListedModule};
-pub use faults::{place_in_table, place_of_keys, place_of_others};
+pub use database::{CalDb, Entry, ListedFibre, ListedModule, Lists};
+pub use faults::{is_at_fault, place_in_table, place_of_keys, place_of_others};
 pub use judging::{place_in_lists, refusal};
 pub use keys::{Others, Version, fibre_row, module_row, version_of, version_row};
-pub use name::{is_module_name, is_name};
+pub use name::{is_identity, is_module_name, is_name};
 pub use place::{At, Place};
 pub use points::{Points, is_table_of_points, stored_points};
-pub use reading::{fault_at, syntax};
+pub use reading::{fault_at, name_at, name_of, natural, number, syntax};
 pub use repeats::{name_in, place_of_name};
 pub use row::{Code, Linear, Need, Row, Sort};
 pub use sort::{fits, number_at};

@@ -1,7 +1,7 @@
 //! Names of nodes, links, modules and fibres.
 ghost use Rattle.std.specs.Prelude.{◌≡◌, ◌&&◌, length, nat_le};
 ghost use Rattle.std.specs.List.{list_all};
-ghost use Rattle.wrp_caldb.specs.Name.{is_name_octet, is_name, is_module_name};
+ghost use Rattle.wrp_caldb.specs.Name.{is_name_octet, is_name, is_module_name, is_hex_digit, is_identity};
 
 // A letter, a digit or `_`.
 fn is_name_octet(octet: u8) -> bool
@@ -39,4 +39,23 @@ pub fn is_module_name(text: &str) -> bool
     ensures { result ≡ is_module_name text.now }
 {
     is_name(text) && text != "unlisted"
+}
+
+fn is_hex_digit(octet: u8) -> bool
+    ensures { result ≡ is_hex_digit octet }
+{
+    matches!(octet, b'0'..=b'9' | b'a'..=b'f')
+}
+
+fn are_hex_digits(octets: &[u8]) -> bool
+    ensures { result ≡ list_all is_hex_digit octets.now }
+{
+    octets.iter().all(|octet| is_hex_digit(*octet))
+}
+
+/// Whether a text is a clockIdentity: 16 hex digits in lower case.
+pub fn is_identity(text: &str) -> bool
+    ensures { result ≡ is_identity text.now }
+{
+    are_hex_digits(text.as_bytes()) && text.len() == 16
 }

@@ -8,7 +8,7 @@ ghost use Rattle.wrp_caldb.specs.Reading.{IsFaultAt, IsSyntax, IsAnswerOf, IsRea
 ghost use Rattle.wrp_caldb.specs.declared.keys.Others.TheVariants.{Refused, Ignored};
 ghost use Rattle.wrp_caldb.specs.declared.keys.Version.TheVariants.{One};
 
-use crate::database::{CalDb, Entry, ListedFibre, ListedModule, StoredTable};
+use crate::database::{CalDb, Entry, ListedFibre, ListedModule, Lists, StoredTable};
 use crate::judging::refusal;
 use crate::keys::{
     Others, Version, fibre_err_row, kappa_row, module_err_row, rx_nm_row, rx_row, table_err_row,
@@ -26,14 +26,15 @@ use std::alloc::{AllocError, Global};
 use toml::{Table, Value};
 use wrp_base::{ConfFault, Fibre, Module, Name};
 
-// The number at a row's key, or its default; 0 where no number of its sort stands there.
-fn number(table: &Table, row: &Row) -> i64
+/// The number at a row's key, or its default; 0 where no number of its sort stands there.
+pub fn number(table: &Table, row: &Row) -> i64
     ensures { result ≡ number_at row.now (table_view table.now) }
 {
     number_at(table, row).unwrap_or(0)
 }
 
-fn natural(table: &Table, row: &Row) -> u64
+/// The same, without a sign.
+pub fn natural(table: &Table, row: &Row) -> u64
     ensures { result ≡ natural_at row.now (table_view table.now) }
 {
     number(table, row).unsigned_abs()
@@ -59,8 +60,8 @@ fn second_nm(pair: &Table) -> u16
     natural(pair, &rx_nm_row(None)) as u16
 }
 
-// The name at `name`; none where no name stands there.
-fn name_at(table: &Table) -> Name
+/// The name at `name`; none where no name stands there.
+pub fn name_at(table: &Table) -> Name
     ensures { result.bytes ≡ name_at (table_view table.now) }
 {
     match name_in(table) {
@@ -69,7 +70,8 @@ fn name_at(table: &Table) -> Name
     }
 }
 
-fn name_of(text: &str) -> Name
+/// A text as a name; none where it is none.
+pub fn name_of(text: &str) -> Name
     ensures { result.bytes ≡ name_or_none (Some text.now) }
 {
     let mut name = Name::new();
@@ -207,9 +209,20 @@ fn database_of(alloc: Global, others: Others, doc: &Table) -> Result<CalDb, Allo
     requires { IsAccepted others (table_view doc.now) }
     ensures { IfOk result (λ db. db ≡ database_of (table_view doc.now)) }
 {
-    let modules = modules_of(alloc, version_of(doc), tables_at(doc, "module"))?;
-    let fibres = fibres_of(alloc, tables_at(doc, "fibre"))?;
-    Ok(CalDb { modules, fibres })
+    let lists = Lists::of_table(alloc, doc)?;
+    Ok(CalDb::of_lists(lists))
+}
+
+impl Lists {
+    /// Lists what the keys `version`, `module` and `fibre` of a table say, whether the table is
+    /// accepted or not.
+    pub fn of_table(alloc: Global, t: &Table) -> Result<Lists, AllocError>
+        ensures { IfOk result (λ lists. lists ≡ database_of (table_view t.now)) }
+    {
+        let modules = modules_of(alloc, version_of(t), tables_at(t, "module"))?;
+        let fibres = fibres_of(alloc, tables_at(t, "fibre"))?;
+        Ok(Lists { modules, fibres })
+    }
 }
 
 /// The fault of a code at a place, or want of memory for the place's text.

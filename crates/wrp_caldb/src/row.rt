@@ -1,7 +1,7 @@
 //! Rows as data: one row for each key of a table of a TOML text, with whether it is needed and the
 //! sort of its value. The network file has the same kind of rows.
 ghost use Rattle.std.specs.Prelude.{◌≡◌, ◌≤◌, length};
-ghost use Rattle.wrp_caldb.specs.Key.{required_key, optional_key, number_key, default_key};
+ghost use Rattle.wrp_caldb.specs.Key.{required_key, optional_key, number_key, default_key, defaulted_key};
 ghost use Rattle.wrp_caldb.specs.Refusal.{number_of};
 
 use std::marker::Model;
@@ -23,6 +23,13 @@ pub enum Sort {
         least: i64,
         greatest: i64,
     },
+    /// One of two whole numbers.
+    OneOf {
+        first: i64,
+        second: i64,
+    },
+    /// A clockIdentity: 16 hex digits in lower case.
+    Identity,
     /// A wavelength in nm: 0 for any, or 800 to 1700.
     Wavelength,
     /// A wavelength that is 0 exactly where the first one of its pair is.
@@ -147,6 +154,18 @@ impl Row {
             key,
             need: Need::Default(default),
             sort: Sort::Number { least, greatest },
+        }
+    }
+
+    /// A key with what stands for it where it is missing.
+    pub fn defaulted(key: &'static str, sort: Sort, default: i64) -> Row
+        requires { length key.now ≤ 16 }
+        ensures { result ≡ defaulted_key key.now sort default }
+    {
+        Row {
+            key,
+            need: Need::Default(default),
+            sort,
         }
     }
 

@@ -3,13 +3,22 @@ ghost use Rattle.std.specs.Prelude.{◌≡◌, ℕ, ℤ, List, Bool, Some, None,
 ghost use Rattle.toml.specs.Data.{get_member};
 ghost use Rattle.toml.specs.View.{view, table_view};
 ghost use Rattle.wrp_caldb.specs.Points.{values_of};
-ghost use Rattle.wrp_caldb.specs.Rows.{is_wavelength, fits_first, is_below, are_tables, is_array_of_tables, fits_sort, fitting_number, default_of, number_in};
+ghost use Rattle.wrp_caldb.specs.Rows.{is_one_of, is_wavelength, fits_first, is_below, are_tables, is_array_of_tables, fits_sort, fitting_number, default_of, number_in};
 
-use crate::name::{is_module_name, is_name};
+use crate::name::{is_identity, is_module_name, is_name};
 use crate::points::is_table_of_points;
 use crate::row::{Need, Row, Sort};
 use crate::value::{all_are_tables, array_of, is_table, value_at};
 use toml::{Table, Value};
+
+fn is_one_of(first: i64, second: i64, number: Option<i64>) -> bool
+    ensures { result ≡ is_one_of first second number }
+{
+    match number {
+        Some(number) => number == first || number == second,
+        None => false,
+    }
+}
 
 fn is_wavelength(number: Option<i64>) -> bool
     ensures { result ≡ is_wavelength number }
@@ -62,6 +71,11 @@ pub fn fits(sort: Sort, value: &Value) -> bool
     match sort {
         Sort::Number { least, greatest } => match value.as_integer() {
             Some(number) => least <= number && number <= greatest,
+            None => false,
+        },
+        Sort::OneOf { first, second } => is_one_of(first, second, value.as_integer()),
+        Sort::Identity => match value.as_str() {
+            Some(text) => is_identity(text),
             None => false,
         },
         Sort::Wavelength => is_wavelength(value.as_integer()),

@@ -207,7 +207,7 @@ impl CalDb {
         ensures same { IfOk result (λ octets. (answer : Result Database ConfFault)
             → IsReadingOf octets.items answer → IsSame self.now answer) }
     {
-        let _modules = &self.modules;
+        let _lists = &self.lists;
         let document = document_of(alloc, self)?;
         let text = printed(alloc, &document)?;
         Ok(octets_of(text))

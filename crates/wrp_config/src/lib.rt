@@ -2,6 +2,22 @@
 //! it with its code and its place (this project's profile).
 #![tactic(auto)]
 
+mod clash;
+mod config;
+mod ends;
+mod greatest;
+mod judging;
+mod keys;
+mod laws;
+mod link_rows;
+mod links;
 mod network;
+mod reading;
+mod settings;
+mod tree;
 
+pub use laws::{child_is_deeper, modules_are_listed, one_grandmaster, port_is_of_one_link};
 pub use network::Network;
+
+#[cfg(test)]
+mod tests;

@@ -1,14 +1,13 @@
 -- What each call adds to the list that a servo stands for.
-use Rattle.std.proofs.Common.{◌≡◌, ℕ, ℤ, pos, ◌+◌, ◌-◌, ◌+ℤ◌, List, [], ◌∷◌, map, take, length, ◌≤◌, Option, refl, ap, ap₂, ◌∙◌, sym, subst, arith}
+use Rattle.std.proofs.Common.{◌≡◌, ℕ, ℤ, pos, ◌+◌, ◌-◌, ◌+ℤ◌, List, ◌∷◌, map, take, length, ◌≤◌, ap, ap₂, ◌∙◌, sym, subst, arith}
 use Rattle.std.proofs.lemmas.Int.{ints}
 use Rattle.std.proofs.lemmas.List.{take-map, length-take}
 use Rattle.circular_buffer.specs.Buffer.{Buffer, buffer}
 use Rattle.wrp_base.specs.Calls.{Adds}
 use Rattle.wrp_plain.specs.declared.settings.PlainSet.{PlainSet}
-use Rattle.wrp_plain.specs.declared.settings.PlainReport.{PlainReport}
 use Rattle.wrp_plain.specs.declared.kept.Kept.{Kept}
 use Rattle.wrp_plain.specs.Measurement.{est_of, base_of, round_of}
-use Rattle.wrp_plain.specs.Call.{Call, CallMeasured, CallTick, CallCommand, Mark, marks, marks_before, ticks_in}
+use Rattle.wrp_plain.specs.Call.{Call, CallMeasured, CallTick, CallCommand, Mark, marks}
 use Rattle.wrp_plain.specs.Report.{report_at, least_report, report_of}
 use Rattle.wrp_plain.specs.StandsFor.{PlainAt, mark_of, marks_from, marks_at, StandsFor, IsKept, AreKept}
 use Rattle.wrp_plain.proofs.Marks.{later, moved_by, marks_before-tick, marks_before-moved, marks_from-tick, marks_from-moved, marks_from-take, take-cons, AreKept-take}

@@ -1,11 +1,10 @@
 -- Half of what the round trip leaves open bounds the offset.
-use Rattle.std.proofs.Common.{◌≡◌, ℕ, ℤ, pos, negsuc, ◌+◌, ◌*◌, ◌<◌, ◌≤◌, ◌≤ℤ◌, ◌<ℤ◌, ◌+ℤ◌, ◌-ℤ◌, ◌*ℤ◌, neg_ℤ, unsigned_abs, arith}
+use Rattle.std.proofs.Common.{ℕ, ℤ, pos, ◌+◌, ◌*◌, ◌≤◌, ◌≤ℤ◌, ◌<ℤ◌, ◌+ℤ◌, ◌-ℤ◌, ◌*ℤ◌, neg_ℤ, unsigned_abs, arith}
 use Rattle.std.proofs.lemmas.Int.{ints}
 use Rattle.wrp_base.specs.Division.{floor_quotient, ceil_quotient}
 use Rattle.wrp_base.proofs.DivisionLaws.{floor_quotient-at_most, floor_quotient-next}
-use Rattle.wrp_plain.specs.declared.settings.PlainSet.{PlainSet}
-use Rattle.wrp_plain.specs.Measurement.{exchange_move, round_of, least_round, est_of, base_of}
-use Rattle.wrp_plain.specs.Truth.{Exchange, Keeps, MeasuredWithinBound}
+use Rattle.wrp_plain.specs.Measurement.{exchange_move, round_of, est_of, base_of}
+use Rattle.wrp_plain.specs.Truth.{MeasuredWithinBound}
 
 -- both sides of a bound
 two_sides : (a : ℤ) (n : ℕ) → unsigned_abs a ≤ n → (neg_ℤ (pos n) ≤ℤ a) × (a ≤ℤ pos n)

@@ -1,5 +1,5 @@
 -- The lesser of two reports, taken over a list, is the first of the least bound.
-use Rattle.std.proofs.Common.{◌≡◌, ◌≢◌, ℕ, ℤ, ◌+◌, ◌*◌, ◌^◌, ◌≤◌, ◌+ℤ◌, ◌≤ℤ◌, ◌<ℤ◌, unsigned_abs, Bool, true, false, not, ◌&&◌, int_lt, cond, length, List, [], ◌∷◌, map, find, fold, Option, Some, None, IfSome, IsSome, rules, refl, ap, ap₂, ◌∙◌, sym, subst, arith}
+use Rattle.std.proofs.Common.{◌≡◌, ◌≢◌, ℤ, ◌+◌, ◌*◌, ◌^◌, ◌≤◌, unsigned_abs, Bool, true, false, not, ◌&&◌, int_lt, cond, length, List, [], ◌∷◌, map, find, fold, Option, Some, None, IfSome, IsSome, rules, refl, ap, ap₂, ◌∙◌, sym, subst, arith}
 use Rattle.std.specs.List.{list_all}
 use Rattle.std.proofs.lemmas.Int.{ints}
 use Rattle.wrp_plain.specs.declared.settings.PlainReport.{PlainReport}
@@ -7,7 +7,7 @@ use Rattle.wrp_plain.specs.declared.settings.PlainSet.{PlainSet}
 use Rattle.wrp_plain.specs.declared.kept.Kept.{Kept}
 use Rattle.wrp_plain.specs.Call.{Mark}
 use Rattle.wrp_plain.specs.Report.{report_at, is_least, least_report}
-use Rattle.wrp_plain.specs.StandsFor.{PlainAt, mark_of, marks_from, marks_at, IsKept, AreKept, HasSmallEst, better}
+use Rattle.wrp_plain.specs.StandsFor.{PlainAt, marks_from, marks_at, AreKept, HasSmallEst, better}
 
 -- a scan of the kept measurements, with these ones left
 pub record Scans (plain : PlainAt) (best : Option PlainReport) (moved : ℤ) (left : List Kept) : Type 0 where

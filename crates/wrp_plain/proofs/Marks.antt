@@ -1,11 +1,11 @@
 -- Ticks and commands move what the measurements stand for.
-use Rattle.std.proofs.Common.{◌≡◌, ℕ, zero, suc, ℤ, pos, ◌+◌, ◌-◌, ◌≤◌, ◌+ℤ◌, List, [], ◌∷◌, map, take, refl, ap, ap₂, ◌∙◌, sym, arith}
+use Rattle.std.proofs.Common.{◌≡◌, ℕ, zero, suc, ℤ, ◌+◌, ◌-◌, ◌≤◌, ◌+ℤ◌, List, [], ◌∷◌, map, take, refl, ap, ap₂, ◌∙◌, arith}
 use Rattle.std.proofs.lemmas.Int.{ints}
 use Rattle.wrp_plain.specs.declared.settings.PlainSet.{PlainSet}
 use Rattle.wrp_plain.specs.declared.kept.Kept.{Kept}
 use Rattle.wrp_plain.specs.Measurement.{est_of, base_of, round_of}
 use Rattle.wrp_plain.specs.Call.{Call, CallMeasured, CallTick, CallCommand, Mark, marks_before}
-use Rattle.wrp_plain.specs.StandsFor.{mark_of, marks_from, IsKept, AreKept}
+use Rattle.wrp_plain.specs.StandsFor.{mark_of, marks_from, AreKept}
 
 -- a mark one tick later, and after a command
 abbrev pub later : Mark → Mark

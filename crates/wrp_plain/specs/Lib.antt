@@ -4,3 +4,7 @@ pub mod Report
 pub mod Out
 pub mod StandsFor
 pub mod Truth
+pub mod Event
+pub mod Seen
+pub mod Premises
+pub mod World

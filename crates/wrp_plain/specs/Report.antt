@@ -1,5 +1,5 @@
 -- The report of a plain servo: of the measurements that are kept, the one with the least bound (this project's profile).
-use Rattle.std.specs.Prelude.{ℕ, ℤ, pos, neg_ℤ, ◌+◌, ◌*◌, ◌+ℤ◌, unsigned_abs, int_lt, Bool, not, List, map, take, find, Option}
+use Rattle.std.specs.Prelude.{ℤ, pos, neg_ℤ, ◌+◌, ◌*◌, ◌+ℤ◌, unsigned_abs, int_lt, Bool, not, List, map, take, find, Option}
 use Rattle.std.specs.List.{list_all}
 use Rattle.wrp_base.specs.Held.{held_within}
 use Rattle.wrp_plain.specs.declared.settings.PlainSet.{PlainSet}

@@ -1,5 +1,5 @@
 -- The list of calls that a plain servo stands for (this project's profile).
-use Rattle.std.specs.Prelude.{ℕ, ℤ, pos, ◌≡◌, ◌-◌, ◌^◌, ◌≤◌, ◌+ℤ◌, unsigned_abs, int_lt, if◌then◌else◌, List, [], ◌∷◌, take, length, Option, Some, None, All}
+use Rattle.std.specs.Prelude.{ℕ, ℤ, ◌≡◌, ◌-◌, ◌^◌, ◌≤◌, ◌+ℤ◌, unsigned_abs, int_lt, if◌then◌else◌, List, [], ◌∷◌, take, Option, Some, None}
 use Rattle.wrp_plain.specs.declared.settings.PlainSet.{PlainSet}
 use Rattle.wrp_plain.specs.declared.settings.PlainReport.{PlainReport}
 use Rattle.wrp_plain.specs.declared.kept.Kept.{Kept}

@@ -3,14 +3,22 @@
 //! profile).
 #![tactic(auto)]
 
+mod event;
 mod kept;
 mod law;
+mod numbers;
+mod premises;
 mod servo;
 mod settings;
+mod world;
 
+pub use event::{PlainBroken, PlainEvent, PlainSeen};
 pub use law::measured_within_bound;
 pub use servo::Plain;
 pub use settings::{PlainOut, PlainReport, PlainSet};
+pub use world::PlainWorld;
 
+#[cfg(test)]
+mod runs;
 #[cfg(test)]
 mod tests;

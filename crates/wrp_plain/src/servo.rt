@@ -6,18 +6,16 @@ ghost use Rattle.wrp_base.specs.Held.{held_within};
 ghost use Rattle.wrp_plain.specs.Measurement.{HasRanges, moves_within, exchange_move, round_of, least_round, est_of, base_of};
 ghost use Rattle.wrp_plain.specs.Call.{Call, CallMeasured, CallTick, CallCommand, Mark};
 ghost use Rattle.wrp_plain.specs.Report.{report_at, least_report, report_of, command_of};
-ghost use Rattle.wrp_plain.specs.Out.{IsOut, calls_after};
+ghost use Rattle.wrp_plain.specs.Out.{IsOut, IsTaken, HasSmallCommand, calls_after};
 ghost use Rattle.wrp_plain.specs.StandsFor.{StandsFor, mark_of, marks_at, IsKept, HasSmallEst, better};
 
 use crate::kept::Kept;
+use crate::numbers::{half, moves_within, offset, raised, round_trip, steer_against};
 use crate::settings::{PlainOut, PlainReport, PlainSet};
 use circular_buffer::HeapCircularBuffer;
 use std::alloc::{AllocError, Global};
 use std::marker::Model;
-use wrp_base::{ceil_div, difference, floor_div, hold, narrow, sum};
-
-/// One second has this many of the units of a rate.
-const RATE_UNIT: u128 = 1_000_000_000_000;
+use wrp_base::{difference, sum};
 
 /// A plain PTP servo: it keeps the last measurements, and reports the one with the least bound.
 #[derive(Debug, Drop)]
@@ -66,6 +64,10 @@ impl Plain {
         requires t4 { unsigned_abs t4 ≤ 2 ^ 61 }
         ensures value { (set : PlainSet) (calls : List Call) → StandsFor set self.old calls → IsOut set calls t1 t2 t3 t4 result }
         ensures stands { (set : PlainSet) (calls : List Call) → StandsFor set self.old calls → StandsFor set self.new (calls_after calls t1 t2 t3 t4 result) }
+        ensures taken { least_round self.old.set ≤ℤ round_of t1 t2 t3 t4 → IsTaken result }
+        ensures command { HasSmallCommand result }
+        ensures set { self.new.set ≡ self.old.set }
+        ensures ticks { self.new.ticks ≡ self.old.ticks }
     {
         let round = round_trip(t1, t2, t3, t4);
         let least = self.least_round();
@@ -86,12 +88,21 @@ impl Plain {
         self.ticks
     }
 
+    /// The settings.
+    pub fn settings(&self) -> PlainSet
+        ensures { result ≡ self.now.set }
+    {
+        self.set
+    }
+
     /// Takes a tick, and reports. None exactly where no measurement is kept. At most `2^32 - 1` ticks
     /// may come.
     pub fn tick(&mut self) -> Option<PlainReport>
         requires { self.old.ticks < 2 ^ 32 - 1 }
         ensures value { (set : PlainSet) (calls : List Call) → StandsFor set self.old calls → result ≡ report_of set (CallTick ∷ calls) }
         ensures stands { (set : PlainSet) → Adds (StandsFor set) self.old self.new CallTick }
+        ensures set { self.new.set ≡ self.old.set }
+        ensures ticks { self.new.ticks ≡ self.old.ticks + 1 }
     {
         self.age();
         self.report()
@@ -109,7 +120,9 @@ impl Plain {
     // Counts a tick.
     fn age(&mut self)
         requires { self.old.ticks < 2 ^ 32 - 1 }
-        ensures { (set : PlainSet) → Adds (StandsFor set) self.old self.new CallTick }
+        ensures stands { (set : PlainSet) → Adds (StandsFor set) self.old self.new CallTick }
+        ensures set { self.new.set ≡ self.old.set }
+        ensures ticks { self.new.ticks ≡ self.old.ticks + 1 }
     {
         self.ticks += 1;
     }
@@ -121,6 +134,7 @@ impl Plain {
         ensures stands { (set : PlainSet) (t1 t2 t3 t4 : ℤ) → round ≡ round_of t1 t2 t3 t4 → est ≡ est_of t1 t2 t3 t4 → Adds (StandsFor set) self.old self.new (CallMeasured t1 t2 t3 t4) }
         ensures last { self.new.last ≡ pos 0 }
         ensures set { self.new.set ≡ self.old.set }
+        ensures ticks { self.new.ticks ≡ self.old.ticks }
         ensures some { marks_at self.new ≢ [] }
     {
         let kept = Kept {
@@ -137,7 +151,9 @@ impl Plain {
     fn steer(&mut self, command: i64)
         requires last { self.old.last ≡ pos 0 }
         requires command { unsigned_abs command ≤ 2 ^ 60 }
-        ensures { (set : PlainSet) → Adds (StandsFor set) self.old self.new (CallCommand command) }
+        ensures stands { (set : PlainSet) → Adds (StandsFor set) self.old self.new (CallCommand command) }
+        ensures set { self.new.set ≡ self.old.set }
+        ensures ticks { self.new.ticks ≡ self.old.ticks }
     {
         self.last = command;
     }
@@ -245,90 +261,6 @@ impl Plain {
     {
         moves_within(self.set.rate, u128::from(self.set.span.unsigned_abs()))
     }
-}
-
-// The command against an offset, held within the greatest step.
-fn steer_against(step: i64, est: i128) -> i64
-    requires positive { pos 1 ≤ℤ step }
-    requires greatest { step ≤ℤ pos (2 ^ 60) }
-    requires est { unsigned_abs est ≤ 2 ^ 68 }
-    ensures value { result ≡ held_within step (neg_ℤ est) }
-    ensures small { unsigned_abs result ≤ 2 ^ 60 }
-{
-    let against = opposite(est);
-    narrow(hold(step.into(), against))
-}
-
-// The opposite number.
-fn opposite(a: i128) -> i128
-    requires { unsigned_abs a ≤ 2 ^ 68 }
-    ensures { result ≡ neg_ℤ a }
-{
-    -a
-}
-
-// A number raised by one that is not negative.
-fn raised(a: i128, by: u128) -> i128
-    requires a { unsigned_abs a ≤ 2 ^ 64 }
-    requires by { by ≤ 2 ^ 90 }
-    ensures value { result ≡ a +ℤ pos by }
-    ensures small { unsigned_abs result ≤ unsigned_abs a + by }
-{
-    sum(a, by as i128)
-}
-
-// The round trip of an exchange.
-fn round_trip(t1: i64, t2: i64, t3: i64, t4: i64) -> i128
-    requires t1 { unsigned_abs t1 ≤ 2 ^ 61 }
-    requires t2 { unsigned_abs t2 ≤ 2 ^ 61 }
-    requires t3 { unsigned_abs t3 ≤ 2 ^ 61 }
-    requires t4 { unsigned_abs t4 ≤ 2 ^ 61 }
-    ensures value { result ≡ round_of t1 t2 t3 t4 }
-    ensures small { unsigned_abs result ≤ 2 ^ 63 }
-{
-    sum(apart(t1, t2), apart(t3, t4))
-}
-
-// The offset that an exchange measured: half of what is left when the way up is taken from the way down.
-fn offset(t1: i64, t2: i64, t3: i64, t4: i64) -> i128
-    requires t1 { unsigned_abs t1 ≤ 2 ^ 61 }
-    requires t2 { unsigned_abs t2 ≤ 2 ^ 61 }
-    requires t3 { unsigned_abs t3 ≤ 2 ^ 61 }
-    requires t4 { unsigned_abs t4 ≤ 2 ^ 61 }
-    ensures value { result ≡ est_of t1 t2 t3 t4 }
-    ensures small { unsigned_abs result ≤ 2 ^ 63 }
-{
-    floor_div(difference(apart(t1, t2), apart(t3, t4)), 2)
-}
-
-// How far the second stamp is behind the first.
-fn apart(first: i64, second: i64) -> i128
-    requires first { unsigned_abs first ≤ 2 ^ 61 }
-    requires second { unsigned_abs second ≤ 2 ^ 61 }
-    ensures value { result ≡ second -ℤ first }
-    ensures small { unsigned_abs result ≤ 2 ^ 62 }
-{
-    difference(second.into(), first.into())
-}
-
-// Half a round trip, rounded up.
-fn half(round: i128) -> i128
-    requires { unsigned_abs round ≤ 2 ^ 63 }
-    ensures value { result ≡ ceil_quotient round (pos 2) }
-    ensures small { unsigned_abs result ≤ 2 ^ 63 }
-{
-    ceil_div(round, 2)
-}
-
-// How far an offset may move in a time, rounded up.
-fn moves_within(rate: u64, time: u128) -> u128
-    requires rate { rate ≤ 10 ^ 9 }
-    requires time { time ≤ 2 ^ 95 }
-    ensures value { result ≡ moves_within rate time }
-    ensures small { result * 10 ^ 12 ≤ rate * time + 10 ^ 12 }
-    ensures fits { result ≤ 2 ^ 90 }
-{
-    (u128::from(rate) * time + (RATE_UNIT - 1)) / RATE_UNIT
 }
 
 // The best report so far, and by how much later commands moved the clock.

@@ -25,7 +25,7 @@ struct Row {
     calls: &'static [(Call, Due)],
 }
 
-const SET: PlainSet = PlainSet {
+pub const SET: PlainSet = PlainSet {
     rate: 0,
     err: 0,
     least: 1_000,
@@ -35,7 +35,7 @@ const SET: PlainSet = PlainSet {
     step: 1_000_000,
 };
 
-const FAST: PlainSet = PlainSet {
+pub const FAST: PlainSet = PlainSet {
     rate: 1_000_000_000,
     err: 1_000_000_000,
     least: 0,
@@ -173,7 +173,7 @@ const ROWS: [Row; 7] = [
 ];
 
 // A number, held within its range.
-fn between(low: i64, n: i64, high: i64) -> i64
+pub fn between(low: i64, n: i64, high: i64) -> i64
     requires { low ≤ℤ high }
     ensures least { low ≤ℤ result }
     ensures greatest { result ≤ℤ high }
@@ -207,7 +207,7 @@ fn room(n: usize) -> usize
 }
 
 // The settings, held within their ranges.
-fn within(set: &PlainSet) -> PlainSet
+pub fn within(set: &PlainSet) -> PlainSet
     ensures { HasRanges result }
 {
     let rate = at_most(set.rate, 1_000_000_000);
@@ -257,7 +257,7 @@ fn measured(plain: &mut Plain, t: [i64; 4]) -> PlainOut {
 }
 
 // A stamp, held within its range.
-fn stamp(t: i64) -> i64
+pub fn stamp(t: i64) -> i64
     ensures { unsigned_abs result ≤ 2 ^ 61 }
 {
     t.max(-1 << 61).min(1 << 61)

@@ -5,7 +5,7 @@ mod takes;
 ghost use Rattle.std.specs.Prelude.{◌≡◌, ◌≤◌, nat_lt, ℕ, List, [], IfOk, IfSome, IsTrue};
 ghost use Rattle.wrp_base.specs.Calls.{Adds};
 ghost use Rattle.wrp_exch.specs.Call.{Call};
-ghost use Rattle.wrp_exch.specs.Exchange.{StandsFor as ExchangeStandsFor};
+ghost use Rattle.wrp_exch.specs.Exchange.{StandsFor as ExchangeStandsFor, HasTimes};
 ghost use Rattle.wrp_link.specs.LinkAt.{new_link};
 ghost use Rattle.wrp_link.specs.Order.{Told};
 ghost use Rattle.wrp_link.specs.Table.{word_of};
@@ -20,7 +20,7 @@ use crate::setting::Setting;
 use crate::{PortIn, PortOut, Sched};
 use std::alloc::{AllocError, Global};
 use std::marker::Model;
-use wrp_base::{Deltas, Four, LinkState, LinkWord, Role};
+use wrp_base::{Deltas, Four, LinkState, LinkWord, Module, Role};
 use wrp_data::{DefaultDs, PortDs, Reason};
 use wrp_exch::Exchange;
 use wrp_link::LinkSet;
@@ -112,6 +112,8 @@ impl Port {
         // A message of another domain, of a stranger, for another port, or in quiet time leaves no
         // trace.
         ensures silent { IsTrue (is_dropped_early self.old.set self.old.line input) → self.new ≡ self.old }
+        ensures times { IfSome result.measured HasTimes }
+        ensures reason { IfSome result.drop (λ number. (1 ≤ number) × (number ≤ 15)) }
     {
         let before = self.line.link.word();
         let answer = self.take(input);
@@ -151,6 +153,13 @@ impl Port {
         self.line.link.word()
     }
 
+    /// The port's module, where the calibration database lists it.
+    pub fn own_module(&self) -> Option<Module>
+        ensures { result ≡ self.now.line.link.own_module }
+    {
+        self.line.link.own_module()
+    }
+
     // The four delays of the link of a slave port in WR_LINK_ON.
     fn link_deltas(&self) -> Option<Deltas>
         ensures { result ≡ deltas_of self.now.set.ds.role self.now.line.link }
@@ -168,7 +177,7 @@ impl Port {
 }
 
 impl Answer {
-    ghost use Rattle.std.specs.Prelude.{◌≡◌, [], None, Some};
+    ghost use Rattle.std.specs.Prelude.{◌≡◌, ◌≤◌, [], None, Some, IfSome};
     ghost use Rattle.wrp_data.specs.Reason.{number_of};
     ghost use Rattle.wrp_port.specs.Outputs.{number_by, reason_by};
 
@@ -188,6 +197,7 @@ impl Answer {
         ensures sends { result.sends.items ≡ [] }
         ensures drop { result.drop ≡ Some (number_of reason) }
         ensures measured { result.measured ≡ None }
+        ensures reason { IfSome result.drop (λ number. (1 ≤ number) × (number ≤ 15)) }
     {
         Answer {
             sends: Sends::new(),
@@ -201,6 +211,7 @@ impl Answer {
         ensures sends { result.sends ≡ sends }
         ensures drop { result.drop ≡ number_by (reason_by None used) }
         ensures measured { result.measured ≡ measured }
+        ensures reason { IfSome result.drop (λ number. (1 ≤ number) × (number ≤ 15)) }
     {
         Answer {
             sends,

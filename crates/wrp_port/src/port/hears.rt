@@ -1,9 +1,9 @@
 //! What a port does with a message that comes.
-ghost use Rattle.std.specs.Prelude.{◌≡◌, ℕ, Bool, [], ◌∷◌, List, None, if◌then◌else◌, is_some, IsTrue};
+ghost use Rattle.std.specs.Prelude.{◌≡◌, ◌≤◌, ℕ, Bool, [], ◌∷◌, List, None, if◌then◌else◌, is_some, IfSome, IsTrue};
 ghost use Rattle.wrp_base.specs.Message.{IsSound, HasFittingTimes, FitsTimestamp};
 ghost use Rattle.wrp_exch.specs.Call.{Call, CallSync, CallFollowUp, CallResp};
 ghost use Rattle.wrp_exch.specs.DelayPair.{answered_pair};
-ghost use Rattle.wrp_exch.specs.Exchange.{StandsFor as ExchangeStandsFor, four_of};
+ghost use Rattle.wrp_exch.specs.Exchange.{StandsFor as ExchangeStandsFor, HasTimes, four_of};
 ghost use Rattle.wrp_exch.specs.SyncPair.{kept_sync, followed_pair};
 ghost use Rattle.wrp_link.specs.declared.interface.LinkIn.TheVariants as link;
 ghost use Rattle.wrp_link.specs.Table.{sends_of as link_sends_of, is_used};
@@ -43,6 +43,8 @@ impl Port {
             ≡ measured_by self.old.set self.old.line calls (PortIn.Msg message.now stamp tick) }
         ensures silent { IsTrue (is_some (early_reason self.old.set self.old.line.link message.now)) →
             self.new ≡ self.old }
+        ensures times { IfSome result.measured HasTimes }
+        ensures reason { IfSome result.drop (λ number. (1 ≤ number) × (number ≤ 15)) }
     {
         match early_reason(&self.set, &self.line.link, message) {
             Some(reason) => Answer::dropping(reason),
@@ -70,6 +72,8 @@ impl Port {
             result.measured
             ≡ four_by self.old.set.ring calls
             (piece_of self.old.set.ds.role message.now.head message.now.body stamp tick) }
+        ensures times { IfSome result.measured HasTimes }
+        ensures reason { IfSome result.drop (λ number. (1 ≤ number) × (number ≤ 15)) }
     {
         let head = &message.head;
         match (self.set.ds.role, message.body) {
@@ -117,6 +121,7 @@ impl Port {
         ensures drop { result.drop
             ≡ number_by (reason_by None (is_used self.old.line.link (link.Msg message))) }
         ensures measured { result.measured ≡ None }
+        ensures reason { IfSome result.drop (λ number. (1 ≤ number) × (number ≤ 15)) }
     {
         let first = self.line.ids.signal;
         let out = self.line.tell(LinkIn::Msg(message));
@@ -149,6 +154,7 @@ impl Port {
             ≡ number_by (reason_by None (is_some
             (kept_sync self.old.set.ring calls head.now.seq head.now.correction stamp tick))) }
         ensures measured { result.measured ≡ None }
+        ensures reason { IfSome result.drop (λ number. (1 ≤ number) × (number ≤ 15)) }
     {
         let kept = self.exchange.sync(head.seq, head.correction, stamp, tick);
         Answer::using(kept, Sends::new(), None)
@@ -171,6 +177,8 @@ impl Port {
             result.measured
             ≡ four_by self.old.set.ring calls
             (Some (CallFollowUp head.now.seq (later_by precise head.now.correction))) }
+        ensures times { IfSome result.measured HasTimes }
+        ensures reason { IfSome result.drop (λ number. (1 ≤ number) × (number ≤ 15)) }
     {
         let made = self
             .exchange
@@ -196,6 +204,8 @@ impl Port {
             result.measured
             ≡ four_by self.old.set.ring calls
             (Some (CallResp head.now.seq (earlier_by receive head.now.correction))) }
+        ensures times { IfSome result.measured HasTimes }
+        ensures reason { IfSome result.drop (λ number. (1 ≤ number) × (number ≤ 15)) }
     {
         let made = self
             .exchange
@@ -206,7 +216,8 @@ impl Port {
 
     // The four stamps of both pairs, where a pair was made.
     fn four_where(&self, made: bool) -> Option<Four>
-        ensures { (ring : ℕ) (calls : List Call) (pairs : Bool) →
+        ensures times { IfSome result HasTimes }
+        ensures value { (ring : ℕ) (calls : List Call) (pairs : Bool) →
             ExchangeStandsFor ring self.now.exchange calls → made ≡ pairs →
             result ≡ (if pairs then four_of ring calls else None) }
     {

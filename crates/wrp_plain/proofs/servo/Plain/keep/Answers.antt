@@ -1,8 +1,8 @@
 -- A measurement is kept in front of the others.
-use Rattle.std.proofs.Common.{ℕ, zero, suc, ℤ, pos, ◌≢◌, List, [], sym, ◌≡◌, ◌≤◌, ◌<◌, ◌^◌, ◌∷◌, take, ap, ◌∙◌, arith, to_z, of_z, FitsSigned, unsigned_abs}
+use Rattle.std.proofs.Common.{ℕ, zero, suc, ℤ, pos, ◌≢◌, List, [], sym, ◌≡◌, ◌≤◌, ◌^◌, ◌∷◌, take, ap, ◌∙◌, arith, to_z, of_z, FitsSigned, unsigned_abs}
 use Rattle.std.specs.Int.{w64, w128}
 use Rattle.std.proofs.lemmas.Int.{to_z-of_z, fits_signed_from_abs}
-use Rattle.circular_buffer.specs.Buffer.{Buffer, buffer}
+use Rattle.circular_buffer.specs.Buffer.{Buffer}
 use Rattle.wrp_plain.specs.declared.kept.Kept.{Kept}
 use Rattle.wrp_plain.specs.Measurement.{base_of}
 use Rattle.wrp_plain.specs.StandsFor.{IsKept, marks_from}

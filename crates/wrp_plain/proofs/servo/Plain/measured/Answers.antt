@@ -1,11 +1,11 @@
 -- A measurement that is not too short is kept, reported and steered against.
-use Rattle.std.proofs.Common.{◌≡◌, ℕ, ℤ, ◌+◌, ◌^◌, ◌≤◌, ◌<◌, ◌≤ℤ◌, ◌∷◌, List, unsigned_abs, to_z, of_z, FitsSigned, false, ap, ap₂, ◌∙◌, sym, subst, arith}
+use Rattle.std.proofs.Common.{◌≡◌, ℤ, ◌^◌, ◌≤◌, ◌≤ℤ◌, ◌∷◌, unsigned_abs, to_z, of_z, FitsSigned, false, ap, ap₂, ◌∙◌, sym, arith}
 use Rattle.std.specs.Int.{w64, w128}
 use lib.Signed.{lt_z}
 use Rattle.std.proofs.lemmas.Int.{ints, to_z-of_z, fits_signed_from_abs}
 use Rattle.wrp_plain.specs.declared.settings.PlainSet.{PlainSet}
 use Rattle.wrp_plain.specs.Measurement.{round_of, least_round}
-use Rattle.wrp_plain.specs.Call.{Call, CallMeasured, CallCommand}
+use Rattle.wrp_plain.specs.Call.{CallMeasured}
 use Rattle.wrp_plain.specs.Report.{command_of}
 use Rattle.wrp_plain.specs.StandsFor.{StandsFor}
 use Rattle.wrp_plain.proofs.Adding.{report_of-is}
@@ -43,4 +43,4 @@ pub returns-clause-stands : goal.returns-clause-stands
 returns-clause-stands c set calls stands =
     let kept : StandsFor set c.keep.new.self (CallMeasured c.args.t1 c.args.t2 c.args.t3 c.args.t4 ∷ calls) =
     c.keep.ensures.stands set c.args.t1 c.args.t2 c.args.t3 c.args.t4 (grind (arith, to_z-of_z, c.round_trip-round.ensures.value)) (grind (arith, to_z-of_z, c.offset.ensures.value)) calls stands in
-    c.steer.ensures set _ kept
+    c.steer.ensures.stands set _ kept

@@ -1,5 +1,5 @@
 -- At the end of the scan the best report is the first of the least bound.
-use Rattle.std.proofs.Common.{◌≡◌, ℕ, ℤ, ◌+◌, List, [], map, fold, None, Option, ap, ◌∙◌, sym, subst}
+use Rattle.std.proofs.Common.{◌≡◌, ℤ, List, [], map, Option, ◌∙◌, subst}
 use Rattle.wrp_plain.specs.declared.settings.PlainReport.{PlainReport}
 use Rattle.wrp_plain.specs.declared.kept.Kept.{Kept}
 use Rattle.wrp_plain.specs.Report.{report_at, least_report}

@@ -1,6 +1,3 @@
-use Rattle.std.proofs.Common.{◌≡◌, ◌+◌, ◌*◌, ◌≤◌, ◌^◌, unsigned_abs, length, map, fold, None, IfSome}
-use Rattle.wrp_plain.specs.Report.{report_at}
-use Rattle.wrp_plain.specs.StandsFor.{PlainAt, marks_from, marks_at, AreKept, HasSmallEst, better}
 use Rattle.wrp_plain.proofs.Least.{Scans}
 use Rattle.wrp_plain.proofs.servo.Plain.report.Given as goal
 

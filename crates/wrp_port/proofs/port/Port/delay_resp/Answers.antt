@@ -14,4 +14,4 @@ returns-clause-measured c calls stands =
     let pairs : Bool = is_some (answered_pair ring calls c.args.head.now.seq time) in
     let made : c.resp-made.result ≡ pairs = first_of (search rules, grind (arith, common_steps)) in
     let after : ExchangeStandsFor ring c.resp-made.new.self (CallResp c.args.head.now.seq time ∷ calls) = first_of (search rules, grind (arith, common_steps)) in
-    c.using.ensures.measured ∙ c.four_where-measured.ensures ring (CallResp c.args.head.now.seq time ∷ calls) pairs after made
+    c.using.ensures.measured ∙ c.four_where-measured.ensures.value ring (CallResp c.args.head.now.seq time ∷ calls) pairs after made

@@ -14,4 +14,4 @@ returns-clause-measured c calls stands =
     let pairs : Bool = is_some (followed_pair ring calls c.args.head.now.seq time) in
     let made : c.follow_up-made.result ≡ pairs = first_of (search rules, grind (arith, common_steps)) in
     let after : ExchangeStandsFor ring c.follow_up-made.new.self (CallFollowUp c.args.head.now.seq time ∷ calls) = first_of (search rules, grind (arith, common_steps)) in
-    c.using.ensures.measured ∙ c.four_where-measured.ensures ring (CallFollowUp c.args.head.now.seq time ∷ calls) pairs after made
+    c.using.ensures.measured ∙ c.four_where-measured.ensures.value ring (CallFollowUp c.args.head.now.seq time ∷ calls) pairs after made

@@ -1,0 +1,166 @@
+//! The network that a text describes: its numbers, and its nodes.
+ghost use Rattle.std.specs.Prelude.{◌≡◌, ◌≤◌, ◌<◌, true, map, length, codes, option_copied};
+ghost use Rattle.std.specs.List.{list_all};
+ghost use Rattle.toml.specs.View.{view, table_view};
+ghost use Rattle.wrp_caldb.specs.Rows.{tables_at};
+ghost use Rattle.wrp_caldb.specs.Database.{each_table, natural_at, number_at, database_of};
+ghost use Rattle.wrp_caldb.specs.Name.{is_hex_digit};
+ghost use Rattle.wrp_config.specs.Config.{bare_node, hex_value, hex_number, identity_of, node_of, IsNetworkOf};
+ghost use Rattle.wrp_config.specs.Keys.{network_in, key_of, beat_key};
+ghost use Rattle.wrp_config.specs.Places.{IsTaken};
+
+use crate::ends::text_at;
+use crate::greatest::Greatest;
+use crate::keys::{beat_row, clock_in, e_tag_row, e_tx_row, held_row, slew_row};
+use crate::links::links_of;
+use crate::settings::Setting;
+use arrayvec::ArrayVec;
+use toml::{Table, Value};
+use wrp_base::{Clock, NetCfg, NodeCfg};
+use wrp_caldb::{Lists, is_identity, name_at, natural, number, tables_at};
+
+fn hex_value(octet: u8) -> u64
+    requires { is_hex_digit octet ≡ true }
+    ensures value { result ≡ hex_value octet }
+    ensures size { result < 16 }
+{
+    if octet <= b'9' {
+        u64::from(octet - b'0')
+    } else {
+        u64::from(octet - 87)
+    }
+}
+
+// The number that hex digits spell.
+fn hex_number(digits: &[u8]) -> u64
+    requires digits { list_all is_hex_digit digits.now ≡ true }
+    requires count { length digits.now ≡ 16 }
+    ensures { result ≡ hex_number digits.now }
+{
+    let mut number = 0;
+    for digit in digits {
+        number = 16 * number + hex_value(*digit);
+    }
+    number
+}
+
+// The identity that a text spells; 0 where it is none.
+fn identity_of(text: Option<&str>) -> u64
+    ensures { result ≡ identity_of (option_copied text.entry) }
+{
+    match text {
+        Some(text) => {
+            if is_identity(text) {
+                hex_number(text.as_bytes())
+            } else {
+                0
+            }
+        }
+        None => 0,
+    }
+}
+
+// How far the edge may flicker.
+fn beat(node: &Table) -> u16
+    ensures { result ≡ natural_at beat_key (table_view node.now) }
+{
+    natural(node, &beat_row()) as u16
+}
+
+// A node.
+fn node_of(clock: Clock, node: &Table) -> NodeCfg
+    ensures { bare_node result ≡ node_of clock (table_view node.now) }
+{
+    NodeCfg {
+        name: name_at(node),
+        identity: identity_of(text_at("identity", node)),
+        e_tx: natural(node, &e_tx_row()),
+        e_tag: natural(node, &e_tag_row(clock)),
+        beat: beat(node),
+        slew: natural(node, &slew_row()),
+        held: natural(node, &held_row()),
+    }
+}
+
+// The nodes.
+fn nodes_of(clock: Clock, nodes: &[Value]) -> ArrayVec<NodeCfg, 64>
+    requires { length nodes.now ≤ 64 }
+    ensures { map bare_node result.items ≡ each_table (node_of clock) (map view nodes.now) }
+{
+    let mut all = ArrayVec::new();
+    for value in nodes {
+        if let Some(node) = value.as_table() {
+            all.push(node_of(clock, node));
+        }
+    }
+    all
+}
+
+// A number of `network`.
+fn setting(network: &Table, setting: Setting) -> i64
+    ensures { result ≡ number_at (key_of setting) (table_view network.now) }
+{
+    number(network, &setting.row())
+}
+
+// The network of a text whose tables are taken.
+fn gathered(doc: &Table, network: &Table, lists: &Lists) -> NetCfg
+    requires network { table_view network.now ≡ network_in (table_view doc.now) }
+    requires lists { lists.now ≡ database_of (table_view doc.now) }
+    requires nodes { length (tables_at (codes "node") (table_view doc.now)) ≤ 64 }
+    requires links { length (tables_at (codes "link") (table_view doc.now)) ≤ 63 }
+    ensures { IsNetworkOf (table_view doc.now) result }
+{
+    let clock = clock_in(doc, network);
+    let nodes = tables_at(doc, "node");
+    let greatest = Greatest::of_lists(lists);
+    NetCfg {
+        epoch: setting(network, Setting::Epoch),
+        domain: setting(network, Setting::Domain),
+        dmin_ns: setting(network, Setting::DminNs),
+        dmax_ns: setting(network, Setting::DmaxNs),
+        life_ns: setting(network, Setting::LifeNs),
+        reach_ns: setting(network, Setting::ReachNs),
+        quiet: setting(network, Setting::Quiet),
+        holdover: setting(network, Setting::Holdover),
+        wait: setting(network, Setting::Wait),
+        lock_wait: setting(network, Setting::LockWait),
+        holdoff: setting(network, Setting::Holdoff),
+        lease: setting(network, Setting::Lease),
+        age: setting(network, Setting::Age),
+        report: setting(network, Setting::Report),
+        stable: setting(network, Setting::Stable),
+        lock_samples: setting(network, Setting::LockSamples),
+        retries: setting(network, Setting::Retries),
+        gap: setting(network, Setting::Gap),
+        announce: setting(network, Setting::Announce),
+        sync: setting(network, Setting::Sync),
+        delay: setting(network, Setting::Delay),
+        ring: setting(network, Setting::Ring),
+        track_tau: setting(network, Setting::TrackTau),
+        loop_tau: setting(network, Setting::LoopTau),
+        phase_step: setting(network, Setting::PhaseStep),
+        kp: setting(network, Setting::Kp),
+        ki: setting(network, Setting::Ki),
+        bias: setting(network, Setting::Bias),
+        threshold: setting(network, Setting::Threshold),
+        delock_samples: setting(network, Setting::DelockSamples),
+        clock,
+        nodes: nodes_of(clock, nodes),
+        links: links_of(nodes, lists, tables_at(doc, "link")),
+        e_db: greatest.err,
+        tx_max: greatest.tx,
+        rx_max: greatest.rx,
+    }
+}
+
+/// The network of a text whose tables are taken. `network` is the table `network` of the text, and
+/// `lists` are its modules and fibres.
+pub fn network_of(doc: &Table, network: &Table, lists: &Lists) -> NetCfg
+    requires network { table_view network.now ≡ network_in (table_view doc.now) }
+    requires lists { lists.now ≡ database_of (table_view doc.now) }
+    requires taken { IsTaken (table_view doc.now) }
+    ensures { IsNetworkOf (table_view doc.now) result }
+{
+    gathered(doc, network, lists)
+}

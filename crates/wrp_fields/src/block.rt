@@ -1,0 +1,64 @@
+//! The lines of a block, one after the other.
+ghost use Rattle.std.specs.Prelude.{◌≡◌, ◌∷◌, ◌++◌, [], ℕ, List, Option, IfOk, Some, false};
+ghost use Rattle.csv.specs.Reading.{source_of};
+ghost use Rattle.csv.specs.Records.{fields_of};
+ghost use Rattle.wrp_fields.specs.Block.{at_start, IsFound, IsPlainReader, StartsPlain};
+ghost use Rattle.wrp_fields.specs.Lines.{IsLine};
+
+use csv::{ByteRecord, Reader, ReaderBuilder};
+use std::alloc::{AllocError, Global};
+use std::marker::Model;
+
+/// The lines of a block of octets, read one after the other. A clause sees the octets that are left,
+/// None after a failed read.
+///
+/// A read speaks of its own line alone: behind a plain line may stand anything. So the caller tests
+/// each line by `is_plain` before it is read, and stops at the first that is not plain.
+#[derive(Drop)]
+pub struct Block<'a> {
+    reader: Reader<&'a [u8]>,
+}
+
+impl<'a> Model for Block<'a> {
+    ghost Value = { Option (List ℕ) };
+
+    ghost view = { λ b. at_start b.reader.state (source_of (λ s. Some s.now) b.reader) };
+
+    ghost invariant = { λ b. IsPlainReader b.reader };
+}
+
+impl<'a> Block<'a> {
+    /// The lines of these octets, the first of which, if any, is below 128: a byte order mark would
+    /// be dropped.
+    #[tactic(auto, using(crate::proofs::Split::strip_plain))]
+    pub fn new(alloc: Global, octets: &'a [u8]) -> Block<'a>
+        ensures { StartsPlain octets.now → result ≡ Some octets.now }
+    {
+        Block {
+            reader: ReaderBuilder::new()
+                .has_headers(false)
+                .flexible(true)
+                .from_reader(alloc, octets),
+        }
+    }
+
+    /// Puts the parts of the next line into `row`, and answers whether there was a line. The line
+    /// ends with LF, with CR and LF, or with the block. The error is want of memory.
+    pub fn next(&mut self, row: &mut ByteRecord) -> Result<bool, AllocError>
+        ensures line { (line rest : List ℕ)
+            → self.old ≡ Some (line ++ 10 ∷ rest) → IsLine line
+            → IfOk result (λ found. IsFound line rest found (fields_of row.new) self.new) }
+        ensures returned { (line rest : List ℕ)
+            → self.old ≡ Some (line ++ 13 ∷ 10 ∷ rest) → IsLine line
+            → IfOk result (λ found. IsFound line rest found (fields_of row.new) self.new) }
+        ensures last { (line : List ℕ)
+            → self.old ≡ Some line → IsLine line
+            → IfOk result (λ found. IsFound line [] found (fields_of row.new) self.new) }
+        ensures end { self.old ≡ Some [] → IfOk result (λ found. found ≡ false) }
+    {
+        let Ok(found) = self.reader.read_byte_record(row) else {
+            return Err(AllocError);
+        };
+        Ok(found)
+    }
+}

@@ -1,0 +1,11 @@
+use Rattle.std.proofs.Common.{◌≡◌, ℕ, Some, length, slice_get}
+use Rattle.wrp_base.specs.declared.network.NodeCfg.{NodeCfg}
+use Rattle.wrp_base.specs.declared.time.Clock.TheVariants.{Mhz125}
+use Rattle.wrp_base.specs.Network.{HasNodeRanges}
+use Rattle.wrp_lines.proofs.tests.networks.nodes.Given as goal
+
+abbrev pub invariant-loop-n : goal.invariant-loop-n
+invariant-loop-n l = record {
+  count : length l.nodes.items ≡ l.n;
+  ranges : (n : ℕ) (node : NodeCfg) → slice_get l.nodes.items n ≡ Some node → HasNodeRanges Mhz125 node;
+}

@@ -1,0 +1,66 @@
+-- The lines of outputs and of counters (this project's profile).
+use Rattle.std.specs.Prelude.{ℕ, ℤ, pos, List, [], ◌∷◌, ◌++◌, Option, None, Some, codes}
+use Rattle.std.specs.Fmt.{decimal, signed_decimal}
+use Rattle.hex.specs.Hex.{encode_lower}
+use Rattle.wrp_base.specs.declared.configuration.NetCfg.{NetCfg}
+use Rattle.wrp_bounds.specs.Bounds.{path_of}
+use Rattle.wrp_node.specs.declared.interface.Output.{Output}
+use Rattle.wrp_node.specs.declared.interface.Output.TheVariants as output
+use Rattle.wrp_node.specs.declared.interface.Report.{Report}
+use Rattle.wrp_node.specs.declared.interface.Report.TheVariants.{Link, Servo, Track}
+use Rattle.wrp_lines.specs.Words.{link_word, name_at, reason_word, servo_word}
+
+-- the line of some words: a space (octet 32) between two of them, LF (octet 10) behind the last
+abbrev pub line_of : List (List ℕ) → List ℕ
+line_of [] = 10 ∷ []
+line_of (word ∷ []) = word ++ 10 ∷ []
+line_of (word ∷ words) = word ++ 32 ∷ line_of words
+
+-- What a line says of an output, behind the node's name and tick
+
+-- a frame that a port sends, in hex
+abbrev pub send_words : ℕ → List ℕ → List (List ℕ)
+send_words port octets = codes "send" ∷ decimal port ∷ encode_lower octets ∷ []
+
+-- the true offset, where it is known
+abbrev pub truth_words : Option ℤ → List (List ℕ)
+truth_words None = []
+truth_words (Some off) = codes "true" ∷ signed_decimal off ∷ []
+
+-- the estimated offset and the bound
+abbrev pub track_words : ℤ → ℤ → Option ℤ → List (List ℕ)
+track_words est bound truth =
+    codes "track" ∷ signed_decimal est ∷ signed_decimal bound ∷ truth_words truth
+
+-- a report
+abbrev pub report_words : Report → ℤ → Option ℤ → List (List ℕ)
+report_words (Link port word) bound truth = codes "link" ∷ decimal port ∷ link_word word ∷ []
+report_words (Servo state) bound truth = codes "servo" ∷ servo_word state ∷ []
+report_words (Track est) bound truth = track_words est bound truth
+
+-- an output
+abbrev pub output_words : Output → ℤ → Option ℤ → List (List ℕ)
+output_words (output.Send port frame) bound truth = send_words port frame.items
+output_words (output.Step cycles) bound truth = codes "step" ∷ signed_decimal cycles ∷ []
+output_words (output.Dac value) bound truth = codes "dac" ∷ decimal value ∷ []
+output_words (output.Report report) bound truth = report_words report bound truth
+
+-- Lines
+
+-- the line of an output, at a tick of the node with this name and this bound
+abbrev pub output_line_of : List ℕ → ℕ → Output → ℤ → Option ℤ → List ℕ
+output_line_of name tick o bound truth =
+    line_of (name ∷ decimal tick ∷ output_words o bound truth)
+
+-- the line of an output of the node of this number: the bound is that in TRACK
+abbrev pub output_line : NetCfg → ℕ → ℕ → Output → Option ℤ → List ℕ
+output_line cfg n tick o truth = output_line_of (name_at cfg n) tick o (pos (path_of cfg n)) truth
+
+-- the line of a counter at a port of the node with this name
+abbrev pub count_line_of : List ℕ → ℕ → ℕ → ℕ → List ℕ
+count_line_of name port reason value =
+    line_of (name ∷ codes "count" ∷ decimal port ∷ reason_word reason ∷ decimal value ∷ [])
+
+-- the line of a counter at a port of the node of this number
+abbrev pub count_line : NetCfg → ℕ → ℕ → ℕ → ℕ → List ℕ
+count_line cfg n port reason value = count_line_of (name_at cfg n) port reason value

@@ -1,0 +1,52 @@
+//! The lines of the counters of dropped frames.
+ghost use Rattle.std.specs.Prelude.{◌≡◌, ◌++◌, ◌<◌, ◌≤◌, IfOk, OnOk, OnErr};
+ghost use Rattle.wrp_base.specs.Network.{node_count};
+ghost use Rattle.wrp_lines.specs.Lines as lines;
+ghost use Rattle.wrp_lines.specs.Lines.{count_line_of};
+
+use crate::words::{name_of_node, name_of_reason};
+use std::alloc::{AllocError, Global};
+use wrp_config::Network;
+
+/// The line of a counter at a port of the node, with its LF. `reason` is the number of the reason,
+/// 1 to 15. The error is want of memory.
+pub fn count_line(
+    alloc: Global,
+    net: &Network,
+    node: u8,
+    port: u16,
+    reason: u8,
+    value: u32,
+) -> Result<Vec<u8>, AllocError>
+    requires node { node < node_count net.now.cfg }
+    requires least { 1 ≤ reason }
+    requires greatest { reason ≤ 15 }
+    ensures { IfOk result (λ line.
+        line.items ≡ lines.count_line net.now.cfg node port reason value) }
+{
+    let mut line = Vec::new(alloc);
+    let name = name_of_node(&net.cfg, node);
+    append_count_line(alloc, name, port, reason, value, &mut line)?;
+    Ok(line)
+}
+
+/// Appends to `text` the line of a counter of the node with this name. `reason` is the number of the
+/// reason, 1 to 15. Where there is no memory for the line, `text` keeps its octets.
+pub fn append_count_line(
+    alloc: Global,
+    name: &str,
+    port: u16,
+    reason: u8,
+    value: u32,
+    text: &mut Vec<u8>,
+) -> Result<(), AllocError>
+    requires least { 1 ≤ reason }
+    requires greatest { reason ≤ 15 }
+    ensures ok { OnOk result (
+        text.new.items ≡ text.old.items ++ count_line_of name.now port reason value) }
+    ensures err { OnErr result (text.new.items ≡ text.old.items) }
+{
+    let reason = name_of_reason(reason);
+    let line = format!(in alloc; "{name} count {port} {reason} {value}\n")?;
+    text.extend_from_slice(line.as_bytes())
+}

@@ -1,0 +1,239 @@
+//! The line of each kind of output and of each reason, with values that were worked out by hand.
+mod networks;
+
+use crate::{count_line, output_line};
+use networks::network;
+use std::test::*;
+use wrp_base::{Frame, LinkState, LinkWord, ServoState, Tau};
+use wrp_caldb::CalDb;
+use wrp_config::Network;
+use wrp_node::{Output, Report};
+
+// The report of a link word at port 2.
+fn link(word: LinkWord) -> Output {
+    Output::Report(Report::Link { port: 2, word })
+}
+
+// The report of a state.
+fn servo(state: ServoState) -> Output {
+    Output::Report(Report::Servo(state))
+}
+
+// The report of a node in TRACK.
+fn track(est: Tau) -> Output {
+    Output::Report(Report::Track { est })
+}
+
+// A frame of these octets, sent by port 1.
+fn send(octets: &[u8]) -> Output {
+    let mut frame = Frame::new();
+    let _fits = frame.try_extend_from_slice(octets);
+    Output::Send { port: 1, frame }
+}
+
+#[test]
+fn outputs(rt: HostRuntime) -> Result<(), Fail> {
+    let net = Network {
+        cfg: network(),
+        db: CalDb::read(rt.alloc(), b"")?,
+    };
+    let rows: [(u8, u32, Output, Option<Tau>, &str); 27] = [
+        (
+            0,
+            3,
+            send(&[0x0a, 0xf0, 0x1b]),
+            None,
+            "gm 3 send 1 0af01b\n",
+        ),
+        (1, 3, send(&[]), Some(-5), "sw1 3 send 1 \n"),
+        (
+            1,
+            40,
+            Output::Step {
+                cycles: -125_000_000,
+            },
+            None,
+            "sw1 40 step -125000000\n",
+        ),
+        (
+            1,
+            41,
+            Output::Step { cycles: i64::MAX },
+            Some(1),
+            "sw1 41 step 9223372036854775807\n",
+        ),
+        (
+            2,
+            0,
+            Output::Dac { value: 32_768 },
+            None,
+            "leaf 0 dac 32768\n",
+        ),
+        (
+            2,
+            u32::MAX,
+            Output::Dac { value: 0 },
+            Some(0),
+            "leaf 4294967295 dac 0\n",
+        ),
+        (1, 400, track(-1204), None, "sw1 400 track -1204 19629219\n"),
+        (
+            1,
+            400,
+            track(-1204),
+            Some(-980),
+            "sw1 400 track -1204 19629219 true -980\n",
+        ),
+        (
+            2,
+            500,
+            track(0),
+            Some(0),
+            "leaf 500 track 0 44823245 true 0\n",
+        ),
+        (1, 1, link(LinkWord::Down), None, "sw1 1 link 2 down\n"),
+        (1, 1, link(LinkWord::Quiet), Some(7), "sw1 1 link 2 quiet\n"),
+        (1, 1, link(LinkWord::Ptp), None, "sw1 1 link 2 ptp\n"),
+        (
+            1,
+            1,
+            link(LinkWord::In(LinkState::Present)),
+            None,
+            "sw1 1 link 2 present\n",
+        ),
+        (
+            1,
+            1,
+            link(LinkWord::In(LinkState::SLock)),
+            None,
+            "sw1 1 link 2 s-lock\n",
+        ),
+        (
+            1,
+            1,
+            link(LinkWord::In(LinkState::MLock)),
+            None,
+            "sw1 1 link 2 m-lock\n",
+        ),
+        (
+            1,
+            1,
+            link(LinkWord::In(LinkState::Locked)),
+            None,
+            "sw1 1 link 2 locked\n",
+        ),
+        (
+            1,
+            1,
+            link(LinkWord::In(LinkState::Calibration)),
+            None,
+            "sw1 1 link 2 calibration\n",
+        ),
+        (
+            1,
+            1,
+            link(LinkWord::In(LinkState::Calibrated)),
+            None,
+            "sw1 1 link 2 calibrated\n",
+        ),
+        (
+            1,
+            1,
+            link(LinkWord::In(LinkState::RespCalib)),
+            None,
+            "sw1 1 link 2 resp-calib\n",
+        ),
+        (
+            1,
+            26,
+            link(LinkWord::In(LinkState::LinkOn)),
+            None,
+            "sw1 26 link 2 link-on\n",
+        ),
+        (
+            1,
+            26,
+            servo(ServoState::Uninit),
+            None,
+            "sw1 26 servo uninit\n",
+        ),
+        (
+            1,
+            26,
+            servo(ServoState::SyncTai),
+            Some(3),
+            "sw1 26 servo sync-tai\n",
+        ),
+        (
+            1,
+            26,
+            servo(ServoState::SyncNsec),
+            None,
+            "sw1 26 servo sync-nsec\n",
+        ),
+        (
+            1,
+            26,
+            servo(ServoState::SyncPhase),
+            None,
+            "sw1 26 servo sync-phase\n",
+        ),
+        (
+            1,
+            26,
+            servo(ServoState::WaitStable),
+            None,
+            "sw1 26 servo wait-stable\n",
+        ),
+        (
+            1,
+            26,
+            servo(ServoState::Track),
+            None,
+            "sw1 26 servo track\n",
+        ),
+        (
+            1,
+            26,
+            servo(ServoState::Holdover),
+            None,
+            "sw1 26 servo holdover\n",
+        ),
+    ];
+    for (node, tick, output, truth, line) in &rows {
+        let node = (*node).min(2);
+        let made = output_line(rt.alloc(), &net, node, *tick, output, *truth)?;
+        assert_eq!(rt; made.as_slice(), line.as_bytes());
+    }
+    Ok(())
+}
+
+#[test]
+fn counts(rt: HostRuntime) -> Result<(), Fail> {
+    let net = Network {
+        cfg: network(),
+        db: CalDb::read(rt.alloc(), b"")?,
+    };
+    let lines = [
+        "leaf count 1 short 1\n",
+        "leaf count 1 version 2\n",
+        "leaf count 1 kind 3\n",
+        "leaf count 1 length 4\n",
+        "leaf count 1 time 5\n",
+        "leaf count 1 tlv 6\n",
+        "leaf count 1 badwr 7\n",
+        "leaf count 1 onestep 8\n",
+        "leaf count 1 domain 9\n",
+        "leaf count 1 stranger 10\n",
+        "leaf count 1 notforus 11\n",
+        "leaf count 1 quiet 12\n",
+        "leaf count 1 unmatched 13\n",
+        "leaf count 1 range 14\n",
+        "leaf count 1 sample 15\n",
+    ];
+    for reason in 1..16 {
+        let line = count_line(rt.alloc(), &net, 2, 1, reason, u32::from(reason))?;
+        assert_eq!(rt; line.as_slice(), lines[usize::from(reason) - 1].as_bytes());
+    }
+    Ok(())
+}

@@ -1,0 +1,15 @@
+pub mod Finding
+pub mod Giving
+pub mod Hearing
+pub mod Links
+pub mod Lists
+pub mod NewNode
+pub mod Nodes
+pub mod NodeTicks
+pub mod Ascending
+pub mod Drops
+pub mod Settled
+pub mod Sound
+pub mod Stepping
+pub mod Telling
+pub mod Ticks

@@ -1,0 +1,6 @@
+-- What changed is told at the end of the input.
+use Rattle.wrp_node.proofs.Settled.{step_settles}
+use Rattle.wrp_node.proofs.laws.step_settles.Goals as goal
+
+pub returns : goal.returns
+returns c = step_settles

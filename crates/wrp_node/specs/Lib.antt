@@ -1,0 +1,13 @@
+pub mod Control
+pub mod Inputs
+pub mod Laws
+pub mod LinkNews
+pub mod Node
+pub mod New
+pub mod NodeAt
+pub mod NodeRun
+pub mod NodeStep
+pub mod Parts
+pub mod Place
+pub mod StandsFor
+pub mod Telling

@@ -1,0 +1,139 @@
+-- The servo is told something: it answers, and its answer goes to the slave port and to the counters (this project's profile).
+use Rattle.std.specs.Prelude.{ℕ, ℤ, pos, ◌==◌, Bool, true, false, if◌then◌else◌, not, unsigned_abs, List, [], ◌∷◌, Option, None, Some, is_some}
+use Rattle.std.specs.Option.{option_or}
+use Rattle.wrp_base.specs.declared.measurement.ChainNews.{ChainNews}
+use Rattle.wrp_base.specs.declared.measurement.ChainNews.TheVariants.{Same}
+use Rattle.wrp_base.specs.declared.message.PtpMsg.{PtpMsg}
+use Rattle.wrp_data.specs.Counters.{counts_after}
+use Rattle.wrp_node.specs.NodeAt.{Fixed, NodeAt, slave_of, settings_of, is_fresh_in, deltas_in}
+use Rattle.wrp_port.specs.declared.interface.PortIn.{PortIn}
+use Rattle.wrp_port.specs.declared.interface.PortIn.TheVariants.{Sample, Chain}
+use Rattle.wrp_servo.specs.Call.{Call, CallSample, CallLease, CallLink, run}
+use Rattle.wrp_servo.specs.declared.interface.ServoOut.{ServoOut}
+use Rattle.wrp_servo.specs.Servo.{plain_out, answer_to}
+use Rattle.wrp_servo.specs.Told.{lease_told, link_told}
+
+-- a node on its way through an input: the step of its clock in periods, its DAC value, and what each port sends
+pub record Step : Type 0 where
+  pub node : NodeAt
+  pub cycles : ℤ
+  pub dac : Option ℕ
+  pub sends : ℕ → List PtpMsg
+
+-- nothing came of the input yet
+abbrev pub step_from : NodeAt → Step
+step_from n = record { node = n; cycles = pos 0; dac = None; sends = λ p. [] }
+
+-- ---- ports and counters
+
+-- one port is told something
+abbrev pub told_at : (ℕ → List PortIn) → ℕ → PortIn → ℕ → List PortIn
+told_at told p input q = if q == p then input ∷ told q else told q
+
+-- every port is told something
+abbrev pub told_all : (ℕ → List PortIn) → PortIn → ℕ → List PortIn
+told_all told input q = input ∷ told q
+
+-- only one port sends
+abbrev pub only_at : ℕ → List PtpMsg → ℕ → List PtpMsg
+only_at p sends q = if q == p then sends else []
+
+-- the counter of a reason is raised, if there is one
+abbrev pub counted : Option ℕ → List ℕ → List ℕ
+counted None counters = counters
+counted (Some reason) counters = counts_after counters reason
+
+-- a reason is counted at one port
+abbrev pub counted_at : (ℕ → List ℕ) → ℕ → Option ℕ → ℕ → List ℕ
+counted_at counters p reason q = if q == p then counted reason (counters q) else counters q
+
+-- ---- what an answer of the servo is to the slave port: first what became of the chain, then the sample
+
+abbrev pub with_news : ChainNews → List PortIn → List PortIn
+with_news Same told = told
+with_news news told = Chain news ∷ told
+
+abbrev pub with_sample : Option ℤ → ℕ → List PortIn → List PortIn
+with_sample None number told = told
+with_sample (Some phase) number told = Sample number phase ∷ told
+
+-- the number of a sample
+abbrev pub number_of : Option Call → ℕ
+number_of (Some (CallSample n base bits)) = n
+number_of _ = 0
+
+abbrev pub heard_of : ServoOut → ℕ → List PortIn → List PortIn
+heard_of out number told = with_sample out.unwrapped number (with_news out.chain told)
+
+abbrev pub told_by : Option ℕ → ServoOut → ℕ → (ℕ → List PortIn) → ℕ → List PortIn
+told_by None out number told q = told q
+told_by (Some p) out number told q = if q == p then heard_of out number (told q) else told q
+
+abbrev pub counted_by : Option ℕ → ServoOut → (ℕ → List ℕ) → ℕ → List ℕ
+counted_by None out counters q = counters q
+counted_by (Some p) out counters q = counted_at counters p out.refused q
+
+-- ---- telling
+
+-- a node without a slave port has no servo that could be told
+abbrev pub for_slave : Fixed → Option Call → Option Call
+for_slave fixed call = if is_some (slave_of fixed.set) then call else None
+
+-- nothing is told, and nothing comes of it
+abbrev pub no_answer : ServoOut
+no_answer = plain_out (pos 0) Same None
+
+-- what the servo answers
+abbrev pub answer_of : Fixed → Option Call → List Call → ServoOut
+answer_of fixed None calls = no_answer
+answer_of fixed (Some call) calls = answer_to (settings_of fixed) (run (settings_of fixed) calls) call
+
+abbrev pub called : Option Call → List Call → List Call
+called None calls = calls
+called (Some call) calls = call ∷ calls
+
+-- the newest step that is not 0
+abbrev pub newest_step : ℤ → ℤ → ℤ
+newest_step new old = if unsigned_abs new == 0 then old else new
+
+-- the servo is told something, if there is something to tell
+abbrev pub tell : Fixed → Option Call → Step → Step
+tell fixed call s = record {
+  node = record {
+    ticks = s.node.ticks;
+    told = told_by (slave_of fixed.set) (answer_of fixed call s.node.calls) (number_of call) s.node.told;
+    calls = called call s.node.calls;
+    counters = counted_by (slave_of fixed.set) (answer_of fixed call s.node.calls) s.node.counters;
+  };
+  cycles = newest_step (answer_of fixed call s.node.calls).cycles s.cycles;
+  dac = option_or (answer_of fixed call s.node.calls).dac s.dac;
+  sends = s.sends;
+}
+
+-- ---- a changed lease, and a changed WR_LINK_ON
+
+abbrev pub is_changed : Bool → Bool → Bool
+is_changed true now = not now
+is_changed false now = now
+
+-- what is to be told of the lease: only where it is another than was told last
+abbrev pub lease_change : Fixed → NodeAt → Option Call
+lease_change fixed n =
+    for_slave fixed
+    (if is_changed (lease_told n.calls) (is_fresh_in fixed.set n) then Some (CallLease (is_fresh_in fixed.set n)) else None)
+
+-- and of WR_LINK_ON
+abbrev pub link_change : Fixed → NodeAt → Option Call
+link_change fixed n =
+    for_slave fixed
+    (if is_changed (is_some (link_told n.calls)) (is_some (deltas_in fixed.set n)) then Some (CallLink (deltas_in fixed.set n)) else None)
+
+abbrev pub with_lease : Fixed → Step → Step
+with_lease fixed s = tell fixed (lease_change fixed s.node) s
+
+abbrev pub with_link : Fixed → Step → Step
+with_link fixed s = tell fixed (link_change fixed s.node) s
+
+-- the servo is told of a changed lease, then of a changed WR_LINK_ON
+abbrev pub settled : Fixed → Step → Step
+settled fixed s = with_link fixed (with_lease fixed s)

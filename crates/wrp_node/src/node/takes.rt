@@ -1,0 +1,206 @@
+//! What a node does with each kind of input.
+ghost use Rattle.std.specs.Prelude.{◌≡◌, ◌<◌, ◌+◌, ◌^◌, true, Some};
+ghost use Rattle.wrp_base.specs.Message.{IsSound};
+ghost use Rattle.wrp_frame.specs.Faults.{fault_number};
+ghost use Rattle.wrp_node.specs.Control.{HasTick, KeepsLaw, IsReason};
+ghost use Rattle.wrp_node.specs.Node.{FitsInput, HasTickFor, NodeLeads, NodeTakes, PortsTick, TakesFrame, TakesMessage, Takes, servo_has_tick, servo_has_sample, ticked, restarts, sent_at, carried_at};
+ghost use Rattle.wrp_node.specs.Parts.{FitsRaw, is_among};
+ghost use Rattle.wrp_node.specs.Telling.{with_lease, with_link};
+ghost use Rattle.wrp_port.specs.PortAt.{IsStamp};
+
+use super::Node;
+use crate::Input;
+use crate::ports::To;
+use wrp_base::{Frame, Module, PtpMsg, Raw, Stamp};
+use wrp_frame::{FrameFault, decode};
+use wrp_port::PortIn;
+
+impl<F: Fn(i64) -> i64> Node<F> {
+    // Takes an input, of whatever kind.
+    pub(super) fn take(&mut self, x: &Input)
+        requires law { KeepsLaw F.pre F.post self.old.control }
+        requires input { FitsInput self.old x.now }
+        requires ticks { HasTickFor self.old x.now }
+        ensures law { KeepsLaw F.pre F.post self.new.control }
+        ensures takes { Takes F.post x.now self.old self.new }
+    {
+        match x {
+            Input::Tick => self.tick(),
+            Input::Sample { n, base, bits } => self.sample(*n, *base, *bits),
+            Input::Frame {
+                port,
+                bytes,
+                raw,
+                sample,
+            } => self.frame(*port, bytes, raw, *sample),
+            Input::Sent {
+                port,
+                seq,
+                delay,
+                stamp,
+            } => self.sent(*port, *seq, *delay, *stamp),
+            Input::Carrier { port, up, module } => self.carrier(*port, *up, *module),
+            Input::Reset => self.reset(),
+        }
+    }
+
+    // A tick: it is counted, then the lease has its turn, of which the servo is told, then the servo
+    // has its tick, then the ports.
+    fn tick(&mut self)
+        requires law { KeepsLaw F.pre F.post self.old.control }
+        requires room { self.old.parts.ticks + 1 < 2 ^ 32 }
+        requires ticks { HasTick self.old.control }
+        ensures law { KeepsLaw F.pre F.post self.new.control }
+        ensures takes { NodeTakes F.post ticked self.old self.new }
+    {
+        self.parts.count_tick();
+        self.tell_lease();
+        self.servo_tick();
+        self.ports_tick();
+    }
+
+    // The servo is told of a changed lease.
+    pub(super) fn tell_lease(&mut self)
+        requires law { KeepsLaw F.pre F.post self.old.control }
+        ensures law { KeepsLaw F.pre F.post self.new.control }
+        ensures room { HasTick self.old.control → HasTick self.new.control }
+        ensures lead { NodeLeads F.post with_lease self.old self.new }
+    {
+        let out = self.control.lease(self.parts.lease());
+        self.parts.take_answer(&out, 0);
+    }
+
+    // The servo is told of a changed WR_LINK_ON.
+    pub(super) fn tell_link(&mut self)
+        requires law { KeepsLaw F.pre F.post self.old.control }
+        ensures law { KeepsLaw F.pre F.post self.new.control }
+        ensures lead { NodeLeads F.post with_link self.old self.new }
+    {
+        let out = self.control.link(self.parts.deltas());
+        self.parts.take_answer(&out, 0);
+    }
+
+    // The servo has its tick.
+    fn servo_tick(&mut self)
+        requires law { KeepsLaw F.pre F.post self.old.control }
+        requires ticks { HasTick self.old.control }
+        ensures law { KeepsLaw F.pre F.post self.new.control }
+        ensures lead { NodeLeads F.post servo_has_tick self.old self.new }
+    {
+        let out = self.control.tick();
+        self.parts.take_answer(&out, 0);
+    }
+
+    // The ports have their tick.
+    fn ports_tick(&mut self)
+        ensures control { self.new.control ≡ self.old.control }
+        ensures lead { PortsTick F.post self.old self.new }
+    {
+        let locked = self.control.locked();
+        let certain = self.control.certain();
+        self.parts.give(To::Every, PortIn::Tick { locked, certain });
+    }
+
+    // A sample.
+    fn sample(&mut self, n: u32, base: u16, bits: u64)
+        requires law { KeepsLaw F.pre F.post self.old.control }
+        requires base { base < 16384 }
+        ensures law { KeepsLaw F.pre F.post self.new.control }
+        ensures takes { NodeTakes F.post (servo_has_sample n base bits) self.old self.new }
+    {
+        let out = self.control.sample(n, base, bits);
+        self.parts.take_answer(&out, n);
+    }
+
+    // A sending is told.
+    fn sent(&mut self, port: u16, seq: u16, delay: bool, stamp: Stamp)
+        requires { IsStamp stamp }
+        ensures control { self.new.control ≡ self.old.control }
+        ensures takes { NodeTakes F.post (sent_at port seq delay stamp) self.old self.new }
+    {
+        let tick = self.parts.ticks;
+        self.parts.give(
+            To::One(port),
+            PortIn::Sent {
+                delay,
+                seq,
+                stamp,
+                tick,
+            },
+        );
+    }
+
+    // A carrier comes or goes.
+    fn carrier(&mut self, port: u16, up: bool, own_module: Option<Module>)
+        requires law { KeepsLaw F.pre F.post self.old.control }
+        ensures law { KeepsLaw F.pre F.post self.new.control }
+        ensures takes { NodeTakes F.post (carried_at port up own_module) self.old self.new }
+    {
+        self.parts.give(
+            To::One(port),
+            PortIn::Carrier {
+                up,
+                module: own_module,
+            },
+        );
+        let out = self.control.carrier(self.parts.is_slave(port), up);
+        self.parts.take_answer(&out, 0);
+    }
+
+    // The node starts anew.
+    fn reset(&mut self)
+        requires law { KeepsLaw F.pre F.post self.old.control }
+        ensures law { KeepsLaw F.pre F.post self.new.control }
+        ensures takes { NodeTakes F.post restarts self.old self.new }
+    {
+        self.parts.reset();
+        let _out = self.control.reset();
+    }
+
+    // A frame: its first fault is counted, or its message reaches the port.
+    fn frame(&mut self, port: u16, bytes: &Frame, raw: &Raw, sample: u32)
+        requires law { KeepsLaw F.pre F.post self.old.control }
+        requires port { is_among port self.old.parts.ports ≡ true }
+        requires raw { FitsRaw raw.now }
+        ensures law { KeepsLaw F.pre F.post self.new.control }
+        ensures takes { TakesFrame F.post port bytes.now.items raw.now sample self.old self.new }
+    {
+        match decode(bytes.as_slice()) {
+            Ok(message) => self.message(port, message, raw, sample),
+            Err(fault) => self.parts.count(port, Some(number_of(fault))),
+        }
+    }
+
+    // A message: where it makes a measurement, the servo is told.
+    fn message(&mut self, port: u16, message: PtpMsg, raw: &Raw, sample: u32)
+        requires law { KeepsLaw F.pre F.post self.old.control }
+        requires port { is_among port self.old.parts.ports ≡ true }
+        requires sound { IsSound message }
+        requires raw { FitsRaw raw.now }
+        ensures law { KeepsLaw F.pre F.post self.new.control }
+        ensures takes { TakesMessage F.post port message raw.now sample self.old self.new }
+    {
+        let four = self.parts.hear(port, message, raw, sample);
+        if let Some(four) = four {
+            let out = self.control.measured(&four);
+            self.parts.take_answer(&out, 0);
+        }
+    }
+}
+
+// The number of the reason that a fault is: 1 to 8.
+fn number_of(fault: FrameFault) -> u8
+    ensures value { result ≡ fault_number fault }
+    ensures reason { IsReason (Some result) }
+{
+    match fault {
+        FrameFault::Short => 1,
+        FrameFault::Version => 2,
+        FrameFault::Kind => 3,
+        FrameFault::Length => 4,
+        FrameFault::Time => 5,
+        FrameFault::Tlv => 6,
+        FrameFault::BadWr => 7,
+        FrameFault::OneStep => 8,
+    }
+}

@@ -1,0 +1,157 @@
+//! A port at its place in a node: with its number, its counters, and what it is about to put out.
+ghost use Rattle.std.specs.Prelude.{◌≡◌, ◌≤◌, ◌+◌, ◌++◌, length, map, []};
+ghost use Rattle.std.specs.List.{AllByRecursion};
+ghost use Rattle.wrp_base.specs.Message.{IsSound};
+ghost use Rattle.wrp_data.specs.Counters.{no_counts};
+ghost use Rattle.wrp_node.specs.Place.{newest_sends, Gives, GivesTo, Begins, place_counted, place_out, is_to};
+ghost use Rattle.wrp_link.specs.Table.{word_of};
+ghost use Rattle.wrp_node.specs.NodeRun.{word_out, frame_out};
+ghost use Rattle.wrp_port.specs.PortAt.{IsFit};
+
+use crate::ports::To;
+use crate::{Output, Outputs, Report};
+use arrayvec::ArrayVec;
+use wrp_base::{Four, LinkWord, PtpMsg};
+use wrp_data::Counters;
+use wrp_frame::encode;
+use wrp_port::{Port, PortIn};
+
+/// A port of a node.
+#[derive(Debug, Drop)]
+pub struct Place {
+    /// Its number.
+    pub number: u16,
+    /// The port.
+    pub port: Port,
+    /// How often it dropped something, by reason.
+    pub counters: Counters,
+    /// Its word before the input.
+    pub word: LinkWord,
+    /// What the input makes it send.
+    pub sends: ArrayVec<PtpMsg, 4>,
+    /// The four stamps of a measurement that the newest message made.
+    pub measured: Option<Four>,
+}
+
+impl Place {
+    /// A port that was told nothing, and counted nothing.
+    pub fn new(number: u16, port: Port) -> Place
+        ensures number { result.number ≡ number }
+        ensures port { result.port ≡ port }
+        ensures counters { result.counters ≡ no_counts }
+    {
+        let word = port.word();
+        Place {
+            number,
+            port,
+            counters: Counters::new(),
+            word,
+            sends: ArrayVec::new(),
+            measured: None,
+        }
+    }
+
+    /// Before an input: notes the word, and sends nothing yet.
+    pub fn begin(&mut self)
+        ensures { Begins self.old self.new }
+    {
+        self.word = self.port.word();
+        self.sends.clear();
+        self.measured = None;
+    }
+
+    /// Tells the port an input, if it is for this one.
+    pub fn give(&mut self, to: To, input: PortIn)
+        requires { IsFit input }
+        ensures { GivesTo to input self.old self.new }
+    {
+        if to.has(self.number) {
+            self.tell(input);
+        }
+    }
+
+    // Tells the port an input.
+    fn tell(&mut self, input: PortIn)
+        requires { IsFit input }
+        ensures { Gives input self.old self.new }
+    {
+        let out = self.port.step(input);
+        if let Some(reason) = out.drop {
+            self.counters.count(reason);
+        }
+        self.keep(out.sends.as_slice());
+        self.measured = out.measured;
+    }
+
+    // Keeps what is to be sent, if there is something.
+    fn keep(&mut self, sends: &[PtpMsg])
+        requires { length sends.now ≤ 4 }
+        ensures { self.new ≡ record self.old { sends = record { items = newest_sends sends.now self.old.sends.items } } }
+    {
+        if !sends.is_empty() {
+            self.sends.clear();
+            let _fits = self.sends.try_extend_from_slice(sends);
+        }
+    }
+
+    /// Counts a reason, 1 to 15, if it is this port's.
+    pub fn count(&mut self, number: u16, reason: u8)
+        requires at_least { 1 ≤ reason }
+        requires at_most { reason ≤ 15 }
+        ensures { self.new ≡ place_counted number reason self.old }
+    {
+        if self.number == number {
+            self.counters.count(reason);
+        }
+    }
+
+    /// Puts out its word, where it changed, and its frames.
+    pub fn put_out(&self, outs: &mut Outputs)
+        requires sound { AllByRecursion IsSound self.now.sends.items }
+        requires room { length outs.old.items + 5 ≤ 96 }
+        ensures items { outs.new.items ≡ outs.old.items ++ place_out self.now }
+        ensures room { length outs.new.items ≤ length outs.old.items + 5 }
+    {
+        self.put_word(outs);
+        self.put_frames(outs);
+    }
+
+    // Puts out its word, where it changed.
+    fn put_word(&self, outs: &mut Outputs)
+        requires room { length outs.old.items + 1 ≤ 96 }
+        ensures items { outs.new.items ≡ outs.old.items
+            ++ word_out self.now.number self.now.word (word_of self.now.port.line.link) }
+        ensures room { length outs.new.items ≤ length outs.old.items + 1 }
+    {
+        let word = self.port.word();
+        if word != self.word {
+            outs.push(Output::Report(Report::Link {
+                port: self.number,
+                word,
+            }));
+        }
+    }
+
+    // Puts out its frames.
+    fn put_frames(&self, outs: &mut Outputs)
+        requires sound { AllByRecursion IsSound self.now.sends.items }
+        requires room { length outs.old.items + 4 ≤ 96 }
+        ensures items { outs.new.items ≡ outs.old.items ++ map (frame_out self.now.number) self.now.sends.items }
+        ensures room { length outs.new.items ≤ length outs.old.items + 4 }
+    {
+        for message in self.sends.as_slice() {
+            outs.push(self.frame(message));
+        }
+    }
+
+    // A frame of the port.
+    fn frame(&self, message: &PtpMsg) -> Output
+        requires { IsSound message.now }
+        ensures { result ≡ frame_out self.now.number message.now }
+    {
+        Output::Send {
+            port: self.number,
+            frame: encode(message),
+        }
+    }
+}

@@ -1,0 +1,9 @@
+pub mod Texts
+pub mod FieldLemmas
+pub mod KindLemmas
+pub mod PlainLemmas
+pub mod NumberLemmas
+pub mod DigitLemmas
+pub mod Listed
+pub mod ReadingLemmas
+pub mod ReadsBack

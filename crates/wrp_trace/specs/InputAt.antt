@@ -1,0 +1,51 @@
+-- Which inputs may come to a node: those that a line can say (this project's profile).
+use Rattle.std.specs.Prelude.{ℕ, ℤ, pos, ◌≡◌, ◌≤◌, ◌≤ℤ◌, ◌<◌, ◌^◌, ◌%◌, unsigned_abs, Bool, true, false, Option, None, Some, List, length}
+use Rattle.wrp_base.specs.declared.link.Module.{Module}
+use Rattle.wrp_base.specs.declared.time.Raw.{Raw}
+use Rattle.wrp_base.specs.Network.{IsAmong}
+use Rattle.wrp_base.specs.Octets.{AreOctets}
+use Rattle.wrp_node.specs.declared.interface.Input.{Input}
+use Rattle.wrp_node.specs.declared.interface.Input.TheVariants.{Tick, Sample, Frame, Sent, Carrier, Reset}
+use Rattle.wrp_trace.specs.Site.{Site, is_grandmaster, has_port, module_of}
+
+-- a raw stamp in its ranges
+pub record IsRaw (raw : Raw) : Type 0 where
+  pub rising : IsAmong 1 9_223_372_036_854_775_807 raw.rising
+  pub falling : IsAmong 1 9_223_372_036_854_775_807 raw.falling
+  pub tag : raw.tag ≤ 16_383
+
+-- the time of a stamp: 0 to 2^92 tau, a multiple of 1,000
+pub record IsTime (time : ℤ) : Type 0 where
+  pub least : pos 0 ≤ℤ time
+  pub greatest : unsigned_abs time ≤ 2 ^ 92
+  pub whole : unsigned_abs time % 1_000 ≡ 0
+
+-- a module that the database does not list, or the values of one that is listed at the port
+abbrev pub IsListed : Site → ℕ → Option Module → Type 0
+IsListed site port None = Unit {0}
+IsListed site port (Some values) = (name : List ℕ) × (module_of site port name ≡ Some values)
+
+-- the module of a port whose carrier comes; none where it goes
+abbrev pub HasModule : Site → ℕ → Bool → Option Module → Type 0
+HasModule site port true entry = IsListed site port entry
+HasModule site port false entry = entry ≡ None
+
+-- the input may come to the node: its numbers are in the ranges of a line, its port is the node's,
+-- its module is listed at that port or None, and a sample is not the grandmaster's
+abbrev pub IsInputAt : Site → Input → Type 0
+IsInputAt site Tick = Unit {0}
+IsInputAt site (Sample n base bits) = (is_grandmaster site ≡ false) × (base ≤ 16_383)
+IsInputAt site (Frame port octets raw sample) = (has_port site port ≡ true) × IsRaw raw
+IsInputAt site (Sent port seq delay stamp) = (has_port site port ≡ true) × IsTime stamp.value
+IsInputAt site (Carrier port up entry) = (has_port site port ≡ true) × HasModule site port up entry
+IsInputAt site Reset = Unit {0}
+
+-- the input's numbers fit the types that hold them
+abbrev pub FitsTypes : Input → Type 0
+FitsTypes Tick = Unit {0}
+FitsTypes (Sample n base bits) = (n < 2 ^ 32) × (bits < 2 ^ 64)
+FitsTypes (Frame port octets raw sample) =
+    (port < 2 ^ 16) × (AreOctets octets.items × (length octets.items ≤ 256)) × (sample < 2 ^ 32)
+FitsTypes (Sent port seq delay stamp) = (port < 2 ^ 16) × (seq < 2 ^ 16) × (stamp.sample < 2 ^ 32)
+FitsTypes (Carrier port up entry) = port < 2 ^ 16
+FitsTypes Reset = Unit {0}

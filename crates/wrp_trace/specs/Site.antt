@@ -1,0 +1,55 @@
+-- Where a line of inputs belongs: a node of a network (this project's profile).
+use Rattle.std.specs.Prelude.{◌==◌, ◌&&◌, ℕ, Bool, false, if◌then◌else◌, Option, Some, None, is_none, is_some, option_map, List, codes}
+use Rattle.std.specs.List.{find}
+use Rattle.wrp_base.specs.declared.configuration.NetCfg.{NetCfg}
+use Rattle.wrp_base.specs.declared.link.Module.{Module}
+use Rattle.wrp_base.specs.Network.{link_above}
+use Rattle.wrp_caldb.specs.Database.{Database}
+use Rattle.wrp_caldb.specs.Name.{same_name}
+use Rattle.wrp_config.specs.Names.{pair_at, listed_at}
+use Rattle.wrp_config.specs.declared.network.Network.{Network}
+
+-- a node of a network, by its place from 0 in file order
+pub record Site : Type 0 where
+  pub cfg : NetCfg
+  pub db : Database
+  pub node : ℕ
+
+-- this node of this network
+abbrev pub site_of : Network → ℕ → Site
+site_of net node = record { cfg = net.cfg; db = net.db; node = node }
+
+-- whether the node gives the time: no link has it as its lower end
+abbrev pub is_grandmaster : Site → Bool
+is_grandmaster site = is_none (link_above site.cfg site.node)
+
+-- whether a link names this port of the node
+abbrev pub has_port : Site → ℕ → Bool
+has_port site port = is_some (pair_at site.cfg site.node port)
+
+-- the numbers of a listed module at a port of the node
+abbrev pub module_of : Site → ℕ → List ℕ → Option Module
+module_of site port name = listed_at site.cfg site.db site.node port name
+
+-- the module that a text names at a port: `unlisted` stands for a module that the database does not
+-- list, and nothing is found for a name that is neither
+abbrev pub named_at : Site → ℕ → List ℕ → Option (Option Module)
+named_at site port name =
+    if same_name name (codes "unlisted") then Some None
+    else option_map (λ entry. Some entry) (module_of site port name)
+
+-- whether two modules have equal values
+abbrev pub same_module : Module → Module → Bool
+same_module a b =
+    (a.tx == b.tx) && ((a.rx == b.rx) && ((a.transition == b.transition) && (a.err == b.err)))
+
+-- whether this is a module of these values
+abbrev pub has_values : Module → Option Module → Bool
+has_values values None = false
+has_values values (Some entry) = same_module entry values
+
+-- the first listed name, in file order, whose module at a port has these values
+abbrev pub name_of : Site → ℕ → Module → Option (List ℕ)
+name_of site port values =
+    option_map (λ m. m.name)
+    (find (λ m. has_values values (module_of site port m.name)) site.db.modules)

@@ -1,0 +1,212 @@
+//! The fields of a line, by their places from 1: what each says, or its fault.
+ghost use Rattle.std.specs.Prelude.{◌≡◌, ◌<◌, ◌≤◌, ◌^◌, IfOk, true};
+ghost use Rattle.csv.specs.Records.{fields_of};
+ghost use Rattle.wrp_base.specs.declared.fault.TraceFault.TheVariants.{Number, Name};
+ghost use Rattle.wrp_trace.specs.Reading.{field_of};
+ghost use Rattle.wrp_trace.specs.Fields.{number_at, short_at, long_at, step_at, counter_at, bits_at, octets_at, time_at, raw_from, stamp_from, port_at, message_at, module_at};
+ghost use Rattle.wrp_trace.specs.InputAt.{IsRaw, IsTime, IsListed};
+ghost use Rattle.wrp_trace.specs.Site.{site_of, has_port};
+ghost use Rattle.wrp_base.specs.Network.{IsAmong};
+
+use crate::digits::{bits, octets};
+use crate::numbers::{natural, time};
+use crate::site::{has_port, named_at};
+use csv::ByteRecord;
+use wrp_base::{Frame, Module, Raw, Stamp, Tau, TraceFault};
+use wrp_config::Network;
+
+// The greatest number of 16 bits.
+const MOST_SHORT: u64 = u16::MAX as u64;
+
+// The greatest number of 32 bits.
+const MOST_LONG: u64 = u32::MAX as u64;
+
+// The last detector step of a period.
+const LAST_STEP: u64 = 16_383;
+
+// The greatest count of periods.
+const MOST_COUNT: u64 = (1 << 63) - 1;
+
+/// The field of a place; no octets where the line has none there.
+pub fn field(row: &ByteRecord, place: u32) -> &[u8]
+    requires { 0 < place }
+    ensures { result.now ≡ field_of place (fields_of row.now) }
+{
+    match row.get(place as usize - 1) {
+        Some(field) => field,
+        None => &[],
+    }
+}
+
+// A field is no number, or out of its range.
+fn number_fault(place: u32) -> TraceFault
+    requires { 0 < place }
+    ensures { result ≡ Number place }
+{
+    TraceFault::Number { field: place }
+}
+
+// A field is no known name.
+fn name_fault(place: u32) -> TraceFault
+    ensures { result ≡ Name place }
+{
+    TraceFault::Name { field: place }
+}
+
+// The number from `least` to `greatest` in the field of a place.
+fn number_at(row: &ByteRecord, place: u32, least: u64, greatest: u64) -> Result<u64, TraceFault>
+    requires { 0 < place }
+    ensures value { result ≡ number_at least greatest place (fields_of row.now) }
+    ensures range { IfOk result (IsAmong least greatest) }
+{
+    match natural(field(row, place), least, greatest) {
+        Some(number) => Ok(number),
+        None => Err(number_fault(place)),
+    }
+}
+
+/// A number of 16 bits.
+pub fn short_at(row: &ByteRecord, place: u32) -> Result<u16, TraceFault>
+    requires { 0 < place }
+    ensures { result ≡ short_at place (fields_of row.now) }
+{
+    let number = number_at(row, place, 0, MOST_SHORT)?;
+    Ok(number as u16)
+}
+
+/// A number of 32 bits.
+pub fn long_at(row: &ByteRecord, place: u32) -> Result<u32, TraceFault>
+    requires { 0 < place }
+    ensures { result ≡ long_at place (fields_of row.now) }
+{
+    let number = number_at(row, place, 0, MOST_LONG)?;
+    Ok(number as u32)
+}
+
+/// A place in the period, in detector steps: 0 to 16383.
+pub fn step_at(row: &ByteRecord, place: u32) -> Result<u16, TraceFault>
+    requires { 0 < place }
+    ensures value { result ≡ step_at place (fields_of row.now) }
+    ensures range { IfOk result (λ n. n ≤ 16_383) }
+{
+    let number = number_at(row, place, 0, LAST_STEP)?;
+    Ok(number as u16)
+}
+
+/// A counter of whole periods: 1 to `2^63 - 1`.
+pub fn counter_at(row: &ByteRecord, place: u32) -> Result<u64, TraceFault>
+    requires { 0 < place }
+    ensures value { result ≡ counter_at place (fields_of row.now) }
+    ensures range { IfOk result (IsAmong 1 9_223_372_036_854_775_807) }
+{
+    number_at(row, place, 1, MOST_COUNT)
+}
+
+/// The beat bits: 16 hex digits.
+pub fn bits_at(row: &ByteRecord, place: u32) -> Result<u64, TraceFault>
+    requires { 0 < place }
+    ensures { result ≡ bits_at place (fields_of row.now) }
+{
+    match bits(field(row, place)) {
+        Some(bits) => Ok(bits),
+        None => Err(number_fault(place)),
+    }
+}
+
+/// The octets of a frame, as hex digits.
+pub fn octets_at(row: &ByteRecord, place: u32) -> Result<Frame, TraceFault>
+    requires { 0 < place }
+    ensures { result ≡ octets_at place (fields_of row.now) }
+{
+    match octets(field(row, place)) {
+        Some(octets) => Ok(octets),
+        None => Err(number_fault(place)),
+    }
+}
+
+// The time of a stamp, in tau.
+fn time_at(row: &ByteRecord, place: u32) -> Result<Tau, TraceFault>
+    requires { 0 < place }
+    ensures value { result ≡ time_at place (fields_of row.now) }
+    ensures range { IfOk result IsTime }
+{
+    match time(field(row, place)) {
+        Some(time) => Ok(time),
+        None => Err(number_fault(place)),
+    }
+}
+
+/// The raw stamp of a reception: RISING, FALLING and TAG, from a place on.
+pub fn raw_from(row: &ByteRecord, place: u32) -> Result<Raw, TraceFault>
+    requires { (0 < place) × (place < 2 ^ 16) }
+    ensures value { result ≡ raw_from place (fields_of row.now) }
+    ensures range { IfOk result IsRaw }
+{
+    let rising = counter_at(row, place)?;
+    let falling = counter_at(row, place + 1)?;
+    let tag = step_at(row, place + 2)?;
+    Ok(Raw {
+        rising,
+        falling,
+        tag,
+    })
+}
+
+/// The stamp of a sending: STAMP and SAMPLE, from a place on.
+pub fn stamp_from(row: &ByteRecord, place: u32) -> Result<Stamp, TraceFault>
+    requires { (0 < place) × (place < 2 ^ 16) }
+    ensures value { result ≡ stamp_from place (fields_of row.now) }
+    ensures range { IfOk result (λ stamp. IsTime stamp.value) }
+{
+    let value = time_at(row, place)?;
+    let sample = long_at(row, place + 1)?;
+    Ok(Stamp { value, sample })
+}
+
+/// A port of the node: a number first, and then one of the node's ports.
+pub fn port_at(row: &ByteRecord, place: u32, net: &Network, node: u8) -> Result<u16, TraceFault>
+    requires { 0 < place }
+    ensures value { result ≡ port_at (site_of net.now node) place (fields_of row.now) }
+    ensures range { IfOk result (λ port.
+        has_port (site_of net.now node) port ≡ true) }
+{
+    let port = short_at(row, place)?;
+    if has_port(net, node, port) {
+        Ok(port)
+    } else {
+        Err(name_fault(place))
+    }
+}
+
+/// Which message was sent: `sync` is false, `delay` is true.
+pub fn message_at(row: &ByteRecord, place: u32) -> Result<bool, TraceFault>
+    requires { 0 < place }
+    ensures { result ≡ message_at place (fields_of row.now) }
+{
+    let text = field(row, place);
+    if text == b"sync".as_slice() {
+        Ok(false)
+    } else if text == b"delay".as_slice() {
+        Ok(true)
+    } else {
+        Err(name_fault(place))
+    }
+}
+
+/// The module at a port of the node: a listed one, or `unlisted`.
+pub fn module_at(
+    row: &ByteRecord,
+    place: u32,
+    net: &Network,
+    node: u8,
+    port: u16,
+) -> Result<Option<Module>, TraceFault>
+    requires { 0 < place }
+    ensures value { result ≡ module_at (site_of net.now node) port place (fields_of row.now) }
+    ensures range { IfOk result (IsListed (site_of net.now node) port) }
+{
+    match named_at(net, node, port, field(row, place)) {
+        Some(module) => Ok(module),
+        None => Err(name_fault(place)),
+    }
+}

@@ -1,0 +1,163 @@
+//! Input lines: what a node is handed, read from a line.
+ghost use Rattle.std.specs.Prelude.{◌≡◌, IfOk, OnOk, true, false};
+ghost use Rattle.csv.specs.Records.{fields_of};
+ghost use Rattle.wrp_base.specs.Lines.{parts_of};
+ghost use Rattle.wrp_trace.specs.Inputs.{sample_of, frame_of, sent_of, up_of, down_of, fields_of_kind, input_of, read_of};
+ghost use Rattle.wrp_trace.specs.InputAt.{IsInputAt};
+ghost use Rattle.wrp_trace.specs.Kinds.{has_kind};
+ghost use Rattle.wrp_trace.specs.Reading.{IsReading, is_plain};
+ghost use Rattle.wrp_trace.specs.Site.{site_of, is_grandmaster};
+
+use crate::fields::{
+    bits_at, field, long_at, message_at, module_at, octets_at, port_at, raw_from, short_at,
+    stamp_from, step_at,
+};
+use crate::kinds::{InputKind, kind_of};
+use csv::ByteRecord;
+use std::alloc::{AllocError, Global};
+use wrp_base::TraceFault;
+use wrp_config::Network;
+use wrp_fields::{Block, is_plain};
+use wrp_node::Input;
+
+// The place of the first field.
+const KIND: u32 = 1;
+
+/// What the fields of a line say to a node.
+pub fn read_input_fields(row: &ByteRecord, net: &Network, node: u8) -> Result<Input, TraceFault>
+    ensures value { result ≡ input_of (site_of net.now node) (fields_of row.now) }
+    ensures input { IfOk result (IsInputAt (site_of net.now node)) }
+{
+    match kind_of(net, node, field(row, KIND)) {
+        Some(kind) if row.len() == kind.field_count() => read_kind(kind, row, net, node),
+        Some(_) => Err(TraceFault::Fields),
+        None => Err(TraceFault::Kind),
+    }
+}
+
+// What the fields of a line of a kind say.
+fn read_kind(
+    kind: InputKind,
+    row: &ByteRecord,
+    net: &Network,
+    node: u8,
+) -> Result<Input, TraceFault>
+    requires { has_kind (site_of net.now node) kind ≡ true }
+    ensures value { result ≡ fields_of_kind (site_of net.now node) kind (fields_of row.now) }
+    ensures input { IfOk result (IsInputAt (site_of net.now node)) }
+{
+    match kind {
+        InputKind::Tick => Ok(Input::Tick),
+        InputKind::Sample => sample(row, net, node),
+        InputKind::Frame => frame(row, net, node),
+        InputKind::Sent => sent(row, net, node),
+        InputKind::Up => up(row, net, node),
+        InputKind::Down => down(row, net, node),
+        InputKind::Reset => Ok(Input::Reset),
+    }
+}
+
+// `sample,N,BASE,BITS`.
+fn sample(row: &ByteRecord, net: &Network, node: u8) -> Result<Input, TraceFault>
+    requires { is_grandmaster (site_of net.now node) ≡ false }
+    ensures value { result ≡ sample_of (fields_of row.now) }
+    ensures input { IfOk result (IsInputAt (site_of net.now node)) }
+{
+    let n = long_at(row, 2)?;
+    let base = step_at(row, 3)?;
+    let bits = bits_at(row, 4)?;
+    Ok(Input::Sample { n, base, bits })
+}
+
+// `frame,PORT,HEX,RISING,FALLING,TAG,SAMPLE`.
+fn frame(row: &ByteRecord, net: &Network, node: u8) -> Result<Input, TraceFault>
+    ensures value { result ≡ frame_of (site_of net.now node) (fields_of row.now) }
+    ensures input { IfOk result (IsInputAt (site_of net.now node)) }
+{
+    let port = port_at(row, 2, net, node)?;
+    let bytes = octets_at(row, 3)?;
+    let raw = raw_from(row, 4)?;
+    let sample = long_at(row, 7)?;
+    Ok(Input::Frame {
+        port,
+        bytes,
+        raw,
+        sample,
+    })
+}
+
+// `sent,PORT,sync,SEQ,STAMP,SAMPLE`, and the same with `delay`.
+fn sent(row: &ByteRecord, net: &Network, node: u8) -> Result<Input, TraceFault>
+    ensures value { result ≡ sent_of (site_of net.now node) (fields_of row.now) }
+    ensures input { IfOk result (IsInputAt (site_of net.now node)) }
+{
+    let port = port_at(row, 2, net, node)?;
+    let delay = message_at(row, 3)?;
+    let seq = short_at(row, 4)?;
+    let stamp = stamp_from(row, 5)?;
+    Ok(Input::Sent {
+        port,
+        seq,
+        delay,
+        stamp,
+    })
+}
+
+// `up,PORT,MODULE`.
+fn up(row: &ByteRecord, net: &Network, node: u8) -> Result<Input, TraceFault>
+    ensures value { result ≡ up_of (site_of net.now node) (fields_of row.now) }
+    ensures input { IfOk result (IsInputAt (site_of net.now node)) }
+{
+    let port = port_at(row, 2, net, node)?;
+    let module = module_at(row, 3, net, node, port)?;
+    Ok(Input::Carrier {
+        port,
+        up: true,
+        module,
+    })
+}
+
+// `down,PORT`.
+fn down(row: &ByteRecord, net: &Network, node: u8) -> Result<Input, TraceFault>
+    ensures value { result ≡ down_of (site_of net.now node) (fields_of row.now) }
+    ensures input { IfOk result (IsInputAt (site_of net.now node)) }
+{
+    let port = port_at(row, 2, net, node)?;
+    Ok(Input::Carrier {
+        port,
+        up: false,
+        module: None,
+    })
+}
+
+// Whether a line has octets, each below 128, and among them no quotation mark, CR or LF.
+fn is_plain_line(line: &[u8]) -> bool
+    ensures { result ≡ is_plain line.now }
+{
+    is_plain(line)
+}
+
+// Puts the parts of a plain line into `row`.
+#[tactic(auto, using(crate::proofs::PlainLemmas::line_is, crate::proofs::PlainLemmas::starts_plain))]
+fn split(alloc: Global, line: &[u8], row: &mut ByteRecord) -> Result<(), AllocError>
+    requires { is_plain line.now ≡ true }
+    ensures { OnOk result (fields_of row.new ≡ parts_of line.now) }
+{
+    let _found = Block::new(alloc, line).next(row)?;
+    Ok(())
+}
+
+/// What a line says to a node.
+pub fn read_input(alloc: Global, line: &[u8], net: &Network, node: u8) -> Result<Input, TraceFault>
+    ensures value { IsReading (read_of (site_of net.now node) line.now) result }
+    ensures input { IfOk result (IsInputAt (site_of net.now node)) }
+{
+    if !is_plain_line(line) {
+        return Err(TraceFault::Fields);
+    }
+    let mut row = ByteRecord::new(alloc);
+    match split(alloc, line, &mut row) {
+        Ok(()) => read_input_fields(&row, net, node),
+        Err(e) => Err(TraceFault::Memory(e)),
+    }
+}

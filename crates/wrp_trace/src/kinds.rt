@@ -1,0 +1,112 @@
+//! The kinds of input lines.
+ghost use Rattle.std.specs.Prelude.{◌≡◌, ◌&&◌, IfSome, true};
+ghost use Rattle.std.specs.List.{find};
+ghost use Rattle.wrp_caldb.specs.Name.{same_name};
+ghost use Rattle.wrp_trace.specs.Kinds.{word_of, field_count, has_kind, kind_of, all_kinds};
+ghost use Rattle.wrp_trace.specs.Site.{site_of};
+
+use crate::site::is_grandmaster;
+use wrp_config::Network;
+
+/// A kind of input line.
+#[derive(Clone, Copy, Debug, Default, PartialEq, Eq)]
+pub enum InputKind {
+    /// A tick of the node's clock.
+    #[default]
+    Tick,
+    /// A sample of the phase detector.
+    Sample,
+    /// A frame that came.
+    Frame,
+    /// The sending of a frame is told.
+    Sent,
+    /// A port's carrier comes.
+    Up,
+    /// A port's carrier goes.
+    Down,
+    /// The node starts anew.
+    Reset,
+}
+
+impl InputKind {
+    /// The word that a line of this kind begins with.
+    pub fn word(self) -> &'static str
+        ensures { result.now ≡ word_of self }
+    {
+        match self {
+            InputKind::Tick => "tick",
+            InputKind::Sample => "sample",
+            InputKind::Frame => "frame",
+            InputKind::Sent => "sent",
+            InputKind::Up => "up",
+            InputKind::Down => "down",
+            InputKind::Reset => "reset",
+        }
+    }
+
+    /// How many fields a line of this kind has, its word among them.
+    pub fn field_count(self) -> usize
+        ensures { result ≡ field_count self }
+    {
+        match self {
+            InputKind::Tick | InputKind::Reset => 1,
+            InputKind::Down => 2,
+            InputKind::Up => 3,
+            InputKind::Sample => 4,
+            InputKind::Sent => 6,
+            InputKind::Frame => 7,
+        }
+    }
+}
+
+// All kinds.
+fn all_kinds() -> [InputKind; 7]
+    ensures { result ≡ all_kinds }
+{
+    [
+        InputKind::Tick,
+        InputKind::Sample,
+        InputKind::Frame,
+        InputKind::Sent,
+        InputKind::Up,
+        InputKind::Down,
+        InputKind::Reset,
+    ]
+}
+
+// Whether a node has lines of a kind.
+fn has_kind(net: &Network, node: u8, kind: InputKind) -> bool
+    ensures { result ≡ has_kind (site_of net.now node) kind }
+{
+    match kind {
+        InputKind::Sample => !is_grandmaster(net, node),
+        _ => true,
+    }
+}
+
+// Whether a node has lines of a kind, and this is its word.
+fn is_kind(net: &Network, node: u8, kind: InputKind, word: &[u8]) -> bool
+    ensures { result ≡ (same_name (word_of kind) word.now && has_kind (site_of net.now node) kind) }
+{
+    kind.word().as_bytes() == word && has_kind(net, node, kind)
+}
+
+// The first of some kinds that a node has lines of, and whose word this is.
+fn among(kinds: &[InputKind], net: &Network, node: u8, word: &[u8]) -> Option<InputKind>
+    ensures { result ≡ find
+        (λ kind. same_name (word_of kind) word.now && has_kind (site_of net.now node) kind) kinds.now }
+{
+    kinds
+        .iter()
+        .copied()
+        .find(|kind| is_kind(net, node, *kind, word))
+}
+
+/// The kind of a line at a node, by its first field.
+#[tactic(auto, using(crate::proofs::KindLemmas::has_kind_found))]
+pub fn kind_of(net: &Network, node: u8, word: &[u8]) -> Option<InputKind>
+    ensures value { result ≡ kind_of (site_of net.now node) word.now }
+    ensures here { IfSome result (λ kind. has_kind (site_of net.now node) kind ≡ true) }
+{
+    among(all_kinds().as_slice(), net, node, word)
+}

@@ -1,0 +1,19 @@
+//! The lines that a trace is made of: what a node is handed, as a line of text, read and printed. A
+//! line that was printed reads back as the same input. The form of lines is this project's profile.
+#![tactic(auto)]
+
+mod digits;
+mod fields;
+mod inputs;
+mod kinds;
+mod numbers;
+mod printing;
+mod site;
+
+pub use inputs::{read_input, read_input_fields};
+pub use kinds::InputKind;
+pub use printing::input_line;
+pub use wrp_base::TraceFault;
+
+#[cfg(test)]
+mod tests;

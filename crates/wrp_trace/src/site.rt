@@ -1,0 +1,182 @@
+//! A node of a network: its ports, and the modules that are listed at them.
+ghost use Rattle.std.specs.Prelude.{◌≡◌, option_map, IfSome};
+ghost use Rattle.std.specs.List.{find};
+ghost use Rattle.wrp_base.specs.Network.{link_above};
+ghost use Rattle.wrp_caldb.specs.Name.{same_name};
+ghost use Rattle.wrp_caldb.specs.Database.{module_at};
+ghost use Rattle.wrp_config.specs.Names.{has_port as names_port, is_upper_end, link_at, pair_of, pair_at};
+ghost use Rattle.wrp_trace.specs.Site.{site_of, is_grandmaster, has_port, module_of, named_at, same_module, has_values, name_of};
+ghost use Rattle.wrp_trace.specs.InputAt.{IsListed};
+ghost use Rattle.wrp_trace.specs.Printing.{module_text};
+
+use wrp_base::{LinkCfg, Module};
+use wrp_caldb::ListedModule;
+use wrp_config::Network;
+
+// The name that stands for a module that the database does not list.
+const UNLISTED: &str = "unlisted";
+
+// The first link that has a node as its lower end.
+fn link_above(net: &Network, node: u8) -> Option<&LinkCfg>
+    ensures { option_map (λ link. link.now) result ≡ link_above net.now.cfg node }
+{
+    net.cfg.links.iter().find(|link| link.lower == node)
+}
+
+/// Whether a node gives the time: no link has it as its lower end.
+pub fn is_grandmaster(net: &Network, node: u8) -> bool
+    ensures { result ≡ is_grandmaster (site_of net.now node) }
+{
+    match link_above(net, node) {
+        Some(_) => false,
+        None => true,
+    }
+}
+
+// Whether a link has a port of a node at one of its ends.
+fn names_port(link: &LinkCfg, node: u8, port: u16) -> bool
+    ensures { result ≡ names_port node port link.now }
+{
+    is_upper_end(link, node, port) || (link.lower == node && link.lower_port == port)
+}
+
+// Whether a link has a port of a node at its upper end.
+fn is_upper_end(link: &LinkCfg, node: u8, port: u16) -> bool
+    ensures { result ≡ is_upper_end node port link.now }
+{
+    link.upper == node && link.upper_port == port
+}
+
+// The first link that has a port of a node.
+fn link_at(net: &Network, node: u8, port: u16) -> Option<&LinkCfg>
+    ensures { option_map (λ link. link.now) result ≡ link_at net.now.cfg node port }
+{
+    net.cfg
+        .links
+        .iter()
+        .find(|link| names_port(link, node, port))
+}
+
+// The wavelengths, in nm, that a port of a node sends and receives. None where it has no such port.
+fn pair_at(net: &Network, node: u8, port: u16) -> Option<(u16, u16)>
+    ensures { result ≡ pair_at net.now.cfg node port }
+{
+    match link_at(net, node, port) {
+        Some(link) => Some(pair_of(link, node, port)),
+        None => None,
+    }
+}
+
+// The wavelengths that a port at an end of a link sends and receives.
+fn pair_of(link: &LinkCfg, node: u8, port: u16) -> (u16, u16)
+    ensures { result ≡ pair_of node port link.now }
+{
+    if is_upper_end(link, node, port) {
+        (link.down_nm, link.up_nm)
+    } else {
+        (link.up_nm, link.down_nm)
+    }
+}
+
+/// Whether a node has a port.
+pub fn has_port(net: &Network, node: u8, port: u16) -> bool
+    ensures { result ≡ has_port (site_of net.now node) port }
+{
+    pair_at(net, node, port).is_some()
+}
+
+// Whether a listed module has a name.
+fn has_name(module: &ListedModule, name: &[u8]) -> bool
+    ensures { result ≡ same_name «module».now.name name.now }
+{
+    module.name().as_bytes() == name
+}
+
+// The listed module of a name.
+fn listed<'a>(modules: &'a [ListedModule], name: &[u8]) -> Option<&'a ListedModule>
+    ensures { option_map (λ m. m.now) result ≡ find (λ m. same_name m.name name.now) modules.now }
+{
+    modules.iter().find(|module| has_name(module, name))
+}
+
+// The entry of a name for a pair of wavelengths.
+fn entry_of(net: &Network, name: &[u8], tx_nm: u16, rx_nm: u16) -> Option<Module>
+    ensures { result ≡ module_at net.now.db name.now tx_nm rx_nm }
+{
+    match listed(net.db.modules(), name) {
+        Some(module) => module.at(tx_nm, rx_nm),
+        None => None,
+    }
+}
+
+// The numbers of a listed module at a port of a node.
+fn module_of(net: &Network, node: u8, port: u16, name: &[u8]) -> Option<Module>
+    ensures { result ≡ module_of (site_of net.now node) port name.now }
+{
+    let (tx_nm, rx_nm) = pair_at(net, node, port)?;
+    entry_of(net, name, tx_nm, rx_nm)
+}
+
+/// The module that a text names at a port of a node: `unlisted` stands for one that the database does
+/// not list. None where the name is neither.
+pub fn named_at(net: &Network, node: u8, port: u16, name: &[u8]) -> Option<Option<Module>>
+    ensures value { result ≡ named_at (site_of net.now node) port name.now }
+    ensures listed { IfSome result (IsListed (site_of net.now node) port) }
+{
+    if name == UNLISTED.as_bytes() {
+        return Some(None);
+    }
+    match module_of(net, node, port, name) {
+        Some(entry) => Some(Some(entry)),
+        None => None,
+    }
+}
+
+// Whether two modules have equal values.
+fn same_module(a: Module, b: Module) -> bool
+    ensures { result ≡ same_module a b }
+{
+    a.tx == b.tx && (a.rx == b.rx && (a.transition == b.transition && a.err == b.err))
+}
+
+// Whether a name is listed at a port of a node with these values.
+fn has_values(net: &Network, node: u8, port: u16, name: &str, values: Module) -> bool
+    ensures { result ≡ has_values values (module_of (site_of net.now node) port name.now) }
+{
+    match module_of(net, node, port, name.as_bytes()) {
+        Some(entry) => same_module(entry, values),
+        None => false,
+    }
+}
+
+// The first listed module, in file order, whose name has these values at a port of a node.
+fn valued<'a>(net: &'a Network, node: u8, port: u16, values: Module) -> Option<&'a ListedModule>
+    ensures { option_map (λ m. m.now) result
+        ≡ find (λ m. has_values values (module_of (site_of net.now node) port m.name)) net.now.db.modules }
+{
+    net.db.modules().iter().find(|module| has_values(net, node, port, module.name(), values))
+}
+
+// The first listed name, in file order, whose module at a port of a node has these values.
+fn name_of<'a>(net: &'a Network, node: u8, port: u16, values: Module) -> Option<&'a str>
+    ensures { option_map (λ name. name.now) result ≡ name_of (site_of net.now node) port values }
+{
+    match valued(net, node, port, values) {
+        Some(module) => Some(module.name()),
+        None => None,
+    }
+}
+
+/// How a module is named at a port of a node: by the first listed name whose values it has, and by
+/// `unlisted` where the database does not list it.
+pub fn module_name<'a>(net: &'a Network, node: u8, port: u16, module: Option<Module>) -> &'a str
+    ensures { result.now ≡ module_text (site_of net.now node) port «module» }
+{
+    match module {
+        Some(values) => match name_of(net, node, port, values) {
+            Some(name) => name,
+            None => "",
+        },
+        None => UNLISTED,
+    }
+}
