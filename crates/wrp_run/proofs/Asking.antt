@@ -241,13 +241,13 @@ pub records_end : (run : Run) (middle : Option (List ℕ)) (text : List ℕ) (r 
     → (status ≡ Done → IsAtEnd run.left) → (status ≡ ReadFault → r.ended ≡ true → ⊥) → (status ≡ ReadFault → ReadFailed run) → (status ≡ WriteFault → WriteFailed run)
     → (status ≡ Broken → ⊥) → Ends run status
 records_end run middle text r s replayed Done net at done goes reads writes unbroken =
-    ((at.octets, at.wrote, answered run.words run.input middle run.left run.held run.now text r s replayed Done net at refl), done refl)
+    (((name_of replayed, net.asks.words_are), at.octets, at.wrote, answered run.words run.input middle run.left run.held run.now text r s replayed Done net at refl), done refl)
 records_end run middle text r s replayed BadTrace net at done goes reads writes unbroken = (
-  (at.octets, at.wrote, answered run.words run.input middle run.left run.held run.now text r s replayed BadTrace net at refl),
+  ((name_of replayed, net.asks.words_are), at.octets, at.wrote, answered run.words run.input middle run.left run.held run.now text r s replayed BadTrace net at refl),
   past_told run middle text r s replayed refusals.BadTrace at.given at.octets net at.taken at.stands,
 )
 records_end run middle text r s replayed TooLarge net at done goes reads writes unbroken =
-    (at.octets, at.wrote, answered run.words run.input middle run.left run.held run.now text r s replayed TooLarge net at refl)
+    ((name_of replayed, net.asks.words_are), at.octets, at.wrote, answered run.words run.input middle run.left run.held run.now text r s replayed TooLarge net at refl)
 records_end run middle text r s replayed ReadFault net at done goes reads writes unbroken = (
   reads refl,
   net.network ++ at.given,
@@ -320,14 +320,14 @@ pub size_ends : (run : Run) (given : Status) (middle : Option (List ℕ)) (netwo
     → (r.ended ≡ true → IsAtEnd middle) → Finishes TooLarge given run.held run.now too_large_line → (given ≡ WriteFault → WriteFailed run) → Ends run given
 size_ends run given middle network r command one long at_end how writes =
     let told = told_too_long run.words run.input middle network r command one long at_end in
-    line_ends run TooLarge given too_large_line how writes told (λ wrote. (too_large_line, wrote, told))
+    line_ends run TooLarge given too_large_line how writes told (λ wrote. (command, too_large_line, wrote, told))
 
 pub bad_network_ends : (run : Run) (given : Status) (middle : Option (List ℕ)) (network text line : List ℕ) (r : ReaderAt) → IsCommand run.words → Consumes run.input middle network
     → IsDivided network text r → length text ≤ network_limit → (r.ended ≡ true → IsAtEnd middle) → IsRefusedBy text line
     → Finishes BadNetwork given run.held run.now line → (given ≡ WriteFault → WriteFailed run) → Ends run given
 bad_network_ends run given middle network text line r command one divided fits at_end bad how writes =
     let told = told_bad_network run.words run.input text line (told_text run.input middle network text r one divided at_end) fits bad command in
-    line_ends run BadNetwork given line how writes told (λ wrote. (line, wrote, told))
+    line_ends run BadNetwork given line how writes told (λ wrote. (command, line, wrote, told))
 
 pub no_node_ends : (run : Run) (given : Status) (middle : Option (List ℕ)) (network text : List ℕ) (r : ReaderAt) → AsksNone run.words text → Consumes run.input middle network
     → IsDivided network text r → (r.ended ≡ true → IsAtEnd middle) → Finishes Usage given run.held run.now usage_line → (given ≡ WriteFault → WriteFailed run) → Ends run given

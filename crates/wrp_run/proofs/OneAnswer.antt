@@ -155,7 +155,7 @@ abbrev Given : Run → Status → List ℕ → Type 0
 Given run status input = (octets : List ℕ) × Wrote run octets × Answer run.words input status octets
 
 given_of : (run : Run) (status : Status) (input : List ℕ) → run.input ≡ Some input → Ends run status → is_answer status ≡ true → Given run status input
-given_of run Done input told ends is = (ends.0.0, ends.0.1, subst (λ (i : Option (List ℕ)). IfSome i (λ input. Answer run.words input Done ends.0.0)) told ends.0.2)
+given_of run Done input told ends is = (ends.0.1, ends.0.2, subst (λ (i : Option (List ℕ)). IfSome i (λ input. Answer run.words input Done ends.0.1)) told ends.0.3)
 given_of run Usage input told ends is = (
   usage_line,
   ends.0,
@@ -164,9 +164,9 @@ given_of run Usage input told ends is = (
     | inr some ↦ (inr (subst (λ (i : Option (List ℕ)). IfSome i (λ input. AsksNone run.words (network_text input))) told some.1), refl)
   ],
 )
-given_of run BadNetwork input told ends is = (ends.0, ends.1, subst (λ (i : Option (List ℕ)). IfSome i (λ input. Answer run.words input BadNetwork ends.0)) told ends.2)
-given_of run BadTrace input told ends is = (ends.0.0, ends.0.1, subst (λ (i : Option (List ℕ)). IfSome i (λ input. Answer run.words input BadTrace ends.0.0)) told ends.0.2)
-given_of run TooLarge input told ends is = (ends.0, ends.1, subst (λ (i : Option (List ℕ)). IfSome i (λ input. Answer run.words input TooLarge ends.0)) told ends.2)
+given_of run BadNetwork input told ends is = (ends.1, ends.2, subst (λ (i : Option (List ℕ)). IfSome i (λ input. Answer run.words input BadNetwork ends.1)) told ends.3)
+given_of run BadTrace input told ends is = (ends.0.1, ends.0.2, subst (λ (i : Option (List ℕ)). IfSome i (λ input. Answer run.words input BadTrace ends.0.1)) told ends.0.3)
+given_of run TooLarge input told ends is = (ends.1, ends.2, subst (λ (i : Option (List ℕ)). IfSome i (λ input. Answer run.words input TooLarge ends.1)) told ends.3)
 given_of run Broken input told ends is = absurd ends
 given_of run LinkFault input told ends is = absurd ends
 given_of run ReadFault input told ends is = absurd (cc)

@@ -44,10 +44,10 @@ ReadFailed run = Rose run.read_faults run.read_faults_now
 abbrev pub WriteFailed : Run → Type 0
 WriteFailed run = Rose run.write_faults run.write_faults_now
 
--- what is due for this status was written
+-- the words are a command, and what is due for this status was written
 abbrev pub Answered : Run → Status → Type 0
 Answered run status =
-    (octets : List ℕ) × Wrote run octets
+    IsCommand run.words × (octets : List ℕ) × Wrote run octets
     × IfSome run.input (λ input. Answer run.words input status octets)
 
 -- the line of a refused record ends these octets

@@ -94,3 +94,8 @@ returns-in-Ok-None-clause-complete g c =
     let ends = usage_ends run c.answer.result none (rw c.as_bytes.ensures.value at c.answer.ensures.how) c.answer.ensures.rose in
     λ status octets memory reads writes.
     told_one run c.answer.result status octets ends (ends_answered run c.answer.result ends memory reads writes)
+
+pub returns-in-Ok-Some-clause-unread : goal.returns-in-Ok-Some-clause-unread
+returns-in-Ok-Some-clause-unread g c = λ none.
+    let has = subst (IsReplayed (texts_of c.args.words.now)) c.in-Ok-Some.field-0-is c.in-Ok-Some.ensures in
+    absurd (none (c.in-Ok-Some.name.now, has))
