@@ -6,4 +6,4 @@ mod event;
 mod laws;
 
 pub use event::{Event, Swap};
-pub use laws::{accepted_is_unbroken, worked_rows};
+pub use laws::{accepted_is_unbroken, new_world_is_still, worked_rows};
