@@ -16,7 +16,10 @@ mod reading;
 mod settings;
 mod tree;
 
-pub use laws::{child_is_deeper, modules_are_listed, one_grandmaster, port_is_of_one_link};
+pub use laws::{
+    child_is_deeper, modules_are_listed, one_grandmaster, one_reading, port_is_of_one_link,
+    reading_is_accepted,
+};
 pub use network::Network;
 
 #[cfg(test)]
