@@ -1,15 +1,15 @@
 -- The ports of a node of a network: they are of different numbers, so at most 18, and one is a slave where a link is above the node.
-use Rattle.std.proofs.Common.{◌≡◌, ◌≢◌, ◌∙◌, refl, ap, ap₂, sym, subst, ℕ, zero, suc, ◌+◌, ◌<◌, ◌≤◌, ◌==◌, ◌||◌, Bool, true, false, if◌then◌else◌, List, [], ◌∷◌, ◌++◌, map, length, Option, None, Some, option_map, slice_get, arith}
+use Rattle.std.proofs.Common.{◌≡◌, ◌≢◌, ◌∙◌, refl, ap, ap₂, sym, subst, ℕ, suc, ◌<◌, ◌≤◌, ◌==◌, ◌||◌, Bool, true, false, if◌then◌else◌, List, [], ◌∷◌, ◌++◌, map, length, Option, Some, option_map, slice_get, arith}
 use Rattle.std.proofs.lemmas.Bool.{eqb-true}
 use Rattle.std.proofs.lemmas.Map.Steps.{length-le_from_distinct_below}
-use Rattle.std.specs.List.{AllByRecursion, IsDistinct, list_any, find, flat_map}
+use Rattle.std.specs.List.{AllByRecursion, IsDistinct, list_any, filter, find, flat_map}
 use Rattle.wrp_base.specs.declared.configuration.NetCfg.{NetCfg}
 use Rattle.wrp_base.specs.declared.network.LinkCfg.{LinkCfg}
-use Rattle.wrp_base.specs.Network.{End, ends_of, HasLinkRanges, HasRanges, IsLink, NamesNoPortTwice, link_above}
+use Rattle.wrp_base.specs.Network.{End, ends_of, HasLinkRanges, HasRanges, IsTree, NamesNoPortTwice, link_above}
 use Rattle.wrp_data.specs.declared.datasets.PortDs.{PortDs}
 use Rattle.wrp_node.specs.New.{OfDifferentNumbers}
-use Rattle.wrp_node.specs.NodeAt.{slave_in}
-use Rattle.wrp_node.specs.Set.{master_of, slave_at, ports_at, ports_of}
+use Rattle.wrp_node.specs.NodeAt.{is_slave, slave_in}
+use Rattle.wrp_node.specs.Set.{master_at, slave_at, ports_at, ports_of}
 use Rattle.wrp_node.proofs.Lists.{all_of}
 
 -- ---- the numbers of a node's ports, as the ends of the links have them
@@ -26,7 +26,7 @@ abbrev with_number : Bool → ℕ → List ℕ → List ℕ
 with_number b p ns = if b then p ∷ ns else ns
 
 numbers-link : (net : NetCfg) (link : LinkCfg) (rest : List PortDs) (ns : List ℕ) (a b : Bool) → numbers_in rest ≡ ns →
-    numbers_in (((if a then master_of net link ∷ [] else []) ++ (if b then slave_at net link ∷ [] else [])) ++ rest)
+    numbers_in (((if a then master_at net link ∷ [] else []) ++ (if b then slave_at net link ∷ [] else [])) ++ rest)
     ≡ with_number a link.upper_port (with_number b link.lower_port ns)
 numbers-link net link rest ns true true e = ap (λ (qs : List ℕ). link.upper_port ∷ (link.lower_port ∷ qs)) e
 numbers-link net link rest ns true false e = ap (λ (qs : List ℕ). link.upper_port ∷ qs) e
@@ -53,8 +53,8 @@ end_with node port = record { node = node; port = port }
 
 away-where : (n p : ℕ) (end : End) (ns : List ℕ) (b : Bool) → (end.node == n) ≡ b → (end.node ≡ n → end.port ≢ p) → AllByRecursion (λ q. q ≢ p) ns →
     AllByRecursion (λ q. q ≢ p) (with_number b end.port ns)
-away-where n p end ns true is no rest = (no (eqb-true end.node n is), rest)
-away-where n p end ns false is no rest = rest
+away-where n p end ns true is other rest = (other (eqb-true end.node n is), rest)
+away-where n p end ns false is other rest = rest
 
 -- where none of the ends is this port of the node
 away : (n p : ℕ) (ends : List End) → ((k : ℕ) → slice_get ends k ≢ Some (end_with n p)) → AllByRecursion (λ q. q ≢ p) (numbers_at n ends)
@@ -151,7 +151,7 @@ few_ports net n ranges once =
 -- ---- the slave port is that of the link above
 
 slave-link : (net : NetCfg) (link : LinkCfg) (rest : List PortDs) (above : Option LinkCfg) (a b : Bool) → slave_in rest ≡ option_map (λ (l : LinkCfg). l.lower_port) above →
-    slave_in (((if a then master_of net link ∷ [] else []) ++ (if b then slave_at net link ∷ [] else [])) ++ rest)
+    slave_in (((if a then master_at net link ∷ [] else []) ++ (if b then slave_at net link ∷ [] else [])) ++ rest)
     ≡ option_map (λ (l : LinkCfg). l.lower_port) (if b then Some link else above)
 slave-link net link rest above true true e = refl
 slave-link net link rest above true false e = e
@@ -165,3 +165,47 @@ slave-are net n (link ∷ links) =
 
 pub slave_is_above : (net : NetCfg) (n : ℕ) → slave_in (ports_of net n) ≡ option_map (λ (l : LinkCfg). l.lower_port) (link_above net n)
 slave_is_above net n = slave-are net n net.links.items
+
+-- ---- at most one is a slave
+
+not_true : (b : Bool) → (b ≡ true → ⊥) → b ≡ false
+not_true true h = absurd (h refl)
+not_true false h = refl
+
+nothing_passes : {X : Type 0} (p : X → Bool) (xs : List X) → ((k : ℕ) (x : X) → slice_get xs k ≡ Some x → p x ≡ false) → length (filter p xs) ≡ 0
+nothing_passes p [] none = refl
+nothing_passes p (x ∷ xs) none = rw (none 0 x refl) (nothing_passes p xs (λ k. none (suc k)))
+
+once-where : {X : Type 0} (p : X → Bool) (x : X) (xs : List X) (b : Bool) → p x ≡ b → (p x ≡ true → (k : ℕ) (y : X) → slice_get xs k ≡ Some y → p y ≡ false) →
+    length (filter p xs) ≤ 1 → length (if b then x ∷ filter p xs else filter p xs) ≤ 1
+once-where p x xs true is others rest = let none : length (filter p xs) ≡ 0 = nothing_passes p xs (others is) in omega (arith, none)
+once-where p x xs false is others rest = rest
+
+-- where no two places pass
+once : {X : Type 0} (p : X → Bool) (xs : List X) → ((i j : ℕ) (x y : X) → slice_get xs i ≡ Some x → slice_get xs j ≡ Some y → p x ≡ true → p y ≡ true → i ≡ j) → length (filter p xs) ≤ 1
+once p [] same = omega arith
+once p (x ∷ xs) same =
+    once-where p x xs (p x) refl
+    (λ is k y at. not_true (p y) (λ passes. zero_or_more k (same 0 (suc k) x y refl at is passes)))
+    (once p xs (λ i j y z at_i at_j passes_y passes_z. less_one i j (same (suc i) (suc j) y z at_i at_j passes_y passes_z)))
+
+slaves-link : (net : NetCfg) (link : LinkCfg) (rest : List PortDs) (found : List LinkCfg) (a b : Bool) → length (filter (λ ds. is_slave ds.role) rest) ≡ length found →
+    length (filter (λ ds. is_slave ds.role) (((if a then master_at net link ∷ [] else []) ++ (if b then slave_at net link ∷ [] else [])) ++ rest))
+    ≡ length (if b then link ∷ found else found)
+slaves-link net link rest found true true e = ap suc e
+slaves-link net link rest found true false e = e
+slaves-link net link rest found false true e = ap suc e
+slaves-link net link rest found false false e = e
+
+slaves-are : (net : NetCfg) (n : ℕ) (links : List LinkCfg) → length (filter (λ ds. is_slave ds.role) (flat_map (ports_at net n) links)) ≡ length (filter (λ link. link.lower == n) links)
+slaves-are net n [] = refl
+slaves-are net n (link ∷ links) =
+    slaves-link net link (flat_map (ports_at net n) links) (filter (λ l. l.lower == n) links) (link.upper == n) (link.lower == n) (slaves-are net n links)
+
+pub one_slave : (net : NetCfg) (n : ℕ) → IsTree net → length (filter (λ ds. is_slave ds.role) (ports_of net n)) ≤ 1
+one_slave net n tree =
+    let links : length (filter (λ link. link.lower == n) net.links.items) ≤ 1 =
+    once (λ link. link.lower == n) net.links.items
+    (λ k l a b at_k at_l of_a of_b. tree.one_parent k l a b at_k at_l (eqb-true a.lower n of_a ∙ sym (eqb-true b.lower n of_b))) in
+    let same = slaves-are net n net.links.items in
+    omega (arith, links, same)

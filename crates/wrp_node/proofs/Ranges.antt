@@ -1,7 +1,7 @@
 -- The numbers of a network that are in their ranges are read as they are, and a node can be set to them.
-use Rattle.std.proofs.Common.{◌≡◌, ℕ, ℤ, pos, ◌<◌, ◌≤◌, ◌≤ℤ◌, ◌^◌, unsigned_abs, to_z, of_z, FitsSigned, ap, arith}
+use Rattle.std.proofs.Common.{lit≤, ◌≡◌, ℕ, ℤ, pos, ◌<◌, ◌≤◌, ◌≤ℤ◌, ◌^◌, unsigned_abs, to_z, of_z, FitsSigned, ap, ◌∙◌, arith}
 use Rattle.std.proofs.lemmas.Int.{ints, to_z-of_z}
-use Rattle.std.specs.Int.{w64}
+use Rattle.std.specs.Int.{w64, w128}
 use Rattle.wrp_base.specs.declared.configuration.NetCfg.{NetCfg}
 use Rattle.wrp_base.specs.Network.{HasRanges, IsFromTo, NamesNoPortTwice}
 use Rattle.wrp_node.specs.New.{FitsNodeSet}
@@ -13,10 +13,13 @@ read_between least greatest z range small =
     let fits : FitsSigned w64 z = omega (arith, ints) in
     ap unsigned_abs (to_z-of_z w64 z fits)
 
-pub read_signed : (least greatest : ℕ) (z : ℤ) → IsFromTo least greatest z → greatest < 2 ^ 62 → to_z w64 (of_z w64 z) ≡ z
-read_signed least greatest z range small =
+-- and so where it is read into a wider number
+pub read_wide : (least greatest : ℕ) (z wide : ℤ) → IsFromTo least greatest z → greatest < 2 ^ 62 → wide ≡ to_z w64 (of_z w64 z) → to_z w128 (of_z w128 wide) ≡ z
+read_wide least greatest z wide range small is =
     let fits : FitsSigned w64 z = omega (arith, ints) in
-    to_z-of_z w64 z fits
+    let same : wide ≡ z = is ∙ to_z-of_z w64 z fits in
+    let fits_wide : FitsSigned w128 z = omega (arith, ints) in
+    ap (λ (x : ℤ). to_z w128 (of_z w128 x)) same ∙ to_z-of_z w128 z fits_wide
 
 size_between : (least greatest : ℕ) (z : ℤ) → IsFromTo least greatest z → (least ≤ unsigned_abs z) × (unsigned_abs z ≤ greatest)
 size_between least greatest z range = (omega (arith, ints), omega (arith, ints))

@@ -1,5 +1,5 @@
 -- The way up from a node: link by link, to the grandmaster.
-use Rattle.std.proofs.Common.{◌≡◌, ℕ, zero, suc, ◌+◌, ◌-◌, ◌<◌, ◌≤◌, refl, ap, sym, subst, ◌∙◌, List, [], ◌∷◌, Bool, true, false, Option, Some, None, slice_get, arith}
+use Rattle.std.proofs.Common.{◌≡◌, ℕ, zero, suc, ◌+◌, ◌-◌, ◌<◌, ◌≤◌, refl, ap, sym, subst, ◌∙◌, List, [], ◌∷◌, Bool, true, false, Some, None, slice_get, arith}
 use Rattle.std.specs.Prelude.{◌==◌, find}
 use Rattle.wrp_base.specs.declared.configuration.NetCfg.{NetCfg}
 use Rattle.wrp_base.specs.declared.network.LinkCfg.{LinkCfg}
@@ -36,7 +36,10 @@ pub record Passed (net : NetCfg) (n at passed : ℕ) : Type 0 where
   pub top : top_up (8 - passed) net at ≡ top_up 8 net n
 
 pub passed_none : (net : NetCfg) (n : ℕ) → Passed net n n 0
-passed_none net n = record { steps = refl; top = refl }
+passed_none net n =
+    let whole : 8 - 0 ≡ 8 = omega arith in
+    let steps : steps_up (8 - 0) net n ≡ steps_up 8 net n = ap (λ (most : ℕ). steps_up most net n) whole in
+    record { steps = omega (arith, steps); top = ap (λ (most : ℕ). top_up most net n) whole }
 
 pub passed_more : (net : NetCfg) (n at passed : ℕ) (link : LinkCfg) → passed < 8 → Some link ≡ link_above net at → Passed net n at passed → Passed net n link.upper (passed + 1)
 passed_more net n at passed link few above so_far =

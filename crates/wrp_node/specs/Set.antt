@@ -1,5 +1,5 @@
 -- What a node is set to: its part of the network's numbers, and a port for each end of a link that it has (this project's profile).
-use Rattle.std.specs.Prelude.{ℕ, zero, suc, ◌==◌, if◌then◌else◌, unsigned_abs, true, List, [], ◌∷◌, ◌++◌, Option, None, Some, slice_get}
+use Rattle.std.specs.Prelude.{ℕ, zero, suc, ◌==◌, if◌then◌else◌, unsigned_abs, true, List, [], ◌∷◌, ◌++◌, None, Some, slice_get}
 use Rattle.std.specs.List.{flat_map}
 use Rattle.std.specs.Option.{option_map_or}
 use Rattle.wrp_base.specs.declared.configuration.NetCfg.{NetCfg}
@@ -53,8 +53,8 @@ abbrev pub lower_of : NetCfg → LinkCfg → PortIdentity
 lower_of net link = record { clock = identity_of net link.lower; port = link.lower_port }
 
 -- the port at the upper end is the master, that at the lower end the slave
-abbrev pub master_of : NetCfg → LinkCfg → PortDs
-master_of net link = record { own = upper_of net link; peer = lower_of net link; role = Master; wr = link.wr }
+abbrev pub master_at : NetCfg → LinkCfg → PortDs
+master_at net link = record { own = upper_of net link; peer = lower_of net link; role = Master; wr = link.wr }
 
 abbrev pub slave_at : NetCfg → LinkCfg → PortDs
 slave_at net link = record { own = lower_of net link; peer = upper_of net link; role = Slave; wr = link.wr }
@@ -62,7 +62,7 @@ slave_at net link = record { own = lower_of net link; peer = upper_of net link; 
 -- the ports that a node has at a link
 abbrev pub ports_at : NetCfg → ℕ → LinkCfg → List PortDs
 ports_at net n link =
-    (if link.upper == n then master_of net link ∷ [] else [])
+    (if link.upper == n then master_at net link ∷ [] else [])
     ++ (if link.lower == n then slave_at net link ∷ [] else [])
 
 -- its ports, in file order of their links

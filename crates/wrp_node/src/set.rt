@@ -1,10 +1,11 @@
 //! What a node is set to, gathered from the network that it is a node of.
 ghost use Rattle.std.specs.Prelude.{◌≡◌, ℕ, ◌+◌, ◌++◌, ◌<◌, ◌≤◌, length, unsigned_abs};
+ghost use Rattle.std.specs.List.{filter};
 ghost use Rattle.std.specs.Option.{option_map};
 ghost use Rattle.wrp_base.specs.Network as network;
 ghost use Rattle.wrp_base.specs.Network.{HasRanges, NamesNoPortTwice, IsTree, IsGrandmaster, HasDepth, IsFromTo, node_count};
 ghost use Rattle.wrp_node.specs.New.{FitsNodeSet};
-ghost use Rattle.wrp_node.specs.NodeAt.{slave_of};
+ghost use Rattle.wrp_node.specs.NodeAt.{is_slave, slave_of};
 ghost use Rattle.wrp_node.specs.Set as spec;
 
 use crate::NodeSet;
@@ -30,6 +31,7 @@ pub fn node_set(net: &NetCfg, n: u8) -> NodeSet
     ensures fits { FitsNodeSet result }
     // It has a slave port exactly where it has a link above it.
     ensures slave { slave_of result ≡ option_map (λ link. link.lower_port) (network.link_above net.now n) }
+    ensures one_slave { length (filter (λ ds. is_slave ds.role) result.ports.items) ≤ 1 }
     ensures steps { HasDepth net.now result.own.steps n }
     ensures gm { (top : ℕ) → IsGrandmaster net.now top → result.own.gm ≡ spec.identity_of net.now top }
 {
@@ -39,7 +41,7 @@ pub fn node_set(net: &NetCfg, n: u8) -> NodeSet
         link: link_set_of(net),
         sched: sched_of(net),
         servo: servo_set_of(net),
-        ring: usize::from(gain(net.ring)),
+        ring: usize::from(short(net.ring)),
         report: count(net.report),
     }
 }
@@ -53,7 +55,7 @@ fn count(number: i64) -> u32
 }
 
 // A number of the network that fits 16 bits.
-fn gain(number: i64) -> u16
+fn short(number: i64) -> u16
     requires { IsFromTo 0 65_535 number }
     ensures { result ≡ unsigned_abs number }
 {
@@ -104,9 +106,9 @@ fn servo_set_of(net: &NetCfg) -> ServoSet
         track_tau: i128::from(net.track_tau),
         loop_tau: i128::from(net.loop_tau),
         phase_step: i128::from(net.phase_step),
-        kp: gain(net.kp),
-        ki: gain(net.ki),
-        bias: gain(net.bias),
+        kp: short(net.kp),
+        ki: short(net.ki),
+        bias: short(net.bias),
         clock: net.clock,
     }
 }
@@ -161,14 +163,14 @@ fn own_of(net: &NetCfg, n: u8) -> DefaultDs
     let way = way_up(net, n);
     DefaultDs {
         identity: identity_of(net, n),
-        domain: domain_of(net.domain),
+        domain: octet(net.domain),
         gm: identity_of(net, way.top),
         steps: way.steps,
     }
 }
 
-// domainNumber.
-fn domain_of(number: i64) -> u8
+// A number of the network that fits 8 bits.
+fn octet(number: i64) -> u8
     requires { IsFromTo 0 255 number }
     ensures { result ≡ unsigned_abs number }
 {
