@@ -11,6 +11,7 @@ mod order;
 mod parts;
 mod place;
 mod ports;
+mod set;
 #[cfg(test)]
 mod tests;
 mod told;
@@ -18,3 +19,4 @@ mod told;
 pub use interface::{Input, NodeSet, Output, Outputs, Report};
 pub use laws::{dropped_leaves_a_count, step_gives_links, step_settles};
 pub use node::Node;
+pub use set::node_set;
