@@ -8,8 +8,11 @@ pub mod Nodes
 pub mod NodeTicks
 pub mod Ascending
 pub mod Drops
+pub mod OneRun
+pub mod Sends
 pub mod Settled
 pub mod Sound
 pub mod Stepping
 pub mod Telling
 pub mod Ticks
+pub mod Unbroken
