@@ -10,9 +10,12 @@ pub mod Ranges
 pub mod NodeTicks
 pub mod Ascending
 pub mod Drops
+pub mod OneRun
+pub mod Sends
 pub mod Settled
 pub mod Sound
 pub mod Stepping
 pub mod Telling
 pub mod Ticks
 pub mod WayUp
+pub mod Unbroken

@@ -7,8 +7,11 @@ pub mod New
 pub mod NodeAt
 pub mod NodeRun
 pub mod NodeStep
+pub mod OneRun
 pub mod Parts
 pub mod Place
 pub mod Set
+pub mod Sends
 pub mod StandsFor
 pub mod Telling
+pub mod Unbroken
