@@ -10,6 +10,7 @@ pub mod NodeStep
 pub mod Parts
 pub mod Place
 pub mod Set
+pub mod SetLaws
 pub mod SetRows
 pub mod StandsFor
 pub mod Telling
