@@ -7,6 +7,8 @@ pub mod NewNode
 pub mod Nodes
 pub mod OwnPorts
 pub mod Ranges
+pub mod SetLaws
+pub mod SetRows
 pub mod NodeTicks
 pub mod Ascending
 pub mod Drops

@@ -12,6 +12,8 @@ pub mod Parts
 pub mod Place
 pub mod Set
 pub mod Sends
+pub mod SetLaws
+pub mod SetRows
 pub mod StandsFor
 pub mod Telling
 pub mod Unbroken

@@ -12,6 +12,7 @@ mod parts;
 mod place;
 mod ports;
 mod set;
+mod set_laws;
 #[cfg(test)]
 mod tests;
 mod told;
@@ -23,3 +24,4 @@ pub use laws::{
 };
 pub use node::Node;
 pub use set::node_set;
+pub use set_laws::{ends_are_set, sets_of_three_nodes};
