@@ -8,6 +8,7 @@ ghost use Rattle.wrp_caldb.specs.Name.{is_hex_digit};
 ghost use Rattle.wrp_config.specs.Config.{bare_node, hex_value, hex_number, identity_of, node_of, IsNetworkOf};
 ghost use Rattle.wrp_config.specs.Keys.{network_in, key_of, beat_key};
 ghost use Rattle.wrp_config.specs.Places.{IsTaken};
+ghost use Rattle.wrp_config.specs.declared.settings.Setting.TheVariants as se;
 
 use crate::ends::text_at;
 use crate::greatest::Greatest;
@@ -103,6 +104,42 @@ fn setting(network: &Table, setting: Setting) -> i64
     number(network, &setting.row())
 }
 
+// The numbers of a slave: of its samples and of its loop. The others are zeros.
+fn servo_numbers(network: &Table) -> NetCfg
+    ensures ring { result.ring ≡ number_at (key_of se.Ring) (table_view network.now) }
+    ensures track_tau { result.track_tau ≡ number_at (key_of se.TrackTau) (table_view network.now) }
+    ensures loop_tau { result.loop_tau ≡ number_at (key_of se.LoopTau) (table_view network.now) }
+    ensures phase_step { result.phase_step
+        ≡ number_at (key_of se.PhaseStep) (table_view network.now) }
+    ensures kp { result.kp ≡ number_at (key_of se.Kp) (table_view network.now) }
+    ensures ki { result.ki ≡ number_at (key_of se.Ki) (table_view network.now) }
+    ensures bias { result.bias ≡ number_at (key_of se.Bias) (table_view network.now) }
+    ensures threshold { result.threshold
+        ≡ number_at (key_of se.Threshold) (table_view network.now) }
+    ensures lock_samples { result.lock_samples
+        ≡ number_at (key_of se.LockSamples) (table_view network.now) }
+    ensures delock_samples { result.delock_samples
+        ≡ number_at (key_of se.DelockSamples) (table_view network.now) }
+    ensures stable { result.stable ≡ number_at (key_of se.Stable) (table_view network.now) }
+    ensures report { result.report ≡ number_at (key_of se.Report) (table_view network.now) }
+{
+    NetCfg {
+        ring: setting(network, Setting::Ring),
+        track_tau: setting(network, Setting::TrackTau),
+        loop_tau: setting(network, Setting::LoopTau),
+        phase_step: setting(network, Setting::PhaseStep),
+        kp: setting(network, Setting::Kp),
+        ki: setting(network, Setting::Ki),
+        bias: setting(network, Setting::Bias),
+        threshold: setting(network, Setting::Threshold),
+        lock_samples: setting(network, Setting::LockSamples),
+        delock_samples: setting(network, Setting::DelockSamples),
+        stable: setting(network, Setting::Stable),
+        report: setting(network, Setting::Report),
+        ..NetCfg::default()
+    }
+}
+
 // The network of a text whose tables are taken.
 fn gathered(doc: &Table, network: &Table, lists: &Lists) -> NetCfg
     requires network { table_view network.now ≡ network_in (table_view doc.now) }
@@ -128,29 +165,18 @@ fn gathered(doc: &Table, network: &Table, lists: &Lists) -> NetCfg
         holdoff: setting(network, Setting::Holdoff),
         lease: setting(network, Setting::Lease),
         age: setting(network, Setting::Age),
-        report: setting(network, Setting::Report),
-        stable: setting(network, Setting::Stable),
-        lock_samples: setting(network, Setting::LockSamples),
         retries: setting(network, Setting::Retries),
         gap: setting(network, Setting::Gap),
         announce: setting(network, Setting::Announce),
         sync: setting(network, Setting::Sync),
         delay: setting(network, Setting::Delay),
-        ring: setting(network, Setting::Ring),
-        track_tau: setting(network, Setting::TrackTau),
-        loop_tau: setting(network, Setting::LoopTau),
-        phase_step: setting(network, Setting::PhaseStep),
-        kp: setting(network, Setting::Kp),
-        ki: setting(network, Setting::Ki),
-        bias: setting(network, Setting::Bias),
-        threshold: setting(network, Setting::Threshold),
-        delock_samples: setting(network, Setting::DelockSamples),
         clock,
         nodes: nodes_of(clock, nodes),
         links: links_of(nodes, lists, tables_at(doc, "link")),
         e_db: greatest.err,
         tx_max: greatest.tx,
         rx_max: greatest.rx,
+        ..servo_numbers(network)
     }
 }
 

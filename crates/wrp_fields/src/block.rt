@@ -56,6 +56,23 @@ impl<'a> Block<'a> {
             → IfOk result (λ found. IsFound line [] found (fields_of row.new) self.new) }
         ensures end { self.old ≡ Some [] → IfOk result (λ found. found ≡ false) }
     {
+        let more = self.read(row)?;
+        Ok(more)
+    }
+
+    // The next record of `csv`.
+    fn read(&mut self, row: &mut ByteRecord) -> Result<bool, AllocError>
+        ensures line { (line rest : List ℕ)
+            → self.old ≡ Some (line ++ 10 ∷ rest) → IsLine line
+            → IfOk result (λ found. IsFound line rest found (fields_of row.new) self.new) }
+        ensures returned { (line rest : List ℕ)
+            → self.old ≡ Some (line ++ 13 ∷ 10 ∷ rest) → IsLine line
+            → IfOk result (λ found. IsFound line rest found (fields_of row.new) self.new) }
+        ensures last { (line : List ℕ)
+            → self.old ≡ Some line → IsLine line
+            → IfOk result (λ found. IsFound line [] found (fields_of row.new) self.new) }
+        ensures end { self.old ≡ Some [] → IfOk result (λ found. found ≡ false) }
+    {
         let Ok(found) = self.reader.read_byte_record(row) else {
             return Err(AllocError);
         };

@@ -7,6 +7,8 @@ use std::test::Fail;
 
 enum Call {
     Measured([i64; 4]),
+    /// The same measurement so many times, each with the same answer.
+    Repeated(usize, [i64; 4]),
     Tick,
 }
 
@@ -55,7 +57,7 @@ const SLOW: PlainSet = PlainSet {
     step: 1 << 60,
 };
 
-const ROWS: [Row; 7] = [
+const ROWS: [Row; 8] = [
     Row {
         set: SET,
         calls: &[
@@ -113,6 +115,42 @@ const ROWS: [Row; 7] = [
             (Call::Tick, Due::Told(-500, 101)),
             // half of -1, rounded down, and half of 2001, rounded up
             (Call::Measured([0, 1_000, 0, 1_001]), Due::Taken(-1, 2, 1)),
+        ],
+    },
+    // a full ring of 64: the first measurement has the least bound, and is told while it is one of the
+    // last 64; behind 64 others it is no longer kept, and of equal bounds the newest is told
+    Row {
+        set: PlainSet {
+            rate: 0,
+            err: 0,
+            least: 1_000,
+            span: 10,
+            dmax: 100,
+            ring: 64,
+            step: 1_000_000,
+        },
+        calls: &[
+            (
+                Call::Measured([0, 1_700, 5_000, 5_500]),
+                Due::Taken(600, 101, -600),
+            ),
+            (
+                Call::Repeated(63, [0, 1_500, 0, 1_500]),
+                Due::Taken(0, 101, 0),
+            ),
+            (Call::Tick, Due::Told(0, 101)),
+            (Call::Measured([0, 1_507, 0, 1_493]), Due::Taken(7, 501, -7)),
+            (Call::Tick, Due::Told(0, 501)),
+            // and so is that one, behind 64 more
+            (
+                Call::Repeated(63, [0, 2_010, 0, 1_990]),
+                Due::Taken(0, 501, 0),
+            ),
+            (
+                Call::Measured([0, 2_010, 0, 1_990]),
+                Due::Taken(10, 1_001, -10),
+            ),
+            (Call::Tick, Due::Told(0, 1_001)),
         ],
     },
     // the greatest rate, error, span and time between ticks
@@ -235,6 +273,14 @@ fn told(report: Option<PlainReport>) -> Due {
     }
 }
 
+// How many times a call is made.
+fn times(call: &Call) -> usize {
+    match call {
+        Call::Repeated(count, _) => *count,
+        Call::Measured(_) | Call::Tick => 1,
+    }
+}
+
 // Makes a call.
 fn make(plain: &mut Plain, call: &Call) -> Due {
     match call {
@@ -244,7 +290,7 @@ fn make(plain: &mut Plain, call: &Call) -> Due {
             }
             told(plain.tick())
         }
-        Call::Measured(t) => match measured(plain, *t) {
+        Call::Measured(t) | Call::Repeated(_, t) => match measured(plain, *t) {
             PlainOut::Short { round, least } => Due::Short(round, least),
             PlainOut::Taken { report, command } => Due::Taken(report.est, report.bound, command),
         },
@@ -268,7 +314,9 @@ fn answers(rt: HostRuntime) -> Result<(), Fail> {
     for row in &ROWS {
         let mut plain = Plain::new(rt.alloc(), within(&row.set))?;
         for (call, due) in row.calls {
-            assert_eq!(rt; make(&mut plain, call), *due);
+            for _ in 0..times(call) {
+                assert_eq!(rt; make(&mut plain, call), *due);
+            }
         }
     }
     Ok(())

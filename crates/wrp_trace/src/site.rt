@@ -1,80 +1,26 @@
 //! A node of a network: its ports, and the modules that are listed at them.
 ghost use Rattle.std.specs.Prelude.{◌≡◌, option_map, IfSome};
 ghost use Rattle.std.specs.List.{find};
-ghost use Rattle.wrp_base.specs.Network.{link_above};
 ghost use Rattle.wrp_caldb.specs.Name.{same_name};
 ghost use Rattle.wrp_caldb.specs.Database.{module_at};
-ghost use Rattle.wrp_config.specs.Names.{has_port as names_port, is_upper_end, link_at, pair_of, pair_at};
 ghost use Rattle.wrp_trace.specs.Site.{site_of, is_grandmaster, has_port, module_of, named_at, same_module, has_values, name_of};
 ghost use Rattle.wrp_trace.specs.InputAt.{IsListed};
 ghost use Rattle.wrp_trace.specs.Printing.{module_text};
 
-use wrp_base::{LinkCfg, Module};
+use wrp_base::Module;
 use wrp_caldb::ListedModule;
-use wrp_config::Network;
+use wrp_config::{Network, link_above, pair_at};
 
 // The name that stands for a module that the database does not list.
 const UNLISTED: &str = "unlisted";
-
-// The first link that has a node as its lower end.
-fn link_above(net: &Network, node: u8) -> Option<&LinkCfg>
-    ensures { option_map (λ link. link.now) result ≡ link_above net.now.cfg node }
-{
-    net.cfg.links.iter().find(|link| link.lower == node)
-}
 
 /// Whether a node gives the time: no link has it as its lower end.
 pub fn is_grandmaster(net: &Network, node: u8) -> bool
     ensures { result ≡ is_grandmaster (site_of net.now node) }
 {
-    match link_above(net, node) {
+    match link_above(&net.cfg, node) {
         Some(_) => false,
         None => true,
-    }
-}
-
-// Whether a link has a port of a node at one of its ends.
-fn names_port(link: &LinkCfg, node: u8, port: u16) -> bool
-    ensures { result ≡ names_port node port link.now }
-{
-    is_upper_end(link, node, port) || (link.lower == node && link.lower_port == port)
-}
-
-// Whether a link has a port of a node at its upper end.
-fn is_upper_end(link: &LinkCfg, node: u8, port: u16) -> bool
-    ensures { result ≡ is_upper_end node port link.now }
-{
-    link.upper == node && link.upper_port == port
-}
-
-// The first link that has a port of a node.
-fn link_at(net: &Network, node: u8, port: u16) -> Option<&LinkCfg>
-    ensures { option_map (λ link. link.now) result ≡ link_at net.now.cfg node port }
-{
-    net.cfg
-        .links
-        .iter()
-        .find(|link| names_port(link, node, port))
-}
-
-// The wavelengths, in nm, that a port of a node sends and receives. None where it has no such port.
-fn pair_at(net: &Network, node: u8, port: u16) -> Option<(u16, u16)>
-    ensures { result ≡ pair_at net.now.cfg node port }
-{
-    match link_at(net, node, port) {
-        Some(link) => Some(pair_of(link, node, port)),
-        None => None,
-    }
-}
-
-// The wavelengths that a port at an end of a link sends and receives.
-fn pair_of(link: &LinkCfg, node: u8, port: u16) -> (u16, u16)
-    ensures { result ≡ pair_of node port link.now }
-{
-    if is_upper_end(link, node, port) {
-        (link.down_nm, link.up_nm)
-    } else {
-        (link.up_nm, link.down_nm)
     }
 }
 
@@ -82,7 +28,7 @@ fn pair_of(link: &LinkCfg, node: u8, port: u16) -> (u16, u16)
 pub fn has_port(net: &Network, node: u8, port: u16) -> bool
     ensures { result ≡ has_port (site_of net.now node) port }
 {
-    pair_at(net, node, port).is_some()
+    pair_at(&net.cfg, node, port).is_some()
 }
 
 // Whether a listed module has a name.
@@ -113,7 +59,7 @@ fn entry_of(net: &Network, name: &[u8], tx_nm: u16, rx_nm: u16) -> Option<Module
 fn module_of(net: &Network, node: u8, port: u16, name: &[u8]) -> Option<Module>
     ensures { result ≡ module_of (site_of net.now node) port name.now }
 {
-    let (tx_nm, rx_nm) = pair_at(net, node, port)?;
+    let (tx_nm, rx_nm) = pair_at(&net.cfg, node, port)?;
     entry_of(net, name, tx_nm, rx_nm)
 }
 

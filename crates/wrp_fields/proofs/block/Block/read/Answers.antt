@@ -4,7 +4,7 @@ use Rattle.wrp_base.specs.Lines.{parts_of}
 use Rattle.wrp_fields.proofs.Split.{first_line, last_line, no_line, return_line}
 use Rattle.csv.specs.declared.parser.State.TheVariants as st
 use Rattle.wrp_fields.proofs.ReadFacts.{standing, reads_line, reads_end}
-use Rattle.wrp_fields.proofs.block.Block.next.Goals as goal
+use Rattle.wrp_fields.proofs.block.Block.read.Goals as goal
 
 pub returns-clause-line : goal.returns-clause-line
 returns-clause-line c line rest old is =
