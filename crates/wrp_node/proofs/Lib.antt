@@ -3,6 +3,7 @@ pub mod Giving
 pub mod Hearing
 pub mod Links
 pub mod Lists
+pub mod Masters
 pub mod NewNode
 pub mod Nodes
 pub mod OwnPorts

@@ -1,127 +1,156 @@
-//! A node beside frames and words that are worked out by hand.
-ghost use Rattle.std.specs.Prelude.{◌≡◌, ◌≤◌, ◌^◌, unsigned_abs, is_some, true};
-ghost use Rattle.wrp_node.specs.New.{FitsNodeSet};
+//! Nodes beside lists of inputs whose outputs are worked out by hand.
+mod acts;
+mod most;
+mod rows;
+mod sw1;
+mod texts;
+
+ghost use Rattle.std.specs.Prelude.{◌≡◌, ◌≤◌, ◌^◌, unsigned_abs, is_some, true, false, None, IfOk};
+ghost use Rattle.wrp_law.specs.Law.{KeepsFact};
+ghost use Rattle.wrp_node.specs.New.{FitsNodeSet, FitsPorts, OfDifferentNumbers};
 ghost use Rattle.wrp_node.specs.Node.{IsValid};
 ghost use Rattle.wrp_node.specs.NodeAt.{slave_of};
+ghost use Rattle.wrp_servo.specs.Sizes.{FitsServoSet};
 
-use crate::{Input, Node, NodeSet, Output, Outputs, Report};
+use crate::{Input, Node, NodeSet, Output, Outputs};
+use acts::{Act, Out, Step, input_of, output_of, sample};
 use arrayvec::ArrayVec;
-use std::alloc::Global;
+use most::tries_most;
+use rows::{ROWS, Row, Site, steps_of};
+use std::alloc::{AllocError, Global};
+use std::process::Abort;
 use std::test::Fail;
-use wrp_base::{Clock, Frame, LinkState, LinkWord, Module, PortIdentity, Raw, Role};
+use wrp_base::{Clock, PortIdentity, Role};
 use wrp_data::{DefaultDs, PortDs};
 use wrp_law::{DelayLaw, LawKind, floor_of};
 use wrp_link::LinkSet;
 use wrp_port::Sched;
 use wrp_servo::ServoSet;
 
-const GM: PortIdentity = PortIdentity {
-    clock: 0x001b_c5ff_fe00_0001,
-    port: 1,
+const GM_CLOCK: u64 = 0x001b_c5ff_fe00_0001;
+
+const SW1_CLOCK: u64 = 0x001b_c5ff_fe00_0002;
+
+const LEAF_CLOCK: u64 = 0x001b_c5ff_fe00_0003;
+
+// The numbers of a network file without keys, but for three of the servo that keep the lists
+// short.
+const SERVO: ServoSet = ServoSet {
+    holdover: 320,
+    age: 80,
+    stable: 2,
+    gap: 100,
+    lock_samples: 100,
+    delock_samples: 50,
+    threshold: 6400,
+    track_tau: 3_276_800,
+    loop_tau: 3_276_800,
+    phase_step: 100_000,
+    kp: 125,
+    ki: 5,
+    bias: 32_768,
+    clock: Clock::Mhz125,
 };
 
-const SW1: PortIdentity = PortIdentity {
-    clock: 0x001b_c5ff_fe00_0002,
-    port: 1,
+const LINK: LinkSet = LinkSet {
+    quiet: 24,
+    wait: 30,
+    lock_wait: 1500,
+    retries: 3,
+    holdoff: 300,
+    wr: true,
 };
 
-const VIOLET: Module = Module {
-    tx: 14_811_136_000,
-    rx: 14_876_672_000,
-    transition: 0,
-    err: 1_310_720,
+const SCHED: Sched = Sched {
+    announce: 100,
+    sync: 25,
+    delay: 25,
+    lease: 250,
 };
 
-const RAW: Raw = Raw {
-    rising: 1_000,
-    falling: 1_000,
-    tag: 0,
-};
+fn port(own: (u64, u16), peer: (u64, u16), role: Role) -> PortDs
+    ensures number { result.own.port ≡ own.1 }
+    ensures role { result.role ≡ role }
+{
+    PortDs {
+        own: PortIdentity {
+            clock: own.0,
+            port: own.1,
+        },
+        peer: PortIdentity {
+            clock: peer.0,
+            port: peer.1,
+        },
+        role,
+        wr: true,
+    }
+}
 
-// The first Announce of the grandmaster.
-const ANNOUNCE: [&str; 4] = [
-    "0b02004e00000000000000000000000000000000001bc5fffe0000010001",
-    "00000500000000000000000000000000",
-    "0080f8feffff80001bc5fffe0000010000a0",
-    "0003000a080030dead012000000d",
-];
+// What a node of so many steps below the grandmaster is set to.
+fn set_of(clock: u64, steps: u16, ports: ArrayVec<PortDs, 18>) -> NodeSet
+    ensures ports { result.ports ≡ ports }
+    ensures counts { FitsPorts result }
+    ensures servo { FitsServoSet result.servo }
+    ensures report { 1 ≤ result.report }
+{
+    NodeSet {
+        own: DefaultDs {
+            identity: clock,
+            domain: 0,
+            gm: GM_CLOCK,
+            steps,
+        },
+        ports,
+        link: LINK,
+        sched: SCHED,
+        servo: SERVO,
+        ring: 64,
+        report: 50,
+    }
+}
 
-// The first Delay_Req of sw1.
-const DELAY_REQ: [&str; 2] = [
-    "0102002c00000000000000000000000000000000001bc5fffe0000020001",
-    "0000017f00000000000000000000",
-];
+fn gm_set() -> NodeSet
+    ensures fits { FitsNodeSet result }
+    ensures slave { is_some (slave_of result) ≡ false }
+{
+    let mut ports = ArrayVec::new();
+    ports.push(port((GM_CLOCK, 1), (SW1_CLOCK, 1), Role::Master));
+    set_of(GM_CLOCK, 0, ports)
+}
 
-// The first SLAVE_PRESENT of sw1.
-const PRESENT: [&str; 3] = [
-    "0c02003800000000000000000000000000000000001bc5fffe0000020001",
-    "0000057f001bc5fffe0000010001",
-    "00030008080030dead011000",
-];
-
-// A switch with one port, set as a network file without keys has it.
-fn settings() -> NodeSet
+fn sw1_set() -> NodeSet
     ensures fits { FitsNodeSet result }
     ensures slave { is_some (slave_of result) ≡ true }
 {
     let mut ports = ArrayVec::new();
-    ports.push(PortDs {
-        own: SW1,
-        peer: GM,
-        role: Role::Slave,
-        wr: true,
-    });
-    NodeSet {
-        own: DefaultDs {
-            identity: SW1.clock,
-            domain: 0,
-            gm: GM.clock,
-            steps: 1,
-        },
-        ports,
-        link: LinkSet {
-            quiet: 24,
-            wait: 30,
-            lock_wait: 1500,
-            retries: 3,
-            holdoff: 300,
-            wr: true,
-        },
-        sched: Sched {
-            announce: 100,
-            sync: 25,
-            delay: 25,
-            lease: 250,
-        },
-        servo: ServoSet {
-            holdover: 320,
-            age: 300,
-            stable: 50,
-            gap: 2,
-            lock_samples: 100,
-            delock_samples: 50,
-            threshold: 6400,
-            track_tau: 3_276_800,
-            loop_tau: 3_276_800,
-            phase_step: 100_000,
-            kp: 125,
-            ki: 5,
-            bias: 32768,
-            clock: Clock::Mhz125,
-        },
-        ring: 64,
-        report: 100,
-    }
+    ports.push(port((SW1_CLOCK, 2), (LEAF_CLOCK, 1), Role::Master));
+    ports.push(port((SW1_CLOCK, 1), (GM_CLOCK, 1), Role::Slave));
+    set_of(SW1_CLOCK, 1, ports)
 }
 
-// The frame whose octets are these pieces of hex.
-fn frame(alloc: Global, pieces: &[&str]) -> Result<Frame, Fail> {
-    let mut octets = Frame::new();
-    for piece in pieces {
-        let part = hex::decode(alloc, *piece)?;
-        let _fits = octets.try_extend_from_slice(&part);
+fn leaf_set() -> NodeSet
+    ensures fits { FitsNodeSet result }
+    ensures slave { is_some (slave_of result) ≡ true }
+{
+    let mut ports = ArrayVec::new();
+    ports.push(port((LEAF_CLOCK, 1), (SW1_CLOCK, 2), Role::Slave));
+    set_of(LEAF_CLOCK, 2, ports)
+}
+
+// A node of the chain, before any input.
+fn node_at<F: Fn(i64) -> i64>(
+    alloc: Global,
+    site: Site,
+    law: DelayLaw<F>,
+) -> Result<Node<F>, AllocError>
+    requires { KeepsFact F.pre F.post law }
+    ensures { IfOk result (IsValid F.pre F.post) }
+{
+    match site {
+        Site::Gm => Node::new(alloc, gm_set(), None),
+        Site::Sw1 => Node::new(alloc, sw1_set(), Some(law)),
+        Site::Leaf => Node::new(alloc, leaf_set(), Some(law)),
     }
-    Ok(octets)
 }
 
 // One input, if it can come.
@@ -136,21 +165,145 @@ fn take<F: Fn(i64) -> i64>(node: &mut Node<F>, x: &Input, outs: &mut Outputs) ->
     true
 }
 
-// So many ticks; whether none of them put out anything.
-fn silent_ticks<F: Fn(i64) -> i64>(node: &mut Node<F>, count: u32, outs: &mut Outputs) -> bool
+// Gives an input, and compares what comes of it.
+fn gives<F: Fn(i64) -> i64>(
+    rt: &impl Abort,
+    node: &mut Node<F>,
+    name: &str,
+    x: &Input,
+    expected: &[Output],
+)
+    requires { IsValid F.pre F.post node.old }
+    ensures { IsValid F.pre F.post node.new }
+{
+    let mut outs = Outputs::new();
+    let taken = take(node, x, &mut outs);
+    assert!(rt; taken, "{name}: {x:?}");
+    assert_eq!(rt; outs.as_slice(), expected, "{name}, {x:?}");
+}
+
+// So many ticks, none of which gives anything.
+fn ticks<F: Fn(i64) -> i64>(rt: &impl Abort, node: &mut Node<F>, name: &str, count: u32)
     requires { IsValid F.pre F.post node.old }
     ensures { IsValid F.pre F.post node.new }
 {
     for _tick in 0..count {
-        if !take(node, &Input::Tick, outs) || !outs.is_empty() {
-            return false;
+        gives(rt, node, name, &Input::Tick, &[]);
+    }
+}
+
+// Samples from one number on up to another, each of which gives the DAC value at rest.
+fn samples<F: Fn(i64) -> i64>(
+    rt: &impl Abort,
+    node: &mut Node<F>,
+    name: &str,
+    first: u32,
+    last: u32,
+)
+    requires { IsValid F.pre F.post node.old }
+    ensures { IsValid F.pre F.post node.new }
+{
+    for n in first..last {
+        gives(rt, node, name, &sample(n), &[Output::Dac { value: 32_768 }]);
+    }
+    gives(
+        rt,
+        node,
+        name,
+        &sample(last),
+        &[Output::Dac { value: 32_768 }],
+    );
+}
+
+// One step of a row.
+fn tries_step<F: Fn(i64) -> i64>(
+    rt: &impl Abort,
+    alloc: Global,
+    node: &mut Node<F>,
+    name: &str,
+    step: Step,
+) -> Result<(), Fail>
+    requires { IsValid F.pre F.post node.old }
+    ensures { IsValid F.pre F.post node.new }
+{
+    let (act, outs) = step;
+    let mut expected = Outputs::new();
+    for out in outs {
+        expected.try_push(output_of(alloc, *out)?)?;
+    }
+    match act {
+        Act::Ticks(count) => ticks(rt, node, name, count),
+        Act::Samples(first, last) => samples(rt, node, name, first, last),
+        act => gives(rt, node, name, &input_of(alloc, act)?, expected.as_slice()),
+    }
+    Ok(())
+}
+
+// How often a row has a reason at a port.
+fn times(row: &Row, number: u16, reason: u8) -> u32 {
+    for (port, counted, count) in row.counts {
+        if *port == number && *counted == reason {
+            return *count;
         }
     }
-    true
+    0
+}
+
+// Compares the counters of each port.
+fn tries_counts<F: Fn(i64) -> i64>(rt: &impl Abort, node: &Node<F>, row: &Row) {
+    for number in 1..=2u16 {
+        let there = Input::Carrier {
+            port: number,
+            up: false,
+            module: None,
+        };
+        if node.fits(&there) {
+            for reason in 1..=15u8 {
+                let count = node.count(number, reason);
+                assert_eq!(rt; count, times(row, number, reason), "{}: {reason}", row.name);
+            }
+        }
+    }
+}
+
+// One row, from a node before any input on.
+fn tries_row<F: Fn(i64) -> i64>(
+    rt: &impl Abort,
+    alloc: Global,
+    row: &Row,
+    law: DelayLaw<F>,
+) -> Result<(), Fail>
+    requires { KeepsFact F.pre F.post law }
+{
+    let mut node = node_at(alloc, row.site, law)?;
+    for part in row.parts {
+        for step in steps_of(*part) {
+            tries_step(rt, alloc, &mut node, row.name, *step)?;
+        }
+    }
+    tries_counts(rt, &node, row);
+    Ok(())
 }
 
 #[test]
-fn a_switch_finds_its_parent(rt: HostRuntime) -> Result<(), Fail> {
+fn puts_out_as_by_hand(rt: HostRuntime) -> Result<(), Fail> {
+    for row in ROWS {
+        let law = DelayLaw::new(
+            |x: i64|
+                requires { unsigned_abs x ≤ 2 ^ 53 }
+            { floor_of(0, x) },
+            LawKind::Linear { kappa: 0 },
+            -(1 << 30),
+            1 << 53,
+            1,
+        );
+        tries_row(&rt, rt.alloc(), row, law)?;
+    }
+    Ok(())
+}
+
+#[test]
+fn puts_out_the_most_that_a_tick_can(rt: HostRuntime) -> Result<(), Fail> {
     let law = DelayLaw::new(
         |x: i64|
             requires { unsigned_abs x ≤ 2 ^ 53 }
@@ -160,54 +313,6 @@ fn a_switch_finds_its_parent(rt: HostRuntime) -> Result<(), Fail> {
         1 << 53,
         1,
     );
-    let mut node = Node::new(rt.alloc(), settings(), Some(law))?;
-    let mut outs = Outputs::new();
-    assert!(rt; take(&mut node, &Input::Reset, &mut outs) && outs.is_empty());
-
-    let up = Input::Carrier {
-        port: 1,
-        up: true,
-        module: Some(VIOLET),
-    };
-    assert!(rt; take(&mut node, &up, &mut outs));
-    let quiet = [Output::Report(Report::Link {
-        port: 1,
-        word: LinkWord::Quiet,
-    })];
-    assert_eq!(rt; outs.as_slice(), quiet.as_slice());
-
-    let announce = Input::Frame {
-        port: 1,
-        bytes: frame(rt.alloc(), &ANNOUNCE)?,
-        raw: RAW,
-        sample: 0,
-    };
-    assert!(rt; silent_ticks(&mut node, 23, &mut outs));
-    assert!(rt; take(&mut node, &announce, &mut outs) && outs.is_empty());
-    assert!(rt; take(&mut node, &Input::Tick, &mut outs));
-    let open = [
-        Output::Report(Report::Link {
-            port: 1,
-            word: LinkWord::Ptp,
-        }),
-        Output::Send {
-            port: 1,
-            frame: frame(rt.alloc(), &DELAY_REQ)?,
-        },
-    ];
-    assert_eq!(rt; outs.as_slice(), open.as_slice());
-    assert!(rt; take(&mut node, &announce, &mut outs));
-    let present = [
-        Output::Report(Report::Link {
-            port: 1,
-            word: LinkWord::In(LinkState::Present),
-        }),
-        Output::Send {
-            port: 1,
-            frame: frame(rt.alloc(), &PRESENT)?,
-        },
-    ];
-    assert_eq!(rt; outs.as_slice(), present.as_slice());
-    assert_eq!(rt; node.ticks(), 24);
-    Ok(())
+    let mut node = most::node(rt.alloc(), &law)?;
+    tries_most(&rt, rt.alloc(), &mut node)
 }
