@@ -1,15 +1,16 @@
 //! The lines of a node's outputs.
 ghost use Rattle.std.specs.Fmt.{decimal, signed_decimal};
-ghost use Rattle.std.specs.Prelude.{◌≡◌, ◌∷◌, ◌++◌, ◌<◌, IfOk, OnOk, OnErr};
+ghost use Rattle.std.specs.Prelude.{◌≡◌, ◌∷◌, ◌++◌, ◌<◌, ◌^◌, ◌≤ℤ◌, ◌<ℤ◌, pos, IfOk, OnOk, OnErr};
 ghost use Rattle.std.specs.String.{string_bytes};
 ghost use Rattle.hex.specs.Hex.{encode_lower};
 ghost use Rattle.wrp_base.specs.Network.{HasRanges, IsTree, node_count};
+ghost use Rattle.wrp_bounds.specs.Bounds.{path_of};
 ghost use Rattle.wrp_lines.specs.Lines as lines;
 ghost use Rattle.wrp_lines.specs.Lines.{line_of, output_line_of, report_words, send_words, track_words};
 
 use crate::words::{name_of_node, text_of_link, text_of_servo};
 use std::alloc::{AllocError, Global};
-use wrp_base::{Frame, Tau};
+use wrp_base::{Frame, NetCfg, Tau};
 use wrp_bounds::path;
 use wrp_config::Network;
 use wrp_node::{Output, Report};
@@ -53,8 +54,19 @@ pub fn append_output_line(
     ensures err { OnErr result (text.new.items ≡ text.old.items) }
 {
     let name = name_of_node(&net.cfg, node);
-    let bound = path(&net.cfg, node);
+    let bound = bound_of(&net.cfg, node);
     append_line(alloc, name, tick, o, bound, truth, text)
+}
+
+// How far a node in TRACK may be from the grandmaster, in tau.
+fn bound_of(cfg: &NetCfg, node: u8) -> Tau
+    requires ranges { HasRanges cfg.now }
+    requires tree { IsTree cfg.now }
+    requires node { node < node_count cfg.now }
+    ensures value { result ≡ pos (path_of cfg.now node) }
+    ensures range { (pos 0 ≤ℤ result) × (result <ℤ pos (2 ^ 100)) }
+{
+    path(cfg, node)
 }
 
 /// Appends to `text` the line of an output of the node with this name, whose bound in TRACK is
