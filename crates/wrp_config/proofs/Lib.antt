@@ -19,3 +19,4 @@ pub mod Refused
 pub mod Reached
 pub mod Bare
 pub mod OneReading
+pub mod EachRead

@@ -41,6 +41,17 @@ OneReading =
     (octets : List ℕ) (one other : Result Network ConfFault) →
     IsReadingOf octets one → IsReadingOf octets other → IsSameAnswer one other
 
+-- the answer is not want of memory
+abbrev pub IsSettled : Result Network ConfFault → Type 0
+IsSettled (Ok net) = Unit {0}
+IsSettled (Err (Fault number place)) = Unit {0}
+IsSettled (Err (Memory e)) = ⊥
+
+-- each text has an answer that is not want of memory
+abbrev pub EachIsRead : Type 0
+EachIsRead =
+    (octets : List ℕ) → (due : Result Network ConfFault) × IsSettled due × IsReadingOf octets due
+
 -- the network of a text is accepted
 abbrev pub ReadingIsAccepted : Type 0
 ReadingIsAccepted =

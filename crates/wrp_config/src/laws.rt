@@ -1,6 +1,6 @@
 //! Laws of accepted networks, for the layers that stand on them. Each function computes nothing.
 ghost use Rattle.wrp_config.specs.Laws.{OneGrandmaster, ChildIsDeeper, PortIsOfOneLink, ModulesAreListed};
-ghost use Rattle.wrp_config.specs.Same.{OneReading, ReadingIsAccepted};
+ghost use Rattle.wrp_config.specs.Same.{EachIsRead, OneReading, ReadingIsAccepted};
 
 /// An accepted network has one grandmaster, and the walk from each node up its parents ends at it after
 /// at most 8 links.
@@ -28,6 +28,11 @@ pub fn modules_are_listed()
 /// stands in the unused room of its names, or both a fault of one code at one place.
 pub fn one_reading()
     ensures { OneReading }
+{}
+
+/// Each text has an answer that is not want of memory: a network or a fault.
+pub fn each_is_read()
+    ensures { EachIsRead }
 {}
 
 /// The network that a text has for an answer is accepted.

@@ -17,8 +17,8 @@ mod settings;
 mod tree;
 
 pub use laws::{
-    child_is_deeper, modules_are_listed, one_grandmaster, one_reading, port_is_of_one_link,
-    reading_is_accepted,
+    child_is_deeper, each_is_read, modules_are_listed, one_grandmaster, one_reading,
+    port_is_of_one_link, reading_is_accepted,
 };
 pub use network::{Network, pair_at};
 pub use tree::link_above;

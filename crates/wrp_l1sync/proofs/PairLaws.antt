@@ -113,6 +113,16 @@ answer_looked_back pair events event out is stands =
     ∙ ap (λ p. out_at (noted p event) (handing_of (noted p event).sent event)) stands.is
     ∙ out-pair pair.limits (length events) (history pair.limits.interval events) event
 
+-- an event that breaks no premise and sends nothing is accepted
+pub silent_looked_back : (pair : PairAt) (events : List L1Event) (event : L1Event) (result : Result L1Out L1Refused) →
+    (breach_by pair event ≡ None → sends_of pair event ≡ None → IsOk result) → StandsFor pair events →
+    breach_of pair.limits (history pair.limits.interval events) event ≡ None →
+    new_sent pair.limits.interval (history pair.limits.interval events) event ≡ None → IsOk result
+silent_looked_back pair events event result ok stands kept none =
+    ok (ap (λ p. breach_by p event) stands.is ∙ kept)
+    (ap (λ p. sends_of p event) stands.is
+    ∙ sends-pair pair.limits (length events) (history pair.limits.interval events) event ∙ none)
+
 -- an answer that is Ok tells no premise
 pub none_told : (result : Result L1Out L1Refused) → IsOk result → told_breach result ≡ None
 none_told (Ok out) ok = refl

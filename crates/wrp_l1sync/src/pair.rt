@@ -1,11 +1,11 @@
 //! A pair of ends, and the messages between them.
 ghost use Rattle.std.specs.Option.{option_or};
-ghost use Rattle.std.specs.Prelude.{◌≡◌, ◌<◌, ◌≤◌, ◌+◌, ◌-◌, ◌*◌, ◌^◌, ◌≤ℤ◌, pos, unsigned_abs, length, List, [], ◌∷◌, IfOk, IsOk, IsErr, Some};
+ghost use Rattle.std.specs.Prelude.{◌≡◌, ◌<◌, ◌≤◌, ◌+◌, ◌-◌, ◌*◌, ◌^◌, ◌≤ℤ◌, pos, unsigned_abs, length, List, [], ◌∷◌, IfOk, IsOk, IsErr, None, Some};
 ghost use Rattle.wrp_base.specs.Calls.{Adds};
 ghost use Rattle.wrp_l1sync.specs.declared.event.L1Event.{L1Event};
 ghost use Rattle.wrp_l1sync.specs.declared.event.Side.{Side};
 ghost use Rattle.wrp_l1sync.specs.Inputs.{state_of, ticks_of};
-ghost use Rattle.wrp_l1sync.specs.Pair.{IsFit, StandsFor, History, history, handed, inputs_of, side_of, breach_of, breach_by, told_breach, answer_of, noted, changed, handed_over, out_at, handing_of, elapsed, sends_of, sent_at, delivery_breach, late_by, too_old, end_at};
+ghost use Rattle.wrp_l1sync.specs.Pair.{IsFit, StandsFor, History, history, handed, inputs_of, side_of, breach_of, breach_by, told_breach, answer_of, new_sent, noted, changed, handed_over, out_at, handing_of, elapsed, sends_of, sent_at, delivery_breach, late_by, too_old, end_at};
 ghost use Rattle.wrp_l1sync.specs.PortAt.{state_by, due_by};
 ghost use Rattle.wrp_l1sync.specs.Theorem.{UpIsCarried};
 
@@ -90,6 +90,12 @@ impl L1Pair {
         ensures stands { IsOk result → Adds StandsFor self.old self.new e.now }
         ensures refused { IsErr result → self.new ≡ self.old }
 
+        // An event that breaks no premise and sends nothing needs no memory.
+        ensures silent { (events : List L1Event) → StandsFor self.old events →
+            breach_of self.old.limits (history self.old.limits.interval events) e.now ≡ None →
+            new_sent self.old.limits.interval (history self.old.limits.interval events) e.now ≡ None →
+            IsOk result }
+
         // An end that is up has a peer that sent, at most timeout·dmax + life ago, a message with
         // the same requirement, and each required bit holds at both.
         ensures up { (events : List L1Event) (side : Side) → StandsFor self.old events → IsOk result →
@@ -150,6 +156,7 @@ impl L1Pair {
         ensures out { IfOk result (λ out.
             out ≡ out_at (noted self.old e.now) (handing_of (noted self.old e.now).sent e.now)) }
         ensures refused { IsErr result → self.new ≡ self.old }
+        ensures silent { breach_by self.old e.now ≡ None → sends_of self.old e.now ≡ None → IsOk result }
     {
         if let Some(breach) = self.breach(e) {
             return Err(L1Refused::Broken {
@@ -172,6 +179,7 @@ impl L1Pair {
         ensures a { IsOk result → self.new.a.ticks < self.new.count }
         ensures b { IsOk result → self.new.b.ticks < self.new.count }
         ensures err { IsErr result → self.new ≡ self.old }
+        ensures silent { sends_of self.old e.now ≡ None → IsOk result }
     {
         if let Some(sent) = self.sends(e) {
             self.sent.push(sent)?;

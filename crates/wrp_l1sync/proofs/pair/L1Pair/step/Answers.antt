@@ -3,7 +3,7 @@
 use Rattle.std.proofs.Common.{◌≡◌, ◌∷◌}
 use Rattle.std.proofs.lemmas.Result.{IfOk-weaker}
 use Rattle.wrp_l1sync.specs.Pair.{told_breach, noted, handing_of, out_at, answer_of, history}
-use Rattle.wrp_l1sync.proofs.PairLaws.{breach_looked_back, answer_looked_back, accepted_looked_back, Adds-event, same_limits}
+use Rattle.wrp_l1sync.proofs.PairLaws.{breach_looked_back, answer_looked_back, accepted_looked_back, Adds-event, same_limits, silent_looked_back}
 use Rattle.wrp_l1sync.proofs.TheoremLaws.{up_is_carried}
 use Rattle.wrp_l1sync.proofs.pair.L1Pair.step.Goals as goal
 
@@ -31,3 +31,7 @@ pub returns-clause-up : goal.returns-clause-up
 returns-clause-up c events side stands ok =
     up_is_carried c.args.self.now.limits (c.args.e.now ∷ events) side
     (accepted_looked_back c.args.self.now events c.args.e.now c.try_step.result c.try_step.ensures.broken ok stands)
+
+pub returns-clause-silent : goal.returns-clause-silent
+returns-clause-silent c events stands kept none =
+    silent_looked_back c.args.self.now events c.args.e.now c.try_step.result c.try_step.ensures.silent stands kept none
