@@ -1,4 +1,4 @@
-//! What is true of every step of a node. Each function here does nothing: its contract is a law
+//! What is true of every step of a node. Each function here computes nothing: its contract is a law
 //! over all nodes and inputs, and its proof shows that the law holds.
 ghost use Rattle.wrp_node.specs.Laws.{DroppedLeavesACount, StepSettles};
 ghost use Rattle.wrp_node.specs.LinkNews.{StepGivesLinks};
