@@ -17,3 +17,5 @@ pub mod Found
 pub mod Accepted
 pub mod Refused
 pub mod Reached
+pub mod Bare
+pub mod OneReading

@@ -1,17 +1,17 @@
 -- The walks up the parents of an accepted network, and its ports.
-use Rattle.std.proofs.Common.{◌≡◌, ◌≢◌, ◌<◌, ◌≤◌, ◌+◌, ◌*◌, ◌&&◌, ◌||◌, ◌==◌, ℕ, zero, suc, List, [], ◌∷◌, Bool, true, false, Option, None, Some, cond, option_map, refl, sym, ap, ap₂, subst, ◌∙◌, arith, eq-eqb}
+use Rattle.std.proofs.Common.{◌≡◌, ◌<◌, ◌≤◌, ◌+◌, ◌&&◌, ◌||◌, ◌==◌, ℕ, zero, suc, List, [], ◌∷◌, Bool, true, false, Option, None, Some, cond, option_map, refl, sym, ap, ap₂, subst, ◌∙◌, arith, eq-eqb}
 use Rattle.std.proofs.lemmas.Bool.{and_parts, false≢true, eqb-true}
-use Rattle.std.specs.Prelude.{slice_get, IsSome, option_and_then}
+use Rattle.std.specs.Prelude.{slice_get}
 use Rattle.std.specs.List.{find, flat_map}
 use Rattle.wrp_base.specs.declared.configuration.NetCfg.{NetCfg}
 use Rattle.wrp_base.specs.declared.network.LinkCfg.{LinkCfg}
 use Rattle.wrp_base.specs.Network.{End, ends_of, IsLink, IsGrandmaster, IsTree, HasDepth, link_above, node_count}
 use Rattle.wrp_bounds.proofs.Placed.{found_at}
-use Rattle.wrp_caldb.specs.Database.{Database, module_at}
+use Rattle.wrp_caldb.specs.Database.{Database}
 use Rattle.wrp_caldb.proofs.Kept.{find_parts}
 use Rattle.wrp_config.specs.Accepted.{HasNoRepeat, IsAccepted}
 use Rattle.wrp_config.specs.Laws.{IsAbove, OneGrandmaster, ChildIsDeeper, PortIsOfOneLink, ModulesAreListed}
-use Rattle.wrp_config.specs.Names.{is_upper_end, is_lower_end, has_port, link_at, pair_of, pair_at, listed_at}
+use Rattle.wrp_config.specs.Names.{is_upper_end, is_lower_end, has_port, link_at, pair_of}
 use Rattle.wrp_config.proofs.Ports.{upper_of, lower_of}
 use Rattle.wrp_config.proofs.Texts.{some_is}
 

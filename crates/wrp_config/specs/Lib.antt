@@ -8,4 +8,5 @@ pub mod Links
 pub mod Names
 pub mod Places
 pub mod Reading
+pub mod Same
 pub mod Tree

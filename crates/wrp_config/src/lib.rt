@@ -16,8 +16,12 @@ mod reading;
 mod settings;
 mod tree;
 
-pub use laws::{child_is_deeper, modules_are_listed, one_grandmaster, port_is_of_one_link};
-pub use network::Network;
+pub use laws::{
+    child_is_deeper, modules_are_listed, one_grandmaster, one_reading, port_is_of_one_link,
+    reading_is_accepted,
+};
+pub use network::{Network, pair_at};
+pub use tree::link_above;
 
 #[cfg(test)]
 mod tests;

@@ -120,8 +120,9 @@ fn link_at<'a>(cfg: &'a NetCfg, node: u8, port: u16) -> Option<&'a LinkCfg>
     cfg.links.iter().find(|link| has_port(link, node, port))
 }
 
-// The wavelengths that a port of a node sends and receives, in nm.
-fn pair_at(cfg: &NetCfg, node: u8, port: u16) -> Option<(u16, u16)>
+/// The wavelengths that a port of a node sends and receives, in nm. `None` exactly where no link has
+/// that port.
+pub fn pair_at(cfg: &NetCfg, node: u8, port: u16) -> Option<(u16, u16)>
     ensures { result ≡ pair_at cfg.now node port }
 {
     match link_at(cfg, node, port) {

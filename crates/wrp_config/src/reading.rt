@@ -8,6 +8,7 @@ ghost use Rattle.wrp_config.specs.Config.{IsNetworkOf};
 ghost use Rattle.wrp_config.specs.Keys.{network_in};
 ghost use Rattle.wrp_config.specs.Places.{IsTaken};
 ghost use Rattle.wrp_config.specs.Reading.{IsAnswerOf, IsReadingOf};
+ghost use Rattle.wrp_config.specs.Same.{IsOnlyReadingOf};
 ghost use Rattle.wrp_config.specs.Tree.{HasNoFault};
 
 use crate::clash::{clash_fault, node_fault};
@@ -120,10 +121,11 @@ impl Network {
     /// `fibre`. A fault is the least code that the file has, at the first place that has it: 1 Syntax
     /// at `-` where the octets are no UTF-8 or no TOML, 2 UnknownKey, 3 Missing, 4 Range, 5 Twice, 7
     /// NotATree, 8 TwoSlaves, 9 TooDeep, and 10 Clash, whose place is the broken inequality with both
-    /// its sides (this project's profile). Want of memory is an answer of its own. Each network that
-    /// is read is accepted.
+    /// its sides (this project's profile). Want of memory is an answer of its own, and may come in
+    /// place of any other; a text has no second answer but that. Each network that is read is accepted.
     pub fn read(alloc: Global, bytes: &[u8]) -> Result<Network, ConfFault>
         ensures value { IsReadingOf bytes.now result }
+        ensures only { IsOnlyReadingOf bytes.now result }
         ensures accepted { IfOk result (λ net. IsAccepted net.cfg net.db) }
     {
         match str::from_utf8(bytes) {

@@ -25,8 +25,8 @@ impl TreeFault {
     }
 }
 
-// The first link that has this node as its lower end.
-fn link_above<'a>(cfg: &'a NetCfg, n: u8) -> Option<&'a LinkCfg>
+/// The first link that has this node as its lower end. `None` exactly where the node has no parent.
+pub fn link_above<'a>(cfg: &'a NetCfg, n: u8) -> Option<&'a LinkCfg>
     ensures { option_map (λ link. link.now) result ≡ network.link_above cfg.now n }
 {
     cfg.links.iter().find(|link| link.lower == n)
