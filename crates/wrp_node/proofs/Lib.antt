@@ -7,6 +7,7 @@ pub mod NewNode
 pub mod Nodes
 pub mod OwnPorts
 pub mod Ranges
+pub mod SetRows
 pub mod NodeTicks
 pub mod Ascending
 pub mod Drops

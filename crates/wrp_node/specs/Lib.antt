@@ -10,5 +10,6 @@ pub mod NodeStep
 pub mod Parts
 pub mod Place
 pub mod Set
+pub mod SetRows
 pub mod StandsFor
 pub mod Telling

@@ -1,7 +1,7 @@
 //! What a node is set to, gathered from the network that it is a node of.
 ghost use Rattle.std.specs.Prelude.{◌≡◌, ℕ, ◌+◌, ◌++◌, ◌<◌, ◌≤◌, length, unsigned_abs};
 ghost use Rattle.std.specs.List.{filter};
-ghost use Rattle.std.specs.Option.{option_map};
+ghost use Rattle.std.specs.Option.{is_some, option_map};
 ghost use Rattle.wrp_base.specs.Network as network;
 ghost use Rattle.wrp_base.specs.Network.{HasRanges, NamesNoPortTwice, IsTree, IsGrandmaster, HasDepth, IsFromTo, node_count};
 ghost use Rattle.wrp_node.specs.New.{FitsNodeSet};
@@ -30,6 +30,7 @@ pub fn node_set(net: &NetCfg, n: u8) -> NodeSet
     ensures value { result ≡ spec.set_of net.now n }
     ensures fits { FitsNodeSet result }
     // It has a slave port exactly where it has a link above it.
+    ensures has_slave { is_some (slave_of result) ≡ is_some (network.link_above net.now n) }
     ensures slave { slave_of result ≡ option_map (λ link. link.lower_port) (network.link_above net.now n) }
     ensures one_slave { length (filter (λ ds. is_slave ds.role) result.ports.items) ≤ 1 }
     ensures steps { HasDepth net.now result.own.steps n }

@@ -1,7 +1,9 @@
 -- What is gathered is what the node is set to, and a node can be set to it.
-use Rattle.std.proofs.Common.{◌≡◌, lit<, ap, sym, subst, ◌∙◌, ◌≤◌, ℕ, List, length}
+use Rattle.std.proofs.Common.{◌≡◌, refl, Option, None, Some, lit<, ap, sym, subst, ◌∙◌, ◌≤◌, ℕ, List, length}
 use Rattle.std.specs.List.{filter}
-use Rattle.wrp_base.specs.Network.{HasDepth}
+use Rattle.std.specs.Option.{is_some, option_map}
+use Rattle.wrp_base.specs.declared.network.LinkCfg.{LinkCfg}
+use Rattle.wrp_base.specs.Network.{HasDepth, link_above}
 use Rattle.wrp_data.specs.declared.datasets.DefaultDs.{DefaultDs}
 use Rattle.wrp_data.specs.declared.datasets.PortDs.{PortDs}
 use Rattle.wrp_link.specs.declared.interface.LinkSet.{LinkSet}
@@ -40,6 +42,13 @@ returns-clause-fits c =
 
 pub returns-clause-slave : goal.returns-clause-slave
 returns-clause-slave c = ap (λ (ports : List PortDs). slave_in ports) c.ports_of.ensures ∙ slave_is_above c.args.net.now c.args.n
+
+some_where_some : (o : Option LinkCfg) → is_some (option_map (λ (l : LinkCfg). l.lower_port) o) ≡ is_some o
+some_where_some None = refl
+some_where_some (Some link) = refl
+
+pub returns-clause-has_slave : goal.returns-clause-has_slave
+returns-clause-has_slave c = ap (λ (o : Option ℕ). is_some o) (returns-clause-slave c) ∙ some_where_some (link_above c.args.net.now c.args.n)
 
 pub returns-clause-one_slave : goal.returns-clause-one_slave
 returns-clause-one_slave c =
