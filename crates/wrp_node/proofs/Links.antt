@@ -1,5 +1,5 @@
 -- A step gives the link of each port what the input is to it.
-use Rattle.std.proofs.Common.{◌≡◌, ◌∙◌, refl, ap, sym, ℕ, ℤ, ◌==◌, Bool, true, false, if◌then◌else◌, List, [], ◌∷◌, Option, None, Some, Result, Ok, Err}
+use Rattle.std.proofs.Common.{◌≡◌, ◌∙◌, refl, ap, ℕ, ℤ, ◌==◌, Bool, true, false, if◌then◌else◌, List, ◌∷◌, Option, None, Some, Result, Ok, Err}
 use Rattle.std.proofs.lemmas.Bool.{eqb-true}
 use Rattle.wrp_base.specs.declared.message.PtpMsg.{PtpMsg}
 use Rattle.wrp_base.specs.declared.time.Raw.{Raw}
@@ -8,14 +8,14 @@ use Rattle.wrp_data.specs.declared.reason.Reason.{Reason}
 use Rattle.wrp_frame.specs.declared.fault.FrameFault.{FrameFault}
 use Rattle.wrp_link.specs.declared.interface.LinkIn.{LinkIn}
 use Rattle.wrp_link.specs.declared.interface.LinkIn.TheVariants as link
-use Rattle.wrp_link.specs.LinkAt.{LinkAt, new_link}
+use Rattle.wrp_link.specs.LinkAt.{LinkAt}
 use Rattle.wrp_link.specs.Table.{after}
 use Rattle.wrp_node.specs.declared.interface.Input.{Input}
 use Rattle.wrp_node.specs.declared.interface.Input.TheVariants.{Tick, Sample, Frame, Sent, Carrier, Reset}
-use Rattle.wrp_node.specs.LinkNews.{LinkNews, Nothing, Given, Renewed, news_of, link_after, frame_news, news_at, StepGivesLinks}
-use Rattle.wrp_node.specs.NodeAt.{Taken, Fixed, NodeAt, slave_of, setting_of, link_at, locked_of}
-use Rattle.wrp_node.specs.NodeStep.{counted_tick, lease_ticked, servo_ticked, ports_ticked, told_slave, measurement_by, measured_at, message_of, stamp_of, used, heard, heard_unless, is_slave_port, handed, stepped, node_step}
-use Rattle.wrp_node.specs.Telling.{Step, step_from, told_at, tell, answer_of, number_of, for_slave, lease_change, link_change, with_lease, settled}
+use Rattle.wrp_node.specs.LinkNews.{LinkNews, Nothing, Given, news_of, link_after, frame_news, news_at, StepGivesLinks}
+use Rattle.wrp_node.specs.NodeAt.{Fixed, NodeAt, slave_of, setting_of, link_at, locked_of}
+use Rattle.wrp_node.specs.NodeStep.{counted_tick, lease_ticked, servo_ticked, told_slave, measurement_by, measured_at, stamp_of, used, heard, heard_unless, is_slave_port, handed, stepped}
+use Rattle.wrp_node.specs.Telling.{Step, step_from, tell, answer_of, number_of, for_slave, lease_change, link_change, with_lease, settled}
 use Rattle.wrp_node.proofs.Settled.{link_by}
 use Rattle.wrp_port.specs.declared.interface.PortIn.{PortIn}
 use Rattle.wrp_port.specs.declared.interface.PortIn.TheVariants.{Msg, Lease, Sent as PortSent, Carrier as PortCarrier}
@@ -25,7 +25,7 @@ use Rattle.wrp_port.specs.History.{link_of, input_unless, to_link, link_by as li
 use Rattle.wrp_servo.specs.Call.{Call, CallSample, CallTick, CallCarrier}
 
 -- telling the servo leaves every link as it is
-tell_link : (fixed : Fixed) (call : Option Call) (s : Step) (p : ℕ) → link_at fixed.set (tell fixed call s).node p ≡ link_at fixed.set s.node p
+pub tell_link : (fixed : Fixed) (call : Option Call) (s : Step) (p : ℕ) → link_at fixed.set (tell fixed call s).node p ≡ link_at fixed.set s.node p
 tell_link fixed call s p = link_by (slave_of fixed.set) (setting_of fixed.set p) (answer_of fixed call s.node.calls) (number_of call) s.node.told p
 
 settled_link : (fixed : Fixed) (s : Step) (p : ℕ) → link_at fixed.set (settled fixed s).node p ≡ link_at fixed.set s.node p
@@ -40,7 +40,7 @@ lease_link : (o : Option ℕ) (set : Setting) (told : ℕ → List PortIn) (q : 
 lease_link None set told q = refl
 lease_link (Some p) set told q = lease_where (q == p) set (told q)
 
-before_ports : (fixed : Fixed) (n : NodeAt) (p : ℕ) → link_at fixed.set (servo_ticked fixed n).node p ≡ link_at fixed.set n p
+pub before_ports : (fixed : Fixed) (n : NodeAt) (p : ℕ) → link_at fixed.set (servo_ticked fixed n).node p ≡ link_at fixed.set n p
 before_ports fixed n p =
     tell_link fixed (for_slave fixed (Some CallTick)) (lease_ticked fixed n) p
     ∙ tell_link fixed (lease_change fixed (counted_tick fixed n)) (step_from (counted_tick fixed n)) p

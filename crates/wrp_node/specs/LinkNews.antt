@@ -1,5 +1,5 @@
 -- What an input is to the link of each port of a node (this project's profile).
-use Rattle.std.specs.Prelude.{◌≡◌, ℕ, ◌==◌, Bool, true, false, if◌then◌else◌, Option, None, Some, Result, Ok, Err}
+use Rattle.std.specs.Prelude.{◌≡◌, ℕ, ◌==◌, true, false, if◌then◌else◌, Option, None, Some, Result, Ok, Err}
 use Rattle.wrp_base.specs.declared.message.PtpMsg.{PtpMsg}
 use Rattle.wrp_frame.specs.declared.fault.FrameFault.{FrameFault}
 use Rattle.wrp_link.specs.declared.interface.LinkIn.{LinkIn}
@@ -7,7 +7,7 @@ use Rattle.wrp_link.specs.declared.interface.LinkIn.TheVariants as link
 use Rattle.wrp_link.specs.LinkAt.{LinkAt, new_link}
 use Rattle.wrp_link.specs.Table.{after}
 use Rattle.wrp_node.specs.declared.interface.Input.{Input}
-use Rattle.wrp_node.specs.declared.interface.Input.TheVariants.{Tick, Sample, Frame, Sent, Carrier, Reset}
+use Rattle.wrp_node.specs.declared.interface.Input.TheVariants.{Tick, Frame, Carrier, Reset}
 use Rattle.wrp_node.specs.NodeAt.{Taken, Fixed, NodeAt, setting_of, link_at, locked_of}
 use Rattle.wrp_node.specs.NodeStep.{node_step, servo_ticked}
 use Rattle.wrp_port.specs.declared.setting.Setting.{Setting}

@@ -2,6 +2,11 @@
 //! all nodes and inputs, and its proof shows that the law holds.
 ghost use Rattle.wrp_node.specs.Laws.{DroppedLeavesACount, StepSettles};
 ghost use Rattle.wrp_node.specs.LinkNews.{StepGivesLinks};
+ghost use Rattle.wrp_node.specs.OneRun.{OneNode, OneRun};
+ghost use Rattle.wrp_node.specs.Sends.{SendsArePutOut, SignalsAreOfLink};
+ghost use Rattle.wrp_node.specs.Unbroken.{ChainIsLocked, ChainIsUnbroken};
+
+use wrp_servo::{chain_has_signals, chain_is_held, chain_since, phase_is_sum, told_last};
 
 /// A frame that is no message, or whose message is dropped whatever its kind (reasons 1 to 12), raises
 /// one counter of its port. Nothing else changes, and nothing is put out.
@@ -19,3 +24,36 @@ pub fn step_settles()
 pub fn step_gives_links()
     ensures { StepGivesLinks }
 {}
+
+/// The Signaling messages that a port sends at a step are those that its link sends at what the step
+/// gives it, in their order, and no others.
+pub fn signals_are_of_link()
+    ensures { SignalsAreOfLink }
+{}
+
+/// The frames among the outputs of a step are what its ports send: at each port, in their order, and at
+/// no other number.
+pub fn sends_are_put_out()
+    ensures { SendsArePutOut }
+{}
+
+/// Between inputs a chain of the servo stands exactly where a call started it and none after that ended
+/// it or restarted the loop; and with it the lock detector is locked.
+pub fn chain_is_unbroken()
+    ensures since { ChainIsUnbroken }
+    ensures locked { ChainIsLocked }
+{
+    chain_since();
+    chain_is_held();
+    chain_has_signals();
+    phase_is_sum();
+}
+
+/// The same inputs give the same outputs and the same node: what octets say is one, and so is what the
+/// law answers, where it is asked.
+pub fn one_run()
+    ensures run { OneRun }
+    ensures node { OneNode }
+{
+    told_last();
+}

@@ -18,7 +18,10 @@ mod tests;
 mod told;
 
 pub use interface::{Input, NodeSet, Output, Outputs, Report};
-pub use laws::{dropped_leaves_a_count, step_gives_links, step_settles};
+pub use laws::{
+    chain_is_unbroken, dropped_leaves_a_count, one_run, sends_are_put_out, signals_are_of_link,
+    step_gives_links, step_settles,
+};
 pub use node::Node;
 pub use rows::sets_of_three_nodes;
 pub use set::node_set;
