@@ -87,7 +87,7 @@ between_bare cfg link None parent = refl
 between_bare cfg link (Some own) None = refl
 between_bare cfg link (Some own) (Some parent) = rw (above_some cfg link.lower, above_some cfg link.upper) refl
 
-over_bare : (cfg : NetCfg) (link : LinkCfg) → numbers_over (bare_cfg cfg) (bare_link link) ≡ numbers_over cfg link
+pub over_bare : (cfg : NetCfg) (link : LinkCfg) → numbers_over (bare_cfg cfg) (bare_link link) ≡ numbers_over cfg link
 unfolding numbers_over
 over_bare cfg link =
     ap₂ (numbers_between (bare_cfg cfg) (bare_link link))

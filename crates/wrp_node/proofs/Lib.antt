@@ -1,3 +1,5 @@
+pub mod Ascending
+pub mod Drops
 pub mod Finding
 pub mod Giving
 pub mod Hearing
@@ -5,15 +7,13 @@ pub mod Links
 pub mod Lists
 pub mod Masters
 pub mod NewNode
+pub mod NodeTicks
 pub mod Nodes
+pub mod OneRun
 pub mod OwnPorts
 pub mod Ranges
 pub mod SetLaws
 pub mod SetRows
-pub mod NodeTicks
-pub mod Ascending
-pub mod Drops
-pub mod OneRun
 pub mod Sends
 pub mod Settled
 pub mod Sound

@@ -1,8 +1,11 @@
 -- What stands at the end of a run, told of the words and the whole input.
-use Rattle.std.proofs.Common.{◌≡◌, inl, inr, true, false, ℕ, ◌+◌, ◌<◌, ◌≤◌, Option, None, Some, IfSome, List, [], ◌∷◌, ◌++◌, length, length-append, take, refl, sym, ap, ◌∙◌, subst, append_assoc, append-nil, arith}
+use Rattle.std.proofs.Common.{◌≡◌, inl, inr, true, false, ℕ, ◌+◌, ◌<◌, ◌≤◌, Option, None, Some, IfSome, Err, List, [], ◌∷◌, ◌++◌, length, length-append, take, refl, sym, ap, ◌∙◌, subst, append_assoc, append-nil, arith}
 use Rattle.std.specs.List.{concat}
 use Rattle.std.specs.Io.KnownBytes.{Appends, Consumes, IsAtEnd}
-use Rattle.std.proofs.KnownBytes.{Consumes-trans}
+use Rattle.std.proofs.KnownBytes.{Appends-nil, Consumes-trans}
+use Rattle.wrp_base.specs.declared.fault.ConfFault.{ConfFault}
+use Rattle.wrp_base.specs.declared.fault.ConfFault.TheVariants.{Fault, Memory}
+use Rattle.wrp_config.specs.Reading.{IsReadingOf}
 use Rattle.wrp_run.specs.declared.machine.Refusal.{Refusal}
 use Rattle.wrp_run.specs.declared.machine.Refusal.TheVariants as refusals
 use Rattle.wrp_run.specs.declared.status.Status.{Status}
@@ -10,29 +13,30 @@ use Rattle.wrp_run.specs.declared.status.Status.TheVariants.{Done, Usage, BadNet
 use Rattle.wrp_run.specs.After.{After}
 use Rattle.wrp_run.specs.Answer.{Answer, Asks, AsksNone, IsCommand, FirstAnswer, PartAnswer, CutReplay}
 use Rattle.wrp_run.specs.Ends.{Run, Ends, EndsRefused, TakesPiece, ReadFailed, WriteFailed, Wrote}
-use Rattle.wrp_run.specs.Engine.{Finishes}
+use Rattle.wrp_run.specs.Engine.{Finishes, RefusesNetwork}
 use Rattle.wrp_run.specs.Input.{network_text, behind_separator, network_limit, IsDivided, IsTooLong, IsUndivided}
 use Rattle.wrp_run.specs.Lines.{lines_of}
 use Rattle.wrp_run.specs.Meaning.{Meaning}
 use Rattle.wrp_run.specs.Reader.{ReaderAt, piece_limit}
 use Rattle.wrp_run.specs.RecordsAnswer.{RecordsAnswer, AreFirst}
-use Rattle.wrp_run.specs.Replays.{Replayed, name_of, meaning_of, IsRefusedBy}
+use Rattle.wrp_run.specs.Replays.{meaning_of, IsRefusedBy}
+use Rattle.wrp_trace.specs.Site.{Site}
 use Rattle.wrp_run.specs.Statuses.{is_answer}
 use Rattle.wrp_run.specs.Stream.{RefusedAt, CutHandled}
-use Rattle.wrp_run.specs.Texts.{usage_line, too_large_line}
+use Rattle.wrp_run.specs.Refusals.{bad_network_line, usage_line, too_large_line}
 use Rattle.wrp_run.proofs.Feeds.{lines_of-open}
 use Rattle.wrp_run.proofs.Networking.{next_line}
 use Rattle.wrp_run.proofs.Reaching.{lines_behind, next_some}
 use Rattle.wrp_run.proofs.Telling.{DueOf, due_told, answer_told, first_told}
 
 -- what is due for the records is due for the words and the input
-answer_of : (words : List (List ℕ)) (input : List ℕ) (replayed : Replayed) (status : Status) (octets : List ℕ) → Asks words (network_text input) replayed
-    → RecordsAnswer (meaning_of replayed) (behind_separator (lines_of input)) status octets → Answer words input status octets
-answer_of words input replayed Done octets has due = (replayed, has, due)
-answer_of words input replayed BadTrace octets has due = (replayed, has, due)
-answer_of words input replayed Broken octets has due = (replayed, has, due)
-answer_of words input replayed TooLarge octets has due = inr (replayed, has, due)
-answer_of words input replayed _ octets has due = absurd due
+answer_of : (words : List (List ℕ)) (input : List ℕ) (site : Site) (status : Status) (octets : List ℕ) → Asks words (network_text input) site
+    → RecordsAnswer (meaning_of site) (behind_separator (lines_of input)) status octets → Answer words input status octets
+answer_of words input site Done octets has due = (site, has, due)
+answer_of words input site BadTrace octets has due = (site, has, due)
+answer_of words input site Broken octets has due = (site, has, due)
+answer_of words input site TooLarge octets has due = inr (site, has, due)
+answer_of words input site _ octets has due = absurd due
 
 -- a fact of the whole input
 pub told_text : (first middle : Option (List ℕ)) (network text : List ℕ) (r : ReaderAt) → Consumes first middle network → IsDivided network text r → (r.ended ≡ true → IsAtEnd middle)
@@ -73,12 +77,12 @@ both_parts P (Some input) (Some middle) (Some left) network given text r s one t
     ]
 
 -- what was taken of the network text
-pub record TookNetwork (words : List (List ℕ)) (first middle : Option (List ℕ)) (text : List ℕ) (r : ReaderAt) (replayed : Replayed) : Type 0 where
+pub record TookNetwork (words : List (List ℕ)) (first middle : Option (List ℕ)) (text : List ℕ) (r : ReaderAt) (site : Site) : Type 0 where
   pub network : List ℕ
   pub taken : Consumes first middle network
   pub divided : IsDivided network text r
   pub at_end : r.ended ≡ true → IsAtEnd middle
-  pub asks : Asks words text replayed
+  pub asks : Asks words text site
 
 -- what was taken of the records, and what stands
 pub record TookRecords (M : Meaning) (middle last held now : Option (List ℕ)) (r s : ReaderAt) (status : Status) : Type 0 where
@@ -90,49 +94,49 @@ pub record TookRecords (M : Meaning) (middle last held now : Option (List ℕ)) 
   pub at_end : s.ended ≡ true → IsAtEnd last
 
 -- the node that is asked for, in the whole input
-asks_told : (words : List (List ℕ)) (text other : List ℕ) (replayed : Replayed) → other ≡ text → Asks words text replayed → Asks words other replayed
-asks_told words text other replayed same asks = subst (λ (t : List ℕ). Asks words t replayed) (sym same) asks
+asks_told : (words : List (List ℕ)) (text other : List ℕ) (site : Site) → other ≡ text → Asks words text site → Asks words other site
+asks_told words text other site same asks = subst (λ (t : List ℕ). Asks words t site) (sym same) asks
 
 -- a fact of all record lines, in the whole input
-lines_told : (P : List (List ℕ) → Type 0) (words : List (List ℕ)) (first middle last held now : Option (List ℕ)) (text : List ℕ) (r s : ReaderAt) (replayed : Replayed) (status : Status)
-    → TookNetwork words first middle text r replayed → (at : TookRecords (meaning_of replayed) middle last held now r s status)
+lines_told : (P : List (List ℕ) → Type 0) (words : List (List ℕ)) (first middle last held now : Option (List ℕ)) (text : List ℕ) (r s : ReaderAt) (site : Site) (status : Status)
+    → TookNetwork words first middle text r site → (at : TookRecords (meaning_of site) middle last held now r s status)
     → ((more : List ℕ) → (s.ended ≡ true → more ≡ []) → P (lines_of ((r.rest ++ at.given) ++ more)))
-    → IfSome first (λ input. Asks words (network_text input) replayed × P (behind_separator (lines_of input)))
-lines_told P words None middle last held now text r s replayed status net at told = tt
-lines_told P words (Some input) middle last held now text r s replayed status net at told =
+    → IfSome first (λ input. Asks words (network_text input) site × P (behind_separator (lines_of input)))
+lines_told P words None middle last held now text r s site status net at told = tt
+lines_told P words (Some input) middle last held now text r s site status net at told =
     let both = both_parts P (Some input) middle last net.network at.given text r s net.taken at.taken net.divided net.at_end at.at_end told in
-    (asks_told words text (network_text input) replayed both.0 net.asks, both.1)
+    (asks_told words text (network_text input) site both.0 net.asks, both.1)
 
 -- an answer
-answered : (words : List (List ℕ)) (first middle last held now : Option (List ℕ)) (text : List ℕ) (r s : ReaderAt) (replayed : Replayed) (status : Status)
-    → TookNetwork words first middle text r replayed → (at : TookRecords (meaning_of replayed) middle last held now r s status) → is_answer status ≡ true
+answered : (words : List (List ℕ)) (first middle last held now : Option (List ℕ)) (text : List ℕ) (r s : ReaderAt) (site : Site) (status : Status)
+    → TookNetwork words first middle text r site → (at : TookRecords (meaning_of site) middle last held now r s status) → is_answer status ≡ true
     → IfSome first (λ input. Answer words input status at.octets)
-answered words None middle last held now text r s replayed status net at is = tt
-answered words (Some input) middle last held now text r s replayed status net at is =
-    let has = lines_told (λ (ls : List (List ℕ)). RecordsAnswer (meaning_of replayed) ls status at.octets) words (Some input) middle last held now text r s replayed status net at
-    (answer_told (meaning_of replayed) (r.rest ++ at.given) s status at.octets at.stands is) in
-    answer_of words input replayed status at.octets has.0 has.1
+answered words None middle last held now text r s site status net at is = tt
+answered words (Some input) middle last held now text r s site status net at is =
+    let has = lines_told (λ (ls : List (List ℕ)). RecordsAnswer (meaning_of site) ls status at.octets) words (Some input) middle last held now text r s site status net at
+    (answer_told (meaning_of site) (r.rest ++ at.given) s status at.octets at.stands is) in
+    answer_of words input site status at.octets has.0 has.1
 
 -- the first lines
-firsts : (words : List (List ℕ)) (first middle last held now : Option (List ℕ)) (text : List ℕ) (r s : ReaderAt) (replayed : Replayed)
-    → TookNetwork words first middle text r replayed → (at : TookRecords (meaning_of replayed) middle last held now r s OutOfMemory)
+firsts : (words : List (List ℕ)) (first middle last held now : Option (List ℕ)) (text : List ℕ) (r s : ReaderAt) (site : Site)
+    → TookNetwork words first middle text r site → (at : TookRecords (meaning_of site) middle last held now r s OutOfMemory)
     → IfSome first (λ input. FirstAnswer words input at.octets)
-firsts words None middle last held now text r s replayed net at = tt
-firsts words (Some input) middle last held now text r s replayed net at =
-    let has = lines_told (λ (ls : List (List ℕ)). AreFirst (meaning_of replayed) ls at.octets) words (Some input) middle last held now text r s replayed OutOfMemory net at
-    (first_told (meaning_of replayed) (r.rest ++ at.given) s at.octets at.stands) in
-    inr (replayed, has.0, has.1)
+firsts words None middle last held now text r s site net at = tt
+firsts words (Some input) middle last held now text r s site net at =
+    let has = lines_told (λ (ls : List (List ℕ)). AreFirst (meaning_of site) ls at.octets) words (Some input) middle last held now text r s site OutOfMemory net at
+    (first_told (meaning_of site) (r.rest ++ at.given) s at.octets at.stands) in
+    inr (site, has.0, has.1)
 
 -- a part of what is due
-parts : (words : List (List ℕ)) (first middle last held now : Option (List ℕ)) (text : List ℕ) (r s : ReaderAt) (replayed : Replayed)
-    → TookNetwork words first middle text r replayed → (at : TookRecords (meaning_of replayed) middle last held now r s WriteFault)
+parts : (words : List (List ℕ)) (first middle last held now : Option (List ℕ)) (text : List ℕ) (r s : ReaderAt) (site : Site)
+    → TookNetwork words first middle text r site → (at : TookRecords (meaning_of site) middle last held now r s WriteFault)
     → IfSome first (λ input. PartAnswer words input at.octets)
-parts words None middle last held now text r s replayed net at = tt
-parts words (Some input) middle last held now text r s replayed net at =
+parts words None middle last held now text r s site net at = tt
+parts words (Some input) middle last held now text r s site net at =
     let cut = at.stands in
-    let has = lines_told (λ (ls : List (List ℕ)). DueOf (meaning_of replayed) ls cut.0 cut.1) words (Some input) middle last held now text r s replayed WriteFault net at
-    (due_told (meaning_of replayed) (r.rest ++ at.given) s cut.0 cut.1 cut.3) in
-    (cut.1, cut.2, cut.4, elim has.1 [ inl answer ↦ inl (cut.0, answer_of words input replayed cut.0 cut.1 has.0 answer) | inr first ↦ inr (inr (replayed, has.0, first)) ])
+    let has = lines_told (λ (ls : List (List ℕ)). DueOf (meaning_of site) ls cut.0 cut.1) words (Some input) middle last held now text r s site WriteFault net at
+    (due_told (meaning_of site) (r.rest ++ at.given) s cut.0 cut.1 cut.3) in
+    (cut.1, cut.2, cut.4, elim has.1 [ inl answer ↦ inl (cut.0, answer_of words input site cut.0 cut.1 has.0 answer) | inr first ↦ inr (inr (site, has.0, first)) ])
 
 -- nothing in two parts
 none_of_two : (given left : List ℕ) → [] ≡ given ++ left → given ≡ []
@@ -140,11 +144,11 @@ none_of_two [] left e = refl
 none_of_two (octet ∷ given) left e = absurd (cc)
 
 -- a refused line ends what was taken but for the rest of its piece
-refused_past : (words : List (List ℕ)) (replayed : Replayed) (refusal : Refusal) (network given text octets : List ℕ) (r s : ReaderAt) → IsDivided network text r
-    → Asks words text replayed → RefusedAt (meaning_of replayed).accepts (meaning_of replayed).refuses refusal (r.rest ++ given) s octets
+refused_past : (words : List (List ℕ)) (site : Site) (refusal : Refusal) (network given text octets : List ℕ) (r s : ReaderAt) → IsDivided network text r
+    → Asks words text site → RefusedAt (meaning_of site).accepts (meaning_of site).refuses refusal (r.rest ++ given) s octets
     → (r.ended ≡ true → r.rest ≡ [] → r.rest ++ given ≡ [])
     → (front : List ℕ) × (past : List ℕ) × (network ++ given ≡ front ++ past) × (length past ≤ piece_limit) × EndsRefused words front refusal
-refused_past words replayed refusal network given text octets r s divided asks at empty =
+refused_past words site refusal network given text octets r s divided asks at empty =
     elim divided [
       | inl (front, goes, divides) ↦
           let record_octets : List ℕ = concat at.lines ++ at.line in
@@ -163,9 +167,9 @@ refused_past words replayed refusal network given text octets r s divided asks a
             all,
             at.stands.piece,
             record {
-              replayed = replayed;
+              site = site;
               octets = octets;
-              asks = asks_told words text (network_text (front ++ record_octets)) replayed parts.0 asks;
+              asks = asks_told words text (network_text (front ++ record_octets)) site parts.0 asks;
               refused = record {
                 before = at.lines;
                 line = at.line;
@@ -191,11 +195,11 @@ refused_past words replayed refusal network given text octets r s divided asks a
     ]
 
 -- where a record is refused
-past_told : (run : Run) (middle : Option (List ℕ)) (text : List ℕ) (r s : ReaderAt) (replayed : Replayed) (refusal : Refusal) (given octets : List ℕ)
-    → TookNetwork run.words run.input middle text r replayed → Consumes middle run.left given
-    → RefusedAt (meaning_of replayed).accepts (meaning_of replayed).refuses refusal (r.rest ++ given) s octets
+past_told : (run : Run) (middle : Option (List ℕ)) (text : List ℕ) (r s : ReaderAt) (site : Site) (refusal : Refusal) (given octets : List ℕ)
+    → TookNetwork run.words run.input middle text r site → Consumes middle run.left given
+    → RefusedAt (meaning_of site).accepts (meaning_of site).refuses refusal (r.rest ++ given) s octets
     → IfSome run.input (TakesPiece run refusal)
-past_told run middle text r s replayed refusal given octets net taken at =
+past_told run middle text r s site refusal given octets net taken at =
     go run.input middle run.left net.taken taken net.at_end refl refl
   where
     go : (first mid last : Option (List ℕ)) → Consumes first mid net.network → Consumes mid last given → (r.ended ≡ true → IsAtEnd mid) → first ≡ run.input → last ≡ run.left
@@ -206,7 +210,7 @@ past_told run middle text r s replayed refusal given octets net taken at =
     go (Some input) (Some mid) (Some left) one two rest_at_end is ends =
         let empty : r.ended ≡ true → r.rest ≡ [] → r.rest ++ given ≡ [] =
         λ ended none. ap (λ l. l ++ given) none ∙ none_of_two given left (sym (rest_at_end ended) ∙ two) in
-        let found = refused_past run.words replayed refusal net.network given text octets r s net.divided net.asks at empty in
+        let found = refused_past run.words site refusal net.network given text octets r s net.divided net.asks at empty in
         record {
           front = found.0;
           past = found.1;
@@ -218,15 +222,15 @@ past_told run middle text r s replayed refusal given octets net taken at =
         }
 
 -- where the source failed behind the network text
-cut_told : (words : List (List ℕ)) (network given text octets : List ℕ) (r : ReaderAt) (replayed : Replayed) → IsDivided network text r → Asks words text replayed
-    → (r.ended ≡ true → ⊥) → CutHandled (meaning_of replayed).accepts (r.rest ++ given) octets → CutReplay words (network ++ given) octets
-cut_told words network given text octets r replayed divided asks goes cut =
+cut_told : (words : List (List ℕ)) (network given text octets : List ℕ) (r : ReaderAt) (site : Site) → IsDivided network text r → Asks words text site
+    → (r.ended ≡ true → ⊥) → CutHandled (meaning_of site).accepts (r.rest ++ given) octets → CutReplay words (network ++ given) octets
+cut_told words network given text octets r site divided asks goes cut =
     elim divided [
       | inl (front, all, divides) ↦ record {
         front = front;
         back = r.rest ++ given;
         text = text;
-        replayed = replayed;
+        site = site;
         all = ap (λ l. l ++ given) all ∙ append_assoc front r.rest given;
         divides = divides;
         asks = asks;
@@ -236,32 +240,32 @@ cut_told words network given text octets r replayed divided asks goes cut =
     ]
 
 -- how a run ends that came to the records
-pub records_end : (run : Run) (middle : Option (List ℕ)) (text : List ℕ) (r s : ReaderAt) (replayed : Replayed) (status : Status)
-    → TookNetwork run.words run.input middle text r replayed → TookRecords (meaning_of replayed) middle run.left run.held run.now r s status
+pub records_end : (run : Run) (middle : Option (List ℕ)) (text : List ℕ) (r s : ReaderAt) (site : Site) (status : Status)
+    → TookNetwork run.words run.input middle text r site → TookRecords (meaning_of site) middle run.left run.held run.now r s status
     → (status ≡ Done → IsAtEnd run.left) → (status ≡ ReadFault → r.ended ≡ true → ⊥) → (status ≡ ReadFault → ReadFailed run) → (status ≡ WriteFault → WriteFailed run)
     → (status ≡ Broken → ⊥) → Ends run status
-records_end run middle text r s replayed Done net at done goes reads writes unbroken =
-    (((name_of replayed, net.asks.words_are), at.octets, at.wrote, answered run.words run.input middle run.left run.held run.now text r s replayed Done net at refl), done refl)
-records_end run middle text r s replayed BadTrace net at done goes reads writes unbroken = (
-  ((name_of replayed, net.asks.words_are), at.octets, at.wrote, answered run.words run.input middle run.left run.held run.now text r s replayed BadTrace net at refl),
-  past_told run middle text r s replayed refusals.BadTrace at.given at.octets net at.taken at.stands,
+records_end run middle text r s site Done net at done goes reads writes unbroken =
+    (((net.asks.name, net.asks.words_are), at.octets, at.wrote, answered run.words run.input middle run.left run.held run.now text r s site Done net at refl), done refl)
+records_end run middle text r s site BadTrace net at done goes reads writes unbroken = (
+  ((net.asks.name, net.asks.words_are), at.octets, at.wrote, answered run.words run.input middle run.left run.held run.now text r s site BadTrace net at refl),
+  past_told run middle text r s site refusals.BadTrace at.given at.octets net at.taken at.stands,
 )
-records_end run middle text r s replayed TooLarge net at done goes reads writes unbroken =
-    ((name_of replayed, net.asks.words_are), at.octets, at.wrote, answered run.words run.input middle run.left run.held run.now text r s replayed TooLarge net at refl)
-records_end run middle text r s replayed ReadFault net at done goes reads writes unbroken = (
+records_end run middle text r s site TooLarge net at done goes reads writes unbroken =
+    ((net.asks.name, net.asks.words_are), at.octets, at.wrote, answered run.words run.input middle run.left run.held run.now text r s site TooLarge net at refl)
+records_end run middle text r s site ReadFault net at done goes reads writes unbroken = (
   reads refl,
   net.network ++ at.given,
   at.octets,
   Consumes-trans run.input middle run.left net.network at.given net.taken at.taken,
   at.wrote,
-  ((name_of replayed, net.asks.words_are), inr (cut_told run.words net.network at.given text at.octets r replayed net.divided net.asks (goes refl) at.stands)),
+  ((net.asks.name, net.asks.words_are), inr (cut_told run.words net.network at.given text at.octets r site net.divided net.asks (goes refl) at.stands)),
 )
-records_end run middle text r s replayed WriteFault net at done goes reads writes unbroken =
-    (writes refl, at.octets, at.wrote, parts run.words run.input middle run.left run.held run.now text r s replayed net at)
-records_end run middle text r s replayed OutOfMemory net at done goes reads writes unbroken =
-    (at.octets, at.wrote, firsts run.words run.input middle run.left run.held run.now text r s replayed net at)
-records_end run middle text r s replayed Broken net at done goes reads writes unbroken = unbroken refl
-records_end run middle text r s replayed _ net at done goes reads writes unbroken = absurd at.stands
+records_end run middle text r s site WriteFault net at done goes reads writes unbroken =
+    (writes refl, at.octets, at.wrote, parts run.words run.input middle run.left run.held run.now text r s site net at)
+records_end run middle text r s site OutOfMemory net at done goes reads writes unbroken =
+    (at.octets, at.wrote, firsts run.words run.input middle run.left run.held run.now text r s site net at)
+records_end run middle text r s site Broken net at done goes reads writes unbroken = unbroken refl
+records_end run middle text r s site _ net at done goes reads writes unbroken = absurd at.stands
 
 -- a part of one line
 line_part : (words : List (List ℕ)) (first : Option (List ℕ)) (status : Status) (due : List ℕ) (count : ℕ)
@@ -322,12 +326,28 @@ size_ends run given middle network r command one long at_end how writes =
     let told = told_too_long run.words run.input middle network r command one long at_end in
     line_ends run TooLarge given too_large_line how writes told (λ wrote. (command, too_large_line, wrote, told))
 
+without_memory : (run : Run) (given : Status) → given ≡ OutOfMemory → run.now ≡ run.held → Ends run given
+without_memory run given memory same =
+    subst (Ends run) (sym memory)
+    ([], subst (λ (now : Option (List ℕ)). Appends run.held now []) (sym same) (Appends-nil run.held), nothing_first run.words run.input)
+
 pub bad_network_ends : (run : Run) (given : Status) (middle : Option (List ℕ)) (network text line : List ℕ) (r : ReaderAt) → IsCommand run.words → Consumes run.input middle network
     → IsDivided network text r → length text ≤ network_limit → (r.ended ≡ true → IsAtEnd middle) → IsRefusedBy text line
     → Finishes BadNetwork given run.held run.now line → (given ≡ WriteFault → WriteFailed run) → Ends run given
 bad_network_ends run given middle network text line r command one divided fits at_end bad how writes =
     let told = told_bad_network run.words run.input text line (told_text run.input middle network text r one divided at_end) fits bad command in
     line_ends run BadNetwork given line how writes told (λ wrote. (command, line, wrote, told))
+
+-- the network is refused, or there was no memory for its line
+pub refused_ends : (run : Run) (given : Status) (middle : Option (List ℕ)) (network text : List ℕ) (fault : ConfFault) (r : ReaderAt) → IsCommand run.words → Consumes run.input middle network
+    → IsDivided network text r → length text ≤ network_limit → (r.ended ≡ true → IsAtEnd middle) → IsReadingOf text (Err fault)
+    → RefusesNetwork fault given run.held run.now → (given ≡ WriteFault → WriteFailed run) → Ends run given
+refused_ends run given middle network text (Fault code place) r command one divided fits at_end reads how writes =
+    elim how [
+      | inl (memory, same) ↦ without_memory run given memory same
+      | inr line ↦ bad_network_ends run given middle network text (bad_network_line code place.bytes) r command one divided fits at_end (code, place, reads, refl) line writes
+    ]
+refused_ends run given middle network text (Memory e) r command one divided fits at_end reads how writes = without_memory run given how.0 how.1
 
 pub no_node_ends : (run : Run) (given : Status) (middle : Option (List ℕ)) (network text : List ℕ) (r : ReaderAt) → AsksNone run.words text → Consumes run.input middle network
     → IsDivided network text r → (r.ended ≡ true → IsAtEnd middle) → Finishes Usage given run.held run.now usage_line → (given ≡ WriteFault → WriteFailed run) → Ends run given

@@ -224,3 +224,13 @@ closed M T C rest given written first last held mid now r status taken wrote sta
           at_end_answered M rest given first last held mid now r written text status taken wrote
           (at_end_done M (rest ++ given) r written text stands (means (map content_of (lines_of (rest ++ given))) text (closes (map content_of (lines_of (rest ++ given))) has))) ends
     ]
+
+-- where nothing was handled for want of memory
+pub nothing_handled : (M : Meaning) (octets : List ℕ) (r : ReaderAt) → M.accepts [] [] → After M octets r OutOfMemory []
+nothing_handled M octets r none = record {
+  lines = [];
+  more = octets;
+  all = refl;
+  first = inl tt;
+  handled = record { sizes = tt; count = omega arith; accepted = none };
+}

@@ -1,16 +1,20 @@
 -- What is due for the words of the command line and the octets of the input: one status and the
 -- octets that are written (this project's profile). The first refusal decides: the form of the words,
 -- the size of the network text, the network, the node's name, and then the records, one by one.
-use Rattle.std.specs.Prelude.{◌≡◌, ◌⊎◌, ℕ, ◌<◌, ◌≤◌, List, [], ◌++◌, length, take, codes}
+use Rattle.std.specs.Prelude.{◌≡◌, ◌⊎◌, ℕ, ◌<◌, ◌≤◌, None, Some, Ok, List, [], ◌++◌, length, take, codes}
+use Rattle.wrp_config.specs.declared.network.Network.{Network}
+use Rattle.wrp_config.specs.Names.{node_named}
+use Rattle.wrp_config.specs.Reading.{IsReadingOf}
+use Rattle.wrp_trace.specs.Site.{Site}
 use Rattle.wrp_run.specs.declared.status.Status.{Status}
 use Rattle.wrp_run.specs.declared.status.Status.TheVariants.{Usage, BadNetwork, TooLarge}
 use Rattle.wrp_run.specs.CommandLine.{IsCommandWith}
 use Rattle.wrp_run.specs.Input.{network_text, behind_separator, network_limit, Divides, IsUndivided}
 use Rattle.wrp_run.specs.Lines.{lines_of}
 use Rattle.wrp_run.specs.RecordsAnswer.{RecordsAnswer, AreFirst}
-use Rattle.wrp_run.specs.Replays.{Replayed, name_of, meaning_of, IsNetworkOf, IsAccepted, IsRefusedBy}
+use Rattle.wrp_run.specs.Replays.{meaning_of, IsNetworkOf, IsRefusedBy}
 use Rattle.wrp_run.specs.Stream.{CutHandled}
-use Rattle.wrp_run.specs.Texts.{usage_line, too_large_line}
+use Rattle.wrp_run.specs.Refusals.{usage_line, too_large_line}
 
 -- the words ask for the replay of a node of this name
 abbrev pub IsReplay : List (List ℕ) → List ℕ → Type 0
@@ -20,11 +24,14 @@ IsReplay words name = IsCommandWith (codes "replay") (codes "--node") words name
 abbrev pub IsCommand : List (List ℕ) → Type 0
 IsCommand words = (name : List ℕ) × IsReplay words name
 
--- the words ask for the replay of this node, whose network this text describes
-pub record Asks (words : List (List ℕ)) (text : List ℕ) (replayed : Replayed) : Type 0 where
-  pub words_are : IsReplay words (name_of replayed)
+-- the words ask for the replay of this node: it is the first of this name in the network that this text
+-- describes
+pub record Asks (words : List (List ℕ)) (text : List ℕ) (site : Site) : Type 0 where
+  pub name : List ℕ
+  pub words_are : IsReplay words name
   pub within : length text ≤ network_limit
-  pub network : IsNetworkOf text replayed
+  pub network : IsNetworkOf text site
+  pub node : node_named site.cfg name ≡ Some site.node
 
 -- the words ask for the replay of a node, and the network that this text describes has none of that
 -- name
@@ -32,14 +39,15 @@ pub record AsksNone (words : List (List ℕ)) (text : List ℕ) : Type 0 where
   pub name : List ℕ
   pub words_are : IsReplay words name
   pub within : length text ≤ network_limit
-  pub accepted : IsAccepted text
-  pub none : (replayed : Replayed) → IsNetworkOf text replayed → name ≡ name_of replayed → ⊥
+  pub net : Network
+  pub reads : IsReadingOf text (Ok net)
+  pub none : node_named net.cfg name ≡ None
 
 -- what is due where the words ask for the replay of a node, and it is found
 abbrev pub ReplayAnswer : List (List ℕ) → List ℕ → Status → List ℕ → Type 0
 ReplayAnswer words input status octets =
-    (replayed : Replayed) × Asks words (network_text input) replayed
-    × RecordsAnswer (meaning_of replayed) (behind_separator (lines_of input)) status octets
+    (site : Site) × Asks words (network_text input) site
+    × RecordsAnswer (meaning_of site) (behind_separator (lines_of input)) status octets
 
 -- what is due for words and an input
 abbrev pub Answer : List (List ℕ) → List ℕ → Status → List ℕ → Type 0
@@ -57,8 +65,8 @@ Answer words input status octets = ReplayAnswer words input status octets
 abbrev pub FirstAnswer : List (List ℕ) → List ℕ → List ℕ → Type 0
 FirstAnswer words input octets =
     (octets ≡ [])
-    ⊎ ((replayed : Replayed) × Asks words (network_text input) replayed
-    × AreFirst (meaning_of replayed) (behind_separator (lines_of input)) octets)
+    ⊎ ((site : Site) × Asks words (network_text input) site
+    × AreFirst (meaning_of site) (behind_separator (lines_of input)) octets)
 
 -- the first octets of an answer, or of the lines of the first records
 abbrev pub PartAnswer : List (List ℕ) → List ℕ → List ℕ → Type 0
@@ -71,11 +79,11 @@ pub record CutReplay (words : List (List ℕ)) (taken octets : List ℕ) : Type 
   pub front : List ℕ
   pub back : List ℕ
   pub text : List ℕ
-  pub replayed : Replayed
+  pub site : Site
   pub all : taken ≡ front ++ back
   pub divides : Divides front text
-  pub asks : Asks words text replayed
-  pub handled : CutHandled (meaning_of replayed).accepts back octets
+  pub asks : Asks words text site
+  pub handled : CutHandled (meaning_of site).accepts back octets
 
 -- what stands where the source failed behind these octets: no refusal stands in them
 abbrev pub CutAnswer : List (List ℕ) → List ℕ → List ℕ → Type 0

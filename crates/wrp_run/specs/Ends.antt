@@ -11,8 +11,9 @@ use Rattle.wrp_run.specs.Input.{network_text, behind_separator}
 use Rattle.wrp_run.specs.Lines.{lines_of}
 use Rattle.wrp_run.specs.Reader.{piece_limit}
 use Rattle.wrp_run.specs.RecordsAnswer.{IsRefused}
-use Rattle.wrp_run.specs.Replays.{Replayed, meaning_of}
-use Rattle.wrp_run.specs.Texts.{usage_line}
+use Rattle.wrp_run.specs.Refusals.{usage_line}
+use Rattle.wrp_run.specs.Replays.{meaning_of}
+use Rattle.wrp_trace.specs.Site.{Site}
 
 -- what a run was given and what it left: the words; what the source has, before and after; what the
 -- sink holds, before and after; and how often each of both had failed, before and after. What a source
@@ -52,10 +53,10 @@ Answered run status =
 
 -- the line of a refused record ends these octets
 pub record EndsRefused (words : List (List ℕ)) (front : List ℕ) (refusal : Refusal) : Type 0 where
-  pub replayed : Replayed
+  pub site : Site
   pub octets : List ℕ
-  pub asks : Asks words (network_text front) replayed
-  pub refused : IsRefused (meaning_of replayed) refusal (behind_separator (lines_of front)) octets
+  pub asks : Asks words (network_text front) site
+  pub refused : IsRefused (meaning_of site) refusal (behind_separator (lines_of front)) octets
   pub last : refused.behind ≡ []
 
 -- of an input the octets up to the end of a refused record's line were taken, and at most one piece

@@ -8,7 +8,11 @@ use Rattle.wrp_run.specs.declared.engine.NextRecord.{NextRecord}
 use Rattle.wrp_run.specs.declared.engine.NextRecord.TheVariants.{End, Failed, Unwritten}
 use Rattle.wrp_run.specs.declared.machine.Refusal.TheVariants as refusals
 use Rattle.wrp_run.specs.declared.status.Status.{Status}
-use Rattle.wrp_run.specs.declared.status.Status.TheVariants.{BadTrace, Broken, WriteFault, TooLarge, OutOfMemory}
+use Rattle.wrp_run.specs.declared.status.Status.TheVariants.{BadNetwork, BadTrace, Broken, WriteFault, TooLarge, OutOfMemory}
+use Rattle.wrp_base.specs.declared.fault.ConfFault.{ConfFault}
+use Rattle.wrp_base.specs.declared.fault.ConfFault.TheVariants as ConfFaults
+use Rattle.wrp_base.specs.declared.fault.ConfFault.TheVariants.{Fault}
+use Rattle.wrp_run.specs.Refusals.{bad_network_line}
 use Rattle.wrp_run.specs.Stream.{Accepting, Refusing, large_line, line_limit, number_limit}
 use Rattle.wrp_run.specs.Taking.{AppendsPart}
 
@@ -59,3 +63,15 @@ Finishes due given before now text =
 abbrev pub MostAt : ℕ → ℕ → Type 0
 MostAt number most =
     ((number + 1 ≡ number_limit) × (most ≡ 0)) ⊎ ((number + 1 < number_limit) × (most ≡ line_limit))
+
+-- the line of a network text that is refused for a code at a place is written and BadNetwork answered,
+-- or the sink failed; or there is no memory for the line
+abbrev pub RefusesAt : ℕ → List ℕ → Status → Option (List ℕ) → Option (List ℕ) → Type 0
+RefusesAt code place given before now =
+    ((given ≡ OutOfMemory) × (now ≡ before))
+    ⊎ Finishes BadNetwork given before now (bad_network_line code place)
+
+-- the same for a fault, which may be want of memory
+abbrev pub RefusesNetwork : ConfFault → Status → Option (List ℕ) → Option (List ℕ) → Type 0
+RefusesNetwork (Fault code place) given before now = RefusesAt code place.bytes given before now
+RefusesNetwork (ConfFaults.Memory e) given before now = (given ≡ OutOfMemory) × (now ≡ before)

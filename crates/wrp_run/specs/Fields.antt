@@ -1,5 +1,5 @@
--- Fields of a line: the numbers that they write (this project's profile).
-use Rattle.std.specs.Prelude.{ℕ, ◌+◌, ◌-◌, ◌*◌, ◌==◌, ◌&&◌, nat_le, Bool, if◌then◌else◌, Option, None, Some, List, [], ◌∷◌, length}
+-- Seeds: the numbers that the words of the command line may write (this project's profile).
+use Rattle.std.specs.Prelude.{ℕ, ◌+◌, ◌-◌, ◌*◌, ◌&&◌, nat_le, Bool, if◌then◌else◌, Option, None, Some, List, length}
 use Rattle.std.specs.List.{fold, list_all}
 use Rattle.std.specs.Char.{is_ascii_digit}
 
@@ -16,12 +16,6 @@ is_number digits =
 abbrev pub digits_up_to : ℕ → List ℕ → Option ℕ
 digits_up_to most digits =
     if is_number digits && nat_le (value_of digits) most then Some (value_of digits) else None
-
--- the number from 0 to most that a text writes: digits, or a minus sign and digits that are worth 0
-abbrev pub natural_up_to : ℕ → List ℕ → Option ℕ
-natural_up_to most [] = None
-natural_up_to most (octet ∷ octets) =
-    if octet == 45 then digits_up_to 0 octets else digits_up_to most (octet ∷ octets)
 
 -- the seed that a text writes: 1 to 20 digits, whose number is at most the greatest u64
 abbrev pub seed_of : List ℕ → Option ℕ

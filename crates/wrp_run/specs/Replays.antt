@@ -1,56 +1,67 @@
--- The replay of a node of the two-node network: which texts describe the network, which lines are
--- records of the node, and what they write (this project's profile).
-use Rattle.std.specs.Prelude.{◌≡◌, ◌≢◌, ℕ, ◌+◌, List, length, reverse}
-use Rattle.wrp_data.specs.Counters.{nonzero_counts}
+-- The replay of a node of a network: which texts describe a network, which lines are inputs of the
+-- node, and what they write (this project's profile).
+use Rattle.std.specs.Prelude.{◌≡◌, ℕ, ◌+◌, Ok, Err, List, length, map, reverse}
+use Rattle.arrayvec.specs.ArrayString.{ArrayString}
+use Rattle.wrp_base.specs.declared.fault.ConfFault.TheVariants.{Fault}
+use Rattle.wrp_base.specs.declared.fault.TraceFault.{TraceFault}
+use Rattle.wrp_config.specs.declared.network.Network.{Network}
+use Rattle.wrp_config.specs.Reading.{IsReadingOf}
+use Rattle.wrp_config.specs.Same.{bare_cfg}
+use Rattle.wrp_node.specs.NodeAt.{Taken}
+use Rattle.wrp_node.specs.NodeRun.{node_after}
+use Rattle.wrp_node.specs.OneRun.{IsRun}
+use Rattle.wrp_trace.specs.Inputs.{read_of}
+use Rattle.wrp_trace.specs.Site.{Site}
 use Rattle.wrp_run.specs.declared.machine.Refusal.{Refusal}
 use Rattle.wrp_run.specs.declared.machine.Refusal.TheVariants.{BadTrace, Broken}
-use Rattle.wrp_run.specs.declared.nodes.Node.{Node}
-use Rattle.wrp_run.specs.declared.records.Record.{Record}
-use Rattle.wrp_run.specs.History.{counters_after}
+use Rattle.wrp_run.specs.DownLaw.{law_at, fixed_at}
 use Rattle.wrp_run.specs.Meaning.{Meaning}
-use Rattle.wrp_run.specs.Nodes as nodes
-use Rattle.wrp_run.specs.Records.{IsNoRecord, AreRecords}
-use Rattle.wrp_run.specs.Texts.{lines_of_records, count_lines, bad_network_line, bad_trace_line}
-use Rattle.wrp_run.specs.TwoNodes.{two_nodes}
+use Rattle.wrp_run.specs.NodeText.{Writes, node_counts}
+use Rattle.wrp_run.specs.Refusals.{bad_network_line, bad_trace_line}
 
--- a node of a network
-abbrev pub Replayed : Type 0
-Replayed = Node
-
--- its name
-abbrev pub name_of : Replayed → List ℕ
-name_of node = nodes.name_of node
+-- the text describes the network that has this node; its names are taken without what stands in their
+-- unused room
+pub record IsNetworkOf (text : List ℕ) (site : Site) : Type 0 where
+  pub net : Network
+  pub reads : IsReadingOf text (Ok net)
+  pub cfg : site.cfg ≡ bare_cfg net.cfg
+  pub db : site.db ≡ net.db
 
 -- the text describes a network
 abbrev pub IsAccepted : List ℕ → Type 0
-IsAccepted text = text ≡ two_nodes
-
--- the text describes the network of this node
-abbrev pub IsNetworkOf : List ℕ → Replayed → Type 0
-IsNetworkOf text node = IsAccepted text
+IsAccepted text = (net : Network) × IsReadingOf text (Ok net)
 
 -- the text describes no network, as this line tells
 abbrev pub IsRefusedBy : List ℕ → List ℕ → Type 0
-IsRefusedBy text line = (text ≢ two_nodes) × (line ≡ bad_network_line)
+IsRefusedBy text line =
+    (code : ℕ) × (place : ArrayString) × IsReadingOf text (Err (Fault code place))
+    × (line ≡ bad_network_line code place.bytes)
 
--- the lines are records of the node, and this is what they write
-abbrev pub Accepts : Node → List (List ℕ) → List ℕ → Type 0
-Accepts node lines text =
-    (records : List Record) × AreRecords node lines records × (text ≡ lines_of_records node records)
+-- each line says its input to the node; the inputs stand newest first
+abbrev pub AreInputs : Site → List (List ℕ) → List Taken → Type 0
+AreInputs site lines inputs =
+    map (read_of site) lines ≡ map (λ (t : Taken). Ok t.input) (reverse inputs)
 
--- behind some lines a line is no record of the node
-abbrev pub Refuses : Node → List (List ℕ) → List ℕ → Refusal → List ℕ → Type 0
-Refuses node lines line BadTrace last =
-    IsNoRecord node line × (last ≡ bad_trace_line (length lines + 1))
-Refuses node lines line Broken last = ⊥
+-- the lines are inputs of the node, and this is what its run writes
+abbrev pub Accepts : Site → List (List ℕ) → List ℕ → Type 0
+Accepts site lines text =
+    (inputs : List Taken) × AreInputs site lines inputs × Writes site inputs text
+
+-- behind some lines a line is no input of the node
+abbrev pub Refuses : Site → List (List ℕ) → List ℕ → Refusal → List ℕ → Type 0
+Refuses site lines line BadTrace last =
+    (fault : TraceFault) × (read_of site line ≡ Err fault)
+    × (last ≡ bad_trace_line (length lines + 1) fault)
+Refuses site lines line Broken last = ⊥
 
 -- at the end the counters that are not 0 are written
-abbrev pub Closes : Node → List (List ℕ) → List ℕ → Type 0
-Closes node lines last =
-    (records : List Record) × AreRecords node lines records
-    × (last ≡ count_lines node (nonzero_counts (counters_after node (reverse records))))
+abbrev pub Closes : Site → List (List ℕ) → List ℕ → Type 0
+Closes site lines last =
+    (inputs : List Taken) × AreInputs site lines inputs
+    × IsRun (law_at site) (fixed_at site) inputs
+    × (last ≡ node_counts site (node_after (fixed_at site) inputs))
 
 -- what the record lines mean
-abbrev pub meaning_of : Replayed → Meaning
-meaning_of node =
-    record { accepts = Accepts node; refuses = Refuses node; closes = Closes node }
+abbrev pub meaning_of : Site → Meaning
+meaning_of site =
+    record { accepts = Accepts site; refuses = Refuses site; closes = Closes site }

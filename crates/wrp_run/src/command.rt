@@ -1,44 +1,21 @@
-//! The top call: the order in which a run is refused, and the replay of a node.
-ghost use Rattle.std.specs.Prelude.{◌≡◌, ◌⊎◌, ◌++◌, ℕ, List, true, IfOk, IfSome, MatchOption};
-ghost use Rattle.std.specs.Io.KnownBytes.{Appends, Consumes, IsAtEnd};
+//! The top call: which command the words name.
+ghost use Rattle.std.specs.Prelude.{◌≡◌, ℕ, List, true, IfOk, IfSome, MatchOption};
+ghost use Rattle.std.specs.Io.KnownBytes.{Appends};
 ghost use Rattle.wrp_io.specs.Faults.{Rose};
 ghost use Rattle.wrp_run.specs.declared.status.Status.{Status};
-ghost use Rattle.wrp_run.specs.After.{After, Closing};
 ghost use Rattle.wrp_run.specs.Answer.{Answer, IsCommand, IsReplay};
 ghost use Rattle.wrp_run.specs.Ends.{Ends};
-ghost use Rattle.wrp_run.specs.Engine.{Finishes};
-ghost use Rattle.wrp_run.specs.Replays.{Closes, meaning_of};
-ghost use Rattle.wrp_run.specs.StandsFor.{HasTaken};
 ghost use Rattle.wrp_run.specs.Statuses.{is_answer};
 ghost use Rattle.wrp_run.specs.Words.{texts_of};
 
-use crate::engine::handle_records;
-use crate::network::is_two_nodes;
-use crate::network_text::{End, take_network};
-use crate::nodes::{Node, node_named};
+use crate::answering::answer;
 use crate::parse::{Command, read_words};
-use crate::reader::Reader;
-use crate::replay::ReplayedNode;
+use crate::refusals::USAGE_LINE;
+use crate::replaying::replay_named;
 use crate::status::Status;
-use crate::text::{BAD_NETWORK_LINE, TOO_LARGE_LINE, USAGE_LINE};
-use crate::writing::write_all;
 use std::alloc::{AllocError, Global};
 use wrp_io::{Link, Sink, Source};
-
-// Writes a text, and answers the status that it goes with, or WriteFault.
-fn answer<K: Sink>(sink: &mut K, status: Status, text: &[u8]) -> Status
-    requires { is_answer status ≡ true }
-    ensures how { Finishes status result (K.held sink.old) (K.held sink.new) text.now }
-    ensures rose { result ≡ Status.WriteFault → Rose (K.faults sink.old) (K.faults sink.new) }
-    ensures kept { (result ≡ Status.WriteFault → ⊥) → K.faults sink.new ≡ K.faults sink.old }
-    ensures either { (result ≡ status) ⊎ (result ≡ Status.WriteFault) }
-{
-    if write_all(sink, text) {
-        status
-    } else {
-        Status::WriteFault
-    }
-}
+use wrp_node::one_run;
 
 // The name of the node whose replay the words ask for, or None where they are no command that is
 // built.
@@ -55,96 +32,6 @@ fn replayed<'a>(alloc: Global, words: &'a [&'a str]) -> Result<Option<&'a str>, 
         Some(Command::Loop(_)) => Ok(None),
         None => Ok(None),
     }
-}
-
-// Writes what closes the records of a node.
-fn close<K: Sink>(alloc: Global, replayed: &ReplayedNode, sink: &mut K) -> Status
-    ensures stands { Closing (HasTaken replayed.now) (Closes replayed.now.node) result
-        (K.held sink.old) (K.held sink.new) }
-    ensures rose { result ≡ Status.WriteFault → Rose (K.faults sink.old) (K.faults sink.new) }
-    ensures kept { (result ≡ Status.WriteFault → ⊥) → K.faults sink.new ≡ K.faults sink.old }
-{
-    let mut text = Vec::new(alloc);
-    match replayed.close(alloc, &mut text) {
-        Ok(()) => answer(sink, Status::Done, &text),
-        Err(_) => Status::OutOfMemory,
-    }
-}
-
-// Replays the records that a reader gives.
-fn replay<S: Source, K: Sink>(
-    alloc: Global,
-    node: Node,
-    reader: &mut Reader,
-    source: &mut S,
-    sink: &mut K,
-) -> Status
-    requires at_end { reader.old.ended ≡ true → IsAtEnd (S.left source.old) }
-    ensures stands { (given : List ℕ) × (octets : List ℕ)
-        × Consumes (S.left source.old) (S.left source.new) given
-        × Appends (K.held sink.old) (K.held sink.new) octets
-        × After (meaning_of node) (reader.old.rest ++ given) reader.new result octets }
-    ensures at_end { reader.new.ended ≡ true → IsAtEnd (S.left source.new) }
-    ensures done { result ≡ Status.Done → IsAtEnd (S.left source.new) }
-    ensures goes { result ≡ Status.ReadFault → reader.old.ended ≡ true → ⊥ }
-    ensures read_fault { result ≡ Status.ReadFault
-        → Rose (S.faults source.old) (S.faults source.new) }
-    ensures read_kept { (result ≡ Status.ReadFault → ⊥)
-        → S.faults source.new ≡ S.faults source.old }
-    ensures write_fault { result ≡ Status.WriteFault
-        → Rose (K.faults sink.old) (K.faults sink.new) }
-    ensures write_kept { (result ≡ Status.WriteFault → ⊥)
-        → K.faults sink.new ≡ K.faults sink.old }
-    ensures unbroken { result ≡ Status.Broken → ⊥ }
-{
-    let mut replayed = ReplayedNode::new(node);
-    match handle_records(alloc, &mut replayed, reader, source, sink) {
-        Status::Done => close(alloc, &replayed, sink),
-        status => status,
-    }
-}
-
-// Replays the node of this name.
-fn replay_named<S: Source, K: Sink>(
-    alloc: Global,
-    words: &[&str],
-    name: &str,
-    source: &mut S,
-    sink: &mut K,
-) -> Status
-    requires { IsReplay (texts_of words.now) name.now }
-    ensures ends { Ends (record {
-      words = texts_of words.now;
-      input = S.left source.old;
-      left = S.left source.new;
-      held = K.held sink.old;
-      now = K.held sink.new;
-      read_faults = S.faults source.old;
-      read_faults_now = S.faults source.new;
-      write_faults = K.faults sink.old;
-      write_faults_now = K.faults sink.new;
-    }) result }
-    ensures read_kept { (result ≡ Status.ReadFault → ⊥)
-        → S.faults source.new ≡ S.faults source.old }
-    ensures write_kept { (result ≡ Status.WriteFault → ⊥)
-        → K.faults sink.new ≡ K.faults sink.old }
-{
-    let _words = words;
-    let mut reader = Reader::new();
-    let network = take_network(alloc, &mut reader, source);
-    match network.end {
-        End::TooLong => return answer(sink, Status::TooLarge, TOO_LARGE_LINE.as_bytes()),
-        End::Failed => return Status::ReadFault,
-        End::Memory => return Status::OutOfMemory,
-        End::Whole => {}
-    }
-    if !is_two_nodes(&network.text) {
-        return answer(sink, Status::BadNetwork, BAD_NETWORK_LINE.as_bytes());
-    }
-    let Some(node) = node_named(name) else {
-        return answer(sink, Status::Usage, USAGE_LINE.as_bytes());
-    };
-    replay(alloc, node, &mut reader, source, sink)
 }
 
 /// Runs the command that the words name: reads the source as a stream, writes what is due to the sink
@@ -189,6 +76,7 @@ pub fn run<S: Source, K: Sink, N: Link>(
     ensures unread { (IsCommand (texts_of words.now) → ⊥) → source.new ≡ source.old }
     ensures link { link.new ≡ link.old }
 {
+    one_run();
     match replayed(alloc, words) {
         Ok(Some(name)) => replay_named(alloc, words, name, source, sink),
         Ok(None) => answer(sink, Status::Usage, USAGE_LINE.as_bytes()),

@@ -196,7 +196,9 @@ fn handle_line<M: Machine>(
     text: &mut Vec<u8>,
     waiting: &mut Vec<u8>,
 ) -> Option<Ended>
+    requires ready { M.is_ready machine.old }
     requires room { M.count machine.old + 1 < 2 ^ 32 }
+    ensures ready { M.is_ready machine.new }
     ensures count { M.count machine.new ≤ M.count machine.old + 1 }
     ensures setting { M.setting machine.new ≡ M.setting machine.old }
     ensures stands { (lines : List (List ℕ)) (before : List ℕ)
@@ -246,8 +248,10 @@ pub fn handle_records<M: Machine, S: Source, K: Sink>(
 ) -> Status
     requires fresh { M.has_taken machine.old [] × M.accepts (M.setting machine.old) [] [] }
     requires none { M.count machine.old ≡ 0 }
+    requires ready { M.is_ready machine.old }
     requires at_end { reader.old.ended ≡ true → IsAtEnd (S.left source.old) }
     ensures setting { M.setting machine.new ≡ M.setting machine.old }
+    ensures ready { M.is_ready machine.new }
     ensures stands { Handling
         (M.accepts (M.setting machine.old)) (M.refuses (M.setting machine.old))
         (M.has_taken machine.new) reader.old.rest reader.new

@@ -1,36 +1,14 @@
-//! The fields of a line: its parts between commas, and the numbers that they write.
-ghost use Rattle.std.specs.Prelude.{◌≡◌, ◌<◌, ◌-◌, ◌^◌, min, IfOk};
+//! Seeds: the numbers that the words of the command line may write.
+ghost use Rattle.std.specs.Prelude.{◌≡◌, ◌<◌, ◌-◌, ◌^◌, min};
 ghost use Rattle.std.specs.List.{list_all};
 ghost use Rattle.std.specs.Char.{is_ascii_digit};
-ghost use Rattle.wrp_base.specs.Lines.{parts_of};
-ghost use Rattle.wrp_run.specs.Fields.{natural_up_to, digits_up_to, seed_of, is_number, value_of};
-ghost use Rattle.wrp_run.specs.Words.{texts_of};
-
-use std::alloc::{AllocError, Global};
+ghost use Rattle.wrp_run.specs.Fields.{digits_up_to, seed_of, is_number, value_of};
 
 // The most digits that a number may have.
 const MOST_DIGITS: usize = 39;
 
 // The most digits that a seed may have.
 const SEED_DIGITS: usize = 20;
-
-/// The parts of a line between its commas.
-pub fn parts(alloc: Global, line: &[u8]) -> Result<Vec<&[u8]>, AllocError>
-    ensures { IfOk result (λ parts. texts_of parts.items ≡ parts_of line.now) }
-{
-    line.split(|octet| *octet == b',').collect(alloc)
-}
-
-/// The number that a text writes: an optional `-`, then 1 to 39 digits. None where it is no number,
-/// is below 0, or is above `most`.
-pub fn natural(text: &[u8], most: u64) -> Option<u64>
-    ensures { result ≡ natural_up_to most text.now }
-{
-    match text {
-        [b'-', digits @ ..] => digits_to(digits, 0),
-        digits => digits_to(digits, most),
-    }
-}
 
 /// The seed that a text writes: 1 to 20 digits. None where it is no number, or is above the greatest
 /// u64.

@@ -3,28 +3,27 @@
 //! in both directions. Words, inputs, lines and statuses are this project's profile.
 #![tactic(auto)]
 
+mod answering;
 mod command;
 mod command_line;
+mod counting;
 mod engine;
 mod feed;
 mod fields;
-mod frames;
-mod laws;
+mod law;
 mod line;
 mod machine;
-mod network;
 mod network_text;
-mod nodes;
 mod parse;
 mod reader;
-mod records;
+mod refusals;
 mod replay;
+mod replayed;
+mod replaying;
 mod status;
-mod text;
 mod writing;
 
 pub use command::run;
-pub use laws::drop_changes_only_its_counter;
 pub use status::Status;
 
 #[cfg(test)]

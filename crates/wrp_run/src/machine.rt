@@ -35,6 +35,9 @@ pub trait Machine {
     /// How many records were taken, at most.
     ghost count: { Self → ℕ };
 
+    /// The machine can take a line.
+    ghost is_ready: { Self → Type 0 };
+
     /// The machine stands for the lines that say this.
     ghost has_taken: { Self → List (List ℕ) → Type 0 };
 
@@ -46,8 +49,10 @@ pub trait Machine {
 
     /// Takes what a line says, the record of this number, and appends what it writes to `text`.
     fn take(&mut self, alloc: Global, line: &[u8], number: u32, text: &mut Vec<u8>) -> Taken
+        requires ready { is_ready self.old }
         requires none { text.old.items ≡ [] }
         requires room { count self.old + 1 < 2 ^ 32 }
+        ensures ready { is_ready self.new }
         ensures count { count self.new ≤ count self.old + 1 }
         ensures setting { setting self.new ≡ setting self.old }
         ensures accepted { (lines : List (List ℕ)) (before : List ℕ) → result ≡ Taken.Accepted

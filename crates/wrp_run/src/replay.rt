@@ -1,182 +1,84 @@
 //! The replay of one node's recorded inputs.
-ghost use Rattle.std.specs.Prelude.{◌≡◌, ◌<◌, ◌≤◌, ◌+◌, ◌%◌, ◌++◌, ◌^◌, ℕ, List, [], ◌∷◌, map, length, IfOk};
-ghost use Rattle.wrp_run.specs.declared.records.Record.{Record};
-ghost use Rattle.wrp_base.specs.Calls.{Adds};
-ghost use Rattle.wrp_link.specs.Table.{word_of};
-ghost use Rattle.wrp_run.specs.History.{input_by, after_input, sends_for, sends_by, used_by, counts_by, early_reason as early_reason_of, late_reason as late_reason_of};
-ghost use Rattle.wrp_run.specs.Texts.{record_lines_of};
+ghost use Rattle.std.specs.Prelude.{pos, ◌≡◌, ◌<◌, ◌≤◌, ◌+◌, ◌++◌, ◌∷◌, [], ◌^◌, ℕ, List, None, IfOk, length};
+ghost use Rattle.std.specs.List.{flat_map};
+ghost use Rattle.wrp_base.specs.Network.{node_count};
+ghost use Rattle.wrp_bounds.specs.Bounds.{path_of};
+ghost use Rattle.wrp_config.specs.Accepted.{IsAccepted};
+ghost use Rattle.wrp_lines.specs.Lines.{output_line_of};
+ghost use Rattle.wrp_lines.specs.Words.{name_at};
+ghost use Rattle.wrp_node.specs.NodeAt.{Taken as TakenInput};
+ghost use Rattle.wrp_node.specs.StandsFor.{StandsFor};
+ghost use Rattle.wrp_trace.specs.InputAt.{IsInputAt};
+ghost use Rattle.wrp_trace.specs.Site.{site_of};
 ghost use Rattle.wrp_run.specs.declared.machine.Refusal.{Refusal};
 ghost use Rattle.wrp_run.specs.declared.machine.Taken.{Taken};
+ghost use Rattle.wrp_run.specs.DownLaw.{IsLawAt, fixed_at};
 ghost use Rattle.wrp_run.specs.Replays.{Accepts, Refuses, Closes};
-ghost use Rattle.wrp_run.specs.StandsFor.{StandsFor, HasTaken};
+ghost use Rattle.wrp_run.specs.StandsFor.{HasTaken, IsReady, Tells, TookInput, site_at};
 
-use crate::frames::{drop_reason, is_useful, link_input, reason_of};
+use crate::counting::append_counts;
 use crate::machine::{Machine, Refusal, Taken};
-use crate::nodes::Node;
-use crate::records::{Record, read_record};
-use crate::text::{append_bad_trace, append_change, append_counts, append_sends};
-use arrayvec::ArrayVec;
+use crate::refusals::append_bad_trace;
+use crate::replayed::Replayed;
 use std::alloc::{AllocError, Global};
-use wrp_base::WrMsg;
-use wrp_data::{Counters, Reason};
-use wrp_link::{Link, LinkIn, LinkSet};
+use wrp_base::{Tau, TraceFault};
+use wrp_bounds::path;
+use wrp_law::DelayLaw;
+use wrp_lines::append_line;
+use wrp_node::{Input, Node, Output, node_set, one_run};
+use wrp_trace::read_input;
 
-// The counts of a link where the network text gives none.
-const DEFAULT_SET: LinkSet = LinkSet {
-    quiet: 24,
-    wait: 30,
-    lock_wait: 1500,
-    retries: 3,
-    holdoff: 300,
-    wr: true,
-};
-
-// The messages that one record makes the link send.
-type Sends = ArrayVec<WrMsg, 2>;
-
-// What the link answered: what it sends, and whether it used the input.
+/// A node as far as it is replayed: the node, and what its lines say of it.
 #[derive(Drop)]
-struct Stepped {
-    sends: Sends,
-    used: bool,
+pub struct ReplayedNode<'a, F: Fn(i64) -> i64> {
+    replayed: Replayed<'a>,
+    name: &'a str,
+    bound: Tau,
+    node: Node<F>,
 }
 
-/// The node as far as it is replayed: the link of its port 1, its tick count, the sequenceId of its
-/// next Signaling, and its counters of dropped frames.
-#[derive(Drop)]
-pub struct ReplayedNode {
-    node: Node,
-    link: Link,
-    ticks: u64,
-    next: u16,
-    counters: Counters,
-}
-
-impl ReplayedNode {
-    /// A node before its first record.
-    pub fn new(node: Node) -> ReplayedNode
-        ensures stands { StandsFor result [] }
-        ensures node { result.node ≡ node }
-        ensures ticks { result.ticks ≡ 0 }
+impl<'a, F: Fn(i64) -> i64> ReplayedNode<'a, F> {
+    /// A node before its first record, with the law of the link above it.
+    pub fn new(
+        alloc: Global,
+        replayed: Replayed<'a>,
+        law: Option<DelayLaw<F>>,
+    ) -> Result<ReplayedNode<'a, F>, AllocError>
+        requires accepted { IsAccepted replayed.net.now.cfg replayed.net.now.db }
+        requires node { replayed.node < node_count replayed.net.now.cfg }
+        requires law { IsLawAt F.pre F.post (site_at replayed) law }
+        ensures ready { IfOk result (IsReady F.pre F.post) }
+        ensures taken { IfOk result (λ held. HasTaken F.post held []) }
+        ensures same { IfOk result (λ held. held.replayed ≡ replayed.entry) }
+        ensures ticks { IfOk result (λ held. held.node.parts.ticks ≡ 0) }
     {
-        ReplayedNode {
+        let cfg = &replayed.net.cfg;
+        let node = Node::new(alloc, node_set(cfg, replayed.node), law)?;
+        Ok(ReplayedNode {
+            replayed,
+            name: name_of(replayed),
+            bound: bound_of(replayed),
             node,
-            link: Link::new(node.role(), DEFAULT_SET),
-            ticks: 0,
-            next: 0,
-            counters: Counters::new(),
-        }
+        })
     }
 
-    // Starts anew, but for the counters.
-    fn reset(&mut self)
-        ensures stands { Adds StandsFor self.old self.new Record.Reset }
-        ensures node { self.new.node ≡ self.old.node }
-        ensures ticks { self.new.ticks ≡ 0 }
+    // Takes an input, and appends the lines that it writes.
+    fn write(&mut self, alloc: Global, input: &Input, text: &mut Vec<u8>) -> Result<(), AllocError>
+        requires ready { IsReady F.pre F.post self.old }
+        requires input { IsInputAt (site_of self.old.replayed.net.now self.old.replayed.node)
+            input.now }
+        requires room { self.old.node.parts.ticks + 1 < 2 ^ 32 }
+        requires none { text.old.items ≡ [] }
+        ensures ready { IsReady F.pre F.post self.new }
+        ensures same { self.new.replayed ≡ self.old.replayed }
+        ensures count { self.new.node.parts.ticks ≤ self.old.node.parts.ticks + 1 }
+        ensures took { IfOk result (λ _. (inputs : List TakenInput)
+            → StandsFor F.post (fixed_at (site_at self.old.replayed)) self.old.node inputs
+            → TookInput F.post self.old self.new.node input.now inputs text.new.items) }
     {
-        self.link = Link::new(self.node.role(), DEFAULT_SET);
-        self.ticks = 0;
-        self.next = 0;
-    }
-
-    // What a record is to the link.
-    fn input(&self, found: Record) -> Option<LinkIn>
-        ensures { result ≡ input_by self.now.node self.now.link found }
-    {
-        match found {
-            Record::Reset => None,
-            Record::Tick => Some(LinkIn::Tick(true)),
-            Record::Up => Some(LinkIn::CarrierUp(Some(self.node.fitted()))),
-            Record::Down => Some(LinkIn::CarrierDown),
-            Record::Frame(Err(_)) => None,
-            Record::Frame(Ok(message)) => link_input(self.node, self.link.word(), &message),
-        }
-    }
-
-    // The reason for which a record's frame is dropped before the link knows of it.
-    fn early_reason(&self, found: Record) -> Option<Reason>
-        ensures { result ≡ early_reason_of self.now.node (word_of self.now.link) found }
-    {
-        match found {
-            Record::Frame(Err(fault)) => Some(reason_of(fault)),
-            Record::Frame(Ok(message)) => drop_reason(self.node, self.link.word(), &message),
-            _ => None,
-        }
-    }
-
-    // Gives the link an input, if there is one.
-    fn step(&mut self, input: Option<LinkIn>) -> Stepped
-        ensures sends { result.sends.items ≡ sends_for self.old.link input }
-        ensures used { result.used ≡ used_by self.old.link input }
-        ensures link { self.new.link ≡ after_input self.old.link input }
-        ensures next { self.new.next
-            ≡ (self.old.next + length (sends_for self.old.link input)) % 65536 }
-        ensures rest { (self.new.node ≡ self.old.node) × (self.new.ticks ≡ self.old.ticks)
-            × (self.new.counters ≡ self.old.counters) }
-    {
-        let next = self.next;
-        let Some(input) = input else {
-            return Stepped {
-                sends: Sends::new(),
-                used: false,
-            };
-        };
-        let out = self.link.step(input);
-        self.next = next.wrapping_add(out.sends.len() as u16);
-        Stepped {
-            sends: out.sends,
-            used: out.used,
-        }
-    }
-
-    // Counts a reason, if there is one.
-    fn count(&mut self, reason: Option<Reason>)
-        ensures counters { self.new.counters ≡ counts_by self.old.counters reason }
-        ensures rest { (self.new.node ≡ self.old.node) × (self.new.link ≡ self.old.link)
-            × (self.new.ticks ≡ self.old.ticks) × (self.new.next ≡ self.old.next) }
-    {
-        if let Some(reason) = reason {
-            self.counters.count(reason.number());
-        }
-    }
-
-    // Takes a record, and answers what the link sends.
-    fn take(&mut self, found: Record) -> Sends
-        requires { self.old.ticks < 2 ^ 63 }
-        ensures node { self.new.node ≡ self.old.node }
-        ensures stands { Adds StandsFor self.old self.new found }
-        ensures sends { (earlier : List Record) → StandsFor self.old earlier
-            → result.items ≡ sends_by self.old.node earlier found }
-        ensures size { self.new.ticks ≤ self.old.ticks + 1 }
-    {
-        if found == Record::Reset {
-            self.reset();
-            return Sends::new();
-        }
-        let early = self.early_reason(found);
-        let input = self.input(found);
-        if found == Record::Tick {
-            self.ticks += 1;
-        }
-        let stepped = self.step(input);
-        self.count(late_reason(self.node, found, early, stepped.used));
-        stepped.sends
-    }
-
-    // Takes a record, and appends the lines that it writes.
-    fn write(&mut self, alloc: Global, found: Record, text: &mut Vec<u8>) -> Result<(), AllocError>
-        requires { self.old.ticks < 2 ^ 63 }
-        ensures node { self.new.node ≡ self.old.node }
-        ensures stands { Adds StandsFor self.old self.new found }
-        ensures text { (earlier : List Record) → StandsFor self.old earlier → IfOk result (λ _.
-            text.new.items ≡ text.old.items ++ record_lines_of self.old.node earlier found) }
-        ensures size { self.new.ticks ≤ self.old.ticks + 1 }
-    {
-        let before = self.link.word();
-        let first = self.next;
-        let sends = self.take(found);
-        append_change(alloc, text, self.node, self.ticks, before, self.link.word())?;
-        append_sends(alloc, text, self.node, self.ticks, first, &sends)
+        let outs = self.node.step(input);
+        let ticks = self.node.ticks();
+        append_outputs(alloc, self.name, ticks, self.bound, &outs, text)
     }
 
     // Takes what a line says, and appends what it writes, or the line that names it.
@@ -187,59 +89,62 @@ impl ReplayedNode {
         number: u32,
         text: &mut Vec<u8>,
     ) -> Result<Taken, AllocError>
+        requires ready { IsReady F.pre F.post self.old }
         requires none { text.old.items ≡ [] }
-        requires room { self.old.ticks + 1 < 2 ^ 32 }
-        ensures count { self.new.ticks ≤ self.old.ticks + 1 }
-        ensures node { self.new.node ≡ self.old.node }
+        requires room { self.old.node.parts.ticks + 1 < 2 ^ 32 }
+        ensures ready { IsReady F.pre F.post self.new }
+        ensures same { self.new.replayed ≡ self.old.replayed }
+        ensures count { self.new.node.parts.ticks ≤ self.old.node.parts.ticks + 1 }
         ensures accepted { (lines : List (List ℕ)) (before : List ℕ)
             → IfOk result (λ taken. taken ≡ Taken.Accepted
-            → HasTaken self.old lines → Accepts self.old.node lines before
-            → HasTaken self.new (lines ++ line.now ∷ [])
-            × Accepts self.old.node (lines ++ line.now ∷ []) (before ++ text.new.items)) }
+            → HasTaken F.post self.old lines → Accepts (site_at self.old.replayed) lines before
+            → HasTaken F.post self.new (lines ++ line.now ∷ [])
+            × Accepts (site_at self.old.replayed) (lines ++ line.now ∷ [])
+            (before ++ text.new.items)) }
         ensures refused { (lines : List (List ℕ)) (refusal : Refusal)
             → IfOk result (λ taken. taken ≡ Taken.Refused refusal
-            → HasTaken self.old lines → number ≡ length lines + 1
-            → Refuses self.old.node lines line.now refusal text.new.items) }
+            → HasTaken F.post self.old lines → number ≡ length lines + 1
+            → Refuses (site_at self.old.replayed) lines line.now refusal text.new.items) }
         ensures enough { IfOk result (λ taken. taken ≡ Taken.Memory → ⊥) }
     {
-        let read = read_record(alloc, self.node, line)?;
-        match read {
-            Some(found) => {
-                self.write(alloc, found, text)?;
+        one_run();
+        match read_input(alloc, line, self.replayed.net, self.replayed.node) {
+            Ok(input) => {
+                self.write(alloc, &input, text)?;
                 Ok(Taken::Accepted)
             }
-            None => {
-                append_bad_trace(alloc, text, number)?;
-                Ok(Taken::Refused(Refusal::BadTrace))
-            }
+            Err(fault) => refuse(alloc, number, &fault, text),
         }
     }
 
     /// Appends the lines that close the records.
     pub fn close(&self, alloc: Global, text: &mut Vec<u8>) -> Result<(), AllocError>
+        requires ready { IsReady F.pre F.post self.now }
         requires none { text.old.items ≡ [] }
-        ensures { (lines : List (List ℕ)) → IfOk result (λ _. HasTaken self.now lines
-            → Closes self.now.node lines text.new.items) }
+        ensures { IfOk result (λ _. (lines : List (List ℕ)) → HasTaken F.post self.now lines
+            → Closes (site_at self.now.replayed) lines text.new.items) }
     {
-        append_counts(alloc, text, self.node, &self.counters)
+        append_counts(alloc, self.replayed, self.name, &self.node, text)
     }
 }
 
-impl Machine for ReplayedNode {
+impl<'a, F: Fn(i64) -> i64> Machine for ReplayedNode<'a, F> {
     ghost use Rattle.wrp_run.specs.Replays.{Accepts, Refuses};
-    ghost use Rattle.wrp_run.specs.StandsFor.{HasTaken};
+    ghost use Rattle.wrp_run.specs.StandsFor.{HasTaken, IsReady, site_at};
 
-    type Setting = Node;
+    type Setting = Replayed<'a>;
 
-    ghost setting = { λ s. s.node };
+    ghost setting = { λ s. s.replayed };
 
-    ghost count = { λ s. s.ticks };
+    ghost count = { λ s. s.node.parts.ticks };
 
-    ghost has_taken = { HasTaken };
+    ghost is_ready = { IsReady F.pre F.post };
 
-    ghost accepts = { Accepts };
+    ghost has_taken = { HasTaken F.post };
 
-    ghost refuses = { Refuses };
+    ghost accepts = { λ replayed. Accepts (site_at replayed) };
+
+    ghost refuses = { λ replayed. Refuses (site_at replayed) };
 
     fn take(&mut self, alloc: Global, line: &[u8], number: u32, text: &mut Vec<u8>) -> Taken {
         match self.handle(alloc, line, number, text) {
@@ -249,18 +154,58 @@ impl Machine for ReplayedNode {
     }
 }
 
-// The reason for which a record's frame is dropped, where the link was told of it or not.
-fn late_reason(node: Node, found: Record, early: Option<Reason>, used: bool) -> Option<Reason>
-    ensures { result ≡ late_reason_of node found early used }
+// Appends the line of a record that is refused. Want of memory is no refusal.
+fn refuse(
+    alloc: Global,
+    number: u32,
+    fault: &TraceFault,
+    text: &mut Vec<u8>,
+) -> Result<Taken, AllocError>
+    ensures { IfOk result (λ taken. Tells fault.now number text.old.items text.new.items taken) }
 {
-    match (found, early) {
-        (Record::Frame(Ok(message)), None) => {
-            if is_useful(node.role(), &message.body, used) {
-                None
-            } else {
-                Some(Reason::Unmatched)
-            }
-        }
-        _ => early,
+    match fault {
+        TraceFault::Memory(_) => return Err(AllocError),
+        _ => {}
     }
+    append_bad_trace(alloc, text, number, fault)?;
+    Ok(Taken::Refused(Refusal::BadTrace))
+}
+
+// The name of the node.
+#[tactic(auto, using(crate::proofs::BareSite::name_bare))]
+fn name_of<'a>(replayed: Replayed<'a>) -> &'a str
+    requires { replayed.node < node_count replayed.net.now.cfg }
+    ensures { result.now ≡ name_at (site_at replayed.entry).cfg replayed.entry.node }
+{
+    replayed.net.cfg.nodes[usize::from(replayed.node)]
+        .name
+        .as_str()
+}
+
+// The bound of the node in TRACK.
+#[tactic(auto, using(crate::proofs::BareSite::path_bare))]
+fn bound_of(replayed: Replayed<'_>) -> Tau
+    requires accepted { IsAccepted replayed.net.now.cfg replayed.net.now.db }
+    requires node { replayed.node < node_count replayed.net.now.cfg }
+    ensures { result ≡ pos (path_of (site_at replayed.entry).cfg replayed.entry.node) }
+{
+    path(&replayed.net.cfg, replayed.node)
+}
+
+// Appends the lines of a node's outputs at a tick.
+fn append_outputs(
+    alloc: Global,
+    name: &str,
+    ticks: u32,
+    bound: Tau,
+    outs: &[Output],
+    text: &mut Vec<u8>,
+) -> Result<(), AllocError>
+    ensures { IfOk result (λ _. text.new.items ≡ text.old.items
+        ++ flat_map (λ o. output_line_of name.now ticks o bound None) outs.now) }
+{
+    for out in outs {
+        append_line(alloc, name, ticks, out, bound, None, text)?;
+    }
+    Ok(())
 }

@@ -24,7 +24,7 @@ returns-in-Ok-Some-clause-due g c =
       write_faults = g.K.Sink.faults c.args.sink.now;
       write_faults_now = g.K.Sink.faults c.replay_named.new.sink;
     } in
-    λ status octets is. told_one run c.replay_named.result status octets c.replay_named.ensures.ends is
+    λ status octets is. told_one c.one_run.ensures.run c.one_run.ensures.node run c.replay_named.result status octets c.replay_named.ensures.ends is
 
 pub returns-in-Ok-Some-clause-complete : goal.returns-in-Ok-Some-clause-complete
 returns-in-Ok-Some-clause-complete g c =
@@ -40,7 +40,7 @@ returns-in-Ok-Some-clause-complete g c =
       write_faults_now = g.K.Sink.faults c.replay_named.new.sink;
     } in
     λ status octets memory reads writes.
-    told_one run c.replay_named.result status octets c.replay_named.ensures.ends
+    told_one c.one_run.ensures.run c.one_run.ensures.node run c.replay_named.result status octets c.replay_named.ensures.ends
     (ends_answered run c.replay_named.result c.replay_named.ensures.ends memory reads writes)
 
 pub returns-in-Ok-None-clause-ends : goal.returns-in-Ok-None-clause-ends
@@ -75,7 +75,7 @@ returns-in-Ok-None-clause-due g c =
     } in
     let none = subst (IsReplayed (texts_of c.args.words.now)) c.in-Ok-None.field-0-is c.in-Ok-None.ensures in
     let ends = usage_ends run c.answer.result none (rw c.as_bytes.ensures.value at c.answer.ensures.how) c.answer.ensures.rose in
-    λ status octets is. told_one run c.answer.result status octets ends is
+    λ status octets is. told_one c.one_run.ensures.run c.one_run.ensures.node run c.answer.result status octets ends is
 
 pub returns-in-Ok-None-clause-complete : goal.returns-in-Ok-None-clause-complete
 returns-in-Ok-None-clause-complete g c =
@@ -93,7 +93,7 @@ returns-in-Ok-None-clause-complete g c =
     let none = subst (IsReplayed (texts_of c.args.words.now)) c.in-Ok-None.field-0-is c.in-Ok-None.ensures in
     let ends = usage_ends run c.answer.result none (rw c.as_bytes.ensures.value at c.answer.ensures.how) c.answer.ensures.rose in
     λ status octets memory reads writes.
-    told_one run c.answer.result status octets ends (ends_answered run c.answer.result ends memory reads writes)
+    told_one c.one_run.ensures.run c.one_run.ensures.node run c.answer.result status octets ends (ends_answered run c.answer.result ends memory reads writes)
 
 pub returns-in-Ok-Some-clause-unread : goal.returns-in-Ok-Some-clause-unread
 returns-in-Ok-Some-clause-unread g c = λ none.

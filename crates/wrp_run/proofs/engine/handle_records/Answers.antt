@@ -13,6 +13,7 @@ records-init g c = record {
   reached = begins (g.M.Machine.accepts (g.M.Machine.setting c.args.machine.now)) (g.M.Machine.has_taken c.args.machine.now) c.args.reader.now _ _ _
       c.requires.fresh.1 c.requires.fresh.0 (Consumes-nil _) (Appends-nil _) c.new-waiting.ensures.items;
   setting = refl;
+  ready = c.requires.ready;
   count = omega (arith, c.requires.none);
   at_end = c.requires.at_end;
   ended = λ is. is;
@@ -81,6 +82,7 @@ records-preserved g c =
     record {
       reached = goes_on _ (g.M.Machine.refuses (g.M.Machine.setting c.args.machine.now)) _ _ _ c.next_record.new.line.items _ _ _ _ _ _ _ _ _ so_far (c.in-Line.ensures.line refl) said outcome;
       setting = search rules;
+      ready = c.handle_line.ensures.ready;
       count = omega (arith, c.handle_line.ensures.count, c.records.invariant.count);
       at_end = search rules;
       ended = search rules;

@@ -10,6 +10,7 @@ invariant-records g l =
       reached : Reached (Handles (g.M.Machine.accepts (g.M.Machine.setting l.fn.machine))) (g.M.Machine.has_taken l.machine) l.fn.reader.rest l.reader
           (g.S.Source.left l.fn.source) (g.S.Source.left l.source) (g.K.Sink.held l.fn.sink) (g.K.Sink.held l.sink) l.waiting.items l.number;
       setting : g.M.Machine.setting l.machine ≡ g.M.Machine.setting l.fn.machine;
+      ready : g.M.Machine.is_ready l.machine;
       count : g.M.Machine.count l.machine ≤ l.number;
       at_end : l.reader.ended ≡ true → IsAtEnd (g.S.Source.left l.source);
       ended : l.fn.reader.ended ≡ true → l.reader.ended ≡ true;
