@@ -25,16 +25,17 @@ use wrp_base::{Tau, TraceFault};
 use wrp_bounds::path;
 use wrp_law::DelayLaw;
 use wrp_lines::append_line;
-use wrp_node::{Input, Node, Output, node_set, one_run};
+use wrp_node::{Input, Node, Output, Outputs, node_set, one_run};
 use wrp_trace::read_input;
 
-/// A node as far as it is replayed: the node, and what its lines say of it.
+/// A node as far as it is replayed: the node, what its lines say of it, and a place for its outputs.
 #[derive(Drop)]
 pub struct ReplayedNode<'a, F: Fn(i64) -> i64> {
     replayed: Replayed<'a>,
     name: &'a str,
     bound: Tau,
     node: Node<F>,
+    outs: Outputs,
 }
 
 impl<'a, F: Fn(i64) -> i64> ReplayedNode<'a, F> {
@@ -59,6 +60,7 @@ impl<'a, F: Fn(i64) -> i64> ReplayedNode<'a, F> {
             name: name_of(replayed),
             bound: bound_of(replayed),
             node,
+            outs: Outputs::new(),
         })
     }
 
@@ -76,9 +78,9 @@ impl<'a, F: Fn(i64) -> i64> ReplayedNode<'a, F> {
             → StandsFor F.post (fixed_at (site_at self.old.replayed)) self.old.node inputs
             → TookInput F.post self.old self.new.node input.now inputs text.new.items) }
     {
-        let outs = self.node.step(input);
+        self.node.step_into(input, &mut self.outs);
         let ticks = self.node.ticks();
-        append_outputs(alloc, self.name, ticks, self.bound, &outs, text)
+        append_outputs(alloc, self.name, ticks, self.bound, &self.outs, text)
     }
 
     // Takes what a line says, and appends what it writes, or the line that names it.

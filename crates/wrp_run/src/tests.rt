@@ -1,13 +1,14 @@
 //! Whole runs over memory: what is written, and the status.
 mod frames;
+mod networks;
 mod rows;
 mod runs;
 mod streams;
 
-use crate::network::TWO_NODES;
 use crate::{Status, run};
 use frames::hex_of;
-use rows::{DROPS, Due, HANDSHAKES, LINES, Replay, Step};
+use networks::TWO_NODES;
+use rows::{DROPS, Due, HANDSHAKES, LINES, Replay, Step, WHOLE};
 use runs::{Faults, NO_FAULTS, RUNS, Run};
 use std::alloc::{AllocError, Global};
 use std::test::Fail;
@@ -20,12 +21,24 @@ struct Outcome {
     text: String,
 }
 
+// Appends the lines of good samples of one phase, whose numbers count from 1.
+fn push_samples(alloc: Global, input: &mut String, count: u32) -> Result<(), Fail> {
+    for number in 0..count {
+        let number = u64::from(number) + 1;
+        let line = format!(in alloc; "sample,{number},100,00000000ffffffff\n")?;
+        input.push_str(&line)?;
+    }
+    Ok(())
+}
+
 // Appends what goes in.
 fn push_step(alloc: Global, input: &mut String, step: Step) -> Result<(), Fail> {
     match step {
         Step::Network => input.push_str(TWO_NODES)?,
         Step::Record(lines) => input.push_str(lines)?,
         Step::Ticks(count) => input.push_str(&"tick\n".repeat(alloc, count)?)?,
+        Step::Samples(count) => push_samples(alloc, input, count)?,
+        Step::Hex(frame) => input.push_str(hex_of(frame))?,
         Step::Frame(frame) => {
             input.push_str("frame,1,")?;
             input.push_str(hex_of(frame))?;
@@ -76,19 +89,67 @@ fn run_over(alloc: Global, words: &[&str], faults: Faults, input: &str) -> Resul
     Ok(Outcome { status, text })
 }
 
-// Whether a replay answers and writes what is due.
-fn replays_so(alloc: Global, replay: Replay) -> Result<bool, Fail> {
-    let (_, node, steps, status, due) = replay;
+// Whether a line tells of link setup: it is no DAC value, and no frame but a Signaling.
+fn is_of_setup(line: &str) -> bool {
+    let mut words = line.split(' ').skip(2);
+    match words.next() {
+        Some("dac") => false,
+        Some("send") => match words.nth(1) {
+            Some(hex) => hex.starts_with("0c"),
+            None => false,
+        },
+        _ => true,
+    }
+}
+
+// The lines of a text that tell of link setup.
+fn setup_of(alloc: Global, text: &str) -> Result<String, AllocError> {
+    let mut lines = String::new(alloc);
+    for line in text.lines() {
+        if is_of_setup(line) {
+            lines.push_str(line)?;
+            lines.push_str("\n")?;
+        }
+    }
+    Ok(lines)
+}
+
+// The lines of a text that are compared.
+fn compared(alloc: Global, text: String, setup_alone: bool) -> Result<String, AllocError> {
+    if setup_alone {
+        setup_of(alloc, text.as_str())
+    } else {
+        Ok(text)
+    }
+}
+
+// What a replay answers, and what it writes.
+fn replayed(alloc: Global, replay: Replay) -> Result<Outcome, Fail> {
+    let (_, node, steps, _, _) = replay;
     let records = input_of(alloc, steps)?;
     let input = format!(in alloc; "{TWO_NODES}---\n{records}")?;
-    let got = run_over(alloc, &["replay", "--node", node], NO_FAULTS, &input)?;
-    Ok(got.status == status && got.text == text_of(alloc, node, due)?)
+    run_over(alloc, &["replay", "--node", node], NO_FAULTS, &input)
+}
+
+// Whether a replay answers what is due, and writes it line for line, of link setup alone or all.
+fn replays_so(alloc: Global, replay: Replay, setup_alone: bool) -> Result<bool, Fail> {
+    let (_, node, _, status, due) = replay;
+    let Outcome {
+        status: answered,
+        text,
+    } = replayed(alloc, replay)?;
+    let lines = compared(alloc, text, setup_alone)?;
+    Ok(answered == status && lines == text_of(alloc, node, due)?)
 }
 
 // The first replay that answers or writes something else, by its name.
-fn wrong_replay(alloc: Global, replays: &[Replay]) -> Result<Option<&'static str>, Fail> {
+fn wrong_replay(
+    alloc: Global,
+    replays: &[Replay],
+    setup_alone: bool,
+) -> Result<Option<&'static str>, Fail> {
     for replay in replays {
-        if !replays_so(alloc, *replay)? {
+        if !replays_so(alloc, *replay, setup_alone)? {
             return Ok(Some(replay.0));
         }
     }
@@ -114,19 +175,25 @@ fn wrong_run(alloc: Global, runs: &[Run]) -> Result<Option<&'static str>, Fail> 
 
 #[test]
 fn handshakes(rt: HostRuntime) -> Result<(), Fail> {
-    assert_eq!(rt; wrong_replay(rt.alloc(), HANDSHAKES)?, None);
+    assert_eq!(rt; wrong_replay(rt.alloc(), HANDSHAKES, true)?, None);
     Ok(())
 }
 
 #[test]
 fn drops(rt: HostRuntime) -> Result<(), Fail> {
-    assert_eq!(rt; wrong_replay(rt.alloc(), DROPS)?, None);
+    assert_eq!(rt; wrong_replay(rt.alloc(), DROPS, true)?, None);
     Ok(())
 }
 
 #[test]
 fn record_lines(rt: HostRuntime) -> Result<(), Fail> {
-    assert_eq!(rt; wrong_replay(rt.alloc(), LINES)?, None);
+    assert_eq!(rt; wrong_replay(rt.alloc(), LINES, true)?, None);
+    Ok(())
+}
+
+#[test]
+fn whole_lines(rt: HostRuntime) -> Result<(), Fail> {
+    assert_eq!(rt; wrong_replay(rt.alloc(), WHOLE, false)?, None);
     Ok(())
 }
 
@@ -147,7 +214,7 @@ fn reads_no_further(rt: HostRuntime) -> Result<(), Fail> {
     let words = ["replay", "--node", "sw1"];
     let status = run(alloc, words.as_slice(), &mut source, &mut sink, &mut link);
     assert_eq!(rt; status, Status::BadTrace);
-    assert!(rt; sink.octets() == b"bad-trace 1\n".as_slice());
+    assert!(rt; sink.octets() == b"bad-trace 1 1 Fields 0\n".as_slice());
     assert!(rt; source.left().len() >= 4_900_000);
     Ok(())
 }

@@ -10,6 +10,9 @@ pub enum Wire {
     GmCalibrate,
     GmCalibrated,
     GmModeOn,
+    GmAnnounce,
+    GmFollowUp,
+    GmResponse,
     Sw1Present,
     Sw1Locked,
     Sw1Calibrate,
@@ -67,6 +70,20 @@ pub fn hex_of(frame: Wire) -> &'static str {
             "\
                 0c02003800000000000000000000000000000000001bc5fffe00000100010003057f001bc5fffe000002000100\
                 030008080030dead011005"
+        }
+        Wire::GmAnnounce => {
+            "\
+                0b02004e00000000000000000000000000000000001bc5fffe0000010001000005000000000000000000000000\
+                000080f8feffff80001bc5fffe0000010000a00003000a080030dead0120000005"
+        }
+        Wire::GmFollowUp => {
+            "\
+                0802002c00000000000000000000400000000000001bc5fffe00000100010000020000000000000100000005"
+        }
+        Wire::GmResponse => {
+            "\
+                0902003600000000ffffffffffffc00000000000001bc5fffe00000100010000030000000000000100000005\
+                001bc5fffe0000020001"
         }
         Wire::Sw1Present => {
             "\

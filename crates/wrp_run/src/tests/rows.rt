@@ -2,15 +2,15 @@
 //! out from the handshake table by hand.
 use super::frames::Wire::{
     self, Announce, BadTime, BadWr, DelayReq, DelayResp, DelayRespForAnother, FollowUp, ForAnother,
-    GmCalibrate, GmCalibrated, GmLock, GmModeOn, LockForAll, NoMessage, OneStepSync, OtherDomain,
-    OtherKind, OtherVersion, OtherVersionAndKind, PlainAnnounce, Short, Stranger,
-    StrangerOfOtherDomain, Sw1Announce, Sw1Calibrate, Sw1CalibrateAgain, Sw1Calibrated,
-    Sw1CalibratedAgain, Sw1Locked, Sw1Present, Sw1Present1, Sw1Present2, Sw1Present3, Sw1Present4,
-    Sync, TlvOverrun, TooLong,
+    GmAnnounce, GmCalibrate, GmCalibrated, GmFollowUp, GmLock, GmModeOn, GmResponse, LockForAll,
+    NoMessage, OneStepSync, OtherDomain, OtherKind, OtherVersion, OtherVersionAndKind,
+    PlainAnnounce, Short, Stranger, StrangerOfOtherDomain, Sw1Announce, Sw1Calibrate,
+    Sw1CalibrateAgain, Sw1Calibrated, Sw1CalibratedAgain, Sw1Locked, Sw1Present, Sw1Present1,
+    Sw1Present2, Sw1Present3, Sw1Present4, Sync, TlvOverrun, TooLong,
 };
 use crate::Status;
 use Due::{Lines, Sent};
-use Step::{Frame, Record, Ticks};
+use Step::{Frame, Hex, Record, Samples, Ticks};
 
 /// What goes into a run.
 #[derive(Clone, Copy)]
@@ -21,8 +21,12 @@ pub enum Step {
     Record(&'static str),
     /// So many ticks.
     Ticks(usize),
+    /// So many good samples, which lock the detector at the 100th.
+    Samples(u32),
     /// A received frame.
     Frame(Wire),
+    /// The octets of a frame alone.
+    Hex(Wire),
     /// So many octets without a line's end.
     Octets(usize),
 }
@@ -84,6 +88,7 @@ pub const HANDSHAKES: &[Replay] = &[
         &[
             RESET,
             UP,
+            Samples(100),
             Ticks(24),
             Frame(Announce),
             Frame(GmLock),
@@ -103,7 +108,7 @@ pub const HANDSHAKES: &[Replay] = &[
             Sent(25, Sw1Calibrate),
             Lines("sw1 26 link 1 calibrated\n"),
             Sent(26, Sw1Calibrated),
-            Lines("sw1 26 link 1 link-on\n"),
+            Lines("sw1 26 servo sync-tai\nsw1 26 link 1 link-on\n"),
         ],
     ),
     (
@@ -132,11 +137,34 @@ pub const HANDSHAKES: &[Replay] = &[
         ],
     ),
     (
+        "the same without samples: the detector is not locked",
+        "sw1",
+        &[
+            RESET,
+            UP,
+            Ticks(24),
+            Frame(Announce),
+            Frame(GmLock),
+            Ticks(1),
+            Frame(GmCalibrate),
+            Frame(GmCalibrated),
+            Ticks(1),
+            Frame(GmModeOn),
+        ],
+        Status::Done,
+        &[
+            Lines("sw1 0 link 1 quiet\nsw1 24 link 1 ptp\nsw1 24 link 1 present\n"),
+            Sent(24, Sw1Present),
+            Lines("sw1 24 link 1 s-lock\nsw1 count 1 unmatched 3\n"),
+        ],
+    ),
+    (
         "a lost calibrate and a late locked, at the slave",
         "sw1",
         &[
             RESET,
             UP,
+            Samples(100),
             Ticks(24),
             Frame(Announce),
             Frame(GmLock),
@@ -158,7 +186,7 @@ pub const HANDSHAKES: &[Replay] = &[
             Sent(26, Sw1Calibrated),
             Sent(56, Sw1CalibrateAgain),
             Sent(56, Sw1CalibratedAgain),
-            Lines("sw1 56 link 1 link-on\n"),
+            Lines("sw1 56 servo sync-tai\nsw1 56 link 1 link-on\n"),
         ],
     ),
     (
@@ -303,6 +331,7 @@ pub const HANDSHAKES: &[Replay] = &[
         &[
             RESET,
             UP,
+            Samples(100),
             Ticks(24),
             Frame(Announce),
             Frame(GmLock),
@@ -447,13 +476,6 @@ pub const DROPS: &[Replay] = &[
         &[Lines("sw1 0 link 1 quiet\nsw1 24 link 1 ptp\nsw1 count 1 notforus 1\n")],
     ),
     (
-        "a sync",
-        "sw1",
-        &[RESET, UP, Ticks(24), Frame(Sync)],
-        Status::Done,
-        &[Lines("sw1 0 link 1 quiet\nsw1 24 link 1 ptp\nsw1 count 1 unmatched 1\n")],
-    ),
-    (
         "a follow-up",
         "sw1",
         &[RESET, UP, Ticks(24), Frame(FollowUp)],
@@ -551,11 +573,18 @@ pub const LINES: &[Replay] = &[
         &[Lines("sw1 0 link 1 quiet\nsw1 24 link 1 ptp\n")],
     ),
     (
+        "one line without LF",
+        "sw1",
+        &[Record("tick")],
+        Status::Done,
+        &[],
+    ),
+    (
         "a last line with CR and without LF",
         "sw1",
         &[Record("tick\r")],
         Status::BadTrace,
-        &[Lines("bad-trace 1\n")],
+        &[Lines("bad-trace 1 1 Fields 0\n")],
     ),
     (
         "leading zeros and a minus zero",
@@ -566,62 +595,129 @@ pub const LINES: &[Replay] = &[
             Record("down,-0\n"),
         ],
         Status::BadTrace,
-        &[Lines("sw1 0 link 1 quiet\nbad-trace 3\n")],
+        &[Lines("sw1 0 link 1 quiet\nbad-trace 3 4 Name 2\n")],
     ),
     (
-        "an unknown record",
+        "records behind a refused one, and counters, are left out",
         "sw1",
-        &[UP, Frame(OtherKind), Record("sent,1\n"), Ticks(1)],
+        &[UP, Frame(OtherKind), Record("tock\n"), Ticks(24)],
         Status::BadTrace,
-        &[Lines("sw1 0 link 1 quiet\nbad-trace 3\n")],
+        &[Lines("sw1 0 link 1 quiet\nbad-trace 3 2 Kind 0\n")],
     ),
     (
         "another port",
         "sw1",
         &[Record("up,2,violet\n")],
         Status::BadTrace,
-        &[Lines("bad-trace 1\n")],
+        &[Lines("bad-trace 1 4 Name 2\n")],
     ),
     (
-        "the module of the other node",
+        "another module, and one that is not listed",
         "sw1",
-        &[Record("up,1,blue\n")],
+        &[
+            Record("up,1,blue\ndown,1\nup,1,unlisted\n"),
+            Record("up,1,green\n"),
+        ],
         Status::BadTrace,
-        &[Lines("bad-trace 1\n")],
+        &[
+            Lines("sw1 0 link 1 quiet\nsw1 0 link 1 down\nsw1 0 link 1 quiet\n"),
+            Lines("bad-trace 4 4 Name 3\n"),
+        ],
     ),
     (
         "an empty line",
         "sw1",
         &[Ticks(1), Record("\n")],
         Status::BadTrace,
-        &[Lines("bad-trace 2\n")],
+        &[Lines("bad-trace 2 1 Fields 0\n")],
     ),
     (
         "a field too many",
         "sw1",
         &[Record("tick,1\n")],
         Status::BadTrace,
-        &[Lines("bad-trace 1\n")],
+        &[Lines("bad-trace 1 1 Fields 0\n")],
     ),
     (
         "half an octet",
         "sw1",
         &[Record("frame,1,0,1,1,0,0\n")],
         Status::BadTrace,
-        &[Lines("bad-trace 1\n")],
+        &[Lines("bad-trace 1 3 Number 3\n")],
     ),
     (
         "a counter of 0",
         "sw1",
         &[Record("frame,1,,0,1,0,0\n")],
         Status::BadTrace,
-        &[Lines("bad-trace 1\n")],
+        &[Lines("bad-trace 1 3 Number 4\n")],
     ),
     (
         "a tag of 16384",
         "sw1",
         &[Record("frame,1,,1,1,16384,0\n")],
         Status::BadTrace,
-        &[Lines("bad-trace 1\n")],
+        &[Lines("bad-trace 1 3 Number 6\n")],
+    ),
+    (
+        "a base of 16384",
+        "sw1",
+        &[Record("sample,1,16384,0000000000000000\n")],
+        Status::BadTrace,
+        &[Lines("bad-trace 1 3 Number 3\n")],
+    ),
+    (
+        "a sample at the node that gives the time",
+        "gm",
+        &[Record("sample,1,0,0000000000000000\n")],
+        Status::BadTrace,
+        &[Lines("bad-trace 1 2 Kind 0\n")],
+    ),
+];
+
+/// Every line of a run, frames of all kinds among them.
+pub const WHOLE: &[Replay] = &[
+    (
+        "an announce",
+        "sw1",
+        &[RESET, UP, Ticks(24), Frame(Announce)],
+        Status::Done,
+        &[
+            Lines("sw1 0 link 1 quiet\nsw1 24 link 1 ptp\n"),
+            Sent(24, DelayReq),
+            Lines("sw1 24 link 1 present\n"),
+            Sent(24, Sw1Present),
+        ],
+    ),
+    (
+        "an announce without suffix",
+        "sw1",
+        &[RESET, UP, Ticks(24), Frame(PlainAnnounce)],
+        Status::Done,
+        &[
+            Lines("sw1 0 link 1 quiet\nsw1 24 link 1 ptp\n"),
+            Sent(24, DelayReq),
+        ],
+    ),
+    (
+        "a stamp of 1 s 5.25 ns, of a sending and of a reception",
+        "gm",
+        &[
+            RESET,
+            Record("up,1,blue\n"),
+            Ticks(24),
+            Record("sent,1,sync,0,65536000344064000,0\n"),
+            Record("frame,1,"),
+            Hex(DelayReq),
+            Record(",125000000,125000000,10752,0\n"),
+        ],
+        Status::Done,
+        &[
+            Lines("gm 0 link 1 quiet\ngm 24 link 1 ptp\n"),
+            Sent(24, GmAnnounce),
+            Sent(24, Sync),
+            Sent(24, GmFollowUp),
+            Sent(24, GmResponse),
+        ],
     ),
 ];

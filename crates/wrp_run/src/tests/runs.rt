@@ -1,5 +1,5 @@
 //! Runs for the tests: words, networks, sizes and faults, and what is due.
-use super::rows::Step::{self, Network, Octets, Record};
+use super::rows::Step::{self, Network, Octets, Record, Ticks};
 use super::rows::UP;
 use crate::Status;
 
@@ -17,25 +17,25 @@ pub struct Faults {
 
 /// Nothing fails.
 pub const NO_FAULTS: Faults = Faults {
-    room: 4096,
+    room: 65_536,
     source: &[],
     sink: &[],
 };
 
 const FIRST_READ: Faults = Faults {
-    room: 4096,
+    room: 65_536,
     source: &[1],
     sink: &[],
 };
 
 const SECOND_READ: Faults = Faults {
-    room: 4096,
+    room: 65_536,
     source: &[2],
     sink: &[],
 };
 
 const FIRST_WRITE: Faults = Faults {
-    room: 4096,
+    room: 65_536,
     source: &[],
     sink: &[1],
 };
@@ -74,7 +74,9 @@ const REPLAY: &[&str] = &["replay", "--node", "sw1"];
 const USAGE: &str =
     "usage: wrnet audit [--emit NODE] | replay --node NODE | simulate --seed N | loop --seed N\n";
 
-const BAD_NETWORK: &str = "bad-network\n";
+const NO_NODE: &str = "bad-network 3 Missing node\n";
+
+const NO_TOML: &str = "bad-network 1 Syntax -\n";
 
 const QUIET: &str = "sw1 0 link 1 quiet\n";
 
@@ -122,7 +124,7 @@ pub const RUNS: &[Run] = &[
         NO_FAULTS,
         &[LINE, UP],
         Status::BadNetwork,
-        BAD_NETWORK,
+        NO_NODE,
     ),
     (
         "the node before the records",
@@ -171,7 +173,7 @@ pub const RUNS: &[Run] = &[
         NO_FAULTS,
         &[],
         Status::BadNetwork,
-        BAD_NETWORK,
+        NO_NODE,
     ),
     (
         "no line that ends the network",
@@ -198,12 +200,36 @@ pub const RUNS: &[Run] = &[
         "",
     ),
     (
-        "another network",
+        "a text that is no TOML",
+        REPLAY,
+        NO_FAULTS,
+        &[Record("[[node]\n"), Network, LINE, UP],
+        Status::BadNetwork,
+        NO_TOML,
+    ),
+    (
+        "a quiet time that two frames outlast",
+        REPLAY,
+        NO_FAULTS,
+        &[Record("[network]\nquiet = 23\n"), Network, LINE, UP],
+        Status::BadNetwork,
+        "bad-network 10 Clash c1:12976128000000000:13107200000000000\n",
+    ),
+    (
+        "a comment in the network",
         REPLAY,
         NO_FAULTS,
         &[Record("# two nodes\n"), Network, LINE, UP],
-        Status::BadNetwork,
-        BAD_NETWORK,
+        Status::Done,
+        QUIET,
+    ),
+    (
+        "an empty node's name",
+        &["replay", "--node="],
+        NO_FAULTS,
+        &[Network, LINE, UP],
+        Status::Usage,
+        USAGE,
     ),
     (
         "a last line --- with CR",
@@ -211,7 +237,7 @@ pub const RUNS: &[Run] = &[
         NO_FAULTS,
         &[Network, Record("---\r")],
         Status::BadNetwork,
-        BAD_NETWORK,
+        NO_TOML,
     ),
     // Calls that fail, and room that is used up.
     (
@@ -234,7 +260,7 @@ pub const RUNS: &[Run] = &[
         "the second read fails",
         REPLAY,
         SECOND_READ,
-        &[Network, LINE, UP, Record("tick,")],
+        &[Network, LINE, UP, Ticks(10), Record("tick,")],
         Status::ReadFault,
         QUIET,
     ),
@@ -277,7 +303,7 @@ pub const RUNS: &[Run] = &[
         NO_FAULTS,
         &[Octets(262_144)],
         Status::BadNetwork,
-        BAD_NETWORK,
+        NO_TOML,
     ),
     (
         "a network text of one octet too many",
@@ -293,7 +319,7 @@ pub const RUNS: &[Run] = &[
         NO_FAULTS,
         &[Network, LINE, UP, Octets(8_192)],
         Status::BadTrace,
-        "sw1 0 link 1 quiet\nbad-trace 2\n",
+        "sw1 0 link 1 quiet\nbad-trace 2 2 Kind 0\n",
     ),
     (
         "a line of one octet too many",

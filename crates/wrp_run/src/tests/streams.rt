@@ -131,6 +131,8 @@ impl Machine for Toy {
 
     ghost count = { λ s. s.ticks };
 
+    ghost is_ready = { λ _. ⊤ };
+
     ghost has_taken = { λ _ _. ⊤ };
 
     ghost accepts = { λ _ _ _. ⊤ };
