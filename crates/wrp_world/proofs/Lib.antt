@@ -1,3 +1,4 @@
 mod Rows
 mod Still
+pub mod Told
 mod Unbroken
