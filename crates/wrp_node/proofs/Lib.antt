@@ -5,6 +5,9 @@ pub mod Links
 pub mod Lists
 pub mod NewNode
 pub mod Nodes
+pub mod OwnPorts
+pub mod Ranges
+pub mod SetRows
 pub mod NodeTicks
 pub mod Ascending
 pub mod Drops
@@ -13,3 +16,4 @@ pub mod Sound
 pub mod Stepping
 pub mod Telling
 pub mod Ticks
+pub mod WayUp

@@ -1,9 +1,10 @@
 -- The servo of a node, if it has one, and what it was told last of the lease and of the link.
 use Rattle.std.specs.Prelude.{◌≡◌, ℕ, ℤ, ◌≤◌, ◌+◌, ◌<◌, ◌^◌, Bool, true, false, if◌then◌else◌, List, ◌∷◌, Option, None, Some, is_some, IfSome}
+use Rattle.std.specs.Option.{option_map}
 use Rattle.wrp_base.specs.declared.link.Deltas.{Deltas}
 use Rattle.wrp_base.specs.declared.link.ServoState.{ServoState}
 use Rattle.wrp_base.specs.declared.link.ServoState.TheVariants.{Uninit}
-use Rattle.wrp_law.specs.Law.{KeepsFact}
+use Rattle.wrp_law.specs.Law.{KeepsFact, LawOf}
 use Rattle.wrp_node.specs.NodeAt.{Fixed, slave_of, settings_of}
 use Rattle.wrp_node.specs.Telling.{answer_of, called, for_slave, is_changed}
 use Rattle.wrp_servo.specs.Call.{Call, CallLease, CallLink, CallCarrier}
@@ -68,6 +69,10 @@ carrier_call slave up = if slave then Some (CallCarrier up) else None
 -- the reason of an answer is one that is counted
 abbrev pub IsReason : Option ℕ → Type 0
 IsReason reason = IfSome reason (λ number. (1 ≤ number) × (number ≤ 15))
+
+-- the law that the servo asks, where there is a servo
+abbrev pub law_in : {F : Type 0} → ControlOf F → Option (LawOf F)
+law_in c = option_map (λ t. t.servo.law) c.told
 
 -- the law of the servo keeps its fact
 abbrev pub KeepsLaw : {F : Type 0} → (F → ℤ → Type 0) → (F → ℤ → ℤ → Type 0) → ControlOf F → Type 0

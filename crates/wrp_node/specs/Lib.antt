@@ -9,5 +9,7 @@ pub mod NodeRun
 pub mod NodeStep
 pub mod Parts
 pub mod Place
+pub mod Set
+pub mod SetRows
 pub mod StandsFor
 pub mod Telling

@@ -1,7 +1,7 @@
 //! The servo of a node, which has one exactly where it has a slave port.
 ghost use Rattle.std.specs.Prelude.{◌≡◌, ◌<◌, ℤ, [], Some, is_some, IfSome};
 ghost use Rattle.wrp_law.specs.Law.{KeepsFact};
-ghost use Rattle.wrp_node.specs.Control.{ControlStands, AddsCalls, KeepsLaw, HasTick, IsReason, lease_call, link_call, carrier_call, state_in, locked_in, certain_in, dac_in, tracked_in};
+ghost use Rattle.wrp_node.specs.Control.{ControlStands, AddsCalls, KeepsLaw, HasTick, IsReason, law_in, lease_call, link_call, carrier_call, state_in, locked_in, certain_in, dac_in, tracked_in};
 ghost use Rattle.wrp_node.specs.Telling.{no_answer};
 ghost use Rattle.wrp_servo.specs.Call.{CallSample, CallMeasured, CallTick, CallReset};
 ghost use Rattle.wrp_node.specs.declared.interface.NodeSet.{NodeSet};
@@ -49,6 +49,7 @@ impl<F: Fn(i64) -> i64> Control<F> {
         requires set { FitsServoSet set }
         requires fact { IfSome law (KeepsFact F.pre F.post) }
         ensures law { KeepsLaw F.pre F.post result }
+        ensures given { law_in result ≡ law }
         ensures stands { (cfg : NodeSet) → cfg.servo ≡ set → is_some law ≡ is_some (slave_of cfg) →
             ControlStands F.post (fixed_of cfg law) [] result }
     {
@@ -67,6 +68,7 @@ impl<F: Fn(i64) -> i64> Control<F> {
         requires base { base < 16384 }
         requires law { KeepsLaw F.pre F.post self.old }
         ensures law { KeepsLaw F.pre F.post self.new }
+        ensures same_law { law_in self.new ≡ law_in self.old }
         ensures calls { AddsCalls F.post self.old self.new (λ _. Some (CallSample n base bits)) result }
         ensures reason { IsReason result.refused }
     {
@@ -81,6 +83,7 @@ impl<F: Fn(i64) -> i64> Control<F> {
         requires room { HasTick self.old }
         requires law { KeepsLaw F.pre F.post self.old }
         ensures law { KeepsLaw F.pre F.post self.new }
+        ensures same_law { law_in self.new ≡ law_in self.old }
         ensures calls { AddsCalls F.post self.old self.new (λ _. Some CallTick) result }
         ensures reason { IsReason result.refused }
     {
@@ -94,6 +97,7 @@ impl<F: Fn(i64) -> i64> Control<F> {
     pub fn lease(&mut self, fresh: bool) -> ServoOut
         requires law { KeepsLaw F.pre F.post self.old }
         ensures law { KeepsLaw F.pre F.post self.new }
+        ensures same_law { law_in self.new ≡ law_in self.old }
         ensures calls { AddsCalls F.post self.old self.new (lease_call fresh) result }
         ensures room { HasTick self.old → HasTick self.new }
         ensures reason { IsReason result.refused }
@@ -108,6 +112,7 @@ impl<F: Fn(i64) -> i64> Control<F> {
     pub fn link(&mut self, on: Option<Deltas>) -> ServoOut
         requires law { KeepsLaw F.pre F.post self.old }
         ensures law { KeepsLaw F.pre F.post self.new }
+        ensures same_law { law_in self.new ≡ law_in self.old }
         ensures calls { AddsCalls F.post self.old self.new (link_call on) result }
         ensures reason { IsReason result.refused }
     {
@@ -121,6 +126,7 @@ impl<F: Fn(i64) -> i64> Control<F> {
     pub fn carrier(&mut self, of_slave: bool, up: bool) -> ServoOut
         requires law { KeepsLaw F.pre F.post self.old }
         ensures law { KeepsLaw F.pre F.post self.new }
+        ensures same_law { law_in self.new ≡ law_in self.old }
         ensures calls { AddsCalls F.post self.old self.new (λ _. carrier_call of_slave up) result }
         ensures reason { IsReason result.refused }
     {
@@ -134,6 +140,7 @@ impl<F: Fn(i64) -> i64> Control<F> {
     pub fn reset(&mut self) -> ServoOut
         requires law { KeepsLaw F.pre F.post self.old }
         ensures law { KeepsLaw F.pre F.post self.new }
+        ensures same_law { law_in self.new ≡ law_in self.old }
         ensures calls { AddsCalls F.post self.old self.new (λ _. Some CallReset) result }
         ensures reason { IsReason result.refused }
     {
@@ -148,6 +155,7 @@ impl<F: Fn(i64) -> i64> Control<F> {
         requires law { KeepsLaw F.pre F.post self.old }
         requires four { FitsTimes four.now }
         ensures law { KeepsLaw F.pre F.post self.new }
+        ensures same_law { law_in self.new ≡ law_in self.old }
         ensures calls { (y : ℤ) × AddsCalls F.post self.old self.new (λ _. Some (CallMeasured four.now y)) result }
         ensures reason { IsReason result.refused }
     {

@@ -11,6 +11,8 @@ mod order;
 mod parts;
 mod place;
 mod ports;
+mod rows;
+mod set;
 #[cfg(test)]
 mod tests;
 mod told;
@@ -18,3 +20,5 @@ mod told;
 pub use interface::{Input, NodeSet, Output, Outputs, Report};
 pub use laws::{dropped_leaves_a_count, step_gives_links, step_settles};
 pub use node::Node;
+pub use rows::sets_of_three_nodes;
+pub use set::node_set;

@@ -5,6 +5,7 @@ mod puts;
 mod takes;
 
 ghost use Rattle.std.specs.Prelude.{◌≡◌, ◌≤◌, length, true};
+ghost use Rattle.wrp_node.specs.Control.{law_in};
 ghost use Rattle.wrp_node.specs.Node.{IsValid, FitsInput, Tells, word_at, count_of, ticks_at, is_tick};
 ghost use Rattle.wrp_node.specs.NodeAt.{state_of, locked_of, dac_of};
 ghost use Rattle.wrp_node.specs.Parts.{is_among};
@@ -42,6 +43,7 @@ impl<F: Fn(i64) -> i64> Node<F> {
         requires valid { IsValid F.pre F.post self.old }
         requires input { FitsInput self.old x.now }
         ensures valid { IsValid F.pre F.post self.new }
+        ensures law { law_in self.new.control ≡ law_in self.old.control }
         ensures took { Took F.post self.old self.new x.now outs.new.items }
         ensures room { length outs.new.items ≤ 96 }
     {
@@ -59,6 +61,7 @@ impl<F: Fn(i64) -> i64> Node<F> {
         requires valid { IsValid F.pre F.post self.old }
         requires input { FitsInput self.old x.now }
         ensures valid { IsValid F.pre F.post self.new }
+        ensures law { law_in self.new.control ≡ law_in self.old.control }
         ensures took { Took F.post self.old self.new x.now result.items }
         ensures room { length result.items ≤ 96 }
     {

@@ -2,6 +2,7 @@
 ghost use Rattle.std.specs.Prelude.{◌≡◌, [], IfOk, IfSome, is_some};
 ghost use Rattle.std.specs.List.{AllZip};
 ghost use Rattle.wrp_law.specs.Law.{KeepsFact};
+ghost use Rattle.wrp_node.specs.Control.{law_in};
 ghost use Rattle.wrp_node.specs.New.{FitsNodeSet, FitsPorts, IsNewPlace, fixed_of};
 ghost use Rattle.wrp_node.specs.Node.{IsValid};
 ghost use Rattle.wrp_node.specs.NodeAt.{in_order, slave_of};
@@ -30,6 +31,7 @@ impl<F: Fn(i64) -> i64> Node<F> {
         requires fact { IfSome law (KeepsFact F.pre F.post) }
         ensures stands { IfOk result (λ node. StandsFor F.post (fixed_of cfg law) node []) }
         ensures valid { IfOk result (IsValid F.pre F.post) }
+        ensures law { IfOk result (λ node. law_in node.control ≡ law) }
     {
         let ports = new_ports(alloc, &cfg)?;
         Ok(Node {

@@ -2,7 +2,7 @@
 ghost use Rattle.std.specs.Prelude.{◌≡◌, ◌<◌, ◌+◌, ◌^◌, true, Some};
 ghost use Rattle.wrp_base.specs.Message.{IsSound};
 ghost use Rattle.wrp_frame.specs.Faults.{fault_number};
-ghost use Rattle.wrp_node.specs.Control.{HasTick, KeepsLaw, IsReason};
+ghost use Rattle.wrp_node.specs.Control.{HasTick, KeepsLaw, IsReason, law_in};
 ghost use Rattle.wrp_node.specs.Node.{FitsInput, HasTickFor, NodeLeads, NodeTakes, PortsTick, TakesFrame, TakesMessage, Takes, servo_has_tick, servo_has_sample, ticked, restarts, sent_at, carried_at};
 ghost use Rattle.wrp_node.specs.Parts.{FitsRaw, is_among};
 ghost use Rattle.wrp_node.specs.Telling.{with_lease, with_link};
@@ -22,6 +22,7 @@ impl<F: Fn(i64) -> i64> Node<F> {
         requires input { FitsInput self.old x.now }
         requires ticks { HasTickFor self.old x.now }
         ensures law { KeepsLaw F.pre F.post self.new.control }
+        ensures same_law { law_in self.new.control ≡ law_in self.old.control }
         ensures takes { Takes F.post x.now self.old self.new }
     {
         match x {
@@ -51,6 +52,7 @@ impl<F: Fn(i64) -> i64> Node<F> {
         requires room { self.old.parts.ticks + 1 < 2 ^ 32 }
         requires ticks { HasTick self.old.control }
         ensures law { KeepsLaw F.pre F.post self.new.control }
+        ensures same_law { law_in self.new.control ≡ law_in self.old.control }
         ensures takes { NodeTakes F.post ticked self.old self.new }
     {
         self.parts.count_tick();
@@ -63,6 +65,7 @@ impl<F: Fn(i64) -> i64> Node<F> {
     pub(super) fn tell_lease(&mut self)
         requires law { KeepsLaw F.pre F.post self.old.control }
         ensures law { KeepsLaw F.pre F.post self.new.control }
+        ensures same_law { law_in self.new.control ≡ law_in self.old.control }
         ensures room { HasTick self.old.control → HasTick self.new.control }
         ensures lead { NodeLeads F.post with_lease self.old self.new }
     {
@@ -74,6 +77,7 @@ impl<F: Fn(i64) -> i64> Node<F> {
     pub(super) fn tell_link(&mut self)
         requires law { KeepsLaw F.pre F.post self.old.control }
         ensures law { KeepsLaw F.pre F.post self.new.control }
+        ensures same_law { law_in self.new.control ≡ law_in self.old.control }
         ensures lead { NodeLeads F.post with_link self.old self.new }
     {
         let out = self.control.link(self.parts.deltas());
@@ -85,6 +89,7 @@ impl<F: Fn(i64) -> i64> Node<F> {
         requires law { KeepsLaw F.pre F.post self.old.control }
         requires ticks { HasTick self.old.control }
         ensures law { KeepsLaw F.pre F.post self.new.control }
+        ensures same_law { law_in self.new.control ≡ law_in self.old.control }
         ensures lead { NodeLeads F.post servo_has_tick self.old self.new }
     {
         let out = self.control.tick();
@@ -106,6 +111,7 @@ impl<F: Fn(i64) -> i64> Node<F> {
         requires law { KeepsLaw F.pre F.post self.old.control }
         requires base { base < 16384 }
         ensures law { KeepsLaw F.pre F.post self.new.control }
+        ensures same_law { law_in self.new.control ≡ law_in self.old.control }
         ensures takes { NodeTakes F.post (servo_has_sample n base bits) self.old self.new }
     {
         let out = self.control.sample(n, base, bits);
@@ -134,6 +140,7 @@ impl<F: Fn(i64) -> i64> Node<F> {
     fn carrier(&mut self, port: u16, up: bool, own_module: Option<Module>)
         requires law { KeepsLaw F.pre F.post self.old.control }
         ensures law { KeepsLaw F.pre F.post self.new.control }
+        ensures same_law { law_in self.new.control ≡ law_in self.old.control }
         ensures takes { NodeTakes F.post (carried_at port up own_module) self.old self.new }
     {
         self.parts.give(
@@ -151,6 +158,7 @@ impl<F: Fn(i64) -> i64> Node<F> {
     fn reset(&mut self)
         requires law { KeepsLaw F.pre F.post self.old.control }
         ensures law { KeepsLaw F.pre F.post self.new.control }
+        ensures same_law { law_in self.new.control ≡ law_in self.old.control }
         ensures takes { NodeTakes F.post restarts self.old self.new }
     {
         self.parts.reset();
@@ -163,6 +171,7 @@ impl<F: Fn(i64) -> i64> Node<F> {
         requires port { is_among port self.old.parts.ports ≡ true }
         requires raw { FitsRaw raw.now }
         ensures law { KeepsLaw F.pre F.post self.new.control }
+        ensures same_law { law_in self.new.control ≡ law_in self.old.control }
         ensures takes { TakesFrame F.post port bytes.now.items raw.now sample self.old self.new }
     {
         match decode(bytes.as_slice()) {
@@ -178,6 +187,7 @@ impl<F: Fn(i64) -> i64> Node<F> {
         requires sound { IsSound message }
         requires raw { FitsRaw raw.now }
         ensures law { KeepsLaw F.pre F.post self.new.control }
+        ensures same_law { law_in self.new.control ≡ law_in self.old.control }
         ensures takes { TakesMessage F.post port message raw.now sample self.old self.new }
     {
         let four = self.parts.hear(port, message, raw, sample);
