@@ -1,4 +1,11 @@
+pub mod FoundFrames
+pub mod JoinedLinks
+pub mod NextArrivals
+pub mod NextDue
 mod Rows
+pub mod SignedReads
+pub mod Sizing
+pub mod Standing
 mod Still
 pub mod Told
 mod Unbroken

@@ -1,5 +1,5 @@
 -- All of a world but its nodes, as the code keeps it, and the state that it stands for (this project's profile).
-use Rattle.std.specs.Prelude.{◌≡◌, ◌<◌, ◌≤◌, ◌+◌, ◌^◌, ◌+ℤ◌, ℕ, zero, suc, ℤ, pos, ⊥, Bool, true, false, if◌then◌else◌, List, [], ◌∷◌, length, reverse, Option, None, Some, slice_get}
+use Rattle.std.specs.Prelude.{◌≡◌, ◌<◌, ◌≤◌, ◌+◌, ◌^◌, ◌+ℤ◌, ℕ, zero, suc, ℤ, pos, Bool, true, false, if◌then◌else◌, List, [], ◌∷◌, length, reverse, Option, None, Some, slice_get}
 use Rattle.std.specs.Int.Signed.{lt_z}
 use Rattle.std.specs.List.{AllZip}
 use Rattle.std.specs.Option.{is_some}
@@ -119,7 +119,8 @@ pub record FitsClock (events : ℕ) (clock : ClockState) : Type 0 where
   pub ticked : IsTimeBy events clock.ticked
   pub samples : clock.samples ≤ events
 
-pub record FitsDeparted (events : ℕ) (d : Departed) : Type 0 where
+pub record FitsDeparted (links events : ℕ) (d : Departed) : Type 0 where
+  pub link : d.link < links
   pub sent : IsTimeBy events d.sent
   pub due : IsDueBy events d.due
 
@@ -133,7 +134,7 @@ pub record FitsPlant (plant : Plant) : Type 0 where
   pub clocks : Each (λ n. FitsClock plant.events) plant.clocks.items
   pub spans : Each (λ k. FitsSpan plant.events) plant.spans.items
   pub frame_count : length plant.frames ≤ plant.events
-  pub frames : Each (λ i. FitsDeparted plant.events) plant.frames
+  pub frames : Each (λ i. FitsDeparted (length plant.net.cfg.links.items) plant.events) plant.frames
 
 -- The frame that is due first
 

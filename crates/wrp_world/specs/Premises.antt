@@ -7,6 +7,7 @@ use Rattle.std.specs.Option.{is_some, option_map_or}
 use Rattle.wrp_base.specs.Circle.{distance_round}
 use Rattle.wrp_base.specs.Clock.{period_of}
 use Rattle.wrp_base.specs.Division.{floor_quotient}
+use Rattle.wrp_base.specs.declared.configuration.NetCfg.{NetCfg}
 use Rattle.wrp_base.specs.declared.link.Module.{Module}
 use Rattle.wrp_base.specs.declared.link.Role.TheVariants.{Master, Slave}
 use Rattle.wrp_base.specs.declared.link.ServoState.{ServoState}
@@ -41,19 +42,18 @@ abbrev pub parts : ℕ
 parts = 1_000_000_000_000
 
 -- 1, TickEarly: no tick comes sooner than dmin after the node's last tick, or after its Up
-abbrev pub early_by : NetCfg → ℤ → ClockState → Check
-early_by cfg now clock = only_where clock.up (at_least 1 (now -ℤ clock.ticked) (pos (shortest_tick cfg)))
+abbrev pub early_by : (least now : ℤ) → ClockState → Check
+early_by least now clock = only_where clock.up (at_least 1 (now -ℤ clock.ticked) least)
 
 abbrev pub tick_early : Setting → WorldAt → ℕ → Check
-tick_early s w n = early_by s.cfg w.time (w.clock n)
+tick_early s w n = early_by (pos (shortest_tick s.cfg)) w.time (w.clock n)
 
 -- 2, TickLate: no time passes to more than dmax past an up node's last tick, or its Up
-abbrev pub late_by : NetCfg → (now dt : ℤ) → ClockState → Check
-late_by cfg now dt clock =
-    only_where clock.up (at_most 2 ((now +ℤ dt) -ℤ clock.ticked) (pos (longest_tick cfg)))
+abbrev pub late_by : (most after : ℤ) → ClockState → Check
+late_by most after clock = only_where clock.up (at_most 2 (after -ℤ clock.ticked) most)
 
 abbrev pub tick_late : Setting → WorldAt → ℤ → ℕ → Check
-tick_late s w dt n = late_by s.cfg w.time dt (w.clock n)
+tick_late s w dt n = late_by (pos (longest_tick s.cfg)) (w.time +ℤ dt) (w.clock n)
 
 -- 3, Rate: a clock that is locked keeps its slew, one in HOLDOVER its held, and the grandmaster's does not move
 
@@ -98,14 +98,14 @@ abbrev pub asymmetry : (kappa ms sm : ℤ) → ℤ
 asymmetry kappa ms sm = (pos (2 ^ 40) *ℤ ms) -ℤ ((pos (2 ^ 39) +ℤ kappa) *ℤ (ms +ℤ sm))
 
 -- of a fibre, the delays with both ports' own down and up, and the link
-abbrev pub fibre_by : NetCfg → FibreState → (down up : ℤ) → LinkCfg → List Check
-fibre_by cfg fibre down up link =
+abbrev pub fibre_by : (most : ℤ) → FibreState → (down up : ℤ) → LinkCfg → List Check
+fibre_by most fibre down up link =
     at_least 5 fibre.ms (pos 0) ∷ (at_least 5 fibre.sm (pos 0) ∷ (
-    at_most 5 down (pos (reach cfg)) ∷ (at_most 5 up (pos (reach cfg)) ∷ (
+    at_most 5 down most ∷ (at_most 5 up most ∷ (
     at_most 5 (size_of (asymmetry link.kappa fibre.ms fibre.sm)) (pos (2 ^ 40 * link.e_asym)) ∷ []))))
 
 abbrev pub fibre_checks : Setting → WorldAt → ℕ → LinkCfg → List Check
-fibre_checks s v k link = fibre_by s.cfg (v.fibre k) (delay_from v k Master) (delay_from v k Slave) link
+fibre_checks s v k link = fibre_by (pos (reach s.cfg)) (v.fibre k) (delay_from v k Master) (delay_from v k Slave) link
 
 -- of the world that the event would give
 abbrev pub fibre_kept : Setting → WorldAt → ℕ → List Check

@@ -88,7 +88,8 @@ pub fn size(x: Tau) -> Tau
 // A time in ns, in tau.
 fn tau_of_ns(ns: i64) -> Tau
     requires { unsigned_abs ns ≤ 10_000_000_000 }
-    ensures { result ≡ pos (times.tau_of_ns ns) }
+    ensures value { result ≡ pos (times.tau_of_ns ns) }
+    ensures size { unsigned_abs result ≤ 2 ^ 60 }
 {
     (TAU_OF_NS * u128::from(ns.unsigned_abs())) as i128
 }
@@ -96,7 +97,8 @@ fn tau_of_ns(ns: i64) -> Tau
 /// The shortest time from one tick of a node to the next.
 pub fn shortest_tick(cfg: &NetCfg) -> Tau
     requires { HasRanges cfg.now }
-    ensures { result ≡ pos (times.shortest_tick cfg.now) }
+    ensures value { result ≡ pos (times.shortest_tick cfg.now) }
+    ensures size { unsigned_abs result ≤ 2 ^ 60 }
 {
     tau_of_ns(cfg.dmin_ns)
 }
@@ -104,7 +106,8 @@ pub fn shortest_tick(cfg: &NetCfg) -> Tau
 /// The longest time from one tick of a node to the next.
 pub fn longest_tick(cfg: &NetCfg) -> Tau
     requires { HasRanges cfg.now }
-    ensures { result ≡ pos (times.longest_tick cfg.now) }
+    ensures value { result ≡ pos (times.longest_tick cfg.now) }
+    ensures size { unsigned_abs result ≤ 2 ^ 60 }
 {
     tau_of_ns(cfg.dmax_ns)
 }
@@ -112,7 +115,8 @@ pub fn longest_tick(cfg: &NetCfg) -> Tau
 /// The life of a frame.
 pub fn frame_life(cfg: &NetCfg) -> Tau
     requires { HasRanges cfg.now }
-    ensures { result ≡ pos (times.frame_life cfg.now) }
+    ensures value { result ≡ pos (times.frame_life cfg.now) }
+    ensures size { unsigned_abs result ≤ 2 ^ 60 }
 {
     tau_of_ns(cfg.life_ns)
 }
@@ -120,7 +124,8 @@ pub fn frame_life(cfg: &NetCfg) -> Tau
 /// The greatest one-way delay.
 pub fn reach(cfg: &NetCfg) -> Tau
     requires { HasRanges cfg.now }
-    ensures { result ≡ pos (times.reach cfg.now) }
+    ensures value { result ≡ pos (times.reach cfg.now) }
+    ensures size { unsigned_abs result ≤ 2 ^ 60 }
 {
     tau_of_ns(cfg.reach_ns)
 }

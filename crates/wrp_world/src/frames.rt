@@ -1,6 +1,6 @@
 //! The frames of a world that departed, found by their numbers.
 ghost use Rattle.std.specs.Prelude.{◌≡◌, ◌<◌, ◌^◌, [], length, None, option_map};
-ghost use Rattle.wrp_world.specs.Plant.{frame_numbered, next_from, sooner, before};
+ghost use Rattle.wrp_world.specs.Plant.{frame_numbered, next_from, is_on, sooner, before};
 
 use std::alloc::Global;
 use std::marker::Model;
@@ -32,6 +32,15 @@ pub struct Departed {
     pub arrival: Option<Reception>,
     /// Whether it never arrives any more.
     pub gone: bool,
+}
+
+impl Departed {
+    /// Whether it is on a fibre: it has not arrived, and still can.
+    pub fn is_on(&self) -> bool
+        ensures { result ≡ is_on self.now }
+    {
+        !self.gone && self.arrival.is_none()
+    }
 }
 
 /// The frames that departed, numbered from 1 in the order of their departures.
@@ -84,10 +93,10 @@ impl Frames {
         ensures { result ≡ next_from 1 self.now None }
     {
         let mut next: Option<(u32, Tau)> = None;
-        let mut number: u32 = 1;
+        let mut number: u32 = 0;
         for frame in &self.list {
-            next = sooner(next, number, frame);
             number += 1;
+            next = sooner(next, number, frame);
         }
         next
     }
@@ -97,10 +106,10 @@ impl Frames {
 fn sooner(next: Option<(u32, Tau)>, number: u32, frame: &Departed) -> Option<(u32, Tau)>
     ensures { result ≡ sooner next number frame.now }
 {
-    if frame.gone || frame.arrival.is_some() {
-        next
-    } else {
+    if frame.is_on() {
         before(next, number, frame.due)
+    } else {
+        next
     }
 }
 

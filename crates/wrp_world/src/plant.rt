@@ -1,6 +1,5 @@
 //! All of a world but its nodes: true time, clocks, fibres, ends of links and frames in flight.
 mod parts;
-mod tries;
 mod views;
 
 use crate::clocks::ClockState;

@@ -1,16 +1,18 @@
 //! The parts of a plant, and the sizes of their numbers.
-ghost use Rattle.std.specs.Prelude.{◌≡◌, ◌<◌, ◌≤◌, length, slice_get, Some, option_map};
+ghost use Rattle.std.specs.Prelude.{◌≡◌, ◌<◌, ◌≤◌, length, slice_get, Some, IfSome, option_map};
 ghost use Rattle.wrp_base.specs.Network.{HasRanges, HasNodeRanges, HasLinkRanges, node_count};
-ghost use Rattle.wrp_world.specs.Plant.{EndIs, FitsPlant, FitsSpan, PlantIs};
-ghost use Rattle.wrp_world.specs.Setting.{Setting};
+ghost use Rattle.wrp_config.specs.Accepted.{HasDelayRanges};
+ghost use Rattle.wrp_world.specs.Plant.{EndIs, FitsDeparted, FitsPlant, FitsSpan, PlantIs, frame_numbered};
+ghost use Rattle.wrp_world.specs.Setting.{Setting, end_at, entry_at};
 ghost use Rattle.wrp_world.specs.Sizes.{IsTime, IsOff, IsDelay};
 ghost use Rattle.wrp_world.specs.WorldAt.{WorldAt};
 
 use super::Plant;
 use crate::clocks::ClockState;
 use crate::ends::{EndState, Span};
+use crate::frames::Departed;
 use crate::place::Place;
-use wrp_base::{LinkCfg, NetCfg, NodeCfg, Tau};
+use wrp_base::{LinkCfg, Module, Name, NetCfg, NodeCfg, Role, Tau};
 
 impl Plant {
     /// The numbers of the network.
@@ -31,6 +33,36 @@ impl Plant {
         self.time
     }
 
+    // The clock of a node, the state of a link, and what the network has of a node and of a link: as they
+    // are kept.
+    fn clock_at(&self, n: u8) -> &ClockState
+        requires { n < length self.now.clocks.items }
+        ensures { slice_get self.now.clocks.items n ≡ Some result.now }
+    {
+        &self.clocks[usize::from(n)]
+    }
+
+    fn span_at(&self, k: u8) -> &Span
+        requires { k < length self.now.spans.items }
+        ensures { slice_get self.now.spans.items k ≡ Some result.now }
+    {
+        &self.spans[usize::from(k)]
+    }
+
+    fn node_cfg_at(&self, n: u8) -> &NodeCfg
+        requires { n < length self.now.net.cfg.nodes.items }
+        ensures { slice_get self.now.net.cfg.nodes.items n ≡ Some result.now }
+    {
+        &self.net.cfg.nodes[usize::from(n)]
+    }
+
+    fn link_cfg_at(&self, k: u8) -> &LinkCfg
+        requires { k < length self.now.net.cfg.links.items }
+        ensures { slice_get self.now.net.cfg.links.items k ≡ Some result.now }
+    {
+        &self.net.cfg.links[usize::from(k)]
+    }
+
     /// The clock of a node.
     pub fn clock(&self, n: u8) -> &ClockState
         requires fits { FitsPlant self.now }
@@ -40,7 +72,7 @@ impl Plant {
         ensures ticked { IsTime result.now.ticked }
         ensures samples { result.now.samples ≤ self.now.events }
     {
-        &self.clocks[usize::from(n)]
+        self.clock_at(n)
     }
 
     /// A link.
@@ -52,7 +84,7 @@ impl Plant {
         ensures ms { IsDelay result.now.fibre.ms }
         ensures sm { IsDelay result.now.fibre.sm }
     {
-        &self.spans[usize::from(k)]
+        self.span_at(k)
     }
 
     /// What the network has of a node.
@@ -62,7 +94,7 @@ impl Plant {
         ensures value { slice_get self.now.net.cfg.nodes.items n ≡ Some result.now }
         ensures ranges { HasNodeRanges self.now.net.cfg.clock result.now }
     {
-        &self.net.cfg.nodes[usize::from(n)]
+        self.node_cfg_at(n)
     }
 
     /// What the network has of a link.
@@ -74,7 +106,7 @@ impl Plant {
         ensures upper { result.now.upper < node_count self.now.net.cfg }
         ensures lower { result.now.lower < node_count self.now.net.cfg }
     {
-        &self.net.cfg.links[usize::from(k)]
+        self.link_cfg_at(k)
     }
 
     /// An end of a link.
@@ -85,5 +117,55 @@ impl Plant {
             → EndIs (w.end_at place.link place.role) result.now }
     {
         self.span(place.link).end(place.role)
+    }
+
+    /// The node at an end of a link.
+    pub fn node_at(&self, place: Place) -> u8
+        requires fits { FitsPlant self.now }
+        requires link { place.link < length self.now.net.cfg.links.items }
+        ensures value { (s : Setting) (w : WorldAt) → PlantIs s w self.now
+            → option_map (λ end. end.node) (end_at s place.link place.role) ≡ Some result }
+        ensures within { result < node_count self.now.net.cfg }
+    {
+        let link = self.link_cfg(place.link);
+        match place.role {
+            Role::Master => link.upper,
+            Role::Slave => link.lower,
+        }
+    }
+
+    /// The numbers of a module of this name at an end of a link, where it is listed there.
+    pub fn entry_named(&self, place: Place, name: &Name) -> Option<Module>
+        requires fits { FitsPlant self.now }
+        requires link { place.link < length self.now.net.cfg.links.items }
+        ensures value { (s : Setting) (w : WorldAt) → PlantIs s w self.now
+            → result ≡ entry_at s place.link place.role name.now.bytes }
+        ensures ranges { IfSome result HasDelayRanges }
+    {
+        let link = self.link_cfg(place.link);
+        match place.role {
+            Role::Master => self.net.db.module_at(name.as_str(), link.down_nm, link.up_nm),
+            Role::Slave => self.net.db.module_at(name.as_str(), link.up_nm, link.down_nm),
+        }
+    }
+
+    /// The numbers of the module in place at an end of a link, where it is listed there.
+    pub fn entry(&self, place: Place) -> Option<Module>
+        requires fits { FitsPlant self.now }
+        requires link { place.link < length self.now.net.cfg.links.items }
+        ensures value { (s : Setting) (w : WorldAt) → PlantIs s w self.now
+            → result ≡ entry_at s place.link place.role (w.end_at place.link place.role).name }
+        ensures ranges { IfSome result HasDelayRanges }
+    {
+        self.entry_named(place, &self.end(place).name)
+    }
+
+    /// A frame that departed. `None` exactly where the number was not given.
+    pub fn frame(&self, number: u32) -> Option<&Departed>
+        requires { FitsPlant self.now }
+        ensures value { option_map (λ f. f.now) result ≡ frame_numbered number self.now.frames }
+        ensures fits { IfSome result (λ f. FitsDeparted (length self.now.net.cfg.links.items) self.now.events f.now) }
+    {
+        self.frames.find(number)
     }
 }

@@ -1,12 +1,13 @@
 //! Which delays a joined link may have: premise 5.
 ghost use Rattle.std.specs.Prelude.{◌≡◌, pos, ◌*◌, ◌^◌, ◌≤◌, ◌≤ℤ◌, ◌+ℤ◌, ◌*ℤ◌, unsigned_abs, map};
-ghost use Rattle.wrp_base.specs.Network.{HasRanges, HasLinkRanges};
+ghost use Rattle.wrp_base.specs.Network.{HasLinkRanges};
 ghost use Rattle.wrp_world.specs.Checks.{told_of, only_where};
 ghost use Rattle.wrp_world.specs.Premises as premise;
+ghost use Rattle.wrp_world.specs.Sizes.{IsDelay, IsTime};
 
-use crate::checks::{Breach, at_least, at_most, reach, size};
+use crate::checks::{Breach, at_least, at_most, size};
 use crate::fibres::FibreState;
-use wrp_base::{LinkCfg, NetCfg, Tau, difference, product, sum};
+use wrp_base::{LinkCfg, Tau, difference, product, sum};
 
 // The part of both ways that the way down takes, times `2^40`.
 fn share(kappa: i64, both: Tau) -> Tau
@@ -39,17 +40,20 @@ fn slack(link: &LinkCfg) -> Tau
 
 // The delays of a joined link; `down` and `up` have both ports' own with those of the fibre.
 fn joined_kept(
-    cfg: &NetCfg,
+    most: Tau,
     fibre: &FibreState,
     down: Tau,
     up: Tau,
     link: &LinkCfg,
 ) -> Option<Breach>
-    requires ranges { HasRanges cfg.now }
+    requires most { unsigned_abs most ≤ 2 ^ 60 }
+    requires ms { IsDelay fibre.now.ms }
+    requires sm { IsDelay fibre.now.sm }
+    requires sizes { IsTime down × IsTime up }
     requires link { HasLinkRanges link.now }
     requires down { fibre.now.ms ≤ℤ down }
     requires up { fibre.now.sm ≤ℤ up }
-    ensures { result ≡ told_of (premise.fibre_by cfg.now fibre.now down up link.now) }
+    ensures { result ≡ told_of (premise.fibre_by most fibre.now down up link.now) }
 {
     if fibre.ms < 0 {
         return at_least(5, fibre.ms, 0);
@@ -57,7 +61,6 @@ fn joined_kept(
     if fibre.sm < 0 {
         return at_least(5, fibre.sm, 0);
     }
-    let most = reach(cfg);
     if most < down {
         return at_most(5, down, most);
     }
@@ -71,23 +74,27 @@ fn joined_kept(
     )
 }
 
-/// The delays of a link, if it is joined; `down` and `up` have both ports' own with those of the fibre.
+/// The delays of a link, if it is joined; `down` and `up` have both ports' own with those of the fibre,
+/// and `most` is the greatest that they may be.
 pub fn fibre_kept(
-    cfg: &NetCfg,
+    most: Tau,
     fibre: &FibreState,
     down: Tau,
     up: Tau,
     link: &LinkCfg,
 ) -> Option<Breach>
-    requires ranges { HasRanges cfg.now }
+    requires most { unsigned_abs most ≤ 2 ^ 60 }
+    requires ms { IsDelay fibre.now.ms }
+    requires sm { IsDelay fibre.now.sm }
+    requires sizes { IsTime down × IsTime up }
     requires link { HasLinkRanges link.now }
     requires down { fibre.now.ms ≤ℤ down }
     requires up { fibre.now.sm ≤ℤ up }
     ensures { result ≡ told_of
-        (map (only_where fibre.now.joined) (premise.fibre_by cfg.now fibre.now down up link.now)) }
+        (map (only_where fibre.now.joined) (premise.fibre_by most fibre.now down up link.now)) }
 {
     if fibre.joined {
-        joined_kept(cfg, fibre, down, up, link)
+        joined_kept(most, fibre, down, up, link)
     } else {
         None
     }

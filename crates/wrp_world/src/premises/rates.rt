@@ -61,8 +61,8 @@ pub fn true_at_top(is_top: bool, off: Tau) -> Option<Breach>
 }
 
 // The delays of a fibre keep their rate, the way down told first.
-fn fibre_rate(dt: i64, by: (i64, i64)) -> Option<Breach>
-    ensures { result ≡ told_of (premise.rate_of_fibre dt by) }
+fn fibre_rate(dt: i64, by: &(i64, i64)) -> Option<Breach>
+    ensures { result ≡ told_of (premise.rate_of_fibre dt by.now) }
 {
     match moves_at(4, by.0, dt, FIBRE_RATE) {
         Some(breach) => Some(breach),
@@ -75,7 +75,7 @@ pub fn fibre_rates(dt: i64, moves: &[(i64, i64)]) -> Option<Breach>
     ensures { result ≡ told_of (flat_map (premise.rate_of_fibre dt) moves.now) }
 {
     for by in moves {
-        if let Some(breach) = fibre_rate(dt, *by) {
+        if let Some(breach) = fibre_rate(dt, by) {
             return Some(breach);
         }
     }

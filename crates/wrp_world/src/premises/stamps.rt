@@ -147,11 +147,8 @@ pub fn raw_kept(
     ensures { result ≡ told_of (premise.raw_checks clock e_tag transition reading raw.now) }
 {
     let place = true_place(clock, reading);
-    if let Some(breach) = tag_kept(clock, e_tag, told_place(clock, raw.tag, transition), place) {
-        return Some(breach);
-    }
-    if let Some(breach) = rising_kept(clock, e_tag, place, reading, raw.rising) {
-        return Some(breach);
-    }
-    falling_kept(clock, e_tag, place, reading, raw.falling)
+    let told = told_place(clock, raw.tag, transition);
+    tag_kept(clock, e_tag, told, place)
+        .or(rising_kept(clock, e_tag, place, reading, raw.rising))
+        .or(falling_kept(clock, e_tag, place, reading, raw.falling))
 }

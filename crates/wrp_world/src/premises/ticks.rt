@@ -1,61 +1,70 @@
 //! When a node may tick: premises 1 and 2.
-ghost use Rattle.std.specs.Prelude.{◌≡◌, ◌+ℤ◌, ◌-ℤ◌, [], ◌∷◌, map};
-ghost use Rattle.wrp_base.specs.Network.{HasRanges};
-ghost use Rattle.wrp_world.specs.Checks.{told_of};
+ghost use Rattle.std.specs.Prelude.{◌≡◌, ◌-ℤ◌, [], ◌∷◌, map};
+ghost use Rattle.wrp_world.specs.Checks.{told_of, at_least, at_most};
 ghost use Rattle.wrp_world.specs.Plant.{Each};
 ghost use Rattle.wrp_world.specs.Premises.{early_by, late_by};
 ghost use Rattle.wrp_world.specs.Sizes.{IsTime};
 
-use crate::checks::{Breach, at_least, at_most, longest_tick, shortest_tick};
+use crate::checks::{Breach, at_least, at_most};
 use crate::clocks::ClockState;
-use wrp_base::{NetCfg, Tau, difference, sum};
+use wrp_base::{Tau, difference};
 
-/// No tick comes too early: `now` is the true time of the tick.
-pub fn tick_early(cfg: &NetCfg, now: Tau, clock: &ClockState) -> Option<Breach>
-    requires ranges { HasRanges cfg.now }
+// At least so long since a tick.
+fn late_enough(least: Tau, now: Tau, ticked: Tau) -> Option<Breach>
+    requires now { IsTime now }
+    requires ticked { IsTime ticked }
+    ensures { result ≡ told_of (at_least 1 (now -ℤ ticked) least ∷ []) }
+{
+    at_least(1, difference(now, ticked), least)
+}
+
+/// No tick comes too early: `now` is its true time, and `least` the shortest time from one to the next.
+pub fn tick_early(least: Tau, now: Tau, clock: &ClockState) -> Option<Breach>
+    requires least { IsTime least }
     requires now { IsTime now }
     requires ticked { IsTime clock.now.ticked }
-    ensures { result ≡ told_of (early_by cfg.now now clock.now ∷ []) }
+    ensures { result ≡ told_of (early_by least now clock.now ∷ []) }
 {
     if clock.up {
-        at_least(1, difference(now, clock.ticked), shortest_tick(cfg))
+        late_enough(least, now, clock.ticked)
     } else {
         None
     }
+}
+
+// At most so long since a tick.
+fn soon_enough(most: Tau, after: Tau, ticked: Tau) -> Option<Breach>
+    requires after { IsTime after }
+    requires ticked { IsTime ticked }
+    ensures { result ≡ told_of (at_most 2 (after -ℤ ticked) most ∷ []) }
+{
+    at_most(2, difference(after, ticked), most)
 }
 
 // No time passes to a tick that is too late, at one clock.
-fn tick_late(cfg: &NetCfg, now: Tau, dt: i64, clock: &ClockState) -> Option<Breach>
-    requires ranges { HasRanges cfg.now }
-    requires now { IsTime now }
+fn tick_late(most: Tau, after: Tau, clock: &ClockState) -> Option<Breach>
+    requires most { IsTime most }
+    requires after { IsTime after }
     requires ticked { IsTime clock.now.ticked }
-    ensures { result ≡ told_of (late_by cfg.now now dt clock.now ∷ []) }
+    ensures { result ≡ told_of (late_by most after clock.now ∷ []) }
 {
     if clock.up {
-        at_most(2, since(now, dt, clock.ticked), longest_tick(cfg))
+        soon_enough(most, after, clock.ticked)
     } else {
         None
     }
 }
 
-// The time from then until so much after now.
-fn since(now: Tau, dt: i64, then: Tau) -> Tau
-    requires now { IsTime now }
-    requires then { IsTime then }
-    ensures { result ≡ (now +ℤ dt) -ℤ then }
-{
-    difference(sum(now, i128::from(dt)), then)
-}
-
-/// No time passes to a tick that is too late, at any clock.
-pub fn ticks_late(cfg: &NetCfg, now: Tau, dt: i64, clocks: &[ClockState]) -> Option<Breach>
-    requires ranges { HasRanges cfg.now }
-    requires now { IsTime now }
+/// No time passes to a tick that is too late, at any clock: `after` is the true time then, and `most`
+/// the longest time from one tick to the next.
+pub fn ticks_late(most: Tau, after: Tau, clocks: &[ClockState]) -> Option<Breach>
+    requires most { IsTime most }
+    requires after { IsTime after }
     requires ticked { Each (λ n clock. IsTime clock.ticked) clocks.now }
-    ensures { result ≡ told_of (map (late_by cfg.now now dt) clocks.now) }
+    ensures { result ≡ told_of (map (late_by most after) clocks.now) }
 {
     for clock in clocks {
-        if let Some(breach) = tick_late(cfg, now, dt, clock) {
+        if let Some(breach) = tick_late(most, after, clock) {
             return Some(breach);
         }
     }
