@@ -1,5 +1,8 @@
+pub mod EachLists
 pub mod FoundFrames
+pub mod Inside
 pub mod JoinedLinks
+pub mod NewPlants
 pub mod NextArrivals
 pub mod NextDue
 mod Rows

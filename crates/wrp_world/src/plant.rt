@@ -1,5 +1,7 @@
 //! All of a world but its nodes: true time, clocks, fibres, ends of links and frames in flight.
+mod new;
 mod parts;
+mod tries;
 mod views;
 
 use crate::clocks::ClockState;
