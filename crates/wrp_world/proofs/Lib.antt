@@ -1,5 +1,6 @@
 pub mod EachLists
 pub mod FoundFrames
+pub mod Handing
 pub mod Inside
 pub mod JoinedLinks
 pub mod NewPlants

@@ -5,17 +5,19 @@ use Rattle.std.specs.Option.{option_map_or}
 use Rattle.wrp_base.specs.declared.link.Module.{Module}
 use Rattle.wrp_base.specs.declared.link.Role.TheVariants.{Master, Slave}
 use Rattle.wrp_base.specs.declared.network.LinkCfg.{LinkCfg}
-use Rattle.wrp_caldb.specs.Database.{module_at}
+use Rattle.wrp_caldb.specs.Database.{Database, module_at}
 use Rattle.wrp_world.specs.declared.clocks.ClockState.{ClockState}
 use Rattle.wrp_world.specs.declared.ends.EndState.{EndState}
 use Rattle.wrp_world.specs.declared.ends.PutOut.{PutOut}
 use Rattle.wrp_world.specs.declared.ends.Span.{Span}
+use Rattle.wrp_world.specs.declared.fibres.FibreState.{FibreState}
 use Rattle.wrp_world.specs.declared.plant.Plant.{Plant}
 use Rattle.wrp_world.specs.New.{IsNewEnd, IsNewSpan, IsSpanOf, new_clock}
-use Rattle.wrp_world.specs.Plant.{Each, EndIs, SpanIs, FramesAre, PlantIs, MaybeIs, DepartedIs, PutOutIs, frame_numbered}
+use Rattle.wrp_world.specs.Plant.{Each, EndIs, SpanIs, FitsClock, FitsSpan, FramesAre, PlantIs, MaybeIs, DepartedIs, PutOutIs, frame_numbered}
 use Rattle.wrp_world.specs.Setting.{Setting, link_of, start_of, entry_at}
+use Rattle.wrp_world.specs.Sizes.{IsTimeBy, IsDelayBy}
 use Rattle.wrp_world.specs.WorldAt.{WorldAt, EndAt, new_world, new_end, first_name, named_at}
-use Rattle.wrp_world.proofs.EachLists.{at_place}
+use Rattle.wrp_world.proofs.EachLists.{at_place, each_none}
 
 -- what the code made of a network
 pub record IsNewPlant (s : Setting) (plant : Plant) : Type 0 where
@@ -76,10 +78,32 @@ new_plant s plant h = record {
   clocks = h.clocks;
   spans = λ k span e.
       let at : (link : LinkCfg) × (slice_get s.cfg.links.items k ≡ Some link) =
-          place_at s.cfg.links.items k (subst (λ n. k < n) h.span_count (at_place plant.spans.items k span e)) in
+      place_at s.cfg.links.items k (subst (λ n. k < n) h.span_count (at_place plant.spans.items k span e)) in
       span_is s k at.0 span at.1 (h.spans k span e at.0 at.1);
   frames = record {
     count = ap length h.frames;
     each = λ i. subst (λ fs. MaybeIs DepartedIs None (frame_numbered i fs)) (sym h.frames) (no_frame i);
   };
 }
+
+-- and its numbers are in their ranges
+
+start_fits : (t : ℤ) → IsTimeBy 0 t → FitsClock 0 (new_clock t)
+start_fits t h = record { off = omega arith; ticked = h; samples = omega arith }
+
+pub clocks_fit : (t : ℤ) (clocks : List ClockState) → IsTimeBy 0 t → Each (λ n clock. clock ≡ new_clock t) clocks → Each (λ n. FitsClock 0) clocks
+clocks_fit t clocks h each n clock e = subst (FitsClock 0) (sym (each n clock e)) (start_fits t h)
+
+span_fits : (db : Database) (link : LinkCfg) (span : Span) → IsNewSpan db link span → FitsSpan 0 span
+span_fits db link span h = record {
+  ms = subst (λ (f : FibreState). IsDelayBy 0 f.ms) (sym h.fibre) (omega arith);
+  sm = subst (λ (f : FibreState). IsDelayBy 0 f.sm) (sym h.fibre) (omega arith);
+  master = record { waiting = subst (Each (λ i (out : PutOut). IsTimeBy 0 out.at)) (sym h.master.waiting) (each_none (λ i (out : PutOut). IsTimeBy 0 out.at)) };
+  slave = record { waiting = subst (Each (λ i (out : PutOut). IsTimeBy 0 out.at)) (sym h.slave.waiting) (each_none (λ i (out : PutOut). IsTimeBy 0 out.at)) };
+}
+
+pub spans_fit : (db : Database) (links : List LinkCfg) (spans : List Span) → length spans ≡ length links → Each (IsSpanOf db links) spans → Each (λ k. FitsSpan 0) spans
+spans_fit db links spans count each k span e =
+    let at : (link : LinkCfg) × (slice_get links k ≡ Some link) =
+    place_at links k (subst (λ n. k < n) count (at_place spans k span e)) in
+    span_fits db at.0 span (each k span e at.0 at.1)
