@@ -1,3 +1,16 @@
+pub mod EachLists
+pub mod FoundFrames
+pub mod Handing
+pub mod Inside
+pub mod JoinedLinks
+pub mod NewPlants
+pub mod NextArrivals
+pub mod NextDue
 mod Rows
+pub mod SignedReads
+pub mod Sizing
+mod Bounds
+pub mod Standing
 mod Still
+pub mod Told
 mod Unbroken

@@ -2,7 +2,8 @@
 use Rattle.std.proofs.Common.{◌≡◌, refl, [], Option, None, Some}
 use Rattle.wrp_world.specs.Laws.{NewWorldIsStill}
 use Rattle.wrp_world.specs.Moved.{waiting_at}
-use Rattle.wrp_world.specs.Setting.{Setting, Place, place_of}
+use Rattle.wrp_world.specs.declared.place.Place.{Place}
+use Rattle.wrp_world.specs.Setting.{Setting, place_of}
 use Rattle.wrp_world.specs.Views.{history_of, oldest_of}
 use Rattle.wrp_world.specs.WorldAt.{new_world}
 

@@ -1,7 +1,8 @@
 -- What a premise compares: each premise is a list of checks, in the order in which they are tried (this project's profile).
-use Rattle.std.specs.Prelude.{◌≡◌, ◌&&◌, ℕ, ℤ, pos, unsigned_abs, not, Bool, true, false, Option, List}
+use Rattle.std.specs.Prelude.{◌≡◌, ◌&&◌, ℕ, ℤ, pos, unsigned_abs, not, Bool, true, false, Option, List, option_map}
 use Rattle.std.specs.Int.Signed.{le_z}
 use Rattle.std.specs.List.{AllByRecursion, find}
+use Rattle.wrp_world.specs.declared.checks.Breach.{Breach}
 
 -- one comparison: the number of its premise, whether it fails, and its two sides
 pub record Check : Type 0 where
@@ -45,3 +46,11 @@ AllHold checks = AllByRecursion Holds checks
 -- the first that fails
 abbrev pub first_broken : List Check → Option Check
 first_broken checks = find (λ check. check.fails) checks
+
+-- what is told of a check that fails: its premise and its two sides
+abbrev pub breach_of : Check → Breach
+breach_of check = record { premise = check.premise; shown = check.shown; bound = check.bound }
+
+-- what is told of these checks: the first that fails, if one does
+abbrev pub told_of : List Check → Option Breach
+told_of checks = option_map breach_of (first_broken checks)

@@ -21,11 +21,13 @@ use Rattle.wrp_node.specs.NodeAt.{Taken, link_at, numbers_of}
 use Rattle.wrp_node.specs.NodeRun.{outputs_of}
 use Rattle.wrp_node.specs.NodeStep.{node_step}
 use Rattle.wrp_node.specs.Telling.{Step}
+use Rattle.wrp_world.specs.declared.clocks.ClockState.{ClockState}
 use Rattle.wrp_world.specs.declared.event.Event.{Event}
 use Rattle.wrp_world.specs.declared.event.Event.TheVariants.{Tick, Sample, Depart, Deliver, Noise, Down, Up, Cut, Join}
 use Rattle.wrp_world.specs.Moved.{moved, waiting_at}
-use Rattle.wrp_world.specs.Setting.{Setting, Place, end_at, entry_at, fixed_of, is_of, other_of, place_of}
-use Rattle.wrp_world.specs.WorldAt.{WorldAt, ClockAt, EndAt, FrameAt, Arrival, Sending, has_carrier}
+use Rattle.wrp_world.specs.declared.place.Place.{Place}
+use Rattle.wrp_world.specs.Setting.{Setting, end_at, entry_at, fixed_of, is_of, other_of, place_of}
+use Rattle.wrp_world.specs.WorldAt.{WorldAt, EndAt, FrameAt, Arrival, Sending, has_carrier}
 
 -- What an event gives
 
@@ -163,7 +165,7 @@ ticked_by TickInput time before = time
 ticked_by _ time before = before
 
 -- a step that the node commands moves its clock by whole periods
-abbrev pub clock_told : Setting → WorldAt → Given → ℤ → ClockAt → ClockAt
+abbrev pub clock_told : Setting → WorldAt → Given → ℤ → ClockState → ClockState
 clock_told s v g cycles c = record c {
   off = c.off +ℤ (cycles *ℤ pos (period_of s.cfg.clock));
   ticked = ticked_by g.input v.time c.ticked;

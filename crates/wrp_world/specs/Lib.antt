@@ -2,9 +2,13 @@ pub mod Checks
 pub mod Given
 pub mod Laws
 pub mod Moved
+pub mod New
+pub mod Plant
 pub mod Premises
 pub mod Rows
 pub mod Run
 pub mod Setting
+pub mod Sizes
+pub mod StandsFor
 pub mod Views
 pub mod WorldAt

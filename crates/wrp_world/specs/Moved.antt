@@ -5,11 +5,14 @@ use Rattle.std.specs.Option.{option_map_or}
 use Rattle.wrp_base.specs.declared.link.Role.{Role}
 use Rattle.wrp_base.specs.declared.link.Role.TheVariants.{Master, Slave}
 use Rattle.wrp_base.specs.declared.time.Raw.{Raw}
+use Rattle.wrp_world.specs.declared.clocks.ClockState.{ClockState}
+use Rattle.wrp_world.specs.declared.fibres.FibreState.{FibreState}
 use Rattle.wrp_world.specs.declared.event.Event.{Event}
 use Rattle.wrp_world.specs.declared.event.Event.TheVariants.{Pass, Sample, Depart, Arrive, Down, Up, Cut, Join}
 use Rattle.wrp_world.specs.declared.event.Swap.{Swap}
-use Rattle.wrp_world.specs.Setting.{Setting, Place, end_at, is_of, is_role, other_of, place_of}
-use Rattle.wrp_world.specs.WorldAt.{WorldAt, ClockAt, FibreAt, EndAt, Sending, FrameAt, delay_from, is_on_fibre}
+use Rattle.wrp_world.specs.declared.place.Place.{Place}
+use Rattle.wrp_world.specs.Setting.{Setting, end_at, is_of, is_role, other_of, place_of}
+use Rattle.wrp_world.specs.WorldAt.{WorldAt, EndAt, Sending, FrameAt, delay_from, is_on_fibre}
 
 -- Time and clocks
 
@@ -21,7 +24,7 @@ time_after w _ = w.time
 abbrev pub drift_of : List ℤ → ℕ → ℤ
 drift_of drifts n = option_map_or (λ drift. drift) (slice_get drifts n) (pos 0)
 
-abbrev pub clock_after : WorldAt → Event → ℕ → ClockAt
+abbrev pub clock_after : WorldAt → Event → ℕ → ClockState
 clock_after w (Pass dt drifts fibres) m =
     record (w.clock m) { off = (w.clock m).off +ℤ drift_of drifts.items m }
 clock_after w (Sample n base bits) m =
@@ -37,7 +40,7 @@ clock_after w _ m = w.clock m
 abbrev pub move_of : List (ℤ × ℤ) → ℕ → ℤ × ℤ
 move_of moves k = option_map_or (λ move. move) (slice_get moves k) (pos 0, pos 0)
 
-abbrev pub fibre_after : WorldAt → Event → ℕ → FibreAt
+abbrev pub fibre_after : WorldAt → Event → ℕ → FibreState
 fibre_after w (Pass dt drifts fibres) l =
     record (w.fibre l) {
       ms = (w.fibre l).ms +ℤ (move_of fibres.items l).0;

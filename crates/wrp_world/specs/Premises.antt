@@ -7,6 +7,7 @@ use Rattle.std.specs.Option.{is_some, option_map_or}
 use Rattle.wrp_base.specs.Circle.{distance_round}
 use Rattle.wrp_base.specs.Clock.{period_of}
 use Rattle.wrp_base.specs.Division.{floor_quotient}
+use Rattle.wrp_base.specs.declared.configuration.NetCfg.{NetCfg}
 use Rattle.wrp_base.specs.declared.link.Module.{Module}
 use Rattle.wrp_base.specs.declared.link.Role.TheVariants.{Master, Slave}
 use Rattle.wrp_base.specs.declared.link.ServoState.{ServoState}
@@ -28,9 +29,12 @@ use Rattle.wrp_stamp.specs.StampBound.{true_place}
 use Rattle.wrp_world.specs.declared.event.Event.{Event}
 use Rattle.wrp_world.specs.declared.event.Event.TheVariants.{Pass, Tick, Sample, Depart, Arrive, Deliver, Noise, Down, Up, Cut, Join}
 use Rattle.wrp_world.specs.declared.event.Swap.{Swap}
+use Rattle.wrp_world.specs.declared.clocks.ClockState.{ClockState}
+use Rattle.wrp_world.specs.declared.fibres.FibreState.{FibreState}
 use Rattle.wrp_world.specs.Checks.{Check, at_most, at_least, only_where, size_of, stands, not_sent, AllHold, first_broken}
 use Rattle.wrp_world.specs.Moved.{moved, waiting_at, drift_of, move_of}
-use Rattle.wrp_world.specs.Setting.{Setting, Place, above, end_at, entry_at, fixed_of, from_on, link_of, links_of, nodes_of, of_node, other_of, place_of}
+use Rattle.wrp_world.specs.declared.place.Place.{Place}
+use Rattle.wrp_world.specs.Setting.{Setting, above, end_at, entry_at, fixed_of, from_on, link_of, links_of, nodes_of, of_node, other_of, place_of}
 use Rattle.wrp_world.specs.WorldAt.{WorldAt, FrameAt, Arrival, Sending, delay_from, has_carrier, is_on_fibre, phase_of, reading}
 
 -- rates are in 10^-12
@@ -38,14 +42,18 @@ abbrev pub parts : ℕ
 parts = 1_000_000_000_000
 
 -- 1, TickEarly: no tick comes sooner than dmin after the node's last tick, or after its Up
+abbrev pub early_by : (least now : ℤ) → ClockState → Check
+early_by least now clock = only_where clock.up (at_least 1 (now -ℤ clock.ticked) least)
+
 abbrev pub tick_early : Setting → WorldAt → ℕ → Check
-tick_early s w n =
-    only_where (w.clock n).up (at_least 1 (w.time -ℤ (w.clock n).ticked) (pos (shortest_tick s.cfg)))
+tick_early s w n = early_by (pos (shortest_tick s.cfg)) w.time (w.clock n)
 
 -- 2, TickLate: no time passes to more than dmax past an up node's last tick, or its Up
+abbrev pub late_by : (most after : ℤ) → ClockState → Check
+late_by most after clock = only_where clock.up (at_most 2 (after -ℤ clock.ticked) most)
+
 abbrev pub tick_late : Setting → WorldAt → ℤ → ℕ → Check
-tick_late s w dt n =
-    only_where (w.clock n).up (at_most 2 ((w.time +ℤ dt) -ℤ (w.clock n).ticked) (pos (longest_tick s.cfg)))
+tick_late s w dt n = late_by (pos (longest_tick s.cfg)) (w.time +ℤ dt) (w.clock n)
 
 -- 3, Rate: a clock that is locked keeps its slew, one in HOLDOVER its held, and the grandmaster's does not move
 
@@ -76,22 +84,28 @@ abbrev pub true_at_top : Setting → ℕ → ℤ → Check
 true_at_top s n off = only_where (not (is_some (link_above s.cfg n))) (at_most 3 (size_of off) (pos 0))
 
 -- 4, FibreRate: a one-way delay moves at most at a rate of 2, the way down told first
+abbrev pub rate_of_fibre : ℤ → ℤ × ℤ → List Check
+rate_of_fibre dt move = moves_at 4 move.0 dt 2 ∷ (moves_at 4 move.1 dt 2 ∷ [])
+
 abbrev pub fibre_rate : ℤ → List (ℤ × ℤ) → ℕ → List Check
-fibre_rate dt moves k = moves_at 4 (move_of moves k).0 dt 2 ∷ (moves_at 4 (move_of moves k).1 dt 2 ∷ [])
+fibre_rate dt moves k = rate_of_fibre dt (move_of moves k)
 
 -- 5, Fibre: the delays of a joined link are at least 0, and at most the reach with the ports' own; and the way down has
 -- its share of both to within e_asym
 
 -- how far the way down is from its share, times 2^40
-abbrev pub asymmetry : WorldAt → ℕ → LinkCfg → ℤ
-asymmetry v k link =
-    (pos (2 ^ 40) *ℤ (v.fibre k).ms) -ℤ ((pos (2 ^ 39) +ℤ link.kappa) *ℤ ((v.fibre k).ms +ℤ (v.fibre k).sm))
+abbrev pub asymmetry : (kappa ms sm : ℤ) → ℤ
+asymmetry kappa ms sm = (pos (2 ^ 40) *ℤ ms) -ℤ ((pos (2 ^ 39) +ℤ kappa) *ℤ (ms +ℤ sm))
+
+-- of a fibre, the delays with both ports' own down and up, and the link
+abbrev pub fibre_by : (most : ℤ) → FibreState → (down up : ℤ) → LinkCfg → List Check
+fibre_by most fibre down up link =
+    at_least 5 fibre.ms (pos 0) ∷ (at_least 5 fibre.sm (pos 0) ∷ (
+    at_most 5 down most ∷ (at_most 5 up most ∷ (
+    at_most 5 (size_of (asymmetry link.kappa fibre.ms fibre.sm)) (pos (2 ^ 40 * link.e_asym)) ∷ []))))
 
 abbrev pub fibre_checks : Setting → WorldAt → ℕ → LinkCfg → List Check
-fibre_checks s v k link =
-    at_least 5 (v.fibre k).ms (pos 0) ∷ (at_least 5 (v.fibre k).sm (pos 0) ∷ (
-    at_most 5 (delay_from v k Master) (pos (reach s.cfg)) ∷ (at_most 5 (delay_from v k Slave) (pos (reach s.cfg)) ∷ (
-    at_most 5 (size_of (asymmetry v k link)) (pos (2 ^ 40 * link.e_asym)) ∷ []))))
+fibre_checks s v k link = fibre_by (pos (reach s.cfg)) (v.fibre k) (delay_from v k Master) (delay_from v k Slave) link
 
 -- of the world that the event would give
 abbrev pub fibre_kept : Setting → WorldAt → ℕ → List Check
@@ -99,11 +113,14 @@ fibre_kept s v k = map (only_where (v.fibre k).joined) (option_map_or (fibre_che
 
 -- 6, Module: the true delays of a listed module are within its error of its entry, the transmission told first
 
-abbrev pub module_checks : Swap → Option Module → List Check
-module_checks swap None = []
-module_checks swap (Some entry) =
+abbrev pub listed_checks : Swap → Module → List Check
+listed_checks swap entry =
     at_most 6 (size_of (pos swap.tx -ℤ pos entry.tx)) (pos entry.err)
     ∷ (at_most 6 (size_of (pos swap.rx -ℤ pos entry.rx)) (pos entry.err) ∷ [])
+
+abbrev pub module_checks : Swap → Option Module → List Check
+module_checks swap None = []
+module_checks swap (Some entry) = listed_checks swap entry
 
 abbrev pub entry_for : Setting → Swap → Option Place → Option Module
 entry_for s swap None = None
@@ -112,6 +129,10 @@ entry_for s swap (Some place) = entry_at s place.link place.role swap.name.bytes
 abbrev pub module_kept : Setting → ℕ → Swap → List Check
 module_kept s n swap = module_checks swap (entry_for s swap (place_of s n swap.port))
 
+-- 10, TooOld: a frame is too old when more than its life has passed since it was put out
+abbrev pub too_old : NetCfg → ℤ → Sending → Check
+too_old cfg now sending = at_most 10 (now -ℤ sending.at) (pos (frame_life cfg))
+
 -- 7, TxStamp; 10, TooOld; 11, NotSent; 13, NotUp: of a frame that departs
 
 abbrev pub depart_checks : Setting → WorldAt → ℕ → ℤ → Option Place → List Sending → List Check
@@ -119,8 +140,7 @@ depart_checks s w n stamp None waiting = stands false ∷ []
 depart_checks s w n stamp (Some place) [] = not_sent 0 w.departed ∷ []
 depart_checks s w n stamp (Some place) (oldest ∷ rest) =
     at_most 7 (size_of (stamp -ℤ reading w n)) (pos (of_node (λ node. node.e_tx) s n))
-    ∷ (at_most 10 (w.time -ℤ oldest.at) (pos (frame_life s.cfg))
-    ∷ (stands (has_carrier s w place.link) ∷ []))
+    ∷ (too_old s.cfg w.time oldest ∷ (stands (has_carrier s w place.link) ∷ []))
 
 -- 8, RxRaw: a frame arrives when it is due; its tag is within e_tag of the true place in the period, and each counter is
 -- right where a merge may use it
@@ -177,11 +197,13 @@ abbrev pub bit_check : ℤ → (beat bits i : ℕ) → Check
 bit_check steps beat bits i =
     record { premise = 9; fails = is_wrong steps beat bits i; shown = pos i; bound = steps }
 
+-- of a sample's base and bits, where the true phase is this
+abbrev pub beat_by : Clock → (beat base bits : ℕ) → ℤ → List Check
+beat_by clock beat base bits phase = map (bit_check (steps_past (true_step clock phase) base) beat bits) (from_on 64 0)
+
 abbrev pub beat_checks : Setting → WorldAt → (n base bits k : ℕ) → LinkCfg → List Check
 beat_checks s w n base bits k link =
-    map
-    (bit_check (steps_past (true_step s.cfg.clock (phase_of w k link)) base) (of_node (λ node. node.beat) s n) bits)
-    (from_on 64 0)
+    beat_by s.cfg.clock (of_node (λ node. node.beat) s n) base bits (phase_of w k link)
 
 abbrev pub sample_checks : Setting → WorldAt → (n base bits : ℕ) → Option ℕ → List Check
 sample_checks s w n base bits None = stands false ∷ []
@@ -192,10 +214,8 @@ sample_checks s w n base bits (Some k) =
 -- 10, TooOld; 11, NotSent; 13, NotUp: of a frame that is handed over
 
 abbrev pub deliver_by : Setting → WorldAt → ℕ → FrameAt → Option Arrival → List Check
-deliver_by s w i f None =
-    at_most 10 (w.time -ℤ f.sending.at) (pos (frame_life s.cfg)) ∷ (not_sent i w.departed ∷ [])
-deliver_by s w i f (Some arrival) =
-    at_most 10 (w.time -ℤ f.sending.at) (pos (frame_life s.cfg)) ∷ (stands (has_carrier s w f.link) ∷ [])
+deliver_by s w i f None = too_old s.cfg w.time f.sending ∷ (not_sent i w.departed ∷ [])
+deliver_by s w i f (Some arrival) = too_old s.cfg w.time f.sending ∷ (stands (has_carrier s w f.link) ∷ [])
 
 abbrev pub deliver_checks : Setting → WorldAt → ℕ → Option FrameAt → List Check
 deliver_checks s w i None = not_sent i w.departed ∷ []

@@ -13,6 +13,7 @@ use Rattle.wrp_caldb.specs.Database.{Database, module_at}
 use Rattle.wrp_config.specs.Names.{is_upper_end, is_lower_end}
 use Rattle.wrp_node.specs.declared.interface.NodeSet.{NodeSet}
 use Rattle.wrp_node.specs.NodeAt.{Fixed}
+use Rattle.wrp_world.specs.declared.place.Place.{Place}
 
 -- the network, what each node is set to, and the range of the delay law of the link above it
 pub record Setting : Type 0 where
@@ -89,12 +90,7 @@ entry_at s k r name =
 
 -- Ports of nodes
 
--- which end of which link a port of a node is
-pub record Place : Type 0 where
-  pub link : ℕ
-  pub role : Role
-
--- the first link from number k on that has this port of this node
+-- which end of which link a port of a node is: of the first link from number k on that has this port of this node
 abbrev pub place_among : (n p k : ℕ) → List LinkCfg → Option Place
 place_among n p k [] = None
 place_among n p k (link ∷ links) =

@@ -4,7 +4,8 @@ use Rattle.wrp_base.specs.declared.link.Mark.{Mark}
 use Rattle.wrp_base.specs.Network.{End}
 use Rattle.wrp_bounds.specs.Times.{shortest_tick, longest_tick}
 use Rattle.wrp_frame.specs.SentOctets.{octets_of}
-use Rattle.wrp_world.specs.Setting.{Setting, Place, end_at, place_of}
+use Rattle.wrp_world.specs.declared.place.Place.{Place}
+use Rattle.wrp_world.specs.Setting.{Setting, end_at, place_of}
 use Rattle.wrp_world.specs.WorldAt.{WorldAt, FrameAt, Sending, is_on_fibre}
 use Rattle.wrp_world.specs.Moved.{waiting_at}
 

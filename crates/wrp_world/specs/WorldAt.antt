@@ -11,6 +11,8 @@ use Rattle.wrp_base.specs.declared.network.LinkCfg.{LinkCfg}
 use Rattle.wrp_base.specs.declared.time.Raw.{Raw}
 use Rattle.wrp_node.specs.NodeAt.{NodeAt, Taken}
 use Rattle.wrp_node.specs.NodeRun.{new_node}
+use Rattle.wrp_world.specs.declared.clocks.ClockState.{ClockState}
+use Rattle.wrp_world.specs.declared.fibres.FibreState.{FibreState}
 use Rattle.wrp_world.specs.Setting.{Setting, link_of, start_of, entry_at}
 
 -- a frame that was put out: at which true time, and by which event; events are counted from 1
@@ -41,22 +43,6 @@ pub record FrameAt : Type 0 where
   -- it never arrives any more
   pub gone : Bool
 
--- a node's clock
-pub record ClockAt : Type 0 where
-  pub up : Bool
-  -- its reading minus true time
-  pub off : ℤ
-  -- its last tick, or when it came up
-  pub ticked : ℤ
-  -- the samples since then
-  pub samples : ℕ
-
--- a link's fibre: whether it is joined, and its true one-way delays down and up
-pub record FibreAt : Type 0 where
-  pub joined : Bool
-  pub ms : ℤ
-  pub sm : ℤ
-
 -- an end of a link
 pub record EndAt : Type 0 where
   -- the name of the module in place, and its true delays
@@ -75,11 +61,11 @@ pub record WorldAt : Type 0 where
   pub time : ℤ
   pub count : ℕ
   -- by node: its clock, itself, and its inputs
-  pub clock : ℕ → ClockAt
+  pub clock : ℕ → ClockState
   pub node : ℕ → NodeAt
   pub inputs : ℕ → List Taken
   -- by link
-  pub fibre : ℕ → FibreAt
+  pub fibre : ℕ → FibreState
   pub end_at : ℕ → Role → EndAt
   -- the frames that departed, numbered from 1
   pub departed : ℕ
@@ -122,7 +108,7 @@ new_world s = record {
 
 -- What holds at a moment
 
-abbrev pub ends_are_up : (ℕ → ClockAt) → Option LinkCfg → Bool
+abbrev pub ends_are_up : (ℕ → ClockState) → Option LinkCfg → Bool
 ends_are_up clock None = false
 ends_are_up clock (Some link) = (clock link.upper).up && (clock link.lower).up
 

@@ -1,0 +1,51 @@
+//! Which end of which link a port of a node is.
+ghost use Rattle.std.specs.Prelude.{◌≡◌, ◌<◌, length, IfSome};
+ghost use Rattle.wrp_config.specs.Names as names;
+ghost use Rattle.wrp_world.specs.Setting.{place_among};
+
+use wrp_base::{LinkCfg, NetCfg, Role};
+
+/// An end of a link.
+#[derive(Clone, Copy, Debug, PartialEq, Eq)]
+pub struct Place {
+    /// The link.
+    pub link: u8,
+    /// Which end it is.
+    pub role: Role,
+}
+
+fn is_upper_end(link: &LinkCfg, n: u8, port: u16) -> bool
+    ensures { result ≡ names.is_upper_end n port link.now }
+{
+    link.upper == n && link.upper_port == port
+}
+
+fn is_lower_end(link: &LinkCfg, n: u8, port: u16) -> bool
+    ensures { result ≡ names.is_lower_end n port link.now }
+{
+    link.lower == n && link.lower_port == port
+}
+
+/// The end that a port of a node is. `None` exactly where no link has that port.
+pub fn place_of(cfg: &NetCfg, n: u8, port: u16) -> Option<Place>
+    ensures value { result ≡ place_among n port 0 cfg.now.links.items }
+    ensures within { IfSome result (λ place. place.link < length cfg.now.links.items) }
+{
+    let mut k: u8 = 0;
+    for link in cfg.links.as_slice() {
+        if is_upper_end(link, n, port) {
+            return Some(Place {
+                link: k,
+                role: Role::Master,
+            });
+        }
+        if is_lower_end(link, n, port) {
+            return Some(Place {
+                link: k,
+                role: Role::Slave,
+            });
+        }
+        k += 1;
+    }
+    None
+}

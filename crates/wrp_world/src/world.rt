@@ -1,0 +1,22 @@
+//! The world itself: its calls.
+mod views;
+
+use crate::plant::Plant;
+use std::marker::Model;
+use wrp_node::Node;
+
+/// A network of nodes over true time: what it is after a list of accepted events is the run of the
+/// world (`StandsFor`).
+#[derive(Drop)]
+pub struct World<F: Fn(i64) -> i64> {
+    plant: Plant,
+    nodes: Vec<Node<F>>,
+}
+
+impl<F: Fn(i64) -> i64> Model for World<F> {
+    ghost use Rattle.wrp_world.specs.StandsFor.{WorldOf};
+
+    ghost Value = { WorldOf F };
+
+    ghost view = { λ w. record { plant = w.plant; nodes = w.nodes.items } };
+}
