@@ -8,4 +8,5 @@ pub mod Sizing
 pub mod Standing
 mod Still
 pub mod Told
+pub mod Turned
 mod Unbroken

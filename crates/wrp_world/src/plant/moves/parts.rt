@@ -1,0 +1,89 @@
+//! What an event changes of each part of a plant.
+ghost use Rattle.std.specs.Prelude.{◌≡◌, ◌<◌, ◌≤◌, ◌+◌, ◌+ℤ◌, ◌^◌, length};
+ghost use Rattle.wrp_world.specs.Moves.{At, Changed, Cuts, Drifts, DropsAt, GoesDown, Joins, LosesLink, LosesNode, Moves, Same, Samples, Turns};
+ghost use Rattle.wrp_world.specs.Plant.{FitsPlant};
+ghost use Rattle.wrp_world.specs.Sizes.{IsTime};
+
+use super::super::Plant;
+use super::{clocks, spans};
+use wrp_base::{Tau, sum};
+
+// One event more.
+fn count(plant: &mut Plant)
+    requires { plant.old.events + 1 < 2 ^ 32 }
+    ensures { plant.new ≡ record plant.old { events = plant.old.events + 1 } }
+{
+    plant.events += 1;
+}
+
+// It is later by so much.
+fn set_later(plant: &mut Plant, dt: i64)
+    requires { IsTime plant.old.time }
+    ensures { plant.new ≡ record plant.old { time = plant.old.time +ℤ dt } }
+{
+    plant.time = sum(plant.time, i128::from(dt));
+}
+
+/// Nothing changes.
+pub fn stay(plant: &mut Plant)
+    requires { plant.old.events + 1 < 2 ^ 32 }
+    ensures { Changed Same Same Same plant.old.time plant.old plant.new }
+{
+    count(plant);
+}
+
+/// True time passes.
+pub fn pass(plant: &mut Plant, dt: i64, drifts: &[i64], moves: &[(i64, i64)])
+    requires fits { FitsPlant plant.old }
+    requires few { plant.old.events + 1 < 2 ^ 32 }
+    ensures { Changed (Turns (Drifts drifts.now)) (Turns (Moves moves.now)) Same (plant.old.time +ℤ dt) plant.old plant.new }
+{
+    set_later(plant, dt);
+    clocks::drift(&mut plant.clocks, drifts);
+    spans::move_fibres(&mut plant.spans, moves);
+    count(plant);
+}
+
+/// A node's sample is counted.
+pub fn sample(plant: &mut Plant, n: u8)
+    requires fits { FitsPlant plant.old }
+    requires node { n < length plant.old.clocks.items }
+    requires few { plant.old.events + 1 < 2 ^ 32 }
+    ensures { Changed (Turns (At n Samples)) Same Same plant.old.time plant.old plant.new }
+{
+    clocks::sampled(&mut plant.clocks, n);
+    count(plant);
+}
+
+/// A link is joined.
+pub fn join(plant: &mut Plant, k: u8, ms: Tau, sm: Tau)
+    requires link { k < length plant.old.spans.items }
+    requires few { plant.old.events + 1 < 2 ^ 32 }
+    ensures { Changed Same (Turns (At k (Joins ms sm))) Same plant.old.time plant.old plant.new }
+{
+    spans::join(&mut plant.spans, k, ms, sm);
+    count(plant);
+}
+
+/// A link is cut.
+pub fn cut(plant: &mut Plant, k: u8)
+    requires link { k < length plant.old.spans.items }
+    requires few { plant.old.events + 1 < 2 ^ 32 }
+    ensures { Changed Same (Turns (At k Cuts)) (Turns (LosesLink k)) plant.old.time plant.old plant.new }
+{
+    spans::cut(&mut plant.spans, k);
+    plant.frames.lose_link(k);
+    count(plant);
+}
+
+/// A node goes down.
+pub fn go_down(plant: &mut Plant, n: u8)
+    requires node { n < length plant.old.clocks.items }
+    requires few { plant.old.events + 1 < 2 ^ 32 }
+    ensures { Changed (Turns (At n GoesDown)) (Turns (DropsAt n plant.old.net.cfg.links.items)) (Turns (LosesNode n plant.old.net.cfg.links.items)) plant.old.time plant.old plant.new }
+{
+    clocks::go_down(&mut plant.clocks, n);
+    spans::drop_at(&mut plant.spans, plant.net.cfg.links.as_slice(), n);
+    plant.frames.lose_node(n, plant.net.cfg.links.as_slice());
+    count(plant);
+}
