@@ -1,5 +1,7 @@
+pub mod Fitting
 pub mod FoundFrames
 pub mod JoinedLinks
+pub mod Moving
 pub mod NextArrivals
 pub mod NextDue
 mod Rows

@@ -15,7 +15,7 @@ some_alike None (Some r) h = absurd h
 some_alike (Some a) None h = absurd h
 some_alike (Some a) (Some r) h = refl
 
-on_alike : (f : FrameAt) (d : Departed) → DepartedIs f d → is_on_fibre (Some f) ≡ is_on d
+pub on_alike : (f : FrameAt) (d : Departed) → DepartedIs f d → is_on_fibre (Some f) ≡ is_on d
 on_alike f d h =
     ap₂ (λ g a. if g then false else (if a then false else true)) (sym h.gone) (some_alike f.arrival d.arrival h.arrival)
 
@@ -63,14 +63,18 @@ from_best w frames None h best =
     (λ x e on. best i x (numbered_within frames i x e) e on)
 from_best w frames (Some next) h best =
     let it : Found DepartedIs (w.frame next.0) best.frame =
-        found DepartedIs (w.frame next.0) (frame_numbered next.0 frames) best.frame (h.each next.0) best.is in
-    (it.one, it.is, ap is_on_fibre it.is ∙ on_alike it.one best.frame it.holds ∙ best.on, sym it.holds.due ∙ best.when,
-    λ j g e on.
-        let kept : Found (λ (d : Departed) (f : FrameAt). DepartedIs f d) (frame_numbered j frames) g =
-            kept_of (w.frame j) (frame_numbered j frames) g (h.each j) e in
-        no_sooner next.0 next.1 j kept.one g kept.holds.due
-        (best.least j kept.one (numbered_within frames j kept.one kept.is) kept.is
-        (sym (on_alike g kept.one kept.holds) ∙ sym (ap is_on_fibre e) ∙ on)))
+    found DepartedIs (w.frame next.0) (frame_numbered next.0 frames) best.frame (h.each next.0) best.is in (
+      it.one,
+      it.is,
+      ap is_on_fibre it.is ∙ on_alike it.one best.frame it.holds ∙ best.on,
+      sym it.holds.due ∙ best.when,
+      λ j g e on.
+          let kept : Found (λ (d : Departed) (f : FrameAt). DepartedIs f d) (frame_numbered j frames) g =
+          kept_of (w.frame j) (frame_numbered j frames) g (h.each j) e in
+          no_sooner next.0 next.1 j kept.one g kept.holds.due
+          (best.least j kept.one (numbered_within frames j kept.one kept.is) kept.is
+          (sym (on_alike g kept.one kept.holds) ∙ sym (ap is_on_fibre e) ∙ on)),
+    )
 
 one_more : (i : ℕ) → 1 + i ≡ suc i
 one_more i = omega arith

@@ -109,9 +109,11 @@ other_number n i e f = grind (arith, e, f)
 at_one : {A : Type 0} (C : A → A → Type 0) (xs : List A) (i n : ℕ) (d v y : A) (b : Bool) → (n == i) ≡ b → i < length xs →
     C (slice_index_or xs i d) v → slice_get (slice_set xs i v) n ≡ Some y → Came (λ k. Where b C) xs n y
 at_one C xs i n d v y true e h r f =
-    let same : n ≡ i = same_number n i e in
-    (slice_index_or xs i d, ap (slice_get xs) same ∙ slice_get-get_or xs i d h,
-    subst (C (slice_index_or xs i d)) (sym (put_here xs i v y (sym (ap (slice_get (slice_set xs i v)) same) ∙ f))) r)
+    let same : n ≡ i = same_number n i e in (
+      slice_index_or xs i d,
+      ap (slice_get xs) same ∙ slice_get-get_or xs i d h,
+      subst (C (slice_index_or xs i d)) (sym (put_here xs i v y (sym (ap (slice_get (slice_set xs i v)) same) ∙ f))) r,
+    )
 at_one C xs i n d v y false e h r f =
     (y, sym (put_else xs i n v (other_number n i e)) ∙ f, refl)
 

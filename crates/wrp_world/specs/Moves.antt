@@ -115,7 +115,8 @@ Same old new = new ≡ old
 
 -- an event changed the clocks, the links and the frames of a plant so, and made the time this one
 pub record Changed (clocks : List ClockState → List ClockState → Type 0) (spans : List Span → List Span → Type 0) (frames : List Departed → List Departed → Type 0) (now : ℤ) (old new : Plant) : Type 0 where
-  pub net : new.net ≡ old.net
+  pub cfg : new.net.cfg ≡ old.net.cfg
+  pub db : new.net.db ≡ old.net.db
   pub time : new.time ≡ now
   pub count : new.events ≡ old.events + 1
   pub of_clocks : clocks old.clocks.items new.clocks.items

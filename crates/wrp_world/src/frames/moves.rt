@@ -5,7 +5,7 @@ ghost use Rattle.wrp_world.specs.Setting.{is_role};
 
 use super::{Departed, Frames, Reception};
 use crate::plant::moves::spans::touches;
-use wrp_base::{LinkCfg, Role};
+use wrp_base::{NetCfg, Role};
 
 fn is_same(a: Role, b: Role) -> bool
     ensures { result ≡ is_role a b }
@@ -46,11 +46,11 @@ fn lose_link(frames: &mut Vec<Departed>, k: u8)
     }
 }
 
-fn lose_node(frames: &mut Vec<Departed>, n: u8, links: &[LinkCfg])
-    ensures { Turns (LosesNode n links.now) frames.old.items frames.new.items }
+fn lose_node(frames: &mut Vec<Departed>, n: u8, cfg: &NetCfg)
+    ensures { Turns (LosesNode n cfg.now.links.items) frames.old.items frames.new.items }
 {
     for i in 0..frames.len() {
-        let loses = touches(links, usize::from(frames[i].link), n);
+        let loses = touches(cfg, usize::from(frames[i].link), n);
         frames[i].lose(loses);
     }
 }
@@ -73,10 +73,10 @@ impl Frames {
     }
 
     /// What is on the fibres of a node's links is lost.
-    pub fn lose_node(&mut self, n: u8, links: &[LinkCfg])
-        ensures { Turns (LosesNode n links.now) self.old self.new }
+    pub fn lose_node(&mut self, n: u8, cfg: &NetCfg)
+        ensures { Turns (LosesNode n cfg.now.links.items) self.old self.new }
     {
-        lose_node(&mut self.list, n, links);
+        lose_node(&mut self.list, n, cfg);
     }
 
     /// A frame arrives from an end of a link; the older ones of its direction are lost.

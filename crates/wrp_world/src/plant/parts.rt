@@ -144,8 +144,14 @@ impl Plant {
     {
         let link = self.link_cfg(place.link);
         match place.role {
-            Role::Master => self.net.db.module_at(name.as_str(), link.down_nm, link.up_nm),
-            Role::Slave => self.net.db.module_at(name.as_str(), link.up_nm, link.down_nm),
+            Role::Master => self
+                .net
+                .db
+                .module_at(name.as_str(), link.down_nm, link.up_nm),
+            Role::Slave => self
+                .net
+                .db
+                .module_at(name.as_str(), link.up_nm, link.down_nm),
         }
     }
 

@@ -39,13 +39,7 @@ fn slack(link: &LinkCfg) -> Tau
 }
 
 // The delays of a joined link; `down` and `up` have both ports' own with those of the fibre.
-fn joined_kept(
-    most: Tau,
-    fibre: &FibreState,
-    down: Tau,
-    up: Tau,
-    link: &LinkCfg,
-) -> Option<Breach>
+fn joined_kept(most: Tau, fibre: &FibreState, down: Tau, up: Tau, link: &LinkCfg) -> Option<Breach>
     requires most { unsigned_abs most ≤ 2 ^ 60 }
     requires ms { IsDelay fibre.now.ms }
     requires sm { IsDelay fibre.now.sm }

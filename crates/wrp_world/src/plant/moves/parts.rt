@@ -6,6 +6,7 @@ ghost use Rattle.wrp_world.specs.Sizes.{IsTime};
 
 use super::super::Plant;
 use super::{clocks, spans};
+use arrayvec::ArrayVec;
 use wrp_base::{Tau, sum};
 
 // One event more.
@@ -16,12 +17,14 @@ fn count(plant: &mut Plant)
     plant.events += 1;
 }
 
-// It is later by so much.
-fn set_later(plant: &mut Plant, dt: i64)
-    requires { IsTime plant.old.time }
-    ensures { plant.new ≡ record plant.old { time = plant.old.time +ℤ dt } }
+// One event more, and it is later by so much.
+fn count_later(plant: &mut Plant, dt: i64)
+    requires few { plant.old.events + 1 < 2 ^ 32 }
+    requires time { IsTime plant.old.time }
+    ensures { plant.new ≡ record plant.old { time = plant.old.time +ℤ dt; events = plant.old.events + 1 } }
 {
     plant.time = sum(plant.time, i128::from(dt));
+    plant.events += 1;
 }
 
 /// Nothing changes.
@@ -33,15 +36,19 @@ pub fn stay(plant: &mut Plant)
 }
 
 /// True time passes.
-pub fn pass(plant: &mut Plant, dt: i64, drifts: &[i64], moves: &[(i64, i64)])
+pub fn pass(
+    plant: &mut Plant,
+    dt: i64,
+    drifts: &ArrayVec<i64, 64>,
+    moves: &ArrayVec<(i64, i64), 63>,
+)
     requires fits { FitsPlant plant.old }
     requires few { plant.old.events + 1 < 2 ^ 32 }
-    ensures { Changed (Turns (Drifts drifts.now)) (Turns (Moves moves.now)) Same (plant.old.time +ℤ dt) plant.old plant.new }
+    ensures { Changed (Turns (Drifts drifts.now.items)) (Turns (Moves moves.now.items)) Same (plant.old.time +ℤ dt) plant.old plant.new }
 {
-    set_later(plant, dt);
-    clocks::drift(&mut plant.clocks, drifts);
-    spans::move_fibres(&mut plant.spans, moves);
-    count(plant);
+    clocks::drift(&mut plant.clocks, drifts.as_slice());
+    spans::move_fibres(&mut plant.spans, moves.as_slice());
+    count_later(plant, dt);
 }
 
 /// A node's sample is counted.
@@ -83,7 +90,7 @@ pub fn go_down(plant: &mut Plant, n: u8)
     ensures { Changed (Turns (At n GoesDown)) (Turns (DropsAt n plant.old.net.cfg.links.items)) (Turns (LosesNode n plant.old.net.cfg.links.items)) plant.old.time plant.old plant.new }
 {
     clocks::go_down(&mut plant.clocks, n);
-    spans::drop_at(&mut plant.spans, plant.net.cfg.links.as_slice(), n);
-    plant.frames.lose_node(n, plant.net.cfg.links.as_slice());
+    spans::drop_at(&mut plant.spans, &plant.net.cfg, n);
+    plant.frames.lose_node(n, &plant.net.cfg);
     count(plant);
 }

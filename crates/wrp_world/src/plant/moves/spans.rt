@@ -7,17 +7,27 @@ ghost use Rattle.wrp_world.specs.Sizes.{IsDelay};
 
 use crate::ends::{EndState, Span};
 use crate::fibres::FibreState;
-use wrp_base::{LinkCfg, Tau, sum};
+use wrp_base::{LinkCfg, NetCfg, Tau, sum};
 
-// How far the delays of a fibre move.
-fn move_at(moves: &[(i64, i64)], k: usize) -> (i64, i64)
-    ensures value { result ≡ move_of moves.now k }
-    ensures down { unsigned_abs result.0 ≤ 2 ^ 63 }
-    ensures up { unsigned_abs result.1 ≤ 2 ^ 63 }
+// How far the delay of a fibre moves down.
+fn down_at(moves: &[(i64, i64)], k: usize) -> i64
+    ensures value { result ≡ (move_of moves.now k).0 }
+    ensures size { unsigned_abs result ≤ 2 ^ 63 }
 {
     match moves.get(k) {
-        Some(by) => *by,
-        None => (0, 0),
+        Some(by) => by.0,
+        None => 0,
+    }
+}
+
+// How far it moves up.
+fn up_at(moves: &[(i64, i64)], k: usize) -> i64
+    ensures value { result ≡ (move_of moves.now k).1 }
+    ensures size { unsigned_abs result ≤ 2 ^ 63 }
+{
+    match moves.get(k) {
+        Some(by) => by.1,
+        None => 0,
     }
 }
 
@@ -37,8 +47,7 @@ fn move_one(span: &mut Span, moves: &[(i64, i64)], k: usize)
     requires sm { IsDelay span.old.fibre.sm }
     ensures { Moves moves.now k span.old span.new }
 {
-    let by = move_at(moves, k);
-    move_by(&mut span.fibre, by.0, by.1);
+    move_by(&mut span.fibre, down_at(moves, k), up_at(moves, k));
 }
 
 /// The delays of each link move by its own of the moves.
@@ -102,10 +111,10 @@ fn is_end_of(link: &LinkCfg, n: u8) -> bool
 }
 
 /// An end of the link of a number is this node's.
-pub fn touches(links: &[LinkCfg], k: usize, n: u8) -> bool
-    ensures { result ≡ touches_in n (slice_get links.now k) }
+pub fn touches(cfg: &NetCfg, k: usize, n: u8) -> bool
+    ensures { result ≡ touches_in n (slice_get cfg.now.links.items k) }
 {
-    match links.get(k) {
+    match cfg.links.get(k) {
         Some(link) => is_end_of(link, n),
         None => false,
     }
@@ -121,10 +130,10 @@ fn drop_where(span: &mut Span, lost: bool)
 }
 
 /// What waits at the ends of a node's links is lost.
-pub fn drop_at(spans: &mut Vec<Span>, links: &[LinkCfg], n: u8)
-    ensures { Turns (DropsAt n links.now) spans.old.items spans.new.items }
+pub fn drop_at(spans: &mut Vec<Span>, cfg: &NetCfg, n: u8)
+    ensures { Turns (DropsAt n cfg.now.links.items) spans.old.items spans.new.items }
 {
     for k in 0..spans.len() {
-        drop_where(&mut spans[k], touches(links, k, n));
+        drop_where(&mut spans[k], touches(cfg, k, n));
     }
 }

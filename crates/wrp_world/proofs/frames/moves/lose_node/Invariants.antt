@@ -4,4 +4,4 @@ use Rattle.wrp_world.proofs.Turned.{TurnedTo}
 use Rattle.wrp_world.proofs.frames.moves.lose_node.Given as goal
 
 abbrev pub invariant-loop-i : goal.invariant-loop-i
-invariant-loop-i l = TurnedTo (LosesNode l.fn.n l.fn.links) l.fn.frames.items l.frames.items l.i
+invariant-loop-i l = TurnedTo (LosesNode l.fn.n l.fn.cfg.links.items) l.fn.frames.items l.frames.items l.i

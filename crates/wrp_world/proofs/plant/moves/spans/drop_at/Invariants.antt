@@ -4,4 +4,4 @@ use Rattle.wrp_world.proofs.Turned.{TurnedTo}
 use Rattle.wrp_world.proofs.plant.moves.spans.drop_at.Given as goal
 
 abbrev pub invariant-loop-k : goal.invariant-loop-k
-invariant-loop-k l = TurnedTo (DropsAt l.fn.n l.fn.links) l.fn.spans.items l.spans.items l.k
+invariant-loop-k l = TurnedTo (DropsAt l.fn.n l.fn.cfg.links.items) l.fn.spans.items l.spans.items l.k

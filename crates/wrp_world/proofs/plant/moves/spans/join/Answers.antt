@@ -6,7 +6,7 @@ use Rattle.wrp_world.specs.Moves.{Joins}
 use Rattle.wrp_world.proofs.Turned.{turned_place}
 use Rattle.wrp_world.proofs.plant.moves.spans.join.Goals as goal
 
-fibre : ℤ → ℤ → FibreState
+abbrev fibre : ℤ → ℤ → FibreState
 fibre ms sm = record { joined = true; ms = ms; sm = sm }
 
 pub returns : goal.returns
