@@ -1,7 +1,11 @@
+pub mod EachLists
 pub mod Fitting
 pub mod FoundFrames
+pub mod Handing
+pub mod Inside
 pub mod JoinedLinks
 pub mod Moving
+pub mod NewPlants
 pub mod NextArrivals
 pub mod NextDue
 mod Rows

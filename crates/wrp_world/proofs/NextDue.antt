@@ -43,18 +43,18 @@ grows at k i due d e b later = record {
   when = b.when;
   number = omega (arith, b.number);
   least = λ j f h a on. elim (last j k h) [
-    inl l ↦ b.least j f l a on
-  | inr l ↦
-      let is : f ≡ d = same at j k d f l a e in
-      subst (λ n. IsLater i due n f) (sym l) (subst (λ g. IsLater i due k g) (sym is) (later (ap is_on (sym is) ∙ on)))
+    | inl l ↦ b.least j f l a on
+    | inr l ↦
+        let is : f ≡ d = same at j k d f l a e in
+        subst (λ n. IsLater i due n f) (sym l) (subst (λ g. IsLater i due k g) (sym is) (later (ap is_on (sym is) ∙ on)))
   ];
 }
 
 still_none : (at : ℕ → Option Departed) (k : ℕ) (d : Departed) → at k ≡ Some d → is_on d ≡ false → BestOf at k None → BestOf at (suc k) None
 still_none at k d e off b j f h a on = elim (last j k h) [
-    inl l ↦ b j f l a on
+  | inl l ↦ b j f l a on
   | inr l ↦ both d f (same at j k d f l a e) on off
-  ]
+]
 
 starts : (at : ℕ → Option Departed) (k : ℕ) (d : Departed) → at k ≡ Some d → is_on d ≡ true →
     ((j : ℕ) (f : Departed) → j < k → at j ≡ Some f → is_on f ≡ true → IsLater k d.due j f) → IsBest at (suc k) k d.due
@@ -65,10 +65,10 @@ starts at k d e on before_it = record {
   when = refl;
   number = omega arith;
   least = λ j f h a fon. elim (last j k h) [
-    inl l ↦ before_it j f l a fon
-  | inr l ↦
-      let is : f ≡ d = same at j k d f l a e in
-      inr (ap (λ (g : Departed). g.due) (sym is), omega (arith, l))
+    | inl l ↦ before_it j f l a fon
+    | inr l ↦
+        let is : f ≡ d = same at j k d f l a e in
+        inr (ap (λ (g : Departed). g.due) (sym is), omega (arith, l))
   ];
 }
 
@@ -97,8 +97,8 @@ by_due at k d next true e on l best =
     starts at k d e on (λ j f h a fon. inl (sooner_than d.due next.1 f.due (is_less d.due next.1 l) (weaker next.0 j next.1 f.due (best.least j f h a fon))))
 by_due at k d next false e on l best =
     grows at k next.0 next.1 d e best (λ h. elim (less_or_same next.1 d.due (lt_z next.1 d.due) refl (no_later d.due next.1 l)) [
-      inl m ↦ inl m
-    | inr m ↦ inr (m, omega (arith, best.number))
+      | inl m ↦ inl m
+      | inr m ↦ inr (m, omega (arith, best.number))
     ])
 
 by_next : (at : ℕ → Option Departed) (k : ℕ) (d : Departed) (next : Option (ℕ × ℤ)) → at k ≡ Some d → is_on d ≡ true → BestOf at k next →
@@ -125,6 +125,6 @@ best_from at [] k next is best = subst (λ n. BestOf at n next) (omega arith) be
 best_from at (d ∷ frames) k next is best =
     let here : at k ≡ Some d = ap at (omega arith) ∙ is 0 (omega arith) in
     let rest = best_from at frames (k + 1) (sooner next k d)
-        (λ i h. ap at (omega arith) ∙ is (suc i) (omega (arith, h)))
-        (subst (λ n. BestOf at n (sooner next k d)) (omega arith) (step at k d next here best)) in
+    (λ i h. ap at (omega arith) ∙ is (suc i) (omega (arith, h)))
+    (subst (λ n. BestOf at n (sooner next k d)) (omega arith) (step at k d next here best)) in
     subst (λ n. BestOf at n (next_from (k + 1) frames (sooner next k d))) (omega arith) rest

@@ -3,6 +3,7 @@ pub mod Given
 pub mod Laws
 pub mod Moved
 pub mod Moves
+pub mod New
 pub mod Plant
 pub mod Premises
 pub mod Rows

@@ -102,10 +102,8 @@ pub record PlantIs (s : Setting) (w : WorldAt) (plant : Plant) : Type 0 where
 
 -- What a plant keeps
 
--- an end of a link: the true delays of its module, and when its waiting frames were put out
+-- an end of a link: when its waiting frames were put out
 pub record FitsEnd (events : ℕ) (end : EndState) : Type 0 where
-  pub tx : end.tx ≤ 1_000_000_000_000
-  pub rx : end.rx ≤ 1_000_000_000_000
   pub waiting : Each (λ i out. IsTimeBy events out.at) end.waiting.items
 
 pub record FitsSpan (events : ℕ) (span : Span) : Type 0 where

@@ -5,6 +5,7 @@ use Rattle.wrp_base.specs.declared.link.Mark.{Mark}
 use Rattle.wrp_base.specs.Network.{node_count}
 use Rattle.wrp_node.specs.Node.{IsValid as NodeIsValid}
 use Rattle.wrp_node.specs.NodeRun.{node_after}
+use Rattle.wrp_node.specs.Set.{set_of}
 use Rattle.wrp_node.specs.StandsFor.{NodeOf, StandsFor as NodeStandsFor}
 use Rattle.wrp_world.specs.declared.plant.Plant.{Plant}
 use Rattle.wrp_world.specs.Plant.{Each, FitsPlant, PlantIs}
@@ -22,8 +23,9 @@ pub record NodeIs {F : Type 0} (post : F → ℤ → ℤ → Type 0) (s : Settin
   pub at : w.node n ≡ node_after (fixed_of s n) (w.inputs n)
   pub stands : NodeStandsFor post (fixed_of s n) node (w.inputs n)
 
--- the world stands for this state of a world with this setting
+-- the world stands for this state of a world with this setting, in which each node is set to its part of the network
 pub record StandsFor {F : Type 0} (post : F → ℤ → ℤ → Type 0) (s : Setting) (w : WorldAt) (world : WorldOf F) : Type 0 where
+  pub set : (n : ℕ) → s.set n ≡ set_of s.cfg n
   pub plant : PlantIs s w world.plant
   pub nodes : Each (NodeIs post s w) world.nodes
 

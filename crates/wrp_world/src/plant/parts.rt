@@ -1,9 +1,8 @@
 //! The parts of a plant, and the sizes of their numbers.
 ghost use Rattle.std.specs.Prelude.{◌≡◌, ◌<◌, ◌≤◌, length, slice_get, Some, IfSome, option_map};
 ghost use Rattle.wrp_base.specs.Network.{HasRanges, HasNodeRanges, HasLinkRanges, node_count};
-ghost use Rattle.wrp_config.specs.Accepted.{HasDelayRanges};
 ghost use Rattle.wrp_world.specs.Plant.{EndIs, FitsDeparted, FitsPlant, FitsSpan, PlantIs, frame_numbered};
-ghost use Rattle.wrp_world.specs.Setting.{Setting, end_at, entry_at};
+ghost use Rattle.wrp_world.specs.Setting.{Setting, end_at};
 ghost use Rattle.wrp_world.specs.Sizes.{IsTime, IsOff, IsDelay};
 ghost use Rattle.wrp_world.specs.WorldAt.{WorldAt};
 
@@ -12,7 +11,7 @@ use crate::clocks::ClockState;
 use crate::ends::{EndState, Span};
 use crate::frames::Departed;
 use crate::place::Place;
-use wrp_base::{LinkCfg, Module, Name, NetCfg, NodeCfg, Role, Tau};
+use wrp_base::{LinkCfg, NetCfg, NodeCfg, Role, Tau};
 
 impl Plant {
     /// The numbers of the network.
@@ -132,38 +131,6 @@ impl Plant {
             Role::Master => link.upper,
             Role::Slave => link.lower,
         }
-    }
-
-    /// The numbers of a module of this name at an end of a link, where it is listed there.
-    pub fn entry_named(&self, place: Place, name: &Name) -> Option<Module>
-        requires fits { FitsPlant self.now }
-        requires link { place.link < length self.now.net.cfg.links.items }
-        ensures value { (s : Setting) (w : WorldAt) → PlantIs s w self.now
-            → result ≡ entry_at s place.link place.role name.now.bytes }
-        ensures ranges { IfSome result HasDelayRanges }
-    {
-        let link = self.link_cfg(place.link);
-        match place.role {
-            Role::Master => self
-                .net
-                .db
-                .module_at(name.as_str(), link.down_nm, link.up_nm),
-            Role::Slave => self
-                .net
-                .db
-                .module_at(name.as_str(), link.up_nm, link.down_nm),
-        }
-    }
-
-    /// The numbers of the module in place at an end of a link, where it is listed there.
-    pub fn entry(&self, place: Place) -> Option<Module>
-        requires fits { FitsPlant self.now }
-        requires link { place.link < length self.now.net.cfg.links.items }
-        ensures value { (s : Setting) (w : WorldAt) → PlantIs s w self.now
-            → result ≡ entry_at s place.link place.role (w.end_at place.link place.role).name }
-        ensures ranges { IfSome result HasDelayRanges }
-    {
-        self.entry_named(place, &self.end(place).name)
     }
 
     /// A frame that departed. `None` exactly where the number was not given.

@@ -26,12 +26,14 @@ impl Plant {
         requires node { n < length self.now.net.cfg.nodes.items }
         ensures { (s : Setting) (w : WorldAt) → PlantIs s w self.now → result ≡ view.tick_due s w n }
     {
+        let cfg = self.cfg();
+        let least = shortest_tick(cfg);
+        let most = longest_tick(cfg);
         let clock = self.clock(n);
         if clock.up {
-            Some((
-                sum(clock.ticked, shortest_tick(self.cfg())),
-                sum(clock.ticked, longest_tick(self.cfg())),
-            ))
+            let first = sum(clock.ticked, least);
+            let last = sum(clock.ticked, most);
+            Some((first, last))
         } else {
             None
         }

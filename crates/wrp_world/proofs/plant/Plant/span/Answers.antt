@@ -8,7 +8,7 @@ pub returns-clause-fits : goal.returns-clause-fits
 returns-clause-fits c = c.requires.fits.spans c.args.k _ c.span_at.ensures
 
 pub returns-clause-ms : goal.returns-clause-ms
-returns-clause-ms c = delay_size _ _ c.requires.fits.events (c.requires.fits.spans c.args.k _ c.span_at.ensures).ms
+returns-clause-ms c = delay_size c.args.self.now.events c.span_at.result.now.fibre.ms c.requires.fits.events (c.requires.fits.spans c.args.k _ c.span_at.ensures).ms
 
 pub returns-clause-sm : goal.returns-clause-sm
-returns-clause-sm c = delay_size _ _ c.requires.fits.events (c.requires.fits.spans c.args.k _ c.span_at.ensures).sm
+returns-clause-sm c = delay_size c.args.self.now.events c.span_at.result.now.fibre.sm c.requires.fits.events (c.requires.fits.spans c.args.k _ c.span_at.ensures).sm

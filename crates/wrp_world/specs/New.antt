@@ -1,0 +1,66 @@
+-- A world before any event, as the code makes it: its setting, its clocks, its ends and its nodes (this project's profile).
+use Rattle.std.specs.Prelude.{◌≡◌, ◌≤◌, ℕ, ℤ, pos, false, List, [], Option, None, Some, IfSome, slice_get, option_and_then}
+use Rattle.std.specs.Option.{is_some, option_map_or}
+use Rattle.wrp_base.specs.declared.configuration.NetCfg.{NetCfg}
+use Rattle.wrp_base.specs.declared.link.Module.{Module}
+use Rattle.wrp_base.specs.declared.network.LinkCfg.{LinkCfg}
+use Rattle.wrp_base.specs.Network.{link_above}
+use Rattle.wrp_caldb.specs.Database.{Database, module_at}
+use Rattle.wrp_law.specs.declared.delay.LawKind.TheVariants.{Linear}
+use Rattle.wrp_law.specs.Law.{LawOf, KeepsFact}
+use Rattle.wrp_node.specs.New.{low_of, high_of, fixed_of}
+use Rattle.wrp_node.specs.Node.{IsValid as NodeIsValid}
+use Rattle.wrp_node.specs.Set.{set_of}
+use Rattle.wrp_node.specs.StandsFor.{NodeOf, StandsFor as NodeStandsFor}
+use Rattle.wrp_world.specs.declared.clocks.ClockState.{ClockState}
+use Rattle.wrp_world.specs.declared.ends.EndState.{EndState}
+use Rattle.wrp_world.specs.declared.ends.Span.{Span}
+use Rattle.wrp_world.specs.Setting.{Setting}
+
+-- the law of a node, if it has one
+abbrev pub law_at : {F : Type 0} → List (Option (LawOf F)) → ℕ → Option (LawOf F)
+law_at laws n = option_and_then (λ law. law) (slice_get laws n)
+
+-- each node is set to its part of the network
+abbrev pub setting_of : {F : Type 0} → NetCfg → Database → List (Option (LawOf F)) → Setting
+setting_of cfg db laws = record {
+  cfg = cfg;
+  db = db;
+  set = set_of cfg;
+  lo = λ n. low_of (law_at laws n);
+  hi = λ n. high_of (law_at laws n);
+}
+
+-- the law of a node: it keeps its fact, and has the kind and at most the error of the link above the node; the
+-- grandmaster has none
+pub record FitsLaw {F : Type 0} (pre : F → ℤ → Type 0) (post : F → ℤ → ℤ → Type 0) (cfg : NetCfg) (n : ℕ) (law : Option (LawOf F)) : Type 0 where
+  pub place : is_some law ≡ is_some (link_above cfg n)
+  pub fact : IfSome law (KeepsFact pre post)
+  pub kind : (link : LinkCfg) → link_above cfg n ≡ Some link → IfSome law (λ l. l.kind ≡ Linear link.kappa)
+  pub err : (link : LinkCfg) → link_above cfg n ≡ Some link → IfSome law (λ l. l.err ≤ link.law_err)
+
+-- a clock before any event
+abbrev pub new_clock : ℤ → ClockState
+new_clock start = record { up = false; off = pos 0; ticked = start; samples = 0 }
+
+-- an end before any event, with this module in place
+pub record IsNewEnd (name : List ℕ) (entry : Option Module) (end : EndState) : Type 0 where
+  pub name_is : end.name.bytes ≡ name
+  pub tx : end.tx ≡ option_map_or (λ m. m.tx) entry 0
+  pub rx : end.rx ≡ option_map_or (λ m. m.rx) entry 0
+  pub waiting : end.waiting.items ≡ []
+  pub marks : end.marks.items ≡ []
+
+-- a link before any event
+pub record IsNewSpan (db : Database) (link : LinkCfg) (span : Span) : Type 0 where
+  pub fibre : span.fibre ≡ record { joined = false; ms = pos 0; sm = pos 0 }
+  pub master : IsNewEnd link.upper_module.bytes (module_at db link.upper_module.bytes link.down_nm link.up_nm) span.master
+  pub slave : IsNewEnd link.lower_module.bytes (module_at db link.lower_module.bytes link.up_nm link.down_nm) span.slave
+
+abbrev pub IsSpanOf : Database → List LinkCfg → ℕ → Span → Type 0
+IsSpanOf db links k span = (link : LinkCfg) → slice_get links k ≡ Some link → IsNewSpan db link span
+
+-- a node before any input
+pub record IsNewNode {F : Type 0} (pre : F → ℤ → Type 0) (post : F → ℤ → ℤ → Type 0) (cfg : NetCfg) (laws : List (Option (LawOf F))) (n : ℕ) (node : NodeOf F) : Type 0 where
+  pub stands : NodeStandsFor post (fixed_of (set_of cfg n) (law_at laws n)) node []
+  pub valid : NodeIsValid pre post node
