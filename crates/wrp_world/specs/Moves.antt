@@ -11,7 +11,7 @@ use Rattle.wrp_world.specs.declared.fibres.FibreState.{FibreState}
 use Rattle.wrp_world.specs.declared.frames.Departed.{Departed}
 use Rattle.wrp_world.specs.declared.frames.Reception.{Reception}
 use Rattle.wrp_world.specs.declared.plant.Plant.{Plant}
-use Rattle.wrp_world.specs.Moved.{drift_of, move_of}
+use Rattle.wrp_world.specs.Moved.{drift_of, move_of, swap_at}
 use Rattle.wrp_world.specs.Plant.{is_on}
 use Rattle.wrp_world.specs.Setting.{end_of, is_of, is_role}
 
@@ -89,6 +89,38 @@ touches_in n link = is_of n (option_map (end_of Master) link) || is_of n (option
 -- at the links of a node
 abbrev pub DropsAt : ℕ → List LinkCfg → ℕ → (old new : Span) → Type 0
 DropsAt n links k old new = Where (touches_in n (slice_get links k)) Drops old new
+
+-- Modules that are put in place
+
+-- the true delays of a module are in the range of an event
+pub record FitsSwap (swap : Swap) : Type 0 where
+  pub tx : swap.tx ≤ 1_000_000_000_000
+  pub rx : swap.rx ≤ 1_000_000_000_000
+
+pub record Put (swap : Swap) (old new : EndState) : Type 0 where
+  pub name : new.name.bytes ≡ swap.name.bytes
+  pub tx : new.tx ≡ swap.tx
+  pub rx : new.rx ≡ swap.rx
+  pub waiting : new.waiting ≡ old.waiting
+  pub marks : new.marks ≡ old.marks
+  pub fits : FitsSwap swap
+
+abbrev pub Swapped : Option Swap → (old new : EndState) → Type 0
+Swapped None old new = new ≡ old
+Swapped (Some swap) old new = Put swap old new
+
+-- at the ends of a link that are a node's
+pub record SwapsSpan (n : ℕ) (link : LinkCfg) (swaps : List Swap) (old new : Span) : Type 0 where
+  pub fibre : new.fibre ≡ old.fibre
+  pub master : Where (link.upper == n) (Swapped (swap_at link.upper_port swaps)) old.master new.master
+  pub slave : Where (link.lower == n) (Swapped (swap_at link.lower_port swaps)) old.slave new.slave
+
+abbrev pub SwapsIn : ℕ → List Swap → Option LinkCfg → (old new : Span) → Type 0
+SwapsIn n swaps None old new = new ≡ old
+SwapsIn n swaps (Some link) old new = SwapsSpan n link swaps old new
+
+abbrev pub SwapsAt : ℕ → List Swap → List LinkCfg → ℕ → (old new : Span) → Type 0
+SwapsAt n swaps links k old new = SwapsIn n swaps (slice_get links k) old new
 
 -- Frames
 

@@ -2,6 +2,7 @@
 mod clocks;
 mod parts;
 pub mod spans;
+mod swaps;
 
 ghost use Rattle.std.specs.Prelude.{◌≡◌, ◌<◌, ◌≤◌, ◌+◌, ◌^◌, ℕ, length, unsigned_abs};
 ghost use Rattle.wrp_world.specs.declared.event.Event.TheVariants as event;

@@ -1,11 +1,12 @@
 //! What an event changes of each part of a plant.
 ghost use Rattle.std.specs.Prelude.{◌≡◌, ◌<◌, ◌≤◌, ◌+◌, ◌+ℤ◌, ◌^◌, length};
-ghost use Rattle.wrp_world.specs.Moves.{At, Changed, Cuts, Drifts, DropsAt, GoesDown, Joins, LosesLink, LosesNode, Moves, Same, Samples, Turns};
-ghost use Rattle.wrp_world.specs.Plant.{FitsPlant};
+ghost use Rattle.wrp_world.specs.Moves.{At, Changed, ComesUp, Cuts, Drifts, DropsAt, FitsSwap, GoesDown, Joins, LosesLink, LosesNode, Moves, Same, Samples, SwapsAt, Turns};
+ghost use Rattle.wrp_world.specs.Plant.{Each, FitsPlant};
 ghost use Rattle.wrp_world.specs.Sizes.{IsTime};
 
 use super::super::Plant;
-use super::{clocks, spans};
+use super::{clocks, spans, swaps};
+use crate::event::Swap;
 use arrayvec::ArrayVec;
 use wrp_base::{Tau, sum};
 
@@ -92,5 +93,18 @@ pub fn go_down(plant: &mut Plant, n: u8)
     clocks::go_down(&mut plant.clocks, n);
     spans::drop_at(&mut plant.spans, &plant.net.cfg, n);
     plant.frames.lose_node(n, &plant.net.cfg);
+    count(plant);
+}
+
+/// A node comes up, with the modules that are put in place.
+pub fn come_up(plant: &mut Plant, n: u8, off: Tau, swaps: &ArrayVec<Swap, 18>)
+    requires node { n < length plant.old.clocks.items }
+    requires swaps { Each (λ i swap. FitsSwap swap) swaps.now.items }
+    requires few { plant.old.events + 1 < 2 ^ 32 }
+    ensures { Changed (Turns (At n (ComesUp off plant.old.time)))
+        (Turns (SwapsAt n swaps.now.items plant.old.net.cfg.links.items)) Same plant.old.time plant.old plant.new }
+{
+    clocks::come_up(&mut plant.clocks, n, off, plant.time);
+    swaps::put_modules(&mut plant.spans, &plant.net.cfg, n, swaps.as_slice());
     count(plant);
 }
