@@ -1,5 +1,5 @@
 -- What an event changes by itself keeps the sizes of the numbers of a plant.
-use Rattle.std.proofs.Common.{◌≡◌, ◌∙◌, refl, ap, sym, subst, ℕ, ◌+◌, ◌<◌, ◌≤◌, ◌^◌, ◌==◌, ℤ, ◌+ℤ◌, Bool, true, false, List, [], length, slice_get, None, Some, unsigned_abs, arith}
+use Rattle.std.proofs.Common.{◌≡◌, ◌∙◌, refl, ap, sym, subst, ℕ, ◌+◌, ◌<◌, ◌≤◌, ◌^◌, ◌==◌, ℤ, ◌+ℤ◌, Bool, true, false, List, [], length, slice_get, Option, None, Some, unsigned_abs, arith}
 use Rattle.std.proofs.lemmas.Int.{ints}
 use Rattle.wrp_base.specs.declared.configuration.NetCfg.{NetCfg}
 use Rattle.wrp_base.specs.declared.network.LinkCfg.{LinkCfg}
@@ -8,11 +8,13 @@ use Rattle.wrp_config.specs.Accepted.{IsAccepted}
 use Rattle.wrp_world.specs.declared.clocks.ClockState.{ClockState}
 use Rattle.wrp_world.specs.declared.ends.EndState.{EndState}
 use Rattle.wrp_world.specs.declared.ends.Span.{Span}
+use Rattle.wrp_world.specs.declared.ends.PutOut.{PutOut}
+use Rattle.wrp_world.specs.declared.event.Swap.{Swap}
 use Rattle.wrp_world.specs.declared.fibres.FibreState.{FibreState}
 use Rattle.wrp_world.specs.declared.frames.Departed.{Departed}
 use Rattle.wrp_world.specs.declared.plant.Plant.{Plant}
-use Rattle.wrp_world.specs.Moved.{drift_of, move_of}
-use Rattle.wrp_world.specs.Moves.{Turns, Same, Where, At, Changed, Drifts, Samples, GoesDown, Moves, Joins, Empties, Loses, Cuts, Drops, DropsAt, touches_in, lost, LosesLink, LosesNode}
+use Rattle.wrp_world.specs.Moved.{drift_of, move_of, swap_at}
+use Rattle.wrp_world.specs.Moves.{Turns, Same, Where, At, Changed, Drifts, Samples, GoesDown, Moves, Joins, Empties, Loses, Cuts, Drops, DropsAt, touches_in, ComesUp, Swapped, SwapsIn, SwapsAt, lost, LosesLink, LosesNode}
 use Rattle.wrp_world.specs.Plant.{Each, FitsClock, FitsDeparted, FitsEnd, FitsPlant, FitsSpan}
 use Rattle.wrp_world.specs.Sizes.{IsTimeBy, IsOffBy, IsDelayBy, IsDueBy}
 use Rattle.wrp_world.proofs.Turned.{each_turned, each_same}
@@ -50,7 +52,7 @@ clock_more : (e : ℕ) (x : ClockState) → FitsClock e x → FitsClock (e + 1) 
 clock_more e x h = record { off = off_more e x.off h.off; ticked = time_more e x.ticked h.ticked; samples = omega (arith, h.samples) }
 
 end_more : (e : ℕ) (x : EndState) → FitsEnd e x → FitsEnd (e + 1) x
-end_more e x h = record { tx = h.tx; rx = h.rx; waiting = λ i out g. time_more e out.at (h.waiting i out g) }
+end_more e x h = record { waiting = λ i out g. time_more e out.at (h.waiting i out g) }
 
 span_more : (e : ℕ) (x : Span) → FitsSpan e x → FitsSpan (e + 1) x
 span_more e x h = record {
@@ -143,8 +145,6 @@ join_fits e ms sm x y a b r h = record {
 
 emptied_fits : (e : ℕ) (x y : EndState) → Empties x y → FitsEnd e x → FitsEnd (e + 1) y
 emptied_fits e x y r h = record {
-  tx = subst (λ n. n ≤ 1_000_000_000_000) (sym r.tx) h.tx;
-  rx = subst (λ n. n ≤ 1_000_000_000_000) (sym r.rx) h.rx;
   waiting = λ i out g. absurd (none_some out (sym (ap (λ l. slice_get l i) r.waiting) ∙ g));
 }
 
@@ -227,3 +227,41 @@ gone_down_fits n links old new c few f =
     (λ m x y r k. where_fits (touches_in n (slice_get links m)) Drops (FitsSpan old.events) (FitsSpan (old.events + 1)) x y r (drop_fits old.events x y) (span_more old.events x) k) f.spans)
     (each_turned (LosesNode n links) (λ n. FitsDeparted (length old.net.cfg.links.items) old.events) (λ n. FitsDeparted (length old.net.cfg.links.items) (old.events + 1)) old.frames new.frames c.of_frames
     (λ m x y r k. lost_fits (length old.net.cfg.links.items) old.events (touches_in n (slice_get links x.link)) x y r k) f.frames)
+
+-- Modules that are put in place
+
+put_fits : (e : ℕ) (swap : Option Swap) (x y : EndState) → Swapped swap x y → FitsEnd e x → FitsEnd (e + 1) y
+put_fits e None x y r h = subst (FitsEnd (e + 1)) (sym r) (end_more e x h)
+put_fits e (Some swap) x y r h = record {
+  waiting = subst (λ (l : List PutOut). Each (λ i out. IsTimeBy (e + 1) out.at) l) (sym (ap (λ v. v.items) r.waiting)) (λ i out g. time_more e out.at (h.waiting i out g));
+}
+
+put_span_fits : (e n : ℕ) (swaps : List Swap) (o : Option LinkCfg) (x y : Span) → SwapsIn n swaps o x y → FitsSpan e x → FitsSpan (e + 1) y
+put_span_fits e n swaps None x y r h = subst (FitsSpan (e + 1)) (sym r) (span_more e x h)
+put_span_fits e n swaps (Some link) x y r h = record {
+  ms = subst (λ (f : FibreState). IsDelayBy (e + 1) f.ms) (sym r.fibre) (delay_more e x.fibre.ms h.ms);
+  sm = subst (λ (f : FibreState). IsDelayBy (e + 1) f.sm) (sym r.fibre) (delay_more e x.fibre.sm h.sm);
+  master = where_fits (link.upper == n) (Swapped (swap_at link.upper_port swaps)) (FitsEnd e) (FitsEnd (e + 1)) x.master y.master r.master
+    (put_fits e (swap_at link.upper_port swaps) x.master y.master) (end_more e x.master) h.master;
+  slave = where_fits (link.lower == n) (Swapped (swap_at link.lower_port swaps)) (FitsEnd e) (FitsEnd (e + 1)) x.slave y.slave r.slave
+    (put_fits e (swap_at link.lower_port swaps) x.slave y.slave) (end_more e x.slave) h.slave;
+}
+
+off_first : (e : ℕ) (off : ℤ) → unsigned_abs off ≤ 2 ^ 90 → IsOffBy (e + 1) off
+off_first e off h = omega arith
+
+up_fits : (e : ℕ) (off now : ℤ) (x y : ClockState) → unsigned_abs off ≤ 2 ^ 90 → IsTimeBy e now → ComesUp off now x y → FitsClock (e + 1) y
+up_fits e off now x y a b r =
+    subst (FitsClock (e + 1)) (sym r) (record { off = off_first e off a; ticked = time_more e now b; samples = omega arith })
+
+pub come_up_fits : (n : ℕ) (off : ℤ) (swaps : List Swap) (links : List LinkCfg) (old new : Plant) → unsigned_abs off ≤ 2 ^ 90 →
+    Changed (Turns (At n (ComesUp off old.time))) (Turns (SwapsAt n swaps links)) Same old.time old new → old.events + 1 < 2 ^ 32 → FitsPlant old → FitsPlant new
+come_up_fits n off swaps links old new a c few f =
+    plant_fits _ _ _ _ old new c f few (time_more old.events old.time f.time) c.of_clocks.0 c.of_spans.0
+    (same_count old.events old.frames new.frames (ap length c.of_frames) f.frame_count)
+    (each_turned (At n (ComesUp off old.time)) (λ n. FitsClock old.events) (λ n. FitsClock (old.events + 1)) old.clocks.items new.clocks.items c.of_clocks
+    (λ m x y r k. where_fits (m == n) (ComesUp off old.time) (FitsClock old.events) (FitsClock (old.events + 1)) x y r
+    (λ z l. up_fits old.events off old.time x y a f.time z) (clock_more old.events x) k) f.clocks)
+    (each_turned (SwapsAt n swaps links) (λ n. FitsSpan old.events) (λ n. FitsSpan (old.events + 1)) old.spans.items new.spans.items c.of_spans
+    (λ m x y r k. put_span_fits old.events n swaps (slice_get links m) x y r k) f.spans)
+    (same_frames (length old.net.cfg.links.items) old.events old.frames new.frames c.of_frames f.frames)

@@ -3,20 +3,27 @@ use Rattle.std.proofs.Common.{◌≡◌, ◌∙◌, refl, ap, ap₂, sym, subst,
 use Rattle.std.proofs.lemmas.Option.{slice_get-get_or, slice_get_within}
 use Rattle.std.specs.List.{AllZip}
 use Rattle.arrayvec.specs.ArrayVec.{ArrayVec}
+use Rattle.std.specs.Option.{option_map_or}
 use Rattle.wrp_base.specs.declared.configuration.NetCfg.{NetCfg}
+use Rattle.wrp_base.specs.declared.link.Role.{Role}
+use Rattle.wrp_base.specs.declared.link.Role.TheVariants.{Master, Slave}
+use Rattle.wrp_base.specs.declared.network.LinkCfg.{LinkCfg}
+use Rattle.wrp_base.specs.declared.time.Raw.{Raw}
+use Rattle.wrp_base.specs.Network.{End}
 use Rattle.wrp_world.specs.declared.clocks.ClockState.{ClockState}
 use Rattle.wrp_world.specs.declared.ends.EndState.{EndState}
 use Rattle.wrp_world.specs.declared.ends.Span.{Span}
 use Rattle.wrp_world.specs.declared.ends.PutOut.{PutOut}
 use Rattle.wrp_world.specs.declared.event.Event.{Event}
-use Rattle.wrp_world.specs.declared.event.Event.TheVariants.{Pass, Tick, Sample, Deliver, Down, Cut, Join}
+use Rattle.wrp_world.specs.declared.event.Event.TheVariants.{Pass, Tick, Sample, Deliver, Noise, Down, Up, Cut, Join}
+use Rattle.wrp_world.specs.declared.event.Swap.{Swap}
 use Rattle.wrp_world.specs.declared.fibres.FibreState.{FibreState}
 use Rattle.wrp_world.specs.declared.frames.Departed.{Departed}
 use Rattle.wrp_world.specs.declared.plant.Plant.{Plant}
-use Rattle.wrp_world.specs.Moved.{moved, removed, loses, touches, drift_of, move_of}
-use Rattle.wrp_world.specs.Moves.{Turns, Stays, Same, Where, At, Changed, Drifts, Samples, GoesDown, Moves, Joins, Empties, Loses, Cuts, Drops, DropsAt, touches_in, lost, LosesLink, LosesNode}
+use Rattle.wrp_world.specs.Moved.{moved, removed, loses, touches, drift_of, move_of, swap_at, with_swap}
+use Rattle.wrp_world.specs.Moves.{Turns, Stays, Same, Where, At, Changed, Drifts, Samples, GoesDown, Moves, Joins, Empties, Loses, Cuts, Drops, DropsAt, touches_in, ComesUp, Swapped, SwapsIn, SwapsAt, lost, LosesLink, LosesNode}
 use Rattle.wrp_world.specs.Plant.{Each, EndIs, PutOutIs, SpanIs, MaybeIs, DepartedIs, FramesAre, PlantIs, frame_numbered, is_on}
-use Rattle.wrp_world.specs.Setting.{Setting}
+use Rattle.wrp_world.specs.Setting.{Setting, end_of, is_of}
 use Rattle.wrp_world.specs.WorldAt.{WorldAt, EndAt, FrameAt, is_on_fibre}
 use Rattle.wrp_world.proofs.NextArrivals.{on_alike}
 use Rattle.wrp_world.proofs.Turned.{Came, each_turned, each_same, all_stay}
@@ -118,13 +125,35 @@ plant_is s w v C S F t old new c h time count clocks spans frames = record {
 
 -- Nothing but the count
 
+still_is : (s : Setting) (e : Event) (w v : WorldAt) (old new : Plant) → Changed Same Same Same old.time old new → PlantIs s w old →
+    w.time ≡ v.time → v.count ≡ w.count + 1 → ((m : ℕ) → w.clock m ≡ v.clock m) → ((l : ℕ) → w.fibre l ≡ v.fibre l) →
+    ((l : ℕ) (r : Role) → w.end_at l r ≡ v.end_at l r) → ((k : ℕ) → loses s e k ≡ false) → v.departed ≡ w.departed →
+    ((i : ℕ) → v.frame i ≡ option_map (removed s e) (w.frame i)) → PlantIs s v new
+still_is s e w v old new c h time count clock fibre end none departed frame =
+    plant_is s w v _ _ _ _ old new c h (h.time ∙ time) count
+    (each_same (λ m k. k ≡ w.clock m) (λ m k. k ≡ v.clock m) old.clocks.items new.clocks.items c.of_clocks (λ m x k. k ∙ clock m) h.clocks)
+    (each_same (SpanIs w) (SpanIs v) old.spans.items new.spans.items c.of_spans
+    (λ l x k. record {
+      fibre = k.fibre ∙ fibre l;
+      master = subst (λ (a : EndAt). EndIs a x.master) (end l Master) k.master;
+      slave = subst (λ (a : EndAt). EndIs a x.slave) (end l Slave) k.slave;
+    }) h.spans)
+    (kept_frames s e w v old.frames new.frames c.of_frames none departed frame h.frames)
+
 pub tick_is : (s : Setting) (w : WorldAt) (n : ℕ) (old new : Plant) → Changed Same Same Same old.time old new → PlantIs s w old →
     PlantIs s (moved s w (Tick n)) new
 tick_is s w n old new c h =
-    plant_is s w (moved s w (Tick n)) _ _ _ _ old new c h h.time refl
-    (each_same (λ m clock. clock ≡ w.clock m) (λ m clock. clock ≡ (moved s w (Tick n)).clock m) old.clocks.items new.clocks.items c.of_clocks (λ m x e. e) h.clocks)
-    (each_same (SpanIs w) (SpanIs (moved s w (Tick n))) old.spans.items new.spans.items c.of_spans (λ k x e. record { fibre = e.fibre; master = e.master; slave = e.slave }) h.spans)
-    (kept_frames s (Tick n) w (moved s w (Tick n)) old.frames new.frames c.of_frames (λ k. refl) refl (λ i. refl) h.frames)
+    still_is s (Tick n) w (moved s w (Tick n)) old new c h refl refl (λ m. refl) (λ l. refl) (λ l r. refl) (λ k. refl) refl (λ i. refl)
+
+pub deliver_is : (s : Setting) (w : WorldAt) (j : ℕ) (old new : Plant) → Changed Same Same Same old.time old new → PlantIs s w old →
+    PlantIs s (moved s w (Deliver j)) new
+deliver_is s w j old new c h =
+    still_is s (Deliver j) w (moved s w (Deliver j)) old new c h refl refl (λ m. refl) (λ l. refl) (λ l r. refl) (λ k. refl) refl (λ i. refl)
+
+pub noise_is : (s : Setting) (w : WorldAt) (n p : ℕ) (octets : ArrayVec ℕ) (raw : Raw) (old new : Plant) →
+    Changed Same Same Same old.time old new → PlantIs s w old → PlantIs s (moved s w (Noise n p octets raw)) new
+noise_is s w n p octets raw old new c h =
+    still_is s (Noise n p octets raw) w (moved s w (Noise n p octets raw)) old new c h refl refl (λ m. refl) (λ l. refl) (λ l r. refl) (λ k. refl) refl (λ i. refl)
 
 -- Time
 
@@ -236,3 +265,50 @@ down_is s w n old new c h =
     (frames_turned (LosesNode n old.net.cfg.links.items) (λ i. removed s (Down n)) w (moved s w (Down n)) old.frames new.frames c.of_frames refl (λ i. refl)
     (λ i f x y r d. subst (DepartedIs (removed s (Down n) f)) (sym r)
     (lost_frame s (Down n) f x (touches_in n (slice_get old.net.cfg.links.items x.link)) (touched s old.net.cfg n x.link h.cfg ∙ ap (touches s n) d.link) d)) h.frames)
+
+-- Modules that are put in place
+
+put_end : (swap : Option Swap) (at : EndAt) (x y : EndState) → Swapped swap x y → EndIs at x → EndIs (with_swap swap at) y
+put_end None at x y r h = subst (EndIs at) (sym r) h
+put_end (Some swap) at x y r h = record {
+  name = r.name;
+  tx = r.tx;
+  rx = r.rx;
+  waiting = subst (λ (l : List PutOut). AllZip PutOutIs at.waiting l) (sym (ap (λ v. v.items) r.waiting)) h.waiting;
+  marks = ap (λ m. m.items) r.marks ∙ h.marks;
+}
+
+put_at_end : (b : Bool) (swap : Option Swap) (at : EndAt) (x y : EndState) → Where b (Swapped swap) x y → EndIs at x →
+    EndIs (if b then with_swap swap at else at) y
+put_at_end true swap at x y r h = put_end swap at x y r h
+put_at_end false swap at x y r h = subst (EndIs at) (sym r) h
+
+abbrev end_up : ℕ → List Swap → Role → Option LinkCfg → EndAt → EndAt
+end_up n swaps r o at =
+    if is_of n (option_map (end_of r) o) then with_swap (swap_at (option_map_or (λ (end : End). end.port) (option_map (end_of r) o) 0) swaps) at else at
+
+put_span : (n : ℕ) (swaps : List Swap) (o : Option LinkCfg) (f : FibreState) (m a : EndAt) (x y : Span) → SwapsIn n swaps o x y → x.fibre ≡ f →
+    EndIs m x.master → EndIs a x.slave → (y.fibre ≡ f) × EndIs (end_up n swaps Master o m) y.master × EndIs (end_up n swaps Slave o a) y.slave
+put_span n swaps None f m a x y r e p q =
+    (ap (λ (z : Span). z.fibre) r ∙ e, subst (λ (z : Span). EndIs m z.master) (sym r) p, subst (λ (z : Span). EndIs a z.slave) (sym r) q)
+put_span n swaps (Some link) f m a x y r e p q =
+    (r.fibre ∙ e, put_at_end (link.upper == n) (swap_at link.upper_port swaps) m x.master y.master r.master p,
+    put_at_end (link.lower == n) (swap_at link.lower_port swaps) a x.slave y.slave r.slave q)
+
+abbrev fresh : ℤ → ℤ → ClockState
+fresh off now = record { up = true; off = off; ticked = now; samples = 0 }
+
+pub up_is : (s : Setting) (w : WorldAt) (n : ℕ) (off : ℤ) (swaps : ArrayVec Swap) (old new : Plant) →
+    Changed (Turns (At n (ComesUp off old.time))) (Turns (SwapsAt n swaps.items old.net.cfg.links.items)) Same old.time old new → PlantIs s w old →
+    PlantIs s (moved s w (Up n off swaps)) new
+up_is s w n off swaps old new c h =
+    plant_is s w (moved s w (Up n off swaps)) _ _ _ _ old new c h h.time refl
+    (each_turned (At n (ComesUp off old.time)) (λ m clock. clock ≡ w.clock m) (λ m clock. clock ≡ (moved s w (Up n off swaps)).clock m) old.clocks.items new.clocks.items c.of_clocks
+    (λ m x y r e. where_clock (m == n) (λ (k : ClockState). fresh off old.time) x y (w.clock m) r e
+    ∙ ap (λ t. if m == n then fresh off t else w.clock m) h.time) h.clocks)
+    (each_turned (SwapsAt n swaps.items old.net.cfg.links.items) (SpanIs w) (SpanIs (moved s w (Up n off swaps))) old.spans.items new.spans.items c.of_spans
+    (λ l x y r e.
+      let j = put_span n swaps.items (slice_get s.cfg.links.items l) (w.fibre l) _ _ x y
+        (subst (λ (g : NetCfg). SwapsIn n swaps.items (slice_get g.links.items l) x y) h.cfg r) e.fibre e.master e.slave in
+      record { fibre = j.0; master = j.1; slave = j.2 }) h.spans)
+    (kept_frames s (Up n off swaps) w (moved s w (Up n off swaps)) old.frames new.frames c.of_frames (λ l. refl) refl (λ i. refl) h.frames)

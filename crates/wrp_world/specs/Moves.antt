@@ -92,18 +92,13 @@ DropsAt n links k old new = Where (touches_in n (slice_get links k)) Drops old n
 
 -- Modules that are put in place
 
--- the true delays of a module are in the range of an event
-pub record FitsSwap (swap : Swap) : Type 0 where
-  pub tx : swap.tx ≤ 1_000_000_000_000
-  pub rx : swap.rx ≤ 1_000_000_000_000
-
+-- a module is in place at an end
 pub record Put (swap : Swap) (old new : EndState) : Type 0 where
   pub name : new.name.bytes ≡ swap.name.bytes
   pub tx : new.tx ≡ swap.tx
   pub rx : new.rx ≡ swap.rx
   pub waiting : new.waiting ≡ old.waiting
   pub marks : new.marks ≡ old.marks
-  pub fits : FitsSwap swap
 
 abbrev pub Swapped : Option Swap → (old new : EndState) → Type 0
 Swapped None old new = new ≡ old

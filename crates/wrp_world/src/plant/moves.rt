@@ -5,6 +5,8 @@ pub mod spans;
 mod swaps;
 
 ghost use Rattle.std.specs.Prelude.{◌≡◌, ◌<◌, ◌≤◌, ◌+◌, ◌^◌, ℕ, length, unsigned_abs};
+ghost use Rattle.arrayvec.specs.ArrayVec.{ArrayVec as Items};
+ghost use Rattle.wrp_base.specs.declared.time.Raw.{Raw};
 ghost use Rattle.wrp_world.specs.declared.event.Event.TheVariants as event;
 ghost use Rattle.wrp_world.specs.Moved.{moved};
 ghost use Rattle.wrp_world.specs.Plant.{FitsPlant, PlantIs};
@@ -12,16 +14,21 @@ ghost use Rattle.wrp_world.specs.Setting.{Setting};
 ghost use Rattle.wrp_world.specs.WorldAt.{WorldAt};
 
 use super::Plant;
+use crate::event::Swap;
 use arrayvec::ArrayVec;
 use wrp_base::Tau;
 
 impl Plant {
-    /// A node's clock ticks: the node is told, and nothing else changes.
-    pub fn tick(&mut self)
+    /// A clock ticks, a frame is handed over, or octets are: a node is told, and nothing else changes.
+    pub fn stay(&mut self)
         requires fits { FitsPlant self.old }
         requires few { self.old.events + 1 < 2 ^ 32 }
-        ensures is { (s : Setting) (w : WorldAt) (n : ℕ) → PlantIs s w self.old
+        ensures tick { (s : Setting) (w : WorldAt) (n : ℕ) → PlantIs s w self.old
             → PlantIs s (moved s w (event.Tick n)) self.new }
+        ensures deliver { (s : Setting) (w : WorldAt) (i : ℕ) → PlantIs s w self.old
+            → PlantIs s (moved s w (event.Deliver i)) self.new }
+        ensures noise { (s : Setting) (w : WorldAt) (n p : ℕ) (octets : Items ℕ) (raw : Raw)
+            → PlantIs s w self.old → PlantIs s (moved s w (event.Noise n p octets raw)) self.new }
         ensures fits { FitsPlant self.new }
     {
         parts::stay(self);
@@ -86,5 +93,18 @@ impl Plant {
         ensures fits { FitsPlant self.new }
     {
         parts::join(self, link, ms, sm);
+    }
+
+    /// A node comes up, with the modules that are put in place. The offset is in the range of an event.
+    pub fn come_up(&mut self, n: u8, off: Tau, swaps: &ArrayVec<Swap, 18>)
+        requires fits { FitsPlant self.old }
+        requires node { n < length self.old.net.cfg.nodes.items }
+        requires off { unsigned_abs off ≤ 2 ^ 90 }
+        requires few { self.old.events + 1 < 2 ^ 32 }
+        ensures is { (s : Setting) (w : WorldAt) → PlantIs s w self.old
+            → PlantIs s (moved s w (event.Up n off swaps.now)) self.new }
+        ensures fits { FitsPlant self.new }
+    {
+        parts::come_up(self, n, off, swaps);
     }
 }

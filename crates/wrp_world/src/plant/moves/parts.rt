@@ -1,7 +1,7 @@
 //! What an event changes of each part of a plant.
 ghost use Rattle.std.specs.Prelude.{◌≡◌, ◌<◌, ◌≤◌, ◌+◌, ◌+ℤ◌, ◌^◌, length};
-ghost use Rattle.wrp_world.specs.Moves.{At, Changed, ComesUp, Cuts, Drifts, DropsAt, FitsSwap, GoesDown, Joins, LosesLink, LosesNode, Moves, Same, Samples, SwapsAt, Turns};
-ghost use Rattle.wrp_world.specs.Plant.{Each, FitsPlant};
+ghost use Rattle.wrp_world.specs.Moves.{At, Changed, ComesUp, Cuts, Drifts, DropsAt, GoesDown, Joins, LosesLink, LosesNode, Moves, Same, Samples, SwapsAt, Turns};
+ghost use Rattle.wrp_world.specs.Plant.{FitsPlant};
 ghost use Rattle.wrp_world.specs.Sizes.{IsTime};
 
 use super::super::Plant;
@@ -99,7 +99,7 @@ pub fn go_down(plant: &mut Plant, n: u8)
 /// A node comes up, with the modules that are put in place.
 pub fn come_up(plant: &mut Plant, n: u8, off: Tau, swaps: &ArrayVec<Swap, 18>)
     requires node { n < length plant.old.clocks.items }
-    requires swaps { Each (λ i swap. FitsSwap swap) swaps.now.items }
+    requires time { IsTime plant.old.time }
     requires few { plant.old.events + 1 < 2 ^ 32 }
     ensures { Changed (Turns (At n (ComesUp off plant.old.time)))
         (Turns (SwapsAt n swaps.now.items plant.old.net.cfg.links.items)) Same plant.old.time plant.old plant.new }

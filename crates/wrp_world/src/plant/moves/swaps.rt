@@ -1,8 +1,7 @@
 //! Modules that are put in place.
-ghost use Rattle.std.specs.Prelude.{◌≡◌, ◌≤◌, length, slice_get, IfSome, Some, option_map};
+ghost use Rattle.std.specs.Prelude.{◌≡◌, option_map};
 ghost use Rattle.wrp_world.specs.Moved.{swap_at};
-ghost use Rattle.wrp_world.specs.Moves.{FitsSwap, Put, Swapped, SwapsAt, SwapsIn, SwapsSpan, Turns, Where};
-ghost use Rattle.wrp_world.specs.Plant.{Each};
+ghost use Rattle.wrp_world.specs.Moves.{Put, Swapped, SwapsAt, SwapsIn, SwapsSpan, Turns, Where};
 
 use crate::ends::{EndState, Span};
 use crate::event::Swap;
@@ -19,9 +18,7 @@ fn copied(name: &Name) -> Name
 
 // The module that is put in place at a port, if one is.
 fn swap_for(swaps: &[Swap], port: u16) -> Option<&Swap>
-    requires { Each (λ i swap. FitsSwap swap) swaps.now }
-    ensures value { option_map (λ swap. swap.now) result ≡ swap_at port swaps.now }
-    ensures fits { IfSome result (λ swap. FitsSwap swap.now) }
+    ensures { option_map (λ swap. swap.now) result ≡ swap_at port swaps.now }
 {
     for swap in swaps {
         if swap.port == port {
@@ -33,7 +30,6 @@ fn swap_for(swaps: &[Swap], port: u16) -> Option<&Swap>
 
 // A module is put in place.
 fn put_module(end: &mut EndState, swap: &Swap)
-    requires { FitsSwap swap.now }
     ensures { Put swap.now end.old end.new }
 {
     end.name = copied(&swap.name);
@@ -43,7 +39,6 @@ fn put_module(end: &mut EndState, swap: &Swap)
 
 // The module for a port is put in place, if there is one.
 fn put_swap(end: &mut EndState, port: u16, swaps: &[Swap])
-    requires { Each (λ i swap. FitsSwap swap) swaps.now }
     ensures { Swapped (swap_at port swaps.now) end.old end.new }
 {
     match swap_for(swaps, port) {
@@ -54,7 +49,6 @@ fn put_swap(end: &mut EndState, port: u16, swaps: &[Swap])
 
 // The same, where the end is the node's.
 fn put_where(end: &mut EndState, is_its: bool, port: u16, swaps: &[Swap])
-    requires { Each (λ i swap. FitsSwap swap) swaps.now }
     ensures { Where is_its (Swapped (swap_at port swaps.now)) end.old end.new }
 {
     if is_its {
@@ -64,7 +58,6 @@ fn put_where(end: &mut EndState, is_its: bool, port: u16, swaps: &[Swap])
 
 // The modules for the ends of a link that are the node's.
 fn put_at_link(span: &mut Span, link: &LinkCfg, n: u8, swaps: &[Swap])
-    requires { Each (λ i swap. FitsSwap swap) swaps.now }
     ensures { SwapsSpan n link.now swaps.now span.old span.new }
 {
     put_where(&mut span.master, link.upper == n, link.upper_port, swaps);
@@ -73,7 +66,6 @@ fn put_at_link(span: &mut Span, link: &LinkCfg, n: u8, swaps: &[Swap])
 
 // The same, of the link of a number.
 fn put_at_number(span: &mut Span, cfg: &NetCfg, k: usize, n: u8, swaps: &[Swap])
-    requires { Each (λ i swap. FitsSwap swap) swaps.now }
     ensures { SwapsAt n swaps.now cfg.now.links.items k span.old span.new }
 {
     match cfg.links.get(k) {
@@ -84,7 +76,6 @@ fn put_at_number(span: &mut Span, cfg: &NetCfg, k: usize, n: u8, swaps: &[Swap])
 
 /// The modules for the ports of a node are put in place.
 pub fn put_modules(spans: &mut Vec<Span>, cfg: &NetCfg, n: u8, swaps: &[Swap])
-    requires { Each (λ i swap. FitsSwap swap) swaps.now }
     ensures { Turns (SwapsAt n swaps.now cfg.now.links.items) spans.old.items spans.new.items }
 {
     for k in 0..spans.len() {
