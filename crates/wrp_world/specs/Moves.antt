@@ -129,12 +129,6 @@ LosesLink k i old new = new ≡ lost (old.link == k) old
 abbrev pub LosesNode : ℕ → List LinkCfg → ℕ → (old new : Departed) → Type 0
 LosesNode n links i old new = new ≡ lost (touches_in n (slice_get links old.link)) old
 
--- frame j arrives from this end of this link: the older ones of its direction are lost
-abbrev pub Arrives : (j : ℕ) → Reception → (k : ℕ) → Role → ℕ → (old new : Departed) → Type 0
-Arrives j reception k r i old new =
-    new ≡ (if (i + 1) == j then record old { arrival = Some reception }
-    else lost (nat_lt (i + 1) j && ((old.link == k) && is_role old.by r)) old)
-
 -- All parts
 
 abbrev pub Same : {A : Type 0} → (old new : List A) → Type 0

@@ -1,21 +1,10 @@
 //! Frames that depart, arrive and are lost.
-ghost use Rattle.std.specs.Prelude.{◌≡◌, ◌<◌, ◌+◌, ◌^◌, ℕ, length};
-ghost use Rattle.wrp_world.specs.Moves.{Arrives, LosesLink, LosesNode, Turns, lost};
-ghost use Rattle.wrp_world.specs.Setting.{is_role};
+ghost use Rattle.std.specs.Prelude.{◌≡◌};
+ghost use Rattle.wrp_world.specs.Moves.{LosesLink, LosesNode, Turns, lost};
 
-use super::{Departed, Frames, Reception};
+use super::{Departed, Frames};
 use crate::plant::moves::spans::touches;
-use wrp_base::{NetCfg, Role};
-
-fn is_same(a: Role, b: Role) -> bool
-    ensures { result ≡ is_role a b }
-{
-    match (a, b) {
-        (Role::Master, Role::Master) => true,
-        (Role::Slave, Role::Slave) => true,
-        _ => false,
-    }
-}
+use wrp_base::NetCfg;
 
 impl Departed {
     // It is lost, where it is so and it is on a fibre.
@@ -23,17 +12,6 @@ impl Departed {
         ensures { self.new ≡ lost loses self.old }
     {
         self.gone = self.gone || (loses && self.is_on());
-    }
-
-    // A frame of this number and direction arrives; it is the one of this number here, or another one.
-    fn see_arrival(&mut self, number: u32, arrived: u32, reception: Reception, link: u8, by: Role)
-        ensures { (i : ℕ) → number ≡ i + 1 → Arrives arrived reception link by i self.old self.new }
-    {
-        if number == arrived {
-            self.arrival = Some(reception);
-        } else {
-            self.lose(number < arrived && self.link == link && is_same(self.by, by));
-        }
     }
 }
 
@@ -55,15 +33,6 @@ fn lose_node(frames: &mut Vec<Departed>, n: u8, cfg: &NetCfg)
     }
 }
 
-fn arrive(frames: &mut Vec<Departed>, arrived: u32, reception: Reception, link: u8, by: Role)
-    requires { length frames.old.items < 2 ^ 32 }
-    ensures { Turns (Arrives arrived reception link by) frames.old.items frames.new.items }
-{
-    for i in 0..frames.len() {
-        frames[i].see_arrival(i as u32 + 1, arrived, reception, link, by);
-    }
-}
-
 impl Frames {
     /// What is on the fibre of a link is lost.
     pub fn lose_link(&mut self, k: u8)
@@ -77,13 +46,5 @@ impl Frames {
         ensures { Turns (LosesNode n cfg.now.links.items) self.old self.new }
     {
         lose_node(&mut self.list, n, cfg);
-    }
-
-    /// A frame arrives from an end of a link; the older ones of its direction are lost.
-    pub fn arrive(&mut self, arrived: u32, reception: Reception, link: u8, by: Role)
-        requires { length self.old < 2 ^ 32 }
-        ensures { Turns (Arrives arrived reception link by) self.old self.new }
-    {
-        arrive(&mut self.list, arrived, reception, link, by);
     }
 }
