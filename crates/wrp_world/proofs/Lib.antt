@@ -11,6 +11,7 @@ pub mod NextDue
 mod Rows
 pub mod SignedReads
 pub mod Sizing
+mod Bounds
 pub mod Standing
 mod Still
 pub mod Told

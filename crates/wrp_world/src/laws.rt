@@ -1,5 +1,5 @@
 //! Laws of the world: functions that do nothing, whose contracts are the laws.
-ghost use Rattle.wrp_world.specs.Laws.{AcceptedIsUnbroken, NewWorldIsStill};
+ghost use Rattle.wrp_world.specs.Laws.{AcceptedIsUnbroken, NewWorldIsStill, ArrivalKeepsStampBound, SampleKeepsBeatPattern};
 ghost use Rattle.wrp_world.specs.Rows.{WorkedRows};
 
 /// A network of a grandmaster and a switch, computed: which premise its first events break, with both
@@ -16,4 +16,15 @@ pub fn accepted_is_unbroken()
 /// Before any event no node ticks, nothing waits at a port, and no frame departed.
 pub fn new_world_is_still()
     ensures { NewWorldIsStill }
+{}
+
+/// The raw stamp of each accepted arrival keeps the stamp bound about the receiving node's reading.
+pub fn arrival_keeps_stamp_bound()
+    ensures { ArrivalKeepsStampBound }
+{}
+
+/// The beat bits of each accepted sample keep the beat pattern about the true phase of the node against
+/// its parent.
+pub fn sample_keeps_beat_pattern()
+    ensures { SampleKeepsBeatPattern }
 {}

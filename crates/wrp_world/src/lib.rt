@@ -15,5 +15,8 @@ mod premises;
 mod world;
 
 pub use event::{Event, Swap};
-pub use laws::{accepted_is_unbroken, new_world_is_still, worked_rows};
+pub use laws::{
+    accepted_is_unbroken, arrival_keeps_stamp_bound, new_world_is_still, sample_keeps_beat_pattern,
+    worked_rows,
+};
 pub use world::World;
