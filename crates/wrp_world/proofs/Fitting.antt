@@ -242,9 +242,9 @@ put_span_fits e n swaps (Some link) x y r h = record {
   ms = subst (λ (f : FibreState). IsDelayBy (e + 1) f.ms) (sym r.fibre) (delay_more e x.fibre.ms h.ms);
   sm = subst (λ (f : FibreState). IsDelayBy (e + 1) f.sm) (sym r.fibre) (delay_more e x.fibre.sm h.sm);
   master = where_fits (link.upper == n) (Swapped (swap_at link.upper_port swaps)) (FitsEnd e) (FitsEnd (e + 1)) x.master y.master r.master
-    (put_fits e (swap_at link.upper_port swaps) x.master y.master) (end_more e x.master) h.master;
+      (put_fits e (swap_at link.upper_port swaps) x.master y.master) (end_more e x.master) h.master;
   slave = where_fits (link.lower == n) (Swapped (swap_at link.lower_port swaps)) (FitsEnd e) (FitsEnd (e + 1)) x.slave y.slave r.slave
-    (put_fits e (swap_at link.lower_port swaps) x.slave y.slave) (end_more e x.slave) h.slave;
+      (put_fits e (swap_at link.lower_port swaps) x.slave y.slave) (end_more e x.slave) h.slave;
 }
 
 off_first : (e : ℕ) (off : ℤ) → unsigned_abs off ≤ 2 ^ 90 → IsOffBy (e + 1) off

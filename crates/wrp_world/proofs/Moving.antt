@@ -291,9 +291,11 @@ put_span : (n : ℕ) (swaps : List Swap) (o : Option LinkCfg) (f : FibreState) (
     EndIs m x.master → EndIs a x.slave → (y.fibre ≡ f) × EndIs (end_up n swaps Master o m) y.master × EndIs (end_up n swaps Slave o a) y.slave
 put_span n swaps None f m a x y r e p q =
     (ap (λ (z : Span). z.fibre) r ∙ e, subst (λ (z : Span). EndIs m z.master) (sym r) p, subst (λ (z : Span). EndIs a z.slave) (sym r) q)
-put_span n swaps (Some link) f m a x y r e p q =
-    (r.fibre ∙ e, put_at_end (link.upper == n) (swap_at link.upper_port swaps) m x.master y.master r.master p,
-    put_at_end (link.lower == n) (swap_at link.lower_port swaps) a x.slave y.slave r.slave q)
+put_span n swaps (Some link) f m a x y r e p q = (
+  r.fibre ∙ e,
+  put_at_end (link.upper == n) (swap_at link.upper_port swaps) m x.master y.master r.master p,
+  put_at_end (link.lower == n) (swap_at link.lower_port swaps) a x.slave y.slave r.slave q,
+)
 
 abbrev fresh : ℤ → ℤ → ClockState
 fresh off now = record { up = true; off = off; ticked = now; samples = 0 }
@@ -308,7 +310,7 @@ up_is s w n off swaps old new c h =
     ∙ ap (λ t. if m == n then fresh off t else w.clock m) h.time) h.clocks)
     (each_turned (SwapsAt n swaps.items old.net.cfg.links.items) (SpanIs w) (SpanIs (moved s w (Up n off swaps))) old.spans.items new.spans.items c.of_spans
     (λ l x y r e.
-      let j = put_span n swaps.items (slice_get s.cfg.links.items l) (w.fibre l) _ _ x y
-        (subst (λ (g : NetCfg). SwapsIn n swaps.items (slice_get g.links.items l) x y) h.cfg r) e.fibre e.master e.slave in
-      record { fibre = j.0; master = j.1; slave = j.2 }) h.spans)
+    let j = put_span n swaps.items (slice_get s.cfg.links.items l) (w.fibre l) _ _ x y
+    (subst (λ (g : NetCfg). SwapsIn n swaps.items (slice_get g.links.items l) x y) h.cfg r) e.fibre e.master e.slave in
+    record { fibre = j.0; master = j.1; slave = j.2 }) h.spans)
     (kept_frames s (Up n off swaps) w (moved s w (Up n off swaps)) old.frames new.frames c.of_frames (λ l. refl) refl (λ i. refl) h.frames)

@@ -19,11 +19,11 @@ returns c =
       time = refl;
       count = refl;
       of_clocks =
-        read_both c.args.n c.args.plant.now.clocks.items c.come_up.new.clocks.items c.args.off c.args.plant.now.time
-        (to_z w128 (of_z w128 c.args.off)) (to_z w128 (of_z w128 c.args.plant.now.time))
-        (to_z-of_z w128 c.args.off c.ranges.off) (read c.args.plant.now.time (omega (arith, c.requires.time))) c.come_up.ensures;
+          read_both c.args.n c.args.plant.now.clocks.items c.come_up.new.clocks.items c.args.off c.args.plant.now.time
+          (to_z w128 (of_z w128 c.args.off)) (to_z w128 (of_z w128 c.args.plant.now.time))
+          (to_z-of_z w128 c.args.off c.ranges.off) (read c.args.plant.now.time (omega (arith, c.requires.time))) c.come_up.ensures;
       of_spans =
-        subst (λ l. Turns (SwapsAt c.args.n l c.args.plant.now.net.cfg.links.items) c.args.plant.now.spans.items c.put_modules.new.spans.items)
-        c.as_slice.ensures.value c.put_modules.ensures;
+          subst (λ l. Turns (SwapsAt c.args.n l c.args.plant.now.net.cfg.links.items) c.args.plant.now.spans.items c.put_modules.new.spans.items)
+          c.as_slice.ensures.value c.put_modules.ensures;
       of_frames = refl;
     })

@@ -1,4 +1,4 @@
-use Rattle.std.proofs.Common.{refl, sym, subst, ap, ◌∙◌, ◌+ℤ◌, arith}
+use Rattle.std.proofs.Common.{refl, sym, subst}
 use Rattle.wrp_world.specs.Moves.{Changed}
 use Rattle.wrp_world.proofs.plant.moves.parts.cut.Goals as goal
 

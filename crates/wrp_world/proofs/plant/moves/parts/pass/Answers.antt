@@ -1,4 +1,4 @@
-use Rattle.std.proofs.Common.{refl, sym, subst, ap, ◌∙◌, ◌+ℤ◌, arith}
+use Rattle.std.proofs.Common.{refl, sym, subst, ap, ◌+ℤ◌}
 use Rattle.std.proofs.lemmas.Int.{to_z-of_z}
 use Rattle.std.specs.Int.{w64}
 use Rattle.wrp_world.specs.Moves.{Changed, Drifts, Moves, Turns}
