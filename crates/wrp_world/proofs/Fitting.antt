@@ -1,5 +1,5 @@
 -- What an event changes by itself keeps the sizes of the numbers of a plant.
-use Rattle.std.proofs.Common.{◌≡◌, ◌∙◌, refl, ap, sym, subst, ℕ, ◌+◌, ◌<◌, ◌≤◌, ◌^◌, ◌==◌, ℤ, ◌+ℤ◌, Bool, true, false, List, [], length, slice_get, Option, None, Some, unsigned_abs, arith}
+use Rattle.std.proofs.Common.{◌≡◌, ◌∙◌, ap, sym, subst, ℕ, ◌+◌, ◌<◌, ◌≤◌, ◌^◌, ◌==◌, ℤ, ◌+ℤ◌, Bool, true, false, List, length, slice_get, Option, None, Some, unsigned_abs, arith}
 use Rattle.std.proofs.lemmas.Int.{ints}
 use Rattle.wrp_base.specs.declared.configuration.NetCfg.{NetCfg}
 use Rattle.wrp_base.specs.declared.network.LinkCfg.{LinkCfg}
@@ -14,7 +14,7 @@ use Rattle.wrp_world.specs.declared.fibres.FibreState.{FibreState}
 use Rattle.wrp_world.specs.declared.frames.Departed.{Departed}
 use Rattle.wrp_world.specs.declared.plant.Plant.{Plant}
 use Rattle.wrp_world.specs.Moved.{drift_of, move_of, swap_at}
-use Rattle.wrp_world.specs.Moves.{Turns, Same, Where, At, Changed, Drifts, Samples, GoesDown, Moves, Joins, Empties, Loses, Cuts, Drops, DropsAt, touches_in, ComesUp, Swapped, SwapsIn, SwapsAt, lost, LosesLink, LosesNode}
+use Rattle.wrp_world.specs.Moves.{Turns, Same, Where, At, Changed, Drifts, Samples, GoesDown, Moves, Joins, Empties, Cuts, Drops, DropsAt, touches_in, ComesUp, Swapped, SwapsIn, SwapsAt, lost, LosesLink, LosesNode}
 use Rattle.wrp_world.specs.Plant.{Each, FitsClock, FitsDeparted, FitsEnd, FitsPlant, FitsSpan}
 use Rattle.wrp_world.specs.Sizes.{IsTimeBy, IsOffBy, IsDelayBy, IsDueBy}
 use Rattle.wrp_world.proofs.Turned.{each_turned, each_same}

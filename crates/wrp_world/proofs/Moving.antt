@@ -1,5 +1,5 @@
 -- What an event changes by itself: of a plant as of the state that it stands for.
-use Rattle.std.proofs.Common.{◌≡◌, ◌∙◌, refl, ap, ap₂, sym, subst, ℕ, zero, suc, ◌+◌, ◌<◌, ◌==◌, ◌||◌, ◌&&◌, ℤ, ◌+ℤ◌, Bool, true, false, if◌then◌else◌, List, [], ◌∷◌, length, slice_get, Option, None, Some, option_map, unsigned_abs, arith}
+use Rattle.std.proofs.Common.{◌≡◌, ◌∙◌, refl, ap, ap₂, sym, subst, ℕ, zero, suc, ◌+◌, ◌<◌, ◌==◌, ◌||◌, ◌&&◌, ℤ, ◌+ℤ◌, Bool, true, false, if◌then◌else◌, List, [], length, slice_get, Option, None, Some, option_map}
 use Rattle.std.proofs.lemmas.Option.{slice_get-get_or, slice_get_within}
 use Rattle.std.specs.List.{AllZip}
 use Rattle.arrayvec.specs.ArrayVec.{ArrayVec}
@@ -22,7 +22,7 @@ use Rattle.wrp_world.specs.declared.frames.Departed.{Departed}
 use Rattle.wrp_world.specs.declared.plant.Plant.{Plant}
 use Rattle.wrp_world.specs.Moved.{moved, removed, loses, touches, drift_of, move_of, swap_at, with_swap}
 use Rattle.wrp_world.specs.Moves.{Turns, Stays, Same, Where, At, Changed, Drifts, Samples, GoesDown, Moves, Joins, Empties, Loses, Cuts, Drops, DropsAt, touches_in, ComesUp, Swapped, SwapsIn, SwapsAt, lost, LosesLink, LosesNode}
-use Rattle.wrp_world.specs.Plant.{Each, EndIs, PutOutIs, SpanIs, MaybeIs, DepartedIs, FramesAre, PlantIs, frame_numbered, is_on}
+use Rattle.wrp_world.specs.Plant.{Each, EndIs, PutOutIs, SpanIs, MaybeIs, DepartedIs, FramesAre, PlantIs, frame_numbered}
 use Rattle.wrp_world.specs.Setting.{Setting, end_of, is_of}
 use Rattle.wrp_world.specs.WorldAt.{WorldAt, EndAt, FrameAt, is_on_fibre}
 use Rattle.wrp_world.proofs.NextArrivals.{on_alike}

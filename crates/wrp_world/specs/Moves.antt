@@ -1,6 +1,5 @@
 -- What an event does to the parts of a plant as the code keeps them (this project's profile).
-use Rattle.std.specs.Prelude.{◌≡◌, ◌+◌, ◌==◌, ◌||◌, ◌&&◌, ◌<◌, ◌≤◌, ◌+ℤ◌, ◌^◌, ℕ, ℤ, Bool, true, false, if◌then◌else◌, nat_lt, unsigned_abs, List, [], ◌∷◌, length, Option, None, Some, option_map, slice_get}
-use Rattle.wrp_base.specs.declared.link.Role.{Role}
+use Rattle.std.specs.Prelude.{◌≡◌, ◌+◌, ◌==◌, ◌||◌, ◌&&◌, ◌≤◌, ◌+ℤ◌, ◌^◌, ℕ, ℤ, Bool, true, false, unsigned_abs, List, [], length, Option, None, Some, option_map, slice_get}
 use Rattle.wrp_base.specs.declared.link.Role.TheVariants.{Master, Slave}
 use Rattle.wrp_base.specs.declared.network.LinkCfg.{LinkCfg}
 use Rattle.wrp_world.specs.declared.clocks.ClockState.{ClockState}
@@ -9,11 +8,10 @@ use Rattle.wrp_world.specs.declared.ends.Span.{Span}
 use Rattle.wrp_world.specs.declared.event.Swap.{Swap}
 use Rattle.wrp_world.specs.declared.fibres.FibreState.{FibreState}
 use Rattle.wrp_world.specs.declared.frames.Departed.{Departed}
-use Rattle.wrp_world.specs.declared.frames.Reception.{Reception}
 use Rattle.wrp_world.specs.declared.plant.Plant.{Plant}
 use Rattle.wrp_world.specs.Moved.{drift_of, move_of, swap_at}
 use Rattle.wrp_world.specs.Plant.{is_on}
-use Rattle.wrp_world.specs.Setting.{end_of, is_of, is_role}
+use Rattle.wrp_world.specs.Setting.{end_of, is_of}
 
 -- each of a list became what stands at its place: from what it was, by its number
 abbrev pub Turns : {A : Type 0} → (ℕ → A → A → Type 0) → List A → List A → Type 0
