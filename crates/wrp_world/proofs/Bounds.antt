@@ -1,10 +1,9 @@
 -- What the premises on stamps and on beat bits leave true of an accepted event.
-use Rattle.std.proofs.Common.{◌≡◌, ◌∙◌, refl, ap, sym, subst, ℕ, zero, suc, ◌+◌, ◌*◌, ◌/◌, ◌<◌, ◌≤◌, ◌==◌, ◌&&◌, ◌||◌, ◌⊎◌, inl, inr, nat_le, nat_lt, ℤ, pos, ◌+ℤ◌, ◌-ℤ◌, ◌<ℤ◌, ◌≤ℤ◌, unsigned_abs, Bool, true, false, not, List, [], ◌∷◌, ◌++◌, map, Option, None, Some, arith}
+use Rattle.std.proofs.Common.{◌≡◌, ◌∙◌, refl, ap, subst, ℕ, zero, suc, ◌+◌, ◌*◌, ◌/◌, ◌<◌, ◌≤◌, ◌&&◌, ◌||◌, ◌⊎◌, inl, inr, nat_le, nat_lt, ℤ, pos, ◌+ℤ◌, ◌-ℤ◌, ◌<ℤ◌, ◌≤ℤ◌, unsigned_abs, Bool, true, false, not, List, [], ◌∷◌, ◌++◌, map, Option, Some, arith}
 use Rattle.std.proofs.lemmas.Bool.{eqb-true}
 use Rattle.std.proofs.lemmas.Int.{ints}
 use Rattle.std.specs.Int.Signed.{le_z, lt_z}
 use Rattle.std.specs.Option.{option_map_or}
-use Rattle.wrp_base.specs.declared.network.LinkCfg.{LinkCfg}
 use Rattle.wrp_base.specs.declared.time.Clock.{Clock}
 use Rattle.wrp_base.specs.declared.time.Raw.{Raw}
 use Rattle.wrp_base.specs.Clock.{period_of}
@@ -17,7 +16,7 @@ use Rattle.wrp_stamp.specs.StampBound.{KeepsStampBound, true_place, MayUseRising
 use Rattle.wrp_world.specs.Checks.{Check, AllHold, only_where, stands}
 use Rattle.wrp_world.specs.Laws.{ArrivalKeepsStampBound, SampleKeepsBeatPattern}
 use Rattle.wrp_world.specs.Premises.{bit_check, beat_by, beat_checks, sample_checks, raw_checks, received, received_at, arrive_checks, transition_of, may_rise, may_fall}
-use Rattle.wrp_world.specs.Setting.{Setting, above, end_at, entry_at, from_on, link_of, of_node, other_of}
+use Rattle.wrp_world.specs.Setting.{Setting, entry_at, from_on, link_of, of_node, other_of}
 use Rattle.wrp_world.specs.WorldAt.{WorldAt, FrameAt, has_carrier, is_on_fibre, phase_of, reading}
 use Rattle.wrp_world.proofs.Told.{made}
 

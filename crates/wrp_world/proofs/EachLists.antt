@@ -1,5 +1,5 @@
 -- What holds of each place of a list.
-use Rattle.std.proofs.Common.{◌≡◌, refl, ap, sym, subst, ℕ, zero, suc, ◌+◌, ◌<◌, List, [], ◌∷◌, ◌++◌, length, Option, None, Some, slice_get, arith}
+use Rattle.std.proofs.Common.{◌≡◌, refl, subst, ℕ, zero, suc, ◌+◌, ◌<◌, List, [], ◌∷◌, ◌++◌, length, None, Some, slice_get, arith}
 use Rattle.wrp_world.specs.Plant.{Each}
 
 none_some : {A : Type 0} (x : A) → None ≡ Some x → ⊥

@@ -1,6 +1,5 @@
 -- A frame that is found by its number is the one of that number.
-use Rattle.std.proofs.Common.{◌≡◌, ◌∙◌, refl, ap, ap₂, sym, subst, ℕ, ℤ, List, Option, None, Some, option_map, option_and_then}
-use Rattle.wrp_base.specs.declared.link.Role.{Role}
+use Rattle.std.proofs.Common.{◌≡◌, ◌∙◌, refl, ap, ap₂, sym, subst, ℕ, List, Option, None, Some, option_map, option_and_then}
 use Rattle.wrp_base.specs.Network.{End}
 use Rattle.wrp_frame.specs.SentOctets.{octets_of}
 use Rattle.wrp_world.specs.declared.frames.Departed.{Departed}

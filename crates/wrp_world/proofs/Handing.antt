@@ -1,5 +1,5 @@
 -- What is told of a frame that is handed over.
-use Rattle.std.proofs.Common.{◌≡◌, ◌∙◌, refl, ap, ap₂, sym, ℕ, ℤ, pos, ◌-ℤ◌, Bool, true, false, List, [], ◌∷◌, Option, None, Some}
+use Rattle.std.proofs.Common.{◌≡◌, ◌∙◌, ap, sym, ℕ, pos, ◌-ℤ◌, true, false, List, [], ◌∷◌, Option, None, Some}
 use Rattle.std.specs.Option.{option_or, is_some}
 use Rattle.wrp_bounds.specs.Times.{frame_life}
 use Rattle.wrp_world.specs.Checks.{told_of, at_most, stands, not_sent}

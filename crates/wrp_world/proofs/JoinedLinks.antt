@@ -1,5 +1,5 @@
 -- What is told of the delays of a joined link.
-use Rattle.std.proofs.Common.{◌≡◌, ◌∙◌, ap₂, ℕ, ℤ, pos, ◌^◌, ◌*◌, Bool, true, false, not, List, [], ◌∷◌, Option, arith}
+use Rattle.std.proofs.Common.{◌≡◌, ◌∙◌, ap₂, ℤ, pos, ◌^◌, ◌*◌, true, false, not, List, [], ◌∷◌, Option, arith}
 use Rattle.std.proofs.lemmas.Int.{ints}
 use Rattle.std.specs.Int.Signed.{le_z, lt_z}
 use Rattle.wrp_base.specs.declared.network.LinkCfg.{LinkCfg}

@@ -1,8 +1,10 @@
 pub mod EachLists
+pub mod Fitting
 pub mod FoundFrames
 pub mod Handing
 pub mod Inside
 pub mod JoinedLinks
+pub mod Moving
 pub mod NewPlants
 pub mod NextArrivals
 pub mod NextDue
@@ -13,4 +15,5 @@ mod Bounds
 pub mod Standing
 mod Still
 pub mod Told
+pub mod Turned
 mod Unbroken

@@ -1,5 +1,5 @@
 -- A plant before any event stands for the first state of a world.
-use Rattle.std.proofs.Common.{◌≡◌, ◌∙◌, refl, ap, sym, subst, ℕ, zero, suc, ◌<◌, ◌≤◌, ◌^◌, ◌+◌, ℤ, pos, ◌*ℤ◌, unsigned_abs, List, [], ◌∷◌, length, Option, None, Some, slice_get, option_map, option_and_then, arith}
+use Rattle.std.proofs.Common.{◌≡◌, refl, ap, sym, subst, ℕ, zero, suc, ◌<◌, ℤ, List, [], ◌∷◌, length, Option, None, Some, slice_get, option_and_then, arith}
 use Rattle.std.specs.List.{AllZip}
 use Rattle.std.specs.Option.{option_map_or}
 use Rattle.wrp_base.specs.declared.link.Module.{Module}
@@ -13,10 +13,10 @@ use Rattle.wrp_world.specs.declared.ends.Span.{Span}
 use Rattle.wrp_world.specs.declared.fibres.FibreState.{FibreState}
 use Rattle.wrp_world.specs.declared.plant.Plant.{Plant}
 use Rattle.wrp_world.specs.New.{IsNewEnd, IsNewSpan, IsSpanOf, new_clock}
-use Rattle.wrp_world.specs.Plant.{Each, EndIs, SpanIs, FitsClock, FitsSpan, FramesAre, PlantIs, MaybeIs, DepartedIs, PutOutIs, frame_numbered}
-use Rattle.wrp_world.specs.Setting.{Setting, link_of, start_of, entry_at}
+use Rattle.wrp_world.specs.Plant.{Each, EndIs, SpanIs, FitsClock, FitsSpan, PlantIs, MaybeIs, DepartedIs, PutOutIs, frame_numbered}
+use Rattle.wrp_world.specs.Setting.{Setting, start_of, entry_at}
 use Rattle.wrp_world.specs.Sizes.{IsTimeBy, IsDelayBy}
-use Rattle.wrp_world.specs.WorldAt.{WorldAt, EndAt, new_world, new_end, first_name, named_at}
+use Rattle.wrp_world.specs.WorldAt.{new_world, new_end, named_at}
 use Rattle.wrp_world.proofs.EachLists.{at_place, each_none}
 
 -- what the code made of a network

@@ -1,13 +1,13 @@
 -- The frame that is due first among those that are kept is the next arrival of the state.
-use Rattle.std.proofs.Common.{◌≡◌, ◌∙◌, refl, ap, ap₂, sym, subst, ℕ, zero, suc, ◌+◌, ◌<◌, ◌≤◌, ◌⊎◌, inl, inr, ℤ, ◌<ℤ◌, Bool, true, false, if◌then◌else◌, List, [], ◌∷◌, length, Option, None, Some, slice_get, arith}
+use Rattle.std.proofs.Common.{◌≡◌, ◌∙◌, refl, ap, ap₂, sym, subst, ℕ, zero, suc, ◌+◌, ◌<◌, ◌≤◌, ◌⊎◌, ℤ, ◌<ℤ◌, Bool, true, false, if◌then◌else◌, List, [], ◌∷◌, length, Option, None, Some, slice_get, arith}
 use Rattle.std.specs.Option.{is_some}
 use Rattle.wrp_world.specs.declared.frames.Departed.{Departed}
 use Rattle.wrp_world.specs.declared.frames.Reception.{Reception}
 use Rattle.wrp_world.specs.Plant.{MaybeIs, DepartedIs, ReceptionIs, FramesAre, frame_numbered, is_on, next_from}
 use Rattle.wrp_world.specs.Views.{IsNextArrival, IsNoSooner}
 use Rattle.wrp_world.specs.WorldAt.{WorldAt, FrameAt, Arrival, is_on_fibre}
-use Rattle.wrp_world.proofs.FoundFrames.{Found, found, missing}
-use Rattle.wrp_world.proofs.NextDue.{BestOf, IsBest, best_from}
+use Rattle.wrp_world.proofs.FoundFrames.{Found, found}
+use Rattle.wrp_world.proofs.NextDue.{BestOf, best_from}
 
 some_alike : (a : Option Arrival) (r : Option Reception) → MaybeIs ReceptionIs a r → is_some a ≡ is_some r
 some_alike None None h = refl
@@ -15,7 +15,7 @@ some_alike None (Some r) h = absurd h
 some_alike (Some a) None h = absurd h
 some_alike (Some a) (Some r) h = refl
 
-on_alike : (f : FrameAt) (d : Departed) → DepartedIs f d → is_on_fibre (Some f) ≡ is_on d
+pub on_alike : (f : FrameAt) (d : Departed) → DepartedIs f d → is_on_fibre (Some f) ≡ is_on d
 on_alike f d h =
     ap₂ (λ g a. if g then false else (if a then false else true)) (sym h.gone) (some_alike f.arrival d.arrival h.arrival)
 

@@ -1,12 +1,12 @@
 -- What a premise tells of the parts of a plant is what it tells of the state that the plant stands for.
-use Rattle.std.proofs.Common.{◌≡◌, ◌∙◌, refl, ap, ap₂, sym, subst, ℕ, ℤ, pos, ◌+ℤ◌, ◌-ℤ◌, ◌&&◌, Bool, true, false, if◌then◌else◌, List, [], ◌∷◌, ◌++◌, map, Option, None, Some}
+use Rattle.std.proofs.Common.{◌≡◌, ◌∙◌, refl, ap, ap₂, sym, subst, ℕ, ℤ, pos, ◌+ℤ◌, ◌&&◌, Bool, true, false, if◌then◌else◌, List, [], ◌∷◌, ◌++◌, map, Option, None, Some}
 use Rattle.std.specs.Option.{option_or, option_map_or}
 use Rattle.wrp_base.specs.declared.network.LinkCfg.{LinkCfg}
 use Rattle.wrp_base.specs.declared.link.Role.{Role}
 use Rattle.wrp_base.specs.declared.link.Role.TheVariants.{Master, Slave}
 use Rattle.wrp_base.specs.declared.time.Clock.{Clock}
 use Rattle.wrp_bounds.specs.Times.{shortest_tick, longest_tick}
-use Rattle.wrp_world.specs.Checks.{Check, told_of, at_most, stands, only_where}
+use Rattle.wrp_world.specs.Checks.{Check, told_of, stands, only_where}
 use Rattle.wrp_world.specs.declared.checks.Breach.{Breach}
 use Rattle.wrp_world.specs.declared.clocks.ClockState.{ClockState}
 use Rattle.wrp_world.specs.declared.ends.Span.{Span}
@@ -16,7 +16,7 @@ use Rattle.wrp_world.specs.Premises.{early_by, tick_early, beat_by, beat_checks,
 use Rattle.wrp_world.specs.Setting.{Setting, link_of, of_node}
 use Rattle.wrp_world.specs.Views.{tick_due}
 use Rattle.wrp_world.specs.WorldAt.{WorldAt, delay_from, ends_are_up, has_carrier, phase_of}
-use Rattle.wrp_world.proofs.Told.{told_cons, told_standing, made, not_made, told_append}
+use Rattle.wrp_world.proofs.Told.{told_standing, made, not_made, told_append}
 
 pub same_link : (a b : LinkCfg) → Some a ≡ Some b → a ≡ b
 same_link a b e = cc

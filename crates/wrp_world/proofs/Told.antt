@@ -1,5 +1,5 @@
 -- What is told of checks that stand one after another.
-use Rattle.std.proofs.Common.{◌≡◌, ◌∙◌, refl, ap, ap₂, sym, ℕ, zero, suc, ◌+◌, ◌-◌, ◌<◌, ◌≤◌, Bool, true, false, if◌then◌else◌, List, [], ◌∷◌, ◌++◌, map, flat_map, drop, length, slice_index_or, Option, None, Some, option_map, arith}
+use Rattle.std.proofs.Common.{◌≡◌, ◌∙◌, refl, ap, sym, ℕ, zero, suc, ◌+◌, ◌-◌, ◌<◌, ◌≤◌, Bool, true, false, if◌then◌else◌, List, [], ◌∷◌, ◌++◌, map, flat_map, drop, length, slice_index_or, Option, None, Some, option_map, arith}
 use Rattle.std.specs.Option.{option_or}
 use Rattle.wrp_world.specs.Checks.{Check, first_broken, breach_of, told_of, only_where, stands}
 use Rattle.wrp_world.specs.declared.checks.Breach.{Breach}

@@ -2,6 +2,7 @@ pub mod Checks
 pub mod Given
 pub mod Laws
 pub mod Moved
+pub mod Moves
 pub mod New
 pub mod Plant
 pub mod Premises

@@ -5,17 +5,13 @@ use Rattle.std.specs.List.{AllZip}
 use Rattle.std.specs.Option.{is_some}
 use Rattle.wrp_base.specs.declared.link.Role.{Role}
 use Rattle.wrp_base.specs.declared.link.Role.TheVariants.{Master, Slave}
-use Rattle.wrp_base.specs.Message.{IsSound}
-use Rattle.wrp_base.specs.Network.{node_count}
 use Rattle.wrp_config.specs.Accepted.{IsAccepted}
 use Rattle.wrp_frame.specs.Grammar.{Spells}
 use Rattle.wrp_frame.specs.SentOctets.{octets_of}
-use Rattle.wrp_node.specs.Parts.{FitsRaw}
 use Rattle.wrp_world.specs.declared.clocks.ClockState.{ClockState}
 use Rattle.wrp_world.specs.declared.ends.EndState.{EndState}
 use Rattle.wrp_world.specs.declared.ends.PutOut.{PutOut}
 use Rattle.wrp_world.specs.declared.ends.Span.{Span}
-use Rattle.wrp_world.specs.declared.fibres.FibreState.{FibreState}
 use Rattle.wrp_world.specs.declared.frames.Departed.{Departed}
 use Rattle.wrp_world.specs.declared.frames.Reception.{Reception}
 use Rattle.wrp_world.specs.declared.plant.Plant.{Plant}

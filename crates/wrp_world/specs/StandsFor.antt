@@ -1,6 +1,6 @@
 -- The state that a world stands for: each part of it is what the definition says, and each node stands for its inputs
 -- (this project's profile).
-use Rattle.std.specs.Prelude.{◌≡◌, ◌<◌, ℕ, ℤ, Bool, List, length, Option}
+use Rattle.std.specs.Prelude.{◌≡◌, ℕ, ℤ, Bool, List, length}
 use Rattle.wrp_base.specs.declared.link.Mark.{Mark}
 use Rattle.wrp_base.specs.Network.{node_count}
 use Rattle.wrp_node.specs.Node.{IsValid as NodeIsValid}

@@ -1,5 +1,6 @@
 //! All of a world but its nodes: true time, clocks, fibres, ends of links and frames in flight.
 mod handing;
+pub mod moves;
 mod new;
 mod parts;
 mod tries;

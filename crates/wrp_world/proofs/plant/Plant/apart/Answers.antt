@@ -1,4 +1,4 @@
-use Rattle.std.proofs.Common.{◌≡◌, ◌∙◌, sym, ap, ap₂, ◌∷◌, [], ◌&&◌, ◌+ℤ◌, ◌-ℤ◌, pos, slice_get, arith}
+use Rattle.std.proofs.Common.{◌∙◌, ap₂, ◌-ℤ◌, arith}
 use Rattle.wrp_world.proofs.SignedReads.{read}
 use Rattle.wrp_world.proofs.plant.Plant.apart.Goals as goal
 

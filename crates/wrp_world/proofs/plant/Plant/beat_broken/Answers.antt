@@ -1,9 +1,7 @@
-use Rattle.std.proofs.Common.{◌≡◌, ◌∙◌, sym, ap, Some, slice_get, arith}
+use Rattle.std.proofs.Common.{◌∙◌, sym, ap, slice_get, arith}
 use Rattle.std.specs.Option.{option_map_or}
 use Rattle.wrp_base.specs.declared.configuration.NetCfg.{NetCfg}
 use Rattle.wrp_base.specs.declared.network.NodeCfg.{NodeCfg}
-use Rattle.wrp_world.specs.Setting.{link_of, of_node}
-use Rattle.wrp_world.specs.WorldAt.{phase_of}
 use Rattle.wrp_world.proofs.SignedReads.{read}
 use Rattle.wrp_world.proofs.Standing.{beat_told, beat_dark}
 use Rattle.wrp_world.proofs.plant.Plant.beat_broken.Goals as goal

@@ -1,4 +1,3 @@
-use Rattle.std.proofs.Common.{◌≡◌}
 use Rattle.wrp_world.proofs.Sizing.{off_size, time_size}
 use Rattle.wrp_world.proofs.plant.Plant.clock.Goals as goal
 

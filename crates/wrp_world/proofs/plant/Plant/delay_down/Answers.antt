@@ -1,4 +1,4 @@
-use Rattle.std.proofs.Common.{◌≡◌, ◌∙◌, sym, ap, ap₂, ◌∷◌, [], ◌&&◌, ◌+ℤ◌, ◌-ℤ◌, pos, slice_get, arith}
+use Rattle.std.proofs.Common.{◌∙◌, arith}
 use Rattle.wrp_world.proofs.SignedReads.{read}
 use Rattle.wrp_world.proofs.Standing.{down_told}
 use Rattle.wrp_world.proofs.plant.Plant.delay_down.Goals as goal

@@ -1,5 +1,4 @@
 use Rattle.std.proofs.Common.{◌∙◌, sym, ap, option_map}
-use Rattle.wrp_world.specs.declared.frames.Departed.{Departed}
 use Rattle.wrp_world.proofs.Handing.{found_told, missing_told}
 use Rattle.wrp_world.proofs.plant.Plant.deliver_broken.Goals as goal
 

@@ -1,4 +1,4 @@
-use Rattle.std.proofs.Common.{◌≡◌, ◌∙◌, sym, ap, ap₂, ◌∷◌, [], ◌&&◌, ◌+ℤ◌, ◌-ℤ◌, pos, slice_get, arith}
+use Rattle.std.proofs.Common.{◌∙◌, ap, ◌∷◌, []}
 use Rattle.wrp_world.specs.Checks.{told_of, stands}
 use Rattle.wrp_world.proofs.plant.Plant.down_broken.Goals as goal
 

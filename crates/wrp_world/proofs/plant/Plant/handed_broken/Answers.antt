@@ -1,4 +1,4 @@
-use Rattle.std.proofs.Common.{◌∙◌, sym, ap, ap₂, ◌∷◌, [], ◌-ℤ◌, pos, arith}
+use Rattle.std.proofs.Common.{◌∙◌, sym, ap, ◌∷◌, [], ◌-ℤ◌, pos, arith}
 use Rattle.wrp_bounds.specs.Times.{frame_life}
 use Rattle.wrp_world.specs.Checks.{told_of, at_most}
 use Rattle.wrp_world.proofs.Handing.{arrived_told, waiting_told}

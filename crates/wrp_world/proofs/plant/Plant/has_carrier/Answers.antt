@@ -1,4 +1,4 @@
-use Rattle.std.proofs.Common.{◌≡◌, ◌∙◌, sym, ap, ap₂, ◌∷◌, [], ◌&&◌, ◌+ℤ◌, ◌-ℤ◌, pos, slice_get, arith}
+use Rattle.std.proofs.Common.{◌∙◌, ap₂, ◌&&◌}
 use Rattle.wrp_world.proofs.plant.Plant.has_carrier.Goals as goal
 
 pub returns : goal.returns

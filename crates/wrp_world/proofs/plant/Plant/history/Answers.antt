@@ -1,8 +1,7 @@
 use Rattle.std.proofs.Common.{◌≡◌, ◌∙◌, sym, ap, Some}
 use Rattle.wrp_base.specs.declared.configuration.NetCfg.{NetCfg}
 use Rattle.wrp_world.specs.Setting.{place_among, place_of}
-use Rattle.wrp_world.specs.Moved.{waiting_at}
-use Rattle.wrp_world.specs.Views.{history_of, oldest_of}
+use Rattle.wrp_world.specs.Views.{history_of}
 use Rattle.wrp_world.proofs.plant.Plant.history.Goals as goal
 
 pub returns-in-Some : goal.returns-in-Some

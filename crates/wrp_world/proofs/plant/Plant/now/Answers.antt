@@ -1,4 +1,4 @@
-use Rattle.std.proofs.Common.{◌≡◌, sym, subst, arith}
+use Rattle.std.proofs.Common.{sym, subst, arith}
 use Rattle.wrp_world.specs.Sizes.{IsTime}
 use Rattle.wrp_world.proofs.SignedReads.{read}
 use Rattle.wrp_world.proofs.Sizing.{time_size}

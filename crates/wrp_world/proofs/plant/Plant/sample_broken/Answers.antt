@@ -1,4 +1,4 @@
-use Rattle.std.proofs.Common.{◌≡◌, ◌∙◌, sym, ap, Some, None}
+use Rattle.std.proofs.Common.{◌∙◌, sym, ap}
 use Rattle.wrp_world.specs.Checks.{told_of}
 use Rattle.wrp_world.specs.Premises.{sample_checks}
 use Rattle.wrp_world.proofs.plant.Plant.sample_broken.Goals as goal

@@ -1,5 +1,5 @@
 use Rattle.std.proofs.Common.{◌∙◌, sym, ap, option_map}
-use Rattle.wrp_world.proofs.FoundFrames.{sender_found, sender_missing}
+use Rattle.wrp_world.proofs.FoundFrames.{sender_found}
 use Rattle.wrp_world.proofs.plant.Plant.sender.Goals as goal
 
 pub returns-in-Some : goal.returns-in-Some

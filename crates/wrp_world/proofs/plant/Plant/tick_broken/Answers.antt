@@ -1,4 +1,4 @@
-use Rattle.std.proofs.Common.{◌≡◌, ◌∙◌, sym, ap, ap₂, ◌∷◌, [], ◌&&◌, ◌+ℤ◌, ◌-ℤ◌, pos, slice_get, arith}
+use Rattle.std.proofs.Common.{◌∙◌, sym, ap, ap₂, ◌∷◌, [], pos, arith}
 use Rattle.std.specs.Option.{option_or}
 use Rattle.wrp_base.specs.declared.configuration.NetCfg.{NetCfg}
 use Rattle.wrp_bounds.specs.Times.{shortest_tick}

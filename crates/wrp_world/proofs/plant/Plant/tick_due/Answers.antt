@@ -1,4 +1,4 @@
-use Rattle.std.proofs.Common.{◌≡◌, ◌∙◌, ap, ap₂, Some, pos, ◌+ℤ◌, arith}
+use Rattle.std.proofs.Common.{◌∙◌, ap, ap₂, Some, pos, ◌+ℤ◌, arith}
 use Rattle.wrp_base.specs.declared.configuration.NetCfg.{NetCfg}
 use Rattle.wrp_bounds.specs.Times.{shortest_tick, longest_tick}
 use Rattle.wrp_world.proofs.SignedReads.{read}

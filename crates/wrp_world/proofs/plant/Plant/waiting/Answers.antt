@@ -2,7 +2,7 @@ use Rattle.std.proofs.Common.{◌≡◌, ◌∙◌, sym, ap, Some}
 use Rattle.wrp_base.specs.declared.configuration.NetCfg.{NetCfg}
 use Rattle.wrp_world.specs.Setting.{place_among, place_of}
 use Rattle.wrp_world.specs.Moved.{waiting_at}
-use Rattle.wrp_world.specs.Views.{history_of, oldest_of}
+use Rattle.wrp_world.specs.Views.{oldest_of}
 use Rattle.wrp_world.proofs.plant.Plant.waiting.Goals as goal
 
 pub returns-in-Some : goal.returns-in-Some

@@ -1,4 +1,4 @@
-use Rattle.std.proofs.Common.{◌∙◌, sym, to_z, of_z, arith}
+use Rattle.std.proofs.Common.{◌∙◌, sym, to_z, of_z}
 use Rattle.std.proofs.lemmas.Int.{to_z-of_z}
 use Rattle.std.specs.Int.{w64}
 use Rattle.wrp_world.specs.Premises.{rate_of_fibre}

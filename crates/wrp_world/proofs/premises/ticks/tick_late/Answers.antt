@@ -1,4 +1,4 @@
-use Rattle.std.proofs.Common.{◌∙◌, ap₂, ap, ◌∷◌, [], ◌-ℤ◌, arith}
+use Rattle.std.proofs.Common.{◌∙◌, ap₂, ◌∷◌, [], ◌-ℤ◌, arith}
 use Rattle.wrp_world.specs.Checks.{told_of, at_most}
 use Rattle.wrp_world.proofs.SignedReads.{read}
 use Rattle.wrp_world.proofs.Told.{made_one}

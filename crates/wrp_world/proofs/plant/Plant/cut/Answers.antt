@@ -1,0 +1,12 @@
+use Rattle.wrp_world.proofs.Fitting.{cut_off_fits}
+use Rattle.wrp_world.proofs.Moving.{cut_is}
+use Rattle.wrp_world.proofs.plant.Plant.cut.Goals as goal
+
+pub cut-requires-clause-link : goal.cut-requires-clause-link
+cut-requires-clause-link c = rw c.requires.fits.span_count c.requires.link
+
+pub returns-clause-is : goal.returns-clause-is
+returns-clause-is c s w h = cut_is s w c.args.link c.args.self.now c.cut.new.plant c.cut.ensures h
+
+pub returns-clause-fits : goal.returns-clause-fits
+returns-clause-fits c = cut_off_fits c.args.link c.args.self.now c.cut.new.plant c.cut.ensures c.requires.few c.requires.fits

@@ -1,0 +1,12 @@
+use Rattle.wrp_world.proofs.Fitting.{gone_down_fits}
+use Rattle.wrp_world.proofs.Moving.{down_is}
+use Rattle.wrp_world.proofs.plant.Plant.go_down.Goals as goal
+
+pub go_down-requires-clause-node : goal.go_down-requires-clause-node
+go_down-requires-clause-node c = rw c.requires.fits.clock_count c.requires.node
+
+pub returns-clause-is : goal.returns-clause-is
+returns-clause-is c s w h = down_is s w c.args.n c.args.self.now c.go_down.new.plant c.go_down.ensures h
+
+pub returns-clause-fits : goal.returns-clause-fits
+returns-clause-fits c = gone_down_fits c.args.n c.args.self.now.net.cfg.links.items c.args.self.now c.go_down.new.plant c.go_down.ensures c.requires.few c.requires.fits

@@ -1,0 +1,20 @@
+use Rattle.std.proofs.Common.{◌+ℤ◌, ◌≤◌, ◌^◌, unsigned_abs, subst, arith}
+use Rattle.std.proofs.lemmas.Int.{ints, to_z-of_z}
+use Rattle.std.specs.Int.{w64}
+use Rattle.wrp_world.specs.Moves.{Changed, Drifts, Moves, Same, Turns}
+use Rattle.wrp_world.proofs.Fitting.{pass_fits}
+use Rattle.wrp_world.proofs.Moving.{pass_is}
+use Rattle.wrp_world.proofs.plant.Plant.pass.Goals as goal
+
+pub returns-clause-is : goal.returns-clause-is
+returns-clause-is c s w h =
+    pass_is s w c.args.dt c.args.drifts.now c.args.moves.now c.args.self.now c.pass.new.plant
+    (subst (λ d. Changed (Turns (Drifts c.args.drifts.now.items)) (Turns (Moves c.args.moves.now.items)) Same (c.args.self.now.time +ℤ d) c.args.self.now c.pass.new.plant)
+    (to_z-of_z w64 c.args.dt c.ranges.dt) c.pass.ensures) h
+
+pub returns-clause-fits : goal.returns-clause-fits
+returns-clause-fits c =
+    let size : unsigned_abs c.args.dt ≤ 2 ^ 63 = omega (arith, ints, c.ranges.dt) in
+    pass_fits c.args.drifts.now.items c.args.moves.now.items c.args.dt c.args.self.now c.pass.new.plant size
+    (subst (λ d. Changed (Turns (Drifts c.args.drifts.now.items)) (Turns (Moves c.args.moves.now.items)) Same (c.args.self.now.time +ℤ d) c.args.self.now c.pass.new.plant)
+    (to_z-of_z w64 c.args.dt c.ranges.dt) c.pass.ensures) c.requires.few c.requires.fits

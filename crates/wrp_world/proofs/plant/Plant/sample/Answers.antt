@@ -1,0 +1,12 @@
+use Rattle.wrp_world.proofs.Fitting.{sampled_fits}
+use Rattle.wrp_world.proofs.Moving.{sample_is}
+use Rattle.wrp_world.proofs.plant.Plant.sample.Goals as goal
+
+pub sample-requires-clause-node : goal.sample-requires-clause-node
+sample-requires-clause-node c = rw c.requires.fits.clock_count c.requires.node
+
+pub returns-clause-is : goal.returns-clause-is
+returns-clause-is c s w base bits h = sample_is s w c.args.n base bits c.args.self.now c.sample.new.plant c.sample.ensures h
+
+pub returns-clause-fits : goal.returns-clause-fits
+returns-clause-fits c = sampled_fits c.args.n c.args.self.now c.sample.new.plant c.sample.ensures c.requires.few c.requires.fits

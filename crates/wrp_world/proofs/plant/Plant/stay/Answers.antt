@@ -1,0 +1,15 @@
+use Rattle.wrp_world.proofs.Fitting.{tick_fits}
+use Rattle.wrp_world.proofs.Moving.{tick_is, deliver_is, noise_is}
+use Rattle.wrp_world.proofs.plant.Plant.stay.Goals as goal
+
+pub returns-clause-tick : goal.returns-clause-tick
+returns-clause-tick c s w n h = tick_is s w n c.args.self.now c.stay.new.plant c.stay.ensures h
+
+pub returns-clause-deliver : goal.returns-clause-deliver
+returns-clause-deliver c s w i h = deliver_is s w i c.args.self.now c.stay.new.plant c.stay.ensures h
+
+pub returns-clause-noise : goal.returns-clause-noise
+returns-clause-noise c s w n p octets raw h = noise_is s w n p octets raw c.args.self.now c.stay.new.plant c.stay.ensures h
+
+pub returns-clause-fits : goal.returns-clause-fits
+returns-clause-fits c = tick_fits c.args.self.now c.stay.new.plant c.stay.ensures c.requires.few c.requires.fits
