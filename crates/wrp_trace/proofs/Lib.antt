@@ -7,3 +7,8 @@ pub mod DigitLemmas
 pub mod Listed
 pub mod ReadingLemmas
 pub mod ReadsBack
+pub mod NameLemmas
+pub mod ChangeLemmas
+pub mod SwapLemmas
+pub mod PassLemmas
+pub mod FurtherLemmas

@@ -128,7 +128,7 @@ plain_line text (next ∷ texts) are =
     ∙ and_from (list_all is_plain_octet text) (list_all is_plain_octet (join_with_byte 44 (next ∷ texts))) (plain_text text are.0) (plain_line next texts are.1)
 
 -- a line that begins with an octet is plain where all its octets are
-starts : (c : ℕ) (cs : List ℕ) (texts : List (List ℕ)) → list_all is_plain_octet (join_with_byte 44 ((c ∷ cs) ∷ texts)) ≡ true
+pub starts : (c : ℕ) (cs : List ℕ) (texts : List (List ℕ)) → list_all is_plain_octet (join_with_byte 44 ((c ∷ cs) ∷ texts)) ≡ true
     → is_plain (join_with_byte 44 ((c ∷ cs) ∷ texts)) ≡ true
 starts c cs [] are = are
 starts c cs (next ∷ texts) are = are
