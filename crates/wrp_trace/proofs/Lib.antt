@@ -12,3 +12,9 @@ pub mod ChangeLemmas
 pub mod SwapLemmas
 pub mod PassLemmas
 pub mod FurtherLemmas
+pub mod SignedLemmas
+pub mod NamesFound
+pub mod EventParts
+pub mod PassReadsBack
+pub mod UpReadsBack
+pub mod EventsReadBack

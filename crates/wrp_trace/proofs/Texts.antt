@@ -120,7 +120,7 @@ plain_text (c ∷ cs) is =
     and_from (is_plain_octet c) (list_all is_plain_octet cs) (and_parts (not (c == 44)) (is_plain_octet c) both.0).1 (plain_text cs both.1)
 
 -- texts with commas between them may stand in a line
-plain_line : (text : List ℕ) (texts : List (List ℕ)) → AreTexts (text ∷ texts)
+pub plain_line : (text : List ℕ) (texts : List (List ℕ)) → AreTexts (text ∷ texts)
     → list_all is_plain_octet (join_with_byte 44 (text ∷ texts)) ≡ true
 plain_line text [] are = plain_text text are.0
 plain_line text (next ∷ texts) are =

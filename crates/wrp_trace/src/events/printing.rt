@@ -1,5 +1,5 @@
 //! Event lines, printed: what happens in a world, as a line that reads back as the same.
-ghost use Rattle.std.specs.Prelude.{◌≡◌, ◌<◌, ◌++◌, ◌∷◌, [], ◌^◌, ◌≤◌, ◌==◌, ◌&&◌, unsigned_abs, IfOk, OnOk, length, map, codes};
+ghost use Rattle.std.specs.Prelude.{◌≡◌, ◌<◌, ◌++◌, ◌∷◌, [], ◌^◌, ◌≤◌, ◌==◌, ◌&&◌, unsigned_abs, IfOk, OnOk, Ok, length, map, codes};
 ghost use Rattle.std.specs.Fmt.{decimal, signed_decimal};
 ghost use Rattle.std.specs.String.{string_bytes};
 ghost use Rattle.hex.specs.Hex.{encode_lower};
@@ -8,6 +8,7 @@ ghost use Rattle.wrp_base.specs.Octets.{AreOctets};
 ghost use Rattle.wrp_config.specs.Accepted.{IsAccepted};
 ghost use Rattle.wrp_trace.specs.EventAt.{link_count, IsEventOf, FitsEvent};
 ghost use Rattle.wrp_trace.specs.EventPrinting.{node_text, link_text, drift_words, drift_piece, drift_texts, move_words, move_piece, move_texts, swap_text, pass_texts, raw_texts, event_texts, event_text, further};
+ghost use Rattle.wrp_trace.specs.Events.{event_read, plain};
 ghost use Rattle.wrp_trace.specs.Printing.{bits_text, joined};
 
 use super::swaps::Swaps;
@@ -22,6 +23,8 @@ pub fn event_line(alloc: Global, e: &Event, net: &Network) -> Result<Vec<u8>, Al
     requires accepted { IsAccepted net.now.cfg net.now.db }
     requires printable { IsEventOf net.now.cfg e.now }
     ensures text { IfOk result (λ line. line.items ≡ event_text net.now.cfg e.now) }
+    ensures reads_back { IfOk result (λ line.
+        event_read net.now.cfg line.items ≡ Ok (plain e.now)) }
 {
     let text = text_of(alloc, e, &net.cfg)?;
     Ok(octets_of(text))
