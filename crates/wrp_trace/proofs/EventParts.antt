@@ -1,7 +1,7 @@
 -- The parts of a field, found again.
-use Rattle.std.proofs.Common.{◌≡◌, ◌≢◌, ◌∙◌, ◌⊎◌, inl, inr, ℕ, ℤ, pos, negsuc, zero, suc, ◌+◌, ◌<◌, ◌≤◌, ◌^◌, ◌&&◌, ◌||◌, not, List, [], ◌∷◌, ◌++◌, Bool, true, false, length, take, drop, cond, refl, sym, ap, arith}
+use Rattle.std.proofs.Common.{◌≡◌, ◌≢◌, ◌∙◌, ◌⊎◌, inl, inr, ℕ, ℤ, pos, negsuc, suc, ◌+◌, ◌<◌, ◌≤◌, ◌^◌, ◌&&◌, ◌||◌, not, List, [], ◌∷◌, ◌++◌, Bool, true, length, drop, refl, sym, ap, arith}
 use Rattle.std.specs.Prelude.{◌==◌, nat_le, unsigned_abs}
-use Rattle.std.specs.List.{list_all, position_or_len, before_first, after_first}
+use Rattle.std.specs.List.{list_all, position_or_len}
 use Rattle.std.specs.Fmt.{decimal, signed_decimal}
 use Rattle.std.specs.Str.Parse.{AllDigits}
 use Rattle.std.proofs.lemmas.Bool.{ne_eqb, eq-eqb, leb-true, eqb-true, and_parts, and_from, or_cases, not-true}

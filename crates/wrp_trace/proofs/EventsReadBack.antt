@@ -1,5 +1,5 @@
 -- A printed event line reads back as the event that was printed.
-use Rattle.std.proofs.Common.{◌≡◌, ◌∙◌, ℕ, ℤ, pos, negsuc, zero, suc, ◌+◌, ◌<◌, ◌≤◌, ◌^◌, ◌&&◌, List, [], ◌∷◌, ◌++◌, Bool, true, false, Some, Ok, length, map, drop, refl, sym, ap, ap₂, subst, arith}
+use Rattle.std.proofs.Common.{◌≡◌, ◌∙◌, ℕ, ℤ, pos, negsuc, suc, ◌+◌, ◌<◌, ◌≤◌, ◌^◌, ◌&&◌, List, [], ◌∷◌, ◌++◌, Bool, true, false, Some, Ok, length, map, drop, refl, sym, ap, ap₂, subst, arith}
 use Rattle.std.specs.Prelude.{codes, ◌==◌, if◌then◌else◌, unsigned_abs, slice_get}
 use Rattle.std.specs.Option.{option_map_or}
 use Rattle.std.specs.List.{AllByRecursion, join_with_byte}
@@ -20,10 +20,10 @@ use Rattle.wrp_config.specs.Names.{node_named, link_named}
 use Rattle.wrp_world.specs.declared.event.Event.{Event}
 use Rattle.wrp_world.specs.declared.event.Event.TheVariants as events
 use Rattle.wrp_world.specs.declared.event.Swap.{Swap}
-use Rattle.wrp_trace.specs.Changes.{SaidAt, nothing_said, changes_said, all_drifts, all_moves}
+use Rattle.wrp_trace.specs.Changes.{SaidAt, nothing_said, changes_said}
 use Rattle.wrp_trace.specs.EventAt.{link_count, IsChange, IsMove, IsPass, IsSwap, AreSwaps, IsEventOf, FitsEvent}
 use Rattle.wrp_trace.specs.EventFields.{node_at, link_at, span_at, delay_at, offset_at}
-use Rattle.wrp_trace.specs.EventPrinting.{node_text, link_text, drift_words, drift_texts, move_words, move_texts, swap_text, pass_texts, event_texts, event_text}
+use Rattle.wrp_trace.specs.EventPrinting.{node_text, link_text, drift_words, drift_texts, move_words, move_texts, swap_text, pass_texts, event_text}
 use Rattle.wrp_trace.specs.Events.{pass_with, pass_of, tick_of, sample_of, depart_of, arrive_of, deliver_of, noise_of, down_of, up_of, cut_of, join_of, event_of, event_read, plain}
 use Rattle.wrp_trace.specs.Fields.{short_at, long_at, step_at, bits_at, octets_at, time_at, raw_from}
 use Rattle.wrp_trace.specs.InputAt.{IsRaw, IsTime}
@@ -32,7 +32,7 @@ use Rattle.wrp_trace.specs.Printing.{bits_text}
 use Rattle.wrp_trace.specs.Reading.{field_of, number_or_fault, name_or_fault}
 use Rattle.wrp_trace.specs.Swaps.{plain_swap, swaps_said}
 use Rattle.wrp_trace.proofs.DigitLemmas.{number_octets}
-use Rattle.wrp_trace.proofs.EventParts.{name_part, decimal_part, signed_part, part_text, both_text}
+use Rattle.wrp_trace.proofs.EventParts.{name_part, signed_part, part_text, both_text}
 use Rattle.wrp_trace.proofs.NamesFound.{there, node_found, link_found}
 use Rattle.wrp_trace.proofs.PassReadsBack.{AreNodesFrom, AreLinksFrom, all_nodes, all_links, drift_of, move_of, changes_back, drifts_again, moves_again}
 use Rattle.wrp_trace.proofs.ReadsBack.{short_read, long_read, step_read, counter_read, bits_read, octets_read, time_read, raw_read, short_text}

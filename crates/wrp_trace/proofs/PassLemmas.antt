@@ -1,6 +1,6 @@
 -- What is said of all nodes and links makes a `pass`.
-use Rattle.std.proofs.Common.{◌≡◌, ◌∙◌, ℤ, pos, List, [], ◌∷◌, Option, None, Some, map, arith, lit≤, length}
-use Rattle.std.specs.Prelude.{unwrap_or, unsigned_abs, ◌≤◌}
+use Rattle.std.proofs.Common.{◌≡◌, ◌∙◌, ℤ, pos, List, [], ◌∷◌, Option, None, Some, map, arith}
+use Rattle.std.specs.Prelude.{unwrap_or}
 use Rattle.std.specs.List.{AllByRecursion}
 use Rattle.std.proofs.lemmas.List.{length-map}
 use Rattle.wrp_base.specs.declared.configuration.NetCfg.{NetCfg}

@@ -1,24 +1,21 @@
 -- The printed changes of a `pass` read back.
-use Rattle.std.proofs.Common.{◌≡◌, ◌∙◌, ℕ, ℤ, pos, negsuc, zero, suc, ◌+◌, ◌<◌, ◌≤◌, ◌^◌, ◌≤ℤ◌, ◌&&◌, List, [], ◌∷◌, ◌++◌, Bool, true, false, Option, None, Some, Result, Ok, Err, length, map, refl, sym, ap, ap₂, subst, arith}
-use Rattle.std.specs.Prelude.{◌==◌, if◌then◌else◌, is_some, unwrap_or, unsigned_abs, option_map, option_and_then, slice_get, slice_set}
+use Rattle.std.proofs.Common.{◌≡◌, ◌∙◌, ℕ, ℤ, pos, negsuc, zero, suc, ◌+◌, ◌&&◌, List, [], ◌∷◌, ◌++◌, Bool, true, false, Option, None, Some, Result, Ok, length, map, refl, sym, ap, ap₂, arith}
+use Rattle.std.specs.Prelude.{◌==◌, if◌then◌else◌, unwrap_or, unsigned_abs, slice_get}
 use Rattle.std.specs.List.{AllByRecursion}
 use Rattle.std.specs.Fmt.{signed_decimal}
 use Rattle.std.proofs.lemmas.Bool.{eqb-true, and_parts}
 use Rattle.std.proofs.lemmas.Int.{ints}
-use Rattle.std.proofs.lemmas.List.{append_assoc, append-nil, set_at}
+use Rattle.std.proofs.lemmas.List.{append_assoc, set_at}
 use Rattle.wrp_base.specs.declared.configuration.NetCfg.{NetCfg}
 use Rattle.wrp_base.specs.declared.fault.TraceFault.{TraceFault}
 use Rattle.wrp_base.specs.declared.network.LinkCfg.{LinkCfg}
 use Rattle.wrp_base.specs.declared.network.NodeCfg.{NodeCfg}
 use Rattle.wrp_base.specs.Network.{IsLink, IsNode}
-use Rattle.wrp_caldb.specs.Name.{is_name}
 use Rattle.wrp_config.specs.Accepted.{HasNames}
-use Rattle.wrp_config.specs.Names.{node_named, link_named}
-use Rattle.wrp_trace.specs.Changes.{SaidAt, change_in, move_in, is_said, said_once, with_drift, with_move, drift_said, move_said, named_said, change_said, changes_said}
+use Rattle.wrp_trace.specs.Changes.{SaidAt, change_in, move_in, is_said, said_once, change_said, changes_said}
 use Rattle.wrp_trace.specs.EventAt.{IsChange, IsMove}
-use Rattle.wrp_trace.specs.EventFields.{before, behind}
-use Rattle.wrp_trace.specs.EventPrinting.{drift_words, drift_text, drift_texts, move_words, move_text, move_texts}
-use Rattle.wrp_trace.specs.Reading.{◌>>=◌, number_or_fault}
+use Rattle.wrp_trace.specs.EventPrinting.{drift_words, drift_text, drift_texts, move_words, move_texts}
+use Rattle.wrp_trace.specs.Reading.{◌>>=◌}
 use Rattle.wrp_trace.proofs.EventParts.{name_part, signed_part, lacks_equals, lacks_slash, before_part, behind_part}
 use Rattle.wrp_trace.proofs.NamesFound.{node_found, link_found, link_no_node}
 use Rattle.wrp_trace.proofs.SignedLemmas.{number_in_back}

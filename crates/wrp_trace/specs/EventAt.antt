@@ -1,5 +1,5 @@
 -- Which events a line can say (this project's profile).
-use Rattle.std.specs.Prelude.{ℕ, ℤ, pos, ◌≡◌, ◌≢◌, ◌≤◌, ◌≤ℤ◌, ◌<◌, ◌^◌, unsigned_abs, true, Option, None, Some, List, length}
+use Rattle.std.specs.Prelude.{ℕ, ℤ, ◌≡◌, ◌≢◌, ◌≤◌, ◌<◌, ◌^◌, unsigned_abs, true, Option, None, Some, List, length}
 use Rattle.std.specs.List.{AllByRecursion, AllPairs}
 use Rattle.wrp_base.specs.declared.configuration.NetCfg.{NetCfg}
 use Rattle.wrp_base.specs.Network.{IsFromTo, node_count}

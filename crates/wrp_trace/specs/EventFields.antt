@@ -1,6 +1,6 @@
 -- The fields of an event line that an input line has not: names of nodes and links, and signed numbers
 -- (this project's profile).
-use Rattle.std.specs.Prelude.{ℕ, ℤ, pos, negsuc, ◌==◌, Option, Result, List}
+use Rattle.std.specs.Prelude.{ℕ, ℤ, pos, negsuc, ◌==◌, Result, List}
 use Rattle.std.specs.List.{before_first, after_first}
 use Rattle.wrp_base.specs.declared.configuration.NetCfg.{NetCfg}
 use Rattle.wrp_base.specs.declared.fault.TraceFault.{TraceFault}

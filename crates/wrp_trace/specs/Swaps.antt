@@ -1,6 +1,6 @@
 -- The further fields of an `up`: PORT:MODULE:TX:RX, each port once (this project's profile). The octet
 -- 58 is `:`.
-use Rattle.std.specs.Prelude.{ℕ, ◌+◌, ◌==◌, if◌then◌else◌, Option, None, Some, Result, Ok, Err, List, map, [], ◌∷◌, ◌++◌}
+use Rattle.std.specs.Prelude.{ℕ, ◌+◌, ◌==◌, if◌then◌else◌, None, Some, Result, Ok, Err, List, map, [], ◌∷◌, ◌++◌}
 use Rattle.std.specs.List.{list_any}
 use Rattle.arrayvec.specs.ArrayString.{ArrayString}
 use Rattle.arrayvec.specs.ArrayVec.{ArrayVec}

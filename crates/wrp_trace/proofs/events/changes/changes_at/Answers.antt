@@ -1,5 +1,5 @@
 -- A field that says nothing is the fault of all.
-use Rattle.std.proofs.Common.{◌≡◌, ◌∙◌, ◌<◌, length, sym, arith}
+use Rattle.std.proofs.Common.{◌∙◌, ◌<◌, length, sym, arith}
 use Rattle.csv.specs.Records.{fields_of}
 use Rattle.wrp_trace.specs.Changes.{said_of}
 use Rattle.wrp_trace.proofs.ChangeLemmas.{stops}

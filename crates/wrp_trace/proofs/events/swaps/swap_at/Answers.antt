@@ -1,5 +1,5 @@
 -- The port of the swap is the one that no swap before has.
-use Rattle.std.proofs.Common.{◌≡◌, ◌∙◌, ap}
+use Rattle.std.proofs.Common.{◌∙◌, ap}
 use Rattle.std.specs.Prelude.{◌==◌}
 use Rattle.std.specs.List.{list_any}
 use Rattle.wrp_trace.proofs.events.swaps.swap_at.Goals as goal

@@ -1,5 +1,5 @@
 -- Nothing said fits the network.
-use Rattle.std.proofs.Common.{◌≡◌, ◌∙◌, map, None, ap}
+use Rattle.std.proofs.Common.{◌∙◌, map, None, ap}
 use Rattle.wrp_trace.proofs.ChangeLemmas.{said_nothing}
 use Rattle.wrp_trace.proofs.events.changes.Said.nothing.Goals as goal
 

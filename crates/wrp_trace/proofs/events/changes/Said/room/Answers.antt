@@ -1,5 +1,5 @@
 -- Something is said of at most all.
-use Rattle.std.proofs.Common.{◌≡◌, ◌≤◌, length, arith}
+use Rattle.std.proofs.Common.{◌≤◌, length, arith}
 use Rattle.wrp_trace.specs.Changes.{said_of}
 use Rattle.wrp_trace.proofs.ChangeLemmas.{few}
 use Rattle.wrp_trace.proofs.events.changes.Said.room.Goals as goal

@@ -1,5 +1,5 @@
 -- It is said of one more.
-use Rattle.std.proofs.Common.{◌≡◌, ◌∙◌, ◌<◌, length, ap, arith}
+use Rattle.std.proofs.Common.{◌∙◌, ◌<◌, length, ap, arith}
 use Rattle.wrp_trace.specs.Changes.{said_count, said_of}
 use Rattle.wrp_trace.proofs.ChangeLemmas.{one_more_drift}
 use Rattle.wrp_trace.proofs.events.changes.Said.take_drift.Goals as goal
