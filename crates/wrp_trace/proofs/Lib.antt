@@ -7,3 +7,14 @@ pub mod DigitLemmas
 pub mod Listed
 pub mod ReadingLemmas
 pub mod ReadsBack
+pub mod NameLemmas
+pub mod ChangeLemmas
+pub mod SwapLemmas
+pub mod PassLemmas
+pub mod FurtherLemmas
+pub mod SignedLemmas
+pub mod NamesFound
+pub mod EventParts
+pub mod PassReadsBack
+pub mod UpReadsBack
+pub mod EventsReadBack

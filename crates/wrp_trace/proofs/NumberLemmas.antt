@@ -60,7 +60,7 @@ number_of_digits (c ∷ cs) all some few =
     let plain : (c == 45) ≡ false = ne_eqb c 45 (λ e. omega (arith, range.0)) in
     rw (plain, le-leb 1 (length (c ∷ cs)) some, le-leb (length (c ∷ cs)) 39 few, own.from (c ∷ cs) all, own.same (c ∷ cs) all) refl
 
-number_back : (n : ℕ) → n < 10 ^ 39 → number_of (decimal n) ≡ Some (pos n)
+pub number_back : (n : ℕ) → n < 10 ^ 39 → number_of (decimal n) ≡ Some (pos n)
 number_back n small =
     let wide : n < 10 ^ 64 = omega arith in
     let numeral = decimal_is_IsNumeral_wide n wide in

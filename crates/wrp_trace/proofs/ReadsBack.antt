@@ -27,34 +27,34 @@ use Rattle.wrp_trace.proofs.Texts.{IsText, decimal_text, hex_text, name_text, li
 
 -- Fields
 
-number_read : (least greatest place n : ℕ) (fields : List (List ℕ)) → least ≤ n → n ≤ greatest → n < 10 ^ 39
+pub number_read : (least greatest place n : ℕ) (fields : List (List ℕ)) → least ≤ n → n ≤ greatest → n < 10 ^ 39
     → field_of place fields ≡ decimal n → number_at least greatest place fields ≡ Ok n
 number_read least greatest place n fields low high small e =
     ap (λ text. number_or_fault place (natural_in least greatest text)) e
     ∙ ap (number_or_fault place) (natural_back least greatest n low high small)
 
-short_read : (place n : ℕ) (fields : List (List ℕ)) → n < 2 ^ 16 → field_of place fields ≡ decimal n → short_at place fields ≡ Ok n
+pub short_read : (place n : ℕ) (fields : List (List ℕ)) → n < 2 ^ 16 → field_of place fields ≡ decimal n → short_at place fields ≡ Ok n
 short_read place n fields small e = number_read 0 65_535 place n fields (omega arith) (omega arith) (omega arith) e
 
-long_read : (place n : ℕ) (fields : List (List ℕ)) → n < 2 ^ 32 → field_of place fields ≡ decimal n → long_at place fields ≡ Ok n
+pub long_read : (place n : ℕ) (fields : List (List ℕ)) → n < 2 ^ 32 → field_of place fields ≡ decimal n → long_at place fields ≡ Ok n
 long_read place n fields small e = number_read 0 4_294_967_295 place n fields (omega arith) (omega arith) (omega arith) e
 
-step_read : (place n : ℕ) (fields : List (List ℕ)) → n ≤ 16_383 → field_of place fields ≡ decimal n → step_at place fields ≡ Ok n
+pub step_read : (place n : ℕ) (fields : List (List ℕ)) → n ≤ 16_383 → field_of place fields ≡ decimal n → step_at place fields ≡ Ok n
 step_read place n fields small e = number_read 0 16_383 place n fields (omega arith) small (omega arith) e
 
-counter_read : (place n : ℕ) (fields : List (List ℕ)) → 1 ≤ n → n ≤ 9_223_372_036_854_775_807 → field_of place fields ≡ decimal n → counter_at place fields ≡ Ok n
+pub counter_read : (place n : ℕ) (fields : List (List ℕ)) → 1 ≤ n → n ≤ 9_223_372_036_854_775_807 → field_of place fields ≡ decimal n → counter_at place fields ≡ Ok n
 counter_read place n fields low high e = number_read 1 9_223_372_036_854_775_807 place n fields low high (omega arith) e
 
-bits_read : (place bits : ℕ) (fields : List (List ℕ)) → bits < 2 ^ 64 → field_of place fields ≡ bits_text bits → bits_at place fields ≡ Ok bits
+pub bits_read : (place bits : ℕ) (fields : List (List ℕ)) → bits < 2 ^ 64 → field_of place fields ≡ bits_text bits → bits_at place fields ≡ Ok bits
 bits_read place bits fields small e =
     ap (λ text. number_or_fault place (bits_of text)) e ∙ ap (number_or_fault place) (bits_back bits small)
 
-octets_read : (place : ℕ) (frame : ArrayVec ℕ) (fields : List (List ℕ)) → IsBytes frame.items → length frame.items ≤ 256
+pub octets_read : (place : ℕ) (frame : ArrayVec ℕ) (fields : List (List ℕ)) → IsBytes frame.items → length frame.items ≤ 256
     → field_of place fields ≡ encode_lower frame.items → octets_at place fields ≡ Ok frame
 octets_read place frame fields fit few e =
     ap (λ text. number_or_fault place (frame_octets text)) e ∙ ap (number_or_fault place) (frame_back frame fit few)
 
-time_read : (place : ℕ) (time : ℤ) (fields : List (List ℕ)) → IsTime time → field_of place fields ≡ signed_decimal time → time_at place fields ≡ Ok time
+pub time_read : (place : ℕ) (time : ℤ) (fields : List (List ℕ)) → IsTime time → field_of place fields ≡ signed_decimal time → time_at place fields ≡ Ok time
 time_read place time fields is e =
     ap (λ text. number_or_fault place (time_of text)) e ∙ ap (number_or_fault place) (time_back time is)
 
@@ -72,7 +72,7 @@ sample_read : (fields : List (List ℕ)) (n base bits : ℕ) → long_at 2 field
     → sample_of fields ≡ Ok (inputs.Sample n base bits)
 sample_read fields n base bits e1 e2 e3 = rw (e1, e2, e3) refl
 
-raw_read : (place : ℕ) (fields : List (List ℕ)) (raw : Raw) → counter_at place fields ≡ Ok raw.rising
+pub raw_read : (place : ℕ) (fields : List (List ℕ)) (raw : Raw) → counter_at place fields ≡ Ok raw.rising
     → counter_at (place + 1) fields ≡ Ok raw.falling → step_at (place + 2) fields ≡ Ok raw.tag
     → raw_from place fields ≡ Ok raw
 raw_read place fields raw e1 e2 e3 = rw (e1, e2, e3) refl
@@ -102,7 +102,7 @@ down_read site fields port e1 = rw e1 refl
 
 -- Kinds
 
-short_text : (n : ℕ) → n < 2 ^ 64 → IsText (decimal n)
+pub short_text : (n : ℕ) → n < 2 ^ 64 → IsText (decimal n)
 short_text n small = decimal_text n (omega arith)
 
 sample_says : (site : Site) (n base bits : ℕ) → is_grandmaster site ≡ false → n < 2 ^ 32 → base ≤ 16_383 → bits < 2 ^ 64

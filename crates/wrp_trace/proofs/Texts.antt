@@ -120,7 +120,7 @@ plain_text (c ∷ cs) is =
     and_from (is_plain_octet c) (list_all is_plain_octet cs) (and_parts (not (c == 44)) (is_plain_octet c) both.0).1 (plain_text cs both.1)
 
 -- texts with commas between them may stand in a line
-plain_line : (text : List ℕ) (texts : List (List ℕ)) → AreTexts (text ∷ texts)
+pub plain_line : (text : List ℕ) (texts : List (List ℕ)) → AreTexts (text ∷ texts)
     → list_all is_plain_octet (join_with_byte 44 (text ∷ texts)) ≡ true
 plain_line text [] are = plain_text text are.0
 plain_line text (next ∷ texts) are =
@@ -128,7 +128,7 @@ plain_line text (next ∷ texts) are =
     ∙ and_from (list_all is_plain_octet text) (list_all is_plain_octet (join_with_byte 44 (next ∷ texts))) (plain_text text are.0) (plain_line next texts are.1)
 
 -- a line that begins with an octet is plain where all its octets are
-starts : (c : ℕ) (cs : List ℕ) (texts : List (List ℕ)) → list_all is_plain_octet (join_with_byte 44 ((c ∷ cs) ∷ texts)) ≡ true
+pub starts : (c : ℕ) (cs : List ℕ) (texts : List (List ℕ)) → list_all is_plain_octet (join_with_byte 44 ((c ∷ cs) ∷ texts)) ≡ true
     → is_plain (join_with_byte 44 ((c ∷ cs) ∷ texts)) ≡ true
 starts c cs [] are = are
 starts c cs (next ∷ texts) are = are

@@ -1,4 +1,10 @@
+pub mod Changes
 pub mod Digits
+pub mod EventAt
+pub mod EventFields
+pub mod EventKinds
+pub mod EventPrinting
+pub mod Events
 pub mod Fields
 pub mod InputAt
 pub mod Inputs
@@ -7,3 +13,4 @@ pub mod Numbers
 pub mod Printing
 pub mod Reading
 pub mod Site
+pub mod Swaps

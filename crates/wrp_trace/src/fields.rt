@@ -38,16 +38,16 @@ pub fn field(row: &ByteRecord, place: u32) -> &[u8]
     }
 }
 
-// A field is no number, or out of its range.
-fn number_fault(place: u32) -> TraceFault
+/// A field is no number, or out of its range.
+pub fn number_fault(place: u32) -> TraceFault
     requires { 0 < place }
     ensures { result ≡ Number place }
 {
     TraceFault::Number { field: place }
 }
 
-// A field is no known name.
-fn name_fault(place: u32) -> TraceFault
+/// A field is no known name.
+pub fn name_fault(place: u32) -> TraceFault
     ensures { result ≡ Name place }
 {
     TraceFault::Name { field: place }
@@ -124,8 +124,8 @@ pub fn octets_at(row: &ByteRecord, place: u32) -> Result<Frame, TraceFault>
     }
 }
 
-// The time of a stamp, in tau.
-fn time_at(row: &ByteRecord, place: u32) -> Result<Tau, TraceFault>
+/// The time of a stamp, in tau.
+pub fn time_at(row: &ByteRecord, place: u32) -> Result<Tau, TraceFault>
     requires { 0 < place }
     ensures value { result ≡ time_at place (fields_of row.now) }
     ensures range { IfOk result IsTime }

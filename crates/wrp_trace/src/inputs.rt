@@ -130,16 +130,16 @@ fn down(row: &ByteRecord, net: &Network, node: u8) -> Result<Input, TraceFault>
     })
 }
 
-// Whether a line has octets, each below 128, and among them no quotation mark, CR or LF.
-fn is_plain_line(line: &[u8]) -> bool
+/// Whether a line has octets, each below 128, and among them no quotation mark, CR or LF.
+pub fn is_plain_line(line: &[u8]) -> bool
     ensures { result ≡ is_plain line.now }
 {
     is_plain(line)
 }
 
-// Puts the parts of a plain line into `row`.
+/// Puts the parts of a plain line into `row`.
 #[tactic(auto, using(crate::proofs::PlainLemmas::line_is, crate::proofs::PlainLemmas::starts_plain))]
-fn split(alloc: Global, line: &[u8], row: &mut ByteRecord) -> Result<(), AllocError>
+pub fn split(alloc: Global, line: &[u8], row: &mut ByteRecord) -> Result<(), AllocError>
     requires { is_plain line.now ≡ true }
     ensures { OnOk result (fields_of row.new ≡ parts_of line.now) }
 {

@@ -3,6 +3,7 @@
 #![tactic(auto)]
 
 mod digits;
+mod events;
 mod fields;
 mod inputs;
 mod kinds;
@@ -10,6 +11,7 @@ mod numbers;
 mod printing;
 mod site;
 
+pub use events::{EventKind, event_line, read_event, read_event_fields};
 pub use inputs::{read_input, read_input_fields};
 pub use kinds::InputKind;
 pub use printing::input_line;

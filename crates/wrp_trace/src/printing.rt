@@ -27,8 +27,8 @@ pub fn input_line(alloc: Global, node: u8, x: &Input, net: &Network) -> Result<V
     Ok(octets_of(text))
 }
 
-// The octets of a text.
-fn octets_of(text: String) -> Vec<u8>
+/// The octets of a text.
+pub fn octets_of(text: String) -> Vec<u8>
     ensures { result.items ≡ string_bytes text }
 {
     text.into_bytes()
@@ -70,16 +70,16 @@ fn sample_text(alloc: Global, n: u32, base: u16, bits: u64) -> Result<String, Al
     format!(in alloc; "sample,{n},{base},{digits}")
 }
 
-// The 16 digits of BITS.
-fn bits_text(alloc: Global, bits: u64) -> Result<String, AllocError>
+/// The 16 digits of BITS.
+pub fn bits_text(alloc: Global, bits: u64) -> Result<String, AllocError>
     ensures { IfOk result (λ text. string_bytes text ≡ bits_text bits) }
 {
     let octets = bits.to_be_bytes();
     hex::encode(alloc, octets.as_slice())
 }
 
-// The digits of HEX.
-fn octets_text(alloc: Global, octets: &[u8]) -> Result<String, AllocError>
+/// The digits of HEX.
+pub fn octets_text(alloc: Global, octets: &[u8]) -> Result<String, AllocError>
     ensures text { IfOk result (λ text. string_bytes text ≡ encode_lower octets.now) }
     ensures octets { AreOctets octets.now }
 {

@@ -11,6 +11,8 @@ use wrp_base::{Frame, Module, Raw, Stamp};
 use wrp_config::Network;
 use wrp_node::Input;
 
+mod event_lines;
+mod events;
 mod lines;
 
 use lines::{BAD_RECORDS, HANDSHAKE, REFUSED, TAKEN, THREE_NODES, TWO_NODES};

@@ -1,0 +1,43 @@
+-- The fields of an event line that an input line has not: names of nodes and links, and signed numbers
+-- (this project's profile).
+use Rattle.std.specs.Prelude.{ℕ, ℤ, pos, negsuc, ◌==◌, Result, List}
+use Rattle.std.specs.List.{before_first, after_first}
+use Rattle.wrp_base.specs.declared.configuration.NetCfg.{NetCfg}
+use Rattle.wrp_base.specs.declared.fault.TraceFault.{TraceFault}
+use Rattle.wrp_config.specs.Names.{node_named, link_named}
+use Rattle.wrp_trace.specs.Numbers.{number_in}
+use Rattle.wrp_trace.specs.Reading.{field_of, number_or_fault, name_or_fault}
+
+-- the node that the field of a place names
+abbrev pub node_at : NetCfg → ℕ → List (List ℕ) → Result ℕ TraceFault
+node_at cfg place fields = name_or_fault place (node_named cfg (field_of place fields))
+
+-- the link that the field of a place names
+abbrev pub link_at : NetCfg → ℕ → List (List ℕ) → Result ℕ TraceFault
+link_at cfg place fields = name_or_fault place (link_named cfg (field_of place fields))
+
+-- how much true time passes, in tau: 1 to 2^63 - 1
+abbrev pub span_at : ℕ → List (List ℕ) → Result ℤ TraceFault
+span_at place fields =
+    number_or_fault place (number_in (pos 1) (pos 9_223_372_036_854_775_807) (field_of place fields))
+
+-- a one-way delay, in tau: 0 to 2^63 - 1
+abbrev pub delay_at : ℕ → List (List ℕ) → Result ℤ TraceFault
+delay_at place fields =
+    number_or_fault place (number_in (pos 0) (pos 9_223_372_036_854_775_807) (field_of place fields))
+
+-- a clock's offset, in tau: within 2^90
+abbrev pub offset_at : ℕ → List (List ℕ) → Result ℤ TraceFault
+offset_at place fields =
+    number_or_fault place
+    (number_in (negsuc 1_237_940_039_285_380_274_899_124_223) (pos 1_237_940_039_285_380_274_899_124_224)
+    (field_of place fields))
+
+-- a field of several parts: what stands before the first octet of this value, and all of the field
+-- where there is none
+abbrev pub before : ℕ → List ℕ → List ℕ
+before octet text = before_first (λ c. c == octet) text
+
+-- what stands behind that octet, and nothing where there is none
+abbrev pub behind : ℕ → List ℕ → List ℕ
+behind octet text = after_first (λ c. c == octet) text

@@ -1,0 +1,213 @@
+//! Event lines: what happens in a world, read from a line.
+ghost use Rattle.std.specs.Prelude.{◌≡◌, ◌≤◌, IfOk, true, length};
+ghost use Rattle.csv.specs.Records.{fields_of};
+ghost use Rattle.wrp_base.specs.Network.{IsFromTo};
+ghost use Rattle.wrp_trace.specs.Changes.{said_of};
+ghost use Rattle.wrp_trace.specs.EventAt.{IsEventOf, IsSaid};
+ghost use Rattle.wrp_trace.specs.EventKinds.{may_have};
+ghost use Rattle.wrp_trace.specs.Events.{pass_with, pass_of, tick_of, sample_of, depart_of, arrive_of, deliver_of, noise_of, down_of, up_of, cut_of, join_of, fields_of_kind, event_of, event_read, told};
+ghost use Rattle.wrp_trace.specs.Reading.{IsReading};
+
+mod changes;
+mod fields;
+mod kinds;
+mod names;
+mod printing;
+mod swaps;
+
+use crate::fields::{bits_at, field, long_at, octets_at, raw_from, short_at, step_at, time_at};
+use crate::inputs::{is_plain_line, split};
+use changes::{Said, changes_at};
+use csv::ByteRecord;
+use fields::{delay_at, link_at, node_at, offset_at, span_at};
+pub use kinds::EventKind;
+use kinds::kind_of;
+pub use printing::event_line;
+use std::alloc::Global;
+use swaps::swaps_at;
+use wrp_base::{NetCfg, TraceFault};
+use wrp_config::Network;
+use wrp_world::Event;
+
+// The place of the first field.
+const KIND: u32 = 1;
+
+/// What a line says.
+pub fn read_event(alloc: Global, line: &[u8], net: &Network) -> Result<Event, TraceFault>
+    ensures value { IsReading (event_read net.now.cfg line.now) (told result) }
+    ensures event { IfOk result (IsEventOf net.now.cfg) }
+{
+    if !is_plain_line(line) {
+        return Err(TraceFault::Fields);
+    }
+    let mut row = ByteRecord::new(alloc);
+    match split(alloc, line, &mut row) {
+        Ok(()) => read_event_fields(&row, net),
+        Err(e) => Err(TraceFault::Memory(e)),
+    }
+}
+
+/// What the fields of a line say.
+pub fn read_event_fields(row: &ByteRecord, net: &Network) -> Result<Event, TraceFault>
+    ensures value { told result ≡ event_of net.now.cfg (fields_of row.now) }
+    ensures event { IfOk result (IsEventOf net.now.cfg) }
+{
+    match kind_of(field(row, KIND)) {
+        Some(kind) if kind.may_have(row.len()) => read_kind(kind, row, &net.cfg),
+        Some(_) => Err(TraceFault::Fields),
+        None => Err(TraceFault::Kind),
+    }
+}
+
+// What the fields of a line of a kind say.
+fn read_kind(kind: EventKind, row: &ByteRecord, cfg: &NetCfg) -> Result<Event, TraceFault>
+    requires { may_have kind (length (fields_of row.now)) ≡ true }
+    ensures value { told result ≡ fields_of_kind cfg.now kind (fields_of row.now) }
+    ensures event { IfOk result (IsEventOf cfg.now) }
+{
+    match kind {
+        EventKind::Pass => pass(row, cfg),
+        EventKind::Tick => tick(row, cfg),
+        EventKind::Sample => sample(row, cfg),
+        EventKind::Depart => depart(row, cfg),
+        EventKind::Arrive => arrive(row, cfg),
+        EventKind::Deliver => deliver(row, cfg),
+        EventKind::Noise => noise(row, cfg),
+        EventKind::Down => down(row, cfg),
+        EventKind::Up => up(row, cfg),
+        EventKind::Cut => cut(row, cfg),
+        EventKind::Join => join(row, cfg),
+    }
+}
+
+// `pass,DT[,NODE=DRIFT][,LINK=MS/SM]`.
+fn pass(row: &ByteRecord, cfg: &NetCfg) -> Result<Event, TraceFault>
+    ensures value { told result ≡ pass_of cfg.now (fields_of row.now) }
+    ensures event { IfOk result (IsEventOf cfg.now) }
+{
+    let dt = span_at(row, 2)?;
+    let said = changes_at(row, cfg)?;
+    Ok(passing(dt, &said, cfg))
+}
+
+// Time passes, with what is said of the nodes and the links.
+fn passing(dt: i64, said: &Said, cfg: &NetCfg) -> Event
+    requires span { IsFromTo 1 9_223_372_036_854_775_807 dt }
+    requires said { IsSaid cfg.now (said_of said.now) }
+    ensures value { result ≡ pass_with dt (said_of said.now) }
+    ensures event { IsEventOf cfg.now result }
+{
+    let drifts = said.all_drifts();
+    let fibres = said.all_moves();
+    Event::Pass { dt, drifts, fibres }
+}
+
+// `tick,NODE`.
+fn tick(row: &ByteRecord, cfg: &NetCfg) -> Result<Event, TraceFault>
+    ensures value { told result ≡ tick_of cfg.now (fields_of row.now) }
+    ensures event { IfOk result (IsEventOf cfg.now) }
+{
+    let node = node_at(row, 2, cfg)?;
+    Ok(Event::Tick { node })
+}
+
+// `sample,NODE,BASE,BITS`.
+fn sample(row: &ByteRecord, cfg: &NetCfg) -> Result<Event, TraceFault>
+    ensures value { told result ≡ sample_of cfg.now (fields_of row.now) }
+    ensures event { IfOk result (IsEventOf cfg.now) }
+{
+    let node = node_at(row, 2, cfg)?;
+    let base = step_at(row, 3)?;
+    let bits = bits_at(row, 4)?;
+    Ok(Event::Sample { node, base, bits })
+}
+
+// `depart,NODE,PORT,STAMP`.
+fn depart(row: &ByteRecord, cfg: &NetCfg) -> Result<Event, TraceFault>
+    ensures value { told result ≡ depart_of cfg.now (fields_of row.now) }
+    ensures event { IfOk result (IsEventOf cfg.now) }
+{
+    let node = node_at(row, 2, cfg)?;
+    let port = short_at(row, 3)?;
+    let stamp = time_at(row, 4)?;
+    Ok(Event::Depart { node, port, stamp })
+}
+
+// `arrive,K,RISING,FALLING,TAG`.
+fn arrive(row: &ByteRecord, cfg: &NetCfg) -> Result<Event, TraceFault>
+    ensures value { told result ≡ arrive_of (fields_of row.now) }
+    ensures event { IfOk result (IsEventOf cfg.now) }
+{
+    let _any = cfg;
+    let frame = long_at(row, 2)?;
+    let raw = raw_from(row, 3)?;
+    Ok(Event::Arrive { frame, raw })
+}
+
+// `deliver,K`.
+fn deliver(row: &ByteRecord, cfg: &NetCfg) -> Result<Event, TraceFault>
+    ensures value { told result ≡ deliver_of (fields_of row.now) }
+    ensures event { IfOk result (IsEventOf cfg.now) }
+{
+    let _any = cfg;
+    let frame = long_at(row, 2)?;
+    Ok(Event::Deliver { frame })
+}
+
+// `noise,NODE,PORT,HEX,RISING,FALLING,TAG`.
+fn noise(row: &ByteRecord, cfg: &NetCfg) -> Result<Event, TraceFault>
+    ensures value { told result ≡ noise_of cfg.now (fields_of row.now) }
+    ensures event { IfOk result (IsEventOf cfg.now) }
+{
+    let node = node_at(row, 2, cfg)?;
+    let port = short_at(row, 3)?;
+    let bytes = octets_at(row, 4)?;
+    let raw = raw_from(row, 5)?;
+    Ok(Event::Noise {
+        node,
+        port,
+        bytes,
+        raw,
+    })
+}
+
+// `down,NODE`.
+fn down(row: &ByteRecord, cfg: &NetCfg) -> Result<Event, TraceFault>
+    ensures value { told result ≡ down_of cfg.now (fields_of row.now) }
+    ensures event { IfOk result (IsEventOf cfg.now) }
+{
+    let node = node_at(row, 2, cfg)?;
+    Ok(Event::Down { node })
+}
+
+// `up,NODE,OFF[,PORT:MODULE:TX:RX]`.
+fn up(row: &ByteRecord, cfg: &NetCfg) -> Result<Event, TraceFault>
+    requires { length (fields_of row.now) ≤ 21 }
+    ensures value { told result ≡ up_of cfg.now (fields_of row.now) }
+    ensures event { IfOk result (IsEventOf cfg.now) }
+{
+    let node = node_at(row, 2, cfg)?;
+    let off = offset_at(row, 3)?;
+    let swaps = swaps_at(row)?;
+    Ok(Event::Up { node, off, swaps })
+}
+
+// `cut,LINK`.
+fn cut(row: &ByteRecord, cfg: &NetCfg) -> Result<Event, TraceFault>
+    ensures value { told result ≡ cut_of cfg.now (fields_of row.now) }
+    ensures event { IfOk result (IsEventOf cfg.now) }
+{
+    let link = link_at(row, 2, cfg)?;
+    Ok(Event::Cut { link })
+}
+
+// `join,LINK,MS,SM`.
+fn join(row: &ByteRecord, cfg: &NetCfg) -> Result<Event, TraceFault>
+    ensures value { told result ≡ join_of cfg.now (fields_of row.now) }
+    ensures event { IfOk result (IsEventOf cfg.now) }
+{
+    let link = link_at(row, 2, cfg)?;
+    let ms = delay_at(row, 3)?;
+    let sm = delay_at(row, 4)?;
+    Ok(Event::Join { link, ms, sm })
+}
