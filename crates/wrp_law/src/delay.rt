@@ -18,7 +18,7 @@ pub enum LawKind {
 /// beside its kind, its range and its error. The fact about the closure is `KeepsFact`, which `new`
 /// and each call of the closure require (this project's profile).
 #[derive(Drop)]
-pub struct DelayLaw<F: Fn(i64) -> i64> {
+pub struct DelayLaw<F> {
     closure: F,
     kind: LawKind,
     lo: i64,
@@ -26,7 +26,7 @@ pub struct DelayLaw<F: Fn(i64) -> i64> {
     err: u64,
 }
 
-impl<F: Fn(i64) -> i64> Model for DelayLaw<F> {
+impl<F> Model for DelayLaw<F> {
     ghost use Rattle.wrp_law.specs.Law.{LawOf};
 
     ghost Value = { LawOf F };

@@ -17,12 +17,12 @@ use wrp_servo::{ServoOut, ServoSet};
 
 /// The servo, if the node has one.
 #[derive(Drop)]
-pub struct Control<F: Fn(i64) -> i64> {
+pub struct Control<F> {
     told: Option<Told<F>>,
     bias: u16,
 }
 
-impl<F: Fn(i64) -> i64> Model for Control<F> {
+impl<F> Model for Control<F> {
     ghost use Rattle.wrp_node.specs.Control.{ControlOf};
 
     ghost Value = { ControlOf F };

@@ -21,13 +21,13 @@ use wrp_servo::told_last;
 /// A whole node: what it is after a list of inputs, and what it puts out at each, is the node's run
 /// (`StandsFor`).
 #[derive(Drop)]
-pub struct Node<F: Fn(i64) -> i64> {
+pub struct Node<F> {
     parts: Parts,
     control: Control<F>,
     report: u32,
 }
 
-impl<F: Fn(i64) -> i64> Model for Node<F> {
+impl<F> Model for Node<F> {
     ghost use Rattle.wrp_node.specs.StandsFor.{NodeOf};
 
     ghost Value = { NodeOf F };

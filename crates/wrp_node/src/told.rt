@@ -13,7 +13,7 @@ use wrp_servo::{Servo, ServoOut, ServoSet};
 
 /// The servo of a slave port.
 #[derive(Drop)]
-pub struct Told<F: Fn(i64) -> i64> {
+pub struct Told<F> {
     /// The servo.
     pub servo: Servo<F>,
     /// Whether it was told last that the lease is fresh.
@@ -22,7 +22,7 @@ pub struct Told<F: Fn(i64) -> i64> {
     pub link: bool,
 }
 
-impl<F: Fn(i64) -> i64> Model for Told<F> {
+impl<F> Model for Told<F> {
     ghost use Rattle.wrp_node.specs.Control.{ToldServo};
 
     ghost Value = { ToldServo F };

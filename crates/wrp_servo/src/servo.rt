@@ -25,12 +25,12 @@ use wrp_law::DelayLaw;
 /// answers in it: `StandsFor` says so, and every call adds itself to each list that the servo stands
 /// for. Each call answers a `ServoOut`.
 #[derive(Drop)]
-pub struct Servo<F: Fn(i64) -> i64> {
+pub struct Servo<F> {
     core: Machine,
     law: DelayLaw<F>,
 }
 
-impl<F: Fn(i64) -> i64> Model for Servo<F> {
+impl<F> Model for Servo<F> {
     ghost use Rattle.wrp_servo.specs.Servo.{plain_out, ServoOf};
 
     ghost Value = { ServoOf F };

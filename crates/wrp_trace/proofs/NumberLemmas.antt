@@ -10,7 +10,7 @@ use Rattle.std.proofs.lemmas.Bool.{ne_eqb, eq-eqb, le-leb, lt-leb, cases_lt}
 use Rattle.std.proofs.lemmas.Fmt.{decimal_is_IsNumeral_wide, length-decimal-le_wide}
 use Rattle.std.proofs.lemmas.Str.Parse.{IsNumeralModel, numerals_by_fold, digit_from_value}
 use Rattle.wrp_trace.specs.Numbers.{value_of, number_of, kept_in, natural_in, time_of}
-use Rattle.wrp_trace.specs.InputAt.{IsTime}
+use Rattle.wrp_world.specs.EventAt.{IsTime}
 
 -- Limits
 

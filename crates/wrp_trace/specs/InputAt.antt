@@ -1,24 +1,11 @@
 -- Which inputs may come to a node: those that a line can say (this project's profile).
-use Rattle.std.specs.Prelude.{ℕ, ℤ, pos, ◌≡◌, ◌≤◌, ◌≤ℤ◌, ◌<◌, ◌^◌, ◌%◌, unsigned_abs, Bool, true, false, Option, None, Some, List, length}
+use Rattle.std.specs.Prelude.{ℕ, ◌≡◌, ◌≤◌, ◌<◌, ◌^◌, Bool, true, false, Option, None, Some, List, length}
 use Rattle.wrp_base.specs.declared.link.Module.{Module}
-use Rattle.wrp_base.specs.declared.time.Raw.{Raw}
-use Rattle.wrp_base.specs.Network.{IsAmong}
 use Rattle.wrp_base.specs.Octets.{AreOctets}
 use Rattle.wrp_node.specs.declared.interface.Input.{Input}
 use Rattle.wrp_node.specs.declared.interface.Input.TheVariants.{Tick, Sample, Frame, Sent, Carrier, Reset}
+use Rattle.wrp_world.specs.EventAt.{IsRaw, IsTime}
 use Rattle.wrp_trace.specs.Site.{Site, is_grandmaster, has_port, module_of}
-
--- a raw stamp in its ranges
-pub record IsRaw (raw : Raw) : Type 0 where
-  pub rising : IsAmong 1 9_223_372_036_854_775_807 raw.rising
-  pub falling : IsAmong 1 9_223_372_036_854_775_807 raw.falling
-  pub tag : raw.tag ≤ 16_383
-
--- the time of a stamp: 0 to 2^92 tau, a multiple of 1,000
-pub record IsTime (time : ℤ) : Type 0 where
-  pub least : pos 0 ≤ℤ time
-  pub greatest : unsigned_abs time ≤ 2 ^ 92
-  pub whole : unsigned_abs time % 1_000 ≡ 0
 
 -- a module that the database does not list, or the values of one that is listed at the port
 abbrev pub IsListed : Site → ℕ → Option Module → Type 0

@@ -3,10 +3,11 @@ ghost use Rattle.std.specs.Prelude.{◌≡◌, ◌≤◌, IfOk, true, length};
 ghost use Rattle.csv.specs.Records.{fields_of};
 ghost use Rattle.wrp_base.specs.Network.{IsFromTo};
 ghost use Rattle.wrp_trace.specs.Changes.{said_of};
-ghost use Rattle.wrp_trace.specs.EventAt.{IsEventOf, IsSaid};
+ghost use Rattle.wrp_trace.specs.EventAt.{IsSaid};
 ghost use Rattle.wrp_trace.specs.EventKinds.{may_have};
 ghost use Rattle.wrp_trace.specs.Events.{pass_with, pass_of, tick_of, sample_of, depart_of, arrive_of, deliver_of, noise_of, down_of, up_of, cut_of, join_of, fields_of_kind, event_of, event_read, told};
 ghost use Rattle.wrp_trace.specs.Reading.{IsReading};
+ghost use Rattle.wrp_world.specs.EventAt.{IsEventOf};
 
 mod changes;
 mod fields;

@@ -4,9 +4,10 @@ ghost use Rattle.csv.specs.Records.{fields_of};
 ghost use Rattle.wrp_base.specs.declared.fault.TraceFault.TheVariants.{Number, Name};
 ghost use Rattle.wrp_trace.specs.Reading.{field_of};
 ghost use Rattle.wrp_trace.specs.Fields.{number_at, short_at, long_at, step_at, counter_at, bits_at, octets_at, time_at, raw_from, stamp_from, port_at, message_at, module_at};
-ghost use Rattle.wrp_trace.specs.InputAt.{IsRaw, IsTime, IsListed};
+ghost use Rattle.wrp_trace.specs.InputAt.{IsListed};
 ghost use Rattle.wrp_trace.specs.Site.{site_of, has_port};
 ghost use Rattle.wrp_base.specs.Network.{IsAmong};
+ghost use Rattle.wrp_world.specs.EventAt.{IsRaw, IsTime};
 
 use crate::digits::{bits, octets};
 use crate::numbers::{natural, time};

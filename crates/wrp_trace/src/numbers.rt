@@ -2,8 +2,8 @@
 ghost use Rattle.std.specs.Prelude.{◌≡◌, ◌-◌, ◌^◌, ◌<◌, ◌≤◌, ◌≤ℤ◌, min, IfSome, option_map, option_and_then, pos, neg_ℤ, unsigned_abs};
 ghost use Rattle.std.specs.List.{list_all};
 ghost use Rattle.std.specs.Char.{is_ascii_digit};
-ghost use Rattle.wrp_trace.specs.InputAt.{IsTime};
 ghost use Rattle.wrp_trace.specs.Numbers.{value_of, are_digits, digits_of, number_in, natural_in, time_of, kept_in};
+ghost use Rattle.wrp_world.specs.EventAt.{IsTime};
 
 use wrp_base::Tau;
 

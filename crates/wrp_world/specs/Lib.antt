@@ -1,4 +1,5 @@
 pub mod Checks
+pub mod EventAt
 pub mod Given
 pub mod Laws
 pub mod Moved
@@ -11,5 +12,6 @@ pub mod Run
 pub mod Setting
 pub mod Sizes
 pub mod StandsFor
+pub mod Step
 pub mod Views
 pub mod WorldAt

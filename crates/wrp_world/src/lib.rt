@@ -9,6 +9,7 @@ mod event;
 mod fibres;
 mod frames;
 mod laws;
+mod outcome;
 mod place;
 mod plant;
 mod premises;
@@ -19,4 +20,5 @@ pub use laws::{
     accepted_is_unbroken, arrival_keeps_stamp_bound, new_world_is_still, sample_keeps_beat_pattern,
     worked_rows,
 };
+pub use outcome::{NodeOut, Refused};
 pub use world::World;

@@ -8,12 +8,12 @@ use wrp_node::Node;
 /// A network of nodes over true time: what it is after a list of accepted events is the run of the
 /// world (`StandsFor`).
 #[derive(Drop)]
-pub struct World<F: Fn(i64) -> i64> {
+pub struct World<F> {
     plant: Plant,
     nodes: Vec<Node<F>>,
 }
 
-impl<F: Fn(i64) -> i64> Model for World<F> {
+impl<F> Model for World<F> {
     ghost use Rattle.wrp_world.specs.StandsFor.{WorldOf};
 
     ghost Value = { WorldOf F };

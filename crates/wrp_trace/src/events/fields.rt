@@ -2,8 +2,8 @@
 ghost use Rattle.std.specs.Prelude.{◌≡◌, ◌<◌, ◌≤◌, ◌^◌, IfOk, unsigned_abs};
 ghost use Rattle.csv.specs.Records.{fields_of};
 ghost use Rattle.wrp_base.specs.Network.{IsFromTo, node_count};
-ghost use Rattle.wrp_trace.specs.EventAt.{link_count};
 ghost use Rattle.wrp_trace.specs.EventFields.{node_at, link_at, span_at, delay_at, offset_at};
+ghost use Rattle.wrp_world.specs.EventAt.{link_count};
 
 use super::names::{link_named, node_named};
 use crate::fields::{field, name_fault, number_fault};

@@ -4,8 +4,8 @@ ghost use Rattle.std.specs.List.{position};
 ghost use Rattle.wrp_base.specs.Network.{node_count};
 ghost use Rattle.wrp_caldb.specs.Name.{same_name, is_name};
 ghost use Rattle.wrp_config.specs.Names.{node_named, link_named};
-ghost use Rattle.wrp_trace.specs.EventAt.{link_count};
 ghost use Rattle.wrp_trace.specs.EventFields.{before, behind};
+ghost use Rattle.wrp_world.specs.EventAt.{link_count};
 
 use std::str;
 use wrp_base::{LinkCfg, Name, NetCfg, NodeCfg};

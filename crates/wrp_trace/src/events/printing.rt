@@ -6,10 +6,10 @@ ghost use Rattle.hex.specs.Hex.{encode_lower};
 ghost use Rattle.wrp_base.specs.Network.{node_count};
 ghost use Rattle.wrp_base.specs.Octets.{AreOctets};
 ghost use Rattle.wrp_config.specs.Accepted.{IsAccepted};
-ghost use Rattle.wrp_trace.specs.EventAt.{link_count, IsEventOf, FitsEvent};
 ghost use Rattle.wrp_trace.specs.EventPrinting.{node_text, link_text, drift_words, drift_piece, drift_texts, move_words, move_piece, move_texts, swap_text, pass_texts, raw_texts, event_texts, event_text, further};
 ghost use Rattle.wrp_trace.specs.Events.{event_read, plain};
 ghost use Rattle.wrp_trace.specs.Printing.{bits_text, joined};
+ghost use Rattle.wrp_world.specs.EventAt.{link_count, IsEventOf, FitsEvent};
 
 use super::swaps::Swaps;
 use crate::printing::{bits_text, octets_of, octets_text};

@@ -3,8 +3,8 @@ ghost use Rattle.std.specs.Prelude.{◌≡◌, ◌==◌, ◌<◌, ◌≤◌, ◌
 ghost use Rattle.std.specs.List.{list_any};
 ghost use Rattle.csv.specs.Records.{fields_of};
 ghost use Rattle.wrp_caldb.specs.Name.{is_name};
-ghost use Rattle.wrp_trace.specs.EventAt.{AreSwaps, IsSwap};
 ghost use Rattle.wrp_trace.specs.Swaps.{new_port, own_port, module_name, true_delay, swap_at_port, swap_said, swaps_said, name_read, swap_read, swaps_read};
+ghost use Rattle.wrp_world.specs.EventAt.{IsSwap, AreSwaps};
 
 use super::names::{name_in, parts_at};
 use crate::fields::{field, name_fault, number_fault};

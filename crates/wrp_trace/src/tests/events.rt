@@ -1,6 +1,6 @@
 //! Event lines read and printed. Each expected value follows from the rules.
 ghost use Rattle.std.specs.Prelude.{IfOk};
-ghost use Rattle.wrp_trace.specs.EventAt.{IsEventOf};
+ghost use Rattle.wrp_world.specs.EventAt.{IsEventOf};
 
 use super::event_lines::{EVENTS_REFUSED, EVENTS_TAKEN};
 use super::lines::THREE_NODES;

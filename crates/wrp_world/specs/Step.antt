@@ -1,0 +1,48 @@
+-- What a step of a world answers, and what it makes of the world (this project's profile).
+use Rattle.std.specs.Prelude.{◌≡◌, ◌<◌, ◌+◌, ◌^◌, ℕ, ℤ, List, map, Some, Result}
+use Rattle.wrp_base.specs.declared.message.PtpMsg.{PtpMsg}
+use Rattle.wrp_frame.specs.declared.fault.FrameFault.{FrameFault}
+use Rattle.wrp_world.specs.declared.event.Event.{Event}
+use Rattle.wrp_world.specs.declared.outcome.NodeOut.{NodeOut}
+use Rattle.wrp_world.specs.declared.outcome.Refused.{Refused}
+use Rattle.wrp_world.specs.declared.outcome.Refused.TheVariants.{Broken, Memory}
+use Rattle.wrp_world.specs.Checks.{told_of}
+use Rattle.wrp_world.specs.EventAt.{IsEventOf}
+use Rattle.wrp_world.specs.Given.{NodeStepAt, world_step, event_steps}
+use Rattle.wrp_world.specs.Premises.{Accepts, checks_of}
+use Rattle.wrp_world.specs.Run.{IsSaid}
+use Rattle.wrp_world.specs.Setting.{Setting}
+use Rattle.wrp_world.specs.StandsFor.{StandsFor, WorldOf}
+use Rattle.wrp_world.specs.WorldAt.{WorldAt}
+
+-- an event that can come: it is one of the network, and it can still be counted
+pub record MayCome {F : Type 0} (world : WorldOf F) (e : Event) : Type 0 where
+  pub event : IsEventOf world.plant.net.cfg e
+  pub room : world.plant.events + 1 < 2 ^ 32
+
+-- a step of a node as the definition has it
+abbrev pub step_seen : NodeOut → NodeStepAt
+step_seen out = record { node = out.node; input = out.input; outs = out.outs.items }
+
+-- an event was accepted, whose octets say this and at which the law answered so: the nodes made their steps of it, and the
+-- world stands for what it makes of each state that it stood for
+pub record Steps {F : Type 0} (post : F → ℤ → ℤ → Type 0) (e : Event) (says : Result PtpMsg FrameFault) (answer : ℤ) (old new : WorldOf F) (outs : List NodeOut) : Type 0 where
+  pub said : IsSaid e says
+  pub accepted : (s : Setting) (w : WorldAt) → StandsFor post s w old → Accepts s w says e
+  pub outs : (s : Setting) (w : WorldAt) → StandsFor post s w old → map step_seen outs ≡ event_steps s says answer w e
+  pub stands : (s : Setting) (w : WorldAt) → StandsFor post s w old → StandsFor post s (world_step s says answer w e) new
+
+abbrev pub Stepped : {F : Type 0} → (F → ℤ → ℤ → Type 0) → Event → (old new : WorldOf F) → List NodeOut → Type 0
+Stepped post e old new outs = (says : Result PtpMsg FrameFault) × (answer : ℤ) × Steps post e says answer old new outs
+
+-- an event was refused for this: the first check that fails, or memory
+abbrev pub IsRefusal : {F : Type 0} → (F → ℤ → ℤ → Type 0) → Event → WorldOf F → Refused → Type 0
+IsRefusal post e world (Broken premise shown bound) =
+    (says : Result PtpMsg FrameFault) × IsSaid e says
+    × ((s : Setting) (w : WorldAt) → StandsFor post s w world
+    → told_of (checks_of s w says e) ≡ Some (record { premise = premise; shown = shown; bound = bound }))
+IsRefusal post e world (Memory fault) = Unit {0}
+
+-- the world stands for whatever it stood for
+abbrev pub StaysSo : {F : Type 0} → (F → ℤ → ℤ → Type 0) → (old new : WorldOf F) → Type 0
+StaysSo post old new = (s : Setting) (w : WorldAt) → StandsFor post s w old → StandsFor post s w new

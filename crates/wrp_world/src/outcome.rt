@@ -1,0 +1,31 @@
+//! What a step of a world answers.
+use std::alloc::AllocError;
+use wrp_base::Tau;
+use wrp_node::{Input, Outputs};
+
+/// A step of a node: what it was given, and what it put out.
+#[derive(Debug, Drop)]
+pub struct NodeOut {
+    /// The node.
+    pub node: u8,
+    /// What it was given.
+    pub input: Input,
+    /// What it put out, in order; at most 96.
+    pub outs: Outputs,
+}
+
+/// Why an event was refused: the world is as it was.
+#[derive(Debug, PartialEq, Eq)]
+pub enum Refused {
+    /// The event breaks a premise.
+    Broken {
+        /// The number of the premise, 1 to 13: the least that is broken.
+        premise: u8,
+        /// What the first comparison that fails shows.
+        shown: Tau,
+        /// What it would have to keep.
+        bound: Tau,
+    },
+    /// Memory could not be had.
+    Memory(AllocError),
+}
