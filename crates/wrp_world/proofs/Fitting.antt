@@ -24,7 +24,7 @@ none_some x e = cc
 
 -- One event more
 
-time_more : (e : ℕ) (t : ℤ) → IsTimeBy e t → IsTimeBy (e + 1) t
+pub time_more : (e : ℕ) (t : ℤ) → IsTimeBy e t → IsTimeBy (e + 1) t
 time_more e t h = omega arith
 
 off_more : (e : ℕ) (t : ℤ) → IsOffBy e t → IsOffBy (e + 1) t
@@ -54,7 +54,7 @@ clock_more e x h = record { off = off_more e x.off h.off; ticked = time_more e x
 end_more : (e : ℕ) (x : EndState) → FitsEnd e x → FitsEnd (e + 1) x
 end_more e x h = record { waiting = λ i out g. time_more e out.at (h.waiting i out g) }
 
-span_more : (e : ℕ) (x : Span) → FitsSpan e x → FitsSpan (e + 1) x
+pub span_more : (e : ℕ) (x : Span) → FitsSpan e x → FitsSpan (e + 1) x
 span_more e x h = record {
   ms = delay_more e x.fibre.ms h.ms;
   sm = delay_more e x.fibre.sm h.sm;
@@ -62,8 +62,8 @@ span_more e x h = record {
   slave = end_more e x.slave h.slave;
 }
 
-frame_more : (links e : ℕ) (x : Departed) → FitsDeparted links e x → FitsDeparted links (e + 1) x
-frame_more links e x h = record { link = h.link; sent = time_more e x.sent h.sent; due = due_more e x.due h.due }
+pub frame_more : (links e : ℕ) (x : Departed) → FitsDeparted links e x → FitsDeparted links (e + 1) x
+frame_more links e x h = record { link = h.link; sent = time_more e x.sent h.sent; due = due_more e x.due h.due; raw = h.raw }
 
 -- All parts
 
@@ -93,10 +93,10 @@ plant_fits C S F t old new c f few ht hc hs hn clocks spans frames = record {
   frames = subst (λ (g : NetCfg). FramesFit (length g.links.items) new.events new.frames) (sym c.cfg) (subst (λ n. FramesFit (length old.net.cfg.links.items) n new.frames) (sym c.count) frames);
 }
 
-same_clocks : (e : ℕ) (xs ys : List ClockState) → ys ≡ xs → ClocksFit e xs → ClocksFit (e + 1) ys
+pub same_clocks : (e : ℕ) (xs ys : List ClockState) → ys ≡ xs → ClocksFit e xs → ClocksFit (e + 1) ys
 same_clocks e xs ys s h = each_same (λ n. FitsClock e) (λ n. FitsClock (e + 1)) xs ys s (λ n x k. clock_more e x k) h
 
-same_spans : (e : ℕ) (xs ys : List Span) → ys ≡ xs → SpansFit e xs → SpansFit (e + 1) ys
+pub same_spans : (e : ℕ) (xs ys : List Span) → ys ≡ xs → SpansFit e xs → SpansFit (e + 1) ys
 same_spans e xs ys s h = each_same (λ n. FitsSpan e) (λ n. FitsSpan (e + 1)) xs ys s (λ n x k. span_more e x k) h
 
 same_frames : (links e : ℕ) (xs ys : List Departed) → ys ≡ xs → FramesFit links e xs → FramesFit links (e + 1) ys
@@ -166,7 +166,7 @@ drop_fits e x y r h = record {
 
 lost_fits : (links e : ℕ) (b : Bool) (x y : Departed) → y ≡ lost b x → FitsDeparted links e x → FitsDeparted links (e + 1) y
 lost_fits links e b x y r h =
-    subst (FitsDeparted links (e + 1)) (sym r) (record { link = h.link; sent = time_more e x.sent h.sent; due = due_more e x.due h.due })
+    subst (FitsDeparted links (e + 1)) (sym r) (record { link = h.link; sent = time_more e x.sent h.sent; due = due_more e x.due h.due; raw = h.raw })
 
 -- Each event
 

@@ -20,3 +20,6 @@ mod Unbroken
 pub mod TellingEnds
 pub mod TellingPlants
 pub mod Roomy
+pub mod RoomKept
+pub mod Arriving
+pub mod Departing

@@ -1,5 +1,6 @@
 pub mod Checks
 pub mod EventAt
+pub mod Flights
 pub mod Given
 pub mod Laws
 pub mod Moved

@@ -1,5 +1,5 @@
 -- What an event does to the parts of a plant as the code keeps them (this project's profile).
-use Rattle.std.specs.Prelude.{◌≡◌, ◌+◌, ◌==◌, ◌||◌, ◌&&◌, ◌≤◌, ◌+ℤ◌, ◌^◌, ℕ, ℤ, Bool, true, false, unsigned_abs, List, [], length, Option, None, Some, option_map, slice_get}
+use Rattle.std.specs.Prelude.{◌≡◌, ◌+◌, ◌==◌, ◌||◌, ◌&&◌, ◌≤◌, ◌+ℤ◌, ◌^◌, ℕ, ℤ, Bool, true, false, unsigned_abs, List, [], length, Option, None, Some, option_map, slice_get, vec_len, vec_capacity}
 use Rattle.wrp_base.specs.declared.link.Role.TheVariants.{Master, Slave}
 use Rattle.wrp_base.specs.declared.network.LinkCfg.{LinkCfg}
 use Rattle.wrp_world.specs.declared.clocks.ClockState.{ClockState}
@@ -66,6 +66,8 @@ pub record Empties (old new : EndState) : Type 0 where
   pub tx : new.tx ≡ old.tx
   pub rx : new.rx ≡ old.rx
   pub waiting : new.waiting.items ≡ []
+  pub len : vec_len new.waiting ≡ 0
+  pub room : vec_capacity new.waiting ≡ vec_capacity old.waiting
   pub marks : new.marks ≡ old.marks
 
 -- the fibre of a link becomes this one, and what waited at both ends is lost

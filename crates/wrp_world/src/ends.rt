@@ -1,5 +1,5 @@
 //! The ends of the links of a world.
-ghost use Rattle.std.specs.Prelude.{◌≡◌, ◌+ℤ◌, pos};
+ghost use Rattle.std.specs.Prelude.{◌≡◌, ◌≤◌, ◌+◌, ◌+ℤ◌, ◌^◌, pos, unsigned_abs};
 ghost use Rattle.wrp_world.specs.Plant.{EndIs, end_in, down_in, up_in};
 ghost use Rattle.wrp_world.specs.Sizes.{IsDelay, IsTime};
 ghost use Rattle.wrp_world.specs.Views.{oldest_of};
@@ -71,6 +71,7 @@ impl Span {
         requires { IsDelay self.now.fibre.ms }
         ensures value { result ≡ down_in self.now }
         ensures size { IsTime result }
+        ensures most { unsigned_abs result ≤ unsigned_abs self.now.fibre.ms + 2 ^ 65 }
     {
         with_ports(self.master.tx, self.fibre.ms, self.slave.rx)
     }
@@ -80,6 +81,7 @@ impl Span {
         requires { IsDelay self.now.fibre.sm }
         ensures value { result ≡ up_in self.now }
         ensures size { IsTime result }
+        ensures most { unsigned_abs result ≤ unsigned_abs self.now.fibre.sm + 2 ^ 65 }
     {
         with_ports(self.slave.tx, self.fibre.sm, self.master.rx)
     }
@@ -90,6 +92,7 @@ fn with_ports(tx: u64, delay: Tau, rx: u64) -> Tau
     requires { IsDelay delay }
     ensures value { result ≡ (pos tx +ℤ delay) +ℤ pos rx }
     ensures size { IsTime result }
+    ensures most { unsigned_abs result ≤ unsigned_abs delay + 2 ^ 65 }
 {
     sum(sum(i128::from(tx), delay), i128::from(rx))
 }

@@ -2,6 +2,7 @@
 ghost use Rattle.std.specs.Prelude.{◌≡◌, ◌<◌, ◌^◌, [], length, None, option_map};
 ghost use Rattle.wrp_world.specs.Plant.{frame_numbered, next_from, is_on, sooner, before};
 
+mod flights;
 mod moves;
 
 use std::alloc::Global;

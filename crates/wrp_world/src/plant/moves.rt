@@ -1,5 +1,7 @@
 //! What an event changes by itself.
+mod arrivals;
 mod clocks;
+mod departures;
 mod parts;
 pub mod spans;
 mod swaps;
@@ -10,6 +12,8 @@ ghost use Rattle.wrp_base.specs.declared.time.Raw.{Raw};
 ghost use Rattle.wrp_world.specs.declared.event.Event.TheVariants as event;
 ghost use Rattle.wrp_world.specs.Moved.{moved};
 ghost use Rattle.wrp_world.specs.Plant.{FitsPlant, PlantIs};
+ghost use Rattle.wrp_world.specs.PlantTold.{NoneStepped};
+ghost use Rattle.wrp_world.specs.Room.{HasRoom};
 ghost use Rattle.wrp_world.specs.Setting.{Setting};
 ghost use Rattle.wrp_world.specs.WorldAt.{WorldAt};
 
@@ -30,6 +34,8 @@ impl Plant {
         ensures noise { (s : Setting) (w : WorldAt) (n p : ℕ) (octets : Items ℕ) (raw : Raw)
             → PlantIs s w self.old → PlantIs s (moved s w (event.Noise n p octets raw)) self.new }
         ensures fits { FitsPlant self.new }
+        ensures room { (k : ℕ) → HasRoom k self.old → HasRoom k self.new }
+        ensures still { NoneStepped self.new }
     {
         parts::stay(self);
     }
@@ -41,6 +47,7 @@ impl Plant {
         ensures is { (s : Setting) (w : WorldAt) → PlantIs s w self.old
             → PlantIs s (moved s w (event.Pass dt drifts.now moves.now)) self.new }
         ensures fits { FitsPlant self.new }
+        ensures room { (k : ℕ) → HasRoom k self.old → HasRoom k self.new }
     {
         parts::pass(self, dt, drifts, moves);
     }
@@ -53,6 +60,7 @@ impl Plant {
         ensures is { (s : Setting) (w : WorldAt) (base bits : ℕ) → PlantIs s w self.old
             → PlantIs s (moved s w (event.Sample n base bits)) self.new }
         ensures fits { FitsPlant self.new }
+        ensures room { (k : ℕ) → HasRoom k self.old → HasRoom k self.new }
     {
         parts::sample(self, n);
     }
@@ -65,6 +73,7 @@ impl Plant {
         ensures is { (s : Setting) (w : WorldAt) → PlantIs s w self.old
             → PlantIs s (moved s w (event.Down n)) self.new }
         ensures fits { FitsPlant self.new }
+        ensures room { (k : ℕ) → HasRoom k self.old → HasRoom k self.new }
     {
         parts::go_down(self, n);
     }
@@ -77,6 +86,7 @@ impl Plant {
         ensures is { (s : Setting) (w : WorldAt) → PlantIs s w self.old
             → PlantIs s (moved s w (event.Cut link)) self.new }
         ensures fits { FitsPlant self.new }
+        ensures room { (k : ℕ) → HasRoom k self.old → HasRoom k self.new }
     {
         parts::cut(self, link);
     }
@@ -91,6 +101,7 @@ impl Plant {
         ensures is { (s : Setting) (w : WorldAt) → PlantIs s w self.old
             → PlantIs s (moved s w (event.Join link ms sm)) self.new }
         ensures fits { FitsPlant self.new }
+        ensures room { (k : ℕ) → HasRoom k self.old → HasRoom k self.new }
     {
         parts::join(self, link, ms, sm);
     }
@@ -104,6 +115,7 @@ impl Plant {
         ensures is { (s : Setting) (w : WorldAt) → PlantIs s w self.old
             → PlantIs s (moved s w (event.Up n off swaps.now)) self.new }
         ensures fits { FitsPlant self.new }
+        ensures room { (k : ℕ) → HasRoom k self.old → HasRoom k self.new }
     {
         parts::come_up(self, n, off, swaps);
     }

@@ -1,6 +1,6 @@
 //! What a node's step makes of the rest of the world.
 mod clock;
-mod ends;
+pub mod ends;
 mod reads;
 
 ghost use Rattle.std.specs.Prelude.{◌≡◌, ◌<◌, ◌+◌, ℕ, length};

@@ -12,8 +12,8 @@ use crate::ends::{EndState, PutOut, Span};
 use wrp_base::{Frame, LinkCfg, LinkState, Mark, NetCfg, Tau, WrMsg};
 use wrp_node::Output;
 
-// The same octets.
-fn copied(frame: &Frame) -> Frame
+/// The same octets.
+pub fn copied(frame: &Frame) -> Frame
     ensures { result ≡ frame.now }
 {
     let mut copy = Frame::new();

@@ -5,6 +5,7 @@ use Rattle.wrp_world.specs.Moves.{At, Changed, ComesUp, Same, SwapsAt, Turns}
 use Rattle.wrp_world.proofs.Fitting.{come_up_fits}
 use Rattle.wrp_world.proofs.Moving.{up_is}
 use Rattle.wrp_world.proofs.Sizing.{time_size}
+use Rattle.wrp_world.proofs.RoomKept.{up_room}
 use Rattle.wrp_world.proofs.plant.Plant.come_up.Goals as goal
 
 pub come_up-requires-clause-node : goal.come_up-requires-clause-node
@@ -24,3 +25,6 @@ returns-clause-fits c =
     come_up_fits c.args.n c.args.off c.args.swaps.now.items c.args.self.now.net.cfg.links.items c.args.self.now c.come_up.new.plant c.requires.off
     (subst (λ z. Changed (Turns (At c.args.n (ComesUp z c.args.self.now.time))) (Turns (SwapsAt c.args.n c.args.swaps.now.items c.args.self.now.net.cfg.links.items)) Same c.args.self.now.time c.args.self.now c.come_up.new.plant)
     (to_z-of_z w128 c.args.off c.ranges.off) c.come_up.ensures) c.requires.few c.requires.fits
+
+pub returns-clause-room : goal.returns-clause-room
+returns-clause-room c k h = up_room c.args.n c.args.swaps.now.items c.args.self.now.net.cfg.links.items _ _ _ c.args.self.now c.come_up.new.plant c.come_up.ensures k h

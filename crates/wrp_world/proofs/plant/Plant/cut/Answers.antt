@@ -1,5 +1,6 @@
 use Rattle.wrp_world.proofs.Fitting.{cut_off_fits}
 use Rattle.wrp_world.proofs.Moving.{cut_is}
+use Rattle.wrp_world.proofs.RoomKept.{cut_room}
 use Rattle.wrp_world.proofs.plant.Plant.cut.Goals as goal
 
 pub cut-requires-clause-link : goal.cut-requires-clause-link
@@ -10,3 +11,6 @@ returns-clause-is c s w h = cut_is s w c.args.link c.args.self.now c.cut.new.pla
 
 pub returns-clause-fits : goal.returns-clause-fits
 returns-clause-fits c = cut_off_fits c.args.link c.args.self.now c.cut.new.plant c.cut.ensures c.requires.few c.requires.fits
+
+pub returns-clause-room : goal.returns-clause-room
+returns-clause-room c k h = cut_room c.args.link _ _ _ c.args.self.now c.cut.new.plant c.cut.ensures k h

@@ -1,5 +1,6 @@
 use Rattle.wrp_world.proofs.Fitting.{gone_down_fits}
 use Rattle.wrp_world.proofs.Moving.{down_is}
+use Rattle.wrp_world.proofs.RoomKept.{down_room}
 use Rattle.wrp_world.proofs.plant.Plant.go_down.Goals as goal
 
 pub go_down-requires-clause-node : goal.go_down-requires-clause-node
@@ -10,3 +11,6 @@ returns-clause-is c s w h = down_is s w c.args.n c.args.self.now c.go_down.new.p
 
 pub returns-clause-fits : goal.returns-clause-fits
 returns-clause-fits c = gone_down_fits c.args.n c.args.self.now.net.cfg.links.items c.args.self.now c.go_down.new.plant c.go_down.ensures c.requires.few c.requires.fits
+
+pub returns-clause-room : goal.returns-clause-room
+returns-clause-room c k h = down_room c.args.n c.args.self.now.net.cfg.links.items _ _ _ c.args.self.now c.go_down.new.plant c.go_down.ensures k h

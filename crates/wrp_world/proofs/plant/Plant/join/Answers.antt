@@ -5,6 +5,7 @@ use Rattle.wrp_world.specs.declared.plant.Plant.{Plant}
 use Rattle.wrp_world.specs.Moves.{At, Changed, Joins, Same, Turns}
 use Rattle.wrp_world.proofs.Fitting.{joined_fits}
 use Rattle.wrp_world.proofs.Moving.{join_is}
+use Rattle.wrp_world.proofs.RoomKept.{join_room}
 use Rattle.wrp_world.proofs.plant.Plant.join.Goals as goal
 
 read_both : (k : ℕ) (ms sm y z : ℤ) (old new : Plant) → y ≡ ms → z ≡ sm → Changed Same (Turns (At k (Joins y z))) Same old.time old new →
@@ -27,3 +28,6 @@ returns-clause-fits c =
     joined_fits c.args.link c.args.ms c.args.sm c.args.self.now c.join.new.plant c.requires.ms c.requires.sm
     (read_both c.args.link c.args.ms c.args.sm (to_z w128 (of_z w128 c.args.ms)) (to_z w128 (of_z w128 c.args.sm)) c.args.self.now c.join.new.plant
     (to_z-of_z w128 c.args.ms c.ranges.ms) (to_z-of_z w128 c.args.sm c.ranges.sm) c.join.ensures) c.requires.few c.requires.fits
+
+pub returns-clause-room : goal.returns-clause-room
+returns-clause-room c k h = join_room c.args.link _ _ _ _ _ c.args.self.now c.join.new.plant c.join.ensures k h

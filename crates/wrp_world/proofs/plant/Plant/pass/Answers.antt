@@ -4,6 +4,7 @@ use Rattle.std.specs.Int.{w64}
 use Rattle.wrp_world.specs.Moves.{Changed, Drifts, Moves, Same, Turns}
 use Rattle.wrp_world.proofs.Fitting.{pass_fits}
 use Rattle.wrp_world.proofs.Moving.{pass_is}
+use Rattle.wrp_world.proofs.RoomKept.{pass_room}
 use Rattle.wrp_world.proofs.plant.Plant.pass.Goals as goal
 
 pub returns-clause-is : goal.returns-clause-is
@@ -18,3 +19,6 @@ returns-clause-fits c =
     pass_fits c.args.drifts.now.items c.args.moves.now.items c.args.dt c.args.self.now c.pass.new.plant size
     (subst (λ d. Changed (Turns (Drifts c.args.drifts.now.items)) (Turns (Moves c.args.moves.now.items)) Same (c.args.self.now.time +ℤ d) c.args.self.now c.pass.new.plant)
     (to_z-of_z w64 c.args.dt c.ranges.dt) c.pass.ensures) c.requires.few c.requires.fits
+
+pub returns-clause-room : goal.returns-clause-room
+returns-clause-room c k h = pass_room c.args.moves.now.items _ _ _ c.args.self.now c.pass.new.plant c.pass.ensures k h

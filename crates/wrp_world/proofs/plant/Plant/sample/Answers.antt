@@ -1,5 +1,6 @@
 use Rattle.wrp_world.proofs.Fitting.{sampled_fits}
 use Rattle.wrp_world.proofs.Moving.{sample_is}
+use Rattle.wrp_world.proofs.RoomKept.{same_room}
 use Rattle.wrp_world.proofs.plant.Plant.sample.Goals as goal
 
 pub sample-requires-clause-node : goal.sample-requires-clause-node
@@ -10,3 +11,6 @@ returns-clause-is c s w base bits h = sample_is s w c.args.n base bits c.args.se
 
 pub returns-clause-fits : goal.returns-clause-fits
 returns-clause-fits c = sampled_fits c.args.n c.args.self.now c.sample.new.plant c.sample.ensures c.requires.few c.requires.fits
+
+pub returns-clause-room : goal.returns-clause-room
+returns-clause-room c k h = same_room _ _ _ c.args.self.now c.sample.new.plant c.sample.ensures k h

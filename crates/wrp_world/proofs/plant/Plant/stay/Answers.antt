@@ -1,5 +1,6 @@
 use Rattle.wrp_world.proofs.Fitting.{tick_fits}
 use Rattle.wrp_world.proofs.Moving.{tick_is, deliver_is, noise_is}
+use Rattle.wrp_world.proofs.RoomKept.{none_stepped, same_room}
 use Rattle.wrp_world.proofs.plant.Plant.stay.Goals as goal
 
 pub returns-clause-tick : goal.returns-clause-tick
@@ -13,3 +14,9 @@ returns-clause-noise c s w n p octets raw h = noise_is s w n p octets raw c.args
 
 pub returns-clause-fits : goal.returns-clause-fits
 returns-clause-fits c = tick_fits c.args.self.now c.stay.new.plant c.stay.ensures c.requires.few c.requires.fits
+
+pub returns-clause-room : goal.returns-clause-room
+returns-clause-room c k h = same_room _ _ _ c.args.self.now c.stay.new.plant c.stay.ensures k h
+
+pub returns-clause-still : goal.returns-clause-still
+returns-clause-still c = none_stepped _ _ _ c.args.self.now c.stay.new.plant c.stay.ensures c.requires.fits
