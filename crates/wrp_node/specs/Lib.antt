@@ -15,5 +15,6 @@ pub mod Set
 pub mod SetLaws
 pub mod SetRows
 pub mod StandsFor
+pub mod StepLaws
 pub mod Telling
 pub mod Unbroken

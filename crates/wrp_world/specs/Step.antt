@@ -29,19 +29,21 @@ step_seen out = record { node = out.node; input = out.input; outs = out.outs.ite
 pub record Steps {F : Type 0} (post : F → ℤ → ℤ → Type 0) (e : Event) (says : Result PtpMsg FrameFault) (answer : ℤ) (old new : WorldOf F) (outs : List NodeOut) : Type 0 where
   pub said : IsSaid e says
   pub accepted : (s : Setting) (w : WorldAt) → StandsFor post s w old → Accepts s w says e
-  pub outs : (s : Setting) (w : WorldAt) → StandsFor post s w old → map step_seen outs ≡ event_steps s says answer w e
+  pub seen : (s : Setting) (w : WorldAt) → StandsFor post s w old → map step_seen outs ≡ event_steps s says answer w e
   pub stands : (s : Setting) (w : WorldAt) → StandsFor post s w old → StandsFor post s (world_step s says answer w e) new
 
 abbrev pub Stepped : {F : Type 0} → (F → ℤ → ℤ → Type 0) → Event → (old new : WorldOf F) → List NodeOut → Type 0
 Stepped post e old new outs = (says : Result PtpMsg FrameFault) × (answer : ℤ) × Steps post e says answer old new outs
 
--- an event was refused for this: the first check that fails, or memory
+-- an event was refused for this: the first check that fails, or, where none fails, want of memory
 abbrev pub IsRefusal : {F : Type 0} → (F → ℤ → ℤ → Type 0) → Event → WorldOf F → Refused → Type 0
 IsRefusal post e world (Broken premise shown bound) =
     (says : Result PtpMsg FrameFault) × IsSaid e says
     × ((s : Setting) (w : WorldAt) → StandsFor post s w world
     → told_of (checks_of s w says e) ≡ Some (record { premise = premise; shown = shown; bound = bound }))
-IsRefusal post e world (Memory fault) = Unit {0}
+IsRefusal post e world (Memory fault) =
+    (says : Result PtpMsg FrameFault) × IsSaid e says
+    × ((s : Setting) (w : WorldAt) → StandsFor post s w world → Accepts s w says e)
 
 -- the world stands for whatever it stood for
 abbrev pub StaysSo : {F : Type 0} → (F → ℤ → ℤ → Type 0) → (old new : WorldOf F) → Type 0
