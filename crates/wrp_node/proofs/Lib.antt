@@ -17,6 +17,7 @@ pub mod SetRows
 pub mod Sends
 pub mod Settled
 pub mod Sound
+pub mod Spelling
 pub mod StepLaws
 pub mod Stepping
 pub mod Telling
