@@ -19,6 +19,7 @@ pub mod Settled
 pub mod Sound
 pub mod Spelling
 pub mod StepLaws
+pub mod StatesTold
 pub mod Stepping
 pub mod Telling
 pub mod Ticks

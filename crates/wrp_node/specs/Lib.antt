@@ -16,6 +16,7 @@ pub mod SetLaws
 pub mod SetRows
 pub mod Spelled
 pub mod StandsFor
+pub mod States
 pub mod StepLaws
 pub mod Telling
 pub mod Unbroken

@@ -1,4 +1,6 @@
 //! The ports of a node, in ascending order, and what they were told.
+mod states;
+
 ghost use Rattle.std.specs.Prelude.{◌≡◌, ◌≤◌, ◌+◌, ◌*◌, ◌++◌, length, flat_map};
 ghost use Rattle.std.specs.List.{AllByRecursion, AllZip};
 ghost use Rattle.std.specs.Option.{option_map};
@@ -6,6 +8,8 @@ ghost use Rattle.wrp_base.specs.Message.{IsSound};
 ghost use Rattle.wrp_node.specs.Place.{GivesTo, Begins, Counts, place_of, place_out, is_to};
 ghost use Rattle.wrp_node.specs.Spelled.{AllSpelled};
 ghost use Rattle.wrp_port.specs.PortAt.{IsFit};
+
+pub use states::{PortState, PortStates};
 
 use crate::Outputs;
 use crate::place::Place;
