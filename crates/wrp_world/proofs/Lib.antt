@@ -17,3 +17,6 @@ mod Still
 pub mod Told
 pub mod Turned
 mod Unbroken
+pub mod TellingEnds
+pub mod TellingPlants
+pub mod Roomy

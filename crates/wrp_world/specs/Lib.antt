@@ -6,7 +6,9 @@ pub mod Moved
 pub mod Moves
 pub mod New
 pub mod Plant
+pub mod PlantTold
 pub mod Premises
+pub mod Room
 pub mod Rows
 pub mod Run
 pub mod Setting

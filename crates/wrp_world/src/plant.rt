@@ -3,6 +3,8 @@ mod handing;
 pub mod moves;
 mod new;
 mod parts;
+mod room;
+pub mod told;
 mod tries;
 mod views;
 
