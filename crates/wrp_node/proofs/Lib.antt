@@ -17,6 +17,9 @@ pub mod SetRows
 pub mod Sends
 pub mod Settled
 pub mod Sound
+pub mod Spelling
+pub mod StepLaws
+pub mod StatesTold
 pub mod Stepping
 pub mod Telling
 pub mod Ticks

@@ -68,6 +68,15 @@ pushed_more f xs i d o h =
     let next : suc i ≡ i + 1 = omega arith in
     append_assoc o (map f (take i xs)) (f (slice_index_or xs i d) ∷ []) ∙ ap (λ rest. o ++ rest) (sym (map_more f xs i d h)) ∙ ap (λ k. o ++ map f (take k xs)) next
 
+-- what holds of those that a loop has come to holds of one more
+all_next : {A : Type 0} (P : A → Type 0) (xs : List A) (i : ℕ) (d : A) → i < length xs → P (slice_index_or xs i d) → AllByRecursion P (take i xs) → AllByRecursion P (take (suc i) xs)
+all_next P [] i d h k w = absurd (omega arith)
+all_next P (x ∷ xs) zero d h k w = (k, tt)
+all_next P (x ∷ xs) (suc i) d h k w = (w.0, all_next P xs i d (omega arith) k w.1)
+
+pub all_more : {A : Type 0} (P : A → Type 0) (xs : List A) (i : ℕ) (d : A) → i < length xs → P (slice_index_or xs i d) → AllByRecursion P (take i xs) → AllByRecursion P (take (i + 1) xs)
+all_more P xs i d h k w = let next : suc i ≡ i + 1 = omega arith in subst (λ j. AllByRecursion P (take j xs)) next (all_next P xs i d h k w)
+
 -- five lists, put out one after another
 pub five : {A : Type 0} (a b c d e : List A) → ((((([] ++ a) ++ b) ++ c) ++ d) ++ e) ≡ a ++ (b ++ (c ++ (d ++ e)))
 five a b c d e =

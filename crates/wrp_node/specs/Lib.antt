@@ -14,6 +14,9 @@ pub mod Sends
 pub mod Set
 pub mod SetLaws
 pub mod SetRows
+pub mod Spelled
 pub mod StandsFor
+pub mod States
+pub mod StepLaws
 pub mod Telling
 pub mod Unbroken

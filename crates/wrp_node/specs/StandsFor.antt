@@ -1,5 +1,5 @@
 -- The list of inputs that a node stands for: each of its parts is what the run of the node says (this project's profile).
-use Rattle.std.specs.Prelude.{◌≡◌, ℕ, ℤ, List, ◌∷◌, Result}
+use Rattle.std.specs.Prelude.{◌≡◌, ℕ, ℤ, true, List, ◌∷◌, Result}
 use Rattle.wrp_base.specs.declared.message.PtpMsg.{PtpMsg}
 use Rattle.wrp_frame.specs.declared.fault.FrameFault.{FrameFault}
 use Rattle.wrp_node.specs.Control.{ControlOf, ControlStands}
@@ -8,7 +8,10 @@ use Rattle.wrp_node.specs.declared.interface.Output.{Output}
 use Rattle.wrp_node.specs.declared.parts.Parts.{Parts}
 use Rattle.wrp_node.specs.NodeAt.{Taken, Fixed, NodeAt}
 use Rattle.wrp_node.specs.NodeRun.{AllSaid, IsSaid, node_after, outputs_at}
+use Rattle.wrp_node.specs.NodeStep.{node_step}
 use Rattle.wrp_node.specs.Parts.{PartsAt, PartsIn}
+use Rattle.wrp_node.specs.Sends.{is_port}
+use Rattle.wrp_node.specs.Spelled.{AreSpelled}
 use Rattle.wrp_node.specs.Telling.{Step}
 
 -- what a node is seen as: its servo, if it has one, and all the rest
@@ -34,6 +37,10 @@ pub record Steps {F : Type 0} (post : F → ℤ → ℤ → Type 0) (old new : N
   pub said : IsSaid t.input t.says
   pub outputs : (fixed : Fixed) (before : List Taken) → StandsFor post fixed old before → put_out ≡ outputs_at fixed before t
   pub stands : (fixed : Fixed) (before : List Taken) → StandsFor post fixed old before → StandsFor post fixed new (t ∷ before)
+  -- the octets of what its ports send spell it
+  pub spelled :
+      (fixed : Fixed) (before : List Taken) → StandsFor post fixed old before → (p : ℕ) → is_port fixed p ≡ true →
+      AreSpelled ((node_step fixed t (node_after fixed before)).sends p)
 
 -- an input was taken, with what its octets say and with an answer of the law
 abbrev pub Took : {F : Type 0} → (F → ℤ → ℤ → Type 0) → NodeOf F → NodeOf F → Input → List Output → Type 0

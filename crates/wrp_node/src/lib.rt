@@ -13,6 +13,7 @@ mod place;
 mod ports;
 mod set;
 mod set_laws;
+mod step_laws;
 #[cfg(test)]
 mod tests;
 mod told;
@@ -23,5 +24,7 @@ pub use laws::{
     step_gives_links, step_settles,
 };
 pub use node::Node;
+pub use ports::{PortState, PortStates};
 pub use set::node_set;
 pub use set_laws::{ends_are_set, sets_of_three_nodes};
+pub use step_laws::{commands_are_held, only_frames_say, sends_are_few, ticks_are_counted};

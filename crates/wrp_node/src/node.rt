@@ -2,6 +2,7 @@
 mod fits;
 mod new;
 mod puts;
+mod states;
 mod takes;
 
 ghost use Rattle.std.specs.Prelude.{◌≡◌, ◌≤◌, length, true};

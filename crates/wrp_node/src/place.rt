@@ -4,6 +4,7 @@ ghost use Rattle.std.specs.List.{AllByRecursion};
 ghost use Rattle.wrp_base.specs.Message.{IsSound};
 ghost use Rattle.wrp_data.specs.Counters.{no_counts};
 ghost use Rattle.wrp_node.specs.Place.{newest_sends, Gives, GivesTo, Begins, place_counted, place_out, is_to};
+ghost use Rattle.wrp_node.specs.Spelled.{AreSpelled, IsSpelled};
 ghost use Rattle.wrp_link.specs.Table.{word_of};
 ghost use Rattle.wrp_node.specs.NodeRun.{word_out, frame_out};
 ghost use Rattle.wrp_port.specs.PortAt.{IsFit};
@@ -110,6 +111,7 @@ impl Place {
         requires sound { AllByRecursion IsSound self.now.sends.items }
         requires room { length outs.old.items + 5 ≤ 96 }
         ensures items { outs.new.items ≡ outs.old.items ++ place_out self.now }
+        ensures spelled { AreSpelled self.now.sends.items }
         ensures room { length outs.new.items ≤ length outs.old.items + 5 }
     {
         self.put_word(outs);
@@ -137,6 +139,7 @@ impl Place {
         requires sound { AllByRecursion IsSound self.now.sends.items }
         requires room { length outs.old.items + 4 ≤ 96 }
         ensures items { outs.new.items ≡ outs.old.items ++ map (frame_out self.now.number) self.now.sends.items }
+        ensures spelled { AreSpelled self.now.sends.items }
         ensures room { length outs.new.items ≤ length outs.old.items + 4 }
     {
         for message in self.sends.as_slice() {
@@ -147,7 +150,8 @@ impl Place {
     // A frame of the port.
     fn frame(&self, message: &PtpMsg) -> Output
         requires { IsSound message.now }
-        ensures { result ≡ frame_out self.now.number message.now }
+        ensures value { result ≡ frame_out self.now.number message.now }
+        ensures spelled { IsSpelled message.now }
     {
         Output::Send {
             port: self.number,

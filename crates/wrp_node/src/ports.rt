@@ -1,10 +1,15 @@
 //! The ports of a node, in ascending order, and what they were told.
+mod states;
+
 ghost use Rattle.std.specs.Prelude.{◌≡◌, ◌≤◌, ◌+◌, ◌*◌, ◌++◌, length, flat_map};
 ghost use Rattle.std.specs.List.{AllByRecursion, AllZip};
 ghost use Rattle.std.specs.Option.{option_map};
 ghost use Rattle.wrp_base.specs.Message.{IsSound};
 ghost use Rattle.wrp_node.specs.Place.{GivesTo, Begins, Counts, place_of, place_out, is_to};
+ghost use Rattle.wrp_node.specs.Spelled.{AllSpelled};
 ghost use Rattle.wrp_port.specs.PortAt.{IsFit};
+
+pub use states::{PortState, PortStates};
 
 use crate::Outputs;
 use crate::place::Place;
@@ -105,6 +110,7 @@ impl Ports {
         requires sound { AllByRecursion (λ place. AllByRecursion IsSound place.sends.items) self.now }
         requires room { length outs.old.items ≤ 5 }
         ensures items { outs.new.items ≡ outs.old.items ++ flat_map place_out self.now }
+        ensures spelled { AllSpelled self.now }
         ensures room { length outs.new.items ≤ 95 }
     {
         for place in &self.places {

@@ -153,6 +153,13 @@ impl Port {
         self.line.link.word()
     }
 
+    /// The state of the port's link.
+    pub fn state(&self) -> LinkState
+        ensures { result ≡ self.now.line.link.state }
+    {
+        self.line.link.state()
+    }
+
     /// The port's module, where the calibration database lists it.
     pub fn own_module(&self) -> Option<Module>
         ensures { result ≡ self.now.line.link.own_module }

@@ -17,6 +17,7 @@ use Rattle.wrp_node.specs.declared.interface.Output.{Output}
 use Rattle.wrp_node.specs.declared.interface.Output.TheVariants.{Send, Step as StepOf, Dac, Report}
 use Rattle.wrp_node.specs.NodeAt.{link_at}
 use Rattle.wrp_node.specs.Sends.{frames_at}
+use Rattle.wrp_node.specs.States.{state_in}
 use Rattle.wrp_node.specs.Telling.{Step}
 use Rattle.wrp_world.specs.declared.ends.EndState.{EndState}
 use Rattle.wrp_world.specs.declared.ends.PutOut.{PutOut}
@@ -26,7 +27,7 @@ use Rattle.wrp_world.specs.declared.plant.told.News.{News}
 use Rattle.wrp_world.specs.Given.{Given, end_told, mover_of, sending}
 use Rattle.wrp_world.specs.Moves.{Turns, Where}
 use Rattle.wrp_world.specs.Plant.{EndIs, PutOutIs}
-use Rattle.wrp_world.specs.PlantTold.{IsPortOf, IsSent, Tells, TellsAt, TellsIn, TellsPort, mark_of, put_at, state_in}
+use Rattle.wrp_world.specs.PlantTold.{IsPortOf, IsSent, Tells, TellsAt, TellsIn, TellsPort, mark_of, put_at}
 use Rattle.wrp_world.specs.Room.{HasSpanRoom}
 use Rattle.wrp_world.specs.Setting.{Setting, end_of, is_of}
 use Rattle.wrp_world.specs.WorldAt.{WorldAt, EndAt, Sending}

@@ -3,7 +3,6 @@ use Rattle.std.specs.Prelude.{◌≡◌, ◌≤◌, ◌==◌, ◌⊎◌, ◌+ℤ
 use Rattle.std.specs.List.{AllZip}
 use Rattle.wrp_base.specs.Clock.{period_of}
 use Rattle.wrp_base.specs.declared.link.LinkState.{LinkState}
-use Rattle.wrp_base.specs.declared.link.LinkState.TheVariants.{Idle}
 use Rattle.wrp_base.specs.declared.link.Mark.{Mark}
 use Rattle.wrp_base.specs.declared.link.Role.{Role}
 use Rattle.wrp_base.specs.declared.message.PtpMsg.{PtpMsg}
@@ -18,6 +17,7 @@ use Rattle.wrp_node.specs.declared.interface.Output.TheVariants.{Step as StepOf}
 use Rattle.wrp_node.specs.Node.{is_tick}
 use Rattle.wrp_node.specs.NodeAt.{link_at}
 use Rattle.wrp_node.specs.Sends.{frames_at}
+use Rattle.wrp_node.specs.States.{state_in}
 use Rattle.wrp_node.specs.Telling.{Step}
 use Rattle.wrp_world.specs.declared.clocks.ClockState.{ClockState}
 use Rattle.wrp_world.specs.declared.ends.EndState.{EndState}
@@ -25,7 +25,6 @@ use Rattle.wrp_world.specs.declared.ends.PutOut.{PutOut}
 use Rattle.wrp_world.specs.declared.ends.Span.{Span}
 use Rattle.wrp_world.specs.declared.plant.Plant.{Plant}
 use Rattle.wrp_world.specs.declared.plant.told.News.{News}
-use Rattle.wrp_world.specs.declared.plant.told.PortState.{PortState}
 use Rattle.wrp_world.specs.Given.{Given, mover_of}
 use Rattle.wrp_world.specs.Moves.{Turns, Where, At}
 use Rattle.wrp_world.specs.Plant.{Each}
@@ -39,11 +38,6 @@ abbrev pub cycles_in : List Output → ℤ
 cycles_in [] = pos 0
 cycles_in (StepOf cycles ∷ outs) = cycles
 cycles_in (out ∷ outs) = cycles_in outs
-
--- the link state of a port among these, IDLE where it is not among them
-abbrev pub state_in : ℕ → List PortState → LinkState
-state_in p [] = Idle
-state_in p (port ∷ ports) = if port.port == p then port.state else state_in p ports
 
 -- What it makes of the clock
 

@@ -4,6 +4,7 @@ ghost use Rattle.std.specs.List.{AllByRecursion};
 ghost use Rattle.wrp_base.specs.Message.{IsSound};
 ghost use Rattle.wrp_node.specs.Node.{puts_out, track_in};
 ghost use Rattle.wrp_node.specs.NodeRun.{step_out, dac_out, servo_out, est_out};
+ghost use Rattle.wrp_node.specs.Spelled.{AllSpelled};
 
 use super::Node;
 use crate::{Output, Outputs, Report};
@@ -15,6 +16,7 @@ impl<F: Fn(i64) -> i64> Node<F> {
         requires sound { AllByRecursion (λ place. AllByRecursion IsSound place.sends.items) self.now.parts.ports }
         requires report { 1 ≤ self.now.report }
         ensures items { outs.new.items ≡ puts_out before tick self.now }
+        ensures spelled { AllSpelled self.now.parts.ports }
         ensures room { length outs.new.items ≤ 96 }
     {
         outs.clear();

@@ -14,21 +14,8 @@ ghost use Rattle.wrp_world.specs.Setting.{Setting};
 ghost use Rattle.wrp_world.specs.WorldAt.{WorldAt};
 
 use super::Plant;
-use arrayvec::ArrayVec;
-use wrp_base::{LinkState, Tau, WrMsg};
-use wrp_node::Output;
-
-/// The link state of a port of a node.
-#[derive(Clone, Copy, Debug, Default, PartialEq, Eq)]
-pub struct PortState {
-    /// The port.
-    pub port: u16,
-    /// Its link state.
-    pub state: LinkState,
-}
-
-/// The link states of a node's ports.
-pub type PortStates = ArrayVec<PortState, 18>;
+use wrp_base::{Tau, WrMsg};
+use wrp_node::{Output, PortStates};
 
 /// What is told of a node's step beside its outputs.
 #[derive(Debug, Drop)]

@@ -1,11 +1,11 @@
 //! What is read of a node's step.
 ghost use Rattle.std.specs.Prelude.{◌≡◌};
 ghost use Rattle.wrp_link.specs.Table.{is_same};
-ghost use Rattle.wrp_world.specs.PlantTold.{cycles_in, state_in};
+ghost use Rattle.wrp_node.specs.States.{state_in};
+ghost use Rattle.wrp_world.specs.PlantTold.{cycles_in};
 
-use super::PortState;
 use wrp_base::LinkState;
-use wrp_node::Output;
+use wrp_node::{Output, PortState};
 
 /// The periods by which the clock is stepped, 0 where it is not.
 pub fn cycles_in(outs: &[Output]) -> i64

@@ -5,6 +5,7 @@ use Rattle.wrp_node.specs.NodeRun.{node_after}
 use Rattle.wrp_node.specs.NodeStep.{node_step}
 use Rattle.wrp_node.proofs.Nodes.{all_put, all_sound, in_at}
 use Rattle.wrp_node.proofs.Stepping.{tick_for, came, state_before, report_kept}
+use Rattle.wrp_node.proofs.Spelling.{spelled_at}
 use Rattle.wrp_node.proofs.node.Node.step_into.Goals as goal
 
 pub take-requires-clause-ticks : goal.take-requires-clause-ticks
@@ -63,5 +64,10 @@ returns-clause-took g c = (
           is_at = in_at fixed (node_after fixed before)
               (node_step fixed (record { input = c.args.x.now; says = c.take.ensures.takes.0; answer = c.take.ensures.takes.1 }) (node_after fixed before)) c.tell_link.new.self h;
         };
+    spelled = λ fixed before st p here.
+        let h = came c.args.x.now c.take.ensures.takes.0 c.take.ensures.takes.1 c.self.view_is c.begin.ensures.begun c.take.ensures.takes.3 c.tell_lease.ensures.lead c.tell_link.ensures.lead fixed before st in
+        spelled_at fixed (node_after fixed before)
+        (node_step fixed (record { input = c.args.x.now; says = c.take.ensures.takes.0; answer = c.take.ensures.takes.1 }) (node_after fixed before))
+        c.tell_link.new.self.parts p h.parts c.put_out.ensures.spelled here;
   },
 )

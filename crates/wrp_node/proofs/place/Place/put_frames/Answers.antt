@@ -1,10 +1,11 @@
 -- One frame more.
-use Rattle.std.proofs.Common.{◌∙◌, ap, ap₂, ℕ, pos, ◌<◌, ◌++◌, ◌∷◌, [], List, length, slice_index_or, arith}
+use Rattle.std.proofs.Common.{◌∙◌, ap, ap₂, subst, ℕ, pos, ◌<◌, ◌++◌, ◌∷◌, [], List, length, slice_index_or, arith}
 use Rattle.wrp_base.specs.declared.message.Body.TheVariants.{Sync}
 use Rattle.wrp_base.specs.declared.message.PtpMsg.{PtpMsg}
 use Rattle.wrp_node.specs.declared.interface.Output.{Output}
 use Rattle.wrp_node.specs.NodeRun.{frame_out}
-use Rattle.wrp_node.proofs.Lists.{pushed_more}
+use Rattle.wrp_node.specs.Spelled.{IsSpelled}
+use Rattle.wrp_node.proofs.Lists.{all_more, pushed_more}
 use Rattle.wrp_node.proofs.place.Place.put_frames.Goals as goal
 
 -- the message that stands in an unused place
@@ -21,7 +22,10 @@ loop-message-preserved c =
     let below : i < length c.args.self.now.sends.items = omega (arith, ap length c.as_slice-message-items.ensures.value) in (
       c.push.ensures.items
           ∙ ap₂ (λ (a : List Output) (x : Output). a ++ (x ∷ [])) c.loop-message.invariant.0
-          (c.frame.ensures ∙ ap (λ (xs : List PtpMsg). frame_out number (slice_index_or xs i nothing)) c.as_slice-message-items.ensures.value)
+          (c.frame.ensures.value ∙ ap (λ (xs : List PtpMsg). frame_out number (slice_index_or xs i nothing)) c.as_slice-message-items.ensures.value)
           ∙ pushed_more (frame_out number) c.args.self.now.sends.items i nothing c.args.outs.now.items below,
       omega (arith, ap length c.push.ensures.items, c.push.ensures.len, c.loop-message.invariant.1),
+      all_more IsSpelled c.args.self.now.sends.items i nothing below
+          (subst (λ (xs : List PtpMsg). IsSpelled (slice_index_or xs i nothing)) c.as_slice-message-items.ensures.value c.frame.ensures.spelled)
+          c.loop-message.invariant.2,
     )

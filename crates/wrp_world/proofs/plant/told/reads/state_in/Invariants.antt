@@ -1,6 +1,6 @@
 -- None so far is the port.
 use Rattle.std.proofs.Common.{◌≡◌, drop}
-use Rattle.wrp_world.specs.PlantTold.{state_in}
+use Rattle.wrp_node.specs.States.{state_in}
 use Rattle.wrp_world.proofs.plant.told.reads.state_in.Given as goal
 
 abbrev pub invariant-loop-it : goal.invariant-loop-it

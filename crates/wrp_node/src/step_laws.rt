@@ -1,0 +1,23 @@
+//! Laws of each step: functions that do nothing, whose contracts are the laws.
+ghost use Rattle.wrp_node.specs.StepLaws.{CommandsAreHeld, OnlyFramesSay, SendsAreFew, TicksAreCounted};
+
+/// What is noted beside an input that is no frame, as said by octets or as answered by the law, is of
+/// no account.
+pub fn only_frames_say()
+    ensures { OnlyFramesSay }
+{}
+
+/// A step of the clock is commanded by a frame alone, and by at most `2^62` periods.
+pub fn commands_are_held()
+    ensures { CommandsAreHeld }
+{}
+
+/// A port sends at most four messages at a step.
+pub fn sends_are_few()
+    ensures { SendsAreFew }
+{}
+
+/// A tick counts one, a reset counts anew, and no other input changes the count.
+pub fn ticks_are_counted()
+    ensures { TicksAreCounted }
+{}
