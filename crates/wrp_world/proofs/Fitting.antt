@@ -62,8 +62,8 @@ span_more e x h = record {
   slave = end_more e x.slave h.slave;
 }
 
-frame_more : (links e : ℕ) (x : Departed) → FitsDeparted links e x → FitsDeparted links (e + 1) x
-frame_more links e x h = record { link = h.link; sent = time_more e x.sent h.sent; due = due_more e x.due h.due }
+pub frame_more : (links e : ℕ) (x : Departed) → FitsDeparted links e x → FitsDeparted links (e + 1) x
+frame_more links e x h = record { link = h.link; sent = time_more e x.sent h.sent; due = due_more e x.due h.due; raw = h.raw }
 
 -- All parts
 
@@ -166,7 +166,7 @@ drop_fits e x y r h = record {
 
 lost_fits : (links e : ℕ) (b : Bool) (x y : Departed) → y ≡ lost b x → FitsDeparted links e x → FitsDeparted links (e + 1) y
 lost_fits links e b x y r h =
-    subst (FitsDeparted links (e + 1)) (sym r) (record { link = h.link; sent = time_more e x.sent h.sent; due = due_more e x.due h.due })
+    subst (FitsDeparted links (e + 1)) (sym r) (record { link = h.link; sent = time_more e x.sent h.sent; due = due_more e x.due h.due; raw = h.raw })
 
 -- Each event
 

@@ -1,5 +1,5 @@
 -- All of a world but its nodes, as the code keeps it, and the state that it stands for (this project's profile).
-use Rattle.std.specs.Prelude.{◌≡◌, ◌<◌, ◌≤◌, ◌+◌, ◌^◌, ◌+ℤ◌, ℕ, zero, suc, ℤ, pos, Bool, true, false, if◌then◌else◌, List, [], ◌∷◌, length, reverse, Option, None, Some, slice_get}
+use Rattle.std.specs.Prelude.{◌≡◌, ◌<◌, ◌≤◌, ◌+◌, ◌^◌, ◌+ℤ◌, ℕ, zero, suc, ℤ, pos, Bool, true, false, if◌then◌else◌, List, [], ◌∷◌, length, reverse, Option, None, Some, IfSome, slice_get}
 use Rattle.std.specs.Int.Signed.{lt_z}
 use Rattle.std.specs.List.{AllZip}
 use Rattle.std.specs.Option.{is_some}
@@ -15,6 +15,7 @@ use Rattle.wrp_world.specs.declared.ends.Span.{Span}
 use Rattle.wrp_world.specs.declared.frames.Departed.{Departed}
 use Rattle.wrp_world.specs.declared.frames.Reception.{Reception}
 use Rattle.wrp_world.specs.declared.plant.Plant.{Plant}
+use Rattle.wrp_world.specs.EventAt.{IsRaw}
 use Rattle.wrp_world.specs.Setting.{Setting}
 use Rattle.wrp_world.specs.Sizes.{IsTimeBy, IsOffBy, IsDelayBy, IsDueBy}
 use Rattle.wrp_world.specs.WorldAt.{WorldAt, EndAt, FrameAt, Arrival, Sending}
@@ -117,6 +118,7 @@ pub record FitsDeparted (links events : ℕ) (d : Departed) : Type 0 where
   pub link : d.link < links
   pub sent : IsTimeBy events d.sent
   pub due : IsDueBy events d.due
+  pub raw : IfSome d.arrival (λ reception. IsRaw reception.raw)
 
 -- an accepted network, a clock for each node, a state for each link, and numbers in their ranges
 pub record FitsPlant (plant : Plant) : Type 0 where
