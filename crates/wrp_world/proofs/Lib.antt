@@ -6,6 +6,7 @@ pub mod Inside
 pub mod JoinedLinks
 pub mod Moving
 pub mod NewPlants
+pub mod NewWorlds
 pub mod NextArrivals
 pub mod NextDue
 mod Rows
@@ -14,6 +15,7 @@ pub mod Sizing
 mod Bounds
 pub mod Standing
 mod Still
+pub mod TakenLaws
 pub mod Told
 pub mod Turned
 mod Unbroken

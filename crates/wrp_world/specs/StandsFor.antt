@@ -1,6 +1,6 @@
 -- The state that a world stands for: each part of it is what the definition says, and each node stands for its inputs
 -- (this project's profile).
-use Rattle.std.specs.Prelude.{◌≡◌, ℕ, ℤ, Bool, List, length}
+use Rattle.std.specs.Prelude.{◌≡◌, ◌≤◌, ℕ, ℤ, Bool, List, length}
 use Rattle.wrp_base.specs.declared.link.Mark.{Mark}
 use Rattle.wrp_base.specs.Network.{node_count}
 use Rattle.wrp_node.specs.Node.{IsValid as NodeIsValid}
@@ -34,6 +34,8 @@ pub record IsValid {F : Type 0} (pre : F → ℤ → Type 0) (post : F → ℤ �
   pub plant : FitsPlant world.plant
   pub node_count : length world.nodes ≡ node_count world.plant.net.cfg
   pub nodes : Each (λ n. NodeIsValid pre post) world.nodes
+  -- a node ticks by events alone
+  pub ticks : Each (λ n (node : NodeOf F). node.parts.ticks ≤ world.plant.events) world.nodes
   pub setting : Setting
   pub state : WorldAt
   pub stands : StandsFor post setting state world

@@ -1,4 +1,5 @@
 //! The world itself: its calls.
+mod new;
 mod views;
 
 use crate::plant::Plant;

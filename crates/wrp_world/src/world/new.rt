@@ -1,0 +1,81 @@
+//! A world before any event.
+ghost use Rattle.std.specs.Prelude.{◌≡◌, ◌<◌, [], IfOk, length};
+ghost use Rattle.wrp_base.specs.Network.{node_count};
+ghost use Rattle.wrp_config.specs.Accepted.{IsAccepted};
+ghost use Rattle.wrp_node.specs.New.{fixed_of};
+ghost use Rattle.wrp_node.specs.Node.{IsValid as NodeIsValid};
+ghost use Rattle.wrp_node.specs.Set.{set_of};
+ghost use Rattle.wrp_node.specs.StandsFor.{StandsFor as NodeStandsFor};
+ghost use Rattle.wrp_world.specs.New.{FitsLaw, IsNewNode, setting_of};
+ghost use Rattle.wrp_world.specs.Plant.{Each};
+ghost use Rattle.wrp_world.specs.StandsFor.{IsValid, StandsFor};
+ghost use Rattle.wrp_world.specs.WorldAt.{new_world};
+
+use super::World;
+use crate::plant::Plant;
+use std::alloc::{AllocError, Global};
+use wrp_config::Network;
+use wrp_law::DelayLaw;
+use wrp_node::{Node, node_set};
+
+impl<F: Fn(i64) -> i64> World<F> {
+    /// All nodes are down, all links are cut, and true time is the epoch. `laws` has a place for each
+    /// node, in file order: `None` exactly for the grandmaster, and for each other node a law of the
+    /// kind of the link above it, whose error is at most that link's.
+    pub fn new(
+        alloc: Global,
+        net: Network,
+        laws: Vec<Option<DelayLaw<F>>>,
+    ) -> Result<World<F>, AllocError>
+        requires net { IsAccepted net.cfg net.db }
+        requires count { length laws.items ≡ node_count net.cfg }
+        requires laws { Each (FitsLaw F.pre F.post net.cfg) laws.items }
+        ensures stands { IfOk result (StandsFor F.post (setting_of net.cfg net.db laws.items)
+            (new_world (setting_of net.cfg net.db laws.items))) }
+        ensures valid { IfOk result (IsValid F.pre F.post) }
+        ensures net { IfOk result (λ world. world.plant.net ≡ net) }
+    {
+        let nodes = new_nodes(alloc, &net, laws)?;
+        let plant = Plant::new(alloc, net)?;
+        Ok(World { plant, nodes })
+    }
+}
+
+// The nodes.
+fn new_nodes<F: Fn(i64) -> i64>(
+    alloc: Global,
+    net: &Network,
+    laws: Vec<Option<DelayLaw<F>>>,
+) -> Result<Vec<Node<F>>, AllocError>
+    requires net { IsAccepted net.now.cfg net.now.db }
+    requires count { length laws.items ≡ node_count net.now.cfg }
+    requires laws { Each (FitsLaw F.pre F.post net.now.cfg) laws.items }
+    ensures count { IfOk result (λ nodes. length nodes.items ≡ node_count net.now.cfg) }
+    ensures each { IfOk result (λ nodes. Each (IsNewNode F.pre F.post net.now.cfg laws.items) nodes.items) }
+{
+    let count = net.cfg.nodes.len();
+    let mut nodes = Vec::with_capacity(alloc, count)?;
+    let mut n: u8 = 0;
+    for law in laws {
+        nodes.push(new_node(alloc, net, n, law)?)?;
+        n += 1;
+    }
+    Ok(nodes)
+}
+
+// A node with its law.
+fn new_node<F: Fn(i64) -> i64>(
+    alloc: Global,
+    net: &Network,
+    n: u8,
+    law: Option<DelayLaw<F>>,
+) -> Result<Node<F>, AllocError>
+    requires net { IsAccepted net.now.cfg net.now.db }
+    requires node { n < node_count net.now.cfg }
+    requires law { FitsLaw F.pre F.post net.now.cfg n law }
+    ensures stands { IfOk result (λ node. NodeStandsFor F.post (fixed_of (set_of net.now.cfg n) law) node []) }
+    ensures valid { IfOk result (NodeIsValid F.pre F.post) }
+{
+    let set = node_set(&net.cfg, n);
+    Node::new(alloc, set, law)
+}
