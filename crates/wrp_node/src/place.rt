@@ -15,7 +15,7 @@ use arrayvec::ArrayVec;
 use wrp_base::{Four, LinkWord, PtpMsg};
 use wrp_data::Counters;
 use wrp_frame::encode;
-use wrp_port::{Port, PortIn};
+use wrp_port::{Port, PortIn, PortOut};
 
 /// A port of a node.
 #[derive(Debug, Drop)]
@@ -32,6 +32,8 @@ pub struct Place {
     pub sends: ArrayVec<PtpMsg, 4>,
     /// The four stamps of a measurement that the newest message made.
     pub measured: Option<Four>,
+    /// What it lends to the port for its answer.
+    pub lent: PortOut,
 }
 
 impl Place {
@@ -49,6 +51,7 @@ impl Place {
             word,
             sends: ArrayVec::new(),
             measured: None,
+            lent: PortOut::new(),
         }
     }
 
@@ -76,22 +79,23 @@ impl Place {
         requires { IsFit input }
         ensures { Gives input self.old self.new }
     {
-        let out = self.port.step(input);
-        if let Some(reason) = out.drop {
+        self.port.step_into(input, &mut self.lent);
+        if let Some(reason) = self.lent.drop {
             self.counters.count(reason);
         }
-        self.keep(out.sends.as_slice());
-        self.measured = out.measured;
+        self.keep();
+        self.measured = self.lent.measured;
     }
 
     // Keeps what is to be sent, if there is something.
-    fn keep(&mut self, sends: &[PtpMsg])
-        requires { length sends.now ≤ 4 }
-        ensures { self.new ≡ record self.old { sends = record { items = newest_sends sends.now self.old.sends.items } } }
+    fn keep(&mut self)
+        ensures { self.new ≡ record self.old {
+          sends = record { items = newest_sends self.old.lent.sends.items self.old.sends.items };
+        } }
     {
-        if !sends.is_empty() {
+        if !self.lent.sends.is_empty() {
             self.sends.clear();
-            let _fits = self.sends.try_extend_from_slice(sends);
+            let _fits = self.sends.try_extend_from_slice(self.lent.sends.as_slice());
         }
     }
 

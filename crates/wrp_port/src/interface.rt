@@ -67,7 +67,7 @@ pub enum PortIn {
     Reset,
 }
 
-/// What a port answers to one input.
+/// What a port answers to one input. It is lent to a port again and again: a new one fills its places.
 #[derive(Debug, Drop, PartialEq, Eq)]
 pub struct PortOut {
     /// The new word: Some exactly where it differs from the one before.
@@ -78,4 +78,23 @@ pub struct PortOut {
     pub drop: Option<u8>,
     /// The four stamps of a new measurement.
     pub measured: Option<Four>,
+}
+
+impl PortOut {
+    ghost use Rattle.std.specs.Prelude.{◌≡◌, [], None};
+
+    /// An answer that has nothing.
+    pub fn new() -> PortOut
+        ensures word { result.word ≡ None }
+        ensures sends { result.sends.items ≡ [] }
+        ensures drop { result.drop ≡ None }
+        ensures measured { result.measured ≡ None }
+    {
+        PortOut {
+            word: None,
+            sends: ArrayVec::new(),
+            drop: None,
+            measured: None,
+        }
+    }
 }

@@ -49,18 +49,17 @@ fn signal(set: &Setting, seq: u16, message: WrMsg) -> PtpMsg
     }
 }
 
-/// White Rabbit messages in their order, from a sequenceId on.
-pub fn signals(set: &Setting, first: u16, messages: &ArrayVec<WrMsg, 2>) -> Sends
-    ensures value { result.items ≡ signals_of set.now first messages.now.items }
-    ensures room { length result.items ≤ 2 }
+/// Sends White Rabbit messages in their order, from a sequenceId on.
+pub fn send_signals(set: &Setting, first: u16, messages: &ArrayVec<WrMsg, 2>, sends: &mut Sends)
+    requires { sends.old.items ≡ [] }
+    ensures value { sends.new.items ≡ signals_of set.now first messages.now.items }
+    ensures room { length sends.new.items ≤ 2 }
 {
-    let mut sends = Sends::new();
     let mut seq = first;
     for message in messages.as_slice() {
         sends.push(signal(set, seq, *message));
         seq = seq.wrapping_add(1);
     }
-    sends
 }
 
 // The wrFlags of the port's suffix; a link without White Rabbit has none.

@@ -15,7 +15,6 @@ ghost use Rattle.wrp_port.specs.Outputs.{sends_of, drop_of, measured_by, changed
 ghost use Rattle.wrp_port.specs.PortAt.{IsFit, StandsFor, deltas_of};
 
 use crate::line::Line;
-use crate::messages::Sends;
 use crate::setting::Setting;
 use crate::{PortIn, PortOut, Sched};
 use std::alloc::{AllocError, Global};
@@ -43,11 +42,9 @@ impl Model for Port {
     ghost invariant = { λ p. IsSetting p.set };
 }
 
-// What a port answers, but for its word.
+// What a port answers, but for its word and what it sends.
 #[derive(Drop)]
 struct Answer {
-    // The messages to send.
-    sends: Sends,
     // The number of the reason for which a message was dropped.
     drop: Option<u8>,
     // A new measurement.
@@ -115,14 +112,38 @@ impl Port {
         ensures times { IfSome result.measured HasTimes }
         ensures reason { IfSome result.drop (λ number. (1 ≤ number) × (number ≤ 15)) }
     {
+        let mut out = PortOut::new();
+        self.step_into(input, &mut out);
+        out
+    }
+
+    /// Takes one input, and fills `out` with what `step` answers. What `out` had before is gone.
+    pub fn step_into(&mut self, input: PortIn, out: &mut PortOut)
+        requires { IsFit input }
+        ensures set { self.new.set ≡ self.old.set }
+        ensures word { out.new.word
+            ≡ changed_word (word_of self.old.line.link) (word_of self.new.line.link) }
+        ensures sends { out.new.sends.items ≡ sends_of self.old.set self.old.line input }
+        ensures drop { (calls : List Call) → ExchangeStandsFor self.old.set.ring self.old.exchange calls →
+            out.new.drop ≡ drop_of self.old.set self.old.line calls input }
+        ensures measured { (calls : List Call) → ExchangeStandsFor self.old.set.ring self.old.exchange calls →
+            out.new.measured ≡ measured_by self.old.set self.old.line calls input }
+
+        // The port stands for the list of its inputs.
+        ensures stands { Adds StandsFor self.old self.new input }
+
+        // A message of another domain, of a stranger, for another port, or in quiet time leaves no
+        // trace.
+        ensures silent { IsTrue (is_dropped_early self.old.set self.old.line input) → self.new ≡ self.old }
+        ensures times { IfSome out.new.measured HasTimes }
+        ensures reason { IfSome out.new.drop (λ number. (1 ≤ number) × (number ≤ 15)) }
+    {
         let before = self.line.link.word();
-        let answer = self.take(input);
-        PortOut {
-            word: change(before, self.line.link.word()),
-            sends: answer.sends,
-            drop: answer.drop,
-            measured: answer.measured,
-        }
+        out.sends.clear();
+        let answer = self.take(input, &mut out.sends);
+        out.word = change(before, self.line.link.word());
+        out.drop = answer.drop;
+        out.measured = answer.measured;
     }
 
     /// Whether the lease of the parent's time is fresh: an Announce without synchronizationUncertain
@@ -184,16 +205,15 @@ impl Port {
 }
 
 impl Answer {
-    ghost use Rattle.std.specs.Prelude.{◌≡◌, ◌≤◌, [], None, Some, IfSome};
+    ghost use Rattle.std.specs.Prelude.{◌≡◌, ◌≤◌, None, Some, IfSome};
     ghost use Rattle.wrp_data.specs.Reason.{number_of};
     ghost use Rattle.wrp_port.specs.Outputs.{number_by, reason_by};
 
-    // These messages are sent, and nothing else.
-    fn sending(sends: Sends) -> Answer
-        ensures { result ≡ record { sends = sends; drop = None; measured = None } }
+    // No message is dropped, and nothing measured.
+    fn none() -> Answer
+        ensures { result ≡ record { drop = None; measured = None } }
     {
         Answer {
-            sends,
             drop: None,
             measured: None,
         }
@@ -201,27 +221,23 @@ impl Answer {
 
     // A message is dropped for this reason.
     fn dropping(reason: Reason) -> Answer
-        ensures sends { result.sends.items ≡ [] }
         ensures drop { result.drop ≡ Some (number_of reason) }
         ensures measured { result.measured ≡ None }
         ensures reason { IfSome result.drop (λ number. (1 ≤ number) × (number ≤ 15)) }
     {
         Answer {
-            sends: Sends::new(),
             drop: Some(reason.number()),
             measured: None,
         }
     }
 
     // A message was of use or not.
-    fn using(used: bool, sends: Sends, measured: Option<Four>) -> Answer
-        ensures sends { result.sends ≡ sends }
+    fn using(used: bool, measured: Option<Four>) -> Answer
         ensures drop { result.drop ≡ number_by (reason_by None used) }
         ensures measured { result.measured ≡ measured }
         ensures reason { IfSome result.drop (λ number. (1 ≤ number) × (number ≤ 15)) }
     {
         Answer {
-            sends,
             drop: if used {
                 None
             } else {

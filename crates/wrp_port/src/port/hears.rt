@@ -17,7 +17,7 @@ ghost use Rattle.wrp_port.specs.Wire.{later_by, earlier_by};
 
 use super::{Answer, Port};
 use crate::hearing::{early_reason, is_certain};
-use crate::messages::{Sends, response, signals};
+use crate::messages::{Sends, response, send_signals};
 use crate::wire::{earlier, later};
 use wrp_base::{Body, Four, Head, PtpMsg, Role, Stamp, Ts, WrMsg};
 use wrp_data::Reason;
@@ -25,15 +25,22 @@ use wrp_link::LinkIn;
 
 impl Port {
     // Takes a message: the first reason to drop it, or what the port makes of it.
-    pub(super) fn hear(&mut self, message: &PtpMsg, stamp: Stamp, tick: u32) -> Answer
+    pub(super) fn hear(
+        &mut self,
+        message: &PtpMsg,
+        stamp: Stamp,
+        tick: u32,
+        sends: &mut Sends,
+    ) -> Answer
         requires sound { IsSound message.now }
         requires stamp { IsStamp stamp }
+        requires sends { sends.old.items ≡ [] }
         ensures set { self.new.set ≡ self.old.set }
         ensures line { self.new.line ≡ after self.old.set self.old.line (PortIn.Msg message.now stamp tick) }
         ensures exchange { (calls : List Call) → ExchangeStandsFor self.old.set.ring self.old.exchange calls →
             ExchangeStandsFor self.old.set.ring self.new.exchange
             (calls_after self.old.set self.old.line (PortIn.Msg message.now stamp tick) calls) }
-        ensures sends { result.sends.items
+        ensures sends { sends.new.items
             ≡ sends_of self.old.set self.old.line (PortIn.Msg message.now stamp tick) }
         ensures drop { (calls : List Call) → ExchangeStandsFor self.old.set.ring self.old.exchange calls →
             result.drop
@@ -48,20 +55,27 @@ impl Port {
     {
         match early_reason(&self.set, &self.line.link, message) {
             Some(reason) => Answer::dropping(reason),
-            None => self.take_message(message, stamp, tick),
+            None => self.take_message(message, stamp, tick, sends),
         }
     }
 
     // Takes a message that is not dropped whatever its kind.
-    fn take_message(&mut self, message: &PtpMsg, stamp: Stamp, tick: u32) -> Answer
+    fn take_message(
+        &mut self,
+        message: &PtpMsg,
+        stamp: Stamp,
+        tick: u32,
+        sends: &mut Sends,
+    ) -> Answer
         requires sound { IsSound message.now }
         requires stamp { IsStamp stamp }
+        requires sends { sends.old.items ≡ [] }
         ensures set { self.new.set ≡ self.old.set }
         ensures line { self.new.line ≡ heard self.old.set self.old.line message.now }
         ensures exchange { (calls : List Call) → ExchangeStandsFor self.old.set.ring self.old.exchange calls →
             ExchangeStandsFor self.old.set.ring self.new.exchange (with_call
             (piece_of self.old.set.ds.role message.now.head message.now.body stamp tick) calls) }
-        ensures sends { result.sends.items ≡ heard_sends self.old.set self.old.line message.now stamp }
+        ensures sends { sends.new.items ≡ heard_sends self.old.set self.old.line message.now stamp }
         ensures drop { (calls : List Call) → ExchangeStandsFor self.old.set.ring self.old.exchange calls →
             result.drop
             ≡ number_by (reason_by None (is_of_use self.old.set.ds.role message.now.body
@@ -77,19 +91,20 @@ impl Port {
     {
         let head = &message.head;
         match (self.set.ds.role, message.body) {
-            (Role::Slave, Body::Announce { suffix, .. }) => self.announce(head, suffix),
+            (Role::Slave, Body::Announce { suffix, .. }) => self.announce(head, suffix, sends),
             (Role::Slave, Body::Sync { .. }) => self.sync(head, stamp, tick),
             (Role::Slave, Body::FollowUp { precise }) => self.follow_up(head, precise),
             (Role::Slave, Body::DelayResp { receive, .. }) => self.delay_resp(head, receive),
-            (Role::Master, Body::DelayReq { .. }) => self.delay_req(head, stamp),
-            (_, Body::Signal { wr: Some(wr), .. }) => self.signal(wr),
+            (Role::Master, Body::DelayReq { .. }) => self.delay_req(head, stamp, sends),
+            (_, Body::Signal { wr: Some(wr), .. }) => self.signal(wr, sends),
             _ => Answer::dropping(Reason::Unmatched),
         }
     }
 
     // An Announce at a slave: it is told to the link, and renews the lease where the parent's time is
     // certain.
-    fn announce(&mut self, head: &Head, suffix: Option<u16>) -> Answer
+    fn announce(&mut self, head: &Head, suffix: Option<u16>, sends: &mut Sends) -> Answer
+        requires { sends.old.items ≡ [] }
         ensures port { self.new
             ≡ record self.old {
               line =
@@ -98,7 +113,7 @@ impl Port {
                         else self.old.line.lease;
                   };
             } }
-        ensures sends { result.sends.items
+        ensures sends { sends.new.items
             ≡ signals_of self.old.set self.old.line.ids.signal
             (link_sends_of self.old.line.link (link.Announce suffix)) }
         ensures drop { result.drop ≡ None }
@@ -109,13 +124,15 @@ impl Port {
         if is_certain(head) {
             self.line.lease = self.set.sched.lease;
         }
-        Answer::sending(signals(&self.set, first, &out.sends))
+        send_signals(&self.set, first, &out.sends, sends);
+        Answer::none()
     }
 
     // A White Rabbit message: the link uses it or not.
-    fn signal(&mut self, message: WrMsg) -> Answer
+    fn signal(&mut self, message: WrMsg, sends: &mut Sends) -> Answer
+        requires { sends.old.items ≡ [] }
         ensures port { self.new ≡ record self.old { line = told self.old.line (link.Msg message) } }
-        ensures sends { result.sends.items
+        ensures sends { sends.new.items
             ≡ signals_of self.old.set self.old.line.ids.signal
             (link_sends_of self.old.line.link (link.Msg message)) }
         ensures drop { result.drop
@@ -125,19 +142,20 @@ impl Port {
     {
         let first = self.line.ids.signal;
         let out = self.line.tell(LinkIn::Msg(message));
-        Answer::using(out.used, signals(&self.set, first, &out.sends), None)
+        send_signals(&self.set, first, &out.sends, sends);
+        Answer::using(out.used, None)
     }
 
     // A Delay_Req at a master is answered at once.
-    fn delay_req(&self, head: &Head, stamp: Stamp) -> Answer
-        requires { IsStamp stamp }
-        ensures sends { result.sends.items ≡ response_of self.now.set head.now stamp ∷ [] }
+    fn delay_req(&self, head: &Head, stamp: Stamp, sends: &mut Sends) -> Answer
+        requires stamp { IsStamp stamp }
+        requires sends { sends.old.items ≡ [] }
+        ensures sends { sends.new.items ≡ response_of self.now.set head.now stamp ∷ [] }
         ensures drop { result.drop ≡ None }
         ensures measured { result.measured ≡ None }
     {
-        let mut sends = Sends::new();
         sends.push(response(&self.set, head, stamp));
-        Answer::sending(sends)
+        Answer::none()
     }
 
     // A Sync at a slave: its exchange keeps it or not.
@@ -148,7 +166,6 @@ impl Port {
         ensures exchange { (calls : List Call) → ExchangeStandsFor self.old.set.ring self.old.exchange calls →
             ExchangeStandsFor self.old.set.ring self.new.exchange
             (CallSync head.now.seq head.now.correction stamp tick ∷ calls) }
-        ensures sends { result.sends.items ≡ [] }
         ensures drop { (calls : List Call) → ExchangeStandsFor self.old.set.ring self.old.exchange calls →
             result.drop
             ≡ number_by (reason_by None (is_some
@@ -157,7 +174,7 @@ impl Port {
         ensures reason { IfSome result.drop (λ number. (1 ≤ number) × (number ≤ 15)) }
     {
         let kept = self.exchange.sync(head.seq, head.correction, stamp, tick);
-        Answer::using(kept, Sends::new(), None)
+        Answer::using(kept, None)
     }
 
     // A Follow_Up at a slave: where it makes a pair and both pairs stand, there is a measurement.
@@ -168,7 +185,6 @@ impl Port {
         ensures exchange { (calls : List Call) → ExchangeStandsFor self.old.set.ring self.old.exchange calls →
             ExchangeStandsFor self.old.set.ring self.new.exchange
             (CallFollowUp head.now.seq (later_by precise head.now.correction) ∷ calls) }
-        ensures sends { result.sends.items ≡ [] }
         ensures drop { (calls : List Call) → ExchangeStandsFor self.old.set.ring self.old.exchange calls →
             result.drop
             ≡ number_by (reason_by None (is_some (followed_pair self.old.set.ring calls
@@ -184,7 +200,7 @@ impl Port {
             .exchange
             .follow_up(head.seq, later(precise, head.correction));
         let measured = self.four_where(made);
-        Answer::using(made, Sends::new(), measured)
+        Answer::using(made, measured)
     }
 
     // A Delay_Resp at a slave: the same.
@@ -195,7 +211,6 @@ impl Port {
         ensures exchange { (calls : List Call) → ExchangeStandsFor self.old.set.ring self.old.exchange calls →
             ExchangeStandsFor self.old.set.ring self.new.exchange
             (CallResp head.now.seq (earlier_by receive head.now.correction) ∷ calls) }
-        ensures sends { result.sends.items ≡ [] }
         ensures drop { (calls : List Call) → ExchangeStandsFor self.old.set.ring self.old.exchange calls →
             result.drop
             ≡ number_by (reason_by None (is_some (answered_pair self.old.set.ring calls
@@ -211,7 +226,7 @@ impl Port {
             .exchange
             .resp(head.seq, earlier(receive, head.correction));
         let measured = self.four_where(made);
-        Answer::using(made, Sends::new(), measured)
+        Answer::using(made, measured)
     }
 
     // The four stamps of both pairs, where a pair was made.

@@ -11,20 +11,21 @@ use super::{Answer, Port};
 use crate::PortIn;
 use crate::hearing::is_open;
 use crate::line::Line;
-use crate::messages::{Sends, follow_up, signals};
+use crate::messages::{Sends, follow_up, send_signals};
 use wrp_base::{ChainNews, Module, Role, Stamp};
 use wrp_link::LinkIn;
 
 impl Port {
     // Takes an input, of whatever kind.
-    pub(super) fn take(&mut self, input: PortIn) -> Answer
-        requires { IsFit input }
+    pub(super) fn take(&mut self, input: PortIn, sends: &mut Sends) -> Answer
+        requires input { IsFit input }
+        requires sends { sends.old.items ≡ [] }
         ensures set { self.new.set ≡ self.old.set }
         ensures line { self.new.line ≡ after self.old.set self.old.line input }
         ensures exchange { (calls : List Call) → ExchangeStandsFor self.old.set.ring self.old.exchange calls →
             ExchangeStandsFor self.old.set.ring self.new.exchange
             (calls_after self.old.set self.old.line input calls) }
-        ensures sends { result.sends.items ≡ sends_of self.old.set self.old.line input }
+        ensures sends { sends.new.items ≡ sends_of self.old.set self.old.line input }
         ensures drop { (calls : List Call) → ExchangeStandsFor self.old.set.ring self.old.exchange calls →
             result.drop ≡ drop_of self.old.set self.old.line calls input }
         ensures measured { (calls : List Call) → ExchangeStandsFor self.old.set.ring self.old.exchange calls →
@@ -34,18 +35,24 @@ impl Port {
         ensures reason { IfSome result.drop (λ number. (1 ≤ number) × (number ≤ 15)) }
     {
         match input {
-            PortIn::Msg { msg, stamp, tick } => self.hear(&msg, stamp, tick),
+            PortIn::Msg { msg, stamp, tick } => self.hear(&msg, stamp, tick, sends),
             PortIn::Lease => {
                 self.lease_turn();
-                Answer::sending(Sends::new())
+                Answer::none()
             }
-            PortIn::Tick { locked, certain } => Answer::sending(self.tick(locked, certain)),
+            PortIn::Tick { locked, certain } => {
+                self.tick(locked, certain, sends);
+                Answer::none()
+            }
             PortIn::Sent {
                 delay: false,
                 seq,
                 stamp,
                 ..
-            } => Answer::sending(self.sync_sent(seq, stamp)),
+            } => {
+                self.sync_sent(seq, stamp, sends);
+                Answer::none()
+            }
             PortIn::Sent {
                 delay: true,
                 seq,
@@ -53,27 +60,27 @@ impl Port {
                 tick,
             } => {
                 self.request_sent(seq, stamp, tick);
-                Answer::sending(Sends::new())
+                Answer::none()
             }
             PortIn::Carrier { up: true, module } => {
                 self.carrier_comes(module);
-                Answer::sending(Sends::new())
+                Answer::none()
             }
             PortIn::Carrier { up: false, .. } => {
                 self.carrier_goes();
-                Answer::sending(Sends::new())
+                Answer::none()
             }
             PortIn::Sample { n, u } => {
                 self.sample(n, u);
-                Answer::sending(Sends::new())
+                Answer::none()
             }
             PortIn::Chain(news) => {
                 self.chain(news);
-                Answer::sending(Sends::new())
+                Answer::none()
             }
             PortIn::Reset => {
                 self.reset();
-                Answer::sending(Sends::new())
+                Answer::none()
             }
         }
     }
@@ -86,20 +93,20 @@ impl Port {
     }
 
     // A tick: first the link, then what is due. A Delay_Req that is sent is told to the exchange.
-    fn tick(&mut self, locked: bool, certain: bool) -> Sends
+    fn tick(&mut self, locked: bool, certain: bool, sends: &mut Sends)
+        requires { sends.old.items ≡ [] }
         ensures set { self.new.set ≡ self.old.set }
         ensures line { self.new.line ≡ after self.old.set self.old.line (PortIn.Tick locked certain) }
         ensures exchange { (calls : List Call) → ExchangeStandsFor self.old.set.ring self.old.exchange calls →
             ExchangeStandsFor self.old.set.ring self.new.exchange
             (calls_after self.old.set self.old.line (PortIn.Tick locked certain) calls) }
-        ensures sends { result.items ≡ sends_of self.old.set self.old.line (PortIn.Tick locked certain) }
+        ensures sends { sends.new.items ≡ sends_of self.old.set self.old.line (PortIn.Tick locked certain) }
     {
         let first = self.line.ids.signal;
         let out = self.line.tick(&self.set, locked);
         self.note_request();
-        let mut sends = signals(&self.set, first, &out.sends);
-        self.line.schedule(&self.set, certain, &mut sends);
-        sends
+        send_signals(&self.set, first, &out.sends, sends);
+        self.line.schedule(&self.set, certain, sends);
     }
 
     // Tells the exchange of a slave the Delay_Req that is due.
@@ -117,15 +124,14 @@ impl Port {
     }
 
     // The sending of a Sync is told: the newest one's gives its Follow_Up while the port is open.
-    fn sync_sent(&self, seq: u16, stamp: Stamp) -> Sends
-        requires { IsStamp stamp }
-        ensures { result.items ≡ follow_ups self.now.set self.now.line seq stamp }
+    fn sync_sent(&self, seq: u16, stamp: Stamp, sends: &mut Sends)
+        requires stamp { IsStamp stamp }
+        requires sends { sends.old.items ≡ [] }
+        ensures { sends.new.items ≡ follow_ups self.now.set self.now.line seq stamp }
     {
-        let mut sends = Sends::new();
         if self.is_newest(seq) && is_open(&self.line.link) {
             sends.push(follow_up(&self.set, seq, stamp));
         }
-        sends
     }
 
     // Whether a sequenceId is that of the newest Sync.

@@ -1,6 +1,6 @@
 -- The input goes in front of those before.
 use Rattle.wrp_port.proofs.LineLaws.{Adds-after}
-use Rattle.wrp_port.proofs.port.Port.step.Goals as goal
+use Rattle.wrp_port.proofs.port.Port.step_into.Goals as goal
 
 pub returns-clause-stands : goal.returns-clause-stands
 returns-clause-stands c =

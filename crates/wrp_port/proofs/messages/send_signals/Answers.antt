@@ -4,10 +4,10 @@ use Rattle.std.proofs.lemmas.List.{length-append}
 use Rattle.wrp_base.specs.declared.message.WrMsg.TheVariants.{Present}
 use Rattle.wrp_port.specs.Messages.{signals_of}
 use Rattle.wrp_port.proofs.Signals.{none_sent, one_sent, all_sent}
-use Rattle.wrp_port.proofs.messages.signals.Goals as goal
+use Rattle.wrp_port.proofs.messages.send_signals.Goals as goal
 
 pub loop-message-init : goal.loop-message-init
-loop-message-init c = (none_sent c.args.set.now c.args.first c.args.messages.now.items c.new-sends.result.items c.new-sends.ensures, ap length c.new-sends.ensures)
+loop-message-init c = (none_sent c.args.set.now c.args.first c.args.messages.now.items c.args.sends.now.items c.requires, ap length c.requires)
 
 pub push-requires : goal.push-requires
 push-requires c = (lit< tt, omega arith)
