@@ -1,6 +1,7 @@
 pub mod Checks
 pub mod EventAt
 pub mod Flights
+pub mod Gifts
 pub mod Given
 pub mod Laws
 pub mod Moved
