@@ -25,3 +25,7 @@ pub mod Roomy
 pub mod RoomKept
 pub mod Arriving
 pub mod Departing
+pub mod NodeSteps
+pub mod NodesTake
+pub mod AllTake
+pub mod Movers

@@ -1,5 +1,6 @@
 pub mod Checks
 pub mod EventAt
+pub mod FitsGifts
 pub mod Flights
 pub mod Gifts
 pub mod Given
@@ -17,5 +18,6 @@ pub mod Setting
 pub mod Sizes
 pub mod StandsFor
 pub mod Step
+pub mod Taking
 pub mod Views
 pub mod WorldAt

@@ -1,4 +1,5 @@
 //! The world itself: its calls.
+mod give;
 mod new;
 mod views;
 
