@@ -1,3 +1,4 @@
+pub mod Changes
 pub mod Checks
 pub mod EventAt
 pub mod Flights
