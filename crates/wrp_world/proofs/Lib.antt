@@ -29,3 +29,14 @@ pub mod NodeSteps
 pub mod NodesTake
 pub mod AllTake
 pub mod Movers
+pub mod RunLinks
+pub mod RunPorts
+pub mod RunGiven
+pub mod RunCarriers
+pub mod RunFrames
+pub mod RunMoves
+pub mod RunNetwork
+pub mod RunEvents
+pub mod RunTimes
+pub mod RunFlights
+pub mod RunTicks

@@ -1,3 +1,4 @@
+pub mod Changes
 pub mod Checks
 pub mod EventAt
 pub mod FitsGifts
@@ -14,6 +15,9 @@ pub mod Premises
 pub mod Room
 pub mod Rows
 pub mod Run
+pub mod RunLaws
+pub mod Runs
+pub mod SameHandshake
 pub mod Setting
 pub mod Sizes
 pub mod StandsFor
