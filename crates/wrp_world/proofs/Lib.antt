@@ -18,10 +18,17 @@ mod Still
 pub mod TakenLaws
 pub mod Told
 pub mod Turned
-mod Unbroken
+pub mod Unbroken
 pub mod TellingEnds
 pub mod TellingPlants
 pub mod Roomy
 pub mod RoomKept
 pub mod Arriving
 pub mod Departing
+pub mod Counting
+pub mod TriedFibres
+pub mod TriedModules
+pub mod TriedFrames
+pub mod TriedOctets
+pub mod TriedRates
+pub mod Breaches

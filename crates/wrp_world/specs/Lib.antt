@@ -17,5 +17,6 @@ pub mod Setting
 pub mod Sizes
 pub mod StandsFor
 pub mod Step
+pub mod Tried
 pub mod Views
 pub mod WorldAt

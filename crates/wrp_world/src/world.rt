@@ -1,5 +1,7 @@
 //! The world itself: its calls.
+mod broken;
 mod new;
+mod rates;
 mod views;
 
 use crate::plant::Plant;

@@ -1,4 +1,10 @@
 //! Which premise an event breaks, as far as no node is asked.
+mod fibres;
+mod frames;
+mod modules;
+mod octets;
+mod passing;
+
 ghost use Rattle.std.specs.Prelude.{◌≡◌, ◌==◌, ◌&&◌, ◌<◌, ◌≤◌, ◌^◌, ◌-ℤ◌, length, unsigned_abs, [], ◌∷◌, Some, IfSome};
 ghost use Rattle.std.specs.List.{position};
 ghost use Rattle.wrp_base.specs.Clock.{steps_of_period};

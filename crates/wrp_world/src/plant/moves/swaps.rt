@@ -16,8 +16,8 @@ fn copied(name: &Name) -> Name
     copy
 }
 
-// The module that is put in place at a port, if one is.
-fn swap_for(swaps: &[Swap], port: u16) -> Option<&Swap>
+/// The module that is put in place at a port, if one is.
+pub fn swap_for(swaps: &[Swap], port: u16) -> Option<&Swap>
     ensures { option_map (λ swap. swap.now) result ≡ swap_at port swaps.now }
 {
     for swap in swaps {
