@@ -25,3 +25,14 @@ pub mod Roomy
 pub mod RoomKept
 pub mod Arriving
 pub mod Departing
+pub mod RunLinks
+pub mod RunPorts
+pub mod RunGiven
+pub mod RunCarriers
+pub mod RunFrames
+pub mod RunMoves
+pub mod RunNetwork
+pub mod RunEvents
+pub mod RunTimes
+pub mod RunFlights
+pub mod RunTicks
