@@ -32,3 +32,14 @@ pub mod TriedFrames
 pub mod TriedOctets
 pub mod TriedRates
 pub mod Breaches
+pub mod RunLinks
+pub mod RunPorts
+pub mod RunGiven
+pub mod RunCarriers
+pub mod RunFrames
+pub mod RunMoves
+pub mod RunNetwork
+pub mod RunEvents
+pub mod RunTimes
+pub mod RunFlights
+pub mod RunTicks

@@ -1,3 +1,4 @@
+pub mod Changes
 pub mod Checks
 pub mod EventAt
 pub mod Flights
@@ -13,6 +14,9 @@ pub mod Premises
 pub mod Room
 pub mod Rows
 pub mod Run
+pub mod RunLaws
+pub mod Runs
+pub mod SameHandshake
 pub mod Setting
 pub mod Sizes
 pub mod StandsFor
