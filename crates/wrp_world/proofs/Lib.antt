@@ -25,3 +25,9 @@ pub mod Roomy
 pub mod RoomKept
 pub mod Arriving
 pub mod Departing
+pub mod PortNumbers
+pub mod Listing
+pub mod Carriers
+pub mod Carried
+pub mod FrameGifts
+pub mod GiftsFit

@@ -1,8 +1,10 @@
 pub mod Checks
 pub mod EventAt
+pub mod FitsGifts
 pub mod Flights
 pub mod Gifts
 pub mod Given
+pub mod Giving
 pub mod Laws
 pub mod Moved
 pub mod Moves
