@@ -43,3 +43,9 @@ pub mod RunEvents
 pub mod RunTimes
 pub mod RunFlights
 pub mod RunTicks
+pub mod PortNumbers
+pub mod Listing
+pub mod Carriers
+pub mod Carried
+pub mod FrameGifts
+pub mod GiftsFit

@@ -1,9 +1,11 @@
 pub mod Changes
 pub mod Checks
 pub mod EventAt
+pub mod FitsGifts
 pub mod Flights
 pub mod Gifts
 pub mod Given
+pub mod Giving
 pub mod Laws
 pub mod Moved
 pub mod Moves

@@ -30,8 +30,8 @@ fn both(a: bool, b: bool) -> bool
 }
 
 impl Plant {
-    // Whether both nodes of a link are up.
-    fn ends_are_up(&self, k: u8) -> bool
+    /// Whether both nodes of a link are up.
+    pub fn ends_are_up(&self, k: u8) -> bool
         requires fits { FitsPlant self.now }
         requires link { k < length self.now.net.cfg.links.items }
         ensures { (s : Setting) (w : WorldAt) → PlantIs s w self.now
