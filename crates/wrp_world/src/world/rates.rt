@@ -114,7 +114,7 @@ impl<F: Fn(i64) -> i64> World<F> {
     }
 
     /// A time that passes, in which clocks and fibres move so.
-    pub fn pass_broken(
+    pub(super) fn pass_broken(
         &self,
         dt: i64,
         drifts: &ArrayVec<i64, 64>,
