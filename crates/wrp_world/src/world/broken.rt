@@ -8,8 +8,8 @@ use crate::checks::Breach;
 use crate::event::Event;
 
 impl<F: Fn(i64) -> i64> World<F> {
-    /// The first comparison that fails of the least premise that an event breaks. `None` exactly where it
-    /// keeps all premises.
+    /// The first comparison that fails of the least premise that an event breaks. `None` exactly
+    /// where it keeps all premises.
     pub(crate) fn broken(&self, event: &Event) -> Option<Breach>
         requires valid { IsValid F.pre F.post self.now }
         requires event { MayCome self.now event.now }
