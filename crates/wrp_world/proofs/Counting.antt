@@ -1,5 +1,5 @@
 -- What is told of numbers, one after another, and of a list as of its places.
-use Rattle.std.proofs.Common.{◌≡◌, ◌∙◌, refl, ap, ap₂, sym, ℕ, zero, suc, ◌+◌, ◌-◌, ◌<◌, ◌≤◌, List, [], ◌∷◌, ◌++◌, map, flat_map, length, Option, None, Some, slice_get, arith}
+use Rattle.std.proofs.Common.{◌≡◌, ◌∙◌, refl, ap, ap₂, sym, ℕ, suc, ◌+◌, ◌-◌, ◌<◌, ◌≤◌, List, [], ◌∷◌, ◌++◌, map, flat_map, length, Option, None, Some, slice_get, arith}
 use Rattle.std.specs.Option.{option_or}
 use Rattle.wrp_world.specs.Checks.{Check, told_of}
 use Rattle.wrp_world.specs.declared.checks.Breach.{Breach}

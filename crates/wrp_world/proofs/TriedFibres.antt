@@ -1,5 +1,5 @@
 -- What is told of the delays that a link would have after an event.
-use Rattle.std.proofs.Common.{◌≡◌, ◌∙◌, refl, ap, ap₂, sym, subst, ℕ, ◌+◌, ◌*◌, ◌^◌, ◌<◌, ◌≤◌, ◌==◌, ℤ, pos, ◌+ℤ◌, unsigned_abs, Bool, true, false, if◌then◌else◌, List, [], map, Option, None, Some, option_map, arith}
+use Rattle.std.proofs.Common.{◌≡◌, ◌∙◌, refl, ap, ap₂, sym, subst, ℕ, ◌^◌, ◌<◌, ◌≤◌, ◌==◌, ℤ, pos, ◌+ℤ◌, unsigned_abs, Bool, true, false, if◌then◌else◌, List, [], map, Option, None, Some, option_map, arith}
 use Rattle.std.proofs.lemmas.Bool.{eq-eqb}
 use Rattle.std.specs.Option.{option_map_or}
 use Rattle.arrayvec.specs.ArrayVec.{ArrayVec}
@@ -18,8 +18,8 @@ use Rattle.wrp_world.specs.Moved.{moved, swap_at, with_swap}
 use Rattle.wrp_world.specs.Plant.{EndIs, SpanIs}
 use Rattle.wrp_world.specs.Premises.{fibre_by, fibre_checks, fibre_kept}
 use Rattle.wrp_world.specs.Setting.{Setting, end_of, is_of, link_of}
-use Rattle.wrp_world.specs.Sizes.{IsDelay, IsDelayBy}
-use Rattle.wrp_world.specs.Tried.{EndHas, LinkHas, delays_after, delays_in, moved_fibre, with_module}
+use Rattle.wrp_world.specs.Sizes.{IsDelayBy}
+use Rattle.wrp_world.specs.Tried.{EndHas, LinkHas, delays_after, delays_in, moved_fibre}
 use Rattle.wrp_world.specs.WorldAt.{EndAt, WorldAt, delay_from}
 
 -- the way down and the way up

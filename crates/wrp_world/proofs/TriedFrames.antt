@@ -1,5 +1,5 @@
 -- What is told of a frame that departs, and of one that arrives.
-use Rattle.std.proofs.Common.{◌≡◌, ◌∙◌, refl, ap, ap₂, sym, subst, ℕ, zero, suc, ◌<◌, ◌^◌, ℤ, pos, ◌-ℤ◌, Bool, true, false, List, [], ◌∷◌, Option, None, Some, IfSome, option_map, slice_get, arith}
+use Rattle.std.proofs.Common.{◌≡◌, ◌∙◌, refl, ap, ap₂, sym, subst, ℕ, ◌<◌, ◌^◌, ℤ, pos, ◌-ℤ◌, true, false, List, [], ◌∷◌, Option, None, Some, IfSome, option_map, slice_get, arith}
 use Rattle.std.specs.List.{AllZip}
 use Rattle.std.specs.Option.{option_map_or, option_or}
 use Rattle.wrp_base.specs.declared.link.Role.{Role}
@@ -27,7 +27,6 @@ use Rattle.wrp_world.proofs.FoundFrames.{Found, found, missing}
 use Rattle.wrp_world.proofs.NextArrivals.{on_alike}
 use Rattle.wrp_world.proofs.Sizing.{time_size}
 use Rattle.wrp_world.proofs.Standing.{end_told}
-use Rattle.wrp_world.proofs.Told.{told_append}
 use Rattle.wrp_world.proofs.Counting.{told_middle}
 
 -- The oldest that waits

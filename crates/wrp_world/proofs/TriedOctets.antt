@@ -1,5 +1,5 @@
 -- What is told of octets that are handed to a port: the peer that the node's set has there is the port at the other end.
-use Rattle.std.proofs.Common.{◌≡◌, ◌∙◌, refl, ap, ap₂, sym, subst, ℕ, zero, suc, ◌+◌, ◌==◌, ◌&&◌, Bool, true, false, if◌then◌else◌, cond, List, [], ◌∷◌, ◌++◌, flat_map, Option, None, Some, Result, Ok, Err, slice_get, arith}
+use Rattle.std.proofs.Common.{◌≡◌, ◌∙◌, refl, ap, sym, ℕ, suc, ◌+◌, ◌==◌, ◌&&◌, Bool, true, false, if◌then◌else◌, List, [], ◌∷◌, ◌++◌, flat_map, Option, None, Some, Result, Ok, Err, slice_get, arith}
 use Rattle.std.specs.List.{find}
 use Rattle.std.specs.Option.{option_or}
 use Rattle.wrp_base.specs.declared.configuration.NetCfg.{NetCfg}
@@ -15,7 +15,7 @@ use Rattle.wrp_frame.specs.Grammar.{Spells}
 use Rattle.wrp_node.specs.declared.interface.NodeSet.{NodeSet}
 use Rattle.wrp_node.specs.NodeAt.{port_of, port_or_none}
 use Rattle.wrp_node.specs.NodeRun.{Says}
-use Rattle.wrp_node.specs.Set.{master_at, ports_at, ports_of, set_of, slave_at}
+use Rattle.wrp_node.specs.Set.{master_at, ports_at, set_of, slave_at}
 use Rattle.wrp_world.specs.Checks.{told_of, stands}
 use Rattle.wrp_world.specs.declared.checks.Breach.{Breach}
 use Rattle.wrp_world.specs.declared.place.Place.{Place}

@@ -1,17 +1,15 @@
 -- What is told of the rates of clocks, and of a time that passes.
-use Rattle.std.proofs.Common.{◌≡◌, ◌∙◌, refl, ap, ap₂, sym, subst, ℕ, ◌≤◌, ℤ, pos, ◌+◌, Bool, true, false, not, if◌then◌else◌, List, [], length, map, flat_map, Option, None, Some, IfSome, slice_get, arith}
+use Rattle.std.proofs.Common.{◌≡◌, ◌∙◌, refl, ap, ap₂, sym, subst, ℕ, ◌≤◌, ℤ, pos, ◌+◌, Bool, true, false, not, if◌then◌else◌, List, length, map, flat_map, Option, None, Some, IfSome, slice_get, arith}
 use Rattle.std.specs.Option.{is_some, option_map_or}
 use Rattle.wrp_base.specs.declared.link.ServoState.{ServoState}
 use Rattle.wrp_base.specs.declared.network.NodeCfg.{NodeCfg}
 use Rattle.wrp_base.specs.Network.{link_above}
 use Rattle.wrp_node.specs.NodeAt.{locked_of, state_of}
 use Rattle.wrp_world.specs.Checks.{told_of}
-use Rattle.wrp_world.specs.declared.checks.Breach.{Breach}
 use Rattle.wrp_world.specs.declared.clocks.ClockState.{ClockState}
-use Rattle.wrp_world.specs.Moved.{move_of}
 use Rattle.wrp_world.specs.Plant.{Each}
 use Rattle.wrp_world.specs.Premises.{fibre_rate, is_holdover, late_by, rate_of, rate_of_fibre, tick_late}
-use Rattle.wrp_world.specs.Setting.{Setting, fixed_of, from_on, links_of, nodes_of, of_node}
+use Rattle.wrp_world.specs.Setting.{Setting, fixed_of, from_on, links_of, nodes_of}
 use Rattle.wrp_world.specs.Tried.{kept_rate, steered_rate}
 use Rattle.wrp_world.specs.WorldAt.{WorldAt}
 use Rattle.wrp_world.proofs.Counting.{flat_numbers, map_numbers}

@@ -1,5 +1,5 @@
--- What the code asks as it tries an event: the delays that a link would have, the end that receives a frame, and the port
--- whose message octets say (this project's profile).
+-- What the code asks as it tries an event: the delays that a link would have, the end that receives a
+-- frame, and the port whose message octets say (this project's profile).
 use Rattle.std.specs.Prelude.{◌≡◌, ◌+ℤ◌, ◌-ℤ◌, ℕ, ℤ, pos, Bool, false, List, [], ◌∷◌, Option, None, Some, Result, Ok, Err, if◌then◌else◌}
 use Rattle.std.specs.Option.{option_map_or}
 use Rattle.wrp_base.specs.declared.configuration.NetCfg.{NetCfg}
@@ -77,7 +77,8 @@ departs_by s w n k stamp sent =
 -- what is compared at the end that receives a frame
 abbrev pub received_to : Setting → WorldAt → Place → Raw → List Check
 received_to s w to raw =
-    option_map_or (λ end. received_at s w (entry_at s to.link to.role (w.end_at to.link to.role).name) raw end.node)
+    option_map_or
+    (λ end. received_at s w (entry_at s to.link to.role (w.end_at to.link to.role).name) raw end.node)
     (end_at s to.link to.role) []
 
 -- Octets
@@ -95,7 +96,8 @@ is_by peer (Ok message) = is_same_port message.head.source peer
 abbrev pub forged_by : Bool → Check
 forged_by by_peer = record { premise = 12; fails = by_peer; shown = pos 1; bound = pos 0 }
 
--- what is told of octets that are handed to a port, of each state in which its node is set as the network has it
+-- what is told of octets that are handed to a port, of each state in which its node is set as the
+-- network has it
 abbrev pub TellsNoise : Plant → (n p : ℕ) → List ℕ → Option Breach → Type 0
 TellsNoise plant n p octets breach =
     (says : Result PtpMsg FrameFault) × Says octets says
@@ -106,7 +108,8 @@ TellsNoise plant n p octets breach =
 
 -- the rate that a node's clock keeps, if it keeps one: where it is locked, and in HOLDOVER
 abbrev pub steered_rate : Bool → ServoState → NodeCfg → Option ℕ
-steered_rate locked state node = if locked then Some node.slew else (if is_holdover state then Some node.held else None)
+steered_rate locked state node =
+    if locked then Some node.slew else (if is_holdover state then Some node.held else None)
 
 -- the grandmaster's does not move, and that of a node that is down keeps none
 abbrev pub kept_rate : (is_top up : Bool) → Option ℕ → Option ℕ
@@ -115,7 +118,9 @@ kept_rate is_top up steered = if is_top then Some 0 else (if up then steered els
 -- A whole event
 
 -- what is told of an event: of each state that the world stands for, the first check that fails
-abbrev pub TellsBreach : {F : Type 0} → (F → ℤ → ℤ → Type 0) → Event → WorldOf F → Option Breach → Type 0
+abbrev pub TellsBreach :
+    {F : Type 0} → (F → ℤ → ℤ → Type 0) → Event → WorldOf F → Option Breach → Type 0
 TellsBreach post e world breach =
     (says : Result PtpMsg FrameFault) × IsSaid e says
-    × ((s : Setting) (w : WorldAt) → StandsFor post s w world → breach ≡ told_of (checks_of s w says e))
+    × ((s : Setting) (w : WorldAt) → StandsFor post s w world
+    → breach ≡ told_of (checks_of s w says e))

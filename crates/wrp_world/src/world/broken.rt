@@ -8,9 +8,9 @@ use crate::checks::Breach;
 use crate::event::Event;
 
 impl<F: Fn(i64) -> i64> World<F> {
-    /// The first comparison that fails of the least premise that an event breaks. `None` exactly where it
-    /// keeps all premises.
-    pub fn broken(&self, event: &Event) -> Option<Breach>
+    /// The first comparison that fails of the least premise that an event breaks. `None` exactly
+    /// where it keeps all premises.
+    pub(crate) fn broken(&self, event: &Event) -> Option<Breach>
         requires valid { IsValid F.pre F.post self.now }
         requires event { MayCome self.now event.now }
         ensures { TellsBreach F.post event.now self.now result }

@@ -114,7 +114,7 @@ impl<F: Fn(i64) -> i64> World<F> {
     }
 
     /// A time that passes, in which clocks and fibres move so.
-    pub fn pass_broken(
+    pub(super) fn pass_broken(
         &self,
         dt: i64,
         drifts: &ArrayVec<i64, 64>,
@@ -122,8 +122,8 @@ impl<F: Fn(i64) -> i64> World<F> {
     ) -> Option<Breach>
         requires valid { IsValid F.pre F.post self.now }
         requires pass { IsPass self.now.plant.net.cfg dt drifts.now.items moves.now.items }
-        ensures { (s : Setting) (w : WorldAt) (says : Result PtpMsg FrameFault) → StandsFor F.post s w self.now
-            → result ≡ told_of (premise.checks_of s w says (event.Pass dt drifts.now moves.now)) }
+        ensures { (s : Setting) (w : WorldAt) (says : Result PtpMsg FrameFault)
+            → StandsFor F.post s w self.now → result ≡ told_of (premise.checks_of s w says (event.Pass dt drifts.now moves.now)) }
     {
         if let Some(breach) = self.plant.late_broken(dt) {
             return Some(breach);

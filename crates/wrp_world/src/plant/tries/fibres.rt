@@ -1,5 +1,5 @@
-//! Which premise the delays of a link break after an event: when it is joined, when time passes, and when
-//! a node comes up with other modules.
+//! Which premise the delays of a link break after an event: when it is joined, when time passes,
+//! and when a node comes up with other modules.
 ghost use Rattle.std.specs.Prelude.{◌≡◌, ◌<◌, ◌≤◌, ◌^◌, ℤ, true, length, unsigned_abs, flat_map, Result};
 ghost use Rattle.arrayvec.specs.ArrayVec.{ArrayVec as Items};
 ghost use Rattle.wrp_base.specs.declared.message.PtpMsg.{PtpMsg};
@@ -45,8 +45,8 @@ impl Plant {
         requires link { k < length self.now.net.cfg.links.items }
         requires ms { IsDelay fibre.now.ms }
         requires sm { IsDelay fibre.now.sm }
-        ensures { (s : Setting) (w v : WorldAt) → PlantIs s w self.now → LinkHas v k fibre.now master slave
-            → result ≡ told_of (premise.fibre_kept s v k) }
+        ensures { (s : Setting) (w v : WorldAt) → PlantIs s w self.now
+            → LinkHas v k fibre.now master slave → result ≡ told_of (premise.fibre_kept s v k) }
     {
         let most = reach(self.cfg());
         let link = self.link_cfg(k);
@@ -81,8 +81,8 @@ impl Plant {
         requires link { k < length self.now.net.cfg.links.items }
         requires ms { unsigned_abs ms ≤ 2 ^ 63 }
         requires sm { unsigned_abs sm ≤ 2 ^ 63 }
-        ensures { (s : Setting) (w : WorldAt) (says : Result PtpMsg FrameFault) → PlantIs s w self.now
-            → result ≡ told_of (premise.checks_of s w says (event.Join k ms sm)) }
+        ensures { (s : Setting) (w : WorldAt) (says : Result PtpMsg FrameFault)
+            → PlantIs s w self.now → result ≡ told_of (premise.checks_of s w says (event.Join k ms sm)) }
     {
         let delays = self.new_fibre_broken(k, ms, sm);
         let joined = self.joined(k);
@@ -94,7 +94,8 @@ impl Plant {
         requires fits { FitsPlant self.now }
         requires link { k < length self.now.net.cfg.links.items }
         ensures { (s : Setting) (w : WorldAt) (dt : ℤ) (drifts : Items ℤ) → PlantIs s w self.now
-            → result ≡ told_of (premise.fibre_kept s (moved s w (event.Pass dt drifts moves.now)) k) }
+            → result
+            ≡ told_of (premise.fibre_kept s (moved s w (event.Pass dt drifts moves.now)) k) }
     {
         let span = self.span(k);
         let fibre = moved(&span.fibre, moves.as_slice(), k);
@@ -108,7 +109,8 @@ impl Plant {
         requires { FitsPlant self.now }
         ensures { (s : Setting) (w : WorldAt) (dt : ℤ) (drifts : Items ℤ) → PlantIs s w self.now
             → result ≡ told_of
-            (flat_map (premise.fibre_kept s (moved s w (event.Pass dt drifts moves.now))) (links_of s)) }
+            (flat_map (premise.fibre_kept s (moved s w (event.Pass dt drifts moves.now)))
+            (links_of s)) }
     {
         let count = self.link_count();
         for k in 0..count {

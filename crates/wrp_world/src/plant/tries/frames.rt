@@ -120,8 +120,8 @@ impl Plant {
         requires fits { FitsPlant self.now }
         requires node { n < length self.now.net.cfg.nodes.items }
         requires stamp { unsigned_abs stamp ≤ 2 ^ 92 }
-        ensures { (s : Setting) (w : WorldAt) (says : Result PtpMsg FrameFault) → PlantIs s w self.now
-            → result ≡ told_of (premise.checks_of s w says (event.Depart n port stamp)) }
+        ensures { (s : Setting) (w : WorldAt) (says : Result PtpMsg FrameFault)
+            → PlantIs s w self.now → result ≡ told_of (premise.checks_of s w says (event.Depart n port stamp)) }
     {
         match place_of(&self.net.cfg, n, port) {
             Some(place) => self.leaving_broken(n, place, stamp),
@@ -164,7 +164,8 @@ impl Plant {
         requires due { IsTime frame.now.due }
         requires raw { IsRaw raw.now }
         ensures { (s : Setting) (w : WorldAt) (i : ℕ) → PlantIs s w self.now → (f : FrameAt)
-            → DepartedIs f frame.now → result ≡ told_of (premise.arrive_checks s w i raw.now true (Some f)) }
+            → DepartedIs f frame.now
+            → result ≡ told_of (premise.arrive_checks s w i raw.now true (Some f)) }
     {
         let due = self.due_broken(frame.due);
         let from = Place {
@@ -183,7 +184,8 @@ impl Plant {
         requires raw { IsRaw raw.now }
         ensures { (s : Setting) (w : WorldAt) → PlantIs s w self.now → (f : FrameAt)
             → DepartedIs f frame.now
-            → result ≡ told_of (premise.arrive_checks s w number raw.now (is_on_fibre (Some f)) (Some f)) }
+            → result
+            ≡ told_of (premise.arrive_checks s w number raw.now (is_on_fibre (Some f)) (Some f)) }
     {
         let on = frame.is_on();
         if on {
@@ -197,8 +199,8 @@ impl Plant {
     pub fn arrive_broken(&self, number: u32, raw: &Raw) -> Option<Breach>
         requires fits { FitsPlant self.now }
         requires raw { IsRaw raw.now }
-        ensures { (s : Setting) (w : WorldAt) (says : Result PtpMsg FrameFault) → PlantIs s w self.now
-            → result ≡ told_of (premise.checks_of s w says (event.Arrive number raw.now)) }
+        ensures { (s : Setting) (w : WorldAt) (says : Result PtpMsg FrameFault)
+            → PlantIs s w self.now → result ≡ told_of (premise.checks_of s w says (event.Arrive number raw.now)) }
     {
         match self.frame(number) {
             Some(frame) => self.flight_broken(number, frame, raw),

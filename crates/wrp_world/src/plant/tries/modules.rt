@@ -1,4 +1,4 @@
-//! Which premise the modules break with which a node comes up, and what the network has of a module.
+//! Which premise the modules break with which a node comes up, and what the network has of one.
 ghost use Rattle.std.specs.Prelude.{◌≡◌, ◌<◌, ◌≤◌, ◌^◌, ◌∷◌, [], length, map, flat_map, not, unsigned_abs, IfSome, Result};
 ghost use Rattle.std.specs.Option.{is_some};
 ghost use Rattle.wrp_base.specs.Clock.{steps_of_period};
@@ -135,8 +135,8 @@ impl Plant {
         requires fits { FitsPlant self.now }
         requires node { n < length self.now.net.cfg.nodes.items }
         requires off { unsigned_abs off ≤ 2 ^ 90 }
-        ensures { (s : Setting) (w : WorldAt) (says : Result PtpMsg FrameFault) → PlantIs s w self.now
-            → result ≡ told_of (premise.checks_of s w says (event.Up n off swaps.now)) }
+        ensures { (s : Setting) (w : WorldAt) (says : Result PtpMsg FrameFault)
+            → PlantIs s w self.now → result ≡ told_of (premise.checks_of s w says (event.Up n off swaps.now)) }
     {
         let top = self.top_broken(n, off);
         let fibres = self.swapped_fibres_broken(n, swaps);

@@ -1,4 +1,4 @@
-use Rattle.std.proofs.Common.{◌∙◌, sym, ap, ap₂, arith}
+use Rattle.std.proofs.Common.{◌∙◌, sym, ap₂, arith}
 use Rattle.wrp_world.specs.Checks.{told_of}
 use Rattle.wrp_world.specs.Tried.{departs_by}
 use Rattle.wrp_world.proofs.SignedReads.{read}

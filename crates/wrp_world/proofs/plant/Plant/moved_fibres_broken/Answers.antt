@@ -1,4 +1,4 @@
-use Rattle.std.proofs.Common.{◌≡◌, ◌∙◌, sym, ap, flat_map, length, arith}
+use Rattle.std.proofs.Common.{◌∙◌, sym, ap, flat_map, length}
 use Rattle.wrp_base.specs.declared.configuration.NetCfg.{NetCfg}
 use Rattle.wrp_world.specs.Checks.{told_of}
 use Rattle.wrp_world.specs.declared.event.Event.TheVariants.{Pass}

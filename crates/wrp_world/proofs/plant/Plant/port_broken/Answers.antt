@@ -1,4 +1,4 @@
-use Rattle.std.proofs.Common.{◌∙◌, sym, ap, ◌∷◌, []}
+use Rattle.std.proofs.Common.{◌∙◌, ap, ◌∷◌, []}
 use Rattle.std.specs.Option.{is_some}
 use Rattle.wrp_base.specs.declared.configuration.NetCfg.{NetCfg}
 use Rattle.wrp_world.specs.Checks.{told_of, stands}

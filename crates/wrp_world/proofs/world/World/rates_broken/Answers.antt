@@ -1,4 +1,4 @@
-use Rattle.std.proofs.Common.{◌≡◌, ◌∙◌, sym, ap, flat_map, length, to_z, of_z, arith}
+use Rattle.std.proofs.Common.{◌∙◌, sym, ap, flat_map, length, to_z, of_z}
 use Rattle.std.proofs.lemmas.Int.{to_z-of_z}
 use Rattle.std.specs.Int.{w64}
 use Rattle.wrp_base.specs.declared.configuration.NetCfg.{NetCfg}
