@@ -5,6 +5,7 @@ pub mod Flights
 pub mod Gifts
 pub mod Given
 pub mod Laws
+pub mod LinkEnds
 pub mod Moved
 pub mod Moves
 pub mod New
