@@ -39,8 +39,15 @@ pub mod RunCarriers
 pub mod RunFrames
 pub mod RunMoves
 pub mod RunNetwork
-pub mod RunEvents
+pub mod RunDark
+pub mod RunKept
+pub mod RunHanded
+pub mod RunCarried
+pub mod RunListed
 pub mod RunTimes
+pub mod RunSettled
+pub mod RunChanges
+pub mod RunEvents
 pub mod RunFlights
 pub mod RunTicks
 pub mod PortNumbers

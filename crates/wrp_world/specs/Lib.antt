@@ -7,6 +7,7 @@ pub mod Gifts
 pub mod Given
 pub mod Giving
 pub mod Laws
+pub mod LinkEnds
 pub mod Moved
 pub mod Moves
 pub mod New
