@@ -18,7 +18,7 @@ mod Still
 pub mod TakenLaws
 pub mod Told
 pub mod Turned
-mod Unbroken
+pub mod Unbroken
 pub mod TellingEnds
 pub mod TellingPlants
 pub mod Roomy
@@ -29,6 +29,13 @@ pub mod NodeSteps
 pub mod NodesTake
 pub mod AllTake
 pub mod Movers
+pub mod Counting
+pub mod TriedFibres
+pub mod TriedModules
+pub mod TriedFrames
+pub mod TriedOctets
+pub mod TriedRates
+pub mod Breaches
 pub mod RunLinks
 pub mod RunPorts
 pub mod RunGiven
@@ -36,7 +43,20 @@ pub mod RunCarriers
 pub mod RunFrames
 pub mod RunMoves
 pub mod RunNetwork
-pub mod RunEvents
+pub mod RunDark
+pub mod RunKept
+pub mod RunHanded
+pub mod RunCarried
+pub mod RunListed
 pub mod RunTimes
+pub mod RunSettled
+pub mod RunChanges
+pub mod RunEvents
 pub mod RunFlights
 pub mod RunTicks
+pub mod PortNumbers
+pub mod Listing
+pub mod Carriers
+pub mod Carried
+pub mod FrameGifts
+pub mod GiftsFit

@@ -13,10 +13,11 @@ use Rattle.wrp_node.specs.declared.interface.Input.TheVariants.{Carrier}
 use Rattle.wrp_node.specs.LinkNews.{Nothing, Given as Handed, StepGivesLinks}
 use Rattle.wrp_node.specs.Sends.{SignalsAreOfLink}
 use Rattle.wrp_world.specs.Given.{Given, given_plain, gives}
+use Rattle.wrp_world.specs.LinkEnds.{ends_at, port_at}
 use Rattle.wrp_world.specs.Setting.{Setting, end_at, end_of, link_of, other_of}
 use Rattle.wrp_world.specs.WorldAt.{WorldAt}
 use Rattle.wrp_world.proofs.RunGiven.{LinkCan, carriers_come, end_is, of_both, with_ports}
-use Rattle.wrp_world.proofs.RunPorts.{ends_at, port_at, port_by_news, port_given, port_other, self_equal, not_equal}
+use Rattle.wrp_world.proofs.RunPorts.{port_by_news, port_given, port_other, self_equal, not_equal}
 
 abbrev pub comes_to : End → Option Module → Given
 comes_to end m = given_plain end.node (Carrier end.port true m)
@@ -46,7 +47,7 @@ lit_other links signals s y v end other m k r is out =
 nodes_apart : (link : LinkCfg) → (link.upper ≡ link.lower → ⊥) → end_of Master link ≡ end_of Slave link → ⊥
 nodes_apart link two e = two (ap (λ (x : End). x.node) e)
 
-abbrev both_come : Setting → ℤ → WorldAt → End → Option Module → End → Option Module → WorldAt
+abbrev pub both_come : Setting → ℤ → WorldAt → End → Option Module → End → Option Module → WorldAt
 both_come s y v a m b n = gives s y (gives s y v (comes_to a m)) (comes_to b n)
 
 -- the modules at both ends, of which the first is that of this role
@@ -82,17 +83,23 @@ pair_lights links signals s placed y v k link Slave m n is two can =
 abbrev pub AreApart : Setting → Type 0
 AreApart s = (k l : ℕ) (r q : Role) (end : End) → end_at s k r ≡ Some end → end_at s l q ≡ Some end → (k ≡ l) × (r ≡ q)
 
+-- the ports of any other link
+pub pair_away : StepGivesLinks → SignalsAreOfLink → (s : Setting) (y : ℤ) (v : WorldAt) (k l : ℕ) (link other : LinkCfg) (r : Role) (m n : Option Module) → AreApart s →
+    link_of s k ≡ Some link → link_of s l ≡ Some other → (k ≡ l → ⊥) → (q : Role) →
+    port_at s (both_come s y v (end_of r other) m (end_of (other_of r) other) n) k q (end_of q link) ≡ port_at s v k q (end_of q link)
+pair_away links signals s y v k l link other r m n apart is there out q =
+    let first : WorldAt = gives s y v (comes_to (end_of r other) m) in
+    let differ : (t : Role) → end_of q link ≡ end_of t other → ⊥ =
+    λ t e. out (apart k l q t (end_of t other) (end_is s k q link is ∙ ap Some e) (end_is s l t other there)).0 in
+    lit_other links signals s y first (end_of (other_of r) other) (end_of q link) n k q (end_is s k q link is) (differ (other_of r))
+    ∙ lit_other links signals s y v (end_of r other) (end_of q link) m k q (end_is s k q link is) (differ r)
+
 -- any other link
 pub pair_passes : StepGivesLinks → SignalsAreOfLink → (s : Setting) (placed : Role → Option Module) (y : ℤ) (v : WorldAt) (k l : ℕ) (link other : LinkCfg) (r : Role) (m n : Option Module) → AreApart s →
     link_of s k ≡ Some link → link_of s l ≡ Some other → (k ≡ l → ⊥) → LinkCan s placed v k link →
     LinkCan s placed (both_come s y v (end_of r other) m (end_of (other_of r) other) n) k link
 pair_passes links signals s placed y v k l link other r m n apart is there out can =
-    let first : WorldAt = gives s y v (comes_to (end_of r other) m) in
-    let differ : (q t : Role) → end_of q link ≡ end_of t other → ⊥ =
-    λ q t e. out (apart k l q t (end_of t other) (end_is s k q link is ∙ ap Some e) (end_is s l t other there)).0 in
-    with_ports s placed (gives s y first (comes_to (end_of (other_of r) other) n)) k link v.time _ _ refl
-    (lit_other links signals s y first (end_of (other_of r) other) (end_of Master link) n k Master (end_is s k Master link is) (differ Master (other_of r))
-    ∙ lit_other links signals s y v (end_of r other) (end_of Master link) m k Master (end_is s k Master link is) (differ Master r))
-    (lit_other links signals s y first (end_of (other_of r) other) (end_of Slave link) n k Slave (end_is s k Slave link is) (differ Slave (other_of r))
-    ∙ lit_other links signals s y v (end_of r other) (end_of Slave link) m k Slave (end_is s k Slave link is) (differ Slave r))
+    with_ports s placed (both_come s y v (end_of r other) m (end_of (other_of r) other) n) k link v.time _ _ refl
+    (pair_away links signals s y v k l link other r m n apart is there out Master)
+    (pair_away links signals s y v k l link other r m n apart is there out Slave)
     can

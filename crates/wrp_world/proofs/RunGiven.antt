@@ -26,10 +26,11 @@ use Rattle.wrp_node.specs.Sends.{SignalsAreOfLink}
 use Rattle.wrp_port.specs.Hearing.{early_reason, link_input}
 use Rattle.wrp_port.specs.History.{input_unless}
 use Rattle.wrp_world.specs.Given.{Given, in_body, in_frame, gives}
+use Rattle.wrp_world.specs.LinkEnds.{ends_at, link_sent, port_at}
 use Rattle.wrp_world.specs.Setting.{Setting, end_at, end_of, fixed_of, link_of, other_of}
 use Rattle.wrp_world.specs.WorldAt.{WorldAt}
 use Rattle.wrp_world.proofs.RunLinks.{IsDark}
-use Rattle.wrp_world.proofs.RunPorts.{ends_at, link_dark, link_sent, port_at, port_by_news, port_given, port_is, port_other}
+use Rattle.wrp_world.proofs.RunPorts.{link_dark, port_by_news, port_given, port_is, port_other}
 
 -- A link that can be, and one change more
 

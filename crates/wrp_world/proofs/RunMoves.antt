@@ -12,11 +12,12 @@ use Rattle.wrp_world.specs.declared.clocks.ClockState.{ClockState}
 use Rattle.wrp_world.specs.declared.event.Event.{Event}
 use Rattle.wrp_world.specs.declared.event.Event.TheVariants.{Pass, Tick, Sample, Depart, Arrive, Deliver, Noise, Down, Up, Cut, Join}
 use Rattle.wrp_world.specs.Moved.{moved}
+use Rattle.wrp_world.specs.LinkEnds.{ends_at, link_sent, port_at}
 use Rattle.wrp_world.specs.Setting.{Setting, end_of}
 use Rattle.wrp_world.specs.WorldAt.{WorldAt}
 use Rattle.wrp_world.proofs.RunFrames.{moved_marks, moved_sent}
 use Rattle.wrp_world.proofs.RunGiven.{CanHave, LinkCan, one_more, with_ports}
-use Rattle.wrp_world.proofs.RunPorts.{ends_at, link_sent, port_at, port_is}
+use Rattle.wrp_world.proofs.RunPorts.{port_is}
 
 -- the last tick, or start, of a node after an event by itself
 abbrev pub ticked_after : WorldAt → Event → ℕ → ℤ

@@ -19,11 +19,12 @@ use Rattle.wrp_node.specs.NodeAt.{port_of, setting_of}
 use Rattle.wrp_node.specs.SetLaws.{EndsAreSet}
 use Rattle.wrp_world.specs.declared.place.Place.{Place}
 use Rattle.wrp_world.specs.Runs.{IsNetwork}
+use Rattle.wrp_world.specs.LinkEnds.{port_at}
 use Rattle.wrp_world.specs.Setting.{Setting, end_at, end_of, link_of, place_among, place_of, start_of}
 use Rattle.wrp_world.specs.WorldAt.{new_world}
 use Rattle.wrp_world.proofs.RunCarriers.{AreApart}
 use Rattle.wrp_world.proofs.RunGiven.{LinkCan, with_ports}
-use Rattle.wrp_world.proofs.RunPorts.{port_at, port_is, self_equal}
+use Rattle.wrp_world.proofs.RunPorts.{port_is, self_equal}
 
 none_some : {A : Type 0} (x : A) → None ≡ Some x → ⊥
 none_some x e = cc

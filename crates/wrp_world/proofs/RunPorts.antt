@@ -8,12 +8,10 @@ use Rattle.wrp_base.specs.declared.message.Body.{Body}
 use Rattle.wrp_base.specs.declared.message.Body.TheVariants.{Sync, DelayReq, FollowUp, DelayResp, Announce, Signal}
 use Rattle.wrp_base.specs.declared.message.PtpMsg.{PtpMsg}
 use Rattle.wrp_base.specs.declared.message.WrMsg.{WrMsg}
-use Rattle.wrp_base.specs.declared.network.LinkCfg.{LinkCfg}
 use Rattle.wrp_base.specs.Network.{End}
 use Rattle.wrp_data.specs.declared.reason.Reason.{Reason}
 use Rattle.wrp_frame.specs.declared.fault.FrameFault.{FrameFault}
-use Rattle.wrp_handshake.specs.Ends.{Port, Ends, Sending as Message, stamped, mover_of as mover_in, marked, heard}
-use Rattle.wrp_link.specs.declared.interface.LinkIn.{LinkIn}
+use Rattle.wrp_handshake.specs.Ends.{Port, Sending as Message, stamped, mover_of as mover_in, marked, heard}
 use Rattle.wrp_link.specs.declared.interface.LinkIn.TheVariants as link_in
 use Rattle.wrp_link.specs.LinkAt.{new_link}
 use Rattle.wrp_link.specs.Table.{by_row}
@@ -29,7 +27,8 @@ use Rattle.wrp_port.specs.Hearing.{early_reason, link_input}
 use Rattle.wrp_port.specs.History.{input_unless, link_inputs}
 use Rattle.wrp_port.specs.Messages.{signals_of, signal_of, next_id}
 use Rattle.wrp_world.specs.Given.{Given, in_body, in_frame, mover_of, put_out, sending, step_of, taken_of, ticked_by, clock_told, gives, end_given}
-use Rattle.wrp_world.specs.Setting.{Setting, end_at, end_of, fixed_of, is_of}
+use Rattle.wrp_world.specs.LinkEnds.{link_sent, port_at, sent_with}
+use Rattle.wrp_world.specs.Setting.{Setting, end_at, fixed_of, is_of}
 use Rattle.wrp_world.specs.WorldAt.{WorldAt, EndAt, Sending}
 use Rattle.wrp_world.proofs.RunLinks.{IsDark, run_dark, run_role, run_set, same_state}
 
@@ -38,29 +37,6 @@ self_equal n = grind (arith)
 
 pub not_equal : (n m : ℕ) → (n ≡ m → ⊥) → (n == m) ≡ false
 not_equal n m h = grind (arith, h)
-
--- The view
-
-abbrev pub sent_with : Option Message → List Message → List Message
-sent_with None sent = sent
-sent_with (Some m) sent = m ∷ sent
-
--- the White Rabbit messages among the frames that a port ever put out
-abbrev pub link_sent : List Sending → List Message
-link_sent [] = []
-link_sent (x ∷ xs) = sent_with (in_body x.message.body x.at) (link_sent xs)
-
-abbrev pub port_at : Setting → WorldAt → ℕ → Role → End → Port
-port_at s w k r end = record {
-  link = link_at (s.set end.node) (w.node end.node) end.port;
-  ticked = (w.clock end.node).ticked;
-  marks = (w.end_at k r).marks;
-  sent = link_sent (w.end_at k r).sent;
-}
-
-abbrev pub ends_at : Setting → WorldAt → ℕ → LinkCfg → Ends
-ends_at s w k link =
-    record { time = w.time; master = port_at s w k Master (end_of Master link); slave = port_at s w k Slave (end_of Slave link) }
 
 pub port_is : (a b : Port) → a.link ≡ b.link → a.ticked ≡ b.ticked → a.marks ≡ b.marks → a.sent ≡ b.sent → a ≡ b
 port_is a b l t m s = λ i. record { link = l i; ticked = t i; marks = m i; sent = s i }
@@ -153,44 +129,41 @@ ticks_where : (b : Bool) (news : LinkNews) (input : Input) → TicksFit news inp
 ticks_where true news input h k = h
 ticks_where false news input h k = k
 
-ticks_of : (o : Option LinkIn) (p : ℕ) (input : Input) → TicksFit Nothing input → ((i : LinkIn) → o ≡ Some i → TicksFit (Handed i) input) → TicksFit (news_of o) input
-ticks_of None p input h k = h
-ticks_of (Some i) p input h k = k i refl
+-- what a frame is to a link: nothing, an Announce or a message
+body_news : (Q : LinkNews → Type 0) → Q Nothing → ((a : Option ℕ) → Q (Handed (link_in.Announce a))) → ((m : WrMsg) → Q (Handed (link_in.Msg m))) → (role : Role) (body : Body) →
+    Q (news_of (link_input role body))
+body_news Q h a m Slave (Announce origin utc p1 quality p2 gm steps source suffix) = a suffix
+body_news Q h a m Slave (Signal target (Some message)) = m message
+body_news Q h a m Slave (Signal target None) = h
+body_news Q h a m Slave (Sync origin) = h
+body_news Q h a m Slave (DelayReq origin) = h
+body_news Q h a m Slave (FollowUp precise) = h
+body_news Q h a m Slave (DelayResp receive requesting) = h
+body_news Q h a m Master (Announce origin utc p1 quality p2 gm steps source suffix) = h
+body_news Q h a m Master (Signal target (Some message)) = m message
+body_news Q h a m Master (Signal target None) = h
+body_news Q h a m Master (Sync origin) = h
+body_news Q h a m Master (DelayReq origin) = h
+body_news Q h a m Master (FollowUp precise) = h
+body_news Q h a m Master (DelayResp receive requesting) = h
 
-body_ticks : (role : Role) (body : Body) (input : Input) → TicksFit Nothing input → ((a : Option ℕ) → TicksFit (Handed (link_in.Announce a)) input) → ((m : WrMsg) → TicksFit (Handed (link_in.Msg m)) input) →
-    TicksFit (news_of (link_input role body)) input
-body_ticks Slave (Announce origin utc p1 quality p2 gm steps source suffix) input h a m = a suffix
-body_ticks Slave (Signal target (Some message)) input h a m = m message
-body_ticks Slave (Signal target None) input h a m = h
-body_ticks Slave (Sync origin) input h a m = h
-body_ticks Slave (DelayReq origin) input h a m = h
-body_ticks Slave (FollowUp precise) input h a m = h
-body_ticks Slave (DelayResp receive requesting) input h a m = h
-body_ticks Master (Announce origin utc p1 quality p2 gm steps source suffix) input h a m = h
-body_ticks Master (Signal target (Some message)) input h a m = m message
-body_ticks Master (Signal target None) input h a m = h
-body_ticks Master (Sync origin) input h a m = h
-body_ticks Master (DelayReq origin) input h a m = h
-body_ticks Master (FollowUp precise) input h a m = h
-body_ticks Master (DelayResp receive requesting) input h a m = h
+unless_news : (Q : LinkNews → Type 0) → Q Nothing → ((a : Option ℕ) → Q (Handed (link_in.Announce a))) → ((m : WrMsg) → Q (Handed (link_in.Msg m))) → (reason : Option Reason) (role : Role) (body : Body) →
+    Q (news_of (input_unless reason (link_input role body)))
+unless_news Q h a m None role body = body_news Q h a m role body
+unless_news Q h a m (Some reason) role body = h
 
-unless_ticks : (reason : Option Reason) (role : Role) (body : Body) (input : Input) → TicksFit Nothing input → ((a : Option ℕ) → TicksFit (Handed (link_in.Announce a)) input) →
-    ((m : WrMsg) → TicksFit (Handed (link_in.Msg m)) input) → TicksFit (news_of (input_unless reason (link_input role body))) input
-unless_ticks None role body input h a m = body_ticks role body input h a m
-unless_ticks (Some reason) role body input h a m = h
-
-frame_ticks : (fixed : Fixed) (n : NodeAt) (p : ℕ) (says : Result PtpMsg FrameFault) (input : Input) → TicksFit Nothing input → ((a : Option ℕ) → TicksFit (Handed (link_in.Announce a)) input) →
-    ((m : WrMsg) → TicksFit (Handed (link_in.Msg m)) input) → TicksFit (frame_news fixed n p says) input
-frame_ticks fixed n p (Err fault) input h a m = h
-frame_ticks fixed n p (Ok message) input h a m =
-    unless_ticks (early_reason (setting_of fixed.set p) (link_at fixed.set n p) message) (setting_of fixed.set p).ds.role message.body input h a m
+pub any_frame : (Q : LinkNews → Type 0) → Q Nothing → ((a : Option ℕ) → Q (Handed (link_in.Announce a))) → ((m : WrMsg) → Q (Handed (link_in.Msg m))) →
+    (fixed : Fixed) (n : NodeAt) (p : ℕ) (says : Result PtpMsg FrameFault) → Q (frame_news fixed n p says)
+any_frame Q h a m fixed n p (Err fault) = h
+any_frame Q h a m fixed n p (Ok message) =
+    unless_news Q h a m (early_reason (setting_of fixed.set p) (link_at fixed.set n p) message) (setting_of fixed.set p).ds.role message.body
 
 input_ticks : (fixed : Fixed) (n : NodeAt) (says : Result PtpMsg FrameFault) (input : Input) (p : ℕ) → TicksFit (news_at fixed n input says p) input
 input_ticks fixed n says Tick p = λ time q at. refl
 input_ticks fixed n says (Sample number base bits) p = λ time q at. refl
 input_ticks fixed n says (Frame x octets raw sample) p =
     ticks_where (p == x) (frame_news fixed n x says) (Frame x octets raw sample)
-    (frame_ticks fixed n x says (Frame x octets raw sample) (λ time q at. refl) (λ a time q at. refl) (λ m time q at. refl)) (λ time q at. refl)
+    (any_frame (λ news. TicksFit news (Frame x octets raw sample)) (λ time q at. refl) (λ a time q at. refl) (λ m time q at. refl) fixed n x says) (λ time q at. refl)
 input_ticks fixed n says (Sent x seq delay stamp) p = λ time q at. refl
 input_ticks fixed n says (Carrier x true own_module) p =
     ticks_where (p == x) (Handed (link_in.CarrierUp own_module)) (Carrier x true own_module) (λ time q at. refl) (λ time q at. refl)

@@ -28,7 +28,7 @@ use Rattle.wrp_world.specs.Run.{world_after}
 use Rattle.wrp_world.specs.RunLaws.{TickOrStart, TicksAreApart}
 use Rattle.wrp_world.specs.Setting.{Setting, end_at, other_of, place_of}
 use Rattle.wrp_world.specs.WorldAt.{Arrival, FrameAt, Sending, WorldAt, has_carrier}
-use Rattle.wrp_world.proofs.RunEvents.{not_early}
+use Rattle.wrp_world.proofs.RunHanded.{not_early}
 use Rattle.wrp_world.proofs.RunMoves.{moved_ticked, ticked_after}
 use Rattle.wrp_world.proofs.RunTimes.{all_given_time}
 

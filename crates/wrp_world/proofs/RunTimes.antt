@@ -113,7 +113,7 @@ comes_up_down s w says n off swaps a =
     (all_right Holds (flat_map (module_kept s n) swaps.items) (map (swap_stands s n) swaps.items ++ (stands (not (w.clock n).up) ∷ []))
     (all_right Holds (flat_map (fibre_kept s v) (links_of s)) (flat_map (module_kept s n) swaps.items ++ (map (swap_stands s n) swaps.items ++ (stands (not (w.clock n).up) ∷ []))) a.1))).0
 
-moved_module : (s : Setting) (w : WorldAt) (says : Result PtpMsg FrameFault) (e : Event) (k : ℕ) (r : Role) → Accepts s w says e → has_carrier s w k ≡ true → SameModule (w.end_at k r) (end_after s w e k r)
+pub moved_module : (s : Setting) (w : WorldAt) (says : Result PtpMsg FrameFault) (e : Event) (k : ℕ) (r : Role) → Accepts s w says e → has_carrier s w k ≡ true → SameModule (w.end_at k r) (end_after s w e k r)
 moved_module s w says (Depart n p stamp) k r a c =
     one_module (is_place (place_of s n p) k r) (record (w.end_at k r) { waiting = behind_first (w.end_at k r).waiting }) (w.end_at k r) (record { name = refl; tx = refl; rx = refl })
 moved_module s w says (Up n off swaps) k r a c =

@@ -5,7 +5,9 @@ pub mod FitsGifts
 pub mod Flights
 pub mod Gifts
 pub mod Given
+pub mod Giving
 pub mod Laws
+pub mod LinkEnds
 pub mod Moved
 pub mod Moves
 pub mod New
@@ -23,5 +25,6 @@ pub mod Sizes
 pub mod StandsFor
 pub mod Step
 pub mod Taking
+pub mod Tried
 pub mod Views
 pub mod WorldAt

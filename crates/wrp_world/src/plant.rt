@@ -1,5 +1,6 @@
 //! All of a world but its nodes: true time, clocks, fibres, ends of links and frames in flight.
 mod change;
+mod giving;
 mod handing;
 pub mod moves;
 mod new;

@@ -2,23 +2,35 @@
 //! the laws that they stand on.
 ghost use Rattle.wrp_world.specs.RunLaws.{FramesHaveTimes, FramesWerePutOut, ModulesStay, TicksAreApart};
 ghost use Rattle.wrp_world.specs.RunLaws.{TimeNeverFalls};
-ghost use Rattle.wrp_world.specs.SameHandshake.{LinkOnInTheSameHandshake};
+ghost use Rattle.wrp_world.specs.SameHandshake.{CarriersWithTheirModules, LinkOnInTheSameHandshake};
+ghost use Rattle.wrp_world.specs.SameHandshake.{LinkOnWithTheDeltas, LinksCanBe};
 
 use wrp_config::child_is_deeper;
-use wrp_handshake::on_in_the_same_handshake;
+use wrp_handshake::{carrier_with_its_module, on_in_the_same_handshake, on_with_the_deltas};
 use wrp_node::{ends_are_set, signals_are_of_link, step_gives_links};
 
-/// No port is in WR_LINK_ON unless its peer went through the steps that this requires, in that same
-/// handshake: whatever frames are lost, late, repeated or of an earlier carrier, whatever octets come
-/// that the peer did not send, and whichever nodes go down and come up, after every event of every run.
+/// Each link is one that can be, as the laws of one link by itself have it; and so, after every event of
+/// every run, whatever frames are lost, late, repeated or of an earlier carrier, whatever octets come
+/// that the peer did not send, and whichever nodes go down and come up with whichever modules:
+///
+/// - No port is in WR_LINK_ON unless its peer went through the steps that this requires, in that same
+///   handshake.
+/// - A slave in WR_LINK_ON knows the deltas of the modules that are in place at both ends, and its
+///   master's were told in that handshake.
+/// - A port has its carrier only where its link has, and then its module is the one in place.
 pub fn link_on_in_the_same_handshake()
-    ensures { LinkOnInTheSameHandshake }
+    ensures links { LinksCanBe }
+    ensures handshake { LinkOnInTheSameHandshake }
+    ensures deltas { LinkOnWithTheDeltas }
+    ensures modules { CarriersWithTheirModules }
 {
     step_gives_links();
     signals_are_of_link();
     ends_are_set();
     child_is_deeper();
     on_in_the_same_handshake();
+    on_with_the_deltas();
+    carrier_with_its_module();
 }
 
 /// True time never falls.

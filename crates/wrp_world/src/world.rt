@@ -1,6 +1,8 @@
 //! The world itself: its calls.
 mod give;
+mod broken;
 mod new;
+mod rates;
 mod views;
 
 use crate::plant::Plant;

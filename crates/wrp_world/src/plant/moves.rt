@@ -4,7 +4,7 @@ mod clocks;
 mod departures;
 mod parts;
 pub mod spans;
-mod swaps;
+pub mod swaps;
 
 ghost use Rattle.std.specs.Prelude.{◌≡◌, ◌<◌, ◌≤◌, ◌+◌, ◌^◌, ℕ, length, unsigned_abs};
 ghost use Rattle.arrayvec.specs.ArrayVec.{ArrayVec as Items};
