@@ -60,3 +60,4 @@ pub mod Carriers
 pub mod Carried
 pub mod FrameGifts
 pub mod GiftsFit
+pub mod WorldSteps
