@@ -1,19 +1,18 @@
 -- An event is taken: it keeps all premises, it changes the world by itself, and the nodes take what it gives.
-use Rattle.std.proofs.Common.{◌≡◌, ◌∙◌, refl, ap, ap₂, sym, subst, ℕ, ◌+◌, ◌≤◌, ℤ, Bool, true, false, if◌then◌else◌, List, [], ◌∷◌, ◌++◌, length, map, flat_map, Option, None, Some, option_map, ◌≢◌, Result, Ok, Err, IfErr, OnErr, arith}
-use Rattle.std.specs.List.{AllByRecursion, AllZip, find}
+use Rattle.std.proofs.Common.{◌≡◌, ◌∙◌, refl, ap, sym, subst, ℕ, ◌+◌, ◌≤◌, ℤ, Bool, true, false, if◌then◌else◌, List, [], ◌∷◌, ◌++◌, flat_map, Option, None, Some, option_map, ◌≢◌, Result, Ok, Err, IfErr, OnErr, arith}
+use Rattle.std.specs.List.{AllByRecursion, AllZip}
 use Rattle.std.specs.Option.{option_map_or}
 use Rattle.std.specs.declared.alloc.AllocError.{AllocError}
 use Rattle.wrp_base.specs.declared.link.Module.{Module}
 use Rattle.wrp_base.specs.declared.link.Role.{Role}
-use Rattle.wrp_base.specs.declared.link.Role.TheVariants.{Master, Slave}
+use Rattle.wrp_base.specs.declared.link.Role.TheVariants.{Master}
 use Rattle.wrp_base.specs.declared.message.Body.{Body}
 use Rattle.wrp_base.specs.declared.message.Body.TheVariants.{Sync, DelayReq, FollowUp, DelayResp, Announce, Signal}
 use Rattle.wrp_base.specs.declared.message.PtpMsg.{PtpMsg}
 use Rattle.wrp_base.specs.Network.{End, node_count}
 use Rattle.wrp_config.specs.declared.network.Network.{Network}
 use Rattle.wrp_frame.specs.declared.fault.FrameFault.{FrameFault}
-use Rattle.wrp_node.specs.declared.interface.Input.{Input}
-use Rattle.wrp_node.specs.declared.interface.Input.TheVariants.{Carrier, Frame}
+use Rattle.wrp_node.specs.declared.interface.Input.TheVariants.{Carrier}
 use Rattle.wrp_node.specs.NodeAt.{numbers_of}
 use Rattle.wrp_node.specs.StandsFor.{NodeOf}
 use Rattle.wrp_world.specs.Begins.{ListsGifts, MovesBy, StaysAsWas}
@@ -28,15 +27,15 @@ use Rattle.wrp_world.specs.declared.plant.Plant.{Plant}
 use Rattle.wrp_world.specs.declared.outcome.Refused.{Refused}
 use Rattle.wrp_world.specs.declared.outcome.Refused.TheVariants.{Broken, Memory}
 use Rattle.wrp_world.specs.Gifts.{AreGifts, GiftIs}
-use Rattle.wrp_world.specs.Given.{Given, at_ports, comes_at, comes_from, delivered, delivered_by, delivered_to, event_steps, given_by, given_plain, goes_at, goes_from, if_carried, sent_oldest, told_sending, world_step}
+use Rattle.wrp_world.specs.Given.{Given, comes_at, comes_from, delivered, delivered_by, delivered_to, given_by, given_plain, goes_at, goes_from, if_carried, sent_oldest, told_sending}
 use Rattle.wrp_world.specs.Moved.{moved, waiting_at}
-use Rattle.wrp_world.specs.Plant.{Each, FitsPlant, PlantIs}
+use Rattle.wrp_world.specs.Plant.{Each, FitsPlant}
 use Rattle.wrp_world.specs.PlantTold.{NoneStepped}
 use Rattle.wrp_world.specs.Premises.{Accepts, checks_of}
 use Rattle.wrp_world.specs.Run.{IsSaid}
 use Rattle.wrp_world.specs.Setting.{Setting, end_at, entry_at, other_of, place_of}
 use Rattle.wrp_world.specs.StandsFor.{IsValid, NodeIs, StandsFor, WorldOf}
-use Rattle.wrp_world.specs.Step.{IsRefusal, StaysSo, Stepped, Steps}
+use Rattle.wrp_world.specs.Step.{IsRefusal, StaysSo, Stepped}
 use Rattle.wrp_world.specs.Taking.{Asks, FirstAsks, GaveAll, HasTicks, is_plain}
 use Rattle.wrp_world.specs.Tried.{TellsBreach}
 use Rattle.wrp_world.specs.WorldAt.{Arrival, FrameAt, Sending, WorldAt, has_carrier}

@@ -1,4 +1,5 @@
--- What the nodes make of a world as they take the inputs of an event, one after another (this project's profile).
+-- What the nodes make of a world as they take the inputs of an event, one after another (this
+-- project's profile).
 use Rattle.std.specs.Prelude.{◌≡◌, ◌≤◌, ◌+◌, ◌%◌, ◌==◌, ℕ, ℤ, Bool, true, false, List, [], ◌∷◌, map, Option}
 use Rattle.std.specs.List.{AllByRecursion, AllZip}
 use Rattle.wrp_law.specs.Law.{LawOf}
@@ -25,7 +26,8 @@ use Rattle.wrp_world.specs.WorldAt.{WorldAt}
 
 -- each node has ticked less often than events came
 abbrev pub HasTicks : {F : Type 0} → WorldOf F → Type 0
-HasTicks {F} world = Each (λ n (node : NodeOf F). node.parts.ticks + 1 ≤ world.plant.events) world.nodes
+HasTicks {F} world =
+    Each (λ n (node : NodeOf F). node.parts.ticks + 1 ≤ world.plant.events) world.nodes
 
 -- a tick can still be counted, and the clock of a node that takes a frame may be stepped
 abbrev pub Asks : {F : Type 0} → WorldOf F → Input → Type 0
@@ -42,7 +44,8 @@ is_plain _ = true
 -- of the inputs of an event only the first asks something
 abbrev pub FirstAsks : {F : Type 0} → WorldOf F → List NodeOut → Type 0
 FirstAsks world [] = Unit {0}
-FirstAsks world (out ∷ outs) = Asks world out.input × AllByRecursion (λ (o : NodeOut). is_plain o.input ≡ true) outs
+FirstAsks world (out ∷ outs) =
+    Asks world out.input × AllByRecursion (λ (o : NodeOut). is_plain o.input ≡ true) outs
 
 -- What is told of a node's step
 
@@ -51,38 +54,51 @@ abbrev pub is_signaling : List ℕ → Bool
 is_signaling [] = false
 is_signaling (first ∷ rest) = first % 16 == 0xC
 
--- what the rest of the world is told of a step: the node, whether it ticked, the message that it was given, and the states of its
--- ports' links before and after
+-- what the rest of the world is told of a step: the node, whether it ticked, the message that it
+-- was given, and the states of its ports' links before and after
 pub record IsNewsOf {F : Type 0} (post : F → ℤ → ℤ → Type 0) (put : ℤ) (old new : NodeOf F) (out : NodeOut) (news : News) : Type 0 where
   pub node : news.node ≡ out.node
   pub ticked : news.ticked ≡ is_tick out.input
   pub by : (g : Given) → IsRead put g.says g.at out.input → news.by ≡ mover_of g out.input
-  pub before : (p : ℕ) → is_among p old.parts.ports ≡ true → NodeTells post (state_at p) old (state_in p news.before.items)
-  pub after : (p : ℕ) → is_among p new.parts.ports ≡ true → NodeTells post (state_at p) new (state_in p news.after.items)
+  pub before :
+      (p : ℕ) → is_among p old.parts.ports ≡ true →
+      NodeTells post (state_at p) old (state_in p news.before.items)
+  pub after :
+      (p : ℕ) → is_among p new.parts.ports ≡ true →
+      NodeTells post (state_at p) new (state_in p news.after.items)
 
 -- What a world becomes
 
--- a node took an input at which the law answered so, should it be asked: what was put out is what its step puts out, and the
--- world stands for what the step makes of each state that it stood for
+-- a node took an input at which the law answered so, should it be asked: what was put out is what
+-- its step puts out, and the world stands for what the step makes of each state that it stood for
 pub record Gives {F : Type 0} (post : F → ℤ → ℤ → Type 0) (put answer : ℤ) (old new : WorldOf F) (before after : NodeOut) : Type 0 where
-  pub stands : (s : Setting) (v : WorldAt) (g : Given) → StandsFor post s v old → GiftIs put g before → StandsFor post s (gives s answer v g) new
-  pub seen : (s : Setting) (v : WorldAt) (g : Given) → StandsFor post s v old → GiftIs put g before → step_seen after ≡ node_step_of s answer v g
+  pub stands :
+      (s : Setting) (v : WorldAt) (g : Given) → StandsFor post s v old → GiftIs put g before →
+      StandsFor post s (gives s answer v g) new
+  pub seen :
+      (s : Setting) (v : WorldAt) (g : Given) → StandsFor post s v old → GiftIs put g before →
+      step_seen after ≡ node_step_of s answer v g
 
 -- an input was taken, with an answer of the law: only a frame asks for one
-abbrev pub Gave : {F : Type 0} → (F → ℤ → ℤ → Type 0) → ℤ → (old new : WorldOf F) → (before after : NodeOut) → Type 0
+abbrev pub Gave :
+    {F : Type 0} → (F → ℤ → ℤ → Type 0) → ℤ → (old new : WorldOf F) →
+    (before after : NodeOut) → Type 0
 Gave post put old new before after =
-    (answer : ℤ) × ((y : ℤ) → (is_frame before.input ≡ true → y ≡ answer) → Gives post put y old new before after)
+    (answer : ℤ)
+    × ((y : ℤ) → (is_frame before.input ≡ true → y ≡ answer) → Gives post put y old new before after)
 
 -- all of them took theirs, with one answer of the law
 pub record GivesAll {F : Type 0} (post : F → ℤ → ℤ → Type 0) (put answer : ℤ) (old new : WorldOf F) (before after : List NodeOut) : Type 0 where
   pub stands :
-      (s : Setting) (v : WorldAt) (gs : List Given) → StandsFor post s v old → AllZip (GiftIs put) gs before →
-      StandsFor post s (gives_all s answer v gs) new
+      (s : Setting) (v : WorldAt) (gs : List Given) → StandsFor post s v old →
+      AllZip (GiftIs put) gs before → StandsFor post s (gives_all s answer v gs) new
   pub seen :
-      (s : Setting) (v : WorldAt) (gs : List Given) → StandsFor post s v old → AllZip (GiftIs put) gs before →
-      map step_seen after ≡ steps_of s answer v gs
+      (s : Setting) (v : WorldAt) (gs : List Given) → StandsFor post s v old →
+      AllZip (GiftIs put) gs before → map step_seen after ≡ steps_of s answer v gs
 
-abbrev pub GaveAll : {F : Type 0} → (F → ℤ → ℤ → Type 0) → ℤ → (old new : WorldOf F) → (before after : List NodeOut) → Type 0
+abbrev pub GaveAll :
+    {F : Type 0} → (F → ℤ → ℤ → Type 0) → ℤ → (old new : WorldOf F) →
+    (before after : List NodeOut) → Type 0
 GaveAll post put old new before after = (answer : ℤ) × GivesAll post put answer old new before after
 
 -- the laws of the nodes

@@ -15,13 +15,14 @@ use crate::outcome::NodeOut;
 use std::alloc::AllocError;
 
 impl Plant {
-    /// An accepted event begins: its inputs are listed, and memory is taken for all that comes of them.
-    /// Then it changes the plant by itself. Where memory could not be had, nothing changes.
+    /// An accepted event begins: its inputs are listed, and memory is taken for all that comes of
+    /// them. Then it changes the plant by itself. Where memory could not be had, nothing changes.
     pub fn begin(&mut self, event: &Event, outs: &mut Vec<NodeOut>) -> Result<(), AllocError>
         requires fits { FitsPlant self.old }
         requires event { IsEventOf self.old.net.cfg event.now }
         requires few { self.old.events + 1 < 2 ^ 32 }
-        ensures gifts { OnOk result (ListsGifts self.old event.now (put_of self.old event.now) outs.new.items) }
+        ensures gifts { OnOk result (ListsGifts self.old event.now (put_of self.old event.now)
+            outs.new.items) }
         ensures inputs { OnOk result (AllByRecursion (FitsGift self.new.net.cfg) outs.new.items) }
         ensures room { OnOk result (HasRoom (length outs.new.items) self.new) }
         ensures is { OnOk result (MovesBy event.now self.old self.new) }

@@ -10,7 +10,8 @@ ghost use Rattle.wrp_node.specs.StandsFor.{Took};
 ghost use Rattle.wrp_world.specs.FitsGifts.{FitsGift};
 ghost use Rattle.wrp_world.specs.Gifts.{IsRead};
 ghost use Rattle.wrp_world.specs.Given.{Given, in_body, in_frame, mover_of};
-ghost use Rattle.wrp_world.specs.Taking.{Asks, FirstAsks, Gave, GaveAll, IsNewsOf, is_signaling, laws_of};
+ghost use Rattle.wrp_world.specs.Taking.{Asks, FirstAsks, Gave, GaveAll};
+ghost use Rattle.wrp_world.specs.Taking.{IsNewsOf, is_signaling, laws_of};
 ghost use Rattle.wrp_world.specs.Room.{HasRoom};
 ghost use Rattle.wrp_world.specs.StandsFor.{IsValid};
 
@@ -22,8 +23,8 @@ use wrp_frame::decode;
 use wrp_node::{Input, Node};
 
 impl<F: Fn(i64) -> i64> World<F> {
-    // Each node takes its input, in their order; a frame among them was put out then. The memory was
-    // taken before.
+    // Each node takes its input, in their order; a frame among them was put out then. The memory
+    // was taken before.
     pub(super) fn give_all(&mut self, put: Tau, outs: &mut Vec<NodeOut>)
         requires valid { IsValid F.pre F.post self.old }
         requires gifts { AllByRecursion (FitsGift self.old.plant.net.cfg) outs.old.items }
@@ -93,8 +94,8 @@ fn is_tick(input: &Input) -> bool
     }
 }
 
-// The White Rabbit message of an input, if it is a frame with one, with the true time at which it was
-// put out.
+// The White Rabbit message of an input, if it is a frame with one, with the true time at which it
+// was put out.
 fn mover_of(input: &Input, put: Tau) -> Option<(WrMsg, Tau)>
     ensures { (g : Given) → IsRead put g.says g.at input.now → result ≡ mover_of g input.now }
 {
@@ -106,7 +107,8 @@ fn mover_of(input: &Input, put: Tau) -> Option<(WrMsg, Tau)>
 
 // That of octets. Those that are no Signaling have none, and are not read.
 fn in_frame(octets: &[u8], put: Tau) -> Option<(WrMsg, Tau)>
-    ensures { (says : Result PtpMsg FrameFault) → Says octets.now says → result ≡ in_frame says put }
+    ensures { (says : Result PtpMsg FrameFault) → Says octets.now says
+        → result ≡ in_frame says put }
 {
     if is_signaling(octets) {
         read_frame(octets, put)
@@ -127,7 +129,8 @@ fn is_signaling(octets: &[u8]) -> bool
 
 // The White Rabbit message that octets say, if they say one.
 fn read_frame(octets: &[u8], put: Tau) -> Option<(WrMsg, Tau)>
-    ensures { (says : Result PtpMsg FrameFault) → Says octets.now says → result ≡ in_frame says put }
+    ensures { (says : Result PtpMsg FrameFault) → Says octets.now says
+        → result ≡ in_frame says put }
 {
     match decode(octets) {
         Ok(message) => in_body(message.body, put),

@@ -11,10 +11,10 @@ use crate::{Event, NodeOut, Refused};
 use std::alloc::Global;
 
 impl<F: Fn(i64) -> i64> World<F> {
-    /// Takes an event: where it keeps all premises, and the memory for it can be had, it changes the world,
-    /// and `outs` is filled with the steps that the nodes make of it, in their order; at most 37. What
-    /// `outs` had before is gone, but its places are used again. A refused event changes nothing, and leaves
-    /// in `outs` nothing of use.
+    /// Takes an event: where it keeps all premises, and the memory for it can be had, it changes
+    /// the world, and `outs` is filled with the steps that the nodes make of it, in their order;
+    /// at most 37. What `outs` had before is gone, but its places are used again. A refused event
+    /// changes nothing, and leaves in `outs` nothing of use.
     pub fn step_into(&mut self, event: &Event, outs: &mut Vec<NodeOut>) -> Result<(), Refused>
         requires valid { IsValid F.pre F.post self.old }
         requires event { MayCome self.old event.now }
@@ -36,13 +36,14 @@ impl<F: Fn(i64) -> i64> World<F> {
         Ok(())
     }
 
-    /// Takes an event, and answers with the steps that the nodes make of it: as `step_into`, into a list of
-    /// its own.
+    /// Takes an event, and answers with the steps that the nodes make of it: as `step_into`, into a
+    /// list of its own.
     pub fn step(&mut self, alloc: Global, event: &Event) -> Result<Vec<NodeOut>, Refused>
         requires valid { IsValid F.pre F.post self.old }
         requires event { MayCome self.old event.now }
         ensures valid { IsValid F.pre F.post self.new }
-        ensures steps { IfOk result (λ outs. Stepped F.post event.now self.old self.new outs.items) }
+        ensures steps { IfOk result (λ outs. Stepped F.post event.now self.old self.new
+            outs.items) }
         ensures refusal { IfErr result (IsRefusal F.post event.now self.old) }
         ensures stays { OnErr result (StaysSo F.post self.old self.new) }
         ensures counted { OnOk result (self.new.plant.events ≡ self.old.plant.events + 1) }
