@@ -33,6 +33,7 @@ pub mod RunFrames
 pub mod RunMoves
 pub mod RunNetwork
 pub mod RunDark
+pub mod RunGifts
 pub mod RunKept
 pub mod RunHanded
 pub mod RunCarried
@@ -41,5 +42,7 @@ pub mod RunTimes
 pub mod RunSettled
 pub mod RunChanges
 pub mod RunEvents
+pub mod RunLit
+pub mod RunBoth
 pub mod RunFlights
 pub mod RunTicks

@@ -2,8 +2,8 @@
 //! the laws that they stand on.
 ghost use Rattle.wrp_world.specs.RunLaws.{FramesHaveTimes, FramesWerePutOut, ModulesStay, TicksAreApart};
 ghost use Rattle.wrp_world.specs.RunLaws.{TimeNeverFalls};
-ghost use Rattle.wrp_world.specs.SameHandshake.{CarriersWithTheirModules, LinkOnInTheSameHandshake};
-ghost use Rattle.wrp_world.specs.SameHandshake.{LinkOnWithTheDeltas, LinksCanBe};
+ghost use Rattle.wrp_world.specs.SameHandshake.{CarriersAreTheLinks, CarriersWithTheirModules};
+ghost use Rattle.wrp_world.specs.SameHandshake.{LinkOnInTheSameHandshake, LinkOnWithTheDeltas, LinksCanBe};
 
 use wrp_config::child_is_deeper;
 use wrp_handshake::{carrier_with_its_module, on_in_the_same_handshake, on_with_the_deltas};
@@ -17,11 +17,13 @@ use wrp_node::{ends_are_set, signals_are_of_link, step_gives_links};
 ///   handshake.
 /// - A slave in WR_LINK_ON knows the deltas of the modules that are in place at both ends, and its
 ///   master's were told in that handshake.
-/// - A port has its carrier only where its link has, and then its module is the one in place.
+/// - A port has its carrier exactly where its link has, at both ends in the same event, and then its
+///   module is the one in place.
 pub fn link_on_in_the_same_handshake()
     ensures links { LinksCanBe }
     ensures handshake { LinkOnInTheSameHandshake }
     ensures deltas { LinkOnWithTheDeltas }
+    ensures carriers { CarriersAreTheLinks }
     ensures modules { CarriersWithTheirModules }
 {
     step_gives_links();
