@@ -46,3 +46,4 @@ pub mod RunLit
 pub mod RunBoth
 pub mod RunFlights
 pub mod RunTicks
+pub mod InRuns

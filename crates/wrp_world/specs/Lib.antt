@@ -4,6 +4,7 @@ pub mod EventAt
 pub mod Flights
 pub mod Gifts
 pub mod Given
+pub mod InRun
 pub mod Laws
 pub mod LinkEnds
 pub mod Moved

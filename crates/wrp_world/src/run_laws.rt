@@ -1,5 +1,6 @@
 //! Laws of every run of an accepted network: functions whose contracts are the laws, and whose bodies call
 //! the laws that they stand on.
+ghost use Rattle.wrp_world.specs.InRun.{NewIsInRun, StepAddsToRun};
 ghost use Rattle.wrp_world.specs.RunLaws.{FramesHaveTimes, FramesWerePutOut, ModulesStay, TicksAreApart};
 ghost use Rattle.wrp_world.specs.RunLaws.{TimeNeverFalls};
 ghost use Rattle.wrp_world.specs.SameHandshake.{CarriersAreTheLinks, CarriersWithTheirModules};
@@ -60,4 +61,11 @@ pub fn ticks_are_apart()
 /// At the ends of a link that has its carrier the modules stay, with their true delays.
 pub fn modules_stay()
     ensures { ModulesStay }
+{}
+
+/// A world before any event is in a run of no events, and each accepted event adds itself to each run that
+/// the world is in: so the laws of runs hold of every world that came of a new one by accepted events.
+pub fn worlds_are_in_runs<F: Fn(i64) -> i64>()
+    ensures new { NewIsInRun F.post }
+    ensures step { StepAddsToRun F.post }
 {}
