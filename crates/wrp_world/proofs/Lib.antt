@@ -47,3 +47,4 @@ pub mod RunBoth
 pub mod RunFlights
 pub mod RunTicks
 pub mod InRuns
+pub mod RunStamps

@@ -17,6 +17,7 @@ pub mod Room
 pub mod Rows
 pub mod Run
 pub mod RunLaws
+pub mod RunStamps
 pub mod Runs
 pub mod SameHandshake
 pub mod Setting

@@ -3,9 +3,11 @@
 ghost use Rattle.wrp_world.specs.InRun.{NewIsInRun, StepAddsToRun};
 ghost use Rattle.wrp_world.specs.RunLaws.{FramesHaveTimes, FramesWerePutOut, ModulesStay, TicksAreApart};
 ghost use Rattle.wrp_world.specs.RunLaws.{TimeNeverFalls};
+ghost use Rattle.wrp_world.specs.RunStamps.{FramesAreStamped};
 ghost use Rattle.wrp_world.specs.SameHandshake.{CarriersAreTheLinks, CarriersWithTheirModules};
 ghost use Rattle.wrp_world.specs.SameHandshake.{LinkOnInTheSameHandshake, LinkOnWithTheDeltas, LinksCanBe};
 
+use crate::laws::arrival_keeps_stamp_bound;
 use wrp_config::child_is_deeper;
 use wrp_handshake::{carrier_with_its_module, on_in_the_same_handshake, on_with_the_deltas};
 use wrp_node::{ends_are_set, signals_are_of_link, step_gives_links};
@@ -51,6 +53,15 @@ pub fn frames_were_put_out()
 pub fn frames_have_times()
     ensures { FramesHaveTimes }
 {}
+
+/// Each frame departed with a stamp near the reading of the node that sent it, no older than a frame's
+/// life; if it arrived, its raw stamp keeps the stamp bound about the reading of the node that received
+/// it; both over a link that had its carrier.
+pub fn frames_are_stamped()
+    ensures { FramesAreStamped }
+{
+    arrival_keeps_stamp_bound();
+}
 
 /// The time of a node's last tick, or of its start, stays in an event, or the node ticks, no sooner than
 /// dmin after it, or starts.
