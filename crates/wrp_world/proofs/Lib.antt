@@ -66,3 +66,4 @@ pub mod GiftsFit
 pub mod WorldSteps
 pub mod InRuns
 pub mod RunStamps
+pub mod RunsOn

@@ -22,6 +22,7 @@ pub mod Run
 pub mod RunLaws
 pub mod RunStamps
 pub mod Runs
+pub mod RunsOn
 pub mod SameHandshake
 pub mod Setting
 pub mod Sizes

@@ -1,12 +1,14 @@
 //! The world takes an event.
 ghost use Rattle.std.specs.Prelude.{◌≡◌, ◌+◌, IfErr, IfOk, OnErr, OnOk};
 ghost use Rattle.wrp_world.specs.declared.outcome.Refused.TheVariants.{Broken};
+ghost use Rattle.wrp_world.specs.RunsOn.{RunsOn};
 ghost use Rattle.wrp_world.specs.StandsFor.{IsValid};
 ghost use Rattle.wrp_world.specs.Step.{IsRefusal, MayCome, StaysSo, Stepped};
 ghost use Rattle.wrp_world.specs.Taking.{laws_of};
 
 use super::World;
 use crate::checks::Breach;
+use crate::run_laws::link_on_in_the_same_handshake;
 use crate::{Event, NodeOut, Refused};
 use std::alloc::Global;
 
@@ -20,6 +22,7 @@ impl<F: Fn(i64) -> i64> World<F> {
         requires event { MayCome self.old event.now }
         ensures valid { IsValid F.pre F.post self.new }
         ensures steps { OnOk result (Stepped F.post event.now self.old self.new outs.new.items) }
+        ensures handshakes { OnOk result (RunsOn F.post event.now self.old self.new) }
         ensures refusal { IfErr result (IsRefusal F.post event.now self.old) }
         ensures stays { OnErr result (StaysSo F.post self.old self.new) }
         ensures counted { OnOk result (self.new.plant.events ≡ self.old.plant.events + 1) }
@@ -27,6 +30,7 @@ impl<F: Fn(i64) -> i64> World<F> {
         ensures net { self.new.plant.net ≡ self.old.plant.net }
         ensures laws { laws_of self.new ≡ laws_of self.old }
     {
+        link_on_in_the_same_handshake();
         if let Some(breach) = self.broken(event) {
             return Err(refused(breach));
         }
@@ -44,6 +48,7 @@ impl<F: Fn(i64) -> i64> World<F> {
         ensures valid { IsValid F.pre F.post self.new }
         ensures steps { IfOk result (λ outs. Stepped F.post event.now self.old self.new
             outs.items) }
+        ensures handshakes { OnOk result (RunsOn F.post event.now self.old self.new) }
         ensures refusal { IfErr result (IsRefusal F.post event.now self.old) }
         ensures stays { OnErr result (StaysSo F.post self.old self.new) }
         ensures counted { OnOk result (self.new.plant.events ≡ self.old.plant.events + 1) }

@@ -7,6 +7,7 @@ use Rattle.std.specs.Int.{w128}
 use Rattle.wrp_world.specs.StandsFor.{IsValid}
 use Rattle.wrp_world.specs.Step.{StaysSo, Stepped}
 use Rattle.wrp_world.proofs.Inside.{world_of}
+use Rattle.wrp_world.proofs.RunsOn.{runs_on}
 use Rattle.wrp_world.proofs.WorldSteps.{begun_asks, begun_of, begun_valid, breach_refused, event_taken, lists_read, memory_refused, none_left, on_err, stays_valid, world_stays}
 use Rattle.wrp_world.proofs.world.World.step_into.Goals as goal
 
@@ -54,3 +55,7 @@ returns-clause-steps g c =
     c.in_ok-begin.ensures.is c.in_ok-begin.ensures.events c.begin.ensures.net c.begin.ensures.fits c.in_ok-begin.ensures.still in
     subst (λ w. Stepped (λ f x y. g.F.Fn.post f (x, tt) y) c.args.event.now w c.give_all.new.self c.give_all.new.outs.items) c.self.view_is
     (event_taken _ _ c.args.event.now (to_z w128 (of_z w128 c.put_out_at-put.result)) c.broken.ensures.0 (world_of c.self.inside.plant c.self.inside.nodes.items) c.begin.new.self c.begin.new.outs.items c.give_all.new.outs.items c.give_all.new.self begun c.give_all.ensures.gave)
+
+pub returns-clause-handshakes : goal.returns-clause-handshakes
+returns-clause-handshakes g c =
+    runs_on _ c.args.event.now c.args.self.now c.give_all.new.self c.give_all.new.outs.items c.link_on_in_the_same_handshake.ensures.handshake c.requires.event (returns-clause-steps g c)
