@@ -1,14 +1,10 @@
 -- What a link that is cut or joined gives, and a node that goes down or comes up: all that the code lists is all that is given.
-use Rattle.std.proofs.Common.{◌≡◌, ◌∙◌, refl, ap, ap₂, sym, subst, ℕ, zero, suc, ℤ, pos, ◌+◌, ◌*◌, ◌<◌, ◌≤◌, ◌==◌, ◌&&◌, Bool, true, false, if◌then◌else◌, List, [], ◌∷◌, ◌++◌, append_assoc, Option, None, Some, Result, arith}
+use Rattle.std.proofs.Common.{◌≡◌, ◌∙◌, refl, ap, sym, subst, ℕ, zero, suc, ℤ, ◌+◌, ◌*◌, Bool, if◌then◌else◌, List, [], ◌∷◌, ◌++◌, append_assoc, arith}
 use Rattle.std.specs.List.{flat_map}
 use Rattle.arrayvec.specs.ArrayVec.{ArrayVec}
 use Rattle.wrp_base.specs.declared.link.Role.{Role}
 use Rattle.wrp_base.specs.declared.link.Role.TheVariants.{Master}
-use Rattle.wrp_base.specs.declared.configuration.NetCfg.{NetCfg}
-use Rattle.wrp_base.specs.declared.network.LinkCfg.{LinkCfg}
 use Rattle.wrp_base.specs.Network.{HasRanges, NamesNoPortTwice}
-use Rattle.wrp_base.specs.declared.message.PtpMsg.{PtpMsg}
-use Rattle.wrp_frame.specs.declared.fault.FrameFault.{FrameFault}
 use Rattle.wrp_node.specs.declared.interface.Input.TheVariants.{Reset}
 use Rattle.wrp_node.specs.declared.interface.NodeSet.{NodeSet}
 use Rattle.wrp_node.specs.NodeAt.{numbers_of}
@@ -18,14 +14,13 @@ use Rattle.wrp_world.specs.declared.event.Swap.{Swap}
 use Rattle.wrp_world.specs.declared.outcome.NodeOut.{NodeOut}
 use Rattle.wrp_world.specs.declared.place.Place.{Place}
 use Rattle.wrp_world.specs.declared.plant.Plant.{Plant}
-use Rattle.wrp_world.specs.Given.{Given, at_ports, comes_from, given_plain, given_by, goes_from, if_carried}
+use Rattle.wrp_world.specs.Given.{Given, at_ports, comes_from, given_plain, goes_from, if_carried}
 use Rattle.wrp_world.specs.Giving.{Adds, Gives, at_numbers, up_of}
-use Rattle.wrp_world.specs.Moved.{moved}
 use Rattle.wrp_world.specs.Plant.{FitsPlant, PlantIs}
 use Rattle.wrp_world.specs.Setting.{Setting, from_on, link_of, place_of}
 use Rattle.wrp_world.specs.WorldAt.{WorldAt, ends_are_up, has_carrier}
 use Rattle.wrp_world.proofs.Carriers.{joined_carrier}
-use Rattle.wrp_world.proofs.Listing.{adds_as, adds_then, gives_added, no_more}
+use Rattle.wrp_world.proofs.Listing.{adds_then, gives_added, no_more}
 use Rattle.wrp_world.proofs.PortNumbers.{all_numbers, ascends, not_placed}
 
 -- One port after the other

@@ -1,5 +1,5 @@
 -- Carriers that go and come: what the code lists at the ends of a link is what is given there.
-use Rattle.std.proofs.Common.{◌≡◌, ◌∙◌, refl, ap, ap₂, sym, subst, ℕ, ℤ, pos, ◌+◌, ◌<◌, ◌≤◌, ◌==◌, ◌&&◌, ◌||◌, Bool, true, false, if◌then◌else◌, List, [], ◌∷◌, ◌++◌, slice_get, Option, None, Some, option_map, option_and_then, arith}
+use Rattle.std.proofs.Common.{◌≡◌, ◌∙◌, refl, ap, ap₂, sym, subst, ℕ, ℤ, pos, ◌<◌, ◌==◌, ◌&&◌, ◌||◌, Bool, true, false, if◌then◌else◌, List, [], ◌∷◌, ◌++◌, slice_get, Option, None, Some, option_map, option_and_then, arith}
 use Rattle.std.specs.List.{AllZip}
 use Rattle.std.specs.Option.{option_map_or}
 use Rattle.arrayvec.specs.ArrayVec.{ArrayVec}
@@ -11,17 +11,15 @@ use Rattle.wrp_base.specs.declared.network.LinkCfg.{LinkCfg}
 use Rattle.wrp_base.specs.Network.{End}
 use Rattle.wrp_caldb.specs.Database.{Database, module_at}
 use Rattle.wrp_node.specs.declared.interface.Input.TheVariants.{Carrier}
-use Rattle.wrp_world.specs.declared.event.Event.TheVariants.{Join, Up}
+use Rattle.wrp_world.specs.declared.event.Event.TheVariants.{Join}
 use Rattle.wrp_world.specs.declared.event.Swap.{Swap}
-use Rattle.wrp_world.specs.declared.clocks.ClockState.{ClockState}
 use Rattle.wrp_world.specs.declared.place.Place.{Place}
 use Rattle.wrp_world.specs.declared.plant.Plant.{Plant}
-use Rattle.wrp_world.specs.declared.plant.giving.listing.Gift.{Gift}
 use Rattle.wrp_world.specs.FitsGifts.{has_port}
 use Rattle.wrp_world.specs.Gifts.{GiftIs}
 use Rattle.wrp_world.specs.Given.{Given, comes_from, given_plain, goes_at, if_carried}
 use Rattle.wrp_world.specs.Giving.{comes_over, comes_over_both, listed, name_with, up_of}
-use Rattle.wrp_world.specs.Moved.{moved, port_number, swap_at, with_swap}
+use Rattle.wrp_world.specs.Moved.{moved, swap_at, with_swap}
 use Rattle.wrp_world.specs.Plant.{PlantIs}
 use Rattle.wrp_world.specs.Setting.{Setting, end_at, end_of, entry_at, is_of, link_of, other_of, place_among, place_of, sends_nm}
 use Rattle.wrp_world.specs.WorldAt.{EndAt, WorldAt, ends_are_up, has_carrier}

@@ -1,5 +1,5 @@
 -- What a frame gives as it is handed over and as it departs, and the other events that give one input at most.
-use Rattle.std.proofs.Common.{◌≡◌, ◌∙◌, refl, ap, ap₂, sym, subst, ℕ, ℤ, pos, ◌+◌, ◌<◌, ◌≤◌, ◌^◌, ◌==◌, unsigned_abs, Bool, true, false, if◌then◌else◌, List, [], ◌∷◌, length, slice_get, Option, None, Some, IfSome, option_map, Result, Ok, Err, arith}
+use Rattle.std.proofs.Common.{◌≡◌, ◌∙◌, refl, ap, ap₂, sym, subst, ℕ, ℤ, pos, ◌+◌, ◌<◌, ◌≤◌, ◌^◌, ◌==◌, unsigned_abs, true, false, List, [], ◌∷◌, length, slice_get, Option, None, Some, IfSome, option_map, Result, Ok, Err, arith}
 use Rattle.std.proofs.lemmas.Int.{ints}
 use Rattle.std.specs.List.{AllByRecursion, AllZip}
 use Rattle.std.specs.Option.{option_map_or}
@@ -16,12 +16,11 @@ use Rattle.wrp_frame.specs.declared.fault.FrameFault.{FrameFault}
 use Rattle.wrp_frame.specs.Grammar.{Spells}
 use Rattle.wrp_frame.specs.SentOctets.{octets_of}
 use Rattle.wrp_node.specs.declared.interface.Input.{Input}
-use Rattle.wrp_node.specs.declared.interface.Input.TheVariants.{Tick as TickInput, Sample as SampleInput, Frame, Sent}
+use Rattle.wrp_node.specs.declared.interface.Input.TheVariants.{Tick as TickInput, Sample as SampleInput, Frame}
 use Rattle.wrp_node.specs.Parts.{FitsRaw}
 use Rattle.wrp_port.specs.PortAt.{IsStamp}
 use Rattle.wrp_world.specs.declared.event.Event.{Event}
 use Rattle.wrp_world.specs.declared.event.Event.TheVariants.{Tick, Sample, Depart, Deliver, Noise}
-use Rattle.wrp_world.specs.declared.ends.EndState.{EndState}
 use Rattle.wrp_world.specs.declared.ends.PutOut.{PutOut}
 use Rattle.wrp_world.specs.declared.frames.Departed.{Departed}
 use Rattle.wrp_world.specs.declared.frames.Reception.{Reception}
@@ -31,14 +30,14 @@ use Rattle.wrp_world.specs.declared.plant.giving.listing.Gift.{Gift}
 use Rattle.wrp_world.specs.EventAt.{IsEventOf, IsRaw, IsTime}
 use Rattle.wrp_world.specs.Checks.{AllHold}
 use Rattle.wrp_world.specs.FitsGifts.{FitsGift, FitsNode, has_port}
-use Rattle.wrp_world.specs.Gifts.{GiftIs, IsRead}
-use Rattle.wrp_world.specs.Given.{Given, delivered, delivered_by, delivered_to, given, given_plain, sent_oldest, told_sending}
+use Rattle.wrp_world.specs.Gifts.{GiftIs}
+use Rattle.wrp_world.specs.Given.{delivered, delivered_by, delivered_to, sent_oldest, told_sending}
 use Rattle.wrp_world.specs.Giving.{Gives, entries_of, listed, put_of, sent_by, sent_first, sent_in}
-use Rattle.wrp_world.specs.Moved.{moved, waiting_at}
-use Rattle.wrp_world.specs.Plant.{DepartedIs, EndIs, FramesAre, MaybeIs, PlantIs, PutOutIs, ReceptionIs, frame_numbered}
+use Rattle.wrp_world.specs.Moved.{waiting_at}
+use Rattle.wrp_world.specs.Plant.{DepartedIs, MaybeIs, PlantIs, PutOutIs, ReceptionIs, frame_numbered}
 use Rattle.wrp_world.specs.Premises.{Accepts, noise_checks}
 use Rattle.wrp_world.specs.Setting.{Setting, end_at, other_of, place_among, place_of}
-use Rattle.wrp_world.specs.WorldAt.{Arrival, EndAt, FrameAt, Sending, WorldAt}
+use Rattle.wrp_world.specs.WorldAt.{Arrival, FrameAt, Sending, WorldAt}
 use Rattle.wrp_world.proofs.FoundFrames.{Found, found, missing}
 
 eq_self : (n : ℕ) → (n == n) ≡ true

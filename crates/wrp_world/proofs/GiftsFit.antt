@@ -1,5 +1,5 @@
 -- An input that is listed can come to its node, where the node's ticks can still be counted.
-use Rattle.std.proofs.Common.{◌≡◌, ◌∙◌, ap, sym, subst, ℕ, ℤ, ◌+◌, ◌<◌, ◌≤◌, ◌^◌, ◌==◌, true, List, map, Some, slice_get, arith}
+use Rattle.std.proofs.Common.{◌≡◌, ◌∙◌, ap, sym, ℕ, ℤ, ◌+◌, ◌<◌, ◌≤◌, ◌^◌, ◌==◌, true, List, Some, slice_get, arith}
 use Rattle.std.specs.List.{list_any}
 use Rattle.wrp_base.specs.declared.configuration.NetCfg.{NetCfg}
 use Rattle.wrp_node.specs.declared.interface.Input.{Input}

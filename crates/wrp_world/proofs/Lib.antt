@@ -44,6 +44,7 @@ pub mod RunFrames
 pub mod RunMoves
 pub mod RunNetwork
 pub mod RunDark
+pub mod RunGifts
 pub mod RunKept
 pub mod RunHanded
 pub mod RunCarried
@@ -52,6 +53,8 @@ pub mod RunTimes
 pub mod RunSettled
 pub mod RunChanges
 pub mod RunEvents
+pub mod RunLit
+pub mod RunBoth
 pub mod RunFlights
 pub mod RunTicks
 pub mod PortNumbers
@@ -61,3 +64,5 @@ pub mod Carried
 pub mod FrameGifts
 pub mod GiftsFit
 pub mod WorldSteps
+pub mod InRuns
+pub mod RunStamps

@@ -11,7 +11,7 @@ use Rattle.wrp_world.specs.Setting.{Setting, place_of}
 use Rattle.wrp_world.specs.WorldAt.{WorldAt, has_carrier}
 use Rattle.wrp_world.proofs.RunKept.{Laws, RunKeeps, comes_keep, goes_keep, weaker}
 
-gives_append : (s : Setting) (y : ℤ) (xs ys : List Given) (v : WorldAt) → gives_all s y v (xs ++ ys) ≡ gives_all s y (gives_all s y v xs) ys
+pub gives_append : (s : Setting) (y : ℤ) (xs ys : List Given) (v : WorldAt) → gives_all s y v (xs ++ ys) ≡ gives_all s y (gives_all s y v xs) ys
 gives_append s y [] ys v = refl
 gives_append s y (x ∷ xs) ys v = gives_append s y xs ys (gives s y v x)
 
@@ -29,7 +29,7 @@ IsLeft s n k [] = ⊥
 IsLeft s n k (p ∷ ps) = IsLinkOf k (place_of s n p) ⊎ IsLeft s n k ps
 
 -- it is none of the ports that are left, nor of the next
-not_next : (s : Setting) (n k p : ℕ) (ps : List ℕ) (o : Option Place) → place_of s n p ≡ o → (IsLinkOf k o → ⊥) → (IsLeft s n k ps → ⊥) → IsLeft s n k (p ∷ ps) → ⊥
+pub not_next : (s : Setting) (n k p : ℕ) (ps : List ℕ) (o : Option Place) → place_of s n p ≡ o → (IsLinkOf k o → ⊥) → (IsLeft s n k ps → ⊥) → IsLeft s n k (p ∷ ps) → ⊥
 not_next s n k p ps o e h u t = elim t [ inl x ↦ h (subst (IsLinkOf k) e x) | inr x ↦ u x ]
 
 -- Carriers that come, in the world v, where they were in the world w or come at a port

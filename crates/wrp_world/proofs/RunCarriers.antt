@@ -22,11 +22,11 @@ use Rattle.wrp_world.proofs.RunPorts.{port_by_news, port_given, port_other, self
 abbrev pub comes_to : End → Option Module → Given
 comes_to end m = given_plain end.node (Carrier end.port true m)
 
-end_alike : (a b : End) → a.node ≡ b.node → a.port ≡ b.port → a ≡ b
+pub end_alike : (a b : End) → a.node ≡ b.node → a.port ≡ b.port → a ≡ b
 end_alike a b n p = λ i. record { node = n i; port = p i }
 
 -- the port that it comes to
-lit_here : StepGivesLinks → SignalsAreOfLink → (s : Setting) (y : ℤ) (v : WorldAt) (end : End) (m : Option Module) (k : ℕ) (r : Role) → end_at s k r ≡ Some end →
+pub lit_here : StepGivesLinks → SignalsAreOfLink → (s : Setting) (y : ℤ) (v : WorldAt) (end : End) (m : Option Module) (k : ℕ) (r : Role) → end_at s k r ≡ Some end →
     port_at s (gives s y v (comes_to end m)) k r end ≡ heard v.time (port_at s v k r end) (link_in.CarrierUp m) (pos 0)
 lit_here links signals s y v end m k r is =
     port_given links signals s y v (comes_to end m) k r end is refl

@@ -64,7 +64,7 @@ down_less : (b : Bool) (c : ClockState) → (if b then record c { up = false } e
 down_less true c e = absurd (true_false false e refl)
 down_less false c e = e
 
-was_up : (s : Setting) (w : WorldAt) (n k : ℕ) → has_carrier s (moved s w (Down n)) k ≡ true → has_carrier s w k ≡ true
+pub was_up : (s : Setting) (w : WorldAt) (n k : ℕ) → has_carrier s (moved s w (Down n)) k ≡ true → has_carrier s w k ≡ true
 was_up s w n k c =
     and_less (w.fibre k).joined (ends_are_up (moved s w (Down n)).clock (link_of s k)) (w.fibre k).joined (ends_are_up w.clock (link_of s k)) (λ j. j)
     (ends_less (moved s w (Down n)).clock w.clock (link_of s k) (λ m. down_less (m == n) (w.clock m))) c
@@ -98,11 +98,11 @@ joined_where : (b : Bool) (f g : FibreState) → (if b then f else g).joined ≡
 joined_where true f g = refl
 joined_where false f g = refl
 
-cut_less : (b j up : Bool) → ((if b then false else j) && up) ≡ true → (j && up) ≡ true
+pub cut_less : (b j up : Bool) → ((if b then false else j) && up) ≡ true → (j && up) ≡ true
 cut_less true j up e = absurd (true_false false e refl)
 cut_less false j up e = e
 
-cut_carrier : (s : Setting) (w : WorldAt) (l k : ℕ) → has_carrier s (moved s w (Cut l)) k ≡ ((if k == l then false else (w.fibre k).joined) && ends_are_up w.clock (link_of s k))
+pub cut_carrier : (s : Setting) (w : WorldAt) (l k : ℕ) → has_carrier s (moved s w (Cut l)) k ≡ ((if k == l then false else (w.fibre k).joined) && ends_are_up w.clock (link_of s k))
 cut_carrier s w l k = ap (λ b. b && ends_are_up w.clock (link_of s k)) (joined_where (k == l) (record (w.fibre k) { joined = false }) (w.fibre k))
 
 cut_other : (s : Setting) (w : WorldAt) (l k : ℕ) → (k ≡ l → ⊥) → has_carrier s (moved s w (Cut l)) k ≡ has_carrier s w k
@@ -150,7 +150,7 @@ less_dark true b f e = absurd (true_false b (f refl) e)
 less_dark false b f e = refl
 
 -- a carrier that is new is at one of the node's ports
-came_up : (s : Setting) → IsNetwork s → (w : WorldAt) (n : ℕ) (off : ℤ) (swaps : Items Swap) (k : ℕ) → has_carrier s (moved s w (Up n off swaps)) k ≡ true → (IsLeft s n k (numbers_of (s.set n)) → ⊥) → has_carrier s w k ≡ true
+pub came_up : (s : Setting) → IsNetwork s → (w : WorldAt) (n : ℕ) (off : ℤ) (swaps : Items Swap) (k : ℕ) → has_carrier s (moved s w (Up n off swaps)) k ≡ true → (IsLeft s n k (numbers_of (s.set n)) → ⊥) → has_carrier s w k ≡ true
 came_up s net w n off swaps k c out =
     elim (link_of_node s net (moved s w (Up n off swaps)).clock w.clock n k (link_of s k) refl
     (λ m o. other_clock (record { up = true; off = off; ticked = w.time; samples = 0 }) (w.clock m) m n o)) [
@@ -174,7 +174,7 @@ up_keeps laws s net says y w n off swaps event a h =
     (λ k placed f c. f c (inr (λ t. t))) (λ k d. d)
     (ports_come laws s net y w v n all (gives s y v (given_plain n Reset)) (fair_keeps laws s (CameBut s w v n all) (Uncarried s v) net y v (given_plain n Reset) tt begins)))
 
-join_carrier : (s : Setting) (w : WorldAt) (l : ℕ) (ms sm : ℤ) (k : ℕ) → (k ≡ l → ⊥) → has_carrier s (moved s w (Join l ms sm)) k ≡ has_carrier s w k
+pub join_carrier : (s : Setting) (w : WorldAt) (l : ℕ) (ms sm : ℤ) (k : ℕ) → (k ≡ l → ⊥) → has_carrier s (moved s w (Join l ms sm)) k ≡ has_carrier s w k
 join_carrier s w l ms sm k out =
     ap (λ b. (if b then record { joined = true; ms = ms; sm = sm } else w.fibre k).joined && ends_are_up w.clock (link_of s k)) (not_equal k l out)
 

@@ -29,8 +29,9 @@ use Rattle.wrp_world.specs.Setting.{Setting, end_of, other_of, place_of}
 use Rattle.wrp_world.specs.WorldAt.{WorldAt, has_carrier, new_world}
 use Rattle.wrp_world.proofs.RunCarried.{Uncarried}
 use Rattle.wrp_world.proofs.RunFrames.{FramesKeep}
-use Rattle.wrp_world.proofs.RunKept.{Laws, LinkKeeps, fair_keeps, free_keep, sent_free}
+use Rattle.wrp_world.proofs.RunKept.{IsFree, Laws, LinkKeeps, fair_keeps, free_keep}
 use Rattle.wrp_world.proofs.RunChanges.{bool_of, cut_keeps, down_keeps, join_keeps, true_false, up_keeps}
+use Rattle.wrp_world.proofs.RunGifts.{sent_all}
 use Rattle.wrp_world.proofs.RunHanded.{deliver_keeps, noise_news, not_early, not_forged}
 use Rattle.wrp_world.proofs.RunLinks.{IsDark}
 use Rattle.wrp_world.proofs.RunNetwork.{LinkEnd, end_with, place_end, start_can}
@@ -57,7 +58,7 @@ step_keeps laws s net says y w (Depart n p stamp) event a h =
     let v : WorldAt = moved s w (Depart n p stamp) in
     let gs : List Given = sent_oldest n p stamp (w.clock n).samples (waiting_at w (place_of s n p)) in
     settled s y gs v
-    (free_keep laws s (Placed s v) (Uncarried s v) net y gs v (sent_free n p stamp (w.clock n).samples (waiting_at w (place_of s n p)))
+    (free_keep laws s (Placed s v) (Uncarried s v) net y gs v (sent_all IsFree (λ q seq delay t. tt) n p stamp (w.clock n).samples (waiting_at w (place_of s n p)))
     (still_keeps s w says (Depart n p stamp) event a (λ k. refl) h))
 step_keeps laws s net says y w (Arrive i raw) event a h = still_keeps s w says (Arrive i raw) event a (λ k. refl) h
 step_keeps laws s net says y w (Deliver i) event a h =

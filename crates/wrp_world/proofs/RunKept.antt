@@ -6,8 +6,6 @@ use Rattle.std.specs.Option.{option_map_or}
 use Rattle.wrp_base.specs.declared.link.Module.{Module}
 use Rattle.wrp_base.specs.declared.link.Role.{Role}
 use Rattle.wrp_base.specs.declared.link.Role.TheVariants.{Master, Slave}
-use Rattle.wrp_base.specs.declared.message.Body.{Body}
-use Rattle.wrp_base.specs.declared.message.Body.TheVariants.{Sync, DelayReq, FollowUp, DelayResp, Announce, Signal}
 use Rattle.wrp_base.specs.declared.network.LinkCfg.{LinkCfg}
 use Rattle.wrp_base.specs.Network.{End}
 use Rattle.wrp_config.specs.Laws.{ChildIsDeeper}
@@ -18,11 +16,11 @@ use Rattle.wrp_node.specs.declared.interface.Input.TheVariants.{Tick as TickInpu
 use Rattle.wrp_node.specs.LinkNews.{StepGivesLinks}
 use Rattle.wrp_node.specs.Sends.{SignalsAreOfLink}
 use Rattle.wrp_node.specs.SetLaws.{EndsAreSet}
-use Rattle.wrp_world.specs.Given.{Given, comes_from, given_plain, gives, gives_all, goes_from, sent_oldest, told_sending}
+use Rattle.wrp_world.specs.Given.{Given, comes_from, given_plain, gives, gives_all, goes_from}
 use Rattle.wrp_world.specs.LinkEnds.{in_place, port_at}
 use Rattle.wrp_world.specs.Runs.{IsNetwork}
 use Rattle.wrp_world.specs.Setting.{Setting, end_of, link_of, other_of}
-use Rattle.wrp_world.specs.WorldAt.{Sending, WorldAt}
+use Rattle.wrp_world.specs.WorldAt.{WorldAt}
 use Rattle.wrp_world.proofs.RunCarriers.{both_in, comes_to, pair_away, pair_lights, pair_passes}
 use Rattle.wrp_world.proofs.RunDark.{fair_quiet, given_dark, gone_here, goes_to}
 use Rattle.wrp_world.proofs.RunFrames.{FramesKeep, given_frames}
@@ -112,18 +110,6 @@ pub free_keep : Laws → (s : Setting) (R : Known) (D : Where) → IsNetwork s �
 free_keep laws s R D net y [] v f h = h
 free_keep laws s R D net y (g ∷ gs) v f h =
     free_keep laws s R D net y gs (gives s y v g) f.1 (fair_keeps laws s R D net y v g (free_fair s v g g.input refl f.0) h)
-
-told_sent_free : (n p seq : ℕ) (stamp : ℤ) (samples : ℕ) (body : Body) → AllByRecursion (λ g. IsFree g.input) (told_sending n p seq stamp samples body)
-told_sent_free n p seq stamp samples (Sync origin) = (tt, tt)
-told_sent_free n p seq stamp samples (DelayReq origin) = (tt, tt)
-told_sent_free n p seq stamp samples (FollowUp precise) = tt
-told_sent_free n p seq stamp samples (DelayResp receive requesting) = tt
-told_sent_free n p seq stamp samples (Announce origin utc p1 quality p2 gm steps source suffix) = tt
-told_sent_free n p seq stamp samples (Signal target message) = tt
-
-pub sent_free : (n p : ℕ) (stamp : ℤ) (samples : ℕ) (queue : List Sending) → AllByRecursion (λ g. IsFree g.input) (sent_oldest n p stamp samples queue)
-sent_free n p stamp samples [] = tt
-sent_free n p stamp samples (oldest ∷ rest) = told_sent_free n p oldest.message.head.seq stamp samples oldest.message.body
 
 -- Carriers that come to a link
 

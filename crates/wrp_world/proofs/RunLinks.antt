@@ -51,7 +51,7 @@ IsDark l = l.carrier ≡ false → l ≡ new_link l.role l.set
 no_carrier : (b : Bool) → b ≡ true → b ≡ false → ⊥
 no_carrier b e f = cc
 
-counted_carrier : (l : LinkAt) (s : LinkState) → (counted l s).carrier ≡ l.carrier
+pub counted_carrier : (l : LinkAt) (s : LinkState) → (counted l s).carrier ≡ l.carrier
 counted_carrier l Idle = refl
 counted_carrier l LinkOn = refl
 counted_carrier l _ = refl

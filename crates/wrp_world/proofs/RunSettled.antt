@@ -48,7 +48,7 @@ ends_up c d (Some link) h = ap₂ (λ a b. a && b) (h link.upper) (h link.lower)
 given_carrier : (s : Setting) (y : ℤ) (v : WorldAt) (g : Given) (k : ℕ) → has_carrier s (gives s y v g) k ≡ has_carrier s v k
 given_carrier s y v g k = ap (λ b. (v.fibre k).joined && b) (ends_up (gives s y v g).clock v.clock (link_of s k) (given_up s y v g))
 
-all_given_carrier : (s : Setting) (y : ℤ) (gs : List Given) (v : WorldAt) (k : ℕ) → has_carrier s (gives_all s y v gs) k ≡ has_carrier s v k
+pub all_given_carrier : (s : Setting) (y : ℤ) (gs : List Given) (v : WorldAt) (k : ℕ) → has_carrier s (gives_all s y v gs) k ≡ has_carrier s v k
 all_given_carrier s y [] v k = refl
 all_given_carrier s y (g ∷ gs) v k = all_given_carrier s y gs (gives s y v g) k ∙ given_carrier s y v g k
 

@@ -1,16 +1,10 @@
 -- The time of a node's last tick, or of its start, after every event of every run.
-use Rattle.std.proofs.Common.{◌≡◌, ◌⊎◌, inl, inr, ◌∙◌, refl, ap, sym, subst, ℕ, ◌==◌, ℤ, pos, ◌+ℤ◌, ◌≤ℤ◌, Bool, true, false, if◌then◌else◌, List, [], ◌∷◌, ◌++◌, flat_map, Option, None, Some, Result}
+use Rattle.std.proofs.Common.{◌≡◌, ◌⊎◌, inl, inr, ◌∙◌, refl, ap, sym, subst, ℕ, ◌==◌, ℤ, pos, ◌+ℤ◌, ◌≤ℤ◌, Bool, true, false, if◌then◌else◌, List, [], ◌∷◌, Result}
 use Rattle.std.proofs.lemmas.Bool.Decides.{eqb_tells}
 use Rattle.arrayvec.specs.ArrayVec.{ArrayVec as Items}
 use Rattle.std.specs.List.{AllByRecursion}
-use Rattle.std.specs.Option.{option_map_or}
-use Rattle.wrp_base.specs.declared.link.Module.{Module}
-use Rattle.wrp_base.specs.declared.link.Role.{Role}
 use Rattle.wrp_base.specs.declared.link.Role.TheVariants.{Master}
-use Rattle.wrp_base.specs.declared.message.Body.{Body}
-use Rattle.wrp_base.specs.declared.message.Body.TheVariants.{Sync, DelayReq, FollowUp, DelayResp, Announce, Signal}
 use Rattle.wrp_base.specs.declared.message.PtpMsg.{PtpMsg}
-use Rattle.wrp_base.specs.Network.{End}
 use Rattle.wrp_bounds.specs.Times.{shortest_tick}
 use Rattle.wrp_frame.specs.declared.fault.FrameFault.{FrameFault}
 use Rattle.wrp_node.specs.declared.interface.Input.{Input}
@@ -20,14 +14,14 @@ use Rattle.wrp_world.specs.declared.clocks.ClockState.{ClockState}
 use Rattle.wrp_world.specs.declared.event.Event.{Event}
 use Rattle.wrp_world.specs.declared.event.Event.TheVariants.{Pass, Tick, Sample, Depart, Arrive, Deliver, Noise, Down, Up, Cut, Join}
 use Rattle.wrp_world.specs.declared.event.Swap.{Swap}
-use Rattle.wrp_world.specs.declared.place.Place.{Place}
-use Rattle.wrp_world.specs.Given.{Given, at_ports, clock_told, comes_at, comes_from, delivered, delivered_by, delivered_to, given, given_by, given_plain, gives, gives_all, goes_at, goes_from, if_carried, sent_oldest, step_of, ticked_by, told_sending, world_step}
+use Rattle.wrp_world.specs.Given.{Given, at_ports, clock_told, comes_from, delivered, given, given_by, given_plain, gives, gives_all, goes_from, step_of, ticked_by, world_step}
 use Rattle.wrp_world.specs.Moved.{moved, waiting_at}
 use Rattle.wrp_world.specs.Premises.{Accepts}
 use Rattle.wrp_world.specs.Run.{world_after}
 use Rattle.wrp_world.specs.RunLaws.{TickOrStart, TicksAreApart}
-use Rattle.wrp_world.specs.Setting.{Setting, end_at, other_of, place_of}
-use Rattle.wrp_world.specs.WorldAt.{Arrival, FrameAt, Sending, WorldAt, has_carrier}
+use Rattle.wrp_world.specs.Setting.{Setting, place_of}
+use Rattle.wrp_world.specs.WorldAt.{WorldAt, has_carrier}
+use Rattle.wrp_world.proofs.RunGifts.{all_if, comes_all, delivered_all, goes_all, ports_all, sent_all}
 use Rattle.wrp_world.proofs.RunHanded.{not_early}
 use Rattle.wrp_world.proofs.RunMoves.{moved_ticked, ticked_after}
 use Rattle.wrp_world.proofs.RunTimes.{all_given_time}
@@ -56,62 +50,6 @@ given_ticked s y v g n h = told_same (n == g.to) (clock_told s v g (step_of s y 
 all_given_ticked : (s : Setting) (y : ℤ) (gs : List Given) (v : WorldAt) (n : ℕ) → AllByRecursion (λ g. NoTick g.input) gs → ((gives_all s y v gs).clock n).ticked ≡ (v.clock n).ticked
 all_given_ticked s y [] v n h = refl
 all_given_ticked s y (g ∷ gs) v n h = all_given_ticked s y gs (gives s y v g) n h.1 ∙ given_ticked s y v g n h.0
-
--- What the events give is no tick
-
-append_still : (xs ys : List Given) → AllByRecursion (λ g. NoTick g.input) xs → AllByRecursion (λ g. NoTick g.input) ys → AllByRecursion (λ g. NoTick g.input) (xs ++ ys)
-append_still [] ys h i = i
-append_still (x ∷ xs) ys h i = (h.0, append_still xs ys h.1 i)
-
-if_still : (b : Bool) (xs : List Given) → AllByRecursion (λ g. NoTick g.input) xs → AllByRecursion (λ g. NoTick g.input) (if b then xs else [])
-if_still true xs h = h
-if_still false xs h = tt
-
-told_still : (n p seq : ℕ) (stamp : ℤ) (samples : ℕ) (body : Body) → AllByRecursion (λ g. NoTick g.input) (told_sending n p seq stamp samples body)
-told_still n p seq stamp samples (Sync origin) = (tt, tt)
-told_still n p seq stamp samples (DelayReq origin) = (tt, tt)
-told_still n p seq stamp samples (FollowUp precise) = tt
-told_still n p seq stamp samples (DelayResp receive requesting) = tt
-told_still n p seq stamp samples (Announce origin utc p1 quality p2 gm steps source suffix) = tt
-told_still n p seq stamp samples (Signal target message) = tt
-
-sent_still : (n p : ℕ) (stamp : ℤ) (samples : ℕ) (queue : List Sending) → AllByRecursion (λ g. NoTick g.input) (sent_oldest n p stamp samples queue)
-sent_still n p stamp samples [] = tt
-sent_still n p stamp samples (oldest ∷ rest) = told_still n p oldest.message.head.seq stamp samples oldest.message.body
-
-handed_still : (f : FrameAt) (arrival : Arrival) (o : Option End) → AllByRecursion (λ g. NoTick g.input) (option_map_or (λ end. delivered_to f arrival end.node end.port) o [])
-handed_still f arrival None = tt
-handed_still f arrival (Some end) = (tt, tt)
-
-arrival_still : (s : Setting) (f : FrameAt) (o : Option Arrival) → AllByRecursion (λ g. NoTick g.input) (delivered_by s f o)
-arrival_still s f None = tt
-arrival_still s f (Some arrival) = handed_still f arrival (end_at s f.link (other_of f.by))
-
-delivered_still : (s : Setting) (o : Option FrameAt) → AllByRecursion (λ g. NoTick g.input) (delivered s o)
-delivered_still s None = tt
-delivered_still s (Some f) = arrival_still s f f.arrival
-
-carrier_still : (up : Bool) (m : Option Module) (o : Option End) → AllByRecursion (λ g. NoTick g.input) (option_map_or (λ end. given_plain end.node (Carrier end.port up m) ∷ []) o [])
-carrier_still up m None = tt
-carrier_still up m (Some end) = (tt, tt)
-
-goes_still : (s : Setting) (k : ℕ) (r : Role) → AllByRecursion (λ g. NoTick g.input) (goes_from s k r)
-goes_still s k r = append_still (goes_at s k r) (goes_at s k (other_of r)) (carrier_still false None (end_at s k r)) (carrier_still false None (end_at s k (other_of r)))
-
-comes_still : (s : Setting) (w : WorldAt) (k : ℕ) (r : Role) → AllByRecursion (λ g. NoTick g.input) (comes_from s w k r)
-comes_still s w k r =
-    append_still (comes_at s w k r) (comes_at s w k (other_of r)) (carrier_still true _ (end_at s k r)) (carrier_still true _ (end_at s k (other_of r)))
-
-carried_still : (s : Setting) (w : WorldAt) (f : ℕ → Role → List Given) (o : Option Place) → ((k : ℕ) (r : Role) → AllByRecursion (λ g. NoTick g.input) (f k r)) →
-    AllByRecursion (λ g. NoTick g.input) (if_carried s w f o)
-carried_still s w f None h = tt
-carried_still s w f (Some place) h = if_still (has_carrier s w place.link) (f place.link place.role) (h place.link place.role)
-
-ports_still : (s : Setting) (w : WorldAt) (f : ℕ → Role → List Given) (n : ℕ) (ps : List ℕ) → ((k : ℕ) (r : Role) → AllByRecursion (λ g. NoTick g.input) (f k r)) →
-    AllByRecursion (λ g. NoTick g.input) (flat_map (λ p. if_carried s w f (place_of s n p)) ps)
-ports_still s w f n [] h = tt
-ports_still s w f n (p ∷ ps) h =
-    append_still (if_carried s w f (place_of s n p)) (flat_map (λ q. if_carried s w f (place_of s n q)) ps) (carried_still s w f (place_of s n p) h) (ports_still s w f n ps h)
 
 -- One event
 
@@ -160,22 +98,22 @@ stepped s says y w (Sample m base bits) n a =
     stays s y (given_by s w (moved s w (Sample m base bits)) says (Sample m base bits)) w (moved s w (Sample m base bits)) (Sample m base bits) n (tt, tt) (moved_ticked s w (Sample m base bits) n)
 stepped s says y w (Depart m p stamp) n a =
     stays s y (given_by s w (moved s w (Depart m p stamp)) says (Depart m p stamp)) w (moved s w (Depart m p stamp)) (Depart m p stamp) n
-    (sent_still m p stamp (w.clock m).samples (waiting_at w (place_of s m p))) refl
+    (sent_all NoTick (λ q seq delay t. tt) m p stamp (w.clock m).samples (waiting_at w (place_of s m p))) refl
 stepped s says y w (Arrive i raw) n a = inl refl
 stepped s says y w (Deliver i) n a =
-    stays s y (delivered s (w.frame i)) w (moved s w (Deliver i)) (Deliver i) n (delivered_still s (w.frame i)) refl
+    stays s y (delivered s (w.frame i)) w (moved s w (Deliver i)) (Deliver i) n (delivered_all NoTick (λ p octets raw sample. tt) s (w.frame i)) refl
 stepped s says y w (Noise m p octets raw) n a =
     stays s y (given m (Frame p octets raw (w.clock m).samples) says ∷ []) w (moved s w (Noise m p octets raw)) (Noise m p octets raw) n (tt, tt) refl
 stepped s says y w (Down m) n a =
-    stays s y (at_ports s w (goes_from s) m) w (moved s w (Down m)) (Down m) n (ports_still s w (goes_from s) m (numbers_of (s.set m)) (goes_still s)) (moved_ticked s w (Down m) n)
+    stays s y (at_ports s w (goes_from s) m) w (moved s w (Down m)) (Down m) n (ports_all NoTick s w (goes_from s) m (numbers_of (s.set m)) (goes_all NoTick (λ p. tt) s)) (moved_ticked s w (Down m) n)
 stepped s says y w (Up m off swaps) n a =
     let v : WorldAt = moved s w (Up m off swaps) in
-    starts s y (given_plain m Reset ∷ at_ports s v (comes_from s v) m) w m n off swaps (tt, ports_still s v (comes_from s v) m (numbers_of (s.set m)) (comes_still s v)) v refl
+    starts s y (given_plain m Reset ∷ at_ports s v (comes_from s v) m) w m n off swaps (tt, ports_all NoTick s v (comes_from s v) m (numbers_of (s.set m)) (comes_all NoTick (λ p m2. tt) s v)) v refl
 stepped s says y w (Cut k) n a =
-    stays s y (if has_carrier s w k then goes_from s k Master else []) w (moved s w (Cut k)) (Cut k) n (if_still (has_carrier s w k) (goes_from s k Master) (goes_still s k Master)) refl
+    stays s y (if has_carrier s w k then goes_from s k Master else []) w (moved s w (Cut k)) (Cut k) n (all_if NoTick (has_carrier s w k) (goes_from s k Master) (goes_all NoTick (λ p. tt) s k Master)) refl
 stepped s says y w (Join k ms sm) n a =
     let v : WorldAt = moved s w (Join k ms sm) in
-    stays s y (if has_carrier s v k then comes_from s v k Master else []) w v (Join k ms sm) n (if_still (has_carrier s v k) (comes_from s v k Master) (comes_still s v k Master)) refl
+    stays s y (if has_carrier s v k then comes_from s v k Master else []) w v (Join k ms sm) n (all_if NoTick (has_carrier s v k) (comes_from s v k Master) (comes_all NoTick (λ p m2. tt) s v k Master)) refl
 
 pub ticks_are_apart : TicksAreApart
 ticks_are_apart s h before n run = stepped s h.says h.answer (world_after s before) h.event n run.accepted.0

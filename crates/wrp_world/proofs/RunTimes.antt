@@ -83,11 +83,11 @@ one_module false e f h = same_module f
 true_false : true ≡ false → ⊥
 true_false e = cc
 
-both_up : (a b : Bool) → (a && b) ≡ true → (a ≡ true) × (b ≡ true)
+pub both_up : (a b : Bool) → (a && b) ≡ true → (a ≡ true) × (b ≡ true)
 both_up true b e = (refl, e)
 both_up false b e = absurd (true_false (sym e))
 
-end_up : (w : WorldAt) (r : Role) (o : Option LinkCfg) (n : ℕ) → ends_are_up w.clock o ≡ true → is_of n (option_map (end_of r) o) ≡ true → (w.clock n).up ≡ true
+pub end_up : (w : WorldAt) (r : Role) (o : Option LinkCfg) (n : ℕ) → ends_are_up w.clock o ≡ true → is_of n (option_map (end_of r) o) ≡ true → (w.clock n).up ≡ true
 end_up w r None n e f = absurd (true_false (sym e))
 end_up w Master (Some link) n e f =
     subst (λ m. (w.clock m).up ≡ true) (eqb-true link.upper n f) (both_up (w.clock link.upper).up (w.clock link.lower).up e).0
@@ -106,7 +106,7 @@ all_right P [] ys h = h
 all_right P (x ∷ xs) ys h = all_right P xs ys h.1
 
 -- the last check of a node that comes up
-comes_up_down : (s : Setting) (w : WorldAt) (says : Result PtpMsg FrameFault) (n : ℕ) (off : ℤ) (swaps : Items Swap) → Accepts s w says (Up n off swaps) → not (not (w.clock n).up) ≡ false
+pub comes_up_down : (s : Setting) (w : WorldAt) (says : Result PtpMsg FrameFault) (n : ℕ) (off : ℤ) (swaps : Items Swap) → Accepts s w says (Up n off swaps) → not (not (w.clock n).up) ≡ false
 comes_up_down s w says n off swaps a =
     let v : WorldAt = moved s w (Up n off swaps) in
     (all_right Holds (map (swap_stands s n) swaps.items) (stands (not (w.clock n).up) ∷ [])

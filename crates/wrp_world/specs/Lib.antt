@@ -7,6 +7,7 @@ pub mod Flights
 pub mod Gifts
 pub mod Given
 pub mod Giving
+pub mod InRun
 pub mod Laws
 pub mod LinkEnds
 pub mod Moved
@@ -19,6 +20,7 @@ pub mod Room
 pub mod Rows
 pub mod Run
 pub mod RunLaws
+pub mod RunStamps
 pub mod Runs
 pub mod SameHandshake
 pub mod Setting

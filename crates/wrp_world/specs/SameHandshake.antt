@@ -39,6 +39,12 @@ LinkOnInTheSameHandshake =
     (s : Setting) (events : List Happened) (n p : ℕ) (place : Place) → IsRun s events → place_of s n p ≡ Some place →
     state_at s (world_after s events) n p ≡ LinkOn → IsInTheSameHandshake (world_after s events) place
 
+-- carriers come and go at both ends of a link in the same event: a port has its carrier exactly where its link has
+abbrev pub CarriersAreTheLinks : Type 0
+CarriersAreTheLinks =
+    (s : Setting) (events : List Happened) (k : ℕ) (r : Role) (link : LinkCfg) → IsRun s events → link_of s k ≡ Some link →
+    (port_at s (world_after s events) k r (end_of r link)).link.carrier ≡ has_carrier s (world_after s events) k
+
 -- a port has its carrier only where its link has, and then its module is the one in place
 abbrev pub CarriersWithTheirModules : Type 0
 CarriersWithTheirModules =

@@ -23,7 +23,7 @@ pub use laws::{
 };
 pub use outcome::{NodeOut, Refused};
 pub use run_laws::{
-    frames_have_times, frames_were_put_out, link_on_in_the_same_handshake, modules_stay,
-    ticks_are_apart, time_never_falls,
+    frames_are_stamped, frames_have_times, frames_were_put_out, link_on_in_the_same_handshake,
+    modules_stay, ticks_are_apart, time_never_falls, worlds_are_in_runs,
 };
 pub use world::World;

@@ -85,17 +85,17 @@ impl Plant {
         }
     }
 
-    /// The inputs that an event gives to the nodes, in their order, are put into `outs` in place of what
-    /// stood there: at most 37. They are those of the moment before the event changes anything. What
-    /// the entries' outputs hold is not said, and neither is what is listed where memory could not be
-    /// had.
+    /// The inputs that an event gives to the nodes, in their order, are put into `outs` in place of
+    /// what stood there: at most 37. They are computed before the event changes anything. What the
+    /// entries' outputs hold is not said, nor what is listed where memory could not be had.
     pub fn give(&self, event: &Event, outs: &mut Vec<NodeOut>) -> Result<(), AllocError>
         requires fits { FitsPlant self.now }
         requires event { IsEventOf self.now.net.cfg event.now }
         requires few { self.now.events + 1 < 2 ^ 32 }
         ensures gifts { OnOk result ((s : Setting) (w : WorldAt) (says : Result PtpMsg FrameFault)
             → ((n : ℕ) → s.set n ≡ set_of s.cfg n) → PlantIs s w self.now → IsSaid event.now says
-            → Accepts s w says event.now → AreGifts s w says event.now (put_of self.now event.now) outs.new.items) }
+            → Accepts s w says event.now
+            → AreGifts s w says event.now (put_of self.now event.now) outs.new.items) }
         ensures inputs { OnOk result (AllByRecursion (FitsGift self.now.net.cfg) outs.new.items) }
         ensures few { OnOk result (length outs.new.items ≤ 37) }
     {

@@ -1,3 +1,4 @@
+use Rattle.wrp_world.proofs.RunBoth.{carriers_are_the_links}
 use Rattle.wrp_world.proofs.RunKept.{Laws}
 use Rattle.wrp_world.proofs.RunEvents.{carriers_with_their_modules, link_on_in_the_same_handshake, link_on_with_the_deltas, links_can_be}
 use Rattle.wrp_world.proofs.run_laws.link_on_in_the_same_handshake.Goals as goal
@@ -21,6 +22,9 @@ returns-clause-handshake c = link_on_in_the_same_handshake (laws c)
 
 pub returns-clause-deltas : goal.returns-clause-deltas
 returns-clause-deltas c = link_on_with_the_deltas (laws c)
+
+pub returns-clause-carriers : goal.returns-clause-carriers
+returns-clause-carriers c = carriers_are_the_links (laws c)
 
 pub returns-clause-modules : goal.returns-clause-modules
 returns-clause-modules c = carriers_with_their_modules (laws c)

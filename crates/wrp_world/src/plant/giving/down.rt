@@ -16,7 +16,8 @@ impl Plant {
     // At one port, if the node has it.
     fn goes_at_port(&self, n: u8, port: u16, outs: &mut Vec<NodeOut>) -> Result<(), AllocError>
         requires { FitsPlant self.now }
-        ensures { OnOk result (Adds self.now 2 (λ s w. if_carried s w (goes_from s) (place_in s n port))
+        ensures { OnOk result (Adds self.now 2
+            (λ s w. if_carried s w (goes_from s) (place_in s n port))
             outs.old.items outs.new.items) }
     {
         match place_of(&self.net.cfg, n, port) {
@@ -28,7 +29,8 @@ impl Plant {
     // At all of them.
     fn goes_at_ports(&self, n: u8, outs: &mut Vec<NodeOut>) -> Result<(), AllocError>
         requires { FitsPlant self.now }
-        ensures { OnOk result (Adds self.now 36 (λ s w. at_numbers s w (goes_from s) n (from_on 18 1))
+        ensures { OnOk result (Adds self.now 36
+            (λ s w. at_numbers s w (goes_from s) n (from_on 18 1))
             outs.old.items outs.new.items) }
     {
         for i in 0..LAST_PORT {

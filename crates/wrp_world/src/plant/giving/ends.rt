@@ -94,7 +94,8 @@ impl Plant {
     fn comes_at(&self, place: Place, name: &Name, outs: &mut Vec<NodeOut>) -> Result<(), AllocError>
         requires fits { FitsPlant self.now }
         requires link { place.link < length self.now.net.cfg.links.items }
-        ensures { OnOk result (Adds self.now 1 (λ s w. comes_over s place.link place.role name.now.bytes)
+        ensures { OnOk result (Adds self.now 1
+            (λ s w. comes_over s place.link place.role name.now.bytes)
             outs.old.items outs.new.items) }
     {
         let module = self.entry(place, name);
@@ -119,7 +120,8 @@ impl Plant {
         Ok(())
     }
 
-    /// The carrier comes at an end of a link, and then at the other, over the modules of these names.
+    /// The carrier comes at an end of a link and then at the other, over the modules of these
+    /// names.
     pub fn comes_from(
         &self,
         place: Place,

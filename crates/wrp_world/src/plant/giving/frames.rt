@@ -54,7 +54,8 @@ fn sending(message: &PtpMsg, port: u16, stamp: Stamp) -> Option<Input>
 
 // The same of octets.
 fn sending_of(octets: &[u8], port: u16, stamp: Stamp) -> Option<Input>
-    ensures is { (message : Message) → Spells octets.now message → result ≡ sent_by port stamp message }
+    ensures is { (message : Message) → Spells octets.now message
+        → result ≡ sent_by port stamp message }
     ensures fits { (cfg : Net) (n : ℕ) → has_port cfg n port ≡ true → IsStamp stamp
         → IfSome result (FitsNode cfg n) }
 {
@@ -119,7 +120,8 @@ impl Plant {
     // The same of a frame that departed.
     fn arrived(&self, frame: &Departed) -> Option<Gift>
         requires fits { FitsPlant self.now }
-        requires frame { FitsDeparted (length self.now.net.cfg.links.items) self.now.events frame.now }
+        requires frame { FitsDeparted (length self.now.net.cfg.links.items)
+            self.now.events frame.now }
         ensures gifts { (s : Setting) (w : WorldAt) (f : FrameAt) → PlantIs s w self.now
             → DepartedIs f frame.now
             → AllZip (GiftIs frame.now.sent) (delivered_by s f f.arrival) (entries_of result) }
@@ -136,8 +138,8 @@ impl Plant {
         requires fits { FitsPlant self.now }
         requires link { frame.now.link < length self.now.net.cfg.links.items }
         requires raw { IsRaw reception.raw }
-        ensures gifts { (s : Setting) (w : WorldAt) (f : FrameAt) (a : Arrival) → PlantIs s w self.now
-            → DepartedIs f frame.now → ReceptionIs a reception
+        ensures gifts { (s : Setting) (w : WorldAt) (f : FrameAt) (a : Arrival)
+            → PlantIs s w self.now → DepartedIs f frame.now → ReceptionIs a reception
             → AllZip (GiftIs frame.now.sent) (delivered_by s f (Some a)) (listed result ∷ []) }
         ensures fits { FitsGift self.now.net.cfg (listed result) }
     {
@@ -160,7 +162,8 @@ impl Plant {
     /// The true time at which a frame was put out, 0 where its number was not given.
     pub fn sent_at(&self, number: u32) -> Tau
         requires { FitsPlant self.now }
-        ensures { result ≡ option_map_or (λ d. d.sent) (frame_numbered number self.now.frames) (pos 0) }
+        ensures { result ≡ option_map_or (λ d. d.sent)
+            (frame_numbered number self.now.frames) (pos 0) }
     {
         match self.frame(number) {
             Some(frame) => frame.sent,

@@ -84,7 +84,8 @@ impl Plant {
     pub fn give_join(&self, link: u8, outs: &mut Vec<NodeOut>) -> Result<(), AllocError>
         requires fits { FitsPlant self.now }
         requires link { link < length self.now.net.cfg.links.items }
-        ensures { OnOk result ((ms sm : ℤ) → Gives self.now (event.Join link ms sm) outs.new.items) }
+        ensures { OnOk result ((ms sm : ℤ)
+            → Gives self.now (event.Join link ms sm) outs.new.items) }
     {
         outs.clear();
         self.comes_if_up(link, outs)

@@ -39,8 +39,8 @@ impl Plant {
     fn is_up_with(&self, n: u8, other: u8) -> bool
         requires fits { FitsPlant self.now }
         requires node { other < length self.now.net.cfg.nodes.items }
-        ensures { (s : Setting) (w : WorldAt) (off : ℤ) (swaps : Items SwapAt) → PlantIs s w self.now
-            → result ≡ ((up_of s w n off swaps).clock other).up }
+        ensures { (s : Setting) (w : WorldAt) (off : ℤ) (swaps : Items SwapAt)
+            → PlantIs s w self.now → result ≡ ((up_of s w n off swaps).clock other).up }
     {
         let up = self.is_up(other);
         either(other == n, up)
@@ -50,8 +50,8 @@ impl Plant {
     fn has_carrier_with(&self, n: u8, k: u8) -> bool
         requires fits { FitsPlant self.now }
         requires link { k < length self.now.net.cfg.links.items }
-        ensures { (s : Setting) (w : WorldAt) (off : ℤ) (swaps : Items SwapAt) → PlantIs s w self.now
-            → result ≡ has_carrier s (up_of s w n off swaps) k }
+        ensures { (s : Setting) (w : WorldAt) (off : ℤ) (swaps : Items SwapAt)
+            → PlantIs s w self.now → result ≡ has_carrier s (up_of s w n off swaps) k }
     {
         let link = self.link_cfg(k);
         let joined = self.joined(k);
@@ -123,8 +123,10 @@ impl Plant {
         outs: &mut Vec<NodeOut>,
     ) -> Result<(), AllocError>
         requires { FitsPlant self.now }
-        ensures { OnOk result ((off : ℤ) → Adds self.now 2 (λ s w. if_carried s (up_of s w n off swaps.now)
-            (comes_from s (up_of s w n off swaps.now)) (place_in s n port)) outs.old.items outs.new.items) }
+        ensures { OnOk result ((off : ℤ) → Adds self.now 2
+            (λ s w. if_carried s (up_of s w n off swaps.now)
+            (comes_from s (up_of s w n off swaps.now)) (place_in s n port))
+            outs.old.items outs.new.items) }
     {
         match place_of(&self.net.cfg, n, port) {
             Some(place) => self.comes_if_carried(n, swaps, place, outs),
@@ -140,8 +142,10 @@ impl Plant {
         outs: &mut Vec<NodeOut>,
     ) -> Result<(), AllocError>
         requires { FitsPlant self.now }
-        ensures { OnOk result ((off : ℤ) → Adds self.now 36 (λ s w. at_numbers s (up_of s w n off swaps.now)
-            (comes_from s (up_of s w n off swaps.now)) n (from_on 18 1)) outs.old.items outs.new.items) }
+        ensures { OnOk result ((off : ℤ) → Adds self.now 36
+            (λ s w. at_numbers s (up_of s w n off swaps.now)
+            (comes_from s (up_of s w n off swaps.now)) n (from_on 18 1))
+            outs.old.items outs.new.items) }
     {
         for i in 0..LAST_PORT {
             self.comes_at_port(n, swaps, i + 1, outs)?;
@@ -158,7 +162,8 @@ impl Plant {
     ) -> Result<(), AllocError>
         requires fits { FitsPlant self.now }
         requires node { n < length self.now.net.cfg.nodes.items }
-        ensures { OnOk result ((off : ℤ) → Gives self.now (event.Up n off swaps.now) outs.new.items) }
+        ensures { OnOk result ((off : ℤ)
+            → Gives self.now (event.Up n off swaps.now) outs.new.items) }
     {
         outs.clear();
         add(

@@ -94,8 +94,8 @@ fn name_for<'a>(name: &'a Name, port: u16, swaps: &'a [Swap]) -> &'a Name
     }
 }
 
-/// The name of the module that is in place at an end once these are put in place at its node, if it is
-/// the node's.
+/// The name of the module that is in place at an end once these are put in place at a node, where the
+/// end is the node's.
 pub fn name_with<'a>(name: &'a Name, is_its: bool, port: u16, swaps: &'a [Swap]) -> &'a Name
     ensures { result.now.bytes ≡ name_by is_its port swaps.now name.now.bytes }
 {

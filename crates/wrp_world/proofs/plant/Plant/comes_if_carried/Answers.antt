@@ -1,4 +1,4 @@
-use Rattle.std.proofs.Common.{ℤ, arith}
+use Rattle.std.proofs.Common.{arith}
 use Rattle.wrp_world.specs.Giving.{up_of}
 use Rattle.wrp_world.specs.WorldAt.{has_carrier}
 use Rattle.wrp_world.proofs.Carriers.{where_not, where_so}

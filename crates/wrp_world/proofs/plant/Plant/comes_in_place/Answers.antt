@@ -1,6 +1,5 @@
 use Rattle.std.proofs.Common.{◌∙◌, ap, arith}
 use Rattle.wrp_world.specs.declared.place.Place.{Place}
-use Rattle.wrp_world.specs.WorldAt.{WorldAt}
 use Rattle.wrp_world.proofs.Carriers.{comes_both}
 use Rattle.wrp_world.proofs.Departing.{on_ok}
 use Rattle.wrp_world.proofs.Listing.{adds_as}

@@ -1,5 +1,4 @@
-use Rattle.std.proofs.Common.{◌≡◌, ◌∙◌, ap, sym, subst, arith}
-use Rattle.wrp_base.specs.declared.time.Stamp.{Stamp}
+use Rattle.std.proofs.Common.{◌∙◌, ap, sym, subst, arith}
 use Rattle.wrp_port.specs.PortAt.{IsStamp}
 use Rattle.wrp_world.specs.declared.clocks.ClockState.{ClockState}
 use Rattle.wrp_world.proofs.FrameGifts.{departure_gives, no_departure_gives, stamp_fits}

@@ -1,5 +1,4 @@
-use Rattle.std.proofs.Common.{◌∙◌, ap, sym, subst}
-use Rattle.wrp_node.specs.declared.interface.Input.TheVariants.{Frame}
+use Rattle.std.proofs.Common.{◌∙◌, ap, sym}
 use Rattle.wrp_world.specs.declared.clocks.ClockState.{ClockState}
 use Rattle.wrp_world.proofs.FrameGifts.{no_noise_gives, noise_gives_copied}
 use Rattle.wrp_world.proofs.PortNumbers.{has_placed}

@@ -1,4 +1,3 @@
-use Rattle.std.proofs.Common.{◌∙◌, sym}
 use Rattle.wrp_world.proofs.FrameGifts.{none_spelled, one_spelled}
 use Rattle.wrp_world.proofs.plant.giving.frames.sending_of.Goals as goal
 
