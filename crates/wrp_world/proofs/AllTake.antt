@@ -5,6 +5,8 @@ use Rattle.std.proofs.lemmas.List.{take_all}
 use Rattle.std.proofs.lemmas.Option.{slice_get-get_or}
 use Rattle.std.specs.Int.{w128}
 use Rattle.std.specs.List.{AllByRecursion, AllZip}
+use Rattle.wrp_base.specs.declared.configuration.NetCfg.{NetCfg}
+use Rattle.wrp_base.specs.Network.{node_count}
 use Rattle.wrp_config.specs.declared.network.Network.{Network}
 use Rattle.wrp_node.specs.declared.interface.Input.{Input}
 use Rattle.wrp_node.specs.declared.interface.Input.TheVariants.{Tick, Sample, Frame, Sent, Carrier, Reset}
@@ -19,7 +21,7 @@ use Rattle.wrp_world.specs.Room.{HasEndRoom, HasRoom, HasSpanRoom}
 use Rattle.wrp_world.specs.Setting.{Setting}
 use Rattle.wrp_world.specs.StandsFor.{IsValid, StandsFor, WorldOf}
 use Rattle.wrp_world.specs.Step.{step_seen}
-use Rattle.wrp_world.specs.Taking.{Asks, FirstAsks, Gave, GaveAll, Gives, is_plain, laws_of}
+use Rattle.wrp_world.specs.Taking.{AreOfNodes, Asks, FirstAsks, Gave, GaveAll, Gives, is_plain, laws_of}
 use Rattle.wrp_world.specs.WorldAt.{WorldAt}
 use Rattle.wrp_world.proofs.Turned.{length_put, put_else}
 
@@ -150,12 +152,22 @@ pub record TakenTo {F : Type 0} (pre : F → ℤ → Type 0) (post : F → ℤ �
   pub count : length after ≡ length before
   pub left : (n : ℕ) → k ≤ n → slice_get after n ≡ slice_get before n
   pub gave : (y : ℤ) × GivesFirst post put y k old now before after
+  pub nodes : AreOfNodes old.plant.net.cfg after
 
 -- what each input asks
 pub record AllMay {F : Type 0} (old : WorldOf F) (outs : List NodeOut) : Type 0 where
   pub gifts : AllByRecursion (FitsGift old.plant.net.cfg) outs
   pub asks : FirstAsks old outs
   pub room : HasRoom (length outs) old.plant
+
+nodes_of : (cfg : NetCfg) (outs : List NodeOut) → AllByRecursion (FitsGift cfg) outs → AreOfNodes cfg outs
+nodes_of cfg [] h = tt
+nodes_of cfg (out ∷ outs) h = (h.0.node, nodes_of cfg outs h.1)
+
+all_put : {A : Type 0} (P : A → Type 0) (xs : List A) (k : ℕ) (v : A) → P v → AllByRecursion P xs → AllByRecursion P (slice_set xs k v)
+all_put P [] k v h all = tt
+all_put P (x ∷ xs) zero v h all = (h, all.1)
+all_put P (x ∷ xs) (suc k) v h all = (all.0, all_put P xs k v h all.1)
 
 pub taken_none : {F : Type 0} (pre : F → ℤ → Type 0) (post : F → ℤ → ℤ → Type 0) (put : ℤ) (old : WorldOf F) (outs : List NodeOut) → IsValid pre post old → AllMay old outs →
     TakenTo pre post put old old outs outs 0
@@ -169,6 +181,7 @@ taken_none pre post put old outs v h = record {
   count = refl;
   left = λ n e. refl;
   gave = (pos 0, record { stands = λ s v gs st i. st; seen = λ s v gs st i. refl });
+  nodes = nodes_of old.plant.net.cfg outs h.gifts;
 }
 
 -- the input at the place that the loop has come to
@@ -211,6 +224,7 @@ room_at pre post put old now before after k l t =
 pub record TookNext {F : Type 0} (pre : F → ℤ → Type 0) (post : F → ℤ → ℤ → Type 0) (put : ℤ) (now new : WorldOf F) (out made : NodeOut) : Type 0 where
   pub valid : IsValid pre post new
   pub gave : Gave post put now new out made
+  pub node : made.node ≡ out.node
   pub room : (k : ℕ) → HasRoom (k + 1) now.plant → HasRoom k new.plant
   pub net : new.plant.net ≡ now.plant.net
   pub events : new.plant.events ≡ now.plant.events
@@ -232,6 +246,9 @@ taken_next pre post put old now new before after k out made at l h t n =
       first = λ e. absurd (not_zero k e);
       count = length_put after k made ∙ t.count;
       left = λ m e. put_else after k m made (λ f. omega (arith, e, f)) ∙ t.left m (omega (arith, e));
+      nodes =
+          all_put (λ (o : NodeOut). o.node < node_count old.plant.net.cfg) after k made
+          (subst (λ m. m < node_count old.plant.net.cfg) (sym n.node) (all_at (FitsGift old.plant.net.cfg) before k out h.gifts at).node) t.nodes;
       gave =
           subst (λ j. (y : ℤ) × GivesFirst post put y j old new before (slice_set after k made)) next
           (gave_next post put k old now new before after out made h.asks at l t.gave n.gave);
@@ -254,6 +271,10 @@ taken_all pre post put old now before after k l t =
         seen = λ s v gs st z. ap (map step_seen) (sym (take_all k after l)) ∙ t.gave.1.seen s v gs st z ∙ ap (steps_of s y v) (whole gs z);
       },
     )
+
+pub all_of_nodes : {F : Type 0} (pre : F → ℤ → Type 0) (post : F → ℤ → ℤ → Type 0) (put : ℤ) (old now : WorldOf F) (before after : List NodeOut) (k : ℕ) →
+    TakenTo pre post put old now before after k → AreOfNodes now.plant.net.cfg after
+all_of_nodes pre post put old now before after k t = subst (λ (n : Network). AreOfNodes n.cfg after) (sym t.net) t.nodes
 
 -- the time is read as it is
 pub all_read : {F : Type 0} (post : F → ℤ → ℤ → Type 0) (put : ℤ) (old new : WorldOf F) (before after : List NodeOut) → FitsSigned w128 put →

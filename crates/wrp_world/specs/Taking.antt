@@ -1,7 +1,9 @@
 -- What the nodes make of a world as they take the inputs of an event, one after another (this
 -- project's profile).
-use Rattle.std.specs.Prelude.{◌≡◌, ◌≤◌, ◌+◌, ◌%◌, ◌==◌, ℕ, ℤ, Bool, true, false, List, [], ◌∷◌, map, Option}
+use Rattle.std.specs.Prelude.{◌≡◌, ◌≤◌, ◌<◌, ◌+◌, ◌%◌, ◌==◌, ℕ, ℤ, Bool, true, false, List, [], ◌∷◌, map, Option}
 use Rattle.std.specs.List.{AllByRecursion, AllZip}
+use Rattle.wrp_base.specs.declared.configuration.NetCfg.{NetCfg}
+use Rattle.wrp_base.specs.Network.{node_count}
 use Rattle.wrp_law.specs.Law.{LawOf}
 use Rattle.wrp_node.specs.Control.{law_in}
 use Rattle.wrp_node.specs.declared.interface.Input.{Input}
@@ -100,6 +102,10 @@ abbrev pub GaveAll :
     {F : Type 0} → (F → ℤ → ℤ → Type 0) → ℤ → (old new : WorldOf F) →
     (before after : List NodeOut) → Type 0
 GaveAll post put old new before after = (answer : ℤ) × GivesAll post put answer old new before after
+
+-- each step is one of a node of the network
+abbrev pub AreOfNodes : NetCfg → List NodeOut → Type 0
+AreOfNodes cfg outs = AllByRecursion (λ (out : NodeOut). out.node < node_count cfg) outs
 
 -- the laws of the nodes
 abbrev pub laws_of : {F : Type 0} → WorldOf F → List (Option (LawOf F))

@@ -10,7 +10,7 @@ ghost use Rattle.wrp_node.specs.StandsFor.{Took};
 ghost use Rattle.wrp_world.specs.FitsGifts.{FitsGift};
 ghost use Rattle.wrp_world.specs.Gifts.{IsRead};
 ghost use Rattle.wrp_world.specs.Given.{Given, in_body, in_frame, mover_of};
-ghost use Rattle.wrp_world.specs.Taking.{Asks, FirstAsks, Gave, GaveAll};
+ghost use Rattle.wrp_world.specs.Taking.{AreOfNodes, Asks, FirstAsks, Gave, GaveAll};
 ghost use Rattle.wrp_world.specs.Taking.{IsNewsOf, is_signaling, laws_of};
 ghost use Rattle.wrp_world.specs.Room.{HasRoom};
 ghost use Rattle.wrp_world.specs.StandsFor.{IsValid};
@@ -32,6 +32,7 @@ impl<F: Fn(i64) -> i64> World<F> {
         requires room { HasRoom (length outs.old.items) self.old.plant }
         ensures valid { IsValid F.pre F.post self.new }
         ensures gave { GaveAll F.post put self.old self.new outs.old.items outs.new.items }
+        ensures nodes { AreOfNodes self.new.plant.net.cfg outs.new.items }
         ensures net { self.new.plant.net ≡ self.old.plant.net }
         ensures events { self.new.plant.events ≡ self.old.plant.events }
         ensures laws { laws_of self.new ≡ laws_of self.old }
@@ -49,6 +50,7 @@ impl<F: Fn(i64) -> i64> World<F> {
         requires room { HasRoom 1 self.old.plant }
         ensures valid { IsValid F.pre F.post self.new }
         ensures gave { Gave F.post put self.old self.new out.old out.new }
+        ensures node { out.new.node ≡ out.old.node }
         ensures room { (k : ℕ) → HasRoom (k + 1) self.old.plant → HasRoom k self.new.plant }
         ensures net { self.new.plant.net ≡ self.old.plant.net }
         ensures events { self.new.plant.events ≡ self.old.plant.events }

@@ -4,7 +4,7 @@ ghost use Rattle.wrp_world.specs.declared.outcome.Refused.TheVariants.{Broken};
 ghost use Rattle.wrp_world.specs.RunsOn.{RunsOn};
 ghost use Rattle.wrp_world.specs.StandsFor.{IsValid};
 ghost use Rattle.wrp_world.specs.Step.{IsRefusal, MayCome, StaysSo, Stepped};
-ghost use Rattle.wrp_world.specs.Taking.{laws_of};
+ghost use Rattle.wrp_world.specs.Taking.{AreOfNodes, laws_of};
 
 use super::World;
 use crate::checks::Breach;
@@ -23,6 +23,7 @@ impl<F: Fn(i64) -> i64> World<F> {
         ensures valid { IsValid F.pre F.post self.new }
         ensures steps { OnOk result (Stepped F.post event.now self.old self.new outs.new.items) }
         ensures handshakes { OnOk result (RunsOn F.post event.now self.old self.new) }
+        ensures nodes { OnOk result (AreOfNodes self.new.plant.net.cfg outs.new.items) }
         ensures refusal { IfErr result (IsRefusal F.post event.now self.old) }
         ensures stays { OnErr result (StaysSo F.post self.old self.new) }
         ensures counted { OnOk result (self.new.plant.events ≡ self.old.plant.events + 1) }
@@ -49,6 +50,7 @@ impl<F: Fn(i64) -> i64> World<F> {
         ensures steps { IfOk result (λ outs. Stepped F.post event.now self.old self.new
             outs.items) }
         ensures handshakes { OnOk result (RunsOn F.post event.now self.old self.new) }
+        ensures nodes { IfOk result (λ outs. AreOfNodes self.new.plant.net.cfg outs.items) }
         ensures refusal { IfErr result (IsRefusal F.post event.now self.old) }
         ensures stays { OnErr result (StaysSo F.post self.old self.new) }
         ensures counted { OnOk result (self.new.plant.events ≡ self.old.plant.events + 1) }

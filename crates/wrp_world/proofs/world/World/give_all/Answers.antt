@@ -1,5 +1,5 @@
 use Rattle.std.proofs.Common.{arith}
-use Rattle.wrp_world.proofs.AllTake.{all_read, asks_at, at_hand, gift_at, room_at, taken_all, taken_next, taken_none}
+use Rattle.wrp_world.proofs.AllTake.{all_of_nodes, all_read, asks_at, at_hand, gift_at, room_at, taken_all, taken_next, taken_none}
 use Rattle.wrp_world.proofs.world.World.give_all.Goals as goal
 
 pub loop-k-init : goal.loop-k-init
@@ -29,6 +29,7 @@ loop-k-preserved g c =
     (record {
       valid = c.give_one.ensures.valid;
       gave = c.give_one.ensures.gave;
+      node = c.give_one.ensures.node;
       room = c.give_one.ensures.room;
       net = c.give_one.ensures.net;
       events = c.give_one.ensures.events;
@@ -42,6 +43,9 @@ pub returns-clause-gave : goal.returns-clause-gave
 returns-clause-gave g c =
     all_read _ c.args.put c.args.self.now c.loop-k.self c.args.outs.now.items c.loop-k.outs.items (record { sfits = c.ranges.put.sfits })
     (taken_all _ _ _ c.args.self.now c.loop-k.self c.args.outs.now.items c.loop-k.outs.items c.loop-k.k (omega (arith, c.loop-k.invariant.count)) c.loop-k.invariant)
+
+pub returns-clause-nodes : goal.returns-clause-nodes
+returns-clause-nodes g c = all_of_nodes _ _ _ _ _ _ _ _ c.loop-k.invariant
 
 pub returns-clause-net : goal.returns-clause-net
 returns-clause-net g c = c.loop-k.invariant.net
