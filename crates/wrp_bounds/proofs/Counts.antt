@@ -15,9 +15,3 @@ pub read_of_size : (size : ℕ) (z : ℤ) → unsigned_abs z ≤ size → size <
 read_of_size size z limit small =
     let fits : FitsSigned w64 z = omega (arith, ints) in
     to_z-of_z w64 z fits
-
--- and stays in its range
-pub stays_between : (least greatest : ℕ) (z : ℤ) → IsFromTo least greatest z → greatest < 2 ^ 62 → IsFromTo least greatest (to_z w64 (of_z w64 z))
-stays_between least greatest z range small =
-    let fits : FitsSigned w64 z = omega (arith, ints) in
-    rw (to_z-of_z w64 z fits) range

@@ -10,11 +10,11 @@ mod laws;
 mod motion;
 mod network;
 mod numbers;
-#[cfg(test)]
-mod tests;
 mod times;
 
 pub use bounds::{holdover, hop, path};
 pub use inequalities::check;
 pub use inequality::Clash;
 pub use laws::{grandmaster_is_exact, path_of_child, rounds_up};
+pub use network::{held_motion, link_above, numbers_over};
+pub use numbers::HopNumbers;

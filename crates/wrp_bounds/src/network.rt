@@ -19,7 +19,7 @@ fn first_above<'a>(cfg: &'a NetCfg, n: u8) -> Option<&'a LinkCfg>
     cfg.links.iter().find(|link| link.lower == n)
 }
 
-// The link above a node.
+/// The link above a node.
 pub fn link_above<'a>(cfg: &'a NetCfg, n: u8) -> Option<&'a LinkCfg>
     requires ranges { HasRanges cfg.now }
     requires tree { IsTree cfg.now }
@@ -59,7 +59,7 @@ fn end_of(cfg: &NetCfg, n: u8, node: &NodeCfg) -> End
     }
 }
 
-// What the bound of the hop over a link is made of.
+/// What the bound of the hop over a link is made of.
 pub fn numbers_over(cfg: &NetCfg, link: &LinkCfg) -> HopNumbers
     requires ranges { HasRanges cfg.now }
     requires tree { IsTree cfg.now }
@@ -86,7 +86,7 @@ pub fn numbers_over(cfg: &NetCfg, link: &LinkCfg) -> HopNumbers
     }
 }
 
-// How far a node may move in HOLDOVER.
+/// How far a node may move in HOLDOVER, in tau.
 #[tactic(auto, unfolding(crate::specs::Bounds::held_motion))]
 pub fn held_motion(cfg: &NetCfg, n: u8) -> u128
     requires ranges { HasRanges cfg.now }

@@ -52,7 +52,7 @@ pub struct HopNumbers {
 }
 
 impl HopNumbers {
-    // The error of the phase detector.
+    /// The error of the phase detector, in tau.
     pub fn detector_error(&self) -> u128
         requires { IsInRange self.now }
         ensures value { result ≡ spec.detector_error self.now }
@@ -61,7 +61,7 @@ impl HopNumbers {
         (u128::from(self.beat) + 1) * self.clock.step().unsigned_abs()
     }
 
-    // How far offset and fibre move between two good samples.
+    /// How far offset and fibre move between two good samples, in tau.
     pub fn gap_motion(&self) -> u128
         requires { IsInRange self.now }
         ensures value { result ≡ spec.gap_motion self.now }
@@ -71,7 +71,7 @@ impl HopNumbers {
         motion(rate, self.gap_time)
     }
 
-    // How far the parent and the fibre move while a frame is on the fibre.
+    /// How far the parent and the fibre move while a frame is on the fibre, in tau.
     pub fn reach_motion(&self) -> u128
         requires { IsInRange self.now }
         ensures value { result ≡ spec.reach_motion self.now }
@@ -80,7 +80,7 @@ impl HopNumbers {
         motion(u128::from(self.parent.rate) + FIBRE_RATE, self.reach)
     }
 
-    // The error of what is measured on the way down.
+    /// The error of what is measured on the way down, in tau.
     pub fn down_error(&self) -> u128
         requires { IsInRange self.now }
         ensures value { result ≡ spec.down_error self.now }
@@ -93,7 +93,7 @@ impl HopNumbers {
             + self.gap_motion()
     }
 
-    // The error of what is measured on the way up.
+    /// The error of what is measured on the way up, in tau.
     pub fn up_error(&self) -> u128
         requires { IsInRange self.now }
         ensures value { result ≡ spec.up_error self.now }
@@ -106,7 +106,7 @@ impl HopNumbers {
             + self.gap_motion()
     }
 
-    // How far both ways of the fibre move until a measurement is used last.
+    /// How far both ways of the fibre move until a measurement is used last, in tau.
     pub fn age_motion(&self) -> u128
         requires { IsInRange self.now }
         ensures value { result ≡ spec.age_motion self.now }
@@ -124,7 +124,7 @@ impl HopNumbers {
         self.down_error() + self.up_error() + 4 * u128::from(self.e_db) + self.age_motion()
     }
 
-    // What of the error of both ways goes into the way down.
+    /// What of the error of both ways goes into the way down, in tau.
     pub fn scaled_error(&self) -> u128
         requires { IsInRange self.now }
         ensures value { result ≡ spec.scaled_error self.now }
@@ -149,7 +149,7 @@ impl HopNumbers {
             + u128::from(self.law_err)
     }
 
-    // The bound of the hop.
+    /// The bound of the hop, in tau.
     pub fn hop(&self) -> u128
         requires { IsInRange self.now }
         ensures value { result ≡ spec.hop_bound self.now }

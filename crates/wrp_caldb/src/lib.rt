@@ -29,6 +29,3 @@ pub use repeats::{name_in, place_of_name};
 pub use row::{Code, Linear, Need, Row, Sort};
 pub use sort::{fits, number_at};
 pub use value::{array_of, tables_at, value_at};
-
-#[cfg(test)]
-mod tests;

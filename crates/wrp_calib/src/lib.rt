@@ -10,6 +10,3 @@ mod span;
 pub use calibration::{Calib, CalibFault, CalibOut, Unknown};
 pub use run::RunKind;
 pub use span::Span;
-
-#[cfg(test)]
-mod tests;

@@ -8,8 +8,6 @@ mod laws;
 mod movers;
 mod required;
 mod stretch;
-#[cfg(test)]
-mod tests;
 mod verdict;
 
 pub use judging::judge;

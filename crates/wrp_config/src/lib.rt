@@ -22,6 +22,3 @@ pub use laws::{
 };
 pub use network::{Network, pair_at};
 pub use tree::link_above;
-
-#[cfg(test)]
-mod tests;

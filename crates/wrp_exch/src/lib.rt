@@ -10,6 +10,3 @@ mod ring;
 mod sync;
 
 pub use exchange::Exchange;
-
-#[cfg(test)]
-mod tests;

@@ -5,8 +5,6 @@
 
 mod block;
 mod plain;
-#[cfg(test)]
-mod tests;
 
 pub use block::Block;
 pub use plain::is_plain;

@@ -17,8 +17,3 @@ mod writing;
 pub use fault::FrameFault;
 pub use reading::{decode, one_message};
 pub use writing::encode;
-
-#[cfg(test)]
-mod tests;
-#[cfg(test)]
-mod vectors;

@@ -11,8 +11,6 @@ mod message;
 mod one_end;
 mod pair;
 mod port;
-#[cfg(test)]
-mod tests;
 
 pub use event::{L1Event, L1Refused};
 pub use interface::{L1In, L1Out, L1State};

@@ -91,6 +91,3 @@ impl LinkLaw<'_> {
         }
     }
 }
-
-#[cfg(test)]
-mod tests;

@@ -7,8 +7,6 @@
 mod interface;
 mod laws;
 mod machine;
-#[cfg(test)]
-mod tests;
 
 pub use interface::{LinkIn, LinkOut, LinkSet};
 pub use laws::{

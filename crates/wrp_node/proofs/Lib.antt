@@ -5,7 +5,6 @@ pub mod Giving
 pub mod Hearing
 pub mod Links
 pub mod Lists
-pub mod Masters
 pub mod NewNode
 pub mod NodeTicks
 pub mod Nodes

@@ -14,8 +14,6 @@ mod ports;
 mod set;
 mod set_laws;
 mod step_laws;
-#[cfg(test)]
-mod tests;
 mod told;
 
 pub use interface::{Input, NodeSet, Output, Outputs, Report};

@@ -9,10 +9,9 @@ ghost use Rattle.wrp_node.specs.Place.{GivesTo, Begins, Counts, place_of, place_
 ghost use Rattle.wrp_node.specs.Spelled.{AllSpelled};
 ghost use Rattle.wrp_port.specs.PortAt.{IsFit};
 
-pub use states::{PortState, PortStates};
-
 use crate::Outputs;
 use crate::place::Place;
+pub use states::{PortState, PortStates};
 use std::marker::Model;
 use wrp_port::PortIn;
 

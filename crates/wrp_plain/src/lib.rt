@@ -17,8 +17,3 @@ pub use law::measured_within_bound;
 pub use servo::Plain;
 pub use settings::{PlainOut, PlainReport, PlainSet};
 pub use world::PlainWorld;
-
-#[cfg(test)]
-mod runs;
-#[cfg(test)]
-mod tests;

@@ -10,8 +10,6 @@ mod line;
 mod messages;
 mod port;
 mod setting;
-#[cfg(test)]
-mod tests;
 mod wire;
 
 pub use interface::{PortIn, PortOut, Sched};

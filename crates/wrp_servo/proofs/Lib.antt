@@ -19,7 +19,6 @@ mod PhaseLaws
 mod StepLaws
 mod Outside
 mod HoldoverLaws
-mod Ticks
 mod Gone
 mod LastLaws
 mod SeenLaws

@@ -2,7 +2,7 @@
 ghost use Rattle.wrp_servo.specs.Laws.{TrackSince, ChainSince, LeaseSince, TrackHasChain, TrackIsNear, ChainIsHeld, ChainHasSignals, ChainKeepsGap, PhaseMovesByTags, NoStepInTrack};
 ghost use Rattle.wrp_servo.specs.Holdover.{HoldoverSince};
 ghost use Rattle.wrp_servo.specs.Tags.{PhaseIsSum};
-ghost use Rattle.wrp_servo.specs.Told.{ToldLast};
+ghost use Rattle.wrp_servo.specs.Told.{CountsOneTick, ToldLast};
 
 /// TRACK stands exactly where a call entered it and none after that left it.
 pub fn track_since()
@@ -62,4 +62,9 @@ pub fn no_step_in_track()
 /// Carrier, link, lease and ticks are what the list of calls told last.
 pub fn told_last()
     ensures { ToldLast }
+{}
+
+/// A call counts one tick at the most.
+pub fn counts_one_tick()
+    ensures { CountsOneTick }
 {}

@@ -11,14 +11,13 @@ mod measuring;
 mod phase_loop;
 mod sampling;
 mod servo;
-#[cfg(test)]
-mod tests;
 mod valid;
 
 pub use interface::{ServoOut, ServoSet};
 pub use laws::{
-    chain_has_signals, chain_is_held, chain_keeps_gap, chain_since, holdover_since, lease_since,
-    no_step_in_track, phase_is_sum, told_last, track_is_near, track_since,
+    chain_has_signals, chain_is_held, chain_keeps_gap, chain_since, counts_one_tick,
+    holdover_since, lease_since, no_step_in_track, phase_is_sum, told_last, track_is_near,
+    track_since,
 };
 pub use machine::{Core, Measurement, Signals};
 pub use phase_loop::PhaseLoop;

@@ -12,6 +12,3 @@ mod writing;
 pub use tlv::{ORGANIZATION_EXTENSION, Tlv, TlvFault, tlv_at};
 pub use white_rabbit::{WrRead, one_value, wr_of};
 pub use writing::{SUFFIX_TLV_LENGTH, put_suffix, put_wr, wr_length};
-
-#[cfg(test)]
-mod tests;

@@ -1,0 +1,3 @@
+//! The unwrapped phase and the deglitched tag, worked out by hand.
+mod detector;
+mod unwrap;
