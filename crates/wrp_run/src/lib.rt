@@ -24,7 +24,7 @@ mod replaying;
 mod status;
 mod writing;
 
-pub use audits::audits_begin;
+pub use audits::{audits_begin, one_audit};
 pub use command::run;
 pub use status::Status;
 
