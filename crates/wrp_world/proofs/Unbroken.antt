@@ -1,6 +1,6 @@
 -- Of a list of checks none fails exactly where none is the first that fails.
-use Rattle.std.proofs.Common.{◌≡◌, refl, Bool, true, false, List, [], ◌∷◌, None, Some}
-use Rattle.wrp_world.specs.Checks.{Check, AllHold, first_broken}
+use Rattle.std.proofs.Common.{◌≡◌, refl, Bool, true, false, List, [], ◌∷◌, Option, None, Some, option_map}
+use Rattle.wrp_world.specs.Checks.{Check, AllHold, breach_of, first_broken, told_of}
 use Rattle.wrp_world.specs.Laws.{AcceptedIsUnbroken}
 use Rattle.wrp_world.specs.Premises.{checks_of}
 
@@ -24,3 +24,11 @@ all_hold (check ∷ checks) none = by_case check.fails
 pub accepted_is_unbroken : AcceptedIsUnbroken
 accepted_is_unbroken s w says e =
     (λ hold. none_fails (checks_of s w says e) hold, λ none. all_hold (checks_of s w says e) none)
+
+no_breach : (o : Option Check) → option_map breach_of o ≡ None → o ≡ None
+no_breach None e = refl
+no_breach (Some check) e = absurd (none_is e)
+
+-- of what nothing is told, all holds
+pub untold_holds : (checks : List Check) → told_of checks ≡ None → AllHold checks
+untold_holds checks e = all_hold checks (no_breach (first_broken checks) e)

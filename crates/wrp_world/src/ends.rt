@@ -1,7 +1,8 @@
 //! The ends of the links of a world.
-ghost use Rattle.std.specs.Prelude.{◌≡◌, ◌≤◌, ◌+◌, ◌+ℤ◌, ◌^◌, pos, unsigned_abs};
+ghost use Rattle.std.specs.Prelude.{◌≡◌, ◌≤◌, ◌≤ℤ◌, ◌+◌, ◌+ℤ◌, ◌^◌, pos, unsigned_abs};
 ghost use Rattle.wrp_world.specs.Plant.{EndIs, end_in, down_in, up_in};
 ghost use Rattle.wrp_world.specs.Sizes.{IsDelay, IsTime};
+ghost use Rattle.wrp_world.specs.Tried.{delays_in};
 ghost use Rattle.wrp_world.specs.Views.{oldest_of};
 ghost use Rattle.wrp_world.specs.WorldAt.{EndAt};
 
@@ -43,7 +44,26 @@ pub struct Span {
     pub slave: EndState,
 }
 
+/// The true delays of the module in place at an end of a link, in tau.
+#[derive(Clone, Copy, Debug, PartialEq, Eq)]
+pub struct Delays {
+    /// That of what it sends.
+    pub tx: u64,
+    /// That of what it receives.
+    pub rx: u64,
+}
+
 impl EndState {
+    /// The true delays of the module in place.
+    pub fn delays(&self) -> Delays
+        ensures { result ≡ delays_in self.now }
+    {
+        Delays {
+            tx: self.tx,
+            rx: self.rx,
+        }
+    }
+
     /// The true time at which the oldest frame that waits was put out.
     pub fn oldest(&self) -> Option<Tau>
         ensures { (at : EndAt) → EndIs at self.now → result ≡ oldest_of at.waiting }
@@ -87,11 +107,12 @@ impl Span {
     }
 }
 
-// The delay of a fibre with those of the port that sends and the port that receives.
-fn with_ports(tx: u64, delay: Tau, rx: u64) -> Tau
+/// The delay of a fibre with those of the port that sends and the port that receives.
+pub fn with_ports(tx: u64, delay: Tau, rx: u64) -> Tau
     requires { IsDelay delay }
     ensures value { result ≡ (pos tx +ℤ delay) +ℤ pos rx }
     ensures size { IsTime result }
+    ensures least { delay ≤ℤ result }
     ensures most { unsigned_abs result ≤ unsigned_abs delay + 2 ^ 65 }
 {
     sum(sum(i128::from(tx), delay), i128::from(rx))

@@ -13,6 +13,7 @@ mod outcome;
 mod place;
 mod plant;
 mod premises;
+mod run_laws;
 mod world;
 
 pub use event::{Event, Swap};
@@ -21,4 +22,8 @@ pub use laws::{
     worked_rows,
 };
 pub use outcome::{NodeOut, Refused};
+pub use run_laws::{
+    frames_are_stamped, frames_have_times, frames_were_put_out, link_on_in_the_same_handshake,
+    modules_stay, ticks_are_apart, time_never_falls, worlds_are_in_runs,
+};
 pub use world::World;

@@ -1,4 +1,7 @@
 //! What a step of a world answers.
+ghost use Rattle.std.specs.Prelude.{◌≡◌};
+ghost use Rattle.wrp_world.specs.declared.outcome.Refused.TheVariants.{Memory};
+
 use std::alloc::AllocError;
 use wrp_base::Tau;
 use wrp_node::{Input, Outputs};
@@ -28,4 +31,12 @@ pub enum Refused {
     },
     /// Memory could not be had.
     Memory(AllocError),
+}
+
+impl From<AllocError> for Refused {
+    ghost from_gives = { λ fault refused. refused ≡ Memory fault };
+
+    fn from(fault: AllocError) -> Refused {
+        Refused::Memory(fault)
+    }
 }

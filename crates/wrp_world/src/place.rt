@@ -1,7 +1,8 @@
 //! Which end of which link a port of a node is.
 ghost use Rattle.std.specs.Prelude.{◌≡◌, ◌<◌, length, IfSome};
 ghost use Rattle.wrp_config.specs.Names as names;
-ghost use Rattle.wrp_world.specs.Setting.{place_among};
+ghost use Rattle.wrp_world.specs.Setting.{other_of, place_among};
+ghost use Rattle.wrp_world.specs.Tried.{across};
 
 use wrp_base::{LinkCfg, NetCfg, Role};
 
@@ -12,6 +13,28 @@ pub struct Place {
     pub link: u8,
     /// Which end it is.
     pub role: Role,
+}
+
+impl Place {
+    /// The other end of its link.
+    pub fn across(self) -> Place
+        ensures { result ≡ across self }
+    {
+        Place {
+            link: self.link,
+            role: other_of(self.role),
+        }
+    }
+}
+
+/// The role at the other end.
+pub fn other_of(role: Role) -> Role
+    ensures { result ≡ other_of role }
+{
+    match role {
+        Role::Master => Role::Slave,
+        Role::Slave => Role::Master,
+    }
 }
 
 fn is_upper_end(link: &LinkCfg, n: u8, port: u16) -> bool

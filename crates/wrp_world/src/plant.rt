@@ -1,4 +1,7 @@
 //! All of a world but its nodes: true time, clocks, fibres, ends of links and frames in flight.
+mod begin;
+mod change;
+mod giving;
 mod handing;
 pub mod moves;
 mod new;

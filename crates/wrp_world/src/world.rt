@@ -1,5 +1,9 @@
 //! The world itself: its calls.
+mod broken;
+mod give;
 mod new;
+mod rates;
+mod step;
 mod views;
 
 use crate::plant::Plant;

@@ -47,7 +47,7 @@ impl Plant {
     }
 
     // A frame that was put out at the true time `sent` is not too old.
-    fn age_broken(&self, sent: Tau) -> Option<Breach>
+    pub(super) fn age_broken(&self, sent: Tau) -> Option<Breach>
         requires fits { FitsPlant self.now }
         requires sent { IsTime sent }
         ensures { (s : Setting) (w : WorldAt) → PlantIs s w self.now
@@ -60,7 +60,7 @@ impl Plant {
     }
 
     // What was told so far, and else whether a link has its carrier.
-    fn carrier_broken(&self, so_far: Option<Breach>, k: u8) -> Option<Breach>
+    pub(super) fn carrier_broken(&self, so_far: Option<Breach>, k: u8) -> Option<Breach>
         requires fits { FitsPlant self.now }
         requires link { k < length self.now.net.cfg.links.items }
         ensures { (s : Setting) (w : WorldAt) → PlantIs s w self.now
@@ -71,7 +71,7 @@ impl Plant {
     }
 
     // What was told so far, and else that there is no frame of this number.
-    fn not_sent_broken(&self, so_far: Option<Breach>, number: u32) -> Option<Breach>
+    pub(super) fn not_sent_broken(&self, so_far: Option<Breach>, number: u32) -> Option<Breach>
         requires { FitsPlant self.now }
         ensures { (s : Setting) (w : WorldAt) → PlantIs s w self.now
             → result ≡ option_or so_far (told_of (spec.not_sent number w.departed ∷ [])) }

@@ -4,7 +4,7 @@ mod clocks;
 mod departures;
 mod parts;
 pub mod spans;
-mod swaps;
+pub mod swaps;
 
 ghost use Rattle.std.specs.Prelude.{◌≡◌, ◌<◌, ◌≤◌, ◌+◌, ◌^◌, ℕ, length, unsigned_abs};
 ghost use Rattle.arrayvec.specs.ArrayVec.{ArrayVec as Items};
@@ -34,6 +34,8 @@ impl Plant {
         ensures noise { (s : Setting) (w : WorldAt) (n p : ℕ) (octets : Items ℕ) (raw : Raw)
             → PlantIs s w self.old → PlantIs s (moved s w (event.Noise n p octets raw)) self.new }
         ensures fits { FitsPlant self.new }
+        ensures net { self.new.net ≡ self.old.net }
+        ensures events { self.new.events ≡ self.old.events + 1 }
         ensures room { (k : ℕ) → HasRoom k self.old → HasRoom k self.new }
         ensures still { NoneStepped self.new }
     {
@@ -47,6 +49,8 @@ impl Plant {
         ensures is { (s : Setting) (w : WorldAt) → PlantIs s w self.old
             → PlantIs s (moved s w (event.Pass dt drifts.now moves.now)) self.new }
         ensures fits { FitsPlant self.new }
+        ensures net { self.new.net ≡ self.old.net }
+        ensures events { self.new.events ≡ self.old.events + 1 }
         ensures room { (k : ℕ) → HasRoom k self.old → HasRoom k self.new }
     {
         parts::pass(self, dt, drifts, moves);
@@ -60,6 +64,8 @@ impl Plant {
         ensures is { (s : Setting) (w : WorldAt) (base bits : ℕ) → PlantIs s w self.old
             → PlantIs s (moved s w (event.Sample n base bits)) self.new }
         ensures fits { FitsPlant self.new }
+        ensures net { self.new.net ≡ self.old.net }
+        ensures events { self.new.events ≡ self.old.events + 1 }
         ensures room { (k : ℕ) → HasRoom k self.old → HasRoom k self.new }
     {
         parts::sample(self, n);
@@ -73,6 +79,8 @@ impl Plant {
         ensures is { (s : Setting) (w : WorldAt) → PlantIs s w self.old
             → PlantIs s (moved s w (event.Down n)) self.new }
         ensures fits { FitsPlant self.new }
+        ensures net { self.new.net ≡ self.old.net }
+        ensures events { self.new.events ≡ self.old.events + 1 }
         ensures room { (k : ℕ) → HasRoom k self.old → HasRoom k self.new }
     {
         parts::go_down(self, n);
@@ -86,6 +94,8 @@ impl Plant {
         ensures is { (s : Setting) (w : WorldAt) → PlantIs s w self.old
             → PlantIs s (moved s w (event.Cut link)) self.new }
         ensures fits { FitsPlant self.new }
+        ensures net { self.new.net ≡ self.old.net }
+        ensures events { self.new.events ≡ self.old.events + 1 }
         ensures room { (k : ℕ) → HasRoom k self.old → HasRoom k self.new }
     {
         parts::cut(self, link);
@@ -101,6 +111,8 @@ impl Plant {
         ensures is { (s : Setting) (w : WorldAt) → PlantIs s w self.old
             → PlantIs s (moved s w (event.Join link ms sm)) self.new }
         ensures fits { FitsPlant self.new }
+        ensures net { self.new.net ≡ self.old.net }
+        ensures events { self.new.events ≡ self.old.events + 1 }
         ensures room { (k : ℕ) → HasRoom k self.old → HasRoom k self.new }
     {
         parts::join(self, link, ms, sm);
@@ -115,6 +127,8 @@ impl Plant {
         ensures is { (s : Setting) (w : WorldAt) → PlantIs s w self.old
             → PlantIs s (moved s w (event.Up n off swaps.now)) self.new }
         ensures fits { FitsPlant self.new }
+        ensures net { self.new.net ≡ self.old.net }
+        ensures events { self.new.events ≡ self.old.events + 1 }
         ensures room { (k : ℕ) → HasRoom k self.old → HasRoom k self.new }
     {
         parts::come_up(self, n, off, swaps);

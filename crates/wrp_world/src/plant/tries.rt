@@ -1,4 +1,10 @@
 //! Which premise an event breaks, as far as no node is asked.
+mod fibres;
+mod frames;
+mod modules;
+mod octets;
+mod passing;
+
 ghost use Rattle.std.specs.Prelude.{◌≡◌, ◌==◌, ◌&&◌, ◌<◌, ◌≤◌, ◌^◌, ◌-ℤ◌, length, unsigned_abs, [], ◌∷◌, Some, IfSome};
 ghost use Rattle.std.specs.List.{position};
 ghost use Rattle.wrp_base.specs.Clock.{steps_of_period};
@@ -24,8 +30,8 @@ fn both(a: bool, b: bool) -> bool
 }
 
 impl Plant {
-    // Whether both nodes of a link are up.
-    fn ends_are_up(&self, k: u8) -> bool
+    /// Whether both nodes of a link are up.
+    pub fn ends_are_up(&self, k: u8) -> bool
         requires fits { FitsPlant self.now }
         requires link { k < length self.now.net.cfg.links.items }
         ensures { (s : Setting) (w : WorldAt) → PlantIs s w self.now

@@ -106,8 +106,8 @@ impl Plant {
     }
 }
 
-// The node and the port at this end of a link.
-fn port_of(link: &LinkCfg, role: Role) -> (u8, u16)
+/// The node and the port at this end of a link.
+pub fn port_of(link: &LinkCfg, role: Role) -> (u8, u16)
     ensures { result ≡ ((end_of role link.now).node, (end_of role link.now).port) }
 {
     match role {

@@ -77,6 +77,8 @@ impl Plant {
         ensures is { (s : Setting) (w : WorldAt) → PlantIs s w self.old
             → PlantIs s (moved s w (event.Arrive number raw)) self.new }
         ensures fits { FitsPlant self.new }
+        ensures net { self.new.net ≡ self.old.net }
+        ensures events { self.new.events ≡ self.old.events + 1 }
         ensures room { (k : ℕ) → HasRoom k self.old → HasRoom k self.new }
     {
         match self.sent_from(number) {

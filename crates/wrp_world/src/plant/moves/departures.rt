@@ -125,6 +125,8 @@ impl Plant {
         ensures is { OnOk result ((s : Setting) (w : WorldAt) (n p : ℕ) (stamp : ℤ) → place_in s n p ≡ Some place
             → PlantIs s w self.old → PlantIs s (moved s w (event.Depart n p stamp)) self.new) }
         ensures fits { OnOk result (FitsPlant self.new) }
+        ensures net { OnOk result (self.new.net ≡ self.old.net) }
+        ensures events { OnOk result (self.new.events ≡ self.old.events + 1) }
         ensures room { OnOk result ((k : ℕ) → HasRoom k self.old → HasRoom k self.new) }
         ensures err { OnErr result (self.new ≡ self.old) }
     {
@@ -140,6 +142,8 @@ impl Plant {
         ensures is { OnOk result ((s : Setting) (w : WorldAt) (stamp : ℤ) → PlantIs s w self.old
             → PlantIs s (moved s w (event.Depart n port stamp)) self.new) }
         ensures fits { OnOk result (FitsPlant self.new) }
+        ensures net { OnOk result (self.new.net ≡ self.old.net) }
+        ensures events { OnOk result (self.new.events ≡ self.old.events + 1) }
         ensures room { OnOk result ((k : ℕ) → HasRoom k self.old → HasRoom k self.new) }
         ensures err { OnErr result (self.new ≡ self.old) }
     {

@@ -4,6 +4,7 @@ ghost use Rattle.wrp_world.specs.Moved.{move_of};
 ghost use Rattle.wrp_world.specs.Moves.{At, Cuts, Drops, DropsAt, Empties, Joins, Moves, Turns, Where, touches_in};
 ghost use Rattle.wrp_world.specs.Plant.{Each};
 ghost use Rattle.wrp_world.specs.Sizes.{IsDelay};
+ghost use Rattle.wrp_world.specs.Tried.{moved_fibre};
 
 use crate::ends::{EndState, Span};
 use crate::fibres::FibreState;
@@ -39,6 +40,20 @@ fn move_by(fibre: &mut FibreState, down: i64, up: i64)
 {
     fibre.ms = sum(fibre.ms, i128::from(down));
     fibre.sm = sum(fibre.sm, i128::from(up));
+}
+
+/// A fibre whose delays moved by its own of the moves.
+pub fn moved(fibre: &FibreState, moves: &[(i64, i64)], k: u8) -> FibreState
+    requires ms { unsigned_abs fibre.now.ms ≤ 2 ^ 98 }
+    requires sm { unsigned_abs fibre.now.sm ≤ 2 ^ 98 }
+    ensures value { result ≡ moved_fibre moves.now k fibre.now }
+    ensures ms { IsDelay result.ms }
+    ensures sm { IsDelay result.sm }
+{
+    let mut moved = *fibre;
+    let place = usize::from(k);
+    move_by(&mut moved, down_at(moves, place), up_at(moves, place));
+    moved
 }
 
 // The delays of a link move by its own of the moves.

@@ -1,5 +1,6 @@
 //! Modules that are put in place.
-ghost use Rattle.std.specs.Prelude.{◌≡◌, option_map};
+ghost use Rattle.std.specs.Prelude.{◌≡◌, option_map, true};
+ghost use Rattle.wrp_world.specs.Giving.{name_with as name_by};
 ghost use Rattle.wrp_world.specs.Moved.{swap_at};
 ghost use Rattle.wrp_world.specs.Moves.{Put, Swapped, SwapsAt, SwapsIn, SwapsSpan, Turns, Where};
 
@@ -16,8 +17,8 @@ fn copied(name: &Name) -> Name
     copy
 }
 
-// The module that is put in place at a port, if one is.
-fn swap_for(swaps: &[Swap], port: u16) -> Option<&Swap>
+/// The module that is put in place at a port, if one is.
+pub fn swap_for(swaps: &[Swap], port: u16) -> Option<&Swap>
     ensures { option_map (λ swap. swap.now) result ≡ swap_at port swaps.now }
 {
     for swap in swaps {
@@ -80,5 +81,27 @@ pub fn put_modules(spans: &mut Vec<Span>, cfg: &NetCfg, n: u8, swaps: &[Swap])
 {
     for k in 0..spans.len() {
         put_at_number(&mut spans[k], cfg, k, n, swaps);
+    }
+}
+
+// The name of the module for a port, and else this one.
+fn name_for<'a>(name: &'a Name, port: u16, swaps: &'a [Swap]) -> &'a Name
+    ensures { result.now.bytes ≡ name_by true port swaps.now name.now.bytes }
+{
+    match swap_for(swaps, port) {
+        Some(swap) => &swap.name,
+        None => name,
+    }
+}
+
+/// The name of the module that is in place at an end once these are put in place at a node, where the
+/// end is the node's.
+pub fn name_with<'a>(name: &'a Name, is_its: bool, port: u16, swaps: &'a [Swap]) -> &'a Name
+    ensures { result.now.bytes ≡ name_by is_its port swaps.now name.now.bytes }
+{
+    if is_its {
+        name_for(name, port, swaps)
+    } else {
+        name
     }
 }

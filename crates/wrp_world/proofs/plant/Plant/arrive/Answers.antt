@@ -1,4 +1,4 @@
-use Rattle.std.proofs.Common.{◌∙◌, refl, sym}
+use Rattle.std.proofs.Common.{◌∙◌, ap₂, refl, sym}
 use Rattle.wrp_world.proofs.Arriving.{arrive_fits, arrive_is, none_arrives_is}
 use Rattle.wrp_world.proofs.Fitting.{tick_fits}
 use Rattle.wrp_world.proofs.RoomKept.{same_room}
@@ -25,3 +25,9 @@ returns-in-None-clause-fits c = tick_fits c.args.self.now c.stay.new.plant c.sta
 
 pub returns-in-None-clause-room : goal.returns-in-None-clause-room
 returns-in-None-clause-room c k h = same_room _ _ _ c.args.self.now c.stay.new.plant c.stay.ensures k h
+
+pub returns-in-Some-clause-net : goal.returns-in-Some-clause-net
+returns-in-Some-clause-net c = ap₂ (λ a b. record c.args.self.now.net { cfg = a; db = b }) c.arrive.ensures.cfg c.arrive.ensures.db
+
+pub returns-in-None-clause-net : goal.returns-in-None-clause-net
+returns-in-None-clause-net c = ap₂ (λ a b. record c.args.self.now.net { cfg = a; db = b }) c.stay.ensures.cfg c.stay.ensures.db

@@ -1,4 +1,4 @@
-use Rattle.std.proofs.Common.{subst}
+use Rattle.std.proofs.Common.{subst, ap₂}
 use Rattle.std.proofs.lemmas.Int.{to_z-of_z}
 use Rattle.std.specs.Int.{w128}
 use Rattle.wrp_world.specs.Moves.{At, Changed, ComesUp, Same, SwapsAt, Turns}
@@ -28,3 +28,6 @@ returns-clause-fits c =
 
 pub returns-clause-room : goal.returns-clause-room
 returns-clause-room c k h = up_room c.args.n c.args.swaps.now.items c.args.self.now.net.cfg.links.items _ _ _ c.args.self.now c.come_up.new.plant c.come_up.ensures k h
+
+pub returns-clause-net : goal.returns-clause-net
+returns-clause-net c = ap₂ (λ a b. record c.args.self.now.net { cfg = a; db = b }) c.come_up.ensures.cfg c.come_up.ensures.db

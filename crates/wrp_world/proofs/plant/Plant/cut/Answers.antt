@@ -1,3 +1,4 @@
+use Rattle.std.proofs.Common.{ap₂}
 use Rattle.wrp_world.proofs.Fitting.{cut_off_fits}
 use Rattle.wrp_world.proofs.Moving.{cut_is}
 use Rattle.wrp_world.proofs.RoomKept.{cut_room}
@@ -14,3 +15,6 @@ returns-clause-fits c = cut_off_fits c.args.link c.args.self.now c.cut.new.plant
 
 pub returns-clause-room : goal.returns-clause-room
 returns-clause-room c k h = cut_room c.args.link _ _ _ c.args.self.now c.cut.new.plant c.cut.ensures k h
+
+pub returns-clause-net : goal.returns-clause-net
+returns-clause-net c = ap₂ (λ a b. record c.args.self.now.net { cfg = a; db = b }) c.cut.ensures.cfg c.cut.ensures.db

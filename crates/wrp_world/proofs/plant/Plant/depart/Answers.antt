@@ -1,4 +1,4 @@
-use Rattle.std.proofs.Common.{◌≡◌, ◌∙◌, ap, sym, Option, Some, None}
+use Rattle.std.proofs.Common.{◌∙◌, ap, ap₂, sym}
 use Rattle.wrp_base.specs.declared.configuration.NetCfg.{NetCfg}
 use Rattle.wrp_world.specs.Setting.{place_among}
 use Rattle.wrp_world.proofs.Departing.{none_departs_is, on_ok}
@@ -22,3 +22,6 @@ returns-in-None-clause-fits c = tick_fits c.args.self.now c.stay.new.plant c.sta
 
 pub returns-in-None-clause-room : goal.returns-in-None-clause-room
 returns-in-None-clause-room c k h = same_room _ _ _ c.args.self.now c.stay.new.plant c.stay.ensures k h
+
+pub returns-in-None-clause-net : goal.returns-in-None-clause-net
+returns-in-None-clause-net c = ap₂ (λ a b. record c.args.self.now.net { cfg = a; db = b }) c.stay.ensures.cfg c.stay.ensures.db

@@ -1,3 +1,4 @@
+use Rattle.std.proofs.Common.{ap₂}
 use Rattle.wrp_world.proofs.Departing.{depart_fits, depart_is, depart_room, on_ok}
 use Rattle.wrp_world.proofs.plant.Plant.depart_from.Goals as goal
 
@@ -13,3 +14,9 @@ returns-clause-fits c =
 
 pub returns-clause-room : goal.returns-clause-room
 returns-clause-room c = on_ok c.depart.result c.depart.ensures.ok (λ q k h. depart_room c.args.place c.leaving-frame.result c.args.self.now c.depart.new.plant q k h)
+
+pub returns-clause-net : goal.returns-clause-net
+returns-clause-net c = on_ok c.depart.result c.depart.ensures.ok (λ q. ap₂ (λ a b. record c.args.self.now.net { cfg = a; db = b }) q.cfg q.db)
+
+pub returns-clause-events : goal.returns-clause-events
+returns-clause-events c = on_ok c.depart.result c.depart.ensures.ok (λ q. q.count)

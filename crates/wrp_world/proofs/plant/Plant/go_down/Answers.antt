@@ -1,3 +1,4 @@
+use Rattle.std.proofs.Common.{ap₂}
 use Rattle.wrp_world.proofs.Fitting.{gone_down_fits}
 use Rattle.wrp_world.proofs.Moving.{down_is}
 use Rattle.wrp_world.proofs.RoomKept.{down_room}
@@ -14,3 +15,6 @@ returns-clause-fits c = gone_down_fits c.args.n c.args.self.now.net.cfg.links.it
 
 pub returns-clause-room : goal.returns-clause-room
 returns-clause-room c k h = down_room c.args.n c.args.self.now.net.cfg.links.items _ _ _ c.args.self.now c.go_down.new.plant c.go_down.ensures k h
+
+pub returns-clause-net : goal.returns-clause-net
+returns-clause-net c = ap₂ (λ a b. record c.args.self.now.net { cfg = a; db = b }) c.go_down.ensures.cfg c.go_down.ensures.db

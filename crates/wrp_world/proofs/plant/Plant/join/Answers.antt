@@ -1,4 +1,4 @@
-use Rattle.std.proofs.Common.{◌≡◌, ℕ, ℤ, subst, to_z, of_z}
+use Rattle.std.proofs.Common.{◌≡◌, ℕ, ℤ, subst, to_z, of_z, ap₂}
 use Rattle.std.proofs.lemmas.Int.{to_z-of_z}
 use Rattle.std.specs.Int.{w128}
 use Rattle.wrp_world.specs.declared.plant.Plant.{Plant}
@@ -31,3 +31,6 @@ returns-clause-fits c =
 
 pub returns-clause-room : goal.returns-clause-room
 returns-clause-room c k h = join_room c.args.link _ _ _ _ _ c.args.self.now c.join.new.plant c.join.ensures k h
+
+pub returns-clause-net : goal.returns-clause-net
+returns-clause-net c = ap₂ (λ a b. record c.args.self.now.net { cfg = a; db = b }) c.join.ensures.cfg c.join.ensures.db

@@ -1,4 +1,4 @@
-use Rattle.std.proofs.Common.{◌+ℤ◌, ◌≤◌, ◌^◌, unsigned_abs, subst, arith}
+use Rattle.std.proofs.Common.{◌+ℤ◌, ◌≤◌, ◌^◌, unsigned_abs, subst, arith, ap₂}
 use Rattle.std.proofs.lemmas.Int.{ints, to_z-of_z}
 use Rattle.std.specs.Int.{w64}
 use Rattle.wrp_world.specs.Moves.{Changed, Drifts, Moves, Same, Turns}
@@ -22,3 +22,6 @@ returns-clause-fits c =
 
 pub returns-clause-room : goal.returns-clause-room
 returns-clause-room c k h = pass_room c.args.moves.now.items _ _ _ c.args.self.now c.pass.new.plant c.pass.ensures k h
+
+pub returns-clause-net : goal.returns-clause-net
+returns-clause-net c = ap₂ (λ a b. record c.args.self.now.net { cfg = a; db = b }) c.pass.ensures.cfg c.pass.ensures.db

@@ -1,3 +1,4 @@
+use Rattle.std.proofs.Common.{ap₂}
 use Rattle.wrp_world.proofs.Fitting.{sampled_fits}
 use Rattle.wrp_world.proofs.Moving.{sample_is}
 use Rattle.wrp_world.proofs.RoomKept.{same_room}
@@ -14,3 +15,6 @@ returns-clause-fits c = sampled_fits c.args.n c.args.self.now c.sample.new.plant
 
 pub returns-clause-room : goal.returns-clause-room
 returns-clause-room c k h = same_room _ _ _ c.args.self.now c.sample.new.plant c.sample.ensures k h
+
+pub returns-clause-net : goal.returns-clause-net
+returns-clause-net c = ap₂ (λ a b. record c.args.self.now.net { cfg = a; db = b }) c.sample.ensures.cfg c.sample.ensures.db

@@ -1,3 +1,4 @@
+use Rattle.std.proofs.Common.{ap₂}
 use Rattle.wrp_world.proofs.Fitting.{tick_fits}
 use Rattle.wrp_world.proofs.Moving.{tick_is, deliver_is, noise_is}
 use Rattle.wrp_world.proofs.RoomKept.{none_stepped, same_room}
@@ -20,3 +21,6 @@ returns-clause-room c k h = same_room _ _ _ c.args.self.now c.stay.new.plant c.s
 
 pub returns-clause-still : goal.returns-clause-still
 returns-clause-still c = none_stepped _ _ _ c.args.self.now c.stay.new.plant c.stay.ensures c.requires.fits
+
+pub returns-clause-net : goal.returns-clause-net
+returns-clause-net c = ap₂ (λ a b. record c.args.self.now.net { cfg = a; db = b }) c.stay.ensures.cfg c.stay.ensures.db

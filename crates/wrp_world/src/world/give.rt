@@ -1,0 +1,152 @@
+//! The nodes take the inputs of an event, one after another.
+ghost use Rattle.std.specs.Prelude.{◌≡◌, ◌+◌, ℕ, Result, length};
+ghost use Rattle.std.specs.List.{AllByRecursion};
+ghost use Rattle.wrp_base.specs.declared.message.PtpMsg.{PtpMsg};
+ghost use Rattle.wrp_frame.specs.declared.fault.FrameFault.{FrameFault};
+ghost use Rattle.wrp_node.specs.Control.{law_in};
+ghost use Rattle.wrp_node.specs.Node.{FitsInput, IsValid as NodeIsValid, is_tick};
+ghost use Rattle.wrp_node.specs.NodeRun.{Says};
+ghost use Rattle.wrp_node.specs.StandsFor.{Took};
+ghost use Rattle.wrp_world.specs.FitsGifts.{FitsGift};
+ghost use Rattle.wrp_world.specs.Gifts.{IsRead};
+ghost use Rattle.wrp_world.specs.Given.{Given, in_body, in_frame, mover_of};
+ghost use Rattle.wrp_world.specs.Taking.{Asks, FirstAsks, Gave, GaveAll};
+ghost use Rattle.wrp_world.specs.Taking.{IsNewsOf, is_signaling, laws_of};
+ghost use Rattle.wrp_world.specs.Room.{HasRoom};
+ghost use Rattle.wrp_world.specs.StandsFor.{IsValid};
+
+use super::World;
+use crate::NodeOut;
+use crate::plant::told::News;
+use wrp_base::{Body, Tau, WrMsg};
+use wrp_frame::decode;
+use wrp_node::{Input, Node};
+
+impl<F: Fn(i64) -> i64> World<F> {
+    // Each node takes its input, in their order; a frame among them was put out then. The memory
+    // was taken before.
+    pub(super) fn give_all(&mut self, put: Tau, outs: &mut Vec<NodeOut>)
+        requires valid { IsValid F.pre F.post self.old }
+        requires gifts { AllByRecursion (FitsGift self.old.plant.net.cfg) outs.old.items }
+        requires asks { FirstAsks self.old outs.old.items }
+        requires room { HasRoom (length outs.old.items) self.old.plant }
+        ensures valid { IsValid F.pre F.post self.new }
+        ensures gave { GaveAll F.post put self.old self.new outs.old.items outs.new.items }
+        ensures net { self.new.plant.net ≡ self.old.plant.net }
+        ensures events { self.new.plant.events ≡ self.old.plant.events }
+        ensures laws { laws_of self.new ≡ laws_of self.old }
+    {
+        for k in 0..outs.len() {
+            self.give_one(put, &mut outs[k]);
+        }
+    }
+
+    // A node takes an input, and the rest of the world is told of its step.
+    fn give_one(&mut self, put: Tau, out: &mut NodeOut)
+        requires valid { IsValid F.pre F.post self.old }
+        requires gift { FitsGift self.old.plant.net.cfg out.old }
+        requires asks { Asks self.old out.old.input }
+        requires room { HasRoom 1 self.old.plant }
+        ensures valid { IsValid F.pre F.post self.new }
+        ensures gave { Gave F.post put self.old self.new out.old out.new }
+        ensures room { (k : ℕ) → HasRoom (k + 1) self.old.plant → HasRoom k self.new.plant }
+        ensures net { self.new.plant.net ≡ self.old.plant.net }
+        ensures events { self.new.plant.events ≡ self.old.plant.events }
+        ensures laws { laws_of self.new ≡ laws_of self.old }
+    {
+        let news = step_node(&mut self.nodes[usize::from(out.node)], put, out);
+        self.plant.told(&news, out.outs.as_slice());
+    }
+}
+
+// A node takes an input: what the rest of the world is to be told of its step.
+fn step_node<F: Fn(i64) -> i64>(node: &mut Node<F>, put: Tau, out: &mut NodeOut) -> News
+    requires valid { NodeIsValid F.pre F.post node.old }
+    requires input { FitsInput node.old out.old.input }
+    ensures valid { NodeIsValid F.pre F.post node.new }
+    ensures law { law_in node.new.control ≡ law_in node.old.control }
+    ensures node { out.new.node ≡ out.old.node }
+    ensures input { out.new.input ≡ out.old.input }
+    ensures took { Took F.post node.old node.new out.old.input out.new.outs.items }
+    ensures news { IsNewsOf F.post put node.old node.new out.old result }
+{
+    let ticked = is_tick(&out.input);
+    let by = mover_of(&out.input, put);
+    let before = node.states();
+    node.step_into(&out.input, &mut out.outs);
+    let after = node.states();
+    News {
+        node: out.node,
+        ticked,
+        before,
+        after,
+        by,
+    }
+}
+
+// Whether an input is a tick.
+fn is_tick(input: &Input) -> bool
+    ensures { result ≡ is_tick input.now }
+{
+    match input {
+        Input::Tick => true,
+        _ => false,
+    }
+}
+
+// The White Rabbit message of an input, if it is a frame with one, with the true time at which it
+// was put out.
+fn mover_of(input: &Input, put: Tau) -> Option<(WrMsg, Tau)>
+    ensures { (g : Given) → IsRead put g.says g.at input.now → result ≡ mover_of g input.now }
+{
+    match input {
+        Input::Frame { bytes, .. } => in_frame(bytes.as_slice(), put),
+        _ => None,
+    }
+}
+
+// That of octets. Those that are no Signaling have none, and are not read.
+fn in_frame(octets: &[u8], put: Tau) -> Option<(WrMsg, Tau)>
+    ensures { (says : Result PtpMsg FrameFault) → Says octets.now says
+        → result ≡ in_frame says put }
+{
+    if is_signaling(octets) {
+        read_frame(octets, put)
+    } else {
+        None
+    }
+}
+
+// Whether messageType is that of a Signaling.
+fn is_signaling(octets: &[u8]) -> bool
+    ensures { result ≡ is_signaling octets.now }
+{
+    match octets {
+        [] => false,
+        [first, ..] => *first % 16 == 0xC,
+    }
+}
+
+// The White Rabbit message that octets say, if they say one.
+fn read_frame(octets: &[u8], put: Tau) -> Option<(WrMsg, Tau)>
+    ensures { (says : Result PtpMsg FrameFault) → Says octets.now says
+        → result ≡ in_frame says put }
+{
+    match decode(octets) {
+        Ok(message) => in_body(message.body, put),
+        Err(_) => None,
+    }
+}
+
+// The White Rabbit message of a body, if it has one.
+fn in_body(body: Body, put: Tau) -> Option<(WrMsg, Tau)>
+    ensures { result ≡ in_body body put }
+{
+    match body {
+        Body::Signal {
+            wr: Some(message),
+            ..
+        } => Some((message, put)),
+        _ => None,
+    }
+}

@@ -1,0 +1,139 @@
+//! Which premise a time breaks that passes: the rates of clocks are asked of the nodes.
+ghost use Rattle.std.specs.Prelude.{◌≡◌, ◌<◌, ◌≤◌, length, flat_map, IfSome, Result};
+ghost use Rattle.wrp_base.specs.declared.message.PtpMsg.{PtpMsg};
+ghost use Rattle.wrp_frame.specs.declared.fault.FrameFault.{FrameFault};
+ghost use Rattle.wrp_world.specs.Checks.{told_of};
+ghost use Rattle.wrp_world.specs.declared.event.Event.TheVariants as event;
+ghost use Rattle.wrp_world.specs.EventAt.{IsPass};
+ghost use Rattle.wrp_world.specs.Moved.{drift_of};
+ghost use Rattle.wrp_world.specs.Premises as premise;
+ghost use Rattle.wrp_world.specs.Setting.{Setting, nodes_of};
+ghost use Rattle.wrp_world.specs.StandsFor.{IsValid, StandsFor};
+ghost use Rattle.wrp_world.specs.Tried.{kept_rate, steered_rate};
+ghost use Rattle.wrp_world.specs.WorldAt.{WorldAt};
+
+use super::World;
+use crate::checks::Breach;
+use crate::premises::rates::rate_kept;
+use arrayvec::ArrayVec;
+use wrp_base::{NodeCfg, ServoState};
+
+// Whether a servo is in HOLDOVER.
+fn is_holdover(state: ServoState) -> bool
+    ensures { result ≡ premise.is_holdover state }
+{
+    matches!(state, ServoState::Holdover)
+}
+
+// The rate that the clock of a node that is up keeps, if it keeps one.
+fn steered_rate(locked: bool, state: ServoState, cfg: &NodeCfg) -> Option<u64>
+    ensures { result ≡ steered_rate locked state cfg.now }
+{
+    if locked {
+        Some(cfg.slew)
+    } else if is_holdover(state) {
+        Some(cfg.held)
+    } else {
+        None
+    }
+}
+
+// The rate that a clock keeps, if it keeps one: none at the grandmaster.
+fn kept_rate(is_top: bool, up: bool, steered: Option<u64>) -> Option<u64>
+    ensures { result ≡ kept_rate is_top up steered }
+{
+    if is_top {
+        Some(0)
+    } else if up {
+        steered
+    } else {
+        None
+    }
+}
+
+// How far a clock moves.
+fn drift_at(drifts: &[i64], n: u8) -> i64
+    ensures { result ≡ drift_of drifts.now n }
+{
+    match drifts.get(usize::from(n)) {
+        Some(drift) => *drift,
+        None => 0,
+    }
+}
+
+impl<F: Fn(i64) -> i64> World<F> {
+    // The rate that a node's clock keeps, if it keeps one.
+    fn rate(&self, n: u8) -> Option<u64>
+        requires valid { IsValid F.pre F.post self.now }
+        requires node { n < length self.now.nodes }
+        ensures value { (s : Setting) (w : WorldAt) → StandsFor F.post s w self.now
+            → result ≡ premise.rate_of s w n }
+        ensures most { IfSome result (λ rate. rate ≤ 1_000_000_000) }
+    {
+        let is_top = self.plant.is_top(n);
+        let up = self.plant.is_up(n);
+        let node = self.node(n);
+        let locked = node.locked();
+        let state = node.servo();
+        let cfg = self.plant.node_cfg(n);
+        kept_rate(is_top, up, steered_rate(locked, state, cfg))
+    }
+
+    // A clock keeps its rate.
+    fn rate_broken(&self, n: u8, dt: i64, drifts: &ArrayVec<i64, 64>) -> Option<Breach>
+        requires valid { IsValid F.pre F.post self.now }
+        requires node { n < length self.now.nodes }
+        ensures { (s : Setting) (w : WorldAt) → StandsFor F.post s w self.now
+            → result ≡ told_of (premise.rate_kept s w dt drifts.now.items n) }
+    {
+        let rate = self.rate(n);
+        rate_kept(drift_at(drifts.as_slice(), n), dt, rate)
+    }
+
+    // How many nodes there are.
+    fn node_count(&self) -> u8
+        requires { IsValid F.pre F.post self.now }
+        ensures { result ≡ length self.now.nodes }
+    {
+        self.plant.net.cfg.nodes.len() as u8
+    }
+
+    // All clocks keep their rates.
+    fn rates_broken(&self, dt: i64, drifts: &ArrayVec<i64, 64>) -> Option<Breach>
+        requires valid { IsValid F.pre F.post self.now }
+        ensures { (s : Setting) (w : WorldAt) → StandsFor F.post s w self.now
+            → result ≡ told_of (flat_map (premise.rate_kept s w dt drifts.now.items) (nodes_of s)) }
+    {
+        let count = self.node_count();
+        for n in 0..count {
+            if let Some(breach) = self.rate_broken(n, dt, drifts) {
+                return Some(breach);
+            }
+        }
+        None
+    }
+
+    /// A time that passes, in which clocks and fibres move so.
+    pub(super) fn pass_broken(
+        &self,
+        dt: i64,
+        drifts: &ArrayVec<i64, 64>,
+        moves: &ArrayVec<(i64, i64), 63>,
+    ) -> Option<Breach>
+        requires valid { IsValid F.pre F.post self.now }
+        requires pass { IsPass self.now.plant.net.cfg dt drifts.now.items moves.now.items }
+        ensures { (s : Setting) (w : WorldAt) (says : Result PtpMsg FrameFault)
+            → StandsFor F.post s w self.now → result ≡ told_of (premise.checks_of s w says (event.Pass dt drifts.now moves.now)) }
+    {
+        if let Some(breach) = self.plant.late_broken(dt) {
+            return Some(breach);
+        }
+        if let Some(breach) = self.rates_broken(dt, drifts) {
+            return Some(breach);
+        }
+        if let Some(breach) = self.plant.rates_of_fibres_broken(dt, moves) {
+            return Some(breach);
+        }
+        self.plant.moved_fibres_broken(moves)
+    }
+}

@@ -1,0 +1,69 @@
+//! The world takes an event.
+ghost use Rattle.std.specs.Prelude.{◌≡◌, ◌+◌, IfErr, IfOk, OnErr, OnOk};
+ghost use Rattle.wrp_world.specs.declared.outcome.Refused.TheVariants.{Broken};
+ghost use Rattle.wrp_world.specs.StandsFor.{IsValid};
+ghost use Rattle.wrp_world.specs.Step.{IsRefusal, MayCome, StaysSo, Stepped};
+ghost use Rattle.wrp_world.specs.Taking.{laws_of};
+
+use super::World;
+use crate::checks::Breach;
+use crate::{Event, NodeOut, Refused};
+use std::alloc::Global;
+
+impl<F: Fn(i64) -> i64> World<F> {
+    /// Takes an event: where it keeps all premises, and the memory for it can be had, it changes
+    /// the world, and `outs` is filled with the steps that the nodes make of it, in their order;
+    /// at most 37. What `outs` had before is gone, but its places are used again. A refused event
+    /// changes nothing, and leaves in `outs` nothing of use.
+    pub fn step_into(&mut self, event: &Event, outs: &mut Vec<NodeOut>) -> Result<(), Refused>
+        requires valid { IsValid F.pre F.post self.old }
+        requires event { MayCome self.old event.now }
+        ensures valid { IsValid F.pre F.post self.new }
+        ensures steps { OnOk result (Stepped F.post event.now self.old self.new outs.new.items) }
+        ensures refusal { IfErr result (IsRefusal F.post event.now self.old) }
+        ensures stays { OnErr result (StaysSo F.post self.old self.new) }
+        ensures counted { OnOk result (self.new.plant.events ≡ self.old.plant.events + 1) }
+        ensures count { OnErr result (self.new.plant.events ≡ self.old.plant.events) }
+        ensures net { self.new.plant.net ≡ self.old.plant.net }
+        ensures laws { laws_of self.new ≡ laws_of self.old }
+    {
+        if let Some(breach) = self.broken(event) {
+            return Err(refused(breach));
+        }
+        let put = self.plant.put_out_at(event);
+        self.plant.begin(event, outs)?;
+        self.give_all(put, outs);
+        Ok(())
+    }
+
+    /// Takes an event, and answers with the steps that the nodes make of it: as `step_into`, into a
+    /// list of its own.
+    pub fn step(&mut self, alloc: Global, event: &Event) -> Result<Vec<NodeOut>, Refused>
+        requires valid { IsValid F.pre F.post self.old }
+        requires event { MayCome self.old event.now }
+        ensures valid { IsValid F.pre F.post self.new }
+        ensures steps { IfOk result (λ outs. Stepped F.post event.now self.old self.new
+            outs.items) }
+        ensures refusal { IfErr result (IsRefusal F.post event.now self.old) }
+        ensures stays { OnErr result (StaysSo F.post self.old self.new) }
+        ensures counted { OnOk result (self.new.plant.events ≡ self.old.plant.events + 1) }
+        ensures count { OnErr result (self.new.plant.events ≡ self.old.plant.events) }
+        ensures net { self.new.plant.net ≡ self.old.plant.net }
+        ensures laws { laws_of self.new ≡ laws_of self.old }
+    {
+        let mut outs = Vec::new(alloc);
+        self.step_into(event, &mut outs)?;
+        Ok(outs)
+    }
+}
+
+// What is answered where an event breaks a premise.
+fn refused(breach: Breach) -> Refused
+    ensures { result ≡ Broken breach.premise breach.shown breach.bound }
+{
+    Refused::Broken {
+        premise: breach.premise,
+        shown: breach.shown,
+        bound: breach.bound,
+    }
+}
