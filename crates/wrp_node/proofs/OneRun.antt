@@ -32,7 +32,7 @@ use Rattle.wrp_servo.specs.Told.{lease_told, link_told, ToldLast}
 
 -- ---- what octets say is one
 
-ok_of : (octets : List ℕ) (a : Result PtpMsg FrameFault) → Says octets a → (b : Result PtpMsg FrameFault) → Says octets b → a ≡ b
+pub ok_of : (octets : List ℕ) (a : Result PtpMsg FrameFault) → Says octets a → (b : Result PtpMsg FrameFault) → Says octets b → a ≡ b
 ok_of octets (Ok m) h (Ok k) g = (exactly_spelled octets (Ok m) h tt k).1 g
 ok_of octets (Ok m) h (Err f) g = (exactly_refused octets (Ok m) h tt f).1 g
 ok_of octets (Err e) h (Ok k) g = (exactly_spelled octets (Err e) tt h k).1 g
@@ -40,7 +40,7 @@ ok_of octets (Err e) h (Err f) g = (exactly_refused octets (Err e) tt h f).1 g
 
 -- ---- two servos in one state, after lists of calls that may differ in answers
 
-abbrev SameServo : Fixed → List Call → List Call → Type 0
+abbrev pub SameServo : Fixed → List Call → List Call → Type 0
 SameServo fixed calls others = run (settings_of fixed) calls ≡ run (settings_of fixed) others
 
 same_lease : ToldLast → (fixed : Fixed) (calls others : List Call) → SameServo fixed calls others → lease_told calls ≡ lease_told others
@@ -105,21 +105,21 @@ measured_call law fixed calls others f y w h a b =
 
 -- ---- two nodes, and two steps, that differ in such answers alone
 
-abbrev with_calls : List Call → NodeAt → NodeAt
+abbrev pub with_calls : List Call → NodeAt → NodeAt
 with_calls calls n = record n { calls = calls }
 
-abbrev step_with : List Call → Step → Step
+abbrev pub step_with : List Call → Step → Step
 step_with calls s = record s { node = with_calls calls s.node }
 
-record SameNode (fixed : Fixed) (n o : NodeAt) : Type 0 where
-  calls : List Call
-  is : o ≡ with_calls calls n
-  servo : SameServo fixed n.calls calls
+pub record SameNode (fixed : Fixed) (n o : NodeAt) : Type 0 where
+  pub calls : List Call
+  pub is : o ≡ with_calls calls n
+  pub servo : SameServo fixed n.calls calls
 
-record SameStep (fixed : Fixed) (r s : Step) : Type 0 where
-  calls : List Call
-  is : s ≡ step_with calls r
-  servo : SameServo fixed r.node.calls calls
+pub record SameStep (fixed : Fixed) (r s : Step) : Type 0 where
+  pub calls : List Call
+  pub is : s ≡ step_with calls r
+  pub servo : SameServo fixed r.node.calls calls
 
 -- an answer of the servo, taken
 abbrev taken_out : Fixed → ℕ → ServoOut → List Call → Step → Step
@@ -187,7 +187,7 @@ ports_same fixed r s h =
     ap (λ (v : Core). ports_by fixed (PortTick (if is_some (slave_of fixed.set) then v.phase.lock.locked else false) (if is_some (slave_of fixed.set) then is_track v.state else true)) (step_with h.calls r)) (sym h.servo) in
     record { calls = h.calls; is = ap (ports_ticked fixed) h.is ∙ same; servo = h.servo }
 
-abbrev Answered : (ℤ → ℤ) → Fixed → Step → Type 0
+abbrev pub Answered : (ℤ → ℤ) → Fixed → Step → Type 0
 Answered law fixed s = AllAnswered (answers_by law) (settings_of fixed) s.node.calls
 
 tick_same : ToldLast → (fixed : Fixed) (n : NodeAt) (calls : List Call) → SameServo fixed n.calls calls →
@@ -300,8 +300,28 @@ step_at last law fixed t u n o e s k h a b =
     (subst (λ (x : Input). Answered law fixed (stepped fixed x u.says u.answer (with_calls h.calls n))) (sym e)
     (subst (λ (z : NodeAt). Answered law fixed (stepped fixed u.input u.says u.answer z)) h.is other)))))
 
+-- the same input, of whose octets the same is said
+stepped_alike : ToldLast → (law : ℤ → ℤ) (fixed : Fixed) (input : Input) (says : Result PtpMsg FrameFault) (y w : ℤ) (n : NodeAt) (calls : List Call) → SameServo fixed n.calls calls →
+    Answered law fixed (stepped fixed input says y n) → Answered law fixed (stepped fixed input says w (with_calls calls n)) →
+    SameStep fixed (stepped fixed input says y n) (stepped fixed input says w (with_calls calls n))
+stepped_alike last law fixed Tick says y w n calls h a b = stepped_same last law fixed Tick says says y w n calls h tt tt a b
+stepped_alike last law fixed (Sample number base bits) says y w n calls h a b = stepped_same last law fixed (Sample number base bits) says says y w n calls h tt tt a b
+stepped_alike last law fixed (Frame p octets raw sample) says y w n calls h a b = heard_same law fixed p says raw sample y w n calls h a b
+stepped_alike last law fixed (Sent p seq delay stamp) says y w n calls h a b = stepped_same last law fixed (Sent p seq delay stamp) says says y w n calls h tt tt a b
+stepped_alike last law fixed (Carrier p up own_module) says y w n calls h a b = stepped_same last law fixed (Carrier p up own_module) says says y w n calls h tt tt a b
+stepped_alike last law fixed Reset says y w n calls h a b = stepped_same last law fixed Reset says says y w n calls h tt tt a b
+
+pub step_alike : ToldLast → (law : ℤ → ℤ) (fixed : Fixed) (input : Input) (says : Result PtpMsg FrameFault) (y w : ℤ) (n : NodeAt) (calls : List Call) → SameServo fixed n.calls calls →
+    Answered law fixed (node_step fixed (record { input = input; says = says; answer = y }) n) →
+    Answered law fixed (node_step fixed (record { input = input; says = says; answer = w }) (with_calls calls n)) →
+    SameStep fixed (node_step fixed (record { input = input; says = says; answer = y }) n) (node_step fixed (record { input = input; says = says; answer = w }) (with_calls calls n))
+step_alike last law fixed input says y w n calls h a b =
+    settled_same last fixed (stepped fixed input says y n) (stepped fixed input says w (with_calls calls n))
+    (stepped_alike last law fixed input says y w n calls h (before_settled law fixed (stepped fixed input says y n) a)
+    (before_settled law fixed (stepped fixed input says w (with_calls calls n)) b))
+
 -- what was answered before the newest input
-before_step : (law : ℤ → ℤ) (fixed : Fixed) (t : Taken) (n : NodeAt) → Answered law fixed (node_step fixed t n) → Answered law fixed (step_from n)
+pub before_step : (law : ℤ → ℤ) (fixed : Fixed) (t : Taken) (n : NodeAt) → Answered law fixed (node_step fixed t n) → Answered law fixed (step_from n)
 before_step law fixed t n a =
     before_stepped law fixed t.input t.says t.answer n (before_settled law fixed (stepped fixed t.input t.says t.answer n) a)
 
@@ -335,7 +355,7 @@ outputs_same fixed input n s calls others h k =
     (ap₂ (λ (v w : Core). servo_out (if is_some (slave_of fixed.set) then v.state else Uninit) (if is_some (slave_of fixed.set) then w.state else Uninit)) h k)
     (track_same fixed input s.node others k)
 
-put_out_same : (fixed : Fixed) (x y : Input) (n o : NodeAt) (r s : Step) → x ≡ y → SameNode fixed n o → SameStep fixed r s → outputs_of fixed x n r ≡ outputs_of fixed y o s
+pub put_out_same : (fixed : Fixed) (x y : Input) (n o : NodeAt) (r s : Step) → x ≡ y → SameNode fixed n o → SameStep fixed r s → outputs_of fixed x n r ≡ outputs_of fixed y o s
 put_out_same fixed x y n o r s e h k =
     outputs_same fixed x n r h.calls k.calls h.servo k.servo
     ∙ ap (λ (z : NodeAt). outputs_of fixed x z (step_with k.calls r)) (sym h.is)

@@ -1,13 +1,16 @@
 pub mod Asking
 pub mod BareSite
 pub mod CountLemmas
+pub mod ExactAudit
 pub mod Feeds
 pub mod GoingOn
 pub mod LineLemmas
 pub mod LinkLaws
 pub mod Networking
 pub mod OneAnswer
+pub mod OneAudit
 pub mod OneReplay
+pub mod OneWorld
 pub mod OwnPorts
 pub mod ParsingLemmas
 pub mod Pieces

@@ -1,13 +1,17 @@
 pub mod After
 pub mod Answer
+pub mod Audited
+pub mod AuditLaws
+pub mod Audits
+pub mod AuditText
 pub mod CommandLine
 pub mod DownLaw
 pub mod Ends
 pub mod Engine
 pub mod Fields
 pub mod Input
-pub mod LinkLaw
 pub mod Lines
+pub mod LinkLaw
 pub mod Meaning
 pub mod NodeText
 pub mod Parsing
@@ -19,4 +23,5 @@ pub mod StandsFor
 pub mod Statuses
 pub mod Stream
 pub mod Taking
+pub mod Tasks
 pub mod Words

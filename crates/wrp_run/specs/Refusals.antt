@@ -1,9 +1,10 @@
 -- The lines that name what is refused (this project's profile).
 use Rattle.std.specs.Prelude.{ℕ, ◌==◌, if◌then◌else◌, List, [], ◌∷◌, codes}
-use Rattle.std.specs.Fmt.{decimal}
+use Rattle.std.specs.Fmt.{decimal, signed_decimal}
 use Rattle.wrp_lines.specs.Lines.{line_of}
 use Rattle.wrp_base.specs.declared.fault.TraceFault.{TraceFault}
 use Rattle.wrp_base.specs.declared.fault.TraceFault.TheVariants.{Fields, Kind, Number, Name, Memory}
+use Rattle.wrp_world.specs.declared.checks.Breach.{Breach}
 
 -- the only line where the words are no command
 abbrev pub usage_line : List ℕ
@@ -63,3 +64,28 @@ bad_trace_line number fault =
     line_of
     (codes "bad-trace" ∷ decimal number ∷ decimal (code_of fault) ∷ name_of fault
     ∷ decimal (field_of fault) ∷ [])
+
+-- the name of a premise, by its number
+unfoldable pub premise_name : ℕ → List ℕ
+premise_name premise =
+    if premise == 1 then codes "TickEarly"
+    else if premise == 2 then codes "TickLate"
+    else if premise == 3 then codes "Rate"
+    else if premise == 4 then codes "FibreRate"
+    else if premise == 5 then codes "Fibre"
+    else if premise == 6 then codes "Module"
+    else if premise == 7 then codes "TxStamp"
+    else if premise == 8 then codes "RxRaw"
+    else if premise == 9 then codes "Beat"
+    else if premise == 10 then codes "TooOld"
+    else if premise == 11 then codes "NotSent"
+    else if premise == 12 then codes "Forged"
+    else if premise == 13 then codes "NotUp"
+    else []
+
+-- the last line where a record, counted from 1, breaks a premise
+abbrev pub broken_line : ℕ → Breach → List ℕ
+broken_line number breach =
+    line_of
+    (codes "broken" ∷ decimal number ∷ decimal breach.premise ∷ premise_name breach.premise
+    ∷ signed_decimal breach.shown ∷ signed_decimal breach.bound ∷ [])

@@ -4,6 +4,7 @@
 #![tactic(auto)]
 
 mod answering;
+mod audits;
 mod command;
 mod command_line;
 mod counting;
@@ -23,6 +24,7 @@ mod replaying;
 mod status;
 mod writing;
 
+pub use audits::{audits_begin, one_audit};
 pub use command::run;
 pub use status::Status;
 

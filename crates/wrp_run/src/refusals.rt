@@ -1,10 +1,11 @@
 //! The lines that name what is refused.
 ghost use Rattle.std.specs.Prelude.{◌≡◌, ◌++◌, IfOk};
+ghost use Rattle.std.specs.Fmt.{signed_decimal};
 ghost use Rattle.std.specs.String.{string_bytes};
-ghost use Rattle.wrp_run.specs.Refusals.{bad_network_line, bad_trace_line, code_name, code_of, field_of, name_of};
+ghost use Rattle.wrp_run.specs.Refusals.{bad_network_line, bad_trace_line, broken_line, code_name, code_of, field_of, name_of, premise_name};
 
 use std::alloc::{AllocError, Global};
-use wrp_base::TraceFault;
+use wrp_base::{Tau, TraceFault};
 
 /// The line where the words are no command.
 pub const USAGE_LINE: &str =
@@ -97,5 +98,71 @@ pub fn append_bad_trace(
     ensures { IfOk result (λ _. text.new.items ≡ text.old.items ++ bad_trace_line number fault.now) }
 {
     let line = bad_trace(alloc, number, fault)?;
+    text.extend_from_slice(line.as_bytes())
+}
+
+// The name of a premise, by its number.
+#[tactic(auto, unfolding(crate::specs::Refusals::premise_name))]
+fn premise_name(premise: u8) -> &'static str
+    ensures { result.now ≡ premise_name premise }
+{
+    match premise {
+        1 => "TickEarly",
+        2 => "TickLate",
+        3 => "Rate",
+        4 => "FibreRate",
+        5 => "Fibre",
+        6 => "Module",
+        7 => "TxStamp",
+        8 => "RxRaw",
+        9 => "Beat",
+        10 => "TooOld",
+        11 => "NotSent",
+        12 => "Forged",
+        13 => "NotUp",
+        _ => "",
+    }
+}
+
+// A side of a comparison in decimal, in the unit of its premise.
+fn side(alloc: Global, value: Tau) -> Result<String, AllocError>
+    ensures { IfOk result (λ text. string_bytes text ≡ signed_decimal value) }
+{
+    format!(in alloc; "{value}")
+}
+
+// The line of a record that breaks a premise.
+fn broken(
+    alloc: Global,
+    number: u32,
+    premise: u8,
+    shown: Tau,
+    bound: Tau,
+) -> Result<String, AllocError>
+    ensures { IfOk result (λ line. string_bytes line ≡ broken_line number
+        (record { premise = premise; shown = shown; bound = bound })) }
+{
+    let name = premise_name(premise);
+    let shown = side(alloc, shown)?;
+    let shown = shown.as_str();
+    let bound = side(alloc, bound)?;
+    let bound = bound.as_str();
+    format!(in alloc; "broken {number} {premise} {name} {shown} {bound}\n")
+}
+
+/// Appends the line of a record that breaks a premise: the number of the premise, and both sides of the
+/// comparison that fails.
+pub fn append_broken(
+    alloc: Global,
+    text: &mut Vec<u8>,
+    number: u32,
+    premise: u8,
+    shown: Tau,
+    bound: Tau,
+) -> Result<(), AllocError>
+    ensures { IfOk result (λ _. text.new.items ≡ text.old.items ++ broken_line number
+        (record { premise = premise; shown = shown; bound = bound })) }
+{
+    let line = broken(alloc, number, premise, shown, bound)?;
     text.extend_from_slice(line.as_bytes())
 }

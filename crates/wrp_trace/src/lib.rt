@@ -14,7 +14,7 @@ mod site;
 pub use events::{EventKind, event_line, read_event, read_event_fields};
 pub use inputs::{read_input, read_input_fields};
 pub use kinds::InputKind;
-pub use printing::input_line;
+pub use printing::{append_input_line, input_line};
 pub use wrp_base::TraceFault;
 
 #[cfg(test)]

@@ -1,5 +1,5 @@
 //! Input lines, printed: what a node is handed, as a line that reads back as the same.
-ghost use Rattle.std.specs.Prelude.{◌≡◌, ◌<◌, ◌≤◌, ◌^◌, IfOk, Ok, length};
+ghost use Rattle.std.specs.Prelude.{◌≡◌, ◌<◌, ◌≤◌, ◌^◌, ◌++◌, ◌∷◌, [], IfOk, OnOk, OnErr, Ok, length};
 ghost use Rattle.std.specs.String.{string_bytes};
 ghost use Rattle.hex.specs.Hex.{encode_lower};
 ghost use Rattle.wrp_base.specs.Octets.{AreOctets};
@@ -25,6 +25,25 @@ pub fn input_line(alloc: Global, node: u8, x: &Input, net: &Network) -> Result<V
 {
     let text = text_of(alloc, node, x, net)?;
     Ok(octets_of(text))
+}
+
+/// Appends to `text` the line of an input at a node, with its LF, whatever the input is. Where there is
+/// no memory for it, `text` keeps its octets.
+pub fn append_input_line(
+    alloc: Global,
+    node: u8,
+    x: &Input,
+    net: &Network,
+    text: &mut Vec<u8>,
+) -> Result<(), AllocError>
+    ensures ok { OnOk result (
+        text.new.items ≡ text.old.items ++ (line_of (site_of net.now node) x.now ++ 10 ∷ [])) }
+    ensures err { OnErr result (text.new.items ≡ text.old.items) }
+{
+    let line = text_of(alloc, node, x, net)?;
+    let line = line.as_str();
+    let line = format!(in alloc; "{line}\n")?;
+    text.extend_from_slice(line.as_bytes())
 }
 
 /// The octets of a text.

@@ -1,0 +1,65 @@
+-- What the record lines of an audit mean: which lines are events that keep all premises, what they
+-- write, and which line is refused (this project's profile).
+use Rattle.std.specs.Prelude.{◌≡◌, ℕ, ◌+◌, Some, Ok, Err, Result, List, [], length}
+use Rattle.wrp_base.specs.declared.fault.TraceFault.{TraceFault}
+use Rattle.wrp_base.specs.declared.message.PtpMsg.{PtpMsg}
+use Rattle.wrp_frame.specs.declared.fault.FrameFault.{FrameFault}
+use Rattle.wrp_trace.specs.Events.{event_read}
+use Rattle.wrp_world.specs.Checks.{told_of}
+use Rattle.wrp_world.specs.declared.checks.Breach.{Breach}
+use Rattle.wrp_world.specs.declared.event.Event.{Event}
+use Rattle.wrp_world.specs.Premises.{checks_of}
+use Rattle.wrp_world.specs.Run.{Happened, IsSaid, world_after}
+use Rattle.wrp_world.specs.Setting.{Setting}
+use Rattle.wrp_run.specs.declared.machine.Refusal.{Refusal}
+use Rattle.wrp_run.specs.declared.machine.Refusal.TheVariants.{BadTrace, Broken}
+use Rattle.wrp_run.specs.Audited.{IsAudit}
+use Rattle.wrp_run.specs.AuditText.{audit_lines, all_counts, given_lines}
+use Rattle.wrp_run.specs.Meaning.{Meaning}
+use Rattle.wrp_run.specs.Refusals.{bad_trace_line, broken_line}
+
+-- the lines are events that kept all premises, and this is what an audit writes of them
+abbrev pub Audits : Setting → List (List ℕ) → List ℕ → Type 0
+Audits s lines text =
+    (events : List Happened) × IsAudit s lines events × (text ≡ audit_lines s events)
+
+-- and these are the inputs that they give a node
+abbrev pub Emits : Setting → ℕ → List (List ℕ) → List ℕ → Type 0
+Emits s n lines text =
+    (events : List Happened) × IsAudit s lines events × (text ≡ given_lines s n events)
+
+-- behind some lines a line says an event that breaks a premise: of the first comparison that fails both
+-- sides are told
+pub record Breaks (s : Setting) (lines : List (List ℕ)) (line last : List ℕ) : Type 0 where
+  pub events : List Happened
+  pub audit : IsAudit s lines events
+  pub event : Event
+  pub reads : event_read s.cfg line ≡ Ok event
+  pub says : Result PtpMsg FrameFault
+  pub said : IsSaid event says
+  pub breach : Breach
+  pub told : told_of (checks_of s (world_after s events) says event) ≡ Some breach
+  pub is : last ≡ broken_line (length lines + 1) breach
+
+-- behind some lines a line is no event, or one that breaks a premise
+abbrev pub AuditRefuses : Setting → List (List ℕ) → List ℕ → Refusal → List ℕ → Type 0
+AuditRefuses s lines line BadTrace last =
+    (fault : TraceFault) × (event_read s.cfg line ≡ Err fault)
+    × (last ≡ bad_trace_line (length lines + 1) fault)
+AuditRefuses s lines line Broken last = Breaks s lines line last
+
+-- at the end the counters that are not 0 are written
+abbrev pub AuditCloses : Setting → List (List ℕ) → List ℕ → Type 0
+AuditCloses s lines last =
+    (events : List Happened) × IsAudit s lines events × (last ≡ all_counts s (world_after s events))
+
+-- behind the inputs of a node nothing is written
+abbrev pub EmitCloses : List (List ℕ) → List ℕ → Type 0
+EmitCloses lines last = last ≡ []
+
+-- what the record lines of an audit mean, and what those of the inputs of a node
+abbrev pub audit_of : Setting → Meaning
+audit_of s = record { accepts = Audits s; refuses = AuditRefuses s; closes = AuditCloses s }
+
+abbrev pub emission_of : Setting → ℕ → Meaning
+emission_of s n = record { accepts = Emits s n; refuses = AuditRefuses s; closes = EmitCloses }

@@ -1,0 +1,48 @@
+-- What the words of the command line ask for (this project's profile).
+use Rattle.std.specs.Prelude.{◌≡◌, ℕ, ◌≤◌, Some, List, [], ◌∷◌, length, codes}
+use Rattle.wrp_config.specs.Names.{node_named}
+use Rattle.wrp_trace.specs.Site.{Site}
+use Rattle.wrp_world.specs.Setting.{Setting}
+use Rattle.wrp_run.specs.Audited.{IsSettingOf}
+use Rattle.wrp_run.specs.Audits.{audit_of, emission_of}
+use Rattle.wrp_run.specs.CommandLine.{IsCommandWith}
+use Rattle.wrp_run.specs.Input.{network_limit}
+use Rattle.wrp_run.specs.Meaning.{Meaning}
+use Rattle.wrp_run.specs.Replays.{IsNetworkOf, meaning_of}
+
+-- the replay of a node, the audit of a network, or the inputs of a node in it
+pub data Task : Type 0 where
+  Replay : (site : Site) → Task
+  Audit : (setting : Setting) → Task
+  Emit : (setting : Setting) (node : ℕ) → Task
+
+-- what the record lines mean there
+abbrev pub meaning_at : Task → Meaning
+meaning_at (Replay site) = meaning_of site
+meaning_at (Audit setting) = audit_of setting
+meaning_at (Emit setting node) = emission_of setting node
+
+-- the words ask for the replay of a node of this name
+abbrev pub IsReplay : List (List ℕ) → List ℕ → Type 0
+IsReplay words name = IsCommandWith (codes "replay") (codes "--node") words name
+
+-- the words ask for an audit
+abbrev pub IsAuditing : List (List ℕ) → Type 0
+IsAuditing words = words ≡ codes "audit" ∷ []
+
+-- the words ask for the inputs of a node of this name
+abbrev pub IsEmission : List (List ℕ) → List ℕ → Type 0
+IsEmission words name = IsCommandWith (codes "audit") (codes "--emit") words name
+
+-- the words ask for a task in the network that this text describes; a node is the first of its name
+abbrev pub AsksFor : List (List ℕ) → List ℕ → Task → Type 0
+AsksFor words text (Replay site) =
+    (length text ≤ network_limit)
+    × (name : List ℕ) × IsReplay words name × IsNetworkOf text site
+    × (node_named site.cfg name ≡ Some site.node)
+AsksFor words text (Audit setting) =
+    (length text ≤ network_limit) × IsAuditing words × IsSettingOf text setting
+AsksFor words text (Emit setting node) =
+    (length text ≤ network_limit)
+    × (name : List ℕ) × IsEmission words name × IsSettingOf text setting
+    × (node_named setting.cfg name ≡ Some node)
