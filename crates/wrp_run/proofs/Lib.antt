@@ -3,6 +3,7 @@ pub mod BareSite
 pub mod CountLemmas
 pub mod Feeds
 pub mod GoingOn
+pub mod LineEnds
 pub mod LineLemmas
 pub mod LinkLaws
 pub mod Networking
@@ -10,7 +11,9 @@ pub mod OneAnswer
 pub mod OneReplay
 pub mod OwnPorts
 pub mod ParsingLemmas
+pub mod Passing
 pub mod Pieces
+pub mod PlainLines
 pub mod Reaching
 pub mod ReaderLemmas
 pub mod Runs
