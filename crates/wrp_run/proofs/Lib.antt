@@ -4,6 +4,7 @@ pub mod CountLemmas
 pub mod ExactAudit
 pub mod Feeds
 pub mod GoingOn
+pub mod LineEnds
 pub mod LineLemmas
 pub mod LinkLaws
 pub mod Networking
@@ -13,7 +14,9 @@ pub mod OneReplay
 pub mod OneWorld
 pub mod OwnPorts
 pub mod ParsingLemmas
+pub mod Passing
 pub mod Pieces
+pub mod PlainLines
 pub mod Reaching
 pub mod ReaderLemmas
 pub mod Runs

@@ -14,7 +14,8 @@ use Rattle.wrp_run.specs.declared.network_text.End.{End}
 use Rattle.wrp_run.specs.declared.network_text.End.TheVariants.{Whole, TooLong, Failed, Memory}
 use Rattle.wrp_run.specs.Reader.{ReaderAt, Takes, IsNext, IsCut, IsLast}
 use Rattle.wrp_run.proofs.Feeds.{lines_of-whole, lines_of-open}
-use Rattle.wrp_run.proofs.Reaching.{Reached, Coming, comes, whole_before, next_some, goes_on_with, lines_behind, concat-snoc, all-snoc}
+use Rattle.wrp_run.specs.Reached.{Reached}
+use Rattle.wrp_run.proofs.Reaching.{Coming, comes, whole_before, next_some, goes_on_with, lines_behind, concat-snoc, all-snoc}
 
 -- the lines are those of a network text so far
 pub record NetworkLines (lines : List (List ℕ)) (text : List ℕ) : Type 0 where

@@ -14,6 +14,7 @@ use Rattle.wrp_run.specs.declared.status.Status.{Status}
 use Rattle.wrp_run.specs.declared.status.Status.TheVariants.{Done, Usage, BadNetwork, BadTrace, Broken, ReadFault, WriteFault, LinkFault, TooLarge, OutOfMemory}
 use Rattle.wrp_run.specs.Engine.{Waits, LineOutcome, TellsLarge, Finishes, MostAt, status_by}
 use Rattle.wrp_run.specs.Lines.{lines_of, content_of, IsWhole}
+use Rattle.wrp_run.specs.Reached.{Reached, Stopped}
 use Rattle.wrp_run.specs.Reader.{ReaderAt, Takes, IsNext, IsCut, IsLast, piece_limit}
 use Rattle.wrp_run.specs.Stream.{Accepting, Refusing, Handles, IsWithin, IsTooLarge, IsLargeNext, IsCutWithin, line_limit, number_limit, large_line, FirstHandled, RefusedAt, Due, Handling}
 use Rattle.wrp_run.specs.Taking.{AppendsPart}
@@ -63,21 +64,6 @@ large_cut line r number most cut at past = (
 -- a line that came and is too large
 pub large_whole : (line : List ℕ) (r : ReaderAt) (number : ℕ) → IsNext line r → IsTooLarge line number → IsLargeNext line r number
 large_whole line r number next large = (inl next, next_some line r next, large)
-
--- the lines so far are handled, what they write is written or waits, and the reader holds what follows
-pub record Reached (H : Accepting) (T : List (List ℕ) → Type 0) (start : List ℕ) (r : ReaderAt) (left rest held now : Option (List ℕ)) (waiting : List ℕ) (number : ℕ) : Type 0 where
-  pub given : List ℕ
-  pub lines : List (List ℕ)
-  pub text : List ℕ
-  pub out : List ℕ
-  pub taken : Consumes left rest given
-  pub written : Appends held now out
-  pub waits : text ≡ out ++ waiting
-  pub all : start ++ given ≡ concat lines ++ r.rest
-  pub first : AllByRecursion IsWhole lines ⊎ ((r.ended ≡ true) × (r.rest ≡ []) × (lines_of (start ++ given) ≡ lines))
-  pub handled : H lines text
-  pub has : T (map content_of lines)
-  pub count : number ≡ length lines
 
 -- the same, and something was taken behind them
 pub record Coming (H : Accepting) (T : List (List ℕ) → Type 0) (start line : List ℕ) (r : ReaderAt) (left rest held now : Option (List ℕ)) (waiting : List ℕ) (number : ℕ) : Type 0 where
@@ -361,22 +347,60 @@ refused_at A R T start line said r left rest held now waiting number refusal las
   is = refl;
 }
 
+-- without memory nothing more is due
+pub stops_short : (A : Accepting) (R : Refusing) (T : List (List ℕ) → Type 0) (start line : List ℕ) (r : ReaderAt) (left rest held now : Option (List ℕ)) (was waiting : List ℕ) (number : ℕ)
+    → Coming (Handles A) T start line r left rest held now was number → waiting ≡ was → Stopped A R start r left rest held now waiting OutOfMemory
+stops_short A R T start line r left rest held now was waiting number so_far same = record {
+  given = so_far.given;
+  text = so_far.text;
+  out = so_far.out;
+  taken = so_far.taken;
+  written = so_far.written;
+  waits = so_far.waits ∙ ap (λ l. so_far.out ++ l) (sym same);
+  due = first_of A T start line r left rest held now was number so_far;
+}
+
 -- where a line's handling ends the run
+pub stopped : (A : Accepting) (R : Refusing) (T U : List (List ℕ) → Type 0) (start line said : List ℕ) (r : ReaderAt) (left rest held now : Option (List ℕ)) (was waiting : List ℕ) (number : ℕ) (e : Ended)
+    → (so_far : Coming (Handles A) T start line r left rest held now was number) → IsNext line r × (length r.rest ≤ piece_limit) × IsWithin line × (number + 1 < number_limit)
+    → said ≡ content_of line → LineOutcome A R U (map content_of so_far.lines) said so_far.text was waiting (Some e)
+    → Stopped A R start r left rest held now waiting (status_by e)
+stopped A R T U start line said r left rest held now was waiting number (ended.Refused refusals.BadTrace) so_far next is refused = record {
+  given = so_far.given;
+  text = so_far.text ++ refused.0;
+  out = so_far.out;
+  taken = so_far.taken;
+  written = so_far.written;
+  waits = more_waits so_far.text so_far.out was waiting refused.0 so_far.waits refused.1;
+  due = refused_at A R T start line said r left rest held now was number refusals.BadTrace refused.0 so_far next is refused.2;
+}
+stopped A R T U start line said r left rest held now was waiting number (ended.Refused refusals.Broken) so_far next is refused = record {
+  given = so_far.given;
+  text = so_far.text ++ refused.0;
+  out = so_far.out;
+  taken = so_far.taken;
+  written = so_far.written;
+  waits = more_waits so_far.text so_far.out was waiting refused.0 so_far.waits refused.1;
+  due = refused_at A R T start line said r left rest held now was number refusals.Broken refused.0 so_far next is refused.2;
+}
+stopped A R T U start line said r left rest held now was waiting number ended.Memory so_far next is same =
+    stops_short A R T start line r left rest held now was waiting number so_far same
+stopped A R T U start line said r left rest held now was waiting number ended.TooLarge so_far next is never = absurd never
+
+-- what is due is written, or the sink fails
+pub closes_by : (A : Accepting) (R : Refusing) (U : List (List ℕ) → Type 0) (start : List ℕ) (r : ReaderAt) (left rest held now then_ : Option (List ℕ)) (waiting : List ℕ) (status result : Status)
+    → Stopped A R start r left rest held now waiting status → Finishes status result now then_ waiting → Handling A R U start r left rest held then_ result
+closes_by A R U start r left rest held now then_ waiting status result at_end how =
+    finishes A R U start r left rest held now then_ at_end.given at_end.out waiting at_end.text status result at_end.taken at_end.written at_end.waits at_end.due how
+
+-- where a line's handling ends the run, and what is due is written, or the sink fails
 pub stops : (A : Accepting) (R : Refusing) (T U : List (List ℕ) → Type 0) (start line said : List ℕ) (r : ReaderAt) (left rest held now then_ : Option (List ℕ)) (was waiting : List ℕ) (number : ℕ) (e : Ended) (result : Status)
     → (so_far : Coming (Handles A) T start line r left rest held now was number) → IsNext line r × (length r.rest ≤ piece_limit) × IsWithin line × (number + 1 < number_limit)
     → said ≡ content_of line → LineOutcome A R U (map content_of so_far.lines) said so_far.text was waiting (Some e)
     → Finishes (status_by e) result now then_ waiting → Handling A R U start r left rest held then_ result
-stops A R T U start line said r left rest held now then_ was waiting number (ended.Refused refusals.BadTrace) result so_far next is refused how =
-    finishes A R U start r left rest held now then_ so_far.given so_far.out waiting (so_far.text ++ refused.0) BadTrace result so_far.taken so_far.written
-    (more_waits so_far.text so_far.out was waiting refused.0 so_far.waits refused.1)
-    (refused_at A R T start line said r left rest held now was number refusals.BadTrace refused.0 so_far next is refused.2) how
-stops A R T U start line said r left rest held now then_ was waiting number (ended.Refused refusals.Broken) result so_far next is refused how =
-    finishes A R U start r left rest held now then_ so_far.given so_far.out waiting (so_far.text ++ refused.0) Broken result so_far.taken so_far.written
-    (more_waits so_far.text so_far.out was waiting refused.0 so_far.waits refused.1)
-    (refused_at A R T start line said r left rest held now was number refusals.Broken refused.0 so_far next is refused.2) how
-stops A R T U start line said r left rest held now then_ was waiting number ended.Memory result so_far next is same how =
-    no_memory A R T U start line r left rest held now then_ waiting was number result so_far same how
-stops A R T U start line said r left rest held now then_ was waiting number ended.TooLarge result so_far next is never how = absurd never
+stops A R T U start line said r left rest held now then_ was waiting number e result so_far next is outcome how =
+    closes_by A R U start r left rest held now then_ waiting (status_by e) result
+    (stopped A R T U start line said r left rest held now was waiting number e so_far next is outcome) how
 
 -- one more line is handled
 unfoldable pub goes_on_with : (H : Accepting) (T U : List (List ℕ) → Type 0) (start line : List ℕ) (r : ReaderAt) (left rest held now : Option (List ℕ)) (was waiting more : List ℕ) (number : ℕ)

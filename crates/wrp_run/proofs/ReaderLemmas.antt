@@ -20,6 +20,15 @@ held_on piece before after at size end within is =
     ∙ append_assoc before (take size held) (take (end - (at + size)) (drop (at + size) piece))
     ∙ ap (λ l. before ++ (take size held ++ l)) (sym back) ∙ ap (λ l. before ++ l) (take-append-drop size held)
 
+-- what is held where some of it is passed
+pub passed_on : (piece : List ℕ) (at size end : ℕ) → size ≤ length (take (end - at) (drop at piece))
+    → take (end - (at + size)) (drop (at + size) piece) ≡ drop size (take (end - at) (drop at piece))
+passed_on piece at size end within =
+    let short : length (take (end - at) (drop at piece)) ≡ min (end - at) (length (drop at piece)) = length-take (end - at) (drop at piece) in
+    let parts : size + (end - (at + size)) ≡ end - at = omega arith in
+    sym (ap (λ n. drop size (take n (drop at piece))) (sym parts) ∙ drop-take size (end - (at + size)) (drop at piece)
+    ∙ ap (take (end - (at + size))) (drop-drop size at piece))
+
 -- what was taken before, and then one more piece
 pub more_taken : (first before now : Option (List ℕ)) (start line rest after none more : List ℕ) (was is will : Bool)
     → ((given : List ℕ) × Consumes first before given × (line ++ rest ≡ start ++ given) × (was ≡ true → (given ≡ []) × (is ≡ true)))

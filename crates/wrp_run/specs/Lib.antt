@@ -15,11 +15,13 @@ pub mod LinkLaw
 pub mod Meaning
 pub mod NodeText
 pub mod Parsing
+pub mod Reached
 pub mod Reader
 pub mod RecordsAnswer
 pub mod Refusals
 pub mod Replays
 pub mod StandsFor
+pub mod Split
 pub mod Statuses
 pub mod Stream
 pub mod Taking

@@ -5,11 +5,14 @@ ghost use Rattle.std.specs.Io.KnownBytes.{IsAtEnd};
 ghost use Rattle.wrp_io.specs.Faults.{Rose};
 ghost use Rattle.wrp_run.specs.Lines.{content_of};
 ghost use Rattle.wrp_run.specs.Reader.{Takes, IsNext, IsCut, IsLast, piece_limit};
+ghost use Rattle.wrp_run.specs.Split.{IsSplit};
 ghost use Rattle.wrp_run.specs.Stream.{size_of, IsWithin, IsTooLarge, IsLargeNext, IsCutWithin, number_limit, large_line, Handling};
 ghost use Rattle.wrp_run.specs.Engine.{Writes, LineOutcome, Finishes, TellsLarge, MostAt, status_by};
 
+mod block;
 #[cfg(test)]
 mod edges;
+mod splitting;
 
 use crate::feed::first_feed;
 use crate::line::content;
@@ -17,6 +20,9 @@ use crate::machine::{Machine, Refusal, Taken};
 use crate::reader::{Next, Reader};
 use crate::status::Status;
 use crate::writing::write_all;
+use block::handle_held;
+use csv::ByteRecord;
+use splitting::split;
 use std::alloc::{AllocError, Global};
 use wrp_io::{Sink, Source};
 
@@ -177,18 +183,52 @@ fn append_large(alloc: Global, waiting: &mut Vec<u8>, number: u64) -> Result<(),
     Ok(())
 }
 
-// Names a record that is too large.
-fn tell_large(alloc: Global, waiting: &mut Vec<u8>, number: u64) -> Ended
-    ensures { TellsLarge number waiting.old.items waiting.new.items result }
+// Names the record behind so many, which is too large.
+fn tell_large(alloc: Global, waiting: &mut Vec<u8>, number: u32) -> Ended
+    ensures { TellsLarge (number + 1) waiting.old.items waiting.new.items result }
 {
-    match append_large(alloc, waiting, number) {
+    match append_large(alloc, waiting, u64::from(number) + 1) {
         Ok(()) => Ended::TooLarge,
         Err(_) => Ended::Memory,
     }
 }
 
-// Handles what a line says, the record of this number.
+// Handles what a line says by its parts, the record of this number.
 fn handle_line<M: Machine>(
+    alloc: Global,
+    machine: &mut M,
+    said: &[u8],
+    parts: Option<&ByteRecord>,
+    number: u32,
+    text: &mut Vec<u8>,
+    waiting: &mut Vec<u8>,
+) -> Option<Ended>
+    requires split { IsSplit said.now parts }
+    requires ready { M.is_ready machine.old }
+    requires room { M.count machine.old + 1 < 2 ^ 32 }
+    ensures ready { M.is_ready machine.new }
+    ensures count { M.count machine.new ≤ M.count machine.old + 1 }
+    ensures setting { M.setting machine.new ≡ M.setting machine.old }
+    ensures stands { (lines : List (List ℕ)) (before : List ℕ)
+        → M.has_taken machine.old lines → M.accepts (M.setting machine.old) lines before
+        → number ≡ length lines + 1
+        → LineOutcome (M.accepts (M.setting machine.old)) (M.refuses (M.setting machine.old))
+        (M.has_taken machine.new) lines said.now before waiting.old.items waiting.new.items
+        result }
+{
+    text.clear();
+    let taken = machine.take(alloc, said, parts, number, text);
+    if taken == Taken::Memory || waiting.extend_from_slice(text).is_err() {
+        return Some(Ended::Memory);
+    }
+    match taken {
+        Taken::Refused(refusal) => Some(Ended::Refused(refusal)),
+        _ => None,
+    }
+}
+
+// Handles what a line says that stands alone, the record of this number.
+fn handle_alone<M: Machine>(
     alloc: Global,
     machine: &mut M,
     said: &[u8],
@@ -208,14 +248,11 @@ fn handle_line<M: Machine>(
         (M.has_taken machine.new) lines said.now before waiting.old.items waiting.new.items
         result }
 {
-    text.clear();
-    let taken = machine.take(alloc, said, number, text);
-    if taken == Taken::Memory || waiting.extend_from_slice(text).is_err() {
-        return Some(Ended::Memory);
-    }
-    match taken {
-        Taken::Refused(refusal) => Some(Ended::Refused(refusal)),
-        _ => None,
+    let mut row = ByteRecord::new(alloc);
+    match split(alloc, said, &mut row) {
+        Ok(true) => handle_line(alloc, machine, said, Some(&row), number, text, waiting),
+        Ok(false) => handle_line(alloc, machine, said, None, number, text, waiting),
+        Err(_) => Some(Ended::Memory),
     }
 }
 
@@ -236,8 +273,8 @@ fn finish<K: Sink>(sink: &mut K, waiting: &[u8], ended: Ended) -> Status
     }
 }
 
-/// Handles the records that a reader gives: takes each line as it comes, and writes what they write
-/// before it asks the source for more. Answers Done at the end of the input, where what is written at
+/// Handles the records that a reader gives: takes each line as it comes, those that the reader holds
+/// by one reader of `csv`, and writes what they write before it asks the source for more. Answers Done at the end of the input, where what is written at
 /// the end is left to the caller.
 pub fn handle_records<M: Machine, S: Source, K: Sink>(
     alloc: Global,
@@ -278,20 +315,24 @@ pub fn handle_records<M: Machine, S: Source, K: Sink>(
     let mut waiting = Vec::new(alloc);
     let mut number: u32 = 0;
     'records: loop {
+        match handle_held(alloc, machine, reader, &mut number, &mut text, &mut waiting) {
+            Some(ended) => return finish(sink, &waiting, ended),
+            None => {}
+        }
         match next_record(reader, source, sink, &mut waiting, &mut line, number) {
             NextRecord::End => return Status::Done,
             NextRecord::Failed => return Status::ReadFault,
             NextRecord::Unwritten => return Status::WriteFault,
             NextRecord::Memory => return finish(sink, &waiting, Ended::Memory),
             NextRecord::TooLarge => {
-                let ended = tell_large(alloc, &mut waiting, u64::from(number) + 1);
+                let ended = tell_large(alloc, &mut waiting, number);
                 return finish(sink, &waiting, ended);
             }
             NextRecord::Line => {}
         }
         number += 1;
         let said = content(&line);
-        match handle_line(alloc, machine, said, number, &mut text, &mut waiting) {
+        match handle_alone(alloc, machine, said, number, &mut text, &mut waiting) {
             Some(ended) => return finish(sink, &waiting, ended),
             None => {}
         }

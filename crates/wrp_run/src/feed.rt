@@ -12,8 +12,8 @@ pub fn first_feed(octets: &[u8]) -> Option<usize>
     octets.iter().position(|octet| *octet == b'\n')
 }
 
-// How many octets stand up to the first LF and with it, or None where there is no LF.
-fn first_whole(octets: &[u8]) -> Option<usize>
+/// How many octets stand up to the first LF and with it, or None where there is no LF.
+pub fn first_whole(octets: &[u8]) -> Option<usize>
     ensures { MatchOption result
         (HasNoFeed octets.now)
         (λ size. (size ≤ length octets.now) × IsWhole (take size octets.now)) }

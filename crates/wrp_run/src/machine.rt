@@ -1,7 +1,9 @@
 //! What handles the records of a command, a line each.
 ghost use Rattle.std.specs.Prelude.{◌≡◌, ℕ, ◌+◌, ◌^◌, ◌<◌, ◌≤◌, List, [], ◌∷◌, ◌++◌, length};
 ghost use Rattle.wrp_run.specs.declared.machine.Refusal.{Refusal};
+ghost use Rattle.wrp_run.specs.Split.{IsSplit};
 
+use csv::ByteRecord;
 use std::alloc::Global;
 
 /// Why a record is refused.
@@ -47,8 +49,17 @@ pub trait Machine {
     /// Behind lines that say this a line that says this is refused, and this last line names it.
     ghost refuses: { Self.Setting → List (List ℕ) → List ℕ → Refusal → List ℕ → Type 0 };
 
-    /// Takes what a line says, the record of this number, and appends what it writes to `text`.
-    fn take(&mut self, alloc: Global, line: &[u8], number: u32, text: &mut Vec<u8>) -> Taken
+    /// Takes what a line says, the record of this number, by the parts that `csv` gives, and appends
+    /// what it writes to `text`. A line that is not plain has no parts.
+    fn take(
+        &mut self,
+        alloc: Global,
+        line: &[u8],
+        parts: Option<&ByteRecord>,
+        number: u32,
+        text: &mut Vec<u8>,
+    ) -> Taken
+        requires split { IsSplit line.now parts }
         requires ready { is_ready self.old }
         requires none { text.old.items ≡ [] }
         requires room { count self.old + 1 < 2 ^ 32 }

@@ -1,5 +1,5 @@
 //! A reader of lines, which takes pieces from a source and hands out one line at a time.
-ghost use Rattle.std.specs.Prelude.{◌≡◌, ◌^◌, ◌<◌, ◌≤◌, ◌++◌, [], length, true, false, IfOk, OnOk, IsErr};
+ghost use Rattle.std.specs.Prelude.{◌≡◌, ◌^◌, ◌<◌, ◌≤◌, ◌++◌, [], length, drop, true, false, IfOk, OnOk, IsErr};
 ghost use Rattle.std.specs.Io.KnownBytes.{Consumes, IsAtEnd};
 ghost use Rattle.wrp_io.specs.Faults.{Rose};
 ghost use Rattle.wrp_run.specs.Lines.{HasNoFeed, IsWhole};
@@ -59,6 +59,23 @@ impl Reader {
             end: 0,
             ended: false,
         }
+    }
+
+    /// What is held.
+    pub fn held(&self) -> &[u8]
+        ensures { result.now ≡ self.now.rest }
+    {
+        &self.piece[self.at..self.end]
+    }
+
+    /// Passes so many octets of what is held.
+    pub fn pass(&mut self, size: usize)
+        requires { size ≤ length self.old.rest }
+        ensures rest { self.new.rest ≡ drop size self.old.rest }
+        ensures ended { self.new.ended ≡ self.old.ended }
+        ensures past { length self.new.rest ≤ piece_limit }
+    {
+        self.at += size;
     }
 
     /// Appends to a line what is held, up to the first LF and with it. Answers whether an LF came.

@@ -9,24 +9,28 @@ ghost use Rattle.wrp_lines.specs.Words.{name_at};
 ghost use Rattle.wrp_node.specs.NodeAt.{Taken as TakenInput};
 ghost use Rattle.wrp_node.specs.StandsFor.{StandsFor};
 ghost use Rattle.wrp_trace.specs.InputAt.{IsInputAt};
+ghost use Rattle.wrp_trace.specs.Inputs.{read_of};
+ghost use Rattle.wrp_trace.specs.Reading.{IsReading};
 ghost use Rattle.wrp_trace.specs.Site.{site_of};
 ghost use Rattle.wrp_run.specs.declared.machine.Refusal.{Refusal};
 ghost use Rattle.wrp_run.specs.declared.machine.Taken.{Taken};
 ghost use Rattle.wrp_run.specs.DownLaw.{IsLawAt, fixed_at};
 ghost use Rattle.wrp_run.specs.Replays.{Accepts, Refuses, Closes};
+ghost use Rattle.wrp_run.specs.Split.{IsSplit};
 ghost use Rattle.wrp_run.specs.StandsFor.{HasTaken, IsReady, Tells, TookInput, site_at};
 
 use crate::counting::append_counts;
 use crate::machine::{Machine, Refusal, Taken};
 use crate::refusals::append_bad_trace;
 use crate::replayed::Replayed;
+use csv::ByteRecord;
 use std::alloc::{AllocError, Global};
 use wrp_base::{Tau, TraceFault};
 use wrp_bounds::path;
 use wrp_law::DelayLaw;
 use wrp_lines::append_line;
 use wrp_node::{Input, Node, Output, Outputs, node_set, one_run};
-use wrp_trace::read_input;
+use wrp_trace::read_input_fields;
 
 /// A node as far as it is replayed: the node, what its lines say of it, and a place for its outputs.
 #[derive(Drop)]
@@ -88,9 +92,11 @@ impl<'a, F: Fn(i64) -> i64> ReplayedNode<'a, F> {
         &mut self,
         alloc: Global,
         line: &[u8],
+        parts: Option<&ByteRecord>,
         number: u32,
         text: &mut Vec<u8>,
     ) -> Result<Taken, AllocError>
+        requires split { IsSplit line.now parts }
         requires ready { IsReady F.pre F.post self.old }
         requires none { text.old.items ≡ [] }
         requires room { self.old.node.parts.ticks + 1 < 2 ^ 32 }
@@ -110,7 +116,7 @@ impl<'a, F: Fn(i64) -> i64> ReplayedNode<'a, F> {
         ensures enough { IfOk result (λ taken. taken ≡ Taken.Memory → ⊥) }
     {
         one_run();
-        match read_input(alloc, line, self.replayed.net, self.replayed.node) {
+        match read_parts(line, parts, self.replayed) {
             Ok(input) => {
                 self.write(alloc, &input, text)?;
                 Ok(Taken::Accepted)
@@ -148,11 +154,36 @@ impl<'a, F: Fn(i64) -> i64> Machine for ReplayedNode<'a, F> {
 
     ghost refuses = { λ replayed. Refuses (site_at replayed) };
 
-    fn take(&mut self, alloc: Global, line: &[u8], number: u32, text: &mut Vec<u8>) -> Taken {
-        match self.handle(alloc, line, number, text) {
+    fn take(
+        &mut self,
+        alloc: Global,
+        line: &[u8],
+        parts: Option<&ByteRecord>,
+        number: u32,
+        text: &mut Vec<u8>,
+    ) -> Taken {
+        match self.handle(alloc, line, parts, number, text) {
             Ok(taken) => taken,
             Err(_) => Taken::Memory,
         }
+    }
+}
+
+// What a line says to the node, by its parts.
+fn read_parts(
+    line: &[u8],
+    parts: Option<&ByteRecord>,
+    replayed: Replayed<'_>,
+) -> Result<Input, TraceFault>
+    requires { IsSplit line.now parts }
+    ensures value { IsReading
+        (read_of (site_of replayed.entry.net.now replayed.entry.node) line.now) result }
+    ensures input { IfOk result (IsInputAt (site_of replayed.entry.net.now replayed.entry.node)) }
+{
+    let _line = line;
+    match parts {
+        Some(row) => read_input_fields(row, replayed.net, replayed.node),
+        None => Err(TraceFault::Fields),
     }
 }
 

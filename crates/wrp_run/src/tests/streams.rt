@@ -8,6 +8,7 @@ use crate::network_text::{End, take_network};
 use crate::parse::{Command, read_words};
 use crate::reader::Reader;
 use crate::status::Status;
+use csv::ByteRecord;
 use std::alloc::{AllocError, Global};
 use std::test::Fail;
 use wrp_io::{Failed, Sink, Source};
@@ -15,10 +16,11 @@ use wrp_io::{Failed, Sink, Source};
 // How many octets move at a call.
 const MOST: usize = 7;
 
-// A source that gives at most seven octets a call, and fails at one call.
+// A source that gives at most so many octets a call, and fails at one call.
 #[derive(Drop)]
 struct Drops<'a> {
     octets: &'a [u8],
+    most: usize,
     fails: u32,
     calls: u32,
     faults: u64,
@@ -34,7 +36,7 @@ impl<'a> Source for Drops<'a> {
             self.faults = faults.saturating_add(1);
             return Err(Failed);
         }
-        let count = buf.len().min(self.octets.len()).min(MOST);
+        let count = buf.len().min(self.octets.len()).min(self.most);
         let (front, back) = self.octets.split_at(count);
         buf[..count].copy_from_slice(front);
         self.octets = back;
@@ -139,8 +141,19 @@ impl Machine for Toy {
 
     ghost refuses = { λ _ _ _ _ _. ⊤ };
 
-    fn take(&mut self, alloc: Global, line: &[u8], number: u32, text: &mut Vec<u8>) -> Taken {
-        match self.step(alloc, line, number, text) {
+    fn take(
+        &mut self,
+        alloc: Global,
+        line: &[u8],
+        parts: Option<&ByteRecord>,
+        number: u32,
+        text: &mut Vec<u8>,
+    ) -> Taken {
+        let said = match parts {
+            Some(row) => row.get(0).unwrap_or(b""),
+            None => line,
+        };
+        match self.step(alloc, said, number, text) {
             Ok(taken) => taken,
             Err(_) => Taken::Memory,
         }
@@ -151,6 +164,7 @@ impl Machine for Toy {
 fn stream(
     alloc: Global,
     input: &[u8],
+    most: usize,
     read_fails: u32,
     write_fails: u32,
 ) -> Result<(Status, String), Fail> {
@@ -158,6 +172,7 @@ fn stream(
     let mut reader = Reader::new();
     let mut source = Drops {
         octets: input,
+        most,
         fails: read_fails,
         calls: 0,
         faults: 0,
@@ -211,7 +226,7 @@ fn streams_so(
     status: Status,
     text: &str,
 ) -> Result<bool, Fail> {
-    let (answered, written) = stream(alloc, input, read_fails, write_fails)?;
+    let (answered, written) = stream(alloc, input, MOST, read_fails, write_fails)?;
     Ok(answered == status && written.as_str() == text)
 }
 
@@ -224,6 +239,40 @@ fn cuts_and_faults(rt: HostRuntime) -> Result<(), Fail> {
                 streams_so(rt.alloc(), input, *read_fails, *write_fails, *status, text)?,
                 "{count} octets, read {read_fails} and write {write_fails} fail"
             );
+        }
+    }
+    Ok(())
+}
+
+// Lines that come in one piece: how they end, and what is answered and written.
+const PIECES: &[(&str, Status, &str)] = &[
+    (
+        "tick,1\r\ntell\ntick\ntell,\n",
+        Status::Done,
+        "ticks 1\nticks 2\n",
+    ),
+    (
+        "tick\ntell\n\ntell\n",
+        Status::BadTrace,
+        "ticks 1\nbad-trace 3\n",
+    ),
+    ("tick\n\"tick\"\ntell\n", Status::BadTrace, "bad-trace 2\n"),
+    (
+        "tick\ntell\nneed\ntick\ntell",
+        Status::Done,
+        "ticks 1\nticks 2\n",
+    ),
+    ("tell\nneed\ntell\n", Status::Broken, "ticks 0\nbroken 2\n"),
+    ("\u{fffd}\ntell\n", Status::BadTrace, "bad-trace 1\n"),
+];
+
+#[test]
+fn pieces(rt: HostRuntime) -> Result<(), Fail> {
+    for (input, status, text) in PIECES {
+        for most in [100, 9] {
+            let (answered, written) = stream(rt.alloc(), input.as_bytes(), most, 0, 0)?;
+            assert_eq!(rt; answered, *status, "{input} by {most}");
+            assert_eq!(rt; written.as_str(), *text, "{input} by {most}");
         }
     }
     Ok(())
@@ -257,6 +306,7 @@ fn network_of(alloc: Global, size: usize) -> Result<End, Fail> {
     input.extend_from_slice(b"\n---\n")?;
     let mut source = Drops {
         octets: &input,
+        most: MOST,
         fails: 0,
         calls: 0,
         faults: 0,

@@ -1,7 +1,7 @@
 use Rattle.std.proofs.Common.{◌≡◌, ◌-◌, ◌^◌, ◌≤◌, true}
 use Rattle.std.specs.Io.KnownBytes.{IsAtEnd}
 use Rattle.wrp_run.specs.Stream.{Handles}
-use Rattle.wrp_run.proofs.Reaching.{Reached}
+use Rattle.wrp_run.specs.Reached.{Reached}
 use Rattle.wrp_run.proofs.engine.handle_records.Given as goal
 
 abbrev pub invariant-records : goal.invariant-records

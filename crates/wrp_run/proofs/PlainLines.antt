@@ -1,0 +1,72 @@
+-- A line is plain where the splitting of lines says so.
+use Rattle.std.proofs.Common.{◌≡◌, ◌∙◌, ◌&&◌, not, ℕ, List, [], ◌∷◌, true, false, Ok, Err, Result, refl, sym, ap}
+use Rattle.std.specs.Prelude.{◌==◌, nat_lt}
+use Rattle.std.specs.List.{list_all, AllByRecursion}
+use Rattle.std.proofs.lemmas.Bool.{lt-ltb, ltb-true, not-true, and_parts, and_from, false_from_ne_true}
+use Rattle.csv.specs.Records.{Row, fields_of}
+use Rattle.wrp_base.specs.Lines.{parts_of}
+use Rattle.wrp_base.specs.declared.fault.TraceFault.{TraceFault}
+use Rattle.wrp_base.specs.declared.fault.TraceFault.TheVariants.{Fields, Kind, Number, Name, Memory}
+use Rattle.wrp_fields.specs.Lines.{IsPlainOctet, IsLine}
+use Rattle.wrp_node.specs.declared.interface.Input.{Input}
+use Rattle.wrp_trace.specs.Inputs.{input_of, read_of}
+use Rattle.wrp_trace.specs.Reading.{IsReading, is_plain_octet, is_plain}
+use Rattle.wrp_trace.specs.Site.{Site}
+use Rattle.wrp_run.specs.Split.{HasParts}
+
+octet_passes : (c : ℕ) → IsPlainOctet c → is_plain_octet c ≡ true
+octet_passes c (no_quote, no_return, no_feed, small) = rw (no_quote, no_return, no_feed, lt-ltb c 128 small) refl
+
+octet_is : (c : ℕ) → is_plain_octet c ≡ true → IsPlainOctet c
+octet_is c is =
+    let a = and_parts (not (c == 34)) (not (c == 13) && (not (c == 10) && nat_lt c 128)) is in
+    let b = and_parts (not (c == 13)) (not (c == 10) && nat_lt c 128) a.1 in
+    let d = and_parts (not (c == 10)) (nat_lt c 128) b.1 in
+    (not-true (c == 34) a.0, not-true (c == 13) b.0, not-true (c == 10) d.0, ltb-true c 128 d.1)
+
+octets_pass : (line : List ℕ) → AllByRecursion IsPlainOctet line → list_all is_plain_octet line ≡ true
+octets_pass [] all = refl
+octets_pass (c ∷ cs) all = and_from (is_plain_octet c) (list_all is_plain_octet cs) (octet_passes c all.0) (octets_pass cs all.1)
+
+octets_are : (line : List ℕ) → list_all is_plain_octet line ≡ true → AllByRecursion IsPlainOctet line
+octets_are [] all = tt
+octets_are (c ∷ cs) all =
+    let both = and_parts (is_plain_octet c) (list_all is_plain_octet cs) all in
+    (octet_is c both.0, octets_are cs both.1)
+
+-- a plain line passes the test
+pub line_passes : (line : List ℕ) → IsLine line → is_plain line ≡ true
+line_passes [] is = absurd (is.0 refl)
+line_passes (c ∷ cs) is = octets_pass (c ∷ cs) is.1
+
+line_is : (line : List ℕ) → is_plain line ≡ true → IsLine line
+line_is [] is = cc is
+line_is (c ∷ cs) is = ((λ e. cc e), octets_are (c ∷ cs) is)
+
+-- and no other line does
+pub other_fails : (line : List ℕ) → (IsLine line → ⊥) → is_plain line ≡ false
+other_fails line other = false_from_ne_true (is_plain line) (λ e. other (line_is line e))
+
+-- an answer that is the reading is one that the reading allows
+pub is_reading : {A : Type 0} (read answer : Result A TraceFault) → answer ≡ read → IsReading read answer
+is_reading read (Ok value) e = e
+is_reading read (Err Fields) e = e
+is_reading read (Err Kind) e = e
+is_reading read (Err (Number field)) e = e
+is_reading read (Err (Name field)) e = e
+is_reading read (Err (Memory cause)) e = tt
+
+passes_read : (site : Site) (line : List ℕ) → is_plain line ≡ true → read_of site line ≡ input_of site (parts_of line)
+passes_read site line is = rw is refl
+
+other_read : (site : Site) (line : List ℕ) → is_plain line ≡ false → read_of site line ≡ Err Fields
+other_read site line is = rw is refl
+
+-- a line with parts reads as they do
+pub reads_parts : (site : Site) (line : List ℕ) (row : Row) (answer : Result Input TraceFault) → HasParts line row → answer ≡ input_of site (fields_of row) → IsReading (read_of site line) answer
+reads_parts site line row answer parts is =
+    is_reading (read_of site line) answer (is ∙ ap (input_of site) parts.1 ∙ sym (passes_read site line (line_passes line parts.0)))
+
+-- a line without parts has no fields
+pub reads_none : (site : Site) (line : List ℕ) → (IsLine line → ⊥) → IsReading (read_of site line) (Err Fields)
+reads_none site line other = is_reading (read_of site line) (Err Fields) (sym (other_read site line (other_fails line other)))

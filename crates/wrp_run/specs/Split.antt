@@ -1,0 +1,14 @@
+-- The parts of a line, as `csv` gives them (this project's profile).
+use Rattle.std.specs.Prelude.{◌≡◌, ℕ, Option, MatchOption, List}
+use Rattle.std.specs.Borrow.{Bor}
+use Rattle.csv.specs.Records.{Row, fields_of}
+use Rattle.wrp_base.specs.Lines.{parts_of}
+use Rattle.wrp_fields.specs.Lines.{IsLine}
+
+-- the record has the parts of a plain line
+abbrev pub HasParts : List ℕ → Row → Type 0
+HasParts line row = IsLine line × (fields_of row ≡ parts_of line)
+
+-- the parts of a line that is plain, and none of one that is not
+abbrev pub IsSplit : List ℕ → Option (Bor Row) → Type 0
+IsSplit line parts = MatchOption parts (IsLine line → ⊥) (λ row. HasParts line row.now)
