@@ -14,9 +14,9 @@ use std::alloc::Global;
 
 impl<F: Fn(i64) -> i64> World<F> {
     /// Takes an event: where it keeps all premises, and the memory for it can be had, it changes
-    /// the world, and `outs` is filled with the steps that the nodes make of it, in their order;
-    /// at most 37. What `outs` had before is gone, but its places are used again. A refused event
-    /// changes nothing, and leaves in `outs` nothing of use.
+    /// the world, and `outs` is filled with the steps that the nodes make of it, in their order.
+    /// What `outs` had before is gone. A refused event changes nothing, and leaves in `outs`
+    /// nothing of use.
     pub fn step_into(&mut self, event: &Event, outs: &mut Vec<NodeOut>) -> Result<(), Refused>
         requires valid { IsValid F.pre F.post self.old }
         requires event { MayCome self.old event.now }
