@@ -1,4 +1,8 @@
 pub mod Asking
+pub mod AuditCounts
+pub mod BareAudit
+pub mod BareEvents
+pub mod BareRuns
 pub mod BareSite
 pub mod CountLemmas
 pub mod ExactAudit
@@ -7,6 +11,7 @@ pub mod GoingOn
 pub mod LineLemmas
 pub mod LinkLaws
 pub mod Networking
+pub mod NodesWithin
 pub mod OneAnswer
 pub mod OneAudit
 pub mod OneReplay
@@ -14,6 +19,7 @@ pub mod OneWorld
 pub mod OwnPorts
 pub mod ParsingLemmas
 pub mod Pieces
+pub mod PlainEvents
 pub mod Reaching
 pub mod ReaderLemmas
 pub mod Runs
