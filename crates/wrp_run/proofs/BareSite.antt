@@ -84,7 +84,7 @@ grandmaster_bare site = ap is_none (above_bare site.cfg site.node) ∙ none_over
 kind_bare : (site : Site) (word : List ℕ) → kind_of (bare_site site) word ≡ kind_of site word
 kind_bare site word = rw (grandmaster_bare site) refl
 
-bind_same : {A B : Type 0} (read : Result A TraceFault) (f g : A → Result B TraceFault) → ((a : A) → f a ≡ g a) → (read >>= f) ≡ (read >>= g)
+pub bind_same : {A B : Type 0} (read : Result A TraceFault) (f g : A → Result B TraceFault) → ((a : A) → f a ≡ g a) → (read >>= f) ≡ (read >>= g)
 bind_same (Ok a) f g same = same a
 bind_same (Err fault) f g same = refl
 

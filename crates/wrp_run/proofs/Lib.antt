@@ -1,4 +1,8 @@
 pub mod Asking
+pub mod AuditCounts
+pub mod BareAudit
+pub mod BareEvents
+pub mod BareRuns
 pub mod BareSite
 pub mod CountLemmas
 pub mod ExactAudit
@@ -8,6 +12,7 @@ pub mod LineEnds
 pub mod LineLemmas
 pub mod LinkLaws
 pub mod Networking
+pub mod NodesWithin
 pub mod OneAnswer
 pub mod OneAudit
 pub mod OneReplay
@@ -17,6 +22,7 @@ pub mod ParsingLemmas
 pub mod Passing
 pub mod Pieces
 pub mod PlainLines
+pub mod PlainEvents
 pub mod Reaching
 pub mod ReaderLemmas
 pub mod Runs

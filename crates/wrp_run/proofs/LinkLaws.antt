@@ -53,6 +53,8 @@ fraction_law cfg db n link accepted is none = record {
   down = λ x. rw none refl;
   least = rw none refl;
   greatest = rw none refl;
+  kind = refl;
+  error = rw none refl;
 }
 
 -- a table
@@ -65,4 +67,6 @@ table_law cfg db n link points err accepted is has =
       down = λ x. rw has refl;
       least = rw has refl;
       greatest = rw has refl;
+      kind = refl;
+      error = rw has refl;
     }

@@ -28,10 +28,10 @@ none_told : (b : Bool) (call : Option Call) (calls : List Call) → b ≡ false 
 none_told true call calls e = absurd (cc)
 none_told false call calls e = refl
 
-abbrev HasNoSlave : Fixed → Type 0
+abbrev pub HasNoSlave : Fixed → Type 0
 HasNoSlave fixed = is_some (slave_of fixed.set) ≡ false
 
-abbrev NoCalls : NodeAt → Type 0
+abbrev pub NoCalls : NodeAt → Type 0
 NoCalls n = n.calls ≡ []
 
 leased_none : (fixed : Fixed) (s : Step) → HasNoSlave fixed → NoCalls s.node → NoCalls (with_lease fixed s).node
@@ -56,7 +56,7 @@ stepped_none fixed (Carrier p up own_module) says y n e h =
     none_told (is_some (slave_of fixed.set)) (if is_slave_port (slave_of fixed.set) p then Some (CallCarrier up) else None) n.calls e ∙ h
 stepped_none fixed Reset says y n e h = none_told (is_some (slave_of fixed.set)) (Some CallReset) n.calls e ∙ h
 
-no_calls : (fixed : Fixed) (inputs : List Taken) → HasNoSlave fixed → NoCalls (node_after fixed inputs)
+pub no_calls : (fixed : Fixed) (inputs : List Taken) → HasNoSlave fixed → NoCalls (node_after fixed inputs)
 no_calls fixed [] e = refl
 no_calls fixed (t ∷ before) e =
     settled_none fixed (stepped fixed t.input t.says t.answer (node_after fixed before)) e

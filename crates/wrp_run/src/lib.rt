@@ -4,6 +4,7 @@
 #![tactic(auto)]
 
 mod answering;
+mod audit_counts;
 mod audits;
 mod command;
 mod command_line;

@@ -8,6 +8,7 @@ pub mod Gifts
 pub mod Given
 pub mod Giving
 pub mod InRun
+pub mod HasLaws
 pub mod Laws
 pub mod LinkEnds
 pub mod Moved

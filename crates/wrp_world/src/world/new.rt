@@ -2,10 +2,12 @@
 ghost use Rattle.std.specs.Prelude.{◌≡◌, ◌<◌, [], IfOk, length};
 ghost use Rattle.wrp_base.specs.Network.{node_count};
 ghost use Rattle.wrp_config.specs.Accepted.{IsAccepted};
+ghost use Rattle.wrp_node.specs.Control.{law_in};
 ghost use Rattle.wrp_node.specs.New.{fixed_of};
 ghost use Rattle.wrp_node.specs.Node.{IsValid as NodeIsValid};
 ghost use Rattle.wrp_node.specs.Set.{set_of};
 ghost use Rattle.wrp_node.specs.StandsFor.{StandsFor as NodeStandsFor};
+ghost use Rattle.wrp_world.specs.HasLaws.{HasLaws};
 ghost use Rattle.wrp_world.specs.New.{FitsLaw, IsNewNode, setting_of};
 ghost use Rattle.wrp_world.specs.Plant.{Each};
 ghost use Rattle.wrp_world.specs.StandsFor.{IsValid, StandsFor};
@@ -34,6 +36,7 @@ impl<F: Fn(i64) -> i64> World<F> {
             (new_world (setting_of net.cfg net.db laws.items))) }
         ensures valid { IfOk result (IsValid F.pre F.post) }
         ensures net { IfOk result (λ world. world.plant.net ≡ net) }
+        ensures laws { IfOk result (HasLaws laws.items) }
     {
         let nodes = new_nodes(alloc, &net, laws)?;
         let plant = Plant::new(alloc, net)?;
@@ -75,6 +78,7 @@ fn new_node<F: Fn(i64) -> i64>(
     requires law { FitsLaw F.pre F.post net.now.cfg n law }
     ensures stands { IfOk result (λ node. NodeStandsFor F.post (fixed_of (set_of net.now.cfg n) law) node []) }
     ensures valid { IfOk result (NodeIsValid F.pre F.post) }
+    ensures law { IfOk result (λ node. law_in node.control ≡ law) }
 {
     let set = node_set(&net.cfg, n);
     Node::new(alloc, set, law)

@@ -19,3 +19,6 @@ returns-clause-stands g c = new_stands _ _ c.args.net.cfg c.args.net.db c.args.l
 
 pub returns-clause-valid : goal.returns-clause-valid
 returns-clause-valid g c = new_valid _ _ c.args.net.cfg c.args.net.db c.args.laws.items (record { plant = c.in_ok-plant.plant; nodes = c.in_ok-nodes.nodes.items }) (made g c)
+
+pub returns-clause-laws : goal.returns-clause-laws
+returns-clause-laws g c = λ n node e. (c.in_ok-nodes.ensures.each n node e).law

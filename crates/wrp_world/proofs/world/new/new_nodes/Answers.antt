@@ -44,7 +44,7 @@ loop-law-preserved g c =
       counted _ c.loop-law.nodes.items _ c.loop-law.n items c.loop-law.invariant.3,
       omega (arith, t.within),
       λ n node e. each_push _ c.loop-law.nodes.items _ c.loop-law.invariant.5
-          (new_node _ _ c.args.net.now.cfg c.args.laws.items c.next.new.self.rest.items c.loop-law.n (length c.loop-law.nodes.items) c.in-Some.law c.in_ok-new_node.field-0 t c.loop-law.invariant.3 c.in_ok-new_node.ensures.stands c.in_ok-new_node.ensures.valid)
+          (new_node _ _ c.args.net.now.cfg c.args.laws.items c.next.new.self.rest.items c.loop-law.n (length c.loop-law.nodes.items) c.in-Some.law c.in_ok-new_node.field-0 t c.loop-law.invariant.3 c.in_ok-new_node.ensures.stands c.in_ok-new_node.ensures.valid c.in_ok-new_node.ensures.law)
           n node (sym (ap (λ xs. slice_get xs n) items) ∙ e),
     )
 

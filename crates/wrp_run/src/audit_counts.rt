@@ -1,0 +1,74 @@
+//! The lines that close an audit: the counters of all nodes that are not 0, by node, port and reason.
+ghost use Rattle.std.specs.Prelude.{◌≡◌, ◌<◌, ◌++◌, IfOk};
+ghost use Rattle.wrp_base.specs.Network.{node_count};
+ghost use Rattle.wrp_lines.specs.Words.{name_at};
+ghost use Rattle.wrp_world.specs.Setting.{Setting};
+ghost use Rattle.wrp_world.specs.StandsFor.{IsValid, StandsFor};
+ghost use Rattle.wrp_world.specs.WorldAt.{WorldAt};
+ghost use Rattle.wrp_run.specs.Audited.{node_in};
+ghost use Rattle.wrp_run.specs.AuditText.{all_counts};
+ghost use Rattle.wrp_run.specs.NodeText.{node_counts};
+ghost use Rattle.wrp_run.specs.StandsFor.{site_at};
+
+use crate::counting::append_counts;
+use crate::replayed::Replayed;
+use std::alloc::{AllocError, Global};
+use wrp_config::Network;
+use wrp_world::World;
+
+// The name of a node.
+#[tactic(auto, using(crate::proofs::BareSite::name_bare))]
+fn name_of<'a>(replayed: Replayed<'a>) -> &'a str
+    requires { replayed.node < node_count replayed.net.now.cfg }
+    ensures { result.now ≡ name_at (site_at replayed.entry).cfg replayed.entry.node }
+{
+    replayed.net.cfg.nodes[usize::from(replayed.node)]
+        .name
+        .as_str()
+}
+
+// Appends those of a node.
+fn append_node<F: Fn(i64) -> i64>(
+    alloc: Global,
+    world: &World<F>,
+    node: u8,
+    text: &mut Vec<u8>,
+) -> Result<(), AllocError>
+    requires valid { IsValid F.pre F.post world.now }
+    requires node { node < node_count world.now.plant.net.cfg }
+    ensures { IfOk result (λ _. (s : Setting) (w : WorldAt) → StandsFor F.post s w world.now
+        → text.new.items ≡ text.old.items ++ node_counts (node_in s node) (w.node node)) }
+{
+    let replayed = Replayed {
+        net: world.net(),
+        node,
+    };
+    let name = name_of(replayed);
+    append_counts(alloc, replayed, name, world.node(node), text)
+}
+
+/// How many nodes a network has.
+pub fn count_of(net: &Network) -> u8
+    ensures { result ≡ node_count net.now.cfg }
+{
+    net.cfg.nodes.len() as u8
+}
+
+/// Appends those of all nodes.
+pub fn append_all_counts<F: Fn(i64) -> i64>(
+    alloc: Global,
+    world: &World<F>,
+    text: &mut Vec<u8>,
+) -> Result<(), AllocError>
+    requires { IsValid F.pre F.post world.now }
+    ensures { IfOk result (λ _. (s : Setting) (w : WorldAt) → StandsFor F.post s w world.now
+        → text.new.items ≡ text.old.items ++ all_counts s w) }
+{
+    let count = count_of(world.net());
+    let mut node: u8 = 0;
+    while node < count {
+        append_node(alloc, world, node, text)?;
+        node += 1;
+    }
+    Ok(())
+}
