@@ -18,7 +18,7 @@ pub struct NodeOut {
 }
 
 /// Why an event was refused: the world is as it was.
-#[derive(Debug, PartialEq, Eq)]
+#[derive(Debug, Drop, PartialEq, Eq)]
 pub enum Refused {
     /// The event breaks a premise.
     Broken {
