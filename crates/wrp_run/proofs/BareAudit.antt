@@ -133,9 +133,9 @@ arrived_bare s w j raw None l f = refl
 arrived_bare s w j raw (Some g) l None = refl
 arrived_bare s w j raw (Some g) l (Some f) =
     ap (λ (samples : ℕ). Some (
-      if l == j
-      then record f { arrival = Some (record { raw = raw; sample = samples; at = w.time; moment = w.count }) }
-      else record f { gone = f.gone || (is_on_fibre (Some f) && (nat_lt l j && ((f.link == g.link) && is_role f.by g.by))) }
+    if l == j
+    then record f { arrival = Some (record { raw = raw; sample = samples; at = w.time; moment = w.count }) }
+    else record f { gone = f.gone || (is_on_fibre (Some f) && (nat_lt l j && ((f.link == g.link) && is_role f.by g.by))) }
     )) (samples_bare s w g)
 
 moved_bare : (s : Setting) (w : WorldAt) (e : Event) → moved (bare_setting s) w e ≡ moved s w e

@@ -113,23 +113,40 @@ due_so M N leads lines Done octets h = record {
   is = h.is;
 }
 due_so M N leads lines BadTrace octets h = record {
-  before = h.before; line = h.line; behind = h.behind; written = h.written; last = h.last; divided = h.divided;
+  before = h.before;
+  line = h.line;
+  behind = h.behind;
+  written = h.written;
+  last = h.last;
+  divided = h.divided;
   handled = handles_so M N leads h.before h.written h.handled;
-  within = h.within; number = h.number;
+  within = h.within;
+  number = h.number;
   refused = leads.refuses (map content_of h.before) (content_of h.line) h.last refusals.BadTrace h.refused;
   is = h.is;
 }
 due_so M N leads lines Broken octets h = record {
-  before = h.before; line = h.line; behind = h.behind; written = h.written; last = h.last; divided = h.divided;
+  before = h.before;
+  line = h.line;
+  behind = h.behind;
+  written = h.written;
+  last = h.last;
+  divided = h.divided;
   handled = handles_so M N leads h.before h.written h.handled;
-  within = h.within; number = h.number;
+  within = h.within;
+  number = h.number;
   refused = leads.refuses (map content_of h.before) (content_of h.line) h.last refusals.Broken h.refused;
   is = h.is;
 }
 due_so M N leads lines TooLarge octets h = record {
-  before = h.before; line = h.line; behind = h.behind; written = h.written; divided = h.divided;
+  before = h.before;
+  line = h.line;
+  behind = h.behind;
+  written = h.written;
+  divided = h.divided;
   handled = handles_so M N leads h.before h.written h.handled;
-  large = h.large; is = h.is;
+  large = h.large;
+  is = h.is;
 }
 due_so M N leads lines _ octets h = absurd h
 
