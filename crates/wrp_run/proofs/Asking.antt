@@ -11,7 +11,7 @@ use Rattle.wrp_run.specs.declared.machine.Refusal.TheVariants as refusals
 use Rattle.wrp_run.specs.declared.status.Status.{Status}
 use Rattle.wrp_run.specs.declared.status.Status.TheVariants.{Done, Usage, BadNetwork, BadTrace, Broken, ReadFault, WriteFault, TooLarge, OutOfMemory}
 use Rattle.wrp_run.specs.After.{After}
-use Rattle.wrp_run.specs.Answer.{Answer, Asks, AsksNone, IsCommand, FirstAnswer, PartAnswer, CutReplay}
+use Rattle.wrp_run.specs.Answer.{Answer, AsksNone, IsCommand, FirstAnswer, PartAnswer, CutTask}
 use Rattle.wrp_run.specs.Ends.{Run, Ends, EndsRefused, TakesPiece, ReadFailed, WriteFailed, Wrote}
 use Rattle.wrp_run.specs.Engine.{Finishes, RefusesNetwork}
 use Rattle.wrp_run.specs.Input.{network_text, behind_separator, network_limit, IsDivided, IsTooLong, IsUndivided}
@@ -19,24 +19,24 @@ use Rattle.wrp_run.specs.Lines.{lines_of}
 use Rattle.wrp_run.specs.Meaning.{Meaning}
 use Rattle.wrp_run.specs.Reader.{ReaderAt, piece_limit}
 use Rattle.wrp_run.specs.RecordsAnswer.{RecordsAnswer, AreFirst}
-use Rattle.wrp_run.specs.Replays.{meaning_of, IsRefusedBy}
-use Rattle.wrp_trace.specs.Site.{Site}
+use Rattle.wrp_run.specs.Replays.{IsRefusedBy}
 use Rattle.wrp_run.specs.Statuses.{is_answer}
 use Rattle.wrp_run.specs.Stream.{RefusedAt, CutHandled}
 use Rattle.wrp_run.specs.Refusals.{bad_network_line, usage_line, too_large_line}
+use Rattle.wrp_run.specs.Tasks.{Task, Replay, Audit, Emit, AsksFor, meaning_at}
 use Rattle.wrp_run.proofs.Feeds.{lines_of-open}
 use Rattle.wrp_run.proofs.Networking.{next_line}
 use Rattle.wrp_run.proofs.Reaching.{lines_behind, next_some}
 use Rattle.wrp_run.proofs.Telling.{DueOf, due_told, answer_told, first_told}
 
 -- what is due for the records is due for the words and the input
-answer_of : (words : List (List ℕ)) (input : List ℕ) (site : Site) (status : Status) (octets : List ℕ) → Asks words (network_text input) site
-    → RecordsAnswer (meaning_of site) (behind_separator (lines_of input)) status octets → Answer words input status octets
-answer_of words input site Done octets has due = (site, has, due)
-answer_of words input site BadTrace octets has due = (site, has, due)
-answer_of words input site Broken octets has due = (site, has, due)
-answer_of words input site TooLarge octets has due = inr (site, has, due)
-answer_of words input site _ octets has due = absurd due
+answer_of : (words : List (List ℕ)) (input : List ℕ) (task : Task) (status : Status) (octets : List ℕ) → AsksFor words (network_text input) task
+    → RecordsAnswer (meaning_at task) (behind_separator (lines_of input)) status octets → Answer words input status octets
+answer_of words input task Done octets has due = (task, has, due)
+answer_of words input task BadTrace octets has due = (task, has, due)
+answer_of words input task Broken octets has due = (task, has, due)
+answer_of words input task TooLarge octets has due = inr (task, has, due)
+answer_of words input task _ octets has due = absurd due
 
 -- a fact of the whole input
 pub told_text : (first middle : Option (List ℕ)) (network text : List ℕ) (r : ReaderAt) → Consumes first middle network → IsDivided network text r → (r.ended ≡ true → IsAtEnd middle)
@@ -77,12 +77,12 @@ both_parts P (Some input) (Some middle) (Some left) network given text r s one t
     ]
 
 -- what was taken of the network text
-pub record TookNetwork (words : List (List ℕ)) (first middle : Option (List ℕ)) (text : List ℕ) (r : ReaderAt) (site : Site) : Type 0 where
+pub record TookNetwork (words : List (List ℕ)) (first middle : Option (List ℕ)) (text : List ℕ) (r : ReaderAt) (task : Task) : Type 0 where
   pub network : List ℕ
   pub taken : Consumes first middle network
   pub divided : IsDivided network text r
   pub at_end : r.ended ≡ true → IsAtEnd middle
-  pub asks : Asks words text site
+  pub asks : AsksFor words text task
 
 -- what was taken of the records, and what stands
 pub record TookRecords (M : Meaning) (middle last held now : Option (List ℕ)) (r s : ReaderAt) (status : Status) : Type 0 where
@@ -94,49 +94,49 @@ pub record TookRecords (M : Meaning) (middle last held now : Option (List ℕ)) 
   pub at_end : s.ended ≡ true → IsAtEnd last
 
 -- the node that is asked for, in the whole input
-asks_told : (words : List (List ℕ)) (text other : List ℕ) (site : Site) → other ≡ text → Asks words text site → Asks words other site
-asks_told words text other site same asks = subst (λ (t : List ℕ). Asks words t site) (sym same) asks
+asks_told : (words : List (List ℕ)) (text other : List ℕ) (task : Task) → other ≡ text → AsksFor words text task → AsksFor words other task
+asks_told words text other task same asks = subst (λ (t : List ℕ). AsksFor words t task) (sym same) asks
 
 -- a fact of all record lines, in the whole input
-lines_told : (P : List (List ℕ) → Type 0) (words : List (List ℕ)) (first middle last held now : Option (List ℕ)) (text : List ℕ) (r s : ReaderAt) (site : Site) (status : Status)
-    → TookNetwork words first middle text r site → (at : TookRecords (meaning_of site) middle last held now r s status)
+lines_told : (P : List (List ℕ) → Type 0) (words : List (List ℕ)) (first middle last held now : Option (List ℕ)) (text : List ℕ) (r s : ReaderAt) (task : Task) (status : Status)
+    → TookNetwork words first middle text r task → (at : TookRecords (meaning_at task) middle last held now r s status)
     → ((more : List ℕ) → (s.ended ≡ true → more ≡ []) → P (lines_of ((r.rest ++ at.given) ++ more)))
-    → IfSome first (λ input. Asks words (network_text input) site × P (behind_separator (lines_of input)))
-lines_told P words None middle last held now text r s site status net at told = tt
-lines_told P words (Some input) middle last held now text r s site status net at told =
+    → IfSome first (λ input. AsksFor words (network_text input) task × P (behind_separator (lines_of input)))
+lines_told P words None middle last held now text r s task status net at told = tt
+lines_told P words (Some input) middle last held now text r s task status net at told =
     let both = both_parts P (Some input) middle last net.network at.given text r s net.taken at.taken net.divided net.at_end at.at_end told in
-    (asks_told words text (network_text input) site both.0 net.asks, both.1)
+    (asks_told words text (network_text input) task both.0 net.asks, both.1)
 
 -- an answer
-answered : (words : List (List ℕ)) (first middle last held now : Option (List ℕ)) (text : List ℕ) (r s : ReaderAt) (site : Site) (status : Status)
-    → TookNetwork words first middle text r site → (at : TookRecords (meaning_of site) middle last held now r s status) → is_answer status ≡ true
+answered : (words : List (List ℕ)) (first middle last held now : Option (List ℕ)) (text : List ℕ) (r s : ReaderAt) (task : Task) (status : Status)
+    → TookNetwork words first middle text r task → (at : TookRecords (meaning_at task) middle last held now r s status) → is_answer status ≡ true
     → IfSome first (λ input. Answer words input status at.octets)
-answered words None middle last held now text r s site status net at is = tt
-answered words (Some input) middle last held now text r s site status net at is =
-    let has = lines_told (λ (ls : List (List ℕ)). RecordsAnswer (meaning_of site) ls status at.octets) words (Some input) middle last held now text r s site status net at
-    (answer_told (meaning_of site) (r.rest ++ at.given) s status at.octets at.stands is) in
-    answer_of words input site status at.octets has.0 has.1
+answered words None middle last held now text r s task status net at is = tt
+answered words (Some input) middle last held now text r s task status net at is =
+    let has = lines_told (λ (ls : List (List ℕ)). RecordsAnswer (meaning_at task) ls status at.octets) words (Some input) middle last held now text r s task status net at
+    (answer_told (meaning_at task) (r.rest ++ at.given) s status at.octets at.stands is) in
+    answer_of words input task status at.octets has.0 has.1
 
 -- the first lines
-firsts : (words : List (List ℕ)) (first middle last held now : Option (List ℕ)) (text : List ℕ) (r s : ReaderAt) (site : Site)
-    → TookNetwork words first middle text r site → (at : TookRecords (meaning_of site) middle last held now r s OutOfMemory)
+firsts : (words : List (List ℕ)) (first middle last held now : Option (List ℕ)) (text : List ℕ) (r s : ReaderAt) (task : Task)
+    → TookNetwork words first middle text r task → (at : TookRecords (meaning_at task) middle last held now r s OutOfMemory)
     → IfSome first (λ input. FirstAnswer words input at.octets)
-firsts words None middle last held now text r s site net at = tt
-firsts words (Some input) middle last held now text r s site net at =
-    let has = lines_told (λ (ls : List (List ℕ)). AreFirst (meaning_of site) ls at.octets) words (Some input) middle last held now text r s site OutOfMemory net at
-    (first_told (meaning_of site) (r.rest ++ at.given) s at.octets at.stands) in
-    inr (site, has.0, has.1)
+firsts words None middle last held now text r s task net at = tt
+firsts words (Some input) middle last held now text r s task net at =
+    let has = lines_told (λ (ls : List (List ℕ)). AreFirst (meaning_at task) ls at.octets) words (Some input) middle last held now text r s task OutOfMemory net at
+    (first_told (meaning_at task) (r.rest ++ at.given) s at.octets at.stands) in
+    inr (task, has.0, has.1)
 
 -- a part of what is due
-parts : (words : List (List ℕ)) (first middle last held now : Option (List ℕ)) (text : List ℕ) (r s : ReaderAt) (site : Site)
-    → TookNetwork words first middle text r site → (at : TookRecords (meaning_of site) middle last held now r s WriteFault)
+parts : (words : List (List ℕ)) (first middle last held now : Option (List ℕ)) (text : List ℕ) (r s : ReaderAt) (task : Task)
+    → TookNetwork words first middle text r task → (at : TookRecords (meaning_at task) middle last held now r s WriteFault)
     → IfSome first (λ input. PartAnswer words input at.octets)
-parts words None middle last held now text r s site net at = tt
-parts words (Some input) middle last held now text r s site net at =
+parts words None middle last held now text r s task net at = tt
+parts words (Some input) middle last held now text r s task net at =
     let cut = at.stands in
-    let has = lines_told (λ (ls : List (List ℕ)). DueOf (meaning_of site) ls cut.0 cut.1) words (Some input) middle last held now text r s site WriteFault net at
-    (due_told (meaning_of site) (r.rest ++ at.given) s cut.0 cut.1 cut.3) in
-    (cut.1, cut.2, cut.4, elim has.1 [ inl answer ↦ inl (cut.0, answer_of words input site cut.0 cut.1 has.0 answer) | inr first ↦ inr (inr (site, has.0, first)) ])
+    let has = lines_told (λ (ls : List (List ℕ)). DueOf (meaning_at task) ls cut.0 cut.1) words (Some input) middle last held now text r s task WriteFault net at
+    (due_told (meaning_at task) (r.rest ++ at.given) s cut.0 cut.1 cut.3) in
+    (cut.1, cut.2, cut.4, elim has.1 [ inl answer ↦ inl (cut.0, answer_of words input task cut.0 cut.1 has.0 answer) | inr first ↦ inr (inr (task, has.0, first)) ])
 
 -- nothing in two parts
 none_of_two : (given left : List ℕ) → [] ≡ given ++ left → given ≡ []
@@ -144,11 +144,11 @@ none_of_two [] left e = refl
 none_of_two (octet ∷ given) left e = absurd (cc)
 
 -- a refused line ends what was taken but for the rest of its piece
-refused_past : (words : List (List ℕ)) (site : Site) (refusal : Refusal) (network given text octets : List ℕ) (r s : ReaderAt) → IsDivided network text r
-    → Asks words text site → RefusedAt (meaning_of site).accepts (meaning_of site).refuses refusal (r.rest ++ given) s octets
+refused_past : (words : List (List ℕ)) (task : Task) (refusal : Refusal) (network given text octets : List ℕ) (r s : ReaderAt) → IsDivided network text r
+    → AsksFor words text task → RefusedAt (meaning_at task).accepts (meaning_at task).refuses refusal (r.rest ++ given) s octets
     → (r.ended ≡ true → r.rest ≡ [] → r.rest ++ given ≡ [])
     → (front : List ℕ) × (past : List ℕ) × (network ++ given ≡ front ++ past) × (length past ≤ piece_limit) × EndsRefused words front refusal
-refused_past words site refusal network given text octets r s divided asks at empty =
+refused_past words task refusal network given text octets r s divided asks at empty =
     elim divided [
       | inl (front, goes, divides) ↦
           let record_octets : List ℕ = concat at.lines ++ at.line in
@@ -167,9 +167,9 @@ refused_past words site refusal network given text octets r s divided asks at em
             all,
             at.stands.piece,
             record {
-              site = site;
+              task = task;
               octets = octets;
-              asks = asks_told words text (network_text (front ++ record_octets)) site parts.0 asks;
+              asks = asks_told words text (network_text (front ++ record_octets)) task parts.0 asks;
               refused = record {
                 before = at.lines;
                 line = at.line;
@@ -195,11 +195,11 @@ refused_past words site refusal network given text octets r s divided asks at em
     ]
 
 -- where a record is refused
-past_told : (run : Run) (middle : Option (List ℕ)) (text : List ℕ) (r s : ReaderAt) (site : Site) (refusal : Refusal) (given octets : List ℕ)
-    → TookNetwork run.words run.input middle text r site → Consumes middle run.left given
-    → RefusedAt (meaning_of site).accepts (meaning_of site).refuses refusal (r.rest ++ given) s octets
+past_told : (run : Run) (middle : Option (List ℕ)) (text : List ℕ) (r s : ReaderAt) (task : Task) (refusal : Refusal) (given octets : List ℕ)
+    → TookNetwork run.words run.input middle text r task → Consumes middle run.left given
+    → RefusedAt (meaning_at task).accepts (meaning_at task).refuses refusal (r.rest ++ given) s octets
     → IfSome run.input (TakesPiece run refusal)
-past_told run middle text r s site refusal given octets net taken at =
+past_told run middle text r s task refusal given octets net taken at =
     go run.input middle run.left net.taken taken net.at_end refl refl
   where
     go : (first mid last : Option (List ℕ)) → Consumes first mid net.network → Consumes mid last given → (r.ended ≡ true → IsAtEnd mid) → first ≡ run.input → last ≡ run.left
@@ -210,7 +210,7 @@ past_told run middle text r s site refusal given octets net taken at =
     go (Some input) (Some mid) (Some left) one two rest_at_end is ends =
         let empty : r.ended ≡ true → r.rest ≡ [] → r.rest ++ given ≡ [] =
         λ ended none. ap (λ l. l ++ given) none ∙ none_of_two given left (sym (rest_at_end ended) ∙ two) in
-        let found = refused_past run.words site refusal net.network given text octets r s net.divided net.asks at empty in
+        let found = refused_past run.words task refusal net.network given text octets r s net.divided net.asks at empty in
         record {
           front = found.0;
           past = found.1;
@@ -222,15 +222,15 @@ past_told run middle text r s site refusal given octets net taken at =
         }
 
 -- where the source failed behind the network text
-cut_told : (words : List (List ℕ)) (network given text octets : List ℕ) (r : ReaderAt) (site : Site) → IsDivided network text r → Asks words text site
-    → (r.ended ≡ true → ⊥) → CutHandled (meaning_of site).accepts (r.rest ++ given) octets → CutReplay words (network ++ given) octets
-cut_told words network given text octets r site divided asks goes cut =
+cut_told : (words : List (List ℕ)) (network given text octets : List ℕ) (r : ReaderAt) (task : Task) → IsDivided network text r → AsksFor words text task
+    → (r.ended ≡ true → ⊥) → CutHandled (meaning_at task).accepts (r.rest ++ given) octets → CutTask words (network ++ given) octets
+cut_told words network given text octets r task divided asks goes cut =
     elim divided [
       | inl (front, all, divides) ↦ record {
         front = front;
         back = r.rest ++ given;
         text = text;
-        site = site;
+        task = task;
         all = ap (λ l. l ++ given) all ∙ append_assoc front r.rest given;
         divides = divides;
         asks = asks;
@@ -239,33 +239,42 @@ cut_told words network given text octets r site divided asks goes cut =
       | inr (end, same, none) ↦ absurd (goes end.ended)
     ]
 
+-- words that ask for a task are a command
+pub command_of : (words : List (List ℕ)) (text : List ℕ) (task : Task) → AsksFor words text task → IsCommand words
+command_of words text (Replay site) asks = inr (asks.1, inl asks.2)
+command_of words text (Audit setting) asks = inl asks.1
+command_of words text (Emit setting node) asks = inr (asks.1, inr asks.2)
+
 -- how a run ends that came to the records
-pub records_end : (run : Run) (middle : Option (List ℕ)) (text : List ℕ) (r s : ReaderAt) (site : Site) (status : Status)
-    → TookNetwork run.words run.input middle text r site → TookRecords (meaning_of site) middle run.left run.held run.now r s status
+pub records_end : (run : Run) (middle : Option (List ℕ)) (text : List ℕ) (r s : ReaderAt) (task : Task) (status : Status)
+    → TookNetwork run.words run.input middle text r task → TookRecords (meaning_at task) middle run.left run.held run.now r s status
     → (status ≡ Done → IsAtEnd run.left) → (status ≡ ReadFault → r.ended ≡ true → ⊥) → (status ≡ ReadFault → ReadFailed run) → (status ≡ WriteFault → WriteFailed run)
-    → (status ≡ Broken → ⊥) → Ends run status
-records_end run middle text r s site Done net at done goes reads writes unbroken =
-    (((net.asks.name, net.asks.words_are), at.octets, at.wrote, answered run.words run.input middle run.left run.held run.now text r s site Done net at refl), done refl)
-records_end run middle text r s site BadTrace net at done goes reads writes unbroken = (
-  ((net.asks.name, net.asks.words_are), at.octets, at.wrote, answered run.words run.input middle run.left run.held run.now text r s site BadTrace net at refl),
-  past_told run middle text r s site refusals.BadTrace at.given at.octets net at.taken at.stands,
+    → Ends run status
+records_end run middle text r s task Done net at done goes reads writes =
+    ((command_of run.words text task net.asks, at.octets, at.wrote, answered run.words run.input middle run.left run.held run.now text r s task Done net at refl), done refl)
+records_end run middle text r s task BadTrace net at done goes reads writes = (
+  (command_of run.words text task net.asks, at.octets, at.wrote, answered run.words run.input middle run.left run.held run.now text r s task BadTrace net at refl),
+  past_told run middle text r s task refusals.BadTrace at.given at.octets net at.taken at.stands,
 )
-records_end run middle text r s site TooLarge net at done goes reads writes unbroken =
-    ((net.asks.name, net.asks.words_are), at.octets, at.wrote, answered run.words run.input middle run.left run.held run.now text r s site TooLarge net at refl)
-records_end run middle text r s site ReadFault net at done goes reads writes unbroken = (
+records_end run middle text r s task TooLarge net at done goes reads writes =
+    (command_of run.words text task net.asks, at.octets, at.wrote, answered run.words run.input middle run.left run.held run.now text r s task TooLarge net at refl)
+records_end run middle text r s task ReadFault net at done goes reads writes = (
   reads refl,
   net.network ++ at.given,
   at.octets,
   Consumes-trans run.input middle run.left net.network at.given net.taken at.taken,
   at.wrote,
-  ((net.asks.name, net.asks.words_are), inr (cut_told run.words net.network at.given text at.octets r site net.divided net.asks (goes refl) at.stands)),
+  (command_of run.words text task net.asks, inr (cut_told run.words net.network at.given text at.octets r task net.divided net.asks (goes refl) at.stands)),
 )
-records_end run middle text r s site WriteFault net at done goes reads writes unbroken =
-    (writes refl, at.octets, at.wrote, parts run.words run.input middle run.left run.held run.now text r s site net at)
-records_end run middle text r s site OutOfMemory net at done goes reads writes unbroken =
-    (at.octets, at.wrote, firsts run.words run.input middle run.left run.held run.now text r s site net at)
-records_end run middle text r s site Broken net at done goes reads writes unbroken = unbroken refl
-records_end run middle text r s site _ net at done goes reads writes unbroken = absurd at.stands
+records_end run middle text r s task WriteFault net at done goes reads writes =
+    (writes refl, at.octets, at.wrote, parts run.words run.input middle run.left run.held run.now text r s task net at)
+records_end run middle text r s task OutOfMemory net at done goes reads writes =
+    (at.octets, at.wrote, firsts run.words run.input middle run.left run.held run.now text r s task net at)
+records_end run middle text r s task Broken net at done goes reads writes = (
+  (command_of run.words text task net.asks, at.octets, at.wrote, answered run.words run.input middle run.left run.held run.now text r s task Broken net at refl),
+  past_told run middle text r s task refusals.Broken at.given at.octets net at.taken at.stands,
+)
+records_end run middle text r s task _ net at done goes reads writes = absurd at.stands
 
 -- a part of one line
 line_part : (words : List (List ℕ)) (first : Option (List ℕ)) (status : Status) (due : List ℕ) (count : ℕ)
@@ -353,7 +362,7 @@ pub no_node_ends : (run : Run) (given : Status) (middle : Option (List ℕ)) (ne
     → IsDivided network text r → (r.ended ≡ true → IsAtEnd middle) → Finishes Usage given run.held run.now usage_line → (given ≡ WriteFault → WriteFailed run) → Ends run given
 no_node_ends run given middle network text r none one divided at_end how writes =
     let told = told_no_node run.words run.input text (told_text run.input middle network text r one divided at_end) none in
-    line_ends run Usage given usage_line how writes (told_no_usage run.words run.input told) (λ wrote. (wrote, inr ((none.name, none.words_are), told)))
+    line_ends run Usage given usage_line how writes (told_no_usage run.words run.input told) (λ wrote. (wrote, inr (inr (none.name, none.words_are), told)))
 
 pub usage_ends : (run : Run) (given : Status) → (IsCommand run.words → ⊥) → Finishes Usage given run.held run.now usage_line → (given ≡ WriteFault → WriteFailed run) → Ends run given
 usage_ends run given none how writes =

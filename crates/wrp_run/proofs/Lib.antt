@@ -1,5 +1,7 @@
 pub mod Asking
+pub mod AskingAudit
 pub mod AuditCounts
+pub mod AuditSteps
 pub mod BareAudit
 pub mod BareEvents
 pub mod BareRuns
@@ -9,9 +11,11 @@ pub mod ExactAudit
 pub mod Feeds
 pub mod GoingOn
 pub mod LineEnds
+pub mod LawsMade
 pub mod LineLemmas
 pub mod LinkLaws
 pub mod Networking
+pub mod NewAudit
 pub mod NodesWithin
 pub mod OneAnswer
 pub mod OneAudit

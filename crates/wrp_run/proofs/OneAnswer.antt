@@ -8,9 +8,14 @@ use Rattle.wrp_config.proofs.OneReading.{one_reading}
 use Rattle.wrp_config.specs.Names.{node_named}
 use Rattle.wrp_node.specs.OneRun.{OneRun, OneNode}
 use Rattle.wrp_trace.specs.Site.{Site}
+use Rattle.wrp_world.specs.Setting.{Setting}
 use Rattle.wrp_run.specs.declared.status.Status.{Status}
 use Rattle.wrp_run.specs.declared.status.Status.TheVariants.{Done, Usage, BadNetwork, BadTrace, Broken, ReadFault, WriteFault, LinkFault, TooLarge, OutOfMemory}
-use Rattle.wrp_run.specs.Answer.{Answer, Asks, AsksNone, IsCommand, ReplayAnswer}
+use Rattle.wrp_run.specs.Answer.{Answer, AsksNone, IsCommand, TaskAnswer}
+use Rattle.wrp_run.specs.Audited.{IsSettingOf, setting_at}
+use Rattle.wrp_run.specs.AuditLaws.{OneAudit}
+use Rattle.wrp_run.specs.Audits.{audit_of, emission_of}
+use Rattle.wrp_run.specs.Tasks.{Task, Replay, Audit, Emit, AsksFor, IsEmission, IsReplay, meaning_at}
 use Rattle.wrp_run.specs.Ends.{Run, Ends, ReadFailed, WriteFailed, Wrote}
 use Rattle.wrp_run.specs.Statuses.{is_answer}
 use Rattle.wrp_run.specs.Input.{network_text, behind_separator, network_limit}
@@ -18,10 +23,14 @@ use Rattle.wrp_run.specs.Lines.{lines_of}
 use Rattle.wrp_run.specs.RecordsAnswer.{RecordsAnswer}
 use Rattle.wrp_run.specs.Refusals.{bad_network_line, usage_line, too_large_line}
 use Rattle.wrp_run.specs.Replays.{IsAccepted, IsRefusedBy, meaning_of}
+use Rattle.wrp_run.proofs.Asking.{command_of}
+use Rattle.wrp_run.proofs.BareAudit.{bare_is, bare_setting}
+use Rattle.wrp_run.proofs.BareRuns.{bare_answer, bare_emission}
 use Rattle.wrp_run.proofs.BareSite.{named_bare}
+use Rattle.wrp_run.proofs.ExactAudit.{exact_audit, exact_emission}
 use Rattle.wrp_run.proofs.OneReplay.{exact_replay}
 use Rattle.wrp_run.proofs.Unique.{one_records_answer}
-use Rattle.wrp_run.proofs.WordLemmas.{one_value}
+use Rattle.wrp_run.proofs.WordLemmas.{audit_alone, emission_alone, no_option, one_value}
 
 -- a site of these parts
 abbrev site_with : NetCfg → Database → ℕ → Site
@@ -35,23 +44,46 @@ AreOne s t o u = (s ≡ t) × (o ≡ u)
 some_same : (m n : ℕ) → Some m ≡ Some n → m ≡ n
 some_same m n e = cc
 
-one_site : (words : List (List ℕ)) (text : List ℕ) (a b : Site) → Asks words text a → Asks words text b → a ≡ b
+one_site : (words : List (List ℕ)) (text : List ℕ) (a b : Site) → AsksFor words text (Replay a) → AsksFor words text (Replay b) → a ≡ b
 one_site words text a b p q =
-    let name : p.name ≡ q.name = one_value (codes "replay") (codes "--node") words p.name q.name p.words_are q.words_are in
-    let nets = one_reading text (Ok p.network.net) (Ok q.network.net) p.network.reads q.network.reads in
-    let cfg : a.cfg ≡ b.cfg = p.network.cfg ∙ nets.0 ∙ sym q.network.cfg in
-    let db : a.db ≡ b.db = p.network.db ∙ nets.1 ∙ sym q.network.db in
-    let node : a.node ≡ b.node = some_same a.node b.node (sym p.node ∙ ap₂ (λ (c : NetCfg) (n : List ℕ). node_named c n) cfg name ∙ q.node) in
+    let name : p.1 ≡ q.1 = one_value (codes "replay") (codes "--node") words p.1 q.1 p.2 q.2 in
+    let nets = one_reading text (Ok p.3.net) (Ok q.3.net) p.3.reads q.3.reads in
+    let cfg : a.cfg ≡ b.cfg = p.3.cfg ∙ nets.0 ∙ sym q.3.cfg in
+    let db : a.db ≡ b.db = p.3.db ∙ nets.1 ∙ sym q.3.db in
+    let node : a.node ≡ b.node = some_same a.node b.node (sym p.4 ∙ ap₂ (λ (c : NetCfg) (n : List ℕ). node_named c n) cfg name ∙ q.4) in
     ap (λ (c : NetCfg). site_with c a.db a.node) cfg ∙ ap (λ (d : Database). site_with b.cfg d a.node) db ∙ ap (λ (n : ℕ). site_with b.cfg b.db n) node
 
+-- words and a text ask of one network, whatever stands in the unused room of its names
+one_setting : (text : List ℕ) (a b : Setting) → IsSettingOf text a → IsSettingOf text b → bare_setting a ≡ bare_setting b
+one_setting text a b p q =
+    let nets = one_reading text (Ok p.net) (Ok q.net) p.reads q.reads in
+    ap bare_setting p.is ∙ sym (bare_is p.net.cfg p.net.db) ∙ ap₂ setting_at nets.0 nets.1 ∙ bare_is q.net.cfg q.net.db ∙ ap bare_setting (sym q.is)
+
 -- a node that words and a text name is not missing
-not_missing : (words : List (List ℕ)) (text : List ℕ) (site : Site) → AsksNone words text → Asks words text site → ⊥
-not_missing words text site p q =
-    let name : p.name ≡ q.name = one_value (codes "replay") (codes "--node") words p.name q.name p.words_are q.words_are in
-    let nets = one_reading text (Ok p.net) (Ok q.network.net) p.reads q.network.reads in
+no_site : (words : List (List ℕ)) (text : List ℕ) (site : Site) → AsksNone words text → AsksFor words text (Replay site) → ⊥
+no_site words text site p q =
+    let is : IsReplay words p.name = elim p.words_are [ inl replay ↦ replay | inr emission ↦ absurd (emission_alone words p.name q.1 emission q.2) ] in
+    let name : p.name ≡ q.1 = one_value (codes "replay") (codes "--node") words p.name q.1 is q.2 in
+    let nets = one_reading text (Ok p.net) (Ok q.3.net) p.reads q.3.reads in
     let both : None ≡ Some site.node =
-    sym p.none ∙ sym (named_bare p.net.cfg p.name) ∙ ap₂ (λ (c : NetCfg) (n : List ℕ). node_named c n) (nets.0 ∙ sym q.network.cfg) name ∙ q.node in
+    sym p.none ∙ sym (named_bare p.net.cfg p.name) ∙ ap₂ (λ (c : NetCfg) (n : List ℕ). node_named c n) (nets.0 ∙ sym q.3.cfg) name ∙ q.4 in
     absurd (cc)
+
+no_emitter : (words : List (List ℕ)) (text : List ℕ) (s : Setting) (n : ℕ) → AsksNone words text → AsksFor words text (Emit s n) → ⊥
+no_emitter words text s n p q =
+    let is : IsEmission words p.name = elim p.words_are [ inl replay ↦ absurd (emission_alone words q.1 p.name q.2 replay) | inr emission ↦ emission ] in
+    let name : p.name ≡ q.1 = one_value (codes "audit") (codes "--emit") words p.name q.1 is q.2 in
+    let nets = one_reading text (Ok p.net) (Ok q.3.net) p.reads q.3.reads in
+    let both : None ≡ Some n =
+    sym p.none ∙ sym (named_bare p.net.cfg p.name) ∙ ap₂ (λ (c : NetCfg) (m : List ℕ). node_named c m) nets.0 name
+    ∙ named_bare q.3.net.cfg q.1 ∙ ap (λ (t : Setting). node_named t.cfg q.1) (sym q.3.is) ∙ q.4 in
+    absurd (cc)
+
+not_missing : (words : List (List ℕ)) (text : List ℕ) (task : Task) → AsksNone words text → AsksFor words text task → ⊥
+not_missing words text (Replay site) p q = no_site words text site p q
+not_missing words text (Audit s) p q =
+    elim p.words_are [ inl replay ↦ audit_alone words p.name q.1 replay | inr emission ↦ no_option words p.name q.1 emission ]
+not_missing words text (Emit s n) p q = no_emitter words text s n p q
 
 -- a text that is refused is refused by one line, and is not accepted
 one_refused : (text o u : List ℕ) → IsRefusedBy text o → IsRefusedBy text u → o ≡ u
@@ -62,8 +94,15 @@ one_refused text o u p q =
 not_accepted : (text o : List ℕ) → IsRefusedBy text o → IsAccepted text → ⊥
 not_accepted text o p q = one_reading text (Ok q.0) (Err (Fault p.0 p.1)) q.1 p.2
 
-is_accepted : (words : List (List ℕ)) (text : List ℕ) (site : Site) → Asks words text site → IsAccepted text
-is_accepted words text site asks = (asks.network.net, asks.network.reads)
+is_accepted : (words : List (List ℕ)) (text : List ℕ) (task : Task) → AsksFor words text task → IsAccepted text
+is_accepted words text (Replay site) asks = (asks.3.net, asks.3.reads)
+is_accepted words text (Audit s) asks = (asks.2.net, asks.2.reads)
+is_accepted words text (Emit s n) asks = (asks.3.net, asks.3.reads)
+
+is_within : (words : List (List ℕ)) (text : List ℕ) (task : Task) → AsksFor words text task → length text ≤ network_limit
+is_within words text (Replay site) asks = asks.0
+is_within words text (Audit s) asks = asks.0
+is_within words text (Emit s n) asks = asks.0
 
 -- the cases of an answer
 abbrev IsUnknown : List (List ℕ) → Status → List ℕ → Type 0
@@ -84,7 +123,7 @@ Cases words input s o =
     ⊎ (IsTooLong words (network_text input) s o
     ⊎ (IsBadNetwork words (network_text input) s o
     ⊎ (IsNoNode words (network_text input) s o
-    ⊎ ReplayAnswer words input s o)))
+    ⊎ TaskAnswer words input s o)))
 
 cases_of : (words : List (List ℕ)) (input : List ℕ) (s : Status) (o : List ℕ) → Answer words input s o → Cases words input s o
 cases_of words input Usage o p = elim p.0 [ inl none ↦ inl (refl, none, p.1) | inr none ↦ inr (inr (inr (inl (refl, none, p.1)))) ]
@@ -99,49 +138,90 @@ cases_of words input LinkFault o p = inr (inr (inr (inr p)))
 cases_of words input OutOfMemory o p = inr (inr (inr (inr p)))
 
 -- the words of each case but the first are a command
-is_replay : (words : List (List ℕ)) (input : List ℕ) (s : Status) (o : List ℕ) → ReplayAnswer words input s o → IsCommand words
-is_replay words input s o p = (p.1.name, p.1.words_are)
+is_command : (words : List (List ℕ)) (input : List ℕ) (s : Status) (o : List ℕ) → TaskAnswer words input s o → IsCommand words
+is_command words input s o p = command_of words (network_text input) p.0 p.1
 
 -- two answers that came to the records
-both_replay : OneRun → OneNode → (words : List (List ℕ)) (input : List ℕ) (s t : Status) (o u : List ℕ) → ReplayAnswer words input s o → ReplayAnswer words input t u → AreOne s t o u
-both_replay runs nodes words input s t o u p q =
-    let same : q.0 ≡ p.0 = one_site words (network_text input) q.0 p.0 q.1 p.1 in
-    one_records_answer (meaning_of p.0) (exact_replay runs nodes p.0) (behind_separator (lines_of input)) s t o u p.2
-    (subst (λ (n : Site). RecordsAnswer (meaning_of n) (behind_separator (lines_of input)) t u) same q.2)
+both_replay : OneRun → OneNode → (words : List (List ℕ)) (text : List ℕ) (lines : List (List ℕ)) (a b : Site) (s t : Status) (o u : List ℕ) → AsksFor words text (Replay a) → AsksFor words text (Replay b)
+    → RecordsAnswer (meaning_of a) lines s o → RecordsAnswer (meaning_of b) lines t u → AreOne s t o u
+both_replay runs nodes words text lines a b s t o u p q x y =
+    let same : b ≡ a = one_site words text b a q p in
+    one_records_answer (meaning_of a) (exact_replay runs nodes a) lines s t o u x (subst (λ (n : Site). RecordsAnswer (meaning_of n) lines t u) same y)
+
+both_audits : OneAudit → (text : List ℕ) (lines : List (List ℕ)) (a b : Setting) (s t : Status) (o u : List ℕ) → IsSettingOf text a → IsSettingOf text b
+    → RecordsAnswer (audit_of a) lines s o → RecordsAnswer (audit_of b) lines t u → AreOne s t o u
+both_audits one text lines a b s t o u p q x y =
+    let same : bare_setting b ≡ bare_setting a = one_setting text b a q p in
+    one_records_answer (audit_of (bare_setting a)) (exact_audit one (bare_setting a)) lines s t o u (bare_answer a lines s o x)
+    (subst (λ (k : Setting). RecordsAnswer (audit_of k) lines t u) same (bare_answer b lines t u y))
+
+both_emissions : OneAudit → (text : List ℕ) (lines : List (List ℕ)) (a b : Setting) (n m : ℕ) (s t : Status) (o u : List ℕ) → IsSettingOf text a → IsSettingOf text b → n ≡ m
+    → RecordsAnswer (emission_of a n) lines s o → RecordsAnswer (emission_of b m) lines t u → AreOne s t o u
+both_emissions one text lines a b n m s t o u p q is x y =
+    let same : bare_setting b ≡ bare_setting a = one_setting text b a q p in
+    one_records_answer (emission_of (bare_setting a) n) (exact_emission one (bare_setting a) n) lines s t o u (bare_emission a n lines s o x)
+    (subst (λ (k : Setting). RecordsAnswer (emission_of k n) lines t u) same
+    (subst (λ (k : ℕ). RecordsAnswer (emission_of (bare_setting b) k) lines t u) (sym is) (bare_emission b m lines t u y)))
+
+-- the node of one name in one network
+one_emitter : (words : List (List ℕ)) (text : List ℕ) (a b : Setting) (n m : ℕ) → AsksFor words text (Emit a n) → AsksFor words text (Emit b m) → n ≡ m
+one_emitter words text a b n m p q =
+    let name : p.1 ≡ q.1 = one_value (codes "audit") (codes "--emit") words p.1 q.1 p.2 q.2 in
+    let same : bare_setting a ≡ bare_setting b = one_setting text a b p.3 q.3 in
+    some_same n m
+    (sym p.4 ∙ sym (named_bare a.cfg p.1) ∙ ap₂ (λ (k : Setting) (name : List ℕ). node_named k.cfg name) same name ∙ named_bare b.cfg q.1 ∙ q.4)
+
+one_task : OneRun → OneNode → OneAudit → (words : List (List ℕ)) (text : List ℕ) (lines : List (List ℕ)) (a b : Task) (s t : Status) (o u : List ℕ) → AsksFor words text a → AsksFor words text b
+    → RecordsAnswer (meaning_at a) lines s o → RecordsAnswer (meaning_at b) lines t u → AreOne s t o u
+one_task runs nodes one words text lines (Replay a) (Replay b) s t o u p q x y = both_replay runs nodes words text lines a b s t o u p q x y
+one_task runs nodes one words text lines (Replay a) (Audit b) s t o u p q x y = absurd (audit_alone words p.1 q.1 p.2)
+one_task runs nodes one words text lines (Replay a) (Emit b m) s t o u p q x y = absurd (emission_alone words q.1 p.1 q.2 p.2)
+one_task runs nodes one words text lines (Audit a) (Replay b) s t o u p q x y = absurd (audit_alone words q.1 p.1 q.2)
+one_task runs nodes one words text lines (Audit a) (Audit b) s t o u p q x y = both_audits one text lines a b s t o u p.2 q.2 x y
+one_task runs nodes one words text lines (Audit a) (Emit b m) s t o u p q x y = absurd (no_option words q.1 p.1 q.2)
+one_task runs nodes one words text lines (Emit a n) (Replay b) s t o u p q x y = absurd (emission_alone words p.1 q.1 p.2 q.2)
+one_task runs nodes one words text lines (Emit a n) (Audit b) s t o u p q x y = absurd (no_option words p.1 q.1 p.2)
+one_task runs nodes one words text lines (Emit a n) (Emit b m) s t o u p q x y =
+    both_emissions one text lines a b n m s t o u p.3 q.3 (one_emitter words text a b n m p q) x y
 
 -- two answers, of cases in order
-one_of_cases : OneRun → OneNode → (words : List (List ℕ)) (input : List ℕ) (s t : Status) (o u : List ℕ) → Cases words input s o → Cases words input t u → AreOne s t o u
-one_of_cases runs nodes words input s t o u (inl p) (inl q) = (p.0 ∙ sym q.0, p.2 ∙ sym q.2)
-one_of_cases runs nodes words input s t o u (inl p) (inr (inl q)) = absurd (p.1 q.1)
-one_of_cases runs nodes words input s t o u (inl p) (inr (inr (inl q))) = absurd (p.1 q.1)
-one_of_cases runs nodes words input s t o u (inl p) (inr (inr (inr (inl q)))) = absurd (p.1 (q.1.name, q.1.words_are))
-one_of_cases runs nodes words input s t o u (inl p) (inr (inr (inr (inr q)))) = absurd (p.1 (is_replay words input t u q))
-one_of_cases runs nodes words input s t o u (inr (inl p)) (inr (inl q)) = (p.0 ∙ sym q.0, p.3 ∙ sym q.3)
-one_of_cases runs nodes words input s t o u (inr (inl p)) (inr (inr (inl q))) = absurd (omega (arith, p.2, q.2))
-one_of_cases runs nodes words input s t o u (inr (inl p)) (inr (inr (inr (inl q)))) = absurd (omega (arith, p.2, q.1.within))
-one_of_cases runs nodes words input s t o u (inr (inl p)) (inr (inr (inr (inr q)))) = absurd (omega (arith, p.2, q.1.within))
-one_of_cases runs nodes words input s t o u (inr (inr (inl p))) (inr (inr (inl q))) = (p.0 ∙ sym q.0, one_refused (network_text input) o u p.3 q.3)
-one_of_cases runs nodes words input s t o u (inr (inr (inl p))) (inr (inr (inr (inl q)))) = absurd (not_accepted (network_text input) o p.3 (q.1.net, q.1.reads))
-one_of_cases runs nodes words input s t o u (inr (inr (inl p))) (inr (inr (inr (inr q)))) = absurd (not_accepted (network_text input) o p.3 (is_accepted words (network_text input) q.0 q.1))
-one_of_cases runs nodes words input s t o u (inr (inr (inr (inl p)))) (inr (inr (inr (inl q)))) = (p.0 ∙ sym q.0, p.2 ∙ sym q.2)
-one_of_cases runs nodes words input s t o u (inr (inr (inr (inl p)))) (inr (inr (inr (inr q)))) =
+one_of_cases : OneRun → OneNode → OneAudit → (words : List (List ℕ)) (input : List ℕ) (s t : Status) (o u : List ℕ) → Cases words input s o → Cases words input t u → AreOne s t o u
+one_of_cases runs nodes one words input s t o u (inl p) (inl q) = (p.0 ∙ sym q.0, p.2 ∙ sym q.2)
+one_of_cases runs nodes one words input s t o u (inl p) (inr (inl q)) = absurd (p.1 q.1)
+one_of_cases runs nodes one words input s t o u (inl p) (inr (inr (inl q))) = absurd (p.1 q.1)
+one_of_cases runs nodes one words input s t o u (inl p) (inr (inr (inr (inl q)))) = absurd (p.1 (inr (q.1.name, q.1.words_are)))
+one_of_cases runs nodes one words input s t o u (inl p) (inr (inr (inr (inr q)))) = absurd (p.1 (is_command words input t u q))
+one_of_cases runs nodes one words input s t o u (inr (inl p)) (inr (inl q)) = (p.0 ∙ sym q.0, p.3 ∙ sym q.3)
+one_of_cases runs nodes one words input s t o u (inr (inl p)) (inr (inr (inl q))) = absurd (omega (arith, p.2, q.2))
+one_of_cases runs nodes one words input s t o u (inr (inl p)) (inr (inr (inr (inl q)))) = absurd (omega (arith, p.2, q.1.within))
+one_of_cases runs nodes one words input s t o u (inr (inl p)) (inr (inr (inr (inr q)))) =
+    let within : length (network_text input) ≤ network_limit = is_within words (network_text input) q.0 q.1 in
+    absurd (omega (arith, p.2, within))
+one_of_cases runs nodes one words input s t o u (inr (inr (inl p))) (inr (inr (inl q))) = (p.0 ∙ sym q.0, one_refused (network_text input) o u p.3 q.3)
+one_of_cases runs nodes one words input s t o u (inr (inr (inl p))) (inr (inr (inr (inl q)))) = absurd (not_accepted (network_text input) o p.3 (q.1.net, q.1.reads))
+one_of_cases runs nodes one words input s t o u (inr (inr (inl p))) (inr (inr (inr (inr q)))) = absurd (not_accepted (network_text input) o p.3 (is_accepted words (network_text input) q.0 q.1))
+one_of_cases runs nodes one words input s t o u (inr (inr (inr (inl p)))) (inr (inr (inr (inl q)))) = (p.0 ∙ sym q.0, p.2 ∙ sym q.2)
+one_of_cases runs nodes one words input s t o u (inr (inr (inr (inl p)))) (inr (inr (inr (inr q)))) =
     absurd (not_missing words (network_text input) q.0 p.1 q.1)
-one_of_cases runs nodes words input s t o u (inr (inr (inr (inr p)))) (inr (inr (inr (inr q)))) = both_replay runs nodes words input s t o u p q
-one_of_cases runs nodes words input s t o u (inr (inl p)) (inl q) = absurd (q.1 p.1)
-one_of_cases runs nodes words input s t o u (inr (inr (inl p))) (inl q) = absurd (q.1 p.1)
-one_of_cases runs nodes words input s t o u (inr (inr (inr (inl p)))) (inl q) = absurd (q.1 (p.1.name, p.1.words_are))
-one_of_cases runs nodes words input s t o u (inr (inr (inr (inr p)))) (inl q) = absurd (q.1 (is_replay words input s o p))
-one_of_cases runs nodes words input s t o u (inr (inr (inl p))) (inr (inl q)) = absurd (omega (arith, q.2, p.2))
-one_of_cases runs nodes words input s t o u (inr (inr (inr (inl p)))) (inr (inl q)) = absurd (omega (arith, q.2, p.1.within))
-one_of_cases runs nodes words input s t o u (inr (inr (inr (inr p)))) (inr (inl q)) = absurd (omega (arith, q.2, p.1.within))
-one_of_cases runs nodes words input s t o u (inr (inr (inr (inl p)))) (inr (inr (inl q))) = absurd (not_accepted (network_text input) u q.3 (p.1.net, p.1.reads))
-one_of_cases runs nodes words input s t o u (inr (inr (inr (inr p)))) (inr (inr (inl q))) = absurd (not_accepted (network_text input) u q.3 (is_accepted words (network_text input) p.0 p.1))
-one_of_cases runs nodes words input s t o u (inr (inr (inr (inr p)))) (inr (inr (inr (inl q)))) =
+one_of_cases runs nodes one words input s t o u (inr (inr (inr (inr p)))) (inr (inr (inr (inr q)))) =
+    one_task runs nodes one words (network_text input) (behind_separator (lines_of input)) p.0 q.0 s t o u p.1 q.1 p.2 q.2
+one_of_cases runs nodes one words input s t o u (inr (inl p)) (inl q) = absurd (q.1 p.1)
+one_of_cases runs nodes one words input s t o u (inr (inr (inl p))) (inl q) = absurd (q.1 p.1)
+one_of_cases runs nodes one words input s t o u (inr (inr (inr (inl p)))) (inl q) = absurd (q.1 (inr (p.1.name, p.1.words_are)))
+one_of_cases runs nodes one words input s t o u (inr (inr (inr (inr p)))) (inl q) = absurd (q.1 (is_command words input s o p))
+one_of_cases runs nodes one words input s t o u (inr (inr (inl p))) (inr (inl q)) = absurd (omega (arith, q.2, p.2))
+one_of_cases runs nodes one words input s t o u (inr (inr (inr (inl p)))) (inr (inl q)) = absurd (omega (arith, q.2, p.1.within))
+one_of_cases runs nodes one words input s t o u (inr (inr (inr (inr p)))) (inr (inl q)) =
+    let within : length (network_text input) ≤ network_limit = is_within words (network_text input) p.0 p.1 in
+    absurd (omega (arith, q.2, within))
+one_of_cases runs nodes one words input s t o u (inr (inr (inr (inl p)))) (inr (inr (inl q))) = absurd (not_accepted (network_text input) u q.3 (p.1.net, p.1.reads))
+one_of_cases runs nodes one words input s t o u (inr (inr (inr (inr p)))) (inr (inr (inl q))) = absurd (not_accepted (network_text input) u q.3 (is_accepted words (network_text input) p.0 p.1))
+one_of_cases runs nodes one words input s t o u (inr (inr (inr (inr p)))) (inr (inr (inr (inl q)))) =
     absurd (not_missing words (network_text input) p.0 q.1 p.1)
 
 -- for words and an input one status and one text are due
-pub one_answer : OneRun → OneNode → (words : List (List ℕ)) (input : List ℕ) (s t : Status) (o u : List ℕ) → Answer words input s o → Answer words input t u → AreOne s t o u
-one_answer runs nodes words input s t o u p q = one_of_cases runs nodes words input s t o u (cases_of words input s o p) (cases_of words input t u q)
+pub one_answer : OneRun → OneNode → OneAudit → (words : List (List ℕ)) (input : List ℕ) (s t : Status) (o u : List ℕ) → Answer words input s o → Answer words input t u → AreOne s t o u
+one_answer runs nodes one words input s t o u p q = one_of_cases runs nodes one words input s t o u (cases_of words input s o p) (cases_of words input t u q)
 
 -- a status that is no other than an answer
 pub answered : (status : Status) → (is_answer status ≡ false → ⊥) → is_answer status ≡ true
@@ -168,24 +248,24 @@ given_of run Usage input told ends is = (
 given_of run BadNetwork input told ends is = (ends.1, ends.2, subst (λ (i : Option (List ℕ)). IfSome i (λ input. Answer run.words input BadNetwork ends.1)) told ends.3)
 given_of run BadTrace input told ends is = (ends.0.1, ends.0.2, subst (λ (i : Option (List ℕ)). IfSome i (λ input. Answer run.words input BadTrace ends.0.1)) told ends.0.3)
 given_of run TooLarge input told ends is = (ends.1, ends.2, subst (λ (i : Option (List ℕ)). IfSome i (λ input. Answer run.words input TooLarge ends.1)) told ends.3)
-given_of run Broken input told ends is = absurd ends
+given_of run Broken input told ends is = (ends.0.1, ends.0.2, subst (λ (i : Option (List ℕ)). IfSome i (λ input. Answer run.words input Broken ends.0.1)) told ends.0.3)
 given_of run LinkFault input told ends is = absurd ends
 given_of run ReadFault input told ends is = absurd (cc)
 given_of run WriteFault input told ends is = absurd (cc)
 given_of run OutOfMemory input told ends is = absurd (cc)
 
 -- where the source tells the input, what is due is what was answered and written
-pub told_one : OneRun → OneNode → (run : Run) (answered status : Status) (octets : List ℕ) → Ends run answered → is_answer answered ≡ true
+pub told_one : OneRun → OneNode → OneAudit → (run : Run) (answered status : Status) (octets : List ℕ) → Ends run answered → is_answer answered ≡ true
     → IfSome run.input (λ input. Answer run.words input status octets → (answered ≡ status) × Appends run.held run.now octets)
-told_one runs nodes run answered status octets ends is = go run.input refl
+told_one runs nodes one run answered status octets ends is = go run.input refl
   where
     go : (told : Option (List ℕ)) → run.input ≡ told → IfSome told (λ input. Answer run.words input status octets → (answered ≡ status) × Appends run.held run.now octets)
     go None told = tt
     go (Some input) told =
         λ other.
         let given = given_of run answered input told ends is in
-        let one : AreOne answered status given.0 octets = one_answer runs nodes run.words input answered status given.0 octets given.2 other in
-        (one.0, subst (λ (o : List ℕ). Appends run.held run.now o) one.1 given.1)
+        let same : AreOne answered status given.0 octets = one_answer runs nodes one run.words input answered status given.0 octets given.2 other in
+        (same.0, subst (λ (o : List ℕ). Appends run.held run.now o) same.1 given.1)
 
 -- without a fault and with memory a run ends with an answer
 pub ends_answered : (run : Run) (status : Status) → Ends run status → (status ≡ OutOfMemory → ⊥) → (ReadFailed run → ⊥) → (WriteFailed run → ⊥) → is_answer status ≡ true

@@ -4,6 +4,7 @@ use Rattle.std.specs.Prelude.{◌==◌, nat_lt}
 use Rattle.std.specs.List.{list_all, AllByRecursion}
 use Rattle.std.proofs.lemmas.Bool.{lt-ltb, ltb-true, not-true, and_parts, and_from, false_from_ne_true}
 use Rattle.csv.specs.Records.{Row, fields_of}
+use Rattle.wrp_base.specs.declared.configuration.NetCfg.{NetCfg}
 use Rattle.wrp_base.specs.Lines.{parts_of}
 use Rattle.wrp_base.specs.declared.fault.TraceFault.{TraceFault}
 use Rattle.wrp_base.specs.declared.fault.TraceFault.TheVariants.{Fields, Kind, Number, Name, Memory}
@@ -12,6 +13,8 @@ use Rattle.wrp_node.specs.declared.interface.Input.{Input}
 use Rattle.wrp_trace.specs.Inputs.{input_of, read_of}
 use Rattle.wrp_trace.specs.Reading.{IsReading, is_plain_octet, is_plain}
 use Rattle.wrp_trace.specs.Site.{Site}
+use Rattle.wrp_trace.specs.Events.{event_of, event_read}
+use Rattle.wrp_world.specs.declared.event.Event.{Event}
 use Rattle.wrp_run.specs.Split.{HasParts}
 
 octet_passes : (c : ℕ) → IsPlainOctet c → is_plain_octet c ≡ true
@@ -70,3 +73,17 @@ reads_parts site line row answer parts is =
 -- a line without parts has no fields
 pub reads_none : (site : Site) (line : List ℕ) → (IsLine line → ⊥) → IsReading (read_of site line) (Err Fields)
 reads_none site line other = is_reading (read_of site line) (Err Fields) (sym (other_read site line (other_fails line other)))
+
+passes_event : (cfg : NetCfg) (line : List ℕ) → is_plain line ≡ true → event_read cfg line ≡ event_of cfg (parts_of line)
+passes_event cfg line is = rw is refl
+
+other_event : (cfg : NetCfg) (line : List ℕ) → is_plain line ≡ false → event_read cfg line ≡ Err Fields
+other_event cfg line is = rw is refl
+
+-- so it is with the lines of events
+pub event_parts : (cfg : NetCfg) (line : List ℕ) (row : Row) (answer : Result Event TraceFault) → HasParts line row → answer ≡ event_of cfg (fields_of row) → IsReading (event_read cfg line) answer
+event_parts cfg line row answer parts is =
+    is_reading (event_read cfg line) answer (is ∙ ap (event_of cfg) parts.1 ∙ sym (passes_event cfg line (line_passes line parts.0)))
+
+pub event_none : (cfg : NetCfg) (line : List ℕ) → (IsLine line → ⊥) → IsReading (event_read cfg line) (Err Fields)
+event_none cfg line other = is_reading (event_read cfg line) (Err Fields) (sym (other_event cfg line (other_fails line other)))

@@ -1,11 +1,13 @@
 -- Words by their number, and the one value of an option.
-use Rattle.std.proofs.Common.{◌≡◌, ℕ, ◌<◌, ◌≤◌, List, [], ◌∷◌, ◌++◌, None, length, map, refl, sym, ap, ◌∙◌, codes, arith}
+use Rattle.std.proofs.Common.{◌≡◌, inl, inr, ℕ, ◌<◌, ◌≤◌, List, [], ◌∷◌, ◌++◌, None, length, map, refl, sym, ap, ◌∙◌, subst, codes, arith}
 use Rattle.std.specs.List.{slice_index_or}
 use Rattle.std.proofs.lemmas.List.{append_cancel_left}
 use Rattle.wrp_run.specs.declared.command_line.Form.{Form}
 use Rattle.wrp_run.specs.declared.command_line.Form.TheVariants as forms
+use Rattle.wrp_run.specs.Answer.{IsCommand}
 use Rattle.wrp_run.specs.Fields.{seed_of}
 use Rattle.wrp_run.specs.CommandLine.{HasOption, IsCommandWith, IsForm, IsNoCommand}
+use Rattle.wrp_run.specs.Tasks.{IsAuditing, IsEmission, IsReplay}
 
 -- two words
 pub two_texts : {X : Type 0} (f : X → List ℕ) (ws : List X) (d e : X) → 2 ≤ length ws → length ws < 3 → map f ws ≡ f (slice_index_or ws 0 d) ∷ f (slice_index_or ws 1 e) ∷ []
@@ -75,3 +77,25 @@ pub no_replay : (form : Form) (words : List (List ℕ)) (value : List ℕ) → I
     → (name : List ℕ) × IsCommandWith (codes "replay") (codes "--node") words name → ⊥
 no_replay form words value is other replay =
     other (sym (initial_letter form words value is) ∙ initial_of 114 _ (codes "--node") words replay.0 replay.1)
+
+-- an audit is no replay, and gives the inputs of no node
+pub audit_alone : (words : List (List ℕ)) (name : List ℕ) → IsAuditing words → IsReplay words name → ⊥
+audit_alone words name audit replay = no_replay forms.Audit words [] (audit, refl) (λ e. omega (arith, e)) (name, replay)
+
+pub emission_alone : (words : List (List ℕ)) (name other : List ℕ) → IsEmission words name → IsReplay words other → ⊥
+emission_alone words name other emission replay = no_replay forms.Emit words name emission (λ e. omega (arith, e)) (other, replay)
+
+pub no_option : (words : List (List ℕ)) (name : List ℕ) → IsAuditing words → IsEmission words name → ⊥
+no_option words name audit emission = (subst (λ (ws : List (List ℕ)). IsEmission ws name) audit emission).1
+
+-- words that are no command ask for nothing
+pub asks_nothing : (words : List (List ℕ)) → IsNoCommand words → IsCommand words → ⊥
+asks_nothing words never (inl audit) = never forms.Audit [] (audit, refl) tt
+asks_nothing words never (inr (name, inl replay)) = never forms.Replay name replay tt
+asks_nothing words never (inr (name, inr emission)) = never forms.Emit name emission tt
+
+-- nor do words of a form that is not built
+pub other_asks_nothing : (form : Form) (words : List (List ℕ)) (value : List ℕ) → IsForm form words value → (letter form ≡ 114 → ⊥) → (letter form ≡ 97 → ⊥) → IsCommand words → ⊥
+other_asks_nothing form words value is replay audit (inl h) = audit (sym (initial_letter form words value is) ∙ initial_letter forms.Audit words [] (h, refl))
+other_asks_nothing form words value is replay audit (inr (name, inl h)) = replay (sym (initial_letter form words value is) ∙ initial_letter forms.Replay words name h)
+other_asks_nothing form words value is replay audit (inr (name, inr h)) = audit (sym (initial_letter form words value is) ∙ initial_letter forms.Emit words name h)

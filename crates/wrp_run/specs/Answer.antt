@@ -1,53 +1,45 @@
 -- What is due for the words of the command line and the octets of the input: one status and the
 -- octets that are written (this project's profile). The first refusal decides: the form of the words,
 -- the size of the network text, the network, the node's name, and then the records, one by one.
-use Rattle.std.specs.Prelude.{◌≡◌, ◌⊎◌, ℕ, ◌<◌, ◌≤◌, None, Some, Ok, List, [], ◌++◌, length, take, codes}
+-- What is due for the words of the command line and the octets of the input: one status and the
+-- octets that are written (this project's profile). The first refusal decides: the form of the words,
+-- the size of the network text, the network, the node's name, and then the records, one by one.
+use Rattle.std.specs.Prelude.{◌≡◌, ◌⊎◌, ℕ, ◌<◌, ◌≤◌, None, Ok, List, [], ◌++◌, length, take}
 use Rattle.wrp_config.specs.declared.network.Network.{Network}
 use Rattle.wrp_config.specs.Names.{node_named}
 use Rattle.wrp_config.specs.Reading.{IsReadingOf}
-use Rattle.wrp_trace.specs.Site.{Site}
 use Rattle.wrp_run.specs.declared.status.Status.{Status}
 use Rattle.wrp_run.specs.declared.status.Status.TheVariants.{Usage, BadNetwork, TooLarge}
-use Rattle.wrp_run.specs.CommandLine.{IsCommandWith}
 use Rattle.wrp_run.specs.Input.{network_text, behind_separator, network_limit, Divides, IsUndivided}
 use Rattle.wrp_run.specs.Lines.{lines_of}
 use Rattle.wrp_run.specs.RecordsAnswer.{RecordsAnswer, AreFirst}
-use Rattle.wrp_run.specs.Replays.{meaning_of, IsNetworkOf, IsRefusedBy}
+use Rattle.wrp_run.specs.Replays.{IsRefusedBy}
 use Rattle.wrp_run.specs.Stream.{CutHandled}
 use Rattle.wrp_run.specs.Refusals.{usage_line, too_large_line}
+use Rattle.wrp_run.specs.Tasks.{Task, AsksFor, IsAuditing, IsEmission, IsReplay, meaning_at}
 
--- the words ask for the replay of a node of this name
-abbrev pub IsReplay : List (List ℕ) → List ℕ → Type 0
-IsReplay words name = IsCommandWith (codes "replay") (codes "--node") words name
+-- the words ask for what needs a node of this name
+abbrev pub IsOfNode : List (List ℕ) → List ℕ → Type 0
+IsOfNode words name = IsReplay words name ⊎ IsEmission words name
 
 -- the words are a command that is built
 abbrev pub IsCommand : List (List ℕ) → Type 0
-IsCommand words = (name : List ℕ) × IsReplay words name
+IsCommand words = IsAuditing words ⊎ ((name : List ℕ) × IsOfNode words name)
 
--- the words ask for the replay of this node: it is the first of this name in the network that this text
--- describes
-pub record Asks (words : List (List ℕ)) (text : List ℕ) (site : Site) : Type 0 where
-  pub name : List ℕ
-  pub words_are : IsReplay words name
-  pub within : length text ≤ network_limit
-  pub network : IsNetworkOf text site
-  pub node : node_named site.cfg name ≡ Some site.node
-
--- the words ask for the replay of a node, and the network that this text describes has none of that
--- name
+-- the words ask for what needs a node, and the network that this text describes has none of that name
 pub record AsksNone (words : List (List ℕ)) (text : List ℕ) : Type 0 where
   pub name : List ℕ
-  pub words_are : IsReplay words name
+  pub words_are : IsOfNode words name
   pub within : length text ≤ network_limit
   pub net : Network
   pub reads : IsReadingOf text (Ok net)
   pub none : node_named net.cfg name ≡ None
 
--- what is due where the words ask for the replay of a node, and it is found
-abbrev pub ReplayAnswer : List (List ℕ) → List ℕ → Status → List ℕ → Type 0
-ReplayAnswer words input status octets =
-    (site : Site) × Asks words (network_text input) site
-    × RecordsAnswer (meaning_of site) (behind_separator (lines_of input)) status octets
+-- what is due where the words ask for a task, and its node is found
+abbrev pub TaskAnswer : List (List ℕ) → List ℕ → Status → List ℕ → Type 0
+TaskAnswer words input status octets =
+    (task : Task) × AsksFor words (network_text input) task
+    × RecordsAnswer (meaning_at task) (behind_separator (lines_of input)) status octets
 
 -- what is due for words and an input
 abbrev pub Answer : List (List ℕ) → List ℕ → Status → List ℕ → Type 0
@@ -58,15 +50,15 @@ Answer words input BadNetwork octets =
     × IsRefusedBy (network_text input) octets
 Answer words input TooLarge octets =
     (IsCommand words × (network_limit < length (network_text input)) × (octets ≡ too_large_line))
-    ⊎ ReplayAnswer words input TooLarge octets
-Answer words input status octets = ReplayAnswer words input status octets
+    ⊎ TaskAnswer words input TooLarge octets
+Answer words input status octets = TaskAnswer words input status octets
 
 -- the lines of the first records of an input; none, where the records were not reached
 abbrev pub FirstAnswer : List (List ℕ) → List ℕ → List ℕ → Type 0
 FirstAnswer words input octets =
     (octets ≡ [])
-    ⊎ ((site : Site) × Asks words (network_text input) site
-    × AreFirst (meaning_of site) (behind_separator (lines_of input)) octets)
+    ⊎ ((task : Task) × AsksFor words (network_text input) task
+    × AreFirst (meaning_at task) (behind_separator (lines_of input)) octets)
 
 -- the first octets of an answer, or of the lines of the first records
 abbrev pub PartAnswer : List (List ℕ) → List ℕ → List ℕ → Type 0
@@ -75,17 +67,17 @@ PartAnswer words input octets =
     × (((status : Status) × Answer words input status due) ⊎ FirstAnswer words input due)
 
 -- the `---` line came, and of the octets behind it the lines that are whole are handled
-pub record CutReplay (words : List (List ℕ)) (taken octets : List ℕ) : Type 0 where
+pub record CutTask (words : List (List ℕ)) (taken octets : List ℕ) : Type 0 where
   pub front : List ℕ
   pub back : List ℕ
   pub text : List ℕ
-  pub site : Site
+  pub task : Task
   pub all : taken ≡ front ++ back
   pub divides : Divides front text
-  pub asks : Asks words text site
-  pub handled : CutHandled (meaning_of site).accepts back octets
+  pub asks : AsksFor words text task
+  pub handled : CutHandled (meaning_at task).accepts back octets
 
 -- what stands where the source failed behind these octets: no refusal stands in them
 abbrev pub CutAnswer : List (List ℕ) → List ℕ → List ℕ → Type 0
 CutAnswer words taken octets =
-    IsCommand words × ((IsUndivided taken × (octets ≡ [])) ⊎ CutReplay words taken octets)
+    IsCommand words × ((IsUndivided taken × (octets ≡ [])) ⊎ CutTask words taken octets)

@@ -6,14 +6,13 @@ use Rattle.wrp_run.specs.declared.machine.Refusal.{Refusal}
 use Rattle.wrp_run.specs.declared.machine.Refusal.TheVariants as refusals
 use Rattle.wrp_run.specs.declared.status.Status.{Status}
 use Rattle.wrp_run.specs.declared.status.Status.TheVariants.{Done, Usage, BadTrace, Broken, ReadFault, WriteFault, LinkFault, OutOfMemory}
-use Rattle.wrp_run.specs.Answer.{IsCommand, Asks, AsksNone, Answer, FirstAnswer, PartAnswer, CutAnswer}
+use Rattle.wrp_run.specs.Answer.{IsCommand, AsksNone, Answer, FirstAnswer, PartAnswer, CutAnswer}
 use Rattle.wrp_run.specs.Input.{network_text, behind_separator}
 use Rattle.wrp_run.specs.Lines.{lines_of}
 use Rattle.wrp_run.specs.Reader.{piece_limit}
 use Rattle.wrp_run.specs.RecordsAnswer.{IsRefused}
 use Rattle.wrp_run.specs.Refusals.{usage_line}
-use Rattle.wrp_run.specs.Replays.{meaning_of}
-use Rattle.wrp_trace.specs.Site.{Site}
+use Rattle.wrp_run.specs.Tasks.{Task, AsksFor, meaning_at}
 
 -- what a run was given and what it left: the words; what the source has, before and after; what the
 -- sink holds, before and after; and how often each of both had failed, before and after. What a source
@@ -53,10 +52,10 @@ Answered run status =
 
 -- the line of a refused record ends these octets
 pub record EndsRefused (words : List (List ℕ)) (front : List ℕ) (refusal : Refusal) : Type 0 where
-  pub site : Site
+  pub task : Task
   pub octets : List ℕ
-  pub asks : Asks words (network_text front) site
-  pub refused : IsRefused (meaning_of site) refusal (behind_separator (lines_of front)) octets
+  pub asks : AsksFor words (network_text front) task
+  pub refused : IsRefused (meaning_at task) refusal (behind_separator (lines_of front)) octets
   pub last : refused.behind ≡ []
 
 -- of an input the octets up to the end of a refused record's line were taken, and at most one piece
@@ -82,6 +81,9 @@ Ends run Usage =
 -- a record is refused: at most one piece behind its line was taken
 Ends run BadTrace =
     Answered run BadTrace × IfSome run.input (TakesPiece run refusals.BadTrace)
+-- a record breaks a premise: the same
+Ends run Broken =
+    Answered run Broken × IfSome run.input (TakesPiece run refusals.Broken)
 -- the source failed: the lines of the whole records among what was taken stand, and no refusal
 -- stands in it
 Ends run ReadFault =
@@ -95,8 +97,7 @@ Ends run WriteFault =
 Ends run OutOfMemory =
     (octets : List ℕ) × Wrote run octets
     × IfSome run.input (λ input. FirstAnswer run.words input octets)
--- no premise is tried, and no link is used
-Ends run Broken = ⊥
+-- no link is used
 Ends run LinkFault = ⊥
 -- the network or a size is refused, and its line is written behind those of the records before it
 Ends run status = Answered run status

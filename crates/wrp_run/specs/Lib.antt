@@ -1,8 +1,11 @@
 pub mod After
 pub mod Answer
+pub mod AnswerLaws
+pub mod Asked
 pub mod Audited
 pub mod AuditLaws
 pub mod Audits
+pub mod AuditStands
 pub mod AuditText
 pub mod CommandLine
 pub mod DownLaw
@@ -10,6 +13,7 @@ pub mod Ends
 pub mod Engine
 pub mod Fields
 pub mod Input
+pub mod LawsFit
 pub mod Lines
 pub mod LinkLaw
 pub mod Meaning

@@ -1,14 +1,17 @@
 //! The top call: which command the words name.
-ghost use Rattle.std.specs.Prelude.{◌≡◌, ℕ, List, true, IfOk, IfSome, MatchOption};
+ghost use Rattle.std.specs.Prelude.{◌≡◌, ℕ, List, true, IfOk, IfSome};
 ghost use Rattle.std.specs.Io.KnownBytes.{Appends};
 ghost use Rattle.wrp_io.specs.Faults.{Rose};
 ghost use Rattle.wrp_run.specs.declared.status.Status.{Status};
-ghost use Rattle.wrp_run.specs.Answer.{Answer, IsCommand, IsReplay};
+ghost use Rattle.wrp_run.specs.Answer.{Answer, IsCommand};
+ghost use Rattle.wrp_run.specs.Asked.{AsksSo};
 ghost use Rattle.wrp_run.specs.Ends.{Ends};
 ghost use Rattle.wrp_run.specs.Statuses.{is_answer};
 ghost use Rattle.wrp_run.specs.Words.{texts_of};
 
 use crate::answering::answer;
+use crate::auditing::audit_words;
+use crate::audits::one_audit;
 use crate::parse::{Command, read_words};
 use crate::refusals::USAGE_LINE;
 use crate::replaying::replay_named;
@@ -17,20 +20,28 @@ use std::alloc::{AllocError, Global};
 use wrp_io::{Link, Sink, Source};
 use wrp_node::one_run;
 
-// The name of the node whose replay the words ask for, or None where they are no command that is
-// built.
-fn replayed<'a>(alloc: Global, words: &'a [&'a str]) -> Result<Option<&'a str>, AllocError>
-    ensures { IfOk result (λ found. MatchOption found
-        (IsCommand (texts_of words.now) → ⊥)
-        (λ name. IsReplay (texts_of words.now) name.now)) }
+// What the words ask for, of what is built.
+#[derive(Clone, Copy, Debug, PartialEq, Eq)]
+enum Request<'a> {
+    // An audit, or the inputs of the node of this name.
+    Audit(Option<&'a str>),
+    // The replay of the node of this name.
+    Replay(&'a str),
+    // Nothing that is built.
+    Nothing,
+}
+
+// What the words ask for.
+fn read_request<'a>(alloc: Global, words: &'a [&'a str]) -> Result<Request<'a>, AllocError>
+    ensures { IfOk result (AsksSo (texts_of words.now)) }
 {
     match read_words(alloc, words)? {
-        Some(Command::Replay(name)) => Ok(Some(name)),
-        Some(Command::Audit) => Ok(None),
-        Some(Command::Emit(_)) => Ok(None),
-        Some(Command::Simulate(_)) => Ok(None),
-        Some(Command::Loop(_)) => Ok(None),
-        None => Ok(None),
+        Some(Command::Replay(name)) => Ok(Request::Replay(name)),
+        Some(Command::Audit) => Ok(Request::Audit(None)),
+        Some(Command::Emit(name)) => Ok(Request::Audit(Some(name))),
+        Some(Command::Simulate(_)) => Ok(Request::Nothing),
+        Some(Command::Loop(_)) => Ok(Request::Nothing),
+        None => Ok(Request::Nothing),
     }
 }
 
@@ -77,9 +88,11 @@ pub fn run<S: Source, K: Sink, N: Link>(
     ensures link { link.new ≡ link.old }
 {
     one_run();
-    match replayed(alloc, words) {
-        Ok(Some(name)) => replay_named(alloc, words, name, source, sink),
-        Ok(None) => answer(sink, Status::Usage, USAGE_LINE.as_bytes()),
+    one_audit();
+    match read_request(alloc, words) {
+        Ok(Request::Replay(name)) => replay_named(alloc, words, name, source, sink),
+        Ok(Request::Audit(name)) => audit_words(alloc, words, name, source, sink),
+        Ok(Request::Nothing) => answer(sink, Status::Usage, USAGE_LINE.as_bytes()),
         Err(_) => Status::OutOfMemory,
     }
 }

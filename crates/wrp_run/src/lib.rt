@@ -4,7 +4,9 @@
 #![tactic(auto)]
 
 mod answering;
+mod audit;
 mod audit_counts;
+mod auditing;
 mod audits;
 mod command;
 mod command_line;
@@ -25,7 +27,7 @@ mod replaying;
 mod status;
 mod writing;
 
-pub use audits::{audits_begin, one_audit};
+pub use audits::{audits_begin, one_answer, one_audit};
 pub use command::run;
 pub use status::Status;
 

@@ -8,11 +8,11 @@ ghost use Rattle.wrp_law.specs.Law.{IsNear, KeepsFact};
 ghost use Rattle.wrp_law.specs.LinkLaw.{IsSound, down_of, error_of, kind_of, least_of, most_of};
 ghost use Rattle.wrp_run.specs.declared.status.Status.{Status};
 ghost use Rattle.wrp_run.specs.After.{After, Closing};
-ghost use Rattle.wrp_run.specs.Answer.{IsReplay};
 ghost use Rattle.wrp_run.specs.DownLaw.{AnswersBy, greatest_over, law_at, least_over};
 ghost use Rattle.wrp_run.specs.Ends.{Ends};
 ghost use Rattle.wrp_run.specs.Replays.{Closes, meaning_of};
 ghost use Rattle.wrp_run.specs.StandsFor.{HasTaken, IsReady, site_at};
+ghost use Rattle.wrp_run.specs.Tasks.{IsReplay};
 ghost use Rattle.wrp_run.specs.Words.{texts_of};
 
 use crate::answering::{answer, refuse_network};

@@ -71,6 +71,13 @@ pub type Run = (
 
 const REPLAY: &[&str] = &["replay", "--node", "sw1"];
 
+const AUDIT: &[&str] = &["audit"];
+
+const EMIT: &[&str] = &["audit", "--emit", "sw1"];
+
+// Both nodes come up at a link that is joined.
+const BOTH_UP: &str = "---\njoin,f1,0,0\nup,gm,0\nup,sw1,0\n";
+
 const USAGE: &str =
     "usage: wrnet audit [--emit NODE] | replay --node NODE | simulate --seed N | loop --seed N\n";
 
@@ -143,8 +150,75 @@ pub const RUNS: &[Run] = &[
         USAGE,
     ),
     (
-        "audit",
-        &["audit"],
+        "audit without records",
+        AUDIT,
+        NO_FAULTS,
+        &[Network],
+        Status::Done,
+        "",
+    ),
+    (
+        "a tick of a node that is down",
+        AUDIT,
+        NO_FAULTS,
+        &[Network, Record("---\ntick,sw1\n")],
+        Status::Broken,
+        "broken 1 13 NotUp 0 1\n",
+    ),
+    (
+        "a tick too late",
+        AUDIT,
+        NO_FAULTS,
+        &[
+            Network,
+            Record("---\nup,gm,0\npass,720896000000000\npass,1\n"),
+        ],
+        Status::Broken,
+        "broken 3 2 TickLate 720896000000001 720896000000000\n",
+    ),
+    (
+        "a tick too early",
+        AUDIT,
+        NO_FAULTS,
+        &[Network, Record("---\nup,gm,0\ntick,gm\n")],
+        Status::Broken,
+        "broken 2 1 TickEarly 0 589824000000000\n",
+    ),
+    (
+        "two nodes come up",
+        AUDIT,
+        NO_FAULTS,
+        &[Network, Record(BOTH_UP)],
+        Status::Done,
+        "sw1 0 link 1 quiet\ngm 0 link 1 quiet\n",
+    ),
+    (
+        "what a node is given",
+        EMIT,
+        NO_FAULTS,
+        &[Network, Record(BOTH_UP)],
+        Status::Done,
+        "reset\nup,1,violet\n",
+    ),
+    (
+        "a line that is no event, behind a broken premise",
+        AUDIT,
+        NO_FAULTS,
+        &[Network, Record("---\ntick,sw1\ntick\n")],
+        Status::Broken,
+        "broken 1 13 NotUp 0 1\n",
+    ),
+    (
+        "a line that is no event",
+        EMIT,
+        NO_FAULTS,
+        &[Network, Record("---\ntick\n")],
+        Status::BadTrace,
+        "bad-trace 1 1 Fields 0\n",
+    ),
+    (
+        "the inputs of a node that is not listed",
+        &["audit", "--emit", "nobody"],
         NO_FAULTS,
         &[Network],
         Status::Usage,

@@ -1,5 +1,5 @@
 -- How the run ends at each refusal, and with the records.
-use Rattle.std.proofs.Common.{◌≡◌, ◌∙◌, ℕ, List, Ok, Err, refl, sym, subst}
+use Rattle.std.proofs.Common.{◌≡◌, ◌∙◌, inl, inr, ℕ, List, Ok, Err, refl, sym, subst}
 use Rattle.std.proofs.KnownBytes.{Appends-nil}
 use Rattle.wrp_config.proofs.Lists.{found_place}
 use Rattle.wrp_config.specs.Reading.{IsReadingOf}
@@ -7,10 +7,11 @@ use Rattle.wrp_trace.specs.Site.{Site, site_of}
 use Rattle.wrp_io.specs.Faults.{Rose}
 use Rattle.wrp_run.specs.declared.network_text.End.{End}
 use Rattle.wrp_run.specs.declared.network_text.End.TheVariants.{Whole, Failed}
-use Rattle.wrp_run.specs.Answer.{Asks, AsksNone}
+use Rattle.wrp_run.specs.Answer.{AsksNone}
 use Rattle.wrp_run.specs.Ends.{Run}
 use Rattle.wrp_run.specs.Input.{NetworkOutcome}
 use Rattle.wrp_run.specs.Replays.{meaning_of}
+use Rattle.wrp_run.specs.Tasks.{Replay, AsksFor}
 use Rattle.wrp_run.specs.Words.{texts_of}
 use Rattle.wrp_run.proofs.Asking.{TookNetwork, TookRecords, size_ends, refused_ends, no_node_ends, network_fails, memory_ends, records_end}
 use Rattle.wrp_run.proofs.BareSite.{bare_site, named_bare}
@@ -35,7 +36,7 @@ returns-in-TooLong-clause-ends g c =
     } in
     let taken = c.take_network-network.ensures.taken in
     let long = subst (λ (e : End). NetworkOutcome e taken.0 c.take_network-network.result.text.items c.take_network-network.new.reader) c.in-TooLong.is taken.2 in
-    size_ends run _ _ taken.0 c.take_network-network.new.reader (c.args.name.now, c.requires) taken.1 long c.take_network-network.ensures.at_end
+    size_ends run _ _ taken.0 c.take_network-network.new.reader (inr (c.args.name.now, inl c.requires)) taken.1 long c.take_network-network.ensures.at_end
     (rw c.as_bytes.ensures.value at c.answer.ensures.how) c.answer.ensures.rose
 
 pub returns-in-Failed-clause-ends : goal.returns-in-Failed-clause-ends
@@ -53,7 +54,7 @@ returns-in-Failed-clause-ends g c =
     } in
     let taken = c.take_network-network.ensures.taken in
     let cut = subst (λ (e : End). NetworkOutcome e taken.0 c.take_network-network.result.text.items c.take_network-network.new.reader) c.in-Failed.is taken.2 in
-    network_fails run taken.0 (c.args.name.now, c.requires) taken.1 cut (Appends-nil _) (c.take_network-network.ensures.rose c.in-Failed.is)
+    network_fails run taken.0 (inr (c.args.name.now, inl c.requires)) taken.1 cut (Appends-nil _) (c.take_network-network.ensures.rose c.in-Failed.is)
 
 pub returns-in-Memory-clause-ends : goal.returns-in-Memory-clause-ends
 returns-in-Memory-clause-ends g c =
@@ -87,7 +88,7 @@ returns-in-Err-clause-ends g c =
     let text = c.take_network-network.result.text.items in
     let whole = subst (λ (e : End). NetworkOutcome e taken.0 text c.take_network-network.new.reader) c.in-Whole.is taken.2 in
     let reads = subst (λ (t : List ℕ). IsReadingOf t (Err c.in-Err.fault)) c.deref.ensures.value c.in-Err.ensures.value in
-    refused_ends run c.refuse_network.result _ taken.0 text c.in-Err.fault c.take_network-network.new.reader (c.args.name.now, c.requires) taken.1 whole.0 whole.1
+    refused_ends run c.refuse_network.result _ taken.0 text c.in-Err.fault c.take_network-network.new.reader (inr (c.args.name.now, inl c.requires)) taken.1 whole.0 whole.1
     c.take_network-network.ensures.at_end reads c.refuse_network.ensures.how c.refuse_network.ensures.rose
 
 pub returns-in_default-clause-ends : goal.returns-in_default-clause-ends
@@ -109,7 +110,7 @@ returns-in_default-clause-ends g c =
     let reads = subst (λ (t : List ℕ). IsReadingOf t (Ok c.in-Ok.net)) c.deref.ensures.value c.in-Ok.ensures.value in
     let none : AsksNone (texts_of c.args.words.now) text = record {
       name = c.args.name.now;
-      words_are = c.requires;
+      words_are = inl c.requires;
       within = whole.1;
       net = c.in-Ok.net;
       reads = reads;
@@ -140,22 +141,22 @@ returns-clause-ends g c =
     let whole = subst (λ (e : End). NetworkOutcome e taken.0 text c.take_network-network.new.reader) c.in-Whole.is taken.2 in
     let reads = subst (λ (t : List ℕ). IsReadingOf t (Ok c.in-Ok.net)) c.deref.ensures.value c.in-Ok.ensures.value in
     let site : Site = bare_site (site_of c.in-Ok.net c.in-Some.node) in
-    let asks : Asks (texts_of c.args.words.now) text site = record {
-      name = c.args.name.now;
-      words_are = c.requires;
-      within = whole.1;
-      network = record { net = c.in-Ok.net; reads = reads; cfg = refl; db = refl };
-      node = named_bare c.in-Ok.net.cfg c.args.name.now ∙ sym c.node_named.ensures ∙ c.in-Some.is;
-    } in
-    let network : TookNetwork run.words run.input (g.S.Source.left c.take_network-network.new.source) text c.take_network-network.new.reader site =
+    let asks : AsksFor (texts_of c.args.words.now) text (Replay site) = (
+      whole.1,
+      c.args.name.now,
+      c.requires,
+      record { net = c.in-Ok.net; reads = reads; cfg = refl; db = refl },
+      named_bare c.in-Ok.net.cfg c.args.name.now ∙ sym c.node_named.ensures ∙ c.in-Some.is,
+    ) in
+    let network : TookNetwork run.words run.input (g.S.Source.left c.take_network-network.new.source) text c.take_network-network.new.reader (Replay site) =
     record { network = taken.0; taken = taken.1; divided = whole.0; at_end = c.take_network-network.ensures.at_end; asks = asks } in
     let stands = c.replay.ensures.stands in
     let records : TookRecords (meaning_of site) (g.S.Source.left c.take_network-network.new.source) run.left run.held run.now c.take_network-network.new.reader c.replay.new.reader c.replay.result =
     record { given = stands.0; octets = stands.1; taken = stands.2; wrote = stands.3; stands = stands.4; at_end = c.replay.ensures.at_end } in
-    records_end run _ text c.take_network-network.new.reader c.replay.new.reader site c.replay.result network records
+    records_end run _ text c.take_network-network.new.reader c.replay.new.reader (Replay site) c.replay.result network records
     c.replay.ensures.done c.replay.ensures.goes
     (λ is. subst (λ (n : ℕ). Rose n (g.S.Source.faults c.replay.new.source)) (c.take_network-network.ensures.kept (not_failed c.take_network-network.result.end c.in-Whole.is)) (c.replay.ensures.read_fault is))
-    c.replay.ensures.write_fault c.replay.ensures.unbroken
+    c.replay.ensures.write_fault
 
 pub returns-clause-read_kept : goal.returns-clause-read_kept
 returns-clause-read_kept g c = λ other.

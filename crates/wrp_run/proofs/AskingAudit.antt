@@ -1,0 +1,33 @@
+-- What the words of an audit ask for.
+use Rattle.std.proofs.Common.{◌≡◌, ◌∙◌, refl, sym, subst, inl, inr, ℕ, ◌<◌, ◌≤◌, Option, None, Some, IfSome, Ok, List, length, Bor}
+use Rattle.wrp_base.specs.Network.{node_count}
+use Rattle.wrp_config.specs.declared.network.Network.{Network}
+use Rattle.wrp_config.specs.Names.{node_named}
+use Rattle.wrp_config.specs.Reading.{IsReadingOf}
+use Rattle.wrp_run.specs.Answer.{AsksNone, IsCommand}
+use Rattle.wrp_run.specs.Asked.{AsksAudit, IsNodeAsked, LacksAsked}
+use Rattle.wrp_run.specs.AuditStands.{setting_in, task_of}
+use Rattle.wrp_run.specs.Input.{network_limit}
+use Rattle.wrp_run.specs.Tasks.{AsksFor}
+
+pub asks_task : (words : List (List ℕ)) (text : List ℕ) (name : Option (Bor (List ℕ))) (emit : Option ℕ) (net : Network) → AsksAudit words name → length text ≤ network_limit → IsReadingOf text (Ok net)
+    → IsNodeAsked net name emit → AsksFor words text (task_of emit (setting_in net))
+asks_task words text None emit net asks within reads is =
+    subst (λ (e : Option ℕ). AsksFor words text (task_of e (setting_in net))) (sym is) (within, asks, record { net = net; reads = reads; is = refl })
+asks_task words text (Some name) emit net asks within reads is =
+    subst (λ (e : Option ℕ). AsksFor words text (task_of e (setting_in net))) (sym is.1)
+    (within, name.now, asks, record { net = net; reads = reads; is = refl }, is.2)
+
+pub asks_command : (words : List (List ℕ)) (name : Option (Bor (List ℕ))) → AsksAudit words name → IsCommand words
+asks_command words None asks = inl asks
+asks_command words (Some name) asks = inr (name.now, inr asks)
+
+pub asks_none : (words : List (List ℕ)) (text : List ℕ) (name : Option (Bor (List ℕ))) (net : Network) → AsksAudit words name → length text ≤ network_limit → IsReadingOf text (Ok net) → LacksAsked net name
+    → AsksNone words text
+asks_none words text None net asks within reads lacks = absurd lacks
+asks_none words text (Some name) net asks within reads lacks =
+    record { name = name.now; words_are = inr asks; within = within; net = net; reads = reads; none = lacks }
+
+pub within_of : (name : Option (Bor (List ℕ))) (emit : Option ℕ) (net : Network) → IsNodeAsked net name emit → IfSome emit (λ n. n < node_count net.cfg)
+within_of None emit net is = subst (λ (e : Option ℕ). IfSome e (λ n. n < node_count net.cfg)) (sym is) tt
+within_of (Some name) emit net is = subst (λ (e : Option ℕ). IfSome e (λ n. n < node_count net.cfg)) (sym is.1) is.3

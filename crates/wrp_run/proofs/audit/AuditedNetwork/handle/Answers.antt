@@ -1,0 +1,34 @@
+-- The audit goes on with an event, or the line is refused.
+use Rattle.std.proofs.Common.{◌≡◌, Err, Ok, subst, sym}
+use Rattle.std.proofs.lemmas.Result.{IfOk-weaker}
+use Rattle.wrp_config.specs.declared.network.Network.{Network}
+use Rattle.wrp_trace.specs.Events.{event_read, plain}
+use Rattle.wrp_trace.specs.Reading.{IsReading}
+use Rattle.wrp_run.proofs.AuditSteps.{accepted_so, refused_so, trace_so}
+use Rattle.wrp_run.proofs.audit.AuditedNetwork.handle.Goals as goal
+
+pub returns-in-Ok-clause-accepted : goal.returns-in-Ok-clause-accepted
+returns-in-Ok-clause-accepted g c = λ lines before.
+    IfOk-weaker c.happen.result _ _
+    (λ answer happens is has accepted.
+    accepted_so c.one_audit.ensures c.args.self.now c.happen.new.self lines c.args.line.now before c.happen.new.text.items (plain c.in-Ok.event) c.args.number answer
+    (sym (subst (λ (net : Network). Ok (plain c.in-Ok.event) ≡ event_read net.cfg c.args.line.now) c.net.ensures c.in-Ok.ensures.value))
+    c.happen.ensures.net c.happen.ensures.ready happens is has accepted)
+    c.happen.ensures.happens
+
+pub returns-in-Ok-clause-refused : goal.returns-in-Ok-clause-refused
+returns-in-Ok-clause-refused g c = λ lines refusal.
+    IfOk-weaker c.happen.result _ _
+    (λ answer happens is has counts.
+    refused_so c.args.self.now c.happen.new.self.world lines c.args.line.now c.happen.new.text.items (plain c.in-Ok.event) c.args.number answer refusal
+    (sym (subst (λ (net : Network). Ok (plain c.in-Ok.event) ≡ event_read net.cfg c.args.line.now) c.net.ensures c.in-Ok.ensures.value))
+    counts happens is has)
+    c.happen.ensures.happens
+
+pub returns-in-Err-clause-refused : goal.returns-in-Err-clause-refused
+returns-in-Err-clause-refused g c = λ lines refusal.
+    IfOk-weaker c.refuse.result _ _
+    (λ answer tells is has counts.
+    trace_so c.args.self.now.emit c.args.self.now.world.plant.net lines c.args.line.now c.args.text.now.items c.refuse.new.text.items c.in-Err.fault c.args.number answer refusal tells c.requires.none
+    (subst (λ (net : Network). IsReading (event_read net.cfg c.args.line.now) (Err c.in-Err.fault)) c.net.ensures c.in-Err.ensures.value) is counts)
+    c.refuse.ensures
