@@ -1,9 +1,6 @@
 -- What is due for the words of the command line and the octets of the input: one status and the
 -- octets that are written (this project's profile). The first refusal decides: the form of the words,
 -- the size of the network text, the network, the node's name, and then the records, one by one.
--- What is due for the words of the command line and the octets of the input: one status and the
--- octets that are written (this project's profile). The first refusal decides: the form of the words,
--- the size of the network text, the network, the node's name, and then the records, one by one.
 use Rattle.std.specs.Prelude.{◌≡◌, ◌⊎◌, ℕ, ◌<◌, ◌≤◌, None, Ok, List, [], ◌++◌, length, take}
 use Rattle.wrp_config.specs.declared.network.Network.{Network}
 use Rattle.wrp_config.specs.Names.{node_named}
