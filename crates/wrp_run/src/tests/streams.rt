@@ -124,6 +124,15 @@ impl Toy {
         }
         Ok(Taken::Accepted)
     }
+
+    fn answer(&mut self, alloc: Global, said: &[u8], number: u32, text: &mut Vec<u8>) -> Taken
+        ensures { self.new.ticks ≤ self.old.ticks + 1 }
+    {
+        match self.step(alloc, said, number, text) {
+            Ok(taken) => taken,
+            Err(_) => Taken::Memory,
+        }
+    }
 }
 
 impl Machine for Toy {
@@ -149,13 +158,13 @@ impl Machine for Toy {
         number: u32,
         text: &mut Vec<u8>,
     ) -> Taken {
-        let said = match parts {
-            Some(row) => row.get(0).unwrap_or(b""),
-            None => line,
+        let Some(row) = parts else {
+            return self.answer(alloc, line, number, text);
         };
-        match self.step(alloc, said, number, text) {
-            Ok(taken) => taken,
-            Err(_) => Taken::Memory,
+        let first = row.get(0);
+        match first {
+            Some(said) => self.answer(alloc, said, number, text),
+            None => Taken::Memory,
         }
     }
 }
