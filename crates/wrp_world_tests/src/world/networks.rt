@@ -1,0 +1,43 @@
+//! The networks of the tests.
+
+/// A grandmaster `gm` and a switch `sw1` on one fibre.
+pub const TWO_NODES: &str = "\
+    [[node]]\n\
+    name = \"gm\"\n\
+    identity = \"001bc5fffe000001\"\n\
+    [[node]]\n\
+    name = \"sw1\"\n\
+    identity = \"001bc5fffe000002\"\n\
+    [[link]]\n\
+    name = \"f1\"\n\
+    upper = \"gm:1\"\n\
+    lower = \"sw1:1\"\n\
+    fibre = \"smf\"\n\
+    upper_module = \"blue\"\n\
+    lower_module = \"violet\"\n\
+    [[module]]\n\
+    name = \"blue\"\n\
+    tx = 14745600000\n\
+    rx = 14745600000\n\
+    transition = 0\n\
+    err = 1310720\n\
+    [[module]]\n\
+    name = \"violet\"\n\
+    tx = 14811136000\n\
+    rx = 14876672000\n\
+    transition = 0\n\
+    err = 1310720\n\
+    [[fibre]]\n\
+    name = \"smf\"\n\
+    kappa = 73622176\n\
+    err = 1310720\n";
+
+/// The keys ahead of it with which a port that may send sends at each tick.
+pub const EACH_TICK: &str = "\
+    [network]\n\
+    announce = 1\n\
+    sync = 1\n\
+    delay = 1\n";
+
+/// The asymmetry of its fibre.
+pub const KAPPA: i64 = 73_622_176;
