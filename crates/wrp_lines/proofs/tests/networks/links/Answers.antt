@@ -1,7 +1,7 @@
 -- Each link that is pushed leads from the node of its number to the next.
 use Rattle.std.proofs.Common.{◌≡◌, suc, arith, length, ap}
 use Rattle.wrp_base.specs.Network.{HasLinkRanges}
-use Rattle.wrp_bounds.proofs.Chain.{each_of_pushed, each_of_none}
+use Rattle.wrp_lines.proofs.Chain.{each_of_pushed, each_of_none}
 use Rattle.wrp_lines.proofs.tests.networks.links.Goals as goal
 
 pub loop-l-init : goal.loop-l-init

@@ -1,7 +1,7 @@
 -- The nodes hang one below the other.
 use Rattle.std.proofs.Common.{arith}
 use Rattle.std.proofs.lemmas.Int.{ints}
-use Rattle.wrp_bounds.proofs.Chain.{chain-tree}
+use Rattle.wrp_lines.proofs.Chain.{chain-tree}
 use Rattle.wrp_lines.proofs.tests.networks.network.Goals as goal
 
 pub returns-clause-ranges : goal.returns-clause-ranges

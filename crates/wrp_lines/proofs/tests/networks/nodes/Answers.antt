@@ -2,7 +2,7 @@
 use Rattle.std.proofs.Common.{arith, length, ap}
 use Rattle.wrp_base.specs.declared.time.Clock.TheVariants.{Mhz125}
 use Rattle.wrp_base.specs.Network.{HasNodeRanges}
-use Rattle.wrp_bounds.proofs.Chain.{each_of_pushed, each_of_none}
+use Rattle.wrp_lines.proofs.Chain.{each_of_pushed, each_of_none}
 use Rattle.wrp_lines.proofs.tests.networks.nodes.Goals as goal
 
 pub loop-n-init : goal.loop-n-init
