@@ -30,6 +30,3 @@ mod writing;
 pub use audits::{audits_begin, one_answer, one_audit};
 pub use command::run;
 pub use status::Status;
-
-#[cfg(test)]
-mod tests;

@@ -8,9 +8,9 @@ use super::frames::Wire::{
     Sw1CalibrateAgain, Sw1Calibrated, Sw1CalibratedAgain, Sw1Locked, Sw1Present, Sw1Present1,
     Sw1Present2, Sw1Present3, Sw1Present4, Sync, TlvOverrun, TooLong,
 };
-use crate::Status;
 use Due::{Lines, Sent};
 use Step::{Frame, Hex, Record, Samples, Ticks};
+use wrp_run::Status;
 
 /// What goes into a run.
 #[derive(Clone, Copy)]

@@ -5,7 +5,6 @@ mod rows;
 mod runs;
 mod streams;
 
-use crate::{Status, run};
 use frames::hex_of;
 use networks::TWO_NODES;
 use rows::{DROPS, Due, HANDSHAKES, LINES, Replay, Step, WHOLE};
@@ -13,6 +12,7 @@ use runs::{Faults, NO_FAULTS, RUNS, Run};
 use std::alloc::{AllocError, Global};
 use std::test::Fail;
 use wrp_io::{MemLink, MemSink, MemSource};
+use wrp_run::{Status, run};
 
 // What a run answers, and what it wrote.
 #[derive(Drop)]

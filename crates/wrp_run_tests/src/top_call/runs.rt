@@ -1,7 +1,7 @@
 //! Runs for the tests: words, networks, sizes and faults, and what is due.
 use super::rows::Step::{self, Network, Octets, Record, Ticks};
 use super::rows::UP;
-use crate::Status;
+use wrp_run::Status;
 
 /// What fails in a run: how many octets the sink has room for, and the calls of the source and of
 /// the sink that fail.
