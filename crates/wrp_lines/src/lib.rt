@@ -3,10 +3,7 @@
 #![tactic(auto)]
 
 mod counts;
-mod outputs;
-#[cfg(test)]
-mod tests;
-mod words;
+mod outputs;mod words;
 
 pub use counts::{append_count_line, count_line};
 pub use outputs::{append_line, append_output_line, output_line};

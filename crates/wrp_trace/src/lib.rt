@@ -16,6 +16,3 @@ pub use inputs::{read_input, read_input_fields};
 pub use kinds::InputKind;
 pub use printing::{append_input_line, input_line};
 pub use wrp_base::TraceFault;
-
-#[cfg(test)]
-mod tests;

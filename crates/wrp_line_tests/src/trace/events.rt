@@ -5,11 +5,11 @@ ghost use Rattle.wrp_world.specs.EventAt.{IsEventOf};
 use super::event_lines::{EVENTS_REFUSED, EVENTS_TAKEN};
 use super::lines::THREE_NODES;
 use super::network;
-use crate::{TraceFault, event_line, read_event};
 use arrayvec::ArrayVec;
 use std::alloc::Global;
 use std::test::*;
 use wrp_config::Network;
+use wrp_trace::{TraceFault, event_line, read_event};
 use wrp_world::Event;
 
 // The number of a fault and its field; 0 for a line that is taken, and 5 for want of memory.

@@ -1,13 +1,76 @@
 //! The line of each kind of output and of each reason, with values that were worked out by hand.
-mod networks;
+ghost use Rattle.std.specs.Prelude.{IfOk, ◌≡◌, ◌<◌};
+ghost use Rattle.wrp_base.specs.Network.{node_count};
+ghost use Rattle.wrp_config.specs.Accepted.{IsAccepted};
 
-use crate::{count_line, output_line};
-use networks::network;
+use std::alloc::Global;
 use std::test::*;
 use wrp_base::{Frame, LinkState, LinkWord, ServoState, Tau};
-use wrp_caldb::CalDb;
 use wrp_config::Network;
+use wrp_lines::{count_line, output_line};
 use wrp_node::{Output, Report};
+
+// The reference network: three nodes, one below the other.
+const REFERENCE: &str = "[[node]]\n\
+    name = \"gm\"\n\
+    identity = \"001bc5fffe000001\"\n\
+    [[node]]\n\
+    name = \"sw1\"\n\
+    identity = \"001bc5fffe000002\"\n\
+    [[node]]\n\
+    name = \"leaf\"\n\
+    identity = \"001bc5fffe000003\"\n\
+    [[link]]\n\
+    name = \"f1\"\n\
+    upper = \"gm:1\"\n\
+    lower = \"sw1:1\"\n\
+    fibre = \"smf\"\n\
+    upper_module = \"blue\"\n\
+    lower_module = \"violet\"\n\
+    [[link]]\n\
+    name = \"f2\"\n\
+    upper = \"sw1:2\"\n\
+    lower = \"leaf:1\"\n\
+    fibre = \"smf\"\n\
+    upper_module = \"blue\"\n\
+    lower_module = \"violet\"\n\
+    [[module]]\n\
+    name = \"blue\"\n\
+    tx = 14745600000\n\
+    rx = 14745600000\n\
+    transition = 0\n\
+    err = 1310720\n\
+    [[module]]\n\
+    name = \"violet\"\n\
+    tx = 14811136000\n\
+    rx = 14876672000\n\
+    transition = 0\n\
+    err = 1310720\n\
+    [[fibre]]\n\
+    name = \"smf\"\n\
+    kappa = 73622176\n\
+    err = 1310720\n";
+
+// It is read.
+fn reference(alloc: Global) -> Result<Network, Fail>
+    ensures { IfOk result (λ net. IsAccepted net.cfg net.db) }
+{
+    match Network::read(alloc, REFERENCE.as_bytes()) {
+        Ok(net) => Ok(net),
+        Err(_) => Err(Fail::from("a network")),
+    }
+}
+
+// The node of a place.
+fn node_at(net: &Network, place: u8) -> Result<u8, Fail>
+    ensures { IfOk result (λ node. (node ≡ place) × (node < node_count net.now.cfg)) }
+{
+    if usize::from(place) < net.cfg.nodes.len() {
+        Ok(place)
+    } else {
+        Err(Fail::from("a node"))
+    }
+}
 
 // The report of a link word at port 2.
 fn link(word: LinkWord) -> Output {
@@ -33,10 +96,7 @@ fn send(octets: &[u8]) -> Output {
 
 #[test]
 fn outputs(rt: HostRuntime) -> Result<(), Fail> {
-    let net = Network {
-        cfg: network(),
-        db: CalDb::read(rt.alloc(), b"")?,
-    };
+    let net = reference(rt.alloc())?;
     let rows: [(u8, u32, Output, Option<Tau>, &str); 27] = [
         (
             0,
@@ -201,7 +261,7 @@ fn outputs(rt: HostRuntime) -> Result<(), Fail> {
         ),
     ];
     for (node, tick, output, truth, line) in &rows {
-        let node = (*node).min(2);
+        let node = node_at(&net, *node)?;
         let made = output_line(rt.alloc(), &net, node, *tick, output, *truth)?;
         assert_eq!(rt; made.as_slice(), line.as_bytes());
     }
@@ -210,10 +270,7 @@ fn outputs(rt: HostRuntime) -> Result<(), Fail> {
 
 #[test]
 fn counts(rt: HostRuntime) -> Result<(), Fail> {
-    let net = Network {
-        cfg: network(),
-        db: CalDb::read(rt.alloc(), b"")?,
-    };
+    let net = reference(rt.alloc())?;
     let lines = [
         "leaf count 1 short 1\n",
         "leaf count 1 version 2\n",
@@ -231,8 +288,9 @@ fn counts(rt: HostRuntime) -> Result<(), Fail> {
         "leaf count 1 range 14\n",
         "leaf count 1 sample 15\n",
     ];
+    let leaf = node_at(&net, 2)?;
     for reason in 1..16 {
-        let line = count_line(rt.alloc(), &net, 2, 1, reason, u32::from(reason))?;
+        let line = count_line(rt.alloc(), &net, leaf, 1, reason, u32::from(reason))?;
         assert_eq!(rt; line.as_slice(), lines[usize::from(reason) - 1].as_bytes());
     }
     Ok(())

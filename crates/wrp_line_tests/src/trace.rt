@@ -4,12 +4,12 @@ ghost use Rattle.wrp_config.specs.Accepted.{IsAccepted};
 ghost use Rattle.wrp_trace.specs.InputAt.{IsInputAt};
 ghost use Rattle.wrp_trace.specs.Site.{site_of};
 
-use crate::{TraceFault, input_line, read_input};
 use std::alloc::Global;
 use std::test::*;
 use wrp_base::{Frame, Module, Raw, Stamp};
 use wrp_config::Network;
 use wrp_node::Input;
+use wrp_trace::{TraceFault, input_line, read_input};
 
 mod event_lines;
 mod events;
