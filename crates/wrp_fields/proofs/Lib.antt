@@ -1,2 +1,5 @@
-pub mod Split
+pub mod Splitting
 pub mod ReadFacts
+pub mod FieldLemmas
+pub mod HeldNumbers
+pub mod PlainLemmas

@@ -30,7 +30,7 @@ impl<'a> Model for Block<'a> {
 impl<'a> Block<'a> {
     /// The lines of these octets, the first of which, if any, is below 128: a byte order mark would
     /// be dropped.
-    #[tactic(auto, using(crate::proofs::Split::strip_plain))]
+    #[tactic(auto, using(crate::proofs::Splitting::strip_plain))]
     pub fn new(alloc: Global, octets: &'a [u8]) -> Block<'a>
         ensures { StartsPlain octets.now → result ≡ Some octets.now }
     {

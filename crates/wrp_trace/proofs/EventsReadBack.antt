@@ -21,13 +21,14 @@ use Rattle.wrp_world.specs.declared.event.Event.{Event}
 use Rattle.wrp_world.specs.declared.event.Event.TheVariants as events
 use Rattle.wrp_world.specs.declared.event.Swap.{Swap}
 use Rattle.wrp_trace.specs.Changes.{SaidAt, nothing_said, changes_said}
-use Rattle.wrp_trace.specs.EventFields.{node_at, link_at, span_at, delay_at, offset_at}
+use Rattle.wrp_fields.specs.Fields.{node_at, link_at}
+use Rattle.wrp_trace.specs.EventFields.{span_at, delay_at, offset_at}
 use Rattle.wrp_trace.specs.EventPrinting.{node_text, link_text, drift_words, drift_texts, move_words, move_texts, swap_text, pass_texts, event_text}
 use Rattle.wrp_trace.specs.Events.{pass_with, pass_of, tick_of, sample_of, depart_of, arrive_of, deliver_of, noise_of, down_of, up_of, cut_of, join_of, event_of, event_read, plain}
 use Rattle.wrp_trace.specs.Fields.{short_at, long_at, step_at, bits_at, octets_at, time_at, raw_from}
-use Rattle.wrp_trace.specs.Numbers.{number_in}
+use Rattle.wrp_fields.specs.Numbers.{number_in}
 use Rattle.wrp_trace.specs.Printing.{bits_text}
-use Rattle.wrp_trace.specs.Reading.{field_of, number_or_fault, name_or_fault}
+use Rattle.wrp_fields.specs.Reading.{field_of, number_or_fault, name_or_fault}
 use Rattle.wrp_trace.specs.Swaps.{plain_swap, swaps_said}
 use Rattle.wrp_trace.proofs.DigitLemmas.{number_octets}
 use Rattle.wrp_trace.proofs.EventParts.{name_part, signed_part, part_text, both_text}

@@ -1,7 +1,5 @@
 pub mod Texts
-pub mod FieldLemmas
 pub mod KindLemmas
-pub mod PlainLemmas
 pub mod NumberLemmas
 pub mod DigitLemmas
 pub mod Listed
@@ -18,3 +16,4 @@ pub mod EventParts
 pub mod PassReadsBack
 pub mod UpReadsBack
 pub mod EventsReadBack
+pub mod EventsFit

@@ -14,7 +14,7 @@ use Rattle.wrp_base.specs.Network.{IsLink, IsNode}
 use Rattle.wrp_config.specs.Accepted.{HasNames}
 use Rattle.wrp_trace.specs.Changes.{SaidAt, change_in, move_in, is_said, said_once, change_said, changes_said}
 use Rattle.wrp_trace.specs.EventPrinting.{drift_words, drift_text, drift_texts, move_words, move_texts}
-use Rattle.wrp_trace.specs.Reading.{◌>>=◌}
+use Rattle.wrp_fields.specs.Reading.{◌>>=◌}
 use Rattle.wrp_trace.proofs.EventParts.{name_part, signed_part, lacks_equals, lacks_slash, before_part, behind_part}
 use Rattle.wrp_trace.proofs.NamesFound.{node_found, link_found, link_no_node}
 use Rattle.wrp_trace.proofs.SignedLemmas.{number_in_back}

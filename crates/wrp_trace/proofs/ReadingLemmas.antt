@@ -2,7 +2,7 @@
 use Rattle.std.proofs.Common.{◌≡◌, Result, Ok, Err}
 use Rattle.wrp_base.specs.declared.fault.TraceFault.{TraceFault}
 use Rattle.wrp_base.specs.declared.fault.TraceFault.TheVariants.{Fields, Kind, Number, Name, Memory}
-use Rattle.wrp_trace.specs.Reading.{IsReading}
+use Rattle.wrp_fields.specs.Reading.{IsReading}
 
 pub is_reading : {A : Type 0} (read answer : Result A TraceFault) → answer ≡ read → IsReading read answer
 is_reading read (Ok value) e = e

@@ -13,12 +13,14 @@ use Rattle.wrp_config.specs.Accepted.{IsSoundDatabase}
 use Rattle.wrp_node.specs.declared.interface.Input.{Input}
 use Rattle.wrp_node.specs.declared.interface.Input.TheVariants as inputs
 use Rattle.wrp_trace.specs.Digits.{frame_of as frame_octets, bits_of}
-use Rattle.wrp_trace.specs.Fields.{number_at, short_at, long_at, step_at, counter_at, bits_at, octets_at, time_at, raw_from, stamp_from, message_at, own_port, port_at, module_at}
+use Rattle.wrp_fields.specs.Fields.{number_at}
+use Rattle.wrp_trace.specs.Fields.{short_at, long_at, step_at, counter_at, bits_at, octets_at, time_at, raw_from, stamp_from, message_at, own_port, port_at, module_at}
 use Rattle.wrp_trace.specs.Inputs.{sample_of, frame_of, sent_of, up_of, down_of, input_of, read_of}
-use Rattle.wrp_trace.specs.Numbers.{natural_in, time_of}
+use Rattle.wrp_fields.specs.Numbers.{natural_in}
+use Rattle.wrp_trace.specs.Times.{time_of}
 use Rattle.wrp_trace.specs.InputAt.{IsListed, IsInputAt, FitsTypes}
 use Rattle.wrp_trace.specs.Printing.{bits_text, message_text, module_text, texts_of, line_of}
-use Rattle.wrp_trace.specs.Reading.{field_of, ◌>>=◌, number_or_fault, name_or_fault}
+use Rattle.wrp_fields.specs.Reading.{field_of, ◌>>=◌, number_or_fault, name_or_fault}
 use Rattle.wrp_trace.specs.Site.{Site, is_grandmaster, has_port, named_at}
 use Rattle.wrp_trace.proofs.DigitLemmas.{frame_back, bits_back, number_octets}
 use Rattle.wrp_trace.proofs.Listed.{printed_name, name_finds, plain_name}

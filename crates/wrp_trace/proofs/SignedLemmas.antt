@@ -8,7 +8,7 @@ use Rattle.std.proofs.lemmas.Bool.{le-leb}
 use Rattle.std.proofs.lemmas.Int.{ints}
 use Rattle.std.proofs.lemmas.Fmt.{decimal_is_IsNumeral_wide, length-decimal-le_wide}
 use Rattle.std.proofs.lemmas.Str.Parse.{IsNumeralModel, numerals_by_fold}
-use Rattle.wrp_trace.specs.Numbers.{value_of, digits_of, number_of, kept_in, number_in}
+use Rattle.wrp_fields.specs.Numbers.{value_of, digits_of, number_of, kept_in, number_in}
 use Rattle.wrp_trace.proofs.NumberLemmas.{number_back}
 
 own : IsNumeralModel (λ ds. list_all is_ascii_digit ds ≡ true) value_of

@@ -14,7 +14,7 @@ use Rattle.hex.specs.Hex.{encode_with, encode_lower, lower_digits, IsBytes}
 use Rattle.wrp_base.specs.Lines.{parts_of}
 use Rattle.wrp_caldb.specs.Name.{is_letter, is_name_octet, is_name}
 use Rattle.wrp_trace.specs.Inputs.{input_of, read_of}
-use Rattle.wrp_trace.specs.Reading.{is_plain_octet, is_plain}
+use Rattle.wrp_fields.specs.Reading.{is_plain_octet, is_plain}
 use Rattle.wrp_trace.specs.Site.{Site}
 
 -- an octet that may stand in a line, and is no comma

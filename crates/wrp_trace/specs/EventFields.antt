@@ -2,19 +2,10 @@
 -- (this project's profile).
 use Rattle.std.specs.Prelude.{ℕ, ℤ, pos, negsuc, ◌==◌, Result, List}
 use Rattle.std.specs.List.{before_first, after_first}
-use Rattle.wrp_base.specs.declared.configuration.NetCfg.{NetCfg}
 use Rattle.wrp_base.specs.declared.fault.TraceFault.{TraceFault}
-use Rattle.wrp_config.specs.Names.{node_named, link_named}
-use Rattle.wrp_trace.specs.Numbers.{number_in}
-use Rattle.wrp_trace.specs.Reading.{field_of, number_or_fault, name_or_fault}
-
--- the node that the field of a place names
-abbrev pub node_at : NetCfg → ℕ → List (List ℕ) → Result ℕ TraceFault
-node_at cfg place fields = name_or_fault place (node_named cfg (field_of place fields))
-
--- the link that the field of a place names
-abbrev pub link_at : NetCfg → ℕ → List (List ℕ) → Result ℕ TraceFault
-link_at cfg place fields = name_or_fault place (link_named cfg (field_of place fields))
+use Rattle.wrp_fields.specs.Numbers.{number_in}
+use Rattle.wrp_fields.specs.Reading.{field_of, number_or_fault}
+pub use Rattle.wrp_fields.specs.Fields.{node_at, link_at}
 
 -- how much true time passes, in tau: 1 to 2^63 - 1
 abbrev pub span_at : ℕ → List (List ℕ) → Result ℤ TraceFault

@@ -1,19 +1,21 @@
 -- Event lines: what each says, and which fault comes first in one that says nothing (this project's
 -- profile). The kind is tried first, then the number of fields, then the fields from left to right.
-use Rattle.std.specs.Prelude.{ℕ, ℤ, if◌then◌else◌, Option, None, Some, Result, Ok, Err, List, [], map, drop, length}
+use Rattle.std.specs.Prelude.{◌≡◌, ℕ, ℤ, if◌then◌else◌, Option, None, Some, Result, Ok, Err, List, [], map, drop, length}
 use Rattle.wrp_base.specs.declared.configuration.NetCfg.{NetCfg}
 use Rattle.wrp_base.specs.declared.fault.TraceFault.{TraceFault}
 use Rattle.wrp_base.specs.declared.fault.TraceFault.TheVariants.{Fields, Kind}
 use Rattle.wrp_base.specs.Lines.{parts_of}
+use Rattle.wrp_world.specs.EventAt.{IsEventOf}
 use Rattle.wrp_world.specs.declared.event.Event.{Event}
 use Rattle.wrp_world.specs.declared.event.Event.TheVariants as events
 use Rattle.wrp_trace.specs.declared.events.kinds.EventKind.{EventKind}
 use Rattle.wrp_trace.specs.declared.events.kinds.EventKind.TheVariants as kinds
 use Rattle.wrp_trace.specs.Changes.{SaidAt, nothing_said, changes_said, all_drifts, all_moves}
-use Rattle.wrp_trace.specs.EventFields.{node_at, link_at, span_at, delay_at, offset_at}
+use Rattle.wrp_fields.specs.Fields.{node_at, link_at}
+use Rattle.wrp_trace.specs.EventFields.{span_at, delay_at, offset_at}
 use Rattle.wrp_trace.specs.EventKinds.{may_have, kind_of}
 use Rattle.wrp_trace.specs.Fields.{short_at, long_at, step_at, bits_at, octets_at, time_at, raw_from}
-use Rattle.wrp_trace.specs.Reading.{field_of, ◌>>=◌, is_plain}
+use Rattle.wrp_fields.specs.Reading.{field_of, ◌>>=◌, is_plain}
 use Rattle.wrp_trace.specs.Swaps.{plain_swap, swaps_said}
 
 -- so much time passes, with what is said of the nodes and the links
@@ -137,3 +139,7 @@ plain e = e
 abbrev pub told : Result Event TraceFault → Result Event TraceFault
 told (Ok e) = Ok (plain e)
 told (Err fault) = Err fault
+
+-- an event that a line says can come to the network
+abbrev pub EventsCanCome : Type 0
+EventsCanCome = (cfg : NetCfg) (line : List ℕ) (e : Event) → event_read cfg line ≡ Ok e → IsEventOf cfg e

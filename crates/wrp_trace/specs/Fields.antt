@@ -6,15 +6,11 @@ use Rattle.wrp_base.specs.declared.link.Module.{Module}
 use Rattle.wrp_base.specs.declared.time.Raw.{Raw}
 use Rattle.wrp_base.specs.declared.time.Stamp.{Stamp}
 use Rattle.wrp_caldb.specs.Name.{same_name}
+use Rattle.wrp_fields.specs.Fields.{number_at}
+use Rattle.wrp_fields.specs.Reading.{field_of, ◌>>=◌, number_or_fault, name_or_fault}
 use Rattle.wrp_trace.specs.Digits.{frame_of, bits_of}
-use Rattle.wrp_trace.specs.Numbers.{natural_in, time_of}
-use Rattle.wrp_trace.specs.Reading.{field_of, ◌>>=◌, number_or_fault, name_or_fault}
+use Rattle.wrp_trace.specs.Times.{time_of}
 use Rattle.wrp_trace.specs.Site.{Site, has_port, named_at}
-
--- the number from least to greatest in the field of a place
-abbrev pub number_at : ℕ → ℕ → ℕ → List (List ℕ) → Result ℕ TraceFault
-number_at least greatest place fields =
-    number_or_fault place (natural_in least greatest (field_of place fields))
 
 -- a number of 16 bits
 abbrev pub short_at : ℕ → List (List ℕ) → Result ℕ TraceFault

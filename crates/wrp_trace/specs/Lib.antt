@@ -9,8 +9,8 @@ pub mod Fields
 pub mod InputAt
 pub mod Inputs
 pub mod Kinds
-pub mod Numbers
 pub mod Printing
 pub mod Reading
 pub mod Site
 pub mod Swaps
+pub mod Times

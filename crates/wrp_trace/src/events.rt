@@ -6,7 +6,7 @@ ghost use Rattle.wrp_trace.specs.Changes.{said_of};
 ghost use Rattle.wrp_trace.specs.EventAt.{IsSaid};
 ghost use Rattle.wrp_trace.specs.EventKinds.{may_have};
 ghost use Rattle.wrp_trace.specs.Events.{pass_with, pass_of, tick_of, sample_of, depart_of, arrive_of, deliver_of, noise_of, down_of, up_of, cut_of, join_of, fields_of_kind, event_of, event_read, told};
-ghost use Rattle.wrp_trace.specs.Reading.{IsReading};
+ghost use Rattle.wrp_fields.specs.Reading.{IsReading};
 ghost use Rattle.wrp_world.specs.EventAt.{IsEventOf};
 
 mod changes;
@@ -16,11 +16,10 @@ mod names;
 mod printing;
 mod swaps;
 
-use crate::fields::{bits_at, field, long_at, octets_at, raw_from, short_at, step_at, time_at};
-use crate::inputs::{is_plain_line, split};
+use crate::fields::{bits_at, long_at, octets_at, raw_from, short_at, step_at, time_at};
 use changes::{Said, changes_at};
 use csv::ByteRecord;
-use fields::{delay_at, link_at, node_at, offset_at, span_at};
+use fields::{delay_at, offset_at, span_at};
 pub use kinds::EventKind;
 use kinds::kind_of;
 pub use printing::event_line;
@@ -28,6 +27,7 @@ use std::alloc::Global;
 use swaps::swaps_at;
 use wrp_base::{NetCfg, TraceFault};
 use wrp_config::Network;
+use wrp_fields::{field, is_plain, link_at, node_at, split};
 use wrp_world::Event;
 
 // The place of the first field.
@@ -38,7 +38,7 @@ pub fn read_event(alloc: Global, line: &[u8], net: &Network) -> Result<Event, Tr
     ensures value { IsReading (event_read net.now.cfg line.now) (told result) }
     ensures event { IfOk result (IsEventOf net.now.cfg) }
 {
-    if !is_plain_line(line) {
+    if !is_plain(line) {
         return Err(TraceFault::Fields);
     }
     let mut row = ByteRecord::new(alloc);

@@ -1,20 +1,19 @@
 //! The fields of a line, by their places from 1: what each says, or its fault.
 ghost use Rattle.std.specs.Prelude.{◌≡◌, ◌<◌, ◌≤◌, ◌^◌, IfOk, true};
 ghost use Rattle.csv.specs.Records.{fields_of};
-ghost use Rattle.wrp_base.specs.declared.fault.TraceFault.TheVariants.{Number, Name};
-ghost use Rattle.wrp_trace.specs.Reading.{field_of};
-ghost use Rattle.wrp_trace.specs.Fields.{number_at, short_at, long_at, step_at, counter_at, bits_at, octets_at, time_at, raw_from, stamp_from, port_at, message_at, module_at};
+ghost use Rattle.wrp_trace.specs.Fields.{short_at, long_at, step_at, counter_at, bits_at, octets_at, time_at, raw_from, stamp_from, port_at, message_at, module_at};
 ghost use Rattle.wrp_trace.specs.InputAt.{IsListed};
 ghost use Rattle.wrp_trace.specs.Site.{site_of, has_port};
 ghost use Rattle.wrp_base.specs.Network.{IsAmong};
 ghost use Rattle.wrp_world.specs.EventAt.{IsRaw, IsTime};
 
 use crate::digits::{bits, octets};
-use crate::numbers::{natural, time};
 use crate::site::{has_port, named_at};
+use crate::times::time;
 use csv::ByteRecord;
 use wrp_base::{Frame, Module, Raw, Stamp, Tau, TraceFault};
 use wrp_config::Network;
+use wrp_fields::{field, name_fault, number_at, number_fault};
 
 // The greatest number of 16 bits.
 const MOST_SHORT: u64 = u16::MAX as u64;
@@ -27,44 +26,6 @@ const LAST_STEP: u64 = 16_383;
 
 // The greatest count of periods.
 const MOST_COUNT: u64 = (1 << 63) - 1;
-
-/// The field of a place; no octets where the line has none there.
-pub fn field(row: &ByteRecord, place: u32) -> &[u8]
-    requires { 0 < place }
-    ensures { result.now ≡ field_of place (fields_of row.now) }
-{
-    match row.get(place as usize - 1) {
-        Some(field) => field,
-        None => &[],
-    }
-}
-
-/// A field is no number, or out of its range.
-pub fn number_fault(place: u32) -> TraceFault
-    requires { 0 < place }
-    ensures { result ≡ Number place }
-{
-    TraceFault::Number { field: place }
-}
-
-/// A field is no known name.
-pub fn name_fault(place: u32) -> TraceFault
-    ensures { result ≡ Name place }
-{
-    TraceFault::Name { field: place }
-}
-
-// The number from `least` to `greatest` in the field of a place.
-fn number_at(row: &ByteRecord, place: u32, least: u64, greatest: u64) -> Result<u64, TraceFault>
-    requires { 0 < place }
-    ensures value { result ≡ number_at least greatest place (fields_of row.now) }
-    ensures range { IfOk result (IsAmong least greatest) }
-{
-    match natural(field(row, place), least, greatest) {
-        Some(number) => Ok(number),
-        None => Err(number_fault(place)),
-    }
-}
 
 /// A number of 16 bits.
 pub fn short_at(row: &ByteRecord, place: u32) -> Result<u16, TraceFault>

@@ -1,23 +1,22 @@
 //! Input lines: what a node is handed, read from a line.
-ghost use Rattle.std.specs.Prelude.{◌≡◌, IfOk, OnOk, true, false};
+ghost use Rattle.std.specs.Prelude.{◌≡◌, IfOk, true, false};
 ghost use Rattle.csv.specs.Records.{fields_of};
-ghost use Rattle.wrp_base.specs.Lines.{parts_of};
 ghost use Rattle.wrp_trace.specs.Inputs.{sample_of, frame_of, sent_of, up_of, down_of, fields_of_kind, input_of, read_of};
 ghost use Rattle.wrp_trace.specs.InputAt.{IsInputAt};
 ghost use Rattle.wrp_trace.specs.Kinds.{has_kind};
-ghost use Rattle.wrp_trace.specs.Reading.{IsReading, is_plain};
+ghost use Rattle.wrp_fields.specs.Reading.{IsReading};
 ghost use Rattle.wrp_trace.specs.Site.{site_of, is_grandmaster};
 
 use crate::fields::{
-    bits_at, field, long_at, message_at, module_at, octets_at, port_at, raw_from, short_at,
-    stamp_from, step_at,
+    bits_at, long_at, message_at, module_at, octets_at, port_at, raw_from, short_at, stamp_from,
+    step_at,
 };
 use crate::kinds::{InputKind, kind_of};
 use csv::ByteRecord;
-use std::alloc::{AllocError, Global};
+use std::alloc::Global;
 use wrp_base::TraceFault;
 use wrp_config::Network;
-use wrp_fields::{Block, is_plain};
+use wrp_fields::{field, is_plain, split};
 use wrp_node::Input;
 
 // The place of the first field.
@@ -130,29 +129,12 @@ fn down(row: &ByteRecord, net: &Network, node: u8) -> Result<Input, TraceFault>
     })
 }
 
-/// Whether a line has octets, each below 128, and among them no quotation mark, CR or LF.
-pub fn is_plain_line(line: &[u8]) -> bool
-    ensures { result ≡ is_plain line.now }
-{
-    is_plain(line)
-}
-
-/// Puts the parts of a plain line into `row`.
-#[tactic(auto, using(crate::proofs::PlainLemmas::line_is, crate::proofs::PlainLemmas::starts_plain))]
-pub fn split(alloc: Global, line: &[u8], row: &mut ByteRecord) -> Result<(), AllocError>
-    requires { is_plain line.now ≡ true }
-    ensures { OnOk result (fields_of row.new ≡ parts_of line.now) }
-{
-    let _found = Block::new(alloc, line).next(row)?;
-    Ok(())
-}
-
 /// What a line says to a node.
 pub fn read_input(alloc: Global, line: &[u8], net: &Network, node: u8) -> Result<Input, TraceFault>
     ensures value { IsReading (read_of (site_of net.now node) line.now) result }
     ensures input { IfOk result (IsInputAt (site_of net.now node)) }
 {
-    if !is_plain_line(line) {
+    if !is_plain(line) {
         return Err(TraceFault::Fields);
     }
     let mut row = ByteRecord::new(alloc);

@@ -7,12 +7,14 @@ mod events;
 mod fields;
 mod inputs;
 mod kinds;
-mod numbers;
+mod laws;
 mod printing;
 mod site;
+mod times;
 
 pub use events::{EventKind, event_line, read_event, read_event_fields};
 pub use inputs::{read_input, read_input_fields};
 pub use kinds::InputKind;
+pub use laws::events_can_come;
 pub use printing::{append_input_line, input_line};
 pub use wrp_base::TraceFault;

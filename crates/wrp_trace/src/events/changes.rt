@@ -4,15 +4,14 @@ ghost use Rattle.csv.specs.Records.{fields_of};
 ghost use Rattle.wrp_base.specs.Network.{node_count};
 ghost use Rattle.wrp_trace.specs.Changes.{nothing_said, change_in, move_in, is_said, said_once, with_drift, with_move, drift_said, move_said, change_said, changes_said, said_count, all_drifts, all_moves, said_of, outcome, reading};
 ghost use Rattle.wrp_trace.specs.EventAt.{IsSaid};
-ghost use Rattle.wrp_trace.specs.Reading.{field_of};
+ghost use Rattle.wrp_fields.specs.Reading.{field_of};
 ghost use Rattle.wrp_world.specs.EventAt.{link_count, IsChange, IsMove};
 
-use super::names::{link_named, node_named, parts_at};
-use crate::fields::{field, name_fault, number_fault};
-use crate::numbers::number;
+use super::names::parts_at;
 use arrayvec::ArrayVec;
 use csv::ByteRecord;
 use wrp_base::{LinkCfg, NetCfg, NodeCfg, TraceFault};
+use wrp_fields::{field, link_named, name_fault, node_named, number, number_fault};
 
 // The greatest change, in tau: 2^63 - 1.
 const MOST_CHANGE: i128 = (1 << 63) - 1;

@@ -7,11 +7,10 @@ ghost use Rattle.wrp_trace.specs.Swaps.{new_port, own_port, module_name, true_de
 ghost use Rattle.wrp_world.specs.EventAt.{IsSwap, AreSwaps};
 
 use super::names::{name_in, parts_at};
-use crate::fields::{field, name_fault, number_fault};
-use crate::numbers::natural;
 use arrayvec::ArrayVec;
 use csv::ByteRecord;
 use wrp_base::{Name, TraceFault};
+use wrp_fields::{field, name_fault, natural, number_fault};
 use wrp_world::Swap;
 
 /// The swaps of an `up`.

@@ -1,7 +1,7 @@
 use Rattle.std.proofs.Common.{◌∙◌, ◌∷◌, ◌++◌, [], ℕ, List, Some, Bor}
 use Rattle.csv.specs.Records.{fields_of}
 use Rattle.wrp_base.specs.Lines.{parts_of}
-use Rattle.wrp_fields.proofs.Split.{first_line, last_line, no_line, return_line}
+use Rattle.wrp_fields.proofs.Splitting.{first_line, last_line, no_line, return_line}
 use Rattle.csv.specs.declared.parser.State.TheVariants as st
 use Rattle.wrp_fields.proofs.ReadFacts.{standing, reads_line, reads_end}
 use Rattle.wrp_fields.proofs.block.Block.read.Goals as goal

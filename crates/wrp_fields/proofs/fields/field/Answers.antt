@@ -1,0 +1,12 @@
+-- The field that csv has at that place, or no octets.
+use Rattle.std.proofs.Common.{Some, None}
+use Rattle.csv.specs.Records.{fields_of}
+use Rattle.wrp_fields.proofs.FieldLemmas.{field_is}
+use Rattle.wrp_fields.proofs.fields.field.Goals as goal
+
+pub returns-in-Some : goal.returns-in-Some
+returns-in-Some c =
+    field_is (fields_of c.args.row.now) c.args.place (Some c.in-Some.field.now) c.in-Some.ensures.value
+
+pub returns-in-None : goal.returns-in-None
+returns-in-None c = field_is (fields_of c.args.row.now) c.args.place None c.in-None.ensures.value

@@ -1,0 +1,104 @@
+//! Numbers in a line.
+ghost use Rattle.std.specs.Prelude.{◌≡◌, ◌-◌, ◌^◌, ◌<◌, ◌≤◌, ◌≤ℤ◌, min, IfSome, option_map, option_and_then, pos, neg_ℤ, unsigned_abs};
+ghost use Rattle.std.specs.List.{list_all};
+ghost use Rattle.std.specs.Char.{is_ascii_digit};
+ghost use Rattle.wrp_fields.specs.Numbers.{value_of, are_digits, digits_of, number_in, natural_in, kept_in};
+
+// The most digits that a number may have.
+const MOST_DIGITS: usize = 39;
+
+// The greatest i128.
+const MOST_SIZE: u128 = (1 << 127) - 1;
+
+/// The number from `least` to `greatest` that a text writes: an optional `-`, then 1 to 39 digits.
+/// None where it is no number, or out of that range.
+pub fn number(text: &[u8], least: i128, greatest: i128) -> Option<i128>
+    requires least { unsigned_abs least < 2 ^ 127 - 1 }
+    requires greatest { unsigned_abs greatest < 2 ^ 127 - 1 }
+    ensures value { result ≡ number_in least greatest text.now }
+    ensures range { IfSome result (λ z. (least ≤ℤ z) × (z ≤ℤ greatest)) }
+{
+    match text {
+        [b'-', digits @ ..] => below_zero(digits, least, greatest),
+        digits => kept(size(digits)?, least, greatest),
+    }
+}
+
+// The number that `-` and some digits write, where it is from `least` to `greatest`.
+#[tactic(auto, using(crate::proofs::HeldNumbers::opposite_kept))]
+fn below_zero(digits: &[u8], least: i128, greatest: i128) -> Option<i128>
+    requires least { unsigned_abs least < 2 ^ 127 - 1 }
+    ensures value { result ≡ option_and_then (kept_in least greatest)
+        (option_map (λ n. neg_ℤ (pos n)) (digits_of digits.now)) }
+    ensures range { IfSome result (λ z. (least ≤ℤ z) × (z ≤ℤ greatest)) }
+{
+    kept(opposite(size(digits)?), least, greatest)
+}
+
+// `-number`.
+fn opposite(number: i128) -> i128
+    requires { unsigned_abs number < 2 ^ 127 }
+    ensures { result ≡ neg_ℤ number }
+{
+    -number
+}
+
+/// The number from `least` to `greatest` that a text writes, where both are from 0 on.
+pub fn natural(text: &[u8], least: u64, greatest: u64) -> Option<u64>
+    ensures value { result ≡ natural_in least greatest text.now }
+    ensures range { IfSome result (λ n. (least ≤ n) × (n ≤ greatest)) }
+{
+    let number = number(text, i128::from(least), i128::from(greatest))?;
+    Some(number.unsigned_abs() as u64)
+}
+
+// The number, where it is from `least` to `greatest`.
+fn kept(number: i128, least: i128, greatest: i128) -> Option<i128>
+    ensures value { result ≡ kept_in least greatest number }
+    ensures range { IfSome result (λ z. (least ≤ℤ z) × (z ≤ℤ greatest)) }
+{
+    if least <= number && number <= greatest {
+        Some(number)
+    } else {
+        None
+    }
+}
+
+// The number of 1 to 39 digits, held at the greatest i128.
+fn size(digits: &[u8]) -> Option<i128>
+    ensures value { result ≡ option_map (λ n. pos (min n (2 ^ 127 - 1))) (digits_of digits.now) }
+    ensures range { IfSome result (λ z. unsigned_abs z < 2 ^ 127) }
+{
+    if are_digits(digits) {
+        Some(value(digits).min(MOST_SIZE) as i128)
+    } else {
+        None
+    }
+}
+
+// Whether octets are 1 to 39 digits.
+fn are_digits(octets: &[u8]) -> bool
+    ensures { result ≡ are_digits octets.now }
+{
+    1 <= octets.len() && octets.len() <= MOST_DIGITS && all_digits(octets)
+}
+
+// Whether all octets are digits.
+fn all_digits(octets: &[u8]) -> bool
+    ensures { result ≡ list_all is_ascii_digit octets.now }
+{
+    octets.iter().all(|octet| octet.is_ascii_digit())
+}
+
+// The value of some digits, held at the greatest u128.
+fn value(digits: &[u8]) -> u128
+    ensures { result ≡ min (value_of digits.now) (2 ^ 128 - 1) }
+{
+    let mut value = 0u128;
+    for digit in digits {
+        value = value
+            .saturating_mul(10)
+            .saturating_add(u128::from(digit.saturating_sub(b'0')));
+    }
+    value
+}
