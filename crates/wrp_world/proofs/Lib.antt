@@ -9,6 +9,8 @@ pub mod NewPlants
 pub mod NewWorlds
 pub mod NextArrivals
 pub mod NextDue
+pub mod OnFibre
+pub mod Overtaken
 mod Rows
 pub mod SignedReads
 pub mod Sizing
@@ -67,3 +69,6 @@ pub mod WorldSteps
 pub mod InRuns
 pub mod RunStamps
 pub mod RunsOn
+pub mod WordReports
+pub mod EarnedReports
+pub mod DroppedFrames

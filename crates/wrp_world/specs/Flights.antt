@@ -28,6 +28,15 @@ overtaken j from reception i d =
 abbrev pub Arrives : (j : ℕ) → Place → Reception → ℕ → (old new : Departed) → Type 0
 Arrives j from reception k old new = new ≡ overtaken j from reception (suc k) old
 
+-- a frame from this end with a lower number than j is lost where it is on the fibre
+abbrev pub Overtakes : (j : ℕ) → Place → ℕ → (old new : Departed) → Type 0
+Overtakes j from k old new =
+    new ≡ record old { gone = old.gone || (is_on old && (nat_lt (suc k) j && ((old.link == from.link) && is_role old.by from.role))) }
+
+-- frame j has this arrival, and another is as it was
+abbrev pub Receives : (j : ℕ) → Reception → ℕ → (old new : Departed) → Type 0
+Receives j reception k old new = new ≡ (if suc k == j then record old { arrival = Some reception } else old)
+
 -- A departure
 
 -- the oldest that waits at an end is taken away

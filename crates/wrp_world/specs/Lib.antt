@@ -1,6 +1,8 @@
 pub mod Begins
 pub mod Changes
 pub mod Checks
+pub mod Dropped
+pub mod Earned
 pub mod EventAt
 pub mod FitsGifts
 pub mod Flights
@@ -14,6 +16,7 @@ pub mod LinkEnds
 pub mod Moved
 pub mod Moves
 pub mod New
+pub mod OnFibre
 pub mod Plant
 pub mod PlantTold
 pub mod Premises

@@ -1,10 +1,12 @@
 //! The frames of a world that departed, found by their numbers.
 ghost use Rattle.std.specs.Prelude.{◌≡◌, ◌<◌, ◌^◌, [], length, None, option_map};
-ghost use Rattle.wrp_world.specs.Plant.{frame_numbered, next_from, is_on, sooner, before};
+ghost use Rattle.wrp_world.specs.Plant.{frame_numbered, is_on, next_from};
 
 mod flights;
 mod moves;
+mod on_fibre;
 
+use on_fibre::next_due;
 use std::alloc::Global;
 use std::marker::Model;
 use wrp_base::{Frame, Raw, Role, Tau};
@@ -49,7 +51,10 @@ impl Departed {
 /// The frames that departed, numbered from 1 in the order of their departures.
 #[derive(Debug, Drop)]
 pub struct Frames {
+    // All of them.
     list: Vec<Departed>,
+    // The places in the list of those on a fibre, ascending: the others change no more.
+    on_fibre: Vec<usize>,
 }
 
 impl Model for Frames {
@@ -58,7 +63,11 @@ impl Model for Frames {
 
     ghost Value = { List Departed };
 
+    ghost use Rattle.wrp_world.specs.OnFibre.{ListsOn};
+
     ghost view = { λ f. f.list.items };
+
+    ghost invariant = { λ f. ListsOn 0 f.list.items f.on_fibre.items };
 }
 
 impl Frames {
@@ -68,6 +77,7 @@ impl Frames {
     {
         Frames {
             list: Vec::new(alloc),
+            on_fibre: Vec::new(alloc),
         }
     }
 
@@ -95,38 +105,6 @@ impl Frames {
         requires { length self.now < 2 ^ 32 }
         ensures { result ≡ next_from 1 self.now None }
     {
-        let mut next: Option<(u32, Tau)> = None;
-        let mut number: u32 = 0;
-        for frame in &self.list {
-            number += 1;
-            next = sooner(next, number, frame);
-        }
-        next
-    }
-}
-
-// The sooner one: of the frame that is due first so far, and of the next one.
-fn sooner(next: Option<(u32, Tau)>, number: u32, frame: &Departed) -> Option<(u32, Tau)>
-    ensures { result ≡ sooner next number frame.now }
-{
-    if frame.is_on() {
-        before(next, number, frame.due)
-    } else {
-        next
-    }
-}
-
-fn before(next: Option<(u32, Tau)>, number: u32, due: Tau) -> Option<(u32, Tau)>
-    ensures { result ≡ before next number due }
-{
-    match next {
-        None => Some((number, due)),
-        Some(first) => {
-            if due < first.1 {
-                Some((number, due))
-            } else {
-                Some(first)
-            }
-        }
+        next_due(&self.list, &self.on_fibre)
     }
 }

@@ -23,7 +23,8 @@ pub use laws::{
 };
 pub use outcome::{NodeOut, Refused};
 pub use run_laws::{
-    frames_are_stamped, frames_have_times, frames_were_put_out, link_on_in_the_same_handshake,
-    modules_stay, ticks_are_apart, time_never_falls, worlds_are_in_runs,
+    dropped_frames_leave_a_count, frames_are_stamped, frames_have_times, frames_were_put_out,
+    link_on_in_the_same_handshake, modules_stay, reported_link_on_is_earned, ticks_are_apart,
+    time_never_falls, worlds_are_in_runs,
 };
 pub use world::World;

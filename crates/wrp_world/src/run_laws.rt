@@ -1,5 +1,7 @@
 //! Laws of every run of an accepted network: functions whose contracts are the laws, and whose bodies call
 //! the laws that they stand on.
+ghost use Rattle.wrp_world.specs.Dropped.{DroppedFramesLeaveACount};
+ghost use Rattle.wrp_world.specs.Earned.{LinkOnIsEarned, ReportsAreTrue};
 ghost use Rattle.wrp_world.specs.InRun.{NewIsInRun, StepAddsToRun};
 ghost use Rattle.wrp_world.specs.RunLaws.{FramesHaveTimes, FramesWerePutOut, ModulesStay, TicksAreApart};
 ghost use Rattle.wrp_world.specs.RunLaws.{TimeNeverFalls};
@@ -10,7 +12,9 @@ ghost use Rattle.wrp_world.specs.SameHandshake.{LinkOnInTheSameHandshake, LinkOn
 use crate::laws::arrival_keeps_stamp_bound;
 use wrp_config::child_is_deeper;
 use wrp_handshake::{carrier_with_its_module, on_in_the_same_handshake, on_with_the_deltas};
-use wrp_node::{ends_are_set, signals_are_of_link, step_gives_links};
+use wrp_node::{
+    dropped_leaves_a_count, ends_are_set, signals_are_of_link, step_gives_links, step_settles,
+};
 
 /// Each link is one that can be, as the laws of one link by itself have it; and so, after every event of
 /// every run, whatever frames are lost, late, repeated or of an earlier carrier, whatever octets come
@@ -36,6 +40,27 @@ pub fn link_on_in_the_same_handshake()
     on_in_the_same_handshake();
     on_with_the_deltas();
     carrier_with_its_module();
+}
+
+/// Each port in WR_LINK_ON has earned it, after every event of every run: its peer passed the required
+/// steps of that same handshake, and a slave knows the deltas of the modules that are in place. And
+/// whatever port a node reports to be in WR_LINK_ON in an event is there after it, and has earned it.
+pub fn reported_link_on_is_earned()
+    ensures earned { LinkOnIsEarned }
+    ensures reports { ReportsAreTrue }
+{
+    step_gives_links();
+    link_on_in_the_same_handshake();
+}
+
+/// A frame that a node drops for one of the reasons 1 to 12, as no message or as a foreign one, raises
+/// one counter of that node. In the event that hands it over nothing else changes, of no node and of
+/// nothing between the nodes, and nothing is put out.
+pub fn dropped_frames_leave_a_count()
+    ensures { DroppedFramesLeaveACount }
+{
+    dropped_leaves_a_count();
+    step_settles();
 }
 
 /// True time never falls.

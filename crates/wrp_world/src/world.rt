@@ -6,6 +6,7 @@ mod rates;
 mod step;
 mod views;
 
+use crate::NodeOut;
 use crate::plant::Plant;
 use std::marker::Model;
 use wrp_node::Node;
@@ -16,6 +17,8 @@ use wrp_node::Node;
 pub struct World<F> {
     plant: Plant,
     nodes: Vec<Node<F>>,
+    // Entries of steps that are used again: they hold nothing of use.
+    aside: Vec<NodeOut>,
 }
 
 impl<F> Model for World<F> {

@@ -17,7 +17,12 @@ use std::alloc::AllocError;
 impl Plant {
     /// An accepted event begins: its inputs are listed, and memory is taken for all that comes of
     /// them. Then it changes the plant by itself. Where memory could not be had, nothing changes.
-    pub fn begin(&mut self, event: &Event, outs: &mut Vec<NodeOut>) -> Result<(), AllocError>
+    pub fn begin(
+        &mut self,
+        event: &Event,
+        outs: &mut Vec<NodeOut>,
+        aside: &mut Vec<NodeOut>,
+    ) -> Result<(), AllocError>
         requires fits { FitsPlant self.old }
         requires event { IsEventOf self.old.net.cfg event.now }
         requires few { self.old.events + 1 < 2 ^ 32 }
@@ -33,7 +38,7 @@ impl Plant {
         ensures fits { FitsPlant self.new }
         ensures net { self.new.net ≡ self.old.net }
     {
-        self.give(event, outs)?;
+        self.give(event, outs, aside)?;
         self.reserve(outs.len() as u8)?;
         self.change(event)?;
         Ok(())

@@ -47,48 +47,64 @@ impl Plant {
     }
 
     // The input of an event that gives one at most, listed alone.
-    fn list(&self, gift: Option<Gift>, outs: &mut Vec<NodeOut>) -> Result<(), AllocError>
+    fn list(
+        &self,
+        gift: Option<Gift>,
+        outs: &mut Vec<NodeOut>,
+        aside: &mut Vec<NodeOut>,
+    ) -> Result<(), AllocError>
         ensures { OnOk result ((e : EventAt) → Gives self.now e (entries_of gift)
             → Gives self.now e outs.new.items) }
     {
-        put(outs, gift)
+        put(outs, aside, gift)
     }
 
     // What an event gives.
-    fn give_by(&self, event: &Event, outs: &mut Vec<NodeOut>) -> Result<(), AllocError>
+    fn give_by(
+        &self,
+        event: &Event,
+        outs: &mut Vec<NodeOut>,
+        aside: &mut Vec<NodeOut>,
+    ) -> Result<(), AllocError>
         requires fits { FitsPlant self.now }
         requires event { IsEventOf self.now.net.cfg event.now }
         requires few { self.now.events + 1 < 2 ^ 32 }
         ensures { OnOk result (Gives self.now event.now outs.new.items) }
     {
         match event {
-            Event::Tick { node } => self.list(self.gift_of_tick(*node), outs),
+            Event::Tick { node } => self.list(self.gift_of_tick(*node), outs, aside),
             Event::Sample { node, base, bits } => {
-                self.list(self.gift_of_sample(*node, *base, *bits), outs)
+                self.list(self.gift_of_sample(*node, *base, *bits), outs, aside)
             }
             Event::Depart { node, port, stamp } => {
-                self.list(self.gift_of_departure(*node, *port, *stamp), outs)
+                self.list(self.gift_of_departure(*node, *port, *stamp), outs, aside)
             }
-            Event::Deliver { frame } => self.list(self.gift_of_frame(*frame), outs),
+            Event::Deliver { frame } => self.list(self.gift_of_frame(*frame), outs, aside),
             Event::Noise {
                 node,
                 port,
                 bytes,
                 raw,
-            } => self.list(self.gift_of_noise(*node, *port, bytes, *raw), outs),
+            } => self.list(self.gift_of_noise(*node, *port, bytes, *raw), outs, aside),
             Event::Down { node } => self.give_down(*node, outs),
             Event::Up { node, swaps, .. } => self.give_up(*node, swaps, outs),
             Event::Cut { link } => self.give_cut(*link, outs),
             Event::Join { link, .. } => self.give_join(*link, outs),
-            Event::Pass { .. } => self.list(None, outs),
-            Event::Arrive { .. } => self.list(None, outs),
+            Event::Pass { .. } => self.list(None, outs, aside),
+            Event::Arrive { .. } => self.list(None, outs, aside),
         }
     }
 
     /// The inputs that an event gives to the nodes, in their order, are put into `outs` in place of
     /// what stood there: at most 37. They are computed before the event changes anything. What the
-    /// entries' outputs hold is not said, nor what is listed where memory could not be had.
-    pub fn give(&self, event: &Event, outs: &mut Vec<NodeOut>) -> Result<(), AllocError>
+    /// entries' outputs hold is not said, nor what is listed where memory could not be had, nor what
+    /// is laid aside.
+    pub fn give(
+        &self,
+        event: &Event,
+        outs: &mut Vec<NodeOut>,
+        aside: &mut Vec<NodeOut>,
+    ) -> Result<(), AllocError>
         requires fits { FitsPlant self.now }
         requires event { IsEventOf self.now.net.cfg event.now }
         requires few { self.now.events + 1 < 2 ^ 32 }
@@ -99,6 +115,6 @@ impl Plant {
         ensures inputs { OnOk result (AllByRecursion (FitsGift self.now.net.cfg) outs.new.items) }
         ensures few { OnOk result (length outs.new.items ≤ 37) }
     {
-        self.give_by(event, outs)
+        self.give_by(event, outs, aside)
     }
 }

@@ -38,9 +38,14 @@ impl<F: Fn(i64) -> i64> World<F> {
         ensures net { IfOk result (λ world. world.plant.net ≡ net) }
         ensures laws { IfOk result (HasLaws laws.items) }
     {
+        let aside = Vec::new(alloc);
         let nodes = new_nodes(alloc, &net, laws)?;
         let plant = Plant::new(alloc, net)?;
-        Ok(World { plant, nodes })
+        Ok(World {
+            plant,
+            nodes,
+            aside,
+        })
     }
 }
 

@@ -36,7 +36,7 @@ impl<F: Fn(i64) -> i64> World<F> {
             return Err(refused(breach));
         }
         let put = self.plant.put_out_at(event);
-        self.plant.begin(event, outs)?;
+        self.plant.begin(event, outs, &mut self.aside)?;
         self.give_all(put, outs);
         Ok(())
     }

@@ -4,6 +4,7 @@ ghost use Rattle.wrp_world.specs.Giving.{IsListed, IsListedAlone, listed};
 
 use crate::outcome::NodeOut;
 use std::alloc::AllocError;
+use std::mem::swap;
 use wrp_node::{Input, Outputs};
 
 /// An input of a node.
@@ -48,14 +49,39 @@ fn put_one(outs: &mut Vec<NodeOut>, gift: Gift) -> Result<(), AllocError>
     }
 }
 
-/// An input is listed alone, or none.
-pub fn put(outs: &mut Vec<NodeOut>, gift: Option<Gift>) -> Result<(), AllocError>
+// Where no entry stands there, those that were laid aside do.
+fn take_up(outs: &mut Vec<NodeOut>, aside: &mut Vec<NodeOut>) {
+    if outs.is_empty() {
+        swap(outs, aside);
+    }
+}
+
+// The entries that stand there are laid aside.
+fn lay_aside(outs: &mut Vec<NodeOut>, aside: &mut Vec<NodeOut>)
+    ensures { outs.new.items ≡ [] }
+{
+    if !outs.is_empty() {
+        swap(outs, aside);
+    }
+    outs.clear();
+}
+
+/// An input is listed alone, or none. Entries take much room: those that are not used now are laid
+/// aside, and used again.
+pub fn put(
+    outs: &mut Vec<NodeOut>,
+    aside: &mut Vec<NodeOut>,
+    gift: Option<Gift>,
+) -> Result<(), AllocError>
     ensures { OnOk result (IsListed gift outs.new.items) }
 {
     match gift {
-        Some(gift) => put_one(outs, gift),
+        Some(gift) => {
+            take_up(outs, aside);
+            put_one(outs, gift)
+        }
         None => {
-            outs.clear();
+            lay_aside(outs, aside);
             Ok(())
         }
     }
