@@ -1,14 +1,18 @@
 //! Worlds of two nodes beside lists of events whose outcomes are worked out by hand.
 mod acts;
 mod beats;
+mod courses;
 mod driver;
 mod fitting;
 mod flights;
 mod gifts;
+mod handshakes;
 mod networks;
 mod numbers;
 mod rows;
+mod three;
 mod trial;
+mod worked;
 
 ghost use Rattle.std.specs.Prelude.{◌≡◌, ◌≤◌, ◌^◌, length, unsigned_abs, IfOk, IsTrue};
 ghost use Rattle.wrp_base.specs.Network.{node_count};

@@ -1,4 +1,4 @@
-//! Which events can come to a network of two nodes.
+//! Which events can come to a network of two or three nodes.
 ghost use Rattle.std.specs.Prelude.{◌≡◌, IsTrue, true};
 ghost use Rattle.std.specs.List.{AllByRecursion};
 ghost use Rattle.wrp_base.specs.Network.{IsFromTo};
@@ -9,22 +9,31 @@ use wrp_base::{Name, NetCfg, Raw, Tau};
 use wrp_caldb::is_name;
 use wrp_world::{Event, Swap};
 
-// The drifts of two nodes.
+// The drifts of two or three nodes.
 fn are_drifts(drifts: &[i64]) -> bool
     ensures { IsTrue result → AllByRecursion IsChange drifts.now }
 {
     match drifts {
         [gm, sw1] => *gm != i64::MIN && *sw1 != i64::MIN,
+        [gm, sw1, leaf] => *gm != i64::MIN && *sw1 != i64::MIN && *leaf != i64::MIN,
         _ => false,
     }
 }
 
-// The moves of one link.
+// Whether the moves of a link can come.
+fn is_move(by: (i64, i64)) -> bool
+    ensures { IsTrue result → IsMove by }
+{
+    by.0 != i64::MIN && by.1 != i64::MIN
+}
+
+// The moves of one link or two.
 fn are_moves(moves: &[(i64, i64)]) -> bool
     ensures { IsTrue result → AllByRecursion IsMove moves.now }
 {
     match moves {
-        [by] => by.0 != i64::MIN && by.1 != i64::MIN,
+        [by] => is_move(*by),
+        [first, second] => is_move(*first) && is_move(*second),
         _ => false,
     }
 }
@@ -73,8 +82,8 @@ fn are_swaps(swaps: &[Swap]) -> bool
     }
 }
 
-/// Whether an event can come to a network of two nodes; no is answered too where it puts more than one
-/// module in place.
+/// Whether an event can come to a network of two or three nodes; no is answered too where it puts more
+/// than one module in place.
 pub fn can_come(cfg: &NetCfg, event: &Event) -> bool
     ensures { IsTrue result → IsEventOf cfg.now event.now }
 {

@@ -41,3 +41,53 @@ pub const EACH_TICK: &str = "\
 
 /// The asymmetry of its fibre.
 pub const KAPPA: i64 = 73_622_176;
+
+/// A grandmaster `gm`, a switch `sw1` below it and a node `leaf` below that, whose links are soon on: a
+/// frame lives 20 ms, quiet time is 6 ticks, an Announce is sent each 5 ticks, and 5 good samples lock.
+pub const THREE_NODES: &str = "\
+    [network]\n\
+    life_ns = 20000000\n\
+    quiet = 6\n\
+    announce = 5\n\
+    holdoff = 10\n\
+    lock_samples = 5\n\
+    delock_samples = 4\n\
+    [[node]]\n\
+    name = \"gm\"\n\
+    identity = \"001bc5fffe000001\"\n\
+    [[node]]\n\
+    name = \"sw1\"\n\
+    identity = \"001bc5fffe000002\"\n\
+    [[node]]\n\
+    name = \"leaf\"\n\
+    identity = \"001bc5fffe000003\"\n\
+    [[link]]\n\
+    name = \"f1\"\n\
+    upper = \"gm:1\"\n\
+    lower = \"sw1:1\"\n\
+    fibre = \"smf\"\n\
+    upper_module = \"blue\"\n\
+    lower_module = \"violet\"\n\
+    [[link]]\n\
+    name = \"f2\"\n\
+    upper = \"sw1:2\"\n\
+    lower = \"leaf:1\"\n\
+    fibre = \"smf\"\n\
+    upper_module = \"blue\"\n\
+    lower_module = \"violet\"\n\
+    [[module]]\n\
+    name = \"blue\"\n\
+    tx = 14745600000\n\
+    rx = 14745600000\n\
+    transition = 0\n\
+    err = 1310720\n\
+    [[module]]\n\
+    name = \"violet\"\n\
+    tx = 14811136000\n\
+    rx = 14876672000\n\
+    transition = 0\n\
+    err = 1310720\n\
+    [[fibre]]\n\
+    name = \"smf\"\n\
+    kappa = 73622176\n\
+    err = 1310720\n";

@@ -89,7 +89,8 @@ pub struct NodeSeen {
     locked: bool,
     dac: u16,
     ticks: u32,
-    counts: [u32; 15],
+    /// How often each reason was counted at its port.
+    pub counts: [u32; 15],
 }
 
 /// What is seen of a world of two nodes.
