@@ -7,7 +7,7 @@ use std::alloc::Global;
 use std::test::*;
 use wrp_base::{Frame, LinkState, LinkWord, ServoState, Tau};
 use wrp_config::Network;
-use wrp_lines::{count_line, output_line};
+use wrp_lines::{Sum, append_sum_line, count_line, output_line};
 use wrp_node::{Output, Report};
 
 // The reference network: three nodes, one below the other.
@@ -292,6 +292,50 @@ fn counts(rt: HostRuntime) -> Result<(), Fail> {
     for reason in 1..16 {
         let line = count_line(rt.alloc(), &net, leaf, 1, reason, u32::from(reason))?;
         assert_eq!(rt; line.as_slice(), lines[usize::from(reason) - 1].as_bytes());
+    }
+    Ok(())
+}
+
+// What sums up a run.
+fn sum(ticks: u32, tracks: u64, worst: u128, bound: Tau, state: ServoState) -> Sum {
+    Sum {
+        ticks,
+        tracks,
+        worst,
+        bound,
+        state,
+    }
+}
+
+#[test]
+fn sums(rt: HostRuntime) -> Result<(), Fail> {
+    let rows = [
+        (
+            "gm",
+            sum(0, 0, 0, 0, ServoState::Uninit),
+            "gm sum 0 0 0 0 uninit\n",
+        ),
+        (
+            "sw1",
+            sum(0, 0, 0, 19_629_219, ServoState::Uninit),
+            "sw1 sum 0 0 0 19629219 uninit\n",
+        ),
+        (
+            "leaf",
+            sum(
+                u32::MAX,
+                u64::MAX,
+                1 << 127,
+                44_823_245,
+                ServoState::Holdover,
+            ),
+            "leaf sum 4294967295 18446744073709551615 170141183460469231731687303715884105728 44823245 holdover\n",
+        ),
+    ];
+    for (name, sum, line) in rows {
+        let mut text = Vec::new(rt.alloc());
+        append_sum_line(rt.alloc(), name, sum, &mut text)?;
+        assert_eq!(rt; text.as_slice(), line.as_bytes());
     }
     Ok(())
 }

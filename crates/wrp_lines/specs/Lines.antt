@@ -3,6 +3,7 @@ use Rattle.std.specs.Prelude.{ℕ, ℤ, pos, List, [], ◌∷◌, ◌++◌, Opti
 use Rattle.std.specs.Fmt.{decimal, signed_decimal}
 use Rattle.hex.specs.Hex.{encode_lower}
 use Rattle.wrp_base.specs.declared.configuration.NetCfg.{NetCfg}
+use Rattle.wrp_base.specs.declared.link.ServoState.{ServoState}
 use Rattle.wrp_bounds.specs.Bounds.{path_of}
 use Rattle.wrp_node.specs.declared.interface.Output.{Output}
 use Rattle.wrp_node.specs.declared.interface.Output.TheVariants as output
@@ -64,3 +65,17 @@ count_line_of name port reason value =
 -- the line of a counter at a port of the node of this number
 abbrev pub count_line : NetCfg → ℕ → ℕ → ℕ → ℕ → List ℕ
 count_line cfg n port reason value = count_line_of (name_at cfg n) port reason value
+
+-- the line that sums up the run of the node with this name and this bound: its tick count, how many
+-- track lines it has, the greatest distance of its true offset from 0 at one of them, in tau, and the
+-- state of its servo
+abbrev pub sum_line_of : List ℕ → ℕ → ℕ → ℕ → ℤ → ServoState → List ℕ
+sum_line_of name ticks tracks worst bound state =
+    line_of
+    (name ∷ codes "sum" ∷ decimal ticks ∷ decimal tracks ∷ decimal worst ∷ signed_decimal bound
+    ∷ servo_word state ∷ [])
+
+-- the same for the node of this number: the bound is that in TRACK
+abbrev pub sum_line : NetCfg → ℕ → ℕ → ℕ → ℕ → ServoState → List ℕ
+sum_line cfg n ticks tracks worst state =
+    sum_line_of (name_at cfg n) ticks tracks worst (pos (path_of cfg n)) state

@@ -3,7 +3,10 @@
 #![tactic(auto)]
 
 mod counts;
-mod outputs;mod words;
+mod outputs;
+mod sums;
+mod words;
 
 pub use counts::{append_count_line, count_line};
 pub use outputs::{append_line, append_output_line, output_line};
+pub use sums::{Sum, append_sum_line};

@@ -183,8 +183,8 @@ fn line_of_track(
     }
 }
 
-// A time in decimal, in tau.
-fn decimal_of(alloc: Global, tau: Tau) -> Result<String, AllocError>
+/// A time in decimal, in tau.
+pub fn decimal_of(alloc: Global, tau: Tau) -> Result<String, AllocError>
     ensures { IfOk result (λ text. string_bytes text ≡ signed_decimal tau) }
 {
     format!(in alloc; "{tau}")
