@@ -1,0 +1,156 @@
+-- Lists by their places, and numbers one after another.
+use Rattle.std.proofs.Common.{◌≡◌, ◌≢◌, ◌∙◌, refl, ap, ap₂, sym, subst, ℕ, zero, suc, ◌+◌, ◌-◌, ◌<◌, ◌≤◌, ◌==◌, ℤ, Bool, true, false, if◌then◌else◌, cond, List, [], ◌∷◌, ◌++◌, map, filter, find, fold, flat_map, length, take, drop, remove, slice_set, Option, None, Some, option_map, slice_get, eqb-true, arith}
+use Rattle.std.specs.Option.{option_or}
+use Rattle.wrp_world.specs.Plant.{Each}
+use Rattle.wrp_world.specs.Setting.{from_on}
+
+pub none_some : {A : Type 0} (x : A) → None ≡ Some x → ⊥
+none_some x e = cc
+
+pub same : {A : Type 0} (x y : A) → Some x ≡ Some y → x ≡ y
+same x y e = cc
+
+pub joined : {A : Type 0} (xs ys zs : List A) → (xs ++ ys) ++ zs ≡ xs ++ (ys ++ zs)
+joined [] ys zs = refl
+joined (x ∷ xs) ys zs = ap (λ l. x ∷ l) (joined xs ys zs)
+
+nothing_more : {A : Type 0} (xs : List A) → xs ++ [] ≡ xs
+nothing_more [] = refl
+nothing_more (x ∷ xs) = ap (λ l. x ∷ l) (nothing_more xs)
+
+-- Places
+
+-- a place is set
+pub each_set : {A : Type 0} (P Q : ℕ → A → Type 0) (xs : List A) (n : ℕ) (y : A) → Each P xs → Q n y → ((m : ℕ) (x : A) → (m ≡ n → ⊥) → P m x → Q m x) →
+    Each Q (slice_set xs n y)
+each_set P Q [] n y h q f m x e = absurd (none_some x e)
+each_set P Q (z ∷ xs) zero y h q f zero x e = subst (Q 0) (same y x e) q
+each_set P Q (z ∷ xs) zero y h q f (suc m) x e = f (suc m) x (λ k. omega (arith, k)) (h (suc m) x e)
+each_set P Q (z ∷ xs) (suc n) y h q f zero x e = f 0 x (λ k. omega (arith, k)) (h zero x e)
+each_set P Q (z ∷ xs) (suc n) y h q f (suc m) x e =
+    each_set (λ i. P (suc i)) (λ i. Q (suc i)) xs n y (λ i v g. h (suc i) v g) q
+    (λ i v k p. f (suc i) v (λ g. k (omega (arith, g))) p) m x e
+
+-- Numbers from a first one on
+
+pub find_more : (p : ℕ → Bool) (count i : ℕ) → i < count →
+    find p (from_on (count - i) i) ≡ cond (p i) (Some i) (find p (from_on (count - (i + 1)) (i + 1)))
+find_more p count i h =
+    let e : count - i ≡ suc (count - (i + 1)) = omega arith in
+    ap (λ k. find p (from_on k i)) e
+
+pub find_end : (p : ℕ → Bool) (count i : ℕ) → count ≤ i → find p (from_on (count - i) i) ≡ None
+find_end p count i h =
+    let e : count - i ≡ 0 = omega arith in
+    ap (λ k. find p (from_on k i)) e
+
+pub found_at : (p : ℕ → Bool) (count i : ℕ) → i < count → p i ≡ true → find p (from_on (count - i) i) ≡ Some i
+found_at p count i h e = find_more p count i h ∙ ap (λ b. cond b (Some i) (find p (from_on (count - (i + 1)) (i + 1)))) e
+
+pub passed_at : (p : ℕ → Bool) (count i : ℕ) → i < count → p i ≡ false → find p (from_on (count - i) i) ≡ find p (from_on (count - (i + 1)) (i + 1))
+passed_at p count i h e = find_more p count i h ∙ ap (λ b. cond b (Some i) (find p (from_on (count - (i + 1)) (i + 1)))) e
+
+pub find_append : {A : Type 0} (p : A → Bool) (xs ys : List A) → find p (xs ++ ys) ≡ option_or (find p xs) (find p ys)
+find_append p [] ys = refl
+find_append p (x ∷ xs) ys =
+    elim (p x) as (λ b. cond b (Some x) (find p (xs ++ ys)) ≡ option_or (cond b (Some x) (find p xs)) (find p ys)) [
+      | true ↦ refl
+      | false ↦ find_append p xs ys
+    ]
+
+pub flat_more : {A : Type 0} (p : A → Bool) (f : ℕ → List A) (count i : ℕ) → i < count →
+    find p (flat_map f (from_on (count - i) i)) ≡ option_or (find p (f i)) (find p (flat_map f (from_on (count - (i + 1)) (i + 1))))
+flat_more p f count i h =
+    let e : count - i ≡ suc (count - (i + 1)) = omega arith in
+    ap (λ k. find p (flat_map f (from_on k i))) e ∙ find_append p (f i) (flat_map f (from_on (count - (i + 1)) (i + 1)))
+
+pub flat_end : {A : Type 0} (p : A → Bool) (f : ℕ → List A) (count i : ℕ) → count ≤ i → find p (flat_map f (from_on (count - i) i)) ≡ None
+flat_end p f count i h =
+    let e : count - i ≡ 0 = omega arith in
+    ap (λ k. find p (flat_map f (from_on k i))) e
+
+pub find_map : {A B : Type 0} (p : B → Bool) (f : A → B) (xs : List A) → find p (map f xs) ≡ option_map f (find (λ x. p (f x)) xs)
+find_map p f [] = refl
+find_map p f (x ∷ xs) =
+    elim (p (f x)) as (λ b. cond b (Some (f x)) (find p (map f xs)) ≡ option_map f (cond b (Some x) (find (λ y. p (f y)) xs))) [
+      | true ↦ refl
+      | false ↦ find_map p f xs
+    ]
+
+-- one more number at the end
+pub map_more : {A : Type 0} (f : ℕ → A) (first i : ℕ) → map f (from_on (i + 1) first) ≡ map f (from_on i first) ++ (f (first + i) ∷ [])
+map_more f first zero =
+    let e : first ≡ first + 0 = omega arith in
+    ap (λ n. f n ∷ []) e
+map_more f first (suc i) =
+    let e : suc i + 1 ≡ suc (i + 1) = omega arith in
+    let k : (first + 1) + i ≡ first + suc i = omega arith in
+    ap (λ n. map f (from_on n first)) e
+    ∙ ap (λ l. f first ∷ l) (map_more f (first + 1) i ∙ ap (λ n. map f (from_on i (first + 1)) ++ (f n ∷ [])) k)
+
+pub map_left : {A : Type 0} (f : ℕ → A) (xs : List A) (count i : ℕ) → i < count →
+    xs ++ map f (from_on (count - i) i) ≡ (xs ++ (f i ∷ [])) ++ map f (from_on (count - (i + 1)) (i + 1))
+map_left f xs count i h =
+    let e : count - i ≡ suc (count - (i + 1)) = omega arith in
+    ap (λ k. xs ++ map f (from_on k i)) e ∙ sym (joined xs (f i ∷ []) (map f (from_on (count - (i + 1)) (i + 1))))
+
+pub map_done : {A : Type 0} (f : ℕ → A) (xs : List A) (count i : ℕ) → count ≤ i → xs ++ map f (from_on (count - i) i) ≡ xs
+map_done f xs count i h =
+    let e : count - i ≡ 0 = omega arith in
+    ap (λ k. xs ++ map f (from_on k i)) e ∙ nothing_more xs
+
+-- the soonest of what stands at some numbers
+pub fold_more : (g : ℤ → ℤ → ℤ) (f : ℕ → ℤ) (u : ℕ → Bool) (best : ℤ) (count i : ℕ) → i < count →
+    fold g best (map f (filter u (from_on (count - i) i)))
+    ≡ fold g (if u i then g best (f i) else best) (map f (filter u (from_on (count - (i + 1)) (i + 1))))
+fold_more g f u best count i h =
+    let e : count - i ≡ suc (count - (i + 1)) = omega arith in
+    let rest : List ℕ = filter u (from_on (count - (i + 1)) (i + 1)) in
+    ap (λ k. fold g best (map f (filter u (from_on k i)))) e
+    ∙ elim (u i) as (λ b. fold g best (map f (cond b (i ∷ rest) rest)) ≡ fold g (if b then g best (f i) else best) (map f rest)) [
+      | true ↦ refl
+      | false ↦ refl
+    ]
+
+pub fold_end : (g : ℤ → ℤ → ℤ) (f : ℕ → ℤ) (u : ℕ → Bool) (best : ℤ) (count i : ℕ) → count ≤ i →
+    fold g best (map f (filter u (from_on (count - i) i))) ≡ best
+fold_end g f u best count i h =
+    let e : count - i ≡ 0 = omega arith in
+    ap (λ k. fold g best (map f (filter u (from_on k i)))) e
+
+pub fold_append : (g : ℤ → ℤ → ℤ) (best : ℤ) (xs ys : List ℤ) → fold g best (xs ++ ys) ≡ fold g (fold g best xs) ys
+fold_append g best [] ys = refl
+fold_append g best (x ∷ xs) ys = fold_append g (g best x) xs ys
+
+-- What is taken out of a list
+
+pub drop_at : {A : Type 0} (xs : List A) (i : ℕ) (x : A) → slice_get xs i ≡ Some x → drop i xs ≡ x ∷ drop (i + 1) xs
+drop_at [] i x e = absurd (none_some x e)
+drop_at (z ∷ xs) zero x e = ap (λ y. y ∷ xs) (same z x e)
+drop_at (z ∷ xs) (suc i) x e =
+    let k : suc (i + 1) ≡ suc i + 1 = omega arith in
+    drop_at xs i x e ∙ ap (λ n. x ∷ drop n (z ∷ xs)) k
+
+pub take_removed : {A : Type 0} (xs : List A) (i : ℕ) → take i (remove xs i) ≡ take i xs
+take_removed xs zero = refl
+take_removed [] (suc i) = refl
+take_removed (x ∷ xs) (suc i) = ap (λ l. x ∷ l) (take_removed xs i)
+
+drop_none : {A : Type 0} (n : ℕ) → drop n (let none : List A = [] in none) ≡ []
+drop_none zero = refl
+drop_none (suc n) = refl
+
+pub drop_removed : {A : Type 0} (xs : List A) (i : ℕ) → drop i (remove xs i) ≡ drop (i + 1) xs
+drop_removed [] zero = refl
+drop_removed (x ∷ xs) zero = refl
+drop_removed [] (suc i) = sym (drop_none (suc i + 1))
+drop_removed (x ∷ xs) (suc i) =
+    let k : suc (i + 1) ≡ suc i + 1 = omega arith in
+    drop_removed xs i ∙ ap (λ n. drop n (x ∷ xs)) k
+
+pub take_more : {A : Type 0} (xs : List A) (i : ℕ) (x : A) → slice_get xs i ≡ Some x → take (i + 1) xs ≡ take i xs ++ (x ∷ [])
+take_more [] i x e = absurd (none_some x e)
+take_more (z ∷ xs) zero x e = ap (λ y. y ∷ []) (same z x e)
+take_more (z ∷ xs) (suc i) x e =
+    let k : suc i + 1 ≡ suc (i + 1) = omega arith in
+    ap (λ n. take n (z ∷ xs)) k ∙ ap (λ l. z ∷ l) (take_more xs i x e)

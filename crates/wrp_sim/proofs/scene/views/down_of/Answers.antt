@@ -1,0 +1,15 @@
+-- The way down has its share of both.
+use Rattle.std.proofs.Common.{pos, ◌^◌, ◌*◌, ◌≤◌, ◌+ℤ◌, ◌*ℤ◌, unsigned_abs, arith}
+use Rattle.std.proofs.Math.Nat.{mul-le-mul}
+use Rattle.std.proofs.lemmas.Int.{ints, to_z-of_z, unsigned_abs-mul}
+use Rattle.wrp_sim.proofs.FibreDelays.{down_range}
+use Rattle.wrp_sim.proofs.scene.views.down_of.Goals as goal
+
+is_value : goal.returns-clause-value
+is_value c = grind (arith, to_z-of_z)
+
+pub returns-clause-value : goal.returns-clause-value
+returns-clause-value c = is_value c
+
+pub returns-clause-range : goal.returns-clause-range
+returns-clause-range c = rw (is_value c) (down_range c.args.kappa c.args.both_ways c.requires.kappa)

@@ -1,0 +1,11 @@
+pub mod Departures
+pub mod Draws
+pub mod Keeps
+pub mod Numbers
+pub mod Rules
+pub mod Scenario
+pub mod ScenarioKinds
+pub mod ScenarioLines
+pub mod Sim
+pub mod SimAt
+pub mod SimRun

@@ -1,0 +1,64 @@
+-- What a simulator holds, and what has been drawn and done that it stands for (this project's profile).
+use Rattle.std.specs.Prelude.{◌≡◌, ◌<◌, ◌≤◌, ◌+◌, ℕ, ℤ, List, length, Option, None, Some, IfSome}
+use Rattle.std.specs.List.{AllByRecursion}
+use Rattle.std.specs.Option.{option_map_or}
+use Rattle.wrp_base.specs.declared.configuration.NetCfg.{NetCfg}
+use Rattle.wrp_base.specs.Network.{node_count}
+use Rattle.wrp_world.specs.declared.event.Event.{Event}
+use Rattle.wrp_world.specs.Plant.{Each}
+use Rattle.wrp_world.specs.Setting.{Setting}
+use Rattle.wrp_world.specs.StandsFor.{StandsFor, WorldOf}
+use Rattle.wrp_world.specs.WorldAt.{WorldAt}
+use Rattle.wrp_sim.specs.declared.sim.state.State.{State}
+use Rattle.wrp_sim.specs.Rules.{Next, rest_of}
+use Rattle.wrp_sim.specs.Scenario.{IsFault, IsSceneOf, SceneAt}
+use Rattle.wrp_sim.specs.SimAt.{SimAt}
+use Rattle.wrp_sim.specs.SimRun.{Gives}
+
+-- the simulator stands for this
+pub record SimIs (at : SimAt) (sim : State) : Type 0 where
+  pub state : sim.draws ≡ at.state
+  pub begun : sim.begun ≡ at.begun
+  pub faults : sim.faults.items ≡ at.faults
+  pub ticks : Each (λ n t. t ≡ at.tick_at n) sim.tick_at.items
+  pub ticked : sim.ticked ≡ at.ticked
+  pub arrived : sim.arrived ≡ at.arrived
+
+-- a simulator of a network: its scenario is one of it, and so are the faults that are left and the node that ticked
+pub record FitsSim (cfg : NetCfg) (sim : State) : Type 0 where
+  pub scene : IsSceneOf cfg sim.scene
+  pub faults : AllByRecursion (IsFault cfg) sim.faults.items
+  pub ticks : length sim.tick_at.items ≡ node_count cfg
+  pub ticked : IfSome sim.ticked (λ n. n < node_count cfg)
+  pub begun : sim.begun ≤ length cfg.links.items + node_count cfg
+
+-- a rule gave this: an event, or, where it does not apply, none; and the simulator stands for what has been drawn and done then
+abbrev pub Gave : SimAt → Option Next → Option Event → State → Type 0
+Gave stays None None sim = SimIs stays sim
+Gave stays (Some next) (Some event) sim = (event ≡ next.event) × SimIs next.at sim
+Gave stays _ _ sim = ⊥
+
+-- what a rule gave, for each state that the world and the simulator stood for
+abbrev pub Follows : {F : Type 0} → (F → ℤ → ℤ → Type 0) → (rule : SceneAt → Setting → WorldAt → SimAt → Option Next) → (stays : Setting → WorldAt → SimAt → SimAt) → WorldOf F → (old new : State) → Option Event → Type 0
+Follows post rule stays world old new event =
+    (s : Setting) (w : WorldAt) (at : SimAt) → StandsFor post s w world → SimIs at old →
+    Gave (stays s w at) (rule old.scene s w at) event new
+
+-- a rule that leaves all as it is where it does not apply
+abbrev pub as_is : Setting → WorldAt → SimAt → SimAt
+as_is s w at = at
+
+-- what a step of a simulator leaves as it is: its scenario, and that it is one of the network
+pub record StaysFit (cfg : NetCfg) (old new : State) : Type 0 where
+  pub scene : new.scene ≡ old.scene
+  pub fits : FitsSim cfg new
+
+-- the event that the rules give, or none, and what the simulator then stands for: faults that do not apply are dropped
+pub record GaveNext (s : Setting) (w : WorldAt) (at : SimAt) (old new : State) (event : Option Event) : Type 0 where
+  pub next : Option Next
+  pub gives : Gives old.scene s w at next
+  pub gave : Gave (rest_of s w at) next event new
+
+abbrev pub FollowsRules : {F : Type 0} → (F → ℤ → ℤ → Type 0) → WorldOf F → (old new : State) → Option Event → Type 0
+FollowsRules post world old new event =
+    (s : Setting) (w : WorldAt) (at : SimAt) → StandsFor post s w world → SimIs at old → GaveNext s w at old new event

@@ -1,0 +1,94 @@
+//! The simulator: the events of a network, each by the first rule that applies.
+ghost use Rattle.std.specs.Prelude.{◌≡◌, IfOk, length, pos};
+ghost use Rattle.wrp_base.specs.declared.configuration.NetCfg.{NetCfg};
+ghost use Rattle.wrp_sim.specs.Scenario.{IsSceneOf};
+ghost use Rattle.wrp_sim.specs.Sim.{FitsSim, FollowsRules, SimIs, StaysFit};
+ghost use Rattle.wrp_sim.specs.SimAt.{new_sim};
+ghost use Rattle.wrp_world.specs.Plant.{Each};
+ghost use Rattle.wrp_world.specs.StandsFor.{IsValid};
+
+mod arriving;
+mod asking;
+mod departing;
+mod failing;
+mod modules;
+mod passing;
+mod pure;
+mod rules;
+mod sampling;
+mod starting;
+mod state;
+mod ticking;
+
+use crate::draws::Draws;
+use crate::scene::Scene;
+use state::{Handed, State};
+use std::alloc::{AllocError, Global};
+use std::marker::Model;
+use wrp_base::Tau;
+use wrp_world::{Event, World};
+
+/// A simulator of a network: it makes the events of a world, one after the other, from a scenario and
+/// the numbers that it draws.
+#[derive(Drop)]
+pub struct Sim {
+    state: State,
+}
+
+impl Model for Sim {
+    ghost use Rattle.wrp_sim.specs.declared.sim.state.State.{State};
+
+    ghost Value = { State };
+
+    ghost view = { λ s. s.state };
+}
+
+// No node has a tick time yet: this one is before each start.
+fn no_ticks(alloc: Global, count: usize) -> Result<Vec<Tau>, AllocError>
+    ensures count { IfOk result (λ tick_at. length tick_at.items ≡ count) }
+    ensures none { IfOk result (λ tick_at. Each (λ n t. t ≡ pos 0) tick_at.items) }
+{
+    let mut tick_at = Vec::new(alloc);
+    for _node in 0..count {
+        tick_at.push(0)?;
+    }
+    Ok(tick_at)
+}
+
+impl Sim {
+    /// A simulator of the network that this scenario is of, before any event; its numbers are drawn from
+    /// the seed.
+    pub fn new(alloc: Global, scene: Scene, seed: u64) -> Result<Sim, AllocError>
+        ensures is { IfOk result (λ sim. SimIs (new_sim scene seed) sim) }
+        ensures scene { IfOk result (λ sim. sim.scene ≡ scene) }
+        ensures fits { (cfg : NetCfg) → IsSceneOf cfg scene → IfOk result (λ sim. FitsSim cfg sim) }
+    {
+        let faults = scene.faults().to_vec(alloc)?;
+        let tick_at = no_ticks(alloc, scene.node_count())?;
+        Ok(Sim {
+            state: State {
+                scene,
+                draws: Draws::new(seed),
+                begun: 0,
+                faults,
+                tick_at,
+                ticked: None,
+                arrived: Handed { frame: 0, times: 0 },
+            },
+        })
+    }
+
+    /// The next event: the first rule that applies. `None` exactly where the scenario's time has passed
+    /// and no event is due.
+    ///
+    /// The world is of the network of the scenario, and the events of this simulator made it, where a
+    /// `Deliver` may be left out and other ones, and `Noise`, may come between.
+    pub fn next<F: Fn(i64) -> i64>(&mut self, world: &World<F>) -> Option<Event>
+        requires valid { IsValid F.pre F.post world.now }
+        requires fits { FitsSim world.now.plant.net.cfg self.old }
+        ensures follows { FollowsRules F.post world.now self.old self.new result }
+        ensures stays { StaysFit world.now.plant.net.cfg self.old self.new }
+    {
+        self.state.next(world)
+    }
+}

@@ -1,0 +1,149 @@
+//! Frames that arrive.
+ghost use Rattle.std.specs.Prelude.{◌≡◌, ◌<◌, length, option_map, Some};
+ghost use Rattle.wrp_base.specs.declared.configuration.NetCfg.{NetCfg};
+ghost use Rattle.wrp_sim.specs.Departures.{across, raw_across};
+ghost use Rattle.wrp_sim.specs.Draws.{next_state};
+ghost use Rattle.wrp_world.specs.Setting.{place_of};
+ghost use Rattle.wrp_sim.specs.Numbers as number;
+ghost use Rattle.wrp_sim.specs.Rules as rule;
+ghost use Rattle.wrp_sim.specs.Sim.{FitsSim, Follows, Gave, SimIs, StaysFit, as_is};
+ghost use Rattle.wrp_sim.specs.SimAt.{SimAt};
+ghost use Rattle.wrp_world.specs.Setting.{Setting};
+ghost use Rattle.wrp_world.specs.StandsFor.{IsValid, StandsFor, Tells};
+ghost use Rattle.wrp_world.specs.WorldAt.{WorldAt};
+
+use super::asking::{link_cfg, reading, time};
+use super::modules::{LinkEnd, end_across, entry, node_of, transition_of};
+use super::pure::{is_at, is_within, raw_at};
+use super::state::{Handed, State};
+use crate::draws::Draws;
+use wrp_base::{Raw, Tau};
+use wrp_world::{Event, World};
+
+// Draws whether something happens that does so often of 1000 times.
+fn draw_whether(draws: &mut Draws, permille: u16) -> bool
+    ensures value { result ≡ number.is_drawn permille draws.old }
+    ensures state { draws.new ≡ next_state draws.old }
+{
+    draws.draw_from(0, 999) < i128::from(permille)
+}
+
+// How often a frame is handed over.
+fn times(lost: bool, repeated: bool) -> u8
+    ensures { result ≡ rule.times_of lost repeated }
+{
+    if lost {
+        0
+    } else if repeated {
+        2
+    } else {
+        1
+    }
+}
+
+// The raw stamp at an end of a link. `None` where the clock there cannot be told.
+fn raw_to<F: Fn(i64) -> i64>(world: &World<F>, to: LinkEnd) -> Option<Raw>
+    requires valid { IsValid F.pre F.post world.now }
+    requires link { to.link < length world.now.plant.net.cfg.links.items }
+    ensures { Tells F.post (λ s w. rule.raw_to s w to.link to.role) world.now result }
+{
+    let cfg = &world.net().cfg;
+    let node = node_of(link_cfg(cfg, to.link), to.role);
+    let at = reading(world, node);
+    if is_within(cfg.clock, at) {
+        let transition = transition_of(entry(world, to.link, to.role));
+        Some(raw_at(cfg.clock, transition, at))
+    } else {
+        None
+    }
+}
+
+// The raw stamp of a frame, at the end that it comes to.
+fn raw_of<F: Fn(i64) -> i64>(world: &World<F>, frame: u32) -> Option<Raw>
+    requires { IsValid F.pre F.post world.now }
+    ensures { Tells F.post (λ s w. rule.raw_of s w frame) world.now result }
+{
+    match world.sender(frame) {
+        Some((node, port)) => raw_from(world, node, port),
+        None => None,
+    }
+}
+
+// The raw stamp at the other end of the link of a port.
+fn raw_from<F: Fn(i64) -> i64>(world: &World<F>, n: u8, port: u16) -> Option<Raw>
+    requires { IsValid F.pre F.post world.now }
+    ensures { Tells F.post (λ s w. raw_across s w (option_map across (place_of s n port))) world.now result }
+{
+    match end_across(&world.net().cfg, n, port) {
+        Some(to) => raw_to(world, to),
+        None => None,
+    }
+}
+
+impl State {
+    // A frame arrives: whether it is lost, and whether it is handed over once more, is drawn.
+    fn take_arrival(&mut self, frame: u32)
+        ensures at { (at : SimAt) → SimIs at self.old → SimIs (rule.after_arrival self.old.scene frame at) self.new }
+        ensures stays { (cfg : NetCfg) → FitsSim cfg self.old → StaysFit cfg self.old self.new }
+    {
+        let lost = draw_whether(&mut self.draws, self.scene.loss());
+        let repeated = draw_whether(&mut self.draws, self.scene.repeat());
+        self.arrived = Handed {
+            frame,
+            times: times(lost, repeated),
+        };
+    }
+
+    // A frame that is due arrives.
+    fn arrive_now<F: Fn(i64) -> i64>(&mut self, world: &World<F>, frame: u32) -> Option<Event>
+        requires valid { IsValid F.pre F.post world.now }
+        requires fits { FitsSim world.now.plant.net.cfg self.old }
+        ensures follows { Follows F.post (λ scene s w at. rule.arrives_by scene s w at frame) as_is world.now self.old self.new result }
+        ensures stays { StaysFit world.now.plant.net.cfg self.old self.new }
+    {
+        match raw_of(world, frame) {
+            Some(raw) => {
+                self.take_arrival(frame);
+                Some(self.comes(Event::Arrive { frame, raw }))
+            }
+            None => None,
+        }
+    }
+
+    /// The frame that is due first arrives, where it is due now and its receiver's clock can be told.
+    pub(super) fn arrive<F: Fn(i64) -> i64>(
+        &mut self,
+        world: &World<F>,
+        due: Option<(u32, Tau)>,
+    ) -> Option<Event>
+        requires valid { IsValid F.pre F.post world.now }
+        requires fits { FitsSim world.now.plant.net.cfg self.old }
+        ensures follows { Follows F.post (λ scene s w at. rule.arrives scene s w due at) as_is world.now self.old self.new result }
+        ensures stays { StaysFit world.now.plant.net.cfg self.old self.new }
+    {
+        match due {
+            Some((frame, at)) => self.arrive_at(world, frame, at),
+            None => None,
+        }
+    }
+
+    // A frame arrives, where it is due now.
+    fn arrive_at<F: Fn(i64) -> i64>(
+        &mut self,
+        world: &World<F>,
+        frame: u32,
+        due: Tau,
+    ) -> Option<Event>
+        requires valid { IsValid F.pre F.post world.now }
+        requires fits { FitsSim world.now.plant.net.cfg self.old }
+        ensures follows { Follows F.post (λ scene s w at. rule.arrives scene s w (Some (frame, due)) at) as_is world.now self.old self.new result }
+        ensures stays { StaysFit world.now.plant.net.cfg self.old self.new }
+    {
+        let now = time(world);
+        if is_at(due, now) {
+            self.arrive_now(world, frame)
+        } else {
+            None
+        }
+    }
+}

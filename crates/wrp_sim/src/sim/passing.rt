@@ -1,0 +1,261 @@
+//! True time that passes.
+ghost use Rattle.std.specs.Prelude.{◌≡◌, ◌<◌, ◌≤◌, ◌++◌, ◌^◌, ◌+ℤ◌, ◌-ℤ◌, ◌≤ℤ◌, ◌<ℤ◌, pos, fold, map, if◌then◌else◌, length, unsigned_abs};
+ghost use Rattle.std.specs.List.{AllByRecursion};
+ghost use Rattle.wrp_sim.specs.Numbers.{drift_at};
+ghost use Rattle.wrp_sim.specs.Rules as rule;
+ghost use Rattle.wrp_sim.specs.Scenario.{IsFree, free_of};
+ghost use Rattle.wrp_sim.specs.Sim.{FitsSim, Follows, SimIs, StaysFit, as_is};
+ghost use Rattle.wrp_sim.specs.SimAt.{SimAt};
+ghost use Rattle.wrp_world.specs.Setting.{Setting, from_on, nodes_of};
+ghost use Rattle.wrp_world.specs.StandsFor.{IsValid, StandsFor, Tells};
+ghost use Rattle.wrp_world.specs.WorldAt.{WorldAt};
+
+use super::asking::{dac, node_count, rate, time};
+use super::pure::{drift_at, held_to, is_by, own_rate, start};
+use super::state::State;
+use arrayvec::ArrayVec;
+use wrp_base::{Tau, difference, narrow, sum};
+use wrp_world::{Event, World};
+
+/// The longest time that passes at once, in tau.
+const LONGEST: i128 = 1 << 62;
+
+// The sooner of two moments, of which the second counts where it is after now.
+fn sooner(now: Tau, best: Tau, moment: Tau) -> Tau
+    requires later { now <ℤ best }
+    requires now { unsigned_abs now ≤ 2 ^ 100 }
+    requires best { unsigned_abs best ≤ 2 ^ 101 }
+    ensures value { result ≡ rule.sooner now best moment }
+    ensures later { now <ℤ result }
+    ensures most { result ≤ℤ best }
+    ensures size { unsigned_abs result ≤ 2 ^ 101 }
+{
+    if now < moment && moment < best {
+        moment
+    } else {
+        best
+    }
+}
+
+// The soonest of the moment at which a frame is due, if one is, and of another moment.
+fn soonest_due(now: Tau, other: Tau, due: Option<(u32, Tau)>) -> Tau
+    requires later { now <ℤ other }
+    requires now { unsigned_abs now ≤ 2 ^ 100 }
+    requires other { unsigned_abs other ≤ 2 ^ 101 }
+    ensures value { result ≡ fold (rule.sooner now) other (rule.due_times due) }
+    ensures later { now <ℤ result }
+    ensures most { result ≤ℤ other }
+    ensures size { unsigned_abs result ≤ 2 ^ 101 }
+{
+    match due {
+        Some((_frame, at)) => sooner(now, other, at),
+        None => other,
+    }
+}
+
+// How long it is to the next moment.
+fn between(now: Tau, next: Tau) -> i64
+    requires later { now <ℤ next }
+    requires most { next ≤ℤ (now +ℤ pos (2 ^ 62)) }
+    requires now { unsigned_abs now ≤ 2 ^ 100 }
+    ensures { result ≡ next -ℤ now }
+{
+    narrow(difference(next, now))
+}
+
+// No fibre moves.
+fn no_moves(count: usize) -> ArrayVec<(i64, i64), 63>
+    requires { count ≤ 63 }
+    ensures { result.items ≡ map (λ k. (pos 0, pos 0)) (from_on count 0) }
+{
+    let mut moves = ArrayVec::new();
+    for _link in 0..count {
+        moves.push((0, 0));
+    }
+    moves
+}
+
+// The value of the DAC at which a clock has its own rate.
+fn bias<F: Fn(i64) -> i64>(world: &World<F>) -> i64
+    requires { IsValid F.pre F.post world.now }
+    ensures value { Tells F.post (λ s w. s.cfg.bias) world.now result }
+    ensures size { unsigned_abs result ≤ 65_535 }
+{
+    world.net().cfg.bias
+}
+
+impl State {
+    // The end of the scenario.
+    fn end_time<F: Fn(i64) -> i64>(&self, world: &World<F>) -> Tau
+        requires valid { IsValid F.pre F.post world.now }
+        requires fits { FitsSim world.now.plant.net.cfg self.now }
+        ensures value { Tells F.post (λ s w. rule.end_time self.now.scene s) world.now result }
+        ensures size { unsigned_abs result ≤ 2 ^ 126 }
+    {
+        let start = start(&world.net().cfg);
+        let duration = self.scene.duration();
+        sum(start, duration)
+    }
+
+    // Whether the scenario's time has passed.
+    fn is_over<F: Fn(i64) -> i64>(&self, world: &World<F>) -> bool
+        requires valid { IsValid F.pre F.post world.now }
+        requires fits { FitsSim world.now.plant.net.cfg self.now }
+        ensures { Tells F.post (λ s w. rule.is_over self.now.scene s w) world.now result }
+    {
+        let end = self.end_time(world);
+        let now = time(world);
+        is_by(end, now)
+    }
+
+    // The sooner of the tick time of a node, if it is up, and of another moment.
+    fn sooner_tick<F: Fn(i64) -> i64>(&self, world: &World<F>, now: Tau, best: Tau, n: u8) -> Tau
+        requires valid { IsValid F.pre F.post world.now }
+        requires fits { FitsSim world.now.plant.net.cfg self.now }
+        requires node { n < length world.now.nodes }
+        requires later { now <ℤ best }
+        requires now { unsigned_abs now ≤ 2 ^ 100 }
+        requires best { unsigned_abs best ≤ 2 ^ 101 }
+        ensures value { (s : Setting) (w : WorldAt) (at : SimAt) → StandsFor F.post s w world.now
+            → SimIs at self.now → result ≡ (if (w.clock n).up then rule.sooner now best (at.tick_at n) else best) }
+        ensures later { now <ℤ result }
+        ensures most { result ≤ℤ best }
+        ensures size { unsigned_abs result ≤ 2 ^ 101 }
+    {
+        let up = world.is_up(n);
+        let at = self.tick_of(n);
+        if up { sooner(now, best, at) } else { best }
+    }
+
+    // The soonest of the tick times and of another moment.
+    fn soonest_tick<F: Fn(i64) -> i64>(&self, world: &World<F>, now: Tau, other: Tau) -> Tau
+        requires valid { IsValid F.pre F.post world.now }
+        requires fits { FitsSim world.now.plant.net.cfg self.now }
+        requires later { now <ℤ other }
+        requires now { unsigned_abs now ≤ 2 ^ 100 }
+        requires other { unsigned_abs other ≤ 2 ^ 101 }
+        ensures value { (s : Setting) (w : WorldAt) (at : SimAt) → StandsFor F.post s w world.now
+            → SimIs at self.now → result ≡ fold (rule.sooner now) other (rule.tick_times s w at) }
+        ensures later { now <ℤ result }
+        ensures most { result ≤ℤ other }
+        ensures size { unsigned_abs result ≤ 2 ^ 101 }
+    {
+        let mut best = other;
+        let count = node_count(world);
+        for n in 0..count {
+            best = self.sooner_tick(world, now, best, n);
+        }
+        best
+    }
+
+    // The soonest of the times of faults and of another moment.
+    fn soonest_fault<F: Fn(i64) -> i64>(&self, world: &World<F>, now: Tau, other: Tau) -> Tau
+        requires valid { IsValid F.pre F.post world.now }
+        requires fits { FitsSim world.now.plant.net.cfg self.now }
+        requires later { now <ℤ other }
+        requires now { unsigned_abs now ≤ 2 ^ 100 }
+        requires other { unsigned_abs other ≤ 2 ^ 101 }
+        ensures value { Tells F.post (λ s w. fold (rule.sooner now) other (map (rule.fault_time s) self.now.faults.items)) world.now result }
+        ensures later { now <ℤ result }
+        ensures most { result ≤ℤ other }
+        ensures size { unsigned_abs result ≤ 2 ^ 101 }
+    {
+        let start = start(&world.net().cfg);
+        let mut best = other;
+        for fault in &self.faults {
+            let at = sum(start, fault.at);
+            best = sooner(now, best, at);
+        }
+        best
+    }
+
+    // How long it is to the next moment.
+    fn wait<F: Fn(i64) -> i64>(&self, world: &World<F>, due: Option<(u32, Tau)>) -> i64
+        requires valid { IsValid F.pre F.post world.now }
+        requires fits { FitsSim world.now.plant.net.cfg self.now }
+        ensures { (s : Setting) (w : WorldAt) (at : SimAt) → StandsFor F.post s w world.now → SimIs at self.now
+            → result ≡ rule.next_moment w.time (rule.moments self.now.scene s w due at) -ℤ w.time }
+    {
+        let now = time(world);
+        let last = sum(now, LONGEST);
+        let ticks = self.soonest_tick(world, now, last);
+        let arrives = soonest_due(now, ticks, due);
+        let fails = self.soonest_fault(world, now, arrives);
+        let end = self.end_time(world);
+        let next = sooner(now, fails, end);
+        between(now, next)
+    }
+
+    // How far the clock of a node that is up moves in a time.
+    fn moves<F: Fn(i64) -> i64>(&self, world: &World<F>, dt: i64, n: u8) -> i64
+        requires valid { IsValid F.pre F.post world.now }
+        requires fits { FitsSim world.now.plant.net.cfg self.now }
+        requires node { n < length world.now.nodes }
+        ensures { Tells F.post (λ s w. drift_at dt (rule.clock_rate self.now.scene s w n)) world.now result }
+    {
+        let free = self.free(n);
+        let dac = dac(world, n);
+        let own = own_rate(free, dac, bias(world));
+        let kept = rate(world, n);
+        let rate = held_to(kept, own);
+        drift_at(dt, rate)
+    }
+
+    // The rate of a node's clock at rest.
+    fn free(&self, n: u8) -> i64
+        requires node { n < length self.now.scene.frees }
+        requires small { AllByRecursion IsFree self.now.scene.frees }
+        ensures value { result ≡ free_of self.now.scene n }
+        ensures size { unsigned_abs result ≤ 100_000 }
+    {
+        self.scene.free(n)
+    }
+
+    // How far a node's clock moves in a time.
+    fn drift<F: Fn(i64) -> i64>(&self, world: &World<F>, dt: i64, n: u8) -> i64
+        requires valid { IsValid F.pre F.post world.now }
+        requires fits { FitsSim world.now.plant.net.cfg self.now }
+        requires node { n < length world.now.nodes }
+        ensures { Tells F.post (λ s w. rule.drift_over self.now.scene s w dt n) world.now result }
+    {
+        if world.is_up(n) {
+            self.moves(world, dt, n)
+        } else {
+            0
+        }
+    }
+
+    // How far all clocks move in a time.
+    fn drifts<F: Fn(i64) -> i64>(&self, world: &World<F>, dt: i64) -> ArrayVec<i64, 64>
+        requires valid { IsValid F.pre F.post world.now }
+        requires fits { FitsSim world.now.plant.net.cfg self.now }
+        ensures { Tells F.post (λ s w. map (rule.drift_over self.now.scene s w dt) (nodes_of s)) world.now result.items }
+    {
+        let mut drifts = ArrayVec::new();
+        let count = node_count(world);
+        for n in 0..count {
+            drifts.push(self.drift(world, dt, n));
+        }
+        drifts
+    }
+
+    /// Time passes to the next moment, where the end has not come.
+    pub(super) fn pass<F: Fn(i64) -> i64>(
+        &mut self,
+        world: &World<F>,
+        due: Option<(u32, Tau)>,
+    ) -> Option<Event>
+        requires valid { IsValid F.pre F.post world.now }
+        requires fits { FitsSim world.now.plant.net.cfg self.old }
+        ensures follows { Follows F.post (λ scene s w at. rule.passes scene s w due at) as_is world.now self.old self.new result }
+        ensures stays { StaysFit world.now.plant.net.cfg self.old self.new }
+    {
+        if self.is_over(world) {
+            return None;
+        }
+        let dt = self.wait(world, due);
+        let drifts = self.drifts(world, dt);
+        let fibres = no_moves(world.net().cfg.links.len());
+        Some(self.comes(Event::Pass { dt, drifts, fibres }))
+    }
+}

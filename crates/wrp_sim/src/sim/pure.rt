@@ -1,0 +1,233 @@
+//! The numbers that stand in the events of the simulator.
+ghost use Rattle.std.specs.Prelude.{◌≡◌, ◌<◌, ◌≤◌, ◌≤ℤ◌, ◌^◌, ◌*ℤ◌, ◌*◌, pos, unsigned_abs, IfSome};
+ghost use Rattle.std.specs.Int.Signed.{le_z};
+ghost use Rattle.std.specs.Ordering.{int_eq};
+ghost use Rattle.wrp_base.specs.Clock.{period_of, steps_of_period};
+ghost use Rattle.wrp_base.specs.Network.{HasRanges};
+ghost use Rattle.wrp_bounds.specs.Times as times;
+ghost use Rattle.wrp_phase.specs.BeatPattern as beat;
+ghost use Rattle.wrp_sim.specs.Numbers as number;
+ghost use Rattle.wrp_world.specs.Setting.{second};
+
+use wrp_base::{Clock, NetCfg, Raw, Tau, difference, hold, product, sum, trunc_div};
+
+/// One ns, in tau.
+const TAU_OF_NS: u128 = 65_536_000;
+
+/// One second, in tau.
+const SECOND: i128 = 65_536_000_000_000_000;
+
+/// Rates are in `10^-12`.
+const PARTS: i128 = 1_000_000_000_000;
+
+/// How much one step of the DAC slows a clock, in `10^-12`.
+const DAC_RATE: i128 = 10;
+
+// A time in ns, in tau.
+fn tau_of_ns(ns: i64) -> Tau
+    requires { unsigned_abs ns ≤ 1_000_000_000 }
+    ensures value { result ≡ pos (times.tau_of_ns ns) }
+    ensures size { unsigned_abs result ≤ 2 ^ 60 }
+{
+    (TAU_OF_NS * u128::from(ns.unsigned_abs())) as i128
+}
+
+/// The shortest time from one tick of a node to the next.
+pub fn shortest_tick(cfg: &NetCfg) -> Tau
+    requires { HasRanges cfg.now }
+    ensures value { result ≡ pos (times.shortest_tick cfg.now) }
+    ensures size { unsigned_abs result ≤ 2 ^ 60 }
+{
+    tau_of_ns(cfg.dmin_ns)
+}
+
+/// The longest time from one tick of a node to the next.
+pub fn longest_tick(cfg: &NetCfg) -> Tau
+    requires { HasRanges cfg.now }
+    ensures value { result ≡ pos (times.longest_tick cfg.now) }
+    ensures size { unsigned_abs result ≤ 2 ^ 60 }
+{
+    tau_of_ns(cfg.dmax_ns)
+}
+
+/// The first moment of a world.
+pub fn start(cfg: &NetCfg) -> Tau
+    requires { HasRanges cfg.now }
+    ensures value { result ≡ cfg.now.epoch *ℤ second }
+    ensures size { unsigned_abs result ≤ 2 ^ 125 }
+{
+    product(i128::from(cfg.epoch), SECOND)
+}
+
+/// The detector's step in which a true phase lies.
+pub fn true_step(clock: Clock, phase: Tau) -> u16
+    ensures value { result ≡ beat.true_step clock phase }
+    ensures most { result < steps_of_period }
+{
+    let place = phase.rem_euclid(clock.period()).unsigned_abs();
+    (place / clock.step().unsigned_abs()) as u16
+}
+
+/// The base that lies 32 steps before a step of the detector.
+pub fn base_before(step: u16) -> u16
+    requires { step < steps_of_period }
+    ensures { result ≡ number.base_before step }
+{
+    (step + (16_384 - 32)) % 16_384
+}
+
+/// So many bits 0, and the rest of 64 bits 1.
+pub fn bits_behind(zeros: u32) -> u64
+    requires least { 1 ≤ zeros }
+    requires most { zeros ≤ 63 }
+    ensures { result ≡ number.bits_behind zeros }
+{
+    (1u64 << (64 - zeros)) - 1
+}
+
+// The greatest reading that a stamp can tell.
+fn greatest_reading(clock: Clock) -> Tau
+    ensures { result ≡ pos (2 ^ 62 * period_of clock) }
+{
+    match clock {
+        Clock::Mhz125 => 524_288_000 << 62,
+        Clock::Mhz62 => 1_048_576_000 << 62,
+    }
+}
+
+// The least reading that a stamp can tell.
+fn least_reading(clock: Clock) -> Tau
+    ensures { result ≡ pos (2 * period_of clock) }
+{
+    match clock {
+        Clock::Mhz125 => 1_048_576_000,
+        Clock::Mhz62 => 2_097_152_000,
+    }
+}
+
+/// Whether a stamp can tell a reading: from 2 to `2^62` periods.
+pub fn is_within(clock: Clock, at: Tau) -> bool
+    ensures { result ≡ number.is_within clock at }
+{
+    least_reading(clock) <= at && at <= greatest_reading(clock)
+}
+
+// A reading in whole 1000 tau.
+fn whole_thousands(at: Tau) -> Tau
+    requires least { pos 0 ≤ℤ at }
+    requires most { unsigned_abs at ≤ 2 ^ 92 }
+    ensures value { result ≡ number.whole_thousands at }
+    ensures size { unsigned_abs result ≤ 2 ^ 92 }
+{
+    (at.unsigned_abs() / 1_000 * 1_000) as i128
+}
+
+/// The stamp of a reading: in whole 1000 tau, and so many times 1000 tau more.
+pub fn stamp_at(at: Tau, more: i128) -> Tau
+    requires least { pos 0 ≤ℤ at }
+    requires most { unsigned_abs at ≤ 2 ^ 92 }
+    requires more { unsigned_abs more ≤ 2 ^ 61 }
+    ensures { result ≡ number.stamp_at at more }
+{
+    sum(whole_thousands(at), product(1_000, more))
+}
+
+/// How many times 1000 tau a stamp may be off, less one for its rounding.
+pub fn thousands(e_tx: u64) -> u64
+    requires { 1_000 ≤ e_tx }
+    ensures value { result ≡ number.thousands e_tx }
+    ensures most { result ≤ e_tx }
+{
+    e_tx / 1_000 - 1
+}
+
+// The whole periods of a reading.
+fn periods(clock: Clock, at: Tau) -> u64
+    requires least { pos 0 ≤ℤ at }
+    requires most { unsigned_abs at < 2 ^ 63 * period_of clock }
+    ensures { result ≡ number.periods_in clock at }
+{
+    (at.unsigned_abs() / clock.period().unsigned_abs()) as u64
+}
+
+// Half a period after a reading.
+fn half_later(clock: Clock, at: Tau) -> Tau
+    requires least { pos 0 ≤ℤ at }
+    requires most { unsigned_abs at ≤ 2 ^ 62 * period_of clock }
+    ensures value { result ≡ number.half_later clock at }
+    ensures least { pos 0 ≤ℤ result }
+    ensures most { unsigned_abs result < 2 ^ 63 * period_of clock }
+{
+    let half = match clock {
+        Clock::Mhz125 => 262_144_000,
+        Clock::Mhz62 => 524_288_000,
+    };
+    at + half
+}
+
+// The tag of a reading, over a module with this transition.
+fn tag_at(clock: Clock, transition: u16, at: Tau) -> u16
+    ensures { result ≡ number.tag_at clock transition at }
+{
+    let step = true_step(clock, at);
+    ((u32::from(step) + u32::from(transition)) % 16_384) as u16
+}
+
+/// The raw stamp of a reading: the true counters, and the true tag over a module with this transition.
+pub fn raw_at(clock: Clock, transition: u16, at: Tau) -> Raw
+    requires least { pos 0 ≤ℤ at }
+    requires most { unsigned_abs at ≤ 2 ^ 62 * period_of clock }
+    ensures { result ≡ number.raw_at clock transition at }
+{
+    Raw {
+        rising: periods(clock, at),
+        falling: periods(clock, half_later(clock, at)),
+        tag: tag_at(clock, transition, at),
+    }
+}
+
+/// The rate of a clock by itself, in `10^-12`: a higher value of the DAC slows it.
+pub fn own_rate(free: i64, dac: u16, bias: i64) -> i128
+    requires free { unsigned_abs free ≤ 100_000 }
+    requires bias { unsigned_abs bias ≤ 65_535 }
+    ensures value { result ≡ number.own_rate free dac bias }
+    ensures size { unsigned_abs result ≤ 1_000_000_000 }
+{
+    let tuned = product(DAC_RATE, difference(i128::from(dac), i128::from(bias)));
+    difference(i128::from(free), tuned)
+}
+
+/// A rate held within the one that a clock keeps, if it keeps one.
+pub fn held_to(kept: Option<u64>, rate: i128) -> i128
+    requires kept { IfSome kept (λ most. most ≤ 1_000_000_000) }
+    requires rate { unsigned_abs rate ≤ 1_000_000_000 }
+    ensures value { result ≡ number.held_to kept rate }
+    ensures size { unsigned_abs result ≤ 1_000_000_000 }
+{
+    match kept {
+        Some(most) => hold(i128::from(most), rate),
+        None => rate,
+    }
+}
+
+/// How far a clock of this rate moves in a time.
+pub fn drift_at(dt: i64, rate: i128) -> i64
+    requires { unsigned_abs rate ≤ 1_000_000_000 }
+    ensures { result ≡ number.drift_at dt rate }
+{
+    trunc_div(product(i128::from(dt), rate), PARTS) as i64
+}
+
+/// Whether a moment has come.
+pub fn is_by(moment: Tau, now: Tau) -> bool
+    ensures { result ≡ le_z moment now }
+{
+    moment <= now
+}
+
+/// Whether a moment is now.
+pub fn is_at(moment: Tau, now: Tau) -> bool
+    ensures { result ≡ int_eq moment now }
+{
+    moment == now
+}

@@ -1,0 +1,32 @@
+//! What a simulator holds.
+use crate::draws::Draws;
+use crate::scene::{Fault, Scene};
+use wrp_base::Tau;
+
+/// The frame that arrived last.
+#[derive(Clone, Copy, Debug, PartialEq, Eq)]
+pub struct Handed {
+    /// Its number; 0 before any.
+    pub frame: u32,
+    /// How often it is still handed over.
+    pub times: u8,
+}
+
+/// What a simulator holds: its scenario, and what has been drawn and done.
+#[derive(Drop)]
+pub struct State {
+    /// The scenario.
+    pub scene: Scene,
+    /// The numbers that are drawn.
+    pub draws: Draws,
+    /// How many events of the start have come.
+    pub begun: u16,
+    /// The faults that are left, in the order of their lines.
+    pub faults: Vec<Fault>,
+    /// When each node ticks next, in true time.
+    pub tick_at: Vec<Tau>,
+    /// The node whose tick came last, where no other event came since.
+    pub ticked: Option<u8>,
+    /// The frame that arrived last.
+    pub arrived: Handed,
+}

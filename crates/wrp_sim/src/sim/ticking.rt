@@ -1,0 +1,81 @@
+//! The ticks of nodes.
+ghost use Rattle.std.specs.Prelude.{◌≡◌, ◌<◌, ◌&&◌, length, slice_get, Some, IfSome};
+ghost use Rattle.std.specs.List.{find};
+ghost use Rattle.std.specs.Ordering.{int_eq};
+ghost use Rattle.wrp_sim.specs.Rules as rule;
+ghost use Rattle.wrp_sim.specs.Sim.{FitsSim, Follows, SimIs, StaysFit, as_is};
+ghost use Rattle.wrp_sim.specs.SimAt.{SimAt};
+ghost use Rattle.wrp_world.specs.Setting.{Setting, nodes_of};
+ghost use Rattle.wrp_world.specs.StandsFor.{IsValid, StandsFor};
+ghost use Rattle.wrp_world.specs.WorldAt.{WorldAt};
+
+use super::asking::{node_count, time};
+use super::pure::is_at;
+use super::state::State;
+use wrp_base::Tau;
+use wrp_world::{Event, World};
+
+// Whether a node that is up or down ticks now, where this is its tick time.
+fn ticks_by(up: bool, at: Tau, now: Tau) -> bool
+    ensures { result ≡ (up && int_eq at now) }
+{
+    up && is_at(at, now)
+}
+
+impl State {
+    /// When a node ticks next.
+    pub(super) fn tick_of(&self, n: u8) -> Tau
+        requires { n < length self.now.tick_at.items }
+        ensures { slice_get self.now.tick_at.items n ≡ Some result }
+    {
+        self.tick_at[usize::from(n)]
+    }
+
+    // Whether the tick time of a node is now; a node that is down has none.
+    fn ticks_now<F: Fn(i64) -> i64>(&self, world: &World<F>, n: u8) -> bool
+        requires valid { IsValid F.pre F.post world.now }
+        requires fits { FitsSim world.now.plant.net.cfg self.now }
+        requires node { n < length world.now.nodes }
+        ensures { (s : Setting) (w : WorldAt) (at : SimAt) → StandsFor F.post s w world.now → SimIs at self.now
+            → result ≡ rule.ticks_now w at n }
+    {
+        let up = world.is_up(n);
+        let at = self.tick_of(n);
+        let now = time(world);
+        ticks_by(up, at, now)
+    }
+
+    // The first node whose tick time is now.
+    fn first_tick<F: Fn(i64) -> i64>(&self, world: &World<F>) -> Option<u8>
+        requires valid { IsValid F.pre F.post world.now }
+        requires fits { FitsSim world.now.plant.net.cfg self.now }
+        ensures value { (s : Setting) (w : WorldAt) (at : SimAt) → StandsFor F.post s w world.now → SimIs at self.now
+            → result ≡ find (rule.ticks_now w at) (nodes_of s) }
+        ensures within { IfSome result (λ n. n < length world.now.nodes) }
+    {
+        let count = node_count(world);
+        for n in 0..count {
+            if self.ticks_now(world, n) {
+                return Some(n);
+            }
+        }
+        None
+    }
+
+    /// A node ticks whose tick time is now.
+    pub(super) fn tick<F: Fn(i64) -> i64>(&mut self, world: &World<F>) -> Option<Event>
+        requires valid { IsValid F.pre F.post world.now }
+        requires fits { FitsSim world.now.plant.net.cfg self.old }
+        ensures follows { Follows F.post (λ scene s w at. rule.ticks s w at) as_is world.now self.old self.new result }
+        ensures stays { StaysFit world.now.plant.net.cfg self.old self.new }
+    {
+        match self.first_tick(world) {
+            Some(n) => {
+                self.set_tick(world, n);
+                self.ticked = Some(n);
+                Some(Event::Tick { node: n })
+            }
+            None => None,
+        }
+    }
+}
