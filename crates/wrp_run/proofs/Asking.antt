@@ -18,16 +18,16 @@ use Rattle.wrp_run.specs.Input.{network_text, behind_separator, network_limit, I
 use Rattle.wrp_run.specs.Lines.{lines_of}
 use Rattle.wrp_run.specs.Meaning.{Meaning}
 use Rattle.wrp_run.specs.Reader.{ReaderAt, piece_limit}
-use Rattle.wrp_run.specs.RecordsAnswer.{RecordsAnswer, AreFirst}
+use Rattle.wrp_run.specs.RecordsAnswer.{RecordsAnswer, StandsFirst}
 use Rattle.wrp_run.specs.Replays.{IsRefusedBy}
 use Rattle.wrp_run.specs.Statuses.{is_answer}
 use Rattle.wrp_run.specs.Stream.{RefusedAt, CutHandled}
 use Rattle.wrp_run.specs.Refusals.{bad_network_line, usage_line, too_large_line}
-use Rattle.wrp_run.specs.Tasks.{Task, Replay, Audit, Emit, AsksFor, meaning_at}
+use Rattle.wrp_run.specs.Tasks.{Task, Replay, Audit, Emit, Simulate, AsksFor, meaning_at}
 use Rattle.wrp_run.proofs.Feeds.{lines_of-open}
 use Rattle.wrp_run.proofs.Networking.{next_line}
 use Rattle.wrp_run.proofs.Reaching.{lines_behind, next_some}
-use Rattle.wrp_run.proofs.Telling.{DueOf, due_told, answer_told, first_told}
+use Rattle.wrp_run.proofs.Telling.{DueOf, due_told, answer_told, stands_told}
 
 -- what is due for the records is due for the words and the input
 answer_of : (words : List (List ℕ)) (input : List ℕ) (task : Task) (status : Status) (octets : List ℕ) → AsksFor words (network_text input) task
@@ -123,8 +123,8 @@ firsts : (words : List (List ℕ)) (first middle last held now : Option (List �
     → IfSome first (λ input. FirstAnswer words input at.octets)
 firsts words None middle last held now text r s task net at = tt
 firsts words (Some input) middle last held now text r s task net at =
-    let has = lines_told (λ (ls : List (List ℕ)). AreFirst (meaning_at task) ls at.octets) words (Some input) middle last held now text r s task OutOfMemory net at
-    (first_told (meaning_at task) (r.rest ++ at.given) s at.octets at.stands) in
+    let has = lines_told (λ (ls : List (List ℕ)). StandsFirst (meaning_at task) ls at.octets) words (Some input) middle last held now text r s task OutOfMemory net at
+    (stands_told (meaning_at task) (r.rest ++ at.given) s at.octets at.stands) in
     inr (task, has.0, has.1)
 
 -- a part of what is due
@@ -241,9 +241,10 @@ cut_told words network given text octets r task divided asks goes cut =
 
 -- words that ask for a task are a command
 pub command_of : (words : List (List ℕ)) (text : List ℕ) (task : Task) → AsksFor words text task → IsCommand words
-command_of words text (Replay site) asks = inr (asks.1, inl asks.2)
+command_of words text (Replay site) asks = inr (inl (asks.1, inl asks.2))
 command_of words text (Audit setting) asks = inl asks.1
-command_of words text (Emit setting node) asks = inr (asks.1, inr asks.2)
+command_of words text (Emit setting node) asks = inr (inl (asks.1, inr asks.2))
+command_of words text (Simulate setting seed) asks = inr (inr (seed, asks.1))
 
 -- how a run ends that came to the records
 pub records_end : (run : Run) (middle : Option (List ℕ)) (text : List ℕ) (r s : ReaderAt) (task : Task) (status : Status)
@@ -362,7 +363,7 @@ pub no_node_ends : (run : Run) (given : Status) (middle : Option (List ℕ)) (ne
     → IsDivided network text r → (r.ended ≡ true → IsAtEnd middle) → Finishes Usage given run.held run.now usage_line → (given ≡ WriteFault → WriteFailed run) → Ends run given
 no_node_ends run given middle network text r none one divided at_end how writes =
     let told = told_no_node run.words run.input text (told_text run.input middle network text r one divided at_end) none in
-    line_ends run Usage given usage_line how writes (told_no_usage run.words run.input told) (λ wrote. (wrote, inr (inr (none.name, none.words_are), told)))
+    line_ends run Usage given usage_line how writes (told_no_usage run.words run.input told) (λ wrote. (wrote, inr (inr (inl (none.name, none.words_are)), told)))
 
 pub usage_ends : (run : Run) (given : Status) → (IsCommand run.words → ⊥) → Finishes Usage given run.held run.now usage_line → (given ≡ WriteFault → WriteFailed run) → Ends run given
 usage_ends run given none how writes =

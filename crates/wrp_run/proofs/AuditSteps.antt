@@ -24,7 +24,7 @@ use Rattle.wrp_node.specs.StandsFor.{NodeOf, StandsFor as NodeStandsFor}
 use Rattle.wrp_node.proofs.OwnPorts.{slave_is_above}
 use Rattle.wrp_servo.specs.Servo.{AllAnswered}
 use Rattle.wrp_trace.specs.Events.{event_read, plain}
-use Rattle.wrp_trace.specs.Reading.{IsReading}
+use Rattle.wrp_fields.specs.Reading.{IsReading}
 use Rattle.wrp_world.specs.Checks.{AllHold, told_of}
 use Rattle.wrp_world.specs.declared.event.Event.{Event}
 use Rattle.wrp_world.specs.declared.outcome.NodeOut.{NodeOut}
@@ -41,7 +41,7 @@ use Rattle.wrp_run.specs.declared.machine.Refusal.{Refusal}
 use Rattle.wrp_run.specs.declared.machine.Refusal.TheVariants as refusals
 use Rattle.wrp_run.specs.declared.machine.Taken.{Taken}
 use Rattle.wrp_run.specs.declared.machine.Taken.TheVariants as taken
-use Rattle.wrp_run.specs.Audited.{AreEvents, IsAudit, answers_in, node_in, setting_at}
+use Rattle.wrp_run.specs.Audited.{AllHeard, AreEvents, IsAudit, answers_in, node_in, setting_at}
 use Rattle.wrp_run.specs.AuditLaws.{OneAudit}
 use Rattle.wrp_run.specs.Audits.{Breaks}
 use Rattle.wrp_run.specs.AuditStands.{AuditedSo, Broke, CanAudit, Happens, HasAudited, HasLawOf, TellsFault, Took, line_by, lines_by, setting_in, task_of}
@@ -58,7 +58,7 @@ use Rattle.wrp_run.proofs.Runs.{HasNoSlave, no_calls, run_of}
 abbrev IsMade : Setting → WorldAt → Type 0
 IsMade s w = (n : ℕ) → w.node n ≡ node_after (fixed_of s n) (w.inputs n)
 
-made_given : (s : Setting) (y : ℤ) (v : WorldAt) (g : Given) → IsMade s v → IsMade s (gives s y v g)
+pub made_given : (s : Setting) (y : ℤ) (v : WorldAt) (g : Given) → IsMade s v → IsMade s (gives s y v g)
 made_given s y v g made n = go (n == g.to) refl
   where
     go : (b : Bool) → (n == g.to) ≡ b → (if b then (step_of s y v g).node else v.node n) ≡ node_after (fixed_of s n) (if b then taken_of y g ∷ v.inputs n else v.inputs n)
@@ -126,6 +126,13 @@ answered {F} {post = post} net w world tree counted stands laws made n = go (lin
         let run = run_of {post = post} (law_at (node_in s n)) (fixed_of s n) item.0 (w.inputs n) (stands.nodes n item.0 item.1).stands (laws n item.0 item.1) in
         subst (λ (node : NodeAt). AllAnswered (answers_in s n) (settings_of (fixed_of s n)) node.calls) (sym (made n)) run.answered
 
+-- Frames are read as their octets say
+
+all_heard : {F : Type 0} {post : F → ℤ → ℤ → Type 0} (net : Network) (w : WorldAt) (world : WorldOf F) → length world.nodes ≡ node_count net.cfg → StandsFor post (setting_in net) w world → AllHeard (setting_in net) w
+all_heard {F} {post} net w world counted stands n below =
+    let item = has_item world.nodes n (omega (arith, below, counted)) in
+    (stands.nodes n item.0 item.1).stands.said
+
 -- One event more
 
 -- the run with it
@@ -142,6 +149,7 @@ one_run_more {F} {post} net emit lines line text events e new tree counted laws 
         said = (took.said, audit.run.said);
         answered = answered {post = post} net (world_after (setting_in net) (h ∷ events)) new tree counted took.stands laws (made_after (setting_in net) (h ∷ events));
       };
+      heard = all_heard {post = post} net (world_after (setting_in net) (h ∷ events)) new counted took.stands;
     }
 
 -- what is written of it
@@ -276,7 +284,7 @@ same_count post s w old new stood stays = (stays s w stood).plant.count ∙ sym 
 
 -- no lines are a run, which writes nothing
 pub nothing_audited : (s : Setting) → IsAudit s [] []
-nothing_audited s = record { are = refl; run = record { accepted = tt; said = tt; answered = λ n. tt } }
+nothing_audited s = record { are = refl; run = record { accepted = tt; said = tt; answered = λ n. tt }; heard = λ n below. tt }
 
 pub nothing_accepted : (emit : Option ℕ) (s : Setting) → (meaning_at (task_of emit s)).accepts [] []
 nothing_accepted None s = ([], nothing_audited s, refl)

@@ -44,7 +44,7 @@ bare_setting s = record s { cfg = bare_cfg s.cfg }
 
 -- What stands where in the network
 
-link_bare : (s : Setting) (k : ℕ) → link_of (bare_setting s) k ≡ option_map bare_link (link_of s k)
+pub link_bare : (s : Setting) (k : ℕ) → link_of (bare_setting s) k ≡ option_map bare_link (link_of s k)
 link_bare s k = slice_get-map bare_link s.cfg.links.items k
 
 end_over : (r : Role) (o : Option LinkCfg) → option_map (end_of r) (option_map bare_link o) ≡ option_map (end_of r) o
@@ -52,7 +52,7 @@ end_over r None = refl
 end_over Master (Some link) = refl
 end_over Slave (Some link) = refl
 
-ends_bare : (s : Setting) → end_at (bare_setting s) ≡ end_at s
+pub ends_bare : (s : Setting) → end_at (bare_setting s) ≡ end_at s
 ends_bare s = λ i k r. (ap (option_map (end_of r)) (link_bare s k) ∙ end_over r (link_of s k)) i
 
 entry_over : (db : Database) (r : Role) (name : List ℕ) (o : Option LinkCfg) →
@@ -62,7 +62,7 @@ entry_over db r name None = refl
 entry_over db Master name (Some link) = refl
 entry_over db Slave name (Some link) = refl
 
-entries_bare : (s : Setting) → entry_at (bare_setting s) ≡ entry_at s
+pub entries_bare : (s : Setting) → entry_at (bare_setting s) ≡ entry_at s
 entries_bare s = λ i k r name.
     (ap (option_and_then (λ (link : LinkCfg). module_at s.db name (sends_nm r link) (sends_nm (other_of r) link))) (link_bare s k) ∙ entry_over s.db r name (link_of s k)) i
 
@@ -72,23 +72,23 @@ place_over n p k (link ∷ links) =
     ap (λ (rest : Option Place). if is_upper_end n p link then Some (record { link = k; role = Master }) else (if is_lower_end n p link then Some (record { link = k; role = Slave }) else rest))
     (place_over n p (k + 1) links)
 
-places_bare : (s : Setting) → place_of (bare_setting s) ≡ place_of s
+pub places_bare : (s : Setting) → place_of (bare_setting s) ≡ place_of s
 places_bare s = λ i n p. place_over n p 0 s.cfg.links.items i
 
-aboves_bare : (s : Setting) → above (bare_setting s) ≡ above s
+pub aboves_bare : (s : Setting) → above (bare_setting s) ≡ above s
 aboves_bare s = λ i n. position-map (λ (link : LinkCfg). link.lower == n) bare_link s.cfg.links.items i
 
 pub nodes_bare : (s : Setting) → nodes_of (bare_setting s) ≡ nodes_of s
 nodes_bare s = ap (λ (count : ℕ). from_on count 0) (length-map s.cfg.nodes.items bare_node)
 
-links_bare : (s : Setting) → links_of (bare_setting s) ≡ links_of s
+pub links_bare : (s : Setting) → links_of (bare_setting s) ≡ links_of s
 links_bare s = ap (λ (count : ℕ). from_on count 0) (length-map s.cfg.links.items bare_link)
 
 number_over : (number : NodeCfg → ℕ) → ((node : NodeCfg) → number (bare_node node) ≡ number node) → (o : Option NodeCfg) → option_map_or number (option_map bare_node o) 0 ≡ option_map_or number o 0
 number_over number same None = refl
 number_over number same (Some node) = same node
 
-number_bare : (number : NodeCfg → ℕ) → ((node : NodeCfg) → number (bare_node node) ≡ number node) → (s : Setting) → of_node number (bare_setting s) ≡ of_node number s
+pub number_bare : (number : NodeCfg → ℕ) → ((node : NodeCfg) → number (bare_node node) ≡ number node) → (s : Setting) → of_node number (bare_setting s) ≡ of_node number s
 number_bare number same s = λ i n.
     (ap (λ (o : Option NodeCfg). option_map_or number o 0) (slice_get-map bare_node s.cfg.nodes.items n) ∙ number_over number same (slice_get s.cfg.nodes.items n)) i
 
@@ -96,7 +96,7 @@ up_over : (clock : ℕ → ClockState) (o : Option LinkCfg) → ends_are_up cloc
 up_over clock None = refl
 up_over clock (Some link) = refl
 
-carriers_bare : (s : Setting) → has_carrier (bare_setting s) ≡ has_carrier s
+pub carriers_bare : (s : Setting) → has_carrier (bare_setting s) ≡ has_carrier s
 carriers_bare s = λ i w k. (w.fibre k).joined && (ap (ends_are_up w.clock) (link_bare s k) ∙ up_over w.clock (link_of s k)) i
 
 some_over : (o : Option LinkCfg) → is_some (option_map bare_link o) ≡ is_some o
@@ -117,7 +117,7 @@ name_over r None = refl
 name_over Master (Some link) = refl
 name_over Slave (Some link) = refl
 
-names_bare : (s : Setting) → first_name (bare_setting s) ≡ first_name s
+pub names_bare : (s : Setting) → first_name (bare_setting s) ≡ first_name s
 names_bare s = λ i k r. (ap (λ (o : Option LinkCfg). option_map_or (named_at r) o []) (link_bare s k) ∙ name_over r (link_of s k)) i
 
 new_bare : (s : Setting) → new_world (bare_setting s) ≡ new_world s
@@ -249,7 +249,7 @@ steps_at_bare s before h =
 
 -- Premises
 
-rates_bare : (s : Setting) → rate_of (bare_setting s) ≡ rate_of s
+pub rates_bare : (s : Setting) → rate_of (bare_setting s) ≡ rate_of s
 rates_bare s = λ i w n.
     if not (tops_bare s i n) then Some 0
     else (if not (w.clock n).up then None

@@ -15,11 +15,12 @@ use Rattle.wrp_node.specs.declared.interface.Input.TheVariants as inputs
 use Rattle.wrp_trace.specs.Changes.{SaidAt, change_said, changes_said, named_said, nothing_said}
 use Rattle.wrp_trace.specs.declared.events.kinds.EventKind.{EventKind}
 use Rattle.wrp_trace.specs.declared.events.kinds.EventKind.TheVariants as kinds
-use Rattle.wrp_trace.specs.EventFields.{before, behind, link_at, node_at, span_at}
+use Rattle.wrp_fields.specs.Fields.{link_at, node_at}
+use Rattle.wrp_trace.specs.EventFields.{before, behind, span_at}
 use Rattle.wrp_trace.specs.EventKinds.{kind_of}
 use Rattle.wrp_trace.specs.Events.{counted_of, event_of, event_read, fields_of_kind, pass_with}
 use Rattle.wrp_trace.specs.Printing.{line_of}
-use Rattle.wrp_trace.specs.Reading.{field_of, name_or_fault, ◌>>=◌}
+use Rattle.wrp_fields.specs.Reading.{field_of, name_or_fault, ◌>>=◌}
 use Rattle.wrp_trace.specs.Site.{Site}
 use Rattle.wrp_world.specs.declared.event.Event.{Event}
 use Rattle.wrp_run.proofs.BareSite.{bare_site, bind_same, named_bare, pair_bare}

@@ -27,7 +27,7 @@ use Rattle.wrp_trace.specs.declared.kinds.InputKind.TheVariants as kinds
 use Rattle.wrp_trace.specs.Fields.{module_at as module_in, own_port, port_at, short_at}
 use Rattle.wrp_trace.specs.Inputs.{counted_of, fields_of_kind, input_of, read_of, up_of}
 use Rattle.wrp_trace.specs.Kinds.{kind_of}
-use Rattle.wrp_trace.specs.Reading.{field_of, name_or_fault, ◌>>=◌}
+use Rattle.wrp_fields.specs.Reading.{field_of, name_or_fault, ◌>>=◌}
 use Rattle.wrp_trace.specs.Site.{Site, has_port, is_grandmaster, named_at}
 use Rattle.wrp_run.specs.DownLaw.{down_over, fixed_at, greatest_over, law_at, least_over}
 

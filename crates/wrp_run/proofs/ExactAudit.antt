@@ -1,15 +1,20 @@
 -- What the relations of an audit keep: record lines have one text, one refusal and one end.
-use Rattle.std.proofs.Common.{◌≡◌, ◌∙◌, refl, ap, ap₂, sym, subst, append_assoc, append-nil, ℕ, ◌+◌, Bool, true, false, cond, Option, None, Some, option_map, Result, Ok, Err, List, [], ◌∷◌, ◌++◌, length, map, reverse}
+use Rattle.std.proofs.Common.{◌≡◌, ◌∙◌, refl, ap, ap₂, sym, subst, append_assoc, append-nil, ℕ, ℤ, ◌+◌, ◌==◌, Bool, true, false, cond, if◌then◌else◌, Option, None, Some, option_map, Result, Ok, Err, List, [], ◌∷◌, ◌++◌, length, map, reverse}
 use Rattle.std.specs.List.{find}
 use Rattle.std.proofs.lemmas.List.{map-append, reverse-append, reverse-reverse}
 use Rattle.wrp_base.specs.declared.fault.TraceFault.{TraceFault}
+use Rattle.wrp_node.specs.NodeAt.{Taken}
+use Rattle.wrp_node.specs.NodeRun.{AllSaid}
 use Rattle.wrp_trace.specs.Events.{event_read}
 use Rattle.wrp_world.specs.Checks.{AllHold, Check, breach_of, first_broken, told_of}
 use Rattle.wrp_world.specs.declared.checks.Breach.{Breach}
 use Rattle.wrp_world.specs.declared.event.Event.{Event}
+use Rattle.wrp_world.specs.Given.{Given, given_by, gives, gives_all, taken_of}
+use Rattle.wrp_world.specs.Moved.{moved}
 use Rattle.wrp_world.specs.Premises.{Accepts, checks_of}
 use Rattle.wrp_world.specs.Run.{Happened, IsSaid, WorldRun, world_after}
 use Rattle.wrp_world.specs.Setting.{Setting}
+use Rattle.wrp_world.specs.WorldAt.{WorldAt}
 use Rattle.wrp_run.specs.declared.machine.Refusal.{Refusal}
 use Rattle.wrp_run.specs.declared.machine.Refusal.TheVariants as refusals
 use Rattle.wrp_run.specs.Audited.{AreEvents, IsAudit}
@@ -18,7 +23,7 @@ use Rattle.wrp_run.specs.Audits.{AuditRefuses, Breaks, audit_of, emission_of}
 use Rattle.wrp_run.specs.Refusals.{bad_trace_line, broken_line}
 use Rattle.wrp_run.proofs.OneAudit.{read}
 use Rattle.wrp_run.proofs.OneWorld.{before_newest}
-use Rattle.wrp_run.proofs.Unique.{IsExact}
+use Rattle.wrp_run.proofs.Unique.{IsExact, ends_once}
 
 -- The newest event of a run
 
@@ -42,6 +47,20 @@ none_ends (y ∷ xs) x e = cc
 turned : (h : Happened) (events : List Happened) → map read (reverse (h ∷ events)) ≡ map read (reverse events) ++ read h ∷ []
 turned h events = ap (map read) (reverse-append (h ∷ []) events) ∙ map-append read (reverse events) (h ∷ [])
 
+-- what a node was given before an event is read as it is after it
+one_before : (b : Bool) (t : Taken) (inputs : List Taken) → AllSaid (if b then t ∷ inputs else inputs) → AllSaid inputs
+one_before true t inputs said = said.1
+one_before false t inputs said = said
+
+all_before : (s : Setting) (y : ℤ) (gs : List Given) (v : WorldAt) (n : ℕ) → AllSaid ((gives_all s y v gs).inputs n) → AllSaid (v.inputs n)
+all_before s y [] v n said = said
+all_before s y (g ∷ gs) v n said = one_before (n == g.to) (taken_of y g) (v.inputs n) (all_before s y gs (gives s y v g) n said)
+
+heard_before : (s : Setting) (h : Happened) (before : List Happened) (n : ℕ) → AllSaid ((world_after s (h ∷ before)).inputs n) → AllSaid ((world_after s before).inputs n)
+heard_before s h before n said =
+    let w : WorldAt = world_after s before in
+    all_before s h.answer (given_by s w (moved s w h.event) h.says h.event) (moved s w h.event) n said
+
 -- of a run the last line says the newest event, and those before it are a run
 record Newest (s : Setting) (lines : List (List ℕ)) (line : List ℕ) (events : List Happened) : Type 0 where
   newest : Happened
@@ -64,6 +83,7 @@ newest_of s lines line (h ∷ before) audit =
       audit = record {
         are = ends.0;
         run = record { accepted = audit.run.accepted.1; said = audit.run.said.1; answered = before_newest s h before audit.run.answered };
+        heard = λ n below. heard_before s h before n (audit.heard n below);
       };
       reads = ends.1;
       said = audit.run.said.0;
@@ -142,7 +162,7 @@ exact_audit one s = record {
   one_text = λ lines t u p q. p.2 ∙ (one s lines p.0 q.0 p.1 q.1).lines ∙ sym q.2;
   not_both = λ before behind line t last refusal p q. never_refused one s before behind line last p.0 refusal p.1 q;
   one_refusal = one_refused one s;
-  one_end = λ lines t u p q. p.2 ∙ (one s lines p.0 q.0 p.1 q.1).counts ∙ sym q.2;
+  one_end = ends_once (audit_of s) (λ lines text never. never) (λ lines t u p q. p.2 ∙ (one s lines p.0 q.0 p.1 q.1).counts ∙ sym q.2);
 }
 
 pub exact_emission : OneAudit → (s : Setting) (n : ℕ) → IsExact (emission_of s n)
@@ -150,5 +170,5 @@ exact_emission one s n = record {
   one_text = λ lines t u p q. p.2 ∙ (one s lines p.0 q.0 p.1 q.1).given n ∙ sym q.2;
   not_both = λ before behind line t last refusal p q. never_refused one s before behind line last p.0 refusal p.1 q;
   one_refusal = one_refused one s;
-  one_end = λ lines t u p q. p ∙ sym q;
+  one_end = ends_once (emission_of s n) (λ lines text never. never) (λ lines t u p q. p ∙ sym q);
 }

@@ -30,7 +30,7 @@ use Rattle.wrp_node.specs.Set.{set_of}
 use Rattle.wrp_node.specs.StandsFor.{NodeOf, StandsFor, Took}
 use Rattle.wrp_trace.specs.InputAt.{IsInputAt}
 use Rattle.wrp_trace.specs.Inputs.{read_of}
-use Rattle.wrp_trace.specs.Reading.{IsReading}
+use Rattle.wrp_fields.specs.Reading.{IsReading}
 use Rattle.wrp_trace.specs.Site.{Site}
 use Rattle.wrp_run.specs.declared.machine.Refusal.{Refusal}
 use Rattle.wrp_run.specs.declared.machine.Refusal.TheVariants as refusals

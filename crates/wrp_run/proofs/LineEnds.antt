@@ -24,7 +24,7 @@ ends_by (c ∷ cs) front is = elim (cases_Bool (c == 13)) [
   | inr other ↦ rw other (inl (ap (λ (l : List ℕ). l ++ 10 ∷ []) (sym is)))
 ]
 
-content_whole : (front : List ℕ) → content_of (front ++ 10 ∷ []) ≡ reverse (without_return (reverse front))
+pub content_whole : (front : List ℕ) → content_of (front ++ 10 ∷ []) ≡ reverse (without_return (reverse front))
 content_whole front = rw (reverse-append front (10 ∷ [])) refl
 
 pub line_ends : (line : List ℕ) → IsWhole line → Ends line (content_of line)

@@ -53,7 +53,7 @@ high_is {F} {pre} {post} net laws fit tree n = go (slice_get laws n) refl
     go None is = rw is (sym (ap (greatest_over net.db) (none_above net laws n tree fit.count is)))
     go (Some law) is = rw is (ap (λ (f : Fixed). f.hi) (fit.each n law is).is.range)
 
-setting_is : {F : Type 0} {pre : F → ℤ → Type 0} {post : F → ℤ → ℤ → Type 0} (net : Network) (laws : List (Option (LawOf F))) → LawsFit pre post net laws → IsTree net.cfg → setting_of net.cfg net.db laws ≡ setting_in net
+pub setting_is : {F : Type 0} {pre : F → ℤ → Type 0} {post : F → ℤ → ℤ → Type 0} (net : Network) (laws : List (Option (LawOf F))) → LawsFit pre post net laws → IsTree net.cfg → setting_of net.cfg net.db laws ≡ setting_in net
 setting_is {pre = pre} {post = post} net laws fit tree = λ i. record {
   cfg = net.cfg;
   db = net.db;
@@ -64,7 +64,7 @@ setting_is {pre = pre} {post = post} net laws fit tree = λ i. record {
 
 -- The laws of the nodes
 
-laws_are : {F : Type 0} {pre : F → ℤ → Type 0} {post : F → ℤ → ℤ → Type 0} (net : Network) (laws : List (Option (LawOf F))) (world : WorldOf F) → LawsFit pre post net laws → HasLaws laws world
+pub laws_are : {F : Type 0} {pre : F → ℤ → Type 0} {post : F → ℤ → ℤ → Type 0} (net : Network) (laws : List (Option (LawOf F))) (world : WorldOf F) → LawsFit pre post net laws → HasLaws laws world
     → length world.nodes ≡ node_count net.cfg → HasLawOf post (setting_in net) world
 laws_are {F} {post = post} net laws world fit has counted n node is =
     let within : n < length world.nodes = at_place world.nodes n node is in

@@ -1,5 +1,5 @@
 -- For words and an input one status and one text are due, and no others.
-use Rattle.std.proofs.Common.{true, false, ◌≡◌, ◌⊎◌, inl, inr, ℕ, ◌<◌, ◌≤◌, Option, None, Some, IfSome, Ok, Err, List, length, refl, sym, ap, ap₂, ◌∙◌, subst, arith, codes}
+use Rattle.std.proofs.Common.{true, false, ◌≡◌, ◌⊎◌, inl, inr, ℕ, ◌<◌, ◌≤◌, Option, None, Some, IfSome, Ok, Err, List, [], length, refl, sym, ap, ap₂, ◌∙◌, subst, arith, codes}
 use Rattle.std.specs.Io.KnownBytes.{Appends}
 use Rattle.wrp_base.specs.declared.configuration.NetCfg.{NetCfg}
 use Rattle.wrp_base.specs.declared.fault.ConfFault.TheVariants.{Fault}
@@ -9,13 +9,15 @@ use Rattle.wrp_config.specs.Names.{node_named}
 use Rattle.wrp_node.specs.OneRun.{OneRun, OneNode}
 use Rattle.wrp_trace.specs.Site.{Site}
 use Rattle.wrp_world.specs.Setting.{Setting}
+use Rattle.wrp_servo.specs.Told.{ToldLast}
+use Rattle.wrp_run.specs.declared.command_line.Form.TheVariants as forms
 use Rattle.wrp_run.specs.declared.status.Status.{Status}
 use Rattle.wrp_run.specs.declared.status.Status.TheVariants.{Done, Usage, BadNetwork, BadTrace, Broken, ReadFault, WriteFault, LinkFault, TooLarge, OutOfMemory}
 use Rattle.wrp_run.specs.Answer.{Answer, AsksNone, IsCommand, TaskAnswer}
 use Rattle.wrp_run.specs.Audited.{IsSettingOf, setting_at}
 use Rattle.wrp_run.specs.AuditLaws.{OneAudit}
 use Rattle.wrp_run.specs.Audits.{audit_of, emission_of}
-use Rattle.wrp_run.specs.Tasks.{Task, Replay, Audit, Emit, AsksFor, IsEmission, IsReplay, meaning_at}
+use Rattle.wrp_run.specs.Tasks.{Task, Replay, Audit, Emit, Simulate, AsksFor, IsEmission, IsReplay, meaning_at}
 use Rattle.wrp_run.specs.Ends.{Run, Ends, ReadFailed, WriteFailed, Wrote}
 use Rattle.wrp_run.specs.Statuses.{is_answer}
 use Rattle.wrp_run.specs.Input.{network_text, behind_separator, network_limit}
@@ -23,14 +25,17 @@ use Rattle.wrp_run.specs.Lines.{lines_of}
 use Rattle.wrp_run.specs.RecordsAnswer.{RecordsAnswer}
 use Rattle.wrp_run.specs.Refusals.{bad_network_line, usage_line, too_large_line}
 use Rattle.wrp_run.specs.Replays.{IsAccepted, IsRefusedBy, meaning_of}
+use Rattle.wrp_run.specs.Simulates.{simulation_of}
 use Rattle.wrp_run.proofs.Asking.{command_of}
 use Rattle.wrp_run.proofs.BareAudit.{bare_is, bare_setting}
 use Rattle.wrp_run.proofs.BareRuns.{bare_answer, bare_emission}
+use Rattle.wrp_run.proofs.BareSim.{bare_simulation}
 use Rattle.wrp_run.proofs.BareSite.{named_bare}
 use Rattle.wrp_run.proofs.ExactAudit.{exact_audit, exact_emission}
 use Rattle.wrp_run.proofs.OneReplay.{exact_replay}
+use Rattle.wrp_run.proofs.OneSim.{exact_simulation}
 use Rattle.wrp_run.proofs.Unique.{one_records_answer}
-use Rattle.wrp_run.proofs.WordLemmas.{audit_alone, emission_alone, no_option, one_value}
+use Rattle.wrp_run.proofs.WordLemmas.{audit_alone, emission_alone, no_option, one_seed, one_value, simulation_alone}
 
 -- a site of these parts
 abbrev site_with : NetCfg → Database → ℕ → Site
@@ -54,7 +59,7 @@ one_site words text a b p q =
     ap (λ (c : NetCfg). site_with c a.db a.node) cfg ∙ ap (λ (d : Database). site_with b.cfg d a.node) db ∙ ap (λ (n : ℕ). site_with b.cfg b.db n) node
 
 -- words and a text ask of one network, whatever stands in the unused room of its names
-one_setting : (text : List ℕ) (a b : Setting) → IsSettingOf text a → IsSettingOf text b → bare_setting a ≡ bare_setting b
+pub one_setting : (text : List ℕ) (a b : Setting) → IsSettingOf text a → IsSettingOf text b → bare_setting a ≡ bare_setting b
 one_setting text a b p q =
     let nets = one_reading text (Ok p.net) (Ok q.net) p.reads q.reads in
     ap bare_setting p.is ∙ sym (bare_is p.net.cfg p.net.db) ∙ ap₂ setting_at nets.0 nets.1 ∙ bare_is q.net.cfg q.net.db ∙ ap bare_setting (sym q.is)
@@ -84,6 +89,11 @@ not_missing words text (Replay site) p q = no_site words text site p q
 not_missing words text (Audit s) p q =
     elim p.words_are [ inl replay ↦ audit_alone words p.name q.1 replay | inr emission ↦ no_option words p.name q.1 emission ]
 not_missing words text (Emit s n) p q = no_emitter words text s n p q
+not_missing words text (Simulate s seed) p q =
+    elim p.words_are [
+      | inl replay ↦ simulation_alone forms.Replay words p.name seed replay (λ e. omega (arith, e)) q.1
+      | inr emission ↦ simulation_alone forms.Emit words p.name seed emission (λ e. omega (arith, e)) q.1
+    ]
 
 -- a text that is refused is refused by one line, and is not accepted
 one_refused : (text o u : List ℕ) → IsRefusedBy text o → IsRefusedBy text u → o ≡ u
@@ -98,11 +108,13 @@ is_accepted : (words : List (List ℕ)) (text : List ℕ) (task : Task) → Asks
 is_accepted words text (Replay site) asks = (asks.3.net, asks.3.reads)
 is_accepted words text (Audit s) asks = (asks.2.net, asks.2.reads)
 is_accepted words text (Emit s n) asks = (asks.3.net, asks.3.reads)
+is_accepted words text (Simulate s seed) asks = (asks.2.net, asks.2.reads)
 
 is_within : (words : List (List ℕ)) (text : List ℕ) (task : Task) → AsksFor words text task → length text ≤ network_limit
 is_within words text (Replay site) asks = asks.0
 is_within words text (Audit s) asks = asks.0
 is_within words text (Emit s n) asks = asks.0
+is_within words text (Simulate s seed) asks = asks.0
 
 -- the cases of an answer
 abbrev IsUnknown : List (List ℕ) → Status → List ℕ → Type 0
@@ -163,6 +175,14 @@ both_emissions one text lines a b n m s t o u p q is x y =
     (subst (λ (k : Setting). RecordsAnswer (emission_of k n) lines t u) same
     (subst (λ (k : ℕ). RecordsAnswer (emission_of (bare_setting b) k) lines t u) (sym is) (bare_emission b m lines t u y)))
 
+both_simulations : ToldLast → (text : List ℕ) (lines : List (List ℕ)) (a b : Setting) (m n : ℕ) (s t : Status) (o u : List ℕ) → IsSettingOf text a → IsSettingOf text b → m ≡ n
+    → RecordsAnswer (simulation_of a m) lines s o → RecordsAnswer (simulation_of b n) lines t u → AreOne s t o u
+both_simulations last text lines a b m n s t o u p q is x y =
+    let same : bare_setting b ≡ bare_setting a = one_setting text b a q p in
+    one_records_answer (simulation_of (bare_setting a) m) (exact_simulation last (bare_setting a) m) lines s t o u (bare_simulation a m lines s o x)
+    (subst (λ (k : Setting). RecordsAnswer (simulation_of k m) lines t u) same
+    (subst (λ (k : ℕ). RecordsAnswer (simulation_of (bare_setting b) k) lines t u) (sym is) (bare_simulation b n lines t u y)))
+
 -- the node of one name in one network
 one_emitter : (words : List (List ℕ)) (text : List ℕ) (a b : Setting) (n m : ℕ) → AsksFor words text (Emit a n) → AsksFor words text (Emit b m) → n ≡ m
 one_emitter words text a b n m p q =
@@ -171,57 +191,65 @@ one_emitter words text a b n m p q =
     some_same n m
     (sym p.4 ∙ sym (named_bare a.cfg p.1) ∙ ap₂ (λ (k : Setting) (name : List ℕ). node_named k.cfg name) same name ∙ named_bare b.cfg q.1 ∙ q.4)
 
-one_task : OneRun → OneNode → OneAudit → (words : List (List ℕ)) (text : List ℕ) (lines : List (List ℕ)) (a b : Task) (s t : Status) (o u : List ℕ) → AsksFor words text a → AsksFor words text b
+one_task : OneRun → OneNode → OneAudit → ToldLast → (words : List (List ℕ)) (text : List ℕ) (lines : List (List ℕ)) (a b : Task) (s t : Status) (o u : List ℕ) → AsksFor words text a → AsksFor words text b
     → RecordsAnswer (meaning_at a) lines s o → RecordsAnswer (meaning_at b) lines t u → AreOne s t o u
-one_task runs nodes one words text lines (Replay a) (Replay b) s t o u p q x y = both_replay runs nodes words text lines a b s t o u p q x y
-one_task runs nodes one words text lines (Replay a) (Audit b) s t o u p q x y = absurd (audit_alone words p.1 q.1 p.2)
-one_task runs nodes one words text lines (Replay a) (Emit b m) s t o u p q x y = absurd (emission_alone words q.1 p.1 q.2 p.2)
-one_task runs nodes one words text lines (Audit a) (Replay b) s t o u p q x y = absurd (audit_alone words q.1 p.1 q.2)
-one_task runs nodes one words text lines (Audit a) (Audit b) s t o u p q x y = both_audits one text lines a b s t o u p.2 q.2 x y
-one_task runs nodes one words text lines (Audit a) (Emit b m) s t o u p q x y = absurd (no_option words q.1 p.1 q.2)
-one_task runs nodes one words text lines (Emit a n) (Replay b) s t o u p q x y = absurd (emission_alone words p.1 q.1 p.2 q.2)
-one_task runs nodes one words text lines (Emit a n) (Audit b) s t o u p q x y = absurd (no_option words p.1 q.1 p.2)
-one_task runs nodes one words text lines (Emit a n) (Emit b m) s t o u p q x y =
+one_task runs nodes one last words text lines (Replay a) (Replay b) s t o u p q x y = both_replay runs nodes words text lines a b s t o u p q x y
+one_task runs nodes one last words text lines (Replay a) (Audit b) s t o u p q x y = absurd (audit_alone words p.1 q.1 p.2)
+one_task runs nodes one last words text lines (Replay a) (Emit b m) s t o u p q x y = absurd (emission_alone words q.1 p.1 q.2 p.2)
+one_task runs nodes one last words text lines (Audit a) (Replay b) s t o u p q x y = absurd (audit_alone words q.1 p.1 q.2)
+one_task runs nodes one last words text lines (Audit a) (Audit b) s t o u p q x y = both_audits one text lines a b s t o u p.2 q.2 x y
+one_task runs nodes one last words text lines (Audit a) (Emit b m) s t o u p q x y = absurd (no_option words q.1 p.1 q.2)
+one_task runs nodes one last words text lines (Emit a n) (Replay b) s t o u p q x y = absurd (emission_alone words p.1 q.1 p.2 q.2)
+one_task runs nodes one last words text lines (Emit a n) (Audit b) s t o u p q x y = absurd (no_option words p.1 q.1 p.2)
+one_task runs nodes one last words text lines (Emit a n) (Emit b m) s t o u p q x y =
     both_emissions one text lines a b n m s t o u p.3 q.3 (one_emitter words text a b n m p q) x y
+one_task runs nodes one last words text lines (Replay a) (Simulate b m) s t o u p q x y = absurd (simulation_alone forms.Replay words p.1 m p.2 (λ e. omega (arith, e)) q.1)
+one_task runs nodes one last words text lines (Audit a) (Simulate b m) s t o u p q x y = absurd (simulation_alone forms.Audit words [] m (p.1, refl) (λ e. omega (arith, e)) q.1)
+one_task runs nodes one last words text lines (Emit a n) (Simulate b m) s t o u p q x y = absurd (simulation_alone forms.Emit words p.1 m p.2 (λ e. omega (arith, e)) q.1)
+one_task runs nodes one last words text lines (Simulate a n) (Replay b) s t o u p q x y = absurd (simulation_alone forms.Replay words q.1 n q.2 (λ e. omega (arith, e)) p.1)
+one_task runs nodes one last words text lines (Simulate a n) (Audit b) s t o u p q x y = absurd (simulation_alone forms.Audit words [] n (q.1, refl) (λ e. omega (arith, e)) p.1)
+one_task runs nodes one last words text lines (Simulate a n) (Emit b m) s t o u p q x y = absurd (simulation_alone forms.Emit words q.1 n q.2 (λ e. omega (arith, e)) p.1)
+one_task runs nodes one last words text lines (Simulate a n) (Simulate b m) s t o u p q x y =
+    both_simulations last text lines a b n m s t o u p.2 q.2 (one_seed words n m p.1 q.1) x y
 
 -- two answers, of cases in order
-one_of_cases : OneRun → OneNode → OneAudit → (words : List (List ℕ)) (input : List ℕ) (s t : Status) (o u : List ℕ) → Cases words input s o → Cases words input t u → AreOne s t o u
-one_of_cases runs nodes one words input s t o u (inl p) (inl q) = (p.0 ∙ sym q.0, p.2 ∙ sym q.2)
-one_of_cases runs nodes one words input s t o u (inl p) (inr (inl q)) = absurd (p.1 q.1)
-one_of_cases runs nodes one words input s t o u (inl p) (inr (inr (inl q))) = absurd (p.1 q.1)
-one_of_cases runs nodes one words input s t o u (inl p) (inr (inr (inr (inl q)))) = absurd (p.1 (inr (q.1.name, q.1.words_are)))
-one_of_cases runs nodes one words input s t o u (inl p) (inr (inr (inr (inr q)))) = absurd (p.1 (is_command words input t u q))
-one_of_cases runs nodes one words input s t o u (inr (inl p)) (inr (inl q)) = (p.0 ∙ sym q.0, p.3 ∙ sym q.3)
-one_of_cases runs nodes one words input s t o u (inr (inl p)) (inr (inr (inl q))) = absurd (omega (arith, p.2, q.2))
-one_of_cases runs nodes one words input s t o u (inr (inl p)) (inr (inr (inr (inl q)))) = absurd (omega (arith, p.2, q.1.within))
-one_of_cases runs nodes one words input s t o u (inr (inl p)) (inr (inr (inr (inr q)))) =
+one_of_cases : OneRun → OneNode → OneAudit → ToldLast → (words : List (List ℕ)) (input : List ℕ) (s t : Status) (o u : List ℕ) → Cases words input s o → Cases words input t u → AreOne s t o u
+one_of_cases runs nodes one last words input s t o u (inl p) (inl q) = (p.0 ∙ sym q.0, p.2 ∙ sym q.2)
+one_of_cases runs nodes one last words input s t o u (inl p) (inr (inl q)) = absurd (p.1 q.1)
+one_of_cases runs nodes one last words input s t o u (inl p) (inr (inr (inl q))) = absurd (p.1 q.1)
+one_of_cases runs nodes one last words input s t o u (inl p) (inr (inr (inr (inl q)))) = absurd (p.1 (inr (inl (q.1.name, q.1.words_are))))
+one_of_cases runs nodes one last words input s t o u (inl p) (inr (inr (inr (inr q)))) = absurd (p.1 (is_command words input t u q))
+one_of_cases runs nodes one last words input s t o u (inr (inl p)) (inr (inl q)) = (p.0 ∙ sym q.0, p.3 ∙ sym q.3)
+one_of_cases runs nodes one last words input s t o u (inr (inl p)) (inr (inr (inl q))) = absurd (omega (arith, p.2, q.2))
+one_of_cases runs nodes one last words input s t o u (inr (inl p)) (inr (inr (inr (inl q)))) = absurd (omega (arith, p.2, q.1.within))
+one_of_cases runs nodes one last words input s t o u (inr (inl p)) (inr (inr (inr (inr q)))) =
     let within : length (network_text input) ≤ network_limit = is_within words (network_text input) q.0 q.1 in
     absurd (omega (arith, p.2, within))
-one_of_cases runs nodes one words input s t o u (inr (inr (inl p))) (inr (inr (inl q))) = (p.0 ∙ sym q.0, one_refused (network_text input) o u p.3 q.3)
-one_of_cases runs nodes one words input s t o u (inr (inr (inl p))) (inr (inr (inr (inl q)))) = absurd (not_accepted (network_text input) o p.3 (q.1.net, q.1.reads))
-one_of_cases runs nodes one words input s t o u (inr (inr (inl p))) (inr (inr (inr (inr q)))) = absurd (not_accepted (network_text input) o p.3 (is_accepted words (network_text input) q.0 q.1))
-one_of_cases runs nodes one words input s t o u (inr (inr (inr (inl p)))) (inr (inr (inr (inl q)))) = (p.0 ∙ sym q.0, p.2 ∙ sym q.2)
-one_of_cases runs nodes one words input s t o u (inr (inr (inr (inl p)))) (inr (inr (inr (inr q)))) =
+one_of_cases runs nodes one last words input s t o u (inr (inr (inl p))) (inr (inr (inl q))) = (p.0 ∙ sym q.0, one_refused (network_text input) o u p.3 q.3)
+one_of_cases runs nodes one last words input s t o u (inr (inr (inl p))) (inr (inr (inr (inl q)))) = absurd (not_accepted (network_text input) o p.3 (q.1.net, q.1.reads))
+one_of_cases runs nodes one last words input s t o u (inr (inr (inl p))) (inr (inr (inr (inr q)))) = absurd (not_accepted (network_text input) o p.3 (is_accepted words (network_text input) q.0 q.1))
+one_of_cases runs nodes one last words input s t o u (inr (inr (inr (inl p)))) (inr (inr (inr (inl q)))) = (p.0 ∙ sym q.0, p.2 ∙ sym q.2)
+one_of_cases runs nodes one last words input s t o u (inr (inr (inr (inl p)))) (inr (inr (inr (inr q)))) =
     absurd (not_missing words (network_text input) q.0 p.1 q.1)
-one_of_cases runs nodes one words input s t o u (inr (inr (inr (inr p)))) (inr (inr (inr (inr q)))) =
-    one_task runs nodes one words (network_text input) (behind_separator (lines_of input)) p.0 q.0 s t o u p.1 q.1 p.2 q.2
-one_of_cases runs nodes one words input s t o u (inr (inl p)) (inl q) = absurd (q.1 p.1)
-one_of_cases runs nodes one words input s t o u (inr (inr (inl p))) (inl q) = absurd (q.1 p.1)
-one_of_cases runs nodes one words input s t o u (inr (inr (inr (inl p)))) (inl q) = absurd (q.1 (inr (p.1.name, p.1.words_are)))
-one_of_cases runs nodes one words input s t o u (inr (inr (inr (inr p)))) (inl q) = absurd (q.1 (is_command words input s o p))
-one_of_cases runs nodes one words input s t o u (inr (inr (inl p))) (inr (inl q)) = absurd (omega (arith, q.2, p.2))
-one_of_cases runs nodes one words input s t o u (inr (inr (inr (inl p)))) (inr (inl q)) = absurd (omega (arith, q.2, p.1.within))
-one_of_cases runs nodes one words input s t o u (inr (inr (inr (inr p)))) (inr (inl q)) =
+one_of_cases runs nodes one last words input s t o u (inr (inr (inr (inr p)))) (inr (inr (inr (inr q)))) =
+    one_task runs nodes one last words (network_text input) (behind_separator (lines_of input)) p.0 q.0 s t o u p.1 q.1 p.2 q.2
+one_of_cases runs nodes one last words input s t o u (inr (inl p)) (inl q) = absurd (q.1 p.1)
+one_of_cases runs nodes one last words input s t o u (inr (inr (inl p))) (inl q) = absurd (q.1 p.1)
+one_of_cases runs nodes one last words input s t o u (inr (inr (inr (inl p)))) (inl q) = absurd (q.1 (inr (inl (p.1.name, p.1.words_are))))
+one_of_cases runs nodes one last words input s t o u (inr (inr (inr (inr p)))) (inl q) = absurd (q.1 (is_command words input s o p))
+one_of_cases runs nodes one last words input s t o u (inr (inr (inl p))) (inr (inl q)) = absurd (omega (arith, q.2, p.2))
+one_of_cases runs nodes one last words input s t o u (inr (inr (inr (inl p)))) (inr (inl q)) = absurd (omega (arith, q.2, p.1.within))
+one_of_cases runs nodes one last words input s t o u (inr (inr (inr (inr p)))) (inr (inl q)) =
     let within : length (network_text input) ≤ network_limit = is_within words (network_text input) p.0 p.1 in
     absurd (omega (arith, q.2, within))
-one_of_cases runs nodes one words input s t o u (inr (inr (inr (inl p)))) (inr (inr (inl q))) = absurd (not_accepted (network_text input) u q.3 (p.1.net, p.1.reads))
-one_of_cases runs nodes one words input s t o u (inr (inr (inr (inr p)))) (inr (inr (inl q))) = absurd (not_accepted (network_text input) u q.3 (is_accepted words (network_text input) p.0 p.1))
-one_of_cases runs nodes one words input s t o u (inr (inr (inr (inr p)))) (inr (inr (inr (inl q)))) =
+one_of_cases runs nodes one last words input s t o u (inr (inr (inr (inl p)))) (inr (inr (inl q))) = absurd (not_accepted (network_text input) u q.3 (p.1.net, p.1.reads))
+one_of_cases runs nodes one last words input s t o u (inr (inr (inr (inr p)))) (inr (inr (inl q))) = absurd (not_accepted (network_text input) u q.3 (is_accepted words (network_text input) p.0 p.1))
+one_of_cases runs nodes one last words input s t o u (inr (inr (inr (inr p)))) (inr (inr (inr (inl q)))) =
     absurd (not_missing words (network_text input) p.0 q.1 p.1)
 
 -- for words and an input one status and one text are due
-pub one_answer : OneRun → OneNode → OneAudit → (words : List (List ℕ)) (input : List ℕ) (s t : Status) (o u : List ℕ) → Answer words input s o → Answer words input t u → AreOne s t o u
-one_answer runs nodes one words input s t o u p q = one_of_cases runs nodes one words input s t o u (cases_of words input s o p) (cases_of words input t u q)
+pub one_answer : OneRun → OneNode → OneAudit → ToldLast → (words : List (List ℕ)) (input : List ℕ) (s t : Status) (o u : List ℕ) → Answer words input s o → Answer words input t u → AreOne s t o u
+one_answer runs nodes one last words input s t o u p q = one_of_cases runs nodes one last words input s t o u (cases_of words input s o p) (cases_of words input t u q)
 
 -- a status that is no other than an answer
 pub answered : (status : Status) → (is_answer status ≡ false → ⊥) → is_answer status ≡ true
@@ -255,16 +283,16 @@ given_of run WriteFault input told ends is = absurd (cc)
 given_of run OutOfMemory input told ends is = absurd (cc)
 
 -- where the source tells the input, what is due is what was answered and written
-pub told_one : OneRun → OneNode → OneAudit → (run : Run) (answered status : Status) (octets : List ℕ) → Ends run answered → is_answer answered ≡ true
+pub told_one : OneRun → OneNode → OneAudit → ToldLast → (run : Run) (answered status : Status) (octets : List ℕ) → Ends run answered → is_answer answered ≡ true
     → IfSome run.input (λ input. Answer run.words input status octets → (answered ≡ status) × Appends run.held run.now octets)
-told_one runs nodes one run answered status octets ends is = go run.input refl
+told_one runs nodes one last run answered status octets ends is = go run.input refl
   where
     go : (told : Option (List ℕ)) → run.input ≡ told → IfSome told (λ input. Answer run.words input status octets → (answered ≡ status) × Appends run.held run.now octets)
     go None told = tt
     go (Some input) told =
         λ other.
         let given = given_of run answered input told ends is in
-        let same : AreOne answered status given.0 octets = one_answer runs nodes one run.words input answered status given.0 octets given.2 other in
+        let same : AreOne answered status given.0 octets = one_answer runs nodes one last run.words input answered status given.0 octets given.2 other in
         (same.0, subst (λ (o : List ℕ). Appends run.held run.now o) same.1 given.1)
 
 -- without a fault and with memory a run ends with an answer

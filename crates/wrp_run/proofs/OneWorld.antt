@@ -28,7 +28,7 @@ use Rattle.wrp_run.specs.DownLaw.{law_at}
 
 -- Two worlds that differ in what their servos were told of answers, and in what is noted of inputs, alone
 
-abbrev with_all : (ℕ → List Call) → (ℕ → List Taken) → WorldAt → WorldAt
+abbrev pub with_all : (ℕ → List Call) → (ℕ → List Taken) → WorldAt → WorldAt
 with_all calls inputs v = record v { node = λ n. with_calls (calls n) (v.node n); inputs = inputs }
 
 pub record Alike (s : Setting) (v w : WorldAt) : Type 0 where
@@ -197,10 +197,10 @@ tried_same s w (Join k ms sm) a b p q = refl
 
 -- Premises
 
-locked_same : (fixed : Fixed) (n : NodeAt) (calls : List Call) → SameServo fixed n.calls calls → locked_of fixed (with_calls calls n) ≡ locked_of fixed n
+pub locked_same : (fixed : Fixed) (n : NodeAt) (calls : List Call) → SameServo fixed n.calls calls → locked_of fixed (with_calls calls n) ≡ locked_of fixed n
 locked_same fixed n calls h = ap (λ (v : Core). if is_some (slave_of fixed.set) then v.phase.lock.locked else false) (sym h)
 
-state_same : (fixed : Fixed) (n : NodeAt) (calls : List Call) → SameServo fixed n.calls calls → state_of fixed (with_calls calls n) ≡ state_of fixed n
+pub state_same : (fixed : Fixed) (n : NodeAt) (calls : List Call) → SameServo fixed n.calls calls → state_of fixed (with_calls calls n) ≡ state_of fixed n
 state_same fixed n calls h = ap (λ (v : Core). if is_some (slave_of fixed.set) then v.state else Uninit) (sym h)
 
 rate_same : (s : Setting) (v : WorldAt) (calls : ℕ → List Call) (inputs : ℕ → List Taken) (dt : ℤ) (drifts : List ℤ) → ((n : ℕ) → SameServo (fixed_of s n) (v.node n).calls (calls n)) → (n : ℕ) →

@@ -11,7 +11,7 @@ use Rattle.wrp_base.specs.declared.fault.TraceFault.TheVariants.{Fields, Kind, N
 use Rattle.wrp_fields.specs.Lines.{IsPlainOctet, IsLine}
 use Rattle.wrp_node.specs.declared.interface.Input.{Input}
 use Rattle.wrp_trace.specs.Inputs.{input_of, read_of}
-use Rattle.wrp_trace.specs.Reading.{IsReading, is_plain_octet, is_plain}
+use Rattle.wrp_fields.specs.Reading.{IsReading, is_plain_octet, is_plain}
 use Rattle.wrp_trace.specs.Site.{Site}
 use Rattle.wrp_trace.specs.Events.{event_of, event_read}
 use Rattle.wrp_world.specs.declared.event.Event.{Event}

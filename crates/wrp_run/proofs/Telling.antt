@@ -7,12 +7,12 @@ use Rattle.wrp_run.specs.declared.machine.Refusal.{Refusal}
 use Rattle.wrp_run.specs.declared.machine.Refusal.TheVariants as refusals
 use Rattle.wrp_run.specs.declared.status.Status.{Status}
 use Rattle.wrp_run.specs.declared.status.Status.TheVariants.{Done, BadTrace, Broken, ReadFault, WriteFault, TooLarge, OutOfMemory}
-use Rattle.wrp_run.specs.After.{DoneAt, DueAt, After, Closing}
+use Rattle.wrp_run.specs.After.{BrokenAt, Closed, ClosesWith, DoneAt, DueAt, After, Closing}
 use Rattle.wrp_run.specs.Engine.{Finishes}
 use Rattle.wrp_run.specs.Lines.{lines_of, onto, content_of, HasNoFeed}
 use Rattle.wrp_run.specs.Meaning.{Meaning}
 use Rattle.wrp_run.specs.Reader.{ReaderAt, IsLast}
-use Rattle.wrp_run.specs.RecordsAnswer.{IsWholly, IsRefused, IsLarge, RecordsAnswer, AreFirst}
+use Rattle.wrp_run.specs.RecordsAnswer.{BreaksOff, IsWholly, IsRefused, IsLarge, RecordsAnswer, AreFirst, StandsFirst}
 use Rattle.wrp_run.specs.Statuses.{is_answer}
 use Rattle.wrp_run.specs.Stream.{Handles, size_of, RefusedAt, TooLargeAt, Due, Outcome, FirstHandled}
 use Rattle.wrp_run.proofs.Feeds.{size_plain}
@@ -106,17 +106,34 @@ done_told M octets r text at more goes =
     let same : lines_of octets ≡ lines_of (octets ++ more) = ap lines_of (sym (ap (λ l. octets ++ l) (goes at.end.ended) ∙ append-nil octets)) in
     subst (λ (ls : List (List ℕ)). IsWholly M ls text) same at.wholly
 
--- an answer, or some first lines
+-- what breaks off behind all lines
+pub broken_told : (M : Meaning) (status : Status) (octets : List ℕ) (r : ReaderAt) (text : List ℕ) → BrokenAt M octets r status text
+    → (more : List ℕ) → (r.ended ≡ true → more ≡ []) → BreaksOff M status (lines_of (octets ++ more)) text
+broken_told M status octets r text at more goes =
+    let same : lines_of octets ≡ lines_of (octets ++ more) = ap lines_of (sym (ap (λ l. octets ++ l) (goes at.end.ended) ∙ append-nil octets)) in
+    subst (λ (ls : List (List ℕ)). BreaksOff M status ls text) same at.breaks
+
+-- an answer, or what stands first
 abbrev pub DueOf : Meaning → List (List ℕ) → Status → List ℕ → Type 0
-DueOf M lines status text = RecordsAnswer M lines status text ⊎ AreFirst M lines text
+DueOf M lines status text = RecordsAnswer M lines status text ⊎ StandsFirst M lines text
+
+pub large_told : (M : Meaning) (octets : List ℕ) (r : ReaderAt) (text : List ℕ) → TooLargeAt M.accepts octets r text ⊎ BrokenAt M octets r TooLarge text
+    → (more : List ℕ) → (r.ended ≡ true → more ≡ []) → RecordsAnswer M (lines_of (octets ++ more)) TooLarge text
+large_told M octets r text (inl at) more goes = inl (too_large_told M octets r text at more goes)
+large_told M octets r text (inr at) more goes = inr (broken_told M TooLarge octets r text at more goes)
+
+pub stands_told : (M : Meaning) (octets : List ℕ) (r : ReaderAt) (text : List ℕ) → FirstHandled M.accepts octets r text ⊎ BrokenAt M octets r OutOfMemory text
+    → (more : List ℕ) → (r.ended ≡ true → more ≡ []) → StandsFirst M (lines_of (octets ++ more)) text
+stands_told M octets r text (inl at) more goes = inl (first_told M octets r text at more goes)
+stands_told M octets r text (inr at) more goes = inr (broken_told M OutOfMemory octets r text at more goes)
 
 pub due_told : (M : Meaning) (octets : List ℕ) (r : ReaderAt) (status : Status) (text : List ℕ) → DueAt M octets r status text
     → (more : List ℕ) → (r.ended ≡ true → more ≡ []) → DueOf M (lines_of (octets ++ more)) status text
 due_told M octets r Done text at more goes = inl (done_told M octets r text at more goes)
 due_told M octets r BadTrace text at more goes = inl (refused_told M refusals.BadTrace octets r text at more goes)
 due_told M octets r Broken text at more goes = inl (refused_told M refusals.Broken octets r text at more goes)
-due_told M octets r TooLarge text at more goes = inl (too_large_told M octets r text at more goes)
-due_told M octets r OutOfMemory text at more goes = inr (first_told M octets r text at more goes)
+due_told M octets r TooLarge text at more goes = inl (large_told M octets r text at more goes)
+due_told M octets r OutOfMemory text at more goes = inr (stands_told M octets r text at more goes)
 due_told M octets r _ text at more goes = absurd at
 
 -- what stands at an answer is told
@@ -125,7 +142,7 @@ pub answer_told : (M : Meaning) (octets : List ℕ) (r : ReaderAt) (status : Sta
 answer_told M octets r Done text at is more goes = done_told M octets r text at more goes
 answer_told M octets r BadTrace text at is more goes = refused_told M refusals.BadTrace octets r text at more goes
 answer_told M octets r Broken text at is more goes = refused_told M refusals.Broken octets r text at more goes
-answer_told M octets r TooLarge text at is more goes = too_large_told M octets r text at more goes
+answer_told M octets r TooLarge text at is more goes = large_told M octets r text at more goes
 answer_told M octets r ReadFault text at is more goes = absurd (cc)
 answer_told M octets r WriteFault text at is more goes = absurd (cc)
 answer_told M octets r OutOfMemory text at is more goes = absurd (cc)
@@ -136,8 +153,8 @@ due_before : (M : Meaning) (octets : List ℕ) (r : ReaderAt) (status : Status) 
 due_before M octets r Done text at = absurd at
 due_before M octets r BadTrace text at = at
 due_before M octets r Broken text at = at
-due_before M octets r TooLarge text at = at
-due_before M octets r OutOfMemory text at = at
+due_before M octets r TooLarge text at = inl at
+due_before M octets r OutOfMemory text at = inl at
 due_before M octets r _ text at = absurd at
 
 -- what stands before the end
@@ -147,9 +164,9 @@ outcome_after M octets r Done text at other = absurd (other refl)
 outcome_after M octets r WriteFault text at other = (at.0, at.1, at.2, due_before M octets r at.0 at.1 at.3, at.4)
 outcome_after M octets r BadTrace text at other = at
 outcome_after M octets r Broken text at other = at
-outcome_after M octets r TooLarge text at other = at
+outcome_after M octets r TooLarge text at other = inl at
 outcome_after M octets r ReadFault text at other = at
-outcome_after M octets r OutOfMemory text at other = at
+outcome_after M octets r OutOfMemory text at other = inl at
 outcome_after M octets r _ text at other = absurd at
 
 -- all lines of some octets are these octets
@@ -184,17 +201,17 @@ at_end_done M octets r written last at closed = record {
 }
 
 -- where the last lines are written, or a part of them
-pub at_end_answered : (M : Meaning) (rest given : List ℕ) (first last held now then_ : Option (List ℕ)) (r : ReaderAt) (written text : List ℕ) (status : Status)
-    → Consumes first last given → Appends held now written → DoneAt M (rest ++ given) r (written ++ text) → Finishes Done status now then_ text
+pub at_end_answered : (M : Meaning) (end : Status) (rest given : List ℕ) (first last held now then_ : Option (List ℕ)) (r : ReaderAt) (written text : List ℕ) (status : Status)
+    → Consumes first last given → Appends held now written → DueAt M (rest ++ given) r end (written ++ text) → After M (rest ++ given) r end (written ++ text) → Finishes end status now then_ text
     → (g : List ℕ) × (octets : List ℕ) × Consumes first last g × Appends held then_ octets × After M (rest ++ g) r status octets
-at_end_answered M rest given first last held now then_ r written text status taken wrote due how =
+at_end_answered M end rest given first last held now then_ r written text status taken wrote due stands how =
     elim how [
       | inl all ↦ (
         given,
         written ++ text,
         taken,
         Appends-trans held now then_ written text wrote all.1,
-        subst (λ (s : Status). After M (rest ++ given) r s (written ++ text)) (sym all.0) due,
+        subst (λ (s : Status). After M (rest ++ given) r s (written ++ text)) (sym all.0) stands,
       )
       | inr part ↦ (
         given,
@@ -202,7 +219,7 @@ at_end_answered M rest given first last held now then_ r written text status tak
         taken,
         Appends-trans held now then_ written (take part.1.0 text) wrote part.1.1,
         subst (λ (s : Status). After M (rest ++ given) r s (written ++ take part.1.0 text)) (sym part.0)
-            (Done, written ++ text, length written + part.1.0, due, take_two written text part.1.0),
+            (end, written ++ text, length written + part.1.0, due, take_two written text part.1.0),
       )
     ]
 
@@ -218,19 +235,41 @@ closed M T C rest given written first last held mid now r status taken wrote sta
         written,
         taken,
         subst (λ (k : Option (List ℕ)). Appends held k written) (sym same) wrote,
-        subst (λ (s : Status). After M (rest ++ given) r s written) (sym memory) (all_first M (rest ++ given) r written stands),
+        subst (λ (s : Status). After M (rest ++ given) r s written) (sym memory) (inl (all_first M (rest ++ given) r written stands)),
       )
       | inr (text, closes, ends) ↦
-          at_end_answered M rest given first last held mid now r written text status taken wrote
-          (at_end_done M (rest ++ given) r written text stands (means (map content_of (lines_of (rest ++ given))) text (closes (map content_of (lines_of (rest ++ given))) has))) ends
+          let done : DoneAt M (rest ++ given) r (written ++ text) =
+          at_end_done M (rest ++ given) r written text stands (means (map content_of (lines_of (rest ++ given))) text (closes (map content_of (lines_of (rest ++ given))) has)) in
+          at_end_answered M Done rest given first last held mid now r written text status taken wrote done done ends
     ]
+
+-- what closes the records, with its status, is due behind what they write
+with_status : (M : Meaning) (octets : List ℕ) (r : ReaderAt) (written last : List ℕ) (end : Status) → IsLast r × Handles M.accepts (lines_of octets) written
+    → ClosesWith M end (map content_of (lines_of octets)) last → DueAt M octets r end (written ++ last) × After M octets r end (written ++ last)
+with_status M octets r written last Done at closing = (at_end_done M octets r written last at closing, at_end_done M octets r written last at closing)
+with_status M octets r written last TooLarge at closing =
+    let breaks : BrokenAt M octets r TooLarge (written ++ last) = record { end = at.0; breaks = record { written = written; last = last; handled = at.1; broken = closing; is = refl } } in
+    (inr breaks, inr breaks)
+with_status M octets r written last OutOfMemory at closing =
+    let breaks : BrokenAt M octets r OutOfMemory (written ++ last) = record { end = at.0; breaks = record { written = written; last = last; handled = at.1; broken = closing; is = refl } } in
+    (inr breaks, inr breaks)
+with_status M octets r written last _ at closing = absurd closing
+
+-- where what closes the records is written, whole or as far as it goes, or a part of that
+pub closed_so : (M : Meaning) (T : List (List ℕ) → Type 0) (rest given written : List ℕ) (first last held mid now : Option (List ℕ)) (r : ReaderAt) (status : Status)
+    → Consumes first last given → Appends held mid written → IsLast r × Handles M.accepts (lines_of (rest ++ given)) written → T (map content_of (lines_of (rest ++ given)))
+    → Closed T M status mid now
+    → (g : List ℕ) × (octets : List ℕ) × Consumes first last g × Appends held now octets × After M (rest ++ g) r status octets
+closed_so M T rest given written first last held mid now r status taken wrote stands has how =
+    let due = with_status M (rest ++ given) r written how.1 how.0 stands (how.2 (map content_of (lines_of (rest ++ given))) has) in
+    at_end_answered M how.0 rest given first last held mid now r written how.1 status taken wrote due.0 due.1 how.3
 
 -- where nothing was handled for want of memory
 pub nothing_handled : (M : Meaning) (octets : List ℕ) (r : ReaderAt) → M.accepts [] [] → After M octets r OutOfMemory []
-nothing_handled M octets r none = record {
+nothing_handled M octets r none = inl (record {
   lines = [];
   more = octets;
   all = refl;
   first = inl tt;
   handled = record { sizes = tt; count = omega arith; accepted = none };
-}
+})

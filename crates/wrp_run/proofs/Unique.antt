@@ -11,12 +11,27 @@ use Rattle.wrp_run.specs.Stream.{Handles, IsWithin, size_of, line_limit, number_
 use Rattle.wrp_run.specs.Meaning.{Meaning}
 use Rattle.wrp_run.specs.RecordsAnswer.{RecordsAnswer}
 
+-- what stands at the end behind all lines, whole, or broken off where a number is too great
+abbrev pub EndsWith : Meaning → List (List ℕ) → Status → List ℕ → Type 0
+EndsWith M lines Done text = M.closes lines text
+EndsWith M lines TooLarge text = M.breaks_off lines TooLarge text
+EndsWith M lines _ text = ⊥
+
+-- where it never breaks off
+pub ends_once : (M : Meaning) → ((lines : List (List ℕ)) (text : List ℕ) → M.breaks_off lines TooLarge text → ⊥) → ((lines : List (List ℕ)) (t u : List ℕ) → M.closes lines t → M.closes lines u → t ≡ u)
+    → (lines : List (List ℕ)) (a b : Status) (t u : List ℕ) → EndsWith M lines a t → EndsWith M lines b u → (a ≡ b) × (t ≡ u)
+ends_once M never one lines Done Done t u p q = (refl, one lines t u p q)
+ends_once M never one lines Done TooLarge t u p q = absurd (never lines u q)
+ends_once M never one lines Done _ t u p q = absurd q
+ends_once M never one lines TooLarge b t u p q = absurd (never lines t p)
+ends_once M never one lines _ b t u p q = absurd p
+
 -- what the relations of an exact machine keep
 pub record IsExact (M : Meaning) : Type 0 where
   pub one_text : (lines : List (List ℕ)) (t u : List ℕ) → M.accepts lines t → M.accepts lines u → t ≡ u
   pub not_both : (before behind : List (List ℕ)) (line t last : List ℕ) (refusal : Refusal) → M.accepts (before ++ line ∷ behind) t → M.refuses before line refusal last → ⊥
   pub one_refusal : (before : List (List ℕ)) (line t u : List ℕ) (a b : Refusal) → M.refuses before line a t → M.refuses before line b u → (a ≡ b) × (t ≡ u)
-  pub one_end : (lines : List (List ℕ)) (t u : List ℕ) → M.closes lines t → M.closes lines u → t ≡ u
+  pub one_end : (lines : List (List ℕ)) (a b : Status) (t u : List ℕ) → EndsWith M lines a t → EndsWith M lines b u → (a ≡ b) × (t ≡ u)
 
 -- a line at which the handling stops, and how
 abbrev pub Stops : Meaning → List (List ℕ) → List ℕ → Status → List ℕ → Type 0
@@ -37,14 +52,23 @@ pub record Stopped (M : Meaning) (lines : List (List ℕ)) (status : Status) (oc
   pub stops : Stops M before line status last
   pub is : octets ≡ written ++ last
 
--- an answer is Done, or it stops
+-- where it comes to the end of the lines
+record Ended (M : Meaning) (lines : List (List ℕ)) (status : Status) (octets : List ℕ) : Type 0 where
+  written : List ℕ
+  last : List ℕ
+  handled : Handles M.accepts lines written
+  ends : EndsWith M (map content_of lines) status last
+  is : octets ≡ written ++ last
+
+-- an answer comes to the end, or it stops
 answer_is : (M : Meaning) (lines : List (List ℕ)) (status : Status) (octets : List ℕ)
     → RecordsAnswer M lines status octets
-    → ((status ≡ Done) × RecordsAnswer M lines Done octets) ⊎ Stopped M lines status octets
-answer_is M lines Done octets p = inl (refl, p)
+    → Ended M lines status octets ⊎ Stopped M lines status octets
+answer_is M lines Done octets p = inl (record { written = p.written; last = p.last; handled = p.handled; ends = p.closed; is = p.is })
 answer_is M lines BadTrace octets p = inr (record { before = p.before; line = p.line; behind = p.behind; written = p.written; last = p.last; divided = p.divided; handled = p.handled; stops = (p.within, p.number, p.refused); is = p.is })
 answer_is M lines Broken octets p = inr (record { before = p.before; line = p.line; behind = p.behind; written = p.written; last = p.last; divided = p.divided; handled = p.handled; stops = (p.within, p.number, p.refused); is = p.is })
-answer_is M lines TooLarge octets p = inr (record { before = p.before; line = p.line; behind = p.behind; written = p.written; last = large_line (length p.before + 1); divided = p.divided; handled = p.handled; stops = (p.large, refl); is = p.is })
+answer_is M lines TooLarge octets (inl p) = inr (record { before = p.before; line = p.line; behind = p.behind; written = p.written; last = large_line (length p.before + 1); divided = p.divided; handled = p.handled; stops = (p.large, refl); is = p.is })
+answer_is M lines TooLarge octets (inr p) = inl (record { written = p.written; last = p.last; handled = p.handled; ends = p.broken; is = p.is })
 answer_is M lines _ octets p = absurd p
 
 -- of two places in one list one is before the other, or they are one
@@ -107,12 +131,14 @@ pub one_records_answer : (M : Meaning) → IsExact M
     → (lines : List (List ℕ)) (a b : Status) (t u : List ℕ) → RecordsAnswer M lines a t → RecordsAnswer M lines b u → (a ≡ b) × (t ≡ u)
 one_records_answer M exact lines a b t u f g =
     elim (answer_is M lines a t f) [
-      | inl (is, done) ↦ elim (answer_is M lines b u g) [
-        | inl (is', done') ↦ (is ∙ sym is', done.is ∙ ap₂ (λ k l. k ++ l) (exact.one_text _ done.written done'.written done.handled.accepted done'.handled.accepted) (exact.one_end _ done.last done'.last done.closed done'.closed) ∙ sym done'.is)
+      | inl done ↦ elim (answer_is M lines b u g) [
+        | inl done' ↦
+            let end = exact.one_end _ a b done.last done'.last done.ends done'.ends in
+            (end.0, done.is ∙ ap₂ (λ k l. k ++ l) (exact.one_text _ done.written done'.written done.handled.accepted done'.handled.accepted) end.1 ∙ sym done'.is)
         | inr stop ↦ absurd (never_inside M exact stop.before stop.behind stop.line done.written stop.last b (subst (λ (ls : List (List ℕ)). Handles M.accepts ls done.written) stop.divided done.handled) stop.stops)
       ]
       | inr stop ↦ elim (answer_is M lines b u g) [
-        | inl (is', done) ↦ absurd (never_inside M exact stop.before stop.behind stop.line done.written stop.last a (subst (λ (ls : List (List ℕ)). Handles M.accepts ls done.written) stop.divided done.handled) stop.stops)
+        | inl done ↦ absurd (never_inside M exact stop.before stop.behind stop.line done.written stop.last a (subst (λ (ls : List (List ℕ)). Handles M.accepts ls done.written) stop.divided done.handled) stop.stops)
         | inr stop' ↦
             elim (places stop.before stop'.before stop.behind stop'.behind stop.line stop'.line (sym stop.divided ∙ stop'.divided)) [
               | inl (same, line) ↦

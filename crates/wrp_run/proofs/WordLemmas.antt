@@ -1,5 +1,5 @@
 -- Words by their number, and the one value of an option.
-use Rattle.std.proofs.Common.{◌≡◌, inl, inr, ℕ, ◌<◌, ◌≤◌, List, [], ◌∷◌, ◌++◌, None, length, map, refl, sym, ap, ◌∙◌, subst, codes, arith}
+use Rattle.std.proofs.Common.{◌≡◌, inl, inr, ℕ, ◌<◌, ◌≤◌, List, [], ◌∷◌, ◌++◌, None, Some, length, map, refl, sym, ap, ◌∙◌, subst, codes, arith}
 use Rattle.std.specs.List.{slice_index_or}
 use Rattle.std.proofs.lemmas.List.{append_cancel_left}
 use Rattle.wrp_run.specs.declared.command_line.Form.{Form}
@@ -7,7 +7,7 @@ use Rattle.wrp_run.specs.declared.command_line.Form.TheVariants as forms
 use Rattle.wrp_run.specs.Answer.{IsCommand}
 use Rattle.wrp_run.specs.Fields.{seed_of}
 use Rattle.wrp_run.specs.CommandLine.{HasOption, IsCommandWith, IsForm, IsNoCommand}
-use Rattle.wrp_run.specs.Tasks.{IsAuditing, IsEmission, IsReplay}
+use Rattle.wrp_run.specs.Tasks.{IsAuditing, IsEmission, IsReplay, IsSimulation}
 
 -- two words
 pub two_texts : {X : Type 0} (f : X → List ℕ) (ws : List X) (d e : X) → 2 ≤ length ws → length ws < 3 → map f ws ≡ f (slice_index_or ws 0 d) ∷ f (slice_index_or ws 1 e) ∷ []
@@ -91,11 +91,29 @@ no_option words name audit emission = (subst (λ (ws : List (List ℕ)). IsEmiss
 -- words that are no command ask for nothing
 pub asks_nothing : (words : List (List ℕ)) → IsNoCommand words → IsCommand words → ⊥
 asks_nothing words never (inl audit) = never forms.Audit [] (audit, refl) tt
-asks_nothing words never (inr (name, inl replay)) = never forms.Replay name replay tt
-asks_nothing words never (inr (name, inr emission)) = never forms.Emit name emission tt
+asks_nothing words never (inr (inl (name, inl replay))) = never forms.Replay name replay tt
+asks_nothing words never (inr (inl (name, inr emission))) = never forms.Emit name emission tt
+asks_nothing words never (inr (inr (seed, simulation))) = never forms.Simulate simulation.0 simulation.1 (seed, simulation.2)
 
--- nor do words of a form that is not built
-pub other_asks_nothing : (form : Form) (words : List (List ℕ)) (value : List ℕ) → IsForm form words value → (letter form ≡ 114 → ⊥) → (letter form ≡ 97 → ⊥) → IsCommand words → ⊥
-other_asks_nothing form words value is replay audit (inl h) = audit (sym (initial_letter form words value is) ∙ initial_letter forms.Audit words [] (h, refl))
-other_asks_nothing form words value is replay audit (inr (name, inl h)) = replay (sym (initial_letter form words value is) ∙ initial_letter forms.Replay words name h)
-other_asks_nothing form words value is replay audit (inr (name, inr h)) = audit (sym (initial_letter form words value is) ∙ initial_letter forms.Emit words name h)
+-- nor do words of the form that is not built
+pub loop_asks_nothing : (words : List (List ℕ)) (value : List ℕ) → IsForm forms.Loop words value → IsCommand words → ⊥
+loop_asks_nothing words value is (inl h) = let e = sym (initial_letter forms.Loop words value is) ∙ initial_letter forms.Audit words [] (h, refl) in omega (arith, e)
+loop_asks_nothing words value is (inr (inl (name, inl h))) = let e = sym (initial_letter forms.Loop words value is) ∙ initial_letter forms.Replay words name h in omega (arith, e)
+loop_asks_nothing words value is (inr (inl (name, inr h))) = let e = sym (initial_letter forms.Loop words value is) ∙ initial_letter forms.Emit words name h in omega (arith, e)
+loop_asks_nothing words value is (inr (inr (seed, h))) = let e = sym (initial_letter forms.Loop words value is) ∙ initial_letter forms.Simulate words h.0 h.1 in omega (arith, e)
+
+-- a simulation is nothing else, and has one seed
+pub simulation_alone : (form : Form) (words : List (List ℕ)) (value : List ℕ) (seed : ℕ) → IsForm form words value → (letter form ≡ 115 → ⊥) → IsSimulation words seed → ⊥
+simulation_alone form words value seed is other simulation = other (sym (initial_letter form words value is) ∙ initial_letter forms.Simulate words simulation.0 simulation.1)
+
+one_number : (m n : ℕ) → Some m ≡ Some n → m ≡ n
+one_number m n e = cc
+
+pub one_seed : (words : List (List ℕ)) (a b : ℕ) → IsSimulation words a → IsSimulation words b → a ≡ b
+one_seed words a b p q =
+    let text : p.0 ≡ q.0 = one_value (codes "simulate") (codes "--seed") words p.0 q.0 p.1 q.1 in
+    one_number a b (sym p.2 ∙ ap seed_of text ∙ q.2)
+
+-- an audit is no simulation
+pub no_simulation : (words : List (List ℕ)) (seed : ℕ) → IsAuditing words → IsSimulation words seed → ⊥
+no_simulation words seed audit simulation = simulation_alone forms.Audit words [] seed (audit, refl) (λ e. omega (arith, e)) simulation

@@ -9,11 +9,11 @@ use Rattle.wrp_run.specs.declared.status.Status.{Status}
 use Rattle.wrp_run.specs.declared.status.Status.TheVariants.{Usage, BadNetwork, TooLarge}
 use Rattle.wrp_run.specs.Input.{network_text, behind_separator, network_limit, Divides, IsUndivided}
 use Rattle.wrp_run.specs.Lines.{lines_of}
-use Rattle.wrp_run.specs.RecordsAnswer.{RecordsAnswer, AreFirst}
+use Rattle.wrp_run.specs.RecordsAnswer.{RecordsAnswer, StandsFirst}
 use Rattle.wrp_run.specs.Replays.{IsRefusedBy}
 use Rattle.wrp_run.specs.Stream.{CutHandled}
 use Rattle.wrp_run.specs.Refusals.{usage_line, too_large_line}
-use Rattle.wrp_run.specs.Tasks.{Task, AsksFor, IsAuditing, IsEmission, IsReplay, meaning_at}
+use Rattle.wrp_run.specs.Tasks.{Task, AsksFor, IsAuditing, IsEmission, IsReplay, IsSimulation, meaning_at}
 
 -- the words ask for what needs a node of this name
 abbrev pub IsOfNode : List (List ℕ) → List ℕ → Type 0
@@ -21,7 +21,9 @@ IsOfNode words name = IsReplay words name ⊎ IsEmission words name
 
 -- the words are a command that is built
 abbrev pub IsCommand : List (List ℕ) → Type 0
-IsCommand words = IsAuditing words ⊎ ((name : List ℕ) × IsOfNode words name)
+IsCommand words =
+    IsAuditing words
+    ⊎ (((name : List ℕ) × IsOfNode words name) ⊎ ((seed : ℕ) × IsSimulation words seed))
 
 -- the words ask for what needs a node, and the network that this text describes has none of that name
 pub record AsksNone (words : List (List ℕ)) (text : List ℕ) : Type 0 where
@@ -50,12 +52,13 @@ Answer words input TooLarge octets =
     ⊎ TaskAnswer words input TooLarge octets
 Answer words input status octets = TaskAnswer words input status octets
 
--- the lines of the first records of an input; none, where the records were not reached
+-- the lines of the first records of an input, or of the first events of a simulation; none, where the
+-- records were not reached
 abbrev pub FirstAnswer : List (List ℕ) → List ℕ → List ℕ → Type 0
 FirstAnswer words input octets =
     (octets ≡ [])
     ⊎ ((task : Task) × AsksFor words (network_text input) task
-    × AreFirst (meaning_at task) (behind_separator (lines_of input)) octets)
+    × StandsFirst (meaning_at task) (behind_separator (lines_of input)) octets)
 
 -- the first octets of an answer, or of the lines of the first records
 abbrev pub PartAnswer : List (List ℕ) → List ℕ → List ℕ → Type 0

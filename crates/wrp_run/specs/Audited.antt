@@ -1,16 +1,18 @@
 -- The network that an audit is of, and the events that its record lines say (this project's profile).
-use Rattle.std.specs.Prelude.{◌≡◌, ℕ, ℤ, Ok, List, map, reverse}
+use Rattle.std.specs.Prelude.{◌≡◌, ◌<◌, ℕ, ℤ, Ok, List, map, reverse}
 use Rattle.wrp_base.specs.declared.configuration.NetCfg.{NetCfg}
-use Rattle.wrp_base.specs.Network.{link_above}
+use Rattle.wrp_base.specs.Network.{link_above, node_count}
 use Rattle.wrp_caldb.specs.Database.{Database}
 use Rattle.wrp_config.specs.declared.network.Network.{Network}
 use Rattle.wrp_config.specs.Reading.{IsReadingOf}
+use Rattle.wrp_node.specs.NodeRun.{AllSaid}
 use Rattle.wrp_node.specs.OneRun.{answers_by}
 use Rattle.wrp_node.specs.Set.{set_of}
 use Rattle.wrp_trace.specs.Events.{event_read}
 use Rattle.wrp_trace.specs.Site.{Site}
-use Rattle.wrp_world.specs.Run.{Happened, WorldRun}
+use Rattle.wrp_world.specs.Run.{Happened, WorldRun, world_after}
 use Rattle.wrp_world.specs.Setting.{Setting}
+use Rattle.wrp_world.specs.WorldAt.{WorldAt}
 use Rattle.wrp_run.specs.DownLaw.{law_at, least_over, greatest_over}
 
 -- the setting of a network: each node is set to its part of it, and its delay law is that of the link
@@ -43,7 +45,12 @@ abbrev pub AreEvents : Setting → List (List ℕ) → List Happened → Type 0
 AreEvents s lines events =
     map (event_read s.cfg) lines ≡ map (λ (h : Happened). Ok h.event) (reverse events)
 
+-- each frame that a node was given is read as its octets say, also one that another node sent
+abbrev pub AllHeard : Setting → WorldAt → Type 0
+AllHeard s w = (n : ℕ) → n < node_count s.cfg → AllSaid (w.inputs n)
+
 -- the lines say these events, each of which kept all premises when it came
 pub record IsAudit (s : Setting) (lines : List (List ℕ)) (events : List Happened) : Type 0 where
   pub are : AreEvents s lines events
   pub run : WorldRun (answers_in s) s events
+  pub heard : AllHeard s (world_after s events)

@@ -15,7 +15,7 @@ use Rattle.wrp_run.specs.declared.machine.Refusal.{Refusal}
 use Rattle.wrp_run.specs.declared.machine.Refusal.TheVariants.{BadTrace, Broken}
 use Rattle.wrp_run.specs.Audited.{IsAudit}
 use Rattle.wrp_run.specs.AuditText.{audit_lines, all_counts, given_lines}
-use Rattle.wrp_run.specs.Meaning.{Meaning}
+use Rattle.wrp_run.specs.Meaning.{Meaning, never}
 use Rattle.wrp_run.specs.Refusals.{bad_trace_line, broken_line}
 
 -- the lines are events that kept all premises, and this is what an audit writes of them
@@ -59,7 +59,17 @@ EmitCloses lines last = last ≡ []
 
 -- what the record lines of an audit mean, and what those of the inputs of a node
 abbrev pub audit_of : Setting → Meaning
-audit_of s = record { accepts = Audits s; refuses = AuditRefuses s; closes = AuditCloses s }
+audit_of s = record {
+  accepts = Audits s;
+  refuses = AuditRefuses s;
+  closes = AuditCloses s;
+  breaks_off = never;
+}
 
 abbrev pub emission_of : Setting → ℕ → Meaning
-emission_of s n = record { accepts = Emits s n; refuses = AuditRefuses s; closes = EmitCloses }
+emission_of s n = record {
+  accepts = Emits s n;
+  refuses = AuditRefuses s;
+  closes = EmitCloses;
+  breaks_off = never;
+}

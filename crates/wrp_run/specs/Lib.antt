@@ -12,6 +12,7 @@ pub mod DownLaw
 pub mod Ends
 pub mod Engine
 pub mod Fields
+pub mod Headline
 pub mod Input
 pub mod LawsFit
 pub mod Lines
@@ -24,8 +25,11 @@ pub mod Reader
 pub mod RecordsAnswer
 pub mod Refusals
 pub mod Replays
-pub mod StandsFor
+pub mod SimStands
+pub mod SimText
+pub mod Simulates
 pub mod Split
+pub mod StandsFor
 pub mod Statuses
 pub mod Stream
 pub mod Taking

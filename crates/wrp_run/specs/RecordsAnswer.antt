@@ -1,10 +1,10 @@
 -- What is due for the record lines of an input: one status and the octets that are written (this
 -- project's profile).
-use Rattle.std.specs.Prelude.{◌≡◌, ℕ, ◌+◌, ◌<◌, List, ◌∷◌, ◌++◌, length, map}
+use Rattle.std.specs.Prelude.{◌≡◌, ◌⊎◌, ℕ, ◌+◌, ◌<◌, List, ◌∷◌, ◌++◌, length, map}
 use Rattle.wrp_run.specs.declared.machine.Refusal.{Refusal}
 use Rattle.wrp_run.specs.declared.machine.Refusal.TheVariants as refusals
 use Rattle.wrp_run.specs.declared.status.Status.{Status}
-use Rattle.wrp_run.specs.declared.status.Status.TheVariants.{Done, BadTrace, Broken, TooLarge}
+use Rattle.wrp_run.specs.declared.status.Status.TheVariants.{Done, BadTrace, Broken, TooLarge, OutOfMemory}
 use Rattle.wrp_run.specs.Lines.{content_of}
 use Rattle.wrp_run.specs.Meaning.{Meaning}
 use Rattle.wrp_run.specs.Stream.{Handles, IsWithin, IsTooLarge, number_limit, large_line}
@@ -43,12 +43,22 @@ pub record IsLarge (M : Meaning) (lines : List (List ℕ)) (octets : List ℕ) :
   pub large : IsTooLarge line (length before)
   pub is : octets ≡ written ++ large_line (length before + 1)
 
+-- all lines are records: they write this, and what is written at the end breaks off with a status
+pub record BreaksOff (M : Meaning) (status : Status) (lines : List (List ℕ)) (octets : List ℕ)
+    : Type 0 where
+  pub written : List ℕ
+  pub last : List ℕ
+  pub handled : Handles M.accepts lines written
+  pub broken : M.breaks_off (map content_of lines) status last
+  pub is : octets ≡ written ++ last
+
 -- what is due for the record lines
 abbrev pub RecordsAnswer : Meaning → List (List ℕ) → Status → List ℕ → Type 0
 RecordsAnswer M lines Done octets = IsWholly M lines octets
 RecordsAnswer M lines BadTrace octets = IsRefused M refusals.BadTrace lines octets
 RecordsAnswer M lines Broken octets = IsRefused M refusals.Broken lines octets
-RecordsAnswer M lines TooLarge octets = IsLarge M lines octets
+RecordsAnswer M lines TooLarge octets =
+    IsLarge M lines octets ⊎ BreaksOff M TooLarge lines octets
 RecordsAnswer M lines _ octets = ⊥
 
 -- the first so many lines are records, and write this
@@ -57,3 +67,7 @@ pub record AreFirst (M : Meaning) (lines : List (List ℕ)) (octets : List ℕ) 
   pub behind : List (List ℕ)
   pub divided : lines ≡ front ++ behind
   pub handled : Handles M.accepts front octets
+
+-- what the first so many records write; or what all do, and the first of what is written at the end
+abbrev pub StandsFirst : Meaning → List (List ℕ) → List ℕ → Type 0
+StandsFirst M lines octets = AreFirst M lines octets ⊎ BreaksOff M OutOfMemory lines octets

@@ -15,7 +15,7 @@ use Rattle.wrp_trace.specs.Site.{Site}
 use Rattle.wrp_run.specs.declared.machine.Refusal.{Refusal}
 use Rattle.wrp_run.specs.declared.machine.Refusal.TheVariants.{BadTrace, Broken}
 use Rattle.wrp_run.specs.DownLaw.{law_at, fixed_at}
-use Rattle.wrp_run.specs.Meaning.{Meaning}
+use Rattle.wrp_run.specs.Meaning.{Meaning, never}
 use Rattle.wrp_run.specs.NodeText.{Writes, node_counts}
 use Rattle.wrp_run.specs.Refusals.{bad_network_line, bad_trace_line}
 
@@ -63,5 +63,9 @@ Closes site lines last =
 
 -- what the record lines mean
 abbrev pub meaning_of : Site → Meaning
-meaning_of site =
-    record { accepts = Accepts site; refuses = Refuses site; closes = Closes site }
+meaning_of site = record {
+  accepts = Accepts site;
+  refuses = Refuses site;
+  closes = Closes site;
+  breaks_off = never;
+}

@@ -14,7 +14,7 @@ use Rattle.wrp_node.specs.NodeRun.{NodeRun, node_after}
 use Rattle.wrp_node.specs.OneRun.{answers_by}
 use Rattle.wrp_node.specs.Parts.{is_among}
 use Rattle.wrp_node.specs.StandsFor.{NodeOf, StandsFor}
-use Rattle.wrp_trace.specs.Reading.{IsReading}
+use Rattle.wrp_fields.specs.Reading.{IsReading}
 use Rattle.wrp_trace.specs.Site.{Site, has_port}
 use Rattle.wrp_run.specs.declared.machine.Refusal.TheVariants.{BadTrace}
 use Rattle.wrp_run.specs.declared.machine.Taken as machine

@@ -5,22 +5,26 @@ use Rattle.wrp_trace.specs.Site.{Site}
 use Rattle.wrp_world.specs.Setting.{Setting}
 use Rattle.wrp_run.specs.Audited.{IsSettingOf}
 use Rattle.wrp_run.specs.Audits.{audit_of, emission_of}
-use Rattle.wrp_run.specs.CommandLine.{IsCommandWith}
+use Rattle.wrp_run.specs.CommandLine.{IsCommandWith, IsSeeded}
 use Rattle.wrp_run.specs.Input.{network_limit}
 use Rattle.wrp_run.specs.Meaning.{Meaning}
 use Rattle.wrp_run.specs.Replays.{IsNetworkOf, meaning_of}
+use Rattle.wrp_run.specs.Simulates.{simulation_of}
 
--- the replay of a node, the audit of a network, or the inputs of a node in it
+-- the replay of a node, the audit of a network, the inputs of a node in it, or its simulation from a
+-- seed
 pub data Task : Type 0 where
   Replay : (site : Site) → Task
   Audit : (setting : Setting) → Task
   Emit : (setting : Setting) (node : ℕ) → Task
+  Simulate : (setting : Setting) (seed : ℕ) → Task
 
 -- what the record lines mean there
 abbrev pub meaning_at : Task → Meaning
 meaning_at (Replay site) = meaning_of site
 meaning_at (Audit setting) = audit_of setting
 meaning_at (Emit setting node) = emission_of setting node
+meaning_at (Simulate setting seed) = simulation_of setting seed
 
 -- the words ask for the replay of a node of this name
 abbrev pub IsReplay : List (List ℕ) → List ℕ → Type 0
@@ -34,6 +38,10 @@ IsAuditing words = words ≡ codes "audit" ∷ []
 abbrev pub IsEmission : List (List ℕ) → List ℕ → Type 0
 IsEmission words name = IsCommandWith (codes "audit") (codes "--emit") words name
 
+-- the words ask for a simulation from this seed
+abbrev pub IsSimulation : List (List ℕ) → ℕ → Type 0
+IsSimulation words seed = IsSeeded (codes "simulate") words seed
+
 -- the words ask for a task in the network that this text describes; a node is the first of its name
 abbrev pub AsksFor : List (List ℕ) → List ℕ → Task → Type 0
 AsksFor words text (Replay site) =
@@ -46,3 +54,5 @@ AsksFor words text (Emit setting node) =
     (length text ≤ network_limit)
     × (name : List ℕ) × IsEmission words name × IsSettingOf text setting
     × (node_named setting.cfg name ≡ Some node)
+AsksFor words text (Simulate setting seed) =
+    (length text ≤ network_limit) × IsSimulation words seed × IsSettingOf text setting

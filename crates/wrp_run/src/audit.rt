@@ -7,7 +7,7 @@ ghost use Rattle.wrp_config.specs.Accepted.{IsAccepted};
 ghost use Rattle.wrp_lines.specs.Lines.{output_line_of};
 ghost use Rattle.wrp_lines.specs.Words.{name_at};
 ghost use Rattle.wrp_trace.specs.Events.{event_read, plain, told};
-ghost use Rattle.wrp_trace.specs.Reading.{IsReading};
+ghost use Rattle.wrp_fields.specs.Reading.{IsReading};
 ghost use Rattle.wrp_world.specs.declared.outcome.NodeOut.{NodeOut};
 ghost use Rattle.wrp_world.specs.EventAt.{IsEventOf};
 ghost use Rattle.wrp_world.specs.Setting.{Setting};
@@ -108,7 +108,6 @@ impl<F: Fn(i64) -> i64> AuditedNetwork<F> {
             → Happens F.post self.old.emit (setting_in self.old.world.plant.net) w (plain event.now)
             number self.new.world text.new.items taken) }
     {
-        self.outs.clear();
         match self.world.step_into(event, &mut self.outs) {
             Ok(()) => {
                 self.write(alloc, text)?;

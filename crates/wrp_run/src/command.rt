@@ -6,25 +6,28 @@ ghost use Rattle.wrp_run.specs.declared.status.Status.{Status};
 ghost use Rattle.wrp_run.specs.Answer.{Answer, IsCommand};
 ghost use Rattle.wrp_run.specs.Asked.{AsksSo};
 ghost use Rattle.wrp_run.specs.Ends.{Ends};
+ghost use Rattle.wrp_run.specs.Headline.{Headline};
 ghost use Rattle.wrp_run.specs.Statuses.{is_answer};
+ghost use Rattle.wrp_run.specs.Tasks.{IsAuditing};
 ghost use Rattle.wrp_run.specs.Words.{texts_of};
 
 use crate::answering::answer;
-use crate::auditing::audit_words;
-use crate::audits::one_audit;
+use crate::audits::{events_carry_parts, one_audit};
 use crate::parse::{Command, read_words};
 use crate::refusals::USAGE_LINE;
 use crate::replaying::replay_named;
 use crate::status::Status;
+use crate::worlds::{Asked, run_network};
 use std::alloc::{AllocError, Global};
 use wrp_io::{Link, Sink, Source};
 use wrp_node::one_run;
+use wrp_servo::told_last;
 
 // What the words ask for, of what is built.
 #[derive(Clone, Copy, Debug, PartialEq, Eq)]
 enum Request<'a> {
-    // An audit, or the inputs of the node of this name.
-    Audit(Option<&'a str>),
+    // An audit or a simulation.
+    Work(Asked<'a>),
     // The replay of the node of this name.
     Replay(&'a str),
     // Nothing that is built.
@@ -37,9 +40,9 @@ fn read_request<'a>(alloc: Global, words: &'a [&'a str]) -> Result<Request<'a>, 
 {
     match read_words(alloc, words)? {
         Some(Command::Replay(name)) => Ok(Request::Replay(name)),
-        Some(Command::Audit) => Ok(Request::Audit(None)),
-        Some(Command::Emit(name)) => Ok(Request::Audit(Some(name))),
-        Some(Command::Simulate(_)) => Ok(Request::Nothing),
+        Some(Command::Audit) => Ok(Request::Work(Asked::Audit(None))),
+        Some(Command::Emit(name)) => Ok(Request::Work(Asked::Audit(Some(name)))),
+        Some(Command::Simulate(seed)) => Ok(Request::Work(Asked::Simulate(seed))),
         Some(Command::Loop(_)) => Ok(Request::Nothing),
         None => Ok(Request::Nothing),
     }
@@ -83,15 +86,22 @@ pub fn run<S: Source, K: Sink, N: Link>(
         → IfSome (S.left source.old) (λ input. Answer (texts_of words.now) input status octets
         → (result ≡ status) × Appends (K.held sink.old) (K.held sink.new) octets) }
 
+    // The aim of an audit, of what is written, whatever the status.
+    ensures headline { IsAuditing (texts_of words.now) → IfSome (S.left source.old) (λ input.
+        (octets : List ℕ) × Appends (K.held sink.old) (K.held sink.new) octets
+        × Headline (texts_of words.now) input octets) }
+
     // Words that are no command are refused with nothing read, and no link is used.
     ensures unread { (IsCommand (texts_of words.now) → ⊥) → source.new ≡ source.old }
     ensures link { link.new ≡ link.old }
 {
     one_run();
     one_audit();
+    events_carry_parts();
+    told_last();
     match read_request(alloc, words) {
         Ok(Request::Replay(name)) => replay_named(alloc, words, name, source, sink),
-        Ok(Request::Audit(name)) => audit_words(alloc, words, name, source, sink),
+        Ok(Request::Work(asked)) => run_network(alloc, words, asked, source, sink),
         Ok(Request::Nothing) => answer(sink, Status::Usage, USAGE_LINE.as_bytes()),
         Err(_) => Status::OutOfMemory,
     }

@@ -173,8 +173,8 @@ fn next_record<S: Source, K: Sink>(
     answered(next, line, number)
 }
 
-// Appends the line that names a record that is too large.
-fn append_large(alloc: Global, waiting: &mut Vec<u8>, number: u64) -> Result<(), AllocError>
+/// Appends the line that names a record that is too large, or an event with too great a number.
+pub fn append_large(alloc: Global, waiting: &mut Vec<u8>, number: u64) -> Result<(), AllocError>
     ensures ok { OnOk result (waiting.new.items ≡ waiting.old.items ++ large_line number) }
     ensures err { OnErr result (waiting.new.items ≡ waiting.old.items) }
 {

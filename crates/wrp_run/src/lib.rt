@@ -24,9 +24,14 @@ mod refusals;
 mod replay;
 mod replayed;
 mod replaying;
+mod scenario;
+mod simulating;
+mod simulation;
 mod status;
+mod totals;
+mod worlds;
 mod writing;
 
-pub use audits::{audits_begin, one_answer, one_audit};
+pub use audits::{audits_begin, events_carry_parts, one_answer, one_audit};
 pub use command::run;
 pub use status::Status;

@@ -10,7 +10,7 @@ ghost use Rattle.wrp_node.specs.NodeAt.{Taken as TakenInput};
 ghost use Rattle.wrp_node.specs.StandsFor.{StandsFor};
 ghost use Rattle.wrp_trace.specs.InputAt.{IsInputAt};
 ghost use Rattle.wrp_trace.specs.Inputs.{read_of};
-ghost use Rattle.wrp_trace.specs.Reading.{IsReading};
+ghost use Rattle.wrp_fields.specs.Reading.{IsReading};
 ghost use Rattle.wrp_trace.specs.Site.{site_of};
 ghost use Rattle.wrp_run.specs.declared.machine.Refusal.{Refusal};
 ghost use Rattle.wrp_run.specs.declared.machine.Taken.{Taken};

@@ -3,4 +3,6 @@
 #![tactic(auto)]
 
 #[cfg(test)]
+mod simulated;
+#[cfg(test)]
 mod top_call;

@@ -1,6 +1,7 @@
 //! Whole runs over memory: what is written, and the status.
 mod frames;
 mod networks;
+mod projection;
 mod rows;
 mod runs;
 mod streams;

@@ -1,6 +1,6 @@
 //! Runs over a source that gives, and a sink that takes, at most seven octets a call, each failing at one
 //! call; sizes of lines and of network texts; and the words of the command line.
-ghost use Rattle.std.specs.Prelude.{◌≡◌};
+ghost use Rattle.std.specs.Prelude.{◌≡◌, ◌≤◌, length};
 
 use super::networks::TWO_NODES;
 use std::alloc::Global;
@@ -24,7 +24,9 @@ struct Drops<'a> {
 }
 
 // Moves the first octets of a slice into a buffer, as many as both have, and at most so many.
-fn give<'a>(octets: &'a [u8], buf: &mut [u8], most: usize) -> (&'a [u8], usize) {
+fn give<'a>(octets: &'a [u8], buf: &mut [u8], most: usize) -> (&'a [u8], usize)
+    ensures { result.1 ≤ length buf.new }
+{
     let count = buf.len().min(octets.len()).min(most);
     let (given, left) = octets.split_at(count);
     buf[..count].copy_from_slice(given);

@@ -4,8 +4,8 @@ use Rattle.wrp_run.proofs.AuditSteps.{goes_on}
 use Rattle.wrp_run.proofs.NewAudit.{new_can}
 use Rattle.wrp_run.proofs.LawsMade.{fits_all}
 use Rattle.wrp_run.proofs.AuditCounts.{all_nodes}
-use Rattle.wrp_run.proofs.AskingAudit.{asks_task}
+use Rattle.wrp_run.proofs.AskingAudit.{work_task}
 use Rattle.wrp_run.proofs.audits.one_answer.Goals as goal
 
 pub returns : goal.returns
-returns c = one_answer c.one_run.ensures.run c.one_run.ensures.node c.one_audit.ensures
+returns c = one_answer c.one_run.ensures.run c.one_run.ensures.node c.one_audit.ensures c.told_last.ensures

@@ -1,10 +1,14 @@
 -- What a run answers is what is due.
 use Rattle.std.proofs.Common.{ℕ, List, inl, inr, subst}
+use Rattle.std.proofs.KnownBytes.{Appends-nil}
 use Rattle.wrp_run.specs.Asked.{AsksSo}
 use Rattle.wrp_run.specs.Ends.{Run}
 use Rattle.wrp_run.specs.Words.{texts_of}
 use Rattle.wrp_run.proofs.Asking.{usage_ends}
+use Rattle.wrp_run.proofs.HeadlineTold.{headline_told, nothing_told}
+use Rattle.wrp_run.proofs.AskingAudit.{work_command}
 use Rattle.wrp_run.proofs.OneAnswer.{told_one, ends_answered}
+use Rattle.wrp_run.proofs.WordLemmas.{audit_alone}
 use Rattle.wrp_run.proofs.command.run.Goals as goal
 
 pub returns-in-Ok-Replay-clause-due : goal.returns-in-Ok-Replay-clause-due
@@ -20,7 +24,7 @@ returns-in-Ok-Replay-clause-due g c =
       write_faults = g.K.Sink.faults c.args.sink.now;
       write_faults_now = g.K.Sink.faults c.replay_named.new.sink;
     } in
-    λ status octets is. told_one c.one_run.ensures.run c.one_run.ensures.node c.one_audit.ensures run c.replay_named.result status octets c.replay_named.ensures.ends is
+    λ status octets is. told_one c.one_run.ensures.run c.one_run.ensures.node c.one_audit.ensures c.told_last.ensures run c.replay_named.result status octets c.replay_named.ensures.ends is
 
 pub returns-in-Ok-Replay-clause-complete : goal.returns-in-Ok-Replay-clause-complete
 returns-in-Ok-Replay-clause-complete g c =
@@ -36,7 +40,7 @@ returns-in-Ok-Replay-clause-complete g c =
       write_faults_now = g.K.Sink.faults c.replay_named.new.sink;
     } in
     λ status octets memory reads writes.
-    told_one c.one_run.ensures.run c.one_run.ensures.node c.one_audit.ensures run c.replay_named.result status octets c.replay_named.ensures.ends
+    told_one c.one_run.ensures.run c.one_run.ensures.node c.one_audit.ensures c.told_last.ensures run c.replay_named.result status octets c.replay_named.ensures.ends
     (ends_answered run c.replay_named.result c.replay_named.ensures.ends memory reads writes)
 
 pub returns-in-Ok-Nothing-clause-ends : goal.returns-in-Ok-Nothing-clause-ends
@@ -71,7 +75,7 @@ returns-in-Ok-Nothing-clause-due g c =
     } in
     let none = subst (AsksSo (texts_of c.args.words.now)) c.in-Ok-Nothing.field-0-is c.in-Ok-Nothing.ensures in
     let ends = usage_ends run c.answer.result none (rw c.as_bytes.ensures.value at c.answer.ensures.how) c.answer.ensures.rose in
-    λ status octets is. told_one c.one_run.ensures.run c.one_run.ensures.node c.one_audit.ensures run c.answer.result status octets ends is
+    λ status octets is. told_one c.one_run.ensures.run c.one_run.ensures.node c.one_audit.ensures c.told_last.ensures run c.answer.result status octets ends is
 
 pub returns-in-Ok-Nothing-clause-complete : goal.returns-in-Ok-Nothing-clause-complete
 returns-in-Ok-Nothing-clause-complete g c =
@@ -89,41 +93,75 @@ returns-in-Ok-Nothing-clause-complete g c =
     let none = subst (AsksSo (texts_of c.args.words.now)) c.in-Ok-Nothing.field-0-is c.in-Ok-Nothing.ensures in
     let ends = usage_ends run c.answer.result none (rw c.as_bytes.ensures.value at c.answer.ensures.how) c.answer.ensures.rose in
     λ status octets memory reads writes.
-    told_one c.one_run.ensures.run c.one_run.ensures.node c.one_audit.ensures run c.answer.result status octets ends (ends_answered run c.answer.result ends memory reads writes)
+    told_one c.one_run.ensures.run c.one_run.ensures.node c.one_audit.ensures c.told_last.ensures run c.answer.result status octets ends (ends_answered run c.answer.result ends memory reads writes)
 
 pub returns-in-Ok-Replay-clause-unread : goal.returns-in-Ok-Replay-clause-unread
 returns-in-Ok-Replay-clause-unread g c = λ none.
     let has = subst (AsksSo (texts_of c.args.words.now)) c.in-Ok-Replay.field-0-is c.in-Ok-Replay.ensures in
-    absurd (none (inr (c.in-Ok-Replay.name.now, inl has)))
+    absurd (none (inr (inl (c.in-Ok-Replay.name.now, inl has))))
 
-pub returns-in-Ok-Audit-clause-due : goal.returns-in-Ok-Audit-clause-due
-returns-in-Ok-Audit-clause-due g c =
+pub returns-in-Ok-Work-clause-due : goal.returns-in-Ok-Work-clause-due
+returns-in-Ok-Work-clause-due g c =
     let run : Run = record {
       words = texts_of c.args.words.now;
       input = g.S.Source.left c.args.source.now;
-      left = g.S.Source.left c.audit_words.new.source;
+      left = g.S.Source.left c.run_network.new.source;
       held = g.K.Sink.held c.args.sink.now;
-      now = g.K.Sink.held c.audit_words.new.sink;
+      now = g.K.Sink.held c.run_network.new.sink;
       read_faults = g.S.Source.faults c.args.source.now;
-      read_faults_now = g.S.Source.faults c.audit_words.new.source;
+      read_faults_now = g.S.Source.faults c.run_network.new.source;
       write_faults = g.K.Sink.faults c.args.sink.now;
-      write_faults_now = g.K.Sink.faults c.audit_words.new.sink;
+      write_faults_now = g.K.Sink.faults c.run_network.new.sink;
     } in
-    λ status octets is. told_one c.one_run.ensures.run c.one_run.ensures.node c.one_audit.ensures run c.audit_words.result status octets c.audit_words.ensures.ends is
+    λ status octets is. told_one c.one_run.ensures.run c.one_run.ensures.node c.one_audit.ensures c.told_last.ensures run c.run_network.result status octets c.run_network.ensures.ends is
 
-pub returns-in-Ok-Audit-clause-complete : goal.returns-in-Ok-Audit-clause-complete
-returns-in-Ok-Audit-clause-complete g c =
+pub returns-in-Ok-Work-clause-complete : goal.returns-in-Ok-Work-clause-complete
+returns-in-Ok-Work-clause-complete g c =
     let run : Run = record {
       words = texts_of c.args.words.now;
       input = g.S.Source.left c.args.source.now;
-      left = g.S.Source.left c.audit_words.new.source;
+      left = g.S.Source.left c.run_network.new.source;
       held = g.K.Sink.held c.args.sink.now;
-      now = g.K.Sink.held c.audit_words.new.sink;
+      now = g.K.Sink.held c.run_network.new.sink;
       read_faults = g.S.Source.faults c.args.source.now;
-      read_faults_now = g.S.Source.faults c.audit_words.new.source;
+      read_faults_now = g.S.Source.faults c.run_network.new.source;
       write_faults = g.K.Sink.faults c.args.sink.now;
-      write_faults_now = g.K.Sink.faults c.audit_words.new.sink;
+      write_faults_now = g.K.Sink.faults c.run_network.new.sink;
     } in
     λ status octets memory reads writes.
-    told_one c.one_run.ensures.run c.one_run.ensures.node c.one_audit.ensures run c.audit_words.result status octets c.audit_words.ensures.ends
-    (ends_answered run c.audit_words.result c.audit_words.ensures.ends memory reads writes)
+    told_one c.one_run.ensures.run c.one_run.ensures.node c.one_audit.ensures c.told_last.ensures run c.run_network.result status octets c.run_network.ensures.ends
+    (ends_answered run c.run_network.result c.run_network.ensures.ends memory reads writes)
+
+pub returns-in-Ok-Work-clause-unread : goal.returns-in-Ok-Work-clause-unread
+returns-in-Ok-Work-clause-unread g c = λ none.
+    let has = subst (AsksSo (texts_of c.args.words.now)) c.in-Ok-Work.field-0-is c.in-Ok-Work.ensures in
+    absurd (none (work_command (texts_of c.args.words.now) c.in-Ok-Work.asked has))
+
+pub returns-in-Ok-Work-clause-headline : goal.returns-in-Ok-Work-clause-headline
+returns-in-Ok-Work-clause-headline g c =
+    let run : Run = record {
+      words = texts_of c.args.words.now;
+      input = g.S.Source.left c.args.source.now;
+      left = g.S.Source.left c.run_network.new.source;
+      held = g.K.Sink.held c.args.sink.now;
+      now = g.K.Sink.held c.run_network.new.sink;
+      read_faults = g.S.Source.faults c.args.source.now;
+      read_faults_now = g.S.Source.faults c.run_network.new.source;
+      write_faults = g.K.Sink.faults c.args.sink.now;
+      write_faults_now = g.K.Sink.faults c.run_network.new.sink;
+    } in
+    λ audits. headline_told c.events_carry_parts.ensures run c.run_network.result c.run_network.ensures.ends audits
+
+pub returns-in-Ok-Replay-clause-headline : goal.returns-in-Ok-Replay-clause-headline
+returns-in-Ok-Replay-clause-headline g c = λ audits.
+    let has = subst (AsksSo (texts_of c.args.words.now)) c.in-Ok-Replay.field-0-is c.in-Ok-Replay.ensures in
+    absurd (audit_alone (texts_of c.args.words.now) c.in-Ok-Replay.name.now audits has)
+
+pub returns-in-Ok-Nothing-clause-headline : goal.returns-in-Ok-Nothing-clause-headline
+returns-in-Ok-Nothing-clause-headline g c = λ audits.
+    let none = subst (AsksSo (texts_of c.args.words.now)) c.in-Ok-Nothing.field-0-is c.in-Ok-Nothing.ensures in
+    absurd (none (inl audits))
+
+pub returns-in-Err-clause-headline : goal.returns-in-Err-clause-headline
+returns-in-Err-clause-headline g c = λ audits.
+    nothing_told c.events_carry_parts.ensures (texts_of c.args.words.now) (g.S.Source.left c.args.source.now) (g.K.Sink.held c.args.sink.now) (Appends-nil (g.K.Sink.held c.args.sink.now))

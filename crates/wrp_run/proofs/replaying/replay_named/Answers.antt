@@ -36,7 +36,7 @@ returns-in-TooLong-clause-ends g c =
     } in
     let taken = c.take_network-network.ensures.taken in
     let long = subst (λ (e : End). NetworkOutcome e taken.0 c.take_network-network.result.text.items c.take_network-network.new.reader) c.in-TooLong.is taken.2 in
-    size_ends run _ _ taken.0 c.take_network-network.new.reader (inr (c.args.name.now, inl c.requires)) taken.1 long c.take_network-network.ensures.at_end
+    size_ends run _ _ taken.0 c.take_network-network.new.reader (inr (inl (c.args.name.now, inl c.requires))) taken.1 long c.take_network-network.ensures.at_end
     (rw c.as_bytes.ensures.value at c.answer.ensures.how) c.answer.ensures.rose
 
 pub returns-in-Failed-clause-ends : goal.returns-in-Failed-clause-ends
@@ -54,7 +54,7 @@ returns-in-Failed-clause-ends g c =
     } in
     let taken = c.take_network-network.ensures.taken in
     let cut = subst (λ (e : End). NetworkOutcome e taken.0 c.take_network-network.result.text.items c.take_network-network.new.reader) c.in-Failed.is taken.2 in
-    network_fails run taken.0 (inr (c.args.name.now, inl c.requires)) taken.1 cut (Appends-nil _) (c.take_network-network.ensures.rose c.in-Failed.is)
+    network_fails run taken.0 (inr (inl (c.args.name.now, inl c.requires))) taken.1 cut (Appends-nil _) (c.take_network-network.ensures.rose c.in-Failed.is)
 
 pub returns-in-Memory-clause-ends : goal.returns-in-Memory-clause-ends
 returns-in-Memory-clause-ends g c =
@@ -88,7 +88,7 @@ returns-in-Err-clause-ends g c =
     let text = c.take_network-network.result.text.items in
     let whole = subst (λ (e : End). NetworkOutcome e taken.0 text c.take_network-network.new.reader) c.in-Whole.is taken.2 in
     let reads = subst (λ (t : List ℕ). IsReadingOf t (Err c.in-Err.fault)) c.deref.ensures.value c.in-Err.ensures.value in
-    refused_ends run c.refuse_network.result _ taken.0 text c.in-Err.fault c.take_network-network.new.reader (inr (c.args.name.now, inl c.requires)) taken.1 whole.0 whole.1
+    refused_ends run c.refuse_network.result _ taken.0 text c.in-Err.fault c.take_network-network.new.reader (inr (inl (c.args.name.now, inl c.requires))) taken.1 whole.0 whole.1
     c.take_network-network.ensures.at_end reads c.refuse_network.ensures.how c.refuse_network.ensures.rose
 
 pub returns-in_default-clause-ends : goal.returns-in_default-clause-ends

@@ -3,7 +3,7 @@ use Rattle.std.proofs.Common.{◌≡◌, Err, Ok, subst, sym}
 use Rattle.std.proofs.lemmas.Result.{IfOk-weaker}
 use Rattle.wrp_config.specs.declared.network.Network.{Network}
 use Rattle.wrp_trace.specs.Events.{event_read, plain}
-use Rattle.wrp_trace.specs.Reading.{IsReading}
+use Rattle.wrp_fields.specs.Reading.{IsReading}
 use Rattle.wrp_run.proofs.AuditSteps.{accepted_so, refused_so, trace_so}
 use Rattle.wrp_run.proofs.audit.AuditedNetwork.handle.Goals as goal
 
