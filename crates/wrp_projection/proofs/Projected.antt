@@ -1,0 +1,320 @@
+-- An audit and the inputs that it gives a node are of one run, and the replay on these inputs is the node's part of it.
+use Rattle.std.proofs.Common.{◌≡◌, ◌∙◌, refl, ap, ap₂, sym, subst, append-nil, ℕ, ◌<◌, ◌≤◌, ◌^◌, ◌==◌, Some, Ok, List, [], ◌∷◌, ◌++◌, map, reverse, length, codes, arith}
+use Rattle.std.specs.List.{AllByRecursion}
+use Rattle.std.proofs.lemmas.List.{length-map, length-reverse, reverse-reverse}
+use Rattle.wrp_base.specs.declared.configuration.NetCfg.{NetCfg}
+use Rattle.wrp_base.specs.declared.network.NodeCfg.{NodeCfg}
+use Rattle.wrp_base.specs.Network.{node_count}
+use Rattle.wrp_caldb.specs.Database.{Database}
+use Rattle.wrp_caldb.specs.Name.{same_name}
+use Rattle.wrp_config.proofs.Lists.{found_place}
+use Rattle.wrp_config.specs.declared.network.Network.{Network}
+use Rattle.wrp_config.specs.Names.{node_named}
+use Rattle.wrp_config.specs.Same.{ReadingIsAccepted, bare_cfg}
+use Rattle.wrp_lines.specs.Words.{name_at}
+use Rattle.wrp_node.specs.declared.interface.Input.{Input}
+use Rattle.wrp_node.specs.NodeAt.{NodeAt, Taken, settings_of}
+use Rattle.wrp_node.specs.NodeRun.{AllSaid, node_after}
+use Rattle.wrp_node.specs.OneRun.{answers_by}
+use Rattle.wrp_recorded.specs.Recorded.{AllSaidByLines, InputsAreRecorded, IsRecorded, IsSaidRun, site_in}
+use Rattle.wrp_servo.specs.Servo.{AllAnswered}
+use Rattle.wrp_trace.specs.Events.{event_read}
+use Rattle.wrp_trace.specs.Inputs.{read_of}
+use Rattle.wrp_trace.specs.Printing.{line_of}
+use Rattle.wrp_trace.specs.Site.{Site}
+use Rattle.wrp_world.specs.Run.{Happened, world_after}
+use Rattle.wrp_world.specs.Setting.{Setting}
+use Rattle.wrp_world.specs.WorldAt.{WorldAt}
+use Rattle.wrp_run.specs.declared.status.Status.TheVariants.{Done}
+use Rattle.wrp_run.specs.Answer.{Answer}
+use Rattle.wrp_run.specs.Audited.{AreEvents, IsAudit, IsSettingOf, node_in, setting_at}
+use Rattle.wrp_run.specs.AuditLaws.{OneAudit}
+use Rattle.wrp_run.specs.AuditText.{all_counts, audit_lines, given_lines}
+use Rattle.wrp_run.specs.DownLaw.{fixed_at, law_at}
+use Rattle.wrp_run.specs.Input.{behind_separator, network_limit, network_text}
+use Rattle.wrp_run.specs.Lines.{content_of, lines_of}
+use Rattle.wrp_run.specs.NodeText.{node_counts}
+use Rattle.wrp_run.specs.RecordsAnswer.{IsWholly, RecordsAnswer}
+use Rattle.wrp_run.specs.Replays.{Accepts, AreInputs, Closes, IsNetworkOf, meaning_of}
+use Rattle.wrp_run.specs.declared.command_line.Form.TheVariants as forms
+use Rattle.wrp_run.specs.Tasks.{AsksFor, Audit, Emit, IsAuditing, IsEmission, IsReplay, Replay, Simulate, Task, meaning_at}
+use Rattle.wrp_run.proofs.AuditSteps.{made_after}
+use Rattle.wrp_run.proofs.BareAudit.{after_bare, bare_is, bare_setting}
+use Rattle.wrp_run.proofs.BareEvents.{line_bare}
+use Rattle.wrp_run.proofs.BareRuns.{counts_text, inputs_text, lines_text, run_bare}
+use Rattle.wrp_run.proofs.BareSite.{name_bare, named_bare, read_bare}
+use Rattle.wrp_run.proofs.OneAnswer.{one_setting}
+use Rattle.wrp_run.proofs.OneAudit.{read}
+use Rattle.wrp_run.proofs.Reaching.{lines_alone}
+use Rattle.wrp_run.proofs.WordLemmas.{audit_alone, emission_alone, no_option, no_simulation, one_value, simulation_alone}
+use Rattle.wrp_projection.specs.Law.{FrontWithRecords, HasRecords, ReplayOfEmittedInputs}
+use Rattle.wrp_projection.specs.Projection.{IsProjection, IsProjectionTo}
+use Rattle.wrp_projection.proofs.Own.{audit_is, given_are, own_lines, put_out_by}
+use Rattle.wrp_projection.proofs.Shown.{by_octets, named_alone, names_are_words}
+use Rattle.wrp_projection.proofs.Texts.{IsWord}
+use Rattle.wrp_projection.proofs.Written.{AllRecorded, all_turned, are_inputs, records_of, said_records, whole_records, within_records, writes, written}
+
+-- What the words ask for
+
+-- an audit that ends with Done: its run, and its text
+record TheAudit (input audit : List ℕ) : Type 0 where
+  s : Setting
+  setting : IsSettingOf (network_text input) s
+  within : length (network_text input) ≤ network_limit
+  few : length (behind_separator (lines_of input)) < 2 ^ 32
+  events : List Happened
+  run : IsAudit s (map content_of (behind_separator (lines_of input))) events
+  is : audit ≡ audit_lines s events ++ all_counts s (world_after s events)
+
+audited : OneAudit → (words : List (List ℕ)) (input audit : List ℕ) → IsAuditing words → Answer words input Done audit → TheAudit input audit
+audited one words input audit asks p = go p.0 p.1 p.2
+  where
+    go : (task : Task) → AsksFor words (network_text input) task → RecordsAnswer (meaning_at task) (behind_separator (lines_of input)) Done audit → TheAudit input audit
+    go (Replay site) q h = absurd (audit_alone words q.1 asks q.2)
+    go (Emit s n) q h = absurd (no_option words q.1 asks q.2)
+    go (Simulate s seed) q h = absurd (no_simulation words seed asks q.1)
+    go (Audit s) q h = record {
+      s = s;
+      setting = q.2;
+      within = q.0;
+      few = h.handled.count;
+      events = h.handled.accepted.0;
+      run = h.handled.accepted.1;
+      is = h.is
+          ∙ ap₂ (λ (a b : List ℕ). a ++ b) h.handled.accepted.2
+          (h.closed.2 ∙ (one s (map content_of (behind_separator (lines_of input))) h.closed.0 h.handled.accepted.0 h.closed.1 h.handled.accepted.1).counts);
+    }
+
+-- the inputs of a node in an audit that ends with Done
+record TheEmission (input name records : List ℕ) : Type 0 where
+  s : Setting
+  node : ℕ
+  setting : IsSettingOf (network_text input) s
+  named : node_named s.cfg name ≡ Some node
+  events : List Happened
+  run : IsAudit s (map content_of (behind_separator (lines_of input))) events
+  is : records ≡ given_lines s node events
+
+emitted : (words : List (List ℕ)) (input name records : List ℕ) → IsEmission words name → Answer words input Done records → TheEmission input name records
+emitted words input name records asks p = go p.0 p.1 p.2
+  where
+    go : (task : Task) → AsksFor words (network_text input) task → RecordsAnswer (meaning_at task) (behind_separator (lines_of input)) Done records → TheEmission input name records
+    go (Replay site) q h = absurd (emission_alone words name q.1 asks q.2)
+    go (Audit s) q h = absurd (no_option words name q.1 asks)
+    go (Simulate s seed) q h = absurd (simulation_alone forms.Emit words name seed asks (λ e. omega (arith, e)) q.1)
+    go (Emit s n) q h =
+        let same : q.1 ≡ name = one_value (codes "audit") (codes "--emit") words q.1 name q.2 asks in
+        record {
+          s = s;
+          node = n;
+          setting = q.3;
+          named = subst (λ (m : List ℕ). node_named s.cfg m ≡ Some n) same q.4;
+          events = h.handled.accepted.0;
+          run = h.handled.accepted.1;
+          is = h.is ∙ ap₂ (λ (a b : List ℕ). a ++ b) h.handled.accepted.2 h.closed ∙ append-nil (given_lines s n h.handled.accepted.0);
+        }
+
+-- The events of an audit are a run that lines say
+
+abbrev SaidByLine : NetCfg → Happened → Type 0
+SaidByLine cfg h = (line : List ℕ) × (event_read cfg line ≡ Ok h.event)
+
+said_each : (cfg : NetCfg) (lines : List (List ℕ)) (events : List Happened) → map (event_read cfg) lines ≡ map read events → AllByRecursion (SaidByLine cfg) events
+said_each cfg [] [] e = tt
+said_each cfg [] (h ∷ events) e = absurd (cc)
+said_each cfg (line ∷ lines) [] e = absurd (cc)
+said_each cfg (line ∷ lines) (h ∷ events) e =
+    let head : event_read cfg line ≡ read h = cc in
+    let rest : map (event_read cfg) lines ≡ map read events = cc in
+    ((line, head), said_each cfg lines events rest)
+
+all_said : (s : Setting) (lines : List (List ℕ)) (events : List Happened) → AreEvents s lines events → AllSaidByLines s.cfg events
+all_said s lines events are =
+    subst (AllByRecursion (SaidByLine s.cfg)) (reverse-reverse events)
+    (all_turned (SaidByLine s.cfg) (reverse events) (said_each s.cfg lines (reverse events) are))
+
+counted : (s : Setting) (lines : List (List ℕ)) (events : List Happened) → AreEvents s lines events → length events ≡ length lines
+counted s lines events are =
+    sym (length-reverse events) ∙ sym (length-map (reverse events) read) ∙ sym (ap length are) ∙ length-map lines (event_read s.cfg)
+
+said_run : ReadingIsAccepted → (input audit : List ℕ) (a : TheAudit input audit) → IsSaidRun (setting_at a.setting.net.cfg a.setting.net.db) a.events
+said_run accepted input audit a =
+    let lines : List (List ℕ) = map content_of (behind_separator (lines_of input)) in
+    let s : Setting = setting_at a.setting.net.cfg a.setting.net.db in
+    let run : IsAudit s lines a.events = subst (λ (k : Setting). IsAudit k lines a.events) a.setting.is a.run in
+    let count : length a.events ≡ length lines = counted s lines a.events run.are in
+    let size : length lines ≡ length (behind_separator (lines_of input)) = length-map (behind_separator (lines_of input)) content_of in
+    let few = a.few in
+    record {
+      network = accepted (network_text input) a.setting.net a.setting.reads;
+      said = all_said s lines a.events run.are;
+      accepted = run.run.accepted;
+      few = omega (arith, count, size, few);
+    }
+
+-- Records in a network whose names stand without their unused room
+
+abbrev bare_at : NetCfg → Database → Setting
+bare_at cfg db = setting_at (bare_cfg cfg) db
+
+recorded_bare : (site bare : Site) (x : Input) → line_of bare x ≡ line_of site x → read_of bare (line_of site x) ≡ read_of site (line_of site x) → IsRecorded site x → IsRecorded bare x
+recorded_bare site bare x line reads recorded = record {
+  reads = ap (read_of bare) line ∙ reads ∙ recorded.reads;
+  size = subst (λ (l : List ℕ). length l ≤ 8_192) (sym line) recorded.size;
+}
+
+all_bare : (cfg : NetCfg) (db : Database) (n : ℕ) (inputs : List Taken) → AllRecorded (site_in (setting_at cfg db) n) inputs → AllRecorded (node_in (bare_at cfg db) n) inputs
+all_bare cfg db n [] h = tt
+all_bare cfg db n (t ∷ inputs) h =
+    let site : Site = site_in (setting_at cfg db) n in
+    (recorded_bare site (node_in (bare_at cfg db) n) t.input (line_bare site t.input) (read_bare site (line_of site t.input)) h.0, all_bare cfg db n inputs h.1)
+
+-- The replay of the inputs that a run gave a node
+
+record Replayed (site : Site) (inputs : List Taken) (last : NodeAt) : Type 0 where
+  accepts : Accepts site (map content_of (records_of site inputs)) (written site inputs)
+  closes : Closes site (map content_of (records_of site inputs)) (node_counts site last)
+
+replayed_so : (site : Site) (inputs : List Taken) (last : NodeAt) → AllRecorded site inputs → AllSaid inputs → last ≡ node_after (fixed_at site) inputs
+    → AllAnswered (answers_by (law_at site)) (settings_of (fixed_at site)) last.calls → Replayed site inputs last
+replayed_so site inputs last recorded said made answered =
+    let are : AreInputs site (map content_of (records_of site inputs)) inputs =
+    subst (λ (lines : List (List ℕ)). AreInputs site lines inputs) (sym (said_records site inputs recorded)) (are_inputs site inputs recorded) in
+    let by_law : AllAnswered (answers_by (law_at site)) (settings_of (fixed_at site)) (node_after (fixed_at site) inputs).calls =
+    subst (λ (node : NodeAt). AllAnswered (answers_by (law_at site)) (settings_of (fixed_at site)) node.calls) made answered in
+    record {
+      accepts = (inputs, are, writes site inputs said by_law);
+      closes = (inputs, are, record { said = said; answered = by_law }, ap (node_counts site) made);
+    }
+
+-- the records that stand for them are due to be replayed
+wholly : (site : Site) (inputs : List Taken) (last : NodeAt) (lines : List (List ℕ)) → lines ≡ records_of site inputs → length lines < 2 ^ 32 → AllRecorded site inputs → Replayed site inputs last
+    → IsWholly (meaning_of site) lines (written site inputs ++ node_counts site last)
+wholly site inputs last lines are few recorded replayed =
+    subst (λ (ls : List (List ℕ)). IsWholly (meaning_of site) ls (written site inputs ++ node_counts site last)) (sym are)
+    (record {
+      written = written site inputs;
+      last = node_counts site last;
+      handled = record {
+        sizes = within_records site inputs recorded;
+        count = subst (λ (ls : List (List ℕ)). length ls < 2 ^ 32) are few;
+        accepted = replayed.accepts;
+      };
+      closed = replayed.closes;
+      is = refl;
+    })
+
+-- One run
+
+-- the audit and the emission, in one network whose names stand without their unused room
+record OneOfBoth (input name audit records : List ℕ) : Type 0 where
+  net : Network
+  site : Site
+  network : IsNetworkOf (network_text input) site
+  named : node_named site.cfg name ≡ Some site.node
+  cfg : NetCfg
+  db : Database
+  site_is : site ≡ node_in (setting_at cfg db) site.node
+  words : (m : ℕ) → IsWord (name_at cfg m)
+  alone : (m : ℕ) → same_name (name_at cfg m) name ≡ (m == site.node)
+  events : List Happened
+  run : IsAudit (setting_at cfg db) (map content_of (behind_separator (lines_of input))) events
+  recorded : AllRecorded (node_in (setting_at cfg db) site.node) ((world_after (setting_at cfg db) events).inputs site.node)
+  audit_is : audit ≡ audit_lines (setting_at cfg db) events ++ all_counts (setting_at cfg db) (world_after (setting_at cfg db) events)
+  records_are : records ≡ given_lines (setting_at cfg db) site.node events
+
+both_of : InputsAreRecorded → ReadingIsAccepted → OneAudit → (input name audit records : List ℕ) → TheAudit input audit → TheEmission input name records → OneOfBoth input name audit records
+both_of inputs accepted one input name audit records a e =
+    let lines : List (List ℕ) = map content_of (behind_separator (lines_of input)) in
+    let net : Network = a.setting.net in
+    let own : Setting = setting_at net.cfg net.db in
+    let c : Setting = bare_at net.cfg net.db in
+    let to : bare_setting a.s ≡ c = ap bare_setting a.setting.is ∙ sym (bare_is net.cfg net.db) in
+    let from : bare_setting e.s ≡ c = sym (one_setting (network_text input) a.s e.s a.setting e.setting) ∙ to in
+    let run : IsAudit c lines a.events = subst (λ (k : Setting). IsAudit k lines a.events) to (run_bare a.s lines a.events a.run) in
+    let other : IsAudit c lines e.events = subst (λ (k : Setting). IsAudit k lines e.events) from (run_bare e.s lines e.events e.run) in
+    let world : world_after own a.events ≡ world_after c a.events =
+    sym (ap (λ (k : Setting). world_after k a.events) (bare_is net.cfg net.db) ∙ after_bare own a.events) in
+    let named : node_named (bare_cfg net.cfg) name ≡ Some e.node = ap (λ (k : Setting). node_named k.cfg name) (sym from) ∙ named_bare e.s.cfg name ∙ e.named in
+    let said : IsSaidRun own a.events = said_run accepted input audit a in
+    record {
+      net = net;
+      site = node_in c e.node;
+      network = record { net = net; reads = a.setting.reads; cfg = refl; db = refl };
+      named = named;
+      words = λ m. subst IsWord (sym (name_bare net.cfg m)) (names_are_words net.cfg said.network.names m);
+      alone = λ m. ap (λ (l : List ℕ). same_name l name) (name_bare net.cfg m)
+          ∙ named_alone net.cfg name e.node said.network.names (sym (named_bare net.cfg name) ∙ named) m;
+      cfg = bare_cfg net.cfg;
+      db = net.db;
+      site_is = refl;
+      events = a.events;
+      run = run;
+      recorded = subst (λ (w : WorldAt). AllRecorded (node_in c e.node) (w.inputs e.node)) world
+          (all_bare net.cfg net.db e.node ((world_after own a.events).inputs e.node) (inputs own a.events e.node said));
+      audit_is = a.is ∙ ap₂ (λ (x y : List ℕ). x ++ y) (sym (lines_text a.s a.events)) (sym (counts_text a.s a.events))
+          ∙ ap (λ (k : Setting). audit_lines k a.events ++ all_counts k (world_after k a.events)) to;
+      records_are = e.is ∙ sym (inputs_text e.s e.node e.events) ∙ ap (λ (k : Setting). given_lines k e.node e.events) from
+          ∙ (one c lines e.events a.events other run).given e.node;
+    }
+
+-- The law
+
+replay_is : (replaying : List (List ℕ)) (name input replayed audit records : List ℕ) → IsReplay replaying name → length (network_text input) ≤ network_limit
+    → length (lines_of records) < 2 ^ 32 → HasRecords input records replayed → OneOfBoth input name audit records
+    → (text : List ℕ) × Answer replaying replayed Done text × IsProjectionTo (network_text input) name audit text
+replay_is replaying name input replayed audit records asks within few has b =
+    let s : Setting = setting_at b.cfg b.db in
+    let n : ℕ = b.site.node in
+    let site : Site = node_in s n in
+    let w : WorldAt = world_after s b.events in
+    let taken : List Taken = w.inputs n in
+    let named : node_named s.cfg name ≡ Some n = ap (λ (k : Site). node_named k.cfg name) (sym b.site_is) ∙ b.named in
+    let within_nodes : n < node_count s.cfg = (found_place (λ (node : NodeCfg). same_name node.name.bytes name) s.cfg.nodes.items n named).within in
+    let said : AllSaid taken = b.run.heard n within_nodes in
+    let again : Replayed site taken (w.node n) = replayed_so site taken (w.node n) b.recorded said (made_after s b.events n) (b.run.run.answered n) in
+    let lines : lines_of records ≡ records_of site taken =
+    ap lines_of (b.records_are ∙ given_are s n b.events) ∙ lines_alone (records_of site taken) (whole_records site taken b.recorded) in
+    let due : IsWholly (meaning_of site) (behind_separator (lines_of replayed)) (written site taken ++ node_counts site (w.node n)) =
+    wholly site taken (w.node n) (behind_separator (lines_of replayed)) (has.lines ∙ lines) (subst (λ (ls : List (List ℕ)). length ls < 2 ^ 32) (sym has.lines) few) b.recorded again in
+    let network : IsNetworkOf (network_text input) site = subst (IsNetworkOf (network_text input)) b.site_is b.network in
+    let is : IsProjection site audit (written site taken ++ node_counts site (w.node n)) = record {
+      outs = put_out_by s b.events;
+      last = w.node;
+      of_all = b.audit_is ∙ ap (λ (l : List ℕ). l ++ all_counts s w) (audit_is s b.events);
+      of_one = ap (λ (l : List ℕ). l ++ node_counts site (w.node n)) (sym (own_lines b.cfg b.db n b.events));
+    } in (
+      written site taken ++ node_counts site (w.node n),
+      (
+        Replay site,
+        (
+          subst (λ (t : List ℕ). length t ≤ network_limit) (sym has.network) within,
+          name,
+          asks,
+          subst (λ (t : List ℕ). IsNetworkOf t site) (sym has.network) network,
+          named,
+        ),
+        due,
+      ),
+      record {
+        site = site;
+        network = network;
+        named = named;
+        is = is;
+        octets = by_octets site name audit (written site taken ++ node_counts site (w.node n)) b.words b.alone within_nodes is;
+      },
+    )
+
+pub replay_of_emitted : InputsAreRecorded → ReadingIsAccepted → OneAudit → ReplayOfEmittedInputs
+replay_of_emitted inputs accepted one auditing emitting replaying name input replayed audit records audits emits replays due_audit due_records few has =
+    let a : TheAudit input audit = audited one auditing input audit audits due_audit in
+    let e : TheEmission input name records = emitted emitting input name records emits due_records in
+    replay_is replaying name input replayed audit records replays a.within few has (both_of inputs accepted one input name audit records a e)
+
+-- An input with these records
+
+pub front_with_records : FrontWithRecords
+front_with_records front back text records divides = record {
+  network = (divides records).0 ∙ sym (divides back).0;
+  lines = (divides records).1;
+}

@@ -1,0 +1,82 @@
+-- The projection of an audit to a node: the lines of the audit that are of that node, without the true
+-- offset, which a replay does not know (this project's profile).
+use Rattle.std.specs.Prelude.{◌≡◌, ◌==◌, ℕ, ℤ, Bool, false, None, Some, List, [], ◌∷◌, ◌++◌, take}
+use Rattle.std.specs.List.{filter, flat_map, join_with_byte, slice_split}
+use Rattle.wrp_base.specs.declared.configuration.NetCfg.{NetCfg}
+use Rattle.wrp_base.specs.Network.{node_count}
+use Rattle.wrp_caldb.specs.Name.{same_name}
+use Rattle.wrp_config.specs.Names.{node_named}
+use Rattle.wrp_lines.specs.Lines.{output_line}
+use Rattle.wrp_node.specs.declared.interface.Output.{Output}
+use Rattle.wrp_node.specs.NodeAt.{NodeAt}
+use Rattle.wrp_trace.specs.Site.{Site}
+use Rattle.wrp_world.specs.Setting.{from_on}
+use Rattle.wrp_run.specs.Lines.{content_of, lines_of}
+use Rattle.wrp_run.specs.NodeText.{node_counts}
+use Rattle.wrp_run.specs.Replays.{IsNetworkOf}
+
+-- By the octets alone
+
+-- the words of a line, which have a space (octet 32) between them
+abbrev pub words_of : List ℕ → List (List ℕ)
+words_of line = slice_split (λ octet. octet == 32) (content_of line)
+
+-- whether the first of some words is this name
+abbrev pub begins_with : List ℕ → List (List ℕ) → Bool
+begins_with name [] = false
+begins_with name (word ∷ words) = same_name word name
+
+-- the first five words of a line: ` true OFF` stands behind the fifth, and nothing else does
+abbrev pub without_truth : List ℕ → List ℕ
+without_truth line = join_with_byte 32 (take 5 (words_of line)) ++ 10 ∷ []
+
+-- the lines of an audit that begin with the name of a node, without the true offsets
+abbrev pub lines_of_node : List ℕ → List ℕ → List ℕ
+lines_of_node name audit =
+    flat_map without_truth (filter (λ line. begins_with name (words_of line)) (lines_of audit))
+
+-- By the run
+
+-- what a node put out in a run: at which tick count, and how far its clock then was from true time
+pub record PutOut : Type 0 where
+  pub node : ℕ
+  pub tick : ℕ
+  pub off : ℤ
+  pub output : Output
+
+-- its line in an audit, where a track line tells the true offset
+abbrev pub audit_line : NetCfg → PutOut → List ℕ
+audit_line cfg x = output_line cfg x.node x.tick x.output (Some x.off)
+
+-- the same line without it
+abbrev pub replay_line : NetCfg → PutOut → List ℕ
+replay_line cfg x = output_line cfg x.node x.tick x.output None
+
+-- what one node put out of it
+abbrev pub of_node : ℕ → List PutOut → List PutOut
+of_node n outs = filter (λ x. x.node == n) outs
+
+-- another node of the network
+abbrev pub node_of : Site → ℕ → Site
+node_of site n = record site { node = n }
+
+-- Of one run an audit and a replay are the texts: the audit has the line of all that its nodes put out,
+-- and then the counters that are not 0 of all nodes; the replay has the line of what this node put out,
+-- without the true offset, and then the counters of this node
+pub record IsProjection (site : Site) (audit replay : List ℕ) : Type 0 where
+  pub outs : List PutOut
+  pub last : ℕ → NodeAt
+  pub of_all : audit ≡
+      flat_map (audit_line site.cfg) outs
+      ++ flat_map (λ n. node_counts (node_of site n) (last n)) (from_on (node_count site.cfg) 0)
+  pub of_one : replay ≡
+      flat_map (replay_line site.cfg) (of_node site.node outs) ++ node_counts site (last site.node)
+
+-- the replay of the node of a name is that of the audit, in the network that a text describes: by the
+-- run, and by the octets alone
+pub record IsProjectionTo (text name audit replay : List ℕ) : Type 0 where
+  pub site : Site
+  pub network : IsNetworkOf text site
+  pub named : node_named site.cfg name ≡ Some site.node
+  pub is : IsProjection site audit replay
+  pub octets : replay ≡ lines_of_node name audit
