@@ -1,0 +1,10 @@
+pub mod Announcing
+pub mod Chains
+pub mod Clocks
+pub mod Fibres
+pub mod FlightOrder
+pub mod Holdovers
+pub mod Leases
+pub mod Moments
+pub mod Rates
+pub mod Views
