@@ -13,6 +13,7 @@ pub mod KeepsFrames
 pub mod KeepsGood
 pub mod KeepsLit
 pub mod KeepsMoves
+pub mod KeepsNext
 pub mod KeepsNumbers
 pub mod KeepsRaw
 pub mod KeepsRun

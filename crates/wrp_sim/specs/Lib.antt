@@ -9,3 +9,4 @@ pub mod ScenarioLines
 pub mod Sim
 pub mod SimAt
 pub mod SimRun
+pub mod TakesTurns

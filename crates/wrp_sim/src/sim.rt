@@ -4,6 +4,7 @@ ghost use Rattle.wrp_base.specs.declared.configuration.NetCfg.{NetCfg};
 ghost use Rattle.wrp_sim.specs.Scenario.{IsSceneOf};
 ghost use Rattle.wrp_sim.specs.Sim.{FitsSim, FollowsRules, SimIs, StaysFit};
 ghost use Rattle.wrp_sim.specs.SimAt.{new_sim};
+ghost use Rattle.wrp_sim.specs.TakesTurns.{TakesTurns};
 ghost use Rattle.wrp_world.specs.Plant.{Each};
 ghost use Rattle.wrp_world.specs.StandsFor.{IsValid};
 
@@ -21,6 +22,7 @@ mod state;
 mod ticking;
 
 use crate::draws::Draws;
+use crate::laws::simulator_keeps_the_bounds;
 use crate::scene::Scene;
 use state::{Handed, State};
 use std::alloc::{AllocError, Global};
@@ -88,7 +90,9 @@ impl Sim {
         requires fits { FitsSim world.now.plant.net.cfg self.old }
         ensures follows { FollowsRules F.post world.now self.old self.new result }
         ensures stays { StaysFit world.now.plant.net.cfg self.old self.new }
+        ensures turns { TakesTurns F.post world.now self.old self.new result }
     {
+        simulator_keeps_the_bounds();
         self.state.next(world)
     }
 }
