@@ -11,7 +11,11 @@ const NANOSECOND: u128 = 65_536_000;
 /// The nanoseconds in one second.
 const SECOND: u128 = 1_000_000_000;
 
+// Both divide 128 bits, which is slow. Inlined, the optimiser moves the divisions to the head of each
+// input's loop over the ports, where most inputs need none; so they stay calls.
+
 /// The Timestamp of a reading, in tau.
+#[inline(never)]
 pub fn timestamp(reading: Tau) -> Ts
     requires { unsigned_abs reading ≤ 2 ^ 93 }
     ensures value { result ≡ timestamp_of (unsigned_abs reading) }
@@ -25,6 +29,7 @@ pub fn timestamp(reading: Tau) -> Ts
 }
 
 /// The rest of a nanosecond of a reading, in units of the correctionField.
+#[inline(never)]
 pub fn rest(reading: Tau) -> i64
     ensures value { result ≡ pos (rest_of (unsigned_abs reading)) }
     ensures size { unsigned_abs result < 65_536 }

@@ -38,13 +38,13 @@ fn frame(octets: &[u8]) -> Frame
 
 /// The number of BITS: 16 digits of either case, the most significant first. None where the text is
 /// another.
+#[tactic(auto, using(crate::proofs::DigitLemmas::not_eight))]
 pub fn bits(text: &[u8]) -> Option<u64>
     ensures { result ≡ bits_of text.now }
 {
-    let octets = octets(text)?;
-    if octets.len() == BITS_ROOM {
-        Some(BigEndian::read_u64(octets.as_slice()))
-    } else {
-        None
+    let mut octets = [0u8; BITS_ROOM];
+    if hex::decode_to_slice(text, octets.as_mut_slice()).is_err() {
+        return None;
     }
+    Some(BigEndian::read_u64(octets.as_slice()))
 }
