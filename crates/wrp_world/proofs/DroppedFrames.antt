@@ -124,6 +124,7 @@ record IsUnmoved (w v : WorldAt) : Type 0 where
   clocks : (m : ℕ) → v.clock m ≡ w.clock m
   fibres : (k : ℕ) → v.fibre k ≡ w.fibre k
   ends : (k : ℕ) (r : Role) → v.end_at k r ≡ w.end_at k r
+  departed : v.departed ≡ w.departed
   frames : (i : ℕ) → v.frame i ≡ w.frame i
 
 or_false : (b : Bool) → (b || false) ≡ b
@@ -148,6 +149,7 @@ deliver_unmoved s w i = record {
   clocks = λ m. refl;
   fibres = λ k. refl;
   ends = λ k r. refl;
+  departed = refl;
   frames = λ j. not_removed s (Deliver i) (w.frame j) (λ k. refl);
 }
 
@@ -158,6 +160,7 @@ noise_unmoved s w n p octets raw = record {
   clocks = λ m. refl;
   fibres = λ k. refl;
   ends = λ k r. refl;
+  departed = refl;
   frames = λ j. not_removed s (Noise n p octets raw) (w.frame j) (λ k. refl);
 }
 
@@ -181,6 +184,7 @@ counts_alone s y w v g p octets raw sample reason x same e is = record {
   fibres = same.fibres;
   ends = λ k r.
       ap (λ (z : Step). end_by s v g z k r) is ∙ end_where s v g p reason k r (end_at s k r) (is_of g.to (end_at s k r)) ∙ same.ends k r;
+  departed = same.departed;
   frames = same.frames;
 }
 

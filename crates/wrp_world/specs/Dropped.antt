@@ -22,8 +22,9 @@ given_at s before h = given_by s (world_after s before) (moved s (world_after s 
 abbrev pub with_count : ℕ → ℕ → NodeAt → NodeAt
 with_count p reason n = record n { counters = counted_at n.counters p (Some reason) }
 
--- a world in which that counter of a node is one more, and nothing else is changed: no node, no clock, no fibre, no frame, and
--- at the end of no link what waits there, what was ever put out there, and the history of the link's state
+-- a world in which that counter of a node is one more, or stays at its greatest value, and nothing else is changed: no node, no
+-- clock, no fibre, no frame, nor how many departed, and at the end of no link what waits there, what was ever put out there, and
+-- the history of the link's state
 pub record CountsAlone (n p reason : ℕ) (old new : WorldAt) : Type 0 where
   pub node : new.node n ≡ with_count p reason (old.node n)
   pub others : (m : ℕ) → m ≢ n → new.node m ≡ old.node m
@@ -31,6 +32,7 @@ pub record CountsAlone (n p reason : ℕ) (old new : WorldAt) : Type 0 where
   pub clocks : (m : ℕ) → new.clock m ≡ old.clock m
   pub fibres : (k : ℕ) → new.fibre k ≡ old.fibre k
   pub ends : (k : ℕ) (r : Role) → new.end_at k r ≡ old.end_at k r
+  pub departed : new.departed ≡ old.departed
   pub frames : (i : ℕ) → new.frame i ≡ old.frame i
 
 -- no node puts out anything in an event that hands a node such a frame, and one counter of that node is all that it changes

@@ -8,7 +8,7 @@ ghost use Rattle.wrp_world.specs.Taking.{AreOfNodes, laws_of};
 
 use super::World;
 use crate::checks::Breach;
-use crate::run_laws::link_on_in_the_same_handshake;
+use crate::run_laws::reported_link_on_is_earned;
 use crate::{Event, NodeOut, Refused};
 use std::alloc::Global;
 
@@ -31,7 +31,7 @@ impl<F: Fn(i64) -> i64> World<F> {
         ensures net { self.new.plant.net ≡ self.old.plant.net }
         ensures laws { laws_of self.new ≡ laws_of self.old }
     {
-        link_on_in_the_same_handshake();
+        reported_link_on_is_earned();
         if let Some(breach) = self.broken(event) {
             return Err(refused(breach));
         }

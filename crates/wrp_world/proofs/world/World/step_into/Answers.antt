@@ -58,4 +58,4 @@ returns-clause-steps g c =
 
 pub returns-clause-handshakes : goal.returns-clause-handshakes
 returns-clause-handshakes g c =
-    runs_on _ c.args.event.now c.args.self.now c.give_all.new.self c.give_all.new.outs.items c.link_on_in_the_same_handshake.ensures.handshake c.requires.event (returns-clause-steps g c)
+    runs_on _ c.args.event.now c.args.self.now c.give_all.new.self c.give_all.new.outs.items c.reported_link_on_is_earned.ensures.earned c.requires.event (returns-clause-steps g c)
