@@ -1,10 +1,15 @@
 pub mod Announcing
+pub mod Bounds
 pub mod Chains
 pub mod Clocks
+pub mod Exchanges
 pub mod Fibres
 pub mod FlightOrder
+pub mod Fours
 pub mod Holdovers
 pub mod Leases
 pub mod Moments
+pub mod PortDelays
 pub mod Rates
+pub mod SequenceIds
 pub mod Views

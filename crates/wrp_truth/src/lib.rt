@@ -3,14 +3,26 @@
 //! All rules are this project's profile.
 #![tactic(auto)]
 
+mod bounds;
 mod chains;
 mod clocks;
+mod exchanges;
 mod flights;
+mod fours;
 mod holdovers;
 mod leases;
+mod port_delays;
+mod requests;
+mod sequence_ids;
 
+pub use bounds::{estimates_are_near, offsets_keep_bounds, reports_are_within};
 pub use chains::{chain_has_constant, chain_passes_slowly};
 pub use clocks::{clocks_move_slowly, fibres_keep_their_share, ticks_are_on_time};
+pub use exchanges::syncs_tell;
 pub use flights::{frames_follow_the_source, frames_keep_order};
+pub use fours::{four_holds_in_track, kept_is_reckoned};
 pub use holdovers::{holdover_is_from_track, holdover_is_short};
 pub use leases::lease_has_source;
+pub use port_delays::fibre_holds_while_on;
+pub use requests::delays_tell;
+pub use sequence_ids::{ids_come_again_late, one_timed_an_event};

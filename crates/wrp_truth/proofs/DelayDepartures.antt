@@ -1,0 +1,263 @@
+-- The sending that a slave's exchange keeps in a chain is that of its newest Delay_Req, with the phase that its stamp latched.
+use Rattle.std.proofs.Common.{◌≡◌, ◌∙◌, refl, ap, ap₂, sym, subst, ℕ, suc, ◌+◌, ◌*◌, ◌<◌, ◌≤◌, ◌==◌, ℤ, pos, ◌+ℤ◌, ◌-ℤ◌, ◌≤ℤ◌, Bool, true, false, if◌then◌else◌, List, [], ◌∷◌, ◌++◌, length, Option, None, Some, Result, arith}
+use Rattle.std.proofs.lemmas.Int.{ints}
+use Rattle.std.specs.List.{AllByRecursion}
+use Rattle.wrp_base.specs.declared.link.Role.TheVariants.{Slave}
+use Rattle.wrp_base.specs.declared.message.PtpMsg.{PtpMsg}
+use Rattle.wrp_base.specs.declared.network.LinkCfg.{LinkCfg}
+use Rattle.wrp_bounds.specs.Bounds.{numbers_of}
+use Rattle.wrp_bounds.specs.declared.numbers.HopNumbers.{HopNumbers}
+use Rattle.wrp_bounds.specs.Times.{frame_life}
+use Rattle.wrp_exch.specs.Call.{Call}
+use Rattle.wrp_exch.specs.Chain.{latched_phase}
+use Rattle.wrp_exch.specs.declared.delay.Sent.{Sent}
+use Rattle.wrp_frame.specs.declared.fault.FrameFault.{FrameFault}
+use Rattle.wrp_node.specs.NodeAt.{setting_of}
+use Rattle.wrp_port.specs.History.{calls_of}
+use Rattle.wrp_tracking.specs.Chain.{Good, GoodTells, LatchedAt}
+use Rattle.wrp_tracking.specs.History.{Was}
+use Rattle.wrp_tracking.specs.Moment.{Moment}
+use Rattle.wrp_tracking.proofs.Histories.{was_at_most}
+use Rattle.wrp_world.specs.declared.event.Event.TheVariants.{Depart}
+use Rattle.wrp_world.specs.declared.place.Place.{Place}
+use Rattle.wrp_world.specs.Given.{given_by}
+use Rattle.wrp_world.specs.Moved.{departing, moved, waiting_at}
+use Rattle.wrp_world.specs.Run.{Happened, world_after}
+use Rattle.wrp_world.specs.Runs.{IsNetwork, IsRun, WasPutOut}
+use Rattle.wrp_world.specs.Setting.{Setting, end_of, link_of, place_of}
+use Rattle.wrp_world.specs.WorldAt.{FrameAt, Sending, WorldAt, delay_from}
+use Rattle.wrp_world.proofs.RunCarriers.{end_alike}
+use Rattle.wrp_world.proofs.RunGiven.{end_is}
+use Rattle.wrp_world.proofs.RunNetwork.{LinkEnd, are_apart, end_with, place_end}
+use Rattle.wrp_world.proofs.RunPorts.{self_equal}
+use Rattle.wrp_truth.specs.Chains.{AllFit, ChainRuns, goods_since}
+use Rattle.wrp_truth.specs.Moments.{AtEach}
+use Rattle.wrp_truth.specs.Rates.{HasChain}
+use Rattle.wrp_truth.specs.SequenceIds.{IsOpenAt}
+use Rattle.wrp_truth.specs.Views.{moment_at, moments_of}
+use Rattle.wrp_truth.proofs.ChainMoves.{HasNewest, newest_moment}
+use Rattle.wrp_truth.proofs.DelayFrames.{Stayed, frame_stays}
+use Rattle.wrp_truth.proofs.DelayNewest.{Newest}
+use Rattle.wrp_truth.proofs.DelayOpen.{chain_open}
+use Rattle.wrp_truth.proofs.DelayPieces.{DelayLaws, later_goods, older_fits, one_start, same_request, still_depart, was_later}
+use Rattle.wrp_truth.proofs.DelayRequests.{IsRequest}
+use Rattle.wrp_truth.proofs.DelaySamples.{IsHead, latched_newest}
+use Rattle.wrp_truth.proofs.InOrder.{given_frame}
+use Rattle.wrp_truth.proofs.Suffixes.{at_newest, count_is, older_run}
+
+-- A chain of a run
+
+-- what is given of it
+pub record Given : Type 0 where
+  pub laws : DelayLaws
+  pub s : Setting
+  pub events : List Happened
+  pub k : ℕ
+  pub link : LinkCfg
+  pub hop : HopNumbers
+  pub run : IsRun s events
+  pub fits : AllFit events
+  pub is : link_of s k ≡ Some link
+  pub numbers : numbers_of s.cfg link.lower ≡ Some hop
+  pub chain : ChainRuns s events k link hop
+
+-- the number of its first moment, and the history of its link
+abbrev pub start_at : Given → ℕ
+start_at c = length (c.chain.start ∷ c.chain.before)
+
+abbrev pub past_of : Given → List Moment
+past_of c = moments_of c.s c.k c.link c.events
+
+abbrev pub calls_at : Given → List Happened → List Call
+calls_at c events = calls_of (setting_of (c.s.set c.link.lower) c.link.lower_port) (((world_after c.s events).node c.link.lower).told c.link.lower_port)
+
+-- earlier events of the chain
+pub record Inside (c : Given) (events : List Happened) : Type 0 where
+  pub top : List Happened
+  pub splits : c.events ≡ top ++ events
+  pub mid : List Happened
+  pub is : events ≡ mid ++ c.chain.start ∷ c.chain.before
+  pub first : c.chain.newer ≡ top ++ mid
+  pub stands : AtEach (HasChain c.s c.link.lower) mid (c.chain.start ∷ c.chain.before)
+
+pub run_at : (c : Given) (events : List Happened) → Inside c events → IsRun c.s events
+run_at c events i = older_run c.s i.top events (subst (IsRun c.s) i.splits c.run)
+
+pub chain_at : (c : Given) (events : List Happened) → Inside c events → HasChain c.s c.link.lower events
+chain_at c events i = subst (HasChain c.s c.link.lower) (sym i.is) (at_newest (HasChain c.s c.link.lower) i.mid (c.chain.start ∷ c.chain.before) i.stands)
+
+pub open_at : (c : Given) (events : List Happened) → Inside c events → IsOpenAt c.s c.link Slave events
+open_at c events i =
+    chain_open c.laws.opens c.s events c.k c.link (run_at c events i) c.is (c.laws.samples.lit c.s events c.k c.link (run_at c events i) c.is (chain_at c events i)) (chain_at c events i)
+
+-- The phase that is latched
+
+pub record Latched (c : Given) (events : List Happened) (u : ℤ) : Type 0 where
+  pub good : Good
+  pub tells : GoodTells c.hop (past_of c) (start_at c) c.chain.constant good
+  pub phase : u ≡ good.u
+  pub sample : Moment
+  pub latched : LatchedAt c.hop (past_of c) good (length events) sample (moment_at c.k c.link (world_after c.s events))
+
+no_later : (j m : ℕ) (n : ℕ) → j < m → m ≡ suc n → j ≤ n
+no_later j m n h e = omega (arith, h, e)
+
+one_less : (a b : ℕ) → a ≡ b → suc a ≡ suc b
+one_less a b e = ap suc e
+
+latched_at : (c : Given) (events : List Happened) (i : Inside c events) (u : ℤ) → latched_phase (c.s.set c.link.lower).ring (calls_at c events) ((world_after c.s events).clock c.link.lower).samples ≡ Some u → Latched c events u
+latched_at c events i u e =
+    let s : Setting = c.s in
+    let n : ℕ = c.link.lower in
+    let begin : List Happened = c.chain.start ∷ c.chain.before in
+    let run : IsRun s events = run_at c events i in
+    let now : ChainRuns s events c.k c.link c.hop =
+    c.laws.constant s events c.k c.link c.hop run (older_fits i.top events (subst AllFit i.splits c.fits)) c.is c.numbers (chain_at c events i) in
+    let head : IsHead (goods_since s n i.mid begin) u =
+    latched_newest c.laws.samples s i.mid c.chain.start c.chain.before c.k c.link (s.set n).ring u (subst (IsRun s) i.is run) c.is i.stands c.chain.begins
+    (subst (λ l. latched_phase (s.set n).ring (calls_at c l) ((world_after s l).clock n).samples ≡ Some u) i.is e) in
+    let one : (now.newer ≡ i.mid) × (now.start ∷ now.before ≡ begin) =
+    one_start (HasChain s n) now.newer now.start now.before i.mid c.chain.start c.chain.before (sym now.splits ∙ i.is) now.stands i.stands now.begins c.chain.begins in
+    let goods : now.newest ∷ now.earlier ≡ goods_since s n i.mid begin = now.goods ∙ ap₂ (goods_since s n) one.0 one.1 in
+    let all : AllByRecursion (GoodTells c.hop (past_of c) (start_at c) c.chain.constant) (goods_since s n (i.top ++ i.mid) begin) =
+    subst (λ l. AllByRecursion (GoodTells c.hop (past_of c) (start_at c) c.chain.constant) (goods_since s n l begin)) i.first
+    (subst (AllByRecursion (GoodTells c.hop (past_of c) (start_at c) c.chain.constant)) c.chain.goods c.chain.holds.goods) in
+    let tells : AllByRecursion (GoodTells c.hop (past_of c) (start_at c) c.chain.constant) (now.newest ∷ now.earlier) =
+    subst (AllByRecursion (GoodTells c.hop (past_of c) (start_at c) c.chain.constant)) (sym goods) (later_goods (GoodTells c.hop (past_of c) (start_at c) c.chain.constant) s n i.top i.mid begin all) in
+    let history : HasNewest s c.k c.link events = newest_moment s c.k c.link events in
+    record {
+      good = now.newest;
+      tells = tells.0;
+      phase = sym (subst (λ l. IsHead l u) (sym goods) head);
+      sample = now.holds.moment;
+      latched = record {
+        was = subst (λ l. Was (moments_of s c.k c.link l) now.newest.at now.holds.moment) (sym i.splits) (was_later s c.k c.link i.top events now.newest.at now.holds.moment now.holds.was);
+        order =
+            no_later now.newest.at (length (moments_of s c.k c.link events)) (length events) (was_at_most now.newest.at now.holds.moment (moments_of s c.k c.link events) now.holds.was)
+            (ap length history.is ∙ one_less (length history.past) (length events) history.length_is);
+        near = now.recent;
+      };
+    }
+
+-- The frame of a departure
+
+pub record NewFrame (s : Setting) (h : Happened) (before : List Happened) (k : ℕ) (x : Sending) (stamp : ℤ) : Type 0 where
+  pub number : ℕ
+  pub frame : FrameAt
+  pub there : (world_after s (h ∷ before)).frame number ≡ Some frame
+  pub link_is : frame.link ≡ k
+  pub by_is : frame.by ≡ Slave
+  pub sending : frame.sending ≡ x
+  pub stamp_is : frame.stamp ≡ stamp
+  pub at : frame.at ≡ (world_after s before).time
+  pub moment : frame.moment ≡ length before
+
+none_waits : (x : Sending) (rest : List Sending) → [] ≡ x ∷ rest → ⊥
+none_waits x rest e = cc
+
+first_of : {A : Type 0} (b : Bool) (x : A) (o : Option A) → b ≡ true → (if b then Some x else o) ≡ Some x
+first_of true x o e = refl
+first_of false x o e = absurd cc
+
+frame_at_place : (s : Setting) → IsNetwork s → (says : Result PtpMsg FrameFault) (y : ℤ) (before : List Happened) (m q : ℕ) (stamp : ℤ) (k : ℕ) (link : LinkCfg) (x : Sending) (rest : List Sending) (o : Option Place) → link_of s k ≡ Some link → link.lower ≡ m → link.lower_port ≡ q →
+    place_of s m q ≡ o → waiting_at (world_after s before) o ≡ x ∷ rest → NewFrame s (record { event = Depart m q stamp; says = says; answer = y }) before k x stamp
+frame_at_place s net says y before m q stamp k link x rest None is at_node at_port place queue = absurd (none_waits x rest queue)
+frame_at_place s net says y before m q stamp k link x rest (Some z) is at_node at_port place queue =
+    let w : WorldAt = world_after s before in
+    let v : WorldAt = moved s w (Depart m q stamp) in
+    let it : LinkEnd s z.link z.role (end_with m q) = place_end s m q z place in
+    let same : (z.link ≡ k) × (z.role ≡ Slave) =
+    are_apart s net z.link k z.role Slave (end_with m q) (end_is s z.link z.role it.link it.there ∙ ap Some it.end_is) (end_is s k Slave link is ∙ ap Some (end_alike (end_of Slave link) (end_with m q) at_node at_port)) in
+    let i : ℕ = w.departed + 1 in
+    let frame : FrameAt = record {
+      link = z.link;
+      by = z.role;
+      sending = x;
+      stamp = stamp;
+      at = w.time;
+      moment = w.count;
+      due = w.time +ℤ delay_from w z.link z.role;
+      arrival = None;
+      gone = false;
+    } in
+    record {
+      number = i;
+      frame = frame;
+      there =
+          (given_frame s y (given_by s w v says (Depart m q stamp)) v i).0
+          ∙ ap (λ o. departing w o stamp (waiting_at w o) i) place
+          ∙ ap (λ l. departing w (Some z) stamp l i) queue
+          ∙ first_of (i == i) frame (w.frame i) (self_equal i);
+      link_is = same.0;
+      by_is = same.1;
+      sending = refl;
+      stamp_is = refl;
+      at = refl;
+      moment = count_is s before;
+    }
+
+-- The sending that is kept
+
+-- it is that of this Delay_Req
+pub record Departs (c : Given) (x : Sending) (kept : Sent) : Type 0 where
+  pub number : ℕ
+  pub frame : FrameAt
+  pub there : (world_after c.s c.events).frame number ≡ Some frame
+  pub link_is : frame.link ≡ c.k
+  pub by_is : frame.by ≡ Slave
+  pub sending : frame.sending ≡ x
+  pub stamp : frame.stamp ≡ kept.t3
+  pub newer : List Happened
+  pub older : List Happened
+  pub splits : c.events ≡ newer ++ older
+  pub moment : frame.moment ≡ length older
+  pub begun : start_at c ≤ length older
+  pub tick : kept.tick ≡ ((world_after c.s older).node c.link.lower).ticks
+  pub latched : Latched c older kept.u3
+
+appended : {A : Type 0} (xs ys zs : List A) → (xs ++ ys) ++ zs ≡ xs ++ (ys ++ zs)
+appended [] ys zs = refl
+appended (x ∷ xs) ys zs = ap (λ l. x ∷ l) (appended xs ys zs)
+
+behind : {A : Type 0} (a b : List A) → length b ≤ length (a ++ b)
+behind [] b = omega arith
+behind (y ∷ a) b = let h : length b ≤ length (a ++ b) = behind a b in omega (arith, h)
+
+young_now : (now at sent : ℤ) (life : ℕ) → now ≡ at → (at -ℤ sent) ≤ℤ pos life → now ≤ℤ (sent +ℤ pos (2 * life))
+young_now now at sent life e h = omega (arith, ints, e, h)
+
+pub departs : (c : Given) (says : Result PtpMsg FrameFault) (y : ℤ) (before : List Happened) (m q : ℕ) (stamp : ℤ) (x z : Sending) (rest : List Sending) (u : ℤ) → Inside c before → Inside c (record { event = Depart m q stamp; says = says; answer = y } ∷ before) →
+    c.link.lower ≡ m → c.link.lower_port ≡ q → waiting_at (world_after c.s before) (place_of c.s m q) ≡ z ∷ rest → IsRequest z.message.body →
+    Newest c.s (record { event = Depart m q stamp; says = says; answer = y } ∷ before) c.k x → z.message.head.seq ≡ x.message.head.seq →
+    latched_phase (c.s.set c.link.lower).ring (calls_at c before) ((world_after c.s before).clock m).samples ≡ Some u →
+    Departs c x (record { t3 = stamp; u3 = u; tick = ((world_after c.s before).node c.link.lower).ticks })
+departs c says y before m q stamp x z rest u i j at_node at_port queue request newest seq latched =
+    let s : Setting = c.s in
+    let h : Happened = record { event = Depart m q stamp; says = says; answer = y } in
+    let run : IsRun s (h ∷ before) = run_at c (h ∷ before) j in
+    let new : NewFrame s h before c.k z stamp = frame_at_place s run.network says y before m q stamp c.k c.link z rest (place_of s m q) c.is at_node at_port refl queue in
+    let put : WasPutOut z ((world_after s (h ∷ before)).end_at c.k Slave).sent =
+    subst (λ t. WasPutOut t ((world_after s (h ∷ before)).end_at c.k Slave).sent) new.sending
+    (subst (λ r. WasPutOut new.frame.sending ((world_after s (h ∷ before)).end_at c.k r).sent) new.by_is
+    (subst (λ l. WasPutOut new.frame.sending ((world_after s (h ∷ before)).end_at l new.frame.by).sent) new.link_is (c.laws.put s (h ∷ before) new.number new.frame run new.there))) in
+    let young : (world_after s (h ∷ before)).time ≤ℤ (z.at +ℤ pos (2 * frame_life s.cfg)) =
+    young_now (world_after s (h ∷ before)).time new.frame.at z.at (frame_life s.cfg) (still_depart s h before m q stamp refl ∙ sym new.at)
+    (subst (λ (t : Sending). (new.frame.at -ℤ t.at) ≤ℤ pos (frame_life s.cfg)) new.sending (c.laws.stamped s (h ∷ before) new.number new.frame run new.there).0.young) in
+    let same : z ≡ x = same_request c.laws s (h ∷ before) c.k c.link x z run c.is (open_at c (h ∷ before) j) newest request put seq young in
+    let later : Stayed s (j.top ++ (h ∷ before)) new.number new.frame = frame_stays s j.top (h ∷ before) new.number new.frame (subst (IsRun s) j.splits c.run) new.there in
+    record {
+      number = new.number;
+      frame = later.frame;
+      there = ap (λ l. (world_after s l).frame new.number) j.splits ∙ later.there;
+      link_is = later.link ∙ new.link_is;
+      by_is = later.by ∙ new.by_is;
+      sending = later.sending ∙ new.sending ∙ same;
+      stamp = later.stamp ∙ new.stamp_is;
+      newer = j.top ++ (h ∷ []);
+      older = before;
+      splits = j.splits ∙ sym (appended j.top (h ∷ []) before);
+      moment = later.moment ∙ new.moment;
+      begun = subst (λ l. start_at c ≤ length l) (sym i.is) (behind i.mid (c.chain.start ∷ c.chain.before));
+      tick = refl;
+      latched = latched_at c before i u (subst (λ n. latched_phase (s.set c.link.lower).ring (calls_at c before) ((world_after s before).clock n).samples ≡ Some u) (sym at_node) latched);
+    }

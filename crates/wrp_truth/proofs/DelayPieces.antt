@@ -1,0 +1,189 @@
+-- The Delay_Req that a slave's exchange waits for: whatever departs, or is answered, with its id is that one.
+use Rattle.std.proofs.Common.{◌≡◌, ◌⊎◌, inl, inr, ◌∙◌, refl, ap, sym, subst, ℕ, suc, ◌+◌, ◌*◌, ◌<◌, ◌≤◌, not, min, ℤ, pos, ◌+ℤ◌, ◌-ℤ◌, ◌≤ℤ◌, unsigned_abs, true, false, List, [], ◌∷◌, ◌++◌, length, Option, None, Some, option_to_list, Result, arith}
+use Rattle.std.proofs.lemmas.Int.{ints}
+use Rattle.std.specs.List.{AllByRecursion}
+use Rattle.std.specs.Int.Signed.{le_z}
+use Rattle.wrp_base.specs.declared.link.Role.TheVariants.{Slave}
+use Rattle.wrp_base.specs.declared.message.Body.{Body}
+use Rattle.wrp_base.specs.declared.message.Body.TheVariants.{Sync, DelayReq, FollowUp, DelayResp, Announce, Signal}
+use Rattle.wrp_base.specs.declared.network.LinkCfg.{LinkCfg}
+use Rattle.wrp_bounds.specs.Times.{frame_life, gap_time, shortest_tick}
+use Rattle.wrp_frame.specs.declared.fault.FrameFault.{FrameFault}
+use Rattle.wrp_base.specs.declared.message.PtpMsg.{PtpMsg}
+use Rattle.wrp_tracking.specs.Chain.{DelayTellsWays, Good}
+use Rattle.wrp_tracking.specs.History.{Was}
+use Rattle.wrp_tracking.specs.Moment.{Moment}
+use Rattle.wrp_world.specs.declared.event.Event.{Event}
+use Rattle.wrp_world.specs.declared.event.Event.TheVariants.{Deliver, Depart}
+use Rattle.wrp_world.specs.Checks.{AllHold}
+use Rattle.wrp_world.specs.Given.{given_by}
+use Rattle.wrp_world.specs.Moved.{moved}
+use Rattle.wrp_world.specs.Premises.{Accepts, deliver_by, deliver_checks}
+use Rattle.wrp_world.specs.Run.{Happened, world_after}
+use Rattle.wrp_world.specs.RunLaws.{FramesHaveTimes, FramesWerePutOut}
+use Rattle.wrp_world.specs.RunStamps.{FramesAreStamped}
+use Rattle.wrp_world.specs.Runs.{IsRun, WasPutOut}
+use Rattle.wrp_world.specs.Setting.{Setting, link_of}
+use Rattle.wrp_world.specs.WorldAt.{Arrival, FrameAt, Sending, WorldAt}
+use Rattle.wrp_world.proofs.RunTimes.{all_given_time}
+use Rattle.wrp_truth.specs.Chains.{AllFit, ChainHasConstant, good_in, goods_since}
+use Rattle.wrp_truth.specs.Fibres.{FibresKeepTheirShare}
+use Rattle.wrp_truth.specs.Moments.{AtEach}
+use Rattle.wrp_truth.specs.SequenceIds.{IdsComeAgainLate, IsOpenAt, IsTimed, OneTimedAnEvent}
+use Rattle.wrp_truth.specs.Views.{moment_at, moments_of}
+use Rattle.wrp_truth.proofs.ChainMoves.{HasNewest, newest_moment}
+use Rattle.wrp_truth.proofs.DelayNewest.{Newest, Requested, known_moment, requested}
+use Rattle.wrp_truth.proofs.DelayOpen.{OpenLaws, open_since}
+use Rattle.wrp_truth.proofs.DelayRequests.{IsRequest}
+use Rattle.wrp_truth.proofs.DelaySamples.{SampleLaws}
+use Rattle.wrp_truth.proofs.DelayStamps.{StampLaws}
+use Rattle.wrp_truth.proofs.Suffixes.{at_newest}
+
+-- the laws that this stands on
+pub record DelayLaws : Type 0 where
+  pub opens : OpenLaws
+  pub stamps : StampLaws
+  pub samples : SampleLaws
+  pub put : FramesWerePutOut
+  pub times : FramesHaveTimes
+  pub stamped : FramesAreStamped
+  pub fibres : FibresKeepTheirShare
+  pub constant : ChainHasConstant
+  pub once : OneTimedAnEvent
+  pub late : IdsComeAgainLate
+  pub tells : DelayTellsWays
+
+not_true : false ≡ true → ⊥
+not_true e = cc
+
+-- Lists of events
+
+head_is : {A : Type 0} (x y : A) (xs ys : List A) → x ∷ xs ≡ y ∷ ys → x ≡ y
+head_is x y xs ys e = cc
+
+rest_is : {A : Type 0} (x y : A) (xs ys : List A) → x ∷ xs ≡ y ∷ ys → xs ≡ ys
+rest_is x y xs ys e = cc
+
+pub behind : {A : Type 0} (a b : List A) → length b ≤ length (a ++ b)
+behind [] b = omega arith
+behind (y ∷ a) b = let h : length b ≤ length (a ++ b) = behind a b in omega (arith, h)
+
+shorter : (m n l : ℕ) → m ≤ n → l ≡ suc n → l ≤ m → ⊥
+shorter m n l h f g = omega (arith, h, f, g)
+
+same_length : (m n l : ℕ) → m ≤ n → l ≡ suc n → l ≡ m → ⊥
+same_length m n l h f g = omega (arith, h, f, g)
+
+-- two ends of one list, of which the first is not the shorter one
+pub record LongerEnd {A : Type 0} (a b newer older : List A) : Type 0 where
+  pub between : List A
+  pub is : b ≡ between ++ older
+  pub first : newer ≡ a ++ between
+
+pub longer_end : {A : Type 0} (a b newer older : List A) → a ++ b ≡ newer ++ older → length older ≤ length b → LongerEnd a b newer older
+longer_end [] b newer older e le = record { between = newer; is = e; first = refl }
+longer_end (x ∷ a) b [] older e le = absurd (shorter (length b) (length (a ++ b)) (length older) (behind a b) (ap length (sym e)) le)
+longer_end (x ∷ a) b (y ∷ newer) older e le =
+    let it : LongerEnd a b newer older = longer_end a b newer older (rest_is x y (a ++ b) (newer ++ older) e) le in
+    record { between = it.between; is = it.is; first = ap (λ l. y ∷ l) it.first ∙ ap (λ z. z ∷ (a ++ it.between)) (sym (head_is x y (a ++ b) (newer ++ older) e)) }
+
+-- of the same length they are one
+pub same_end : {A : Type 0} (a b c d : List A) → a ++ b ≡ c ++ d → length b ≡ length d → b ≡ d
+same_end [] b [] d e n = e
+same_end [] b (y ∷ c) d e n = absurd (same_length (length d) (length (c ++ d)) (length b) (behind c d) (ap length e) n)
+same_end (x ∷ a) b [] d e n = absurd (same_length (length b) (length (a ++ b)) (length d) (behind a b) (ap length (sym e)) (sym n))
+same_end (x ∷ a) b (y ∷ c) d e n = same_end a b c d (rest_is x y (a ++ b) (c ++ d) e) n
+
+-- what holds since its last beginning begins once
+pub one_start : (P : List Happened → Type 0) (newer : List Happened) (start : Happened) (before : List Happened) (other : List Happened) (first : Happened) (older : List Happened) → newer ++ start ∷ before ≡ other ++ first ∷ older →
+    AtEach P newer (start ∷ before) → AtEach P other (first ∷ older) → (P before → ⊥) → (P older → ⊥) → (newer ≡ other) × (start ∷ before ≡ first ∷ older)
+one_start P [] start before [] first older e h k not_first none = (refl, e)
+one_start P [] start before (y ∷ other) first older e h k not_first none =
+    absurd (not_first (subst P (sym (rest_is start y before (other ++ first ∷ older) e)) (at_newest P other (first ∷ older) k.1)))
+one_start P (x ∷ newer) start before [] first older e h k not_first none =
+    absurd (none (subst P (rest_is x first (newer ++ start ∷ before) older e) (at_newest P newer (start ∷ before) h.1)))
+one_start P (x ∷ newer) start before (y ∷ other) first older e h k not_first none =
+    let it : (newer ≡ other) × (start ∷ before ≡ first ∷ older) = one_start P newer start before other first older (rest_is x y (newer ++ start ∷ before) (other ++ first ∷ older) e) h.1 k.1 not_first none in
+    (ap (λ l. x ∷ l) it.0 ∙ ap (λ z. z ∷ other) (head_is x y (newer ++ start ∷ before) (other ++ first ∷ older) e), it.1)
+
+pub older_fits : (newer older : List Happened) → AllFit (newer ++ older) → AllFit older
+older_fits [] older h = h
+older_fits (x ∷ newer) older h = older_fits newer older h.1
+
+-- Histories
+
+pub was_later : (s : Setting) (k : ℕ) (link : LinkCfg) (newer older : List Happened) (j : ℕ) (m : Moment) → Was (moments_of s k link older) j m → Was (moments_of s k link (newer ++ older)) j m
+was_later s k link [] older j m h = h
+was_later s k link (x ∷ newer) older j m h = inr (was_later s k link newer older j m h)
+
+pub was_then : (s : Setting) (k : ℕ) (link : LinkCfg) (newer older : List Happened) → Was (moments_of s k link (newer ++ older)) (length older) (moment_at k link (world_after s older))
+was_then s k link newer older =
+    let it : HasNewest s k link older = newest_moment s k link older in
+    was_later s k link newer older (length older) (moment_at k link (world_after s older))
+    (subst (λ ms. Was ms (length older) (moment_at k link (world_after s older))) (sym it.is) (inl (sym it.length_is, refl)))
+
+-- the good samples of a later part of a chain are among all of them
+pub later_goods : (P : Good → Type 0) (s : Setting) (n : ℕ) (a b older : List Happened) → AllByRecursion P (goods_since s n (a ++ b) older) → AllByRecursion P (goods_since s n b older)
+later_goods P s n [] b older h = h
+later_goods P s n (x ∷ a) b older h = later_goods P s n a b older (more P (good_in s n x ((a ++ b) ++ older) x.event) (goods_since s n (a ++ b) older) h)
+  where
+    more : (Q : Good → Type 0) (o : Option Good) (gs : List Good) → AllByRecursion Q (option_to_list o ++ gs) → AllByRecursion Q gs
+    more Q None gs k = k
+    more Q (Some g) gs k = k.1
+
+-- Ids
+
+pub timed : (b : Body) → IsRequest b → IsTimed Slave b
+timed (DelayReq origin) h = tt
+timed (Sync origin) h = absurd h
+timed (FollowUp precise) h = absurd h
+timed (DelayResp receive requesting) h = absurd h
+timed (Announce origin utc p1 quality p2 gm steps source suffix) h = absurd h
+timed (Signal target message) h = absurd h
+
+less_or_same : (a b : ℕ) → a ≤ b → (a < b) ⊎ (a ≡ b)
+less_or_same a b h = grind (arith, h)
+
+too_soon : (a x now : ℤ) (life span more : ℕ) → more + 4 * life < span → (a +ℤ pos span) ≤ℤ x → x ≤ℤ now → now ≤ℤ (a +ℤ pos (2 * life)) → ⊥
+too_soon a x now life span more room h k l = omega (arith, ints, room, h, k, l)
+
+-- one of its id that is not older than two frame's lives is the newest
+pub same_request : DelayLaws → (s : Setting) (events : List Happened) (k : ℕ) (link : LinkCfg) (x y : Sending) → IsRun s events → link_of s k ≡ Some link → IsOpenAt s link Slave events → Newest s events k x → IsRequest y.message.body →
+    WasPutOut y ((world_after s events).end_at k Slave).sent → y.message.head.seq ≡ x.message.head.seq → (world_after s events).time ≤ℤ (y.at +ℤ pos (2 * frame_life s.cfg)) → y ≡ x
+same_request laws s events k link x y run is takes newest request put seq young =
+    let it : Requested s events k link y = requested laws.opens.quiet.ends s events k link y run is request put in
+    elim (less_or_same y.moment x.moment (newest.newest y put request)) [
+      | inl less ↦
+          let whole : IsRun s (it.newer ++ it.older) = subst (IsRun s) it.splits run in
+          let still : AtEach (IsOpenAt s link Slave) it.newer it.older =
+          open_since laws.opens.quiet s it.newer it.older k link whole is it.takes (subst (IsOpenAt s link Slave) it.splits takes)
+          (subst (λ l. (world_after s l).time ≤ℤ ((world_after s it.older).time +ℤ pos (2 * frame_life s.cfg))) it.splits (subst (λ t. (world_after s events).time ≤ℤ (t +ℤ pos (2 * frame_life s.cfg))) it.at young)) in
+          absurd (too_soon y.at x.at (world_after s events).time (frame_life s.cfg) (65_000 * min (unsigned_abs s.cfg.sync) (unsigned_abs s.cfg.delay) * shortest_tick s.cfg) (unsigned_abs s.cfg.ring * gap_time s.cfg)
+          run.network.accepted.inequalities.id_reuse
+          (laws.late s it.newer it.older k link Slave y x whole is it.put it.moment (subst (λ l. WasPutOut x ((world_after s l).end_at k Slave).sent) it.splits newest.put) (timed y.message.body request) (timed x.message.body newest.request) seq still less)
+          (known_moment s events k Slave x run newest.put).1 young)
+      | inr same ↦ laws.once s events k link Slave y x run is put newest.put (timed y.message.body request) (timed x.message.body newest.request) same
+    ]
+
+-- What is handed over is young
+
+young_by : (now at : ℤ) (life : ℕ) → not (le_z (now -ℤ at) (pos life)) ≡ false → now ≤ℤ (at +ℤ pos life)
+young_by now at life h = grind (arith, ints, h)
+
+handed_young : (s : Setting) (w : WorldAt) (i : ℕ) (f : FrameAt) (o : Option Arrival) → AllHold (deliver_by s w i f o) → w.time ≤ℤ (f.sending.at +ℤ pos (frame_life s.cfg))
+handed_young s w i f None a = absurd (not_true (sym a.1.0))
+handed_young s w i f (Some arrival) a = young_by w.time f.sending.at (frame_life s.cfg) a.0
+
+pub deliver_young : (s : Setting) (w : WorldAt) (says : Result PtpMsg FrameFault) (i : ℕ) (f : FrameAt) → Accepts s w says (Deliver i) → w.frame i ≡ Some f → w.time ≤ℤ (f.sending.at +ℤ pos (frame_life s.cfg))
+deliver_young s w says i f a there = handed_young s w i f f.arrival (subst (λ o. AllHold (deliver_checks s w i o)) there a)
+
+-- no time passes
+pub still_deliver : (s : Setting) (h : Happened) (before : List Happened) (i : ℕ) → h.event ≡ Deliver i → (world_after s (h ∷ before)).time ≡ (world_after s before).time
+still_deliver s h before i e =
+    let w : WorldAt = world_after s before in
+    all_given_time s h.answer (given_by s w (moved s w h.event) h.says h.event) (moved s w h.event) ∙ ap (λ (z : Event). (moved s w z).time) e
+
+pub still_depart : (s : Setting) (h : Happened) (before : List Happened) (m q : ℕ) (stamp : ℤ) → h.event ≡ Depart m q stamp → (world_after s (h ∷ before)).time ≡ (world_after s before).time
+still_depart s h before m q stamp e =
+    let w : WorldAt = world_after s before in
+    all_given_time s h.answer (given_by s w (moved s w h.event) h.says h.event) (moved s w h.event) ∙ ap (λ (z : Event). (moved s w z).time) e
