@@ -8,7 +8,8 @@ use Rattle.wrp_base.specs.declared.link.Role.TheVariants.{Master, Slave}
 use Rattle.wrp_base.specs.declared.message.Body.TheVariants.{DelayResp}
 use Rattle.wrp_base.specs.declared.message.PortIdentity.{PortIdentity}
 use Rattle.wrp_base.specs.declared.message.PtpMsg.{PtpMsg}
-use Rattle.wrp_base.specs.declared.network.LinkCfg.{LinkCfg}
+use Rattle.wrp_base.specs.declared.time.Raw.{Raw}
+use Rattle.wrp_base.specs.declared.time.Stamp.{Stamp}
 use Rattle.wrp_base.specs.declared.time.Ts.{Ts}
 use Rattle.wrp_base.specs.Network.{End}
 use Rattle.wrp_bounds.specs.Hop.{up_error}
@@ -24,6 +25,7 @@ use Rattle.wrp_tracking.specs.Closeness.{IsWithin}
 use Rattle.wrp_tracking.specs.DelayPieces.{PairTrue}
 use Rattle.wrp_tracking.specs.History.{Was}
 use Rattle.wrp_tracking.specs.Moment.{Moment, ways_at}
+use Rattle.wrp_world.specs.declared.event.Event.{Event}
 use Rattle.wrp_world.specs.declared.event.Event.TheVariants.{Deliver}
 use Rattle.wrp_world.specs.Premises.{Accepts}
 use Rattle.wrp_world.specs.Run.{Happened, world_after}
@@ -82,38 +84,111 @@ left_so c newer older f splits moment link by d =
           ∙ ap (λ l. f.at +ℤ delay_from (world_after s l) c.k Slave) same;
     }
 
--- Its arrival and what is told of it
-
--- a Delay_Req of the slave that was handed to the master: the events before its arrival and before that, and the time that its
--- Delay_Resp tells
-pub record Heard (c : Given) (events : List Happened) (x : Sending) (t4 : ℤ) : Type 0 where
-  pub number : ℕ
-  pub frame : FrameAt
-  pub handed : List Happened
-  pub since : List Happened
-  pub splits : events ≡ since ++ handed
-  pub there : (world_after c.s handed).frame number ≡ Some frame
-  pub link_is : frame.link ≡ c.k
-  pub by_is : frame.by ≡ Slave
-  pub sending : frame.sending ≡ x
-  pub arrival : Arrival
-  pub arrived : frame.arrival ≡ Some arrival
-  pub older : List Happened
-  pub between : List Happened
-  pub came : handed ≡ between ++ older
-  pub at : arrival.at ≡ (world_after c.s older).time
-  pub moment : arrival.moment ≡ length older
-  pub near : unsigned_abs (t4 -ℤ reading (world_after c.s older) c.link.upper) ≤ of_node (λ node. node.e_tag) c.s c.link.upper
+-- The Delay_Req that is answered
 
 pub master_of : (r : Role) → other_of r ≡ Slave → r ≡ Master
 master_of Master e = refl
 master_of Slave e = cc
 
+both_young : (now z d y : ℤ) (life : ℕ) → now ≤ℤ (z +ℤ pos life) → z ≡ d → d ≤ℤ (y +ℤ pos life) → now ≤ℤ (y +ℤ pos (2 * life))
+both_young now z d y life h e k = omega (arith, ints, h, e, k)
+
+-- after these events the slave is handed a Delay_Resp with the id of its newest Delay_Req
+pub record Hands (c : Given) (events : List Happened) (h : Happened) (x : Sending) : Type 0 where
+  pub number : ℕ
+  pub frame : FrameAt
+  pub receive : Ts
+  pub requesting : PortIdentity
+  pub event : h.event ≡ Deliver number
+  pub there : (world_after c.s events).frame number ≡ Some frame
+  pub link_is : frame.link ≡ c.k
+  pub by_is : frame.by ≡ Master
+  pub body : frame.sending.message.body ≡ DelayResp receive requesting
+  pub newest : Newest c.s (h ∷ events) c.k x
+  pub seq : frame.sending.message.head.seq ≡ x.message.head.seq
+
+-- the master was handed its Delay_Req after these earlier events, at most two frame's lives after that was put out
+record Asks (c : Given) (events : List Happened) (z : Sending) : Type 0 where
+  since : List Happened
+  handed : List Happened
+  splits : events ≡ since ++ handed
+  run : IsRun c.s handed
+  event : Event
+  it : AnsweredIn c.s (world_after c.s handed) event c.k c.link z
+  put : WasPutOut it.frame.sending ((world_after c.s handed).end_at c.k Slave).sent
+  young : (world_after c.s events).time ≤ℤ (it.frame.sending.at +ℤ pos (2 * frame_life c.s.cfg))
+
+frame_at_end : (c : Given) (events : List Happened) (number : ℕ) (f : FrameAt) (r : Role) → IsRun c.s events → (world_after c.s events).frame number ≡ Some f → f.link ≡ c.k → f.by ≡ r → WasPutOut f.sending ((world_after c.s events).end_at c.k r).sent
+frame_at_end c events number f r run there link by =
+    subst (λ q. WasPutOut f.sending ((world_after c.s events).end_at c.k q).sent) by (subst (λ l. WasPutOut f.sending ((world_after c.s events).end_at l f.by).sent) link (c.laws.put c.s events number f run there))
+
+asks_by : (c : Given) (events : List Happened) (z : Sending) → IsRun c.s events → (world_after c.s events).time ≤ℤ (z.at +ℤ pos (frame_life c.s.cfg)) → Answered c.s events c.k c.link z → Asks c events z
+asks_by c events z run young an =
+    let s : Setting = c.s in
+    let d : List Happened = an.older in
+    let g : FrameAt = an.in_it.frame in
+    let after : IsRun s (an.hands ∷ d) = older_run s an.newer (an.hands ∷ d) (subst (IsRun s) an.splits run) in
+    let then_run : IsRun s d = run_before s an.hands d after in
+    record {
+      since = an.newer ++ (an.hands ∷ []);
+      handed = d;
+      splits = an.splits ∙ sym (appended an.newer (an.hands ∷ []) d);
+      run = then_run;
+      event = an.hands.event;
+      it = an.in_it;
+      put = frame_at_end c d an.in_it.number g Slave then_run an.in_it.there an.in_it.link_is an.in_it.by_is;
+      young =
+          both_young (world_after s events).time z.at (world_after s d).time g.sending.at (frame_life s.cfg) young (an.at ∙ still_deliver s an.hands d an.in_it.number an.in_it.event)
+          (deliver_young s (world_after s d) an.hands.says an.in_it.number g (subst (Accepts s (world_after s d) an.hands.says) an.in_it.event after.accepted.0) an.in_it.there);
+    }
+
+asks : (c : Given) (events : List Happened) (h : Happened) (x : Sending) → IsRun c.s events → IsRun c.s (h ∷ events) → (it : Hands c events h x) → Asks c events it.frame.sending
+asks c events h x run next it =
+    asks_by c events it.frame.sending run
+    (deliver_young c.s (world_after c.s events) h.says it.number it.frame (subst (Accepts c.s (world_after c.s events) h.says) it.event next.accepted.0) it.there)
+    (was_answered c.s events c.k c.link it.frame.sending run c.is (subst IsResponse (sym it.body) tt) (frame_at_end c events it.number it.frame Master run it.there it.link_is it.by_is))
+
+-- it is that newest one
+asked_newest : (c : Given) (events : List Happened) (h : Happened) (x : Sending) → Inside c (h ∷ events) → (it : Hands c events h x) (a : Asks c events it.frame.sending) → a.it.frame.sending ≡ x
+asked_newest c events h x j it a =
+    let y : Sending = a.it.frame.sending in
+    same_request c.laws c.s (h ∷ events) c.k c.link x y (run_at c (h ∷ events) j) c.is (open_at c (h ∷ events) j) it.newest (record {
+      request = a.it.request;
+      put = subst (λ l. WasPutOut y ((world_after c.s (h ∷ l)).end_at c.k Slave).sent) (sym a.splits) (put_since c.s (h ∷ a.since) a.handed c.k Slave y a.put);
+      seq = sym (ap (λ (m : PtpMsg). m.head.seq) a.it.message) ∙ it.seq;
+      young = subst (λ t. t ≤ℤ (y.at +ℤ pos (2 * frame_life c.s.cfg))) (sym (still_deliver c.s h events it.number it.event)) a.young;
+    })
+
+-- What is told of its arrival
+
 stamp_told : (receive t : Ts) (requesting source : PortIdentity) → DelayResp receive requesting ≡ DelayResp t source → receive ≡ t
 stamp_told receive t requesting source e = cc
 
-both_young : (now z d y : ℤ) (life : ℕ) → now ≤ℤ (z +ℤ pos life) → z ≡ d → d ≤ℤ (y +ℤ pos life) → now ≤ℤ (y +ℤ pos (2 * life))
-both_young now z d y life h e k = omega (arith, ints, h, e, k)
+-- the stamp of its reception
+abbrev stamp_at : (c : Given) (handed : List Happened) (raw : Raw) (sample : ℕ) → Stamp
+stamp_at c handed raw sample = stamp_of (fixed_of c.s c.link.upper) ((world_after c.s handed).node c.link.upper) c.link.upper_port raw sample
+
+time_told : (c : Given) (events : List Happened) (z : Sending) (receive : Ts) (requesting : PortIdentity) → z.message.body ≡ DelayResp receive requesting → (a : Asks c events z) →
+    earlier_by receive z.message.head.correction ≡ (stamp_at c a.handed a.it.arrival.raw a.it.arrival.sample).value
+time_told c events z receive requesting body a =
+    let y : PtpMsg = a.it.frame.sending.message in
+    let transition : ℕ = transition_of (link_at (c.s.set c.link.upper) ((world_after c.s a.handed).node c.link.upper) c.link.upper_port).own_module in
+    let n : ℕ = merged (c.s.set c.link.upper).servo.clock a.it.arrival.raw transition in
+    let whole : y.head.correction ≡ pos 0 = (requested c.laws.opens.quiet.ends c.s a.handed c.k c.link a.it.frame.sending a.run c.is a.it.request a.put).whole in
+    let told : receive ≡ timestamp_of n = stamp_told receive (timestamp_of n) requesting y.head.source (sym body ∙ ap (λ (m : PtpMsg). m.body) a.it.message) in
+    let rest : z.message.head.correction ≡ corrected_by (pos 0) n = ap (λ (m : PtpMsg). m.head.correction) a.it.message ∙ ap (λ t. corrected_by t n) whole in
+    ap (λ t. earlier_by t z.message.head.correction) told ∙ ap (earlier_by (timestamp_of n)) rest ∙ told_back n (merged_whole (c.s.set c.link.upper).servo.clock a.it.arrival.raw transition)
+
+-- the events before the arrival
+record Arrives (c : Given) (handed : List Happened) (f : FrameAt) (a : Arrival) : Type 0 where
+  so : ArrivedSo c.s handed f a
+  between : List Happened
+  came : handed ≡ between ++ so.older
+
+arrives : (c : Given) (handed : List Happened) (number : ℕ) (f : FrameAt) (a : Arrival) → IsRun c.s handed → (world_after c.s handed).frame number ≡ Some f → f.arrival ≡ Some a → Arrives c handed f a
+arrives c handed number f a run there arrived =
+    let so : ArrivedSo c.s handed f a = subst (λ o. IfSome o (ArrivedSo c.s handed f)) arrived (c.laws.stamped c.s handed number f run there).1 in
+    record { so = so; between = so.came.0 ++ (so.came.1 ∷ []); came = so.came.2 ∙ sym (appended so.came.0 (so.came.1 ∷ []) so.older) }
 
 later_too : (now y f a : ℤ) (life : ℕ) → now ≤ℤ (y +ℤ pos (2 * life)) → y ≤ℤ f → f ≤ℤ a → now ≤ℤ (a +ℤ pos (2 * life))
 later_too now y f a life h k l = omega (arith, ints, h, k, l)
@@ -121,93 +196,80 @@ later_too now y f a life h k l = omega (arith, ints, h, k, l)
 arrived_after : (w : WorldAt) (f : FrameAt) (a : Arrival) → f.arrival ≡ Some a → HasTimes w f → (f.at ≤ℤ a.at) × (a.at ≤ℤ w.time) × (f.moment ≤ a.moment) × (a.moment ≤ w.count) × (a.at ≡ f.due)
 arrived_after w f a e h = subst (λ o. IfSome o (λ (z : Arrival). (f.at ≤ℤ z.at) × (z.at ≤ℤ w.time) × (f.moment ≤ z.moment) × (z.moment ≤ w.count) × (z.at ≡ f.due))) e h.arrived
 
--- the Delay_Resp that the slave is handed after these events
-pub record Hands (c : Given) (events : List Happened) (h : Happened) (number : ℕ) (f : FrameAt) (receive : Ts) (requesting : PortIdentity) : Type 0 where
-  pub event : h.event ≡ Deliver number
-  pub there : (world_after c.s events).frame number ≡ Some f
-  pub link_is : f.link ≡ c.k
-  pub by_is : f.by ≡ Master
-  pub body : f.sending.message.body ≡ DelayResp receive requesting
-
-heard : (c : Given) (events : List Happened) (h : Happened) (number : ℕ) (f : FrameAt) (receive : Ts) (requesting : PortIdentity) (x : Sending) → (i : Inside c events) (j : Inside c (h ∷ events)) → Hands c events h number f receive requesting →
-    Newest c.s (h ∷ events) c.k x → f.sending.message.head.seq ≡ x.message.head.seq → Heard c events x (earlier_by receive f.sending.message.head.correction)
-heard c events h number f receive requesting x i j it newest seq =
+-- since which the link had its carrier
+carried_then : (c : Given) (events : List Happened) (z : Sending) (i : Inside c events) (a : Asks c events z) (it : Arrives c a.handed a.it.frame a.it.arrival) → AtEach (IsCarried c.s c.k) it.between it.so.older
+carried_then c events z i a it =
     let s : Setting = c.s in
-    let k : ℕ = c.k in
-    let link : LinkCfg = c.link in
-    let z : Sending = f.sending in
-    let run : IsRun s events = run_at c events i in
-    let run_h : IsRun s (h ∷ events) = run_at c (h ∷ events) j in
-    let put : WasPutOut z ((world_after s events).end_at k Master).sent =
-    subst (λ r. WasPutOut z ((world_after s events).end_at k r).sent) it.by_is (subst (λ l. WasPutOut z ((world_after s events).end_at l f.by).sent) it.link_is (c.laws.put s events number f run it.there)) in
-    let an : Answered s events k link z = was_answered s events k link z run c.is (subst IsResponse (sym it.body) tt) put in
-    let d : List Happened = an.older in
-    let a : AnsweredIn s (world_after s d) an.hands.event k link z = an.in_it in
-    let g : FrameAt = a.frame in
-    let run_d1 : IsRun s (an.hands ∷ d) = older_run s an.newer (an.hands ∷ d) (subst (IsRun s) an.splits run) in
-    let run_d : IsRun s d = run_before s an.hands d run_d1 in
-    let young_g : (world_after s d).time ≤ℤ (g.sending.at +ℤ pos (frame_life s.cfg)) =
-    deliver_young s (world_after s d) an.hands.says a.number g (subst (Accepts s (world_after s d) an.hands.says) a.event run_d1.accepted.0) a.there in
-    let young_z : (world_after s events).time ≤ℤ (z.at +ℤ pos (frame_life s.cfg)) =
-    deliver_young s (world_after s events) h.says number f (subst (Accepts s (world_after s events) h.says) it.event run_h.accepted.0) it.there in
-    let young : (world_after s events).time ≤ℤ (g.sending.at +ℤ pos (2 * frame_life s.cfg)) =
-    both_young (world_after s events).time z.at (world_after s d).time g.sending.at (frame_life s.cfg) young_z (an.at ∙ still_deliver s an.hands d a.number a.event) young_g in
-    let put_g : WasPutOut g.sending ((world_after s d).end_at k Slave).sent =
-    subst (λ r. WasPutOut g.sending ((world_after s d).end_at k r).sent) a.by_is (subst (λ l. WasPutOut g.sending ((world_after s d).end_at l g.by).sent) a.link_is (c.laws.put s d a.number g run_d a.there)) in
-    let first : List Happened = an.newer ++ (an.hands ∷ []) in
-    let whole : events ≡ first ++ d = an.splits ∙ sym (appended an.newer (an.hands ∷ []) d) in
-    let put_y : WasPutOut g.sending ((world_after s (h ∷ events)).end_at k Slave).sent =
-    subst (λ l. WasPutOut g.sending ((world_after s (h ∷ l)).end_at k Slave).sent) (sym whole) (put_since s (h ∷ first) d k Slave g.sending put_g) in
-    let id : g.sending.message.head.seq ≡ x.message.head.seq = sym (ap (λ (m : PtpMsg). m.head.seq) a.message) ∙ seq in
-    let same : g.sending ≡ x =
-    same_request c.laws s (h ∷ events) k link x g.sending run_h c.is (open_at c (h ∷ events) j) newest a.request put_y id
-    (subst (λ t. t ≤ℤ (g.sending.at +ℤ pos (2 * frame_life s.cfg))) (sym (still_deliver s h events number it.event)) young) in
-    let arrived : ArrivedSo s d g a.arrival = subst (λ o. IfSome o (ArrivedSo s d g)) a.arrived (c.laws.stamped s d a.number g run_d a.there).1 in
-    let e : List Happened = arrived.older in
-    let between : List Happened = arrived.came.0 ++ (arrived.came.1 ∷ []) in
-    let came : d ≡ between ++ e = arrived.came.2 ∙ sym (appended arrived.came.0 (arrived.came.1 ∷ []) e) in
-    let all : events ≡ (first ++ between) ++ e = whole ∙ ap (λ l. first ++ l) came ∙ sym (appended first between e) in
-    let times : HasTimes (world_after s d) g = c.laws.times s d a.number g run_d a.there in
+    let e : List Happened = it.so.older in
+    let times : HasTimes (world_after s a.handed) a.it.frame = c.laws.times s a.handed a.it.number a.it.frame a.run a.it.there in
+    let all : events ≡ (a.since ++ it.between) ++ e = a.splits ∙ ap (λ l. a.since ++ l) it.came ∙ sym (appended a.since it.between e) in
     let soon : (world_after s events).time ≤ℤ ((world_after s e).time +ℤ pos (2 * frame_life s.cfg)) =
-    later_too (world_after s events).time g.sending.at g.at (world_after s e).time (frame_life s.cfg) young times.sent (subst (λ t. g.at ≤ℤ t) arrived.time (arrived_after (world_after s d) g a.arrival a.arrived times).0) in
-    let carried : AtEach (IsCarried s k) (first ++ between) e =
-    carried_since c.laws.opens.quiet s (first ++ between) e k link (subst (IsRun s) all run) c.is (subst (IsOpenAt s link Slave) all (open_at c events i)) (subst (λ l. (world_after s l).time ≤ℤ ((world_after s e).time +ℤ pos (2 * frame_life s.cfg))) all soon) in
-    let n : ℕ = merged (s.set link.upper).servo.clock a.arrival.raw (transition_of (link_at (s.set link.upper) ((world_after s d).node link.upper) link.upper_port).own_module) in
-    let correction : g.sending.message.head.correction ≡ pos 0 = (requested c.laws.opens.quiet.ends s d k link g.sending run_d c.is a.request put_g).whole in
-    let told : receive ≡ timestamp_of n = stamp_told receive (timestamp_of n) requesting g.sending.message.head.source (sym it.body ∙ ap (λ (m : PtpMsg). m.body) a.message) in
-    let rest : z.message.head.correction ≡ corrected_by (pos 0) n = ap (λ (m : PtpMsg). m.head.correction) a.message ∙ ap (λ t. corrected_by t n) correction in
-    let time : earlier_by receive z.message.head.correction ≡ pos n =
-    ap (λ t. earlier_by t z.message.head.correction) told ∙ ap (earlier_by (timestamp_of n)) rest
-    ∙ told_back n (merged_whole (s.set link.upper).servo.clock a.arrival.raw (transition_of (link_at (s.set link.upper) ((world_after s d).node link.upper) link.upper_port).own_module)) in
-    let near : unsigned_abs ((stamp_of (fixed_of s link.upper) ((world_after s (between ++ e)).node link.upper) link.upper_port a.arrival.raw a.arrival.sample).value -ℤ reading (world_after s e) link.upper) ≤ of_node (λ node. node.e_tag) s link.upper =
-    stamp_near c.laws.stamps s between e k link g a.arrival.raw a.arrival.sample (subst (IsRun s) came run_d) c.is (at_rest (IsCarried s k) first between e carried) (record {
-      link_is = a.link_is;
-      by_is = a.by_is;
-      end = arrived.end;
-      end_is = arrived.end_is;
-      keeps = arrived.raw;
-      ranges = arrival_raw s d a.number g a.arrival run_d a.there a.arrived;
-    }) in
+    later_too (world_after s events).time a.it.frame.sending.at a.it.frame.at (world_after s e).time (frame_life s.cfg) a.young times.sent
+    (subst (λ t. a.it.frame.at ≤ℤ t) it.so.time (arrived_after (world_after s a.handed) a.it.frame a.it.arrival a.it.arrived times).0) in
+    at_rest (IsCarried s c.k) a.since it.between e
+    (carried_since c.laws.opens.quiet s (a.since ++ it.between) e c.k c.link (subst (IsRun s) all (run_at c events i)) c.is (subst (IsOpenAt s c.link Slave) all (open_at c events i))
+    (subst (λ l. (world_after s l).time ≤ℤ ((world_after s e).time +ℤ pos (2 * frame_life s.cfg))) all soon))
+
+-- the stamp is near the reading at the arrival
+near_then : (c : Given) (events : List Happened) (z : Sending) (i : Inside c events) (a : Asks c events z) (it : Arrives c a.handed a.it.frame a.it.arrival) →
+    unsigned_abs ((stamp_at c a.handed a.it.arrival.raw a.it.arrival.sample).value -ℤ reading (world_after c.s it.so.older) c.link.upper) ≤ of_node (λ node. node.e_tag) c.s c.link.upper
+near_then c events z i a it =
+    let s : Setting = c.s in
+    let e : List Happened = it.so.older in
+    subst (λ l. unsigned_abs ((stamp_at c l a.it.arrival.raw a.it.arrival.sample).value -ℤ reading (world_after s e) c.link.upper) ≤ of_node (λ node. node.e_tag) s c.link.upper) (sym it.came)
+    (stamp_near c.laws.stamps s it.between e c.k c.link a.it.frame a.it.arrival.raw a.it.arrival.sample (subst (IsRun s) it.came a.run) c.is (carried_then c events z i a it) (record {
+      link_is = a.it.link_is;
+      by_is = a.it.by_is;
+      end = it.so.end;
+      end_is = it.so.end_is;
+      keeps = it.so.raw;
+      ranges = arrival_raw s a.handed a.it.number a.it.frame a.it.arrival a.run a.it.there a.it.arrived;
+    }))
+
+-- the frame of a Delay_Req, the events before its arrival, and the time that is told of it
+record Heard (c : Given) (events : List Happened) (x : Sending) (t4 : ℤ) : Type 0 where
+  number : ℕ
+  frame : FrameAt
+  handed : List Happened
+  since : List Happened
+  splits : events ≡ since ++ handed
+  there : (world_after c.s handed).frame number ≡ Some frame
+  link_is : frame.link ≡ c.k
+  by_is : frame.by ≡ Slave
+  sending : frame.sending ≡ x
+  arrival : Arrival
+  arrived : frame.arrival ≡ Some arrival
+  older : List Happened
+  between : List Happened
+  came : handed ≡ between ++ older
+  at : arrival.at ≡ (world_after c.s older).time
+  moment : arrival.moment ≡ length older
+  near : unsigned_abs (t4 -ℤ reading (world_after c.s older) c.link.upper) ≤ of_node (λ node. node.e_tag) c.s c.link.upper
+
+heard : (c : Given) (events : List Happened) (h : Happened) (x : Sending) → Inside c events → Inside c (h ∷ events) → (it : Hands c events h x) → Heard c events x (earlier_by it.receive it.frame.sending.message.head.correction)
+heard c events h x i j it =
+    let a : Asks c events it.frame.sending = asks c events h x (run_at c events i) (run_at c (h ∷ events) j) it in
+    let came : Arrives c a.handed a.it.frame a.it.arrival = arrives c a.handed a.it.number a.it.frame a.it.arrival a.run a.it.there a.it.arrived in
     record {
-      number = a.number;
-      frame = g;
-      handed = d;
-      since = first;
-      splits = whole;
-      there = a.there;
-      link_is = a.link_is;
-      by_is = a.by_is;
-      sending = same;
-      arrival = a.arrival;
-      arrived = a.arrived;
-      older = e;
-      between = between;
-      came = came;
-      at = arrived.time;
-      moment = arrived.moment ∙ count_is s e;
+      number = a.it.number;
+      frame = a.it.frame;
+      handed = a.handed;
+      since = a.since;
+      splits = a.splits;
+      there = a.it.there;
+      link_is = a.it.link_is;
+      by_is = a.it.by_is;
+      sending = asked_newest c events h x j it a;
+      arrival = a.it.arrival;
+      arrived = a.it.arrived;
+      older = came.so.older;
+      between = came.between;
+      came = came.came;
+      at = came.so.time;
+      moment = came.so.moment ∙ count_is c.s came.so.older;
       near =
-          subst (λ t. unsigned_abs (t -ℤ reading (world_after s e) link.upper) ≤ of_node (λ node. node.e_tag) s link.upper) (sym time)
-          (subst (λ l. unsigned_abs ((stamp_of (fixed_of s link.upper) ((world_after s l).node link.upper) link.upper_port a.arrival.raw a.arrival.sample).value -ℤ reading (world_after s e) link.upper) ≤ of_node (λ node. node.e_tag) s link.upper) (sym came) near);
+          subst (λ t. unsigned_abs (t -ℤ reading (world_after c.s came.so.older) c.link.upper) ≤ of_node (λ node. node.e_tag) c.s c.link.upper)
+          (sym (time_told c events it.frame.sending it.receive it.requesting it.body a)) (near_then c events it.frame.sending i a came);
     }
 
 -- The pair
@@ -218,20 +280,20 @@ joined_is s w k h = (both_up (w.fibre k).joined (ends_are_up w.clock (link_of s 
 within : (a b : ℤ) (e n : ℕ) → e ≡ n → unsigned_abs (a -ℤ b) ≤ n → IsWithin e a b
 within a b e n is h = omega (arith, is, h)
 
-pub pair_true : (c : Given) (events : List Happened) (h : Happened) (number : ℕ) (f : FrameAt) (receive : Ts) (requesting : PortIdentity) (x : Sending) (kept : Sent) → (i : Inside c events) (j : Inside c (h ∷ events)) → Hands c events h number f receive requesting →
-    Newest c.s (h ∷ events) c.k x → f.sending.message.head.seq ≡ x.message.head.seq → Departs c x kept →
-    PairTrue c.hop c.chain.constant (past_of c) (start_at c) (pair_of_sent (earlier_by receive f.sending.message.head.correction) kept)
-pair_true c events h number f receive requesting x kept i j it newest seq dep =
+pub pair_true : (c : Given) (events : List Happened) (h : Happened) (x : Sending) (kept : Sent) → Inside c events → Inside c (h ∷ events) → (it : Hands c events h x) → Departs c x kept →
+    PairTrue c.hop c.chain.constant (past_of c) (start_at c) (pair_of_sent (earlier_by it.receive it.frame.sending.message.head.correction) kept)
+pair_true c events h x kept i j it dep =
     let s : Setting = c.s in
-    let t4 : ℤ = earlier_by receive f.sending.message.head.correction in
-    let there : Heard c events x t4 = heard c events h number f receive requesting x i j it newest seq in
+    let t4 : ℤ = earlier_by it.receive it.frame.sending.message.head.correction in
+    let there : Heard c events x t4 = heard c events h x i j it in
     let top : List Happened = i.top ++ there.since in
     let whole : c.events ≡ top ++ there.handed = i.splits ∙ ap (λ l. i.top ++ l) there.splits ∙ sym (appended i.top there.since there.handed) in
     let later : Stayed s (top ++ there.handed) there.number there.frame = frame_stays s top there.handed there.number there.frame (subst (IsRun s) whole c.run) there.there in
     let at_end : (world_after s c.events).frame there.number ≡ Some later.frame = ap (λ l. (world_after s l).frame there.number) whole ∙ later.there in
     let one : dep.frame ≡ later.frame =
-    departs_once c.laws.opens.quiet.ends s c.events c.k c.link dep.number there.number dep.frame later.frame c.run c.is dep.there at_end dep.link_is dep.by_is (later.link ∙ there.link_is) (later.by ∙ there.by_is)
-    (subst (λ (t : Sending). IsRequest t.message.body) (sym dep.sending) newest.request) (dep.sending ∙ sym there.sending ∙ sym later.sending) in
+    departs_once c.laws.opens.quiet.ends s c.events c.k c.link dep.frame later.frame c.run c.is (record { number = dep.number; there = dep.there; link_is = dep.link_is; by_is = dep.by_is })
+    (record { number = there.number; there = at_end; link_is = later.link ∙ there.link_is; by_is = later.by ∙ there.by_is })
+    (subst (λ (t : Sending). IsRequest t.message.body) (sym dep.sending) it.newest.request) (dep.sending ∙ sym there.sending ∙ sym later.sending) in
     let arrived : dep.frame.arrival ≡ Some there.arrival = ap (λ (t : FrameAt). t.arrival) one ∙ later.arrival there.arrival there.arrived in
     let left : LeftSo c dep.older dep.frame = left_so c dep.newer dep.older dep.frame dep.splits dep.moment dep.link_is dep.by_is (c.laws.stamped s c.events dep.number dep.frame c.run dep.there).0 in
     let times : (dep.frame.at ≤ℤ there.arrival.at) × (there.arrival.at ≤ℤ (world_after s c.events).time) × (dep.frame.moment ≤ there.arrival.moment) × (there.arrival.moment ≤ (world_after s c.events).count) × (there.arrival.at ≡ dep.frame.due) =

@@ -1,17 +1,16 @@
 -- The sending that a slave's exchange keeps in a chain is that of its newest Delay_Req, with the phase that its stamp latched.
-use Rattle.std.proofs.Common.{◌≡◌, ◌∙◌, refl, ap, ap₂, sym, subst, ℕ, suc, ◌+◌, ◌*◌, ◌<◌, ◌≤◌, ◌==◌, ℤ, pos, ◌+ℤ◌, ◌-ℤ◌, ◌≤ℤ◌, Bool, true, false, if◌then◌else◌, List, [], ◌∷◌, ◌++◌, length, Option, None, Some, Result, arith}
+use Rattle.std.proofs.Common.{◌≡◌, ◌∙◌, refl, ap, ap₂, sym, subst, ℕ, suc, ◌+◌, ◌*◌, ◌<◌, ◌≤◌, ◌==◌, ℤ, pos, ◌+ℤ◌, ◌-ℤ◌, ◌≤ℤ◌, Bool, true, false, if◌then◌else◌, List, [], ◌∷◌, ◌++◌, length, Option, None, Some, arith}
 use Rattle.std.proofs.lemmas.Int.{ints}
 use Rattle.std.specs.List.{AllByRecursion}
 use Rattle.wrp_base.specs.declared.link.Role.TheVariants.{Slave}
-use Rattle.wrp_base.specs.declared.message.PtpMsg.{PtpMsg}
 use Rattle.wrp_base.specs.declared.network.LinkCfg.{LinkCfg}
+use Rattle.wrp_base.specs.Network.{End}
 use Rattle.wrp_bounds.specs.Bounds.{numbers_of}
 use Rattle.wrp_bounds.specs.declared.numbers.HopNumbers.{HopNumbers}
 use Rattle.wrp_bounds.specs.Times.{frame_life}
 use Rattle.wrp_exch.specs.Call.{Call}
 use Rattle.wrp_exch.specs.Chain.{latched_phase}
 use Rattle.wrp_exch.specs.declared.delay.Sent.{Sent}
-use Rattle.wrp_frame.specs.declared.fault.FrameFault.{FrameFault}
 use Rattle.wrp_node.specs.NodeAt.{setting_of}
 use Rattle.wrp_port.specs.History.{calls_of}
 use Rattle.wrp_tracking.specs.Chain.{Good, GoodTells, LatchedAt}
@@ -23,7 +22,7 @@ use Rattle.wrp_world.specs.declared.place.Place.{Place}
 use Rattle.wrp_world.specs.Given.{given_by}
 use Rattle.wrp_world.specs.Moved.{departing, moved, waiting_at}
 use Rattle.wrp_world.specs.Run.{Happened, world_after}
-use Rattle.wrp_world.specs.Runs.{IsNetwork, IsRun, WasPutOut}
+use Rattle.wrp_world.specs.Runs.{IsRun, WasPutOut}
 use Rattle.wrp_world.specs.Setting.{Setting, end_of, link_of, place_of}
 use Rattle.wrp_world.specs.WorldAt.{FrameAt, Sending, WorldAt, delay_from}
 use Rattle.wrp_world.proofs.RunCarriers.{end_alike}
@@ -39,11 +38,11 @@ use Rattle.wrp_truth.proofs.ChainMoves.{HasNewest, newest_moment}
 use Rattle.wrp_truth.proofs.DelayFrames.{Stayed, frame_stays}
 use Rattle.wrp_truth.proofs.DelayNewest.{Newest}
 use Rattle.wrp_truth.proofs.DelayOpen.{chain_open}
-use Rattle.wrp_truth.proofs.DelayPieces.{DelayLaws, later_goods, older_fits, one_start, same_request, still_depart, was_later}
+use Rattle.wrp_truth.proofs.DelayPieces.{DelayLaws, behind, later_goods, older_fits, one_start, same_request, still_depart, was_later}
 use Rattle.wrp_truth.proofs.DelayRequests.{IsRequest}
 use Rattle.wrp_truth.proofs.DelaySamples.{IsHead, latched_newest}
 use Rattle.wrp_truth.proofs.InOrder.{given_frame}
-use Rattle.wrp_truth.proofs.Suffixes.{at_newest, count_is, older_run}
+use Rattle.wrp_truth.proofs.Suffixes.{appended, at_newest, count_is, older_run}
 
 -- A chain of a run
 
@@ -141,16 +140,29 @@ latched_at c events i u e =
 
 -- The frame of a departure
 
-pub record NewFrame (s : Setting) (h : Happened) (before : List Happened) (k : ℕ) (x : Sending) (stamp : ℤ) : Type 0 where
-  pub number : ℕ
-  pub frame : FrameAt
-  pub there : (world_after s (h ∷ before)).frame number ≡ Some frame
-  pub link_is : frame.link ≡ k
-  pub by_is : frame.by ≡ Slave
-  pub sending : frame.sending ≡ x
-  pub stamp_is : frame.stamp ≡ stamp
-  pub at : frame.at ≡ (world_after s before).time
-  pub moment : frame.moment ≡ length before
+-- a Delay_Req that is the first to wait at the slave's port departs with this stamp, by which this phase is latched
+pub record Leaves (c : Given) (h : Happened) (before : List Happened) (stamp : ℤ) (z : Sending) (u : ℤ) : Type 0 where
+  pub node : ℕ
+  pub port : ℕ
+  pub event : h.event ≡ Depart node port stamp
+  pub at_node : c.link.lower ≡ node
+  pub at_port : c.link.lower_port ≡ port
+  pub rest : List Sending
+  pub queue : waiting_at (world_after c.s before) (place_of c.s node port) ≡ z ∷ rest
+  pub request : IsRequest z.message.body
+  pub latched : latched_phase (c.s.set c.link.lower).ring (calls_at c before) ((world_after c.s before).clock node).samples ≡ Some u
+
+-- the frame that it is
+record NewFrame (c : Given) (h : Happened) (before : List Happened) (z : Sending) (stamp : ℤ) : Type 0 where
+  number : ℕ
+  frame : FrameAt
+  there : (world_after c.s (h ∷ before)).frame number ≡ Some frame
+  link_is : frame.link ≡ c.k
+  by_is : frame.by ≡ Slave
+  sending : frame.sending ≡ z
+  stamp_is : frame.stamp ≡ stamp
+  at : frame.at ≡ (world_after c.s before).time
+  moment : frame.moment ≡ length before
 
 none_waits : (x : Sending) (rest : List Sending) → [] ≡ x ∷ rest → ⊥
 none_waits x rest e = cc
@@ -159,24 +171,25 @@ first_of : {A : Type 0} (b : Bool) (x : A) (o : Option A) → b ≡ true → (if
 first_of true x o e = refl
 first_of false x o e = absurd cc
 
-frame_at_place : (s : Setting) → IsNetwork s → (says : Result PtpMsg FrameFault) (y : ℤ) (before : List Happened) (m q : ℕ) (stamp : ℤ) (k : ℕ) (link : LinkCfg) (x : Sending) (rest : List Sending) (o : Option Place) → link_of s k ≡ Some link → link.lower ≡ m → link.lower_port ≡ q →
-    place_of s m q ≡ o → waiting_at (world_after s before) o ≡ x ∷ rest → NewFrame s (record { event = Depart m q stamp; says = says; answer = y }) before k x stamp
-frame_at_place s net says y before m q stamp k link x rest None is at_node at_port place queue = absurd (none_waits x rest queue)
-frame_at_place s net says y before m q stamp k link x rest (Some z) is at_node at_port place queue =
+frame_at_place : (c : Given) (h : Happened) (before : List Happened) (stamp : ℤ) (z : Sending) (u : ℤ) (it : Leaves c h before stamp z u) (o : Option Place) → place_of c.s it.node it.port ≡ o → waiting_at (world_after c.s before) o ≡ z ∷ it.rest → NewFrame c h before z stamp
+frame_at_place c h before stamp z u it None place queue = absurd (none_waits z it.rest queue)
+frame_at_place c h before stamp z u it (Some at) place queue =
+    let s : Setting = c.s in
     let w : WorldAt = world_after s before in
-    let v : WorldAt = moved s w (Depart m q stamp) in
-    let it : LinkEnd s z.link z.role (end_with m q) = place_end s m q z place in
-    let same : (z.link ≡ k) × (z.role ≡ Slave) =
-    are_apart s net z.link k z.role Slave (end_with m q) (end_is s z.link z.role it.link it.there ∙ ap Some it.end_is) (end_is s k Slave link is ∙ ap Some (end_alike (end_of Slave link) (end_with m q) at_node at_port)) in
+    let end : End = end_with it.node it.port in
+    let found : LinkEnd s at.link at.role end = place_end s it.node it.port at place in
+    let same : (at.link ≡ c.k) × (at.role ≡ Slave) =
+    are_apart s c.run.network at.link c.k at.role Slave end (end_is s at.link at.role found.link found.there ∙ ap Some found.end_is)
+    (end_is s c.k Slave c.link c.is ∙ ap Some (end_alike (end_of Slave c.link) end it.at_node it.at_port)) in
     let i : ℕ = w.departed + 1 in
     let frame : FrameAt = record {
-      link = z.link;
-      by = z.role;
-      sending = x;
+      link = at.link;
+      by = at.role;
+      sending = z;
       stamp = stamp;
       at = w.time;
       moment = w.count;
-      due = w.time +ℤ delay_from w z.link z.role;
+      due = w.time +ℤ delay_from w at.link at.role;
       arrival = None;
       gone = false;
     } in
@@ -184,9 +197,10 @@ frame_at_place s net says y before m q stamp k link x rest (Some z) is at_node a
       number = i;
       frame = frame;
       there =
-          (given_frame s y (given_by s w v says (Depart m q stamp)) v i).0
-          ∙ ap (λ o. departing w o stamp (waiting_at w o) i) place
-          ∙ ap (λ l. departing w (Some z) stamp l i) queue
+          (given_frame s h.answer (given_by s w (moved s w h.event) h.says h.event) (moved s w h.event) i).0
+          ∙ ap (λ e. (moved s w e).frame i) it.event
+          ∙ ap (λ p. departing w p stamp (waiting_at w p) i) place
+          ∙ ap (λ l. departing w (Some at) stamp l i) queue
           ∙ first_of (i == i) frame (w.frame i) (self_equal i);
       link_is = same.0;
       by_is = same.1;
@@ -215,35 +229,30 @@ pub record Departs (c : Given) (x : Sending) (kept : Sent) : Type 0 where
   pub tick : kept.tick ≡ ((world_after c.s older).node c.link.lower).ticks
   pub latched : Latched c older kept.u3
 
-appended : {A : Type 0} (xs ys zs : List A) → (xs ++ ys) ++ zs ≡ xs ++ (ys ++ zs)
-appended [] ys zs = refl
-appended (x ∷ xs) ys zs = ap (λ l. x ∷ l) (appended xs ys zs)
-
-behind : {A : Type 0} (a b : List A) → length b ≤ length (a ++ b)
-behind [] b = omega arith
-behind (y ∷ a) b = let h : length b ≤ length (a ++ b) = behind a b in omega (arith, h)
-
 young_now : (now at sent : ℤ) (life : ℕ) → now ≡ at → (at -ℤ sent) ≤ℤ pos life → now ≤ℤ (sent +ℤ pos (2 * life))
 young_now now at sent life e h = omega (arith, ints, e, h)
 
-pub departs : (c : Given) (says : Result PtpMsg FrameFault) (y : ℤ) (before : List Happened) (m q : ℕ) (stamp : ℤ) (x z : Sending) (rest : List Sending) (u : ℤ) → Inside c before → Inside c (record { event = Depart m q stamp; says = says; answer = y } ∷ before) →
-    c.link.lower ≡ m → c.link.lower_port ≡ q → waiting_at (world_after c.s before) (place_of c.s m q) ≡ z ∷ rest → IsRequest z.message.body →
-    Newest c.s (record { event = Depart m q stamp; says = says; answer = y } ∷ before) c.k x → z.message.head.seq ≡ x.message.head.seq →
-    latched_phase (c.s.set c.link.lower).ring (calls_at c before) ((world_after c.s before).clock m).samples ≡ Some u →
+frame_put : (c : Given) (h : Happened) (before : List Happened) (z : Sending) (stamp : ℤ) → IsRun c.s (h ∷ before) → NewFrame c h before z stamp → WasPutOut z ((world_after c.s (h ∷ before)).end_at c.k Slave).sent
+frame_put c h before z stamp run new =
+    let w : WorldAt = world_after c.s (h ∷ before) in
+    subst (λ t. WasPutOut t (w.end_at c.k Slave).sent) new.sending
+    (subst (λ r. WasPutOut new.frame.sending (w.end_at c.k r).sent) new.by_is
+    (subst (λ l. WasPutOut new.frame.sending (w.end_at l new.frame.by).sent) new.link_is (c.laws.put c.s (h ∷ before) new.number new.frame run new.there)))
+
+frame_young : (c : Given) (h : Happened) (before : List Happened) (stamp : ℤ) (z : Sending) (u : ℤ) → IsRun c.s (h ∷ before) → Leaves c h before stamp z u → NewFrame c h before z stamp → (world_after c.s (h ∷ before)).time ≤ℤ (z.at +ℤ pos (2 * frame_life c.s.cfg))
+frame_young c h before stamp z u run it new =
+    young_now (world_after c.s (h ∷ before)).time new.frame.at z.at (frame_life c.s.cfg) (still_depart c.s h before it.node it.port stamp it.event ∙ sym new.at)
+    (subst (λ (t : Sending). (new.frame.at -ℤ t.at) ≤ℤ pos (frame_life c.s.cfg)) new.sending (c.laws.stamped c.s (h ∷ before) new.number new.frame run new.there).0.young)
+
+pub departs : (c : Given) (h : Happened) (before : List Happened) (stamp : ℤ) (x z : Sending) (u : ℤ) → Inside c before → Inside c (h ∷ before) → Leaves c h before stamp z u → Newest c.s (h ∷ before) c.k x → z.message.head.seq ≡ x.message.head.seq →
     Departs c x (record { t3 = stamp; u3 = u; tick = ((world_after c.s before).node c.link.lower).ticks })
-departs c says y before m q stamp x z rest u i j at_node at_port queue request newest seq latched =
+departs c h before stamp x z u i j it newest seq =
     let s : Setting = c.s in
-    let h : Happened = record { event = Depart m q stamp; says = says; answer = y } in
     let run : IsRun s (h ∷ before) = run_at c (h ∷ before) j in
-    let new : NewFrame s h before c.k z stamp = frame_at_place s run.network says y before m q stamp c.k c.link z rest (place_of s m q) c.is at_node at_port refl queue in
-    let put : WasPutOut z ((world_after s (h ∷ before)).end_at c.k Slave).sent =
-    subst (λ t. WasPutOut t ((world_after s (h ∷ before)).end_at c.k Slave).sent) new.sending
-    (subst (λ r. WasPutOut new.frame.sending ((world_after s (h ∷ before)).end_at c.k r).sent) new.by_is
-    (subst (λ l. WasPutOut new.frame.sending ((world_after s (h ∷ before)).end_at l new.frame.by).sent) new.link_is (c.laws.put s (h ∷ before) new.number new.frame run new.there))) in
-    let young : (world_after s (h ∷ before)).time ≤ℤ (z.at +ℤ pos (2 * frame_life s.cfg)) =
-    young_now (world_after s (h ∷ before)).time new.frame.at z.at (frame_life s.cfg) (still_depart s h before m q stamp refl ∙ sym new.at)
-    (subst (λ (t : Sending). (new.frame.at -ℤ t.at) ≤ℤ pos (frame_life s.cfg)) new.sending (c.laws.stamped s (h ∷ before) new.number new.frame run new.there).0.young) in
-    let same : z ≡ x = same_request c.laws s (h ∷ before) c.k c.link x z run c.is (open_at c (h ∷ before) j) newest request put seq young in
+    let new : NewFrame c h before z stamp = frame_at_place c h before stamp z u it (place_of s it.node it.port) refl it.queue in
+    let same : z ≡ x =
+    same_request c.laws s (h ∷ before) c.k c.link x z run c.is (open_at c (h ∷ before) j) newest
+    (record { request = it.request; put = frame_put c h before z stamp run new; seq = seq; young = frame_young c h before stamp z u run it new }) in
     let later : Stayed s (j.top ++ (h ∷ before)) new.number new.frame = frame_stays s j.top (h ∷ before) new.number new.frame (subst (IsRun s) j.splits c.run) new.there in
     record {
       number = new.number;
@@ -259,5 +268,5 @@ departs c says y before m q stamp x z rest u i j at_node at_port queue request n
       moment = later.moment ∙ new.moment;
       begun = subst (λ l. start_at c ≤ length l) (sym i.is) (behind i.mid (c.chain.start ∷ c.chain.before));
       tick = refl;
-      latched = latched_at c before i u (subst (λ n. latched_phase (s.set c.link.lower).ring (calls_at c before) ((world_after s before).clock n).samples ≡ Some u) (sym at_node) latched);
+      latched = latched_at c before i u (subst (λ n. latched_phase (s.set c.link.lower).ring (calls_at c before) ((world_after s before).clock n).samples ≡ Some u) (sym it.at_node) it.latched);
     }

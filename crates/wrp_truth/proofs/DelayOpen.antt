@@ -44,7 +44,7 @@ use Rattle.wrp_servo.specs.Laws.{ChainHasSignals}
 use Rattle.wrp_servo.specs.Told.{link_told as link_known}
 use Rattle.wrp_world.specs.declared.event.Event.{Event}
 use Rattle.wrp_world.specs.declared.event.Event.TheVariants.{Pass, Tick, Sample, Depart, Arrive, Deliver, Noise, Down as NodeDown, Up, Cut, Join}
-use Rattle.wrp_world.specs.Given.{given_plain, taken_of, world_step}
+use Rattle.wrp_world.specs.Given.{given_plain, taken_of}
 use Rattle.wrp_world.specs.Run.{Happened, world_after}
 use Rattle.wrp_world.specs.Runs.{IsNetwork, IsRun}
 use Rattle.wrp_world.specs.Setting.{Setting, fixed_of, link_of}
@@ -168,13 +168,23 @@ open_row l CarrierGoes e h = inr (inl refl)
 
 -- Open still, or rested
 
--- a link that was open so far, if it may be, or rests since
-abbrev Since : (still : Bool) (life dmin : ℕ) (rest time ticked : ℤ) → LinkAt → Type 0
-Since still life dmin rest time ticked l = ((still ≡ true) × (is_open l ≡ true)) ⊎ Rested life dmin rest time l ticked
+-- how a port is watched: whether it may have been open so far, a frame's life and the shortest tick, the time since when, the
+-- time now, and that of its node's last tick
+pub record Watch : Type 0 where
+  pub still : Bool
+  pub life : ℕ
+  pub dmin : ℕ
+  pub rest : ℤ
+  pub time : ℤ
+  pub ticked : ℤ
 
-shut_rests : (life dmin : ℕ) (rest time ticked : ℤ) (l : LinkAt) → Shut l → Rested life dmin rest time l ticked
-shut_rests life dmin rest time ticked l (inl dark) = inl dark
-shut_rests life dmin rest time ticked l (inr (idle, quiet)) = inr (inr (idle, inl quiet))
+-- its link was open so far, or rests since
+abbrev pub Since : Watch → LinkAt → Type 0
+Since t l = ((t.still ≡ true) × (is_open l ≡ true)) ⊎ Rested t.life t.dmin t.rest t.time l t.ticked
+
+shut_rests : (t : Watch) (l : LinkAt) → Shut l → Rested t.life t.dmin t.rest t.time l t.ticked
+shut_rests t l (inl dark) = inl dark
+shut_rests t l (inr (idle, quiet)) = inr (inr (idle, inl quiet))
 
 abbrev as_port : LinkAt → ℤ → Port
 as_port l ticked = record { link = l; ticked = ticked; marks = []; sent = [] }
@@ -184,185 +194,170 @@ record IsSlave (life dmin : ℕ) (l : LinkAt) : Type 0 where
   role : l.role ≡ Slave
   full : OutlivesFrames life dmin l.set
 
-opened_on : (still : Bool) (life dmin : ℕ) (rest time ticked : ℤ) (l : LinkAt) (input : LinkIn) → l.role ≡ Slave → still ≡ true → is_open l ≡ true → Since still life dmin rest time ticked (after l input)
-opened_on still life dmin rest time ticked l input slave is e = elim (open_row l (row_of l input) e (row_goes l input slave)) [
+-- and of the times
+record InOrder (t : Watch) : Type 0 where
+  past : t.rest ≤ℤ t.time
+  tick : t.ticked ≤ℤ t.time
+
+opened_on : (t : Watch) (l : LinkAt) (input : LinkIn) → l.role ≡ Slave → t.still ≡ true → is_open l ≡ true → Since t (after l input)
+opened_on t l input slave is e = elim (open_row l (row_of l input) e (row_goes l input slave)) [
   | inl open_now ↦ inl (is, open_now)
-  | inr shut ↦ inr (shut_rests life dmin rest time ticked (after l input) shut)
+  | inr shut ↦ inr (shut_rests t (after l input) shut)
 ]
 
 -- an input that is no tick
-calm_on : (still : Bool) (life dmin : ℕ) (rest time ticked : ℤ) (l : LinkAt) (input : LinkIn) → IsSlave life dmin l → rest ≤ℤ time → ticked ≤ℤ time → ((at : ℤ) → Rested life dmin rest time l ticked → Rested life dmin rest time (after l input) ticked) →
-    Since still life dmin rest time ticked l → Since still life dmin rest time ticked (after l input)
-calm_on still life dmin rest time ticked l input it past tick rests (inl (is, e)) = opened_on still life dmin rest time ticked l input it.role is e
-calm_on still life dmin rest time ticked l input it past tick rests (inr r) = inr (rests time r)
+calm_on : (t : Watch) (l : LinkAt) (input : LinkIn) → IsSlave t.life t.dmin l → (Rested t.life t.dmin t.rest t.time l t.ticked → Rested t.life t.dmin t.rest t.time (after l input) t.ticked) → Since t l → Since t (after l input)
+calm_on t l input it rests (inl (is, e)) = opened_on t l input it.role is e
+calm_on t l input it rests (inr r) = inr (rests r)
 
 -- and a tick
-tick_on : (still : Bool) (life dmin : ℕ) (rest time ticked : ℤ) (l : LinkAt) (locked : Bool) → IsSlave life dmin l → rest ≤ℤ time → ticked ≤ℤ time → (ticked +ℤ pos dmin) ≤ℤ time → Since still life dmin rest time ticked l →
-    Since still life dmin rest time time (after l (link_in.Tick locked))
-tick_on still life dmin rest time ticked l locked it past tick late (inl (is, e)) = opened_on still life dmin rest time time l (link_in.Tick locked) it.role is e
-tick_on still life dmin rest time ticked l locked it past tick late (inr r) = inr (heard_rested life dmin rest time (as_port l ticked) (link_in.Tick locked) time it.role it.full past tick late r)
+tick_on : (t : Watch) (l : LinkAt) (locked : Bool) → IsSlave t.life t.dmin l → InOrder t → (t.ticked +ℤ pos t.dmin) ≤ℤ t.time → Since t l → Since (record t { ticked = t.time }) (after l (link_in.Tick locked))
+tick_on t l locked it at late (inl (is, e)) = opened_on (record t { ticked = t.time }) l (link_in.Tick locked) it.role is e
+tick_on t l locked it at late (inr r) = inr (heard_rested t.life t.dmin t.rest t.time (as_port l t.ticked) (link_in.Tick locked) t.time it.role it.full at.past at.tick late r)
 
 -- What a port is told
 
-record At (life dmin : ℕ) (rest time ticked : ℤ) : Type 0 where
-  past : rest ≤ℤ time
-  tick : ticked ≤ℤ time
+abbrev IsSlaveSet : Watch → PortSetting → Type 0
+IsSlaveSet t set = (set.ds.role ≡ Slave) × OutlivesFrames t.life t.dmin set.link
 
-abbrev IsSlaveSet : (life dmin : ℕ) → PortSetting → Type 0
-IsSlaveSet life dmin set = (set.ds.role ≡ Slave) × OutlivesFrames life dmin set.link
-
-link_is : (life dmin : ℕ) (set : PortSetting) → IsSlaveSet life dmin set → (told : List PortIn) → IsSlave life dmin (link_told set told)
-link_is life dmin set h told = record {
+link_is : (t : Watch) (set : PortSetting) → IsSlaveSet t set → (told : List PortIn) → IsSlave t.life t.dmin (link_told set told)
+link_is t set h told = record {
   role = run_role (new_link set.ds.role set.link) (link_inputs set told) ∙ h.0;
-  full = subst (OutlivesFrames life dmin) (sym (run_set (new_link set.ds.role set.link) (link_inputs set told))) h.1;
+  full = subst (OutlivesFrames t.life t.dmin) (sym (run_set (new_link set.ds.role set.link) (link_inputs set told))) h.1;
 }
 
-abbrev ToldSince : (still : Bool) (life dmin : ℕ) (rest time ticked : ℤ) → PortSetting → List PortIn → Type 0
-ToldSince still life dmin rest time ticked set told = Since still life dmin rest time ticked (link_told set told)
-
--- an input of the link, if there is one
-input_on : (still : Bool) (life dmin : ℕ) (rest time ticked : ℤ) (set : PortSetting) (told : List PortIn) (o : Option LinkIn) → IsSlaveSet life dmin set → At life dmin rest time ticked →
-    ((input : LinkIn) → o ≡ Some input → Rested life dmin rest time (link_told set told) ticked → Rested life dmin rest time (after (link_told set told) input) ticked) →
-    ToldSince still life dmin rest time ticked set told → Since still life dmin rest time ticked (link_by set (with_input o (link_inputs set told)))
-input_on still life dmin rest time ticked set told None slave at rests h = h
-input_on still life dmin rest time ticked set told (Some input) slave at rests h =
-    calm_on still life dmin rest time ticked (link_told set told) input (link_is life dmin set slave told) at.past at.tick (λ t. rests input refl) h
+abbrev ToldSince : Watch → PortSetting → List PortIn → Type 0
+ToldSince t set told = Since t (link_told set told)
 
 abbrev IsCalmIn : LinkIn → Type 0
 IsCalmIn (link_in.Tick locked) = ⊥
 IsCalmIn _ = Unit {0}
 
-calm_rests : (life dmin : ℕ) (rest time ticked : ℤ) (set : PortSetting) (told : List PortIn) (input : LinkIn) → IsSlaveSet life dmin set → At life dmin rest time ticked → IsCalmIn input → Rested life dmin rest time (link_told set told) ticked →
-    Rested life dmin rest time (after (link_told set told) input) ticked
-calm_rests life dmin rest time ticked set told (link_in.Msg m) slave at c r =
-    let it : IsSlave life dmin (link_told set told) = link_is life dmin set slave told in
-    heard_rested life dmin rest time (as_port (link_told set told) ticked) (link_in.Msg m) time it.role it.full at.past at.tick tt r
-calm_rests life dmin rest time ticked set told (link_in.Announce suffix) slave at c r =
-    let it : IsSlave life dmin (link_told set told) = link_is life dmin set slave told in
-    heard_rested life dmin rest time (as_port (link_told set told) ticked) (link_in.Announce suffix) time it.role it.full at.past at.tick tt r
-calm_rests life dmin rest time ticked set told link_in.CarrierDown slave at c r =
-    let it : IsSlave life dmin (link_told set told) = link_is life dmin set slave told in
-    heard_rested life dmin rest time (as_port (link_told set told) ticked) link_in.CarrierDown time it.role it.full at.past at.tick tt r
-calm_rests life dmin rest time ticked set told (link_in.CarrierUp fitted) slave at c r =
-    let it : IsSlave life dmin (link_told set told) = link_is life dmin set slave told in
-    heard_rested life dmin rest time (as_port (link_told set told) ticked) (link_in.CarrierUp fitted) time it.role it.full at.past at.tick tt r
-calm_rests life dmin rest time ticked set told (link_in.Tick locked) slave at c r = absurd c
+calm_rests : (t : Watch) (l : LinkAt) (input : LinkIn) → IsSlave t.life t.dmin l → InOrder t → IsCalmIn input → Rested t.life t.dmin t.rest t.time l t.ticked → Rested t.life t.dmin t.rest t.time (after l input) t.ticked
+calm_rests t l (link_in.Msg m) it at calm r = heard_rested t.life t.dmin t.rest t.time (as_port l t.ticked) (link_in.Msg m) t.time it.role it.full at.past at.tick tt r
+calm_rests t l (link_in.Announce suffix) it at calm r = heard_rested t.life t.dmin t.rest t.time (as_port l t.ticked) (link_in.Announce suffix) t.time it.role it.full at.past at.tick tt r
+calm_rests t l link_in.CarrierDown it at calm r = heard_rested t.life t.dmin t.rest t.time (as_port l t.ticked) link_in.CarrierDown t.time it.role it.full at.past at.tick tt r
+calm_rests t l (link_in.CarrierUp fitted) it at calm r = heard_rested t.life t.dmin t.rest t.time (as_port l t.ticked) (link_in.CarrierUp fitted) t.time it.role it.full at.past at.tick tt r
+calm_rests t l (link_in.Tick locked) it at calm r = absurd calm
 
-calm_input : (set : PortSetting) (l : LinkAt) (m : PtpMsg) (stamp : Stamp) (tick : ℕ) (input : LinkIn) → to_link set l (Msg m stamp tick) ≡ Some input → IsCalmIn input
-calm_input set l m stamp tick input e = by_reason (early_reason set l m) set.ds.role m.body e
-  where
-    none_some : (x : LinkIn) → None ≡ Some x → IsCalmIn x
-    none_some x f = absurd cc
+-- an input of the link, if there is one
+input_on : (t : Watch) (set : PortSetting) (told : List PortIn) (o : Option LinkIn) → IsSlaveSet t set → InOrder t → ((input : LinkIn) → o ≡ Some input → IsCalmIn input) → ToldSince t set told → Since t (link_by set (with_input o (link_inputs set told)))
+input_on t set told None slave at calm h = h
+input_on t set told (Some input) slave at calm h =
+    calm_on t (link_told set told) input (link_is t set slave told) (calm_rests t (link_told set told) input (link_is t set slave told) at (calm input refl)) h
 
-    calm_some : (x : LinkIn) → IsCalmIn x → Some x ≡ Some input → IsCalmIn input
-    calm_some x c f = subst IsCalmIn (some_is x input f) c
-      where
-        some_is : (a b : LinkIn) → Some a ≡ Some b → a ≡ b
-        some_is a b g = cc
+none_some : (x : LinkIn) → None ≡ Some x → ⊥
+none_some x e = cc
 
-    by_reason : (reason : Option Reason) (role : Role) (body : Body) → input_unless reason (link_input role body) ≡ Some input → IsCalmIn input
-    by_reason (Some reason) role body f = none_some input f
-    by_reason None Slave (Announce origin utc p1 quality p2 gm steps source suffix) f = calm_some (link_in.Announce suffix) tt f
-    by_reason None Slave (Signal target (Some x)) f = calm_some (link_in.Msg x) tt f
-    by_reason None Slave (Signal target None) f = none_some input f
-    by_reason None Slave _ f = none_some input f
-    by_reason None Master (Signal target (Some x)) f = calm_some (link_in.Msg x) tt f
-    by_reason None Master (Signal target None) f = none_some input f
-    by_reason None Master _ f = none_some input f
+some_is : (x y : LinkIn) → Some x ≡ Some y → x ≡ y
+some_is x y e = cc
 
-message_on : (still : Bool) (life dmin : ℕ) (rest time ticked : ℤ) (set : PortSetting) (told : List PortIn) (m : PtpMsg) (stamp : Stamp) (tick : ℕ) → IsSlaveSet life dmin set → At life dmin rest time ticked → ToldSince still life dmin rest time ticked set told →
-    ToldSince still life dmin rest time ticked set (Msg m stamp tick ∷ told)
-message_on still life dmin rest time ticked set told m stamp tick slave at h =
-    input_on still life dmin rest time ticked set told (to_link set (link_told set told) (Msg m stamp tick)) slave at
-    (λ input is r. calm_rests life dmin rest time ticked set told input slave at (calm_input set (link_told set told) m stamp tick input is) r) h
+-- a message is no tick
+calm_message : (reason : Option Reason) (role : Role) (body : Body) (input : LinkIn) → input_unless reason (link_input role body) ≡ Some input → IsCalmIn input
+calm_message (Some reason) role body input e = absurd (none_some input e)
+calm_message None Slave (Announce origin utc p1 quality p2 gm steps source suffix) input e = subst IsCalmIn (some_is (link_in.Announce suffix) input e) tt
+calm_message None Slave (Signal target (Some x)) input e = subst IsCalmIn (some_is (link_in.Msg x) input e) tt
+calm_message None Slave (Signal target None) input e = absurd (none_some input e)
+calm_message None Slave _ input e = absurd (none_some input e)
+calm_message None Master (Signal target (Some x)) input e = subst IsCalmIn (some_is (link_in.Msg x) input e) tt
+calm_message None Master (Signal target None) input e = absurd (none_some input e)
+calm_message None Master _ input e = absurd (none_some input e)
 
-turns_on : (still : Bool) (life dmin : ℕ) (rest time ticked : ℤ) (set : PortSetting) → IsSlaveSet life dmin set → At life dmin rest time ticked → KeptByTurns (ToldSince still life dmin rest time ticked set)
-turns_on still life dmin rest time ticked set slave at = record {
-  carrier = λ told up own_module h. by_carrier told up own_module h;
-  reset = λ told h. inr (inl refl);
-}
-  where
-    by_carrier : (told : List PortIn) (up : Bool) (own_module : Option Module) → ToldSince still life dmin rest time ticked set told → ToldSince still life dmin rest time ticked set (Carrier up own_module ∷ told)
-    by_carrier told true own_module h = calm_on still life dmin rest time ticked (link_told set told) (link_in.CarrierUp own_module) (link_is life dmin set slave told) at.past at.tick (λ t r. calm_rests life dmin rest time ticked set told (link_in.CarrierUp own_module) slave at tt r) h
-    by_carrier told false own_module h = calm_on still life dmin rest time ticked (link_told set told) link_in.CarrierDown (link_is life dmin set slave told) at.past at.tick (λ t r. calm_rests life dmin rest time ticked set told link_in.CarrierDown slave at tt r) h
+message_on : (t : Watch) (set : PortSetting) (told : List PortIn) (m : PtpMsg) (stamp : Stamp) (tick : ℕ) → IsSlaveSet t set → InOrder t → ToldSince t set told → ToldSince t set (Msg m stamp tick ∷ told)
+message_on t set told m stamp tick slave at h =
+    input_on t set told (to_link set (link_told set told) (Msg m stamp tick)) slave at (calm_message (early_reason set (link_told set told) m) set.ds.role m.body) h
+
+carrier_on : (t : Watch) (set : PortSetting) (told : List PortIn) (up : Bool) (own_module : Option Module) → IsSlaveSet t set → InOrder t → ToldSince t set told → ToldSince t set (Carrier up own_module ∷ told)
+carrier_on t set told true own_module slave at h = input_on t set told (Some (link_in.CarrierUp own_module)) slave at (λ input e. subst IsCalmIn (some_is (link_in.CarrierUp own_module) input e) tt) h
+carrier_on t set told false own_module slave at h = input_on t set told (Some link_in.CarrierDown) slave at (λ input e. subst IsCalmIn (some_is link_in.CarrierDown input e) tt) h
+
+turns_on : (t : Watch) (set : PortSetting) → IsSlaveSet t set → InOrder t → KeptByTurns (ToldSince t set)
+turns_on t set slave at = record { carrier = λ told up own_module h. carrier_on t set told up own_module slave at h; reset = λ told h. inr (inl refl) }
 
 -- The port in a world
 
 abbrev set_below : Setting → LinkCfg → PortSetting
 set_below s link = setting_of (s.set link.lower) link.lower_port
 
-abbrev SinceAt : Setting → LinkCfg → (still : Bool) (rest time ticked : ℤ) → NodeAt → Type 0
-SinceAt s link still rest time ticked n = ToldSince still (frame_life s.cfg) (shortest_tick s.cfg) rest time ticked (set_below s link) (n.told link.lower_port)
+-- as it is watched after these events
+abbrev watch_at : Setting → LinkCfg → (still : Bool) (rest : ℤ) → List Happened → Watch
+watch_at s link still rest events = record {
+  still = still;
+  life = frame_life s.cfg;
+  dmin = shortest_tick s.cfg;
+  rest = rest;
+  time = (world_after s events).time;
+  ticked = ((world_after s events).clock link.lower).ticked;
+}
 
-slave_set : QuietLaws → (s : Setting) → IsNetwork s → (k : ℕ) (link : LinkCfg) → link_of s k ≡ Some link → IsSlaveSet (frame_life s.cfg) (shortest_tick s.cfg) (set_below s link)
-slave_set laws s net k link is = (
+abbrev SinceAt : Setting → LinkCfg → (still : Bool) (rest : ℤ) → List Happened → Type 0
+SinceAt s link still rest events = ToldSince (watch_at s link still rest events) (set_below s link) (((world_after s events).node link.lower).told link.lower_port)
+
+slave_set : QuietLaws → (s : Setting) → IsNetwork s → (k : ℕ) (link : LinkCfg) (still : Bool) (rest : ℤ) (events : List Happened) → link_of s k ≡ Some link → IsSlaveSet (watch_at s link still rest events) (set_below s link)
+slave_set laws s net k link still rest events is = (
   slave_is laws.ends s net k link is,
   subst (λ (x : NodeSet). OutlivesFrames (frame_life s.cfg) (shortest_tick s.cfg) (setting_of x link.lower_port).link) (sym (net.set link.lower)) net.accepted.inequalities.quiet_time,
 )
 
-since_later : (still : Bool) (life dmin : ℕ) (rest time later : ℤ) (l : LinkAt) (ticked now : ℤ) → time ≤ℤ later → ticked ≤ℤ now → Since still life dmin rest time ticked l → Since still life dmin rest later now l
-since_later still life dmin rest time later l ticked now h k (inl e) = inl e
-since_later still life dmin rest time later l ticked now h k (inr r) = inr (rested_later life dmin rest time later l ticked now h k r)
+since_later : (t : Watch) (later now : ℤ) (l : LinkAt) → t.time ≤ℤ later → t.ticked ≤ℤ now → Since t l → Since (record t { time = later; ticked = now }) l
+since_later t later now l h k (inl e) = inl e
+since_later t later now l h k (inr r) = inr (rested_later t.life t.dmin t.rest t.time later l t.ticked now h k r)
 
 -- what is brought to it by an event that is no tick of its node
-other_brings : (still : Bool) (life dmin : ℕ) (rest time ticked : ℤ) (set : PortSetting) (s : Setting) (w : WorldAt) (says : Result PtpMsg FrameFault) (n p : ℕ) (e : Event) → IsSlaveSet life dmin set → At life dmin rest time ticked → IsNoTickOf n e →
-    ToldSince still life dmin rest time ticked set ((w.node n).told p) → Brings (ToldSince still life dmin rest time ticked set) s w says n p e
-other_brings still life dmin rest time ticked set s w says n p (Tick m) slave at none h = λ is. absurd (none is)
-other_brings still life dmin rest time ticked set s w says n p (Sample m base bits) slave at none h = λ is.
-    out_told (ToldSince still life dmin rest time ticked set) (λ told news k. k) (λ told number phase k. k)
+other_brings : (t : Watch) (set : PortSetting) (s : Setting) (w : WorldAt) (says : Result PtpMsg FrameFault) (n p : ℕ) (e : Event) → IsSlaveSet t set → InOrder t → IsNoTickOf n e → ToldSince t set ((w.node n).told p) → Brings (ToldSince t set) s w says n p e
+other_brings t set s w says n p (Tick m) slave at none h = λ is. absurd (none is)
+other_brings t set s w says n p (Sample m base bits) slave at none h = λ is.
+    out_told (ToldSince t set) (λ told news k. k) (λ told number phase k. k)
     (answer_of (fixed_of s n) (Some (CallSample ((w.clock n).samples + 1) base bits)) (w.node n).calls) ((w.clock n).samples + 1) ((w.node n).told p) h
-other_brings still life dmin rest time ticked set s w says n p (Depart m q stamp) slave at none h = λ a b x rest delay queue is. h
-other_brings still life dmin rest time ticked set s w says n p (Deliver i) slave at none h = λ f a end there arrived at_end at_node at_port hears. message_on still life dmin rest time ticked set ((w.node n).told p) f.sending.message (stamp_of (fixed_of s n) (w.node n) p a.raw a.sample) (w.node n).ticks slave at h
-other_brings still life dmin rest time ticked set s w says n p (Noise m q octets raw) slave at none h = λ x at_node at_port is hears. message_on still life dmin rest time ticked set ((w.node n).told p) x (stamp_of (fixed_of s n) (w.node n) p raw (w.clock m).samples) (w.node n).ticks slave at h
-other_brings still life dmin rest time ticked set s w says n p _ slave at none h = tt
+other_brings t set s w says n p (Depart m q stamp) slave at none h = λ a b x rest delay queue is. h
+other_brings t set s w says n p (Deliver i) slave at none h = λ f a end there arrived at_end at_node at_port hears.
+    message_on t set ((w.node n).told p) f.sending.message (stamp_of (fixed_of s n) (w.node n) p a.raw a.sample) (w.node n).ticks slave at h
+other_brings t set s w says n p (Noise m q octets raw) slave at none h = λ x at_node at_port is hears.
+    message_on t set ((w.node n).told p) x (stamp_of (fixed_of s n) (w.node n) p raw (w.clock m).samples) (w.node n).ticks slave at h
+other_brings t set s w says n p _ slave at none h = tt
 
 other_since : QuietLaws → (still : Bool) (s : Setting) (h : Happened) (before : List Happened) (k : ℕ) (link : LinkCfg) (rest : ℤ) → IsRun s (h ∷ before) → link_of s k ≡ Some link → IsNoTickOf link.lower h.event → rest ≤ℤ (world_after s before).time →
-    SinceAt s link still rest (world_after s before).time ((world_after s before).clock link.lower).ticked ((world_after s before).node link.lower) →
-    SinceAt s link still rest (world_after s (h ∷ before)).time ((world_after s (h ∷ before)).clock link.lower).ticked ((world_after s (h ∷ before)).node link.lower)
+    SinceAt s link still rest before → SinceAt s link still rest (h ∷ before)
 other_since laws still s h before k link rest run is none past r =
     let n : ℕ = link.lower in
     let w : WorldAt = world_after s before in
     let now : WorldAt = world_after s (h ∷ before) in
-    let slave : IsSlaveSet (frame_life s.cfg) (shortest_tick s.cfg) (set_below s link) = slave_set laws s run.network k link is in
+    let t : Watch = watch_at s link still rest (h ∷ before) in
+    let slave : IsSlaveSet t (set_below s link) = slave_set laws s run.network k link still rest (h ∷ before) is in
     let rises : w.time ≤ℤ now.time = step_time s h.says h.answer w h.event run.each.0 in
-    let at : At (frame_life s.cfg) (shortest_tick s.cfg) rest now.time (now.clock n).ticked = record { past = after_that rest w.time now.time past rises; tick = ticked_past laws.apart s (h ∷ before) n run } in
-    let told : ToldSince still (frame_life s.cfg) (shortest_tick s.cfg) rest now.time (now.clock n).ticked (set_below s link) ((w.node n).told link.lower_port) =
-    since_later still (frame_life s.cfg) (shortest_tick s.cfg) rest w.time now.time (link_told (set_below s link) ((w.node n).told link.lower_port)) (w.clock n).ticked (now.clock n).ticked rises (last_grows laws.apart s h before n run) r in
-    event_told (ToldSince still (frame_life s.cfg) (shortest_tick s.cfg) rest now.time (now.clock n).ticked (set_below s link)) (λ told news t. t)
-    (turns_on still (frame_life s.cfg) (shortest_tick s.cfg) rest now.time (now.clock n).ticked (set_below s link) slave at) s h.says h.answer w h.event n link.lower_port
-    (other_brings still (frame_life s.cfg) (shortest_tick s.cfg) rest now.time (now.clock n).ticked (set_below s link) s w h.says n link.lower_port h.event slave at none told) told
+    let at : InOrder t = record { past = after_that rest w.time now.time past rises; tick = ticked_past laws.apart s (h ∷ before) n run } in
+    let told : ToldSince t (set_below s link) ((w.node n).told link.lower_port) =
+    since_later (watch_at s link still rest before) now.time (now.clock n).ticked (link_told (set_below s link) ((w.node n).told link.lower_port)) rises (last_grows laws.apart s h before n run) r in
+    event_told (ToldSince t (set_below s link)) (λ l news k. k) (turns_on t (set_below s link) slave at) s h.says h.answer w h.event n link.lower_port
+    (other_brings t (set_below s link) s w h.says n link.lower_port h.event slave at none told) told
 
 tick_since : QuietLaws → (still : Bool) (s : Setting) (says : Result PtpMsg FrameFault) (y : ℤ) (before : List Happened) (k : ℕ) (link : LinkCfg) (rest : ℤ) → IsRun s (record { event = Tick link.lower; says = says; answer = y } ∷ before) → link_of s k ≡ Some link →
-    rest ≤ℤ (world_after s before).time → SinceAt s link still rest (world_after s before).time ((world_after s before).clock link.lower).ticked ((world_after s before).node link.lower) →
-    SinceAt s link still rest (world_step s says y (world_after s before) (Tick link.lower)).time ((world_step s says y (world_after s before) (Tick link.lower)).clock link.lower).ticked ((world_step s says y (world_after s before) (Tick link.lower)).node link.lower)
+    rest ≤ℤ (world_after s before).time → SinceAt s link still rest before → SinceAt s link still rest (record { event = Tick link.lower; says = says; answer = y } ∷ before)
 tick_since laws still s says y before k link rest run is past r =
     let n : ℕ = link.lower in
     let p : ℕ = link.lower_port in
+    let h : Happened = record { event = Tick n; says = says; answer = y } in
     let w : WorldAt = world_after s before in
     let fixed : Fixed = fixed_of s n in
-    let life : ℕ = frame_life s.cfg in
-    let dmin : ℕ = shortest_tick s.cfg in
     let set : PortSetting = set_below s link in
-    let slave : IsSlaveSet life dmin set = slave_set laws s run.network k link is in
+    let t : Watch = watch_at s link still rest before in
+    let slave : IsSlaveSet t set = slave_set laws s run.network k link still rest before is in
     let mid : NodeAt = (servo_ticked fixed (w.node n)).node in
-    let tick : (w.clock n).ticked ≤ℤ w.time = ticked_past laws.apart s before n (run_before s (record { event = Tick link.lower; says = says; answer = y }) before run) in
-    let late : ((w.clock n).ticked +ℤ pos dmin) ≤ℤ w.time = not_early (w.clock n).up w.time (w.clock n).ticked dmin run.accepted.0.1.0 run.accepted.0.0 in
-    let told : ToldSince still life dmin rest w.time (w.clock n).ticked set (mid.told p) =
-    before_tick (ToldSince still life dmin rest w.time (w.clock n).ticked set) (λ t news h. h) (λ t h. h) fixed (w.node n) p r in
-    let ticks : ToldSince still life dmin rest w.time w.time set (PortTick (locked_of fixed mid) (certain_of fixed mid) ∷ mid.told p) =
-    tick_on still life dmin rest w.time (w.clock n).ticked (link_told set (mid.told p)) (locked_of fixed mid) (link_is life dmin set slave (mid.told p)) past tick late told in
+    let at : InOrder t = record { past = past; tick = ticked_past laws.apart s before n (run_before s h before run) } in
+    let late : ((w.clock n).ticked +ℤ pos (shortest_tick s.cfg)) ≤ℤ w.time = not_early (w.clock n).up w.time (w.clock n).ticked (shortest_tick s.cfg) run.accepted.0.1.0 run.accepted.0.0 in
+    let told : ToldSince t set (mid.told p) = before_tick (ToldSince t set) (λ l news k. k) (λ l k. k) fixed (w.node n) p r in
+    let ticks : ToldSince (record t { ticked = w.time }) set (PortTick (locked_of fixed mid) (certain_of fixed mid) ∷ mid.told p) =
+    tick_on t (link_told set (mid.told p)) (locked_of fixed mid) (link_is t set slave (mid.told p)) at late told in
     let node : _ = ticked_node s says y w n n refl in
-    subst (λ t. SinceAt s link still rest w.time t ((world_step s says y w (Tick n)).node n)) (sym node.1)
-    (subst (SinceAt s link still rest w.time w.time) (sym node.0)
-    (tick_told (ToldSince still life dmin rest w.time w.time set) (λ t news h. h) fixed (taken_of y (given_plain n TickInput)) (w.node n) p refl ticks))
+    subst (λ z. ToldSince (record t { ticked = z }) set (((world_after s (h ∷ before)).node n).told p)) (sym node.1)
+    (subst (λ (z : NodeAt). ToldSince (record t { ticked = w.time }) set (z.told p)) (sym node.0)
+    (tick_told (ToldSince (record t { ticked = w.time }) set) (λ l news k. k) fixed (taken_of y (given_plain n TickInput)) (w.node n) p refl ticks))
 
 event_since : QuietLaws → (still : Bool) (s : Setting) (says : Result PtpMsg FrameFault) (y : ℤ) (e : Event) (before : List Happened) (k : ℕ) (link : LinkCfg) (rest : ℤ) → IsRun s (record { event = e; says = says; answer = y } ∷ before) → link_of s k ≡ Some link →
-    rest ≤ℤ (world_after s before).time → SinceAt s link still rest (world_after s before).time ((world_after s before).clock link.lower).ticked ((world_after s before).node link.lower) →
-    SinceAt s link still rest (world_step s says y (world_after s before) e).time ((world_step s says y (world_after s before) e).clock link.lower).ticked ((world_step s says y (world_after s before) e).node link.lower)
+    rest ≤ℤ (world_after s before).time → SinceAt s link still rest before → SinceAt s link still rest (record { event = e; says = says; answer = y } ∷ before)
 event_since laws still s says y (Tick m) before k link rest run is past r = elim (eqb_tells link.lower m) [
   | inl x ↦
-      subst
-      (λ i. SinceAt s link still rest (world_step s says y (world_after s before) (Tick i)).time ((world_step s says y (world_after s before) (Tick i)).clock link.lower).ticked ((world_step s says y (world_after s before) (Tick i)).node link.lower)) x.1
+      subst (λ i. SinceAt s link still rest (record { event = Tick i; says = says; answer = y } ∷ before)) x.1
       (tick_since laws still s says y before k link rest (subst (λ i. IsRun s (record { event = Tick i; says = says; answer = y } ∷ before)) (sym x.1) run) is past r)
   | inr x ↦ other_since laws still s (record { event = Tick m; says = says; answer = y }) before k link rest run is x.1 past r
 ]
@@ -413,8 +408,9 @@ open_since laws s newer older k link run is first now soon =
     elim (either_since laws s newer older k link run is first) [
       | inl all ↦ all
       | inr rests ↦
+          let t : Watch = watch_at s link false (world_after s older).time (newer ++ older) in
           let it : IsSlave (frame_life s.cfg) (shortest_tick s.cfg) (link_told (set_below s link) ((w.node link.lower).told link.lower_port)) =
-          link_is (frame_life s.cfg) (shortest_tick s.cfg) (set_below s link) (slave_set laws s run.network k link is) ((w.node link.lower).told link.lower_port) in
+          link_is t (set_below s link) (slave_set laws s run.network k link false (world_after s older).time (newer ++ older) is) ((w.node link.lower).told link.lower_port) in
           absurd (too_soon (world_after s older).time w.time (frame_life s.cfg)
           (open_rested (frame_life s.cfg) (shortest_tick s.cfg) (world_after s older).time w.time (link_at (s.set link.lower) (w.node link.lower) link.lower_port) (w.clock link.lower).ticked it.full
           (ticked_past laws.apart s (newer ++ older) link.lower run) now rests) soon)

@@ -147,22 +147,28 @@ less_or_same a b h = grind (arith, h)
 too_soon : (a x now : ℤ) (life span more : ℕ) → more + 4 * life < span → (a +ℤ pos span) ≤ℤ x → x ≤ℤ now → now ≤ℤ (a +ℤ pos (2 * life)) → ⊥
 too_soon a x now life span more room h k l = omega (arith, ints, room, h, k, l)
 
--- one of its id that is not older than two frame's lives is the newest
-pub same_request : DelayLaws → (s : Setting) (events : List Happened) (k : ℕ) (link : LinkCfg) (x y : Sending) → IsRun s events → link_of s k ≡ Some link → IsOpenAt s link Slave events → Newest s events k x → IsRequest y.message.body →
-    WasPutOut y ((world_after s events).end_at k Slave).sent → y.message.head.seq ≡ x.message.head.seq → (world_after s events).time ≤ℤ (y.at +ℤ pos (2 * frame_life s.cfg)) → y ≡ x
-same_request laws s events k link x y run is takes newest request put seq young =
-    let it : Requested s events k link y = requested laws.opens.quiet.ends s events k link y run is request put in
-    elim (less_or_same y.moment x.moment (newest.newest y put request)) [
+-- a Delay_Req of the slave with the id of another one, put out at most two frame's lives ago
+pub record Comes (s : Setting) (events : List Happened) (k : ℕ) (x y : Sending) : Type 0 where
+  pub request : IsRequest y.message.body
+  pub put : WasPutOut y ((world_after s events).end_at k Slave).sent
+  pub seq : y.message.head.seq ≡ x.message.head.seq
+  pub young : (world_after s events).time ≤ℤ (y.at +ℤ pos (2 * frame_life s.cfg))
+
+-- is the newest, if the other one is
+pub same_request : DelayLaws → (s : Setting) (events : List Happened) (k : ℕ) (link : LinkCfg) (x y : Sending) → IsRun s events → link_of s k ≡ Some link → IsOpenAt s link Slave events → Newest s events k x → Comes s events k x y → y ≡ x
+same_request laws s events k link x y run is takes newest comes =
+    let it : Requested s events k link y = requested laws.opens.quiet.ends s events k link y run is comes.request comes.put in
+    elim (less_or_same y.moment x.moment (newest.newest y comes.put comes.request)) [
       | inl less ↦
           let whole : IsRun s (it.newer ++ it.older) = subst (IsRun s) it.splits run in
           let still : AtEach (IsOpenAt s link Slave) it.newer it.older =
           open_since laws.opens.quiet s it.newer it.older k link whole is it.takes (subst (IsOpenAt s link Slave) it.splits takes)
-          (subst (λ l. (world_after s l).time ≤ℤ ((world_after s it.older).time +ℤ pos (2 * frame_life s.cfg))) it.splits (subst (λ t. (world_after s events).time ≤ℤ (t +ℤ pos (2 * frame_life s.cfg))) it.at young)) in
+          (subst (λ l. (world_after s l).time ≤ℤ ((world_after s it.older).time +ℤ pos (2 * frame_life s.cfg))) it.splits (subst (λ t. (world_after s events).time ≤ℤ (t +ℤ pos (2 * frame_life s.cfg))) it.at comes.young)) in
           absurd (too_soon y.at x.at (world_after s events).time (frame_life s.cfg) (65_000 * min (unsigned_abs s.cfg.sync) (unsigned_abs s.cfg.delay) * shortest_tick s.cfg) (unsigned_abs s.cfg.ring * gap_time s.cfg)
           run.network.accepted.inequalities.id_reuse
-          (laws.late s it.newer it.older k link Slave y x whole is it.put it.moment (subst (λ l. WasPutOut x ((world_after s l).end_at k Slave).sent) it.splits newest.put) (timed y.message.body request) (timed x.message.body newest.request) seq still less)
-          (known_moment s events k Slave x run newest.put).1 young)
-      | inr same ↦ laws.once s events k link Slave y x run is put newest.put (timed y.message.body request) (timed x.message.body newest.request) same
+          (laws.late s it.newer it.older k link Slave y x whole is it.put it.moment (subst (λ l. WasPutOut x ((world_after s l).end_at k Slave).sent) it.splits newest.put) (timed y.message.body comes.request) (timed x.message.body newest.request) comes.seq still less)
+          (known_moment s events k Slave x run newest.put).1 comes.young)
+      | inr same ↦ laws.once s events k link Slave y x run is comes.put newest.put (timed y.message.body comes.request) (timed x.message.body newest.request) same
     ]
 
 -- What is handed over is young

@@ -210,26 +210,37 @@ slave_of_other Master e = cc
 ok_is : (a b : PtpMsg) → ◌≡◌ {A = Result PtpMsg FrameFault} (Ok a) (Ok b) → a ≡ b
 ok_is a b e = cc
 
+-- the master's end of a link of an accepted network
+record AtMaster : Type 0 where
+  s : Setting
+  net : IsNetwork s
+  k : ℕ
+  link : LinkCfg
+  is : link_of s k ≡ Some link
+
 -- the frame of an input that is handed over
-handed_resp : (s : Setting) → IsNetwork s → (y : ℤ) (w v : WorldAt) (i k : ℕ) (link : LinkCfg) (x : Sending) (f : FrameAt) (a : Arrival) (o : Option End) → link_of s k ≡ Some link → v.node ≡ w.node → w.frame i ≡ Some f → f.arrival ≡ Some a →
-    end_at s f.link (other_of f.by) ≡ o → IsResponse x.message.body → WasPutOut x ((gives_all s y v (option_map_or (λ end. delivered_to f a end.node end.port) o [])).end_at k Master).sent →
-    WasPutOut x (v.end_at k Master).sent ⊎ AnsweredIn s w (Deliver i) k link x
-handed_resp s net y w v i k link x f a None is same there arrived at it h = inl h
-handed_resp s net y w v i k link x f a (Some end) is same there arrived at it h =
+abbrev Either : AtMaster → WorldAt → ℕ → Sending → Type 0
+Either m w i x = WasPutOut x ((moved m.s w (Deliver i)).end_at m.k Master).sent ⊎ AnsweredIn m.s w (Deliver i) m.k m.link x
+
+handed_resp : (m : AtMaster) (y : ℤ) (w : WorldAt) (i : ℕ) (x : Sending) (f : FrameAt) (a : Arrival) (o : Option End) → w.frame i ≡ Some f → f.arrival ≡ Some a → end_at m.s f.link (other_of f.by) ≡ o → IsResponse x.message.body →
+    WasPutOut x ((gives_all m.s y (moved m.s w (Deliver i)) (option_map_or (λ end. delivered_to f a end.node end.port) o [])).end_at m.k Master).sent → Either m w i x
+handed_resp m y w i x f a None there arrived at it h = inl h
+handed_resp m y w i x f a (Some end) there arrived at it h =
+    let s : Setting = m.s in
+    let link : LinkCfg = m.link in
     let g : Given = record {
       to = end.node;
       input = Frame end.port (record { items = octets_of f.sending.message }) a.raw a.sample;
       says = Ok f.sending.message;
       at = f.sending.at;
     } in
-    elim (given_resp s y v g k link x is it h) [
+    elim (given_resp s y (moved s w (Deliver i)) g m.k link x m.is it h) [
       | inl old ↦ inl old
       | inr new ↦
-          let an : Answers (fixed_of s end.node) (v.node end.node) link.upper_port (Ok f.sending.message) a.raw a.sample x.message = new.1.1 in
+          let an : Answers (fixed_of s end.node) (w.node end.node) link.upper_port (Ok f.sending.message) a.raw a.sample x.message = new.1.1 in
           let alike : end_of Master link ≡ end = end_alike (end_of Master link) end new.0 new.1.0 in
-          let end_there : (f.link ≡ k) × (other_of f.by ≡ Master) = are_apart s net f.link k (other_of f.by) Master end at (end_is s k Master link is ∙ ap Some alike) in
+          let end_there : (f.link ≡ m.k) × (other_of f.by ≡ Master) = are_apart s m.net f.link m.k (other_of f.by) Master end at (end_is s m.k Master link m.is ∙ ap Some alike) in
           let message : f.sending.message ≡ an.request = ok_is f.sending.message an.request an.says_it in
-          let node : v.node end.node ≡ w.node link.upper = ap (λ z. z end.node) same ∙ ap w.node (sym new.0) in
           inr (record {
             number = i;
             event = refl;
@@ -242,25 +253,22 @@ handed_resp s net y w v i k link x f a (Some end) is same there arrived at it h 
             request = subst (λ (z : PtpMsg). IsRequest z.body) (sym message) an.is_request;
             hears =
                 subst (λ (z : PtpMsg). Hears (fixed_of s link.upper) (w.node link.upper) link.upper_port z) (sym message)
-                (subst (λ (z : NodeAt). Hears (fixed_of s link.upper) z link.upper_port an.request) node
-                (subst (λ i. Hears (fixed_of s i) (v.node end.node) link.upper_port an.request) (sym new.0) an.hears));
+                (subst (λ n. Hears (fixed_of s n) (w.node n) link.upper_port an.request) (sym new.0) an.hears);
             message =
                 an.is
-                ∙ ap (λ i. response_of (setting_of (s.set i) link.upper_port) an.request.head (stamp_of (fixed_of s i) (v.node end.node) link.upper_port a.raw a.sample)) (sym new.0)
-                ∙ ap (λ z. response_of (setting_of (s.set link.upper) link.upper_port) an.request.head (stamp_of (fixed_of s link.upper) z link.upper_port a.raw a.sample)) node
+                ∙ ap (λ n. response_of (setting_of (s.set n) link.upper_port) an.request.head (stamp_of (fixed_of s n) (w.node n) link.upper_port a.raw a.sample)) (sym new.0)
                 ∙ ap (λ (z : PtpMsg). response_of (setting_of (s.set link.upper) link.upper_port) z.head (stamp_of (fixed_of s link.upper) (w.node link.upper) link.upper_port a.raw a.sample)) (sym message);
           })
     ]
 
-arrival_resp : (s : Setting) → IsNetwork s → (y : ℤ) (w v : WorldAt) (i k : ℕ) (link : LinkCfg) (x : Sending) (f : FrameAt) (o : Option Arrival) → link_of s k ≡ Some link → v.node ≡ w.node → w.frame i ≡ Some f → f.arrival ≡ o → IsResponse x.message.body →
-    WasPutOut x ((gives_all s y v (delivered_by s f o)).end_at k Master).sent → WasPutOut x (v.end_at k Master).sent ⊎ AnsweredIn s w (Deliver i) k link x
-arrival_resp s net y w v i k link x f None is same there arrived it h = inl h
-arrival_resp s net y w v i k link x f (Some a) is same there arrived it h = handed_resp s net y w v i k link x f a (end_at s f.link (other_of f.by)) is same there arrived refl it h
+arrival_resp : (m : AtMaster) (y : ℤ) (w : WorldAt) (i : ℕ) (x : Sending) (f : FrameAt) (o : Option Arrival) → w.frame i ≡ Some f → f.arrival ≡ o → IsResponse x.message.body →
+    WasPutOut x ((gives_all m.s y (moved m.s w (Deliver i)) (delivered_by m.s f o)).end_at m.k Master).sent → Either m w i x
+arrival_resp m y w i x f None there arrived it h = inl h
+arrival_resp m y w i x f (Some a) there arrived it h = handed_resp m y w i x f a (end_at m.s f.link (other_of f.by)) there arrived refl it h
 
-frame_resp : (s : Setting) → IsNetwork s → (y : ℤ) (w v : WorldAt) (i k : ℕ) (link : LinkCfg) (x : Sending) (o : Option FrameAt) → link_of s k ≡ Some link → v.node ≡ w.node → w.frame i ≡ o → IsResponse x.message.body →
-    WasPutOut x ((gives_all s y v (delivered s o)).end_at k Master).sent → WasPutOut x (v.end_at k Master).sent ⊎ AnsweredIn s w (Deliver i) k link x
-frame_resp s net y w v i k link x None is same there it h = inl h
-frame_resp s net y w v i k link x (Some f) is same there it h = arrival_resp s net y w v i k link x f f.arrival is same there refl it h
+frame_resp : (m : AtMaster) (y : ℤ) (w : WorldAt) (i : ℕ) (x : Sending) (o : Option FrameAt) → w.frame i ≡ o → IsResponse x.message.body → WasPutOut x ((gives_all m.s y (moved m.s w (Deliver i)) (delivered m.s o)).end_at m.k Master).sent → Either m w i x
+frame_resp m y w i x None there it h = inl h
+frame_resp m y w i x (Some f) there it h = arrival_resp m y w i x f f.arrival there refl it h
 
 -- octets that the peer did not send are not taken
 not_true : false ≡ true → ⊥
@@ -290,7 +298,7 @@ quiet_resp s says y w e k link x is none it h =
 event_resp : (s : Setting) → IsNetwork s → (says : Result PtpMsg FrameFault) (y : ℤ) (w : WorldAt) (e : Event) (k : ℕ) (link : LinkCfg) (x : Sending) → link_of s k ≡ Some link → Accepts s w says e → IsResponse x.message.body →
     WasPutOut x ((world_step s says y w e).end_at k Master).sent → WasPutOut x (w.end_at k Master).sent ⊎ AnsweredIn s w e k link x
 event_resp s net says y w (Deliver i) k link x is a it h =
-    elim (frame_resp s net y w (moved s w (Deliver i)) i k link x (w.frame i) is refl refl it h) [
+    elim (frame_resp (record { s = s; net = net; k = k; link = link; is = is }) y w i x (w.frame i) refl it h) [
       | inl old ↦ inl (moved_back s w (Deliver i) k Master x old)
       | inr new ↦ inr new
     ]

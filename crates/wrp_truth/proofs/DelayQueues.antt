@@ -380,27 +380,34 @@ in_line ends s (h ∷ before) k link run is =
     event_line ends s h.says h.answer before h.event k link (run_before s h before run) is
     (moved_line s (world_after s before) h.event k (λ i. all_numbered s before i) (in_line ends s before k link (run_before s h before run) is))
 
--- two frames of a Delay_Req are one
+-- Two frames of one Delay_Req
+
 three_ways : (i j : ℕ) → (i < j) ⊎ ((i ≡ j) ⊎ (j < i))
 three_ways i j = grind (arith)
 
 not_less : (a b : ℕ) → a < b → a ≡ b → ⊥
 not_less a b h e = omega (arith, h, e)
 
-pub departs_once : EndsAreSet → (s : Setting) (events : List Happened) (k : ℕ) (link : LinkCfg) (i j : ℕ) (f g : FrameAt) → IsRun s events → link_of s k ≡ Some link → (world_after s events).frame i ≡ Some f → (world_after s events).frame j ≡ Some g →
-    f.link ≡ k → f.by ≡ Slave → g.link ≡ k → g.by ≡ Slave → IsRequest f.sending.message.body → f.sending ≡ g.sending → f ≡ g
-departs_once ends s events k link i j f g run is at_i at_j fl fb gl gb request same =
-    let w : WorldAt = world_after s events in
-    let line : InLineAt w k = in_line ends s events k link run is in
+-- a frame of the slave's end
+pub record OfSlave (s : Setting) (events : List Happened) (k : ℕ) (f : FrameAt) : Type 0 where
+  pub number : ℕ
+  pub there : (world_after s events).frame number ≡ Some f
+  pub link_is : f.link ≡ k
+  pub by_is : f.by ≡ Slave
+
+less_apart : (s : Setting) (events : List Happened) (k : ℕ) (f g : FrameAt) → InLineAt (world_after s events) k → (a : OfSlave s events k f) (b : OfSlave s events k g) → a.number < b.number → Before f.sending g.sending
+less_apart s events k f g line a b less =
+    subst (λ o. Apart k o (Some g)) a.there (subst (λ o. Apart k ((world_after s events).frame a.number) o) b.there (line.apart a.number b.number less)) a.link_is a.by_is b.link_is b.by_is
+
+-- they are one
+pub departs_once : EndsAreSet → (s : Setting) (events : List Happened) (k : ℕ) (link : LinkCfg) (f g : FrameAt) → IsRun s events → link_of s k ≡ Some link → OfSlave s events k f → OfSlave s events k g → IsRequest f.sending.message.body → f.sending ≡ g.sending → f ≡ g
+departs_once ends s events k link f g run is a b request same =
+    let line : InLineAt (world_after s events) k = in_line ends s events k link run is in
     let other : IsRequest g.sending.message.body = subst (λ (x : Sending). IsRequest x.message.body) same request in
-    elim (three_ways i j) [
-      | inl less ↦
-          absurd (not_less f.sending.moment g.sending.moment
-          (subst (λ o. Apart k o (Some g)) at_i (subst (λ o. Apart k (w.frame i) o) at_j (line.apart i j less)) fl fb gl gb request other) (ap (λ (x : Sending). x.moment) same))
+    elim (three_ways a.number b.number) [
+      | inl less ↦ absurd (not_less f.sending.moment g.sending.moment (less_apart s events k f g line a b less request other) (ap (λ (x : Sending). x.moment) same))
       | inr more ↦ elim more [
-        | inl one ↦ some_is f g (sym at_i ∙ ap w.frame one ∙ at_j)
-        | inr greater ↦
-            absurd (not_less g.sending.moment f.sending.moment
-            (subst (λ o. Apart k o (Some f)) at_j (subst (λ o. Apart k (w.frame j) o) at_i (line.apart j i greater)) gl gb fl fb other request) (ap (λ (x : Sending). x.moment) (sym same)))
+        | inl one ↦ some_is f g (sym a.there ∙ ap (world_after s events).frame one ∙ b.there)
+        | inr greater ↦ absurd (not_less g.sending.moment f.sending.moment (less_apart s events k g f line b a greater other request) (ap (λ (x : Sending). x.moment) (sym same)))
       ]
     ]

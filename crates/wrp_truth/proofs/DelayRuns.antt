@@ -90,17 +90,33 @@ kept_still c h before told none =
 
 -- An event that is no tick of the slave's node
 
-message_fits : (c : Given) (h : Happened) (before : List Happened) (number : ℕ) (f : FrameAt) (end : End) (body : Body) → Inside c before → Inside c (h ∷ before) → h.event ≡ Deliver number → (world_after c.s before).frame number ≡ Some f →
-    end_at c.s f.link (other_of f.by) ≡ Some end → c.link.lower ≡ end.node → c.link.lower_port ≡ end.port → f.sending.message.body ≡ body → MessageFits (Waits c (h ∷ before)) (Pairs c) f.sending.message.head body
-message_fits c h before number f end (DelayResp receive requesting) i j event there at_end at_node at_port is = λ kept w.
+-- a frame that is handed to the slave
+record ToSlave (c : Given) (h : Happened) (before : List Happened) (f : FrameAt) : Type 0 where
+  number : ℕ
+  end : End
+  event : h.event ≡ Deliver number
+  there : (world_after c.s before).frame number ≡ Some f
+  at_end : end_at c.s f.link (other_of f.by) ≡ Some end
+  at_node : c.link.lower ≡ end.node
+  at_port : c.link.lower_port ≡ end.port
+
+of_master : (c : Given) (h : Happened) (before : List Happened) (f : FrameAt) → ToSlave c h before f → (f.link ≡ c.k) × (f.by ≡ Master)
+of_master c h before f it =
     let same : (f.link ≡ c.k) × (other_of f.by ≡ Slave) =
-    are_apart c.s c.run.network f.link c.k (other_of f.by) Slave end at_end (end_is c.s c.k Slave c.link c.is ∙ ap Some (end_alike (end_of Slave c.link) end at_node at_port)) in
-    pair_true c before h number f receive requesting w.0 kept i j (record { event = event; there = there; link_is = same.0; by_is = master_of f.by same.1; body = is }) w.1 (sym w.2) w.3
-message_fits c h before number f end (Sync origin) i j event there at_end at_node at_port is = tt
-message_fits c h before number f end (DelayReq origin) i j event there at_end at_node at_port is = tt
-message_fits c h before number f end (FollowUp precise) i j event there at_end at_node at_port is = tt
-message_fits c h before number f end (Announce origin utc p1 quality p2 gm steps source suffix) i j event there at_end at_node at_port is = tt
-message_fits c h before number f end (Signal target message) i j event there at_end at_node at_port is = tt
+    are_apart c.s c.run.network f.link c.k (other_of f.by) Slave it.end it.at_end (end_is c.s c.k Slave c.link c.is ∙ ap Some (end_alike (end_of Slave c.link) it.end it.at_node it.at_port)) in
+    (same.0, master_of f.by same.1)
+
+message_fits : (c : Given) (h : Happened) (before : List Happened) (f : FrameAt) (body : Body) → Inside c before → Inside c (h ∷ before) → ToSlave c h before f → f.sending.message.body ≡ body →
+    MessageFits (Waits c (h ∷ before)) (Pairs c) f.sending.message.head body
+message_fits c h before f (DelayResp receive requesting) i j it is = λ kept w.
+    let same : (f.link ≡ c.k) × (f.by ≡ Master) = of_master c h before f it in
+    pair_true c before h w.0 kept i j
+    (record { number = it.number; frame = f; receive = receive; requesting = requesting; event = it.event; there = it.there; link_is = same.0; by_is = same.1; body = is; newest = w.1; seq = sym w.2 }) w.3
+message_fits c h before f (Sync origin) i j it is = tt
+message_fits c h before f (DelayReq origin) i j it is = tt
+message_fits c h before f (FollowUp precise) i j it is = tt
+message_fits c h before f (Announce origin utc p1 quality p2 gm steps source suffix) i j it is = tt
+message_fits c h before f (Signal target message) i j it is = tt
 
 brought : (c : Given) (says : Result PtpMsg FrameFault) (y : ℤ) (e : Event) (before : List Happened) → Inside c before → Inside c (record { event = e; says = says; answer = y } ∷ before) → IsNoTickOf c.link.lower e →
     Keeps c (record { event = e; says = says; answer = y } ∷ before) (told_at c before) → Brings (Keeps c (record { event = e; says = says; answer = y } ∷ before)) c.s (world_after c.s before) says c.link.lower c.link.lower_port e
@@ -111,15 +127,20 @@ brought c says y (Sample m base bits) before i j none h = λ is.
     out_told (Keeps c events) (news_asked (Waits c events) (Pairs c) (set_below c)) (sample_asked (Waits c events) (Pairs c) (set_below c))
     (answer_of (fixed_of c.s c.link.lower) (Some (CallSample ((w.clock c.link.lower).samples + 1) base bits)) (w.node c.link.lower).calls) ((w.clock c.link.lower).samples + 1) (told_at c before) h
 brought c says y (Depart m q stamp) before i j none h = λ at_node at_port z rest delay queue request.
-    let events : List Happened = record { event = Depart m q stamp; says = says; answer = y } ∷ before in
+    let x : Happened = record { event = Depart m q stamp; says = says; answer = y } in
     let w : WorldAt = world_after c.s before in
-    told_asked (Waits c events) (Pairs c) (set_below c) (told_at c before) z.message.head.seq (w.node c.link.lower).ticks delay (record { value = stamp; sample = (w.clock m).samples })
-    (λ d u latched waits. (waits.0, waits.1, waits.2, departs c says y before m q stamp waits.0 z rest u i j at_node at_port queue (request d) waits.1 (sym waits.2) latched)) h
+    told_asked (Waits c (x ∷ before)) (Pairs c) (set_below c) (told_at c before) z.message.head.seq (w.node c.link.lower).ticks delay (record { value = stamp; sample = (w.clock m).samples })
+    (λ d u latched waits. (
+      waits.0,
+      waits.1,
+      waits.2,
+      departs c x before stamp waits.0 z u i j (record { node = m; port = q; event = refl; at_node = at_node; at_port = at_port; rest = rest; queue = queue; request = request d; latched = latched }) waits.1 (sym waits.2),
+    )) h
 brought c says y (Deliver number) before i j none h = λ f a end there arrived at_end at_node at_port hears.
     let x : Happened = record { event = Deliver number; says = says; answer = y } in
     let w : WorldAt = world_after c.s before in
     message_asked (Waits c (x ∷ before)) (Pairs c) (set_below c) (told_at c before) f.sending.message (stamp_of (fixed_of c.s c.link.lower) (w.node c.link.lower) c.link.lower_port a.raw a.sample) (w.node c.link.lower).ticks
-    (message_fits c x before number f end f.sending.message.body i j refl there at_end at_node at_port refl) h
+    (message_fits c x before f f.sending.message.body i j (record { number = number; end = end; event = refl; there = there; at_end = at_end; at_node = at_node; at_port = at_port }) refl) h
 brought c says y (Noise m q octets raw) before i j none h = λ x at_node at_port is hears.
     let w : WorldAt = world_after c.s before in
     absurd (noise_unheard c.s says w m q octets raw (w.node c.link.lower) x (run_at c (record { event = Noise m q octets raw; says = says; answer = y } ∷ before) j).accepted.0 is
