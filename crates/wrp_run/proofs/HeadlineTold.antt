@@ -1,22 +1,23 @@
 -- What an audit wrote is the first of the lines of the nodes' steps, and of what stands behind them.
-use Rattle.std.proofs.Common.{◌≡◌, ◌⊎◌, inl, inr, ◌∙◌, refl, ap, sym, subst, ℕ, ◌+◌, Option, None, Some, IfSome, List, [], ◌∷◌, ◌++◌, append-nil, append_assoc, length, take_all, arith}
+use Rattle.std.proofs.Common.{◌≡◌, ◌⊎◌, inl, inr, ◌∙◌, refl, ap, sym, subst, ℕ, ◌+◌, Option, None, Some, IfSome, List, [], ◌∷◌, ◌++◌, append-nil, append_assoc, length}
 use Rattle.std.specs.List.{concat}
-use Rattle.std.specs.Io.KnownBytes.{Appends, Consumes}
+use Rattle.std.specs.Io.KnownBytes.{Appends}
 use Rattle.wrp_world.specs.Setting.{Setting}
 use Rattle.wrp_run.specs.declared.machine.Refusal.{Refusal}
 use Rattle.wrp_run.specs.declared.machine.Refusal.TheVariants as refusals
 use Rattle.wrp_run.specs.declared.status.Status.{Status}
-use Rattle.wrp_run.specs.declared.status.Status.TheVariants.{Done, Usage, BadNetwork, BadTrace, Broken, ReadFault, WriteFault, LinkFault, TooLarge, OutOfMemory}
-use Rattle.wrp_run.specs.Answer.{Answer, AsksNone, CutAnswer, CutTask, FirstAnswer, IsCommand, PartAnswer, TaskAnswer}
+use Rattle.wrp_run.specs.declared.status.Status.TheVariants.{Done, BadTrace, Broken, TooLarge}
+use Rattle.wrp_run.specs.Answer.{AsksNone, CutTask, TaskAnswer}
 use Rattle.wrp_run.specs.Audits.{audit_of}
 use Rattle.wrp_run.specs.AuditText.{audit_lines}
-use Rattle.wrp_run.specs.Ends.{Answered, Ends, Run}
-use Rattle.wrp_run.specs.Headline.{EventsCarryParts, Headline, PrintsTheSteps, ReachesNone, StepsOf}
+use Rattle.wrp_run.specs.Ends.{Ends, Run}
+use Rattle.wrp_run.specs.Headline.{EventsCarryParts, Headline, ReachesNone, StepsOf}
 use Rattle.wrp_run.specs.Input.{Divides, behind_separator, network_text}
 use Rattle.wrp_run.specs.Lines.{lines_of}
 use Rattle.wrp_run.specs.RecordsAnswer.{AreFirst, IsLarge, IsRefused, IsWholly, RecordsAnswer, StandsFirst}
 use Rattle.wrp_run.specs.Stream.{CutHandled, large_line}
 use Rattle.wrp_run.specs.Tasks.{Task, Replay, Audit, Emit, Simulate, AsksFor, IsAuditing, meaning_at}
+use Rattle.wrp_run.proofs.DueTold.{IsDueSo, Prints, prints, prints_nothing}
 use Rattle.wrp_run.proofs.Reaching.{lines_behind}
 use Rattle.wrp_run.proofs.WordLemmas.{audit_alone, no_option, no_simulation}
 
@@ -103,38 +104,8 @@ task_due words input status octets audits h =
 asks_node : (words : List (List ℕ)) (text : List ℕ) → IsAuditing words → AsksNone words text → ⊥
 asks_node words text audits none = elim none.words_are [ inl replay ↦ audit_alone words none.name audits replay | inr emission ↦ no_option words none.name audits emission ]
 
-no_usage : (words : List (List ℕ)) (text : List ℕ) → IsAuditing words → ((IsCommand words → ⊥) ⊎ AsksNone words text) → ⊥
-no_usage words text audits (inl none) = none (inl audits)
-no_usage words text audits (inr none) = asks_node words text audits none
+-- Where the source failed
 
-answer_due : (words : List (List ℕ)) (input : List ℕ) (status : Status) (octets : List ℕ) → IsAuditing words → Answer words input status octets → IsDue words input octets
-answer_due words input Usage octets audits h = absurd (no_usage words (network_text input) audits h.0)
-answer_due words input BadNetwork octets audits h = inl (inr (inr (h.1, h.2)))
-answer_due words input TooLarge octets audits h = elim h [
-  | inl long ↦ inl (inr (inl (long.1, long.2)))
-  | inr task ↦ task_due words input TooLarge octets audits task
-]
-answer_due words input status octets audits h = task_due words input status octets audits h
-
-first_due : (words : List (List ℕ)) (input octets : List ℕ) → IsAuditing words → FirstAnswer words input octets → IsDue words input octets
-first_due words input octets audits (inl none) = inl (inl none)
-first_due words input octets audits (inr h) =
-    inr (only_audit words (network_text input) (λ task. StandsFirst (meaning_at task) (behind_separator (lines_of input)) octets) (StepsOf words input octets) audits
-    (λ s asks due. stand_first words input octets s asks due) h.0 h.1 h.2)
-
--- all of a text
-whole : (words : List (List ℕ)) (input octets : List ℕ) → IsDue words input octets → PrintsTheSteps words input octets
-whole words input octets due = (octets, length octets, sym (take_all (length octets) octets (omega arith)), due)
-
-part : (words : List (List ℕ)) (input octets : List ℕ) → IsAuditing words → PartAnswer words input octets → PrintsTheSteps words input octets
-part words input octets audits h = (
-  h.0,
-  h.1,
-  h.2,
-  elim h.3 [ inl answer ↦ answer_due words input answer.0 h.0 audits answer.1 | inr first ↦ first_due words input h.0 audits first ],
-)
-
--- where the source failed
 cut_due : (words : List (List ℕ)) (input taken left octets : List ℕ) (s : Setting) (front back text : List ℕ) → input ≡ taken ++ left → taken ≡ front ++ back → Divides front text →
     AsksFor words text (Audit s) → CutHandled (audit_of s).accepts back octets → StepsOf words input octets
 cut_due words input taken left octets s front back text all goes divides asks cut =
@@ -162,46 +133,21 @@ task_cut words input taken left octets audits all h =
     only_audit words h.text (λ task. CutHandled (meaning_at task).accepts h.back octets) (StepsOf words input octets) audits
     (λ s asks cut. cut_due words input taken left octets s h.front h.back h.text all h.all h.divides asks cut) h.task h.asks h.handled
 
-cut_answer : (words : List (List ℕ)) (input taken left octets : List ℕ) → IsAuditing words → input ≡ taken ++ left → CutAnswer words taken octets → IsDue words input octets
-cut_answer words input taken left octets audits all h = elim h.1 [
-  | inl none ↦ inl (inl none.1)
-  | inr cut ↦ inr (task_cut words input taken left octets audits all cut)
-]
-
-consumed : (words : List (List ℕ)) (input taken octets : List ℕ) (left : Option (List ℕ)) → IsAuditing words → Consumes (Some input) left taken → CutAnswer words taken octets → IsDue words input octets
-consumed words input taken octets None audits took h = absurd took
-consumed words input taken octets (Some left) audits took h = cut_answer words input taken left octets audits took h
-
 -- A run
 
--- what is known of a run of these words and this input, which wrote some octets
-abbrev Prints : Option (List ℕ) → Option (List ℕ) → List (List ℕ) → List ℕ → Type 0
-Prints held now words input = (octets : List ℕ) × Appends held now octets × PrintsTheSteps words input octets
+audit_so : (words : List (List ℕ)) → IsAuditing words → IsDueSo words (IsDue words)
+audit_so words audits = record {
+  command = inl audits;
+  no_node = λ text none. asks_node words text audits none;
+  none = λ input octets none. inl none;
+  task = λ input status octets answer. task_due words input status octets audits answer;
+  first = λ input octets task asks first.
+      inr (only_audit words (network_text input) (λ t. StandsFirst (meaning_at t) (behind_separator (lines_of input)) octets) (StepsOf words input octets) audits
+      (λ s a due. stand_first words input octets s a due) task asks first);
+  cut = λ input taken left octets all cut. inr (task_cut words input taken left octets audits all cut);
+}
 
-answered : (run : Run) (input : List ℕ) (status : Status) → IsAuditing run.words → run.input ≡ Some input → Answered run status → Prints run.held run.now run.words input
-answered run input status audits is h =
-    let answer : Answer run.words input status h.1 = subst (λ (o : Option (List ℕ)). IfSome o (λ (i : List ℕ). Answer run.words i status h.1)) is h.3 in
-    (h.1, h.2, whole run.words input h.1 (answer_due run.words input status h.1 audits answer))
-
-prints : (run : Run) (input : List ℕ) (status : Status) → IsAuditing run.words → run.input ≡ Some input → Ends run status → Prints run.held run.now run.words input
-prints run input Done audits is h = answered run input Done audits is h.0
-prints run input BadNetwork audits is h = answered run input BadNetwork audits is h
-prints run input TooLarge audits is h = answered run input TooLarge audits is h
-prints run input BadTrace audits is h = answered run input BadTrace audits is h.0
-prints run input Broken audits is h = answered run input Broken audits is h.0
-prints run input Usage audits is h = absurd (elim h.1 [
-  | inl none ↦ none (inl audits)
-  | inr node ↦ asks_node run.words (network_text input) audits (subst (λ (o : Option (List ℕ)). IfSome o (λ (i : List ℕ). AsksNone run.words (network_text i))) is node.1)
-])
-prints run input ReadFault audits is h =
-    (h.2, h.4, whole run.words input h.2 (consumed run.words input h.1 h.2 run.left audits (subst (λ (o : Option (List ℕ)). Consumes o run.left h.1) is h.3) h.5))
-prints run input WriteFault audits is h =
-    (h.1, h.2, part run.words input h.1 audits (subst (λ (o : Option (List ℕ)). IfSome o (λ (i : List ℕ). PartAnswer run.words i h.1)) is h.3))
-prints run input OutOfMemory audits is h =
-    (h.0, h.1, whole run.words input h.0 (first_due run.words input h.0 audits (subst (λ (o : Option (List ℕ)). IfSome o (λ (i : List ℕ). FirstAnswer run.words i h.0)) is h.2)))
-prints run input LinkFault audits is h = absurd h
-
-headline_of : EventsCarryParts → (words : List (List ℕ)) (input : List ℕ) (held now : Option (List ℕ)) → Prints held now words input → (octets : List ℕ) × Appends held now octets × Headline words input octets
+headline_of : EventsCarryParts → (words : List (List ℕ)) (input : List ℕ) (held now : Option (List ℕ)) → Prints (IsDue words) held now input → (octets : List ℕ) × Appends held now octets × Headline words input octets
 headline_of parts words input held now h = (h.0, h.1, record { prints = h.2; carries = λ s events came. parts words input s events came })
 
 pub headline_told : EventsCarryParts → (run : Run) (status : Status) → Ends run status → IsAuditing run.words →
@@ -210,10 +156,10 @@ headline_told parts run status ends audits = go run.input refl
   where
     go : (o : Option (List ℕ)) → run.input ≡ o → IfSome o (λ input. (octets : List ℕ) × Appends run.held run.now octets × Headline run.words input octets)
     go None is = tt
-    go (Some input) is = headline_of parts run.words input run.held run.now (prints run input status audits is ends)
+    go (Some input) is = headline_of parts run.words input run.held run.now (prints run input status (IsDue run.words) (audit_so run.words audits) is ends)
 
 -- where nothing was read and nothing written
-pub nothing_told : EventsCarryParts → (words : List (List ℕ)) (input held : Option (List ℕ)) → Appends held held [] →
+pub nothing_told : EventsCarryParts → (words : List (List ℕ)) (input held : Option (List ℕ)) → IsAuditing words → Appends held held [] →
     IfSome input (λ i. (octets : List ℕ) × Appends held held octets × Headline words i octets)
-nothing_told parts words None held same = tt
-nothing_told parts words (Some i) held same = headline_of parts words i held held ([], same, whole words i [] (inl (inl refl)))
+nothing_told parts words None held audits same = tt
+nothing_told parts words (Some i) held audits same = headline_of parts words i held held (prints_nothing words held i (IsDue words) (audit_so words audits) same)

@@ -31,13 +31,13 @@ table_found db name kappa err table (Some f) sound fibre is =
     subst (λ (k : ℤ). IsSoundTable k table) (ap (λ (g : Fibre). g.kappa) same) fits
 
 -- the link above a node is in the network
-above_is : (cfg : NetCfg) (n : ℕ) (link : LinkCfg) → link_above cfg n ≡ Some link → (l : ℕ) × IsLink cfg l link
+pub above_is : (cfg : NetCfg) (n : ℕ) (link : LinkCfg) → link_above cfg n ≡ Some link → (l : ℕ) × IsLink cfg l link
 above_is cfg n link is = found_at (λ (l : LinkCfg). l.lower == n) cfg.links.items link is
 
-kappa_fits : (cfg : NetCfg) (db : Database) (n : ℕ) (link : LinkCfg) → IsAccepted cfg db → link_above cfg n ≡ Some link → unsigned_abs link.kappa ≤ 2 ^ 38
+pub kappa_fits : (cfg : NetCfg) (db : Database) (n : ℕ) (link : LinkCfg) → IsAccepted cfg db → link_above cfg n ≡ Some link → unsigned_abs link.kappa ≤ 2 ^ 38
 kappa_fits cfg db n link accepted is = let at = above_is cfg n link is in (accepted.ranges.links at.0 link at.1).kappa
 
-table_fits : (cfg : NetCfg) (db : Database) (n : ℕ) (link : LinkCfg) (table : TableAt) → IsAccepted cfg db → link_above cfg n ≡ Some link → table_at db link.fibre.bytes ≡ Some table
+pub table_fits : (cfg : NetCfg) (db : Database) (n : ℕ) (link : LinkCfg) (table : TableAt) → IsAccepted cfg db → link_above cfg n ≡ Some link → table_at db link.fibre.bytes ≡ Some table
     → IsSoundTable link.kappa table
 table_fits cfg db n link table accepted is has =
     let at = above_is cfg n link is in

@@ -1,9 +1,10 @@
 -- The aim of the project, part by part, of what an audit wrote, whatever its status: it printed exactly the nodes' steps
 -- (`PrintsTheSteps`); no port was in WR_LINK_ON unless its peer had passed the required steps of that same handshake
--- (`LinkOnIsEarned`); and a malformed or foreign frame changed only a counter (`DropsOnlyCount`). This project's profile.
-use Rattle.std.specs.Prelude.{◌≡◌, ◌⊎◌, ℕ, ◌+◌, ◌<◌, ◌≤◌, ◌==◌, ◌&&◌, not, Bool, true, Some, List, [], ◌∷◌, ◌++◌, length, map, take, codes}
+-- (`LinkOnIsEarned`); every track line's true offset is at most its printed bound (`TracksAreWithin`, in TrackLines.antt); and
+-- a malformed or foreign frame changed only a counter (`DropsOnlyCount`). This project's profile.
+use Rattle.std.specs.Prelude.{◌≡◌, ◌⊎◌, ℕ, ◌+◌, ◌<◌, ◌≤◌, Some, List, [], ◌∷◌, ◌++◌, length, map, take, codes}
 use Rattle.std.specs.Fmt.{decimal}
-use Rattle.std.specs.List.{AllByRecursion, list_all}
+use Rattle.std.specs.List.{AllByRecursion}
 use Rattle.wrp_lines.specs.Lines.{line_of}
 use Rattle.wrp_lines.specs.Words.{name_at}
 use Rattle.wrp_node.specs.declared.interface.Input.{Input}
@@ -19,12 +20,14 @@ use Rattle.wrp_run.specs.declared.machine.Refusal.{Refusal}
 use Rattle.wrp_run.specs.Audited.{IsAudit}
 use Rattle.wrp_run.specs.Audits.{AuditCloses, AuditRefuses}
 use Rattle.wrp_run.specs.AuditText.{audit_lines, event_lines}
+use Rattle.wrp_run.specs.EventLines.{AtEachEvent, IsWord, Writing}
 use Rattle.wrp_run.specs.Input.{network_text, behind_separator, network_limit}
 use Rattle.wrp_run.specs.Lines.{lines_of, content_of}
 use Rattle.wrp_run.specs.Refusals.{too_large_line}
 use Rattle.wrp_run.specs.Replays.{IsRefusedBy}
 use Rattle.wrp_run.specs.Stream.{large_line}
 use Rattle.wrp_run.specs.Tasks.{Audit, AsksFor}
+use Rattle.wrp_run.specs.TrackLines.{TracksAreWithin}
 
 -- Which events came
 
@@ -36,11 +39,6 @@ pub record Came (words : List (List ℕ)) (input : List ℕ) (s : Setting) (even
   pub behind : List (List ℕ)
   pub divided : behind_separator (lines_of input) ≡ front ++ behind
   pub audit : IsAudit s (map content_of front) events
-
--- something holds of each event, with those before it
-abbrev pub AtEachEvent : (List Happened → Happened → Type 0) → List Happened → Type 0
-AtEachEvent P [] = Unit {0}
-AtEachEvent P (h ∷ before) = P before h × AtEachEvent P before
 
 -- The first part
 
@@ -78,13 +76,6 @@ PrintsTheSteps words input octets =
 
 -- The second part
 
--- an octet of a word: no space and no LF
-abbrev pub is_word_octet : ℕ → Bool
-is_word_octet c = not (c == 32) && not (c == 10)
-
-abbrev pub IsWord : List ℕ → Type 0
-IsWord octets = list_all is_word_octet octets ≡ true
-
 -- a line that is written of an event which left this world: where it says NODE TICK link PORT link-on, a node of that name has a
 -- port of that number, which is in WR_LINK_ON and has earned it
 abbrev pub IsEarnedLine : Setting → WorldAt → List ℕ → Type 0
@@ -95,46 +86,49 @@ IsEarnedLine s w line =
 
 -- after an event each port in WR_LINK_ON has earned it, and so has each of which a line that is written of the event says
 -- link-on, and it is there
-pub record IsEarnedAt (s : Setting) (before : List Happened) (h : Happened) : Type 0 where
+pub record IsEarnedAt (write : Writing) (s : Setting) (before : List Happened) (h : Happened) : Type 0 where
   pub ports : AllHaveEarned s (world_after s (h ∷ before))
-  pub lines : AllByRecursion (IsEarnedLine s (world_after s (h ∷ before))) (lines_of (event_lines s before h))
+  pub lines : AllByRecursion (IsEarnedLine s (world_after s (h ∷ before))) (lines_of (write s before h))
 
-abbrev pub LinkOnIsEarned : Setting → List Happened → Type 0
-LinkOnIsEarned s events = AtEachEvent (IsEarnedAt s) events
+abbrev pub LinkOnIsEarned : Writing → Setting → List Happened → Type 0
+LinkOnIsEarned write s events = AtEachEvent (IsEarnedAt write s) events
 
 -- The fourth part
 
 -- no line is written of the event, nothing is put out in it, and one counter is all that it changes
-pub record OnlyCounts (s : Setting) (before : List Happened) (h : Happened) (n p reason : ℕ) : Type 0 where
-  pub unwritten : event_lines s before h ≡ []
+pub record OnlyCounts (write : Writing) (s : Setting) (before : List Happened) (h : Happened) (n p reason : ℕ) : Type 0 where
+  pub unwritten : write s before h ≡ []
   pub leaves : LeavesACount s before h n p reason
 
 -- an input that is a frame which the node drops for one of the reasons 1 to 12
-abbrev pub OnlyCountsIf : Setting → List Happened → Happened → Given → Input → Type 0
-OnlyCountsIf s before h g (Frame p octets raw sample) =
+abbrev pub OnlyCountsIf : Writing → Setting → List Happened → Happened → Given → Input → Type 0
+OnlyCountsIf write s before h g (Frame p octets raw sample) =
     (reason : ℕ) → reason_of (fixed_of s g.to) ((world_after s before).node g.to) p g.says ≡ Some reason →
-    OnlyCounts s before h g.to p reason
-OnlyCountsIf s before h g _ = Unit {0}
+    OnlyCounts write s before h g.to p reason
+OnlyCountsIf write s before h g _ = Unit {0}
 
 -- so it is with each input that an event gives a node
-abbrev pub DropsCountAt : Setting → List Happened → Happened → Type 0
-DropsCountAt s before h = AllByRecursion (λ (g : Given). OnlyCountsIf s before h g g.input) (given_at s before h)
+abbrev pub DropsCountAt : Writing → Setting → List Happened → Happened → Type 0
+DropsCountAt write s before h = AllByRecursion (λ (g : Given). OnlyCountsIf write s before h g g.input) (given_at s before h)
 
-abbrev pub DropsOnlyCount : Setting → List Happened → Type 0
-DropsOnlyCount s events = AtEachEvent (DropsCountAt s) events
+abbrev pub DropsOnlyCount : Writing → Setting → List Happened → Type 0
+DropsOnlyCount write s events = AtEachEvent (DropsCountAt write s) events
 
 -- All parts
 
--- whatever events came
-pub record CarriesParts (s : Setting) (events : List Happened) : Type 0 where
-  pub link_on : LinkOnIsEarned s events
-  pub drops : DropsOnlyCount s events
+-- of these events, and of what is written of them
+pub record CarriesParts (write : Writing) (s : Setting) (events : List Happened) : Type 0 where
+  pub link_on : LinkOnIsEarned write s events
+  pub tracks : TracksAreWithin write s events
+  pub drops : DropsOnlyCount write s events
 
+-- whatever events came
 abbrev pub EventsCarryParts : Type 0
 EventsCarryParts =
-    (words : List (List ℕ)) (input : List ℕ) (s : Setting) (events : List Happened) → Came words input s events → CarriesParts s events
+    (words : List (List ℕ)) (input : List ℕ) (s : Setting) (events : List Happened) → Came words input s events →
+    CarriesParts event_lines s events
 
 -- of an audit that wrote these octets
 pub record Headline (words : List (List ℕ)) (input octets : List ℕ) : Type 0 where
   pub prints : PrintsTheSteps words input octets
-  pub carries : (s : Setting) (events : List Happened) → Came words input s events → CarriesParts s events
+  pub carries : (s : Setting) (events : List Happened) → Came words input s events → CarriesParts event_lines s events

@@ -11,6 +11,7 @@ pub mod CommandLine
 pub mod DownLaw
 pub mod Ends
 pub mod Engine
+pub mod EventLines
 pub mod Fields
 pub mod Headline
 pub mod Input
@@ -25,6 +26,7 @@ pub mod Reader
 pub mod RecordsAnswer
 pub mod Refusals
 pub mod Replays
+pub mod SimHeadline
 pub mod SimStands
 pub mod SimText
 pub mod Simulates
@@ -34,4 +36,5 @@ pub mod Statuses
 pub mod Stream
 pub mod Taking
 pub mod Tasks
+pub mod TrackLines
 pub mod Words

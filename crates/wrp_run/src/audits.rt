@@ -1,12 +1,15 @@
-//! Laws of audits: functions that do nothing, whose contracts are the laws.
+//! Laws of audits and simulations: functions that do nothing, whose contracts are the laws.
 ghost use Rattle.wrp_run.specs.AnswerLaws.{OneAnswer};
 ghost use Rattle.wrp_run.specs.AuditLaws.{AuditsBegin, OneAudit};
 ghost use Rattle.wrp_run.specs.Headline.{EventsCarryParts};
+ghost use Rattle.wrp_run.specs.SimHeadline.{MadeEventsCarryParts};
 
 use wrp_config::reading_is_accepted;
 use wrp_node::one_run;
 use wrp_servo::told_last;
+use wrp_sim::simulator_keeps_the_bounds;
 use wrp_trace::events_can_come;
+use wrp_truth::{offsets_keep_bounds, reports_are_within};
 use wrp_world::{dropped_frames_leave_a_count, reported_link_on_is_earned};
 
 /// Before any record an audit has written nothing.
@@ -32,13 +35,29 @@ pub fn one_answer()
 }
 
 /// In each event that the first records of an audit say, each port in WR_LINK_ON has earned it, and so has
-/// each that is reported to be; and a frame that is dropped as no message, or as a foreign one, changes a
-/// counter alone, and nothing is written of it.
+/// each that is reported to be; each node is within its bound of true time in TRACK and in HOLDOVER, and each
+/// track line is true; and a frame that is dropped as no message, or as a foreign one, changes a counter
+/// alone, and nothing is written of it.
 pub fn events_carry_parts()
     ensures { EventsCarryParts }
 {
     reading_is_accepted();
     events_can_come();
     reported_link_on_is_earned();
+    offsets_keep_bounds();
+    reports_are_within();
+    dropped_frames_leave_a_count();
+}
+
+/// So it is in each event that a simulation makes, whatever its scenario and its seed: none can break a
+/// premise.
+pub fn made_events_carry_parts()
+    ensures { MadeEventsCarryParts }
+{
+    reading_is_accepted();
+    simulator_keeps_the_bounds();
+    reported_link_on_is_earned();
+    offsets_keep_bounds();
+    reports_are_within();
     dropped_frames_leave_a_count();
 }

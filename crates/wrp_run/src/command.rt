@@ -7,12 +7,13 @@ ghost use Rattle.wrp_run.specs.Answer.{Answer, IsCommand};
 ghost use Rattle.wrp_run.specs.Asked.{AsksSo};
 ghost use Rattle.wrp_run.specs.Ends.{Ends};
 ghost use Rattle.wrp_run.specs.Headline.{Headline};
+ghost use Rattle.wrp_run.specs.SimHeadline.{SimHeadline};
 ghost use Rattle.wrp_run.specs.Statuses.{is_answer};
-ghost use Rattle.wrp_run.specs.Tasks.{IsAuditing};
+ghost use Rattle.wrp_run.specs.Tasks.{IsAuditing, IsSimulation};
 ghost use Rattle.wrp_run.specs.Words.{texts_of};
 
 use crate::answering::answer;
-use crate::audits::{events_carry_parts, one_audit};
+use crate::audits::{events_carry_parts, made_events_carry_parts, one_audit};
 use crate::parse::{Command, read_words};
 use crate::refusals::USAGE_LINE;
 use crate::replaying::replay_named;
@@ -91,6 +92,11 @@ pub fn run<S: Source, K: Sink, N: Link>(
         (octets : List ℕ) × Appends (K.held sink.old) (K.held sink.new) octets
         × Headline (texts_of words.now) input octets) }
 
+    // The same of a simulation.
+    ensures simulated { (seed : ℕ) → IsSimulation (texts_of words.now) seed → IfSome (S.left source.old) (λ input.
+        (octets : List ℕ) × Appends (K.held sink.old) (K.held sink.new) octets
+        × SimHeadline (texts_of words.now) input octets) }
+
     // Words that are no command are refused with nothing read, and no link is used.
     ensures unread { (IsCommand (texts_of words.now) → ⊥) → source.new ≡ source.old }
     ensures link { link.new ≡ link.old }
@@ -98,6 +104,7 @@ pub fn run<S: Source, K: Sink, N: Link>(
     one_run();
     one_audit();
     events_carry_parts();
+    made_events_carry_parts();
     told_last();
     match read_request(alloc, words) {
         Ok(Request::Replay(name)) => replay_named(alloc, words, name, source, sink),

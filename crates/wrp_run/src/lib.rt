@@ -32,6 +32,8 @@ mod totals;
 mod worlds;
 mod writing;
 
-pub use audits::{audits_begin, events_carry_parts, one_answer, one_audit};
+pub use audits::{
+    audits_begin, events_carry_parts, made_events_carry_parts, one_answer, one_audit,
+};
 pub use command::run;
 pub use status::Status;

@@ -1,6 +1,7 @@
 -- What a run answers is what is due.
-use Rattle.std.proofs.Common.{ℕ, List, inl, inr, subst}
+use Rattle.std.proofs.Common.{inl, inr, subst, arith}
 use Rattle.std.proofs.KnownBytes.{Appends-nil}
+use Rattle.wrp_run.specs.declared.command_line.Form.TheVariants as forms
 use Rattle.wrp_run.specs.Asked.{AsksSo}
 use Rattle.wrp_run.specs.Ends.{Run}
 use Rattle.wrp_run.specs.Words.{texts_of}
@@ -8,7 +9,8 @@ use Rattle.wrp_run.proofs.Asking.{usage_ends}
 use Rattle.wrp_run.proofs.HeadlineTold.{headline_told, nothing_told}
 use Rattle.wrp_run.proofs.AskingAudit.{work_command}
 use Rattle.wrp_run.proofs.OneAnswer.{told_one, ends_answered}
-use Rattle.wrp_run.proofs.WordLemmas.{audit_alone}
+use Rattle.wrp_run.proofs.SimTold.{nothing_made, simulation_told}
+use Rattle.wrp_run.proofs.WordLemmas.{audit_alone, simulation_alone}
 use Rattle.wrp_run.proofs.command.run.Goals as goal
 
 pub returns-in-Ok-Replay-clause-due : goal.returns-in-Ok-Replay-clause-due
@@ -164,4 +166,33 @@ returns-in-Ok-Nothing-clause-headline g c = λ audits.
 
 pub returns-in-Err-clause-headline : goal.returns-in-Err-clause-headline
 returns-in-Err-clause-headline g c = λ audits.
-    nothing_told c.events_carry_parts.ensures (texts_of c.args.words.now) (g.S.Source.left c.args.source.now) (g.K.Sink.held c.args.sink.now) (Appends-nil (g.K.Sink.held c.args.sink.now))
+    nothing_told c.events_carry_parts.ensures (texts_of c.args.words.now) (g.S.Source.left c.args.source.now) (g.K.Sink.held c.args.sink.now) audits (Appends-nil (g.K.Sink.held c.args.sink.now))
+
+pub returns-in-Ok-Work-clause-simulated : goal.returns-in-Ok-Work-clause-simulated
+returns-in-Ok-Work-clause-simulated g c =
+    let run : Run = record {
+      words = texts_of c.args.words.now;
+      input = g.S.Source.left c.args.source.now;
+      left = g.S.Source.left c.run_network.new.source;
+      held = g.K.Sink.held c.args.sink.now;
+      now = g.K.Sink.held c.run_network.new.sink;
+      read_faults = g.S.Source.faults c.args.source.now;
+      read_faults_now = g.S.Source.faults c.run_network.new.source;
+      write_faults = g.K.Sink.faults c.args.sink.now;
+      write_faults_now = g.K.Sink.faults c.run_network.new.sink;
+    } in
+    λ seed simulates. simulation_told c.made_events_carry_parts.ensures run c.run_network.result seed c.run_network.ensures.ends simulates
+
+pub returns-in-Ok-Replay-clause-simulated : goal.returns-in-Ok-Replay-clause-simulated
+returns-in-Ok-Replay-clause-simulated g c = λ seed simulates.
+    let has = subst (AsksSo (texts_of c.args.words.now)) c.in-Ok-Replay.field-0-is c.in-Ok-Replay.ensures in
+    absurd (simulation_alone forms.Replay (texts_of c.args.words.now) c.in-Ok-Replay.name.now seed has (λ e. omega (arith, e)) simulates)
+
+pub returns-in-Ok-Nothing-clause-simulated : goal.returns-in-Ok-Nothing-clause-simulated
+returns-in-Ok-Nothing-clause-simulated g c = λ seed simulates.
+    let none = subst (AsksSo (texts_of c.args.words.now)) c.in-Ok-Nothing.field-0-is c.in-Ok-Nothing.ensures in
+    absurd (none (inr (inr (seed, simulates))))
+
+pub returns-in-Err-clause-simulated : goal.returns-in-Err-clause-simulated
+returns-in-Err-clause-simulated g c = λ seed simulates.
+    nothing_made c.made_events_carry_parts.ensures (texts_of c.args.words.now) (g.S.Source.left c.args.source.now) (g.K.Sink.held c.args.sink.now) seed simulates (Appends-nil (g.K.Sink.held c.args.sink.now))
