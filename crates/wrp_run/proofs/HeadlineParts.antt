@@ -1,6 +1,6 @@
 -- The events that the first lines of an audit's records say are a run of their network; and each event of a run carries the
 -- parts of the aim.
-use Rattle.std.proofs.Common.{◌≡◌, refl, sym, subst, ℕ, Bool, Ok, List, [], ◌∷◌, ◌++◌, map, reverse, flat_map}
+use Rattle.std.proofs.Common.{◌≡◌, inl, inr, refl, sym, subst, ℕ, Bool, Ok, List, [], ◌∷◌, ◌++◌, map, reverse, flat_map}
 use Rattle.std.proofs.lemmas.List.{reverse-append}
 use Rattle.std.specs.List.{AllByRecursion}
 use Rattle.wrp_base.specs.declared.configuration.NetCfg.{NetCfg}
@@ -19,7 +19,7 @@ use Rattle.wrp_world.specs.Runs.{AllEvents, IsNetwork, IsRun}
 use Rattle.wrp_world.specs.Setting.{Setting}
 use Rattle.wrp_run.specs.Audited.{AreEvents, IsSettingOf}
 use Rattle.wrp_run.specs.EventLines.{AtEachEvent, Writing}
-use Rattle.wrp_run.specs.Headline.{CarriesParts, Came, DropsCountAt, IsEarnedAt, OnlyCounts, OnlyCountsIf}
+use Rattle.wrp_run.specs.Headline.{AsksOfRun, CarriesParts, Came, DropsCountAt, IsEarnedAt, OnlyCounts, OnlyCountsIf}
 use Rattle.wrp_run.specs.Input.{network_text}
 use Rattle.wrp_run.specs.TrackLines.{TracksAreWithin}
 use Rattle.wrp_run.proofs.EventLines.{all_so, lines_by, no_lines}
@@ -64,9 +64,13 @@ network_of accepted text s h =
     subst IsNetwork (sym h.is)
     (record { accepted = accepted text h.net h.reads; set = λ n. refl })
 
+pub setting_asked : (words : List (List ℕ)) (text : List ℕ) (s : Setting) → AsksOfRun words text s → IsSettingOf text s
+setting_asked words text s (inl audit) = audit.2
+setting_asked words text s (inr emission) = emission.1.3
+
 pub run_of : EventsCanCome → ReadingIsAccepted → (words : List (List ℕ)) (input : List ℕ) (s : Setting) (events : List Happened) → Came words input s events → IsRun s events
 run_of can accepted words input s events came = record {
-  network = network_of accepted (network_text input) s came.asks.2;
+  network = network_of accepted (network_text input) s (setting_asked words (network_text input) s came.asks);
   each = all_events s.cfg events (events_said (IsEventOf s.cfg) s (can s.cfg) _ events came.audit.are);
   accepted = came.audit.run.accepted;
 }

@@ -11,7 +11,7 @@ use Rattle.wrp_run.specs.Answer.{AsksNone, CutTask, TaskAnswer}
 use Rattle.wrp_run.specs.Audits.{audit_of}
 use Rattle.wrp_run.specs.AuditText.{audit_lines}
 use Rattle.wrp_run.specs.Ends.{Ends, Run}
-use Rattle.wrp_run.specs.Headline.{EventsCarryParts, Headline, ReachesNone, StepsOf}
+use Rattle.wrp_run.specs.Headline.{CarriesAll, EventsCarryParts, Headline, ReachesNone, StepsOf}
 use Rattle.wrp_run.specs.Input.{Divides, behind_separator, network_text}
 use Rattle.wrp_run.specs.Lines.{lines_of}
 use Rattle.wrp_run.specs.RecordsAnswer.{AreFirst, IsLarge, IsRefused, IsWholly, RecordsAnswer, StandsFirst}
@@ -40,7 +40,7 @@ wholly words input octets s asks h = record {
   setting = s;
   events = h.handled.accepted.0;
   came = record {
-    asks = asks;
+    asks = inl asks;
     front = behind_separator (lines_of input);
     behind = [];
     divided = sym (append-nil (behind_separator (lines_of input)));
@@ -55,7 +55,7 @@ refused : (words : List (List ℕ)) (input octets : List ℕ) (refusal : Refusal
 refused words input octets refusal s asks h = record {
   setting = s;
   events = h.handled.accepted.0;
-  came = record { asks = asks; front = h.before; behind = h.line ∷ h.behind; divided = h.divided; audit = h.handled.accepted.1 };
+  came = record { asks = inl asks; front = h.before; behind = h.line ∷ h.behind; divided = h.divided; audit = h.handled.accepted.1 };
   last = h.last;
   ends = inr (inr (h.line, h.behind, refl, inl (refusal, h.refused)));
   is = h.is ∙ ap (λ (l : List ℕ). l ++ h.last) h.handled.accepted.2;
@@ -65,7 +65,7 @@ large : (words : List (List ℕ)) (input octets : List ℕ) (s : Setting) → As
 large words input octets s asks h = record {
   setting = s;
   events = h.handled.accepted.0;
-  came = record { asks = asks; front = h.before; behind = h.line ∷ h.behind; divided = h.divided; audit = h.handled.accepted.1 };
+  came = record { asks = inl asks; front = h.before; behind = h.line ∷ h.behind; divided = h.divided; audit = h.handled.accepted.1 };
   last = large_line (length h.before + 1);
   ends = inr (inr (h.line, h.behind, refl, inr refl));
   is = h.is ∙ ap (λ (l : List ℕ). l ++ large_line (length h.before + 1)) h.handled.accepted.2;
@@ -75,7 +75,7 @@ firsts : (words : List (List ℕ)) (input octets : List ℕ) (s : Setting) → A
 firsts words input octets s asks h = record {
   setting = s;
   events = h.handled.accepted.0;
-  came = record { asks = asks; front = h.front; behind = h.behind; divided = h.divided; audit = h.handled.accepted.1 };
+  came = record { asks = inl asks; front = h.front; behind = h.behind; divided = h.divided; audit = h.handled.accepted.1 };
   last = [];
   ends = inl refl;
   is = h.handled.accepted.2 ∙ sym (append-nil (audit_lines s h.handled.accepted.0));
@@ -117,7 +117,7 @@ cut_due words input taken left octets s front back text all goes divides asks cu
       setting = s;
       events = cut.handled.accepted.0;
       came = record {
-        asks = subst (λ (t : List ℕ). AsksFor words t (Audit s)) (sym (ap network_text is ∙ parts.0)) asks;
+        asks = inl (subst (λ (t : List ℕ). AsksFor words t (Audit s)) (sym (ap network_text is ∙ parts.0)) asks);
         front = cut.lines;
         behind = lines_of (cut.cut ++ left);
         divided = ap (λ (l : List ℕ). behind_separator (lines_of l)) is ∙ parts.1 ∙ lines_are;
@@ -163,3 +163,8 @@ pub nothing_told : EventsCarryParts → (words : List (List ℕ)) (input held : 
     IfSome input (λ i. (octets : List ℕ) × Appends held held octets × Headline words i octets)
 nothing_told parts words None held audits same = tt
 nothing_told parts words (Some i) held audits same = headline_of parts words i held held (prints_nothing words held i (IsDue words) (audit_so words audits) same)
+
+-- of the events alone, where a source tells what it has
+pub carried_told : EventsCarryParts → (words : List (List ℕ)) (input : Option (List ℕ)) → IfSome input (CarriesAll words)
+carried_told parts words None = tt
+carried_told parts words (Some i) = parts words i

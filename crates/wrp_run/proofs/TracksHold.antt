@@ -17,7 +17,7 @@ use Rattle.wrp_run.specs.Input.{network_text}
 use Rattle.wrp_run.specs.SimHeadline.{Made}
 use Rattle.wrp_run.specs.Simulates.{event_limit}
 use Rattle.wrp_run.specs.TrackLines.{IsTrueAt, TracksAreWithin}
-use Rattle.wrp_run.proofs.HeadlineParts.{before_newest, events_said, run_of, writes}
+use Rattle.wrp_run.proofs.HeadlineParts.{before_newest, events_said, run_of, setting_asked, writes}
 use Rattle.wrp_run.proofs.LawsNear.{LawsAreNear, answers_near, laws_near}
 use Rattle.wrp_run.proofs.LinesFit.{line_fits}
 use Rattle.wrp_run.proofs.MadeFit.{made_fit}
@@ -80,7 +80,7 @@ audit_runs can accepted words input s events came = record {
   run = run_of can accepted words input s events came;
   fit = all_fit events (events_said FitsEvent s (line_fits s.cfg) _ events came.audit.are);
   answered = came.audit.run.answered;
-  near = laws_of accepted (network_text input) s came.asks.2;
+  near = laws_of accepted (network_text input) s (setting_asked words (network_text input) s came.asks);
 }
 
 -- Simulations

@@ -12,7 +12,7 @@ use Rattle.wrp_run.specs.Lines.{lines_of}
 use Rattle.wrp_run.specs.Reader.{piece_limit}
 use Rattle.wrp_run.specs.RecordsAnswer.{IsRefused}
 use Rattle.wrp_run.specs.Refusals.{usage_line}
-use Rattle.wrp_run.specs.Tasks.{Task, AsksFor, meaning_at}
+use Rattle.wrp_run.specs.Tasks.{Task, AsksFor, IsAuditing, IsEmission, meaning_at}
 
 -- what a run was given and what it left: the words; what the source has, before and after; what the
 -- sink holds, before and after; and how often each of both had failed, before and after. What a source
@@ -69,6 +69,10 @@ pub record TakesPiece (run : Run) (refusal : Refusal) (input : List ℕ) : Type 
   pub piece : length past ≤ piece_limit
   pub refused : EndsRefused run.words front refusal
 
+-- the words ask for an audit, or for the inputs of a node in it
+abbrev pub AsksOfEvents : List (List ℕ) → Type 0
+AsksOfEvents words = IsAuditing words ⊎ ((name : List ℕ) × IsEmission words name)
+
 -- how a run ends
 abbrev pub Ends : Run → Status → Type 0
 -- the input was read to its end, and what is due is written
@@ -81,9 +85,9 @@ Ends run Usage =
 -- a record is refused: at most one piece behind its line was taken
 Ends run BadTrace =
     Answered run BadTrace × IfSome run.input (TakesPiece run refusals.BadTrace)
--- a record breaks a premise: the same
+-- a record breaks a premise: the same, of a command whose records are events
 Ends run Broken =
-    Answered run Broken × IfSome run.input (TakesPiece run refusals.Broken)
+    Answered run Broken × IfSome run.input (TakesPiece run refusals.Broken) × AsksOfEvents run.words
 -- the source failed: the lines of the whole records among what was taken stand, and no refusal
 -- stands in it
 Ends run ReadFault =

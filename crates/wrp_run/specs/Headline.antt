@@ -26,15 +26,19 @@ use Rattle.wrp_run.specs.Lines.{lines_of, content_of}
 use Rattle.wrp_run.specs.Refusals.{too_large_line}
 use Rattle.wrp_run.specs.Replays.{IsRefusedBy}
 use Rattle.wrp_run.specs.Stream.{large_line}
-use Rattle.wrp_run.specs.Tasks.{Audit, AsksFor}
+use Rattle.wrp_run.specs.Tasks.{Audit, AsksFor, Emit}
 use Rattle.wrp_run.specs.TrackLines.{TracksAreWithin}
 
 -- Which events came
 
+-- the words ask for an audit of the network that the text describes, which has this setting, or for the inputs of a node in it
+abbrev pub AsksOfRun : List (List ℕ) → List ℕ → Setting → Type 0
+AsksOfRun words text s = AsksFor words text (Audit s) ⊎ ((n : ℕ) × AsksFor words text (Emit s n))
+
 -- the first lines of the records say these events, which kept all premises one after another, in the network that the text
 -- before the records describes
 pub record Came (words : List (List ℕ)) (input : List ℕ) (s : Setting) (events : List Happened) : Type 0 where
-  pub asks : AsksFor words (network_text input) (Audit s)
+  pub asks : AsksOfRun words (network_text input) s
   pub front : List (List ℕ)
   pub behind : List (List ℕ)
   pub divided : behind_separator (lines_of input) ≡ front ++ behind
@@ -116,19 +120,21 @@ DropsOnlyCount write s events = AtEachEvent (DropsCountAt write s) events
 
 -- All parts
 
--- of these events, and of what is written of them
+-- of these events, and of the lines of them
 pub record CarriesParts (write : Writing) (s : Setting) (events : List Happened) : Type 0 where
   pub link_on : LinkOnIsEarned write s events
   pub tracks : TracksAreWithin write s events
   pub drops : DropsOnlyCount write s events
 
--- whatever events came
+-- whatever events came, with the lines that an audit writes of them
+abbrev pub CarriesAll : List (List ℕ) → List ℕ → Type 0
+CarriesAll words input =
+    (s : Setting) (events : List Happened) → Came words input s events → CarriesParts event_lines s events
+
 abbrev pub EventsCarryParts : Type 0
-EventsCarryParts =
-    (words : List (List ℕ)) (input : List ℕ) (s : Setting) (events : List Happened) → Came words input s events →
-    CarriesParts event_lines s events
+EventsCarryParts = (words : List (List ℕ)) (input : List ℕ) → CarriesAll words input
 
 -- of an audit that wrote these octets
 pub record Headline (words : List (List ℕ)) (input octets : List ℕ) : Type 0 where
   pub prints : PrintsTheSteps words input octets
-  pub carries : (s : Setting) (events : List Happened) → Came words input s events → CarriesParts event_lines s events
+  pub carries : CarriesAll words input

@@ -6,7 +6,7 @@ ghost use Rattle.wrp_run.specs.declared.status.Status.{Status};
 ghost use Rattle.wrp_run.specs.Answer.{Answer, IsCommand};
 ghost use Rattle.wrp_run.specs.Asked.{AsksSo};
 ghost use Rattle.wrp_run.specs.Ends.{Ends};
-ghost use Rattle.wrp_run.specs.Headline.{Headline};
+ghost use Rattle.wrp_run.specs.Headline.{CarriesAll, Headline};
 ghost use Rattle.wrp_run.specs.SimHeadline.{SimHeadline};
 ghost use Rattle.wrp_run.specs.Statuses.{is_answer};
 ghost use Rattle.wrp_run.specs.Tasks.{IsAuditing, IsSimulation};
@@ -92,7 +92,10 @@ pub fn run<S: Source, K: Sink, N: Link>(
         (octets : List ℕ) × Appends (K.held sink.old) (K.held sink.new) octets
         × Headline (texts_of words.now) input octets) }
 
-    // The same of a simulation.
+    // Of every event that an audit's records say, or those of the inputs of a node in it.
+    ensures carried { IfSome (S.left source.old) (CarriesAll (texts_of words.now)) }
+
+    // The same of a simulation as of an audit.
     ensures simulated { (seed : ℕ) → IsSimulation (texts_of words.now) seed → IfSome (S.left source.old) (λ input.
         (octets : List ℕ) × Appends (K.held sink.old) (K.held sink.new) octets
         × SimHeadline (texts_of words.now) input octets) }

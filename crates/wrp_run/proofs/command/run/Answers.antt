@@ -6,7 +6,7 @@ use Rattle.wrp_run.specs.Asked.{AsksSo}
 use Rattle.wrp_run.specs.Ends.{Run}
 use Rattle.wrp_run.specs.Words.{texts_of}
 use Rattle.wrp_run.proofs.Asking.{usage_ends}
-use Rattle.wrp_run.proofs.HeadlineTold.{headline_told, nothing_told}
+use Rattle.wrp_run.proofs.HeadlineTold.{carried_told, headline_told, nothing_told}
 use Rattle.wrp_run.proofs.AskingAudit.{work_command}
 use Rattle.wrp_run.proofs.OneAnswer.{told_one, ends_answered}
 use Rattle.wrp_run.proofs.SimTold.{nothing_made, simulation_told}
@@ -196,3 +196,15 @@ returns-in-Ok-Nothing-clause-simulated g c = λ seed simulates.
 pub returns-in-Err-clause-simulated : goal.returns-in-Err-clause-simulated
 returns-in-Err-clause-simulated g c = λ seed simulates.
     nothing_made c.made_events_carry_parts.ensures (texts_of c.args.words.now) (g.S.Source.left c.args.source.now) (g.K.Sink.held c.args.sink.now) seed simulates (Appends-nil (g.K.Sink.held c.args.sink.now))
+
+pub returns-in-Ok-Work-clause-carried : goal.returns-in-Ok-Work-clause-carried
+returns-in-Ok-Work-clause-carried g c = carried_told c.events_carry_parts.ensures (texts_of c.args.words.now) (g.S.Source.left c.args.source.now)
+
+pub returns-in-Ok-Replay-clause-carried : goal.returns-in-Ok-Replay-clause-carried
+returns-in-Ok-Replay-clause-carried g c = carried_told c.events_carry_parts.ensures (texts_of c.args.words.now) (g.S.Source.left c.args.source.now)
+
+pub returns-in-Ok-Nothing-clause-carried : goal.returns-in-Ok-Nothing-clause-carried
+returns-in-Ok-Nothing-clause-carried g c = carried_told c.events_carry_parts.ensures (texts_of c.args.words.now) (g.S.Source.left c.args.source.now)
+
+pub returns-in-Err-clause-carried : goal.returns-in-Err-clause-carried
+returns-in-Err-clause-carried g c = carried_told c.events_carry_parts.ensures (texts_of c.args.words.now) (g.S.Source.left c.args.source.now)
