@@ -1,5 +1,5 @@
 -- What stands at the end of a run, told of the words and the whole input.
-use Rattle.std.proofs.Common.{◌≡◌, inl, inr, true, false, ℕ, ◌+◌, ◌<◌, ◌≤◌, Option, None, Some, IfSome, Err, List, [], ◌∷◌, ◌++◌, length, length-append, map, take, refl, sym, ap, ◌∙◌, subst, append_assoc, append-nil, arith}
+use Rattle.std.proofs.Common.{◌≡◌, inl, inr, true, false, ℕ, ◌+◌, ◌<◌, ◌≤◌, Option, None, Some, IfSome, Err, List, [], ◌∷◌, ◌++◌, length, length-append, take, refl, sym, ap, ◌∙◌, subst, append_assoc, append-nil, arith}
 use Rattle.std.specs.List.{concat}
 use Rattle.std.specs.Io.KnownBytes.{Appends, Consumes, IsAtEnd}
 use Rattle.std.proofs.KnownBytes.{Appends-nil, Consumes-trans}
@@ -12,10 +12,10 @@ use Rattle.wrp_run.specs.declared.status.Status.{Status}
 use Rattle.wrp_run.specs.declared.status.Status.TheVariants.{Done, Usage, BadNetwork, BadTrace, Broken, ReadFault, WriteFault, TooLarge, OutOfMemory}
 use Rattle.wrp_run.specs.After.{After}
 use Rattle.wrp_run.specs.Answer.{Answer, AsksNone, IsCommand, FirstAnswer, PartAnswer, CutTask}
-use Rattle.wrp_run.specs.Ends.{AsksOfEvents, Run, Ends, EndsRefused, TakesPiece, ReadFailed, WriteFailed, Wrote}
+use Rattle.wrp_run.specs.Ends.{Run, AsksEvents, Ends, EndsRefused, TakesPiece, ReadFailed, WriteFailed, Wrote}
 use Rattle.wrp_run.specs.Engine.{Finishes, RefusesNetwork}
 use Rattle.wrp_run.specs.Input.{network_text, behind_separator, network_limit, IsDivided, IsTooLong, IsUndivided}
-use Rattle.wrp_run.specs.Lines.{content_of, lines_of}
+use Rattle.wrp_run.specs.Lines.{lines_of}
 use Rattle.wrp_run.specs.Meaning.{Meaning}
 use Rattle.wrp_run.specs.Reader.{ReaderAt, piece_limit}
 use Rattle.wrp_run.specs.RecordsAnswer.{RecordsAnswer, StandsFirst}
@@ -246,12 +246,13 @@ command_of words text (Audit setting) asks = inl asks.1
 command_of words text (Emit setting node) asks = inr (inl (asks.1, inr asks.2))
 command_of words text (Simulate setting seed) asks = inr (inr (seed, asks.1))
 
--- where a record breaks a premise, the records are events
-of_events : (words : List (List ℕ)) (text : List ℕ) (task : Task) (lines : List (List ℕ)) (line last : List ℕ) → AsksFor words text task → (meaning_at task).refuses lines line refusals.Broken last → AsksOfEvents words
-of_events words text (Replay site) lines line last asks refused = absurd refused
-of_events words text (Audit setting) lines line last asks refused = inl asks.1
-of_events words text (Emit setting node) lines line last asks refused = inr (asks.1, asks.2)
-of_events words text (Simulate setting seed) lines line last asks refused = absurd refused
+-- a premise is broken only where events are audited
+broken_asks : (words : List (List ℕ)) (text : List ℕ) (task : Task) (octets due : List ℕ) (s : ReaderAt) → AsksFor words text task
+    → RefusedAt (meaning_at task).accepts (meaning_at task).refuses refusals.Broken octets s due → AsksEvents words
+broken_asks words text (Replay site) octets due s asks at = absurd at.refused
+broken_asks words text (Audit setting) octets due s asks at = inl asks.1
+broken_asks words text (Emit setting node) octets due s asks at = inr (asks.1, asks.2)
+broken_asks words text (Simulate setting seed) octets due s asks at = absurd at.refused
 
 -- how a run ends that came to the records
 pub records_end : (run : Run) (middle : Option (List ℕ)) (text : List ℕ) (r s : ReaderAt) (task : Task) (status : Status)
@@ -281,7 +282,7 @@ records_end run middle text r s task OutOfMemory net at done goes reads writes =
 records_end run middle text r s task Broken net at done goes reads writes = (
   (command_of run.words text task net.asks, at.octets, at.wrote, answered run.words run.input middle run.left run.held run.now text r s task Broken net at refl),
   past_told run middle text r s task refusals.Broken at.given at.octets net at.taken at.stands,
-  of_events run.words text task (map content_of at.stands.lines) (content_of at.stands.line) at.stands.last net.asks at.stands.refused,
+  broken_asks run.words text task (r.rest ++ at.given) at.octets s net.asks at.stands,
 )
 records_end run middle text r s task _ net at done goes reads writes = absurd at.stands
 

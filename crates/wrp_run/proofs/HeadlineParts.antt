@@ -19,7 +19,7 @@ use Rattle.wrp_world.specs.Runs.{AllEvents, IsNetwork, IsRun}
 use Rattle.wrp_world.specs.Setting.{Setting}
 use Rattle.wrp_run.specs.Audited.{AreEvents, IsSettingOf}
 use Rattle.wrp_run.specs.EventLines.{AtEachEvent, Writing}
-use Rattle.wrp_run.specs.Headline.{AsksOfRun, CarriesParts, Came, DropsCountAt, IsEarnedAt, OnlyCounts, OnlyCountsIf}
+use Rattle.wrp_run.specs.Headline.{AsksEventsOf, CarriesParts, Came, DropsCountAt, IsEarnedAt, OnlyCounts, OnlyCountsIf}
 use Rattle.wrp_run.specs.Input.{network_text}
 use Rattle.wrp_run.specs.TrackLines.{TracksAreWithin}
 use Rattle.wrp_run.proofs.EventLines.{all_so, lines_by, no_lines}
@@ -64,9 +64,9 @@ network_of accepted text s h =
     subst IsNetwork (sym h.is)
     (record { accepted = accepted text h.net h.reads; set = λ n. refl })
 
-pub setting_asked : (words : List (List ℕ)) (text : List ℕ) (s : Setting) → AsksOfRun words text s → IsSettingOf text s
-setting_asked words text s (inl audit) = audit.2
-setting_asked words text s (inr emission) = emission.1.3
+-- the text describes the network of the events that are asked for
+pub setting_asked : (words : List (List ℕ)) (text : List ℕ) (s : Setting) → AsksEventsOf words text s → IsSettingOf text s
+setting_asked words text s asks = elim asks [ inl audit ↦ audit.2 | inr emission ↦ emission.1.3 ]
 
 pub run_of : EventsCanCome → ReadingIsAccepted → (words : List (List ℕ)) (input : List ℕ) (s : Setting) (events : List Happened) → Came words input s events → IsRun s events
 run_of can accepted words input s events came = record {

@@ -10,6 +10,8 @@ pub mod BareSim
 pub mod BareSite
 pub mod CountLemmas
 pub mod DueTold
+pub mod EmitTold
+pub mod EventsTold
 pub mod EventLines
 pub mod ExactAudit
 pub mod Feeds

@@ -1,11 +1,11 @@
--- What a simulation wrote is the first of the lines of the events that its rules make, and of what stands behind them.
+-- What a simulation wrote are the lines of the events that its rules make, and what stands behind them, by its status.
 use Rattle.std.proofs.Common.{◌≡◌, ◌⊎◌, inl, inr, ◌∙◌, refl, ap, sym, subst, ℕ, ◌+◌, Option, None, Some, IfSome, List, [], ◌++◌, append-nil, length, map, arith}
 use Rattle.std.specs.Io.KnownBytes.{Appends}
 use Rattle.wrp_world.specs.Setting.{Setting}
 use Rattle.wrp_run.specs.declared.command_line.Form.TheVariants as forms
 use Rattle.wrp_run.specs.declared.machine.Refusal.TheVariants as refusals
 use Rattle.wrp_run.specs.declared.status.Status.{Status}
-use Rattle.wrp_run.specs.declared.status.Status.TheVariants.{Done, BadTrace, Broken, TooLarge, OutOfMemory}
+use Rattle.wrp_run.specs.declared.status.Status.TheVariants.{Done, BadTrace, Broken, ReadFault, TooLarge, OutOfMemory}
 use Rattle.wrp_run.specs.Answer.{AsksNone, CutTask, TaskAnswer}
 use Rattle.wrp_run.specs.Ends.{Ends, Run}
 use Rattle.wrp_run.specs.Headline.{ReachesNone}
@@ -17,13 +17,13 @@ use Rattle.wrp_run.specs.SimText.{sim_lines, sum_lines}
 use Rattle.wrp_run.specs.Simulates.{SimRefuses, Simulates, simulation_of}
 use Rattle.wrp_run.specs.Stream.{CutHandled, large_line}
 use Rattle.wrp_run.specs.Tasks.{Task, Replay, Audit, Emit, Simulate, AsksFor, IsSimulation, meaning_at}
-use Rattle.wrp_run.proofs.DueTold.{IsDueSo, Prints, prints, prints_nothing}
+use Rattle.wrp_run.proofs.DueTold.{IsDueSo, PrintsDue, prints, prints_nothing}
 use Rattle.wrp_run.proofs.WordLemmas.{no_simulation, simulation_alone}
 
 -- The task of a simulation
 
-abbrev pub IsRunDue : List (List ℕ) → List ℕ → List ℕ → Type 0
-IsRunDue words input due = ReachesNone input due ⊎ (LacksScenario words input due ⊎ RunOf words input due)
+abbrev pub IsRunDue : List (List ℕ) → List ℕ → Status → List ℕ → Type 0
+IsRunDue words input status due = ReachesNone input status due ⊎ (LacksScenario words input status due ⊎ RunOf words input status due)
 
 -- where the words ask for a simulation, what holds of every task holds if it does of a simulation
 only_simulation : (words : List (List ℕ)) (text : List ℕ) (seed : ℕ) (P : Task → Type 0) (Q : Type 0) → IsSimulation words seed → ((s : Setting) (own : ℕ) → AsksFor words text (Simulate s own) → P (Simulate s own) → Q) →
@@ -49,18 +49,18 @@ abbrev made_of : (words : List (List ℕ)) (input : List ℕ) (s : Setting) (see
     (run : Simulates s seed (map content_of (behind_separator (lines_of input)))) → Made words input s run.events
 made_of words input s seed asks run = record { seed = seed; asks = asks; scene = run.scene; said = run.said; at = run.at; simulated = run.simulated }
 
-wholly : (words : List (List ℕ)) (input octets : List ℕ) (s : Setting) (seed : ℕ) → AsksFor words (network_text input) (Simulate s seed) → IsWholly (simulation_of s seed) (behind_separator (lines_of input)) octets → RunOf words input octets
+wholly : (words : List (List ℕ)) (input octets : List ℕ) (s : Setting) (seed : ℕ) → AsksFor words (network_text input) (Simulate s seed) → IsWholly (simulation_of s seed) (behind_separator (lines_of input)) octets → RunOf words input Done octets
 wholly words input octets s seed asks h = record {
   setting = s;
   events = h.closed.0.events;
   made = made_of words input s seed asks h.closed.0;
   last = sum_lines s h.closed.0.events;
-  ends = inr (inl (h.closed.1, refl));
+  ends = (h.closed.1, refl);
   is = only_last h.written h.last octets h.handled.accepted.2 h.is ∙ h.closed.2;
 }
 
 refused : (words : List (List ℕ)) (input octets : List ℕ) (s : Setting) (seed : ℕ) → AsksFor words (network_text input) (Simulate s seed) →
-    IsRefused (simulation_of s seed) refusals.BadTrace (behind_separator (lines_of input)) octets → LacksScenario words input octets
+    IsRefused (simulation_of s seed) refusals.BadTrace (behind_separator (lines_of input)) octets → LacksScenario words input BadTrace octets
 refused words input octets s seed asks h = record {
   setting = s;
   seed = seed;
@@ -69,11 +69,13 @@ refused words input octets s seed asks h = record {
   line = h.line;
   behind = h.behind;
   divided = h.divided;
-  is = inl (subst (SimRefuses s (map content_of h.before) (content_of h.line) refusals.BadTrace) (sym (only_last h.written h.last octets h.handled.accepted.2 h.is)) h.refused);
+  scene = h.handled.accepted.0;
+  said = h.handled.accepted.1;
+  is = subst (SimRefuses s (map content_of h.before) (content_of h.line) refusals.BadTrace) (sym (only_last h.written h.last octets h.handled.accepted.2 h.is)) h.refused;
 }
 
 large : (words : List (List ℕ)) (input octets : List ℕ) (s : Setting) (seed : ℕ) → AsksFor words (network_text input) (Simulate s seed) → IsLarge (simulation_of s seed) (behind_separator (lines_of input)) octets →
-    LacksScenario words input octets
+    LacksScenario words input TooLarge octets
 large words input octets s seed asks h = record {
   setting = s;
   seed = seed;
@@ -82,38 +84,40 @@ large words input octets s seed asks h = record {
   line = h.line;
   behind = h.behind;
   divided = h.divided;
-  is = inr (only_last h.written (large_line (length h.before + 1)) octets h.handled.accepted.2 h.is);
+  scene = h.handled.accepted.0;
+  said = h.handled.accepted.1;
+  is = (h.large, only_last h.written (large_line (length h.before + 1)) octets h.handled.accepted.2 h.is);
 }
 
 overruns : (words : List (List ℕ)) (input octets : List ℕ) (s : Setting) (seed : ℕ) → AsksFor words (network_text input) (Simulate s seed) →
-    BreaksOff (simulation_of s seed) TooLarge (behind_separator (lines_of input)) octets → RunOf words input octets
+    BreaksOff (simulation_of s seed) TooLarge (behind_separator (lines_of input)) octets → RunOf words input TooLarge octets
 overruns words input octets s seed asks h = record {
   setting = s;
   events = h.broken.0.events;
   made = made_of words input s seed asks h.broken.0;
   last = large_line (length h.broken.0.events + 1);
-  ends = inr (inr (h.broken.1.next, h.broken.1.comes, h.broken.1.number, refl));
+  ends = (h.broken.1.next, h.broken.1.comes, h.broken.1.number, refl);
   is = only_last h.written h.last octets h.handled.accepted.2 h.is ∙ h.broken.2;
 }
 
 first_events : (words : List (List ℕ)) (input octets : List ℕ) (s : Setting) (seed : ℕ) → AsksFor words (network_text input) (Simulate s seed) →
-    BreaksOff (simulation_of s seed) OutOfMemory (behind_separator (lines_of input)) octets → RunOf words input octets
+    BreaksOff (simulation_of s seed) OutOfMemory (behind_separator (lines_of input)) octets → RunOf words input OutOfMemory octets
 first_events words input octets s seed asks h = record {
   setting = s;
   events = h.broken.0.events;
   made = made_of words input s seed asks h.broken.0;
   last = [];
-  ends = inl refl;
+  ends = refl;
   is = only_last h.written h.last octets h.handled.accepted.2 h.is ∙ h.broken.1 ∙ sym (append-nil (sim_lines s h.broken.0.events));
 }
 
 stand_first : (words : List (List ℕ)) (input octets : List ℕ) (s : Setting) (seed : ℕ) → AsksFor words (network_text input) (Simulate s seed) → StandsFirst (simulation_of s seed) (behind_separator (lines_of input)) octets →
-    IsRunDue words input octets
-stand_first words input octets s seed asks (inl first) = inl (inl first.handled.accepted.2)
+    IsRunDue words input OutOfMemory octets
+stand_first words input octets s seed asks (inl first) = inl first.handled.accepted.2
 stand_first words input octets s seed asks (inr off) = inr (inr (first_events words input octets s seed asks off))
 
 records_due : (words : List (List ℕ)) (input : List ℕ) (status : Status) (octets : List ℕ) (s : Setting) (seed : ℕ) → AsksFor words (network_text input) (Simulate s seed) →
-    RecordsAnswer (simulation_of s seed) (behind_separator (lines_of input)) status octets → IsRunDue words input octets
+    RecordsAnswer (simulation_of s seed) (behind_separator (lines_of input)) status octets → IsRunDue words input status octets
 records_due words input Done octets s seed asks h = inr (inr (wholly words input octets s seed asks h))
 records_due words input BadTrace octets s seed asks h = inr (inl (refused words input octets s seed asks h))
 records_due words input Broken octets s seed asks h = absurd h.refused
@@ -121,50 +125,51 @@ records_due words input TooLarge octets s seed asks (inl one) = inr (inl (large 
 records_due words input TooLarge octets s seed asks (inr off) = inr (inr (overruns words input octets s seed asks off))
 records_due words input _ octets s seed asks h = absurd h
 
-task_due : (words : List (List ℕ)) (seed : ℕ) (input : List ℕ) (status : Status) (octets : List ℕ) → IsSimulation words seed → TaskAnswer words input status octets → IsRunDue words input octets
+task_due : (words : List (List ℕ)) (seed : ℕ) (input : List ℕ) (status : Status) (octets : List ℕ) → IsSimulation words seed → TaskAnswer words input status octets → IsRunDue words input status octets
 task_due words seed input status octets simulates h =
-    only_simulation words (network_text input) seed (λ task. RecordsAnswer (meaning_at task) (behind_separator (lines_of input)) status octets) (IsRunDue words input octets) simulates
+    only_simulation words (network_text input) seed (λ task. RecordsAnswer (meaning_at task) (behind_separator (lines_of input)) status octets) (IsRunDue words input status octets) simulates
     (λ s own asks due. records_due words input status octets s own asks due) h.0 h.1 h.2
 
 first_due : (words : List (List ℕ)) (seed : ℕ) (input octets : List ℕ) (task : Task) → IsSimulation words seed → AsksFor words (network_text input) task → StandsFirst (meaning_at task) (behind_separator (lines_of input)) octets →
-    IsRunDue words input octets
+    IsRunDue words input OutOfMemory octets
 first_due words seed input octets task simulates asks first =
-    only_simulation words (network_text input) seed (λ t. StandsFirst (meaning_at t) (behind_separator (lines_of input)) octets) (IsRunDue words input octets) simulates
+    only_simulation words (network_text input) seed (λ t. StandsFirst (meaning_at t) (behind_separator (lines_of input)) octets) (IsRunDue words input OutOfMemory octets) simulates
     (λ s own a due. stand_first words input octets s own a due) task asks first
 
 -- where the source failed, no event was made
-cut_due : (words : List (List ℕ)) (seed : ℕ) (input taken octets : List ℕ) → IsSimulation words seed → CutTask words taken octets → IsRunDue words input octets
+cut_due : (words : List (List ℕ)) (seed : ℕ) (input taken octets : List ℕ) → IsSimulation words seed → CutTask words taken octets → IsRunDue words input ReadFault octets
 cut_due words seed input taken octets simulates h =
-    only_simulation words h.text seed (λ task. CutHandled (meaning_at task).accepts h.back octets) (IsRunDue words input octets) simulates
-    (λ s own asks cut. inl (inl cut.handled.accepted.2)) h.task h.asks h.handled
+    only_simulation words h.text seed (λ task. CutHandled (meaning_at task).accepts h.back octets) (IsRunDue words input ReadFault octets) simulates
+    (λ s own asks cut. inl cut.handled.accepted.2) h.task h.asks h.handled
 
 -- A run
 
 run_so : (words : List (List ℕ)) (seed : ℕ) → IsSimulation words seed → IsDueSo words (IsRunDue words)
 run_so words seed simulates = record {
   command = inr (inr (seed, simulates));
-  no_node = λ text none. asks_node words text seed simulates none;
-  none = λ input octets none. inl none;
+  no_node = λ input none. absurd (asks_node words (network_text input) seed simulates none);
+  none = λ input status octets none. inl none;
   task = λ input status octets answer. task_due words seed input status octets simulates answer;
   first = λ input octets task asks first. first_due words seed input octets task simulates asks first;
   cut = λ input taken left octets all cut. cut_due words seed input taken octets simulates cut;
 }
 
-headline_of : MadeEventsCarryParts → (words : List (List ℕ)) (input : List ℕ) (held now : Option (List ℕ)) → Prints (IsRunDue words) held now input → (octets : List ℕ) × Appends held now octets × SimHeadline words input octets
-headline_of parts words input held now h = (h.0, h.1, record { prints = h.2; carries = λ s events made. parts words input s events made })
+-- a simulation ended with this status, and wrote what the aim says
+abbrev pub IsMadeSo : List (List ℕ) → (held now : Option (List ℕ)) → Status → List ℕ → Type 0
+IsMadeSo words held now status input = (octets : List ℕ) × Appends held now octets × SimHeadline words input status octets
 
-run_told : MadeEventsCarryParts → (run : Run) (status : Status) (seed : ℕ) (o : Option (List ℕ)) → Ends run status → IsSimulation run.words seed → run.input ≡ o →
-    IfSome o (λ input. (octets : List ℕ) × Appends run.held run.now octets × SimHeadline run.words input octets)
+headline_of : MadeEventsCarryParts → (words : List (List ℕ)) (input : List ℕ) (held now : Option (List ℕ)) (status : Status) → PrintsDue (IsRunDue words) held now input status → IsMadeSo words held now status input
+headline_of parts words input held now status h = (h.0, h.1, record { prints = h.2; carries = λ s events made. parts words input s events made })
+
+run_told : MadeEventsCarryParts → (run : Run) (status : Status) (seed : ℕ) (o : Option (List ℕ)) → Ends run status → IsSimulation run.words seed → run.input ≡ o → IfSome o (IsMadeSo run.words run.held run.now status)
 run_told parts run status seed None ends simulates is = tt
 run_told parts run status seed (Some input) ends simulates is =
-    headline_of parts run.words input run.held run.now (prints run input status (IsRunDue run.words) (run_so run.words seed simulates) is ends)
+    headline_of parts run.words input run.held run.now status (prints run input status (IsRunDue run.words) (run_so run.words seed simulates) is ends)
 
-pub simulation_told : MadeEventsCarryParts → (run : Run) (status : Status) (seed : ℕ) → Ends run status → IsSimulation run.words seed →
-    IfSome run.input (λ input. (octets : List ℕ) × Appends run.held run.now octets × SimHeadline run.words input octets)
+pub simulation_told : MadeEventsCarryParts → (run : Run) (status : Status) (seed : ℕ) → Ends run status → IsSimulation run.words seed → IfSome run.input (IsMadeSo run.words run.held run.now status)
 simulation_told parts run status seed ends simulates = run_told parts run status seed run.input ends simulates refl
 
 -- where nothing was read and nothing written
-pub nothing_made : MadeEventsCarryParts → (words : List (List ℕ)) (input held : Option (List ℕ)) (seed : ℕ) → IsSimulation words seed → Appends held held [] →
-    IfSome input (λ i. (octets : List ℕ) × Appends held held octets × SimHeadline words i octets)
+pub nothing_made : MadeEventsCarryParts → (words : List (List ℕ)) (input held : Option (List ℕ)) (seed : ℕ) → IsSimulation words seed → Appends held held [] → IfSome input (IsMadeSo words held held OutOfMemory)
 nothing_made parts words None held seed simulates same = tt
-nothing_made parts words (Some i) held seed simulates same = headline_of parts words i held held (prints_nothing words held i (IsRunDue words) (run_so words seed simulates) same)
+nothing_made parts words (Some i) held seed simulates same = headline_of parts words i held held OutOfMemory (prints_nothing words held i (IsRunDue words) (run_so words seed simulates) same)

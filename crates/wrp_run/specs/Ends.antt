@@ -69,9 +69,9 @@ pub record TakesPiece (run : Run) (refusal : Refusal) (input : List ℕ) : Type 
   pub piece : length past ≤ piece_limit
   pub refused : EndsRefused run.words front refusal
 
--- the words ask for an audit, or for the inputs of a node in it
-abbrev pub AsksOfEvents : List (List ℕ) → Type 0
-AsksOfEvents words = IsAuditing words ⊎ ((name : List ℕ) × IsEmission words name)
+-- the words ask for an audit, or for the inputs of a node in one
+abbrev pub AsksEvents : List (List ℕ) → Type 0
+AsksEvents words = IsAuditing words ⊎ ((name : List ℕ) × IsEmission words name)
 
 -- how a run ends
 abbrev pub Ends : Run → Status → Type 0
@@ -85,9 +85,9 @@ Ends run Usage =
 -- a record is refused: at most one piece behind its line was taken
 Ends run BadTrace =
     Answered run BadTrace × IfSome run.input (TakesPiece run refusals.BadTrace)
--- a record breaks a premise: the same, of a command whose records are events
+-- a record breaks a premise: the same, and only where events are audited
 Ends run Broken =
-    Answered run Broken × IfSome run.input (TakesPiece run refusals.Broken) × AsksOfEvents run.words
+    Answered run Broken × IfSome run.input (TakesPiece run refusals.Broken) × AsksEvents run.words
 -- the source failed: the lines of the whole records among what was taken stand, and no refusal
 -- stands in it
 Ends run ReadFault =

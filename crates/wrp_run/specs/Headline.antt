@@ -1,4 +1,4 @@
--- The aim of the project, part by part, of what an audit wrote, whatever its status: it printed exactly the nodes' steps
+-- The aim of the project, part by part, of what an audit wrote, for each status: it printed exactly the nodes' steps
 -- (`PrintsTheSteps`); no port was in WR_LINK_ON unless its peer had passed the required steps of that same handshake
 -- (`LinkOnIsEarned`); every track line's true offset is at most its printed bound (`TracksAreWithin`, in TrackLines.antt); and
 -- a malformed or foreign frame changed only a counter (`DropsOnlyCount`). This project's profile.
@@ -16,29 +16,31 @@ use Rattle.wrp_world.specs.Given.{Given}
 use Rattle.wrp_world.specs.Run.{Happened, world_after}
 use Rattle.wrp_world.specs.Setting.{Setting, fixed_of}
 use Rattle.wrp_world.specs.WorldAt.{WorldAt}
-use Rattle.wrp_run.specs.declared.machine.Refusal.{Refusal}
+use Rattle.wrp_run.specs.declared.machine.Refusal.TheVariants as refusals
+use Rattle.wrp_run.specs.declared.status.Status.{Status}
+use Rattle.wrp_run.specs.declared.status.Status.TheVariants.{Done, BadNetwork, BadTrace, Broken, ReadFault, WriteFault, TooLarge, OutOfMemory}
 use Rattle.wrp_run.specs.Audited.{IsAudit}
-use Rattle.wrp_run.specs.Audits.{AuditCloses, AuditRefuses}
-use Rattle.wrp_run.specs.AuditText.{audit_lines, event_lines}
+use Rattle.wrp_run.specs.Audits.{AuditRefuses}
+use Rattle.wrp_run.specs.AuditText.{all_counts, audit_lines, event_lines}
 use Rattle.wrp_run.specs.EventLines.{AtEachEvent, IsWord, Writing}
 use Rattle.wrp_run.specs.Input.{network_text, behind_separator, network_limit}
 use Rattle.wrp_run.specs.Lines.{lines_of, content_of}
 use Rattle.wrp_run.specs.Refusals.{too_large_line}
 use Rattle.wrp_run.specs.Replays.{IsRefusedBy}
-use Rattle.wrp_run.specs.Stream.{large_line}
-use Rattle.wrp_run.specs.Tasks.{Audit, AsksFor, Emit}
+use Rattle.wrp_run.specs.Stream.{IsTooLarge, large_line}
+use Rattle.wrp_run.specs.Tasks.{Audit, Emit, AsksFor}
 use Rattle.wrp_run.specs.TrackLines.{TracksAreWithin}
 
 -- Which events came
 
--- the words ask for an audit of the network that the text describes, which has this setting, or for the inputs of a node in it
-abbrev pub AsksOfRun : List (List ℕ) → List ℕ → Setting → Type 0
-AsksOfRun words text s = AsksFor words text (Audit s) ⊎ ((n : ℕ) × AsksFor words text (Emit s n))
+-- the words ask for the audit of a network that this text describes, or for the inputs of a node in it
+abbrev pub AsksEventsOf : List (List ℕ) → List ℕ → Setting → Type 0
+AsksEventsOf words text s = AsksFor words text (Audit s) ⊎ ((n : ℕ) × AsksFor words text (Emit s n))
 
 -- the first lines of the records say these events, which kept all premises one after another, in the network that the text
 -- before the records describes
 pub record Came (words : List (List ℕ)) (input : List ℕ) (s : Setting) (events : List Happened) : Type 0 where
-  pub asks : AsksOfRun words (network_text input) s
+  pub asks : AsksEventsOf words (network_text input) s
   pub front : List (List ℕ)
   pub behind : List (List ℕ)
   pub divided : behind_separator (lines_of input) ≡ front ++ behind
@@ -46,37 +48,53 @@ pub record Came (words : List (List ℕ)) (input : List ℕ) (s : Setting) (even
 
 -- The first part
 
--- what stands behind the lines of the steps of these records: nothing, the counters where no record is left, or the line that
--- names the next record as refused or too large
-abbrev pub StandsAtEnd : Setting → (front behind : List (List ℕ)) → List ℕ → Type 0
-StandsAtEnd s front behind last =
-    (last ≡ [])
-    ⊎ (((behind ≡ []) × AuditCloses s (map content_of front) last)
-    ⊎ ((line : List ℕ) × (rest : List (List ℕ)) × (behind ≡ line ∷ rest)
-    × (((refusal : Refusal) × AuditRefuses s (map content_of front) (content_of line) refusal last)
-    ⊎ (last ≡ large_line (length front + 1)))))
+-- a line stands next, and is so
+abbrev pub NextIs : List (List ℕ) → (List ℕ → Type 0) → Type 0
+NextIs behind IsSo = (line : List ℕ) × (rest : List (List ℕ)) × (behind ≡ line ∷ rest) × IsSo line
+
+-- what stands behind what is written of the events, by the status: the counters, and no record is left; the line that names the
+-- next record as refused, or as too large; nothing, where the source failed or there was no memory
+abbrev pub EndsEvents : Status → Setting → (front behind : List (List ℕ)) → (counts last : List ℕ) → Type 0
+EndsEvents Done s front behind counts last = (behind ≡ []) × (last ≡ counts)
+EndsEvents BadTrace s front behind counts last =
+    NextIs behind (λ line. AuditRefuses s (map content_of front) (content_of line) refusals.BadTrace last)
+EndsEvents Broken s front behind counts last =
+    NextIs behind (λ line. AuditRefuses s (map content_of front) (content_of line) refusals.Broken last)
+EndsEvents TooLarge s front behind counts last =
+    NextIs behind (λ line. IsTooLarge line (length front) × (last ≡ large_line (length front + 1)))
+EndsEvents ReadFault s front behind counts last = last ≡ []
+EndsEvents OutOfMemory s front behind counts last = last ≡ []
+EndsEvents _ s front behind counts last = ⊥
 
 -- the lines of the nodes' steps in events that came, and what stands behind them
-pub record StepsOf (words : List (List ℕ)) (input octets : List ℕ) : Type 0 where
+pub record StepsOf (words : List (List ℕ)) (input : List ℕ) (status : Status) (octets : List ℕ) : Type 0 where
   pub setting : Setting
   pub events : List Happened
   pub came : Came words input setting events
   pub last : List ℕ
-  pub ends : StandsAtEnd setting came.front came.behind last
+  pub ends : EndsEvents status setting came.front came.behind (all_counts setting (world_after setting events)) last
   pub is : octets ≡ audit_lines setting events ++ last
 
--- nothing, or the line that names the network text as refused or too large: no records were reached
-abbrev pub ReachesNone : List ℕ → List ℕ → Type 0
-ReachesNone input octets =
-    (octets ≡ [])
-    ⊎ (((network_limit < length (network_text input)) × (octets ≡ too_large_line))
-    ⊎ ((length (network_text input) ≤ network_limit) × IsRefusedBy (network_text input) octets))
+-- where no record was reached, by the status: the line that names the network text as refused, or as too large; nothing, where
+-- the source failed or there was no memory
+abbrev pub ReachesNone : List ℕ → Status → List ℕ → Type 0
+ReachesNone input BadNetwork octets =
+    (length (network_text input) ≤ network_limit) × IsRefusedBy (network_text input) octets
+ReachesNone input TooLarge octets = (network_limit < length (network_text input)) × (octets ≡ too_large_line)
+ReachesNone input ReadFault octets = octets ≡ []
+ReachesNone input OutOfMemory octets = octets ≡ []
+ReachesNone input _ octets = ⊥
 
--- the first octets of such a text, and all of them where the sink did not fail
-abbrev pub PrintsTheSteps : List (List ℕ) → List ℕ → List ℕ → Type 0
-PrintsTheSteps words input octets =
-    (due : List ℕ) × (count : ℕ) × (octets ≡ take count due)
-    × (ReachesNone input due ⊎ StepsOf words input due)
+-- all that is due for the status; where the sink failed, the first octets of what is due for another
+abbrev pub Prints : (Status → List ℕ → Type 0) → Status → List ℕ → Type 0
+Prints IsDue WriteFault octets =
+    (status : Status) × (due : List ℕ) × (count : ℕ) × (octets ≡ take count due) × IsDue status due
+Prints IsDue status octets = IsDue status octets
+
+-- an audit prints exactly the nodes' steps
+abbrev pub PrintsTheSteps : List (List ℕ) → List ℕ → Status → List ℕ → Type 0
+PrintsTheSteps words input status octets =
+    Prints (λ due text. ReachesNone input due text ⊎ StepsOf words input due text) status octets
 
 -- The second part
 
@@ -120,21 +138,19 @@ DropsOnlyCount write s events = AtEachEvent (DropsCountAt write s) events
 
 -- All parts
 
--- of these events, and of the lines of them
+-- of these events, and of what is written of them
 pub record CarriesParts (write : Writing) (s : Setting) (events : List Happened) : Type 0 where
   pub link_on : LinkOnIsEarned write s events
   pub tracks : TracksAreWithin write s events
   pub drops : DropsOnlyCount write s events
 
--- whatever events came, with the lines that an audit writes of them
-abbrev pub CarriesAll : List (List ℕ) → List ℕ → Type 0
-CarriesAll words input =
-    (s : Setting) (events : List Happened) → Came words input s events → CarriesParts event_lines s events
-
+-- whatever events came
 abbrev pub EventsCarryParts : Type 0
-EventsCarryParts = (words : List (List ℕ)) (input : List ℕ) → CarriesAll words input
+EventsCarryParts =
+    (words : List (List ℕ)) (input : List ℕ) (s : Setting) (events : List Happened) → Came words input s events →
+    CarriesParts event_lines s events
 
--- of an audit that wrote these octets
-pub record Headline (words : List (List ℕ)) (input octets : List ℕ) : Type 0 where
-  pub prints : PrintsTheSteps words input octets
-  pub carries : CarriesAll words input
+-- of an audit that ended with this status and wrote these octets
+pub record Headline (words : List (List ℕ)) (input : List ℕ) (status : Status) (octets : List ℕ) : Type 0 where
+  pub prints : PrintsTheSteps words input status octets
+  pub carries : (s : Setting) (events : List Happened) → Came words input s events → CarriesParts event_lines s events

@@ -9,6 +9,7 @@ pub mod AuditStands
 pub mod AuditText
 pub mod CommandLine
 pub mod DownLaw
+pub mod EmitHeadline
 pub mod Ends
 pub mod Engine
 pub mod EventLines

@@ -5,11 +5,12 @@ ghost use Rattle.wrp_io.specs.Faults.{Rose};
 ghost use Rattle.wrp_run.specs.declared.status.Status.{Status};
 ghost use Rattle.wrp_run.specs.Answer.{Answer, IsCommand};
 ghost use Rattle.wrp_run.specs.Asked.{AsksSo};
+ghost use Rattle.wrp_run.specs.EmitHeadline.{EmitHeadline};
 ghost use Rattle.wrp_run.specs.Ends.{Ends};
-ghost use Rattle.wrp_run.specs.Headline.{CarriesAll, Headline};
+ghost use Rattle.wrp_run.specs.Headline.{Headline};
 ghost use Rattle.wrp_run.specs.SimHeadline.{SimHeadline};
 ghost use Rattle.wrp_run.specs.Statuses.{is_answer};
-ghost use Rattle.wrp_run.specs.Tasks.{IsAuditing, IsSimulation};
+ghost use Rattle.wrp_run.specs.Tasks.{IsAuditing, IsEmission, IsSimulation};
 ghost use Rattle.wrp_run.specs.Words.{texts_of};
 
 use crate::answering::answer;
@@ -87,18 +88,20 @@ pub fn run<S: Source, K: Sink, N: Link>(
         → IfSome (S.left source.old) (λ input. Answer (texts_of words.now) input status octets
         → (result ≡ status) × Appends (K.held sink.old) (K.held sink.new) octets) }
 
-    // The aim of an audit, of what is written, whatever the status.
+    // The aim of an audit, of what is written, for each status.
     ensures headline { IsAuditing (texts_of words.now) → IfSome (S.left source.old) (λ input.
         (octets : List ℕ) × Appends (K.held sink.old) (K.held sink.new) octets
-        × Headline (texts_of words.now) input octets) }
+        × Headline (texts_of words.now) input result octets) }
 
-    // Of every event that an audit's records say, or those of the inputs of a node in it.
-    ensures carried { IfSome (S.left source.old) (CarriesAll (texts_of words.now)) }
+    // The same of an audit that is asked for the inputs of a node.
+    ensures emitted { (name : List ℕ) → IsEmission (texts_of words.now) name → IfSome (S.left source.old) (λ input.
+        (octets : List ℕ) × Appends (K.held sink.old) (K.held sink.new) octets
+        × EmitHeadline (texts_of words.now) input result octets) }
 
-    // The same of a simulation as of an audit.
+    // The same of a simulation.
     ensures simulated { (seed : ℕ) → IsSimulation (texts_of words.now) seed → IfSome (S.left source.old) (λ input.
         (octets : List ℕ) × Appends (K.held sink.old) (K.held sink.new) octets
-        × SimHeadline (texts_of words.now) input octets) }
+        × SimHeadline (texts_of words.now) input result octets) }
 
     // Words that are no command are refused with nothing read, and no link is used.
     ensures unread { (IsCommand (texts_of words.now) → ⊥) → source.new ≡ source.old }

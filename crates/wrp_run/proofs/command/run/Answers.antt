@@ -6,11 +6,12 @@ use Rattle.wrp_run.specs.Asked.{AsksSo}
 use Rattle.wrp_run.specs.Ends.{Run}
 use Rattle.wrp_run.specs.Words.{texts_of}
 use Rattle.wrp_run.proofs.Asking.{usage_ends}
-use Rattle.wrp_run.proofs.HeadlineTold.{carried_told, headline_told, nothing_told}
+use Rattle.wrp_run.proofs.EmitTold.{emission_told, nothing_emitted}
+use Rattle.wrp_run.proofs.HeadlineTold.{headline_told, nothing_told}
 use Rattle.wrp_run.proofs.AskingAudit.{work_command}
 use Rattle.wrp_run.proofs.OneAnswer.{told_one, ends_answered}
 use Rattle.wrp_run.proofs.SimTold.{nothing_made, simulation_told}
-use Rattle.wrp_run.proofs.WordLemmas.{audit_alone, simulation_alone}
+use Rattle.wrp_run.proofs.WordLemmas.{audit_alone, emission_alone, simulation_alone}
 use Rattle.wrp_run.proofs.command.run.Goals as goal
 
 pub returns-in-Ok-Replay-clause-due : goal.returns-in-Ok-Replay-clause-due
@@ -152,7 +153,7 @@ returns-in-Ok-Work-clause-headline g c =
       write_faults = g.K.Sink.faults c.args.sink.now;
       write_faults_now = g.K.Sink.faults c.run_network.new.sink;
     } in
-    λ audits. headline_told c.events_carry_parts.ensures run c.run_network.result c.run_network.ensures.ends audits
+    λ audits. headline_told c.events_carry_parts.ensures c.one_audit.ensures run c.run_network.result c.run_network.ensures.ends audits
 
 pub returns-in-Ok-Replay-clause-headline : goal.returns-in-Ok-Replay-clause-headline
 returns-in-Ok-Replay-clause-headline g c = λ audits.
@@ -166,7 +167,36 @@ returns-in-Ok-Nothing-clause-headline g c = λ audits.
 
 pub returns-in-Err-clause-headline : goal.returns-in-Err-clause-headline
 returns-in-Err-clause-headline g c = λ audits.
-    nothing_told c.events_carry_parts.ensures (texts_of c.args.words.now) (g.S.Source.left c.args.source.now) (g.K.Sink.held c.args.sink.now) audits (Appends-nil (g.K.Sink.held c.args.sink.now))
+    nothing_told c.events_carry_parts.ensures c.one_audit.ensures (texts_of c.args.words.now) (g.S.Source.left c.args.source.now) (g.K.Sink.held c.args.sink.now) audits (Appends-nil (g.K.Sink.held c.args.sink.now))
+
+pub returns-in-Ok-Work-clause-emitted : goal.returns-in-Ok-Work-clause-emitted
+returns-in-Ok-Work-clause-emitted g c =
+    let run : Run = record {
+      words = texts_of c.args.words.now;
+      input = g.S.Source.left c.args.source.now;
+      left = g.S.Source.left c.run_network.new.source;
+      held = g.K.Sink.held c.args.sink.now;
+      now = g.K.Sink.held c.run_network.new.sink;
+      read_faults = g.S.Source.faults c.args.source.now;
+      read_faults_now = g.S.Source.faults c.run_network.new.source;
+      write_faults = g.K.Sink.faults c.args.sink.now;
+      write_faults_now = g.K.Sink.faults c.run_network.new.sink;
+    } in
+    λ name emits. emission_told c.events_carry_parts.ensures run c.run_network.result name c.run_network.ensures.ends emits
+
+pub returns-in-Ok-Replay-clause-emitted : goal.returns-in-Ok-Replay-clause-emitted
+returns-in-Ok-Replay-clause-emitted g c = λ name emits.
+    let has = subst (AsksSo (texts_of c.args.words.now)) c.in-Ok-Replay.field-0-is c.in-Ok-Replay.ensures in
+    absurd (emission_alone (texts_of c.args.words.now) name c.in-Ok-Replay.name.now emits has)
+
+pub returns-in-Ok-Nothing-clause-emitted : goal.returns-in-Ok-Nothing-clause-emitted
+returns-in-Ok-Nothing-clause-emitted g c = λ name emits.
+    let none = subst (AsksSo (texts_of c.args.words.now)) c.in-Ok-Nothing.field-0-is c.in-Ok-Nothing.ensures in
+    absurd (none (inr (inl (name, inr emits))))
+
+pub returns-in-Err-clause-emitted : goal.returns-in-Err-clause-emitted
+returns-in-Err-clause-emitted g c = λ name emits.
+    nothing_emitted c.events_carry_parts.ensures (texts_of c.args.words.now) (g.S.Source.left c.args.source.now) (g.K.Sink.held c.args.sink.now) name emits (Appends-nil (g.K.Sink.held c.args.sink.now))
 
 pub returns-in-Ok-Work-clause-simulated : goal.returns-in-Ok-Work-clause-simulated
 returns-in-Ok-Work-clause-simulated g c =
@@ -196,15 +226,3 @@ returns-in-Ok-Nothing-clause-simulated g c = λ seed simulates.
 pub returns-in-Err-clause-simulated : goal.returns-in-Err-clause-simulated
 returns-in-Err-clause-simulated g c = λ seed simulates.
     nothing_made c.made_events_carry_parts.ensures (texts_of c.args.words.now) (g.S.Source.left c.args.source.now) (g.K.Sink.held c.args.sink.now) seed simulates (Appends-nil (g.K.Sink.held c.args.sink.now))
-
-pub returns-in-Ok-Work-clause-carried : goal.returns-in-Ok-Work-clause-carried
-returns-in-Ok-Work-clause-carried g c = carried_told c.events_carry_parts.ensures (texts_of c.args.words.now) (g.S.Source.left c.args.source.now)
-
-pub returns-in-Ok-Replay-clause-carried : goal.returns-in-Ok-Replay-clause-carried
-returns-in-Ok-Replay-clause-carried g c = carried_told c.events_carry_parts.ensures (texts_of c.args.words.now) (g.S.Source.left c.args.source.now)
-
-pub returns-in-Ok-Nothing-clause-carried : goal.returns-in-Ok-Nothing-clause-carried
-returns-in-Ok-Nothing-clause-carried g c = carried_told c.events_carry_parts.ensures (texts_of c.args.words.now) (g.S.Source.left c.args.source.now)
-
-pub returns-in-Err-clause-carried : goal.returns-in-Err-clause-carried
-returns-in-Err-clause-carried g c = carried_told c.events_carry_parts.ensures (texts_of c.args.words.now) (g.S.Source.left c.args.source.now)
