@@ -23,7 +23,7 @@ use Rattle.wrp_port.specs.Outputs.{is_word}
 use Rattle.wrp_servo.specs.Laws.{TrackHasChain}
 use Rattle.wrp_servo.specs.Table.{is_track}
 use Rattle.wrp_world.specs.declared.event.Event.{Event}
-use Rattle.wrp_world.specs.declared.event.Event.TheVariants.{Pass, Tick, Sample, Depart, Arrive, Deliver, Noise, Down, Up, Cut, Join}
+use Rattle.wrp_world.specs.declared.event.Event.TheVariants.{Tick}
 use Rattle.wrp_world.specs.Given.{Given, event_steps, given_by, given_plain, gives, step_of, steps_of, world_step}
 use Rattle.wrp_world.specs.Moved.{moved}
 use Rattle.wrp_world.specs.Run.{Happened, world_after}
@@ -121,16 +121,7 @@ IsNoTickEvent _ = Unit {0}
 
 no_tick_of : (n : ℕ) (e : Event) → IsNoTickEvent e → IsNoTickOf n e
 no_tick_of n (Tick m) h = absurd h
-no_tick_of n (Pass dt drifts fibres) h = tt
-no_tick_of n (Sample m base bits) h = tt
-no_tick_of n (Depart m p stamp) h = tt
-no_tick_of n (Arrive i raw) h = tt
-no_tick_of n (Deliver i) h = tt
-no_tick_of n (Noise m p octets raw) h = tt
-no_tick_of n (Down m) h = tt
-no_tick_of n (Up m off swaps) h = tt
-no_tick_of n (Cut k) h = tt
-no_tick_of n (Join k ms sm) h = tt
+no_tick_of n e h = tt
 
 event_true : (s : Setting) (says : Result PtpMsg FrameFault) (y : ℤ) (w : WorldAt) (e : Event) → IsNoTickEvent e → AllByRecursion (IsTrueStep s (world_step s says y w e)) (event_steps s says y w e)
 event_true s says y w e h =
@@ -199,16 +190,7 @@ tick_true laws s says y before m runs =
 reports_by : ReportLaws → (s : Setting) (says : Result PtpMsg FrameFault) (y : ℤ) (before : List Happened) (e : Event) → TrueRun s (record { event = e; says = says; answer = y } ∷ before) →
     AllByRecursion (IsTrueStep s (world_step s says y (world_after s before) e)) (event_steps s says y (world_after s before) e)
 reports_by laws s says y before (Tick m) runs = tick_true laws s says y before m runs
-reports_by laws s says y before (Pass dt drifts fibres) runs = event_true s says y (world_after s before) (Pass dt drifts fibres) tt
-reports_by laws s says y before (Sample m base bits) runs = event_true s says y (world_after s before) (Sample m base bits) tt
-reports_by laws s says y before (Depart m p stamp) runs = event_true s says y (world_after s before) (Depart m p stamp) tt
-reports_by laws s says y before (Arrive i raw) runs = event_true s says y (world_after s before) (Arrive i raw) tt
-reports_by laws s says y before (Deliver i) runs = event_true s says y (world_after s before) (Deliver i) tt
-reports_by laws s says y before (Noise m p octets raw) runs = event_true s says y (world_after s before) (Noise m p octets raw) tt
-reports_by laws s says y before (Down m) runs = event_true s says y (world_after s before) (Down m) tt
-reports_by laws s says y before (Up m off swaps) runs = event_true s says y (world_after s before) (Up m off swaps) tt
-reports_by laws s says y before (Cut k) runs = event_true s says y (world_after s before) (Cut k) tt
-reports_by laws s says y before (Join k ms sm) runs = event_true s says y (world_after s before) (Join k ms sm) tt
+reports_by laws s says y before e runs = event_true s says y (world_after s before) e tt
 
 pub track_reports_are_true : ReportLaws → TrackReportsAreTrue
 track_reports_are_true laws s h before runs = reports_by laws s h.says h.answer before h.event runs

@@ -1,5 +1,5 @@
 -- A port whose lease was renewed, and not lost since, has its carrier.
-use Rattle.std.proofs.Common.{◌≡◌, ◌⊎◌, inl, inr, ◌∙◌, refl, ap, ℕ, ◌+◌, ◌==◌, ◌&&◌, Bool, true, false, if◌then◌else◌, List, [], ◌∷◌, Option, None, Some, option_map}
+use Rattle.std.proofs.Common.{◌≡◌, ◌⊎◌, inl, inr, ◌∙◌, refl, ap, ℕ, ◌+◌, ◌==◌, Bool, true, false, if◌then◌else◌, List, [], ◌∷◌, Option, None, Some, option_map}
 use Rattle.std.specs.Option.{is_none}
 use Rattle.wrp_base.specs.declared.link.LinkState.{LinkState}
 use Rattle.wrp_base.specs.declared.link.LinkState.TheVariants.{Idle}
@@ -23,6 +23,7 @@ use Rattle.wrp_port.specs.declared.setting.Setting.{Setting}
 use Rattle.wrp_port.specs.Hearing.{early_reason, is_open, is_addressed, is_port, link_input, renews}
 use Rattle.wrp_port.specs.History.{input_unless, link_by, link_inputs, link_of, renews_at, since_renewal, to_link, with_input, zero_where}
 use Rattle.wrp_truth.proofs.Resting.{open_has_carrier}
+use Rattle.wrp_truth.proofs.Basics.{none_some, not_true, both}
 
 -- Inputs of a link by which no carrier goes
 
@@ -54,19 +55,12 @@ lit_on set told (Some input) out e =
 
 -- A message that renews the lease
 
-not_true : false ≡ true → ⊥
-not_true e = cc
-
 heard_by : (domain source addressed takes : Bool) → is_none (if domain then (if source then (if addressed then (if takes then None else Some Quiet) else Some NotForUs) else Some Stranger) else Some Domain) ≡ true → (source ≡ true) × (takes ≡ true)
 heard_by true true true true e = (refl, refl)
 heard_by true true true false e = absurd (not_true e)
 heard_by true true false takes e = absurd (not_true e)
 heard_by true false addressed takes e = absurd (not_true e)
 heard_by false source addressed takes e = absurd (not_true e)
-
-both : (a b : Bool) → (a && b) ≡ true → (a ≡ true) × (b ≡ true)
-both true b e = (refl, e)
-both false b e = absurd (not_true e)
 
 -- came from the peer of a port that takes messages, and is one by which a role's lease is renewed
 pub record Renews (set : Setting) (l : LinkAt) (m : PtpMsg) : Type 0 where
@@ -92,9 +86,6 @@ no_loss set Slave None _ e = cc
 no_loss set Master None (Signal target (Some m)) e = cc
 no_loss set Master None (Signal target None) e = cc
 no_loss set Master None _ e = cc
-
-none_some : {A : Type 0} (x : A) → None ≡ Some x → ⊥
-none_some x e = cc
 
 turned_some : (o : Option ℕ) (turns : ℕ) → option_map (λ n. n + 1) o ≡ Some turns → (u : ℕ) × (o ≡ Some u)
 turned_some None turns e = absurd (none_some turns e)

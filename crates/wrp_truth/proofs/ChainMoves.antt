@@ -34,9 +34,6 @@ pub record MoveLaws : Type 0 where
 
 -- What moves above a node, in an event after which it may be followed
 
-less_rate : (a b c : ℕ) → a ≡ b → b ≡ c → a ≤ c
-less_rate a b c e f = omega (arith, e, f)
-
 same_limit : (rate most : ℕ) (q : Moment → ℤ) (a b : Moment) → rate ≡ most → MovesSlowly rate q a b → MovesSlowly most q a b
 same_limit rate most q a b e h = subst (λ r. MovesSlowly r q a b) e h
 

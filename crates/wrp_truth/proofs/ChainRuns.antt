@@ -8,13 +8,13 @@ use Rattle.std.proofs.Math.Nat.{mul-le-mul_right}
 use Rattle.std.specs.List.{position, prefix_len}
 use Rattle.std.specs.Option.{option_map_or}
 use Rattle.std.specs.Prelude.{nat_lt, slice_get}
-use Rattle.wrp_base.specs.Circle.{distance_round}
-use Rattle.wrp_base.specs.Clock.{period_of, step_of as tag_step}
 use Rattle.wrp_base.specs.declared.link.Role.TheVariants.{Master}
 use Rattle.wrp_base.specs.declared.message.PtpMsg.{PtpMsg}
 use Rattle.wrp_base.specs.declared.network.LinkCfg.{LinkCfg}
-use Rattle.wrp_bounds.specs.Bounds.{numbers_of}
+use Rattle.wrp_base.specs.Circle.{distance_round}
+use Rattle.wrp_base.specs.Clock.{period_of, step_of as tag_step}
 use Rattle.wrp_bounds.specs.declared.numbers.HopNumbers.{HopNumbers}
+use Rattle.wrp_bounds.specs.Bounds.{numbers_of}
 use Rattle.wrp_bounds.specs.Hop.{detector_error as hop_error, gap_motion}
 use Rattle.wrp_bounds.specs.Times.{longest_tick}
 use Rattle.wrp_frame.specs.declared.fault.FrameFault.{FrameFault}
@@ -55,19 +55,21 @@ use Rattle.wrp_truth.specs.Leases.{FollowsSource, IsCarried}
 use Rattle.wrp_truth.specs.Moments.{AtEach}
 use Rattle.wrp_truth.specs.Rates.{HasChain}
 use Rattle.wrp_truth.specs.Views.{moment_at, moments_of}
+use Rattle.wrp_truth.proofs.Basics.{not_true, some_is}
 use Rattle.wrp_truth.proofs.ChainMoves.{HasNewest, MoveLaws, chain_passes_slowly, limits_above, newest_moment}
 use Rattle.wrp_truth.proofs.ChainSources.{chain_has_source}
 use Rattle.wrp_truth.proofs.HopNumbers.{HopHas, hop_has}
 use Rattle.wrp_truth.proofs.Inputs.{GivesTo, node_kept}
 use Rattle.wrp_truth.proofs.LeaseSources.{both_nodes, same_last}
 use Rattle.wrp_truth.proofs.LinksAbove.{above_is}
-use Rattle.wrp_truth.proofs.LiveChains.{IsIdleInput, IsNoSampleInput, SinceGood, Stands, TagsAre, chain_live, heard_deglitched, input_since, input_stood, input_tags, sample_since, sample_stood, sample_tags, tick_since, unheard_first}
+use Rattle.wrp_truth.proofs.LiveChains.{IsIdleInput, IsNoSampleInput, SinceGood, Stands, TagsAre, chain_live, heard_deglitched, input_since, input_tags, sample_since, sample_stood, sample_tags, tick_since, unheard_first}
 use Rattle.wrp_truth.proofs.Moving.{ways_stay}
 use Rattle.wrp_truth.proofs.NodeRuns.{node_is}
 use Rattle.wrp_truth.proofs.Offsets.{plain_off, same_off}
 use Rattle.wrp_truth.proofs.OnTime.{on_time, ticked_past}
-use Rattle.wrp_truth.proofs.Parents.{IsCalmOf, has_servo, not_up, some_is, ticked_node}
-use Rattle.wrp_truth.proofs.Suffixes.{at_newest, run_before}
+use Rattle.wrp_truth.proofs.Parents.{IsCalmOf, has_servo, not_up, ticked_node}
+use Rattle.wrp_truth.proofs.SampleEvents.{IsNoSampleOf, no_sample_to, stood_before}
+use Rattle.wrp_truth.proofs.Suffixes.{at_newest, run_before, rest_length}
 
 -- the laws that this stands on
 pub record ChainRunLaws : Type 0 where
@@ -81,9 +83,6 @@ pub record ChainRunLaws : Type 0 where
   pub starts : ChainStarts
   pub moment : MomentKeepsChain
   pub sample : SampleKeepsChain
-
-not_true : false ≡ true → ⊥
-not_true e = cc
 
 -- The servo of a node
 
@@ -115,32 +114,10 @@ phase_is laws s events n net chain =
 
 -- Events that bring no sample to it
 
-abbrev IsNoSampleOf : ℕ → Event → Type 0
-IsNoSampleOf n (Sample m base bits) = n ≡ m → ⊥
-IsNoSampleOf n _ = Unit {0}
-
-no_sample_to : (n : ℕ) (e : Event) → IsNoSampleOf n e → GivesTo IsNoSampleInput n e
-no_sample_to n (Tick m) h = λ is. tt
-no_sample_to n (Sample m base bits) h = λ is number. absurd (h is)
-no_sample_to n (Depart m p stamp) h = λ q seq delay t. tt
-no_sample_to n (Deliver i) h = λ q octets raw sample. tt
-no_sample_to n (Noise m p octets raw) h = λ sample. tt
-no_sample_to n (Down m) h = λ q. tt
-no_sample_to n (Up m off swaps) h = (λ is. tt, λ q own_module. tt)
-no_sample_to n (Cut k) h = λ q. tt
-no_sample_to n (Join k ms sm) h = λ q own_module. tt
-no_sample_to n (Pass dt drifts fibres) h = tt
-no_sample_to n (Arrive i raw) h = tt
-
 other_tags : (s : Setting) (h : Happened) (before : List Happened) (n : ℕ) → IsNoSampleOf n h.event → TagsAre (set_at s n) (tags_at s before n) (calls_at s (h ∷ before) n)
 other_tags s h before n none =
     node_kept (λ (m : NodeAt). TagsAre (set_at s n) (tags_at s before n) m.calls) IsNoSampleInput s h.says h.answer (world_after s before) h.event n
     (λ t m q k. input_tags (fixed_of s n) (tags_at s before n) t m q k) (no_sample_to n h.event none) (λ e. refl)
-
-other_stood : ChainSince → (s : Setting) (h : Happened) (before : List Happened) (n : ℕ) → IsNoSampleOf n h.event → HasChain s n (h ∷ before) → HasChain s n before
-other_stood law s h before n none =
-    node_kept (λ (m : NodeAt). Stands (run (set_at s n) m.calls) → HasChain s n before) IsNoSampleInput s h.says h.answer (world_after s before) h.event n
-    (λ t m q old. input_stood law (fixed_of s n) (calls_at s before n) t m q old) (no_sample_to n h.event none) (λ chain. chain)
 
 abbrev IsIdleOf : ℕ → Event → Type 0
 IsIdleOf n (Tick m) = n ≡ m → ⊥
@@ -163,16 +140,8 @@ idle_to n (Arrive i raw) h = tt
 
 idle_calm : (n : ℕ) (e : Event) → IsIdleOf n e → IsCalmOf n e
 idle_calm n (Tick m) h = h
-idle_calm n (Sample m base bits) h = tt
-idle_calm n (Depart m p stamp) h = tt
-idle_calm n (Deliver i) h = tt
-idle_calm n (Noise m p octets raw) h = tt
-idle_calm n (Down m) h = tt
 idle_calm n (Up m off swaps) h = h
-idle_calm n (Cut k) h = tt
-idle_calm n (Join k ms sm) h = tt
-idle_calm n (Pass dt drifts fibres) h = tt
-idle_calm n (Arrive i raw) h = tt
+idle_calm n e h = tt
 
 -- A sample of it
 
@@ -380,10 +349,6 @@ no_good laws s h before k link hop run is numbers chain later none same c late =
 count_more : (a b : ℕ) → a ≡ b → suc a ≡ b + 1
 count_more a b e = omega (arith, e)
 
-rest_length : (a b : List Happened) → length b ≤ length (a ++ b)
-rest_length [] b = omega arith
-rest_length (x ∷ a) b = let h : length b ≤ length (a ++ b) = rest_length a b in omega (arith, h)
-
 -- two good samples are one
 good_same : (a b : Good) → a.number ≡ b.number → a.tag ≡ b.tag → a.u ≡ b.u → a.at ≡ b.at → a ≡ b
 good_same a b n t u p = λ i. record { number = n i; tag = t i; u = u i; at = p i }
@@ -517,7 +482,7 @@ other_held : ChainRunLaws → (s : Setting) (h : Happened) (before : List Happen
     ((tm : ℤ) → HasChain s link.lower before → ((world_after s before).clock link.lower).ticked ≤ℤ (tm +ℤ pos (since_at s before link.lower * longest_tick s.cfg)) →
     ((world_after s (h ∷ before)).clock link.lower).ticked ≤ℤ (tm +ℤ pos (since_at s (h ∷ before) link.lower * longest_tick s.cfg))) → Held s (h ∷ before) k link hop
 other_held laws s h before k link hop run is numbers chain none good old late =
-    let was : HasChain s link.lower before = other_stood laws.since s h before link.lower none chain in
+    let was : HasChain s link.lower before = stood_before laws.since s h before link.lower none chain in
     let c : Held s before k link hop = old was in
     no_good laws s h before k link hop run is numbers was chain good (other_tags s h before link.lower none (has_tags laws s (h ∷ before) link.lower chain)) c (late c.holds.moment.time was c.late)
 
@@ -637,14 +602,7 @@ step_held laws s says y before (Up m off swaps) k link hop run fits is numbers c
     (λ was same.
     not_up ((world_after s before).clock link.lower).up (node_up s before k link laws (run_before s h before run) is was)
     (subst (λ n. not (not ((world_after s before).clock n).up) ≡ false) (sym same) (comes_up_down s (world_after s before) says m off swaps run.accepted.0))) old
-step_held laws s says y before (Pass dt drifts fibres) k link hop run fits is numbers chain old = idle_held laws s (record { event = Pass dt drifts fibres; says = says; answer = y }) before k link hop run is numbers chain tt refl (λ was. tt) old
-step_held laws s says y before (Depart m p stamp) k link hop run fits is numbers chain old = idle_held laws s (record { event = Depart m p stamp; says = says; answer = y }) before k link hop run is numbers chain tt refl (λ was. tt) old
-step_held laws s says y before (Arrive i raw) k link hop run fits is numbers chain old = idle_held laws s (record { event = Arrive i raw; says = says; answer = y }) before k link hop run is numbers chain tt refl (λ was. tt) old
-step_held laws s says y before (Deliver i) k link hop run fits is numbers chain old = idle_held laws s (record { event = Deliver i; says = says; answer = y }) before k link hop run is numbers chain tt refl (λ was. tt) old
-step_held laws s says y before (Noise m p octets raw) k link hop run fits is numbers chain old = idle_held laws s (record { event = Noise m p octets raw; says = says; answer = y }) before k link hop run is numbers chain tt refl (λ was. tt) old
-step_held laws s says y before (Down m) k link hop run fits is numbers chain old = idle_held laws s (record { event = Down m; says = says; answer = y }) before k link hop run is numbers chain tt refl (λ was. tt) old
-step_held laws s says y before (Cut l) k link hop run fits is numbers chain old = idle_held laws s (record { event = Cut l; says = says; answer = y }) before k link hop run is numbers chain tt refl (λ was. tt) old
-step_held laws s says y before (Join l ms sm) k link hop run fits is numbers chain old = idle_held laws s (record { event = Join l ms sm; says = says; answer = y }) before k link hop run is numbers chain tt refl (λ was. tt) old
+step_held laws s says y before e k link hop run fits is numbers chain old = idle_held laws s (record { event = e; says = says; answer = y }) before k link hop run is numbers chain tt refl (λ was. tt) old
 
 held_all : ChainRunLaws → (s : Setting) (events : List Happened) (k : ℕ) (link : LinkCfg) (hop : HopNumbers) → IsRun s events → AllFit events → link_of s k ≡ Some link → numbers_of s.cfg link.lower ≡ Some hop → HasChain s link.lower events → Held s events k link hop
 held_all laws s [] k link hop run fits is numbers chain = absurd (not_true chain)

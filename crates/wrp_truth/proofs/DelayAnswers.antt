@@ -30,8 +30,8 @@ use Rattle.wrp_world.specs.declared.event.Event.TheVariants.{Deliver}
 use Rattle.wrp_world.specs.Premises.{Accepts}
 use Rattle.wrp_world.specs.Run.{Happened, world_after}
 use Rattle.wrp_world.specs.RunLaws.{HasTimes}
-use Rattle.wrp_world.specs.RunStamps.{ArrivedSo, DepartedSo}
 use Rattle.wrp_world.specs.Runs.{IsRun, WasPutOut}
+use Rattle.wrp_world.specs.RunStamps.{ArrivedSo, DepartedSo}
 use Rattle.wrp_world.specs.Setting.{Setting, end_at, end_of, fixed_of, link_of, of_node, other_of}
 use Rattle.wrp_world.specs.WorldAt.{Arrival, FrameAt, Sending, WorldAt, delay_from, ends_are_up, has_carrier, reading}
 use Rattle.wrp_world.proofs.RunGiven.{end_is}
@@ -41,19 +41,24 @@ use Rattle.wrp_truth.specs.Leases.{IsCarried}
 use Rattle.wrp_truth.specs.Moments.{AtEach}
 use Rattle.wrp_truth.specs.SequenceIds.{IsOpenAt}
 use Rattle.wrp_truth.specs.Views.{moment_at, moments_of}
+use Rattle.wrp_truth.proofs.ArrivalStamps.{stamp_near}
 use Rattle.wrp_truth.proofs.DelayDepartures.{Departs, Given, Inside, open_at, past_of, run_at, start_at}
-use Rattle.wrp_truth.proofs.DelayFrames.{Stayed, arrival_raw, frame_stays}
-use Rattle.wrp_truth.proofs.DelayNewest.{Newest, put_since, requested}
-use Rattle.wrp_truth.proofs.DelayOpen.{carried_since}
-use Rattle.wrp_truth.proofs.DelayPieces.{deliver_young, same_end, same_request, still_deliver, was_then}
+use Rattle.wrp_truth.proofs.DelayNewest.{Newest}
+use Rattle.wrp_truth.proofs.DelayPieces.{same_end, same_request, still_deliver, was_then}
 use Rattle.wrp_truth.proofs.DelayPutOut.{Answered, AnsweredIn, was_answered}
-use Rattle.wrp_truth.proofs.DelayQueues.{departs_once}
-use Rattle.wrp_truth.proofs.DelayRequests.{IsRequest}
 use Rattle.wrp_truth.proofs.DelayResponses.{IsResponse}
-use Rattle.wrp_truth.proofs.DelayStamps.{HopErrors, hop_errors, stamp_near}
 use Rattle.wrp_truth.proofs.DelayWire.{merged_whole, told_back}
-use Rattle.wrp_truth.proofs.Parents.{some_is}
+use Rattle.wrp_truth.proofs.DepartedFrames.{Stayed, arrival_raw, frame_stays}
+use Rattle.wrp_truth.proofs.OpenPorts.{carried_since}
+use Rattle.wrp_truth.proofs.PutOut.{put_since}
+use Rattle.wrp_truth.proofs.Sendings.{WasPut, was_put}
 use Rattle.wrp_truth.proofs.Suffixes.{appended, at_rest, count_is, older_run, run_before}
+use Rattle.wrp_truth.proofs.TimedQueues.{departs_once}
+use Rattle.wrp_truth.proofs.TimedTicks.{sent_timed}
+use Rattle.wrp_truth.proofs.Basics.{some_is}
+use Rattle.wrp_truth.proofs.HopNumbers.{HopHas, hop_has}
+use Rattle.wrp_truth.proofs.Deliveries.{deliver_holds}
+use Rattle.wrp_truth.proofs.StepSends.{IsRequest}
 
 -- The departure
 
@@ -139,13 +144,13 @@ asks_by c events z run young an =
       put = frame_at_end c d an.in_it.number g Slave then_run an.in_it.there an.in_it.link_is an.in_it.by_is;
       young =
           both_young (world_after s events).time z.at (world_after s d).time g.sending.at (frame_life s.cfg) young (an.at ∙ still_deliver s an.hands d an.in_it.number an.in_it.event)
-          (deliver_young s (world_after s d) an.hands.says an.in_it.number g (subst (Accepts s (world_after s d) an.hands.says) an.in_it.event after.accepted.0) an.in_it.there);
+          (deliver_holds s (world_after s d) an.hands.says an.in_it.number g (subst (Accepts s (world_after s d) an.hands.says) an.in_it.event after.accepted.0) an.in_it.there).0;
     }
 
 asks : (c : Given) (events : List Happened) (h : Happened) (x : Sending) → IsRun c.s events → IsRun c.s (h ∷ events) → (it : Hands c events h x) → Asks c events it.frame.sending
 asks c events h x run next it =
     asks_by c events it.frame.sending run
-    (deliver_young c.s (world_after c.s events) h.says it.number it.frame (subst (Accepts c.s (world_after c.s events) h.says) it.event next.accepted.0) it.there)
+    (deliver_holds c.s (world_after c.s events) h.says it.number it.frame (subst (Accepts c.s (world_after c.s events) h.says) it.event next.accepted.0) it.there).0
     (was_answered c.s events c.k c.link it.frame.sending run c.is (subst IsResponse (sym it.body) tt) (frame_at_end c events it.number it.frame Master run it.there it.link_is it.by_is))
 
 -- it is that newest one
@@ -174,7 +179,8 @@ time_told c events z receive requesting body a =
     let y : PtpMsg = a.it.frame.sending.message in
     let transition : ℕ = transition_of (link_at (c.s.set c.link.upper) ((world_after c.s a.handed).node c.link.upper) c.link.upper_port).own_module in
     let n : ℕ = merged (c.s.set c.link.upper).servo.clock a.it.arrival.raw transition in
-    let whole : y.head.correction ≡ pos 0 = (requested c.laws.opens.quiet.ends c.s a.handed c.k c.link a.it.frame.sending a.run c.is a.it.request a.put).whole in
+    let put_in : WasPut c.s a.handed c.k Slave a.it.frame.sending = was_put c.s a.handed c.k Slave a.it.frame.sending a.put in
+    let whole : y.head.correction ≡ pos 0 = (sent_timed c.laws.opens.quiet.links c.s put_in.older c.k Slave c.link a.it.frame.sending c.is a.it.request put_in.in_it).plain in
     let told : receive ≡ timestamp_of n = stamp_told receive (timestamp_of n) requesting y.head.source (sym body ∙ ap (λ (m : PtpMsg). m.body) a.it.message) in
     let rest : z.message.head.correction ≡ corrected_by (pos 0) n = ap (λ (m : PtpMsg). m.head.correction) a.it.message ∙ ap (λ t. corrected_by t n) whole in
     ap (λ t. earlier_by t z.message.head.correction) told ∙ ap (earlier_by (timestamp_of n)) rest ∙ told_back n (merged_whole (c.s.set c.link.upper).servo.clock a.it.arrival.raw transition)
@@ -207,7 +213,7 @@ carried_then c events z i a it =
     later_too (world_after s events).time a.it.frame.sending.at a.it.frame.at (world_after s e).time (frame_life s.cfg) a.young times.sent
     (subst (λ t. a.it.frame.at ≤ℤ t) it.so.time (arrived_after (world_after s a.handed) a.it.frame a.it.arrival a.it.arrived times).0) in
     at_rest (IsCarried s c.k) a.since it.between e
-    (carried_since c.laws.opens.quiet s (a.since ++ it.between) e c.k c.link (subst (IsRun s) all (run_at c events i)) c.is (subst (IsOpenAt s c.link Slave) all (open_at c events i))
+    (carried_since c.laws.opens.quiet s (a.since ++ it.between) e c.k Slave c.link (subst (IsRun s) all (run_at c events i)) c.is (subst (IsOpenAt s c.link Slave) all (open_at c events i))
     (subst (λ l. (world_after s l).time ≤ℤ ((world_after s e).time +ℤ pos (2 * frame_life s.cfg))) all soon))
 
 -- the stamp is near the reading at the arrival
@@ -217,7 +223,7 @@ near_then c events z i a it =
     let s : Setting = c.s in
     let e : List Happened = it.so.older in
     subst (λ l. unsigned_abs ((stamp_at c l a.it.arrival.raw a.it.arrival.sample).value -ℤ reading (world_after s e) c.link.upper) ≤ of_node (λ node. node.e_tag) s c.link.upper) (sym it.came)
-    (stamp_near c.laws.stamps s it.between e c.k c.link a.it.frame a.it.arrival.raw a.it.arrival.sample (subst (IsRun s) it.came a.run) c.is (carried_then c events z i a it) (record {
+    (stamp_near c.laws.stamps s it.between e c.k Master c.link a.it.frame a.it.arrival.raw a.it.arrival.sample (subst (IsRun s) it.came a.run) c.is (carried_then c events z i a it) (record {
       link_is = a.it.link_is;
       by_is = a.it.by_is;
       end = it.so.end;
@@ -291,14 +297,13 @@ pair_true c events h x kept i j it dep =
     let later : Stayed s (top ++ there.handed) there.number there.frame = frame_stays s top there.handed there.number there.frame (subst (IsRun s) whole c.run) there.there in
     let at_end : (world_after s c.events).frame there.number ≡ Some later.frame = ap (λ l. (world_after s l).frame there.number) whole ∙ later.there in
     let one : dep.frame ≡ later.frame =
-    departs_once c.laws.opens.quiet.ends s c.events c.k c.link dep.frame later.frame c.run c.is (record { number = dep.number; there = dep.there; link_is = dep.link_is; by_is = dep.by_is })
-    (record { number = there.number; there = at_end; link_is = later.link ∙ there.link_is; by_is = later.by ∙ there.by_is })
+    departs_once c.laws.opens.quiet.ends s c.events c.k Slave c.link dep.number there.number dep.frame later.frame c.run c.is dep.there at_end dep.link_is dep.by_is (later.link ∙ there.link_is) (later.by ∙ there.by_is)
     (subst (λ (t : Sending). IsRequest t.message.body) (sym dep.sending) it.newest.request) (dep.sending ∙ sym there.sending ∙ sym later.sending) in
     let arrived : dep.frame.arrival ≡ Some there.arrival = ap (λ (t : FrameAt). t.arrival) one ∙ later.arrival there.arrival there.arrived in
     let left : LeftSo c dep.older dep.frame = left_so c dep.newer dep.older dep.frame dep.splits dep.moment dep.link_is dep.by_is (c.laws.stamped s c.events dep.number dep.frame c.run dep.there).0 in
     let times : (dep.frame.at ≤ℤ there.arrival.at) × (there.arrival.at ≤ℤ (world_after s c.events).time) × (dep.frame.moment ≤ there.arrival.moment) × (there.arrival.moment ≤ (world_after s c.events).count) × (there.arrival.at ≡ dep.frame.due) =
     arrived_after (world_after s c.events) dep.frame there.arrival arrived (c.laws.times s c.events dep.number dep.frame c.run dep.there) in
-    let has : HopErrors s c.link c.hop = hop_errors s c.run.network c.k c.link c.hop c.is c.numbers in
+    let has : HopHas s c.link c.hop = hop_has s c.run.network c.k c.link c.hop c.is c.numbers in
     let sent : Moment = moment_at c.k c.link (world_after s dep.older) in
     let came : Moment = moment_at c.k c.link (world_after s there.older) in
     let run_older : IsRun s dep.older = older_run s dep.newer dep.older (subst (IsRun s) dep.splits c.run) in

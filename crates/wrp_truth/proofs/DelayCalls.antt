@@ -25,17 +25,11 @@ use Rattle.wrp_port.specs.History.{calls_of, line_of}
 use Rattle.wrp_port.specs.LineAfter.{requests_on, ticked}
 use Rattle.wrp_port.specs.Outputs.{only_slave, piece_unless, with_call}
 use Rattle.wrp_port.specs.Wire.{earlier_by}
-use Rattle.wrp_truth.proofs.DelayTells.{KeptByNews, KeptByTurns}
+use Rattle.wrp_truth.proofs.StepTold.{KeptByNews, KeptByTurns}
 
 -- of the newest request's id, with its sending if one was kept, this is so; and that of the pair, if there is one
 abbrev pub Asked : (R : ℕ → Option Sent → Type 0) (S : DelayPair → Type 0) (ring : ℕ) (calls : List Call) → Type 0
 Asked R S ring calls = IfSome (last_request calls) (λ id. R id (first_sent ring calls)) × IfSome (delay_pair ring calls) S
-
-none_some : {A : Type 0} (x : A) → None ≡ Some x → ⊥
-none_some x e = cc
-
-not_true : false ≡ true → ⊥
-not_true e = cc
 
 -- Call by call
 

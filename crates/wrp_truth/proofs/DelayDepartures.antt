@@ -35,11 +35,11 @@ use Rattle.wrp_truth.specs.Rates.{HasChain}
 use Rattle.wrp_truth.specs.SequenceIds.{IsOpenAt}
 use Rattle.wrp_truth.specs.Views.{moment_at, moments_of}
 use Rattle.wrp_truth.proofs.ChainMoves.{HasNewest, newest_moment}
-use Rattle.wrp_truth.proofs.DelayFrames.{Stayed, frame_stays}
+use Rattle.wrp_truth.proofs.DepartedFrames.{Stayed, frame_stays}
 use Rattle.wrp_truth.proofs.DelayNewest.{Newest}
 use Rattle.wrp_truth.proofs.DelayOpen.{chain_open}
 use Rattle.wrp_truth.proofs.DelayPieces.{DelayLaws, behind, later_goods, older_fits, one_start, same_request, still_depart, was_later}
-use Rattle.wrp_truth.proofs.DelayRequests.{IsRequest}
+use Rattle.wrp_truth.proofs.StepSends.{IsRequest}
 use Rattle.wrp_truth.proofs.DelaySamples.{IsHead, latched_newest}
 use Rattle.wrp_truth.proofs.InOrder.{given_frame}
 use Rattle.wrp_truth.proofs.Suffixes.{appended, at_newest, count_is, older_run}

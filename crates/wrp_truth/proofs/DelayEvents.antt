@@ -26,9 +26,9 @@ use Rattle.wrp_world.specs.Setting.{Setting, end_at, fixed_of, other_of, place_o
 use Rattle.wrp_world.specs.WorldAt.{Arrival, FrameAt, Sending, WorldAt}
 use Rattle.wrp_world.proofs.RunGifts.{comes_all, ports_all}
 use Rattle.wrp_world.proofs.RunPorts.{self_equal}
-use Rattle.wrp_truth.proofs.DelayRequests.{IsRequest}
-use Rattle.wrp_truth.proofs.DelayTells.{Hears, IsTurn, KeptByNews, KeptByTurns, frame_told, sample_told, sent_told, settled_told, tick_told, turn_told}
+use Rattle.wrp_truth.proofs.StepTold.{Hears, IsTurn, KeptByNews, KeptByTurns, frame_told, sample_told, sent_told, settled_told, tick_told, turn_told}
 use Rattle.wrp_truth.proofs.Inputs.{GivesTo, all_to, node_given, node_given_all, node_kept}
+use Rattle.wrp_truth.proofs.StepSends.{IsRequest}
 
 -- what an event brings to a port of a node, besides carriers, keeps this
 abbrev pub Brings : (P : List PortIn → Type 0) → Setting → WorldAt → Result PtpMsg FrameFault → (n p : ℕ) → Event → Type 0

@@ -1,43 +1,39 @@
 -- The Delay_Req that a slave's exchange waits for: whatever departs, or is answered, with its id is that one.
-use Rattle.std.proofs.Common.{◌≡◌, ◌⊎◌, inl, inr, ◌∙◌, refl, ap, sym, subst, ℕ, suc, ◌+◌, ◌*◌, ◌<◌, ◌≤◌, not, min, ℤ, pos, ◌+ℤ◌, ◌-ℤ◌, ◌≤ℤ◌, unsigned_abs, true, false, List, [], ◌∷◌, ◌++◌, length, Option, None, Some, option_to_list, Result, arith}
+use Rattle.std.proofs.Common.{◌≡◌, ◌⊎◌, inl, inr, ◌∙◌, refl, ap, sym, subst, ℕ, suc, ◌+◌, ◌*◌, ◌<◌, ◌≤◌, min, ℤ, pos, ◌+ℤ◌, ◌≤ℤ◌, unsigned_abs, List, [], ◌∷◌, ◌++◌, length, Option, None, Some, option_to_list, arith}
 use Rattle.std.proofs.lemmas.Int.{ints}
 use Rattle.std.specs.List.{AllByRecursion}
-use Rattle.std.specs.Int.Signed.{le_z}
 use Rattle.wrp_base.specs.declared.link.Role.TheVariants.{Slave}
-use Rattle.wrp_base.specs.declared.message.Body.{Body}
-use Rattle.wrp_base.specs.declared.message.Body.TheVariants.{Sync, DelayReq, FollowUp, DelayResp, Announce, Signal}
 use Rattle.wrp_base.specs.declared.network.LinkCfg.{LinkCfg}
 use Rattle.wrp_bounds.specs.Times.{frame_life, gap_time, shortest_tick}
-use Rattle.wrp_frame.specs.declared.fault.FrameFault.{FrameFault}
-use Rattle.wrp_base.specs.declared.message.PtpMsg.{PtpMsg}
 use Rattle.wrp_tracking.specs.Chain.{DelayTellsWays, Good}
 use Rattle.wrp_tracking.specs.History.{Was}
 use Rattle.wrp_tracking.specs.Moment.{Moment}
 use Rattle.wrp_world.specs.declared.event.Event.{Event}
 use Rattle.wrp_world.specs.declared.event.Event.TheVariants.{Deliver, Depart}
-use Rattle.wrp_world.specs.Checks.{AllHold}
 use Rattle.wrp_world.specs.Given.{given_by}
 use Rattle.wrp_world.specs.Moved.{moved}
-use Rattle.wrp_world.specs.Premises.{Accepts, deliver_by, deliver_checks}
 use Rattle.wrp_world.specs.Run.{Happened, world_after}
 use Rattle.wrp_world.specs.RunLaws.{FramesHaveTimes, FramesWerePutOut}
-use Rattle.wrp_world.specs.RunStamps.{FramesAreStamped}
 use Rattle.wrp_world.specs.Runs.{IsRun, WasPutOut}
+use Rattle.wrp_world.specs.RunStamps.{FramesAreStamped}
 use Rattle.wrp_world.specs.Setting.{Setting, link_of}
-use Rattle.wrp_world.specs.WorldAt.{Arrival, FrameAt, Sending, WorldAt}
+use Rattle.wrp_world.specs.WorldAt.{Sending, WorldAt}
 use Rattle.wrp_world.proofs.RunTimes.{all_given_time}
 use Rattle.wrp_truth.specs.Chains.{AllFit, ChainHasConstant, good_in, goods_since}
 use Rattle.wrp_truth.specs.Fibres.{FibresKeepTheirShare}
 use Rattle.wrp_truth.specs.Moments.{AtEach}
-use Rattle.wrp_truth.specs.SequenceIds.{IdsComeAgainLate, IsOpenAt, IsTimed, OneTimedAnEvent}
+use Rattle.wrp_truth.specs.SequenceIds.{IdsComeAgainLate, IsOpenAt, OneTimedAnEvent}
 use Rattle.wrp_truth.specs.Views.{moment_at, moments_of}
+use Rattle.wrp_truth.proofs.ArrivalStamps.{StampLaws}
 use Rattle.wrp_truth.proofs.ChainMoves.{HasNewest, newest_moment}
-use Rattle.wrp_truth.proofs.DelayNewest.{Newest, Requested, known_moment, requested}
-use Rattle.wrp_truth.proofs.DelayOpen.{OpenLaws, open_since}
-use Rattle.wrp_truth.proofs.DelayRequests.{IsRequest}
+use Rattle.wrp_truth.proofs.DelayNewest.{Newest, known_moment}
+use Rattle.wrp_truth.proofs.DelayOpen.{OpenLaws}
 use Rattle.wrp_truth.proofs.DelaySamples.{SampleLaws}
-use Rattle.wrp_truth.proofs.DelayStamps.{StampLaws}
+use Rattle.wrp_truth.proofs.OpenPorts.{open_since}
+use Rattle.wrp_truth.proofs.Sendings.{WasPut, was_put}
 use Rattle.wrp_truth.proofs.Suffixes.{at_newest}
+use Rattle.wrp_truth.proofs.TimedTicks.{sent_timed}
+use Rattle.wrp_truth.proofs.StepSends.{IsRequest}
 
 -- the laws that this stands on
 pub record DelayLaws : Type 0 where
@@ -52,9 +48,6 @@ pub record DelayLaws : Type 0 where
   pub once : OneTimedAnEvent
   pub late : IdsComeAgainLate
   pub tells : DelayTellsWays
-
-not_true : false ≡ true → ⊥
-not_true e = cc
 
 -- Lists of events
 
@@ -133,14 +126,6 @@ later_goods P s n (x ∷ a) b older h = later_goods P s n a b older (more P (goo
 
 -- Ids
 
-pub timed : (b : Body) → IsRequest b → IsTimed Slave b
-timed (DelayReq origin) h = tt
-timed (Sync origin) h = absurd h
-timed (FollowUp precise) h = absurd h
-timed (DelayResp receive requesting) h = absurd h
-timed (Announce origin utc p1 quality p2 gm steps source suffix) h = absurd h
-timed (Signal target message) h = absurd h
-
 less_or_same : (a b : ℕ) → a ≤ b → (a < b) ⊎ (a ≡ b)
 less_or_same a b h = grind (arith, h)
 
@@ -157,31 +142,20 @@ pub record Comes (s : Setting) (events : List Happened) (k : ℕ) (x y : Sending
 -- is the newest, if the other one is
 pub same_request : DelayLaws → (s : Setting) (events : List Happened) (k : ℕ) (link : LinkCfg) (x y : Sending) → IsRun s events → link_of s k ≡ Some link → IsOpenAt s link Slave events → Newest s events k x → Comes s events k x y → y ≡ x
 same_request laws s events k link x y run is takes newest comes =
-    let it : Requested s events k link y = requested laws.opens.quiet.ends s events k link y run is comes.request comes.put in
+    let it : WasPut s events k Slave y = was_put s events k Slave y comes.put in
+    let then_open : IsOpenAt s link Slave it.older = (sent_timed laws.opens.quiet.links s it.older k Slave link y is comes.request it.in_it).open_then in
     elim (less_or_same y.moment x.moment (newest.newest y comes.put comes.request)) [
       | inl less ↦
           let whole : IsRun s (it.newer ++ it.older) = subst (IsRun s) it.splits run in
           let still : AtEach (IsOpenAt s link Slave) it.newer it.older =
-          open_since laws.opens.quiet s it.newer it.older k link whole is it.takes (subst (IsOpenAt s link Slave) it.splits takes)
-          (subst (λ l. (world_after s l).time ≤ℤ ((world_after s it.older).time +ℤ pos (2 * frame_life s.cfg))) it.splits (subst (λ t. (world_after s events).time ≤ℤ (t +ℤ pos (2 * frame_life s.cfg))) it.at comes.young)) in
+          open_since laws.opens.quiet s it.newer it.older Slave link whole then_open (subst (IsOpenAt s link Slave) it.splits takes)
+          (subst (λ l. (world_after s l).time ≤ℤ ((world_after s it.older).time +ℤ pos (2 * frame_life s.cfg))) it.splits (subst (λ t. (world_after s events).time ≤ℤ (t +ℤ pos (2 * frame_life s.cfg))) it.in_it.at comes.young)) in
           absurd (too_soon y.at x.at (world_after s events).time (frame_life s.cfg) (65_000 * min (unsigned_abs s.cfg.sync) (unsigned_abs s.cfg.delay) * shortest_tick s.cfg) (unsigned_abs s.cfg.ring * gap_time s.cfg)
           run.network.accepted.inequalities.id_reuse
-          (laws.late s it.newer it.older k link Slave y x whole is it.put it.moment (subst (λ l. WasPutOut x ((world_after s l).end_at k Slave).sent) it.splits newest.put) (timed y.message.body comes.request) (timed x.message.body newest.request) comes.seq still less)
+          (laws.late s it.newer it.older k link Slave y x whole is it.in_it.put it.in_it.moment (subst (λ l. WasPutOut x ((world_after s l).end_at k Slave).sent) it.splits newest.put) comes.request newest.request comes.seq still less)
           (known_moment s events k Slave x run newest.put).1 comes.young)
-      | inr same ↦ laws.once s events k link Slave y x run is comes.put newest.put (timed y.message.body comes.request) (timed x.message.body newest.request) same
+      | inr same ↦ laws.once s events k link Slave y x run is comes.put newest.put comes.request newest.request same
     ]
-
--- What is handed over is young
-
-young_by : (now at : ℤ) (life : ℕ) → not (le_z (now -ℤ at) (pos life)) ≡ false → now ≤ℤ (at +ℤ pos life)
-young_by now at life h = grind (arith, ints, h)
-
-handed_young : (s : Setting) (w : WorldAt) (i : ℕ) (f : FrameAt) (o : Option Arrival) → AllHold (deliver_by s w i f o) → w.time ≤ℤ (f.sending.at +ℤ pos (frame_life s.cfg))
-handed_young s w i f None a = absurd (not_true (sym a.1.0))
-handed_young s w i f (Some arrival) a = young_by w.time f.sending.at (frame_life s.cfg) a.0
-
-pub deliver_young : (s : Setting) (w : WorldAt) (says : Result PtpMsg FrameFault) (i : ℕ) (f : FrameAt) → Accepts s w says (Deliver i) → w.frame i ≡ Some f → w.time ≤ℤ (f.sending.at +ℤ pos (frame_life s.cfg))
-deliver_young s w says i f a there = handed_young s w i f f.arrival (subst (λ o. AllHold (deliver_checks s w i o)) there a)
 
 -- no time passes
 pub still_deliver : (s : Setting) (h : Happened) (before : List Happened) (i : ℕ) → h.event ≡ Deliver i → (world_after s (h ∷ before)).time ≡ (world_after s before).time

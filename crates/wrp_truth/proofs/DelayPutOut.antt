@@ -1,10 +1,7 @@
--- What an event puts out at an end of a link: Delay_Reqs at a tick of the slave alone, and Delay_Resps where the master is
--- handed a Delay_Req.
-use Rattle.std.proofs.Common.{◌≡◌, ◌⊎◌, inl, inr, ◌∙◌, refl, ap, sym, subst, ℕ, ◌+◌, ◌≤◌, ℤ, true, false, if◌then◌else◌, List, [], ◌∷◌, ◌++◌, map, length, Option, None, Some, Result, Ok, arith}
-use Rattle.std.proofs.lemmas.Bool.Decides.{eqb_tells}
+-- A link's master puts out a Delay_Resp where it is handed a Delay_Req of the slave, and nowhere else.
+use Rattle.std.proofs.Common.{◌≡◌, ◌⊎◌, inl, inr, ◌∙◌, refl, ap, sym, subst, ℕ, ℤ, List, [], ◌∷◌, ◌++◌, map, Option, None, Some, Result, Ok}
 use Rattle.std.specs.List.{AllByRecursion}
 use Rattle.std.specs.Option.{option_map_or}
-use Rattle.arrayvec.specs.ArrayVec.{ArrayVec as Items}
 use Rattle.wrp_base.specs.declared.link.Role.{Role}
 use Rattle.wrp_base.specs.declared.link.Role.TheVariants.{Master, Slave}
 use Rattle.wrp_base.specs.declared.message.Body.{Body}
@@ -18,58 +15,31 @@ use Rattle.wrp_node.specs.declared.interface.Input.{Input}
 use Rattle.wrp_node.specs.declared.interface.Input.TheVariants.{Tick as TickInput, Sample as SampleInput, Frame, Sent, Carrier, Reset}
 use Rattle.wrp_node.specs.NodeAt.{Fixed, NodeAt, setting_of}
 use Rattle.wrp_node.specs.NodeStep.{stamp_of}
-use Rattle.wrp_node.specs.Telling.{Step}
 use Rattle.wrp_port.specs.Messages.{response_of}
 use Rattle.wrp_world.specs.declared.event.Event.{Event}
 use Rattle.wrp_world.specs.declared.event.Event.TheVariants.{Pass, Tick, Sample, Depart, Arrive, Deliver, Noise, Down, Up, Cut, Join}
-use Rattle.wrp_world.specs.Given.{Given, delivered, delivered_by, delivered_to, end_given, given, given_by, given_plain, gives, gives_all, put_out, sending, step_of, world_step}
+use Rattle.wrp_world.specs.Given.{Given, delivered, delivered_by, delivered_to, given, gives, gives_all, sending, step_of, world_step}
 use Rattle.wrp_world.specs.Moved.{moved}
 use Rattle.wrp_world.specs.Premises.{Accepts, is_forged}
 use Rattle.wrp_world.specs.Run.{Happened, world_after}
 use Rattle.wrp_world.specs.Runs.{IsNetwork, IsRun, WasPutOut}
 use Rattle.wrp_world.specs.Setting.{Setting, end_at, end_of, fixed_of, link_of, other_of, place_of}
-use Rattle.wrp_world.specs.WorldAt.{Arrival, EndAt, FrameAt, Sending, WorldAt}
+use Rattle.wrp_world.specs.WorldAt.{Arrival, FrameAt, Sending, WorldAt}
 use Rattle.wrp_world.proofs.RunCarriers.{end_alike}
-use Rattle.wrp_world.proofs.RunFlights.{times_keep}
-use Rattle.wrp_world.proofs.RunFrames.{moved_sent}
 use Rattle.wrp_world.proofs.RunGiven.{end_is}
 use Rattle.wrp_world.proofs.RunHanded.{not_forged}
 use Rattle.wrp_world.proofs.RunNetwork.{are_apart}
-use Rattle.wrp_world.proofs.RunPorts.{told_end}
-use Rattle.wrp_truth.proofs.DelayRequests.{IsRequest, IsTick, requests_only}
 use Rattle.wrp_truth.proofs.DelayResponses.{Answers, IsAnswerTo, IsResponse, responses_answer}
-use Rattle.wrp_truth.proofs.DelayTells.{Hears, heard_of_peer}
-use Rattle.wrp_truth.proofs.Inputs.{GivesTo, IsNoTick, IsNoTickOf, To, gives_to, no_tick_to}
-use Rattle.wrp_truth.proofs.Sendings.{WasPut, was_put}
-use Rattle.wrp_truth.proofs.Suffixes.{count_is, older_run}
+use Rattle.wrp_truth.proofs.StepTold.{Hears, heard_of_peer}
+use Rattle.wrp_truth.proofs.Inputs.{GivesTo}
+use Rattle.wrp_truth.proofs.PutOut.{given_put, moved_back, none_put}
+use Rattle.wrp_truth.proofs.Sendings.{WasPut, was_put, PutOutIn, is_new}
+use Rattle.wrp_truth.proofs.Suffixes.{older_run}
+use Rattle.arrayvec.specs.ArrayVec.{ArrayVec as Items}
+use Rattle.wrp_truth.proofs.Basics.{not_true}
+use Rattle.wrp_truth.proofs.StepSends.{IsRequest}
 
--- An end of a link
-
--- it is as it was, or what its node's step sends is put out there
-pub told_there : (Q : EndAt → Type 0) (s : Setting) (y : ℤ) (v : WorldAt) (g : Given) (k : ℕ) (r : Role) (link : LinkCfg) → link_of s k ≡ Some link → Q (v.end_at k r) →
-    ((end_of r link).node ≡ g.to → Q (end_given s v g (step_of s y v g) k r (end_of r link).port)) → Q ((gives s y v g).end_at k r)
-told_there Q s y v g k r link is old new =
-    let step : Step = step_of s y v g in
-    subst Q (sym (ap (told_end s v g step k r) (end_is s k r link is)))
-    (elim (eqb_tells (end_of r link).node g.to) [
-      | inl x ↦ subst (λ b. Q (if b then end_given s v g step k r (end_of r link).port else v.end_at k r)) (sym x.0) (new x.1)
-      | inr x ↦ subst (λ b. Q (if b then end_given s v g step k r (end_of r link).port else v.end_at k r)) (sym x.0) old
-    ])
-
-put_among : (x : Sending) (xs sent : List Sending) → WasPutOut x (put_out xs sent) → WasPutOut x xs ⊎ WasPutOut x sent
-put_among x [] sent h = inr h
-put_among x (z ∷ xs) sent h = elim (put_among x xs (z ∷ sent) h) [
-  | inl there ↦ inl (inr there)
-  | inr now ↦ elim now [ inl is ↦ inl (inl is) | inr old ↦ inr old ]
-]
-
-pub still_put : (x : Sending) (xs sent : List Sending) → WasPutOut x sent → WasPutOut x (put_out xs sent)
-still_put x [] sent h = h
-still_put x (z ∷ xs) sent h = still_put x xs (z ∷ sent) (inr h)
-
-pub now_put : (x : Sending) (xs sent : List Sending) → WasPutOut x xs → WasPutOut x (put_out xs sent)
-now_put x [] sent h = absurd h
-now_put x (z ∷ xs) sent h = elim h [ inl is ↦ still_put x xs (z ∷ sent) (inl is) | inr there ↦ now_put x xs (z ∷ sent) there ]
+-- A response is put out
 
 -- a message of this sort is put out as one of those, now
 pub record SentAs (C : PtpMsg → Type 0) (v : WorldAt) (x : Sending) : Type 0 where
@@ -89,69 +59,6 @@ sent_as I C v x (m ∷ ms) all it h = elim h [
       }
   | inr rest ↦ sent_as I C v x ms all.1 it rest
 ]
-
-given_put : (s : Setting) (y : ℤ) (v : WorldAt) (g : Given) (k : ℕ) (r : Role) (link : LinkCfg) (x : Sending) → link_of s k ≡ Some link → WasPutOut x ((gives s y v g).end_at k r).sent →
-    WasPutOut x (v.end_at k r).sent ⊎ (((end_of r link).node ≡ g.to) × WasPutOut x (map (sending v) ((step_of s y v g).sends (end_of r link).port)))
-given_put s y v g k r link x is h =
-    told_there (λ e. WasPutOut x e.sent → WasPutOut x (v.end_at k r).sent ⊎ (((end_of r link).node ≡ g.to) × WasPutOut x (map (sending v) ((step_of s y v g).sends (end_of r link).port)))) s y v g k r link is
-    (λ old. inl old)
-    (λ here put. elim (put_among x (map (sending v) ((step_of s y v g).sends (end_of r link).port)) (v.end_at k r).sent put) [
-      | inl new ↦ inr (here, new)
-      | inr old ↦ inl old
-    ]) h
-
-moved_back : (s : Setting) (w : WorldAt) (e : Event) (k : ℕ) (r : Role) (x : Sending) → WasPutOut x ((moved s w e).end_at k r).sent → WasPutOut x (w.end_at k r).sent
-moved_back s w e k r x h = subst (WasPutOut x) (moved_sent s w e k r) h
-
--- Delay_Reqs
-
-none_by : (input : Input) → IsNoTick input → IsTick input → ⊥
-none_by TickInput none tick = absurd none
-none_by (SampleInput number base bits) none tick = tick
-none_by (Frame q octets raw sample) none tick = tick
-none_by (Sent q seq delay stamp) none tick = tick
-none_by (Carrier q up own_module) none tick = tick
-none_by Reset none tick = tick
-
-no_request : (s : Setting) (y : ℤ) (gs : List Given) (v : WorldAt) (k : ℕ) (link : LinkCfg) (x : Sending) → link_of s k ≡ Some link → IsRequest x.message.body → To IsNoTick link.lower gs →
-    WasPutOut x ((gives_all s y v gs).end_at k Slave).sent → WasPutOut x (v.end_at k Slave).sent
-no_request s y [] v k link x is it none h = h
-no_request s y (g ∷ gs) v k link x is it none h =
-    elim (given_put s y v g k Slave link x is (no_request s y gs (gives s y v g) k link x is it none.1 h)) [
-      | inl old ↦ old
-      | inr new ↦
-          absurd (none_by g.input (none.0 new.0)
-          (sent_as IsRequest (λ _. IsTick g.input) v x ((step_of s y v g).sends link.lower_port) (requests_only (fixed_of s g.to) _ (v.node g.to) link.lower_port) it new.1).is)
-    ]
-
-pub no_new_request : (s : Setting) (says : Result PtpMsg FrameFault) (y : ℤ) (w : WorldAt) (e : Event) (k : ℕ) (link : LinkCfg) (x : Sending) → link_of s k ≡ Some link → IsNoTickOf link.lower e → IsRequest x.message.body →
-    WasPutOut x ((world_step s says y w e).end_at k Slave).sent → WasPutOut x (w.end_at k Slave).sent
-no_new_request s says y w e k link x is none it h =
-    moved_back s w e k Slave x
-    (no_request s y (given_by s w (moved s w e) says e) (moved s w e) k link x is it (gives_to IsNoTick s w (moved s w e) says link.lower e (no_tick_to link.lower e none)) h)
-
--- at a tick
-pub tick_request : (s : Setting) (says : Result PtpMsg FrameFault) (y : ℤ) (w : WorldAt) (m k : ℕ) (link : LinkCfg) (x : Sending) → link_of s k ≡ Some link → link.lower ≡ m → WasPutOut x ((world_step s says y w (Tick m)).end_at k Slave).sent →
-    WasPutOut x (w.end_at k Slave).sent ⊎ WasPutOut x (map (sending (moved s w (Tick m))) ((step_of s y (moved s w (Tick m)) (given_plain m TickInput)).sends link.lower_port))
-tick_request s says y w m k link x is same h =
-    elim (given_put s y (moved s w (Tick m)) (given_plain m TickInput) k Slave link x is h) [
-      | inl old ↦ inl (moved_back s w (Tick m) k Slave x old)
-      | inr new ↦ inr new.1
-    ]
-
-pub tick_puts : (s : Setting) (says : Result PtpMsg FrameFault) (y : ℤ) (w : WorldAt) (m k : ℕ) (link : LinkCfg) (x : Sending) → link_of s k ≡ Some link → link.lower ≡ m →
-    WasPutOut x (map (sending (moved s w (Tick m))) ((step_of s y (moved s w (Tick m)) (given_plain m TickInput)).sends link.lower_port)) → WasPutOut x ((world_step s says y w (Tick m)).end_at k Slave).sent
-tick_puts s says y w m k link x is same h =
-    let v : WorldAt = moved s w (Tick m) in
-    let g : Given = given_plain m TickInput in
-    let step : Step = step_of s y v g in
-    subst (λ (e : EndAt). WasPutOut x e.sent) (sym (ap (told_end s v g step k Slave) (end_is s k Slave link is)))
-    (elim (eqb_tells link.lower m) [
-      | inl there ↦
-          subst (λ b. WasPutOut x (if b then end_given s v g step k Slave link.lower_port else v.end_at k Slave).sent) (sym there.0)
-          (now_put x (map (sending v) (step.sends link.lower_port)) (v.end_at k Slave).sent h)
-      | inr away ↦ absurd (away.1 same)
-    ])
 
 -- Delay_Resps
 
@@ -178,15 +85,6 @@ given_resp s y v g k link x is it h =
             (sent_as IsResponse (IsAnswerTo (fixed_of s g.to) (v.node g.to) link.upper_port g.input g.says) v x ((step_of s y v g).sends link.upper_port)
                 (responses_answer (fixed_of s g.to) _ (v.node g.to) link.upper_port) it new.1).is,
           )
-    ]
-
-no_resp : (s : Setting) (y : ℤ) (gs : List Given) (v : WorldAt) (k : ℕ) (link : LinkCfg) (x : Sending) → link_of s k ≡ Some link → IsResponse x.message.body → To IsNoFrame link.upper gs →
-    WasPutOut x ((gives_all s y v gs).end_at k Master).sent → WasPutOut x (v.end_at k Master).sent
-no_resp s y [] v k link x is it none h = h
-no_resp s y (g ∷ gs) v k link x is it none h =
-    elim (given_resp s y v g k link x is it (no_resp s y gs (gives s y v g) k link x is it none.1 h)) [
-      | inl old ↦ old
-      | inr new ↦ absurd (no_answer (fixed_of s g.to) (v.node g.to) link.upper_port g.input g.says x.message (none.0 new.0) new.1)
     ]
 
 -- it answers a Delay_Req of the slave that is handed to the master
@@ -271,9 +169,6 @@ frame_resp m y w i x None there it h = inl h
 frame_resp m y w i x (Some f) there it h = arrival_resp m y w i x f f.arrival there refl it h
 
 -- octets that the peer did not send are not taken
-not_true : false ≡ true → ⊥
-not_true e = cc
-
 pub noise_unheard : (s : Setting) (says : Result PtpMsg FrameFault) (w : WorldAt) (n p : ℕ) (octets : Items ℕ) (raw : Raw) (node : NodeAt) (m : PtpMsg) → Accepts s w says (Noise n p octets raw) → says ≡ Ok m → Hears (fixed_of s n) node p m → ⊥
 noise_unheard s says w n p octets raw node m a is h =
     not_true (sym (sym (ap (is_forged s n p) is) ∙ not_forged s w n p says (place_of s n p) a) ∙ (heard_of_peer (fixed_of s n) node p m h).0)
@@ -293,7 +188,10 @@ noise_resp s says y w n p octets raw k link x is a it h =
 quiet_resp : (s : Setting) (says : Result PtpMsg FrameFault) (y : ℤ) (w : WorldAt) (e : Event) (k : ℕ) (link : LinkCfg) (x : Sending) → link_of s k ≡ Some link → GivesTo IsNoFrame link.upper e → IsResponse x.message.body →
     WasPutOut x ((world_step s says y w e).end_at k Master).sent → WasPutOut x (w.end_at k Master).sent
 quiet_resp s says y w e k link x is none it h =
-    moved_back s w e k Master x (no_resp s y (given_by s w (moved s w e) says e) (moved s w e) k link x is it (gives_to IsNoFrame s w (moved s w e) says link.upper e none) h)
+    none_put IsNoFrame s says y w e k Master link x is
+    (λ v g input new.
+    no_answer (fixed_of s g.to) (v.node g.to) link.upper_port g.input g.says x.message input
+    (sent_as IsResponse (IsAnswerTo (fixed_of s g.to) (v.node g.to) link.upper_port g.input g.says) v x ((step_of s y v g).sends link.upper_port) (responses_answer (fixed_of s g.to) _ (v.node g.to) link.upper_port) it new).is) none h
 
 event_resp : (s : Setting) → IsNetwork s → (says : Result PtpMsg FrameFault) (y : ℤ) (w : WorldAt) (e : Event) (k : ℕ) (link : LinkCfg) (x : Sending) → link_of s k ≡ Some link → Accepts s w says e → IsResponse x.message.body →
     WasPutOut x ((world_step s says y w e).end_at k Master).sent → WasPutOut x (w.end_at k Master).sent ⊎ AnsweredIn s w e k link x
@@ -322,23 +220,15 @@ pub record Answered (s : Setting) (events : List Happened) (k : ℕ) (link : Lin
   pub at : x.at ≡ (world_after s (hands ∷ older)).time
   pub in_it : AnsweredIn s (world_after s older) hands.event k link x
 
-too_old : (a b c : ℕ) → a ≡ b + 1 → a ≤ c → c ≡ b → ⊥
-too_old a b c e h f = omega (arith, e, h, f)
-
-one_longer : (b : List Happened) (h : Happened) → length (h ∷ b) ≡ length b + 1
-one_longer b h = omega arith
+answered_now : (s : Setting) (newer older : List Happened) (k : ℕ) (link : LinkCfg) (x : Sending) → IsRun s older → link_of s k ≡ Some link → IsResponse x.message.body → PutOutIn s older k Master x → Answered s (newer ++ older) k link x
+answered_now s newer [] k link x run is it put = absurd put.put
+answered_now s newer (hands ∷ older) k link x run is it put =
+    elim (event_resp s run.network hands.says hands.answer (world_after s older) hands.event k link x is run.accepted.0 it put.put) [
+      | inl old ↦ absurd (is_new s hands older k Master x put old)
+      | inr new ↦ record { newer = newer; hands = hands; older = older; splits = refl; at = put.at; in_it = new }
+    ]
 
 pub was_answered : (s : Setting) (events : List Happened) (k : ℕ) (link : LinkCfg) (x : Sending) → IsRun s events → link_of s k ≡ Some link → IsResponse x.message.body → WasPutOut x ((world_after s events).end_at k Master).sent → Answered s events k link x
 was_answered s events k link x run is it h =
     let put : WasPut s events k Master x = was_put s events k Master x h in
-    found put.newer put.older put.splits put.in_it.put put.in_it.moment put.in_it.at
-  where
-    found : (newer older : List Happened) → events ≡ newer ++ older → WasPutOut x ((world_after s older).end_at k Master).sent → x.moment ≡ length older → x.at ≡ (world_after s older).time → Answered s events k link x
-    found newer [] splits there moment at = absurd there
-    found newer (hands ∷ older) splits there moment at =
-        let then_run : IsRun s (hands ∷ older) = older_run s newer (hands ∷ older) (subst (IsRun s) splits run) in
-        elim (event_resp s run.network hands.says hands.answer (world_after s older) hands.event k link x is then_run.accepted.0 it there) [
-          | inl old ↦
-              absurd (too_old x.moment (length older) (world_after s older).count (moment ∙ one_longer older hands) ((times_keep s older then_run.each.1 then_run.accepted.1).sent k Master x old).1 (count_is s older))
-          | inr new ↦ record { newer = newer; hands = hands; older = older; splits = splits; at = at; in_it = new }
-        ]
+    subst (λ l. Answered s l k link x) (sym put.splits) (answered_now s put.newer put.older k link x (older_run s put.newer put.older (subst (IsRun s) put.splits run)) is it put.in_it)

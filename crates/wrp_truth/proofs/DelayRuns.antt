@@ -1,5 +1,5 @@
 -- In every run the delay pair that a slave's exchange keeps in a chain tells the chain's constant and both ways.
-use Rattle.std.proofs.Common.{◌≡◌, inl, inr, ◌∙◌, refl, ap, sym, subst, ℕ, ◌+◌, ℤ, true, false, is_some, List, [], ◌∷◌, ◌++◌, Option, None, Some, Result}
+use Rattle.std.proofs.Common.{◌≡◌, inl, inr, ◌∙◌, refl, ap, sym, subst, ℕ, ◌+◌, ℤ, true, is_some, List, [], ◌∷◌, ◌++◌, Option, None, Some, Result}
 use Rattle.std.proofs.lemmas.Bool.Decides.{eqb_tells}
 use Rattle.std.specs.Prelude.{IfSome}
 use Rattle.wrp_base.specs.declared.link.Role.{Role}
@@ -11,9 +11,9 @@ use Rattle.wrp_base.specs.declared.message.Body.TheVariants.{Sync, DelayReq, Fol
 use Rattle.wrp_base.specs.declared.message.PtpMsg.{PtpMsg}
 use Rattle.wrp_base.specs.declared.network.LinkCfg.{LinkCfg}
 use Rattle.wrp_base.specs.Network.{End}
-use Rattle.wrp_exch.specs.Call.{Call, CallStart}
 use Rattle.wrp_exch.specs.declared.delay.DelayPair.{DelayPair}
 use Rattle.wrp_exch.specs.declared.delay.Sent.{Sent}
+use Rattle.wrp_exch.specs.Call.{Call, CallStart}
 use Rattle.wrp_frame.specs.declared.fault.FrameFault.{FrameFault}
 use Rattle.wrp_node.specs.declared.interface.Input.TheVariants.{Sample as SampleInput, Tick as TickInput}
 use Rattle.wrp_node.specs.NodeAt.{Fixed, NodeAt, setting_of, settings_of, slave_of}
@@ -24,16 +24,16 @@ use Rattle.wrp_port.specs.declared.interface.PortIn.TheVariants.{Tick as PortTic
 use Rattle.wrp_port.specs.declared.setting.Setting.{Setting as PortSetting}
 use Rattle.wrp_port.specs.History.{calls_of}
 use Rattle.wrp_port.specs.Outputs.{only_slave, with_call}
-use Rattle.wrp_servo.specs.Call.{Call as ServoCall, CallSample, Settings, run as servo_run}
 use Rattle.wrp_servo.specs.declared.interface.ServoOut.{ServoOut}
 use Rattle.wrp_servo.specs.declared.machine.Core.{Core}
 use Rattle.wrp_servo.specs.declared.sampling.Heard.{Heard}
 use Rattle.wrp_servo.specs.declared.sampling.Heard.TheVariants.{Ignored, Refused, Lost, Followed}
+use Rattle.wrp_servo.specs.Call.{Call as ServoCall, CallSample, Settings, run as servo_run}
 use Rattle.wrp_servo.specs.Sampling.{heard_as}
 use Rattle.wrp_servo.specs.Servo.{news_at, news_of, out_by}
 use Rattle.wrp_tracking.specs.DelayPieces.{PairTrue}
 use Rattle.wrp_world.specs.declared.event.Event.{Event}
-use Rattle.wrp_world.specs.declared.event.Event.TheVariants.{Pass, Tick, Sample, Depart, Arrive, Deliver, Noise, Down, Up, Cut, Join}
+use Rattle.wrp_world.specs.declared.event.Event.TheVariants.{Tick, Sample, Depart, Deliver, Noise}
 use Rattle.wrp_world.specs.Given.{Given as Told, given_plain, sending, taken_of}
 use Rattle.wrp_world.specs.Moved.{moved}
 use Rattle.wrp_world.specs.Run.{Happened, world_after}
@@ -50,17 +50,19 @@ use Rattle.wrp_truth.proofs.DelayAnswers.{master_of, pair_true}
 use Rattle.wrp_truth.proofs.DelayCalls.{Asked, AskedOf, MessageFits, asked_less, message_asked, news_asked, sample_asked, tick_asked, told_asked, turns_asked}
 use Rattle.wrp_truth.proofs.DelayDepartures.{Departs, Given, Inside, departs, past_of, run_at, start_at}
 use Rattle.wrp_truth.proofs.DelayEvents.{Brings, event_told, given_node}
-use Rattle.wrp_truth.proofs.DelayNewest.{Newest, NoneNew, certain_then, locked_then, newest_now, newest_stays, none_due, none_new, port_then, request_then}
+use Rattle.wrp_truth.proofs.DelayNewest.{Newest, NoneNew, newest_now, newest_stays, none_due, none_new}
 use Rattle.wrp_truth.proofs.DelayPieces.{DelayLaws, LongerEnd, longer_end}
 use Rattle.wrp_truth.proofs.DelayPutOut.{noise_unheard}
-use Rattle.wrp_truth.proofs.DelaySamples.{stood_before}
-use Rattle.wrp_truth.proofs.DelayTells.{Hears, before_tick, out_told, sample_heard, tick_told}
-use Rattle.wrp_truth.proofs.Inputs.{IsNoTickOf}
+use Rattle.wrp_truth.proofs.StepTold.{Hears, before_tick, out_told, sample_heard, tick_told}
+use Rattle.wrp_truth.proofs.Inputs.{IsNoTickOf, tick_or_not}
 use Rattle.wrp_truth.proofs.LinksAbove.{above_is}
 use Rattle.wrp_truth.proofs.LiveChains.{sample_stood}
 use Rattle.wrp_truth.proofs.Parents.{has_slave, ticked_node}
-use Rattle.wrp_truth.proofs.Quiets.{slave_is}
+use Rattle.wrp_truth.proofs.PortRoles.{role_is}
 use Rattle.wrp_truth.proofs.Suffixes.{appended, at_rest}
+use Rattle.wrp_truth.proofs.TimedTicks.{certain_then, locked_then, port_then, timed_then}
+use Rattle.wrp_truth.proofs.Basics.{not_true}
+use Rattle.wrp_truth.proofs.SampleEvents.{stood_before}
 
 -- What the exchange keeps in a chain
 
@@ -79,9 +81,6 @@ Keeps c events told = AskedOf (Waits c events) (Pairs c) (set_below c) told
 
 abbrev told_at : Given → List Happened → List PortIn
 told_at c events = ((world_after c.s events).node c.link.lower).told c.link.lower_port
-
-not_true : false ≡ true → ⊥
-not_true e = cc
 
 -- where no Delay_Req is put out it is as it was
 kept_still : (c : Given) (h : Happened) (before : List Happened) (told : List PortIn) → NoneNew c.s h before c.k → Keeps c before told → Keeps c (h ∷ before) told
@@ -145,12 +144,7 @@ brought c says y (Noise m q octets raw) before i j none h = λ x at_node at_port
     let w : WorldAt = world_after c.s before in
     absurd (noise_unheard c.s says w m q octets raw (w.node c.link.lower) x (run_at c (record { event = Noise m q octets raw; says = says; answer = y } ∷ before) j).accepted.0 is
     (subst (λ p. Hears (fixed_of c.s m) (w.node c.link.lower) p x) at_port (subst (λ n. Hears (fixed_of c.s n) (w.node c.link.lower) c.link.lower_port x) at_node hears)))
-brought c says y (Pass dt drifts fibres) before i j none h = tt
-brought c says y (Arrive number raw) before i j none h = tt
-brought c says y (Down m) before i j none h = tt
-brought c says y (Up m off swaps) before i j none h = tt
-brought c says y (Cut l) before i j none h = tt
-brought c says y (Join l ms sm) before i j none h = tt
+brought c says y e before i j none h = tt
 
 other_keeps : (c : Given) (h : Happened) (before : List Happened) → Inside c before → Inside c (h ∷ before) → IsNoTickOf c.link.lower h.event → Keeps c before (told_at c before) → Keeps c (h ∷ before) (told_at c (h ∷ before))
 other_keeps c h before i j none old =
@@ -169,33 +163,23 @@ tick_keeps c says y before run old =
     let h : Happened = record { event = Tick n; says = says; answer = y } in
     let w : WorldAt = world_after s before in
     let fixed : Fixed = fixed_of s n in
-    let told : List PortIn = port_then s w link in
+    let told : List PortIn = port_then s w Slave link in
     let mid : Keeps c before told = before_tick (Keeps c before) (news_asked (Waits c before) (Pairs c) (set_below c)) (λ t k. k) fixed (w.node n) link.lower_port old in
     let ticks : Keeps c (h ∷ before) (PortTick (locked_then s w n) (certain_then s w n) ∷ told) =
-    tick_asked (Waits c (h ∷ before)) (Pairs c) (set_below c) told (locked_then s w n) (certain_then s w n) (slave_is c.laws.opens.quiet.ends s run.network c.k link c.is)
-    (λ due. (sending (moved s w (Tick n)) (request_then s w link), newest_now c.laws.opens.quiet.ends s says y before c.k link run c.is due, refl, tt))
-    (λ due. (kept_still c h before told (none_due c.laws.opens.quiet.ends s run.network says y before c.k link c.is due) mid).0) mid.1 in
+    tick_asked (Waits c (h ∷ before)) (Pairs c) (set_below c) told (locked_then s w n) (certain_then s w n) (role_is c.laws.opens.quiet.ends s run.network c.k Slave link c.is)
+    (λ due. (sending (moved s w (Tick n)) (timed_then s w Slave link), newest_now c.laws.opens.quiet.ends s says y before c.k link run c.is due, refl, tt))
+    (λ due. (kept_still c h before told (none_due s says y before c.k link c.is due) mid).0) mid.1 in
     subst (λ (z : NodeAt). Keeps c (h ∷ before) (z.told link.lower_port)) (sym (ticked_node s says y w n n refl).0)
     (tick_told (Keeps c (h ∷ before)) (news_asked (Waits c (h ∷ before)) (Pairs c) (set_below c)) fixed (taken_of y (given_plain n TickInput)) (w.node n) link.lower_port refl ticks)
 
 event_keeps : (c : Given) (says : Result PtpMsg FrameFault) (y : ℤ) (e : Event) (before : List Happened) → Inside c before → Inside c (record { event = e; says = says; answer = y } ∷ before) → Keeps c before (told_at c before) →
     Keeps c (record { event = e; says = says; answer = y } ∷ before) (told_at c (record { event = e; says = says; answer = y } ∷ before))
-event_keeps c says y (Tick m) before i j old = elim (eqb_tells c.link.lower m) [
-  | inl x ↦
-      subst (λ n. Keeps c (record { event = Tick n; says = says; answer = y } ∷ before) (told_at c (record { event = Tick n; says = says; answer = y } ∷ before))) x.1
-      (tick_keeps c says y before (subst (λ n. IsRun c.s (record { event = Tick n; says = says; answer = y } ∷ before)) (sym x.1) (run_at c (record { event = Tick m; says = says; answer = y } ∷ before) j)) old)
-  | inr x ↦ other_keeps c (record { event = Tick m; says = says; answer = y }) before i j x.1 old
+event_keeps c says y e before i j old = elim (tick_or_not c.link.lower e) [
+  | inl tick ↦
+      subst (λ x. Keeps c (record { event = x; says = says; answer = y } ∷ before) (told_at c (record { event = x; says = says; answer = y } ∷ before))) (sym tick)
+      (tick_keeps c says y before (subst (λ x. IsRun c.s (record { event = x; says = says; answer = y } ∷ before)) tick (run_at c (record { event = e; says = says; answer = y } ∷ before) j)) old)
+  | inr other ↦ other_keeps c (record { event = e; says = says; answer = y }) before i j other old
 ]
-event_keeps c says y (Pass dt drifts fibres) before i j old = other_keeps c (record { event = Pass dt drifts fibres; says = says; answer = y }) before i j tt old
-event_keeps c says y (Sample m base bits) before i j old = other_keeps c (record { event = Sample m base bits; says = says; answer = y }) before i j tt old
-event_keeps c says y (Depart m p stamp) before i j old = other_keeps c (record { event = Depart m p stamp; says = says; answer = y }) before i j tt old
-event_keeps c says y (Arrive number raw) before i j old = other_keeps c (record { event = Arrive number raw; says = says; answer = y }) before i j tt old
-event_keeps c says y (Deliver number) before i j old = other_keeps c (record { event = Deliver number; says = says; answer = y }) before i j tt old
-event_keeps c says y (Noise m p octets raw) before i j old = other_keeps c (record { event = Noise m p octets raw; says = says; answer = y }) before i j tt old
-event_keeps c says y (Down m) before i j old = other_keeps c (record { event = Down m; says = says; answer = y }) before i j tt old
-event_keeps c says y (Up m off swaps) before i j old = other_keeps c (record { event = Up m off swaps; says = says; answer = y }) before i j tt old
-event_keeps c says y (Cut l) before i j old = other_keeps c (record { event = Cut l; says = says; answer = y }) before i j tt old
-event_keeps c says y (Join l ms sm) before i j old = other_keeps c (record { event = Join l ms sm; says = says; answer = y }) before i j tt old
 
 -- The event that starts the chain: the exchange begins anew
 
@@ -240,7 +224,7 @@ sample_starts c says y before base bits run stands begins =
     let chain : out.chain ≡ Started first.0 = out_chain (heard_as (servo_run x calls) (v.clock n).samples base bits) (servo_run x (call ∷ calls)) (news_at x (servo_run x calls) call) ∙ first.1 in
     let begun : Keeps c (h ∷ before) (with_news out.chain (told_at c before)) =
     subst (λ z. Keeps c (h ∷ before) (with_news z (told_at c before))) (sym chain)
-    (anew (Waits c (h ∷ before)) (Pairs c) (set_below c).ring first.0 (set_below c).ds.role (calls_of (set_below c) (told_at c before)) (slave_is c.laws.opens.quiet.ends s run.network c.k c.link c.is)) in
+    (anew (Waits c (h ∷ before)) (Pairs c) (set_below c).ring first.0 (set_below c).ds.role (calls_of (set_below c) (told_at c before)) (role_is c.laws.opens.quiet.ends s run.network c.k Slave c.link c.is)) in
     subst (λ (z : NodeAt). Keeps c (h ∷ before) (z.told c.link.lower_port)) (sym node)
     (sample_heard (Keeps c (h ∷ before)) (news_asked (Waits c (h ∷ before)) (Pairs c) (set_below c)) (fixed_of s n) g.says y (w.node n) c.link.lower_port (v.clock n).samples base bits slave
     (with_any c (h ∷ before) out.unwrapped (v.clock n).samples (with_news out.chain (told_at c before)) begun))
@@ -254,16 +238,7 @@ start_keeps c says y (Sample m base bits) before run stands begins = elim (eqb_t
       (subst (λ n. HasChain c.s c.link.lower (record { event = Sample n base bits; says = says; answer = y } ∷ before)) (sym x.1) stands) begins)
   | inr x ↦ absurd (begins (stood_before c.laws.samples.since c.s (record { event = Sample m base bits; says = says; answer = y }) before c.link.lower x.1 stands))
 ]
-start_keeps c says y (Tick m) before run stands begins = absurd (begins (stood_before c.laws.samples.since c.s (record { event = Tick m; says = says; answer = y }) before c.link.lower tt stands))
-start_keeps c says y (Pass dt drifts fibres) before run stands begins = absurd (begins (stood_before c.laws.samples.since c.s (record { event = Pass dt drifts fibres; says = says; answer = y }) before c.link.lower tt stands))
-start_keeps c says y (Depart m p stamp) before run stands begins = absurd (begins (stood_before c.laws.samples.since c.s (record { event = Depart m p stamp; says = says; answer = y }) before c.link.lower tt stands))
-start_keeps c says y (Arrive number raw) before run stands begins = absurd (begins (stood_before c.laws.samples.since c.s (record { event = Arrive number raw; says = says; answer = y }) before c.link.lower tt stands))
-start_keeps c says y (Deliver number) before run stands begins = absurd (begins (stood_before c.laws.samples.since c.s (record { event = Deliver number; says = says; answer = y }) before c.link.lower tt stands))
-start_keeps c says y (Noise m p octets raw) before run stands begins = absurd (begins (stood_before c.laws.samples.since c.s (record { event = Noise m p octets raw; says = says; answer = y }) before c.link.lower tt stands))
-start_keeps c says y (Down m) before run stands begins = absurd (begins (stood_before c.laws.samples.since c.s (record { event = Down m; says = says; answer = y }) before c.link.lower tt stands))
-start_keeps c says y (Up m off swaps) before run stands begins = absurd (begins (stood_before c.laws.samples.since c.s (record { event = Up m off swaps; says = says; answer = y }) before c.link.lower tt stands))
-start_keeps c says y (Cut l) before run stands begins = absurd (begins (stood_before c.laws.samples.since c.s (record { event = Cut l; says = says; answer = y }) before c.link.lower tt stands))
-start_keeps c says y (Join l ms sm) before run stands begins = absurd (begins (stood_before c.laws.samples.since c.s (record { event = Join l ms sm; says = says; answer = y }) before c.link.lower tt stands))
+start_keeps c says y e before run stands begins = absurd (begins (stood_before c.laws.samples.since c.s (record { event = e; says = says; answer = y }) before c.link.lower tt stands))
 
 -- The chain
 

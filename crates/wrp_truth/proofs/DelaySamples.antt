@@ -13,9 +13,9 @@ use Rattle.wrp_base.specs.declared.message.Head.{Head}
 use Rattle.wrp_base.specs.declared.message.PtpMsg.{PtpMsg}
 use Rattle.wrp_base.specs.declared.network.LinkCfg.{LinkCfg}
 use Rattle.wrp_base.specs.declared.time.Stamp.{Stamp}
+use Rattle.wrp_exch.specs.declared.ring.GoodSample.{GoodSample}
 use Rattle.wrp_exch.specs.Call.{Call, CallStart, CallClear, CallSample, CallReqOut, CallReqSent}
 use Rattle.wrp_exch.specs.Chain.{first_sample, latched_phase, phase_since}
-use Rattle.wrp_exch.specs.declared.ring.GoodSample.{GoodSample}
 use Rattle.wrp_exch.specs.Samples.{last_samples, phase_in, samples}
 use Rattle.wrp_frame.specs.declared.fault.FrameFault.{FrameFault}
 use Rattle.wrp_node.specs.declared.interface.Input.TheVariants.{Sample as SampleInput}
@@ -29,19 +29,18 @@ use Rattle.wrp_port.specs.Hearing.{early_reason, piece_of}
 use Rattle.wrp_port.specs.History.{calls_of, line_of}
 use Rattle.wrp_port.specs.LineAfter.{requests_on, ticked}
 use Rattle.wrp_port.specs.Outputs.{only_slave, with_call}
-use Rattle.wrp_servo.specs.Call.{Call as ServoCall, CallSample as ServoSample, CallMeasured, CallTick, CallLease, CallLink, CallCarrier, CallReset, Settings, run}
 use Rattle.wrp_servo.specs.declared.interface.ServoOut.{ServoOut}
 use Rattle.wrp_servo.specs.declared.machine.Core.{Core}
+use Rattle.wrp_servo.specs.declared.sampling.Heard.TheVariants.{Ignored, Lost, Followed}
+use Rattle.wrp_servo.specs.Call.{Call as ServoCall, CallSample as ServoSample, CallMeasured, CallTick, CallLease, CallLink, CallCarrier, CallReset, Settings, run}
 use Rattle.wrp_servo.specs.Laws.{ChainSince, PhaseMovesByTags}
 use Rattle.wrp_servo.specs.Sampling.{good_tag, hears, is_far, tag_as, with_tag}
-use Rattle.wrp_servo.specs.declared.sampling.Heard.TheVariants.{Ignored, Lost, Followed}
 use Rattle.wrp_servo.specs.Servo.{news_at, out_by}
 use Rattle.wrp_servo.specs.Tags.{heard_tag}
 use Rattle.wrp_tracking.specs.Chain.{Good}
-use Rattle.wrp_world.specs.declared.clocks.ClockState.{ClockState}
 use Rattle.wrp_world.specs.declared.event.Event.{Event}
-use Rattle.wrp_world.specs.declared.event.Event.TheVariants.{Pass, Tick, Sample, Depart, Arrive, Deliver, Noise, Down, Up, Cut, Join}
-use Rattle.wrp_world.specs.Given.{Given, clock_told, given_by, given_plain, gives, gives_all, step_of, taken_of}
+use Rattle.wrp_world.specs.declared.event.Event.TheVariants.{Tick, Sample, Depart, Deliver, Noise, Up}
+use Rattle.wrp_world.specs.Given.{Given, given_plain, taken_of}
 use Rattle.wrp_world.specs.Moved.{moved}
 use Rattle.wrp_world.specs.Run.{Happened, world_after}
 use Rattle.wrp_world.specs.Runs.{IsRun}
@@ -53,22 +52,17 @@ use Rattle.wrp_truth.specs.Chains.{good_in, goods_since, phase_in as unwrapped_i
 use Rattle.wrp_truth.specs.Leases.{ChainHasSource, FollowsSource, IsCarried}
 use Rattle.wrp_truth.specs.Moments.{AtEach}
 use Rattle.wrp_truth.specs.Rates.{HasChain}
+use Rattle.wrp_truth.proofs.Basics.{none_some, not_true, some_is}
 use Rattle.wrp_truth.proofs.DelayCalls.{only_kept, unless_kept}
 use Rattle.wrp_truth.proofs.DelayEvents.{Brings, event_told, given_node, start_told}
-use Rattle.wrp_truth.proofs.DelayTells.{KeptByNews, KeptByTurns, before_tick, sample_told}
-use Rattle.wrp_truth.proofs.Inputs.{GivesTo, node_kept}
 use Rattle.wrp_truth.proofs.LeaseSources.{both_nodes}
 use Rattle.wrp_truth.proofs.LinksAbove.{above_is}
-use Rattle.wrp_truth.proofs.LiveChains.{IsNoSampleInput, Stands, input_stood, sample_keeps}
-use Rattle.wrp_truth.proofs.Parents.{has_servo, not_up, some_is}
+use Rattle.wrp_truth.proofs.LiveChains.{sample_keeps}
+use Rattle.wrp_truth.proofs.Parents.{has_servo, not_up}
+use Rattle.wrp_truth.proofs.SampleEvents.{IsNoSampleOf, IsLowOf, low_none, low_stay, sampled_samples, samples_then, stood_before}
 use Rattle.wrp_truth.proofs.StepCalls.{IsTelling, KeptBy}
+use Rattle.wrp_truth.proofs.StepTold.{KeptByNews, KeptByTurns, before_tick, sample_told}
 use Rattle.wrp_truth.proofs.Suffixes.{at_newest, run_before}
-
-none_some : {A : Type 0} (x : A) → None ≡ Some x → ⊥
-none_some x e = cc
-
-not_true : false ≡ true → ⊥
-not_true e = cc
 
 -- What a port is told keeps of its exchange's samples
 
@@ -113,11 +107,6 @@ due_each B Master due id calls h = h
 
 tick_each : (B : GoodSample → Type 0) (set : PortSetting) (told : List PortIn) (locked certain : Bool) → EachOf B set told → EachOf B set (PortTick locked certain ∷ told)
 tick_each B set told locked certain h = due_each B set.ds.role (requests_on (ticked set (line_of set told) locked)) (ticked set (line_of set told) locked).ids.request (calls_of set told) h
-
--- an event that brings its node no sample
-abbrev IsNoSampleOf : ℕ → Event → Type 0
-IsNoSampleOf n (Sample m base bits) = n ≡ m → ⊥
-IsNoSampleOf n _ = Unit {0}
 
 each_brings : (B : GoodSample → Type 0) (set : PortSetting) (s : Setting) (w : WorldAt) (says : Result PtpMsg FrameFault) (n p : ℕ) (e : Event) → IsNoSampleOf n e → EachOf B set ((w.node n).told p) → Brings (EachOf B set) s w says n p e
 each_brings B set s w says n p (Tick m) none h = λ is.
@@ -167,66 +156,9 @@ heard_each B C set out number told o is new weaker h =
 abbrev count_at : Setting → List Happened → ℕ → ℕ
 count_at s events n = ((world_after s events).clock n).samples
 
-all_given_samples : (s : Setting) (y : ℤ) (gs : List Given) (v : WorldAt) (n : ℕ) → ((gives_all s y v gs).clock n).samples ≡ (v.clock n).samples
-all_given_samples s y [] v n = refl
-all_given_samples s y (g ∷ gs) v n = all_given_samples s y gs (gives s y v g) n ∙ one (n == g.to) (clock_told s v g (step_of s y v g).cycles (v.clock n)) (v.clock n) refl
-  where
-    one : (b : Bool) (c d : ClockState) → c.samples ≡ d.samples → (if b then c else d).samples ≡ d.samples
-    one true c d e = e
-    one false c d e = refl
-
-either_same : (b : Bool) (c d : ClockState) → c.samples ≡ d.samples → (if b then c else d).samples ≡ d.samples
-either_same true c d e = e
-either_same false c d e = refl
-
--- an event that leaves them
-abbrev IsCalmOf : ℕ → Event → Type 0
-IsCalmOf n (Sample m base bits) = n ≡ m → ⊥
-IsCalmOf n (Up m off swaps) = n ≡ m → ⊥
-IsCalmOf n _ = Unit {0}
-
-moved_samples : (s : Setting) (w : WorldAt) (e : Event) (n : ℕ) → IsCalmOf n e → ((moved s w e).clock n).samples ≡ (w.clock n).samples
-moved_samples s w (Sample m base bits) n calm = elim (eqb_tells n m) [
-  | inl x ↦ absurd (calm x.1)
-  | inr x ↦ ap (λ b. (if b then record (w.clock n) { samples = (w.clock n).samples + 1 } else w.clock n).samples) x.0
-]
-moved_samples s w (Up m off swaps) n calm = elim (eqb_tells n m) [
-  | inl x ↦ absurd (calm x.1)
-  | inr x ↦ ap (λ b. (if b then record { up = true; off = off; ticked = w.time; samples = 0 } else w.clock n).samples) x.0
-]
-moved_samples s w (Down m) n calm = either_same (n == m) (record (w.clock n) { up = false }) (w.clock n) refl
-moved_samples s w (Tick m) n calm = refl
-moved_samples s w (Pass dt drifts fibres) n calm = refl
-moved_samples s w (Depart m p stamp) n calm = refl
-moved_samples s w (Arrive i raw) n calm = refl
-moved_samples s w (Deliver i) n calm = refl
-moved_samples s w (Noise m p octets raw) n calm = refl
-moved_samples s w (Cut l) n calm = refl
-moved_samples s w (Join l ms sm) n calm = refl
-
-same_samples : (s : Setting) (h : Happened) (before : List Happened) (n : ℕ) → IsCalmOf n h.event → count_at s (h ∷ before) n ≡ count_at s before n
-same_samples s h before n calm =
-    let w : WorldAt = world_after s before in
-    all_given_samples s h.answer (given_by s w (moved s w h.event) h.says h.event) (moved s w h.event) n ∙ moved_samples s w h.event n calm
-
 one_sample : (s : Setting) (says : Result PtpMsg FrameFault) (y : ℤ) (before : List Happened) (base bits n : ℕ) → count_at s (record { event = Sample n base bits; says = says; answer = y } ∷ before) n ≡ count_at s before n + 1
 one_sample s says y before base bits n =
-    let w : WorldAt = world_after s before in
-    all_given_samples s y (given_by s w (moved s w (Sample n base bits)) says (Sample n base bits)) (moved s w (Sample n base bits)) n
-    ∙ ap (λ b. (if b then record (w.clock n) { samples = (w.clock n).samples + 1 } else w.clock n).samples) (self_equal n)
-
-calm_none : (n : ℕ) (e : Event) → IsCalmOf n e → IsNoSampleOf n e
-calm_none n (Sample m base bits) h = h
-calm_none n (Up m off swaps) h = tt
-calm_none n (Tick m) h = tt
-calm_none n (Pass dt drifts fibres) h = tt
-calm_none n (Depart m p stamp) h = tt
-calm_none n (Arrive i raw) h = tt
-calm_none n (Deliver i) h = tt
-calm_none n (Noise m p octets raw) h = tt
-calm_none n (Down m) h = tt
-calm_none n (Cut l) h = tt
-calm_none n (Join l ms sm) h = tt
+    samples_then s (record { event = Sample n base bits; says = says; answer = y }) before n ∙ sampled_samples s (world_after s before) n n base bits refl
 
 abbrev set_below : Setting → LinkCfg → PortSetting
 set_below s link = setting_of (s.set link.lower) link.lower_port
@@ -234,10 +166,10 @@ set_below s link = setting_of (s.set link.lower) link.lower_port
 abbrev EachAt : (GoodSample → Type 0) → Setting → LinkCfg → List Happened → Type 0
 EachAt B s link events = EachOf B (set_below s link) (((world_after s events).node link.lower).told link.lower_port)
 
-calm_each : (B : GoodSample → Type 0) (s : Setting) (h : Happened) (before : List Happened) (link : LinkCfg) → IsCalmOf link.lower h.event → EachAt B s link before → EachAt B s link (h ∷ before)
+calm_each : (B : GoodSample → Type 0) (s : Setting) (h : Happened) (before : List Happened) (link : LinkCfg) → IsLowOf link.lower h.event → EachAt B s link before → EachAt B s link (h ∷ before)
 calm_each B s h before link calm k =
     event_told (EachOf B (set_below s link)) (news_each B (set_below s link)) (turns_each B (set_below s link)) s h.says h.answer (world_after s before) h.event link.lower link.lower_port
-    (each_brings B (set_below s link) s (world_after s before) h.says link.lower link.lower_port h.event (calm_none link.lower h.event calm) k) k
+    (each_brings B (set_below s link) s (world_after s before) h.says link.lower link.lower_port h.event (low_none link.lower h.event calm) k) k
 
 -- what its tag is, if it is good
 abbrev heard_in : Setting → List Happened → ℕ → ℕ → ℕ → Option ℕ
@@ -293,10 +225,10 @@ grown a b h = omega (arith, h)
 at_most : (n : ℕ) → n ≤ n
 at_most n = omega arith
 
-past_calm : (s : Setting) (says : Result PtpMsg FrameFault) (y : ℤ) (e : Event) (before : List Happened) (link : LinkCfg) → IsCalmOf link.lower e → EachAt (IsPast (count_at s before link.lower)) s link before →
+past_calm : (s : Setting) (says : Result PtpMsg FrameFault) (y : ℤ) (e : Event) (before : List Happened) (link : LinkCfg) → IsLowOf link.lower e → EachAt (IsPast (count_at s before link.lower)) s link before →
     EachAt (IsPast (count_at s (record { event = e; says = says; answer = y } ∷ before) link.lower)) s link (record { event = e; says = says; answer = y } ∷ before)
 past_calm s says y e before link calm h =
-    subst (λ c. EachAt (IsPast c) s link (record { event = e; says = says; answer = y } ∷ before)) (sym (same_samples s (record { event = e; says = says; answer = y }) before link.lower calm))
+    subst (λ c. EachAt (IsPast c) s link (record { event = e; says = says; answer = y } ∷ before)) (sym (low_stay s (record { event = e; says = says; answer = y }) before link.lower calm))
     (calm_each (IsPast (count_at s before link.lower)) s (record { event = e; says = says; answer = y }) before link calm h)
 
 past_event : (s : Setting) (says : Result PtpMsg FrameFault) (y : ℤ) (e : Event) (before : List Happened) (link : LinkCfg) → EachAt (IsPast (count_at s before link.lower)) s link before →
@@ -307,25 +239,17 @@ past_event s says y (Sample m base bits) before link h = elim (eqb_tells link.lo
       (subst (λ c. EachAt (IsPast c) s link (record { event = Sample link.lower base bits; says = says; answer = y } ∷ before)) (sym (one_sample s says y before base bits link.lower))
       (sample_event (IsPast (count_at s before link.lower)) (IsPast (count_at s before link.lower + 1)) s says y before base bits link (λ u tag heard is. at_most (count_at s before link.lower + 1)) (λ g k. grown g.number (count_at s before link.lower) k) h))
   | inr x ↦
-      subst (λ c. EachAt (IsPast c) s link (record { event = Sample m base bits; says = says; answer = y } ∷ before)) (sym (same_samples s (record { event = Sample m base bits; says = says; answer = y }) before link.lower x.1))
+      subst (λ c. EachAt (IsPast c) s link (record { event = Sample m base bits; says = says; answer = y } ∷ before)) (sym (low_stay s (record { event = Sample m base bits; says = says; answer = y }) before link.lower x.1))
       (calm_each (IsPast (count_at s before link.lower)) s (record { event = Sample m base bits; says = says; answer = y }) before link x.1 h)
 ]
 past_event s says y (Up m off swaps) before link h = elim (eqb_tells link.lower m) [
   | inl x ↦
       start_told (EachOf (IsPast (count_at s (record { event = Up m off swaps; says = says; answer = y } ∷ before) link.lower)) (set_below s link)) (news_each _ (set_below s link)) (turns_each _ (set_below s link)) s says y (world_after s before) m off swaps link.lower link.lower_port x.1 tt
   | inr x ↦
-      subst (λ c. EachAt (IsPast c) s link (record { event = Up m off swaps; says = says; answer = y } ∷ before)) (sym (same_samples s (record { event = Up m off swaps; says = says; answer = y }) before link.lower x.1))
+      subst (λ c. EachAt (IsPast c) s link (record { event = Up m off swaps; says = says; answer = y } ∷ before)) (sym (low_stay s (record { event = Up m off swaps; says = says; answer = y }) before link.lower x.1))
       (calm_each (IsPast (count_at s before link.lower)) s (record { event = Up m off swaps; says = says; answer = y }) before link x.1 h)
 ]
-past_event s says y (Tick m) before link h = past_calm s says y (Tick m) before link tt h
-past_event s says y (Pass dt drifts fibres) before link h = past_calm s says y (Pass dt drifts fibres) before link tt h
-past_event s says y (Depart m p stamp) before link h = past_calm s says y (Depart m p stamp) before link tt h
-past_event s says y (Arrive i raw) before link h = past_calm s says y (Arrive i raw) before link tt h
-past_event s says y (Deliver i) before link h = past_calm s says y (Deliver i) before link tt h
-past_event s says y (Noise m p octets raw) before link h = past_calm s says y (Noise m p octets raw) before link tt h
-past_event s says y (Down m) before link h = past_calm s says y (Down m) before link tt h
-past_event s says y (Cut l) before link h = past_calm s says y (Cut l) before link tt h
-past_event s says y (Join l ms sm) before link h = past_calm s says y (Join l ms sm) before link tt h
+past_event s says y e before link h = past_calm s says y e before link tt h
 
 past_all : (s : Setting) (events : List Happened) (link : LinkCfg) → EachAt (IsPast (count_at s events link.lower)) s link events
 past_all s [] link = tt
@@ -391,7 +315,7 @@ sample_known law s says y before base bits link goods servo head =
     (λ g k. (grown g.number (count_at s before n) k, λ e. absurd (not_past g.number (count_at s before n) k e))) (past_all s before link))
 
 -- events that bring no sample
-none_good : (s : Setting) (h : Happened) (before : List Happened) (n : ℕ) (e : Event) → IsCalmOf n e → good_in s n h before e ≡ None
+none_good : (s : Setting) (h : Happened) (before : List Happened) (n : ℕ) (e : Event) → IsLowOf n e → good_in s n h before e ≡ None
 none_good s h before n (Sample m base bits) calm = elim (eqb_tells n m) [
   | inl x ↦ absurd (calm x.1)
   | inr x ↦ no_where (n == m) _ x.0
@@ -400,34 +324,7 @@ none_good s h before n (Sample m base bits) calm = elim (eqb_tells n m) [
     no_where : {A : Type 0} (b : Bool) (o : Option A) → b ≡ false → (if b then o else None) ≡ None
     no_where true o e = absurd cc
     no_where false o e = refl
-none_good s h before n (Up m off swaps) calm = refl
-none_good s h before n (Tick m) calm = refl
-none_good s h before n (Pass dt drifts fibres) calm = refl
-none_good s h before n (Depart m p stamp) calm = refl
-none_good s h before n (Arrive i raw) calm = refl
-none_good s h before n (Deliver i) calm = refl
-none_good s h before n (Noise m p octets raw) calm = refl
-none_good s h before n (Down m) calm = refl
-none_good s h before n (Cut l) calm = refl
-none_good s h before n (Join l ms sm) calm = refl
-
-no_sample_to : (n : ℕ) (e : Event) → IsNoSampleOf n e → GivesTo IsNoSampleInput n e
-no_sample_to n (Tick m) h = λ is. tt
-no_sample_to n (Sample m base bits) h = λ is number. absurd (h is)
-no_sample_to n (Depart m p stamp) h = λ q seq delay t. tt
-no_sample_to n (Deliver i) h = λ q octets raw sample. tt
-no_sample_to n (Noise m p octets raw) h = λ sample. tt
-no_sample_to n (Down m) h = λ q. tt
-no_sample_to n (Up m off swaps) h = (λ is. tt, λ q own_module. tt)
-no_sample_to n (Cut k) h = λ q. tt
-no_sample_to n (Join k ms sm) h = λ q own_module. tt
-no_sample_to n (Pass dt drifts fibres) h = tt
-no_sample_to n (Arrive i raw) h = tt
-
-pub stood_before : ChainSince → (s : Setting) (h : Happened) (before : List Happened) (n : ℕ) → IsNoSampleOf n h.event → HasChain s n (h ∷ before) → HasChain s n before
-stood_before law s h before n none =
-    node_kept (λ (m : NodeAt). Stands (run (settings_of (fixed_of s n)) m.calls) → HasChain s n before) IsNoSampleInput s h.says h.answer (world_after s before) h.event n
-    (λ t m q old. input_stood law (fixed_of s n) ((world_after s before).node n).calls t m q old) (no_sample_to n h.event none) (λ chain. chain)
+none_good s h before n e calm = refl
 
 -- the laws that this stands on
 pub record SampleLaws : Type 0 where
@@ -453,24 +350,15 @@ start_known laws s says y (Sample m base bits) before k link run_is is stands be
       (λ good e. subst (λ o. IsHead (option_to_list o) good.u) (sym e) refl))
   | inr x ↦ absurd (begins (stood_before laws.since s (record { event = Sample m base bits; says = says; answer = y }) before link.lower x.1 stands))
 ]
-start_known laws s says y (Tick m) before k link run_is is stands begins = absurd (begins (stood_before laws.since s (record { event = Tick m; says = says; answer = y }) before link.lower tt stands))
-start_known laws s says y (Pass dt drifts fibres) before k link run_is is stands begins = absurd (begins (stood_before laws.since s (record { event = Pass dt drifts fibres; says = says; answer = y }) before link.lower tt stands))
-start_known laws s says y (Depart m p stamp) before k link run_is is stands begins = absurd (begins (stood_before laws.since s (record { event = Depart m p stamp; says = says; answer = y }) before link.lower tt stands))
-start_known laws s says y (Arrive i raw) before k link run_is is stands begins = absurd (begins (stood_before laws.since s (record { event = Arrive i raw; says = says; answer = y }) before link.lower tt stands))
-start_known laws s says y (Deliver i) before k link run_is is stands begins = absurd (begins (stood_before laws.since s (record { event = Deliver i; says = says; answer = y }) before link.lower tt stands))
-start_known laws s says y (Noise m p octets raw) before k link run_is is stands begins = absurd (begins (stood_before laws.since s (record { event = Noise m p octets raw; says = says; answer = y }) before link.lower tt stands))
-start_known laws s says y (Down m) before k link run_is is stands begins = absurd (begins (stood_before laws.since s (record { event = Down m; says = says; answer = y }) before link.lower tt stands))
-start_known laws s says y (Up m off swaps) before k link run_is is stands begins = absurd (begins (stood_before laws.since s (record { event = Up m off swaps; says = says; answer = y }) before link.lower tt stands))
-start_known laws s says y (Cut l) before k link run_is is stands begins = absurd (begins (stood_before laws.since s (record { event = Cut l; says = says; answer = y }) before link.lower tt stands))
-start_known laws s says y (Join l ms sm) before k link run_is is stands begins = absurd (begins (stood_before laws.since s (record { event = Join l ms sm; says = says; answer = y }) before link.lower tt stands))
+start_known laws s says y e before k link run_is is stands begins = absurd (begins (stood_before laws.since s (record { event = e; says = says; answer = y }) before link.lower tt stands))
 
 abbrev KnownAt : Setting → LinkCfg → (newer older : List Happened) → Type 0
 KnownAt s link newer older = EachAt (Known (count_at s (newer ++ older) link.lower) (goods_since s link.lower newer older)) s link (newer ++ older)
 
-calm_known : (s : Setting) (h : Happened) (newer older : List Happened) (link : LinkCfg) → IsCalmOf link.lower h.event → KnownAt s link newer older → KnownAt s link (h ∷ newer) older
+calm_known : (s : Setting) (h : Happened) (newer older : List Happened) (link : LinkCfg) → IsLowOf link.lower h.event → KnownAt s link newer older → KnownAt s link (h ∷ newer) older
 calm_known s h newer older link calm k =
     let goods : List Good = goods_since s link.lower newer older in
-    subst (λ c. EachAt (Known c (goods_since s link.lower (h ∷ newer) older)) s link (h ∷ (newer ++ older))) (sym (same_samples s h (newer ++ older) link.lower calm))
+    subst (λ c. EachAt (Known c (goods_since s link.lower (h ∷ newer) older)) s link (h ∷ (newer ++ older))) (sym (low_stay s h (newer ++ older) link.lower calm))
     (subst (λ o. EachAt (Known (count_at s (newer ++ older) link.lower) (option_to_list o ++ goods)) s link (h ∷ (newer ++ older))) (sym (none_good s h (newer ++ older) link.lower h.event calm))
     (calm_each (Known (count_at s (newer ++ older) link.lower) goods) s h (newer ++ older) link calm k))
 
@@ -489,15 +377,7 @@ next_known laws s says y (Up m off swaps) newer older k link run_is is stands ol
     let up : ((world_after s before).clock link.lower).up ≡ true = (both_nodes s (world_after s before) k link is (laws.lit s before k link (run_before s h before run_is) is stands)).1 in
     calm_known s h newer older link
     (λ same. not_up ((world_after s before).clock link.lower).up up (subst (λ n. not (not ((world_after s before).clock n).up) ≡ false) (sym same) (comes_up_down s (world_after s before) says m off swaps run_is.accepted.0))) old
-next_known laws s says y (Tick m) newer older k link run_is is stands old = calm_known s (record { event = Tick m; says = says; answer = y }) newer older link tt old
-next_known laws s says y (Pass dt drifts fibres) newer older k link run_is is stands old = calm_known s (record { event = Pass dt drifts fibres; says = says; answer = y }) newer older link tt old
-next_known laws s says y (Depart m p stamp) newer older k link run_is is stands old = calm_known s (record { event = Depart m p stamp; says = says; answer = y }) newer older link tt old
-next_known laws s says y (Arrive i raw) newer older k link run_is is stands old = calm_known s (record { event = Arrive i raw; says = says; answer = y }) newer older link tt old
-next_known laws s says y (Deliver i) newer older k link run_is is stands old = calm_known s (record { event = Deliver i; says = says; answer = y }) newer older link tt old
-next_known laws s says y (Noise m p octets raw) newer older k link run_is is stands old = calm_known s (record { event = Noise m p octets raw; says = says; answer = y }) newer older link tt old
-next_known laws s says y (Down m) newer older k link run_is is stands old = calm_known s (record { event = Down m; says = says; answer = y }) newer older link tt old
-next_known laws s says y (Cut l) newer older k link run_is is stands old = calm_known s (record { event = Cut l; says = says; answer = y }) newer older link tt old
-next_known laws s says y (Join l ms sm) newer older k link run_is is stands old = calm_known s (record { event = Join l ms sm; says = says; answer = y }) newer older link tt old
+next_known laws s says y e newer older k link run_is is stands old = calm_known s (record { event = e; says = says; answer = y }) newer older link tt old
 
 chain_known : SampleLaws → (s : Setting) (newer : List Happened) (start : Happened) (before : List Happened) (k : ℕ) (link : LinkCfg) → IsRun s (newer ++ start ∷ before) → link_of s k ≡ Some link → AtEach (HasChain s link.lower) newer (start ∷ before) →
     (HasChain s link.lower before → ⊥) → KnownAt s link newer (start ∷ before)

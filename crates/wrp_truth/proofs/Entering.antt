@@ -47,7 +47,7 @@ use Rattle.wrp_servo.specs.Sampling.{is_holdover}
 use Rattle.wrp_servo.specs.Table.{is_track}
 use Rattle.wrp_servo.specs.Told.{lease_told, link_told}
 use Rattle.wrp_world.specs.declared.event.Event.{Event}
-use Rattle.wrp_world.specs.declared.event.Event.TheVariants.{Pass, Tick, Sample, Depart, Arrive, Deliver, Noise, Down, Up, Cut, Join}
+use Rattle.wrp_world.specs.declared.event.Event.TheVariants.{Pass, Arrive, Deliver, Noise, Up}
 use Rattle.wrp_world.specs.declared.event.Swap.{Swap}
 use Rattle.wrp_world.specs.Given.{Given, at_ports, comes_from, delivered, delivered_by, delivered_to, given, given_by, given_plain, gives, gives_all, step_of, taken_of, world_step}
 use Rattle.wrp_world.specs.Moved.{moved}
@@ -68,12 +68,7 @@ use Rattle.wrp_truth.proofs.Offsets.{HandsNone, IsAtOnce, IsNoFrame, event_off, 
 use Rattle.wrp_truth.proofs.OnTime.{IsStill, was_up}
 use Rattle.wrp_truth.proofs.Parents.{has_servo, has_slave, not_up, with_servo}
 use Rattle.wrp_truth.proofs.StepCalls.{Brings, IsTelling, KeptBy, settled_keeps, step_keeps}
-
-not_true : false ≡ true → ⊥
-not_true e = cc
-
-none_some : {A : Type 0} (x : A) → None ≡ Some x → ⊥
-none_some x e = cc
+use Rattle.wrp_truth.proofs.Basics.{none_some, not_true}
 
 -- What the servo answers is nothing to the lease and to the link
 
@@ -345,13 +340,7 @@ event_out laws s says y w (Deliver i) n found = deliver_out laws s w (moved s w 
 event_out laws s says y w (Noise m p octets raw) n found = handed_out laws s w (moved s w (Noise m p octets raw)) y (given m (Frame p octets raw (w.clock m).samples) says) n p octets raw (w.clock m).samples found refl refl
 event_out laws s says y w (Pass dt drifts fibres) n found = found.out.held
 event_out laws s says y w (Arrive i raw) n found = found.out.held
-event_out laws s says y w (Tick m) n found = kept_out laws s says y w (Tick m) n tt found
-event_out laws s says y w (Sample m base bits) n found = kept_out laws s says y w (Sample m base bits) n tt found
-event_out laws s says y w (Depart m p stamp) n found = kept_out laws s says y w (Depart m p stamp) n tt found
-event_out laws s says y w (Down m) n found = kept_out laws s says y w (Down m) n tt found
-event_out laws s says y w (Up m off swaps) n found = kept_out laws s says y w (Up m off swaps) n tt found
-event_out laws s says y w (Cut k) n found = kept_out laws s says y w (Cut k) n tt found
-event_out laws s says y w (Join k ms sm) n found = kept_out laws s says y w (Join k ms sm) n tt found
+event_out laws s says y w e n found = kept_out laws s says y w e n tt found
 
 -- A start
 
@@ -386,15 +375,7 @@ from_down laws s says y w (Up m off swaps) n some servo down up = elim (eqb_tell
   | inr x ↦ absurd (not_true (sym down ∙ up_after s says y w (Up m off swaps) n x.1 up))
 ]
 from_down laws s says y w (Pass dt drifts fibres) n some servo down up = absurd (not_true (sym down ∙ up))
-from_down laws s says y w (Tick m) n some servo down up = absurd (not_true (sym down ∙ up_after s says y w (Tick m) n tt up))
-from_down laws s says y w (Sample m base bits) n some servo down up = absurd (not_true (sym down ∙ up_after s says y w (Sample m base bits) n tt up))
-from_down laws s says y w (Depart m p stamp) n some servo down up = absurd (not_true (sym down ∙ up_after s says y w (Depart m p stamp) n tt up))
-from_down laws s says y w (Arrive i raw) n some servo down up = absurd (not_true (sym down ∙ up_after s says y w (Arrive i raw) n tt up))
-from_down laws s says y w (Deliver i) n some servo down up = absurd (not_true (sym down ∙ up_after s says y w (Deliver i) n tt up))
-from_down laws s says y w (Noise m p octets raw) n some servo down up = absurd (not_true (sym down ∙ up_after s says y w (Noise m p octets raw) n tt up))
-from_down laws s says y w (Down m) n some servo down up = absurd (not_true (sym down ∙ up_after s says y w (Down m) n tt up))
-from_down laws s says y w (Cut k) n some servo down up = absurd (not_true (sym down ∙ up_after s says y w (Cut k) n tt up))
-from_down laws s says y w (Join k ms sm) n some servo down up = absurd (not_true (sym down ∙ up_after s says y w (Join k ms sm) n tt up))
+from_down laws s says y w e n some servo down up = absurd (not_true (sym down ∙ up_after s says y w e n tt up))
 
 -- Each event
 
@@ -404,15 +385,7 @@ at_once : (s : Setting) (says : Result PtpMsg FrameFault) (y : ℤ) (before : Li
 at_once s says y before (Pass dt drifts fibres) n run up held none = none (record { up = up; state = held.state })
 at_once s says y before (Up m off swaps) n run up held none = λ same.
     not_up ((world_after s before).clock n).up up (subst (λ i. not (not ((world_after s before).clock i).up) ≡ false) (sym same) (comes_up_down s (world_after s before) says m off swaps run.accepted.0))
-at_once s says y before (Tick m) n run up held none = tt
-at_once s says y before (Sample m base bits) n run up held none = tt
-at_once s says y before (Depart m p stamp) n run up held none = tt
-at_once s says y before (Arrive i raw) n run up held none = tt
-at_once s says y before (Deliver i) n run up held none = tt
-at_once s says y before (Noise m p octets raw) n run up held none = tt
-at_once s says y before (Down m) n run up held none = tt
-at_once s says y before (Cut k) n run up held none = tt
-at_once s says y before (Join k ms sm) n run up held none = tt
+at_once s says y before e n run up held none = tt
 
 -- and from TRACK no step is taken
 no_step : EnterLaws → (s : Setting) (h : Happened) (before : List Happened) (n : ℕ) → IsAtOnce n h.event → is_track (core_at s before n).state ≡ true → ((world_after s (h ∷ before)).clock n).off ≡ ((world_after s before).clock n).off

@@ -11,7 +11,7 @@ use Rattle.wrp_base.specs.declared.network.LinkCfg.{LinkCfg}
 use Rattle.wrp_bounds.specs.Times.{reach}
 use Rattle.wrp_frame.specs.declared.fault.FrameFault.{FrameFault}
 use Rattle.wrp_world.specs.declared.event.Event.{Event}
-use Rattle.wrp_world.specs.declared.event.Event.TheVariants.{Pass, Tick, Sample, Depart, Arrive, Deliver, Noise, Down, Up, Cut, Join}
+use Rattle.wrp_world.specs.declared.event.Event.TheVariants.{Pass, Depart, Up, Cut, Join}
 use Rattle.wrp_world.specs.declared.fibres.FibreState.{FibreState}
 use Rattle.wrp_world.specs.Checks.{AllHold, Check, Holds, only_where}
 use Rattle.wrp_world.specs.Given.{Given, given_by, gives, gives_all}
@@ -112,12 +112,7 @@ moved_kept s w says (Cut l) k link is a h =
 moved_kept s w says (Depart m p stamp) k link is a h =
     still_kept s w (Depart m p stamp) k refl (module_where (is_place (place_of s m p) k Master) (w.end_at k Master) (behind_first (w.end_at k Master).waiting))
     (module_where (is_place (place_of s m p) k Slave) (w.end_at k Slave) (behind_first (w.end_at k Slave).waiting)) h
-moved_kept s w says (Tick m) k link is a h = still_kept s w (Tick m) k refl (module_where (loses s (Tick m) k) (w.end_at k Master) []) (module_where (loses s (Tick m) k) (w.end_at k Slave) []) h
-moved_kept s w says (Sample m base bits) k link is a h = still_kept s w (Sample m base bits) k refl (module_where (loses s (Sample m base bits) k) (w.end_at k Master) []) (module_where (loses s (Sample m base bits) k) (w.end_at k Slave) []) h
-moved_kept s w says (Arrive i raw) k link is a h = still_kept s w (Arrive i raw) k refl (module_where (loses s (Arrive i raw) k) (w.end_at k Master) []) (module_where (loses s (Arrive i raw) k) (w.end_at k Slave) []) h
-moved_kept s w says (Deliver i) k link is a h = still_kept s w (Deliver i) k refl (module_where (loses s (Deliver i) k) (w.end_at k Master) []) (module_where (loses s (Deliver i) k) (w.end_at k Slave) []) h
-moved_kept s w says (Noise m p octets raw) k link is a h = still_kept s w (Noise m p octets raw) k refl (module_where (loses s (Noise m p octets raw) k) (w.end_at k Master) []) (module_where (loses s (Noise m p octets raw) k) (w.end_at k Slave) []) h
-moved_kept s w says (Down m) k link is a h = still_kept s w (Down m) k refl (module_where (loses s (Down m) k) (w.end_at k Master) []) (module_where (loses s (Down m) k) (w.end_at k Slave) []) h
+moved_kept s w says e k link is a h = still_kept s w e k refl (module_where (loses s e k) (w.end_at k Master) []) (module_where (loses s e k) (w.end_at k Slave) []) h
 
 kept_over : (s : Setting) (events : List Happened) (k : ℕ) (link : LinkCfg) → link_of s k ≡ Some link → IsRun s events → AllHold (fibre_kept s (world_after s events) k)
 kept_over s [] k link is run = none_checked (option_map_or (fibre_checks s (world_after s []) k) (link_of s k) [])

@@ -20,12 +20,7 @@ use Rattle.wrp_servo.specs.Servo.{answer_to, news_of}
 use Rattle.wrp_servo.specs.Table as table
 use Rattle.wrp_truth.proofs.HeldCalls.{IsNoMeasure}
 use Rattle.wrp_truth.proofs.LiveChains.{IsNoSample, Stands}
-
-not_true : false ≡ true → ⊥
-not_true e = cc
-
-none_some : {A : Type 0} (x : A) → None ≡ Some x → ⊥
-none_some x e = cc
+use Rattle.wrp_truth.proofs.Basics.{none_some, not_true, some_is}
 
 -- no measurement stands, or this one does, and with it a chain
 abbrev Keeps : Option Measurement → Core → Type 0
@@ -276,9 +271,6 @@ pub record Brings (x : Settings) (calls : List Call) (f : Four) (y : ℤ) (k : M
   pub in_chain : measuring.deltas_in_chain (run x calls) ≡ Some deltas
   pub in_range : measuring.is_in x.lo x.hi (measuring.x_of deltas f) ≡ true
   pub is : k ≡ measuring.kept_of f deltas y
-
-some_is : (x y : Measurement) → Some x ≡ Some y → x ≡ y
-some_is x y e = cc
 
 -- a measurement keeps the one that stands, or brings its own
 pub measured_before : (x : Settings) (calls : List Call) (f : Four) (y : ℤ) (k : Measurement) → (run x (CallMeasured f y ∷ calls)).kept ≡ Some k → ((run x calls).kept ≡ Some k) ⊎ Brings x calls f y k

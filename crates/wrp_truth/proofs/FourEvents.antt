@@ -32,9 +32,7 @@ use Rattle.wrp_truth.proofs.FourSteps.{IsOnlySlave}
 use Rattle.wrp_truth.proofs.Inputs.{GivesTo, node_given, node_kept}
 use Rattle.wrp_truth.proofs.LinksAbove.{above_is}
 use Rattle.wrp_truth.proofs.Parents.{has_slave}
-
-none_some : {A : Type 0} (x : A) → None ≡ Some x → ⊥
-none_some x e = cc
+use Rattle.wrp_truth.proofs.Basics.{none_some}
 
 -- The slave port of the node below a link
 
@@ -101,15 +99,7 @@ unframed s says y w e n p none k is =
 event_new : (s : Setting) (says : Result PtpMsg FrameFault) (y : ℤ) (w : WorldAt) (e : Event) (n p : ℕ) → slave_of (s.set n) ≡ Some p → IsOnlySlave (fixed_of s n) p → StoodOrNew (fixed_of s n) p (w.node n) ((world_step s says y w e).node n)
 event_new s says y w (Deliver i) n p slave only = few_given s y (moved s w (Deliver i)) n p (delivered s (w.frame i)) slave only (few_delivered s (w.frame i))
 event_new s says y w (Noise m q octets raw) n p slave only = few_given s y (moved s w (Noise m q octets raw)) n p (given_by s w (moved s w (Noise m q octets raw)) says (Noise m q octets raw)) slave only tt
-event_new s says y w (Tick m) n p slave only = unframed s says y w (Tick m) n p tt
-event_new s says y w (Sample m base bits) n p slave only = unframed s says y w (Sample m base bits) n p tt
-event_new s says y w (Depart m q stamp) n p slave only = unframed s says y w (Depart m q stamp) n p tt
-event_new s says y w (Arrive i raw) n p slave only = unframed s says y w (Arrive i raw) n p tt
-event_new s says y w (Down m) n p slave only = unframed s says y w (Down m) n p tt
-event_new s says y w (Up m off swaps) n p slave only = unframed s says y w (Up m off swaps) n p tt
-event_new s says y w (Cut l) n p slave only = unframed s says y w (Cut l) n p tt
-event_new s says y w (Join l ms sm) n p slave only = unframed s says y w (Join l ms sm) n p tt
-event_new s says y w (Pass dt drifts fibres) n p slave only = unframed s says y w (Pass dt drifts fibres) n p tt
+event_new s says y w e n p slave only = unframed s says y w e n p tt
 
 -- Over a run
 

@@ -1,20 +1,17 @@
 -- The moments of a chain, and the ticks of its node in it.
-use Rattle.std.proofs.Common.{◌≡◌, inl, inr, ◌∙◌, refl, ap, sym, subst, ℕ, suc, ◌+◌, ◌*◌, ◌<◌, ◌≤◌, ℤ, pos, ◌+ℤ◌, ◌≤ℤ◌, true, List, [], ◌∷◌, ◌++◌, length, map, Option, None, Some, unsigned_abs, arith}
+use Rattle.std.proofs.Common.{◌≡◌, inl, inr, ◌∙◌, refl, ap, sym, subst, ℕ, suc, ◌+◌, ◌*◌, ◌<◌, ◌≤◌, ℤ, pos, ◌+ℤ◌, ◌≤ℤ◌, true, List, [], ◌∷◌, ◌++◌, length, map, Some, unsigned_abs, arith}
 use Rattle.std.proofs.lemmas.Int.{ints}
 use Rattle.std.proofs.Math.Nat.{mul-le-mul_right}
-use Rattle.std.specs.Prelude.{option_and_then, slice_get}
-use Rattle.wrp_base.specs.declared.configuration.NetCfg.{NetCfg}
 use Rattle.wrp_base.specs.declared.network.LinkCfg.{LinkCfg}
-use Rattle.wrp_base.specs.declared.network.NodeCfg.{NodeCfg}
 use Rattle.wrp_base.specs.Network.{node_count}
-use Rattle.wrp_bounds.specs.Bounds.{numbers_between, numbers_of, numbers_over}
+use Rattle.wrp_bounds.specs.Bounds.{numbers_of}
 use Rattle.wrp_bounds.specs.declared.numbers.HopNumbers.{HopNumbers}
-use Rattle.wrp_bounds.specs.Times.{age_time, frame_life, longest_tick, shortest_tick}
+use Rattle.wrp_bounds.specs.Times.{frame_life, longest_tick, shortest_tick}
 use Rattle.wrp_tracking.specs.History.{EachStep, Was}
 use Rattle.wrp_tracking.specs.Ticks.{IsOnTime, TickMoment, TickStep, TickedSince, WithinTicks}
 use Rattle.wrp_tracking.proofs.Histories.{each_seen, each_since, no_steps, was_seen}
 use Rattle.wrp_world.specs.Run.{Happened, world_after, worlds_of}
-use Rattle.wrp_world.specs.Runs.{IsNetwork, IsRun}
+use Rattle.wrp_world.specs.Runs.{IsRun}
 use Rattle.wrp_world.specs.Setting.{Setting, link_of}
 use Rattle.wrp_world.specs.WorldAt.{WorldAt}
 use Rattle.wrp_truth.specs.Chains.{ChainRuns}
@@ -25,14 +22,8 @@ use Rattle.wrp_truth.specs.Rates.{HasChain}
 use Rattle.wrp_truth.specs.Views.{ticks_at}
 use Rattle.wrp_truth.proofs.FourParts.{held_at}
 use Rattle.wrp_truth.proofs.LeaseSources.{both_nodes}
-use Rattle.wrp_truth.proofs.LinksAbove.{above_is}
 use Rattle.wrp_truth.proofs.Suffixes.{at_newest, older_run, run_before}
-
-none_some : {A : Type 0} (x : A) → None ≡ Some x → ⊥
-none_some x e = cc
-
-some_is : {A : Type 0} (x y : A) → Some x ≡ Some y → x ≡ y
-some_is x y e = cc
+use Rattle.wrp_truth.proofs.HopNumbers.{hop_has}
 
 -- the laws that this stands on
 pub record MomentLaws : Type 0 where
@@ -106,23 +97,6 @@ ticks_each laws s n (h ∷ newer) older run inside up =
 
 -- The age of a hop's numbers
 
-abbrev AgeIs : Setting → HopNumbers → Type 0
-AgeIs s hop = hop.age_time ≡ age_time s.cfg
-
-age_between : (s : Setting) (link : LinkCfg) (hop : HopNumbers) (o p : Option NodeCfg) → numbers_between s.cfg link o p ≡ Some hop → AgeIs s hop
-age_between s link hop (Some own) (Some parent) is = let it : _ ≡ hop = some_is _ hop is in sym (ap (λ (h : HopNumbers). h.age_time) it)
-age_between s link hop None p is = absurd (none_some hop is)
-age_between s link hop (Some own) None is = absurd (none_some hop is)
-
-over_is : (net : NetCfg) (link : LinkCfg) → numbers_over net link ≡ numbers_between net link (slice_get net.nodes.items link.lower) (slice_get net.nodes.items link.upper)
-unfolding numbers_over
-over_is net link = refl
-
-age_is : (s : Setting) → IsNetwork s → (k : ℕ) (link : LinkCfg) (hop : HopNumbers) → link_of s k ≡ Some link → numbers_of s.cfg link.lower ≡ Some hop → AgeIs s hop
-age_is s net k link hop is numbers =
-    age_between s link hop (slice_get s.cfg.nodes.items link.lower) (slice_get s.cfg.nodes.items link.upper)
-    (sym (over_is s.cfg link) ∙ sym (ap (option_and_then (numbers_over s.cfg)) (above_is s net k link is)) ∙ numbers)
-
 age_fits : (age dmax life : ℕ) → (age + 1) * dmax ≤ (age + 2) * dmax + life
 age_fits age dmax life = let h : (age + 1) * dmax ≤ (age + 2) * dmax = mul-le-mul_right dmax (omega arith) in omega (arith, h)
 
@@ -170,4 +144,4 @@ young laws s h before k link hop run is numbers chain at w ago =
     let dmax : ℕ = longest_tick s.cfg in
     more_time (world_after s (h ∷ before)).time w.time ((age + 1) * dmax) hop.age_time
     (laws.within (shortest_tick s.cfg) dmax at age (ticks_at w n) (ticks_at (world_after s (h ∷ before)) n) (map (SeenTicks n) (worlds_of s before)) (ticked_since laws s h before k link hop run is chain age at w ago) ago.few)
-    (subst (λ (a : ℕ). (age + 1) * dmax ≤ a) (sym (age_is s run.network k link hop is numbers)) (age_fits age dmax (frame_life s.cfg)))
+    (subst (λ (a : ℕ). (age + 1) * dmax ≤ a) (sym (hop_has s run.network k link hop is numbers).age) (age_fits age dmax (frame_life s.cfg)))

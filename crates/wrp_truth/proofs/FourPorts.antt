@@ -10,15 +10,7 @@ use Rattle.wrp_data.specs.declared.datasets.PortDs.{PortDs}
 use Rattle.wrp_node.specs.NodeAt.{is_slave, port_of, port_or_none, slave_in}
 use Rattle.wrp_node.specs.Set.{ports_of, set_of}
 use Rattle.wrp_node.proofs.OwnPorts.{one_slave}
-
-none_some : {A : Type 0} (x : A) → None ≡ Some x → ⊥
-none_some x e = cc
-
-some_is : {A : Type 0} (x y : A) → Some x ≡ Some y → x ≡ y
-some_is x y e = cc
-
-not_both : (b : Bool) → b ≡ true → b ≡ false → ⊥
-not_both b e f = cc
+use Rattle.wrp_truth.proofs.Basics.{none_some, some_is, not_both}
 
 more_than_none : (n : ℕ) → suc n ≤ 0 → ⊥
 more_than_none n h = omega (arith, h)

@@ -36,9 +36,7 @@ use Rattle.wrp_tracking.specs.ServoGives.{FoursRise}
 use Rattle.wrp_truth.proofs.FourCalls.{kept_before, measured_before}
 use Rattle.wrp_truth.proofs.FourSteps.{IsFree, IsOnlySlave, IsPlain, KeptByEach, answered, step_keeps_each}
 use Rattle.wrp_truth.proofs.HeldCalls.{IsNoMeasure}
-
-none_some : {A : Type 0} (x : A) → None ≡ Some x → ⊥
-none_some x e = cc
+use Rattle.wrp_truth.proofs.Basics.{none_some}
 
 -- The pieces that the exchange of a port was given
 

@@ -27,6 +27,7 @@ use Rattle.wrp_servo.specs.Call.{Call, CallSample, CallMeasured, CallTick, CallL
 use Rattle.wrp_servo.specs.declared.interface.ServoOut.{ServoOut}
 use Rattle.wrp_servo.specs.Servo.{answer_to}
 use Rattle.wrp_servo.specs.Told.{lease_told, link_told}
+use Rattle.wrp_truth.proofs.Basics.{none_some, some_is}
 
 -- of a node: its ticks, what its slave port was told, and its servo's calls
 abbrev pub At : (ℕ → List PortIn → List Call → Type 0) → ℕ → NodeAt → Type 0
@@ -77,12 +78,6 @@ IsOnlySlave fixed p = (q : ℕ) → (port_of fixed.set q).role ≡ Slave → q �
 
 pub self_equal : (n : ℕ) → (n == n) ≡ true
 self_equal n = grind (arith)
-
-some_is : {A : Type 0} (x y : A) → Some x ≡ Some y → x ≡ y
-some_is x y e = cc
-
-none_some : {A : Type 0} (x : A) → None ≡ Some x → ⊥
-none_some x e = cc
 
 told_here : (o : Option ℕ) (p : ℕ) (out : ServoOut) (number : ℕ) (told : ℕ → List PortIn) → o ≡ Some p → told_by o out number told p ≡ heard_of out number (told p)
 told_here None p out number told e = absurd (none_some p e)

@@ -41,6 +41,7 @@ use Rattle.wrp_truth.proofs.FourMoments.{IsTicksAgo, MomentLaws, was_mapped, you
 use Rattle.wrp_truth.proofs.FourParts.{longer_part}
 use Rattle.wrp_truth.proofs.FourRises.{fours_rise}
 use Rattle.wrp_truth.proofs.NodeRuns.{node_is}
+use Rattle.wrp_truth.proofs.Basics.{none_some, some_is}
 
 -- the laws that this stands on
 pub record FourLaws : Type 0 where
@@ -51,12 +52,6 @@ pub record FourLaws : Type 0 where
   pub chain : TrackHasChain
   pub near : TrackIsNear
   pub young : TrackIsYoung
-
-none_some : {A : Type 0} (x : A) → None ≡ Some x → ⊥
-none_some x e = cc
-
-some_is : {A : Type 0} (x y : A) → Some x ≡ Some y → x ≡ y
-some_is x y e = cc
 
 -- A four is of two pairs
 

@@ -18,9 +18,7 @@ use Rattle.wrp_servo.specs.Sampling.{followed, good, good_tag, heard, hears, is_
 use Rattle.wrp_servo.specs.Since.{Since, NoneEnds}
 use Rattle.wrp_servo.specs.Table.{by_tick, ended, ended_by_age, is_old, is_past_gap, is_track, one_tick}
 use Rattle.wrp_truth.proofs.Holding.{IsCalmCall, calm_ticks, some_more}
-
-not_true : false ≡ true → ⊥
-not_true e = cc
+use Rattle.wrp_truth.proofs.Basics.{not_true, heads}
 
 -- What enters TRACK and HOLDOVER
 
@@ -37,9 +35,6 @@ enters_none x calls (CallLease fresh) h e = not_true e
 enters_none x calls (CallLink on) h e = not_true e
 enters_none x calls (CallCarrier up) h e = not_true e
 enters_none x calls CallReset h e = not_true e
-
-heads : (c d : Call) (calls rest : List Call) → c ∷ calls ≡ d ∷ rest → (c ≡ d) × (calls ≡ rest)
-heads c d calls rest e = (cc, cc)
 
 tracked_since : TrackSince → (x : Settings) (calls : List Call) (c : Call) (since : List Call) (start : Call) (before : List Call) → IsNoMeasure c → c ∷ calls ≡ since ++ start ∷ before → enters_track x before start ≡ true →
     NoneEnds (leaves_track x) since (start ∷ before) → is_track (run x calls).state ≡ true

@@ -21,7 +21,7 @@ use Rattle.wrp_servo.specs.Sampling.{is_holdover}
 use Rattle.wrp_servo.specs.Table.{is_track}
 use Rattle.wrp_tracking.specs.History.{EachStep, IsSlow}
 use Rattle.wrp_world.specs.declared.event.Event.{Event}
-use Rattle.wrp_world.specs.declared.event.Event.TheVariants.{Pass, Tick, Sample, Depart, Arrive, Deliver, Noise, Down, Up, Cut, Join}
+use Rattle.wrp_world.specs.declared.event.Event.TheVariants.{Tick, Up}
 use Rattle.wrp_world.specs.Given.{given_plain, taken_of}
 use Rattle.wrp_world.specs.Premises.{is_holdover as held_state, rate_of}
 use Rattle.wrp_world.specs.Run.{Happened, world_after, worlds_of}
@@ -45,6 +45,7 @@ use Rattle.wrp_truth.proofs.Parents.{IsCalmOf, calm_to, has_servo, not_up, ticke
 use Rattle.wrp_truth.proofs.Slow.{as_slow}
 use Rattle.wrp_truth.proofs.StepCalls.{IsCalm, IsTelling, calls_kept, told_tick}
 use Rattle.wrp_truth.proofs.Suffixes.{run_before}
+use Rattle.wrp_truth.proofs.Basics.{not_true}
 
 -- the laws that this stands on
 pub record HeldLaws : Type 0 where
@@ -52,9 +53,6 @@ pub record HeldLaws : Type 0 where
   pub apart : TicksAreApart
   pub commands : CommandsAreHeld
   pub still : NoStepInTrack
-
-not_true : false ≡ true → ⊥
-not_true e = cc
 
 abbrev pub core_at : Setting → List Happened → ℕ → Core
 core_at s events n = servo_at (fixed_of s n) ((world_after s events).node n)
@@ -204,15 +202,7 @@ stays laws s says y before (Up m off swaps) n t link at run above held now hold 
     calm_stays laws s (record { event = Up m off swaps; says = says; answer = y }) before n t at
     (λ same. not_up ((world_after s before).clock n).up held.up (subst (λ i. not (not ((world_after s before).clock i).up) ≡ false) (sym same) (comes_up_down s (world_after s before) says m off swaps run.accepted.0)))
     hold late
-stays laws s says y before (Pass dt drifts fibres) n t link at run above held now hold late = calm_stays laws s (record { event = Pass dt drifts fibres; says = says; answer = y }) before n t at tt hold late
-stays laws s says y before (Sample m base bits) n t link at run above held now hold late = calm_stays laws s (record { event = Sample m base bits; says = says; answer = y }) before n t at tt hold late
-stays laws s says y before (Depart m p stamp) n t link at run above held now hold late = calm_stays laws s (record { event = Depart m p stamp; says = says; answer = y }) before n t at tt hold late
-stays laws s says y before (Arrive i raw) n t link at run above held now hold late = calm_stays laws s (record { event = Arrive i raw; says = says; answer = y }) before n t at tt hold late
-stays laws s says y before (Deliver i) n t link at run above held now hold late = calm_stays laws s (record { event = Deliver i; says = says; answer = y }) before n t at tt hold late
-stays laws s says y before (Noise m p octets raw) n t link at run above held now hold late = calm_stays laws s (record { event = Noise m p octets raw; says = says; answer = y }) before n t at tt hold late
-stays laws s says y before (Down m) n t link at run above held now hold late = calm_stays laws s (record { event = Down m; says = says; answer = y }) before n t at tt hold late
-stays laws s says y before (Cut l) n t link at run above held now hold late = calm_stays laws s (record { event = Cut l; says = says; answer = y }) before n t at tt hold late
-stays laws s says y before (Join l ms sm) n t link at run above held now hold late = calm_stays laws s (record { event = Join l ms sm; says = says; answer = y }) before n t at tt hold late
+stays laws s says y before e n t link at run above held now hold late = calm_stays laws s (record { event = e; says = says; answer = y }) before n t at tt hold late
 
 -- Over a run
 

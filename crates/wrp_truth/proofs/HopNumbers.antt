@@ -6,17 +6,14 @@ use Rattle.wrp_base.specs.declared.configuration.NetCfg.{NetCfg}
 use Rattle.wrp_base.specs.declared.network.LinkCfg.{LinkCfg}
 use Rattle.wrp_base.specs.declared.network.NodeCfg.{NodeCfg}
 use Rattle.wrp_base.specs.Network.{link_above}
-use Rattle.wrp_bounds.specs.Bounds.{numbers_between, numbers_of, numbers_over}
 use Rattle.wrp_bounds.specs.declared.numbers.HopNumbers.{HopNumbers}
-use Rattle.wrp_bounds.specs.Times.{gap_time}
+use Rattle.wrp_bounds.specs.Bounds.{numbers_between, numbers_of, numbers_over}
+use Rattle.wrp_bounds.specs.Times.{gap_time, age_time, reach}
 use Rattle.wrp_world.specs.Runs.{IsNetwork}
 use Rattle.wrp_world.specs.Setting.{Setting, link_of, of_node}
 use Rattle.wrp_truth.specs.Rates.{greatest_rate}
+use Rattle.wrp_truth.proofs.Basics.{none_some, some_is}
 use Rattle.wrp_truth.proofs.LinksAbove.{above_is}
-use Rattle.wrp_truth.proofs.Parents.{some_is}
-
-none_some : {A : Type 0} (x : A) → None ≡ Some x → ⊥
-none_some x e = cc
 
 -- what a hop has of its nodes
 pub record HopHas (s : Setting) (link : LinkCfg) (hop : HopNumbers) : Type 0 where
@@ -25,6 +22,12 @@ pub record HopHas (s : Setting) (link : LinkCfg) (hop : HopNumbers) : Type 0 whe
   pub parent : hop.parent.rate ≡ greatest_rate s link.upper
   pub beat : hop.beat ≡ of_node (λ node. node.beat) s link.lower
   pub gap : hop.gap_time ≡ gap_time s.cfg
+  pub age : hop.age_time ≡ age_time s.cfg
+  pub reach_is : hop.reach ≡ reach s.cfg
+  pub own_tag : hop.own.e_tag ≡ of_node (λ node. node.e_tag) s link.lower
+  pub own_tx : hop.own.e_tx ≡ of_node (λ node. node.e_tx) s link.lower
+  pub parent_tag : hop.parent.e_tag ≡ of_node (λ node. node.e_tag) s link.upper
+  pub parent_tx : hop.parent.e_tx ≡ of_node (λ node. node.e_tx) s link.upper
 
 rate_is : (s : Setting) (n : ℕ) (node : NodeCfg) → slice_get s.cfg.nodes.items n ≡ Some node → (if is_some (link_above s.cfg n) then max node.slew node.held else 0) ≡ greatest_rate s n
 rate_is s n node e =
@@ -40,6 +43,12 @@ between s link hop (Some own) (Some parent) e f is =
       parent = sym (ap (λ (h : HopNumbers). h.parent.rate) it) ∙ rate_is s link.upper parent f;
       beat = sym (ap (λ (h : HopNumbers). h.beat) it) ∙ sym (ap (λ o. option_map_or (λ (x : NodeCfg). x.beat) o 0) e);
       gap = sym (ap (λ (h : HopNumbers). h.gap_time) it);
+      age = sym (ap (λ (h : HopNumbers). h.age_time) it);
+      reach_is = sym (ap (λ (h : HopNumbers). h.reach) it);
+      own_tag = sym (ap (λ (h : HopNumbers). h.own.e_tag) it) ∙ sym (ap (λ o. option_map_or (λ (x : NodeCfg). x.e_tag) o 0) e);
+      own_tx = sym (ap (λ (h : HopNumbers). h.own.e_tx) it) ∙ sym (ap (λ o. option_map_or (λ (x : NodeCfg). x.e_tx) o 0) e);
+      parent_tag = sym (ap (λ (h : HopNumbers). h.parent.e_tag) it) ∙ sym (ap (λ o. option_map_or (λ (x : NodeCfg). x.e_tag) o 0) f);
+      parent_tx = sym (ap (λ (h : HopNumbers). h.parent.e_tx) it) ∙ sym (ap (λ o. option_map_or (λ (x : NodeCfg). x.e_tx) o 0) f);
     }
 between s link hop None p e f is = absurd (none_some hop is)
 between s link hop (Some own) None e f is = absurd (none_some hop is)

@@ -36,7 +36,7 @@ use Rattle.wrp_truth.proofs.Parents.{ticked_node}
 use Rattle.wrp_truth.proofs.ScheduleCounts.{Gone, OpenGone, aside_gone, due_at, due_in, every_of, next_multiple, one_tick}
 use Rattle.wrp_truth.proofs.ScheduleSince.{Beginning, IsOpen, PortOf, Since, gone_then, late_then, set_at, since_all, tick_then, ticked_told, told_in, told_then}
 use Rattle.wrp_truth.proofs.Sendings.{WasPut, was_put}
-use Rattle.wrp_truth.proofs.Suffixes.{at_newest, at_rest, older_run, run_before}
+use Rattle.wrp_truth.proofs.Suffixes.{at_newest, at_rest, older_run, run_before, rest_length}
 
 -- Ends of lists
 
@@ -46,15 +46,11 @@ record Between (a b c d : List Happened) : Type 0 where
   longer : d ≡ middle ++ b
   rest : a ≡ c ++ middle
 
-no_longer : (a b : List Happened) → length b ≤ length (a ++ b)
-no_longer [] b = omega arith
-no_longer (h ∷ a) b = let rest : length b ≤ length (a ++ b) = no_longer a b in omega (arith, rest)
-
 between : (a b c d : List Happened) → a ++ b ≡ c ++ d → length b ≤ length d → Between a b c d
 between a b [] d e le = record { middle = a; longer = sym e; rest = refl }
 between [] b (z ∷ c) d e le =
     let same : length b ≡ length (z ∷ (c ++ d)) = ap length e in
-    let more : length d ≤ length (c ++ d) = no_longer c d in
+    let more : length d ≤ length (c ++ d) = rest_length c d in
     absurd (omega (arith, same, more, le))
 between (x ∷ a) b (z ∷ c) d e le =
     let tail : a ++ b ≡ c ++ d = cc in
@@ -70,7 +66,7 @@ same_end : (h k : Happened) (b d middle : List Happened) → length (h ∷ b) �
 same_end h k b d [] le e = behind_first h k b d e
 same_end h k b d (z ∷ middle) le e =
     let same : length (k ∷ d) ≡ length (z ∷ (middle ++ (h ∷ b))) = ap length e in
-    let more : length (h ∷ b) ≤ length (middle ++ (h ∷ b)) = no_longer middle (h ∷ b) in
+    let more : length (h ∷ b) ≤ length (middle ++ (h ∷ b)) = rest_length middle (h ∷ b) in
     absurd (omega (arith, same, more, le))
 
 one_end : (a c b d : List Happened) (h k : Happened) → a ++ (h ∷ b) ≡ c ++ (k ∷ d) → length (h ∷ b) ≡ length (k ∷ d) → b ≡ d
@@ -112,7 +108,7 @@ record PutIn (s : Setting) (events : List Happened) (k : ℕ) (link : LinkCfg) (
 old_moment : (s : Setting) (before : List Happened) (k : ℕ) (r : Role) (x : Sending) → WasPutOut x ((world_after s before).end_at k r).sent → x.moment ≤ length before
 old_moment s before k r x put =
     let it : WasPut s before k r x = was_put s before k r x put in
-    let longer : length it.older ≤ length (it.newer ++ it.older) = no_longer it.newer it.older in
+    let longer : length it.older ≤ length (it.newer ++ it.older) = rest_length it.newer it.older in
     let same : length before ≡ length (it.newer ++ it.older) = ap length it.splits in
     let moment : x.moment ≡ length it.older = it.in_it.moment in
     omega (arith, longer, same, moment)

@@ -8,7 +8,7 @@ use Rattle.wrp_base.specs.declared.message.PtpMsg.{PtpMsg}
 use Rattle.wrp_base.specs.declared.time.Raw.{Raw}
 use Rattle.wrp_frame.specs.declared.fault.FrameFault.{FrameFault}
 use Rattle.wrp_world.specs.declared.event.Event.{Event}
-use Rattle.wrp_world.specs.declared.event.Event.TheVariants.{Pass, Tick, Sample, Depart, Arrive, Deliver, Noise, Down, Up, Cut, Join}
+use Rattle.wrp_world.specs.declared.event.Event.TheVariants.{Depart, Arrive}
 use Rattle.wrp_world.specs.declared.place.Place.{Place}
 use Rattle.wrp_world.specs.Checks.{AllHold}
 use Rattle.wrp_world.specs.Given.{Given, given_by, gives, gives_all}
@@ -19,11 +19,8 @@ use Rattle.wrp_world.specs.Setting.{Setting, is_role, place_of}
 use Rattle.wrp_world.specs.WorldAt.{Arrival, FrameAt, Sending, WorldAt, is_on_fibre}
 use Rattle.wrp_world.proofs.RunPorts.{self_equal}
 use Rattle.wrp_truth.specs.FlightOrder.{FramesArriveInOrder, FramesDepartInOrder}
-use Rattle.wrp_truth.proofs.Parents.{some_is}
 use Rattle.wrp_truth.proofs.Suffixes.{all_given_count}
-
-not_true : false ≡ true → ⊥
-not_true e = cc
+use Rattle.wrp_truth.proofs.Basics.{not_true, some_is}
 
 -- What is known of a frame: it was numbered, and departed and arrived before now
 
@@ -98,15 +95,7 @@ numbered_arrived s w j raw None i p h = numbered_on w.departed w.departed w.coun
 numbered_event : (s : Setting) (w : WorldAt) (e : Event) (i : ℕ) → Numbered w.departed w.count i (w.frame i) → Numbered (departed_after s w e) (w.count + 1) i (frame_after s w e i)
 numbered_event s w (Depart n p stamp) i h = numbered_departing w (place_of s n p) stamp (waiting_at w (place_of s n p)) i h
 numbered_event s w (Arrive j raw) i h = numbered_arrived s w j raw (w.frame j) i (w.frame i) h
-numbered_event s w (Pass dt drifts fibres) i h = numbered_removed s (Pass dt drifts fibres) w.departed w.count i (w.frame i) h
-numbered_event s w (Tick n) i h = numbered_removed s (Tick n) w.departed w.count i (w.frame i) h
-numbered_event s w (Sample n base bits) i h = numbered_removed s (Sample n base bits) w.departed w.count i (w.frame i) h
-numbered_event s w (Deliver j) i h = numbered_removed s (Deliver j) w.departed w.count i (w.frame i) h
-numbered_event s w (Noise n p octets raw) i h = numbered_removed s (Noise n p octets raw) w.departed w.count i (w.frame i) h
-numbered_event s w (Down n) i h = numbered_removed s (Down n) w.departed w.count i (w.frame i) h
-numbered_event s w (Up n off swaps) i h = numbered_removed s (Up n off swaps) w.departed w.count i (w.frame i) h
-numbered_event s w (Cut l) i h = numbered_removed s (Cut l) w.departed w.count i (w.frame i) h
-numbered_event s w (Join l ms sm) i h = numbered_removed s (Join l ms sm) w.departed w.count i (w.frame i) h
+numbered_event s w e i h = numbered_removed s e w.departed w.count i (w.frame i) h
 
 -- Two frames in an event
 
@@ -245,15 +234,7 @@ order_event : (s : Setting) (w : WorldAt) (says : Result PtpMsg FrameFault) (e :
     InOrder (frame_after s w e i) (frame_after s w e j)
 order_event s w says (Depart n p stamp) i j a l x y h = order_departing w (place_of s n p) stamp (waiting_at w (place_of s n p)) i j l x y h
 order_event s w says (Arrive m raw) i j a l x y h = order_arrived s w says m raw i j (w.frame m) (w.frame i) (w.frame j) a refl refl refl l x h
-order_event s w says (Pass dt drifts fibres) i j a l x y h = order_removed s (Pass dt drifts fibres) (w.frame i) (w.frame j) h
-order_event s w says (Tick n) i j a l x y h = order_removed s (Tick n) (w.frame i) (w.frame j) h
-order_event s w says (Sample n base bits) i j a l x y h = order_removed s (Sample n base bits) (w.frame i) (w.frame j) h
-order_event s w says (Deliver m) i j a l x y h = order_removed s (Deliver m) (w.frame i) (w.frame j) h
-order_event s w says (Noise n p octets raw) i j a l x y h = order_removed s (Noise n p octets raw) (w.frame i) (w.frame j) h
-order_event s w says (Down n) i j a l x y h = order_removed s (Down n) (w.frame i) (w.frame j) h
-order_event s w says (Up n off swaps) i j a l x y h = order_removed s (Up n off swaps) (w.frame i) (w.frame j) h
-order_event s w says (Cut k) i j a l x y h = order_removed s (Cut k) (w.frame i) (w.frame j) h
-order_event s w says (Join k ms sm) i j a l x y h = order_removed s (Join k ms sm) (w.frame i) (w.frame j) h
+order_event s w says e i j a l x y h = order_removed s e (w.frame i) (w.frame j) h
 
 -- Every run
 

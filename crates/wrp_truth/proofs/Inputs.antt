@@ -1,8 +1,7 @@
 -- What an event makes of a node: the node's steps at the inputs that it is given.
-use Rattle.std.proofs.Common.{◌≡◌, inl, inr, ◌∙◌, refl, ap, sym, subst, ℕ, ℤ, Bool, true, false, if◌then◌else◌, List, [], ◌∷◌, Option, None, Result}
+use Rattle.std.proofs.Common.{◌≡◌, inl, inr, ◌∙◌, refl, ap, sym, subst, ℕ, ℤ, Bool, true, false, if◌then◌else◌, List, [], ◌∷◌, Option, None, Result, ◌⊎◌}
 use Rattle.std.proofs.lemmas.Bool.Decides.{eqb_tells}
 use Rattle.std.specs.List.{AllByRecursion}
-use Rattle.arrayvec.specs.ArrayVec.{ArrayVec as Items}
 use Rattle.wrp_base.specs.declared.link.Module.{Module}
 use Rattle.wrp_base.specs.declared.link.Role.TheVariants.{Master}
 use Rattle.wrp_base.specs.declared.message.PtpMsg.{PtpMsg}
@@ -21,6 +20,7 @@ use Rattle.wrp_world.specs.Moved.{moved, waiting_at}
 use Rattle.wrp_world.specs.Setting.{Setting, fixed_of, place_of}
 use Rattle.wrp_world.specs.WorldAt.{WorldAt, has_carrier}
 use Rattle.wrp_world.proofs.RunGifts.{AllGiven, all_if, comes_all, delivered_all, goes_all, ports_all, sent_all}
+use Rattle.arrayvec.specs.ArrayVec.{ArrayVec as Items}
 
 -- One input
 
@@ -145,3 +145,7 @@ no_tick_to n (Arrive i raw) h = tt
 pub no_tick_last : (s : Setting) (says : Result PtpMsg FrameFault) (y : ℤ) (w : WorldAt) (e : Event) (n : ℕ) → IsNoTickOf n e → ((world_step s says y w e).clock n).ticked ≡ ((moved s w e).clock n).ticked
 no_tick_last s says y w e n h =
     all_given_last s y (given_by s w (moved s w e) says e) (moved s w e) n (gives_to IsNoTick s w (moved s w e) says n e (no_tick_to n e h))
+
+pub tick_or_not : (n : ℕ) (e : Event) → (e ≡ Tick n) ⊎ IsNoTickOf n e
+tick_or_not n (Tick m) = elim (eqb_tells n m) [ inl same ↦ inl (ap Tick (sym same.1)) | inr other ↦ inr other.1 ]
+tick_or_not n _ = inr tt

@@ -32,21 +32,13 @@ use Rattle.wrp_tracking.specs.ServoGives.{WasMeasured}
 use Rattle.wrp_truth.proofs.FourCalls.{Brings, kept_before, kept_stands, measured_before}
 use Rattle.wrp_truth.proofs.FourRises.{free_measures_none}
 use Rattle.wrp_truth.proofs.FourSteps.{IsFree, IsOnlySlave, KeptByEach, KeptByLink, leased_keeps, step_keeps_each}
+use Rattle.wrp_truth.proofs.Basics.{none_some, not_true}
 
 -- the laws that this stands on
 pub record DeltaLaws : Type 0 where
   pub told : ToldLast
   pub signals : ChainHasSignals
   pub links : StepGivesLinks
-
-not_true : false ≡ true → ⊥
-not_true e = cc
-
-none_some : {A : Type 0} (x : A) → None ≡ Some x → ⊥
-none_some x e = cc
-
-some_is : {A : Type 0} (x y : A) → Some x ≡ Some y → x ≡ y
-some_is x y e = cc
 
 -- What the servo was told of the link
 

@@ -1,5 +1,5 @@
 -- A lease that runs has a source of time above it.
-use Rattle.std.proofs.Common.{◌≡◌, inl, inr, ◌∙◌, refl, ap, sym, subst, ℕ, zero, suc, ◌+◌, ◌-◌, ◌*◌, ◌<◌, ◌≤◌, ℤ, pos, ◌+ℤ◌, ◌≤ℤ◌, ◌<ℤ◌, unsigned_abs, not, Bool, true, false, is_some, List, [], ◌∷◌, ◌++◌, length, Option, None, Some, Result, arith}
+use Rattle.std.proofs.Common.{◌≡◌, inl, inr, ◌∙◌, refl, ap, sym, subst, ℕ, zero, suc, ◌+◌, ◌-◌, ◌*◌, ◌<◌, ◌≤◌, ℤ, pos, ◌+ℤ◌, ◌≤ℤ◌, unsigned_abs, not, true, false, is_some, List, [], ◌∷◌, ◌++◌, length, Option, None, Some, Result, arith}
 use Rattle.std.proofs.lemmas.Bool.Decides.{eqb_tells}
 use Rattle.std.proofs.lemmas.Int.{ints}
 use Rattle.std.proofs.Math.Nat.{mul-le-mul_right}
@@ -36,11 +36,12 @@ use Rattle.wrp_truth.proofs.Inputs.{no_tick_last}
 use Rattle.wrp_truth.proofs.LinksAbove.{above_is}
 use Rattle.wrp_truth.proofs.OnTime.{after_that, on_time, ticked_past}
 use Rattle.wrp_truth.proofs.Parents.{FollowedAt, IsCalmOf, begins, calm_last, has_servo, has_slave, is_source, next_follows, not_up, ticked_node, ticks_not}
-use Rattle.wrp_truth.proofs.Quiets.{QuietLaws, dark_long_ago}
+use Rattle.wrp_truth.proofs.OpenPorts.{QuietLaws, carried_since}
 use Rattle.wrp_truth.proofs.Renewals.{IsPlainOf, Renewal, deliver_turns, noise_turns, plain_turns, renewal_certain, renewal_is, renewal_young, turns_in}
 use Rattle.wrp_truth.proofs.Sendings.{PutOutIn, WasPut, certain_in, was_put}
 use Rattle.wrp_truth.proofs.StepLeases.{turns_at, turns_before}
-use Rattle.wrp_truth.proofs.Suffixes.{appended, at_each, at_newest, at_rest, older_run, run_before}
+use Rattle.wrp_truth.proofs.Suffixes.{appended, at_each, at_newest, at_rest, older_run, run_before, rest_length}
+use Rattle.wrp_truth.proofs.Basics.{none_some}
 
 -- the laws that this stands on
 pub record LeaseLaws : Type 0 where
@@ -141,24 +142,12 @@ record Handed (s : Setting) (k : ℕ) (link : LinkCfg) (at : ℤ) (events : List
   takes : is_open (link_at (s.set link.lower) ((world_after s events).node link.lower) link.lower_port) ≡ true
   young : (world_after s events).time ≤ℤ (at +ℤ pos (frame_life s.cfg))
 
-too_long : (at then now : ℤ) (life : ℕ) → at ≤ℤ then → (then +ℤ pos (2 * life)) <ℤ now → now ≤ℤ (at +ℤ pos life) → ⊥
-too_long at then now life h k l = omega (arith, ints)
+two_lives : (at then now : ℤ) (life : ℕ) → at ≡ then → now ≤ℤ (at +ℤ pos life) → now ≤ℤ (then +ℤ pos (2 * life))
+two_lives at then now life e h = omega (arith, ints, e, h)
 
-carried_at : LeaseLaws → (s : Setting) (k : ℕ) (link : LinkCfg) (x : Sending) (a b older : List Happened) → link_of s k ≡ Some link → PutOutIn s older k Master x → Handed s k link x.at (a ++ (b ++ older)) → (c : Bool) →
-    has_carrier s (world_after s (b ++ older)) k ≡ c → IsCarried s k (b ++ older)
-carried_at laws s k link x a b older is put h true e = e
-carried_at laws s k link x a b older is put h false e =
-    absurd (too_long x.at (world_after s (b ++ older)).time (world_after s (a ++ (b ++ older))).time (frame_life s.cfg)
-    (subst (λ t. t ≤ℤ (world_after s (b ++ older)).time) (sym put.at) (time_never_falls s b older (older_run s a (b ++ older) h.run)))
-    (dark_long_ago laws.quiet s a (b ++ older) k link h.run is e h.takes) h.young)
-
-carried_since : LeaseLaws → (s : Setting) (k : ℕ) (link : LinkCfg) (x : Sending) (newer older : List Happened) → link_of s k ≡ Some link → PutOutIn s older k Master x → Handed s k link x.at (newer ++ older) → AtEach (IsCarried s k) newer older
-carried_since laws s k link x newer older is put h =
-    at_each (IsCarried s k) newer older
-    (λ a b e.
-    carried_at laws s k link x a b older is put
-    (subst (Handed s k link x.at) (ap (λ l. l ++ older) e ∙ appended a b older) h)
-    (has_carrier s (world_after s (b ++ older)) k) refl)
+carried_by : LeaseLaws → (s : Setting) (k : ℕ) (link : LinkCfg) (x : Sending) (newer older : List Happened) → link_of s k ≡ Some link → PutOutIn s older k Master x → Handed s k link x.at (newer ++ older) → AtEach (IsCarried s k) newer older
+carried_by laws s k link x newer older is put h =
+    carried_since laws.quiet s newer older k Slave link h.run is h.takes (two_lives x.at (world_after s older).time (world_after s (newer ++ older)).time (frame_life s.cfg) put.at h.young)
 
 in_life : (last now at : ℤ) (life more : ℕ) → last ≤ℤ now → now ≤ℤ (at +ℤ pos life) → last ≤ℤ (at +ℤ pos (life + more))
 in_life last now at life more h k = omega (arith, ints)
@@ -186,7 +175,7 @@ renewed_held laws s says y before i k link turns x run is e =
       older = it.older;
       splits = ap (λ l. h ∷ l) it.splits;
       in_it = it.in_it;
-      carried = (subst (λ l. IsCarried s k (h ∷ l)) it.splits lit, carried_since laws s k link x it.newer it.older is it.in_it handed);
+      carried = (subst (λ l. IsCarried s k (h ∷ l)) it.splits lit, carried_by laws s k link x it.newer it.older is it.in_it handed);
       late =
           subst (λ t. t ≤ℤ (x.at +ℤ pos (frame_life s.cfg + turns * longest_tick s.cfg))) (sym (same_last s h before link.lower tt))
           (in_life (w.clock link.lower).ticked w.time x.at (frame_life s.cfg) (turns * longest_tick s.cfg) (ticked_past laws.quiet.apart s before link.lower was) young.0);
@@ -246,19 +235,12 @@ step_held laws s says y before (Cut l) k link turns run is t old =
 step_held laws s says y before (Join l ms sm) k link turns run is t old =
     plain_held laws s (record { event = Join l ms sm; says = says; answer = y }) before k link turns run is tt (λ it. tt) refl t (old turns)
 
-none_some : {A : Type 0} (x : A) → None ≡ Some x → ⊥
-none_some x e = cc
-
 held_all : LeaseLaws → (s : Setting) (events : List Happened) (k : ℕ) (link : LinkCfg) (turns : ℕ) → IsRun s events → link_of s k ≡ Some link → turns_in s (world_after s events) link ≡ Some turns → Held s events k link turns
 held_all laws s [] k link turns run is t = absurd (none_some turns t)
 held_all laws s (h ∷ before) k link turns run is t =
     step_held laws s h.says h.answer before h.event k link turns run is t (λ u was. held_all laws s before k link u (run_before s h before run) is was)
 
 -- The parent
-
-rest_length : (a b : List Happened) → length b ≤ length (a ++ b)
-rest_length [] b = omega arith
-rest_length (x ∷ a) b = let h : length b ≤ length (a ++ b) = rest_length a b in omega (arith, h)
 
 too_short : (b c moment : ℕ) → c ≤ b → moment ≡ suc b → moment ≡ c → ⊥
 too_short b c moment h e f = omega (arith, h, e, f)

@@ -1,5 +1,5 @@
 -- The link above a node is the one of which the node is the lower end.
-use Rattle.std.proofs.Common.{◌≡◌, ◌∙◌, refl, ap, sym, ℕ, zero, suc, ◌==◌, Bool, true, false, List, [], ◌∷◌, None, Some}
+use Rattle.std.proofs.Common.{◌≡◌, ◌∙◌, refl, ap, sym, ℕ, zero, suc, ◌==◌, Bool, true, false, List, [], ◌∷◌, Some}
 use Rattle.std.proofs.lemmas.Bool.{eqb-true}
 use Rattle.std.specs.List.{find}
 use Rattle.std.specs.Prelude.{slice_get}
@@ -8,13 +8,7 @@ use Rattle.wrp_base.specs.Network.{IsTree, link_above}
 use Rattle.wrp_world.specs.Runs.{IsNetwork}
 use Rattle.wrp_world.specs.Setting.{Setting, link_of}
 use Rattle.wrp_world.proofs.RunPorts.{self_equal}
-use Rattle.wrp_truth.proofs.Parents.{some_is}
-
-none_some : {A : Type 0} (x : A) → None ≡ Some x → ⊥
-none_some x e = cc
-
-not_both : (b : Bool) → b ≡ true → b ≡ false → ⊥
-not_both b e f = cc
+use Rattle.wrp_truth.proofs.Basics.{none_some, some_is, not_both}
 
 record Found {A : Type 0} (test : A → Bool) (xs : List A) : Type 0 where
   what : A
@@ -45,7 +39,7 @@ found_where test x xs false y e f h =
     let rest : (k : ℕ) × (slice_get xs k ≡ Some y) × (test y ≡ true) = h (sym (rw e refl) ∙ f) in
     (suc rest.0, rest.1, rest.2)
 
-place_found : {A : Type 0} (test : A → Bool) (xs : List A) (y : A) → find test xs ≡ Some y → (k : ℕ) × (slice_get xs k ≡ Some y) × (test y ≡ true)
+pub place_found : {A : Type 0} (test : A → Bool) (xs : List A) (y : A) → find test xs ≡ Some y → (k : ℕ) × (slice_get xs k ≡ Some y) × (test y ≡ true)
 place_found test [] y e = absurd (none_some y e)
 place_found test (x ∷ xs) y e = found_where test x xs (test x) y refl e (place_found test xs y)
 

@@ -21,12 +21,10 @@ use Rattle.wrp_servo.specs.Table.{ended, ended_in}
 use Rattle.wrp_servo.specs.Tags.{heard_tag, is_empty, tags}
 use Rattle.wrp_servo.specs.Told.{ticks_since_good}
 use Rattle.wrp_truth.proofs.StepCalls.{Brings, IsTelling, KeptBy, settled_keeps, step_keeps, told_tick}
+use Rattle.wrp_truth.proofs.Basics.{not_true, heads}
 
 abbrev pub Stands : Core → Type 0
 Stands v = is_some v.first ≡ true
-
-not_true : false ≡ true → ⊥
-not_true e = cc
 
 -- What starts a chain
 
@@ -47,9 +45,6 @@ starts_none x calls (CallLease fresh) h e = never (is_some (run x calls).first) 
 starts_none x calls (CallLink on) h e = never (is_some (run x calls).first) e
 starts_none x calls (CallCarrier up) h e = never (is_some (run x calls).first) e
 starts_none x calls CallReset h e = never (is_some (run x calls).first) e
-
-heads : (c d : Call) (calls rest : List Call) → c ∷ calls ≡ d ∷ rest → (c ≡ d) × (calls ≡ rest)
-heads c d calls rest e = (cc, cc)
 
 since_before : ChainSince → (x : Settings) (calls : List Call) (c : Call) (since : List Call) (start : Call) (before : List Call) → IsNoSample c → c ∷ calls ≡ since ++ start ∷ before → chain_starts x before start ≡ true →
     NoneEnds (chain_ends x) since (start ∷ before) → Stands (run x calls)

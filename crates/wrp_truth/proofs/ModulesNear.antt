@@ -28,12 +28,9 @@ use Rattle.wrp_world.specs.WorldAt.{EndAt, Sending, WorldAt, first_name}
 use Rattle.wrp_world.proofs.RunNetwork.{LinkEnd, are_apart, end_with, place_end}
 use Rattle.wrp_world.proofs.RunTimes.{all_given_module, all_right}
 use Rattle.wrp_truth.proofs.OnTime.{first_part}
-use Rattle.wrp_truth.proofs.Parents.{some_is}
 use Rattle.wrp_truth.proofs.Slow.{check_says}
 use Rattle.wrp_truth.proofs.Suffixes.{run_before}
-
-none_some : {A : Type 0} (x : A) → None ≡ Some x → ⊥
-none_some x e = cc
+use Rattle.wrp_truth.proofs.Basics.{none_some, some_is}
 
 true_not : true ≡ false → ⊥
 true_not e = cc

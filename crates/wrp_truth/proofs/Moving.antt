@@ -25,7 +25,7 @@ use Rattle.wrp_servo.specs.Sampling.{is_holdover as is_held}
 use Rattle.wrp_servo.specs.Table.{is_track}
 use Rattle.wrp_tracking.specs.Tree.{IsSource}
 use Rattle.wrp_world.specs.declared.event.Event.{Event}
-use Rattle.wrp_world.specs.declared.event.Event.TheVariants.{Pass, Tick, Sample, Depart, Arrive, Deliver, Noise, Down, Up, Cut, Join}
+use Rattle.wrp_world.specs.declared.event.Event.TheVariants.{Pass, Sample, Down, Up, Cut, Join}
 use Rattle.wrp_world.specs.declared.fibres.FibreState.{FibreState}
 use Rattle.wrp_world.specs.Checks.{AllHold, Check, Holds, stands}
 use Rattle.wrp_world.specs.EventAt.{IsEventOf}
@@ -169,15 +169,7 @@ clock_slow held s says y before (Up m off swaps) n rate most K run inside up is 
     let w : WorldAt = world_after s before in
     at_once_slow held s (record { event = Up m off swaps; says = says; answer = y }) before n most K run
     (λ same. not_up (w.clock n).up up (subst (λ i. not (not (w.clock i).up) ≡ false) (sym same) (comes_up_down s w says m off swaps run.accepted.0))) still k
-clock_slow held s says y before (Tick m) n rate most K run inside up is less still k = at_once_slow held s (record { event = Tick m; says = says; answer = y }) before n most K run tt still k
-clock_slow held s says y before (Sample m base bits) n rate most K run inside up is less still k = at_once_slow held s (record { event = Sample m base bits; says = says; answer = y }) before n most K run tt still k
-clock_slow held s says y before (Depart m p stamp) n rate most K run inside up is less still k = at_once_slow held s (record { event = Depart m p stamp; says = says; answer = y }) before n most K run tt still k
-clock_slow held s says y before (Arrive i raw) n rate most K run inside up is less still k = at_once_slow held s (record { event = Arrive i raw; says = says; answer = y }) before n most K run tt still k
-clock_slow held s says y before (Deliver i) n rate most K run inside up is less still k = at_once_slow held s (record { event = Deliver i; says = says; answer = y }) before n most K run tt still k
-clock_slow held s says y before (Noise m p octets raw) n rate most K run inside up is less still k = at_once_slow held s (record { event = Noise m p octets raw; says = says; answer = y }) before n most K run tt still k
-clock_slow held s says y before (Down m) n rate most K run inside up is less still k = at_once_slow held s (record { event = Down m; says = says; answer = y }) before n most K run tt still k
-clock_slow held s says y before (Cut l) n rate most K run inside up is less still k = at_once_slow held s (record { event = Cut l; says = says; answer = y }) before n most K run tt still k
-clock_slow held s says y before (Join l ms sm) n rate most K run inside up is less still k = at_once_slow held s (record { event = Join l ms sm; says = says; answer = y }) before n most K run tt still k
+clock_slow held s says y before e n rate most K run inside up is less still k = at_once_slow held s (record { event = e; says = says; answer = y }) before n most K run tt still k
 
 -- The grandmaster
 
@@ -217,15 +209,9 @@ top_after s w says (Up m off swaps) n event a above h = elim (eqb_tells n m) [
       ∙ true_check (not (is_some (link_above s.cfg m))) off (ap (λ i. not (is_some (link_above s.cfg i))) (sym x.1) ∙ ap (λ o. not (is_some o)) above) a.0
   | inr x ↦ same_off w (Up m off swaps) n x.1 ∙ h
 ]
-top_after s w says (Tick m) n event a above h = h
 top_after s w says (Sample m base bits) n event a above h = same_off w (Sample m base bits) n tt ∙ h
-top_after s w says (Depart m p stamp) n event a above h = h
-top_after s w says (Arrive i raw) n event a above h = h
-top_after s w says (Deliver i) n event a above h = h
-top_after s w says (Noise m p octets raw) n event a above h = h
 top_after s w says (Down m) n event a above h = same_off w (Down m) n tt ∙ h
-top_after s w says (Cut l) n event a above h = h
-top_after s w says (Join l ms sm) n event a above h = h
+top_after s w says e n event a above h = h
 
 pub top_is_true : CommandsAreHeld → TopIsTrue
 top_is_true held s [] n run above = refl
@@ -361,16 +347,7 @@ ways_slow stay s says y before (Pass dt drifts fibres) k link run is carried =
       moved_slow 2 2 w.time now.time (delay_from w k Master) (delay_from now k Master) dt move.0 refl both.0 run.each.0.span.0 kept.0 (same_rate 2),
       moved_slow 2 2 w.time now.time (delay_from w k Slave) (delay_from now k Slave) dt move.1 refl both.1 run.each.0.span.0 kept.1 (same_rate 2),
     )
-ways_slow stay s says y before (Tick m) k link run is carried = still_ways stay s (record { event = Tick m; says = says; answer = y }) before k link run carried tt
-ways_slow stay s says y before (Sample m base bits) k link run is carried = still_ways stay s (record { event = Sample m base bits; says = says; answer = y }) before k link run carried tt
-ways_slow stay s says y before (Depart m p stamp) k link run is carried = still_ways stay s (record { event = Depart m p stamp; says = says; answer = y }) before k link run carried tt
-ways_slow stay s says y before (Arrive i raw) k link run is carried = still_ways stay s (record { event = Arrive i raw; says = says; answer = y }) before k link run carried tt
-ways_slow stay s says y before (Deliver i) k link run is carried = still_ways stay s (record { event = Deliver i; says = says; answer = y }) before k link run carried tt
-ways_slow stay s says y before (Noise m p octets raw) k link run is carried = still_ways stay s (record { event = Noise m p octets raw; says = says; answer = y }) before k link run carried tt
-ways_slow stay s says y before (Down m) k link run is carried = still_ways stay s (record { event = Down m; says = says; answer = y }) before k link run carried tt
-ways_slow stay s says y before (Up m off swaps) k link run is carried = still_ways stay s (record { event = Up m off swaps; says = says; answer = y }) before k link run carried tt
-ways_slow stay s says y before (Cut l) k link run is carried = still_ways stay s (record { event = Cut l; says = says; answer = y }) before k link run carried tt
-ways_slow stay s says y before (Join l ms sm) k link run is carried = still_ways stay s (record { event = Join l ms sm; says = says; answer = y }) before k link run carried tt
+ways_slow stay s says y before e k link run is carried = still_ways stay s (record { event = e; says = says; answer = y }) before k link run carried tt
 
 pub ways_move_slowly : ModulesStay → WaysMoveSlowly
 ways_move_slowly stay s h before k link run is carried =

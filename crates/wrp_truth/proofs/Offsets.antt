@@ -111,13 +111,7 @@ event_off held s says y w (Noise m p octets raw) n K still h =
     one_off s y w (moved s w (Noise m p octets raw)) (given m (Frame p octets raw (w.clock m).samples) says) n K refl still h
 event_off held s says y w (Pass dt drifts fibres) n K still h = refl
 event_off held s says y w (Arrive i raw) n K still h = refl
-event_off held s says y w (Tick m) n K still h = plain_off held s says y w (Tick m) n tt
-event_off held s says y w (Sample m base bits) n K still h = plain_off held s says y w (Sample m base bits) n tt
-event_off held s says y w (Depart m p stamp) n K still h = plain_off held s says y w (Depart m p stamp) n tt
-event_off held s says y w (Down m) n K still h = plain_off held s says y w (Down m) n tt
-event_off held s says y w (Up m off swaps) n K still h = plain_off held s says y w (Up m off swaps) n tt
-event_off held s says y w (Cut k) n K still h = plain_off held s says y w (Cut k) n tt
-event_off held s says y w (Join k ms sm) n K still h = plain_off held s says y w (Join k ms sm) n tt
+event_off held s says y w e n K still h = plain_off held s says y w e n tt
 
 -- no time passes, and the node does not start
 abbrev pub IsAtOnce : ℕ → Event → Type 0
@@ -138,10 +132,4 @@ same_off w (Up m off swaps) n h = elim (eqb_tells n m) [
   | inl x ↦ absurd (h x.1)
   | inr x ↦ ap (λ b. (if b then record { up = true; off = off; ticked = w.time; samples = 0 } else w.clock n).off) x.0
 ]
-same_off w (Tick m) n h = refl
-same_off w (Depart m p stamp) n h = refl
-same_off w (Arrive i raw) n h = refl
-same_off w (Deliver i) n h = refl
-same_off w (Noise m p octets raw) n h = refl
-same_off w (Cut k) n h = refl
-same_off w (Join k ms sm) n h = refl
+same_off w e n h = refl

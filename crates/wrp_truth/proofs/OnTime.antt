@@ -96,13 +96,7 @@ was_up s w (Pass dt drifts fibres) n still e = absurd still
 was_up s w (Sample m base bits) n still e = up_where (n == m) (record (w.clock n) { samples = (w.clock n).samples + 1 }) (w.clock n) (λ x. x) e
 was_up s w (Down m) n still e = up_where (n == m) (record (w.clock n) { up = false }) (w.clock n) (λ x. absurd (let f : false ≡ true = x in cc)) e
 was_up s w (Up m off swaps) n still e = other_up n m (record { up = true; off = off; ticked = w.time; samples = 0 }) (w.clock n) still e
-was_up s w (Tick m) n still e = e
-was_up s w (Depart m p stamp) n still e = e
-was_up s w (Arrive i raw) n still e = e
-was_up s w (Deliver i) n still e = e
-was_up s w (Noise m p octets raw) n still e = e
-was_up s w (Cut k) n still e = e
-was_up s w (Join k ms sm) n still e = e
+was_up s w other n still e = e
 
 still_time : (s : Setting) (w : WorldAt) (e : Event) (n : ℕ) → IsStill n e → (moved s w e).time ≡ w.time
 still_time s w (Pass dt drifts fibres) n still = absurd still

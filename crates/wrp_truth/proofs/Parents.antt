@@ -41,9 +41,6 @@ use Rattle.wrp_truth.proofs.StepCalls.{IsCalm, KeptBy, calls_after_ports, calls_
 
 -- A node below a link has a slave port, and with it a servo
 
-pub some_is : {A : Type 0} (x y : A) → Some x ≡ Some y → x ≡ y
-some_is x y e = cc
-
 pub has_slave : (s : Setting) → IsNetwork s → (n : ℕ) (link : LinkCfg) → link_above s.cfg n ≡ Some link → slave_of (s.set n) ≡ Some link.lower_port
 has_slave s net n link above =
     ap (λ (x : NodeSet). slave_of x) (net.set n) ∙ slave_is_above s.cfg n ∙ ap (option_map (λ (l : LinkCfg). l.lower_port)) above
@@ -83,32 +80,16 @@ calm_to n (Arrive i raw) h = tt
 
 pub ticks_not : (n : ℕ) (e : Event) → IsCalmOf n e → IsNoTickOf n e
 ticks_not n (Tick m) h = h
-ticks_not n (Up m off swaps) h = tt
-ticks_not n (Pass dt drifts fibres) h = tt
-ticks_not n (Sample m base bits) h = tt
-ticks_not n (Depart m p stamp) h = tt
-ticks_not n (Arrive i raw) h = tt
-ticks_not n (Deliver i) h = tt
-ticks_not n (Noise m p octets raw) h = tt
-ticks_not n (Down m) h = tt
-ticks_not n (Cut k) h = tt
-ticks_not n (Join k ms sm) h = tt
+ticks_not n e h = tt
 
 pub calm_last : (s : Setting) (w : WorldAt) (e : Event) (n : ℕ) → IsCalmOf n e → ((moved s w e).clock n).ticked ≡ (w.clock n).ticked
 calm_last s w (Up m off swaps) n h = elim (eqb_tells n m) [
   | inl x ↦ absurd (h x.1)
   | inr x ↦ moved_ticked s w (Up m off swaps) n ∙ ap (λ b. if b then w.time else (w.clock n).ticked) x.0
 ]
-calm_last s w (Tick m) n h = refl
-calm_last s w (Pass dt drifts fibres) n h = refl
 calm_last s w (Sample m base bits) n h = moved_ticked s w (Sample m base bits) n
-calm_last s w (Depart m p stamp) n h = refl
-calm_last s w (Arrive i raw) n h = refl
-calm_last s w (Deliver i) n h = refl
-calm_last s w (Noise m p octets raw) n h = refl
 calm_last s w (Down m) n h = moved_ticked s w (Down m) n
-calm_last s w (Cut k) n h = refl
-calm_last s w (Join k ms sm) n h = refl
+calm_last s w e n h = refl
 
 calm_event : (s : Setting) (says : Result PtpMsg FrameFault) (y : ℤ) (w : WorldAt) (e : Event) (n : ℕ) (at : ℤ) → IsCalmOf n e → FollowedAt s n at (w.clock n).ticked (w.node n) →
     FollowedAt s n at ((world_step s says y w e).clock n).ticked ((world_step s says y w e).node n)
@@ -156,15 +137,7 @@ step_follows s says y w (Tick m) n at servo a up past f = elim (eqb_tells n m) [
 ]
 step_follows s says y w (Up m off swaps) n at servo a up past f =
     calm_event s says y w (Up m off swaps) n at (λ is. not_up (w.clock n).up up (subst (λ i. not (not (w.clock i).up) ≡ false) (sym is) (comes_up_down s w says m off swaps a))) f
-step_follows s says y w (Pass dt drifts fibres) n at servo a up past f = calm_event s says y w (Pass dt drifts fibres) n at tt f
-step_follows s says y w (Sample m base bits) n at servo a up past f = calm_event s says y w (Sample m base bits) n at tt f
-step_follows s says y w (Depart m p stamp) n at servo a up past f = calm_event s says y w (Depart m p stamp) n at tt f
-step_follows s says y w (Arrive i raw) n at servo a up past f = calm_event s says y w (Arrive i raw) n at tt f
-step_follows s says y w (Deliver i) n at servo a up past f = calm_event s says y w (Deliver i) n at tt f
-step_follows s says y w (Noise m p octets raw) n at servo a up past f = calm_event s says y w (Noise m p octets raw) n at tt f
-step_follows s says y w (Down m) n at servo a up past f = calm_event s says y w (Down m) n at tt f
-step_follows s says y w (Cut k) n at servo a up past f = calm_event s says y w (Cut k) n at tt f
-step_follows s says y w (Join k ms sm) n at servo a up past f = calm_event s says y w (Join k ms sm) n at tt f
+step_follows s says y w e n at servo a up past f = calm_event s says y w e n at tt f
 
 pub next_follows : (s : Setting) (h : Happened) (before : List Happened) (n : ℕ) (at : ℤ) → is_some (slave_of (s.set n)) ≡ true → IsRun s (h ∷ before) → ((world_after s before).clock n).up ≡ true → at ≤ℤ (world_after s before).time →
     FollowedAt s n at ((world_after s before).clock n).ticked ((world_after s before).node n) → FollowedAt s n at ((world_after s (h ∷ before)).clock n).ticked ((world_after s (h ∷ before)).node n)

@@ -32,11 +32,9 @@ use Rattle.wrp_truth.specs.Fibres.{FibresKeepTheirShare}
 use Rattle.wrp_truth.specs.PortDelays.{FibreHoldsWhileOn}
 use Rattle.wrp_truth.proofs.LinksAbove.{above_is}
 use Rattle.wrp_truth.proofs.ModulesNear.{HasDelays, IsNear, modules_near}
-use Rattle.wrp_truth.proofs.Parents.{has_slave, some_is}
+use Rattle.wrp_truth.proofs.Parents.{has_slave}
 use Rattle.wrp_truth.proofs.PortErrors.{entry_error}
-
-none_some : {A : Type 0} (x : A) → None ≡ Some x → ⊥
-none_some x e = cc
+use Rattle.wrp_truth.proofs.Basics.{none_some, some_is}
 
 -- What a hop takes from its link
 

@@ -12,10 +12,7 @@ use Rattle.wrp_caldb.specs.Name.{same_name}
 use Rattle.wrp_config.specs.Accepted.{FitsDatabase, error_at_ends, error_of, greatest}
 use Rattle.wrp_world.specs.Runs.{IsNetwork}
 use Rattle.wrp_world.specs.Setting.{Setting, entry_at, link_of, other_of, sends_nm}
-use Rattle.wrp_truth.proofs.Parents.{some_is}
-
-none_some : {A : Type 0} (x : A) → None ≡ Some x → ⊥
-none_some x e = cc
+use Rattle.wrp_truth.proofs.Basics.{none_some, some_is}
 
 -- The greatest of some numbers
 

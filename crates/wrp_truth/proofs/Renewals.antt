@@ -1,8 +1,6 @@
 -- How the lease of a link's slave came to have the turns that it has, event by event.
-use Rattle.std.proofs.Common.{◌≡◌, ◌⊎◌, inl, inr, ◌∙◌, refl, ap, sym, subst, ℕ, ◌==◌, ◌&&◌, ℤ, pos, ◌+ℤ◌, ◌-ℤ◌, ◌≤ℤ◌, not, Bool, true, false, if◌then◌else◌, [], Option, None, Some, Result, Ok, bit_and, arith}
+use Rattle.std.proofs.Common.{◌≡◌, ◌⊎◌, inl, inr, ◌∙◌, refl, ap, sym, subst, ℕ, ◌==◌, ◌&&◌, ℤ, pos, ◌+ℤ◌, ◌≤ℤ◌, Bool, true, false, if◌then◌else◌, [], Option, None, Some, Result, Ok, bit_and}
 use Rattle.std.proofs.lemmas.Bool.{eqb-true}
-use Rattle.std.proofs.lemmas.Int.{ints}
-use Rattle.std.specs.Int.Signed.{le_z}
 use Rattle.std.specs.Option.{option_map_or}
 use Rattle.arrayvec.specs.ArrayVec.{ArrayVec as Items}
 use Rattle.wrp_base.specs.declared.link.Role.{Role}
@@ -24,10 +22,9 @@ use Rattle.wrp_port.specs.Hearing.{is_port, renews}
 use Rattle.wrp_port.specs.History.{renews_at}
 use Rattle.wrp_world.specs.declared.event.Event.{Event}
 use Rattle.wrp_world.specs.declared.event.Event.TheVariants.{Pass, Tick, Sample, Depart, Arrive, Deliver, Noise, Down, Up, Cut, Join}
-use Rattle.wrp_world.specs.Checks.{AllHold}
 use Rattle.wrp_world.specs.Given.{Given, delivered, delivered_by, delivered_to, given, gives_all, taken_of, world_step}
 use Rattle.wrp_world.specs.Moved.{moved}
-use Rattle.wrp_world.specs.Premises.{Accepts, deliver_by, deliver_checks, is_forged}
+use Rattle.wrp_world.specs.Premises.{Accepts, is_forged}
 use Rattle.wrp_world.specs.Runs.{IsNetwork}
 use Rattle.wrp_world.specs.Setting.{Setting, end_at, end_of, fixed_of, is_role, link_of, other_of, place_of}
 use Rattle.wrp_world.specs.WorldAt.{Arrival, FrameAt, Sending, WorldAt, has_carrier}
@@ -41,6 +38,8 @@ use Rattle.wrp_truth.specs.Leases.{renewal_in, renewed_by, renews_by}
 use Rattle.wrp_truth.proofs.Carried.{Renews, renewing}
 use Rattle.wrp_truth.proofs.Inputs.{GivesTo, node_given, node_kept}
 use Rattle.wrp_truth.proofs.StepLeases.{TurnsBefore, turns_at, turns_before}
+use Rattle.wrp_truth.proofs.Basics.{none_some, not_true, some_is}
+use Rattle.wrp_truth.proofs.Deliveries.{deliver_holds}
 
 -- the turns of the lease of a link's slave since it was renewed
 abbrev pub turns_in : Setting → WorldAt → LinkCfg → Option ℕ
@@ -90,9 +89,6 @@ plain_turns s says y w e link turns slave plain =
     (plain_to link.lower e plain) (λ h. h)
 
 -- Octets that the peer did not send
-
-not_true : false ≡ true → ⊥
-not_true e = cc
 
 forged_not : (s : Setting) (link : LinkCfg) (n p : ℕ) (says : Result PtpMsg FrameFault) (m : PtpMsg) → link.lower ≡ n → link.lower_port ≡ p → says ≡ Ok m → is_forged s n p says ≡ false →
     is_port m.head.source (setting_of (s.set link.lower) link.lower_port).ds.peer ≡ false
@@ -205,18 +201,12 @@ pub record Renewal (s : Setting) (w : WorldAt) (i k : ℕ) (link : LinkCfg) (x :
   pub sending_is : frame.sending ≡ x
   pub renews : Renews (setting_of (s.set link.lower) link.lower_port) (link_at (s.set link.lower) (w.node link.lower) link.lower_port) frame.sending.message
 
-none_some : {A : Type 0} (x : A) → None ≡ Some x → ⊥
-none_some x e = cc
-
-some_same : {A : Type 0} (x y : A) → Some x ≡ Some y → x ≡ y
-some_same x y e = cc
-
 role_is : (r : Role) → is_role r Master ≡ true → r ≡ Master
 role_is Master e = refl
 role_is Slave e = absurd (not_true e)
 
 all_true : (a b c : Bool) (x y : Sending) → (if a && (b && c) then Some x else None) ≡ Some y → (a ≡ true) × (b ≡ true) × (c ≡ true) × (x ≡ y)
-all_true true true true x y e = (refl, refl, refl, some_same x y e)
+all_true true true true x y e = (refl, refl, refl, some_is x y e)
 all_true true true false x y e = absurd (none_some y e)
 all_true true false c x y e = absurd (none_some y e)
 all_true false b c x y e = absurd (none_some y e)
@@ -255,20 +245,9 @@ renewal_certain s w i k link x r =
     subst IsCertainAnnounce (ap (λ (z : Sending). z.message) r.sending_is) (record { announce = it.0; certain = it.1 })
 
 -- young, and over a link with its carrier
-young : (now at : ℤ) (life : ℕ) → not (le_z (now -ℤ at) (pos life)) ≡ false → now ≤ℤ (at +ℤ pos life)
-young now at life h = grind (arith, ints, h)
-
-holds : (b : Bool) → not b ≡ false → b ≡ true
-holds true e = refl
-holds false e = absurd (not_true (sym e))
-
-handed_by : (s : Setting) (w : WorldAt) (i : ℕ) (f : FrameAt) (o : Option Arrival) → AllHold (deliver_by s w i f o) → (w.time ≤ℤ (f.sending.at +ℤ pos (frame_life s.cfg))) × (has_carrier s w f.link ≡ true)
-handed_by s w i f None a = absurd (not_true (sym a.1.0))
-handed_by s w i f (Some arrival) a = (young w.time f.sending.at (frame_life s.cfg) a.0, holds (has_carrier s w f.link) a.1.0)
-
 pub renewal_young : (s : Setting) (w : WorldAt) (says : Result PtpMsg FrameFault) (i k : ℕ) (link : LinkCfg) (x : Sending) → Accepts s w says (Deliver i) → Renewal s w i k link x →
     (w.time ≤ℤ (x.at +ℤ pos (frame_life s.cfg))) × (has_carrier s w k ≡ true)
 renewal_young s w says i k link x a r =
     let it : (w.time ≤ℤ (r.frame.sending.at +ℤ pos (frame_life s.cfg))) × (has_carrier s w r.frame.link ≡ true) =
-    handed_by s w i r.frame r.frame.arrival (subst (λ o. AllHold (deliver_checks s w i o)) r.there a) in
+    deliver_holds s w says i r.frame a r.there in
     (subst (λ (z : Sending). w.time ≤ℤ (z.at +ℤ pos (frame_life s.cfg))) r.sending_is it.0, subst (λ l. has_carrier s w l ≡ true) r.link_is it.1)

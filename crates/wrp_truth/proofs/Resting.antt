@@ -1,21 +1,23 @@
--- A slave port that takes messages got its carrier more than two frame's lives ago: its quiet time, tick by tick.
-use Rattle.std.proofs.Common.{◌≡◌, ◌⊎◌, inl, inr, ◌∙◌, refl, ap, sym, subst, ℕ, ◌==◌, ◌&&◌, ◌-◌, ◌*◌, ℤ, pos, ◌+ℤ◌, ◌≤ℤ◌, ◌<ℤ◌, Bool, true, false, if◌then◌else◌, Option, arith}
+-- A port that takes messages got its carrier more than two frame's lives ago: its quiet time, tick by tick.
+use Rattle.std.proofs.Common.{◌≡◌, ◌⊎◌, inl, inr, ◌∙◌, refl, ap, sym, subst, ℕ, ◌==◌, ◌&&◌, ◌-◌, ◌*◌, ℤ, pos, ◌+ℤ◌, ◌≤ℤ◌, ◌<ℤ◌, Bool, true, false, if◌then◌else◌, Option, [], ◌∷◌, arith}
 use Rattle.std.proofs.lemmas.Int.{ints}
 use Rattle.std.proofs.lemmas.Bool.{eqb-true}
 use Rattle.wrp_base.specs.declared.link.LinkState.{LinkState}
-use Rattle.wrp_base.specs.declared.link.LinkState.TheVariants.{Idle, Present}
+use Rattle.wrp_base.specs.declared.link.LinkState.TheVariants.{Idle, Present, MLock}
 use Rattle.wrp_base.specs.declared.link.LinkWord.TheVariants.{Down, Quiet, Ptp}
 use Rattle.wrp_base.specs.declared.link.Role.{Role}
-use Rattle.wrp_base.specs.declared.link.Role.TheVariants.{Slave}
+use Rattle.wrp_base.specs.declared.link.Role.TheVariants.{Master, Slave}
 use Rattle.wrp_base.specs.declared.message.WrMsg.{WrMsg}
-use Rattle.wrp_handshake.specs.Ends.{Port, heard, OutlivesFrames}
+use Rattle.wrp_base.specs.declared.message.WrMsg.TheVariants.{Present as SLAVE_PRESENT, Lock as LOCK, Locked as LOCKED, Calibrate as CALIBRATE, Calibrated as CALIBRATED, ModeOn as WR_MODE_ON}
+use Rattle.wrp_handshake.specs.Ends.{OutlivesFrames}
 use Rattle.wrp_handshake.proofs.Times.{Calm, calm_later, calm_over, calm_tick}
 use Rattle.wrp_link.specs.declared.interface.LinkIn.{LinkIn}
 use Rattle.wrp_link.specs.declared.interface.LinkIn.TheVariants.{Msg, Announce, Tick, CarrierUp, CarrierDown}
 use Rattle.wrp_link.specs.LinkAt.{LinkAt}
-use Rattle.wrp_link.specs.Rows.{Row, NoRow, Moves, Counts, CarrierGoes, under, offers, may_leave_idle, message_row, announce_row, tick_row, row_of}
-use Rattle.wrp_link.specs.Table.{by_row, word_in, counted}
+use Rattle.wrp_link.specs.Rows.{Row, NoRow, Moves, Counts, CarrierGoes, under, offers, may_leave_idle, master_row, message_row, slave_row, announce_row, tick_row}
+use Rattle.wrp_link.specs.Table.{after, by_row, word_in, counted}
 use Rattle.wrp_port.specs.Hearing.{is_open, is_open_word}
+use Rattle.wrp_truth.proofs.Basics.{not_true, both}
 
 -- of a link at some time: no carrier; or its carrier came more than two lives after `rest`; or its quiet time, which began no
 -- sooner than that, runs
@@ -35,35 +37,14 @@ rested_later life dmin rest time later l ticked now h k (inr (inr (idle, calm)))
 
 -- Inputs
 
-not_true : false ≡ true → ⊥
-not_true e = cc
-
 -- without a carrier there is no row
 dark_row : (l : LinkAt) (b : Bool) (row : Row) → b ≡ false → l.carrier ≡ false → (by_row l (under b row)).carrier ≡ false
 dark_row l true row e d = absurd (not_true (sym e))
 dark_row l false row e d = d
 
-same_link : (l : LinkAt) (b : Bool) (row : Row) → row ≡ NoRow → by_row l (under b row) ≡ l
-same_link l true row e = ap (by_row l) e
-same_link l false row e = refl
-
-both : (a b : Bool) → (a && b) ≡ true → (a ≡ true) × (b ≡ true)
-both true b e = (refl, e)
-both false b e = absurd (not_true e)
-
-slave_keeps_idle : (l : LinkAt) (r : Role) (state : LinkState) (m : WrMsg) → r ≡ Slave → state ≡ Idle → l.state ≡ state → message_row l r m ≡ NoRow
-slave_keeps_idle l r state m slave idle is =
-    ap (λ (q : Role). message_row l q m) slave ∙ idle_row l.state m (is ∙ idle)
-  where
-    idle_row : (s : LinkState) (n : WrMsg) → s ≡ Idle → message_row (record l { state = s }) Slave n ≡ NoRow
-    idle_row s n e = ap (λ (t : LinkState). message_row (record l { state = t }) Slave n) e
-
-msg_rested : (life dmin : ℕ) (rest time : ℤ) (l : LinkAt) (ticked : ℤ) (m : WrMsg) → l.role ≡ Slave → Rested life dmin rest time l ticked → Rested life dmin rest time (by_row l (row_of l (Msg m))) ticked
-msg_rested life dmin rest time l ticked m slave (inl dark) = inl (dark_row l l.carrier (message_row l l.role m) dark dark)
-msg_rested life dmin rest time l ticked m slave (inr (inl long)) = inr (inl long)
-msg_rested life dmin rest time l ticked m slave (inr (inr (idle, calm))) =
-    subst (λ (k : LinkAt). Rested life dmin rest time k ticked) (sym (same_link l l.carrier (message_row l l.role m) (slave_keeps_idle l l.role l.state m slave idle refl)))
-    (inr (inr (idle, calm)))
+no_row : (life dmin : ℕ) (rest time : ℤ) (l : LinkAt) (ticked : ℤ) (c : Bool) → Rested life dmin rest time l ticked → Rested life dmin rest time (by_row l (under c NoRow)) ticked
+no_row life dmin rest time l ticked true h = h
+no_row life dmin rest time l ticked false h = h
 
 leaves_late : (life dmin : ℕ) (rest time : ℤ) (l : LinkAt) (ticked : ℤ) (c b : Bool) → OutlivesFrames life dmin l.set → ticked ≤ℤ time → (b ≡ true → l.quiet ≡ 0) → l.state ≡ Idle → Calm dmin l.set.quiet l.quiet ticked rest →
     (sends : Row) → Rested life dmin rest time (by_row l (under c (under b sends))) ticked
@@ -72,20 +53,46 @@ leaves_late life dmin rest time l ticked true false full past over idle calm sen
 leaves_late life dmin rest time l ticked true true full past over idle calm sends =
     inr (inl (calm_over life dmin l.set.quiet ticked time rest full past (subst (λ (q : ℕ). Calm dmin l.set.quiet q ticked rest) (over refl) calm)))
 
+-- a message
+idle_rested : (life dmin : ℕ) (rest time : ℤ) (l : LinkAt) (ticked : ℤ) (m : WrMsg) → OutlivesFrames life dmin l.set → ticked ≤ℤ time → l.state ≡ Idle → Calm dmin l.set.quiet l.quiet ticked rest → Rested life dmin rest time (by_row l (under l.carrier (master_row l Idle m))) ticked
+idle_rested life dmin rest time l ticked SLAVE_PRESENT full past idle calm =
+    leaves_late life dmin rest time l ticked l.carrier (may_leave_idle l) full past (λ e. eqb-true l.quiet 0 (both (l.quiet == 0) _ e).0) idle calm (Moves MLock (LOCK ∷ []))
+idle_rested life dmin rest time l ticked LOCK full past idle calm = no_row life dmin rest time l ticked l.carrier (inr (inr (idle, calm)))
+idle_rested life dmin rest time l ticked LOCKED full past idle calm = no_row life dmin rest time l ticked l.carrier (inr (inr (idle, calm)))
+idle_rested life dmin rest time l ticked (CALIBRATE a b c) full past idle calm = no_row life dmin rest time l ticked l.carrier (inr (inr (idle, calm)))
+idle_rested life dmin rest time l ticked (CALIBRATED tx rx) full past idle calm = no_row life dmin rest time l ticked l.carrier (inr (inr (idle, calm)))
+idle_rested life dmin rest time l ticked WR_MODE_ON full past idle calm = no_row life dmin rest time l ticked l.carrier (inr (inr (idle, calm)))
+
+message_rested : (life dmin : ℕ) (rest time : ℤ) (l : LinkAt) (ticked : ℤ) (role : Role) (m : WrMsg) → OutlivesFrames life dmin l.set → ticked ≤ℤ time → l.state ≡ Idle → Calm dmin l.set.quiet l.quiet ticked rest →
+    Rested life dmin rest time (by_row l (under l.carrier (message_row l role m))) ticked
+message_rested life dmin rest time l ticked Master m full past idle calm =
+    subst (λ (r : Row). Rested life dmin rest time (by_row l (under l.carrier r)) ticked) (sym (ap (λ (t : LinkState). master_row l t m) idle)) (idle_rested life dmin rest time l ticked m full past idle calm)
+message_rested life dmin rest time l ticked Slave m full past idle calm =
+    subst (λ (r : Row). Rested life dmin rest time (by_row l (under l.carrier r)) ticked) (sym (ap (λ (t : LinkState). slave_row t m) idle)) (no_row life dmin rest time l ticked l.carrier (inr (inr (idle, calm))))
+
+msg_rested : (life dmin : ℕ) (rest time : ℤ) (l : LinkAt) (ticked : ℤ) (m : WrMsg) → OutlivesFrames life dmin l.set → ticked ≤ℤ time → Rested life dmin rest time l ticked → Rested life dmin rest time (after l (Msg m)) ticked
+msg_rested life dmin rest time l ticked m full past (inl dark) = inl (dark_row l l.carrier (message_row l l.role m) dark dark)
+msg_rested life dmin rest time l ticked m full past (inr (inl long)) = inr (inl long)
+msg_rested life dmin rest time l ticked m full past (inr (inr (idle, calm))) = message_rested life dmin rest time l ticked l.role m full past idle calm
+
+-- an Announce
 announced : (l : LinkAt) (suffix : Option ℕ) → (offers suffix && ((l.holdoff == 0) && may_leave_idle l)) ≡ true → l.quiet ≡ 0
 announced l suffix e =
     eqb-true l.quiet 0 (both (l.quiet == 0) _ (both (l.holdoff == 0) (may_leave_idle l) (both (offers suffix) ((l.holdoff == 0) && may_leave_idle l) e).1).1).0
 
-announce_rested : (life dmin : ℕ) (rest time : ℤ) (l : LinkAt) (ticked : ℤ) (suffix : Option ℕ) → l.role ≡ Slave → OutlivesFrames life dmin l.set → ticked ≤ℤ time → Rested life dmin rest time l ticked →
-    Rested life dmin rest time (by_row l (row_of l (Announce suffix))) ticked
-announce_rested life dmin rest time l ticked suffix slave full past (inl dark) = inl (dark_row l l.carrier (announce_row l l.role l.state suffix) dark dark)
-announce_rested life dmin rest time l ticked suffix slave full past (inr (inl long)) = inr (inl long)
-announce_rested life dmin rest time l ticked suffix slave full past (inr (inr (idle, calm))) =
-    let row : announce_row l l.role l.state suffix ≡ announce_row l Slave Idle suffix =
-    ap (λ (r : Role). announce_row l r l.state suffix) slave ∙ ap (λ (t : LinkState). announce_row l Slave t suffix) idle in
-    subst (λ (r : Row). Rested life dmin rest time (by_row l (under l.carrier r)) ticked) (sym row)
-    (leaves_late life dmin rest time l ticked l.carrier (offers suffix && ((l.holdoff == 0) && may_leave_idle l)) full past (announced l suffix) idle calm (Moves Present _))
+offered_rested : (life dmin : ℕ) (rest time : ℤ) (l : LinkAt) (ticked : ℤ) (role : Role) (suffix : Option ℕ) → OutlivesFrames life dmin l.set → ticked ≤ℤ time → l.state ≡ Idle → Calm dmin l.set.quiet l.quiet ticked rest →
+    Rested life dmin rest time (by_row l (under l.carrier (announce_row l role Idle suffix))) ticked
+offered_rested life dmin rest time l ticked Master suffix full past idle calm = no_row life dmin rest time l ticked l.carrier (inr (inr (idle, calm)))
+offered_rested life dmin rest time l ticked Slave suffix full past idle calm =
+    leaves_late life dmin rest time l ticked l.carrier (offers suffix && ((l.holdoff == 0) && may_leave_idle l)) full past (announced l suffix) idle calm (Moves Present _)
 
+announce_rested : (life dmin : ℕ) (rest time : ℤ) (l : LinkAt) (ticked : ℤ) (suffix : Option ℕ) → OutlivesFrames life dmin l.set → ticked ≤ℤ time → Rested life dmin rest time l ticked → Rested life dmin rest time (after l (Announce suffix)) ticked
+announce_rested life dmin rest time l ticked suffix full past (inl dark) = inl (dark_row l l.carrier (announce_row l l.role l.state suffix) dark dark)
+announce_rested life dmin rest time l ticked suffix full past (inr (inl long)) = inr (inl long)
+announce_rested life dmin rest time l ticked suffix full past (inr (inr (idle, calm))) =
+    subst (λ (r : Row). Rested life dmin rest time (by_row l (under l.carrier r)) ticked) (sym (ap (λ (t : LinkState). announce_row l l.role t suffix) idle)) (offered_rested life dmin rest time l ticked l.role suffix full past idle calm)
+
+-- a tick
 counts_rested : (life dmin : ℕ) (rest time : ℤ) (l : LinkAt) (ticked : ℤ) (c : Bool) (s : LinkState) → l.carrier ≡ c → l.state ≡ s → s ≡ Idle → rest ≤ℤ time → (ticked +ℤ pos dmin) ≤ℤ time → Calm dmin l.set.quiet l.quiet ticked rest →
     Rested life dmin rest time (by_row l (under c Counts)) time
 counts_rested life dmin rest time l ticked false s dark is idle past late calm = inl dark
@@ -94,8 +101,8 @@ counts_rested life dmin rest time l ticked true s lit is idle past late calm =
     subst (λ (k : LinkAt). Rested life dmin rest time k time) (sym row)
     (inr (inr (is ∙ idle, calm_tick dmin l.set.quiet l.quiet ticked time rest late past calm)))
 
-tick_rested : (life dmin : ℕ) (rest time : ℤ) (l : LinkAt) (ticked : ℤ) (locked : Bool) → rest ≤ℤ time → (ticked +ℤ pos dmin) ≤ℤ time → Rested life dmin rest time l ticked →
-    Rested life dmin rest time (by_row l (row_of l (Tick locked))) time
+pub tick_rested : (life dmin : ℕ) (rest time : ℤ) (l : LinkAt) (ticked : ℤ) (locked : Bool) → rest ≤ℤ time → (ticked +ℤ pos dmin) ≤ℤ time → Rested life dmin rest time l ticked →
+    Rested life dmin rest time (after l (Tick locked)) time
 tick_rested life dmin rest time l ticked locked past late (inl dark) = inl (dark_row l l.carrier (tick_row l l.state locked) dark dark)
 tick_rested life dmin rest time l ticked locked past late (inr (inl long)) = inr (inl long)
 tick_rested life dmin rest time l ticked locked past late (inr (inr (idle, calm))) =
@@ -107,18 +114,17 @@ gone_dark : (l : LinkAt) (b : Bool) → l.carrier ≡ b → (by_row l (under b C
 gone_dark l true e = refl
 gone_dark l false e = e
 
--- what a tick asks
-abbrev pub TickIsLate : (dmin : ℕ) → (ticked time : ℤ) → LinkIn → Type 0
-TickIsLate dmin ticked time (Tick locked) = (ticked +ℤ pos dmin) ≤ℤ time
-TickIsLate dmin ticked time _ = Unit {0}
+-- an input that is no tick
+abbrev pub IsCalmIn : LinkIn → Type 0
+IsCalmIn (Tick locked) = ⊥
+IsCalmIn _ = Unit {0}
 
-pub heard_rested : (life dmin : ℕ) (rest time : ℤ) (q : Port) (input : LinkIn) (at : ℤ) → q.link.role ≡ Slave → OutlivesFrames life dmin q.link.set → rest ≤ℤ time → q.ticked ≤ℤ time → TickIsLate dmin q.ticked time input →
-    Rested life dmin rest time q.link q.ticked → Rested life dmin rest time (heard time q input at).link (heard time q input at).ticked
-heard_rested life dmin rest time q (Msg m) at slave full past tick late h = msg_rested life dmin rest time q.link q.ticked m slave h
-heard_rested life dmin rest time q (Announce suffix) at slave full past tick late h = announce_rested life dmin rest time q.link q.ticked suffix slave full tick h
-heard_rested life dmin rest time q (Tick locked) at slave full past tick late h = tick_rested life dmin rest time q.link q.ticked locked past late h
-heard_rested life dmin rest time q CarrierDown at slave full past tick late h = inl (gone_dark q.link q.link.carrier refl)
-heard_rested life dmin rest time q (CarrierUp fitted) at slave full past tick late h = inr (inr (refl, inl refl))
+pub heard_rested : (life dmin : ℕ) (rest time : ℤ) (l : LinkAt) (ticked : ℤ) (input : LinkIn) → OutlivesFrames life dmin l.set → ticked ≤ℤ time → IsCalmIn input → Rested life dmin rest time l ticked → Rested life dmin rest time (after l input) ticked
+heard_rested life dmin rest time l ticked (Msg m) full past none h = msg_rested life dmin rest time l ticked m full past h
+heard_rested life dmin rest time l ticked (Announce suffix) full past none h = announce_rested life dmin rest time l ticked suffix full past h
+heard_rested life dmin rest time l ticked (Tick locked) full past none h = absurd none
+heard_rested life dmin rest time l ticked CarrierDown full past none h = inl (gone_dark l l.carrier refl)
+heard_rested life dmin rest time l ticked (CarrierUp fitted) full past none h = inr (inr (refl, inl refl))
 
 -- A port that takes messages
 

@@ -1,5 +1,5 @@
 -- The counts of a port's schedule while it stays open: its ticks, and the messages of a kind, one each so many ticks.
-use Rattle.std.proofs.Common.{◌≡◌, ◌∙◌, refl, ap, sym, ℕ, ◌+◌, ◌*◌, ◌/◌, ◌%◌, ◌<◌, ◌≤◌, ◌==◌, ◌&&◌, Bool, true, false, if◌then◌else◌, List, ◌∷◌, Option, None, Some, arith}
+use Rattle.std.proofs.Common.{◌≡◌, ◌∙◌, refl, ap, sym, ℕ, ◌+◌, ◌*◌, ◌/◌, ◌%◌, ◌<◌, ◌≤◌, ◌==◌, Bool, true, false, if◌then◌else◌, List, ◌∷◌, Option, None, Some, arith}
 use Rattle.std.proofs.Math.Nat.{zero-mod, div-add-mod, mul-add-mod_self_left, mul-le-mul_left, lt_of_mul-lt-mul_left}
 use Rattle.std.proofs.lemmas.Bool.{eqb-true}
 use Rattle.wrp_base.specs.declared.link.Role.{Role}
@@ -18,6 +18,7 @@ use Rattle.wrp_port.specs.History.{is_due_in, line_of, link_by, link_inputs, lin
 use Rattle.wrp_port.specs.LineAfter.{first_turns, is_due, next_turns, ticked}
 use Rattle.wrp_truth.proofs.ScheduleLinks.{IsNoTickThere, was_open}
 use Rattle.wrp_truth.proofs.ScheduleTold.{IsAside, KeptIn}
+use Rattle.wrp_truth.proofs.Basics.{both}
 
 -- The kinds that are stamped: a master's Sync and a slave's Delay_Req
 
@@ -57,10 +58,6 @@ pub due_in : (r : Role) (set : Setting) (told : List PortIn) (locked certain : B
 due_in r set told locked certain =
     let next : LinkAt = link_of set (Tick locked certain ∷ told) in
     ap (is_due next) (turn_ticked r set.sched (ticks_open set told) (is_open next) (is_open (link_of set told)))
-
-both : (a b : Bool) → (a && b) ≡ true → (a ≡ true) × (b ≡ true)
-both true b e = (refl, e)
-both false b e = absurd (let f : false ≡ true = e in cc)
 
 -- where one is due the port is open, and the ticks are a multiple
 pub due_at : (l : LinkAt) (turn : ℕ) → is_due l turn ≡ true → (is_open l ≡ true) × (turn ≡ 0)

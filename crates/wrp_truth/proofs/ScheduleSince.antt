@@ -1,6 +1,5 @@
 -- The schedule of a port and true time, since a message that is stamped was put out, while the port stays open.
 use Rattle.std.proofs.Common.{◌≡◌, inl, inr, refl, sym, subst, ℕ, ◌+◌, ◌*◌, ◌%◌, ◌<◌, ℤ, pos, ◌+ℤ◌, ◌≤ℤ◌, true, unsigned_abs, List, [], ◌∷◌, ◌++◌, Result, arith}
-use Rattle.std.proofs.lemmas.Bool.Decides.{eqb_tells}
 use Rattle.std.proofs.lemmas.Int.{ints}
 use Rattle.wrp_base.specs.declared.message.PtpMsg.{PtpMsg}
 use Rattle.wrp_bounds.specs.Times.{frame_life, shortest_tick}
@@ -14,7 +13,7 @@ use Rattle.wrp_port.specs.declared.setting.Setting.{Setting as PortSetting}
 use Rattle.wrp_port.specs.Hearing.{is_open}
 use Rattle.wrp_port.specs.History.{link_of as link_told}
 use Rattle.wrp_world.specs.declared.event.Event.{Event}
-use Rattle.wrp_world.specs.declared.event.Event.TheVariants.{Pass, Tick, Sample, Depart, Arrive, Deliver, Noise, Down, Up, Cut, Join}
+use Rattle.wrp_world.specs.declared.event.Event.TheVariants.{Tick}
 use Rattle.wrp_world.specs.Given.{given_plain, taken_of, world_step}
 use Rattle.wrp_world.specs.Premises.{Accepts}
 use Rattle.wrp_world.specs.Run.{Happened, world_after}
@@ -24,9 +23,9 @@ use Rattle.wrp_world.specs.Setting.{Setting, fixed_of}
 use Rattle.wrp_world.specs.WorldAt.{WorldAt}
 use Rattle.wrp_world.proofs.RunHanded.{not_early}
 use Rattle.wrp_truth.specs.Moments.{AtEach}
-use Rattle.wrp_truth.proofs.Inputs.{IsNoTick, IsNoTickOf, no_tick_to, node_kept}
+use Rattle.wrp_truth.proofs.Inputs.{IsNoTick, IsNoTickOf, no_tick_to, node_kept, tick_or_not}
 use Rattle.wrp_truth.proofs.Parents.{ticked_node}
-use Rattle.wrp_truth.proofs.Quiets.{last_grows}
+use Rattle.wrp_truth.proofs.OpenPorts.{last_grows}
 use Rattle.wrp_truth.proofs.ScheduleCounts.{Goes, Gone, OpenGone, aside_gone, goes_on, ticks_on}
 use Rattle.wrp_truth.proofs.ScheduleLinks.{IsNoTickThere, quiet_some}
 use Rattle.wrp_truth.proofs.ScheduleTold.{IsAside, KeptIn, aside_kept, told_after, told_before, told_kept}
@@ -148,20 +147,19 @@ tick_later s q b d m says y w net begins same a was takes it =
 next_since : TicksAreApart → (s : Setting) (q : PortOf) (b : Beginning) (says : Result PtpMsg FrameFault) (y : ℤ) (e : Event) (before : List Happened) → b.ticks % b.every ≡ 0 →
     IsRun s (record { event = e; says = says; answer = y } ∷ before) → IsOpen s q before → IsOpen s q (record { event = e; says = says; answer = y } ∷ before) →
     Since s q b (world_after s before) → Since s q b (world_step s says y (world_after s before) e)
-next_since apart s q b says y (Tick m) before begins run was takes it = elim (eqb_tells q.node m) [
-  | inl x ↦ record { passed = it.passed + 1; later = tick_later s q b it.passed m says y (world_after s before) run.network begins x.1 run.accepted.0 was takes it.later }
-  | inr x ↦ record { passed = it.passed; later = calm_later apart s q b it.passed (record { event = Tick m; says = says; answer = y }) before run x.1 takes it.later }
-]
-next_since apart s q b says y (Pass dt drifts fibres) before begins run was takes it = record { passed = it.passed; later = calm_later apart s q b it.passed (record { event = Pass dt drifts fibres; says = says; answer = y }) before run tt takes it.later }
-next_since apart s q b says y (Sample m base bits) before begins run was takes it = record { passed = it.passed; later = calm_later apart s q b it.passed (record { event = Sample m base bits; says = says; answer = y }) before run tt takes it.later }
-next_since apart s q b says y (Depart m p stamp) before begins run was takes it = record { passed = it.passed; later = calm_later apart s q b it.passed (record { event = Depart m p stamp; says = says; answer = y }) before run tt takes it.later }
-next_since apart s q b says y (Arrive i raw) before begins run was takes it = record { passed = it.passed; later = calm_later apart s q b it.passed (record { event = Arrive i raw; says = says; answer = y }) before run tt takes it.later }
-next_since apart s q b says y (Deliver i) before begins run was takes it = record { passed = it.passed; later = calm_later apart s q b it.passed (record { event = Deliver i; says = says; answer = y }) before run tt takes it.later }
-next_since apart s q b says y (Noise m p octets raw) before begins run was takes it = record { passed = it.passed; later = calm_later apart s q b it.passed (record { event = Noise m p octets raw; says = says; answer = y }) before run tt takes it.later }
-next_since apart s q b says y (Down m) before begins run was takes it = record { passed = it.passed; later = calm_later apart s q b it.passed (record { event = Down m; says = says; answer = y }) before run tt takes it.later }
-next_since apart s q b says y (Up m off swaps) before begins run was takes it = record { passed = it.passed; later = calm_later apart s q b it.passed (record { event = Up m off swaps; says = says; answer = y }) before run tt takes it.later }
-next_since apart s q b says y (Cut k) before begins run was takes it = record { passed = it.passed; later = calm_later apart s q b it.passed (record { event = Cut k; says = says; answer = y }) before run tt takes it.later }
-next_since apart s q b says y (Join k ms sm) before begins run was takes it = record { passed = it.passed; later = calm_later apart s q b it.passed (record { event = Join k ms sm; says = says; answer = y }) before run tt takes it.later }
+next_since apart s q b says y e before begins run was takes it =
+    let w : WorldAt = world_after s before in
+    elim (tick_or_not q.node e) [
+      | inl tick ↦
+          subst (λ x. Since s q b (world_step s says y w x)) (sym tick)
+          (record {
+            passed = it.passed + 1;
+            later =
+                tick_later s q b it.passed q.node says y w run.network begins refl (subst (Accepts s w says) tick run.accepted.0) was
+                (subst (λ x. IsOpen s q (record { event = x; says = says; answer = y } ∷ before)) tick takes) it.later;
+          })
+      | inr other ↦ record { passed = it.passed; later = calm_later apart s q b it.passed (record { event = e; says = says; answer = y }) before run other takes it.later }
+    ]
 
 -- a part of a run through which it is open
 pub since_all : TicksAreApart → (s : Setting) (q : PortOf) (b : Beginning) (newer older : List Happened) → b.ticks % b.every ≡ 0 → IsRun s (newer ++ older) → AtEach (IsOpen s q) newer older →

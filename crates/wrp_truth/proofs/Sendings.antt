@@ -1,6 +1,5 @@
 -- When a frame was put out, and that an Announce of a certain time is put out by a node that ticks in TRACK.
-use Rattle.std.proofs.Common.{◌≡◌, ◌⊎◌, inl, inr, ◌∙◌, refl, ap, sym, subst, ℕ, ◌==◌, ℤ, if◌then◌else◌, List, [], ◌∷◌, ◌++◌, map, length, Some, Result}
-use Rattle.std.proofs.lemmas.Bool.Decides.{eqb_tells}
+use Rattle.std.proofs.Common.{◌≡◌, ◌⊎◌, inl, inr, ◌∙◌, refl, ap, sym, subst, ℕ, ℤ, List, [], ◌∷◌, ◌++◌, map, length, Some, Result, ◌+◌, ◌≤◌, arith}
 use Rattle.wrp_base.specs.declared.link.Role.{Role}
 use Rattle.wrp_base.specs.declared.link.Role.TheVariants.{Master}
 use Rattle.wrp_base.specs.declared.message.PtpMsg.{PtpMsg}
@@ -8,32 +7,21 @@ use Rattle.wrp_base.specs.declared.network.LinkCfg.{LinkCfg}
 use Rattle.wrp_frame.specs.declared.fault.FrameFault.{FrameFault}
 use Rattle.wrp_node.specs.declared.interface.Input.{Input}
 use Rattle.wrp_node.specs.declared.interface.Input.TheVariants.{Tick as TickInput}
-use Rattle.wrp_node.specs.Telling.{Step}
 use Rattle.wrp_world.specs.declared.event.Event.{Event}
-use Rattle.wrp_world.specs.declared.event.Event.TheVariants.{Pass, Tick, Sample, Depart, Arrive, Deliver, Noise, Down, Up, Cut, Join}
-use Rattle.wrp_world.specs.Given.{Given, end_given, given_by, given_plain, gives, gives_all, put_out, sending, step_of, taken_of, world_step}
+use Rattle.wrp_world.specs.declared.event.Event.TheVariants.{Tick}
+use Rattle.wrp_world.specs.Given.{Given, given_by, given_plain, gives, gives_all, sending, step_of, taken_of, world_step}
 use Rattle.wrp_world.specs.Moved.{moved}
 use Rattle.wrp_world.specs.Run.{Happened, world_after}
 use Rattle.wrp_world.specs.Runs.{WasPutOut}
 use Rattle.wrp_world.specs.Setting.{Setting, end_at, fixed_of, link_of}
-use Rattle.wrp_world.specs.WorldAt.{EndAt, Sending, WorldAt}
+use Rattle.wrp_world.specs.WorldAt.{Sending, WorldAt}
 use Rattle.wrp_world.proofs.RunFrames.{moved_sent, told_either}
-use Rattle.wrp_world.proofs.RunGiven.{end_is}
-use Rattle.wrp_world.proofs.RunPorts.{told_end}
 use Rattle.wrp_world.proofs.RunTimes.{all_given_time}
 use Rattle.wrp_truth.specs.Announcing.{IsCertainAnnounce}
 use Rattle.wrp_truth.proofs.Announces.{MayAnnounce, OnlyWhen, announces_only}
-use Rattle.wrp_truth.proofs.Inputs.{IsNoTick, IsNoTickOf, To, gives_to, no_tick_to}
-use Rattle.wrp_truth.proofs.Suffixes.{all_given_count, count_is}
-
--- Lists of what was put out
-
-put_among : (x : Sending) (xs sent : List Sending) → WasPutOut x (put_out xs sent) → WasPutOut x xs ⊎ WasPutOut x sent
-put_among x [] sent h = inr h
-put_among x (z ∷ xs) sent h = elim (put_among x xs (z ∷ sent) h) [
-  | inl there ↦ inl (inr there)
-  | inr now ↦ elim now [ inl is ↦ inl (inl is) | inr old ↦ inr old ]
-]
+use Rattle.wrp_truth.proofs.Inputs.{IsNoTick, no_tick_to, tick_or_not}
+use Rattle.wrp_truth.proofs.PutOut.{none_put, put_among, tick_put}
+use Rattle.wrp_truth.proofs.Suffixes.{all_given_count, count_is, rest_length}
 
 -- When
 
@@ -98,6 +86,18 @@ was_put s (h ∷ before) k r x put =
           }
     ]
 
+-- what the newest event puts out was not put out before it
+too_early : (b c moment : ℕ) → c ≤ b → moment ≡ b + 1 → moment ≡ c → ⊥
+too_early b c moment h e f = omega (arith, h, e, f)
+
+next_length : (x : Happened) (xs : List Happened) → length (x ∷ xs) ≡ length xs + 1
+next_length x xs = omega arith
+
+pub is_new : (s : Setting) (h : Happened) (before : List Happened) (k : ℕ) (r : Role) (x : Sending) → PutOutIn s (h ∷ before) k r x → WasPutOut x ((world_after s before).end_at k r).sent → ⊥
+is_new s h before k r x put old =
+    let it : WasPut s before k r x = was_put s before k r x old in
+    too_early (length before) (length it.older) x.moment (subst (λ l. length it.older ≤ length l) (sym it.splits) (rest_length it.newer it.older)) (put.moment ∙ next_length h before) it.in_it.moment
+
 -- An Announce of a certain time
 
 sent_when : (C : Type 0) (v : WorldAt) (x : Sending) (ms : List PtpMsg) → IsCertainAnnounce x.message → OnlyWhen C ms → WasPutOut x (map (sending v) ms) → C
@@ -107,78 +107,26 @@ sent_when C v x (m ∷ ms) certain only h = elim h [
   | inr rest ↦ sent_when C v x ms certain only.1 rest
 ]
 
-abbrev Announced : Setting → WorldAt → Given → ℕ → Type 0
-Announced s v g n = (n ≡ g.to) × MayAnnounce (fixed_of s g.to) (v.node g.to) g.input
-
-given_certain : (s : Setting) (y : ℤ) (v : WorldAt) (g : Given) (k : ℕ) (link : LinkCfg) (x : Sending) → link_of s k ≡ Some link → IsCertainAnnounce x.message → WasPutOut x ((gives s y v g).end_at k Master).sent →
-    WasPutOut x (v.end_at k Master).sent ⊎ Announced s v g link.upper
-given_certain s y v g k link x is certain h =
-    let step : Step = step_of s y v g in
-    let at_end : (gives s y v g).end_at k Master ≡ (if link.upper == g.to then end_given s v g step k Master link.upper_port else v.end_at k Master) =
-    ap (told_end s v g step k Master) (end_is s k Master link is) in
-    elim (eqb_tells link.upper g.to) [
-      | inl here ↦
-          let told : (gives s y v g).end_at k Master ≡ end_given s v g step k Master link.upper_port =
-          at_end ∙ ap (λ b. if b then end_given s v g step k Master link.upper_port else v.end_at k Master) here.0 in
-          elim (put_among x (map (sending v) (step.sends link.upper_port)) (v.end_at k Master).sent (subst (λ (e : EndAt). WasPutOut x e.sent) told h)) [
-            | inl new ↦
-                inr (
-                  here.1,
-                  sent_when (MayAnnounce (fixed_of s g.to) (v.node g.to) g.input) v x (step.sends link.upper_port) certain
-                      (announces_only (fixed_of s g.to) (taken_of y g) (v.node g.to) link.upper_port) new,
-                )
-            | inr old ↦ inl old
-          ]
-      | inr away ↦
-          let told : (gives s y v g).end_at k Master ≡ v.end_at k Master =
-          at_end ∙ ap (λ b. if b then end_given s v g step k Master link.upper_port else v.end_at k Master) away.0 in
-          inl (subst (λ (e : EndAt). WasPutOut x e.sent) told h)
-    ]
-
 no_announce : (s : Setting) (v : WorldAt) (n : ℕ) (input : Input) → IsNoTick input → MayAnnounce (fixed_of s n) (v.node n) input → ⊥
 no_announce s v n TickInput h m = absurd h
 no_announce s v n _ h m = m
 
-none_certain : (s : Setting) (y : ℤ) (gs : List Given) (v : WorldAt) (k : ℕ) (link : LinkCfg) (x : Sending) → link_of s k ≡ Some link → IsCertainAnnounce x.message → To IsNoTick link.upper gs →
-    WasPutOut x ((gives_all s y v gs).end_at k Master).sent → WasPutOut x (v.end_at k Master).sent
-none_certain s y [] v k link x is certain h put = put
-none_certain s y (g ∷ gs) v k link x is certain h put =
-    elim (given_certain s y v g k link x is certain (none_certain s y gs (gives s y v g) k link x is certain h.1 put)) [
-      | inl old ↦ old
-      | inr now ↦ absurd (no_announce s v g.to g.input (h.0 now.0) now.1)
-    ]
+step_certain : (s : Setting) (y : ℤ) (v : WorldAt) (g : Given) (p : ℕ) (x : Sending) → IsCertainAnnounce x.message → WasPutOut x (map (sending v) ((step_of s y v g).sends p)) → MayAnnounce (fixed_of s g.to) (v.node g.to) g.input
+step_certain s y v g p x certain new =
+    sent_when (MayAnnounce (fixed_of s g.to) (v.node g.to) g.input) v x ((step_of s y v g).sends p) certain (announces_only (fixed_of s g.to) (taken_of y g) (v.node g.to) p) new
 
 -- it is new by a tick of the master's node in TRACK, or of the grandmaster
 abbrev pub CertainIn : Setting → WorldAt → ℕ → LinkCfg → Event → Sending → Type 0
 CertainIn s w k link e x = WasPutOut x (w.end_at k Master).sent ⊎ ((e ≡ Tick link.upper) × MayAnnounce (fixed_of s link.upper) (w.node link.upper) TickInput)
 
-before_it : (s : Setting) (w : WorldAt) (e : Event) (k : ℕ) (x : Sending) → WasPutOut x ((moved s w e).end_at k Master).sent → WasPutOut x (w.end_at k Master).sent
-before_it s w e k x h = subst (WasPutOut x) (moved_sent s w e k Master) h
-
-tick_certain : (s : Setting) (says : Result PtpMsg FrameFault) (y : ℤ) (w : WorldAt) (m k : ℕ) (link : LinkCfg) (x : Sending) → link_of s k ≡ Some link → IsCertainAnnounce x.message →
-    WasPutOut x ((world_step s says y w (Tick m)).end_at k Master).sent → CertainIn s w k link (Tick m) x
-tick_certain s says y w m k link x is certain put =
-    elim (given_certain s y (moved s w (Tick m)) (given_plain m TickInput) k link x is certain put) [
-      | inl old ↦ inl (before_it s w (Tick m) k x old)
-      | inr now ↦ inr (ap Tick (sym now.0), subst (λ n. MayAnnounce (fixed_of s n) (w.node n) TickInput) (sym now.0) now.1)
-    ]
-
-other_certain : (s : Setting) (says : Result PtpMsg FrameFault) (y : ℤ) (w : WorldAt) (e : Event) (k : ℕ) (link : LinkCfg) (x : Sending) → link_of s k ≡ Some link → IsCertainAnnounce x.message → IsNoTickOf link.upper e →
-    WasPutOut x ((world_step s says y w e).end_at k Master).sent → WasPutOut x (w.end_at k Master).sent
-other_certain s says y w e k link x is certain none put =
-    before_it s w e k x
-    (none_certain s y (given_by s w (moved s w e) says e) (moved s w e) k link x is certain (gives_to IsNoTick s w (moved s w e) says link.upper e (no_tick_to link.upper e none)) put)
-
 pub certain_in : (s : Setting) (says : Result PtpMsg FrameFault) (y : ℤ) (w : WorldAt) (e : Event) (k : ℕ) (link : LinkCfg) (x : Sending) → link_of s k ≡ Some link → IsCertainAnnounce x.message →
     WasPutOut x ((world_step s says y w e).end_at k Master).sent → CertainIn s w k link e x
-certain_in s says y w (Tick m) k link x is certain put = tick_certain s says y w m k link x is certain put
-certain_in s says y w (Pass dt drifts fibres) k link x is certain put = inl (other_certain s says y w (Pass dt drifts fibres) k link x is certain tt put)
-certain_in s says y w (Sample m base bits) k link x is certain put = inl (other_certain s says y w (Sample m base bits) k link x is certain tt put)
-certain_in s says y w (Depart m p stamp) k link x is certain put = inl (other_certain s says y w (Depart m p stamp) k link x is certain tt put)
-certain_in s says y w (Arrive i raw) k link x is certain put = inl (other_certain s says y w (Arrive i raw) k link x is certain tt put)
-certain_in s says y w (Deliver i) k link x is certain put = inl (other_certain s says y w (Deliver i) k link x is certain tt put)
-certain_in s says y w (Noise m p octets raw) k link x is certain put = inl (other_certain s says y w (Noise m p octets raw) k link x is certain tt put)
-certain_in s says y w (Down m) k link x is certain put = inl (other_certain s says y w (Down m) k link x is certain tt put)
-certain_in s says y w (Up m off swaps) k link x is certain put = inl (other_certain s says y w (Up m off swaps) k link x is certain tt put)
-certain_in s says y w (Cut l) k link x is certain put = inl (other_certain s says y w (Cut l) k link x is certain tt put)
-certain_in s says y w (Join l ms sm) k link x is certain put = inl (other_certain s says y w (Join l ms sm) k link x is certain tt put)
+certain_in s says y w e k link x is certain put = elim (tick_or_not link.upper e) [
+  | inl tick ↦
+      elim (tick_put s says y w k Master link x is (subst (λ t. WasPutOut x ((world_step s says y w t).end_at k Master).sent) tick put)) [
+        | inl old ↦ inl old
+        | inr new ↦ inr (tick, step_certain s y (moved s w (Tick link.upper)) (given_plain link.upper TickInput) link.upper_port x certain new)
+      ]
+  | inr other ↦
+      inl (none_put IsNoTick s says y w e k Master link x is (λ v g none new. no_announce s v g.to g.input none (step_certain s y v g link.upper_port x certain new)) (no_tick_to link.upper e other) put)
+]

@@ -20,6 +20,8 @@ use Rattle.wrp_port.specs.Hearing.{early_reason}
 use Rattle.wrp_port.specs.History.{renews_at, since_renewal, zero_where}
 use Rattle.wrp_servo.specs.Call.{Call, CallSample, CallTick, CallCarrier}
 use Rattle.wrp_servo.specs.declared.interface.ServoOut.{ServoOut}
+use Rattle.wrp_truth.proofs.Basics.{none_some, some_is}
+use Rattle.wrp_world.proofs.RunPorts.{self_equal}
 
 -- the turns of a port's lease since it was renewed
 abbrev pub turns_at : Fixed → NodeAt → ℕ → Option ℕ
@@ -60,15 +62,6 @@ TurnsBefore fixed n p (Frame q octets raw sample) says turns =
 TurnsBefore fixed n p (Carrier q false own_module) says turns = (p ≡ q → ⊥) × (turns_at fixed n p ≡ Some turns)
 TurnsBefore fixed n p Reset says turns = ⊥
 TurnsBefore fixed n p _ says turns = turns_at fixed n p ≡ Some turns
-
-none_some : {A : Type 0} (x : A) → None ≡ Some x → ⊥
-none_some x e = cc
-
-some_is : {A : Type 0} (x y : A) → Some x ≡ Some y → x ≡ y
-some_is x y e = cc
-
-self_equal : (n : ℕ) → (n == n) ≡ true
-self_equal n = grind (arith)
 
 not_self : (n m : ℕ) → (n == m) ≡ false → n ≡ m → ⊥
 not_self n m e is = grind (arith, e, is)

@@ -1,5 +1,5 @@
 -- Parts of a run: its older events are a run, and what held at each event of a part.
-use Rattle.std.proofs.Common.{◌≡◌, refl, ap, ◌∙◌, ℕ, ◌+◌, ℤ, List, [], ◌∷◌, ◌++◌, length, arith}
+use Rattle.std.proofs.Common.{◌≡◌, refl, ap, ◌∙◌, ℕ, ◌+◌, ℤ, List, [], ◌∷◌, ◌++◌, length, arith, ◌≤◌}
 use Rattle.wrp_base.specs.declared.configuration.NetCfg.{NetCfg}
 use Rattle.wrp_world.specs.Given.{Given, given_by, gives, gives_all}
 use Rattle.wrp_world.specs.Moved.{moved}
@@ -29,6 +29,18 @@ run_before s h before run = record { network = run.network; each = run.each.1; a
 pub appended : {A : Type 0} (xs ys zs : List A) → (xs ++ ys) ++ zs ≡ xs ++ (ys ++ zs)
 appended [] ys zs = refl
 appended (x ∷ xs) ys zs = ap (λ l. x ∷ l) (appended xs ys zs)
+
+pub rest_length : (a b : List Happened) → length b ≤ length (a ++ b)
+rest_length [] b = omega arith
+rest_length (x ∷ a) b = let h : length b ≤ length (a ++ b) = rest_length a b in omega (arith, h)
+
+pub one_list : (xs : List Happened) (x : Happened) (ys : List Happened) → xs ++ x ∷ ys ≡ (xs ++ x ∷ []) ++ ys
+one_list [] x ys = refl
+one_list (y ∷ xs) x ys = ap (λ l. y ∷ l) (one_list xs x ys)
+
+pub no_more : (xs : List Happened) → xs ≡ xs ++ []
+no_more [] = refl
+no_more (x ∷ xs) = ap (λ l. x ∷ l) (no_more xs)
 
 -- What held at each
 

@@ -12,12 +12,7 @@ use Rattle.wrp_exch.specs.declared.sync.SyncPair.{SyncPair}
 use Rattle.wrp_exch.specs.Samples.{last_samples, phase_in}
 use Rattle.wrp_exch.specs.SyncPair.{followed_pair, held_sync, is_followed, kept_sync, last_sync, pair_of_sync, sync_pair}
 use Rattle.wrp_port.specs.Outputs.{with_call}
-
-none_some : {A : Type 0} (x : A) → None ≡ Some x → ⊥
-none_some x e = cc
-
-some_same : {A : Type 0} (x y : A) → Some x ≡ Some y → x ≡ y
-some_same x y e = cc
+use Rattle.wrp_truth.proofs.Basics.{none_some, some_is}
 
 first_or : {A : Type 0} (o p : Option A) (x : A) → option_or o p ≡ Some x → (o ≡ Some x) ⊎ (p ≡ Some x)
 first_or (Some y) p x e = inl e
@@ -100,7 +95,7 @@ pub pair_of : (ring : ℕ) (calls : List Call) (seq : ℕ) (precise : ℤ) (p : 
 pair_of ring calls seq precise p e = by_last (last_sync ring calls) refl e
   where
     by_tests : (s : HeldSync) (a b c : Bool) → (s.seq == seq) ≡ a → is_some (phase_in (last_samples ring calls) s.sample) ≡ c → last_sync ring calls ≡ Some s → (if a && (b && c) then Some (pair_of_sync s precise) else None) ≡ Some p → PairOf ring calls seq precise p
-    by_tests s true true true at ring_at is q = record { held = s; last = is; same = eqb-true s.seq seq at; in_ring = ring_at; is = sym (some_same (pair_of_sync s precise) p q) }
+    by_tests s true true true at ring_at is q = record { held = s; last = is; same = eqb-true s.seq seq at; in_ring = ring_at; is = sym (some_is (pair_of_sync s precise) p q) }
     by_tests s true true false at ring_at is q = absurd (none_some p q)
     by_tests s true false c at ring_at is q = absurd (none_some p q)
     by_tests s false b c at ring_at is q = absurd (none_some p q)
@@ -127,7 +122,7 @@ kept_of ring calls seq correction t2 tick held e = by_first (first_sample calls)
   where
     by_phase : (first : ℕ) (o : Option ℤ) → first_sample calls ≡ Some first → first ≤ t2.sample → phase_in (last_samples ring calls) t2.sample ≡ o → option_map (held_sync seq correction t2 tick) o ≡ Some held → KeptOf ring calls seq correction t2 tick held
     by_phase first None is since at q = absurd (none_some held q)
-    by_phase first (Some u) is since at q = record { phase = u; first = first; begins = is; since = since; latched = at; is = sym (some_same (held_sync seq correction t2 tick u) held q) }
+    by_phase first (Some u) is since at q = record { phase = u; first = first; begins = is; since = since; latched = at; is = sym (some_is (held_sync seq correction t2 tick u) held q) }
 
     by_order : (first : ℕ) (b : Bool) → first_sample calls ≡ Some first → nat_le first t2.sample ≡ b → option_map (held_sync seq correction t2 tick) (if b then phase_in (last_samples ring calls) t2.sample else None) ≡ Some held → KeptOf ring calls seq correction t2 tick held
     by_order first true is le q = by_phase first (phase_in (last_samples ring calls) t2.sample) is (le_of first t2.sample le) refl q
@@ -178,7 +173,7 @@ some_more a b h = omega (arith, h)
 
 here_by : (ring n : ℕ) (u : ℤ) (g : GoodSample) (rest : List GoodSample) (b : Bool) → (g.number == n) ≡ b → g.number ≤ n → Below g.number rest →
     option_map (λ (s : GoodSample). s.phase) (cond b (Some g) (find (λ s. s.number == n) (take ring rest))) ≡ Some u → Found (suc ring) n u [] g
-here_by ring n u g rest true e le below q = record { number = eqb-true g.number n e; phase = sym (some_same g.phase u q); few = some_ring ring }
+here_by ring n u g rest true e le below q = record { number = eqb-true g.number n e; phase = sym (some_is g.phase u q); few = some_ring ring }
   where
     some_ring : (k : ℕ) → 0 < suc k
     some_ring k = omega arith

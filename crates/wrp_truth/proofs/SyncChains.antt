@@ -8,7 +8,7 @@ use Rattle.wrp_base.specs.declared.network.LinkCfg.{LinkCfg}
 use Rattle.wrp_frame.specs.declared.fault.FrameFault.{FrameFault}
 use Rattle.wrp_tracking.specs.Chain.{Good}
 use Rattle.wrp_world.specs.declared.event.Event.{Event}
-use Rattle.wrp_world.specs.declared.event.Event.TheVariants.{Pass, Tick, Sample, Depart, Arrive, Deliver, Noise, Down, Up, Cut, Join}
+use Rattle.wrp_world.specs.declared.event.Event.TheVariants.{Sample, Up}
 use Rattle.wrp_world.specs.Run.{Happened, world_after}
 use Rattle.wrp_world.specs.Runs.{IsRun}
 use Rattle.wrp_world.specs.Setting.{Setting, link_of}
@@ -22,19 +22,14 @@ use Rattle.wrp_truth.proofs.LeaseSources.{both_nodes}
 use Rattle.wrp_truth.proofs.Parents.{not_up}
 use Rattle.wrp_truth.proofs.Suffixes.{appended, at_newest, run_before}
 use Rattle.wrp_truth.proofs.SyncGiven.{GivenLaws}
-use Rattle.wrp_truth.proofs.SyncNumbers.{IsLowOf, low_stay, sampled_samples, samples_then}
+use Rattle.wrp_truth.proofs.Basics.{none_some, some_is, heads}
+use Rattle.wrp_truth.proofs.SampleEvents.{IsLowOf, low_stay, sampled_samples, samples_then}
 
 -- the laws that this stands on
 pub record SyncChainLaws : Type 0 where
   pub given : GivenLaws
   pub chains : ChainLaws
   pub constant : ChainHasConstant
-
-none_some : {A : Type 0} (x : A) → None ≡ Some x → ⊥
-none_some x e = cc
-
-some_is : {A : Type 0} (x y : A) → Some x ≡ Some y → x ≡ y
-some_is x y e = cc
 
 -- A chain that stands
 
@@ -45,9 +40,6 @@ pub record Standing (s : Setting) (link : LinkCfg) (newer : List Happened) (star
 
 pub stands_now : (s : Setting) (link : LinkCfg) (newer : List Happened) (start : Happened) (before : List Happened) → Standing s link newer start before → HasChain s link.lower (newer ++ start ∷ before)
 stands_now s link newer start before x = at_newest (HasChain s link.lower) newer (start ∷ before) x.stands
-
-heads : (x y : Happened) (xs ys : List Happened) → x ∷ xs ≡ y ∷ ys → (x ≡ y) × (xs ≡ ys)
-heads x y xs ys e = (cc, cc)
 
 -- in one event alone
 pub one_start : (s : Setting) (link : LinkCfg) (newer other : List Happened) (start first : Happened) (before earlier : List Happened) → newer ++ start ∷ before ≡ other ++ first ∷ earlier → Standing s link newer start before → Standing s link other first earlier →
@@ -92,15 +84,7 @@ event_up s says y before (Sample m base bits) n run up = elim (eqb_tells n m) [
 event_up s says y before (Up m off swaps) n run up =
     low_up s (record { event = Up m off swaps; says = says; answer = y }) before n
     (λ same. not_up ((world_after s before).clock n).up up (subst (λ i. not (not ((world_after s before).clock i).up) ≡ false) (sym same) (comes_up_down s (world_after s before) says m off swaps run.accepted.0)))
-event_up s says y before (Pass dt drifts fibres) n run up = low_up s (record { event = Pass dt drifts fibres; says = says; answer = y }) before n tt
-event_up s says y before (Tick m) n run up = low_up s (record { event = Tick m; says = says; answer = y }) before n tt
-event_up s says y before (Depart m p stamp) n run up = low_up s (record { event = Depart m p stamp; says = says; answer = y }) before n tt
-event_up s says y before (Arrive i raw) n run up = low_up s (record { event = Arrive i raw; says = says; answer = y }) before n tt
-event_up s says y before (Deliver i) n run up = low_up s (record { event = Deliver i; says = says; answer = y }) before n tt
-event_up s says y before (Noise m p octets raw) n run up = low_up s (record { event = Noise m p octets raw; says = says; answer = y }) before n tt
-event_up s says y before (Down m) n run up = low_up s (record { event = Down m; says = says; answer = y }) before n tt
-event_up s says y before (Cut k) n run up = low_up s (record { event = Cut k; says = says; answer = y }) before n tt
-event_up s says y before (Join k ms sm) n run up = low_up s (record { event = Join k ms sm; says = says; answer = y }) before n tt
+event_up s says y before e n run up = low_up s (record { event = e; says = says; answer = y }) before n tt
 
 pub samples_up : (s : Setting) (h : Happened) (before : List Happened) (n : ℕ) → IsRun s (h ∷ before) → ((world_after s before).clock n).up ≡ true → samples_of s before n ≤ samples_of s (h ∷ before) n
 samples_up s h before n run up = event_up s h.says h.answer before h.event n run up
@@ -151,16 +135,7 @@ good_event s says y before (Sample m base bits) n g e =
       at = ap (λ (x : Good). x.at) (sym good.1) ∙ next_length (length before);
       time = refl;
     }
-good_event s says y before (Pass dt drifts fibres) n g e = absurd (none_some g e)
-good_event s says y before (Tick m) n g e = absurd (none_some g e)
-good_event s says y before (Depart m p stamp) n g e = absurd (none_some g e)
-good_event s says y before (Arrive i raw) n g e = absurd (none_some g e)
-good_event s says y before (Deliver i) n g e = absurd (none_some g e)
-good_event s says y before (Noise m p octets raw) n g e = absurd (none_some g e)
-good_event s says y before (Down m) n g e = absurd (none_some g e)
-good_event s says y before (Cut k) n g e = absurd (none_some g e)
-good_event s says y before (Join k ms sm) n g e = absurd (none_some g e)
-good_event s says y before (Up m off swaps) n g e = absurd (none_some g e)
+good_event s says y before other n g e = absurd (none_some g e)
 
 pub brings_good : (s : Setting) (h : Happened) (before : List Happened) (n : ℕ) (g : Good) → good_in s n h before h.event ≡ Some g → BringsGood s h before n g
 brings_good s h before n g e = good_event s h.says h.answer before h.event n g e

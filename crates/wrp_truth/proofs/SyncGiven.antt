@@ -51,17 +51,13 @@ use Rattle.wrp_truth.proofs.LinksAbove.{above_is}
 use Rattle.wrp_truth.proofs.LiveChains.{Stands}
 use Rattle.wrp_truth.proofs.Parents.{has_slave, ticked_node}
 use Rattle.wrp_truth.proofs.SyncTold.{Adds, AddsOther, IsOther, carrier_adds, frame_adds, frame_passes, frame_piece, sent_adds, tick_adds}
+use Rattle.wrp_truth.specs.SequenceIds.{IsTimed}
+use Rattle.wrp_truth.proofs.Basics.{none_some, not_true}
 
 -- the laws that this stands on
 pub record GivenLaws : Type 0 where
   pub since : ChainSince
   pub phase : PhaseMovesByTags
-
-not_true : false ≡ true → ⊥
-not_true e = cc
-
-none_some : {A : Type 0} (x : A) → None ≡ Some x → ⊥
-none_some x e = cc
 
 -- A frame of the master that the slave's port takes
 
@@ -82,8 +78,7 @@ pub record Handed (s : Setting) (before : List Happened) (h : Happened) (k : ℕ
   pub takes : is_open (link_at (s.set link.lower) ((world_after s before).node link.lower) link.lower_port) ≡ true
 
 abbrev pub IsSync : Body → Type 0
-IsSync (Sync origin) = Unit {0}
-IsSync _ = ⊥
+IsSync body = IsTimed Master body
 
 -- it is a Sync
 pub record TakesSync (s : Setting) (before : List Happened) (h : Happened) (k : ℕ) (link : LinkCfg) (seq : ℕ) (correction : ℤ) (t2 : Stamp) : Type 0 where

@@ -1,41 +1,33 @@
 -- A frame of the master that is handed to a slave in a chain, and whose stamp latched a sample of the chain, arrived in it.
-use Rattle.std.proofs.Common.{◌≡◌, ◌⊎◌, inl, inr, ◌∙◌, refl, ap, sym, subst, ℕ, ◌+◌, ◌*◌, ◌≤◌, ℤ, pos, ◌+ℤ◌, ◌-ℤ◌, ◌≤ℤ◌, ◌<ℤ◌, not, Bool, true, false, List, [], ◌∷◌, ◌++◌, length, Option, None, Some, IfSome, arith}
+use Rattle.std.proofs.Common.{◌≡◌, ◌⊎◌, inl, inr, ◌∙◌, refl, ap, sym, subst, ℕ, ◌+◌, ◌*◌, ◌≤◌, ℤ, pos, ◌+ℤ◌, ◌≤ℤ◌, true, List, [], ◌∷◌, ◌++◌, length, Option, Some, IfSome, arith}
 use Rattle.std.proofs.lemmas.Int.{ints}
-use Rattle.std.specs.Int.Signed.{le_z}
 use Rattle.wrp_base.specs.declared.link.Role.TheVariants.{Slave}
 use Rattle.wrp_base.specs.declared.network.LinkCfg.{LinkCfg}
 use Rattle.wrp_base.specs.Network.{End}
 use Rattle.wrp_bounds.specs.Times.{frame_life}
-use Rattle.wrp_world.specs.declared.event.Event.TheVariants.{Deliver}
-use Rattle.wrp_world.specs.Checks.{AllHold}
 use Rattle.wrp_world.specs.Laws.{KeepsStamp}
-use Rattle.wrp_world.specs.Premises.{Accepts, deliver_by, deliver_checks}
+use Rattle.wrp_world.specs.Premises.{Accepts}
 use Rattle.wrp_world.specs.Run.{Happened, world_after}
 use Rattle.wrp_world.specs.RunLaws.{FramesHaveTimes, HasTimes}
 use Rattle.wrp_world.specs.RunStamps.{ArrivedSo, DepartedSo, FramesAreStamped}
 use Rattle.wrp_world.specs.Runs.{IsRun}
 use Rattle.wrp_world.specs.Setting.{Setting, end_at, end_of, link_of, other_of}
-use Rattle.wrp_world.specs.WorldAt.{Arrival, FrameAt, WorldAt, has_carrier}
+use Rattle.wrp_world.specs.WorldAt.{Arrival, FrameAt, WorldAt}
 use Rattle.wrp_world.proofs.RunGiven.{end_is}
-use Rattle.wrp_world.proofs.RunTimes.{time_never_falls}
 use Rattle.wrp_truth.specs.Leases.{IsCarried}
 use Rattle.wrp_truth.specs.Moments.{AtEach}
 use Rattle.wrp_truth.specs.SequenceIds.{IsOpenAt}
 use Rattle.wrp_truth.proofs.LeaseSources.{both_nodes}
-use Rattle.wrp_truth.proofs.Quiets.{QuietLaws, dark_long_ago}
-use Rattle.wrp_truth.proofs.Suffixes.{appended, at_each, at_rest, count_is, older_run}
+use Rattle.wrp_truth.proofs.OpenPorts.{QuietLaws, carried_since}
+use Rattle.wrp_truth.proofs.Suffixes.{at_rest, count_is, older_run, one_list, no_more}
 use Rattle.wrp_truth.proofs.SyncChains.{samples_of, samples_since}
 use Rattle.wrp_truth.proofs.SyncGiven.{Handed}
 use Rattle.wrp_truth.proofs.SyncPasts.{InRun}
 use Rattle.wrp_truth.proofs.SyncSamples.{Begun}
-
-not_true : false ≡ true → ⊥
-not_true e = cc
+use Rattle.wrp_truth.proofs.Basics.{some_is, heads}
+use Rattle.wrp_truth.proofs.Deliveries.{deliver_holds}
 
 -- Parts of a list
-
-pub heads : {A : Type 0} (x y : A) (xs ys : List A) → x ∷ xs ≡ y ∷ ys → (x ≡ y) × (xs ≡ ys)
-heads x y xs ys e = (cc, cc)
 
 -- of two ends of a list one is an end of the other
 pub record EndsIn {A : Type 0} (xs ys zs ws : List A) : Type 0 where
@@ -55,42 +47,15 @@ either_end (x ∷ xs) ys (z ∷ zs) ws e =
 
 -- A frame that is handed over
 
-handed_young : (now at : ℤ) (life : ℕ) → not (le_z (now -ℤ at) (pos life)) ≡ false → now ≤ℤ (at +ℤ pos life)
-handed_young now at life h = grind (arith, ints, h)
-
-young_by : (s : Setting) (w : WorldAt) (i : ℕ) (f : FrameAt) (o : Option Arrival) → AllHold (deliver_by s w i f o) → w.time ≤ℤ (f.sending.at +ℤ pos (frame_life s.cfg))
-young_by s w i f None a = absurd (not_true (sym a.1.0))
-young_by s w i f (Some arrival) a = handed_young w.time f.sending.at (frame_life s.cfg) a.0
-
 -- is no older than its life
 pub young : (s : Setting) (before : List Happened) (h : Happened) (k : ℕ) (link : LinkCfg) (x : Handed s before h k link) → IsRun s (h ∷ before) → (world_after s before).time ≤ℤ (x.frame.sending.at +ℤ pos (frame_life s.cfg))
 young s before h k link x run =
     let w : WorldAt = world_after s before in
-    let a : Accepts s w h.says (Deliver x.number) = subst (Accepts s w h.says) x.event run.accepted.0 in
-    young_by s w x.number x.frame x.frame.arrival (subst (λ o. AllHold (deliver_checks s w x.number o)) x.there a)
+    (deliver_holds s w h.says x.number x.frame (subst (Accepts s w h.says) x.event run.accepted.0) x.there).0
 
--- A port that takes messages had its carrier for two lives
+-- The slave's node
 
-too_long : (dark now first : ℤ) (life : ℕ) → first ≤ℤ dark → (dark +ℤ pos (2 * life)) <ℤ now → now ≤ℤ (first +ℤ pos (2 * life)) → ⊥
-too_long dark now first life h k l = omega (arith, ints, h, k, l)
-
-pub carried_since : QuietLaws → (s : Setting) (newer older : List Happened) (k : ℕ) (link : LinkCfg) → IsRun s (newer ++ older) → link_of s k ≡ Some link → IsOpenAt s link Slave (newer ++ older) →
-    (world_after s (newer ++ older)).time ≤ℤ ((world_after s older).time +ℤ pos (2 * frame_life s.cfg)) → AtEach (IsCarried s k) newer older
-carried_since laws s newer older k link run is now soon =
-    at_each (IsCarried s k) newer older
-    (λ a b e.
-    carried_at a b (subst (λ l. IsRun s (l ++ older)) e run) (subst (λ l. IsOpenAt s link Slave (l ++ older)) e now)
-    (subst (λ l. (world_after s (l ++ older)).time ≤ℤ ((world_after s older).time +ℤ pos (2 * frame_life s.cfg))) e soon) (has_carrier s (world_after s (b ++ older)) k) refl)
-  where
-    carried_at : (a b : List Happened) → IsRun s ((a ++ b) ++ older) → IsOpenAt s link Slave ((a ++ b) ++ older) → (world_after s ((a ++ b) ++ older)).time ≤ℤ ((world_after s older).time +ℤ pos (2 * frame_life s.cfg)) →
-        (c : Bool) → has_carrier s (world_after s (b ++ older)) k ≡ c → IsCarried s k (b ++ older)
-    carried_at a b run_ab takes near true e = e
-    carried_at a b run_ab takes near false e =
-        let all : IsRun s (a ++ (b ++ older)) = subst (IsRun s) (appended a b older) run_ab in
-        absurd (too_long (world_after s (b ++ older)).time (world_after s ((a ++ b) ++ older)).time (world_after s older).time (frame_life s.cfg) (time_never_falls s b older (older_run s a (b ++ older) all))
-        (subst (λ l. ((world_after s (b ++ older)).time +ℤ pos (2 * frame_life s.cfg)) <ℤ (world_after s l).time) (sym (appended a b older))
-        (dark_long_ago laws s a (b ++ older) k link all is e (subst (IsOpenAt s link Slave) (appended a b older) takes))) near)
-
+-- it is up while the link has its carrier
 pub up_since : (s : Setting) (newer older : List Happened) (k : ℕ) (link : LinkCfg) → link_of s k ≡ Some link → AtEach (IsCarried s k) newer older → AtEach (λ l. ((world_after s l).clock link.lower).up ≡ true) newer older
 up_since s [] older k link is h = (both_nodes s (world_after s older) k link is h).1
 up_since s (x ∷ newer) older k link is h = ((both_nodes s (world_after s (x ∷ (newer ++ older))) k link is h.0).1, up_since s newer older k link is h.1)
@@ -113,9 +78,6 @@ pub record Flight (s : Setting) (k : ℕ) (link : LinkCfg) (older : List Happene
   pub end : End
   pub end_is : end_at s f.link (other_of f.by) ≡ Some end
   pub raw : KeepsStamp s (world_after s (chain ++ start ∷ before)) f a.raw end
-
-some_is : {A : Type 0} (x y : A) → Some x ≡ Some y → x ≡ y
-some_is x y e = cc
 
 two_lives : (now at arrived : ℤ) (life : ℕ) → now ≤ℤ (at +ℤ pos life) → at ≤ℤ arrived → now ≤ℤ (arrived +ℤ pos (2 * life))
 two_lives now at arrived life h k = omega (arith, ints)
@@ -145,10 +107,6 @@ pub record FlightLaws : Type 0 where
   pub stamped : FramesAreStamped
   pub times : FramesHaveTimes
 
-one_list : (xs : List Happened) (x : Happened) (ys : List Happened) → xs ++ x ∷ ys ≡ (xs ++ x ∷ []) ++ ys
-one_list [] x ys = refl
-one_list (y ∷ xs) x ys = ap (λ l. y ∷ l) (one_list xs x ys)
-
 came : FlightLaws → (s : Setting) (events : List Happened) (h : Happened) (k : ℕ) (link : LinkCfg) (x : Handed s events h k link) → IsRun s (h ∷ events) → IsRun s events → link_of s k ≡ Some link → Came s k link events x.frame x.arrival
 came laws s events h k link x all run is =
     let f : FrameAt = x.frame in
@@ -169,7 +127,7 @@ came laws s events h k link x all run is =
       newer = newer;
       older = arr.older;
       splits = splits;
-      carried = carried_since laws.quiet s newer arr.older k link (subst (IsRun s) splits run) is (subst (IsOpenAt s link Slave) splits x.takes) near;
+      carried = carried_since laws.quiet s newer arr.older k Slave link (subst (IsRun s) splits run) is (subst (IsOpenAt s link Slave) splits x.takes) near;
       at = arr.time;
       moment = arr.moment ∙ count_is s arr.older;
       sample = arr.sample ∙ ap (λ (e : End). ((world_after s arr.older).clock e.node).samples) end;
@@ -177,10 +135,6 @@ came laws s events h k link x all run is =
       end_is = arr.end_is;
       raw = arr.raw;
     }
-
-no_more : (xs : List Happened) → xs ≡ xs ++ []
-no_more [] = refl
-no_more (x ∷ xs) = ap (λ l. x ∷ l) (no_more xs)
 
 -- before the chain it cannot have arrived
 not_before : (s : Setting) (k : ℕ) (link : LinkCfg) (start : Happened) (before : List Happened) (b : Begun s start before link) (f : FrameAt) (a : Arrival) (events front between : List Happened) (it : Came s k link events f a) → IsRun s before → link_of s k ≡ Some link →

@@ -1,8 +1,8 @@
 -- A Sync that the exchange holds in a chain tells the chain's constant with the stamp of its own departure.
-use Rattle.std.proofs.Common.{◌≡◌, inl, inr, ◌∙◌, refl, ap, sym, subst, ℕ, suc, ◌+◌, ◌<◌, ◌≤◌, ℤ, pos, ◌+ℤ◌, ◌-ℤ◌, ◌≤ℤ◌, unsigned_abs, true, List, [], ◌∷◌, ◌++◌, length, Some, IfSome, arith}
+use Rattle.std.proofs.Common.{◌≡◌, inl, inr, ◌∙◌, ap, sym, subst, ℕ, suc, ◌+◌, ◌<◌, ◌≤◌, ℤ, pos, ◌+ℤ◌, ◌-ℤ◌, ◌≤ℤ◌, unsigned_abs, true, List, [], ◌∷◌, ◌++◌, length, Some, IfSome, arith}
 use Rattle.std.proofs.lemmas.Int.{ints}
 use Rattle.std.specs.List.{AllByRecursion}
-use Rattle.wrp_base.specs.declared.link.Role.TheVariants.{Master}
+use Rattle.wrp_base.specs.declared.link.Role.TheVariants.{Master, Slave}
 use Rattle.wrp_base.specs.declared.network.LinkCfg.{LinkCfg}
 use Rattle.wrp_base.specs.Network.{End}
 use Rattle.wrp_bounds.specs.Bounds.{numbers_of}
@@ -29,19 +29,18 @@ use Rattle.wrp_truth.specs.Fibres.{FibresKeepTheirShare}
 use Rattle.wrp_truth.specs.FlightOrder.{FramesFollowTheSource}
 use Rattle.wrp_truth.specs.Views.{moment_at, moments_of}
 use Rattle.wrp_truth.proofs.ChainMoves.{HasNewest, newest_moment}
-use Rattle.wrp_truth.proofs.Suffixes.{appended, count_is, older_run, run_before}
+use Rattle.wrp_truth.proofs.Suffixes.{appended, count_is, older_run, run_before, one_list}
 use Rattle.wrp_truth.proofs.SyncCalls.{Found, KeptOf, kept_of}
 use Rattle.wrp_truth.proofs.SyncChains.{SyncChainLaws, goods_apart, goods_in}
-use Rattle.wrp_truth.proofs.SyncFrames.{arrival_raw}
+use Rattle.wrp_truth.proofs.DepartedFrames.{arrival_raw}
 use Rattle.wrp_truth.proofs.SyncGiven.{Handed, IsSync, received_stamp}
 use Rattle.wrp_truth.proofs.SyncHanded.{Flight, FlightLaws, flight}
 use Rattle.wrp_truth.proofs.SyncLatched.{found_newest}
-use Rattle.wrp_truth.proofs.SyncPasts.{InRun, Recent, SyncCame, earlier_in, first_is, recent, then_in, was_here, was_then}
+use Rattle.wrp_truth.proofs.SyncPasts.{InRun, Recent, SyncCame, earlier_in, first_is, recent, then_in, was_here, was_then, fit_then}
 use Rattle.wrp_truth.proofs.SyncSamples.{Begun, sample_of}
-use Rattle.wrp_truth.proofs.SyncStamps.{Arrived, HopErrors, StampLaws, hop_errors, stamp_near}
-
-some_is : {A : Type 0} (x y : A) → Some x ≡ Some y → x ≡ y
-some_is x y e = cc
+use Rattle.wrp_truth.proofs.ArrivalStamps.{Arrived, StampLaws, stamp_near}
+use Rattle.wrp_truth.proofs.Basics.{some_is}
+use Rattle.wrp_truth.proofs.HopNumbers.{HopHas, hop_has}
 
 -- the laws that this stands on
 pub record HeldLaws : Type 0 where
@@ -83,10 +82,6 @@ was_time s k link (x ∷ before) i m run h = elim h [
 
     after_that : (a b c : ℤ) → a ≤ℤ b → b ≤ℤ c → a ≤ℤ c
     after_that a b c h k = omega (arith, ints, h, k)
-
-fit_then : (newer older : List Happened) → AllFit (newer ++ older) → AllFit older
-fit_then [] older h = h
-fit_then (x ∷ newer) older h = fit_then newer older h.1
 
 -- What is held
 
@@ -158,10 +153,6 @@ enough a b xs x ys e = let h : length (x ∷ ys) ≤ length (xs ++ x ∷ ys) = l
     longer [] ys = omega arith
     longer (z ∷ zs) ys = let h : length ys ≤ length (zs ++ ys) = longer zs ys in omega (arith, h)
 
-one_list : (xs : List Happened) (x : Happened) (ys : List Happened) → xs ++ x ∷ ys ≡ (xs ++ x ∷ []) ++ ys
-one_list [] x ys = refl
-one_list (y ∷ xs) x ys = ap (λ l. y ∷ l) (one_list xs x ys)
-
 -- the good sample tells the constant
 good_tells : (s : Setting) (events : List Happened) (k : ℕ) (link : LinkCfg) (hop : HopNumbers) (chain : ChainRuns s events k link hop) (front older : List Happened) → chain.newer ≡ front ++ older → (r : Recent s k link hop older chain.start chain.before) →
     GoodTells hop (moments_of s k link events) (length (chain.start ∷ chain.before)) chain.constant r.newest
@@ -214,7 +205,7 @@ passage laws s events k link hop is numbers chain older held h tail =
     (enough a.moment 0 h.flight.chain chain.start chain.before h.flight.moment) in
     let way : delay_from sent f.link f.by ≡ delay_from sent k Master = ap (λ l. delay_from sent l f.by) h.handed.link_is ∙ ap (delay_from sent k) h.handed.by_is in
     let carried : has_carrier s sent k ≡ true = subst (λ l. has_carrier s sent l ≡ true) h.handed.link_is dep.carried in
-    let errors : HopErrors s link hop = hop_errors s run.network k link hop is numbers in
+    let errors : HopHas s link hop = hop_has s run.network k link hop is numbers in
     let end : dep.end ≡ end_of Master link =
     some_is dep.end (end_of Master link) (sym dep.end_is ∙ ap (λ l. end_at s l f.by) h.handed.link_is ∙ ap (end_at s k) h.handed.by_is ∙ end_is s k Master link is) in
     record {
@@ -241,8 +232,8 @@ received laws s k link hop is numbers older start before held h =
     let a : Arrival = h.handed.arrival in
     let run : IsRun s here = run_before s h.hands here h.run in
     let split : here ≡ h.flight.newer ++ come = ap (λ l. l ++ start ∷ before) h.flight.splits ∙ appended h.flight.newer h.flight.chain (start ∷ before) in
-    let errors : HopErrors s link hop = hop_errors s run.network k link hop is numbers in
-    let it : Arrived s come k link h.handed.frame a.raw = record {
+    let errors : HopHas s link hop = hop_has s run.network k link hop is numbers in
+    let it : Arrived s come k Slave h.handed.frame a.raw = record {
       link_is = h.handed.link_is;
       by_is = h.handed.by_is;
       end = h.flight.end;
@@ -251,7 +242,7 @@ received laws s k link hop is numbers older start before held h =
       ranges = arrival_raw s here h.handed.number h.handed.frame a run h.handed.there h.handed.arrived;
     } in
     let near : IsWithin (of_node (λ node. node.e_tag) s link.lower) (received_stamp s (world_after s (h.flight.newer ++ come)) link a).value (reading (world_after s come) link.lower) =
-    stamp_near laws.stamp s h.flight.newer come k link h.handed.frame a.raw a.sample (subst (IsRun s) split run) is h.flight.carried it in
+    stamp_near laws.stamp s h.flight.newer come k Slave link h.handed.frame a.raw a.sample (subst (IsRun s) split run) is h.flight.carried it in
     subst (λ n. IsWithin n held.t2 (reading (world_after s come) link.lower)) (sym errors.own_tag)
     (subst (λ t. IsWithin (of_node (λ node. node.e_tag) s link.lower) t (reading (world_after s come) link.lower)) (sym h.t2)
     (subst (λ l. IsWithin (of_node (λ node. node.e_tag) s link.lower) (received_stamp s (world_after s l) link a).value (reading (world_after s come) link.lower)) (sym split) near))

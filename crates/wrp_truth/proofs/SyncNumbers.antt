@@ -13,8 +13,8 @@ use Rattle.wrp_base.specs.declared.message.PtpMsg.{PtpMsg}
 use Rattle.wrp_base.specs.declared.network.LinkCfg.{LinkCfg}
 use Rattle.wrp_base.specs.declared.time.Stamp.{Stamp}
 use Rattle.wrp_data.specs.declared.reason.Reason.{Reason}
-use Rattle.wrp_exch.specs.Call.{Call as Piece, CallStart, CallClear, CallSample as SamplePiece, CallSync, CallFollowUp, CallReqOut, CallReqSent, CallResp}
 use Rattle.wrp_exch.specs.declared.ring.GoodSample.{GoodSample}
+use Rattle.wrp_exch.specs.Call.{Call as Piece, CallStart, CallClear, CallSample as SamplePiece, CallSync, CallFollowUp, CallReqOut, CallReqSent, CallResp}
 use Rattle.wrp_exch.specs.Samples.{samples}
 use Rattle.wrp_frame.specs.declared.fault.FrameFault.{FrameFault}
 use Rattle.wrp_node.specs.declared.interface.Input.{Input}
@@ -29,12 +29,11 @@ use Rattle.wrp_port.specs.Hearing.{early_reason, piece_of}
 use Rattle.wrp_port.specs.History.{calls_of, line_of}
 use Rattle.wrp_port.specs.LineAfter.{requests_on, ticked}
 use Rattle.wrp_port.specs.Outputs.{only_slave, piece_unless, with_call}
-use Rattle.wrp_servo.specs.Call.{Call, CallCarrier, CallLease, CallLink, CallSample, CallTick}
 use Rattle.wrp_servo.specs.declared.interface.ServoOut.{ServoOut}
-use Rattle.wrp_world.specs.declared.clocks.ClockState.{ClockState}
+use Rattle.wrp_servo.specs.Call.{Call, CallCarrier, CallLease, CallLink, CallSample, CallTick}
 use Rattle.wrp_world.specs.declared.event.Event.{Event}
 use Rattle.wrp_world.specs.declared.event.Event.TheVariants.{Pass, Tick as TickEvent, Sample as SampleEvent, Depart, Arrive, Deliver, Noise, Down, Up, Cut, Join}
-use Rattle.wrp_world.specs.Given.{Given, at_ports, clock_told, comes_from, given_by, given_plain, gives, gives_all, step_of, taken_of}
+use Rattle.wrp_world.specs.Given.{Given, at_ports, comes_from, given_plain, gives, step_of, taken_of}
 use Rattle.wrp_world.specs.Moved.{moved}
 use Rattle.wrp_world.specs.Run.{Happened, world_after}
 use Rattle.wrp_world.specs.Setting.{Setting, fixed_of}
@@ -42,6 +41,7 @@ use Rattle.wrp_world.specs.WorldAt.{WorldAt}
 use Rattle.wrp_world.proofs.RunPorts.{self_equal}
 use Rattle.wrp_truth.specs.Exchanges.{exchange_at}
 use Rattle.wrp_truth.proofs.Inputs.{GivesTo, node_given, node_given_all, node_kept, gives_to}
+use Rattle.wrp_truth.proofs.SampleEvents.{IsLowOf, samples_then, sampled_samples, low_stay}
 
 -- the samples have no higher numbers
 abbrev pub AtMost : ℕ → List Piece → Type 0
@@ -190,23 +190,6 @@ reset_more : (fixed : Fixed) (p n : ℕ) (t : Taken) (node : NodeAt) → t.input
 reset_more fixed p n t node e =
     subst (λ (i : Input). HoldsAt fixed p n (settled fixed (stepped fixed i t.says t.answer node)).node) (sym e) (settled_more fixed p n (stepped fixed Reset t.says t.answer node) tt)
 
--- The samples so far of a node
-
-given_samples : (s : Setting) (y : ℤ) (v : WorldAt) (g : Given) (n : ℕ) → ((gives s y v g).clock n).samples ≡ (v.clock n).samples
-given_samples s y v g n =
-    let told : ClockState = clock_told s v g (step_of s y v g).cycles (v.clock n) in
-    elim (eqb_tells n g.to) [ inl x ↦ ap (λ b. (if b then told else v.clock n).samples) x.0 | inr x ↦ ap (λ b. (if b then told else v.clock n).samples) x.0 ]
-
-pub all_given_samples : (s : Setting) (y : ℤ) (gs : List Given) (v : WorldAt) (n : ℕ) → ((gives_all s y v gs).clock n).samples ≡ (v.clock n).samples
-all_given_samples s y [] v n = refl
-all_given_samples s y (g ∷ gs) v n = all_given_samples s y gs (gives s y v g) n ∙ given_samples s y v g n
-
--- as many as the event by itself leaves
-pub samples_then : (s : Setting) (h : Happened) (before : List Happened) (n : ℕ) → ((world_after s (h ∷ before)).clock n).samples ≡ ((moved s (world_after s before) h.event).clock n).samples
-samples_then s h before n =
-    let w : WorldAt = world_after s before in
-    all_given_samples s h.answer (given_by s w (moved s w h.event) h.says h.event) (moved s w h.event) n
-
 -- Every run
 
 abbrev NumbersHold : Setting → List Happened → LinkCfg → ℕ → Type 0
@@ -222,12 +205,6 @@ weaker a b calls l h = all_weaker (samples calls) h
     all_weaker [] k = tt
     all_weaker (x ∷ xs) k = (below x.number k.0, all_weaker xs k.1)
 
--- an event that gives the node no sample of a higher number, and by which it does not start
-abbrev pub IsLowOf : ℕ → Event → Type 0
-IsLowOf n (SampleEvent m base bits) = n ≡ m → ⊥
-IsLowOf n (Up m off swaps) = n ≡ m → ⊥
-IsLowOf n _ = Unit {0}
-
 low_to : (bound n : ℕ) (e : Event) → IsLowOf n e → GivesTo (IsLow bound) n e
 low_to bound n (TickEvent m) h = λ is. tt
 low_to bound n (SampleEvent m base bits) h = λ is number. absurd (h is)
@@ -241,32 +218,6 @@ low_to bound n (Join k ms sm) h = λ q own_module. tt
 low_to bound n (Pass dt drifts fibres) h = tt
 low_to bound n (Arrive i raw) h = tt
 
-low_samples : (s : Setting) (w : WorldAt) (e : Event) (n : ℕ) → IsLowOf n e → ((moved s w e).clock n).samples ≡ (w.clock n).samples
-low_samples s w (SampleEvent m base bits) n h = elim (eqb_tells n m) [
-  | inl x ↦ absurd (h x.1)
-  | inr x ↦ ap (λ b. (if b then record (w.clock n) { samples = (w.clock n).samples + 1 } else w.clock n).samples) x.0
-]
-low_samples s w (Up m off swaps) n h = elim (eqb_tells n m) [
-  | inl x ↦ absurd (h x.1)
-  | inr x ↦ ap (λ b. (if b then record { up = true; off = off; ticked = w.time; samples = 0 } else w.clock n).samples) x.0
-]
-low_samples s w (Down m) n h = elim (eqb_tells n m) [
-  | inl x ↦ ap (λ b. (if b then record (w.clock n) { up = false } else w.clock n).samples) x.0
-  | inr x ↦ ap (λ b. (if b then record (w.clock n) { up = false } else w.clock n).samples) x.0
-]
-low_samples s w (TickEvent m) n h = refl
-low_samples s w (Pass dt drifts fibres) n h = refl
-low_samples s w (Depart m p stamp) n h = refl
-low_samples s w (Arrive i raw) n h = refl
-low_samples s w (Deliver i) n h = refl
-low_samples s w (Noise m p octets raw) n h = refl
-low_samples s w (Cut k) n h = refl
-low_samples s w (Join k ms sm) n h = refl
-
--- a sample of the node is one more
-pub sampled_samples : (s : Setting) (w : WorldAt) (n m base bits : ℕ) → n ≡ m → ((moved s w (SampleEvent m base bits)).clock n).samples ≡ (w.clock n).samples + 1
-sampled_samples s w n m base bits same = ap (λ b. (if b then record (w.clock n) { samples = (w.clock n).samples + 1 } else w.clock n).samples) (ap (λ i. i == m) same ∙ self_equal m)
-
 some_more : (n : ℕ) → n ≤ n + 1
 some_more n = omega arith
 
@@ -278,7 +229,7 @@ low_numbers s h before link low old =
     let n : ℕ = link.lower in
     let fixed : Fixed = fixed_of s n in
     let bound : ℕ = ((world_after s before).clock n).samples in
-    subst (NumbersHold s (h ∷ before) link) (sym (samples_then s h before n ∙ low_samples s (world_after s before) h.event n low))
+    subst (NumbersHold s (h ∷ before) link) (sym (low_stay s h before n low))
     (node_kept (HoldsAt fixed link.lower_port bound) (IsLow bound) s h.says h.answer (world_after s before) h.event n (λ t m q k. step_more fixed link.lower_port bound t m q k) (low_to bound n h.event low) old)
 
 sample_numbers : (s : Setting) (says : Result PtpMsg FrameFault) (y : ℤ) (before : List Happened) (m base bits : ℕ) (link : LinkCfg) → link.lower ≡ m → NumbersHold s before link ((world_after s before).clock link.lower).samples →
@@ -324,20 +275,8 @@ event_numbers s says y before (Up m off swaps) link old = elim (eqb_tells link.l
   | inl x ↦ up_numbers s says y before m off swaps link x.1
   | inr x ↦ low_numbers s (record { event = Up m off swaps; says = says; answer = y }) before link x.1 old
 ]
-event_numbers s says y before (Pass dt drifts fibres) link old = low_numbers s (record { event = Pass dt drifts fibres; says = says; answer = y }) before link tt old
-event_numbers s says y before (TickEvent m) link old = low_numbers s (record { event = TickEvent m; says = says; answer = y }) before link tt old
-event_numbers s says y before (Depart m p stamp) link old = low_numbers s (record { event = Depart m p stamp; says = says; answer = y }) before link tt old
-event_numbers s says y before (Arrive i raw) link old = low_numbers s (record { event = Arrive i raw; says = says; answer = y }) before link tt old
-event_numbers s says y before (Deliver i) link old = low_numbers s (record { event = Deliver i; says = says; answer = y }) before link tt old
-event_numbers s says y before (Noise m p octets raw) link old = low_numbers s (record { event = Noise m p octets raw; says = says; answer = y }) before link tt old
-event_numbers s says y before (Down m) link old = low_numbers s (record { event = Down m; says = says; answer = y }) before link tt old
-event_numbers s says y before (Cut l) link old = low_numbers s (record { event = Cut l; says = says; answer = y }) before link tt old
-event_numbers s says y before (Join l ms sm) link old = low_numbers s (record { event = Join l ms sm; says = says; answer = y }) before link tt old
+event_numbers s says y before e link old = low_numbers s (record { event = e; says = says; answer = y }) before link tt old
 
 pub numbers_hold : (s : Setting) (events : List Happened) (link : LinkCfg) → AtMost ((world_after s events).clock link.lower).samples (exchange_at s link events)
 numbers_hold s [] link = tt
 numbers_hold s (h ∷ before) link = event_numbers s h.says h.answer before h.event link (numbers_hold s before link)
-
--- the samples so far of a node stay in such an event
-pub low_stay : (s : Setting) (h : Happened) (before : List Happened) (n : ℕ) → IsLowOf n h.event → ((world_after s (h ∷ before)).clock n).samples ≡ ((world_after s before).clock n).samples
-low_stay s h before n low = samples_then s h before n ∙ low_samples s (world_after s before) h.event n low

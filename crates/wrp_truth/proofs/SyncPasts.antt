@@ -29,9 +29,7 @@ use Rattle.wrp_truth.proofs.SyncCalls.{IsWithin, first_stays, last_by, pair_by}
 use Rattle.wrp_truth.proofs.SyncChains.{AllAbove, BringsGood, Falls, Standing, SyncChainLaws, brings_good, chain_up, falls_more, goods_in, one_start, samples_of, samples_up, stands_now}
 use Rattle.wrp_truth.proofs.SyncGiven.{ComesOf, Grown, TakesFollowUp, TakesSync}
 use Rattle.wrp_truth.proofs.SyncSamples.{Begun, begun, goods_more, grown, sample_of, samples_more}
-
-none_some : {A : Type 0} (x : A) → None ≡ Some x → ⊥
-none_some x e = cc
+use Rattle.wrp_truth.proofs.Basics.{none_some}
 
 -- A chain that stands, in a run
 
@@ -283,7 +281,7 @@ pub record Recent (s : Setting) (k : ℕ) (link : LinkCfg) (hop : HopNumbers) (n
   pub was : Was (moments_of s k link (newer ++ start ∷ before)) newest.at moment
   pub near : (world_after s (newer ++ start ∷ before)).time ≤ℤ (moment.time +ℤ pos hop.gap_time)
 
-fit_then : (newer older : List Happened) → AllFit (newer ++ older) → AllFit older
+pub fit_then : (newer older : List Happened) → AllFit (newer ++ older) → AllFit older
 fit_then [] older h = h
 fit_then (x ∷ newer) older h = fit_then newer older h.1
 

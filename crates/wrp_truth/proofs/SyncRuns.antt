@@ -31,16 +31,16 @@ use Rattle.wrp_truth.specs.Exchanges.{SyncsTell, exchange_at, ring_below}
 use Rattle.wrp_truth.specs.Rates.{HasChain}
 use Rattle.wrp_truth.proofs.HopNumbers.{HopHas, hop_has}
 use Rattle.wrp_truth.proofs.Sendings.{WasPut, was_put}
-use Rattle.wrp_truth.proofs.Suffixes.{appended, older_run, run_before}
+use Rattle.wrp_truth.proofs.Suffixes.{appended, older_run, run_before, one_list, no_more}
 use Rattle.wrp_truth.proofs.SyncCalls.{Found, PairOf, pair_of, some_phase}
-use Rattle.wrp_truth.proofs.SyncFrames.{Stayed, frame_stays}
+use Rattle.wrp_truth.proofs.DepartedFrames.{Stayed, frame_stays}
 use Rattle.wrp_truth.proofs.SyncGiven.{IsSync, TakesFollowUp}
 use Rattle.wrp_truth.proofs.SyncHanded.{either_end, young}
 use Rattle.wrp_truth.proofs.SyncHeld.{HeldIs, HeldLaws, held_is, held_tells, was_time}
 use Rattle.wrp_truth.proofs.SyncLatched.{at_front, found_newest, found_recent}
 use Rattle.wrp_truth.proofs.SyncMasters.{sent_sync}
-use Rattle.wrp_truth.proofs.SyncPasts.{InRun, PairCame, SyncCame, began, earlier_in, pair_came, sync_came, then_in}
-use Rattle.wrp_truth.proofs.SyncQueues.{departs_once}
+use Rattle.wrp_truth.proofs.SyncPasts.{InRun, PairCame, SyncCame, began, earlier_in, pair_came, sync_came, then_in, fit_then}
+use Rattle.wrp_truth.proofs.TimedQueues.{departs_once}
 use Rattle.wrp_truth.proofs.SyncReadings.{told_plain, told_whole}
 use Rattle.wrp_truth.proofs.SyncSame.{Departed, SameLaws, TwoSyncs, departed, ring_time, same_sending}
 use Rattle.wrp_truth.proofs.SyncSamples.{Begun, sample_of}
@@ -99,10 +99,6 @@ tells laws s events h k link seq precise is all t =
     }
 
 -- Which Sync it is
-
-one_list : (xs : List Happened) (x : Happened) (ys : List Happened) → xs ++ x ∷ ys ≡ (xs ++ x ∷ []) ++ ys
-one_list [] x ys = refl
-one_list (y ∷ xs) x ys = ap (λ l. y ∷ l) (one_list xs x ys)
 
 sum_up : (now sample arrived at : ℤ) (ring life : ℕ) → now ≤ℤ (sample +ℤ pos ring) → sample ≤ℤ arrived → arrived ≤ℤ (at +ℤ pos life) → now ≤ℤ (at +ℤ pos (life + ring))
 sum_up now sample arrived at ring life h k l = omega (arith, ints)
@@ -191,15 +187,11 @@ own_stamp laws s k link hop gap older start before held seq precise x same t =
     } in
     let one : f.sending ≡ t.sync = same_sending laws.same s k link gap was f.sending t.sync run x.here.is (at_front (HasChain s link.lower) gap older sb x.here.standing.stands) two in
     let alike : stay.frame ≡ gone.frame =
-    departs_once laws.same.master.chains.lease.quiet.ends s (gap ++ was) k link x.is.handed.number gone.number stay.frame gone.frame run x.here.is stay.there gone.there (stay.link ∙ x.is.handed.link_is) (stay.by ∙ x.is.handed.by_is) gone.link gone.by
+    departs_once laws.same.master.chains.lease.quiet.ends s (gap ++ was) k Master link x.is.handed.number gone.number stay.frame gone.frame run x.here.is stay.there gone.there (stay.link ∙ x.is.handed.link_is) (stay.by ∙ x.is.handed.by_is) gone.link gone.by
     (subst (λ (z : Sending). IsSync z.message.body) (sym stay.sending) x.is.sync) (stay.sending ∙ one ∙ sym gone.sending) in
     t.tells ∙ sym gone.stamp_is ∙ ap (λ (z : FrameAt). z.stamp) (sym alike) ∙ stay.stamp
 
 -- A pair
-
-fit_then : (newer older : List Happened) → AllFit (newer ++ older) → AllFit older
-fit_then [] older h = h
-fit_then (x ∷ newer) older h = fit_then newer older h.1
 
 no_correction : SyncLaws → (s : Setting) (k : ℕ) (link : LinkCfg) (hop : HopNumbers) (older : List Happened) (start : Happened) (before : List Happened) (held : HeldSync) → link_of s k ≡ Some link → (h : HeldIs s k link hop older start before held) → held.correction ≡ pos 0
 no_correction laws s k link hop older start before held is h =
@@ -270,10 +262,6 @@ too_long sb between x earlier e h =
 pair_if : (P : SyncPair → Type 0) (o : Option SyncPair) → ((p : SyncPair) → o ≡ Some p → P p) → IfSome o P
 pair_if P None f = tt
 pair_if P (Some p) f = f p refl
-
-no_more : (xs : List Happened) → xs ≡ xs ++ []
-no_more [] = refl
-no_more (x ∷ xs) = ap (λ l. x ∷ l) (no_more xs)
 
 -- the earlier events of the chain
 inside : SyncLaws → (s : Setting) (events : List Happened) (k : ℕ) (link : LinkCfg) (hop : HopNumbers) → IsRun s events → AllFit events → link_of s k ≡ Some link → numbers_of s.cfg link.lower ≡ Some hop → (chain : ChainRuns s events k link hop) (front newer earlier : List Happened) →

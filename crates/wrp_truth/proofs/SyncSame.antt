@@ -18,14 +18,14 @@ use Rattle.wrp_world.proofs.RunTimes.{all_given_time, time_never_falls}
 use Rattle.wrp_truth.specs.Moments.{AtEach}
 use Rattle.wrp_truth.specs.Rates.{HasChain}
 use Rattle.wrp_truth.specs.SequenceIds.{IdsComeAgainLate, IsOpenAt, OneTimedAnEvent}
+use Rattle.wrp_truth.proofs.DepartedFrames.{Stayed, frame_stays}
 use Rattle.wrp_truth.proofs.InOrder.{given_frame}
+use Rattle.wrp_truth.proofs.OpenPorts.{open_since}
 use Rattle.wrp_truth.proofs.Sendings.{WasPut, was_put}
 use Rattle.wrp_truth.proofs.Suffixes.{appended, at_newest, at_rest, older_run}
-use Rattle.wrp_truth.proofs.SyncFrames.{Stayed, frame_stays}
 use Rattle.wrp_truth.proofs.SyncGiven.{IsSync}
 use Rattle.wrp_truth.proofs.SyncHanded.{either_end}
-use Rattle.wrp_truth.proofs.SyncMasters.{MasterLaws, is_timed, master_open_each, sent_sync}
-use Rattle.wrp_truth.proofs.SyncOpen.{open_since}
+use Rattle.wrp_truth.proofs.SyncMasters.{MasterLaws, master_open_each, sent_sync}
 use Rattle.wrp_truth.proofs.SyncSends.{FollowedIn, Follows}
 
 -- The frame that departed as a Follow_Up was put out
@@ -156,27 +156,27 @@ in_time s z events newer old r e at =
 not_after : SameLaws → (s : Setting) (k : ℕ) (link : LinkCfg) (gap older : List Happened) (x y : Sending) → IsRun s (gap ++ older) → link_of s k ≡ Some link → (two : TwoSyncs s k gap older x y) → (a : WasPut s older k Master x) (b : WasPut s (gap ++ older) k Master y) →
     (between : List Happened) → a.older ≡ between ++ b.older → b.newer ≡ (gap ++ a.newer) ++ between → AtEach (IsOpenAt s link Master) b.newer b.older → x ≡ y
 not_after laws s k link gap older x y run is two a b [] end front open_all =
-    laws.one s (gap ++ older) k link Master x y run is two.put_still two.put_other (is_timed x.message.body two.first) (is_timed y.message.body two.other) (a.in_it.moment ∙ ap length end ∙ sym b.in_it.moment)
+    laws.one s (gap ++ older) k link Master x y run is two.put_still two.put_other two.first two.other (a.in_it.moment ∙ ap length end ∙ sym b.in_it.moment)
 not_after laws s k link gap older x y run is two a b (z ∷ between) end front open_all =
     let whole : gap ++ older ≡ (gap ++ a.newer) ++ a.older = ap (λ l. gap ++ l) a.splits ∙ sym (appended gap a.newer a.older) in
     let run_here : IsRun s ((z ∷ between) ++ b.older) = subst (IsRun s) end (older_run s (gap ++ a.newer) a.older (subst (IsRun s) whole run)) in
     let opens : AtEach (IsOpenAt s link Master) (z ∷ between) b.older = at_rest (IsOpenAt s link Master) (gap ++ a.newer) (z ∷ between) b.older (subst (λ l. AtEach (IsOpenAt s link Master) l b.older) front open_all) in
     let later : (y.at +ℤ pos (again s)) ≤ℤ x.at =
     laws.late s (z ∷ between) b.older k link Master y x run_here is b.in_it.put b.in_it.moment (subst (λ l. WasPutOut x ((world_after s l).end_at k Master).sent) end a.in_it.put)
-    (is_timed y.message.body two.other) (is_timed x.message.body two.first) (sym two.same) opens (less_length z between b.older y.moment x.moment b.in_it.moment (a.in_it.moment ∙ ap length end)) in
+    two.other two.first (sym two.same) opens (less_length z between b.older y.moment x.moment b.in_it.moment (a.in_it.moment ∙ ap length end)) in
     absurd (much_too_late x.at y.at (world_after s (gap ++ older)).time (again s) (ring_time s) (frame_life s.cfg) later (in_time s x (gap ++ older) (gap ++ a.newer) a.older run whole a.in_it.at) two.near_other run.network.accepted.inequalities.id_reuse)
 
 -- nor before it
 not_sooner : SameLaws → (s : Setting) (k : ℕ) (link : LinkCfg) (gap older : List Happened) (x y : Sending) → IsRun s (gap ++ older) → link_of s k ≡ Some link → (two : TwoSyncs s k gap older x y) → (a : WasPut s older k Master x) (b : WasPut s (gap ++ older) k Master y) →
     (between : List Happened) → b.older ≡ between ++ a.older → gap ++ a.newer ≡ b.newer ++ between → AtEach (IsOpenAt s link Master) (gap ++ a.newer) a.older → x ≡ y
 not_sooner laws s k link gap older x y run is two a b [] end front open_all =
-    laws.one s (gap ++ older) k link Master x y run is two.put_still two.put_other (is_timed x.message.body two.first) (is_timed y.message.body two.other) (a.in_it.moment ∙ ap length (sym end) ∙ sym b.in_it.moment)
+    laws.one s (gap ++ older) k link Master x y run is two.put_still two.put_other two.first two.other (a.in_it.moment ∙ ap length (sym end) ∙ sym b.in_it.moment)
 not_sooner laws s k link gap older x y run is two a b (z ∷ between) end front open_all =
     let run_here : IsRun s ((z ∷ between) ++ a.older) = subst (IsRun s) end (older_run s b.newer b.older (subst (IsRun s) b.splits run)) in
     let opens : AtEach (IsOpenAt s link Master) (z ∷ between) a.older = at_rest (IsOpenAt s link Master) b.newer (z ∷ between) a.older (subst (λ l. AtEach (IsOpenAt s link Master) l a.older) front open_all) in
     let later : (x.at +ℤ pos (again s)) ≤ℤ y.at =
     laws.late s (z ∷ between) a.older k link Master x y run_here is a.in_it.put a.in_it.moment (subst (λ l. WasPutOut y ((world_after s l).end_at k Master).sent) end b.in_it.put)
-    (is_timed x.message.body two.first) (is_timed y.message.body two.other) two.same opens (less_length z between a.older x.moment y.moment a.in_it.moment (b.in_it.moment ∙ ap length end)) in
+    two.first two.other two.same opens (less_length z between a.older x.moment y.moment a.in_it.moment (b.in_it.moment ∙ ap length end)) in
     absurd (too_late x.at y.at (world_after s (gap ++ older)).time (again s) (ring_time s) (frame_life s.cfg) later (in_time s y (gap ++ older) b.newer b.older run b.splits b.in_it.at) two.near run.network.accepted.inequalities.id_reuse)
 
 -- they are one
@@ -197,9 +197,9 @@ same_sending laws s k link gap older x y run is chain two =
     subst (λ l. (world_after s l).time ≤ℤ ((world_after s b.older).time +ℤ pos (2 * frame_life s.cfg))) b.splits
     (subst (λ t. (world_after s (gap ++ older)).time ≤ℤ (t +ℤ pos (2 * frame_life s.cfg))) b.in_it.at two.near_other) in
     let since_a : AtEach (IsOpenAt s link Master) a.newer a.older =
-    open_since laws.master.chains.lease.quiet s a.newer a.older k link run_a is (sent_sync laws.master s a.older k link x is two.first a.in_it).open_then first_open soon_a in
+    open_since laws.master.chains.lease.quiet s a.newer a.older Master link run_a (sent_sync laws.master s a.older k link x is two.first a.in_it).open_then first_open soon_a in
     let since_b : AtEach (IsOpenAt s link Master) b.newer b.older =
-    open_since laws.master.chains.lease.quiet s b.newer b.older k link run_b is (sent_sync laws.master s b.older k link y is two.other b.in_it).open_then last_open soon_b in
+    open_since laws.master.chains.lease.quiet s b.newer b.older Master link run_b (sent_sync laws.master s b.older k link y is two.other b.in_it).open_then last_open soon_b in
     let all_a : AtEach (IsOpenAt s link Master) (gap ++ a.newer) a.older =
     at_both (IsOpenAt s link Master) gap a.newer a.older (subst (AtEach (IsOpenAt s link Master) gap) a.splits open_each) since_a in
     let whole : gap ++ older ≡ (gap ++ a.newer) ++ a.older = ap (λ l. gap ++ l) a.splits ∙ sym (appended gap a.newer a.older) in

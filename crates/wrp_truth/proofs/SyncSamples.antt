@@ -4,8 +4,8 @@ use Rattle.std.proofs.lemmas.Bool.Decides.{eqb_tells}
 use Rattle.wrp_base.specs.declared.link.Role.TheVariants.{Slave}
 use Rattle.wrp_base.specs.declared.message.PtpMsg.{PtpMsg}
 use Rattle.wrp_base.specs.declared.network.LinkCfg.{LinkCfg}
-use Rattle.wrp_exch.specs.Call.{Call as Piece, CallStart, CallClear, CallSample as SamplePiece, CallSync, CallFollowUp, CallReqOut, CallReqSent, CallResp}
 use Rattle.wrp_exch.specs.declared.ring.GoodSample.{GoodSample}
+use Rattle.wrp_exch.specs.Call.{Call as Piece, CallStart, CallClear, CallSample as SamplePiece, CallSync, CallFollowUp, CallReqOut, CallReqSent, CallResp}
 use Rattle.wrp_exch.specs.Samples.{samples}
 use Rattle.wrp_frame.specs.declared.fault.FrameFault.{FrameFault}
 use Rattle.wrp_node.specs.declared.interface.Input.TheVariants.{Sample as SampleInput}
@@ -14,11 +14,11 @@ use Rattle.wrp_node.specs.NodeStep.{node_step}
 use Rattle.wrp_node.specs.SetLaws.{EndsAreSet}
 use Rattle.wrp_port.specs.Outputs.{with_call}
 use Rattle.wrp_servo.specs.Call.{CallLease, CallLink, CallSample, CallMeasured, CallTick, CallCarrier, CallReset, Settings, run}
-use Rattle.wrp_servo.specs.Laws.{ChainSince, PhaseMovesByTags}
+use Rattle.wrp_servo.specs.Laws.{PhaseMovesByTags}
 use Rattle.wrp_servo.specs.Tags.{heard_tag}
 use Rattle.wrp_tracking.specs.Chain.{Good}
 use Rattle.wrp_world.specs.declared.event.Event.{Event}
-use Rattle.wrp_world.specs.declared.event.Event.TheVariants.{Pass, Tick, Sample, Depart, Arrive, Deliver, Noise, Down, Up, Cut, Join}
+use Rattle.wrp_world.specs.declared.event.Event.TheVariants.{Tick, Sample, Depart, Deliver, Noise, Up}
 use Rattle.wrp_world.specs.Given.{Given, given_plain, step_of, taken_of, world_step}
 use Rattle.wrp_world.specs.Moved.{moved, waiting_at}
 use Rattle.wrp_world.specs.Run.{Happened, world_after}
@@ -30,16 +30,14 @@ use Rattle.wrp_world.proofs.RunTimes.{comes_up_down}
 use Rattle.wrp_truth.specs.Chains.{good_in, phase_in}
 use Rattle.wrp_truth.specs.Exchanges.{exchange_at}
 use Rattle.wrp_truth.specs.Rates.{HasChain}
-use Rattle.wrp_truth.proofs.Inputs.{GivesTo, node_kept}
-use Rattle.wrp_truth.proofs.LiveChains.{IsNoSampleInput, Stands, input_stood, sample_keeps, sample_stood, unheard_first}
+use Rattle.wrp_truth.proofs.Basics.{not_true}
+use Rattle.wrp_truth.proofs.LiveChains.{Stands, sample_keeps, sample_stood, unheard_first}
 use Rattle.wrp_truth.proofs.Parents.{not_up}
-use Rattle.wrp_truth.proofs.Quiets.{slave_is}
+use Rattle.wrp_truth.proofs.PortRoles.{role_is}
+use Rattle.wrp_truth.proofs.SampleEvents.{stood_before}
 use Rattle.wrp_truth.proofs.StepCalls.{IsTelling, KeptBy}
 use Rattle.wrp_truth.proofs.SyncGiven.{ComesOf, GivenLaws, Grown, carriers_grown, deliver_grown, noise_grown, queue_grown, slave_at, tick_grown}
 use Rattle.wrp_truth.proofs.SyncTold.{Starts, sample_adds, sample_piece, sample_starts, sampled}
-
-not_true : false ≡ true → ⊥
-not_true e = cc
 
 -- A sample of the node
 
@@ -138,52 +136,26 @@ event_grown laws ends s says y before (Tick m) k link run is up was chain = elim
   | inr x ↦ carriers_grown laws.since s (record { event = Tick m; says = says; answer = y }) before k link run.network is x.1 refl chain
 ]
 event_grown laws ends s says y before (Sample m base bits) k link run is up was chain = elim (eqb_tells link.lower m) [
-  | inl x ↦ sample_grown laws s says y before m base bits k link run.network (slave_is ends s run.network k link is) is x.1 was chain
+  | inl x ↦ sample_grown laws s says y before m base bits k link run.network (role_is ends s run.network k Slave link is) is x.1 was chain
   | inr x ↦ carriers_grown laws.since s (record { event = Sample m base bits; says = says; answer = y }) before k link run.network is x.1 (no_good_of (link.lower == m) _ x.0) chain
 ]
 event_grown laws ends s says y before (Depart m p stamp) k link run is up was chain =
     let w : WorldAt = world_after s before in
     queue_grown laws.since s (record { event = Depart m p stamp; says = says; answer = y }) before k link (moved s w (Depart m p stamp)) m p stamp (w.clock m).samples (waiting_at w (place_of s m p)) run.network is refl refl chain
 event_grown laws ends s says y before (Deliver i) k link run is up was chain =
-    deliver_grown laws.since s says y before i k link ((world_after s before).frame i) run.network (slave_is ends s run.network k link is) is refl chain
+    deliver_grown laws.since s says y before i k link ((world_after s before).frame i) run.network (role_is ends s run.network k Slave link is) is refl chain
 event_grown laws ends s says y before (Noise m p octets raw) k link run is up was chain = noise_grown laws.since s says y before m p octets raw k link run.network is run.accepted.0 chain
 event_grown laws ends s says y before (Up m off swaps) k link run is up was chain =
     carriers_grown laws.since s (record { event = Up m off swaps; says = says; answer = y }) before k link run.network is
     (λ same. not_up ((world_after s before).clock link.lower).up up (subst (λ n. not (not ((world_after s before).clock n).up) ≡ false) (sym same) (comes_up_down s (world_after s before) says m off swaps run.accepted.0)))
     refl chain
-event_grown laws ends s says y before (Pass dt drifts fibres) k link run is up was chain = carriers_grown laws.since s (record { event = Pass dt drifts fibres; says = says; answer = y }) before k link run.network is tt refl chain
-event_grown laws ends s says y before (Arrive i raw) k link run is up was chain = carriers_grown laws.since s (record { event = Arrive i raw; says = says; answer = y }) before k link run.network is tt refl chain
-event_grown laws ends s says y before (Down m) k link run is up was chain = carriers_grown laws.since s (record { event = Down m; says = says; answer = y }) before k link run.network is tt refl chain
-event_grown laws ends s says y before (Cut l) k link run is up was chain = carriers_grown laws.since s (record { event = Cut l; says = says; answer = y }) before k link run.network is tt refl chain
-event_grown laws ends s says y before (Join l ms sm) k link run is up was chain = carriers_grown laws.since s (record { event = Join l ms sm; says = says; answer = y }) before k link run.network is tt refl chain
+event_grown laws ends s says y before e k link run is up was chain = carriers_grown laws.since s (record { event = e; says = says; answer = y }) before k link run.network is tt refl chain
 
 pub grown : GivenLaws → EndsAreSet → (s : Setting) (h : Happened) (before : List Happened) (k : ℕ) (link : LinkCfg) → IsRun s (h ∷ before) → link_of s k ≡ Some link → ((world_after s before).clock link.lower).up ≡ true → HasChain s link.lower before → HasChain s link.lower (h ∷ before) →
     Grown s before h k link ((world_after s (h ∷ before)).node link.lower)
 grown laws ends s h before k link run is up was chain = event_grown laws ends s h.says h.answer before h.event k link run is up was chain
 
 -- The start of a chain
-
-abbrev IsNoSampleOf : ℕ → Event → Type 0
-IsNoSampleOf n (Sample m base bits) = n ≡ m → ⊥
-IsNoSampleOf n _ = Unit {0}
-
-no_sample_to : (n : ℕ) (e : Event) → IsNoSampleOf n e → GivesTo IsNoSampleInput n e
-no_sample_to n (Tick m) h = λ is. tt
-no_sample_to n (Sample m base bits) h = λ is number. absurd (h is)
-no_sample_to n (Depart m p stamp) h = λ q seq delay t. tt
-no_sample_to n (Deliver i) h = λ q octets raw sample. tt
-no_sample_to n (Noise m p octets raw) h = λ sample. tt
-no_sample_to n (Down m) h = λ q. tt
-no_sample_to n (Up m off swaps) h = (λ is. tt, λ q own_module. tt)
-no_sample_to n (Cut k) h = λ q. tt
-no_sample_to n (Join k ms sm) h = λ q own_module. tt
-no_sample_to n (Pass dt drifts fibres) h = tt
-no_sample_to n (Arrive i raw) h = tt
-
-other_stood : ChainSince → (s : Setting) (h : Happened) (before : List Happened) (n : ℕ) → IsNoSampleOf n h.event → HasChain s n (h ∷ before) → HasChain s n before
-other_stood law s h before n none =
-    node_kept (λ (m : NodeAt). Stands (run (settings_of (fixed_of s n)) m.calls) → HasChain s n before) IsNoSampleInput s h.says h.answer (world_after s before) h.event n
-    (λ t m q old. input_stood law (fixed_of s n) ((world_after s before).node n).calls t m q old) (no_sample_to n h.event none) (λ chain. chain)
 
 -- its first good sample, with which the exchange was told of it
 pub record Begun (s : Setting) (start : Happened) (before : List Happened) (link : LinkCfg) : Type 0 where
@@ -217,19 +189,10 @@ sample_begun laws s says y before m base bits k link net role is same out chain 
 event_begun : GivenLaws → EndsAreSet → (s : Setting) (says : Result PtpMsg FrameFault) (y : ℤ) (before : List Happened) (e : Event) (k : ℕ) (link : LinkCfg) → IsRun s (record { event = e; says = says; answer = y } ∷ before) → link_of s k ≡ Some link →
     (HasChain s link.lower before → ⊥) → HasChain s link.lower (record { event = e; says = says; answer = y } ∷ before) → Begun s (record { event = e; says = says; answer = y }) before link
 event_begun laws ends s says y before (Sample m base bits) k link run is out chain = elim (eqb_tells link.lower m) [
-  | inl x ↦ sample_begun laws s says y before m base bits k link run.network (slave_is ends s run.network k link is) is x.1 out chain
-  | inr x ↦ absurd (out (other_stood laws.since s (record { event = Sample m base bits; says = says; answer = y }) before link.lower x.1 chain))
+  | inl x ↦ sample_begun laws s says y before m base bits k link run.network (role_is ends s run.network k Slave link is) is x.1 out chain
+  | inr x ↦ absurd (out (stood_before laws.since s (record { event = Sample m base bits; says = says; answer = y }) before link.lower x.1 chain))
 ]
-event_begun laws ends s says y before (Pass dt drifts fibres) k link run is out chain = absurd (out (other_stood laws.since s (record { event = Pass dt drifts fibres; says = says; answer = y }) before link.lower tt chain))
-event_begun laws ends s says y before (Tick m) k link run is out chain = absurd (out (other_stood laws.since s (record { event = Tick m; says = says; answer = y }) before link.lower tt chain))
-event_begun laws ends s says y before (Depart m p stamp) k link run is out chain = absurd (out (other_stood laws.since s (record { event = Depart m p stamp; says = says; answer = y }) before link.lower tt chain))
-event_begun laws ends s says y before (Arrive i raw) k link run is out chain = absurd (out (other_stood laws.since s (record { event = Arrive i raw; says = says; answer = y }) before link.lower tt chain))
-event_begun laws ends s says y before (Deliver i) k link run is out chain = absurd (out (other_stood laws.since s (record { event = Deliver i; says = says; answer = y }) before link.lower tt chain))
-event_begun laws ends s says y before (Noise m p octets raw) k link run is out chain = absurd (out (other_stood laws.since s (record { event = Noise m p octets raw; says = says; answer = y }) before link.lower tt chain))
-event_begun laws ends s says y before (Down m) k link run is out chain = absurd (out (other_stood laws.since s (record { event = Down m; says = says; answer = y }) before link.lower tt chain))
-event_begun laws ends s says y before (Up m off swaps) k link run is out chain = absurd (out (other_stood laws.since s (record { event = Up m off swaps; says = says; answer = y }) before link.lower tt chain))
-event_begun laws ends s says y before (Cut l) k link run is out chain = absurd (out (other_stood laws.since s (record { event = Cut l; says = says; answer = y }) before link.lower tt chain))
-event_begun laws ends s says y before (Join l ms sm) k link run is out chain = absurd (out (other_stood laws.since s (record { event = Join l ms sm; says = says; answer = y }) before link.lower tt chain))
+event_begun laws ends s says y before e k link run is out chain = absurd (out (stood_before laws.since s (record { event = e; says = says; answer = y }) before link.lower tt chain))
 
 pub begun : GivenLaws → EndsAreSet → (s : Setting) (start : Happened) (before : List Happened) (k : ℕ) (link : LinkCfg) → IsRun s (start ∷ before) → link_of s k ≡ Some link → (HasChain s link.lower before → ⊥) → HasChain s link.lower (start ∷ before) → Begun s start before link
 begun laws ends s start before k link run is out chain = event_begun laws ends s start.says start.answer before start.event k link run is out chain

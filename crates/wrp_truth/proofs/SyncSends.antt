@@ -1,47 +1,37 @@
 -- A Follow_Up is put out as its Sync departs, and tells the stamp of that departure.
-use Rattle.std.proofs.Common.{◌≡◌, ◌⊎◌, inl, inr, ◌∙◌, refl, ap, sym, subst, ℕ, ◌+◌, ◌≤◌, ◌==◌, ◌&&◌, ℤ, Bool, true, false, if◌then◌else◌, List, [], ◌∷◌, ◌++◌, map, length, Option, None, Some, Result, Ok, Err, arith}
-use Rattle.std.proofs.lemmas.Bool.{eqb-true}
-use Rattle.std.proofs.lemmas.Bool.Decides.{eqb_tells}
+use Rattle.std.proofs.Common.{◌≡◌, ◌⊎◌, inl, inr, ◌∙◌, refl, ap, sym, subst, ℕ, ℤ, Bool, true, false, List, [], ◌∷◌, ◌++◌, map, Option, None, Some, Result}
 use Rattle.std.specs.List.{AllByRecursion}
 use Rattle.wrp_base.specs.declared.link.Role.{Role}
 use Rattle.wrp_base.specs.declared.link.Role.TheVariants.{Master, Slave}
 use Rattle.wrp_base.specs.declared.message.Body.{Body}
 use Rattle.wrp_base.specs.declared.message.Body.TheVariants.{Sync, DelayReq, FollowUp, DelayResp, Announce, Signal}
-use Rattle.wrp_base.specs.declared.message.Head.{Head}
 use Rattle.wrp_base.specs.declared.message.PtpMsg.{PtpMsg}
-use Rattle.wrp_base.specs.declared.message.WrMsg.{WrMsg}
 use Rattle.wrp_base.specs.declared.network.LinkCfg.{LinkCfg}
-use Rattle.wrp_base.specs.declared.time.Raw.{Raw}
-use Rattle.wrp_base.specs.declared.time.Stamp.{Stamp}
-use Rattle.wrp_data.specs.declared.reason.Reason.{Reason}
 use Rattle.wrp_frame.specs.declared.fault.FrameFault.{FrameFault}
 use Rattle.wrp_node.specs.declared.interface.Input.{Input}
 use Rattle.wrp_node.specs.declared.interface.Input.TheVariants.{Tick as TickInput, Sample as SampleInput, Frame, Sent, Carrier, Reset}
-use Rattle.wrp_node.specs.NodeAt.{Fixed, NodeAt, Taken, certain_of, line_at, link_at, locked_of, setting_of}
-use Rattle.wrp_node.specs.NodeStep.{heard, heard_unless, node_step, servo_ticked, stamp_of, stepped}
-use Rattle.wrp_node.specs.Telling.{Step}
-use Rattle.wrp_port.specs.declared.interface.PortIn.TheVariants.{Msg, Tick as PortTick, Sent as PortSent}
+use Rattle.wrp_node.specs.NodeAt.{Fixed, NodeAt, Taken, certain_of, line_at, locked_of, setting_of}
+use Rattle.wrp_node.specs.NodeStep.{node_step, servo_ticked}
 use Rattle.wrp_port.specs.declared.line.Line.{Line}
 use Rattle.wrp_port.specs.declared.setting.Setting.{Setting as PortSetting}
-use Rattle.wrp_port.specs.Hearing.{early_reason, is_open, link_input}
-use Rattle.wrp_port.specs.LineAfter.{announces_on, requests_on, syncs_on, ticked}
-use Rattle.wrp_port.specs.Messages.{announce_of, follow_up_of, next_id, request_of, signals_of, sync_of}
-use Rattle.wrp_port.specs.Outputs.{is_newest, link_sends, response_to, scheduled_sends, sends_of, sends_unless, where_due}
+use Rattle.wrp_port.specs.LineAfter.{ticked}
+use Rattle.wrp_port.specs.Messages.{follow_up_of}
 use Rattle.wrp_world.specs.declared.event.Event.{Event}
 use Rattle.wrp_world.specs.declared.event.Event.TheVariants.{Pass, Tick, Sample, Depart, Arrive, Deliver, Noise, Down, Up, Cut, Join}
 use Rattle.wrp_world.specs.declared.place.Place.{Place}
-use Rattle.wrp_world.specs.Given.{Given, end_given, given_by, given_plain, gives, gives_all, put_out, sending, sent_oldest, step_of, taken_of, told_sending, world_step}
+use Rattle.wrp_world.specs.Given.{Given, given_plain, gives, gives_all, sending, sent_oldest, step_of, taken_of, told_sending, world_step}
 use Rattle.wrp_world.specs.Moved.{moved, waiting_at}
 use Rattle.wrp_world.specs.Run.{Happened, world_after}
 use Rattle.wrp_world.specs.Runs.{IsNetwork, WasPutOut}
 use Rattle.wrp_world.specs.Setting.{Setting, end_of, fixed_of, link_of, place_of}
-use Rattle.wrp_world.specs.WorldAt.{EndAt, Sending, WorldAt}
-use Rattle.wrp_world.proofs.RunFrames.{moved_sent}
+use Rattle.wrp_world.specs.WorldAt.{Sending, WorldAt}
 use Rattle.wrp_world.proofs.RunGiven.{end_is}
 use Rattle.wrp_world.proofs.RunNetwork.{LinkEnd, are_apart, end_with, place_end}
-use Rattle.wrp_world.proofs.RunPorts.{told_end}
-use Rattle.wrp_truth.proofs.Inputs.{GivesTo, To, gives_to}
-use Rattle.wrp_truth.proofs.Sendings.{PutOutIn, WasPut, was_put}
+use Rattle.wrp_truth.proofs.Basics.{not_true}
+use Rattle.wrp_truth.proofs.Inputs.{GivesTo}
+use Rattle.wrp_truth.proofs.PutOut.{given_put, moved_back, none_put}
+use Rattle.wrp_truth.proofs.Sendings.{PutOutIn, WasPut, was_put, is_new}
+use Rattle.wrp_truth.proofs.StepSends.{ScheduledAll, SentBy, step_each}
 use Rattle.wrp_truth.proofs.SyncGiven.{IsSync}
 
 abbrev pub IsFollowUp : Body → Type 0
@@ -54,50 +44,6 @@ IsFollowUp _ = ⊥
 abbrev pub OnlySo : (PtpMsg → Type 0) → List PtpMsg → Type 0
 OnlySo Q ms = AllByRecursion (λ m. IsFollowUp m.body → Q m) ms
 
-both_so : (Q : PtpMsg → Type 0) (xs ys : List PtpMsg) → OnlySo Q xs → OnlySo Q ys → OnlySo Q (xs ++ ys)
-both_so Q [] ys h k = k
-both_so Q (x ∷ xs) ys h k = (h.0, both_so Q xs ys h.1 k)
-
-due_so : (Q : PtpMsg → Type 0) (due : Bool) (m : PtpMsg) → (IsFollowUp m.body → Q m) → OnlySo Q (where_due due m)
-due_so Q true m h = (h, tt)
-due_so Q false m h = tt
-
-signals_so : (Q : PtpMsg → Type 0) (set : PortSetting) (seq : ℕ) (ms : List WrMsg) → OnlySo Q (signals_of set seq ms)
-signals_so Q set seq [] = tt
-signals_so Q set seq (m ∷ ms) = (λ f. absurd f, signals_so Q set (next_id seq) ms)
-
--- A port
-
-scheduled_so : (Q : PtpMsg → Type 0) (set : PortSetting) (role : Role) (line : Line) (certain : Bool) → OnlySo Q (scheduled_sends set role line certain)
-scheduled_so Q set Master line certain =
-    both_so Q (where_due (announces_on line) (announce_of set line.link certain line.ids.announce)) (where_due (syncs_on line) (sync_of set line.ids.sync))
-    (due_so Q (announces_on line) (announce_of set line.link certain line.ids.announce) (λ f. absurd f)) (due_so Q (syncs_on line) (sync_of set line.ids.sync) (λ f. absurd f))
-scheduled_so Q set Slave line certain = due_so Q (requests_on line) (request_of set line.ids.request) (λ f. absurd f)
-
-tick_so : (Q : PtpMsg → Type 0) (set : PortSetting) (line : Line) (locked certain : Bool) → OnlySo Q (sends_of set line (PortTick locked certain))
-tick_so Q set line locked certain =
-    both_so Q (signals_of set line.ids.signal _) (scheduled_sends set set.ds.role (ticked set line locked) certain)
-    (signals_so Q set line.ids.signal _) (scheduled_so Q set set.ds.role (ticked set line locked) certain)
-
-response_so : (Q : PtpMsg → Type 0) (set : PortSetting) (role : Role) (head : Head) (body : Body) (stamp : Stamp) → OnlySo Q (response_to set role head body stamp)
-response_so Q set Master head (DelayReq origin) stamp = (λ f. absurd f, tt)
-response_so Q set Master head (Sync origin) stamp = tt
-response_so Q set Master head (FollowUp precise) stamp = tt
-response_so Q set Master head (DelayResp receive requesting) stamp = tt
-response_so Q set Master head (Announce origin utc p1 quality p2 gm steps source suffix) stamp = tt
-response_so Q set Master head (Signal target message) stamp = tt
-response_so Q set Slave head body stamp = tt
-
-heard_so : (Q : PtpMsg → Type 0) (set : PortSetting) (line : Line) (m : PtpMsg) (stamp : Stamp) (reason : Option Reason) → OnlySo Q (sends_unless reason set line m stamp)
-heard_so Q set line m stamp None =
-    both_so Q (signals_of set line.ids.signal (link_sends line.link (link_input set.ds.role m.body))) (response_to set set.ds.role m.head m.body stamp)
-    (signals_so Q set line.ids.signal (link_sends line.link (link_input set.ds.role m.body))) (response_so Q set set.ds.role m.head m.body stamp)
-heard_so Q set line m stamp (Some reason) = tt
-
-there_so : (Q : PtpMsg → Type 0) (b : Bool) (ms : List PtpMsg) → (b ≡ true → OnlySo Q ms) → OnlySo Q (if b then ms else [])
-there_so Q true ms h = h refl
-there_so Q false ms h = tt
-
 -- An input of a node
 
 -- the sending of a Sync is told, and this is its Follow_Up
@@ -105,48 +51,23 @@ abbrev pub FollowsFrom : Fixed → ℕ → Input → PtpMsg → Type 0
 FollowsFrom fixed p (Sent q seq false stamp) m = (p ≡ q) × (m ≡ follow_up_of (setting_of fixed.set p) seq stamp)
 FollowsFrom fixed p _ m = ⊥
 
-unless_so : (Q : PtpMsg → Type 0) (fixed : Fixed) (n : NodeAt) (q : ℕ) (m : PtpMsg) (stamp : Stamp) (tick : ℕ) (answer : ℤ) (p : ℕ) (reason : Option Reason) → OnlySo Q ((heard_unless reason fixed q (Msg m stamp tick) answer n).sends p)
-unless_so Q fixed n q m stamp tick answer p None =
-    there_so Q (p == q) (sends_of (setting_of fixed.set q) (line_at fixed.set n q) (Msg m stamp tick))
-    (λ e. heard_so Q (setting_of fixed.set q) (line_at fixed.set n q) m stamp (early_reason (setting_of fixed.set q) (line_at fixed.set n q).link m))
-unless_so Q fixed n q m stamp tick answer p (Some reason) = tt
+scheduled_follow : (Q : PtpMsg → Type 0) (set : PortSetting) (role : Role) (line : Line) (certain : Bool) → ScheduledAll (λ m. IsFollowUp m.body → Q m) set role line certain
+scheduled_follow Q set Master line certain = (λ e f. absurd f, λ e f. absurd f)
+scheduled_follow Q set Slave line certain = λ e f. absurd f
 
-frame_so : (Q : PtpMsg → Type 0) (fixed : Fixed) (n : NodeAt) (q : ℕ) (says : Result PtpMsg FrameFault) (raw : Raw) (sample : ℕ) (answer : ℤ) (p : ℕ) → OnlySo Q ((heard fixed q says raw sample answer n).sends p)
-frame_so Q fixed n q (Err fault) raw sample answer p = tt
-frame_so Q fixed n q (Ok m) raw sample answer p =
-    unless_so Q fixed n q m (stamp_of fixed n q raw sample) n.ticks answer p (early_reason (setting_of fixed.set q) (link_at fixed.set n q) m)
-
-nothing_so : (Q : PtpMsg → Type 0) (b : Bool) → OnlySo Q (if b then [] else [])
-nothing_so Q true = tt
-nothing_so Q false = tt
-
-stepped_so : (fixed : Fixed) (n : NodeAt) (input : Input) (says : Result PtpMsg FrameFault) (answer : ℤ) (p : ℕ) → OnlySo (FollowsFrom fixed p input) ((stepped fixed input says answer n).sends p)
-stepped_so fixed n TickInput says answer p =
-    tick_so (FollowsFrom fixed p TickInput) (setting_of fixed.set p) (line_at fixed.set (servo_ticked fixed n).node p) (locked_of fixed (servo_ticked fixed n).node) (certain_of fixed (servo_ticked fixed n).node)
-stepped_so fixed n (SampleInput number base bits) says answer p = tt
-stepped_so fixed n (Frame q octets raw sample) says answer p = frame_so (FollowsFrom fixed p (Frame q octets raw sample)) fixed n q says raw sample answer p
-stepped_so fixed n (Sent q seq true stamp) says answer p = nothing_so (FollowsFrom fixed p (Sent q seq true stamp)) (p == q)
-stepped_so fixed n (Sent q seq false stamp) says answer p =
-    there_so (FollowsFrom fixed p (Sent q seq false stamp)) (p == q) (sends_of (setting_of fixed.set q) (line_at fixed.set n q) (PortSent false seq stamp n.ticks))
-    (λ e.
-    let same : p ≡ q = eqb-true p q e in
-    due_so (FollowsFrom fixed p (Sent q seq false stamp)) (is_newest (line_at fixed.set n q).ids.newest_sync seq && is_open (line_at fixed.set n q).link) (follow_up_of (setting_of fixed.set q) seq stamp)
-    (λ f. (same, ap (λ k. follow_up_of (setting_of fixed.set k) seq stamp) (sym same))))
-stepped_so fixed n (Carrier q true own_module) says answer p = nothing_so (FollowsFrom fixed p (Carrier q true own_module)) (p == q)
-stepped_so fixed n (Carrier q false own_module) says answer p = nothing_so (FollowsFrom fixed p (Carrier q false own_module)) (p == q)
-stepped_so fixed n Reset says answer p = tt
+follow_by : (fixed : Fixed) (n : NodeAt) (p : ℕ) (input : Input) (says : Result PtpMsg FrameFault) → SentBy (λ m. IsFollowUp m.body → FollowsFrom fixed p input m) fixed n p input says
+follow_by fixed n p TickInput says = scheduled_follow (FollowsFrom fixed p TickInput) (setting_of fixed.set p) (setting_of fixed.set p).ds.role (ticked (setting_of fixed.set p) (line_at fixed.set (servo_ticked fixed n).node p) (locked_of fixed (servo_ticked fixed n).node)) (certain_of fixed (servo_ticked fixed n).node)
+follow_by fixed n p (SampleInput number base bits) says = tt
+follow_by fixed n p (Frame q octets raw sample) says = λ m is same hears request f. absurd f
+follow_by fixed n p (Sent q seq true stamp) says = λ e same f. absurd (not_true (sym e))
+follow_by fixed n p (Sent q seq false stamp) says = λ e same f. (same, refl)
+follow_by fixed n p (Carrier q up own_module) says = tt
+follow_by fixed n p Reset says = tt
 
 follows_from : (fixed : Fixed) (t : Taken) (n : NodeAt) (p : ℕ) → OnlySo (FollowsFrom fixed p t.input) ((node_step fixed t n).sends p)
-follows_from fixed t n p = stepped_so fixed n t.input t.says t.answer p
+follows_from fixed t n p = step_each (λ m. IsFollowUp m.body → FollowsFrom fixed p t.input m) fixed t n p (λ seq m f. absurd f) (follow_by fixed n p t.input t.says)
 
 -- What an input puts out
-
-put_among : (x : Sending) (xs sent : List Sending) → WasPutOut x (put_out xs sent) → WasPutOut x xs ⊎ WasPutOut x sent
-put_among x [] sent h = inr h
-put_among x (z ∷ xs) sent h = elim (put_among x xs (z ∷ sent) h) [
-  | inl there ↦ inl (inr there)
-  | inr now ↦ elim now [ inl is ↦ inl (inl is) | inr old ↦ inr old ]
-]
 
 sent_so : (Q : PtpMsg → Type 0) (v : WorldAt) (x : Sending) (ms : List PtpMsg) → IsFollowUp x.message.body → OnlySo Q ms → WasPutOut x (map (sending v) ms) → Q x.message
 sent_so Q v x [] f only h = absurd h
@@ -158,25 +79,15 @@ sent_so Q v x (m ∷ ms) f only h = elim h [
 abbrev FollowsBy : Setting → Given → LinkCfg → Sending → Type 0
 FollowsBy s g link x = (link.upper ≡ g.to) × FollowsFrom (fixed_of s g.to) link.upper_port g.input x.message
 
+step_follow : (s : Setting) (y : ℤ) (v : WorldAt) (g : Given) (p : ℕ) (x : Sending) → IsFollowUp x.message.body → WasPutOut x (map (sending v) ((step_of s y v g).sends p)) → FollowsFrom (fixed_of s g.to) p g.input x.message
+step_follow s y v g p x f new = sent_so (FollowsFrom (fixed_of s g.to) p g.input) v x ((step_of s y v g).sends p) f (follows_from (fixed_of s g.to) (taken_of y g) (v.node g.to) p) new
+
 given_follow : (s : Setting) (y : ℤ) (v : WorldAt) (g : Given) (k : ℕ) (link : LinkCfg) (x : Sending) → link_of s k ≡ Some link → IsFollowUp x.message.body → WasPutOut x ((gives s y v g).end_at k Master).sent →
     WasPutOut x (v.end_at k Master).sent ⊎ FollowsBy s g link x
 given_follow s y v g k link x is f h =
-    let step : Step = step_of s y v g in
-    let at_end : (gives s y v g).end_at k Master ≡ (if link.upper == g.to then end_given s v g step k Master link.upper_port else v.end_at k Master) =
-    ap (told_end s v g step k Master) (end_is s k Master link is) in
-    elim (eqb_tells link.upper g.to) [
-      | inl here ↦
-          let told : (gives s y v g).end_at k Master ≡ end_given s v g step k Master link.upper_port =
-          at_end ∙ ap (λ b. if b then end_given s v g step k Master link.upper_port else v.end_at k Master) here.0 in
-          elim (put_among x (map (sending v) (step.sends link.upper_port)) (v.end_at k Master).sent (subst (λ (e : EndAt). WasPutOut x e.sent) told h)) [
-            | inl new ↦
-                inr (here.1, sent_so (FollowsFrom (fixed_of s g.to) link.upper_port g.input) v x (step.sends link.upper_port) f (follows_from (fixed_of s g.to) (taken_of y g) (v.node g.to) link.upper_port) new)
-            | inr old ↦ inl old
-          ]
-      | inr away ↦
-          let told : (gives s y v g).end_at k Master ≡ v.end_at k Master =
-          at_end ∙ ap (λ b. if b then end_given s v g step k Master link.upper_port else v.end_at k Master) away.0 in
-          inl (subst (λ (e : EndAt). WasPutOut x e.sent) told h)
+    elim (given_put s y v g k Master link x is h) [
+      | inl old ↦ inl old
+      | inr new ↦ inr (new.0, step_follow s y v g link.upper_port x f new.1)
     ]
 
 abbrev IsNoSent : Input → Type 0
@@ -190,15 +101,6 @@ no_follow fixed p m (SampleInput number base bits) h f = f
 no_follow fixed p m (Frame q octets raw sample) h f = f
 no_follow fixed p m (Carrier q up own_module) h f = f
 no_follow fixed p m Reset h f = f
-
-none_follow : (s : Setting) (y : ℤ) (gs : List Given) (v : WorldAt) (k : ℕ) (link : LinkCfg) (x : Sending) → link_of s k ≡ Some link → IsFollowUp x.message.body → To IsNoSent link.upper gs →
-    WasPutOut x ((gives_all s y v gs).end_at k Master).sent → WasPutOut x (v.end_at k Master).sent
-none_follow s y [] v k link x is f h put = put
-none_follow s y (g ∷ gs) v k link x is f h put =
-    elim (given_follow s y v g k link x is f (none_follow s y gs (gives s y v g) k link x is f h.1 put)) [
-      | inl old ↦ old
-      | inr now ↦ absurd (no_follow (fixed_of s g.to) link.upper_port x.message g.input (h.0 now.0) now.1)
-    ]
 
 -- A departure of the master's oldest
 
@@ -216,9 +118,6 @@ pub record Follows (s : Setting) (w : WorldAt) (k : ℕ) (link : LinkCfg) (e : E
 
 abbrev FollowIn : Setting → WorldAt → ℕ → LinkCfg → Event → Sending → Type 0
 FollowIn s w k link e x = WasPutOut x (w.end_at k Master).sent ⊎ Follows s w k link e x
-
-before_it : (s : Setting) (w : WorldAt) (e : Event) (k : ℕ) (x : Sending) → WasPutOut x ((moved s w e).end_at k Master).sent → WasPutOut x (w.end_at k Master).sent
-before_it s w e k x h = subst (WasPutOut x) (moved_sent s w e k Master) h
 
 -- what a departure at a port tells of the oldest that waited there
 abbrev Told : Setting → ℕ → LinkCfg → (m p : ℕ) (stamp : ℤ) (samples : ℕ) → List Sending → Sending → Type 0
@@ -281,7 +180,7 @@ depart_follow : (s : Setting) → IsNetwork s → (says : Result PtpMsg FrameFau
     WasPutOut x ((world_step s says y w (Depart m p stamp)).end_at k Master).sent → FollowIn s w k link (Depart m p stamp) x
 depart_follow s net says y w m p stamp k link x is f put =
     elim (queue_told s y (moved s w (Depart m p stamp)) k link m p stamp (w.clock m).samples (waiting_at w (place_of s m p)) x is f put) [
-      | inl old ↦ inl (before_it s w (Depart m p stamp) k x old)
+      | inl old ↦ inl (moved_back s w (Depart m p stamp) k Master x old)
       | inr now ↦ inr (place_told s net w k link m p stamp (w.clock m).samples (place_of s m p) (waiting_at w (place_of s m p)) x is refl refl now)
     ]
 
@@ -305,22 +204,12 @@ no_sent_to n (Arrive i raw) h = tt
 other_follow : (s : Setting) (says : Result PtpMsg FrameFault) (y : ℤ) (w : WorldAt) (e : Event) (k : ℕ) (link : LinkCfg) (x : Sending) → link_of s k ≡ Some link → IsFollowUp x.message.body → GivesNoSent link.upper e →
     WasPutOut x ((world_step s says y w e).end_at k Master).sent → WasPutOut x (w.end_at k Master).sent
 other_follow s says y w e k link x is f none put =
-    before_it s w e k x
-    (none_follow s y (given_by s w (moved s w e) says e) (moved s w e) k link x is f (gives_to IsNoSent s w (moved s w e) says link.upper e (no_sent_to link.upper e none)) put)
+    none_put IsNoSent s says y w e k Master link x is (λ v g input new. no_follow (fixed_of s g.to) link.upper_port x.message g.input input (step_follow s y v g link.upper_port x f new)) (no_sent_to link.upper e none) put
 
 follow_in : (s : Setting) → IsNetwork s → (says : Result PtpMsg FrameFault) (y : ℤ) (w : WorldAt) (e : Event) (k : ℕ) (link : LinkCfg) (x : Sending) → link_of s k ≡ Some link → IsFollowUp x.message.body → WasPutOut x ((world_step s says y w e).end_at k Master).sent →
     FollowIn s w k link e x
 follow_in s net says y w (Depart m p stamp) k link x is f put = depart_follow s net says y w m p stamp k link x is f put
-follow_in s net says y w (Pass dt drifts fibres) k link x is f put = inl (other_follow s says y w (Pass dt drifts fibres) k link x is f tt put)
-follow_in s net says y w (Tick m) k link x is f put = inl (other_follow s says y w (Tick m) k link x is f tt put)
-follow_in s net says y w (Sample m base bits) k link x is f put = inl (other_follow s says y w (Sample m base bits) k link x is f tt put)
-follow_in s net says y w (Arrive i raw) k link x is f put = inl (other_follow s says y w (Arrive i raw) k link x is f tt put)
-follow_in s net says y w (Deliver i) k link x is f put = inl (other_follow s says y w (Deliver i) k link x is f tt put)
-follow_in s net says y w (Noise m p octets raw) k link x is f put = inl (other_follow s says y w (Noise m p octets raw) k link x is f tt put)
-follow_in s net says y w (Down m) k link x is f put = inl (other_follow s says y w (Down m) k link x is f tt put)
-follow_in s net says y w (Up m off swaps) k link x is f put = inl (other_follow s says y w (Up m off swaps) k link x is f tt put)
-follow_in s net says y w (Cut l) k link x is f put = inl (other_follow s says y w (Cut l) k link x is f tt put)
-follow_in s net says y w (Join l ms sm) k link x is f put = inl (other_follow s says y w (Join l ms sm) k link x is f tt put)
+follow_in s net says y w e k link x is f put = inl (other_follow s says y w e k link x is f tt put)
 
 -- Every run
 
@@ -333,23 +222,11 @@ pub record FollowedIn (s : Setting) (events : List Happened) (k : ℕ) (link : L
   pub at : x.at ≡ (world_after s (event ∷ before)).time
   pub follows : Follows s (world_after s before) k link event.event x
 
-too_early : (b c moment : ℕ) → c ≤ b → moment ≡ b + 1 → moment ≡ c → ⊥
-too_early b c moment h e f = omega (arith, h, e, f)
-
-longer : (a b : List Happened) → length b ≤ length (a ++ b)
-longer [] b = omega arith
-longer (x ∷ a) b = let h : length b ≤ length (a ++ b) = longer a b in omega (arith, h)
-
-next_length : (x : Happened) (xs : List Happened) → length (x ∷ xs) ≡ length xs + 1
-next_length x xs = omega arith
-
 followed_now : (s : Setting) → IsNetwork s → (newer older : List Happened) (k : ℕ) (link : LinkCfg) (x : Sending) → link_of s k ≡ Some link → IsFollowUp x.message.body → PutOutIn s older k Master x → FollowedIn s (newer ++ older) k link x
 followed_now s net newer [] k link x is f put = absurd put.put
 followed_now s net newer (h ∷ before) k link x is f put =
     elim (follow_in s net h.says h.answer (world_after s before) h.event k link x is f put.put) [
-      | inl old ↦
-          let it : WasPut s before k Master x = was_put s before k Master x old in
-          absurd (too_early (length before) (length it.older) x.moment (subst (λ l. length it.older ≤ length l) (sym it.splits) (longer it.newer it.older)) (put.moment ∙ next_length h before) it.in_it.moment)
+      | inl old ↦ absurd (is_new s h before k Master x put old)
       | inr now ↦ record { newer = newer; event = h; before = before; splits = refl; at = put.at; follows = now }
     ]
 

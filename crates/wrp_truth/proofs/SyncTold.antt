@@ -1,5 +1,5 @@
 -- What an input of a node adds to the calls of its slave's exchange, while a chain of its servo stands.
-use Rattle.std.proofs.Common.{◌≡◌, ◌∙◌, refl, ap, sym, ℕ, ◌==◌, ◌&&◌, cond, ℤ, Bool, true, false, if◌then◌else◌, is_some, List, ◌∷◌, Option, None, Some, option_map, Result, Ok, Err, arith}
+use Rattle.std.proofs.Common.{◌≡◌, ◌∙◌, refl, ap, sym, ℕ, ◌==◌, ◌&&◌, cond, ℤ, Bool, true, false, if◌then◌else◌, is_some, List, ◌∷◌, Option, None, Some, option_map, Result, Ok, Err}
 use Rattle.std.specs.Prelude.{int_le}
 use Rattle.wrp_base.specs.declared.link.Role.{Role}
 use Rattle.wrp_base.specs.declared.link.Role.TheVariants.{Master, Slave}
@@ -35,25 +35,15 @@ use Rattle.wrp_servo.specs.Servo.{answer_to, news_at, news_of, out_by}
 use Rattle.wrp_servo.specs.Table.{ended, ended_in}
 use Rattle.wrp_servo.specs.Tags.{heard_tag}
 use Rattle.wrp_truth.proofs.LiveChains.{IsNoSample, Stands, stood_before}
-
-not_true : false ≡ true → ⊥
-not_true e = cc
+use Rattle.wrp_truth.proofs.Basics.{none_some, not_true, some_is}
+use Rattle.wrp_world.proofs.RunPorts.{self_equal}
 
 -- What the servo answers, at its slave port
-
-none_some : {A : Type 0} (x : A) → None ≡ Some x → ⊥
-none_some x e = cc
-
-some_same : {A : Type 0} (x y : A) → Some x ≡ Some y → x ≡ y
-some_same x y e = cc
-
-self_equal : (n : ℕ) → (n == n) ≡ true
-self_equal n = grind (arith)
 
 there : (o : Option ℕ) (out : ServoOut) (k : ℕ) (told : ℕ → List PortIn) (p : ℕ) → o ≡ Some p → told_by o out k told p ≡ heard_of out k (told p)
 there None out k told p e = absurd (none_some p e)
 there (Some q) out k told p e =
-    let here : (p == q) ≡ true = ap (λ (n : ℕ). p == n) (some_same q p e) ∙ self_equal p in
+    let here : (p == q) ≡ true = ap (λ (n : ℕ). p == n) (some_is q p e) ∙ self_equal p in
     ap (λ (b : Bool). if b then heard_of out k (told p) else told p) here
 
 -- no sample, and a chain that stood and stands
@@ -163,7 +153,7 @@ settled_adds law fixed n s p o slave now h =
 lease_there : (o : Option ℕ) (p : ℕ) (told : ℕ → List PortIn) → o ≡ Some p → told_slave o Lease told p ≡ Lease ∷ told p
 lease_there None p told e = absurd (none_some p e)
 lease_there (Some q) p told e =
-    let here : (p == q) ≡ true = ap (λ (k : ℕ). p == k) (some_same q p e) ∙ self_equal p in
+    let here : (p == q) ≡ true = ap (λ (k : ℕ). p == k) (some_is q p e) ∙ self_equal p in
     ap (λ (b : Bool). if b then Lease ∷ told p else told p) here
 
 request_other : (b : Bool) (role : Role) (seq : ℕ) → IsOther (only_slave role (if b then Some (CallReqOut seq) else None))

@@ -8,7 +8,7 @@ use Rattle.wrp_base.specs.declared.network.LinkCfg.{LinkCfg}
 use Rattle.wrp_base.specs.declared.time.Raw.{Raw}
 use Rattle.wrp_frame.specs.declared.fault.FrameFault.{FrameFault}
 use Rattle.wrp_world.specs.declared.event.Event.{Event}
-use Rattle.wrp_world.specs.declared.event.Event.TheVariants.{Pass, Tick, Sample, Depart, Arrive, Deliver, Noise, Down, Up, Cut, Join}
+use Rattle.wrp_world.specs.declared.event.Event.TheVariants.{Depart, Arrive, Deliver}
 use Rattle.wrp_world.specs.declared.place.Place.{Place}
 use Rattle.wrp_world.specs.Checks.{AllHold}
 use Rattle.wrp_world.specs.Given.{given_by}
@@ -22,15 +22,9 @@ use Rattle.wrp_world.specs.WorldAt.{Arrival, FrameAt, Sending, WorldAt, is_on_fi
 use Rattle.wrp_truth.specs.FlightOrder.{FramesFollowTheSource}
 use Rattle.wrp_truth.specs.Leases.{last_renewal, renewal_in}
 use Rattle.wrp_truth.proofs.InOrder.{Numbered, Past, all_numbered, flies, frames_arrive_in_order, frames_depart_in_order, given_frame, on_fibre}
-use Rattle.wrp_truth.proofs.Parents.{some_is}
 use Rattle.wrp_truth.proofs.Renewals.{Renewal, renewal_is}
 use Rattle.wrp_truth.proofs.Suffixes.{appended, count_is, older_run}
-
-not_true : false ≡ true → ⊥
-not_true e = cc
-
-none_some : {A : Type 0} (x : A) → None ≡ Some x → ⊥
-none_some x e = cc
+use Rattle.wrp_truth.proofs.Basics.{none_some, not_true, some_is}
 
 -- The event that renewed the lease last
 
@@ -45,16 +39,7 @@ record Handed (s : Setting) (events : List Happened) (k : ℕ) (link : LinkCfg) 
 
 by_event : (s : Setting) (w : WorldAt) (k : ℕ) (link : LinkCfg) (e : Event) (x : Sending) → renewal_in s w k link e ≡ Some x → (i : ℕ) × (e ≡ Deliver i) × Renewal s w i k link x
 by_event s w k link (Deliver i) x e = (i, refl, renewal_is s w i k link x e)
-by_event s w k link (Pass dt drifts fibres) x e = absurd (none_some x e)
-by_event s w k link (Tick m) x e = absurd (none_some x e)
-by_event s w k link (Sample m base bits) x e = absurd (none_some x e)
-by_event s w k link (Depart m p stamp) x e = absurd (none_some x e)
-by_event s w k link (Arrive i raw) x e = absurd (none_some x e)
-by_event s w k link (Noise m p octets raw) x e = absurd (none_some x e)
-by_event s w k link (Down m) x e = absurd (none_some x e)
-by_event s w k link (Up m off swaps) x e = absurd (none_some x e)
-by_event s w k link (Cut l) x e = absurd (none_some x e)
-by_event s w k link (Join l ms sm) x e = absurd (none_some x e)
+by_event s w k link other x e = absurd (none_some x e)
 
 first_or : (o p : Option Sending) (x : Sending) → option_or o p ≡ Some x → (o ≡ Some x) ⊎ (p ≡ Some x)
 first_or (Some y) p x e = inl e
@@ -119,15 +104,7 @@ kept_arrived s w says m raw f i (Some x) (Some g) a at h =
 kept_event : (s : Setting) (w : WorldAt) (says : Result PtpMsg FrameFault) (e : Event) (f : FrameAt) (i : ℕ) → Accepts s w says e → Numbered w.departed w.count i (w.frame i) → KeptAs f (w.frame i) → KeptAs f (frame_after s w e i)
 kept_event s w says (Depart n p stamp) f i a n1 h = kept_departing w f (place_of s n p) stamp (waiting_at w (place_of s n p)) i (numbered_of f w.departed w.count i (w.frame i) h n1) h
 kept_event s w says (Arrive m raw) f i a n1 h = kept_arrived s w says m raw f i (w.frame m) (w.frame i) a refl h
-kept_event s w says (Pass dt drifts fibres) f i a n1 h = kept_removed s (Pass dt drifts fibres) f (w.frame i) h
-kept_event s w says (Tick n) f i a n1 h = kept_removed s (Tick n) f (w.frame i) h
-kept_event s w says (Sample n base bits) f i a n1 h = kept_removed s (Sample n base bits) f (w.frame i) h
-kept_event s w says (Deliver m) f i a n1 h = kept_removed s (Deliver m) f (w.frame i) h
-kept_event s w says (Noise n p octets raw) f i a n1 h = kept_removed s (Noise n p octets raw) f (w.frame i) h
-kept_event s w says (Down n) f i a n1 h = kept_removed s (Down n) f (w.frame i) h
-kept_event s w says (Up n off swaps) f i a n1 h = kept_removed s (Up n off swaps) f (w.frame i) h
-kept_event s w says (Cut l) f i a n1 h = kept_removed s (Cut l) f (w.frame i) h
-kept_event s w says (Join l ms sm) f i a n1 h = kept_removed s (Join l ms sm) f (w.frame i) h
+kept_event s w says e f i a n1 h = kept_removed s e f (w.frame i) h
 
 kept_on : (s : Setting) (newer older : List Happened) (f : FrameAt) (i : ℕ) → AllAccepted s (newer ++ older) → KeptAs f ((world_after s older).frame i) → KeptAs f ((world_after s (newer ++ older)).frame i)
 kept_on s [] older f i a h = h

@@ -11,7 +11,7 @@ use Rattle.wrp_node.specs.NodeAt.{NodeAt}
 use Rattle.wrp_node.specs.StepLaws.{TicksAreCounted, ticks_by}
 use Rattle.wrp_tracking.specs.Ticks.{TickStep}
 use Rattle.wrp_world.specs.declared.event.Event.{Event}
-use Rattle.wrp_world.specs.declared.event.Event.TheVariants.{Pass, Tick, Sample, Depart, Arrive, Deliver, Noise, Down, Up, Cut, Join}
+use Rattle.wrp_world.specs.declared.event.Event.TheVariants.{Tick, Up}
 use Rattle.wrp_world.specs.Given.{given_plain, taken_of, world_step}
 use Rattle.wrp_world.specs.Run.{Happened, world_after}
 use Rattle.wrp_world.specs.RunLaws.{TicksAreApart}
@@ -75,15 +75,7 @@ tick_step counted apart s says y before (Tick m) n run inside was up = elim (eqb
 tick_step counted apart s says y before (Up m off swaps) n run inside was up =
     passes counted apart s (record { event = Up m off swaps; says = says; answer = y }) before n run inside up
     (λ same. not_up ((world_after s before).clock n).up was (subst (λ i. not (not ((world_after s before).clock i).up) ≡ false) (sym same) (comes_up_down s (world_after s before) says m off swaps run.accepted.0)))
-tick_step counted apart s says y before (Pass dt drifts fibres) n run inside was up = passes counted apart s (record { event = Pass dt drifts fibres; says = says; answer = y }) before n run inside up tt
-tick_step counted apart s says y before (Sample m base bits) n run inside was up = passes counted apart s (record { event = Sample m base bits; says = says; answer = y }) before n run inside up tt
-tick_step counted apart s says y before (Depart m p stamp) n run inside was up = passes counted apart s (record { event = Depart m p stamp; says = says; answer = y }) before n run inside up tt
-tick_step counted apart s says y before (Arrive i raw) n run inside was up = passes counted apart s (record { event = Arrive i raw; says = says; answer = y }) before n run inside up tt
-tick_step counted apart s says y before (Deliver i) n run inside was up = passes counted apart s (record { event = Deliver i; says = says; answer = y }) before n run inside up tt
-tick_step counted apart s says y before (Noise m p octets raw) n run inside was up = passes counted apart s (record { event = Noise m p octets raw; says = says; answer = y }) before n run inside up tt
-tick_step counted apart s says y before (Down m) n run inside was up = passes counted apart s (record { event = Down m; says = says; answer = y }) before n run inside up tt
-tick_step counted apart s says y before (Cut l) n run inside was up = passes counted apart s (record { event = Cut l; says = says; answer = y }) before n run inside up tt
-tick_step counted apart s says y before (Join l ms sm) n run inside was up = passes counted apart s (record { event = Join l ms sm; says = says; answer = y }) before n run inside up tt
+tick_step counted apart s says y before e n run inside was up = passes counted apart s (record { event = e; says = says; answer = y }) before n run inside up tt
 
 pub ticks_step_on_time : TicksAreCounted → TicksAreApart → TicksStepOnTime
 ticks_step_on_time counted apart s h before n run inside was up = tick_step counted apart s h.says h.answer before h.event n run inside was up

@@ -40,7 +40,8 @@ use Rattle.wrp_truth.specs.Rates.{HasChain}
 use Rattle.wrp_truth.specs.Views.{moment_at, moments_of}
 use Rattle.wrp_truth.proofs.HeldRuns.{core_at}
 use Rattle.wrp_truth.proofs.LinksAbove.{above_at, above_is}
-use Rattle.wrp_truth.proofs.Parents.{has_servo, some_is, with_servo}
+use Rattle.wrp_truth.proofs.Parents.{has_servo, with_servo}
+use Rattle.wrp_truth.proofs.Basics.{some_is}
 
 -- the laws that this stands on
 pub record TrackLaws : Type 0 where

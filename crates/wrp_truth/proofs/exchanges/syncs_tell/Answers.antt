@@ -1,5 +1,5 @@
 use Rattle.wrp_truth.proofs.exchanges.syncs_tell.Goals as goal
-use Rattle.wrp_truth.proofs.Quiets.{QuietLaws}
+use Rattle.wrp_truth.proofs.OpenPorts.{QuietLaws}
 use Rattle.wrp_truth.proofs.ChainSources.{ChainLaws}
 use Rattle.wrp_truth.proofs.SyncRuns.{syncs_tell}
 

@@ -6,7 +6,7 @@ use Rattle.wrp_base.specs.declared.message.PtpMsg.{PtpMsg}
 use Rattle.wrp_base.specs.declared.time.Raw.{Raw}
 use Rattle.wrp_frame.specs.declared.fault.FrameFault.{FrameFault}
 use Rattle.wrp_world.specs.declared.event.Event.{Event}
-use Rattle.wrp_world.specs.declared.event.Event.TheVariants.{Pass, Tick, Sample, Depart, Arrive, Deliver, Noise, Down, Up, Cut, Join}
+use Rattle.wrp_world.specs.declared.event.Event.TheVariants.{Depart, Arrive}
 use Rattle.wrp_world.specs.declared.place.Place.{Place}
 use Rattle.wrp_world.specs.EventAt.{IsEventOf, IsRaw}
 use Rattle.wrp_world.specs.Given.{given_by}
@@ -17,16 +17,14 @@ use Rattle.wrp_world.specs.Runs.{AllEvents, IsRun}
 use Rattle.wrp_world.specs.Setting.{Setting, is_role, place_of}
 use Rattle.wrp_world.specs.WorldAt.{Arrival, FrameAt, Sending, WorldAt, is_on_fibre}
 use Rattle.wrp_truth.proofs.InOrder.{Numbered, all_numbered, flies, given_frame, on_fibre}
-
-none_some : {A : Type 0} (x : A) → None ≡ Some x → ⊥
-none_some x e = cc
+use Rattle.wrp_truth.proofs.Basics.{none_some}
 
 -- A frame later
 
 -- it is the same, but that it may arrive, or be gone
 abbrev pub LaterIs : FrameAt → Option FrameAt → Type 0
 LaterIs f None = ⊥
-LaterIs f (Some g) = (g.link ≡ f.link) × (g.by ≡ f.by) × (g.sending ≡ f.sending) × (g.stamp ≡ f.stamp) × (g.moment ≡ f.moment) × ((a : Arrival) → f.arrival ≡ Some a → g.arrival ≡ Some a)
+LaterIs f (Some g) = (g.link ≡ f.link) × (g.by ≡ f.by) × (g.sending ≡ f.sending) × (g.stamp ≡ f.stamp) × (g.moment ≡ f.moment) × (g.at ≡ f.at) × ((a : Arrival) → f.arrival ≡ Some a → g.arrival ≡ Some a)
 
 later_removed : (s : Setting) (e : Event) (f : FrameAt) (o : Option FrameAt) → LaterIs f o → LaterIs f (option_map (removed s e) o)
 later_removed s e f None h = h
@@ -50,7 +48,7 @@ later_departing w f (Some place) stamp (oldest ∷ rest) i le h = later_where f 
 
 later_either : (s : Setting) (w : WorldAt) (m : ℕ) (raw : Raw) (f x g : FrameAt) (i : ℕ) (b : Bool) → (b ≡ true → g.arrival ≡ None) → LaterIs f (Some g) →
     LaterIs f (Some (if b then record g { arrival = Some (record { raw = raw; sample = samples_at s w x; at = w.time; moment = w.count }) } else record g { gone = g.gone || (is_on_fibre (Some g) && (nat_lt i m && ((g.link == x.link) && is_role g.by x.by))) }))
-later_either s w m raw f x g i true h k = (k.0, k.1, k.2, k.3, k.4, λ a e. absurd (none_some a (sym (h refl) ∙ k.5 a e)))
+later_either s w m raw f x g i true h k = (k.0, k.1, k.2, k.3, k.4, k.5, λ a e. absurd (none_some a (sym (h refl) ∙ k.6 a e)))
 later_either s w m raw f x g i false h k = k
 
 later_arrived : (s : Setting) (w : WorldAt) (says : Result PtpMsg FrameFault) (m : ℕ) (raw : Raw) (f : FrameAt) (i : ℕ) (q o : Option FrameAt) → Accepts s w says (Arrive m raw) → w.frame i ≡ o → LaterIs f o → LaterIs f (arrived s w m raw q i o)
@@ -63,15 +61,7 @@ later_arrived s w says m raw f i (Some x) (Some g) a at h =
 later_event : (s : Setting) (w : WorldAt) (says : Result PtpMsg FrameFault) (e : Event) (f : FrameAt) (i : ℕ) → Accepts s w says e → Numbered w.departed w.count i (w.frame i) → LaterIs f (w.frame i) → LaterIs f (frame_after s w e i)
 later_event s w says (Depart n p stamp) f i a n1 h = later_departing w f (place_of s n p) stamp (waiting_at w (place_of s n p)) i (numbered_of f w.departed w.count i (w.frame i) h n1) h
 later_event s w says (Arrive m raw) f i a n1 h = later_arrived s w says m raw f i (w.frame m) (w.frame i) a refl h
-later_event s w says (Pass dt drifts fibres) f i a n1 h = later_removed s (Pass dt drifts fibres) f (w.frame i) h
-later_event s w says (Tick n) f i a n1 h = later_removed s (Tick n) f (w.frame i) h
-later_event s w says (Sample n base bits) f i a n1 h = later_removed s (Sample n base bits) f (w.frame i) h
-later_event s w says (Deliver m) f i a n1 h = later_removed s (Deliver m) f (w.frame i) h
-later_event s w says (Noise n p octets raw) f i a n1 h = later_removed s (Noise n p octets raw) f (w.frame i) h
-later_event s w says (Down n) f i a n1 h = later_removed s (Down n) f (w.frame i) h
-later_event s w says (Up n off swaps) f i a n1 h = later_removed s (Up n off swaps) f (w.frame i) h
-later_event s w says (Cut l) f i a n1 h = later_removed s (Cut l) f (w.frame i) h
-later_event s w says (Join l ms sm) f i a n1 h = later_removed s (Join l ms sm) f (w.frame i) h
+later_event s w says e f i a n1 h = later_removed s e f (w.frame i) h
 
 later_since : (s : Setting) (newer older : List Happened) (f : FrameAt) (i : ℕ) → AllAccepted s (newer ++ older) → LaterIs f ((world_after s older).frame i) → LaterIs f ((world_after s (newer ++ older)).frame i)
 later_since s [] older f i a h = h
@@ -90,16 +80,17 @@ pub record Stayed (s : Setting) (events : List Happened) (i : ℕ) (f : FrameAt)
   pub sending : frame.sending ≡ f.sending
   pub stamp : frame.stamp ≡ f.stamp
   pub moment : frame.moment ≡ f.moment
+  pub at : frame.at ≡ f.at
   pub arrival : (a : Arrival) → f.arrival ≡ Some a → frame.arrival ≡ Some a
 
 stayed_as : (s : Setting) (events : List Happened) (i : ℕ) (f : FrameAt) (o : Option FrameAt) → (world_after s events).frame i ≡ o → LaterIs f o → Stayed s events i f
 stayed_as s events i f None e h = absurd h
-stayed_as s events i f (Some g) e h = record { frame = g; there = e; link = h.0; by = h.1; sending = h.2; stamp = h.3; moment = h.4; arrival = h.5 }
+stayed_as s events i f (Some g) e h = record { frame = g; there = e; link = h.0; by = h.1; sending = h.2; stamp = h.3; moment = h.4; at = h.5; arrival = h.6 }
 
 pub frame_stays : (s : Setting) (newer older : List Happened) (i : ℕ) (f : FrameAt) → IsRun s (newer ++ older) → (world_after s older).frame i ≡ Some f → Stayed s (newer ++ older) i f
 frame_stays s newer older i f run there =
     stayed_as s (newer ++ older) i f ((world_after s (newer ++ older)).frame i) refl
-    (later_since s newer older f i run.accepted (subst (LaterIs f) (sym there) (refl, refl, refl, refl, refl, λ a e. e)))
+    (later_since s newer older f i run.accepted (subst (LaterIs f) (sym there) (refl, refl, refl, refl, refl, refl, λ a e. e)))
 
 -- The raw stamps of arrivals
 
@@ -132,15 +123,7 @@ raw_arrived s w m raw i (Some x) (Some g) h k = raw_either s w raw x g (g.gone |
 raw_event : (s : Setting) (w : WorldAt) (e : Event) (i : ℕ) → IsEventOf s.cfg e → RawIs (w.frame i) → RawIs (frame_after s w e i)
 raw_event s w (Depart n p stamp) i of h = raw_departing w (place_of s n p) stamp (waiting_at w (place_of s n p)) i h
 raw_event s w (Arrive m raw) i of h = raw_arrived s w m raw i (w.frame m) (w.frame i) of h
-raw_event s w (Pass dt drifts fibres) i of h = raw_removed s (Pass dt drifts fibres) (w.frame i) h
-raw_event s w (Tick n) i of h = raw_removed s (Tick n) (w.frame i) h
-raw_event s w (Sample n base bits) i of h = raw_removed s (Sample n base bits) (w.frame i) h
-raw_event s w (Deliver m) i of h = raw_removed s (Deliver m) (w.frame i) h
-raw_event s w (Noise n p octets raw) i of h = raw_removed s (Noise n p octets raw) (w.frame i) h
-raw_event s w (Down n) i of h = raw_removed s (Down n) (w.frame i) h
-raw_event s w (Up n off swaps) i of h = raw_removed s (Up n off swaps) (w.frame i) h
-raw_event s w (Cut l) i of h = raw_removed s (Cut l) (w.frame i) h
-raw_event s w (Join l ms sm) i of h = raw_removed s (Join l ms sm) (w.frame i) h
+raw_event s w e i of h = raw_removed s e (w.frame i) h
 
 raw_all : (s : Setting) (events : List Happened) (i : ℕ) → AllEvents s.cfg events → RawIs ((world_after s events).frame i)
 raw_all s [] i each = tt
