@@ -3,12 +3,14 @@ mod acts;
 mod beats;
 mod courses;
 mod driver;
+mod extremes;
 mod fitting;
 mod flights;
 mod gifts;
 mod handshakes;
 mod networks;
 mod numbers;
+mod readings;
 mod rows;
 mod three;
 mod trial;
@@ -25,16 +27,17 @@ ghost use Rattle.wrp_world.specs.StandsFor.{IsValid};
 
 use acts::{Act, Row, Script, Start, event_of};
 use beats::{BEATS, HELD};
-use driver::{Driver, next};
+use driver::{Driver, new_driver, next};
 use flights::FRAMES;
 use gifts::{GIFTS, Gift, LATER, ROUND, label};
 use networks::{EACH_TICK, KAPPA, TWO_NODES};
 use numbers::{DOWN, MS, SM};
+use readings::At;
 use rows::{ABSENT, FIBRES, MODULES, RATES, TICKS};
 use std::alloc::Global;
 use std::process::Abort;
 use std::test::Fail;
-use trial::{GM, SW1, Seen, Told, Trial, give, look, node_seen};
+use trial::{GM, SW1, Seen, Told, Trial, give, look, node_seen, tracks_in};
 use wrp_base::{LinkCfg, LinkState, LinkWord, NetCfg, ServoState, Tau};
 use wrp_config::{Network, link_above};
 use wrp_law::{DelayLaw, LawKind, floor_of};
@@ -222,30 +225,33 @@ fn tries_all_gifts<F: Fn(i64) -> i64>(
     tries_gifts(rt, alloc, &mut trial, LATER)
 }
 
-// The driver makes so many events, or fewer where sw1 comes to TRACK and this is asked for.
+// The driver makes so many events, or fewer where sw1 comes to TRACK and this is asked for. How often sw1
+// told its estimate in TRACK is answered.
 fn drives<F: Fn(i64) -> i64>(
     rt: &impl Abort,
     trial: &mut Trial<F>,
     driver: &mut Driver,
     most: u32,
     to_track: bool,
-) -> Result<(), Fail>
+) -> Result<u32, Fail>
     requires valid { IsValid F.pre F.post trial.old.world }
     requires came { trial.old.world.plant.events ≤ trial.old.came }
     ensures valid { IsValid F.pre F.post trial.new.world }
     ensures came { trial.new.world.plant.events ≤ trial.new.came }
 {
+    let mut tracks = 0u32;
     for _event in 0..most {
         if to_track && is_in_track(&trial.world) {
-            return Ok(());
+            return Ok(tracks);
         }
         let event = next(driver, &trial.world).ok_or("an event")?;
         let told = give(trial, &event);
         assert_eq!(rt; told, Told::Taken, "{event:?}");
         let near = !is_in_track(&trial.world) || is_near(&trial.world);
         assert!(rt; near, "{event:?}");
+        tracks = tracks.wrapping_add(tracks_in(&trial.outs, SW1));
     }
-    Ok(())
+    Ok(tracks)
 }
 
 // Whether sw1 is in TRACK.
@@ -282,7 +288,7 @@ fn is_on<F: Fn(i64) -> i64>(world: &World<F>, n: u8) -> bool
 fn comes_to_track<F: Fn(i64) -> i64>(
     rt: &impl Abort,
     trial: &mut Trial<F>,
-    free: i64,
+    free: Option<i64>,
     off: Tau,
 ) -> Result<Driver, Fail>
     requires valid { IsValid F.pre F.post trial.old.world }
@@ -290,16 +296,11 @@ fn comes_to_track<F: Fn(i64) -> i64>(
     ensures valid { IsValid F.pre F.post trial.new.world }
     ensures came { trial.new.world.plant.events ≤ trial.new.came }
 {
-    let mut driver = Driver {
-        free,
-        down: DOWN,
-        samples: false,
-        arrived: None,
-    };
+    let mut driver = new_driver(free, DOWN);
     for act in [Act::Join(MS, SM), Act::Up(GM, 0), Act::Up(SW1, off)] {
         tries_event(rt, trial, "up", &event_of(act)?, Told::Taken);
     }
-    drives(rt, trial, &mut driver, 100_000, true)?;
+    let _tracks = drives(rt, trial, &mut driver, 100_000, true)?;
     assert!(rt; is_in_track(&trial.world), "TRACK");
     Ok(driver)
 }
@@ -317,7 +318,7 @@ fn comes_to_start<F: Fn(i64) -> i64>(
 {
     match start {
         Start::InTrack => {
-            let _driver = comes_to_track(rt, trial, 0, 196_608_000_000)?;
+            let _driver = comes_to_track(rt, trial, Some(0), 196_608_000_000)?;
             Ok(())
         }
         _ => Ok(()),
@@ -425,13 +426,57 @@ fn two_nodes_reach_track(rt: HostRuntime) -> Result<(), Fail> {
             1,
         );
         let mut trial = trial_of(rt.alloc(), TWO_NODES, law)?;
-        let mut driver = comes_to_track(&rt, &mut trial, free, off)?;
-        drives(&rt, &mut trial, &mut driver, 5000, false)?;
+        let mut driver = comes_to_track(&rt, &mut trial, Some(free), off)?;
+        let tracks = drives(&rt, &mut trial, &mut driver, 5000, false)?;
+        assert!(rt; tracks > 0, "estimates in TRACK");
         assert!(rt;
             is_on(&trial.world, GM) && is_on(&trial.world, SW1),
             "WR_LINK_ON"
         );
         assert!(rt; is_in_track(&trial.world), "TRACK");
+    }
+    Ok(())
+}
+
+// sw1 comes to TRACK with a clock that stands, and all that is told is true; then its clock follows its
+// DAC, and the stamps and tags of each node lie at one end of what they may be.
+fn tracks_at_ends<F: Fn(i64) -> i64>(
+    rt: &impl Abort,
+    alloc: Global,
+    law: DelayLaw<F>,
+    gm: At,
+    sw1: At,
+) -> Result<(), Fail>
+    requires { KeepsFact F.pre F.post law }
+{
+    let mut trial = trial_of(alloc, TWO_NODES, law)?;
+    let mut driver = comes_to_track(rt, &mut trial, None, 196_608_000_000)?;
+    driver.free = Some(0);
+    driver.gm = gm;
+    driver.sw1 = sw1;
+    let tracks = drives(rt, &mut trial, &mut driver, 5000, false)?;
+    assert!(rt; tracks > 0 && is_in_track(&trial.world), "{gm:?} {sw1:?}");
+    Ok(())
+}
+
+#[test]
+fn two_nodes_track_at_ends(rt: HostRuntime) -> Result<(), Fail> {
+    for (gm, sw1) in [
+        (At::Least, At::Least),
+        (At::Least, At::Most),
+        (At::Most, At::Least),
+        (At::Most, At::Most),
+    ] {
+        let law = DelayLaw::new(
+            |x: i64|
+                requires { unsigned_abs x ≤ 2 ^ 53 }
+            { floor_of(KAPPA, x) },
+            LawKind::Linear { kappa: KAPPA },
+            -(1 << 30),
+            1 << 53,
+            1,
+        );
+        tracks_at_ends(&rt, rt.alloc(), law, gm, sw1)?;
     }
     Ok(())
 }

@@ -9,9 +9,9 @@ ghost use Rattle.wrp_world.specs.StandsFor.{IsValid};
 
 use super::acts::{Act, event_of};
 use super::handshakes::{is_on, judges, takes};
-use super::networks::{KAPPA, THREE_NODES};
+use super::networks::{KAPPA, SOON_ON, THREE_NODES};
 use super::numbers::{MS, SM};
-use super::three::{Course, Dice, LINKS, next, trouble};
+use super::three::{Course, LINKS, new_course, next, trouble};
 use super::trial::{Told, Trial, give};
 use super::{is_law_of, network};
 use std::alloc::Global;
@@ -118,9 +118,10 @@ fn runs_course<F: Fn(i64) -> i64>(
     Err(Fail::from("WR_LINK_ON"))
 }
 
-// The world of the network of three nodes, before any event.
-fn trial_of_three<F: Fn(i64) -> i64>(
+/// The world of the network of three nodes with some keys more, before any event.
+pub fn trial_of_three<F: Fn(i64) -> i64>(
     alloc: Global,
+    keys: &str,
     law: DelayLaw<F>,
     other: DelayLaw<F>,
 ) -> Result<Trial<F>, Fail>
@@ -129,7 +130,8 @@ fn trial_of_three<F: Fn(i64) -> i64>(
     ensures valid { IfOk result (λ trial. IsValid F.pre F.post trial.world) }
     ensures came { IfOk result (λ trial. trial.world.plant.events ≤ trial.came) }
 {
-    let net = network(alloc, THREE_NODES)?;
+    let text = format!(in alloc; "{SOON_ON}{keys}{THREE_NODES}")?;
+    let net = network(alloc, text.as_str())?;
     let laws = laws_of_three(alloc, &net.cfg, law, other)?;
     Ok(Trial {
         world: World::new(alloc, net, laws)?,
@@ -149,7 +151,7 @@ fn tries_course<F: Fn(i64) -> i64>(
     requires law { KeepsFact F.pre F.post law }
     requires other { KeepsFact F.pre F.post other }
 {
-    let mut trial = trial_of_three(alloc, law, other)?;
+    let mut trial = trial_of_three(alloc, "", law, other)?;
     for link in [0, 1] {
         let event = Event::Join {
             link,
@@ -161,12 +163,7 @@ fn tries_course<F: Fn(i64) -> i64>(
     for act in [Act::Up(0, 0), Act::Up(1, 196_608_000_000), Act::Up(2, 0)] {
         takes(rt, &mut trial, LINKS, &event_of(act)?);
     }
-    let mut course = Course {
-        dice: Dice(seed),
-        samples: None,
-        arrived: None,
-        departed: 0,
-    };
+    let mut course = new_course(seed);
     runs_course(rt, &mut trial, &mut course, 300)
 }
 

@@ -1,32 +1,23 @@
 //! What happens next in a world of two nodes where all goes well, told from what is asked of the world
-//! alone: stamps and beat bits are those of the true readings.
+//! alone: stamps and beat bits are those of the true readings, or lie at an end of what they may be.
 ghost use Rattle.wrp_world.specs.StandsFor.{IsValid};
 
+use super::readings::{At, DAC_RATE, most_in, raw_of, reading, sample_of, sooner, stamp_of};
 use super::trial::{GM, PORT, SW1};
 use arrayvec::ArrayVec;
-use wrp_base::{Raw, ServoState, Tau};
+use wrp_base::{ServoState, Tau};
 use wrp_world::{Event, World};
-
-/// The period of the clocks, in tau.
-const PERIOD: i128 = 524_288_000;
-
-/// A step of the phase detector, in tau.
-const STEP: i128 = 32_000;
-
-/// 32 zeros, then 32 ones.
-const EDGE_IN_THE_MIDDLE: u64 = 0xffff_ffff;
-
-/// How much one step of the DAC slows a clock, in 10^-12.
-const DAC_RATE: i128 = 10;
-
-/// Rates are in 10^-12.
-const PARTS: i128 = 1_000_000_000_000;
 
 /// What is kept of a run beside the world.
 #[derive(Clone, Copy)]
 pub struct Driver {
-    /// The rate of sw1's clock where its DAC has the value at rest, in 10^-12.
-    pub free: i64,
+    /// The rate of sw1's clock where its DAC has the value at rest, in 10^-12; `None` where the clock stands
+    /// whatever its DAC says.
+    pub free: Option<i64>,
+    /// Where the stamps and tags of gm lie.
+    pub gm: At,
+    /// Where the stamps, tags and beat bits of sw1 lie.
+    pub sw1: At,
     /// The true one-way delay down, in tau.
     pub down: Tau,
     /// Whether sw1 has ticked, and takes its sample now.
@@ -35,15 +26,21 @@ pub struct Driver {
     pub arrived: Option<u32>,
 }
 
-// The reading of a node's clock.
-fn reading<F: Fn(i64) -> i64>(world: &World<F>, n: u8) -> Option<Tau>
-    requires { IsValid F.pre F.post world.now }
-{
-    if usize::from(n) < world.net().cfg.nodes.len() {
-        world.now().checked_add(world.off(n))
-    } else {
-        None
+/// A driver before any event, which tells what is true.
+pub fn new_driver(free: Option<i64>, down: Tau) -> Driver {
+    Driver {
+        free,
+        gm: At::True,
+        sw1: At::True,
+        down,
+        samples: false,
+        arrived: None,
     }
+}
+
+// Where the stamps and tags of a node lie.
+fn at_of(driver: &Driver, node: u8) -> At {
+    if node == GM { driver.gm } else { driver.sw1 }
 }
 
 // Whether the link has its carrier.
@@ -59,25 +56,14 @@ fn has_carrier<F: Fn(i64) -> i64>(world: &World<F>) -> bool
 }
 
 // The oldest frame that waits at a node's port departs.
-fn departure<F: Fn(i64) -> i64>(world: &World<F>, node: u8) -> Option<Event>
+fn departure<F: Fn(i64) -> i64>(driver: &Driver, world: &World<F>, node: u8) -> Option<Event>
     requires { IsValid F.pre F.post world.now }
 {
     let _put_out = world.waiting(node, PORT)?;
-    let reading = reading(world, node)?;
     Some(Event::Depart {
         node,
         port: PORT,
-        stamp: reading.div_euclid(1000).checked_mul(1000)?,
-    })
-}
-
-// The raw stamp of a reading: both modules begin a period at tag 0.
-fn raw_of(reading: Tau) -> Option<Raw> {
-    let half_on = reading.checked_add(PERIOD / 2)?;
-    Some(Raw {
-        rising: u64::try_from(reading.div_euclid(PERIOD)).ok()?,
-        falling: u64::try_from(half_on.div_euclid(PERIOD)).ok()?,
-        tag: u16::try_from(reading.rem_euclid(PERIOD) / STEP).ok()?,
+        stamp: stamp_of(reading(world, node)?, at_of(driver, node))?,
     })
 }
 
@@ -87,7 +73,7 @@ fn other(n: u8) -> u8 {
 }
 
 // A frame that is due arrives.
-fn arrival<F: Fn(i64) -> i64>(world: &World<F>) -> Option<(u32, Event)>
+fn arrival<F: Fn(i64) -> i64>(driver: &Driver, world: &World<F>) -> Option<(u32, Event)>
     requires { IsValid F.pre F.post world.now }
 {
     let (frame, due) = world.next_arrival()?;
@@ -95,7 +81,8 @@ fn arrival<F: Fn(i64) -> i64>(world: &World<F>) -> Option<(u32, Event)>
         return None;
     }
     let (sender, _port) = world.sender(frame)?;
-    let raw = raw_of(reading(world, other(sender))?)?;
+    let to = other(sender);
+    let raw = raw_of(reading(world, to)?, at_of(driver, to))?;
     Some((frame, Event::Arrive { frame, raw }))
 }
 
@@ -110,17 +97,16 @@ fn tick_at<F: Fn(i64) -> i64>(world: &World<F>, n: u8) -> Option<Tau>
     first.checked_add(last.checked_sub(first)? / 2)
 }
 
-// The sample of sw1: the true step is 32 behind the base.
-fn sample<F: Fn(i64) -> i64>(world: &World<F>, down: Tau) -> Option<Event>
+// The sample of sw1.
+fn sample<F: Fn(i64) -> i64>(driver: &Driver, world: &World<F>) -> Option<Event>
     requires { IsValid F.pre F.post world.now }
 {
     let apart = reading(world, SW1)?.checked_sub(reading(world, GM)?)?;
-    let phase = apart.checked_add(down)?.rem_euclid(PERIOD);
-    let step = u16::try_from(phase / STEP).ok()?;
+    let (base, bits) = sample_of(apart.checked_add(driver.down)?, driver.sw1)?;
     Some(Event::Sample {
         node: SW1,
-        base: step.wrapping_sub(32) % 16_384,
-        bits: EDGE_IN_THE_MIDDLE,
+        base,
+        bits,
     })
 }
 
@@ -164,17 +150,8 @@ pub fn passes(dt: i64, drifts: (i64, i64), moves: (i64, i64)) -> Event {
     }
 }
 
-// The sooner of two moments.
-fn sooner(a: Option<Tau>, b: Option<Tau>) -> Option<Tau> {
-    match (a, b) {
-        (Some(a), Some(b)) => Some(a.min(b)),
-        (Some(a), None) => Some(a),
-        (None, b) => b,
-    }
-}
-
 // Time passes to the next moment at which something is due.
-fn pass<F: Fn(i64) -> i64>(world: &World<F>, free: i64) -> Option<Event>
+fn pass<F: Fn(i64) -> i64>(driver: &Driver, world: &World<F>) -> Option<Event>
     requires { IsValid F.pre F.post world.now }
 {
     let ticks = sooner(tick_at(world, GM), tick_at(world, SW1));
@@ -183,8 +160,11 @@ fn pass<F: Fn(i64) -> i64>(world: &World<F>, free: i64) -> Option<Event>
         None => None,
     };
     let dt = i64::try_from(sooner(ticks, arrives)?.checked_sub(world.now())?).ok()?;
-    let moved = rate(world, free)?.checked_mul(i128::from(dt))? / PARTS;
-    Some(passes(dt, (0, i64::try_from(moved).ok()?), (0, 0)))
+    let moved = match driver.free {
+        Some(free) => most_in(dt, rate(world, free)?)?,
+        None => 0,
+    };
+    Some(passes(dt, (0, moved), (0, 0)))
 }
 
 // The node that ticks now, if one does.
@@ -208,7 +188,7 @@ fn due_sample<F: Fn(i64) -> i64>(driver: &mut Driver, world: &World<F>) -> Optio
     if driver.samples {
         driver.samples = false;
         if has_carrier(world) {
-            return sample(world, driver.down);
+            return sample(driver, world);
         }
     }
     None
@@ -222,14 +202,14 @@ pub fn next<F: Fn(i64) -> i64>(driver: &mut Driver, world: &World<F>) -> Option<
     if let Some(event) = due_sample(driver, world) {
         return Some(event);
     }
-    if let Some(event) = departure(world, GM).or(departure(world, SW1)) {
+    if let Some(event) = departure(driver, world, GM).or(departure(driver, world, SW1)) {
         return Some(event);
     }
     if let Some(frame) = driver.arrived {
         driver.arrived = None;
         return Some(Event::Deliver { frame });
     }
-    if let Some((frame, event)) = arrival(world) {
+    if let Some((frame, event)) = arrival(driver, world) {
         driver.arrived = Some(frame);
         return Some(event);
     }
@@ -237,5 +217,5 @@ pub fn next<F: Fn(i64) -> i64>(driver: &mut Driver, world: &World<F>) -> Option<
         driver.samples = node == SW1;
         return Some(Event::Tick { node });
     }
-    pass(world, driver.free)
+    pass(driver, world)
 }

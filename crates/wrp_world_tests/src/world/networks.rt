@@ -42,16 +42,8 @@ pub const EACH_TICK: &str = "\
 /// The asymmetry of its fibre.
 pub const KAPPA: i64 = 73_622_176;
 
-/// A grandmaster `gm`, a switch `sw1` below it and a node `leaf` below that, whose links are soon on: a
-/// frame lives 20 ms, quiet time is 6 ticks, an Announce is sent each 5 ticks, and 5 good samples lock.
+/// A grandmaster `gm`, a switch `sw1` below it and a node `leaf` below that.
 pub const THREE_NODES: &str = "\
-    [network]\n\
-    life_ns = 20000000\n\
-    quiet = 6\n\
-    announce = 5\n\
-    holdoff = 10\n\
-    lock_samples = 5\n\
-    delock_samples = 4\n\
     [[node]]\n\
     name = \"gm\"\n\
     identity = \"001bc5fffe000001\"\n\
@@ -91,3 +83,24 @@ pub const THREE_NODES: &str = "\
     name = \"smf\"\n\
     kappa = 73622176\n\
     err = 1310720\n";
+
+/// The keys ahead of it with which links are soon on: a frame lives 20 ms, quiet time is 6 ticks, an
+/// Announce is sent each 5 ticks, and 5 good samples lock.
+pub const SOON_ON: &str = "\
+    [network]\n\
+    life_ns = 20000000\n\
+    quiet = 6\n\
+    announce = 5\n\
+    holdoff = 10\n\
+    lock_samples = 5\n\
+    delock_samples = 4\n";
+
+/// The keys behind these with which a node is soon in TRACK, and not for long in HOLDOVER.
+pub const SOON_IN_TRACK: &str = "\
+    stable = 3\n\
+    report = 2\n\
+    sync = 3\n\
+    delay = 3\n\
+    lease = 12\n\
+    age = 30\n\
+    holdover = 20\n";

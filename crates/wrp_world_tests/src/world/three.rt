@@ -1,12 +1,14 @@
 //! What happens next in a world of three nodes: what goes on where all goes well, told from what is asked
-//! of the world alone, and what goes wrong, from dice. Stamps and beat bits are those of the true readings.
+//! of the world alone, and what goes wrong, from dice. Stamps and beat bits are those of the true readings,
+//! or lie at an end of what they may be, and then clocks and fibres move as fast as they may.
 ghost use Rattle.std.specs.Prelude.{◌<◌};
 ghost use Rattle.wrp_world.specs.StandsFor.{IsValid};
 
 use super::handshakes::{End, Link};
 use super::numbers::{DOWN, MS, SM};
+use super::readings::{At, DAC_RATE, most_in, raw_of, reading, sample_of, sooner, stamp_of};
 use arrayvec::ArrayVec;
-use wrp_base::{Raw, Tau};
+use wrp_base::{ServoState, Tau};
 use wrp_world::{Event, World};
 
 /// The links: gm to sw1, and sw1 to leaf.
@@ -15,31 +17,16 @@ pub const LINKS: &[Link] = &[((0, 1), (1, 1)), ((1, 2), (2, 1))];
 // Their ends.
 const ENDS: &[End] = &[(0, 1), (1, 1), (1, 2), (2, 1)];
 
-/// The period of the clocks, in tau.
-const PERIOD: i128 = 524_288_000;
-
-/// A step of the phase detector, in tau.
-const STEP: i128 = 32_000;
-
-/// 32 zeros, then 32 ones.
-const EDGE_IN_THE_MIDDLE: u64 = 0xffff_ffff;
-
-/// How much one step of the DAC slows a clock, in 10^-12.
-const DAC_RATE: i128 = 10;
-
 /// 100 ms, in tau: as long as time passes at most.
 const REST: i128 = 6_553_600_000_000_000;
-
-/// Rates are in 10^-12.
-const PARTS: i128 = 1_000_000_000_000;
 
 /// Dice that fall alike in each run.
 #[derive(Clone, Copy)]
 pub struct Dice(pub u64);
 
 impl Dice {
-    // A number below this one.
-    fn below(&mut self, most: u64) -> u64
+    /// A number below this one.
+    pub fn below(&mut self, most: u64) -> u64
         requires { 0 < most }
         ensures { result < most }
     {
@@ -51,17 +38,56 @@ impl Dice {
     }
 }
 
+/// How what is told is off, and what moves: of each kind and node either always at the same end, or at
+/// either end from dice.
+#[derive(Clone, Copy)]
+pub struct Ends {
+    /// Whether each is always at the same end.
+    pub steady: bool,
+    /// At which one, a bit each.
+    pub signs: u64,
+}
+
 /// What is kept of a run beside the world.
 #[derive(Clone, Copy)]
 pub struct Course {
     /// The dice.
     pub dice: Dice,
+    /// How what is told is off; `None` where it is true.
+    pub ends: Option<Ends>,
+    /// The true one-way delays down of both links.
+    pub down: (Tau, Tau),
     /// The node that has ticked, and takes its sample now.
     pub samples: Option<u8>,
     /// The frame that has arrived, and is handed over now.
     pub arrived: Option<u32>,
     /// The greatest number of a frame that has arrived.
     pub departed: u32,
+}
+
+/// A course before any event, in which all that is told is true.
+pub fn new_course(seed: u64) -> Course {
+    Course {
+        dice: Dice(seed),
+        ends: None,
+        down: (DOWN, DOWN),
+        samples: None,
+        arrived: None,
+        departed: 0,
+    }
+}
+
+/// The end at which something of this number lies now.
+pub fn end_of(course: &mut Course, number: u32) -> At {
+    let Some(ends) = course.ends else {
+        return At::True;
+    };
+    let bits = if ends.steady {
+        ends.signs.wrapping_shr(number)
+    } else {
+        course.dice.below(2)
+    };
+    if bits % 2 == 0 { At::Least } else { At::Most }
 }
 
 /// Whether a node is there and up.
@@ -89,51 +115,30 @@ fn has_carrier<F: Fn(i64) -> i64>(world: &World<F>, n: u8) -> bool
     }
 }
 
-// The reading of a node's clock.
-fn reading<F: Fn(i64) -> i64>(world: &World<F>, n: u8) -> Option<Tau>
-    requires { IsValid F.pre F.post world.now }
-{
-    if usize::from(n) < world.net().cfg.nodes.len() {
-        world.now().checked_add(world.off(n))
-    } else {
-        None
-    }
-}
-
 // The oldest frame that waits at a port departs.
-fn departure<F: Fn(i64) -> i64>(world: &World<F>, end: End) -> Option<Event>
+fn departure<F: Fn(i64) -> i64>(course: &mut Course, world: &World<F>, end: End) -> Option<Event>
     requires { IsValid F.pre F.post world.now }
 {
     let (node, port) = end;
     let _put_out = world.waiting(node, port)?;
-    let reading = reading(world, node)?;
+    let at = end_of(course, u32::from(node));
     Some(Event::Depart {
         node,
         port,
-        stamp: reading.div_euclid(1000).checked_mul(1000)?,
+        stamp: stamp_of(reading(world, node)?, at)?,
     })
 }
 
 // The same at the first port where one waits.
-fn any_departure<F: Fn(i64) -> i64>(world: &World<F>) -> Option<Event>
+fn any_departure<F: Fn(i64) -> i64>(course: &mut Course, world: &World<F>) -> Option<Event>
     requires { IsValid F.pre F.post world.now }
 {
     for end in ENDS {
-        if let Some(event) = departure(world, *end) {
+        if let Some(event) = departure(course, world, *end) {
             return Some(event);
         }
     }
     None
-}
-
-// The raw stamp of a reading: all modules begin a period at tag 0.
-fn raw_of(reading: Tau) -> Option<Raw> {
-    let half_on = reading.checked_add(PERIOD / 2)?;
-    Some(Raw {
-        rising: u64::try_from(reading.div_euclid(PERIOD)).ok()?,
-        falling: u64::try_from(half_on.div_euclid(PERIOD)).ok()?,
-        tag: u16::try_from(reading.rem_euclid(PERIOD) / STEP).ok()?,
-    })
 }
 
 // The node at the other end of a link.
@@ -147,14 +152,16 @@ fn receiver(sender: End) -> u8 {
 }
 
 // A frame that is due arrives.
-fn arrival<F: Fn(i64) -> i64>(world: &World<F>) -> Option<(u32, Event)>
+fn arrival<F: Fn(i64) -> i64>(course: &mut Course, world: &World<F>) -> Option<(u32, Event)>
     requires { IsValid F.pre F.post world.now }
 {
     let (frame, due) = world.next_arrival()?;
     if due != world.now() {
         return None;
     }
-    let raw = raw_of(reading(world, receiver(world.sender(frame)?))?)?;
+    let to = receiver(world.sender(frame)?);
+    let at = end_of(course, u32::from(to) + 3);
+    let raw = raw_of(reading(world, to)?, at)?;
     Some((frame, Event::Arrive { frame, raw }))
 }
 
@@ -191,19 +198,19 @@ fn ticks<F: Fn(i64) -> i64>(world: &World<F>) -> Option<u8>
     }
 }
 
-// The sample of a node: the true step is 32 behind the base.
-fn sample<F: Fn(i64) -> i64>(world: &World<F>, node: u8) -> Option<Event>
+// The sample of a node.
+fn sample<F: Fn(i64) -> i64>(course: &mut Course, world: &World<F>, node: u8) -> Option<Event>
     requires { IsValid F.pre F.post world.now }
 {
-    let parent = if node == 2 { 1 } else { 0 };
+    let (parent, down) = if node == 2 {
+        (1, course.down.1)
+    } else {
+        (0, course.down.0)
+    };
     let apart = reading(world, node)?.checked_sub(reading(world, parent)?)?;
-    let phase = apart.checked_add(DOWN)?.rem_euclid(PERIOD);
-    let step = u16::try_from(phase / STEP).ok()?;
-    Some(Event::Sample {
-        node,
-        base: step.wrapping_sub(32) % 16_384,
-        bits: EDGE_IN_THE_MIDDLE,
-    })
+    let at = end_of(course, u32::from(node) + 6);
+    let (base, bits) = sample_of(apart.checked_add(down)?, at)?;
+    Some(Event::Sample { node, base, bits })
 }
 
 // The sample that is due, if one is.
@@ -213,40 +220,100 @@ fn due_sample<F: Fn(i64) -> i64>(course: &mut Course, world: &World<F>) -> Optio
     let node = course.samples?;
     course.samples = None;
     if has_carrier(world, node) {
-        sample(world, node)
+        sample(course, world, node)
     } else {
         None
     }
 }
 
-// How far a node's clock moves: one that is locked keeps the rate of its DAC as far as it may, and any
-// other stands.
-fn drift<F: Fn(i64) -> i64>(world: &World<F>, n: u8, dt: i64) -> Option<i64>
+// The rate of a clock that is locked: that of its DAC, as far as it may, and at an end as fast as it may,
+// seven times in eight to the side of its DAC.
+fn locked_rate(course: &mut Course, tuned: i128, slew: u64) -> Option<i128> {
+    let most = i128::from(slew);
+    if course.ends.is_none() {
+        return Some(
+            DAC_RATE
+                .checked_mul(tuned)?
+                .checked_neg()?
+                .max(-most)
+                .min(most),
+        );
+    }
+    let strays = course.dice.below(8) == 0;
+    Some(if (tuned > 0) != strays { -most } else { most })
+}
+
+// The rate of a node's clock: one that is locked follows its DAC, and any other stands; at an end a clock
+// in HOLDOVER moves as fast as it may.
+fn rate<F: Fn(i64) -> i64>(course: &mut Course, world: &World<F>, n: u8) -> Option<i128>
     requires { IsValid F.pre F.post world.now }
 {
     let cfg = &world.net().cfg;
-    let most = i128::from(cfg.nodes.get(usize::from(n))?.slew);
+    let bounds = cfg.nodes.get(usize::from(n))?;
     let node = world.node(n);
-    if n == 0 || !node.locked() {
+    if n == 0 {
         return Some(0);
     }
-    let tuned = i128::from(node.dac()) - i128::from(cfg.bias);
-    let rate = DAC_RATE.checked_mul(tuned)?.max(-most).min(most);
-    let moved = rate.checked_mul(i128::from(dt))? / PARTS;
-    i64::try_from(moved.checked_neg()?).ok()
+    if node.locked() {
+        let tuned = i128::from(node.dac()) - i128::from(cfg.bias);
+        return locked_rate(course, tuned, bounds.slew);
+    }
+    let held = i128::from(bounds.held);
+    match end_of(course, u32::from(n) + 9) {
+        At::Least if node.servo() == ServoState::Holdover => Some(-held),
+        At::Most if node.servo() == ServoState::Holdover => Some(held),
+        _ => Some(0),
+    }
 }
 
-// The sooner of two moments.
-fn sooner(a: Option<Tau>, b: Option<Tau>) -> Option<Tau> {
-    match (a, b) {
-        (Some(a), Some(b)) => Some(a.min(b)),
-        (Some(a), None) => Some(a),
-        (None, b) => b,
+// How far a node's clock moves.
+fn drift<F: Fn(i64) -> i64>(course: &mut Course, world: &World<F>, n: u8, dt: i64) -> Option<i64>
+    requires { IsValid F.pre F.post world.now }
+{
+    most_in(dt, rate(course, world, n)?)
+}
+
+/// Whether a bit of the signs of a course is set; no where all that is told is true.
+pub fn is_set(course: &Course, number: u32) -> bool {
+    match course.ends {
+        Some(ends) => ends.signs.wrapping_shr(number) % 2 == 1,
+        None => false,
     }
+}
+
+// How far the delays of a link move: as fast as they may, down to one side and up to the other.
+fn sways(course: &Course, number: u32, dt: i64) -> Option<(i64, i64)> {
+    if course.ends.is_none() {
+        return Some((0, 0));
+    }
+    let moves = most_in(dt, 2)?;
+    let back = moves.checked_neg()?;
+    Some(if is_set(course, number) {
+        (back, moves)
+    } else {
+        (moves, back)
+    })
+}
+
+// Time passes, and clocks and fibres move.
+fn passes<F: Fn(i64) -> i64>(course: &mut Course, world: &World<F>, dt: i64) -> Option<Event>
+    requires { IsValid F.pre F.post world.now }
+{
+    let mut drifts = ArrayVec::new();
+    drifts.push(0);
+    drifts.push(drift(course, world, 1, dt)?);
+    drifts.push(drift(course, world, 2, dt)?);
+    let (first, second) = (sways(course, 16, dt)?, sways(course, 17, dt)?);
+    course.down.0 = course.down.0.checked_add(Tau::from(first.0))?;
+    course.down.1 = course.down.1.checked_add(Tau::from(second.0))?;
+    let mut fibres = ArrayVec::new();
+    fibres.push(first);
+    fibres.push(second);
+    Some(Event::Pass { dt, drifts, fibres })
 }
 
 // Time passes to the next moment at which something is due, or for a while.
-fn pass<F: Fn(i64) -> i64>(world: &World<F>) -> Option<Event>
+fn pass<F: Fn(i64) -> i64>(course: &mut Course, world: &World<F>) -> Option<Event>
     requires { IsValid F.pre F.post world.now }
 {
     let arrives = match world.next_arrival() {
@@ -257,14 +324,7 @@ fn pass<F: Fn(i64) -> i64>(world: &World<F>) -> Option<Event>
     let due = sooner(sooner(upper, tick_at(world, 2)), arrives);
     let due = sooner(due, world.now().checked_add(REST))?;
     let dt = i64::try_from(due.checked_sub(world.now())?).ok()?;
-    let mut drifts = ArrayVec::new();
-    drifts.push(0);
-    drifts.push(drift(world, 1, dt)?);
-    drifts.push(drift(world, 2, dt)?);
-    let mut fibres = ArrayVec::new();
-    fibres.push((0, 0));
-    fibres.push((0, 0));
-    Some(Event::Pass { dt, drifts, fibres })
+    passes(course, world, dt)
 }
 
 /// The next event where all goes well: a sample that is due, a departure, a frame that is handed over, an
@@ -275,14 +335,14 @@ pub fn next<F: Fn(i64) -> i64>(course: &mut Course, world: &World<F>) -> Option<
     if let Some(event) = due_sample(course, world) {
         return Some(event);
     }
-    if let Some(event) = any_departure(world) {
+    if let Some(event) = any_departure(course, world) {
         return Some(event);
     }
     if let Some(frame) = course.arrived {
         course.arrived = None;
         return Some(Event::Deliver { frame });
     }
-    if let Some((frame, event)) = arrival(world) {
+    if let Some((frame, event)) = arrival(course, world) {
         course.arrived = Some(frame);
         course.departed = course.departed.max(frame);
         return Some(event);
@@ -291,7 +351,7 @@ pub fn next<F: Fn(i64) -> i64>(course: &mut Course, world: &World<F>) -> Option<
         course.samples = Some(node);
         return Some(Event::Tick { node });
     }
-    pass(world)
+    pass(course, world)
 }
 
 // A node comes up, the grandmaster with no offset.

@@ -5,7 +5,7 @@ ghost use Rattle.wrp_world.specs.StandsFor.{IsValid};
 
 use super::fitting::can_come;
 use wrp_base::{LinkWord, Mark, ServoState, Tau};
-use wrp_node::{Input, Node};
+use wrp_node::{Input, Node, Output, Report};
 use wrp_world::{Event, NodeOut, Refused, World};
 
 /// The number of the grandmaster.
@@ -182,4 +182,17 @@ pub fn look<F: Fn(i64) -> i64>(world: &World<F>) -> Seen
         gm: node_seen(world, GM),
         sw1: node_seen(world, SW1),
     }
+}
+
+/// How often a node told its estimate in TRACK in the last event.
+pub fn tracks_in(outs: &[NodeOut], n: u8) -> u32 {
+    let mut count = 0u32;
+    for out in outs {
+        for output in out.outs.iter() {
+            if out.node == n && matches!(output, Output::Report(Report::Track { .. })) {
+                count = count.wrapping_add(1);
+            }
+        }
+    }
+    count
 }

@@ -5,7 +5,7 @@ ghost use Rattle.wrp_law.specs.Law.{KeepsFact};
 ghost use Rattle.wrp_world.specs.StandsFor.{IsValid};
 
 use super::acts::{Act, event_of};
-use super::driver::{Driver, next};
+use super::driver::{Driver, new_driver, next};
 use super::handshakes::{Link, is_on, takes};
 use super::networks::{KAPPA, TWO_NODES};
 use super::numbers::{DOWN, MS, SM};
@@ -191,12 +191,7 @@ fn tries_handshake<F: Fn(i64) -> i64>(
     requires { KeepsFact F.pre F.post law }
 {
     let mut trial = trial_of(alloc, TWO_NODES, law)?;
-    let mut driver = Driver {
-        free: 0,
-        down: DOWN,
-        samples: false,
-        arrived: None,
-    };
+    let mut driver = new_driver(Some(0), DOWN);
     let mut trouble = Trouble {
         loses: with_trouble,
         repeats: with_trouble,
