@@ -5,4 +5,6 @@
 #[cfg(test)]
 mod outputs;
 #[cfg(test)]
+mod rows;
+#[cfg(test)]
 mod trace;

@@ -4,6 +4,7 @@ ghost use Rattle.wrp_base.specs.Network.{node_count};
 ghost use Rattle.wrp_config.specs.Accepted.{IsAccepted};
 
 use std::alloc::Global;
+use std::process::Abort;
 use std::test::*;
 use wrp_base::{Frame, LinkState, LinkWord, ServoState, Tau};
 use wrp_config::Network;
@@ -94,248 +95,229 @@ fn send(octets: &[u8]) -> Output {
     Output::Send { port: 1, frame }
 }
 
-#[test]
-fn outputs(rt: HostRuntime) -> Result<(), Fail> {
-    let net = reference(rt.alloc())?;
-    let rows: [(u8, u32, Output, Option<Tau>, &str); 27] = [
-        (
-            0,
-            3,
-            send(&[0x0a, 0xf0, 0x1b]),
-            None,
-            "gm 3 send 1 0af01b\n",
-        ),
-        (1, 3, send(&[]), Some(-5), "sw1 3 send 1 \n"),
-        (
-            1,
-            40,
-            Output::Step {
-                cycles: -125_000_000,
-            },
-            None,
-            "sw1 40 step -125000000\n",
-        ),
-        (
-            1,
-            41,
-            Output::Step { cycles: i64::MAX },
-            Some(1),
-            "sw1 41 step 9223372036854775807\n",
-        ),
-        (
-            2,
-            0,
-            Output::Dac { value: 32_768 },
-            None,
-            "leaf 0 dac 32768\n",
-        ),
-        (
-            2,
-            u32::MAX,
-            Output::Dac { value: 0 },
-            Some(0),
-            "leaf 4294967295 dac 0\n",
-        ),
-        (1, 400, track(-1204), None, "sw1 400 track -1204 19629219\n"),
-        (
-            1,
-            400,
-            track(-1204),
-            Some(-980),
-            "sw1 400 track -1204 19629219 true -980\n",
-        ),
-        (
-            2,
-            500,
-            track(0),
-            Some(0),
-            "leaf 500 track 0 44823245 true 0\n",
-        ),
-        (1, 1, link(LinkWord::Down), None, "sw1 1 link 2 down\n"),
-        (1, 1, link(LinkWord::Quiet), Some(7), "sw1 1 link 2 quiet\n"),
-        (1, 1, link(LinkWord::Ptp), None, "sw1 1 link 2 ptp\n"),
-        (
-            1,
-            1,
-            link(LinkWord::In(LinkState::Present)),
-            None,
-            "sw1 1 link 2 present\n",
-        ),
-        (
-            1,
-            1,
-            link(LinkWord::In(LinkState::SLock)),
-            None,
-            "sw1 1 link 2 s-lock\n",
-        ),
-        (
-            1,
-            1,
-            link(LinkWord::In(LinkState::MLock)),
-            None,
-            "sw1 1 link 2 m-lock\n",
-        ),
-        (
-            1,
-            1,
-            link(LinkWord::In(LinkState::Locked)),
-            None,
-            "sw1 1 link 2 locked\n",
-        ),
-        (
-            1,
-            1,
-            link(LinkWord::In(LinkState::Calibration)),
-            None,
-            "sw1 1 link 2 calibration\n",
-        ),
-        (
-            1,
-            1,
-            link(LinkWord::In(LinkState::Calibrated)),
-            None,
-            "sw1 1 link 2 calibrated\n",
-        ),
-        (
-            1,
-            1,
-            link(LinkWord::In(LinkState::RespCalib)),
-            None,
-            "sw1 1 link 2 resp-calib\n",
-        ),
-        (
-            1,
-            26,
-            link(LinkWord::In(LinkState::LinkOn)),
-            None,
-            "sw1 26 link 2 link-on\n",
-        ),
-        (
-            1,
-            26,
-            servo(ServoState::Uninit),
-            None,
-            "sw1 26 servo uninit\n",
-        ),
-        (
-            1,
-            26,
-            servo(ServoState::SyncTai),
-            Some(3),
-            "sw1 26 servo sync-tai\n",
-        ),
-        (
-            1,
-            26,
-            servo(ServoState::SyncNsec),
-            None,
-            "sw1 26 servo sync-nsec\n",
-        ),
-        (
-            1,
-            26,
-            servo(ServoState::SyncPhase),
-            None,
-            "sw1 26 servo sync-phase\n",
-        ),
-        (
-            1,
-            26,
-            servo(ServoState::WaitStable),
-            None,
-            "sw1 26 servo wait-stable\n",
-        ),
-        (
-            1,
-            26,
-            servo(ServoState::Track),
-            None,
-            "sw1 26 servo track\n",
-        ),
-        (
-            1,
-            26,
-            servo(ServoState::Holdover),
-            None,
-            "sw1 26 servo holdover\n",
-        ),
-    ];
-    for (node, tick, output, truth, line) in &rows {
-        let node = node_at(&net, *node)?;
-        let made = output_line(rt.alloc(), &net, node, *tick, output, *truth)?;
-        assert_eq!(rt; made.as_slice(), line.as_bytes());
-    }
+// The line of an output is this one.
+fn prints(
+    rt: &impl Abort,
+    alloc: Global,
+    net: &Network,
+    at: (u8, u32),
+    output: &Output,
+    truth: Option<Tau>,
+    line: &str,
+) -> Result<(), Fail>
+    requires { IsAccepted net.now.cfg net.now.db }
+{
+    let node = node_at(net, at.0)?;
+    let made = output_line(alloc, net, node, at.1, output, truth)?;
+    assert!(rt; made.as_slice() == line.as_bytes(), "{line}");
     Ok(())
 }
+
+#[test]
+fn frames_and_numbers(rt: HostRuntime) -> Result<(), Fail> {
+    let alloc = rt.alloc();
+    let net = reference(alloc)?;
+    let frame = send(&[0x0a, 0xf0, 0x1b]);
+    prints(
+        &rt,
+        alloc,
+        &net,
+        (0, 3),
+        &frame,
+        None,
+        "gm 3 send 1 0af01b\n",
+    )?;
+    prints(
+        &rt,
+        alloc,
+        &net,
+        (1, 3),
+        &send(&[]),
+        Some(-5),
+        "sw1 3 send 1 \n",
+    )?;
+    let step = Output::Step {
+        cycles: -125_000_000,
+    };
+    prints(
+        &rt,
+        alloc,
+        &net,
+        (1, 40),
+        &step,
+        None,
+        "sw1 40 step -125000000\n",
+    )?;
+    let step = Output::Step { cycles: i64::MAX };
+    let line = "sw1 41 step 9223372036854775807\n";
+    prints(&rt, alloc, &net, (1, 41), &step, Some(1), line)?;
+    let dac = Output::Dac { value: 32_768 };
+    prints(&rt, alloc, &net, (2, 0), &dac, None, "leaf 0 dac 32768\n")?;
+    let dac = Output::Dac { value: 0 };
+    prints(
+        &rt,
+        alloc,
+        &net,
+        (2, u32::MAX),
+        &dac,
+        Some(0),
+        "leaf 4294967295 dac 0\n",
+    )
+}
+
+#[test]
+fn tracks(rt: HostRuntime) -> Result<(), Fail> {
+    let alloc = rt.alloc();
+    let net = reference(alloc)?;
+    let line = "sw1 400 track -1204 19629219\n";
+    prints(&rt, alloc, &net, (1, 400), &track(-1204), None, line)?;
+    let line = "sw1 400 track -1204 19629219 true -980\n";
+    prints(&rt, alloc, &net, (1, 400), &track(-1204), Some(-980), line)?;
+    let line = "leaf 500 track 0 44823245 true 0\n";
+    prints(&rt, alloc, &net, (2, 500), &track(0), Some(0), line)
+}
+
+// The words of a port, and how they are printed.
+const WORDS: [LinkWord; 11] = [
+    LinkWord::Down,
+    LinkWord::Quiet,
+    LinkWord::Ptp,
+    LinkWord::In(LinkState::Present),
+    LinkWord::In(LinkState::SLock),
+    LinkWord::In(LinkState::MLock),
+    LinkWord::In(LinkState::Locked),
+    LinkWord::In(LinkState::Calibration),
+    LinkWord::In(LinkState::Calibrated),
+    LinkWord::In(LinkState::RespCalib),
+    LinkWord::In(LinkState::LinkOn),
+];
+
+const WORD_LINES: &str = "\
+    sw1 1 link 2 down\n\
+    sw1 1 link 2 quiet\n\
+    sw1 1 link 2 ptp\n\
+    sw1 1 link 2 present\n\
+    sw1 1 link 2 s-lock\n\
+    sw1 1 link 2 m-lock\n\
+    sw1 1 link 2 locked\n\
+    sw1 1 link 2 calibration\n\
+    sw1 1 link 2 calibrated\n\
+    sw1 1 link 2 resp-calib\n\
+    sw1 1 link 2 link-on\n";
+
+#[test]
+fn words(rt: HostRuntime) -> Result<(), Fail> {
+    let net = reference(rt.alloc())?;
+    let mut lines = WORD_LINES.split_inclusive('\n');
+    for word in WORDS {
+        let line = lines.next().ok_or("a line")?;
+        prints(&rt, rt.alloc(), &net, (1, 1), &link(word), Some(7), line)?;
+    }
+    assert!(rt; lines.next().is_none());
+    Ok(())
+}
+
+// The states of a servo, and how they are printed.
+const STATES: [ServoState; 7] = [
+    ServoState::Uninit,
+    ServoState::SyncTai,
+    ServoState::SyncNsec,
+    ServoState::SyncPhase,
+    ServoState::WaitStable,
+    ServoState::Track,
+    ServoState::Holdover,
+];
+
+const STATE_LINES: &str = "\
+    sw1 26 servo uninit\n\
+    sw1 26 servo sync-tai\n\
+    sw1 26 servo sync-nsec\n\
+    sw1 26 servo sync-phase\n\
+    sw1 26 servo wait-stable\n\
+    sw1 26 servo track\n\
+    sw1 26 servo holdover\n";
+
+#[test]
+fn states(rt: HostRuntime) -> Result<(), Fail> {
+    let net = reference(rt.alloc())?;
+    let mut lines = STATE_LINES.split_inclusive('\n');
+    for state in STATES {
+        let line = lines.next().ok_or("a line")?;
+        prints(&rt, rt.alloc(), &net, (1, 26), &servo(state), Some(3), line)?;
+    }
+    assert!(rt; lines.next().is_none());
+    Ok(())
+}
+
+const COUNT_LINES: &str = "\
+    leaf count 1 short 1\n\
+    leaf count 1 version 2\n\
+    leaf count 1 kind 3\n\
+    leaf count 1 length 4\n\
+    leaf count 1 time 5\n\
+    leaf count 1 tlv 6\n\
+    leaf count 1 badwr 7\n\
+    leaf count 1 onestep 8\n\
+    leaf count 1 domain 9\n\
+    leaf count 1 stranger 10\n\
+    leaf count 1 notforus 11\n\
+    leaf count 1 quiet 12\n\
+    leaf count 1 unmatched 13\n\
+    leaf count 1 range 14\n\
+    leaf count 1 sample 15\n";
 
 #[test]
 fn counts(rt: HostRuntime) -> Result<(), Fail> {
     let net = reference(rt.alloc())?;
-    let lines = [
-        "leaf count 1 short 1\n",
-        "leaf count 1 version 2\n",
-        "leaf count 1 kind 3\n",
-        "leaf count 1 length 4\n",
-        "leaf count 1 time 5\n",
-        "leaf count 1 tlv 6\n",
-        "leaf count 1 badwr 7\n",
-        "leaf count 1 onestep 8\n",
-        "leaf count 1 domain 9\n",
-        "leaf count 1 stranger 10\n",
-        "leaf count 1 notforus 11\n",
-        "leaf count 1 quiet 12\n",
-        "leaf count 1 unmatched 13\n",
-        "leaf count 1 range 14\n",
-        "leaf count 1 sample 15\n",
-    ];
     let leaf = node_at(&net, 2)?;
+    let mut lines = COUNT_LINES.split_inclusive('\n');
     for reason in 1..16 {
-        let line = count_line(rt.alloc(), &net, leaf, 1, reason, u32::from(reason))?;
-        assert_eq!(rt; line.as_slice(), lines[usize::from(reason) - 1].as_bytes());
+        let line = lines.next().ok_or("a line")?;
+        let made = count_line(rt.alloc(), &net, leaf, 1, reason, u32::from(reason))?;
+        assert!(rt; made.as_slice() == line.as_bytes(), "{line}");
     }
     Ok(())
 }
 
-// What sums up a run.
-fn sum(ticks: u32, tracks: u64, worst: u128, bound: Tau, state: ServoState) -> Sum {
+// The line that sums up a run is this one.
+fn sums_up(rt: &impl Abort, alloc: Global, name: &str, sum: Sum, line: &str) -> Result<(), Fail> {
+    let mut text = Vec::new(alloc);
+    append_sum_line(alloc, name, sum, &mut text)?;
+    assert!(rt; text.as_slice() == line.as_bytes(), "{line}");
+    Ok(())
+}
+
+// What sums up a run with no ticks and no tracks.
+fn nothing(bound: Tau) -> Sum {
     Sum {
-        ticks,
-        tracks,
-        worst,
+        ticks: 0,
+        tracks: 0,
+        worst: 0,
         bound,
-        state,
+        state: ServoState::Uninit,
     }
 }
+
+// What sums up a run with the greatest numbers.
+fn greatest() -> Sum {
+    Sum {
+        ticks: u32::MAX,
+        tracks: u64::MAX,
+        worst: 1 << 127,
+        bound: 44_823_245,
+        state: ServoState::Holdover,
+    }
+}
+
+// The line of the greatest numbers.
+const GREATEST: &str = "\
+    leaf sum 4294967295 18446744073709551615 170141183460469231731687303715884105728 44823245 holdover\n";
 
 #[test]
 fn sums(rt: HostRuntime) -> Result<(), Fail> {
-    let rows = [
-        (
-            "gm",
-            sum(0, 0, 0, 0, ServoState::Uninit),
-            "gm sum 0 0 0 0 uninit\n",
-        ),
-        (
-            "sw1",
-            sum(0, 0, 0, 19_629_219, ServoState::Uninit),
-            "sw1 sum 0 0 0 19629219 uninit\n",
-        ),
-        (
-            "leaf",
-            sum(
-                u32::MAX,
-                u64::MAX,
-                1 << 127,
-                44_823_245,
-                ServoState::Holdover,
-            ),
-            "leaf sum 4294967295 18446744073709551615 170141183460469231731687303715884105728 44823245 holdover\n",
-        ),
-    ];
-    for (name, sum, line) in rows {
-        let mut text = Vec::new(rt.alloc());
-        append_sum_line(rt.alloc(), name, sum, &mut text)?;
-        assert_eq!(rt; text.as_slice(), line.as_bytes());
-    }
-    Ok(())
+    let alloc = rt.alloc();
+    sums_up(&rt, alloc, "gm", nothing(0), "gm sum 0 0 0 0 uninit\n")?;
+    let line = "sw1 sum 0 0 0 19629219 uninit\n";
+    sums_up(&rt, alloc, "sw1", nothing(19_629_219), line)?;
+    sums_up(&rt, alloc, "leaf", greatest(), GREATEST)
 }

@@ -4,7 +4,9 @@ ghost use Rattle.wrp_config.specs.Accepted.{IsAccepted};
 ghost use Rattle.wrp_trace.specs.InputAt.{IsInputAt};
 ghost use Rattle.wrp_trace.specs.Site.{site_of};
 
+use crate::rows::{number_at, pair_of};
 use std::alloc::Global;
+use std::process::Abort;
 use std::test::*;
 use wrp_base::{Frame, Module, Raw, Stamp};
 use wrp_config::Network;
@@ -32,31 +34,58 @@ fn network(alloc: Global, text: &str) -> Result<Network, Fail>
     }
 }
 
-// The number of a fault and its field; 0 for a line that is taken, and 5 for want of memory.
-fn told(answer: &Result<Input, TraceFault>) -> (u8, u32) {
-    match answer {
-        Ok(_) => (0, 0),
-        Err(TraceFault::Fields) => (1, 0),
-        Err(TraceFault::Kind) => (2, 0),
-        Err(TraceFault::Number { field }) => (3, *field),
-        Err(TraceFault::Name { field }) => (4, *field),
-        Err(TraceFault::Memory(_)) => (5, 0),
+// The number of a fault and its field; 0 for none, and 5 for want of memory.
+fn told(fault: Option<TraceFault>) -> (u32, u32) {
+    match fault {
+        None => (0, 0),
+        Some(TraceFault::Fields) => (1, 0),
+        Some(TraceFault::Kind) => (2, 0),
+        Some(TraceFault::Number { field }) => (3, field),
+        Some(TraceFault::Name { field }) => (4, field),
+        Some(TraceFault::Memory(_)) => (5, 0),
     }
+}
+
+// The fault of a line, as it is told.
+fn fault_of(alloc: Global, net: &Network, node: u8, line: &str) -> (u32, u32) {
+    told(read_input(alloc, line.as_bytes(), net, node).err())
+}
+
+// The fault and the field that stand behind so many numbers.
+fn due_at(numbers: &str, place: usize) -> Option<(u32, u32)> {
+    Some((
+        number_at(numbers, place)?,
+        number_at(numbers, place.checked_add(1)?)?,
+    ))
+}
+
+// The node of a row.
+fn node_of(numbers: &str) -> Option<u8> {
+    u8::try_from(number_at(numbers, 0)?).ok()
+}
+
+// One line that is refused.
+fn refuses(rt: &impl Abort, alloc: Global, net: &Network, row: &str) -> Result<(), Fail> {
+    let (numbers, line) = pair_of(row);
+    let node = node_of(numbers).ok_or("a node")?;
+    let due = due_at(numbers, 1).ok_or("a fault")?;
+    assert_eq!(rt; fault_of(alloc, net, node, line), due, "{line}");
+    Ok(())
+}
+
+// The lines of a text, over a network.
+fn refuses_all(rt: &impl Abort, alloc: Global, net: &str, rows: &str) -> Result<(), Fail> {
+    let net = network(alloc, net)?;
+    for row in rows.split_terminator('^') {
+        refuses(rt, alloc, &net, row)?;
+    }
+    Ok(())
 }
 
 #[test]
 fn refused(rt: HostRuntime) -> Result<(), Fail> {
-    let net = network(rt.alloc(), THREE_NODES)?;
-    for (line, node, number, field) in REFUSED {
-        let answer = read_input(rt.alloc(), line.as_bytes(), &net, node);
-        assert_eq!(rt; told(&answer), (number, field), "{line}");
-    }
-    let two = network(rt.alloc(), TWO_NODES)?;
-    for (line, number, field) in BAD_RECORDS {
-        let answer = read_input(rt.alloc(), line.as_bytes(), &two, SW1);
-        assert_eq!(rt; told(&answer), (number, field), "{line}");
-    }
-    Ok(())
+    refuses_all(&rt, rt.alloc(), THREE_NODES, REFUSED)?;
+    refuses_all(&rt, rt.alloc(), TWO_NODES, BAD_RECORDS)
 }
 
 // What a line says.
@@ -69,29 +98,47 @@ fn said(alloc: Global, net: &Network, node: u8, line: &[u8]) -> Result<Input, Fa
     }
 }
 
-#[test]
-fn taken(rt: HostRuntime) -> Result<(), Fail> {
-    let net = network(rt.alloc(), THREE_NODES)?;
-    for (line, node, printed) in TAKEN {
-        let input = said(rt.alloc(), &net, node, line.as_bytes())?;
-        let text = input_line(rt.alloc(), node, &input, &net)?;
-        assert_eq!(rt; text.as_slice(), printed.as_bytes(), "{line}");
-        let again = said(rt.alloc(), &net, node, text.as_slice())?;
-        assert_eq!(rt; again, input, "{line}");
+// A line that is printed so, and read as the same again.
+fn takes(
+    rt: &impl Abort,
+    alloc: Global,
+    net: &Network,
+    node: u8,
+    line: &str,
+    printed: &str,
+) -> Result<(), Fail>
+    requires { IsAccepted net.now.cfg net.now.db }
+{
+    let input = said(alloc, net, node, line.as_bytes())?;
+    let text = input_line(alloc, node, &input, net)?;
+    assert_eq!(rt; text.as_slice(), printed.as_bytes(), "{line}");
+    let again = said(alloc, net, node, text.as_slice())?;
+    assert!(rt; again == input, "{line}");
+    Ok(())
+}
+
+// The lines of a text, over a network.
+fn takes_all(rt: &impl Abort, alloc: Global, net: &str, rows: &str) -> Result<(), Fail> {
+    let net = network(alloc, net)?;
+    for row in rows.split_terminator('^') {
+        let (node, lines) = pair_of(row);
+        let (line, printed) = pair_of(lines);
+        takes(
+            rt,
+            alloc,
+            &net,
+            node_of(node).ok_or("a node")?,
+            line,
+            printed,
+        )?;
     }
     Ok(())
 }
 
-// The records with which a handshake starts are printed as they were.
 #[test]
-fn handshake(rt: HostRuntime) -> Result<(), Fail> {
-    let net = network(rt.alloc(), TWO_NODES)?;
-    for line in HANDSHAKE {
-        let input = said(rt.alloc(), &net, SW1, line.as_bytes())?;
-        let text = input_line(rt.alloc(), SW1, &input, &net)?;
-        assert_eq!(rt; text.as_slice(), line.as_bytes());
-    }
-    Ok(())
+fn taken(rt: HostRuntime) -> Result<(), Fail> {
+    takes_all(&rt, rt.alloc(), THREE_NODES, TAKEN)?;
+    takes_all(&rt, rt.alloc(), TWO_NODES, HANDSHAKE)
 }
 
 // The module of four numbers.
@@ -120,31 +167,48 @@ fn comes(port: u16, module: Option<Module>) -> Input {
     }
 }
 
-// `blue` has other numbers at the two ends of a link, and `grey` is listed at one of them alone.
-#[test]
-fn modules(rt: HostRuntime) -> Result<(), Fail> {
-    let net = network(rt.alloc(), THREE_NODES)?;
-    for (node, line, input) in [
-        (GM, "up,1,blue", comes(1, module((1000, 2000, 10, 5)))),
-        (SW1, "up,1,blue", comes(1, module((3000, 4000, 20, 6)))),
-        (GM, "up,1,grey", comes(1, module((1, 2, 3, 4)))),
-        (SW1, "up,2,copy", comes(2, module((7, 8, 9, 1)))),
-        (SW1, "up,1,unlisted", comes(1, None)),
-    ] {
-        let answer = said(rt.alloc(), &net, node, line.as_bytes())?;
-        assert_eq!(rt; answer, input, "{line}");
-    }
+// A line says this.
+fn says(
+    rt: &impl Abort,
+    alloc: Global,
+    net: &Network,
+    node: u8,
+    line: &str,
+    input: &Input,
+) -> Result<(), Fail> {
+    let answer = said(alloc, net, node, line.as_bytes())?;
+    assert!(rt; answer == *input, "{line}");
     Ok(())
 }
 
-// The input of each line that has numbers.
-fn inputs_of() -> [(&'static str, Input); 4] {
-    let sample = Input::Sample {
+// `blue` has other numbers at the two ends of a link, and `grey` is listed at one of them alone.
+#[test]
+fn modules(rt: HostRuntime) -> Result<(), Fail> {
+    let alloc = rt.alloc();
+    let net = network(alloc, THREE_NODES)?;
+    let here = comes(1, module((1000, 2000, 10, 5)));
+    says(&rt, alloc, &net, GM, "up,1,blue", &here)?;
+    let there = comes(1, module((3000, 4000, 20, 6)));
+    says(&rt, alloc, &net, SW1, "up,1,blue", &there)?;
+    let grey = comes(1, module((1, 2, 3, 4)));
+    says(&rt, alloc, &net, GM, "up,1,grey", &grey)?;
+    let copy = comes(2, module((7, 8, 9, 1)));
+    says(&rt, alloc, &net, SW1, "up,2,copy", &copy)?;
+    says(&rt, alloc, &net, SW1, "up,1,unlisted", &comes(1, None))
+}
+
+// A sample.
+fn sample() -> Input {
+    Input::Sample {
         n: 4_294_967_295,
         base: 100,
         bits: 0x8000_0000_0000_00ff,
-    };
-    let received = Input::Frame {
+    }
+}
+
+// A frame that was received.
+fn received() -> Input {
+    Input::Frame {
         port: 2,
         bytes: frame(&[0x00, 0xff, 0xa0]),
         raw: Raw {
@@ -153,8 +217,12 @@ fn inputs_of() -> [(&'static str, Input); 4] {
             tag: 16_383,
         },
         sample: 5,
-    };
-    let sent = Input::Sent {
+    }
+}
+
+// The stamp of a Delay_Req that was sent.
+fn sent() -> Input {
+    Input::Sent {
         port: 1,
         seq: 258,
         delay: true,
@@ -162,28 +230,28 @@ fn inputs_of() -> [(&'static str, Input); 4] {
             value: 7_000,
             sample: 3,
         },
-    };
-    let goes = Input::Carrier {
-        port: 2,
+    }
+}
+
+// A carrier goes.
+fn goes(port: u16) -> Input {
+    Input::Carrier {
+        port,
         up: false,
         module: None,
-    };
-    [
-        ("sample,4294967295,100,80000000000000FF", sample),
-        ("frame,2,00fFA0,1000,1001,16383,5", received),
-        ("sent,1,delay,258,7000,3", sent),
-        ("down,2", goes),
-    ]
+    }
 }
 
 #[test]
 fn numbers(rt: HostRuntime) -> Result<(), Fail> {
-    let net = network(rt.alloc(), THREE_NODES)?;
-    for (line, input) in inputs_of() {
-        let answer = said(rt.alloc(), &net, SW1, line.as_bytes())?;
-        assert_eq!(rt; answer, input, "{line}");
-    }
-    Ok(())
+    let alloc = rt.alloc();
+    let net = network(alloc, THREE_NODES)?;
+    let line = "sample,4294967295,100,80000000000000FF";
+    says(&rt, alloc, &net, SW1, line, &sample())?;
+    let line = "frame,2,00fFA0,1000,1001,16383,5";
+    says(&rt, alloc, &net, SW1, line, &received())?;
+    says(&rt, alloc, &net, SW1, "sent,1,delay,258,7000,3", &sent())?;
+    says(&rt, alloc, &net, SW1, "down,2", &goes(2))
 }
 
 // A frame of so many octets.
@@ -192,13 +260,24 @@ fn frame_line(alloc: Global, count: usize) -> Result<String, Fail> {
     Ok(format!(in alloc; "frame,1,{octets},1,1,0,0")?)
 }
 
+// A frame of so many octets has this fault.
+fn tries_size(
+    rt: &impl Abort,
+    alloc: Global,
+    net: &Network,
+    count: usize,
+    due: (u32, u32),
+) -> Result<(), Fail> {
+    let line = frame_line(alloc, count)?;
+    assert_eq!(rt; fault_of(alloc, net, SW1, line.as_str()), due, "{count}");
+    Ok(())
+}
+
 #[test]
 fn sizes(rt: HostRuntime) -> Result<(), Fail> {
     let net = network(rt.alloc(), THREE_NODES)?;
     for (count, due) in [(0, (0, 0)), (256, (0, 0)), (257, (3, 3)), (4000, (3, 3))] {
-        let line = frame_line(rt.alloc(), count)?;
-        let answer = read_input(rt.alloc(), line.as_bytes(), &net, SW1);
-        assert_eq!(rt; told(&answer), due, "{count}");
+        tries_size(&rt, rt.alloc(), &net, count, due)?;
     }
     Ok(())
 }

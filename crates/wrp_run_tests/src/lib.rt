@@ -3,6 +3,8 @@
 #![tactic(auto)]
 
 #[cfg(test)]
+mod running;
+#[cfg(test)]
 mod simulated;
 #[cfg(test)]
 mod top_call;

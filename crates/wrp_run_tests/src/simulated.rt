@@ -1,11 +1,15 @@
 //! Long simulations of the network of three nodes: which lines come, and what they tell.
-use std::alloc::Global;
+use crate::running::{Ended, Faults, ran};
+use std::alloc::{AllocError, Global};
 use std::test::Fail;
-use wrp_io::{MemLink, MemSink, MemSource};
-use wrp_run::{Status, run};
+use wrp_run::Status;
 
-// How many octets a run writes at most.
-const ROOM: usize = 4_194_304;
+// Nothing fails, and there is room for all that a run writes.
+const AMPLE: Faults = Faults {
+    room: 4_194_304,
+    source: 0,
+    sink: 0,
+};
 
 // The nodes and the links.
 const NODES: &str = "\
@@ -72,17 +76,19 @@ const NETWORKS: &[(&str, &str, i64, i64)] = &[
     ),
 ];
 
-// What a run with seed 1 writes, where it answers Done.
-fn written(alloc: Global, front: &str, back: &str, fault: &str) -> Result<String, Fail> {
-    let input = format!(in alloc; "{front}{NODES}{back}{SCENARIO}{fault}")?;
-    let mut source = MemSource::new(input.as_bytes().to_vec(alloc)?, Vec::new(alloc));
-    let mut sink = MemSink::new(alloc, ROOM, Vec::new(alloc))?;
-    let mut link = MemLink::new(alloc, 0, Vec::new(alloc))?;
-    let words = ["simulate", "--seed", "1"];
-    match run(alloc, words.as_slice(), &mut source, &mut sink, &mut link) {
-        Status::Done => Ok(String::from_utf8(sink.octets().to_vec(alloc)?)?),
-        _ => Ok(String::new(alloc)),
+// These texts, one behind the other.
+fn joined(alloc: Global, texts: &[&str]) -> Result<String, AllocError> {
+    let mut all = String::new(alloc);
+    for text in texts {
+        all.push_str(text)?;
     }
+    Ok(all)
+}
+
+// A run with seed 1.
+fn simulated(alloc: Global, front: &str, back: &str, fault: &str) -> Result<Ended, Fail> {
+    let input = joined(alloc, &[front, NODES, back, SCENARIO, fault])?;
+    ran(alloc, "simulate --seed 1", AMPLE, input.as_str())
 }
 
 // Whether a track line prints this bound, and a true offset within it.
@@ -120,12 +126,19 @@ fn tracks_of(text: &str, name: &str, bound: i64) -> Option<u64> {
     Some(count)
 }
 
+// Whether both slaves track in a run, within these bounds.
+fn tracks_so(alloc: Global, front: &str, back: &str, bounds: (i64, i64)) -> Result<bool, Fail> {
+    let ran = simulated(alloc, front, back, "")?;
+    let text = ran.text();
+    let both = tracks_of(text, "sw1", bounds.0) > Some(0)
+        && tracks_of(text, "leaf", bounds.1) > Some(0);
+    Ok(both && ran.status == Status::Done)
+}
+
 #[test]
 fn tracks_within_bounds(rt: HostRuntime) -> Result<(), Fail> {
     for (front, back, upper, lower) in NETWORKS {
-        let text = written(rt.alloc(), front, back, "")?;
-        assert!(rt; tracks_of(text.as_str(), "sw1", *upper) > Some(0));
-        assert!(rt; tracks_of(text.as_str(), "leaf", *lower) > Some(0));
+        assert!(rt; tracks_so(rt.alloc(), front, back, (*upper, *lower))?);
     }
     Ok(())
 }
@@ -165,18 +178,33 @@ fn has_from(text: &str, name: &str, kind: &str, from: u64) -> bool {
     false
 }
 
+// Whether a node comes to HOLDOVER, and has no step line in the 320 ticks from there on.
+fn holds_still(text: &str, name: &str) -> bool {
+    match held_from(text, name) {
+        Some(from) => !has_from(text, name, "step", from),
+        None => false,
+    }
+}
+
+// Whether the first line of sw1 behind the one with which it comes to HOLDOVER tells that its link is down.
+fn is_down_next(text: &str) -> bool {
+    let mut is_held = false;
+    for line in text.lines() {
+        if line.starts_with("sw1 ") {
+            if is_held {
+                return line.ends_with(" link 1 down");
+            }
+            is_held = line.ends_with(" servo holdover");
+        }
+    }
+    false
+}
+
 #[test]
 fn holdover_behind_a_cut(rt: HostRuntime) -> Result<(), Fail> {
-    let text = written(rt.alloc(), "", "", "fault,100000,cut,f1\n")?;
-    for name in ["sw1", "leaf"] {
-        let from = held_from(text.as_str(), name);
-        assert!(rt; from.is_some());
-        assert!(rt; !has_from(text.as_str(), name, "step", from.unwrap_or(0)));
-    }
-    let mut lines = text.lines();
-    let at = lines.find(|line| line.starts_with("sw1 ") && line.ends_with(" servo holdover"));
-    assert!(rt; at.is_some());
-    let next = lines.find(|line| line.starts_with("sw1 "));
-    assert!(rt; next.is_some_and(|line| line.ends_with(" link 1 down")));
+    let ran = simulated(rt.alloc(), "", "", "fault,100000,cut,f1\n")?;
+    let text = ran.text();
+    let both = holds_still(text, "sw1") && holds_still(text, "leaf");
+    assert!(rt; both && is_down_next(text) && ran.status == Status::Done);
     Ok(())
 }

@@ -5,8 +5,9 @@ ghost use Rattle.wrp_sim.specs.Scenario.{IsSceneOf};
 
 mod lines;
 
-use lines::{REFUSED, TAKEN, THREE_NODES};
+use lines::{REFUSED, SAID, TAKEN, THREE_NODES};
 use std::alloc::Global;
+use std::process::Abort;
 use std::test::*;
 use wrp_base::{Tau, TraceFault};
 use wrp_config::Network;
@@ -28,7 +29,7 @@ fn three_nodes(alloc: Global) -> Result<Network, Fail>
 }
 
 // The number of a fault and its field; 0 for a line that is taken, and 5 for want of memory.
-fn told(answer: &Result<(), TraceFault>) -> (u8, u32) {
+fn told(answer: &Result<(), TraceFault>) -> (u32, u32) {
     match answer {
         Ok(()) => (0, 0),
         Err(TraceFault::Fields) => (1, 0),
@@ -39,29 +40,67 @@ fn told(answer: &Result<(), TraceFault>) -> (u8, u32) {
     }
 }
 
+// A line is read, with this fault and field; 0 for none.
+fn reads(
+    rt: &impl Abort,
+    alloc: Global,
+    net: &Network,
+    scene: &mut Scene,
+    line: &str,
+    due: (u32, u32),
+)
+    requires net { IsAccepted net.now.cfg net.now.db }
+    requires scene { IsSceneOf net.now.cfg scene.old }
+    ensures { IsSceneOf net.now.cfg scene.new }
+{
+    let answer = scene.read(alloc, line.as_bytes(), net);
+    assert_eq!(rt; told(&answer), due, "{line}");
+}
+
+// The same of a line alone.
+fn reads_alone(rt: &impl Abort, alloc: Global, net: &Network, line: &str, due: (u32, u32))
+    requires { IsAccepted net.now.cfg net.now.db }
+{
+    let mut scene = Scene::new(net);
+    reads(rt, alloc, net, &mut scene, line, due);
+}
+
+// The two numbers of a row, and its line.
+fn row_of(row: &str) -> Option<((u32, u32), &str)> {
+    let (numbers, line) = row.split_once('|')?;
+    let (fault, field) = numbers.split_once(' ')?;
+    Some((
+        (fault.parse::<u32>().ok()?, field.parse::<u32>().ok()?),
+        line,
+    ))
+}
+
 #[test]
-fn lines_alone(rt: HostRuntime) -> Result<(), Fail> {
+fn refused(rt: HostRuntime) -> Result<(), Fail> {
     let net = three_nodes(rt.alloc())?;
-    for (line, number, field) in REFUSED {
-        let mut scene = Scene::new(&net);
-        let answer = scene.read(rt.alloc(), line.as_bytes(), &net);
-        assert_eq!(rt; told(&answer), (number, field), "{line}");
+    for row in REFUSED.split_terminator('^') {
+        let (due, line) = row_of(row).ok_or("a row")?;
+        reads_alone(&rt, rt.alloc(), &net, line, due);
     }
-    for line in TAKEN {
-        let mut scene = Scene::new(&net);
-        let answer = scene.read(rt.alloc(), line.as_bytes(), &net);
-        assert_eq!(rt; told(&answer), (0, 0), "{line}");
+    Ok(())
+}
+
+#[test]
+fn taken(rt: HostRuntime) -> Result<(), Fail> {
+    let net = three_nodes(rt.alloc())?;
+    for line in TAKEN.split_terminator('^') {
+        reads_alone(&rt, rt.alloc(), &net, line, (0, 0));
     }
     Ok(())
 }
 
 // The scenario of lines, of which those that are refused say nothing.
-fn scene_of(alloc: Global, net: &Network, lines: &[&str]) -> Scene
+fn scene_of(alloc: Global, net: &Network, lines: &str) -> Scene
     requires { IsAccepted net.now.cfg net.now.db }
     ensures { IsSceneOf net.now.cfg result }
 {
     let mut scene = Scene::new(net);
-    for line in lines {
+    for line in lines.split_terminator('^') {
         let _answer = scene.read(alloc, line.as_bytes(), net);
     }
     scene
@@ -96,7 +135,7 @@ fn delays_of(scene: &Scene, net: &Network, link: u8) -> Option<(u64, Tau, Tau)>
 #[test]
 fn nothing_said(rt: HostRuntime) -> Result<(), Fail> {
     let net = three_nodes(rt.alloc())?;
-    let scene = scene_of(rt.alloc(), &net, &[]);
+    let scene = scene_of(rt.alloc(), &net, "");
     assert_eq!(rt; scene.duration(), 10_000 * MS);
     assert_eq!(rt; (scene.loss(), scene.repeat()), (0, 0));
     assert_eq!(rt; scene.faults().len(), 0);
@@ -109,31 +148,6 @@ fn nothing_said(rt: HostRuntime) -> Result<(), Fail> {
     Ok(())
 }
 
-// The last line of a kind counts, for each node and link alone, and a refused line changes nothing.
-const SAID: [&str; 21] = [
-    "length,5",
-    "length,120000",
-    "length,10000001",
-    "fibre,f1,1",
-    "fibre,f1,6553600000000",
-    "fibre,f2,8698546094080",
-    "fibre,f2,-1",
-    "offset,sw1,1234567890",
-    "offset,leaf,-5000",
-    "offset,gm,1",
-    "free,sw1,7",
-    "free,sw1,20000",
-    "free,leaf,-20000",
-    "loss,3",
-    "loss,1000",
-    "repeat,4",
-    "repeat,1001",
-    "fault,9,cut,f2",
-    "fault,0,down,sw1",
-    "fault,0,up,sw1",
-    "fault,9,join,f2,",
-];
-
 fn fault(at: Tau, kind: FaultKind) -> Fault {
     Fault { at, kind }
 }
@@ -141,7 +155,7 @@ fn fault(at: Tau, kind: FaultKind) -> Fault {
 #[test]
 fn last_line_counts(rt: HostRuntime) -> Result<(), Fail> {
     let net = three_nodes(rt.alloc())?;
-    let scene = scene_of(rt.alloc(), &net, &SAID);
+    let scene = scene_of(rt.alloc(), &net, SAID);
     assert_eq!(rt; scene.duration(), 120_000 * MS);
     for (link, delays) in [
         (0, (6_553_600_000_000, 3_277_238_822_364, 3_276_361_177_636)),
@@ -170,16 +184,12 @@ fn last_line_counts(rt: HostRuntime) -> Result<(), Fail> {
 #[test]
 fn too_many_faults(rt: HostRuntime) -> Result<(), Fail> {
     let net = three_nodes(rt.alloc())?;
-    let mut scene = scene_of(rt.alloc(), &net, &["fault,1,cut,f1"; 64]);
-    for (line, due) in [
-        ("fault,0,cut,f1", (1, 0)),
-        ("fault,x,burn,zz", (1, 0)),
-        ("fault,0,cut", (1, 0)),
-        ("loss,1", (0, 0)),
-    ] {
-        let answer = scene.read(rt.alloc(), line.as_bytes(), &net);
-        assert_eq!(rt; told(&answer), due, "{line}");
-        assert_eq!(rt; scene.faults().len(), 64, "{line}");
-    }
+    let faults = "fault,1,cut,f1^".repeat(rt.alloc(), 64)?;
+    let mut scene = scene_of(rt.alloc(), &net, faults.as_str());
+    reads(&rt, rt.alloc(), &net, &mut scene, "fault,0,cut,f1", (1, 0));
+    reads(&rt, rt.alloc(), &net, &mut scene, "fault,x,burn,zz", (1, 0));
+    reads(&rt, rt.alloc(), &net, &mut scene, "fault,0,cut", (1, 0));
+    reads(&rt, rt.alloc(), &net, &mut scene, "loss,1", (0, 0));
+    assert_eq!(rt; scene.faults().len(), 64);
     Ok(())
 }

@@ -1,8 +1,13 @@
-//! The networks of the tests.
+//! The networks of the tests, and lines that come often.
 
-/// Two nodes: a grandmaster `gm` and a switch `sw1` on one fibre.
-pub const TWO_NODES: &str = "\
-    [[node]]\n\
+/// Networks by name: `Nodes`, a grandmaster `gm` and a switch `sw1` on one fibre; `Star`, a grandmaster
+/// `newt_gnu` and a switch at each of four of its ports; `Row`, the nodes `fox_urial`, `t` and `pike75` in a
+/// row; `Pair`, `seal_mole` above `elk47`, whose ticks may be 0.9 to 1.1 ms apart; `Locking`, `newt` above
+/// `cat87`, whose loop locks after nine samples; and `Swapped`, `toad26` above `jay`, with a module of the
+/// longest name. Then `Usage`, the line for words that are no command, and 9 ms and a tick of both nodes,
+/// of sw1 first (`Round`) and of gm first (`Later`), and three records of sw1 (`Records`).
+pub const NETWORKS: &str = "\
+    Nodes [[node]]\n\
     name = \"gm\"\n\
     identity = \"001bc5fffe000001\"\n\
     [[node]]\n\
@@ -30,11 +35,8 @@ pub const TWO_NODES: &str = "\
     [[fibre]]\n\
     name = \"smf\"\n\
     kappa = 73622176\n\
-    err = 1310720\n";
-
-/// Five nodes: a grandmaster `newt_gnu` and a switch at each of four of its ports.
-pub const STAR: &str = "\
-    [network]\n\
+    err = 1310720\
+    ^Star [network]\n\
     domain = 181\n\
     epoch = 34359738368\n\
     dmin_ns = 4499098\n\
@@ -127,11 +129,8 @@ pub const STAR: &str = "\
     [[fibre]]\n\
     name = \"seal_bee\"\n\
     kappa = -73622176\n\
-    err = 1310720\n";
-
-/// Three nodes in a row: `fox_urial`, `t`, `pike75`.
-pub const ROW: &str = "\
-    [network]\n\
+    err = 1310720\
+    ^Row [network]\n\
     domain = 255\n\
     dmin_ns = 899541\n\
     dmax_ns = 1100780\n\
@@ -196,11 +195,8 @@ pub const ROW: &str = "\
     [[fibre]]\n\
     name = \"quail\"\n\
     kappa = -73622176\n\
-    err = 1\n";
-
-/// Two nodes, `seal_mole` above `elk47`, whose ticks may be 0.9 to 1.1 ms apart.
-pub const PAIR: &str = "\
-    [network]\n\
+    err = 1\
+    ^Pair [network]\n\
     dmin_ns = 899989\n\
     dmax_ns = 1100569\n\
     life_ns = 300000\n\
@@ -253,11 +249,8 @@ pub const PAIR: &str = "\
     [[fibre]]\n\
     name = \"zebu83\"\n\
     kappa = -73622176\n\
-    err = 1\n";
-
-/// Two nodes, `newt` above `cat87`, whose loop locks after nine samples.
-pub const LOCKING: &str = "\
-    [network]\n\
+    err = 1\
+    ^Locking [network]\n\
     domain = 149\n\
     dmin_ns = 4499227\n\
     dmax_ns = 5500654\n\
@@ -315,11 +308,8 @@ pub const LOCKING: &str = "\
     [[fibre]]\n\
     name = \"wren\"\n\
     kappa = 73622176\n\
-    err = 1\n";
-
-/// Two nodes, `toad26` above `jay`, with a module of the longest name.
-pub const SWAPPED: &str = "\
-    [network]\n\
+    err = 1\
+    ^Swapped [network]\n\
     period_ps = 16000\n\
     domain = 21\n\
     epoch = 17851592829\n\
@@ -380,4 +370,15 @@ pub const SWAPPED: &str = "\
     [[fibre]]\n\
     name = \"lynx36\"\n\
     kappa = 0\n\
-    err = 2103089\n";
+    err = 2103089\
+    ^Usage usage: wrnet audit [--emit NODE] | replay --node NODE | simulate --seed N | loop --seed N\
+    ^Round pass,589824000000000\n\
+    tick,sw1\n\
+    tick,gm\
+    ^Later pass,589824000000000\n\
+    tick,gm\n\
+    tick,sw1\
+    ^Records up,1,violet\n\
+    down,1\n\
+    up,1,violet\
+    ";

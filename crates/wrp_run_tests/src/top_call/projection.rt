@@ -1,16 +1,16 @@
 //! Recorded events of networks: what an audit gives a node, replayed, gives that node's lines again.
-use super::networks::{LOCKING, PAIR, ROW, STAR, SWAPPED, TWO_NODES};
-use super::runs::NO_FAULTS;
-use super::{Outcome, run_over};
+use super::script::{Case, case_of, push_three, text_of};
+use crate::running::{Ended, NO_FAULTS, ran, ran_over, words_of};
 use std::alloc::{AllocError, Global};
 use std::test::Fail;
 use wrp_run::Status;
 
-// A network, events of it, and the nodes whose inputs are replayed.
-type Recorded = (&'static str, &'static str, &'static [&'static str]);
-
-// Nodes come up and go down, and links are joined and cut.
-const CARRIERS: &str = "\
+// Events of networks, and the nodes whose inputs are replayed.
+const RECORDED: &str = "\
+    nodes come up and go down, and links are joined and cut\n\
+    $ zebu91 k newt_gnu ant hen\n\
+    <Star>\n\
+    ---\n\
     up,newt_gnu,0\n\
     up,zebu91,0\n\
     join,gnu_fox,0,0\n\
@@ -29,10 +29,12 @@ const CARRIERS: &str = "\
     cut,vole\n\
     down,newt_gnu\n\
     down,hen\n\
-    join,gnu_fox,0,0\n";
-
-// Frames of three nodes, one of them delivered twice.
-const FRAMES: &str = "\
+    join,gnu_fox,0,0\n\
+    ~ 0\n\
+    ^frames of three nodes, one of them delivered twice\n\
+    $ pike75 fox_urial t\n\
+    <Row>\n\
+    ---\n\
     join,owl,2273015161856,2273624038494\n\
     join,elk,2174952396061,2174369943695\n\
     up,pike75,-131072000000000000\n\
@@ -99,10 +101,12 @@ const FRAMES: &str = "\
     arrive,10,125000000399533,125000000399533,12621\n\
     deliver,6\n\
     deliver,10\n\
-    depart,t,16,65536000209470499498000\n";
-
-// Two frames arrive, and each is delivered twice.
-const DELIVERIES: &str = "\
+    depart,t,16,65536000209470499498000\n\
+    ~ 0\n\
+    ^two frames arrive, and each is delivered twice\n\
+    $ seal_mole elk47\n\
+    <Pair>\n\
+    ---\n\
     join,jay,3233691465986,3234557680705\n\
     up,seal_mole,0\n\
     up,elk47,-56030757568886\n\
@@ -124,10 +128,12 @@ const DELIVERIES: &str = "\
     deliver,2\n\
     deliver,1\n\
     deliver,2\n\
-    deliver,2\n";
-
-// Octets that the peer did not send.
-const NOISES: &str = "\
+    deliver,2\n\
+    ~ 0\n\
+    ^octets that the peer did not send\n\
+    $ seal_mole elk47\n\
+    <Pair>\n\
+    ---\n\
     join,jay,3233691465986,3234557680705\n\
     up,seal_mole,0\n\
     up,elk47,-56030757568886\n\
@@ -147,10 +153,12 @@ const NOISES: &str = "\
     noise,elk47,3,0002002c00000200000000000000000000000000001bc5fffe00000800030001000000000000000000000000,1,1,0\n\
     noise,elk47,3,0002002c00000000000000000000000000000000001bc5fffe000001000a0001000000000000000000000000,1,1,0\n\
     noise,elk47,3,0001002c00000200000000000000000000000000001bc5fffe000001000a0001000000000000000000000000,1,1,0\n\
-    noise,seal_mole,10,0002002c00000200000000000000000000000000001bc5fffe000001000a0001000000000000000000000000,9223372036854775807,1,16383\n";
-
-// Frames are delivered after their link was cut and joined.
-const LATE: &str = "\
+    noise,seal_mole,10,0002002c00000200000000000000000000000000001bc5fffe000001000a0001000000000000000000000000,9223372036854775807,1,16383\n\
+    ~ 0\n\
+    ^frames are delivered after their link was cut and joined\n\
+    $ seal_mole elk47\n\
+    <Pair>\n\
+    ---\n\
     join,jay,3233691465986,3234557680705\n\
     up,seal_mole,0\n\
     up,elk47,-56030757568886\n\
@@ -171,10 +179,12 @@ const LATE: &str = "\
     cut,jay\n\
     join,jay,3233691465986,3234557680705\n\
     deliver,2\n\
-    deliver,1\n";
-
-// A loop locks.
-const SAMPLES: &str = "\
+    deliver,1\n\
+    ~ 0\n\
+    ^a loop locks\n\
+    $ newt cat87\n\
+    <Locking>\n\
+    ---\n\
     join,newt83,2130944363683,2132479469609\n\
     up,cat87,-729777423549240\n\
     up,newt,0\n\
@@ -189,20 +199,24 @@ const SAMPLES: &str = "\
     sample,cat87,8821,00000000ffffffff\n\
     pass,112078000000000,cat87=-224156\n\
     pass,1\n\
-    pass,112078000000000,cat87=224156\n";
-
-// A node comes up with another module.
-const SWAPS: &str = "\
+    pass,112078000000000,cat87=224156\n\
+    ~ 0\n\
+    ^a node comes up with another module\n\
+    $ toad26 jay\n\
+    <Swapped>\n\
+    ---\n\
     join,mole_pike,4235651589384,4235651589384\n\
     up,toad26,0\n\
     up,jay,-393240316193754\n\
     down,jay\n\
     up,jay,0,7:wren_abcdefghijk:14710876552:14839904316\n\
     down,jay\n\
-    up,jay,0\n";
-
-// Each number at an end of its range.
-const ENDS: &str = "\
+    up,jay,0\n\
+    ~ 0\n\
+    ^each number at an end of its range\n\
+    $ gm sw1\n\
+    <Nodes>\n\
+    ---\n\
     up,gm,-0\n\
     join,f1,000,-0\n\
     pass,0001,sw1=-0,f1=0/-0,gm=0\n\
@@ -212,19 +226,25 @@ const ENDS: &str = "\
     noise,sw1,1,,1,1,0\n\
     noise,sw1,1,Ab,9223372036854775807,1,16383\n\
     down,sw1\n\
-    up,sw1,-1237940039285380274899124224,1:zz:1000000000000:000\n";
-
-// Twenty nodes.
-const RECORDED: &[Recorded] = &[
-    (STAR, CARRIERS, &["zebu91", "k", "newt_gnu", "ant", "hen"]),
-    (ROW, FRAMES, &["pike75", "fox_urial", "t"]),
-    (PAIR, DELIVERIES, &["seal_mole", "elk47"]),
-    (PAIR, NOISES, &["seal_mole", "elk47"]),
-    (PAIR, LATE, &["seal_mole", "elk47"]),
-    (LOCKING, SAMPLES, &["newt", "cat87"]),
-    (SWAPPED, SWAPS, &["toad26", "jay"]),
-    (TWO_NODES, ENDS, &["gm", "sw1"]),
-];
+    up,sw1,-1237940039285380274899124224,1:zz:1000000000000:000\n\
+    ~ 0\n\
+    ^a frame is delivered where its life ends\n\
+    $ gm sw1\n\
+    <Nodes>\n\
+    ---\n\
+    join,f1,0,0\n\
+    up,sw1,0\n\
+    up,gm,0\n\
+    24*<Round>\n\
+    depart,gm,1,65536014155776000000000\n\
+    pass,29622272000\n\
+    arrive,1,125000027000056,125000027000057,8192\n\
+    10*<Later>\n\
+    pass,655330377728000\n\
+    deliver,1\n\
+    pass,1\n\
+    ~ 0\n\
+    ";
 
 // The lines of a node in the text of an audit, without the true offsets.
 fn lines_of(alloc: Global, text: &str, node: &str) -> Result<String, AllocError> {
@@ -239,48 +259,66 @@ fn lines_of(alloc: Global, text: &str, node: &str) -> Result<String, AllocError>
     Ok(lines)
 }
 
-// Whether the inputs that an audit gives a node, replayed, give the node's lines of the audit.
-fn projects(
-    alloc: Global,
-    network: &str,
-    input: &str,
-    audit: &str,
-    node: &str,
-) -> Result<bool, Fail> {
-    let emitted = run_over(alloc, &["audit", "--emit", node], NO_FAULTS, input)?;
-    let records = emitted.text.as_str();
-    let replay = format!(in alloc; "{network}---\n{records}")?;
-    let Outcome { status, text } = run_over(
-        alloc,
-        &["replay", "--node", node],
-        NO_FAULTS,
-        &replay,
-    )?;
-    Ok(
-        emitted.status == Status::Done
-            && status == Status::Done
-            && text == lines_of(alloc, audit, node)?,
-    )
+// A command of a node.
+fn ran_for(alloc: Global, command: &str, node: &str, input: &str) -> Result<Ended, Fail> {
+    let mut words = words_of(alloc, command)?;
+    words.push(node)?;
+    Ok(ran_over(alloc, &words, NO_FAULTS, input)?)
 }
 
-// The first node whose replay gives other lines, or whose audit is not done.
-fn wrong_node(alloc: Global, recorded: Recorded) -> Result<Option<&'static str>, Fail> {
-    let (network, events, nodes) = recorded;
-    let input = format!(in alloc; "{network}---\n{events}")?;
-    let audit = run_over(alloc, &["audit"], NO_FAULTS, &input)?;
-    for node in nodes {
-        let same = projects(alloc, network, &input, audit.text.as_str(), node)?;
-        if audit.status != Status::Done || audit.text.is_empty() || !same {
-            return Ok(Some(*node));
+// Records behind the network of an input.
+fn behind_network(alloc: Global, input: &str, records: &str) -> Result<String, AllocError> {
+    let (network, _events) = input.split_once("---\n").unwrap_or((input, ""));
+    let mut text = String::new(alloc);
+    push_three(&mut text, network, "---\n", records)?;
+    Ok(text)
+}
+
+// Whether a replay of these records gives the node's lines of the audit.
+fn replays(alloc: Global, records: &str, audit: &str, node: &str) -> Result<bool, Fail> {
+    let replay = ran_for(alloc, "replay --node", node, records)?;
+    let lines = lines_of(alloc, audit, node)?;
+    Ok(replay.status == Status::Done && replay.text() == lines.as_str())
+}
+
+// Whether the inputs that an audit gives a node, replayed, give the node's lines of the audit.
+fn projects(alloc: Global, input: &str, audit: &str, node: &str) -> Result<bool, Fail> {
+    let emitted = ran_for(alloc, "audit --emit", node, input)?;
+    let records = behind_network(alloc, input, emitted.text())?;
+    let same = replays(alloc, records.as_str(), audit, node)?;
+    Ok(same && emitted.status == Status::Done)
+}
+
+// The first node whose replay gives other lines.
+fn wrong_replay(
+    alloc: Global,
+    nodes: &'static str,
+    input: &str,
+    audit: &str,
+) -> Result<Option<&'static str>, Fail> {
+    for node in nodes.split(' ') {
+        if !projects(alloc, input, audit, node)? {
+            return Ok(Some(node));
         }
     }
     Ok(None)
 }
 
+// The same of recorded events; `audit` where their audit is not done.
+fn wrong_node(alloc: Global, recorded: Case<'static>) -> Result<Option<&'static str>, Fail> {
+    let input = text_of(alloc, recorded.input)?;
+    let audit = ran(alloc, "audit", NO_FAULTS, input.as_str())?;
+    if audit.status != Status::Done || audit.text().is_empty() {
+        return Ok(Some("audit"));
+    }
+    wrong_replay(alloc, recorded.words, input.as_str(), audit.text())
+}
+
 #[test]
-fn twenty_projections(rt: HostRuntime) -> Result<(), Fail> {
-    for recorded in RECORDED {
-        assert_eq!(rt; wrong_node(rt.alloc(), *recorded)?, None);
+fn projections(rt: HostRuntime) -> Result<(), Fail> {
+    for text in RECORDED.split('^') {
+        let recorded = case_of(text).ok_or("recorded events")?;
+        assert_eq!(rt; wrong_node(rt.alloc(), recorded)?, None);
     }
     Ok(())
 }
