@@ -1,5 +1,5 @@
 //! The frames that are on a fibre, gone through by their places.
-ghost use Rattle.std.specs.Prelude.{◌≡◌, ◌<◌, ◌^◌, length, None, slice_get, false};
+ghost use Rattle.std.specs.Prelude.{◌≡◌, ◌<◌, ◌^◌, filter, length, None, slice_get, false};
 ghost use Rattle.std.specs.Option.{option_map_or};
 ghost use Rattle.wrp_world.specs.OnFibre.{ListsOn};
 ghost use Rattle.wrp_world.specs.Plant.{next_from, is_on, sooner, before};
@@ -59,7 +59,9 @@ fn is_on_at(frames: &[Departed], place: usize) -> bool
 /// Leaves out the places of frames that are no more on a fibre.
 pub fn leave_out(frames: &[Departed], places: &mut Vec<usize>)
     requires { ListsOn 0 frames.now places.old.items }
-    ensures { ListsOn 0 frames.now places.new.items }
+    ensures lists { ListsOn 0 frames.now places.new.items }
+    ensures kept { places.new.items
+        ≡ filter (λ place. option_map_or is_on (slice_get frames.now place) false) places.old.items }
 {
     places.retain(|place| is_on_at(frames, *place));
 }
