@@ -14,8 +14,6 @@ mod memory_source;
 mod queue;
 mod sink;
 mod source;
-#[cfg(test)]
-mod tests;
 
 pub use adapters::{StdSink, StdSource};
 pub use link::{Link, LinkCall, StartFault};

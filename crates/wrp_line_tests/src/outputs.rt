@@ -282,7 +282,7 @@ fn counts(rt: HostRuntime) -> Result<(), Fail> {
 // The line that sums up a run is this one.
 fn sums_up(rt: &impl Abort, alloc: Global, name: &str, sum: Sum, line: &str) -> Result<(), Fail> {
     let mut text = Vec::new(alloc);
-    append_sum_line(alloc, name, sum, &mut text)?;
+    append_sum_line(name, sum, &mut text)?;
     assert!(rt; text.as_slice() == line.as_bytes(), "{line}");
     Ok(())
 }

@@ -1,5 +1,5 @@
 -- The lines of outputs and of counters (this project's profile).
-use Rattle.std.specs.Prelude.{ℕ, ℤ, pos, List, [], ◌∷◌, ◌++◌, Option, None, Some, codes}
+use Rattle.std.specs.Prelude.{◌≡◌, ℕ, ℤ, pos, List, [], ◌∷◌, ◌++◌, Option, None, Some, codes, length, take}
 use Rattle.std.specs.Fmt.{decimal, signed_decimal}
 use Rattle.hex.specs.Hex.{encode_lower}
 use Rattle.wrp_base.specs.declared.configuration.NetCfg.{NetCfg}
@@ -17,11 +17,23 @@ line_of [] = 10 ∷ []
 line_of (word ∷ []) = word ++ 10 ∷ []
 line_of (word ∷ words) = word ++ 32 ∷ line_of words
 
+-- a text begins as an older one
+abbrev pub Begins : List ℕ → List ℕ → Type 0
+Begins old new = take (length old) new ≡ old
+
 -- What a line says of an output, behind the node's name and tick
 
 -- a frame that a port sends, in hex
 abbrev pub send_words : ℕ → List ℕ → List (List ℕ)
 send_words port octets = codes "send" ∷ decimal port ∷ encode_lower octets ∷ []
+
+-- a step of the clock, in periods
+abbrev pub step_words : ℤ → List (List ℕ)
+step_words cycles = codes "step" ∷ signed_decimal cycles ∷ []
+
+-- a DAC value
+abbrev pub dac_words : ℕ → List (List ℕ)
+dac_words value = codes "dac" ∷ decimal value ∷ []
 
 -- the true offset, where it is known
 abbrev pub truth_words : Option ℤ → List (List ℕ)
@@ -33,18 +45,38 @@ abbrev pub track_words : ℤ → ℤ → Option ℤ → List (List ℕ)
 track_words est bound truth =
     codes "track" ∷ signed_decimal est ∷ signed_decimal bound ∷ truth_words truth
 
+-- a port, by how its number and its word are written
+abbrev pub link_words : List ℕ → List ℕ → List (List ℕ)
+link_words port word = codes "link" ∷ port ∷ word ∷ []
+
+-- a servo, by how its state is written
+abbrev pub servo_words : List ℕ → List (List ℕ)
+servo_words state = codes "servo" ∷ state ∷ []
+
 -- a report
 abbrev pub report_words : Report → ℤ → Option ℤ → List (List ℕ)
-report_words (Link port word) bound truth = codes "link" ∷ decimal port ∷ link_word word ∷ []
-report_words (Servo state) bound truth = codes "servo" ∷ servo_word state ∷ []
+report_words (Link port word) bound truth = link_words (decimal port) (link_word word)
+report_words (Servo state) bound truth = servo_words (servo_word state)
 report_words (Track est) bound truth = track_words est bound truth
 
 -- an output
 abbrev pub output_words : Output → ℤ → Option ℤ → List (List ℕ)
 output_words (output.Send port frame) bound truth = send_words port frame.items
-output_words (output.Step cycles) bound truth = codes "step" ∷ signed_decimal cycles ∷ []
-output_words (output.Dac value) bound truth = codes "dac" ∷ decimal value ∷ []
+output_words (output.Step cycles) bound truth = step_words cycles
+output_words (output.Dac value) bound truth = dac_words value
 output_words (output.Report report) bound truth = report_words report bound truth
+
+-- What a line says of a node, behind its name
+
+-- a counter at a port, and how its reason is written
+abbrev pub count_words : ℕ → List ℕ → ℕ → List (List ℕ)
+count_words port reason value = codes "count" ∷ decimal port ∷ reason ∷ decimal value ∷ []
+
+-- its run: its tick count, how many track lines it has, the greatest distance of its true offset from 0
+-- at one of them, in tau, its bound, and how the state of its servo is written
+abbrev pub sum_words : ℕ → ℕ → ℕ → ℤ → List ℕ → List (List ℕ)
+sum_words ticks tracks worst bound state =
+    codes "sum" ∷ decimal ticks ∷ decimal tracks ∷ decimal worst ∷ signed_decimal bound ∷ state ∷ []
 
 -- Lines
 
@@ -60,20 +92,16 @@ output_line cfg n tick o truth = output_line_of (name_at cfg n) tick o (pos (pat
 -- the line of a counter at a port of the node with this name
 abbrev pub count_line_of : List ℕ → ℕ → ℕ → ℕ → List ℕ
 count_line_of name port reason value =
-    line_of (name ∷ codes "count" ∷ decimal port ∷ reason_word reason ∷ decimal value ∷ [])
+    line_of (name ∷ count_words port (reason_word reason) value)
 
 -- the line of a counter at a port of the node of this number
 abbrev pub count_line : NetCfg → ℕ → ℕ → ℕ → ℕ → List ℕ
 count_line cfg n port reason value = count_line_of (name_at cfg n) port reason value
 
--- the line that sums up the run of the node with this name and this bound: its tick count, how many
--- track lines it has, the greatest distance of its true offset from 0 at one of them, in tau, and the
--- state of its servo
+-- the line that sums up the run of the node with this name and this bound
 abbrev pub sum_line_of : List ℕ → ℕ → ℕ → ℕ → ℤ → ServoState → List ℕ
 sum_line_of name ticks tracks worst bound state =
-    line_of
-    (name ∷ codes "sum" ∷ decimal ticks ∷ decimal tracks ∷ decimal worst ∷ signed_decimal bound
-    ∷ servo_word state ∷ [])
+    line_of (name ∷ sum_words ticks tracks worst bound (servo_word state))
 
 -- the same for the node of this number: the bound is that in TRACK
 abbrev pub sum_line : NetCfg → ℕ → ℕ → ℕ → ℕ → ServoState → List ℕ

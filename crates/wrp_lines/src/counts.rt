@@ -1,10 +1,12 @@
 //! The lines of the counters of dropped frames.
-ghost use Rattle.std.specs.Prelude.{◌≡◌, ◌++◌, ◌<◌, ◌≤◌, IfOk, OnOk, OnErr};
+ghost use Rattle.std.specs.Prelude.{◌≡◌, ◌∷◌, ◌++◌, ◌<◌, ◌≤◌, IfOk, OnOk, OnErr};
 ghost use Rattle.wrp_base.specs.Network.{node_count};
 ghost use Rattle.wrp_lines.specs.Lines as lines;
-ghost use Rattle.wrp_lines.specs.Lines.{count_line_of};
+ghost use Rattle.wrp_lines.specs.Lines.{count_line_of, count_words, line_of};
 
+use crate::line::append_words;
 use crate::words::{name_of_node, name_of_reason};
+use itoa::Buffer;
 use std::alloc::{AllocError, Global};
 use wrp_config::Network;
 
@@ -26,14 +28,13 @@ pub fn count_line(
 {
     let mut line = Vec::new(alloc);
     let name = name_of_node(&net.cfg, node);
-    append_count_line(alloc, name, port, reason, value, &mut line)?;
+    append_count_line(name, port, reason, value, &mut line)?;
     Ok(line)
 }
 
 /// Appends to `text` the line of a counter of the node with this name. `reason` is the number of the
 /// reason, 1 to 15. Where there is no memory for the line, `text` keeps its octets.
 pub fn append_count_line(
-    alloc: Global,
     name: &str,
     port: u16,
     reason: u8,
@@ -46,7 +47,23 @@ pub fn append_count_line(
         text.new.items ≡ text.old.items ++ count_line_of name.now port reason value) }
     ensures err { OnErr result (text.new.items ≡ text.old.items) }
 {
-    let reason = name_of_reason(reason);
-    let line = format!(in alloc; "{name} count {port} {reason} {value}\n")?;
-    text.extend_from_slice(line.as_bytes())
+    append_count(name, port, name_of_reason(reason), value, text)
+}
+
+// The same, by the name of the reason.
+fn append_count(
+    name: &str,
+    port: u16,
+    reason: &str,
+    value: u32,
+    text: &mut Vec<u8>,
+) -> Result<(), AllocError>
+    ensures ok { OnOk result (text.new.items ≡ text.old.items
+        ++ line_of (name.now ∷ count_words port reason.now value)) }
+    ensures err { OnErr result (text.new.items ≡ text.old.items) }
+{
+    let mut ports = Buffer::new();
+    let mut values = Buffer::new();
+    let port = ports.format(port);
+    append_words(text, &[name, "count", port, reason, values.format(value)])
 }

@@ -3,6 +3,7 @@
 #![tactic(auto)]
 
 mod counts;
+mod line;
 mod outputs;
 mod sums;
 mod words;

@@ -1,14 +1,15 @@
 //! The lines of a node's outputs.
-ghost use Rattle.std.specs.Fmt.{decimal, signed_decimal};
-ghost use Rattle.std.specs.Prelude.{◌≡◌, ◌∷◌, ◌++◌, ◌<◌, ◌^◌, ◌≤ℤ◌, ◌<ℤ◌, pos, IfOk, OnOk, OnErr};
 ghost use Rattle.std.specs.String.{string_bytes};
+ghost use Rattle.std.specs.Prelude.{◌≡◌, ◌∷◌, ◌++◌, ◌<◌, ◌^◌, ◌≤ℤ◌, ◌<ℤ◌, pos, IfOk, OnOk, OnErr};
 ghost use Rattle.hex.specs.Hex.{encode_lower};
 ghost use Rattle.wrp_base.specs.Network.{HasRanges, IsTree, node_count};
 ghost use Rattle.wrp_bounds.specs.Bounds.{path_of};
 ghost use Rattle.wrp_lines.specs.Lines as lines;
-ghost use Rattle.wrp_lines.specs.Lines.{line_of, output_line_of, report_words, send_words, track_words};
+ghost use Rattle.wrp_lines.specs.Lines.{dac_words, line_of, link_words, output_line_of, report_words, send_words, servo_words, step_words, track_words};
 
+use crate::line::append_words;
 use crate::words::{name_of_node, text_of_link, text_of_servo};
+use itoa::Buffer;
 use std::alloc::{AllocError, Global};
 use wrp_base::{Frame, NetCfg, Tau};
 use wrp_bounds::path;
@@ -85,44 +86,35 @@ pub fn append_line(
         text.new.items ≡ text.old.items ++ output_line_of name.now tick o.now bound truth) }
     ensures err { OnErr result (text.new.items ≡ text.old.items) }
 {
-    let line = line_of_output(alloc, name, tick, o, bound, truth)?;
-    text.extend_from_slice(line.as_bytes())
-}
-
-// The line of an output.
-fn line_of_output(
-    alloc: Global,
-    name: &str,
-    tick: u32,
-    o: &Output,
-    bound: Tau,
-    truth: Option<Tau>,
-) -> Result<String, AllocError>
-    ensures { IfOk result (λ line.
-        string_bytes line ≡ output_line_of name.now tick o.now bound truth) }
-{
+    let mut ticks = Buffer::new();
+    let tick = ticks.format(tick);
     match o {
-        Output::Send { port, frame } => line_of_send(alloc, name, tick, *port, frame),
-        Output::Step { cycles } => format!(in alloc; "{name} {tick} step {cycles}\n"),
-        Output::Dac { value } => format!(in alloc; "{name} {tick} dac {value}\n"),
-        Output::Report(report) => line_of_report(alloc, name, tick, *report, bound, truth),
+        Output::Send { port, frame } => append_send(alloc, name, tick, *port, frame, text),
+        Output::Step { cycles } => append_step(name, tick, *cycles, text),
+        Output::Dac { value } => append_dac(name, tick, *value, text),
+        Output::Report(report) => append_report(name, tick, *report, bound, truth, text),
     }
 }
 
-// The line of a frame that is sent.
-fn line_of_send(
+// Appends the line of a frame that is sent.
+fn append_send(
     alloc: Global,
     name: &str,
-    tick: u32,
+    tick: &str,
     port: u16,
     frame: &Frame,
-) -> Result<String, AllocError>
-    ensures { IfOk result (λ line.
-        string_bytes line ≡ line_of (name.now ∷ decimal tick ∷ send_words port frame.now.items)) }
+    text: &mut Vec<u8>,
+) -> Result<(), AllocError>
+    ensures ok { OnOk result (text.new.items ≡ text.old.items
+        ++ line_of (name.now ∷ tick.now ∷ send_words port frame.now.items)) }
+    ensures err { OnErr result (text.new.items ≡ text.old.items) }
 {
     let octets = hex_of(alloc, frame)?;
-    let octets = octets.as_str();
-    format!(in alloc; "{name} {tick} send {port} {octets}\n")
+    let mut ports = Buffer::new();
+    append_words(
+        text,
+        &[name, tick, "send", ports.format(port), octets.as_str()],
+    )
 }
 
 // The octets of a frame in hex.
@@ -132,60 +124,96 @@ fn hex_of(alloc: Global, frame: &Frame) -> Result<String, AllocError>
     hex::encode(alloc, frame.as_slice())
 }
 
-// The line of a report.
-fn line_of_report(
-    alloc: Global,
+// Appends the line of a step of the clock.
+fn append_step(name: &str, tick: &str, cycles: i64, text: &mut Vec<u8>) -> Result<(), AllocError>
+    ensures ok { OnOk result (text.new.items ≡ text.old.items
+        ++ line_of (name.now ∷ tick.now ∷ step_words cycles)) }
+    ensures err { OnErr result (text.new.items ≡ text.old.items) }
+{
+    let mut steps = Buffer::new();
+    append_words(text, &[name, tick, "step", steps.format(cycles)])
+}
+
+// Appends the line of a DAC value.
+fn append_dac(name: &str, tick: &str, value: u16, text: &mut Vec<u8>) -> Result<(), AllocError>
+    ensures ok { OnOk result (text.new.items ≡ text.old.items
+        ++ line_of (name.now ∷ tick.now ∷ dac_words value)) }
+    ensures err { OnErr result (text.new.items ≡ text.old.items) }
+{
+    let mut values = Buffer::new();
+    append_words(text, &[name, tick, "dac", values.format(value)])
+}
+
+// Appends the line of a report.
+fn append_report(
     name: &str,
-    tick: u32,
+    tick: &str,
     report: Report,
     bound: Tau,
     truth: Option<Tau>,
-) -> Result<String, AllocError>
-    ensures { IfOk result (λ line. string_bytes line
-        ≡ line_of (name.now ∷ decimal tick ∷ report_words report bound truth)) }
+    text: &mut Vec<u8>,
+) -> Result<(), AllocError>
+    ensures ok { OnOk result (text.new.items ≡ text.old.items
+        ++ line_of (name.now ∷ tick.now ∷ report_words report bound truth)) }
+    ensures err { OnErr result (text.new.items ≡ text.old.items) }
 {
     match report {
         Report::Link { port, word } => {
-            let word = text_of_link(word);
-            format!(in alloc; "{name} {tick} link {port} {word}\n")
+            let mut ports = Buffer::new();
+            append_link(name, tick, ports.format(port), text_of_link(word), text)
         }
-        Report::Servo(state) => {
-            let state = text_of_servo(state);
-            format!(in alloc; "{name} {tick} servo {state}\n")
-        }
-        Report::Track { est } => line_of_track(alloc, name, tick, est, bound, truth),
+        Report::Servo(state) => append_servo(name, tick, text_of_servo(state), text),
+        Report::Track { est } => append_track(name, tick, est, bound, truth, text),
     }
 }
 
-// The line of a node in TRACK.
-fn line_of_track(
-    alloc: Global,
+// Appends the line of a port whose number and word are written so.
+fn append_link(
     name: &str,
-    tick: u32,
+    tick: &str,
+    port: &str,
+    word: &str,
+    text: &mut Vec<u8>,
+) -> Result<(), AllocError>
+    ensures ok { OnOk result (text.new.items ≡ text.old.items
+        ++ line_of (name.now ∷ tick.now ∷ link_words port.now word.now)) }
+    ensures err { OnErr result (text.new.items ≡ text.old.items) }
+{
+    append_words(text, &[name, tick, "link", port, word])
+}
+
+// Appends the line of a servo whose state is written so.
+fn append_servo(name: &str, tick: &str, state: &str, text: &mut Vec<u8>) -> Result<(), AllocError>
+    ensures ok { OnOk result (text.new.items ≡ text.old.items
+        ++ line_of (name.now ∷ tick.now ∷ servo_words state.now)) }
+    ensures err { OnErr result (text.new.items ≡ text.old.items) }
+{
+    append_words(text, &[name, tick, "servo", state])
+}
+
+// Appends the line of a node in TRACK.
+fn append_track(
+    name: &str,
+    tick: &str,
     est: Tau,
     bound: Tau,
     truth: Option<Tau>,
-) -> Result<String, AllocError>
-    ensures { IfOk result (λ line. string_bytes line
-        ≡ line_of (name.now ∷ decimal tick ∷ track_words est bound truth)) }
+    text: &mut Vec<u8>,
+) -> Result<(), AllocError>
+    ensures ok { OnOk result (text.new.items ≡ text.old.items
+        ++ line_of (name.now ∷ tick.now ∷ track_words est bound truth)) }
+    ensures err { OnErr result (text.new.items ≡ text.old.items) }
 {
-    let est = decimal_of(alloc, est)?;
-    let est = est.as_str();
-    let bound = decimal_of(alloc, bound)?;
-    let bound = bound.as_str();
+    let mut estimates = Buffer::new();
+    let mut bounds = Buffer::new();
+    let est = estimates.format(est);
+    let bound = bounds.format(bound);
     match truth {
-        None => format!(in alloc; "{name} {tick} track {est} {bound}\n"),
+        None => append_words(text, &[name, tick, "track", est, bound]),
         Some(off) => {
-            let off = decimal_of(alloc, off)?;
-            let off = off.as_str();
-            format!(in alloc; "{name} {tick} track {est} {bound} true {off}\n")
+            let mut offs = Buffer::new();
+            let off = offs.format(off);
+            append_words(text, &[name, tick, "track", est, bound, "true", off])
         }
     }
-}
-
-/// A time in decimal, in tau.
-pub fn decimal_of(alloc: Global, tau: Tau) -> Result<String, AllocError>
-    ensures { IfOk result (λ text. string_bytes text ≡ signed_decimal tau) }
-{
-    format!(in alloc; "{tau}")
 }

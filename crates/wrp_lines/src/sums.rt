@@ -1,12 +1,11 @@
 //! The line that sums up the run of a node.
-ghost use Rattle.std.specs.Fmt.{signed_decimal};
-ghost use Rattle.std.specs.Prelude.{◌≡◌, ◌++◌, IfOk, OnOk, OnErr};
-ghost use Rattle.std.specs.String.{string_bytes};
-ghost use Rattle.wrp_lines.specs.Lines.{sum_line_of};
+ghost use Rattle.std.specs.Prelude.{◌≡◌, ◌∷◌, ◌++◌, OnOk, OnErr};
+ghost use Rattle.wrp_lines.specs.Lines.{line_of, sum_line_of, sum_words};
 
-use crate::outputs::decimal_of;
+use crate::line::append_words;
 use crate::words::text_of_servo;
-use std::alloc::{AllocError, Global};
+use itoa::Buffer;
+use std::alloc::AllocError;
 use wrp_base::{ServoState, Tau};
 
 /// What sums up the run of a node.
@@ -26,34 +25,27 @@ pub struct Sum {
 
 /// Appends to `text` the line that sums up the run of the node with this name. Where there is no memory
 /// for the line, `text` keeps its octets.
-pub fn append_sum_line(
-    alloc: Global,
-    name: &str,
-    sum: Sum,
-    text: &mut Vec<u8>,
-) -> Result<(), AllocError>
+pub fn append_sum_line(name: &str, sum: Sum, text: &mut Vec<u8>) -> Result<(), AllocError>
     ensures ok { OnOk result (text.new.items ≡ text.old.items
         ++ sum_line_of name.now sum.ticks sum.tracks sum.worst sum.bound sum.state) }
     ensures err { OnErr result (text.new.items ≡ text.old.items) }
 {
-    let line = line_of_sum(alloc, name, sum)?;
-    text.extend_from_slice(line.as_bytes())
+    append_sum(name, sum, text_of_servo(sum.state), text)
 }
 
-// The line that sums up the run of a node.
-fn line_of_sum(alloc: Global, name: &str, sum: Sum) -> Result<String, AllocError>
-    ensures { IfOk result (λ line. string_bytes line
-        ≡ sum_line_of name.now sum.ticks sum.tracks sum.worst sum.bound sum.state) }
+// The same, by the name of the servo's state.
+fn append_sum(name: &str, sum: Sum, state: &str, text: &mut Vec<u8>) -> Result<(), AllocError>
+    ensures ok { OnOk result (text.new.items ≡ text.old.items
+        ++ line_of (name.now ∷ sum_words sum.ticks sum.tracks sum.worst sum.bound state.now)) }
+    ensures err { OnErr result (text.new.items ≡ text.old.items) }
 {
-    let Sum {
-        ticks,
-        tracks,
-        worst,
-        bound,
-        state,
-    } = sum;
-    let bound = decimal_of(alloc, bound)?;
-    let bound = bound.as_str();
-    let state = text_of_servo(state);
-    format!(in alloc; "{name} sum {ticks} {tracks} {worst} {bound} {state}\n")
+    let mut ticks = Buffer::new();
+    let mut tracks = Buffer::new();
+    let mut worst = Buffer::new();
+    let mut bounds = Buffer::new();
+    let ticks = ticks.format(sum.ticks);
+    let tracks = tracks.format(sum.tracks);
+    let worst = worst.format(sum.worst);
+    let bound = bounds.format(sum.bound);
+    append_words(text, &[name, "sum", ticks, tracks, worst, bound, state])
 }

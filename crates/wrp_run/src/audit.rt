@@ -73,7 +73,7 @@ impl<F: Fn(i64) -> i64> AuditedNetwork<F> {
     }
 
     /// Appends the lines that close the records.
-    pub fn close(&self, alloc: Global, text: &mut Vec<u8>) -> Result<(), AllocError>
+    pub fn close(&self, text: &mut Vec<u8>) -> Result<(), AllocError>
         requires ready { CanAudit F.pre F.post self.now }
         requires none { text.old.items ≡ [] }
         ensures { IfOk result (λ _. (lines : List (List ℕ)) → HasAudited F.post self.now lines
@@ -81,7 +81,7 @@ impl<F: Fn(i64) -> i64> AuditedNetwork<F> {
             text.new.items) }
     {
         match self.emit {
-            None => append_all_counts(alloc, &self.world, text),
+            None => append_all_counts(&self.world, text),
             Some(_) => Ok(()),
         }
     }

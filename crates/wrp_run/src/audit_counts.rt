@@ -12,7 +12,7 @@ ghost use Rattle.wrp_run.specs.StandsFor.{site_at};
 
 use crate::counting::append_counts;
 use crate::replayed::Replayed;
-use std::alloc::{AllocError, Global};
+use std::alloc::AllocError;
 use wrp_config::Network;
 use wrp_world::World;
 
@@ -29,7 +29,6 @@ fn name_of<'a>(replayed: Replayed<'a>) -> &'a str
 
 // Appends those of a node.
 fn append_node<F: Fn(i64) -> i64>(
-    alloc: Global,
     world: &World<F>,
     node: u8,
     text: &mut Vec<u8>,
@@ -44,7 +43,7 @@ fn append_node<F: Fn(i64) -> i64>(
         node,
     };
     let name = name_of(replayed);
-    append_counts(alloc, replayed, name, world.node(node), text)
+    append_counts(replayed, name, world.node(node), text)
 }
 
 /// How many nodes a network has.
@@ -56,7 +55,6 @@ pub fn count_of(net: &Network) -> u8
 
 /// Appends those of all nodes.
 pub fn append_all_counts<F: Fn(i64) -> i64>(
-    alloc: Global,
     world: &World<F>,
     text: &mut Vec<u8>,
 ) -> Result<(), AllocError>
@@ -67,7 +65,7 @@ pub fn append_all_counts<F: Fn(i64) -> i64>(
     let count = count_of(world.net());
     let mut node: u8 = 0;
     while node < count {
-        append_node(alloc, world, node, text)?;
+        append_node(world, node, text)?;
         node += 1;
     }
     Ok(())

@@ -10,7 +10,7 @@ ghost use Rattle.wrp_run.specs.NodeText.{nonzero_line, port_counts, node_counts}
 ghost use Rattle.wrp_run.specs.StandsFor.{OwnsPorts, site_at};
 
 use crate::replayed::Replayed;
-use std::alloc::{AllocError, Global};
+use std::alloc::AllocError;
 use wrp_config::pair_at;
 use wrp_data::Reason;
 use wrp_lines::append_count_line;
@@ -23,7 +23,6 @@ const PORTS: [u16; 18] = [
 
 // Appends the line of a counter, where it is not 0.
 fn append_count(
-    alloc: Global,
     name: &str,
     port: u16,
     reason: u8,
@@ -38,12 +37,11 @@ fn append_count(
     if value == 0 {
         return Ok(());
     }
-    append_count_line(alloc, name, port, reason, value, text)
+    append_count_line(name, port, reason, value, text)
 }
 
 // Appends those of a port of the node.
 fn append_port<F: Fn(i64) -> i64>(
-    alloc: Global,
     name: &str,
     node: &Node<F>,
     port: u16,
@@ -57,7 +55,7 @@ fn append_port<F: Fn(i64) -> i64>(
     for reason in &Reason::ALL {
         let number = reason.number();
         let value = node.count(port, number);
-        append_count(alloc, name, port, number, value, text)?;
+        append_count(name, port, number, value, text)?;
     }
     Ok(())
 }
@@ -71,7 +69,6 @@ fn has_port(replayed: Replayed<'_>, port: u16) -> bool
 
 /// Appends those of all ports of the node.
 pub fn append_counts<F: Fn(i64) -> i64>(
-    alloc: Global,
     replayed: Replayed<'_>,
     name: &str,
     node: &Node<F>,
@@ -85,7 +82,7 @@ pub fn append_counts<F: Fn(i64) -> i64>(
 {
     for port in &PORTS {
         if has_port(replayed, *port) {
-            append_port(alloc, name, node, *port, text)?;
+            append_port(name, node, *port, text)?;
         }
     }
     Ok(())

@@ -10,8 +10,6 @@ ghost use Rattle.wrp_run.specs.Stream.{size_of, IsWithin, IsTooLarge, IsLargeNex
 ghost use Rattle.wrp_run.specs.Engine.{Writes, LineOutcome, Finishes, TellsLarge, MostAt, status_by};
 
 mod block;
-#[cfg(test)]
-mod edges;
 mod splitting;
 
 use crate::feed::first_feed;
@@ -113,6 +111,7 @@ fn answered(next: Next, line: &[u8], number: u32) -> NextRecord
     ensures failed { (result ≡ NextRecord.Failed → next ≡ Next.Failed)
         × (next ≡ Next.Failed → result ≡ NextRecord.Failed) }
     ensures written { result ≡ NextRecord.Unwritten → ⊥ }
+    ensures memory { result ≡ NextRecord.Memory → next ≡ Next.Memory }
 {
     match next {
         Next::Line => came(line, number),

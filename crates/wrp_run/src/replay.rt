@@ -126,13 +126,13 @@ impl<'a, F: Fn(i64) -> i64> ReplayedNode<'a, F> {
     }
 
     /// Appends the lines that close the records.
-    pub fn close(&self, alloc: Global, text: &mut Vec<u8>) -> Result<(), AllocError>
+    pub fn close(&self, text: &mut Vec<u8>) -> Result<(), AllocError>
         requires ready { IsReady F.pre F.post self.now }
         requires none { text.old.items ≡ [] }
         ensures { IfOk result (λ _. (lines : List (List ℕ)) → HasTaken F.post self.now lines
             → Closes (site_at self.now.replayed) lines text.new.items) }
     {
-        append_counts(alloc, self.replayed, self.name, &self.node, text)
+        append_counts(self.replayed, self.name, &self.node, text)
     }
 }
 

@@ -42,7 +42,7 @@ fn close<F: Fn(i64) -> i64, K: Sink>(
     ensures kept { (result ≡ Status.WriteFault → ⊥) → K.faults sink.new ≡ K.faults sink.old }
 {
     let mut text = Vec::new(alloc);
-    match machine.close(alloc, &mut text) {
+    match machine.close(&mut text) {
         Ok(()) => answer(sink, Status::Done, &text),
         Err(_) => Status::OutOfMemory,
     }

@@ -104,7 +104,6 @@ fn flush<K: Sink>(sink: &mut K, text: &mut Vec<u8>) -> bool
 
 // Writes what waits, and the lines that sum up.
 fn close<F: Fn(i64) -> i64, K: Sink>(
-    alloc: Global,
     network: &SimulatedNetwork<F>,
     course: &Course,
     text: &mut Vec<u8>,
@@ -119,7 +118,7 @@ fn close<F: Fn(i64) -> i64, K: Sink>(
     ensures kept { (result ≡ Status.WriteFault → ⊥) → K.faults sink.new ≡ K.faults sink.old }
     ensures never { result ≡ Status.ReadFault → ⊥ }
 {
-    match network.append_sums(alloc, &course.totals, text) {
+    match network.append_sums(&course.totals, text) {
         Ok(()) => answer(sink, Status::Done, text),
         Err(_) => Status::OutOfMemory,
     }
@@ -160,7 +159,7 @@ fn run_events<F: Fn(i64) -> i64, K: Sink>(
     'events: loop {
         match step(alloc, network, course, &mut text) {
             Ok(Stepped::Event) => {}
-            Ok(Stepped::Over) => return close(alloc, network, course, &mut text, sink),
+            Ok(Stepped::Over) => return close(network, course, &mut text, sink),
             Ok(Stepped::TooLarge) => return overrun(alloc, &mut text, sink),
             Err(_) => return Status::OutOfMemory,
         }

@@ -132,19 +132,14 @@ impl<F: Fn(i64) -> i64> SimulatedNetwork<F> {
     }
 
     /// Appends the lines that sum up the runs of the nodes, by their totals.
-    pub fn append_sums(
-        &self,
-        alloc: Global,
-        totals: &[Total],
-        text: &mut Vec<u8>,
-    ) -> Result<(), AllocError>
+    pub fn append_sums(&self, totals: &[Total], text: &mut Vec<u8>) -> Result<(), AllocError>
         requires ready { CanRun F.pre F.post self.now }
         requires count { length totals.now ≡ node_count self.now.world.plant.net.cfg }
         ensures { IfOk result (λ _. (s : Setting) (w : WorldAt) (offs : ℕ → List ℤ)
             → StandsFor F.post s w self.now.world → AreTotals offs totals.now
             → text.new.items ≡ text.old.items ++ sums_by s w offs) }
     {
-        append_all_sums(alloc, &self.world, &self.bounds, totals, text)
+        append_all_sums(&self.world, &self.bounds, totals, text)
     }
 }
 
@@ -268,7 +263,6 @@ fn append_output(
 
 // Appends the lines that sum up the runs of the nodes.
 fn append_all_sums<F: Fn(i64) -> i64>(
-    alloc: Global,
     world: &World<F>,
     bounds: &[Tau],
     totals: &[Total],
@@ -285,7 +279,7 @@ fn append_all_sums<F: Fn(i64) -> i64>(
     let mut node: u8 = 0;
     while node < count {
         let at = usize::from(node);
-        append_sum(alloc, world, node, bounds[at], totals[at], text)?;
+        append_sum(world, node, bounds[at], totals[at], text)?;
         node += 1;
     }
     Ok(())
@@ -293,7 +287,6 @@ fn append_all_sums<F: Fn(i64) -> i64>(
 
 // Appends the line that sums up the run of a node, by its bound and its total.
 fn append_sum<F: Fn(i64) -> i64>(
-    alloc: Global,
     world: &World<F>,
     node: u8,
     bound: Tau,
@@ -316,5 +309,5 @@ fn append_sum<F: Fn(i64) -> i64>(
         bound,
         state: own.servo(),
     };
-    append_sum_line(alloc, name, sum, text)
+    append_sum_line(name, sum, text)
 }
