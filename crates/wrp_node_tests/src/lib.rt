@@ -8,3 +8,5 @@ mod node;
 mod port;
 #[cfg(test)]
 mod servo;
+#[cfg(test)]
+mod words;

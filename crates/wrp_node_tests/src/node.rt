@@ -2,20 +2,22 @@
 mod acts;
 mod most;
 mod rows;
+mod script;
 mod sw1;
 mod texts;
 
-ghost use Rattle.std.specs.Prelude.{◌≡◌, ◌≤◌, ◌^◌, unsigned_abs, is_some, true, false, None, IfOk};
+ghost use Rattle.std.specs.Prelude.{◌≡◌, ◌≤◌, ◌^◌, unsigned_abs, is_some, true, false, None, IfOk, IsTrue};
 ghost use Rattle.wrp_law.specs.Law.{KeepsFact};
 ghost use Rattle.wrp_node.specs.New.{FitsNodeSet, FitsPorts, OfDifferentNumbers};
 ghost use Rattle.wrp_node.specs.Node.{IsValid};
 ghost use Rattle.wrp_node.specs.NodeAt.{slave_of};
+ghost use Rattle.wrp_node.specs.Parts.{is_among};
 ghost use Rattle.wrp_servo.specs.Sizes.{FitsServoSet};
 
-use acts::{Act, Out, Step, input_of, output_of, sample};
+use acts::{Act, input_of, output_of, sample};
 use arrayvec::ArrayVec;
 use most::tries_most;
-use rows::{ROWS, Row, Site, steps_of};
+use script::{Row, Site, count_of, output_by, part_of, row_of, step_of};
 use std::alloc::{AllocError, Global};
 use std::process::Abort;
 use std::test::Fail;
@@ -178,8 +180,7 @@ fn gives<F: Fn(i64) -> i64>(
 {
     let mut outs = Outputs::new();
     let taken = take(node, x, &mut outs);
-    assert!(rt; taken, "{name}: {x:?}");
-    assert_eq!(rt; outs.as_slice(), expected, "{name}, {x:?}");
+    assert!(rt; taken && outs.as_slice() == expected, "{name}");
 }
 
 // So many ticks, none of which gives anything.
@@ -215,55 +216,91 @@ fn samples<F: Fn(i64) -> i64>(
     );
 }
 
-// One step of a row.
+// The outputs that a text tells.
+fn outputs_by(alloc: Global, outs: &'static str) -> Result<Outputs, Fail> {
+    let mut outputs = Outputs::new();
+    for out in outs.split_terminator(',') {
+        outputs.try_push(output_of(alloc, output_by(alloc, out)?)?)?;
+    }
+    Ok(outputs)
+}
+
+// One step of a part.
 fn tries_step<F: Fn(i64) -> i64>(
     rt: &impl Abort,
     alloc: Global,
     node: &mut Node<F>,
-    name: &str,
-    step: Step,
+    line: &'static str,
 ) -> Result<(), Fail>
     requires { IsValid F.pre F.post node.old }
     ensures { IsValid F.pre F.post node.new }
 {
-    let (act, outs) = step;
-    let mut expected = Outputs::new();
-    for out in outs {
-        expected.try_push(output_of(alloc, *out)?)?;
-    }
+    let (act, outs) = step_of(alloc, line)?;
+    let expected = outputs_by(alloc, outs)?;
     match act {
-        Act::Ticks(count) => ticks(rt, node, name, count),
-        Act::Samples(first, last) => samples(rt, node, name, first, last),
-        act => gives(rt, node, name, &input_of(alloc, act)?, expected.as_slice()),
+        Act::Ticks(count) => ticks(rt, node, line, count),
+        Act::Samples(first, last) => samples(rt, node, line, first, last),
+        act => gives(rt, node, line, &input_of(alloc, act)?, expected.as_slice()),
+    }
+    Ok(())
+}
+
+// The steps of a part.
+fn tries_part<F: Fn(i64) -> i64>(
+    rt: &impl Abort,
+    alloc: Global,
+    node: &mut Node<F>,
+    lines: &'static str,
+) -> Result<(), Fail>
+    requires { IsValid F.pre F.post node.old }
+    ensures { IsValid F.pre F.post node.new }
+{
+    for line in lines.lines() {
+        if !line.starts_with('#') {
+            tries_step(rt, alloc, node, line)?;
+        }
     }
     Ok(())
 }
 
 // How often a row has a reason at a port.
-fn times(row: &Row, number: u16, reason: u8) -> u32 {
-    for (port, counted, count) in row.counts {
-        if *port == number && *counted == reason {
-            return *count;
+fn times(alloc: Global, row: &Row, number: u16, reason: u8) -> Result<u32, Fail> {
+    for line in row.counts.lines() {
+        let (port, counted, count) = count_of(alloc, line)?;
+        if port == number && counted == reason {
+            return Ok(count);
         }
     }
-    0
+    Ok(0)
 }
 
-// Compares the counters of each port.
-fn tries_counts<F: Fn(i64) -> i64>(rt: &impl Abort, node: &Node<F>, row: &Row) {
-    for number in 1..=2u16 {
-        let there = Input::Carrier {
-            port: number,
-            up: false,
-            module: None,
-        };
-        if node.fits(&there) {
-            for reason in 1..=15u8 {
-                let count = node.count(number, reason);
-                assert_eq!(rt; count, times(row, number, reason), "{}: {reason}", row.name);
-            }
+// Whether a node has a port.
+fn has_port<F: Fn(i64) -> i64>(node: &Node<F>, port: u16) -> bool
+    ensures { IsTrue result → is_among port node.now.parts.ports ≡ true }
+{
+    node.fits(&Input::Carrier {
+        port,
+        up: false,
+        module: None,
+    })
+}
+
+// Compares the counters of a port.
+fn tries_counts<F: Fn(i64) -> i64>(
+    rt: &impl Abort,
+    alloc: Global,
+    node: &Node<F>,
+    row: &Row,
+    number: u16,
+) -> Result<(), Fail> {
+    if has_port(node, number) {
+        for reason in 1..=15u8 {
+            let count = node.count(number, reason);
+            let due = times(alloc, row, number, reason)?;
+            assert!(rt; count == due, "{}: {reason}", row.name);
         }
     }
+    Ok(())
 }
 
 // One row, from a node before any input on.
@@ -276,18 +313,21 @@ fn tries_row<F: Fn(i64) -> i64>(
     requires { KeepsFact F.pre F.post law }
 {
     let mut node = node_at(alloc, row.site, law)?;
-    for part in row.parts {
-        for step in steps_of(*part) {
-            tries_step(rt, alloc, &mut node, row.name, *step)?;
-        }
+    for part in row.parts.lines() {
+        let lines = part_of(rows::PARTS, part)
+            .or(part_of(sw1::PARTS, part))
+            .ok_or("a part")?;
+        tries_part(rt, alloc, &mut node, lines)?;
     }
-    tries_counts(rt, &node, row);
-    Ok(())
+    tries_counts(rt, alloc, &node, row, 1)?;
+    tries_counts(rt, alloc, &node, row, 2)
 }
 
 #[test]
 fn puts_out_as_by_hand(rt: HostRuntime) -> Result<(), Fail> {
-    for row in ROWS {
+    let mut tried: u32 = 0;
+    for text in rows::ROWS.split('^') {
+        let row = row_of(text).ok_or("a row")?;
         let law = DelayLaw::new(
             |x: i64|
                 requires { unsigned_abs x ≤ 2 ^ 53 }
@@ -297,8 +337,10 @@ fn puts_out_as_by_hand(rt: HostRuntime) -> Result<(), Fail> {
             1 << 53,
             1,
         );
-        tries_row(&rt, rt.alloc(), row, law)?;
+        tries_row(&rt, rt.alloc(), &row, law)?;
+        tried = tried.saturating_add(1);
     }
+    assert_eq!(rt; tried, 6);
     Ok(())
 }
 

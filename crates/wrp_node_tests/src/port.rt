@@ -1,35 +1,21 @@
 //! A port beside values that are worked out by hand.
 mod acts;
 mod master_rows;
+mod script;
 mod slave_rows;
 
 ghost use Rattle.std.specs.Prelude.{◌≤◌};
 
-use acts::{Act, DOMAIN, Due, Heard, MODULE, OWN, Out, PEER, Step, input_of, message_of};
+use acts::{Act, DOMAIN, Due, Heard, MODULE, OWN, Out, PEER, input_of, message_of};
 use arrayvec::ArrayVec;
+use script::{Row, expected_of, part_of, row_of, step_of};
 use std::alloc::{AllocError, Global};
 use std::process::Abort;
 use std::test::Fail;
-use wrp_base::{Deltas, LinkWord, PtpMsg, Role, WrMsg};
+use wrp_base::{Deltas, Four, LinkWord, PtpMsg, Role, WrMsg};
 use wrp_data::{DefaultDs, PortDs};
 use wrp_link::LinkSet;
 use wrp_port::{Port, Sched};
-
-/// What a row shows: a port of one role, its schedule, and its inputs in parts.
-pub struct Row {
-    /// What it shows.
-    name: &'static str,
-    /// The ticks from one Announce to the next, and from one Sync or Delay_Req to the next.
-    every: (u32, u32),
-    /// The inputs, the oldest first, each with all that is expected after it.
-    parts: &'static [&'static [Step]],
-}
-
-/// What is due at the tick that ends quiet time, and not again within the row.
-pub const RARE: (u32, u32) = (1000, 1000);
-
-/// An Announce each third tick, a Sync or Delay_Req each second.
-pub const OFTEN: (u32, u32) = (3, 2);
 
 const NODE: DefaultDs = DefaultDs {
     identity: 0x001b_c5ff_fe00_0002,
@@ -82,59 +68,137 @@ fn new_port(
     Port::new(alloc, ds, NODE, LINK, sched, 2)
 }
 
+// All that is expected after an input. What no text names is not to be.
+#[derive(Drop)]
+struct Expected {
+    word: Option<LinkWord>,
+    sends: ArrayVec<PtpMsg, 4>,
+    drop: Option<u8>,
+    measured: Option<Four>,
+    fresh: bool,
+    deltas: Option<Deltas>,
+}
+
+// One thing more is expected.
+fn expects(expected: &mut Expected, out: Out) -> Result<(), Fail> {
+    match out {
+        Out::Word(next) => expected.word = Some(next),
+        Out::Sends(due) => expected.sends.try_push(message_of(due))?,
+        Out::Drops(reason) => expected.drop = Some(reason),
+        Out::Measured(four) => expected.measured = Some(four),
+        Out::Fresh => expected.fresh = true,
+        Out::Deltas => expected.deltas = Some(DELTAS),
+    }
+    Ok(())
+}
+
+// What a text expects.
+fn expected_by(alloc: Global, outs: &str) -> Result<Expected, Fail> {
+    let mut expected = Expected {
+        word: None,
+        sends: ArrayVec::new(),
+        drop: None,
+        measured: None,
+        fresh: false,
+        deltas: None,
+    };
+    for out in outs.split_terminator(',') {
+        expects(&mut expected, expected_of(alloc, out)?)?;
+    }
+    Ok(expected)
+}
+
 // Gives one input, and compares all that can be seen after it.
-fn tries_step(rt: &impl Abort, port: &mut Port, name: &str, step: Step) {
-    let (act, one, two, three) = step;
+fn tries_step(
+    rt: &impl Abort,
+    alloc: Global,
+    port: &mut Port,
+    name: &str,
+    line: &str,
+) -> Result<(), Fail> {
+    let (act, outs) = step_of(alloc, line)?;
+    let expected = expected_by(alloc, outs)?;
     let out = port.step(input_of(act));
-    let (mut word, mut drop, mut measured) = (None, None, None);
-    let (mut fresh, mut deltas) = (false, None);
-    let mut sends: ArrayVec<PtpMsg, 4> = ArrayVec::new();
-    for expected in [one, two, three] {
-        match expected {
-            Out::Nil => {}
-            Out::Word(next) => word = Some(next),
-            Out::Sends(due) => {
-                let fits = sends.try_push(message_of(due)).is_ok();
-                assert!(rt; fits);
+    assert!(rt; out.word == expected.word, "{name}: {line}");
+    assert!(rt;
+        out.sends.as_slice() == expected.sends.as_slice(),
+        "{name}: {line}"
+    );
+    assert!(rt; out.drop == expected.drop, "{name}: {line}");
+    assert!(rt; out.measured == expected.measured, "{name}: {line}");
+    assert!(rt; port.lease() == expected.fresh, "{name}: {line}");
+    assert!(rt; port.deltas() == expected.deltas, "{name}: {line}");
+    Ok(())
+}
+
+// Gives inputs, a line each.
+fn tries_steps(
+    rt: &impl Abort,
+    alloc: Global,
+    port: &mut Port,
+    name: &str,
+    lines: &str,
+) -> Result<(), Fail> {
+    for line in lines.lines() {
+        tries_step(rt, alloc, port, name, line)?;
+    }
+    Ok(())
+}
+
+// Gives the inputs and the parts of a row.
+fn tries_row(
+    rt: &impl Abort,
+    alloc: Global,
+    port: &mut Port,
+    row: Row<'_>,
+    parts: &str,
+) -> Result<(), Fail> {
+    for line in row.lines.lines() {
+        match line.strip_prefix("= ") {
+            Some(part) => {
+                let lines = part_of(parts, part).ok_or("a part")?;
+                tries_steps(rt, alloc, port, row.name, lines)?;
             }
-            Out::Drops(reason) => drop = Some(reason),
-            Out::Measured(four) => measured = Some(four),
-            Out::Fresh => fresh = true,
-            Out::Deltas => deltas = Some(DELTAS),
-        }
-    }
-    assert_eq!(rt; out.word, word, "{name}: {act:?}");
-    assert_eq!(rt; out.sends.as_slice(), sends.as_slice(), "{name}: {act:?}");
-    assert_eq!(rt; out.drop, drop, "{name}: {act:?}");
-    assert_eq!(rt; out.measured, measured, "{name}: {act:?}");
-    assert_eq!(rt; port.lease(), fresh, "{name}: {act:?}");
-    assert_eq!(rt; port.deltas(), deltas, "{name}: {act:?}");
-}
-
-// Gives a part of a row.
-fn tries_part(rt: &impl Abort, port: &mut Port, name: &str, part: &[Step]) {
-    for step in part {
-        tries_step(rt, port, name, *step);
-    }
-}
-
-// Gives the rows of one role, each to a port of its own.
-fn tries_rows(rt: &impl Abort, alloc: Global, role: Role, rows: &[Row]) -> Result<(), Fail> {
-    for row in rows {
-        let (announce, every) = row.every;
-        assert!(rt; announce >= 1 && every >= 1);
-        let mut port = new_port(alloc, role, announce, every, every)?;
-        for part in row.parts {
-            tries_part(rt, &mut port, row.name, part);
+            None => tries_step(rt, alloc, port, row.name, line)?,
         }
     }
     Ok(())
 }
 
+// Gives the rows of one role, each to a port of its own, and answers how many there were.
+fn tries_rows(
+    rt: &impl Abort,
+    alloc: Global,
+    role: Role,
+    parts: &str,
+    rows: &str,
+) -> Result<u32, Fail> {
+    let mut tried: u32 = 0;
+    for text in rows.split('^') {
+        let row = row_of(text).ok_or("a row")?;
+        let (announce, every) = row.every;
+        assert!(rt; announce >= 1 && every >= 1);
+        let mut port = new_port(alloc, role, announce, every, every)?;
+        tries_row(rt, alloc, &mut port, row, parts)?;
+        tried = tried.saturating_add(1);
+    }
+    Ok(tried)
+}
+
 #[test]
 fn answers_as_by_hand(rt: HostRuntime) -> Result<(), Fail> {
-    tries_rows(&rt, rt.alloc(), Role::Master, master_rows::ROWS)?;
-    tries_rows(&rt, rt.alloc(), Role::Slave, slave_rows::ROWS)
+    let alloc = rt.alloc();
+    let masters = tries_rows(
+        &rt,
+        alloc,
+        Role::Master,
+        master_rows::PARTS,
+        master_rows::ROWS,
+    )?;
+    assert_eq!(rt; masters, 17);
+    let slaves = tries_rows(&rt, alloc, Role::Slave, slave_rows::PARTS, slave_rows::ROWS)?;
+    assert_eq!(rt; slaves, 21);
+    Ok(())
 }
 
 // What the schedule sends at the k-th tick after quiet time.
@@ -156,29 +220,55 @@ fn due_at(role: Role, announce: u32, sync: u32, delay: u32, k: u32) -> ArrayVec<
     sends
 }
 
-// Three schedules: of 200 ticks, and of so many that each sequenceId goes round.
+// Two schedules: of 200 ticks, and of so many that each sequenceId goes round.
 const SCHEDULES: [(u32, u32, u32, u32); 2] = [(3, 4, 5, 200), (1, 1, 1, 65_538)];
+
+// Quiet time, and then so many ticks, at each of which a port sends what is due.
+fn tries_ticks(
+    rt: &impl Abort,
+    port: &mut Port,
+    role: Role,
+    announce: u32,
+    sync: u32,
+    delay: u32,
+    ticks: u32,
+)
+    requires announce { 1 ≤ announce }
+    requires sync { 1 ≤ sync }
+    requires delay { 1 ≤ delay }
+{
+    let word = port.step(input_of(Act::Up(true))).word;
+    let quiet = port.step(input_of(Act::Tick)).sends.is_empty();
+    assert!(rt; word == Some(LinkWord::Quiet) && quiet);
+    for k in 0..ticks {
+        let out = port.step(input_of(Act::Tick));
+        let due = due_at(role, announce, sync, delay, k);
+        assert!(rt; out.sends.as_slice() == due.as_slice(), "{k}");
+    }
+}
+
+// A port of a role over a schedule.
+fn tries_schedule(
+    rt: &impl Abort,
+    alloc: Global,
+    role: Role,
+    schedule: (u32, u32, u32, u32),
+) -> Result<(), Fail> {
+    let (announce, sync, delay, ticks) = schedule;
+    assert!(rt; announce >= 1 && sync >= 1 && delay >= 1);
+    let mut port = new_port(alloc, role, announce, sync, delay)?;
+    tries_ticks(rt, &mut port, role, announce, sync, delay, ticks);
+    if role == Role::Master {
+        tries_signals(rt, &mut port);
+    }
+    Ok(())
+}
 
 #[test]
 fn keeps_its_schedule(rt: HostRuntime) -> Result<(), Fail> {
-    for role in [Role::Master, Role::Slave] {
-        for (announce, sync, delay, ticks) in SCHEDULES {
-            assert!(rt; announce >= 1 && sync >= 1 && delay >= 1);
-            let mut port = new_port(rt.alloc(), role, announce, sync, delay)?;
-            assert_eq!(rt;
-                port.step(input_of(Act::Up(true))).word,
-                Some(LinkWord::Quiet)
-            );
-            assert_eq!(rt; port.step(input_of(Act::Tick)).sends.len(), 0);
-            for k in 0..ticks {
-                let out = port.step(input_of(Act::Tick));
-                let due = due_at(role, announce, sync, delay, k);
-                assert_eq!(rt; out.sends.as_slice(), due.as_slice(), "{k}");
-            }
-            if role == Role::Master {
-                tries_signals(&rt, &mut port);
-            }
-        }
+    for schedule in SCHEDULES {
+        tries_schedule(&rt, rt.alloc(), Role::Master, schedule)?;
+        tries_schedule(&rt, rt.alloc(), Role::Slave, schedule)?;
     }
     Ok(())
 }
@@ -188,10 +278,7 @@ fn tries_signals(rt: &impl Abort, port: &mut Port) {
     let present = input_of(Act::Hear(Heard::Signal(OWN, Some(WrMsg::Present))));
     for k in 0..65_538u32 {
         let lock = message_of(Due::Signal((k % 65_536) as u16, WrMsg::Lock));
-        assert_eq!(rt;
-            port.step(present).sends.as_slice(),
-            [lock].as_slice(),
-            "{k}"
-        );
+        let sends = port.step(present).sends;
+        assert!(rt; sends.as_slice() == [lock].as_slice(), "{k}");
     }
 }

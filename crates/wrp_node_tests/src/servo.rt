@@ -7,9 +7,11 @@ ghost use Rattle.wrp_servo.specs.Sizes.{FitsTimes};
 mod lists;
 mod plain;
 
-use lists::{Do, PREFIXES, ROWS, Says};
+use lists::{Do, LISTS, PREFIXES, Says, line_of, step_of};
 use plain::{drawn, tracking};
+use std::alloc::Global;
 use std::process::Abort;
+use std::test::Fail;
 use wrp_base::{ChainNews, Clock, Deltas, Four, ServoState, Tau};
 use wrp_law::{DelayLaw, LawKind, floor_of};
 use wrp_servo::{Servo, ServoOut, ServoSet, counts_one_tick};
@@ -134,74 +136,177 @@ fn call<F: Fn(i64) -> i64>(servo: &mut Servo<F>, call: Do) -> ServoOut
 // A list of calls, each with what it answers.
 fn calls<F: Fn(i64) -> i64>(
     rt: &impl Abort,
+    alloc: Global,
     servo: &mut Servo<F>,
     count: &mut u32,
-    list: &[(Do, Says)],
-)
+    list: &str,
+) -> Result<(), Fail>
     requires law { KeepsFact F.pre F.post servo.old.law }
     requires ticks { servo.old.core.ticks ≤ count.old }
     ensures law { servo.new.law ≡ servo.old.law }
     ensures ticks { servo.new.core.ticks ≤ count.new }
 {
-    for &(x, says) in list {
+    for text in list.split_terminator(',') {
+        let (x, says) = step_of(alloc, text)?;
         assert!(rt; *count < 1 << 20);
-        assert!(rt; call(servo, x) == told(says), "{x:?} {says:?}");
+        assert!(rt; call(servo, x) == told(says), "{text} in {list}");
         *count += 1;
     }
+    Ok(())
 }
 
 // The calls that lead up to a level, from one state to the next.
-fn climb<F: Fn(i64) -> i64>(rt: &impl Abort, servo: &mut Servo<F>, count: &mut u32, level: usize)
+fn climb<F: Fn(i64) -> i64>(
+    rt: &impl Abort,
+    alloc: Global,
+    servo: &mut Servo<F>,
+    count: &mut u32,
+    level: usize,
+) -> Result<(), Fail>
     requires law { KeepsFact F.pre F.post servo.old.law }
     requires ticks { servo.old.core.ticks ≤ count.old }
     ensures law { servo.new.law ≡ servo.old.law }
     ensures ticks { servo.new.core.ticks ≤ count.new }
 {
-    for list in PREFIXES.into_iter().take(level) {
-        calls(rt, servo, count, list);
+    for list in PREFIXES.lines().take(level) {
+        calls(rt, alloc, servo, count, list)?;
     }
+    Ok(())
+}
+
+// A sample of one tag, the hundredth of which locks the detector and starts the chain.
+fn hears<F: Fn(i64) -> i64>(rt: &impl Abort, servo: &mut Servo<F>, n: u32)
+    ensures { servo.new.law ≡ servo.old.law }
+{
+    let says = if n == 100 {
+        Says::HearsAndStarts(0, 100)
+    } else {
+        Says::Hears(0)
+    };
+    let out = servo.sample(n, 100, BITS);
+    assert!(rt; out == told(says), "{n}");
+    assert!(rt; servo.locked() == (n == 100), "{n}");
 }
 
 // A hundred samples of one tag lock the detector, and the chain starts at the last of them.
-fn begins<F: Fn(i64) -> i64>(rt: &impl Abort, servo: &mut Servo<F>)
+fn begins<F: Fn(i64) -> i64>(
+    rt: &impl Abort,
+    alloc: Global,
+    servo: &mut Servo<F>,
+) -> Result<(), Fail>
+    requires law { KeepsFact F.pre F.post servo.old.law }
+    requires ticks { servo.old.core.ticks ≡ 0 }
     ensures { servo.new.law ≡ servo.old.law }
 {
-    assert!(rt; servo.reset() == told(Says::Nothing));
-    assert!(rt; servo.carrier(true) == told(Says::Nothing));
-    assert!(rt; servo.link(Some(DELTAS)) == told(Says::Nothing));
+    let mut count = 0;
+    calls(rt, alloc, servo, &mut count, "reset, carrier on, link on")?;
     assert!(rt; servo.state() == ServoState::SyncTai && servo.est().is_none());
-    assert!(rt; servo.lease(true) == told(Says::Nothing));
+    calls(rt, alloc, servo, &mut count, "lease on")?;
     for n in 1..=100u32 {
-        let says = if n == 100 {
-            Says::HearsAndStarts(0, 100)
-        } else {
-            Says::Hears(0)
-        };
-        assert!(rt; servo.sample(n, 100, BITS) == told(says));
-        assert_eq!(rt; servo.locked(), n == 100);
+        hears(rt, servo, n);
     }
+    Ok(())
 }
 
-// With a chain three fours: one is near, one is a period away, and one is seconds away.
+// Fours with a chain, of which the first is the 0th, the 1st or the 2nd of these: it is near, it is a period
+// away, or it is seconds away.
+#[derive(Clone, Copy)]
+struct Fours {
+    clock: Clock,
+    // one period past 5 us and past 10 us
+    t2: i64,
+    t3: i64,
+    // the period
+    period: Tau,
+    // two seconds back in periods
+    back: i64,
+}
+
+// Those of both clocks.
+const FOURS: [Fours; 2] = [
+    Fours {
+        clock: Clock::Mhz125,
+        t2: 328_204_288_000,
+        t3: 655_884_288_000,
+        period: 524_288_000,
+        back: -250_000_000,
+    },
+    Fours {
+        clock: Clock::Mhz62,
+        t2: 328_728_576_000,
+        t3: 656_408_576_000,
+        period: 1_048_576_000,
+        back: -125_000_000,
+    },
+];
+
+// A four that is a period away.
+fn away(fours: &Fours) -> Four
+    ensures { FitsTimes result }
+{
+    four(0, fours.t2, fours.t3, 15 * MICROSECOND, 0)
+}
+
+// A four that is near, and then one a period away.
+fn near_first<F: Fn(i64) -> i64>(rt: &impl Abort, servo: &mut Servo<F>, fours: &Fours)
+    requires { KeepsFact F.pre F.post servo.old.law }
+{
+    let near = four(0, 5 * MICROSECOND, 10 * MICROSECOND, 15 * MICROSECOND, 0);
+    let out = servo.measured(&near);
+    assert!(rt; out == told(Says::Nothing));
+    assert!(rt; servo.state() == ServoState::SyncPhase && servo.est() == Some(0));
+    let out = servo.measured(&away(fours));
+    assert!(rt; out == told(Says::Nothing));
+    assert!(rt; servo.est() == Some(fours.period) && !servo.tracking());
+}
+
+// A four that is a period away.
+fn away_first<F: Fn(i64) -> i64>(rt: &impl Abort, servo: &mut Servo<F>, fours: &Fours)
+    requires { KeepsFact F.pre F.post servo.old.law }
+{
+    let out = servo.measured(&away(fours));
+    assert!(rt; out == told(Says::Steps(-1)));
+    assert!(rt; servo.state() == ServoState::SyncNsec && servo.est().is_none());
+    assert!(rt; !servo.tracking());
+}
+
+// A four that is seconds away.
+fn far_first<F: Fn(i64) -> i64>(rt: &impl Abort, servo: &mut Servo<F>, fours: &Fours)
+    requires { KeepsFact F.pre F.post servo.old.law }
+{
+    let out = servo.measured(&four(0, 2 * SECOND, 3 * SECOND, SECOND, 0));
+    assert!(rt; out == told(Says::Steps(fours.back)));
+    assert!(rt; servo.state() == ServoState::SyncTai && servo.dac() == 32768);
+    assert!(rt; !servo.tracking());
+}
+
+// A servo of its own for each of the three.
+fn tries_fours<F: Fn(i64) -> i64>(
+    rt: &impl Abort,
+    alloc: Global,
+    fours: &Fours,
+    first: u32,
+    law: DelayLaw<F>,
+) -> Result<(), Fail>
+    requires { KeepsFact F.pre F.post law }
+{
+    let set = ServoSet {
+        clock: fours.clock,
+        ..SET
+    };
+    let mut servo = Servo::new(set, law);
+    begins(rt, alloc, &mut servo)?;
+    match first {
+        0 => near_first(rt, &mut servo, fours),
+        1 => away_first(rt, &mut servo, fours),
+        _ => far_first(rt, &mut servo, fours),
+    }
+    Ok(())
+}
+
 #[test]
-fn fours_that_step(rt: HostRuntime) {
-    // one period past 5 us and past 10 us, the period, and two seconds back in periods
-    for (clock, t2, t3, period, back) in [
-        (
-            Clock::Mhz125,
-            328_204_288_000,
-            655_884_288_000,
-            524_288_000,
-            -250_000_000,
-        ),
-        (
-            Clock::Mhz62,
-            328_728_576_000,
-            656_408_576_000,
-            1_048_576_000,
-            -125_000_000,
-        ),
-    ] {
+fn fours_that_step(rt: HostRuntime) -> Result<(), Fail> {
+    for fours in &FOURS {
         for first in 0..3 {
             let law = DelayLaw::new(
                 |x: i64|
@@ -212,54 +317,60 @@ fn fours_that_step(rt: HostRuntime) {
                 1 << 53,
                 1,
             );
-            let mut servo = Servo::new(ServoSet { clock, ..SET }, law);
-            begins(&rt, &mut servo);
-            let t4 = 15 * MICROSECOND;
-            let near = four(0, 5 * MICROSECOND, 10 * MICROSECOND, t4, 0);
-            let away = four(0, t2, t3, t4, 0);
-            let far = four(0, 2 * SECOND, 3 * SECOND, SECOND, 0);
-            if first == 0 {
-                assert!(rt; servo.measured(&near) == told(Says::Nothing));
-                assert!(rt; servo.state() == ServoState::SyncPhase && servo.est() == Some(0));
-                assert!(rt; servo.measured(&away) == told(Says::Nothing));
-                assert_eq!(rt; servo.est(), Some(period));
-            } else if first == 1 {
-                assert!(rt; servo.measured(&away) == told(Says::Steps(-1)));
-                assert!(rt; servo.state() == ServoState::SyncNsec && servo.est().is_none());
-            } else {
-                assert!(rt; servo.measured(&far) == told(Says::Steps(back)));
-                assert!(rt; servo.state() == ServoState::SyncTai && servo.dac() == 32768);
-            }
-            assert!(rt; !servo.tracking());
+            tries_fours(&rt, rt.alloc(), fours, first, law)?;
         }
     }
+    Ok(())
 }
 
-// Each list of the table, from the state that its level reaches.
+// A line of the table, from the state that its level reaches.
+fn tries_line<F: Fn(i64) -> i64>(
+    rt: &impl Abort,
+    alloc: Global,
+    line: &str,
+    law: DelayLaw<F>,
+) -> Result<(), Fail>
+    requires { KeepsFact F.pre F.post law }
+{
+    let (level, list, end) = line_of(alloc, line)?;
+    let mut servo = Servo::new(SMALL, law);
+    let mut count = 0;
+    climb(rt, alloc, &mut servo, &mut count, level)?;
+    calls(rt, alloc, &mut servo, &mut count, list)?;
+    let tracks = end.state == ServoState::Track;
+    assert!(rt;
+        servo.state() == end.state && servo.tracking() == tracks,
+        "{line}"
+    );
+    assert!(rt;
+        servo.locked() == end.locked && servo.est() == end.est,
+        "{line}"
+    );
+    assert!(rt; servo.dac() == 32768, "{line}");
+    Ok(())
+}
+
+// The lists of the table.
 #[test]
-fn lists_of_calls(rt: HostRuntime) {
-    for (level, list, state, locked, est) in ROWS {
-        let law = DelayLaw::new(
-            |x: i64|
-                requires { unsigned_abs x ≤ 2 ^ 53 }
-            { floor_of(0, x) },
-            LawKind::Linear { kappa: 0 },
-            -(1 << 30),
-            1 << 53,
-            1,
-        );
-        let mut servo = Servo::new(SMALL, law);
-        let mut count = 0;
-        climb(&rt, &mut servo, &mut count, level);
-        calls(&rt, &mut servo, &mut count, list);
-        assert!(rt; servo.state() == state, "{list:?}");
-        assert!(rt;
-            servo.tracking() == (state == ServoState::Track),
-            "{list:?}"
-        );
-        assert!(rt; servo.locked() == locked && servo.est() == est, "{list:?}");
-        assert!(rt; servo.dac() == 32768);
+fn lists_of_calls(rt: HostRuntime) -> Result<(), Fail> {
+    let mut tried: u32 = 0;
+    for line in LISTS.lines() {
+        if !line.starts_with('#') {
+            let law = DelayLaw::new(
+                |x: i64|
+                    requires { unsigned_abs x ≤ 2 ^ 53 }
+                { floor_of(0, x) },
+                LawKind::Linear { kappa: 0 },
+                -(1 << 30),
+                1 << 53,
+                1,
+            );
+            tries_line(&rt, rt.alloc(), line, law)?;
+            tried = tried.saturating_add(1);
+        }
     }
+    assert_eq!(rt; (tried, PREFIXES.lines().count()), (58, 7));
+    Ok(())
 }
 
 // The servo after a list of calls, beside the plain program at every eighth call. Answers how often
@@ -280,7 +391,7 @@ fn compares<F: Fn(i64) -> i64>(
         *count += 1;
         if n % 8 == 7 {
             let tracks = tracking(&list[..=n]);
-            assert!(rt; servo.tracking() == tracks, "{:?}", &list[..=n]);
+            assert!(rt; servo.tracking() == tracks, "call {n}");
             tracked = tracked.saturating_add(u32::from(tracks));
         }
     }

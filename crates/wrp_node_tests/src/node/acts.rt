@@ -6,7 +6,7 @@ use wrp_base::{LinkWord, Module, Raw, ServoState, Stamp, Tau};
 use wrp_node::{Input, Output, Report};
 
 /// What happens at a node.
-#[derive(Clone, Copy, Debug)]
+#[derive(Clone, Copy)]
 pub enum Act {
     /// The node starts anew.
     Reset,
@@ -32,7 +32,7 @@ pub enum Act {
 }
 
 /// An output.
-#[derive(Clone, Copy, Debug)]
+#[derive(Clone, Copy)]
 pub enum Out {
     /// A frame at a port.
     Send(u16, Text),
@@ -47,9 +47,6 @@ pub enum Out {
     /// In TRACK, the offset.
     Track(Tau),
 }
-
-/// An act, and all outputs that come of it, in their order.
-pub type Step = (Act, &'static [Out]);
 
 /// A sample of this number.
 pub fn sample(n: u32) -> Input {

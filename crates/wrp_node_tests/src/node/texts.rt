@@ -25,7 +25,7 @@ const NO_CORRECTION: &str = "0000000000000000";
 const NO_TIME: &str = "00000000000000000000";
 
 /// A White Rabbit message.
-#[derive(Clone, Copy, Debug)]
+#[derive(Clone, Copy)]
 pub enum Wr {
     Present,
     Lock,
@@ -37,7 +37,7 @@ pub enum Wr {
 }
 
 /// A frame.
-#[derive(Clone, Copy, Debug)]
+#[derive(Clone, Copy)]
 pub enum Text {
     /// An Announce: source, sequenceId, flags, stepsRemoved, wrFlags.
     Announce(Identity, &'static str, &'static str, &'static str, &'static str),
@@ -85,109 +85,146 @@ fn tlv_of(
     }
 }
 
+// An Announce.
+fn announce(
+    alloc: Global,
+    source: Identity,
+    seq: &'static str,
+    flags: &'static str,
+    steps: &'static str,
+    suffix: &'static str,
+) -> Result<Frame, Fail> {
+    let quality = "00000080f8feffff80";
+    let pieces = [
+        "0b02004e0000",
+        flags,
+        NO_CORRECTION,
+        "00000000",
+        source.0,
+        source.1,
+        seq,
+        "0500",
+        NO_TIME,
+        quality,
+        GM,
+        steps,
+        "a00003000a",
+        ORGANIZATION,
+        "2000",
+        suffix,
+    ];
+    frame(alloc, &pieces)
+}
+
+// A Sync, a Delay_Req or a Follow_Up: the octets up to correctionField, this, the source, the sequenceId,
+// the two octets behind it, and the time.
+fn event(
+    alloc: Global,
+    first: &'static str,
+    correction: &'static str,
+    source: Identity,
+    seq: &'static str,
+    control: &'static str,
+    time: &'static str,
+) -> Result<Frame, Fail> {
+    let pieces = [
+        first, correction, "00000000", source.0, source.1, seq, control, time,
+    ];
+    frame(alloc, &pieces)
+}
+
+// A Delay_Resp.
+fn response(
+    alloc: Global,
+    source: Identity,
+    seq: &'static str,
+    correction: &'static str,
+    time: &'static str,
+    requesting: Identity,
+) -> Result<Frame, Fail> {
+    let pieces = [
+        "0902003600000000",
+        correction,
+        "00000000",
+        source.0,
+        source.1,
+        seq,
+        "0300",
+        time,
+        requesting.0,
+        requesting.1,
+    ];
+    frame(alloc, &pieces)
+}
+
+// A Signaling.
+fn signal(
+    alloc: Global,
+    source: Identity,
+    seq: &'static str,
+    target: Identity,
+    message: Wr,
+) -> Result<Frame, Fail> {
+    let (length, value, id, one, two) = tlv_of(message);
+    let pieces = [
+        "0c02",
+        length,
+        "00000000",
+        NO_CORRECTION,
+        "00000000",
+        source.0,
+        source.1,
+        seq,
+        "057f",
+        target.0,
+        target.1,
+        "0003",
+        value,
+        ORGANIZATION,
+        id,
+        one,
+        two,
+    ];
+    frame(alloc, &pieces)
+}
+
 /// The octets of a frame.
 pub fn octets(alloc: Global, text: Text) -> Result<Frame, Fail> {
     match text {
-        Text::Announce(source, seq, flags, steps, suffix) => frame(
-            alloc,
-            &[
-                "0b02004e0000",
-                flags,
-                NO_CORRECTION,
-                "00000000",
-                source.0,
-                source.1,
-                seq,
-                "0500",
-                NO_TIME,
-                "00000080f8feffff80",
-                GM,
-                steps,
-                "a00003000a",
-                ORGANIZATION,
-                "2000",
-                suffix,
-            ],
-        ),
-        Text::Sync(source, seq) => frame(
-            alloc,
-            &[
-                "0002002c00000200",
-                NO_CORRECTION,
-                "00000000",
-                source.0,
-                source.1,
-                seq,
-                "0000",
-                NO_TIME,
-            ],
-        ),
-        Text::DelayReq(source, seq) => frame(
-            alloc,
-            &[
-                "0102002c00000000",
-                NO_CORRECTION,
-                "00000000",
-                source.0,
-                source.1,
-                seq,
-                "017f",
-                NO_TIME,
-            ],
-        ),
-        Text::FollowUp(source, seq, correction, time) => frame(
-            alloc,
-            &[
-                "0802002c00000000",
-                correction,
-                "00000000",
-                source.0,
-                source.1,
-                seq,
-                "0200",
-                time,
-            ],
-        ),
-        Text::DelayResp(source, seq, correction, time, requesting) => frame(
-            alloc,
-            &[
-                "0902003600000000",
-                correction,
-                "00000000",
-                source.0,
-                source.1,
-                seq,
-                "0300",
-                time,
-                requesting.0,
-                requesting.1,
-            ],
-        ),
-        Text::Signal(source, seq, target, message) => {
-            let (length, value, id, one, two) = tlv_of(message);
-            frame(
-                alloc,
-                &[
-                    "0c02",
-                    length,
-                    "00000000",
-                    NO_CORRECTION,
-                    "00000000",
-                    source.0,
-                    source.1,
-                    seq,
-                    "057f",
-                    target.0,
-                    target.1,
-                    "0003",
-                    value,
-                    ORGANIZATION,
-                    id,
-                    one,
-                    two,
-                ],
-            )
+        Text::Announce(source, seq, flags, steps, suffix) => {
+            announce(alloc, source, seq, flags, steps, suffix)
         }
+        Text::Sync(source, seq) => event(
+            alloc,
+            "0002002c00000200",
+            NO_CORRECTION,
+            source,
+            seq,
+            "0000",
+            NO_TIME,
+        ),
+        Text::DelayReq(source, seq) => event(
+            alloc,
+            "0102002c00000000",
+            NO_CORRECTION,
+            source,
+            seq,
+            "017f",
+            NO_TIME,
+        ),
+        Text::FollowUp(source, seq, correction, time) => event(
+            alloc,
+            "0802002c00000000",
+            correction,
+            source,
+            seq,
+            "0200",
+            time,
+        ),
+        Text::DelayResp(source, seq, correction, time, requesting) => {
+            response(alloc, source, seq, correction, time, requesting)
+        }
+        Text::Signal(source, seq, target, message) => signal(alloc, source, seq, target, message),
         Text::Other(text) => frame(alloc, &[text]),
     }
 }

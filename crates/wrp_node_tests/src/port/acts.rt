@@ -34,13 +34,25 @@ pub const MODULE: Module = Module {
     err: 0,
 };
 
+/// The four stamps of the exchange of a slave's rows: t1 is 1 s with corrections of 3 and 2 units of the
+/// correctionField, t4 is 3 s less 4 of these.
+pub const FOUR: Four = Four {
+    t1: 65_536_000_000_005_000,
+    t2: 65_536_065_536_000_000,
+    t3: 131_072_000_000_000_000,
+    t4: 196_607_999_999_996_000,
+    u2: 100,
+    u3: -40,
+    tick: 7,
+};
+
 const ZERO: Ts = Ts {
     seconds: 0,
     nanos: 0,
 };
 
 /// A message that comes.
-#[derive(Clone, Copy, Debug)]
+#[derive(Clone, Copy)]
 pub enum Heard {
     /// An Announce: flags, suffix.
     Announce(u16, Option<u16>),
@@ -57,7 +69,7 @@ pub enum Heard {
 }
 
 /// What happens at the port. A message is handed over at tick 7, a sending is told at tick 8.
-#[derive(Clone, Copy, Debug)]
+#[derive(Clone, Copy)]
 pub enum Act {
     /// The carrier comes, with the module listed or not.
     Up(bool),
@@ -88,7 +100,7 @@ pub enum Act {
 }
 
 /// A message that the port is to send.
-#[derive(Clone, Copy, Debug)]
+#[derive(Clone, Copy)]
 pub enum Due {
     /// An Announce: sequenceId, flags, suffix.
     Announce(u16, u16, Option<u16>),
@@ -105,10 +117,8 @@ pub enum Due {
 }
 
 /// What is expected after an input. What is not named is not to be.
-#[derive(Clone, Copy, Debug)]
+#[derive(Clone, Copy)]
 pub enum Out {
-    /// Nothing more.
-    Nil,
     /// The new word.
     Word(LinkWord),
     /// A message that is sent, in its order.
@@ -122,9 +132,6 @@ pub enum Out {
     /// The delays of the link are known.
     Deltas,
 }
-
-/// An input, and all that is expected after it.
-pub type Step = (Act, Out, Out, Out);
 
 fn stamp(reading: u64, sample: u32) -> Stamp
     ensures { IsStamp result }

@@ -1,9 +1,14 @@
-//! Lists of calls of a servo of small numbers, each call with what it answers, worked by hand.
+//! Lists of calls of a servo of small numbers, each call with what it answers, worked by hand, and what
+//! their texts stand for. In a list commas stand between the calls, and behind `>` stands what a call
+//! answers; where there is no `>` it answers nothing.
+use crate::words::{i64_of, i128_of, u16_of, u32_of};
+use std::alloc::Global;
+use std::test::Fail;
 use wrp_base::{ServoState, Tau};
 
 /// A call. The delay both ways of a four is `down + up`, and the offset that it tells is half of
 /// `down - up`, as the fibre's two ways are equal.
-#[derive(Clone, Copy, Debug)]
+#[derive(Clone, Copy)]
 pub enum Do {
     Sample(u32, u16),
     Glitch(u32),
@@ -19,7 +24,7 @@ pub enum Do {
 }
 
 /// What a call answers.
-#[derive(Clone, Copy, Debug)]
+#[derive(Clone, Copy)]
 pub enum Says {
     Nothing,
     Ends,
@@ -31,569 +36,249 @@ pub enum Says {
     HearsAndEnds(i64),
 }
 
-use Do::{At, Carrier, Glitch, Lease, LinkOff, LinkOn, Reset, Sample, Tick};
-use Says::{Ends, Hears, HearsAndEnds, HearsAndStarts, Nothing, Refuses, RefusesAndEnds, Steps};
+/// What stands after a list: the state, whether the detector is locked, and the offset.
+#[derive(Clone, Copy)]
+pub struct End {
+    pub state: ServoState,
+    pub locked: bool,
+    pub est: Option<Tau>,
+}
 
-type List = &'static [(Do, Says)];
+/// The calls from each level to the next, a line a level: a link without chain, a chain in SYNC_TAI,
+/// SYNC_PHASE, WAIT_STABLE, WAIT_STABLE with the calm count full, TRACK, HOLDOVER.
+pub const PREFIXES: &str = "\
+    carrier on, link on, lease on\n\
+    sample 1 0 > hears 0, sample 2 0 > hears 0 starts 2\n\
+    at 0 0\n\
+    sample 3 0 > hears 0\n\
+    sample 4 0 > hears 0, sample 5 0 > hears 0\n\
+    at 0 0\n\
+    lease off > ends\n\
+    ";
 
-const SECOND: i64 = 65_536_000_000_000_000;
+/// A line a list: its level, the list of calls from there on, and then the state, whether the detector is
+/// locked or open, and the offset. 65536000000000000 is a second, 262144000 half a period,
+/// 9007199254740992 the greatest delay both ways, and -1073741824 the least. A line that begins with `#`
+/// says what the lists below it show.
+pub const LISTS: &str = "\
+    # without calls; samples without carrier; the link and the lease alone\n\
+    0: = uninit open -\n\
+    0: sample 1 0, tick, at 0 0, carrier off = uninit open -\n\
+    0: link on, lease on, lease off = sync-tai open -\n\
+    0: link on, link off = uninit open -\n\
+    # a sample that is not newer, and one after a glitched one of its number\n\
+    0: carrier on, sample 5 0 > hears 0, sample 5 0 > refuses, sample 4 0 > refuses, \
+      glitch 6 > refuses, sample 6 0 > refuses, sample 7 1 > hears 32000 = uninit open -\n\
+    # a chain asks for link and lease\n\
+    0: carrier on, sample 1 0 > hears 0, sample 2 0 > hears 0, link on, sample 3 0 > hears 0, \
+      lease on, sample 4 0 > hears 0 starts 4 = sync-tai locked -\n\
+    # tags across the end of the period; a carrier restarts the loop\n\
+    0: carrier on, sample 1 0 > hears 0, sample 2 16383 > hears -32000, carrier on, \
+      sample 3 9 > hears 0 = uninit open -\n\
+    # SYNC_TAI without a chain: a four is ignored\n\
+    1: at 0 0 = sync-tai open -\n\
+    1: carrier off = uninit open -\n\
+    1: lease off, sample 1 0 > hears 0, sample 2 0 > hears 0 = sync-tai locked -\n\
+    # each end of a chain in SYNC_TAI\n\
+    2: carrier off > ends = uninit open -\n\
+    2: link off > ends = uninit locked -\n\
+    2: lease off > ends, lease on, sample 3 0 > hears 0 starts 3 = sync-tai locked -\n\
+    2: reset > ends, sample 3 0 = uninit open -\n\
+    2: tick, tick, tick > ends = sync-tai locked -\n\
+    2: tick, tick, sample 3 0 > hears 0, tick, tick = sync-tai locked -\n\
+    2: sample 3 1 > hears 32000, sample 4 1 > hears 32000 ends = sync-tai open -\n\
+    2: four 9007199254740992 1 0 > refuses ends = sync-tai locked -\n\
+    2: four -1073741824 -1 0 > refuses ends = sync-tai locked -\n\
+    # steps: by the greatest delay, whole seconds, whole periods, and none up to half a period\n\
+    2: four 9007199254740992 0 0 > steps -8589935 = sync-nsec locked -\n\
+    2: at 65536000000000000 0 > steps -125000000 = sync-tai locked -\n\
+    2: at -65536000000000000 0 > steps 125000000, sample 3 0 > hears 0 starts 3, \
+      at 262144001 0 > steps -1, sample 4 0 > hears 0 starts 4, \
+      at -262144001 0 > steps 1 = sync-nsec locked -\n\
+    2: at 65535999999999999 0 > steps -125000000 = sync-nsec locked -\n\
+    2: at 262144000 0, sample 3 0 > hears 0 = sync-phase locked 262144000\n\
+    2: at -262144000 0 = sync-phase locked -262144000\n\
+    2: at 262144001 0 > steps -1, at 0 0, sample 3 0 > hears 0 starts 3, at 0 0, \
+      sample 4 0 > hears 0 = wait-stable locked 0\n\
+    # SYNC_PHASE\n\
+    3: at 7 0 = sync-phase locked 7\n\
+    3: lease off > ends = sync-tai locked -\n\
+    # WAIT_STABLE: calm at 0, one short, and set to 0 again\n\
+    4: at 0 0 = wait-stable locked 0\n\
+    4: sample 4 0 > hears 0, at 0 0 = wait-stable locked 0\n\
+    4: sample 4 2 > hears 64000, sample 5 0 > hears 0, sample 6 0 > hears 0, at 0 0 = track locked 0\n\
+    5: sample 6 2 > hears 64000, at 0 0 = wait-stable locked 64000\n\
+    5: link off > ends = uninit locked -\n\
+    # WAIT_STABLE with calm full: the age of a four, the residual, the offset\n\
+    5: tick, tick, sample 6 0 > hears 0, tick, tick, at 0 0 = track locked 0\n\
+    5: tick, tick, sample 6 0 > hears 0, tick, tick, sample 7 0 > hears 0, tick, \
+      at 0 0 = sync-phase locked 0\n\
+    5: at 40000 0 = track locked 40000\n\
+    5: at 40001 0 = sync-phase locked 40001\n\
+    5: at 262144001 0 = sync-nsec locked 262144001\n\
+    # TRACK: what leaves it, and what does not\n\
+    6: sample 6 1 > hears 32000 = track locked 32000\n\
+    6: sample 6 2 > hears 64000 ends, at 65536000000000000 0 = holdover open -\n\
+    6: at 40000 0, sample 6 0 > hears 0 = track locked 40000\n\
+    6: at -40001 0 > ends, at 65536000000000000 0 = holdover open -\n\
+    6: tick, tick, tick > ends = holdover open -\n\
+    6: tick, tick, sample 6 0 > hears 0, tick, tick = track locked 0\n\
+    6: tick, tick, sample 6 0 > hears 0, tick, tick, sample 7 0 > hears 0, \
+      tick > ends = holdover open -\n\
+    6: tick, tick, sample 6 0 > hears 0, tick, at 0 3, tick, sample 7 0 > hears 0, tick, \
+      tick = track locked 0\n\
+    6: link off > ends = holdover open -\n\
+    6: carrier off > ends = holdover open -\n\
+    6: reset > ends = uninit open -\n\
+    6: four 9007199254740992 1 0 > refuses ends = holdover open -\n\
+    6: carrier on = track open 0\n\
+    6: carrier on, sample 6 5 > hears 0 ends = holdover open -\n\
+    # HOLDOVER: one tick short, its last tick, and a reset\n\
+    7: sample 6 0, at 0 0, tick, tick = holdover open -\n\
+    7: tick, tick, tick = sync-tai open -\n\
+    7: link off, tick, tick, tick = uninit open -\n\
+    7: carrier off, carrier on, lease on = holdover open -\n\
+    7: reset, link on = sync-tai open -\n\
+    7: tick, tick, tick, lease on, sample 6 9 > hears 0, \
+      sample 7 9 > hears 0 starts 7 = sync-tai locked -\n\
+    ";
 
-/// Half a period.
-const HALF: i64 = 262_144_000;
+// Whether something is on.
+fn is_on(word: &str) -> Option<bool> {
+    match word {
+        "on" => Some(true),
+        "off" => Some(false),
+        _ => None,
+    }
+}
 
-/// The calls from each level to the next: a link without chain, a chain in SYNC_TAI, SYNC_PHASE,
-/// WAIT_STABLE, WAIT_STABLE with the calm count full, TRACK, HOLDOVER.
-pub const PREFIXES: [List; 7] = [
-    &[
-        (Carrier(true), Nothing),
-        (LinkOn, Nothing),
-        (Lease(true), Nothing),
-    ],
-    &[
-        (Sample(1, 0), Hears(0)),
-        (Sample(2, 0), HearsAndStarts(0, 2)),
-    ],
-    &[(At(0, 0), Nothing)],
-    &[(Sample(3, 0), Hears(0))],
-    &[(Sample(4, 0), Hears(0)), (Sample(5, 0), Hears(0))],
-    &[(At(0, 0), Nothing)],
-    &[(Lease(false), Ends)],
-];
+// A link that comes or goes.
+fn link_of(word: &str) -> Option<Do> {
+    Some(if is_on(word)? {
+        Do::LinkOn
+    } else {
+        Do::LinkOff
+    })
+}
 
-/// A level, a list of calls from there on, and then the state, whether the detector is locked, and the
-/// offset.
-pub const ROWS: [(usize, List, ServoState, bool, Option<Tau>); 58] = [
-    // without calls; samples without carrier; the link and the lease alone
-    (0, &[], ServoState::Uninit, false, None),
-    (
-        0,
-        &[
-            (Sample(1, 0), Nothing),
-            (Tick, Nothing),
-            (At(0, 0), Nothing),
-            (Carrier(false), Nothing),
-        ],
-        ServoState::Uninit,
-        false,
-        None,
-    ),
-    (
-        0,
-        &[
-            (LinkOn, Nothing),
-            (Lease(true), Nothing),
-            (Lease(false), Nothing),
-        ],
-        ServoState::SyncTai,
-        false,
-        None,
-    ),
-    (
-        0,
-        &[(LinkOn, Nothing), (LinkOff, Nothing)],
-        ServoState::Uninit,
-        false,
-        None,
-    ),
-    // a sample that is not newer, and one after a glitched one of its number
-    (
-        0,
-        &[
-            (Carrier(true), Nothing),
-            (Sample(5, 0), Hears(0)),
-            (Sample(5, 0), Refuses),
-            (Sample(4, 0), Refuses),
-            (Glitch(6), Refuses),
-            (Sample(6, 0), Refuses),
-            (Sample(7, 1), Hears(32_000)),
-        ],
-        ServoState::Uninit,
-        false,
-        None,
-    ),
-    // a chain asks for link and lease
-    (
-        0,
-        &[
-            (Carrier(true), Nothing),
-            (Sample(1, 0), Hears(0)),
-            (Sample(2, 0), Hears(0)),
-            (LinkOn, Nothing),
-            (Sample(3, 0), Hears(0)),
-            (Lease(true), Nothing),
-            (Sample(4, 0), HearsAndStarts(0, 4)),
-        ],
-        ServoState::SyncTai,
-        true,
-        None,
-    ),
-    // tags across the end of the period; a carrier restarts the loop
-    (
-        0,
-        &[
-            (Carrier(true), Nothing),
-            (Sample(1, 0), Hears(0)),
-            (Sample(2, 16383), Hears(-32_000)),
-            (Carrier(true), Nothing),
-            (Sample(3, 9), Hears(0)),
-        ],
-        ServoState::Uninit,
-        false,
-        None,
-    ),
-    // SYNC_TAI without a chain: a four is ignored
-    (1, &[(At(0, 0), Nothing)], ServoState::SyncTai, false, None),
-    (
-        1,
-        &[(Carrier(false), Nothing)],
-        ServoState::Uninit,
-        false,
-        None,
-    ),
-    (
-        1,
-        &[
-            (Lease(false), Nothing),
-            (Sample(1, 0), Hears(0)),
-            (Sample(2, 0), Hears(0)),
-        ],
-        ServoState::SyncTai,
-        true,
-        None,
-    ),
-    // each end of a chain in SYNC_TAI
-    (
-        2,
-        &[(Carrier(false), Ends)],
-        ServoState::Uninit,
-        false,
-        None,
-    ),
-    (2, &[(LinkOff, Ends)], ServoState::Uninit, true, None),
-    (
-        2,
-        &[
-            (Lease(false), Ends),
-            (Lease(true), Nothing),
-            (Sample(3, 0), HearsAndStarts(0, 3)),
-        ],
-        ServoState::SyncTai,
-        true,
-        None,
-    ),
-    (
-        2,
-        &[(Reset, Ends), (Sample(3, 0), Nothing)],
-        ServoState::Uninit,
-        false,
-        None,
-    ),
-    (
-        2,
-        &[(Tick, Nothing), (Tick, Nothing), (Tick, Ends)],
-        ServoState::SyncTai,
-        true,
-        None,
-    ),
-    (
-        2,
-        &[
-            (Tick, Nothing),
-            (Tick, Nothing),
-            (Sample(3, 0), Hears(0)),
-            (Tick, Nothing),
-            (Tick, Nothing),
-        ],
-        ServoState::SyncTai,
-        true,
-        None,
-    ),
-    (
-        2,
-        &[
-            (Sample(3, 1), Hears(32_000)),
-            (Sample(4, 1), HearsAndEnds(32_000)),
-        ],
-        ServoState::SyncTai,
-        false,
-        None,
-    ),
-    (
-        2,
-        &[(
-            Do::Four {
-                down: 1 << 53,
-                up: 1,
-                tick: 0,
-            },
-            RefusesAndEnds,
-        )],
-        ServoState::SyncTai,
-        true,
-        None,
-    ),
-    (
-        2,
-        &[(
-            Do::Four {
-                down: -(1 << 30),
-                up: -1,
-                tick: 0,
-            },
-            RefusesAndEnds,
-        )],
-        ServoState::SyncTai,
-        true,
-        None,
-    ),
-    // steps: by the greatest delay, whole seconds, whole periods, and none up to half a period
-    (
-        2,
-        &[(
-            Do::Four {
-                down: 1 << 53,
-                up: 0,
-                tick: 0,
-            },
-            Steps(-8_589_935),
-        )],
-        ServoState::SyncNsec,
-        true,
-        None,
-    ),
-    (
-        2,
-        &[(At(SECOND, 0), Steps(-125_000_000))],
-        ServoState::SyncTai,
-        true,
-        None,
-    ),
-    (
-        2,
-        &[
-            (At(-SECOND, 0), Steps(125_000_000)),
-            (Sample(3, 0), HearsAndStarts(0, 3)),
-            (At(HALF + 1, 0), Steps(-1)),
-            (Sample(4, 0), HearsAndStarts(0, 4)),
-            (At(-HALF - 1, 0), Steps(1)),
-        ],
-        ServoState::SyncNsec,
-        true,
-        None,
-    ),
-    (
-        2,
-        &[(At(SECOND - 1, 0), Steps(-125_000_000))],
-        ServoState::SyncNsec,
-        true,
-        None,
-    ),
-    (
-        2,
-        &[(At(HALF, 0), Nothing), (Sample(3, 0), Hears(0))],
-        ServoState::SyncPhase,
-        true,
-        Some(262_144_000),
-    ),
-    (
-        2,
-        &[(At(-HALF, 0), Nothing)],
-        ServoState::SyncPhase,
-        true,
-        Some(-262_144_000),
-    ),
-    (
-        2,
-        &[
-            (At(HALF + 1, 0), Steps(-1)),
-            (At(0, 0), Nothing),
-            (Sample(3, 0), HearsAndStarts(0, 3)),
-            (At(0, 0), Nothing),
-            (Sample(4, 0), Hears(0)),
-        ],
-        ServoState::WaitStable,
-        true,
-        Some(0),
-    ),
-    // SYNC_PHASE
-    (
-        3,
-        &[(At(7, 0), Nothing)],
-        ServoState::SyncPhase,
-        true,
-        Some(7),
-    ),
-    (3, &[(Lease(false), Ends)], ServoState::SyncTai, true, None),
-    // WAIT_STABLE: calm at 0, one short, and set to 0 again
-    (
-        4,
-        &[(At(0, 0), Nothing)],
-        ServoState::WaitStable,
-        true,
-        Some(0),
-    ),
-    (
-        4,
-        &[(Sample(4, 0), Hears(0)), (At(0, 0), Nothing)],
-        ServoState::WaitStable,
-        true,
-        Some(0),
-    ),
-    (
-        4,
-        &[
-            (Sample(4, 2), Hears(64_000)),
-            (Sample(5, 0), Hears(0)),
-            (Sample(6, 0), Hears(0)),
-            (At(0, 0), Nothing),
-        ],
-        ServoState::Track,
-        true,
-        Some(0),
-    ),
-    (
-        5,
-        &[(Sample(6, 2), Hears(64_000)), (At(0, 0), Nothing)],
-        ServoState::WaitStable,
-        true,
-        Some(64_000),
-    ),
-    (5, &[(LinkOff, Ends)], ServoState::Uninit, true, None),
-    // WAIT_STABLE with calm full: the age of a four, the residual, the offset
-    (
-        5,
-        &[
-            (Tick, Nothing),
-            (Tick, Nothing),
-            (Sample(6, 0), Hears(0)),
-            (Tick, Nothing),
-            (Tick, Nothing),
-            (At(0, 0), Nothing),
-        ],
-        ServoState::Track,
-        true,
-        Some(0),
-    ),
-    (
-        5,
-        &[
-            (Tick, Nothing),
-            (Tick, Nothing),
-            (Sample(6, 0), Hears(0)),
-            (Tick, Nothing),
-            (Tick, Nothing),
-            (Sample(7, 0), Hears(0)),
-            (Tick, Nothing),
-            (At(0, 0), Nothing),
-        ],
-        ServoState::SyncPhase,
-        true,
-        Some(0),
-    ),
-    (
-        5,
-        &[(At(40_000, 0), Nothing)],
-        ServoState::Track,
-        true,
-        Some(40_000),
-    ),
-    (
-        5,
-        &[(At(40_001, 0), Nothing)],
-        ServoState::SyncPhase,
-        true,
-        Some(40_001),
-    ),
-    (
-        5,
-        &[(At(HALF + 1, 0), Nothing)],
-        ServoState::SyncNsec,
-        true,
-        Some(262_144_001),
-    ),
-    // TRACK: what leaves it, and what does not
-    (
-        6,
-        &[(Sample(6, 1), Hears(32_000))],
-        ServoState::Track,
-        true,
-        Some(32_000),
-    ),
-    (
-        6,
-        &[
-            (Sample(6, 2), HearsAndEnds(64_000)),
-            (At(SECOND, 0), Nothing),
-        ],
-        ServoState::Holdover,
-        false,
-        None,
-    ),
-    (
-        6,
-        &[(At(40_000, 0), Nothing), (Sample(6, 0), Hears(0))],
-        ServoState::Track,
-        true,
-        Some(40_000),
-    ),
-    (
-        6,
-        &[(At(-40_001, 0), Ends), (At(SECOND, 0), Nothing)],
-        ServoState::Holdover,
-        false,
-        None,
-    ),
-    (
-        6,
-        &[(Tick, Nothing), (Tick, Nothing), (Tick, Ends)],
-        ServoState::Holdover,
-        false,
-        None,
-    ),
-    (
-        6,
-        &[
-            (Tick, Nothing),
-            (Tick, Nothing),
-            (Sample(6, 0), Hears(0)),
-            (Tick, Nothing),
-            (Tick, Nothing),
-        ],
-        ServoState::Track,
-        true,
-        Some(0),
-    ),
-    (
-        6,
-        &[
-            (Tick, Nothing),
-            (Tick, Nothing),
-            (Sample(6, 0), Hears(0)),
-            (Tick, Nothing),
-            (Tick, Nothing),
-            (Sample(7, 0), Hears(0)),
-            (Tick, Ends),
-        ],
-        ServoState::Holdover,
-        false,
-        None,
-    ),
-    (
-        6,
-        &[
-            (Tick, Nothing),
-            (Tick, Nothing),
-            (Sample(6, 0), Hears(0)),
-            (Tick, Nothing),
-            (At(0, 3), Nothing),
-            (Tick, Nothing),
-            (Sample(7, 0), Hears(0)),
-            (Tick, Nothing),
-            (Tick, Nothing),
-        ],
-        ServoState::Track,
-        true,
-        Some(0),
-    ),
-    (6, &[(LinkOff, Ends)], ServoState::Holdover, false, None),
-    (
-        6,
-        &[(Carrier(false), Ends)],
-        ServoState::Holdover,
-        false,
-        None,
-    ),
-    (6, &[(Reset, Ends)], ServoState::Uninit, false, None),
-    (
-        6,
-        &[(
-            Do::Four {
-                down: 1 << 53,
-                up: 1,
-                tick: 0,
-            },
-            RefusesAndEnds,
-        )],
-        ServoState::Holdover,
-        false,
-        None,
-    ),
-    (
-        6,
-        &[(Carrier(true), Nothing)],
-        ServoState::Track,
-        false,
-        Some(0),
-    ),
-    (
-        6,
-        &[(Carrier(true), Nothing), (Sample(6, 5), HearsAndEnds(0))],
-        ServoState::Holdover,
-        false,
-        None,
-    ),
-    // HOLDOVER: one tick short, its last tick, and a reset
-    (
-        7,
-        &[
-            (Sample(6, 0), Nothing),
-            (At(0, 0), Nothing),
-            (Tick, Nothing),
-            (Tick, Nothing),
-        ],
-        ServoState::Holdover,
-        false,
-        None,
-    ),
-    (
-        7,
-        &[(Tick, Nothing), (Tick, Nothing), (Tick, Nothing)],
-        ServoState::SyncTai,
-        false,
-        None,
-    ),
-    (
-        7,
-        &[
-            (LinkOff, Nothing),
-            (Tick, Nothing),
-            (Tick, Nothing),
-            (Tick, Nothing),
-        ],
-        ServoState::Uninit,
-        false,
-        None,
-    ),
-    (
-        7,
-        &[
-            (Carrier(false), Nothing),
-            (Carrier(true), Nothing),
-            (Lease(true), Nothing),
-        ],
-        ServoState::Holdover,
-        false,
-        None,
-    ),
-    (
-        7,
-        &[(Reset, Nothing), (LinkOn, Nothing)],
-        ServoState::SyncTai,
-        false,
-        None,
-    ),
-    (
-        7,
-        &[
-            (Tick, Nothing),
-            (Tick, Nothing),
-            (Tick, Nothing),
-            (Lease(true), Nothing),
-            (Sample(6, 9), Hears(0)),
-            (Sample(7, 9), HearsAndStarts(0, 7)),
-        ],
-        ServoState::SyncTai,
-        true,
-        None,
-    ),
-];
+// A sample.
+fn sample_of(n: &str, tag: &str) -> Option<Do> {
+    Some(Do::Sample(u32_of(n)?, u16_of(tag)?))
+}
+
+// A four.
+fn four_of(down: &str, up: &str, tick: &str) -> Option<Do> {
+    Some(Do::Four {
+        down: i64_of(down)?,
+        up: i64_of(up)?,
+        tick: u32_of(tick)?,
+    })
+}
+
+// A four by its offset.
+fn at_of(offset: &str, tick: &str) -> Option<Do> {
+    Some(Do::At(i64_of(offset)?, u32_of(tick)?))
+}
+
+// The call of these words.
+fn call_of(words: &[&str]) -> Option<Do> {
+    match *words {
+        ["sample", n, tag] => sample_of(n, tag),
+        ["glitch", n] => Some(Do::Glitch(u32_of(n)?)),
+        ["four", down, up, tick] => four_of(down, up, tick),
+        ["at", offset, tick] => at_of(offset, tick),
+        ["tick"] => Some(Do::Tick),
+        ["lease", word] => Some(Do::Lease(is_on(word)?)),
+        ["link", word] => link_of(word),
+        ["carrier", word] => Some(Do::Carrier(is_on(word)?)),
+        ["reset"] => Some(Do::Reset),
+        _ => None,
+    }
+}
+
+// A sample that is heard at the last of those that start a chain.
+fn starts_of(u: &str, n: &str) -> Option<Says> {
+    Some(Says::HearsAndStarts(i64_of(u)?, u32_of(n)?))
+}
+
+// The answer of these words.
+fn says_of(words: &[&str]) -> Option<Says> {
+    match *words {
+        [] => Some(Says::Nothing),
+        ["ends"] => Some(Says::Ends),
+        ["steps", cycles] => Some(Says::Steps(i64_of(cycles)?)),
+        ["refuses"] => Some(Says::Refuses),
+        ["refuses", "ends"] => Some(Says::RefusesAndEnds),
+        ["hears", u] => Some(Says::Hears(i64_of(u)?)),
+        ["hears", u, "starts", n] => starts_of(u, n),
+        ["hears", u, "ends"] => Some(Says::HearsAndEnds(i64_of(u)?)),
+        _ => None,
+    }
+}
+
+/// A call of a list, and what it answers.
+pub fn step_of(alloc: Global, text: &str) -> Result<(Do, Says), Fail> {
+    let (call, says) = text.split_once('>').unwrap_or((text, ""));
+    let call: Vec<&str> = call.split_whitespace().collect(alloc)?;
+    let says: Vec<&str> = says.split_whitespace().collect(alloc)?;
+    Ok((
+        call_of(&call).ok_or("a call")?,
+        says_of(&says).ok_or("an answer")?,
+    ))
+}
+
+// The state of a word.
+fn state_of(word: &str) -> Option<ServoState> {
+    match word {
+        "uninit" => Some(ServoState::Uninit),
+        "sync-tai" => Some(ServoState::SyncTai),
+        "sync-nsec" => Some(ServoState::SyncNsec),
+        "sync-phase" => Some(ServoState::SyncPhase),
+        "wait-stable" => Some(ServoState::WaitStable),
+        "track" => Some(ServoState::Track),
+        "holdover" => Some(ServoState::Holdover),
+        _ => None,
+    }
+}
+
+// Whether a detector is locked.
+fn is_locked(word: &str) -> Option<bool> {
+    match word {
+        "locked" => Some(true),
+        "open" => Some(false),
+        _ => None,
+    }
+}
+
+// An offset, if there is one.
+fn offset_of(word: &str) -> Option<Option<Tau>> {
+    if word == "-" {
+        return Some(None);
+    }
+    Some(Some(i128_of(word)?))
+}
+
+// What stands after a list, by its words.
+fn end_of(words: &[&str]) -> Option<End> {
+    match *words {
+        [state, locked, est] => Some(End {
+            state: state_of(state)?,
+            locked: is_locked(locked)?,
+            est: offset_of(est)?,
+        }),
+        _ => None,
+    }
+}
+
+/// A line of `LISTS`: the level, the list, and what stands after it.
+pub fn line_of(alloc: Global, line: &str) -> Result<(usize, &str, End), Fail> {
+    let (level, rest) = line.split_once(':').ok_or("a level")?;
+    let (list, end) = rest.split_once('=').ok_or("an end")?;
+    let level = u16_of(level).ok_or("the number of a level")?;
+    let words: Vec<&str> = end.split_whitespace().collect(alloc)?;
+    Ok((
+        usize::from(level),
+        list.trim(),
+        end_of(&words).ok_or("an end")?,
+    ))
+}

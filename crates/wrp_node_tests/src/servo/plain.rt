@@ -257,18 +257,10 @@ fn after_sample(v: &Standing, x: Do, n: u32) -> Standing {
     w
 }
 
-fn after_four(v: &Standing, x: Do) -> Standing {
-    let mut w = *v;
-    if !v.chain || !v.link {
-        return w;
-    }
-    let Some(Some((four, tick))) = measured(x) else {
-        return ended(v);
-    };
-    let est = four.wrapping_add(v.u);
+// The state after a four that tells this offset.
+fn state_after_four(v: &Standing, x: Do, est: i64) -> ServoState {
     let near = est.unsigned_abs() <= HALF as u64;
-    w.four = Some((four, tick));
-    w.state = match v.state {
+    match v.state {
         ServoState::SyncTai if est.unsigned_abs() >= 65_536_000_000_000_000 => ServoState::SyncTai,
         ServoState::SyncTai | ServoState::SyncNsec if !near => ServoState::SyncNsec,
         ServoState::SyncTai | ServoState::SyncNsec => ServoState::SyncPhase,
@@ -277,7 +269,19 @@ fn after_four(v: &Standing, x: Do) -> Standing {
         ServoState::WaitStable if near => ServoState::SyncPhase,
         ServoState::WaitStable => ServoState::SyncNsec,
         state => state,
+    }
+}
+
+fn after_four(v: &Standing, x: Do) -> Standing {
+    let mut w = *v;
+    if !v.chain || !v.link {
+        return w;
+    }
+    let Some(Some((four, tick))) = measured(x) else {
+        return ended(v);
     };
+    w.four = Some((four, tick));
+    w.state = state_after_four(v, x, four.wrapping_add(v.u));
     if steps(v, x) {
         w.chain = false;
         w.four = None;
