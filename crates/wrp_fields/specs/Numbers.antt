@@ -35,3 +35,7 @@ number_in least greatest text = option_and_then (kept_in least greatest) (number
 abbrev pub natural_in : ℕ → ℕ → List ℕ → Option ℕ
 natural_in least greatest text =
     option_map unsigned_abs (number_in (pos least) (pos greatest) text)
+
+-- a number from 0 on, where it is from least to greatest
+abbrev pub held_in : ℕ → ℕ → ℕ → Option ℕ
+held_in least greatest n = if nat_le least n && nat_le n greatest then Some n else None

@@ -1,8 +1,8 @@
 //! Numbers in a line.
-ghost use Rattle.std.specs.Prelude.{◌≡◌, ◌-◌, ◌^◌, ◌<◌, ◌≤◌, ◌≤ℤ◌, min, IfSome, option_map, option_and_then, pos, neg_ℤ, unsigned_abs};
+ghost use Rattle.std.specs.Prelude.{◌≡◌, ◌-◌, ◌^◌, ◌<◌, ◌≤◌, ◌≤ℤ◌, min, IfSome, option_map, option_and_then, Some, pos, neg_ℤ, unsigned_abs};
 ghost use Rattle.std.specs.List.{list_all};
 ghost use Rattle.std.specs.Char.{is_ascii_digit};
-ghost use Rattle.wrp_fields.specs.Numbers.{value_of, are_digits, digits_of, number_in, natural_in, kept_in};
+ghost use Rattle.wrp_fields.specs.Numbers.{value_of, are_digits, digits_of, number_in, natural_in, kept_in, held_in};
 
 // The most digits that a number may have.
 const MOST_DIGITS: usize = 39;
@@ -44,7 +44,43 @@ fn opposite(number: i128) -> i128
 }
 
 /// The number from `least` to `greatest` that a text writes, where both are from 0 on.
+#[tactic(auto, using(crate::proofs::ShortNumbers::natural_of_digits))]
 pub fn natural(text: &[u8], least: u64, greatest: u64) -> Option<u64>
+    ensures value { result ≡ natural_in least greatest text.now }
+    ensures range { IfSome result (λ n. (least ≤ n) × (n ≤ greatest)) }
+{
+    match short_number(text) {
+        Some(number) => within(number, least, greatest),
+        None => any_natural(text, least, greatest),
+    }
+}
+
+// The number of 1 to 39 digits, where it is less than the greatest u64: most numbers are. It takes no
+// 128 bits.
+fn short_number(text: &[u8]) -> Option<u64>
+    ensures { IfSome result (λ n. digits_of text.now ≡ Some n) }
+{
+    if !are_digits(text) {
+        return None;
+    }
+    let short = short_value(text);
+    if short < u64::MAX { Some(short) } else { None }
+}
+
+// The number, where it is from `least` to `greatest`.
+fn within(number: u64, least: u64, greatest: u64) -> Option<u64>
+    ensures value { result ≡ held_in least greatest number }
+    ensures range { IfSome result (λ n. (least ≤ n) × (n ≤ greatest)) }
+{
+    if least <= number && number <= greatest {
+        Some(number)
+    } else {
+        None
+    }
+}
+
+// The number that a text writes, by way of 128 bits.
+fn any_natural(text: &[u8], least: u64, greatest: u64) -> Option<u64>
     ensures value { result ≡ natural_in least greatest text.now }
     ensures range { IfSome result (λ n. (least ≤ n) × (n ≤ greatest)) }
 {
