@@ -1,3 +1,4 @@
+pub mod ReadInto
 pub mod Texts
 pub mod KindLemmas
 pub mod NumberLemmas

@@ -1,6 +1,6 @@
 -- Input lines: what each says, and which fault comes first in one that says nothing (this project's
 -- profile). The kind is tried first, then the number of fields, then the fields from left to right.
-use Rattle.std.specs.Prelude.{ℕ, ◌==◌, true, false, if◌then◌else◌, Option, None, Some, Result, Ok, Err, List, length}
+use Rattle.std.specs.Prelude.{◌≡◌, ℕ, ◌==◌, true, false, if◌then◌else◌, Option, None, Some, Result, Ok, Err, List, length}
 use Rattle.wrp_base.specs.declared.fault.TraceFault.{TraceFault}
 use Rattle.wrp_base.specs.declared.fault.TraceFault.TheVariants.{Fields, Kind}
 use Rattle.wrp_base.specs.Lines.{parts_of}
@@ -75,3 +75,8 @@ input_of site fields = counted_of site fields (kind_of site (field_of 1 fields))
 -- the input that a line says at a node, or the first fault that it has
 abbrev pub read_of : Site → List ℕ → Result Input TraceFault
 read_of site line = if is_plain line then input_of site (parts_of line) else Err Fields
+
+-- an answer to a reading into a place: the place has what was read, and stays as it was at a fault
+abbrev pub IsReadInto : {A : Type 0} → Result A TraceFault → Result Unit TraceFault → A → A → Type 0
+IsReadInto (Ok read) answer old new = (answer ≡ Ok tt) × (new ≡ read)
+IsReadInto (Err fault) answer old new = (answer ≡ Err fault) × (new ≡ old)

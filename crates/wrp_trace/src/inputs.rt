@@ -1,7 +1,7 @@
 //! Input lines: what a node is handed, read from a line.
-ghost use Rattle.std.specs.Prelude.{◌≡◌, IfOk, true, false};
+ghost use Rattle.std.specs.Prelude.{◌≡◌, IfOk, OnOk, true, false};
 ghost use Rattle.csv.specs.Records.{fields_of};
-ghost use Rattle.wrp_trace.specs.Inputs.{sample_of, frame_of, sent_of, up_of, down_of, fields_of_kind, input_of, read_of};
+ghost use Rattle.wrp_trace.specs.Inputs.{sample_of, frame_of, sent_of, up_of, down_of, fields_of_kind, input_of, read_of, IsReadInto};
 ghost use Rattle.wrp_trace.specs.InputAt.{IsInputAt};
 ghost use Rattle.wrp_trace.specs.Kinds.{has_kind};
 ghost use Rattle.wrp_fields.specs.Reading.{IsReading};
@@ -22,111 +22,138 @@ use wrp_node::Input;
 // The place of the first field.
 const KIND: u32 = 1;
 
-/// What the fields of a line say to a node.
-pub fn read_input_fields(row: &ByteRecord, net: &Network, node: u8) -> Result<Input, TraceFault>
-    ensures value { result ≡ input_of (site_of net.now node) (fields_of row.now) }
-    ensures input { IfOk result (IsInputAt (site_of net.now node)) }
+/// Puts what the fields of a line say to a node into `input`, which stays as it was where they say
+/// nothing. An input has room for a whole frame: one place serves line after line.
+pub fn read_input_fields(
+    row: &ByteRecord,
+    net: &Network,
+    node: u8,
+    input: &mut Input,
+) -> Result<(), TraceFault>
+    ensures value { IsReadInto (input_of (site_of net.now node) (fields_of row.now)) result
+        input.old input.new }
+    ensures input { OnOk result (IsInputAt (site_of net.now node) input.new) }
 {
     match kind_of(net, node, field(row, KIND)) {
-        Some(kind) if row.len() == kind.field_count() => read_kind(kind, row, net, node),
+        Some(kind) if row.len() == kind.field_count() => read_kind(kind, row, net, node, input),
         Some(_) => Err(TraceFault::Fields),
         None => Err(TraceFault::Kind),
     }
 }
 
-// What the fields of a line of a kind say.
+// The same, for the fields of a line of a kind.
 fn read_kind(
     kind: InputKind,
     row: &ByteRecord,
     net: &Network,
     node: u8,
-) -> Result<Input, TraceFault>
+    input: &mut Input,
+) -> Result<(), TraceFault>
     requires { has_kind (site_of net.now node) kind ≡ true }
-    ensures value { result ≡ fields_of_kind (site_of net.now node) kind (fields_of row.now) }
-    ensures input { IfOk result (IsInputAt (site_of net.now node)) }
+    ensures value { IsReadInto (fields_of_kind (site_of net.now node) kind (fields_of row.now)) result
+        input.old input.new }
+    ensures input { OnOk result (IsInputAt (site_of net.now node) input.new) }
 {
     match kind {
-        InputKind::Tick => Ok(Input::Tick),
-        InputKind::Sample => sample(row, net, node),
-        InputKind::Frame => frame(row, net, node),
-        InputKind::Sent => sent(row, net, node),
-        InputKind::Up => up(row, net, node),
-        InputKind::Down => down(row, net, node),
-        InputKind::Reset => Ok(Input::Reset),
+        InputKind::Tick => *input = Input::Tick,
+        InputKind::Sample => sample(row, net, node, input)?,
+        InputKind::Frame => frame(row, net, node, input)?,
+        InputKind::Sent => sent(row, net, node, input)?,
+        InputKind::Up => up(row, net, node, input)?,
+        InputKind::Down => down(row, net, node, input)?,
+        InputKind::Reset => *input = Input::Reset,
     }
+    Ok(())
 }
 
 // `sample,N,BASE,BITS`.
-fn sample(row: &ByteRecord, net: &Network, node: u8) -> Result<Input, TraceFault>
+fn sample(row: &ByteRecord, net: &Network, node: u8, input: &mut Input) -> Result<(), TraceFault>
     requires { is_grandmaster (site_of net.now node) ≡ false }
-    ensures value { result ≡ sample_of (fields_of row.now) }
-    ensures input { IfOk result (IsInputAt (site_of net.now node)) }
+    ensures value { IsReadInto (sample_of (fields_of row.now)) result input.old input.new }
+    ensures input { OnOk result (IsInputAt (site_of net.now node) input.new) }
 {
     let n = long_at(row, 2)?;
     let base = step_at(row, 3)?;
     let bits = bits_at(row, 4)?;
-    Ok(Input::Sample { n, base, bits })
+    *input = Input::Sample { n, base, bits };
+    Ok(())
 }
 
 // `frame,PORT,HEX,RISING,FALLING,TAG,SAMPLE`.
-fn frame(row: &ByteRecord, net: &Network, node: u8) -> Result<Input, TraceFault>
-    ensures value { result ≡ frame_of (site_of net.now node) (fields_of row.now) }
-    ensures input { IfOk result (IsInputAt (site_of net.now node)) }
+fn frame(row: &ByteRecord, net: &Network, node: u8, input: &mut Input) -> Result<(), TraceFault>
+    ensures value { IsReadInto (frame_of (site_of net.now node) (fields_of row.now)) result input.old input.new }
+    ensures input { OnOk result (IsInputAt (site_of net.now node) input.new) }
 {
     let port = port_at(row, 2, net, node)?;
     let bytes = octets_at(row, 3)?;
     let raw = raw_from(row, 4)?;
     let sample = long_at(row, 7)?;
-    Ok(Input::Frame {
+    *input = Input::Frame {
         port,
         bytes,
         raw,
         sample,
-    })
+    };
+    Ok(())
 }
 
 // `sent,PORT,sync,SEQ,STAMP,SAMPLE`, and the same with `delay`.
-fn sent(row: &ByteRecord, net: &Network, node: u8) -> Result<Input, TraceFault>
-    ensures value { result ≡ sent_of (site_of net.now node) (fields_of row.now) }
-    ensures input { IfOk result (IsInputAt (site_of net.now node)) }
+fn sent(row: &ByteRecord, net: &Network, node: u8, input: &mut Input) -> Result<(), TraceFault>
+    ensures value { IsReadInto (sent_of (site_of net.now node) (fields_of row.now)) result input.old input.new }
+    ensures input { OnOk result (IsInputAt (site_of net.now node) input.new) }
 {
     let port = port_at(row, 2, net, node)?;
     let delay = message_at(row, 3)?;
     let seq = short_at(row, 4)?;
     let stamp = stamp_from(row, 5)?;
-    Ok(Input::Sent {
+    *input = Input::Sent {
         port,
         seq,
         delay,
         stamp,
-    })
+    };
+    Ok(())
 }
 
 // `up,PORT,MODULE`.
-fn up(row: &ByteRecord, net: &Network, node: u8) -> Result<Input, TraceFault>
-    ensures value { result ≡ up_of (site_of net.now node) (fields_of row.now) }
-    ensures input { IfOk result (IsInputAt (site_of net.now node)) }
+fn up(row: &ByteRecord, net: &Network, node: u8, input: &mut Input) -> Result<(), TraceFault>
+    ensures value { IsReadInto (up_of (site_of net.now node) (fields_of row.now)) result input.old input.new }
+    ensures input { OnOk result (IsInputAt (site_of net.now node) input.new) }
 {
     let port = port_at(row, 2, net, node)?;
     let module = module_at(row, 3, net, node, port)?;
-    Ok(Input::Carrier {
+    *input = Input::Carrier {
         port,
         up: true,
         module,
-    })
+    };
+    Ok(())
 }
 
 // `down,PORT`.
-fn down(row: &ByteRecord, net: &Network, node: u8) -> Result<Input, TraceFault>
-    ensures value { result ≡ down_of (site_of net.now node) (fields_of row.now) }
-    ensures input { IfOk result (IsInputAt (site_of net.now node)) }
+fn down(row: &ByteRecord, net: &Network, node: u8, input: &mut Input) -> Result<(), TraceFault>
+    ensures value { IsReadInto (down_of (site_of net.now node) (fields_of row.now)) result input.old input.new }
+    ensures input { OnOk result (IsInputAt (site_of net.now node) input.new) }
 {
     let port = port_at(row, 2, net, node)?;
-    Ok(Input::Carrier {
+    *input = Input::Carrier {
         port,
         up: false,
         module: None,
-    })
+    };
+    Ok(())
+}
+
+// What the fields of a line say to a node.
+fn read_row(row: &ByteRecord, net: &Network, node: u8) -> Result<Input, TraceFault>
+    ensures value { result ≡ input_of (site_of net.now node) (fields_of row.now) }
+    ensures input { IfOk result (IsInputAt (site_of net.now node)) }
+{
+    let mut input = Input::Tick;
+    match read_input_fields(row, net, node, &mut input) {
+        Ok(()) => Ok(input),
+        Err(fault) => Err(fault),
+    }
 }
 
 /// What a line says to a node.
@@ -139,7 +166,7 @@ pub fn read_input(alloc: Global, line: &[u8], net: &Network, node: u8) -> Result
     }
     let mut row = ByteRecord::new(alloc);
     match split(alloc, line, &mut row) {
-        Ok(()) => read_input_fields(&row, net, node),
+        Ok(()) => read_row(&row, net, node),
         Err(e) => Err(TraceFault::Memory(e)),
     }
 }
