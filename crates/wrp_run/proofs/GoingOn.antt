@@ -152,6 +152,10 @@ took_input {F = F} {post = post} held new input outs lent ticks bound old text r
 
 -- A line
 
+-- a node that holds another input has taken what it had
+pub taken_with : {F : Type 0} {post : F → ℤ → ℤ → Type 0} (held : ReplayedNode F) (input : Input) (lines : List (List ℕ)) → HasTaken post held lines → HasTaken post (record held { input = input }) lines
+taken_with held input lines (inputs, text, so) = (inputs, text, record { are = so.are; writes = so.writes; stands = so.stands })
+
 pub goes_on : {F : Type 0} {post : F → ℤ → ℤ → Type 0} → OneRun → OneNode → (held now : ReplayedNode F) (lines : List (List ℕ)) (line before text : List ℕ) (input : Input)
     → read_of (site_at held.replayed) line ≡ Ok input → now.replayed ≡ held.replayed
     → ((inputs : List Taken) → StandsFor post (fixed_at (site_at held.replayed)) held.node inputs → TookInput post held now.node input inputs text)

@@ -15,6 +15,7 @@ pub mod EventsTold
 pub mod EventLines
 pub mod ExactAudit
 pub mod Feeds
+pub mod FirstFeed
 pub mod FieldsRead
 pub mod GoingOn
 pub mod HeadlineParts
@@ -43,6 +44,7 @@ pub mod PartsCarried
 pub mod Passing
 pub mod Pieces
 pub mod PlainLines
+pub mod PlainTexts
 pub mod PlainEvents
 pub mod Reaching
 pub mod ReaderLemmas

@@ -1,5 +1,5 @@
 -- A line is plain where the splitting of lines says so.
-use Rattle.std.proofs.Common.{◌≡◌, ◌∙◌, ◌&&◌, not, ℕ, List, [], ◌∷◌, true, false, Ok, Err, Result, refl, sym, ap}
+use Rattle.std.proofs.Common.{◌≡◌, ◌∙◌, ◌&&◌, not, ℕ, List, [], ◌∷◌, true, false, Ok, Err, Result, refl, sym, ap, subst}
 use Rattle.std.specs.Prelude.{◌==◌, nat_lt}
 use Rattle.std.specs.List.{list_all, AllByRecursion}
 use Rattle.std.proofs.lemmas.Bool.{lt-ltb, ltb-true, not-true, and_parts, and_from, false_from_ne_true}
@@ -10,7 +10,7 @@ use Rattle.wrp_base.specs.declared.fault.TraceFault.{TraceFault}
 use Rattle.wrp_base.specs.declared.fault.TraceFault.TheVariants.{Fields, Kind, Number, Name, Memory}
 use Rattle.wrp_fields.specs.Lines.{IsPlainOctet, IsLine}
 use Rattle.wrp_node.specs.declared.interface.Input.{Input}
-use Rattle.wrp_trace.specs.Inputs.{input_of, read_of}
+use Rattle.wrp_trace.specs.Inputs.{input_of, read_of, IsReadInto}
 use Rattle.wrp_fields.specs.Reading.{IsReading, is_plain_octet, is_plain}
 use Rattle.wrp_trace.specs.Site.{Site}
 use Rattle.wrp_trace.specs.Events.{event_of, event_read}
@@ -65,14 +65,15 @@ passes_read site line is = rw is refl
 other_read : (site : Site) (line : List ℕ) → is_plain line ≡ false → read_of site line ≡ Err Fields
 other_read site line is = rw is refl
 
--- a line with parts reads as they do
-pub reads_parts : (site : Site) (line : List ℕ) (row : Row) (answer : Result Input TraceFault) → HasParts line row → answer ≡ input_of site (fields_of row) → IsReading (read_of site line) answer
-reads_parts site line row answer parts is =
-    is_reading (read_of site line) answer (is ∙ ap (input_of site) parts.1 ∙ sym (passes_read site line (line_passes line parts.0)))
+-- a line with parts reads into a place as they do
+pub reads_parts : (site : Site) (line : List ℕ) (row : Row) (answer : Result Unit TraceFault) (old new : Input) → HasParts line row → IsReadInto (input_of site (fields_of row)) answer old new → IsReadInto (read_of site line) answer old new
+reads_parts site line row answer old new parts is =
+    subst (λ (read : Result Input TraceFault). IsReadInto read answer old new) (ap (input_of site) parts.1 ∙ sym (passes_read site line (line_passes line parts.0))) is
 
 -- a line without parts has no fields
-pub reads_none : (site : Site) (line : List ℕ) → (IsLine line → ⊥) → IsReading (read_of site line) (Err Fields)
-reads_none site line other = is_reading (read_of site line) (Err Fields) (sym (other_read site line (other_fails line other)))
+pub reads_none : (site : Site) (line : List ℕ) (input : Input) → (IsLine line → ⊥) → IsReadInto (read_of site line) (Err Fields) input input
+reads_none site line input other =
+    subst (λ (read : Result Input TraceFault). IsReadInto read (Err Fields) input input) (sym (other_read site line (other_fails line other))) (refl, refl)
 
 passes_event : (cfg : NetCfg) (line : List ℕ) → is_plain line ≡ true → event_read cfg line ≡ event_of cfg (parts_of line)
 passes_event cfg line is = rw is refl

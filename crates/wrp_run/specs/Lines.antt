@@ -1,6 +1,7 @@
 -- Lines of octets: each ends with LF, and the last may lack it; one CR before the LF belongs to the
 -- line's end (this project's profile).
-use Rattle.std.specs.Prelude.{◌≡◌, false, ℕ, if◌then◌else◌, ◌==◌, List, [], ◌∷◌, ◌++◌, reverse}
+use Rattle.std.specs.Prelude.{◌≡◌, ◌<◌, false, ℕ, if◌then◌else◌, ◌==◌, List, [], ◌∷◌, ◌++◌, reverse}
+use Rattle.std.specs.List.{AllByRecursion}
 
 -- the octet that ends a line
 abbrev pub line_feed : ℕ
@@ -47,3 +48,11 @@ pub record IsWhole (line : List ℕ) : Type 0 where
   pub front : List ℕ
   pub is : line ≡ front ++ line_feed ∷ []
   pub plain : HasNoFeed front
+
+-- an octet below 128 that is no quotation mark or CR
+abbrev pub IsTextOctet : ℕ → Type 0
+IsTextOctet octet = ((octet == 34) ≡ false) × ((octet == carriage_return) ≡ false) × (octet < 128)
+
+-- octets that may all stand in plain lines or end them
+abbrev pub IsPlainText : List ℕ → Type 0
+IsPlainText octets = AllByRecursion IsTextOctet octets

@@ -3,13 +3,15 @@ ghost use Rattle.std.specs.Prelude.{◌≡◌, ◌≤◌, ◌==◌, ◌++◌, le
 ghost use Rattle.std.specs.List.{position};
 ghost use Rattle.wrp_run.specs.Lines.{line_feed, HasNoFeed, IsWhole};
 
+use memchr::memchr;
 use std::alloc::AllocError;
 
 /// The place of the first LF.
+#[tactic(auto, using(crate::proofs::FirstFeed::first_is))]
 pub fn first_feed(octets: &[u8]) -> Option<usize>
     ensures { result ≡ position (λ octet. octet == line_feed) octets.now }
 {
-    octets.iter().position(|octet| *octet == b'\n')
+    memchr(b'\n', octets)
 }
 
 /// How many octets stand up to the first LF and with it, or None where there is no LF.

@@ -1,5 +1,5 @@
 //! The replay of one node's recorded inputs.
-ghost use Rattle.std.specs.Prelude.{pos, ◌≡◌, ◌<◌, ◌≤◌, ◌+◌, ◌++◌, ◌∷◌, [], ◌^◌, ℕ, List, None, IfOk, length};
+ghost use Rattle.std.specs.Prelude.{pos, ◌≡◌, ◌<◌, ◌≤◌, ◌+◌, ◌++◌, ◌∷◌, [], ◌^◌, ℕ, List, None, IfOk, OnOk, length};
 ghost use Rattle.std.specs.List.{flat_map};
 ghost use Rattle.wrp_base.specs.Network.{node_count};
 ghost use Rattle.wrp_bounds.specs.Bounds.{path_of};
@@ -9,8 +9,7 @@ ghost use Rattle.wrp_lines.specs.Words.{name_at};
 ghost use Rattle.wrp_node.specs.NodeAt.{Taken as TakenInput};
 ghost use Rattle.wrp_node.specs.StandsFor.{StandsFor};
 ghost use Rattle.wrp_trace.specs.InputAt.{IsInputAt};
-ghost use Rattle.wrp_trace.specs.Inputs.{read_of};
-ghost use Rattle.wrp_fields.specs.Reading.{IsReading};
+ghost use Rattle.wrp_trace.specs.Inputs.{read_of, IsReadInto};
 ghost use Rattle.wrp_trace.specs.Site.{site_of};
 ghost use Rattle.wrp_run.specs.declared.machine.Refusal.{Refusal};
 ghost use Rattle.wrp_run.specs.declared.machine.Taken.{Taken};
@@ -32,13 +31,15 @@ use wrp_lines::append_line;
 use wrp_node::{Input, Node, Output, Outputs, node_set, one_run};
 use wrp_trace::read_input_fields;
 
-/// A node as far as it is replayed: the node, what its lines say of it, and a place for its outputs.
+/// A node as far as it is replayed: the node, what its lines say of it, and a place for an input and
+/// one for its outputs, which serve record after record.
 #[derive(Drop)]
 pub struct ReplayedNode<'a, F: Fn(i64) -> i64> {
     replayed: Replayed<'a>,
     name: &'a str,
     bound: Tau,
     node: Node<F>,
+    input: Input,
     outs: Outputs,
 }
 
@@ -64,15 +65,16 @@ impl<'a, F: Fn(i64) -> i64> ReplayedNode<'a, F> {
             name: name_of(replayed),
             bound: bound_of(replayed),
             node,
+            input: Input::Tick,
             outs: Outputs::new(),
         })
     }
 
-    // Takes an input, and appends the lines that it writes.
-    fn write(&mut self, alloc: Global, input: &Input, text: &mut Vec<u8>) -> Result<(), AllocError>
+    // Takes the input at hand, and appends the lines that it writes.
+    fn write(&mut self, alloc: Global, text: &mut Vec<u8>) -> Result<(), AllocError>
         requires ready { IsReady F.pre F.post self.old }
         requires input { IsInputAt (site_of self.old.replayed.net.now self.old.replayed.node)
-            input.now }
+            self.old.input }
         requires room { self.old.node.parts.ticks + 1 < 2 ^ 32 }
         requires none { text.old.items ≡ [] }
         ensures ready { IsReady F.pre F.post self.new }
@@ -80,9 +82,9 @@ impl<'a, F: Fn(i64) -> i64> ReplayedNode<'a, F> {
         ensures count { self.new.node.parts.ticks ≤ self.old.node.parts.ticks + 1 }
         ensures took { IfOk result (λ _. (inputs : List TakenInput)
             → StandsFor F.post (fixed_at (site_at self.old.replayed)) self.old.node inputs
-            → TookInput F.post self.old self.new.node input.now inputs text.new.items) }
+            → TookInput F.post self.old self.new.node self.old.input inputs text.new.items) }
     {
-        self.node.step_into(input, &mut self.outs);
+        self.node.step_into(&self.input, &mut self.outs);
         let ticks = self.node.ticks();
         append_outputs(alloc, self.name, ticks, self.bound, &self.outs, text)
     }
@@ -116,9 +118,9 @@ impl<'a, F: Fn(i64) -> i64> ReplayedNode<'a, F> {
         ensures enough { IfOk result (λ taken. taken ≡ Taken.Memory → ⊥) }
     {
         one_run();
-        match read_parts(line, parts, self.replayed) {
-            Ok(input) => {
-                self.write(alloc, &input, text)?;
+        match read_parts(line, parts, self.replayed, &mut self.input) {
+            Ok(()) => {
+                self.write(alloc, text)?;
                 Ok(Taken::Accepted)
             }
             Err(fault) => refuse(alloc, number, &fault, text),
@@ -169,20 +171,23 @@ impl<'a, F: Fn(i64) -> i64> Machine for ReplayedNode<'a, F> {
     }
 }
 
-// What a line says to the node, by its parts.
+// Puts what a line says to the node, by its parts, into `input`.
 fn read_parts(
     line: &[u8],
     parts: Option<&ByteRecord>,
     replayed: Replayed<'_>,
-) -> Result<Input, TraceFault>
+    input: &mut Input,
+) -> Result<(), TraceFault>
     requires { IsSplit line.now parts }
-    ensures value { IsReading
-        (read_of (site_of replayed.entry.net.now replayed.entry.node) line.now) result }
-    ensures input { IfOk result (IsInputAt (site_of replayed.entry.net.now replayed.entry.node)) }
+    ensures value { IsReadInto
+        (read_of (site_of replayed.entry.net.now replayed.entry.node) line.now) result
+        input.old input.new }
+    ensures input { OnOk result
+        (IsInputAt (site_of replayed.entry.net.now replayed.entry.node) input.new) }
 {
     let _line = line;
     match parts {
-        Some(row) => read_input_fields(row, replayed.net, replayed.node),
+        Some(row) => read_input_fields(row, replayed.net, replayed.node, input),
         None => Err(TraceFault::Fields),
     }
 }

@@ -1,8 +1,8 @@
 //! The lines that a reader holds, handled one after the other: one reader of `csv` serves them all.
-ghost use Rattle.std.specs.Prelude.{◌≡◌, ◌+◌, ◌<◌, ◌≤◌, ◌++◌, ℕ, List, Option, IfSome, length, drop};
+ghost use Rattle.std.specs.Prelude.{◌≡◌, true, ◌+◌, ◌<◌, ◌≤◌, ◌++◌, ℕ, List, Option, IfSome, length, drop};
 ghost use Rattle.wrp_fields.specs.Block.{StartsPlain};
 ghost use Rattle.wrp_fields.specs.Lines.{IsLine};
-ghost use Rattle.wrp_run.specs.Lines.{content_of, IsWhole};
+ghost use Rattle.wrp_run.specs.Lines.{content_of, IsPlainText, IsWhole};
 ghost use Rattle.wrp_run.specs.Reached.{Reached, Comes};
 ghost use Rattle.wrp_run.specs.Stream.{Handles, IsWithin, number_limit};
 
@@ -13,13 +13,34 @@ use crate::line::content;
 use crate::machine::Machine;
 use crate::reader::Reader;
 use csv::ByteRecord;
+use memchr::memchr2;
 use std::alloc::Global;
 use wrp_fields::{Block, is_plain};
 
+// Whether each octet may stand in a plain line or is its LF: then what a line says is plain, unless it
+// is empty.
+#[tactic(auto, using(crate::proofs::PlainTexts::all_plain))]
+fn is_plain_text(octets: &[u8]) -> bool
+    ensures { result ≡ true → IsPlainText octets.now }
+{
+    octets.is_ascii() && memchr2(b'"', b'\r', octets).is_none()
+}
+
+// Whether what a line says is plain. In a plain text its length alone says so.
+#[tactic(auto, using(crate::proofs::PlainTexts::long_is_plain))]
+fn is_plain_line(line: &[u8], in_plain: bool) -> bool
+    requires whole { IsWhole line.now }
+    requires text { in_plain ≡ true → IsPlainText line.now }
+    ensures { result ≡ true → IsLine (content_of line.now) }
+{
+    in_plain && line.len() > 1 || is_plain(content(line))
+}
+
 // The first line, where it is whole, no larger than a line may be, and plain, and one more record may
 // come behind so many.
-#[tactic(auto, using(crate::proofs::LineEnds::front_is, crate::proofs::LineEnds::front_within))]
-fn plain_line(octets: &[u8], number: u32) -> Option<&[u8]>
+#[tactic(auto, using(crate::proofs::LineEnds::front_is, crate::proofs::LineEnds::front_within, crate::proofs::PlainTexts::front_plain))]
+fn plain_line(octets: &[u8], in_plain: bool, number: u32) -> Option<&[u8]>
+    requires text { in_plain ≡ true → IsPlainText octets.now }
     ensures front { IfSome result (λ line.
         octets.now ≡ line.now ++ drop (length line.now) octets.now) }
     ensures whole { IfSome result (λ line. IsWhole line.now) }
@@ -29,7 +50,7 @@ fn plain_line(octets: &[u8], number: u32) -> Option<&[u8]>
 {
     let size = first_whole(octets)?;
     let line = &octets[..size];
-    if number == u32::MAX || size > LINE_LIMIT + 1 || !is_plain(content(line)) {
+    if number == u32::MAX || size > LINE_LIMIT + 1 || !is_plain_line(line, in_plain) {
         return None;
     }
     Some(line)
@@ -72,10 +93,11 @@ fn handle_block<M: Machine>(
 {
     let mut row = ByteRecord::new(alloc);
     let mut block = Block::new(alloc, octets);
+    let in_plain = is_plain_text(octets);
     let mut at = 0;
     'lines: loop {
         let left = behind(octets, at);
-        let Some(line) = plain_line(left, *number) else {
+        let Some(line) = plain_line(left, in_plain, *number) else {
             return None;
         };
         match split_next(&mut block, line, &mut row) {
@@ -117,7 +139,7 @@ pub fn handle_held<M: Machine>(
         (M.has_taken machine.new) start reader.new left rest held now waiting.new.items
         number.new result }
 {
-    let Some(line) = plain_line(reader.held(), *number) else {
+    let Some(line) = plain_line(reader.held(), false, *number) else {
         return None;
     };
     let _line = line;

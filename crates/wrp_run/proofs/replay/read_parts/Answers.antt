@@ -5,8 +5,8 @@ use Rattle.wrp_run.proofs.replay.read_parts.Goals as goal
 
 pub returns-in-Some-clause-value : goal.returns-in-Some-clause-value
 returns-in-Some-clause-value c =
-    reads_parts (site_of c.args.replayed.net.now c.args.replayed.node) c.args.line.now c.in-Some.row.now _ (rw c.in-Some.is at c.requires) c.read_input_fields.ensures.value
+    reads_parts (site_of c.args.replayed.net.now c.args.replayed.node) c.args.line.now c.in-Some.row.now _ _ _ (rw c.in-Some.is at c.requires) c.read_input_fields.ensures.value
 
 pub returns-in-None-clause-value : goal.returns-in-None-clause-value
 returns-in-None-clause-value c =
-    reads_none (site_of c.args.replayed.net.now c.args.replayed.node) c.args.line.now (rw c.in-None.is at c.requires)
+    reads_none (site_of c.args.replayed.net.now c.args.replayed.node) c.args.line.now _ (rw c.in-None.is at c.requires)

@@ -10,6 +10,7 @@ use Rattle.wrp_run.proofs.engine.block.handle_block.Goals as goal
 pub lines-init : goal.lines-init
 lines-init g c = record {
   at = search rules;
+  text = c.is_plain_text-in_plain.ensures;
   block = c.new-block.ensures c.requires.starts;
   held = c.requires.held;
   ended = refl;
@@ -58,6 +59,7 @@ lines-preserved g c =
     let gives = moved (λ s. Gives (g.M.Machine.accepts s) (g.M.Machine.refuses s) (g.M.Machine.has_taken c.lines.machine) (g.M.Machine.has_taken c.handle_line.new.machine)
     c.content-said.result.now c.lines.number c.lines.waiting.items c.handle_line.new.waiting.items None) _ _ c.lines.invariant.setting c.in-None.ensures.stands in
     record {
+      text = c.lines.invariant.text;
       at = place_behind c.args.octets.now c.behind-left.result.now line c.lines.at c.lines.invariant.at c.behind-left.ensures c.in-Some.ensures.front;
       block = (c.in-Ok.ensures (drop (length line) c.behind-left.result.now) all).1 ∙ ap Some behind;
       held = passed;

@@ -1,4 +1,5 @@
-use Rattle.std.proofs.Common.{◌≡◌, ◌-◌, ◌≤◌, ℕ, List, Option, Some, length, drop}
+use Rattle.std.proofs.Common.{◌≡◌, ◌-◌, ◌≤◌, ℕ, List, Option, Some, true, length, drop}
+use Rattle.wrp_run.specs.Lines.{IsPlainText}
 use Rattle.wrp_run.specs.Reached.{Reached}
 use Rattle.wrp_run.specs.Stream.{Handles}
 use Rattle.wrp_run.proofs.engine.block.handle_block.Given as goal
@@ -6,6 +7,7 @@ use Rattle.wrp_run.proofs.engine.block.handle_block.Given as goal
 abbrev pub invariant-lines : goal.invariant-lines
 invariant-lines g l =
     record {
+      text : l.in_plain ≡ true → IsPlainText l.octets;
       at : l.at ≤ length l.octets;
       block : l.block ≡ Some (drop l.at l.octets);
       held : l.reader.rest ≡ drop l.at l.octets;

@@ -8,17 +8,17 @@ use Rattle.wrp_run.proofs.replay.ReplayedNode.write.Goals as goal
 
 pub step_into-requires-clause-input : goal.step_into-requires-clause-input
 step_into-requires-clause-input g c =
-    fits_input (site_of c.args.self.now.replayed.net.now c.args.self.now.replayed.node) c.args.self.now.node c.args.input.now
+    fits_input (site_of c.args.self.now.replayed.net.now c.args.self.now.replayed.node) c.args.self.now.node c.args.self.now.input
     c.requires.ready.ports c.requires.room c.requires.input
 
 pub returns-clause-count : goal.returns-clause-count
 returns-clause-count g c =
     let valid = c.requires.ready.valid in
-    tick_more valid.fixed c.args.self.now.node c.step_into.new.self valid.inputs c.args.input.now c.step_into.new.outs.items valid.stands c.step_into.ensures.took
+    tick_more valid.fixed c.args.self.now.node c.step_into.new.self valid.inputs c.args.self.now.input c.step_into.new.outs.items valid.stands c.step_into.ensures.took
 
 pub returns-clause-took : goal.returns-clause-took
 returns-clause-took g c =
     IfOk-weaker c.append_outputs.result _ _
-    (λ x wrote. took_input c.args.self.now c.step_into.new.self c.args.input.now c.step_into.new.outs.items c.deref.result.now c.ticks-ticks.result _ c.args.text.now.items c.append_outputs.new.text.items
+    (λ x wrote. took_input c.args.self.now c.step_into.new.self c.args.self.now.input c.step_into.new.outs.items c.deref.result.now c.ticks-ticks.result _ c.args.text.now.items c.append_outputs.new.text.items
     c.requires.ready c.step_into.ensures.took c.step_into.ensures.law c.ticks-ticks.ensures.run c.requires.none c.deref.ensures.0 (search (to_z-of_z, rules)) wrote)
     c.append_outputs.ensures
