@@ -1,8 +1,7 @@
 -- What the words of an audit and of a simulation ask for.
-use Rattle.std.proofs.Common.{◌≡◌, ◌∙◌, refl, sym, subst, inl, inr, ℕ, ◌<◌, ◌≤◌, Option, None, Some, IfSome, Ok, List, length, Bor}
+use Rattle.std.proofs.Common.{refl, sym, subst, inl, inr, ℕ, ◌<◌, ◌≤◌, Option, None, Some, IfSome, Ok, List, length, Bor}
 use Rattle.wrp_base.specs.Network.{node_count}
 use Rattle.wrp_config.specs.declared.network.Network.{Network}
-use Rattle.wrp_config.specs.Names.{node_named}
 use Rattle.wrp_config.specs.Reading.{IsReadingOf}
 use Rattle.wrp_run.specs.declared.worlds.Asked.{Asked}
 use Rattle.wrp_run.specs.declared.worlds.Asked.TheVariants as asked

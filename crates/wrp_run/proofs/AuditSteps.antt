@@ -1,24 +1,23 @@
 -- A world that stands for the run of its events: its measurements have the answers of the links' laws, and one event more
 -- makes one run more.
-use Rattle.std.proofs.Common.{◌≡◌, ◌∙◌, refl, ap, ap₂, sym, subst, ℕ, ℤ, pos, ◌==◌, ◌<◌, ◌≤◌, ◌+◌, zero, suc, Bool, true, false, cond, if◌then◌else◌, List, [], ◌∷◌, ◌++◌, append_assoc, flat_map, map, length, Option, None, Some, IfSome, is_some, option_map, Result, Ok, Err, arith}
+use Rattle.std.proofs.Common.{◌≡◌, ◌∙◌, refl, ap, sym, subst, ℕ, ℤ, pos, ◌==◌, ◌<◌, ◌≤◌, ◌+◌, zero, suc, Bool, true, false, cond, if◌then◌else◌, List, [], ◌∷◌, ◌++◌, flat_map, map, length, Option, None, Some, IfSome, is_some, option_map, Ok, Err, arith}
 use Rattle.std.specs.Prelude.{slice_get}
 use Rattle.std.specs.List.{find}
 use Rattle.std.proofs.lemmas.Option.{slice_get-map}
 use Rattle.wrp_base.specs.declared.configuration.NetCfg.{NetCfg}
 use Rattle.wrp_base.specs.declared.fault.TraceFault.{TraceFault}
 use Rattle.wrp_base.specs.declared.network.LinkCfg.{LinkCfg}
-use Rattle.wrp_base.specs.Network.{IsLink, IsTree, link_above, node_count}
+use Rattle.wrp_base.specs.Network.{IsTree, link_above, node_count}
 use Rattle.wrp_config.specs.declared.network.Network.{Network}
 use Rattle.wrp_law.specs.Law.{LawOf}
 use Rattle.wrp_node.specs.Control.{law_in}
 use Rattle.wrp_bounds.specs.Bounds.{path_of}
 use Rattle.wrp_lines.specs.Lines.{output_line_of}
 use Rattle.wrp_lines.specs.Words.{name_at}
-use Rattle.wrp_node.specs.NodeAt.{Fixed, Taken as TakenInput, NodeAt, settings_of, slave_in, slave_of}
+use Rattle.wrp_node.specs.NodeAt.{Fixed, Taken as TakenInput, NodeAt, settings_of, slave_in}
 use Rattle.wrp_node.specs.declared.interface.Output.{Output}
 use Rattle.wrp_node.specs.NodeRun.{node_after}
 use Rattle.wrp_node.specs.NodeStep.{node_step}
-use Rattle.wrp_node.specs.OneRun.{answers_by}
 use Rattle.wrp_node.specs.Set.{ports_of}
 use Rattle.wrp_node.specs.StandsFor.{NodeOf, StandsFor as NodeStandsFor}
 use Rattle.wrp_node.proofs.OwnPorts.{slave_is_above}
@@ -31,7 +30,7 @@ use Rattle.wrp_world.specs.declared.outcome.NodeOut.{NodeOut}
 use Rattle.wrp_world.specs.declared.outcome.Refused.TheVariants.{Broken}
 use Rattle.wrp_world.specs.Given.{Given, given_by, gives, gives_all, step_of, taken_of, world_step}
 use Rattle.wrp_world.specs.Moved.{moved}
-use Rattle.wrp_world.specs.Run.{Happened, IsAnswered, WorldRun, world_after, steps_at}
+use Rattle.wrp_world.specs.Run.{Happened, IsAnswered, world_after, steps_at}
 use Rattle.wrp_world.specs.Setting.{Setting, fixed_of}
 use Rattle.wrp_world.specs.StandsFor.{IsValid, StandsFor, WorldOf}
 use Rattle.wrp_world.specs.Step.{IsRefusal, StaysSo, Stepped, step_seen}
@@ -41,17 +40,17 @@ use Rattle.wrp_run.specs.declared.machine.Refusal.{Refusal}
 use Rattle.wrp_run.specs.declared.machine.Refusal.TheVariants as refusals
 use Rattle.wrp_run.specs.declared.machine.Taken.{Taken}
 use Rattle.wrp_run.specs.declared.machine.Taken.TheVariants as taken
-use Rattle.wrp_run.specs.Audited.{AllHeard, AreEvents, IsAudit, answers_in, node_in, setting_at}
+use Rattle.wrp_run.specs.Audited.{AllHeard, IsAudit, answers_in, node_in}
 use Rattle.wrp_run.specs.AuditLaws.{OneAudit}
 use Rattle.wrp_run.specs.Audits.{Breaks}
-use Rattle.wrp_run.specs.AuditStands.{AuditedSo, Broke, CanAudit, Happens, HasAudited, HasLawOf, TellsFault, Took, line_by, lines_by, setting_in, task_of}
+use Rattle.wrp_run.specs.AuditStands.{Broke, CanAudit, Happens, HasAudited, HasLawOf, TellsFault, Took, line_by, lines_by, setting_in, task_of}
 use Rattle.wrp_run.specs.AuditText.{all_counts, step_lines}
 use Rattle.wrp_run.specs.DownLaw.{AnswersBy, law_at}
 use Rattle.wrp_run.specs.Refusals.{bad_trace_line, broken_line}
 use Rattle.wrp_run.specs.Tasks.{meaning_at}
 use Rattle.wrp_run.proofs.OneAudit.{one_line}
 use Rattle.wrp_run.proofs.PlainEvents.{same_checks, same_said, same_steps, same_world}
-use Rattle.wrp_run.proofs.Runs.{HasNoSlave, no_calls, run_of}
+use Rattle.wrp_run.proofs.Runs.{no_calls, run_of}
 
 -- Each node of a world is what its inputs made of it
 

@@ -1,11 +1,10 @@
 -- An audit does not see what stands in the unused room of names.
-use Rattle.std.proofs.Common.{◌≡◌, ◌∙◌, refl, ap, ap₂, sym, subst, ℕ, ℤ, zero, suc, pos, not, ◌==◌, ◌+◌, ◌+ℤ◌, ◌-ℤ◌, Bool, true, false, cond, ◌&&◌, ◌||◌, if◌then◌else◌, List, [], ◌∷◌, ◌++◌, flat_map, map, length, Option, None, Some, IfSome, is_some, option_map, Result, Ok, Err}
+use Rattle.std.proofs.Common.{◌≡◌, ◌∙◌, refl, ap, ap₂, ℕ, ℤ, pos, not, ◌==◌, ◌+◌, ◌-ℤ◌, Bool, true, false, ◌&&◌, ◌||◌, if◌then◌else◌, List, [], ◌∷◌, ◌++◌, flat_map, map, Option, None, Some, is_some, option_map, Result}
 use Rattle.std.specs.Prelude.{slice_get, option_and_then, nat_lt}
 use Rattle.std.specs.Option.{option_map_or}
 use Rattle.std.proofs.lemmas.List.{length-map}
 use Rattle.std.proofs.lemmas.Option.{slice_get-map}
 use Rattle.wrp_base.specs.declared.configuration.NetCfg.{NetCfg}
-use Rattle.wrp_base.specs.declared.link.Module.{Module}
 use Rattle.wrp_base.specs.declared.link.Role.{Role}
 use Rattle.wrp_base.specs.declared.link.Role.TheVariants.{Master, Slave}
 use Rattle.wrp_base.specs.declared.message.PtpMsg.{PtpMsg}
@@ -20,10 +19,9 @@ use Rattle.wrp_config.specs.Config.{bare_link, bare_node}
 use Rattle.wrp_config.specs.Names.{is_lower_end, is_upper_end}
 use Rattle.wrp_config.specs.Same.{bare_cfg}
 use Rattle.wrp_frame.specs.declared.fault.FrameFault.{FrameFault}
-use Rattle.wrp_node.specs.declared.interface.NodeSet.{NodeSet}
 use Rattle.wrp_node.specs.declared.interface.Input.TheVariants.{Carrier, Reset}
 use Rattle.wrp_node.specs.NodeAt.{locked_of, numbers_of, state_of}
-use Rattle.wrp_world.specs.Checks.{Check, at_most, only_where, size_of, stands, not_sent}
+use Rattle.wrp_world.specs.Checks.{at_most, only_where, size_of, stands}
 use Rattle.wrp_world.specs.declared.clocks.ClockState.{ClockState}
 use Rattle.wrp_world.specs.declared.event.Event.{Event}
 use Rattle.wrp_world.specs.declared.event.Event.TheVariants.{Pass, Tick, Sample, Depart, Arrive, Deliver, Noise, Down, Up, Cut, Join}
@@ -34,7 +32,7 @@ use Rattle.wrp_world.specs.Run.{Happened, steps_at, world_after}
 use Rattle.wrp_world.specs.Moved.{moved, arrived, behind_first, departing, drift_of, is_place, one_more, samples_at, swap_at, with_swap, waiting_at}
 use Rattle.wrp_world.specs.Premises.{arrive_checks, beat_by, beat_checks, checks, checks_of, deliver_by, deliver_checks, depart_checks, entry_for, fibre_checks, fibre_kept, fibre_rate, is_forged, is_holdover, module_checks, module_kept, noise_checks, pass_checks, rate_checks, rate_of, raw_checks, received, sample_checks, swap_stands, tick_late, too_old, transition_of, true_at_top}
 use Rattle.wrp_world.specs.Setting.{Setting, above, end_at, end_of, entry_at, fixed_of, from_on, is_of, is_role, link_of, links_of, nodes_of, of_node, other_of, place_among, place_of, sends_nm}
-use Rattle.wrp_world.specs.WorldAt.{Arrival, EndAt, FrameAt, Sending, WorldAt, ends_are_up, first_name, has_carrier, is_on_fibre, named_at, new_end, new_world, phase_of, reading}
+use Rattle.wrp_world.specs.WorldAt.{Arrival, FrameAt, Sending, WorldAt, ends_are_up, first_name, has_carrier, is_on_fibre, named_at, new_end, new_world, phase_of, reading}
 use Rattle.wrp_run.specs.Audited.{setting_at}
 use Rattle.wrp_run.proofs.BareSite.{fixed_bare, flat_map_same, set_bare}
 

@@ -1,5 +1,5 @@
 -- What a line of events says, and what an input's line is, do not see the unused room of names.
-use Rattle.std.proofs.Common.{◌≡◌, ◌∙◌, refl, ap, ap₂, ℕ, ℤ, ◌+◌, Bool, true, false, if◌then◌else◌, Option, None, Some, Result, Ok, Err, List, [], ◌∷◌, map, drop, length}
+use Rattle.std.proofs.Common.{◌≡◌, ◌∙◌, refl, ap, ap₂, ℕ, ℤ, ◌+◌, true, false, Option, None, Some, Result, Ok, List, [], ◌∷◌, map, drop}
 use Rattle.wrp_base.specs.declared.configuration.NetCfg.{NetCfg}
 use Rattle.wrp_base.specs.declared.fault.TraceFault.{TraceFault}
 use Rattle.wrp_base.specs.declared.network.LinkCfg.{LinkCfg}
@@ -8,7 +8,7 @@ use Rattle.wrp_base.specs.Lines.{parts_of}
 use Rattle.wrp_caldb.specs.Name.{same_name}
 use Rattle.wrp_config.proofs.Lists.{position-map}
 use Rattle.wrp_config.specs.Config.{bare_link, bare_node}
-use Rattle.wrp_config.specs.Names.{link_named, node_named}
+use Rattle.wrp_config.specs.Names.{link_named}
 use Rattle.wrp_config.specs.Same.{bare_cfg}
 use Rattle.wrp_node.specs.declared.interface.Input.{Input}
 use Rattle.wrp_node.specs.declared.interface.Input.TheVariants as inputs
@@ -22,7 +22,6 @@ use Rattle.wrp_trace.specs.Events.{counted_of, event_of, event_read, fields_of_k
 use Rattle.wrp_trace.specs.Printing.{line_of}
 use Rattle.wrp_fields.specs.Reading.{field_of, name_or_fault, ◌>>=◌}
 use Rattle.wrp_trace.specs.Site.{Site}
-use Rattle.wrp_world.specs.declared.event.Event.{Event}
 use Rattle.wrp_run.proofs.BareSite.{bare_site, bind_same, named_bare, pair_bare}
 
 -- Names

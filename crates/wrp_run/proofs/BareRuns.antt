@@ -1,5 +1,5 @@
 -- What is due for the record lines of an audit does not see the unused room of names.
-use Rattle.std.proofs.Common.{◌≡◌, ◌∙◌, inl, inr, refl, ap, ap₂, sym, subst, ℕ, ℤ, pos, ◌==◌, ◌++◌, if◌then◌else◌, Option, Some, Result, Ok, Err, List, [], ◌∷◌, map, flat_map, arith}
+use Rattle.std.proofs.Common.{◌≡◌, ◌∙◌, inl, inr, refl, ap, ap₂, sym, subst, ℕ, ℤ, pos, ◌==◌, ◌++◌, if◌then◌else◌, Some, List, [], ◌∷◌, map, flat_map, arith}
 use Rattle.std.proofs.lemmas.List.{length-map}
 use Rattle.wrp_base.specs.Network.{node_count}
 use Rattle.wrp_config.specs.Config.{bare_node}
@@ -10,16 +10,16 @@ use Rattle.wrp_node.specs.NodeRun.{AllSaid}
 use Rattle.wrp_node.specs.OneRun.{answers_by}
 use Rattle.wrp_servo.specs.Servo.{AllAnswered}
 use Rattle.wrp_trace.specs.Events.{event_read}
-use Rattle.wrp_world.specs.Checks.{AllHold, Check, told_of}
+use Rattle.wrp_world.specs.Checks.{AllHold, told_of}
 use Rattle.wrp_world.specs.Premises.{checks_of}
-use Rattle.wrp_world.specs.Run.{AllAccepted, Happened, IsAnswered, WorldRun, steps_at, world_after}
+use Rattle.wrp_world.specs.Run.{AllAccepted, Happened, IsAnswered, world_after}
 use Rattle.wrp_world.specs.Setting.{Setting, fixed_of}
 use Rattle.wrp_world.specs.WorldAt.{WorldAt}
 use Rattle.wrp_run.specs.declared.machine.Refusal.{Refusal}
 use Rattle.wrp_run.specs.declared.machine.Refusal.TheVariants as refusals
 use Rattle.wrp_run.specs.declared.status.Status.{Status}
 use Rattle.wrp_run.specs.declared.status.Status.TheVariants.{Done, BadTrace, Broken, TooLarge}
-use Rattle.wrp_run.specs.Audited.{AllHeard, AreEvents, IsAudit, answers_in, node_in}
+use Rattle.wrp_run.specs.Audited.{AllHeard, IsAudit, answers_in, node_in}
 use Rattle.wrp_run.specs.Audits.{AuditRefuses, audit_of, emission_of}
 use Rattle.wrp_run.specs.AuditText.{all_counts, audit_lines, given_line, given_lines, step_lines}
 use Rattle.wrp_run.specs.Lines.{content_of}

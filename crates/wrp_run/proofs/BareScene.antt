@@ -1,17 +1,15 @@
 -- What a line of a scenario says does not see the unused room of names.
-use Rattle.std.proofs.Common.{◌≡◌, ◌∙◌, refl, ap, ap₂, ℕ, ℤ, pos, Bool, true, false, if◌then◌else◌, Option, None, Some, Result, Ok, Err, List, [], ◌∷◌, codes, map, option_map}
+use Rattle.std.proofs.Common.{◌≡◌, ◌∙◌, refl, ap, ℕ, pos, Bool, if◌then◌else◌, Option, None, Some, Result, Ok, List, [], ◌∷◌, map, option_map}
 use Rattle.std.specs.Prelude.{is_none}
 use Rattle.wrp_base.specs.declared.configuration.NetCfg.{NetCfg}
 use Rattle.wrp_base.specs.declared.fault.TraceFault.{TraceFault}
 use Rattle.wrp_base.specs.declared.network.LinkCfg.{LinkCfg}
-use Rattle.wrp_base.specs.declared.network.NodeCfg.{NodeCfg}
 use Rattle.wrp_base.specs.Lines.{parts_of}
 use Rattle.wrp_base.specs.Network.{link_above}
 use Rattle.wrp_caldb.specs.Name.{same_name}
 use Rattle.wrp_config.proofs.Bare.{above_bare}
 use Rattle.wrp_config.proofs.Lists.{position-map}
 use Rattle.wrp_config.specs.Config.{bare_link, bare_node}
-use Rattle.wrp_config.specs.Names.{link_named}
 use Rattle.wrp_config.specs.Same.{bare_cfg}
 use Rattle.wrp_fields.specs.Fields.{link_at, node_at}
 use Rattle.wrp_fields.specs.Reading.{field_of, name_or_fault, ◌>>=◌}
@@ -21,7 +19,7 @@ use Rattle.wrp_sim.specs.declared.scene.kinds.SceneKind.{SceneKind}
 use Rattle.wrp_sim.specs.declared.scene.kinds.SceneKind.TheVariants as kinds
 use Rattle.wrp_sim.specs.Scenario.{SceneAt, new_scene}
 use Rattle.wrp_sim.specs.ScenarioKinds.{kind_of}
-use Rattle.wrp_sim.specs.ScenarioLines.{below, counted_of, fault_at, fault_kind, fault_line, line_of_kind, link_fault, lower_at, node_fault, scene_of, scene_read, with_fault}
+use Rattle.wrp_sim.specs.ScenarioLines.{below, counted_of, fault_at, fault_kind, line_of_kind, link_fault, lower_at, node_fault, scene_of, scene_read}
 use Rattle.wrp_run.proofs.BareSite.{bind_same, named_bare}
 
 -- A new scenario

@@ -1,21 +1,15 @@
 -- What a simulation does and writes does not see the unused room of names.
-use Rattle.std.proofs.Common.{◌≡◌, ◌∙◌, refl, ap, ap₂, sym, subst, ℕ, ℤ, pos, ◌+◌, ◌-◌, ◌-ℤ◌, ◌+ℤ◌, ◌&&◌, Bool, true, false, if◌then◌else◌, Option, None, Some, Result, Ok, Err, List, [], ◌∷◌, ◌++◌, length, map, flat_map, option_map, is_some}
+use Rattle.std.proofs.Common.{◌≡◌, ◌∙◌, refl, ap, ap₂, sym, subst, ℕ, ℤ, pos, ◌+◌, ◌-◌, ◌-ℤ◌, ◌+ℤ◌, ◌&&◌, if◌then◌else◌, Option, None, Some, List, [], ◌∷◌, ◌++◌, length, map, flat_map, option_map}
 use Rattle.std.specs.Prelude.{filter, find, nat_lt, option_and_then}
 use Rattle.std.specs.Option.{option_map_or}
 use Rattle.std.specs.Ordering.{int_eq}
 use Rattle.std.proofs.lemmas.List.{length-map}
 use Rattle.std.proofs.lemmas.Option.{slice_get-map}
-use Rattle.wrp_base.specs.declared.configuration.NetCfg.{NetCfg}
-use Rattle.wrp_base.specs.declared.fault.TraceFault.{TraceFault}
 use Rattle.wrp_base.specs.declared.link.Module.{Module}
-use Rattle.wrp_base.specs.declared.link.Role.{Role}
 use Rattle.wrp_base.specs.declared.link.Role.TheVariants.{Master, Slave}
 use Rattle.wrp_base.specs.declared.network.LinkCfg.{LinkCfg}
-use Rattle.wrp_base.specs.declared.network.NodeCfg.{NodeCfg}
 use Rattle.wrp_base.specs.declared.time.Raw.{Raw}
-use Rattle.wrp_base.specs.Lines.{parts_of}
-use Rattle.wrp_base.specs.Network.{End, link_above, node_count}
-use Rattle.wrp_config.proofs.Bare.{above_bare}
+use Rattle.wrp_base.specs.Network.{End, node_count}
 use Rattle.wrp_config.specs.Config.{bare_link, bare_node}
 use Rattle.wrp_config.specs.Same.{bare_cfg}
 use Rattle.wrp_lines.specs.Lines.{output_line_of, sum_line_of}
@@ -25,16 +19,14 @@ use Rattle.wrp_sim.specs.declared.scene.fault.FaultKind.{FaultKind}
 use Rattle.wrp_sim.specs.declared.scene.fault.FaultKind.TheVariants as kind
 use Rattle.wrp_sim.specs.Numbers.{base_before, bits_behind, drawn_stamp, drawn_zeros, drift_at, held_to, own_rate, thousands}
 use Rattle.wrp_sim.specs.Rules.{Next, after_arrival, after_draw, arrives, begins, comes, delay_down, delivers, departs, due_times, end_time, fails, fault_of, fault_time, first_entry, first_of, is_now, is_over, is_tellable, join_event, next_fault, next_moment, next_of, one_begun, passes, raw_to, rest_of, sample_below, sample_of, samples, tick_of, ticks, ticks_now, true_raw, up_event, with_tick}
-use Rattle.wrp_sim.specs.Scenario.{SceneAt, delta_ms, delta_sm, free_of, kappa_of, ms_of, new_scene, sm_of, sum_of}
+use Rattle.wrp_sim.specs.Scenario.{SceneAt, delta_ms, delta_sm, free_of, kappa_of, new_scene, sum_of}
 use Rattle.wrp_sim.specs.SimAt.{SimAt}
-use Rattle.wrp_sim.specs.SimRun.{Gives, GivesEvent, IsSimRun}
-use Rattle.wrp_world.specs.declared.event.Event.{Event}
+use Rattle.wrp_sim.specs.SimRun.{Gives, IsSimRun}
 use Rattle.wrp_world.specs.declared.event.Event.TheVariants.{Pass, Sample, Depart, Arrive, Join}
 use Rattle.wrp_world.specs.EventAt.{link_count}
-use Rattle.wrp_world.specs.Given.{NodeStepAt}
 use Rattle.wrp_world.specs.Moved.{waiting_at}
 use Rattle.wrp_world.specs.Premises.{transition_of}
-use Rattle.wrp_world.specs.Run.{Happened, steps_at, world_after}
+use Rattle.wrp_world.specs.Run.{Happened, world_after}
 use Rattle.wrp_world.specs.Setting.{Setting, fixed_of, from_on, link_of, other_of}
 use Rattle.wrp_world.specs.Views.{oldest_of}
 use Rattle.wrp_world.specs.WorldAt.{WorldAt, reading}
@@ -43,11 +35,11 @@ use Rattle.wrp_run.specs.declared.machine.Refusal.TheVariants as refusals
 use Rattle.wrp_run.specs.declared.status.Status.{Status}
 use Rattle.wrp_run.specs.declared.status.Status.TheVariants.{TooLarge, OutOfMemory}
 use Rattle.wrp_run.specs.RecordsAnswer.{RecordsAnswer}
-use Rattle.wrp_run.specs.SimText.{count_of, is_printed, node_sum, offsets_in, printed_lines, sim_lines, sum_by, sum_lines, tracked, worst_of}
-use Rattle.wrp_run.specs.Simulates.{Changes, IsScenario, IsSimulated, SimAccepts, SimBreaks, SimCloses, SimRefuses, Simulates, simulation_of}
+use Rattle.wrp_run.specs.SimText.{count_of, is_printed, node_sum, offsets_in, printed_lines, sim_lines, sum_lines, tracked, worst_of}
+use Rattle.wrp_run.specs.Simulates.{Changes, IsScenario, SimBreaks, SimCloses, SimRefuses, Simulates, simulation_of}
 use Rattle.wrp_run.specs.Stream.{large_line}
 use Rattle.wrp_run.proofs.BareAudit.{aboves_bare, after_bare, bare_setting, carriers_bare, ends_bare, entries_bare, link_bare, names_bare, nodes_bare, number_bare, places_bare, rates_bare, steps_at_bare}
-use Rattle.wrp_run.proofs.BareRuns.{Leads, answered_bare, due_so}
+use Rattle.wrp_run.proofs.BareRuns.{answered_bare, due_so}
 use Rattle.wrp_run.proofs.BareScene.{scene_bare, new_scene_bare}
 use Rattle.wrp_run.proofs.BareSite.{name_bare, path_bare}
 

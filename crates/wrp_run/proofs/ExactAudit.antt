@@ -1,25 +1,22 @@
 -- What the relations of an audit keep: record lines have one text, one refusal and one end.
-use Rattle.std.proofs.Common.{◌≡◌, ◌∙◌, refl, ap, ap₂, sym, subst, append_assoc, append-nil, ℕ, ℤ, ◌+◌, ◌==◌, Bool, true, false, cond, if◌then◌else◌, Option, None, Some, option_map, Result, Ok, Err, List, [], ◌∷◌, ◌++◌, length, map, reverse}
-use Rattle.std.specs.List.{find}
+use Rattle.std.proofs.Common.{◌≡◌, ◌∙◌, refl, ap, ap₂, sym, subst, append_assoc, append-nil, ℕ, ℤ, ◌+◌, ◌==◌, Bool, true, false, cond, if◌then◌else◌, None, Some, option_map, Ok, Err, List, [], ◌∷◌, ◌++◌, length, map, reverse}
 use Rattle.std.proofs.lemmas.List.{map-append, reverse-append, reverse-reverse}
-use Rattle.wrp_base.specs.declared.fault.TraceFault.{TraceFault}
 use Rattle.wrp_node.specs.NodeAt.{Taken}
 use Rattle.wrp_node.specs.NodeRun.{AllSaid}
 use Rattle.wrp_trace.specs.Events.{event_read}
 use Rattle.wrp_world.specs.Checks.{AllHold, Check, breach_of, first_broken, told_of}
-use Rattle.wrp_world.specs.declared.checks.Breach.{Breach}
 use Rattle.wrp_world.specs.declared.event.Event.{Event}
 use Rattle.wrp_world.specs.Given.{Given, given_by, gives, gives_all, taken_of}
 use Rattle.wrp_world.specs.Moved.{moved}
 use Rattle.wrp_world.specs.Premises.{Accepts, checks_of}
-use Rattle.wrp_world.specs.Run.{Happened, IsSaid, WorldRun, world_after}
+use Rattle.wrp_world.specs.Run.{Happened, IsSaid, world_after}
 use Rattle.wrp_world.specs.Setting.{Setting}
 use Rattle.wrp_world.specs.WorldAt.{WorldAt}
 use Rattle.wrp_run.specs.declared.machine.Refusal.{Refusal}
 use Rattle.wrp_run.specs.declared.machine.Refusal.TheVariants as refusals
-use Rattle.wrp_run.specs.Audited.{AreEvents, IsAudit}
-use Rattle.wrp_run.specs.AuditLaws.{AreOneAudit, OneAudit}
-use Rattle.wrp_run.specs.Audits.{AuditRefuses, Breaks, audit_of, emission_of}
+use Rattle.wrp_run.specs.Audited.{IsAudit}
+use Rattle.wrp_run.specs.AuditLaws.{OneAudit}
+use Rattle.wrp_run.specs.Audits.{AuditRefuses, audit_of, emission_of}
 use Rattle.wrp_run.specs.Refusals.{bad_trace_line, broken_line}
 use Rattle.wrp_run.proofs.OneAudit.{read}
 use Rattle.wrp_run.proofs.OneWorld.{before_newest}

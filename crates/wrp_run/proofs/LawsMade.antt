@@ -1,5 +1,5 @@
 -- The laws of all nodes, as they are made one after another, fit the network.
-use Rattle.std.proofs.Common.{◌≡◌, ◌∙◌, refl, ap, ap₂, sym, subst, ℕ, ℤ, pos, ◌==◌, ◌≤◌, ◌≤ℤ◌, ◌++◌, Bool, true, false, if◌then◌else◌, List, [], ◌∷◌, length, Option, None, Some, IfSome, is_some, option_map, arith}
+use Rattle.std.proofs.Common.{◌≡◌, ◌∙◌, refl, ap, ap₂, sym, subst, ℕ, ℤ, pos, ◌==◌, ◌≤◌, ◌≤ℤ◌, Bool, true, false, if◌then◌else◌, List, length, Option, None, Some, IfSome, is_some, option_map, arith}
 use Rattle.std.specs.Prelude.{slice_get}
 use Rattle.wrp_base.specs.declared.network.LinkCfg.{LinkCfg}
 use Rattle.wrp_base.specs.Network.{link_above, node_count}
@@ -8,18 +8,15 @@ use Rattle.wrp_config.proofs.Bare.{above_bare}
 use Rattle.wrp_config.specs.Accepted.{IsAccepted}
 use Rattle.wrp_config.specs.Config.{bare_link}
 use Rattle.wrp_config.specs.declared.network.Network.{Network}
-use Rattle.wrp_config.specs.Same.{IsSameNetwork, bare_cfg}
+use Rattle.wrp_config.specs.Same.{IsSameNetwork}
 use Rattle.wrp_law.specs.declared.link_law.LinkLaw.{LinkLaw}
 use Rattle.wrp_law.specs.declared.delay.LawKind.{LawKind}
-use Rattle.wrp_law.specs.declared.delay.LawKind.TheVariants.{Linear}
 use Rattle.wrp_law.specs.Law.{IsNear, KeepsFact, LawOf}
 use Rattle.wrp_law.specs.LinkLaw.{IsSound, down_of, error_of, kind_of, least_of, most_of}
-use Rattle.wrp_node.specs.New.{fixed_of}
 use Rattle.wrp_node.specs.Set.{set_of}
-use Rattle.wrp_world.specs.New.{FitsLaw}
 use Rattle.wrp_run.specs.Audited.{node_in}
 use Rattle.wrp_run.specs.AuditStands.{setting_in}
-use Rattle.wrp_run.specs.DownLaw.{AnswersBy, IsLawAt, fixed_at, greatest_over, law_at, least_over}
+use Rattle.wrp_run.specs.DownLaw.{fixed_at}
 use Rattle.wrp_run.specs.LawsFit.{FitsAt, HasNumbers, IsMade, LawsFit}
 use Rattle.wrp_run.specs.LinkLaw.{IsLawOver, error_over, kind_over}
 use Rattle.wrp_run.proofs.AuditSteps.{found_in, Found}

@@ -1,5 +1,5 @@
 -- A world before its first event, with laws that fit its network, can be audited and stands for no lines.
-use Rattle.std.proofs.Common.{◌≡◌, ◌∙◌, refl, ap, sym, subst, ℕ, ℤ, pos, ◌<◌, List, [], length, Option, None, Some, IfSome, arith}
+use Rattle.std.proofs.Common.{◌≡◌, ◌∙◌, refl, ap, sym, subst, ℕ, ℤ, ◌<◌, List, [], length, Option, None, Some, IfSome, arith}
 use Rattle.std.specs.Prelude.{slice_get, option_and_then}
 use Rattle.wrp_base.specs.declared.network.LinkCfg.{LinkCfg}
 use Rattle.wrp_base.specs.Network.{IsTree, link_above, node_count}
@@ -9,7 +9,6 @@ use Rattle.wrp_node.specs.Control.{law_in}
 use Rattle.wrp_node.specs.New.{high_of, low_of}
 use Rattle.wrp_node.specs.NodeAt.{Fixed}
 use Rattle.wrp_node.specs.Set.{set_of}
-use Rattle.wrp_node.specs.StandsFor.{NodeOf}
 use Rattle.wrp_world.proofs.EachLists.{at_place}
 use Rattle.wrp_world.specs.HasLaws.{HasLaws}
 use Rattle.wrp_world.specs.New.{law_at, setting_of}
@@ -20,7 +19,7 @@ use Rattle.wrp_run.specs.Audited.{node_in}
 use Rattle.wrp_run.specs.AuditStands.{CanAudit, HasAudited, HasLawOf, setting_in}
 use Rattle.wrp_run.specs.DownLaw.{AnswersBy, greatest_over, least_over}
 use Rattle.wrp_run.specs.DownLaw as down
-use Rattle.wrp_run.specs.LawsFit.{FitsAt, LawsFit}
+use Rattle.wrp_run.specs.LawsFit.{LawsFit}
 use Rattle.wrp_run.proofs.AuditSteps.{below_count, has_item, nothing_audited}
 
 -- The range of each law

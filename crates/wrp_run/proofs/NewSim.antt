@@ -1,5 +1,5 @@
 -- A network that is simulated: before its first event, and behind each that it took.
-use Rattle.std.proofs.Common.{◌≡◌, ◌∙◌, ap, sym, subst, ℕ, ℤ, List, Option, None, Some, map}
+use Rattle.std.proofs.Common.{◌≡◌, ◌∙◌, ap, sym, subst, ℕ, ℤ, List, Option, map}
 use Rattle.wrp_base.specs.Network.{IsTree, node_count}
 use Rattle.wrp_config.specs.declared.network.Network.{Network}
 use Rattle.wrp_law.specs.Law.{LawOf}

@@ -1,19 +1,17 @@
 -- Lines are one list of events, and a list of events writes one text.
-use Rattle.std.proofs.Common.{◌≡◌, ◌∙◌, refl, ap, ap₂, sym, subst, ℕ, ℤ, Result, Ok, Err, List, [], ◌∷◌, ◌++◌, ◌+◌, length, map, reverse, flat_map, Option, Some}
+use Rattle.std.proofs.Common.{◌≡◌, ◌∙◌, refl, ap, ap₂, sym, ℕ, Result, Ok, List, [], ◌∷◌, ◌++◌, map, reverse, flat_map}
 use Rattle.std.proofs.lemmas.List.{map-append, reverse-append, reverse-reverse}
 use Rattle.wrp_base.specs.declared.fault.TraceFault.{TraceFault}
 use Rattle.wrp_servo.specs.Told.{ToldLast}
 use Rattle.wrp_trace.specs.Events.{event_read}
-use Rattle.wrp_world.specs.Checks.{Check, told_of}
-use Rattle.wrp_world.specs.declared.checks.Breach.{Breach}
 use Rattle.wrp_world.specs.declared.event.Event.{Event}
 use Rattle.wrp_world.specs.Given.{NodeStepAt}
-use Rattle.wrp_world.specs.Run.{AllSaid, Happened, IsAnswered, WorldRun, world_after, steps_at}
+use Rattle.wrp_world.specs.Run.{AllSaid, Happened, IsAnswered, world_after, steps_at}
 use Rattle.wrp_world.specs.Setting.{Setting}
 use Rattle.wrp_world.specs.WorldAt.{WorldAt}
-use Rattle.wrp_run.specs.Audited.{AreEvents, IsAudit, answers_in}
-use Rattle.wrp_run.specs.AuditLaws.{AreOneAudit, OneAudit}
-use Rattle.wrp_run.specs.AuditText.{audit_lines, all_counts, event_lines, given_line, given_lines, step_lines}
+use Rattle.wrp_run.specs.Audited.{AreEvents, answers_in}
+use Rattle.wrp_run.specs.AuditLaws.{OneAudit}
+use Rattle.wrp_run.specs.AuditText.{audit_lines, all_counts, given_line, given_lines, step_lines}
 use Rattle.wrp_run.proofs.OneWorld.{Alike, SameEvents, alike_after, before_newest, checks_one, steps_after}
 
 -- Lines

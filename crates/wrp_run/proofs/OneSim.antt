@@ -6,8 +6,7 @@ use Rattle.std.specs.Prelude.{nat_lt}
 use Rattle.wrp_base.specs.declared.fault.TraceFault.{TraceFault}
 use Rattle.wrp_lines.specs.Lines.{sum_line}
 use Rattle.wrp_node.proofs.OneRun.{SameServo, with_calls}
-use Rattle.wrp_node.specs.declared.interface.Output.{Output}
-use Rattle.wrp_node.specs.NodeAt.{Fixed, NodeAt, Taken, dac_of, slave_of, state_of}
+use Rattle.wrp_node.specs.NodeAt.{Fixed, NodeAt, Taken, dac_of, slave_of}
 use Rattle.wrp_servo.specs.Call.{Call}
 use Rattle.wrp_servo.specs.declared.machine.Core.{Core}
 use Rattle.wrp_servo.specs.Told.{ToldLast}
@@ -22,7 +21,7 @@ use Rattle.wrp_world.specs.Given.{NodeStepAt}
 use Rattle.wrp_world.specs.Run.{AllSaid, Happened, IsAnswered, steps_at, world_after}
 use Rattle.wrp_world.specs.Setting.{Setting, fixed_of, links_of, nodes_of}
 use Rattle.wrp_world.specs.Views.{IsNextArrival, IsNoSooner}
-use Rattle.wrp_world.specs.WorldAt.{WorldAt, is_on_fibre}
+use Rattle.wrp_world.specs.WorldAt.{WorldAt}
 use Rattle.wrp_run.specs.declared.machine.Refusal.{Refusal}
 use Rattle.wrp_run.specs.declared.machine.Refusal.TheVariants as refusals
 use Rattle.wrp_run.specs.declared.status.Status.{Status}
@@ -30,7 +29,7 @@ use Rattle.wrp_run.specs.declared.status.Status.TheVariants.{Done, TooLarge}
 use Rattle.wrp_run.specs.Audited.{answers_in}
 use Rattle.wrp_run.specs.Refusals.{bad_trace_line}
 use Rattle.wrp_run.specs.SimText.{count_of, node_sum, offsets_in, printed_lines, sim_lines, sum_by, sum_lines, tracked, worst_of}
-use Rattle.wrp_run.specs.Simulates.{Changes, IsOver, IsScenario, IsSimulated, Overruns, SimAccepts, SimCloses, SimRefuses, Simulates, event_limit, simulation_of}
+use Rattle.wrp_run.specs.Simulates.{Changes, IsOver, IsSimulated, Overruns, SimAccepts, SimRefuses, Simulates, simulation_of}
 use Rattle.wrp_run.specs.Stream.{large_line}
 use Rattle.wrp_run.proofs.BareSite.{flat_map_same}
 use Rattle.wrp_run.proofs.OneWorld.{Alike, SameEvents, alike_after, before_newest, locked_same, state_same, steps_after, with_all}

@@ -1,13 +1,11 @@
 -- The same events make the same world, but for answers of the law that nobody asked for; its nodes make the same steps,
 -- and the same premise is the first that an event breaks.
-use Rattle.std.proofs.Common.{◌≡◌, ◌∙◌, refl, ap, ap₂, sym, subst, ℕ, ℤ, Bool, true, false, ◌==◌, if◌then◌else◌, List, [], ◌∷◌, ◌++◌, flat_map, map, Option, None, Some, is_some, Result, Ok, Err, arith}
-use Rattle.wrp_base.specs.declared.link.Role.{Role}
+use Rattle.std.proofs.Common.{◌≡◌, ◌∙◌, refl, ap, ap₂, sym, subst, ℕ, ℤ, Bool, true, false, ◌==◌, if◌then◌else◌, List, [], ◌∷◌, ◌++◌, flat_map, map, is_some, Result, arith}
 use Rattle.wrp_base.specs.declared.link.ServoState.TheVariants.{Uninit}
 use Rattle.wrp_base.specs.declared.message.PtpMsg.{PtpMsg}
 use Rattle.wrp_frame.specs.declared.fault.FrameFault.{FrameFault}
 use Rattle.wrp_node.proofs.OneRun.{SameServo, SameStep, Answered, with_calls, step_with, step_alike, before_step, put_out_same, ok_of}
 use Rattle.wrp_node.specs.NodeAt.{Taken, Fixed, NodeAt, settings_of, slave_of, locked_of, state_of}
-use Rattle.wrp_node.specs.NodeStep.{node_step}
 use Rattle.wrp_node.specs.OneRun.{answers_by}
 use Rattle.wrp_node.specs.Telling.{Step}
 use Rattle.wrp_servo.specs.Call.{Call}

@@ -1,7 +1,5 @@
 -- An event and the same without the unused room of its names make one world of each, and are tried alike.
 use Rattle.std.proofs.Common.{◌≡◌, ◌∙◌, refl, ap, ap₂, not, ℕ, ℤ, Bool, true, false, cond, ◌==◌, ◌++◌, if◌then◌else◌, List, [], ◌∷◌, map, flat_map, Option, None, Some, option_map, Result}
-use Rattle.std.proofs.lemmas.List.Folds.{flat_map-map}
-use Rattle.std.specs.List.{find}
 use Rattle.wrp_base.specs.declared.link.Role.{Role}
 use Rattle.wrp_base.specs.declared.message.PtpMsg.{PtpMsg}
 use Rattle.wrp_frame.specs.declared.fault.FrameFault.{FrameFault}

@@ -1,5 +1,5 @@
 -- A line is plain where the splitting of lines says so.
-use Rattle.std.proofs.Common.{◌≡◌, ◌∙◌, ◌&&◌, not, ℕ, List, [], ◌∷◌, true, false, Ok, Err, Result, refl, sym, ap, subst}
+use Rattle.std.proofs.Common.{◌≡◌, ◌∙◌, ◌&&◌, not, ℕ, List, [], ◌∷◌, true, false, Err, Result, refl, sym, ap, subst}
 use Rattle.std.specs.Prelude.{◌==◌, nat_lt}
 use Rattle.std.specs.List.{list_all, AllByRecursion}
 use Rattle.std.proofs.lemmas.Bool.{lt-ltb, ltb-true, not-true, and_parts, and_from, false_from_ne_true}
@@ -7,11 +7,12 @@ use Rattle.csv.specs.Records.{Row, fields_of}
 use Rattle.wrp_base.specs.declared.configuration.NetCfg.{NetCfg}
 use Rattle.wrp_base.specs.Lines.{parts_of}
 use Rattle.wrp_base.specs.declared.fault.TraceFault.{TraceFault}
-use Rattle.wrp_base.specs.declared.fault.TraceFault.TheVariants.{Fields, Kind, Number, Name, Memory}
+use Rattle.wrp_base.specs.declared.fault.TraceFault.TheVariants.{Fields}
 use Rattle.wrp_fields.specs.Lines.{IsPlainOctet, IsLine}
 use Rattle.wrp_node.specs.declared.interface.Input.{Input}
 use Rattle.wrp_trace.specs.Inputs.{input_of, read_of, IsReadInto}
 use Rattle.wrp_fields.specs.Reading.{IsReading, is_plain_octet, is_plain}
+use Rattle.wrp_trace.proofs.ReadingLemmas.{is_reading}
 use Rattle.wrp_trace.specs.Site.{Site}
 use Rattle.wrp_trace.specs.Events.{event_of, event_read}
 use Rattle.wrp_world.specs.declared.event.Event.{Event}
@@ -49,15 +50,6 @@ line_is (c ∷ cs) is = ((λ e. cc e), octets_are (c ∷ cs) is)
 -- and no other line does
 pub other_fails : (line : List ℕ) → (IsLine line → ⊥) → is_plain line ≡ false
 other_fails line other = false_from_ne_true (is_plain line) (λ e. other (line_is line e))
-
--- an answer that is the reading is one that the reading allows
-pub is_reading : {A : Type 0} (read answer : Result A TraceFault) → answer ≡ read → IsReading read answer
-is_reading read (Ok value) e = e
-is_reading read (Err Fields) e = e
-is_reading read (Err Kind) e = e
-is_reading read (Err (Number field)) e = e
-is_reading read (Err (Name field)) e = e
-is_reading read (Err (Memory cause)) e = tt
 
 passes_read : (site : Site) (line : List ℕ) → is_plain line ≡ true → read_of site line ≡ input_of site (parts_of line)
 passes_read site line is = rw is refl

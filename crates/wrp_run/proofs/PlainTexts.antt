@@ -1,13 +1,13 @@
 -- Lines of a plain text: what each says is plain, unless it is empty.
-use Rattle.std.proofs.Common.{◌≡◌, ◌⊎◌, inl, inr, ◌==◌, ◌||◌, ℕ, zero, suc, ◌+◌, ◌<◌, ◌≤◌, Bool, true, false, List, [], ◌∷◌, ◌++◌, length, take, drop, slice_index, refl, sym, ap, ◌∙◌, subst, length-append, arith}
+use Rattle.std.proofs.Common.{◌≡◌, inl, inr, ◌==◌, ℕ, zero, suc, ◌+◌, ◌<◌, true, false, List, [], ◌∷◌, ◌++◌, length, take, drop, refl, sym, ap, ◌∙◌, subst, length-append, arith}
 use Rattle.std.specs.List.{AllByRecursion}
 use Rattle.std.specs.Str.{IsAscii}
 use Rattle.std.proofs.lemmas.List.{append_cancel_right}
 use Rattle.std.proofs.lemmas.Bool.{cases_Bool}
-use Rattle.memchr.specs.Find.{Nowhere, Passes, is_byte, is_byte2}
+use Rattle.memchr.specs.Find.{Nowhere, Passes, is_byte2}
 use Rattle.wrp_fields.specs.Lines.{IsPlainOctet, IsLine}
-use Rattle.wrp_run.specs.Lines.{content_of, IsTextOctet, IsPlainText, HasNoFeed, IsWhole}
-use Rattle.wrp_run.proofs.LineEnds.{Ends, line_ends}
+use Rattle.wrp_run.specs.Lines.{content_of, IsPlainText, HasNoFeed, IsWhole}
+use Rattle.wrp_run.proofs.LineEnds.{line_ends}
 
 -- neither octet is found where the first octet is neither
 neither : (octet : ℕ) → (is_byte2 34 13 octet ≡ true → ⊥) → ((octet == 34) ≡ false) × ((octet == 13) ≡ false)

@@ -9,7 +9,7 @@ use Rattle.wrp_config.specs.declared.network.Network.{Network}
 use Rattle.wrp_fields.specs.Lines.{IsLine}
 use Rattle.wrp_fields.specs.Reading.{is_plain}
 use Rattle.wrp_sim.specs.Scenario.{SceneAt, new_scene}
-use Rattle.wrp_sim.specs.ScenarioLines.{outcome, scene_of, scene_read}
+use Rattle.wrp_sim.specs.ScenarioLines.{scene_of, scene_read}
 use Rattle.wrp_run.specs.declared.machine.Refusal.{Refusal}
 use Rattle.wrp_run.specs.declared.machine.Refusal.TheVariants as refusals
 use Rattle.wrp_run.specs.declared.machine.Taken.{Taken}

@@ -1,5 +1,5 @@
 -- The lines of a simulation as they are written, and what its track lines tell.
-use Rattle.std.proofs.Common.{◌≡◌, ◌∙◌, refl, ap, ap₂, sym, subst, append_assoc, append-nil, ℕ, ℤ, pos, zero, suc, ◌==◌, ◌+◌, ◌-◌, ◌^◌, ◌<◌, ◌<ℤ◌, ◌≤◌, of_z, to_z, Bool, true, false, cond, if◌then◌else◌, Option, None, Some, List, [], ◌∷◌, ◌++◌, length, map, flat_map, drop, take, get_or, arith}
+use Rattle.std.proofs.Common.{◌≡◌, ◌∙◌, refl, ap, sym, subst, append_assoc, append-nil, ℕ, ℤ, pos, zero, suc, ◌==◌, ◌+◌, ◌-◌, ◌^◌, ◌<◌, ◌<ℤ◌, ◌≤◌, of_z, to_z, true, false, if◌then◌else◌, Some, List, [], ◌∷◌, ◌++◌, length, map, flat_map, take, get_or, arith}
 use Rattle.std.specs.Prelude.{filter, fold, max, min, slice_get, slice_set, unsigned_abs}
 use Rattle.std.proofs.lemmas.Bool.Decides.{nat_tests}
 use Rattle.std.proofs.lemmas.Int.{fits_signed_from_abs, ints, to_z-of_z}
@@ -21,13 +21,13 @@ use Rattle.wrp_lines.specs.Lines.{sum_line_of}
 use Rattle.wrp_world.specs.declared.outcome.NodeOut.{NodeOut}
 use Rattle.wrp_world.specs.Given.{NodeStepAt}
 use Rattle.wrp_world.specs.Plant.{Each}
-use Rattle.wrp_world.specs.Setting.{Setting, fixed_of, from_on, nodes_of}
+use Rattle.wrp_world.specs.Setting.{Setting, fixed_of, from_on}
 use Rattle.wrp_world.specs.StandsFor.{StandsFor, WorldOf}
 use Rattle.wrp_world.specs.Step.{step_seen}
 use Rattle.wrp_world.specs.WorldAt.{WorldAt}
 use Rattle.wrp_run.specs.declared.totals.Total.{Total}
 use Rattle.wrp_run.specs.SimStands.{AreBounds, AreTotals, IsTotal, printed_by, sums_by}
-use Rattle.wrp_run.specs.SimText.{count_of, is_track, offsets_in, outs_of, printed_lines, sum_by, worst_of}
+use Rattle.wrp_run.specs.SimText.{is_track, offsets_in, outs_of, printed_lines, sum_by}
 
 -- Lines
 

@@ -1,11 +1,10 @@
 -- A simulation as it goes on: each event that comes is accepted, and makes the run longer by one; and what stands where it
 -- ends.
-use Rattle.std.proofs.Common.{◌≡◌, ◌⊎◌, ◌∙◌, inl, inr, refl, ap, ap₂, sym, subst, append_assoc, append-nil, ℕ, ℤ, pos, ◌+◌, ◌<◌, Option, None, Some, Result, Ok, Err, List, [], ◌∷◌, ◌++◌, length, map, flat_map, take, arith}
+use Rattle.std.proofs.Common.{◌≡◌, ◌⊎◌, ◌∙◌, inl, inr, refl, ap, ap₂, sym, subst, append_assoc, append-nil, ℕ, ℤ, pos, ◌+◌, ◌<◌, Option, None, Some, Result, Err, List, [], ◌∷◌, ◌++◌, length, map, flat_map, take, arith}
 use Rattle.std.specs.Io.KnownBytes.{Appends}
 use Rattle.std.proofs.KnownBytes.{Appends-nil, Appends-trans}
 use Rattle.wrp_base.specs.declared.configuration.NetCfg.{NetCfg}
 use Rattle.wrp_base.specs.declared.message.PtpMsg.{PtpMsg}
-use Rattle.wrp_base.specs.Network.{IsTree, node_count}
 use Rattle.wrp_caldb.specs.Database.{Database}
 use Rattle.wrp_config.specs.Accepted.{IsAccepted}
 use Rattle.wrp_config.specs.declared.network.Network.{Network}
@@ -19,31 +18,27 @@ use Rattle.wrp_sim.specs.Sim.{FitsSim, FollowsRules, Gave, GaveNext, SimIs}
 use Rattle.wrp_sim.specs.SimAt.{SimAt, new_sim}
 use Rattle.wrp_sim.specs.SimRun.{Gives, IsSimRun}
 use Rattle.wrp_world.specs.declared.event.Event.{Event}
-use Rattle.wrp_world.specs.declared.outcome.NodeOut.{NodeOut}
 use Rattle.wrp_world.specs.EventAt.{IsEventOf}
-use Rattle.wrp_world.specs.Given.{world_step}
-use Rattle.wrp_world.specs.Plant.{Each}
 use Rattle.wrp_world.specs.Premises.{Accepts}
 use Rattle.wrp_world.specs.Run.{Happened, IsAnswered, steps_at, world_after}
 use Rattle.wrp_world.specs.Runs.{IsNetwork, IsRun}
 use Rattle.wrp_world.specs.Setting.{Setting}
 use Rattle.wrp_world.specs.StandsFor.{IsValid, StandsFor, WorldOf}
-use Rattle.wrp_world.specs.Step.{MayCome, Steps as WorldSteps, Stepped, step_seen}
+use Rattle.wrp_world.specs.Step.{MayCome, Stepped, step_seen}
 use Rattle.wrp_world.specs.WorldAt.{WorldAt, new_world}
 use Rattle.wrp_run.specs.declared.simulation.Course.{Course}
 use Rattle.wrp_run.specs.declared.simulation.SimulatedNetwork.{SimulatedNetwork}
 use Rattle.wrp_run.specs.declared.status.Status.{Status}
 use Rattle.wrp_run.specs.declared.status.Status.TheVariants.{Done, WriteFault, TooLarge, OutOfMemory}
-use Rattle.wrp_run.specs.declared.totals.Total.{Total}
 use Rattle.wrp_run.specs.declared.worlds.Work.{Work}
 use Rattle.wrp_run.specs.declared.worlds.Work.TheVariants as works
-use Rattle.wrp_run.specs.After.{Closed, ClosesWith}
+use Rattle.wrp_run.specs.After.{Closed}
 use Rattle.wrp_run.specs.Asked.{task_by}
 use Rattle.wrp_run.specs.Audited.{answers_in}
 use Rattle.wrp_run.specs.AuditStands.{setting_in}
 use Rattle.wrp_run.specs.Engine.{Finishes}
-use Rattle.wrp_run.specs.SimStands.{AreTotals, Begins, CanHappen, CanRun, ClosesLarge, ClosesRun, FitsCourse, HasRun, IsTotal, RunStops, Running, RunsOn, sums_by}
-use Rattle.wrp_run.specs.SimText.{offsets_in, printed_lines, sim_lines, sum_lines, tracked}
+use Rattle.wrp_run.specs.SimStands.{AreTotals, Begins, CanHappen, CanRun, ClosesLarge, ClosesRun, FitsCourse, HasRun, Running, RunsOn}
+use Rattle.wrp_run.specs.SimText.{offsets_in, printed_lines, sum_lines, tracked}
 use Rattle.wrp_run.specs.Simulates.{IsScenario, IsSimulated, Simulates, event_limit, simulation_of}
 use Rattle.wrp_run.specs.Stream.{large_line}
 use Rattle.wrp_run.specs.Taking.{AppendsPart}

@@ -1,15 +1,13 @@
 -- What a simulation stands for as it goes on: the scenario that its lines said, and the run of its events
 -- (this project's profile).
-use Rattle.std.specs.Prelude.{◌≡◌, ◌<◌, ◌≤◌, ◌+◌, ◌^◌, ◌⊎◌, ℕ, ℤ, pos, if◌then◌else◌, None, Some, Option, List, [], ◌∷◌, ◌++◌, length, Result}
+use Rattle.std.specs.Prelude.{◌≡◌, ◌<◌, ◌+◌, ◌^◌, ◌⊎◌, ℕ, ℤ, pos, if◌then◌else◌, None, Some, Option, List, [], ◌∷◌, ◌++◌, length, Result}
 use Rattle.std.specs.Io.KnownBytes.{Appends}
 use Rattle.std.specs.List.{flat_map}
 use Rattle.wrp_base.specs.declared.configuration.NetCfg.{NetCfg}
 use Rattle.wrp_base.specs.declared.fault.TraceFault.{TraceFault}
-use Rattle.wrp_base.specs.declared.fault.TraceFault.TheVariants.{Fields, Kind, Number, Name, Memory}
 use Rattle.wrp_base.specs.Network.{HasRanges, node_count}
 use Rattle.wrp_base.specs.declared.message.PtpMsg.{PtpMsg}
 use Rattle.wrp_bounds.specs.Bounds.{path_of}
-use Rattle.wrp_config.specs.declared.network.Network.{Network}
 use Rattle.wrp_frame.specs.declared.fault.FrameFault.{FrameFault}
 use Rattle.wrp_lines.specs.Lines.{output_line_of}
 use Rattle.wrp_node.specs.declared.interface.Output.{Output}

@@ -1,5 +1,5 @@
 -- Each node has its lines.
-use Rattle.std.proofs.Common.{◌≡◌, ◌∙◌, ◌<◌, ap, arith}
+use Rattle.std.proofs.Common.{◌∙◌, ◌<◌, ap, arith}
 use Rattle.wrp_base.specs.Network.{node_count}
 use Rattle.wrp_config.specs.declared.network.Network.{Network}
 use Rattle.wrp_run.proofs.AuditCounts.{all_nodes, node_less, no_node_less}

@@ -1,10 +1,5 @@
 -- One status and one text are due.
 use Rattle.wrp_run.proofs.OneAnswer.{one_answer}
-use Rattle.wrp_run.proofs.AuditSteps.{goes_on}
-use Rattle.wrp_run.proofs.NewAudit.{new_can}
-use Rattle.wrp_run.proofs.LawsMade.{fits_all}
-use Rattle.wrp_run.proofs.AuditCounts.{all_nodes}
-use Rattle.wrp_run.proofs.AskingAudit.{work_task}
 use Rattle.wrp_run.proofs.audits.one_answer.Goals as goal
 
 pub returns : goal.returns

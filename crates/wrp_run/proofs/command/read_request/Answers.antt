@@ -1,6 +1,5 @@
 -- Words that are no command ask for nothing that is built.
-use Rattle.std.proofs.Common.{inl, inr, subst}
-use Rattle.wrp_run.specs.declared.command_line.Form.TheVariants as forms
+use Rattle.std.proofs.Common.{subst}
 use Rattle.wrp_run.specs.CommandLine.{IsCommandOf}
 use Rattle.wrp_run.specs.Words.{texts_of}
 use Rattle.wrp_run.proofs.WordLemmas.{asks_nothing}

@@ -1,5 +1,5 @@
 -- The network and its simulator are new.
-use Rattle.std.proofs.Common.{◌≡◌, ◌∙◌, ◌<◌, [], refl, sym, ap, subst, arith, length}
+use Rattle.std.proofs.Common.{◌∙◌, [], sym, ap, subst, arith}
 use Rattle.wrp_base.specs.Network.{node_count}
 use Rattle.wrp_config.specs.declared.network.Network.{Network}
 use Rattle.wrp_sim.specs.Sim.{FitsSim}

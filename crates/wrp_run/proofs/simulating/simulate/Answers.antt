@@ -1,5 +1,5 @@
 -- What stands behind the scenario, and where it is refused.
-use Rattle.std.proofs.Common.{◌≡◌, ◌++◌, [], map, refl, subst, sym, ℕ, List}
+use Rattle.std.proofs.Common.{◌≡◌, ◌++◌, map, refl, subst, sym, ℕ, List}
 use Rattle.std.specs.Io.KnownBytes.{Appends, Consumes}
 use Rattle.wrp_config.specs.declared.network.Network.{Network}
 use Rattle.wrp_sim.specs.Scenario.{SceneAt}

@@ -1,5 +1,5 @@
 -- The next event is accepted, and makes the run longer by one.
-use Rattle.std.proofs.Common.{◌≡◌, ◌+◌, ◌<◌, List, arith, refl, subst, sym}
+use Rattle.std.proofs.Common.{◌<◌, List, arith, refl, subst, sym}
 use Rattle.std.specs.List.{AllByRecursion}
 use Rattle.wrp_base.specs.Network.{node_count}
 use Rattle.wrp_world.specs.declared.outcome.NodeOut.{NodeOut}

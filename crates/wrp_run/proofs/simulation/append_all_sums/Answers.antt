@@ -1,5 +1,5 @@
 -- Each node has its line.
-use Rattle.std.proofs.Common.{◌≡◌, ◌∙◌, ◌<◌, ap, arith, subst, sym}
+use Rattle.std.proofs.Common.{◌∙◌, ◌<◌, ap, arith}
 use Rattle.wrp_base.specs.Network.{node_count}
 use Rattle.wrp_config.specs.declared.network.Network.{Network}
 use Rattle.wrp_run.specs.SimStands.{IsTotal}

@@ -1,5 +1,5 @@
 -- Each step is told.
-use Rattle.std.proofs.Common.{◌∙◌, arith, length, refl, rules}
+use Rattle.std.proofs.Common.{◌∙◌, arith, refl, rules}
 use Rattle.std.proofs.lemmas.Int.{to_z-of_z}
 use Rattle.std.proofs.lemmas.List.{length-set}
 use Rattle.std.proofs.lemmas.Option.{slice_get_read}

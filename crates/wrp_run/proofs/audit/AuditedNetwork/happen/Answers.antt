@@ -1,5 +1,5 @@
 -- What became of the event.
-use Rattle.std.proofs.Common.{◌≡◌, ◌∙◌, ◌<◌, ap, refl, subst, sym, ℕ, List, ◌++◌, rules}
+use Rattle.std.proofs.Common.{◌∙◌, ◌<◌, ap, refl, subst, sym, rules}
 use Rattle.std.proofs.lemmas.Int.{to_z-of_z}
 use Rattle.std.specs.List.{AllByRecursion}
 use Rattle.wrp_base.specs.declared.configuration.NetCfg.{NetCfg}

@@ -3,9 +3,9 @@ use Rattle.std.proofs.Common.{◌∙◌, Err, refl, sym}
 use Rattle.std.proofs.lemmas.Result.{IfOk-weaker}
 use Rattle.wrp_trace.specs.Site.{site_of}
 use Rattle.wrp_run.proofs.BareSite.{read_bare}
+use Rattle.wrp_trace.proofs.ReadingLemmas.{is_reading}
 use Rattle.wrp_trace.proofs.ReadInto.{read_into, fault_into}
 use Rattle.wrp_run.proofs.GoingOn.{goes_on, refuses_so, taken_with}
-use Rattle.wrp_run.proofs.PlainLines.{is_reading}
 use Rattle.wrp_run.proofs.replay.ReplayedNode.handle.Goals as goal
 
 pub returns-in_ok-write-in-Ok-clause-accepted : goal.returns-in_ok-write-in-Ok-clause-accepted
