@@ -53,6 +53,6 @@ pub record IsWhole (line : List ℕ) : Type 0 where
 abbrev pub IsTextOctet : ℕ → Type 0
 IsTextOctet octet = ((octet == 34) ≡ false) × ((octet == carriage_return) ≡ false) × (octet < 128)
 
--- octets that may all stand in plain lines or end them
+-- octets each of which may stand in a plain line or is an LF
 abbrev pub IsPlainText : List ℕ → Type 0
 IsPlainText octets = AllByRecursion IsTextOctet octets

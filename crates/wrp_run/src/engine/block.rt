@@ -17,8 +17,8 @@ use memchr::memchr2;
 use std::alloc::Global;
 use wrp_fields::{Block, is_plain};
 
-// Whether each octet may stand in a plain line or is its LF: then what a line says is plain, unless it
-// is empty.
+// True only where each octet may stand in a plain line or is an LF: then what a line says is plain,
+// unless it is empty.
 #[tactic(auto, using(crate::proofs::PlainTexts::all_plain))]
 fn is_plain_text(octets: &[u8]) -> bool
     ensures { result ≡ true → IsPlainText octets.now }
@@ -26,21 +26,21 @@ fn is_plain_text(octets: &[u8]) -> bool
     octets.is_ascii() && memchr2(b'"', b'\r', octets).is_none()
 }
 
-// Whether what a line says is plain. In a plain text its length alone says so.
+// True only where what a line says is plain. In a plain text its length alone says so.
 #[tactic(auto, using(crate::proofs::PlainTexts::long_is_plain))]
-fn is_plain_line(line: &[u8], in_plain: bool) -> bool
+fn is_plain_line(line: &[u8], text_is_plain: bool) -> bool
     requires whole { IsWhole line.now }
-    requires text { in_plain ≡ true → IsPlainText line.now }
+    requires text { text_is_plain ≡ true → IsPlainText line.now }
     ensures { result ≡ true → IsLine (content_of line.now) }
 {
-    in_plain && line.len() > 1 || is_plain(content(line))
+    text_is_plain && line.len() > 1 || is_plain(content(line))
 }
 
 // The first line, where it is whole, no larger than a line may be, and plain, and one more record may
 // come behind so many.
 #[tactic(auto, using(crate::proofs::LineEnds::front_is, crate::proofs::LineEnds::front_within, crate::proofs::PlainTexts::front_plain))]
-fn plain_line(octets: &[u8], in_plain: bool, number: u32) -> Option<&[u8]>
-    requires text { in_plain ≡ true → IsPlainText octets.now }
+fn plain_line(octets: &[u8], text_is_plain: bool, number: u32) -> Option<&[u8]>
+    requires text { text_is_plain ≡ true → IsPlainText octets.now }
     ensures front { IfSome result (λ line.
         octets.now ≡ line.now ++ drop (length line.now) octets.now) }
     ensures whole { IfSome result (λ line. IsWhole line.now) }
@@ -50,7 +50,7 @@ fn plain_line(octets: &[u8], in_plain: bool, number: u32) -> Option<&[u8]>
 {
     let size = first_whole(octets)?;
     let line = &octets[..size];
-    if number == u32::MAX || size > LINE_LIMIT + 1 || !is_plain_line(line, in_plain) {
+    if number == u32::MAX || size > LINE_LIMIT + 1 || !is_plain_line(line, text_is_plain) {
         return None;
     }
     Some(line)
@@ -93,11 +93,11 @@ fn handle_block<M: Machine>(
 {
     let mut row = ByteRecord::new(alloc);
     let mut block = Block::new(alloc, octets);
-    let in_plain = is_plain_text(octets);
+    let text_is_plain = is_plain_text(octets);
     let mut at = 0;
     'lines: loop {
         let left = behind(octets, at);
-        let Some(line) = plain_line(left, in_plain, *number) else {
+        let Some(line) = plain_line(left, text_is_plain, *number) else {
             return None;
         };
         match split_next(&mut block, line, &mut row) {

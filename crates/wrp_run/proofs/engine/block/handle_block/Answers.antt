@@ -10,7 +10,7 @@ use Rattle.wrp_run.proofs.engine.block.handle_block.Goals as goal
 pub lines-init : goal.lines-init
 lines-init g c = record {
   at = search rules;
-  text = c.is_plain_text-in_plain.ensures;
+  text = c.is_plain_text-text_is_plain.ensures;
   block = c.new-block.ensures c.requires.starts;
   held = c.requires.held;
   ended = refl;

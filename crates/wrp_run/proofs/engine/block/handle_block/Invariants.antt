@@ -7,7 +7,7 @@ use Rattle.wrp_run.proofs.engine.block.handle_block.Given as goal
 abbrev pub invariant-lines : goal.invariant-lines
 invariant-lines g l =
     record {
-      text : l.in_plain ≡ true → IsPlainText l.octets;
+      text : l.text_is_plain ≡ true → IsPlainText l.octets;
       at : l.at ≤ length l.octets;
       block : l.block ≡ Some (drop l.at l.octets);
       held : l.reader.rest ≡ drop l.at l.octets;
