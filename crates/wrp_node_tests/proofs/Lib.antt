@@ -1,2 +1,1 @@
-pub mod Masters
 pub mod Ticks

@@ -1,12 +1,8 @@
-//! Tests of a node, its ports and its servo. They stand here since a crate with tests of its own is
-//! proved twice.
+//! Tests of a port and of a servo that no case can say: a schedule over so many ticks that each sequenceId goes round,
+//! and lists of calls that numbers draw, beside a plain program. The others are cases (`wrp_node_cases`).
 #![tactic(auto)]
 
-#[cfg(test)]
-mod node;
 #[cfg(test)]
 mod port;
 #[cfg(test)]
 mod servo;
-#[cfg(test)]
-mod words;

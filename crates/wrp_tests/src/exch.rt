@@ -1,32 +1,81 @@
-//! The exchange beside the definition's plain slow program, over a table of call lists.
+//! The exchange beside the definition's plain slow program, after each call of three lists.
 ghost use Rattle.std.specs.Prelude.{◌^◌, ◌<◌, unsigned_abs};
 
 mod lookback;
-mod rows;
 
-use lookback::{Call, four, keeps};
-use rows::ROWS;
+use lookback::Call::{self, Clear, FollowUp, ReqOut, ReqSent, Resp, Sample, Start, Sync};
+use lookback::{four, keeps};
 use std::test::Fail;
-use wrp_base::{Four, Stamp};
+use wrp_base::Stamp;
 use wrp_exch::Exchange;
 
-// Makes one call. Answers whether its piece was kept, where the call says that.
-fn make(exchange: &mut Exchange, call: Call) -> Option<bool> {
+// How many samples are known.
+const RING: usize = 2;
+
+// The lists of calls, the oldest first.
+const LISTS: [&[Call]; 3] = [
+    // a sample that left the ring between the Sync and its Follow_Up
+    &[
+        Start(1),
+        Sample(1, 10),
+        ReqOut(3),
+        ReqSent(3, 2000, 1, 4),
+        Resp(3, 2100),
+        Sync(7, 0, 1000, 1, 5),
+        Sample(2, 20),
+        Sample(3, 30),
+        FollowUp(7, 900),
+        FollowUp(7, 900),
+    ],
+    // a request put out while another waits for its answer
+    &[
+        Start(1),
+        Sample(1, 10),
+        Sync(7, 0, 1000, 1, 5),
+        FollowUp(7, 900),
+        ReqOut(3),
+        ReqSent(3, 2000, 1, 6),
+        ReqOut(4),
+        Resp(3, 2100),
+        Resp(4, 2200),
+        ReqSent(3, 2300, 1, 7),
+        ReqSent(4, 2400, 1, 8),
+        Resp(4, 2500),
+    ],
+    // a clear, and a start anew
+    &[
+        Start(1),
+        Sample(1, 10),
+        Sync(7, 0, 1000, 1, 5),
+        FollowUp(7, 900),
+        ReqOut(3),
+        ReqSent(3, 2000, 1, 6),
+        Resp(3, 2100),
+        Clear,
+        Start(1),
+        Sync(8, 0, 1500, 1, 7),
+        FollowUp(8, 1400),
+        ReqOut(4),
+        ReqSent(4, 2500, 1, 8),
+        Resp(4, 2600),
+    ],
+];
+
+// Makes one call. Answers whether its piece was kept.
+fn make(exchange: &mut Exchange, call: Call) -> bool {
     match call {
-        Call::Start(first) => exchange.start(first),
-        Call::Clear => exchange.clear(),
-        Call::Sample(number, phase) => exchange.sample(number, phase),
-        Call::Sync(seq, correction, t2, sample, tick) => {
-            return Some(exchange.sync(seq, correction, stamp(t2, sample), tick));
+        Start(first) => exchange.start(first),
+        Clear => exchange.clear(),
+        Sample(number, phase) => exchange.sample(number, phase),
+        ReqOut(seq) => exchange.req_out(seq),
+        Sync(seq, correction, t2, sample, tick) => {
+            return exchange.sync(seq, correction, stamp(t2, sample), tick);
         }
-        Call::FollowUp(seq, precise) => return Some(exchange.follow_up(seq, precise.into())),
-        Call::ReqOut(seq) => exchange.req_out(seq),
-        Call::ReqSent(seq, t3, sample, tick) => {
-            return Some(exchange.req_sent(seq, stamp(t3, sample), tick));
-        }
-        Call::Resp(seq, t4) => return Some(exchange.resp(seq, t4.into())),
+        FollowUp(seq, precise) => return exchange.follow_up(seq, precise.into()),
+        ReqSent(seq, t3, sample, tick) => return exchange.req_sent(seq, stamp(t3, sample), tick),
+        Resp(seq, t4) => return exchange.resp(seq, t4.into()),
     }
-    None
+    false
 }
 
 fn stamp(value: i64, sample: u32) -> Stamp
@@ -38,43 +87,16 @@ fn stamp(value: i64, sample: u32) -> Stamp
     }
 }
 
-fn four_of([t1, t2, t3, t4, u2, u3, tick]: [i64; 7]) -> Four {
-    Four {
-        t1: t1.into(),
-        t2: t2.into(),
-        t3: t3.into(),
-        t4: t4.into(),
-        u2,
-        u3,
-        tick: u32::try_from(tick).unwrap_or(0),
-    }
-}
-
 #[test]
 fn agrees_with_looking_back(rt: HostRuntime) -> Result<(), Fail> {
-    for row in &ROWS {
-        let name = row.name;
-        assert!(rt; 0 < row.ring && row.ring <= 4096);
-        let mut exchange = Exchange::new(rt.alloc(), row.ring)?;
-        let mut answers = row.answers.as_bytes();
-        for at in 0..row.calls.len() {
-            let (before, call) = (&row.calls[..at], row.calls[at]);
+    for calls in LISTS {
+        let mut exchange = Exchange::new(rt.alloc(), RING)?;
+        for at in 0..calls.len() {
+            let call = calls[at];
             let kept = make(&mut exchange, call);
-            assert_eq!(rt;
-                kept.unwrap_or(false),
-                keeps(row.ring, before, call),
-                "{name}, call {at}"
-            );
-            if let Some(kept) = kept {
-                let (answer, rest) = answers.split_first().ok_or("more answers than in the row")?;
-                assert_eq!(rt; kept, *answer == b'y', "{name}, call {at}");
-                answers = rest;
-            }
-            let whole = &row.calls[..at + 1];
-            assert_eq!(rt; exchange.four(), four(row.ring, whole), "{name}, call {at}");
+            assert_eq!(rt; kept, keeps(RING, &calls[..at], call), "call {at}");
+            assert_eq!(rt; exchange.four(), four(RING, &calls[..at + 1]), "call {at}");
         }
-        assert!(rt; answers.is_empty(), "{name}");
-        assert_eq!(rt; exchange.four(), row.four.map(four_of), "{name}");
     }
     Ok(())
 }

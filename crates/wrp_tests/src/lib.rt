@@ -1,22 +1,8 @@
-//! Tests of the crates below the port: of numbers, messages, stamps, laws and a link. They stand here
-//! since a crate with tests of its own is proved twice.
+//! Tests of the crates below a port that have to be code: a law with its closure, and the exchange beside a plain
+//! program. All else is cases, in `wrp_part_cases`.
 #![tactic(auto)]
 
 #[cfg(test)]
-mod base;
-#[cfg(test)]
-mod check;
-#[cfg(test)]
 mod exch;
 #[cfg(test)]
-mod frame;
-#[cfg(test)]
 mod law;
-#[cfg(test)]
-mod link;
-#[cfg(test)]
-mod phase;
-#[cfg(test)]
-mod stamp;
-#[cfg(test)]
-mod tlv;

@@ -1,7 +1,20 @@
 //! TRACK by its definition, plainly and slowly: a call that enters it and none after that leaves it,
 //! where all that the causes ask for is computed anew from the whole list before the call.
-use super::lists::Do;
 use wrp_base::ServoState;
+
+/// A call. The delay both ways of a four is `down + up`, and the offset that it tells is half of
+/// `down - up`, as the fibre's two ways are equal.
+#[derive(Clone, Copy)]
+pub enum Call {
+    Sample(u32, u16),
+    Glitch(u32),
+    Four { down: i64, up: i64, tick: u32 },
+    Tick,
+    Lease(bool),
+    Link(bool),
+    Carrier(bool),
+    Reset,
+}
 
 // Half a period, in tau, and a step of the detector.
 const HALF: i64 = 262_144_000;
@@ -53,9 +66,9 @@ const START: Standing = Standing {
 };
 
 // The number and the tag of a sample that is heard and good. A sample has 32 zeros.
-fn good_sample(v: &Standing, x: Do) -> Option<u16> {
+fn good_sample(v: &Standing, x: Call) -> Option<u16> {
     match x {
-        Do::Sample(n, tag) if v.carrier && v.state != ServoState::Holdover && v.last < n => {
+        Call::Sample(n, tag) if v.carrier && v.state != ServoState::Holdover && v.last < n => {
             Some((tag % 16384).wrapping_add(32) % 16384)
         }
         _ => None,
@@ -105,10 +118,9 @@ fn residual(v: &Standing, four: i64) -> i64 {
 }
 
 // The offset of a four without the phase, and its tick, where the delay both ways is in range.
-fn measured(x: Do) -> Option<Option<(i64, u32)>> {
+fn measured(x: Call) -> Option<Option<(i64, u32)>> {
     match x {
-        Do::At(offset, tick) => Some(Some((offset, tick))),
-        Do::Four { down, up, tick } => {
+        Call::Four { down, up, tick } => {
             let both = down.wrapping_add(up);
             if both < -(1 << 30) || both > 1 << 53 {
                 return Some(None);
@@ -124,7 +136,7 @@ fn is_small(x: i64) -> bool {
 }
 
 // A call enters TRACK.
-fn enters(v: &Standing, x: Do) -> bool {
+fn enters(v: &Standing, x: Call) -> bool {
     match measured(x) {
         Some(Some((four, tick))) => {
             v.chain
@@ -140,26 +152,25 @@ fn enters(v: &Standing, x: Do) -> bool {
 }
 
 // A call ends a chain, in whatever state.
-fn ends(v: &Standing, x: Do) -> bool {
+fn ends(v: &Standing, x: Call) -> bool {
     match x {
-        Do::Sample(_, _) | Do::Glitch(_) => match good_sample(v, x) {
+        Call::Sample(_, _) | Call::Glitch(_) => match good_sample(v, x) {
             Some(tag) => !followed(v, tag).locked,
             None => false,
         },
-        Do::Four { .. } | Do::At(_, _) => measured(x) == Some(None) || steps(v, x),
-        Do::Tick => {
+        Call::Four { .. } => measured(x) == Some(None) || steps(v, x),
+        Call::Tick => {
             v.state != ServoState::Holdover && v.ticks.wrapping_add(1).saturating_sub(v.good) > 2
         }
-        Do::Lease(fresh) => !fresh,
-        Do::LinkOff => true,
-        Do::LinkOn => false,
-        Do::Carrier(up) => !up,
-        Do::Reset => true,
+        Call::Lease(fresh) => !fresh,
+        Call::Link(on) => !on,
+        Call::Carrier(up) => !up,
+        Call::Reset => true,
     }
 }
 
 // A measurement commands a step: half a period is less than a second.
-fn steps(v: &Standing, x: Do) -> bool {
+fn steps(v: &Standing, x: Call) -> bool {
     let stepping = v.state == ServoState::SyncTai || v.state == ServoState::SyncNsec;
     match measured(x) {
         Some(Some((four, _))) => stepping && four.wrapping_add(v.u).unsigned_abs() > HALF as u64,
@@ -168,7 +179,7 @@ fn steps(v: &Standing, x: Do) -> bool {
 }
 
 // A call leaves TRACK.
-fn leaves(v: &Standing, x: Do) -> bool {
+fn leaves(v: &Standing, x: Call) -> bool {
     if ends(v, x) {
         return true;
     }
@@ -182,7 +193,7 @@ fn leaves(v: &Standing, x: Do) -> bool {
             !is_small(error(&w)) || !near
         }
         (None, Some(Some((four, _))), _) => v.link && !is_small(residual(v, four)),
-        (None, None, Do::Tick) => match v.four {
+        (None, None, Call::Tick) => match v.four {
             Some((_, tick)) => v.ticks.wrapping_add(1).saturating_sub(tick) > 4,
             None => false,
         },
@@ -230,7 +241,7 @@ fn grounded(v: &Standing) -> Standing {
     w
 }
 
-fn after_sample(v: &Standing, x: Do, n: u32) -> Standing {
+fn after_sample(v: &Standing, x: Call, n: u32) -> Standing {
     let mut w = *v;
     if v.carrier && v.state != ServoState::Holdover {
         w.last = v.last.max(n);
@@ -258,7 +269,7 @@ fn after_sample(v: &Standing, x: Do, n: u32) -> Standing {
 }
 
 // The state after a four that tells this offset.
-fn state_after_four(v: &Standing, x: Do, est: i64) -> ServoState {
+fn state_after_four(v: &Standing, x: Call, est: i64) -> ServoState {
     let near = est.unsigned_abs() <= HALF as u64;
     match v.state {
         ServoState::SyncTai if est.unsigned_abs() >= 65_536_000_000_000_000 => ServoState::SyncTai,
@@ -272,7 +283,7 @@ fn state_after_four(v: &Standing, x: Do, est: i64) -> ServoState {
     }
 }
 
-fn after_four(v: &Standing, x: Do) -> Standing {
+fn after_four(v: &Standing, x: Call) -> Standing {
     let mut w = *v;
     if !v.chain || !v.link {
         return w;
@@ -307,35 +318,35 @@ fn after_tick(v: &Standing) -> Standing {
                 ServoState::Uninit
             };
         }
-    } else if ends(v, Do::Tick) || (v.state == ServoState::Track && leaves(v, Do::Tick)) {
+    } else if ends(v, Call::Tick) || (v.state == ServoState::Track && leaves(v, Call::Tick)) {
         w = ended(&w);
     }
     w
 }
 
 // What stands after one more call.
-fn after(v: &Standing, x: Do) -> Standing {
+fn after(v: &Standing, x: Call) -> Standing {
     let mut w = *v;
     match x {
-        Do::Sample(n, _) | Do::Glitch(n) => after_sample(v, x, n),
-        Do::Four { .. } | Do::At(_, _) => after_four(v, x),
-        Do::Tick => after_tick(v),
-        Do::Lease(fresh) => {
+        Call::Sample(n, _) | Call::Glitch(n) => after_sample(v, x, n),
+        Call::Four { .. } => after_four(v, x),
+        Call::Tick => after_tick(v),
+        Call::Lease(fresh) => {
             w.lease = fresh;
             if fresh { w } else { ended(&w) }
         }
-        Do::LinkOn => {
+        Call::Link(true) => {
             w.link = true;
             if w.state == ServoState::Uninit {
                 w.state = ServoState::SyncTai;
             }
             w
         }
-        Do::LinkOff => {
+        Call::Link(false) => {
             w.link = false;
             grounded(&w)
         }
-        Do::Carrier(true) => {
+        Call::Carrier(true) => {
             w.carrier = true;
             if w.state == ServoState::Holdover {
                 w
@@ -343,18 +354,18 @@ fn after(v: &Standing, x: Do) -> Standing {
                 restarted(&w)
             }
         }
-        Do::Carrier(false) => {
+        Call::Carrier(false) => {
             w.carrier = false;
             w.count = 0;
             w.locked = false;
             grounded(&w)
         }
-        Do::Reset => START,
+        Call::Reset => START,
     }
 }
 
 // What stands after a list, from its first call on.
-fn standing_after(list: &[Do]) -> Standing {
+fn standing_after(list: &[Call]) -> Standing {
     let mut v = START;
     for &x in list {
         v = after(&v, x);
@@ -364,7 +375,7 @@ fn standing_after(list: &[Do]) -> Standing {
 
 /// Whether TRACK stands after a list: looking back from its newest call, one that enters TRACK comes
 /// before one that leaves it.
-pub fn tracking(list: &[Do]) -> bool {
+pub fn tracking(list: &[Call]) -> bool {
     for at in (0..list.len()).rev() {
         let v = standing_after(&list[..at]);
         if enters(&v, list[at]) {
@@ -377,29 +388,38 @@ pub fn tracking(list: &[Do]) -> bool {
     false
 }
 
+// A four that tells this offset, where both ways take no time.
+fn near_four(offset: i64, tick: u32) -> Call {
+    Call::Four {
+        down: offset,
+        up: offset.wrapping_neg(),
+        tick,
+    }
+}
+
 /// A call as a number draws it: most are samples of near tags and fours of near offsets.
-pub fn drawn(draw: u64, n: u32, ticks: u32) -> Do {
+pub fn drawn(draw: u64, n: u32, ticks: u32) -> Call {
     let part = (draw >> 8) % 8;
     let tag = ((draw >> 16) % 3) as u16 / 2;
     match draw % 16 {
-        7..=9 => Do::At(
+        7..=9 => near_four(
             [0, 30_000, -30_000, 50_000, 0, -300_000_000, 0, 0][part as usize],
             ticks,
         ),
-        10 | 11 => Do::Tick,
-        12 if part < 2 => Do::Lease(part == 0),
-        13 if part < 4 => Do::Lease(true),
-        14 if part == 0 => Do::LinkOff,
-        14 if part < 4 => Do::LinkOn,
-        15 if part == 0 => Do::Carrier(false),
-        15 if part == 1 => Do::Reset,
-        15 if part < 4 => Do::Carrier(true),
-        15 if part == 4 => Do::Glitch(n),
-        15 if part == 5 => Do::Four {
+        10 | 11 => Call::Tick,
+        12 if part < 2 => Call::Lease(part == 0),
+        13 if part < 4 => Call::Lease(true),
+        14 if part == 0 => Call::Link(false),
+        14 if part < 4 => Call::Link(true),
+        15 if part == 0 => Call::Carrier(false),
+        15 if part == 1 => Call::Reset,
+        15 if part < 4 => Call::Carrier(true),
+        15 if part == 4 => Call::Glitch(n),
+        15 if part == 5 => Call::Four {
             down: 1 << 53,
             up: 1,
             tick: ticks,
         },
-        _ => Do::Sample(n, tag),
+        _ => Call::Sample(n, tag),
     }
 }

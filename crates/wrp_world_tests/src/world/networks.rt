@@ -1,46 +1,5 @@
-//! The networks of the tests.
-
-/// A grandmaster `gm` and a switch `sw1` on one fibre.
-pub const TWO_NODES: &str = "\
-    [[node]]\n\
-    name = \"gm\"\n\
-    identity = \"001bc5fffe000001\"\n\
-    [[node]]\n\
-    name = \"sw1\"\n\
-    identity = \"001bc5fffe000002\"\n\
-    [[link]]\n\
-    name = \"f1\"\n\
-    upper = \"gm:1\"\n\
-    lower = \"sw1:1\"\n\
-    fibre = \"smf\"\n\
-    upper_module = \"blue\"\n\
-    lower_module = \"violet\"\n\
-    [[module]]\n\
-    name = \"blue\"\n\
-    tx = 14745600000\n\
-    rx = 14745600000\n\
-    transition = 0\n\
-    err = 1310720\n\
-    [[module]]\n\
-    name = \"violet\"\n\
-    tx = 14811136000\n\
-    rx = 14876672000\n\
-    transition = 0\n\
-    err = 1310720\n\
-    [[fibre]]\n\
-    name = \"smf\"\n\
-    kappa = 73622176\n\
-    err = 1310720\n";
-
-/// The keys ahead of it with which a port that may send sends at each tick.
-pub const EACH_TICK: &str = "\
-    [network]\n\
-    announce = 1\n\
-    sync = 1\n\
-    delay = 1\n";
-
-/// The asymmetry of its fibre.
-pub const KAPPA: i64 = 73_622_176;
+//! The network of the runs, and its numbers.
+use wrp_base::Tau;
 
 /// A grandmaster `gm`, a switch `sw1` below it and a node `leaf` below that.
 pub const THREE_NODES: &str = "\
@@ -95,8 +54,15 @@ pub const SOON_ON: &str = "\
     lock_samples = 5\n\
     delock_samples = 4\n";
 
-/// The keys behind these with which a node is soon in TRACK, and not for long in HOLDOVER.
+/// The same, and nodes are soon in TRACK, and not for long in HOLDOVER.
 pub const SOON_IN_TRACK: &str = "\
+    [network]\n\
+    life_ns = 20000000\n\
+    quiet = 6\n\
+    announce = 5\n\
+    holdoff = 10\n\
+    lock_samples = 5\n\
+    delock_samples = 4\n\
     stable = 3\n\
     report = 2\n\
     sync = 3\n\
@@ -104,3 +70,29 @@ pub const SOON_IN_TRACK: &str = "\
     lease = 12\n\
     age = 30\n\
     holdover = 20\n";
+
+/// The asymmetry of each fibre.
+pub const KAPPA: i64 = 73_622_176;
+
+/// The delays of each fibre: both ways are 100 us, of which the way down has its share.
+pub const MS: Tau = 3_277_238_822_364;
+
+pub const SM: Tau = 3_276_361_177_636;
+
+/// The one-way delay down, with 14745600000 of blue and 14876672000 of violet.
+pub const DOWN: Tau = 3_306_861_094_364;
+
+/// The error of each module's entry and of the asymmetry, but for 1 tau that rounding takes.
+pub const ERROR: i64 = 1_310_719;
+
+/// The error of a send stamp, and of a tag.
+pub const E_TX: Tau = 655_360;
+
+pub const E_TAG: Tau = 64_000;
+
+/// The DAC value at rest, and the greatest rates of a locked clock and of one in HOLDOVER, in 10^-12.
+pub const BIAS: i128 = 32_768;
+
+pub const SLEW: i128 = 500;
+
+pub const HELD: i128 = 10;

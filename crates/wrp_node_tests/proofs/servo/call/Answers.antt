@@ -16,8 +16,3 @@ pub returns-in-Four-clause-ticks : goal.returns-in-Four-clause-ticks
 returns-in-Four-clause-ticks g c =
     let (y, adds) = c.measured.ensures.answered in
     ticks-grow c.counts_one_tick.ensures c.args.servo.now c.measured.new.self (CallMeasured c.four.result y) adds.value
-
-pub returns-in-At-clause-ticks : goal.returns-in-At-clause-ticks
-returns-in-At-clause-ticks g c =
-    let (y, adds) = c.measured-in-At.ensures.answered in
-    ticks-grow c.counts_one_tick.ensures c.args.servo.now c.measured-in-At.new.self (CallMeasured c.four-in-At.result y) adds.value

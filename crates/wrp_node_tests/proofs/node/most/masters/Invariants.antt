@@ -1,6 +1,0 @@
--- The ports so far have numbers below the next one.
-use Rattle.wrp_node_tests.proofs.Masters.{Rising}
-use Rattle.wrp_node_tests.proofs.node.most.masters.Given as goal
-
-abbrev pub invariant-loop-number : goal.invariant-loop-number
-invariant-loop-number l = Rising l.ports.items l.number

@@ -1,0 +1,157 @@
+//! `exchange`: the word is how many samples the exchange knows, and each line of the input is a call:
+//!
+//!     start N · clear · reset                   the chain
+//!     sample N U                                a good sample, and the unwrapped phase at it
+//!     sync SEQ CORRECTION T2 SAMPLE TICK        a Sync
+//!     follow_up SEQ PRECISE                     a Follow_Up
+//!     req_out SEQ                               a Delay_Req
+//!     req_sent SEQ T3 SAMPLE TICK               the sending of a Delay_Req
+//!     resp SEQ T4                               a Delay_Resp
+//!
+//! For the pieces `kept` or `not kept` is due, and behind each call that changes it the matched four:
+//! `four T1 T2 T3 T4 U2 U3 TICK`, or `four none`. At first there is none.
+ghost use Rattle.std.specs.Prelude.{◌^◌, ◌<◌, unsigned_abs, IfOk};
+
+use crate::words::{Words, input_of, number_of, only_word};
+use std::alloc::{AllocError, Global};
+use wrp_base::{Four, Stamp, Tau};
+use wrp_exch::Exchange;
+use wrp_suite::{Answer, Case, Fault};
+
+// The exchange that a word tells.
+fn exchange_of(alloc: Global, word: &str) -> Result<Exchange, Fault> {
+    let ring = number_of::<usize>(word)?;
+    if ring < 1 || 4096 < ring {
+        return Err(Fault::Condition);
+    }
+    Ok(Exchange::new(alloc, ring)?)
+}
+
+// A time that an exchange takes: below `2^104` tau on either side.
+fn time_of(words: &mut Words<'_>) -> Result<Tau, Fault>
+    ensures { IfOk result (λ time. unsigned_abs time < 2 ^ 104) }
+{
+    let time = words.number::<i128>()?;
+    if time.unsigned_abs() < 1 << 104 {
+        Ok(time)
+    } else {
+        Err(Fault::Condition)
+    }
+}
+
+// A stamp: its time and its sample.
+fn stamp_of(words: &mut Words<'_>) -> Result<Stamp, Fault>
+    ensures { IfOk result (λ stamp. unsigned_abs stamp.value < 2 ^ 104) }
+{
+    let value = time_of(words)?;
+    let sample = words.number::<u32>()?;
+    Ok(Stamp { value, sample })
+}
+
+// A Sync.
+fn sync(exchange: &mut Exchange, words: &mut Words<'_>) -> Result<bool, Fault> {
+    let seq = words.number::<u16>()?;
+    let correction = words.number::<i64>()?;
+    let stamp = stamp_of(words)?;
+    let tick = words.number::<u32>()?;
+    Ok(exchange.sync(seq, correction, stamp, tick))
+}
+
+// The sending of a Delay_Req.
+fn req_sent(exchange: &mut Exchange, words: &mut Words<'_>) -> Result<bool, Fault> {
+    let seq = words.number::<u16>()?;
+    let stamp = stamp_of(words)?;
+    let tick = words.number::<u32>()?;
+    Ok(exchange.req_sent(seq, stamp, tick))
+}
+
+// A Follow_Up.
+fn follow_up(exchange: &mut Exchange, words: &mut Words<'_>) -> Result<bool, Fault> {
+    let seq = words.number::<u16>()?;
+    let precise = time_of(words)?;
+    Ok(exchange.follow_up(seq, precise))
+}
+
+// A Delay_Resp.
+fn resp(exchange: &mut Exchange, words: &mut Words<'_>) -> Result<bool, Fault> {
+    let seq = words.number::<u16>()?;
+    let t4 = time_of(words)?;
+    Ok(exchange.resp(seq, t4))
+}
+
+// A piece: whether it was kept.
+fn piece(exchange: &mut Exchange, name: &str, words: &mut Words<'_>) -> Result<bool, Fault> {
+    match name {
+        "sync" => sync(exchange, words),
+        "follow_up" => follow_up(exchange, words),
+        "req_sent" => req_sent(exchange, words),
+        "resp" => resp(exchange, words),
+        _ => Err(Fault::Input),
+    }
+}
+
+// A good sample.
+fn sample(exchange: &mut Exchange, words: &mut Words<'_>) -> Result<(), Fault> {
+    let number = words.number::<u32>()?;
+    let phase = words.number::<i64>()?;
+    exchange.sample(number, phase);
+    Ok(())
+}
+
+// Makes the call of a line. Answers whether its piece was kept, where it is one.
+fn make(exchange: &mut Exchange, line: &str) -> Result<Option<bool>, Fault> {
+    let mut words = Words::of(line);
+    let mut kept = None;
+    match words.word()? {
+        "start" => exchange.start(words.number::<u32>()?),
+        "clear" => exchange.clear(),
+        "reset" => exchange.reset(),
+        "sample" => sample(exchange, &mut words)?,
+        "req_out" => exchange.req_out(words.number::<u16>()?),
+        name => kept = Some(piece(exchange, name, &mut words)?),
+    }
+    words.end()?;
+    Ok(kept)
+}
+
+// A line with the matched four.
+fn four_line(alloc: Global, four: Option<Four>) -> Result<String, AllocError> {
+    let Some(four) = four else {
+        return "four none\n".to_string(alloc);
+    };
+    let Four {
+        t1,
+        t2,
+        t3,
+        t4,
+        u2,
+        u3,
+        tick,
+    } = four;
+    format!(in alloc; "four {t1} {t2} {t3} {t4} {u2} {u3} {tick}\n")
+}
+
+// What a call did.
+fn told(alloc: Global, exchange: &mut Exchange, line: &str) -> Result<String, Fault> {
+    let before = exchange.four();
+    let mut text = match make(exchange, line)? {
+        Some(true) => "kept\n".to_string(alloc)?,
+        Some(false) => "not kept\n".to_string(alloc)?,
+        None => String::new(alloc),
+    };
+    let after = exchange.four();
+    if before != after {
+        text.push_str(four_line(alloc, after)?.as_str())?;
+    }
+    Ok(text)
+}
+
+/// What an `Exchange` answers.
+pub fn answer(alloc: Global, case: &Case) -> Result<Answer, Fault> {
+    let mut exchange = exchange_of(alloc, only_word(case)?)?;
+    let mut text = String::new(alloc);
+    for line in input_of(case)?.split_terminator('\n') {
+        text.push_str(told(alloc, &mut exchange, line)?.as_str())?;
+    }
+    Ok(Answer::of(0, text))
+}

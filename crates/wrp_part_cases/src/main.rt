@@ -1,0 +1,53 @@
+//! `wrp_part_cases`: cases on the calls of the crates below a port: frames, TLVs, numbers, laws, phases, a link,
+//! verdicts on handshakes and exchanges. Each module tells what a case of its kind says.
+#![tactic(auto)]
+
+mod arithmetic;
+mod exchanges;
+mod frames;
+mod links;
+mod messages;
+mod numbers;
+mod printing;
+mod states;
+mod tables;
+mod tlvs;
+mod unwrapping;
+mod verdicts;
+mod words;
+
+use std::alloc::Global;
+use std::io;
+use std::process::ExitCode;
+use wrp_suite::{Answer, Case, Fault, Kinds, run_files};
+
+// The calls of the crates below a port.
+struct Parts;
+
+impl Kinds for Parts {
+    fn has(kind: &str) -> bool {
+        matches!(
+            kind,
+            "frame" | "tlv" | "numbers" | "table" | "unwrap" | "link" | "verdict" | "exchange"
+        )
+    }
+
+    fn answer(alloc: Global, case: &Case) -> Result<Answer, Fault> {
+        match case.kind.as_str() {
+            "frame" => frames::answer(alloc, case),
+            "tlv" => tlvs::answer(alloc, case),
+            "numbers" => numbers::answer(alloc, case),
+            "table" => tables::answer(alloc, case),
+            "unwrap" => unwrapping::answer(alloc, case),
+            "link" => links::answer(alloc, case),
+            "verdict" => verdicts::answer(alloc, case),
+            "exchange" => exchanges::answer(alloc, case),
+            _ => Err(Fault::Word),
+        }
+    }
+}
+
+fn main(rt: HostRuntime) -> io::Result<ExitCode> {
+    let passed = run_files::<Parts, HostRuntime>(&rt)?;
+    Ok(ExitCode::from(if passed { 0 } else { 1 }))
+}

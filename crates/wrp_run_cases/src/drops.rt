@@ -1,0 +1,58 @@
+//! A source that gives a few octets a call.
+ghost use Rattle.std.specs.Prelude.{◌≤◌, length};
+
+use wrp_io::{Failed, Source};
+
+/// A source of octets, that gives at most so many a call, and whose call of one number, counted from 1, fails.
+#[derive(Drop)]
+pub struct Drops<'a> {
+    octets: &'a [u8],
+    most: usize,
+    fails: u32,
+    calls: u32,
+    faults: u64,
+}
+
+impl<'a> Drops<'a> {
+    /// A source of these octets.
+    pub fn new(octets: &'a [u8], most: usize, fails: u32) -> Drops<'a> {
+        Drops {
+            octets,
+            most,
+            fails,
+            calls: 0,
+            faults: 0,
+        }
+    }
+
+    /// How many octets are left.
+    pub fn left(&self) -> usize {
+        self.octets.len()
+    }
+}
+
+// Moves the first octets of a slice into a buffer, as many as both have, and at most so many.
+fn give<'a>(octets: &'a [u8], buf: &mut [u8], most: usize) -> (&'a [u8], usize)
+    ensures { result.1 ≤ length buf.new }
+{
+    let count = buf.len().min(octets.len()).min(most);
+    let (given, left) = octets.split_at(count);
+    buf[..count].copy_from_slice(given);
+    (left, count)
+}
+
+impl<'a> Source for Drops<'a> {
+    ghost faults = { λ s. s.faults };
+
+    fn read(&mut self, buf: &mut [u8]) -> Result<usize, Failed> {
+        let faults = self.faults;
+        self.calls = self.calls.saturating_add(1);
+        if self.calls == self.fails {
+            self.faults = faults.saturating_add(1);
+            return Err(Failed);
+        }
+        let (left, count) = give(self.octets, buf, self.most);
+        self.octets = left;
+        Ok(count)
+    }
+}

@@ -1,0 +1,41 @@
+//! `wrp_run_cases`: cases on the top call, of four kinds. A case `run` hands its words and its input to `run`, and what
+//! the sink takes and the number of the status are due; `tracks` tells the bounds of a run's `track` lines; a `projection`
+//! replays what an audit gives each of its nodes; and `number` tells the number of a status. Each case that differs is told
+//! on standard error, and `N passed, M failed` is printed; the process ends with 1 where one failed.
+#![tactic(auto)]
+
+mod drops;
+mod projections;
+mod running;
+mod runs;
+mod sips;
+mod statuses;
+mod tracks;
+
+use std::alloc::Global;
+use std::io;
+use std::process::ExitCode;
+use wrp_suite::{Answer, Case, Fault, Kinds, run_files};
+
+/// The top call.
+struct TopCall;
+
+impl Kinds for TopCall {
+    fn has(kind: &str) -> bool {
+        matches!(kind, "run" | "tracks" | "projection" | "number")
+    }
+
+    fn answer(alloc: Global, case: &Case) -> Result<Answer, Fault> {
+        match case.kind.as_str() {
+            "run" => Ok(runs::answer(alloc, case)?),
+            "tracks" => Ok(tracks::answer(alloc, case)?),
+            "projection" => projections::answer(alloc, case),
+            _ => statuses::answer(alloc, case),
+        }
+    }
+}
+
+fn main(rt: HostRuntime) -> io::Result<ExitCode> {
+    let passed = run_files::<TopCall, HostRuntime>(&rt)?;
+    Ok(ExitCode::from(if passed { 0 } else { 1 }))
+}

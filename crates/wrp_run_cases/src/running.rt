@@ -1,0 +1,73 @@
+//! Runs of the top call.
+use crate::drops::Drops;
+use crate::sips::Sips;
+use std::alloc::{AllocError, Global};
+use wrp_io::MemLink;
+use wrp_run::{Status, run};
+
+/// How octets come and go in a run. A call of number 0 is none.
+#[derive(Clone, Copy)]
+pub struct Way {
+    /// How many octets the source gives at most at a call.
+    pub gives: usize,
+    /// The call of the source that fails, counted from 1.
+    pub source: u32,
+    /// How many octets the sink takes at most at a call.
+    pub takes: usize,
+    /// The call of the sink that fails, counted from 1.
+    pub sink: u32,
+    /// For how many octets the sink has room.
+    pub room: usize,
+}
+
+/// Whatever is asked for comes and goes at once.
+pub const AT_ONCE: Way = Way {
+    gives: usize::MAX,
+    source: 0,
+    takes: usize::MAX,
+    sink: 0,
+    room: usize::MAX,
+};
+
+/// A run that has ended.
+#[derive(Drop)]
+pub struct Ended {
+    /// Its status.
+    pub status: Status,
+    /// What the sink took.
+    pub octets: Vec<u8>,
+    /// How many octets are left in the source.
+    pub left: usize,
+}
+
+/// Words by reference.
+pub fn borrowed<'a>(alloc: Global, words: &'a [String]) -> Result<Vec<&'a str>, AllocError> {
+    let mut texts = Vec::new(alloc);
+    for word in words {
+        texts.push(word.as_str())?;
+    }
+    Ok(texts)
+}
+
+// What a run answers. It stands alone, since the contract of `run` is long: what calls it is proved beside all of it.
+fn status_of(
+    alloc: Global,
+    words: &[&str],
+    source: &mut Drops<'_>,
+    sink: &mut Sips,
+) -> Result<Status, AllocError> {
+    let mut link = MemLink::new(alloc, 0, Vec::new(alloc))?;
+    Ok(run(alloc, words, source, sink, &mut link))
+}
+
+/// A run of these words over an input.
+pub fn ran(alloc: Global, words: &[&str], input: &[u8], way: Way) -> Result<Ended, AllocError> {
+    let mut source = Drops::new(input, way.gives, way.source);
+    let mut sink = Sips::new(alloc, way.room, way.takes, way.sink);
+    let status = status_of(alloc, words, &mut source, &mut sink)?;
+    Ok(Ended {
+        status,
+        octets: sink.into_taken(),
+        left: source.left(),
+    })
+}

@@ -1,6 +1,0 @@
--- The scenario stays one of the network.
-use Rattle.wrp_sim.specs.Scenario.{IsSceneOf}
-use Rattle.wrp_sim_tests.proofs.scenarios.scene_of.Given as goal
-
-abbrev pub invariant-loop-line : goal.invariant-loop-line
-invariant-loop-line l = IsSceneOf l.net.cfg l.scene

@@ -1,5 +1,0 @@
-//! Tests of the simulator. They stand here since a crate with tests of its own is proved twice.
-#![tactic(auto)]
-
-#[cfg(test)]
-mod scenarios;

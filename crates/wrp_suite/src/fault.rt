@@ -1,0 +1,57 @@
+//! Why a line of a case file, or a case, is refused.
+use std::alloc::{AllocError, AllocFailed};
+use std::fmt;
+
+/// Why a line of a case file, or a case, is refused.
+#[derive(Clone, Copy, Debug, PartialEq, Eq)]
+pub enum Fault {
+    /// There was no memory.
+    Memory,
+    /// The line begins with no word that is known.
+    Word,
+    /// A number is none, or too large.
+    Number,
+    /// Octets are no hex.
+    Hex,
+    /// No text of this name stands before.
+    NoText,
+    /// A text of this name stands before.
+    Twice,
+    /// The part that is to be replaced does not stand in the input.
+    NoPart,
+    /// The cases are more or fewer than the closing count says.
+    Count,
+    /// The words or the input of the case are none that its call takes.
+    Input,
+    /// The condition of the call does not hold.
+    Condition,
+}
+
+impl fmt::Display for Fault {
+    fn fmt<W: fmt::Write>(&self, f: &mut fmt::Formatter<W>) -> fmt::Result {
+        match self {
+            Fault::Memory => write!(f, "out of memory"),
+            Fault::Word => write!(f, "no line of a case file"),
+            Fault::Number => write!(f, "no number"),
+            Fault::Hex => write!(f, "no hex"),
+            Fault::NoText => write!(f, "no such text"),
+            Fault::Twice => write!(f, "a text of this name stands before"),
+            Fault::NoPart => write!(f, "the part to be replaced is not in the input"),
+            Fault::Count => write!(f, "another number of cases"),
+            Fault::Input => write!(f, "no words or input of such a case"),
+            Fault::Condition => write!(f, "the condition of the call does not hold"),
+        }
+    }
+}
+
+impl From<AllocError> for Fault {
+    fn from(_e: AllocError) -> Fault {
+        Fault::Memory
+    }
+}
+
+impl<T: Drop> From<AllocFailed<T>> for Fault {
+    fn from(_e: AllocFailed<T>) -> Fault {
+        Fault::Memory
+    }
+}

@@ -1,0 +1,127 @@
+//! The run of a program of cases.
+use crate::answer::Answer;
+use crate::case::Case;
+use crate::difference::{agrees, difference};
+use crate::fault::Fault;
+use crate::suite::Suite;
+use std::alloc::Global;
+use std::rt::{Env, Files};
+use std::{env, fs, io};
+
+/// The calls that a program of cases can make.
+pub trait Kinds {
+    /// Whether a word names one of them.
+    fn has(kind: &str) -> bool;
+    /// Makes the call of a case whose word is one of them. A case that is none of the call's, or whose condition does
+    /// not hold, is refused.
+    fn answer(alloc: Global, case: &Case) -> Result<Answer, Fault>;
+}
+
+/// How many cases passed, and how many failed.
+#[derive(Clone, Copy, Debug, PartialEq, Eq)]
+struct Counts {
+    passed: u32,
+    failed: u32,
+}
+
+impl Counts {
+    // Counts a case that passed.
+    fn pass(&mut self) {
+        self.passed = self.passed.saturating_add(1);
+    }
+
+    // Counts a case, or a line, that failed.
+    fn fail(&mut self) {
+        self.failed = self.failed.saturating_add(1);
+    }
+}
+
+// What is told of a case: nothing where its answer is what is due.
+fn told_of<K: Kinds>(alloc: Global, case: &Case) -> Result<Option<String>, Fault> {
+    if !K::has(case.kind.as_str()) {
+        return Err(Fault::Word);
+    }
+    let came = K::answer(alloc, case)?;
+    if agrees(case, &came) {
+        return Ok(None);
+    }
+    Ok(Some(difference(alloc, case, &came)?))
+}
+
+// Runs a case, and prints how it differs.
+fn run_case<K: Kinds, R: AllocGlobal + Eprint>(
+    rt: &R,
+    counts: &mut Counts,
+    file: &str,
+    case: &Case,
+) -> io::Result<()> {
+    let name = case.name.as_str();
+    match told_of::<K>(rt.alloc(), case) {
+        Ok(None) => {
+            counts.pass();
+            return Ok(());
+        }
+        Ok(Some(told)) => eprintln!(rt; "{file}: {told}")?,
+        Err(fault) => eprintln!(rt; "{file}: {name}: {fault}")?,
+    }
+    counts.fail();
+    Ok(())
+}
+
+// Takes the lines of one file, and runs each case as it ends.
+fn take_lines<K: Kinds, R: AllocGlobal + Eprint>(
+    rt: &R,
+    suite: &mut Suite,
+    counts: &mut Counts,
+    file: &str,
+    text: &str,
+) -> io::Result<()> {
+    let mut number = 0u64;
+    for line in text.split('\n') {
+        number = number.saturating_add(1);
+        match suite.take(rt.alloc(), line) {
+            Ok(None) => {}
+            Ok(Some(case)) => run_case::<K, R>(rt, counts, file, &case)?,
+            Err(fault) => {
+                counts.fail();
+                eprintln!(rt; "{file}:{number}: {fault}")?;
+            }
+        }
+    }
+    Ok(())
+}
+
+// Runs the cases of one file.
+fn run_file<K: Kinds, R: AllocGlobal + Eprint + Files>(
+    rt: &R,
+    suite: &mut Suite,
+    counts: &mut Counts,
+    file: &str,
+) -> io::Result<()> {
+    let text = fs::read_to_string(rt, file)?;
+    suite.open();
+    take_lines::<K, R>(rt, suite, counts, file, text.as_str())?;
+    if !suite.is_closed() {
+        counts.fail();
+        eprintln!(rt; "{file}: it has no closing count")?;
+    }
+    Ok(())
+}
+
+/// Runs the cases of the files that the words after the program's name name, in their order. It tells of each that
+/// differs on standard error, prints `N passed, M failed`, and answers whether some passed and none failed.
+pub fn run_files<K: Kinds, R: AllocGlobal + Env + Eprint + Files + Print>(
+    rt: &R,
+) -> io::Result<bool> {
+    let mut suite = Suite::new(rt.alloc());
+    let mut counts = Counts {
+        passed: 0,
+        failed: 0,
+    };
+    for file in env::args(rt)?.skip(1) {
+        run_file::<K, R>(rt, &mut suite, &mut counts, file.as_str())?;
+    }
+    let Counts { passed, failed } = counts;
+    println!(rt; "{passed} passed, {failed} failed")?;
+    Ok(failed == 0 && passed > 0)
+}

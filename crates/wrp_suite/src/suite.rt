@@ -1,0 +1,202 @@
+//! Case files, line by line. A line of one is empty, or a comment that begins with `#`, or begins with a word:
+//!
+//!     text NAME       a text for the cases behind it, which is its input
+//!     KIND NAME       a case on the call of this kind
+//!     words A B ..    its words
+//!     word A          one more word, which may have blanks
+//!     < LINE          a line of its input (`pieces` has the other forms)
+//!     - PART          a part of its input, the first time it stands there, which is replaced by
+//!     + OTHER         this
+//!     room N          a number that it sets: `room`, `source`, `sink`, `gives`, `takes` or `left`
+//!     status N        the number that is due, 0 where it is left out
+//!     > LINE          a line that is due
+//!     end N           the end of the file, behind so many cases
+use crate::case::{Case, Setting};
+use crate::fault::Fault;
+use crate::pieces::{Text, push_part, push_piece, replaced, text_named};
+use std::alloc::{AllocError, Global};
+use std::mem;
+
+/// The case files of a program, one after the other.
+#[derive(Drop)]
+pub struct Suite {
+    texts: Vec<Text>,
+    case: Option<Case>,
+    // The cases of this file that have ended, and whether its closing count has come.
+    ended: u32,
+    closed: bool,
+}
+
+// Puts a part of the input in place of another, where a case says so.
+fn mend(alloc: Global, case: &mut Case) -> Result<(), Fault> {
+    if !case.cut.is_empty() {
+        case.input = replaced(alloc, &case.input, case.cut.as_str(), case.put.as_str())?;
+    }
+    Ok(())
+}
+
+// Appends the words of a line.
+fn push_words(alloc: Global, words: &mut Vec<String>, line: &str) -> Result<(), AllocError> {
+    for word in line.split(' ') {
+        if !word.is_empty() {
+            words.push(word.to_string(alloc)?)?;
+        }
+    }
+    Ok(())
+}
+
+// Appends what a line gives to the input of a case, or to what is due.
+fn push_octets(
+    alloc: Global,
+    case: &mut Case,
+    texts: &[Text],
+    head: &str,
+    rest: &str,
+) -> Result<(), Fault> {
+    if let Some(how) = head.strip_prefix('<') {
+        return push_piece(alloc, &mut case.input, texts, how, rest);
+    }
+    match head.strip_prefix('>') {
+        Some(how) => push_piece(alloc, &mut case.due, texts, how, rest),
+        None => Err(Fault::Word),
+    }
+}
+
+// Sets a number of a case.
+fn set(alloc: Global, case: &mut Case, name: &str, text: &str) -> Result<(), Fault> {
+    let Ok(value) = text.parse::<u32>() else {
+        return Err(Fault::Number);
+    };
+    let name = name.to_string(alloc)?;
+    case.settings.push(Setting { name, value })?;
+    Ok(())
+}
+
+// Takes a line of a case.
+fn take_part(
+    alloc: Global,
+    case: &mut Case,
+    texts: &[Text],
+    head: &str,
+    rest: &str,
+) -> Result<(), Fault> {
+    match head {
+        "words" => Ok(push_words(alloc, &mut case.words, rest)?),
+        "word" => Ok(case.words.push(rest.to_string(alloc)?)?),
+        "-" => Ok(push_part(&mut case.cut, rest)?),
+        "+" => Ok(push_part(&mut case.put, rest)?),
+        "room" | "source" | "sink" | "gives" | "takes" | "left" => set(alloc, case, head, rest),
+        "status" => {
+            case.status = rest.parse::<u8>().ok().ok_or(Fault::Number)?;
+            Ok(())
+        }
+        _ => push_octets(alloc, case, texts, head, rest),
+    }
+}
+
+// Whether a word begins a line of a case.
+fn is_part(head: &str) -> bool {
+    head.starts_with(['<', '>', '-', '+'])
+        || matches!(
+            head,
+            "words" | "word" | "room" | "source" | "sink" | "gives" | "takes" | "left" | "status"
+        )
+}
+
+impl Suite {
+    /// No file yet.
+    pub fn new(alloc: Global) -> Suite {
+        Suite {
+            texts: Vec::new(alloc),
+            case: None,
+            ended: 0,
+            closed: true,
+        }
+    }
+
+    /// Begins a file. A case that an earlier file left open is no case; texts of earlier files stay.
+    pub fn open(&mut self) {
+        self.case = None;
+        self.ended = 0;
+        self.closed = false;
+    }
+
+    /// Whether a file is at its end: its closing count has come, and nothing behind it.
+    pub fn is_closed(&self) -> bool {
+        self.closed
+    }
+
+    // Begins a case, or a text.
+    fn begin(&mut self, alloc: Global, kind: &str, name: &str) -> Result<(), Fault> {
+        let mut case = Case::new(alloc);
+        case.kind.push_str(kind)?;
+        case.name.push_str(name)?;
+        self.case = Some(case);
+        self.closed = false;
+        Ok(())
+    }
+
+    // Keeps a text, of a name that no other has.
+    fn keep(&mut self, alloc: Global, mut case: Case) -> Result<(), Fault> {
+        if text_named(&self.texts, case.name.as_str()).is_some() {
+            return Err(Fault::Twice);
+        }
+        let name = mem::replace(&mut case.name, String::new(alloc));
+        let octets = mem::replace(&mut case.input, Vec::new(alloc));
+        self.texts.push(Text { name, octets })?;
+        Ok(())
+    }
+
+    // Ends the case that has begun: keeps a text, and gives any other.
+    fn end_case(&mut self, alloc: Global) -> Result<Option<Case>, Fault> {
+        let Some(mut case) = self.case.take() else {
+            return Ok(None);
+        };
+        if case.kind.as_str() != "text" {
+            self.ended = self.ended.saturating_add(1);
+        }
+        mend(alloc, &mut case)?;
+        if case.kind.as_str() != "text" {
+            return Ok(Some(case));
+        }
+        self.keep(alloc, case)?;
+        Ok(None)
+    }
+
+    // Takes the closing count.
+    fn close(&mut self, count: &str) -> Result<(), Fault> {
+        self.closed = true;
+        if count.parse::<u32>().ok() == Some(self.ended) {
+            Ok(())
+        } else {
+            Err(Fault::Count)
+        }
+    }
+
+    // Takes a line of the case that has begun.
+    fn take_line(&mut self, alloc: Global, head: &str, rest: &str) -> Result<(), Fault> {
+        match &mut self.case {
+            Some(case) => take_part(alloc, case, &self.texts, head, rest),
+            None => Err(Fault::Word),
+        }
+    }
+
+    /// Takes a line of a file. It gives the case that ends with it. A line that is refused is no line of any case.
+    pub fn take(&mut self, alloc: Global, line: &str) -> Result<Option<Case>, Fault> {
+        if line.is_empty() || line.starts_with('#') {
+            return Ok(None);
+        }
+        let (head, rest) = line.split_once(' ').unwrap_or((line, ""));
+        if is_part(head) {
+            self.take_line(alloc, head, rest)?;
+            return Ok(None);
+        }
+        let ended = self.end_case(alloc);
+        if head == "end" {
+            self.close(rest)?;
+        } else {
+            self.begin(alloc, head, rest)?;
+        }
+        ended
+    }
+}

@@ -1,3 +1,0 @@
-//! The unwrapped phase and the deglitched tag, worked out by hand.
-mod detector;
-mod unwrap;
