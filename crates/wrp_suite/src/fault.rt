@@ -19,8 +19,6 @@ pub enum Fault {
     Twice,
     /// The part that is to be replaced does not stand in the input.
     NoPart,
-    /// The cases are more or fewer than the closing count says.
-    Count,
     /// The words or the input of the case are none that its call takes.
     Input,
     /// The condition of the call does not hold.
@@ -37,7 +35,6 @@ impl fmt::Display for Fault {
             Fault::NoText => write!(f, "no such text"),
             Fault::Twice => write!(f, "a text of this name stands before"),
             Fault::NoPart => write!(f, "the part to be replaced is not in the input"),
-            Fault::Count => write!(f, "another number of cases"),
             Fault::Input => write!(f, "no words or input of such a case"),
             Fault::Condition => write!(f, "the condition of the call does not hold"),
         }

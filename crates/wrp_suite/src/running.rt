@@ -103,7 +103,7 @@ fn run_file<K: Kinds, R: AllocGlobal + Eprint + Files>(
     take_lines::<K, R>(rt, suite, counts, file, text.as_str())?;
     if !suite.is_closed() {
         counts.fail();
-        eprintln!(rt; "{file}: it has no closing count")?;
+        eprintln!(rt; "{file}: its closing count is missing, or another")?;
     }
     Ok(())
 }

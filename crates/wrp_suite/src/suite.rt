@@ -121,7 +121,7 @@ impl Suite {
         self.closed = false;
     }
 
-    /// Whether a file is at its end: its closing count has come, and nothing behind it.
+    /// Whether a file is at its end: its closing count has come, is right, and nothing stands behind it.
     pub fn is_closed(&self) -> bool {
         self.closed
     }
@@ -163,14 +163,9 @@ impl Suite {
         Ok(None)
     }
 
-    // Takes the closing count.
-    fn close(&mut self, count: &str) -> Result<(), Fault> {
-        self.closed = true;
-        if count.parse::<u32>().ok() == Some(self.ended) {
-            Ok(())
-        } else {
-            Err(Fault::Count)
-        }
+    // Takes the closing count: the file is at its end where so many cases have ended.
+    fn close(&mut self, count: &str) {
+        self.closed = count.parse::<u32>().ok() == Some(self.ended);
     }
 
     // Takes a line of the case that has begun.
@@ -193,7 +188,7 @@ impl Suite {
         }
         let ended = self.end_case(alloc);
         if head == "end" {
-            self.close(rest)?;
+            self.close(rest);
         } else {
             self.begin(alloc, head, rest)?;
         }
