@@ -11,3 +11,4 @@ pub mod KeptPairs
 pub mod KeptModules
 pub mod KeptFibres
 pub mod Migration
+pub mod OneText

@@ -1,8 +1,9 @@
 -- The text of version 2 that a database is written as (this project's profile).
-use Rattle.std.specs.Prelude.{◌≡◌, ℕ, ℤ, pos, List, Option, Some, None, map, min, codes, Result, Ok, Err}
+use Rattle.std.specs.Prelude.{◌≡◌, ℕ, ℤ, pos, List, Option, Some, None, map, min, codes, false, Result, Ok, Err}
 use Rattle.std.specs.Ordering.{nat_cmp, match_ordering}
 use Rattle.std.specs.Cmp.Lexicographic.{slice_cmp}
 use Rattle.toml.specs.Data.{Data, string, integer, array, table, no_items, item, Members, no_members, member}
+use Rattle.toml.specs.Text.{IsDocumentText}
 use Rattle.toml.specs.View.{items_of}
 use Rattle.wrp_caldb.specs.Calibration.{IsAccepted}
 use Rattle.wrp_caldb.specs.Database.{Database, ModuleAt, FibreAt, TableAt, database_of}
@@ -65,6 +66,15 @@ document_of db =
     member (codes "fibre") (array (items_of (map (λ f. table (fibre_members f)) db.fibres)))
     (member (codes "module") (array (items_of (map (λ m. table (module_members m)) db.modules)))
     (member (codes "version") (number 2) no_members))
+
+-- the octets are what `toml` writes for the document of a database: the values of a table, in the order
+-- of their keys' octets and each on one line, before its arrays of tables, whose tables have headers
+abbrev pub IsTextDue : Database → List ℕ → Type 0
+IsTextDue db octets = IsDocumentText false (document_of db) octets
+
+-- two such texts of one database are the same octets
+abbrev pub OneText : Type 0
+OneText = (db : Database) (octets other : List ℕ) → IsTextDue db octets → IsTextDue db other → octets ≡ other
 
 -- the database is that of an accepted text
 abbrev pub IsListed : Database → Type 0

@@ -1,13 +1,14 @@
 //! A database as a calibration text of version 2.
-ghost use Rattle.std.specs.Prelude.{◌≡◌, ◌≤◌, Some, Result, IfOk, OnOk, map, string_bytes};
+ghost use Rattle.std.specs.Prelude.{◌≡◌, ◌≤◌, ℕ, List, Some, Result, IfOk, OnOk, false, map, string_bytes};
 ghost use Rattle.wrp_base.specs.declared.fault.ConfFault.{ConfFault};
 ghost use Rattle.wrp_caldb.specs.Database.{Database};
 ghost use Rattle.std.specs.Str.{IsUtf8};
 ghost use Rattle.toml.specs.Data.{array, table, no_members, members_depth};
 ghost use Rattle.toml.specs.Parse.{parse_document};
+ghost use Rattle.toml.specs.Text.{IsDocumentText};
 ghost use Rattle.toml.specs.View.{view, items_of, table_view};
 ghost use Rattle.wrp_caldb.specs.Reading.{IsTextOf, IsReadingOf};
-ghost use Rattle.wrp_caldb.specs.Text.{number, with_member, pair_members, module_members, point_data, linear_members, fibre_members, document_of, IsSame};
+ghost use Rattle.wrp_caldb.specs.Text.{number, with_member, pair_members, module_members, point_data, linear_members, fibre_members, document_of, IsTextDue, IsSame};
 
 use crate::database::{CalDb, Entry, ListedFibre, ListedModule};
 use std::alloc::{AllocError, Global};
@@ -179,9 +180,10 @@ fn document_of(alloc: Global, database: &CalDb) -> Result<Table, AllocError>
     Ok(document)
 }
 
-// A table printed, which reads back as the same where it is not too deep.
+// A table printed as `toml` does, which reads back as the same where it is not too deep.
 fn printed(alloc: Global, document: &Table) -> Result<String, AllocError>
-    ensures { IfOk result (λ text. members_depth (table_view document.now) ≤ 80
+    ensures printed { IfOk result (λ text. IsDocumentText false (table_view document.now) (string_bytes text)) }
+    ensures reads_back { IfOk result (λ text. members_depth (table_view document.now) ≤ 80
         → parse_document (string_bytes text) ≡ Some (table_view document.now)) }
 {
     match toml::table_to_string(alloc, document) {
@@ -202,7 +204,10 @@ fn octets_of(text: String) -> Vec<u8>
 impl CalDb {
     /// The database as a calibration text of version 2, as `toml` prints it. A module of version 1
     /// has one pair there, of the wavelengths 0 and 0. Reading the text gives the same database.
+    /// No other octets are what `toml` prints for this database.
     pub fn text(&self, alloc: Global) -> Result<Vec<u8>, AllocError>
+        ensures due { IfOk result (λ octets. IsTextDue self.now octets.items) }
+        ensures only { IfOk result (λ octets. (other : List ℕ) → IsTextDue self.now other → other ≡ octets.items) }
         ensures text { IfOk result (λ octets. IsTextOf (document_of self.now) octets.items) }
         ensures same { IfOk result (λ octets. (answer : Result Database ConfFault)
             → IsReadingOf octets.items answer → IsSame self.now answer) }
