@@ -11,4 +11,5 @@ pub mod KeptPairs
 pub mod KeptModules
 pub mod KeptFibres
 pub mod Migration
+pub mod PlainTexts
 pub mod OneText

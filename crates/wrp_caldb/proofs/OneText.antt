@@ -1,183 +1,194 @@
--- A database has one text: a document leaves a choice only where a float stands, and none does here.
-use Rattle.std.proofs.Common.{◌≡◌, ◌++◌, ℕ, ℤ, List, [], ◌∷◌, Bool, true, false, Option, None, Some, map, sym, ap, ap₂, ◌∙◌}
-use Rattle.std.specs.Prelude.{codes, if◌then◌else◌}
-use Rattle.toml.specs.Data.{Data, string, integer, float, boolean, datetime, array, table, Items, no_items, item, Members, no_members, member}
-use Rattle.toml.specs.Tables.{Definition, key_value, std_table, array_table, Expression}
-use Rattle.toml.specs.Text.{IsValueText, IsItemsText, IsMembersText, IsLineText, IsLinesText, IsDocumentText, breaks_lines, before_item, after_item, is_section, are_tables, needs_header, header_of, pairs, sections, section, elements, expressions}
+-- A database of an accepted text has exactly one text.
+use Rattle.std.proofs.Common.{◌≡◌, ◌<◌, ◌+◌, ◌&&◌, ◌^◌, take, lit<, ℕ, ℤ, pos, negsuc, neg_ℤ, List, [], ◌∷◌, Bool, true, false, Option, None, Some, map, min, option_map, refl, sym, ap, subst, ◌∙◌, arith}
+use Rattle.std.proofs.lemmas.Bool.{and_parts}
+use Rattle.std.proofs.lemmas.Int.{ints, fits_signed_from_abs}
+use Rattle.std.specs.Int.{w64}
+use Rattle.std.specs.Int.Signed.{le_z}
+use Rattle.std.specs.List.{list_all}
+use Rattle.std.specs.Option.{is_some, option_or}
+use Rattle.std.specs.Prelude.{codes, option_and_then, unwrap_or, if◌then◌else◌}
+use Rattle.toml.specs.Data.{Data, table, Members, as_integer, get_member, is_before}
 use Rattle.toml.specs.View.{items_of}
-use Rattle.wrp_caldb.specs.Database.{Database, ModuleAt, FibreAt, TableAt}
-use Rattle.wrp_caldb.specs.Text.{pair_members, module_members, point_data, table_members, fibre_members, document_of, OneText}
+use Rattle.wrp_caldb.specs.Calibration.{module_key, fibre_key, fibre_name_key, kappa_key, fibre_err_key, table_err_key, table_key, law_of, fibre_keys, version_of, place_in_fibre, place_in_fibres, place_in_modules, place_in_lists, place_in_top, IsAccepted}
+use Rattle.wrp_caldb.specs.Database.{Database, ModuleAt, FibreAt, TableAt, each_table, fibre_of, natural_at, database_of}
+use Rattle.wrp_caldb.specs.Key.{Key}
+use Rattle.wrp_caldb.specs.Points.{values_of, stored_points, is_sound, has_bounds, is_near, is_table, rises}
+use Rattle.wrp_caldb.specs.Refusal.{place_of_keys, place_in_table, on_table, first_among}
+use Rattle.wrp_caldb.specs.Repeats.{place_of_name}
+use Rattle.wrp_caldb.specs.Rows.{has_fault, in_range, number_in, tables_of, tables_at}
+use Rattle.wrp_caldb.specs.Text.{pair_members, module_members, point_data, table_members, fibre_members, document_of, OneText, EachHasText}
 use Rattle.wrp_caldb.specs.declared.database.Entry.{Entry}
+use Rattle.wrp_caldb.specs.declared.keys.Others.{Others}
+use Rattle.wrp_caldb.specs.declared.place.At.TheVariants as tables
+use Rattle.wrp_caldb.specs.declared.row.Code.TheVariants as co
+use Rattle.wrp_caldb.specs.declared.row.Linear.{Linear}
+use Rattle.wrp_caldb.proofs.Kept.{none_parts, not_false, find_parts, at_fault, no_key, members_in, tables_of-members, each_table-map}
+use Rattle.wrp_caldb.proofs.PlainTexts.{ItemsArePlain, MembersArePlain, Fits, one_document, document_text}
 
--- a key of several parts
-abbrev Key : Type 0
-Key = List (List ℕ) × List ℕ
+-- ---- the document of a database is plain where the numbers of its fibres are
 
--- no float stands in the value
-abbrev mutual
-  HasNoFloat : Data → Type 0
-  HasNoFloat (float x) = ⊥
-  HasNoFloat (array ds) = ItemsHaveNoFloat ds
-  HasNoFloat (table ms) = MembersHaveNoFloat ms
-  HasNoFloat _ = Unit {0}
+abbrev PointsAre : (ℤ → Type 0) → List (ℤ × ℤ) → Type 0
+PointsAre Q [] = Unit {0}
+PointsAre Q (p ∷ ps) = Q p.0 × Q p.1 × PointsAre Q ps
 
-  ItemsHaveNoFloat : Items → Type 0
-  ItemsHaveNoFloat no_items = Unit {0}
-  ItemsHaveNoFloat (item d ds) = HasNoFloat d × ItemsHaveNoFloat ds
+abbrev TableIs : (ℤ → Type 0) → Option TableAt → Type 0
+TableIs Q None = Unit {0}
+TableIs Q (Some t) = PointsAre Q t.points
 
-  MembersHaveNoFloat : Members → Type 0
-  MembersHaveNoFloat no_members = Unit {0}
-  MembersHaveNoFloat (member k d ms) = HasNoFloat d × MembersHaveNoFloat ms
+abbrev FibresAre : (ℤ → Type 0) → List FibreAt → Type 0
+FibresAre Q [] = Unit {0}
+FibresAre Q (f ∷ fs) = Q f.fibre.kappa × TableIs Q f.table × FibresAre Q fs
 
--- ---- a value without floats has one text
+-- a number from 0 on, as it is written
+abbrev AreWritten : (ℤ → Type 0) → Type 0
+AreWritten Q = (n : ℕ) → Q (pos (min n 9_223_372_036_854_775_807))
 
-mutual
-  one_value : (pretty : Bool) (d : Data) (a b : List ℕ) → HasNoFloat d → IsValueText pretty d a → IsValueText pretty d b → a ≡ b
-  one_value pretty (string s) a b none e f = e ∙ sym f
-  one_value pretty (integer z) a b none e f = e.0 ∙ sym f.0
-  one_value pretty (float x) a b none e f = absurd none
-  one_value pretty (boolean c) a b none e f = e ∙ sym f
-  one_value pretty (datetime dt) a b none e f = e ∙ sym f
-  one_value pretty (array ds) a b none e f =
-      e.1 ∙ ap (λ rest. codes "[" ++ rest) (one_items pretty (breaks_lines pretty ds) true ds e.0 f.0 none e.2 f.2) ∙ sym f.1
-  one_value pretty (table ms) a b none e f =
-      e.1 ∙ ap (λ rest. codes "{" ++ rest) (one_members pretty true ms e.0 f.0 none e.2 f.2) ∙ sym f.1
+plain_points : (Q : ℤ → Type 0) (ps : List (ℤ × ℤ)) → PointsAre Q ps → ItemsArePlain Q (items_of (map point_data ps))
+plain_points Q [] h = tt
+plain_points Q (p ∷ ps) h = ((h.0, (h.1, tt)), plain_points Q ps h.2)
 
-  one_items : (pretty lines is_first : Bool) (ds : Items) (a b : List ℕ) → ItemsHaveNoFloat ds
-      → IsItemsText pretty lines is_first ds a → IsItemsText pretty lines is_first ds b → a ≡ b
-  one_items pretty lines is_first no_items a b none e f = e ∙ sym f
-  one_items pretty lines is_first (item d ds) a b none e f =
-      e.2
-      ∙ ap₂ (λ this rest. before_item lines is_first ++ (this ++ (after_item lines ++ rest)))
-      (one_value pretty d e.0 f.0 none.0 e.3 f.3) (one_items pretty lines false ds e.1 f.1 none.1 e.4 f.4)
-      ∙ sym f.2
+name_before : (t : Option TableAt) → is_before (codes "name") (table_members t) ≡ true
+name_before None = refl
+name_before (Some t) = refl
 
-  one_members : (pretty is_first : Bool) (ms : Members) (a b : List ℕ) → MembersHaveNoFloat ms
-      → IsMembersText pretty is_first ms a → IsMembersText pretty is_first ms b → a ≡ b
-  one_members pretty is_first no_members a b none e f = e ∙ sym f
-  one_members pretty is_first (member k d ms) a b none (this, rest, e, v, vs, sorted) (that, more, f, w, ws, also) =
-      let same_value = one_value pretty d this that none.0 v w in
-      let same_rest = one_members pretty false ms rest more none.1 vs ws in
-      cc
+plain_table : (Q : ℤ → Type 0) → AreWritten Q → (t : Option TableAt) → TableIs Q t → MembersArePlain Q (table_members t)
+plain_table Q w None h = tt
+plain_table Q w (Some t) h = (plain_points Q t.points h, (w t.err, tt, refl), refl)
 
--- ---- lines without floats have one text
+plain_fibres : (Q : ℤ → Type 0) → AreWritten Q → (fs : List FibreAt) → FibresAre Q fs
+    → ItemsArePlain Q (items_of (map (λ f. table (fibre_members f)) fs))
+plain_fibres Q w [] h = tt
+plain_fibres Q w (f ∷ fs) h =
+    ((w f.fibre.err, (h.0, (tt, plain_table Q w f.table h.1, name_before f.table), refl), refl), plain_fibres Q w fs h.2)
 
--- no float stands in what the line says
-abbrev SaysNoFloat : Definition → Type 0
-SaysNoFloat (key_value d) = HasNoFloat d
-SaysNoFloat std_table = Unit {0}
-SaysNoFloat array_table = Unit {0}
+plain_pair : (Q : ℤ → Type 0) → AreWritten Q → (e : Entry) → MembersArePlain Q (pair_members e)
+plain_pair Q w e =
+    let d = e.delays in
+    (w d.err, (w d.rx, (w e.rx_nm, (w d.transition, (w d.tx, (w e.tx_nm, tt, refl), refl), refl), refl), refl), refl)
 
-abbrev LinesHaveNoFloat : List Expression → Type 0
-LinesHaveNoFloat [] = Unit {0}
-LinesHaveNoFloat (x ∷ xs) = SaysNoFloat x.1 × LinesHaveNoFloat xs
+plain_pairs : (Q : ℤ → Type 0) → AreWritten Q → (es : List Entry) → ItemsArePlain Q (items_of (map (λ e. table (pair_members e)) es))
+plain_pairs Q w [] = tt
+plain_pairs Q w (e ∷ es) = (plain_pair Q w e, plain_pairs Q w es)
 
-one_line : (pretty started : Bool) (key : Key) (x : Definition) (a b : List ℕ) → SaysNoFloat x
-    → IsLineText pretty started key x a → IsLineText pretty started key x b → a ≡ b
-one_line pretty started key (key_value d) a b none (this, e, v) (that, f, w) =
-    let same_value = one_value pretty d this that none v w in cc
-one_line pretty started key std_table a b none e f = e ∙ sym f
-one_line pretty started key array_table a b none e f = e ∙ sym f
+plain_modules : (Q : ℤ → Type 0) → AreWritten Q → (ms : List ModuleAt) → ItemsArePlain Q (items_of (map (λ m. table (module_members m)) ms))
+plain_modules Q w [] = tt
+plain_modules Q w (m ∷ ms) = ((tt, (plain_pairs Q w m.entries, tt, refl), refl), plain_modules Q w ms)
 
-one_lines : (pretty started : Bool) (xs : List Expression) (a b : List ℕ) → LinesHaveNoFloat xs
-    → IsLinesText pretty started xs a → IsLinesText pretty started xs b → a ≡ b
-one_lines pretty started [] a b none e f = e ∙ sym f
-one_lines pretty started (x ∷ xs) a b none e f =
-    e.2
-    ∙ ap₂ (λ this rest. this ++ rest) (one_line pretty started x.0 x.1 e.0 f.0 none.0 e.3 f.3)
-    (one_lines pretty true xs e.1 f.1 none.1 e.4 f.4)
-    ∙ sym f.2
+plain_document : (Q : ℤ → Type 0) → AreWritten Q → (db : Database) → FibresAre Q db.fibres → MembersArePlain Q (document_of db)
+plain_document Q w db h =
+    (plain_fibres Q w db.fibres h, (plain_modules Q w db.modules, (w 2, tt, refl), refl), refl)
 
--- ---- a table without floats is written in lines without floats
+-- ---- two texts are one
 
-joined : (xs ys : List Expression) → LinesHaveNoFloat xs → LinesHaveNoFloat ys → LinesHaveNoFloat (xs ++ ys)
-joined [] ys h k = k
-joined (x ∷ xs) ys h k = (h.0, joined xs ys h.1 k)
+abbrev Any : ℤ → Type 0
+Any z = Unit {0}
 
-pair_if : (b : Bool) (x : Expression) (xs : List Expression) → SaysNoFloat x.1 → LinesHaveNoFloat xs
-    → LinesHaveNoFloat (if b then xs else x ∷ xs)
-pair_if true x xs h k = k
-pair_if false x xs h k = (h, k)
+any_points : (ps : List (ℤ × ℤ)) → PointsAre Any ps
+any_points [] = tt
+any_points (p ∷ ps) = (tt, tt, any_points ps)
 
-pairs_without : (ms : Members) → MembersHaveNoFloat ms → LinesHaveNoFloat (pairs ms)
-pairs_without no_members h = tt
-pairs_without (member k d ms) h = pair_if (is_section d) (([], k), key_value d) (pairs ms) h.0 (pairs_without ms h.1)
+any_table : (t : Option TableAt) → TableIs Any t
+any_table None = tt
+any_table (Some t) = any_points t.points
 
-lines_if : (b : Bool) (xs : List Expression) → LinesHaveNoFloat xs → LinesHaveNoFloat (if b then xs else [])
-lines_if true xs h = h
-lines_if false xs h = tt
-
-header_without : (key : Key) (ms : Members) → LinesHaveNoFloat (header_of key ms)
-header_without key ms = lines_if (needs_header ms) ((key, std_table) ∷ []) (tt, tt)
-
-mutual
-  sections_without : (path : List (List ℕ)) (ms : Members) → MembersHaveNoFloat ms → LinesHaveNoFloat (sections path ms)
-  sections_without path no_members h = tt
-  sections_without path (member k d ms) h =
-      joined (section (path, k) d) (sections path ms) (section_without (path, k) d h.0) (sections_without path ms h.1)
-
-  section_without : (key : Key) (d : Data) → HasNoFloat d → LinesHaveNoFloat (section key d)
-  section_without key (string s) h = tt
-  section_without key (integer z) h = tt
-  section_without key (float x) h = tt
-  section_without key (boolean c) h = tt
-  section_without key (datetime dt) h = tt
-  section_without key (array ds) h = lines_if (are_tables ds) (elements key ds) (elements_without key ds h)
-  section_without key (table ms) h =
-      let path = key.0 ++ key.1 ∷ [] in
-      joined (header_of key ms) (pairs ms ++ sections path ms) (header_without key ms)
-      (joined (pairs ms) (sections path ms) (pairs_without ms h) (sections_without path ms h))
-
-  elements_without : (key : Key) (ds : Items) → ItemsHaveNoFloat ds → LinesHaveNoFloat (elements key ds)
-  elements_without key no_items h = tt
-  elements_without key (item (string s) ds) h = elements_without key ds h.1
-  elements_without key (item (integer z) ds) h = elements_without key ds h.1
-  elements_without key (item (float x) ds) h = elements_without key ds h.1
-  elements_without key (item (boolean c) ds) h = elements_without key ds h.1
-  elements_without key (item (datetime dt) ds) h = elements_without key ds h.1
-  elements_without key (item (array es) ds) h = elements_without key ds h.1
-  elements_without key (item (table ms) ds) h =
-      let path = key.0 ++ key.1 ∷ [] in (
-        tt,
-        joined (pairs ms ++ sections path ms) (elements key ds)
-            (joined (pairs ms) (sections path ms) (pairs_without ms h.0) (sections_without path ms h.0)) (elements_without key ds h.1),
-      )
-
--- a table without floats has one text as a document
-one_document : (pretty : Bool) (ms : Members) → MembersHaveNoFloat ms → (a b : List ℕ)
-    → IsDocumentText pretty ms a → IsDocumentText pretty ms b → a ≡ b
-one_document pretty ms none a b e f =
-    one_lines pretty false (expressions ms) a b
-    (joined (pairs ms) (sections [] ms) (pairs_without ms none) (sections_without [] ms none)) e f
-
--- ---- the document of a database has no float
-
-tables_without : {X : Type 0} (g : X → Members) → ((x : X) → MembersHaveNoFloat (g x)) → (xs : List X)
-    → ItemsHaveNoFloat (items_of (map (λ x. table (g x)) xs))
-tables_without g h [] = tt
-tables_without g h (x ∷ xs) = (h x, tables_without g h xs)
-
-points_without : (ps : List (ℤ × ℤ)) → ItemsHaveNoFloat (items_of (map point_data ps))
-points_without [] = tt
-points_without (p ∷ ps) = ((tt, (tt, tt)), points_without ps)
-
-pair_without : (e : Entry) → MembersHaveNoFloat (pair_members e)
-pair_without e = (tt, (tt, (tt, (tt, (tt, (tt, tt))))))
-
-module_without : (m : ModuleAt) → MembersHaveNoFloat (module_members m)
-module_without m = (tt, (tables_without pair_members pair_without m.entries, tt))
-
-table_without : (t : Option TableAt) → MembersHaveNoFloat (table_members t)
-table_without None = tt
-table_without (Some t) = (points_without t.points, (tt, tt))
-
-fibre_without : (f : FibreAt) → MembersHaveNoFloat (fibre_members f)
-fibre_without f = (tt, (tt, (tt, table_without f.table)))
-
-document_without : (db : Database) → MembersHaveNoFloat (document_of db)
-document_without db =
-    (tables_without fibre_members fibre_without db.fibres, (tables_without module_members module_without db.modules, (tt, tt)))
+any_fibres : (fs : List FibreAt) → FibresAre Any fs
+any_fibres [] = tt
+any_fibres (f ∷ fs) = (tt, any_table f.table, any_fibres fs)
 
 -- two texts of one database are one
 pub one_text : OneText
-one_text db octets other = one_document false (document_of db) (document_without db) octets other
+one_text db octets other =
+    one_document Any false (document_of db) (plain_document Any (λ n. tt) db (any_fibres db.fibres)) octets other
+
+-- ---- there is one: the numbers of an accepted text fit
+
+fitting_written : AreWritten Fits
+fitting_written n = fits_signed_from_abs w64 (pos (min n 9_223_372_036_854_775_807)) (omega arith)
+
+-- a number whose bounds are of 62 bits
+bounded : (least greatest : ℕ) (z : ℤ) → least < 2 ^ 62 → greatest < 2 ^ 62
+    → (le_z (neg_ℤ (pos least)) z && le_z z (pos greatest)) ≡ true → Fits z
+bounded least greatest z h k e = grind (arith, ints)
+
+fitting_points : (law : Option Linear) (ps : List (ℤ × ℤ)) → list_all (is_sound law) ps ≡ true → PointsAre Fits ps
+fitting_points law [] e = tt
+fitting_points law (p ∷ ps) e =
+    let parts = and_parts (is_sound law p) (list_all (is_sound law) ps) e in
+    let bounds = (and_parts (has_bounds p) (is_near law p) parts.0).0 in
+    let each = and_parts (le_z (neg_ℤ (pos (2 ^ 30))) p.0 && le_z p.0 (pos (2 ^ 53)))
+    (le_z (neg_ℤ (pos (2 ^ 53))) p.1 && le_z p.1 (pos (2 ^ 53))) bounds in
+    (bounded (2 ^ 30) (2 ^ 53) p.0 (lit< tt) (lit< tt) each.0, bounded (2 ^ 53) (2 ^ 53) p.1 (lit< tt) (lit< tt) each.1, fitting_points law ps parts.1)
+
+stored_fit : (law : Option Linear) (err : ℕ) (o : Option (List (ℤ × ℤ))) → is_table law o ≡ true
+    → TableIs Fits (option_map (λ ps. record { points = ps; err = err }) o)
+stored_fit law err None e = tt
+stored_fit law err (Some ps) e = fitting_points law ps (and_parts (list_all (is_sound law) ps) (rises ps) e).0
+
+-- the points that stand at `table`
+fitting_table : (law : Option Linear) (err : ℕ) (found : Option Data) → has_fault co.Range (table_key law) found ≡ false
+    → TableIs Fits (option_map (λ ps. record { points = ps; err = err }) (option_and_then stored_points found))
+fitting_table law err None range = tt
+fitting_table law err (Some d) range = stored_fit law err (stored_points d) (not_false (is_table law (stored_points d)) range)
+
+-- the asymmetry of a fibre
+kappa_if : (o : Option ℤ) (b : Bool) → in_range (negsuc 274_877_906_943) (pos 274_877_906_944) o ≡ b
+    → Fits (unwrap_or (if b then o else None) (pos 0))
+kappa_if o false e = fits_signed_from_abs w64 (pos 0) (lit< tt)
+kappa_if None true e = fits_signed_from_abs w64 (pos 0) (lit< tt)
+kappa_if (Some z) true e = bounded 274_877_906_944 274_877_906_944 z (lit< tt) (lit< tt) e
+
+fitting_kappa : (found : Option Data) → Fits (unwrap_or (number_in kappa_key found) (pos 0))
+fitting_kappa None = fits_signed_from_abs w64 (pos 0) (lit< tt)
+fitting_kappa (Some d) = kappa_if (as_integer d) (in_range (negsuc 274_877_906_943) (pos 274_877_906_944) (as_integer d)) refl
+
+-- the rows behind those of a fibre's line
+abbrev behind_line : Members → List Key
+behind_line t = if is_some (get_member (codes "table") t) then table_err_key ∷ [] else []
+
+-- what stands at `table` in a fibre without a place
+table_fits : (ds : List Data) (n : ℕ) (t : Members) → place_in_fibre co.Range ds n t ≡ None
+    → has_fault co.Range (table_key (law_of t)) (get_member (codes "table") t) ≡ false
+table_fits ds n t none =
+    let at = tables.Fibre (n + 1) in
+    let test = at_fault co.Range t in
+    let more = table_key (law_of t) ∷ behind_line t in
+    let keys = no_key co.Range at (fibre_keys t) t (none_parts (place_in_table co.Range at (fibre_keys t) t) (place_of_name co.Range at (take n ds) t) none).0 in
+    let after_name = (find_parts test fibre_name_key (kappa_key ∷ fibre_err_key ∷ more) keys).1 in
+    let after_kappa = (find_parts test kappa_key (fibre_err_key ∷ more) after_name).1 in
+    let after_err = (find_parts test fibre_err_key more after_kappa).1 in
+    (find_parts test (table_key (law_of t)) (behind_line t) after_err).0
+
+fitting_fibres : (ds : List Data) (k : ℕ) (ts : List Members)
+    → first_among (λ n d. on_table (place_in_fibre co.Range ds n) d) k (map table ts) ≡ None → FibresAre Fits (map fibre_of ts)
+fitting_fibres ds k [] none = tt
+fitting_fibres ds k (t ∷ ts) none =
+    let parts = none_parts (place_in_fibre co.Range ds k t) (first_among (λ n d. on_table (place_in_fibre co.Range ds n) d) (k + 1) (map table ts)) none in
+    let found = get_member (codes "table") t in (
+      fitting_kappa (get_member (codes "kappa") t),
+      fitting_table (law_of t) (natural_at table_err_key t) found (table_fits ds k t parts.0),
+      fitting_fibres ds (k + 1) ts parts.1,
+    )
+
+-- the numbers of the fibres of an accepted text fit
+fitting : (others : Others) (doc : Members) → IsAccepted others doc → FibresAre Fits (database_of doc).fibres
+fitting others doc accepted =
+    let v = version_of doc in
+    let modules = tables_at (codes "module") doc in
+    let values = option_and_then values_of (get_member (codes "fibre") doc) in
+    let ts = members_in (tables_of values) in
+    let fibres = place_in_fibres co.Range (tables_of values) in
+    let behind_modules = option_or (place_of_keys co.Range tables.Top (fibre_key ∷ []) doc) fibres in
+    let lists = (none_parts (place_in_top others co.Range doc) (place_in_lists co.Range doc) (accepted co.Range)).1 in
+    let behind = (none_parts (place_of_keys co.Range tables.Top (module_key ∷ []) doc) (option_or (place_in_modules v co.Range modules) behind_modules) lists).1 in
+    let rest = (none_parts (place_in_modules v co.Range modules) behind_modules behind).1 in
+    let none = (none_parts (place_of_keys co.Range tables.Top (fibre_key ∷ []) doc) fibres rest).1 in
+    let listed = subst (λ ds. place_in_fibres co.Range ds ≡ None) (tables_of-members values) none in
+    let same : each_table fibre_of (tables_of values) ≡ map fibre_of ts =
+    ap (each_table fibre_of) (tables_of-members values) ∙ each_table-map fibre_of ts in
+    subst (FibresAre Fits) (sym same) (fitting_fibres (map table ts) 0 ts listed)
+
+-- a database of an accepted text has a text
+pub each_has_text : EachHasText
+each_has_text db listed =
+    let fits = subst (λ d. FibresAre Fits d.fibres) (sym listed.3) (fitting listed.0 listed.1 listed.2) in
+    document_text false (document_of db) (plain_document Fits fitting_written db fits)

@@ -80,6 +80,10 @@ OneText = (db : Database) (octets other : List ℕ) → IsTextDue db octets → 
 abbrev pub IsListed : Database → Type 0
 IsListed db = (others : Others) × (doc : Members) × IsAccepted others doc × (db ≡ database_of doc)
 
+-- the database of an accepted text has such a text
+abbrev pub EachHasText : Type 0
+EachHasText = (db : Database) → IsListed db → (octets : List ℕ) × IsTextDue db octets
+
 -- an answer that is this database, or want of memory
 abbrev pub IsSame : Database → Result Database ConfFault → Type 0
 IsSame db (Ok back) = back ≡ db

@@ -22,7 +22,7 @@ pub use database::{CalDb, Entry, ListedFibre, ListedModule, Lists};
 pub use faults::{is_at_fault, place_in_table, place_of_keys, place_of_others};
 pub use judging::{place_in_lists, refusal};
 pub use keys::{Others, Version, fibre_row, module_row, version_of, version_row};
-pub use laws::one_text;
+pub use laws::{each_has_text, one_text};
 pub use name::{is_identity, is_module_name, is_name};
 pub use place::{At, Place};
 pub use points::{Points, is_table_of_points, stored_points};
