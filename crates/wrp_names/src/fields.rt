@@ -9,7 +9,7 @@ use csv::ByteRecord;
 use wrp_base::{NetCfg, TraceFault};
 use wrp_fields::{field, name_fault};
 
-/// A node, by its name.
+/// The node that the field of a place names. The fault is that it is no node's name.
 pub fn node_at(row: &ByteRecord, place: u32, cfg: &NetCfg) -> Result<u8, TraceFault>
     requires { 0 < place }
     ensures value { result ≡ node_at cfg.now place (fields_of row.now) }
@@ -21,7 +21,7 @@ pub fn node_at(row: &ByteRecord, place: u32, cfg: &NetCfg) -> Result<u8, TraceFa
     }
 }
 
-/// A link, by its name.
+/// The link that the field of a place names. The fault is that it is no link's name.
 pub fn link_at(row: &ByteRecord, place: u32, cfg: &NetCfg) -> Result<u8, TraceFault>
     requires { 0 < place }
     ensures value { result ≡ link_at cfg.now place (fields_of row.now) }
