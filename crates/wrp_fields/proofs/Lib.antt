@@ -3,4 +3,4 @@ pub mod ReadFacts
 pub mod FieldLemmas
 pub mod HeldNumbers
 pub mod PlainLemmas
-pub mod ShortNumbers
+pub mod Values

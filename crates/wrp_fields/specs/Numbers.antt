@@ -39,3 +39,7 @@ natural_in least greatest text =
 -- a number from 0 on, where it is from least to greatest
 abbrev pub held_in : ℕ → ℕ → ℕ → Option ℕ
 held_in least greatest n = if nat_le least n && nat_le n greatest then Some n else None
+
+-- the number from least to greatest that digits alone write
+abbrev pub unsigned_in : ℕ → ℕ → List ℕ → Option ℕ
+unsigned_in least greatest text = option_and_then (held_in least greatest) (digits_of text)

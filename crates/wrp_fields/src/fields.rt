@@ -1,15 +1,14 @@
 //! The fields of a line, by their places from 1: what each says, or its fault.
-ghost use Rattle.std.specs.Prelude.{◌≡◌, ◌<◌, IfOk, length};
+ghost use Rattle.std.specs.Prelude.{◌≡◌, ◌<◌, IfOk};
 ghost use Rattle.csv.specs.Records.{fields_of};
 ghost use Rattle.wrp_base.specs.declared.fault.TraceFault.TheVariants.{Number, Name};
-ghost use Rattle.wrp_base.specs.Network.{IsAmong, node_count};
-ghost use Rattle.wrp_fields.specs.Fields.{number_at, node_at, link_at};
+ghost use Rattle.wrp_base.specs.Network.{IsAmong};
+ghost use Rattle.wrp_fields.specs.Fields.{number_at};
 ghost use Rattle.wrp_fields.specs.Reading.{field_of};
 
-use crate::names::{link_named, node_named};
 use crate::numbers::natural;
 use csv::ByteRecord;
-use wrp_base::{NetCfg, TraceFault};
+use wrp_base::TraceFault;
 
 /// The field of a place; no octets where the line has none there.
 pub fn field(row: &ByteRecord, place: u32) -> &[u8]
@@ -46,29 +45,5 @@ pub fn number_at(row: &ByteRecord, place: u32, least: u64, greatest: u64) -> Res
     match natural(field(row, place), least, greatest) {
         Some(number) => Ok(number),
         None => Err(number_fault(place)),
-    }
-}
-
-/// A node, by its name.
-pub fn node_at(row: &ByteRecord, place: u32, cfg: &NetCfg) -> Result<u8, TraceFault>
-    requires { 0 < place }
-    ensures value { result ≡ node_at cfg.now place (fields_of row.now) }
-    ensures within { IfOk result (λ n. n < node_count cfg.now) }
-{
-    match node_named(cfg, field(row, place)) {
-        Some(node) => Ok(node),
-        None => Err(name_fault(place)),
-    }
-}
-
-/// A link, by its name.
-pub fn link_at(row: &ByteRecord, place: u32, cfg: &NetCfg) -> Result<u8, TraceFault>
-    requires { 0 < place }
-    ensures value { result ≡ link_at cfg.now place (fields_of row.now) }
-    ensures within { IfOk result (λ l. l < length cfg.now.links.items) }
-{
-    match link_named(cfg, field(row, place)) {
-        Some(link) => Ok(link),
-        None => Err(name_fault(place)),
     }
 }

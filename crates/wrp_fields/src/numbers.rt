@@ -1,8 +1,8 @@
 //! Numbers in a line.
-ghost use Rattle.std.specs.Prelude.{◌≡◌, ◌-◌, ◌^◌, ◌<◌, ◌≤◌, ◌≤ℤ◌, min, IfSome, option_map, option_and_then, Some, pos, neg_ℤ, unsigned_abs};
+ghost use Rattle.std.specs.Prelude.{◌≡◌, ◌-◌, ◌^◌, ◌<◌, ◌≤◌, ◌≤ℤ◌, min, IfSome, SomeIff, option_map, option_and_then, Some, pos, neg_ℤ, unsigned_abs};
 ghost use Rattle.std.specs.List.{list_all};
 ghost use Rattle.std.specs.Char.{is_ascii_digit};
-ghost use Rattle.wrp_fields.specs.Numbers.{value_of, are_digits, digits_of, number_in, natural_in, kept_in, held_in};
+ghost use Rattle.wrp_fields.specs.Numbers.{value_of, are_digits, digits_of, number_in, natural_in, unsigned_in, kept_in, held_in};
 
 // The most digits that a number may have.
 const MOST_DIGITS: usize = 39;
@@ -43,28 +43,28 @@ fn opposite(number: i128) -> i128
     -number
 }
 
-/// The number from `least` to `greatest` that a text writes, where both are from 0 on.
-#[tactic(auto, using(crate::proofs::ShortNumbers::natural_of_digits))]
+/// The number from `least` to `greatest` that a text writes, where both are from 0 on. `-0` is 0.
 pub fn natural(text: &[u8], least: u64, greatest: u64) -> Option<u64>
     ensures value { result ≡ natural_in least greatest text.now }
     ensures range { IfSome result (λ n. (least ≤ n) × (n ≤ greatest)) }
 {
-    match short_number(text) {
-        Some(number) => within(number, least, greatest),
-        None => any_natural(text, least, greatest),
+    match text {
+        [b'-', digits @ ..] => within(unsigned(digits, 0, 0)?, least, greatest),
+        digits => unsigned(digits, least, greatest),
     }
 }
 
-// The number of 1 to 39 digits, where it is less than the greatest u64: most numbers are. It takes no
-// 128 bits.
-fn short_number(text: &[u8]) -> Option<u64>
-    ensures { IfSome result (λ n. digits_of text.now ≡ Some n) }
+/// The number from `least` to `greatest` that 1 to 39 digits write, without a sign. None where the text
+/// is none, or its number out of that range. It is worked out in 64 bits.
+pub fn unsigned(text: &[u8], least: u64, greatest: u64) -> Option<u64>
+    ensures value { result ≡ unsigned_in least greatest text.now }
+    ensures range { IfSome result (λ n. (least ≤ n) × (n ≤ greatest)) }
 {
-    if !are_digits(text) {
-        return None;
+    if are_digits(text) {
+        within(short_value(text)?, least, greatest)
+    } else {
+        None
     }
-    let short = short_value(text);
-    if short < u64::MAX { Some(short) } else { None }
 }
 
 // The number, where it is from `least` to `greatest`.
@@ -77,15 +77,6 @@ fn within(number: u64, least: u64, greatest: u64) -> Option<u64>
     } else {
         None
     }
-}
-
-// The number that a text writes, by way of 128 bits.
-fn any_natural(text: &[u8], least: u64, greatest: u64) -> Option<u64>
-    ensures value { result ≡ natural_in least greatest text.now }
-    ensures range { IfSome result (λ n. (least ≤ n) × (n ≤ greatest)) }
-{
-    let number = number(text, i128::from(least), i128::from(greatest))?;
-    Some(number.unsigned_abs() as u64)
 }
 
 // The number, where it is from `least` to `greatest`.
@@ -130,25 +121,23 @@ fn all_digits(octets: &[u8]) -> bool
 fn value(digits: &[u8]) -> u128
     ensures { result ≡ min (value_of digits.now) (2 ^ 128 - 1) }
 {
-    let short = short_value(digits);
-    if short < u64::MAX {
-        u128::from(short)
-    } else {
-        long_value(digits)
+    match short_value(digits) {
+        Some(short) => u128::from(short),
+        None => long_value(digits),
     }
 }
 
-// The value of some digits, held at the greatest u64.
-fn short_value(digits: &[u8]) -> u64
-    ensures { result ≡ min (value_of digits.now) (2 ^ 64 - 1) }
+// The value of some digits, where it fits 64 bits: most do.
+fn short_value(digits: &[u8]) -> Option<u64>
+    ensures { SomeIff result (value_of digits.now < 2 ^ 64) (value_of digits.now) }
 {
     let mut value = 0u64;
     for digit in digits {
         value = value
-            .saturating_mul(10)
-            .saturating_add(u64::from(digit.saturating_sub(b'0')));
+            .checked_mul(10)?
+            .checked_add(u64::from(digit.saturating_sub(b'0')))?;
     }
-    value
+    Some(value)
 }
 
 // The value of some digits, held at the greatest u128.

@@ -19,7 +19,7 @@ use Rattle.wrp_trace.specs.Changes.{changes_said, nothing_said}
 use Rattle.wrp_trace.specs.declared.events.kinds.EventKind.{EventKind}
 use Rattle.wrp_trace.specs.declared.events.kinds.EventKind.TheVariants as kinds
 use Rattle.wrp_trace.specs.Digits.{few, octets_of, frame_of, bits_of}
-use Rattle.wrp_fields.specs.Fields.{node_at, link_at}
+use Rattle.wrp_names.specs.Fields.{node_at, link_at}
 use Rattle.wrp_trace.specs.EventFields.{span_at, delay_at, offset_at}
 use Rattle.wrp_trace.specs.EventKinds.{kind_of, may_have}
 use Rattle.wrp_trace.specs.Events.{arrive_of, counted_of, depart_of, event_of, event_read, fields_of_kind, join_of, noise_of, pass_of, pass_with, sample_of, up_of}

@@ -15,7 +15,7 @@ use Rattle.wrp_node.specs.declared.interface.Input.TheVariants as inputs
 use Rattle.wrp_trace.specs.Changes.{SaidAt, change_said, changes_said, named_said, nothing_said}
 use Rattle.wrp_trace.specs.declared.events.kinds.EventKind.{EventKind}
 use Rattle.wrp_trace.specs.declared.events.kinds.EventKind.TheVariants as kinds
-use Rattle.wrp_fields.specs.Fields.{link_at, node_at}
+use Rattle.wrp_names.specs.Fields.{link_at, node_at}
 use Rattle.wrp_trace.specs.EventFields.{before, behind, span_at}
 use Rattle.wrp_trace.specs.EventKinds.{kind_of}
 use Rattle.wrp_trace.specs.Events.{counted_of, event_of, event_read, fields_of_kind, pass_with}

@@ -11,7 +11,7 @@ use Rattle.wrp_config.proofs.Bare.{above_bare}
 use Rattle.wrp_config.proofs.Lists.{position-map}
 use Rattle.wrp_config.specs.Config.{bare_link, bare_node}
 use Rattle.wrp_config.specs.Same.{bare_cfg}
-use Rattle.wrp_fields.specs.Fields.{link_at, node_at}
+use Rattle.wrp_names.specs.Fields.{link_at, node_at}
 use Rattle.wrp_fields.specs.Reading.{field_of, name_or_fault, ◌>>=◌}
 use Rattle.wrp_sim.specs.declared.scene.fault.FaultKind.{FaultKind}
 use Rattle.wrp_sim.specs.declared.scene.fault.FaultKind.TheVariants as faults

@@ -12,7 +12,8 @@ use Rattle.wrp_base.specs.declared.network.NodeCfg.{NodeCfg}
 use Rattle.wrp_base.specs.Network.{node_count}
 use Rattle.wrp_caldb.specs.Name.{same_name}
 use Rattle.wrp_config.specs.Names.{link_named, node_named}
-use Rattle.wrp_fields.specs.Fields.{link_at, node_at, number_at}
+use Rattle.wrp_fields.specs.Fields.{number_at}
+use Rattle.wrp_names.specs.Fields.{link_at, node_at}
 use Rattle.wrp_fields.specs.Numbers.{kept_in, natural_in, number_in, number_of}
 use Rattle.wrp_fields.specs.Reading.{◌>>=◌, field_of}
 use Rattle.wrp_world.specs.EventAt.{link_count}

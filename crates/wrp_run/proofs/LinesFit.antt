@@ -14,7 +14,7 @@ use Rattle.wrp_base.specs.declared.configuration.NetCfg.{NetCfg}
 use Rattle.wrp_base.specs.declared.fault.TraceFault.TheVariants.{Fields, Kind, Number}
 use Rattle.wrp_base.specs.Lines.{parts_of}
 use Rattle.wrp_base.specs.Octets.{AreOctets}
-use Rattle.wrp_fields.specs.Fields.{link_at, node_at}
+use Rattle.wrp_names.specs.Fields.{link_at, node_at}
 use Rattle.wrp_fields.specs.Reading.{◌>>=◌, field_of, is_plain}
 use Rattle.wrp_trace.specs.declared.events.kinds.EventKind.{EventKind}
 use Rattle.wrp_trace.specs.declared.events.kinds.EventKind.TheVariants as kinds

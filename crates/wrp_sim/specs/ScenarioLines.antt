@@ -8,7 +8,8 @@ use Rattle.wrp_base.specs.declared.fault.TraceFault.TheVariants.{Fields, Kind, N
 use Rattle.wrp_base.specs.Lines.{parts_of}
 use Rattle.wrp_base.specs.Network.{link_above}
 use Rattle.wrp_caldb.specs.Name.{same_name}
-use Rattle.wrp_fields.specs.Fields.{number_at, node_at, link_at}
+use Rattle.wrp_fields.specs.Fields.{number_at}
+use Rattle.wrp_names.specs.Fields.{node_at, link_at}
 use Rattle.wrp_fields.specs.Numbers.{number_in}
 use Rattle.wrp_fields.specs.Reading.{field_of, ◌>>=◌, number_or_fault, name_or_fault, is_plain}
 use Rattle.wrp_sim.specs.declared.scene.fault.Fault.{Fault}

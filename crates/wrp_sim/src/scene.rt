@@ -23,7 +23,8 @@ use std::alloc::Global;
 use std::marker::Model;
 use wrp_base::{LinkCfg, NetCfg, NodeCfg, Tau, TraceFault};
 use wrp_config::Network;
-use wrp_fields::{field, is_plain, link_at, node_at, split};
+use wrp_fields::{field, is_plain, split};
+use wrp_names::{link_at, node_at};
 
 // The place of the first field.
 const KIND: u32 = 1;

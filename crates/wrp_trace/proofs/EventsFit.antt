@@ -22,7 +22,8 @@ use Rattle.wrp_trace.specs.declared.events.kinds.EventKind.{EventKind}
 use Rattle.wrp_trace.specs.declared.events.kinds.EventKind.TheVariants as kinds
 use Rattle.wrp_trace.specs.Changes.{SaidAt, change_in, change_said, changes_said, drift_said, is_said, move_in, move_said, named_said, nothing_said, said_once, with_drift, with_move}
 use Rattle.wrp_trace.specs.EventAt.{IsSaid}
-use Rattle.wrp_fields.specs.Fields.{link_at, node_at, number_at}
+use Rattle.wrp_fields.specs.Fields.{number_at}
+use Rattle.wrp_names.specs.Fields.{link_at, node_at}
 use Rattle.wrp_fields.specs.Numbers.{kept_in, natural_in, number_in, number_of}
 use Rattle.wrp_fields.specs.Reading.{◌>>=◌, field_of, is_plain, number_or_fault}
 use Rattle.wrp_trace.specs.EventFields.{before, behind, delay_at, offset_at, span_at}

@@ -21,7 +21,7 @@ use Rattle.wrp_world.specs.declared.event.Event.{Event}
 use Rattle.wrp_world.specs.declared.event.Event.TheVariants as events
 use Rattle.wrp_world.specs.declared.event.Swap.{Swap}
 use Rattle.wrp_trace.specs.Changes.{SaidAt, nothing_said, changes_said}
-use Rattle.wrp_fields.specs.Fields.{node_at, link_at}
+use Rattle.wrp_names.specs.Fields.{node_at, link_at}
 use Rattle.wrp_trace.specs.EventFields.{span_at, delay_at, offset_at}
 use Rattle.wrp_trace.specs.EventPrinting.{node_text, link_text, drift_words, drift_texts, move_words, move_texts, swap_text, pass_texts, event_text}
 use Rattle.wrp_trace.specs.Events.{pass_with, pass_of, tick_of, sample_of, depart_of, arrive_of, deliver_of, noise_of, down_of, up_of, cut_of, join_of, event_of, event_read, plain}

@@ -5,7 +5,7 @@ use Rattle.std.specs.List.{before_first, after_first}
 use Rattle.wrp_base.specs.declared.fault.TraceFault.{TraceFault}
 use Rattle.wrp_fields.specs.Numbers.{number_in}
 use Rattle.wrp_fields.specs.Reading.{field_of, number_or_fault}
-pub use Rattle.wrp_fields.specs.Fields.{node_at, link_at}
+pub use Rattle.wrp_names.specs.Fields.{node_at, link_at}
 
 -- how much true time passes, in tau: 1 to 2^63 - 1
 abbrev pub span_at : ℕ → List (List ℕ) → Result ℤ TraceFault

@@ -11,7 +11,7 @@ use Rattle.wrp_world.specs.declared.event.Event.TheVariants as events
 use Rattle.wrp_trace.specs.declared.events.kinds.EventKind.{EventKind}
 use Rattle.wrp_trace.specs.declared.events.kinds.EventKind.TheVariants as kinds
 use Rattle.wrp_trace.specs.Changes.{SaidAt, nothing_said, changes_said, all_drifts, all_moves}
-use Rattle.wrp_fields.specs.Fields.{node_at, link_at}
+use Rattle.wrp_names.specs.Fields.{node_at, link_at}
 use Rattle.wrp_trace.specs.EventFields.{span_at, delay_at, offset_at}
 use Rattle.wrp_trace.specs.EventKinds.{may_have, kind_of}
 use Rattle.wrp_trace.specs.Fields.{short_at, long_at, step_at, bits_at, octets_at, time_at, raw_from}

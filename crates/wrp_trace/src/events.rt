@@ -27,7 +27,8 @@ use std::alloc::Global;
 use swaps::swaps_at;
 use wrp_base::{NetCfg, TraceFault};
 use wrp_config::Network;
-use wrp_fields::{field, is_plain, link_at, node_at, split};
+use wrp_fields::{field, is_plain, split};
+use wrp_names::{link_at, node_at};
 use wrp_world::Event;
 
 // The place of the first field.

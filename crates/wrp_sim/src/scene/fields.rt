@@ -9,7 +9,8 @@ use super::fault::{Fault, FaultKind};
 use csv::ByteRecord;
 use wrp_base::{NetCfg, Tau, TraceFault, product};
 use wrp_config::link_above;
-use wrp_fields::{field, link_at, name_fault, node_at, number, number_at, number_fault};
+use wrp_fields::{field, name_fault, number, number_at, number_fault};
+use wrp_names::{link_at, node_at};
 
 // The greatest time, in ms.
 const MOST_TIME: u64 = 10_000_000;

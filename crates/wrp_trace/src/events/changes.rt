@@ -11,7 +11,8 @@ use super::names::parts_at;
 use arrayvec::ArrayVec;
 use csv::ByteRecord;
 use wrp_base::{LinkCfg, NetCfg, NodeCfg, TraceFault};
-use wrp_fields::{field, link_named, name_fault, node_named, number, number_fault};
+use wrp_fields::{field, name_fault, number, number_fault};
+use wrp_names::{link_named, node_named};
 
 // The greatest change, in tau: 2^63 - 1.
 const MOST_CHANGE: i128 = (1 << 63) - 1;

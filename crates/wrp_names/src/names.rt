@@ -21,7 +21,7 @@ fn node_place(nodes: &[NodeCfg], name: &[u8]) -> Option<usize>
     nodes.iter().position(|node| is_node_named(node, name))
 }
 
-/// The node of a name.
+/// The node of a name, by its place from 0 in file order. None exactly where no node has it.
 pub fn node_named(cfg: &NetCfg, name: &[u8]) -> Option<u8>
     ensures value { result ≡ node_named cfg.now name.now }
     ensures within { IfSome result (λ n. n < node_count cfg.now) }
@@ -46,7 +46,7 @@ fn link_place(links: &[LinkCfg], name: &[u8]) -> Option<usize>
     links.iter().position(|link| is_link_named(link, name))
 }
 
-/// The link of a name.
+/// The link of a name, by its place from 0 in file order. None exactly where no link has it.
 pub fn link_named(cfg: &NetCfg, name: &[u8]) -> Option<u8>
     ensures value { result ≡ link_named cfg.now name.now }
     ensures within { IfSome result (λ l. l < length cfg.now.links.items) }
