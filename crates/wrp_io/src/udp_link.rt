@@ -1,7 +1,7 @@
 //! A link over sockets of this machine, at the trusted edge as the adapters are. It tells neither
 //! its calls nor what waits at its ends: what the system does between a `send` and a `recv` is
 //! outside what is proved.
-ghost use Rattle.std.specs.Prelude.{Ok, true, None, ◌≡◌, ◌≢◌, ◌+◌, ◌%◌, ◌*◌, ◌≤◌, length, vec_len, IsOk, IsErr, OnOk, OnErr, IfOk, IfErr};
+ghost use Rattle.std.specs.Prelude.{Ok, true, None, ◌≡◌, ◌≢◌, ◌+◌, ◌%◌, ◌≤◌, length, vec_len, IsOk, IsErr, OnOk, OnErr, IfOk, IfErr};
 ghost use Rattle.wrp_io.specs.Faults.{HasCause, HasStartCause};
 ghost use Rattle.wrp_io.specs.Link.{frame_of, answered, Tells, SameWaits, Sends, Receives};
 ghost use Rattle.wrp_io.specs.Sockets.{UdpLinkAt, not_started, with_ends, with_fault, NotStarted};
@@ -85,23 +85,24 @@ fn sockets_of<R: Net>(rt: &R, alloc: Global, ends: u32) -> Result<Vec<UdpSocket>
 {
     let mut sockets = Vec::new(alloc);
     for _pair in 0..ends.div_ceil(2) {
-        let Ok((upper, lower)) = connected_pair(rt) else {
+        let Ok(pair) = connected_pair(rt) else {
             return Err(StartFault::Failed);
         };
-        push(&mut sockets, upper)?;
-        push(&mut sockets, lower)?;
+        if let Err(fault) = push_pair(&mut sockets, pair) {
+            return Err(StartFault::Memory(fault));
+        }
     }
     Ok(sockets)
 }
 
-// Puts a socket behind the others.
-fn push(sockets: &mut Vec<UdpSocket>, socket: UdpSocket) -> Result<(), StartFault>
-    ensures { OnOk result (vec_len sockets.new ≡ vec_len sockets.old + 1) }
+// Puts the two sockets of a link behind the others.
+fn push_pair(sockets: &mut Vec<UdpSocket>, pair: (UdpSocket, UdpSocket)) -> Result<(), AllocError>
+    ensures { OnOk result (vec_len sockets.new ≡ vec_len sockets.old + 2) }
 {
-    match sockets.push(socket) {
-        Ok(()) => Ok(()),
-        Err(_) => Err(StartFault::Memory(AllocError)),
-    }
+    let (upper, lower) = pair;
+    sockets.push(upper)?;
+    sockets.push(lower)?;
+    Ok(())
 }
 
 // Sends one datagram from an end.
