@@ -4,4 +4,5 @@ pub mod Faults
 pub mod Link
 pub mod Memory
 pub mod Queue
+pub mod Sockets
 pub mod FramesWaiting

@@ -1,8 +1,8 @@
 //! The outside of `wrnet` as three traits, each with a meaning that contracts can cite: a `Source`
 //! of octets, a `Sink` of octets and a `Link` that carries frames between the ends of a network's
 //! links. Objects in memory tell what they hold, and fail exactly where they are told to. The
-//! adapters over std's readers and writers are the trusted edge. The whole is this project's
-//! profile.
+//! adapters over std's readers and writers, and the link over sockets, are the trusted edge. The
+//! whole is this project's profile.
 #![tactic(auto)]
 
 mod adapters;
@@ -14,6 +14,7 @@ mod memory_source;
 mod queue;
 mod sink;
 mod source;
+mod udp_link;
 
 pub use adapters::{StdSink, StdSource};
 pub use link::{Link, LinkCall, StartFault};
@@ -22,3 +23,4 @@ pub use memory_sink::MemSink;
 pub use memory_source::MemSource;
 pub use sink::Sink;
 pub use source::{Failed, Source};
+pub use udp_link::UdpLink;
