@@ -4,10 +4,9 @@ ghost use Rattle.wrp_data.specs.Reason.{number_of, name_of, reasons};
 
 /// Why a port drops what came to it (this project's profile). Where several reasons apply, the one
 /// with the lowest number is told.
-#[derive(Clone, Copy, Debug, Default, PartialEq, Eq)]
+#[derive(Clone, Copy, Debug, PartialEq, Eq)]
 pub enum Reason {
     /// 1: there are fewer octets than a header has.
-    #[default]
     Short = 1,
     /// 2: versionPTP is not 2.
     Version,
@@ -115,5 +114,17 @@ impl Reason {
             Reason::Range => "range",
             Reason::Sample => "sample",
         }
+    }
+}
+
+impl Default for Reason {
+    ghost use Rattle.std.specs.Prelude.{◌≡◌};
+    ghost use Rattle.wrp_data.specs.declared.reason.Reason.TheVariants.{Short};
+
+    ghost is_default = { λ reason. reason ≡ Short };
+
+    // The first reason; it fills the unused places of a list.
+    fn default() -> Reason {
+        Reason::Short
     }
 }

@@ -3,6 +3,7 @@ pub mod Drops
 pub mod Finding
 pub mod Giving
 pub mod Hearing
+pub mod Indexing
 pub mod Links
 pub mod Lists
 pub mod NewNode

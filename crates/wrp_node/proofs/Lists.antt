@@ -33,6 +33,18 @@ done_all R [] (y ∷ ys) w = absurd w.0
 done_all R (x ∷ xs) [] w = absurd (omega (arith, ap length w.1))
 done_all R (x ∷ xs) (y ∷ ys) w = (w.0.0, done_all R xs ys (w.0.1, w.1))
 
+take_own : {A : Type 0} (xs ys : List A) → take (length xs) (xs ++ ys) ≡ xs
+take_own [] ys = refl
+take_own (x ∷ xs) ys = ap (λ rest. x ∷ rest) (take_own xs ys)
+
+-- a loop over a list's own elements has come to its end, and leaves them in the list
+pub take_front : {A : Type 0} (n : ℕ) (xs ys : List A) → length xs ≡ n → take n (xs ++ ys) ≡ xs
+take_front n xs ys e = ap (λ k. take k (xs ++ ys)) (sym e) ∙ take_own xs ys
+
+pub done_over : {A : Type 0} (R : A → A → Type 0) (n i : ℕ) (xs ys zs : List A) → length ys ≡ n → i ≡ length ys → Done R xs ys i → AllZip R xs (take n (ys ++ zs))
+done_over R n i xs ys zs e end w =
+    subst (λ l. AllZip R xs l) (sym (take_front n ys zs e)) (done_all R xs ys (subst (λ k. Done R xs ys k) end w))
+
 -- what holds of the old ones holds of the new ones
 pub zip_all : {A : Type 0} (R : A → A → Type 0) (P Q : A → Type 0) (xs ys : List A) →
     ((x y : A) → R x y → P x → Q y) → AllZip R xs ys → AllByRecursion P xs → AllByRecursion Q ys

@@ -1,9 +1,10 @@
 -- The link states of a node's ports, found by their numbers.
-use Rattle.std.proofs.Common.{◌≡◌, ◌∙◌, refl, ap, ℕ, ◌==◌, Bool, true, false, if◌then◌else◌, List, [], ◌∷◌, map, Option, None, Some}
+use Rattle.std.proofs.Common.{◌≡◌, ◌∙◌, refl, ap, ℕ, ◌==◌, Bool, true, false, List, [], ◌∷◌, map, Option, None, Some}
 use Rattle.wrp_base.specs.declared.link.LinkState.{LinkState}
 use Rattle.wrp_base.specs.declared.link.LinkState.TheVariants.{Idle}
 use Rattle.wrp_node.specs.declared.parts.Parts.{Parts}
 use Rattle.wrp_node.specs.declared.place.Place.{Place}
+use Rattle.wrp_node.specs.declared.ports.states.PortState.{PortState}
 use Rattle.wrp_node.specs.NodeAt.{Fixed, NodeAt}
 use Rattle.wrp_node.specs.Parts.{PlaceStands, PartsAt, is_among}
 use Rattle.wrp_node.specs.Place.{place_of}
@@ -33,3 +34,8 @@ state_told fixed n parts p h e =
     ∙ ap state_of f.is
     ∙ ap (λ (l : Line). l.link.state) (line_is fixed n f.place f.holds)
     ∙ ap (λ (q : ℕ). state_at q fixed n) f.number
+
+-- the rows of these ports have their numbers
+pub row_numbers : (places : List Place) → map (λ (row : PortState). row.port) (map port_state places) ≡ map (λ (place : Place). place.number) places
+row_numbers [] = refl
+row_numbers (x ∷ xs) = ap (λ (ns : List ℕ). x.number ∷ ns) (row_numbers xs)

@@ -1,5 +1,5 @@
 -- What of an input is of account to a step, what clock step it commands, how many messages a port sends, and how ticks count.
-use Rattle.std.proofs.Common.{◌≡◌, ◌∙◌, refl, ap, sym, subst, ℕ, suc, ◌+◌, ◌≤◌, ◌^◌, ◌==◌, ◌&&◌, ◌%◌, ℤ, pos, ◌-ℤ◌, ◌+ℤ◌, ◌*ℤ◌, unsigned_abs, Bool, true, false, cond, if◌then◌else◌, nat_lt, nat_le, List, [], ◌∷◌, ◌++◌, length, Option, None, Some, is_some, Result, Ok, Err, arith}
+use Rattle.std.proofs.Common.{◌≡◌, ◌∙◌, refl, ap, sym, subst, ℕ, suc, ◌+◌, ◌≤◌, ◌^◌, ◌==◌, ◌&&◌, ℤ, pos, ◌-ℤ◌, ◌+ℤ◌, ◌*ℤ◌, unsigned_abs, Bool, true, false, cond, if◌then◌else◌, nat_lt, nat_le, List, [], ◌∷◌, ◌++◌, length, Option, None, Some, is_some, Result, Ok, Err, arith}
 use Rattle.std.proofs.lemmas.List.{length-append}
 use Rattle.std.proofs.lemmas.Int.{ints, clamps}
 use Rattle.wrp_base.specs.Clock.{period_of, periods_per_second}
@@ -30,17 +30,17 @@ use Rattle.wrp_link.specs.Rows.{Row, Moves, Fails, Waits, Resends, CarrierGoes, 
 use Rattle.wrp_link.specs.Table.{sent_by, sends_of as link_sends_of}
 use Rattle.wrp_node.specs.declared.interface.Input.{Input}
 use Rattle.wrp_node.specs.declared.interface.Input.TheVariants.{Tick, Sample, Frame, Sent, Carrier, Reset}
-use Rattle.wrp_node.specs.NodeAt.{Taken, Fixed, NodeAt, slave_of, setting_of, line_at, link_at, settings_of, is_fresh_in, deltas_in}
-use Rattle.wrp_node.specs.NodeStep.{counted_tick, lease_ticked, servo_ticked, message_of, measured_at, measurement_by, used, heard_unless, heard, is_slave_port, handed, stepped, node_step, tick_of}
+use Rattle.wrp_node.specs.NodeAt.{Fixed, NodeAt, slave_of, setting_of, line_at, link_at, settings_of, is_fresh_in, deltas_in}
+use Rattle.wrp_node.specs.NodeStep.{counted_tick, lease_ticked, servo_ticked, message_of, measured_at, measurement_by, used, heard_unless, heard, is_slave_port, handed, stepped, tick_of}
 use Rattle.wrp_node.specs.StepLaws.{is_frame, OnlyFramesSay, CommandsAreHeld, SendsAreFew, ticks_by, TicksAreCounted}
 use Rattle.wrp_node.specs.Telling.{Step, step_from, tell, answer_of, for_slave, is_changed, newest_step, lease_change, link_change, with_lease, settled}
 use Rattle.wrp_port.specs.declared.interface.PortIn.{PortIn}
-use Rattle.wrp_port.specs.declared.interface.PortIn.TheVariants.{Msg, Lease, Tick as PortTick, Sent as PortSent, Carrier as PortCarrier, Sample as PortSample, Chain, Reset as PortReset}
+use Rattle.wrp_port.specs.declared.interface.PortIn.TheVariants.{Msg, Tick as PortTick, Sent as PortSent, Carrier as PortCarrier}
 use Rattle.wrp_port.specs.declared.line.Line.{Line}
 use Rattle.wrp_port.specs.declared.setting.Setting.{Setting}
 use Rattle.wrp_port.specs.Hearing.{is_open, early_reason, link_input}
 use Rattle.wrp_port.specs.LineAfter.{ticked, announces_on, syncs_on, requests_on}
-use Rattle.wrp_port.specs.Messages.{next_id, signal_of, signals_of, announce_of, sync_of, request_of, follow_up_of}
+use Rattle.wrp_port.specs.Messages.{next_id, signals_of, announce_of, sync_of, request_of, follow_up_of}
 use Rattle.wrp_port.specs.Outputs.{where_due, scheduled_sends, link_sends, response_to, sends_unless, is_newest, sends_of}
 use Rattle.wrp_servo.specs.Call.{Call, CallSample, CallMeasured, CallTick, CallLease, CallLink, CallCarrier, CallReset, Settings, after, run}
 use Rattle.wrp_servo.specs.declared.machine.Core.{Core}
@@ -48,7 +48,7 @@ use Rattle.wrp_servo.specs.Measuring.{second, half_period, x_of, is_in, kept_of,
 use Rattle.wrp_servo.specs.declared.sampling.Heard.{Heard}
 use Rattle.wrp_servo.specs.declared.sampling.Heard.TheVariants.{Ignored, Refused, Lost, Followed}
 use Rattle.wrp_servo.specs.Sampling.{est_of, heard_as}
-use Rattle.wrp_servo.specs.Servo.{news_at, out_by, answer_to}
+use Rattle.wrp_servo.specs.Servo.{news_at, out_by}
 use Rattle.wrp_servo.specs.Told.{lease_told, link_told}
 
 no_frame : true ≡ false → ⊥

@@ -1,4 +1,5 @@
 pub mod Control
+pub mod Index
 pub mod Inputs
 pub mod Laws
 pub mod LinkNews

@@ -6,7 +6,6 @@ use Rattle.wrp_base.specs.declared.link.Deltas.{Deltas}
 use Rattle.wrp_base.specs.declared.measurement.Four.{Four}
 use Rattle.wrp_base.specs.declared.message.PtpMsg.{PtpMsg}
 use Rattle.wrp_base.specs.declared.time.Raw.{Raw}
-use Rattle.wrp_base.specs.declared.time.Stamp.{Stamp}
 use Rattle.wrp_base.specs.Message.{IsSound}
 use Rattle.wrp_data.specs.declared.reason.Reason.{Reason}
 use Rattle.wrp_data.specs.Reason.{number_of as reason_number}
@@ -15,7 +14,7 @@ use Rattle.wrp_node.specs.declared.parts.Parts.{Parts}
 use Rattle.wrp_node.specs.declared.place.Place.{Place}
 use Rattle.wrp_node.specs.declared.ports.To.{To}
 use Rattle.wrp_node.specs.NodeAt.{Fixed, NodeAt, numbers_of, slave_of, setting_of, line_at, link_at, pieces_at, is_fresh_in, deltas_in}
-use Rattle.wrp_node.specs.NodeStep.{counted_tick, stamp_of, message_of, dropped, used, measured_at}
+use Rattle.wrp_node.specs.NodeStep.{counted_tick, message_of, dropped, used, measured_at}
 use Rattle.wrp_node.specs.Place.{is_to, newest_sends}
 use Rattle.wrp_node.specs.Telling.{Step, step_from, counted, counted_at, told_all, told_by, counted_by, heard_of, answer_of, number_of, tell, newest_step}
 use Rattle.wrp_port.specs.declared.interface.PortIn.{PortIn}
@@ -128,12 +127,6 @@ TellsLease parts fresh = (fixed : Fixed) (before : NodeAt) (s : Step) → PartsI
 -- the four delays of the link
 abbrev pub TellsDeltas : Parts → Option Deltas → Type 0
 TellsDeltas parts on = (fixed : Fixed) (before : NodeAt) (s : Step) → PartsIn fixed before s parts → on ≡ deltas_in fixed.set s.node
-
--- the stamp of a reception
-abbrev pub TellsStamp : ℕ → Raw → ℕ → Parts → Stamp → Type 0
-TellsStamp p raw sample parts stamp =
-    (fixed : Fixed) (before : NodeAt) (s : Step) → PartsIn fixed before s parts → is_among p parts.ports ≡ true →
-    stamp ≡ stamp_of fixed s.node p raw sample
 
 -- a message that reaches a port: it is dropped, or taken there
 abbrev pub taken_unless : Option Reason → Fixed → ℕ → PortIn → NodeAt → Step

@@ -2,17 +2,15 @@
 ghost use Rattle.std.specs.Prelude.{◌≡◌, ◌≤◌, ◌+◌, ◌<◌, ◌^◌, IfSome};
 ghost use Rattle.wrp_base.specs.Message.{IsSound};
 ghost use Rattle.wrp_exch.specs.Exchange.{HasTimes};
-ghost use Rattle.wrp_node.specs.Inputs.{transition_in, measured_in, lease_in, deltas_in, word_in, times_in};
+ghost use Rattle.wrp_node.specs.Inputs.{lease_in, deltas_in, word_in, times_in};
 ghost use Rattle.wrp_node.specs.NodeStep.{is_slave_port};
-ghost use Rattle.wrp_node.specs.Parts.{Leads, tick_counted, parts_reset, TellsLease, TellsDeltas, TellsStamp, Hears, FitsRaw, is_among};
+ghost use Rattle.wrp_node.specs.Parts.{Leads, tick_counted, parts_reset, TellsLease, TellsDeltas, Hears, FitsRaw, is_among};
 ghost use Rattle.wrp_node.specs.Place.{place_of};
-ghost use Rattle.wrp_port.specs.PortAt.{IsStamp};
 
 use crate::parts::Parts;
 use crate::ports::To;
-use wrp_base::{Deltas, Four, LinkWord, PtpMsg, Raw, STEPS_OF_PERIOD, Stamp, Tau};
+use wrp_base::{Deltas, Four, LinkWord, PtpMsg, Raw};
 use wrp_port::PortIn;
-use wrp_stamp::merge;
 
 impl Parts {
     /// Counts a tick, and gives the lease its turn.
@@ -74,39 +72,6 @@ impl Parts {
         }
     }
 
-    // The transition of a port's module, round the period; 0 where the module is not listed.
-    fn transition(&self, port: u16) -> u16
-        ensures value { result ≡ transition_in (place_of port self.now.ports) }
-        ensures below { result < 16384 }
-    {
-        match self.ports.place(port) {
-            Some(place) => match place.port.own_module() {
-                Some(own_module) => own_module.transition % STEPS_OF_PERIOD,
-                None => 0,
-            },
-            None => 0,
-        }
-    }
-
-    // The stamp of a reception at a port.
-    fn stamp(&self, port: u16, raw: &Raw, sample: u32) -> Stamp
-        requires { FitsRaw raw.now }
-        ensures value { TellsStamp port raw.now sample self.now result }
-        ensures fits { IsStamp result }
-    {
-        stamp_of(merge(raw, self.transition(port), self.clock), sample)
-    }
-
-    // The measurement that the newest message made at a port.
-    fn measured(&self, port: u16) -> Option<Four>
-        ensures { result ≡ measured_in (place_of port self.now.ports) }
-    {
-        match self.ports.place(port) {
-            Some(place) => place.measured,
-            None => None,
-        }
-    }
-
     /// Whether a port is the slave port.
     pub fn is_slave(&self, port: u16) -> bool
         ensures { result ≡ is_slave_port self.now.slave port }
@@ -154,22 +119,7 @@ impl Parts {
         ensures hears { Hears port message raw.now sample self.old self.new result }
         ensures times { IfSome result HasTimes }
     {
-        let stamp = self.stamp(port, raw, sample);
-        self.ports.give(
-            To::One(port),
-            PortIn::Msg {
-                msg: message,
-                stamp,
-                tick: self.ticks,
-            },
-        );
-        self.measured(port)
+        self.ports
+            .hear(port, message, raw, sample, self.clock, self.ticks)
     }
-}
-
-// A stamp of this reading.
-fn stamp_of(value: Tau, sample: u32) -> Stamp
-    ensures { result ≡ record { value = value; sample = sample } }
-{
-    Stamp { value, sample }
 }

@@ -1,21 +1,24 @@
 //! A port at its place in a node: with its number, its counters, and what it is about to put out.
-ghost use Rattle.std.specs.Prelude.{◌≡◌, ◌≤◌, ◌+◌, ◌++◌, length, map, []};
+ghost use Rattle.std.specs.Prelude.{◌≡◌, ◌≤◌, ◌<◌, ◌+◌, ◌++◌, length, map, [], Some};
 ghost use Rattle.std.specs.List.{AllByRecursion};
 ghost use Rattle.wrp_base.specs.Message.{IsSound};
 ghost use Rattle.wrp_data.specs.Counters.{no_counts};
-ghost use Rattle.wrp_node.specs.Place.{newest_sends, Gives, GivesTo, Begins, place_counted, place_out, is_to};
+ghost use Rattle.wrp_node.specs.Inputs.{stamp_in, transition_in};
+ghost use Rattle.wrp_node.specs.Parts.{FitsRaw};
+ghost use Rattle.wrp_node.specs.Place.{newest_sends, Gives, Begins, place_out};
 ghost use Rattle.wrp_node.specs.Spelled.{AreSpelled, IsSpelled};
 ghost use Rattle.wrp_link.specs.Table.{word_of};
 ghost use Rattle.wrp_node.specs.NodeRun.{word_out, frame_out};
-ghost use Rattle.wrp_port.specs.PortAt.{IsFit};
+ghost use Rattle.wrp_node.specs.Telling.{counted};
+ghost use Rattle.wrp_port.specs.PortAt.{IsFit, IsStamp};
 
-use crate::ports::To;
 use crate::{Output, Outputs, Report};
 use arrayvec::ArrayVec;
-use wrp_base::{Four, LinkWord, PtpMsg};
+use wrp_base::{Clock, Four, LinkWord, PtpMsg, Raw, STEPS_OF_PERIOD, Stamp, Tau};
 use wrp_data::Counters;
 use wrp_frame::encode;
 use wrp_port::{Port, PortIn, PortOut};
+use wrp_stamp::merge;
 
 /// A port of a node.
 #[derive(Debug, Drop)]
@@ -64,18 +67,8 @@ impl Place {
         self.measured = None;
     }
 
-    /// Tells the port an input, if it is for this one.
-    pub fn give(&mut self, to: To, input: PortIn)
-        requires { IsFit input }
-        ensures { GivesTo to input self.old self.new }
-    {
-        if to.has(self.number) {
-            self.tell(input);
-        }
-    }
-
-    // Tells the port an input.
-    fn tell(&mut self, input: PortIn)
+    /// Tells the port an input.
+    pub fn tell(&mut self, input: PortIn)
         requires { IsFit input }
         ensures { Gives input self.old self.new }
     {
@@ -99,15 +92,35 @@ impl Place {
         }
     }
 
-    /// Counts a reason, 1 to 15, if it is this port's.
-    pub fn count(&mut self, number: u16, reason: u8)
+    /// The stamp of a reception: merged with the transition of the port's module, with the number of
+    /// the last sample.
+    pub fn stamp(&self, raw: &Raw, sample: u32, clock: Clock) -> Stamp
+        requires { FitsRaw raw.now }
+        ensures value { result ≡ stamp_in clock raw.now sample (Some self.now) }
+        ensures fits { IsStamp result }
+    {
+        stamp_of(merge(raw, self.transition(), clock), sample)
+    }
+
+    // The transition of its module, round the period; 0 where the module is not listed.
+    fn transition(&self) -> u16
+        ensures value { result ≡ transition_in (Some self.now) }
+        ensures below { result < 16384 }
+    {
+        match self.port.own_module() {
+            Some(own_module) => own_module.transition % STEPS_OF_PERIOD,
+            None => 0,
+        }
+    }
+
+    /// Counts a reason, 1 to 15.
+    pub fn count(&mut self, reason: u8)
         requires at_least { 1 ≤ reason }
         requires at_most { reason ≤ 15 }
-        ensures { self.new ≡ place_counted number reason self.old }
+        ensures { self.new
+            ≡ record self.old { counters = counted (Some reason) self.old.counters } }
     {
-        if self.number == number {
-            self.counters.count(reason);
-        }
+        self.counters.count(reason);
     }
 
     /// Puts out its word, where it changed, and its frames.
@@ -162,4 +175,11 @@ impl Place {
             frame: encode(message),
         }
     }
+}
+
+// A stamp of this reading.
+fn stamp_of(value: Tau, sample: u32) -> Stamp
+    ensures { result ≡ record { value = value; sample = sample } }
+{
+    Stamp { value, sample }
 }

@@ -1,18 +1,26 @@
 //! The ports of a node, in ascending order, and what they were told.
+mod index;
 mod states;
 
-ghost use Rattle.std.specs.Prelude.{◌≡◌, ◌≤◌, ◌+◌, ◌*◌, ◌++◌, length, flat_map};
+ghost use Rattle.std.specs.Prelude.{◌≡◌, ◌≤◌, ◌+◌, ◌*◌, ◌++◌, length, flat_map, IfSome, Some};
 ghost use Rattle.std.specs.List.{AllByRecursion, AllZip};
 ghost use Rattle.std.specs.Option.{option_map};
 ghost use Rattle.wrp_base.specs.Message.{IsSound};
-ghost use Rattle.wrp_node.specs.Place.{GivesTo, Begins, Counts, place_of, place_out, is_to};
+ghost use Rattle.wrp_node.specs.declared.ports.To.TheVariants.{Every, One};
+ghost use Rattle.wrp_node.specs.Index.{numbers_in, AreDifferent, IsWhere};
+ghost use Rattle.wrp_node.specs.Inputs.{stamp_in, measured_in};
+ghost use Rattle.wrp_node.specs.Parts.{FitsRaw};
+ghost use Rattle.wrp_node.specs.Place.{GivesTo, Begins, Counts, place_of, place_out};
 ghost use Rattle.wrp_node.specs.Spelled.{AllSpelled};
-ghost use Rattle.wrp_port.specs.PortAt.{IsFit};
+ghost use Rattle.wrp_port.specs.declared.interface.PortIn.TheVariants.{Msg};
+ghost use Rattle.wrp_port.specs.PortAt.{IsFit, IsStamp};
 
 use crate::Outputs;
 use crate::place::Place;
+use index::{Index, index_of, look_for};
 pub use states::{PortState, PortStates};
 use std::marker::Model;
+use wrp_base::{Clock, Four, PtpMsg, Raw};
 use wrp_port::PortIn;
 
 /// Whom an input is for.
@@ -24,42 +32,34 @@ pub enum To {
     One(u16),
 }
 
-impl To {
-    /// Whether it is for the port of this number.
-    pub fn has(self, number: u16) -> bool
-        ensures { result ≡ is_to self number }
-    {
-        match self {
-            To::Every => true,
-            To::One(one) => number == one,
-        }
-    }
-}
-
 /// The ports of a node.
 #[derive(Debug, Drop)]
 pub struct Ports {
     places: Vec<Place>,
+    index: Index,
 }
 
 impl Model for Ports {
-    ghost use Rattle.std.specs.Prelude.{◌≤◌, List, length};
+    ghost use Rattle.std.specs.Prelude.{List};
     ghost use Rattle.wrp_node.specs.declared.place.Place.{Place};
+    ghost use Rattle.wrp_node.specs.Index.{AreIndexed};
 
     ghost Value = { List Place };
 
     ghost view = { λ p. p.places.items };
 
-    ghost invariant = { λ p. length p.places.items ≤ 18 };
+    ghost invariant = { λ p. AreIndexed p.places.items p.index };
 }
 
 impl Ports {
-    /// These ports.
+    /// These ports, of different numbers.
     pub fn of(places: Vec<Place>) -> Ports
-        requires { length places.items ≤ 18 }
+        requires few { length places.items ≤ 18 }
+        requires different { AreDifferent (numbers_in places.items) }
         ensures { result ≡ places.items }
     {
-        Ports { places }
+        let index = index_of(places.as_slice());
+        Ports { places, index }
     }
 
     /// Before an input: each notes its word, and sends nothing yet.
@@ -76,9 +76,59 @@ impl Ports {
         requires { IsFit input }
         ensures { AllZip (GivesTo to input) self.old self.new }
     {
-        for place in self.places.iter_mut() {
-            place.give(to, input);
+        match to {
+            To::Every => self.give_every(input),
+            To::One(number) => self.give_one(number, input),
         }
+    }
+
+    // Tells every port an input.
+    fn give_every(&mut self, input: PortIn)
+        requires { IsFit input }
+        ensures { AllZip (GivesTo Every input) self.old self.new }
+    {
+        for place in self.places.iter_mut() {
+            place.tell(input);
+        }
+    }
+
+    // Tells the port of a number an input.
+    fn give_one(&mut self, number: u16, input: PortIn)
+        requires { IsFit input }
+        ensures { AllZip (GivesTo (One number) input) self.old self.new }
+    {
+        if let Some(at) = self.at(number) {
+            self.places[usize::from(at)].tell(input);
+        }
+    }
+
+    /// Hands a message that came to the port of a number, which is looked up once: with the stamp of its
+    /// reception there and the node's tick count. Answers the measurement that it may make.
+    pub fn hear(
+        &mut self,
+        number: u16,
+        message: PtpMsg,
+        raw: &Raw,
+        sample: u32,
+        clock: Clock,
+        tick: u32,
+    ) -> Option<Four>
+        requires sound { IsSound message }
+        requires raw { FitsRaw raw.now }
+        ensures given { let stamp = stamp_in clock raw.now sample (place_of number self.old) in
+            AllZip (GivesTo (One number) (Msg message stamp tick)) self.old self.new }
+        ensures fits { IfSome (place_of number self.old)
+            (λ place. IsStamp (stamp_in clock raw.now sample (Some place))) }
+        ensures measured { result ≡ measured_in (place_of number self.new) }
+    {
+        let at = usize::from(self.at(number)?);
+        let stamp = self.places[at].stamp(raw, sample, clock);
+        self.places[at].tell(PortIn::Msg {
+            msg: message,
+            stamp,
+            tick,
+        });
+        self.places[at].measured
     }
 
     /// Counts a reason, 1 to 15, at the port of a number.
@@ -87,8 +137,8 @@ impl Ports {
         requires at_most { reason ≤ 15 }
         ensures { AllZip (Counts number reason) self.old self.new }
     {
-        for place in self.places.iter_mut() {
-            place.count(number, reason);
+        if let Some(at) = self.at(number) {
+            self.places[usize::from(at)].count(reason);
         }
     }
 
@@ -96,12 +146,21 @@ impl Ports {
     pub fn place(&self, number: u16) -> Option<&Place>
         ensures { option_map (λ place. place.now) result ≡ place_of number self.now }
     {
-        for place in &self.places {
-            if place.number == number {
-                return Some(place);
-            }
+        match self.at(number) {
+            Some(at) => Some(&self.places[usize::from(at)]),
+            None => None,
         }
-        None
+    }
+
+    // Where the port of a number stands: by the index, which knows the numbers from 1 to 18.
+    fn at(&self, number: u16) -> Option<u8>
+        ensures { IsWhere number (numbers_in self.now) result }
+    {
+        if 1 <= number && number <= 18 {
+            self.index[usize::from(number) - 1]
+        } else {
+            look_for(number, self.places.as_slice())
+        }
     }
 
     /// Puts out what each port has to put out, in ascending order.

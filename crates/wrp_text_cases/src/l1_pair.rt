@@ -1,7 +1,7 @@
 //! Cases on `L1Pair`: the input is a line `timing TIMEOUT INTERVAL DMAX LIFE`, and then a line an event: `pass DT`, `tick END`,
 //! `enable END`, `disable END`, `own END REQ IS` or `deliver END K`, where END is `a` or `b`. A line is due for each: what the end
-//! answers, as of an `L1Port` but the state, or `broken PREMISE SHOWN BOUND`. At the end come `a STATE ticks N`, the same of `b`, and
-//! `last K`, the number of the newest message.
+//! answers, as of an `L1Port` but the state, or `broken PREMISE SHOWN BOUND` and then `text` with the error's own text. At the end
+//! come `a STATE ticks N`, the same of `b`, and `last K`, the number of the newest message.
 ghost use Rattle.std.specs.Prelude.{◌≤◌, IfOk};
 ghost use Rattle.wrp_l1sync.specs.Pair.{IsFit};
 
@@ -76,17 +76,24 @@ fn step(alloc: Global, pair: &mut L1Pair, event: &L1Event) -> Result<String, Fau
             text.push('\n')?;
             Ok(text)
         }
-        Err(
-            L1Refused::Broken {
-                premise,
-                shown,
-                bound,
-            },
-        ) => {
-            let numbers = [i128::from(premise), shown, bound];
-            Ok(line_of_numbers(alloc, "broken", &numbers)?)
+        Err(refused) => lines_of_refused(alloc, &refused),
+    }
+}
+
+// The lines of a refused event: its numbers, and its text.
+fn lines_of_refused(alloc: Global, refused: &L1Refused) -> Result<String, Fault> {
+    match refused {
+        L1Refused::Broken {
+            premise,
+            shown,
+            bound,
+        } => {
+            let numbers = [i128::from(*premise), *shown, *bound];
+            let mut text = line_of_numbers(alloc, "broken", &numbers)?;
+            text.push_str(format!(in alloc; "text {refused}\n")?.as_str())?;
+            Ok(text)
         }
-        Err(L1Refused::Memory(_)) => Err(Fault::Memory),
+        L1Refused::Memory(_) => Err(Fault::Memory),
     }
 }
 

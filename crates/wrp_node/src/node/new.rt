@@ -3,7 +3,7 @@ ghost use Rattle.std.specs.Prelude.{◌≡◌, [], IfOk, IfSome, is_some};
 ghost use Rattle.std.specs.List.{AllZip};
 ghost use Rattle.wrp_law.specs.Law.{KeepsFact};
 ghost use Rattle.wrp_node.specs.Control.{law_in};
-ghost use Rattle.wrp_node.specs.New.{FitsNodeSet, FitsPorts, IsNewPlace, fixed_of};
+ghost use Rattle.wrp_node.specs.New.{FitsNodeSet, FitsPorts, OfDifferentNumbers, IsNewPlace, fixed_of};
 ghost use Rattle.wrp_node.specs.Node.{IsValid};
 ghost use Rattle.wrp_node.specs.NodeAt.{in_order, slave_of};
 ghost use Rattle.wrp_node.specs.StandsFor.{StandsFor};
@@ -51,7 +51,8 @@ impl<F: Fn(i64) -> i64> Node<F> {
 
 // The ports of a node, in ascending order.
 fn new_ports(alloc: Global, cfg: &NodeSet) -> Result<Ports, AllocError>
-    requires { FitsPorts cfg.now }
+    requires ports { FitsPorts cfg.now }
+    requires numbers { OfDifferentNumbers cfg.now.ports.items }
     ensures { IfOk result (AllZip (IsNewPlace cfg.now) (in_order cfg.now.ports.items)) }
 {
     let ordered = in_order(&cfg.ports);
