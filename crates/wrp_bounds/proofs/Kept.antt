@@ -1,5 +1,5 @@
 -- A network passes the check exactly where it keeps each inequality.
-use Rattle.std.proofs.Common.{◌≡◌, ℕ, pos, zero, suc, ◌+◌, ◌*◌, ◌<◌, ◌≤◌, refl, ap, ap₂, sym, ◌∙◌, List, [], ◌∷◌, Bool, true, false, not, Option, Some, None, length, arith}
+use Rattle.std.proofs.Common.{◌≡◌, ℕ, pos, zero, suc, ◌+◌, ◌*◌, ◌<◌, ◌≤◌, refl, ap, ap₂, sym, ◌∙◌, List, [], ◌∷◌, Bool, false, not, Option, Some, None, length, arith}
 use Rattle.std.proofs.lemmas.Int.{ints}
 use Rattle.std.specs.Prelude.{find, int_lt}
 use Rattle.std.specs.Option.{option_map, option_or}
@@ -8,6 +8,7 @@ use Rattle.wrp_base.specs.declared.configuration.NetCfg.{NetCfg}
 use Rattle.wrp_base.specs.declared.network.NodeCfg.{NodeCfg}
 use Rattle.wrp_base.specs.Clock.{period_of}
 use Rattle.wrp_base.specs.Network.{node_count}
+use Rattle.wrp_base.proofs.Lists.{first_passed, passes_first}
 use Rattle.wrp_bounds.specs.declared.inequality.Inequality.{Inequality}
 use Rattle.wrp_bounds.specs.declared.numbers.HopNumbers.{HopNumbers}
 use Rattle.wrp_bounds.specs.Bounds.{numbers_of}
@@ -27,18 +28,6 @@ less_keeps a b is = grind (arith, ints)
 
 at_most_keeps : (a b : ℕ) → a ≤ b → not (not (int_lt (pos b) (pos a))) ≡ false
 at_most_keeps a b is = grind (arith, ints)
-
--- a search that finds nothing passes by what stands first
-first_passed : {X : Type 0} (p : X → Bool) (x : X) (xs : List X) → find p (x ∷ xs) ≡ None → (p x ≡ false) × (find p xs ≡ None)
-first_passed p x xs none =
-    elim (p x) as (λ b. p x ≡ b → (p x ≡ false) × (find p xs ≡ None)) [
-      | true ↦ λ is. let found : Some x ≡ None = rw is at none in absurd (cc)
-      | false ↦ λ is. (is, rw is at none)
-    ] refl
-
--- and finds nothing where it passes by that and by the rest
-passes_first : {X : Type 0} (p : X → Bool) (x : X) (xs : List X) → p x ≡ false → find p xs ≡ None → find p (x ∷ xs) ≡ None
-passes_first p x xs is none = rw is none
 
 -- the same of what may stand first
 some_passed : {X : Type 0} (p : X → Bool) (o : Option X) (xs : List X) → find p (cons_option o xs) ≡ None → ((x : X) → o ≡ Some x → p x ≡ false) × (find p xs ≡ None)

@@ -1,21 +1,13 @@
 -- A link that is found above a node is one of the network's, so its ends are nodes.
 use Rattle.std.proofs.lemmas.Option.{slice_get_read}
-use Rattle.std.proofs.Common.{◌≡◌, ℕ, suc, ◌<◌, length, get_or, refl, sym, List, [], ◌∷◌, Bool, true, false, Option, Some, None, slice_get, Bor, IfSome, option_map}
-use Rattle.std.specs.Prelude.{◌==◌, find}
+use Rattle.std.proofs.Common.{◌≡◌, ℕ, ◌<◌, length, get_or, refl, sym, List, Option, Some, None, slice_get, Bor, IfSome, option_map}
+use Rattle.std.specs.Prelude.{◌==◌}
 use Rattle.wrp_base.specs.declared.configuration.NetCfg.{NetCfg}
 use Rattle.wrp_base.specs.declared.network.LinkCfg.{LinkCfg}
 use Rattle.wrp_base.specs.Network.{HasRanges, IsTree, IsLink, link_above}
 use Rattle.wrp_base.specs.declared.network.NodeCfg.{NodeCfg}
+use Rattle.wrp_base.proofs.Lists.{found_at}
 use Rattle.wrp_bounds.specs.Bounds.{IsPlaced, numbers_over, numbers_between}
-
--- what a search finds stands at some place
-pub found_at : {X : Type 0} (p : X → Bool) (xs : List X) (x : X) → find p xs ≡ Some x → (i : ℕ) × (slice_get xs i ≡ Some x)
-found_at p [] x found = absurd (cc)
-found_at p (y ∷ ys) x found =
-    elim (p y) as (λ b. p y ≡ b → (i : ℕ) × (slice_get (y ∷ ys) i ≡ Some x)) [
-      | true ↦ λ is. (0, rw is at found)
-      | false ↦ λ is. let later : (i : ℕ) × (slice_get ys i ≡ Some x) = found_at p ys x (rw is at found) in (suc later.0, later.1)
-    ] refl
 
 -- the link above a node is placed
 pub placed_above : (net : NetCfg) (n : ℕ) (link : LinkCfg) → HasRanges net → IsTree net → link_above net n ≡ Some link → IsPlaced net link

@@ -1,6 +1,6 @@
 -- The parts of a text that has no place of any code.
-use Rattle.std.proofs.Common.{◌≡◌, ◌+◌, ◌&&◌, ◌||◌, not, ℕ, zero, suc, List, [], ◌∷◌, Bool, true, false, Option, None, Some, map, option_map, length, take, cond, refl, ap, arith}
-use Rattle.std.proofs.lemmas.Bool.{and_parts}
+use Rattle.std.proofs.Common.{◌≡◌, ◌+◌, ◌&&◌, ℕ, zero, suc, List, [], ◌∷◌, Bool, true, false, Option, None, Some, map, option_map, length, take, refl, ap, arith}
+use Rattle.std.proofs.lemmas.Bool.{and_parts, or_parts}
 use Rattle.std.proofs.lemmas.Bool.Decides.{nat_tests}
 use Rattle.std.specs.Prelude.{nat_le, if◌then◌else◌}
 use Rattle.std.specs.Option.{option_or, is_some}
@@ -18,28 +18,9 @@ pub none_parts : {T : Type 0} (a b : Option T) → option_or a b ≡ None → (a
 none_parts None b e = (refl, e)
 none_parts (Some x) b e = cc e
 
-pub or_parts : (a b : Bool) → (a || b) ≡ false → (a ≡ false) × (b ≡ false)
-or_parts false b e = (refl, e)
-or_parts true b e = cc e
-
-pub not_false : (b : Bool) → not b ≡ false → b ≡ true
-not_false true e = refl
-not_false false e = cc e
-
 pub if_none : {T : Type 0} (b : Bool) (x : T) → (if b then Some x else None) ≡ None → b ≡ false
 if_none true x e = cc e
 if_none false x e = refl
-
-cond_none : {T : Type 0} (b : Bool) (x : T) (rest : Option T) → cond b (Some x) rest ≡ None → (b ≡ false) × (rest ≡ None)
-cond_none true x rest e = cc e
-cond_none false x rest e = (refl, e)
-
--- nothing found: the first fails the test, and nothing is found behind it
-pub find_parts : {X : Type 0} (p : X → Bool) (x : X) (xs : List X) → find p (x ∷ xs) ≡ None → (p x ≡ false) × (find p xs ≡ None)
-find_parts p x xs e = cond_none (p x) x (find p xs) e
-
-pub find_none : {X : Type 0} (p : X → Bool) (x : X) (xs : List X) → p x ≡ false → find p xs ≡ None → find p (x ∷ xs) ≡ None
-find_none p x xs here rest = rw (here, rest) refl
 
 -- the test of a key with a fault
 abbrev pub at_fault : Code → Members → Key → Bool

@@ -1,11 +1,12 @@
 -- The fibres of a text that has no place of any code, written again, have none.
 use Rattle.std.proofs.Common.{◌≡◌, ◌≤◌, ◌+◌, not, ℕ, ℤ, pos, negsuc, List, [], ◌∷◌, Bool, true, false, Option, None, Some, map, option_map, take, unsigned_abs, min, refl, sym, ap, subst, ap₂, ◌∙◌, arith}
-use Rattle.std.proofs.lemmas.Bool.{false≢true}
+use Rattle.std.proofs.lemmas.Bool.{false≢true, not-false}
 use Rattle.std.specs.Prelude.{unwrap_or, option_and_then, codes, if◌then◌else◌}
 use Rattle.std.specs.Option.{is_some}
 use Rattle.std.specs.List.{find}
 use Rattle.toml.specs.Data.{Data, Members, table, array, integer, as_integer, get_member}
 use Rattle.toml.specs.View.{items_of}
+use Rattle.wrp_base.proofs.Lists.{first_passed, passes_first}
 use Rattle.wrp_caldb.specs.Calibration.{fibre_name_key, kappa_key, fibre_err_key, table_err_key, table_key, linear_law, law_of, linear_keys, fibre_keys, place_in_fibre, place_in_fibres}
 use Rattle.wrp_caldb.specs.Database.{TableAt, natural_at, number_at, name_at, each_table, table_of, fibre_of}
 use Rattle.wrp_caldb.specs.Key.{Key}
@@ -20,7 +21,7 @@ use Rattle.wrp_caldb.specs.declared.place.At.TheVariants as tables
 use Rattle.wrp_caldb.specs.declared.row.Code.{Code}
 use Rattle.wrp_caldb.specs.declared.row.Code.TheVariants as co
 use Rattle.wrp_caldb.specs.declared.row.Linear.{Linear}
-use Rattle.wrp_caldb.proofs.Kept.{none_parts, not_false, find_parts, find_none, at_fault, no_key, no_place, among, members_in, tables_of-members}
+use Rattle.wrp_caldb.proofs.Kept.{none_parts, at_fault, no_key, no_place, among, members_in, tables_of-members}
 use Rattle.wrp_caldb.proofs.KeptModules.{relisted}
 use Rattle.wrp_caldb.proofs.KeptNames.{IsText, plain_text, name_read, names_kept}
 use Rattle.wrp_caldb.proofs.KeptNumbers.{number_kept, default_fits}
@@ -46,7 +47,7 @@ kappa_in (Some z) e = (z, refl)
 kappa_of : (found : Option Data) → has_fault co.Missing kappa_key found ≡ false → has_fault co.Range kappa_key found ≡ false → IsKappa found
 kappa_of None missing range = cc missing
 kappa_of (Some d) missing range =
-    let fits = not_false (in_range lowest highest (as_integer d)) range in
+    let fits = not-false (in_range lowest highest (as_integer d)) range in
     let k = kappa_in (as_integer d) fits in
     record {
       kappa = k.0;
@@ -74,7 +75,7 @@ err_in (Some (negsuc m)) e = absurd (false≢true e)
 err_of : (found : Option Data) → has_fault co.Range table_err_key found ≡ false → IsErr found
 err_of None range = record { err = 0; is = refl; fits = refl }
 err_of (Some d) range =
-    let fits = not_false (in_range (pos 0) (pos 1_000_000_000) (as_integer d)) range in
+    let fits = not-false (in_range (pos 0) (pos 1_000_000_000) (as_integer d)) range in
     let m = err_in (as_integer d) fits in
     record {
       err = m.0;
@@ -108,13 +109,13 @@ line_rows t tab more line rest =
     let test = at_fault co.Range (fibre_text t tab) in
     let behind = table_key (law_of (fibre_text t tab)) ∷ more in
     let named = ap is_name (name_read (name_in t) line.name) ∙ line.name.passes in
-    find_none test fibre_name_key (kappa_key ∷ fibre_err_key ∷ behind) (ap not named)
-    (find_none test kappa_key (fibre_err_key ∷ behind) (kappa_fits (get_member (codes "kappa") t) line.kappa)
-    (find_none test fibre_err_key behind line.err rest))
+    passes_first test fibre_name_key (kappa_key ∷ fibre_err_key ∷ behind) (ap not named)
+    (passes_first test kappa_key (fibre_err_key ∷ behind) (kappa_fits (get_member (codes "kappa") t) line.kappa)
+    (passes_first test fibre_err_key behind line.err rest))
 
 -- a fibre without points
 bare_rows : (t : Members) → HasLine t → find (at_fault co.Range (fibre_text t None)) (fibre_keys (fibre_text t None)) ≡ None
-bare_rows t line = line_rows t None [] line (find_none (at_fault co.Range (fibre_text t None)) (table_key (law_of (fibre_text t None))) [] refl refl)
+bare_rows t line = line_rows t None [] line (passes_first (at_fault co.Range (fibre_text t None)) (table_key (law_of (fibre_text t None))) [] refl refl)
 
 -- the points, where the value of `table` fits
 record IsStored (law : Option Linear) (d : Data) : Type 0 where
@@ -128,7 +129,7 @@ stored_in law (Some ps) e = (ps, refl, e)
 
 stored_of : (law : Option Linear) (d : Data) → has_fault co.Range (table_key law) (Some d) ≡ false → IsStored law d
 stored_of law d range =
-    let found = stored_in law (stored_points d) (not_false (is_table law (stored_points d)) range) in
+    let found = stored_in law (stored_points d) (not-false (is_table law (stored_points d)) range) in
     record { points = found.0; is = found.1; fits = found.2 }
 
 abbrev with_points : Members → List (ℤ × ℤ) → Members
@@ -150,12 +151,8 @@ table_rows t d line e s =
     let law = law_again t s.points line.kappa e in
     let fits = ap₂ is_table law (points_again d s.points s.is) ∙ s.fits in
     line_rows t (Some (table_with (natural_at table_err_key t) s.points)) (table_err_key ∷ []) line
-    (find_none test (table_key (law_of (with_points t s.points))) (table_err_key ∷ []) (ap not fits)
-    (find_none test table_err_key [] (default_fits (codes "table_err") 1_000_000_000 (omega arith) (get_member (codes "table_err") t)) refl))
-
--- the rows of a fibre, whatever stands at `table`
-abbrev rows_with : Members → Option Data → List Key
-rows_with t found = linear_keys t (if is_some found then table_err_key ∷ [] else [])
+    (passes_first test (table_key (law_of (with_points t s.points))) (table_err_key ∷ []) (ap not fits)
+    (passes_first test table_err_key [] (default_fits (codes "table_err") 1_000_000_000 (omega arith) (get_member (codes "table_err") t)) refl))
 
 some_rows : (t : Members) (found : Option Data) → HasLine t → get_member (codes "table") t ≡ found
     → find (at_fault co.Range t) (table_key (law_of t) ∷ (if is_some found then table_err_key ∷ [] else [])) ≡ None
@@ -164,8 +161,8 @@ some_rows t None line e range =
     let none : table_of t ≡ None = rw e refl in
     subst (λ tab. find (at_fault co.Range (fibre_text t tab)) (fibre_keys (fibre_text t tab)) ≡ None) (sym none) (bare_rows t line)
 some_rows t (Some d) line e range =
-    let first = find_parts (at_fault co.Range t) (table_key (law_of t)) (table_err_key ∷ []) range in
-    let second = find_parts (at_fault co.Range t) table_err_key [] first.1 in
+    let first = first_passed (at_fault co.Range t) (table_key (law_of t)) (table_err_key ∷ []) range in
+    let second = first_passed (at_fault co.Range t) table_err_key [] first.1 in
     let here : has_fault co.Range (table_key (law_of t)) (Some d) ≡ false =
     subst (λ found. has_fault co.Range (table_key (law_of t)) found ≡ false) e first.0 in
     let s = stored_of (law_of t) d here in
@@ -183,12 +180,12 @@ behind_line t = table_key (law_of t) ∷ (if is_some (get_member (codes "table")
 line_of : (t : Members) → find (at_fault co.Missing t) (fibre_keys t) ≡ None → find (at_fault co.Range t) (fibre_keys t) ≡ None
     → HasLine t × (find (at_fault co.Range t) (behind_line t) ≡ None)
 line_of t missing range =
-    let m1 = find_parts (at_fault co.Missing t) fibre_name_key (kappa_key ∷ fibre_err_key ∷ behind_line t) missing in
-    let r1 = find_parts (at_fault co.Range t) fibre_name_key (kappa_key ∷ fibre_err_key ∷ behind_line t) range in
-    let m2 = find_parts (at_fault co.Missing t) kappa_key (fibre_err_key ∷ behind_line t) m1.1 in
-    let r2 = find_parts (at_fault co.Range t) kappa_key (fibre_err_key ∷ behind_line t) r1.1 in
-    let m3 = find_parts (at_fault co.Missing t) fibre_err_key (behind_line t) m2.1 in
-    let r3 = find_parts (at_fault co.Range t) fibre_err_key (behind_line t) r2.1 in (
+    let m1 = first_passed (at_fault co.Missing t) fibre_name_key (kappa_key ∷ fibre_err_key ∷ behind_line t) missing in
+    let r1 = first_passed (at_fault co.Range t) fibre_name_key (kappa_key ∷ fibre_err_key ∷ behind_line t) range in
+    let m2 = first_passed (at_fault co.Missing t) kappa_key (fibre_err_key ∷ behind_line t) m1.1 in
+    let r2 = first_passed (at_fault co.Range t) kappa_key (fibre_err_key ∷ behind_line t) r1.1 in
+    let m3 = first_passed (at_fault co.Missing t) fibre_err_key (behind_line t) m2.1 in
+    let r3 = first_passed (at_fault co.Range t) fibre_err_key (behind_line t) r2.1 in (
       record {
         name = plain_text (codes "name") (get_member (codes "name") t) m1.0 r1.0;
         kappa = kappa_of (get_member (codes "kappa") t) m2.0 r2.0;

@@ -1,12 +1,13 @@
 -- The modules of a text that has no place of any code, written again, have none.
 use Rattle.std.proofs.Common.{◌≡◌, ◌+◌, ◌&&◌, not, ℕ, pos, List, [], ◌∷◌, Bool, true, false, Option, None, Some, map, take, length, refl, sym, ap, subst, ◌∙◌, arith}
-use Rattle.std.proofs.lemmas.Bool.{and_parts, false≢true}
+use Rattle.std.proofs.lemmas.Bool.{and_parts, false≢true, not-false}
 use Rattle.std.proofs.lemmas.List.{length-map}
 use Rattle.std.specs.Prelude.{option_and_then, codes, nat_le}
 use Rattle.std.specs.Option.{is_some, option_or}
 use Rattle.std.specs.List.{find, list_all}
 use Rattle.toml.specs.Data.{Data, Members, table, array, as_table, get_member}
 use Rattle.toml.specs.View.{items_of}
+use Rattle.wrp_base.proofs.Lists.{first_passed, passes_first}
 use Rattle.wrp_caldb.specs.Calibration.{tx_key, rx_key, transition_key, module_err_key, tx_nm_key, rx_nm_key, module_keys, module_name_key, pair_keys, place_in_pair, place_in_pairs, place_in_module, place_in_modules}
 use Rattle.wrp_caldb.specs.Database.{delays_of, entry_of, each_table, entries_of, module_of}
 use Rattle.wrp_caldb.specs.Key.{Key, required_key}
@@ -24,7 +25,7 @@ use Rattle.wrp_caldb.specs.declared.place.At.TheVariants as tables
 use Rattle.wrp_caldb.specs.declared.row.Code.{Code}
 use Rattle.wrp_caldb.specs.declared.row.Code.TheVariants as co
 use Rattle.wrp_caldb.specs.declared.row.Sort.TheVariants as so
-use Rattle.wrp_caldb.proofs.Kept.{none_parts, not_false, find_parts, find_none, at_fault, no_key, no_place, among, each_passes, members_in, tables_of-members, each_table-map, map-map, length_step}
+use Rattle.wrp_caldb.proofs.Kept.{none_parts, at_fault, no_key, no_place, among, each_passes, members_in, tables_of-members, each_table-map, map-map, length_step}
 use Rattle.wrp_caldb.proofs.KeptNames.{IsText, module_text, is_plain, module_named, names_kept}
 use Rattle.wrp_caldb.proofs.KeptPairs.{delays_fit, delay_keys, has_waves, has_waves_in, waves_in, pair_again, pair_kept}
 use Rattle.wrp_caldb.proofs.ReadBack.{tables_again, tables_of-array}
@@ -39,8 +40,8 @@ module_again_of v t = module_members (module_of v t)
 
 -- the first row of a module is its name
 name_row : (v : Version) (code : Code) (t : Members) → find (at_fault code t) (module_keys v) ≡ None → at_fault code t module_name_key ≡ false
-name_row One code t none = (find_parts (at_fault code t) module_name_key (tx_key ∷ rx_key ∷ transition_key ∷ module_err_key ∷ []) none).0
-name_row Two code t none = (find_parts (at_fault code t) module_name_key (pair_key ∷ []) none).0
+name_row One code t none = (first_passed (at_fault code t) module_name_key (tx_key ∷ rx_key ∷ transition_key ∷ module_err_key ∷ []) none).0
+name_row Two code t none = (first_passed (at_fault code t) module_name_key (pair_key ∷ []) none).0
 
 -- a module's entries are 1 to 16
 abbrev are_some : ℕ → Bool
@@ -62,15 +63,15 @@ count_if (Some ds) e =
 count_in : (found : Option Data) → has_fault co.Missing pair_key found ≡ false → has_fault co.Range pair_key found ≡ false
     → are_some (length (each_table entry_of (tables_of (option_and_then values_of found)))) ≡ true
 count_in None missing range = cc missing
-count_in (Some d) missing range = count_if (values_of d) (not_false (is_array_of_tables 1 (Some 16) (values_of d)) range)
+count_in (Some d) missing range = count_if (values_of d) (not-false (is_array_of_tables 1 (Some 16) (values_of d)) range)
 
 entry_count : (v : Version) (t : Members) → find (at_fault co.Missing t) (module_keys v) ≡ None → find (at_fault co.Range t) (module_keys v) ≡ None
     → are_some (length (entries_of v t)) ≡ true
 entry_count One t missing range = refl
 entry_count Two t missing range =
-    let m = find_parts (at_fault co.Missing t) module_name_key (pair_key ∷ []) missing in
-    let r = find_parts (at_fault co.Range t) module_name_key (pair_key ∷ []) range in
-    count_in (get_member (codes "pair") t) (find_parts (at_fault co.Missing t) pair_key [] m.1).0 (find_parts (at_fault co.Range t) pair_key [] r.1).0
+    let m = first_passed (at_fault co.Missing t) module_name_key (pair_key ∷ []) missing in
+    let r = first_passed (at_fault co.Range t) module_name_key (pair_key ∷ []) range in
+    count_in (get_member (codes "pair") t) (first_passed (at_fault co.Missing t) pair_key [] m.1).0 (first_passed (at_fault co.Range t) pair_key [] r.1).0
 
 -- an array of so many pairs
 pairs_fit : (es : List Entry) → are_some (length es) ≡ true
@@ -87,8 +88,8 @@ rows_again co.UnknownKey at v t name some = refl
 rows_again co.Missing at v t name some = refl
 rows_again co.Range at v t name some =
     no_place co.Range at (module_keys Two) (module_again_of v t) refl
-    (find_none (at_fault co.Range (module_again_of v t)) module_name_key (pair_key ∷ []) (ap not (module_named (name_in t) name))
-    (find_none (at_fault co.Range (module_again_of v t)) pair_key [] (ap not (pairs_fit (entries_of v t) some)) refl))
+    (passes_first (at_fault co.Range (module_again_of v t)) module_name_key (pair_key ∷ []) (ap not (module_named (name_in t) name))
+    (passes_first (at_fault co.Range (module_again_of v t)) pair_key [] (ap not (pairs_fit (entries_of v t) some)) refl))
 rows_again co.Twice at v t name some = refl
 
 -- the tables of a list, read and written again
@@ -109,8 +110,8 @@ only_pair_fits : (code : Code) (owner : ℕ) (pairs : List Data) (t : Members) �
 only_pair_fits co.UnknownKey owner pairs t = refl
 only_pair_fits co.Missing owner pairs t = refl
 only_pair_fits co.Range owner pairs t =
-    let keys = find_none (at_fault co.Range (only_pair t)) tx_nm_key (rx_nm_key (Some (pos 0)) ∷ delay_keys) refl
-    (find_none (at_fault co.Range (only_pair t)) (rx_nm_key (Some (pos 0))) delay_keys refl (delays_fit t 0 0)) in
+    let keys = passes_first (at_fault co.Range (only_pair t)) tx_nm_key (rx_nm_key (Some (pos 0)) ∷ delay_keys) refl
+    (passes_first (at_fault co.Range (only_pair t)) (rx_nm_key (Some (pos 0))) delay_keys refl (delays_fit t 0 0)) in
     rw (no_place co.Range (tables.Pair owner 1) (pair_keys (only_pair t)) (only_pair t) refl keys) refl
 only_pair_fits co.Twice owner pairs t = refl
 

@@ -1,6 +1,6 @@
 -- A name that a text may have is the name that is read, and no two become one.
 use Rattle.std.proofs.Common.{◌≡◌, not, ℕ, List, [], ◌∷◌, Bool, true, false, Option, None, Some, map, take, refl, ap, ◌∙◌}
-use Rattle.std.proofs.lemmas.Bool.{and_parts}
+use Rattle.std.proofs.lemmas.Bool.{and_parts, not-false}
 use Rattle.std.specs.Prelude.{option_and_then, codes, if◌then◌else◌}
 use Rattle.std.specs.List.{list_any}
 use Rattle.toml.specs.Data.{Data, Members, table, as_str}
@@ -13,7 +13,7 @@ use Rattle.wrp_caldb.specs.declared.place.At.{At}
 use Rattle.wrp_caldb.specs.declared.row.Code.{Code}
 use Rattle.wrp_caldb.specs.declared.row.Code.TheVariants as co
 use Rattle.wrp_caldb.specs.declared.row.Sort.TheVariants as so
-use Rattle.wrp_caldb.proofs.Kept.{not_false, if_none, any_kept, all_true}
+use Rattle.wrp_caldb.proofs.Kept.{if_none, any_kept, all_true}
 
 -- the text passes the test
 pub record IsText (test : List ℕ → Bool) (found : Option (List ℕ)) : Type 0 where
@@ -21,9 +21,9 @@ pub record IsText (test : List ℕ → Bool) (found : Option (List ℕ)) : Type 
   pub is : found ≡ Some text
   pub passes : test text ≡ true
 
-fitting_text : (test : List ℕ → Bool) (o : Option (List ℕ)) → not (is_text_of test o) ≡ false → IsText test o
+pub fitting_text : (test : List ℕ → Bool) (o : Option (List ℕ)) → not (is_text_of test o) ≡ false → IsText test o
 fitting_text test None e = cc e
-fitting_text test (Some text) e = record { text = text; is = refl; passes = not_false (test text) e }
+fitting_text test (Some text) e = record { text = text; is = refl; passes = not-false (test text) e }
 
 -- a required name that is there and fits
 pub module_text : (name : List ℕ) (found : Option Data)

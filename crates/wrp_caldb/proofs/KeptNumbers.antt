@@ -1,6 +1,6 @@
 -- A number that a text may have is the number that is read, and fits again.
 use Rattle.std.proofs.Common.{◌≡◌, ◌≤◌, ◌&&◌, not, ℕ, ℤ, pos, negsuc, List, Bool, true, false, Option, None, Some, unsigned_abs, min, refl, sym, ap, subst, ◌∙◌, arith}
-use Rattle.std.proofs.lemmas.Bool.{and_parts, false≢true}
+use Rattle.std.proofs.lemmas.Bool.{and_parts, false≢true, not-false}
 use Rattle.std.proofs.lemmas.Bool.Decides.{nat_tests}
 use Rattle.std.specs.Prelude.{unwrap_or, option_and_then, nat_le}
 use Rattle.toml.specs.Data.{Data, as_integer}
@@ -9,7 +9,6 @@ use Rattle.wrp_caldb.specs.Key.{number_key, default_key}
 use Rattle.wrp_caldb.specs.Rows.{has_fault, in_range, is_wavelength, fits_first, number_in}
 use Rattle.wrp_caldb.specs.Text.{number}
 use Rattle.wrp_caldb.specs.declared.row.Code.TheVariants as co
-use Rattle.wrp_caldb.proofs.Kept.{not_false}
 use Rattle.wrp_caldb.proofs.ReadBack.{IsSmallTest, value, in_range_small, wavelength_small}
 
 -- the number as it is written
@@ -62,7 +61,7 @@ pub number_kept : (name : List ℕ) (a b : ℕ) → b ≤ 9_223_372_036_854_775_
     has_fault co.Range (number_key name (pos a) (pos b)) (Some (number n)) ≡ false
 number_kept name a b h None missing range = cc missing
 number_kept name a b h (Some d) missing range =
-    let fits = not_false (in_range (pos a) (pos b) (as_integer d)) range in
+    let fits = not-false (in_range (pos a) (pos b) (as_integer d)) range in
     rw fits (ap not (fits_written (in_range (pos a) (pos b)) (in_range_small a b h) (as_integer d) fits))
 
 -- a wavelength that a pair has
@@ -87,7 +86,7 @@ wave_in found fits =
 pub first_wave : (found : Option Data) → has_fault co.Missing tx_nm_key found ≡ false → has_fault co.Range tx_nm_key found ≡ false → IsWave found
 first_wave None missing range = cc missing
 first_wave (Some d) missing range =
-    let fits = not_false (is_wavelength (as_integer d)) range in
+    let fits = not-false (is_wavelength (as_integer d)) range in
     let wave = wave_of (as_integer d) fits in
     record { nm = wave.0; is = wave.1; passes = wave_passes (as_integer d) wave.0 wave.1 fits }
 
@@ -96,7 +95,7 @@ pub second_wave : (first : Option ℤ) (found : Option Data) → has_fault co.Mi
     → IsWave found × (fits_first first (option_and_then as_integer found) ≡ true)
 second_wave first None missing range = cc missing
 second_wave first (Some d) missing range =
-    let fits = and_parts (is_wavelength (as_integer d)) (fits_first first (as_integer d)) (not_false _ range) in
+    let fits = and_parts (is_wavelength (as_integer d)) (fits_first first (as_integer d)) (not-false _ range) in
     let wave = wave_of (as_integer d) fits.0 in
     (record { nm = wave.0; is = wave.1; passes = wave_passes (as_integer d) wave.0 wave.1 fits.0 }, fits.1)
 

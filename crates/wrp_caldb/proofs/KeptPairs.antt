@@ -4,6 +4,7 @@ use Rattle.std.proofs.lemmas.Bool.{and_parts}
 use Rattle.std.specs.Prelude.{codes}
 use Rattle.std.specs.List.{find, list_all, list_any}
 use Rattle.toml.specs.Data.{Data, Members, table, get_member}
+use Rattle.wrp_base.proofs.Lists.{first_passed, passes_first}
 use Rattle.wrp_caldb.specs.Calibration.{tx_key, rx_key, transition_key, module_err_key, tx_nm_key, rx_nm_key, first_wavelength, pair_keys, place_in_pair}
 use Rattle.wrp_caldb.specs.Database.{natural_at, delays_of, entry_of}
 use Rattle.wrp_caldb.specs.Key.{Key}
@@ -15,7 +16,7 @@ use Rattle.wrp_caldb.specs.declared.place.At.{At}
 use Rattle.wrp_caldb.specs.declared.place.At.TheVariants as tables
 use Rattle.wrp_caldb.specs.declared.row.Code.{Code}
 use Rattle.wrp_caldb.specs.declared.row.Code.TheVariants as co
-use Rattle.wrp_caldb.proofs.Kept.{none_parts, if_none, find_parts, find_none, at_fault, no_key, no_place, any_kept}
+use Rattle.wrp_caldb.proofs.Kept.{none_parts, if_none, at_fault, no_key, no_place, any_kept}
 use Rattle.wrp_caldb.proofs.KeptNumbers.{number_fits, IsWave, wave_in, first_wave, second_wave, first_read, second_read, wave_written}
 
 -- the wavelengths of a pair that fits its rows
@@ -37,10 +38,10 @@ Fits p code = find (at_fault code p) (pair_keys p) ≡ None
 
 pub waves_of : (p : Members) → Fits p co.Missing → Fits p co.Range → HasWaves p
 waves_of p missing range =
-    let m1 = find_parts (at_fault co.Missing p) tx_nm_key (after_first p) missing in
-    let r1 = find_parts (at_fault co.Range p) tx_nm_key (after_first p) range in
-    let m2 = find_parts (at_fault co.Missing p) (rx_nm_key (first_wavelength p)) delay_keys m1.1 in
-    let r2 = find_parts (at_fault co.Range p) (rx_nm_key (first_wavelength p)) delay_keys r1.1 in
+    let m1 = first_passed (at_fault co.Missing p) tx_nm_key (after_first p) missing in
+    let r1 = first_passed (at_fault co.Range p) tx_nm_key (after_first p) range in
+    let m2 = first_passed (at_fault co.Missing p) (rx_nm_key (first_wavelength p)) delay_keys m1.1 in
+    let r2 = first_passed (at_fault co.Range p) (rx_nm_key (first_wavelength p)) delay_keys r1.1 in
     let second = second_wave (first_wavelength p) (get_member (codes "rx_nm") p) m2.0 r2.0 in
     record {
       first = first_wave (get_member (codes "tx_nm") p) m1.0 r1.0;
@@ -64,13 +65,13 @@ pub delays_fit : (t : Members) (tx rx : ℕ)
     → find (at_fault co.Range (pair_members (record { tx_nm = tx; rx_nm = rx; delays = delays_of t }))) delay_keys ≡ None
 delays_fit t tx rx =
     let test = at_fault co.Range (pair_members (record { tx_nm = tx; rx_nm = rx; delays = delays_of t })) in
-    find_none test tx_key (rx_key ∷ transition_key ∷ module_err_key ∷ [])
+    passes_first test tx_key (rx_key ∷ transition_key ∷ module_err_key ∷ [])
     (number_fits (codes "tx") 1_000_000_000_000 (omega arith) (get_member (codes "tx") t))
-    (find_none test rx_key (transition_key ∷ module_err_key ∷ [])
+    (passes_first test rx_key (transition_key ∷ module_err_key ∷ [])
     (number_fits (codes "rx") 1_000_000_000_000 (omega arith) (get_member (codes "rx") t))
-    (find_none test transition_key (module_err_key ∷ [])
+    (passes_first test transition_key (module_err_key ∷ [])
     (number_fits (codes "transition") 16383 (omega arith) (get_member (codes "transition") t))
-    (find_none test module_err_key []
+    (passes_first test module_err_key []
     (number_fits (codes "err") 1_000_000_000 (omega arith) (get_member (codes "err") t)) refl)))
 
 fits_two : (a b : Option ℤ) → is_wavelength b ≡ true → fits_first a b ≡ true → not (is_wavelength b && fits_first a b) ≡ false
@@ -81,9 +82,9 @@ range_again p w =
     let again = pair_members (entry_of p) in
     let first : is_wavelength (first_wavelength p) ≡ true = rw w.first.is w.first.passes in
     let second : is_wavelength (integer_in (codes "rx_nm") p) ≡ true = rw w.second.is w.second.passes in
-    find_none (at_fault co.Range again) tx_nm_key (after_first again)
+    passes_first (at_fault co.Range again) tx_nm_key (after_first again)
     (ap (λ x. not (is_wavelength x)) (first_again p w.first) ∙ ap not first)
-    (find_none (at_fault co.Range again) (rx_nm_key (first_wavelength again)) delay_keys
+    (passes_first (at_fault co.Range again) (rx_nm_key (first_wavelength again)) delay_keys
     (ap₂ (λ a b. not (is_wavelength b && fits_first a b)) (first_again p w.first) (second_again p w.second)
     ∙ fits_two (first_wavelength p) (integer_in (codes "rx_nm") p) second w.fits)
     (delays_fit p (natural_at tx_nm_key p) (natural_at (rx_nm_key None) p)))

@@ -1,6 +1,6 @@
 -- A database of an accepted text has exactly one text.
 use Rattle.std.proofs.Common.{◌≡◌, ◌<◌, ◌+◌, ◌&&◌, ◌^◌, take, lit<, ℕ, ℤ, pos, negsuc, neg_ℤ, List, [], ◌∷◌, Bool, true, false, Option, None, Some, map, min, option_map, refl, sym, ap, subst, ◌∙◌, arith}
-use Rattle.std.proofs.lemmas.Bool.{and_parts}
+use Rattle.std.proofs.lemmas.Bool.{and_parts, not-false}
 use Rattle.std.proofs.lemmas.Int.{ints, fits_signed_from_abs}
 use Rattle.std.specs.Int.{w64}
 use Rattle.std.specs.Int.Signed.{le_z}
@@ -9,6 +9,7 @@ use Rattle.std.specs.Option.{is_some, option_or}
 use Rattle.std.specs.Prelude.{codes, option_and_then, unwrap_or, if◌then◌else◌}
 use Rattle.toml.specs.Data.{Data, table, Members, as_integer, get_member, is_before}
 use Rattle.toml.specs.View.{items_of}
+use Rattle.wrp_base.proofs.Lists.{first_passed}
 use Rattle.wrp_caldb.specs.Calibration.{module_key, fibre_key, fibre_name_key, kappa_key, fibre_err_key, table_err_key, table_key, law_of, fibre_keys, version_of, place_in_fibre, place_in_fibres, place_in_modules, place_in_lists, place_in_top, IsAccepted}
 use Rattle.wrp_caldb.specs.Database.{Database, ModuleAt, FibreAt, TableAt, each_table, fibre_of, natural_at, database_of}
 use Rattle.wrp_caldb.specs.Key.{Key}
@@ -22,7 +23,7 @@ use Rattle.wrp_caldb.specs.declared.keys.Others.{Others}
 use Rattle.wrp_caldb.specs.declared.place.At.TheVariants as tables
 use Rattle.wrp_caldb.specs.declared.row.Code.TheVariants as co
 use Rattle.wrp_caldb.specs.declared.row.Linear.{Linear}
-use Rattle.wrp_caldb.proofs.Kept.{none_parts, not_false, find_parts, at_fault, no_key, members_in, tables_of-members, each_table-map}
+use Rattle.wrp_caldb.proofs.Kept.{none_parts, at_fault, no_key, members_in, tables_of-members, each_table-map}
 use Rattle.wrp_caldb.proofs.PlainTexts.{ItemsArePlain, MembersArePlain, Fits, one_document, document_text}
 
 -- ---- the document of a database is plain where the numbers of its fibres are
@@ -128,7 +129,7 @@ stored_fit law err (Some ps) e = fitting_points law ps (and_parts (list_all (is_
 fitting_table : (law : Option Linear) (err : ℕ) (found : Option Data) → has_fault co.Range (table_key law) found ≡ false
     → TableIs Fits (option_map (λ ps. record { points = ps; err = err }) (option_and_then stored_points found))
 fitting_table law err None range = tt
-fitting_table law err (Some d) range = stored_fit law err (stored_points d) (not_false (is_table law (stored_points d)) range)
+fitting_table law err (Some d) range = stored_fit law err (stored_points d) (not-false (is_table law (stored_points d)) range)
 
 -- the asymmetry of a fibre
 kappa_if : (o : Option ℤ) (b : Bool) → in_range (negsuc 274_877_906_943) (pos 274_877_906_944) o ≡ b
@@ -153,10 +154,10 @@ table_fits ds n t none =
     let test = at_fault co.Range t in
     let more = table_key (law_of t) ∷ behind_line t in
     let keys = no_key co.Range at (fibre_keys t) t (none_parts (place_in_table co.Range at (fibre_keys t) t) (place_of_name co.Range at (take n ds) t) none).0 in
-    let after_name = (find_parts test fibre_name_key (kappa_key ∷ fibre_err_key ∷ more) keys).1 in
-    let after_kappa = (find_parts test kappa_key (fibre_err_key ∷ more) after_name).1 in
-    let after_err = (find_parts test fibre_err_key more after_kappa).1 in
-    (find_parts test (table_key (law_of t)) (behind_line t) after_err).0
+    let after_name = (first_passed test fibre_name_key (kappa_key ∷ fibre_err_key ∷ more) keys).1 in
+    let after_kappa = (first_passed test kappa_key (fibre_err_key ∷ more) after_name).1 in
+    let after_err = (first_passed test fibre_err_key more after_kappa).1 in
+    (first_passed test (table_key (law_of t)) (behind_line t) after_err).0
 
 fitting_fibres : (ds : List Data) (k : ℕ) (ts : List Members)
     → first_among (λ n d. on_table (place_in_fibre co.Range ds n) d) k (map table ts) ≡ None → FibresAre Fits (map fibre_of ts)

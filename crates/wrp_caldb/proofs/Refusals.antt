@@ -1,6 +1,7 @@
 -- The codes tried in turn give the least one that has a place.
 use Rattle.std.proofs.Common.{◌≡◌, ◌↔◌, ◌<◌, Option, None, Some, refl, subst, arith}
 use Rattle.std.specs.Option.{option_or}
+use Rattle.std.proofs.lemmas.Option.{same_Some}
 use Rattle.wrp_caldb.specs.Place.{PlaceAt}
 use Rattle.wrp_caldb.specs.Refusal.{IsLeast, HasNone, least_of, number_of, with_code}
 use Rattle.wrp_caldb.specs.declared.row.Code.{Code}
@@ -17,9 +18,6 @@ pick u m r t co.Twice = t
 
 abbrev Least : (Code → Option PlaceAt) → Code × PlaceAt → Type 0
 Least first q = (first q.0 ≡ Some q.1) × ((lower : Code) → number_of lower < number_of q.0 → first lower ≡ None)
-
-same : (p q : Code × PlaceAt) → Some p ≡ Some q → p ≡ q
-same p q e = cc e
 
 unknown_first : (p : PlaceAt) (m r t : Option PlaceAt) (lower : Code) → number_of lower < 2 → pick (Some p) m r t lower ≡ None
 unknown_first p m r t co.UnknownKey h = absurd (omega arith)
@@ -46,10 +44,10 @@ twice_first p co.Range h = refl
 twice_first p co.Twice h = absurd (omega arith)
 
 least_chosen : (u m r t : Option PlaceAt) (q : Code × PlaceAt) → chosen u m r t ≡ Some q → Least (pick u m r t) q
-least_chosen (Some p) m r t q e = subst (Least (pick (Some p) m r t)) (same (co.UnknownKey, p) q e) (refl, unknown_first p m r t)
-least_chosen None (Some p) r t q e = subst (Least (pick None (Some p) r t)) (same (co.Missing, p) q e) (refl, missing_first p r t)
-least_chosen None None (Some p) t q e = subst (Least (pick None None (Some p) t)) (same (co.Range, p) q e) (refl, range_first p t)
-least_chosen None None None (Some p) q e = subst (Least (pick None None None (Some p))) (same (co.Twice, p) q e) (refl, twice_first p)
+least_chosen (Some p) m r t q e = subst (Least (pick (Some p) m r t)) (same_Some (co.UnknownKey, p) q e) (refl, unknown_first p m r t)
+least_chosen None (Some p) r t q e = subst (Least (pick None (Some p) r t)) (same_Some (co.Missing, p) q e) (refl, missing_first p r t)
+least_chosen None None (Some p) t q e = subst (Least (pick None None (Some p) t)) (same_Some (co.Range, p) q e) (refl, range_first p t)
+least_chosen None None None (Some p) q e = subst (Least (pick None None None (Some p))) (same_Some (co.Twice, p) q e) (refl, twice_first p)
 least_chosen None None None None q e = cc e
 
 chosen_least : (u m r t : Option PlaceAt) (code : Code) (place : PlaceAt) → Least (pick u m r t) (code, place) → chosen u m r t ≡ Some (code, place)

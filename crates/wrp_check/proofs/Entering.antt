@@ -29,10 +29,6 @@ pub record EnteredSoFar (time : ℤ) (states : List LinkState) (marks : List Mar
   pub entered : Entered time (reverse (take count states)) marks
   pub most : count < length states → Entered time (get_or states count Idle ∷ reverse (take count states)) marks → ⊥
 
--- before any mark, none was
-pub none_entered : (time : ℤ) (states : List LinkState) → EnteredSoFar time states [] 0
-none_entered time states = record { within = omega arith; entered = tt; most = λ lt h. h }
-
 -- a mark that enters the next state
 pub enters : (time : ℤ) (states : List LinkState) (marks : List Mark) (count : ℕ) (mark : Mark) →
     count < length states → mark.to ≡ get_or states count Idle → mark.at ≤ℤ time →

@@ -6,6 +6,7 @@ use Rattle.wrp_base.specs.declared.link.LinkState.{LinkState}
 use Rattle.wrp_base.specs.declared.link.Mark.{Mark}
 use Rattle.wrp_base.specs.declared.link.Role.{Role}
 use Rattle.wrp_base.specs.declared.message.WrMsg.{WrMsg}
+use Rattle.wrp_base.proofs.Lists.{heads, tails}
 use Rattle.wrp_check.specs.declared.verdict.Verdict.{Verdict}
 use Rattle.wrp_check.specs.declared.verdict.Verdict.TheVariants.{NotOn, NoStretch, Missing}
 use Rattle.wrp_check.specs.Handshake.{IsNewestWith, SentIn, IsBacked, SameHandshake}
@@ -20,12 +21,6 @@ data Places {A : Type 0} (front : List A) (x : A) (back : List A) (front' : List
   same : front ≡ front' → x ≡ y → Places front x back front' y back'
   before : (mid : List A) → front' ≡ front ++ x ∷ mid → back ≡ mid ++ y ∷ back' → Places front x back front' y back'
   behind : (mid : List A) → front ≡ front' ++ y ∷ mid → back' ≡ mid ++ x ∷ back → Places front x back front' y back'
-
-tails : {A : Type 0} (x y : A) (xs ys : List A) → x ∷ xs ≡ y ∷ ys → xs ≡ ys
-tails x y xs ys e = cc
-
-heads : {A : Type 0} (x y : A) (xs ys : List A) → x ∷ xs ≡ y ∷ ys → x ≡ y
-heads x y xs ys e = cc
 
 further : {A : Type 0} (a b : A) (front : List A) (x : A) (back front' : List A) (y : A) (back' : List A) → a ≡ b →
     Places front x back front' y back' → Places (a ∷ front) x back (b ∷ front') y back'

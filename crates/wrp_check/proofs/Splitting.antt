@@ -1,12 +1,9 @@
 -- The newest stretch of a history, and the search for the one in which a time lies.
-use Rattle.std.proofs.Common.{◌≡◌, ◌⊎◌, ◌↔◌, refl, sym, ap, ◌∙◌, subst, inl, inr, ℕ, ◌+◌, ◌<◌, ◌≤◌, ℤ, ◌≤ℤ◌, true, false, List, [], ◌∷◌, ◌++◌, length, reverse, take, drop, get_or, Some, arith, append_assoc, length-append}
-use Rattle.std.proofs.lemmas.List.{take_all, take_more, take-append-drop, reverse-append, append_cancel_left, append-nil}
+use Rattle.std.proofs.Common.{◌≡◌, ◌⊎◌, ◌↔◌, sym, ap, ◌∙◌, subst, inl, inr, ℕ, ◌+◌, ◌<◌, ◌≤◌, ℤ, ◌≤ℤ◌, List, [], ◌∷◌, ◌++◌, length, reverse, take, drop, Some, arith, append_assoc}
+use Rattle.std.proofs.lemmas.List.{take_all, take-append-drop, reverse-append, append_cancel_left, append-nil}
 use Rattle.std.specs.List.{AllByRecursion, slice_get}
-use Rattle.wrp_base.specs.declared.link.LinkState.TheVariants.{Idle}
 use Rattle.wrp_base.specs.declared.link.Mark.{Mark}
-use Rattle.wrp_check.specs.Handshake.{IsNewestWith}
-use Rattle.wrp_check.specs.Stretches.{is_idle, joined, stretches_of, BeganBy, LiesIn}
-use Rattle.wrp_check.proofs.Backwards.{reverse_more}
+use Rattle.wrp_check.specs.Stretches.{stretches_of, BeganBy, LiesIn}
 
 -- the oldest mark is the last one, read from behind
 began_push : (time : ℤ) (first : Mark) (marks : List Mark) → BeganBy time (marks ++ first ∷ []) ↔ (first.at ≤ℤ time)
@@ -30,61 +27,6 @@ pub record Newest (front so_far : List Mark) : Type 0 where
 
 abbrev pub SplitSoFar : List Mark → ℕ → ℕ → Type 0
 SplitSoFar marks start i = ((i ≡ 0) × (start ≡ 0)) ⊎ ((start < i) × Newest (take start marks) (take i marks))
-
--- a mark from IDLE begins a stretch
-pub begins_at : (marks : List Mark) (i : ℕ) (d : Mark) → i < length marks → (get_or marks i d).from ≡ Idle → SplitSoFar marks i (i + 1)
-begins_at marks i d lt idle =
-    let mark : Mark = get_or marks i d in
-    let same : is_idle mark.from ≡ true = ap is_idle idle in
-    inr (
-      omega arith,
-      record {
-        part = mark ∷ [];
-        splits = take_more marks i d lt;
-        some = omega arith;
-        stretches = ap stretches_of (reverse_more marks i d lt) ∙ rw same refl;
-      },
-    )
-
--- any other joins the newest one
-joins : (front part : List Mark) (mark : Mark) → is_idle mark.from ≡ false →
-    (marks : List Mark) → stretches_of marks ≡ reverse part ∷ stretches_of (reverse front) →
-    stretches_of (mark ∷ marks) ≡ reverse (part ++ mark ∷ []) ∷ stretches_of (reverse front)
-joins front part mark other marks h =
-    rw other (ap (joined mark) h ∙ ap (λ ms. ms ∷ stretches_of (reverse front)) (sym (reverse-append part (mark ∷ []))))
-
-first_mark : (mark : Mark) → is_idle mark.from ≡ false → stretches_of (mark ∷ []) ≡ (mark ∷ []) ∷ []
-first_mark mark other = rw other refl
-
-pub goes_on : (marks : List Mark) (start i : ℕ) (d : Mark) → i < length marks → is_idle (get_or marks i d).from ≡ false → SplitSoFar marks start i → SplitSoFar marks start (i + 1)
-goes_on marks start i d lt other h =
-    let mark : Mark = get_or marks i d in
-    let more : reverse (take (i + 1) marks) ≡ mark ∷ reverse (take i marks) = reverse_more marks i d lt in
-    let ends : take (i + 1) marks ≡ take i marks ++ mark ∷ [] = take_more marks i d lt in
-    elim h [
-      | inl (at_0, from_0) ↦
-          let none : take i marks ≡ [] = ap (λ n. take n marks) at_0 in
-          let front : take start marks ≡ [] = ap (λ n. take n marks) from_0 in
-          inr (
-            omega arith,
-            record {
-              part = mark ∷ [];
-              splits = ends ∙ ap (λ ms. ms ++ mark ∷ []) (none ∙ sym front);
-              some = omega arith;
-              stretches = ap stretches_of (more ∙ ap (λ ms. mark ∷ reverse ms) none) ∙ first_mark mark other ∙ ap (λ ms. (mark ∷ []) ∷ stretches_of (reverse ms)) (sym front);
-            },
-          )
-      | inr (less, found) ↦
-          inr (
-            omega arith,
-            record {
-              part = found.part ++ mark ∷ [];
-              splits = ends ∙ ap (λ ms. ms ++ mark ∷ []) found.splits ∙ append_assoc (take start marks) found.part (mark ∷ []);
-              some = omega (arith, length-append found.part (mark ∷ []));
-              stretches = ap stretches_of more ∙ joins (take start marks) found.part mark other (reverse (take i marks)) found.stretches;
-            },
-          )
-    ]
 
 -- what split_newest answers
 pub record IsSplit (marks before newest : List Mark) : Type 0 where
@@ -112,9 +54,6 @@ pub record MissedSoFar (time : ℤ) (stretches left : List (List Mark)) : Type 0
   pub splits : stretches ≡ newer ++ left
   pub misses : AllByRecursion (λ later. LiesIn time later → ⊥) newer
 
-pub none_passed : (time : ℤ) (stretches : List (List Mark)) → MissedSoFar time stretches stretches
-none_passed time stretches = record { newer = []; splits = refl; misses = tt }
-
 misses_push : (time : ℤ) (newer : List (List Mark)) (stretch : List Mark) →
     AllByRecursion (λ later. LiesIn time later → ⊥) newer → (LiesIn time stretch → ⊥) → AllByRecursion (λ later. LiesIn time later → ⊥) (newer ++ stretch ∷ [])
 misses_push time [] stretch h k = (k, tt)
@@ -128,11 +67,6 @@ one_passed time stretches left rest stretch e misses h =
       splits = h.splits ∙ ap (λ ss. h.newer ++ ss) e ∙ sym (append_assoc h.newer (stretch ∷ []) rest);
       misses = misses_push time h.newer stretch h.misses misses;
     }
-
-pub found_here : (time : ℤ) (stretches left rest : List (List Mark)) (stretch : List Mark) →
-    left ≡ stretch ∷ rest → LiesIn time stretch → MissedSoFar time stretches left → IsNewestWith time stretches stretch
-found_here time stretches left rest stretch e lies h =
-    record { newer = h.newer; older = rest; splits = h.splits ∙ ap (λ ss. h.newer ++ ss) e; misses = h.misses; lies = lies }
 
 pub all_passed : (time : ℤ) (stretches left : List (List Mark)) → left ≡ [] → MissedSoFar time stretches left → AllByRecursion (λ later. LiesIn time later → ⊥) stretches
 all_passed time stretches left e h =

@@ -1,5 +1,5 @@
 -- What the parts of the judgement say of two histories.
-use Rattle.std.proofs.Common.{◌≡◌, sym, ap, ◌∙◌, subst, ℤ, List, [], ◌∷◌, None, Some}
+use Rattle.std.proofs.Common.{◌≡◌, sym, ap, ◌∙◌, subst, ℤ, List, [], ◌∷◌, Some}
 use Rattle.std.specs.List.{AllByRecursion, slice_get}
 use Rattle.wrp_base.specs.declared.link.LinkState.{LinkState}
 use Rattle.wrp_base.specs.declared.link.Mark.{Mark}
@@ -26,12 +26,6 @@ last_is : (own peer stretch newest : List Mark) (found : WrMsg × ℤ) → newes
 last_is own peer stretch newest found is first h =
     let b : Begins (movers_of newest) found = begins (movers_of newest) found first in
     let both : h.last ∷ h.others ≡ found ∷ b.others = sym h.movers ∙ ap movers_of is ∙ b.is in
-    cc
-
--- where no message moved the port, none was sent
-pub no_message : (own peer stretch newest : List Mark) → newest_of (stretches_of own) ≡ newest → slice_get (movers_of newest) 0 ≡ None → SentIn own peer stretch → ⊥
-no_message own peer stretch newest is none h =
-    let some : slice_get (movers_of newest) 0 ≡ Some h.last = ap (λ ms. slice_get ms 0) (sym (ap movers_of is) ∙ h.movers) in
     cc
 
 -- nor where the last one lies in no stretch

@@ -1,13 +1,15 @@
 -- The network of a text whose tables are taken is accepted, where its links make a tree and it keeps the inequalities.
-use Rattle.std.proofs.Common.{◌≡◌, ◌<◌, ℕ, ℤ, List, [], ◌∷◌, true, false, None, Some, map, take, length, refl, sym, ap, ap₂, subst, ◌∙◌, arith}
+use Rattle.std.proofs.Common.{◌≡◌, ◌<◌, ℕ, List, [], ◌∷◌, true, false, None, Some, map, take, length, refl, sym, ap, ap₂, subst, ◌∙◌, arith}
 use Rattle.std.specs.Prelude.{codes, slice_get}
 use Rattle.std.specs.List.{list_any, before_first, after_first}
 use Rattle.toml.specs.Data.{Data, Members, table}
+use Rattle.std.proofs.lemmas.Bool.{or_parts}
 use Rattle.wrp_base.specs.declared.configuration.NetCfg.{NetCfg}
 use Rattle.wrp_base.specs.declared.link.Fibre.{Fibre}
 use Rattle.wrp_base.specs.declared.network.NodeCfg.{NodeCfg}
 use Rattle.wrp_base.specs.declared.network.LinkCfg.{LinkCfg}
 use Rattle.wrp_base.specs.Network.{End, IsNode, IsLink, HasRanges, HasLinkRanges, IsTree, node_count}
+use Rattle.wrp_base.proofs.Lists.{length_map}
 use Rattle.wrp_bounds.specs.Inequalities.{KeepsInequalities}
 use Rattle.wrp_caldb.specs.Database.{Database, name_at, table_at, database_of}
 use Rattle.wrp_caldb.specs.Name.{is_name}
@@ -15,8 +17,9 @@ use Rattle.wrp_caldb.specs.Repeats.{are_same_texts, name_in, has_name_of}
 use Rattle.wrp_caldb.specs.Rows.{tables_at}
 use Rattle.wrp_caldb.specs.declared.row.Code.{Code}
 use Rattle.wrp_caldb.specs.declared.row.Code.TheVariants as co
-use Rattle.wrp_caldb.proofs.Kept.{map-map, or_parts}
+use Rattle.wrp_caldb.proofs.Kept.{map-map}
 use Rattle.wrp_caldb.proofs.KeptNames.{IsText, name_read}
+use Rattle.wrp_caldb.proofs.ReadBack.{fibre_with}
 use Rattle.wrp_config.specs.Accepted.{HasNoRepeat, HasNames, FitsDatabase, IsAccepted, law_error, all_delays}
 use Rattle.wrp_config.specs.Config.{bare_node, bare_link, node_of, link_of, name_of, fibre_of, identity_of, IsNetworkOf}
 use Rattle.wrp_config.specs.Ends.{text_at, is_colon, is_named}
@@ -36,10 +39,6 @@ use Rattle.wrp_config.proofs.Sound.{sound_database}
 use Rattle.wrp_config.proofs.Taken.{parts_of, each_first, tables_in, tables_are, each_of}
 use Rattle.wrp_config.proofs.Texts.{differ, end_once, port_range, IsEnd}
 use Rattle.wrp_config.proofs.TreeLaws.{tree_of}
-
-length_map : {X Y : Type 0} (f : X → Y) (xs : List X) → length (map f xs) ≡ length xs
-length_map f [] = refl
-length_map f (x ∷ xs) = let rest = length_map f xs in omega (arith, rest)
 
 -- Nodes
 
@@ -221,9 +220,6 @@ ports_apart doc cfg taken is =
 abbrev fibre_in : LinkCfg → Fibre
 fibre_in link = record { kappa = link.kappa; err = link.e_asym }
 
-abbrev fibre_with : ℤ → ℕ → Fibre
-fibre_with kappa err = record { kappa = kappa; err = err }
-
 fibre_again : (link : LinkCfg) (f : Fibre) → link.kappa ≡ f.kappa → link.e_asym ≡ f.err → fibre_in link ≡ f
 fibre_again link f kappa err = ap₂ fibre_with kappa err
 
@@ -360,12 +356,6 @@ names doc cfg taken is =
           (sym (ap (λ (x : NodeCfg). x.name.bytes) a.is) ∙ same ∙ ap (λ (x : LinkCfg). x.name.bytes) b.is);
       identities = rw (identity_list doc cfg is) (identities_once doc taken);
     }
-
-pub read_ranges : (doc : Members) (cfg : NetCfg) → IsTaken doc → IsNetworkOf doc cfg → HasRanges cfg
-read_ranges doc cfg taken is = ranges doc cfg taken is
-
-pub read_tree : (doc : Members) (cfg : NetCfg) → IsTaken doc → IsNetworkOf doc cfg → HasNoFault cfg → IsTree cfg
-read_tree doc cfg taken is none = tree doc cfg taken is none
 
 pub read_accepted : (doc : Members) (cfg : NetCfg) → IsTaken doc → IsNetworkOf doc cfg → HasNoFault cfg → KeepsInequalities cfg
     → IsAccepted cfg (database_of doc)

@@ -43,11 +43,11 @@ count_below n links = fold-map (λ count (link : LinkCfg). count + cond (link.lo
 pub count_bare : (cfg : NetCfg) → node_count (bare_cfg cfg) ≡ node_count cfg
 count_bare cfg = length-map cfg.nodes.items bare_node
 
-some_bare : {X Y : Type 0} (f : X → Y) (o : Option X) → is_some (option_map f o) ≡ is_some o
+pub some_bare : {X Y : Type 0} (f : X → Y) (o : Option X) → is_some (option_map f o) ≡ is_some o
 some_bare f None = refl
 some_bare f (Some x) = refl
 
-above_some : (cfg : NetCfg) (n : ℕ) → is_some (link_above (bare_cfg cfg) n) ≡ is_some (link_above cfg n)
+pub above_some : (cfg : NetCfg) (n : ℕ) → is_some (link_above (bare_cfg cfg) n) ≡ is_some (link_above cfg n)
 above_some cfg n = ap is_some (above_bare cfg n) ∙ some_bare bare_link (link_above cfg n)
 
 root_bare : (cfg : NetCfg) (n : ℕ) → is_root (bare_cfg cfg) n ≡ is_root cfg n

@@ -29,7 +29,7 @@ use Rattle.wrp_config.specs.Places.{first_place, IsTaken}
 use Rattle.wrp_config.specs.Reading.{IsTableFault, IsNetworkFault, IsAnswerOf, IsReadingOf, clash_text}
 use Rattle.wrp_config.specs.Same.{IsSettled, EachIsRead}
 use Rattle.wrp_config.specs.Tree as tree
-use Rattle.wrp_config.specs.Tree.{has_fault, NoneBefore, HasNone, HasNoFault}
+use Rattle.wrp_config.specs.Tree.{has_fault, NoneBefore, HasNoFault}
 use Rattle.wrp_config.specs.declared.network.Network.{Network}
 use Rattle.wrp_config.specs.declared.settings.Setting.TheVariants as se
 use Rattle.wrp_config.specs.declared.tree.TreeFault.{TreeFault}

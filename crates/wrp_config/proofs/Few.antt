@@ -1,6 +1,6 @@
 -- A text whose tables are taken has at most 64 nodes and 63 links.
 use Rattle.std.proofs.Common.{◌≡◌, ◌≤◌, ◌&&◌, ℕ, List, true, false, Option, None, Some, length, arith}
-use Rattle.std.proofs.lemmas.Bool.{and_parts, false≢true}
+use Rattle.std.proofs.lemmas.Bool.{and_parts, false≢true, not-false}
 use Rattle.std.proofs.lemmas.Bool.Decides.{nat_tests}
 use Rattle.std.specs.Prelude.{codes, option_and_then, nat_le}
 use Rattle.std.specs.Option.{is_some}
@@ -12,7 +12,6 @@ use Rattle.wrp_caldb.specs.Rows.{has_fault, is_array_of_tables, tables_of, table
 use Rattle.wrp_caldb.specs.declared.place.At.TheVariants as tables
 use Rattle.wrp_caldb.specs.declared.row.Code.TheVariants as co
 use Rattle.wrp_caldb.specs.declared.row.Sort.TheVariants as so
-use Rattle.wrp_caldb.proofs.Kept.{not_false}
 use Rattle.wrp_config.specs.Keys.{node_key, link_key}
 use Rattle.wrp_config.specs.Places.{IsTaken}
 use Rattle.wrp_config.proofs.Taken.{parts_of, only_key}
@@ -28,7 +27,7 @@ few_values most (Some ds) e =
 few_tables : (name : List ℕ) (most : ℕ) (found : Option Data) → has_fault co.Range (optional_key name (so.Tables 0 (Some most))) found ≡ false
     → length (tables_of (option_and_then values_of found)) ≤ most
 few_tables name most None e = omega arith
-few_tables name most (Some d) e = few_values most (values_of d) (not_false (is_array_of_tables 0 (Some most) (values_of d)) e)
+few_tables name most (Some d) e = few_values most (values_of d) (not-false (is_array_of_tables 0 (Some most) (values_of d)) e)
 
 pub few_nodes : (doc : Members) → IsTaken doc → length (tables_at (codes "node") doc) ≤ 64
 few_nodes doc taken =

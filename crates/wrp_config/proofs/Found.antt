@@ -3,16 +3,16 @@ use Rattle.std.proofs.Common.{◌≡◌, ◌≤◌, ◌^◌, ◌++◌, ◌⊎◌
 use Rattle.std.specs.Prelude.{option_map, slice_get, IfSome}
 use Rattle.std.specs.Option.{option_or}
 use Rattle.std.specs.List.{find, flat_map}
+use Rattle.std.proofs.lemmas.Option.{same_Some}
 use Rattle.wrp_base.specs.declared.link.Fibre.{Fibre}
 use Rattle.wrp_base.specs.declared.link.Module.{Module}
 use Rattle.wrp_base.specs.Network.{IsAmong}
-use Rattle.wrp_bounds.proofs.Placed.{found_at}
+use Rattle.wrp_base.proofs.Lists.{found_at}
 use Rattle.wrp_caldb.specs.Database.{Database, ModuleAt, FibreAt, TableAt, entry_at, delays_at, fibre_named, fibre_at, table_at}
 use Rattle.wrp_caldb.specs.Name.{same_name}
 use Rattle.wrp_caldb.specs.declared.database.Entry.{Entry}
 use Rattle.wrp_config.specs.Accepted.{HasDelayRanges, IsSoundModule, IsSoundTable, IsSoundFibre, IsSoundDatabase, greatest, error_of, error_at_ends, law_error, all_delays}
 use Rattle.wrp_config.proofs.Lists.{made_of, greatest_most}
-use Rattle.wrp_config.proofs.Texts.{some_is}
 
 -- Fibres
 
@@ -37,7 +37,7 @@ found_fibre : (db : Database) → IsSoundDatabase db → (name : List ℕ) (f : 
 found_fibre db sound name f None e is = cc is
 found_fibre db sound name f (Some g) e is =
     let own = fibre_sound db sound name g e in
-    let same : g.fibre ≡ f = some_is g.fibre f is in
+    let same : g.fibre ≡ f = same_Some g.fibre f is in
     record {
       kappa = subst (λ (x : Fibre). unsigned_abs x.kappa ≤ 2 ^ 38) same own.kappa;
       err = subst (λ (x : Fibre). IsAmong 1 1_000_000_000 x.err) same (own.least_err, own.err);

@@ -1,6 +1,6 @@
 -- The links of a text whose tables are taken: their ends, their names, and what they take from modules and fibres.
-use Rattle.std.proofs.Common.{◌≡◌, ◌+◌, ◌||◌, ◌&&◌, ◌⊎◌, ℕ, ℤ, pos, List, Bool, true, false, Option, None, Some, map, option_map, take, unsigned_abs, refl, ap, arith, inl, inr, ◌↔◌, not, sym, ◌∙◌}
-use Rattle.std.proofs.lemmas.Bool.{false≢true, and_parts}
+use Rattle.std.proofs.Common.{◌≡◌, ◌+◌, ◌&&◌, ℕ, ℤ, pos, List, Bool, true, false, Option, None, Some, map, option_map, take, unsigned_abs, refl, ap, arith, inl, inr, ◌↔◌, not, sym, ◌∙◌}
+use Rattle.std.proofs.lemmas.Bool.{false≢true, and_parts, not-false, not-true, or_cases, or_parts}
 use Rattle.std.specs.Int.Signed.{le_z}
 use Rattle.std.proofs.lemmas.Int.{ints}
 use Rattle.std.proofs.lemmas.Bool.Decides.{Decides-int_eq}
@@ -11,6 +11,7 @@ use Rattle.std.specs.List.{AllByRecursion, find, list_any}
 use Rattle.toml.specs.Data.{Data, Members, as_integer, as_str, get_member}
 use Rattle.wrp_base.specs.Network.{IsWavelength}
 use Rattle.wrp_base.specs.declared.link.Fibre.{Fibre}
+use Rattle.wrp_base.proofs.Options.{pair_there}
 use Rattle.wrp_caldb.specs.Database.{Database, fibre_at, module_at}
 use Rattle.wrp_caldb.specs.Name.{is_name}
 use Rattle.wrp_caldb.specs.Key.{Key, required_key}
@@ -21,7 +22,7 @@ use Rattle.wrp_caldb.specs.declared.place.At.{At}
 use Rattle.wrp_caldb.specs.declared.place.At.TheVariants as tables
 use Rattle.wrp_caldb.specs.declared.row.Code.{Code}
 use Rattle.wrp_caldb.specs.declared.row.Code.TheVariants as co
-use Rattle.wrp_caldb.proofs.Kept.{none_parts, or_parts, not_false, if_none}
+use Rattle.wrp_caldb.proofs.Kept.{none_parts, if_none}
 use Rattle.wrp_caldb.proofs.KeptNames.{IsText, plain_text, module_text, is_plain, name_read}
 use Rattle.wrp_config.specs.Config.{end_at, name_of}
 use Rattle.wrp_config.specs.Ends.{end_in, end_of_value, text_at}
@@ -104,20 +105,16 @@ pub record HasEnd (nodes : List Data) (key : List ℕ) (t : Members) : Type 0 wh
   pub names : IsEnd nodes text end
   pub read : end_at nodes key t ≡ end
 
-end_some : (o : Option (ℕ × ℕ)) → is_some o ≡ true → (e : ℕ × ℕ) × (o ≡ Some e)
-end_some None is = absurd (false≢true is)
-end_some (Some e) is = (e, refl)
-
 text_names : (nodes : List Data) (o : Option (List ℕ)) → is_some (option_and_then (end_in nodes) o) ≡ true
     → (text : List ℕ) × (e : ℕ × ℕ) × (o ≡ Some text) × (end_in nodes text ≡ Some e)
 text_names nodes None is = absurd (false≢true is)
-text_names nodes (Some text) is = let some = end_some (end_in nodes text) is in (text, some.0, refl, some.1)
+text_names nodes (Some text) is = let some = pair_there (end_in nodes text) is in (text, some.0, refl, some.1)
 
 value_names : (nodes : List Data) (key : Key) (missable : Bool) (found : Option Data) → has_fault co.Missing key found ≡ false → key.need ≡ upper_key.need
     → is_stray co.Range missable (λ d. is_some (end_of_value nodes d)) found ≡ false
     → (text : List ℕ) × (e : ℕ × ℕ) × (option_and_then as_str found ≡ Some text) × (end_in nodes text ≡ Some e)
 value_names nodes key missable None missing need stray = let told = rw need at missing in cc told
-value_names nodes key missable (Some d) missing need stray = text_names nodes (as_str d) (not_false (is_some (end_of_value nodes d)) stray)
+value_names nodes key missable (Some d) missing need stray = text_names nodes (as_str d) (not-false (is_some (end_of_value nodes d)) stray)
 
 end_there : (nodes : List Data) (name : List ℕ) (key : Key) (missable : Bool) (t : Members) → key.need ≡ upper_key.need → has_fault co.Missing key (get_member name t) ≡ false
     → is_stray co.Range missable (λ d. is_some (end_of_value nodes d)) (get_member name t) ≡ false → HasEnd nodes name t
@@ -162,7 +159,7 @@ listed_text : {X : Type 0} (f : List ℕ → Option X) (missable : Bool) (found 
     → is_stray co.Range missable (λ d. is_some (option_and_then f (as_str d))) found ≡ false → is_some (f text) ≡ true
 listed_text f missable None text is stray = cc is
 listed_text f missable (Some d) text is stray =
-    let told = not_false (is_some (option_and_then f (as_str d))) stray in
+    let told = not-false (is_some (option_and_then f (as_str d))) stray in
     rw is at told
 
 -- the fibre of a link
@@ -214,15 +211,10 @@ lower_module_there file t sound =
     let r = row_parts co.Range file t row sound.range.1.1.1.1.1.0 in
     module_there file.db (codes "lower_module") (up_in t) (down_in t) true t m.0 r.0 r.1
 
--- the wavelengths of a link
-either : (a b : Bool) → (a || b) ≡ true → (a ≡ true) ⊎ (b ≡ true)
-either true b e = inl refl
-either false b e = inr e
-
 wave_in : (o : Option ℤ) → is_wavelength o ≡ true → IsWavelength (unsigned_abs (unwrap_or o (pos 0)))
 wave_in None e = absurd (false≢true e)
 wave_in (Some z) e =
-    elim (either (int_eq z (pos 0)) (le_z (pos 800) z && le_z z (pos 1700)) e) [
+    elim (or_cases (int_eq z (pos 0)) (le_z (pos 800) z && le_z z (pos 1700)) e) [
       | inl zero ↦ inl (ap unsigned_abs ((Decides-int_eq z (pos 0)).0 zero))
       | inr range ↦
           let parts = and_parts (le_z (pos 800) z) (le_z z (pos 1700)) range in
@@ -234,14 +226,14 @@ wave_in (Some z) e =
 down_wave : (found : Option Data) → has_fault co.Range down_key found ≡ false → IsWavelength (unsigned_abs (unwrap_or (number_in down_key found) (pos 0)))
 down_wave None range = inl refl
 down_wave (Some d) range =
-    let fits = not_false (is_wavelength (as_integer d)) range in
+    let fits = not-false (is_wavelength (as_integer d)) range in
     rw fits (wave_in (as_integer d) fits)
 
 up_wave : (first : Option ℤ) (found : Option Data) → has_fault co.Range (up_key first) found ≡ false
     → IsWavelength (unsigned_abs (unwrap_or (number_in (up_key first) found) (pos 0)))
 up_wave first None range = inl refl
 up_wave first (Some d) range =
-    let fits = not_false (is_wavelength (as_integer d) && fits_first first (as_integer d)) range in
+    let fits = not-false (is_wavelength (as_integer d) && fits_first first (as_integer d)) range in
     rw fits (wave_in (as_integer d) (and_parts (is_wavelength (as_integer d)) (fits_first first (as_integer d)) fits).0)
 
 pub link_waves : (file : Context) (t : Members) → IsSoundLink file t → IsWavelength (down_in t) × IsWavelength (up_in t)
@@ -259,15 +251,11 @@ is_zero z e = (Decides-int_eq z (pos 0)).1 (omega (arith, ints, e))
 zero_is : (z : ℤ) → int_eq z (pos 0) ≡ true → unsigned_abs z ≡ 0
 zero_is z e = ap unsigned_abs ((Decides-int_eq z (pos 0)).0 e)
 
-not_true : (b : Bool) → not b ≡ true → b ≡ false
-not_true true e = cc e
-not_true false e = refl
-
 agree_if : (z y : ℤ) (any : Bool) → int_eq z (pos 0) ≡ any → (if any then int_eq y (pos 0) else not (int_eq y (pos 0))) ≡ true
     → (unsigned_abs z ≡ 0) ↔ (unsigned_abs y ≡ 0)
 agree_if z y true is e = (λ h. zero_is y e, λ h. zero_is z is)
 agree_if z y false is e =
-    let other = not_true (int_eq y (pos 0)) e in (
+    let other = not-true (int_eq y (pos 0)) e in (
       λ h. absurd (false≢true (sym is ∙ is_zero z h)),
       λ h. absurd (false≢true (sym other ∙ is_zero y h)),
     )
@@ -287,16 +275,16 @@ waves_agree : (names : Data → Bool) (down up : Option Data) → has_fault co.R
     → (unsigned_abs (unwrap_or (number_in down_key down) (pos 0)) ≡ 0) ↔ (unsigned_abs (unwrap_or (number_in (up_key (first_of down)) up) (pos 0)) ≡ 0)
 waves_agree names None None d u s = (λ h. refl, λ h. refl)
 waves_agree names None (Some e) d u s =
-    let fits = not_false (is_wavelength (as_integer e) && fits_first (Some (pos 0)) (as_integer e)) u in
+    let fits = not-false (is_wavelength (as_integer e) && fits_first (Some (pos 0)) (as_integer e)) u in
     let parts = and_parts (is_wavelength (as_integer e)) (fits_first (Some (pos 0)) (as_integer e)) fits in
     rw fits (agree (Some (pos 0)) (as_integer e) refl parts.0 parts.1)
 waves_agree names (Some x) None d u s =
-    let fits = not_false (is_wavelength (as_integer x)) d in
-    let any = not_false (is_any (as_integer x)) s in
+    let fits = not-false (is_wavelength (as_integer x)) d in
+    let any = not-false (is_any (as_integer x)) s in
     rw fits (agree (as_integer x) (Some (pos 0)) fits refl (any_fits (as_integer x) fits any))
 waves_agree names (Some x) (Some e) d u s =
-    let first = not_false (is_wavelength (as_integer x)) d in
-    let fits = not_false (is_wavelength (as_integer e) && fits_first (as_integer x) (as_integer e)) u in
+    let first = not-false (is_wavelength (as_integer x)) d in
+    let fits = not-false (is_wavelength (as_integer e) && fits_first (as_integer x) (as_integer e)) u in
     let parts = and_parts (is_wavelength (as_integer e)) (fits_first (as_integer x) (as_integer e)) fits in
     rw (first, fits) (agree (as_integer x) (as_integer e) first parts.0 parts.1)
 

@@ -1,11 +1,11 @@
 -- Lists without repeats, what is found in a list, and the greatest of a list.
 use Rattle.std.proofs.Common.{◌≡◌, ◌≢◌, ◌<◌, ◌≤◌, ◌+◌, ℕ, zero, suc, List, [], ◌∷◌, Bool, true, false, None, Some, map, max, fold, length, take, get_or, cond, refl, sym, ap, ap₂, ◌∙◌, inl, inr, arith}
-use Rattle.std.proofs.lemmas.Bool.{cases_lt}
+use Rattle.std.proofs.lemmas.Bool.{cases_lt, or_parts}
 use Rattle.std.proofs.lemmas.Option.{slice_get-get_or}
 use Rattle.std.proofs.lemmas.List.Quantifiers.{position-Some}
 use Rattle.std.specs.Prelude.{slice_get, nat_lt, not}
 use Rattle.std.specs.List.{list_any, position, position_or_len}
-use Rattle.wrp_caldb.proofs.Kept.{or_parts}
+use Rattle.wrp_base.proofs.Lists.{length_map}
 use Rattle.wrp_config.specs.Accepted.{HasNoRepeat, greatest}
 
 -- what stands in a list that is made of another
@@ -104,10 +104,6 @@ not_before b m n e = ap (λ k. cond b (1 + k) 0) e
 first-map : {X Y : Type 0} (p : Y → Bool) (f : X → Y) (xs : List X) → position_or_len p (map f xs) ≡ position_or_len (λ x. p (f x)) xs
 first-map p f [] = refl
 first-map p f (x ∷ xs) = not_before (not (p (f x))) _ _ (first-map p f xs)
-
-length_map : {X Y : Type 0} (f : X → Y) (xs : List X) → length (map f xs) ≡ length xs
-length_map f [] = refl
-length_map f (x ∷ xs) = let rest = length_map f xs in omega (arith, rest)
 
 pub position-map : {X Y : Type 0} (p : Y → Bool) (f : X → Y) (xs : List X) → position p (map f xs) ≡ position (λ x. p (f x)) xs
 position-map p f xs = ap₂ (λ k n. cond (nat_lt k n) (Some k) None) (first-map p f xs) (length_map f xs)

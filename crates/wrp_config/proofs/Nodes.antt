@@ -1,5 +1,5 @@
 -- The nodes of a text whose tables are taken: their names, their identities and their numbers.
-use Rattle.std.proofs.Common.{◌≡◌, ◌≤◌, ◌+◌, not, ℕ, List, Bool, false, Option, None, Some, take, refl, ap, lit≤}
+use Rattle.std.proofs.Common.{◌≡◌, ◌≤◌, ◌+◌, ℕ, List, false, Option, None, Some, take, refl, ap, lit≤}
 use Rattle.std.specs.Prelude.{codes, option_and_then}
 use Rattle.std.specs.Option.{option_or}
 use Rattle.std.specs.List.{AllByRecursion, list_any}
@@ -13,12 +13,12 @@ use Rattle.wrp_caldb.specs.Database.{natural_at, number_at}
 use Rattle.wrp_caldb.specs.Name.{is_name, is_identity}
 use Rattle.wrp_caldb.specs.Refusal.{place_in_table}
 use Rattle.wrp_caldb.specs.Repeats.{name_in, has_name_of, place_of_name}
-use Rattle.wrp_caldb.specs.Rows.{has_fault, is_text_of}
+use Rattle.wrp_caldb.specs.Rows.{has_fault}
 use Rattle.wrp_caldb.specs.declared.place.At.TheVariants as tables
 use Rattle.wrp_caldb.specs.declared.row.Code.{Code}
 use Rattle.wrp_caldb.specs.declared.row.Code.TheVariants as co
-use Rattle.wrp_caldb.proofs.Kept.{none_parts, not_false, if_none, at_fault}
-use Rattle.wrp_caldb.proofs.KeptNames.{IsText, plain_text}
+use Rattle.wrp_caldb.proofs.Kept.{none_parts, if_none, at_fault}
+use Rattle.wrp_caldb.proofs.KeptNames.{IsText, plain_text, fitting_text}
 use Rattle.wrp_config.specs.Config.{bare_node, node_of, identity_of, hex_number}
 use Rattle.wrp_config.specs.Ends.{text_at}
 use Rattle.wrp_config.specs.Keys.{number, identity_key, e_tag_key, node_keys}
@@ -56,10 +56,6 @@ node_ranges clock t sound node is =
       slew = (natural_fit t (codes "slew") 0 1_000_000_000 500 (lit≤ tt) (lit≤ tt) r.1.1.1.1.1.0 node.slew (ap (λ (n : NodeCfg). n.slew) is)).1;
       held = (natural_fit t (codes "held") 0 1_000_000_000 10 (lit≤ tt) (lit≤ tt) r.1.1.1.1.1.1.0 node.held (ap (λ (n : NodeCfg). n.held) is)).1;
     }
-
-fitting_text : (test : List ℕ → Bool) (o : Option (List ℕ)) → not (is_text_of test o) ≡ false → IsText test o
-fitting_text test None e = cc e
-fitting_text test (Some text) e = record { text = text; is = refl; passes = not_false (test text) e }
 
 identity_there : (found : Option Data) → has_fault co.Missing identity_key found ≡ false → has_fault co.Range identity_key found ≡ false
     → IsText is_identity (option_and_then as_str found)

@@ -1,6 +1,6 @@
 -- A number that has no fault is in the range of its row.
 use Rattle.std.proofs.Common.{◌≡◌, ◌≤◌, ◌&&◌, ℕ, ℤ, pos, List, true, false, Option, None, Some, unsigned_abs, arith}
-use Rattle.std.proofs.lemmas.Bool.{and_parts, false≢true}
+use Rattle.std.proofs.lemmas.Bool.{and_parts, false≢true, not-false}
 use Rattle.std.proofs.lemmas.Int.{ints}
 use Rattle.std.specs.Prelude.{unwrap_or}
 use Rattle.std.specs.Int.Signed.{le_z}
@@ -8,7 +8,6 @@ use Rattle.toml.specs.Data.{Data, as_integer}
 use Rattle.wrp_base.specs.Network.{IsFromTo, IsAmong}
 use Rattle.wrp_caldb.specs.Rows.{has_fault, in_range, number_in}
 use Rattle.wrp_caldb.specs.declared.row.Code.TheVariants as co
-use Rattle.wrp_caldb.proofs.Kept.{not_false}
 use Rattle.wrp_config.specs.Keys.{number}
 
 between : (least greatest : ℕ) (z : ℤ) → (le_z (pos least) z && le_z z (pos greatest)) ≡ true → IsFromTo least greatest z
@@ -27,7 +26,7 @@ pub number_between : (name : List ℕ) (least greatest default : ℕ) → least 
     → IsFromTo least greatest (unwrap_or (number_in (number name least greatest default) found) (pos 0))
 number_between name least greatest default low high None e = (omega (arith, ints), omega (arith, ints))
 number_between name least greatest default low high (Some d) e =
-    let fits = not_false (in_range (pos least) (pos greatest) (as_integer d)) e in
+    let fits = not-false (in_range (pos least) (pos greatest) (as_integer d)) e in
     rw fits (in_range_between least greatest (as_integer d) fits)
 
 -- the same without a sign

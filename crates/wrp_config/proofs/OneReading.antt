@@ -4,6 +4,7 @@ use Rattle.std.proofs.lemmas.Bool.{cases_lt, false≢true}
 use Rattle.std.specs.Prelude.{codes, decimal}
 use Rattle.std.specs.List.{find}
 use Rattle.toml.specs.Data.{Members}
+use Rattle.std.proofs.lemmas.Option.{same_Some}
 use Rattle.wrp_base.specs.declared.configuration.NetCfg.{NetCfg}
 use Rattle.wrp_base.specs.declared.fault.ConfFault.{ConfFault}
 use Rattle.wrp_base.specs.declared.fault.ConfFault.TheVariants.{Fault, Memory}
@@ -15,7 +16,6 @@ use Rattle.wrp_bounds.specs.declared.inequality.Inequality.{Inequality}
 use Rattle.wrp_caldb.proofs.Refusals.{least_exact}
 use Rattle.wrp_caldb.specs.Place.{PlaceAt, place_text}
 use Rattle.wrp_caldb.specs.Reading.{IsNoText, IsTextOf}
-use Rattle.wrp_caldb.specs.Refusal.{least_of}
 use Rattle.wrp_caldb.specs.Refusal as lists
 use Rattle.wrp_caldb.specs.declared.row.Code.{Code}
 use Rattle.wrp_config.proofs.Accepted.{read_accepted}
@@ -112,15 +112,12 @@ network_once doc a b x y =
 
 -- Tables
 
-some_is : {X : Type 0} (x y : X) → Some x ≡ Some y → x ≡ y
-some_is x y e = cc e
-
 -- one code at one place
 table_once : (doc : Members) (n m : ℕ) (s t : List ℕ) → IsTableFault doc n s → IsTableFault doc m t → (n ≡ m) × (s ≡ t)
 table_once doc n m s t one other =
     let first = (least_exact (first_place doc) one.0 one.1).1 one.2 in
     let second = (least_exact (first_place doc) other.0 other.1).1 other.2 in
-    let same : (one.0, one.1) ≡ (other.0, other.1) = some_is (one.0, one.1) (other.0, other.1) (sym first ∙ second) in (
+    let same : (one.0, one.1) ≡ (other.0, other.1) = same_Some (one.0, one.1) (other.0, other.1) (sym first ∙ second) in (
       one.3 ∙ ap (λ (at : Code × PlaceAt). lists.number_of at.0) same ∙ sym other.3,
       one.4 ∙ ap (λ (at : Code × PlaceAt). place_text at.1) same ∙ sym other.4,
     )
@@ -255,7 +252,7 @@ answer_once doc (Err (Memory e)) other x y = tt
 
 -- a text has one table
 text_once : (octets : List ℕ) (a b : Members) → IsTextOf a octets → IsTextOf b octets → b ≡ a
-text_once octets a b x y = some_is b a (sym y.1 ∙ x.1)
+text_once octets a b x y = same_Some b a (sym y.1 ∙ x.1)
 
 no_text : (octets : List ℕ) (doc : Members) → IsNoText octets → IsTextOf doc octets → ⊥
 no_text octets doc (inl not_utf8) is = not_utf8 is.0

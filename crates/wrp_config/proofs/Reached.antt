@@ -3,17 +3,16 @@ use Rattle.std.proofs.Common.{◌≡◌, ◌<◌, ◌≤◌, ◌+◌, ◌&&◌, 
 use Rattle.std.proofs.lemmas.Bool.{and_parts, false≢true, eqb-true}
 use Rattle.std.specs.Prelude.{slice_get}
 use Rattle.std.specs.List.{find, flat_map}
+use Rattle.std.proofs.lemmas.Option.{same_Some}
 use Rattle.wrp_base.specs.declared.configuration.NetCfg.{NetCfg}
 use Rattle.wrp_base.specs.declared.network.LinkCfg.{LinkCfg}
 use Rattle.wrp_base.specs.Network.{End, ends_of, IsLink, IsGrandmaster, IsTree, HasDepth, link_above, node_count}
-use Rattle.wrp_bounds.proofs.Placed.{found_at}
+use Rattle.wrp_base.proofs.Lists.{first_passed, found_at}
 use Rattle.wrp_caldb.specs.Database.{Database}
-use Rattle.wrp_caldb.proofs.Kept.{find_parts}
 use Rattle.wrp_config.specs.Accepted.{HasNoRepeat, IsAccepted}
 use Rattle.wrp_config.specs.Laws.{IsAbove, OneGrandmaster, ChildIsDeeper, PortIsOfOneLink, ModulesAreListed}
 use Rattle.wrp_config.specs.Names.{is_upper_end, is_lower_end, has_port, link_at, pair_of}
 use Rattle.wrp_config.proofs.Ports.{upper_of, lower_of}
-use Rattle.wrp_config.proofs.Texts.{some_is}
 
 -- Walks
 
@@ -50,7 +49,7 @@ same_depth cfg zero zero n ha hb = refl
 same_depth cfg zero (suc b) n ha hb = let never : None ≡ Some hb.0 = sym ha ∙ hb.1 in cc never
 same_depth cfg (suc a) zero n ha hb = let never : None ≡ Some ha.0 = sym hb ∙ ha.1 in cc never
 same_depth cfg (suc a) (suc b) n ha hb =
-    let same : hb.0 ≡ ha.0 = some_is hb.0 ha.0 (sym hb.1 ∙ ha.1) in
+    let same : hb.0 ≡ ha.0 = same_Some hb.0 ha.0 (sym hb.1 ∙ ha.1) in
     let below = subst (λ (link : LinkCfg). HasDepth cfg b link.upper) same hb.2 in
     ap suc (same_depth cfg a b ha.0.upper ha.2 below)
 
@@ -64,14 +63,14 @@ child_is_deeper cfg n depth other link above has own =
 -- the places of a link's ends among all ends
 upper_at : (links : List LinkCfg) (l : ℕ) (link : LinkCfg) → slice_get links l ≡ Some link → slice_get (flat_map ends_of links) (l + l) ≡ Some (upper_of link)
 upper_at [] l link e = cc e
-upper_at (x ∷ xs) zero link e = ap (λ (y : LinkCfg). Some (upper_of y)) (some_is x link e)
+upper_at (x ∷ xs) zero link e = ap (λ (y : LinkCfg). Some (upper_of y)) (same_Some x link e)
 upper_at (x ∷ xs) (suc l) link e =
     let at : suc l + suc l ≡ suc (suc (l + l)) = omega arith in
     rw at (upper_at xs l link e)
 
 lower_at : (links : List LinkCfg) (l : ℕ) (link : LinkCfg) → slice_get links l ≡ Some link → slice_get (flat_map ends_of links) (suc (l + l)) ≡ Some (lower_of link)
 lower_at [] l link e = cc e
-lower_at (x ∷ xs) zero link e = ap (λ (y : LinkCfg). Some (lower_of y)) (some_is x link e)
+lower_at (x ∷ xs) zero link e = ap (λ (y : LinkCfg). Some (lower_of y)) (same_Some x link e)
 lower_at (x ∷ xs) (suc l) link e =
     let at : suc (suc l + suc l) ≡ suc (suc (suc (l + l))) = omega arith in
     rw at (lower_at xs l link e)
@@ -99,12 +98,12 @@ port_place links k node port x false at is has =
 missed : {X : Type 0} (p : X → Bool) (xs : List X) → find p xs ≡ None → (i : ℕ) (x : X) → slice_get xs i ≡ Some x → p x ≡ false
 missed p [] e i x at = cc at
 missed p (y ∷ ys) e zero x at =
-    let same : y ≡ x = some_is y x at in subst (λ z. p z ≡ false) same (find_parts p y ys e).0
-missed p (y ∷ ys) e (suc i) x at = missed p ys (find_parts p y ys e).1 i x at
+    let same : y ≡ x = same_Some y x at in subst (λ z. p z ≡ false) same (first_passed p y ys e).0
+missed p (y ∷ ys) e (suc i) x at = missed p ys (first_passed p y ys e).1 i x at
 
 passes_if : {X : Type 0} (p : X → Bool) (b : Bool) (y : X) (rest : Option X) (x : X) → p y ≡ b → (rest ≡ Some x → p x ≡ true)
     → cond b (Some y) rest ≡ Some x → p x ≡ true
-passes_if p true y rest x here later e = let same : y ≡ x = some_is y x e in subst (λ z. p z ≡ true) same here
+passes_if p true y rest x here later e = let same : y ≡ x = same_Some y x e in subst (λ z. p z ≡ true) same here
 passes_if p false y rest x here later e = later e
 
 found_passes : {X : Type 0} (p : X → Bool) (xs : List X) (x : X) → find p xs ≡ Some x → p x ≡ true
@@ -124,15 +123,11 @@ found_is links once l node port i link at place low high (Some x) e has =
     let index : k.0 ≡ l = omega (arith, same, other.2, other.3, low, high) in
     sym k.1 ∙ ap (slice_get links) index ∙ at
 
-upper_has : (link : LinkCfg) → is_upper_end link.upper link.upper_port link ≡ true
+pub upper_has : (link : LinkCfg) → is_upper_end link.upper link.upper_port link ≡ true
 upper_has link = rw (eq-eqb link.upper link.upper refl, eq-eqb link.upper_port link.upper_port refl) refl
 
-lower_has : (link : LinkCfg) → is_lower_end link.lower link.lower_port link ≡ true
+pub lower_has : (link : LinkCfg) → is_lower_end link.lower link.lower_port link ≡ true
 lower_has link = rw (eq-eqb link.lower link.lower refl, eq-eqb link.lower_port link.lower_port refl) refl
-
-or_true : (b : Bool) → (b || true) ≡ true
-or_true true = refl
-or_true false = refl
 
 link_of_upper : (cfg : NetCfg) (db : Database) (l : ℕ) (link : LinkCfg) → IsAccepted cfg db → IsLink cfg l link → link_at cfg link.upper link.upper_port ≡ Some link
 link_of_upper cfg db l link accepted at =

@@ -1,6 +1,6 @@
 -- The modules and the fibres of a text whose tables are taken are sound.
 use Rattle.std.proofs.Common.{◌≡◌, ◌≤◌, ◌+◌, ◌^◌, ◌*◌, ◌&&◌, ℕ, zero, suc, ℤ, pos, negsuc, neg_ℤ, ◌+ℤ◌, ◌-ℤ◌, ◌*ℤ◌, List, [], ◌∷◌, Bool, true, false, Option, None, Some, cond, take, length, unsigned_abs, refl, sym, ap, subst, arith}
-use Rattle.std.proofs.lemmas.Bool.{and_parts, false≢true}
+use Rattle.std.proofs.lemmas.Bool.{and_parts, false≢true, not-false}
 use Rattle.std.proofs.lemmas.Bool.Decides.{nat_tests}
 use Rattle.std.proofs.lemmas.Int.{ints}
 use Rattle.std.proofs.Math.IntN.{*ℤ_comm}
@@ -9,11 +9,12 @@ use Rattle.std.specs.Option.{is_some, option_or}
 use Rattle.std.specs.Int.Signed.{le_z, lt_z}
 use Rattle.std.specs.List.{AllByRecursion, cons_option, list_all, list_any}
 use Rattle.toml.specs.Data.{Data, Members, as_integer, as_table, get_member}
+use Rattle.std.proofs.lemmas.Option.{same_Some}
 use Rattle.wrp_caldb.specs.Calibration.{module_key, fibre_key, module_keys, module_name_key, fibre_keys, kappa_key, fibre_err_key, table_err_key, table_key, law_of, version_of, place_in_module, place_in_modules, place_in_fibre, place_in_fibres, place_in_pairs}
 use Rattle.wrp_caldb.specs.Database.{ModuleAt, FibreAt, name_or_none, delays_of, entry_of, entries_of, each_table, module_of, fibre_of, natural_at, number_at, database_of}
 use Rattle.wrp_caldb.specs.Key.{number_key}
 use Rattle.wrp_caldb.specs.Name.{is_name, is_module_name}
-use Rattle.wrp_caldb.specs.Points.{stored_points, few_points, points_of, point_of, with_point, values_of, has_bounds, is_step, rises_from, rises, is_near, is_sound, is_table}
+use Rattle.wrp_caldb.specs.Points.{stored_points, few_points, points_of, values_of, has_bounds, is_step, rises_from, rises, is_near, is_sound, is_table}
 use Rattle.wrp_caldb.specs.Refusal.{place_of_keys, place_in_table}
 use Rattle.wrp_caldb.specs.Repeats.{name_in, has_name_of, place_of_name}
 use Rattle.wrp_caldb.specs.Rows.{has_fault, in_range, number_in, tables_at}
@@ -23,18 +24,19 @@ use Rattle.wrp_caldb.specs.declared.keys.Version.TheVariants.{One, Two}
 use Rattle.wrp_caldb.specs.declared.place.At.TheVariants as tables
 use Rattle.wrp_caldb.specs.declared.row.Code.{Code}
 use Rattle.wrp_caldb.specs.declared.row.Code.TheVariants as co
-use Rattle.wrp_caldb.proofs.Kept.{none_parts, not_false, if_none, at_fault, map-map}
+use Rattle.wrp_caldb.proofs.Kept.{none_parts, if_none, at_fault, map-map}
 use Rattle.wrp_caldb.proofs.KeptNames.{IsText, plain_text, module_text, is_plain, module_named, name_read}
 use Rattle.wrp_base.specs.Network.{IsAmong}
 use Rattle.wrp_law.specs.Law.{IsNear}
 use Rattle.wrp_law.specs.Table.{FitsPoint, Rises, IsWithin}
 use Rattle.wrp_law.specs.declared.delay.LawKind.TheVariants as la
+use Rattle.wrp_caldb.proofs.ReadBack.{points_length}
 use Rattle.wrp_config.specs.Accepted.{HasDelayRanges, IsSoundModule, IsSoundTable, IsSoundFibre, IsSoundDatabase}
 use Rattle.wrp_config.specs.Places.{IsTaken}
 use Rattle.wrp_config.proofs.Lists.{made_of}
 use Rattle.wrp_config.proofs.NamesApart.{HasNewNames, names_once}
 use Rattle.wrp_config.proofs.Numbers.{in_range_between, natural_between}
-use Rattle.wrp_config.proofs.Texts.{chosen, some_is}
+use Rattle.wrp_config.proofs.Texts.{chosen}
 use Rattle.wrp_config.proofs.Taken.{parts_of, no_faults, each_first, tables_in, tables_are, each_of}
 
 -- Numbers
@@ -64,7 +66,7 @@ made_first : {X : Type 0} (f : Members → X) (o : Option Members) (ds : List Da
     → ((k : ℕ) (x : X) → slice_get (each_table f ds) k ≡ Some x → (t : Members) × (x ≡ f t))
     → (k : ℕ) (x : X) → slice_get (cons_option (option_map f o) (each_table f ds)) k ≡ Some x → (t : Members) × (x ≡ f t)
 made_first f None ds rest k x e = rest k x e
-made_first f (Some t) ds rest zero x e = (t, sym (some_is (f t) x e))
+made_first f (Some t) ds rest zero x e = (t, sym (same_Some (f t) x e))
 made_first f (Some t) ds rest (suc k) x e = rest k x e
 
 made_by : {X : Type 0} (f : Members → X) (ds : List Data) (k : ℕ) (x : X) → slice_get (each_table f ds) k ≡ Some x → (t : Members) × (x ≡ f t)
@@ -75,7 +77,7 @@ abbrev only_entry : Members → Entry
 only_entry t = record { tx_nm = 0; rx_nm = 0; delays = delays_of t }
 
 entries_fit : (v : Version) (t : Members) (k : ℕ) (entry : Entry) → slice_get (entries_of v t) k ≡ Some entry → HasDelayRanges entry.delays
-entries_fit One t zero entry e = subst HasDelayRanges (ap (λ (x : Entry). x.delays) (some_is (only_entry t) entry e)) (delays_fit t)
+entries_fit One t zero entry e = subst HasDelayRanges (ap (λ (x : Entry). x.delays) (same_Some (only_entry t) entry e)) (delays_fit t)
 entries_fit One t (suc k) entry e = cc e
 entries_fit Two t k entry e =
     let made = made_by entry_of (tables_at (codes "pair") t) k entry e in
@@ -134,7 +136,7 @@ required_between : (name : List ℕ) (least most : ℕ) (found : Option Data) �
     → IsAmong least most (unsigned_abs (unwrap_or (number_in (number_key name (pos least) (pos most)) found) (pos 0)))
 required_between name least most None missing range = cc missing
 required_between name least most (Some d) missing range =
-    let fits = not_false (in_range (pos least) (pos most) (as_integer d)) range in
+    let fits = not-false (in_range (pos least) (pos most) (as_integer d)) range in
     rw fits (natural_between least most (unwrap_or (as_integer d) (pos 0)) (in_range_between least most (as_integer d) fits))
 
 -- Points
@@ -178,27 +180,12 @@ all_points kappa err (p ∷ ps) e =
     let later = all_points kappa err ps parts.1 in
     ((point_fits p here.0, later.0), (point_near kappa err p here.1, later.1))
 
--- as many points as values
-both_there : (p : Option (ℤ × ℤ)) (rest : Option (List (ℤ × ℤ))) (ps : List (ℤ × ℤ)) → with_point p rest ≡ Some ps
-    → (q : ℤ × ℤ) × (qs : List (ℤ × ℤ)) × (rest ≡ Some qs) × (q ∷ qs ≡ ps)
-both_there None rest ps e = cc e
-both_there (Some q) None ps e = cc e
-both_there (Some q) (Some qs) ps e = (q, qs, refl, some_is (q ∷ qs) ps e)
-
-as_many : (ds : List Data) (ps : List (ℤ × ℤ)) → points_of ds ≡ Some ps → length ps ≡ length ds
-as_many [] ps e = let same : [] ≡ ps = some_is [] ps e in ap length (sym same)
-as_many (d ∷ ds) ps e =
-    let parts = both_there (point_of d) (points_of ds) ps e in
-    let rest = as_many ds parts.1 parts.2 in
-    let same = ap length parts.3 in
-    omega (arith, rest, same)
-
 few_as_many : (values : Option (List Data)) (ps : List (ℤ × ℤ)) → option_and_then few_points values ≡ Some ps → (2 ≤ length ps) × (length ps ≤ 32)
 few_as_many None ps e = cc e
 few_as_many (Some ds) ps e =
     let parts = chosen (nat_le 2 (length ds) && nat_le (length ds) 32) (points_of ds) ps e in
     let size = and_parts (nat_le 2 (length ds)) (nat_le (length ds) 32) parts.0 in
-    let many = as_many ds ps parts.1 in
+    let many = points_length ds ps parts.1 in
     let low : 2 ≤ length ds = grind (arith, nat_tests, size.0) in
     let high : length ds ≤ 32 = grind (arith, nat_tests, size.1) in
     (omega (arith, low, many), omega (arith, high, many))
@@ -232,14 +219,14 @@ kappa_there : (found : Option Data) → has_fault co.Missing kappa_key found ≡
     → (z : ℤ) × (number_in kappa_key found ≡ Some z)
 kappa_there None missing range = cc missing
 kappa_there (Some d) missing range =
-    let fits = not_false (in_range (negsuc 274_877_906_943) (pos 274_877_906_944) (as_integer d)) range in
+    let fits = not-false (in_range (negsuc 274_877_906_943) (pos 274_877_906_944) (as_integer d)) range in
     let some = integer_in_range (as_integer d) (negsuc 274_877_906_943) (pos 274_877_906_944) fits in
     (some.0, fits_gives (in_range (negsuc 274_877_906_943) (pos 274_877_906_944) (as_integer d)) fits (as_integer d) some.0 some.1)
 
 err_there : (found : Option Data) → has_fault co.Range table_err_key found ≡ false → (z : ℤ) × (number_in table_err_key found ≡ Some z)
 err_there None range = (pos 0, refl)
 err_there (Some d) range =
-    let fits = not_false (in_range (pos 0) (pos 1_000_000_000) (as_integer d)) range in
+    let fits = not-false (in_range (pos 0) (pos 1_000_000_000) (as_integer d)) range in
     let some = integer_in_range (as_integer d) (pos 0) (pos 1_000_000_000) fits in
     (some.0, fits_gives (in_range (pos 0) (pos 1_000_000_000) (as_integer d)) fits (as_integer d) some.0 some.1)
 
@@ -258,7 +245,7 @@ fibre_table_sound t (Some d) is missing range points err (Some ps) e =
     let law : law_of t ≡ Some (record { kappa = number_at kappa_key t; err = natural_at table_err_key t }) = rw (kappa.1, bound.1) refl in
     let told = rw is at points in
     let fits : is_table (Some (record { kappa = number_at kappa_key t; err = natural_at table_err_key t })) (Some ps) ≡ true =
-    rw (law, e) at (not_false (is_table (law_of t) (stored_points d)) told) in
+    rw (law, e) at (not-false (is_table (law_of t) (stored_points d)) told) in
     table_sound (number_at kappa_key t) (natural_at table_err_key t) ps (err_small (get_member (codes "table_err") t))
     (few_as_many (values_of d) ps e) fits
 

@@ -4,6 +4,7 @@ use Rattle.std.specs.Prelude.{codes, option_and_then, option_map, slice_get}
 use Rattle.std.specs.Option.{option_or}
 use Rattle.std.specs.List.{AllByRecursion, find}
 use Rattle.toml.specs.Data.{Members, table, get_member}
+use Rattle.wrp_base.proofs.Lists.{first_passed}
 use Rattle.wrp_caldb.specs.Calibration.{version_key, place_in_lists, IsAccepted}
 use Rattle.wrp_caldb.specs.Database.{each_table}
 use Rattle.wrp_caldb.specs.Key.{Key}
@@ -15,7 +16,7 @@ use Rattle.wrp_caldb.specs.declared.keys.Others.TheVariants.{Ignored}
 use Rattle.wrp_caldb.specs.declared.place.At.{At}
 use Rattle.wrp_caldb.specs.declared.place.At.TheVariants as tables
 use Rattle.wrp_caldb.specs.declared.row.Code.{Code}
-use Rattle.wrp_caldb.proofs.Kept.{none_parts, find_parts, at_fault, no_key, members_in, tables_of-members, each_table-map}
+use Rattle.wrp_caldb.proofs.Kept.{none_parts, at_fault, no_key, members_in, tables_of-members, each_table-map}
 use Rattle.wrp_config.specs.Keys.{top_keys, network_key, node_key, link_key, network_keys, network_in, clock_in}
 use Rattle.wrp_config.specs.Places.{no_node, context_of, place_in_head, place_at_nodes, place_at_links, place_in_nodes, place_in_links, IsTaken}
 
@@ -62,7 +63,7 @@ parts_of doc taken code =
 -- nothing found: each fails the test
 pub none_at : {X : Type 0} (p : X → Bool) (xs : List X) → find p xs ≡ None → AllByRecursion (λ x. p x ≡ false) xs
 none_at p [] e = tt
-none_at p (x ∷ xs) e = let parts = find_parts p x xs e in (parts.0, none_at p xs parts.1)
+none_at p (x ∷ xs) e = let parts = first_passed p x xs e in (parts.0, none_at p xs parts.1)
 
 -- no key of a table has a fault of a code
 pub no_faults : (code : Code) (at : At) (keys : List Key) (t : Members) → place_in_table code at keys t ≡ None

@@ -6,6 +6,7 @@ use Rattle.std.proofs.lemmas.List.Sums.{split_at_first, passes_at_first}
 use Rattle.std.specs.Prelude.{nat_lt, option_and_then}
 use Rattle.std.specs.List.{position_or_len, before_first, after_first}
 use Rattle.toml.specs.Data.{Data, as_table}
+use Rattle.std.proofs.lemmas.Option.{same_Some}
 use Rattle.wrp_base.specs.Network.{IsAmong}
 use Rattle.wrp_caldb.specs.Name.{same_name}
 use Rattle.wrp_caldb.specs.Repeats.{are_same_texts, name_in}
@@ -41,9 +42,6 @@ pub chosen : {X : Type 0} (b : Bool) (o : Option X) (x : X) → cond b o None �
 chosen true o x e = (refl, e)
 chosen false o x e = cc e
 
-pub some_is : {X : Type 0} (x y : X) → Some x ≡ Some y → x ≡ y
-some_is x y e = cc e
-
 between : (least greatest n : ℕ) → is_between least greatest n ≡ true → (least ≤ n) × (n ≤ greatest)
 between least greatest n e = (grind (arith, nat_tests, e), grind (arith, nat_tests, e))
 
@@ -57,14 +55,14 @@ port_text [] p e = cc e
 port_text (d ∷ []) p e =
     let parts = chosen (is_between 49 57 d) (Some (d - 48)) p e in
     let range = between 49 57 d parts.0 in
-    let is : d - 48 ≡ p = some_is (d - 48) p parts.1 in
+    let is : d - 48 ≡ p = same_Some (d - 48) p parts.1 in
     let back : d ≡ p + 48 = omega (arith, is, range.0) in
     one (omega (arith, is, range.0)) (omega (arith, is, range.1)) (ap (λ c. c ∷ []) back)
 port_text (c ∷ d ∷ []) p e =
     let parts = chosen ((c == 49) && is_between 48 56 d) (Some (d - 38)) p e in
     let tests = and_parts (c == 49) (is_between 48 56 d) parts.0 in
     let range = between 48 56 d tests.1 in
-    let is : d - 38 ≡ p = some_is (d - 38) p parts.1 in
+    let is : d - 38 ≡ p = same_Some (d - 38) p parts.1 in
     let back : d ≡ p + 38 = omega (arith, is, range.0) in
     two (omega (arith, is, range.0)) (omega (arith, is, range.1))
     (ap₂ (λ x y. x ∷ y ∷ []) (eqb-true c 49 tests.0) back)
@@ -99,7 +97,7 @@ both_parts : (n p : Option ℕ) (e : ℕ × ℕ) → both n p ≡ Some e → (n 
 both_parts None p e is = cc is
 both_parts (Some n) None e is = cc is
 both_parts (Some n) (Some p) e is =
-    let same : (n, p) ≡ e = some_is (n, p) e is in (ap (λ x. Some x.0) same, ap (λ x. Some x.1) same)
+    let same : (n, p) ≡ e = same_Some (n, p) e is in (ap (λ x. Some x.0) same, ap (λ x. Some x.1) same)
 
 pub end_is : (nodes : List Data) (text : List ℕ) (e : ℕ × ℕ) → end_in nodes text ≡ Some e → IsEnd nodes text e
 end_is nodes text e is =
@@ -122,10 +120,10 @@ named_once : (nodes : List Data) (a b : List ℕ) (n : ℕ) → named a nodes �
 named_once nodes a b n ea eb =
     let fa = found_place (is_named a) nodes n ea in
     let fb = found_place (is_named b) nodes n eb in
-    let same : fa.x ≡ fb.x = some_is fa.x fb.x (sym fa.at ∙ fb.at) in
+    let same : fa.x ≡ fb.x = same_Some fa.x fb.x (sym fa.at ∙ fb.at) in
     let na = same_text (option_and_then name_in (as_table fa.x)) a fa.passes in
     let nb = same_text (option_and_then name_in (as_table fb.x)) b fb.passes in
-    some_is a b (sym na ∙ ap (λ d. option_and_then name_in (as_table d)) same ∙ nb)
+    same_Some a b (sym na ∙ ap (λ d. option_and_then name_in (as_table d)) same ∙ nb)
 
 -- one end has one text
 pub end_once : (nodes : List Data) (s t : List ℕ) (e : ℕ × ℕ) → IsEnd nodes s e → IsEnd nodes t e → s ≡ t

@@ -1,6 +1,6 @@
 -- Links without a fault make a tree.
 use Rattle.std.proofs.Common.{◌≡◌, ◌≢◌, ◌-◌, ◌<◌, ◌≤◌, ◌+◌, ◌&&◌, ◌||◌, ◌==◌, not, ℕ, zero, suc, List, [], ◌∷◌, Bool, true, false, Option, None, Some, cond, length, option_map, refl, sym, ap, subst, ◌∙◌, inl, inr, arith}
-use Rattle.std.proofs.lemmas.Bool.{cases_lt, false≢true}
+use Rattle.std.proofs.lemmas.Bool.{cases_lt, false≢true, not-false, or_parts}
 use Rattle.std.proofs.lemmas.Bool.Decides.{nat_tests}
 use Rattle.std.proofs.lemmas.List.Sums.{length-filter}
 use Rattle.std.specs.Prelude.{slice_get, count_by}
@@ -10,9 +10,8 @@ use Rattle.wrp_base.specs.declared.configuration.NetCfg.{NetCfg}
 use Rattle.wrp_base.specs.declared.network.LinkCfg.{LinkCfg}
 use Rattle.wrp_base.specs.Network.{IsTree, IsLink, HasDepth, link_above, node_count}
 use Rattle.wrp_config.specs.Tree.{is_root, some_below, ended, one_above, depth_within, depth_of, stands_apart, is_over_8, HasNoFault}
-use Rattle.wrp_caldb.proofs.Kept.{or_parts, not_false}
 
-or_true : (b : Bool) → (b || true) ≡ true
+pub or_true : (b : Bool) → (b || true) ≡ true
 or_true true = refl
 or_true false = refl
 
@@ -143,7 +142,7 @@ tree_of cfg some ends none = record {
         ]
       ];
   shallow = λ n h.
-      let ends_here = not_false (is_some (depth_of cfg n)) (or_parts (is_root cfg n && some_below (is_root cfg) n) (not (is_some (depth_of cfg n))) (none.0 n h)).1 in
+      let ends_here = not-false (is_some (depth_of cfg n)) (or_parts (is_root cfg n && some_below (is_root cfg) n) (not (is_some (depth_of cfg n))) (none.0 n h)).1 in
       let few = shallow_of (depth_of cfg n) ends_here (none.2 n h) in
       (few.0, few.2, depth_ends 64 cfg n few.0 few.1);
 }

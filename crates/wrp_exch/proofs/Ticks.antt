@@ -2,8 +2,9 @@
 -- the ticks that are told do not fall. The argument is one for both halves of an exchange: a half holds
 -- a piece that has the tick of a call, and a pair that has the tick of a piece.
 use Rattle.std.proofs.Common.{◌≡◌, refl, subst, sym, ◌⊎◌, inl, inr, ℕ, ℤ, ◌≤◌, Bool, true, false, if◌then◌else◌, ◌==◌, ◌&&◌, not, List, [], ◌∷◌, ◌++◌, Option, Some, None, IfSome, arith}
-use Rattle.std.specs.Option.{is_some, option_map, option_or, option_and_then}
+use Rattle.std.specs.Option.{is_some, option_map, option_and_then}
 use Rattle.wrp_base.specs.declared.time.Stamp.{Stamp}
+use Rattle.wrp_base.proofs.Options.{either_holds}
 use Rattle.wrp_exch.specs.declared.sync.HeldSync.{HeldSync}
 use Rattle.wrp_exch.specs.declared.sync.SyncPair.{SyncPair}
 use Rattle.wrp_exch.specs.declared.delay.Sent.{Sent}
@@ -17,10 +18,6 @@ use Rattle.wrp_exch.specs.Exchange.{four_of, join_pairs}
 use Rattle.wrp_exch.specs.Ticks.{tick_of, NoneAfter, TicksRise, NotOlder}
 
 -- ---- what holds of a value, if there is one
-
-either : {A : Type 0} (P : A → Type 0) (o p : Option A) → IfSome o P → IfSome p P → IfSome (option_or o p) P
-either P None p a b = b
-either P (Some x) p a b = a
 
 mapped : {A B : Type 0} (P : B → Type 0) (f : A → B) (o : Option A) → ((x : A) → P (f x)) → IfSome (option_map f o) P
 mapped P f None h = tt
@@ -154,7 +151,7 @@ holds-sync : (ring : ℕ) (P : ℕ → Type 0) (call : Call) (calls : List Call)
 holds-sync ring P (CallStart first) calls told held = tt
 holds-sync ring P CallClear calls told held = tt
 holds-sync ring P (CallSync seq correction t2 t) calls told held =
-    either (λ s. P s.tick) (kept_sync ring calls seq correction t2 t) (last_sync ring calls)
+    either_holds (λ s. P s.tick) (kept_sync ring calls seq correction t2 t) (last_sync ring calls)
     (mapped (λ s. P s.tick) (held_sync seq correction t2 t) (latched_phase ring calls t2.sample) (λ _. told))
     held
 holds-sync ring P _ calls told held = held
@@ -168,7 +165,7 @@ pairs-sync : (ring : ℕ) (P : ℕ → Type 0) (call : Call) (calls : List Call)
 pairs-sync ring P (CallStart first) calls held pair = tt
 pairs-sync ring P CallClear calls held pair = tt
 pairs-sync ring P (CallFollowUp seq precise) calls held pair =
-    either (λ p. P p.tick) (followed_pair ring calls seq precise) (sync_pair ring calls)
+    either_holds (λ p. P p.tick) (followed_pair ring calls seq precise) (sync_pair ring calls)
     (pair_tick P (λ s. (s.seq == seq) && (not (is_followed ring seq calls) && is_some (phase_in (last_samples ring calls) s.sample))) precise (last_sync ring calls) held)
     pair
 pairs-sync ring P _ calls held pair = pair
@@ -205,7 +202,7 @@ holds-sent ring P (CallStart first) calls told held = tt
 holds-sent ring P CallClear calls told held = tt
 holds-sent ring P (CallReqOut seq) calls told held = tt
 holds-sent ring P (CallReqSent seq t3 t) calls told held =
-    either (λ s. P s.tick) (first_sent ring calls) (usable_sent ring calls seq t3 t)
+    either_holds (λ s. P s.tick) (first_sent ring calls) (usable_sent ring calls seq t3 t)
     held
     (usable-tick P seq t t3 (latched_phase ring calls t3.sample) (last_request calls) told)
 holds-sent ring P _ calls told held = held
@@ -214,7 +211,7 @@ pairs-delay : (ring : ℕ) (P : ℕ → Type 0) (call : Call) (calls : List Call
 pairs-delay ring P (CallStart first) calls held pair = tt
 pairs-delay ring P CallClear calls held pair = tt
 pairs-delay ring P (CallResp seq t4) calls held pair =
-    either (λ p. P p.tick) (answered_pair ring calls seq t4) (delay_pair ring calls)
+    either_holds (λ p. P p.tick) (answered_pair ring calls seq t4) (delay_pair ring calls)
     (answer-tick P (λ id. (id == seq) && not (is_answered ring seq calls)) t4 (first_sent ring calls) (last_request calls) held)
     pair
 pairs-delay ring P _ calls held pair = pair

@@ -7,27 +7,27 @@ use Rattle.wrp_fields.specs.Block.{StartsPlain}
 use Rattle.wrp_fields.specs.Lines.{IsPlainOctet, IsLine}
 use Rattle.wrp_fields.specs.Reading.{is_plain_octet, is_plain}
 
-octet_passes : (c : ℕ) → IsPlainOctet c → is_plain_octet c ≡ true
+pub octet_passes : (c : ℕ) → IsPlainOctet c → is_plain_octet c ≡ true
 octet_passes c (no_quote, no_return, no_feed, small) = rw (no_quote, no_return, no_feed, lt-ltb c 128 small) refl
 
-octet_is : (c : ℕ) → is_plain_octet c ≡ true → IsPlainOctet c
+pub octet_is : (c : ℕ) → is_plain_octet c ≡ true → IsPlainOctet c
 octet_is c is =
     let a = and_parts (not (c == 34)) (not (c == 13) && (not (c == 10) && nat_lt c 128)) is in
     let b = and_parts (not (c == 13)) (not (c == 10) && nat_lt c 128) a.1 in
     let d = and_parts (not (c == 10)) (nat_lt c 128) b.1 in
     (not-true (c == 34) a.0, not-true (c == 13) b.0, not-true (c == 10) d.0, ltb-true c 128 d.1)
 
-octets_pass : (line : List ℕ) → AllByRecursion IsPlainOctet line → list_all is_plain_octet line ≡ true
+pub octets_pass : (line : List ℕ) → AllByRecursion IsPlainOctet line → list_all is_plain_octet line ≡ true
 octets_pass [] all = refl
 octets_pass (c ∷ cs) all = and_from (is_plain_octet c) (list_all is_plain_octet cs) (octet_passes c all.0) (octets_pass cs all.1)
 
-octets_are : (line : List ℕ) → list_all is_plain_octet line ≡ true → AllByRecursion IsPlainOctet line
+pub octets_are : (line : List ℕ) → list_all is_plain_octet line ≡ true → AllByRecursion IsPlainOctet line
 octets_are [] all = tt
 octets_are (c ∷ cs) all =
     let both = and_parts (is_plain_octet c) (list_all is_plain_octet cs) all in
     (octet_is c both.0, octets_are cs both.1)
 
-line_passes : (line : List ℕ) → IsLine line → is_plain line ≡ true
+pub line_passes : (line : List ℕ) → IsLine line → is_plain line ≡ true
 line_passes [] is = absurd (is.0 refl)
 line_passes (c ∷ cs) is = octets_pass (c ∷ cs) is.1
 

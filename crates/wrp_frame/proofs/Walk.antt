@@ -63,7 +63,7 @@ walk_only part at tlv stands left (first ∷ rest) filled =
     let begin = fills_begin (drop at part) first rest filled in
     (rest, subst (Fills rest) (rest_at part at tlv stands) begin.rest)
 
-or_none : {A : Type 0} (o : Option A) → option_or o None ≡ o
+pub or_none : {A : Type 0} (o : Option A) → option_or o None ≡ o
 or_none None = refl
 or_none (Some value) = refl
 

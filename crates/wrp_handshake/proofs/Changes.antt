@@ -1,19 +1,18 @@
 -- What is kept of a link is kept over every list of changes.
 use Rattle.std.proofs.Common.{◌≡◌, refl, ap, sym, ◌∙◌, subst, ℕ, ◌-◌, ℤ, pos, ◌*◌, ◌<◌, false, List, [], ◌∷◌}
-use Rattle.wrp_base.specs.declared.link.LinkState.{LinkState}
 use Rattle.wrp_base.specs.declared.link.LinkState.TheVariants.{Idle}
 use Rattle.wrp_base.specs.declared.link.Role.{Role}
 use Rattle.wrp_base.specs.declared.link.Role.TheVariants.{Master, Slave}
+use Rattle.wrp_base.proofs.Integers.{int_le_self}
 use Rattle.wrp_link.specs.declared.interface.LinkIn.{LinkIn}
 use Rattle.wrp_link.specs.declared.interface.LinkIn.TheVariants.{CarrierUp}
 use Rattle.wrp_link.specs.declared.interface.LinkSet.{LinkSet}
-use Rattle.wrp_link.specs.LinkAt.{LinkAt}
-use Rattle.wrp_link.specs.Rows.{Row, Counts, row_of}
-use Rattle.wrp_link.specs.Table.{counted, by_row}
-use Rattle.wrp_link.proofs.Fits.{Belongs}
+use Rattle.wrp_link.specs.Rows.{row_of}
+use Rattle.wrp_link.proofs.Runs.{by_row_role}
+use Rattle.wrp_link.proofs.Orders.{idle_belongs}
 use Rattle.wrp_handshake.specs.Ends.{Port, Ends, Change, Passes, Hears, Starts, Lights, other_of, end_of, with_end, heard, MayHear, changed, MayCome, ends_after, AllMayCome, new_port, new_ends, OutlivesFrames, CanBe}
 use Rattle.wrp_handshake.proofs.Stages.{engaged, bound}
-use Rattle.wrp_handshake.proofs.Times.{at_once, calm_later}
+use Rattle.wrp_handshake.proofs.Times.{calm_later}
 use Rattle.wrp_handshake.proofs.Keeps.{view_of, Ghost, PortKeeps, Tied}
 use Rattle.wrp_handshake.proofs.Parts.{idle_shut, idle_unbound}
 use Rattle.wrp_handshake.proofs.Ports.{stays, passes_port}
@@ -29,14 +28,6 @@ pub record EndsKeep (life dmin : ℕ) (w : Ends) : Type 0 where
   pub up : Tied life (view_of w.slave) of_slave (view_of w.master) of_master
   pub is_master : w.master.link.role ≡ Master
   pub is_slave : w.slave.link.role ≡ Slave
-
-counted_role : (l : LinkAt) (s : LinkState) → (counted l s).role ≡ l.role
-counted_role l Idle = refl
-counted_role l _ = refl
-
-pub by_row_role : (l : LinkAt) (row : Row) → (by_row l row).role ≡ l.role
-by_row_role l Counts = counted_role l l.state
-by_row_role l _ = refl
 
 pub from_master : (life dmin : ℕ) (w : Ends) (k : EndsKeep life dmin w) → Peers life dmin w.time (view_of w.master) k.of_master (view_of w.slave) k.of_slave
 from_master life dmin w k =
@@ -60,7 +51,7 @@ from_slave life dmin w k =
 
 pub started : (life dmin : ℕ) (time : ℤ) (p : Port) (g : Ghost) → PortKeeps life dmin time (view_of p) g → PortKeeps life dmin time (view_of (record p { ticked = time })) g
 started life dmin time p g k =
-    stays life dmin time (view_of p) g time p.link.quiet [] k (at_once time)
+    stays life dmin time (view_of p) g time p.link.quiet [] k (int_le_self time)
     (λ i lit. calm_later dmin p.link.set.quiet p.link.quiet p.ticked time g.rest k.ticked (k.calm i lit)) tt
 
 -- a port is given an input
@@ -143,10 +134,6 @@ changed_keeps life dmin w (Lights of_master of_slave) h k =
 new_ghost : ℤ → Ghost
 new_ghost time = record { rest = time; turn = time; bind = time; newer = []; latest = []; older = [] }
 
-idle_belongs : (role : Role) → Belongs role Idle
-idle_belongs Slave = tt
-idle_belongs Master = tt
-
 new_keeps :
     (life dmin : ℕ) (time : ℤ) (role : Role) (set : LinkSet) →
     2 * life < (set.quiet - 1) * dmin → PortKeeps life dmin time (view_of (new_port role set time)) (new_ghost time)
@@ -157,10 +144,10 @@ new_keeps life dmin time role set h =
     record {
       belongs = idle_belongs role;
       counts = h;
-      ticked = at_once time;
-      rest = at_once time;
-      turn = at_once time;
-      bind = at_once time;
+      ticked = int_le_self time;
+      rest = int_le_self time;
+      turn = int_le_self time;
+      bind = int_le_self time;
       calm = λ _ lit. cc;
       shut = λ _ f i. absurd i;
       opened = λ o. absurd (o refl);

@@ -1,5 +1,5 @@
 -- The marks of a port are a history that leads to its state.
-use Rattle.std.proofs.Common.{◌≡◌, ◌≢◌, refl, sym, ap, ◌∙◌, subst, ℕ, ℤ, pos, true, false, cond, eqb, List, [], ◌∷◌, Option}
+use Rattle.std.proofs.Common.{◌≡◌, refl, sym, ap, ◌∙◌, subst, ℕ, ℤ, pos, true, cond, eqb, List, [], ◌∷◌, Option}
 use Rattle.std.proofs.lemmas.Bool.{eqb-true}
 use Rattle.wrp_base.specs.declared.link.LinkState.{LinkState}
 use Rattle.wrp_base.specs.declared.link.LinkState.TheVariants.{Idle, Present, SLock, MLock, Locked, Calibration, Calibrated, RespCalib, LinkOn}
@@ -10,9 +10,10 @@ use Rattle.wrp_link.specs.declared.interface.LinkIn.TheVariants.{CarrierUp}
 use Rattle.wrp_link.specs.Rows.{row_of}
 use Rattle.wrp_link.specs.Table.{is_same, place_of, by_row}
 use Rattle.wrp_check.specs.Laws.{state_after, IsHistory}
+use Rattle.wrp_link.proofs.Deltas.{differs}
 use Rattle.wrp_handshake.specs.Ends.{Sending, Port, Ends, Change, Passes, Hears, Starts, Lights, marked, mover_of, heard, changed, ends_after, new_ends, CanBe}
 use Rattle.wrp_handshake.proofs.Parts.{by_bool}
-use Rattle.wrp_handshake.proofs.Inputs.{marked_new, marked_same, same_state}
+use Rattle.wrp_handshake.proofs.Inputs.{marked_new, marked_same}
 
 -- the state at a place in the list of states
 state_at : ℕ → LinkState
@@ -35,12 +36,6 @@ back LinkOn = refl
 same_is : (a b : LinkState) → is_same a b ≡ true → a ≡ b
 same_is a b e = sym (back a) ∙ ap state_at (eqb-true (place_of a) (place_of b) e) ∙ back b
 
-not_same : (a b : LinkState) → is_same a b ≡ false → a ≢ b
-not_same a b e same =
-    let yes : is_same b b ≡ true = same_state b in
-    let no : is_same b b ≡ false = subst (λ (s : LinkState). is_same s b ≡ false) same e in
-    cc
-
 -- a history that leads to a state
 pub record LeadsTo (state : LinkState) (marks : List Mark) : Type 0 where
   pub history : IsHistory marks
@@ -54,7 +49,7 @@ leads_now time old new by marks h =
     (record { history = h.history; leads = h.leads ∙ same_is old new same }))
     (λ other.
     subst (λ (ms : List Mark). LeadsTo new ms) (marked_new time old new by marks other)
-    (record { history = (sym h.leads, not_same old new other, h.history); leads = refl }))
+    (record { history = (sym h.leads, differs old new other, h.history); leads = refl }))
 
 -- of both ends
 pub record EndsLead (ends : Ends) : Type 0 where

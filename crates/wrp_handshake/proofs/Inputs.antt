@@ -8,16 +8,19 @@ use Rattle.wrp_base.specs.declared.link.Role.{Role}
 use Rattle.wrp_base.specs.declared.link.Role.TheVariants.{Master, Slave}
 use Rattle.wrp_base.specs.declared.message.WrMsg.{WrMsg}
 use Rattle.wrp_base.specs.declared.message.WrMsg.TheVariants.{Present as SLAVE_PRESENT, Lock as LOCK, Locked as LOCKED}
+use Rattle.wrp_base.proofs.Integers.{int_le_self}
 use Rattle.wrp_link.specs.declared.interface.LinkIn.{LinkIn}
 use Rattle.wrp_link.specs.declared.interface.LinkIn.TheVariants.{Msg, Tick}
 use Rattle.wrp_link.specs.Rows.{Row, NoRow, Stays, Moves, Keeps, Resends, Fails, Waits, Counts, CarrierComes, CarrierGoes, row_of}
 use Rattle.wrp_link.specs.Table.{is_same, counted}
 use Rattle.wrp_link.proofs.Fits.{Belongs}
+use Rattle.wrp_link.proofs.Orders.{idle_belongs}
 use Rattle.wrp_check.specs.Stretches.{movers_of, with_mover}
+use Rattle.wrp_link.proofs.Deltas.{is_same_self}
 use Rattle.wrp_handshake.specs.Ends.{Sending, Port, other_of, stamped, mover_of, ticked_by, marked, port_by, heard, MayHear}
 use Rattle.wrp_handshake.proofs.Stages.{engaged, bound, numbered, opens, SendsAll, Kind, opening, engaging, answering, binding, going_on, FitsMove}
 use Rattle.wrp_handshake.proofs.RowFits.{RowFits, row_fits}
-use Rattle.wrp_handshake.proofs.Times.{Calm, at_once, calm_later, calm_tick}
+use Rattle.wrp_handshake.proofs.Times.{Calm, calm_later, calm_tick}
 use Rattle.wrp_handshake.proofs.Keeps.{View, view_of, Ghost, IsOpen, PortKeeps, FromLatest, Bond}
 use Rattle.wrp_handshake.proofs.Parts.{by_bool, mark_at, differs, idle_shut, idle_unbound}
 use Rattle.wrp_handshake.proofs.Ports.{stays, falls_engaged, falls_open, rests}
@@ -42,10 +45,6 @@ pub idle_or_not : (s : LinkState) → (s ≡ Idle) ⊎ (s ≢ Idle)
 idle_or_not Idle = inl refl
 idle_or_not _ = inr (λ e. cc)
 
-idle_belongs : (role : Role) → Belongs role Idle
-idle_belongs Slave = tt
-idle_belongs Master = tt
-
 pub marked_new :
     (time : ℤ) (old new : LinkState) (by : Option Sending) (marks : List Mark) →
     is_same old new ≡ false → mark_at time old new by ∷ marks ≡ marked time old new by marks
@@ -55,10 +54,6 @@ pub marked_same :
     (time : ℤ) (old new : LinkState) (by : Option Sending) (marks : List Mark) →
     is_same old new ≡ true → marks ≡ marked time old new by marks
 marked_same time old new by marks e = rw e refl
-
-pub same_state : (s : LinkState) → is_same s s ≡ true
-same_state Idle = refl
-same_state _ = refl
 
 -- a port returns to IDLE
 fallen :
@@ -105,12 +100,12 @@ fallen life dmin time v g q gq carrier quiet ticked by c t full =
     ]
 
 pub tick_past : (input : LinkIn) (time before : ℤ) → before ≤ℤ time → ticked_by input time before ≤ℤ time
-tick_past (Tick locked) time before h = at_once time
+tick_past (Tick locked) time before h = int_le_self time
 tick_past _ time before h = h
 
 pub tick_grows : (input : LinkIn) (time before : ℤ) → before ≤ℤ time → before ≤ℤ ticked_by input time before
 tick_grows (Tick locked) time before h = h
-tick_grows _ time before h = at_once before
+tick_grows _ time before h = int_le_self before
 
 pub engaged_awake : (role : Role) (s : LinkState) → engaged role s ≡ true → s ≢ Idle
 engaged_awake role s e i =
@@ -217,7 +212,7 @@ kind_moves life dmin time p g q gq input at next ms c h f (binding was un en bo 
     (sym (ap (λ (i : LinkIn). mover_of i at) is))
     (going_on_moves life dmin time (view_of p) g (view_of q) gq next (ticked_by input time p.ticked) (Some (LOCKED, at)) ms time c
     (tick_past input time p.ticked c.keeps.ticked) f.belongs f.leaves f.way f.sends
-    (engaged_awake p.link.role p.link.state was) was en bo (at_once time)
+    (engaged_awake p.link.role p.link.state was) was en bo (int_le_self time)
     (λ m i _. (c.keeps.frames m i).past)
     (record {
       source = (LOCKED, at);
@@ -271,7 +266,7 @@ stays_by life dmin time p g q gq input at ms c s =
     Moved life dmin time
     (record (view_of p) { ticked = ticked_by input time p.ticked; marks = marks; sent = stamped time ms p.sent })
     (view_of q) gq)
-    (marked_same time p.link.state p.link.state (mover_of input at) p.marks (same_state p.link.state))
+    (marked_same time p.link.state p.link.state (mover_of input at) p.marks (is_same_self p.link.state))
     (stayed life dmin time (view_of p) g (view_of q) gq (ticked_by input time p.ticked) p.link.quiet ms c
     (tick_past input time p.ticked c.keeps.ticked)
     (λ i lit. calm_later dmin p.link.set.quiet p.link.quiet p.ticked (ticked_by input time p.ticked) g.rest
@@ -294,8 +289,8 @@ counts_by life dmin time p g q gq locked at Idle c h =
     subst
     (λ (marks : List Mark).
     Moved life dmin time (record (view_of p) { ticked = time; quiet = p.link.quiet - 1; marks = marks }) (view_of q) gq)
-    (marked_same time p.link.state p.link.state None p.marks (same_state p.link.state))
-    (stayed life dmin time (view_of p) g (view_of q) gq time (p.link.quiet - 1) [] c (at_once time)
+    (marked_same time p.link.state p.link.state None p.marks (is_same_self p.link.state))
+    (stayed life dmin time (view_of p) g (view_of q) gq time (p.link.quiet - 1) [] c (int_le_self time)
     (λ i lit. calm_tick dmin p.link.set.quiet p.link.quiet p.ticked time g.rest h c.keeps.rest (c.keeps.calm i lit))
     tt)
 counts_by life dmin time p g q gq locked at _ c h = stays_by life dmin time p g q gq (Tick locked) at [] c tt

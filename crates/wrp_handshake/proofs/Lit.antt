@@ -1,6 +1,7 @@
 -- What is kept of a link since its carrier came: its modules, and who was told of them.
 use Rattle.std.proofs.Common.{◌≡◌, ◌≢◌, ◌⊎◌, inl, inr, refl, ap, sym, ◌∙◌, subst, ℕ, ◌-◌, ◌*◌, ◌<◌, ℤ, pos, ◌+ℤ◌, ◌≤ℤ◌, ◌<ℤ◌, Bool, true, false, is_some, List, [], ◌∷◌, Option, None, Some, arith}
 use Rattle.std.proofs.lemmas.Int.{ints}
+use Rattle.std.proofs.lemmas.Option.{same_Some}
 use Rattle.wrp_base.specs.declared.link.LinkState.{LinkState}
 use Rattle.wrp_base.specs.declared.link.LinkState.TheVariants.{Idle, Calibrated, LinkOn}
 use Rattle.wrp_base.specs.declared.link.Mark.{Mark}
@@ -8,7 +9,9 @@ use Rattle.wrp_base.specs.declared.link.Module.{Module}
 use Rattle.wrp_base.specs.declared.link.Role.{Role}
 use Rattle.wrp_base.specs.declared.link.Role.TheVariants.{Master, Slave}
 use Rattle.wrp_base.specs.declared.message.WrMsg.{WrMsg}
+use Rattle.wrp_base.proofs.Options.{pair_there}
 use Rattle.wrp_base.specs.declared.message.WrMsg.TheVariants.{Calibrated as CALIBRATED, ModeOn as WR_MODE_ON}
+use Rattle.wrp_base.proofs.Integers.{int_le_self}
 use Rattle.wrp_link.specs.declared.interface.LinkIn.{LinkIn}
 use Rattle.wrp_link.specs.declared.interface.LinkIn.TheVariants.{Msg, CarrierUp}
 use Rattle.wrp_link.specs.declared.interface.LinkSet.{LinkSet}
@@ -18,16 +21,17 @@ use Rattle.wrp_link.specs.Rows.{Row, NoRow, Stays, Moves, Keeps, Resends, Fails,
 use Rattle.wrp_link.specs.Table.{by_row, sent_by, counted, ticked, retried}
 use Rattle.wrp_link.specs.LinkAt.{wait_of}
 use Rattle.wrp_link.proofs.Fits.{Fits, knows, row_fits as link_fits}
-use Rattle.wrp_link.proofs.Orders.{IsOrdered, after_ordered, new_ordered, idle_unknown_of}
+use Rattle.wrp_link.proofs.Runs.{by_row_role}
+use Rattle.wrp_link.proofs.Orders.{IsOrdered, after_ordered, new_ordered}
+use Rattle.wrp_link.proofs.Deltas.{is_same_self, out_of_idle}
 use Rattle.wrp_handshake.specs.Ends.{Sending, Port, Ends, Change, Passes, Hears, Starts, Lights, other_of, end_of, with_end, IsAmong, stamped, mover_of, ticked_by, marked, port_by, heard, MayHear, IsNoCarrier, changed, MayCome, ends_after, AllMayCome, new_ends, lit_by, lit_at, placed_by, placed_at, OutlivesFrames, CanBe}
 use Rattle.wrp_handshake.specs.Deltas.{KnowsDeltas}
 use Rattle.wrp_handshake.specs.Laws.{IsAwake, IsLongAgo}
 use Rattle.wrp_handshake.proofs.Stages.{Kind, opening, engaging, answering, binding, going_on, FitsMove}
 use Rattle.wrp_handshake.proofs.RowFits.{RowFits, row_fits}
-use Rattle.wrp_handshake.proofs.Times.{Calm, at_once, later, passes, passes_below, calm_later, calm_tick, calm_over}
+use Rattle.wrp_handshake.proofs.Times.{Calm, later, passes, passes_below, calm_later, calm_tick, calm_over}
 use Rattle.wrp_handshake.proofs.Parts.{mark_at, not_idle, not_same_idle}
-use Rattle.wrp_handshake.proofs.Inputs.{engaged_awake, idle_or_not, marked_new, marked_same, same_state, tick_past, tick_grows}
-use Rattle.wrp_handshake.proofs.Changes.{by_row_role}
+use Rattle.wrp_handshake.proofs.Inputs.{engaged_awake, idle_or_not, marked_new, marked_same, tick_past, tick_grows}
 use Rattle.wrp_handshake.proofs.Deltas.{IsOwn, OwnAll, row_owns, now_moved, moved_more, moved_first, in_with, of_with, stamped_own}
 
 -- the peer told these delays in this stretch
@@ -78,7 +82,7 @@ past_now : (life dmin : ℕ) (time : ℤ) (fitted : Option Module) (ms : List Wr
     OwnAll fitted ms → ((f : Sending) → IsAmong f sent → f.1 ≤ℤ time) → (f : Sending) → IsAmong f (stamped time ms sent) → f.1 ≤ℤ time
 past_now life dmin time fitted ms sent own h f i =
     elim (stamped_own time fitted ms sent f own i) [
-      | inl x ↦ subst (λ (t : ℤ). t ≤ℤ time) (sym x.1) (at_once time)
+      | inl x ↦ subst (λ (t : ℤ). t ≤ℤ time) (sym x.1) (int_le_self time)
       | inr j ↦ h f j
     ]
 
@@ -97,7 +101,7 @@ lit_same life dmin time lit placed l tick marks sent quiet holdoff on_ticks wait
     subst
     (λ (xs : List Mark).
     LitPort life dmin time lit placed (record l { quiet = quiet; holdoff = holdoff; waiting = waiting; on_ticks = on_ticks }) tick' xs (stamped time ms sent))
-    (marked_same time l.state l.state None marks (same_state l.state))
+    (marked_same time l.state l.state None marks (is_same_self l.state))
     (record {
       ordered = o;
       counts = k.counts;
@@ -118,7 +122,7 @@ lit_same life dmin time lit placed l tick marks sent quiet holdoff on_ticks wait
     })
 
 other_mover : (time : ℤ) (s : LinkState) (by : Option Sending) (marks : List Mark) → marked time s s None marks ≡ marked time s s by marks
-other_mover time s by marks = sym (marked_same time s s None marks (same_state s)) ∙ marked_same time s s by marks (same_state s)
+other_mover time s by marks = sym (marked_same time s s None marks (is_same_self s)) ∙ marked_same time s s by marks (is_same_self s)
 
 lit_stays :
     (life dmin : ℕ) (time lit : ℤ) (placed : Option Module) (p : Port) (input : LinkIn) (at : ℤ) (waiting : Option Waiting) (ms : List WrMsg) →
@@ -249,12 +253,6 @@ still_among time old next by marks tx rx a h = (
       (in_with by (now_moved marks) (CALIBRATED tx rx, h.0) h.1),
 )
 
-known_out : (l : LinkAt) (tx rx : ℕ) → IsOrdered l → l.deltas ≡ Some (tx, rx) → l.state ≢ Idle
-known_out l tx rx o e i =
-    let unknown : is_some l.deltas ≡ false = idle_unknown_of l o i in
-    let known : is_some l.deltas ≡ true = ap (λ (d : Option (ℕ × ℕ)). is_some d) e in
-    cc
-
 now_among :
     (time : ℤ) (old next : LinkState) (marks : List Mark) (tx rx : ℕ) (at : ℤ) →
     Among (mark_at time old next (Some (CALIBRATED tx rx, at)) ∷ marks) tx rx
@@ -291,7 +289,7 @@ lit_idle life dmin time lit placed l tick marks sent o idle counts t lp past cal
       listed = λ a. absurd (a idle);
       in_place = at;
       told = told;
-      knows = λ tx rx e. absurd (known_out l tx rx o e idle);
+      knows = λ tx rx e. absurd (out_of_idle l tx rx o e idle);
       fresh = λ a. absurd (a idle);
       turned_on = λ _ on. (let x : LinkOn ≡ Idle = sym on ∙ idle in cc);
     }
@@ -302,16 +300,13 @@ counts_lit :
     LitPort life dmin time lit placed (counted p.link s) time (marked time p.link.state (counted p.link s).state None p.marks) p.sent
 counts_lit life dmin time lit placed p locked at Idle k o h =
     lit_same life dmin time lit placed p.link p.ticked p.marks p.sent (p.link.quiet - 1) (p.link.holdoff - 1) p.link.on_ticks p.link.waiting time [] k o
-    (at_once time) (λ i e. calm_tick dmin p.link.set.quiet p.link.quiet p.ticked time lit h k.lit_past (k.calm i e)) tt
+    (int_le_self time) (λ i e. calm_tick dmin p.link.set.quiet p.link.quiet p.ticked time lit h k.lit_past (k.calm i e)) tt
 counts_lit life dmin time lit placed p locked at LinkOn k o h =
     lit_same life dmin time lit placed p.link p.ticked p.marks p.sent p.link.quiet p.link.holdoff _ p.link.waiting time [] k o
-    (at_once time) (λ i e. calm_later dmin p.link.set.quiet p.link.quiet p.ticked time lit k.tick_past (k.calm i e)) tt
+    (int_le_self time) (λ i e. calm_later dmin p.link.set.quiet p.link.quiet p.ticked time lit k.tick_past (k.calm i e)) tt
 counts_lit life dmin time lit placed p locked at _ k o h =
     lit_same life dmin time lit placed p.link p.ticked p.marks p.sent p.link.quiet p.link.holdoff p.link.on_ticks p.link.waiting time [] k o
-    (at_once time) (λ i e. calm_later dmin p.link.set.quiet p.link.quiet p.ticked time lit k.tick_past (k.calm i e)) tt
-
-some_is : {A : Type 0} (a b : A) → Some a ≡ Some b → a ≡ b
-some_is a b e = cc
+    (int_le_self time) (λ i e. calm_later dmin p.link.set.quiet p.link.quiet p.ticked time lit k.tick_past (k.calm i e)) tt
 
 lit_row :
     (life dmin : ℕ) (time lit : ℤ) (placed : Option Module) (p q : Port) (input : LinkIn) (at : ℤ) (row : Row) →
@@ -323,12 +318,12 @@ lit_row life dmin time lit placed p q input at NoRow k h n f g o own = lit_stays
 lit_row life dmin time lit placed p q input at (Stays ms) k h n f g o own = lit_stays life dmin time lit placed p input at p.link.waiting ms k o own
 lit_row life dmin time lit placed p q input at (Moves next ms) k h n f g o own =
     lit_moves life dmin time lit placed p input at next p.link.deltas ms k f o own
-    (λ tx rx e. still_among time p.link.state next (mover_of input at) p.marks tx rx (known_out p.link tx rx k.ordered e) (k.knows tx rx e))
+    (λ tx rx e. still_among time p.link.state next (mover_of input at) p.marks tx rx (out_of_idle p.link tx rx k.ordered e) (k.knows tx rx e))
     (λ long m is. since_lit life dmin time lit p q input at m h long is) g.turns
 lit_row life dmin time lit placed p q input at (Keeps tx rx next ms) k h n f g o own =
     lit_moves life dmin time lit placed p input at next (Some (tx, rx)) ms k f o own
     (λ tx' rx' e.
-    subst (λ (d : ℕ × ℕ). Among (mark_at time p.link.state next (mover_of input at) ∷ p.marks) d.0 d.1) (some_is (tx, rx) (tx', rx') e)
+    subst (λ (d : ℕ × ℕ). Among (mark_at time p.link.state next (mover_of input at) ∷ p.marks) d.0 d.1) (same_Some (tx, rx) (tx', rx') e)
     (subst (λ (i : LinkIn). Among (mark_at time p.link.state next (mover_of i at) ∷ p.marks) tx rx) (sym g.told)
     (now_among time p.link.state next p.marks tx rx at)))
     (λ long m is. since_lit life dmin time lit p q input at m h long is) g.turns
@@ -401,7 +396,7 @@ pair_stays :
     p.link.state ≢ Idle → (m : Sending) → IsAmong m (now_moved (marked time p.link.state p.link.state by p.marks)) → IsOwn peers m.0
 pair_stays peers p time by pair a m i =
     pair a m
-    (subst (λ (xs : List Mark). IsAmong m (now_moved xs)) (sym (marked_same time p.link.state p.link.state by p.marks (same_state p.link.state))) i)
+    (subst (λ (xs : List Mark). IsAmong m (now_moved xs)) (sym (marked_same time p.link.state p.link.state by p.marks (is_same_self p.link.state))) i)
 
 counts_pair :
     (peers : Option Module) (p : Port) (time : ℤ) (by : Option Sending) (s : LinkState) → LitPair p peers →
@@ -481,7 +476,7 @@ lit_hears life dmin w lit placed Slave input at h n k =
 
 lit_later : (life dmin : ℕ) (time lit : ℤ) (placed : Option Module) (p : Port) (dt : ℕ) → LitAt life dmin time lit placed p → LitAt life dmin (time +ℤ pos dt) lit placed p
 lit_later life dmin time lit placed p dt k =
-    let le : time ≤ℤ (time +ℤ pos dt) = passes time time dt (at_once time) in
+    let le : time ≤ℤ (time +ℤ pos dt) = passes time time dt (int_le_self time) in
     record {
       ordered = k.ordered;
       counts = k.counts;
@@ -504,7 +499,7 @@ lit_starts life dmin time lit placed p k =
     record {
       ordered = k.ordered;
       counts = k.counts;
-      tick_past = at_once time;
+      tick_past = int_le_self time;
       lit_past = k.lit_past;
       past = k.past;
       calm = λ i e. calm_later dmin p.link.set.quiet p.link.quiet p.ticked time lit k.tick_past (k.calm i e);
@@ -518,7 +513,7 @@ lit_starts life dmin time lit placed p k =
       turned_on = k.turned_on;
     }
 
-never : (a b : ℤ) → a ≤ℤ b → b <ℤ a → ⊥
+pub never : (a b : ℤ) → a ≤ℤ b → b <ℤ a → ⊥
 never a b h k = omega (arith, ints)
 
 lit_comes :
@@ -527,7 +522,7 @@ lit_comes :
 lit_comes life dmin time lit placed p fitted k =
     lit_idle life dmin time time fitted (with_carrier p.link fitted) p.ticked
     (marked time p.link.state Idle None p.marks) p.sent
-    (after_ordered p.link (CarrierUp fitted) k.ordered) refl k.counts k.tick_past (at_once time) k.past
+    (after_ordered p.link (CarrierUp fitted) k.ordered) refl k.counts k.tick_past (int_le_self time) k.past
     (λ _. inl refl) (inl refl)
     (λ f i new. absurd (never f.1 time (k.past f i) new))
 
@@ -575,7 +570,7 @@ lit_changes life dmin w lit placed (Lights of_master of_slave) h k =
 lit_new : (life dmin : ℕ) (time : ℤ) (role : Role) (set : LinkSet) → OutlivesFrames life dmin set →
     LitPort life dmin time time None (new_link role set) time [] []
 lit_new life dmin time role set c1 =
-    lit_idle life dmin time time None (new_link role set) time [] [] (new_ordered role set) refl c1 (at_once time) (at_once time)
+    lit_idle life dmin time time None (new_link role set) time [] [] (new_ordered role set) refl c1 (int_le_self time) (int_le_self time)
     (λ f i. absurd i) (λ e. cc) (inl refl) (λ f i. absurd i)
 
 lit_start :
@@ -607,10 +602,6 @@ can_keep_lit life dmin ends h =
     (lit_all life dmin (new_ends h.of_master h.of_slave h.start) h.changes h.come
     (lit_start life dmin h.start h.of_master h.of_slave h.master_quiet h.slave_quiet))
 
-known_at : (d : Option (ℕ × ℕ)) → is_some d ≡ true → (t : ℕ × ℕ) × (d ≡ Some t)
-known_at None e = cc
-known_at (Some t) e = (t, refl)
-
 module_at : (f : Option Module) → is_some f ≡ true → (x : Module) × (f ≡ Some x)
 module_at None e = cc
 module_at (Some x) e = (x, refl)
@@ -626,7 +617,7 @@ deltas_by life dmin w lit placed k on =
     let out : w.slave.link.state ≢ Idle = λ i. (let x : LinkOn ≡ Idle = sym on ∙ i in cc) in
     let knows_at : knows w.slave.link.role w.slave.link.state ≡ true =
     ap (λ (r : Role). knows r w.slave.link.state) k.is_slave ∙ ap (λ (s : LinkState). knows Slave s) on in
-    let known : (t : ℕ × ℕ) × (w.slave.link.deltas ≡ Some t) = known_at w.slave.link.deltas (k.slave.ordered.known ∙ knows_at) in
+    let known : (t : ℕ × ℕ) × (w.slave.link.deltas ≡ Some t) = pair_there w.slave.link.deltas (k.slave.ordered.known ∙ knows_at) in
     let own : (x : Module) × (w.slave.link.own_module ≡ Some x) = module_at w.slave.link.own_module (k.slave.listed out) in
     let among : Among w.slave.marks known.0.0 known.0.1 = k.slave.knows known.0.0 known.0.1 known.1 in
     let x : (y : Module) × ((placed Master ≡ Some y) × (known.0.0 ≡ y.tx) × (known.0.1 ≡ y.rx)) =

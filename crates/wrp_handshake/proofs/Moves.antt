@@ -8,12 +8,13 @@ use Rattle.wrp_base.specs.declared.link.Role.{Role}
 use Rattle.wrp_base.specs.declared.link.Role.TheVariants.{Master}
 use Rattle.wrp_base.specs.declared.message.WrMsg.{WrMsg}
 use Rattle.wrp_base.specs.declared.message.WrMsg.TheVariants.{Present as SLAVE_PRESENT}
+use Rattle.wrp_base.proofs.Integers.{int_le_self}
 use Rattle.wrp_link.specs.Table.{is_same}
 use Rattle.wrp_link.proofs.Fits.{Belongs}
 use Rattle.wrp_check.specs.Stretches.{joined, stretches_of, Entered, movers_of, with_mover}
 use Rattle.wrp_handshake.specs.Ends.{Sending, other_of, IsAmong, stamped}
 use Rattle.wrp_handshake.proofs.Stages.{engaged, bound, numbered, opens, way_of, shut_sends, bound_sends, SendsAll}
-use Rattle.wrp_handshake.proofs.Times.{Calm, at_once, older, no_opener, not_old, too_late, calm_over}
+use Rattle.wrp_handshake.proofs.Times.{Calm, older, no_opener, not_old, too_late, calm_over}
 use Rattle.wrp_handshake.proofs.Keeps.{View, Ghost, SentKeeps, IsOpen, IsEngaged, PortKeeps, FromLatest, Bond, Tied}
 use Rattle.wrp_handshake.proofs.Parts.{mark_at, not_same_idle, not_idle, idle_shut, idle_way, bound_engaged, began_cons, began_rest, not_opening, entered_now, joins, begins, stays_sent, stamped_in}
 use Rattle.wrp_handshake.proofs.Ports.{fresh, longer_sent, turns_later}
@@ -101,7 +102,7 @@ way_now :
     Entered time (way_of role next) (mark_at time old next by ∷ marks)
 way_now time role old next by marks w h =
     subst (λ (ss : List LinkState). Entered time ss (mark_at time old next by ∷ marks)) (sym w)
-    (entered_now time next old by (way_of role old) marks (at_once time) h)
+    (entered_now time next old by (way_of role old) marks (int_le_self time) h)
 
 from_idle : (time : ℤ) (role : Role) (s : LinkState) → s ≡ Idle → Entered time (way_of role s) []
 from_idle time role s e =
@@ -177,7 +178,7 @@ opening_moves life dmin time v g q gq next ticked by ms c t b out w s idle lit o
                   newer = refl;
                   way = way_now time v.role v.state next by [] w (from_idle time v.role v.state idle);
                   path = path_from v.role v.state next idle w;
-                  began = at_once time;
+                  began = int_le_self time;
                   unmoved = un;
                 };
             engages = λ x. cc;
@@ -256,7 +257,7 @@ engaging_moves life dmin time v g q gq next ticked m at ms c t b out w s idle li
       newer = refl;
       way = way_now time v.role v.state next (Some (m, at)) [] w (from_idle time v.role v.state idle);
       path = path_from v.role v.state next idle w;
-      began = at_once time;
+      began = int_le_self time;
       first = λ _ t h. h;
       lasts = λ t i. absurd (not_idle next out i);
     } in
@@ -268,7 +269,7 @@ engaging_moves life dmin time v g q gq next ticked m at ms c t b out w s idle li
             counts = k.counts;
             ticked = t;
             rest = k.rest;
-            turn = at_once time;
+            turn = int_le_self time;
             bind = k.bind;
             calm = λ i. absurd (not_idle next out i);
             shut = λ x. cc;
@@ -279,11 +280,11 @@ engaging_moves life dmin time v g q gq next ticked m at ms c t b out w s idle li
             frames =
                 λ f i.
                 elim (stamped_in time v.role next ms v.sent f s i) [
-                  | inl x ↦ fresh life time v.role next (mark ∷ v.marks) g' f (at_once time) (λ _. n) x.0 x.1
+                  | inl x ↦ fresh life time v.role next (mark ∷ v.marks) g' f (int_le_self time) (λ _. n) x.0 x.1
                   | inr j ↦ old_turn life dmin time v g g' (mark ∷ v.marks) f k was r refl j
                 ];
             alone = λ _. refl;
-            turns = (λ _ _. at_once time, turns_later v.role g.turn time v.marks k.turn k.turns);
+            turns = (λ _ _. int_le_self time, turns_later v.role g.turn time v.marks k.turn k.turns);
             left = (λ i. absurd (not_idle next out i), k.left);
             awake = λ _. r;
           };
@@ -327,8 +328,8 @@ answering_moves life dmin time v g q gq next ticked m at ms c t b out w s awake 
             counts = k.counts;
             ticked = t;
             rest = k.rest;
-            turn = at_once time;
-            bind = at_once time;
+            turn = int_le_self time;
+            bind = int_le_self time;
             calm = λ i. absurd (not_idle next out i);
             shut = λ x. cc;
             opened = λ _ x. cc;
@@ -343,11 +344,11 @@ answering_moves life dmin time v g q gq next ticked m at ms c t b out w s awake 
             frames =
                 λ f i.
                 elim (stamped_in time v.role next ms v.sent f s i) [
-                  | inl x ↦ fresh life time v.role next (mark ∷ v.marks) g' f (at_once time) (λ _. n) x.0 x.1
+                  | inl x ↦ fresh life time v.role next (mark ∷ v.marks) g' f (int_le_self time) (λ _. n) x.0 x.1
                   | inr j ↦ old_turn life dmin time v g g' (mark ∷ v.marks) f k was o.calm refl j
                 ];
             alone = λ _. refl;
-            turns = (λ _ _. at_once time, turns_later v.role g.turn time v.marks k.turn k.turns);
+            turns = (λ _ _. int_le_self time, turns_later v.role g.turn time v.marks k.turn k.turns);
             left = (λ i. absurd (not_idle next out i), k.left);
             awake = λ _. o.calm;
           };

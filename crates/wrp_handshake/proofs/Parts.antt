@@ -1,6 +1,5 @@
 -- Small facts on histories and on lists of sent messages.
 use Rattle.std.proofs.Common.{◌≡◌, ◌≢◌, ◌⊎◌, inl, inr, refl, ap, sym, ◌∙◌, subst, ℤ, ◌≤ℤ◌, Bool, true, false, List, [], ◌∷◌, Option}
-use Rattle.std.specs.List.{AllByRecursion}
 use Rattle.wrp_base.specs.declared.link.LinkState.{LinkState}
 use Rattle.wrp_base.specs.declared.link.LinkState.TheVariants.{Idle, Present, MLock}
 use Rattle.wrp_base.specs.declared.link.Mark.{Mark}
@@ -75,10 +74,6 @@ began_later a b [] le h = absurd h
 began_later a b (m ∷ []) le h = later h le
 began_later a b (m ∷ n ∷ ms) le h = began_later a b (n ∷ ms) le h
 
-pub entered_cons : (t : ℤ) (ss : List LinkState) (mark : Mark) (marks : List Mark) → Entered t ss marks → Entered t ss (mark ∷ marks)
-entered_cons t [] mark marks h = tt
-entered_cons t (s ∷ ss) mark marks h = inr h
-
 pub entered_later : (a b : ℤ) (ss : List LinkState) (marks : List Mark) → a ≤ℤ b → Entered a ss marks → Entered b ss marks
 entered_later a b [] marks le h = tt
 entered_later a b (s ∷ ss) [] le h = absurd h
@@ -120,8 +115,3 @@ stamped_in time role s (m ∷ ms) sent f all h =
             | inr j ↦ inr j
           ]
     ]
-
--- what holds of each element, weakened
-pub All-weaker : {A : Type 0} (P Q : A → Type 0) → ((x : A) → P x → Q x) → (xs : List A) → AllByRecursion P xs → AllByRecursion Q xs
-All-weaker P Q w [] h = tt
-All-weaker P Q w (x ∷ xs) h = (w x h.0, All-weaker P Q w xs h.1)

@@ -5,14 +5,17 @@ use Rattle.wrp_base.specs.declared.link.LinkState.{LinkState}
 use Rattle.wrp_base.specs.declared.link.LinkState.TheVariants.{Idle}
 use Rattle.wrp_base.specs.declared.link.Mark.{Mark}
 use Rattle.wrp_base.specs.declared.link.Role.{Role}
+use Rattle.wrp_base.proofs.Lists.{all_weaker}
 use Rattle.wrp_base.specs.declared.message.WrMsg.{WrMsg}
+use Rattle.wrp_base.proofs.Integers.{int_le_self}
 use Rattle.wrp_link.proofs.Fits.{Belongs}
 use Rattle.wrp_check.specs.Stretches.{joined, stretches_of, BeganBy}
+use Rattle.wrp_check.proofs.Entering.{entered_more}
 use Rattle.wrp_handshake.specs.Ends.{Sending, stamped}
 use Rattle.wrp_handshake.proofs.Stages.{engaged, bound, numbered, shut_sends, bound_sends, opens, sends_entered, Sends, SendsAll}
-use Rattle.wrp_handshake.proofs.Times.{Calm, at_once, later, passes, passes_below}
+use Rattle.wrp_handshake.proofs.Times.{Calm, later, passes, passes_below}
 use Rattle.wrp_handshake.proofs.Keeps.{View, Ghost, Current, SentKeeps, IsOpen, IsEngaged, TurnedBy, LeftBy, PortKeeps}
-use Rattle.wrp_handshake.proofs.Parts.{by_bool, mark_at, not_same_idle, idle_shut, idle_unbound, not_opening, began_cons, began_later, entered_cons, entered_later, joins, stamped_in, All-weaker}
+use Rattle.wrp_handshake.proofs.Parts.{by_bool, mark_at, not_same_idle, idle_shut, idle_unbound, not_opening, began_cons, began_later, entered_later, joins, stamped_in}
 
 -- a message that an engaged port sends now
 fresh_current :
@@ -35,7 +38,7 @@ pub fresh :
 fresh life time role state marks g f t en s e =
     let now : SentKeeps life time role marks g (f.0, time) =
     record {
-      past = at_once time;
+      past = int_le_self time;
       place =
           λ n.
           by_bool (engaged role state)
@@ -46,10 +49,10 @@ fresh life time role state marks g f t en s e =
 
 -- marks that were not after a time are not after a later one
 pub turns_later : (role : Role) (a b : ℤ) (marks : List Mark) → a ≤ℤ b → AllByRecursion (λ m. TurnedBy role a m) marks → AllByRecursion (λ m. TurnedBy role b m) marks
-turns_later role a b marks le h = All-weaker (λ m. TurnedBy role a m) (λ m. TurnedBy role b m) (λ m t was is. later (t was is) le) marks h
+turns_later role a b marks le h = all_weaker (λ m. TurnedBy role a m) (λ m. TurnedBy role b m) (λ m t was is. later (t was is) le) marks h
 
 pub left_later : (a b : ℤ) (marks : List Mark) → a ≤ℤ b → AllByRecursion (λ m. LeftBy a m) marks → AllByRecursion (λ m. LeftBy b m) marks
-left_later a b marks le h = All-weaker (λ m. LeftBy a m) (λ m. LeftBy b m) (λ m t is. later (t is) le) marks h
+left_later a b marks le h = all_weaker (λ m. LeftBy a m) (λ m. LeftBy b m) (λ m t is. later (t is) le) marks h
 
 -- the state stays
 pub stays :
@@ -108,7 +111,7 @@ longer role marks g rest bind mark f e l c =
       splits = e;
       misses = tt;
       lies = record { began = began_cons f.1 mark g.latest c.lies.began; lasts = l };
-      entered = entered_cons f.1 _ mark g.latest c.entered;
+      entered = entered_more f.1 _ mark g.latest c.entered;
     }
 
 pub longer_sent :
@@ -147,7 +150,7 @@ falls_engaged life dmin time v g carrier quiet ticked by k out en b t c =
       belongs = b;
       counts = k.counts;
       ticked = t;
-      rest = at_once time;
+      rest = int_le_self time;
       turn = k.turn;
       bind = k.bind;
       calm = λ i lit. inl (c lit);
@@ -159,7 +162,7 @@ falls_engaged life dmin time v g carrier quiet ticked by k out en b t c =
       frames = λ f i. longer_sent life time v.role v.marks g time g.bind mark f e refl (k.frames f i);
       alone = λ _. refl;
       turns = (λ _ x. cc, k.turns);
-      left = (λ _. at_once time, left_later g.rest time v.marks k.rest k.left);
+      left = (λ _. int_le_self time, left_later g.rest time v.marks k.rest k.left);
       awake = λ o. absurd (o refl);
     }
 
@@ -204,7 +207,7 @@ falls_open life dmin time v g carrier quiet ticked by k out was o b t c =
       belongs = b;
       counts = k.counts;
       ticked = t;
-      rest = at_once time;
+      rest = int_le_self time;
       turn = k.turn;
       bind = k.bind;
       calm = λ i lit. inl (c lit);
@@ -226,7 +229,7 @@ falls_open life dmin time v g carrier quiet ticked by k out was o b t c =
           };
       alone = λ master. absurd (not_opening v.role v.state master out was);
       turns = (λ _ x. cc, k.turns);
-      left = (λ _. at_once time, left_later g.rest time v.marks k.rest k.left);
+      left = (λ _. int_le_self time, left_later g.rest time v.marks k.rest k.left);
       awake = λ o. absurd (o refl);
     }
 
@@ -246,7 +249,7 @@ rests life dmin time v g carrier quiet ticked k b t c =
       belongs = b;
       counts = k.counts;
       ticked = t;
-      rest = at_once time;
+      rest = int_le_self time;
       turn = k.turn;
       bind = k.bind;
       calm = λ i lit. inl (c lit);
@@ -277,7 +280,7 @@ pub passes_port :
     (life dmin : ℕ) (time : ℤ) (v : View) (g : Ghost) (dt : ℕ) →
     PortKeeps life dmin time v g → PortKeeps life dmin (time +ℤ pos dt) v g
 passes_port life dmin time v g dt k =
-    let le : time ≤ℤ (time +ℤ pos dt) = passes time time dt (at_once time) in
+    let le : time ≤ℤ (time +ℤ pos dt) = passes time time dt (int_le_self time) in
     record {
       belongs = k.belongs;
       counts = k.counts;

@@ -8,6 +8,7 @@ use Rattle.wrp_base.specs.declared.link.Role.{Role}
 use Rattle.wrp_base.specs.declared.link.Role.TheVariants.{Master, Slave}
 use Rattle.wrp_base.specs.declared.message.WrMsg.{WrMsg}
 use Rattle.wrp_base.specs.declared.message.WrMsg.TheVariants.{Present as SLAVE_PRESENT, Lock as LOCK, Locked as LOCKED, Calibrate as CALIBRATE, Calibrated as CALIBRATED, ModeOn as WR_MODE_ON}
+use Rattle.wrp_base.proofs.Booleans.{and_second}
 use Rattle.wrp_link.specs.declared.interface.LinkIn.{LinkIn}
 use Rattle.wrp_link.specs.declared.interface.LinkIn.TheVariants.{Msg, Announce, Tick, CarrierDown, CarrierUp}
 use Rattle.wrp_link.specs.LinkAt.{LinkAt, Waiting}
@@ -37,15 +38,11 @@ pub and_left : (a b : Bool) → a && b ≡ true → a ≡ true
 and_left true b e = refl
 and_left false b e = e
 
-pub and_right : (a b : Bool) → a && b ≡ true → b ≡ true
-and_right true b e = e
-and_right false b e = cc
-
 over : (l : LinkAt) → may_leave_idle l ≡ true → l.quiet ≡ 0
 over l e = eqb-true l.quiet 0 (and_left (eqb l.quiet 0) _ e)
 
 listed : (l : LinkAt) → may_leave_idle l ≡ true → is_some l.own_module ≡ true
-listed l e = and_left (is_some l.own_module) l.set.wr (and_right (eqb l.quiet 0) _ e)
+listed l e = and_left (is_some l.own_module) l.set.wr (and_second (eqb l.quiet 0) _ e)
 
 calibrated_sent : (role : Role) (m : Option Module) → Sends role Calibrated (own_calibrated m)
 calibrated_sent Slave None = tt
@@ -107,7 +104,7 @@ announce_fits l Slave Idle suffix lit =
     under_fits _ Slave Idle l (Announce suffix) (Moves Present (SLAVE_PRESENT ∷ []))
     (λ e.
     record {
-      kind = opening refl lit (listed l (and_right _ _ (and_right (offers suffix) _ e))) (over l (and_right _ _ (and_right (offers suffix) _ e))) refl (suffix, refl);
+      kind = opening refl lit (listed l (and_second _ _ (and_second (offers suffix) _ e))) (over l (and_second _ _ (and_second (offers suffix) _ e))) refl (suffix, refl);
       way = refl;
       belongs = tt;
       changes = refl;

@@ -16,7 +16,7 @@ use Rattle.wrp_handshake.proofs.Keeps.{View, Ghost, Current, IsEngaged, PortKeep
 use Rattle.wrp_handshake.proofs.Parts.{bound_engaged}
 use Rattle.wrp_handshake.proofs.Moves.{Peers}
 
-on_bound : (role : Role) → bound role LinkOn ≡ true
+pub on_bound : (role : Role) → bound role LinkOn ≡ true
 on_bound Master = refl
 on_bound Slave = refl
 
@@ -24,7 +24,7 @@ twice_other : (role : Role) → other_of (other_of role) ≡ role
 twice_other Master = refl
 twice_other Slave = refl
 
-too_new : (life : ℕ) (at turn : ℤ) → (at +ℤ pos (2 * life)) <ℤ turn → turn ≤ℤ at → ⊥
+pub too_new : (life : ℕ) (at turn : ℤ) → (at +ℤ pos (2 * life)) <ℤ turn → turn ≤ℤ at → ⊥
 too_new life at turn h k = omega (arith, ints)
 
 -- a message of the peer's last turn

@@ -6,6 +6,7 @@ use Rattle.wrp_base.specs.declared.link.LinkState.TheVariants.{Idle, Present, SL
 use Rattle.wrp_base.specs.declared.link.Mark.{Mark}
 use Rattle.wrp_base.specs.declared.link.Role.{Role}
 use Rattle.wrp_base.specs.declared.link.Role.TheVariants.{Master, Slave}
+use Rattle.wrp_base.proofs.Lists.{all_weaker}
 use Rattle.wrp_check.specs.Laws.{IsHistory}
 use Rattle.wrp_check.specs.Stretches.{stretches_of, newest_of, movers_of, with_mover}
 use Rattle.wrp_handshake.specs.Ends.{Sending, Port, IsAmong}
@@ -13,7 +14,7 @@ use Rattle.wrp_handshake.specs.Laws.{IsAwake, IsLongAgo}
 use Rattle.wrp_handshake.proofs.Stages.{engaged, bound}
 use Rattle.wrp_handshake.proofs.Times.{later, older}
 use Rattle.wrp_handshake.proofs.Keeps.{View, view_of, Ghost, IsOpen, IsEngaged, TurnedBy, LeftBy, PortKeeps, FromLatest, Bond}
-use Rattle.wrp_handshake.proofs.Parts.{by_bool, out_engaged, idle_shut, All-weaker}
+use Rattle.wrp_handshake.proofs.Parts.{by_bool, out_engaged, idle_shut}
 use Rattle.wrp_handshake.proofs.Moves.{Peers, quiet_over}
 use Rattle.wrp_handshake.proofs.Inputs.{idle_or_not}
 
@@ -72,7 +73,7 @@ pub no_lock_since :
     (role : Role) (turn at : ℤ) (marks : List Mark) → role ≡ Slave → turn ≤ℤ at →
     AllByRecursion (λ m. TurnedBy role turn m) marks → AllByRecursion (λ mark. mark.from ≡ Present → mark.to ≡ SLock → mark.at ≤ℤ at) marks
 no_lock_since role turn at marks r le t =
-    All-weaker (λ m. TurnedBy role turn m) (λ mark. mark.from ≡ Present → mark.to ≡ SLock → mark.at ≤ℤ at)
+    all_weaker (λ m. TurnedBy role turn m) (λ mark. mark.from ≡ Present → mark.to ≡ SLock → mark.at ≤ℤ at)
     (λ mark turned present lock.
     let from : engaged role mark.from ≡ false = ap (λ (x : Role). engaged x mark.from) r ∙ ap (λ (s : LinkState). engaged Slave s) present in
     let to : engaged role mark.to ≡ true = ap (λ (x : Role). engaged x mark.to) r ∙ ap (λ (s : LinkState). engaged Slave s) lock in
@@ -89,5 +90,5 @@ left_long_ago life dmin time p g k h =
       | inl idle ↦ elim h.over [ inl out ↦ absurd (out idle) | inr over ↦ quiet_over life dmin time (view_of p) g k idle h.lit over ]
       | inr out ↦ k.awake out
     ] in
-    All-weaker (λ m. LeftBy g.rest m) (λ mark. mark.to ≡ Idle → IsLongAgo life time mark.at)
+    all_weaker (λ m. LeftBy g.rest m) (λ mark. mark.to ≡ Idle → IsLongAgo life time mark.at)
     (λ mark by idle. older life mark.at g.rest time (by idle) rested) p.marks k.left

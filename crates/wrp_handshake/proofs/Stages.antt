@@ -1,5 +1,5 @@
 -- How far a port is in a handshake, what it sends there, and what a move from state to state is.
-use Rattle.std.proofs.Common.{◌≡◌, ◌≢◌, refl, ℕ, ℤ, Bool, true, false, is_some, List, [], ◌∷◌, reverse, Option, inl, inr}
+use Rattle.std.proofs.Common.{◌≡◌, ◌≢◌, refl, ℕ, ℤ, Bool, true, false, is_some, List, [], ◌∷◌, reverse, Option}
 use Rattle.std.specs.List.{AllByRecursion}
 use Rattle.wrp_base.specs.declared.link.LinkState.{LinkState}
 use Rattle.wrp_base.specs.declared.link.LinkState.TheVariants.{Idle, Present, SLock, MLock, Locked, Calibration, Calibrated, RespCalib, LinkOn}
@@ -15,6 +15,7 @@ use Rattle.wrp_check.specs.Required.{required_of}
 use Rattle.wrp_link.specs.Table.{is_same}
 use Rattle.wrp_link.proofs.Fits.{Belongs}
 use Rattle.wrp_check.specs.Stretches.{Entered}
+use Rattle.wrp_check.proofs.Entering.{entered_less}
 use Rattle.wrp_handshake.specs.Ends.{other_of}
 
 -- past PRESENT: such a port sends numbered messages
@@ -104,13 +105,6 @@ bound_sends Master Calibrated (CALIBRATED _ _) e h = refl
 bound_sends Master LinkOn WR_MODE_ON e h = refl
 bound_sends _ _ _ e h = absurd h
 
--- where later states were entered, so were those before
-pub entered_rest : (time : ℤ) (s : LinkState) (ss : List LinkState) (marks : List Mark) → Entered time (s ∷ ss) marks → Entered time ss marks
-entered_rest time s [] marks h = tt
-entered_rest time s (s' ∷ ss) [] h = absurd h
-entered_rest time s (s' ∷ ss) (mark ∷ marks) h =
-    elim h [ inl x ↦ inr x.others | inr x ↦ inr (entered_rest time s (s' ∷ ss) marks x) ]
-
 -- what a port sends is backed by the states of its stretch
 pub sends_entered :
     (time : ℤ) (marks : List Mark) (role : Role) (s : LinkState) (m : WrMsg) →
@@ -118,11 +112,11 @@ pub sends_entered :
 sends_entered time marks Slave Present SLAVE_PRESENT h e = tt
 sends_entered time marks Slave Locked LOCKED h e = e
 sends_entered time marks Slave Calibration (CALIBRATE _ _ _) h e = e
-sends_entered time marks Slave Calibrated (CALIBRATE _ _ _) h e = entered_rest time Calibrated (way_of Slave Calibration) marks e
+sends_entered time marks Slave Calibrated (CALIBRATE _ _ _) h e = entered_less time Calibrated (way_of Slave Calibration) marks e
 sends_entered time marks Slave Calibrated (CALIBRATED _ _) h e = e
 sends_entered time marks Master MLock LOCK h e = e
 sends_entered time marks Master Calibration (CALIBRATE _ _ _) h e = e
-sends_entered time marks Master Calibrated (CALIBRATE _ _ _) h e = entered_rest time Calibrated (way_of Master Calibration) marks e
+sends_entered time marks Master Calibrated (CALIBRATE _ _ _) h e = entered_less time Calibrated (way_of Master Calibration) marks e
 sends_entered time marks Master Calibrated (CALIBRATED _ _) h e = e
 sends_entered time marks Master LinkOn WR_MODE_ON h e = e
 sends_entered time marks _ _ _ h e = absurd h

@@ -9,6 +9,7 @@ use Rattle.wrp_base.specs.declared.link.Role.{Role}
 use Rattle.wrp_base.specs.declared.link.Role.TheVariants.{Master, Slave}
 use Rattle.wrp_base.specs.declared.message.WrMsg.{WrMsg}
 use Rattle.wrp_base.specs.declared.message.WrMsg.TheVariants.{Present as SLAVE_PRESENT, ModeOn as WR_MODE_ON}
+use Rattle.wrp_base.proofs.Naturals.{suc_less_one}
 use Rattle.wrp_link.specs.declared.interface.LinkIn.{LinkIn}
 use Rattle.wrp_link.specs.declared.interface.LinkIn.TheVariants.{Msg}
 use Rattle.wrp_link.specs.LinkAt.{LinkAt, Waiting, wait_of}
@@ -16,14 +17,16 @@ use Rattle.wrp_link.specs.Rows.{Row, NoRow, Stays, Moves, Keeps, Resends, Fails,
 use Rattle.wrp_link.specs.Table.{counted, ticked, retried, sent_by}
 use Rattle.wrp_check.specs.Required.{required_of}
 use Rattle.wrp_check.specs.Stretches.{joined, stretches_of, newest_of, BeganBy, Entered}
+use Rattle.wrp_link.proofs.Deltas.{is_same_self}
 use Rattle.wrp_handshake.specs.Ends.{Sending, Port, Ends, Change, Passes, Hears, Starts, Lights, other_of, IsAmong, stamped, mover_of, ticked_by, marked, port_by, MayHear, IsNoCarrier, changed, MayCome, AllMayCome, ends_after, new_ends, lit_by, lit_at, CanBe}
 use Rattle.wrp_handshake.proofs.Stages.{engaged, bound, opens, way_of, Sends, SendsAll, bound_sends}
 use Rattle.wrp_handshake.proofs.RowFits.{RowFits, row_fits}
 use Rattle.wrp_handshake.proofs.Failing.{FailsBy, row_fails}
 use Rattle.wrp_handshake.proofs.Keeps.{view_of, Ghost, led_to, Current, IsEngaged, PortKeeps}
 use Rattle.wrp_handshake.proofs.Parts.{mark_at, not_idle, not_same_idle, differs, out_engaged, began_rest, joins, stays_sent, stamped_in}
-use Rattle.wrp_handshake.proofs.Inputs.{marked_new, marked_same, same_state, tick_grows}
+use Rattle.wrp_handshake.proofs.Inputs.{marked_new, marked_same, tick_grows}
 use Rattle.wrp_handshake.proofs.Changes.{EndsKeep, start_keeps, all_keep}
+use Rattle.wrp_handshake.proofs.Same.{on_bound, too_new}
 
 -- products and sums on times
 more_ticks : (a b d : ℕ) → a ≤ b → a * d ≤ b * d
@@ -38,14 +41,11 @@ long_on : (life k on dmin : ℕ) (at tick time : ℤ) →
     2 * life < k * dmin → suc k * dmin ≤ on * dmin → (at +ℤ pos (on * dmin)) ≤ℤ (tick +ℤ pos dmin) → tick ≤ℤ time → (at +ℤ pos (2 * life)) <ℤ time
 long_on life k on dmin at tick time c q h t = omega (arith, ints)
 
-one_less : (j : ℕ) → suc j - 1 ≡ j
-one_less j = omega arith
-
 long_ago : (life quiet on dmin : ℕ) (at tick time : ℤ) →
     2 * life < (quiet - 1) * dmin → quiet ≤ on → (at +ℤ pos (on * dmin)) ≤ℤ (tick +ℤ pos dmin) → tick ≤ℤ time → (at +ℤ pos (2 * life)) <ℤ time
 long_ago life zero on dmin at tick time c q h t = absurd (omega arith)
 long_ago life (suc k) on dmin at tick time c q h t =
-    let c' : 2 * life < k * dmin = subst (λ (n : ℕ). 2 * life < n * dmin) (one_less k) c in
+    let c' : 2 * life < k * dmin = subst (λ (n : ℕ). 2 * life < n * dmin) (suc_less_one k) c in
     long_on life k on dmin at tick time c' (more_ticks (suc k) on dmin q) h t
 
 never_none : (life quiet on dmin : ℕ) → 2 * life < (quiet - 1) * dmin → quiet ≤ on → on ≡ 0 → ⊥
@@ -64,9 +64,6 @@ first_tick m dmin f time h k = omega (arith, ints)
 next_tick : (n m dmin : ℕ) (f tick time : ℤ) → m * dmin ≤ n * dmin + dmin →
     (f +ℤ pos (n * dmin)) ≤ℤ (tick +ℤ pos dmin) → (tick +ℤ pos dmin) ≤ℤ time → (f +ℤ pos (m * dmin)) ≤ℤ (time +ℤ pos dmin)
 next_tick n m dmin f tick time h k t = omega (arith, ints)
-
-too_new : (life : ℕ) (at turn : ℤ) → (at +ℤ pos (2 * life)) <ℤ turn → turn ≤ℤ at → ⊥
-too_new life at turn h k = omega (arith, ints)
 
 -- each LOCK was sent so long before
 abbrev Locks : List Sending → (ℤ → Type 0) → Type 0
@@ -94,10 +91,6 @@ idle_sends Slave _ h = h
 idle_sends Master SLAVE_PRESENT h = h
 idle_sends Master _ h = h
 
-on_bound : (role : Role) → bound role LinkOn ≡ true
-on_bound Master = refl
-on_bound Slave = refl
-
 -- a port in WR_LINK_ON sends no LOCK
 no_lock : (role : Role) (s : LinkState) (m : WrMsg) → role ≡ Master → s ≡ LinkOn → Sends role s m → opens Master m ≡ true → ⊥
 no_lock role s m r on h op =
@@ -117,7 +110,7 @@ stay_same life dmin time lit p q by quiet holdoff on waiting tick ms k master s 
     subst
     (λ (xs : List Mark).
     MasterStays life dmin lit (record p.link { quiet = quiet; holdoff = holdoff; waiting = waiting; on_ticks = on }) tick xs (stamped time ms p.sent) q.sent)
-    (marked_same time p.link.state p.link.state by p.marks (same_state p.link.state))
+    (marked_same time p.link.state p.link.state by p.marks (is_same_self p.link.state))
     (record {
       timed =
           λ is_on.

@@ -15,13 +15,10 @@ use Rattle.wrp_handshake.proofs.Keeps.{view_of, Ghost, Current, FromLatest, Bond
 use Rattle.wrp_handshake.proofs.Parts.{by_bool, not_opening}
 use Rattle.wrp_handshake.proofs.Inputs.{idle_or_not}
 use Rattle.wrp_handshake.proofs.Changes.{EndsKeep, from_slave}
-use Rattle.wrp_handshake.proofs.Lit.{LitKeeps}
+use Rattle.wrp_handshake.proofs.Lit.{LitKeeps, never}
 use Rattle.wrp_handshake.proofs.Same.{current_of}
 use Rattle.wrp_handshake.proofs.Since.{latest_of}
 use Rattle.wrp_handshake.proofs.Staying.{StaysAt, Chased, on_since}
-
-no_later : (a b : ℤ) → a ≤ℤ b → b <ℤ a → ⊥
-no_later a b h k = omega (arith, ints)
 
 no_chase : (life : ℕ) (at bind source : ℤ) → at ≤ℤ bind → bind ≤ℤ (source +ℤ pos life) → (source +ℤ pos life) <ℤ at → ⊥
 no_chase life at bind source h k l = omega (arith, ints)
@@ -47,7 +44,7 @@ not_left :
     (w ≤ℤ lit) ⊎ Chased life ends.slave.sent ends.master.sent → ⊥
 not_left life dmin ends lit w placed k l on out among left =
     elim left [
-      | inl before ↦ no_later w lit before (l.slave.fresh out (WR_MODE_ON, w) among)
+      | inl before ↦ never w lit before (l.slave.fresh out (WR_MODE_ON, w) among)
       | inr c ↦
           let bo : bound ends.slave.link.role ends.slave.link.state ≡ true = slave_on ends.slave.link.role ends.slave.link.state k.is_slave on in
           let b : Bond ends.slave.link.role life k.of_slave.bind k.of_slave.latest ends.master.sent k.of_master.turn = k.up bo in

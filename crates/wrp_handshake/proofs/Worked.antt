@@ -7,9 +7,9 @@ use Rattle.wrp_base.specs.declared.link.Mark.{Mark}
 use Rattle.wrp_base.specs.declared.link.Role.TheVariants.{Slave}
 use Rattle.wrp_check.specs.Handshake.{SameHandshake}
 use Rattle.wrp_check.specs.Stretches.{Entered}
+use Rattle.wrp_check.proofs.Entering.{entered_less}
 use Rattle.wrp_handshake.specs.Ends.{AllMayCome}
 use Rattle.wrp_handshake.specs.Worked.{worked_changes, before_it, after_it, exchanged_mark, WorkedHandshake}
-use Rattle.wrp_handshake.proofs.Stages.{entered_rest}
 
 all_come : AllMayCome 1 10 before_it worked_changes
 all_come = (
@@ -124,9 +124,9 @@ refuted s =
     subst (λ (x : List Mark). Entered (pos 141) (LinkOn ∷ (RespCalib ∷ (Calibrated ∷ (Calibration ∷ (MLock ∷ []))))) x) (sym is) s.backed.0 in
     no_calibration
     (has_first (pos 141) Calibration (MLock ∷ []) odd
-    (entered_rest (pos 141) Calibrated (Calibration ∷ (MLock ∷ [])) odd
-    (entered_rest (pos 141) RespCalib (Calibrated ∷ (Calibration ∷ (MLock ∷ []))) odd
-    (entered_rest (pos 141) LinkOn (RespCalib ∷ (Calibrated ∷ (Calibration ∷ (MLock ∷ [])))) odd e))))
+    (entered_less (pos 141) Calibrated (Calibration ∷ (MLock ∷ [])) odd
+    (entered_less (pos 141) RespCalib (Calibrated ∷ (Calibration ∷ (MLock ∷ []))) odd
+    (entered_less (pos 141) LinkOn (RespCalib ∷ (Calibrated ∷ (Calibration ∷ (MLock ∷ [])))) odd e))))
 
 pub worked_handshake : WorkedHandshake
 worked_handshake = record { quiet = omega arith; come = all_come; master_on = refl; slave_on = refl; refuted = refuted }

@@ -31,11 +31,6 @@ carries_on calls call before now carries moves end =
     ∙ sym (append_assoc received (cons_option (octets_received_at end call) []) (held_at end now))
     ∙ ap (λ xs. xs ++ held_at end now) (sym (filter_map-append (octets_received_at end) calls (call ∷ [])))
 
--- the first that is held for an end waits there longest
-pub next_is_held : (calls : List LinkCall) (queue : List Held) (end : ℕ) (found : Option (ArrayVec ℕ)) → Carries calls queue
-    → octets_of found ≡ slice_get (held_at end queue) 0 → IsNext calls (Receive end found)
-next_is_held calls queue end found carries is = is ∙ ap (λ waiting. slice_get waiting 0) (sym (waiting_is_held calls queue carries end))
-
 -- a start moves nothing
 pub moves_start : (queue : List Held) (ends : ℕ) → MovesFrame queue queue (Start ends)
 moves_start queue ends calls carried next =

@@ -1,9 +1,10 @@
 -- One more input: looking back finds what the input makes of the port that stood before it.
-use Rattle.std.proofs.Common.{◌≡◌, ◌∙◌, ap, ap₂, sym, refl, ℕ, ◌+◌, ◌-◌, ◌*◌, ◌/◌, ◌%◌, ◌==◌, ◌&&◌, nat_lt, not, Bool, true, false, if◌then◌else◌, List, [], ◌∷◌, Option, None, Some, arith}
-use Rattle.std.proofs.Math.Nat.{zero-mod, div-add-mod, mul-add-mod_self_left}
+use Rattle.std.proofs.Common.{◌≡◌, ◌∙◌, ap, ap₂, sym, refl, ℕ, ◌+◌, ◌-◌, ◌%◌, ◌==◌, ◌&&◌, nat_lt, not, Bool, true, false, if◌then◌else◌, List, [], ◌∷◌, Option, None, Some, arith}
+use Rattle.std.proofs.Math.Nat.{zero-mod}
 use Rattle.std.proofs.lemmas.Bool.Decides.{nat_tests}
 use Rattle.std.specs.Option.{option_map}
 use Rattle.wrp_base.specs.Calls.{Adds}
+use Rattle.wrp_base.proofs.Naturals.{turn_mod}
 use Rattle.wrp_l1sync.specs.declared.interface.L1In.{L1In}
 use Rattle.wrp_l1sync.specs.declared.interface.L1In.TheVariants.{Enable, Disable, Own, Msg, Tick}
 use Rattle.wrp_l1sync.specs.declared.interface.L1Out.{L1Out}
@@ -25,13 +26,6 @@ none_known (Tick ∷ before) off = none_known before off
 
 abbrev kept_at : L1Msg → ℕ → Kept
 kept_at message left = record { msg = message; left = left }
-
--- a turn that goes round
-turn-mod : (n k : ℕ) → (k % n + 1) % n ≡ (k + 1) % n
-turn-mod n k =
-    let whole : n * (k / n) + k % n ≡ k = div-add-mod k n in
-    let grouped : n * (k / n) + (k % n + 1) ≡ k + 1 = omega arith in
-    sym (mul-add-mod_self_left n (k / n) (k % n + 1)) ∙ ap (λ x. x % n) grouped
 
 -- the last tick of a message
 last-tick : (timeout ticks : ℕ) → nat_lt ticks timeout ≡ true → ((timeout - ticks) == 1) ≡ not (nat_lt (ticks + 1) timeout)
@@ -89,7 +83,7 @@ ticked-port : (timeout interval : ℕ) (b : Bool) (own : L1Msg) (since : ℕ) (m
     ticked_by (port_at timeout interval b own (kept_by timeout since message) (ticks % interval))
     ≡ port_at timeout interval b own (kept_by timeout (since + 1) message) ((if b then ticks + 1 else ticks) % interval)
 ticked-port timeout interval true own since message ticks none =
-    ap₂ (λ k n. port_at timeout interval true own k n) (kept-aged timeout since message) (turn-mod interval ticks)
+    ap₂ (λ k n. port_at timeout interval true own k n) (kept-aged timeout since message) (turn_mod interval ticks)
 ticked-port timeout interval false own since message ticks none =
     ap (λ k. port_at timeout interval false own k (ticks % interval))
     (ap (λ m. kept_by timeout since m) (none refl) ∙ sym (ap (λ m. kept_by timeout (since + 1) m) (none refl)))
@@ -115,7 +109,7 @@ state-port timeout interval inputs =
 
 pub send-port : (timeout interval : ℕ) (input : L1In) (before : List L1In) → send_by (port_of timeout interval before) input ≡ send_of interval before input
 send-port timeout interval Tick before =
-    ap (λ n. if is_enabled before && (n == 0) then Some (own_of before) else None) (turn-mod interval (ticks_of before))
+    ap (λ n. if is_enabled before && (n == 0) then Some (own_of before) else None) (turn_mod interval (ticks_of before))
 send-port timeout interval _ before = refl
 
 pub out-port : (timeout interval : ℕ) (input : L1In) (before : List L1In) → out_by (port_of timeout interval before) input ≡ out_of timeout interval before input

@@ -4,9 +4,10 @@ use Rattle.std.proofs.Common.{◌≡◌, ◌∙◌, ap, subst, refl, ℕ, ◌+�
 use Rattle.std.proofs.Math.Nat.{mul-le-mul_right}
 use Rattle.std.proofs.lemmas.Bool.Decides.{nat_tests}
 use Rattle.std.proofs.lemmas.List.Elements.{Contains-append_left}
-use Rattle.std.proofs.lemmas.Option.{get_or_from_slice_get, slice_get_within}
+use Rattle.std.proofs.lemmas.Option.{get_or_from_slice_get, slice_get_within, same_Some}
 use Rattle.std.specs.List.{Contains, slice_get}
 use Rattle.std.specs.Option.{option_map, option_or}
+use Rattle.std.proofs.lemmas.Bool.{eqb-true}
 use Rattle.wrp_l1sync.specs.declared.event.Breach.{Breach}
 use Rattle.wrp_l1sync.specs.declared.event.L1Event.{L1Event}
 use Rattle.wrp_l1sync.specs.declared.event.L1Event.TheVariants.{Pass, Tick, Enable, Disable, Own, Deliver}
@@ -158,9 +159,6 @@ heard-when : (b : Bool) (one message : L1Msg) → (if b then Some one else None)
 heard-when true one message e = e
 heard-when false one message e = absurd cc
 
-same-some : (one message : L1Msg) → Some one ≡ Some message → one ≡ message
-same-some one message e = cc
-
 -- what a message that is handed over now comes from
 abbrev Comes : Limits → ℕ → List Sent → Side → L1In → Type 0
 Comes limits now sent side (given.Msg message) = Source sent side message now limits.life
@@ -182,7 +180,7 @@ fresh-input limits now sent side timed (given.Msg one) comes f =
       past = past;
       due = f.due;
       heard = λ message known.
-          let same : one ≡ message = same-some one message (heard-when (is_enabled (inputs_of timed)) one message known) in
+          let same : one ≡ message = same_Some one message (heard-when (is_enabled (inputs_of timed)) one message known) in
           subst (λ m. Source sent side m (last_of timed) (limits.life + 0 * limits.dmax)) same
           (source-later sent side one now limits.life (last_of timed) (limits.life + 0 * limits.dmax) (λ at age. omega arith) comes);
     }
@@ -337,9 +335,6 @@ up-parts own true true None up = absurd cc
 up-parts own true false known up = absurd cc
 up-parts own false live known up = absurd cc
 
-same_number : (a b : ℕ) → (a == b) ≡ true → a ≡ b
-same_number a b e = grind (arith, nat_tests)
-
 below : (a b : ℕ) → nat_lt a b ≡ true → a + 1 ≤ b
 below a b e = grind (arith, nat_tests)
 
@@ -365,7 +360,7 @@ up-carried limits h side timed f up =
         by_peer = source.by_peer;
         age = up-age limits.life limits.dmax limits.timeout (ticks_since inputs) h.time (last_of timed) source.from.at
             (below (ticks_since inputs) limits.timeout is.still) (f.due is.on) source.age;
-        same = req ∙ same_number is.message.req own.req is.same;
+        same = req ∙ eqb-true is.message.req own.req is.same;
         own_holds = is.own_holds;
         peer_holds = ap (λ m. meets own.req m.is) source.is ∙ is.peer_holds;
       },

@@ -4,21 +4,21 @@ use Rattle.std.proofs.Math.Nat.{mul-le-mul_left, le_of_mul-le-mul_left}
 use Rattle.std.proofs.lemmas.Int.{ints}
 
 -- above the line
-above : (m t s dy q c e a b : ℕ) → (t + s) * q ≤ t * dy → a ≤ e → b ≤ e → a + m * dy ≡ b + c * (t + s) → 0 < t + s → a + m * q ≤ e + c * t
+pub above : (m t s dy q c e a b : ℕ) → (t + s) * q ≤ t * dy → a ≤ e → b ≤ e → a + m * dy ≡ b + c * (t + s) → 0 < t + s → a + m * q ≤ e + c * t
 above m t s dy q c e a b floor a_most b_most even positive =
     le_of_mul-le-mul_left {k = t + s}
     (omega (arith, mul-le-mul_left m floor, mul-le-mul_left s a_most, mul-le-mul_left t b_most, ap (λ n. t * n) even))
     positive
 
 -- below the line
-below : (m t s dy q c a b : ℕ) → t * dy ≤ (t + s) * q + (t + s) → a + m * dy ≡ b + c * (t + s) → 0 < t + s → c * t ≤ a + m * q + m
+pub below : (m t s dy q c a b : ℕ) → t * dy ≤ (t + s) * q + (t + s) → a + m * dy ≡ b + c * (t + s) → 0 < t + s → c * t ≤ a + m * q + m
 below m t s dy q c a b floor even positive =
     le_of_mul-le-mul_left {k = t + s}
     (omega (arith, mul-le-mul_left m floor, ap (λ n. t * n) even))
     positive
 
 -- a number within e of 0, seen from the lower end
-shifted : (e : ℕ) (z : ℤ) → unsigned_abs z ≤ e → pos (unsigned_abs (z +ℤ pos e)) ≡ z +ℤ pos e
+pub shifted : (e : ℕ) (z : ℤ) → unsigned_abs z ≤ e → pos (unsigned_abs (z +ℤ pos e)) ≡ z +ℤ pos e
 shifted e z near = omega (arith, ints)
 
 pub between : (m e t s dy q c : ℕ) (y x : ℤ) → unsigned_abs (y -ℤ x) ≤ e → unsigned_abs ((y +ℤ pos (m * dy)) -ℤ (x +ℤ pos (c * (t + s)))) ≤ e → (t + s) * q ≤ t * dy → t * dy ≤ (t + s) * q + (t + s) → 0 < t + s → unsigned_abs ((y +ℤ pos (m * q)) -ℤ (x +ℤ pos (c * t))) ≤ e + m

@@ -1,4 +1,4 @@
-mod Between
-mod Segments
-mod Tables
+pub mod Between
+pub mod Segments
+pub mod Tables
 mod Walk

@@ -6,6 +6,7 @@ use Rattle.std.proofs.lemmas.Nat.{le-div}
 use Rattle.std.proofs.lemmas.Int.{ints}
 use borrow.Author.Differences.{up, down}
 use Rattle.wrp_base.specs.Division.{floor_quotient}
+use Rattle.wrp_base.proofs.Integers.{fraction_is_positive}
 use Rattle.wrp_law.specs.Law.{IsNear}
 use Rattle.wrp_law.specs.Table.{segment_value}
 use Rattle.wrp_law.specs.declared.delay.LawKind.TheVariants.{Linear}
@@ -105,12 +106,12 @@ segment_value-rises x1 y1 x2 y2 x z rises stays after later before =
     later
 
 -- a product grows with its factor
-grown : (k : ℕ) (z : ℤ) (n : ℕ) → pos k *ℤ (z +ℤ pos n) ≡ pos k *ℤ z +ℤ pos (k * n)
+pub grown : (k : ℕ) (z : ℤ) (n : ℕ) → pos k *ℤ (z +ℤ pos n) ≡ pos k *ℤ z +ℤ pos (k * n)
 grown k z n =
     let even : up (z +ℤ pos n) + down z ≡ up z + n + down (z +ℤ pos n) = omega (arith, ints) in
     omega (arith, ints, ap (λ m. k * m) even)
 
-grown_first : (z : ℤ) (n k : ℕ) → (z +ℤ pos n) *ℤ pos k ≡ z *ℤ pos k +ℤ pos (k * n)
+pub grown_first : (z : ℤ) (n k : ℕ) → (z +ℤ pos n) *ℤ pos k ≡ z *ℤ pos k +ℤ pos (k * n)
 grown_first z n k = *ℤ_comm (z +ℤ pos n) (pos k) ∙ grown k z n ∙ ap (λ p. p +ℤ pos (k * n)) (*ℤ_comm (pos k) z)
 
 -- it is nearer than the points and one more: c is the fraction's numerator, m its denominator
@@ -128,17 +129,13 @@ near_by m e c x1 y1 x2 y2 x p start end =
     between m e p.t p.s p.dy (p.t * p.dy / (p.t + p.s)) c (pos m *ℤ y1) (x1 *ℤ pos c) start second floor (omega arith) p.positive in
     rw y_is (rw x_is both)
 
--- the numerator of a fraction within a quarter of a half is a natural number
-part_is : (kappa : ℤ) → unsigned_abs kappa ≤ 2 ^ 38 → pos (2 ^ 39) +ℤ kappa ≡ pos (unsigned_abs (pos (2 ^ 39) +ℤ kappa))
-part_is kappa size = omega (arith, ints)
-
 near_at : (m e f c : ℕ) (part : ℤ) (x1 y1 x2 y2 x : ℤ) → part ≡ pos c → f ≡ e + m → Steps x1 y1 x2 y2 x → unsigned_abs ((pos m *ℤ y1) -ℤ (x1 *ℤ part)) ≤ e → unsigned_abs ((pos m *ℤ y2) -ℤ (x2 *ℤ part)) ≤ e → unsigned_abs ((pos m *ℤ segment_value (x1, y1) (x2, y2) x) -ℤ (x *ℤ part)) ≤ f
-near_at m e f c part x1 y1 x2 y2 x part_is f_is p start end =
-    rw f_is (rw part_is (near_by m e c x1 y1 x2 y2 x p
-    (subst (λ k. unsigned_abs ((pos m *ℤ y1) -ℤ (x1 *ℤ k)) ≤ e) part_is start)
-    (subst (λ k. unsigned_abs ((pos m *ℤ y2) -ℤ (x2 *ℤ k)) ≤ e) part_is end)))
+near_at m e f c part x1 y1 x2 y2 x fraction_is_positive f_is p start end =
+    rw f_is (rw fraction_is_positive (near_by m e c x1 y1 x2 y2 x p
+    (subst (λ k. unsigned_abs ((pos m *ℤ y1) -ℤ (x1 *ℤ k)) ≤ e) fraction_is_positive start)
+    (subst (λ k. unsigned_abs ((pos m *ℤ y2) -ℤ (x2 *ℤ k)) ≤ e) fraction_is_positive end)))
 
 pub segment_value-near : (kappa : ℤ) (err : ℕ) (x1 y1 x2 y2 x : ℤ) → unsigned_abs kappa ≤ 2 ^ 38 → x1 <ℤ x2 → y1 ≤ℤ y2 → x1 ≤ℤ x → x ≤ℤ x2 → IsNear (Linear kappa) err x1 y1 → IsNear (Linear kappa) err x2 y2 → IsNear (Linear kappa) (err + 1) x (segment_value (x1, y1) (x2, y2) x)
 segment_value-near kappa err x1 y1 x2 y2 x size rises stays after before start end =
     near_at (2 ^ 40) (2 ^ 40 * err) (2 ^ 40 * (err + 1)) (unsigned_abs (pos (2 ^ 39) +ℤ kappa)) (pos (2 ^ 39) +ℤ kappa) x1 y1 x2 y2 x
-    (part_is kappa size) (omega arith) (steps x1 y1 x2 y2 x rises stays after before) start end
+    (fraction_is_positive kappa size) (omega arith) (steps x1 y1 x2 y2 x rises stays after before) start end

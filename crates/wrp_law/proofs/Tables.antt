@@ -7,13 +7,13 @@ use Rattle.wrp_law.specs.declared.delay.LawKind.TheVariants.{Linear}
 use Rattle.wrp_law.proofs.Segments.{segment_value-from, segment_value-to, segment_value-rises, segment_value-near}
 
 -- what a test of an order says
-is_before : (x z : ℤ) → int_le x z ≡ true → x ≤ℤ z
+pub is_before : (x z : ℤ) → int_le x z ≡ true → x ≤ℤ z
 is_before x z test = grind (arith, ints)
 
-is_past : (x z : ℤ) → int_le x z ≡ false → z <ℤ x
+pub is_past : (x z : ℤ) → int_le x z ≡ false → z <ℤ x
 is_past x z test = grind (arith, ints)
 
-eased : (x z : ℤ) → x <ℤ z → x ≤ℤ z
+pub eased : (x z : ℤ) → x <ℤ z → x ≤ℤ z
 eased x z h = omega (arith, ints)
 
 -- the value is at least that of the first point
@@ -59,16 +59,16 @@ pub table_value-never_falls : TableNeverFalls
 table_value-never_falls [] x z rises first later last = omega (arith, ints)
 table_value-never_falls (start ∷ points) x z rises first later last = never_falls start points x z rises first later
 
-wider : (m err a : ℕ) → a ≤ m * err → a ≤ m * (err + 1)
+pub wider : (m err a : ℕ) → a ≤ m * err → a ≤ m * (err + 1)
 wider m err a h = omega arith
 
 -- where each point is within an error of the exact fraction, the value is within that and one more
-at_last : (kappa : ℤ) (err : ℕ) (start : ℤ × ℤ) (x : ℤ) → start.0 ≤ℤ x → x ≤ℤ start.0 → IsNear (Linear kappa) err start.0 start.1 → IsNear (Linear kappa) (err + 1) x start.1
+pub at_last : (kappa : ℤ) (err : ℕ) (start : ℤ × ℤ) (x : ℤ) → start.0 ≤ℤ x → x ≤ℤ start.0 → IsNear (Linear kappa) err start.0 start.1 → IsNear (Linear kappa) (err + 1) x start.1
 at_last kappa err start x after before near =
     let same : start.0 ≡ x = omega (arith, ints) in
     subst (λ z. IsNear (Linear kappa) (err + 1) z start.1) same (wider (2 ^ 40) err _ near)
 
-near_from : (kappa : ℤ) (err : ℕ) (start : ℤ × ℤ) (points : List (ℤ × ℤ)) (x : ℤ) → unsigned_abs kappa ≤ 2 ^ 38 → Rises (start ∷ points) → start.0 ≤ℤ x → x ≤ℤ last_x (start ∷ points) → IsWithin kappa err (start ∷ points) → IsNear (Linear kappa) (err + 1) x (table_value (start ∷ points) x)
+pub near_from : (kappa : ℤ) (err : ℕ) (start : ℤ × ℤ) (points : List (ℤ × ℤ)) (x : ℤ) → unsigned_abs kappa ≤ 2 ^ 38 → Rises (start ∷ points) → start.0 ≤ℤ x → x ≤ℤ last_x (start ∷ points) → IsWithin kappa err (start ∷ points) → IsNear (Linear kappa) (err + 1) x (table_value (start ∷ points) x)
 near_from kappa err start [] x size rises after before near = at_last kappa err start x after before near.0
 near_from kappa err start (end ∷ points) x size rises after before near =
     elim (int_le x end.0) as (λ b. int_le x end.0 ≡ b → IsNear (Linear kappa) (err + 1) x (cond b (segment_value start end x) (table_value (end ∷ points) x))) [
@@ -77,7 +77,7 @@ near_from kappa err start (end ∷ points) x size rises after before near =
     ]
     refl
 
-none : 1 ≤ 0 → ⊥
+pub none : 1 ≤ 0 → ⊥
 none h = omega arith
 
 pub table_value-near : (kappa : ℤ) (err : ℕ) (points : List (ℤ × ℤ)) (x : ℤ) → unsigned_abs kappa ≤ 2 ^ 38 → 1 ≤ length points → Rises points → first_x points ≤ℤ x → x ≤ℤ last_x points → IsWithin kappa err points → IsNear (Linear kappa) (err + 1) x (table_value points x)

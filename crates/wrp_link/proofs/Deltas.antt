@@ -15,17 +15,17 @@ use Rattle.wrp_link.proofs.Fits.{Fits, row_fits}
 use Rattle.wrp_link.proofs.Orders.{IsOrdered, counted_deltas, after_ordered, run_ordered, new_ordered, idle_unknown_of}
 
 -- the delays that stand are in a link that is out of IDLE
-out_of_idle : (l : LinkAt) (tx rx : ℕ) → IsOrdered l → l.deltas ≡ Some (tx, rx) → l.state ≢ Idle
+pub out_of_idle : (l : LinkAt) (tx rx : ℕ) → IsOrdered l → l.deltas ≡ Some (tx, rx) → l.state ≢ Idle
 out_of_idle l tx rx o e idle =
     let known : is_some l.deltas ≡ true = ap (λ d. is_some d) e in
     let unknown : is_some l.deltas ≡ false = idle_unknown_of l o idle in
     cc
 
-is_same_self : (s : LinkState) → is_same s s ≡ true
+pub is_same_self : (s : LinkState) → is_same s s ≡ true
 is_same_self Idle = refl
 is_same_self _ = refl
 
-differs : (a b : LinkState) → is_same a b ≡ false → a ≢ b
+pub differs : (a b : LinkState) → is_same a b ≡ false → a ≢ b
 differs a b h e =
     let same : is_same a b ≡ true = ap (λ s. is_same a s) (sym e) ∙ is_same_self a in
     cc

@@ -20,7 +20,7 @@ pub record IsOrdered (l : LinkAt) : Type 0 where
   pub belongs : Belongs l.role l.state
   pub known : is_some l.deltas ≡ knows l.role l.state
 
-idle_belongs : (role : Role) → Belongs role Idle
+pub idle_belongs : (role : Role) → Belongs role Idle
 idle_belongs Slave = tt
 idle_belongs Master = tt
 

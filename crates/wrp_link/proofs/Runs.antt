@@ -10,11 +10,11 @@ use Rattle.wrp_link.specs.LinkAt.{LinkAt, new_link}
 use Rattle.wrp_link.specs.Rows.{Row, Counts, row_of}
 use Rattle.wrp_link.specs.Table.{counted, by_row, after, run_of, StandsFor}
 
-counted_role : (l : LinkAt) (state : LinkState) → (counted l state).role ≡ l.role
+pub counted_role : (l : LinkAt) (state : LinkState) → (counted l state).role ≡ l.role
 counted_role l Idle = refl
 counted_role l _ = refl
 
-counted_set : (l : LinkAt) (state : LinkState) → (counted l state).set ≡ l.set
+pub counted_set : (l : LinkAt) (state : LinkState) → (counted l state).set ≡ l.set
 counted_set l Idle = refl
 counted_set l LinkOn = refl
 counted_set l _ = refl
@@ -25,7 +25,7 @@ by_row_role l Counts = counted_role l l.state
 by_row_role l _ = refl
 
 -- no row changes the set
-by_row_set : (l : LinkAt) (row : Row) → (by_row l row).set ≡ l.set
+pub by_row_set : (l : LinkAt) (row : Row) → (by_row l row).set ≡ l.set
 by_row_set l Counts = counted_set l l.state
 by_row_set l _ = refl
 

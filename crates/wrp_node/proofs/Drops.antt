@@ -1,10 +1,12 @@
 -- A frame that is dropped whatever its kind leaves a count, and nothing else.
-use Rattle.std.proofs.Common.{◌≡◌, ◌∙◌, refl, ap, ap₂, sym, ℕ, ℤ, ◌==◌, true, List, [], ◌∷◌, ◌++◌, flat_map, Option, None, Some, Result, Ok, Err, arith}
+use Rattle.std.proofs.Common.{◌≡◌, ◌∙◌, refl, ap, ap₂, sym, ℕ, ℤ, List, [], ◌∷◌, ◌++◌, flat_map, Option, None, Some, Result, Ok, Err, arith}
 use Rattle.std.specs.Option.{option_map}
+use Rattle.std.proofs.lemmas.Option.{same_Some}
 use Rattle.wrp_base.specs.declared.link.LinkWord.{LinkWord}
 use Rattle.wrp_base.specs.declared.link.ServoState.{ServoState}
 use Rattle.wrp_base.specs.declared.message.PtpMsg.{PtpMsg}
 use Rattle.wrp_base.specs.declared.time.Raw.{Raw}
+use Rattle.wrp_base.proofs.Naturals.{eq_self}
 use Rattle.wrp_data.specs.declared.reason.Reason.{Reason}
 use Rattle.wrp_data.specs.Reason.{number_of}
 use Rattle.wrp_frame.specs.declared.fault.FrameFault.{FrameFault}
@@ -42,21 +44,15 @@ settled_same fixed s h =
     let lease : with_lease fixed s ≡ s = ap (λ (c : Option Call). tell fixed c s) h.lease ∙ tell_nothing fixed s in
     ap (λ (x : Step). tell fixed (link_change fixed x.node) x) lease ∙ ap (λ (c : Option Call). tell fixed c s) h.link ∙ tell_nothing fixed s
 
-some_same : (m n : ℕ) → Some m ≡ Some n → m ≡ n
-some_same m n e = cc
-
 unless_dropped : (fixed : Fixed) (p : ℕ) (input : PortIn) (y : ℤ) (n : NodeAt) (o : Option Reason) (reason : ℕ) → option_map number_of o ≡ Some reason → heard_unless o fixed p input y n ≡ dropped p reason n
 unless_dropped fixed p input y n None reason e = absurd (grind arith)
-unless_dropped fixed p input y n (Some r) reason e = ap (λ (k : ℕ). dropped p k n) (some_same (number_of r) reason e)
+unless_dropped fixed p input y n (Some r) reason e = ap (λ (k : ℕ). dropped p k n) (same_Some (number_of r) reason e)
 
 heard_dropped : (fixed : Fixed) (p : ℕ) (says : Result PtpMsg FrameFault) (raw : Raw) (sample : ℕ) (y : ℤ) (n : NodeAt) (reason : ℕ) → reason_of fixed n p says ≡ Some reason →
     heard fixed p says raw sample y n ≡ dropped p reason n
-heard_dropped fixed p (Err fault) raw sample y n reason e = ap (λ (k : ℕ). dropped p k n) (some_same (fault_number fault) reason e)
+heard_dropped fixed p (Err fault) raw sample y n reason e = ap (λ (k : ℕ). dropped p k n) (same_Some (fault_number fault) reason e)
 heard_dropped fixed p (Ok m) raw sample y n reason e =
     unless_dropped fixed p (message_of fixed n p m raw sample) y n (early_reason (setting_of fixed.set p) (link_at fixed.set n p) m) reason e
-
-eq_self : (n : ℕ) → (n == n) ≡ true
-eq_self n = grind arith
 
 no_servo_out : (s : ServoState) → servo_out s s ≡ []
 no_servo_out s = rw (eq_self (place_of s)) refl

@@ -1,5 +1,5 @@
 -- The port of a number among the ports of a node.
-use Rattle.std.proofs.Common.{◌≡◌, ◌∙◌, refl, ap, ap₂, sym, subst, ℕ, ◌==◌, nat_lt, Bool, true, false, if◌then◌else◌, ◌||◌, List, [], ◌∷◌, Option, None, Some, is_some, IfSome, arith}
+use Rattle.std.proofs.Common.{◌≡◌, ◌∙◌, refl, ap, ap₂, sym, subst, ℕ, ◌==◌, nat_lt, Bool, true, false, ◌||◌, List, [], ◌∷◌, Option, None, Some, is_some, IfSome, arith}
 use Rattle.std.proofs.lemmas.Bool.{eqb-true}
 use Rattle.std.specs.List.{AllByRecursion}
 use Rattle.wrp_data.specs.Counters.{count_at}
@@ -25,16 +25,13 @@ pub record Found (P : Place → Type 0) (p : ℕ) (places : List Place) : Type 0
   pub number : place.number ≡ p
   pub holds : P place
 
-abbrev first_where : Bool → Place → Option Place → Option Place
-first_where b x rest = if b then Some x else rest
-
 found_in : (P : Place → Type 0) (p : ℕ) (x : Place) (xs : List Place) (b : Bool) → (x.number == p) ≡ b → P x → (b ≡ false → Found P p xs) → Found P p (x ∷ xs)
 found_in P p x xs true e h rest = record { place = x; is = rw e refl; number = eqb-true x.number p e; holds = h }
 found_in P p x xs false e h rest =
     let f : Found P p xs = rest refl in
     record { place = f.place; is = rw e f.is; number = f.number; holds = f.holds }
 
-among_rest : (a b : Bool) → (a || b) ≡ true → a ≡ false → b ≡ true
+pub among_rest : (a b : Bool) → (a || b) ≡ true → a ≡ false → b ≡ true
 among_rest true b h e = grind arith
 among_rest false b h e = h
 

@@ -1,10 +1,11 @@
 -- A message comes to a port: it is dropped, which leaves no trace but a count, or taken.
-use Rattle.std.proofs.Common.{◌≡◌, ◌∙◌, refl, ap, ap₂, sym, subst, ℕ, ◌==◌, Bool, true, false, if◌then◌else◌, ◌||◌, IsTrue, IfSome, is_some, List, [], ◌∷◌, map, Option, None, Some, arith}
+use Rattle.std.proofs.Common.{◌≡◌, ◌∙◌, refl, ap, ap₂, sym, subst, ℕ, ◌==◌, Bool, true, false, if◌then◌else◌, IsTrue, IfSome, is_some, List, [], ◌∷◌, map, Option, None, Some, arith}
 use Rattle.std.proofs.lemmas.Bool.{eqb-true}
 use Rattle.std.specs.List.{AllByRecursion, AllZip, list_any}
 use Rattle.wrp_base.specs.declared.message.PtpMsg.{PtpMsg}
 use Rattle.wrp_base.specs.declared.time.Raw.{Raw}
 use Rattle.wrp_base.specs.declared.time.Stamp.{Stamp}
+use Rattle.wrp_base.proofs.Naturals.{eq_self}
 use Rattle.wrp_data.specs.declared.reason.Reason.{Reason}
 use Rattle.wrp_data.specs.Reason.{number_of as reason_number}
 use Rattle.wrp_exch.specs.Call.{Call}
@@ -31,8 +32,9 @@ use Rattle.wrp_port.specs.Hearing.{early_reason, link_input, piece_of, is_of_use
 use Rattle.wrp_port.specs.History.{calls_of}
 use Rattle.wrp_port.specs.Outputs.{sends_of, drop_of, measured_by, number_by, reason_by, is_used_by, is_kept, sends_unless, four_by, piece_unless}
 use Rattle.wrp_port.specs.PortAt.{IsFit, StandsFor as PortStandsFor}
+use Rattle.wrp_node.proofs.Finding.{among_rest}
 
-is_true : (b : Bool) → b ≡ true → IsTrue b
+pub is_true : (b : Bool) → b ≡ true → IsTrue b
 is_true b h = grind arith
 
 -- ---- the measurement of the port that it came to
@@ -57,10 +59,6 @@ both_in P R p x y ys false e n h r rest =
     let f : FoundBoth P R p ys = rest refl in
     record { old = f.old; new = f.new; is = rw e f.is; number = f.number; holds = f.holds; related = f.related }
 
-among_rest : (a b : Bool) → (a || b) ≡ true → a ≡ false → b ≡ true
-among_rest true b h e = grind arith
-among_rest false b h e = h
-
 found_both : (P : Place → Type 0) (R : Place → Place → Type 0) (p : ℕ) (xs ys : List Place) → ((x y : Place) → R x y → y.number ≡ x.number) → AllZip R xs ys → AllByRecursion P xs →
     is_among p xs ≡ true → FoundBoth P R p ys
 found_both P R p [] [] n z h e = absurd (grind arith)
@@ -69,9 +67,6 @@ found_both P R p (x ∷ xs) [] n z h e = absurd z
 found_both P R p (x ∷ xs) (y ∷ ys) n z h e =
     both_in P R p x y ys (y.number == p) refl (n x y z.0) h.0 z.0
     (λ no. found_both P R p xs ys n z.1 h.1 (among_rest (x.number == p) (is_among p xs) e (ap (λ (k : ℕ). k == p) (sym (n x y z.0)) ∙ no)))
-
-eq_self : (n : ℕ) → (n == n) ≡ true
-eq_self n = grind arith
 
 given_here : (p : ℕ) (input : PortIn) (x y : Place) → x.number ≡ p → GivesTo (One p) input x y → Gives input x y
 given_here p input x y e g = subst (λ (b : Bool). GivenWhere b input x y) (ap (λ (k : ℕ). k == p) e ∙ eq_self p) g

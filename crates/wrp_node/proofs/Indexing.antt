@@ -1,7 +1,8 @@
 -- The port of a number stands at one place: what is done there is done to it, and to no other.
-use Rattle.std.proofs.Common.{◌≡◌, ◌≢◌, ◌∙◌, refl, ap, sym, subst, ℕ, suc, zero, ◌+◌, ◌<◌, ◌≤◌, ◌==◌, Bool, true, false, if◌then◌else◌, ◌||◌, List, [], ◌∷◌, drop, length, slice_index, slice_index_or, slice_set, Option, None, Some, is_some, arith}
-use Rattle.std.proofs.lemmas.List.{length-map, get_or-map, drop_more, drop_all}
+use Rattle.std.proofs.Common.{◌≡◌, ◌≢◌, ◌∙◌, refl, ap, sym, subst, ℕ, suc, zero, ◌<◌, ◌==◌, Bool, true, false, if◌then◌else◌, List, [], ◌∷◌, length, slice_index, slice_index_or, slice_set, Option, None, Some, is_some, arith}
+use Rattle.std.proofs.lemmas.List.{length-map, get_or-map}
 use Rattle.std.specs.List.{AllByRecursion, AllZip, list_any}
+use Rattle.std.proofs.lemmas.Bool.{or_parts}
 use Rattle.wrp_node.specs.declared.place.Place.{Place}
 use Rattle.wrp_node.specs.declared.ports.To.TheVariants.{One}
 use Rattle.wrp_node.specs.Index.{numbers_in, AreDifferent, IsWhere, Indexes, AreIndexed}
@@ -29,7 +30,7 @@ numbers_set (x ∷ xs) (suc i) d y h e = ap (λ (ns : List ℕ). x.number ∷ ns
 eq_not : (m n : ℕ) → m ≢ n → (m == n) ≡ false
 eq_not m n h = grind arith
 
-eq_is : (m n : ℕ) → m ≡ n → (m == n) ≡ true
+pub eq_is : (m n : ℕ) → m ≡ n → (m == n) ≡ true
 eq_is m n h = grind arith
 
 number_at : (P : ℕ → Type 0) (xs : List Place) (i : ℕ) (d : Place) → i < length xs → AllByRecursion P (numbers_in xs) → P (slice_index_or xs i d).number
@@ -51,15 +52,11 @@ done_there R p (suc i) (x ∷ xs) d y s h n a r =
     let other : p ≢ x.number = subst (λ (k : ℕ). k ≢ x.number) n (number_at (λ q. q ≢ x.number) xs i d (omega arith) a.0) in
     (s x (eq_not x.number p (λ e. other (sym e))), done_there R p i xs d y s (omega arith) n a.1 r)
 
-or_false : (a b : Bool) → (a || b) ≡ false → (a ≡ false) × (b ≡ false)
-or_false true b e = absurd (grind arith)
-or_false false b e = (refl, e)
-
 -- where no port has the number, all stay
 pub done_nowhere : (R : Place → Place → Type 0) (p : ℕ) (xs : List Place) → ((x : Place) → (x.number == p) ≡ false → R x x) → list_any (λ q. q == p) (numbers_in xs) ≡ false → AllZip R xs xs
 done_nowhere R p [] s e = tt
 done_nowhere R p (x ∷ xs) s e =
-    let parts = or_false (x.number == p) (list_any (λ q. q == p) (numbers_in xs)) e in
+    let parts = or_parts (x.number == p) (list_any (λ q. q == p) (numbers_in xs)) e in
     (s x parts.0, done_nowhere R p xs s parts.1)
 
 -- ---- what is done
@@ -134,20 +131,3 @@ nowhere p numbers None never w = w
 nowhere p numbers (Some at) never w = absurd (never at refl)
 
 -- ---- looking for a number, from the first port on
-
-pub looked_past : (p i : ℕ) (xs : List Place) (d : Place) → i < length xs → ((slice_index_or xs i d).number == p) ≡ false →
-    list_any (λ q. q == p) (numbers_in (drop i xs)) ≡ list_any (λ q. q == p) (numbers_in xs) →
-    list_any (λ q. q == p) (numbers_in (drop (i + 1) xs)) ≡ list_any (λ q. q == p) (numbers_in xs)
-looked_past p i xs d h e w =
-    sym (ap (λ (l : List Place). list_any (λ q. q == p) (numbers_in l)) (drop_more xs i d h)
-    ∙ ap (λ (b : Bool). b || list_any (λ q. q == p) (numbers_in (drop (i + 1) xs))) e) ∙ w
-
-pub looked_through : (p i : ℕ) (xs : List Place) → length xs ≤ i → list_any (λ q. q == p) (numbers_in (drop i xs)) ≡ list_any (λ q. q == p) (numbers_in xs) →
-    list_any (λ q. q == p) (numbers_in xs) ≡ false
-looked_through p i xs h w = sym w ∙ ap (λ (l : List Place). list_any (λ q. q == p) (numbers_in l)) (drop_all i xs h)
-
-pub found_there : (p i : ℕ) (xs : List Place) (d : Place) → i < length xs → (slice_index_or xs i d).number ≡ p → IsWhere p (numbers_in xs) (Some i)
-found_there p i xs d h e = (
-  omega (arith, h, length-map xs (λ (x : Place). x.number)),
-  get_or-map (λ (x : Place). x.number) xs i d 0 h ∙ e,
-)

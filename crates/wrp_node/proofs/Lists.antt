@@ -2,22 +2,17 @@
 use Rattle.std.proofs.Common.{◌≡◌, ◌∙◌, refl, ap, ap₂, sym, subst, ℕ, suc, zero, ◌+◌, ◌<◌, ◌≤◌, List, [], ◌∷◌, ◌++◌, map, take, drop, length, slice_index_or, slice_set, arith}
 use Rattle.std.proofs.lemmas.List.{take_all}
 use Rattle.std.specs.List.{AllByRecursion, AllZip}
+use Rattle.wrp_base.proofs.Lists.{append_assoc, head_and_tail}
 
 -- a loop has come to the element i: those before are related to what they were, the others are as they were
 abbrev pub Done : {A : Type 0} → (A → A → Type 0) → List A → List A → ℕ → Type 0
 Done R xs ys i = AllZip R (take i xs) (take i ys) × (drop i ys ≡ drop i xs)
 
-head_is : {A : Type 0} (x y : A) (xs ys : List A) → x ∷ xs ≡ y ∷ ys → (x ≡ y) × (xs ≡ ys)
-head_is x y xs ys e = (cc, cc)
-
-pub done_none : {A : Type 0} (R : A → A → Type 0) (xs : List A) → Done R xs xs 0
-done_none R xs = (tt, refl)
-
 done_next : {A : Type 0} (R : A → A → Type 0) (xs ys : List A) (i : ℕ) (d y : A) → i < length ys → R (slice_index_or ys i d) y → Done R xs ys i → Done R xs (slice_set ys i y) (suc i)
 done_next R xs [] i d y h r w = absurd (omega arith)
 done_next R [] (z ∷ ys) zero d y h r w = absurd (omega (arith, ap length w.1))
 done_next R (x ∷ xs) (z ∷ ys) zero d y h r w =
-    let e : (z ≡ x) × (ys ≡ xs) = head_is z x ys xs w.1 in
+    let e : (z ≡ x) × (ys ≡ xs) = head_and_tail z x ys xs w.1 in
     ((subst (λ v. R v y) e.0 r, tt), e.1)
 done_next R [] (z ∷ ys) (suc i) d y h r w = absurd w.0
 done_next R (x ∷ xs) (z ∷ ys) (suc i) d y h r w =
@@ -70,10 +65,6 @@ map_more f [] i d h = absurd (omega arith)
 map_more f (x ∷ xs) zero d h = refl
 map_more f (x ∷ xs) (suc i) d h = ap (λ rest. f x ∷ rest) (map_more f xs i d (omega arith))
 
-pub append_assoc : {A : Type 0} (xs ys zs : List A) → (xs ++ ys) ++ zs ≡ xs ++ (ys ++ zs)
-append_assoc [] ys zs = refl
-append_assoc (x ∷ xs) ys zs = ap (λ rest. x ∷ rest) (append_assoc xs ys zs)
-
 pub pushed_more : {A B : Type 0} (f : A → B) (xs : List A) (i : ℕ) (d : A) (o : List B) → i < length xs →
     (o ++ map f (take i xs)) ++ (f (slice_index_or xs i d) ∷ []) ≡ o ++ map f (take (i + 1) xs)
 pushed_more f xs i d o h =
@@ -88,11 +79,6 @@ all_next P (x ∷ xs) (suc i) d h k w = (w.0, all_next P xs i d (omega arith) k 
 
 pub all_more : {A : Type 0} (P : A → Type 0) (xs : List A) (i : ℕ) (d : A) → i < length xs → P (slice_index_or xs i d) → AllByRecursion P (take i xs) → AllByRecursion P (take (i + 1) xs)
 all_more P xs i d h k w = let next : suc i ≡ i + 1 = omega arith in subst (λ j. AllByRecursion P (take j xs)) next (all_next P xs i d h k w)
-
--- five lists, put out one after another
-pub five : {A : Type 0} (a b c d e : List A) → ((((([] ++ a) ++ b) ++ c) ++ d) ++ e) ≡ a ++ (b ++ (c ++ (d ++ e)))
-five a b c d e =
-    append_assoc ((a ++ b) ++ c) d e ∙ append_assoc (a ++ b) c (d ++ e) ∙ append_assoc a b (c ++ (d ++ e))
 
 -- one more, related to the next
 zip_next : {A B : Type 0} (R : A → B → Type 0) (xs : List A) (ys : List B) (i : ℕ) (d : A) (y : B) → i < length xs → R (slice_index_or xs i d) y → AllZip R (take i xs) ys →

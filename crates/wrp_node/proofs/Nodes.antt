@@ -1,6 +1,7 @@
 -- A node's servo is told something, and what it answers goes to the slave port.
-use Rattle.std.proofs.Common.{◌≡◌, ◌∙◌, refl, ap, ap₂, sym, subst, ℕ, ℤ, ◌==◌, Bool, true, false, if◌then◌else◌, ◌&&◌, ◌%◌, List, [], ◌∷◌, ◌++◌, map, flat_map, Option, None, Some, is_some, Ok, arith}
+use Rattle.std.proofs.Common.{◌≡◌, ◌∙◌, refl, ap, ap₂, sym, subst, ℕ, ℤ, ◌==◌, Bool, true, false, if◌then◌else◌, ◌&&◌, ◌%◌, List, [], ◌∷◌, ◌++◌, map, flat_map, Option, None, Some, is_some, Ok}
 use Rattle.std.specs.List.{AllByRecursion}
+use Rattle.std.proofs.lemmas.Option.{none-some}
 use Rattle.wrp_base.specs.declared.link.Deltas.{Deltas}
 use Rattle.wrp_base.specs.declared.link.LinkWord.{LinkWord}
 use Rattle.wrp_base.specs.declared.link.Module.{Module}
@@ -14,7 +15,7 @@ use Rattle.wrp_data.specs.Reason.{number_of as reason_number}
 use Rattle.wrp_base.specs.declared.time.Stamp.{Stamp}
 use Rattle.wrp_base.specs.Message.{IsSound}
 use Rattle.wrp_link.specs.Table.{word_of}
-use Rattle.wrp_node.specs.Control.{ToldServo, ControlOf, ServoIs, ControlStands, Calls, lease_call, link_call, carrier_call, state_in, locked_in, certain_in, dac_in, tracked_in}
+use Rattle.wrp_node.specs.Control.{ToldServo, ControlOf, ServoIs, ControlStands, Calls, lease_call, link_call, carrier_call, state_in, locked_in, certain_in, tracked_in}
 use Rattle.wrp_node.specs.declared.interface.Input.{Input}
 use Rattle.wrp_node.specs.declared.interface.Input.TheVariants.{Tick, Sample, Frame, Sent, Carrier, Reset}
 use Rattle.wrp_node.specs.declared.interface.Output.{Output}
@@ -22,7 +23,7 @@ use Rattle.wrp_node.specs.declared.parts.Parts.{Parts}
 use Rattle.wrp_node.specs.declared.place.Place.{Place}
 use Rattle.wrp_node.specs.declared.ports.To.TheVariants.{Every, One}
 use Rattle.wrp_node.specs.Node.{track_in, puts_out, is_tick}
-use Rattle.wrp_node.specs.NodeAt.{Fixed, NodeAt, slave_of, state_of, locked_of, certain_of, dac_of, est_of, servo_at, setting_of, line_at, is_fresh_in, deltas_in}
+use Rattle.wrp_node.specs.NodeAt.{Fixed, NodeAt, slave_of, state_of, locked_of, certain_of, est_of, servo_at, setting_of, line_at, is_fresh_in, deltas_in}
 use Rattle.wrp_node.specs.NodeRun.{step_out, dac_out, servo_out, est_out, track_out, port_out, word_out, frame_out, outputs_of}
 use Rattle.wrp_node.specs.NodeStep.{handed, carried, ports_ticked, tick_of, is_slave_port, used, dropped, measured_at, measurement_by, message_of, heard, heard_unless}
 use Rattle.wrp_node.specs.Parts.{PlaceStands, PlaceIn, PartsIn, IsNumber, HearsAt, given, taken_unless, four_unless, reason_at}
@@ -31,7 +32,7 @@ use Rattle.wrp_node.specs.StandsFor.{NodeOf, IsAt, IsIn}
 use Rattle.wrp_node.specs.Telling.{Step, step_from, for_slave, heard_of, answer_of, number_of, tell, is_changed, with_lease, with_link}
 use Rattle.wrp_node.proofs.Giving.{parts_same, line_is}
 use Rattle.wrp_node.proofs.Hearing.{sent_here, newest_alone}
-use Rattle.wrp_node.proofs.Telling.{nothing_told}
+use Rattle.wrp_node.proofs.Telling.{nothing_told, either_same}
 use Rattle.wrp_port.specs.declared.interface.PortIn.{PortIn}
 use Rattle.wrp_port.specs.declared.interface.PortIn.TheVariants.{Sent as PortSent, Carrier as PortCarrier, Tick as PortTick}
 use Rattle.wrp_port.specs.declared.line.Line.{Line}
@@ -121,15 +122,12 @@ nothing_node {post} fixed before s call node e h =
 
 -- ---- a message
 
-some_is : {A : Type 0} (x : A) → None ≡ Some x → ⊥
-some_is x e = absurd (grind arith)
-
 heard_some : {F : Type 0} {post : F → ℤ → ℤ → Type 0} (fixed : Fixed) (n : NodeAt) (p : ℕ) (input : PortIn) (y : ℤ) (four : Four) (reason : Option Reason) (node : NodeOf F) →
     Some four ≡ four_unless reason fixed p input n → IsIn post fixed n (tell fixed (for_slave fixed (Some (CallMeasured four y))) (taken_unless reason fixed p input n)) node →
     IsIn post fixed n (heard_unless reason fixed p input y n) node
 heard_some {post} fixed n p input y four None node e h =
     subst (λ (o : Option Four). IsIn post fixed n (tell fixed (for_slave fixed (measurement_by o y)) (used fixed p input n)) node) e h
-heard_some fixed n p input y four (Some reason) node e h = absurd (some_is four (sym e))
+heard_some fixed n p input y four (Some reason) node e h = absurd (none-some four (sym e))
 
 measured_node : {F : Type 0} {post : F → ℤ → ℤ → Type 0} (fixed : Fixed) (n : NodeAt) (p : ℕ) (input : PortIn) (y : ℤ) (four : Four) (reason : Option Reason) (out : ServoOut) (new : Parts)
     (control : ControlOf F) (report : ℕ) → Calls post fixed n.calls control (Some (CallMeasured four y)) out → Taken fixed n (taken_unless reason fixed p input n) out 0 new → report ≡ fixed.set.report →
@@ -189,13 +187,6 @@ certain_by post fixed n (Some t) h = ap (λ (v : Core). is_track v.state) h.1.se
 
 pub certain_is : {F : Type 0} {post : F → ℤ → ℤ → Type 0} (fixed : Fixed) (n : NodeAt) (c : ControlOf F) → ControlStands post fixed n.calls c → certain_in c.told ≡ certain_of fixed n
 certain_is {post} fixed n c h = certain_by post fixed n c.told h.servo
-
-dac_by : {F : Type 0} (post : F → ℤ → ℤ → Type 0) (fixed : Fixed) (n : NodeAt) (bias : ℕ) (t : Option (ToldServo F)) → bias ≡ fixed.set.servo.bias → ServoIs post fixed n.calls t → dac_in bias t ≡ dac_of fixed n
-dac_by post fixed n bias None b h = b ∙ sym (ap (λ (b : Bool). if b then (servo_at fixed n).phase.dac else fixed.set.servo.bias) h)
-dac_by post fixed n bias (Some t) b h = ap (λ (v : Core). v.phase.dac) h.1.servo.core ∙ sym (ap (λ (b : Bool). if b then (servo_at fixed n).phase.dac else fixed.set.servo.bias) h.0)
-
-pub dac_is : {F : Type 0} {post : F → ℤ → ℤ → Type 0} (fixed : Fixed) (n : NodeAt) (c : ControlOf F) → ControlStands post fixed n.calls c → dac_in c.bias c.told ≡ dac_of fixed n
-dac_is {post} fixed n c h = dac_by post fixed n c.bias c.told h.bias h.servo
 
 tracked_by : {F : Type 0} (post : F → ℤ → ℤ → Type 0) (fixed : Fixed) (n : NodeAt) (t : Option (ToldServo F)) → ServoIs post fixed n.calls t →
     tracked_in t ≡ (if is_track (state_of fixed n) then est_of fixed n else None)
@@ -272,10 +263,6 @@ in_at fixed before s node h = record {
 }
 
 -- ---- one port, or every port, is told something that it never counts
-
-either_same : {A : Type 0} (b : Bool) (x : A) → (if b then x else x) ≡ x
-either_same true x = refl
-either_same false x = refl
 
 pub sent_told : (fixed : Fixed) (n : NodeAt) (p seq : ℕ) (delay : Bool) (stamp : Stamp) (tick : ℕ) (parts : Parts) → tick ≡ n.ticks →
     PartsIn fixed n (given (One p) (PortSent delay seq stamp tick) fixed (step_from n)) parts → PartsIn fixed n (handed fixed p (PortSent delay seq stamp n.ticks) n) parts

@@ -381,16 +381,3 @@ one_node last law fixed inputs others a b e =
       counters = λ p. ap (λ (z : NodeAt). z.counters p) (sym same.is);
       servo = same.servo ∙ ap (servo_at fixed) (sym same.is);
     }
-
--- a law that answers within its range as another does: what it answered, that one may answer
-pub answered_as : (answers others : ℤ → ℤ → Type 0) (x : Settings) → ((k y : ℤ) → IsTrue (is_in x.lo x.hi k) → answers k y → others k y) → (calls : List Call) →
-    AllAnswered answers x calls → AllAnswered others x calls
-answered_as answers others x alike [] a = tt
-answered_as answers others x alike (CallSample n base bits ∷ calls) a = answered_as answers others x alike calls a
-answered_as answers others x alike (CallMeasured f y ∷ calls) a =
-    (λ d e k. alike (x_of d f) y k (a.0 d e k), answered_as answers others x alike calls a.1)
-answered_as answers others x alike (CallTick ∷ calls) a = answered_as answers others x alike calls a
-answered_as answers others x alike (CallLease fresh ∷ calls) a = answered_as answers others x alike calls a
-answered_as answers others x alike (CallLink on ∷ calls) a = answered_as answers others x alike calls a
-answered_as answers others x alike (CallCarrier up ∷ calls) a = answered_as answers others x alike calls a
-answered_as answers others x alike (CallReset ∷ calls) a = answered_as answers others x alike calls a

@@ -1,11 +1,13 @@
 -- The ports of a node of a network: they are of different numbers, so at most 18, and one is a slave where a link is above the node.
 use Rattle.std.proofs.Common.{◌≡◌, ◌≢◌, ◌∙◌, refl, ap, ap₂, sym, subst, ℕ, suc, ◌<◌, ◌≤◌, ◌==◌, ◌||◌, Bool, true, false, if◌then◌else◌, List, [], ◌∷◌, ◌++◌, map, length, Option, Some, option_map, slice_get, arith}
-use Rattle.std.proofs.lemmas.Bool.{eqb-true}
+use Rattle.std.proofs.lemmas.Bool.{eqb-true, false_from_ne_true}
 use Rattle.std.proofs.lemmas.Map.Steps.{length-le_from_distinct_below}
 use Rattle.std.specs.List.{AllByRecursion, IsDistinct, list_any, filter, find, flat_map}
 use Rattle.wrp_base.specs.declared.configuration.NetCfg.{NetCfg}
 use Rattle.wrp_base.specs.declared.network.LinkCfg.{LinkCfg}
+use Rattle.wrp_base.proofs.Naturals.{same_suc}
 use Rattle.wrp_base.specs.Network.{End, ends_of, HasLinkRanges, HasRanges, IsTree, NamesNoPortTwice, link_above}
+use Rattle.wrp_base.proofs.Lists.{length_map}
 use Rattle.wrp_data.specs.declared.datasets.PortDs.{PortDs}
 use Rattle.wrp_node.specs.New.{OfDifferentNumbers}
 use Rattle.wrp_node.specs.NodeAt.{is_slave, slave_in}
@@ -18,11 +20,11 @@ abbrev numbers_at : ℕ → List End → List ℕ
 numbers_at n [] = []
 numbers_at n (end ∷ ends) = if end.node == n then end.port ∷ numbers_at n ends else numbers_at n ends
 
-abbrev numbers_in : List PortDs → List ℕ
+abbrev pub numbers_in : List PortDs → List ℕ
 numbers_in ports = map (λ (ds : PortDs). ds.own.port) ports
 
 -- a number in front, where it is one
-abbrev with_number : Bool → ℕ → List ℕ → List ℕ
+abbrev pub with_number : Bool → ℕ → List ℕ → List ℕ
 with_number b p ns = if b then p ∷ ns else ns
 
 numbers-link : (net : NetCfg) (link : LinkCfg) (rest : List PortDs) (ns : List ℕ) (a b : Bool) → numbers_in rest ≡ ns →
@@ -40,12 +42,12 @@ numbers-are net n (link ∷ links) =
 
 -- ---- no two are equal
 
-abbrev AllApart : List ℕ → Type 0
+abbrev pub AllApart : List ℕ → Type 0
 AllApart [] = Unit {0}
 AllApart (p ∷ ps) = AllByRecursion (λ q. q ≢ p) ps × AllApart ps
 
 -- no two places have the same end
-abbrev HasNoRepeat : List End → Type 0
+abbrev pub HasNoRepeat : List End → Type 0
 HasNoRepeat ends = (i j : ℕ) (end : End) → slice_get ends i ≡ Some end → slice_get ends j ≡ Some end → i ≡ j
 
 abbrev end_with : ℕ → ℕ → End
@@ -68,10 +70,7 @@ apart-where : (n : ℕ) (end : End) (ns : List ℕ) (b : Bool) → (end.node == 
 apart-where n end ns true is others rest = (others (eqb-true end.node n is), rest)
 apart-where n end ns false is others rest = rest
 
-less_one : (i j : ℕ) → suc i ≡ suc j → i ≡ j
-less_one i j e = omega (arith, e)
-
-zero_or_more : (k : ℕ) → 0 ≡ suc k → ⊥
+pub zero_or_more : (k : ℕ) → 0 ≡ suc k → ⊥
 zero_or_more k e = omega (arith, e)
 
 apart : (n : ℕ) (ends : List End) → HasNoRepeat ends → AllApart (numbers_at n ends)
@@ -79,7 +78,7 @@ apart n [] once = tt
 apart n (end ∷ ends) once =
     apart-where n end (numbers_at n ends) (end.node == n) refl
     (λ same. away n end.port ends (λ k is. zero_or_more k (once 0 (suc k) end refl (is ∙ ap (λ (m : ℕ). Some (end_with m end.port)) (sym same)))))
-    (apart n ends (λ i j other at_i at_j. less_one i j (once (suc i) (suc j) other at_i at_j)))
+    (apart n ends (λ i j other at_i at_j. same_suc i j (once (suc i) (suc j) other at_i at_j)))
 
 different-from : (p : ℕ) (ports : List PortDs) → AllByRecursion (λ q. q ≢ p) (numbers_in ports) → AllByRecursion (λ other. other.own.port ≢ p) ports
 different-from p [] h = tt
@@ -97,7 +96,7 @@ different_numbers net n once = different (ports_of net n) (numbers_apart net n o
 
 -- ---- there are at most 18
 
-abbrev InRange : ℕ → Type 0
+abbrev pub InRange : ℕ → Type 0
 InRange q = (1 ≤ q) × (q ≤ 18)
 
 range-where : (b : Bool) (p : ℕ) (ns : List ℕ) → InRange p → AllByRecursion InRange ns → AllByRecursion InRange (with_number b p ns)
@@ -112,7 +111,7 @@ in_range n (link ∷ links) each =
     range-where (link.upper == n) link.upper_port (with_number (link.lower == n) link.lower_port rest) own.upper_port
     (range-where (link.lower == n) link.lower_port rest own.lower_port (in_range n links (λ l. each (suc l))))
 
-not_equal : (p q : ℕ) → q ≢ p → (p == q) ≡ false
+pub not_equal : (p q : ℕ) → q ≢ p → (p == q) ≡ false
 not_equal p q h = grind arith
 
 distinct : (ns : List ℕ) → AllApart ns → IsDistinct (λ p q. p == q) ns
@@ -136,16 +135,12 @@ few ns h range =
     (λ q e. below-where q 0 (q == 0) (list_any (λ p. q == p) ns) refl e (omega arith) (below ns q range)) in
     omega (arith, all)
 
-length-map : {A B : Type 0} (f : A → B) (xs : List A) → length (map f xs) ≡ length xs
-length-map f [] = refl
-length-map f (x ∷ xs) = ap suc (length-map f xs)
-
 pub few_ports : (net : NetCfg) (n : ℕ) → HasRanges net → NamesNoPortTwice net → length (ports_of net n) ≤ 18
 few_ports net n ranges once =
     let range : AllByRecursion InRange (numbers_in (ports_of net n)) =
     subst (λ (ns : List ℕ). AllByRecursion InRange ns) (sym (numbers-are net n net.links.items)) (in_range n net.links.items ranges.links) in
     let most : length (numbers_in (ports_of net n)) ≤ 18 = few (numbers_in (ports_of net n)) (numbers_apart net n once) range in
-    let same : length (numbers_in (ports_of net n)) ≡ length (ports_of net n) = length-map (λ (ds : PortDs). ds.own.port) (ports_of net n) in
+    let same : length (numbers_in (ports_of net n)) ≡ length (ports_of net n) = length_map (λ (ds : PortDs). ds.own.port) (ports_of net n) in
     omega (arith, most, same)
 
 -- ---- the slave port is that of the link above
@@ -168,10 +163,6 @@ slave_is_above net n = slave-are net n net.links.items
 
 -- ---- at most one is a slave
 
-not_true : (b : Bool) → (b ≡ true → ⊥) → b ≡ false
-not_true true h = absurd (h refl)
-not_true false h = refl
-
 nothing_passes : {X : Type 0} (p : X → Bool) (xs : List X) → ((k : ℕ) (x : X) → slice_get xs k ≡ Some x → p x ≡ false) → length (filter p xs) ≡ 0
 nothing_passes p [] none = refl
 nothing_passes p (x ∷ xs) none = rw (none 0 x refl) (nothing_passes p xs (λ k. none (suc k)))
@@ -186,8 +177,8 @@ once : {X : Type 0} (p : X → Bool) (xs : List X) → ((i j : ℕ) (x y : X) �
 once p [] same = omega arith
 once p (x ∷ xs) same =
     once-where p x xs (p x) refl
-    (λ is k y at. not_true (p y) (λ passes. zero_or_more k (same 0 (suc k) x y refl at is passes)))
-    (once p xs (λ i j y z at_i at_j passes_y passes_z. less_one i j (same (suc i) (suc j) y z at_i at_j passes_y passes_z)))
+    (λ is k y at. false_from_ne_true (p y) (λ passes. zero_or_more k (same 0 (suc k) x y refl at is passes)))
+    (once p xs (λ i j y z at_i at_j passes_y passes_z. same_suc i j (same (suc i) (suc j) y z at_i at_j passes_y passes_z)))
 
 slaves-link : (net : NetCfg) (link : LinkCfg) (rest : List PortDs) (found : List LinkCfg) (a b : Bool) → length (filter (λ ds. is_slave ds.role) rest) ≡ length found →
     length (filter (λ ds. is_slave ds.role) (((if a then master_at net link ∷ [] else []) ++ (if b then slave_at net link ∷ [] else [])) ++ rest))

@@ -318,7 +318,7 @@ times_ordered p [] = refl
 times_ordered p (ds ∷ ports) =
     times_placed p ds (in_order ports) ∙ ap (λ (k : ℕ). if ds.own.port == p then suc k else k) (times_ordered p ports)
 
-not_equal : (m n : ℕ) → (m ≡ n → ⊥) → (m == n) ≡ false
+pub not_equal : (m n : ℕ) → (m ≡ n → ⊥) → (m == n) ≡ false
 not_equal m n h = grind arith
 
 -- ports of different numbers: one of them has it, or none

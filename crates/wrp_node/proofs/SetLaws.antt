@@ -4,6 +4,7 @@ use Rattle.std.specs.List.{AllByRecursion, find, flat_map}
 use Rattle.wrp_base.specs.declared.configuration.NetCfg.{NetCfg}
 use Rattle.wrp_base.specs.declared.network.LinkCfg.{LinkCfg}
 use Rattle.wrp_base.specs.Network.{NamesNoPortTwice}
+use Rattle.wrp_base.proofs.Naturals.{eq_self}
 use Rattle.wrp_data.specs.declared.datasets.PortDs.{PortDs}
 use Rattle.wrp_node.specs.NodeAt.{port_or_none, port_of}
 use Rattle.wrp_node.specs.Set.{master_at, slave_at, ports_at, ports_of, set_of}
@@ -22,9 +23,6 @@ all_at : {X Y : Type 0} (P : Y → Type 0) (f : X → List Y) (xs : List X) (i :
 all_at P f [] i x at h = absurd (cc)
 all_at P f (y ∷ ys) zero x at h = let same : y ≡ x = cc in subst (λ z. AllByRecursion P (f z)) same (all_parts P (f y) (flat_map f ys) h).0
 all_at P f (y ∷ ys) (suc i) x at h = all_at P f ys i x at (all_parts P (f y) (flat_map f ys) h).1
-
-eq_self : (n : ℕ) → (n == n) ≡ true
-eq_self n = grind arith
 
 first_of : {X : Type 0} (P : X → Type 0) (x : X) (b : Bool) → b ≡ true → AllByRecursion P (if b then x ∷ [] else []) → P x
 first_of P x true e h = h.0

@@ -18,7 +18,7 @@ use Rattle.wrp_servo.specs.Told.{lease_told, link_told}
 
 -- ---- what the servo answers leaves the lease and the link of a port as they were
 
-heard_fresh : (set : Setting) (o : Option ℤ) (k : ℕ) (news : ChainNews) (told : List PortIn) → is_fresh set (with_sample o k (with_news news told)) ≡ is_fresh set told
+pub heard_fresh : (set : Setting) (o : Option ℤ) (k : ℕ) (news : ChainNews) (told : List PortIn) → is_fresh set (with_sample o k (with_news news told)) ≡ is_fresh set told
 heard_fresh set None k Same told = refl
 heard_fresh set None k (Started n) told = refl
 heard_fresh set None k Ended told = refl
@@ -34,7 +34,7 @@ heard_link set (Some u) k Same told = refl
 heard_link set (Some u) k (Started n) told = refl
 heard_link set (Some u) k Ended told = refl
 
-fresh_where : (b : Bool) (set : Setting) (out : ServoOut) (k : ℕ) (told : List PortIn) → is_fresh set (if b then heard_of out k told else told) ≡ is_fresh set told
+pub fresh_where : (b : Bool) (set : Setting) (out : ServoOut) (k : ℕ) (told : List PortIn) → is_fresh set (if b then heard_of out k told else told) ≡ is_fresh set told
 fresh_where true set out k told = heard_fresh set out.unwrapped k out.chain told
 fresh_where false set out k told = refl
 
@@ -42,7 +42,7 @@ link_where : (b : Bool) (set : Setting) (out : ServoOut) (k : ℕ) (told : List 
 link_where true set out k told = heard_link set out.unwrapped k out.chain told
 link_where false set out k told = refl
 
-fresh_by : (o : Option ℕ) (set : Setting) (out : ServoOut) (k : ℕ) (told : ℕ → List PortIn) (q : ℕ) → is_fresh set (told_by o out k told q) ≡ is_fresh set (told q)
+pub fresh_by : (o : Option ℕ) (set : Setting) (out : ServoOut) (k : ℕ) (told : ℕ → List PortIn) (q : ℕ) → is_fresh set (told_by o out k told q) ≡ is_fresh set (told q)
 fresh_by None set out k told q = refl
 fresh_by (Some p) set out k told q = fresh_where (q == p) set out k (told q)
 
@@ -50,19 +50,19 @@ pub link_by : (o : Option ℕ) (set : Setting) (out : ServoOut) (k : ℕ) (told 
 link_by None set out k told q = refl
 link_by (Some p) set out k told q = link_where (q == p) set out k (told q)
 
-fresh_at : (fixed : Fixed) (call : Option Call) (s : Step) (o : Option ℕ) → is_fresh_at fixed.set (tell fixed call s).node o ≡ is_fresh_at fixed.set s.node o
+pub fresh_at : (fixed : Fixed) (call : Option Call) (s : Step) (o : Option ℕ) → is_fresh_at fixed.set (tell fixed call s).node o ≡ is_fresh_at fixed.set s.node o
 fresh_at fixed call s None = refl
 fresh_at fixed call s (Some p) = fresh_by (slave_of fixed.set) (setting_of fixed.set p) (answer_of fixed call s.node.calls) (number_of call) s.node.told p
 
-tell_fresh : (fixed : Fixed) (call : Option Call) (s : Step) → is_fresh_in fixed.set (tell fixed call s).node ≡ is_fresh_in fixed.set s.node
+pub tell_fresh : (fixed : Fixed) (call : Option Call) (s : Step) → is_fresh_in fixed.set (tell fixed call s).node ≡ is_fresh_in fixed.set s.node
 tell_fresh fixed call s = fresh_at fixed call s (slave_of fixed.set)
 
-deltas_by : (fixed : Fixed) (call : Option Call) (s : Step) (o : Option ℕ) → deltas_at fixed.set (tell fixed call s).node o ≡ deltas_at fixed.set s.node o
+pub deltas_by : (fixed : Fixed) (call : Option Call) (s : Step) (o : Option ℕ) → deltas_at fixed.set (tell fixed call s).node o ≡ deltas_at fixed.set s.node o
 deltas_by fixed call s None = refl
 deltas_by fixed call s (Some p) =
     ap (λ (l : LinkAt). deltas_of (port_of fixed.set p).role l) (link_by (slave_of fixed.set) (setting_of fixed.set p) (answer_of fixed call s.node.calls) (number_of call) s.node.told p)
 
-tell_deltas : (fixed : Fixed) (call : Option Call) (s : Step) → deltas_in fixed.set (tell fixed call s).node ≡ deltas_in fixed.set s.node
+pub tell_deltas : (fixed : Fixed) (call : Option Call) (s : Step) → deltas_in fixed.set (tell fixed call s).node ≡ deltas_in fixed.set s.node
 tell_deltas fixed call s = deltas_by fixed call s (slave_of fixed.set)
 
 -- ---- what was told is known

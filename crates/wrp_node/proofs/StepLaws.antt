@@ -2,6 +2,7 @@
 use Rattle.std.proofs.Common.{◌≡◌, ◌∙◌, refl, ap, sym, subst, ℕ, suc, ◌+◌, ◌≤◌, ◌^◌, ◌==◌, ◌&&◌, ℤ, pos, ◌-ℤ◌, ◌+ℤ◌, ◌*ℤ◌, unsigned_abs, Bool, true, false, cond, if◌then◌else◌, nat_lt, nat_le, List, [], ◌∷◌, ◌++◌, length, Option, None, Some, is_some, Result, Ok, Err, arith}
 use Rattle.std.proofs.lemmas.List.{length-append}
 use Rattle.std.proofs.lemmas.Int.{ints, clamps}
+use Rattle.std.proofs.lemmas.Bool.{true≢false}
 use Rattle.wrp_base.specs.Clock.{period_of, periods_per_second}
 use Rattle.wrp_base.specs.declared.link.Deltas.{Deltas}
 use Rattle.wrp_base.specs.declared.link.LinkState.{LinkState}
@@ -51,15 +52,12 @@ use Rattle.wrp_servo.specs.Sampling.{est_of, heard_as}
 use Rattle.wrp_servo.specs.Servo.{news_at, out_by}
 use Rattle.wrp_servo.specs.Told.{lease_told, link_told}
 
-no_frame : true ≡ false → ⊥
-no_frame e = grind arith
-
 -- ---- what is noted beside an input
 
 pub only_frames_say : OnlyFramesSay
 only_frames_say fixed n Tick says other y z h = refl
 only_frames_say fixed n (Sample number base bits) says other y z h = refl
-only_frames_say fixed n (Frame p octets raw sample) says other y z h = absurd (no_frame h)
+only_frames_say fixed n (Frame p octets raw sample) says other y z h = absurd (true≢false h)
 only_frames_say fixed n (Sent p seq delay stamp) says other y z h = refl
 only_frames_say fixed n (Carrier p up own_module) says other y z h = refl
 only_frames_say fixed n Reset says other y z h = refl
@@ -105,7 +103,7 @@ calm_answer fixed (Some (CallSample n base bits)) calls h =
     let x : Settings = settings_of fixed in
     let v : Core = run x calls in
     out_cycles (heard_as v n base bits) (after x v (CallSample n base bits)) x v (CallSample n base bits)
-calm_answer fixed (Some (CallMeasured four y)) calls h = absurd (no_frame (sym h))
+calm_answer fixed (Some (CallMeasured four y)) calls h = absurd (true≢false (sym h))
 calm_answer fixed (Some CallTick) calls h = refl
 calm_answer fixed (Some (CallLease fresh)) calls h = refl
 calm_answer fixed (Some (CallLink on)) calls h = refl
@@ -129,7 +127,7 @@ lease_cycles fixed s =
     calm_tell fixed (lease_change fixed s.node) s
     (calm_where (is_some (slave_of fixed.set)) (is_changed (lease_told s.node.calls) (is_fresh_in fixed.set s.node)) (CallLease (is_fresh_in fixed.set s.node)) refl)
 
-settled_cycles : (fixed : Fixed) (s : Step) → (settled fixed s).cycles ≡ s.cycles
+pub settled_cycles : (fixed : Fixed) (s : Step) → (settled fixed s).cycles ≡ s.cycles
 settled_cycles fixed s =
     let leased : Step = with_lease fixed s in
     calm_tell fixed (link_change fixed leased.node) leased
@@ -143,7 +141,7 @@ calm_stepped fixed Tick says y n h =
     ∙ lease_cycles fixed (step_from (counted_tick fixed n))
 calm_stepped fixed (Sample number base bits) says y n h =
     calm_tell fixed (for_slave fixed (Some (CallSample number base bits))) (step_from n) (calm_one (is_some (slave_of fixed.set)) (CallSample number base bits) refl)
-calm_stepped fixed (Frame p octets raw sample) says y n h = absurd (no_frame h)
+calm_stepped fixed (Frame p octets raw sample) says y n h = absurd (true≢false h)
 calm_stepped fixed (Sent p seq delay stamp) says y n h = refl
 calm_stepped fixed (Carrier p up own_module) says y n h =
     calm_tell fixed (for_slave fixed (if is_slave_port (slave_of fixed.set) p then Some (CallCarrier up) else None)) (handed fixed p (PortCarrier up own_module) n)

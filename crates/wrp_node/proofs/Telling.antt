@@ -15,7 +15,7 @@ use Rattle.wrp_port.specs.declared.interface.PortIn.TheVariants.{Lease, Chain, S
 use Rattle.wrp_servo.specs.Call.{Call}
 use Rattle.wrp_servo.specs.declared.interface.ServoOut.{ServoOut}
 
-either_same : {A : Type 0} (b : Bool) (x : A) → (if b then x else x) ≡ x
+pub either_same : {A : Type 0} (b : Bool) (x : A) → (if b then x else x) ≡ x
 either_same true x = refl
 either_same false x = refl
 
@@ -56,16 +56,6 @@ to_slave fixed before s p number out parts e h =
     (record {
       told = λ q. twice (q == p) (with_sample out.unwrapped number) (with_news out.chain) (s.node.told q)
           ∙ ap (λ (o : Option ℕ). told_by o out number s.node.told q) (sym e);
-      counters = λ q. ap (λ (o : Option ℕ). counted_by o out s.node.counters q) (sym e);
-      sends = λ q. refl;
-    }) refl refl refl h
-
-pub to_nobody : (fixed : Fixed) (before : NodeAt) (s : Step) (number : ℕ) (out : ServoOut) (parts : Parts) → slave_of fixed.set ≡ None →
-    PartsIn fixed before s parts → PartsIn fixed before (slave_told out number fixed s) parts
-to_nobody fixed before s number out parts e h =
-    parts_same fixed before s (slave_told out number fixed s) parts
-    (record {
-      told = λ q. ap (λ (o : Option ℕ). told_by o out number s.node.told q) (sym e);
       counters = λ q. ap (λ (o : Option ℕ). counted_by o out s.node.counters q) (sym e);
       sends = λ q. refl;
     }) refl refl refl h

@@ -1,6 +1,6 @@
 -- Between the inputs of a node a chain stands since a start after which nothing restarted the loop: a carrier that comes where one stood takes the link, and with it the chain.
-use Rattle.std.proofs.Common.{◌≡◌, ◌∙◌, refl, ap, sym, ℕ, ℤ, ◌==◌, Bool, true, false, cond, not, ◌&&◌, ◌||◌, if◌then◌else◌, is_some, List, [], ◌∷◌, ◌++◌, ◌⊎◌, inl, inr, Option, None, Some, Result, Ok, Err, arith}
-use Rattle.std.proofs.lemmas.Bool.{eqb-true}
+use Rattle.std.proofs.Common.{◌≡◌, ◌∙◌, refl, ap, sym, ℕ, ℤ, ◌==◌, Bool, true, false, cond, not, ◌&&◌, ◌||◌, if◌then◌else◌, is_some, List, [], ◌∷◌, ◌++◌, ◌⊎◌, inl, inr, Option, None, Some, Result, Ok, Err}
+use Rattle.std.proofs.lemmas.Bool.{eqb-true, and_parts, or_from}
 use Rattle.std.specs.Prelude.{int_le}
 use Rattle.wrp_base.specs.declared.link.Deltas.{Deltas}
 use Rattle.wrp_base.specs.declared.link.Module.{Module}
@@ -11,6 +11,7 @@ use Rattle.wrp_base.specs.declared.link.ServoState.TheVariants.{Uninit, SyncTai,
 use Rattle.wrp_base.specs.declared.measurement.Four.{Four}
 use Rattle.wrp_base.specs.declared.message.PtpMsg.{PtpMsg}
 use Rattle.wrp_base.specs.declared.time.Raw.{Raw}
+use Rattle.wrp_base.proofs.Naturals.{eq_self}
 use Rattle.wrp_data.specs.declared.reason.Reason.{Reason}
 use Rattle.wrp_frame.specs.declared.fault.FrameFault.{FrameFault}
 use Rattle.wrp_link.specs.declared.interface.LinkIn.TheVariants as link
@@ -38,6 +39,7 @@ use Rattle.wrp_servo.specs.Table.{ended, ended_in}
 use Rattle.wrp_servo.specs.Laws.{ChainSince, ChainIsHeld, ChainHasSignals}
 use Rattle.wrp_servo.specs.Tags.{PhaseIsSum, tags, is_empty}
 use Rattle.wrp_servo.specs.Told.{lease_told, link_told}
+use Rattle.wrp_servo.proofs.Locked.{none-first}
 
 -- ---- the servo alone: what a call that is no carrier coming leaves
 
@@ -45,7 +47,7 @@ use Rattle.wrp_servo.specs.Told.{lease_told, link_told}
 abbrev IsLive : Core → Type 0
 IsLive v = is_some v.first ≡ true → v.phase.fresh ≡ false
 
-either_fresh : (b : Bool) (v w : Core) (fresh : Bool) → v.phase.fresh ≡ fresh → w.phase.fresh ≡ fresh → (cond b v w).phase.fresh ≡ fresh
+pub either_fresh : (b : Bool) (v w : Core) (fresh : Bool) → v.phase.fresh ≡ fresh → w.phase.fresh ≡ fresh → (cond b v w).phase.fresh ≡ fresh
 either_fresh true v w fresh h k = h
 either_fresh false v w fresh h k = k
 
@@ -65,7 +67,7 @@ judged_fresh v Track =
     either_fresh (stays_near (record v { state = Track })) (record v { state = Track }) (ended (record v { state = Track })) v.phase.fresh refl (ended_fresh v Track)
 judged_fresh v _ = refl
 
-chained_fresh : (v : Core) (n : ℕ) → (chained v n).phase.fresh ≡ v.phase.fresh
+pub chained_fresh : (v : Core) (n : ℕ) → (chained v n).phase.fresh ≡ v.phase.fresh
 chained_fresh v n =
     either_fresh v.phase.lock.locked (cond (may_start v) (record v { first = Some n }) v) (ended v) v.phase.fresh
     (either_fresh (may_start v) (record v { first = Some n }) v v.phase.fresh refl refl)
@@ -74,15 +76,6 @@ chained_fresh v n =
 either-live : (b : Bool) (v w : Core) → IsLive v → IsLive w → IsLive (cond b v w)
 either-live true v w h k = h
 either-live false v w h k = k
-
--- after the end of a chain none stands
-none_first : (v : Core) (first : Option ℕ) (s : ServoState) → is_some (ended (record v { state = s; first = first })).first ≡ false
-none_first v None s = refl
-none_first v (Some m) Track = refl
-none_first v (Some m) SyncNsec = refl
-none_first v (Some m) SyncPhase = refl
-none_first v (Some m) WaitStable = refl
-none_first v (Some m) _ = refl
 
 no_chain : (v : Core) → is_some v.first ≡ false → IsLive v
 no_chain v h e = absurd cc
@@ -94,7 +87,7 @@ judged_live w n =
 
 good_live : (w : Core) (n : ℕ) → w.phase.fresh ≡ false → IsLive (good w n)
 good_live w n h =
-    either-live (is_far w.phase.u) (lost w) (judged (chained (followed w) n)) (no_chain (lost w) (none_first w w.first w.state)) (λ e. judged_live w n ∙ h)
+    either-live (is_far w.phase.u) (lost w) (judged (chained (followed w) n)) (no_chain (lost w) (none-first w w.first w.state)) (λ e. judged_live w n ∙ h)
 
 heard_live : (v : Core) (n : ℕ) (tag : Option ℕ) → IsLive v → IsLive (heard_tag v n tag)
 heard_live v n None h = h
@@ -136,7 +129,7 @@ stands_at laws x calls c e =
     let s : Since (chain_starts x) (chain_ends x) (c ∷ calls) = (laws.since x (c ∷ calls)).0 e in
     in_chain laws x calls c s.since s.start s.before s.splits s.started s.stays
 
-no_start : (b : Bool) → (not b && false) ≡ true → ⊥
+pub no_start : (b : Bool) → (not b && false) ≡ true → ⊥
 no_start true e = cc
 no_start false e = cc
 
@@ -170,10 +163,6 @@ record Unbroken (x : Settings) (calls : List Call) : Type 0 where
   live : IsLive (run x calls)
   since : is_some (run x calls).first ≡ true → Since (chain_starts x) (breaks_chain x) calls
 
-none_of : (a b : Bool) → a ≡ false → b ≡ false → (a || b) ≡ false
-none_of true b h k = h
-none_of false b h k = k
-
 first_none : (a b : Bool) → (a || b) ≡ false → a ≡ false
 first_none true b h = h
 first_none false b h = refl
@@ -189,7 +178,7 @@ since_more x calls c u live (inr k) =
       splits = ap (λ (l : List Call). c ∷ l) s.splits;
       started = s.started;
       stays = (
-        ap (λ (l : List Call). breaks_chain x l c) (sym s.splits) ∙ none_of (chain_ends x calls c) (leaves_fresh x calls c) k.1 live,
+        ap (λ (l : List Call). breaks_chain x l c) (sym s.splits) ∙ or_from (chain_ends x calls c) (leaves_fresh x calls c) k.1 live,
         s.stays,
       );
     }
@@ -263,9 +252,6 @@ is_slave_at : (o : Option ℕ) (p : ℕ) → is_slave_port o p ≡ true → o �
 is_slave_at None p h = absurd cc
 is_slave_at (Some q) p h = ap Some (eqb-true q p h)
 
-eq_self : (n : ℕ) → (n == n) ≡ true
-eq_self n = grind arith
-
 no_deltas : (role : Role) (l : LinkAt) (own_module : Option Module) → deltas_of role (link_after_input l (link.CarrierUp own_module)) ≡ None
 no_deltas Master l own_module = refl
 no_deltas Slave l own_module = refl
@@ -314,10 +300,6 @@ unbroken_stepped laws fixed (Carrier p up own_module) says y n u k =
 unbroken_stepped laws fixed Reset says y n u k =
     unbroken_called laws (settings_of fixed) (for_slave fixed (Some CallReset)) n.calls (where_told (is_some (slave_of fixed.set)) (Some CallReset) refl) u
 
-both_true : (a b : Bool) → (a && b) ≡ true → (a ≡ true) × (b ≡ true)
-both_true true b h = (refl, h)
-both_true false b h = absurd cc
-
 comes_at : (laws : ServoLaws) (fixed : Fixed) (t : Taken) (n : NodeAt) (input : Input) → t.input ≡ input → is_carrier_to (slave_of fixed.set) input ≡ true →
     is_some (run (settings_of fixed) (node_step fixed t n).node.calls).first ≡ true → ⊥
 comes_at laws fixed t n Tick is h e = cc
@@ -325,7 +307,7 @@ comes_at laws fixed t n (Sample number base bits) is h e = cc
 comes_at laws fixed t n (Frame p octets raw sample) is h e = cc
 comes_at laws fixed t n (Sent p seq delay stamp) is h e = cc
 comes_at laws fixed t n (Carrier q up own_module) is h e =
-    let k : (is_slave_port (slave_of fixed.set) q ≡ true) × (up ≡ true) = both_true (is_slave_port (slave_of fixed.set) q) up h in
+    let k : (is_slave_port (slave_of fixed.set) q ≡ true) × (up ≡ true) = and_parts (is_slave_port (slave_of fixed.set) q) up h in
     no_chain_after laws fixed t n q own_module (is ∙ ap (λ (b : Bool). Carrier q b own_module) k.1) k.0 e
 comes_at laws fixed t n Reset is h e = cc
 

@@ -1,9 +1,10 @@
 -- The way up from a node: link by link, to the grandmaster.
-use Rattle.std.proofs.Common.{◌≡◌, ℕ, zero, suc, ◌+◌, ◌-◌, ◌<◌, ◌≤◌, refl, ap, sym, subst, ◌∙◌, List, [], ◌∷◌, Bool, true, false, Some, None, slice_get, arith}
-use Rattle.std.specs.Prelude.{◌==◌, find}
+use Rattle.std.proofs.Common.{◌≡◌, ℕ, zero, suc, ◌+◌, ◌-◌, ◌<◌, ◌≤◌, refl, ap, sym, subst, ◌∙◌, Some, None, slice_get, arith}
+use Rattle.std.specs.Prelude.{◌==◌}
 use Rattle.wrp_base.specs.declared.configuration.NetCfg.{NetCfg}
 use Rattle.wrp_base.specs.declared.network.LinkCfg.{LinkCfg}
 use Rattle.wrp_base.specs.Network.{IsTree, IsGrandmaster, HasDepth, link_above, node_count}
+use Rattle.wrp_base.proofs.Lists.{found_at}
 use Rattle.wrp_node.specs.Set.{steps_up, top_up}
 
 -- ---- link by link
@@ -34,12 +35,6 @@ ends-over most net n link above = rw (above, top_up) refl
 pub record Passed (net : NetCfg) (n at passed : ℕ) : Type 0 where
   pub steps : passed + steps_up (8 - passed) net at ≡ steps_up 8 net n
   pub top : top_up (8 - passed) net at ≡ top_up 8 net n
-
-pub passed_none : (net : NetCfg) (n : ℕ) → Passed net n n 0
-passed_none net n =
-    let whole : 8 - 0 ≡ 8 = omega arith in
-    let steps : steps_up (8 - 0) net n ≡ steps_up 8 net n = ap (λ (most : ℕ). steps_up most net n) whole in
-    record { steps = omega (arith, steps); top = ap (λ (most : ℕ). top_up most net n) whole }
 
 pub passed_more : (net : NetCfg) (n at passed : ℕ) (link : LinkCfg) → passed < 8 → Some link ≡ link_above net at → Passed net n at passed → Passed net n link.upper (passed + 1)
 passed_more net n at passed link few above so_far =
@@ -78,15 +73,6 @@ pub steps_are_depth : (net : NetCfg) (n : ℕ) → IsTree net → n < node_count
 steps_are_depth net n tree within =
     let deep : (depth : ℕ) × (depth ≤ 8) × HasDepth net depth n = tree.shallow n within in
     subst (λ (depth : ℕ). HasDepth net depth n) (sym (steps-deep net deep.0 8 n deep.2 deep.1)) deep.2
-
--- what a search finds stands at some place
-found_at : {X : Type 0} (p : X → Bool) (xs : List X) (x : X) → find p xs ≡ Some x → (i : ℕ) × (slice_get xs i ≡ Some x)
-found_at p [] x found = absurd (cc)
-found_at p (y ∷ ys) x found =
-    elim (p y) as (λ b. p y ≡ b → (i : ℕ) × (slice_get (y ∷ ys) i ≡ Some x)) [
-      | true ↦ λ is. (0, rw is at found)
-      | false ↦ λ is. let later : (i : ℕ) × (slice_get ys i ≡ Some x) = found_at p ys x (rw is at found) in (suc later.0, later.1)
-    ] refl
 
 -- it ends at a node that has no link above it
 ends-deep : (net : NetCfg) (depth most n : ℕ) → IsTree net → n < node_count net → HasDepth net depth n → depth ≤ most → IsGrandmaster net (top_up most net n)

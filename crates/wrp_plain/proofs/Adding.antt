@@ -10,11 +10,7 @@ use Rattle.wrp_plain.specs.Measurement.{est_of, base_of, round_of}
 use Rattle.wrp_plain.specs.Call.{Call, CallMeasured, CallTick, CallCommand, Mark, marks}
 use Rattle.wrp_plain.specs.Report.{report_at, least_report, report_of}
 use Rattle.wrp_plain.specs.StandsFor.{PlainAt, mark_of, marks_from, marks_at, StandsFor, IsKept, AreKept}
-use Rattle.wrp_plain.proofs.Marks.{later, moved_by, marks_before-tick, marks_before-moved, marks_from-tick, marks_from-moved, marks_from-take, take-cons, AreKept-take}
-
--- a servo's parts
-at : PlainSet → List Kept → ℤ → ℕ → PlainAt
-at set ring last ticks = record { set = set; ring = ring; last = last; ticks = ticks }
+use Rattle.wrp_plain.proofs.Marks.{later, moved_by, marks_before-tick, marks_before-moved, marks_from-tick, marks_from-moved, marks_from-take, take-cons, AreKept-take, ticked}
 
 pub Adds-tick : (told : PlainSet) (ring : List Kept) (last : ℤ) (ticks : ℕ) (old : PlainAt) →
     record { set = told; ring = ring; last = last; ticks = ticks } ≡ old → AreKept ticks ring → (set : PlainSet) →
@@ -30,7 +26,7 @@ Adds-tick told ring last ticks old is are set calls stands =
       ticks_are = ap (λ n. n + 1) known.ticks_are;
     }
 
-none_moved : (a : ℤ) → pos 0 +ℤ a ≡ a
+pub none_moved : (a : ℤ) → pos 0 +ℤ a ≡ a
 none_moved a = omega (arith, ints)
 
 pub Adds-command : (told : PlainSet) (ring : List Kept) (last by : ℤ) (ticks : ℕ) (old : PlainAt) →
@@ -50,9 +46,6 @@ Adds-command told ring last by ticks old is resting set calls stands =
       ticks_are = known.ticks_are;
     }
 
-three : ℤ → ℤ → ℕ → Mark
-three est base ticks = record { est = est; base = base; ticks = ticks }
-
 none_since : (n : ℕ) → n - n ≡ 0
 none_since n = omega arith
 
@@ -61,7 +54,7 @@ pub Adds-measured : (told : PlainSet) (ring new : List Kept) (last : ℤ) (ticks
     new ≡ take told.ring (record { est = est; base = base; ticks = ticks; before = last } ∷ ring) → base ≡ base_of old.set round →
     (set : PlainSet) (t1 t2 t3 t4 : ℤ) → round ≡ round_of t1 t2 t3 t4 → est ≡ est_of t1 t2 t3 t4 →
     Adds (StandsFor set) old (record { set = told; ring = new; last = pos 0; ticks = ticks }) (CallMeasured t1 t2 t3 t4)
-unfolding three
+unfolding ticked
 Adds-measured told ring new last ticks est base round old is pushed based set t1 t2 t3 t4 rounds ests calls stands =
     let P : PlainAt → Type 0 = λ plain. StandsFor set plain calls in
     let known : StandsFor set (record { set = told; ring = ring; last = last; ticks = ticks }) calls = subst P (sym is) stands in
@@ -69,9 +62,9 @@ Adds-measured told ring new last ticks est base round old is pushed based set t1
     let est_is : est +ℤ pos 0 ≡ est_of t1 t2 t3 t4 +ℤ pos 0 = ap (λ (a : ℤ). a +ℤ pos 0) ests in
     let base_is : base ≡ base_of set (round_of t1 t2 t3 t4) =
     based ∙ ap (λ (s : PlainSet). base_of s round) stands.set_is ∙ ap (base_of set) rounds in
-    let mark_is : mark_of (pos 0) ticks kept ≡ three (est_of t1 t2 t3 t4 +ℤ pos 0) (base_of set (round_of t1 t2 t3 t4)) 0 =
-    ap (λ (a : ℤ). three a base (ticks - ticks)) est_is ∙ ap (λ (b : ℤ). three (est_of t1 t2 t3 t4 +ℤ pos 0) b (ticks - ticks)) base_is
-    ∙ ap (three (est_of t1 t2 t3 t4 +ℤ pos 0) (base_of set (round_of t1 t2 t3 t4))) (none_since ticks) in
+    let mark_is : mark_of (pos 0) ticks kept ≡ ticked (est_of t1 t2 t3 t4 +ℤ pos 0) (base_of set (round_of t1 t2 t3 t4)) 0 =
+    ap (λ (a : ℤ). ticked a base (ticks - ticks)) est_is ∙ ap (λ (b : ℤ). ticked (est_of t1 t2 t3 t4 +ℤ pos 0) b (ticks - ticks)) base_is
+    ∙ ap (ticked (est_of t1 t2 t3 t4 +ℤ pos 0) (base_of set (round_of t1 t2 t3 t4))) (none_since ticks) in
     let rest_are : marks_from (pos 0 +ℤ last) ticks ring ≡ take set.ring (marks set calls) =
     ap (λ (a : ℤ). marks_from a ticks ring) (none_moved last) ∙ known.marks_are in
     record {
@@ -80,7 +73,7 @@ Adds-measured told ring new last ticks est base round old is pushed based set t1
           ap (marks_from (pos 0) ticks) pushed ∙ marks_from-take (pos 0) ticks told.ring (kept ∷ ring)
           ∙ ap (λ (n : ℕ). take n (marks_from (pos 0) ticks (kept ∷ ring))) (ap (λ (s : PlainSet). s.ring) known.set_is)
           ∙ ap₂ (λ (m : Mark) (ms : List Mark). take set.ring (m ∷ ms)) mark_is rest_are
-          ∙ take-cons set.ring (three (est_of t1 t2 t3 t4 +ℤ pos 0) (base_of set (round_of t1 t2 t3 t4)) 0) (marks set calls);
+          ∙ take-cons set.ring (ticked (est_of t1 t2 t3 t4 +ℤ pos 0) (base_of set (round_of t1 t2 t3 t4)) 0) (marks set calls);
       ticks_are = known.ticks_are;
     }
 

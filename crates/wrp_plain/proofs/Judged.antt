@@ -1,7 +1,9 @@
 -- What an event that breaks no premise keeps.
 use Rattle.std.proofs.Common.{◌≡◌, ℕ, ℤ, pos, ◌+◌, ◌*◌, ◌/◌, ◌^◌, ◌≤◌, ◌≤ℤ◌, ◌-ℤ◌, unsigned_abs, Bool, true, false, int_lt, cond, List, [], ◌∷◌, Option, Some, None, Result, Ok, Err, refl, ap, ◌∙◌, sym, arith}
 use Rattle.std.proofs.lemmas.Int.{ints}
+use Rattle.wrp_base.proofs.Naturals.{nat_le_trans}
 use Rattle.std.proofs.Math.Nat.{mul-le-mul_left}
+use Rattle.wrp_base.proofs.Integers.{pos_le}
 use Rattle.wrp_plain.specs.declared.settings.PlainSet.{PlainSet}
 use Rattle.wrp_plain.specs.declared.event.PlainEvent.{PlainEvent}
 use Rattle.wrp_plain.specs.declared.event.PlainEvent.TheVariants.{Pass, Exch}
@@ -40,9 +42,6 @@ tail_none (Some broken) later e = absurd (cc e)
 abs_from_pos : (n : ℕ) (b : ℤ) → pos n ≤ℤ b → n ≤ unsigned_abs b
 abs_from_pos n b h = omega (arith, ints)
 
-from_pos : (n m : ℕ) → pos n ≤ℤ pos m → n ≤ m
-from_pos n m h = omega (arith, ints)
-
 -- time passes: no tick is late, and the offset moves slowly
 pub record KeepsPass (set : PlainSet) (since : ℕ) (dt drift : ℤ) : Type 0 where
   pub in_time : unsigned_abs dt + since ≤ unsigned_abs set.dmax
@@ -55,7 +54,7 @@ keeps_pass set off since dt drift e =
     let fast : rate_broken set dt drift ≡ None = head_none (rate_broken set dt drift) [] rest in
     record {
       in_time = abs_from_pos (unsigned_abs dt + since) set.dmax (over-none 1 (pos (unsigned_abs dt + since)) set.dmax late);
-      slow = from_pos (unsigned_abs drift * 10 ^ 12) (set.rate * unsigned_abs dt) (over-none 2 (pos (unsigned_abs drift * 10 ^ 12)) (pos (set.rate * unsigned_abs dt)) fast);
+      slow = pos_le (unsigned_abs drift * 10 ^ 12) (set.rate * unsigned_abs dt) (over-none 2 (pos (unsigned_abs drift * 10 ^ 12)) (pos (set.rate * unsigned_abs dt)) fast);
     }
 
 -- an exchange within the span moves the offset by no more than one of the whole span
@@ -69,14 +68,11 @@ move-span : (set : PlainSet) (span : ℤ) → pos 0 ≤ℤ span → span ≤ℤ 
 move-span set span h k =
     divided (set.rate * unsigned_abs span) (set.rate * unsigned_abs set.span) (mul-le-mul_left set.rate (longer span set.span h k))
 
-at_most : (a b c : ℕ) → a ≤ b → b ≤ c → a ≤ c
-at_most a b c h k = omega arith
-
 moved : (set : PlainSet) (off span at : ℤ) → pos 0 ≤ℤ span → span ≤ℤ set.span → move_broken set off span at ≡ None →
     unsigned_abs (at -ℤ off) ≤ exchange_move set
 moved set off span at h k e =
-    at_most (unsigned_abs (at -ℤ off)) (moves_within set.rate (unsigned_abs span)) (exchange_move set)
-    (from_pos (unsigned_abs (at -ℤ off)) (moves_within set.rate (unsigned_abs span))
+    nat_le_trans (unsigned_abs (at -ℤ off)) (moves_within set.rate (unsigned_abs span)) (exchange_move set)
+    (pos_le (unsigned_abs (at -ℤ off)) (moves_within set.rate (unsigned_abs span))
     (over-none 5 (pos (unsigned_abs (at -ℤ off))) (pos (moves_within set.rate (unsigned_abs span))) e))
     (move-span set span h k)
 
@@ -103,8 +99,8 @@ keeps_exchange set off since span dms dsm o2 o3 t positive e =
       least_up = below-none 4 dsm set.least (head_none (below 4 dsm set.least) [] (tail_none (below 4 dms set.least) (below 4 dsm set.least ∷ []) e2));
       moved_down = moved set off span o2 positive short (head_none (move_broken set off span o2) (move_broken set off span o3 ∷ []) e3);
       moved_up = moved set off span o3 positive short (head_none (move_broken set off span o3) [] (tail_none (move_broken set off span o2) (move_broken set off span o3 ∷ []) e3));
-      stamps_down = from_pos (unsigned_abs down) (2 * set.err) (over-none 6 (pos (unsigned_abs down)) (pos (2 * set.err)) (head_none (over 6 (pos (unsigned_abs down)) (pos (2 * set.err))) (over 6 (pos (unsigned_abs up)) (pos (2 * set.err)) ∷ []) e4));
-      stamps_up = from_pos (unsigned_abs up) (2 * set.err) (over-none 6 (pos (unsigned_abs up)) (pos (2 * set.err)) (head_none (over 6 (pos (unsigned_abs up)) (pos (2 * set.err))) [] (tail_none (over 6 (pos (unsigned_abs down)) (pos (2 * set.err))) (over 6 (pos (unsigned_abs up)) (pos (2 * set.err)) ∷ []) e4)));
+      stamps_down = pos_le (unsigned_abs down) (2 * set.err) (over-none 6 (pos (unsigned_abs down)) (pos (2 * set.err)) (head_none (over 6 (pos (unsigned_abs down)) (pos (2 * set.err))) (over 6 (pos (unsigned_abs up)) (pos (2 * set.err)) ∷ []) e4));
+      stamps_up = pos_le (unsigned_abs up) (2 * set.err) (over-none 6 (pos (unsigned_abs up)) (pos (2 * set.err)) (head_none (over 6 (pos (unsigned_abs up)) (pos (2 * set.err))) [] (tail_none (over 6 (pos (unsigned_abs down)) (pos (2 * set.err))) (over 6 (pos (unsigned_abs up)) (pos (2 * set.err)) ∷ []) e4)));
     }
 
 -- so its round trip is not short

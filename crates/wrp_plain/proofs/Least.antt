@@ -1,7 +1,9 @@
 -- The lesser of two reports, taken over a list, is the first of the least bound.
 use Rattle.std.proofs.Common.{◌≡◌, ◌≢◌, ℤ, ◌+◌, ◌*◌, ◌^◌, ◌≤◌, unsigned_abs, Bool, true, false, not, ◌&&◌, int_lt, cond, length, List, [], ◌∷◌, map, find, fold, Option, Some, None, IfSome, IsSome, rules, refl, ap, ap₂, ◌∙◌, sym, subst, arith}
 use Rattle.std.specs.List.{list_all}
+use Rattle.wrp_base.proofs.Booleans.{and_first as left_of, and_second as right_of}
 use Rattle.std.proofs.lemmas.Int.{ints}
+use Rattle.std.proofs.lemmas.Bool.{and_from}
 use Rattle.wrp_plain.specs.declared.settings.PlainReport.{PlainReport}
 use Rattle.wrp_plain.specs.declared.settings.PlainSet.{PlainSet}
 use Rattle.wrp_plain.specs.declared.kept.Kept.{Kept}
@@ -33,14 +35,6 @@ not_below b x r h k = grind (arith, ints)
 still_above : (b x r : ℤ) → int_lt x b ≡ false → not (int_lt r x) ≡ true → not (int_lt r b) ≡ true
 still_above b x r h k = grind (arith, ints)
 
-both_true : (a b : Bool) → a ≡ true → b ≡ true → (a && b) ≡ true
-both_true true b h k = k
-both_true false b h k = h
-
-right_of : (a b : Bool) → (a && b) ≡ true → b ≡ true
-right_of true b h = h
-right_of false b h = absurd (cc h)
-
 and_second : (a b : Bool) → (b ≡ true → a ≡ true) → (a && b) ≡ b
 and_second true true h = refl
 and_second true false h = refl
@@ -52,10 +46,6 @@ and_first true true c h = refl
 and_first true false c h = absurd (cc (h refl))
 and_first false b c h = refl
 
-left_of : (a b : Bool) → (a && b) ≡ true → a ≡ true
-left_of true b h = refl
-left_of false b h = h
-
 find_agree : {X : Type 0} (p q : X → Bool) → ((x : X) → p x ≡ q x) → (xs : List X) → find p xs ≡ find q xs
 find_agree p q agree [] = refl
 find_agree p q agree (x ∷ xs) = ap₂ (λ (b : Bool) (rest : Option _). cond b (Some x) rest) (agree x) (find_agree p q agree xs)
@@ -65,7 +55,7 @@ least_chain : (b x : ℤ) → int_lt x b ≡ false → (rs : List PlainReport) �
     list_all (λ s. not (int_lt s.bound x)) rs ≡ true → list_all (λ s. not (int_lt s.bound b)) rs ≡ true
 least_chain b x h [] all = refl
 least_chain b x h (r ∷ rs) all =
-    both_true _ _ (still_above b x r.bound h (left_of _ _ all)) (least_chain b x h rs (right_of _ _ all))
+    and_from _ _ (still_above b x r.bound h (left_of _ _ all)) (least_chain b x h rs (right_of _ _ all))
 
 skip : {X : Type 0} (at_b at_x : Bool) (b x : X) (rest : Option X) → (at_x ≡ true → at_b ≡ true) →
     cond at_b (Some b) (cond at_x (Some x) rest) ≡ cond at_b (Some b) rest
@@ -100,7 +90,7 @@ step_not_less b x rs less =
     (λ r. and_first (not (int_lt b.bound r.bound)) (not (int_lt x.bound r.bound)) (list_all (λ (s : PlainReport). not (int_lt s.bound r.bound)) rs) (λ above. not_below b.bound x.bound r.bound less above))
     (b ∷ (x ∷ rs))
     ∙ skip (is_least (b ∷ rs) b) (is_least (b ∷ rs) x) b x (find (is_least (b ∷ rs)) rs)
-    (λ at_x. both_true _ _ (ap not (lt_same b.bound)) (least_chain b.bound x.bound less rs (right_of _ _ at_x))))
+    (λ at_x. and_from _ _ (ap not (lt_same b.bound)) (least_chain b.bound x.bound less rs (right_of _ _ at_x))))
 
 by_case : (b x : PlainReport) (rs : List PlainReport) →
     fold better (Some x) rs ≡ find (is_least (x ∷ rs)) (x ∷ rs) → fold better (Some b) rs ≡ find (is_least (b ∷ rs)) (b ∷ rs) →

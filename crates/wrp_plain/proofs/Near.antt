@@ -2,7 +2,9 @@
 use Rattle.std.proofs.Common.{◌≡◌, ℕ, ℤ, pos, ◌+◌, ◌*◌, ◌^◌, ◌≤◌, ◌≤ℤ◌, ◌+ℤ◌, ◌-ℤ◌, unsigned_abs, List, [], ◌∷◌, map, All, None, sym, subst, arith}
 use Rattle.std.proofs.lemmas.Int.{ints}
 use Rattle.std.proofs.lemmas.List.Elements.{All-cons, All-weaker, All-map, All-same}
+use Rattle.wrp_base.proofs.Naturals.{nat_le_trans, plus_zero}
 use Rattle.std.proofs.Math.Nat.{mul-le-mul_left, mul-add}
+use Rattle.wrp_base.proofs.Integers.{int_plus_zero}
 use Rattle.wrp_plain.specs.declared.settings.PlainSet.{PlainSet}
 use Rattle.wrp_plain.specs.declared.event.PlainEvent.{PlainEvent}
 use Rattle.wrp_plain.specs.declared.event.PlainEvent.TheVariants.{Pass, Tick, Exch}
@@ -45,24 +47,18 @@ near-pass set off since dt drift keeps mark is = record {
 one_more : (ticks dmax since : ℕ) → since ≤ dmax → ticks * dmax + since ≤ (ticks + 1) * dmax
 one_more ticks dmax since h = grind arith
 
-none_since : (n : ℕ) → n + 0 ≡ n
-none_since n = omega arith
-
-at_most : (a b c : ℕ) → a ≤ b → b ≤ c → a ≤ c
-at_most a b c h k = omega arith
-
 -- by the next tick the rate gives no more than for one tick more
 pub by_next : (rate ticks dmax since more : ℕ) → since ≤ dmax → more * 10 ^ 12 ≤ rate * (ticks * dmax + since) →
     more * 10 ^ 12 ≤ rate * ((ticks + 1) * dmax)
 by_next rate ticks dmax since more h slow =
-    at_most (more * 10 ^ 12) (rate * (ticks * dmax + since)) (rate * ((ticks + 1) * dmax)) slow (mul-le-mul_left rate (one_more ticks dmax since h))
+    nat_le_trans (more * 10 ^ 12) (rate * (ticks * dmax + since)) (rate * ((ticks + 1) * dmax)) slow (mul-le-mul_left rate (one_more ticks dmax since h))
 
 pub near-tick : (set : PlainSet) (off : ℤ) (since : ℕ) → since ≤ unsigned_abs set.dmax → (mark : Mark) →
     IsNear set off since mark → IsNear set off 0 (later mark)
 near-tick set off since h mark is = record {
   more = is.more;
   near = is.near;
-  slow = rw (none_since ((mark.ticks + 1) * unsigned_abs set.dmax)) (by_next set.rate mark.ticks (unsigned_abs set.dmax) since is.more h is.slow);
+  slow = rw (plus_zero ((mark.ticks + 1) * unsigned_abs set.dmax)) (by_next set.rate mark.ticks (unsigned_abs set.dmax) since is.more h is.slow);
 }
 
 both_moved : (est off by : ℤ) → (est +ℤ by) -ℤ (off +ℤ by) ≡ est -ℤ off
@@ -73,9 +69,6 @@ pub near-command : (set : PlainSet) (off by : ℤ) (since : ℕ) (mark : Mark) �
 near-command set off by since mark is =
     let P : ℤ → Type 0 = λ a. pos (unsigned_abs a) ≤ℤ (mark.base +ℤ pos is.more) in
     record { more = is.more; near = subst P (sym (both_moved mark.est off by)) is.near; slow = is.slow }
-
-plus_none : (a : ℤ) → a +ℤ pos 0 ≡ a
-plus_none a = omega (arith, ints)
 
 nothing : (n : ℕ) → 0 * 10 ^ 12 ≤ n
 nothing n = omega arith
@@ -88,7 +81,7 @@ near-measured set off since t1 t2 t3 t4 h =
     let Q : ℤ → Type 0 = λ b. pos (unsigned_abs (est_of t1 t2 t3 t4 -ℤ off)) ≤ℤ b in
     record {
       more = 0;
-      near = subst P (sym (plus_none (est_of t1 t2 t3 t4))) (subst Q (sym (plus_none (base_of set (round_of t1 t2 t3 t4)))) h);
+      near = subst P (sym (int_plus_zero (est_of t1 t2 t3 t4))) (subst Q (sym (int_plus_zero (base_of set (round_of t1 t2 t3 t4)))) h);
       slow = nothing (set.rate * (0 * unsigned_abs set.dmax + since));
     }
 
@@ -106,9 +99,6 @@ drifted off moved drift by = omega (arith, ints)
 
 pub steered : (off moved by command : ℤ) → ((off +ℤ moved) +ℤ by) +ℤ command ≡ (off +ℤ moved) +ℤ (by +ℤ command)
 steered off moved by command = omega (arith, ints)
-
-none_first : (a : ℤ) → pos 0 +ℤ a ≡ a
-none_first a = omega (arith, ints)
 
 -- a command moves all of them with the clock
 after_command : (set : PlainSet) (off by : ℤ) (since : ℕ) (calls : List Call) →

@@ -1,8 +1,9 @@
 -- What the report of an accepted event is worth.
-use Rattle.std.proofs.Common.{◌≡◌, ◌≢◌, ℕ, zero, suc, ℤ, pos, ◌+◌, ◌*◌, ◌/◌, ◌≤◌, ◌≤ℤ◌, ◌+ℤ◌, ◌-ℤ◌, unsigned_abs, Bool, true, false, not, ◌&&◌, int_lt, cond, List, [], ◌∷◌, take, find, All, Contains, Option, Some, None, IfSome, refl, subst, arith}
+use Rattle.std.proofs.Common.{◌≡◌, ◌≢◌, ℕ, zero, suc, ℤ, pos, ◌+◌, ◌*◌, ◌/◌, ◌≤◌, ◌≤ℤ◌, ◌+ℤ◌, ◌-ℤ◌, unsigned_abs, Bool, true, false, not, int_lt, cond, List, [], ◌∷◌, take, find, All, Contains, Option, Some, None, IfSome, refl, subst, arith}
 use Rattle.std.specs.List.{list_all}
 use Rattle.std.proofs.lemmas.Int.{ints}
 use Rattle.std.proofs.lemmas.List.Elements.{All-cons, All-weaker, All-map, All-take, All-contains}
+use Rattle.wrp_base.proofs.Booleans.{and_first, and_second}
 use Rattle.wrp_plain.specs.declared.settings.PlainSet.{PlainSet}
 use Rattle.wrp_plain.specs.declared.settings.PlainReport.{PlainReport}
 use Rattle.wrp_plain.specs.declared.event.PlainEvent.{PlainEvent}
@@ -70,14 +71,6 @@ passed : {X : Type 0} (p : X → Bool) (xs : List X) (x : X) → find p xs ≡ S
 passed p [] x e = absurd (cc e)
 passed p (y ∷ ys) x e = passed_at p y ys x (passed p ys x) (p y) refl e
 
-left_of : (a b : Bool) → (a && b) ≡ true → a ≡ true
-left_of true b h = refl
-left_of false b h = h
-
-right_of : (a b : Bool) → (a && b) ≡ true → b ≡ true
-right_of true b h = h
-right_of false b h = absurd (cc h)
-
 not_less : (a b : ℤ) → not (int_lt a b) ≡ true → b ≤ℤ a
 not_less a b h = grind (arith, ints)
 
@@ -88,8 +81,8 @@ none_less : (reports : List PlainReport) (report : PlainReport) → is_least rep
 none_less [] report h = nothing_less report
 none_less (r ∷ rs) report h =
     All-cons (λ (s : PlainReport). report.bound ≤ℤ s.bound) r rs
-    (not_less r.bound report.bound (left_of (not (int_lt r.bound report.bound)) (list_all (λ (s : PlainReport). not (int_lt s.bound report.bound)) rs) h))
-    (none_less rs report (right_of (not (int_lt r.bound report.bound)) (list_all (λ (s : PlainReport). not (int_lt s.bound report.bound)) rs) h))
+    (not_less r.bound report.bound (and_first (not (int_lt r.bound report.bound)) (list_all (λ (s : PlainReport). not (int_lt s.bound report.bound)) rs) h))
+    (none_less rs report (and_second (not (int_lt r.bound report.bound)) (list_all (λ (s : PlainReport). not (int_lt s.bound report.bound)) rs) h))
 
 -- the report that is due keeps its bound, and has the least one
 least_within : (off : ℤ) (reports : List PlainReport) → All (IsWithinBound off) reports → (o : Option PlainReport) → least_report reports ≡ o →

@@ -1,6 +1,5 @@
 -- The delays of a slave port in WR_LINK_ON are those that its master told in this handshake.
-use Rattle.std.proofs.Common.{◌≡◌, ◌∙◌, ap, sym, subst, refl, ℕ, Bool, true, false, is_some, List, Option, None, Some, IfSome}
-use Rattle.wrp_base.specs.declared.link.Deltas.{Deltas}
+use Rattle.std.proofs.Common.{◌≡◌, ◌∙◌, ap, sym, subst, refl, ℕ, true, is_some, List, Option, None, Some, IfSome}
 use Rattle.wrp_base.specs.declared.link.LinkState.{LinkState}
 use Rattle.wrp_base.specs.declared.link.LinkState.TheVariants.{LinkOn}
 use Rattle.wrp_base.specs.declared.link.Module.{Module}

@@ -1,11 +1,12 @@
 -- One more input: looking back finds what the input makes of the line that stood before it.
-use Rattle.std.proofs.Common.{◌≡◌, ◌∙◌, ap, sym, subst, refl, ℕ, ◌+◌, ◌-◌, ◌*◌, ◌/◌, ◌%◌, Bool, true, false, if◌then◌else◌, ◌&&◌, List, [], ◌∷◌, length, Option, None, Some, arith}
-use Rattle.std.proofs.Math.Nat.{zero-mod, div-add-mod, mul-add-mod_self_left}
+use Rattle.std.proofs.Common.{◌≡◌, ◌∙◌, ap, sym, subst, refl, ℕ, ◌+◌, ◌-◌, ◌%◌, Bool, true, false, if◌then◌else◌, ◌&&◌, List, ◌∷◌, length, Option, None, Some, arith}
+use Rattle.std.proofs.Math.Nat.{zero-mod}
 use Rattle.std.specs.Option.{option_map, is_none}
 use Rattle.wrp_base.specs.Calls.{Adds}
 use Rattle.wrp_base.specs.declared.link.Role.{Role}
 use Rattle.wrp_base.specs.declared.link.Role.TheVariants.{Master, Slave}
 use Rattle.wrp_base.specs.declared.message.PtpMsg.{PtpMsg}
+use Rattle.wrp_base.proofs.Naturals.{turn_mod}
 use Rattle.wrp_data.specs.declared.reason.Reason.{Reason}
 use Rattle.wrp_exch.specs.Call.{Call}
 use Rattle.wrp_exch.specs.Exchange.{StandsFor as ExchangeStandsFor}
@@ -35,12 +36,6 @@ next-mod false n = refl
 signal-mod : (n more : ℕ) → (n % 65536 + more) % 65536 ≡ (n + more) % 65536
 signal-mod n more = omega arith
 
-turn-mod : (n k : ℕ) → (k % n + 1) % n ≡ (k + 1) % n
-turn-mod n k =
-    let whole : n * (k / n) + k % n ≡ k = div-add-mod k n in
-    let grouped : n * (k / n) + (k % n + 1) ≡ k + 1 = omega arith in
-    sym (mul-add-mod_self_left n (k / n) (k % n + 1)) ∙ ap (λ x. x % n) grouped
-
 -- ---- the schedule
 
 abbrev turns_of : Sched → ℕ → Turns
@@ -50,7 +45,7 @@ turns-none : (sched : Sched) → turns_of sched 0 ≡ first_turns
 turns-none sched = λ i. record { announce = zero-mod sched.announce i; sync = zero-mod sched.sync i; delay = zero-mod sched.delay i }
 
 turns-next : (sched : Sched) (k : ℕ) → next_turns sched (turns_of sched k) ≡ turns_of sched (k + 1)
-turns-next sched k = λ i. record { announce = turn-mod sched.announce k i; sync = turn-mod sched.sync k i; delay = turn-mod sched.delay k i }
+turns-next sched k = λ i. record { announce = turn_mod sched.announce k i; sync = turn_mod sched.sync k i; delay = turn_mod sched.delay k i }
 
 turns-while : (sched : Sched) (l : LinkAt) (k : ℕ) → turns_while l (turns_of sched k) ≡ turns_of sched (while_open l k)
 turns-while sched l k =

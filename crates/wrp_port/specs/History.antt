@@ -1,5 +1,5 @@
 -- What stands at a port after a list of inputs, by looking back over the list from the newest: the inputs that reached its link, the lease, the ticks of its schedule, how many messages of each kind it sent, and the pieces that reached its exchange (this project's profile).
-use Rattle.std.specs.Prelude.{ℕ, ◌+◌, ◌-◌, ◌%◌, ◌==◌, ◌&&◌, Bool, true, false, if◌then◌else◌, nat_lt, List, [], ◌∷◌, length, option_map, Option, None, Some}
+use Rattle.std.specs.Prelude.{ℕ, ◌+◌, ◌-◌, ◌%◌, ◌&&◌, Bool, true, false, if◌then◌else◌, nat_lt, List, [], ◌∷◌, length, option_map, Option, None, Some}
 use Rattle.std.specs.Option.{is_none}
 use Rattle.wrp_base.specs.declared.message.PtpMsg.{PtpMsg}
 use Rattle.wrp_base.specs.declared.link.Role.{Role}
@@ -11,7 +11,7 @@ use Rattle.wrp_link.specs.declared.interface.LinkIn.TheVariants as link
 use Rattle.wrp_link.specs.LinkAt.{LinkAt, new_link}
 use Rattle.wrp_link.specs.Table.{after as link_after, run_of, sends_of}
 use Rattle.wrp_port.specs.declared.interface.PortIn.{PortIn}
-use Rattle.wrp_port.specs.declared.interface.PortIn.TheVariants.{Msg, Lease, Tick, Sent, Carrier, Sample, Chain, Reset}
+use Rattle.wrp_port.specs.declared.interface.PortIn.TheVariants.{Msg, Lease, Tick, Carrier, Reset}
 use Rattle.wrp_port.specs.declared.line.Line.{Line}
 use Rattle.wrp_port.specs.declared.setting.Setting.{Setting}
 use Rattle.wrp_port.specs.Hearing.{is_open, early_reason, link_input, renews}

@@ -9,7 +9,7 @@ use Rattle.wrp_link.specs.declared.interface.LinkIn.TheVariants as link
 use Rattle.wrp_link.specs.LinkAt.{LinkAt, new_link}
 use Rattle.wrp_link.specs.Table.{after as link_after, sends_of}
 use Rattle.wrp_port.specs.declared.interface.PortIn.{PortIn}
-use Rattle.wrp_port.specs.declared.interface.PortIn.TheVariants.{Msg, Lease, Tick, Sent, Carrier, Sample, Chain, Reset}
+use Rattle.wrp_port.specs.declared.interface.PortIn.TheVariants.{Msg, Lease, Tick, Carrier, Reset}
 use Rattle.wrp_port.specs.declared.interface.Sched.{Sched}
 use Rattle.wrp_port.specs.declared.line.Ids.{Ids}
 use Rattle.wrp_port.specs.declared.line.Line.{Line}

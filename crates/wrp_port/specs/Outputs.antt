@@ -25,7 +25,7 @@ use Rattle.wrp_link.specs.declared.interface.LinkIn.TheVariants as link
 use Rattle.wrp_link.specs.LinkAt.{LinkAt}
 use Rattle.wrp_link.specs.Table.{sends_of as link_sends_of, is_used, place_of as place_of_state}
 use Rattle.wrp_port.specs.declared.interface.PortIn.{PortIn}
-use Rattle.wrp_port.specs.declared.interface.PortIn.TheVariants.{Msg, Lease, Tick, Sent, Carrier, Sample, Chain, Reset}
+use Rattle.wrp_port.specs.declared.interface.PortIn.TheVariants.{Msg, Tick, Sent, Sample, Chain, Reset}
 use Rattle.wrp_port.specs.declared.line.Line.{Line}
 use Rattle.wrp_port.specs.declared.setting.Setting.{Setting}
 use Rattle.wrp_port.specs.Hearing.{is_open, early_reason, link_input, piece_of, is_of_use}

@@ -2,7 +2,7 @@
 use Rattle.std.proofs.Common.{◌≡◌, ◌∙◌, refl, ap, ap₂, sym, subst, append_assoc, append-nil, ℕ, ℤ, ◌==◌, Bool, true, false, if◌then◌else◌, List, [], ◌∷◌, ◌++◌, map, flat_map, Option, None, Some, Result}
 use Rattle.std.specs.List.{AllByRecursion, concat, filter}
 use Rattle.std.specs.Option.{option_map_or}
-use Rattle.std.proofs.lemmas.Bool.{eq-eqb, eqb-true}
+use Rattle.std.proofs.lemmas.Bool.{eqb-true}
 use Rattle.std.proofs.lemmas.Grind.{flat_map-append}
 use Rattle.std.proofs.lemmas.List.Elements.{filter-append}
 use Rattle.std.proofs.lemmas.List.Folds.{flat_map-map}
@@ -13,6 +13,7 @@ use Rattle.wrp_base.specs.declared.message.Body.{Body}
 use Rattle.wrp_base.specs.declared.message.Body.TheVariants.{Sync, DelayReq, FollowUp, DelayResp, Announce, Signal}
 use Rattle.wrp_base.specs.declared.message.PtpMsg.{PtpMsg}
 use Rattle.wrp_base.specs.Network.{End}
+use Rattle.wrp_base.proofs.Naturals.{eq_self}
 use Rattle.wrp_caldb.specs.Database.{Database}
 use Rattle.wrp_frame.specs.declared.fault.FrameFault.{FrameFault}
 use Rattle.wrp_node.proofs.StepLaws.{ticks_are_counted}
@@ -28,6 +29,7 @@ use Rattle.wrp_trace.specs.Site.{Site}
 use Rattle.wrp_world.specs.declared.event.Event.{Event}
 use Rattle.wrp_world.specs.declared.event.Event.TheVariants.{Pass, Tick, Sample, Depart, Arrive, Deliver, Noise, Down, Up, Cut, Join}
 use Rattle.wrp_world.specs.declared.place.Place.{Place}
+use Rattle.wrp_world.proofs.Departing.{turned_about}
 use Rattle.wrp_world.specs.Given.{Given, NodeStepAt, at_ports, comes_at, comes_from, delivered, delivered_by, delivered_to, given_by, given_plain, gives, gives_all, goes_at, goes_from, if_carried, node_step_of, sent_oldest, step_of, steps_of, taken_of, told_sending}
 use Rattle.wrp_world.specs.Moved.{moved, waiting_at}
 use Rattle.wrp_world.specs.Run.{Happened, steps_at, world_after}
@@ -44,18 +46,6 @@ use Rattle.wrp_projection.proofs.Written.{record_of, records_of, written}
 
 -- Numbers
 
-same_number : (n : ℕ) → (n == n) ≡ true
-same_number n = eq-eqb n n refl
-
-flip_by : (a b : ℕ) (p q : Bool) → (a == b) ≡ p → (b == a) ≡ q → p ≡ q
-flip_by a b true true e f = refl
-flip_by a b false false e f = refl
-flip_by a b true false e f = absurd (let both : false ≡ true = sym f ∙ eq-eqb b a (sym (eqb-true a b e)) in cc)
-flip_by a b false true e f = absurd (let both : false ≡ true = sym e ∙ eq-eqb a b (sym (eqb-true b a f)) in cc)
-
-flip : (a b : ℕ) → (a == b) ≡ (b == a)
-flip a b = flip_by a b (a == b) (b == a) refl refl
-
 -- The record lines of what a node is given
 
 one_by : (site : Site) (b : Bool) (t : Taken) (inputs : List Taken) → concat (records_of site inputs) ++ (if b then line_of site t.input ++ 10 ∷ [] else []) ≡ concat (records_of site (if b then t ∷ inputs else inputs))
@@ -65,7 +55,7 @@ one_by site false t inputs = append-nil (concat (records_of site inputs))
 given_one : (s : Setting) (n : ℕ) (y : ℤ) (v : WorldAt) (g : Given) →
     concat (records_of (node_in s n) (v.inputs n)) ++ given_line s n (node_step_of s y v g) ≡ concat (records_of (node_in s n) ((gives s y v g).inputs n))
 given_one s n y v g =
-    ap (λ (b : Bool). concat (records_of (node_in s n) (v.inputs n)) ++ (if b then line_of (node_in s n) g.input ++ 10 ∷ [] else [])) (flip g.to n)
+    ap (λ (b : Bool). concat (records_of (node_in s n) (v.inputs n)) ++ (if b then line_of (node_in s n) g.input ++ 10 ∷ [] else [])) (turned_about g.to n)
     ∙ one_by (node_in s n) (n == g.to) (taken_of y g) (v.inputs n)
 
 given_all : (s : Setting) (n : ℕ) (y : ℤ) (v : WorldAt) (gs : List Given) →
@@ -240,10 +230,10 @@ own_step cfg db y v w g made ticks =
     let site : Site = node_in s g.to in
     let t : Taken = taken_of y g in
     let outs : List Output = (node_step_of s y v g).outs in
-    let all : of_node g.to (put_in w (node_step_of s y v g)) ≡ put_in w (node_step_of s y v g) = const_filter (λ x. x.node == g.to) (put_at w g.to) true (λ o. same_number g.to) outs in
+    let all : of_node g.to (put_in w (node_step_of s y v g)) ≡ put_in w (node_step_of s y v g) = const_filter (λ x. x.node == g.to) (put_at w g.to) true (λ o. eq_self g.to) outs in
     let lines : flat_map (replay_line cfg) (put_in w (node_step_of s y v g)) ≡ output_lines site (w.node g.to).ticks outs = flat_map-map (replay_line cfg) (put_at w g.to) outs in
     let after : (step_of s y v g).node ≡ node_after (fixed_at site) (t ∷ v.inputs g.to) = ap (λ (node : NodeAt). (node_step (fixed_of s g.to) t node).node) (made g.to) in
-    let given : (gives s y v g).node g.to ≡ (step_of s y v g).node = ap (λ (b : Bool). if b then (step_of s y v g).node else v.node g.to) (same_number g.to) in
+    let given : (gives s y v g).node g.to ≡ (step_of s y v g).node = ap (λ (b : Bool). if b then (step_of s y v g).node else v.node g.to) (eq_self g.to) in
     let tick : (w.node g.to).ticks ≡ (node_after (fixed_at site) (t ∷ v.inputs g.to)).ticks = sym ticks ∙ ap (λ (node : NodeAt). node.ticks) (given ∙ after) in
     let put : outs ≡ outputs_at (fixed_at site) (v.inputs g.to) t = ap (λ (node : NodeAt). outputs_of (fixed_of s g.to) g.input node (node_step (fixed_of s g.to) t node)) (made g.to) in
     ap (λ (l : List ℕ). written site (v.inputs g.to) ++ l) (ap (flat_map (replay_line cfg)) all ∙ lines ∙ ap₂ (output_lines site) tick put)
@@ -264,10 +254,10 @@ own_one cfg db y v w g n made ticks = go (n == g.to) refl
         let same : n ≡ g.to = eqb-true n g.to is in
         subst (Own cfg db y v w g) (sym same)
         (own_step cfg db y v w g made (subst (λ m. ((gives s y v g).node m).ticks ≡ (w.node m).ticks) same ticks)
-        ∙ ap (λ (b : Bool). written (node_in s g.to) (if b then taken_of y g ∷ v.inputs g.to else v.inputs g.to)) (sym (same_number g.to)))
+        ∙ ap (λ (b : Bool). written (node_in s g.to) (if b then taken_of y g ∷ v.inputs g.to else v.inputs g.to)) (sym (eq_self g.to)))
     go false is =
         ap (λ (xs : List PutOut). written (node_in s n) (v.inputs n) ++ flat_map (replay_line cfg) xs)
-        (const_filter (λ x. x.node == n) (put_at w g.to) false (λ o. flip g.to n ∙ is) (node_step_of s y v g).outs)
+        (const_filter (λ x. x.node == n) (put_at w g.to) false (λ o. turned_about g.to n ∙ is) (node_step_of s y v g).outs)
         ∙ append-nil (written (node_in s n) (v.inputs n))
         ∙ ap (λ (b : Bool). written (node_in s n) (if b then taken_of y g ∷ v.inputs n else v.inputs n)) (sym is)
 

@@ -11,6 +11,7 @@ use Rattle.std.proofs.lemmas.Option.{slice_get-map}
 use Rattle.wrp_base.specs.declared.configuration.NetCfg.{NetCfg}
 use Rattle.wrp_base.specs.declared.network.NodeCfg.{NodeCfg}
 use Rattle.wrp_base.specs.Network.{node_count}
+use Rattle.wrp_base.proofs.Lists.{all_append}
 use Rattle.wrp_bounds.specs.Bounds.{path_of}
 use Rattle.wrp_caldb.specs.Name.{is_name, same_name}
 use Rattle.wrp_config.proofs.Lists.{found_place}
@@ -32,7 +33,6 @@ use Rattle.wrp_run.specs.NodeText.{node_counts, nonzero_line, port_counts, port_
 use Rattle.wrp_run.proofs.Reaching.{lines_alone}
 use Rattle.wrp_projection.specs.Projection.{IsProjection, PutOut, audit_line, begins_with, lines_of_node, node_of, of_node, replay_line, without_truth, words_of}
 use Rattle.wrp_projection.proofs.Texts.{AreWords, IsWord, cut_back, decimal_word, hex_word, line_whole, link_is_word, name_word, reason_is_word, servo_is_word, signed_word, words_back}
-use Rattle.wrp_projection.proofs.Written.{all_and}
 
 -- A line of a node, and what of it is shown without the true offset
 record Entry : Type 0 where
@@ -75,7 +75,7 @@ shown_one cfg n e is = record { es = e ∷ []; lines = (is, tt); full = sym (app
 shown_both : (cfg : NetCfg) (n : ℕ) (full other short more : List ℕ) → Shown cfg n full short → Shown cfg n other more → Shown cfg n (full ++ other) (short ++ more)
 shown_both cfg n full other short more a b = record {
   es = a.es ++ b.es;
-  lines = all_and (IsLine cfg) a.es b.es a.lines b.lines;
+  lines = all_append (IsLine cfg) a.es b.es a.lines b.lines;
   full = ap₂ (λ (x y : List ℕ). x ++ y) a.full b.full ∙ sym (concat-append (map full_of a.es) (map full_of b.es)) ∙ ap concat (sym (map-append full_of a.es b.es));
   short = ap₂ (λ (x y : List ℕ). x ++ y) a.short b.short ∙ sym (concat-append (map short_of (filter (is_own n) a.es)) (map short_of (filter (is_own n) b.es)))
       ∙ ap concat (sym (map-append short_of (filter (is_own n) a.es) (filter (is_own n) b.es)))

@@ -7,6 +7,7 @@ use Rattle.std.proofs.lemmas.List.{map-append, reverse-append, reverse-reverse}
 use Rattle.wrp_base.specs.declared.fault.TraceFault.{TraceFault}
 use Rattle.wrp_base.specs.declared.fault.TraceFault.TheVariants.{Fields}
 use Rattle.wrp_base.specs.Lines.{parts_of}
+use Rattle.wrp_base.proofs.Lists.{all_append}
 use Rattle.wrp_node.proofs.OneRun.{before_step}
 use Rattle.wrp_node.specs.declared.interface.Input.{Input}
 use Rattle.wrp_node.specs.NodeAt.{Taken, settings_of}
@@ -41,13 +42,9 @@ said_of site (t ∷ before) = said_of site before ++ line_of site t.input ∷ []
 abbrev pub AllRecorded : Site → List Taken → Type 0
 AllRecorded site inputs = AllByRecursion (λ (t : Taken). IsRecorded site t.input) inputs
 
-pub all_and : {A : Type 0} (P : A → Type 0) (xs ys : List A) → AllByRecursion P xs → AllByRecursion P ys → AllByRecursion P (xs ++ ys)
-all_and P [] ys h k = k
-all_and P (x ∷ xs) ys h k = (h.0, all_and P xs ys h.1 k)
-
 pub all_turned : {A : Type 0} (P : A → Type 0) (xs : List A) → AllByRecursion P xs → AllByRecursion P (reverse xs)
 all_turned P [] h = tt
-all_turned P (x ∷ xs) h = subst (AllByRecursion P) (sym (reverse-append (x ∷ []) xs)) (all_and P (reverse xs) (x ∷ []) (all_turned P xs h.1) (h.0, tt))
+all_turned P (x ∷ xs) h = subst (AllByRecursion P) (sym (reverse-append (x ∷ []) xs)) (all_append P (reverse xs) (x ∷ []) (all_turned P xs h.1) (h.0, tt))
 
 -- A line that is read is plain
 
@@ -104,7 +101,7 @@ record_whole site t recorded =
 
 pub whole_records : (site : Site) (inputs : List Taken) → AllRecorded site inputs → AllByRecursion IsWhole (records_of site inputs)
 whole_records site [] h = tt
-whole_records site (t ∷ before) h = all_and IsWhole (records_of site before) (record_of site t ∷ []) (whole_records site before h.1) (record_whole site t h.0, tt)
+whole_records site (t ∷ before) h = all_append IsWhole (records_of site before) (record_of site t ∷ []) (whole_records site before h.1) (record_whole site t h.0, tt)
 
 record_within : (site : Site) (t : Taken) → IsRecorded site t.input → IsWithin (record_of site t)
 record_within site t recorded =
@@ -114,7 +111,7 @@ record_within site t recorded =
 
 pub within_records : (site : Site) (inputs : List Taken) → AllRecorded site inputs → AllByRecursion IsWithin (records_of site inputs)
 within_records site [] h = tt
-within_records site (t ∷ before) h = all_and IsWithin (records_of site before) (record_of site t ∷ []) (within_records site before h.1) (record_within site t h.0, tt)
+within_records site (t ∷ before) h = all_append IsWithin (records_of site before) (record_of site t ∷ []) (within_records site before h.1) (record_within site t h.0, tt)
 
 pub said_records : (site : Site) (inputs : List Taken) → AllRecorded site inputs → map content_of (records_of site inputs) ≡ said_of site inputs
 said_records site [] h = refl

@@ -10,6 +10,7 @@ use Rattle.byteorder.specs.Numbers.{big_from-lt}
 use Rattle.hex.specs.Hex.{decode_of}
 use Rattle.hex.specs.declared.error.FromHexError.{FromHexError}
 use Rattle.hex.proofs.HexLemmas.{decode_of-ok}
+use Rattle.std.proofs.lemmas.Option.{same_Some}
 use Rattle.wrp_base.specs.declared.configuration.NetCfg.{NetCfg}
 use Rattle.wrp_base.specs.declared.fault.TraceFault.{TraceFault}
 use Rattle.wrp_base.specs.declared.fault.TraceFault.TheVariants.{Fields}
@@ -43,9 +44,6 @@ done x = Ok x
 ok_same : {A : Type 0} (x y : A) → done x ≡ done y → x ≡ y
 ok_same x y e = cc
 
-some_same : {A : Type 0} (x y : A) → Some x ≡ Some y → x ≡ y
-some_same x y e = cc
-
 pub record Bound {A B : Type 0} (read : Result A TraceFault) (next : A → Result B TraceFault) (y : B) : Type 0 where
   pub value : A
   pub is : read ≡ Ok value
@@ -63,7 +61,7 @@ read_some (Some y) fault x e = ap (λ z. Some z) (ok_same y x e)
 
 kept_by : (a b : Bool) (least greatest m n : ℕ) → nat_le least m ≡ a → nat_le m greatest ≡ b → option_map unsigned_abs (if a && b then Some (pos m) else None) ≡ Some n → (least ≤ n) × (n ≤ greatest)
 kept_by true true least greatest m n p q e =
-    let same : m ≡ n = some_same m n e in
+    let same : m ≡ n = same_Some m n e in
     let low : least ≤ m = leb-true least m p in
     let high : m ≤ greatest = leb-true m greatest q in
     (omega (arith, same, low), omega (arith, same, high))
@@ -85,7 +83,7 @@ number_range least greatest place n fields e =
 whole_by : (b : Bool) (n : ℕ) (z : ℤ) → (n % 1_000 == 0) ≡ b → n ≤ 2 ^ 92 → (if b then Some (pos n) else None) ≡ Some z → IsTime z
 whole_by true n z whole most e =
     let least : pos 0 ≤ℤ pos n = omega (arith, ints) in
-    subst IsTime (some_same (pos n) z e) (record { least = least; greatest = most; whole = eqb-true (n % 1_000) 0 whole })
+    subst IsTime (same_Some (pos n) z e) (record { least = least; greatest = most; whole = eqb-true (n % 1_000) 0 whole })
 whole_by false n z whole most e = absurd (cc)
 
 time_by : (z : ℤ) (text : List ℕ) (o : Option ℕ) → natural_in 0 4_951_760_157_141_521_099_596_496_896 text ≡ o → option_and_then (λ n. if n % 1_000 == 0 then Some (pos n) else None) o ≡ Some z → IsTime z
@@ -117,7 +115,7 @@ raw_range place raw fields e =
 -- Octets
 
 few_by : (b : Bool) (octets o : List ℕ) → nat_le (length octets) 256 ≡ b → (if b then Some octets else None) ≡ Some o → (octets ≡ o) × (length octets ≤ 256)
-few_by true octets o is e = (some_same octets o e, leb-true (length octets) 256 is)
+few_by true octets o is e = (same_Some octets o e, leb-true (length octets) 256 is)
 few_by false octets o is e = absurd (cc)
 
 octets_by : (text : List ℕ) (read : Result (List ℕ) FromHexError) (octets : List ℕ) → decode_of text ≡ read → option_and_then few (result_ok read) ≡ Some octets → FitsFrame octets
@@ -132,7 +130,7 @@ octets_fit text octets e = octets_by text (decode_of text) octets refl e
 frame_by : (text : List ℕ) (o : Option (List ℕ)) (frame : ArrayVec ℕ) → octets_of text ≡ o → option_map (λ (octets : List ℕ). record { items = octets }) o ≡ Some frame → FitsFrame frame.items
 frame_by text None frame is e = absurd (cc)
 frame_by text (Some octets) frame is e =
-    subst (λ (f : ArrayVec ℕ). FitsFrame f.items) (some_same (record { items = octets }) frame e) (octets_fit text octets is)
+    subst (λ (f : ArrayVec ℕ). FitsFrame f.items) (same_Some (record { items = octets }) frame e) (octets_fit text octets is)
 
 frame_fits : (place : ℕ) (frame : ArrayVec ℕ) (fields : List (List ℕ)) → octets_at place fields ≡ Ok frame → FitsFrame frame.items
 frame_fits place frame fields e =
@@ -140,7 +138,7 @@ frame_fits place frame fields e =
 
 eight_by : (b : Bool) (octets : List ℕ) (bits : ℕ) → FitsFrame octets → (if b then Some (big_number 8 octets) else None) ≡ Some bits → bits < 2 ^ 64
 eight_by true octets bits fits e =
-    let same : big_number 8 octets ≡ bits = some_same (big_number 8 octets) bits e in
+    let same : big_number 8 octets ≡ bits = same_Some (big_number 8 octets) bits e in
     let small : big_number 8 octets < 256 ^ 8 = big_from-lt 0 8 octets fits.each in
     subst (λ n. n < 2 ^ 64) same small
 eight_by false octets bits fits e = absurd (cc)

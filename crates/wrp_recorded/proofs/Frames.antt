@@ -1,7 +1,7 @@
 -- The octets of a message, as it is sent, are octets, and fit a frame.
 use Rattle.std.proofs.Common.{◌≡◌, ℕ, zero, suc, ◌+◌, ◌<◌, ◌≤◌, List, [], ◌∷◌, ◌++◌, length, length-append, None, Some, arith}
 use Rattle.std.specs.List.{AllByRecursion}
-use Rattle.std.specs.Int.{byte_at, bytes_high_first, cast_unsigned, w16, w64}
+use Rattle.std.specs.Int.{bytes_high_first, cast_unsigned, w16, w64}
 use Rattle.byteorder.specs.Endian.{big_bytes}
 use Rattle.byteorder.specs.Numbers.{length-bytes_high_first}
 use Rattle.wrp_base.specs.declared.message.Body.{Body}
@@ -18,6 +18,7 @@ use Rattle.wrp_frame.specs.MessageTypes.{control_of, kind_of_body, number_of}
 use Rattle.wrp_frame.specs.SentOctets.{body_octets, head_octets, identity_octets, octets_of, octets_of_tlvs, size_of, timestamp_octets, tlvs_of}
 use Rattle.wrp_tlv.specs.TlvList.{extension, tlv_octets}
 use Rattle.wrp_tlv.specs.WhiteRabbit.{data_of, id_of, suffix_value, value_start, wr_value}
+use Rattle.wrp_trace.proofs.DigitLemmas.{octet_small}
 use Rattle.wrp_recorded.specs.Ranges.{FitsFrame}
 
 abbrev Small : List ℕ → Type 0
@@ -26,10 +27,6 @@ Small octets = AllByRecursion (λ n. n < 256) octets
 both : (xs ys : List ℕ) → Small xs → Small ys → Small (xs ++ ys)
 both [] ys h k = k
 both (x ∷ xs) ys h k = (h.0, both xs ys h.1 k)
-
-octet_small : (i x : ℕ) → byte_at i x < 256
-octet_small zero x = omega arith
-octet_small (suc i) x = omega arith
 
 number_small : (n x : ℕ) → Small (bytes_high_first n x)
 number_small zero x = tt

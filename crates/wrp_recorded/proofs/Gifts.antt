@@ -1,5 +1,5 @@
 -- Each input that an event gives may come to its node, and fits the types that hold it.
-use Rattle.std.proofs.Common.{◌≡◌, refl, ℕ, ℤ, ◌+◌, ◌≤◌, ◌<◌, ◌^◌, not, Bool, true, false, if◌then◌else◌, List, [], ◌∷◌, ◌++◌, flat_map, Option, None, Some, Result, arith}
+use Rattle.std.proofs.Common.{◌≡◌, refl, ℕ, ℤ, ◌+◌, ◌<◌, ◌^◌, not, Bool, true, false, if◌then◌else◌, List, [], ◌∷◌, ◌++◌, flat_map, Option, None, Some, Result, arith}
 use Rattle.std.specs.List.{AllByRecursion}
 use Rattle.std.specs.Option.{option_map_or}
 use Rattle.wrp_base.specs.declared.link.Role.{Role}
@@ -8,6 +8,7 @@ use Rattle.wrp_base.specs.declared.message.Body.{Body}
 use Rattle.wrp_base.specs.declared.message.Body.TheVariants.{Sync, DelayReq, FollowUp, DelayResp, Announce, Signal}
 use Rattle.wrp_base.specs.declared.message.PtpMsg.{PtpMsg}
 use Rattle.wrp_base.specs.Network.{End}
+use Rattle.wrp_base.proofs.Naturals.{below_word}
 use Rattle.wrp_config.specs.Accepted.{IsAccepted}
 use Rattle.wrp_config.specs.Laws.{PortIsOfOneLink}
 use Rattle.wrp_frame.specs.declared.fault.FrameFault.{FrameFault}
@@ -144,23 +145,20 @@ ports_fit s w gives n h = each_fits s (λ p. if_carried s w gives (place_of s n 
 
 -- Each event
 
-fewer : (samples count : ℕ) → samples ≤ count → count < 2 ^ 32 → samples < 2 ^ 32
-fewer samples count h few = omega (arith, h, few)
-
 pub gifts_fit : PortIsOfOneLink → (s : Setting) → IsAccepted s.cfg s.db → (w : WorldAt) (says : Result PtpMsg FrameFault) (e : Event) → IsRanged e → Accepts s w says e → Keeps w → w.count + 1 < 2 ^ 32
     → GiftsFit s (given_by s w (moved s w e) says e)
 gifts_fit ports s accepted w says (Pass dt drifts fibres) is holds keeps few = tt
 gifts_fit ports s accepted w says (Tick n) is holds keeps few = (record { may = tt; types = tt }, tt)
 gifts_fit ports s accepted w says (Sample n base bits) is holds keeps few =
     let now = moved_keeps s w (Sample n base bits) is keeps in
-    (record { may = (sampled s w n base bits (above s n) refl holds, is.0); types = (fewer _ (w.count + 1) (now.samples n) few, is.1) }, tt)
+    (record { may = (sampled s w n base bits (above s n) refl holds, is.0); types = (below_word _ (w.count + 1) (now.samples n) few, is.1) }, tt)
 gifts_fit ports s accepted w says (Depart n p stamp) is holds keeps few =
-    departs ports s accepted w n p stamp (w.clock n).samples (place_of s n p) refl is (fewer (w.clock n).samples w.count (keeps.samples n) (omega (arith, few))) keeps
+    departs ports s accepted w n p stamp (w.clock n).samples (place_of s n p) refl is (below_word (w.clock n).samples w.count (keeps.samples n) (omega (arith, few))) keeps
 gifts_fit ports s accepted w says (Arrive i raw) is holds keeps few = tt
 gifts_fit ports s accepted w says (Deliver i) is holds keeps few = delivers ports s accepted (w.frame i) w.count (omega (arith, few)) (keeps.frames i)
 gifts_fit ports s accepted w says (Noise n p octets raw) is holds keeps few =
     let at = noise_at ports s accepted n p (place_of s n p) refl (noised s w n p says (place_of s n p) holds) in
-    (record { may = (at.0, is.1); types = (at.1, (is.0.each, is.0.few), fewer (w.clock n).samples w.count (keeps.samples n) (omega (arith, few))) }, tt)
+    (record { may = (at.0, is.1); types = (at.1, (is.0.each, is.0.few), below_word (w.clock n).samples w.count (keeps.samples n) (omega (arith, few))) }, tt)
 gifts_fit ports s accepted w says (Down n) is holds keeps few = ports_fit s w (goes_from s) n (goes_fit ports s accepted)
 gifts_fit ports s accepted w says (Up n off swaps) is holds keeps few =
     let v : WorldAt = moved s w (Up n off swaps) in

@@ -7,6 +7,7 @@ use Rattle.wrp_base.specs.declared.link.Role.{Role}
 use Rattle.wrp_base.specs.declared.message.PtpMsg.{PtpMsg}
 use Rattle.wrp_base.specs.declared.time.Raw.{Raw}
 use Rattle.wrp_base.specs.Network.{End}
+use Rattle.wrp_base.proofs.Naturals.{le_later}
 use Rattle.wrp_node.specs.Telling.{Step}
 use Rattle.wrp_world.specs.declared.clocks.ClockState.{ClockState}
 use Rattle.wrp_world.specs.declared.event.Event.{Event}
@@ -46,24 +47,21 @@ clock_if : (b : Bool) (c d : ClockState) (count : ℕ) → c.samples ≤ count �
 clock_if true c d count h k = h
 clock_if false c d count h k = k
 
-one_later : (n count : ℕ) → n ≤ count → n ≤ count + 1
-one_later n count h = omega (arith, h)
-
 samples_more : (w : WorldAt) (e : Event) (m : ℕ) → (w.clock m).samples ≤ w.count → (clock_after w e m).samples ≤ w.count + 1
-samples_more w (Pass dt drifts fibres) m h = one_later (w.clock m).samples w.count h
+samples_more w (Pass dt drifts fibres) m h = le_later (w.clock m).samples w.count h
 samples_more w (Sample n base bits) m h =
-    clock_if (m == n) (record (w.clock m) { samples = (w.clock m).samples + 1 }) (w.clock m) (w.count + 1) (omega (arith, h)) (one_later (w.clock m).samples w.count h)
+    clock_if (m == n) (record (w.clock m) { samples = (w.clock m).samples + 1 }) (w.clock m) (w.count + 1) (omega (arith, h)) (le_later (w.clock m).samples w.count h)
 samples_more w (Down n) m h =
-    clock_if (m == n) (record (w.clock m) { up = false }) (w.clock m) (w.count + 1) (one_later (w.clock m).samples w.count h) (one_later (w.clock m).samples w.count h)
+    clock_if (m == n) (record (w.clock m) { up = false }) (w.clock m) (w.count + 1) (le_later (w.clock m).samples w.count h) (le_later (w.clock m).samples w.count h)
 samples_more w (Up n off swaps) m h =
-    clock_if (m == n) (record { up = true; off = off; ticked = w.time; samples = 0 }) (w.clock m) (w.count + 1) (omega arith) (one_later (w.clock m).samples w.count h)
-samples_more w (Tick n) m h = one_later (w.clock m).samples w.count h
-samples_more w (Depart n p stamp) m h = one_later (w.clock m).samples w.count h
-samples_more w (Arrive i raw) m h = one_later (w.clock m).samples w.count h
-samples_more w (Deliver i) m h = one_later (w.clock m).samples w.count h
-samples_more w (Noise n p octets raw) m h = one_later (w.clock m).samples w.count h
-samples_more w (Cut k) m h = one_later (w.clock m).samples w.count h
-samples_more w (Join k ms sm) m h = one_later (w.clock m).samples w.count h
+    clock_if (m == n) (record { up = true; off = off; ticked = w.time; samples = 0 }) (w.clock m) (w.count + 1) (omega arith) (le_later (w.clock m).samples w.count h)
+samples_more w (Tick n) m h = le_later (w.clock m).samples w.count h
+samples_more w (Depart n p stamp) m h = le_later (w.clock m).samples w.count h
+samples_more w (Arrive i raw) m h = le_later (w.clock m).samples w.count h
+samples_more w (Deliver i) m h = le_later (w.clock m).samples w.count h
+samples_more w (Noise n p octets raw) m h = le_later (w.clock m).samples w.count h
+samples_more w (Cut k) m h = le_later (w.clock m).samples w.count h
+samples_more w (Join k ms sm) m h = le_later (w.clock m).samples w.count h
 
 end_if : (b : Bool) (x y : EndAt) → WaitShort x.waiting → WaitShort y.waiting → WaitShort (if b then x else y).waiting
 end_if true x y h k = h
@@ -98,7 +96,7 @@ waiting_more s w (Join l ms sm) k r h = h
 
 came_later : (count : ℕ) (o : Option Arrival) → CameSo count o → CameSo (count + 1) o
 came_later count None h = tt
-came_later count (Some a) h = (h.0, one_later a.sample count h.1)
+came_later count (Some a) h = (h.0, le_later a.sample count h.1)
 
 frame_later : (count : ℕ) (o : Option FrameAt) → FrameSo count o → FrameSo (count + 1) o
 frame_later count None h = tt
@@ -127,7 +125,7 @@ arrived_so s w j raw None i p is samples h = frame_later w.count p h
 arrived_so s w j raw (Some g) i None is samples h = tt
 arrived_so s w j raw (Some g) i (Some f) is samples h =
     arriving_if (i == j) _ _ (w.count + 1)
-    (is, one_later (samples_at s w g) w.count (samples_by w (end_at s g.link (other_of g.by)) w.count samples)) (came_later w.count f.arrival h)
+    (is, le_later (samples_at s w g) w.count (samples_by w (end_at s g.link (other_of g.by)) w.count samples)) (came_later w.count f.arrival h)
 
 removed_so : (s : Setting) (e : Event) (o : Option FrameAt) (count : ℕ) → FrameSo count o → FrameSo (count + 1) (option_map (removed s e) o)
 removed_so s e None count h = tt

@@ -66,9 +66,6 @@ module_brief site port (Some values) sound listed =
     let found = printed_name site port values sound listed in
     subst IsBrief (sym (ap (λ (o : Option (List ℕ)). unwrap_or o []) found.1.printed)) (name_brief found.0 (plain_name found.0 found.1.valid))
 
-word_brief : (text : List ℕ) (n : ℕ) → length text ≡ n → n ≤ 512 → IsBrief text
-word_brief text n is few = omega (arith, is, few)
-
 message_brief : (delay : Bool) → IsBrief (message_text delay)
 message_brief true = omega arith
 message_brief false = omega arith

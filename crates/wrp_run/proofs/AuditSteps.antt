@@ -1,6 +1,6 @@
 -- A world that stands for the run of its events: its measurements have the answers of the links' laws, and one event more
 -- makes one run more.
-use Rattle.std.proofs.Common.{◌≡◌, ◌∙◌, refl, ap, sym, subst, ℕ, ℤ, pos, ◌==◌, ◌<◌, ◌≤◌, ◌+◌, zero, suc, Bool, true, false, cond, if◌then◌else◌, List, [], ◌∷◌, ◌++◌, flat_map, map, length, Option, None, Some, IfSome, is_some, option_map, Ok, Err, arith}
+use Rattle.std.proofs.Common.{◌≡◌, ◌∙◌, refl, ap, sym, subst, ℕ, ℤ, pos, ◌==◌, ◌<◌, ◌≤◌, ◌+◌, suc, Bool, true, false, cond, if◌then◌else◌, List, [], ◌∷◌, ◌++◌, flat_map, map, length, Option, None, Some, IfSome, is_some, option_map, Ok, Err, arith}
 use Rattle.std.specs.Prelude.{slice_get}
 use Rattle.std.specs.List.{find}
 use Rattle.std.proofs.lemmas.Option.{slice_get-map}
@@ -8,6 +8,7 @@ use Rattle.wrp_base.specs.declared.configuration.NetCfg.{NetCfg}
 use Rattle.wrp_base.specs.declared.fault.TraceFault.{TraceFault}
 use Rattle.wrp_base.specs.declared.network.LinkCfg.{LinkCfg}
 use Rattle.wrp_base.specs.Network.{IsTree, link_above, node_count}
+use Rattle.wrp_base.proofs.Lists.{has_item}
 use Rattle.wrp_config.specs.declared.network.Network.{Network}
 use Rattle.wrp_law.specs.Law.{LawOf}
 use Rattle.wrp_node.specs.Control.{law_in}
@@ -98,12 +99,6 @@ below_count cfg n link tree is =
     let below = (tree.ends found.at link found.is).1 in
     let same = found.holds in
     grind (arith, below, same)
-
--- a place of a list has something
-pub has_item : {X : Type 0} (xs : List X) (n : ℕ) → n < length xs → (x : X) × (slice_get xs n ≡ Some x)
-has_item [] n within = absurd (omega (arith, within))
-has_item (x ∷ xs) zero within = (x, refl)
-has_item (x ∷ xs) (suc n) within = has_item xs n (omega (arith, within))
 
 none_slave : (cfg : NetCfg) (n : ℕ) → link_above cfg n ≡ None → is_some (slave_in (ports_of cfg n)) ≡ false
 none_slave cfg n is = ap is_some (slave_is_above cfg n ∙ ap (option_map (λ (l : LinkCfg). l.lower_port)) is)

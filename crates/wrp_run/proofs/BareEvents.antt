@@ -15,25 +15,19 @@ use Rattle.wrp_node.specs.declared.interface.Input.TheVariants as inputs
 use Rattle.wrp_trace.specs.Changes.{SaidAt, change_said, changes_said, named_said, nothing_said}
 use Rattle.wrp_trace.specs.declared.events.kinds.EventKind.{EventKind}
 use Rattle.wrp_trace.specs.declared.events.kinds.EventKind.TheVariants as kinds
-use Rattle.wrp_names.specs.Fields.{link_at, node_at}
 use Rattle.wrp_trace.specs.EventFields.{before, behind, span_at}
 use Rattle.wrp_trace.specs.EventKinds.{kind_of}
 use Rattle.wrp_trace.specs.Events.{counted_of, event_of, event_read, fields_of_kind, pass_with}
 use Rattle.wrp_trace.specs.Printing.{line_of}
-use Rattle.wrp_fields.specs.Reading.{field_of, name_or_fault, ◌>>=◌}
+use Rattle.wrp_fields.specs.Reading.{field_of, ◌>>=◌}
 use Rattle.wrp_trace.specs.Site.{Site}
 use Rattle.wrp_run.proofs.BareSite.{bare_site, bind_same, named_bare, pair_bare}
+use Rattle.wrp_run.proofs.BareScene.{link_read, node_read}
 
 -- Names
 
 link_named_bare : (cfg : NetCfg) (name : List ℕ) → link_named (bare_cfg cfg) name ≡ link_named cfg name
 link_named_bare cfg name = position-map (λ (link : LinkCfg). same_name link.name.bytes name) bare_link cfg.links.items
-
-node_read_bare : (cfg : NetCfg) (place : ℕ) (fields : List (List ℕ)) → node_at (bare_cfg cfg) place fields ≡ node_at cfg place fields
-node_read_bare cfg place fields = ap (name_or_fault place) (named_bare cfg (field_of place fields))
-
-link_read_bare : (cfg : NetCfg) (place : ℕ) (fields : List (List ℕ)) → link_at (bare_cfg cfg) place fields ≡ link_at cfg place fields
-link_read_bare cfg place fields = ap (name_or_fault place) (link_named_bare cfg (field_of place fields))
 
 -- What a `pass` says
 
@@ -70,16 +64,16 @@ kind_events_bare cfg kinds.Pass fields =
     bind_same (span_at 2 fields) (λ dt. changes_said (bare_cfg cfg) 3 (nothing_said (bare_cfg cfg)) (drop 2 fields) >>= (λ said. Ok (pass_with dt said)))
     (λ dt. changes_said cfg 3 (nothing_said cfg) (drop 2 fields) >>= (λ said. Ok (pass_with dt said)))
     (λ dt. ap (λ (r : Result SaidAt TraceFault). r >>= (λ said. Ok (pass_with dt said))) (all_changes_bare cfg (drop 2 fields)))
-kind_events_bare cfg kinds.Tick fields = rw (node_read_bare cfg 2 fields) refl
-kind_events_bare cfg kinds.Sample fields = rw (node_read_bare cfg 2 fields) refl
-kind_events_bare cfg kinds.Depart fields = rw (node_read_bare cfg 2 fields) refl
+kind_events_bare cfg kinds.Tick fields = rw (node_read cfg 2 fields) refl
+kind_events_bare cfg kinds.Sample fields = rw (node_read cfg 2 fields) refl
+kind_events_bare cfg kinds.Depart fields = rw (node_read cfg 2 fields) refl
 kind_events_bare cfg kinds.Arrive fields = refl
 kind_events_bare cfg kinds.Deliver fields = refl
-kind_events_bare cfg kinds.Noise fields = rw (node_read_bare cfg 2 fields) refl
-kind_events_bare cfg kinds.Down fields = rw (node_read_bare cfg 2 fields) refl
-kind_events_bare cfg kinds.Up fields = rw (node_read_bare cfg 2 fields) refl
-kind_events_bare cfg kinds.Cut fields = rw (link_read_bare cfg 2 fields) refl
-kind_events_bare cfg kinds.Join fields = rw (link_read_bare cfg 2 fields) refl
+kind_events_bare cfg kinds.Noise fields = rw (node_read cfg 2 fields) refl
+kind_events_bare cfg kinds.Down fields = rw (node_read cfg 2 fields) refl
+kind_events_bare cfg kinds.Up fields = rw (node_read cfg 2 fields) refl
+kind_events_bare cfg kinds.Cut fields = rw (link_read cfg 2 fields) refl
+kind_events_bare cfg kinds.Join fields = rw (link_read cfg 2 fields) refl
 
 counted_bare : (cfg : NetCfg) (fields : List (List ℕ)) (kind : Option EventKind) → counted_of (bare_cfg cfg) fields kind ≡ counted_of cfg fields kind
 counted_bare cfg fields None = refl

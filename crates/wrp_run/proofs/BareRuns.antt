@@ -31,12 +31,9 @@ use Rattle.wrp_run.proofs.AuditCounts.{counts_bare}
 use Rattle.wrp_run.proofs.BareAudit.{after_bare, bare_setting, checks_bare, nodes_bare, steps_at_bare}
 use Rattle.wrp_run.proofs.BareEvents.{event_bare, line_bare}
 use Rattle.wrp_run.proofs.BareSite.{law_bare, name_bare, path_bare}
+use Rattle.wrp_run.proofs.OneSim.{map_same}
 
 -- The run
-
-map_as : {A B : Type 0} (f g : A → B) → ((a : A) → f a ≡ g a) → (xs : List A) → map f xs ≡ map g xs
-map_as f g same [] = refl
-map_as f g same (x ∷ xs) = ap₂ (λ y ys. y ∷ ys) (same x) (map_as f g same xs)
 
 tried_after : (s : Setting) (before : List Happened) (h : Happened) → checks_of (bare_setting s) (world_after (bare_setting s) before) h.says h.event ≡ checks_of s (world_after s before) h.says h.event
 tried_after s before h = ap (λ (w : WorldAt). checks_of (bare_setting s) w h.says h.event) (after_bare s before) ∙ checks_bare s (world_after s before) h.says h.event
@@ -58,7 +55,7 @@ heard_bare s events all n below =
 
 pub run_bare : (s : Setting) (lines : List (List ℕ)) (events : List Happened) → IsAudit s lines events → IsAudit (bare_setting s) lines events
 run_bare s lines events audit = record {
-  are = map_as (event_read (bare_cfg s.cfg)) (event_read s.cfg) (λ line. event_bare s.cfg line) lines ∙ audit.are;
+  are = map_same (event_read (bare_cfg s.cfg)) (event_read s.cfg) (λ line. event_bare s.cfg line) lines ∙ audit.are;
   run = record {
     accepted = accepted_bare s events audit.run.accepted;
     said = audit.run.said;

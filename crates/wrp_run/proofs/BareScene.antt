@@ -1,5 +1,5 @@
 -- What a line of a scenario says does not see the unused room of names.
-use Rattle.std.proofs.Common.{◌≡◌, ◌∙◌, refl, ap, ℕ, pos, Bool, if◌then◌else◌, Option, None, Some, Result, Ok, List, [], ◌∷◌, map, option_map}
+use Rattle.std.proofs.Common.{◌≡◌, ◌∙◌, refl, ap, ℕ, pos, Bool, if◌then◌else◌, Option, None, Some, Result, Ok, List, [], ◌∷◌, map}
 use Rattle.std.specs.Prelude.{is_none}
 use Rattle.wrp_base.specs.declared.configuration.NetCfg.{NetCfg}
 use Rattle.wrp_base.specs.declared.fault.TraceFault.{TraceFault}
@@ -20,7 +20,7 @@ use Rattle.wrp_sim.specs.declared.scene.kinds.SceneKind.TheVariants as kinds
 use Rattle.wrp_sim.specs.Scenario.{SceneAt, new_scene}
 use Rattle.wrp_sim.specs.ScenarioKinds.{kind_of}
 use Rattle.wrp_sim.specs.ScenarioLines.{below, counted_of, fault_at, fault_kind, line_of_kind, link_fault, lower_at, node_fault, scene_of, scene_read}
-use Rattle.wrp_run.proofs.BareSite.{bind_same, named_bare}
+use Rattle.wrp_run.proofs.BareSite.{bind_same, named_bare, none_over}
 
 -- A new scenario
 
@@ -37,16 +37,12 @@ new_scene_bare cfg = λ i. record (new_scene cfg) {
 
 -- Names
 
-node_read : (cfg : NetCfg) (place : ℕ) (fields : List (List ℕ)) → node_at (bare_cfg cfg) place fields ≡ node_at cfg place fields
+pub node_read : (cfg : NetCfg) (place : ℕ) (fields : List (List ℕ)) → node_at (bare_cfg cfg) place fields ≡ node_at cfg place fields
 node_read cfg place fields = ap (name_or_fault place) (named_bare cfg (field_of place fields))
 
-link_read : (cfg : NetCfg) (place : ℕ) (fields : List (List ℕ)) → link_at (bare_cfg cfg) place fields ≡ link_at cfg place fields
+pub link_read : (cfg : NetCfg) (place : ℕ) (fields : List (List ℕ)) → link_at (bare_cfg cfg) place fields ≡ link_at cfg place fields
 link_read cfg place fields =
     ap (name_or_fault place) (position-map (λ (link : LinkCfg). same_name link.name.bytes (field_of place fields)) bare_link cfg.links.items)
-
-none_over : (o : Option LinkCfg) → is_none (option_map bare_link o) ≡ is_none o
-none_over None = refl
-none_over (Some link) = refl
 
 below_bare : (cfg : NetCfg) (place node : ℕ) → below (bare_cfg cfg) place node ≡ below cfg place node
 below_bare cfg place node =

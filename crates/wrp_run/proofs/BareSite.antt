@@ -72,7 +72,7 @@ pair_bare cfg node port =
 pub port_bare : (site : Site) (port : ℕ) → has_port (bare_site site) port ≡ has_port site port
 port_bare site port = ap is_some (pair_bare site.cfg site.node port)
 
-none_over : (o : Option LinkCfg) → is_none (option_map bare_link o) ≡ is_none o
+pub none_over : (o : Option LinkCfg) → is_none (option_map bare_link o) ≡ is_none o
 none_over None = refl
 none_over (Some link) = refl
 

@@ -255,8 +255,3 @@ no_lines has_line s w (step ∷ steps) h =
     let first : lines_by has_line s w step ≡ [] =
     ap (flat_map (λ (o : Output). if has_line o then line_at s w step.node o else [])) h.0 in
     ap (λ (l : List ℕ). l ++ flat_map (lines_by has_line s w) steps) first ∙ no_lines has_line s w steps h.1
-
--- all that holds of each, and what follows from it
-pub all_so : {A : Type 0} (P Q : A → Type 0) → ((x : A) → P x → Q x) → (xs : List A) → AllByRecursion P xs → AllByRecursion Q xs
-all_so P Q f [] h = tt
-all_so P Q f (x ∷ xs) h = (f x h.0, all_so P Q f xs h.1)

@@ -1,14 +1,12 @@
 -- How a replayed node begins, goes on with a line, and ends.
-use Rattle.std.proofs.Common.{◌≡◌, ◌∙◌, refl, ap, ap₂, sym, subst, ℕ, ℤ, pos, ◌+◌, ◌<◌, ◌≤◌, ◌≤ℤ◌, ◌^◌, Bool, true, false, if◌then◌else◌, Ok, Err, length, List, [], ◌∷◌, ◌++◌, Option, None, Some, IfSome, is_some, option_map, unsigned_abs, arith}
+use Rattle.std.proofs.Common.{◌≡◌, ◌∙◌, refl, ap, ap₂, sym, subst, ℕ, ℤ, pos, ◌+◌, ◌<◌, ◌≤◌, ◌≤ℤ◌, ◌^◌, Bool, true, false, if◌then◌else◌, Ok, Err, length, List, [], ◌∷◌, ◌++◌, Option, None, Some, IfSome, is_some, unsigned_abs, arith}
 use Rattle.std.proofs.lemmas.Int.{ints}
 use Rattle.std.specs.List.{flat_map}
-use Rattle.wrp_base.specs.declared.configuration.NetCfg.{NetCfg}
 use Rattle.wrp_base.specs.declared.fault.TraceFault.{TraceFault}
 use Rattle.wrp_base.specs.declared.network.LinkCfg.{LinkCfg}
 use Rattle.wrp_base.specs.Network.{link_above}
 use Rattle.wrp_bounds.specs.Bounds.{path_of}
-use Rattle.wrp_config.proofs.Bare.{above_bare}
-use Rattle.wrp_config.specs.Config.{bare_link}
+use Rattle.wrp_config.proofs.Bare.{above_some}
 use Rattle.wrp_config.specs.Same.{bare_cfg}
 use Rattle.wrp_caldb.specs.Database.{Database}
 use Rattle.wrp_law.specs.Law.{LawOf, KeepsFact}
@@ -51,13 +49,6 @@ use Rattle.wrp_run.proofs.Runs.{node_run, one_tick, run_of}
 
 -- A new node
 
-some_link : (f : LinkCfg → LinkCfg) (o : Option LinkCfg) → is_some (option_map f o) ≡ is_some o
-some_link f None = refl
-some_link f (Some link) = refl
-
-pub some_above : (cfg : NetCfg) (n : ℕ) → is_some (link_above (bare_cfg cfg) n) ≡ is_some (link_above cfg n)
-some_above cfg n = ap is_some (above_bare cfg n) ∙ some_link bare_link (link_above cfg n)
-
 pub fixed_is : {F : Type 0} {pre : F → ℤ → Type 0} {post : F → ℤ → ℤ → Type 0} (replayed : Replayed) (set : NodeSet) (law : Option (LawOf F)) → set ≡ set_of replayed.net.now.cfg replayed.node
     → IsLawAt pre post (site_at replayed) law → fixed_of set law ≡ fixed_at (site_at replayed)
 fixed_is replayed set law is at =
@@ -87,9 +78,6 @@ pub nothing_taken : {F : Type 0} {pre : F → ℤ → Type 0} {post : F → ℤ 
     → HasTaken post held []
 nothing_taken held set law is at stands =
     ([], [], record { are = refl; writes = refl; stands = new_stands held.replayed set law held.node is at stands })
-
-pub no_ticks : {F : Type 0} {post : F → ℤ → ℤ → Type 0} (fixed : Fixed) (node : NodeOf F) → StandsFor post fixed node [] → node.parts.ticks ≡ 0
-no_ticks fixed node stands = stands.is_at.parts.ticks
 
 -- An input that a line says can be taken
 
@@ -225,13 +213,13 @@ pub law_if : {F : Type 0} {pre : F → ℤ → Type 0} {post : F → ℤ → ℤ
     → (has ≡ true → law.lo ≡ least_over site.db (link_above site.cfg site.node)) → (has ≡ true → law.hi ≡ greatest_over site.db (link_above site.cfg site.node))
     → (has ≡ true → AnswersBy post (law_at (bare_site site)) law) → IsLawAt pre post (bare_site site) (if has then Some law else None)
 law_if site true law some fact least greatest answers = record {
-  some = some ∙ sym (some_above site.cfg site.node);
+  some = some ∙ sym (above_some site.cfg site.node);
   fact = fact;
   range = ap₂ (range_of (set_of (bare_cfg site.cfg) site.node)) (least refl) (greatest refl) ∙ ap₂ (range_of (set_of (bare_cfg site.cfg) site.node)) (sym (ap (λ (f : Fixed). f.lo) (fixed_bare site))) (sym (ap (λ (f : Fixed). f.hi) (fixed_bare site)));
   answers = answers refl;
 }
 law_if site false law some fact least greatest answers = record {
-  some = some ∙ sym (some_above site.cfg site.node);
+  some = some ∙ sym (above_some site.cfg site.node);
   fact = tt;
   range = ap₂ (range_of (set_of (bare_cfg site.cfg) site.node)) (none_least site.db (link_above site.cfg site.node) (sym some)) (none_greatest site.db (link_above site.cfg site.node) (sym some))
       ∙ ap₂ (range_of (set_of (bare_cfg site.cfg) site.node)) (sym (ap (λ (f : Fixed). f.lo) (fixed_bare site))) (sym (ap (λ (f : Fixed). f.hi) (fixed_bare site)));

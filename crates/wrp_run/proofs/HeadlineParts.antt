@@ -4,6 +4,7 @@ use Rattle.std.proofs.Common.{◌≡◌, inl, inr, refl, sym, subst, ℕ, Bool, 
 use Rattle.std.proofs.lemmas.List.{reverse-append}
 use Rattle.std.specs.List.{AllByRecursion}
 use Rattle.wrp_base.specs.declared.configuration.NetCfg.{NetCfg}
+use Rattle.wrp_base.proofs.Lists.{all_weaker}
 use Rattle.wrp_config.specs.Same.{ReadingIsAccepted}
 use Rattle.wrp_node.specs.declared.interface.Input.{Input}
 use Rattle.wrp_node.specs.declared.interface.Input.TheVariants.{Tick, Sample, Frame, Sent, Carrier, Reset}
@@ -13,6 +14,7 @@ use Rattle.wrp_world.specs.Dropped.{DroppedFramesLeaveACount, DropsLeaveACount, 
 use Rattle.wrp_world.specs.Earned.{LinkOnIsEarned, ReportsAreTrue}
 use Rattle.wrp_world.specs.declared.event.Event.{Event}
 use Rattle.wrp_world.specs.EventAt.{IsEventOf}
+use Rattle.wrp_truth.proofs.Suffixes.{run_before}
 use Rattle.wrp_world.specs.Given.{Given}
 use Rattle.wrp_world.specs.Run.{Happened, steps_at, world_after}
 use Rattle.wrp_world.specs.Runs.{AllEvents, IsNetwork, IsRun}
@@ -22,7 +24,7 @@ use Rattle.wrp_run.specs.EventLines.{AtEachEvent, Writing}
 use Rattle.wrp_run.specs.Headline.{AsksEventsOf, CarriesParts, Came, DropsCountAt, IsEarnedAt, OnlyCounts, OnlyCountsIf}
 use Rattle.wrp_run.specs.Input.{network_text}
 use Rattle.wrp_run.specs.TrackLines.{TracksAreWithin}
-use Rattle.wrp_run.proofs.EventLines.{all_so, lines_by, no_lines}
+use Rattle.wrp_run.proofs.EventLines.{lines_by, no_lines}
 use Rattle.wrp_run.proofs.LinkOnLines.{lines_are_earned}
 
 -- A run
@@ -75,12 +77,9 @@ run_of can accepted words input s events came = record {
   accepted = came.audit.run.accepted;
 }
 
-pub before_newest : (s : Setting) (h : Happened) (before : List Happened) → IsRun s (h ∷ before) → IsRun s before
-before_newest s h before run = record { network = run.network; each = run.each.1; accepted = run.accepted.1 }
-
 at_each : (s : Setting) (P : List Happened → Happened → Type 0) → ((h : Happened) (before : List Happened) → IsRun s (h ∷ before) → P before h) → (events : List Happened) → IsRun s events → AtEachEvent P events
 at_each s P f [] run = tt
-at_each s P f (h ∷ before) run = (f h before run, at_each s P f before (before_newest s h before run))
+at_each s P f (h ∷ before) run = (f h before run, at_each s P f before (run_before s h before run))
 
 -- Dropped frames
 
@@ -105,7 +104,7 @@ counts_if has_line s before h g Reset f = tt
 all_count : (has_line : Output → Bool) (s : Setting) (before : List Happened) (h : Happened) (gs : List Given) → AllByRecursion (λ (g : Given). DropsLeaveACount s before h g.to g g.input) gs →
     AllByRecursion (λ (g : Given). OnlyCountsIf (writes has_line) s before h g g.input) gs
 all_count has_line s before h gs f =
-    all_so (λ (g : Given). DropsLeaveACount s before h g.to g g.input) (λ (g : Given). OnlyCountsIf (writes has_line) s before h g g.input) (λ g k. counts_if has_line s before h g g.input k) gs f
+    all_weaker (λ (g : Given). DropsLeaveACount s before h g.to g g.input) (λ (g : Given). OnlyCountsIf (writes has_line) s before h g g.input) (λ g k. counts_if has_line s before h g g.input k) gs f
 
 -- Lines
 

@@ -1,10 +1,11 @@
 -- The laws of all nodes, as they are made one after another, fit the network.
-use Rattle.std.proofs.Common.{◌≡◌, ◌∙◌, refl, ap, ap₂, sym, subst, ℕ, ℤ, pos, ◌==◌, ◌≤◌, ◌≤ℤ◌, Bool, true, false, if◌then◌else◌, List, length, Option, None, Some, IfSome, is_some, option_map, arith}
+use Rattle.std.proofs.Common.{◌≡◌, ◌∙◌, refl, ap, ap₂, sym, subst, ℕ, ℤ, pos, ◌==◌, ◌≤◌, ◌≤ℤ◌, Bool, true, false, if◌then◌else◌, List, length, Option, None, Some, IfSome, is_some, option_map}
 use Rattle.std.specs.Prelude.{slice_get}
 use Rattle.wrp_base.specs.declared.network.LinkCfg.{LinkCfg}
 use Rattle.wrp_base.specs.Network.{link_above, node_count}
+use Rattle.wrp_base.proofs.Naturals.{le_of_same}
 use Rattle.wrp_caldb.specs.Database.{Database}
-use Rattle.wrp_config.proofs.Bare.{above_bare}
+use Rattle.wrp_config.proofs.Bare.{above_bare, above_some}
 use Rattle.wrp_config.specs.Accepted.{IsAccepted}
 use Rattle.wrp_config.specs.Config.{bare_link}
 use Rattle.wrp_config.specs.declared.network.Network.{Network}
@@ -20,7 +21,6 @@ use Rattle.wrp_run.specs.DownLaw.{fixed_at}
 use Rattle.wrp_run.specs.LawsFit.{FitsAt, HasNumbers, IsMade, LawsFit}
 use Rattle.wrp_run.specs.LinkLaw.{IsLawOver, error_over, kind_over}
 use Rattle.wrp_run.proofs.AuditSteps.{found_in, Found}
-use Rattle.wrp_run.proofs.GoingOn.{some_above}
 
 -- A law that is made
 
@@ -64,7 +64,7 @@ over_same net own n law same h =
     (subst (λ (o : Option LinkCfg). IsLawOver net.db o law) (above_same net own n same) (over_to net.db (link_above net.cfg n) law h)))
 
 some_same : (net own : Network) (n : ℕ) → IsSameNetwork net own → is_some (link_above net.cfg n) ≡ is_some (link_above own.cfg n)
-some_same net own n same = sym (some_above net.cfg n) ∙ ap (λ cfg. is_some (link_above cfg n)) same.0 ∙ some_above own.cfg n
+some_same net own n same = sym (above_some net.cfg n) ∙ ap (λ cfg. is_some (link_above cfg n)) same.0 ∙ above_some own.cfg n
 
 made_same : {F : Type 0} (has : F → LinkLaw) (net own : Network) (n : ℕ) (law : Option (LawOf F)) → IsSameNetwork net own → IsMade has net n law → IsMade has own n law
 made_same has net own n None same made = record { some = made.some ∙ some_same net own n same; link = tt; numbers = tt }
@@ -92,9 +92,6 @@ law_error_is net n link accepted is =
     let found : Found (λ (l : LinkCfg). l.lower == n) net.cfg.links.items link = found_in (λ (l : LinkCfg). l.lower == n) net.cfg.links.items link is in
     sym (accepted.links found.at link found.is).law_err
 
-at_most_same : (a b : ℕ) → a ≡ b → a ≤ b
-at_most_same a b e = omega (arith, e)
-
 none_range : (net : Network) (n : ℕ) (o : Option LinkCfg) → link_above net.cfg n ≡ o → false ≡ is_some o → record { set = set_of net.cfg n; lo = pos 0; hi = pos 0 } ≡ fixed_at (node_in (setting_in net) n)
 none_range net n None is none = rw is refl
 none_range net n (Some link) is none = absurd (cc)
@@ -114,7 +111,7 @@ fits_at {F} {pre} {post} has net n (Some law) calls accepted made =
         place = made.some;
         fact = fact;
         kind = λ link is. kind ∙ ap kind_over is;
-        err = λ link is. at_most_same law.err link.law_err (error ∙ ap (error_over net.db) is ∙ law_error_is net n link accepted is);
+        err = λ link is. le_of_same law.err link.law_err (error ∙ ap (error_over net.db) is ∙ law_error_is net n link accepted is);
       };
       is = record {
         some = made.some;

@@ -16,6 +16,7 @@ use Rattle.wrp_caldb.specs.Database.{Database, TableAt, table_at}
 use Rattle.wrp_config.specs.Accepted.{IsAccepted, IsSoundTable, law_error}
 use Rattle.wrp_law.specs.declared.delay.LawKind.TheVariants.{Linear}
 use Rattle.wrp_law.specs.Law.{IsNear}
+use Rattle.wrp_law.proofs.Tables.{table_value-near}
 use Rattle.wrp_node.specs.NodeAt.{settings_of}
 use Rattle.wrp_servo.specs.Call.{Call, CallSample, CallMeasured, CallTick, CallLease, CallLink, CallCarrier, CallReset, Settings}
 use Rattle.wrp_servo.specs.Measuring.{is_in, x_of}
@@ -28,7 +29,6 @@ use Rattle.wrp_world.specs.WorldAt.{WorldAt}
 use Rattle.wrp_run.specs.Audited.{answers_in, setting_at}
 use Rattle.wrp_run.specs.DownLaw.{down_by, down_over, greatest_by, greatest_over, least_by, least_over}
 use Rattle.wrp_run.proofs.LinkLaws.{above_is, kappa_fits, table_fits}
-use Rattle.wrp_run.proofs.TablesNear.{table_value-near}
 
 -- A link's law
 

@@ -29,7 +29,8 @@ use Rattle.wrp_world.specs.declared.event.Event.{Event}
 use Rattle.wrp_world.specs.declared.event.Event.TheVariants as events
 use Rattle.wrp_world.specs.declared.event.Swap.{Swap}
 use Rattle.wrp_world.specs.EventAt.{FitsEvent}
-use Rattle.wrp_run.proofs.FieldsRead.{both, found, number_read, ok_same, read_if, some_if}
+use Rattle.wrp_trace.proofs.EventsFit.{found, number_read}
+use Rattle.wrp_run.proofs.FieldsRead.{both, ok_same, read_if, some_if}
 
 -- Octets
 

@@ -1,24 +1,15 @@
 -- The law of a link of an accepted network.
-use Rattle.std.proofs.Common.{◌≡◌, refl, ap, subst, ℕ, ℤ, ◌==◌, ◌≤◌, ◌^◌, suc, unsigned_abs, Bool, true, false, List, [], ◌∷◌, Option, None, Some, IfSome, option_map, cond, Bor}
-use Rattle.std.specs.Prelude.{slice_get, option_and_then}
-use Rattle.std.specs.List.{find}
+use Rattle.std.proofs.Common.{◌≡◌, refl, ap, subst, ℕ, ℤ, ◌==◌, ◌≤◌, ◌^◌, unsigned_abs, List, Option, None, Some, IfSome, option_map, Bor}
+use Rattle.std.specs.Prelude.{option_and_then}
 use Rattle.wrp_base.specs.declared.configuration.NetCfg.{NetCfg}
 use Rattle.wrp_base.specs.declared.link.Fibre.{Fibre}
 use Rattle.wrp_base.specs.declared.network.LinkCfg.{LinkCfg}
 use Rattle.wrp_base.specs.Network.{IsLink, link_above}
+use Rattle.wrp_base.proofs.Lists.{found_at}
 use Rattle.wrp_caldb.specs.Database.{Database, FibreAt, TableAt, fibre_at, fibre_named, table_at}
 use Rattle.wrp_config.specs.Accepted.{IsAccepted, IsSoundFibre, IsSoundTable}
 use Rattle.wrp_law.specs.declared.link_law.LinkLaw.TheVariants.{Fraction, Table}
 use Rattle.wrp_run.specs.LinkLaw.{IsLawOver}
-
--- what is found stands somewhere
-found_at : {X : Type 0} (p : X → Bool) (xs : List X) (x : X) → find p xs ≡ Some x → (n : ℕ) × (slice_get xs n ≡ Some x)
-found_at p [] x is = absurd (cc)
-found_at p (y ∷ ys) x is =
-    elim (p y) as (λ b. cond b (Some y) (find p ys) ≡ Some x → (n : ℕ) × (slice_get (y ∷ ys) n ≡ Some x)) [
-      | true ↦ λ here. (0, here)
-      | false ↦ λ there. let rest = found_at p ys x there in (suc rest.0, rest.1)
-    ] is
 
 -- the fibre of a link that is listed, with its table
 table_found : (db : Database) (name : List ℕ) (kappa : ℤ) (err : ℕ) (table : TableAt) (o : Option FibreAt)

@@ -5,6 +5,7 @@ use Rattle.std.specs.Fmt.{decimal}
 use Rattle.wrp_base.specs.declared.link.LinkState.TheVariants.{Idle, Present, SLock, MLock, Locked, Calibration, Calibrated, RespCalib, LinkOn}
 use Rattle.wrp_base.specs.declared.link.LinkWord.{LinkWord}
 use Rattle.wrp_base.specs.declared.link.LinkWord.TheVariants.{Down, Quiet, Ptp, In}
+use Rattle.wrp_base.proofs.Lists.{all_weaker}
 use Rattle.wrp_bounds.specs.Bounds.{path_of}
 use Rattle.wrp_config.specs.Accepted.{HasNames}
 use Rattle.wrp_lines.specs.Lines.{line_of, output_line, output_words}
@@ -19,7 +20,7 @@ use Rattle.wrp_world.specs.WorldAt.{WorldAt}
 use Rattle.wrp_run.specs.EventLines.{IsWord}
 use Rattle.wrp_run.specs.Headline.{IsEarnedLine}
 use Rattle.wrp_run.specs.Lines.{lines_of}
-use Rattle.wrp_run.proofs.EventLines.{SameWord, all_so, at_word, behind_two, decimal_word, first_word, head_of, line_at, lines_by, next_of, rest_of, steps_lines}
+use Rattle.wrp_run.proofs.EventLines.{SameWord, at_word, behind_two, decimal_word, first_word, head_of, line_at, lines_by, next_of, rest_of, steps_lines}
 
 -- the line that says that a link is on, behind the first two words
 abbrev OnLine : List ℕ → List ℕ
@@ -78,7 +79,7 @@ line_earned s w n tick o truth names true_ = λ node at port a b c e.
 
 step_earned : (s : Setting) (w : WorldAt) (step : NodeStepAt) → HasNames s.cfg → AreTrueReports s w step → AllByRecursion (λ (o : Output). IsEarnedLine s w (line_at s w step.node o)) step.outs
 step_earned s w step names are =
-    all_so (IsTrueReport s w step.node) (λ (o : Output). IsEarnedLine s w (line_at s w step.node o))
+    all_weaker (IsTrueReport s w step.node) (λ (o : Output). IsEarnedLine s w (line_at s w step.node o))
     (λ o true_. line_earned s w step.node (w.node step.node).ticks o (Some (w.clock step.node).off) names true_) step.outs are
 
 -- each line of the steps of an event
@@ -86,4 +87,4 @@ pub lines_are_earned : (has_line : Output → Bool) (s : Setting) (w : WorldAt) 
     AllByRecursion (IsEarnedLine s w) (lines_of (flat_map (lines_by has_line s w) steps))
 lines_are_earned has_line s w steps names are =
     steps_lines (IsEarnedLine s w) has_line s w steps names
-    (all_so (AreTrueReports s w) (λ (step : NodeStepAt). AllByRecursion (λ (o : Output). IsEarnedLine s w (line_at s w step.node o)) step.outs) (λ step true_. step_earned s w step names true_) steps are)
+    (all_weaker (AreTrueReports s w) (λ (step : NodeStepAt). AllByRecursion (λ (o : Output). IsEarnedLine s w (line_at s w step.node o)) step.outs) (λ step true_. step_earned s w step names true_) steps are)

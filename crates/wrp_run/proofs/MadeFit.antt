@@ -1,5 +1,5 @@
 -- The numbers of an event that the simulator's rules make fit the types that hold them.
-use Rattle.std.proofs.Common.{◌≡◌, refl, sym, subst, ℕ, zero, suc, ℤ, ◌+◌, ◌-◌, ◌-ℤ◌, ◌<◌, ◌≤◌, ◌^◌, ◌==◌, nat_lt, Bool, true, false, cond, if◌then◌else◌, List, [], ◌∷◌, ◌++◌, length, map, find, flat_map, Option, None, Some, IfSome, option_map, option_and_then, Result, arith}
+use Rattle.std.proofs.Common.{◌≡◌, refl, sym, subst, ℕ, zero, suc, ℤ, ◌+◌, ◌-◌, ◌-ℤ◌, ◌<◌, ◌≤◌, ◌^◌, ◌==◌, nat_lt, Bool, true, false, cond, if◌then◌else◌, List, [], ◌∷◌, length, map, find, flat_map, Option, None, Some, IfSome, option_map, option_and_then, Result, arith}
 use Rattle.std.specs.List.{AllByRecursion}
 use Rattle.std.specs.Ordering.{int_eq}
 use Rattle.std.proofs.Math.Pow.{pow_mono}
@@ -7,7 +7,9 @@ use Rattle.std.proofs.lemmas.Bool.{eqb-true}
 use Rattle.std.proofs.lemmas.Nat.{pow_pos}
 use Rattle.wrp_base.specs.declared.message.PtpMsg.{PtpMsg}
 use Rattle.wrp_base.specs.declared.time.Raw.{Raw}
+use Rattle.wrp_base.proofs.Naturals.{below_word}
 use Rattle.wrp_base.specs.Network.{node_count}
+use Rattle.wrp_base.proofs.Lists.{all_append}
 use Rattle.wrp_frame.specs.declared.fault.FrameFault.{FrameFault}
 use Rattle.wrp_sim.specs.declared.scene.fault.Fault.{Fault}
 use Rattle.wrp_sim.specs.declared.scene.fault.FaultKind.{FaultKind}
@@ -95,17 +97,13 @@ samples_fit scene s w at =
 abbrev IsSmall : ℕ × ℕ → Type 0
 IsSmall port = port.1 ≤ 18
 
-both_all : {A : Type 0} (P : A → Type 0) (xs ys : List A) → AllByRecursion P xs → AllByRecursion P ys → AllByRecursion P (xs ++ ys)
-both_all P [] ys h k = k
-both_all P (x ∷ xs) ys h k = (h.0, both_all P xs ys h.1 k)
-
 few_ports : (n count first : ℕ) → first + count ≤ 19 → AllByRecursion IsSmall (map (λ p. (n, p)) (from_on count first))
 few_ports n zero first h = tt
 few_ports n (suc count) first h = (omega (arith, h), few_ports n count (first + 1) (omega (arith, h)))
 
 all_ports : (nodes : List ℕ) → AllByRecursion IsSmall (flat_map (λ n. map (λ p. (n, p)) (from_on 18 1)) nodes)
 all_ports [] = tt
-all_ports (n ∷ nodes) = both_all IsSmall (map (λ p. (n, p)) (from_on 18 1)) (flat_map (λ m. map (λ p. (m, p)) (from_on 18 1)) nodes) (few_ports n 18 1 (omega arith)) (all_ports nodes)
+all_ports (n ∷ nodes) = all_append IsSmall (map (λ p. (n, p)) (from_on 18 1)) (flat_map (λ m. map (λ p. (m, p)) (from_on 18 1)) nodes) (few_ports n 18 1 (omega arith)) (all_ports nodes)
 
 found_fits : (s : Setting) (w : WorldAt) (at : SimAt) (p : ℕ × ℕ → Bool) (ports : List (ℕ × ℕ)) → AllByRecursion IsSmall ports → FitsIf (option_and_then (departs_from s w at) (find p ports))
 found_fits s w at p [] h = tt
@@ -232,14 +230,11 @@ delivers_there : (s : Setting) (w : WorldAt) (i n : ℕ) (o : Option FrameAt) �
 delivers_there s w i n (Some f) holds h = h
 delivers_there s w i n None holds h = absurd (let f : true ≡ false = holds.0 in cc)
 
-small_number : (i n : ℕ) → i ≤ n → n < 2 ^ 32 → i < 2 ^ 32
-small_number i n h k = omega (arith, h, k)
-
 -- All events
 
 event_fits : (s : Setting) (w : WorldAt) (says : Result PtpMsg FrameFault) (e : Event) (n : ℕ) → AreNumbered n w → n < 2 ^ 32 → Accepts s w says e → FitsSave e → FitsEvent e
-event_fits s w says (Arrive i raw) n h few accepted fits = small_number i n (arrives_there s w i raw n (is_on_fibre (w.frame i)) (w.frame i) accepted (h.frames i)) few
-event_fits s w says (Deliver i) n h few accepted fits = small_number i n (delivers_there s w i n (w.frame i) accepted (h.frames i)) few
+event_fits s w says (Arrive i raw) n h few accepted fits = below_word i n (arrives_there s w i raw n (is_on_fibre (w.frame i)) (w.frame i) accepted (h.frames i)) few
+event_fits s w says (Deliver i) n h few accepted fits = below_word i n (delivers_there s w i n (w.frame i) accepted (h.frames i)) few
 event_fits s w says (Pass dt drifts fibres) n h few accepted fits = fits
 event_fits s w says (Tick m) n h few accepted fits = fits
 event_fits s w says (Sample m base bits) n h few accepted fits = fits

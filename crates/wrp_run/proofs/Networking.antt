@@ -8,6 +8,7 @@ use Rattle.std.proofs.lemmas.Slice.Eq.{bytes_eq-Decides}
 use Rattle.std.proofs.lemmas.List.{reverse-reverse, nil_from_length}
 use Rattle.std.specs.Io.KnownBytes.{Consumes}
 use Rattle.std.proofs.KnownBytes.{Consumes-nil}
+use Rattle.wrp_sim.proofs.SceneLemmas.{all_more}
 use Rattle.wrp_run.specs.Lines.{lines_of, content_of, without_end, HasNoFeed, IsWhole}
 use Rattle.wrp_run.specs.Input.{is_separator, before_separator, behind_separator, network_text, network_limit, IsDivided, IsTooLong, IsUndivided, BeginsSeparator, NetworkOutcome}
 use Rattle.wrp_run.specs.declared.network_text.End.{End}
@@ -15,7 +16,7 @@ use Rattle.wrp_run.specs.declared.network_text.End.TheVariants.{Whole, TooLong, 
 use Rattle.wrp_run.specs.Reader.{ReaderAt, Takes, IsNext, IsCut, IsLast}
 use Rattle.wrp_run.proofs.Feeds.{lines_of-whole, lines_of-open}
 use Rattle.wrp_run.specs.Reached.{Reached}
-use Rattle.wrp_run.proofs.Reaching.{Coming, comes, whole_before, next_some, goes_on_with, lines_behind, concat-snoc, all-snoc}
+use Rattle.wrp_run.proofs.Reaching.{Coming, comes, whole_before, next_some, goes_on_with, lines_behind, concat-snoc}
 
 -- the lines are those of a network text so far
 pub record NetworkLines (lines : List (List ℕ)) (text : List ℕ) : Type 0 where
@@ -263,7 +264,7 @@ unfolding goes_on_with
 goes_on_network line text r left rest waiting number so_far next other is same = record {
   number = number + 1;
   so_far = goes_on_with NetworkLines Anything Anything [] line r left rest None None waiting text line number so_far next tt (record {
-    none = all-snoc (λ l. is_separator l ≡ false) so_far.lines line so_far.handled.none other;
+    none = all_more (λ l. is_separator l ≡ false) so_far.lines line so_far.handled.none other;
     is = ap (λ l. l ++ line) so_far.handled.is ∙ sym (concat-snoc so_far.lines line);
   }) is;
   same = same;

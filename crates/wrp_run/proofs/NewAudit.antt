@@ -3,6 +3,7 @@ use Rattle.std.proofs.Common.{◌≡◌, ◌∙◌, refl, ap, sym, subst, ℕ, �
 use Rattle.std.specs.Prelude.{slice_get, option_and_then}
 use Rattle.wrp_base.specs.declared.network.LinkCfg.{LinkCfg}
 use Rattle.wrp_base.specs.Network.{IsTree, link_above, node_count}
+use Rattle.wrp_base.proofs.Lists.{has_item}
 use Rattle.wrp_config.specs.declared.network.Network.{Network}
 use Rattle.wrp_law.specs.Law.{LawOf}
 use Rattle.wrp_node.specs.Control.{law_in}
@@ -20,7 +21,7 @@ use Rattle.wrp_run.specs.AuditStands.{CanAudit, HasAudited, HasLawOf, setting_in
 use Rattle.wrp_run.specs.DownLaw.{AnswersBy, greatest_over, least_over}
 use Rattle.wrp_run.specs.DownLaw as down
 use Rattle.wrp_run.specs.LawsFit.{LawsFit}
-use Rattle.wrp_run.proofs.AuditSteps.{below_count, has_item, nothing_audited}
+use Rattle.wrp_run.proofs.AuditSteps.{below_count, nothing_audited}
 
 -- The range of each law
 

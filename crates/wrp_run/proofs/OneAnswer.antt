@@ -1,6 +1,7 @@
 -- For words and an input one status and one text are due, and no others.
 use Rattle.std.proofs.Common.{true, false, ◌≡◌, ◌⊎◌, inl, inr, ℕ, ◌<◌, ◌≤◌, Option, None, Some, IfSome, Ok, Err, List, [], length, refl, sym, ap, ap₂, ◌∙◌, subst, arith, codes}
 use Rattle.std.specs.Io.KnownBytes.{Appends}
+use Rattle.std.proofs.lemmas.Option.{same_Some}
 use Rattle.wrp_base.specs.declared.configuration.NetCfg.{NetCfg}
 use Rattle.wrp_base.specs.declared.fault.ConfFault.TheVariants.{Fault}
 use Rattle.wrp_caldb.specs.Database.{Database}
@@ -45,17 +46,13 @@ site_with cfg db node = record { cfg = cfg; db = db; node = node }
 abbrev pub AreOne : Status → Status → List ℕ → List ℕ → Type 0
 AreOne s t o u = (s ≡ t) × (o ≡ u)
 
--- words and a text name one node
-some_same : (m n : ℕ) → Some m ≡ Some n → m ≡ n
-some_same m n e = cc
-
 one_site : (words : List (List ℕ)) (text : List ℕ) (a b : Site) → AsksFor words text (Replay a) → AsksFor words text (Replay b) → a ≡ b
 one_site words text a b p q =
     let name : p.1 ≡ q.1 = one_value (codes "replay") (codes "--node") words p.1 q.1 p.2 q.2 in
     let nets = one_reading text (Ok p.3.net) (Ok q.3.net) p.3.reads q.3.reads in
     let cfg : a.cfg ≡ b.cfg = p.3.cfg ∙ nets.0 ∙ sym q.3.cfg in
     let db : a.db ≡ b.db = p.3.db ∙ nets.1 ∙ sym q.3.db in
-    let node : a.node ≡ b.node = some_same a.node b.node (sym p.4 ∙ ap₂ (λ (c : NetCfg) (n : List ℕ). node_named c n) cfg name ∙ q.4) in
+    let node : a.node ≡ b.node = same_Some a.node b.node (sym p.4 ∙ ap₂ (λ (c : NetCfg) (n : List ℕ). node_named c n) cfg name ∙ q.4) in
     ap (λ (c : NetCfg). site_with c a.db a.node) cfg ∙ ap (λ (d : Database). site_with b.cfg d a.node) db ∙ ap (λ (n : ℕ). site_with b.cfg b.db n) node
 
 -- words and a text ask of one network, whatever stands in the unused room of its names
@@ -188,7 +185,7 @@ one_emitter : (words : List (List ℕ)) (text : List ℕ) (a b : Setting) (n m :
 one_emitter words text a b n m p q =
     let name : p.1 ≡ q.1 = one_value (codes "audit") (codes "--emit") words p.1 q.1 p.2 q.2 in
     let same : bare_setting a ≡ bare_setting b = one_setting text a b p.3 q.3 in
-    some_same n m
+    same_Some n m
     (sym p.4 ∙ sym (named_bare a.cfg p.1) ∙ ap₂ (λ (k : Setting) (name : List ℕ). node_named k.cfg name) same name ∙ named_bare b.cfg q.1 ∙ q.4)
 
 one_task : OneRun → OneNode → OneAudit → ToldLast → (words : List (List ℕ)) (text : List ℕ) (lines : List (List ℕ)) (a b : Task) (s t : Status) (o u : List ℕ) → AsksFor words text a → AsksFor words text b

@@ -3,6 +3,7 @@ use Rattle.std.proofs.Common.{◌≡◌, ◌∙◌, inl, inr, refl, ap, ap₂, s
 use Rattle.std.proofs.lemmas.Bool.Decides.{nat_tests}
 use Rattle.std.proofs.lemmas.Int.{ints}
 use Rattle.std.specs.Prelude.{nat_lt}
+use Rattle.std.proofs.lemmas.Option.{none-some, same_Some}
 use Rattle.wrp_base.specs.declared.fault.TraceFault.{TraceFault}
 use Rattle.wrp_lines.specs.Lines.{sum_line}
 use Rattle.wrp_node.proofs.OneRun.{SameServo, with_calls}
@@ -82,7 +83,7 @@ drift_same scene s v calls inputs dt servo n =
       dac_same (fixed_of s n) (v.node n) (calls n) (servo n),
     ) refl
 
-map_same : {A B : Type 0} (f g : A → B) → ((a : A) → f a ≡ g a) → (xs : List A) → map f xs ≡ map g xs
+pub map_same : {A B : Type 0} (f g : A → B) → ((a : A) → f a ≡ g a) → (xs : List A) → map f xs ≡ map g xs
 map_same f g same [] = refl
 map_same f g same (x ∷ xs) = ap₂ (λ y ys. y ∷ ys) (same x) (map_same f g same xs)
 
@@ -116,9 +117,6 @@ gives_one scene s v w at m n h p q =
 
 -- Runs
 
-some_next : (m n : Next) → Some m ≡ Some n → m ≡ n
-some_next m n e = cc
-
 -- what is told of the events of a run
 pub record Told (s : Setting) (events : List Happened) : Type 0 where
   pub said : AllSaid events
@@ -142,7 +140,7 @@ one_run last scene s seed (h ∷ a) (k ∷ b) x y p q t u size =
     let one : OneRun a b p.0 q.0 = one_run last scene s seed a b p.0 q.0 p.1 q.1 (told_before s h a t) (told_before s k b u) (omega (arith, size)) in
     let alike : Alike s (world_after s a) (world_after s b) = alike_told last s a b one.same (told_before s h a t) (told_before s k b u) in
     let next : record { event = h.event; at = x } ≡ record { event = k.event; at = y } =
-    some_next (record { event = h.event; at = x }) (record { event = k.event; at = y })
+    same_Some (record { event = h.event; at = x }) (record { event = k.event; at = y })
     (gives_one scene s (world_after s a) (world_after s b) p.0 (Some (record { event = h.event; at = x })) (Some (record { event = k.event; at = y })) alike p.2
     (subst (λ (o : SimAt). GivesEvent scene s (world_after s b) o k.event y) (sym one.at) q.2)) in
     record { same = (ap (λ (n : Next). n.event) next, one.same); at = ap (λ (n : Next). n.at) next }
@@ -214,9 +212,6 @@ shorter scene s seed size (h ∷ events) x p t less =
       comes = p.2;
     }
 
-none_some : (n : Next) → None ≡ Some n → ⊥
-none_some n e = cc
-
 -- no run is longer than one that is over
 not_longer : ToldLast → (scene : SceneAt) (s : Setting) (seed : ℕ) (a b : List Happened) (x y : SimAt) → IsSimRun scene s seed a x → Told s a → Gives scene s (world_after s a) x None →
     IsSimRun scene s seed b y → Told s b → length a < length b → ⊥
@@ -224,7 +219,7 @@ not_longer last scene s seed a b x y p t over q u less =
     let part : Shorter scene s seed (length a) = shorter scene s seed (length a) b y q u less in
     let one : OneRun a part.events x part.at = one_run last scene s seed a part.events x part.at p part.run t part.told (sym part.count) in
     let alike : Alike s (world_after s a) (world_after s part.events) = alike_told last s a part.events one.same t part.told in
-    none_some part.next
+    none-some part.next
     (gives_one scene s (world_after s a) (world_after s part.events) x None (Some part.next) alike over
     (subst (λ (o : SimAt). Gives scene s (world_after s part.events) o (Some part.next)) (sym one.at) part.comes))
 
@@ -330,7 +325,7 @@ not_both_ends last s seed lines p q over run = go (nat_lt (length p.events) (len
         let number = run.number in
         let both : Both s seed lines p q = both_of last s seed lines p q (omega (arith, least, most, number)) in
         let scene : q.scene ≡ p.scene = scenes_one s (new_scene s.cfg) lines q.scene p.scene q.said p.said in
-        none_some run.next
+        none-some run.next
         (gives_one p.scene s (world_after s p.events) (world_after s q.events) p.at None (Some run.next) both.alike over
         (subst (λ (o : SimAt). Gives p.scene s (world_after s q.events) o (Some run.next)) (sym both.at)
         (subst (λ (n : SceneAt). Gives n s (world_after s q.events) q.at (Some run.next)) scene run.comes)))

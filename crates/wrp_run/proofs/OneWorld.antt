@@ -3,6 +3,7 @@
 use Rattle.std.proofs.Common.{◌≡◌, ◌∙◌, refl, ap, ap₂, sym, subst, ℕ, ℤ, Bool, true, false, ◌==◌, if◌then◌else◌, List, [], ◌∷◌, ◌++◌, flat_map, map, is_some, Result, arith}
 use Rattle.wrp_base.specs.declared.link.ServoState.TheVariants.{Uninit}
 use Rattle.wrp_base.specs.declared.message.PtpMsg.{PtpMsg}
+use Rattle.wrp_base.proofs.Naturals.{eq_self}
 use Rattle.wrp_frame.specs.declared.fault.FrameFault.{FrameFault}
 use Rattle.wrp_node.proofs.OneRun.{SameServo, SameStep, Answered, with_calls, step_with, step_alike, before_step, put_out_same, ok_of}
 use Rattle.wrp_node.specs.NodeAt.{Taken, Fixed, NodeAt, settings_of, slave_of, locked_of, state_of}
@@ -15,6 +16,7 @@ use Rattle.wrp_servo.specs.Told.{ToldLast}
 use Rattle.wrp_world.specs.Checks.{Check}
 use Rattle.wrp_world.specs.declared.event.Event.{Event}
 use Rattle.wrp_world.specs.declared.event.Event.TheVariants.{Pass, Tick, Sample, Depart, Arrive, Deliver, Noise, Down, Up, Cut, Join}
+use Rattle.wrp_run.proofs.BareSite.{flat_map_same}
 use Rattle.wrp_world.specs.Given.{Given, given_by, gives, gives_all, node_step_of, steps_of, step_of, stepped_by, taken_of, world_step, event_steps}
 use Rattle.wrp_world.specs.Moved.{moved}
 use Rattle.wrp_world.specs.Premises.{checks_of, rate_kept, tick_late, fibre_rate, fibre_kept}
@@ -42,9 +44,6 @@ law_of s n = law_at (node_in s n)
 -- each measurement of a node has the law's answer
 abbrev AnsweredAt : Setting → WorldAt → ℕ → Type 0
 AnsweredAt s w n = AllAnswered (answers_by (law_of s n)) (settings_of (fixed_of s n)) (w.node n).calls
-
-same_number : (n : ℕ) → (n == n) ≡ true
-same_number n = grind arith
 
 -- An event by itself
 
@@ -107,7 +106,7 @@ servo_at_node s v calls m r c all one n = go (n == m) refl
 -- what the node that is given an input holds after it
 after_given : (s : Setting) (y : ℤ) (v : WorldAt) (g : Given) → AnsweredAt s (gives s y v g) g.to → Answered (law_of s g.to) (fixed_of s g.to) (step_of s y v g)
 after_given s y v g a =
-    subst (λ (b : Bool). AllAnswered (answers_by (law_of s g.to)) (settings_of (fixed_of s g.to)) (if b then (step_of s y v g).node else v.node g.to).calls) (same_number g.to) a
+    subst (λ (b : Bool). AllAnswered (answers_by (law_of s g.to)) (settings_of (fixed_of s g.to)) (if b then (step_of s y v g).node else v.node g.to).calls) (eq_self g.to) a
 
 before_given : (s : Setting) (y : ℤ) (v : WorldAt) (g : Given) → IsAnswered (answers_in s) s (gives s y v g) → IsAnswered (answers_in s) s v
 before_given s y v g all n = go (n == g.to) refl (all n)
@@ -205,15 +204,11 @@ rate_same : (s : Setting) (v : WorldAt) (calls : ℕ → List Call) (inputs : �
     rate_kept s (with_all calls inputs v) dt drifts n ≡ rate_kept s v dt drifts n
 rate_same s v calls inputs dt drifts servo n = rw (locked_same (fixed_of s n) (v.node n) (calls n) (servo n), state_same (fixed_of s n) (v.node n) (calls n) (servo n)) refl
 
-flat_map_as : {A B : Type 0} (f g : A → List B) → ((a : A) → f a ≡ g a) → (xs : List A) → flat_map f xs ≡ flat_map g xs
-flat_map_as f g same [] = refl
-flat_map_as f g same (x ∷ xs) = ap₂ (λ a b. a ++ b) (same x) (flat_map_as f g same xs)
-
 checks_alike : (s : Setting) (v : WorldAt) (calls : ℕ → List Call) (inputs : ℕ → List Taken) (says : Result PtpMsg FrameFault) (e : Event) → ((n : ℕ) → SameServo (fixed_of s n) (v.node n).calls (calls n)) →
     checks_of s (with_all calls inputs v) says e ≡ checks_of s v says e
 checks_alike s v calls inputs says (Pass dt drifts fibres) servo =
     ap (λ (rates : List Check). map (tick_late s v dt) (nodes_of s) ++ (rates ++ (flat_map (fibre_rate dt fibres.items) (links_of s) ++ flat_map (fibre_kept s (moved s v (Pass dt drifts fibres))) (links_of s))))
-    (flat_map_as (rate_kept s (with_all calls inputs v) dt drifts.items) (rate_kept s v dt drifts.items) (λ n. rate_same s v calls inputs dt drifts.items servo n) (nodes_of s))
+    (flat_map_same (rate_kept s (with_all calls inputs v) dt drifts.items) (rate_kept s v dt drifts.items) (λ n. rate_same s v calls inputs dt drifts.items servo n) (nodes_of s))
 checks_alike s v calls inputs says (Tick n) servo = refl
 checks_alike s v calls inputs says (Sample n base bits) servo = refl
 checks_alike s v calls inputs says (Depart n p stamp) servo = refl

@@ -1,46 +1,24 @@
 -- A port that a link names is one of the node's.
-use Rattle.std.proofs.Common.{◌≡◌, ◌∙◌, ◌⊎◌, inl, inr, refl, ap, sym, ℕ, ◌==◌, ◌&&◌, ◌||◌, Bool, true, false, if◌then◌else◌, List, [], ◌∷◌, ◌++◌, map, Option, None, Some, is_some, option_map}
+use Rattle.std.proofs.Common.{◌≡◌, ◌∙◌, inl, inr, refl, ap, sym, ℕ, ◌==◌, ◌&&◌, ◌||◌, Bool, true, false, if◌then◌else◌, List, [], ◌∷◌, ◌++◌, map, Some, is_some}
 use Rattle.std.specs.List.{list_any, find, flat_map}
+use Rattle.std.proofs.lemmas.Bool.{or_cases, or_left, or_right}
 use Rattle.wrp_base.specs.declared.configuration.NetCfg.{NetCfg}
 use Rattle.wrp_base.specs.declared.network.LinkCfg.{LinkCfg}
+use Rattle.wrp_base.proofs.Booleans.{and_first, and_second}
 use Rattle.wrp_config.specs.Names.{has_port as names_port, link_at, pair_of}
 use Rattle.wrp_data.specs.declared.datasets.PortDs.{PortDs}
+use Rattle.wrp_config.proofs.Bare.{some_bare}
 use Rattle.wrp_node.specs.NodeAt.{NodeAt, in_order, is_before, placed}
 use Rattle.wrp_node.specs.declared.parts.Parts.{Parts}
 use Rattle.wrp_node.specs.Parts.{PartsAt, is_among}
 use Rattle.wrp_node.specs.Set.{master_at, slave_at, ports_at, ports_of}
+use Rattle.wrp_world.proofs.PortNumbers.{or_swap}
 use Rattle.wrp_trace.specs.Site.{Site, has_port}
 use Rattle.wrp_run.specs.DownLaw.{fixed_at}
 
 -- one of the ports has this number
 abbrev any_of : ℕ → List PortDs → Bool
 any_of p ports = list_any (λ q. q == p) (map (λ (ds : PortDs). ds.own.port) ports)
-
-or_left : (a b : Bool) → a ≡ true → (a || b) ≡ true
-or_left true b e = refl
-or_left false b e = absurd (cc)
-
-or_right : (a b : Bool) → b ≡ true → (a || b) ≡ true
-or_right true b e = refl
-or_right false b e = e
-
-or_split : (a b : Bool) → (a || b) ≡ true → (a ≡ true) ⊎ (b ≡ true)
-or_split true b e = inl refl
-or_split false b e = inr e
-
-and_first : (a b : Bool) → (a && b) ≡ true → a ≡ true
-and_first true b e = refl
-and_first false b e = absurd (cc)
-
-and_second : (a b : Bool) → (a && b) ≡ true → b ≡ true
-and_second true b e = e
-and_second false b e = absurd (cc)
-
-or_swap : (a b c : Bool) → (a || (b || c)) ≡ (b || (a || c))
-or_swap true true c = refl
-or_swap true false c = refl
-or_swap false true c = refl
-or_swap false false c = refl
 
 -- their order changes nothing
 
@@ -78,7 +56,7 @@ behind net p link rest false false is = is
 
 at_link : (net : NetCfg) (n p : ℕ) (link : LinkCfg) (rest : List PortDs) → names_port n p link ≡ true → any_of p (ports_at net n link ++ rest) ≡ true
 at_link net n p link rest is =
-    elim (or_split ((link.upper == n) && (link.upper_port == p)) ((link.lower == n) && (link.lower_port == p)) is) [
+    elim (or_cases ((link.upper == n) && (link.upper_port == p)) ((link.lower == n) && (link.lower_port == p)) is) [
       | inl up ↦ at_upper net p link rest (link.upper == n) (link.lower == n) (and_first (link.upper == n) (link.upper_port == p) up) (and_second (link.upper == n) (link.upper_port == p) up)
       | inr low ↦ at_lower net p link rest (link.upper == n) (link.lower == n) (and_first (link.lower == n) (link.lower_port == p) low) (and_second (link.lower == n) (link.lower_port == p) low)
     ]
@@ -91,15 +69,11 @@ at_links net n p (link ∷ links) is =
       | false ↦ λ here some. behind net p link (flat_map (ports_at net n) links) (link.upper == n) (link.lower == n) (at_links net n p links some)
     ] refl is
 
-some_of : {X Y : Type 0} (f : X → Y) (o : Option X) → is_some (option_map f o) ≡ is_some o
-some_of f None = refl
-some_of f (Some x) = refl
-
 -- a port that a link names is one that the node is set to
 pub is_own : (site : Site) (p : ℕ) → has_port site p ≡ true → any_of p (in_order (ports_of site.cfg site.node)) ≡ true
 is_own site p has =
     ordered_any p (ports_of site.cfg site.node)
-    ∙ at_links site.cfg site.node p site.cfg.links.items (sym (some_of (pair_of site.node p) (link_at site.cfg site.node p)) ∙ has)
+    ∙ at_links site.cfg site.node p site.cfg.links.items (sym (some_bare (pair_of site.node p) (link_at site.cfg site.node p)) ∙ has)
 
 -- and one of a node that stands for some inputs
 pub is_among_own : (site : Site) (n : NodeAt) (parts : Parts) (p : ℕ) → PartsAt (fixed_at site) n parts → has_port site p ≡ true → is_among p parts.ports ≡ true

@@ -46,19 +46,6 @@ moved_up : (s : Setting) (w : WorldAt) (n : ℕ) (off : ℤ) (swaps : List Swap)
 moved_up s w n off swaps =
     ap (λ (ends : ℕ → Role → EndAt). record (moved s w (Up n off (record { items = swaps }))) { end_at = ends }) (λ i k r. end_same s w n swaps k r i)
 
-pub same_moved : (s : Setting) (w : WorldAt) (e : Event) → moved s w (plain e) ≡ moved s w e
-same_moved s w (Pass dt drifts fibres) = refl
-same_moved s w (Tick n) = refl
-same_moved s w (Sample n base bits) = refl
-same_moved s w (Depart n p stamp) = refl
-same_moved s w (Arrive i raw) = refl
-same_moved s w (Deliver i) = refl
-same_moved s w (Noise n p octets raw) = refl
-same_moved s w (Down n) = refl
-same_moved s w (Up n off swaps) = moved_up s w n off swaps.items
-same_moved s w (Cut k) = refl
-same_moved s w (Join k ms sm) = refl
-
 -- The world after it, and the steps
 
 pub same_world : (s : Setting) (says : Result PtpMsg FrameFault) (y : ℤ) (w : WorldAt) (e : Event) → world_step s says y w (plain e) ≡ world_step s says y w e

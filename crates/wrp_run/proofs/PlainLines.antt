@@ -1,51 +1,21 @@
 -- A line is plain where the splitting of lines says so.
-use Rattle.std.proofs.Common.{◌≡◌, ◌∙◌, ◌&&◌, not, ℕ, List, [], ◌∷◌, true, false, Err, Result, refl, sym, ap, subst}
-use Rattle.std.specs.Prelude.{◌==◌, nat_lt}
-use Rattle.std.specs.List.{list_all, AllByRecursion}
-use Rattle.std.proofs.lemmas.Bool.{lt-ltb, ltb-true, not-true, and_parts, and_from, false_from_ne_true}
+use Rattle.std.proofs.Common.{◌≡◌, ◌∙◌, ℕ, List, true, false, Err, Result, refl, sym, ap, subst}
+use Rattle.std.proofs.lemmas.Bool.{false_from_ne_true}
 use Rattle.csv.specs.Records.{Row, fields_of}
 use Rattle.wrp_base.specs.declared.configuration.NetCfg.{NetCfg}
 use Rattle.wrp_base.specs.Lines.{parts_of}
 use Rattle.wrp_base.specs.declared.fault.TraceFault.{TraceFault}
 use Rattle.wrp_base.specs.declared.fault.TraceFault.TheVariants.{Fields}
-use Rattle.wrp_fields.specs.Lines.{IsPlainOctet, IsLine}
+use Rattle.wrp_fields.specs.Lines.{IsLine}
 use Rattle.wrp_node.specs.declared.interface.Input.{Input}
 use Rattle.wrp_trace.specs.Inputs.{input_of, read_of, IsReadInto}
-use Rattle.wrp_fields.specs.Reading.{IsReading, is_plain_octet, is_plain}
+use Rattle.wrp_fields.specs.Reading.{IsReading, is_plain}
+use Rattle.wrp_fields.proofs.PlainLemmas.{line_is, line_passes}
 use Rattle.wrp_trace.proofs.ReadingLemmas.{is_reading}
 use Rattle.wrp_trace.specs.Site.{Site}
 use Rattle.wrp_trace.specs.Events.{event_of, event_read}
 use Rattle.wrp_world.specs.declared.event.Event.{Event}
 use Rattle.wrp_run.specs.Split.{HasParts}
-
-octet_passes : (c : ℕ) → IsPlainOctet c → is_plain_octet c ≡ true
-octet_passes c (no_quote, no_return, no_feed, small) = rw (no_quote, no_return, no_feed, lt-ltb c 128 small) refl
-
-octet_is : (c : ℕ) → is_plain_octet c ≡ true → IsPlainOctet c
-octet_is c is =
-    let a = and_parts (not (c == 34)) (not (c == 13) && (not (c == 10) && nat_lt c 128)) is in
-    let b = and_parts (not (c == 13)) (not (c == 10) && nat_lt c 128) a.1 in
-    let d = and_parts (not (c == 10)) (nat_lt c 128) b.1 in
-    (not-true (c == 34) a.0, not-true (c == 13) b.0, not-true (c == 10) d.0, ltb-true c 128 d.1)
-
-octets_pass : (line : List ℕ) → AllByRecursion IsPlainOctet line → list_all is_plain_octet line ≡ true
-octets_pass [] all = refl
-octets_pass (c ∷ cs) all = and_from (is_plain_octet c) (list_all is_plain_octet cs) (octet_passes c all.0) (octets_pass cs all.1)
-
-octets_are : (line : List ℕ) → list_all is_plain_octet line ≡ true → AllByRecursion IsPlainOctet line
-octets_are [] all = tt
-octets_are (c ∷ cs) all =
-    let both = and_parts (is_plain_octet c) (list_all is_plain_octet cs) all in
-    (octet_is c both.0, octets_are cs both.1)
-
--- a plain line passes the test
-pub line_passes : (line : List ℕ) → IsLine line → is_plain line ≡ true
-line_passes [] is = absurd (is.0 refl)
-line_passes (c ∷ cs) is = octets_pass (c ∷ cs) is.1
-
-line_is : (line : List ℕ) → is_plain line ≡ true → IsLine line
-line_is [] is = cc is
-line_is (c ∷ cs) is = ((λ e. cc e), octets_are (c ∷ cs) is)
 
 -- and no other line does
 pub other_fails : (line : List ℕ) → (IsLine line → ⊥) → is_plain line ≡ false

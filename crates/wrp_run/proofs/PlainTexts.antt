@@ -1,5 +1,5 @@
 -- Lines of a plain text: what each says is plain, unless it is empty.
-use Rattle.std.proofs.Common.{◌≡◌, inl, inr, ◌==◌, ℕ, zero, suc, ◌+◌, ◌<◌, true, false, List, [], ◌∷◌, ◌++◌, length, take, drop, refl, sym, ap, ◌∙◌, subst, length-append, arith}
+use Rattle.std.proofs.Common.{◌≡◌, inl, inr, ◌==◌, ℕ, zero, suc, ◌+◌, ◌<◌, true, false, List, [], ◌∷◌, ◌++◌, length, take, refl, sym, ap, ◌∙◌, subst, length-append, arith}
 use Rattle.std.specs.List.{AllByRecursion}
 use Rattle.std.specs.Str.{IsAscii}
 use Rattle.std.proofs.lemmas.List.{append_cancel_right}
@@ -31,12 +31,6 @@ pub front_plain : (octets : List ℕ) (size : ℕ) → IsPlainText octets → Is
 front_plain octets zero text = tt
 front_plain [] (suc size) text = tt
 front_plain (octet ∷ octets) (suc size) text = (text.0, front_plain octets size text.1)
-
--- and those behind them
-pub behind_plain : (octets : List ℕ) (size : ℕ) → IsPlainText octets → IsPlainText (drop size octets)
-behind_plain octets zero text = text
-behind_plain [] (suc size) text = tt
-behind_plain (octet ∷ octets) (suc size) text = behind_plain octets size text.1
 
 -- each part of a plain text
 parts_plain : (front back : List ℕ) → IsPlainText (front ++ back) → IsPlainText front × IsPlainText back

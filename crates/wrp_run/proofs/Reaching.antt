@@ -6,6 +6,7 @@ use Rattle.std.proofs.KnownBytes.{Appends-trans, Consumes-trans}
 use Rattle.std.proofs.lemmas.List.{map-append}
 use Rattle.std.proofs.Math.Seq.{take-add, take-append_seam, drop-append_seam}
 use Rattle.std.proofs.lemmas.List.Folds.{concat-append}
+use Rattle.wrp_sim.proofs.SceneLemmas.{all_more}
 use Rattle.wrp_run.specs.declared.engine.Ended.{Ended}
 use Rattle.wrp_run.specs.declared.engine.Ended.TheVariants as ended
 use Rattle.wrp_run.specs.declared.machine.Refusal.{Refusal}
@@ -19,11 +20,7 @@ use Rattle.wrp_run.specs.Reader.{ReaderAt, Takes, IsNext, IsCut, IsLast, piece_l
 use Rattle.wrp_run.specs.Stream.{Accepting, Refusing, Handles, IsWithin, IsTooLarge, IsLargeNext, IsCutWithin, line_limit, number_limit, large_line, FirstHandled, RefusedAt, Due, Handling}
 use Rattle.wrp_run.specs.Taking.{AppendsPart}
 use Rattle.wrp_run.proofs.Feeds.{lines_of-whole, lines_of-open, size_plain}
-
--- one more with the property
-pub all-snoc : {X : Type 0} (P : X → Type 0) (xs : List X) (x : X) → AllByRecursion P xs → P x → AllByRecursion P (xs ++ x ∷ [])
-all-snoc P [] x all one = (one, tt)
-all-snoc P (y ∷ xs) x all one = (all.0, all-snoc P xs x all.1 one)
+use Rattle.wrp_run.proofs.LineEnds.{whole_size}
 
 -- whole lines, and what follows
 pub lines_behind : (lines : List (List ℕ)) (rest : List ℕ) → AllByRecursion IsWhole lines → lines_of (concat lines ++ rest) ≡ lines ++ lines_of rest
@@ -41,12 +38,8 @@ lines_alone lines whole = ap lines_of (sym (append-nil (concat lines))) ∙ line
 pub concat-snoc : (lines : List (List ℕ)) (line : List ℕ) → concat (lines ++ line ∷ []) ≡ concat lines ++ line
 concat-snoc lines line = concat-append lines (line ∷ []) ∙ ap (λ l. concat lines ++ l) (append-nil line)
 
--- what is taken behind the lines so far has something
-whole_some : (line : List ℕ) → IsWhole line → 0 < length line
-whole_some line whole = let size : length line ≡ length whole.front + 1 = ap length whole.is ∙ length-append whole.front (10 ∷ []) in omega arith
-
 pub next_some : (line : List ℕ) (r : ReaderAt) → IsNext line r → 0 < length line
-next_some line r next = elim next [ inl whole ↦ whole_some line whole | inr last ↦ last.some ]
+next_some line r next = elim next [ inl whole ↦ whole_size line whole | inr last ↦ last.some ]
 
 -- a line that is cut and passes what is taken of it
 pub large_cut : (line : List ℕ) (r : ReaderAt) (number most : ℕ) → IsCut line r → MostAt number most → most < length line → IsLargeNext line r number
@@ -423,7 +416,7 @@ goes_on_with H T U start line r left rest held now was waiting more number so_fa
       waits = more_waits so_far.text so_far.out was waiting more so_far.waits waits;
       all = so_far.all ∙ sym joined;
       first = elim next [
-        | inl one ↦ inl (all-snoc IsWhole so_far.lines line whole one)
+        | inl one ↦ inl (all_more IsWhole so_far.lines line whole one)
         | inr end ↦
             let alone : start ++ so_far.given ≡ concat so_far.lines ++ line =
             so_far.all ∙ ap (λ l. concat so_far.lines ++ (line ++ l)) end.last.none ∙ ap (λ l. concat so_far.lines ++ l) (append-nil line) in
@@ -450,7 +443,7 @@ goes_on A R T U start line said r left rest held now was waiting number so_far n
     let count : number ≡ length so_far.lines = so_far.count in
     let room : number + 1 < number_limit = next.3 in
     goes_on_with (Handles A) T U start line r left rest held now was waiting more.0 number so_far next.0 (subst U said_all more.2) (record {
-      sizes = all-snoc IsWithin so_far.lines line so_far.handled.sizes next.2;
+      sizes = all_more IsWithin so_far.lines line so_far.handled.sizes next.2;
       count = omega arith;
       accepted = subst (λ (ls : List (List ℕ)). A ls (so_far.text ++ more.0)) said_all more.3;
     }) more.1

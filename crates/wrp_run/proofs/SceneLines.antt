@@ -1,5 +1,5 @@
 -- What a line says of a scenario, by its parts.
-use Rattle.std.proofs.Common.{◌≡◌, ◌∙◌, ◌+◌, refl, ap, sym, subst, ℕ, true, false, Result, Ok, Err, List, [], ◌∷◌, ◌++◌, length}
+use Rattle.std.proofs.Common.{◌≡◌, ◌∙◌, ◌+◌, refl, ap, sym, subst, ℕ, true, false, Result, Ok, Err, List, [], ◌∷◌, ◌++◌}
 use Rattle.csv.specs.Records.{Row, fields_of}
 use Rattle.wrp_base.specs.declared.configuration.NetCfg.{NetCfg}
 use Rattle.wrp_base.specs.declared.fault.TraceFault.{TraceFault}
@@ -8,20 +8,16 @@ use Rattle.wrp_base.specs.Lines.{parts_of}
 use Rattle.wrp_config.specs.declared.network.Network.{Network}
 use Rattle.wrp_fields.specs.Lines.{IsLine}
 use Rattle.wrp_fields.specs.Reading.{is_plain}
+use Rattle.wrp_fields.proofs.PlainLemmas.{line_passes}
 use Rattle.wrp_sim.specs.Scenario.{SceneAt, new_scene}
 use Rattle.wrp_sim.specs.ScenarioLines.{scene_of, scene_read}
-use Rattle.wrp_run.specs.declared.machine.Refusal.{Refusal}
-use Rattle.wrp_run.specs.declared.machine.Refusal.TheVariants as refusals
-use Rattle.wrp_run.specs.declared.machine.Taken.{Taken}
-use Rattle.wrp_run.specs.declared.machine.Taken.TheVariants as taken
 use Rattle.wrp_run.specs.declared.scenario.ScenarioLines.{ScenarioLines}
 use Rattle.wrp_run.specs.AuditStands.{setting_in}
-use Rattle.wrp_run.specs.Refusals.{bad_trace_line}
-use Rattle.wrp_run.specs.SimStands.{SaysScenario, TellsLine}
-use Rattle.wrp_run.specs.Simulates.{Changes, IsScenario, SimAccepts, SimRefuses}
+use Rattle.wrp_run.specs.SimStands.{SaysScenario}
+use Rattle.wrp_run.specs.Simulates.{Changes, IsScenario, SimAccepts}
 use Rattle.wrp_run.specs.Split.{HasParts}
 use Rattle.wrp_run.proofs.OneSim.{joined}
-use Rattle.wrp_run.proofs.PlainLines.{line_passes, other_fails}
+use Rattle.wrp_run.proofs.PlainLines.{other_fails}
 
 passes : (cfg : NetCfg) (scene : SceneAt) (line : List ℕ) → is_plain line ≡ true → scene_read cfg scene line ≡ scene_of cfg scene (parts_of line)
 passes cfg scene line is = rw is refl
@@ -49,13 +45,3 @@ pub accepts_more : (net : Network) (held now : ScenarioLines) (lines : List (Lis
     → SimAccepts (setting_in net) (lines ++ line ∷ []) (before ++ text)
 accepts_more net held now lines line before text was is said accepted none =
     (now.scene, subst (λ (k : Network). IsScenario (setting_in k) (lines ++ line ∷ []) now.scene) is said, ap (λ (l : List ℕ). l ++ text) accepted.2 ∙ none)
-
--- a line that is refused
-pub refuses_line : (held : ScenarioLines) (lines : List (List ℕ)) (line old text : List ℕ) (fault : TraceFault) (number : ℕ) (answer : Taken) (refusal : Refusal) → Err fault ≡ scene_read held.net.now.cfg held.scene line
-    → TellsLine fault number old text answer → old ≡ [] → answer ≡ taken.Refused refusal → SaysScenario held lines → number ≡ length lines + 1 → SimRefuses (setting_in held.net.now) lines line refusal text
-refuses_line held lines line old text fault number (taken.Refused refusals.BadTrace) refusals.BadTrace reads tells none is said counts =
-    (held.scene, said, fault, sym reads, tells ∙ ap (λ (l : List ℕ). l ++ bad_trace_line number fault) none ∙ ap (λ (n : ℕ). bad_trace_line n fault) counts)
-refuses_line held lines line old text fault number (taken.Refused refusals.BadTrace) refusals.Broken reads tells none is said counts = absurd (cc)
-refuses_line held lines line old text fault number (taken.Refused refusals.Broken) refusal reads tells none is said counts = absurd tells
-refuses_line held lines line old text fault number taken.Memory refusal reads tells none is said counts = absurd (cc)
-refuses_line held lines line old text fault number taken.Accepted refusal reads tells none is said counts = absurd tells

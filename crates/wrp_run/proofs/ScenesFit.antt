@@ -22,8 +22,9 @@ use Rattle.wrp_sim.specs.ScenarioLines.{below, counted_of, fault_at, fault_kind,
 use Rattle.wrp_sim.proofs.SceneLemmas as scenes
 use Rattle.wrp_world.specs.EventAt.{link_count}
 use Rattle.wrp_world.specs.Setting.{Setting}
+use Rattle.wrp_trace.proofs.EventsFit.{found, link_there, node_there, number_in_range, number_read}
 use Rattle.wrp_run.specs.Simulates.{Changes, IsScenario}
-use Rattle.wrp_run.proofs.FieldsRead.{both, found, link_there, node_there, none_if, number_in_range, number_read, ok_same, read_if}
+use Rattle.wrp_run.proofs.FieldsRead.{both, none_if, ok_same, read_if}
 
 -- Fields
 

@@ -17,6 +17,7 @@ use Rattle.wrp_node.specs.NodeRun.{node_after}
 use Rattle.wrp_node.specs.StandsFor.{NodeOf, StandsFor as NodeStandsFor}
 use Rattle.wrp_node.specs.declared.interface.Output.{Output}
 use Rattle.wrp_base.specs.declared.link.ServoState.{ServoState}
+use Rattle.wrp_base.proofs.Naturals.{eq_self}
 use Rattle.wrp_lines.specs.Lines.{sum_line_of}
 use Rattle.wrp_world.specs.declared.outcome.NodeOut.{NodeOut}
 use Rattle.wrp_world.specs.Given.{NodeStepAt}
@@ -129,9 +130,6 @@ filter-append (x ∷ xs) ys =
 abbrev pub Counted : ℤ → List Output → ℕ → Total → Total → Type 0
 Counted off outs i before now = (offs : List ℤ) → IsTotal offs before → IsTotal (map (λ (o : Output). off) (filter is_track (take i outs)) ++ offs) now
 
-pub counted_none : (off : ℤ) (outs : List Output) (total : Total) → Counted off outs 0 total total
-counted_none off outs total offs tells = tells
-
 taken_more : (outs : List Output) (i : ℕ) (d : Output) → i < length outs → take (i + 1) outs ≡ take i outs ++ get_or outs i d ∷ []
 taken_more outs i d is = take_more outs i d is
 
@@ -195,9 +193,6 @@ AddsTo w outs i before now = (offs : ℕ → List ℤ) → AreTotals offs before
 pub adds_none : (w : WorldAt) (outs : List NodeOut) (totals : List Total) → AddsTo w outs 0 totals totals
 adds_none w outs totals offs all = all
 
-same_node : (n : ℕ) → (n == n) ≡ true
-same_node n = grind arith
-
 other_node : (m n : ℕ) → (n ≡ m → ⊥) → (m == n) ≡ false
 other_node m n other =
     elim (m == n) as (λ b. (m == n) ≡ b → b ≡ false) [
@@ -217,7 +212,7 @@ adds_more w outs i d before now old total is so_far found more offs all =
     let steps : List NodeStepAt = map step_seen (take i outs) in
     let told : (n : ℕ) → offsets_in w n (map step_seen (take (i + 1) outs)) ≡ map (λ (o : Output). (w.clock n).off) (filter is_track (own_outs n (step_seen out))) ++ offsets_in w n steps =
     λ n. ap (offsets_in w n) (seen_more outs i d is) ∙ offsets_snoc w n steps (step_seen out) in
-    let own : own_outs out.node (step_seen out) ≡ out.outs.items = (let same = same_node out.node in simp same refl) in
+    let own : own_outs out.node (step_seen out) ≡ out.outs.items = (let same = eq_self out.node in simp same refl) in
     each_set (λ n. IsTotal (offsets_in w n steps ++ offs n)) (λ n. IsTotal (offsets_in w n (map step_seen (take (i + 1) outs)) ++ offs n)) now out.node total
     (λ n x p other.
     let none : own_outs n (step_seen out) ≡ [] = (let apart = other_node out.node n other in simp apart refl) in

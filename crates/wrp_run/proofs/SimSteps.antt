@@ -26,6 +26,7 @@ use Rattle.wrp_world.specs.Setting.{Setting}
 use Rattle.wrp_world.specs.StandsFor.{IsValid, StandsFor, WorldOf}
 use Rattle.wrp_world.specs.Step.{MayCome, Stepped, step_seen}
 use Rattle.wrp_world.specs.WorldAt.{WorldAt, new_world}
+use Rattle.wrp_sim.proofs.Turns.{no_rule}
 use Rattle.wrp_run.specs.declared.simulation.Course.{Course}
 use Rattle.wrp_run.specs.declared.simulation.SimulatedNetwork.{SimulatedNetwork}
 use Rattle.wrp_run.specs.declared.status.Status.{Status}
@@ -39,7 +40,7 @@ use Rattle.wrp_run.specs.AuditStands.{setting_in}
 use Rattle.wrp_run.specs.Engine.{Finishes}
 use Rattle.wrp_run.specs.SimStands.{AreTotals, Begins, CanHappen, CanRun, ClosesLarge, ClosesRun, FitsCourse, HasRun, Running, RunsOn}
 use Rattle.wrp_run.specs.SimText.{offsets_in, printed_lines, sum_lines, tracked}
-use Rattle.wrp_run.specs.Simulates.{IsScenario, IsSimulated, Simulates, event_limit, simulation_of}
+use Rattle.wrp_run.specs.Simulates.{IsScenario, event_limit, simulation_of}
 use Rattle.wrp_run.specs.Stream.{large_line}
 use Rattle.wrp_run.specs.Taking.{AppendsPart}
 use Rattle.wrp_run.specs.Tasks.{meaning_at}
@@ -109,15 +110,11 @@ event_comes {pre = pre} {post = post} keeps seed s scene network course events a
     comes_by keeps s scene seed events at event sim (rest_of s (world_after s events) at) gave.0
     (network_of {pre = pre} {post = post} s (world_after s events) network.world can.valid h.stands) (scene_of seed s scene network course events at h fits.sim) h.simulated.run gave.1 gave.2
 
-none_given : (stays : SimAt) (next : Option Next) (sim : State) → Gave stays next None sim → next ≡ None
-none_given stays None sim gave = refl
-none_given stays (Some next) sim gave = absurd gave
-
 pub none_comes : {F : Type 0} {post : F → ℤ → ℤ → Type 0} (seed : ℕ) (s : Setting) (scene : SceneAt) (network : SimulatedNetwork F) (course : Course) (events : List Happened) (at : SimAt) (sim : State)
     → HasRun post seed s scene network course events at → FollowsRules post network.world course.sim sim None → Gives scene s (world_after s events) at None
 none_comes seed s scene network course events at sim h follows =
     let gave = gave_of seed s scene network course events at sim None h follows in
-    subst (Gives scene s (world_after s events) at) (none_given (rest_of s (world_after s events) at) gave.0 sim gave.2) gave.1
+    subst (Gives scene s (world_after s events) at) (no_rule (rest_of s (world_after s events) at) gave.0 sim gave.2) gave.1
 
 pub some_comes : (s : Setting) (scene : SceneAt) (seed : ℕ) (events : List Happened) (at : SimAt) (event : Event) (sim : State) → NextComes s scene seed events at event sim
     → (comes : Next) × Gives scene s (world_after s events) at (Some comes)
@@ -237,9 +234,6 @@ finishes_behind : (due given : Status) (before mid now : Option (List ℕ)) (wri
 finishes_behind due given before mid now written text wrote (inl all) = inl (all.0, Appends-trans before mid now written text wrote all.1)
 finishes_behind due given before mid now written text wrote (inr part) =
     inr (part.0, (length written + part.1.0, subst (Appends before now) (take_two written text part.1.0) (Appends-trans before mid now written (take part.1.0 text) wrote part.1.1)))
-
-simulates_of : (s : Setting) (scene : SceneAt) (seed : ℕ) (lines : List (List ℕ)) (events : List Happened) (at : SimAt) → IsScenario s lines scene → IsSimulated s scene seed events at → Simulates s seed lines
-simulates_of s scene seed lines events at said simulated = record { scene = scene; said = said; events = events; at = at; simulated = simulated }
 
 -- where there is no memory the lines of the first events stand
 pub without_memory : {F : Type 0} {post : F → ℤ → ℤ → Type 0} (seed : ℕ) (s : Setting) (scene : SceneAt) (network : SimulatedNetwork F) (course : Course) (before now : Option (List ℕ)) (waiting : List ℕ)

@@ -2,6 +2,7 @@
 use Rattle.std.proofs.Common.{◌≡◌, ◌∙◌, refl, ap, sym, subst, ℕ, ℤ, pos, List, [], ◌∷◌, ◌++◌, flat_map, Some, Bool, arith, codes}
 use Rattle.std.specs.List.{AllByRecursion}
 use Rattle.std.specs.Fmt.{decimal, signed_decimal}
+use Rattle.wrp_base.proofs.Lists.{all_weaker}
 use Rattle.wrp_bounds.specs.Bounds.{path_of}
 use Rattle.wrp_config.specs.Accepted.{HasNames}
 use Rattle.wrp_lines.specs.Lines.{line_of, output_words}
@@ -16,7 +17,7 @@ use Rattle.wrp_world.specs.WorldAt.{WorldAt}
 use Rattle.wrp_run.specs.EventLines.{IsWord}
 use Rattle.wrp_run.specs.Lines.{lines_of}
 use Rattle.wrp_run.specs.TrackLines.{IsTrueLine}
-use Rattle.wrp_run.proofs.EventLines.{SameWord, all_so, at_word, behind_two, decimal_word, first_word, head_of, line_at, lines_by, rest_of, signed_word, steps_lines}
+use Rattle.wrp_run.proofs.EventLines.{SameWord, at_word, behind_two, decimal_word, first_word, head_of, line_at, lines_by, rest_of, signed_word, steps_lines}
 
 -- what tells of TRACK in a line, behind the first two words
 abbrev TrueLine : (off : List ℕ) → List ℕ
@@ -87,11 +88,11 @@ line_true s w n o names true_ = λ node tick est bound off a b c d f e.
 
 step_true : (s : Setting) (w : WorldAt) (step : NodeStepAt) → HasNames s.cfg → IsTrueStep s w step → AllByRecursion (λ (o : Output). IsTrueLine s w (line_at s w step.node o)) step.outs
 step_true s w step names are =
-    all_so (IsTrueOutput s w step.node) (λ (o : Output). IsTrueLine s w (line_at s w step.node o)) (λ o true_. line_true s w step.node o names true_) step.outs are
+    all_weaker (IsTrueOutput s w step.node) (λ (o : Output). IsTrueLine s w (line_at s w step.node o)) (λ o true_. line_true s w step.node o names true_) step.outs are
 
 -- each line of the steps of an event
 pub lines_are_true : (has_line : Output → Bool) (s : Setting) (w : WorldAt) (steps : List NodeStepAt) → HasNames s.cfg → AllByRecursion (IsTrueStep s w) steps →
     AllByRecursion (IsTrueLine s w) (lines_of (flat_map (lines_by has_line s w) steps))
 lines_are_true has_line s w steps names are =
     steps_lines (IsTrueLine s w) has_line s w steps names
-    (all_so (IsTrueStep s w) (λ (step : NodeStepAt). AllByRecursion (λ (o : Output). IsTrueLine s w (line_at s w step.node o)) step.outs) (λ step true_. step_true s w step names true_) steps are)
+    (all_weaker (IsTrueStep s w) (λ (step : NodeStepAt). AllByRecursion (λ (o : Output). IsTrueLine s w (line_at s w step.node o)) step.outs) (λ step true_. step_true s w step names true_) steps are)

@@ -11,13 +11,14 @@ use Rattle.wrp_world.specs.EventAt.{FitsEvent}
 use Rattle.wrp_world.specs.Run.{Happened, IsAnswered, steps_at, world_after}
 use Rattle.wrp_world.specs.Runs.{IsRun}
 use Rattle.wrp_world.specs.Setting.{Setting}
+use Rattle.wrp_truth.proofs.Suffixes.{run_before}
 use Rattle.wrp_run.specs.Audited.{IsSettingOf, answers_in}
 use Rattle.wrp_run.specs.Headline.{Came}
 use Rattle.wrp_run.specs.Input.{network_text}
 use Rattle.wrp_run.specs.SimHeadline.{Made}
 use Rattle.wrp_run.specs.Simulates.{event_limit}
 use Rattle.wrp_run.specs.TrackLines.{IsTrueAt, TracksAreWithin}
-use Rattle.wrp_run.proofs.HeadlineParts.{before_newest, events_said, run_of, setting_asked, writes}
+use Rattle.wrp_run.proofs.HeadlineParts.{events_said, run_of, setting_asked, writes}
 use Rattle.wrp_run.proofs.LawsNear.{LawsAreNear, answers_near, laws_near}
 use Rattle.wrp_run.proofs.LinesFit.{line_fits}
 use Rattle.wrp_run.proofs.MadeFit.{made_fit}
@@ -35,7 +36,7 @@ pub record RunsNear (s : Setting) (events : List Happened) : Type 0 where
 
 runs_before : (s : Setting) (h : Happened) (before : List Happened) → RunsNear s (h ∷ before) → RunsNear s before
 runs_before s h before runs = record {
-  run = before_newest s h before runs.run;
+  run = run_before s h before runs.run;
   fit = runs.fit.1;
   answered = worlds.before_newest s h before runs.answered;
   near = runs.near;

@@ -1,7 +1,8 @@
 -- Words by their number, and the one value of an option.
-use Rattle.std.proofs.Common.{◌≡◌, inl, inr, ℕ, ◌<◌, ◌≤◌, List, [], ◌∷◌, ◌++◌, None, Some, length, map, refl, sym, ap, ◌∙◌, subst, codes, arith}
+use Rattle.std.proofs.Common.{◌≡◌, inl, inr, ℕ, ◌<◌, ◌≤◌, List, [], ◌∷◌, ◌++◌, None, length, map, refl, sym, ap, ◌∙◌, subst, codes, arith}
 use Rattle.std.specs.List.{slice_index_or}
 use Rattle.std.proofs.lemmas.List.{append_cancel_left}
+use Rattle.std.proofs.lemmas.Option.{same_Some}
 use Rattle.wrp_run.specs.declared.command_line.Form.{Form}
 use Rattle.wrp_run.specs.declared.command_line.Form.TheVariants as forms
 use Rattle.wrp_run.specs.Answer.{IsCommand}
@@ -95,24 +96,14 @@ asks_nothing words never (inr (inl (name, inl replay))) = never forms.Replay nam
 asks_nothing words never (inr (inl (name, inr emission))) = never forms.Emit name emission tt
 asks_nothing words never (inr (inr (seed, simulation))) = never forms.Simulate simulation.0 simulation.1 (seed, simulation.2)
 
--- nor do words of the form that is not built
-pub loop_asks_nothing : (words : List (List ℕ)) (value : List ℕ) → IsForm forms.Loop words value → IsCommand words → ⊥
-loop_asks_nothing words value is (inl h) = let e = sym (initial_letter forms.Loop words value is) ∙ initial_letter forms.Audit words [] (h, refl) in omega (arith, e)
-loop_asks_nothing words value is (inr (inl (name, inl h))) = let e = sym (initial_letter forms.Loop words value is) ∙ initial_letter forms.Replay words name h in omega (arith, e)
-loop_asks_nothing words value is (inr (inl (name, inr h))) = let e = sym (initial_letter forms.Loop words value is) ∙ initial_letter forms.Emit words name h in omega (arith, e)
-loop_asks_nothing words value is (inr (inr (seed, h))) = let e = sym (initial_letter forms.Loop words value is) ∙ initial_letter forms.Simulate words h.0 h.1 in omega (arith, e)
-
 -- a simulation is nothing else, and has one seed
 pub simulation_alone : (form : Form) (words : List (List ℕ)) (value : List ℕ) (seed : ℕ) → IsForm form words value → (letter form ≡ 115 → ⊥) → IsSimulation words seed → ⊥
 simulation_alone form words value seed is other simulation = other (sym (initial_letter form words value is) ∙ initial_letter forms.Simulate words simulation.0 simulation.1)
 
-one_number : (m n : ℕ) → Some m ≡ Some n → m ≡ n
-one_number m n e = cc
-
 pub one_seed : (words : List (List ℕ)) (a b : ℕ) → IsSimulation words a → IsSimulation words b → a ≡ b
 one_seed words a b p q =
     let text : p.0 ≡ q.0 = one_value (codes "simulate") (codes "--seed") words p.0 q.0 p.1 q.1 in
-    one_number a b (sym p.2 ∙ ap seed_of text ∙ q.2)
+    same_Some a b (sym p.2 ∙ ap seed_of text ∙ q.2)
 
 -- an audit is no simulation
 pub no_simulation : (words : List (List ℕ)) (seed : ℕ) → IsAuditing words → IsSimulation words seed → ⊥

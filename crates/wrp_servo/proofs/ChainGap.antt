@@ -1,14 +1,9 @@
 -- With a chain at most `gap` ticks passed since the last good sample.
-use Rattle.std.proofs.Common.{◌≡◌, refl, ap, ◌∙◌, sym, ℕ, Bool, true, false, cond, not, ◌&&◌, ◌||◌, nat_le, nat_lt, ◌+◌, ◌-◌, ◌≤◌, is_some, Option, None, Some, List, [], ◌∷◌, subst, arith}
-use Rattle.wrp_base.specs.declared.link.ServoState.{ServoState}
-use Rattle.wrp_base.specs.declared.link.ServoState.TheVariants.{Uninit, SyncTai, SyncNsec, SyncPhase, WaitStable, Track, Holdover}
+use Rattle.std.proofs.Common.{◌≡◌, refl, ◌∙◌, sym, ℕ, Bool, true, false, cond, not, ◌&&◌, ◌||◌, nat_lt, ◌+◌, ◌-◌, ◌≤◌, is_some, Option, None, Some, List, [], ◌∷◌, subst, arith}
 use Rattle.wrp_servo.specs.declared.machine.Core.{Core}
-use Rattle.wrp_servo.specs.Following.{restarted}
-use Rattle.wrp_servo.specs.Table.{one_tick, ended, by_tick, carrier_gone, with_link, with_lease, with_carrier, restarted_outside_holdover, is_past_gap, is_track}
-use Rattle.wrp_servo.specs.Sampling.{hears, is_holdover, good_tag, is_far, with_tag, with_last, followed, judged, chained, good, heard, lost, by_sample}
-use Rattle.wrp_servo.specs.Measuring.{deltas_in_chain}
-use Rattle.wrp_servo.specs.Call.{Call, CallSample, CallMeasured, CallTick, CallLease, CallLink, CallCarrier, CallReset, Settings, run}
-use Rattle.wrp_servo.proofs.Rests.{Rest, end-rest, uninit_outside_holdover-rest, linked-rest, judged-rest, chained-rest, later-rest, answered-rest}
+use Rattle.wrp_servo.specs.Table.{one_tick, is_past_gap, is_track}
+use Rattle.wrp_servo.specs.Sampling.{hears, is_holdover, good_tag, good, heard}
+use Rattle.wrp_servo.specs.Call.{Call, CallSample, CallTick, CallReset, Settings, run}
 use Rattle.std.proofs.lemmas.Bool.Decides.{nat_tests}
 use Rattle.wrp_servo.specs.declared.interface.ServoSet.{ServoSet}
 use Rattle.wrp_servo.specs.Chain.{ends_chain, starts, starts_by}

@@ -1,6 +1,7 @@
 -- One call: a chain stands after it exactly where the definitions say.
 use Rattle.std.proofs.Common.{◌≡◌, refl, ap, ◌∙◌, sym, ℕ, ℤ, Bool, true, false, cond, not, ◌&&◌, ◌||◌, nat_le, ◌-◌, is_some, Option, None, Some}
 use Rattle.std.specs.Prelude.{int_le}
+use Rattle.std.proofs.lemmas.Bool.{and_left}
 use Rattle.wrp_base.specs.declared.link.Deltas.{Deltas}
 use Rattle.wrp_base.specs.declared.link.ServoState.{ServoState}
 use Rattle.wrp_base.specs.declared.link.ServoState.TheVariants.{Uninit, SyncTai, SyncNsec, SyncPhase, WaitStable, Track, Holdover}
@@ -57,13 +58,9 @@ ended-some v m _ = record { first = refl; track = refl }
 abbrev pub chainer : Core → ℕ → ServoState → Core
 chainer v m s = record v { state = s; first = Some m }
 
-and-false : (a b : Bool) → a ≡ false → (a && b) ≡ false
-and-false true b h = absurd cc
-and-false false b h = refl
-
 or-false : (a b c : Bool) → b ≡ false → (a || (b && c)) ≡ a
 or-false true b c h = refl
-or-false false b c h = and-false b c h
+or-false false b c h = and_left b c h
 
 -- judged outside TRACK
 judged-is : (v : Core) (o : Option ℕ) → is_track v.state ≡ false → v.first ≡ o → (judged v).first ≡ o
@@ -98,7 +95,7 @@ sample-some v m s n base bits h =
 
 -- outside TRACK the age of the four is nothing
 ended_by_age-off : (v : Core) → is_track v.state ≡ false → ended_by_age v ≡ v
-ended_by_age-off v h = ap (λ (b : Bool). cond b (ended v) v) (and-false (is_track v.state) (is_old v) h)
+ended_by_age-off v h = ap (λ (b : Bool). cond b (ended v) v) (and_left (is_track v.state) (is_old v) h)
 
 later-some : (v : Core) (m : ℕ) (s : ServoState) → is_track s ≡ false → is_some (ended_by_age (ended_by_gap (chainer v m s))).first ≡ not (is_past_gap v)
 later-some v m s h =

@@ -1,5 +1,6 @@
 -- With a chain there are a carrier, a link that is on and a fresh lease.
 use Rattle.std.proofs.Common.{◌≡◌, refl, ap, ◌∙◌, sym, ℕ, Bool, true, false, cond, not, ◌&&◌, is_some, Option, None, Some, List, [], ◌∷◌}
+use Rattle.wrp_base.proofs.Booleans.{and_first, and_second}
 use Rattle.wrp_servo.specs.declared.machine.Core.{Core}
 use Rattle.wrp_servo.specs.Call.{Call, CallSample, CallMeasured, CallTick, CallLease, CallLink, CallCarrier, CallReset, Settings, run}
 use Rattle.wrp_servo.specs.Chain.{ends_chain, starts, starts_by}
@@ -15,14 +16,6 @@ stood_or_starts true true starts h f g = absurd cc
 stood_or_starts true false starts h f g = f refl refl
 stood_or_starts false ends starts h f g = g h
 
-and-left : (a b : Bool) → (a && b) ≡ true → a ≡ true
-and-left true b h = refl
-and-left false b h = absurd cc
-
-and-right : (a b : Bool) → (a && b) ≡ true → b ≡ true
-and-right true b h = h
-and-right false b h = absurd cc
-
 -- what was told where a chain starts
 record StartsWith (v : Core) : Type 0 where
   carrier : v.signals.carrier ≡ true
@@ -30,17 +23,17 @@ record StartsWith (v : Core) : Type 0 where
   lease : v.signals.lease ≡ true
 
 starts_with : (v : Core) (tag : Option ℕ) → (hears v && starts_by v tag) ≡ true → StartsWith v
-starts_with v None h = absurd (let e : false ≡ true = and-right (hears v) false h in cc)
+starts_with v None h = absurd (let e : false ≡ true = and_second (hears v) false h in cc)
 starts_with v (Some tag) h =
     let locked : Bool = (followed (with_tag v tag)).phase.lock.locked in
     let signals : Bool = is_some v.signals.link && v.signals.lease in
-    let heard : hears v ≡ true = and-left (hears v) (starts_by v (Some tag)) h in
-    let near : (not (is_far (with_tag v tag).phase.u) && (locked && signals)) ≡ true = and-right (hears v) (starts_by v (Some tag)) h in
-    let both : signals ≡ true = and-right locked signals (and-right (not (is_far (with_tag v tag).phase.u)) (locked && signals) near) in
+    let heard : hears v ≡ true = and_first (hears v) (starts_by v (Some tag)) h in
+    let near : (not (is_far (with_tag v tag).phase.u) && (locked && signals)) ≡ true = and_second (hears v) (starts_by v (Some tag)) h in
+    let both : signals ≡ true = and_second locked signals (and_second (not (is_far (with_tag v tag).phase.u)) (locked && signals) near) in
     record {
-      carrier = and-left v.signals.carrier (not (is_holdover v.state)) heard;
-      link = and-left (is_some v.signals.link) v.signals.lease both;
-      lease = and-right (is_some v.signals.link) v.signals.lease both;
+      carrier = and_first v.signals.carrier (not (is_holdover v.state)) heard;
+      link = and_first (is_some v.signals.link) v.signals.lease both;
+      lease = and_second (is_some v.signals.link) v.signals.lease both;
     }
 
 started : (v : Core) (calls : List Call) (tag : Option ℕ) → IsTold v calls → (hears v && starts_by v tag) ≡ true → HasSignals calls

@@ -1,23 +1,22 @@
 -- HOLDOVER is entered from TRACK alone, and left at its last tick or by a reset.
-use Rattle.std.proofs.Common.{◌≡◌, ◌↔◌, refl, ap, ◌∙◌, sym, ℕ, ℤ, ◌+◌, ◌-◌, ◌<◌, ◌≤◌, Bool, true, false, cond, not, ◌&&◌, ◌||◌, nat_le, is_some, Option, None, Some, List, [], ◌∷◌, ◌++◌, subst, arith}
+use Rattle.std.proofs.Common.{◌≡◌, refl, ap, ◌∙◌, sym, ℕ, ℤ, ◌+◌, ◌-◌, ◌<◌, ◌≤◌, Bool, true, false, cond, not, ◌&&◌, nat_le, is_some, Option, None, Some, List, [], ◌∷◌, ◌++◌, subst, arith}
 use Rattle.std.proofs.lemmas.Bool.Decides.{nat_tests}
+use Rattle.std.proofs.lemmas.Bool.{not-false}
 use Rattle.wrp_base.specs.declared.link.Deltas.{Deltas}
 use Rattle.wrp_base.specs.declared.link.ServoState.{ServoState}
 use Rattle.wrp_base.specs.declared.link.ServoState.TheVariants.{Uninit, SyncTai, SyncNsec, SyncPhase, WaitStable, Track, Holdover}
 use Rattle.wrp_base.specs.declared.measurement.Four.{Four}
+use Rattle.wrp_base.proofs.Naturals.{is_plus_zero}
 use Rattle.wrp_servo.specs.declared.interface.ServoSet.{ServoSet}
 use Rattle.wrp_servo.specs.declared.machine.Measurement.{Measurement}
 use Rattle.wrp_servo.specs.declared.machine.Core.{Core}
 use Rattle.wrp_servo.specs.Following.{restarted}
 use Rattle.wrp_servo.specs.Table.{is_track, is_past_gap, is_old, one_tick, ended, ended_by_age, by_tick}
-use Rattle.wrp_servo.specs.Sampling.{hears, is_holdover, good_tag, is_far, is_within, residual, with_tag, with_last, followed, stays_near, judged, chained, may_start, good, heard, lost, by_sample}
+use Rattle.wrp_servo.specs.Sampling.{hears, is_holdover, good_tag, is_far, is_within, residual, with_tag, with_last, followed, stays_near, judged, chained, may_start, good, heard, lost}
 use Rattle.wrp_servo.specs.Measuring.{is_in, x_of, delay_of, answered, placed, aimed}
 use Rattle.wrp_servo.specs.Call.{Call, CallSample, CallMeasured, CallTick, CallLease, CallLink, CallCarrier, CallReset, Settings, after, run, is_reset}
-use Rattle.wrp_servo.specs.Chain.{ends, strays_at}
 use Rattle.wrp_servo.specs.LookBack.{enters_track, leaves_track}
 use Rattle.wrp_servo.specs.Holdover.{ticks_among, NoneResets, InHoldover, HoldoverSince}
-use Rattle.wrp_servo.specs.Laws.{InChain}
-use Rattle.wrp_servo.specs.Tracking.{enters}
 use Rattle.wrp_servo.proofs.Tracks.{tracker, stands}
 use Rattle.wrp_servo.proofs.BothLaws.{next-seen}
 use Rattle.wrp_servo.proofs.Gone.{set_is}
@@ -28,9 +27,6 @@ use Rattle.wrp_servo.proofs.Outside.{out, call-low}
 record Held (v : Core) (n : ℕ) : Type 0 where
   state : is_holdover v.state ≡ true
   ticks : v.ticks ≡ v.left_tick + n
-
-none_gone : (ticks : ℕ) → ticks ≡ ticks + 0
-none_gone ticks = omega arith
 
 -- ---- where TRACK is left, HOLDOVER begins
 
@@ -49,10 +45,10 @@ good-falls : (v : Core) (m n tag : ℕ) → Falls (good (with_tag (with_last (tr
 good-falls v m n tag =
     let w : Core = with_tag (with_last (tracker v m) n) tag in
     let f : Core = followed w in
-    either-falls (is_far w.phase.u) (lost w) (judged (chained f n)) (λ e. record { state = refl; ticks = none_gone w.ticks })
+    either-falls (is_far w.phase.u) (lost w) (judged (chained f n)) (λ e. record { state = refl; ticks = is_plus_zero w.ticks })
     (elim f.phase.lock.locked as (λ l. Falls (judged (cond l (cond (may_start f) (record f { first = Some n }) f) (ended f)))) [
-      | true ↦ either-falls (stays_near f) f (ended f) (up f refl) (λ e. record { state = refl; ticks = none_gone f.ticks })
-      | false ↦ λ e. record { state = refl; ticks = none_gone f.ticks }
+      | true ↦ either-falls (stays_near f) f (ended f) (up f refl) (λ e. record { state = refl; ticks = is_plus_zero f.ticks })
+      | false ↦ λ e. record { state = refl; ticks = is_plus_zero f.ticks }
     ])
 
 heard-falls : (v : Core) (m n : ℕ) (tag : Option ℕ) → Falls (heard (with_last (tracker v m) n) n tag)
@@ -63,8 +59,8 @@ tick-falls : (v : Core) (m : ℕ) → Falls (by_tick (tracker v m))
 tick-falls v m =
     let w : Core = one_tick (tracker v m) in
     elim (is_past_gap w) as (λ g. Falls (ended_by_age (cond g (ended w) w))) [
-      | true ↦ λ e. record { state = refl; ticks = none_gone w.ticks }
-      | false ↦ either-falls (is_old w) (ended w) w (λ e. record { state = refl; ticks = none_gone w.ticks }) (up w refl)
+      | true ↦ λ e. record { state = refl; ticks = is_plus_zero w.ticks }
+      | false ↦ either-falls (is_old w) (ended w) w (λ e. record { state = refl; ticks = is_plus_zero w.ticks }) (up w refl)
     ]
 
 measured-falls : (x : Settings) (v : Core) (m : ℕ) (f : Four) (y : ℤ) (on : Option Deltas) → Falls (answered x.lo x.hi (tracker v m) f y on)
@@ -73,8 +69,8 @@ measured-falls x v m f y (Some d) =
     let k : Measurement = record { four = f; delay = delay_of d y } in
     let w : Core = record (tracker v m) { kept = Some k } in
     either-falls (is_in x.lo x.hi (x_of d f)) (placed (tracker v m) k) (ended (tracker v m))
-    (either-falls (is_within v.set.track_tau (residual v.phase k)) (aimed w k Track) (ended w) (up _ refl) (λ e. record { state = refl; ticks = none_gone w.ticks }))
-    (λ e. record { state = refl; ticks = none_gone v.ticks })
+    (either-falls (is_within v.set.track_tau (residual v.phase k)) (aimed w k Track) (ended w) (up _ refl) (λ e. record { state = refl; ticks = is_plus_zero w.ticks }))
+    (λ e. record { state = refl; ticks = is_plus_zero v.ticks })
 
 call-falls : (x : Settings) (v : Core) (m : ℕ) (call : Call) → is_reset call ≡ false → Falls (after x (tracker v m) call)
 call-falls x v m (CallSample n base bits) r =
@@ -82,11 +78,11 @@ call-falls x v m (CallSample n base bits) r =
 call-falls x v m (CallMeasured f y) r = measured-falls x v m f y v.signals.link
 call-falls x v m CallTick r = tick-falls v m
 call-falls x v m (CallLease true) r = up _ refl
-call-falls x v m (CallLease false) r = λ e. record { state = refl; ticks = none_gone v.ticks }
-call-falls x v m (CallLink None) r = λ e. record { state = refl; ticks = none_gone v.ticks }
+call-falls x v m (CallLease false) r = λ e. record { state = refl; ticks = is_plus_zero v.ticks }
+call-falls x v m (CallLink None) r = λ e. record { state = refl; ticks = is_plus_zero v.ticks }
 call-falls x v m (CallLink (Some d)) r = up _ refl
 call-falls x v m (CallCarrier true) r = up _ refl
-call-falls x v m (CallCarrier false) r = λ e. record { state = refl; ticks = none_gone v.ticks }
+call-falls x v m (CallCarrier false) r = λ e. record { state = refl; ticks = is_plus_zero v.ticks }
 call-falls x v m CallReset r = absurd cc
 
 falls-at : (x : Settings) (v : Core) (s : ServoState) (first : Option ℕ) (call : Call) → is_track s ≡ true → (is_track s ≡ true → is_some first ≡ true) → is_reset call ≡ false →
@@ -102,7 +98,7 @@ falls-at x v Holdover first call t h r e = absurd cc
 
 -- ---- HOLDOVER stands on but for its last tick
 
-abbrev holder : Core → Core
+abbrev pub holder : Core → Core
 holder v = record v { state = Holdover; first = None }
 
 early : (holdover ticks left n : ℕ) → ticks ≡ left + n → n + 1 < holdover → nat_le holdover ((ticks + 1) - left) ≡ false
@@ -150,11 +146,11 @@ either-low : (b : Bool) (v w : Core) → is_holdover v.state ≡ false → is_ho
 either-low true v w h e = absurd cc
 either-low false v w h e = refl
 
-off_link : (b : Bool) → is_holdover (cond b SyncTai Uninit) ≡ false
+pub off_link : (b : Bool) → is_holdover (cond b SyncTai Uninit) ≡ false
 off_link true = refl
 off_link false = refl
 
-still_few : (holdover ticks left n : ℕ) → ticks ≡ left + n → nat_le holdover ((ticks + 1) - left) ≡ false → n + 1 < holdover
+pub still_few : (holdover ticks left n : ℕ) → ticks ≡ left + n → nat_le holdover ((ticks + 1) - left) ≡ false → n + 1 < holdover
 still_few holdover ticks left n t test =
     let below : (ticks + 1) - left < holdover = grind (arith, nat_tests) in
     omega arith
@@ -183,11 +179,7 @@ few-at x v s CallReset since t e few h = few
 held_state : (x : Settings) (calls : List Call) → is_some (run x calls).first ≡ true → is_holdover (run x calls).state ≡ false
 held_state x calls h = (chain_stays_held x calls h).state
 
-not_false : (b : Bool) → not b ≡ false → b ≡ true
-not_false true h = refl
-not_false false h = absurd cc
-
-more : (call : Call) (since : List Call) → ticks_among since ≤ ticks_among (call ∷ since)
+pub more : (call : Call) (since : List Call) → ticks_among since ≤ ticks_among (call ∷ since)
 more CallTick since = omega arith
 more (CallSample n base bits) since = omega arith
 more (CallMeasured f y) since = omega arith
@@ -247,7 +239,7 @@ way x calls call Track e h =
     sym (ap (λ (b : Bool). cond b (not (leaves_track x calls call)) (enters_track x calls call)) stood)
     ∙ sym (next-seen x calls call)
     ∙ off_track (after x v call).state h in
-    Left stood (not_false (leaves_track x calls call) stays) (no_reset_to x v call h)
+    Left stood (not-false (leaves_track x calls call) stays) (no_reset_to x v call h)
 way x calls call Holdover e h = Stays (ap is_holdover e) (no_reset_to x (run x calls) call h)
 way x calls call Uninit e h = absurd (low x calls call Uninit e refl h)
 way x calls call SyncTai e h = absurd (low x calls call SyncTai e refl h)

@@ -4,6 +4,7 @@ use Rattle.wrp_base.specs.declared.link.Deltas.{Deltas}
 use Rattle.wrp_base.specs.declared.link.ServoState.{ServoState}
 use Rattle.wrp_base.specs.declared.link.ServoState.TheVariants.{Uninit, SyncTai, SyncNsec, SyncPhase, WaitStable, Track, Holdover}
 use Rattle.wrp_base.specs.declared.measurement.Four.{Four}
+use Rattle.wrp_base.proofs.Booleans.{and_first, and_second}
 use Rattle.wrp_servo.specs.declared.machine.Measurement.{Measurement}
 use Rattle.wrp_servo.specs.declared.machine.Core.{Core}
 use Rattle.wrp_servo.specs.Table.{is_past_gap, is_old, is_track, one_tick, ended, ended_by_age, by_tick}
@@ -12,14 +13,6 @@ use Rattle.wrp_servo.specs.Measuring.{is_in, x_of, kept_of, may_track, answered,
 use Rattle.wrp_servo.specs.Call.{Call, CallSample, CallMeasured, CallTick, CallLease, CallLink, CallCarrier, CallReset, Settings, after, run}
 use Rattle.wrp_servo.specs.Laws.{InTrack, TrackIsNear}
 use Rattle.wrp_servo.proofs.Tracks.{tracker, call-other as entered, stands, either-other, by_period-other, ended-other}
-
-and-left : (a b : Bool) → (a && b) ≡ true → a ≡ true
-and-left true b h = refl
-and-left false b h = absurd cc
-
-and-right : (a b : Bool) → (a && b) ≡ true → b ≡ true
-and-right true b h = h
-and-right false b h = absurd cc
 
 -- what is to be shown of a servo after a call
 abbrev Shows : Core → Type 0
@@ -38,8 +31,8 @@ tested false v w h k = k refl
 stays-shows : (f : Core) → is_some f.kept ≡ true → stays_near f ≡ true → Shows f
 stays-shows f k h e = record {
   kept = k;
-  calm = and-left (is_calm f) (is_near f.set.track_tau f.phase f.kept) h;
-  near = and-right (is_calm f) (is_near f.set.track_tau f.phase f.kept) h;
+  calm = and_first (is_calm f) (is_near f.set.track_tau f.phase f.kept) h;
+  near = and_second (is_calm f) (is_near f.set.track_tau f.phase f.kept) h;
 }
 
 good-shows : (v : Core) (m n tag : ℕ) → is_some v.kept ≡ true → Shows (good (with_tag (with_last (tracker v m) n) tag) n)
@@ -97,8 +90,8 @@ settled-shows v k est h e =
     tested (may_track v k) (aimed v k Track) (cond (is_half v est) (aimed v k SyncPhase) (record v { state = SyncNsec }))
     (λ p _. record {
       kept = ap is_some e;
-      calm = and-left (is_calm v) (nat_le (v.ticks - k.four.tick) v.set.age) (and-right (is_within v.set.track_tau (residual v.phase k)) (is_calm v && nat_le (v.ticks - k.four.tick) v.set.age) p);
-      near = subst (λ (o : Option Measurement). is_near v.set.track_tau v.phase o ≡ true) (sym e) (and-left (is_within v.set.track_tau (residual v.phase k)) (is_calm v && nat_le (v.ticks - k.four.tick) v.set.age) p);
+      calm = and_first (is_calm v) (nat_le (v.ticks - k.four.tick) v.set.age) (and_second (is_within v.set.track_tau (residual v.phase k)) (is_calm v && nat_le (v.ticks - k.four.tick) v.set.age) p);
+      near = subst (λ (o : Option Measurement). is_near v.set.track_tau v.phase o ≡ true) (sym e) (and_first (is_within v.set.track_tau (residual v.phase k)) (is_calm v && nat_le (v.ticks - k.four.tick) v.set.age) p);
     })
     (λ _. off _ (either-other (is_half v est) (aimed v k SyncPhase) (record v { state = SyncNsec }) refl refl))
 

@@ -1,16 +1,15 @@
 -- The greatest number of a sample, looking back.
 use Rattle.std.specs.Prelude.{max}
-use Rattle.std.proofs.Common.{◌≡◌, refl, ap, ◌∙◌, sym, ℕ, ℤ, Bool, true, false, cond, not, ◌&&◌, ◌||◌, nat_le, nat_lt, ◌+◌, ◌-◌, ◌≤◌, is_some, Option, None, Some, List, [], ◌∷◌, subst, arith}
-use Rattle.wrp_base.specs.declared.link.Deltas.{Deltas}
+use Rattle.std.proofs.Common.{◌≡◌, refl, ap, ◌∙◌, ℕ, Bool, true, false, cond, nat_le, ◌-◌, is_some, Option, None, Some, List, [], ◌∷◌}
 use Rattle.wrp_base.specs.declared.link.ServoState.{ServoState}
 use Rattle.wrp_base.specs.declared.link.ServoState.TheVariants.{Uninit, SyncTai, SyncNsec, SyncPhase, WaitStable, Track, Holdover}
 use Rattle.wrp_servo.specs.declared.machine.Core.{Core}
 use Rattle.wrp_servo.specs.Following.{restarted}
-use Rattle.wrp_servo.specs.Table.{one_tick, ended, uninit_outside_holdover, ended_by_gap, ended_by_age, by_tick, holdover_ticked, carrier_gone, with_link, with_lease, with_carrier, restarted_outside_holdover, is_past_gap, is_track}
-use Rattle.wrp_servo.specs.Sampling.{hears, is_holdover, good_tag, is_far, with_tag, with_last, followed, judged, chained, good, heard, lost, by_sample}
+use Rattle.wrp_servo.specs.Table.{one_tick, ended, by_tick, carrier_gone, with_link, with_lease, with_carrier, restarted_outside_holdover}
+use Rattle.wrp_servo.specs.Sampling.{hears, good_tag, is_far, with_tag, with_last, followed, judged, chained, good, heard, lost, by_sample}
 use Rattle.wrp_servo.specs.Measuring.{deltas_in_chain}
-use Rattle.wrp_servo.specs.Call.{Call, CallSample, CallMeasured, CallTick, CallLease, CallLink, CallCarrier, CallReset, Settings, after, run, is_reset}
-use Rattle.wrp_servo.proofs.Rests.{Rest, rest, end-rest, uninit_outside_holdover-rest, linked-rest, judged-rest, chained-rest, later-rest, answered-rest}
+use Rattle.wrp_servo.specs.Call.{Call, CallSample, CallMeasured, CallTick, CallLease, CallLink, CallCarrier, CallReset, Settings, run}
+use Rattle.wrp_servo.proofs.Rests.{Rest, end-rest, uninit_outside_holdover-rest, linked-rest, judged-rest, chained-rest, later-rest, answered-rest}
 use Rattle.wrp_servo.specs.LookBack.{last_told}
 
 either-last : (b : Bool) (v w : Core) (n : ℕ) → v.last ≡ n → w.last ≡ n → (cond b v w).last ≡ n

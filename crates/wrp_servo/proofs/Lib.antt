@@ -1,4 +1,4 @@
-mod Tracks
+pub mod Tracks
 mod Leaving
 mod SinceLaws
 mod ChainLaws
@@ -6,9 +6,9 @@ mod BothLaws
 mod Rooms
 mod Rests
 mod TagLaws
-mod Locked
+pub mod Locked
 mod InTrack
-mod Sized
+pub mod Sized
 mod Safe
 mod ValidLaws
 mod ToldLaws
@@ -18,7 +18,7 @@ mod ChainGap
 mod PhaseLaws
 mod StepLaws
 mod Outside
-mod HoldoverLaws
-mod Gone
+pub mod HoldoverLaws
+pub mod Gone
 mod LastLaws
 mod SeenLaws

@@ -24,7 +24,7 @@ either-held true v w h k = h
 either-held false v w h k = k
 
 -- after the end of a chain none stands
-none-first : (v : Core) (first : Option ℕ) (s : ServoState) → is_some (ended (record v { state = s; first = first })).first ≡ false
+pub none-first : (v : Core) (first : Option ℕ) (s : ServoState) → is_some (ended (record v { state = s; first = first })).first ≡ false
 none-first v None s = refl
 none-first v (Some m) Track = refl
 none-first v (Some m) SyncNsec = refl

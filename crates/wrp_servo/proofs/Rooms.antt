@@ -1,11 +1,10 @@
 -- The sizes stay as a servo's chain ends or starts, and as its loop moves.
-use Rattle.std.proofs.Common.{◌≡◌, refl, sym, ℕ, ℤ, pos, ◌^◌, ◌≤◌, Bool, true, false, cond, unsigned_abs, is_some, Some, IfSome, subst, arith}
+use Rattle.std.proofs.Common.{◌≡◌, refl, sym, ℤ, pos, ◌^◌, ◌≤◌, Bool, true, false, cond, unsigned_abs, is_some, IfSome, subst, arith}
 use Rattle.std.proofs.lemmas.Int.{ints}
 use Rattle.wrp_base.specs.declared.link.ServoState.{ServoState}
 use Rattle.wrp_base.specs.declared.link.ServoState.TheVariants.{Uninit, SyncTai, SyncNsec, SyncPhase, WaitStable, Track, Holdover}
 use Rattle.wrp_servo.specs.declared.machine.Core.{Core}
 use Rattle.wrp_servo.specs.Table.{ended}
-use Rattle.wrp_servo.specs.Sampling.{chained, may_start, with_tag}
 use Rattle.wrp_servo.specs.Sizes.{HasRoom, FitsFour}
 
 -- a servo with less kept, and the same loop but for its detector
@@ -32,12 +31,6 @@ left-less v Uninit = either-less (record v { state = Uninit }) (is_some v.first)
 left-less v SyncTai = either-less (record v { state = SyncTai }) (is_some v.first) _ _ (record { s = refl; goal = refl; u = refl; set = refl; kept = λ h. tt }) (same-less _)
 left-less v Holdover = either-less (record v { state = Holdover }) (is_some v.first) _ _ (record { s = refl; goal = refl; u = refl; set = refl; kept = λ h. tt }) (same-less _)
 
-pub chained-less : (v : Core) (n : ℕ) → Less v (chained v n)
-chained-less v n =
-    either-less v v.phase.lock.locked (cond (may_start v) (record v { first = Some n }) v) (ended v)
-    (either-less v (may_start v) (record v { first = Some n }) v (record { s = refl; goal = refl; u = refl; set = refl; kept = λ h. h }) (same-less v))
-    (left-less v v.state)
-
 room-less : (v w : Core) → Less v w → HasRoom v → HasRoom w
 room-less v w l r = record {
   s = subst (λ (z : ℤ). unsigned_abs z ≤ 2 ^ 62) (sym l.s) r.s;
@@ -47,24 +40,9 @@ room-less v w l r = record {
   kept = l.kept r.kept;
 }
 
-pub chained-room : (v : Core) (n : ℕ) → HasRoom v → HasRoom (chained v n)
-chained-room v n = room-less v (chained v n) (chained-less v n)
-
-pub chained-u : (v : Core) (n : ℕ) → (chained v n).phase.u ≡ v.phase.u
-chained-u v n = (chained-less v n).u
-
-zero_or : (b : Bool) (z : ℤ) → unsigned_abs z ≤ 2 ^ 62 → unsigned_abs (cond b (pos 0) z) ≤ 2 ^ 62
+pub zero_or : (b : Bool) (z : ℤ) → unsigned_abs z ≤ 2 ^ 62 → unsigned_abs (cond b (pos 0) z) ≤ 2 ^ 62
 zero_or true z h = omega (arith, ints)
 zero_or false z h = h
-
-pub with_tag-room : (v : Core) (tag : ℕ) → HasRoom v → HasRoom (with_tag v tag)
-with_tag-room v tag r = record {
-  s = zero_or v.phase.fresh v.phase.s r.s;
-  goal = zero_or v.phase.fresh v.phase.goal r.goal;
-  least = r.least;
-  most = r.most;
-  kept = r.kept;
-}
 
 pub ended_room : (v : Core) → HasRoom v → HasRoom (ended v)
 ended_room v = room-less v (ended v) (left-less v v.state)

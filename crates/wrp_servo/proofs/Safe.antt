@@ -9,6 +9,7 @@ use Rattle.wrp_base.specs.declared.link.Deltas.{Deltas}
 use Rattle.wrp_base.specs.declared.link.ServoState.{ServoState}
 use Rattle.wrp_base.specs.declared.link.ServoState.TheVariants.{Uninit, SyncTai, SyncNsec, SyncPhase, WaitStable, Track, Holdover}
 use Rattle.wrp_base.specs.declared.measurement.Four.{Four}
+use Rattle.wrp_base.proofs.Booleans.{and_first, and_second}
 use Rattle.wrp_phase.specs.Unwrapping.{added_by}
 use Rattle.wrp_phase.specs.Beat.{phase_of}
 use Rattle.wrp_phase.proofs.UnwrapLaws.{brought_round-is}
@@ -21,6 +22,7 @@ use Rattle.wrp_servo.specs.Measuring.{deltas_in_chain, is_in, x_of, kept_of, may
 use Rattle.wrp_servo.specs.Call.{Call, CallSample, CallMeasured, CallTick, CallLease, CallLink, CallCarrier, CallReset, Settings, after}
 use Rattle.wrp_servo.specs.Sizes.{HasRoom, FitsFour, FitsSet, IsSafe}
 use Rattle.wrp_servo.proofs.Sized.{within_says, half_keeps, goal_keeps}
+use Rattle.wrp_servo.proofs.Rooms.{zero_or}
 
 -- ---- a servo with the same numbers, or fewer
 
@@ -123,10 +125,6 @@ sum-small a b h k = omega (arith, ints)
 not_far : (u : ℤ) → is_far u ≡ false → unsigned_abs u < 2 ^ 60
 not_far u h = grind (arith, nat_tests)
 
-zero_or : (b : Bool) (z : ℤ) → unsigned_abs z ≤ 2 ^ 62 → unsigned_abs (cond b (pos 0) z) ≤ 2 ^ 62
-zero_or true z h = omega (arith, ints)
-zero_or false z h = h
-
 moved-small : (step s goal : ℤ) → pos 0 ≤ℤ step → unsigned_abs s ≤ 2 ^ 62 → unsigned_abs goal ≤ 2 ^ 62 → unsigned_abs (moved_toward step s goal) ≤ 2 ^ 62
 moved-small step s goal h a b = omega (arith, ints, clamps)
 
@@ -226,14 +224,6 @@ aims-track v k state i c h =
 stepped-safe : (v : Core) (s : ServoState) → IsSafe v → IsSafe (stepped v s)
 stepped-safe v s = safe v (stepped v s) (none _ _ refl refl refl refl refl refl)
 
-and-left : (a b : Bool) → (a && b) ≡ true → a ≡ true
-and-left true b h = refl
-and-left false b h = absurd cc
-
-and-right : (a b : Bool) → (a && b) ≡ true → b ≡ true
-and-right true b h = h
-and-right false b h = absurd cc
-
 by_period-safe : (v : Core) (k : Measurement) → IsSafe v → IsSafe (by_period v k (est_of v.phase.u k))
 by_period-safe v k i = choose (is_half v (est_of v.phase.u k)) (aimed v k SyncPhase) (stepped v SyncNsec) (aims-half v k SyncPhase i) (λ _. stepped-safe v SyncNsec i)
 
@@ -242,8 +232,8 @@ settled-safe v k i =
     let est : ℤ = est_of v.phase.u k in
     choose (may_track v k) (aimed v k Track) (cond (is_half v est) (aimed v k SyncPhase) (record v { state = SyncNsec }))
     (λ p. aims-track v k Track i
-    (and-left (is_calm v) (nat_le (v.ticks - k.four.tick) v.set.age) (and-right (is_within v.set.track_tau (residual v.phase k)) (is_calm v && nat_le (v.ticks - k.four.tick) v.set.age) p))
-    (and-left (is_within v.set.track_tau (residual v.phase k)) (is_calm v && nat_le (v.ticks - k.four.tick) v.set.age) p))
+    (and_first (is_calm v) (nat_le (v.ticks - k.four.tick) v.set.age) (and_second (is_within v.set.track_tau (residual v.phase k)) (is_calm v && nat_le (v.ticks - k.four.tick) v.set.age) p))
+    (and_first (is_within v.set.track_tau (residual v.phase k)) (is_calm v && nat_le (v.ticks - k.four.tick) v.set.age) p))
     (λ _. choose (is_half v est) (aimed v k SyncPhase) (record v { state = SyncNsec }) (aims-half v k SyncPhase i) (λ _. safe v (record v { state = SyncNsec }) (same _ _ refl refl refl refl refl refl) i))
 
 placed-safe : (v : Core) (k : Measurement) (s : ServoState) → (is_track s ≡ true → is_calm v ≡ true) → IsSafe v → IsSafe (placed_in v k (est_of v.phase.u k) s)

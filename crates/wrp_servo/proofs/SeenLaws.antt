@@ -1,7 +1,7 @@
 -- What looking back finds is what the rows hold.
-use Rattle.std.proofs.Common.{◌≡◌, refl, ap, ap₂, ◌∙◌, sym, ℕ, ℤ, pos, ◌+◌, ◌-◌, ◌+ℤ◌, Bool, true, false, Option, None, Some, List, [], ◌∷◌, arith}
+use Rattle.std.proofs.Common.{◌≡◌, refl, ap, ◌∙◌, ℕ, ℤ, ◌+◌, ◌-◌, Bool, Option, None, Some, List, [], ◌∷◌, arith}
 use Rattle.wrp_base.specs.declared.time.Clock.{Clock}
-use Rattle.wrp_phase.specs.Unwrapping.{Unwrapping, added_by, last_tag, pushed, unwrapped}
+use Rattle.wrp_phase.specs.Unwrapping.{Unwrapping, last_tag, pushed, unwrapped}
 use Rattle.wrp_servo.specs.declared.machine.Core.{Core}
 use Rattle.wrp_servo.specs.declared.machine.Signals.{Signals}
 use Rattle.wrp_servo.specs.Call.{Call, CallSample, CallMeasured, CallTick, CallLease, CallLink, CallCarrier, CallReset, Settings, run}
@@ -9,7 +9,7 @@ use Rattle.wrp_servo.specs.Laws.{phase_after}
 use Rattle.wrp_servo.specs.LookBack.{phase_with, phase_told, last_told, seen}
 use Rattle.wrp_servo.specs.Tags.{heard_tag, tags, HasTaken}
 use Rattle.wrp_servo.specs.Told.{IsTold, carrier_told, link_told, lease_told, ticks_told, ticks_since_good}
-use Rattle.wrp_servo.proofs.Gone.{Gone, heart, gone}
+use Rattle.wrp_servo.proofs.Gone.{gone}
 use Rattle.wrp_servo.proofs.LastLaws.{last_is}
 use Rattle.wrp_servo.proofs.PhaseLaws.{phase_moves}
 use Rattle.wrp_servo.proofs.TagLaws.{phase_sums_tags}

@@ -1,5 +1,6 @@
 -- A running value that a start sets and an end clears is what looking back finds.
 use Rattle.std.proofs.Common.{◌≡◌, refl, ap, ◌∙◌, sym, ◌↔◌, Bool, true, false, cond, not, List, [], ◌∷◌, ◌++◌, subst}
+use Rattle.std.proofs.lemmas.Bool.{not-true}
 use Rattle.wrp_servo.specs.Call.{Call}
 use Rattle.wrp_servo.specs.Since.{NoneEnds, Since}
 
@@ -8,10 +9,6 @@ pub record Runs (starts ends : List Call → Call → Bool) (value : List Call �
   pub first : value [] ≡ false
   pub next : (call : Call) (calls : List Call) → value (call ∷ calls) ≡ cond (value calls) (not (ends calls call)) (starts calls call)
   pub apart : (call : Call) (calls : List Call) → value calls ≡ true → starts calls call ≡ true → ends calls call ≡ false
-
-not_true : (b : Bool) → not b ≡ true → b ≡ false
-not_true true h = cc
-not_true false h = refl
 
 to-step : (starts ends : List Call → Call → Bool) (value : List Call → Bool) (call : Call) (calls : List Call) (b : Bool) → (b ≡ true → Since starts ends calls) →
     cond b (not (ends calls call)) (starts calls call) ≡ true → Since starts ends (call ∷ calls)
@@ -24,7 +21,7 @@ to-step starts ends value call calls true before e =
       before = t.before;
       splits = ap (λ (l : List Call). call ∷ l) t.splits;
       started = t.started;
-      stays = (subst (λ (l : List Call). ends l call ≡ false) t.splits (not_true (ends calls call) e), t.stays);
+      stays = (subst (λ (l : List Call). ends l call ≡ false) t.splits (not-true (ends calls call) e), t.stays);
     }
 
 to : (starts ends : List Call → Call → Bool) (value : List Call → Bool) → Runs starts ends value → (calls : List Call) → value calls ≡ true → Since starts ends calls

@@ -1,10 +1,11 @@
 -- u is the sum of the wrapped differences of the good tags since the loop's last restart.
-use Rattle.std.proofs.Common.{◌≡◌, refl, ap, ap₂, ◌∙◌, sym, ℕ, ℤ, ◌+ℤ◌, Bool, true, false, cond, not, ◌&&◌, nat_le, ◌-◌, is_some, Option, None, Some, List, [], ◌∷◌, subst}
+use Rattle.std.proofs.Common.{◌≡◌, refl, ap, ◌∙◌, sym, ℕ, ℤ, Bool, true, false, cond, not, ◌&&◌, nat_le, ◌-◌, is_some, Option, None, Some, List, [], ◌∷◌, subst}
 use Rattle.wrp_base.specs.declared.link.Deltas.{Deltas}
 use Rattle.wrp_base.specs.declared.link.ServoState.{ServoState}
 use Rattle.wrp_base.specs.declared.link.ServoState.TheVariants.{Uninit, SyncTai, SyncNsec, SyncPhase, WaitStable, Track, Holdover}
 use Rattle.wrp_base.specs.declared.measurement.Four.{Four}
-use Rattle.wrp_phase.specs.Unwrapping.{Unwrapping, StandsFor, unwrapped, pushed, untouched, added_by}
+use Rattle.wrp_phase.specs.Unwrapping.{Unwrapping, StandsFor, unwrapped, pushed, untouched}
+use Rattle.wrp_phase.proofs.UnwrapLaws.{StandsFor-pushed}
 use Rattle.wrp_servo.specs.declared.interface.ServoSet.{ServoSet}
 use Rattle.wrp_servo.specs.declared.machine.Core.{Core}
 use Rattle.wrp_servo.specs.Following.{restarted}
@@ -63,13 +64,6 @@ record Took (x : Settings) (h : Heart) (ts : List ℕ) : Type 0 where
 rest : (x : Settings) (set : ServoSet) (unwrap : Unwrapping) (u : ℤ) → set ≡ x.set → unwrap.clock ≡ x.set.clock → Took x (record { set = set; unwrap = untouched unwrap.clock; fresh = true; u = u }) []
 rest x set unwrap u h e = record { set = h; clock = e; stands = record { last = refl; answer = refl }; fresh = refl; u = λ h. absurd cc }
 
--- an unwrapper that took one more tag stands for one more
-StandsFor-pushed : (u : Unwrapping) (tag : ℕ) (ts : List ℕ) → StandsFor u ts → StandsFor (pushed u tag) (tag ∷ ts)
-StandsFor-pushed u tag ts s = record {
-  last = refl;
-  answer = ap₂ (λ (a : ℤ) (l : Option ℕ). a +ℤ added_by u.clock l tag) s.answer s.last;
-}
-
 push : (x : Settings) (h : Heart) (ts : List ℕ) (tag : ℕ) → Took x h ts →
     Took x (record { set = h.set; unwrap = pushed h.unwrap tag; fresh = false; u = (pushed h.unwrap tag).answer }) (tag ∷ ts)
 push x h ts tag t =
@@ -108,10 +102,6 @@ sample-took x v n base bits ts t =
       | true ↦ heard-took x (with_last v n) n (good_tag v.last n base bits) ts t
       | false ↦ t
     ]
-
--- a tick
-later-holdover : (v : Core) (s : ServoState) (ts : List ℕ) → is_holdover s ≡ false → ts ≡ cond (is_holdover s && not (is_holdover (ended_by_age (ended_by_gap v)).state)) [] ts
-later-holdover v s ts h = ap (λ (b : Bool). cond (b && not (is_holdover (ended_by_age (ended_by_gap v)).state)) [] ts) (sym h)
 
 tick_in_holdover-took : (x : Settings) (v : Core) (ts : List ℕ) → Took x (heart v) ts →
     Took x (heart (holdover_ticked (record v { state = Holdover }))) (cond (not (is_holdover (holdover_ticked (record v { state = Holdover })).state)) [] ts)

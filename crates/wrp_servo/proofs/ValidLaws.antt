@@ -11,6 +11,7 @@ use Rattle.wrp_servo.proofs.Tracks.{call-at, ended-other}
 use Rattle.wrp_servo.proofs.InTrack.{shows-at}
 use Rattle.wrp_servo.proofs.Safe.{FitsCall, sizes_stay, end-safe}
 use Rattle.std.proofs.lemmas.Int.{ints}
+use Rattle.std.proofs.lemmas.Option.{same_Some}
 use Rattle.wrp_base.specs.declared.link.ServoState.{ServoState}
 use Rattle.wrp_base.specs.declared.link.ServoState.TheVariants.{Uninit, SyncTai, SyncNsec, SyncPhase, WaitStable, Track, Holdover}
 use Rattle.wrp_servo.specs.Measuring.{deltas_in_chain, placed, kept_of, x_of, is_in, answered}
@@ -29,20 +30,11 @@ becomes x v w call f i e = subst IsValid (sym e) (valid x v call f i)
 either-le : (z : ℤ) → is_in z z z ≡ true
 either-le z = grind (arith, ints)
 
--- a four that is kept
-some_or : Deltas → Option Deltas → Deltas
-some_or d None = d
-some_or d (Some e) = e
-
-same_some : (d e : Deltas) → Some d ≡ Some e → d ≡ e
-unfolding some_or
-same_some d e h = ap (some_or d) h
-
 pub becomes_placed : (v w : Core) (f : Four) (d : Deltas) (y : ℤ) → FitsFour (kept_of f d y) → IsValid v → deltas_in_chain v ≡ Some d → w ≡ placed v (kept_of f d y) → IsValid w
 becomes_placed v w f d y t i a e =
     let z : ℤ = x_of d f in
     let x : Settings = record { set = v.set; lo = z; hi = z } in
-    becomes x v w (CallMeasured f y) (λ e h. subst (λ (z : Deltas). FitsFour (kept_of f z y)) (same_some d e (sym a ∙ h)) t) i
+    becomes x v w (CallMeasured f y) (λ e h. subst (λ (z : Deltas). FitsFour (kept_of f z y)) (same_Some d e (sym a ∙ h)) t) i
     (e ∙ sym (ap (λ (b : Bool). cond b (placed v (kept_of f d y)) (ended v)) (either-le z)) ∙ sym (ap (λ (on : Option Deltas). answered z z v f y on) a))
 
 ended-track : (v : Core) (s : ServoState) (first : Option ℕ) → (is_track s ≡ true → is_some first ≡ true) → is_track (ended (record v { state = s; first = first })).state ≡ false

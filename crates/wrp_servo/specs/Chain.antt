@@ -1,17 +1,15 @@
 -- The chain of good samples: which call starts it, which one ends it, and what leaves TRACK alone (this project's
 -- profile). Each cause is asked of what stands before the call.
-use Rattle.std.specs.Prelude.{◌≡◌, ℕ, ℤ, Bool, true, false, cond, not, ◌&&◌, ◌||◌, nat_le, is_some, Option, None, Some, List, [], ◌∷◌}
+use Rattle.std.specs.Prelude.{ℕ, ℤ, Bool, true, false, not, ◌&&◌, ◌||◌, is_some, Option, None, Some}
 use Rattle.wrp_base.specs.declared.link.Deltas.{Deltas}
 use Rattle.wrp_base.specs.declared.link.ServoState.{ServoState}
-use Rattle.wrp_base.specs.declared.link.ServoState.TheVariants.{Uninit, SyncTai, SyncNsec, SyncPhase, WaitStable, Track, Holdover}
+use Rattle.wrp_base.specs.declared.link.ServoState.TheVariants.{SyncTai, SyncNsec}
 use Rattle.wrp_base.specs.declared.measurement.Four.{Four}
-use Rattle.wrp_servo.specs.declared.machine.Measurement.{Measurement}
 use Rattle.wrp_servo.specs.declared.machine.Core.{Core}
 use Rattle.wrp_servo.specs.Table.{is_track, is_past_gap, is_old, one_tick}
-use Rattle.wrp_servo.specs.Sampling.{hears, is_holdover, good_tag, is_far, is_calm, is_near, is_within, residual, with_tag, followed, may_start, stays_near, est_of}
+use Rattle.wrp_servo.specs.Sampling.{hears, is_holdover, good_tag, is_far, is_calm, is_near, is_within, residual, with_tag, followed, est_of}
 use Rattle.wrp_servo.specs.Measuring.{is_in, x_of, delay_of, is_half, is_below_second}
-use Rattle.wrp_servo.specs.Tracking.{enters}
-use Rattle.wrp_servo.specs.Call.{Call, CallSample, CallMeasured, CallTick, CallLease, CallLink, CallCarrier, CallReset, Settings, run}
+use Rattle.wrp_servo.specs.Call.{Call, CallSample, CallMeasured, CallTick, CallLease, CallLink, CallCarrier, CallReset, Settings}
 
 -- ---- causes that hold in every state
 

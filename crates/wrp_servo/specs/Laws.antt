@@ -3,7 +3,7 @@ use Rattle.std.specs.Prelude.{◌≡◌, ◌↔◌, ℕ, ℤ, pos, ◌≤◌, tr
 use Rattle.wrp_phase.specs.Unwrapping.{pushed}
 use Rattle.wrp_servo.specs.declared.machine.Core.{Core}
 use Rattle.wrp_servo.specs.Since.{Since}
-use Rattle.wrp_servo.specs.LookBack.{enters_track, leaves_track, chain_starts, chain_ends, seen}
+use Rattle.wrp_servo.specs.LookBack.{enters_track, leaves_track, chain_starts, chain_ends}
 use Rattle.wrp_servo.specs.Table.{is_track}
 use Rattle.wrp_servo.specs.Sampling.{is_calm, is_near, is_holdover}
 use Rattle.wrp_servo.specs.Call.{Call, CallSample, Settings, run, is_reset}

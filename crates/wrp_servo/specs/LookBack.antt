@@ -1,5 +1,5 @@
 -- What stands after a list of calls, found by looking back over it, and the causes asked there (this project's profile).
-use Rattle.std.specs.Prelude.{ℕ, ℤ, pos, ◌-◌, max, Bool, true, false, cond, not, ◌&&◌, ◌||◌, is_some, Option, None, Some, List, [], ◌∷◌}
+use Rattle.std.specs.Prelude.{ℕ, ℤ, pos, ◌-◌, max, Bool, cond, not, ◌&&◌, ◌||◌, is_some, Option, None, Some, List, [], ◌∷◌}
 use Rattle.wrp_phase.specs.Unwrapping.{last_tag, unwrapped}
 use Rattle.wrp_servo.specs.declared.machine.Core.{Core}
 use Rattle.wrp_servo.specs.Call.{Call, CallSample, CallReset, Settings, run}

@@ -1,8 +1,6 @@
 -- Signed numbers as the code has them, and sizes of what the rules compute.
-use Rattle.std.proofs.Common.{◌≡◌, ◌∙◌, refl, ap, ap₂, sym, subst, ℕ, zero, suc, ◌+◌, ◌*◌, ◌<◌, ◌≤◌, ◌^◌, ◌&&◌, ℤ, pos, neg_ℤ, ◌+ℤ◌, ◌-ℤ◌, ◌≤ℤ◌, unsigned_abs, to_z, of_z, FitsSigned, Bool, true, false, if◌then◌else◌, List, [], ◌∷◌, length, Option, None, Some, option_map, option_and_then, slice_get, unwrap_or, arith}
-use Rattle.std.proofs.lemmas.Int.{ints, to_z-of_z}
-use Rattle.std.specs.Int.{w128}
-use Rattle.std.specs.Int.Signed.{le_z}
+use Rattle.std.proofs.Common.{◌≡◌, ◌∙◌, ap, ap₂, sym, ℕ, zero, suc, ◌*◌, ◌<◌, ◌≤◌, ◌^◌, ℤ, pos, ◌≤ℤ◌, unsigned_abs, Bool, true, false, if◌then◌else◌, List, [], ◌∷◌, length, Option, None, Some, option_map, option_and_then, slice_get, unwrap_or, arith}
+use Rattle.std.proofs.lemmas.Int.{ints}
 use Rattle.std.specs.List.{AllByRecursion}
 use Rattle.wrp_base.specs.Clock.{period_of}
 use Rattle.wrp_base.specs.declared.link.Role.{Role}
@@ -16,12 +14,9 @@ use Rattle.wrp_world.specs.Setting.{Setting, end_of, link_of}
 use Rattle.wrp_world.specs.StandsFor.{IsValid, WorldOf}
 use Rattle.wrp_world.specs.WorldAt.{WorldAt, reading}
 use Rattle.wrp_sim.specs.Numbers.{is_within, raw_at}
-use Rattle.wrp_sim.specs.Rules.{first_entry, raw_by, raw_to, true_raw}
+use Rattle.wrp_sim.specs.Rules.{first_entry, raw_by, raw_to}
 use Rattle.wrp_sim.specs.Scenario.{IsFree}
 use Rattle.wrp_sim.proofs.Seen.{ends_within}
-
-pub whole : (z : ℤ) → FitsSigned w128 z → to_z w128 (of_z w128 z) ≡ z
-whole z fits = to_z-of_z w128 z fits
 
 -- readings that a stamp can tell
 

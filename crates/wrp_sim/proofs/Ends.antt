@@ -1,5 +1,6 @@
 -- The end of a link that a port is, and the other one.
 use Rattle.std.proofs.Common.{◌≡◌, ◌∙◌, refl, ap, ap₂, sym, subst, ℕ, zero, suc, ◌+◌, ◌==◌, ◌&&◌, ℤ, Bool, true, false, if◌then◌else◌, List, [], ◌∷◌, Option, None, Some, option_map, option_and_then, slice_get, eq-eqb}
+use Rattle.std.proofs.lemmas.Option.{none-some, same_Some}
 use Rattle.wrp_base.specs.declared.configuration.NetCfg.{NetCfg}
 use Rattle.wrp_base.specs.declared.link.Role.{Role}
 use Rattle.wrp_base.specs.declared.link.Role.TheVariants.{Master, Slave}
@@ -18,7 +19,6 @@ use Rattle.wrp_world.proofs.RunNetwork.{LinkEnd as EndThere, are_apart, link_end
 use Rattle.wrp_sim.specs.declared.sim.modules.LinkEnd.{LinkEnd}
 use Rattle.wrp_sim.specs.Departures.{across}
 use Rattle.wrp_sim.specs.Rules.{raw_by, raw_of, raw_to}
-use Rattle.wrp_sim.proofs.SimLists.{none_some, same}
 
 -- a world that is valid stands for states of an accepted network
 pub network_of : {F : Type 0} (pre : F → ℤ → Type 0) (post : F → ℤ → ℤ → Type 0) (s : Setting) (w : WorldAt) (world : WorldOf F) →
@@ -34,12 +34,12 @@ port_in end = (end.node, end.port)
 
 unmapped : (o : Option End) → option_map port_in o ≡ None → o ≡ None
 unmapped None e = refl
-unmapped (Some end) e = absurd (none_some (port_in end) (sym e))
+unmapped (Some end) e = absurd (none-some (port_in end) (sym e))
 
 -- no end of these links is the port
 found_none : (a b : Bool) (x y : Place) (rest : Option Place) → (if a then Some x else (if b then Some y else rest)) ≡ None → (a ≡ false) × (b ≡ false) × (rest ≡ None)
-found_none true b x y rest e = absurd (none_some x (sym e))
-found_none false true x y rest e = absurd (none_some y (sym e))
+found_none true b x y rest e = absurd (none-some x (sym e))
+found_none false true x y rest e = absurd (none-some y (sym e))
 found_none false false x y rest e = (refl, refl, e)
 
 both_are : (a b : Bool) → a ≡ true → b ≡ true → (a && b) ≡ false → ⊥
@@ -56,10 +56,10 @@ not_end Slave n p link end e f g upper lower =
 
 some_place : (n p k : ℕ) (links : List LinkCfg) (i : ℕ) (link : LinkCfg) (r : Role) (end : End) → slice_get links i ≡ Some link → end_of r link ≡ end →
     end.node ≡ n → end.port ≡ p → place_among n p k links ≡ None → ⊥
-some_place n p k [] i link r end e f g h none = none_some link e
+some_place n p k [] i link r end e f g h none = none-some link e
 some_place n p k (l ∷ links) zero link r end e f g h none =
     let no = found_none (is_upper_end n p l) (is_lower_end n p l) (record { link = k; role = Master }) (record { link = k; role = Slave }) (place_among n p (k + 1) links) none in
-    not_end r n p l end (ap (end_of r) (same l link e) ∙ f) g h no.0 no.1
+    not_end r n p l end (ap (end_of r) (same_Some l link e) ∙ f) g h no.0 no.1
 some_place n p k (l ∷ links) (suc i) link r end e f g h none =
     let no = found_none (is_upper_end n p l) (is_lower_end n p l) (record { link = k; role = Master }) (record { link = k; role = Slave }) (place_among n p (k + 1) links) none in
     some_place n p (k + 1) links i link r end e f g h no.2
@@ -84,7 +84,7 @@ end_found s net k r end e = found s net k r end e (place_of s end.node end.port)
 
 no_end : (s : Setting) (w : WorldAt) (k : ℕ) (r q : Role) (o : Option LinkCfg) → link_of s k ≡ o → end_at s k r ≡ None → raw_to s w k q ≡ None
 no_end s w k r q None e f = ap (λ (l : Option LinkCfg). option_and_then (raw_by s w k q) (option_map (end_of q) l)) e
-no_end s w k r q (Some link) e f = absurd (none_some (end_of r link) (sym f ∙ ap (option_map (end_of r)) e))
+no_end s w k r q (Some link) e f = absurd (none-some (end_of r link) (sym f ∙ ap (option_map (end_of r)) e))
 
 no_sender : (s : Setting) (w : WorldAt) (o : Option FrameAt) → option_map port_in (option_and_then (λ f. end_at s f.link f.by) o) ≡ None →
     option_and_then (λ f. raw_to s w f.link (other_of f.by)) o ≡ None
@@ -98,15 +98,15 @@ unsent s w i e = no_sender s w (w.frame i) (sym e)
 -- its sender is this port
 by_end : (s : Setting) → IsNetwork s → (w : WorldAt) (n p k : ℕ) (r : Role) (o : Option End) → end_at s k r ≡ o → Some (n, p) ≡ option_map port_in o →
     place_of s n p ≡ Some (record { link = k; role = r })
-by_end s net w n p k r None e f = absurd (none_some (n, p) (sym f))
+by_end s net w n p k r None e f = absurd (none-some (n, p) (sym f))
 by_end s net w n p k r (Some end) e f =
-    let is : (n, p) ≡ (end.node, end.port) = same (n, p) (end.node, end.port) f in
+    let is : (n, p) ≡ (end.node, end.port) = same_Some (n, p) (end.node, end.port) f in
     ap (λ (x : ℕ × ℕ). place_of s x.0 x.1) is ∙ end_found s net k r end e
 
 by_frame : (s : Setting) → IsNetwork s → (w : WorldAt) (n p : ℕ) (o : Option FrameAt) → Some (n, p) ≡ option_map port_in (option_and_then (λ f. end_at s f.link f.by) o) →
     (to : Option LinkEnd) → to ≡ option_map across (place_of s n p) →
     option_and_then (λ (x : LinkEnd). raw_to s w x.link x.role) to ≡ option_and_then (λ f. raw_to s w f.link (other_of f.by)) o
-by_frame s net w n p None e to g = absurd (none_some (n, p) (sym e))
+by_frame s net w n p None e to g = absurd (none-some (n, p) (sym e))
 by_frame s net w n p (Some f) e to g =
     ap (option_and_then (λ (x : LinkEnd). raw_to s w x.link x.role)) (g ∙ ap (option_map across) (by_end s net w n p f.link f.by (end_at s f.link f.by) refl e))
 

@@ -1,14 +1,11 @@
 -- The delays of a scenario's fibres are in their ranges.
-use Rattle.std.proofs.Common.{◌≡◌, ℕ, ℤ, pos, ◌*◌, ◌^◌, ◌<◌, ◌≤◌, List, [], ◌∷◌, Some, zero, suc, length, ap, arith}
+use Rattle.std.proofs.Common.{ℕ, ℤ, ◌^◌, ◌≤◌, List, [], ◌∷◌, zero, suc, arith}
 use Rattle.std.specs.Prelude.{slice_get, unsigned_abs, unwrap_or}
 use Rattle.std.specs.List.{AllByRecursion}
-use Rattle.std.specs.Option.{option_map_or}
 use Rattle.std.proofs.lemmas.Int.{ints}
 use Rattle.wrp_base.specs.declared.configuration.NetCfg.{NetCfg}
-use Rattle.wrp_base.specs.declared.network.LinkCfg.{LinkCfg}
-use Rattle.wrp_base.specs.Network.{HasRanges, IsFromTo, IsLink}
-use Rattle.wrp_bounds.specs.Times.{reach}
-use Rattle.wrp_sim.specs.Scenario.{SceneAt, IsSceneOf, IsSum, delta_ms, delta_sm, fibre_room, kappa_of, sum_of}
+use Rattle.wrp_base.specs.Network.{HasRanges, IsFromTo}
+use Rattle.wrp_sim.specs.Scenario.{SceneAt, IsSceneOf, IsSum, delta_ms, delta_sm, fibre_room, sum_of}
 use Rattle.wrp_sim.proofs.KeepsNumbers.{split}
 
 -- of both ways so much, each way takes at most all of it
@@ -39,7 +36,3 @@ room_small cfg ranges =
 
 pub sum_small : (cfg : NetCfg) (scene : SceneAt) (l : ℕ) → HasRanges cfg → IsSceneOf cfg scene → sum_of scene l ≤ 2 ^ 60
 sum_small cfg scene l ranges is = omega (arith, room_small cfg ranges, sum_fits cfg scene l is)
-
--- the asymmetry of each fibre is in its range
-pub kappa_small : (cfg : NetCfg) (l : ℕ) (link : LinkCfg) → HasRanges cfg → IsLink cfg l link → unsigned_abs (kappa_of cfg l) ≤ 2 ^ 38
-kappa_small cfg l link ranges at = rw at ((ranges.links l link at).kappa)

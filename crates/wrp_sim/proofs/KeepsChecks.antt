@@ -4,6 +4,7 @@ use Rattle.std.proofs.lemmas.Int.{ints}
 use Rattle.std.specs.Int.Signed.{le_z}
 use Rattle.std.specs.List.{AllByRecursion}
 use Rattle.std.specs.Option.{option_map_or}
+use Rattle.std.proofs.lemmas.Bool.{and_right}
 use Rattle.wrp_base.specs.declared.network.NodeCfg.{NodeCfg}
 use Rattle.wrp_base.specs.declared.time.Clock.{Clock}
 use Rattle.wrp_phase.specs.BeatPattern.{true_step}
@@ -30,21 +31,13 @@ pub nowhere : (cs : List Check) → AllHold (map (only_where false) cs)
 nowhere [] = tt
 nowhere (c ∷ cs) = (refl, nowhere cs)
 
-pub and_false : (b c : Bool) → c ≡ false → (b && c) ≡ false
-and_false true c e = e
-and_false false c e = refl
-
 pub where_hold : (b : Bool) (cs : List Check) → AllHold cs → AllHold (map (only_where b) cs)
 where_hold b [] h = tt
-where_hold b (c ∷ cs) h = (and_false b c.fails h.0, where_hold b cs h.1)
+where_hold b (c ∷ cs) h = (and_right b c.fails h.0, where_hold b cs h.1)
 
 pub flat_hold : (f : ℕ → List Check) (ks : List ℕ) → ((k : ℕ) → AllHold (f k)) → AllHold (flat_map f ks)
 flat_hold f [] h = tt
 flat_hold f (k ∷ ks) h = both_hold (f k) (flat_map f ks) (h k) (flat_hold f ks h)
-
-pub map_hold : (f : ℕ → Check) (ks : List ℕ) → ((k : ℕ) → Holds (f k)) → AllHold (map f ks)
-map_hold f [] h = tt
-map_hold f (k ∷ ks) h = (h k, map_hold f ks h)
 
 pub stands_holds : (b : Bool) → b ≡ true → Holds (stands b)
 stands_holds b e = ap not e
@@ -80,7 +73,7 @@ after_least : (now past : ℤ) (least : ℕ) → (past +ℤ pos least) ≤ℤ no
 after_least now past least h = omega (arith, ints, h)
 
 pub not_early : (least : ℕ) (now : ℤ) (clock : ClockState) → (clock.ticked +ℤ pos least) ≤ℤ now → Holds (early_by (pos least) now clock)
-not_early least now clock h = and_false clock.up (not (le_z (pos least) (now -ℤ clock.ticked))) (not_over (pos least) (now -ℤ clock.ticked) (after_least now clock.ticked least h))
+not_early least now clock h = and_right clock.up (not (le_z (pos least) (now -ℤ clock.ticked))) (not_over (pos least) (now -ℤ clock.ticked) (after_least now clock.ticked least h))
 
 before_most : (after past : ℤ) (most : ℕ) → after ≤ℤ (past +ℤ pos most) → (after -ℤ past) ≤ℤ pos most
 before_most after past most h = omega (arith, ints, h)

@@ -1,12 +1,14 @@
 -- The numbers of a module that is listed are at most the greatest of all.
-use Rattle.std.proofs.Common.{◌≡◌, sym, subst, ℕ, ◌≤◌, ◌==◌, ◌&&◌, Bool, true, false, cond, max, fold, List, [], ◌∷◌, ◌++◌, map, flat_map, Option, None, Some, IfSome, option_map, arith}
+use Rattle.std.proofs.Common.{◌≡◌, sym, subst, ℕ, ◌≤◌, ◌==◌, ◌&&◌, Bool, max, fold, List, [], ◌∷◌, ◌++◌, map, flat_map, IfSome, arith}
 use Rattle.std.specs.List.{AllByRecursion, find}
-use Rattle.std.specs.Option.{option_and_then, option_or}
 use Rattle.wrp_base.specs.declared.link.Module.{Module}
+use Rattle.wrp_base.proofs.Options.{either_holds}
 use Rattle.wrp_caldb.specs.Database.{Database, ModuleAt, delays_at, entry_at, module_at}
 use Rattle.wrp_caldb.specs.declared.database.Entry.{Entry}
 use Rattle.wrp_caldb.specs.Name.{same_name}
+use Rattle.wrp_world.proofs.TriedModules.{found_case, mapped_holds, then_holds}
 use Rattle.wrp_config.specs.Accepted.{all_delays, greatest}
+use Rattle.wrp_node.proofs.Lists.{all_of}
 
 -- the greatest of some numbers
 
@@ -23,25 +25,9 @@ all_below a (n ∷ ns) =
 
 -- what was found is one of those that were searched
 
-found_case : {A : Type 0} (P : A → Type 0) (b : Bool) (x : A) (o : Option A) → P x → IfSome o P → IfSome (cond b (Some x) o) P
-found_case P true x o p q = p
-found_case P false x o p q = q
-
 found_holds : {A : Type 0} (P : A → Type 0) (test : A → Bool) (xs : List A) → AllByRecursion P xs → IfSome (find test xs) P
 found_holds P test [] h = tt
 found_holds P test (x ∷ xs) h = found_case P (test x) x (find test xs) h.0 (found_holds P test xs h.1)
-
-mapped_holds : {A B : Type 0} (f : A → B) (P : B → Type 0) (o : Option A) → IfSome o (λ x. P (f x)) → IfSome (option_map f o) P
-mapped_holds f P None h = tt
-mapped_holds f P (Some x) h = h
-
-either_holds : {A : Type 0} (P : A → Type 0) (a b : Option A) → IfSome a P → IfSome b P → IfSome (option_or a b) P
-either_holds P None b h k = k
-either_holds P (Some x) b h k = h
-
-then_holds : {A B : Type 0} (f : A → Option B) (P : B → Type 0) (o : Option A) → IfSome o (λ x. IfSome (f x) P) → IfSome (option_and_then f o) P
-then_holds f P None h = tt
-then_holds f P (Some x) h = h
 
 -- of all entries, module by module
 
@@ -67,16 +53,12 @@ entry_holds Q tx rx entries h =
     mapped_holds (λ (e : Entry). e.delays) Q (find (λ e. (e.tx_nm == tx) && (e.rx_nm == rx)) entries)
     (found_holds (λ (e : Entry). Q e.delays) (λ e. (e.tx_nm == tx) && (e.rx_nm == rx)) entries h)
 
-all_weaker : {A : Type 0} (P Q : A → Type 0) (xs : List A) → ((x : A) → P x → Q x) → AllByRecursion P xs → AllByRecursion Q xs
-all_weaker P Q [] f h = tt
-all_weaker P Q (x ∷ xs) f h = (f x h.0, all_weaker P Q xs f h.1)
-
 pub module_small : (db : Database) (number : Module → ℕ) (most : ℕ) → most ≡ greatest (map number (all_delays db)) → (name : List ℕ) (tx rx : ℕ) → IfSome (module_at db name tx rx) (λ m. number m ≤ most)
 module_small db number most is name tx rx =
     let all : AllByRecursion (λ n. n ≤ most) (number_of number (flat_map (λ m. m.entries) db.modules)) =
     subst (λ x. AllByRecursion (λ n. n ≤ x) (number_of number (flat_map (λ m. m.entries) db.modules))) (sym is) (all_below 0 (number_of number (flat_map (λ m. m.entries) db.modules))) in
     then_holds (λ (m : ModuleAt). delays_at m.entries tx rx) (λ m. number m ≤ most) (find (λ m. same_name m.name name) db.modules)
     (found_holds (λ (m : ModuleAt). IfSome (delays_at m.entries tx rx) (λ x. number x ≤ most)) (λ m. same_name m.name name) db.modules
-    (all_weaker (λ (m : ModuleAt). AllByRecursion (λ (e : Entry). number e.delays ≤ most) m.entries) (λ (m : ModuleAt). IfSome (delays_at m.entries tx rx) (λ x. number x ≤ most)) db.modules
+    (all_of (λ (m : ModuleAt). AllByRecursion (λ (e : Entry). number e.delays ≤ most) m.entries) (λ (m : ModuleAt). IfSome (delays_at m.entries tx rx) (λ x. number x ≤ most)) db.modules
     (λ m h. either_holds (λ x. number x ≤ most) (entry_at tx rx m.entries) (entry_at 0 0 m.entries) (entry_holds (λ x. number x ≤ most) tx rx m.entries h) (entry_holds (λ x. number x ≤ most) 0 0 m.entries h))
     (modules_hold number (λ n. n ≤ most) db.modules all)))

@@ -2,6 +2,7 @@
 use Rattle.std.proofs.Common.{◌≡◌, inl, inr, refl, ap, sym, subst, ℕ, ◌+◌, ◌-◌, ◌*◌, ◌^◌, ◌<◌, ◌≤◌, ℤ, pos, ◌+ℤ◌, ◌≤ℤ◌, unsigned_abs, true, List, [], map, Option, None, Some, IfSome, arith}
 use Rattle.std.proofs.lemmas.Int.{ints}
 use Rattle.std.specs.Option.{option_and_then, option_map_or}
+use Rattle.std.proofs.lemmas.Bool.{cases_Bool}
 use Rattle.wrp_base.specs.Clock.{steps_of_period}
 use Rattle.wrp_base.specs.declared.configuration.NetCfg.{NetCfg}
 use Rattle.wrp_base.specs.declared.link.Module.{Module}
@@ -20,7 +21,6 @@ use Rattle.wrp_world.specs.WorldAt.{WorldAt, delay_from, first_name}
 use Rattle.wrp_world.proofs.TriedModules.{module_has}
 use Rattle.wrp_sim.specs.Rules.{first_entry}
 use Rattle.wrp_sim.specs.Scenario.{IsSceneOf, IsSum, SceneAt, fibre_room, kappa_of, ms_of, sm_of, sum_of}
-use Rattle.wrp_sim.proofs.KeepsBasics.{bool_of}
 use Rattle.wrp_sim.proofs.KeepsEntries.{module_small}
 use Rattle.wrp_sim.proofs.KeepsMoves.{FirstModules, SceneFibres}
 use Rattle.wrp_sim.proofs.KeepsNumbers.{IsSplit, split}
@@ -130,7 +130,7 @@ fibre_by_link s v k None h = tt
 fibre_by_link s v k (Some link) h = joined_hold s v k link (h link refl)
 
 pub fibre_holds : (scene : SceneAt) (s : Setting) → IsNetwork s → IsSceneOf s.cfg scene → (v : WorldAt) → FirstModules s v → SceneFibres scene s v → (k : ℕ) → AllHold (fibre_kept s v k)
-fibre_holds scene s net fits v first delays k = elim (bool_of (v.fibre k).joined) [
+fibre_holds scene s net fits v first delays k = elim (cases_Bool (v.fibre k).joined) [
   | inl joined ↦
       where_hold (v.fibre k).joined (option_map_or (fibre_checks s v k) (link_of s k) [])
       (fibre_by_link s v k (link_of s k) (λ link is. joined_fits scene s net fits v first delays k link is joined))

@@ -3,13 +3,17 @@ use Rattle.std.proofs.Common.{◌≡◌, inl, inr, ◌∙◌, refl, ap, sym, sub
 use Rattle.std.proofs.lemmas.Int.{ints}
 use Rattle.std.specs.List.{AllByRecursion, find}
 use Rattle.std.specs.Option.{option_and_then, option_map_or}
+use Rattle.std.proofs.lemmas.Option.{none-some, same_Some}
 use Rattle.std.specs.Ordering.{int_eq}
+use Rattle.std.proofs.lemmas.Bool.{and_parts, cases_Bool}
 use Rattle.wrp_base.specs.Clock.{step_of}
 use Rattle.wrp_base.specs.declared.link.Role.{Role}
 use Rattle.wrp_base.specs.declared.link.Role.TheVariants.{Master, Slave}
 use Rattle.wrp_base.specs.declared.network.LinkCfg.{LinkCfg}
 use Rattle.wrp_base.specs.declared.time.Raw.{Raw}
+use Rattle.wrp_base.proofs.Naturals.{eq_self, nat_le_self}
 use Rattle.wrp_base.specs.Network.{End, node_count}
+use Rattle.wrp_base.proofs.Booleans.{not_both}
 use Rattle.wrp_bounds.specs.Times.{frame_life, reach}
 use Rattle.wrp_world.specs.EventAt.{IsRaw}
 use Rattle.wrp_world.specs.declared.event.Event.TheVariants.{Depart, Arrive, Deliver}
@@ -22,16 +26,14 @@ use Rattle.wrp_world.specs.Setting.{Setting, end_at, end_of, entry_at, from_on, 
 use Rattle.wrp_world.specs.Views.{IsNextArrival, oldest_of, waiting_of}
 use Rattle.wrp_world.specs.WorldAt.{Arrival, FrameAt, Sending, WorldAt, has_carrier, is_on_fibre, reading}
 use Rattle.wrp_world.proofs.RunNetwork.{LinkEnd, link_end}
-use Rattle.wrp_world.proofs.RunPorts.{self_equal}
 use Rattle.wrp_sim.specs.Numbers.{drawn_stamp}
 use Rattle.wrp_sim.specs.Rules.{after_arrival, after_draw, arrives, arrives_by, comes, delivers, departs, departs_from, departs_now, first_entry, is_now, is_tellable, ports_of, raw_by, raw_of, raw_to, stamp_room, true_raw}
 use Rattle.wrp_sim.specs.Scenario.{SceneAt}
 use Rattle.wrp_sim.specs.SimAt.{SimAt}
-use Rattle.wrp_sim.proofs.KeepsBasics.{bool_of, none_some, same_number, some_same, true_false}
 use Rattle.wrp_sim.proofs.KeepsChecks.{both_hold, not_more, not_over, stands_holds}
 use Rattle.wrp_sim.proofs.KeepsFibres.{Joined, joined_fits, transition_small}
-use Rattle.wrp_sim.proofs.KeepsStamps.{StampFits, raw_holds, raw_in, stamp_fits, tellable, told_least}
-use Rattle.wrp_sim.proofs.KeepsGood.{GoodIf, IsCarried, Moment, and_both, carried, found, good, if_good, all_numbers, below_told, of_node_in, same_told, then_good}
+use Rattle.wrp_sim.proofs.KeepsStamps.{StampFits, raw_holds, stamp_fits, tellable, told_least, raw_by as raw_in}
+use Rattle.wrp_sim.proofs.KeepsGood.{GoodIf, IsCarried, Moment, carried, found, good, if_good, all_numbers, below_told, of_node_in, same_told, then_good}
 use Rattle.wrp_sim.proofs.KeepsLit.{FibresLit}
 use Rattle.wrp_sim.proofs.KeepsMoves.{FrameKept, LeavesYoung}
 use Rattle.wrp_sim.proofs.KeepsState.{AllQuiet, HandsOver, IsHere, Keeps, step_hands}
@@ -51,7 +53,7 @@ IsOldest now [] = ⊥
 IsOldest now (oldest ∷ rest) = oldest.at ≡ now
 
 oldest_now : (w : WorldAt) (queue : List Sending) → is_now w (oldest_of queue) ≡ true → IsOldest w.time queue
-oldest_now w [] e = absurd (true_false true refl (sym e))
+oldest_now w [] e = absurd (not_both true refl (sym e))
 oldest_now w (oldest ∷ rest) e = same_told oldest.at w.time e
 
 no_age : (now at : ℤ) (life : ℕ) → at ≡ now → (now -ℤ at) ≤ℤ pos life
@@ -62,7 +64,7 @@ not_empty x xs e = cc
 
 -- what waits is at a port of a link with its carrier
 waits_lit : (scene : SceneAt) (s : Setting) (w : WorldAt) (place : Place) (oldest : Sending) (rest : List Sending) → Moment scene s w → oldest ∷ rest ≡ (w.end_at place.link place.role).waiting → has_carrier s w place.link ≡ true
-waits_lit scene s w place oldest rest m e = elim (bool_of (has_carrier s w place.link)) [
+waits_lit scene s w place oldest rest m e = elim (cases_Bool (has_carrier s w place.link)) [
   | inl lit ↦ lit
   | inr dark ↦ absurd (not_empty oldest rest (e ∙ m.lit.waits place.link place.role dark))
 ]
@@ -95,7 +97,7 @@ departs_good scene s w at m h =
     let n : ℕ = port.0 in
     let it : (departs_now s w port ≡ true) × (n < node_count s.cfg) =
     found (λ (p : ℕ × ℕ). p.0 < node_count s.cfg) (departs_now s w) (ports_of s) port (nodes_all (λ k. k < node_count s.cfg) (nodes_of s) (all_numbers s (λ k. k < node_count s.cfg) (λ k b. b))) e in
-    let both : (is_now w (waiting_of s w n port.1) ≡ true) × (is_tellable s (reading w n) ≡ true) = and_both (is_now w (waiting_of s w n port.1)) (is_tellable s (reading w n)) it.0 in
+    let both : (is_now w (waiting_of s w n port.1) ≡ true) × (is_tellable s (reading w n) ≡ true) = and_parts (is_now w (waiting_of s w n port.1)) (is_tellable s (reading w n)) it.0 in
     let e_tx : ℕ = of_node (λ node. node.e_tx) s n in
     let large : 1_000 ≤ e_tx = of_node_in (λ x. 1_000 ≤ x) (λ node. node.e_tx) s n it.1 (λ node i. (m.net.accepted.ranges.nodes n node i).e_tx.0) in
     let small : e_tx ≤ 1_000_000_000 = of_node_in (λ x. x ≤ 1_000_000_000) (λ node. node.e_tx) s n it.1 (λ node i. (m.net.accepted.ranges.nodes n node i).e_tx.1) in
@@ -110,11 +112,11 @@ departs_good scene s w at m h =
       fibres = tt;
       young = leaves_young scene s w at (place_of s n port.1) queue m h refl now;
       ticks = h.ticks;
-      begun = same_number at.begun;
+      begun = nat_le_self at.begun;
       most = h.waits.most;
       turn = tt;
       faults = h.faults;
-      ticked = λ j i. absurd (none_some j i);
+      ticked = λ j i. absurd (none-some j i);
       handed = λ says y t. step_hands s says y w (Depart n port.1 stamp) at new tt h.young refl refl (h.handed t);
     }))
 
@@ -124,8 +126,8 @@ kept_of : (s : Setting) (w : WorldAt) (i : ℕ) (f : FrameAt) (o : Option FrameA
 kept_of s w i f o e h = subst (FrameKept s w.departed i) e h
 
 came_due : (P : Arrival → Type 0) (o : Option Arrival) (a : Arrival) → o ≡ Some a → IfSome o P → P a
-came_due P None a e h = absurd (none_some a e)
-came_due P (Some b) a e h = subst P (some_same b a e) h
+came_due P None a e h = absurd (none-some a e)
+came_due P (Some b) a e h = subst P (same_Some b a e) h
 
 age_small : (now sent at due : ℤ) (most life : ℕ) → sent ≡ at → due ≤ℤ (at +ℤ pos most) → now ≡ due → most ≤ life → (now -ℤ sent) ≤ℤ pos life
 age_small now sent at due most life e h k l = omega (arith, ints, e, h, k, l)
@@ -160,7 +162,7 @@ delivers_good scene s w at m h =
       ticks = h.ticks;
       waits = h.waits;
       faults = h.faults;
-      ticked = λ j e. absurd (none_some j e);
+      ticked = λ j e. absurd (none-some j e);
       handed = λ t. let it : HandsOver s w at = h.handed some in record { here = it.here; quiet = it.quiet };
     })
     (record {
@@ -168,11 +170,11 @@ delivers_good scene s w at m h =
       fibres = tt;
       young = tt;
       ticks = h.ticks;
-      begun = same_number at.begun;
+      begun = nat_le_self at.begun;
       most = h.waits.most;
       turn = tt;
       faults = h.faults;
-      ticked = λ j e. absurd (none_some j e);
+      ticked = λ j e. absurd (none-some j e);
       handed = λ says y t. step_hands s says y w (Deliver i) at new tt h.young refl refl (h.handed some);
     }))
     (λ b. tt)
@@ -223,7 +225,7 @@ arrives_here s w i raw f o e = ap (λ x. arrived s w i raw x i x) e
 
 arriving_now : (s : Setting) (w : WorldAt) (i : ℕ) (raw : Raw) (f : FrameAt) (b : Bool) → b ≡ true → (more : Bool) (a : Arrival) → (if b then record f { arrival = Some a } else record f { gone = more }) ≡ record f { arrival = Some a }
 arriving_now s w i raw f true e more a = refl
-arriving_now s w i raw f false e more a = absurd (true_false true refl (sym e))
+arriving_now s w i raw f false e more a = absurd (not_both true refl (sym e))
 
 arrived_hands : (s : Setting) (w : WorldAt) (at new : SimAt) (i : ℕ) (raw : Raw) (f : FrameAt) → w.frame i ≡ Some f → has_carrier s w f.link ≡ true → new.arrived.frame ≡ i → new.faults ≡ at.faults → AllQuiet s w.time at.faults →
     HandsOver s (moved s w (Arrive i raw)) new
@@ -232,9 +234,9 @@ arrived_hands s w at new i raw f is lit frame faults quiet = record {
     frame = arriving s w i raw f i f;
     is = arrives_here s w i raw f (w.frame i) is;
     arrival = _;
-    arrived = ap (λ (g : FrameAt). g.arrival) (arriving_now s w i raw f (i == i) (self_equal i) _ _);
+    arrived = ap (λ (g : FrameAt). g.arrival) (arriving_now s w i raw f (i == i) (eq_self i) _ _);
     now = refl;
-    lit = ap (has_carrier s w) (ap (λ (g : FrameAt). g.link) (arriving_now s w i raw f (i == i) (self_equal i) _ _)) ∙ lit;
+    lit = ap (has_carrier s w) (ap (λ (g : FrameAt). g.link) (arriving_now s w i raw f (i == i) (eq_self i) _ _)) ∙ lit;
   });
   quiet = subst (AllQuiet s w.time) (sym faults) quiet;
 }
@@ -252,11 +254,11 @@ record IsTrueRaw (s : Setting) (w : WorldAt) (f : FrameAt) (raw : Raw) : Type 0 
 told_raw : (s : Setting) (w : WorldAt) (k : ℕ) (r : Role) (end : End) (raw : Raw) (b : Bool) → is_tellable s (reading w end.node) ≡ b →
     (if b then Some (true_raw s (transition_of (first_entry s k r)) (reading w end.node)) else None) ≡ Some raw →
     (is_tellable s (reading w end.node) ≡ true) × (true_raw s (transition_of (first_entry s k r)) (reading w end.node) ≡ raw)
-told_raw s w k r end raw true t e = (t, some_same (true_raw s (transition_of (first_entry s k r)) (reading w end.node)) raw e)
-told_raw s w k r end raw false t e = absurd (none_some raw e)
+told_raw s w k r end raw true t e = (t, same_Some (true_raw s (transition_of (first_entry s k r)) (reading w end.node)) raw e)
+told_raw s w k r end raw false t e = absurd (none-some raw e)
 
 raw_at_end : (s : Setting) (w : WorldAt) (f : FrameAt) (raw : Raw) (o : Option End) → end_at s f.link (other_of f.by) ≡ o → option_and_then (raw_by s w f.link (other_of f.by)) o ≡ Some raw → IsTrueRaw s w f raw
-raw_at_end s w f raw None is e = absurd (none_some raw e)
+raw_at_end s w f raw None is e = absurd (none-some raw e)
 raw_at_end s w f raw (Some end) is e =
     let both : (is_tellable s (reading w end.node) ≡ true) × (true_raw s (transition_of (first_entry s f.link (other_of f.by))) (reading w end.node) ≡ raw) =
     told_raw s w f.link (other_of f.by) end raw (is_tellable s (reading w end.node)) refl e in
@@ -281,11 +283,11 @@ arrives_by_good scene s w at i f m h quiet is on due =
       fibres = tt;
       young = tt;
       ticks = h.ticks;
-      begun = same_number at.begun;
+      begun = nat_le_self at.begun;
       most = h.waits.most;
       turn = tt;
       faults = h.faults;
-      ticked = λ j n. absurd (none_some j n);
+      ticked = λ j n. absurd (none-some j n);
       handed = λ says y t. arrived_hands s w at new i raw f is (frame_lit s w i f m.lit.fibres is on) refl refl quiet;
     }))
 

@@ -1,14 +1,19 @@
 -- What is shown of each rule: its event is one of the network, the world accepts it, and all that holds is kept.
-use Rattle.std.proofs.Common.{◌≡◌, ◌⊎◌, inl, inr, ◌∙◌, refl, ap, sym, subst, ℕ, zero, suc, ◌+◌, ◌&&◌, ◌≤◌, ◌<◌, ℤ, pos, ◌+ℤ◌, ◌≤ℤ◌, nat_lt, Bool, true, false, if◌then◌else◌, cond, List, [], ◌∷◌, length, Option, None, Some, option_map, slice_get, Result, arith}
+use Rattle.std.proofs.Common.{◌≡◌, ◌⊎◌, inl, inr, ◌∙◌, refl, ap, sym, subst, ℕ, zero, suc, ◌+◌, ◌≤◌, ◌<◌, ℤ, pos, ◌+ℤ◌, ◌≤ℤ◌, nat_lt, Bool, true, false, if◌then◌else◌, cond, List, [], ◌∷◌, Option, None, Some, option_map, slice_get, Result, arith}
 use Rattle.std.proofs.lemmas.Bool.Decides.{Decides-int_eq, eqb_tells, nat_tests}
 use Rattle.std.proofs.lemmas.Int.{ints}
 use Rattle.std.specs.List.{AllByRecursion, find}
 use Rattle.std.specs.Option.{option_and_then, option_map_or}
+use Rattle.std.proofs.lemmas.Option.{none-some}
 use Rattle.std.specs.Ordering.{int_eq}
+use Rattle.std.proofs.lemmas.Bool.{and_parts}
 use Rattle.wrp_base.specs.declared.message.PtpMsg.{PtpMsg}
 use Rattle.wrp_base.specs.declared.network.LinkCfg.{LinkCfg}
+use Rattle.wrp_base.proofs.Lists.{has_item}
 use Rattle.wrp_base.specs.declared.network.NodeCfg.{NodeCfg}
+use Rattle.wrp_base.proofs.Integers.{le_plus}
 use Rattle.wrp_base.specs.Network.{node_count}
+use Rattle.wrp_base.proofs.Booleans.{not_both}
 use Rattle.wrp_bounds.specs.Times.{longest_tick, shortest_tick}
 use Rattle.wrp_frame.specs.declared.fault.FrameFault.{FrameFault}
 use Rattle.wrp_world.specs.declared.event.Event.{Event}
@@ -24,9 +29,8 @@ use Rattle.wrp_sim.specs.Draws.{drawn, drawn_from}
 use Rattle.wrp_sim.specs.Rules.{Next, drawn_tick}
 use Rattle.wrp_sim.specs.Scenario.{IsSceneOf, SceneAt}
 use Rattle.wrp_sim.specs.SimAt.{SimAt}
-use Rattle.wrp_sim.proofs.KeepsBasics.{none_some, true_false}
 use Rattle.wrp_sim.proofs.KeepsLit.{IsLit}
-use Rattle.wrp_sim.proofs.KeepsNumbers.{drawn_least, drawn_most}
+use Rattle.wrp_sim.proofs.KeepsNumbers.{drawn_most}
 use Rattle.wrp_sim.proofs.KeepsState.{Keeps, StepKeeps, TicksBy, step_keeps}
 
 -- a moment of a run: what is known of it
@@ -80,19 +84,8 @@ found_case P test false y x o t p h e = h e
 
 -- what is found passes the test, and is one of the list
 pub found : {A : Type 0} (P : A → Type 0) (test : A → Bool) (xs : List A) (x : A) → AllByRecursion P xs → find test xs ≡ Some x → (test x ≡ true) × P x
-found P test [] x h e = absurd (none_some x e)
+found P test [] x h e = absurd (none-some x e)
 found P test (y ∷ xs) x h e = found_case P test (test y) y x (find test xs) refl h.0 (found P test xs x h.1) e
-
-missed_case : {A : Type 0} (test : A → Bool) (b : Bool) (y : A) (o : Option A) → test y ≡ b → cond b (Some y) o ≡ None → (test y ≡ false) × (o ≡ None)
-missed_case test true y o t e = absurd (none_some y (sym e))
-missed_case test false y o t e = (t, e)
-
--- where nothing is found, nothing passes
-pub missed : {A : Type 0} (test : A → Bool) (xs : List A) → find test xs ≡ None → AllByRecursion (λ x. test x ≡ false) xs
-missed test [] e = tt
-missed test (y ∷ xs) e =
-    let both : (test y ≡ false) × (find test xs ≡ None) = missed_case test (test y) y (find test xs) refl e in
-    (both.0, missed test xs both.1)
 
 pub all_from : (P : ℕ → Type 0) (count first : ℕ) → ((k : ℕ) → first ≤ k → k < first + count → P k) → AllByRecursion P (from_on count first)
 all_from P zero first h = tt
@@ -114,11 +107,6 @@ all_numbers s P h = all_from P (node_count s.cfg) 0 (λ k a b. h k (omega (arith
 pub each_number : (s : Setting) (P : ℕ → Type 0) → AllByRecursion P (nodes_of s) → (k : ℕ) → k < node_count s.cfg → P k
 each_number s P h k below = from_all P (node_count s.cfg) 0 h k (omega arith) (omega (arith, below))
 
-pub is_there : {A : Type 0} (xs : List A) (k : ℕ) → k < length xs → (x : A) × (slice_get xs k ≡ Some x)
-is_there [] k h = absurd (omega (arith, h))
-is_there (x ∷ xs) zero h = (x, refl)
-is_there (x ∷ xs) (suc k) h = let below : k < length xs = omega (arith, h) in is_there xs k below
-
 -- Tests
 
 pub below_told : (a b : ℕ) → nat_lt a b ≡ true → a < b
@@ -131,22 +119,18 @@ pub same_told : (a b : ℤ) → int_eq a b ≡ true → a ≡ b
 same_told a b e = (Decides-int_eq a b).0 e
 
 pub differ_told : (a b : ℤ) → int_eq a b ≡ false → a ≡ b → ⊥
-differ_told a b e same = true_false (int_eq a b) ((Decides-int_eq a b).1 same) e
-
-pub and_both : (a b : Bool) → (a && b) ≡ true → (a ≡ true) × (b ≡ true)
-and_both true b e = (refl, e)
-and_both false b e = absurd (true_false true refl (sym e))
+differ_told a b e same = not_both (int_eq a b) ((Decides-int_eq a b).1 same) e
 
 -- Nodes and links
 
 -- a node's number, where it is one of the network's
 pub of_node_in : (P : ℕ → Type 0) (number : NodeCfg → ℕ) (s : Setting) (n : ℕ) → n < node_count s.cfg → ((node : NodeCfg) → slice_get s.cfg.nodes.items n ≡ Some node → P (number node)) → P (of_node number s n)
 of_node_in P number s n below h =
-    let it : (node : NodeCfg) × (slice_get s.cfg.nodes.items n ≡ Some node) = is_there s.cfg.nodes.items n below in
+    let it : (node : NodeCfg) × (slice_get s.cfg.nodes.items n ≡ Some node) = has_item s.cfg.nodes.items n below in
     subst (λ (o : Option NodeCfg). P (option_map_or number o 0)) (sym it.1) (h it.0 it.1)
 
 link_with : (w : WorldAt) (o : Option LinkCfg) → ends_are_up w.clock o ≡ true → (link : LinkCfg) × (o ≡ Some link)
-link_with w None e = absurd (true_false true refl (sym e))
+link_with w None e = absurd (not_both true refl (sym e))
 link_with w (Some link) e = (link, refl)
 
 -- a link with its carrier is one of the network's, and joined
@@ -157,7 +141,7 @@ pub record IsCarried (s : Setting) (w : WorldAt) (k : ℕ) : Type 0 where
 
 pub carried : (s : Setting) (w : WorldAt) (k : ℕ) → has_carrier s w k ≡ true → IsCarried s w k
 carried s w k e =
-    let both : ((w.fibre k).joined ≡ true) × (ends_are_up w.clock (link_of s k) ≡ true) = and_both (w.fibre k).joined (ends_are_up w.clock (link_of s k)) e in
+    let both : ((w.fibre k).joined ≡ true) × (ends_are_up w.clock (link_of s k) ≡ true) = and_parts (w.fibre k).joined (ends_are_up w.clock (link_of s k)) e in
     let it : (link : LinkCfg) × (link_of s k ≡ Some link) = link_with w (link_of s k) both.1 in
     record { link = it.0; there = it.1; joined = both.0 }
 
@@ -180,7 +164,7 @@ pub tick_is_drawn : (s : Setting) → IsNetwork s → (now : ℤ) (state : ℕ) 
 tick_is_drawn s net now state =
     let ordered : pos (shortest_tick s.cfg) ≤ℤ pos (longest_tick s.cfg) = ends_in_order (shortest_tick s.cfg) (longest_tick s.cfg) net.accepted.inequalities.tick_times in
     drawn_by (shortest_tick s.cfg) (longest_tick s.cfg) now (drawn_from (pos (shortest_tick s.cfg)) (pos (longest_tick s.cfg)) state)
-    (drawn_least (pos (shortest_tick s.cfg)) _) (drawn_most (pos (shortest_tick s.cfg)) (pos (longest_tick s.cfg)) (drawn state) ordered)
+    (le_plus (pos (shortest_tick s.cfg)) _) (drawn_most (pos (shortest_tick s.cfg)) (pos (longest_tick s.cfg)) (drawn state) ordered)
 
 pub tick_where : (b : Bool) (least most : ℕ) (last now drawn tick : ℤ) → TicksBy least most now now drawn → (b ≡ false → TicksBy least most last now tick) →
     TicksBy least most (if b then now else last) now (if b then drawn else tick)

@@ -1,16 +1,20 @@
 -- What is on a fibre is on a link that has its carrier; and so is what waits, after every event of every run.
-use Rattle.std.proofs.Common.{◌≡◌, ◌∙◌, refl, sym, subst, ℕ, ◌+◌, ◌==◌, ◌&&◌, ◌||◌, ℤ, not, nat_lt, Bool, true, false, if◌then◌else◌, List, [], ◌∷◌, Option, None, Some, option_map, Result}
+use Rattle.std.proofs.Common.{◌≡◌, ◌∙◌, refl, sym, subst, ℕ, ◌+◌, ◌==◌, ◌&&◌, ◌||◌, ℤ, nat_lt, Bool, true, false, if◌then◌else◌, List, [], ◌∷◌, Option, None, Some, option_map, Result}
 use Rattle.std.specs.Option.{is_some}
+use Rattle.std.proofs.lemmas.Bool.{not-false}
 use Rattle.wrp_base.specs.declared.message.PtpMsg.{PtpMsg}
 use Rattle.wrp_base.specs.declared.time.Raw.{Raw}
 use Rattle.wrp_base.specs.Network.{End}
+use Rattle.wrp_base.proofs.Booleans.{not_both}
 use Rattle.wrp_frame.specs.declared.fault.FrameFault.{FrameFault}
 use Rattle.wrp_node.specs.NodeAt.{link_at}
 use Rattle.wrp_world.specs.declared.event.Event.{Event}
 use Rattle.wrp_world.specs.declared.event.Event.TheVariants.{Pass, Tick, Sample, Depart, Arrive, Deliver, Noise, Down, Up, Cut, Join}
 use Rattle.wrp_world.specs.declared.place.Place.{Place}
+use Rattle.wrp_world.proofs.RunStamps.{all_given_frame}
 use Rattle.wrp_world.specs.Checks.{AllHold}
-use Rattle.wrp_world.specs.Given.{Given, given_by, gives, gives_all, world_step}
+use Rattle.wrp_world.proofs.RunChanges.{still_up}
+use Rattle.wrp_world.specs.Given.{Given, given_by, gives_all, world_step}
 use Rattle.wrp_world.specs.Moved.{arrived, departing, frame_after, loses, moved, removed, samples_at, waiting_at}
 use Rattle.wrp_world.specs.Premises.{Accepts, depart_checks}
 use Rattle.wrp_world.specs.Run.{Happened, world_after}
@@ -20,8 +24,7 @@ use Rattle.wrp_world.specs.Setting.{Setting, is_role, place_of}
 use Rattle.wrp_world.specs.WorldAt.{Arrival, FrameAt, Sending, WorldAt, has_carrier, is_on_fibre, new_world}
 use Rattle.wrp_world.proofs.RunNetwork.{LinkEnd, link_end}
 use Rattle.wrp_world.proofs.RunSettled.{all_given_carrier, passed_carrier, sampled_carrier}
-use Rattle.wrp_sim.proofs.KeepsBasics.{true_false}
-use Rattle.wrp_sim.proofs.KeepsWaits.{PortsDark, WaitsLit, step_waits, still_joined, still_up, uncut_carrier, untouched_carrier}
+use Rattle.wrp_sim.proofs.KeepsWaits.{PortsDark, WaitsLit, step_waits, still_joined, uncut_carrier, untouched_carrier}
 
 -- Frames on a fibre
 
@@ -44,10 +47,10 @@ abbrev on_by : (gone arrived : Bool) → Bool
 on_by gone arrived = if gone then false else (if arrived then false else true)
 
 on_both : (gone arrived lost : Bool) → on_by (gone || (lost && on_by gone arrived)) arrived ≡ true → (on_by gone arrived ≡ true) × (lost ≡ false)
-on_both true arrived lost e = absurd (true_false false e refl)
-on_both false true true e = absurd (true_false false e refl)
-on_both false true false e = absurd (true_false false e refl)
-on_both false false true e = absurd (true_false false e refl)
+on_both true arrived lost e = absurd (not_both false e refl)
+on_both false true true e = absurd (not_both false e refl)
+on_both false true false e = absurd (not_both false e refl)
+on_both false false true e = absurd (not_both false e refl)
 on_both false false false e = (refl, refl)
 
 -- a frame that is on a fibre still was on it, and was not lost
@@ -55,7 +58,7 @@ still_on : (f : FrameAt) (lost : Bool) → is_on_fibre (Some (record f { gone = 
 still_on f lost on = on_both f.gone (is_some f.arrival) lost on
 
 on_older : (gone arrived more : Bool) → on_by (gone || (on_by gone arrived && more)) arrived ≡ true → on_by gone arrived ≡ true
-on_older true arrived more e = absurd (true_false false e refl)
+on_older true arrived more e = absurd (not_both false e refl)
 on_older false true more e = e
 on_older false false more e = refl
 
@@ -64,23 +67,19 @@ still_older f more on = on_older f.gone (is_some f.arrival) more on
 
 -- a frame that arrived is on none
 not_on : (gone : Bool) → on_by gone true ≡ true → ⊥
-not_on true e = true_false false e refl
-not_on false e = true_false false e refl
+not_on true e = not_both false e refl
+not_on false e = not_both false e refl
 
 frame_if : (s : Setting) (v : WorldAt) (b : Bool) (o p : Option FrameAt) → FrameLit s v o → FrameLit s v p → FrameLit s v (if b then o else p)
 frame_if s v true o p x y = x
 frame_if s v false o p x y = y
-
-stands_true : (b : Bool) → not b ≡ false → b ≡ true
-stands_true true e = refl
-stands_true false e = sym e
 
 departs_lit : (s : Setting) (w v : WorldAt) (n : ℕ) (place : Option Place) (stamp : ℤ) (i : ℕ) (queue : List Sending) → Stays s w v → AllHold (depart_checks s w n stamp place queue) → FrameLit s w (w.frame i) →
     FrameLit s v (departing w place stamp queue i)
 departs_lit s w v n None stamp i queue stays a h = frame_stays s w v (w.frame i) stays h
 departs_lit s w v n (Some place) stamp i [] stays a h = frame_stays s w v (w.frame i) stays h
 departs_lit s w v n (Some place) stamp i (oldest ∷ rest) stays a h =
-    frame_if s v (i == (w.departed + 1)) (Some _) (w.frame i) (λ on. stays place.link (stands_true (has_carrier s w place.link) a.1.1.0)) (frame_stays s w v (w.frame i) stays h)
+    frame_if s v (i == (w.departed + 1)) (Some _) (w.frame i) (λ on. stays place.link (not-false (has_carrier s w place.link) a.1.1.0)) (frame_stays s w v (w.frame i) stays h)
 
 comes_lit : (s : Setting) (v : WorldAt) (f : FrameAt) (b : Bool) (a : Arrival) (more : Bool) → FrameLit s v (Some f) →
     FrameLit s v (Some (if b then record f { arrival = Some a } else record f { gone = f.gone || (is_on_fibre (Some f) && more) }))
@@ -118,10 +117,6 @@ moved_fibres s w says (Down n) a h i = removed_lit s w (moved s w (Down n)) (Dow
 moved_fibres s w says (Up n off swaps) a h i = removed_lit s w (moved s w (Up n off swaps)) (Up n off swaps) (w.frame i) (λ k l c. still_up s w n off swaps k c) (h i)
 moved_fibres s w says (Cut j) a h i = removed_lit s w (moved s w (Cut j)) (Cut j) (w.frame i) (λ k l c. uncut_carrier s w j k l ∙ c) (h i)
 moved_fibres s w says (Join j ms sm) a h i = removed_lit s w (moved s w (Join j ms sm)) (Join j ms sm) (w.frame i) (λ k l c. still_joined s w j ms sm k c) (h i)
-
-all_given_frame : (s : Setting) (y : ℤ) (gs : List Given) (v : WorldAt) (i : ℕ) → (gives_all s y v gs).frame i ≡ v.frame i
-all_given_frame s y [] v i = refl
-all_given_frame s y (g ∷ gs) v i = all_given_frame s y gs (gives s y v g) i
 
 pub step_fibres : (s : Setting) (says : Result PtpMsg FrameFault) (y : ℤ) (w : WorldAt) (e : Event) → Accepts s w says e → FibresLit s w → FibresLit s (world_step s says y w e)
 step_fibres s says y w e a h i =

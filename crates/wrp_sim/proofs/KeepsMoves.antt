@@ -5,8 +5,11 @@ use Rattle.std.proofs.lemmas.Int.{ints}
 use Rattle.std.specs.Option.{option_map_or}
 use Rattle.wrp_base.specs.declared.link.Role.{Role}
 use Rattle.wrp_base.specs.declared.link.Role.TheVariants.{Master}
+use Rattle.wrp_base.proofs.Naturals.{le_of_same}
 use Rattle.wrp_base.specs.declared.message.PtpMsg.{PtpMsg}
+use Rattle.wrp_base.proofs.Integers.{int_plus_zero}
 use Rattle.wrp_base.specs.declared.time.Raw.{Raw}
+use Rattle.wrp_base.proofs.Booleans.{not_both}
 use Rattle.wrp_bounds.specs.Times.{reach}
 use Rattle.wrp_frame.specs.declared.fault.FrameFault.{FrameFault}
 use Rattle.wrp_node.specs.declared.interface.Input.{Input}
@@ -16,18 +19,20 @@ use Rattle.wrp_world.specs.declared.clocks.ClockState.{ClockState}
 use Rattle.wrp_world.specs.declared.event.Event.{Event}
 use Rattle.wrp_world.specs.declared.event.Event.TheVariants.{Pass, Tick, Sample, Depart, Arrive, Deliver, Noise, Down, Up, Cut, Join}
 use Rattle.wrp_world.specs.declared.event.Swap.{Swap}
+use Rattle.wrp_world.proofs.RunTicks.{NoTick, told_same}
 use Rattle.wrp_world.specs.declared.fibres.FibreState.{FibreState}
+use Rattle.wrp_world.proofs.RunSettled.{up_told}
 use Rattle.wrp_world.specs.declared.place.Place.{Place}
+use Rattle.wrp_world.proofs.RunMoves.{ticked_where}
 use Rattle.wrp_world.specs.Given.{Given, at_ports, clock_told, comes_from, delivered, given, given_by, given_plain, gives, gives_all, goes_from, sent_oldest, step_of, ticked_by, world_step}
 use Rattle.wrp_world.specs.Moved.{arrived, behind_first, departed_after, departing, end_after, fibre_after, frame_after, is_place, loses, move_of, moved, one_more, port_number, removed, samples_at, swap_at, waiting_at, with_swap}
 use Rattle.wrp_world.specs.RunLaws.{SameModule}
 use Rattle.wrp_world.specs.Setting.{Setting, end_at, is_of, is_role, place_of}
 use Rattle.wrp_world.specs.WorldAt.{Arrival, EndAt, FrameAt, Sending, WorldAt, delay_from, first_name, has_carrier, is_on_fibre, new_world}
 use Rattle.wrp_world.proofs.RunGifts.{AllGiven, all_if, comes_all, delivered_all, goes_all, ports_all, sent_all}
-use Rattle.wrp_world.proofs.RunTimes.{all_given_module}
+use Rattle.wrp_world.proofs.RunTimes.{all_given_module, one_module, same_module}
 use Rattle.wrp_sim.specs.Rules.{first_entry}
 use Rattle.wrp_sim.specs.Scenario.{SceneAt, ms_of, sm_of}
-use Rattle.wrp_sim.proofs.KeepsBasics.{true_false}
 
 -- Clocks: which nodes are up, and when each ticked last
 
@@ -41,21 +46,9 @@ last_after w (Tick m) n = if n == m then w.time else (w.clock n).ticked
 last_after w (Up m off swaps) n = if n == m then w.time else (w.clock n).ticked
 last_after w _ n = (w.clock n).ticked
 
-up_told : (b : Bool) (c d : ClockState) → c.up ≡ d.up → (if b then c else d).up ≡ d.up
-up_told true c d e = e
-up_told false c d e = refl
-
 up_where : (b : Bool) (c d : ClockState) → (if b then c else d).up ≡ (if b then c.up else d.up)
 up_where true c d = refl
 up_where false c d = refl
-
-last_told : (b : Bool) (c d : ClockState) → c.ticked ≡ d.ticked → (if b then c else d).ticked ≡ d.ticked
-last_told true c d e = e
-last_told false c d e = refl
-
-last_where : (b : Bool) (c d : ClockState) → (if b then c else d).ticked ≡ (if b then c.ticked else d.ticked)
-last_where true c d = refl
-last_where false c d = refl
 
 given_up : (s : Setting) (y : ℤ) (gs : List Given) (v : WorldAt) (n : ℕ) → ((gives_all s y v gs).clock n).up ≡ (v.clock n).up
 given_up s y [] v n = refl
@@ -80,10 +73,6 @@ step_up s says y w e n = given_up s y (given_by s w (moved s w e) says e) (moved
 
 -- inputs that are no tick
 
-abbrev NoTick : Input → Type 0
-NoTick TickInput = ⊥
-NoTick _ = Unit {0}
-
 no_tick : (input : Input) (time before : ℤ) → NoTick input → ticked_by input time before ≡ before
 no_tick TickInput time before h = absurd h
 no_tick (SampleInput number base bits) time before h = refl
@@ -96,22 +85,22 @@ given_last : (s : Setting) (y : ℤ) (gs : List Given) (v : WorldAt) (n : ℕ) �
 given_last s y [] v n h = refl
 given_last s y (g ∷ gs) v n h =
     given_last s y gs (gives s y v g) n h.1
-    ∙ last_told (n == g.to) (clock_told s v g (step_of s y v g).cycles (v.clock n)) (v.clock n) (no_tick g.input v.time (v.clock n).ticked h.0)
+    ∙ told_same (n == g.to) (clock_told s v g (step_of s y v g).cycles (v.clock n)) (v.clock n) (no_tick g.input v.time (v.clock n).ticked h.0)
 
 pub step_last : (s : Setting) (says : Result PtpMsg FrameFault) (y : ℤ) (w : WorldAt) (e : Event) (n : ℕ) → ((world_step s says y w e).clock n).ticked ≡ last_after w e n
 step_last s says y w (Tick m) n =
     let v : WorldAt = moved s w (Tick m) in
     let g : Given = given_plain m TickInput in
-    last_where (n == m) (clock_told s v g (step_of s y v g).cycles (w.clock n)) (w.clock n)
+    ticked_where (n == m) (clock_told s v g (step_of s y v g).cycles (w.clock n)) (w.clock n)
 step_last s says y w (Up m off swaps) n =
     let v : WorldAt = moved s w (Up m off swaps) in
     given_last s y (given_plain m Reset ∷ at_ports s v (comes_from s v) m) v n
     (tt, ports_all NoTick s v (comes_from s v) m (numbers_of (s.set m)) (λ k r. comes_all NoTick (λ p o. tt) s v k r))
-    ∙ last_where (n == m) (record { up = true; off = off; ticked = w.time; samples = 0 }) (w.clock n)
+    ∙ ticked_where (n == m) (record { up = true; off = off; ticked = w.time; samples = 0 }) (w.clock n)
 step_last s says y w (Sample m base bits) n =
     let v : WorldAt = moved s w (Sample m base bits) in
     given_last s y (given_plain m (SampleInput (v.clock m).samples base bits) ∷ []) v n (tt, tt)
-    ∙ last_told (n == m) (record (w.clock n) { samples = (w.clock n).samples + 1 }) (w.clock n) refl
+    ∙ told_same (n == m) (record (w.clock n) { samples = (w.clock n).samples + 1 }) (w.clock n) refl
 step_last s says y w (Depart m p stamp) n =
     given_last s y (sent_oldest m p stamp (w.clock m).samples (waiting_at w (place_of s m p))) (moved s w (Depart m p stamp)) n
     (sent_all NoTick (λ q seq delay t. tt) m p stamp (w.clock m).samples (waiting_at w (place_of s m p)))
@@ -122,7 +111,7 @@ step_last s says y w (Noise m p octets raw) n =
 step_last s says y w (Down m) n =
     given_last s y (at_ports s w (goes_from s) m) (moved s w (Down m)) n
     (ports_all NoTick s w (goes_from s) m (numbers_of (s.set m)) (λ k r. goes_all NoTick (λ p. tt) s k r))
-    ∙ last_told (n == m) (record (w.clock n) { up = false }) (w.clock n) refl
+    ∙ told_same (n == m) (record (w.clock n) { up = false }) (w.clock n) refl
 step_last s says y w (Cut k) n =
     given_last s y (if has_carrier s w k then goes_from s k Master else []) (moved s w (Cut k)) n
     (all_if NoTick (has_carrier s w k) (goes_from s k Master) (goes_all NoTick (λ p. tt) s k Master))
@@ -154,13 +143,6 @@ abbrev pub NoSwaps : Event → Type 0
 NoSwaps (Up n off swaps) = swaps.items ≡ []
 NoSwaps _ = Unit {0}
 
-same_module : (e : EndAt) → SameModule e e
-same_module e = record { name = refl; tx = refl; rx = refl }
-
-one_module : (b : Bool) (e f : EndAt) → SameModule f e → SameModule f (if b then e else f)
-one_module true e f h = h
-one_module false e f h = same_module f
-
 moved_modules : (s : Setting) (w : WorldAt) (e : Event) (k : ℕ) (r : Role) → NoSwaps e → SameModule (w.end_at k r) (end_after s w e k r)
 moved_modules s w (Depart n p stamp) k r h =
     one_module (is_place (place_of s n p) k r) (record (w.end_at k r) { waiting = behind_first (w.end_at k r).waiting }) (w.end_at k r) (record { name = refl; tx = refl; rx = refl })
@@ -190,16 +172,13 @@ abbrev pub SceneFibres : SceneAt → Setting → WorldAt → Type 0
 SceneFibres scene s w = (k : ℕ) → HasDelays scene s k (w.fibre k)
 
 pub new_fibres : (scene : SceneAt) (s : Setting) → SceneFibres scene s (new_world s)
-new_fibres scene s k e = absurd (true_false false e refl)
+new_fibres scene s k e = absurd (not_both false e refl)
 
 -- an event by which no fibre moves, and links are joined with the scenario's delays
 abbrev pub MovesNoFibre : SceneAt → Setting → Event → Type 0
 MovesNoFibre scene s (Pass dt drifts fibres) = (k : ℕ) → move_of fibres.items k ≡ (pos 0, pos 0)
 MovesNoFibre scene s (Join k ms sm) = (ms ≡ ms_of s.cfg scene k) × (sm ≡ sm_of s.cfg scene k)
 MovesNoFibre scene s _ = Unit {0}
-
-nothing_added : (x : ℤ) → x +ℤ pos 0 ≡ x
-nothing_added x = omega (arith, ints)
 
 fibre_where : (P : FibreState → Type 0) (b : Bool) (f g : FibreState) → (b ≡ true → P f) → P g → P (if b then f else g)
 fibre_where P true f g h i = h refl
@@ -209,10 +188,10 @@ moved_fibre : (scene : SceneAt) (s : Setting) (w : WorldAt) (e : Event) (k : ℕ
 moved_fibre scene s w (Pass dt drifts fibres) k none h =
     λ j.
     let both : ((w.fibre k).ms ≡ ms_of s.cfg scene k) × ((w.fibre k).sm ≡ sm_of s.cfg scene k) = h j in (
-      ap (λ (m : ℤ × ℤ). (w.fibre k).ms +ℤ m.0) (none k) ∙ nothing_added (w.fibre k).ms ∙ both.0,
-      ap (λ (m : ℤ × ℤ). (w.fibre k).sm +ℤ m.1) (none k) ∙ nothing_added (w.fibre k).sm ∙ both.1,
+      ap (λ (m : ℤ × ℤ). (w.fibre k).ms +ℤ m.0) (none k) ∙ int_plus_zero (w.fibre k).ms ∙ both.0,
+      ap (λ (m : ℤ × ℤ). (w.fibre k).sm +ℤ m.1) (none k) ∙ int_plus_zero (w.fibre k).sm ∙ both.1,
     )
-moved_fibre scene s w (Cut l) k none h = fibre_where (HasDelays scene s k) (k == l) (record (w.fibre k) { joined = false }) (w.fibre k) (λ b j. absurd (true_false false j refl)) h
+moved_fibre scene s w (Cut l) k none h = fibre_where (HasDelays scene s k) (k == l) (record (w.fibre k) { joined = false }) (w.fibre k) (λ b j. absurd (not_both false j refl)) h
 moved_fibre scene s w (Join l ms sm) k none h =
     fibre_where (HasDelays scene s k) (k == l) (record { joined = true; ms = ms; sm = sm }) (w.fibre k)
     (λ b j. subst (λ x. (ms ≡ ms_of s.cfg scene x) × (sm ≡ sm_of s.cfg scene x)) (sym (eqb-true k l b)) none) h
@@ -266,9 +245,6 @@ kept_where : (s : Setting) (d i : ℕ) (b : Bool) (o p : Option FrameAt) → (b 
 kept_where s d i true o p x y = x refl
 kept_where s d i false o p x y = y
 
-no_more : (i d : ℕ) → i ≡ d → i ≤ d
-no_more i d e = omega (arith, e)
-
 due_by : (now delay most : ℤ) → delay ≤ℤ most → (now +ℤ delay) ≤ℤ (now +ℤ most)
 due_by now delay most h = omega (arith, ints, h)
 
@@ -278,7 +254,7 @@ leaves_kept s w None stamp i queue h k = more_frames s w.departed (one_more queu
 leaves_kept s w (Some place) stamp i [] h k = k
 leaves_kept s w (Some place) stamp i (oldest ∷ rest) h k =
     kept_where s (w.departed + 1) i (i == (w.departed + 1)) (Some _) (w.frame i)
-    (λ b. (no_more i (w.departed + 1) (eqb-true i (w.departed + 1) b), h.0, due_by w.time (delay_from w place.link place.role) (pos (reach s.cfg)) h.1))
+    (λ b. (le_of_same i (w.departed + 1) (eqb-true i (w.departed + 1) b), h.0, due_by w.time (delay_from w place.link place.role) (pos (reach s.cfg)) h.1))
     (more_frames s w.departed (w.departed + 1) i (w.frame i) (few_more w.departed (oldest ∷ rest)) k)
 
 comes_kept : (s : Setting) (d i : ℕ) (f : FrameAt) (b : Bool) (a : Arrival) (gone : Bool) → FrameKept s d i (Some f) → FrameKept s d i (Some (if b then record f { arrival = Some a } else record f { gone = gone }))

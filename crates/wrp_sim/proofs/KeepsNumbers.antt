@@ -5,11 +5,9 @@ use Rattle.std.proofs.Math.Nat.{div-add-mod, mod-lt, mul-le-mul_left}
 use Rattle.wrp_base.specs.Division.{floor_quotient, trunc_quotient}
 use Rattle.wrp_base.specs.Held.{held_within}
 use Rattle.wrp_base.proofs.DivisionLaws.{floor_quotient-at_most, floor_quotient-next}
+use Rattle.wrp_base.proofs.Integers.{fraction_is_positive}
 
 -- Draws
-
-pub drawn_least : (a : ℤ) (x : ℕ) → a ≤ℤ (a +ℤ pos x)
-drawn_least a x = omega (arith, ints)
 
 below_size : (a b : ℤ) (r : ℕ) → a ≤ℤ b → r < unsigned_abs ((b -ℤ a) +ℤ pos 1) → (a +ℤ pos r) ≤ℤ b
 below_size a b r h k = grind (arith, ints)
@@ -54,9 +52,6 @@ share_most sum c m r whole h = omega (arith, whole, mul-le-mul_left sum h)
 
 pub share_least : (sum c m r : ℕ) → 2 ^ 40 * m + r ≡ sum * c → r < 2 ^ 40 → 2 ^ 38 ≤ c → sum < 4 * m + 4
 share_least sum c m r whole left h = omega (arith, whole, left, mul-le-mul_left sum h)
-
-share_of : (kappa : ℤ) → unsigned_abs kappa ≤ 2 ^ 38 → pos (2 ^ 39) +ℤ kappa ≡ pos (unsigned_abs (pos (2 ^ 39) +ℤ kappa))
-share_of kappa h = grind (arith, ints)
 
 share_low : (kappa : ℤ) → unsigned_abs kappa ≤ 2 ^ 38 → 2 ^ 38 ≤ unsigned_abs (pos (2 ^ 39) +ℤ kappa)
 share_low kappa h = grind (arith, ints)
@@ -110,8 +105,8 @@ pub split : (kappa : ℤ) (sum room e : ℕ) → unsigned_abs kappa ≤ 2 ^ 38 �
     IsSplit kappa room e (floor_quotient (pos sum *ℤ (pos (2 ^ 39) +ℤ kappa)) (pos (2 ^ 40))) (pos sum -ℤ floor_quotient (pos sum *ℤ (pos (2 ^ 39) +ℤ kappa)) (pos (2 ^ 40)))
 split kappa sum room e small fits one =
     let c : ℕ = unsigned_abs (pos (2 ^ 39) +ℤ kappa) in
-    subst (λ (x : ℤ). IsSplit kappa room e x (pos sum -ℤ x)) (sym (floor_is kappa sum c (share_of kappa small)))
-    (split_by kappa c (sum * c / 2 ^ 40) sum room e (share_of kappa small) (div-add-mod (sum * c) (2 ^ 40)) (share_low kappa small) (share_high kappa small) fits one)
+    subst (λ (x : ℤ). IsSplit kappa room e x (pos sum -ℤ x)) (sym (floor_is kappa sum c (fraction_is_positive kappa small)))
+    (split_by kappa c (sum * c / 2 ^ 40) sum room e (fraction_is_positive kappa small) (div-add-mod (sum * c) (2 ^ 40)) (share_low kappa small) (share_high kappa small) fits one)
 
 -- Drifts
 

@@ -1,6 +1,9 @@
 -- Each event that the rules give is accepted, whatever comes between.
 use Rattle.std.proofs.Common.{◌≡◌, refl, sym, subst, ℕ, ◌<◌, ℤ, nat_lt, Bool, true, false, if◌then◌else◌, List, [], ◌∷◌, Option, None, Some, arith}
+use Rattle.wrp_base.proofs.Booleans.{not_both}
 use Rattle.std.proofs.lemmas.Bool.Decides.{nat_tests}
+use Rattle.std.proofs.lemmas.Option.{none-some}
+use Rattle.wrp_base.proofs.Naturals.{nat_le_self}
 use Rattle.wrp_world.specs.declared.event.Event.{Event}
 use Rattle.wrp_world.specs.declared.event.Event.TheVariants.{Pass, Tick, Sample, Depart, Arrive, Deliver, Noise, Down, Up, Cut, Join}
 use Rattle.wrp_world.specs.EventAt.{IsEventOf}
@@ -17,7 +20,6 @@ use Rattle.wrp_sim.specs.Rules.{Next, arrives, begins, delivers, departs, fails,
 use Rattle.wrp_sim.specs.Scenario.{IsSceneOf, SceneAt}
 use Rattle.wrp_sim.specs.SimAt.{SimAt}
 use Rattle.wrp_sim.specs.SimRun.{GivesEvent, IsSimRun}
-use Rattle.wrp_sim.proofs.KeepsBasics.{none_some, same_number, true_false}
 use Rattle.wrp_sim.proofs.KeepsFrames.{arrives_good, delivers_good, departs_good}
 use Rattle.wrp_sim.proofs.KeepsGood.{Good, GoodIf, Moment}
 use Rattle.wrp_sim.proofs.KeepsLit.{run_lit}
@@ -34,14 +36,14 @@ first_good scene s w (Some next) os h k = h
 
 -- no frame is handed over
 not_handed : (b : Bool) (x : Next) → (if b then Some x else None) ≡ None → b ≡ false
-not_handed true x e = absurd (none_some x (sym e))
+not_handed true x e = absurd (none-some x (sym e))
 not_handed false x e = refl
 
 test_of : (n : ℕ) → 0 < n → nat_lt 0 n ≡ true
 test_of n h = grind (arith, nat_tests)
 
 none_handed : (at : SimAt) → delivers at ≡ None → 0 < at.arrived.times → ⊥
-none_handed at e h = true_false (nat_lt 0 at.arrived.times) (test_of at.arrived.times h) (not_handed (nat_lt 0 at.arrived.times) _ e)
+none_handed at e h = not_both (nat_lt 0 at.arrived.times) (test_of at.arrived.times h) (not_handed (nat_lt 0 at.arrived.times) _ e)
 
 later_good : (scene : SceneAt) (s : Setting) (w : WorldAt) (due : Option (ℕ × ℤ)) (at : SimAt) → Moment scene s w → Keeps scene s w at → AllQuiet s w.time at.faults → IsNextArrival w due → GoodIf scene s w (first_of (later_rules scene s w due at))
 later_good scene s w due at m h quiet first =
@@ -73,7 +75,7 @@ between_steps scene s w at (Deliver i) may h = record {
   fibres = tt;
   young = tt;
   ticks = h.ticks;
-  begun = same_number at.begun;
+  begun = nat_le_self at.begun;
   most = h.waits.most;
   turn = tt;
   faults = h.faults;
@@ -85,7 +87,7 @@ between_steps scene s w at (Noise n p octets raw) may h = record {
   fibres = tt;
   young = tt;
   ticks = h.ticks;
-  begun = same_number at.begun;
+  begun = nat_le_self at.begun;
   most = h.waits.most;
   turn = tt;
   faults = h.faults;

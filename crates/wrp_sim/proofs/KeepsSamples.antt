@@ -2,9 +2,12 @@
 use Rattle.std.proofs.Common.{◌≡◌, refl, sym, subst, ℕ, ◌+◌, ◌≤◌, ◌<◌, ℤ, pos, neg_ℤ, ◌+ℤ◌, ◌-ℤ◌, ◌≤ℤ◌, unsigned_abs, true, [], ◌∷◌, map, None, Some, arith}
 use Rattle.std.proofs.lemmas.Int.{ints}
 use Rattle.std.specs.Option.{option_and_then, option_map_or}
+use Rattle.std.proofs.lemmas.Option.{none-some}
 use Rattle.wrp_base.specs.declared.link.Role.TheVariants.{Master, Slave}
 use Rattle.wrp_base.specs.declared.network.LinkCfg.{LinkCfg}
+use Rattle.wrp_base.proofs.Naturals.{nat_le_self}
 use Rattle.wrp_base.specs.Network.{node_count}
+use Rattle.wrp_base.proofs.Integers.{le_plus}
 use Rattle.wrp_world.specs.Checks.{AllHold, only_where, stands}
 use Rattle.wrp_world.specs.Premises.{beat_by, beat_checks, sample_checks}
 use Rattle.wrp_world.specs.Setting.{Setting, above, link_of, of_node}
@@ -14,11 +17,11 @@ use Rattle.wrp_sim.specs.Numbers.{base_before, bits_behind, drawn_zeros}
 use Rattle.wrp_sim.specs.Rules.{after_draw, comes, delay_down, first_entry, sample_below, sample_of, samples, step_below}
 use Rattle.wrp_sim.specs.Scenario.{SceneAt, ms_of}
 use Rattle.wrp_sim.specs.SimAt.{SimAt}
-use Rattle.wrp_sim.proofs.KeepsBasics.{none_some, same_number}
 use Rattle.wrp_sim.proofs.KeepsChecks.{beat_holds, both_hold, of_node_within, stands_holds, where_hold}
 use Rattle.wrp_sim.proofs.KeepsGood.{GoodIf, Moment, carried, good, if_good, then_good}
-use Rattle.wrp_sim.proofs.KeepsNumbers.{drawn_least, drawn_most}
+use Rattle.wrp_sim.proofs.KeepsNumbers.{drawn_most}
 use Rattle.wrp_sim.proofs.KeepsState.{Keeps, step_hands}
+use Rattle.wrp_sim.proofs.KeepsStamps.{even_ends}
 
 -- the delay down is the scenario's, with the delays of the first modules
 delay_is : (scene : SceneAt) (s : Setting) (w : WorldAt) (at : SimAt) (k : ℕ) → Keeps scene s w at → (w.fibre k).joined ≡ true → delay_from w k Master ≡ delay_down scene s k
@@ -31,12 +34,9 @@ delay_is scene s w at k h joined =
 zeros_in : (beat : ℕ) (d : ℤ) → beat ≤ 24 → neg_ℤ (pos beat) ≤ℤ d → d ≤ℤ pos beat → (unsigned_abs (pos 32 +ℤ d) ≤ 64) × (32 ≤ unsigned_abs (pos 32 +ℤ d) + beat) × (unsigned_abs (pos 32 +ℤ d) ≤ 32 + beat)
 zeros_in beat d small least most = (grind (arith, ints), grind (arith, ints), grind (arith, ints))
 
-both_ends : (k : ℕ) → neg_ℤ (pos k) ≤ℤ pos k
-both_ends k = omega (arith, ints)
-
 pub zeros_fit : (beat state : ℕ) → beat ≤ 24 → (drawn_zeros beat state ≤ 64) × (32 ≤ drawn_zeros beat state + beat) × (drawn_zeros beat state ≤ 32 + beat)
 zeros_fit beat state small =
-    zeros_in beat (drawn_from (neg_ℤ (pos beat)) (pos beat) state) small (drawn_least (neg_ℤ (pos beat)) _) (drawn_most (neg_ℤ (pos beat)) (pos beat) (drawn state) (both_ends beat))
+    zeros_in beat (drawn_from (neg_ℤ (pos beat)) (pos beat) state) small (le_plus (neg_ℤ (pos beat)) _) (drawn_most (neg_ℤ (pos beat)) (pos beat) (drawn state) (even_ends beat))
 
 base_small : (step : ℕ) → base_before step ≤ 16_383
 base_small step = omega arith
@@ -70,11 +70,11 @@ sample_good scene s w at n k link m h below lit there is =
       fibres = tt;
       young = tt;
       ticks = h.ticks;
-      begun = same_number at.begun;
+      begun = nat_le_self at.begun;
       most = h.waits.most;
       turn = tt;
       faults = h.faults;
-      ticked = λ j e. absurd (none_some j e);
+      ticked = λ j e. absurd (none-some j e);
       handed = λ says y t. step_hands s says y w (sample_of scene s w n k link at.state) at new tt h.young refl refl (h.handed t);
     })
 

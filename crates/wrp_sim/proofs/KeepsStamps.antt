@@ -1,13 +1,15 @@
 -- The checks of stamps hold, of those that are drawn and of those that are true.
-use Rattle.std.proofs.Common.{◌≡◌, refl, ℕ, ◌+◌, ◌-◌, ◌*◌, ◌/◌, ◌%◌, ◌^◌, ◌<◌, ◌≤◌, ◌&&◌, ℤ, pos, negsuc, neg_ℤ, ◌+ℤ◌, ◌-ℤ◌, ◌≤ℤ◌, unsigned_abs, Bool, true, false, arith}
+use Rattle.std.proofs.Common.{◌≡◌, refl, ℕ, ◌+◌, ◌-◌, ◌*◌, ◌/◌, ◌%◌, ◌^◌, ◌<◌, ◌≤◌, ℤ, pos, negsuc, neg_ℤ, ◌+ℤ◌, ◌-ℤ◌, ◌≤ℤ◌, unsigned_abs, true, arith}
 use Rattle.std.proofs.lemmas.Int.{ints}
 use Rattle.std.specs.Int.Signed.{le_z}
+use Rattle.std.proofs.lemmas.Bool.{and_parts, and_right}
 use Rattle.wrp_base.specs.Circle.{distance_round}
 use Rattle.wrp_base.specs.Clock.{period_of, step_of}
 use Rattle.wrp_base.specs.declared.time.Clock.{Clock}
 use Rattle.wrp_base.specs.declared.time.Clock.TheVariants.{Mhz125, Mhz62}
 use Rattle.wrp_base.specs.Division.{floor_quotient}
 use Rattle.wrp_base.specs.Network.{IsAmong}
+use Rattle.wrp_base.proofs.Integers.{le_plus, pos_le, pos_of_abs}
 use Rattle.wrp_stamp.specs.Merge.{place_of as place_in_period}
 use Rattle.wrp_stamp.specs.StampBound.{true_place}
 use Rattle.wrp_world.specs.Checks.{AllHold, Holds}
@@ -17,17 +19,14 @@ use Rattle.wrp_world.specs.Setting.{Setting}
 use Rattle.wrp_sim.specs.Draws.{drawn, drawn_from}
 use Rattle.wrp_sim.specs.Numbers.{drawn_stamp}
 use Rattle.wrp_sim.specs.Rules.{is_tellable, true_raw}
-use Rattle.wrp_sim.proofs.KeepsNumbers.{drawn_least, drawn_most, stamp_least, stamp_most, stamp_within, whole_stamp}
+use Rattle.wrp_sim.proofs.KeepsNumbers.{drawn_most, stamp_least, stamp_most, stamp_within, whole_stamp}
 use Rattle.wrp_sim.proofs.KeepsRaw.{true_tag}
-use Rattle.wrp_sim.proofs.KeepsChecks.{and_false, not_more}
+use Rattle.wrp_sim.proofs.KeepsChecks.{not_more}
 
 -- Raw stamps
 
 counter_holds : (counter : ℕ) (due : ℤ) → pos counter ≡ due → Holds (counter_check counter due)
 counter_holds counter due e = let h : unsigned_abs (pos counter -ℤ due) ≤ 0 = grind (arith, ints, e) in not_more (unsigned_abs (pos counter -ℤ due)) 0 h
-
-true_counter : (due : ℤ) → pos 0 ≤ℤ due → pos (unsigned_abs due) ≡ due
-true_counter due h = grind (arith, ints)
 
 period_large : (clock : Clock) → 524_288_000 ≤ period_of clock
 period_large Mhz125 = omega arith
@@ -58,22 +57,18 @@ raw_holds s transition e_tag at small wide least =
       not_more (distance_round clock (pos (place_in_period clock (true_raw s transition at).tag transition)) (pos (true_place clock at))) e_tag
           (true_tag clock (true_place clock at) transition e_tag (place_small clock at) small wide),
       (
-        and_false (may_rise clock e_tag (true_place clock at)) (counter_check (true_raw s transition at).rising (floor_quotient at (pos (period_of clock)))).fails
-            (counter_holds (unsigned_abs (floor_quotient at (pos (period_of clock)))) (floor_quotient at (pos (period_of clock))) (true_counter (floor_quotient at (pos (period_of clock))) (floor_least at (period_of clock) least))),
+        and_right (may_rise clock e_tag (true_place clock at)) (counter_check (true_raw s transition at).rising (floor_quotient at (pos (period_of clock)))).fails
+            (counter_holds (unsigned_abs (floor_quotient at (pos (period_of clock)))) (floor_quotient at (pos (period_of clock))) (pos_of_abs (floor_quotient at (pos (period_of clock))) (floor_least at (period_of clock) least))),
         (
-          and_false (may_fall clock e_tag (true_place clock at)) (counter_check (true_raw s transition at).falling (floor_quotient (at +ℤ pos half) (pos (period_of clock)))).fails
+          and_right (may_fall clock e_tag (true_place clock at)) (counter_check (true_raw s transition at).falling (floor_quotient (at +ℤ pos half) (pos (period_of clock)))).fails
               (counter_holds (unsigned_abs (floor_quotient (at +ℤ pos half) (pos (period_of clock)))) (floor_quotient (at +ℤ pos half) (pos (period_of clock)))
-              (true_counter (floor_quotient (at +ℤ pos half) (pos (period_of clock))) (floor_least (at +ℤ pos half) (period_of clock) later))),
+              (pos_of_abs (floor_quotient (at +ℤ pos half) (pos (period_of clock))) (floor_least (at +ℤ pos half) (period_of clock) later))),
           tt,
         ),
       ),
     )
 
 -- a reading that can be told
-
-and_both : (a b : Bool) → (a && b) ≡ true → (a ≡ true) × (b ≡ true)
-and_both true b e = (refl, e)
-and_both false b e = absurd (let f : false ≡ true = e in cc)
 
 at_most_told : (a b : ℤ) → le_z a b ≡ true → a ≤ℤ b
 at_most_told a b e = grind (arith, ints)
@@ -85,7 +80,7 @@ pub record IsTold (s : Setting) (at : ℤ) : Type 0 where
 pub tellable : (s : Setting) (at : ℤ) → is_tellable s at ≡ true → IsTold s at
 tellable s at e =
     let both : (le_z (pos (2 * period_of s.cfg.clock)) at ≡ true) × (le_z at (pos (2 ^ 62 * period_of s.cfg.clock)) ≡ true) =
-    and_both (le_z (pos (2 * period_of s.cfg.clock)) at) (le_z at (pos (2 ^ 62 * period_of s.cfg.clock))) e in
+    and_parts (le_z (pos (2 * period_of s.cfg.clock)) at) (le_z at (pos (2 ^ 62 * period_of s.cfg.clock))) e in
     record { least = at_most_told (pos (2 * period_of s.cfg.clock)) at both.0; most = at_most_told at (pos (2 ^ 62 * period_of s.cfg.clock)) both.1 }
 
 least_zero : (p : ℕ) (at : ℤ) → pos (2 * p) ≤ℤ at → pos 0 ≤ℤ at
@@ -103,22 +98,16 @@ falling_in : (clock : Clock) (n : ℕ) → 2 * period_of clock ≤ n → n ≤ 2
 falling_in Mhz125 n h k = (omega (arith, h, k), omega (arith, h, k))
 falling_in Mhz62 n h k = (omega (arith, h, k), omega (arith, h, k))
 
-pos_least : (a b : ℕ) → pos a ≤ℤ pos b → a ≤ b
-pos_least a b h = omega (arith, ints, h)
-
 tag_in : (x : ℕ) → x % 16384 ≤ 16_383
 tag_in x = omega arith
 
 raw_by : (s : Setting) (transition : ℕ) (at : ℤ) → IsTold s at → IsRaw (true_raw s transition at)
 raw_by s transition (pos n) h = record {
-  rising = rising_in s.cfg.clock n (pos_least (2 * period_of s.cfg.clock) n h.least) (pos_least n (2 ^ 62 * period_of s.cfg.clock) h.most);
-  falling = falling_in s.cfg.clock n (pos_least (2 * period_of s.cfg.clock) n h.least) (pos_least n (2 ^ 62 * period_of s.cfg.clock) h.most);
+  rising = rising_in s.cfg.clock n (pos_le (2 * period_of s.cfg.clock) n h.least) (pos_le n (2 ^ 62 * period_of s.cfg.clock) h.most);
+  falling = falling_in s.cfg.clock n (pos_le (2 * period_of s.cfg.clock) n h.least) (pos_le n (2 ^ 62 * period_of s.cfg.clock) h.most);
   tag = tag_in (true_place s.cfg.clock (pos n) / step_of s.cfg.clock + transition);
 }
 raw_by s transition (negsuc n) h = absurd (let least : pos 0 ≤ℤ negsuc n = told_least s (negsuc n) h in omega (arith, ints, least))
-
-pub raw_in : (s : Setting) (transition : ℕ) (at : ℤ) → IsTold s at → IsRaw (true_raw s transition at)
-raw_in s transition at h = raw_by s transition at h
 
 -- Stamps
 
@@ -129,14 +118,14 @@ pub record StampFits (e : ℕ) (at stamp : ℤ) : Type 0 where
 far_told : (p : ℕ) → p ≤ 1_048_576_000 → pos (2 ^ 62 * p) ≤ℤ pos (2 ^ 62 * 1_048_576_000)
 far_told p h = omega (arith, ints, h)
 
-even_ends : (k : ℕ) → neg_ℤ (pos k) ≤ℤ pos k
+pub even_ends : (k : ℕ) → neg_ℤ (pos k) ≤ℤ pos k
 even_ends k = omega (arith, ints)
 
 pub stamp_fits : (s : Setting) (e state : ℕ) (at : ℤ) → 1_000 ≤ e → e ≤ 1_000_000_000 → IsTold s at → StampFits e at (drawn_stamp (e / 1_000 - 1) at state)
 stamp_fits s e state at large small told =
     let k : ℕ = e / 1_000 - 1 in
     let d : ℤ = drawn_from (neg_ℤ (pos k)) (pos k) state in
-    let least : neg_ℤ (pos k) ≤ℤ d = drawn_least (neg_ℤ (pos k)) _ in
+    let least : neg_ℤ (pos k) ≤ℤ d = le_plus (neg_ℤ (pos k)) _ in
     let most : d ≤ℤ pos k = drawn_most (neg_ℤ (pos k)) (pos k) (drawn state) (even_ends k) in
     let near : unsigned_abs (drawn_stamp k at state -ℤ at) ≤ e = stamp_within at d k e least most refl large in
     let low : pos 0 ≤ℤ drawn_stamp k at state = stamp_least (drawn_stamp k at state) at e (period_of s.cfg.clock) near small (period_large s.cfg.clock) told.least in

@@ -3,15 +3,20 @@ use Rattle.std.proofs.Common.{◌≡◌, ◌∙◌, refl, ap, sym, subst, ℕ, z
 use Rattle.std.proofs.lemmas.Bool.{eqb-true}
 use Rattle.std.specs.Int.Signed.{le_z}
 use Rattle.std.specs.List.{AllByRecursion}
+use Rattle.std.proofs.lemmas.Option.{none-some}
 use Rattle.wrp_base.specs.declared.message.PtpMsg.{PtpMsg}
+use Rattle.wrp_base.proofs.Naturals.{nat_le_trans, not_next}
 use Rattle.wrp_base.specs.Network.{node_count}
+use Rattle.wrp_base.proofs.Booleans.{not_both}
 use Rattle.wrp_bounds.specs.Times.{longest_tick, shortest_tick}
 use Rattle.wrp_frame.specs.declared.fault.FrameFault.{FrameFault}
 use Rattle.wrp_world.specs.declared.event.Event.{Event}
 use Rattle.wrp_world.specs.declared.event.Event.TheVariants.{Pass, Tick, Sample, Depart, Arrive, Deliver, Noise, Down, Up, Cut, Join}
 use Rattle.wrp_world.specs.declared.fibres.FibreState.{FibreState}
+use Rattle.wrp_world.proofs.RunStamps.{all_given_frame}
 use Rattle.wrp_world.specs.EventAt.{link_count}
-use Rattle.wrp_world.specs.Given.{Given, given_by, gives_all, world_step}
+use Rattle.wrp_world.proofs.RunChanges.{joined_where, still_up}
+use Rattle.wrp_world.specs.Given.{Given, given_by, world_step}
 use Rattle.wrp_world.specs.Moved.{departing, moved, removed, time_after, waiting_at}
 use Rattle.wrp_world.specs.declared.place.Place.{Place}
 use Rattle.wrp_world.specs.Setting.{Setting, place_of}
@@ -22,8 +27,7 @@ use Rattle.wrp_sim.specs.declared.scene.fault.Fault.{Fault}
 use Rattle.wrp_sim.specs.Rules.{fault_time}
 use Rattle.wrp_sim.specs.Scenario.{IsFault, IsSceneOf, SceneAt}
 use Rattle.wrp_sim.specs.SimAt.{SimAt, new_sim}
-use Rattle.wrp_sim.proofs.KeepsBasics.{none_some, true_false}
-use Rattle.wrp_sim.proofs.KeepsWaits.{still_joined, still_up}
+use Rattle.wrp_sim.proofs.KeepsWaits.{still_joined}
 use Rattle.wrp_sim.proofs.KeepsMoves.{DepartsYoung, FirstModules, FrameKept, FramesYoung, MovesNoFibre, NoSwaps, SceneFibres, all_given_fibre, last_after, new_fibres, new_modules, new_young, step_fibre, step_last, step_modules, step_up, step_young, up_after}
 
 -- a tick comes from the least to the most after the last one, and not before now
@@ -81,10 +85,10 @@ new_keeps scene s seed fits = record {
   modules = new_modules s;
   fibres = new_fibres scene s;
   young = new_young s;
-  ticks = λ n up. absurd (true_false false up refl);
+  ticks = λ n up. absurd (not_both false up refl);
   waits = record { most = omega arith; links = λ k h. refl; nodes = λ n h. refl };
   faults = fits.fault;
-  ticked = λ n e. absurd (none_some n e);
+  ticked = λ n e. absurd (none-some n e);
   handed = λ h. absurd (not_positive h);
 }
 
@@ -112,10 +116,6 @@ abbrev pub joined_after : WorldAt → Event → ℕ → Bool
 joined_after w (Cut l) k = if k == l then false else (w.fibre k).joined
 joined_after w (Join l ms sm) k = if k == l then true else (w.fibre k).joined
 joined_after w _ k = (w.fibre k).joined
-
-joined_where : (b : Bool) (f g : FibreState) → (if b then f else g).joined ≡ (if b then f.joined else g.joined)
-joined_where true f g = refl
-joined_where false f g = refl
 
 moved_joined : (s : Setting) (w : WorldAt) (e : Event) (k : ℕ) → ((moved s w e).fibre k).joined ≡ joined_after w e k
 moved_joined s w (Cut l) k = joined_where (k == l) (record (w.fibre k) { joined = false }) (w.fibre k)
@@ -150,36 +150,33 @@ either_false : (b y : Bool) → y ≡ false → (if b then false else y) ≡ fal
 either_false true y e = refl
 either_false false y e = e
 
-least_of : (a b c : ℕ) → a ≤ b → b ≤ c → a ≤ c
-least_of a b c h k = omega (arith, h, k)
-
 joined_waits : (s : Setting) (w : WorldAt) (e : Event) (old new : ℕ) → old ≤ new → HadTurn s e new → Waits s w old → (k : ℕ) → new ≤ k → joined_after w e k ≡ false
-joined_waits s w (Cut l) old new more turn h k above = either_false (k == l) (w.fibre k).joined (h.links k (least_of old new k more above))
+joined_waits s w (Cut l) old new more turn h k above = either_false (k == l) (w.fibre k).joined (h.links k (nat_le_trans old new k more above))
 joined_waits s w (Join l ms sm) old new more turn h k above =
-    neither (k == l) true (w.fibre k).joined (above_not k l new turn above) (h.links k (least_of old new k more above))
-joined_waits s w (Pass dt drifts fibres) old new more turn h k above = h.links k (least_of old new k more above)
-joined_waits s w (Tick n) old new more turn h k above = h.links k (least_of old new k more above)
-joined_waits s w (Sample n base bits) old new more turn h k above = h.links k (least_of old new k more above)
-joined_waits s w (Depart n p stamp) old new more turn h k above = h.links k (least_of old new k more above)
-joined_waits s w (Arrive i raw) old new more turn h k above = h.links k (least_of old new k more above)
-joined_waits s w (Deliver i) old new more turn h k above = h.links k (least_of old new k more above)
-joined_waits s w (Noise n p octets raw) old new more turn h k above = h.links k (least_of old new k more above)
-joined_waits s w (Down n) old new more turn h k above = h.links k (least_of old new k more above)
-joined_waits s w (Up n off swaps) old new more turn h k above = h.links k (least_of old new k more above)
+    neither (k == l) true (w.fibre k).joined (above_not k l new turn above) (h.links k (nat_le_trans old new k more above))
+joined_waits s w (Pass dt drifts fibres) old new more turn h k above = h.links k (nat_le_trans old new k more above)
+joined_waits s w (Tick n) old new more turn h k above = h.links k (nat_le_trans old new k more above)
+joined_waits s w (Sample n base bits) old new more turn h k above = h.links k (nat_le_trans old new k more above)
+joined_waits s w (Depart n p stamp) old new more turn h k above = h.links k (nat_le_trans old new k more above)
+joined_waits s w (Arrive i raw) old new more turn h k above = h.links k (nat_le_trans old new k more above)
+joined_waits s w (Deliver i) old new more turn h k above = h.links k (nat_le_trans old new k more above)
+joined_waits s w (Noise n p octets raw) old new more turn h k above = h.links k (nat_le_trans old new k more above)
+joined_waits s w (Down n) old new more turn h k above = h.links k (nat_le_trans old new k more above)
+joined_waits s w (Up n off swaps) old new more turn h k above = h.links k (nat_le_trans old new k more above)
 
 up_waits : (s : Setting) (w : WorldAt) (e : Event) (old new : ℕ) → old ≤ new → HadTurn s e new → Waits s w old → (n : ℕ) → new ≤ link_count s.cfg + n → up_after w e n ≡ false
-up_waits s w (Down m) old new more turn h n above = either_false (n == m) (w.clock n).up (h.nodes n (least_of old new (link_count s.cfg + n) more above))
+up_waits s w (Down m) old new more turn h n above = either_false (n == m) (w.clock n).up (h.nodes n (nat_le_trans old new (link_count s.cfg + n) more above))
 up_waits s w (Up m off swaps) old new more turn h n above =
-    neither (n == m) true (w.clock n).up (above_other (link_count s.cfg) n m new turn above) (h.nodes n (least_of old new (link_count s.cfg + n) more above))
-up_waits s w (Pass dt drifts fibres) old new more turn h n above = h.nodes n (least_of old new (link_count s.cfg + n) more above)
-up_waits s w (Tick m) old new more turn h n above = h.nodes n (least_of old new (link_count s.cfg + n) more above)
-up_waits s w (Sample m base bits) old new more turn h n above = h.nodes n (least_of old new (link_count s.cfg + n) more above)
-up_waits s w (Depart m p stamp) old new more turn h n above = h.nodes n (least_of old new (link_count s.cfg + n) more above)
-up_waits s w (Arrive i raw) old new more turn h n above = h.nodes n (least_of old new (link_count s.cfg + n) more above)
-up_waits s w (Deliver i) old new more turn h n above = h.nodes n (least_of old new (link_count s.cfg + n) more above)
-up_waits s w (Noise m p octets raw) old new more turn h n above = h.nodes n (least_of old new (link_count s.cfg + n) more above)
-up_waits s w (Cut l) old new more turn h n above = h.nodes n (least_of old new (link_count s.cfg + n) more above)
-up_waits s w (Join l ms sm) old new more turn h n above = h.nodes n (least_of old new (link_count s.cfg + n) more above)
+    neither (n == m) true (w.clock n).up (above_other (link_count s.cfg) n m new turn above) (h.nodes n (nat_le_trans old new (link_count s.cfg + n) more above))
+up_waits s w (Pass dt drifts fibres) old new more turn h n above = h.nodes n (nat_le_trans old new (link_count s.cfg + n) more above)
+up_waits s w (Tick m) old new more turn h n above = h.nodes n (nat_le_trans old new (link_count s.cfg + n) more above)
+up_waits s w (Sample m base bits) old new more turn h n above = h.nodes n (nat_le_trans old new (link_count s.cfg + n) more above)
+up_waits s w (Depart m p stamp) old new more turn h n above = h.nodes n (nat_le_trans old new (link_count s.cfg + n) more above)
+up_waits s w (Arrive i raw) old new more turn h n above = h.nodes n (nat_le_trans old new (link_count s.cfg + n) more above)
+up_waits s w (Deliver i) old new more turn h n above = h.nodes n (nat_le_trans old new (link_count s.cfg + n) more above)
+up_waits s w (Noise m p octets raw) old new more turn h n above = h.nodes n (nat_le_trans old new (link_count s.cfg + n) more above)
+up_waits s w (Cut l) old new more turn h n above = h.nodes n (nat_le_trans old new (link_count s.cfg + n) more above)
+up_waits s w (Join l ms sm) old new more turn h n above = h.nodes n (nat_le_trans old new (link_count s.cfg + n) more above)
 
 pub step_waits : (s : Setting) (says : Result PtpMsg FrameFault) (y : ℤ) (w : WorldAt) (e : Event) (old new : ℕ) → old ≤ new → new ≤ link_count s.cfg + node_count s.cfg → HadTurn s e new → Waits s w old →
     Waits s (world_step s says y w e) new
@@ -192,10 +189,6 @@ step_waits s says y w e old new more most turn h = record {
 }
 
 -- A frame that is here stays so by an event that takes no time and no carrier, and is no arrival
-
-all_given_frame : (s : Setting) (y : ℤ) (gs : List Given) (v : WorldAt) (i : ℕ) → (gives_all s y v gs).frame i ≡ v.frame i
-all_given_frame s y [] v i = refl
-all_given_frame s y (g ∷ gs) v i = all_given_frame s y gs _ i
 
 -- events by which a frame stays here
 abbrev pub IsGentle : Event → Type 0
@@ -214,9 +207,6 @@ pub record StaysHere (s : Setting) (v : WorldAt) (i : ℕ) (f : FrameAt) : Type 
 
 removed_stays : (s : Setting) (w : WorldAt) (e : Event) (v : WorldAt) (i : ℕ) (f : FrameAt) → v.frame i ≡ option_map (removed s e) (w.frame i) → w.frame i ≡ Some f → StaysHere s v i f
 removed_stays s w e v i f h is = record { frame = removed s e f; is = h ∙ ap (option_map (removed s e)) is; link = refl; arrival = refl }
-
-not_next : (i d : ℕ) → i ≤ d → (i == (d + 1)) ≡ true → ⊥
-not_next i d h e = let same : i ≡ d + 1 = eqb-true i (d + 1) e in omega (arith, h, same)
 
 other_where : (b : Bool) (o p : Option FrameAt) → (b ≡ true → ⊥) → (if b then o else p) ≡ p
 other_where true o p h = absurd (h refl)

@@ -1,14 +1,19 @@
 -- Ticks, and time that passes to the next moment.
 use Rattle.std.proofs.Common.{◌≡◌, ◌⊎◌, inl, inr, refl, sym, subst, ℕ, ◌+◌, ◌==◌, ◌&&◌, ◌≤◌, ◌<◌, ◌^◌, ℤ, pos, ◌+ℤ◌, ◌-ℤ◌, ◌≤ℤ◌, ◌<ℤ◌, unsigned_abs, Bool, true, false, cond, fold, List, [], ◌∷◌, ◌++◌, map, flat_map, Option, None, Some, Result, arith}
-use Rattle.std.proofs.lemmas.Bool.{cases_lt}
+use Rattle.std.proofs.lemmas.Bool.{cases_lt, and_parts, cases_Bool}
 use Rattle.std.proofs.lemmas.Int.{ints}
 use Rattle.std.specs.List.{AllByRecursion, filter, find}
 use Rattle.std.specs.Option.{option_map}
+use Rattle.wrp_base.proofs.Naturals.{nat_le_self}
 use Rattle.std.specs.Ordering.{int_eq}
+use Rattle.std.proofs.lemmas.Option.{none-some, same_Some}
 use Rattle.wrp_base.specs.declared.message.PtpMsg.{PtpMsg}
+use Rattle.wrp_base.proofs.Integers.{int_le_trans}
 use Rattle.wrp_base.specs.Network.{node_count}
+use Rattle.wrp_base.proofs.Booleans.{not_both}
 use Rattle.wrp_bounds.specs.Times.{longest_tick, shortest_tick}
 use Rattle.wrp_frame.specs.declared.fault.FrameFault.{FrameFault}
+use Rattle.wrp_config.proofs.Taken.{none_at}
 use Rattle.wrp_world.specs.declared.event.Event.{Event}
 use Rattle.wrp_world.specs.declared.event.Event.TheVariants.{Tick}
 use Rattle.wrp_world.specs.Checks.{Holds}
@@ -20,11 +25,10 @@ use Rattle.wrp_world.specs.WorldAt.{WorldAt}
 use Rattle.wrp_sim.specs.Rules.{comes, drawn_tick, drift_over, due_times, end_time, fault_time, is_over, moments, next_moment, pass_of, passes, sooner, tick_of, tick_times, ticks, ticks_now, with_tick}
 use Rattle.wrp_sim.specs.Scenario.{SceneAt}
 use Rattle.wrp_sim.specs.SimAt.{SimAt}
-use Rattle.wrp_sim.proofs.KeepsBasics.{bool_of, none_some, same_number, some_same, true_false}
 use Rattle.wrp_sim.proofs.KeepsChecks.{all_mapped, both_hold, flat_hold, mapped_length, not_early, not_late, stands_holds}
 use Rattle.wrp_sim.proofs.KeepsDrifts.{drift_small, fibres_hold, rate_holds, still_fibres}
 use Rattle.wrp_sim.proofs.KeepsFibres.{fibre_holds}
-use Rattle.wrp_sim.proofs.KeepsGood.{Good, GoodIf, Moment, all_numbers, and_both, differ_told, each_number, found, good, if_good, map_good, missed, same_told, tick_is_drawn, tick_where}
+use Rattle.wrp_sim.proofs.KeepsGood.{Good, GoodIf, Moment, all_numbers, differ_told, each_number, found, good, if_good, map_good, same_told, tick_is_drawn, tick_where}
 use Rattle.wrp_sim.proofs.KeepsMoves.{moved_first, moved_scene}
 use Rattle.wrp_sim.proofs.KeepsState.{Keeps, TicksBy}
 
@@ -49,11 +53,11 @@ tick_good scene s w at n m h none below up now =
       young = tt;
       ticks = λ j u.
           tick_where (j == n) (shortest_tick s.cfg) (longest_tick s.cfg) (w.clock j).ticked w.time (drawn_tick s w.time at.state) (at.tick_at j) (tick_is_drawn s m.net w.time at.state) (λ b. h.ticks j u);
-      begun = same_number at.begun;
+      begun = nat_le_self at.begun;
       most = h.waits.most;
       turn = tt;
       faults = h.faults;
-      ticked = λ j e. subst (λ k. k < node_count s.cfg) (some_same n j e) below;
+      ticked = λ j e. subst (λ k. k < node_count s.cfg) (same_Some n j e) below;
       handed = λ says y t. absurd (none t);
     })
 
@@ -62,16 +66,16 @@ ticks_good scene s w at m h none =
     map_good scene s w (tick_of s w at) (find (ticks_now w at) (nodes_of s))
     (λ n e.
     let it : (ticks_now w at n ≡ true) × (n < node_count s.cfg) = found (λ k. k < node_count s.cfg) (ticks_now w at) (nodes_of s) n (all_numbers s (λ k. k < node_count s.cfg) (λ k b. b)) e in
-    let both : ((w.clock n).up ≡ true) × (int_eq (at.tick_at n) w.time ≡ true) = and_both (w.clock n).up (int_eq (at.tick_at n) w.time) it.0 in
+    let both : ((w.clock n).up ≡ true) × (int_eq (at.tick_at n) w.time ≡ true) = and_parts (w.clock n).up (int_eq (at.tick_at n) w.time) it.0 in
     tick_good scene s w at n m h none it.1 both.0 (same_told (at.tick_at n) w.time both.1))
 
 -- where no node ticks now, each that is up ticks later
 no_map : {A B : Type 0} (f : A → B) (o : Option A) → option_map f o ≡ None → o ≡ None
 no_map f None e = refl
-no_map f (Some x) e = absurd (none_some (f x) (sym e))
+no_map f (Some x) e = absurd (none-some (f x) (sym e))
 
 same_or : (now t : ℤ) → now ≤ℤ t → (t ≡ now) ⊎ (now <ℤ t)
-same_or now t h = elim (bool_of (int_eq t now)) [
+same_or now t h = elim (cases_Bool (int_eq t now)) [
   | inl e ↦ inl (same_told t now e)
   | inr e ↦ inr (let out : t ≡ now → ⊥ = differ_told t now e in grind (arith, ints, h, out))
 ]
@@ -81,18 +85,15 @@ later_than now t h out = elim (same_or now t h) [ inl e ↦ absurd (out e) | inr
 
 not_now : (up now : Bool) → up ≡ true → (up && now) ≡ false → now ≡ false
 not_now true now e h = h
-not_now false now e h = absurd (true_false false e refl)
+not_now false now e h = absurd (not_both false e refl)
 
 pub ticks_later : (scene : SceneAt) (s : Setting) (w : WorldAt) (at : SimAt) → Keeps scene s w at → ticks s w at ≡ None → (n : ℕ) → n < node_count s.cfg → (w.clock n).up ≡ true → w.time <ℤ at.tick_at n
 ticks_later scene s w at h e n below up =
-    let all : AllByRecursion (λ k. ticks_now w at k ≡ false) (nodes_of s) = missed (ticks_now w at) (nodes_of s) (no_map (tick_of s w at) (find (ticks_now w at) (nodes_of s)) e) in
+    let all : AllByRecursion (λ k. ticks_now w at k ≡ false) (nodes_of s) = none_at (ticks_now w at) (nodes_of s) (no_map (tick_of s w at) (find (ticks_now w at) (nodes_of s)) e) in
     let here : int_eq (at.tick_at n) w.time ≡ false = not_now (w.clock n).up (int_eq (at.tick_at n) w.time) up (each_number s (λ k. ticks_now w at k ≡ false) all n below) in
     later_than w.time (at.tick_at n) (h.ticks n up).later (differ_told (at.tick_at n) w.time here)
 
 -- Rule 9: the next moment
-
-below_or : (n c : ℕ) → (n < c) ⊎ (c ≤ n)
-below_or n c = cases_lt n c
 
 begun_by : (b l c n : ℕ) → b ≤ l + c → c ≤ n → b ≤ l + n
 begun_by b l c n h k = omega (arith, h, k)
@@ -109,9 +110,6 @@ record IsSooner (now best moment got : ℤ) : Type 0 where
 sooner_is : (now best moment : ℤ) → now <ℤ best → IsSooner now best moment (sooner now best moment)
 sooner_is now best moment h = record { after = grind (arith, ints); no_later = grind (arith, ints); than_it = λ k. sooner_than now best moment h k }
 
-at_most_by : (a b c : ℤ) → a ≤ℤ b → b ≤ℤ c → a ≤ℤ c
-at_most_by a b c h k = omega (arith, ints, h, k)
-
 fold_after : (now best : ℤ) (times : List ℤ) → now <ℤ best → now <ℤ fold (sooner now) best times
 fold_after now best [] h = h
 fold_after now best (t ∷ times) h = fold_after now (sooner now best t) times (sooner_is now best t h).after
@@ -120,13 +118,13 @@ fold_most : (now best : ℤ) (times : List ℤ) → now <ℤ best → fold (soon
 fold_most now best [] h = omega (arith, ints)
 fold_most now best (t ∷ times) h =
     let it : IsSooner now best t (sooner now best t) = sooner_is now best t h in
-    at_most_by (fold (sooner now) (sooner now best t) times) (sooner now best t) best (fold_most now (sooner now best t) times it.after) it.no_later
+    int_le_trans (fold (sooner now) (sooner now best t) times) (sooner now best t) best (fold_most now (sooner now best t) times it.after) it.no_later
 
 fold_least : (now best : ℤ) (times : List ℤ) → now <ℤ best → AllByRecursion (λ t. now <ℤ t → fold (sooner now) best times ≤ℤ t) times
 fold_least now best [] h = tt
 fold_least now best (t ∷ times) h =
     let it : IsSooner now best t (sooner now best t) = sooner_is now best t h in (
-      λ k. at_most_by (fold (sooner now) (sooner now best t) times) (sooner now best t) t (fold_most now (sooner now best t) times it.after) (it.than_it k),
+      λ k. int_le_trans (fold (sooner now) (sooner now best t) times) (sooner now best t) t (fold_most now (sooner now best t) times it.after) (it.than_it k),
       fold_least now (sooner now best t) times it.after,
     )
 
@@ -140,7 +138,7 @@ all_first P (x ∷ xs) ys h = (h.0, all_first P xs ys h.1)
 -- what holds of each tick time of the nodes that are up
 up_case : (P : ℤ → Type 0) (tick : ℕ → ℤ) (b : Bool) (k : ℕ) (rest : List ℕ) → AllByRecursion P (map tick (cond b (k ∷ rest) rest)) → (b ≡ true → P (tick k)) × AllByRecursion P (map tick rest)
 up_case P tick true k rest h = (λ e. h.0, h.1)
-up_case P tick false k rest h = (λ e. absurd (true_false false e refl), h)
+up_case P tick false k rest h = (λ e. absurd (not_both false e refl), h)
 
 each_tick : (P : ℤ → Type 0) (tick : ℕ → ℤ) (up : ℕ → Bool) (ks : List ℕ) → AllByRecursion P (map tick (filter up ks)) → AllByRecursion (λ k. up k ≡ true → P (tick k)) ks
 each_tick P tick up [] h = tt
@@ -178,9 +176,9 @@ span_small dt h k = grind (arith, ints)
 
 -- no node that is up ticks before the time that it passes to
 up_below : (scene : SceneAt) (s : Setting) (w : WorldAt) (at : SimAt) (n : ℕ) → Keeps scene s w at → (w.clock n).up ≡ true → n < node_count s.cfg
-up_below scene s w at n h up = elim (below_or n (node_count s.cfg)) [
+up_below scene s w at n h up = elim (cases_lt n (node_count s.cfg)) [
   | inl below ↦ below
-  | inr above ↦ absurd (true_false (w.clock n).up up (h.waits.nodes n (begun_by at.begun (link_count s.cfg) (node_count s.cfg) n h.waits.most above)))
+  | inr above ↦ absurd (not_both (w.clock n).up up (h.waits.nodes n (begun_by at.begun (link_count s.cfg) (node_count s.cfg) n h.waits.most above)))
 ]
 
 ticks_by_then : (scene : SceneAt) (s : Setting) (w : WorldAt) (at : SimAt) (next : ℤ) (n : ℕ) → Keeps scene s w at → ticks s w at ≡ None → IsMoment s w at next → (w.clock n).up ≡ true → (w.time +ℤ (next -ℤ w.time)) ≤ℤ at.tick_at n
@@ -201,7 +199,7 @@ pass_holds scene s w at next m h none it says =
     let moves : List (ℤ × ℤ) = map (λ k. (pos 0, pos 0)) (links_of s) in
     let late : (n : ℕ) → Holds (tick_late s w dt n) =
     λ n. not_late (longest_tick s.cfg) (w.time +ℤ dt) (w.clock n)
-    (λ up. at_most_by (w.time +ℤ dt) (at.tick_at n) ((w.clock n).ticked +ℤ pos (longest_tick s.cfg)) (ticks_by_then scene s w at next n h none it up) (h.ticks n up).most_after) in
+    (λ up. int_le_trans (w.time +ℤ dt) (at.tick_at n) ((w.clock n).ticked +ℤ pos (longest_tick s.cfg)) (ticks_by_then scene s w at next n h none it up) (h.ticks n up).most_after) in
     both_hold (map (tick_late s w dt) (nodes_of s)) (flat_map (rate_kept s w dt drifts) (nodes_of s) ++ (flat_map (fibre_rate dt moves) (links_of s) ++ flat_map (fibre_kept s v) (links_of s)))
     (all_mapped Holds (tick_late s w dt) (nodes_of s) late)
     (both_hold (flat_map (rate_kept s w dt drifts) (nodes_of s)) (flat_map (fibre_rate dt moves) (links_of s) ++ flat_map (fibre_kept s v) (links_of s))
@@ -240,10 +238,10 @@ passes_good scene s w due at m h none later =
       young = tt;
       ticks = λ n up.
           moved_tick (shortest_tick s.cfg) (longest_tick s.cfg) (w.clock n).ticked w.time (w.time +ℤ dt) (at.tick_at n) (h.ticks n up) (ticks_by_then scene s w at next n h later it up);
-      begun = same_number at.begun;
+      begun = nat_le_self at.begun;
       most = h.waits.most;
       turn = tt;
       faults = h.faults;
-      ticked = λ j i. absurd (none_some j i);
+      ticked = λ j i. absurd (none-some j i);
       handed = λ says y t. absurd (none t);
     }))

@@ -1,9 +1,8 @@
 -- What waits at a port is on a link that has its carrier: kept by every accepted event of a world.
 use Rattle.std.proofs.Common.{◌≡◌, ◌∙◌, refl, ap, ap₂, sym, subst, ℕ, ◌==◌, ◌&&◌, ◌||◌, ℤ, Bool, true, false, if◌then◌else◌, List, [], ◌∷◌, ◌++◌, map, Option, None, Some, option_map, Result}
-use Rattle.std.proofs.lemmas.Bool.{eqb-true}
+use Rattle.std.proofs.lemmas.Bool.{eqb-true, or_parts}
 use Rattle.std.proofs.lemmas.List.{append-nil}
 use Rattle.std.specs.Option.{option_map_or}
-use Rattle.arrayvec.specs.ArrayVec.{ArrayVec as Items}
 use Rattle.wrp_base.specs.declared.link.Role.{Role}
 use Rattle.wrp_base.specs.declared.link.Role.TheVariants.{Master, Slave}
 use Rattle.wrp_base.specs.declared.message.Body.{Body}
@@ -18,22 +17,17 @@ use Rattle.wrp_node.specs.Telling.{Step}
 use Rattle.wrp_world.specs.declared.clocks.ClockState.{ClockState}
 use Rattle.wrp_world.specs.declared.event.Event.{Event}
 use Rattle.wrp_world.specs.declared.event.Event.TheVariants.{Pass, Tick, Sample, Depart, Arrive, Deliver, Noise, Down, Up, Cut, Join}
-use Rattle.wrp_world.specs.declared.event.Swap.{Swap}
+use Rattle.wrp_world.proofs.RunPorts.{one_of}
 use Rattle.wrp_world.specs.declared.fibres.FibreState.{FibreState}
+use Rattle.wrp_world.proofs.RunFrames.{with_swap_waiting}
 use Rattle.wrp_world.specs.Given.{Given, at_ports, comes_from, delivered, delivered_by, delivered_to, end_given, given, given_by, given_plain, gives, gives_all, goes_from, sending, sent_oldest, step_of, taken_of, told_sending, world_step}
 use Rattle.wrp_world.specs.Moved.{behind_first, end_after, is_place, moved, port_number, swap_at, touches, waiting_at, with_swap}
 use Rattle.wrp_world.specs.Setting.{Setting, end_at, end_of, fixed_of, is_of, link_of, other_of, place_of}
 use Rattle.wrp_world.specs.WorldAt.{Arrival, EndAt, FrameAt, Sending, WorldAt, ends_are_up, has_carrier}
-use Rattle.wrp_world.proofs.RunChanges.{cut_carrier}
+use Rattle.wrp_world.proofs.RunChanges.{cut_carrier, and_less, less_dark, still_up}
 use Rattle.wrp_world.proofs.RunGifts.{AllGiven, all_if, comes_all, goes_all, ports_all}
 use Rattle.wrp_world.proofs.RunSettled.{all_given_carrier, passed_carrier, sampled_carrier}
-use Rattle.wrp_sim.proofs.KeepsBasics.{true_false}
 use Rattle.wrp_sim.proofs.KeepsSends.{IsSilent, dark_sends, silent_sends}
-
--- what holds of the first is true of the second, and so what is false of the second is false of the first
-less_dark : (a b : Bool) → (a ≡ true → b ≡ true) → b ≡ false → a ≡ false
-less_dark true b f e = absurd (true_false b (f refl) e)
-less_dark false b f e = refl
 
 -- Waiting frames
 
@@ -107,24 +101,12 @@ few_delivered Q none one s (Some f) = few_by Q none one s f f.arrival
 
 -- What an event changes by itself
 
-abbrev one_of : Bool → EndAt → EndAt → EndAt
-one_of b e f = if b then e else f
-
 emptied : (b : Bool) (e f : EndAt) → e.waiting ≡ [] → (b ≡ false → f.waiting ≡ []) → (one_of b e f).waiting ≡ []
 emptied true e f h k = h
 emptied false e f h k = k refl
 
 behind_none : (queue : List Sending) → queue ≡ [] → behind_first queue ≡ []
 behind_none queue e = ap behind_first e
-
-swapped_waiting : (o : Option Swap) (e : EndAt) → (with_swap o e).waiting ≡ e.waiting
-swapped_waiting None e = refl
-swapped_waiting (Some swap) e = refl
-
--- a link that a node does not touch
-or_false : (a b : Bool) → (a || b) ≡ false → (a ≡ false) × (b ≡ false)
-or_false true b e = absurd (true_false true refl e)
-or_false false b e = (refl, e)
 
 clock_where : (b : Bool) (c d : ClockState) → b ≡ false → (if b then c else d) ≡ d
 clock_where b c d e = ap (λ (x : Bool). if x then c else d) e
@@ -133,7 +115,7 @@ ends_untouched : (s : Setting) (w : WorldAt) (n : ℕ) (o : Option LinkCfg) → 
     ends_are_up (moved s w (Down n)).clock o ≡ ends_are_up w.clock o
 ends_untouched s w n None e = refl
 ends_untouched s w n (Some link) e =
-    let both : ((link.upper == n) ≡ false) × ((link.lower == n) ≡ false) = or_false (link.upper == n) (link.lower == n) e in
+    let both : ((link.upper == n) ≡ false) × ((link.lower == n) ≡ false) = or_parts (link.upper == n) (link.lower == n) e in
     ap₂ (λ (a b : ClockState). a.up && b.up) (clock_where (link.upper == n) (record (w.clock link.upper) { up = false }) (w.clock link.upper) both.0)
     (clock_where (link.lower == n) (record (w.clock link.lower) { up = false }) (w.clock link.lower) both.1)
 
@@ -143,31 +125,13 @@ untouched_carrier s w n k e = ap (λ b. (w.fibre k).joined && b) (ends_untouched
 pub uncut_carrier : (s : Setting) (w : WorldAt) (l k : ℕ) → (k == l) ≡ false → has_carrier s (moved s w (Cut l)) k ≡ has_carrier s w k
 uncut_carrier s w l k e = cut_carrier s w l k ∙ ap (λ b. (if b then false else (w.fibre k).joined) && ends_are_up w.clock (link_of s k)) e
 
--- a carrier stays where a node comes up, or a link is joined
-and_more : (a b c d : Bool) → (a ≡ true → c ≡ true) → (b ≡ true → d ≡ true) → (a && b) ≡ true → (c && d) ≡ true
-and_more true b c d f g e = ap₂ (λ x y. x && y) (f refl) (g e)
-and_more false b c d f g e = absurd (true_false false e refl)
-
-ends_more : (c d : ℕ → ClockState) (o : Option LinkCfg) → ((n : ℕ) → (c n).up ≡ true → (d n).up ≡ true) → ends_are_up c o ≡ true → ends_are_up d o ≡ true
-ends_more c d None h e = e
-ends_more c d (Some link) h e = and_more (c link.upper).up (c link.lower).up (d link.upper).up (d link.lower).up (h link.upper) (h link.lower) e
-
-up_more : (b : Bool) (c d : ClockState) → c.up ≡ true → d.up ≡ true → (if b then c else d).up ≡ true
-up_more true c d e f = e
-up_more false c d e f = f
-
-pub still_up : (s : Setting) (w : WorldAt) (n : ℕ) (off : ℤ) (swaps : Items Swap) (k : ℕ) → has_carrier s w k ≡ true → has_carrier s (moved s w (Up n off swaps)) k ≡ true
-still_up s w n off swaps k c =
-    and_more (w.fibre k).joined (ends_are_up w.clock (link_of s k)) (w.fibre k).joined (ends_are_up (moved s w (Up n off swaps)).clock (link_of s k)) (λ j. j)
-    (ends_more w.clock (moved s w (Up n off swaps)).clock (link_of s k) (λ m e. up_more (m == n) (record { up = true; off = off; ticked = w.time; samples = 0 }) (w.clock m) refl e)) c
-
 joined_more : (b : Bool) (f g : FibreState) → f.joined ≡ true → g.joined ≡ true → (if b then f else g).joined ≡ true
 joined_more true f g e h = e
 joined_more false f g e h = h
 
 pub still_joined : (s : Setting) (w : WorldAt) (l : ℕ) (ms sm : ℤ) (k : ℕ) → has_carrier s w k ≡ true → has_carrier s (moved s w (Join l ms sm)) k ≡ true
 still_joined s w l ms sm k c =
-    and_more (w.fibre k).joined (ends_are_up w.clock (link_of s k)) ((moved s w (Join l ms sm)).fibre k).joined (ends_are_up w.clock (link_of s k))
+    and_less (w.fibre k).joined (ends_are_up w.clock (link_of s k)) ((moved s w (Join l ms sm)).fibre k).joined (ends_are_up w.clock (link_of s k))
     (λ j. joined_more (k == l) (record { joined = true; ms = ms; sm = sm }) (w.fibre k) refl j) (λ e. e) c
 
 moved_waiting : (s : Setting) (w : WorldAt) (e : Event) → WaitsLit s w → (k : ℕ) (r : Role) → has_carrier s (moved s w e) k ≡ false → (end_after s w e k r).waiting ≡ []
@@ -176,7 +140,7 @@ moved_waiting s w (Depart n p stamp) h k r c =
 moved_waiting s w (Up n off swaps) h k r c =
     let before : (w.end_at k r).waiting ≡ [] = h k r (less_dark (has_carrier s w k) (has_carrier s (moved s w (Up n off swaps)) k) (still_up s w n off swaps k) c) in
     emptied (is_of n (end_at s k r)) (with_swap (swap_at (port_number s k r) swaps.items) (w.end_at k r)) (w.end_at k r)
-    (swapped_waiting (swap_at (port_number s k r) swaps.items) (w.end_at k r) ∙ before) (λ b. before)
+    (with_swap_waiting (swap_at (port_number s k r) swaps.items) (w.end_at k r) ∙ before) (λ b. before)
 moved_waiting s w (Down n) h k r c =
     emptied (touches s n k) (record (w.end_at k r) { waiting = [] }) (w.end_at k r) refl (λ b. h k r (sym (untouched_carrier s w n k b) ∙ c))
 moved_waiting s w (Cut l) h k r c =

@@ -1,6 +1,7 @@
 -- The first port that has something to send.
-use Rattle.std.proofs.Common.{◌≡◌, ◌∙◌, refl, ap, ap₂, sym, subst, ℕ, ◌≤◌, ◌^◌, ◌*◌, ◌&&◌, ℤ, pos, ◌≤ℤ◌, unsigned_abs, Bool, true, false, cond, if◌then◌else◌, List, [], ◌∷◌, find, map, Option, None, Some, option_map, option_and_then, arith}
+use Rattle.std.proofs.Common.{◌≡◌, ◌∙◌, refl, ap, ap₂, sym, ℕ, ◌≤◌, ◌^◌, ◌*◌, ◌&&◌, ℤ, unsigned_abs, Bool, true, false, cond, if◌then◌else◌, List, [], ◌∷◌, find, map, Option, None, Some, option_map, option_and_then, arith}
 use Rattle.std.specs.Option.{option_or}
+use Rattle.std.proofs.lemmas.Option.{none-some, same_Some}
 use Rattle.wrp_base.specs.Clock.{period_of}
 use Rattle.wrp_base.specs.declared.time.Clock.{Clock}
 use Rattle.wrp_base.specs.declared.time.Clock.TheVariants.{Mhz125, Mhz62}
@@ -11,10 +12,10 @@ use Rattle.wrp_world.specs.WorldAt.{WorldAt, reading}
 use Rattle.wrp_sim.specs.declared.sim.departing.Departure.{Departure}
 use Rattle.wrp_sim.specs.Departures.{IsReadable, departure_by, departure_from}
 use Rattle.wrp_sim.specs.Numbers.{drawn_stamp, is_within}
-use Rattle.wrp_sim.specs.Rules.{Next, after_draw, comes, departs_from, departs_now, is_now, stamp_room}
+use Rattle.wrp_sim.specs.Rules.{after_draw, comes, departs_from, departs_now, is_now, stamp_room}
 use Rattle.wrp_sim.specs.SimAt.{SimAt}
 use Rattle.wrp_sim.proofs.Cells.{within_least, within_most}
-use Rattle.wrp_sim.proofs.SimLists.{find_map, none_some, same}
+use Rattle.wrp_sim.proofs.SimLists.{find_map}
 
 pub readable : (clock : Clock) (at : ℤ) → is_within clock at ≡ true → IsReadable at
 readable Mhz125 at e = let most : unsigned_abs at ≤ 2 ^ 62 * period_of Mhz125 = within_most Mhz125 at e in record { least = within_least Mhz125 at e; greatest = omega (arith, most) }
@@ -61,21 +62,21 @@ untold_node s w n clock at e f told = sym (ap (option_map (departure_from w)) (a
 -- of several nodes, the first that has one
 
 pub here_first : (w : WorldAt) (o rest : Option (ℕ × ℕ)) (from : Departure) → option_map (departure_from w) o ≡ Some from → option_map (departure_from w) (option_or o rest) ≡ Some from
-here_first w None rest from e = absurd (none_some from e)
+here_first w None rest from e = absurd (none-some from e)
 here_first w (Some port) rest from e = e
 
 pub not_here : (w : WorldAt) (o rest : Option (ℕ × ℕ)) → option_map (departure_from w) o ≡ None → option_or o rest ≡ rest
 not_here w None rest e = refl
-not_here w (Some port) rest e = absurd (none_some (departure_from w port) (sym e))
+not_here w (Some port) rest e = absurd (none-some (departure_from w port) (sym e))
 
 -- its frame departs
 pub departs_then : (s : Setting) (w : WorldAt) (at : SimAt) (o : Option (ℕ × ℕ)) (from : Departure) → Some from ≡ option_map (departure_from w) o →
     option_and_then (departs_from s w at) o
     ≡ comes (Depart from.node from.port (drawn_stamp (stamp_room s from.node) from.at at.state)) (after_draw at)
-departs_then s w at None from e = absurd (none_some from (sym e))
+departs_then s w at None from e = absurd (none-some from (sym e))
 departs_then s w at (Some port) from e =
-    sym (ap (λ (d : Departure). comes (Depart d.node d.port (drawn_stamp (stamp_room s d.node) d.at at.state)) (after_draw at)) (same from (departure_from w port) e))
+    sym (ap (λ (d : Departure). comes (Depart d.node d.port (drawn_stamp (stamp_room s d.node) d.at at.state)) (after_draw at)) (same_Some from (departure_from w port) e))
 
 pub departs_none : (s : Setting) (w : WorldAt) (at : SimAt) (o : Option (ℕ × ℕ)) → None ≡ option_map (departure_from w) o → option_and_then (departs_from s w at) o ≡ None
 departs_none s w at None e = refl
-departs_none s w at (Some port) e = absurd (none_some (departure_from w port) e)
+departs_none s w at (Some port) e = absurd (none-some (departure_from w port) e)

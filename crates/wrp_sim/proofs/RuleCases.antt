@@ -1,18 +1,16 @@
 -- What each rule gives, by what is found as it is tried.
-use Rattle.std.proofs.Common.{◌≡◌, ◌∙◌, refl, ap, ap₂, sym, subst, ℕ, ◌+◌, ◌-◌, ◌<◌, ◌≤◌, ◌&&◌, nat_lt, ℤ, ◌-ℤ◌, Bool, true, false, if◌then◌else◌, List, find, length, Option, None, Some, option_map, option_and_then, arith}
-use Rattle.wrp_base.specs.declared.network.LinkCfg.{LinkCfg}
+use Rattle.std.proofs.Common.{◌≡◌, ◌∙◌, refl, ap, ap₂, sym, ℕ, ◌-◌, ◌≤◌, nat_lt, ℤ, ◌-ℤ◌, Bool, true, false, if◌then◌else◌, List, find, Option, None, Some, option_map, option_and_then, arith}
+use Rattle.std.proofs.lemmas.Option.{none-some, same_Some}
 use Rattle.wrp_base.specs.declared.time.Raw.{Raw}
-use Rattle.wrp_base.specs.Network.{node_count}
 use Rattle.wrp_world.specs.declared.event.Event.TheVariants.{Arrive, Deliver, Pass}
 use Rattle.wrp_world.specs.EventAt.{link_count}
 use Rattle.wrp_world.specs.Setting.{Setting, above, link_of, nodes_of}
 use Rattle.wrp_world.specs.WorldAt.{WorldAt, has_carrier}
 use Rattle.wrp_sim.specs.declared.scene.fault.Fault.{Fault}
 use Rattle.wrp_sim.specs.declared.scene.fault.FaultKind.{FaultKind}
-use Rattle.wrp_sim.specs.Rules.{Next, after_arrival, after_draw, arrives_by, begins, comes, delivers, departs, departs_from, departs_now, fails, fault_of, is_over, join_event, moments, next_fault, next_moment, one_begun, pass_of, passes, ports_of, raw_of, rest_of, sample_below, sample_of, samples, tick_of, ticks, ticks_now, wakes}
+use Rattle.wrp_sim.specs.Rules.{Next, after_arrival, after_draw, arrives_by, begins, comes, delivers, is_over, join_event, moments, next_moment, one_begun, pass_of, passes, raw_of, sample_below, sample_of, samples, tick_of, ticks, ticks_now, wakes}
 use Rattle.wrp_sim.specs.Scenario.{SceneAt}
 use Rattle.wrp_sim.specs.SimAt.{SimAt}
-use Rattle.wrp_sim.proofs.SimLists.{none_some, same}
 
 -- 1
 
@@ -29,12 +27,12 @@ joined_all scene s w at e =
 -- 2
 
 pub taken : (g : FaultKind → Option Next) (o : Option Fault) (kind : FaultKind) → Some kind ≡ option_map (λ f. f.kind) o → option_and_then (λ f. g f.kind) o ≡ g kind
-taken g None kind e = absurd (none_some kind (sym e))
-taken g (Some f) kind e = sym (ap g (same kind f.kind e))
+taken g None kind e = absurd (none-some kind (sym e))
+taken g (Some f) kind e = sym (ap g (same_Some kind f.kind e))
 
 pub not_taken : (g : FaultKind → Option Next) (o : Option Fault) → None ≡ option_map (λ f. f.kind) o → option_and_then (λ f. g f.kind) o ≡ None
 not_taken g None e = refl
-not_taken g (Some f) e = absurd (none_some f.kind e)
+not_taken g (Some f) e = absurd (none-some f.kind e)
 
 -- 3
 
@@ -83,10 +81,6 @@ no_tick s w at e = ap (option_map (tick_of s w at)) e
 
 -- 8 and 9
 
-pub over : (scene : SceneAt) (s : Setting) (w : WorldAt) (due : Option (ℕ × ℤ)) (at : SimAt) → is_over scene s w ≡ true → passes scene s w due at ≡ None
-over scene s w due at e =
-    ap (λ (b : Bool). if b then None else comes (pass_of scene s w (next_moment w.time (moments scene s w due at) -ℤ w.time)) at) e
-
 pub goes_on : (scene : SceneAt) (s : Setting) (w : WorldAt) (due : Option (ℕ × ℤ)) (at : SimAt) → is_over scene s w ≡ false →
     passes scene s w due at ≡ comes (pass_of scene s w (next_moment w.time (moments scene s w due at) -ℤ w.time)) at
 goes_on scene s w due at e =
@@ -97,9 +91,6 @@ pub pass_is : (a b : ℤ) (xs ys : List ℤ) (us vs : List (ℤ × ℤ)) → a �
 pass_is a b xs ys us vs e f h =
     ap (λ (t : ℤ). Pass t (record { items = xs }) (record { items = us })) e
     ∙ ap₂ (λ (x : List ℤ) (u : List (ℤ × ℤ)). Pass b (record { items = x }) (record { items = u })) f h
-
-pub lt_true : (a b : ℕ) → a < b → nat_lt a b ≡ true
-lt_true a b h = grind (arith, h)
 
 pub ge_false : (a b : ℕ) → b ≤ a → nat_lt a b ≡ false
 ge_false a b h = grind (arith, h)

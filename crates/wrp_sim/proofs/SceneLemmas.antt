@@ -1,14 +1,14 @@
 -- What a line says leaves a scenario in its ranges.
-use Rattle.std.proofs.Common.{◌≡◌, ◌≢◌, ◌∙◌, ℕ, ℤ, pos, zero, suc, ◌<◌, ◌≤◌, ◌+◌, List, [], ◌∷◌, ◌++◌, Bool, false, None, Some, length, map, refl, sym, ap, arith}
+use Rattle.std.proofs.Common.{◌≡◌, ◌≢◌, ◌∙◌, ℕ, ℤ, pos, zero, suc, ◌<◌, ◌+◌, List, [], ◌∷◌, ◌++◌, false, length, map, refl, sym, ap, arith}
 use Rattle.std.specs.Prelude.{is_none, slice_get, slice_set, unwrap_or}
 use Rattle.std.specs.List.{AllByRecursion}
 use Rattle.std.proofs.lemmas.Int.{ints}
 use Rattle.std.proofs.lemmas.List.{length-set, length-map}
 use Rattle.wrp_base.specs.declared.configuration.NetCfg.{NetCfg}
-use Rattle.wrp_base.specs.Network.{IsAmong, IsGrandmaster, link_above, node_count}
+use Rattle.wrp_base.specs.Network.{IsAmong, IsGrandmaster, link_above}
 use Rattle.wrp_sim.specs.declared.scene.fault.Fault.{Fault}
-use Rattle.wrp_sim.specs.Scenario.{SceneAt, IsFault, IsFree, IsOffset, IsSceneOf, IsSum, new_scene, offset_of, tau_of_ms}
-use Rattle.wrp_world.specs.EventAt.{link_count}
+use Rattle.wrp_sim.specs.Scenario.{SceneAt, IsFault, IsFree, IsOffset, IsSceneOf, IsSum, new_scene, tau_of_ms}
+use Rattle.wrp_world.proofs.AllTake.{all_put}
 
 -- Lists
 
@@ -16,12 +16,7 @@ all_same : {X Y : Type 0} (P : X → Type 0) (x : X) (ys : List Y) → P x → A
 all_same P x [] is = tt
 all_same P x (y ∷ ys) is = (is, all_same P x ys is)
 
-all_set : {X : Type 0} (P : X → Type 0) (xs : List X) (n : ℕ) (x : X) → P x → AllByRecursion P xs → AllByRecursion P (slice_set xs n x)
-all_set P [] n x is all = tt
-all_set P (y ∷ xs) zero x is all = (is, all.1)
-all_set P (y ∷ xs) (suc n) x is all = (all.0, all_set P xs n x is all.1)
-
-all_more : {X : Type 0} (P : X → Type 0) (xs : List X) (x : X) → AllByRecursion P xs → P x → AllByRecursion P (xs ++ x ∷ [])
+pub all_more : {X : Type 0} (P : X → Type 0) (xs : List X) (x : X) → AllByRecursion P xs → P x → AllByRecursion P (xs ++ x ∷ [])
 all_more P [] x all is = (is, tt)
 all_more P (y ∷ xs) x all is = (all.0, all_more P xs x all.1 is)
 
@@ -86,7 +81,7 @@ with_sum cfg scene l sum small is = record {
   links = length-set scene.sums l sum ∙ is.links;
   offset_count = is.offset_count;
   free_count = is.free_count;
-  sum = all_set (IsSum cfg) scene.sums l sum small is.sum;
+  sum = all_put (IsSum cfg) scene.sums l sum small is.sum;
   offset = is.offset;
   free = is.free;
   grandmaster = is.grandmaster;
@@ -109,7 +104,7 @@ with_offset cfg scene n off above small is = record {
   offset_count = length-set scene.offsets n off ∙ is.offset_count;
   free_count = is.free_count;
   sum = is.sum;
-  offset = all_set IsOffset scene.offsets n off small is.offset;
+  offset = all_put IsOffset scene.offsets n off small is.offset;
   free = is.free;
   grandmaster = λ m gm. ap (λ o. unwrap_or o (pos 0)) (other_at scene.offsets n m off (another cfg m n gm above)) ∙ is.grandmaster m gm;
   loss = is.loss;
@@ -128,7 +123,7 @@ with_free cfg scene n rate small is = record {
   free_count = length-set scene.frees n rate ∙ is.free_count;
   sum = is.sum;
   offset = is.offset;
-  free = all_set IsFree scene.frees n rate small is.free;
+  free = all_put IsFree scene.frees n rate small is.free;
   grandmaster = is.grandmaster;
   loss = is.loss;
   repeat = is.repeat;

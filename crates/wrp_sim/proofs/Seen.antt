@@ -1,19 +1,14 @@
 -- What is asked of a world: sizes, and what is read of its nodes and links.
-use Rattle.std.proofs.Common.{◌≡◌, ◌∙◌, refl, ap, ap₂, sym, subst, ℕ, zero, suc, ◌<◌, ◌≤◌, ◌^◌, ℤ, unsigned_abs, List, [], ◌∷◌, length, Option, Some, slice_get, arith}
+use Rattle.std.proofs.Common.{◌≡◌, ◌∙◌, ap, sym, subst, ℕ, ◌<◌, ◌≤◌, ◌^◌, ℤ, unsigned_abs, length, Some, slice_get, arith}
 use Rattle.wrp_base.specs.declared.configuration.NetCfg.{NetCfg}
 use Rattle.wrp_base.specs.declared.network.LinkCfg.{LinkCfg}
 use Rattle.wrp_base.specs.declared.network.NodeCfg.{NodeCfg}
+use Rattle.wrp_base.proofs.Lists.{has_item}
 use Rattle.wrp_world.specs.declared.clocks.ClockState.{ClockState}
 use Rattle.wrp_world.specs.Setting.{Setting, from_on, link_of, nodes_of}
 use Rattle.wrp_world.specs.StandsFor.{IsValid, StandsFor, Tells, WorldOf, off_of, time_of}
 use Rattle.wrp_world.specs.WorldAt.{WorldAt}
 use Rattle.wrp_world.proofs.Sizing.{off_size, time_size}
-
--- what stands at a place of a list
-pub at_place : {A : Type 0} (xs : List A) (n : ℕ) → n < length xs → (x : A) × (slice_get xs n ≡ Some x)
-at_place [] n h = absurd (omega (arith, h))
-at_place (x ∷ xs) zero h = (x, refl)
-at_place (x ∷ xs) (suc n) h = at_place xs n (omega (arith, h))
 
 pub time_fits : {F : Type 0} (pre : F → ℤ → Type 0) (post : F → ℤ → ℤ → Type 0) (world : WorldOf F) (t : ℤ) → IsValid pre post world →
     Tells post time_of world t → unsigned_abs t ≤ 2 ^ 100
@@ -25,7 +20,7 @@ pub off_fits : {F : Type 0} (pre : F → ℤ → Type 0) (post : F → ℤ → �
     n < length world.nodes → Tells post (off_of n) world off → unsigned_abs off ≤ 2 ^ 124
 off_fits pre post world n off v h e =
     let few : n < length world.plant.clocks.items = omega (arith, h, v.node_count, v.plant.clock_count) in
-    let it : (clock : ClockState) × (slice_get world.plant.clocks.items n ≡ Some clock) = at_place world.plant.clocks.items n few in
+    let it : (clock : ClockState) × (slice_get world.plant.clocks.items n ≡ Some clock) = has_item world.plant.clocks.items n few in
     let is : it.0.off ≡ off = ap (λ (c : ClockState). c.off) (v.stands.plant.clocks n it.0 it.1) ∙ sym (e v.setting v.state v.stands) in
     subst (λ z. unsigned_abs z ≤ 2 ^ 124) is (off_size world.plant.events it.0.off v.plant.events (v.plant.clocks n it.0 it.1).off)
 

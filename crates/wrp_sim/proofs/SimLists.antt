@@ -1,18 +1,10 @@
 -- Lists by their places, and numbers one after another.
-use Rattle.std.proofs.Common.{◌≡◌, ◌≢◌, ◌∙◌, refl, ap, ap₂, sym, subst, ℕ, zero, suc, ◌+◌, ◌-◌, ◌<◌, ◌≤◌, ◌==◌, ℤ, Bool, true, false, if◌then◌else◌, cond, List, [], ◌∷◌, ◌++◌, map, filter, find, fold, flat_map, length, take, drop, remove, slice_set, Option, None, Some, option_map, slice_get, eqb-true, arith}
+use Rattle.std.proofs.Common.{◌≡◌, ◌∙◌, refl, ap, sym, subst, ℕ, zero, suc, ◌+◌, ◌-◌, ◌<◌, ◌≤◌, ℤ, Bool, true, false, cond, List, [], ◌∷◌, ◌++◌, map, find, fold, flat_map, take, drop, remove, slice_set, None, Some, option_map, slice_get, arith}
+use Rattle.wrp_base.proofs.Lists.{append_assoc}
 use Rattle.std.specs.Option.{option_or}
+use Rattle.std.proofs.lemmas.Option.{none-some, same_Some}
 use Rattle.wrp_world.specs.Plant.{Each}
 use Rattle.wrp_world.specs.Setting.{from_on}
-
-pub none_some : {A : Type 0} (x : A) → None ≡ Some x → ⊥
-none_some x e = cc
-
-pub same : {A : Type 0} (x y : A) → Some x ≡ Some y → x ≡ y
-same x y e = cc
-
-pub joined : {A : Type 0} (xs ys zs : List A) → (xs ++ ys) ++ zs ≡ xs ++ (ys ++ zs)
-joined [] ys zs = refl
-joined (x ∷ xs) ys zs = ap (λ l. x ∷ l) (joined xs ys zs)
 
 nothing_more : {A : Type 0} (xs : List A) → xs ++ [] ≡ xs
 nothing_more [] = refl
@@ -23,8 +15,8 @@ nothing_more (x ∷ xs) = ap (λ l. x ∷ l) (nothing_more xs)
 -- a place is set
 pub each_set : {A : Type 0} (P Q : ℕ → A → Type 0) (xs : List A) (n : ℕ) (y : A) → Each P xs → Q n y → ((m : ℕ) (x : A) → (m ≡ n → ⊥) → P m x → Q m x) →
     Each Q (slice_set xs n y)
-each_set P Q [] n y h q f m x e = absurd (none_some x e)
-each_set P Q (z ∷ xs) zero y h q f zero x e = subst (Q 0) (same y x e) q
+each_set P Q [] n y h q f m x e = absurd (none-some x e)
+each_set P Q (z ∷ xs) zero y h q f zero x e = subst (Q 0) (same_Some y x e) q
 each_set P Q (z ∷ xs) zero y h q f (suc m) x e = f (suc m) x (λ k. omega (arith, k)) (h (suc m) x e)
 each_set P Q (z ∷ xs) (suc n) y h q f zero x e = f 0 x (λ k. omega (arith, k)) (h zero x e)
 each_set P Q (z ∷ xs) (suc n) y h q f (suc m) x e =
@@ -92,31 +84,12 @@ pub map_left : {A : Type 0} (f : ℕ → A) (xs : List A) (count i : ℕ) → i 
     xs ++ map f (from_on (count - i) i) ≡ (xs ++ (f i ∷ [])) ++ map f (from_on (count - (i + 1)) (i + 1))
 map_left f xs count i h =
     let e : count - i ≡ suc (count - (i + 1)) = omega arith in
-    ap (λ k. xs ++ map f (from_on k i)) e ∙ sym (joined xs (f i ∷ []) (map f (from_on (count - (i + 1)) (i + 1))))
+    ap (λ k. xs ++ map f (from_on k i)) e ∙ sym (append_assoc xs (f i ∷ []) (map f (from_on (count - (i + 1)) (i + 1))))
 
 pub map_done : {A : Type 0} (f : ℕ → A) (xs : List A) (count i : ℕ) → count ≤ i → xs ++ map f (from_on (count - i) i) ≡ xs
 map_done f xs count i h =
     let e : count - i ≡ 0 = omega arith in
     ap (λ k. xs ++ map f (from_on k i)) e ∙ nothing_more xs
-
--- the soonest of what stands at some numbers
-pub fold_more : (g : ℤ → ℤ → ℤ) (f : ℕ → ℤ) (u : ℕ → Bool) (best : ℤ) (count i : ℕ) → i < count →
-    fold g best (map f (filter u (from_on (count - i) i)))
-    ≡ fold g (if u i then g best (f i) else best) (map f (filter u (from_on (count - (i + 1)) (i + 1))))
-fold_more g f u best count i h =
-    let e : count - i ≡ suc (count - (i + 1)) = omega arith in
-    let rest : List ℕ = filter u (from_on (count - (i + 1)) (i + 1)) in
-    ap (λ k. fold g best (map f (filter u (from_on k i)))) e
-    ∙ elim (u i) as (λ b. fold g best (map f (cond b (i ∷ rest) rest)) ≡ fold g (if b then g best (f i) else best) (map f rest)) [
-      | true ↦ refl
-      | false ↦ refl
-    ]
-
-pub fold_end : (g : ℤ → ℤ → ℤ) (f : ℕ → ℤ) (u : ℕ → Bool) (best : ℤ) (count i : ℕ) → count ≤ i →
-    fold g best (map f (filter u (from_on (count - i) i))) ≡ best
-fold_end g f u best count i h =
-    let e : count - i ≡ 0 = omega arith in
-    ap (λ k. fold g best (map f (filter u (from_on k i)))) e
 
 pub fold_append : (g : ℤ → ℤ → ℤ) (best : ℤ) (xs ys : List ℤ) → fold g best (xs ++ ys) ≡ fold g (fold g best xs) ys
 fold_append g best [] ys = refl
@@ -125,8 +98,8 @@ fold_append g best (x ∷ xs) ys = fold_append g (g best x) xs ys
 -- What is taken out of a list
 
 pub drop_at : {A : Type 0} (xs : List A) (i : ℕ) (x : A) → slice_get xs i ≡ Some x → drop i xs ≡ x ∷ drop (i + 1) xs
-drop_at [] i x e = absurd (none_some x e)
-drop_at (z ∷ xs) zero x e = ap (λ y. y ∷ xs) (same z x e)
+drop_at [] i x e = absurd (none-some x e)
+drop_at (z ∷ xs) zero x e = ap (λ y. y ∷ xs) (same_Some z x e)
 drop_at (z ∷ xs) (suc i) x e =
     let k : suc (i + 1) ≡ suc i + 1 = omega arith in
     drop_at xs i x e ∙ ap (λ n. x ∷ drop n (z ∷ xs)) k
@@ -149,8 +122,8 @@ drop_removed (x ∷ xs) (suc i) =
     drop_removed xs i ∙ ap (λ n. drop n (x ∷ xs)) k
 
 pub take_more : {A : Type 0} (xs : List A) (i : ℕ) (x : A) → slice_get xs i ≡ Some x → take (i + 1) xs ≡ take i xs ++ (x ∷ [])
-take_more [] i x e = absurd (none_some x e)
-take_more (z ∷ xs) zero x e = ap (λ y. y ∷ []) (same z x e)
+take_more [] i x e = absurd (none-some x e)
+take_more (z ∷ xs) zero x e = ap (λ y. y ∷ []) (same_Some z x e)
 take_more (z ∷ xs) (suc i) x e =
     let k : suc i + 1 ≡ suc (i + 1) = omega arith in
     ap (λ n. take n (z ∷ xs)) k ∙ ap (λ l. z ∷ l) (take_more xs i x e)

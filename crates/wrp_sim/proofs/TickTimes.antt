@@ -1,5 +1,5 @@
 -- The tick times of nodes.
-use Rattle.std.proofs.Common.{◌≡◌, ◌∙◌, refl, ap, sym, subst, ℕ, ◌==◌, ℤ, ◌+ℤ◌, pos, Bool, true, false, if◌then◌else◌, List, slice_set, eq-eqb, eqb-true, arith}
+use Rattle.std.proofs.Common.{◌≡◌, refl, sym, subst, ℕ, ◌==◌, ℤ, Bool, true, false, if◌then◌else◌, List, slice_set, eq-eqb, eqb-true}
 use Rattle.wrp_world.specs.Plant.{Each}
 use Rattle.wrp_world.specs.Setting.{Setting}
 use Rattle.wrp_sim.specs.Rules.{drawn_tick, with_tick}

@@ -46,10 +46,6 @@ passes_on stays rule event sim e h =
     let gave : Gave stays rule None sim = subst (λ x. Gave stays rule x sim) e h in
     (no_rule stays rule sim gave, stayed stays rule sim gave)
 
--- what came of a rule that gives this
-pub gave_event : (stays at : SimAt) (event made : Event) (sim : State) → made ≡ event → SimIs (record at { ticked = None }) sim → Gave stays (comes event at) (Some made) sim
-gave_event stays at event made sim e h = (e, h)
-
 pub gave_none : (at : SimAt) (rule : Option Next) (sim : State) → rule ≡ None → SimIs at sim → Gave at rule None sim
 gave_none at rule sim e h = subst (λ r. Gave at r None sim) (sym e) h
 

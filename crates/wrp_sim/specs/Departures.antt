@@ -1,6 +1,6 @@
 -- What the code of the simulator asks as it makes an event: modules by name, ends of links, and ports that have something to
 -- send (this project's profile).
-use Rattle.std.specs.Prelude.{◌≡◌, ◌≤◌, ◌≤ℤ◌, ◌^◌, ℕ, ℤ, pos, Option, Some, option_and_then, unsigned_abs}
+use Rattle.std.specs.Prelude.{◌≤◌, ◌≤ℤ◌, ◌^◌, ℕ, ℤ, pos, Option, option_and_then, unsigned_abs}
 use Rattle.wrp_base.specs.declared.link.Module.{Module}
 use Rattle.wrp_base.specs.declared.link.Role.{Role}
 use Rattle.wrp_base.specs.declared.link.Role.TheVariants.{Master, Slave}

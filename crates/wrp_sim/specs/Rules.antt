@@ -1,27 +1,20 @@
 -- What happens next in a network that is simulated: the first of nine rules that applies (this project's profile). Times are
 -- true times, in tau.
-use Rattle.std.specs.Prelude.{ℕ, ℤ, pos, neg_ℤ, ◌+◌, ◌-◌, ◌*◌, ◌/◌, ◌%◌, ◌^◌, ◌==◌, ◌&&◌, ◌+ℤ◌, ◌-ℤ◌, ◌*ℤ◌, nat_lt, not, unsigned_abs, Bool, true, false, if◌then◌else◌, List, [], ◌∷◌, ◌++◌, map, filter, find, flat_map, fold, Option, None, Some, option_map, option_and_then}
+use Rattle.std.specs.Prelude.{ℕ, ℤ, pos, ◌+◌, ◌-◌, ◌^◌, ◌==◌, ◌&&◌, ◌+ℤ◌, ◌-ℤ◌, nat_lt, not, Bool, false, if◌then◌else◌, List, [], ◌∷◌, ◌++◌, map, filter, find, flat_map, fold, Option, None, Some, option_map, option_and_then}
 use Rattle.std.specs.Int.Signed.{le_z, lt_z}
 use Rattle.std.specs.Option.{option_map_or}
 use Rattle.std.specs.Ordering.{int_eq}
-use Rattle.arrayvec.specs.ArrayVec.{ArrayVec}
-use Rattle.wrp_base.specs.Clock.{period_of, step_of, steps_of_period}
 use Rattle.wrp_base.specs.declared.link.Module.{Module}
 use Rattle.wrp_base.specs.declared.link.Role.{Role}
 use Rattle.wrp_base.specs.declared.link.Role.TheVariants.{Master, Slave}
 use Rattle.wrp_base.specs.declared.network.LinkCfg.{LinkCfg}
-use Rattle.wrp_base.specs.declared.time.Clock.{Clock}
 use Rattle.wrp_base.specs.declared.time.Raw.{Raw}
-use Rattle.wrp_base.specs.Division.{floor_quotient, trunc_quotient}
-use Rattle.wrp_base.specs.Held.{held_within}
 use Rattle.wrp_base.specs.Network.{End, node_count}
 use Rattle.wrp_bounds.specs.Times.{shortest_tick, longest_tick}
 use Rattle.wrp_node.specs.NodeAt.{dac_of}
 use Rattle.wrp_phase.specs.BeatPattern.{true_step}
-use Rattle.wrp_stamp.specs.StampBound.{true_place}
 use Rattle.wrp_world.specs.declared.event.Event.{Event}
 use Rattle.wrp_world.specs.declared.event.Event.TheVariants.{Pass, Tick, Sample, Depart, Arrive, Deliver, Down, Up, Cut, Join}
-use Rattle.wrp_world.specs.declared.event.Swap.{Swap}
 use Rattle.wrp_world.specs.EventAt.{link_count}
 use Rattle.wrp_world.specs.Premises.{rate_of, transition_of}
 use Rattle.wrp_world.specs.Setting.{Setting, above, end_at, entry_at, fixed_of, from_on, link_of, links_of, nodes_of, of_node, other_of, start_of}

@@ -1,6 +1,6 @@
 -- Scenarios: for how long a network runs, with which fibres, clocks, losses and faults (this project's profile). Nodes and
 -- links are told by their places from 0 in file order; times, delays and offsets are in tau.
-use Rattle.std.specs.Prelude.{ℕ, ℤ, pos, ◌^◌, ◌*◌, ◌+◌, ◌-◌, ◌/◌, ◌≤◌, ◌<◌, ◌≡◌, ◌*ℤ◌, ◌-ℤ◌, unsigned_abs, List, [], map, length, Option, slice_get, unwrap_or}
+use Rattle.std.specs.Prelude.{ℕ, ℤ, pos, ◌*◌, ◌+◌, ◌-◌, ◌≤◌, ◌<◌, ◌≡◌, ◌*ℤ◌, ◌-ℤ◌, unsigned_abs, List, [], map, length, slice_get, unwrap_or}
 use Rattle.std.specs.List.{AllByRecursion}
 use Rattle.std.specs.Option.{option_map_or}
 use Rattle.wrp_base.specs.declared.configuration.NetCfg.{NetCfg}

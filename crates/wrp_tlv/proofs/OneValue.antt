@@ -1,5 +1,5 @@
 -- Only the value of a message is read as that message, and only the value of a suffix as that suffix.
-use Rattle.std.proofs.Common.{◌≡◌, ◌+◌, ◌&&◌, ℕ, Bool, true, false, List, [], ◌∷◌, ◌++◌, length, drop, refl, ap, ap₂, ◌∙◌, subst, arith, nat_le, nat_lt}
+use Rattle.std.proofs.Common.{◌≡◌, ◌+◌, ℕ, Bool, true, false, List, [], ◌∷◌, ◌++◌, length, drop, refl, ap, ap₂, ◌∙◌, subst, arith, nat_le, nat_lt}
 use Rattle.std.specs.Prelude.{slice_index, ◌==◌, if◌then◌else◌}
 use Rattle.std.proofs.lemmas.Bool.{eqb-true}
 use Rattle.std.proofs.lemmas.List.{get_or-drop}
@@ -8,6 +8,7 @@ use Rattle.wrp_base.specs.declared.message.WrMsg.TheVariants.{Present, Lock, Loc
 use Rattle.wrp_tlv.specs.declared.white_rabbit.WrRead.{WrRead}
 use Rattle.wrp_tlv.specs.declared.white_rabbit.WrRead.TheVariants.{Wr, Suffix, Other, BadWr}
 use Rattle.wrp_base.specs.Octets.{AreOctets}
+use Rattle.wrp_base.proofs.Booleans.{and_second}
 use Rattle.wrp_tlv.specs.Octets.{number_at}
 use Rattle.wrp_tlv.specs.WhiteRabbit.{wr_read, read_by_id, sized, is_white_rabbit, calibrate_at, calibrated_at, wr_value, suffix_value, value_start, HaveOneValue}
 use Rattle.wrp_tlv.proofs.Written.{width_of, sent_from, all_sent}
@@ -31,10 +32,6 @@ row value id own long read rest is others =
     either value (id == own) (sized long value read) rest
     (λ same. either value (length value == long) read BadWr (λ whole. is (eqb-true id own same) (eqb-true (length value) long whole)) tt)
     others
-
-both_true : (a b : Bool) → a && b ≡ true → b ≡ true
-both_true true b is = is
-both_true false b is = cc
 
 -- a White Rabbit value of this id, with numbers of these widths behind it
 value_is : (value : List ℕ) (id : ℕ) (widths : List ℕ) → AreOctets value → number_at 0 6 value ≡ 0x0800_30DE_AD01 → number_at 6 2 value ≡ id
@@ -72,7 +69,7 @@ unfolding wr_read
 sent_as value octets =
     either value (is_white_rabbit value) _ Other
     (λ white. either value (nat_lt (length value) 8) BadWr _ (λ short. tt)
-    (by_id value octets (eqb-true _ _ (both_true (nat_le 6 (length value)) (number_at 0 6 value == 0x0800_30DE_AD01) white)) (number_at 6 2 value) refl))
+    (by_id value octets (eqb-true _ _ (and_second (nat_le 6 (length value)) (number_at 0 6 value == 0x0800_30DE_AD01) white)) (number_at 6 2 value) refl))
     tt
 
 pub have_one_value : HaveOneValue

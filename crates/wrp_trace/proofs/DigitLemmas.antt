@@ -68,7 +68,7 @@ octets_back octets fit few = rw (decode_of-encode_lower octets fit, le-leb (leng
 pub frame_back : (frame : ArrayVec ℕ) → IsBytes frame.items → length frame.items ≤ 256 → frame_of (encode_lower frame.items) ≡ Some frame
 frame_back frame fit few = rw (octets_back frame.items fit few) refl
 
-octet_small : (i x : ℕ) → byte_at i x < 256
+pub octet_small : (i x : ℕ) → byte_at i x < 256
 octet_small zero x = omega arith
 octet_small (suc i) x = omega arith
 

@@ -4,6 +4,7 @@ use Rattle.std.specs.Prelude.{int_le, nat_lt, ok_or, option_map, option_and_then
 use Rattle.std.specs.List.{list_any, position, position_or_len}
 use Rattle.std.proofs.lemmas.Bool.{eqb-true, ltb-true}
 use Rattle.std.proofs.lemmas.Int.{ints}
+use Rattle.std.proofs.lemmas.Option.{same_Some}
 use Rattle.wrp_base.specs.declared.configuration.NetCfg.{NetCfg}
 use Rattle.wrp_base.specs.declared.fault.TraceFault.{TraceFault}
 use Rattle.wrp_base.specs.declared.fault.TraceFault.TheVariants.{Fields, Kind, Name, Number}
@@ -38,14 +39,11 @@ use Rattle.wrp_trace.proofs.SwapLemmas.{more_swaps}
 
 -- Readings
 
-abbrev read_as : {A : Type 0} → A → Result A TraceFault
+abbrev pub read_as : {A : Type 0} → A → Result A TraceFault
 read_as x = Ok x
 
 ok_same : {A : Type 0} (x y : A) → read_as x ≡ read_as y → x ≡ y
 ok_same x y e = cc
-
-some_same : {A : Type 0} (x y : A) → Some x ≡ Some y → x ≡ y
-some_same x y e = cc
 
 -- a reading in two parts gave a value in each
 pub record Both {A B : Type 0} (read : Result A TraceFault) (next : A → Result B TraceFault) (value : B) : Type 0 where
@@ -57,18 +55,18 @@ both : {A B : Type 0} (read : Result A TraceFault) (next : A → Result B TraceF
 both (Ok x) next value e = record { first = x; is = refl; rest = e }
 both (Err fault) next value e = absurd (cc)
 
-found : {A : Type 0} (fault : TraceFault) (o : Option A) (x : A) → ok_or o fault ≡ Ok x → o ≡ Some x
+pub found : {A : Type 0} (fault : TraceFault) (o : Option A) (x : A) → ok_or o fault ≡ Ok x → o ≡ Some x
 found fault None x e = absurd (cc)
 found fault (Some y) x e = ap (λ z. Some z) (ok_same y x e)
 
 -- Numbers
 
-in_range : (low high : Bool) (z w : ℤ) → (if low && high then Some z else None) ≡ Some w → (low ≡ true) × (high ≡ true) × (z ≡ w)
-in_range true true z w e = (refl, refl, some_same z w e)
+pub in_range : (low high : Bool) (z w : ℤ) → (if low && high then Some z else None) ≡ Some w → (low ≡ true) × (high ≡ true) × (z ≡ w)
+in_range true true z w e = (refl, refl, same_Some z w e)
 in_range true false z w e = absurd (let f : None ≡ Some w = e in cc)
 in_range false high z w e = absurd (let f : None ≡ Some w = e in cc)
 
-kept_range : (least greatest z w : ℤ) → kept_in least greatest z ≡ Some w → (least ≤ℤ w) × (w ≤ℤ greatest)
+pub kept_range : (least greatest z w : ℤ) → kept_in least greatest z ≡ Some w → (least ≤ℤ w) × (w ≤ℤ greatest)
 kept_range least greatest z w e =
     let parts : (int_le least z ≡ true) × (int_le z greatest ≡ true) × (z ≡ w) = in_range (int_le least z) (int_le z greatest) z w e in
     let low : int_le least z ≡ true = parts.0 in
@@ -77,28 +75,28 @@ kept_range least greatest z w e =
     let to : z ≤ℤ greatest = grind (arith, ints) in
     (subst (λ x. least ≤ℤ x) parts.2 from, subst (λ x. x ≤ℤ greatest) parts.2 to)
 
-number_range : (least greatest : ℤ) (o : Option ℤ) (w : ℤ) → option_and_then (kept_in least greatest) o ≡ Some w → (least ≤ℤ w) × (w ≤ℤ greatest)
+pub number_range : (least greatest : ℤ) (o : Option ℤ) (w : ℤ) → option_and_then (kept_in least greatest) o ≡ Some w → (least ≤ℤ w) × (w ≤ℤ greatest)
 number_range least greatest None w e = absurd (cc)
 number_range least greatest (Some z) w e = kept_range least greatest z w e
 
-number_in_range : (least greatest : ℤ) (text : List ℕ) (w : ℤ) → number_in least greatest text ≡ Some w → (least ≤ℤ w) × (w ≤ℤ greatest)
+pub number_in_range : (least greatest : ℤ) (text : List ℕ) (w : ℤ) → number_in least greatest text ≡ Some w → (least ≤ℤ w) × (w ≤ℤ greatest)
 number_in_range least greatest text w e = number_range least greatest (number_of text) w e
 
-natural_with : (least greatest : ℕ) (o : Option ℤ) (n : ℕ) → ((w : ℤ) → o ≡ Some w → (pos least ≤ℤ w) × (w ≤ℤ pos greatest)) → option_map unsigned_abs o ≡ Some n → (least ≤ n) × (n ≤ greatest)
+pub natural_with : (least greatest : ℕ) (o : Option ℤ) (n : ℕ) → ((w : ℤ) → o ≡ Some w → (pos least ≤ℤ w) × (w ≤ℤ pos greatest)) → option_map unsigned_abs o ≡ Some n → (least ≤ n) × (n ≤ greatest)
 natural_with least greatest None n h e = absurd (cc)
 natural_with least greatest (Some w) n h e =
     let range : (pos least ≤ℤ w) × (w ≤ℤ pos greatest) = h w refl in
-    let size : unsigned_abs w ≡ n = some_same (unsigned_abs w) n e in
+    let size : unsigned_abs w ≡ n = same_Some (unsigned_abs w) n e in
     (omega (arith, ints, range.0, size), omega (arith, ints, range.0, range.1, size))
 
-natural_range : (least greatest : ℕ) (text : List ℕ) (n : ℕ) → natural_in least greatest text ≡ Some n → (least ≤ n) × (n ≤ greatest)
+pub natural_range : (least greatest : ℕ) (text : List ℕ) (n : ℕ) → natural_in least greatest text ≡ Some n → (least ≤ n) × (n ≤ greatest)
 natural_range least greatest text n e = natural_with least greatest (number_in (pos least) (pos greatest) text) n (number_in_range (pos least) (pos greatest) text) e
 
-number_read : (least greatest place : ℕ) (fields : List (List ℕ)) (n : ℕ) → number_at least greatest place fields ≡ Ok n → (least ≤ n) × (n ≤ greatest)
+pub number_read : (least greatest place : ℕ) (fields : List (List ℕ)) (n : ℕ) → number_at least greatest place fields ≡ Ok n → (least ≤ n) × (n ≤ greatest)
 number_read least greatest place fields n e = natural_range least greatest (field_of place fields) n (found (Number place) (natural_in least greatest (field_of place fields)) n e)
 
 whole_if : (b : Bool) (n : ℕ) (time : ℤ) → (if b then Some (pos n) else None) ≡ Some time → (b ≡ true) × (pos n ≡ time)
-whole_if true n time e = (refl, some_same (pos n) time e)
+whole_if true n time e = (refl, same_Some (pos n) time e)
 whole_if false n time e = absurd (let f : None ≡ Some time = e in cc)
 
 time_with : (o : Option ℕ) (time : ℤ) → ((n : ℕ) → o ≡ Some n → n ≤ 4_951_760_157_141_521_099_596_496_896) → option_and_then (λ n. if n % 1_000 == 0 then Some (pos n) else None) o ≡ Some time → IsTime time
@@ -116,19 +114,19 @@ time_range text time e =
 -- Names
 
 first_if : (b : Bool) (i n : ℕ) → (if b then Some i else None) ≡ Some n → (b ≡ true) × (i ≡ n)
-first_if true i n e = (refl, some_same i n e)
+first_if true i n e = (refl, same_Some i n e)
 first_if false i n e = absurd (let f : None ≡ Some n = e in cc)
 
-within : {X : Type 0} (p : X → Bool) (xs : List X) (n : ℕ) → position p xs ≡ Some n → n < length xs
+pub within : {X : Type 0} (p : X → Bool) (xs : List X) (n : ℕ) → position p xs ≡ Some n → n < length xs
 within p xs n e =
     let parts : (nat_lt (position_or_len p xs) (length xs) ≡ true) × (position_or_len p xs ≡ n) = first_if (nat_lt (position_or_len p xs) (length xs)) (position_or_len p xs) n e in
     subst (λ k. k < length xs) parts.1 (ltb-true (position_or_len p xs) (length xs) parts.0)
 
-node_there : (cfg : NetCfg) (place : ℕ) (fields : List (List ℕ)) (n : ℕ) → node_at cfg place fields ≡ Ok n → n < node_count cfg
+pub node_there : (cfg : NetCfg) (place : ℕ) (fields : List (List ℕ)) (n : ℕ) → node_at cfg place fields ≡ Ok n → n < node_count cfg
 node_there cfg place fields n e =
     within (λ (node : NodeCfg). same_name node.name.bytes (field_of place fields)) cfg.nodes.items n (found (Name place) (node_named cfg (field_of place fields)) n e)
 
-link_there : (cfg : NetCfg) (place : ℕ) (fields : List (List ℕ)) (k : ℕ) → link_at cfg place fields ≡ Ok k → k < link_count cfg
+pub link_there : (cfg : NetCfg) (place : ℕ) (fields : List (List ℕ)) (k : ℕ) → link_at cfg place fields ≡ Ok k → k < link_count cfg
 link_there cfg place fields k e =
     within (λ (link : LinkCfg). same_name link.name.bytes (field_of place fields)) cfg.links.items k (found (Name place) (link_named cfg (field_of place fields)) k e)
 
@@ -157,7 +155,7 @@ moves_with : (a b : Option ℤ) (move : ℤ × ℤ) → option_and_then (λ ms. 
 moves_with None b move e = absurd (let f : None ≡ Some move = e in cc)
 moves_with (Some x) None move e = absurd (let f : None ≡ Some move = e in cc)
 moves_with (Some x) (Some y) move e =
-    let is : (x, y) ≡ move = some_same (x, y) move e in
+    let is : (x, y) ≡ move = same_Some (x, y) move e in
     (ap (λ (m : ℤ × ℤ). Some m.0) is, ap (λ (m : ℤ × ℤ). Some m.1) is)
 
 move_range : (text : List ℕ) (move : ℤ × ℤ) → move_in text ≡ Some move → IsMove move
@@ -196,7 +194,7 @@ changes_fit cfg place said more (text ∷ texts) e h =
 -- Modules that are put in place
 
 name_if : (b : Bool) (text name : List ℕ) → (if b then Some text else None) ≡ Some name → (b ≡ true) × (text ≡ name)
-name_if true text name e = (refl, some_same text name e)
+name_if true text name e = (refl, same_Some text name e)
 name_if false text name e = absurd (let f : None ≡ Some name = e in cc)
 
 module_is : (place : ℕ) (text name : List ℕ) → module_name place text ≡ Ok name → is_name name ≡ true
@@ -226,7 +224,7 @@ swap_at_is place port text swap small e =
 
 port_if : (b : Bool) (port other : ℕ) → (if b then None else Some port) ≡ Some other → (b ≡ false) × (port ≡ other)
 port_if true port other e = absurd (let f : None ≡ Some other = e in cc)
-port_if false port other e = (refl, some_same port other e)
+port_if false port other e = (refl, same_Some port other e)
 
 own_is : (place : ℕ) (swaps : List Swap) (port other : ℕ) → own_port place swaps port ≡ Ok other → (list_any (λ swap. swap.port == other) swaps ≡ false) × (port ≡ other)
 own_is place swaps port other e =

@@ -15,6 +15,7 @@ use Rattle.wrp_base.specs.declared.network.LinkCfg.{LinkCfg}
 use Rattle.wrp_base.specs.declared.network.NodeCfg.{NodeCfg}
 use Rattle.wrp_base.specs.declared.time.Raw.{Raw}
 use Rattle.wrp_base.specs.Network.{IsFromTo, node_count}
+use Rattle.wrp_base.proofs.Lists.{has_item}
 use Rattle.wrp_config.specs.Accepted.{HasNames}
 use Rattle.wrp_config.specs.Names.{node_named, link_named}
 use Rattle.wrp_world.specs.declared.event.Event.{Event}
@@ -32,7 +33,7 @@ use Rattle.wrp_fields.specs.Reading.{field_of, number_or_fault, name_or_fault}
 use Rattle.wrp_trace.specs.Swaps.{plain_swap, swaps_said}
 use Rattle.wrp_trace.proofs.DigitLemmas.{number_octets}
 use Rattle.wrp_trace.proofs.EventParts.{name_part, signed_part, part_text, both_text}
-use Rattle.wrp_trace.proofs.NamesFound.{there, node_found, link_found}
+use Rattle.wrp_trace.proofs.NamesFound.{node_found, link_found}
 use Rattle.wrp_trace.proofs.PassReadsBack.{AreNodesFrom, AreLinksFrom, all_nodes, all_links, drift_of, move_of, changes_back, drifts_again, moves_again}
 use Rattle.wrp_trace.proofs.ReadsBack.{short_read, long_read, step_read, counter_read, bits_read, octets_read, time_read, raw_read, short_text}
 use Rattle.wrp_trace.proofs.SignedLemmas.{number_in_back}
@@ -54,7 +55,7 @@ pub record IsNodeText (cfg : NetCfg) (n : ℕ) : Type 0 where
 
 node_is : (cfg : NetCfg) → HasNames cfg → (n : ℕ) → n < node_count cfg → IsNodeText cfg n
 node_is cfg names n below =
-    let node = there cfg.nodes.items n below in
+    let node = has_item cfg.nodes.items n below in
     let same : node_text cfg n ≡ node.0.name.bytes = ap (λ o. option_map_or (λ m. m.name.bytes) o []) node.1 in
     record {
       finds = ap (node_named cfg) same ∙ node_found cfg names n node.0 node.1;
@@ -67,7 +68,7 @@ pub record IsLinkText (cfg : NetCfg) (l : ℕ) : Type 0 where
 
 link_is : (cfg : NetCfg) → HasNames cfg → (l : ℕ) → l < link_count cfg → IsLinkText cfg l
 link_is cfg names l below =
-    let link = there cfg.links.items l below in
+    let link = has_item cfg.links.items l below in
     let same : link_text cfg l ≡ link.0.name.bytes = ap (λ o. option_map_or (λ m. m.name.bytes) o []) link.1 in
     record {
       finds = ap (link_named cfg) same ∙ link_found cfg names l link.0 link.1;

@@ -1,37 +1,20 @@
 -- The name of a node or link of an accepted network finds it again.
-use Rattle.std.proofs.Common.{◌≡◌, ◌∙◌, ℕ, zero, suc, ◌<◌, List, [], ◌∷◌, Bool, true, false, None, Some, length, get_or, refl, ap, arith}
+use Rattle.std.proofs.Common.{◌≡◌, ◌∙◌, ℕ, List, [], ◌∷◌, Bool, false, None, Some, length, get_or, refl, ap, arith}
 use Rattle.std.specs.Prelude.{slice_get}
 use Rattle.std.specs.List.{position, position_or_len}
-use Rattle.std.proofs.lemmas.Bool.{false_from_ne_true, lt-ltb, le-ltb}
+use Rattle.std.proofs.lemmas.Bool.{false_from_ne_true, le-ltb}
 use Rattle.std.proofs.lemmas.List.Sums.{position_or_len_is}
-use Rattle.std.proofs.lemmas.Option.{slice_get-get_or, slice_get_within, get_or_from_slice_get}
+use Rattle.std.proofs.lemmas.Option.{slice_get-get_or}
 use Rattle.std.proofs.lemmas.Slice.Eq.{bytes_eq-Decides}
 use Rattle.wrp_base.specs.declared.configuration.NetCfg.{NetCfg}
 use Rattle.wrp_base.specs.declared.network.LinkCfg.{LinkCfg}
 use Rattle.wrp_base.specs.declared.network.NodeCfg.{NodeCfg}
 use Rattle.wrp_base.specs.Network.{IsLink, IsNode}
+use Rattle.wrp_base.proofs.Lists.{first_is}
 use Rattle.wrp_caldb.specs.Name.{same_name}
 use Rattle.wrp_config.specs.Accepted.{HasNames}
 use Rattle.wrp_config.specs.Names.{node_named, link_named}
 use Rattle.wrp_config.proofs.Lists.{map_at}
-
--- what stands at a place of a list
-pub there : {X : Type 0} (xs : List X) (n : ℕ) → n < length xs → (x : X) × (slice_get xs n ≡ Some x)
-there [] n below = absurd (omega arith)
-there (x ∷ xs) zero below = (x, refl)
-there (x ∷ xs) (suc n) below = there xs n (omega arith)
-
--- the only one that passes is the first
-first_is : {X : Type 0} (p : X → Bool) (xs : List X) (n : ℕ) (x : X) → slice_get xs n ≡ Some x → p x ≡ true
-    → ((i : ℕ) (y : X) → slice_get xs i ≡ Some y → p y ≡ true → i ≡ n) → position p xs ≡ Some n
-first_is p xs n x e is only =
-    let below : n < length xs = slice_get_within xs n x e in
-    let at : position_or_len p xs ≡ n =
-    position_or_len_is p xs n x (omega arith)
-    (λ k before. false_from_ne_true (p (get_or xs k x)) (λ t.
-    let same = only k (get_or xs k x) (slice_get-get_or xs k x (omega arith)) t in absurd (omega (arith, same, before))))
-    (λ l. ap p (get_or_from_slice_get xs n x x e) ∙ is) in
-    rw (at, lt-ltb n (length xs) below) refl
 
 -- where none passes none is found
 none_is : {X : Type 0} (p : X → Bool) (xs : List X) → ((i : ℕ) (y : X) → slice_get xs i ≡ Some y → p y ≡ false) → position p xs ≡ None

@@ -12,7 +12,7 @@ use Rattle.wrp_fields.specs.Numbers.{value_of, number_of, natural_in}
 use Rattle.wrp_trace.specs.Times.{time_of}
 use Rattle.wrp_world.specs.EventAt.{IsTime}
 
-own : IsNumeralModel (λ ds. list_all is_ascii_digit ds ≡ true) value_of
+pub own : IsNumeralModel (λ ds. list_all is_ascii_digit ds ≡ true) value_of
 own = numerals_by_fold (λ ds. list_all is_ascii_digit ds ≡ true) (search rules) (λ v ds. fold (λ value digit. value * 10 + (digit - 48)) v ds) (search rules)
 
 number_of_digits : (ds : List ℕ) → AllDigits 10 ds → 1 ≤ length ds → length ds ≤ 39 → number_of ds ≡ Some (pos (digits_value 10 ds))

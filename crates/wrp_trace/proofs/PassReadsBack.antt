@@ -11,8 +11,9 @@ use Rattle.wrp_base.specs.declared.fault.TraceFault.{TraceFault}
 use Rattle.wrp_base.specs.declared.network.LinkCfg.{LinkCfg}
 use Rattle.wrp_base.specs.declared.network.NodeCfg.{NodeCfg}
 use Rattle.wrp_base.specs.Network.{IsLink, IsNode}
+use Rattle.wrp_base.proofs.Naturals.{zero_plus}
 use Rattle.wrp_config.specs.Accepted.{HasNames}
-use Rattle.wrp_trace.specs.Changes.{SaidAt, change_in, move_in, is_said, said_once, change_said, changes_said}
+use Rattle.wrp_trace.specs.Changes.{SaidAt, change_in, move_in, is_said, change_said, changes_said}
 use Rattle.wrp_trace.specs.EventPrinting.{drift_words, drift_text, drift_texts, move_words, move_texts}
 use Rattle.wrp_fields.specs.Reading.{◌>>=◌}
 use Rattle.wrp_trace.proofs.EventParts.{name_part, signed_part, lacks_equals, lacks_slash, before_part, behind_part}
@@ -49,9 +50,6 @@ unsaid [] rest zero e = refl
 unsaid [] rest (suc k) e = absurd (omega (arith, e))
 unsaid (o ∷ front) rest zero e = absurd (omega (arith, e))
 unsaid (o ∷ front) rest (suc k) e = unsaid front rest k (omega (arith, e))
-
-once : {X : Type 0} (place : ℕ) (said : List (Option X)) (k : ℕ) (x : X) → is_said said k ≡ false → said_once place said k (Some x) ≡ Ok x
-once place said k x new = rw new refl
 
 drift_back : (cfg : NetCfg) → HasNames cfg → (place k : ℕ) (node : NodeCfg) → IsNode cfg k node → (drift : ℤ) → IsChange drift
     → (front rest : List (Option ℤ)) → length front ≡ k → (moves : List (Option (ℤ × ℤ)))
@@ -135,14 +133,11 @@ AreNodesFrom cfg k nodes = (i : ℕ) (node : NodeCfg) → slice_get nodes i ≡ 
 abbrev pub AreLinksFrom : NetCfg → ℕ → List LinkCfg → Type 0
 AreLinksFrom cfg k links = (i : ℕ) (link : LinkCfg) → slice_get links i ≡ Some link → IsLink cfg (k + i) link
 
-none_before : (i : ℕ) → 0 + i ≡ i
-none_before i = omega arith
-
 pub all_nodes : (cfg : NetCfg) → AreNodesFrom cfg 0 cfg.nodes.items
-all_nodes cfg i node e = ap (slice_get cfg.nodes.items) (none_before i) ∙ e
+all_nodes cfg i node e = ap (slice_get cfg.nodes.items) (zero_plus i) ∙ e
 
 pub all_links : (cfg : NetCfg) → AreLinksFrom cfg 0 cfg.links.items
-all_links cfg i link e = ap (slice_get cfg.links.items) (none_before i) ∙ e
+all_links cfg i link e = ap (slice_get cfg.links.items) (zero_plus i) ∙ e
 
 drifts_back : (cfg : NetCfg) → HasNames cfg → (place k : ℕ) (nodes : List NodeCfg) → AreNodesFrom cfg k nodes
     → (drifts : List ℤ) → length drifts ≡ length nodes → AllByRecursion IsChange drifts

@@ -1,18 +1,12 @@
 -- Signed numbers that were printed read back.
-use Rattle.std.proofs.Common.{◌≡◌, ℕ, ℤ, pos, negsuc, neg_ℤ, suc, ◌<◌, ◌+◌, ◌-◌, ◌*◌, ◌^◌, ◌≤ℤ◌, true, Some, length, refl, ap, arith, rules, lit<}
+use Rattle.std.proofs.Common.{◌≡◌, ℕ, ℤ, pos, negsuc, neg_ℤ, suc, ◌<◌, ◌-◌, ◌^◌, ◌≤ℤ◌, true, Some, length, refl, ap, arith, lit<}
 use Rattle.std.specs.Prelude.{int_le, unsigned_abs, option_map}
-use Rattle.std.specs.Char.{is_ascii_digit}
-use Rattle.std.specs.List.{fold, list_all}
 use Rattle.std.specs.Fmt.{decimal, signed_decimal}
 use Rattle.std.proofs.lemmas.Bool.{le-leb}
 use Rattle.std.proofs.lemmas.Int.{ints}
 use Rattle.std.proofs.lemmas.Fmt.{decimal_is_IsNumeral_wide, length-decimal-le_wide}
-use Rattle.std.proofs.lemmas.Str.Parse.{IsNumeralModel, numerals_by_fold}
-use Rattle.wrp_fields.specs.Numbers.{value_of, digits_of, number_of, kept_in, number_in}
-use Rattle.wrp_trace.proofs.NumberLemmas.{number_back}
-
-own : IsNumeralModel (λ ds. list_all is_ascii_digit ds ≡ true) value_of
-own = numerals_by_fold (λ ds. list_all is_ascii_digit ds ≡ true) (search rules) (λ v ds. fold (λ value digit. value * 10 + (digit - 48)) v ds) (search rules)
+use Rattle.wrp_fields.specs.Numbers.{digits_of, number_of, kept_in, number_in}
+use Rattle.wrp_trace.proofs.NumberLemmas.{number_back, own}
 
 digits_back : (n : ℕ) → n < 10 ^ 39 → digits_of (decimal n) ≡ Some n
 digits_back n small =

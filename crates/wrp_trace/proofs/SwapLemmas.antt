@@ -1,8 +1,8 @@
 -- Swaps in turn.
-use Rattle.std.proofs.Common.{◌≡◌, ◌∙◌, ℕ, zero, suc, ◌+◌, ◌<◌, ◌||◌, List, [], ◌∷◌, ◌++◌, Bool, true, false, None, Some, Result, Ok, Err, length, map, drop, get_or, refl, sym, ap, ap₂, arith}
+use Rattle.std.proofs.Common.{◌≡◌, ◌∙◌, ℕ, zero, suc, ◌+◌, ◌<◌, ◌||◌, List, [], ◌∷◌, ◌++◌, Bool, false, None, Some, Result, Ok, Err, length, map, drop, get_or, refl, sym, ap, ap₂, arith}
 use Rattle.std.specs.Prelude.{◌==◌, ◌≢◌, if◌then◌else◌}
 use Rattle.std.specs.List.{AllByRecursion, list_any}
-use Rattle.std.proofs.lemmas.Bool.{eq-eqb, false≢true}
+use Rattle.std.proofs.lemmas.Bool.{eq-eqb, false≢true, or_parts}
 use Rattle.std.proofs.lemmas.List.{drop_more, map-append}
 use Rattle.std.proofs.lemmas.List.Quantifiers.{all_pairs_push}
 use Rattle.wrp_base.specs.declared.fault.TraceFault.{TraceFault}
@@ -13,10 +13,6 @@ use Rattle.wrp_trace.specs.EventFields.{before, behind}
 use Rattle.wrp_trace.specs.Swaps.{plain_swap, own_port, swap_at_port, swap_said, swaps_said}
 use Rattle.wrp_trace.proofs.ChangeLemmas.{field_here}
 use Rattle.wrp_world.specs.EventAt.{IsSwap, AreSwaps}
-
-neither : (a b : Bool) → (a || b) ≡ false → (a ≡ false) × (b ≡ false)
-neither false b e = (refl, e)
-neither true b e = cc e
 
 any_plain : (port : ℕ) (swaps : List Swap) → list_any (λ swap. swap.port == port) (map plain_swap swaps) ≡ list_any (λ swap. swap.port == port) swaps
 any_plain port [] = refl
@@ -59,8 +55,8 @@ goes fields at place swaps swap text below here is e =
 
 none_passes : {X : Type 0} (test : X → Bool) (xs : List X) → list_any test xs ≡ false → (k : ℕ) (d : X) → k < length xs → test (get_or xs k d) ≡ false
 none_passes test [] none k d below = absurd (omega arith)
-none_passes test (x ∷ xs) none zero d below = (neither (test x) (list_any test xs) none).0
-none_passes test (x ∷ xs) none (suc k) d below = none_passes test xs (neither (test x) (list_any test xs) none).1 k d (omega arith)
+none_passes test (x ∷ xs) none zero d below = (or_parts (test x) (list_any test xs) none).0
+none_passes test (x ∷ xs) none (suc k) d below = none_passes test xs (or_parts (test x) (list_any test xs) none).1 k d (omega arith)
 
 pub no_pass : {X : Type 0} (test : X → Bool) (xs : List X) → ((k : ℕ) (d : X) → k < length xs → test (get_or xs k d) ≡ false) → list_any test xs ≡ false
 no_pass test [] none = refl

@@ -9,7 +9,7 @@ use Rattle.wrp_caldb.specs.Name.{is_name}
 use Rattle.wrp_world.specs.declared.event.Swap.{Swap}
 use Rattle.wrp_trace.specs.EventFields.{before, behind}
 use Rattle.wrp_fields.specs.Numbers.{natural_in}
-use Rattle.wrp_fields.specs.Reading.{◌>>=◌, number_or_fault, name_or_fault}
+use Rattle.wrp_fields.specs.Reading.{number_or_fault, name_or_fault}
 
 -- a name, whose room past its end is no part of it
 abbrev pub plain_name : List ℕ → ArrayString

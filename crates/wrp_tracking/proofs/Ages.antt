@@ -6,6 +6,7 @@ use Rattle.wrp_base.specs.declared.link.Deltas.{Deltas}
 use Rattle.wrp_base.specs.declared.link.ServoState.{ServoState}
 use Rattle.wrp_base.specs.declared.link.ServoState.TheVariants.{Uninit, SyncTai, SyncNsec, SyncPhase, WaitStable, Track, Holdover}
 use Rattle.wrp_base.specs.declared.measurement.Four.{Four}
+use Rattle.wrp_base.proofs.Booleans.{and_second}
 use Rattle.wrp_servo.specs.declared.machine.Measurement.{Measurement}
 use Rattle.wrp_servo.specs.declared.machine.Core.{Core}
 use Rattle.wrp_servo.specs.Following.{restarted}
@@ -32,7 +33,7 @@ either false v w h k = k
 nothing : (v : Core) → v.kept ≡ None → Shows v
 nothing v none _ = let P : Option Measurement → Type 0 = λ o. too_old v.set.age v.ticks o ≡ false in subst P (sym none) refl
 
-ended_in-none : (v : Core) (s : ServoState) → (table.ended_in v s).kept ≡ None
+pub ended_in-none : (v : Core) (s : ServoState) → (table.ended_in v s).kept ≡ None
 ended_in-none v Uninit = refl
 ended_in-none v SyncTai = refl
 ended_in-none v SyncNsec = refl
@@ -156,10 +157,6 @@ young_next age ticks new (Some k) some rises young = not_older age ticks k.four.
 young_enough : (n age : ℕ) → nat_le n age ≡ true → nat_lt age n ≡ false
 young_enough n age h = grind (arith, nat_tests)
 
-and-right : (a b : Bool) → (a && b) ≡ true → b ≡ true
-and-right true b h = h
-and-right false b h = absurd cc
-
 by_period-shows : (v : Core) (k : Measurement) (est : ℤ) → Shows (measuring.by_period v k est)
 by_period-shows v k est = either (measuring.is_half v est) (measuring.aimed v k SyncPhase) (measuring.stepped v SyncNsec) (off (measuring.aimed v k SyncPhase) refl) (off (measuring.stepped v SyncNsec) refl)
 
@@ -167,8 +164,8 @@ aimed-shows : (v : Core) (k : Measurement) (b : Bool) → measuring.may_track v 
 aimed-shows v k true may is w h = λ _.
     let P : Option Measurement → Type 0 = λ o. too_old v.set.age v.ticks o ≡ false in
     let calm : (sampling.is_calm v && nat_le (v.ticks - k.four.tick) v.set.age) ≡ true =
-    and-right (sampling.is_within v.set.track_tau (sampling.residual v.phase k)) (sampling.is_calm v && nat_le (v.ticks - k.four.tick) v.set.age) may in
-    subst P (sym is) (young_enough (v.ticks - k.four.tick) v.set.age (and-right (sampling.is_calm v) (nat_le (v.ticks - k.four.tick) v.set.age) calm))
+    and_second (sampling.is_within v.set.track_tau (sampling.residual v.phase k)) (sampling.is_calm v && nat_le (v.ticks - k.four.tick) v.set.age) may in
+    subst P (sym is) (young_enough (v.ticks - k.four.tick) v.set.age (and_second (sampling.is_calm v) (nat_le (v.ticks - k.four.tick) v.set.age) calm))
 aimed-shows v k false may is w h = h
 
 settled-shows : (v : Core) (k : Measurement) (est : ℤ) → v.kept ≡ Some k → Shows (measuring.settled v k est)

@@ -14,6 +14,7 @@ use Rattle.wrp_tracking.specs.Chain.{Good, GoodTells, KeepsLimits, KeepsLimitsAb
 use Rattle.wrp_tracking.proofs.Histories.{no_steps, slow_between, was_one, was_before, each_since}
 use Rattle.wrp_tracking.proofs.Sides.{sync-side, delay-side, phase_moved}
 use Rattle.wrp_tracking.proofs.ChainPhases.{constant-kept, constant-starts}
+use Rattle.wrp_tracking.proofs.Trees.{span}
 
 goods_stay : (hop : HopNumbers) (now : Moment) (past : List Moment) (start : ℕ) (constant : ℤ) (goods : List Good) →
     AllByRecursion (GoodTells hop past start constant) goods → AllByRecursion (GoodTells hop (now ∷ past) start constant) goods
@@ -61,10 +62,6 @@ rates_between hop past from start i j x y limits a b since order =
     let own : MovesSlowly hop.own.rate (λ m. m.own) x y = moves_between hop.own.rate (λ m. m.own) past start i j x y limits.own a b since order in
     record { above = parent_between hop past from i j x y limits.above a b (omega (arith, limits.order)) order; own = own.limit }
 
--- a time at most g later
-pub span_within : (a b : ℤ) (g : ℕ) → a ≤ℤ b → b ≤ℤ (a +ℤ pos g) → unsigned_abs (b -ℤ a) ≤ g
-span_within a b g later near = omega (arith, ints)
-
 flight_within : (a b d : ℤ) (g : ℕ) → a ≤ℤ b → b ≡ a +ℤ d → d ≤ℤ pos g → unsigned_abs (b -ℤ a) ≤ g
 flight_within a b d g later flown short = omega (arith, ints)
 
@@ -90,7 +87,7 @@ latched hop past from start constant good at sample stamped limits tells latch w
     let rates : KeepsRates hop sample stamped (unsigned_abs (stamped.time -ℤ sample.time)) = rates_between hop past from start good.at at sample stamped limits latch.was was tells.since latch.order in
     record {
       since = rates;
-      near = span_within sample.time stamped.time hop.gap_time (time_between hop sample stamped (unsigned_abs (stamped.time -ℤ sample.time)) rates) latch.near;
+      near = span sample.time stamped.time hop.gap_time (time_between hop sample stamped (unsigned_abs (stamped.time -ℤ sample.time)) rates) latch.near;
       phase = good_at hop past start constant good sample tells latch.was;
     }
 
@@ -132,7 +129,7 @@ sample-keeps_chain hop now past from start constant newest earlier number tag ro
     let P : Moment → Type 0 = λ m. now.time ≤ℤ (m.time +ℤ pos hop.gap_time) in
     let soon : now.time ≤ℤ (x.time +ℤ pos hop.gap_time) = subst P same recent.near in
     let moved : IsWithin (gap_motion hop) (phase_at now) (phase_at x) =
-    phase_moved hop x now (unsigned_abs (now.time -ℤ x.time)) rates (span_within x.time now.time hop.gap_time (time_between hop x now (unsigned_abs (now.time -ℤ x.time)) rates) soon) in
+    phase_moved hop x now (unsigned_abs (now.time -ℤ x.time)) rates (span x.time now.time hop.gap_time (time_between hop x now (unsigned_abs (now.time -ℤ x.time)) rates) soon) in
     let keeps : KeepsConstant hop.clock (detector_error hop) constant (unwrapped_by hop.clock newest.u newest.tag tag) tag (phase_at now) =
     constant-kept hop.clock (detector_error hop) (gap_motion hop) constant newest.u (record { tag = newest.tag; phase = phase_at x }) (record { tag = tag; phase = phase_at now }) room holds.keeps (record { tag = heard; moved = moved }) in
     record {

@@ -3,7 +3,7 @@ use Rattle.std.proofs.Common.{◌≡◌, ℕ, ℤ, ◌+◌, ◌*◌, ◌<◌, �
 use Rattle.std.proofs.lemmas.Int.{ints}
 use Rattle.std.proofs.lemmas.List.{length-map}
 use Rattle.std.specs.Prelude.{unsigned_abs}
-use Rattle.wrp_tracking.specs.History.{Was, EachStep, EachOf, IsSlow}
+use Rattle.wrp_tracking.specs.History.{Was, EachStep, IsSlow}
 use Rattle.wrp_tracking.specs.Moment.{SlowBetween}
 
 -- two slow moves after another
@@ -41,10 +41,6 @@ slow_since t r q k x now [] (inr none) each = absurd none
 slow_since {A} t r q k x now (b ∷ ms) (inl is) each = let P : A → Type 0 = λ m. IsSlow t r q m now in subst P (sym is.1) (slow_refl t r q now)
 slow_since t r q k x now (b ∷ ms) (inr was) each =
     slow_trans t r q x b now (slow_since t r q k x b ms was each.1) (each.0 (was_before k x b ms was))
-
--- what was is still there when more come
-pub was_before_too : {A : Type 0} (k : ℕ) (x m : A) (ms : List A) → Was ms k x → Was (m ∷ ms) k x
-was_before_too k x m ms was = inr was
 
 -- one number is of one moment
 pub was_one : {A : Type 0} (k : ℕ) (x y : A) (ms : List A) → Was ms k x → Was ms k y → x ≡ y
@@ -87,14 +83,6 @@ pub no_steps : {A : Type 0} (P : A → A → Type 0) (k : ℕ) (ms : List A) →
 no_steps P k [] few = tt
 no_steps P k (m ∷ []) few = tt
 no_steps P k (m ∷ (b ∷ ms)) few = (λ h. absurd (omega arith), no_steps P k (b ∷ ms) (omega arith))
-
--- what holds of each moment and of each step gives a limit on each step
-pub each_step_of : {A : Type 0} (P : A → Type 0) (Q R : A → A → Type 0) (k : ℕ) (ms : List A) → ((a b : A) → Q a b → P a → P b → R a b) →
-    EachStep Q k ms → EachOf P k ms → EachStep R k ms
-each_step_of P Q R k [] makes steps each = tt
-each_step_of P Q R k (m ∷ []) makes steps each = tt
-each_step_of P Q R k (m ∷ (b ∷ ms)) makes steps each =
-    (λ h. makes b m (steps.0 h) (each.1.0 h) (each.0 (omega arith)), each_step_of P Q R k (b ∷ ms) makes steps.1 each.1)
 
 pub slow-between : SlowBetween
 slow-between rate i j quantity x y history a b order steps = slow_between (λ m. m.time) rate quantity i j x y history a b order steps

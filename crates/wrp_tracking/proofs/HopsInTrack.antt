@@ -15,7 +15,8 @@ use Rattle.wrp_tracking.specs.HopInTrack.{WaysTold, FourHolds, HopStands, Estima
 use Rattle.wrp_tracking.proofs.Histories.{was_before}
 use Rattle.wrp_tracking.proofs.Sums.{both_moved}
 use Rattle.wrp_tracking.proofs.ErrorSums.{estimate-near, hop-sum}
-use Rattle.wrp_tracking.proofs.Chains.{parent_between, rates_between, span_within, time_between, parent_time_between, good_at}
+use Rattle.wrp_tracking.proofs.Chains.{parent_between, rates_between, time_between, parent_time_between, good_at}
+use Rattle.wrp_tracking.proofs.Trees.{span}
 
 ways_apart : (d u d0 u0 : ℤ) (m : ℕ) → unsigned_abs ((d -ℤ d0) +ℤ (u -ℤ u0)) ≤ m → IsWithin m (d0 +ℤ u0) (d +ℤ u)
 ways_apart d u d0 u0 m moved = omega (arith, ints)
@@ -28,7 +29,7 @@ four_facts hop now past from start constant four limits holds =
     let rates : KeepsParentRate hop told.sent now (unsigned_abs (now.time -ℤ told.sent.time)) =
     parent_between hop (now ∷ past) from told.at (length past) told.sent now limits.above told.was (inl (refl, refl)) told.since aged in
     let near : unsigned_abs (now.time -ℤ told.sent.time) ≤ hop.age_time =
-    span_within told.sent.time now.time hop.age_time (parent_time_between hop told.sent now (unsigned_abs (now.time -ℤ told.sent.time)) rates) holds.young in
+    span told.sent.time now.time hop.age_time (parent_time_between hop told.sent now (unsigned_abs (now.time -ℤ told.sent.time)) rates) holds.young in
     let moved : unsigned_abs ((now.down -ℤ told.sent.down) +ℤ (now.up -ℤ told.sent.up)) ≤ age_motion hop =
     both_moved (now.down -ℤ told.sent.down) (now.up -ℤ told.sent.up) (unsigned_abs (now.time -ℤ told.sent.time)) hop.age_time rates.down rates.up near in
     record {
@@ -49,7 +50,7 @@ phase_facts hop now past from start constant newest limits tells recent =
       phase = good_at hop (now ∷ past) start constant newest recent.moment tells recent.was;
       wait = unsigned_abs (now.time -ℤ recent.moment.time);
       since = rates;
-      near = span_within recent.moment.time now.time hop.gap_time (time_between hop recent.moment now (unsigned_abs (now.time -ℤ recent.moment.time)) rates) recent.near;
+      near = span recent.moment.time now.time hop.gap_time (time_between hop recent.moment now (unsigned_abs (now.time -ℤ recent.moment.time)) rates) recent.near;
     }
 
 hop_facts : (hop : HopNumbers) (now : Moment) (past : List Moment) (deltas : Deltas) (four : Four) (y u : ℤ) → (stands : HopStands hop now past deltas four y u) → HopFacts hop stands.constant four deltas y u stands.recent.moment now

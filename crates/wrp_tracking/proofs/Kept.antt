@@ -13,6 +13,7 @@ use Rattle.wrp_servo.specs.Sampling as sampling
 use Rattle.wrp_servo.specs.Measuring as measuring
 use Rattle.wrp_servo.specs.Call.{Call, CallSample, CallMeasured, CallTick, CallLease, CallLink, CallCarrier, CallReset, Settings, after, run}
 use Rattle.wrp_tracking.specs.ServoGives.{WasMeasured, KeptIsMeasured}
+use Rattle.wrp_tracking.proofs.Ages.{ended_in-none}
 
 -- what stands of a measurement, or nothing
 abbrev Leaves : Option Measurement → Core → Type 0
@@ -21,15 +22,6 @@ Leaves o w = (w.kept ≡ None) ⊎ (w.kept ≡ o)
 either : (o : Option Measurement) (b : Bool) (v w : Core) → Leaves o v → Leaves o w → Leaves o (cond b v w)
 either o true v w h k = h
 either o false v w h k = k
-
-ended_in-none : (v : Core) (s : ServoState) → (table.ended_in v s).kept ≡ None
-ended_in-none v Uninit = refl
-ended_in-none v SyncTai = refl
-ended_in-none v SyncNsec = refl
-ended_in-none v SyncPhase = refl
-ended_in-none v WaitStable = refl
-ended_in-none v Track = refl
-ended_in-none v Holdover = refl
 
 ended-leaves : (o : Option Measurement) (v : Core) → Leaves o v → Leaves o (table.ended v)
 ended-leaves o v h = either o (is_some v.first) (table.ended_in v v.state) v (inl (ended_in-none v v.state)) h

@@ -1,27 +1,21 @@
 -- In TRACK a measurement stands, by which the loop's error and the residual are within their limits.
-use Rattle.std.proofs.Common.{◌≡◌, ℕ, ℤ, pos, ◌≤◌, sym, ap, subst, ◌∙◌, true, false, is_some, Option, Some, None, arith, refl}
-use Rattle.std.proofs.lemmas.Int.{ints}
-use Rattle.std.specs.Prelude.{◌≤ℤ◌, unsigned_abs}
+use Rattle.std.proofs.Common.{◌≡◌, ℕ, ℤ, pos, ◌≤◌, sym, ap, subst, ◌∙◌, true, false, is_some, Option, Some, None, refl}
+use Rattle.std.specs.Prelude.{unsigned_abs}
+use Rattle.wrp_base.proofs.Integers.{pos_le}
 use Rattle.wrp_servo.specs.declared.machine.Measurement.{Measurement}
 use Rattle.wrp_servo.specs.declared.machine.Core.{Core}
 use Rattle.wrp_servo.specs.Following.{e_tau}
 use Rattle.wrp_servo.specs.Sampling.{is_within, is_near, residual}
 use Rattle.wrp_servo.specs.Laws.{InTrack}
 use Rattle.wrp_bounds.specs.declared.numbers.HopNumbers.{HopNumbers}
+use Rattle.wrp_servo.proofs.Sized.{within_says}
 use Rattle.wrp_tracking.specs.ServoGives.{HasLimits, Tracks, TrackGives}
-
--- the size of x is at most a limit
-within_says : (limit x : ℤ) → is_within limit x ≡ true → pos (unsigned_abs x) ≤ℤ limit
-within_says limit x h = grind (arith, ints)
-
-at_most : (a b : ℕ) → pos a ≤ℤ pos b → a ≤ b
-at_most a b h = omega (arith, ints)
 
 -- a limit that the servo keeps is the hop's
 limit-is : (set : ℤ) (limit : ℕ) (x : ℤ) → set ≡ pos limit → is_within set x ≡ true → unsigned_abs x ≤ limit
 limit-is set limit x same within =
     let P : ℤ → Type 0 = λ l. is_within l x ≡ true in
-    at_most (unsigned_abs x) limit (within_says (pos limit) x (subst P same within))
+    pos_le (unsigned_abs x) limit (within_says (pos limit) x (subst P same within))
 
 tracks_by : (hop : HopNumbers) (v : Core) (o : Option Measurement) → v.kept ≡ o → HasLimits hop v.set → InTrack v → Tracks hop v
 tracks_by hop v None is limits stands =

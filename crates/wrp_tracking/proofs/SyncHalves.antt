@@ -4,6 +4,7 @@ use Rattle.std.proofs.lemmas.Grind.{common_steps}
 use Rattle.std.specs.Prelude.{true, false, Bool, Option, IfSome, ◌==◌}
 use Rattle.std.specs.List.{AllByRecursion}
 use Rattle.std.specs.Option.{is_some}
+use Rattle.std.proofs.lemmas.Bool.{eqb-true}
 use Rattle.wrp_exch.specs.declared.ring.GoodSample.{GoodSample}
 use Rattle.wrp_exch.specs.declared.sync.HeldSync.{HeldSync}
 use Rattle.wrp_exch.specs.Samples.{samples, phase_in, last_samples}
@@ -52,13 +53,10 @@ more-keep_sync hop constant may ring calls told same holds = record {
 pub others-keep_sync : OthersKeepSync
 others-keep_sync hop constant may ring calls number seq tick t4 t3 holds = grind (arith, common_steps)
 
-all_take : (P : GoodSample → Type 0) (n : ℕ) (xs : List GoodSample) → AllByRecursion P xs → AllByRecursion P (take n xs)
+pub all_take : (P : GoodSample → Type 0) (n : ℕ) (xs : List GoodSample) → AllByRecursion P xs → AllByRecursion P (take n xs)
 all_take P zero xs all = tt
 all_take P (suc n) [] all = tt
 all_take P (suc n) (x ∷ xs) all = (all.0, all_take P n xs all.1)
-
-at_number : (a b : ℕ) → (a == b) ≡ true → a ≡ b
-at_number a b e = grind (arith, common_steps)
 
 at_phase : (x : GoodSample) (xs : List GoodSample) (number : ℕ) (u : ℤ) → (x.number == number) ≡ true → phase_in (x ∷ xs) number ≡ Some u → x.phase ≡ u
 at_phase x xs number u e is = grind (arith, common_steps)
@@ -69,7 +67,7 @@ in_rest x xs number u e is = grind (arith, common_steps)
 found_by : (P : GoodSample → Type 0) (number : ℕ) (u : ℤ) (x : GoodSample) (xs : List GoodSample) → P x →
     (phase_in xs number ≡ Some u → (g : GoodSample) × P g × (g.number ≡ number) × (g.phase ≡ u)) →
     (t : Bool) → (x.number == number) ≡ t → phase_in (x ∷ xs) number ≡ Some u → (g : GoodSample) × P g × (g.number ≡ number) × (g.phase ≡ u)
-found_by P number u x xs holds rest true e is = (x, holds, at_number x.number number e, at_phase x xs number u e is)
+found_by P number u x xs holds rest true e is = (x, holds, eqb-true x.number number e, at_phase x xs number u e is)
 found_by P number u x xs holds rest false e is = rest (in_rest x xs number u e is)
 
 -- the sample that a number finds

@@ -2,6 +2,7 @@
 use Rattle.std.proofs.Common.{◌≡◌, ℕ, ℤ, pos, zero, suc, ◌+◌, ◌-◌, ◌*◌, ◌<◌, ◌≤◌, ◌+ℤ◌, ◌≤ℤ◌, List, [], ◌∷◌, subst, ◌∙◌, arith, inl, inr}
 use Rattle.std.proofs.lemmas.Int.{ints}
 use Rattle.std.proofs.Math.Nat.{mul-le-mul_right}
+use Rattle.wrp_base.proofs.Integers.{int_le_trans}
 use Rattle.wrp_tracking.specs.History.{Was, EachStep}
 use Rattle.wrp_tracking.specs.Ticks.{TickMoment, TimePasses, TickComes, TickStep, IsOnTime, TicksAtMost, TicksAtLeast, WithinTicks}
 use Rattle.wrp_tracking.proofs.Histories.{was_before}
@@ -82,15 +83,12 @@ ticks-at_most dmin dmax k x now past since =
     let (d, known) = between dmin dmax k x now past since.was since.steps since.on_time in
     (d, known.ticks, at_most x.time now.last now.time d dmax known.last known.near)
 
-pub z_trans : (a b c : ℤ) → a ≤ℤ b → b ≤ℤ c → a ≤ℤ c
-z_trans a b c p q = omega (arith, ints)
-
 pub ticks-at_least : TicksAtLeast
 ticks-at_least dmin dmax k d x now past since counted some =
     let (e, known) = between dmin dmax k x now past since.was since.steps since.on_time in
     let same : e ≡ d = omega (arith, known.ticks) in
     let P : ℕ → Type 0 = λ n. (x.time +ℤ pos ((n - 1) * dmin)) ≤ℤ now.last in
-    z_trans (x.time +ℤ pos ((d - 1) * dmin)) now.last now.time (subst P same (known.early (omega arith))) known.past
+    int_le_trans (x.time +ℤ pos ((d - 1) * dmin)) now.last now.time (subst P same (known.early (omega arith))) known.past
 
 longer : (x time : ℤ) (d g dmax : ℕ) → time ≤ℤ (x +ℤ pos ((d + 1) * dmax)) → (d + 1) * dmax ≤ (g + 1) * dmax → time ≤ℤ (x +ℤ pos ((g + 1) * dmax))
 longer x time d g dmax near more = omega (arith, ints)

@@ -7,10 +7,10 @@ use Rattle.wrp_base.specs.declared.configuration.NetCfg.{NetCfg}
 use Rattle.wrp_base.specs.declared.network.LinkCfg.{LinkCfg}
 use Rattle.wrp_base.specs.declared.link.ServoState.TheVariants.{Track}
 use Rattle.wrp_base.specs.Network.{IsTree, IsLink, HasDepth, link_above, node_count}
+use Rattle.wrp_base.proofs.Lists.{found_at}
 use Rattle.wrp_bounds.specs.Bounds.{hop_of, path_of, holdover_of}
 use Rattle.wrp_bounds.specs.Motion.{motion}
 use Rattle.wrp_bounds.proofs.PathLaws.{path-child}
-use Rattle.wrp_bounds.proofs.Placed.{found_at}
 use Rattle.wrp_bounds.proofs.Rounding.{rounded_up-next}
 use Rattle.wrp_tracking.specs.Closeness.{IsWithin}
 use Rattle.wrp_tracking.specs.Tree.{Offsets, HopsHold, TreeSum, HeldWithin}
@@ -57,7 +57,7 @@ held_by o p rate t g path r small slow near up =
     let more : rate * t ≤ rate * g = mul-le-mul_left rate near in
     omega (arith, ints)
 
-span : (a b : ℤ) (g : ℕ) → a ≤ℤ b → b ≤ℤ (a +ℤ pos g) → unsigned_abs (b -ℤ a) ≤ g
+pub span : (a b : ℤ) (g : ℕ) → a ≤ℤ b → b ≤ℤ (a +ℤ pos g) → unsigned_abs (b -ℤ a) ≤ g
 span a b g later near = omega (arith, ints)
 
 pub held-within : HeldWithin

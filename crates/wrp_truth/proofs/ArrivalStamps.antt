@@ -3,9 +3,9 @@ use Rattle.std.proofs.Common.{◌≡◌, ◌⊎◌, inl, inr, ◌∙◌, refl, a
 use Rattle.std.specs.List.{find}
 use Rattle.std.specs.Option.{option_map_or, option_or}
 use Rattle.std.specs.Prelude.{option_and_then, slice_get}
+use Rattle.std.proofs.lemmas.Option.{none-some, same_Some}
 use Rattle.wrp_base.specs.declared.link.Module.{Module}
 use Rattle.wrp_base.specs.declared.link.Role.{Role}
-use Rattle.wrp_base.specs.declared.link.Role.TheVariants.{Master, Slave}
 use Rattle.wrp_base.specs.declared.network.LinkCfg.{LinkCfg}
 use Rattle.wrp_base.specs.declared.network.NodeCfg.{NodeCfg}
 use Rattle.wrp_base.specs.declared.time.Clock.{Clock}
@@ -31,10 +31,10 @@ use Rattle.wrp_world.specs.Runs.{IsNetwork, IsRun}
 use Rattle.wrp_world.specs.SameHandshake.{CarriersAreTheLinks, CarriersWithTheirModules}
 use Rattle.wrp_world.specs.Setting.{Setting, end_at, end_of, entry_at, fixed_of, link_of, of_node, other_of, sends_nm}
 use Rattle.wrp_world.specs.WorldAt.{FrameAt, WorldAt, reading}
+use Rattle.wrp_world.proofs.RunHanded.{other_twice}
 use Rattle.wrp_world.proofs.RunGiven.{end_is}
 use Rattle.wrp_truth.specs.Leases.{IsCarried}
 use Rattle.wrp_truth.specs.Moments.{AtEach}
-use Rattle.wrp_truth.proofs.Basics.{none_some, some_is}
 use Rattle.wrp_truth.proofs.LinksAbove.{place_found}
 use Rattle.wrp_truth.proofs.Suffixes.{at_newest, run_before}
 
@@ -45,8 +45,8 @@ first_or (Some y) p x e = inl e
 first_or None p x e = inr e
 
 mapped : (o : Option Entry) (x : Module) → option_map (λ (e : Entry). e.delays) o ≡ Some x → (e : Entry) × (o ≡ Some e) × (e.delays ≡ x)
-mapped None x e = absurd (none_some x e)
-mapped (Some y) x e = (y, refl, some_is y.delays x e)
+mapped None x e = absurd (none-some x e)
+mapped (Some y) x e = (y, refl, same_Some y.delays x e)
 
 entry_ranges : (m : ModuleAt) (tx rx : ℕ) (x : Module) → IsSoundModule m → entry_in tx rx m.entries ≡ Some x → HasDelayRanges x
 entry_ranges m tx rx x sound e =
@@ -61,13 +61,13 @@ delays_ranges m tx rx x sound e = elim (first_or (entry_in tx rx m.entries) (ent
 ]
 
 in_module : (db : Database) (tx rx : ℕ) (x : Module) (name : List ℕ) (o : Option ModuleAt) → IsSoundDatabase db → find (λ m. same_name m.name name) db.modules ≡ o → option_and_then (λ m. delays_at m.entries tx rx) o ≡ Some x → HasDelayRanges x
-in_module db tx rx x name None sound there e = absurd (none_some x e)
+in_module db tx rx x name None sound there e = absurd (none-some x e)
 in_module db tx rx x name (Some m) sound there e =
     let at : _ = place_found (λ (z : ModuleAt). same_name z.name name) db.modules m there in
     delays_ranges m tx rx x (sound.modules at.0 m at.1) e
 
 in_link : (s : Setting) (r : Role) (name : List ℕ) (x : Module) (o : Option LinkCfg) → IsNetwork s → option_and_then (λ link. module_at s.db name (sends_nm r link) (sends_nm (other_of r) link)) o ≡ Some x → HasDelayRanges x
-in_link s r name x None net e = absurd (none_some x e)
+in_link s r name x None net e = absurd (none-some x e)
 in_link s r name x (Some link) net e = in_module s.db (sends_nm r link) (sends_nm (other_of r) link) x name (find (λ m. same_name m.name name) s.db.modules) net.accepted.database refl e
 
 small_rest : (t : ℕ) → t ≤ 16_383 → t % 16_384 ≡ t
@@ -117,16 +117,12 @@ pub record Arrived (s : Setting) (older : List Happened) (k : ℕ) (r : Role) (f
 abbrev KeepsAt : Setting → WorldAt → ℕ → ℕ → Raw → Role → ℕ → Type 0
 KeepsAt s w k l raw r n = KeepsStampBound s.cfg.clock raw (transition_of (in_place s w l r)) (of_node (λ node. node.e_tag) s n) (reading w n)
 
-twice_other : (r : Role) → other_of (other_of r) ≡ r
-twice_other Master = refl
-twice_other Slave = refl
-
 keeps_there : (s : Setting) (older : List Happened) (k : ℕ) (r : Role) (link : LinkCfg) (f : FrameAt) (raw : Raw) → link_of s k ≡ Some link → (it : Arrived s older k r f raw) → KeepsAt s (world_after s older) k k raw r (end_of r link).node
 keeps_there s older k r link f raw is it =
     let w : WorldAt = world_after s older in
-    let role : other_of f.by ≡ r = ap other_of it.by_is ∙ twice_other r in
+    let role : other_of f.by ≡ r = ap other_of it.by_is ∙ other_twice r in
     let end : it.end ≡ end_of r link =
-    some_is it.end (end_of r link) (sym it.end_is ∙ ap (λ l. end_at s l (other_of f.by)) it.link_is ∙ ap (end_at s k) role ∙ end_is s k r link is) in
+    same_Some it.end (end_of r link) (sym it.end_is ∙ ap (λ l. end_at s l (other_of f.by)) it.link_is ∙ ap (end_at s k) role ∙ end_is s k r link is) in
     subst (λ (n : End). KeepsAt s w k k raw r n.node) end
     (subst (λ q. KeepsAt s w k k raw q it.end.node) role
     (subst (λ l. KeepsAt s w k l raw (other_of f.by) it.end.node) it.link_is it.keeps))

@@ -1,12 +1,13 @@
 -- A report of TRACK is put out at a tick, by a node that is in TRACK after it.
-use Rattle.std.proofs.Common.{◌≡◌, ◌∙◌, refl, ap, sym, subst, ℕ, ◌%◌, ◌==◌, ◌&&◌, ℤ, unsigned_abs, Bool, true, false, if◌then◌else◌, List, [], ◌∷◌, ◌++◌, map, flat_map, Option, None, Some, Result}
+use Rattle.std.proofs.Common.{◌≡◌, ◌∙◌, refl, sym, subst, ℕ, ◌%◌, ◌==◌, ◌&&◌, ℤ, unsigned_abs, Bool, true, false, if◌then◌else◌, List, [], ◌∷◌, ◌++◌, map, flat_map, Option, None, Some, Result}
 use Rattle.std.specs.List.{AllByRecursion}
 use Rattle.wrp_base.specs.declared.link.LinkWord.{LinkWord}
 use Rattle.wrp_base.specs.declared.link.ServoState.{ServoState}
-use Rattle.wrp_base.specs.declared.link.ServoState.TheVariants.{Uninit, Track}
+use Rattle.wrp_base.specs.declared.link.ServoState.TheVariants.{Track}
 use Rattle.wrp_base.specs.declared.message.PtpMsg.{PtpMsg}
 use Rattle.wrp_base.specs.declared.network.LinkCfg.{LinkCfg}
 use Rattle.wrp_base.specs.Network.{link_above}
+use Rattle.wrp_base.proofs.Booleans.{and_first}
 use Rattle.wrp_bounds.specs.Bounds.{numbers_of}
 use Rattle.wrp_bounds.specs.declared.numbers.HopNumbers.{HopNumbers}
 use Rattle.wrp_frame.specs.declared.fault.FrameFault.{FrameFault}
@@ -37,7 +38,7 @@ use Rattle.wrp_truth.proofs.HeldCalls.{state_of_track}
 use Rattle.wrp_truth.proofs.HopsUp.{inside_below, top_state, track_up}
 use Rattle.wrp_truth.proofs.Inputs.{IsNoTick, IsNoTickOf, To, gives_to, no_tick_to}
 use Rattle.wrp_truth.proofs.Parents.{ticked_node}
-use Rattle.wrp_truth.proofs.TrackedHops.{has_hop}
+use Rattle.wrp_truth.proofs.TrackedHops.{has_hop, new_state}
 
 -- Outputs that are no report of TRACK
 
@@ -137,12 +138,9 @@ pub record ReportLaws : Type 0 where
   pub source : ChainHasSource
   pub chain : TrackHasChain
 
-not_track : Uninit ≡ Track → ⊥
-not_track e = let f : false ≡ true = ap is_track e in cc
-
 report_true : ReportLaws → (s : Setting) (events : List Happened) (n : ℕ) (above : Option LinkCfg) (est : ℤ) → TrueRun s events → link_above s.cfg n ≡ above → state_of (fixed_of s n) ((world_after s events).node n) ≡ Track →
     est_of (fixed_of s n) ((world_after s events).node n) ≡ Some est → IsTrueReport s (world_after s events) n est
-report_true laws s events n None est runs is e told = absurd (not_track (sym (top_state s runs.run.network (world_after s events) n is) ∙ e))
+report_true laws s events n None est runs is e told = absurd (new_state (sym (top_state s runs.run.network (world_after s events) n is) ∙ e))
 report_true laws s events n (Some link) est runs is e told =
     let net : IsNetwork s = runs.run.network in
     let hop : (hop : HopNumbers) × (numbers_of s.cfg n ≡ Some hop) = has_hop s net n link is in
@@ -158,10 +156,6 @@ report_true laws s events n (Some link) est runs is e told =
 
 -- A tick
 
-first_of : (a b : Bool) → (a && b) ≡ true → a ≡ true
-first_of true b e = refl
-first_of false b e = cc
-
 est_true : (s : Setting) (w : WorldAt) (n : ℕ) (b : Bool) (o : Option ℤ) → ((est : ℤ) → b ≡ true → o ≡ Some est → IsTrueReport s w n est) → AllTrue s w n (if b then est_out o else [])
 est_true s w n true None h = tt
 est_true s w n true (Some est) h = (h est refl refl, tt)
@@ -174,7 +168,7 @@ told_true laws s h before n runs =
     let in_track : Bool = is_track (state_of fixed (w.node n)) in
     let due : Bool = (w.node n).ticks % fixed.set.report == 0 in
     est_true s w n (in_track && due) (est_of fixed (w.node n))
-    (λ est b told. report_true laws s (h ∷ before) n (link_above s.cfg n) est runs refl (state_of_track (state_of fixed (w.node n)) (first_of in_track due b)) told)
+    (λ est b told. report_true laws s (h ∷ before) n (link_above s.cfg n) est runs refl (state_of_track (state_of fixed (w.node n)) (and_first in_track due b)) told)
 
 tick_true : ReportLaws → (s : Setting) (says : Result PtpMsg FrameFault) (y : ℤ) (before : List Happened) (m : ℕ) → TrueRun s (record { event = Tick m; says = says; answer = y } ∷ before) →
     AllByRecursion (IsTrueStep s (world_step s says y (world_after s before) (Tick m))) (event_steps s says y (world_after s before) (Tick m))

@@ -1,8 +1,8 @@
 -- A port whose lease was renewed, and not lost since, has its carrier.
 use Rattle.std.proofs.Common.{◌≡◌, ◌⊎◌, inl, inr, ◌∙◌, refl, ap, ℕ, ◌+◌, ◌==◌, Bool, true, false, if◌then◌else◌, List, [], ◌∷◌, Option, None, Some, option_map}
+use Rattle.std.proofs.lemmas.Option.{none-some}
 use Rattle.std.specs.Option.{is_none}
-use Rattle.wrp_base.specs.declared.link.LinkState.{LinkState}
-use Rattle.wrp_base.specs.declared.link.LinkState.TheVariants.{Idle}
+use Rattle.std.proofs.lemmas.Bool.{and_parts, false≢true}
 use Rattle.wrp_base.specs.declared.link.Role.{Role}
 use Rattle.wrp_base.specs.declared.link.Role.TheVariants.{Master, Slave}
 use Rattle.wrp_base.specs.declared.message.Body.{Body}
@@ -15,21 +15,17 @@ use Rattle.wrp_link.specs.declared.interface.LinkIn.{LinkIn}
 use Rattle.wrp_link.specs.declared.interface.LinkIn.TheVariants as link
 use Rattle.wrp_link.specs.LinkAt.{LinkAt, new_link}
 use Rattle.wrp_link.specs.Rows.{Row, NoRow, Stays, Moves, Keeps, Resends, Fails, Waits, Counts, CarrierComes, CarrierGoes, row_of}
-use Rattle.wrp_link.specs.Table.{by_row, counted}
+use Rattle.wrp_link.specs.Table.{by_row}
 use Rattle.wrp_link.proofs.Orders.{IsOrdered, new_ordered, run_ordered}
 use Rattle.wrp_port.specs.declared.interface.PortIn.{PortIn}
 use Rattle.wrp_port.specs.declared.interface.PortIn.TheVariants.{Msg, Lease, Tick, Sent, Sample, Chain, Carrier, Reset}
 use Rattle.wrp_port.specs.declared.setting.Setting.{Setting}
 use Rattle.wrp_port.specs.Hearing.{early_reason, is_open, is_addressed, is_port, link_input, renews}
 use Rattle.wrp_port.specs.History.{input_unless, link_by, link_inputs, link_of, renews_at, since_renewal, to_link, with_input, zero_where}
+use Rattle.wrp_world.proofs.RunLinks.{counted_carrier}
 use Rattle.wrp_truth.proofs.Resting.{open_has_carrier}
-use Rattle.wrp_truth.proofs.Basics.{none_some, not_true, both}
 
 -- Inputs of a link by which no carrier goes
-
-counted_carrier : (l : LinkAt) (s : LinkState) → (counted l s).carrier ≡ l.carrier
-counted_carrier l Idle = refl
-counted_carrier l _ = refl
 
 lit_row : (l : LinkAt) (input : LinkIn) (row : Row) → RowFits l.role l.state l input row → (input ≡ link.CarrierDown → ⊥) → l.carrier ≡ true → (by_row l row).carrier ≡ true
 lit_row l input NoRow f out e = e
@@ -57,10 +53,10 @@ lit_on set told (Some input) out e =
 
 heard_by : (domain source addressed takes : Bool) → is_none (if domain then (if source then (if addressed then (if takes then None else Some Quiet) else Some NotForUs) else Some Stranger) else Some Domain) ≡ true → (source ≡ true) × (takes ≡ true)
 heard_by true true true true e = (refl, refl)
-heard_by true true true false e = absurd (not_true e)
-heard_by true true false takes e = absurd (not_true e)
-heard_by true false addressed takes e = absurd (not_true e)
-heard_by false source addressed takes e = absurd (not_true e)
+heard_by true true true false e = absurd (false≢true e)
+heard_by true true false takes e = absurd (false≢true e)
+heard_by true false addressed takes e = absurd (false≢true e)
+heard_by false source addressed takes e = absurd (false≢true e)
 
 -- came from the peer of a port that takes messages, and is one by which a role's lease is renewed
 pub record Renews (set : Setting) (l : LinkAt) (m : PtpMsg) : Type 0 where
@@ -70,7 +66,7 @@ pub record Renews (set : Setting) (l : LinkAt) (m : PtpMsg) : Type 0 where
 
 pub renewing : (set : Setting) (l : LinkAt) (m : PtpMsg) → renews_at set l m ≡ true → Renews set l m
 renewing set l m e =
-    let it : (is_none (early_reason set l m) ≡ true) × (renews set.ds.role m.head m.body ≡ true) = both (is_none (early_reason set l m)) (renews set.ds.role m.head m.body) e in
+    let it : (is_none (early_reason set l m) ≡ true) × (renews set.ds.role m.head m.body ≡ true) = and_parts (is_none (early_reason set l m)) (renews set.ds.role m.head m.body) e in
     let heard : (is_port m.head.source set.ds.peer ≡ true) × (is_open l ≡ true) =
     heard_by (m.head.domain == set.own.domain) (is_port m.head.source set.ds.peer) (is_addressed set.ds m.body) (is_open l) it.0 in
     record { of_peer = heard.0; takes = heard.1; renews = it.1 }
@@ -88,17 +84,17 @@ no_loss set Master None (Signal target None) e = cc
 no_loss set Master None _ e = cc
 
 turned_some : (o : Option ℕ) (turns : ℕ) → option_map (λ n. n + 1) o ≡ Some turns → (u : ℕ) × (o ≡ Some u)
-turned_some None turns e = absurd (none_some turns e)
+turned_some None turns e = absurd (none-some turns e)
 turned_some (Some u) turns e = (u, refl)
 
-renewed_or_not : (b : Bool) (o : Option ℕ) (turns : ℕ) → zero_where b o ≡ Some turns → (b ≡ true) ⊎ (o ≡ Some turns)
+pub renewed_or_not : (b : Bool) (o : Option ℕ) (turns : ℕ) → zero_where b o ≡ Some turns → (b ≡ true) ⊎ (o ≡ Some turns)
 renewed_or_not true o turns e = inl refl
 renewed_or_not false o turns e = inr e
 
 pub renewed_has_carrier : (set : Setting) (told : List PortIn) (turns : ℕ) → since_renewal set told ≡ Some turns → (link_of set told).carrier ≡ true
-renewed_has_carrier set [] turns e = absurd (none_some turns e)
-renewed_has_carrier set (Reset ∷ told) turns e = absurd (none_some turns e)
-renewed_has_carrier set (Carrier false own_module ∷ told) turns e = absurd (none_some turns e)
+renewed_has_carrier set [] turns e = absurd (none-some turns e)
+renewed_has_carrier set (Reset ∷ told) turns e = absurd (none-some turns e)
+renewed_has_carrier set (Carrier false own_module ∷ told) turns e = absurd (none-some turns e)
 renewed_has_carrier set (Carrier true own_module ∷ told) turns e = refl
 renewed_has_carrier set (Lease ∷ told) turns e =
     let it : (u : ℕ) × (since_renewal set told ≡ Some u) = turned_some (since_renewal set told) turns e in

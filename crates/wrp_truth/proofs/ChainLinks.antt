@@ -1,5 +1,6 @@
 -- In a chain of a node's servo its slave's link is in WR_LINK_ON.
 use Rattle.std.proofs.Common.{◌≡◌, ◌∙◌, refl, ap, sym, subst, ℕ, Bool, true, false, if◌then◌else◌, is_some, List, [], ◌∷◌, Option, None, Some}
+use Rattle.std.proofs.lemmas.Bool.{false≢true}
 use Rattle.wrp_base.specs.declared.link.LinkState.{LinkState}
 use Rattle.wrp_base.specs.declared.link.LinkState.TheVariants.{Idle, Present, SLock, MLock, Locked, Calibration, Calibrated, RespCalib, LinkOn}
 use Rattle.wrp_base.specs.declared.link.LinkWord.TheVariants.{Down}
@@ -27,19 +28,18 @@ use Rattle.wrp_truth.proofs.ChainSources.{any_to, none_told, not_changed}
 use Rattle.wrp_truth.proofs.Inputs.{node_kept}
 use Rattle.wrp_truth.proofs.LinksAbove.{above_is}
 use Rattle.wrp_truth.proofs.Parents.{has_slave}
-use Rattle.wrp_truth.proofs.Basics.{not_true}
 
-settled_link : (fixed : Fixed) (n : NodeAt) → is_some (slave_of fixed.set) ≡ true → IsSettled fixed n → is_some (link_known n.calls) ≡ is_some (deltas_in fixed.set n)
+pub settled_link : (fixed : Fixed) (n : NodeAt) → is_some (slave_of fixed.set) ≡ true → IsSettled fixed n → is_some (link_known n.calls) ≡ is_some (deltas_in fixed.set n)
 settled_link fixed n servo h =
     not_changed (is_some (link_known n.calls)) (is_some (deltas_in fixed.set n))
     (none_told (is_some (slave_of fixed.set)) (is_changed (is_some (link_known n.calls)) (is_some (deltas_in fixed.set n))) (CallLink (deltas_in fixed.set n)) servo h.link)
 
-new_deltas : (role r : Role) (x : LinkSet) → port_deltas role (new_link r x) ≡ None
+pub new_deltas : (role r : Role) (x : LinkSet) → port_deltas role (new_link r x) ≡ None
 new_deltas Master r x = refl
 new_deltas Slave r x = refl
 
 -- the servo knows the deltas just where the port does
-knows_link : StepSettles → (s : Setting) (events : List Happened) (n p : ℕ) → slave_of (s.set n) ≡ Some p → is_some (link_known ((world_after s events).node n).calls) ≡ is_some (deltas_in (s.set n) ((world_after s events).node n))
+pub knows_link : StepSettles → (s : Setting) (events : List Happened) (n p : ℕ) → slave_of (s.set n) ≡ Some p → is_some (link_known ((world_after s events).node n).calls) ≡ is_some (deltas_in (s.set n) ((world_after s events).node n))
 knows_link settles s [] n p slave =
     sym (ap (λ (o : Option ℕ). is_some (deltas_at (s.set n) new_node o)) slave ∙ ap is_some (new_deltas (port_of (s.set n) p).role (setting_of (s.set n) p).ds.role (setting_of (s.set n) p).link))
 knows_link settles s (h ∷ before) n p slave =
@@ -49,20 +49,20 @@ knows_link settles s (h ∷ before) n p slave =
 
 on_state : (role : Role) (l : LinkAt) (state : LinkState) → is_some (port_deltas_in role state l) ≡ true → state ≡ LinkOn
 on_state Slave l LinkOn h = refl
-on_state Slave l Idle h = absurd (not_true h)
-on_state Slave l Present h = absurd (not_true h)
-on_state Slave l SLock h = absurd (not_true h)
-on_state Slave l MLock h = absurd (not_true h)
-on_state Slave l Locked h = absurd (not_true h)
-on_state Slave l Calibration h = absurd (not_true h)
-on_state Slave l Calibrated h = absurd (not_true h)
-on_state Slave l RespCalib h = absurd (not_true h)
-on_state Master l state h = absurd (not_true h)
+on_state Slave l Idle h = absurd (false≢true h)
+on_state Slave l Present h = absurd (false≢true h)
+on_state Slave l SLock h = absurd (false≢true h)
+on_state Slave l MLock h = absurd (false≢true h)
+on_state Slave l Locked h = absurd (false≢true h)
+on_state Slave l Calibration h = absurd (false≢true h)
+on_state Slave l Calibrated h = absurd (false≢true h)
+on_state Slave l RespCalib h = absurd (false≢true h)
+on_state Master l state h = absurd (false≢true h)
 
 -- such a link is open where it has its carrier
 pub on_open : (l : LinkAt) (c : Bool) → l.carrier ≡ c → c ≡ true → l.state ≡ LinkOn → is_open l ≡ true
 on_open l true lit e on = subst (λ b. is_open_word (if b then word_in l.state l.quiet else Down) ≡ true) (sym lit) (subst (λ t. is_open_word (word_in t l.quiet) ≡ true) (sym on) refl)
-on_open l false lit e on = absurd (not_true e)
+on_open l false lit e on = absurd (false≢true e)
 
 pub chain_on : StepSettles → ChainHasSignals → (s : Setting) (events : List Happened) (k : ℕ) (link : LinkCfg) → IsNetwork s → link_of s k ≡ Some link → HasChain s link.lower events →
     (link_at (s.set link.lower) ((world_after s events).node link.lower) link.lower_port).state ≡ LinkOn

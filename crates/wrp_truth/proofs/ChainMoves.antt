@@ -2,6 +2,7 @@
 use Rattle.std.proofs.Common.{◌≡◌, ◌∙◌, refl, ap, sym, subst, ℕ, suc, ◌≤◌, max, ℤ, true, if◌then◌else◌, is_some, List, [], ◌∷◌, ◌++◌, length, Some, arith}
 use Rattle.wrp_base.specs.declared.network.LinkCfg.{LinkCfg}
 use Rattle.wrp_base.specs.Network.{link_above}
+use Rattle.wrp_base.proofs.Lists.{append_assoc}
 use Rattle.wrp_bounds.specs.Bounds.{numbers_of}
 use Rattle.wrp_bounds.specs.declared.numbers.HopNumbers.{HopNumbers}
 use Rattle.wrp_node.specs.NodeAt.{NodeAt, servo_at}
@@ -24,7 +25,7 @@ use Rattle.wrp_truth.proofs.LinksAbove.{above_is}
 use Rattle.wrp_truth.proofs.Moving.{RateLaws, chain_rate, clock_slow, source_moves_slowly, ways_move_slowly}
 use Rattle.wrp_truth.proofs.NodeSteps.{still_in_chain}
 use Rattle.wrp_truth.proofs.Slow.{Slow, as_slow}
-use Rattle.wrp_truth.proofs.Suffixes.{appended, at_newest, at_rest, older_run, run_before}
+use Rattle.wrp_truth.proofs.Suffixes.{at_newest, at_rest, older_run, run_before}
 
 -- the laws that this stands on
 pub record MoveLaws : Type 0 where
@@ -94,7 +95,7 @@ pub record HasNewest (s : Setting) (k : ℕ) (link : LinkCfg) (events : List Hap
   pub is : moments_of s k link events ≡ moment_at k link (world_after s events) ∷ past
   pub length_is : length past ≡ length events
 
-one_longer : (a b : ℕ) → a ≡ b → suc a ≡ suc b
+pub one_longer : (a b : ℕ) → a ≡ b → suc a ≡ suc b
 one_longer a b e = ap suc e
 
 pub newest_moment : (s : Setting) (k : ℕ) (link : LinkCfg) (events : List Happened) → HasNewest s k link events
@@ -137,7 +138,7 @@ pub limits_above : MoveLaws → (s : Setting) (k : ℕ) (link : LinkCfg) (hop : 
 limits_above laws s k link hop newer older run is numbers source carried =
     let at : (h : Happened) (a b : List Happened) → newer ≡ a ++ (h ∷ b) → IsRun s (h ∷ (b ++ older)) × (HasSource s link (b ++ older) × IsCarried s k (b ++ older)) =
     λ h a b e. (
-      older_run s a (h ∷ (b ++ older)) (subst (IsRun s) (ap (λ l. l ++ older) e ∙ appended a (h ∷ b) older) run),
+      older_run s a (h ∷ (b ++ older)) (subst (IsRun s) (ap (λ l. l ++ older) e ∙ append_assoc a (h ∷ b) older) run),
       (
         at_newest (HasSource s link) b older (at_rest (HasSource s link) a (h ∷ b) older (subst (λ l. AtEach (HasSource s link) l older) e source)).1,
         at_newest (IsCarried s k) b older (at_rest (IsCarried s k) a (h ∷ b) older (subst (λ l. AtEach (IsCarried s k) l older) e carried)).1,

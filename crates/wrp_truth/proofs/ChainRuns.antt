@@ -1,18 +1,18 @@
 -- A chain of a run has a constant.
-use Rattle.std.proofs.Common.{◌≡◌, inl, inr, ◌∙◌, refl, ap, ap₂, sym, subst, ℕ, zero, suc, ◌+◌, ◌*◌, ◌^◌, ◌<◌, ◌≤◌, ◌==◌, cond, ℤ, pos, ◌+ℤ◌, ◌-ℤ◌, ◌≤ℤ◌, unsigned_abs, not, Bool, true, false, if◌then◌else◌, is_some, List, [], ◌∷◌, ◌++◌, length, map, Option, None, Some, option_map, option_to_list, Result, arith}
-use Rattle.std.proofs.lemmas.Bool.{eqb-true}
+use Rattle.std.proofs.Common.{◌≡◌, inl, inr, ◌∙◌, refl, ap, ap₂, sym, subst, ℕ, suc, ◌+◌, ◌*◌, ◌^◌, ◌<◌, ◌≤◌, ◌==◌, cond, ℤ, pos, ◌+ℤ◌, ◌-ℤ◌, ◌≤ℤ◌, unsigned_abs, not, Bool, true, false, if◌then◌else◌, is_some, List, [], ◌∷◌, ◌++◌, length, map, Option, None, Some, option_map, option_to_list, Result, arith}
+use Rattle.std.proofs.lemmas.Bool.{eqb-true, both_ways, false≢true, not-false}
 use Rattle.std.proofs.lemmas.Bool.Decides.{eqb_tells}
 use Rattle.std.proofs.lemmas.Int.{ints}
-use Rattle.std.proofs.lemmas.Option.{slice_get_within}
+use Rattle.std.proofs.lemmas.Option.{same_Some}
 use Rattle.std.proofs.Math.Nat.{mul-le-mul_right}
-use Rattle.std.specs.List.{position, prefix_len}
 use Rattle.std.specs.Option.{option_map_or}
-use Rattle.std.specs.Prelude.{nat_lt, slice_get}
 use Rattle.wrp_base.specs.declared.link.Role.TheVariants.{Master}
 use Rattle.wrp_base.specs.declared.message.PtpMsg.{PtpMsg}
 use Rattle.wrp_base.specs.declared.network.LinkCfg.{LinkCfg}
 use Rattle.wrp_base.specs.Circle.{distance_round}
+use Rattle.wrp_base.proofs.Naturals.{eq_self}
 use Rattle.wrp_base.specs.Clock.{period_of, step_of as tag_step}
+use Rattle.wrp_base.proofs.Lists.{first_is}
 use Rattle.wrp_bounds.specs.declared.numbers.HopNumbers.{HopNumbers}
 use Rattle.wrp_bounds.specs.Bounds.{numbers_of}
 use Rattle.wrp_bounds.specs.Hop.{detector_error as hop_error, gap_motion}
@@ -38,8 +38,11 @@ use Rattle.wrp_tracking.specs.Moment.{Moment, phase_at}
 use Rattle.wrp_tracking.proofs.Histories.{was_one}
 use Rattle.wrp_world.specs.declared.event.Event.{Event}
 use Rattle.wrp_world.specs.declared.event.Event.TheVariants.{Pass, Tick, Sample, Depart, Arrive, Deliver, Noise, Down, Up, Cut, Join}
+use Rattle.wrp_truth.proofs.SyncSamples.{good_where, no_good_of}
 use Rattle.wrp_world.specs.Checks.{AllHold, Holds, only_where, stands}
+use Rattle.wrp_truth.proofs.NodeSteps.{Stands}
 use Rattle.wrp_world.specs.EventAt.{FitsEvent}
+use Rattle.wrp_truth.proofs.HeldRuns.{one_turn}
 use Rattle.wrp_world.specs.Given.{Given, given_plain, step_of, taken_of, world_step}
 use Rattle.wrp_world.specs.Laws.{SampleKeepsBeatPattern}
 use Rattle.wrp_world.specs.Moved.{moved}
@@ -48,26 +51,24 @@ use Rattle.wrp_world.specs.Run.{Happened, world_after}
 use Rattle.wrp_world.specs.Runs.{IsNetwork, IsRun}
 use Rattle.wrp_world.specs.Setting.{Setting, above, fixed_of, link_of, of_node}
 use Rattle.wrp_world.specs.WorldAt.{WorldAt, delay_from, has_carrier, phase_of}
-use Rattle.wrp_world.proofs.RunPorts.{self_equal}
-use Rattle.wrp_world.proofs.RunTimes.{all_right, comes_up_down}
+use Rattle.wrp_world.proofs.RunTimes.{all_right, comes_up_down, not_up}
 use Rattle.wrp_truth.specs.Chains.{AllFit, ChainHasConstant, good_in, goods_since, phase_in}
 use Rattle.wrp_truth.specs.Leases.{FollowsSource, IsCarried}
 use Rattle.wrp_truth.specs.Moments.{AtEach}
 use Rattle.wrp_truth.specs.Rates.{HasChain}
 use Rattle.wrp_truth.specs.Views.{moment_at, moments_of}
-use Rattle.wrp_truth.proofs.Basics.{not_true, some_is}
 use Rattle.wrp_truth.proofs.ChainMoves.{HasNewest, MoveLaws, chain_passes_slowly, limits_above, newest_moment}
 use Rattle.wrp_truth.proofs.ChainSources.{chain_has_source}
 use Rattle.wrp_truth.proofs.HopNumbers.{HopHas, hop_has}
 use Rattle.wrp_truth.proofs.Inputs.{GivesTo, node_kept}
 use Rattle.wrp_truth.proofs.LeaseSources.{both_nodes, same_last}
 use Rattle.wrp_truth.proofs.LinksAbove.{above_is}
-use Rattle.wrp_truth.proofs.LiveChains.{IsIdleInput, IsNoSampleInput, SinceGood, Stands, TagsAre, chain_live, heard_deglitched, input_since, input_tags, sample_since, sample_stood, sample_tags, tick_since, unheard_first}
+use Rattle.wrp_truth.proofs.LiveChains.{IsIdleInput, IsNoSampleInput, SinceGood, TagsAre, chain_live, heard_deglitched, input_since, input_tags, sample_since, sample_stood, sample_tags, tick_since, unheard_first}
 use Rattle.wrp_truth.proofs.Moving.{ways_stay}
 use Rattle.wrp_truth.proofs.NodeRuns.{node_is}
 use Rattle.wrp_truth.proofs.Offsets.{plain_off, same_off}
 use Rattle.wrp_truth.proofs.OnTime.{on_time, ticked_past}
-use Rattle.wrp_truth.proofs.Parents.{IsCalmOf, has_servo, not_up, ticked_node}
+use Rattle.wrp_truth.proofs.Parents.{IsCalmOf, has_servo, ticked_node}
 use Rattle.wrp_truth.proofs.SampleEvents.{IsNoSampleOf, no_sample_to, stood_before}
 use Rattle.wrp_truth.proofs.Suffixes.{at_newest, run_before, rest_length}
 
@@ -150,8 +151,8 @@ sampled_node : (s : Setting) (says : Result PtpMsg FrameFault) (y : ℤ) (w : Wo
 sampled_node s says y w n m base bits same =
     let v : WorldAt = moved s w (Sample m base bits) in
     let g : Given = given_plain m (SampleInput (v.clock m).samples base bits) in
-    let here : (n == m) ≡ true = ap (λ i. i == m) same ∙ self_equal m in
-    let number : (v.clock m).samples ≡ (w.clock m).samples + 1 = ap (λ b. (if b then record (w.clock m) { samples = (w.clock m).samples + 1 } else w.clock m).samples) (self_equal m) in
+    let here : (n == m) ≡ true = ap (λ i. i == m) same ∙ eq_self m in
+    let number : (v.clock m).samples ≡ (w.clock m).samples + 1 = ap (λ b. (if b then record (w.clock m) { samples = (w.clock m).samples + 1 } else w.clock m).samples) (eq_self m) in
     ap (λ b. if b then (step_of s y v g).node else w.node n) here
     ∙ ap (λ k. (node_step (fixed_of s m) (taken_of y (given_plain m (SampleInput k base bits))) (w.node m)).node) number
     ∙ ap (λ i. (node_step (fixed_of s i) (taken_of y (given_plain i (SampleInput ((w.clock i).samples + 1) base bits))) (w.node i)).node) (sym same)
@@ -161,12 +162,12 @@ abbrev heard_in : Setting → List Happened → ℕ → ℕ → ℕ → Option �
 heard_in s before n base bits = heard_tag (set_at s n) (calls_at s before n) (((world_after s before).clock n).samples + 1) base bits
 
 not_far : (b : Bool) (l : List ℕ) → is_empty (cond b [] l) ≡ false → cond b [] l ≡ l
-not_far true l e = absurd (not_true (sym e))
+not_far true l e = absurd (false≢true (sym e))
 not_far false l e = refl
 
 more_tags : (x : Settings) (ts : List ℕ) (o : Option ℕ) (tag : ℕ) → o ≡ Some tag → is_empty (with_more x ts o) ≡ false → with_more x ts o ≡ tag ∷ ts
 more_tags x ts None tag e h = cc
-more_tags x ts (Some t) tag e h = not_far (is_far (unwrapped x.set.clock (t ∷ ts))) (t ∷ ts) h ∙ ap (λ z. z ∷ ts) (some_is t tag e)
+more_tags x ts (Some t) tag e h = not_far (is_far (unwrapped x.set.clock (t ∷ ts))) (t ∷ ts) h ∙ ap (λ z. z ∷ ts) (same_Some t tag e)
 
 -- the laws on it, of the event that brought it
 record Sampled (s : Setting) (h : Happened) (before : List Happened) (n base bits : ℕ) : Type 0 where
@@ -191,38 +192,9 @@ sampled law s says y before n m base bits same servo =
 
 -- The tag of a good sample tells the true phase
 
-one_less : (j k : ℕ) → suc j ≡ suc k → j ≡ k
-one_less j k e = omega (arith, e)
-
-holds : (b : Bool) → not b ≡ false → b ≡ true
-holds true e = refl
-holds false e = absurd (not_true (sym e))
-
-next_place : (a b : ℕ) → a ≡ b → 1 + a ≡ suc b
-next_place a b e = omega (arith, e)
-
-prefix_here : {A : Type 0} (test : A → Bool) (x y : A) (xs : List A) (k : ℕ) (b : Bool) → test y ≡ b → slice_get (y ∷ xs) k ≡ Some x → test x ≡ true → ((j : ℕ) (z : A) → slice_get (y ∷ xs) j ≡ Some z → test z ≡ true → j ≡ k) →
-    ((l : ℕ) → slice_get xs l ≡ Some x → ((j : ℕ) (z : A) → slice_get xs j ≡ Some z → test z ≡ true → j ≡ l) → prefix_len (λ z. not (test z)) xs ≡ l) → prefix_len (λ z. not (test z)) (y ∷ xs) ≡ k
-prefix_here test x y xs k true e at passes one rest = rw e (one 0 y refl e)
-prefix_here test x y xs zero false e at passes one rest = absurd (not_true (sym (sym (ap test (some_is y x at)) ∙ e) ∙ passes))
-prefix_here test x y xs (suc k) false e at passes one rest =
-    rw e (next_place (prefix_len (λ z. not (test z)) xs) k (rest k at (λ j z there ok. one_less j k (one (suc j) z there ok))))
-
--- all before the only one that passes fail
-prefix_is : {A : Type 0} (test : A → Bool) (xs : List A) (k : ℕ) (x : A) → slice_get xs k ≡ Some x → test x ≡ true → ((j : ℕ) (z : A) → slice_get xs j ≡ Some z → test z ≡ true → j ≡ k) → prefix_len (λ z. not (test z)) xs ≡ k
-prefix_is test [] k x at passes one = cc
-prefix_is test (y ∷ xs) k x at passes one = prefix_here test x y xs k (test y) refl at passes one (λ l there only. prefix_is test xs l x there passes only)
-
-less_is : (a b : ℕ) → a < b → nat_lt a b ≡ true
-less_is a b l = grind (arith, l)
-
-position_is : {A : Type 0} (test : A → Bool) (xs : List A) (k : ℕ) (x : A) → slice_get xs k ≡ Some x → test x ≡ true → ((j : ℕ) (z : A) → slice_get xs j ≡ Some z → test z ≡ true → j ≡ k) → position test xs ≡ Some k
-position_is test xs k x at passes one =
-    ap (λ m. cond (nat_lt m (length xs)) (Some m) None) (prefix_is test xs k x at passes one) ∙ ap (λ b. cond b (Some k) None) (less_is k (length xs) (slice_get_within xs k x at))
-
 above_number : (s : Setting) → IsNetwork s → (k : ℕ) (link : LinkCfg) → link_of s k ≡ Some link → above s link.lower ≡ Some k
 above_number s net k link is =
-    position_is (λ (l : LinkCfg). l.lower == link.lower) s.cfg.links.items k link is (self_equal link.lower)
+    first_is (λ (l : LinkCfg). l.lower == link.lower) s.cfg.links.items k link is (eq_self link.lower)
     (λ j z there ok. net.accepted.tree.one_parent j k z link there is (eqb-true z.lower link.lower ok))
 
 base_fits : (base : ℕ) → base ≤ 16_383 → base < 16_384
@@ -242,7 +214,7 @@ same_phase laws s says y before m base bits k link run carried =
 carried_by : (s : Setting) (w : WorldAt) (says : Result PtpMsg FrameFault) (m base bits k : ℕ) → above s m ≡ Some k → Accepts s w says (Sample m base bits) → has_carrier s w k ≡ true
 carried_by s w says m base bits k at a =
     let h : AllHold (sample_checks s w m base bits (Some k)) = subst (λ o. AllHold (sample_checks s w m base bits o)) at a in
-    holds (has_carrier s w k) (all_right Holds (map (only_where (has_carrier s w k)) (option_map_or (beat_checks s w m base bits k) (link_of s k) [])) (stands (has_carrier s w k) ∷ []) h).0
+    not-false (has_carrier s w k) (all_right Holds (map (only_where (has_carrier s w k)) (option_map_or (beat_checks s w m base bits k) (link_of s k) [])) (stands (has_carrier s w k) ∷ []) h).0
 
 tag_tells : ChainRunLaws → (s : Setting) (says : Result PtpMsg FrameFault) (y : ℤ) (before : List Happened) (m base bits k tag : ℕ) (link : LinkCfg) (hop : HopNumbers) → IsRun s (record { event = Sample m base bits; says = says; answer = y } ∷ before) → bits < 2 ^ 64 →
     link_of s k ≡ Some link → numbers_of s.cfg link.lower ≡ Some hop → link.lower ≡ m → heard_in s before link.lower base bits ≡ Some tag → TagTells hop tag (moment_at k link (world_step s says y (world_after s before) (Sample m base bits)))
@@ -275,11 +247,11 @@ record Held (s : Setting) (events : List Happened) (k : ℕ) (link : LinkCfg) (h
   newest : Good
   earlier : List Good
   goods : newest ∷ earlier ≡ goods_since s link.lower newer (start ∷ before)
-  holds : ChainHolds hop (moments_of s k link events) (length follows.older) (length (start ∷ before)) constant newest earlier
+  not-false : ChainHolds hop (moments_of s k link events) (length follows.older) (length (start ∷ before)) constant newest earlier
   rest : List ℕ
   tags_are : tags_at s events link.lower ≡ newest.tag ∷ rest
   u : newest.u ≡ unwrapped s.cfg.clock (newest.tag ∷ rest)
-  late : ((world_after s events).clock link.lower).ticked ≤ℤ (holds.moment.time +ℤ pos (since_at s events link.lower * longest_tick s.cfg))
+  late : ((world_after s events).clock link.lower).ticked ≤ℤ (not-false.moment.time +ℤ pos (since_at s events link.lower * longest_tick s.cfg))
 
 -- the newest sample is no longer ago than the gap
 in_gap : (now last at : ℤ) (ticks gap dmax : ℕ) → ticks ≤ gap → now ≤ℤ (last +ℤ pos dmax) → last ≤ℤ (at +ℤ pos (ticks * dmax)) → now ≤ℤ (at +ℤ pos ((gap + 1) * dmax))
@@ -312,21 +284,21 @@ recent_by laws s events k link hop run is numbers chain c =
 kept_holds : ChainRunLaws → (s : Setting) (h : Happened) (before : List Happened) (k : ℕ) (link : LinkCfg) (hop : HopNumbers) → IsRun s (h ∷ before) → link_of s k ≡ Some link → numbers_of s.cfg link.lower ≡ Some hop → HasChain s link.lower before →
     HasChain s link.lower (h ∷ before) → (from start : ℕ) (constant : ℤ) (newest : Good) (earlier : List Good) → ChainHolds hop (moments_of s k link before) from start constant newest earlier →
     ChainHolds hop (moments_of s k link (h ∷ before)) from start constant newest earlier
-kept_holds laws s h before k link hop run is numbers chain later from start constant newest earlier holds =
+kept_holds laws s h before k link hop run is numbers chain later from start constant newest earlier not-false =
     let it : HasNewest s k link before = newest_moment s k link before in
     let now : Moment = moment_at k link (world_after s (h ∷ before)) in
     subst (λ ms. ChainHolds hop (now ∷ ms) from start constant newest earlier) (sym it.is)
     (laws.moment hop now (moment_at k link (world_after s before)) it.past from start constant newest earlier (chain_passes_slowly laws.moves s h before k link hop run is numbers chain later)
-    (subst (λ ms. ChainHolds hop ms from start constant newest earlier) it.is holds))
+    (subst (λ ms. ChainHolds hop ms from start constant newest earlier) it.is not-false))
 
 -- an event without a good sample
 no_good : ChainRunLaws → (s : Setting) (h : Happened) (before : List Happened) (k : ℕ) (link : LinkCfg) (hop : HopNumbers) → IsRun s (h ∷ before) → link_of s k ≡ Some link → numbers_of s.cfg link.lower ≡ Some hop → HasChain s link.lower before →
     HasChain s link.lower (h ∷ before) → good_in s link.lower h before h.event ≡ None → tags_at s (h ∷ before) link.lower ≡ tags_at s before link.lower → (c : Held s before k link hop) →
     ((world_after s (h ∷ before)).clock link.lower).ticked ≤ℤ (c.holds.moment.time +ℤ pos (since_at s (h ∷ before) link.lower * longest_tick s.cfg)) → Held s (h ∷ before) k link hop
 no_good laws s h before k link hop run is numbers chain later none same c late =
-    let holds : ChainHolds hop (moments_of s k link (h ∷ before)) (length c.follows.older) (length (c.start ∷ c.before)) c.constant c.newest c.earlier =
+    let not-false : ChainHolds hop (moments_of s k link (h ∷ before)) (length c.follows.older) (length (c.start ∷ c.before)) c.constant c.newest c.earlier =
     kept_holds laws s h before k link hop run is numbers chain later (length c.follows.older) (length (c.start ∷ c.before)) c.constant c.newest c.earlier c.holds in
-    let moment : c.holds.moment ≡ holds.moment = was_one c.newest.at c.holds.moment holds.moment (moments_of s k link (h ∷ before)) (inr c.holds.was) holds.was in
+    let moment : c.holds.moment ≡ not-false.moment = was_one c.newest.at c.holds.moment not-false.moment (moments_of s k link (h ∷ before)) (inr c.holds.was) not-false.was in
     record {
       newer = h ∷ c.newer;
       start = c.start;
@@ -339,7 +311,7 @@ no_good laws s h before k link hop run is numbers chain later none same c late =
       newest = c.newest;
       earlier = c.earlier;
       goods = c.goods ∙ sym (ap (λ o. option_to_list o ++ goods_since s link.lower c.newer (c.start ∷ c.before)) (subst (λ l. good_in s link.lower h l h.event ≡ None) c.splits none));
-      holds = holds;
+      not-false = not-false;
       rest = c.rest;
       tags_are = same ∙ c.tags_are;
       u = c.u;
@@ -378,7 +350,7 @@ one_good laws s h before k link hop tag run is numbers chain later tells time to
     let room : HasPhaseRoom hop.clock (hop_error hop) (gap_motion hop) =
     subst (λ z. 2 * gap_motion hop + 4 * hop_error hop < period_of z) (sym has.clock) (run.network.accepted.inequalities.phase_room n hop (run.network.accepted.tree.ends k link is).1 numbers) in
     let newest : Good = good_now number tag (unwrapped_by hop.clock c.newest.u c.newest.tag tag) past in
-    let holds : ChainHolds hop (now ∷ past) from begun c.constant newest (c.newest ∷ c.earlier) =
+    let not-false : ChainHolds hop (now ∷ past) from begun c.constant newest (c.newest ∷ c.earlier) =
     laws.sample hop now past from begun c.constant c.newest c.earlier number tag room held (record { moment = held.moment; was = held.was; near = near }) tells in
     let tags_now : tags_at s (h ∷ before) n ≡ tag ∷ (c.newest.tag ∷ c.rest) = more ∙ ap (λ l. tag ∷ l) c.tags_are in
     let u_now : newest.u ≡ unwrapped s.cfg.clock (tag ∷ (c.newest.tag ∷ c.rest)) =
@@ -387,7 +359,7 @@ one_good laws s h before k link hop tag run is numbers chain later tells time to
     let same : newest ≡ record { number = number; tag = tag; u = phase_in s (world_after s (h ∷ before)) n; at = length before + 1 } =
     good_same newest (record { number = number; tag = tag; u = phase_in s (world_after s (h ∷ before)) n; at = length before + 1 }) refl refl
     (u_now ∙ sym (ap (unwrapped s.cfg.clock) tags_now) ∙ sym (phase_is laws s (h ∷ before) n run.network later)) length_is in
-    let here : now ≡ holds.moment = was_one (length past) now holds.moment (now ∷ past) (inl (refl, refl)) holds.was in
+    let here : now ≡ not-false.moment = was_one (length past) now not-false.moment (now ∷ past) (inl (refl, refl)) not-false.was in
     record {
       newer = h ∷ c.newer;
       start = c.start;
@@ -402,7 +374,7 @@ one_good laws s h before k link hop tag run is numbers chain later tells time to
       goods =
           ap₂ (λ (g : Good) (gs : List Good). g ∷ gs) same c.goods
           ∙ sym (ap (λ o. option_to_list o ++ goods_since s n c.newer (c.start ∷ c.before)) (subst (λ l. good_in s n h l h.event ≡ good_in s n h before h.event) c.splits refl ∙ told));
-      holds = holds;
+      not-false = not-false;
       rest = c.newest.tag ∷ c.rest;
       tags_are = tags_now;
       u = u_now;
@@ -437,10 +409,10 @@ begin_at laws s h before k link hop tag run is numbers none chain tells told mor
     let begun : (constant : ℤ) × ChainHolds hop (now ∷ past) (length f.older) (length past) constant (good_now number tag u past) [] = laws.starts hop now past (length f.older) number tag u order limits tells in
     let newest : Good = good_now number tag u past in
     let at_is : length past ≡ length before + 1 = ap length it.is ∙ count_more (length it.past) (length before) it.length_is in
-    let holds : ChainHolds hop (now ∷ past) (length f.older) (length (h ∷ before)) begun.0 newest [] = subst (λ z. ChainHolds hop (now ∷ past) (length f.older) z begun.0 newest []) length_is begun.1 in
+    let not-false : ChainHolds hop (now ∷ past) (length f.older) (length (h ∷ before)) begun.0 newest [] = subst (λ z. ChainHolds hop (now ∷ past) (length f.older) z begun.0 newest []) length_is begun.1 in
     let same : newest ≡ record { number = number; tag = tag; u = u; at = length before + 1 } =
     good_same newest (record { number = number; tag = tag; u = u; at = length before + 1 }) refl refl refl at_is in
-    let here : now ≡ holds.moment = was_one (length past) now holds.moment (now ∷ past) (inl (refl, refl)) holds.was in
+    let here : now ≡ not-false.moment = was_one (length past) now not-false.moment (now ∷ past) (inl (refl, refl)) not-false.was in
     record {
       newer = [];
       start = h;
@@ -453,7 +425,7 @@ begin_at laws s h before k link hop tag run is numbers none chain tells told mor
       newest = newest;
       earlier = [];
       goods = ap (λ (g : Good). g ∷ []) same ∙ sym (ap option_to_list told);
-      holds = holds;
+      not-false = not-false;
       rest = tags_at s before n;
       tags_are = more;
       u = phase_is laws s (h ∷ before) n run.network chain ∙ ap (unwrapped s.cfg.clock) more;
@@ -467,14 +439,6 @@ begin_at laws s h before k link hop tag run is numbers none chain tells told mor
 -- what is known of the events before it
 abbrev Before : Setting → List Happened → ℕ → LinkCfg → HopNumbers → Type 0
 Before s before k link hop = HasChain s link.lower before → Held s before k link hop
-
-one_tick_more : (now last at : ℤ) (ticks dmax : ℕ) → now ≤ℤ (last +ℤ pos dmax) → last ≤ℤ (at +ℤ pos (ticks * dmax)) → now ≤ℤ (at +ℤ pos ((ticks + 1) * dmax))
-one_tick_more now last at ticks dmax h k =
-    let more : (ticks + 1) * dmax ≡ ticks * dmax + dmax = grind (arith) in
-    sum now last at (ticks * dmax) ((ticks + 1) * dmax) dmax more h k
-  where
-    sum : (now last at : ℤ) (p q dmax : ℕ) → q ≡ p + dmax → now ≤ℤ (last +ℤ pos dmax) → last ≤ℤ (at +ℤ pos p) → now ≤ℤ (at +ℤ pos q)
-    sum now last at p q dmax e h k = omega (arith, ints)
 
 -- one without a sample of the node
 other_held : ChainRunLaws → (s : Setting) (h : Happened) (before : List Happened) (k : ℕ) (link : LinkCfg) (hop : HopNumbers) → IsRun s (h ∷ before) → link_of s k ≡ Some link → numbers_of s.cfg link.lower ≡ Some hop → HasChain s link.lower (h ∷ before) →
@@ -515,23 +479,11 @@ tick_held laws s says y before m k link hop run is numbers chain same old =
     (λ tm was late.
     subst (λ z. z ≤ℤ (tm +ℤ pos (since_at s (h ∷ before) n * longest_tick s.cfg))) (sym node.1)
     (subst (λ z. w.time ≤ℤ (tm +ℤ pos (z * longest_tick s.cfg))) (sym ticks)
-    (one_tick_more w.time (w.clock n).ticked tm (since_at s before n) (longest_tick s.cfg)
+    (one_turn w.time (w.clock n).ticked tm (since_at s before n) (longest_tick s.cfg)
     (on_time laws.moves.chains.lease.quiet.apart s before n (run.network.accepted.tree.ends k link is).1 (run_before s h before run) (node_up s before k link laws (run_before s h before run) is was)) late)))
-
--- a sample of it
-good_where : (b : Bool) (o : Option Good) → b ≡ true → (if b then o else None) ≡ o
-good_where true o e = refl
-good_where false o e = absurd (not_true e)
-
-no_good_of : (b : Bool) (o : Option Good) → b ≡ false → (if b then o else None) ≡ None
-no_good_of true o e = absurd (not_true (sym e))
-no_good_of false o e = refl
 
 all_time : (s : Setting) (says : Result PtpMsg FrameFault) (y : ℤ) (w : WorldAt) (m base bits : ℕ) → (world_step s says y w (Sample m base bits)).time ≡ w.time
 all_time s says y w m base bits = refl
-
-not_stood : (b : Bool) → b ≡ false → b ≡ true → ⊥
-not_stood b e f = cc
 
 sample_good : ChainRunLaws → (s : Setting) (says : Result PtpMsg FrameFault) (y : ℤ) (before : List Happened) (m base bits k : ℕ) (link : LinkCfg) (hop : HopNumbers) (tag : ℕ) → IsRun s (record { event = Sample m base bits; says = says; answer = y } ∷ before) →
     link_of s k ≡ Some link → numbers_of s.cfg link.lower ≡ Some hop → HasChain s link.lower (record { event = Sample m base bits; says = says; answer = y } ∷ before) →
@@ -544,7 +496,7 @@ sample_good laws s says y before m base bits k link hop tag run is numbers chain
     one_good laws s (record { event = Sample m base bits; says = says; answer = y }) before k link hop tag run is numbers stood chain tells (all_time s says y (world_after s before) m base bits) good more (old stood)
 sample_good laws s says y before m base bits k link hop tag run is numbers chain tells good more false stood old =
     begin_at laws s (record { event = Sample m base bits; says = says; answer = y }) before k link hop tag run is numbers
-    (not_stood (is_some (servo_at (fixed_of s link.lower) ((world_after s before).node link.lower)).first) stood) chain tells good more
+    (both_ways (is_some (servo_at (fixed_of s link.lower) ((world_after s before).node link.lower)).first) stood) chain tells good more
 
 sample_held : ChainRunLaws → (s : Setting) (says : Result PtpMsg FrameFault) (y : ℤ) (before : List Happened) (m base bits k : ℕ) (link : LinkCfg) (hop : HopNumbers) (o : Option ℕ) → IsRun s (record { event = Sample m base bits; says = says; answer = y } ∷ before) → bits < 2 ^ 64 →
     link_of s k ≡ Some link → numbers_of s.cfg link.lower ≡ Some hop → HasChain s link.lower (record { event = Sample m base bits; says = says; answer = y } ∷ before) → link.lower ≡ m → heard_in s before link.lower base bits ≡ o →
@@ -556,7 +508,7 @@ sample_held laws s says y before m base bits k link hop None run fits is numbers
     let it : Sampled s h before n base bits = sampled laws.since s says y before n m base bits same servo in
     let was : HasChain s n before = it.stood heard chain in
     let held : Held s before k link hop = old was in
-    let here : (n == m) ≡ true = ap (λ i. i == m) same ∙ self_equal m in
+    let here : (n == m) ≡ true = ap (λ i. i == m) same ∙ eq_self m in
     let good : good_in s n h before h.event ≡ None =
     good_where (n == m) (option_map (λ tag. record { number = ((world_after s before).clock n).samples + 1; tag = tag; u = phase_in s (world_after s (h ∷ before)) n; at = length before + 1 }) (heard_in s before n base bits)) here
     ∙ ap (option_map (λ tag. record { number = ((world_after s before).clock n).samples + 1; tag = tag; u = phase_in s (world_after s (h ∷ before)) n; at = length before + 1 })) heard in
@@ -570,7 +522,7 @@ sample_held laws s says y before m base bits k link hop (Some tag) run fits is n
     let h : Happened = record { event = Sample m base bits; says = says; answer = y } in
     let servo : is_some (slave_of (s.set n)) ≡ true = has_servo s run.network n link (above_is s run.network k link is) in
     let it : Sampled s h before n base bits = sampled laws.since s says y before n m base bits same servo in
-    let here : (n == m) ≡ true = ap (λ i. i == m) same ∙ self_equal m in
+    let here : (n == m) ≡ true = ap (λ i. i == m) same ∙ eq_self m in
     let good : good_in s n h before h.event ≡ Some (record { number = ((world_after s before).clock n).samples + 1; tag = tag; u = phase_in s (world_after s (h ∷ before)) n; at = length before + 1 }) =
     good_where (n == m) (option_map (λ t. record { number = ((world_after s before).clock n).samples + 1; tag = t; u = phase_in s (world_after s (h ∷ before)) n; at = length before + 1 }) (heard_in s before n base bits)) here
     ∙ ap (option_map (λ t. record { number = ((world_after s before).clock n).samples + 1; tag = t; u = phase_in s (world_after s (h ∷ before)) n; at = length before + 1 })) heard in
@@ -605,7 +557,7 @@ step_held laws s says y before (Up m off swaps) k link hop run fits is numbers c
 step_held laws s says y before e k link hop run fits is numbers chain old = idle_held laws s (record { event = e; says = says; answer = y }) before k link hop run is numbers chain tt refl (λ was. tt) old
 
 held_all : ChainRunLaws → (s : Setting) (events : List Happened) (k : ℕ) (link : LinkCfg) (hop : HopNumbers) → IsRun s events → AllFit events → link_of s k ≡ Some link → numbers_of s.cfg link.lower ≡ Some hop → HasChain s link.lower events → Held s events k link hop
-held_all laws s [] k link hop run fits is numbers chain = absurd (not_true chain)
+held_all laws s [] k link hop run fits is numbers chain = absurd (false≢true chain)
 held_all laws s (h ∷ before) k link hop run fits is numbers chain =
     step_held laws s h.says h.answer before h.event k link hop run fits.0 is numbers chain (λ was. held_all laws s before k link hop (run_before s h before run) fits.1 is numbers was)
 
@@ -624,7 +576,7 @@ chain_has_constant laws s events k link hop run fits is numbers chain =
       newest = c.newest;
       earlier = c.earlier;
       goods = c.goods;
-      holds = c.holds;
+      not-false = c.holds;
       phase = phase_is laws s events link.lower run.network chain ∙ ap (unwrapped s.cfg.clock) c.tags_are ∙ sym c.u;
       recent = recent_by laws s events k link hop run is numbers chain c;
     }

@@ -1,8 +1,9 @@
 -- A Delay_Resp that a slave's exchange is given tells the arrival of its newest Delay_Req, and so the chain's constant and
 -- both ways.
-use Rattle.std.proofs.Common.{◌≡◌, ◌∙◌, refl, ap, sym, subst, ℕ, ◌*◌, ◌≤◌, ℤ, pos, ◌+ℤ◌, ◌-ℤ◌, ◌≤ℤ◌, unsigned_abs, true, List, [], ◌∷◌, ◌++◌, length, Some, arith}
+use Rattle.std.proofs.Common.{◌≡◌, ◌∙◌, ap, sym, subst, ℕ, ◌*◌, ◌≤◌, ℤ, pos, ◌+ℤ◌, ◌-ℤ◌, ◌≤ℤ◌, unsigned_abs, true, List, [], ◌∷◌, ◌++◌, length, Some, arith}
 use Rattle.std.proofs.lemmas.Int.{ints}
 use Rattle.std.specs.Prelude.{IfSome}
+use Rattle.std.proofs.lemmas.Option.{same_Some}
 use Rattle.wrp_base.specs.declared.link.Role.{Role}
 use Rattle.wrp_base.specs.declared.link.Role.TheVariants.{Master, Slave}
 use Rattle.wrp_base.specs.declared.message.Body.TheVariants.{DelayResp}
@@ -12,6 +13,7 @@ use Rattle.wrp_base.specs.declared.time.Raw.{Raw}
 use Rattle.wrp_base.specs.declared.time.Stamp.{Stamp}
 use Rattle.wrp_base.specs.declared.time.Ts.{Ts}
 use Rattle.wrp_base.specs.Network.{End}
+use Rattle.wrp_base.proofs.Lists.{append_assoc}
 use Rattle.wrp_bounds.specs.Hop.{up_error}
 use Rattle.wrp_bounds.specs.Times.{frame_life}
 use Rattle.wrp_exch.specs.declared.delay.Sent.{Sent}
@@ -32,10 +34,10 @@ use Rattle.wrp_world.specs.Run.{Happened, world_after}
 use Rattle.wrp_world.specs.RunLaws.{HasTimes}
 use Rattle.wrp_world.specs.Runs.{IsRun, WasPutOut}
 use Rattle.wrp_world.specs.RunStamps.{ArrivedSo, DepartedSo}
-use Rattle.wrp_world.specs.Setting.{Setting, end_at, end_of, fixed_of, link_of, of_node, other_of}
-use Rattle.wrp_world.specs.WorldAt.{Arrival, FrameAt, Sending, WorldAt, delay_from, ends_are_up, has_carrier, reading}
+use Rattle.wrp_world.specs.Setting.{Setting, end_at, end_of, fixed_of, of_node}
+use Rattle.wrp_world.specs.WorldAt.{Arrival, FrameAt, Sending, WorldAt, delay_from, has_carrier, reading}
+use Rattle.wrp_truth.proofs.Moving.{joined_is}
 use Rattle.wrp_world.proofs.RunGiven.{end_is}
-use Rattle.wrp_world.proofs.RunTimes.{both_up}
 use Rattle.wrp_truth.specs.Fibres.{IsFibre}
 use Rattle.wrp_truth.specs.Leases.{IsCarried}
 use Rattle.wrp_truth.specs.Moments.{AtEach}
@@ -52,10 +54,9 @@ use Rattle.wrp_truth.proofs.DepartedFrames.{Stayed, arrival_raw, frame_stays}
 use Rattle.wrp_truth.proofs.OpenPorts.{carried_since}
 use Rattle.wrp_truth.proofs.PutOut.{put_since}
 use Rattle.wrp_truth.proofs.Sendings.{WasPut, was_put}
-use Rattle.wrp_truth.proofs.Suffixes.{appended, at_rest, count_is, older_run, run_before}
+use Rattle.wrp_truth.proofs.Suffixes.{at_rest, count_is, older_run, run_before}
 use Rattle.wrp_truth.proofs.TimedQueues.{departs_once}
 use Rattle.wrp_truth.proofs.TimedTicks.{sent_timed}
-use Rattle.wrp_truth.proofs.Basics.{some_is}
 use Rattle.wrp_truth.proofs.HopNumbers.{HopHas, hop_has}
 use Rattle.wrp_truth.proofs.Deliveries.{deliver_holds}
 use Rattle.wrp_truth.proofs.StepSends.{IsRequest}
@@ -73,9 +74,9 @@ left_so : (c : Given) (newer older : List Happened) (f : FrameAt) → c.events �
 left_so c newer older f splits moment link by d =
     let s : Setting = c.s in
     let same : d.older ≡ older =
-    same_end (d.came.0 ++ (d.came.1 ∷ [])) d.older newer older (appended d.came.0 (d.came.1 ∷ []) d.older ∙ sym d.came.2 ∙ splits) (sym (count_is s d.older) ∙ sym d.moment ∙ moment) in
+    same_end (d.came.0 ++ (d.came.1 ∷ [])) d.older newer older (append_assoc d.came.0 (d.came.1 ∷ []) d.older ∙ sym d.came.2 ∙ splits) (sym (count_is s d.older) ∙ sym d.moment ∙ moment) in
     let end : d.end ≡ end_of Slave c.link =
-    some_is d.end (end_of Slave c.link) (sym d.end_is ∙ ap (λ l. end_at s l f.by) link ∙ ap (end_at s c.k) by ∙ end_is s c.k Slave c.link c.is) in
+    same_Some d.end (end_of Slave c.link) (sym d.end_is ∙ ap (λ l. end_at s l f.by) link ∙ ap (end_at s c.k) by ∙ end_is s c.k Slave c.link c.is) in
     record {
       at = d.time ∙ ap (λ l. (world_after s l).time) same;
       stamp =
@@ -90,10 +91,6 @@ left_so c newer older f splits moment link by d =
     }
 
 -- The Delay_Req that is answered
-
-pub master_of : (r : Role) → other_of r ≡ Slave → r ≡ Master
-master_of Master e = refl
-master_of Slave e = cc
 
 both_young : (now z d y : ℤ) (life : ℕ) → now ≤ℤ (z +ℤ pos life) → z ≡ d → d ≤ℤ (y +ℤ pos life) → now ≤ℤ (y +ℤ pos (2 * life))
 both_young now z d y life h e k = omega (arith, ints, h, e, k)
@@ -137,7 +134,7 @@ asks_by c events z run young an =
     record {
       since = an.newer ++ (an.hands ∷ []);
       handed = d;
-      splits = an.splits ∙ sym (appended an.newer (an.hands ∷ []) d);
+      splits = an.splits ∙ sym (append_assoc an.newer (an.hands ∷ []) d);
       run = then_run;
       event = an.hands.event;
       it = an.in_it;
@@ -194,7 +191,7 @@ record Arrives (c : Given) (handed : List Happened) (f : FrameAt) (a : Arrival) 
 arrives : (c : Given) (handed : List Happened) (number : ℕ) (f : FrameAt) (a : Arrival) → IsRun c.s handed → (world_after c.s handed).frame number ≡ Some f → f.arrival ≡ Some a → Arrives c handed f a
 arrives c handed number f a run there arrived =
     let so : ArrivedSo c.s handed f a = subst (λ o. IfSome o (ArrivedSo c.s handed f)) arrived (c.laws.stamped c.s handed number f run there).1 in
-    record { so = so; between = so.came.0 ++ (so.came.1 ∷ []); came = so.came.2 ∙ sym (appended so.came.0 (so.came.1 ∷ []) so.older) }
+    record { so = so; between = so.came.0 ++ (so.came.1 ∷ []); came = so.came.2 ∙ sym (append_assoc so.came.0 (so.came.1 ∷ []) so.older) }
 
 later_too : (now y f a : ℤ) (life : ℕ) → now ≤ℤ (y +ℤ pos (2 * life)) → y ≤ℤ f → f ≤ℤ a → now ≤ℤ (a +ℤ pos (2 * life))
 later_too now y f a life h k l = omega (arith, ints, h, k, l)
@@ -208,7 +205,7 @@ carried_then c events z i a it =
     let s : Setting = c.s in
     let e : List Happened = it.so.older in
     let times : HasTimes (world_after s a.handed) a.it.frame = c.laws.times s a.handed a.it.number a.it.frame a.run a.it.there in
-    let all : events ≡ (a.since ++ it.between) ++ e = a.splits ∙ ap (λ l. a.since ++ l) it.came ∙ sym (appended a.since it.between e) in
+    let all : events ≡ (a.since ++ it.between) ++ e = a.splits ∙ ap (λ l. a.since ++ l) it.came ∙ sym (append_assoc a.since it.between e) in
     let soon : (world_after s events).time ≤ℤ ((world_after s e).time +ℤ pos (2 * frame_life s.cfg)) =
     later_too (world_after s events).time a.it.frame.sending.at a.it.frame.at (world_after s e).time (frame_life s.cfg) a.young times.sent
     (subst (λ t. a.it.frame.at ≤ℤ t) it.so.time (arrived_after (world_after s a.handed) a.it.frame a.it.arrival a.it.arrived times).0) in
@@ -280,9 +277,6 @@ heard c events h x i j it =
 
 -- The pair
 
-joined_is : (s : Setting) (w : WorldAt) (k : ℕ) → has_carrier s w k ≡ true → (w.fibre k).joined ≡ true
-joined_is s w k h = (both_up (w.fibre k).joined (ends_are_up w.clock (link_of s k)) h).0
-
 within : (a b : ℤ) (e n : ℕ) → e ≡ n → unsigned_abs (a -ℤ b) ≤ n → IsWithin e a b
 within a b e n is h = omega (arith, is, h)
 
@@ -293,7 +287,7 @@ pair_true c events h x kept i j it dep =
     let t4 : ℤ = earlier_by it.receive it.frame.sending.message.head.correction in
     let there : Heard c events x t4 = heard c events h x i j it in
     let top : List Happened = i.top ++ there.since in
-    let whole : c.events ≡ top ++ there.handed = i.splits ∙ ap (λ l. i.top ++ l) there.splits ∙ sym (appended i.top there.since there.handed) in
+    let whole : c.events ≡ top ++ there.handed = i.splits ∙ ap (λ l. i.top ++ l) there.splits ∙ sym (append_assoc i.top there.since there.handed) in
     let later : Stayed s (top ++ there.handed) there.number there.frame = frame_stays s top there.handed there.number there.frame (subst (IsRun s) whole c.run) there.there in
     let at_end : (world_after s c.events).frame there.number ≡ Some later.frame = ap (λ l. (world_after s l).frame there.number) whole ∙ later.there in
     let one : dep.frame ≡ later.frame =
@@ -308,7 +302,7 @@ pair_true c events h x kept i j it dep =
     let came : Moment = moment_at c.k c.link (world_after s there.older) in
     let run_older : IsRun s dep.older = older_run s dep.newer dep.older (subst (IsRun s) dep.splits c.run) in
     let fibre : IsFibre s c.k c.link (world_after s dep.older) = c.laws.fibres s dep.older c.k c.link run_older c.is (joined_is s (world_after s dep.older) c.k left.carried) in
-    let all : c.events ≡ (top ++ there.between) ++ there.older = whole ∙ ap (λ l. top ++ l) there.came ∙ sym (appended top there.between there.older) in
+    let all : c.events ≡ (top ++ there.between) ++ there.older = whole ∙ ap (λ l. top ++ l) there.came ∙ sym (append_assoc top there.between there.older) in
     let flew : FlewAt c.hop (past_of c) (length dep.older) (length there.older) sent came sent.up = record {
       was_sent = subst (λ l. Was (moments_of s c.k c.link l) (length dep.older) sent) (sym dep.splits) (was_then s c.k c.link dep.newer dep.older);
       was_come = subst (λ l. Was (moments_of s c.k c.link l) (length there.older) came) (sym all) (was_then s c.k c.link (top ++ there.between) there.older);

@@ -1,10 +1,12 @@
 -- The sending that a slave's exchange keeps in a chain is that of its newest Delay_Req, with the phase that its stamp latched.
-use Rattle.std.proofs.Common.{◌≡◌, ◌∙◌, refl, ap, ap₂, sym, subst, ℕ, suc, ◌+◌, ◌*◌, ◌<◌, ◌≤◌, ◌==◌, ℤ, pos, ◌+ℤ◌, ◌-ℤ◌, ◌≤ℤ◌, Bool, true, false, if◌then◌else◌, List, [], ◌∷◌, ◌++◌, length, Option, None, Some, arith}
+use Rattle.std.proofs.Common.{◌≡◌, ◌∙◌, refl, ap, ap₂, sym, subst, ℕ, ◌+◌, ◌*◌, ◌≤◌, ◌==◌, ℤ, pos, ◌+ℤ◌, ◌-ℤ◌, ◌≤ℤ◌, Bool, true, false, if◌then◌else◌, List, [], ◌∷◌, ◌++◌, length, Option, None, Some, arith}
 use Rattle.std.proofs.lemmas.Int.{ints}
 use Rattle.std.specs.List.{AllByRecursion}
 use Rattle.wrp_base.specs.declared.link.Role.TheVariants.{Slave}
 use Rattle.wrp_base.specs.declared.network.LinkCfg.{LinkCfg}
+use Rattle.wrp_base.proofs.Naturals.{eq_self}
 use Rattle.wrp_base.specs.Network.{End}
+use Rattle.wrp_base.proofs.Lists.{append_assoc}
 use Rattle.wrp_bounds.specs.Bounds.{numbers_of}
 use Rattle.wrp_bounds.specs.declared.numbers.HopNumbers.{HopNumbers}
 use Rattle.wrp_bounds.specs.Times.{frame_life}
@@ -18,7 +20,9 @@ use Rattle.wrp_tracking.specs.History.{Was}
 use Rattle.wrp_tracking.specs.Moment.{Moment}
 use Rattle.wrp_tracking.proofs.Histories.{was_at_most}
 use Rattle.wrp_world.specs.declared.event.Event.TheVariants.{Depart}
+use Rattle.wrp_truth.proofs.SyncPasts.{fit_then, was_then}
 use Rattle.wrp_world.specs.declared.place.Place.{Place}
+use Rattle.wrp_truth.proofs.SyncHeld.{fewer}
 use Rattle.wrp_world.specs.Given.{given_by}
 use Rattle.wrp_world.specs.Moved.{departing, moved, waiting_at}
 use Rattle.wrp_world.specs.Run.{Happened, world_after}
@@ -28,21 +32,20 @@ use Rattle.wrp_world.specs.WorldAt.{FrameAt, Sending, WorldAt, delay_from}
 use Rattle.wrp_world.proofs.RunCarriers.{end_alike}
 use Rattle.wrp_world.proofs.RunGiven.{end_is}
 use Rattle.wrp_world.proofs.RunNetwork.{LinkEnd, are_apart, end_with, place_end}
-use Rattle.wrp_world.proofs.RunPorts.{self_equal}
 use Rattle.wrp_truth.specs.Chains.{AllFit, ChainRuns, goods_since}
 use Rattle.wrp_truth.specs.Moments.{AtEach}
 use Rattle.wrp_truth.specs.Rates.{HasChain}
 use Rattle.wrp_truth.specs.SequenceIds.{IsOpenAt}
 use Rattle.wrp_truth.specs.Views.{moment_at, moments_of}
-use Rattle.wrp_truth.proofs.ChainMoves.{HasNewest, newest_moment}
+use Rattle.wrp_truth.proofs.ChainMoves.{HasNewest, newest_moment, one_longer}
 use Rattle.wrp_truth.proofs.DepartedFrames.{Stayed, frame_stays}
 use Rattle.wrp_truth.proofs.DelayNewest.{Newest}
 use Rattle.wrp_truth.proofs.DelayOpen.{chain_open}
-use Rattle.wrp_truth.proofs.DelayPieces.{DelayLaws, behind, later_goods, older_fits, one_start, same_request, still_depart, was_later}
+use Rattle.wrp_truth.proofs.DelayPieces.{DelayLaws, behind, later_goods, one_start, same_request, still_depart}
 use Rattle.wrp_truth.proofs.StepSends.{IsRequest}
 use Rattle.wrp_truth.proofs.DelaySamples.{IsHead, latched_newest}
 use Rattle.wrp_truth.proofs.InOrder.{given_frame}
-use Rattle.wrp_truth.proofs.Suffixes.{appended, at_newest, count_is, older_run}
+use Rattle.wrp_truth.proofs.Suffixes.{at_newest, count_is, older_run}
 
 -- A chain of a run
 
@@ -98,12 +101,6 @@ pub record Latched (c : Given) (events : List Happened) (u : ℤ) : Type 0 where
   pub sample : Moment
   pub latched : LatchedAt c.hop (past_of c) good (length events) sample (moment_at c.k c.link (world_after c.s events))
 
-no_later : (j m : ℕ) (n : ℕ) → j < m → m ≡ suc n → j ≤ n
-no_later j m n h e = omega (arith, h, e)
-
-one_less : (a b : ℕ) → a ≡ b → suc a ≡ suc b
-one_less a b e = ap suc e
-
 latched_at : (c : Given) (events : List Happened) (i : Inside c events) (u : ℤ) → latched_phase (c.s.set c.link.lower).ring (calls_at c events) ((world_after c.s events).clock c.link.lower).samples ≡ Some u → Latched c events u
 latched_at c events i u e =
     let s : Setting = c.s in
@@ -111,7 +108,7 @@ latched_at c events i u e =
     let begin : List Happened = c.chain.start ∷ c.chain.before in
     let run : IsRun s events = run_at c events i in
     let now : ChainRuns s events c.k c.link c.hop =
-    c.laws.constant s events c.k c.link c.hop run (older_fits i.top events (subst AllFit i.splits c.fits)) c.is c.numbers (chain_at c events i) in
+    c.laws.constant s events c.k c.link c.hop run (fit_then i.top events (subst AllFit i.splits c.fits)) c.is c.numbers (chain_at c events i) in
     let head : IsHead (goods_since s n i.mid begin) u =
     latched_newest c.laws.samples s i.mid c.chain.start c.chain.before c.k c.link (s.set n).ring u (subst (IsRun s) i.is run) c.is i.stands c.chain.begins
     (subst (λ l. latched_phase (s.set n).ring (calls_at c l) ((world_after s l).clock n).samples ≡ Some u) i.is e) in
@@ -130,10 +127,10 @@ latched_at c events i u e =
       phase = sym (subst (λ l. IsHead l u) (sym goods) head);
       sample = now.holds.moment;
       latched = record {
-        was = subst (λ l. Was (moments_of s c.k c.link l) now.newest.at now.holds.moment) (sym i.splits) (was_later s c.k c.link i.top events now.newest.at now.holds.moment now.holds.was);
+        was = subst (λ l. Was (moments_of s c.k c.link l) now.newest.at now.holds.moment) (sym i.splits) (was_then s c.k c.link i.top events now.newest.at now.holds.moment now.holds.was);
         order =
-            no_later now.newest.at (length (moments_of s c.k c.link events)) (length events) (was_at_most now.newest.at now.holds.moment (moments_of s c.k c.link events) now.holds.was)
-            (ap length history.is ∙ one_less (length history.past) (length events) history.length_is);
+            fewer now.newest.at (length (moments_of s c.k c.link events)) (length events) (was_at_most now.newest.at now.holds.moment (moments_of s c.k c.link events) now.holds.was)
+            (ap length history.is ∙ one_longer (length history.past) (length events) history.length_is);
         near = now.recent;
       };
     }
@@ -201,7 +198,7 @@ frame_at_place c h before stamp z u it (Some at) place queue =
           ∙ ap (λ e. (moved s w e).frame i) it.event
           ∙ ap (λ p. departing w p stamp (waiting_at w p) i) place
           ∙ ap (λ l. departing w (Some at) stamp l i) queue
-          ∙ first_of (i == i) frame (w.frame i) (self_equal i);
+          ∙ first_of (i == i) frame (w.frame i) (eq_self i);
       link_is = same.0;
       by_is = same.1;
       sending = refl;
@@ -264,7 +261,7 @@ departs c h before stamp x z u i j it newest seq =
       stamp = later.stamp ∙ new.stamp_is;
       newer = j.top ++ (h ∷ []);
       older = before;
-      splits = j.splits ∙ sym (appended j.top (h ∷ []) before);
+      splits = j.splits ∙ sym (append_assoc j.top (h ∷ []) before);
       moment = later.moment ∙ new.moment;
       begun = subst (λ l. start_at c ≤ length l) (sym i.is) (behind i.mid (c.chain.start ∷ c.chain.before));
       tick = refl;

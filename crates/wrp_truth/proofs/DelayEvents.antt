@@ -8,6 +8,7 @@ use Rattle.wrp_base.specs.declared.message.PtpMsg.{PtpMsg}
 use Rattle.wrp_base.specs.declared.time.Raw.{Raw}
 use Rattle.wrp_base.specs.declared.time.Stamp.{Stamp}
 use Rattle.wrp_base.specs.Network.{End}
+use Rattle.wrp_base.proofs.Naturals.{eq_self}
 use Rattle.wrp_frame.specs.declared.fault.FrameFault.{FrameFault}
 use Rattle.wrp_frame.specs.SentOctets.{octets_of}
 use Rattle.wrp_node.specs.declared.interface.Input.TheVariants.{Tick as TickInput, Sample as SampleInput, Frame, Reset, Sent}
@@ -25,7 +26,6 @@ use Rattle.wrp_world.specs.Moved.{moved, waiting_at}
 use Rattle.wrp_world.specs.Setting.{Setting, end_at, fixed_of, other_of, place_of}
 use Rattle.wrp_world.specs.WorldAt.{Arrival, FrameAt, Sending, WorldAt}
 use Rattle.wrp_world.proofs.RunGifts.{comes_all, ports_all}
-use Rattle.wrp_world.proofs.RunPorts.{self_equal}
 use Rattle.wrp_truth.proofs.StepTold.{Hears, IsTurn, KeptByNews, KeptByTurns, frame_told, sample_told, sent_told, settled_told, tick_told, turn_told}
 use Rattle.wrp_truth.proofs.Inputs.{GivesTo, all_to, node_given, node_given_all, node_kept}
 use Rattle.wrp_truth.proofs.StepSends.{IsRequest}
@@ -61,7 +61,7 @@ sample_event : (P : List PortIn → Type 0) → KeptByNews P → (s : Setting) (
 sample_event P k s says y w m base bits n p brings h =
     let v : WorldAt = moved s w (Sample m base bits) in
     let g : Given = given_plain m (SampleInput (v.clock m).samples base bits) in
-    let number : (v.clock m).samples ≡ (w.clock m).samples + 1 = ap (λ b. (if b then record (w.clock m) { samples = (w.clock m).samples + 1 } else w.clock m).samples) (self_equal m) in
+    let number : (v.clock m).samples ≡ (w.clock m).samples + 1 = ap (λ b. (if b then record (w.clock m) { samples = (w.clock m).samples + 1 } else w.clock m).samples) (eq_self m) in
     node_given (λ (z : NodeAt). P (z.told p)) s y v g n
     (λ e.
     let here : (v.clock m).samples ≡ (w.clock n).samples + 1 = number ∙ ap (λ i. (w.clock i).samples + 1) (sym e) in
@@ -155,7 +155,7 @@ event_told P k turns s says y w (Arrive i raw) n p brings h = h
 
 pub given_node : (s : Setting) (y : ℤ) (v : WorldAt) (g : Given) (n : ℕ) → n ≡ g.to → (gives s y v g).node n ≡ (node_step (fixed_of s n) (taken_of y g) (v.node n)).node
 given_node s y v g n same =
-    ap (λ b. if b then (step_of s y v g).node else v.node n) (ap (λ i. i == g.to) same ∙ self_equal g.to)
+    ap (λ b. if b then (step_of s y v g).node else v.node n) (ap (λ i. i == g.to) same ∙ eq_self g.to)
     ∙ ap (λ i. (node_step (fixed_of s i) (taken_of y g) (v.node i)).node) (sym same)
 
 -- it starts

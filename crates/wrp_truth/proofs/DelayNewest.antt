@@ -4,6 +4,7 @@ use Rattle.wrp_base.specs.declared.link.Role.{Role}
 use Rattle.wrp_base.specs.declared.link.Role.TheVariants.{Slave}
 use Rattle.wrp_base.specs.declared.message.PtpMsg.{PtpMsg}
 use Rattle.wrp_base.specs.declared.network.LinkCfg.{LinkCfg}
+use Rattle.wrp_base.proofs.Naturals.{le_of_same}
 use Rattle.wrp_frame.specs.declared.fault.FrameFault.{FrameFault}
 use Rattle.wrp_node.specs.SetLaws.{EndsAreSet}
 use Rattle.wrp_world.specs.declared.event.Event.TheVariants.{Tick}
@@ -69,9 +70,6 @@ none_due s says y before k link is due z request put =
 at_most_next : (a b c : ℕ) → a ≤ b → c ≡ b + 1 → a ≤ c
 at_most_next a b c h e = omega (arith, h, e)
 
-same_moment : (a b : ℕ) → a ≡ b → a ≤ b
-same_moment a b e = omega (arith, e)
-
 -- and one at which one is
 pub newest_now : EndsAreSet → (s : Setting) (says : Result PtpMsg FrameFault) (y : ℤ) (before : List Happened) (k : ℕ) (link : LinkCfg) → IsRun s (record { event = Tick link.lower; says = says; answer = y } ∷ before) → link_of s k ≡ Some link →
     is_due_then s (world_after s before) Slave link ≡ true →
@@ -86,6 +84,6 @@ newest_now ends s says y before k link run is due =
       newest = λ z put request.
           elim (tick_new s says y w k link z is request put) [
             | inl old ↦ at_most_next z.moment w.count x.moment (subst (λ c. z.moment ≤ c) (sym (count_is s before)) (known_moment s before k Slave z (older_run s (h ∷ []) before run) old).0) refl
-            | inr new ↦ same_moment z.moment x.moment new.1
+            | inr new ↦ le_of_same z.moment x.moment new.1
           ];
     }

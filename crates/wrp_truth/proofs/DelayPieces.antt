@@ -4,12 +4,13 @@ use Rattle.std.proofs.lemmas.Int.{ints}
 use Rattle.std.specs.List.{AllByRecursion}
 use Rattle.wrp_base.specs.declared.link.Role.TheVariants.{Slave}
 use Rattle.wrp_base.specs.declared.network.LinkCfg.{LinkCfg}
+use Rattle.wrp_base.proofs.Lists.{heads, tails}
 use Rattle.wrp_bounds.specs.Times.{frame_life, gap_time, shortest_tick}
 use Rattle.wrp_tracking.specs.Chain.{DelayTellsWays, Good}
 use Rattle.wrp_tracking.specs.History.{Was}
-use Rattle.wrp_tracking.specs.Moment.{Moment}
 use Rattle.wrp_world.specs.declared.event.Event.{Event}
 use Rattle.wrp_world.specs.declared.event.Event.TheVariants.{Deliver, Depart}
+use Rattle.wrp_truth.proofs.SyncPasts.{was_then as was_later}
 use Rattle.wrp_world.specs.Given.{given_by}
 use Rattle.wrp_world.specs.Moved.{moved}
 use Rattle.wrp_world.specs.Run.{Happened, world_after}
@@ -19,7 +20,7 @@ use Rattle.wrp_world.specs.RunStamps.{FramesAreStamped}
 use Rattle.wrp_world.specs.Setting.{Setting, link_of}
 use Rattle.wrp_world.specs.WorldAt.{Sending, WorldAt}
 use Rattle.wrp_world.proofs.RunTimes.{all_given_time}
-use Rattle.wrp_truth.specs.Chains.{AllFit, ChainHasConstant, good_in, goods_since}
+use Rattle.wrp_truth.specs.Chains.{ChainHasConstant, good_in, goods_since}
 use Rattle.wrp_truth.specs.Fibres.{FibresKeepTheirShare}
 use Rattle.wrp_truth.specs.Moments.{AtEach}
 use Rattle.wrp_truth.specs.SequenceIds.{IdsComeAgainLate, IsOpenAt, OneTimedAnEvent}
@@ -51,12 +52,6 @@ pub record DelayLaws : Type 0 where
 
 -- Lists of events
 
-head_is : {A : Type 0} (x y : A) (xs ys : List A) → x ∷ xs ≡ y ∷ ys → x ≡ y
-head_is x y xs ys e = cc
-
-rest_is : {A : Type 0} (x y : A) (xs ys : List A) → x ∷ xs ≡ y ∷ ys → xs ≡ ys
-rest_is x y xs ys e = cc
-
 pub behind : {A : Type 0} (a b : List A) → length b ≤ length (a ++ b)
 behind [] b = omega arith
 behind (y ∷ a) b = let h : length b ≤ length (a ++ b) = behind a b in omega (arith, h)
@@ -77,37 +72,29 @@ pub longer_end : {A : Type 0} (a b newer older : List A) → a ++ b ≡ newer ++
 longer_end [] b newer older e le = record { between = newer; is = e; first = refl }
 longer_end (x ∷ a) b [] older e le = absurd (shorter (length b) (length (a ++ b)) (length older) (behind a b) (ap length (sym e)) le)
 longer_end (x ∷ a) b (y ∷ newer) older e le =
-    let it : LongerEnd a b newer older = longer_end a b newer older (rest_is x y (a ++ b) (newer ++ older) e) le in
-    record { between = it.between; is = it.is; first = ap (λ l. y ∷ l) it.first ∙ ap (λ z. z ∷ (a ++ it.between)) (sym (head_is x y (a ++ b) (newer ++ older) e)) }
+    let it : LongerEnd a b newer older = longer_end a b newer older (tails x y (a ++ b) (newer ++ older) e) le in
+    record { between = it.between; is = it.is; first = ap (λ l. y ∷ l) it.first ∙ ap (λ z. z ∷ (a ++ it.between)) (sym (heads x y (a ++ b) (newer ++ older) e)) }
 
 -- of the same length they are one
 pub same_end : {A : Type 0} (a b c d : List A) → a ++ b ≡ c ++ d → length b ≡ length d → b ≡ d
 same_end [] b [] d e n = e
 same_end [] b (y ∷ c) d e n = absurd (same_length (length d) (length (c ++ d)) (length b) (behind c d) (ap length e) n)
 same_end (x ∷ a) b [] d e n = absurd (same_length (length b) (length (a ++ b)) (length d) (behind a b) (ap length (sym e)) (sym n))
-same_end (x ∷ a) b (y ∷ c) d e n = same_end a b c d (rest_is x y (a ++ b) (c ++ d) e) n
+same_end (x ∷ a) b (y ∷ c) d e n = same_end a b c d (tails x y (a ++ b) (c ++ d) e) n
 
 -- what holds since its last beginning begins once
 pub one_start : (P : List Happened → Type 0) (newer : List Happened) (start : Happened) (before : List Happened) (other : List Happened) (first : Happened) (older : List Happened) → newer ++ start ∷ before ≡ other ++ first ∷ older →
     AtEach P newer (start ∷ before) → AtEach P other (first ∷ older) → (P before → ⊥) → (P older → ⊥) → (newer ≡ other) × (start ∷ before ≡ first ∷ older)
 one_start P [] start before [] first older e h k not_first none = (refl, e)
 one_start P [] start before (y ∷ other) first older e h k not_first none =
-    absurd (not_first (subst P (sym (rest_is start y before (other ++ first ∷ older) e)) (at_newest P other (first ∷ older) k.1)))
+    absurd (not_first (subst P (sym (tails start y before (other ++ first ∷ older) e)) (at_newest P other (first ∷ older) k.1)))
 one_start P (x ∷ newer) start before [] first older e h k not_first none =
-    absurd (none (subst P (rest_is x first (newer ++ start ∷ before) older e) (at_newest P newer (start ∷ before) h.1)))
+    absurd (none (subst P (tails x first (newer ++ start ∷ before) older e) (at_newest P newer (start ∷ before) h.1)))
 one_start P (x ∷ newer) start before (y ∷ other) first older e h k not_first none =
-    let it : (newer ≡ other) × (start ∷ before ≡ first ∷ older) = one_start P newer start before other first older (rest_is x y (newer ++ start ∷ before) (other ++ first ∷ older) e) h.1 k.1 not_first none in
-    (ap (λ l. x ∷ l) it.0 ∙ ap (λ z. z ∷ other) (head_is x y (newer ++ start ∷ before) (other ++ first ∷ older) e), it.1)
-
-pub older_fits : (newer older : List Happened) → AllFit (newer ++ older) → AllFit older
-older_fits [] older h = h
-older_fits (x ∷ newer) older h = older_fits newer older h.1
+    let it : (newer ≡ other) × (start ∷ before ≡ first ∷ older) = one_start P newer start before other first older (tails x y (newer ++ start ∷ before) (other ++ first ∷ older) e) h.1 k.1 not_first none in
+    (ap (λ l. x ∷ l) it.0 ∙ ap (λ z. z ∷ other) (heads x y (newer ++ start ∷ before) (other ++ first ∷ older) e), it.1)
 
 -- Histories
-
-pub was_later : (s : Setting) (k : ℕ) (link : LinkCfg) (newer older : List Happened) (j : ℕ) (m : Moment) → Was (moments_of s k link older) j m → Was (moments_of s k link (newer ++ older)) j m
-was_later s k link [] older j m h = h
-was_later s k link (x ∷ newer) older j m h = inr (was_later s k link newer older j m h)
 
 pub was_then : (s : Setting) (k : ℕ) (link : LinkCfg) (newer older : List Happened) → Was (moments_of s k link (newer ++ older)) (length older) (moment_at k link (world_after s older))
 was_then s k link newer older =

@@ -2,6 +2,7 @@
 use Rattle.std.proofs.Common.{◌≡◌, ◌⊎◌, inl, inr, ◌∙◌, refl, ap, sym, subst, ℕ, ℤ, List, [], ◌∷◌, ◌++◌, map, Option, None, Some, Result, Ok}
 use Rattle.std.specs.List.{AllByRecursion}
 use Rattle.std.specs.Option.{option_map_or}
+use Rattle.std.proofs.lemmas.Bool.{false≢true}
 use Rattle.wrp_base.specs.declared.link.Role.{Role}
 use Rattle.wrp_base.specs.declared.link.Role.TheVariants.{Master, Slave}
 use Rattle.wrp_base.specs.declared.message.Body.{Body}
@@ -18,6 +19,7 @@ use Rattle.wrp_node.specs.NodeStep.{stamp_of}
 use Rattle.wrp_port.specs.Messages.{response_of}
 use Rattle.wrp_world.specs.declared.event.Event.{Event}
 use Rattle.wrp_world.specs.declared.event.Event.TheVariants.{Pass, Tick, Sample, Depart, Arrive, Deliver, Noise, Down, Up, Cut, Join}
+use Rattle.wrp_truth.proofs.FourInputs.{IsNoFrame}
 use Rattle.wrp_world.specs.Given.{Given, delivered, delivered_by, delivered_to, given, gives, gives_all, sending, step_of, world_step}
 use Rattle.wrp_world.specs.Moved.{moved}
 use Rattle.wrp_world.specs.Premises.{Accepts, is_forged}
@@ -36,7 +38,6 @@ use Rattle.wrp_truth.proofs.PutOut.{given_put, moved_back, none_put}
 use Rattle.wrp_truth.proofs.Sendings.{WasPut, was_put, PutOutIn, is_new}
 use Rattle.wrp_truth.proofs.Suffixes.{older_run}
 use Rattle.arrayvec.specs.ArrayVec.{ArrayVec as Items}
-use Rattle.wrp_truth.proofs.Basics.{not_true}
 use Rattle.wrp_truth.proofs.StepSends.{IsRequest}
 
 -- A response is put out
@@ -61,10 +62,6 @@ sent_as I C v x (m ∷ ms) all it h = elim h [
 ]
 
 -- Delay_Resps
-
-abbrev IsNoFrame : Input → Type 0
-IsNoFrame (Frame q octets raw sample) = ⊥
-IsNoFrame _ = Unit {0}
 
 no_answer : (fixed : Fixed) (n : NodeAt) (p : ℕ) (input : Input) (says : Result PtpMsg FrameFault) (z : PtpMsg) → IsNoFrame input → IsAnswerTo fixed n p input says z → ⊥
 no_answer fixed n p (Frame q octets raw sample) says z none h = absurd none
@@ -105,7 +102,7 @@ slave_of_other : (r : Role) → other_of r ≡ Master → r ≡ Slave
 slave_of_other Slave e = refl
 slave_of_other Master e = cc
 
-ok_is : (a b : PtpMsg) → ◌≡◌ {A = Result PtpMsg FrameFault} (Ok a) (Ok b) → a ≡ b
+pub ok_is : (a b : PtpMsg) → ◌≡◌ {A = Result PtpMsg FrameFault} (Ok a) (Ok b) → a ≡ b
 ok_is a b e = cc
 
 -- the master's end of a link of an accepted network
@@ -171,7 +168,7 @@ frame_resp m y w i x (Some f) there it h = arrival_resp m y w i x f f.arrival th
 -- octets that the peer did not send are not taken
 pub noise_unheard : (s : Setting) (says : Result PtpMsg FrameFault) (w : WorldAt) (n p : ℕ) (octets : Items ℕ) (raw : Raw) (node : NodeAt) (m : PtpMsg) → Accepts s w says (Noise n p octets raw) → says ≡ Ok m → Hears (fixed_of s n) node p m → ⊥
 noise_unheard s says w n p octets raw node m a is h =
-    not_true (sym (sym (ap (is_forged s n p) is) ∙ not_forged s w n p says (place_of s n p) a) ∙ (heard_of_peer (fixed_of s n) node p m h).0)
+    false≢true (sym (sym (ap (is_forged s n p) is) ∙ not_forged s w n p says (place_of s n p) a) ∙ (heard_of_peer (fixed_of s n) node p m h).0)
 
 noise_resp : (s : Setting) (says : Result PtpMsg FrameFault) (y : ℤ) (w : WorldAt) (n p : ℕ) (octets : Items ℕ) (raw : Raw) (k : ℕ) (link : LinkCfg) (x : Sending) → link_of s k ≡ Some link → Accepts s w says (Noise n p octets raw) → IsResponse x.message.body →
     WasPutOut x ((world_step s says y w (Noise n p octets raw)).end_at k Master).sent → WasPutOut x (w.end_at k Master).sent

@@ -2,15 +2,16 @@
 use Rattle.std.proofs.Common.{◌≡◌, inl, inr, ◌∙◌, refl, ap, sym, subst, ℕ, ◌+◌, ℤ, true, is_some, List, [], ◌∷◌, ◌++◌, Option, None, Some, Result}
 use Rattle.std.proofs.lemmas.Bool.Decides.{eqb_tells}
 use Rattle.std.specs.Prelude.{IfSome}
+use Rattle.std.proofs.lemmas.Bool.{false≢true}
 use Rattle.wrp_base.specs.declared.link.Role.{Role}
 use Rattle.wrp_base.specs.declared.link.Role.TheVariants.{Master, Slave}
-use Rattle.wrp_base.specs.declared.measurement.ChainNews.{ChainNews}
 use Rattle.wrp_base.specs.declared.measurement.ChainNews.TheVariants.{Started}
 use Rattle.wrp_base.specs.declared.message.Body.{Body}
 use Rattle.wrp_base.specs.declared.message.Body.TheVariants.{Sync, DelayReq, FollowUp, DelayResp, Announce, Signal}
 use Rattle.wrp_base.specs.declared.message.PtpMsg.{PtpMsg}
 use Rattle.wrp_base.specs.declared.network.LinkCfg.{LinkCfg}
 use Rattle.wrp_base.specs.Network.{End}
+use Rattle.wrp_base.proofs.Lists.{append_assoc}
 use Rattle.wrp_exch.specs.declared.delay.DelayPair.{DelayPair}
 use Rattle.wrp_exch.specs.declared.delay.Sent.{Sent}
 use Rattle.wrp_exch.specs.Call.{Call, CallStart}
@@ -25,15 +26,14 @@ use Rattle.wrp_port.specs.declared.setting.Setting.{Setting as PortSetting}
 use Rattle.wrp_port.specs.History.{calls_of}
 use Rattle.wrp_port.specs.Outputs.{only_slave, with_call}
 use Rattle.wrp_servo.specs.declared.interface.ServoOut.{ServoOut}
-use Rattle.wrp_servo.specs.declared.machine.Core.{Core}
-use Rattle.wrp_servo.specs.declared.sampling.Heard.{Heard}
-use Rattle.wrp_servo.specs.declared.sampling.Heard.TheVariants.{Ignored, Refused, Lost, Followed}
 use Rattle.wrp_servo.specs.Call.{Call as ServoCall, CallSample, Settings, run as servo_run}
 use Rattle.wrp_servo.specs.Sampling.{heard_as}
-use Rattle.wrp_servo.specs.Servo.{news_at, news_of, out_by}
+use Rattle.wrp_servo.specs.Servo.{news_at, news_of}
 use Rattle.wrp_tracking.specs.DelayPieces.{PairTrue}
 use Rattle.wrp_world.specs.declared.event.Event.{Event}
+use Rattle.wrp_truth.proofs.SyncTold.{news_told}
 use Rattle.wrp_world.specs.declared.event.Event.TheVariants.{Tick, Sample, Depart, Deliver, Noise}
+use Rattle.wrp_truth.proofs.Renewals.{master_of}
 use Rattle.wrp_world.specs.Given.{Given as Told, given_plain, sending, taken_of}
 use Rattle.wrp_world.specs.Moved.{moved}
 use Rattle.wrp_world.specs.Run.{Happened, world_after}
@@ -46,7 +46,7 @@ use Rattle.wrp_world.proofs.RunNetwork.{are_apart}
 use Rattle.wrp_truth.specs.Exchanges.{DelaysTell}
 use Rattle.wrp_truth.specs.Moments.{AtEach}
 use Rattle.wrp_truth.specs.Rates.{HasChain}
-use Rattle.wrp_truth.proofs.DelayAnswers.{master_of, pair_true}
+use Rattle.wrp_truth.proofs.DelayAnswers.{pair_true}
 use Rattle.wrp_truth.proofs.DelayCalls.{Asked, AskedOf, MessageFits, asked_less, message_asked, news_asked, sample_asked, tick_asked, told_asked, turns_asked}
 use Rattle.wrp_truth.proofs.DelayDepartures.{Departs, Given, Inside, departs, past_of, run_at, start_at}
 use Rattle.wrp_truth.proofs.DelayEvents.{Brings, event_told, given_node}
@@ -59,9 +59,8 @@ use Rattle.wrp_truth.proofs.LinksAbove.{above_is}
 use Rattle.wrp_truth.proofs.LiveChains.{sample_stood}
 use Rattle.wrp_truth.proofs.Parents.{has_slave, ticked_node}
 use Rattle.wrp_truth.proofs.PortRoles.{role_is}
-use Rattle.wrp_truth.proofs.Suffixes.{appended, at_rest}
+use Rattle.wrp_truth.proofs.Suffixes.{at_rest}
 use Rattle.wrp_truth.proofs.TimedTicks.{certain_then, locked_then, port_then, timed_then}
-use Rattle.wrp_truth.proofs.Basics.{not_true}
 use Rattle.wrp_truth.proofs.SampleEvents.{stood_before}
 
 -- What the exchange keeps in a chain
@@ -183,16 +182,10 @@ event_keeps c says y e before i j old = elim (tick_or_not c.link.lower e) [
 
 -- The event that starts the chain: the exchange begins anew
 
-out_chain : (heard : Heard) (v : Core) (chain : ChainNews) → (out_by heard v chain).chain ≡ chain
-out_chain Ignored v chain = refl
-out_chain Refused v chain = refl
-out_chain Lost v chain = refl
-out_chain Followed v chain = refl
-
 started : (a b : Option ℕ) → (is_some a ≡ true → ⊥) → is_some b ≡ true → (first : ℕ) × (news_of a b ≡ Started first)
 started None (Some n) no_chain stands = (n, refl)
 started (Some m) b no_chain stands = absurd (no_chain refl)
-started None None no_chain stands = absurd (not_true stands)
+started None None no_chain stands = absurd (false≢true stands)
 
 anew : (R : ℕ → Option Sent → Type 0) (S : DelayPair → Type 0) (ring first : ℕ) (role : Role) (calls : List Call) → role ≡ Slave → Asked R S ring (with_call (only_slave role (Some (CallStart first))) calls)
 anew R S ring first Slave calls e = (tt, tt)
@@ -221,7 +214,7 @@ sample_starts c says y before base bits run stands begins =
     sample_stood c.laws.samples.since (fixed_of s n) (taken_of y g) (w.node n) (v.clock n).samples base bits refl (ap is_some slave) (subst (λ (z : NodeAt). is_some (servo_run x z.calls).first ≡ true) node stands) in
     let first : (first : ℕ) × (news_of (servo_run x calls).first (servo_run x (call ∷ calls)).first ≡ Started first) = started (servo_run x calls).first (servo_run x (call ∷ calls)).first begins now in
     let out : ServoOut = answer_of (fixed_of s n) (Some call) calls in
-    let chain : out.chain ≡ Started first.0 = out_chain (heard_as (servo_run x calls) (v.clock n).samples base bits) (servo_run x (call ∷ calls)) (news_at x (servo_run x calls) call) ∙ first.1 in
+    let chain : out.chain ≡ Started first.0 = news_told (heard_as (servo_run x calls) (v.clock n).samples base bits) (servo_run x (call ∷ calls)) (news_at x (servo_run x calls) call) ∙ first.1 in
     let begun : Keeps c (h ∷ before) (with_news out.chain (told_at c before)) =
     subst (λ z. Keeps c (h ∷ before) (with_news z (told_at c before))) (sym chain)
     (anew (Waits c (h ∷ before)) (Pairs c) (set_below c).ring first.0 (set_below c).ds.role (calls_of (set_below c) (told_at c before)) (role_is c.laws.opens.quiet.ends s run.network c.k Slave c.link c.is)) in
@@ -249,8 +242,8 @@ keeps_all c top [] splits first stands =
     (run_at c (c.chain.start ∷ c.chain.before) (record { top = top; splits = splits; mid = []; is = refl; first = first; stands = stands })) stands c.chain.begins
 keeps_all c top (h ∷ mid) splits first stands =
     let before : List Happened = mid ++ c.chain.start ∷ c.chain.before in
-    let more : c.events ≡ (top ++ (h ∷ [])) ++ before = splits ∙ sym (appended top (h ∷ []) before) in
-    let longer : c.chain.newer ≡ (top ++ (h ∷ [])) ++ mid = first ∙ sym (appended top (h ∷ []) mid) in
+    let more : c.events ≡ (top ++ (h ∷ [])) ++ before = splits ∙ sym (append_assoc top (h ∷ []) before) in
+    let longer : c.chain.newer ≡ (top ++ (h ∷ [])) ++ mid = first ∙ sym (append_assoc top (h ∷ []) mid) in
     event_keeps c h.says h.answer h.event before (record { top = top ++ (h ∷ []); splits = more; mid = mid; is = refl; first = longer; stands = stands.1 })
     (record { top = top; splits = splits; mid = h ∷ mid; is = refl; first = first; stands = stands }) (keeps_all c (top ++ (h ∷ [])) mid more longer stands.1)
 

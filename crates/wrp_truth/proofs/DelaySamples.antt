@@ -1,8 +1,9 @@
 -- The good samples that the exchange of a slave keeps: the one of the node's last sample is the newest of the chain.
-use Rattle.std.proofs.Common.{◌≡◌, inl, inr, ◌∙◌, refl, ap, sym, subst, ℕ, zero, suc, ◌+◌, ◌≤◌, ◌==◌, nat_le, cond, not, ℤ, Bool, true, false, if◌then◌else◌, is_some, List, [], ◌∷◌, ◌++◌, length, take, Option, None, Some, option_map, option_to_list, Result, arith}
-use Rattle.std.proofs.lemmas.Bool.{eqb-true}
+use Rattle.std.proofs.Common.{◌≡◌, inl, inr, ◌∙◌, refl, ap, sym, subst, ℕ, ◌+◌, ◌≤◌, ◌==◌, nat_le, cond, not, ℤ, Bool, true, false, if◌then◌else◌, is_some, List, [], ◌∷◌, ◌++◌, length, Option, None, Some, option_map, option_to_list, Result, arith}
+use Rattle.std.proofs.lemmas.Bool.{eqb-true, false≢true}
 use Rattle.std.proofs.lemmas.Bool.Decides.{eqb_tells}
 use Rattle.std.specs.List.{AllByRecursion, find}
+use Rattle.std.proofs.lemmas.Option.{none-some, same_Some}
 use Rattle.wrp_base.specs.declared.link.Role.{Role}
 use Rattle.wrp_base.specs.declared.link.Role.TheVariants.{Master, Slave}
 use Rattle.wrp_base.specs.declared.measurement.ChainNews.{ChainNews}
@@ -13,6 +14,7 @@ use Rattle.wrp_base.specs.declared.message.Head.{Head}
 use Rattle.wrp_base.specs.declared.message.PtpMsg.{PtpMsg}
 use Rattle.wrp_base.specs.declared.network.LinkCfg.{LinkCfg}
 use Rattle.wrp_base.specs.declared.time.Stamp.{Stamp}
+use Rattle.wrp_base.proofs.Naturals.{eq_self, le_later, nat_le_self}
 use Rattle.wrp_exch.specs.declared.ring.GoodSample.{GoodSample}
 use Rattle.wrp_exch.specs.Call.{Call, CallStart, CallClear, CallSample, CallReqOut, CallReqSent}
 use Rattle.wrp_exch.specs.Chain.{first_sample, latched_phase, phase_since}
@@ -32,35 +34,34 @@ use Rattle.wrp_port.specs.Outputs.{only_slave, with_call}
 use Rattle.wrp_servo.specs.declared.interface.ServoOut.{ServoOut}
 use Rattle.wrp_servo.specs.declared.machine.Core.{Core}
 use Rattle.wrp_servo.specs.declared.sampling.Heard.TheVariants.{Ignored, Lost, Followed}
-use Rattle.wrp_servo.specs.Call.{Call as ServoCall, CallSample as ServoSample, CallMeasured, CallTick, CallLease, CallLink, CallCarrier, CallReset, Settings, run}
+use Rattle.wrp_servo.specs.Call.{Call as ServoCall, CallSample as ServoSample, Settings, run}
 use Rattle.wrp_servo.specs.Laws.{ChainSince, PhaseMovesByTags}
 use Rattle.wrp_servo.specs.Sampling.{good_tag, hears, is_far, tag_as, with_tag}
 use Rattle.wrp_servo.specs.Servo.{news_at, out_by}
 use Rattle.wrp_servo.specs.Tags.{heard_tag}
 use Rattle.wrp_tracking.specs.Chain.{Good}
+use Rattle.wrp_tracking.proofs.SyncHalves.{all_take}
 use Rattle.wrp_world.specs.declared.event.Event.{Event}
 use Rattle.wrp_world.specs.declared.event.Event.TheVariants.{Tick, Sample, Depart, Deliver, Noise, Up}
+use Rattle.wrp_truth.proofs.SyncSamples.{phase_kept}
 use Rattle.wrp_world.specs.Given.{Given, given_plain, taken_of}
 use Rattle.wrp_world.specs.Moved.{moved}
 use Rattle.wrp_world.specs.Run.{Happened, world_after}
 use Rattle.wrp_world.specs.Runs.{IsRun}
 use Rattle.wrp_world.specs.Setting.{Setting, fixed_of, link_of}
 use Rattle.wrp_world.specs.WorldAt.{WorldAt}
-use Rattle.wrp_world.proofs.RunPorts.{self_equal}
-use Rattle.wrp_world.proofs.RunTimes.{comes_up_down}
+use Rattle.wrp_world.proofs.RunTimes.{comes_up_down, not_up}
 use Rattle.wrp_truth.specs.Chains.{good_in, goods_since, phase_in as unwrapped_in}
 use Rattle.wrp_truth.specs.Leases.{ChainHasSource, FollowsSource, IsCarried}
 use Rattle.wrp_truth.specs.Moments.{AtEach}
 use Rattle.wrp_truth.specs.Rates.{HasChain}
-use Rattle.wrp_truth.proofs.Basics.{none_some, not_true, some_is}
 use Rattle.wrp_truth.proofs.DelayCalls.{only_kept, unless_kept}
 use Rattle.wrp_truth.proofs.DelayEvents.{Brings, event_told, given_node, start_told}
 use Rattle.wrp_truth.proofs.LeaseSources.{both_nodes}
 use Rattle.wrp_truth.proofs.LinksAbove.{above_is}
 use Rattle.wrp_truth.proofs.LiveChains.{sample_keeps}
-use Rattle.wrp_truth.proofs.Parents.{has_servo, not_up}
+use Rattle.wrp_truth.proofs.Parents.{has_servo}
 use Rattle.wrp_truth.proofs.SampleEvents.{IsNoSampleOf, IsLowOf, low_none, low_stay, sampled_samples, samples_then, stood_before}
-use Rattle.wrp_truth.proofs.StepCalls.{IsTelling, KeptBy}
 use Rattle.wrp_truth.proofs.StepTold.{KeptByNews, KeptByTurns, before_tick, sample_told}
 use Rattle.wrp_truth.proofs.Suffixes.{at_newest, run_before}
 
@@ -186,7 +187,7 @@ sample_event B C s says y before base bits link new weaker h =
     let w : WorldAt = world_after s before in
     let v : WorldAt = moved s w (Sample n base bits) in
     let g : Given = given_plain n (SampleInput (v.clock n).samples base bits) in
-    let number : (v.clock n).samples ≡ count_at s before n + 1 = ap (λ b. (if b then record (w.clock n) { samples = (w.clock n).samples + 1 } else w.clock n).samples) (self_equal n) in
+    let number : (v.clock n).samples ≡ count_at s before n + 1 = ap (λ b. (if b then record (w.clock n) { samples = (w.clock n).samples + 1 } else w.clock n).samples) (eq_self n) in
     let told : List PortIn = (w.node n).told link.lower_port in
     subst (λ (z : NodeAt). EachOf C (set_below s link) (z.told link.lower_port)) (sym (given_node s y v g n refl))
     (sample_told (EachOf C (set_below s link)) (news_each C (set_below s link)) (fixed_of s n) g.says y (w.node n) link.lower_port (v.clock n).samples base bits
@@ -204,7 +205,7 @@ sample_event B C s says y before base bits link new weaker h =
         let core : Core = run x ((world_after s before).node link.lower).calls in
         let call : ServoCall = ServoSample (count_at s before link.lower + 1) base bits in
         heard_each B C (set_below s link) (answer_of (fixed_of s link.lower) (Some call) ((world_after s before).node link.lower).calls) (count_at s before link.lower + 1) (((world_after s before).node link.lower).told link.lower_port) None
-        (unheard_out core (sampled_core s before link.lower base bits) (news_at x core call) (hears core) (good_tag core.last (count_at s before link.lower + 1) base bits) e) (λ u f. absurd (none_some u f)) weaker h
+        (unheard_out core (sampled_core s before link.lower base bits) (news_at x core call) (hears core) (good_tag core.last (count_at s before link.lower + 1) base bits) e) (λ u f. absurd (none-some u f)) weaker h
     heard (Some tag) e =
         let x : Settings = settings_of (fixed_of s link.lower) in
         let core : Core = run x ((world_after s before).node link.lower).calls in
@@ -212,18 +213,12 @@ sample_event B C s says y before base bits link new weaker h =
         heard_each B C (set_below s link) (answer_of (fixed_of s link.lower) (Some call) ((world_after s before).node link.lower).calls) (count_at s before link.lower + 1) (((world_after s before).node link.lower).told link.lower_port)
         (Some (sampled_core s before link.lower base bits).phase.u)
         (heard_out core (sampled_core s before link.lower base bits) (news_at x core call) (hears core) (good_tag core.last (count_at s before link.lower + 1) base bits) tag e)
-        (λ u f. new u tag e (sym (some_is (sampled_core s before link.lower base bits).phase.u u f))) weaker h
+        (λ u f. new u tag e (sym (same_Some (sampled_core s before link.lower base bits).phase.u u f))) weaker h
 
 -- The numbers of its samples
 
 abbrev IsPast : ℕ → GoodSample → Type 0
 IsPast count g = g.number ≤ count
-
-grown : (a b : ℕ) → a ≤ b → a ≤ b + 1
-grown a b h = omega (arith, h)
-
-at_most : (n : ℕ) → n ≤ n
-at_most n = omega arith
 
 past_calm : (s : Setting) (says : Result PtpMsg FrameFault) (y : ℤ) (e : Event) (before : List Happened) (link : LinkCfg) → IsLowOf link.lower e → EachAt (IsPast (count_at s before link.lower)) s link before →
     EachAt (IsPast (count_at s (record { event = e; says = says; answer = y } ∷ before) link.lower)) s link (record { event = e; says = says; answer = y } ∷ before)
@@ -237,7 +232,7 @@ past_event s says y (Sample m base bits) before link h = elim (eqb_tells link.lo
   | inl x ↦
       subst (λ i. EachAt (IsPast (count_at s (record { event = Sample i base bits; says = says; answer = y } ∷ before) link.lower)) s link (record { event = Sample i base bits; says = says; answer = y } ∷ before)) x.1
       (subst (λ c. EachAt (IsPast c) s link (record { event = Sample link.lower base bits; says = says; answer = y } ∷ before)) (sym (one_sample s says y before base bits link.lower))
-      (sample_event (IsPast (count_at s before link.lower)) (IsPast (count_at s before link.lower + 1)) s says y before base bits link (λ u tag heard is. at_most (count_at s before link.lower + 1)) (λ g k. grown g.number (count_at s before link.lower) k) h))
+      (sample_event (IsPast (count_at s before link.lower)) (IsPast (count_at s before link.lower + 1)) s says y before base bits link (λ u tag heard is. nat_le_self (count_at s before link.lower + 1)) (λ g k. le_later g.number (count_at s before link.lower) k) h))
   | inr x ↦
       subst (λ c. EachAt (IsPast c) s link (record { event = Sample m base bits; says = says; answer = y } ∷ before)) (sym (low_stay s (record { event = Sample m base bits; says = says; answer = y }) before link.lower x.1))
       (calm_each (IsPast (count_at s before link.lower)) s (record { event = Sample m base bits; says = says; answer = y }) before link x.1 h)
@@ -269,15 +264,6 @@ Known count goods g = (g.number ≤ count) × (g.number ≡ count → IsHead goo
 not_past : (a b : ℕ) → a ≤ b → a ≡ b + 1 → ⊥
 not_past a b h e = omega (arith, h, e)
 
-telling_phase : PhaseMovesByTags → (x : Settings) (u : ℤ) → KeptBy IsTelling (λ calls. (run x calls).phase.u ≡ u)
-telling_phase law x u calls (CallLease fresh) c h = law x calls (CallLease fresh) refl ∙ h
-telling_phase law x u calls (CallLink on) c h = law x calls (CallLink on) refl ∙ h
-telling_phase law x u calls (ServoSample n base bits) c h = absurd c
-telling_phase law x u calls (CallMeasured four answer) c h = absurd c
-telling_phase law x u calls CallTick c h = absurd c
-telling_phase law x u calls (CallCarrier up) c h = absurd c
-telling_phase law x u calls CallReset c h = absurd c
-
 -- its phase as it is noted of the event
 phase_sampled : PhaseMovesByTags → (s : Setting) (says : Result PtpMsg FrameFault) (y : ℤ) (before : List Happened) (base bits n : ℕ) → is_some (slave_of (s.set n)) ≡ true →
     unwrapped_in s (world_after s (record { event = Sample n base bits; says = says; answer = y } ∷ before)) n ≡ (sampled_core s before n base bits).phase.u
@@ -287,15 +273,15 @@ phase_sampled law s says y before base bits n servo =
     let g : Given = given_plain n (SampleInput (v.clock n).samples base bits) in
     let x : Settings = settings_of (fixed_of s n) in
     let calls : List ServoCall = (w.node n).calls in
-    let number : (v.clock n).samples ≡ count_at s before n + 1 = ap (λ b. (if b then record (w.clock n) { samples = (w.clock n).samples + 1 } else w.clock n).samples) (self_equal n) in
+    let number : (v.clock n).samples ≡ count_at s before n + 1 = ap (λ b. (if b then record (w.clock n) { samples = (w.clock n).samples + 1 } else w.clock n).samples) (eq_self n) in
     ap (λ (z : NodeAt). (run x z.calls).phase.u) (given_node s y v g n refl)
-    ∙ sample_keeps (λ now. (run x now).phase.u ≡ (run x (ServoSample (v.clock n).samples base bits ∷ calls)).phase.u) (telling_phase law x (run x (ServoSample (v.clock n).samples base bits ∷ calls)).phase.u) (fixed_of s n) (taken_of y g) (w.node n)
+    ∙ sample_keeps (λ now. (run x now).phase.u ≡ (run x (ServoSample (v.clock n).samples base bits ∷ calls)).phase.u) (phase_kept law x (run x (ServoSample (v.clock n).samples base bits ∷ calls)).phase.u) (fixed_of s n) (taken_of y g) (w.node n)
     (v.clock n).samples base bits refl servo refl
     ∙ ap (λ i. (run x (ServoSample i base bits ∷ calls)).phase.u) number
 
 good_where : {A : Type 0} (b : Bool) (o : Option A) → b ≡ true → (if b then o else None) ≡ o
 good_where true o e = refl
-good_where false o e = absurd (not_true e)
+good_where false o e = absurd (false≢true e)
 
 sample_known : PhaseMovesByTags → (s : Setting) (says : Result PtpMsg FrameFault) (y : ℤ) (before : List Happened) (base bits : ℕ) (link : LinkCfg) (goods : List Good) → is_some (slave_of (s.set link.lower)) ≡ true →
     ((good : Good) → good_in s link.lower (record { event = Sample link.lower base bits; says = says; answer = y }) before (Sample link.lower base bits) ≡ Some good → IsHead goods good.u) →
@@ -307,12 +293,12 @@ sample_known law s says y before base bits link goods servo head =
     let found : (tag : ℕ) → heard_in s before n base bits ≡ Some tag → IsHead goods (unwrapped_in s now n) =
     λ tag e.
     head (record { number = count_at s before n + 1; tag = tag; u = unwrapped_in s now n; at = length before + 1 })
-    (good_where (n == n) (option_map (λ t. record { number = count_at s before n + 1; tag = t; u = unwrapped_in s now n; at = length before + 1 }) (heard_in s before n base bits)) (self_equal n)
+    (good_where (n == n) (option_map (λ t. record { number = count_at s before n + 1; tag = t; u = unwrapped_in s now n; at = length before + 1 }) (heard_in s before n base bits)) (eq_self n)
     ∙ ap (option_map (λ t. record { number = count_at s before n + 1; tag = t; u = unwrapped_in s now n; at = length before + 1 })) e) in
     subst (λ c. EachAt (Known c goods) s link (h ∷ before)) (sym (one_sample s says y before base bits n))
     (sample_event (IsPast (count_at s before n)) (Known (count_at s before n + 1) goods) s says y before base bits link
-    (λ u tag heard is. (at_most (count_at s before n + 1), λ e. subst (IsHead goods) (phase_sampled law s says y before base bits n servo ∙ sym is) (found tag heard)))
-    (λ g k. (grown g.number (count_at s before n) k, λ e. absurd (not_past g.number (count_at s before n) k e))) (past_all s before link))
+    (λ u tag heard is. (nat_le_self (count_at s before n + 1), λ e. subst (IsHead goods) (phase_sampled law s says y before base bits n servo ∙ sym is) (found tag heard)))
+    (λ g k. (le_later g.number (count_at s before n) k, λ e. absurd (not_past g.number (count_at s before n) k e))) (past_all s before link))
 
 -- events that bring no sample
 none_good : (s : Setting) (h : Happened) (before : List Happened) (n : ℕ) (e : Event) → IsLowOf n e → good_in s n h before e ≡ None
@@ -388,26 +374,21 @@ chain_known laws s (h ∷ newer) start before k link run_is is stands begins =
 
 -- The phase that a stamp of now latches
 
-all_take : (P : GoodSample → Type 0) (n : ℕ) (xs : List GoodSample) → AllByRecursion P xs → AllByRecursion P (take n xs)
-all_take P zero xs all = tt
-all_take P (suc n) [] all = tt
-all_take P (suc n) (x ∷ xs) all = (all.0, all_take P n xs all.1)
-
 found_by : (goods : List Good) (number : ℕ) (u : ℤ) (x : GoodSample) (xs : List GoodSample) → Known number goods x → (phase_in xs number ≡ Some u → IsHead goods u) → (t : Bool) → (x.number == number) ≡ t → phase_in (x ∷ xs) number ≡ Some u → IsHead goods u
-found_by goods number u x xs known rest true e is = subst (IsHead goods) (some_is x.phase u (sym (ap (λ b. option_map (λ (s : GoodSample). s.phase) (if b then Some x else find (λ s. s.number == number) xs)) e) ∙ is)) (known.1 (eqb-true x.number number e))
+found_by goods number u x xs known rest true e is = subst (IsHead goods) (same_Some x.phase u (sym (ap (λ b. option_map (λ (s : GoodSample). s.phase) (if b then Some x else find (λ s. s.number == number) xs)) e) ∙ is)) (known.1 (eqb-true x.number number e))
 found_by goods number u x xs known rest false e is = rest (sym (ap (λ b. option_map (λ (s : GoodSample). s.phase) (if b then Some x else find (λ s. s.number == number) xs)) e) ∙ is)
 
 found : (goods : List Good) (number : ℕ) (u : ℤ) (xs : List GoodSample) → AllByRecursion (Known number goods) xs → phase_in xs number ≡ Some u → IsHead goods u
-found goods number u [] all is = absurd (none_some u is)
+found goods number u [] all is = absurd (none-some u is)
 found goods number u (x ∷ xs) all is = found_by goods number u x xs all.0 (λ rest. found goods number u xs all.1 rest) (x.number == number) refl is
 
 since_in : (o : Option ℕ) (good : List GoodSample) (number : ℕ) (u : ℤ) → phase_since o good number ≡ Some u → phase_in good number ≡ Some u
-since_in None good number u e = absurd (none_some u e)
+since_in None good number u e = absurd (none-some u e)
 since_in (Some first) good number u e = by_test (nat_le first number) (phase_in good number) e
   where
     by_test : (b : Bool) (o : Option ℤ) → (if b then o else None) ≡ Some u → o ≡ Some u
     by_test true o f = f
-    by_test false o f = absurd (none_some u f)
+    by_test false o f = absurd (none-some u f)
 
 -- is that of the chain's newest good sample
 pub latched_newest : SampleLaws → (s : Setting) (newer : List Happened) (start : Happened) (before : List Happened) (k : ℕ) (link : LinkCfg) (ring : ℕ) (u : ℤ) → IsRun s (newer ++ start ∷ before) → link_of s k ≡ Some link →

@@ -1,9 +1,11 @@
 -- A frame stays what it was when it departed, and the raw stamp of its arrival is in its ranges.
-use Rattle.std.proofs.Common.{◌≡◌, ◌∙◌, refl, ap, sym, subst, ℕ, ◌+◌, ◌≤◌, ◌==◌, ◌&&◌, ◌||◌, nat_lt, ℤ, Bool, true, false, if◌then◌else◌, List, [], ◌∷◌, ◌++◌, Option, None, Some, option_map, Result, arith}
+use Rattle.std.proofs.Common.{◌≡◌, ◌∙◌, refl, ap, sym, subst, ℕ, ◌+◌, ◌≤◌, ◌==◌, ◌&&◌, ◌||◌, nat_lt, ℤ, Bool, true, false, if◌then◌else◌, List, [], ◌∷◌, ◌++◌, Option, None, Some, option_map, Result}
 use Rattle.std.proofs.lemmas.Bool.{eqb-true}
 use Rattle.std.specs.Prelude.{IfSome}
+use Rattle.std.proofs.lemmas.Option.{none-some}
 use Rattle.wrp_base.specs.declared.message.PtpMsg.{PtpMsg}
 use Rattle.wrp_base.specs.declared.time.Raw.{Raw}
+use Rattle.wrp_base.proofs.Naturals.{not_next}
 use Rattle.wrp_frame.specs.declared.fault.FrameFault.{FrameFault}
 use Rattle.wrp_world.specs.declared.event.Event.{Event}
 use Rattle.wrp_world.specs.declared.event.Event.TheVariants.{Depart, Arrive}
@@ -17,7 +19,6 @@ use Rattle.wrp_world.specs.Runs.{AllEvents, IsRun}
 use Rattle.wrp_world.specs.Setting.{Setting, is_role, place_of}
 use Rattle.wrp_world.specs.WorldAt.{Arrival, FrameAt, Sending, WorldAt, is_on_fibre}
 use Rattle.wrp_truth.proofs.InOrder.{Numbered, all_numbered, flies, given_frame, on_fibre}
-use Rattle.wrp_truth.proofs.Basics.{none_some}
 
 -- A frame later
 
@@ -29,9 +30,6 @@ LaterIs f (Some g) = (g.link ≡ f.link) × (g.by ≡ f.by) × (g.sending ≡ f.
 later_removed : (s : Setting) (e : Event) (f : FrameAt) (o : Option FrameAt) → LaterIs f o → LaterIs f (option_map (removed s e) o)
 later_removed s e f None h = h
 later_removed s e f (Some g) h = h
-
-not_next : (i n : ℕ) → i ≤ n → (i == (n + 1)) ≡ true → ⊥
-not_next i n le e = let is : i ≡ n + 1 = eqb-true i (n + 1) e in omega (arith, le, is)
 
 later_where : (f new : FrameAt) (b : Bool) (o : Option FrameAt) → (b ≡ true → ⊥) → LaterIs f o → LaterIs f (if b then Some new else o)
 later_where f new true o h k = absurd (h refl)
@@ -48,7 +46,7 @@ later_departing w f (Some place) stamp (oldest ∷ rest) i le h = later_where f 
 
 later_either : (s : Setting) (w : WorldAt) (m : ℕ) (raw : Raw) (f x g : FrameAt) (i : ℕ) (b : Bool) → (b ≡ true → g.arrival ≡ None) → LaterIs f (Some g) →
     LaterIs f (Some (if b then record g { arrival = Some (record { raw = raw; sample = samples_at s w x; at = w.time; moment = w.count }) } else record g { gone = g.gone || (is_on_fibre (Some g) && (nat_lt i m && ((g.link == x.link) && is_role g.by x.by))) }))
-later_either s w m raw f x g i true h k = (k.0, k.1, k.2, k.3, k.4, k.5, λ a e. absurd (none_some a (sym (h refl) ∙ k.6 a e)))
+later_either s w m raw f x g i true h k = (k.0, k.1, k.2, k.3, k.4, k.5, λ a e. absurd (none-some a (sym (h refl) ∙ k.6 a e)))
 later_either s w m raw f x g i false h k = k
 
 later_arrived : (s : Setting) (w : WorldAt) (says : Result PtpMsg FrameFault) (m : ℕ) (raw : Raw) (f : FrameAt) (i : ℕ) (q o : Option FrameAt) → Accepts s w says (Arrive m raw) → w.frame i ≡ o → LaterIs f o → LaterIs f (arrived s w m raw q i o)

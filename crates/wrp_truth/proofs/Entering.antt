@@ -1,13 +1,12 @@
 -- A node comes to HOLDOVER from TRACK alone: the message that makes a measurement tells of neither the lease nor the link.
 use Rattle.std.proofs.Common.{◌≡◌, inl, inr, ◌∙◌, refl, ap, sym, subst, ℕ, ◌<◌, ◌==◌, ℤ, ◌&&◌, ◌||◌, not, Bool, true, false, if◌then◌else◌, is_some, List, [], ◌∷◌, Option, None, Some, Result, Ok, Err}
-use Rattle.std.proofs.lemmas.Bool.{eqb-true}
+use Rattle.std.proofs.lemmas.Bool.{eqb-true, cases_Bool, false≢true}
 use Rattle.std.proofs.lemmas.Bool.Decides.{eqb_tells}
 use Rattle.std.specs.Option.{is_none, option_map_or}
 use Rattle.arrayvec.specs.ArrayVec.{ArrayVec as Items}
+use Rattle.std.proofs.lemmas.Option.{none-some}
 use Rattle.wrp_base.specs.declared.link.Role.{Role}
 use Rattle.wrp_base.specs.declared.link.Role.TheVariants.{Master, Slave}
-use Rattle.wrp_base.specs.declared.measurement.ChainNews.{ChainNews}
-use Rattle.wrp_base.specs.declared.measurement.ChainNews.TheVariants.{Same, Started, Ended}
 use Rattle.wrp_base.specs.declared.measurement.Four.{Four}
 use Rattle.wrp_base.specs.declared.message.Body.{Body}
 use Rattle.wrp_base.specs.declared.message.Body.TheVariants.{Sync, DelayReq, FollowUp, DelayResp, Announce, Signal}
@@ -17,21 +16,20 @@ use Rattle.wrp_base.specs.declared.network.LinkCfg.{LinkCfg}
 use Rattle.wrp_base.specs.declared.time.Raw.{Raw}
 use Rattle.wrp_base.specs.declared.time.Stamp.{Stamp}
 use Rattle.wrp_base.specs.Network.{End, link_above}
+use Rattle.wrp_base.proofs.Naturals.{eq_self}
 use Rattle.wrp_data.specs.declared.reason.Reason.{Reason}
 use Rattle.wrp_frame.specs.declared.fault.FrameFault.{FrameFault}
 use Rattle.wrp_frame.specs.SentOctets.{octets_of}
 use Rattle.wrp_link.specs.declared.interface.LinkIn.{LinkIn}
-use Rattle.wrp_link.specs.declared.interface.LinkSet.{LinkSet}
-use Rattle.wrp_link.specs.LinkAt.{LinkAt, new_link}
+use Rattle.wrp_link.specs.LinkAt.{LinkAt}
 use Rattle.wrp_node.specs.declared.interface.Input.{Input}
 use Rattle.wrp_node.specs.declared.interface.Input.TheVariants.{Tick as TickInput, Sample as SampleInput, Frame, Sent, Carrier, Reset}
-use Rattle.wrp_node.specs.Laws.{IsSettled, StepSettles}
+use Rattle.wrp_node.specs.Laws.{StepSettles}
 use Rattle.wrp_node.specs.NodeAt.{Fixed, NodeAt, Taken, deltas_at, deltas_in, is_fresh_at, is_fresh_in, line_at, numbers_of, pieces_at, port_of, setting_of, settings_of, slave_of}
-use Rattle.wrp_node.specs.NodeRun.{new_node}
 use Rattle.wrp_node.specs.NodeStep.{heard, heard_unless, measured, measured_at, measurement_by, node_step, stepped, used}
 use Rattle.wrp_node.specs.StepLaws.{CommandsAreHeld}
-use Rattle.wrp_node.specs.Telling.{Step, answer_of, called, for_slave, heard_of, is_changed, lease_change, link_change, number_of, settled, tell, told_by, with_lease, with_news, with_sample}
-use Rattle.wrp_node.proofs.Settled.{link_by as told_link}
+use Rattle.wrp_node.specs.Telling.{Step, called, for_slave, is_changed, lease_change, link_change, settled, with_lease}
+use Rattle.wrp_node.proofs.Settled.{tell_deltas, tell_fresh}
 use Rattle.wrp_port.specs.declared.interface.PortIn.{PortIn}
 use Rattle.wrp_port.specs.declared.interface.PortIn.TheVariants.{Msg}
 use Rattle.wrp_port.specs.declared.setting.Setting.{Setting as PortSetting}
@@ -40,7 +38,6 @@ use Rattle.wrp_port.specs.History.{input_unless, is_fresh, is_fresh_at as is_lef
 use Rattle.wrp_port.specs.Outputs.{call_of, is_kept, pairs, piece_unless}
 use Rattle.wrp_port.specs.PortAt.{deltas_of}
 use Rattle.wrp_servo.specs.Call.{Call, CallSample, CallMeasured, CallTick, CallLease, CallLink, CallCarrier, CallReset, Settings, run}
-use Rattle.wrp_servo.specs.declared.interface.ServoOut.{ServoOut}
 use Rattle.wrp_servo.specs.declared.machine.Core.{Core}
 use Rattle.wrp_servo.specs.Laws.{NoStepInTrack}
 use Rattle.wrp_servo.specs.Sampling.{is_holdover}
@@ -49,6 +46,7 @@ use Rattle.wrp_servo.specs.Told.{lease_told, link_told}
 use Rattle.wrp_world.specs.declared.event.Event.{Event}
 use Rattle.wrp_world.specs.declared.event.Event.TheVariants.{Pass, Arrive, Deliver, Noise, Up}
 use Rattle.wrp_world.specs.declared.event.Swap.{Swap}
+use Rattle.wrp_truth.proofs.ChainLinks.{knows_link}
 use Rattle.wrp_world.specs.Given.{Given, at_ports, comes_from, delivered, delivered_by, delivered_to, given, given_by, given_plain, gives, gives_all, step_of, taken_of, world_step}
 use Rattle.wrp_world.specs.Moved.{moved}
 use Rattle.wrp_world.specs.Run.{Happened, world_after}
@@ -56,78 +54,45 @@ use Rattle.wrp_world.specs.Runs.{IsNetwork, IsRun}
 use Rattle.wrp_world.specs.Setting.{Setting, end_at, fixed_of, other_of}
 use Rattle.wrp_world.specs.WorldAt.{Arrival, FrameAt, WorldAt}
 use Rattle.wrp_world.proofs.RunGifts.{comes_all, ports_all}
-use Rattle.wrp_world.proofs.RunPorts.{self_equal}
-use Rattle.wrp_world.proofs.RunTimes.{comes_up_down}
+use Rattle.wrp_world.proofs.RunTimes.{comes_up_down, not_up}
 use Rattle.wrp_truth.specs.Holdovers.{HoldoverIsFromTrack, IsHeld}
-use Rattle.wrp_truth.proofs.ChainSources.{any_to, knows_lease, none_told, not_changed}
+use Rattle.wrp_truth.proofs.ChainSources.{knows_lease}
 use Rattle.wrp_truth.proofs.HeldCalls.{HoldLaws, IsNoMeasure, held_before, state_of_track, tracked_before}
-use Rattle.wrp_truth.proofs.HeldRuns.{core_at, core_held, held_core, is_true, lasts, state_held}
+use Rattle.wrp_truth.proofs.HeldRuns.{core_at, core_held, held_core, lasts}
 use Rattle.wrp_truth.proofs.Inputs.{all_given_stands, all_to, node_given, node_given_all, node_kept}
 use Rattle.wrp_truth.proofs.NodeSteps.{still_in_track}
 use Rattle.wrp_truth.proofs.Offsets.{HandsNone, IsAtOnce, IsNoFrame, event_off, none_to, same_off}
 use Rattle.wrp_truth.proofs.OnTime.{IsStill, was_up}
-use Rattle.wrp_truth.proofs.Parents.{has_servo, has_slave, not_up, with_servo}
+use Rattle.wrp_truth.proofs.Parents.{has_servo, has_slave, with_servo, state_holdover}
 use Rattle.wrp_truth.proofs.StepCalls.{Brings, IsTelling, KeptBy, settled_keeps, step_keeps}
-use Rattle.wrp_truth.proofs.Basics.{none_some, not_true}
 
 -- What the servo answers is nothing to the lease and to the link
-
-heard_fresh : (set : PortSetting) (o : Option ℤ) (k : ℕ) (news : ChainNews) (told : List PortIn) → is_fresh set (with_sample o k (with_news news told)) ≡ is_fresh set told
-heard_fresh set None k Same told = refl
-heard_fresh set None k (Started n) told = refl
-heard_fresh set None k Ended told = refl
-heard_fresh set (Some u) k Same told = refl
-heard_fresh set (Some u) k (Started n) told = refl
-heard_fresh set (Some u) k Ended told = refl
-
-fresh_where : (b : Bool) (set : PortSetting) (out : ServoOut) (k : ℕ) (told : List PortIn) → is_fresh set (if b then heard_of out k told else told) ≡ is_fresh set told
-fresh_where true set out k told = heard_fresh set out.unwrapped k out.chain told
-fresh_where false set out k told = refl
-
-fresh_by : (o : Option ℕ) (set : PortSetting) (out : ServoOut) (k : ℕ) (told : ℕ → List PortIn) (q : ℕ) → is_fresh set (told_by o out k told q) ≡ is_fresh set (told q)
-fresh_by None set out k told q = refl
-fresh_by (Some p) set out k told q = fresh_where (q == p) set out k (told q)
-
-fresh_at : (fixed : Fixed) (call : Option Call) (s : Step) (o : Option ℕ) → is_fresh_at fixed.set (tell fixed call s).node o ≡ is_fresh_at fixed.set s.node o
-fresh_at fixed call s None = refl
-fresh_at fixed call s (Some p) = fresh_by (slave_of fixed.set) (setting_of fixed.set p) (answer_of fixed call s.node.calls) (number_of call) s.node.told p
-
-tell_fresh : (fixed : Fixed) (call : Option Call) (s : Step) → is_fresh_in fixed.set (tell fixed call s).node ≡ is_fresh_in fixed.set s.node
-tell_fresh fixed call s = fresh_at fixed call s (slave_of fixed.set)
-
-deltas_by : (fixed : Fixed) (call : Option Call) (s : Step) (o : Option ℕ) → deltas_at fixed.set (tell fixed call s).node o ≡ deltas_at fixed.set s.node o
-deltas_by fixed call s None = refl
-deltas_by fixed call s (Some p) =
-    ap (λ (l : LinkAt). deltas_of (port_of fixed.set p).role l) (told_link (slave_of fixed.set) (setting_of fixed.set p) (answer_of fixed call s.node.calls) (number_of call) s.node.told p)
-
-tell_deltas : (fixed : Fixed) (call : Option Call) (s : Step) → deltas_in fixed.set (tell fixed call s).node ≡ deltas_in fixed.set s.node
-tell_deltas fixed call s = deltas_by fixed call s (slave_of fixed.set)
 
 -- The message of a measurement
 
 -- it is a Follow_Up or a Delay_Resp at a slave
 kind_of : (reason : Option Reason) (role : Role) (head : Head) (body : Body) (stamp : Stamp) (tick : ℕ) → pairs (piece_unless reason (piece_of role head body stamp tick)) ≡ true → (renews role head body ≡ false) × (link_input role body ≡ None)
-kind_of (Some r) role head body stamp tick e = absurd (not_true e)
-kind_of None Master head (FollowUp precise) stamp tick e = absurd (not_true e)
-kind_of None Master head (DelayResp receive requesting) stamp tick e = absurd (not_true e)
-kind_of None Master head (Sync origin) stamp tick e = absurd (not_true e)
-kind_of None Master head (DelayReq origin) stamp tick e = absurd (not_true e)
-kind_of None Master head (Announce origin utc p1 quality p2 gm steps source suffix) stamp tick e = absurd (not_true e)
-kind_of None Master head (Signal target message) stamp tick e = absurd (not_true e)
+kind_of (Some r) role head body stamp tick e = absurd (false≢true e)
+kind_of None Master head (FollowUp precise) stamp tick e = absurd (false≢true e)
+kind_of None Master head (DelayResp receive requesting) stamp tick e = absurd (false≢true e)
+kind_of None Master head (Sync origin) stamp tick e = absurd (false≢true e)
+kind_of None Master head (DelayReq origin) stamp tick e = absurd (false≢true e)
+kind_of None Master head (Announce origin utc p1 quality p2 gm steps source suffix) stamp tick e = absurd (false≢true e)
+kind_of None Master head (Signal target message) stamp tick e = absurd (false≢true e)
 kind_of None Slave head (FollowUp precise) stamp tick e = (refl, refl)
 kind_of None Slave head (DelayResp receive requesting) stamp tick e = (refl, refl)
-kind_of None Slave head (Sync origin) stamp tick e = absurd (not_true e)
-kind_of None Slave head (DelayReq origin) stamp tick e = absurd (not_true e)
-kind_of None Slave head (Announce origin utc p1 quality p2 gm steps source suffix) stamp tick e = absurd (not_true e)
-kind_of None Slave head (Signal target message) stamp tick e = absurd (not_true e)
+kind_of None Slave head (Sync origin) stamp tick e = absurd (false≢true e)
+kind_of None Slave head (DelayReq origin) stamp tick e = absurd (false≢true e)
+kind_of None Slave head (Announce origin utc p1 quality p2 gm steps source suffix) stamp tick e = absurd (false≢true e)
+kind_of None Slave head (Signal target message) stamp tick e = absurd (false≢true e)
 
 pairs_of : (a b : Bool) (o : Option Four) (four : Four) → (if a && b then o else None) ≡ Some four → a ≡ true
 pairs_of true b o four e = refl
-pairs_of false b o four e = absurd (none_some four e)
+pairs_of false b o four e = absurd (none-some four e)
 
 -- it leaves the lease and the link as they were
 never_zero : (a b : Bool) (o : Option ℕ) → b ≡ false → zero_where (a && b) o ≡ o
-never_zero true true o e = absurd (not_true (sym e))
+never_zero true true o e = absurd (false≢true (sym e))
 never_zero true false o e = refl
 never_zero false b o e = refl
 
@@ -169,28 +134,11 @@ pub record Knows (fixed : Fixed) (n : NodeAt) : Type 0 where
   pub lease : lease_told n.calls ≡ is_fresh_in fixed.set n
   pub link : is_some (link_told n.calls) ≡ is_some (deltas_in fixed.set n)
 
-settled_link : (fixed : Fixed) (n : NodeAt) → is_some (slave_of fixed.set) ≡ true → IsSettled fixed n → is_some (link_told n.calls) ≡ is_some (deltas_in fixed.set n)
-settled_link fixed n servo h =
-    not_changed (is_some (link_told n.calls)) (is_some (deltas_in fixed.set n))
-    (none_told (is_some (slave_of fixed.set)) (is_changed (is_some (link_told n.calls)) (is_some (deltas_in fixed.set n))) (CallLink (deltas_in fixed.set n)) servo h.link)
-
-new_quiet : (role r : Role) (x : LinkSet) → deltas_of role (new_link r x) ≡ None
-new_quiet Master r x = refl
-new_quiet Slave r x = refl
-
-knows_link : StepSettles → (s : Setting) (events : List Happened) (n p : ℕ) → slave_of (s.set n) ≡ Some p → is_some (link_told ((world_after s events).node n).calls) ≡ is_some (deltas_in (s.set n) ((world_after s events).node n))
-knows_link settles s [] n p slave =
-    sym (ap (λ (o : Option ℕ). is_some (deltas_at (s.set n) new_node o)) slave ∙ ap is_some (new_quiet (port_of (s.set n) p).role (setting_of (s.set n) p).ds.role (setting_of (s.set n) p).link))
-knows_link settles s (h ∷ before) n p slave =
-    node_kept (λ (m : NodeAt). is_some (link_told m.calls) ≡ is_some (deltas_in (s.set n) m)) (λ _. Unit {0}) s h.says h.answer (world_after s before) h.event n
-    (λ t m q old. settled_link (fixed_of s n) (node_step (fixed_of s n) t m).node (ap is_some slave) (settles (fixed_of s n) t m))
-    (any_to n h.event) (knows_link settles s before n p slave)
-
 no_change : (has told now : Bool) (call : Call) → told ≡ now → (if has then (if is_changed told now then Some call else None) else None) ≡ None
 no_change true true true call e = refl
 no_change true false false call e = refl
-no_change true true false call e = absurd (not_true (sym e))
-no_change true false true call e = absurd (not_true e)
+no_change true true false call e = absurd (false≢true (sym e))
+no_change true false true call e = absurd (false≢true e)
 no_change false told now call e = refl
 
 told_alone : (fixed : Fixed) (n : NodeAt) (q : ℕ) (m : PtpMsg) (stamp : Stamp) (tick : ℕ) (answer : ℤ) (four : Four) → is_some (slave_of fixed.set) ≡ true → Knows fixed n → measured_at fixed n q (Msg m stamp tick) ≡ Some four →
@@ -251,7 +199,7 @@ telling_out laws fixed some calls c ok k = out_stays laws (settings_of fixed) so
 brings_none : (input : Input) → IsNoFrame input → Brings IsNoMeasure input
 brings_none TickInput h = tt
 brings_none (SampleInput number base bits) h = tt
-brings_none (Frame p octets raw sample) h = absurd (not_true (sym h))
+brings_none (Frame p octets raw sample) h = absurd (false≢true (sym h))
 brings_none (Sent p seq delay stamp) h = tt
 brings_none (Carrier p up own_module) h = tt
 brings_none Reset h = tt
@@ -350,14 +298,14 @@ reset_out laws fixed some servo t m is =
     let calls : (stepped fixed t.input t.says t.answer m).node.calls ≡ CallReset ∷ m.calls =
     ap (λ (i : Input). (stepped fixed i t.says t.answer m).node.calls) is ∙ ap (λ (b : Bool). called (if b then Some CallReset else None) m.calls) servo in
     settled_keeps (λ now. IsOut (run x now)) (telling_out laws fixed some) fixed (stepped fixed t.input t.says t.answer m)
-    (subst (λ now. IsOut (run x now)) (sym calls) (record { track = λ e. not_true e; held = λ e. not_true e }))
+    (subst (λ now. IsOut (run x now)) (sym calls) (record { track = λ e. false≢true e; held = λ e. false≢true e }))
 
 start_out : HoldLaws → (s : Setting) (says : Result PtpMsg FrameFault) (y : ℤ) (w : WorldAt) (n m : ℕ) (off : ℤ) (swaps : Items Swap) → Lasts (fixed_of s n) → is_some (slave_of (s.set n)) ≡ true → n ≡ m → OutAt (fixed_of s n) ((world_step s says y w (Up m off swaps)).node n)
 start_out laws s says y w n m off swaps some servo same =
     let v : WorldAt = moved s w (Up m off swaps) in
     let g : Given = given_plain m Reset in
     let rest : List Given = at_ports s v (comes_from s v) m in
-    let here : (n == m) ≡ true = ap (λ i. i == m) same ∙ self_equal m in
+    let here : (n == m) ≡ true = ap (λ i. i == m) same ∙ eq_self m in
     let first : OutAt (fixed_of s n) ((gives s y v g).node n) =
     subst (OutAt (fixed_of s n)) (sym (ap (λ b. if b then (step_of s y v g).node else w.node n) here ∙ ap (λ i. (node_step (fixed_of s i) (taken_of y g) (w.node i)).node) (sym same)))
     (reset_out laws (fixed_of s n) some servo (taken_of y g) (w.node n) refl) in
@@ -372,10 +320,10 @@ from_down : HoldLaws → (s : Setting) (says : Result PtpMsg FrameFault) (y : �
     NotHeld (fixed_of s n) ((world_step s says y w e).node n)
 from_down laws s says y w (Up m off swaps) n some servo down up = elim (eqb_tells n m) [
   | inl x ↦ (start_out laws s says y w n m off swaps some servo x.1).held
-  | inr x ↦ absurd (not_true (sym down ∙ up_after s says y w (Up m off swaps) n x.1 up))
+  | inr x ↦ absurd (false≢true (sym down ∙ up_after s says y w (Up m off swaps) n x.1 up))
 ]
-from_down laws s says y w (Pass dt drifts fibres) n some servo down up = absurd (not_true (sym down ∙ up))
-from_down laws s says y w e n some servo down up = absurd (not_true (sym down ∙ up_after s says y w e n tt up))
+from_down laws s says y w (Pass dt drifts fibres) n some servo down up = absurd (false≢true (sym down ∙ up))
+from_down laws s says y w e n some servo down up = absurd (false≢true (sym down ∙ up_after s says y w e n tt up))
 
 -- Each event
 
@@ -398,7 +346,7 @@ no_step laws s h before n once track =
 -- it was in TRACK
 tracked : EnterLaws → (s : Setting) (h : Happened) (before : List Happened) (n : ℕ) (link : LinkCfg) → IsNetwork s → link_above s.cfg n ≡ Some link → IsHeld s n (h ∷ before) → (IsHeld s n before → ⊥) → ((world_after s before).clock n).up ≡ true →
     is_track (core_at s before n).state ≡ true
-tracked laws s h before n link net above held none up = elim (is_true (is_track (core_at s before n).state)) [
+tracked laws s h before n link net above held none up = elim (cases_Bool (is_track (core_at s before n).state)) [
   | inl e ↦ e
   | inr e ↦
       let w : WorldAt = world_after s before in
@@ -408,8 +356,8 @@ tracked laws s h before n link net above held none up = elim (is_true (is_track 
         servo = has_servo s net n link above;
         knows = record { lease = knows_lease laws.settles s before n link.lower_port slave; link = knows_link laws.settles s before n link.lower_port slave };
         out = record {
-          track = λ t. not_true (sym e ∙ t);
-          held = λ k. none (core_held s before n link net above up (state_held (core_at s before n).state k));
+          track = λ t. false≢true (sym e ∙ t);
+          held = λ k. none (core_held s before n link net above up (state_holdover (core_at s before n).state k));
         };
       } in
       absurd (event_out laws.holds s h.says h.answer w h.event n found (held_core s (h ∷ before) n link net above held))
@@ -417,7 +365,7 @@ tracked laws s h before n link net above held none up = elim (is_true (is_track 
 
 -- and up
 was_on : EnterLaws → (s : Setting) (h : Happened) (before : List Happened) (n : ℕ) (link : LinkCfg) → IsNetwork s → link_above s.cfg n ≡ Some link → IsHeld s n (h ∷ before) → ((world_after s before).clock n).up ≡ true
-was_on laws s h before n link net above held = elim (is_true ((world_after s before).clock n).up) [
+was_on laws s h before n link net above held = elim (cases_Bool ((world_after s before).clock n).up) [
   | inl up ↦ up
   | inr down ↦ absurd (from_down laws.holds s h.says h.answer (world_after s before) h.event n (lasts s net n) (has_servo s net n link above) down held.up (held_core s (h ∷ before) n link net above held))
 ]

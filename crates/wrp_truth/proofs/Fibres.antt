@@ -1,9 +1,7 @@
 -- A joined fibre keeps its reach, and the way down its share of both, in every run.
-use Rattle.std.proofs.Common.{◌≡◌, inl, inr, ◌∙◌, refl, ap, sym, subst, ℕ, ◌*◌, ◌^◌, ◌<◌, ℤ, pos, ◌+ℤ◌, ◌≤ℤ◌, unsigned_abs, not, Bool, true, false, if◌then◌else◌, List, [], ◌∷◌, ◌++◌, length, map, flat_map, Some, Option, Result, arith}
+use Rattle.std.proofs.Common.{◌≡◌, inl, inr, ◌∙◌, refl, ap, sym, subst, ℕ, ◌*◌, ◌^◌, ◌<◌, ℤ, pos, ◌+ℤ◌, unsigned_abs, Bool, true, false, if◌then◌else◌, List, [], ◌∷◌, ◌++◌, length, map, flat_map, Some, Option, Result}
 use Rattle.std.proofs.lemmas.Bool.Decides.{eqb_tells}
-use Rattle.std.proofs.lemmas.Int.{ints}
 use Rattle.std.proofs.lemmas.Option.{slice_get_within}
-use Rattle.std.specs.Int.Signed.{le_z}
 use Rattle.std.specs.Option.{option_map_or}
 use Rattle.wrp_base.specs.declared.link.Role.TheVariants.{Master, Slave}
 use Rattle.wrp_base.specs.declared.message.PtpMsg.{PtpMsg}
@@ -14,6 +12,7 @@ use Rattle.wrp_world.specs.declared.event.Event.{Event}
 use Rattle.wrp_world.specs.declared.event.Event.TheVariants.{Pass, Depart, Up, Cut, Join}
 use Rattle.wrp_world.specs.declared.fibres.FibreState.{FibreState}
 use Rattle.wrp_world.specs.Checks.{AllHold, Check, Holds, only_where}
+use Rattle.wrp_world.proofs.Bounds.{holds_most}
 use Rattle.wrp_world.specs.Given.{Given, given_by, gives, gives_all}
 use Rattle.wrp_world.specs.Moved.{behind_first, loses, is_place, moved}
 use Rattle.wrp_world.specs.Premises.{Accepts, asymmetry, fibre_by, fibre_checks, fibre_kept, fibre_rate, rate_kept, tick_late}
@@ -123,9 +122,6 @@ kept_over s (h ∷ before) k link is run =
 
 -- What they say
 
-within_it : (a b : ℤ) → not (le_z a b) ≡ false → a ≤ℤ b
-within_it a b h = grind (arith, ints, h)
-
 pub fibres_keep_their_share : FibresKeepTheirShare
 fibres_keep_their_share s events k link run is joined =
     let w : WorldAt = world_after s events in
@@ -133,9 +129,9 @@ fibres_keep_their_share s events k link run is joined =
     subst (λ b. AllHold (map (only_where b) (option_map_or (fibre_checks s w k) (link_of s k) []))) joined (kept_over s events k link is run) in
     let h : AllHold (map (only_where true) (fibre_checks s w k link)) = subst (λ (o : Option LinkCfg). AllHold (map (only_where true) (option_map_or (fibre_checks s w k) o []))) is all in
     record {
-      down = within_it (pos 0) (w.fibre k).ms h.0;
-      up = within_it (pos 0) (w.fibre k).sm h.1.0;
-      reach_down = within_it (delay_from w k Master) (pos (reach s.cfg)) h.1.1.0;
-      reach_up = within_it (delay_from w k Slave) (pos (reach s.cfg)) h.1.1.1.0;
+      down = holds_most (pos 0) (w.fibre k).ms h.0;
+      up = holds_most (pos 0) (w.fibre k).sm h.1.0;
+      reach_down = holds_most (delay_from w k Master) (pos (reach s.cfg)) h.1.1.0;
+      reach_up = holds_most (delay_from w k Slave) (pos (reach s.cfg)) h.1.1.1.0;
       share = check_says (unsigned_abs (asymmetry link.kappa (w.fibre k).ms (w.fibre k).sm)) (2 ^ 40 * link.e_asym) h.1.1.1.1.0;
     }

@@ -1,7 +1,9 @@
 -- The measurement that stands in a servo, call by call: with it a chain stands, and only a measurement brings it; and the
 -- settings stay.
 use Rattle.std.proofs.Common.{◌≡◌, ◌⊎◌, inl, inr, ◌∙◌, refl, ap, sym, subst, ℕ, ◌-◌, ℤ, ◌&&◌, cond, Bool, true, false, is_some, List, [], ◌∷◌, Option, None, Some}
+use Rattle.std.proofs.lemmas.Option.{none-some, same_Some}
 use Rattle.std.specs.Prelude.{int_le, nat_le}
+use Rattle.std.proofs.lemmas.Bool.{false≢true}
 use Rattle.wrp_base.specs.declared.link.Deltas.{Deltas}
 use Rattle.wrp_base.specs.declared.link.ServoState.{ServoState}
 use Rattle.wrp_base.specs.declared.link.ServoState.TheVariants.{Uninit, SyncTai, SyncNsec, SyncPhase, WaitStable, Track, Holdover}
@@ -18,9 +20,10 @@ use Rattle.wrp_servo.specs.Measuring as measuring
 use Rattle.wrp_servo.specs.Sampling as sampling
 use Rattle.wrp_servo.specs.Servo.{answer_to, news_of}
 use Rattle.wrp_servo.specs.Table as table
+use Rattle.wrp_tracking.proofs.Ages.{ended_in-none}
 use Rattle.wrp_truth.proofs.HeldCalls.{IsNoMeasure}
-use Rattle.wrp_truth.proofs.LiveChains.{IsNoSample, Stands}
-use Rattle.wrp_truth.proofs.Basics.{none_some, not_true, some_is}
+use Rattle.wrp_truth.proofs.LiveChains.{IsNoSample}
+use Rattle.wrp_truth.proofs.TrackedSets.{ended_in_set}
 
 -- no measurement stands, or this one does, and with it a chain
 abbrev Keeps : Option Measurement → Core → Type 0
@@ -36,26 +39,8 @@ either set o false v w h k = k
 
 -- The end of a chain
 
-ended_none : (v : Core) (s : ServoState) → (table.ended_in v s).kept ≡ None
-ended_none v Uninit = refl
-ended_none v SyncTai = refl
-ended_none v SyncNsec = refl
-ended_none v SyncPhase = refl
-ended_none v WaitStable = refl
-ended_none v Track = refl
-ended_none v Holdover = refl
-
-ended_set : (v : Core) (s : ServoState) → (table.ended_in v s).set ≡ v.set
-ended_set v Uninit = refl
-ended_set v SyncTai = refl
-ended_set v SyncNsec = refl
-ended_set v SyncPhase = refl
-ended_set v WaitStable = refl
-ended_set v Track = refl
-ended_set v Holdover = refl
-
 ended_leaves : (set : ServoSet) (o : Option Measurement) (v : Core) → Leaves set o v → Leaves set o (table.ended v)
-ended_leaves set o v h = either set o (is_some v.first) (table.ended_in v v.state) v (ended_set v v.state ∙ h.0, inl (ended_none v v.state)) h
+ended_leaves set o v h = either set o (is_some v.first) (table.ended_in v v.state) v (ended_in_set v v.state ∙ h.0, inl (ended_in-none v v.state)) h
 
 uninit_leaves : (set : ServoSet) (o : Option Measurement) (v : Core) (s : ServoState) → Leaves set o v → Leaves set o (table.uninit_outside_holdover v s)
 uninit_leaves set o v Uninit h = h
@@ -162,7 +147,7 @@ record IsBrought (x : Settings) (v : Core) (f : Four) (y : ℤ) (o : Option Meas
 
 chain_of : (v : Core) (first : Option ℕ) (d : Deltas) → v.first ≡ first → measuring.deltas_in_chain v ≡ Some d → Stands v
 chain_of v (Some n) d e h = ap is_some e
-chain_of v None d e h = absurd (none_some d (sym (ap (λ o. measuring.deltas_in_chain (record v { first = o })) e) ∙ h))
+chain_of v None d e h = absurd (none-some d (sym (ap (λ o. measuring.deltas_in_chain (record v { first = o })) e) ∙ h))
 
 -- it keeps the one that stands, or brings its own
 abbrev Measures : Settings → ServoSet → Core → Four → ℤ → Core → Type 0
@@ -243,20 +228,16 @@ each_leaves x (c ∷ calls) =
           subst (λ (d : Call). Leaves x.set (after x v d).kept (after x v d)) (sym it.2) (left x.set m.0 (run x (CallMeasured it.0 it.1 ∷ calls)) m.1)
     ]
 
--- the settings stay
-pub set_stays : (x : Settings) (calls : List Call) → (run x calls).set ≡ x.set
-set_stays x calls = (each_leaves x calls).0
-
 -- where a measurement stands, a chain does
 stood : (v : Core) (k : Measurement) (o : Option Measurement) → Keeps o v → v.kept ≡ Some k → Stands v
-stood v k o (inl none) is = absurd (none_some k (sym none ∙ is))
+stood v k o (inl none) is = absurd (none-some k (sym none ∙ is))
 stood v k o (inr it) is = it.1
 
 pub kept_stands : (x : Settings) (calls : List Call) (k : Measurement) → (run x calls).kept ≡ Some k → Stands (run x calls)
 kept_stands x calls k is = stood (run x calls) k (run x calls).kept (each_leaves x calls).1 is
 
 was_there : (k : Measurement) (o : Option Measurement) (w : Core) → Keeps o w → w.kept ≡ Some k → o ≡ Some k
-was_there k o w (inl none) is = absurd (none_some k (sym none ∙ is))
+was_there k o w (inl none) is = absurd (none-some k (sym none ∙ is))
 was_there k o w (inr it) is = sym it.0 ∙ is
 
 -- a call that is no measurement brings none
@@ -279,7 +260,7 @@ measured_before x calls f y k is =
     let there : m.0 ≡ Some k = was_there k m.0 (run x (CallMeasured f y ∷ calls)) m.1.1 is in
     elim m.2 [
       | inl old ↦ inl (old ∙ there)
-      | inr new ↦ inr (record { deltas = new.deltas; in_chain = new.in_chain; in_range = new.in_range; is = some_is k (measuring.kept_of f new.deltas y) (sym there ∙ new.is) })
+      | inr new ↦ inr (record { deltas = new.deltas; in_chain = new.in_chain; in_range = new.in_range; is = same_Some k (measuring.kept_of f new.deltas y) (sym there ∙ new.is) })
     ]
 
 -- with a chain before
@@ -288,10 +269,10 @@ brought_in_chain x calls f y k b = chain_of (run x calls) (run x calls).first b.
 
 -- What the servo answers where its chain goes on
 
-same_news : (a b : Option ℕ) → is_some a ≡ true → is_some b ≡ true → news_of a b ≡ Same
+pub same_news : (a b : Option ℕ) → is_some a ≡ true → is_some b ≡ true → news_of a b ≡ Same
 same_news (Some m) (Some n) e f = refl
-same_news None b e f = absurd (not_true e)
-same_news (Some m) None e f = absurd (not_true f)
+same_news None b e f = absurd (false≢true e)
+same_news (Some m) None e f = absurd (false≢true f)
 
 told_none : (x : Settings) (v w : Core) (number : ℕ) (told : List PortIn) → Stands v → Stands w → with_sample None number (with_news (news_of v.first w.first) told) ≡ told
 told_none x v w number told s t = ap (λ news. with_sample None number (with_news news told)) (same_news v.first w.first s t)

@@ -2,6 +2,7 @@
 -- port's exchange was given up to then.
 use Rattle.std.proofs.Common.{◌≡◌, inl, inr, ◌∙◌, refl, ap, sym, subst, ℕ, ℤ, List, [], ◌∷◌, ◌++◌, Option, None, Some, Result}
 use Rattle.std.specs.Option.{option_map_or}
+use Rattle.std.proofs.lemmas.Option.{none-some}
 use Rattle.wrp_base.specs.declared.message.PtpMsg.{PtpMsg}
 use Rattle.wrp_base.specs.declared.network.LinkCfg.{LinkCfg}
 use Rattle.wrp_base.specs.Network.{End}
@@ -13,6 +14,7 @@ use Rattle.wrp_node.specs.NodeAt.{NodeAt, port_of, servo_at, settings_of, slave_
 use Rattle.wrp_servo.specs.declared.machine.Measurement.{Measurement}
 use Rattle.wrp_world.specs.declared.event.Event.{Event}
 use Rattle.wrp_world.specs.declared.event.Event.TheVariants.{Pass, Tick, Sample, Depart, Arrive, Deliver, Noise, Down, Up, Cut, Join}
+use Rattle.wrp_truth.proofs.SyncGiven.{slave_at}
 use Rattle.wrp_world.specs.Given.{Given, delivered, delivered_by, delivered_to, gives_all, given_by, taken_of, world_step}
 use Rattle.wrp_world.specs.Moved.{moved}
 use Rattle.wrp_world.specs.Run.{Happened, world_after}
@@ -30,18 +32,12 @@ use Rattle.wrp_truth.proofs.FourParts.{begun}
 use Rattle.wrp_truth.proofs.FourPorts.{slave_alone}
 use Rattle.wrp_truth.proofs.FourSteps.{IsOnlySlave}
 use Rattle.wrp_truth.proofs.Inputs.{GivesTo, node_given, node_kept}
-use Rattle.wrp_truth.proofs.LinksAbove.{above_is}
-use Rattle.wrp_truth.proofs.Parents.{has_slave}
-use Rattle.wrp_truth.proofs.Basics.{none_some}
 
 -- The slave port of the node below a link
 
-pub slave_below : (s : Setting) → IsNetwork s → (k : ℕ) (link : LinkCfg) → link_of s k ≡ Some link → slave_of (s.set link.lower) ≡ Some link.lower_port
-slave_below s net k link is = has_slave s net link.lower link (above_is s net k link is)
-
 pub only_below : (s : Setting) → IsNetwork s → (k : ℕ) (link : LinkCfg) → link_of s k ≡ Some link → IsOnlySlave (fixed_of s link.lower) link.lower_port
 only_below s net k link is q role =
-    slave_alone s.cfg link.lower link.lower_port q net.accepted.tree (sym (ap (λ (x : NodeSet). slave_of x) (net.set link.lower)) ∙ slave_below s net k link is)
+    slave_alone s.cfg link.lower link.lower_port q net.accepted.tree (sym (ap (λ (x : NodeSet). slave_of x) (net.set link.lower)) ∙ slave_at s net k link is)
     (sym (ap (λ (x : NodeSet). (port_of x q).role) (net.set link.lower)) ∙ role)
 
 -- An event that gives a node one input at most
@@ -112,9 +108,9 @@ pub record KeptFrom (s : Setting) (events : List Happened) (link : LinkCfg) (kep
   pub four : four_of (ring_below s link) (exchange_at s link earlier) ≡ Some kept.four
 
 pub kept_from : (s : Setting) → IsNetwork s → (events : List Happened) (k : ℕ) (link : LinkCfg) (kept : Measurement) → link_of s k ≡ Some link → IsKept s link.lower events kept → KeptFrom s events link kept
-kept_from s net [] k link kept is stands = absurd (none_some kept stands)
+kept_from s net [] k link kept is stands = absurd (none-some kept stands)
 kept_from s net (h ∷ before) k link kept is stands =
-    elim (event_new s h.says h.answer (world_after s before) h.event link.lower link.lower_port (slave_below s net k link is) (only_below s net k link is) kept stands) [
+    elim (event_new s h.says h.answer (world_after s before) h.event link.lower link.lower_port (slave_at s net k link is) (only_below s net k link is) kept stands) [
       | inl was ↦
           let it : KeptFrom s before link kept = kept_from s net before k link kept is was in
           record {

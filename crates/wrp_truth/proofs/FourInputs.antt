@@ -5,6 +5,7 @@ use Rattle.wrp_base.specs.declared.measurement.Four.{Four}
 use Rattle.wrp_base.specs.declared.message.PtpMsg.{PtpMsg}
 use Rattle.wrp_base.specs.declared.time.Raw.{Raw}
 use Rattle.wrp_base.specs.declared.time.Stamp.{Stamp}
+use Rattle.wrp_base.proofs.Naturals.{eq_self}
 use Rattle.wrp_data.specs.declared.reason.Reason.{Reason}
 use Rattle.wrp_exch.specs.Exchange.{four_of}
 use Rattle.wrp_frame.specs.declared.fault.FrameFault.{FrameFault}
@@ -23,7 +24,7 @@ use Rattle.wrp_servo.specs.declared.machine.Measurement.{Measurement}
 use Rattle.wrp_servo.specs.Told.{lease_told, link_told}
 use Rattle.wrp_truth.proofs.FourCalls.{brought_in_chain, kept_before, kept_stands, measured_before, nothing_heard}
 use Rattle.wrp_truth.proofs.FourRises.{four_measured}
-use Rattle.wrp_truth.proofs.FourSteps.{At, IsOnlySlave, answered, measured_here, self_equal, tell_nothing, tell_some, tell_where}
+use Rattle.wrp_truth.proofs.FourSteps.{At, IsOnlySlave, answered, measured_here, tell_nothing, tell_some, tell_where}
 use Rattle.wrp_truth.proofs.HeldCalls.{IsNoMeasure}
 use Rattle.wrp_truth.proofs.LiveChains.{IsNoSample, telling_less}
 use Rattle.wrp_truth.proofs.StepCalls.{Brings as BringsCalls, KeptBy, step_keeps}
@@ -71,7 +72,7 @@ measured_new : (fixed : Fixed) (p q : ℕ) (n : NodeAt) (m : PtpMsg) (stamp : St
     At (IsNew fixed p (servo_at fixed n).kept) p (tell fixed (if has then measurement_by o answer else None) (used fixed q (Msg m stamp n.ticks) n)).node
 measured_new fixed p q n m stamp answer true (Some four) slave only is =
     let here : q ≡ p = measured_here fixed p q n m stamp n.ticks four only is in
-    let now : (p == q) ≡ true = ap (λ (i : ℕ). p == i) here ∙ self_equal p in
+    let now : (p == q) ≡ true = ap (λ (i : ℕ). p == i) here ∙ eq_self p in
     tell_some (IsNew fixed p (servo_at fixed n).kept) fixed p (used fixed q (Msg m stamp n.ticks) n) (CallMeasured four answer) slave
     (subst (λ (b : Bool). IsNew fixed p (servo_at fixed n).kept n.ticks (answered fixed (if b then Msg m stamp n.ticks ∷ n.told p else n.told p) n.calls (CallMeasured four answer)) (CallMeasured four answer ∷ n.calls)) (sym now)
     (brought_new fixed p n.ticks (n.told p) n.calls m stamp four answer (ap (λ (i : ℕ). measured_at fixed n i (Msg m stamp n.ticks)) (sym here) ∙ is)))

@@ -81,7 +81,7 @@ each_up laws s (x ∷ newer) older k link run is h =
 abbrev Steps : Setting → ℕ → WorldAt → WorldAt → Type 0
 Steps s n a b = TickStep (shortest_tick s.cfg) (longest_tick s.cfg) (ticks_at a n) (ticks_at b n)
 
-longer : (s : Setting) (h : Happened) (before : List Happened) (k : ℕ) (P : WorldAt → WorldAt → Type 0) → P (world_after s before) (world_after s (h ∷ before)) → EachStep P k (worlds_of s before) → EachStep P k (worlds_of s (h ∷ before))
+pub longer : (s : Setting) (h : Happened) (before : List Happened) (k : ℕ) (P : WorldAt → WorldAt → Type 0) → P (world_after s before) (world_after s (h ∷ before)) → EachStep P k (worlds_of s before) → EachStep P k (worlds_of s (h ∷ before))
 longer s h [] k P p rest = (λ less. p, rest)
 longer s h (g ∷ before) k P p rest = (λ less. p, rest)
 

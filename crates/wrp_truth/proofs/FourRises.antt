@@ -1,6 +1,7 @@
 -- No four that a node measures is older than the one that stands: the ticks that its port tells its exchange never fall.
 use Rattle.std.proofs.Common.{◌≡◌, inl, inr, ◌∙◌, refl, ap, sym, subst, ℕ, ◌+◌, ◌≤◌, ℤ, ◌&&◌, Bool, true, false, if◌then◌else◌, List, [], ◌∷◌, ◌++◌, Option, None, Some, arith}
 use Rattle.std.specs.Prelude.{IfSome}
+use Rattle.std.proofs.lemmas.Option.{none-some}
 use Rattle.wrp_base.specs.declared.link.Deltas.{Deltas}
 use Rattle.wrp_base.specs.declared.link.Role.{Role}
 use Rattle.wrp_base.specs.declared.link.Role.TheVariants.{Master, Slave}
@@ -12,6 +13,7 @@ use Rattle.wrp_base.specs.declared.message.Body.TheVariants.{Sync, DelayReq, Fol
 use Rattle.wrp_base.specs.declared.message.Head.{Head}
 use Rattle.wrp_base.specs.declared.message.PtpMsg.{PtpMsg}
 use Rattle.wrp_base.specs.declared.time.Stamp.{Stamp}
+use Rattle.wrp_base.proofs.Naturals.{le_of_same}
 use Rattle.wrp_data.specs.declared.reason.Reason.{Reason}
 use Rattle.wrp_exch.specs.Call.{Call as ExchangeCall, CallReqOut}
 use Rattle.wrp_exch.specs.Exchange.{four_of}
@@ -36,7 +38,6 @@ use Rattle.wrp_tracking.specs.ServoGives.{FoursRise}
 use Rattle.wrp_truth.proofs.FourCalls.{kept_before, measured_before}
 use Rattle.wrp_truth.proofs.FourSteps.{IsFree, IsOnlySlave, IsPlain, KeptByEach, answered, step_keeps_each}
 use Rattle.wrp_truth.proofs.HeldCalls.{IsNoMeasure}
-use Rattle.wrp_truth.proofs.Basics.{none_some}
 
 -- The pieces that the exchange of a port was given
 
@@ -60,12 +61,9 @@ one_more ring pieces piece k h = record { since = piece ∷ h.since; before = h.
 abbrev TellsOnly : ℕ → ExchangeCall → Type 0
 TellsOnly ticks piece = IfSome (tick_of piece) (λ t. t ≡ ticks)
 
-same_tick : (t ticks : ℕ) → t ≡ ticks → t ≤ ticks
-same_tick t ticks e = omega (arith, e)
-
 told_within : (o : Option ℕ) (ticks : ℕ) → IfSome o (λ t. t ≡ ticks) → IfSome o (λ t. t ≤ ticks)
 told_within None ticks h = tt
-told_within (Some t) ticks h = same_tick t ticks h
+told_within (Some t) ticks h = le_of_same t ticks h
 
 none_later : (o : Option ℕ) (ticks : ℕ) (pieces : List ExchangeCall) → IfSome o (λ t. t ≡ ticks) → NoneAfter ticks pieces → IfSome o (λ t. NoneAfter t pieces)
 none_later None ticks pieces h k = tt
@@ -174,7 +172,7 @@ answered_rises fixed p ticks told calls c kept r =
 
 four_told : (b : Bool) (ring : ℕ) (calls : List ExchangeCall) (o : Option ExchangeCall) (four : Four) → (if b then four_of ring (with_call o calls) else None) ≡ Some four → four_of ring (with_call o calls) ≡ Some four
 four_told true ring calls o four e = e
-four_told false ring calls o four e = absurd (none_some four e)
+four_told false ring calls o four e = absurd (none-some four e)
 
 -- it is of all pieces that its message leaves
 pub four_measured : (set : Setting) (told : List PortIn) (message : PtpMsg) (stamp : Stamp) (tick : ℕ) (four : Four) → measured_by set (line_of set told) (calls_of set told) (Msg message stamp tick) ≡ Some four →
@@ -259,7 +257,7 @@ each_rises fixed p =
               h.fours,
             );
           };
-      reset = λ ticks told calls h. record { pieces = record { last = tt; rise = tt; of = λ k e. absurd (none_some k e) }; fours = h.fours };
+      reset = λ ticks told calls h. record { pieces = record { last = tt; rise = tt; of = λ k e. absurd (none-some k e) }; fours = h.fours };
     }
 
 link_rises : (fixed : Fixed) (p ticks : ℕ) (told : List PortIn) (calls : List Call) (on : Option Deltas) → NodeRises fixed p ticks told calls → NodeRises fixed p ticks (answered fixed told calls (CallLink on)) (CallLink on ∷ calls)
@@ -274,7 +272,7 @@ link_rises fixed p ticks told calls on h =
     }
 
 new_node_rises : (fixed : Fixed) (p : ℕ) → NodeRises fixed p 0 [] []
-new_node_rises fixed p = record { pieces = record { last = tt; rise = tt; of = λ k e. absurd (none_some k e) }; fours = tt }
+new_node_rises fixed p = record { pieces = record { last = tt; rise = tt; of = λ k e. absurd (none-some k e) }; fours = tt }
 
 node_rises : (fixed : Fixed) (p : ℕ) → slave_of fixed.set ≡ Some p → IsOnlySlave fixed p → (inputs : List Taken) →
     NodeRises fixed p (node_after fixed inputs).ticks ((node_after fixed inputs).told p) (node_after fixed inputs).calls

@@ -1,5 +1,6 @@
 -- What a node's step keeps of its slave port and of its servo: what each telling of either keeps.
-use Rattle.std.proofs.Common.{◌≡◌, ◌∙◌, refl, ap, sym, subst, ℕ, ◌+◌, ℤ, ◌==◌, Bool, true, false, if◌then◌else◌, is_some, List, ◌∷◌, Option, None, Some, Result, Ok, Err, arith}
+use Rattle.std.proofs.Common.{◌≡◌, ◌∙◌, refl, ap, sym, subst, ℕ, ◌+◌, ℤ, ◌==◌, Bool, true, false, if◌then◌else◌, is_some, List, ◌∷◌, Option, None, Some, Result, Ok, Err}
+use Rattle.std.proofs.lemmas.Option.{none-some, same_Some}
 use Rattle.wrp_base.specs.declared.link.Deltas.{Deltas}
 use Rattle.wrp_base.specs.declared.link.Role.{Role}
 use Rattle.wrp_base.specs.declared.link.Role.TheVariants.{Master, Slave}
@@ -9,6 +10,7 @@ use Rattle.wrp_base.specs.declared.message.Head.{Head}
 use Rattle.wrp_base.specs.declared.message.PtpMsg.{PtpMsg}
 use Rattle.wrp_base.specs.declared.time.Raw.{Raw}
 use Rattle.wrp_base.specs.declared.time.Stamp.{Stamp}
+use Rattle.wrp_base.proofs.Naturals.{eq_self}
 use Rattle.wrp_data.specs.declared.reason.Reason.{Reason}
 use Rattle.wrp_exch.specs.Call.{Call as ExchangeCall}
 use Rattle.wrp_frame.specs.declared.fault.FrameFault.{FrameFault}
@@ -27,7 +29,6 @@ use Rattle.wrp_servo.specs.Call.{Call, CallSample, CallMeasured, CallTick, CallL
 use Rattle.wrp_servo.specs.declared.interface.ServoOut.{ServoOut}
 use Rattle.wrp_servo.specs.Servo.{answer_to}
 use Rattle.wrp_servo.specs.Told.{lease_told, link_told}
-use Rattle.wrp_truth.proofs.Basics.{none_some, some_is}
 
 -- of a node: its ticks, what its slave port was told, and its servo's calls
 abbrev pub At : (ℕ → List PortIn → List Call → Type 0) → ℕ → NodeAt → Type 0
@@ -76,12 +77,9 @@ IsOnlySlave fixed p = (q : ℕ) → (port_of fixed.set q).role ≡ Slave → q �
 
 -- One telling
 
-pub self_equal : (n : ℕ) → (n == n) ≡ true
-self_equal n = grind (arith)
-
 told_here : (o : Option ℕ) (p : ℕ) (out : ServoOut) (number : ℕ) (told : ℕ → List PortIn) → o ≡ Some p → told_by o out number told p ≡ heard_of out number (told p)
-told_here None p out number told e = absurd (none_some p e)
-told_here (Some q) p out number told e = ap (λ (b : Bool). if b then heard_of out number (told p) else told p) (ap (λ (k : ℕ). p == k) (some_is q p e) ∙ self_equal p)
+told_here None p out number told e = absurd (none-some p e)
+told_here (Some q) p out number told e = ap (λ (b : Bool). if b then heard_of out number (told p) else told p) (ap (λ (k : ℕ). p == k) (same_Some q p e) ∙ eq_self p)
 
 pub tell_some : (P : ℕ → List PortIn → List Call → Type 0) (fixed : Fixed) (p : ℕ) (s : Step) (c : Call) → slave_of fixed.set ≡ Some p → P s.node.ticks (answered fixed (s.node.told p) s.node.calls c) (c ∷ s.node.calls) → At P p (tell fixed (Some c) s).node
 tell_some P fixed p s c slave h =
@@ -114,8 +112,8 @@ told_where P ticks told calls input false f h = h
 
 master_none : (set : Setting) (reason : Option Reason) (role : Role) (head : Head) (body : Body) (stamp : Stamp) (tick : ℕ) (ring : ℕ) (calls : List ExchangeCall) (four : Four) → four_by ring calls (piece_unless reason (piece_of role head body stamp tick)) ≡ Some four → role ≡ Slave
 master_none set reason Slave head body stamp tick ring calls four e = refl
-master_none set None Master head body stamp tick ring calls four e = absurd (none_some four e)
-master_none set (Some r) Master head body stamp tick ring calls four e = absurd (none_some four e)
+master_none set None Master head body stamp tick ring calls four e = absurd (none-some four e)
+master_none set (Some r) Master head body stamp tick ring calls four e = absurd (none-some four e)
 
 pub measured_here : (fixed : Fixed) (p q : ℕ) (n : NodeAt) (m : PtpMsg) (stamp : Stamp) (tick : ℕ) (four : Four) → IsOnlySlave fixed p → measured_at fixed n q (Msg m stamp tick) ≡ Some four → q ≡ p
 measured_here fixed p q n m stamp tick four only e =
@@ -133,7 +131,7 @@ measured_to : (P : ℕ → List PortIn → List Call → Type 0) (fixed : Fixed)
     measured_at fixed n q (Msg m stamp n.ticks) ≡ o → At P p n → At P p (tell fixed (if has then measurement_by o answer else None) (used fixed q (Msg m stamp n.ticks) n)).node
 measured_to P fixed p q n m stamp answer true (Some four) k is h =
     let here : q ≡ p = measured_here fixed p q n m stamp n.ticks four k.only is in
-    let now : (p == q) ≡ true = ap (λ (i : ℕ). p == i) here ∙ self_equal p in
+    let now : (p == q) ≡ true = ap (λ (i : ℕ). p == i) here ∙ eq_self p in
     tell_some P fixed p (used fixed q (Msg m stamp n.ticks) n) (CallMeasured four answer) k.slave
     (subst (λ (b : Bool). P n.ticks (answered fixed (if b then Msg m stamp n.ticks ∷ n.told p else n.told p) n.calls (CallMeasured four answer)) (CallMeasured four answer ∷ n.calls)) (sym now)
     (k.each.measured n.ticks (n.told p) n.calls m stamp four answer (ap (λ (i : ℕ). measured_at fixed n i (Msg m stamp n.ticks)) (sym here) ∙ is) h))
@@ -160,8 +158,8 @@ lease_to P fixed p s k h =
     tell_where P fixed p s (is_some (slave_of fixed.set)) (is_changed (lease_told s.node.calls) fresh) (CallLease fresh) k.slave (λ e. k.each.call s.node.ticks (s.node.told p) s.node.calls (CallLease fresh) tt) h
 
 slave_told : (o : Option ℕ) (p : ℕ) (input : PortIn) (told : ℕ → List PortIn) → o ≡ Some p → told_slave o input told p ≡ input ∷ told p
-slave_told None p input told e = absurd (none_some p e)
-slave_told (Some q) p input told e = ap (λ (b : Bool). if b then input ∷ told p else told p) (ap (λ (k : ℕ). p == k) (some_is q p e) ∙ self_equal p)
+slave_told None p input told e = absurd (none-some p e)
+slave_told (Some q) p input told e = ap (λ (b : Bool). if b then input ∷ told p else told p) (ap (λ (k : ℕ). p == k) (same_Some q p e) ∙ eq_self p)
 
 counted_to : (P : ℕ → List PortIn → List Call → Type 0) (fixed : Fixed) (p : ℕ) (n : NodeAt) → Keeps fixed p P → At P p n → At P p (counted_tick fixed n)
 counted_to P fixed p n k h =

@@ -1,9 +1,11 @@
 -- In TRACK the four that stands is true of the chain, and young.
 use Rattle.std.proofs.Common.{◌≡◌, ◌∙◌, ap, sym, subst, ℕ, min, ◌+◌, ◌≤◌, pos, ◌+ℤ◌, ◌-ℤ◌, ◌≤ℤ◌, is_some, List, ◌∷◌, length, Option, None, Some, unsigned_abs, arith}
 use Rattle.std.specs.Prelude.{IfSome}
+use Rattle.std.proofs.lemmas.Option.{none-some, same_Some}
 use Rattle.wrp_base.specs.declared.link.ServoState.TheVariants.{Track}
 use Rattle.wrp_base.specs.declared.measurement.Four.{Four}
 use Rattle.wrp_base.specs.declared.network.LinkCfg.{LinkCfg}
+use Rattle.wrp_base.proofs.Naturals.{nat_le_trans}
 use Rattle.wrp_bounds.specs.Bounds.{numbers_of}
 use Rattle.wrp_bounds.specs.declared.numbers.HopNumbers.{HopNumbers}
 use Rattle.wrp_bounds.specs.Hop.{down_error, up_error}
@@ -21,6 +23,7 @@ use Rattle.wrp_servo.specs.declared.machine.Measurement.{Measurement}
 use Rattle.wrp_servo.specs.Laws.{TrackHasChain, TrackIsNear}
 use Rattle.wrp_servo.specs.Table.{is_track}
 use Rattle.wrp_servo.specs.Told.{ToldLast, ticks_told}
+use Rattle.wrp_servo.proofs.Gone.{set_is}
 use Rattle.wrp_tracking.specs.Closeness.{IsWithin}
 use Rattle.wrp_tracking.specs.DelayPieces.{PairTrue}
 use Rattle.wrp_tracking.specs.ErrorSum.{delay_sum, sync_sum}
@@ -35,13 +38,11 @@ use Rattle.wrp_truth.specs.Chains.{AllFit, ChainRuns}
 use Rattle.wrp_truth.specs.Exchanges.{DelaysTell, IsInChain, SyncsTell, exchange_at, ring_below}
 use Rattle.wrp_truth.specs.Fours.{FourHoldsInTrack, IsKept}
 use Rattle.wrp_truth.specs.Views.{moment_at, moments_of}
-use Rattle.wrp_truth.proofs.FourCalls.{set_stays}
-use Rattle.wrp_truth.proofs.FourEvents.{KeptFrom, kept_from, kept_in_chain, only_below, slave_below}
+use Rattle.wrp_truth.proofs.FourEvents.{KeptFrom, kept_from, kept_in_chain, only_below}
 use Rattle.wrp_truth.proofs.FourMoments.{IsTicksAgo, MomentLaws, was_mapped, young}
-use Rattle.wrp_truth.proofs.FourParts.{longer_part}
 use Rattle.wrp_truth.proofs.FourRises.{fours_rise}
 use Rattle.wrp_truth.proofs.NodeRuns.{node_is}
-use Rattle.wrp_truth.proofs.Basics.{none_some, some_is}
+use Rattle.wrp_truth.proofs.SyncGiven.{slave_at}
 
 -- the laws that this stands on
 pub record FourLaws : Type 0 where
@@ -63,9 +64,9 @@ pub record IsJoined (S : SyncPair → Type 0) (D : DelayPair → Type 0) (four :
   pub delayed : D delay
 
 joined : (S : SyncPair → Type 0) (D : DelayPair → Type 0) (o : Option SyncPair) (p : Option DelayPair) (four : Four) → join_pairs o p ≡ Some four → IfSome o S → IfSome p D → IsJoined S D four
-joined S D None p four e s d = absurd (none_some four e)
-joined S D (Some sync) None four e s d = absurd (none_some four e)
-joined S D (Some sync) (Some delay) four e s d = record { sync = sync; delay = delay; is = sym (some_is (four_from sync delay) four e); synced = s; delayed = d }
+joined S D None p four e s d = absurd (none-some four e)
+joined S D (Some sync) None four e s d = absurd (none-some four e)
+joined S D (Some sync) (Some delay) four e s d = record { sync = sync; delay = delay; is = sym (same_Some (four_from sync delay) four e); synced = s; delayed = d }
 
 -- The age of the four that stands
 
@@ -76,12 +77,12 @@ young_ticks laws s events k link kept run is track stands =
     let node : NodeAt = (world_after s events).node n in
     let x : Settings = settings_of (fixed_of s n) in
     let made : node ≡ node_after (fixed_of s n) ((world_after s events).inputs n) = node_is s events n in
-    let slave : _ = slave_below s run.network k link is in
+    let slave : _ = slave_at s run.network k link is in
     let rise : FoursRise x node.calls =
     subst (λ (m : NodeAt). FoursRise x m.calls) (sym made) (fours_rise (fixed_of s n) link.lower_port slave (only_below s run.network k link is) ((world_after s events).inputs n)) in
     let counted : ticks_told node.calls ≡ node.ticks =
     subst (λ (m : NodeAt). ticks_told m.calls ≡ m.ticks) (sym made) (ticks_agree (fixed_of s n) ((world_after s events).inputs n) (ap is_some slave)) in
-    let age : (servo_after x node.calls).set.age ≡ unsigned_abs s.cfg.age = ap (λ v. v.age) (set_stays x node.calls) ∙ ap (λ (z : NodeSet). z.servo.age) (run.network.set n) in
+    let age : (servo_after x node.calls).set.age ≡ unsigned_abs s.cfg.age = ap (λ v. v.age) (set_is x node.calls) ∙ ap (λ (z : NodeSet). z.servo.age) (run.network.set n) in
     in_age (servo_after x node.calls).ticks node.ticks kept.four.tick (servo_after x node.calls).set.age (unsigned_abs s.cfg.age) ((laws.told x node.calls).ticks ∙ counted) age
     (laws.young x node.calls kept laws.chain laws.near rise (ap is_track track) stands)
   where
@@ -98,9 +99,6 @@ tick_of_delay four sync delay ticks e f = subst (λ (t : ℕ). four.tick ≤ t) 
 
 few_ticks : (now tick sent age : ℕ) → now ≤ tick + age → tick ≤ sent → now ≤ sent + age
 few_ticks now tick sent age h k = omega (arith, h, k)
-
-no_later : (a b c : ℕ) → a ≤ b → b ≤ c → a ≤ c
-no_later a b c h k = omega (arith, h, k)
 
 -- the two pairs tell what they should
 abbrev TruePairs : (s : Setting) (events : List Happened) (k : ℕ) (link : LinkCfg) (hop : HopNumbers) → ChainRuns s events k link hop → Four → Type 0
@@ -131,8 +129,8 @@ ticks_ago s events k link hop chain kept of young w was sent = record {
 -- it was in the history that the chain's source goes back to
 from_source : (s : Setting) (events : List Happened) (k : ℕ) (link : LinkCfg) (hop : HopNumbers) (chain : ChainRuns s events k link hop) (at : ℕ) → length (chain.start ∷ chain.before) ≤ at → length chain.follows.older ≤ at
 from_source s events k link hop chain at since =
-    no_later (length chain.follows.older) (length (chain.start ∷ chain.before)) at
-    (subst (λ (l : List Happened). length chain.follows.older ≤ length l) (sym chain.follows.splits) (longer_part chain.follows.newer chain.follows.older)) since
+    nat_le_trans (length chain.follows.older) (length (chain.start ∷ chain.before)) at
+    (subst (λ (l : List Happened). length chain.follows.older ≤ length l) (sym chain.follows.splits) (rest_length chain.follows.newer chain.follows.older)) since
 
 pub four_holds_in_track : FourLaws → FourHoldsInTrack
 four_holds_in_track laws s h before k link hop kept run fit is numbers chain track stands =

@@ -1,11 +1,13 @@
 -- HOLDOVER of a servo, call by call: it is entered from TRACK, unlocked, and its ticks are counted.
 use Rattle.std.proofs.Common.{◌≡◌, ◌⊎◌, inl, inr, ◌∙◌, refl, ap, sym, subst, ℕ, ◌+◌, ◌-◌, ◌<◌, ◌≤◌, ℤ, ◌&&◌, cond, Bool, true, false, is_some, List, [], ◌∷◌, ◌++◌, Option, None, Some, arith}
-use Rattle.std.proofs.lemmas.Bool.Decides.{nat_tests}
 use Rattle.std.specs.Prelude.{nat_le}
+use Rattle.std.proofs.lemmas.Bool.{false≢true}
 use Rattle.wrp_base.specs.declared.link.Deltas.{Deltas}
 use Rattle.wrp_base.specs.declared.link.ServoState.{ServoState}
 use Rattle.wrp_base.specs.declared.link.ServoState.TheVariants.{Uninit, SyncTai, SyncNsec, SyncPhase, WaitStable, Track, Holdover}
+use Rattle.wrp_base.proofs.Naturals.{is_plus_zero}
 use Rattle.wrp_base.specs.declared.measurement.Four.{Four}
+use Rattle.wrp_base.proofs.Lists.{head_and_tail}
 use Rattle.wrp_servo.specs.declared.machine.Core.{Core}
 use Rattle.wrp_servo.specs.declared.machine.Measurement.{Measurement}
 use Rattle.wrp_servo.specs.Call.{Call, CallSample, CallMeasured, CallTick, CallLease, CallLink, CallCarrier, CallReset, Settings, after, is_reset, run}
@@ -16,9 +18,10 @@ use Rattle.wrp_servo.specs.LookBack.{enters_track, leaves_track}
 use Rattle.wrp_servo.specs.Measuring.{aimed, answered, delay_of, is_in, placed, x_of}
 use Rattle.wrp_servo.specs.Sampling.{followed, good, good_tag, heard, hears, is_far, is_holdover, is_within, judged, lost, may_start, chained, residual, stays_near, with_last, with_tag}
 use Rattle.wrp_servo.specs.Since.{Since, NoneEnds}
+use Rattle.wrp_servo.proofs.Tracks.{tracker}
 use Rattle.wrp_servo.specs.Table.{by_tick, ended, ended_by_age, is_old, is_past_gap, is_track, one_tick}
-use Rattle.wrp_truth.proofs.Holding.{IsCalmCall, calm_ticks, some_more}
-use Rattle.wrp_truth.proofs.Basics.{not_true, heads}
+use Rattle.wrp_servo.proofs.HoldoverLaws.{holder, more, off_link, still_few}
+use Rattle.wrp_truth.proofs.Holding.{IsCalmCall, calm_ticks}
 
 -- What enters TRACK and HOLDOVER
 
@@ -29,20 +32,20 @@ IsNoMeasure _ = Unit {0}
 
 enters_none : (x : Settings) (calls : List Call) (c : Call) → IsNoMeasure c → enters_track x calls c ≡ true → ⊥
 enters_none x calls (CallMeasured f y) h e = absurd h
-enters_none x calls (CallSample n base bits) h e = not_true e
-enters_none x calls CallTick h e = not_true e
-enters_none x calls (CallLease fresh) h e = not_true e
-enters_none x calls (CallLink on) h e = not_true e
-enters_none x calls (CallCarrier up) h e = not_true e
-enters_none x calls CallReset h e = not_true e
+enters_none x calls (CallSample n base bits) h e = false≢true e
+enters_none x calls CallTick h e = false≢true e
+enters_none x calls (CallLease fresh) h e = false≢true e
+enters_none x calls (CallLink on) h e = false≢true e
+enters_none x calls (CallCarrier up) h e = false≢true e
+enters_none x calls CallReset h e = false≢true e
 
 tracked_since : TrackSince → (x : Settings) (calls : List Call) (c : Call) (since : List Call) (start : Call) (before : List Call) → IsNoMeasure c → c ∷ calls ≡ since ++ start ∷ before → enters_track x before start ≡ true →
     NoneEnds (leaves_track x) since (start ∷ before) → is_track (run x calls).state ≡ true
 tracked_since law x calls c [] start before h e s n =
-    let it : (c ≡ start) × (calls ≡ before) = heads c start calls before e in
+    let it : (c ≡ start) × (calls ≡ before) = head_and_tail c start calls before e in
     absurd (enters_none x before start (subst IsNoMeasure it.0 h) s)
 tracked_since law x calls c (d ∷ since) start before h e s n =
-    let it : (c ≡ d) × (calls ≡ since ++ start ∷ before) = heads c d calls (since ++ start ∷ before) e in
+    let it : (c ≡ d) × (calls ≡ since ++ start ∷ before) = head_and_tail c d calls (since ++ start ∷ before) e in
     (law x calls).1 (record { since = since; start = start; before = before; splits = it.1; started = s; stays = n.1 })
 
 -- no other call enters TRACK
@@ -56,10 +59,10 @@ fewer_ticks a b holdover h k = omega (arith, h, k)
 
 held_since : HoldoverSince → (x : Settings) (calls : List Call) (c : Call) (i : InHoldover x (c ∷ calls)) (since : List Call) → i.since ≡ since → 0 < x.set.holdover → (is_track (run x calls).state ≡ true) ⊎ (is_holdover (run x calls).state ≡ true)
 held_since law x calls c i [] e some =
-    let it : (c ≡ i.leave) × (calls ≡ i.before) = heads c i.leave calls i.before (i.splits ∙ ap (λ l. l ++ i.leave ∷ i.before) e) in
+    let it : (c ≡ i.leave) × (calls ≡ i.before) = head_and_tail c i.leave calls i.before (i.splits ∙ ap (λ l. l ++ i.leave ∷ i.before) e) in
     inl (subst (λ l. is_track (run x l).state ≡ true) (sym it.1) i.stood)
 held_since law x calls c i (d ∷ since) e some =
-    let it : (c ≡ d) × (calls ≡ since ++ i.leave ∷ i.before) = heads c d calls (since ++ i.leave ∷ i.before) (i.splits ∙ ap (λ l. l ++ i.leave ∷ i.before) e) in
+    let it : (c ≡ d) × (calls ≡ since ++ i.leave ∷ i.before) = head_and_tail c d calls (since ++ i.leave ∷ i.before) (i.splits ∙ ap (λ l. l ++ i.leave ∷ i.before) e) in
     let few : ticks_among (d ∷ since) < x.set.holdover = subst (λ l. ticks_among l < x.set.holdover) e i.few_ticks in
     inr ((law x calls some).1 (record {
       since = since;
@@ -70,7 +73,7 @@ held_since law x calls c i (d ∷ since) e some =
       left = i.left;
       no_reset = i.no_reset;
       none_since = (subst NoneResets e i.none_since).1;
-      few_ticks = fewer_ticks (ticks_among since) (ticks_among (d ∷ since)) x.set.holdover (some_more d since) few;
+      few_ticks = fewer_ticks (ticks_among since) (ticks_among (d ∷ since)) x.set.holdover (more d since) few;
     }))
 
 -- before a call that leads to HOLDOVER there was TRACK or HOLDOVER
@@ -84,10 +87,6 @@ pub record OnHold (v : Core) (t : ℕ) : Type 0 where
   pub first : v.first ≡ None
   pub ticks : v.ticks ≡ v.left_tick + t
   pub locked : v.phase.lock.locked ≡ false
-
--- other calls leave it so
-abbrev holder : Core → Core
-holder v = record v { state = Holdover; first = None }
 
 calm_holder : (x : Settings) (v : Core) (t : ℕ) (c : Call) → IsCalmCall c → v.ticks ≡ v.left_tick + t → v.phase.lock.locked ≡ false → OnHold (after x (holder v) c) t
 calm_holder x v t (CallSample n base bits) calm e l =
@@ -113,19 +112,9 @@ calm_holds x calls c t calm h =
     let v : Core = run x calls in
     subst (λ u. OnHold (after x u c) t) (sym (as_holder v h.state h.first)) (calm_holder x v t c calm h.ticks h.locked)
 
--- a tick is one more, but for the last
-still_few : (holdover ticks left t : ℕ) → ticks ≡ left + t → nat_le holdover ((ticks + 1) - left) ≡ false → t + 1 < holdover
-still_few holdover ticks left t e test =
-    let below : (ticks + 1) - left < holdover = grind (arith, nat_tests) in
-    omega arith
-
-off_link : (b : Bool) → is_holdover (cond b SyncTai Uninit) ≡ false
-off_link true = refl
-off_link false = refl
-
 tick_holder : (v : Core) (t : ℕ) (b : Bool) → nat_le v.set.holdover ((v.ticks + 1) - v.left_tick) ≡ b → v.ticks ≡ v.left_tick + t → v.phase.lock.locked ≡ false → is_holdover (cond b (record (one_tick (holder v)) { state = cond (is_some v.signals.link) SyncTai Uninit; phase = restarted v.phase }) (one_tick (holder v))).state ≡ true →
     OnHold (cond b (record (one_tick (holder v)) { state = cond (is_some v.signals.link) SyncTai Uninit; phase = restarted v.phase }) (one_tick (holder v))) (t + 1) × (t + 1 < v.set.holdover)
-tick_holder v t true test e l h = absurd (not_true (sym (off_link (is_some v.signals.link)) ∙ h))
+tick_holder v t true test e l h = absurd (false≢true (sym (off_link (is_some v.signals.link)) ∙ h))
 tick_holder v t false test e l h = (record { state = refl; first = refl; ticks = omega (arith, e); locked = l }, still_few v.set.holdover v.ticks v.left_tick t e test)
 
 pub tick_holds : (x : Settings) (calls : List Call) (t : ℕ) → OnHold (run x calls) t → is_holdover (run x (CallTick ∷ calls)).state ≡ true → OnHold (run x (CallTick ∷ calls)) (t + 1) × (t + 1 < (run x calls).set.holdover)
@@ -142,15 +131,9 @@ abbrev pub IsNoReset : Call → Type 0
 IsNoReset CallReset = ⊥
 IsNoReset _ = Unit {0}
 
-abbrev tracker : Core → ℕ → Core
-tracker v m = record v { state = Track; first = Some m }
-
 -- either TRACK stands, or it is on hold since now
 abbrev pub TracksOrHolds : Core → Type 0
 TracksOrHolds v = (is_track v.state ≡ true) ⊎ OnHold v 0
-
-none_gone : (n : ℕ) → n ≡ n + 0
-none_gone n = omega arith
 
 either-holds : (b : Bool) (v w : Core) → TracksOrHolds v → TracksOrHolds w → TracksOrHolds (cond b v w)
 either-holds true v w h k = h
@@ -161,16 +144,16 @@ abbrev fallen : Core → ℕ → Type 0
 fallen v m = OnHold (ended (tracker v m)) 0
 
 falls : (v : Core) (m : ℕ) → fallen v m
-falls v m = record { state = refl; first = refl; ticks = none_gone v.ticks; locked = refl }
+falls v m = record { state = refl; first = refl; ticks = is_plus_zero v.ticks; locked = refl }
 
 good-holds : (v : Core) (m n tag : ℕ) → TracksOrHolds (good (with_tag (with_last (tracker v m) n) tag) n)
 good-holds v m n tag =
     let w : Core = with_tag (with_last (tracker v m) n) tag in
     let f : Core = followed w in
-    either-holds (is_far w.phase.u) (lost w) (judged (chained f n)) (inr (record { state = refl; first = refl; ticks = none_gone w.ticks; locked = refl }))
+    either-holds (is_far w.phase.u) (lost w) (judged (chained f n)) (inr (record { state = refl; first = refl; ticks = is_plus_zero w.ticks; locked = refl }))
     (elim f.phase.lock.locked as (λ l. TracksOrHolds (judged (cond l (cond (may_start f) (record f { first = Some n }) f) (ended f)))) [
-      | true ↦ either-holds (stays_near f) f (ended f) (inl refl) (inr (record { state = refl; first = refl; ticks = none_gone f.ticks; locked = refl }))
-      | false ↦ inr (record { state = refl; first = refl; ticks = none_gone f.ticks; locked = refl })
+      | true ↦ either-holds (stays_near f) f (ended f) (inl refl) (inr (record { state = refl; first = refl; ticks = is_plus_zero f.ticks; locked = refl }))
+      | false ↦ inr (record { state = refl; first = refl; ticks = is_plus_zero f.ticks; locked = refl })
     ])
 
 heard-holds : (v : Core) (m n : ℕ) (tag : Option ℕ) → TracksOrHolds (heard (with_last (tracker v m) n) n tag)
@@ -181,8 +164,8 @@ tick-holds : (v : Core) (m : ℕ) → TracksOrHolds (by_tick (tracker v m))
 tick-holds v m =
     let w : Core = one_tick (tracker v m) in
     elim (is_past_gap w) as (λ g. TracksOrHolds (ended_by_age (cond g (ended w) w))) [
-      | true ↦ inr (record { state = refl; first = refl; ticks = none_gone w.ticks; locked = refl })
-      | false ↦ either-holds (is_old w) (ended w) w (inr (record { state = refl; first = refl; ticks = none_gone w.ticks; locked = refl })) (inl refl)
+      | true ↦ inr (record { state = refl; first = refl; ticks = is_plus_zero w.ticks; locked = refl })
+      | false ↦ either-holds (is_old w) (ended w) w (inr (record { state = refl; first = refl; ticks = is_plus_zero w.ticks; locked = refl })) (inl refl)
     ]
 
 measured-holds : (x : Settings) (v : Core) (m : ℕ) (f : Four) (y : ℤ) (on : Option Deltas) → TracksOrHolds (answered x.lo x.hi (tracker v m) f y on)
@@ -191,7 +174,7 @@ measured-holds x v m f y (Some d) =
     let k : Measurement = record { four = f; delay = delay_of d y } in
     let w : Core = record (tracker v m) { kept = Some k } in
     either-holds (is_in x.lo x.hi (x_of d f)) (placed (tracker v m) k) (ended (tracker v m))
-    (either-holds (is_within v.set.track_tau (residual v.phase k)) (aimed w k Track) (ended w) (inl refl) (inr (record { state = refl; first = refl; ticks = none_gone v.ticks; locked = refl })))
+    (either-holds (is_within v.set.track_tau (residual v.phase k)) (aimed w k Track) (ended w) (inl refl) (inr (record { state = refl; first = refl; ticks = is_plus_zero v.ticks; locked = refl })))
     (inr (falls v m))
 
 tracker-holds : (x : Settings) (v : Core) (m : ℕ) (call : Call) → IsNoReset call → TracksOrHolds (after x (tracker v m) call)
@@ -200,11 +183,11 @@ tracker-holds x v m (CallSample n base bits) r =
 tracker-holds x v m (CallMeasured f y) r = measured-holds x v m f y v.signals.link
 tracker-holds x v m CallTick r = tick-holds v m
 tracker-holds x v m (CallLease true) r = inl refl
-tracker-holds x v m (CallLease false) r = inr (record { state = refl; first = refl; ticks = none_gone v.ticks; locked = refl })
-tracker-holds x v m (CallLink None) r = inr (record { state = refl; first = refl; ticks = none_gone v.ticks; locked = refl })
+tracker-holds x v m (CallLease false) r = inr (record { state = refl; first = refl; ticks = is_plus_zero v.ticks; locked = refl })
+tracker-holds x v m (CallLink None) r = inr (record { state = refl; first = refl; ticks = is_plus_zero v.ticks; locked = refl })
 tracker-holds x v m (CallLink (Some d)) r = inl refl
 tracker-holds x v m (CallCarrier true) r = inl refl
-tracker-holds x v m (CallCarrier false) r = inr (record { state = refl; first = refl; ticks = none_gone v.ticks; locked = refl })
+tracker-holds x v m (CallCarrier false) r = inr (record { state = refl; first = refl; ticks = is_plus_zero v.ticks; locked = refl })
 tracker-holds x v m CallReset r = absurd r
 
 pub state_of_track : (s : ServoState) → is_track s ≡ true → s ≡ Track
@@ -217,7 +200,7 @@ state_of_track WaitStable e = cc
 state_of_track Holdover e = cc
 
 first_of : (o : Option ℕ) → is_some o ≡ true → (m : ℕ) × (o ≡ Some m)
-first_of None e = absurd (not_true e)
+first_of None e = absurd (false≢true e)
 first_of (Some m) e = (m, refl)
 
 as_tracker : (v : Core) (m : ℕ) → v.state ≡ Track → v.first ≡ Some m → v ≡ tracker v m
@@ -233,13 +216,13 @@ tracked_holds law x calls c r e =
 -- HOLDOVER as the look-back on it says
 
 not_both : (s : ServoState) → is_track s ≡ true → is_holdover s ≡ true → ⊥
-not_both Track e h = not_true h
-not_both Holdover e h = not_true e
-not_both Uninit e h = not_true e
-not_both SyncTai e h = not_true e
-not_both SyncNsec e h = not_true e
-not_both SyncPhase e h = not_true e
-not_both WaitStable e h = not_true e
+not_both Track e h = false≢true h
+not_both Holdover e h = false≢true e
+not_both Uninit e h = false≢true e
+not_both SyncTai e h = false≢true e
+not_both SyncNsec e h = false≢true e
+not_both SyncPhase e h = false≢true e
+not_both WaitStable e h = false≢true e
 
 calm_or_not : (c : Call) → is_reset c ≡ false → (c ≡ CallTick) ⊎ IsCalmCall c
 calm_or_not (CallSample n base bits) e = inr tt
@@ -248,7 +231,7 @@ calm_or_not CallTick e = inl refl
 calm_or_not (CallLease fresh) e = inr tt
 calm_or_not (CallLink on) e = inr tt
 calm_or_not (CallCarrier up) e = inr tt
-calm_or_not CallReset e = absurd (not_true (sym e))
+calm_or_not CallReset e = absurd (false≢true (sym e))
 
 no_reset : (c : Call) → is_reset c ≡ false → IsNoReset c
 no_reset (CallSample n base bits) e = tt
@@ -257,7 +240,7 @@ no_reset CallTick e = tt
 no_reset (CallLease fresh) e = tt
 no_reset (CallLink on) e = tt
 no_reset (CallCarrier up) e = tt
-no_reset CallReset e = absurd (not_true (sym e))
+no_reset CallReset e = absurd (false≢true (sym e))
 
 pub record HoldLaws : Type 0 where
   pub held : HoldoverSince
@@ -275,7 +258,7 @@ holds_since laws x [] leave before some stood left r none few =
     ]
 holds_since laws x (c ∷ since) leave before some stood left r none few =
     let calls : List Call = since ++ leave ∷ before in
-    let less : ticks_among since < x.set.holdover = fewer_ticks (ticks_among since) (ticks_among (c ∷ since)) x.set.holdover (some_more c since) few in
+    let less : ticks_among since < x.set.holdover = fewer_ticks (ticks_among since) (ticks_among (c ∷ since)) x.set.holdover (more c since) few in
     let known : OnHold (run x calls) (ticks_among since) = holds_since laws x since leave before some stood left r none.1 less in
     let h : is_holdover (run x (c ∷ calls)).state ≡ true =
     (laws.held x (c ∷ calls) some).1 (record { since = c ∷ since; leave = leave; before = before; splits = refl; stood = stood; left = left; no_reset = r; none_since = none; few_ticks = few }) in

@@ -3,11 +3,12 @@ use Rattle.std.proofs.Common.{◌≡◌, ◌⊎◌, inl, inr, ◌∙◌, refl, a
 use Rattle.std.proofs.lemmas.Bool.Decides.{eqb_tells}
 use Rattle.std.proofs.lemmas.Int.{ints}
 use Rattle.std.proofs.Math.Nat.{mul-le-mul_right}
-use Rattle.wrp_base.specs.declared.link.ServoState.{ServoState}
-use Rattle.wrp_base.specs.declared.link.ServoState.TheVariants.{Uninit, SyncTai, SyncNsec, SyncPhase, WaitStable, Track, Holdover}
+use Rattle.std.proofs.lemmas.Bool.{cases_Bool, false≢true}
+use Rattle.wrp_base.specs.declared.link.ServoState.TheVariants.{Holdover}
 use Rattle.wrp_base.specs.declared.message.PtpMsg.{PtpMsg}
 use Rattle.wrp_base.specs.declared.network.LinkCfg.{LinkCfg}
 use Rattle.wrp_base.specs.Network.{link_above, node_count}
+use Rattle.wrp_base.proofs.Naturals.{nat_le_self}
 use Rattle.wrp_bounds.specs.Times.{longest_tick, shortest_tick, frame_life}
 use Rattle.wrp_frame.specs.declared.fault.FrameFault.{FrameFault}
 use Rattle.wrp_node.specs.declared.interface.Input.TheVariants.{Tick as TickInput}
@@ -19,9 +20,11 @@ use Rattle.wrp_servo.specs.declared.machine.Core.{Core}
 use Rattle.wrp_servo.specs.Laws.{NoStepInTrack}
 use Rattle.wrp_servo.specs.Sampling.{is_holdover}
 use Rattle.wrp_servo.specs.Table.{is_track}
+use Rattle.wrp_handshake.proofs.Times.{passes}
 use Rattle.wrp_tracking.specs.History.{EachStep, IsSlow}
 use Rattle.wrp_world.specs.declared.event.Event.{Event}
 use Rattle.wrp_world.specs.declared.event.Event.TheVariants.{Tick, Up}
+use Rattle.wrp_truth.proofs.FourMoments.{longer}
 use Rattle.wrp_world.specs.Given.{given_plain, taken_of}
 use Rattle.wrp_world.specs.Premises.{is_holdover as held_state, rate_of}
 use Rattle.wrp_world.specs.Run.{Happened, world_after, worlds_of}
@@ -29,23 +32,22 @@ use Rattle.wrp_world.specs.RunLaws.{TicksAreApart}
 use Rattle.wrp_world.specs.Runs.{IsNetwork, IsRun}
 use Rattle.wrp_world.specs.Setting.{Setting, fixed_of, link_of, of_node}
 use Rattle.wrp_world.specs.WorldAt.{WorldAt}
-use Rattle.wrp_world.proofs.RunTimes.{comes_up_down}
+use Rattle.wrp_world.proofs.RunTimes.{comes_up_down, not_up}
 use Rattle.wrp_truth.specs.Holdovers.{HoldoverIsShort, IsHeld}
 use Rattle.wrp_truth.specs.Moments.{AtEach}
 use Rattle.wrp_truth.proofs.ChainMoves.{nothing_later}
 use Rattle.wrp_truth.proofs.HeldCalls.{HoldLaws, IsNoMeasure, IsTicked, OnHold, calm_holds, on_hold, one_hold, ticked_first, ticked_stays}
 use Rattle.wrp_truth.proofs.Holding.{IsCalmCall}
 use Rattle.wrp_truth.proofs.Inputs.{node_kept}
-use Rattle.wrp_truth.proofs.LeaseSources.{same_last}
+use Rattle.wrp_truth.proofs.LeaseSources.{same_last, some_holdover}
 use Rattle.wrp_truth.proofs.LinksAbove.{above_at}
 use Rattle.wrp_truth.proofs.Moving.{clock_slow, kept_by}
 use Rattle.wrp_truth.proofs.NodeSteps.{still_in_track}
 use Rattle.wrp_truth.proofs.OnTime.{on_time, ticked_past}
-use Rattle.wrp_truth.proofs.Parents.{IsCalmOf, calm_to, has_servo, not_up, ticked_node, with_servo}
+use Rattle.wrp_truth.proofs.Parents.{IsCalmOf, calm_to, has_servo, ticked_node, with_servo, state_holdover}
 use Rattle.wrp_truth.proofs.Slow.{as_slow}
 use Rattle.wrp_truth.proofs.StepCalls.{IsCalm, IsTelling, calls_kept, told_tick}
 use Rattle.wrp_truth.proofs.Suffixes.{run_before}
-use Rattle.wrp_truth.proofs.Basics.{not_true}
 
 -- the laws that this stands on
 pub record HeldLaws : Type 0 where
@@ -59,14 +61,10 @@ core_at s events n = servo_at (fixed_of s n) ((world_after s events).node n)
 
 -- A network's HOLDOVER has a tick
 
-some_ticks : (holdover a dmin : ℕ) → a < (holdover - 1) * dmin → 0 < holdover
-some_ticks zero a dmin h = absurd (omega arith)
-some_ticks (suc k) a dmin h = omega arith
-
 pub lasts : (s : Setting) → IsNetwork s → (n : ℕ) → 0 < (settings_of (fixed_of s n)).set.holdover
 lasts s net n =
     subst (λ z. 0 < z) (sym (ap (λ (x : NodeSet). x.servo.holdover) (net.set n)))
-    (some_ticks (unsigned_abs s.cfg.holdover) ((unsigned_abs s.cfg.lease + 1) * longest_tick s.cfg + frame_life s.cfg) (shortest_tick s.cfg) net.accepted.inequalities.holdover_time)
+    (some_holdover (unsigned_abs s.cfg.holdover) ((unsigned_abs s.cfg.lease + 1) * longest_tick s.cfg + frame_life s.cfg) (shortest_tick s.cfg) net.accepted.inequalities.holdover_time)
 
 -- The servo of a node in HOLDOVER
 
@@ -115,10 +113,10 @@ tick_on laws s says y before n m t link net above same hold =
 
 unlocked_keeps : (below up locked held : Bool) (slew hold : ℕ) → below ≡ true → up ≡ true → locked ≡ false → held ≡ true → kept_by below up locked held slew hold ≡ Some hold
 unlocked_keeps true true false true slew hold b u l h = refl
-unlocked_keeps true true false false slew hold b u l h = absurd (not_true h)
-unlocked_keeps true true true held slew hold b u l h = absurd (not_true (sym l))
-unlocked_keeps true false locked held slew hold b u l h = absurd (not_true u)
-unlocked_keeps false up locked held slew hold b u l h = absurd (not_true b)
+unlocked_keeps true true false false slew hold b u l h = absurd (false≢true h)
+unlocked_keeps true true true held slew hold b u l h = absurd (false≢true (sym l))
+unlocked_keeps true false locked held slew hold b u l h = absurd (false≢true u)
+unlocked_keeps false up locked held slew hold b u l h = absurd (false≢true b)
 
 held_rate : (s : Setting) (events : List Happened) (n t : ℕ) (link : LinkCfg) → IsNetwork s → link_above s.cfg n ≡ Some link → IsHeld s n events → OnHold (core_at s events n) t → rate_of s (world_after s events) n ≡ Some (of_node (λ node. node.held) s n)
 held_rate s events n t link net above h hold =
@@ -126,9 +124,6 @@ held_rate s events n t link net above h hold =
     let fixed : Fixed = fixed_of s n in
     let lock : locked_of fixed (w.node n) ≡ false = ap (λ (b : Bool). if b then (servo_at fixed (w.node n)).phase.lock.locked else false) (has_servo s net n link above) ∙ hold.locked in
     unlocked_keeps (is_some (link_above s.cfg n)) (w.clock n).up (locked_of fixed (w.node n)) (held_state (state_of fixed (w.node n))) (of_node (λ node. node.slew) s n) (of_node (λ node. node.held) s n) (ap is_some above) h.up lock (ap held_state h.state)
-
-same_rate : (n : ℕ) → n ≤ n
-same_rate n = omega arith
 
 is_inside : (s : Setting) (n : ℕ) (link : LinkCfg) → IsNetwork s → link_above s.cfg n ≡ Some link → n < node_count s.cfg
 is_inside s n link net above =
@@ -142,34 +137,21 @@ held_slow laws s h before n t link run above held hold =
     let rate : ℕ = of_node (λ node. node.held) s n in
     let inside : n < node_count s.cfg = is_inside s n link run.network above in
     as_slow (λ (x : WorldAt). x.time) rate (λ (x : WorldAt). (x.clock n).off) w (world_after s (h ∷ before))
-    (clock_slow laws.commands s h.says h.answer before h.event n rate rate (λ _. Unit {0}) run inside held.up (held_rate s before n t link run.network above held hold) (same_rate rate)
+    (clock_slow laws.commands s h.says h.answer before h.event n rate rate (λ _. Unit {0}) run inside held.up (held_rate s before n t link run.network above held hold) (nat_le_self rate)
     (λ u k. still_in_track laws.commands laws.still (fixed_of s n) u (w.node n) (ap (λ z. is_track z || is_holdover z) hold.state)) tt)
 
 -- Through one more event
 
-pub is_true : (b : Bool) → (b ≡ true) ⊎ (b ≡ false)
-is_true true = inl refl
-is_true false = inr refl
-
-pub state_held : (z : ServoState) → is_holdover z ≡ true → z ≡ Holdover
-state_held Holdover e = refl
-state_held Track e = absurd (not_true e)
-state_held Uninit e = absurd (not_true e)
-state_held SyncTai e = absurd (not_true e)
-state_held SyncNsec e = absurd (not_true e)
-state_held SyncPhase e = absurd (not_true e)
-state_held WaitStable e = absurd (not_true e)
-
 held_or_not : (s : Setting) (events : List Happened) (n : ℕ) (link : LinkCfg) → IsNetwork s → link_above s.cfg n ≡ Some link → IsHeld s n events ⊎ (IsHeld s n events → ⊥)
-held_or_not s events n link net above = elim (is_true ((world_after s events).clock n).up) [
-  | inl up ↦ elim (is_true (is_holdover (core_at s events n).state)) [
-    | inl e ↦ inl (core_held s events n link net above up (state_held (core_at s events n).state e))
-    | inr e ↦ inr (λ h. not_true (sym e ∙ held_core s events n link net above h))
+held_or_not s events n link net above = elim (cases_Bool ((world_after s events).clock n).up) [
+  | inl up ↦ elim (cases_Bool (is_holdover (core_at s events n).state)) [
+    | inl e ↦ inl (core_held s events n link net above up (state_holdover (core_at s events n).state e))
+    | inr e ↦ inr (λ h. false≢true (sym e ∙ held_core s events n link net above h))
   ]
-  | inr down ↦ inr (λ h. not_true (sym down ∙ h.up))
+  | inr down ↦ inr (λ h. false≢true (sym down ∙ h.up))
 ]
 
-one_turn : (now last at : ℤ) (t dmax : ℕ) → now ≤ℤ (last +ℤ pos dmax) → last ≤ℤ (at +ℤ pos (t * dmax)) → now ≤ℤ (at +ℤ pos ((t + 1) * dmax))
+pub one_turn : (now last at : ℤ) (t dmax : ℕ) → now ≤ℤ (last +ℤ pos dmax) → last ≤ℤ (at +ℤ pos (t * dmax)) → now ≤ℤ (at +ℤ pos ((t + 1) * dmax))
 one_turn now last at t dmax h k =
     let more : (t + 1) * dmax ≡ t * dmax + dmax = grind (arith) in
     sum now last at (t * dmax) ((t + 1) * dmax) dmax more h k
@@ -206,11 +188,6 @@ stays laws s says y before e n t link at run above held now hold late = calm_sta
 
 -- Over a run
 
--- the worlds' history is one longer than the events
-longer : (s : Setting) (h : Happened) (before : List Happened) (k : ℕ) (P : WorldAt → WorldAt → Type 0) → P (world_after s before) (world_after s (h ∷ before)) → EachStep P k (worlds_of s before) → EachStep P k (worlds_of s (h ∷ before))
-longer s h [] k P p rest = (λ less. p, rest)
-longer s h (g ∷ before) k P p rest = (λ less. p, rest)
-
 one_world : (n : ℕ) → suc zero ≤ suc n
 one_world n = omega arith
 
@@ -237,9 +214,6 @@ pub record KeptSince (s : Setting) (n : ℕ) (events : List Happened) (t : ℕ) 
 abbrev HeldStep : Setting → ℕ → WorldAt → WorldAt → Type 0
 HeldStep s n = IsSlow (λ (w : WorldAt). w.time) (of_node (λ node. node.held) s n) (λ (w : WorldAt). (w.clock n).off)
 
-past_it : (a b : ℤ) (p : ℕ) → a ≤ℤ b → a ≤ℤ (b +ℤ pos p)
-past_it a b p h = omega (arith, ints, h)
-
 entered : HeldLaws → (s : Setting) (h : Happened) (before : List Happened) (n t : ℕ) → IsRun s (h ∷ before) → IsHeld s n (h ∷ before) → (IsHeld s n before → ⊥) → KeptSince s n (h ∷ before) t
 entered laws s h before n t run held out = record {
   newer = [];
@@ -249,7 +223,7 @@ entered laws s h before n t run held out = record {
   begins = out;
   held = held;
   slow = nothing_later (HeldStep s n) (length (h ∷ before)) (worlds_of s (h ∷ before)) (worlds_count s (h ∷ before));
-  late = past_it ((world_after s (h ∷ before)).clock n).ticked (world_after s (h ∷ before)).time (t * longest_tick s.cfg) (ticked_past laws.apart s (h ∷ before) n run);
+  late = passes ((world_after s (h ∷ before)).clock n).ticked (world_after s (h ∷ before)).time (t * longest_tick s.cfg) (ticked_past laws.apart s (h ∷ before) n run);
 }
 
 extended : HeldLaws → (s : Setting) (h : Happened) (before : List Happened) (n u t : ℕ) (link : LinkCfg) → IsRun s (h ∷ before) → link_above s.cfg n ≡ Some link → IsHeld s n before → IsHeld s n (h ∷ before) → OnHold (core_at s (h ∷ before) n) t →
@@ -270,7 +244,7 @@ extended laws s h before n u t link run above was held hold older k =
     }
 
 kept_since : HeldLaws → (s : Setting) (events : List Happened) (n t : ℕ) (link : LinkCfg) → IsRun s events → link_above s.cfg n ≡ Some link → IsHeld s n events → OnHold (core_at s events n) t → KeptSince s n events t
-kept_since laws s [] n t link run above held hold = absurd (not_true held.up)
+kept_since laws s [] n t link run above held hold = absurd (false≢true held.up)
 kept_since laws s (h ∷ before) n t link run above held hold = elim (held_or_not s before n link run.network above) [
   | inl was ↦
       let prior : IsRun s before = run_before s h before run in

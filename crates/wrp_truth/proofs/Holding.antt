@@ -1,7 +1,8 @@
 -- A servo that was in TRACK is in TRACK or HOLDOVER until the ticks of HOLDOVER have passed.
-use Rattle.std.proofs.Common.{◌≡◌, ◌⊎◌, inl, inr, ◌∙◌, refl, ap, sym, subst, ℕ, zero, suc, ◌+◌, ◌-◌, ◌*◌, ◌≤◌, ◌<◌, ℤ, pos, ◌+ℤ◌, ◌≤ℤ◌, Bool, true, false, List, [], ◌∷◌, ◌++◌, arith}
+use Rattle.std.proofs.Common.{◌≡◌, ◌⊎◌, inl, inr, ◌∙◌, refl, ap, sym, subst, ℕ, zero, suc, ◌+◌, ◌-◌, ◌*◌, ◌≤◌, ◌<◌, ℤ, pos, ◌+ℤ◌, ◌≤ℤ◌, true, false, List, [], ◌∷◌, ◌++◌, arith}
 use Rattle.std.proofs.lemmas.Int.{ints}
 use Rattle.std.proofs.Math.Nat.{mul-le-mul_right}
+use Rattle.std.proofs.lemmas.Bool.{cases_Bool, cases_lt}
 use Rattle.wrp_servo.specs.Call.{Call, CallSample, CallMeasured, CallTick, CallLease, CallLink, CallCarrier, CallReset, Settings, run, is_reset}
 use Rattle.wrp_servo.specs.Holdover.{ticks_among, NoneResets, InHoldover, HoldoverSince}
 use Rattle.wrp_servo.specs.Laws.{TrackSince}
@@ -9,21 +10,9 @@ use Rattle.wrp_servo.specs.LookBack.{enters_track, leaves_track}
 use Rattle.wrp_servo.specs.Sampling.{is_holdover}
 use Rattle.wrp_servo.specs.Since.{Since}
 use Rattle.wrp_servo.specs.Table.{is_track}
+use Rattle.wrp_servo.proofs.HoldoverLaws.{more as some_more}
 
 -- Lists of calls
-
-bool_is : (b : Bool) → (b ≡ true) ⊎ (b ≡ false)
-bool_is true = inl refl
-bool_is false = inr refl
-
-pub some_more : (call : Call) (calls : List Call) → ticks_among calls ≤ ticks_among (call ∷ calls)
-some_more CallTick calls = omega arith
-some_more (CallSample n base bits) calls = omega arith
-some_more (CallMeasured f y) calls = omega arith
-some_more (CallLease fresh) calls = omega arith
-some_more (CallLink on) calls = omega arith
-some_more (CallCarrier up) calls = omega arith
-some_more CallReset calls = omega arith
 
 -- one call more at both of two lists
 both_more : (call : Call) (calls others : List Call) → ticks_among calls ≤ ticks_among others → ticks_among (call ∷ calls) ≤ ticks_among (call ∷ others)
@@ -56,7 +45,7 @@ track_stays law x calls call track stays =
 stands_on : TrackSince → (x : Settings) (calls : List Call) (call : Call) (ticks more : ℕ) → is_reset call ≡ false → 0 < x.set.holdover → more < x.set.holdover →
     ((since : List Call) → ticks_among since ≤ ticks → ticks_among (call ∷ since) ≤ more) → Stands x calls ticks → Stands x (call ∷ calls) more
 stands_on law x calls call ticks more no_reset some few grows (inl track) =
-    elim (bool_is (leaves_track x calls call)) [
+    elim (cases_Bool (leaves_track x calls call)) [
       | inl left ↦
           inr (
             record { since = []; leave = call; before = calls; splits = refl; stood = track; left = left; no_reset = no_reset; none_since = tt; few_ticks = some },
@@ -194,13 +183,10 @@ enough dmin holdover (suc e) at ticked h some all =
     sum : (at ticked : ℤ) (p q : ℕ) → p ≤ q → (at +ℤ pos q) ≤ℤ ticked → (at +ℤ pos p) ≤ℤ ticked
     sum at ticked p q more late = omega (arith, ints)
 
-few_or_not : (a b : ℕ) → (a < b) ⊎ (b ≤ a)
-few_or_not a b = grind (arith)
-
 pub follows_still : TrackSince → HoldoverSince → (x : Settings) (dmin : ℕ) (at ticked : ℤ) (calls : List Call) → 0 < x.set.holdover → Followed x dmin at ticked calls →
     ((at +ℤ pos ((x.set.holdover - 1) * dmin)) ≤ℤ ticked → ⊥) → IsFollowed x calls
 follows_still law held x dmin at ticked calls some f early =
-    elim (few_or_not (ticks_among f.since) x.set.holdover) [
+    elim (cases_lt (ticks_among f.since) x.set.holdover) [
       | inl few ↦ subst (IsFollowed x) (sym f.splits) (followed_since law held x f.since f.before f.stood f.no_reset few)
       | inr many ↦ absurd (early (enough dmin x.set.holdover (ticks_among f.since) at ticked many some f.elapsed))
     ]

@@ -2,6 +2,7 @@
 use Rattle.std.proofs.Common.{◌≡◌, ◌∙◌, refl, ap, ap₂, sym, ℕ, max, if◌then◌else◌, is_some, Option, None, Some}
 use Rattle.std.specs.Option.{option_map_or}
 use Rattle.std.specs.Prelude.{option_and_then, slice_get}
+use Rattle.std.proofs.lemmas.Option.{none-some, same_Some}
 use Rattle.wrp_base.specs.declared.configuration.NetCfg.{NetCfg}
 use Rattle.wrp_base.specs.declared.network.LinkCfg.{LinkCfg}
 use Rattle.wrp_base.specs.declared.network.NodeCfg.{NodeCfg}
@@ -12,7 +13,6 @@ use Rattle.wrp_bounds.specs.Times.{gap_time, age_time, reach}
 use Rattle.wrp_world.specs.Runs.{IsNetwork}
 use Rattle.wrp_world.specs.Setting.{Setting, link_of, of_node}
 use Rattle.wrp_truth.specs.Rates.{greatest_rate}
-use Rattle.wrp_truth.proofs.Basics.{none_some, some_is}
 use Rattle.wrp_truth.proofs.LinksAbove.{above_is}
 
 -- what a hop has of its nodes
@@ -36,7 +36,7 @@ rate_is s n node e =
 
 between : (s : Setting) (link : LinkCfg) (hop : HopNumbers) (o p : Option NodeCfg) → slice_get s.cfg.nodes.items link.lower ≡ o → slice_get s.cfg.nodes.items link.upper ≡ p → numbers_between s.cfg link o p ≡ Some hop → HopHas s link hop
 between s link hop (Some own) (Some parent) e f is =
-    let it : _ ≡ hop = some_is _ hop is in
+    let it : _ ≡ hop = same_Some _ hop is in
     record {
       clock = sym (ap (λ (h : HopNumbers). h.clock) it);
       own = sym (ap (λ (h : HopNumbers). h.own.rate) it) ∙ rate_is s link.lower own e;
@@ -50,8 +50,8 @@ between s link hop (Some own) (Some parent) e f is =
       parent_tag = sym (ap (λ (h : HopNumbers). h.parent.e_tag) it) ∙ sym (ap (λ o. option_map_or (λ (x : NodeCfg). x.e_tag) o 0) f);
       parent_tx = sym (ap (λ (h : HopNumbers). h.parent.e_tx) it) ∙ sym (ap (λ o. option_map_or (λ (x : NodeCfg). x.e_tx) o 0) f);
     }
-between s link hop None p e f is = absurd (none_some hop is)
-between s link hop (Some own) None e f is = absurd (none_some hop is)
+between s link hop None p e f is = absurd (none-some hop is)
+between s link hop (Some own) None e f is = absurd (none-some hop is)
 
 over_is : (net : NetCfg) (link : LinkCfg) → numbers_over net link ≡ numbers_between net link (slice_get net.nodes.items link.lower) (slice_get net.nodes.items link.upper)
 unfolding numbers_over

@@ -17,7 +17,6 @@ use Rattle.wrp_node.specs.NodeAt.{servo_at, slave_of, state_of}
 use Rattle.wrp_node.proofs.OwnPorts.{slave_is_above}
 use Rattle.wrp_servo.specs.Laws.{TrackHasChain}
 use Rattle.wrp_servo.specs.Sampling.{is_holdover}
-use Rattle.wrp_servo.specs.Table.{is_track}
 use Rattle.wrp_tracking.specs.Closeness.{IsWithin}
 use Rattle.wrp_tracking.specs.History.{IsSlow, Was}
 use Rattle.wrp_tracking.specs.Tree.{HeldWithin, HopsHold, IsBounded, IsSource, Offsets, TreeSum}
@@ -36,7 +35,7 @@ use Rattle.wrp_truth.proofs.HeldRuns.{core_at}
 use Rattle.wrp_truth.proofs.LeaseSources.{both_nodes}
 use Rattle.wrp_truth.proofs.LinksAbove.{above_at}
 use Rattle.wrp_truth.proofs.Suffixes.{at_newest}
-use Rattle.wrp_truth.proofs.TrackedHops.{TrackLaws, has_hop, node_at, track_chain, track_core, tracked_hop}
+use Rattle.wrp_truth.proofs.TrackedHops.{TrackLaws, has_hop, node_at, track_chain, track_core, tracked_hop, new_state}
 
 -- the laws that this stands on
 pub record HopLaws : Type 0 where
@@ -60,9 +59,6 @@ state_up s w n up = ap (λ b. if b then state_of (fixed_of s n) (w.node n) else 
 shown : (b : Bool) (state other : ServoState) → (if b then state else Uninit) ≡ other → (Uninit ≡ other → ⊥) → (b ≡ true) × (state ≡ other)
 shown true state other e h = (refl, e)
 shown false state other e h = absurd (h e)
-
-not_track : Uninit ≡ Track → ⊥
-not_track e = let f : false ≡ true = ap is_track e in cc
 
 not_held : Uninit ≡ Holdover → ⊥
 not_held e = let f : false ≡ true = ap is_holdover e in cc
@@ -185,8 +181,8 @@ hops_by laws s events runs older =
     let w : WorldAt = world_after s events in
     record {
       top = λ n above. laws.top s events n runs.run above;
-      hop = λ n link above e. (node_tracks laws s events n link runs above (shown (w.clock n).up (state_of (fixed_of s n) (w.node n)) Track e not_track).1).hop;
-      source = λ n link above e. (node_tracks laws s events n link runs above (shown (w.clock n).up (state_of (fixed_of s n) (w.node n)) Track e not_track).1).source;
+      hop = λ n link above e. (node_tracks laws s events n link runs above (shown (w.clock n).up (state_of (fixed_of s n) (w.node n)) Track e new_state).1).hop;
+      source = λ n link above e. (node_tracks laws s events n link runs above (shown (w.clock n).up (state_of (fixed_of s n) (w.node n)) Track e new_state).1).source;
       held = λ n e. let it : _ = shown (w.clock n).up (state_of (fixed_of s n) (w.node n)) Holdover e not_held in held_any laws s events n (link_above s.cfg n) runs older refl it.0 it.1;
     }
 

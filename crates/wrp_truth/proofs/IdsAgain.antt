@@ -6,6 +6,7 @@ use Rattle.wrp_base.specs.declared.link.Role.{Role}
 use Rattle.wrp_base.specs.declared.link.Role.TheVariants.{Master, Slave}
 use Rattle.wrp_base.specs.declared.message.PtpMsg.{PtpMsg}
 use Rattle.wrp_base.specs.declared.network.LinkCfg.{LinkCfg}
+use Rattle.wrp_base.proofs.Naturals.{is_plus_zero}
 use Rattle.wrp_bounds.specs.Times.{shortest_tick}
 use Rattle.wrp_frame.specs.declared.fault.FrameFault.{FrameFault}
 use Rattle.wrp_node.specs.declared.interface.NodeSet.{NodeSet}
@@ -192,9 +193,6 @@ since_it s q r w x = record {
   at = x.at;
 }
 
-none_more : (n : ℕ) → n ≡ n + 0
-none_more n = omega arith
-
 no_time : (at now : ℤ) (dmin : ℕ) → at ≡ now → (at +ℤ pos (0 * dmin)) ≤ℤ now
 no_time at now dmin e = omega (arith, ints, e)
 
@@ -214,7 +212,7 @@ begins s q r says y w x it =
     let gone : Gone set b.every b.ticks b.sent 0 now =
     record {
       more = 0;
-      ticks = none_more (ticks_open set now);
+      ticks = is_plus_zero (ticks_open set now);
       sent = one_more_by (is_due_in set b.every now) (sent_each b.every set (told_then s q w)) it.due;
       few = no_multiple b.every;
     } in

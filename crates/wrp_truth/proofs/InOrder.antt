@@ -1,11 +1,13 @@
 -- Frames depart, and those of one way of a link arrive, in the order of their numbers.
 use Rattle.std.proofs.Common.{◌≡◌, ◌∙◌, refl, ap, sym, subst, ℕ, ◌+◌, ◌<◌, ◌≤◌, ◌==◌, ◌&&◌, ◌||◌, nat_lt, ℤ, Bool, true, false, if◌then◌else◌, is_some, List, [], ◌∷◌, Option, None, Some, option_map, Result, arith}
-use Rattle.std.proofs.lemmas.Bool.{eqb-true}
+use Rattle.std.proofs.lemmas.Bool.{eqb-true, false≢true, or_left}
 use Rattle.std.specs.Prelude.{IfSome}
+use Rattle.std.proofs.lemmas.Option.{none-some, same_Some}
 use Rattle.wrp_base.specs.declared.link.Role.{Role}
 use Rattle.wrp_base.specs.declared.link.Role.TheVariants.{Master, Slave}
 use Rattle.wrp_base.specs.declared.message.PtpMsg.{PtpMsg}
 use Rattle.wrp_base.specs.declared.time.Raw.{Raw}
+use Rattle.wrp_base.proofs.Naturals.{eq_self}
 use Rattle.wrp_frame.specs.declared.fault.FrameFault.{FrameFault}
 use Rattle.wrp_world.specs.declared.event.Event.{Event}
 use Rattle.wrp_world.specs.declared.event.Event.TheVariants.{Depart, Arrive}
@@ -17,10 +19,8 @@ use Rattle.wrp_world.specs.Premises.{Accepts, arrive_checks}
 use Rattle.wrp_world.specs.Run.{AllAccepted, Happened, world_after}
 use Rattle.wrp_world.specs.Setting.{Setting, is_role, place_of}
 use Rattle.wrp_world.specs.WorldAt.{Arrival, FrameAt, Sending, WorldAt, is_on_fibre}
-use Rattle.wrp_world.proofs.RunPorts.{self_equal}
 use Rattle.wrp_truth.specs.FlightOrder.{FramesArriveInOrder, FramesDepartInOrder}
 use Rattle.wrp_truth.proofs.Suffixes.{all_given_count}
-use Rattle.wrp_truth.proofs.Basics.{not_true, some_is}
 
 -- What is known of a frame: it was numbered, and departed and arrived before now
 
@@ -114,14 +114,10 @@ one_way_still o (Some b) old new h k = before_still o old new b.moment h k
 order_still : (f g : FrameAt) (gone other : Bool) → (f.gone ≡ true → gone ≡ true) → InOrder (Some f) (Some g) → InOrder (Some (with_gone f gone)) (Some (with_gone g other))
 order_still f g gone other h k = (k.0, λ l b. one_way_still f.arrival g.arrival f.gone gone h (k.1 l b))
 
-stays_gone : (a b : Bool) → a ≡ true → (a || b) ≡ true
-stays_gone true b e = refl
-stays_gone false b e = absurd (not_true e)
-
 order_removed : (s : Setting) (e : Event) (o p : Option FrameAt) → InOrder o p → InOrder (option_map (removed s e) o) (option_map (removed s e) p)
 order_removed s e None p h = tt
 order_removed s e (Some f) None h = tt
-order_removed s e (Some f) (Some g) h = order_still f g (removed s e f).gone (removed s e g).gone (stays_gone f.gone _) h
+order_removed s e (Some f) (Some g) h = order_still f g (removed s e f).gone (removed s e g).gone (or_left f.gone _) h
 
 -- a departure
 too_big : (i j n : ℕ) → i < j → i ≡ n + 1 → j ≤ n → ⊥
@@ -152,15 +148,15 @@ order_departing w (Some place) stamp (oldest ∷ rest) i j l x y h =
 -- the frame that arrives was on its fibre
 pub on_fibre : (s : Setting) (w : WorldAt) (m : ℕ) (raw : Raw) (b : Bool) (o : Option FrameAt) → AllHold (arrive_checks s w m raw b o) → b ≡ true
 on_fibre s w m raw true o a = refl
-on_fibre s w m raw false o a = absurd (not_true (sym a.0))
+on_fibre s w m raw false o a = absurd (false≢true (sym a.0))
 
 pub flies : (f : FrameAt) → is_on_fibre (Some f) ≡ true → (f.gone ≡ false) × (f.arrival ≡ None)
 flies f e = flying f.gone f.arrival e
   where
     flying : (gone : Bool) (o : Option Arrival) → (if gone then false else (if is_some o then false else true)) ≡ true → (gone ≡ false) × (o ≡ None)
-    flying true o e = absurd (not_true e)
+    flying true o e = absurd (false≢true e)
     flying false None e = (refl, refl)
-    flying false (Some a) e = absurd (not_true e)
+    flying false (Some a) e = absurd (false≢true e)
 
 same_way : (r q : Role) → r ≡ q → is_role r q ≡ true
 same_way Master Master e = refl
@@ -172,7 +168,7 @@ same_way Slave Master e = cc
 overtaken : (f : FrameAt) (i m : ℕ) (g : FrameAt) → i < m → f.link ≡ g.link → f.by ≡ g.by → f.arrival ≡ None → (f.gone || (is_on_fibre (Some f) && (nat_lt i m && ((f.link == g.link) && is_role f.by g.by)))) ≡ true
 overtaken f i m g l k r none =
     gone_now f.gone (is_on_fibre (Some f)) (nat_lt i m) (f.link == g.link) (is_role f.by g.by) (λ here. ap (λ o. if f.gone then false else (if is_some o then false else true)) none ∙ ap (λ b. if b then false else true) here)
-    (less_is i m l) (ap (λ z. z == g.link) k ∙ self_equal g.link) (same_way f.by g.by r)
+    (less_is i m l) (ap (λ z. z == g.link) k ∙ eq_self g.link) (same_way f.by g.by r)
   where
     less_is : (a b : ℕ) → a < b → nat_lt a b ≡ true
     less_is a b l = grind (arith, l)
@@ -180,17 +176,14 @@ overtaken f i m g l k r none =
     gone_now : (a b c d e : Bool) → (a ≡ false → b ≡ true) → c ≡ true → d ≡ true → e ≡ true → (a || (b && (c && (d && e)))) ≡ true
     gone_now true b c d e h x y z = refl
     gone_now false true true true true h x y z = refl
-    gone_now false false c d e h x y z = absurd (not_true (h refl))
-    gone_now false true false d e h x y z = absurd (not_true x)
-    gone_now false true true false e h x y z = absurd (not_true y)
-    gone_now false true true true false h x y z = absurd (not_true z)
+    gone_now false false c d e h x y z = absurd (false≢true (h refl))
+    gone_now false true false d e h x y z = absurd (false≢true x)
+    gone_now false true true false e h x y z = absurd (false≢true y)
+    gone_now false true true true false h x y z = absurd (false≢true z)
 
 before_now : (o : Option Arrival) (gone : Bool) (count : ℕ) → Past count o → (o ≡ None → gone ≡ true) → ArrivedBefore o gone count
 before_now (Some a) gone count past h = past
 before_now None gone count past h = h refl
-
-none_is : (a : Arrival) → None ≡ Some a → ⊥
-none_is a q = cc
 
 -- what came of two frames, by which of them arrives
 order_arriving : (s : Setting) (w : WorldAt) (m : ℕ) (raw : Raw) (x : FrameAt) (i j : ℕ) (f g : FrameAt) (b c : Bool) → (i == m) ≡ b → (j == m) ≡ c → i < j → (i ≡ m → is_on_fibre (Some f) ≡ true) → (j ≡ m → x ≡ g) → Numbered w.departed w.count i (Some f) →
@@ -206,8 +199,8 @@ order_arriving s w m raw x i j f g true false e d l fly is n h =
     (h.0, λ k r. never_both f.arrival f.gone g.arrival (flies f (fly (eqb-true i m e))) (h.1 k r))
   where
     never_both : (o : Option Arrival) (gone : Bool) (p : Option Arrival) → ((gone ≡ false) × (o ≡ None)) → IfSome p (λ b. ArrivedBefore o gone b.moment) → IfSome p (λ b. w.count < b.moment)
-    never_both None gone (Some b) k t = absurd (not_true (sym k.0 ∙ t))
-    never_both (Some a) gone (Some b) k t = absurd (none_is a (sym k.1))
+    never_both None gone (Some b) k t = absurd (false≢true (sym k.0 ∙ t))
+    never_both (Some a) gone (Some b) k t = absurd (none-some a (sym k.1))
     never_both o gone None k t = tt
 order_arriving s w m raw x i j f g false true e d l fly is n h =
     let here : x ≡ g = is (eqb-true j m d) in (
@@ -218,7 +211,7 @@ order_arriving s w m raw x i j f g false true e d l fly is n h =
 order_arriving s w m raw x i j f g false false e d l fly is n h =
     let over : Bool = is_on_fibre (Some f) && (nat_lt i m && ((f.link == x.link) && is_role f.by x.by)) in
     let other : Bool = is_on_fibre (Some g) && (nat_lt j m && ((g.link == x.link) && is_role g.by x.by)) in
-    order_still f g (f.gone || over) (g.gone || other) (stays_gone f.gone over) h
+    order_still f g (f.gone || over) (g.gone || other) (or_left f.gone over) h
 
 order_arrived : (s : Setting) (w : WorldAt) (says : Result PtpMsg FrameFault) (m : ℕ) (raw : Raw) (i j : ℕ) (q o p : Option FrameAt) → Accepts s w says (Arrive m raw) → w.frame m ≡ q → w.frame i ≡ o → w.frame j ≡ p → i < j → Numbered w.departed w.count i o → InOrder o p →
     InOrder (arrived s w m raw q i o) (arrived s w m raw q j p)
@@ -228,7 +221,7 @@ order_arrived s w says m raw i j (Some x) (Some f) None a at_m at_i at_j l n h =
 order_arrived s w says m raw i j (Some x) (Some f) (Some g) a at_m at_i at_j l n h =
     order_arriving s w m raw x i j f g (i == m) (j == m) refl refl l
     (λ e. ap is_on_fibre (sym at_i ∙ ap w.frame e) ∙ on_fibre s w m raw (is_on_fibre (w.frame m)) (w.frame m) a)
-    (λ e. some_is x g (sym at_m ∙ sym (ap w.frame e) ∙ at_j)) n h
+    (λ e. same_Some x g (sym at_m ∙ sym (ap w.frame e) ∙ at_j)) n h
 
 order_event : (s : Setting) (w : WorldAt) (says : Result PtpMsg FrameFault) (e : Event) (i j : ℕ) → Accepts s w says e → i < j → Numbered w.departed w.count i (w.frame i) → Numbered w.departed w.count j (w.frame j) → InOrder (w.frame i) (w.frame j) →
     InOrder (frame_after s w e i) (frame_after s w e j)

@@ -15,6 +15,7 @@ use Rattle.wrp_node.specs.NodeStep.{node_step}
 use Rattle.wrp_world.specs.declared.clocks.ClockState.{ClockState}
 use Rattle.wrp_world.specs.declared.event.Event.{Event}
 use Rattle.wrp_world.specs.declared.event.Event.TheVariants.{Pass, Tick, Sample, Depart, Arrive, Deliver, Noise, Down, Up, Cut, Join}
+use Rattle.wrp_world.proofs.RunSettled.{given_up}
 use Rattle.wrp_world.specs.Given.{Given, at_ports, clock_told, comes_from, delivered, given_by, gives, gives_all, goes_from, step_of, taken_of, ticked_by, world_step}
 use Rattle.wrp_world.specs.Moved.{moved, waiting_at}
 use Rattle.wrp_world.specs.Setting.{Setting, fixed_of, place_of}
@@ -115,14 +116,9 @@ pub all_given_last : (s : Setting) (y : ℤ) (gs : List Given) (v : WorldAt) (n 
 all_given_last s y [] v n h = refl
 all_given_last s y (g ∷ gs) v n h = all_given_last s y gs (gives s y v g) n h.1 ∙ given_last s y v g n h.0
 
-given_stands : (s : Setting) (y : ℤ) (v : WorldAt) (g : Given) (n : ℕ) → ((gives s y v g).clock n).up ≡ (v.clock n).up
-given_stands s y v g n =
-    let told : ClockState = clock_told s v g (step_of s y v g).cycles (v.clock n) in
-    elim (eqb_tells n g.to) [ inl x ↦ ap (λ b. (if b then told else v.clock n).up) x.0 | inr x ↦ ap (λ b. (if b then told else v.clock n).up) x.0 ]
-
 pub all_given_stands : (s : Setting) (y : ℤ) (gs : List Given) (v : WorldAt) (n : ℕ) → ((gives_all s y v gs).clock n).up ≡ (v.clock n).up
 all_given_stands s y [] v n = refl
-all_given_stands s y (g ∷ gs) v n = all_given_stands s y gs (gives s y v g) n ∙ given_stands s y v g n
+all_given_stands s y (g ∷ gs) v n = all_given_stands s y gs (gives s y v g) n ∙ given_up s y v g n
 
 -- an event by which a node does not tick
 abbrev pub IsNoTickOf : ℕ → Event → Type 0

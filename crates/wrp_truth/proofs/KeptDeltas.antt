@@ -1,6 +1,8 @@
 -- The measurement that stands in a node was reckoned by the deltas of its link, which are still those of the link.
 use Rattle.std.proofs.Common.{◌≡◌, ◌⊎◌, inl, inr, ◌∙◌, refl, ap, sym, subst, ℕ, ℤ, Bool, true, false, if◌then◌else◌, is_some, List, [], ◌∷◌, Option, None, Some}
+use Rattle.std.proofs.lemmas.Option.{none-some}
 use Rattle.std.specs.Prelude.{nat_le}
+use Rattle.std.proofs.lemmas.Bool.{false≢true}
 use Rattle.wrp_base.specs.declared.link.Deltas.{Deltas}
 use Rattle.wrp_base.specs.declared.link.LinkState.{LinkState}
 use Rattle.wrp_base.specs.declared.link.LinkState.TheVariants.{Idle, Present, SLock, MLock, Locked, Calibration, Calibrated, RespCalib, LinkOn}
@@ -32,7 +34,6 @@ use Rattle.wrp_tracking.specs.ServoGives.{WasMeasured}
 use Rattle.wrp_truth.proofs.FourCalls.{Brings, kept_before, kept_stands, measured_before}
 use Rattle.wrp_truth.proofs.FourRises.{free_measures_none}
 use Rattle.wrp_truth.proofs.FourSteps.{IsFree, IsOnlySlave, KeptByEach, KeptByLink, leased_keeps, step_keeps_each}
-use Rattle.wrp_truth.proofs.Basics.{none_some, not_true}
 
 -- the laws that this stands on
 pub record DeltaLaws : Type 0 where
@@ -76,7 +77,7 @@ free_told CallReset calls free = absurd free
 
 chain_deltas : (v : Core) (first : Option ℕ) (d : Deltas) → v.first ≡ first → deltas_in_chain v ≡ Some d → v.signals.link ≡ Some d
 chain_deltas v (Some n) d e h = sym (ap (λ o. deltas_in_chain (record v { first = o })) e) ∙ h
-chain_deltas v None d e h = absurd (none_some d (sym (ap (λ o. deltas_in_chain (record v { first = o })) e) ∙ h))
+chain_deltas v None d e h = absurd (none-some d (sym (ap (λ o. deltas_in_chain (record v { first = o })) e) ∙ h))
 
 brought : DeltaLaws → (x : Settings) (calls : List Call) (f : Four) (y : ℤ) (k : Measurement) → Brings x calls f y k → IsReckonedBy x (CallMeasured f y ∷ calls) k
 brought laws x calls f y k b =
@@ -97,14 +98,14 @@ each_reckons laws fixed p =
         | inl old ↦ later x calls (CallMeasured four answer) k refl (h k old)
         | inr new ↦ brought laws x calls four answer k new
       ];
-      reset = λ ticks told calls h k is. absurd (none_some k is);
+      reset = λ ticks told calls h k is. absurd (none-some k is);
     }
 
 -- while a measurement stands, nothing is told of the link: it is on, and to be off would end the chain
 never_off : (told on : Bool) → told ≡ true → on ≡ true → is_changed told on ≡ true → ⊥
-never_off true true e f c = not_true c
-never_off true false e f c = not_true f
-never_off false on e f c = not_true e
+never_off true true e f c = false≢true c
+never_off true false e f c = false≢true f
+never_off false on e f c = false≢true e
 
 link_reckons : DeltaLaws → (fixed : Fixed) → KeptByLink fixed (λ ticks told calls. Reckons (settings_of fixed) calls)
 link_reckons laws fixed ticks told calls on changed h k is =
@@ -113,7 +114,7 @@ link_reckons laws fixed ticks told calls on changed h k is =
     absurd (never_off (is_some (link_told calls)) (is_some on) (ap is_some old.told) (laws.signals x (CallLink on ∷ calls) (kept_stands x (CallLink on ∷ calls) k is)).link changed)
 
 pub node_reckons : DeltaLaws → (fixed : Fixed) (p : ℕ) → slave_of fixed.set ≡ Some p → IsOnlySlave fixed p → (inputs : List Taken) → Reckons (settings_of fixed) (node_after fixed inputs).calls
-node_reckons laws fixed p slave only [] = λ k is. absurd (none_some k is)
+node_reckons laws fixed p slave only [] = λ k is. absurd (none-some k is)
 node_reckons laws fixed p slave only (t ∷ before) =
     step_keeps_each (λ ticks told calls. Reckons (settings_of fixed) calls) fixed p (each_reckons laws fixed p) (link_reckons laws fixed) slave only t (node_after fixed before) (node_reckons laws fixed p slave only before)
 
@@ -158,15 +159,15 @@ news_stays set l d Renewed h = inl refl
 -- a slave port with deltas is on
 is_on : (role : Role) (state : LinkState) (l : LinkAt) (d : Deltas) → deltas_while role state l ≡ Some d → (role ≡ Slave) × (state ≡ LinkOn)
 is_on Slave LinkOn l d e = (refl, refl)
-is_on Slave Idle l d e = absurd (none_some d e)
-is_on Slave Present l d e = absurd (none_some d e)
-is_on Slave SLock l d e = absurd (none_some d e)
-is_on Slave MLock l d e = absurd (none_some d e)
-is_on Slave Locked l d e = absurd (none_some d e)
-is_on Slave Calibration l d e = absurd (none_some d e)
-is_on Slave Calibrated l d e = absurd (none_some d e)
-is_on Slave RespCalib l d e = absurd (none_some d e)
-is_on Master state l d e = absurd (none_some d e)
+is_on Slave Idle l d e = absurd (none-some d e)
+is_on Slave Present l d e = absurd (none-some d e)
+is_on Slave SLock l d e = absurd (none-some d e)
+is_on Slave MLock l d e = absurd (none-some d e)
+is_on Slave Locked l d e = absurd (none-some d e)
+is_on Slave Calibration l d e = absurd (none-some d e)
+is_on Slave Calibrated l d e = absurd (none-some d e)
+is_on Slave RespCalib l d e = absurd (none-some d e)
+is_on Master state l d e = absurd (none-some d e)
 
 as_on : (l : LinkAt) → l.state ≡ LinkOn → l ≡ on_link l
 as_on l e = λ i. record l { state = e i }
@@ -191,14 +192,14 @@ each_tells fixed p old = record {
   count = λ ticks told calls h. h;
   call = λ ticks told calls c free h d is. h d (sym (free_told c calls free) ∙ is);
   measured = λ ticks told calls message stamp four answer by h d is. h d is;
-  reset = λ ticks told calls h d is. absurd (none_some d is);
+  reset = λ ticks told calls h d is. absurd (none-some d is);
 }
 
 told_at_end : (has changes : Bool) (on : Option Deltas) (calls : List Call) (d : Deltas) → has ≡ true → link_told (called (if has then (if changes then Some (CallLink on) else None) else None) calls) ≡ Some d →
     (on ≡ Some d) ⊎ ((link_told calls ≡ Some d) × (changes ≡ false))
 told_at_end true true on calls d e is = inl is
 told_at_end true false on calls d e is = inr (is, refl)
-told_at_end false changes on calls d e is = absurd (not_true e)
+told_at_end false changes on calls d e is = absurd (false≢true e)
 
 deltas_here : (fixed : Fixed) (p : ℕ) (n : NodeAt) → slave_of fixed.set ≡ Some p → deltas_in fixed.set n ≡ deltas_of (port_of fixed.set p).role (link_at fixed.set n p)
 deltas_here fixed p n slave = ap (deltas_at fixed.set n) slave
@@ -207,9 +208,9 @@ still_some : (told on : Option Deltas) (d : Deltas) → told ≡ Some d → is_c
 still_some told on d e c none = absurd (flip (is_some told) (is_some on) (ap is_some e) (ap is_some none) c)
   where
     flip : (a b : Bool) → a ≡ true → b ≡ false → is_changed a b ≡ false → ⊥
-    flip true false e f c = not_true (sym c)
-    flip true true e f c = not_true (sym f)
-    flip false b e f c = not_true e
+    flip true false e f c = false≢true (sym c)
+    flip true true e f c = false≢true (sym f)
+    flip false b e f c = false≢true e
 
 pub step_knows : DeltaLaws → (fixed : Fixed) (p : ℕ) → slave_of fixed.set ≡ Some p → IsOnlySlave fixed p → (t : Taken) (n : NodeAt) → KnowsDeltas fixed n → KnowsDeltas fixed (node_step fixed t n).node
 step_knows laws fixed p slave only t n knows d is =
@@ -234,5 +235,5 @@ step_knows laws fixed p slave only t n knows d is =
     ]
 
 pub node_knows : DeltaLaws → (fixed : Fixed) (p : ℕ) → slave_of fixed.set ≡ Some p → IsOnlySlave fixed p → (inputs : List Taken) → KnowsDeltas fixed (node_after fixed inputs)
-node_knows laws fixed p slave only [] d is = absurd (none_some d is)
+node_knows laws fixed p slave only [] d is = absurd (none-some d is)
 node_knows laws fixed p slave only (t ∷ before) d is = step_knows laws fixed p slave only t (node_after fixed before) (node_knows laws fixed p slave only before) d is

@@ -1,5 +1,5 @@
 -- The delay of the measurement that stands was reckoned by the deltas of the link as it is now, with an answer that is near.
-use Rattle.std.proofs.Common.{◌≡◌, sym, subst, ℕ, ℤ, IsTrue, Bool, true, List, [], ◌∷◌, ◌++◌, Some, arith}
+use Rattle.std.proofs.Common.{◌≡◌, sym, subst, ℕ, ℤ, List, [], ◌∷◌, ◌++◌, Some}
 use Rattle.wrp_base.specs.declared.measurement.Four.{Four}
 use Rattle.wrp_node.specs.NodeAt.{NodeAt, Taken, deltas_in, settings_of, slave_of}
 use Rattle.wrp_node.specs.NodeRun.{node_after}
@@ -7,13 +7,15 @@ use Rattle.wrp_servo.specs.Call.{Call, CallSample, CallMeasured, CallTick, CallL
 use Rattle.wrp_servo.specs.Measuring.{is_in, x_of}
 use Rattle.wrp_servo.specs.Servo.{AllAnswered, IsAnswer}
 use Rattle.wrp_tracking.specs.ServoGives.{WasMeasured}
+use Rattle.wrp_node.proofs.Hearing.{is_true}
 use Rattle.wrp_world.specs.Run.{world_after}
 use Rattle.wrp_world.specs.Setting.{fixed_of}
 use Rattle.wrp_truth.specs.Fours.{KeptIsReckoned, IsNearAnswer}
-use Rattle.wrp_truth.proofs.FourEvents.{only_below, slave_below}
+use Rattle.wrp_truth.proofs.FourEvents.{only_below}
 use Rattle.wrp_truth.proofs.FourSteps.{IsOnlySlave}
 use Rattle.wrp_truth.proofs.KeptDeltas.{DeltaLaws, IsReckonedBy, KnowsDeltas, Reckons, node_knows, node_reckons}
 use Rattle.wrp_truth.proofs.NodeRuns.{node_is}
+use Rattle.wrp_truth.proofs.SyncGiven.{slave_at}
 
 -- The answer beside a measurement among the calls is one of the law's
 
@@ -27,9 +29,6 @@ answer_within answers x (CallLink on ∷ since) before f y h = answer_within ans
 answer_within answers x (CallCarrier up ∷ since) before f y h = answer_within answers x since before f y h
 answer_within answers x (CallReset ∷ since) before f y h = answer_within answers x since before f y h
 
-is_true : (b : Bool) → b ≡ true → IsTrue b
-is_true b h = grind arith
-
 pub kept_is_reckoned : DeltaLaws → KeptIsReckoned
 kept_is_reckoned laws s events k link hop kept run answered is numbers stands =
     let n : ℕ = link.lower in
@@ -37,7 +36,7 @@ kept_is_reckoned laws s events k link hop kept run answered is numbers stands =
     let x : Settings = settings_of (fixed_of s n) in
     let inputs : List Taken = (world_after s events).inputs n in
     let made : node ≡ node_after (fixed_of s n) inputs = node_is s events n in
-    let slave : slave_of (s.set n) ≡ Some link.lower_port = slave_below s run.network k link is in
+    let slave : slave_of (s.set n) ≡ Some link.lower_port = slave_at s run.network k link is in
     let only : IsOnlySlave (fixed_of s n) link.lower_port = only_below s run.network k link is in
     let by : IsReckonedBy x node.calls kept = subst (λ (m : NodeAt). Reckons x m.calls) (sym made) (node_reckons laws (fixed_of s n) link.lower_port slave only inputs) kept stands in
     let was : WasMeasured x node.calls kept = by.was in

@@ -3,11 +3,15 @@ use Rattle.std.proofs.Common.{◌≡◌, inl, inr, ◌∙◌, refl, ap, sym, sub
 use Rattle.std.proofs.lemmas.Bool.Decides.{eqb_tells}
 use Rattle.std.proofs.lemmas.Int.{ints}
 use Rattle.std.proofs.Math.Nat.{mul-le-mul_right}
+use Rattle.std.proofs.lemmas.Option.{none-some}
 use Rattle.std.specs.Option.{option_or}
+use Rattle.std.proofs.lemmas.Bool.{and_parts}
 use Rattle.wrp_base.specs.declared.link.Role.TheVariants.{Master, Slave}
 use Rattle.wrp_base.specs.declared.message.PtpMsg.{PtpMsg}
 use Rattle.wrp_base.specs.declared.network.LinkCfg.{LinkCfg}
+use Rattle.wrp_base.proofs.Lists.{append_assoc}
 use Rattle.wrp_base.specs.Network.{link_above}
+use Rattle.wrp_base.proofs.Integers.{int_le_trans}
 use Rattle.wrp_bounds.specs.Times.{frame_life, longest_tick, shortest_tick}
 use Rattle.wrp_frame.specs.declared.fault.FrameFault.{FrameFault}
 use Rattle.wrp_node.specs.declared.interface.Input.TheVariants.{Tick as TickInput}
@@ -27,21 +31,20 @@ use Rattle.wrp_world.specs.Runs.{IsRun, WasPutOut}
 use Rattle.wrp_world.specs.Setting.{Setting, fixed_of, link_of}
 use Rattle.wrp_world.specs.WorldAt.{Sending, WorldAt, ends_are_up, has_carrier}
 use Rattle.wrp_world.proofs.RunSettled.{all_given_carrier}
-use Rattle.wrp_world.proofs.RunTimes.{both_up, comes_up_down, time_never_falls}
+use Rattle.wrp_world.proofs.RunTimes.{comes_up_down, time_never_falls, not_up}
 use Rattle.wrp_truth.specs.Announcing.{IsCertainAnnounce}
 use Rattle.wrp_truth.specs.Leases.{HasSource, IsCarried, LeaseHasSource, last_renewal, lease_time, renewal_in}
 use Rattle.wrp_truth.specs.Moments.{AtEach}
 use Rattle.wrp_truth.proofs.Carried.{renewed_has_carrier}
 use Rattle.wrp_truth.proofs.Inputs.{no_tick_last}
 use Rattle.wrp_truth.proofs.LinksAbove.{above_is}
-use Rattle.wrp_truth.proofs.OnTime.{after_that, on_time, ticked_past}
-use Rattle.wrp_truth.proofs.Parents.{FollowedAt, IsCalmOf, begins, calm_last, has_servo, has_slave, is_source, next_follows, not_up, ticked_node, ticks_not}
+use Rattle.wrp_truth.proofs.OnTime.{on_time, ticked_past}
+use Rattle.wrp_truth.proofs.Parents.{FollowedAt, IsCalmOf, begins, calm_last, has_servo, has_slave, is_source, next_follows, ticked_node, ticks_not}
 use Rattle.wrp_truth.proofs.OpenPorts.{QuietLaws, carried_since}
 use Rattle.wrp_truth.proofs.Renewals.{IsPlainOf, Renewal, deliver_turns, noise_turns, plain_turns, renewal_certain, renewal_is, renewal_young, turns_in}
 use Rattle.wrp_truth.proofs.Sendings.{PutOutIn, WasPut, certain_in, was_put}
 use Rattle.wrp_truth.proofs.StepLeases.{turns_at, turns_before}
-use Rattle.wrp_truth.proofs.Suffixes.{appended, at_each, at_newest, at_rest, older_run, run_before, rest_length}
-use Rattle.wrp_truth.proofs.Basics.{none_some}
+use Rattle.wrp_truth.proofs.Suffixes.{at_each, at_newest, at_rest, older_run, run_before, rest_length}
 
 -- the laws that this stands on
 pub record LeaseLaws : Type 0 where
@@ -54,8 +57,8 @@ pub record LeaseLaws : Type 0 where
 
 pub both_nodes : (s : Setting) (w : WorldAt) (k : ℕ) (link : LinkCfg) → link_of s k ≡ Some link → has_carrier s w k ≡ true → ((w.clock link.upper).up ≡ true) × ((w.clock link.lower).up ≡ true)
 both_nodes s w k link is c =
-    let up : ends_are_up w.clock (link_of s k) ≡ true = (both_up (w.fibre k).joined (ends_are_up w.clock (link_of s k)) c).1 in
-    both_up (w.clock link.upper).up (w.clock link.lower).up (sym (ap (ends_are_up w.clock) is) ∙ up)
+    let up : ends_are_up w.clock (link_of s k) ≡ true = (and_parts (w.fibre k).joined (ends_are_up w.clock (link_of s k)) c).1 in
+    and_parts (w.clock link.upper).up (w.clock link.lower).up (sym (ap (ends_are_up w.clock) is) ∙ up)
 
 -- The lease
 
@@ -236,7 +239,7 @@ step_held laws s says y before (Join l ms sm) k link turns run is t old =
     plain_held laws s (record { event = Join l ms sm; says = says; answer = y }) before k link turns run is tt (λ it. tt) refl t (old turns)
 
 held_all : LeaseLaws → (s : Setting) (events : List Happened) (k : ℕ) (link : LinkCfg) (turns : ℕ) → IsRun s events → link_of s k ≡ Some link → turns_in s (world_after s events) link ≡ Some turns → Held s events k link turns
-held_all laws s [] k link turns run is t = absurd (none_some turns t)
+held_all laws s [] k link turns run is t = absurd (none-some turns t)
 held_all laws s (h ∷ before) k link turns run is t =
     step_held laws s h.says h.answer before h.event k link turns run is t (λ u was. held_all laws s before k link u (run_before s h before run) is was)
 
@@ -280,7 +283,7 @@ before_end at last now life lease dmax wait c2 past soon late =
     sum : (at last now : ℤ) (life p q dmax wait : ℕ) → q ≡ p + dmax → q + life < wait → last ≤ℤ now → now ≤ℤ (at +ℤ pos (p + life)) → (at +ℤ pos wait) ≤ℤ last → ⊥
     sum at last now life p q dmax wait e c2 past soon late = omega (arith, ints)
 
-some_holdover : (holdover a dmin : ℕ) → a < (holdover - 1) * dmin → 0 < holdover
+pub some_holdover : (holdover a dmin : ℕ) → a < (holdover - 1) * dmin → 0 < holdover
 some_holdover zero a dmin h = absurd (omega arith)
 some_holdover (suc k) a dmin h = omega arith
 
@@ -298,7 +301,7 @@ source_by laws s a b older k link x (Some up) run is certain put carried soon ab
     (follows_since s b older k link x was is servo certain put carried)
     (λ late.
     before_end x.at (w.clock link.upper).ticked now.time (frame_life s.cfg) (unsigned_abs s.cfg.lease) (longest_tick s.cfg) ((unsigned_abs s.cfg.holdover - 1) * shortest_tick s.cfg) c2
-    (after_that (w.clock link.upper).ticked w.time now.time (ticked_past laws.quiet.apart s (b ++ older) link.upper was) (time_never_falls s a (b ++ older) run)) soon late)
+    (int_le_trans (w.clock link.upper).ticked w.time now.time (ticked_past laws.quiet.apart s (b ++ older) link.upper was) (time_never_falls s a (b ++ older) run)) soon late)
 
 -- Where the lease is fresh
 
@@ -343,7 +346,7 @@ lease_has_source laws s events k link run is fresh =
       source =
           at_each (HasSource s link) it.newer it.older
           (λ a b e.
-          let all : events ≡ a ++ (b ++ it.older) = it.splits ∙ ap (λ l. l ++ it.older) e ∙ appended a b it.older in
+          let all : events ≡ a ++ (b ++ it.older) = it.splits ∙ ap (λ l. l ++ it.older) e ∙ append_assoc a b it.older in
           source_by laws s a b it.older k link it.announce (link_above s.cfg link.upper) (subst (IsRun s) all run) is it.certain it.in_it
           (at_rest (IsCarried s k) a b it.older (subst (λ l. AtEach (IsCarried s k) l it.older) e it.carried))
           (subst (λ l. (world_after s l).time ≤ℤ (it.announce.at +ℤ pos (lease_time s))) all soon) refl);

@@ -1,8 +1,10 @@
 -- Chains of a servo, call by call: what starts one, and the good tags that it has taken.
 use Rattle.std.proofs.Common.{◌≡◌, ◌∙◌, refl, ap, sym, subst, ℕ, ◌+◌, ◌&&◌, ◌||◌, not, cond, nat_lt, Bool, true, false, if◌then◌else◌, is_some, List, [], ◌∷◌, ◌++◌, Option, None, Some}
 use Rattle.std.specs.Prelude.{int_le}
+use Rattle.std.proofs.lemmas.Bool.{false≢true}
 use Rattle.wrp_base.specs.declared.link.ServoState.{ServoState}
 use Rattle.wrp_base.specs.declared.link.ServoState.TheVariants.{Uninit, SyncTai, SyncNsec, SyncPhase, WaitStable, Track, Holdover}
+use Rattle.wrp_base.proofs.Lists.{head_and_tail}
 use Rattle.wrp_node.specs.declared.interface.Input.{Input}
 use Rattle.wrp_node.specs.declared.interface.Input.TheVariants.{Tick, Sample, Frame, Sent, Carrier, Reset}
 use Rattle.wrp_node.specs.NodeAt.{Fixed, NodeAt, Taken, settings_of, slave_of, servo_at}
@@ -15,16 +17,13 @@ use Rattle.wrp_servo.specs.Call.{Call, CallSample, CallMeasured, CallTick, CallL
 use Rattle.wrp_servo.specs.declared.machine.Core.{Core}
 use Rattle.wrp_servo.specs.Laws.{ChainSince}
 use Rattle.wrp_servo.specs.LookBack.{chain_starts, chain_ends}
-use Rattle.wrp_servo.specs.Sampling.{chained, followed, good_tag, heard, hears, is_far, is_holdover, judged, judged_in, lost, may_start, stays_near, with_last, with_tag}
+use Rattle.wrp_servo.specs.Sampling.{chained, followed, good_tag, heard, hears, is_far, is_holdover, judged, judged_in, lost, stays_near, with_last, with_tag}
 use Rattle.wrp_servo.specs.Since.{Since, NoneEnds}
 use Rattle.wrp_servo.specs.Table.{ended, ended_in}
 use Rattle.wrp_servo.specs.Tags.{heard_tag, is_empty, tags}
 use Rattle.wrp_servo.specs.Told.{ticks_since_good}
+use Rattle.wrp_node.proofs.Unbroken.{chained_fresh, either_fresh, no_start}
 use Rattle.wrp_truth.proofs.StepCalls.{Brings, IsTelling, KeptBy, settled_keeps, step_keeps, told_tick}
-use Rattle.wrp_truth.proofs.Basics.{not_true, heads}
-
-abbrev pub Stands : Core → Type 0
-Stands v = is_some v.first ≡ true
 
 -- What starts a chain
 
@@ -33,26 +32,22 @@ abbrev pub IsNoSample : Call → Type 0
 IsNoSample (CallSample n base bits) = ⊥
 IsNoSample _ = Unit {0}
 
-never : (b : Bool) → (not b && false) ≡ true → ⊥
-never true e = cc
-never false e = cc
-
 starts_none : (x : Settings) (calls : List Call) (c : Call) → IsNoSample c → chain_starts x calls c ≡ true → ⊥
 starts_none x calls (CallSample n base bits) h e = absurd h
-starts_none x calls (CallMeasured f y) h e = never (is_some (run x calls).first) e
-starts_none x calls CallTick h e = never (is_some (run x calls).first) e
-starts_none x calls (CallLease fresh) h e = never (is_some (run x calls).first) e
-starts_none x calls (CallLink on) h e = never (is_some (run x calls).first) e
-starts_none x calls (CallCarrier up) h e = never (is_some (run x calls).first) e
-starts_none x calls CallReset h e = never (is_some (run x calls).first) e
+starts_none x calls (CallMeasured f y) h e = no_start (is_some (run x calls).first) e
+starts_none x calls CallTick h e = no_start (is_some (run x calls).first) e
+starts_none x calls (CallLease fresh) h e = no_start (is_some (run x calls).first) e
+starts_none x calls (CallLink on) h e = no_start (is_some (run x calls).first) e
+starts_none x calls (CallCarrier up) h e = no_start (is_some (run x calls).first) e
+starts_none x calls CallReset h e = no_start (is_some (run x calls).first) e
 
 since_before : ChainSince → (x : Settings) (calls : List Call) (c : Call) (since : List Call) (start : Call) (before : List Call) → IsNoSample c → c ∷ calls ≡ since ++ start ∷ before → chain_starts x before start ≡ true →
     NoneEnds (chain_ends x) since (start ∷ before) → Stands (run x calls)
 since_before law x calls c [] start before h e s n =
-    let it : (c ≡ start) × (calls ≡ before) = heads c start calls before e in
+    let it : (c ≡ start) × (calls ≡ before) = head_and_tail c start calls before e in
     absurd (starts_none x before start (subst IsNoSample it.0 h) s)
 since_before law x calls c (d ∷ since) start before h e s n =
-    let it : (c ≡ d) × (calls ≡ since ++ start ∷ before) = heads c d calls (since ++ start ∷ before) e in
+    let it : (c ≡ d) × (calls ≡ since ++ start ∷ before) = head_and_tail c d calls (since ++ start ∷ before) e in
     (law x calls).1 (record { since = since; start = start; before = before; splits = it.1; started = s; stays = n.1 })
 
 -- a chain that stands after a call that is no sample stood before it
@@ -81,10 +76,6 @@ heard_deglitched x calls n base bits tag e = tag_told (hears (run x calls)) (nat
 
 -- The loop of a chain has taken a good sample
 
-either_fresh : (b : Bool) (v w : Core) (fresh : Bool) → v.phase.fresh ≡ fresh → w.phase.fresh ≡ fresh → (cond b v w).phase.fresh ≡ fresh
-either_fresh true v w fresh h k = h
-either_fresh false v w fresh h k = k
-
 ended_in_fresh : (v : Core) (s : ServoState) → (ended_in v s).phase.fresh ≡ v.phase.fresh
 ended_in_fresh v Track = refl
 ended_in_fresh v SyncNsec = refl
@@ -106,26 +97,12 @@ judged_fresh v SyncTai = refl
 judged_fresh v SyncNsec = refl
 judged_fresh v Holdover = refl
 
-chained_fresh : (v : Core) (n : ℕ) → (chained v n).phase.fresh ≡ v.phase.fresh
-chained_fresh v n =
-    either_fresh v.phase.lock.locked (cond (may_start v) (record v { first = Some n }) v) (ended v) v.phase.fresh
-    (either_fresh (may_start v) (record v { first = Some n }) v v.phase.fresh refl refl) (ended_fresh v)
-
 no_first : (v : Core) → v.first ≡ None → Stands v → ⊥
-no_first v e h = not_true (ap is_some (sym e) ∙ h)
-
-none_ended : (v : Core) (s : ServoState) → (ended_in v s).first ≡ None
-none_ended v Uninit = refl
-none_ended v SyncTai = refl
-none_ended v SyncNsec = refl
-none_ended v SyncPhase = refl
-none_ended v WaitStable = refl
-none_ended v Track = refl
-none_ended v Holdover = refl
+no_first v e h = false≢true (ap is_some (sym e) ∙ h)
 
 ended_where : (b : Bool) (v : Core) → is_some v.first ≡ b → Stands (cond b (ended_in v v.state) v) → ⊥
 ended_where true v e h = no_first (ended_in v v.state) (none_ended v v.state) h
-ended_where false v e h = not_true (sym e ∙ h)
+ended_where false v e h = false≢true (sym e ∙ h)
 
 good_live : (b : Bool) (w : Core) (n : ℕ) → w.phase.fresh ≡ false → Stands (cond b (lost w) (judged (chained (followed w) n))) → (cond b (lost w) (judged (chained (followed w) n))).phase.fresh ≡ false
 good_live true w n h s = absurd (ended_where (is_some w.first) w refl s)
@@ -139,8 +116,8 @@ sampled_live true v n (Some tag) out s = good_live (is_far (with_tag (with_last 
 sampled_live false v n tag out s = absurd (out s)
 
 none_before : (b a : Bool) → (not b && a) ≡ true → b ≡ true → ⊥
-none_before true a e h = not_true e
-none_before false a e h = not_true h
+none_before true a e h = false≢true e
+none_before false a e h = false≢true h
 
 start_live : (x : Settings) (before : List Call) (start : Call) → chain_starts x before start ≡ true → Stands (run x (start ∷ before)) → (run x (start ∷ before)).phase.fresh ≡ false
 start_live x before (CallSample n base bits) e s =
@@ -175,12 +152,12 @@ abbrev pub TagsAre : Settings → List ℕ → List Call → Type 0
 TagsAre x ts calls = is_empty (tags x calls) ≡ false → tags x calls ≡ ts
 
 cleared_where : (b : Bool) (ts all : List ℕ) → (is_empty all ≡ false → all ≡ ts) → is_empty (cond b [] all) ≡ false → cond b [] all ≡ ts
-cleared_where true ts all h e = absurd (not_true (sym e))
+cleared_where true ts all h e = absurd (false≢true (sym e))
 cleared_where false ts all h e = h e
 
 kept_where : (b : Bool) (ts all : List ℕ) → (is_empty all ≡ false → all ≡ ts) → is_empty (cond b all []) ≡ false → cond b all [] ≡ ts
 kept_where true ts all h e = h e
-kept_where false ts all h e = absurd (not_true (sym e))
+kept_where false ts all h e = absurd (false≢true (sym e))
 
 tags_kept : (x : Settings) (ts : List ℕ) → KeptBy IsNoSample (TagsAre x ts)
 tags_kept x ts calls (CallSample n base bits) c h = absurd c
@@ -190,7 +167,7 @@ tags_kept x ts calls (CallLease fresh) c h = h
 tags_kept x ts calls (CallLink on) c h = h
 tags_kept x ts calls (CallCarrier true) c h = kept_where (is_holdover (run x calls).state) ts (tags x calls) h
 tags_kept x ts calls (CallCarrier false) c h = h
-tags_kept x ts calls CallReset c h = λ e. absurd (not_true (sym e))
+tags_kept x ts calls CallReset c h = λ e. absurd (false≢true (sym e))
 
 -- Inputs
 

@@ -2,9 +2,10 @@
 -- every run.
 use Rattle.std.proofs.Common.{◌≡◌, ◌∙◌, refl, ap, ap₂, sym, subst, ℕ, ◌≤◌, ◌==◌, ℤ, pos, ◌-ℤ◌, unsigned_abs, not, Bool, true, false, cond, if◌then◌else◌, is_some, List, [], ◌∷◌, ◌++◌, map, flat_map, Option, None, Some, IfSome, option_map, Result, arith}
 use Rattle.arrayvec.specs.ArrayVec.{ArrayVec as Items}
-use Rattle.std.proofs.lemmas.Bool.{eqb-true}
+use Rattle.std.proofs.lemmas.Bool.{eqb-true, true≢false}
 use Rattle.std.proofs.lemmas.Int.{ints}
 use Rattle.std.specs.Option.{option_map_or}
+use Rattle.std.proofs.lemmas.Option.{none-some, same_Some}
 use Rattle.wrp_base.specs.declared.link.Module.{Module}
 use Rattle.wrp_base.specs.declared.link.Role.{Role}
 use Rattle.wrp_base.specs.declared.message.PtpMsg.{PtpMsg}
@@ -30,10 +31,6 @@ use Rattle.wrp_world.proofs.RunTimes.{all_given_module, all_right}
 use Rattle.wrp_truth.proofs.OnTime.{first_part}
 use Rattle.wrp_truth.proofs.Slow.{check_says}
 use Rattle.wrp_truth.proofs.Suffixes.{run_before}
-use Rattle.wrp_truth.proofs.Basics.{none_some, some_is}
-
-true_not : true ≡ false → ⊥
-true_not e = cc
 
 -- true delays are within the error of an entry
 pub record HasDelays (entry : Module) (tx rx : ℕ) : Type 0 where
@@ -73,11 +70,11 @@ record IsChecked (s : Setting) (n p : ℕ) (swap : Swap) : Type 0 where
 
 checked_where : (s : Setting) (n p : ℕ) (x : Swap) (o : Option Swap) (swap : Swap) (b : Bool) → (x.port == p) ≡ b → AllHold (module_kept s n x) → Holds (swap_stands s n x) → (o ≡ Some swap → IsChecked s n p swap) →
     cond b (Some x) o ≡ Some swap → IsChecked s n p swap
-checked_where s n p x o swap true e near placed later is = subst (IsChecked s n p) (some_is x swap is) (record { port = eqb-true x.port p e; near = near; placed = placed })
+checked_where s n p x o swap true e near placed later is = subst (IsChecked s n p) (same_Some x swap is) (record { port = eqb-true x.port p e; near = near; placed = placed })
 checked_where s n p x o swap false e near placed later is = later is
 
 swap_checked : (s : Setting) (n p : ℕ) (swaps : List Swap) (swap : Swap) → AllHold (flat_map (module_kept s n) swaps) → AllHold (map (swap_stands s n) swaps) → swap_at p swaps ≡ Some swap → IsChecked s n p swap
-swap_checked s n p [] swap near placed is = absurd (none_some swap is)
+swap_checked s n p [] swap near placed is = absurd (none-some swap is)
 swap_checked s n p (x ∷ swaps) swap near placed is =
     checked_where s n p x (swap_at p swaps) swap (x.port == p) refl (first_part (module_kept s n x) (flat_map (module_kept s n) swaps) near) placed.0
     (swap_checked s n p swaps swap (all_right Holds (module_kept s n x) (flat_map (module_kept s n) swaps) near) placed.1) is
@@ -96,7 +93,7 @@ near_entry swap (Some entry) h = record {
 -- its port is at that end alone
 near_place : (s : Setting) → IsNetwork s → (n k : ℕ) (r : Role) (swap : Swap) (o : Option Place) → end_at s k r ≡ Some (end_with n swap.port) → place_of s n swap.port ≡ o → not (is_some o) ≡ false →
     AllHold (module_checks swap (entry_for s swap o)) → SwapIsNear s k r swap
-near_place s net n k r swap None there at is h = absurd (true_not is)
+near_place s net n k r swap None there at is h = absurd (true≢false is)
 near_place s net n k r swap (Some place) there at is h =
     let it : LinkEnd s place.link place.role (end_with n swap.port) = place_end s n swap.port place at in
     let same : (place.link ≡ k) × (place.role ≡ r) =

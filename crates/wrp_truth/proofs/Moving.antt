@@ -7,12 +7,14 @@ use Rattle.std.proofs.lemmas.Option.{slice_get_past, slice_get_within}
 use Rattle.std.specs.Option.{option_map_or}
 use Rattle.std.specs.Int.Signed.{le_z}
 use Rattle.arrayvec.specs.ArrayVec.{ArrayVec as Items}
+use Rattle.std.proofs.lemmas.Bool.{and_parts, cases_lt}
 use Rattle.wrp_base.specs.declared.link.Role.TheVariants.{Master, Slave}
 use Rattle.wrp_base.specs.declared.link.ServoState.{ServoState}
 use Rattle.wrp_base.specs.declared.link.ServoState.TheVariants.{Track, Holdover}
 use Rattle.wrp_base.specs.declared.message.PtpMsg.{PtpMsg}
 use Rattle.wrp_base.specs.declared.network.LinkCfg.{LinkCfg}
 use Rattle.wrp_base.specs.Network.{link_above, node_count}
+use Rattle.wrp_base.proofs.Naturals.{nat_le_self}
 use Rattle.wrp_frame.specs.declared.fault.FrameFault.{FrameFault}
 use Rattle.wrp_node.specs.declared.interface.NodeSet.{NodeSet}
 use Rattle.wrp_node.specs.NodeAt.{Fixed, NodeAt, locked_of, servo_at, settings_of, slave_of, state_of}
@@ -27,8 +29,9 @@ use Rattle.wrp_tracking.specs.Tree.{IsSource}
 use Rattle.wrp_world.specs.declared.event.Event.{Event}
 use Rattle.wrp_world.specs.declared.event.Event.TheVariants.{Pass, Sample, Down, Up, Cut, Join}
 use Rattle.wrp_world.specs.declared.fibres.FibreState.{FibreState}
-use Rattle.wrp_world.specs.Checks.{AllHold, Check, Holds, stands}
+use Rattle.wrp_world.specs.Checks.{AllHold, Check, Holds}
 use Rattle.wrp_world.specs.EventAt.{IsEventOf}
+use Rattle.wrp_world.proofs.RunChanges.{not_joined}
 use Rattle.wrp_world.specs.Given.{Given, given_by, gives, gives_all, world_step}
 use Rattle.wrp_world.specs.Moved.{clock_after, drift_of, fibre_after, move_of, moved}
 use Rattle.wrp_world.specs.Premises.{Accepts, fibre_kept, fibre_rate, is_holdover, rate_checks, rate_kept, rate_of, tick_late}
@@ -37,7 +40,7 @@ use Rattle.wrp_world.specs.RunLaws.{ModulesStay, SameModule}
 use Rattle.wrp_world.specs.Runs.{IsNetwork, IsRun}
 use Rattle.wrp_world.specs.Setting.{Setting, fixed_of, link_of, links_of, nodes_of, of_node}
 use Rattle.wrp_world.specs.WorldAt.{WorldAt, delay_from, ends_are_up, has_carrier}
-use Rattle.wrp_world.proofs.RunTimes.{all_right, both_up, comes_up_down, step_time}
+use Rattle.wrp_world.proofs.RunTimes.{all_right, comes_up_down, step_time, not_up}
 use Rattle.wrp_truth.specs.Leases.{IsCarried}
 use Rattle.wrp_truth.specs.Rates.{SourceMovesSlowly, TopIsTrue, WaysMoveSlowly, greatest_rate}
 use Rattle.wrp_truth.specs.Views.{moment_at, offsets_at}
@@ -46,7 +49,7 @@ use Rattle.wrp_truth.proofs.NodeRuns.{chain_locked}
 use Rattle.wrp_truth.proofs.NodeSteps.{still_in_track, still_without_servo}
 use Rattle.wrp_truth.proofs.Offsets.{IsAtOnce, IsStill, event_off, same_off}
 use Rattle.wrp_truth.proofs.OnTime.{first_part}
-use Rattle.wrp_truth.proofs.Parents.{has_servo, not_up, with_servo}
+use Rattle.wrp_truth.proofs.Parents.{has_servo, with_servo}
 use Rattle.wrp_truth.proofs.Slow.{Slow, as_slow, check_says, flat_from, moved_slow, still_slow}
 use Rattle.wrp_truth.proofs.Suffixes.{run_before}
 
@@ -179,11 +182,8 @@ no_slave s net n above = ap is_some (ap (λ (x : NodeSet). slave_of x) (net.set 
 zero_drift : (d dt : ℤ) → unsigned_abs d * 1_000_000_000_000 ≤ 0 * unsigned_abs dt → d ≡ pos 0
 zero_drift d dt h = omega (arith, ints, h)
 
-few_or_not : (a b : ℕ) → (a < b) ⊎ (b ≤ a)
-few_or_not a b = grind (arith)
-
 top_drift : (s : Setting) (w : WorldAt) (says : Result PtpMsg FrameFault) (dt : ℤ) (drifts : Items ℤ) (fibres : Items (ℤ × ℤ)) (n : ℕ) → IsEventOf s.cfg (Pass dt drifts fibres) → Accepts s w says (Pass dt drifts fibres) → link_above s.cfg n ≡ None → drift_of drifts.items n ≡ pos 0
-top_drift s w says dt drifts fibres n event a above = elim (few_or_not n (node_count s.cfg)) [
+top_drift s w says dt drifts fibres n event a above = elim (cases_lt n (node_count s.cfg)) [
   | inl inside ↦
       zero_drift (drift_of drifts.items n) dt
       (rate_is_kept s w says dt drifts fibres n 0 inside a (ap (λ o. kept_by (is_some o) (w.clock n).up (locked_of (fixed_of s n) (w.node n)) (is_holdover (state_of (fixed_of s n) (w.node n))) (of_node (λ node. node.slew) s n) (of_node (λ node. node.held) s n)) above))
@@ -254,9 +254,6 @@ given_fibre : (s : Setting) (y : ℤ) (gs : List Given) (v : WorldAt) (k : ℕ) 
 given_fibre s y [] v k = refl
 given_fibre s y (g ∷ gs) v k = given_fibre s y gs (gives s y v g) k
 
-not_joined : (s : Setting) (w : WorldAt) (says : Result PtpMsg FrameFault) (l : ℕ) (ms sm : ℤ) → Accepts s w says (Join l ms sm) → not (not (w.fibre l).joined) ≡ false
-not_joined s w says l ms sm a = (all_right Holds (fibre_kept s (moved s w (Join l ms sm)) l) (stands (not (w.fibre l).joined) ∷ []) a).0
-
 -- no time passes
 abbrev pub IsStillEvent : Event → Type 0
 IsStillEvent (Pass dt drifts fibres) = ⊥
@@ -311,8 +308,8 @@ ways_by stay s h before k link down up run carried moves =
 abbrev WaysSlow : Setting → WorldAt → WorldAt → ℕ → Type 0
 WaysSlow s w now k = Slow 2 w.time now.time (delay_from w k Master) (delay_from now k Master) × Slow 2 w.time now.time (delay_from w k Slave) (delay_from now k Slave)
 
-joined_is : (s : Setting) (w : WorldAt) (k : ℕ) → has_carrier s w k ≡ true → (w.fibre k).joined ≡ true
-joined_is s w k c = (both_up (w.fibre k).joined (ends_are_up w.clock (link_of s k)) c).0
+pub joined_is : (s : Setting) (w : WorldAt) (k : ℕ) → has_carrier s w k ≡ true → (w.fibre k).joined ≡ true
+joined_is s w k c = (and_parts (w.fibre k).joined (ends_are_up w.clock (link_of s k)) c).0
 
 -- where no time passes they stay
 pub ways_stay : ModulesStay → (s : Setting) (h : Happened) (before : List Happened) (k : ℕ) (link : LinkCfg) → IsRun s (h ∷ before) → IsCarried s k before → IsStillEvent h.event →
@@ -332,9 +329,6 @@ still_ways stay s h before k link run carried still =
       still_slow 2 w.time now.time (delay_from w k Slave) (delay_from now k Slave) (same_time s h before run) both.1,
     )
 
-same_rate : (n : ℕ) → n ≤ n
-same_rate n = omega arith
-
 ways_slow : ModulesStay → (s : Setting) (says : Result PtpMsg FrameFault) (y : ℤ) (before : List Happened) (e : Event) (k : ℕ) (link : LinkCfg) → IsRun s (record { event = e; says = says; answer = y } ∷ before) → link_of s k ≡ Some link → IsCarried s k before →
     WaysSlow s (world_after s before) (world_step s says y (world_after s before) e) k
 ways_slow stay s says y before (Pass dt drifts fibres) k link run is carried =
@@ -344,8 +338,8 @@ ways_slow stay s says y before (Pass dt drifts fibres) k link run is carried =
     let move : ℤ × ℤ = move_of fibres.items k in
     let both : _ = ways_by stay s h before k link move.0 move.1 run carried (refl, refl) in
     let kept : _ = fibre_is_kept s w says dt drifts fibres k link is run.accepted.0 in (
-      moved_slow 2 2 w.time now.time (delay_from w k Master) (delay_from now k Master) dt move.0 refl both.0 run.each.0.span.0 kept.0 (same_rate 2),
-      moved_slow 2 2 w.time now.time (delay_from w k Slave) (delay_from now k Slave) dt move.1 refl both.1 run.each.0.span.0 kept.1 (same_rate 2),
+      moved_slow 2 2 w.time now.time (delay_from w k Master) (delay_from now k Master) dt move.0 refl both.0 run.each.0.span.0 kept.0 (nat_le_self 2),
+      moved_slow 2 2 w.time now.time (delay_from w k Slave) (delay_from now k Slave) dt move.1 refl both.1 run.each.0.span.0 kept.1 (nat_le_self 2),
     )
 ways_slow stay s says y before e k link run is carried = still_ways stay s (record { event = e; says = says; answer = y }) before k link run carried tt
 

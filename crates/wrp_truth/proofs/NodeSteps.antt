@@ -10,10 +10,10 @@ use Rattle.wrp_data.specs.declared.reason.Reason.{Reason}
 use Rattle.wrp_frame.specs.declared.fault.FrameFault.{FrameFault}
 use Rattle.wrp_node.specs.declared.interface.Input.{Input}
 use Rattle.wrp_node.specs.declared.interface.Input.TheVariants.{Tick, Sample, Frame, Sent, Carrier, Reset}
-use Rattle.wrp_node.specs.NodeAt.{Fixed, NodeAt, Taken, settings_of, slave_of, setting_of, link_at, is_fresh_in, deltas_in}
+use Rattle.wrp_node.specs.NodeAt.{Fixed, NodeAt, Taken, settings_of, slave_of, setting_of, link_at}
 use Rattle.wrp_node.specs.NodeStep.{measurement_by, measured_at, message_of, heard, heard_unless, stepped, node_step}
 use Rattle.wrp_node.specs.StepLaws.{CommandsAreHeld, is_frame}
-use Rattle.wrp_node.specs.Telling.{Step, answer_of, called, is_changed, newest_step, with_lease, settled}
+use Rattle.wrp_node.specs.Telling.{Step, answer_of, called, newest_step, settled}
 use Rattle.wrp_port.specs.declared.interface.PortIn.{PortIn}
 use Rattle.wrp_port.specs.Hearing.{early_reason}
 use Rattle.wrp_servo.specs.Call.{Call, CallSample, CallMeasured, CallTick, CallLease, CallLink, CallCarrier, CallReset, Settings, run}
@@ -24,26 +24,10 @@ use Rattle.wrp_servo.specs.Measuring.{aimed, answered, answered_cycles, by_perio
 use Rattle.wrp_servo.specs.Sampling.{est_of, is_holdover}
 use Rattle.wrp_servo.specs.Servo.{answer_to}
 use Rattle.wrp_servo.specs.Table.{ended, ended_in, is_track, linked, uninit_outside_holdover, with_link, with_lease as lease_by}
-use Rattle.wrp_servo.specs.Told.{lease_told, link_told}
+use Rattle.wrp_node.proofs.StepLaws.{settled_cycles}
 use Rattle.wrp_truth.proofs.StepCalls.{IsTelling, settled_keeps}
 
 -- What is told of the lease and of the link commands nothing
-
-lease_still : (fixed : Fixed) (has changes fresh : Bool) (calls : List Call) → (answer_of fixed (if has then (if changes then Some (CallLease fresh) else None) else None) calls).cycles ≡ pos 0
-lease_still fixed true true fresh calls = refl
-lease_still fixed true false fresh calls = refl
-lease_still fixed false changes fresh calls = refl
-
-link_still : (fixed : Fixed) (has changes : Bool) (on : Option Deltas) (calls : List Call) → (answer_of fixed (if has then (if changes then Some (CallLink on) else None) else None) calls).cycles ≡ pos 0
-link_still fixed true true on calls = refl
-link_still fixed true false on calls = refl
-link_still fixed false changes on calls = refl
-
-pub settled_cycles : (fixed : Fixed) (s : Step) → (settled fixed s).cycles ≡ s.cycles
-settled_cycles fixed s =
-    let w : Step = with_lease fixed s in
-    ap (λ (c : ℤ). newest_step c w.cycles) (link_still fixed (is_some (slave_of fixed.set)) (is_changed (is_some (link_told w.node.calls)) (is_some (deltas_in fixed.set w.node))) (deltas_in fixed.set w.node) w.node.calls)
-    ∙ ap (λ (c : ℤ). newest_step c s.cycles) (lease_still fixed (is_some (slave_of fixed.set)) (is_changed (lease_told s.node.calls) (is_fresh_in fixed.set s.node)) (is_fresh_in fixed.set s.node) s.node.calls)
 
 -- A measurement
 
@@ -93,14 +77,14 @@ still_without_servo held fixed t n e =
 
 -- Where a chain stands after it
 
-abbrev Stands : Core → Type 0
+abbrev pub Stands : Core → Type 0
 Stands v = is_some v.first ≡ true
 
 no_first : (v : Core) → v.first ≡ None → Stands v → ⊥
 no_first v e h = (let f : false ≡ true = ap is_some (sym e) ∙ h in cc)
 
 -- after its end none stands
-none_ended : (v : Core) (s : ServoState) → (ended_in v s).first ≡ None
+pub none_ended : (v : Core) (s : ServoState) → (ended_in v s).first ≡ None
 none_ended v Uninit = refl
 none_ended v SyncTai = refl
 none_ended v SyncNsec = refl

@@ -1,11 +1,11 @@
 -- What an event makes of the offset of a node that commands no step.
-use Rattle.std.proofs.Common.{◌≡◌, inl, inr, ◌∙◌, refl, ap, sym, subst, ℕ, ◌+◌, ◌==◌, ℤ, pos, ◌+ℤ◌, ◌*ℤ◌, Bool, true, false, if◌then◌else◌, List, [], ◌∷◌, Option, None, Some, Result, Ok, arith}
+use Rattle.std.proofs.Common.{◌≡◌, inl, inr, ◌∙◌, refl, ap, sym, subst, ℕ, ◌+◌, ◌==◌, ℤ, pos, ◌+ℤ◌, ◌*ℤ◌, Bool, true, false, if◌then◌else◌, List, [], ◌∷◌, Option, None, Some, Result, Ok}
 use Rattle.std.proofs.lemmas.Bool.Decides.{eqb_tells}
-use Rattle.std.proofs.lemmas.Int.{ints}
 use Rattle.std.specs.Option.{option_map_or}
 use Rattle.wrp_base.specs.Clock.{period_of}
 use Rattle.wrp_base.specs.declared.message.PtpMsg.{PtpMsg}
 use Rattle.wrp_base.specs.Network.{End}
+use Rattle.wrp_base.proofs.Naturals.{eq_self}
 use Rattle.wrp_frame.specs.declared.fault.FrameFault.{FrameFault}
 use Rattle.wrp_frame.specs.SentOctets.{octets_of}
 use Rattle.wrp_node.specs.declared.interface.Input.{Input}
@@ -16,17 +16,14 @@ use Rattle.wrp_node.specs.StepLaws.{CommandsAreHeld, is_frame}
 use Rattle.wrp_world.specs.declared.clocks.ClockState.{ClockState}
 use Rattle.wrp_world.specs.declared.event.Event.{Event}
 use Rattle.wrp_world.specs.declared.event.Event.TheVariants.{Pass, Tick, Sample, Depart, Arrive, Deliver, Noise, Down, Up, Cut, Join}
+use Rattle.wrp_world.proofs.DroppedFrames.{still as no_move}
 use Rattle.wrp_world.specs.Given.{Given, clock_told, delivered, delivered_by, delivered_to, given, given_by, gives, gives_all, step_of, taken_of, world_step}
 use Rattle.wrp_world.specs.Moved.{clock_after, moved}
 use Rattle.wrp_world.specs.Setting.{Setting, end_at, fixed_of, other_of}
 use Rattle.wrp_world.specs.WorldAt.{Arrival, FrameAt, WorldAt}
-use Rattle.wrp_world.proofs.RunPorts.{self_equal}
 use Rattle.wrp_truth.proofs.Inputs.{GivesTo, To, gives_to}
 
 -- One input
-
-no_move : (a : ℤ) (p : ℕ) → a +ℤ (pos 0 *ℤ pos p) ≡ a
-no_move a p = omega (arith, ints)
 
 given_off : (s : Setting) (y : ℤ) (v : WorldAt) (g : Given) (n : ℕ) → (n ≡ g.to → (step_of s y v g).cycles ≡ pos 0) → ((gives s y v g).clock n).off ≡ (v.clock n).off
 given_off s y v g n h =
@@ -76,7 +73,7 @@ IsStill s w n K = (t : Taken) → K (node_step (fixed_of s n) t (w.node n)).node
 one_off : (s : Setting) (y : ℤ) (w v : WorldAt) (g : Given) (n : ℕ) (K : NodeAt → Type 0) → v.node ≡ w.node → IsStill s w n K → K ((gives s y v g).node n) → ((gives s y v g).clock n).off ≡ (v.clock n).off
 one_off s y w v g n K same still h =
     given_off s y v g n (λ e.
-    let here : (n == g.to) ≡ true = ap (λ i. i == g.to) e ∙ self_equal g.to in
+    let here : (n == g.to) ≡ true = ap (λ i. i == g.to) e ∙ eq_self g.to in
     let node : (gives s y v g).node n ≡ (node_step (fixed_of s n) (taken_of y g) (w.node n)).node =
     ap (λ b. if b then (step_of s y v g).node else v.node n) here ∙ ap (λ i. (node_step (fixed_of s i) (taken_of y g) (v.node i)).node) (sym e)
     ∙ ap (λ (f : ℕ → NodeAt). (node_step (fixed_of s n) (taken_of y g) (f n)).node) same in

@@ -1,23 +1,26 @@
 -- A node that is up ticked, or started, at most dmax ago.
-use Rattle.std.proofs.Common.{◌≡◌, ◌⊎◌, inl, inr, ◌∙◌, refl, ap, sym, subst, ℕ, zero, suc, ◌+◌, ◌<◌, ◌==◌, ◌&&◌, ℤ, pos, ◌+ℤ◌, ◌-ℤ◌, ◌≤ℤ◌, not, Bool, true, false, if◌then◌else◌, List, [], ◌∷◌, ◌++◌, map, Result, arith}
+use Rattle.std.proofs.Common.{◌≡◌, ◌⊎◌, inl, inr, ◌∙◌, refl, ap, sym, subst, ℕ, ◌+◌, ◌<◌, ◌==◌, ◌&&◌, ℤ, pos, ◌+ℤ◌, ◌-ℤ◌, ◌≤ℤ◌, not, Bool, true, false, if◌then◌else◌, List, [], ◌∷◌, ◌++◌, map, Result, arith}
 use Rattle.std.proofs.lemmas.Bool.Decides.{eqb_tells}
 use Rattle.std.proofs.lemmas.Int.{ints}
 use Rattle.std.specs.Int.Signed.{le_z}
 use Rattle.wrp_base.specs.declared.message.PtpMsg.{PtpMsg}
+use Rattle.wrp_base.proofs.Naturals.{zero_plus}
 use Rattle.wrp_base.specs.Network.{node_count}
+use Rattle.wrp_base.proofs.Integers.{int_le_self, int_le_trans, le_plus}
 use Rattle.wrp_bounds.specs.Times.{longest_tick}
 use Rattle.wrp_frame.specs.declared.fault.FrameFault.{FrameFault}
 use Rattle.wrp_world.specs.declared.clocks.ClockState.{ClockState}
 use Rattle.wrp_world.specs.declared.event.Event.{Event}
 use Rattle.wrp_world.specs.declared.event.Event.TheVariants.{Pass, Tick, Sample, Depart, Arrive, Deliver, Noise, Down, Up, Cut, Join}
 use Rattle.wrp_world.specs.Checks.{AllHold, Check}
+use Rattle.wrp_world.proofs.Bounds.{holds_at}
 use Rattle.wrp_world.specs.Given.{given_by, world_step}
 use Rattle.wrp_world.specs.Moved.{moved}
 use Rattle.wrp_world.specs.Premises.{tick_late}
 use Rattle.wrp_world.specs.Run.{Happened, world_after}
 use Rattle.wrp_world.specs.RunLaws.{TicksAreApart}
 use Rattle.wrp_world.specs.Runs.{IsRun}
-use Rattle.wrp_world.specs.Setting.{Setting, from_on, nodes_of}
+use Rattle.wrp_world.specs.Setting.{Setting, nodes_of}
 use Rattle.wrp_world.specs.WorldAt.{WorldAt}
 use Rattle.wrp_world.proofs.RunMoves.{moved_ticked}
 use Rattle.wrp_world.proofs.RunTimes.{all_given_time, step_time}
@@ -27,22 +30,16 @@ use Rattle.wrp_truth.proofs.Suffixes.{run_before}
 
 -- The last tick is past
 
-same_time : (t : ℤ) → t ≤ℤ t
-same_time t = omega (arith, ints)
-
-pub after_that : (a b c : ℤ) → a ≤ℤ b → b ≤ℤ c → a ≤ℤ c
-after_that a b c h k = omega (arith, ints, h, k)
-
 pub ticked_past : TicksAreApart → (s : Setting) (events : List Happened) (n : ℕ) → IsRun s events → ((world_after s events).clock n).ticked ≤ℤ (world_after s events).time
-ticked_past apart s [] n run = same_time (world_after s []).time
+ticked_past apart s [] n run = int_le_self (world_after s []).time
 ticked_past apart s (h ∷ before) n run =
     let w : WorldAt = world_after s before in
     let now : ℤ = (world_after s (h ∷ before)).time in
     elim (apart s h before n run) [
       | inl e ↦
           subst (λ t. t ≤ℤ now) (sym e)
-          (after_that (w.clock n).ticked w.time now (ticked_past apart s before n (run_before s h before run)) (step_time s h.says h.answer w h.event run.each.0))
-      | inr x ↦ subst (λ t. t ≤ℤ now) (sym x.0) (same_time now)
+          (int_le_trans (w.clock n).ticked w.time now (ticked_past apart s before n (run_before s h before run)) (step_time s h.says h.answer w h.event run.each.0))
+      | inr x ↦ subst (λ t. t ≤ℤ now) (sym x.0) (int_le_self now)
     ]
 
 -- The check of each node as time passes
@@ -51,17 +48,9 @@ pub first_part : (xs ys : List Check) → AllHold (xs ++ ys) → AllHold xs
 first_part [] ys h = tt
 first_part (x ∷ xs) ys h = (h.0, first_part xs ys h.1)
 
-holds_at : (f : ℕ → Check) (k first j : ℕ) → AllHold (map f (from_on k first)) → j < k → (f (first + j)).fails ≡ false
-holds_at f zero first j h l = absurd (omega arith)
-holds_at f (suc k) first zero h l = subst (λ n. (f n).fails ≡ false) (omega arith) h.0
-holds_at f (suc k) first (suc j) h l = subst (λ n. (f n).fails ≡ false) (omega arith) (holds_at f k (first + 1) j h.1 (omega arith))
-
-from_first : (n : ℕ) → 0 + n ≡ n
-from_first n = omega arith
-
 not_late : (s : Setting) (w : WorldAt) (dt : ℤ) (n : ℕ) (others : List Check) → n < node_count s.cfg → AllHold (map (tick_late s w dt) (nodes_of s) ++ others) → (tick_late s w dt n).fails ≡ false
 not_late s w dt n others inside h =
-    subst (λ i. (tick_late s w dt i).fails ≡ false) (from_first n) (holds_at (tick_late s w dt) (node_count s.cfg) 0 n (first_part (map (tick_late s w dt) (nodes_of s)) others h) inside)
+    subst (λ i. (tick_late s w dt i).fails ≡ false) (zero_plus n) (holds_at (tick_late s w dt) (node_count s.cfg) 0 n (first_part (map (tick_late s w dt) (nodes_of s)) others h) inside)
 
 in_time : (up : Bool) (after last : ℤ) (most : ℕ) → up ≡ true → (up && not (le_z (after -ℤ last) (pos most))) ≡ false → after ≤ℤ (last +ℤ pos most)
 in_time true after last most e h = grind (arith, ints, h)
@@ -71,9 +60,6 @@ in_time false after last most e h = absurd (let f : false ≡ true = e in cc)
 
 abbrev OnTime : (dmax : ℕ) → ClockState → ℤ → Type 0
 OnTime dmax clock time = clock.up ≡ true → time ≤ℤ (clock.ticked +ℤ pos dmax)
-
-now_in_time : (t : ℤ) (dmax : ℕ) → t ≤ℤ (t +ℤ pos dmax)
-now_in_time t dmax = omega (arith, ints)
 
 -- an event in which no time passes and the node does not start
 abbrev pub IsStill : ℕ → Event → Type 0
@@ -106,7 +92,7 @@ still_time s w _ n still = refl
 still_on_time : (s : Setting) (h : Happened) (before : List Happened) (n dmax : ℕ) → IsStill n h.event →
     (((world_after s (h ∷ before)).clock n).ticked ≡ ((world_after s before).clock n).ticked) ⊎ (((world_after s (h ∷ before)).clock n).ticked ≡ (world_after s (h ∷ before)).time) →
     OnTime dmax ((world_after s before).clock n) (world_after s before).time → OnTime dmax ((world_after s (h ∷ before)).clock n) (world_after s (h ∷ before)).time
-still_on_time s h before n dmax still (inr now) old up = subst (λ t. (world_after s (h ∷ before)).time ≤ℤ (t +ℤ pos dmax)) (sym now) (now_in_time (world_after s (h ∷ before)).time dmax)
+still_on_time s h before n dmax still (inr now) old up = subst (λ t. (world_after s (h ∷ before)).time ≤ℤ (t +ℤ pos dmax)) (sym now) (le_plus (world_after s (h ∷ before)).time dmax)
 still_on_time s h before n dmax still (inl same) old up =
     let w : WorldAt = world_after s before in
     let v : WorldAt = moved s w h.event in
@@ -136,7 +122,7 @@ step_on_time apart s says answer before n (Up m off swaps) inside run old up =
           no_tick_last s says answer w (Up m off swaps) n tt ∙ moved_ticked s w (Up m off swaps) n ∙ ap (λ b. if b then w.time else (w.clock n).ticked) x.0 in
           let time : after.time ≡ w.time = all_given_time s answer (given_by s w v says (Up m off swaps)) v in
           subst (λ t. t ≤ℤ ((after.clock n).ticked +ℤ pos (longest_tick s.cfg))) (sym time)
-          (subst (λ t. w.time ≤ℤ (t +ℤ pos (longest_tick s.cfg))) (sym now) (now_in_time w.time (longest_tick s.cfg)))
+          (subst (λ t. w.time ≤ℤ (t +ℤ pos (longest_tick s.cfg))) (sym now) (le_plus w.time (longest_tick s.cfg)))
       | inr x ↦ still_on_time s h before n (longest_tick s.cfg) x.1 (either (apart s h before n run)) old up
     ]
 step_on_time apart s says answer before n (Tick m) inside run old up =

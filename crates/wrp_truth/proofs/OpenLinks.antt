@@ -1,6 +1,6 @@
 -- A link that is open stays so at each input, but where it loses its carrier or begins the whole of its quiet time.
 use Rattle.std.proofs.Common.{◌≡◌, ◌⊎◌, inl, inr, refl, ap, sym, subst, ℕ, ◌-◌, ◌==◌, nat_lt, Bool, true, false, if◌then◌else◌, [], ◌∷◌, Option, None, Some}
-use Rattle.std.proofs.lemmas.Bool.{eqb-true}
+use Rattle.std.proofs.lemmas.Bool.{eqb-true, false≢true}
 use Rattle.wrp_base.specs.declared.link.LinkState.{LinkState}
 use Rattle.wrp_base.specs.declared.link.LinkState.TheVariants.{Idle, Present, SLock, MLock, Locked, Calibration, Calibrated, RespCalib, LinkOn}
 use Rattle.wrp_base.specs.declared.link.LinkWord.TheVariants.{Down, Ptp, Quiet}
@@ -15,7 +15,6 @@ use Rattle.wrp_link.specs.Rows.{Row, NoRow, Stays, Moves, Keeps, Resends, Fails,
 use Rattle.wrp_link.specs.Table.{after, by_row, counted, word_in}
 use Rattle.wrp_port.specs.Hearing.{is_open, is_open_word}
 use Rattle.wrp_truth.proofs.Resting.{open_has_carrier}
-use Rattle.wrp_truth.proofs.Basics.{not_true}
 
 -- How a link that is open is no more
 
@@ -82,7 +81,7 @@ abbrev pub Shut : LinkAt → Type 0
 Shut l = (l.carrier ≡ false) ⊎ ((l.state ≡ Idle) × (l.quiet ≡ l.set.quiet))
 
 in_open : (c : Bool) (s : LinkState) (quiet : ℕ) → c ≡ true → (s ≡ Idle → ⊥) → is_open_word (if c then word_in s quiet else Down) ≡ true
-in_open false s quiet e h = absurd (not_true e)
+in_open false s quiet e h = absurd (false≢true e)
 in_open true Idle quiet e h = absurd (h refl)
 in_open true Present quiet e h = refl
 in_open true SLock quiet e h = refl
@@ -98,7 +97,7 @@ idle_counts true quiet e = subst (λ b. is_open_word (if b then Ptp else Quiet) 
   where
     over : (b : Bool) → is_open_word (if b then Ptp else Quiet) ≡ true → b ≡ true
     over true f = refl
-    over false f = absurd (not_true f)
+    over false f = absurd (false≢true f)
 
     less_too : (n : ℕ) → (n == 0) ≡ true → ((n - 1) == 0) ≡ true
     less_too n f = let z : n ≡ 0 = eqb-true n 0 f in ap (λ k. (k - 1) == 0) z

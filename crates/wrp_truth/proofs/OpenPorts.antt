@@ -1,9 +1,12 @@
 -- A port that takes messages took them, and its link had its carrier, at all moments since two frame's lives ago.
 use Rattle.std.proofs.Common.{◌≡◌, inl, inr, ◌∙◌, refl, sym, subst, ℕ, ◌==◌, ◌*◌, ℤ, pos, ◌+ℤ◌, ◌≤ℤ◌, ◌<ℤ◌, Bool, true, false, if◌then◌else◌, List, [], ◌∷◌, ◌++◌, Some, Result, arith, ◌⊎◌}
 use Rattle.std.proofs.lemmas.Int.{ints}
+use Rattle.std.proofs.lemmas.Bool.{false≢true}
 use Rattle.wrp_base.specs.declared.link.Role.{Role}
 use Rattle.wrp_base.specs.declared.message.PtpMsg.{PtpMsg}
+use Rattle.wrp_base.proofs.Lists.{append_assoc}
 use Rattle.wrp_base.specs.declared.network.LinkCfg.{LinkCfg}
+use Rattle.wrp_base.proofs.Integers.{int_le_self, int_le_trans}
 use Rattle.wrp_bounds.specs.Times.{frame_life, shortest_tick}
 use Rattle.wrp_frame.specs.declared.fault.FrameFault.{FrameFault}
 use Rattle.wrp_handshake.specs.Ends.{OutlivesFrames}
@@ -39,12 +42,11 @@ use Rattle.wrp_truth.specs.Leases.{IsCarried}
 use Rattle.wrp_truth.specs.Moments.{AtEach}
 use Rattle.wrp_truth.specs.SequenceIds.{IsOpenAt}
 use Rattle.wrp_truth.proofs.Inputs.{IsNoTick, IsNoTickOf, no_tick_to, node_kept, tick_or_not}
-use Rattle.wrp_truth.proofs.OnTime.{after_that, ticked_past}
+use Rattle.wrp_truth.proofs.OnTime.{ticked_past}
 use Rattle.wrp_truth.proofs.OpenLinks.{Shut, open_heard}
 use Rattle.wrp_truth.proofs.Parents.{ticked_node}
 use Rattle.wrp_truth.proofs.Resting.{Rested, heard_rested, open_rested, rested_later, IsCalmIn, tick_rested}
-use Rattle.wrp_truth.proofs.Suffixes.{at_newest, run_before, appended, at_each, older_run}
-use Rattle.wrp_truth.proofs.Basics.{not_true}
+use Rattle.wrp_truth.proofs.Suffixes.{at_newest, run_before, at_each, older_run}
 
 -- Open still, or rested
 
@@ -121,19 +123,16 @@ step_on gives_links still s net n p rest time ticked tick t node none r =
     subst (Since still (frame_life s.cfg) (shortest_tick s.cfg) rest time ticked) (sym (gives_links (fixed_of s n) t node p))
     (news_on still (frame_life s.cfg) (shortest_tick s.cfg) rest time ticked (fixed_of s n) node p t.input t.says none (quiet_is s n p net (node.told p)) tick r)
 
-at_once_time : (t : ℤ) → t ≤ℤ t
-at_once_time t = omega (arith, ints)
-
 -- the last tick does not come earlier
 pub last_grows : TicksAreApart → (s : Setting) (h : Happened) (before : List Happened) (n : ℕ) → IsRun s (h ∷ before) → ((world_after s before).clock n).ticked ≤ℤ ((world_after s (h ∷ before)).clock n).ticked
 last_grows apart s h before n run =
     let w : WorldAt = world_after s before in
     let now : WorldAt = world_after s (h ∷ before) in
     elim (apart s h before n run) [
-      | inl e ↦ subst (λ t. (w.clock n).ticked ≤ℤ t) (sym e) (at_once_time (w.clock n).ticked)
+      | inl e ↦ subst (λ t. (w.clock n).ticked ≤ℤ t) (sym e) (int_le_self (w.clock n).ticked)
       | inr x ↦
           subst (λ t. (w.clock n).ticked ≤ℤ t) (sym x.0)
-          (after_that (w.clock n).ticked w.time now.time (ticked_past apart s before n (run_before s h before run)) (step_time s h.says h.answer w h.event run.each.0))
+          (int_le_trans (w.clock n).ticked w.time now.time (ticked_past apart s before n (run_before s h before run)) (step_time s h.says h.answer w h.event run.each.0))
     ]
 
 -- the laws that this stands on
@@ -189,7 +188,7 @@ RestedAt s n p rest events =
 
 still_rests : QuietLaws → (s : Setting) (h : Happened) (before : List Happened) (n p : ℕ) (rest : ℤ) → IsRun s (h ∷ before) → rest ≤ℤ (world_after s before).time → RestedAt s n p rest before → RestedAt s n p rest (h ∷ before)
 still_rests laws s h before n p rest run past r = elim (event_since laws false s h before n p rest run past (inr r)) [
-  | inl never ↦ absurd (not_true never.0)
+  | inl never ↦ absurd (false≢true never.0)
   | inr still ↦ still
 ]
 
@@ -226,10 +225,10 @@ carried_since laws s newer older k r link run is now soon =
         (c : Bool) → has_carrier s (world_after s (b ++ older)) k ≡ c → IsCarried s k (b ++ older)
     carried_at a b run_ab takes young true e = e
     carried_at a b run_ab takes young false e =
-        let all : IsRun s (a ++ (b ++ older)) = subst (IsRun s) (appended a b older) run_ab in
+        let all : IsRun s (a ++ (b ++ older)) = subst (IsRun s) (append_assoc a b older) run_ab in
         absurd (too_long (world_after s (b ++ older)).time (world_after s ((a ++ b) ++ older)).time (world_after s older).time (frame_life s.cfg) (time_never_falls s b older (older_run s a (b ++ older) all))
-        (subst (λ l. ((world_after s (b ++ older)).time +ℤ pos (2 * frame_life s.cfg)) <ℤ (world_after s l).time) (sym (appended a b older))
-        (dark_long_ago laws s a (b ++ older) k r link all is e (subst (IsOpenAt s link r) (appended a b older) takes))) young)
+        (subst (λ l. ((world_after s (b ++ older)).time +ℤ pos (2 * frame_life s.cfg)) <ℤ (world_after s l).time) (sym (append_assoc a b older))
+        (dark_long_ago laws s a (b ++ older) k r link all is e (subst (IsOpenAt s link r) (append_assoc a b older) takes))) young)
 
 -- Since an event at which it is open
 

@@ -7,6 +7,7 @@ use Rattle.wrp_base.specs.declared.link.ServoState.TheVariants.{Uninit, SyncTai,
 use Rattle.wrp_base.specs.declared.message.PtpMsg.{PtpMsg}
 use Rattle.wrp_base.specs.declared.network.LinkCfg.{LinkCfg}
 use Rattle.wrp_base.specs.Network.{link_above}
+use Rattle.wrp_base.proofs.Naturals.{eq_self}
 use Rattle.wrp_bounds.specs.Times.{shortest_tick}
 use Rattle.wrp_frame.specs.declared.fault.FrameFault.{FrameFault}
 use Rattle.wrp_node.specs.declared.interface.Input.TheVariants.{Tick as TickInput}
@@ -22,6 +23,7 @@ use Rattle.wrp_servo.specs.Table.{is_track}
 use Rattle.wrp_tracking.specs.Tree.{IsSource}
 use Rattle.wrp_world.specs.declared.event.Event.{Event}
 use Rattle.wrp_world.specs.declared.event.Event.TheVariants.{Pass, Tick, Sample, Depart, Arrive, Deliver, Noise, Down, Up, Cut, Join}
+use Rattle.wrp_truth.proofs.HeldCalls.{state_of_track}
 use Rattle.wrp_world.specs.Given.{Given, clock_told, given_plain, step_of, taken_of, world_step}
 use Rattle.wrp_world.specs.Moved.{moved}
 use Rattle.wrp_world.specs.Premises.{Accepts}
@@ -31,8 +33,7 @@ use Rattle.wrp_world.specs.Setting.{Setting, fixed_of}
 use Rattle.wrp_world.specs.WorldAt.{WorldAt}
 use Rattle.wrp_world.proofs.RunHanded.{not_early}
 use Rattle.wrp_world.proofs.RunMoves.{moved_ticked}
-use Rattle.wrp_world.proofs.RunPorts.{self_equal}
-use Rattle.wrp_world.proofs.RunTimes.{comes_up_down}
+use Rattle.wrp_world.proofs.RunTimes.{comes_up_down, not_up}
 use Rattle.wrp_truth.specs.Views.{offsets_at}
 use Rattle.wrp_truth.proofs.Announces.{MayAnnounce}
 use Rattle.wrp_truth.proofs.Holding.{Followed, IsCalmCall, IsFollowed, follows_calm, follows_now, follows_still, follows_tick}
@@ -105,7 +106,7 @@ pub ticked_node : (s : Setting) (says : Result PtpMsg FrameFault) (y : ℤ) (w :
 ticked_node s says y w n m same =
     let v : WorldAt = moved s w (Tick m) in
     let g : Given = given_plain m TickInput in
-    let here : (n == m) ≡ true = ap (λ i. i == m) same ∙ self_equal m in (
+    let here : (n == m) ≡ true = ap (λ i. i == m) same ∙ eq_self m in (
       ap (λ b. if b then (step_of s y v g).node else w.node n) here ∙ ap (λ i. (node_step (fixed_of s i) (taken_of y g) (w.node i)).node) (sym same),
       ap (λ b. (if b then clock_told s v g (step_of s y v g).cycles (w.clock n) else w.clock n).ticked) here,
     )
@@ -125,9 +126,6 @@ tick_event s says y w n m at same servo a past f =
     subst (λ z. FollowedAt s n at z ((world_step s says y w (Tick m)).node n)) (sym is.1) (subst (FollowedAt s n at w.time) (sym is.0) it)
 
 -- each event that leaves it up
-
-pub not_up : (up : Bool) → up ≡ true → not (not up) ≡ false → ⊥
-not_up up e f = cc
 
 step_follows : (s : Setting) (says : Result PtpMsg FrameFault) (y : ℤ) (w : WorldAt) (e : Event) (n : ℕ) (at : ℤ) → is_some (slave_of (s.set n)) ≡ true → Accepts s w says e → (w.clock n).up ≡ true → at ≤ℤ w.time →
     FollowedAt s n at (w.clock n).ticked (w.node n) → FollowedAt s n at ((world_step s says y w e).clock n).ticked ((world_step s says y w e).node n)
@@ -162,16 +160,7 @@ begins s says y w n at servo certain =
 
 -- What follows: it may be followed
 
-state_track : (state : ServoState) → is_track state ≡ true → state ≡ Track
-state_track Track e = refl
-state_track Uninit e = cc
-state_track SyncTai e = cc
-state_track SyncNsec e = cc
-state_track SyncPhase e = cc
-state_track WaitStable e = cc
-state_track Holdover e = cc
-
-state_holdover : (state : ServoState) → is_holdover state ≡ true → state ≡ Holdover
+pub state_holdover : (state : ServoState) → is_holdover state ≡ true → state ≡ Holdover
 state_holdover Holdover e = refl
 state_holdover Uninit e = cc
 state_holdover SyncTai e = cc
@@ -184,7 +173,7 @@ pub with_servo : (fixed : Fixed) (n : NodeAt) → is_some (slave_of fixed.set) �
 with_servo fixed n e = ap (λ (b : Bool). if b then (servo_at fixed n).state else Uninit) e
 
 followed_source : (s : Setting) (w : WorldAt) (n : ℕ) → is_some (slave_of (s.set n)) ≡ true → IsFollowed (settings_of (fixed_of s n)) (w.node n).calls → IsSource s.cfg (offsets_at s w) n
-followed_source s w n servo (inl track) = inr (inl (with_servo (fixed_of s n) (w.node n) servo ∙ state_track (servo_at (fixed_of s n) (w.node n)).state track))
+followed_source s w n servo (inl track) = inr (inl (with_servo (fixed_of s n) (w.node n) servo ∙ state_of_track (servo_at (fixed_of s n) (w.node n)).state track))
 followed_source s w n servo (inr held) = inr (inr (with_servo (fixed_of s n) (w.node n) servo ∙ state_holdover (servo_at (fixed_of s n) (w.node n)).state held))
 
 pub is_source : TrackSince → HoldoverSince → (s : Setting) → IsNetwork s → (w : WorldAt) (n : ℕ) (at : ℤ) → is_some (slave_of (s.set n)) ≡ true → 0 < unsigned_abs s.cfg.holdover →

@@ -1,11 +1,13 @@
 -- While a link is on, the delays by which its slave reckons are near the true ones, and its fibre keeps its share.
 use Rattle.std.proofs.Common.{◌≡◌, ◌∙◌, refl, ap, ap₂, sym, subst, ℕ, ◌*◌, ◌^◌, ◌≤◌, ℤ, pos, ◌+ℤ◌, ◌-ℤ◌, ◌*ℤ◌, unsigned_abs, Bool, true, false, Option, None, Some, IfSome, slice_get, arith}
 use Rattle.std.proofs.Math.IntN.{*ℤ_comm}
+use Rattle.std.proofs.lemmas.Option.{none-some, same_Some}
 use Rattle.std.specs.Prelude.{option_and_then}
+use Rattle.std.proofs.lemmas.Bool.{and_parts}
 use Rattle.wrp_base.specs.declared.configuration.NetCfg.{NetCfg}
 use Rattle.wrp_base.specs.declared.link.Deltas.{Deltas}
 use Rattle.wrp_base.specs.declared.link.LinkState.{LinkState}
-use Rattle.wrp_base.specs.declared.link.LinkState.TheVariants.{Idle, LinkOn}
+use Rattle.wrp_base.specs.declared.link.LinkState.TheVariants.{LinkOn}
 use Rattle.wrp_base.specs.declared.link.Module.{Module}
 use Rattle.wrp_base.specs.declared.link.Role.{Role}
 use Rattle.wrp_base.specs.declared.link.Role.TheVariants.{Master, Slave}
@@ -27,14 +29,12 @@ use Rattle.wrp_world.specs.Setting.{Setting, end_of, entry_at, link_of}
 use Rattle.wrp_world.specs.WorldAt.{EndAt, WorldAt, ends_are_up, has_carrier}
 use Rattle.wrp_world.proofs.RunLinks.{IsDark}
 use Rattle.wrp_world.proofs.RunPorts.{link_dark}
-use Rattle.wrp_world.proofs.RunTimes.{both_up}
 use Rattle.wrp_truth.specs.Fibres.{FibresKeepTheirShare}
 use Rattle.wrp_truth.specs.PortDelays.{FibreHoldsWhileOn}
 use Rattle.wrp_truth.proofs.LinksAbove.{above_is}
 use Rattle.wrp_truth.proofs.ModulesNear.{HasDelays, IsNear, modules_near}
 use Rattle.wrp_truth.proofs.Parents.{has_slave}
 use Rattle.wrp_truth.proofs.PortErrors.{entry_error}
-use Rattle.wrp_truth.proofs.Basics.{none_some, some_is}
 
 -- What a hop takes from its link
 
@@ -45,14 +45,14 @@ record TakesFrom (link : LinkCfg) (hop : HopNumbers) : Type 0 where
 
 taken_between : (net : NetCfg) (link : LinkCfg) (hop : HopNumbers) (o p : Option NodeCfg) → numbers_between net link o p ≡ Some hop → TakesFrom link hop
 taken_between net link hop (Some own) (Some parent) is =
-    let it : _ ≡ hop = some_is _ hop is in
+    let it : _ ≡ hop = same_Some _ hop is in
     record {
       kappa = sym (ap (λ (h : HopNumbers). h.kappa) it);
       e_db = sym (ap (λ (h : HopNumbers). h.e_db) it);
       e_asym = sym (ap (λ (h : HopNumbers). h.e_asym) it);
     }
-taken_between net link hop None p is = absurd (none_some hop is)
-taken_between net link hop (Some own) None is = absurd (none_some hop is)
+taken_between net link hop None p is = absurd (none-some hop is)
+taken_between net link hop (Some own) None is = absurd (none-some hop is)
 
 taken_over : (net : NetCfg) (link : LinkCfg) (hop : HopNumbers) → numbers_over net link ≡ Some hop → TakesFrom link hop
 unfolding numbers_over
@@ -69,8 +69,8 @@ record IsOnWith (l : LinkAt) (deltas : Deltas) : Type 0 where
   are : deltas_by l.deltas l.own_module ≡ deltas
 
 on_by : (role : Role) (state : LinkState) (l : LinkAt) (deltas : Deltas) → l.state ≡ state → port_deltas_in role state l ≡ Some deltas → IsOnWith l deltas
-on_by Slave LinkOn l deltas e is = record { on = e; are = some_is (deltas_by l.deltas l.own_module) deltas is }
-on_by _ _ l deltas e is = absurd (none_some deltas is)
+on_by Slave LinkOn l deltas e is = record { on = e; are = same_Some (deltas_by l.deltas l.own_module) deltas is }
+on_by _ _ l deltas e is = absurd (none-some deltas is)
 
 -- the link of a node's port to its parent
 abbrev below : Setting → WorldAt → LinkCfg → LinkAt
@@ -82,13 +82,9 @@ is_on_with s net w k link deltas is held =
     on_by (port_of (s.set link.lower) link.lower_port).role (below s w link).state (below s w link) deltas refl
     (sym (ap (deltas_at (s.set link.lower) (w.node link.lower)) slave) ∙ held)
 
--- a link that is on has its carrier
-idle_not_on : Idle ≡ LinkOn → ⊥
-idle_not_on e = cc
-
 lit_where : (l : LinkAt) (b : Bool) → IsDark l → l.state ≡ LinkOn → l.carrier ≡ b → l.carrier ≡ true
 lit_where l true dark on e = e
-lit_where l false dark on e = absurd (idle_not_on (sym (ap (λ (x : LinkAt). x.state) (dark e)) ∙ on))
+lit_where l false dark on e = absurd (idle_on (sym (ap (λ (x : LinkAt). x.state) (dark e)) ∙ on))
 
 is_lit : (s : Setting) (w : WorldAt) (link : LinkCfg) → (below s w link).state ≡ LinkOn → (below s w link).carrier ≡ true
 is_lit s w link on = lit_where (below s w link) (below s w link).carrier (link_dark s w link.lower link.lower_port) on refl
@@ -141,7 +137,7 @@ fibre_holds_while_on knows carriers fibres s events k link hop deltas run is num
     let upper : HasDelays d.peers master.tx master.rx = listed_near s k Master master d.peers d.peers_placed (modules_near s events k Master link is run) in
     let lower : HasDelays d.own slave.tx slave.rx = listed_near s k Slave slave d.own d.own_placed (modules_near s events k Slave link is run) in
     let carrier : has_carrier s w k ≡ true = sym (carriers s events k Slave link run is) ∙ is_lit s w link it.on in
-    let joined : (w.fibre k).joined ≡ true = (both_up (w.fibre k).joined (ends_are_up w.clock (link_of s k)) carrier).0 in
+    let joined : (w.fibre k).joined ≡ true = (and_parts (w.fibre k).joined (ends_are_up w.clock (link_of s k)) carrier).0 in
     record {
       ports = ports_of master slave;
       down_fibre = (w.fibre k).ms;

@@ -2,17 +2,17 @@
 use Rattle.std.proofs.Common.{◌≡◌, ◌∙◌, refl, ap, sym, subst, ℕ, zero, suc, ◌≤◌, max, fold, List, [], ◌∷◌, map, Option, None, Some, slice_get, arith}
 use Rattle.std.specs.List.{find}
 use Rattle.std.specs.Prelude.{option_and_then}
+use Rattle.std.proofs.lemmas.Option.{none-some, same_Some}
 use Rattle.wrp_base.specs.declared.link.Module.{Module}
 use Rattle.wrp_base.specs.declared.link.Role.{Role}
 use Rattle.wrp_base.specs.declared.link.Role.TheVariants.{Master, Slave}
 use Rattle.wrp_base.specs.declared.network.LinkCfg.{LinkCfg}
-use Rattle.wrp_bounds.proofs.Placed.{found_at}
+use Rattle.wrp_base.proofs.Lists.{found_at}
 use Rattle.wrp_caldb.specs.Database.{Database, ModuleAt, delays_at, module_at}
 use Rattle.wrp_caldb.specs.Name.{same_name}
 use Rattle.wrp_config.specs.Accepted.{FitsDatabase, error_at_ends, error_of, greatest}
 use Rattle.wrp_world.specs.Runs.{IsNetwork}
 use Rattle.wrp_world.specs.Setting.{Setting, entry_at, link_of, other_of, sends_nm}
-use Rattle.wrp_truth.proofs.Basics.{none_some, some_is}
 
 -- The greatest of some numbers
 
@@ -27,9 +27,9 @@ at_least_first [] a = omega arith
 at_least_first (x ∷ xs) a = first_at_most a x (fold max (max a x) xs) (at_least_first xs (max a x))
 
 at_most_greatest : {X : Type 0} (f : X → ℕ) (xs : List X) (a i : ℕ) (x : X) → slice_get xs i ≡ Some x → f x ≤ fold max a (map f xs)
-at_most_greatest f [] a i x e = absurd (none_some x e)
+at_most_greatest f [] a i x e = absurd (none-some x e)
 at_most_greatest f (y ∷ xs) a zero x e =
-    subst (λ z. f z ≤ fold max (max a (f y)) (map f xs)) (some_is y x e)
+    subst (λ z. f z ≤ fold max (max a (f y)) (map f xs)) (same_Some y x e)
     (other_at_most a (f y) (fold max (max a (f y)) (map f xs)) (at_least_first (map f xs) (max a (f y))))
 at_most_greatest f (y ∷ xs) a (suc i) x e = at_most_greatest f xs (max a (f y)) i x e
 
@@ -44,7 +44,7 @@ record IsListed (db : Database) (tx rx : ℕ) (entry : Module) : Type 0 where
 
 listed : (db : Database) (name : List ℕ) (tx rx : ℕ) (entry : Module) (o : Option ModuleAt) → find (λ m. same_name m.name name) db.modules ≡ o →
     option_and_then (λ (m : ModuleAt). delays_at m.entries tx rx) o ≡ Some entry → IsListed db tx rx entry
-listed db name tx rx entry None e is = absurd (none_some entry is)
+listed db name tx rx entry None e is = absurd (none-some entry is)
 listed db name tx rx entry (Some m) e is =
     let at : (i : ℕ) × (slice_get db.modules i ≡ Some m) = found_at (λ (x : ModuleAt). same_name x.name name) db.modules m e in
     record { which = m; place = at.0; there = at.1; delays = is }

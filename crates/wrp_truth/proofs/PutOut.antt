@@ -11,13 +11,14 @@ use Rattle.wrp_node.specs.declared.interface.Input.TheVariants.{Tick as TickInpu
 use Rattle.wrp_node.specs.Telling.{Step}
 use Rattle.wrp_world.specs.declared.event.Event.{Event}
 use Rattle.wrp_world.specs.declared.event.Event.TheVariants.{Tick}
-use Rattle.wrp_world.specs.Given.{Given, end_given, given_by, given_plain, gives, gives_all, put_out, sending, step_of, world_step}
+use Rattle.wrp_world.proofs.RunFlights.{put_either}
+use Rattle.wrp_world.specs.Given.{Given, end_given, given_by, given_plain, gives, gives_all, sending, step_of, world_step}
 use Rattle.wrp_world.specs.Moved.{moved}
 use Rattle.wrp_world.specs.Run.{Happened, world_after}
 use Rattle.wrp_world.specs.Runs.{WasPutOut}
 use Rattle.wrp_world.specs.Setting.{Setting, end_of, link_of}
 use Rattle.wrp_world.specs.WorldAt.{EndAt, Sending, WorldAt}
-use Rattle.wrp_world.proofs.RunFrames.{moved_sent, sent_stays}
+use Rattle.wrp_world.proofs.RunFrames.{moved_sent, sent_stays, new_put}
 use Rattle.wrp_world.proofs.RunGiven.{end_is}
 use Rattle.wrp_world.proofs.RunPorts.{told_end}
 use Rattle.wrp_truth.proofs.Inputs.{GivesTo, To, gives_to}
@@ -35,27 +36,12 @@ told_there Q s y v g k r link is old new =
       | inr x ↦ subst (λ b. Q (if b then end_given s v g step k r (end_of r link).port else v.end_at k r)) (sym x.0) old
     ])
 
-pub put_among : (x : Sending) (xs sent : List Sending) → WasPutOut x (put_out xs sent) → WasPutOut x xs ⊎ WasPutOut x sent
-put_among x [] sent h = inr h
-put_among x (z ∷ xs) sent h = elim (put_among x xs (z ∷ sent) h) [
-  | inl there ↦ inl (inr there)
-  | inr now ↦ elim now [ inl is ↦ inl (inl is) | inr old ↦ inr old ]
-]
-
-pub still_put : (x : Sending) (xs sent : List Sending) → WasPutOut x sent → WasPutOut x (put_out xs sent)
-still_put x [] sent h = h
-still_put x (z ∷ xs) sent h = still_put x xs (z ∷ sent) (inr h)
-
-pub now_put : (x : Sending) (xs sent : List Sending) → WasPutOut x xs → WasPutOut x (put_out xs sent)
-now_put x [] sent h = absurd h
-now_put x (z ∷ xs) sent h = elim h [ inl is ↦ still_put x xs (z ∷ sent) (inl is) | inr there ↦ now_put x xs (z ∷ sent) there ]
-
 pub given_put : (s : Setting) (y : ℤ) (v : WorldAt) (g : Given) (k : ℕ) (r : Role) (link : LinkCfg) (x : Sending) → link_of s k ≡ Some link → WasPutOut x ((gives s y v g).end_at k r).sent →
     WasPutOut x (v.end_at k r).sent ⊎ (((end_of r link).node ≡ g.to) × WasPutOut x (map (sending v) ((step_of s y v g).sends (end_of r link).port)))
 given_put s y v g k r link x is h =
     told_there (λ e. WasPutOut x e.sent → WasPutOut x (v.end_at k r).sent ⊎ (((end_of r link).node ≡ g.to) × WasPutOut x (map (sending v) ((step_of s y v g).sends (end_of r link).port)))) s y v g k r link is
     (λ old. inl old)
-    (λ here put. elim (put_among x (map (sending v) ((step_of s y v g).sends (end_of r link).port)) (v.end_at k r).sent put) [
+    (λ here put. elim (put_either x (map (sending v) ((step_of s y v g).sends (end_of r link).port)) (v.end_at k r).sent put) [
       | inl new ↦ inr (here, new)
       | inr old ↦ inl old
     ]) h
@@ -105,7 +91,7 @@ tick_puts s says y w k r link x is h =
     (elim (eqb_tells end.node end.node) [
       | inl there ↦
           subst (λ b. WasPutOut x (if b then end_given s v g step k r end.port else v.end_at k r).sent) (sym there.0)
-          (now_put x (map (sending v) (step.sends end.port)) (v.end_at k r).sent h)
+          (new_put x (map (sending v) (step.sends end.port)) (v.end_at k r).sent h)
       | inr away ↦ absurd (away.1 refl)
     ])
 

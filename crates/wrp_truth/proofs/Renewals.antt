@@ -1,8 +1,9 @@
 -- How the lease of a link's slave came to have the turns that it has, event by event.
 use Rattle.std.proofs.Common.{◌≡◌, ◌⊎◌, inl, inr, ◌∙◌, refl, ap, sym, subst, ℕ, ◌==◌, ◌&&◌, ℤ, pos, ◌+ℤ◌, ◌≤ℤ◌, Bool, true, false, if◌then◌else◌, [], Option, None, Some, Result, Ok, bit_and}
-use Rattle.std.proofs.lemmas.Bool.{eqb-true}
+use Rattle.std.proofs.lemmas.Bool.{eqb-true, false≢true}
 use Rattle.std.specs.Option.{option_map_or}
 use Rattle.arrayvec.specs.ArrayVec.{ArrayVec as Items}
+use Rattle.std.proofs.lemmas.Option.{none-some, same_Some}
 use Rattle.wrp_base.specs.declared.link.Role.{Role}
 use Rattle.wrp_base.specs.declared.link.Role.TheVariants.{Master, Slave}
 use Rattle.wrp_base.specs.declared.message.Body.{Body}
@@ -12,6 +13,7 @@ use Rattle.wrp_base.specs.declared.message.PtpMsg.{PtpMsg}
 use Rattle.wrp_base.specs.declared.network.LinkCfg.{LinkCfg}
 use Rattle.wrp_base.specs.declared.time.Raw.{Raw}
 use Rattle.wrp_base.specs.Network.{End}
+use Rattle.wrp_base.proofs.Naturals.{eq_self}
 use Rattle.wrp_bounds.specs.Times.{frame_life}
 use Rattle.wrp_frame.specs.declared.fault.FrameFault.{FrameFault}
 use Rattle.wrp_frame.specs.SentOctets.{octets_of}
@@ -22,6 +24,7 @@ use Rattle.wrp_port.specs.Hearing.{is_port, renews}
 use Rattle.wrp_port.specs.History.{renews_at}
 use Rattle.wrp_world.specs.declared.event.Event.{Event}
 use Rattle.wrp_world.specs.declared.event.Event.TheVariants.{Pass, Tick, Sample, Depart, Arrive, Deliver, Noise, Down, Up, Cut, Join}
+use Rattle.wrp_truth.proofs.DelayPutOut.{ok_is}
 use Rattle.wrp_world.specs.Given.{Given, delivered, delivered_by, delivered_to, given, gives_all, taken_of, world_step}
 use Rattle.wrp_world.specs.Moved.{moved}
 use Rattle.wrp_world.specs.Premises.{Accepts, is_forged}
@@ -32,13 +35,11 @@ use Rattle.wrp_world.proofs.RunCarriers.{end_alike}
 use Rattle.wrp_world.proofs.RunGiven.{end_is}
 use Rattle.wrp_world.proofs.RunHanded.{not_forged}
 use Rattle.wrp_world.proofs.RunNetwork.{are_apart}
-use Rattle.wrp_world.proofs.RunPorts.{self_equal}
 use Rattle.wrp_truth.specs.Announcing.{IsAnnounce, IsCertainAnnounce}
 use Rattle.wrp_truth.specs.Leases.{renewal_in, renewed_by, renews_by}
 use Rattle.wrp_truth.proofs.Carried.{Renews, renewing}
 use Rattle.wrp_truth.proofs.Inputs.{GivesTo, node_given, node_kept}
 use Rattle.wrp_truth.proofs.StepLeases.{TurnsBefore, turns_at, turns_before}
-use Rattle.wrp_truth.proofs.Basics.{none_some, not_true, some_is}
 use Rattle.wrp_truth.proofs.Deliveries.{deliver_holds}
 
 -- the turns of the lease of a link's slave since it was renewed
@@ -109,7 +110,7 @@ noise_turns s says y w n p octets raw link turns slave a =
       | inr now ↦
           let r : Renews (setting_of (s.set link.lower) link.lower_port) (link_at (s.set link.lower) (w.node link.lower) link.lower_port) now.1.0 =
           renewing (setting_of (s.set link.lower) link.lower_port) (link_at (s.set link.lower) (w.node link.lower) link.lower_port) now.1.0 now.1.2 in
-          absurd (not_true (sym (forged_not s link n p says now.1.0 at_node now.0 now.1.1 (not_forged s w n p says (place_of s n p) a)) ∙ r.of_peer))
+          absurd (false≢true (sym (forged_not s link n p says now.1.0 at_node now.0 now.1.1 (not_forged s w n p says (place_of s n p) a)) ∙ r.of_peer))
     ])
     (λ h. h)
 
@@ -119,18 +120,15 @@ noise_turns s says y w n p octets raw link turns slave a =
 abbrev Renewing : Setting → WorldAt → ℕ → LinkCfg → Option FrameAt → Type 0
 Renewing s w k link o = (x : Sending) × (renewed_by s w k link o ≡ Some x)
 
-master_of : (r : Role) → other_of r ≡ Slave → r ≡ Master
+pub master_of : (r : Role) → other_of r ≡ Slave → r ≡ Master
 master_of Master e = refl
 master_of Slave e = cc
 
-ok_is : (a b : PtpMsg) → ◌≡◌ {A = Result PtpMsg FrameFault} (Ok a) (Ok b) → a ≡ b
-ok_is a b e = cc
-
 renews_where : (a b c : Bool) (x : Sending) → a ≡ true → b ≡ true → c ≡ true → (if a && (b && c) then Some x else None) ≡ Some x
 renews_where true true true x d e f = refl
-renews_where true true false x d e f = absurd (not_true f)
-renews_where true false c x d e f = absurd (not_true e)
-renews_where false b c x d e f = absurd (not_true d)
+renews_where true true false x d e f = absurd (false≢true f)
+renews_where true false c x d e f = absurd (false≢true e)
+renews_where false b c x d e f = absurd (false≢true d)
 
 frame_renews : (s : Setting) → IsNetwork s → (w : WorldAt) (k : ℕ) (link : LinkCfg) (f : FrameAt) (end : End) → link_of s k ≡ Some link → end_at s f.link (other_of f.by) ≡ Some end → link.lower ≡ end.node → link.lower_port ≡ end.port →
     renews_at (setting_of (s.set link.lower) link.lower_port) (link_at (s.set link.lower) (w.node link.lower) link.lower_port) f.sending.message ≡ true → renews_by s w k link f ≡ Some f.sending
@@ -138,7 +136,7 @@ frame_renews s net w k link f end is at at_node at_port renewed =
     let same : end_of Slave link ≡ end = end_alike (end_of Slave link) end at_node at_port in
     let it : (f.link ≡ k) × (other_of f.by ≡ Slave) = are_apart s net f.link k (other_of f.by) Slave end at (end_is s k Slave link is ∙ ap Some same) in
     renews_where (f.link == k) (is_role f.by Master) (renews_at (setting_of (s.set link.lower) link.lower_port) (link_at (s.set link.lower) (w.node link.lower) link.lower_port) f.sending.message) f.sending
-    (ap (λ i. i == k) it.0 ∙ self_equal k) (ap (λ r. is_role r Master) (master_of f.by it.1)) renewed
+    (ap (λ i. i == k) it.0 ∙ eq_self k) (ap (λ r. is_role r Master) (master_of f.by it.1)) renewed
 
 handed_turns : (s : Setting) → IsNetwork s → (y : ℤ) (w v : WorldAt) (k : ℕ) (link : LinkCfg) (turns : ℕ) (f : FrameAt) (arrival : Arrival) (o : Option End) → slave_of (s.set link.lower) ≡ Some link.lower_port → link_of s k ≡ Some link →
     (v.node link.lower ≡ w.node link.lower) → end_at s f.link (other_of f.by) ≡ o →
@@ -203,16 +201,16 @@ pub record Renewal (s : Setting) (w : WorldAt) (i k : ℕ) (link : LinkCfg) (x :
 
 role_is : (r : Role) → is_role r Master ≡ true → r ≡ Master
 role_is Master e = refl
-role_is Slave e = absurd (not_true e)
+role_is Slave e = absurd (false≢true e)
 
 all_true : (a b c : Bool) (x y : Sending) → (if a && (b && c) then Some x else None) ≡ Some y → (a ≡ true) × (b ≡ true) × (c ≡ true) × (x ≡ y)
-all_true true true true x y e = (refl, refl, refl, some_is x y e)
-all_true true true false x y e = absurd (none_some y e)
-all_true true false c x y e = absurd (none_some y e)
-all_true false b c x y e = absurd (none_some y e)
+all_true true true true x y e = (refl, refl, refl, same_Some x y e)
+all_true true true false x y e = absurd (none-some y e)
+all_true true false c x y e = absurd (none-some y e)
+all_true false b c x y e = absurd (none-some y e)
 
 renewal_of : (s : Setting) (w : WorldAt) (i k : ℕ) (link : LinkCfg) (x : Sending) (o : Option FrameAt) → w.frame i ≡ o → renewed_by s w k link o ≡ Some x → Renewal s w i k link x
-renewal_of s w i k link x None at e = absurd (none_some x e)
+renewal_of s w i k link x None at e = absurd (none-some x e)
 renewal_of s w i k link x (Some f) at e =
     let it : ((f.link == k) ≡ true) × (is_role f.by Master ≡ true) × (renews_at (setting_of (s.set link.lower) link.lower_port) (link_at (s.set link.lower) (w.node link.lower) link.lower_port) f.sending.message ≡ true) × (f.sending ≡ x) =
     all_true (f.link == k) (is_role f.by Master) (renews_at (setting_of (s.set link.lower) link.lower_port) (link_at (s.set link.lower) (w.node link.lower) link.lower_port) f.sending.message) f.sending x e in
@@ -231,12 +229,12 @@ renewal_is s w i k link x e = renewal_of s w i k link x (w.frame i) refl e
 -- certain of its time
 announce_by : (role : Role) (head : Head) (body : Body) → renews role head body ≡ true → IsAnnounce body × (bit_and head.flags 0x0040 ≡ 0)
 announce_by Slave head (Announce origin utc p1 quality p2 gm steps source suffix) e = (tt, eqb-true (bit_and head.flags 0x0040) 0 e)
-announce_by Slave head (Sync origin) e = absurd (not_true e)
-announce_by Slave head (DelayReq origin) e = absurd (not_true e)
-announce_by Slave head (FollowUp precise) e = absurd (not_true e)
-announce_by Slave head (DelayResp receive requesting) e = absurd (not_true e)
-announce_by Slave head (Signal target message) e = absurd (not_true e)
-announce_by Master head body e = absurd (not_true e)
+announce_by Slave head (Sync origin) e = absurd (false≢true e)
+announce_by Slave head (DelayReq origin) e = absurd (false≢true e)
+announce_by Slave head (FollowUp precise) e = absurd (false≢true e)
+announce_by Slave head (DelayResp receive requesting) e = absurd (false≢true e)
+announce_by Slave head (Signal target message) e = absurd (false≢true e)
+announce_by Master head body e = absurd (false≢true e)
 
 pub renewal_certain : (s : Setting) (w : WorldAt) (i k : ℕ) (link : LinkCfg) (x : Sending) → Renewal s w i k link x → IsCertainAnnounce x.message
 renewal_certain s w i k link x r =

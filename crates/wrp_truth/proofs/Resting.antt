@@ -1,7 +1,7 @@
 -- A port that takes messages got its carrier more than two frame's lives ago: its quiet time, tick by tick.
 use Rattle.std.proofs.Common.{◌≡◌, ◌⊎◌, inl, inr, ◌∙◌, refl, ap, sym, subst, ℕ, ◌==◌, ◌&&◌, ◌-◌, ◌*◌, ℤ, pos, ◌+ℤ◌, ◌≤ℤ◌, ◌<ℤ◌, Bool, true, false, if◌then◌else◌, Option, [], ◌∷◌, arith}
 use Rattle.std.proofs.lemmas.Int.{ints}
-use Rattle.std.proofs.lemmas.Bool.{eqb-true}
+use Rattle.std.proofs.lemmas.Bool.{eqb-true, and_parts, false≢true}
 use Rattle.wrp_base.specs.declared.link.LinkState.{LinkState}
 use Rattle.wrp_base.specs.declared.link.LinkState.TheVariants.{Idle, Present, MLock}
 use Rattle.wrp_base.specs.declared.link.LinkWord.TheVariants.{Down, Quiet, Ptp}
@@ -17,7 +17,6 @@ use Rattle.wrp_link.specs.LinkAt.{LinkAt}
 use Rattle.wrp_link.specs.Rows.{Row, NoRow, Moves, Counts, CarrierGoes, under, offers, may_leave_idle, master_row, message_row, slave_row, announce_row, tick_row}
 use Rattle.wrp_link.specs.Table.{after, by_row, word_in, counted}
 use Rattle.wrp_port.specs.Hearing.{is_open, is_open_word}
-use Rattle.wrp_truth.proofs.Basics.{not_true, both}
 
 -- of a link at some time: no carrier; or its carrier came more than two lives after `rest`; or its quiet time, which began no
 -- sooner than that, runs
@@ -38,8 +37,8 @@ rested_later life dmin rest time later l ticked now h k (inr (inr (idle, calm)))
 -- Inputs
 
 -- without a carrier there is no row
-dark_row : (l : LinkAt) (b : Bool) (row : Row) → b ≡ false → l.carrier ≡ false → (by_row l (under b row)).carrier ≡ false
-dark_row l true row e d = absurd (not_true (sym e))
+pub dark_row : (l : LinkAt) (b : Bool) (row : Row) → b ≡ false → l.carrier ≡ false → (by_row l (under b row)).carrier ≡ false
+dark_row l true row e d = absurd (false≢true (sym e))
 dark_row l false row e d = d
 
 no_row : (life dmin : ℕ) (rest time : ℤ) (l : LinkAt) (ticked : ℤ) (c : Bool) → Rested life dmin rest time l ticked → Rested life dmin rest time (by_row l (under c NoRow)) ticked
@@ -56,7 +55,7 @@ leaves_late life dmin rest time l ticked true true full past over idle calm send
 -- a message
 idle_rested : (life dmin : ℕ) (rest time : ℤ) (l : LinkAt) (ticked : ℤ) (m : WrMsg) → OutlivesFrames life dmin l.set → ticked ≤ℤ time → l.state ≡ Idle → Calm dmin l.set.quiet l.quiet ticked rest → Rested life dmin rest time (by_row l (under l.carrier (master_row l Idle m))) ticked
 idle_rested life dmin rest time l ticked SLAVE_PRESENT full past idle calm =
-    leaves_late life dmin rest time l ticked l.carrier (may_leave_idle l) full past (λ e. eqb-true l.quiet 0 (both (l.quiet == 0) _ e).0) idle calm (Moves MLock (LOCK ∷ []))
+    leaves_late life dmin rest time l ticked l.carrier (may_leave_idle l) full past (λ e. eqb-true l.quiet 0 (and_parts (l.quiet == 0) _ e).0) idle calm (Moves MLock (LOCK ∷ []))
 idle_rested life dmin rest time l ticked LOCK full past idle calm = no_row life dmin rest time l ticked l.carrier (inr (inr (idle, calm)))
 idle_rested life dmin rest time l ticked LOCKED full past idle calm = no_row life dmin rest time l ticked l.carrier (inr (inr (idle, calm)))
 idle_rested life dmin rest time l ticked (CALIBRATE a b c) full past idle calm = no_row life dmin rest time l ticked l.carrier (inr (inr (idle, calm)))
@@ -78,7 +77,7 @@ msg_rested life dmin rest time l ticked m full past (inr (inr (idle, calm))) = m
 -- an Announce
 announced : (l : LinkAt) (suffix : Option ℕ) → (offers suffix && ((l.holdoff == 0) && may_leave_idle l)) ≡ true → l.quiet ≡ 0
 announced l suffix e =
-    eqb-true l.quiet 0 (both (l.quiet == 0) _ (both (l.holdoff == 0) (may_leave_idle l) (both (offers suffix) ((l.holdoff == 0) && may_leave_idle l) e).1).1).0
+    eqb-true l.quiet 0 (and_parts (l.quiet == 0) _ (and_parts (l.holdoff == 0) (may_leave_idle l) (and_parts (offers suffix) ((l.holdoff == 0) && may_leave_idle l) e).1).1).0
 
 offered_rested : (life dmin : ℕ) (rest time : ℤ) (l : LinkAt) (ticked : ℤ) (role : Role) (suffix : Option ℕ) → OutlivesFrames life dmin l.set → ticked ≤ℤ time → l.state ≡ Idle → Calm dmin l.set.quiet l.quiet ticked rest →
     Rested life dmin rest time (by_row l (under l.carrier (announce_row l role Idle suffix))) ticked
@@ -110,7 +109,7 @@ tick_rested life dmin rest time l ticked locked past late (inr (inr (idle, calm)
     subst (λ (r : Row). Rested life dmin rest time (by_row l (under l.carrier r)) time) (sym row)
     (counts_rested life dmin rest time l ticked l.carrier l.state refl refl idle past late calm)
 
-gone_dark : (l : LinkAt) (b : Bool) → l.carrier ≡ b → (by_row l (under b CarrierGoes)).carrier ≡ false
+pub gone_dark : (l : LinkAt) (b : Bool) → l.carrier ≡ b → (by_row l (under b CarrierGoes)).carrier ≡ false
 gone_dark l true e = refl
 gone_dark l false e = e
 
@@ -130,15 +129,15 @@ heard_rested life dmin rest time l ticked (CarrierUp fitted) full past none h = 
 
 open_where : (b : Bool) → is_open_word (if b then Ptp else Quiet) ≡ true → b ≡ true
 open_where true e = refl
-open_where false e = absurd (not_true e)
+open_where false e = absurd (false≢true e)
 
 open_idle : (c : Bool) (quiet : ℕ) → is_open_word (if c then word_in Idle quiet else Down) ≡ true → quiet ≡ 0
 open_idle true quiet e = eqb-true quiet 0 (open_where (quiet == 0) e)
-open_idle false quiet e = absurd (not_true e)
+open_idle false quiet e = absurd (false≢true e)
 
 open_lit : (c : Bool) (s : LinkState) (quiet : ℕ) → is_open_word (if c then word_in s quiet else Down) ≡ true → c ≡ true
 open_lit true s quiet e = refl
-open_lit false s quiet e = absurd (not_true e)
+open_lit false s quiet e = absurd (false≢true e)
 
 -- has its carrier
 pub open_has_carrier : (l : LinkAt) → is_open l ≡ true → l.carrier ≡ true
@@ -146,7 +145,7 @@ open_has_carrier l takes = open_lit l.carrier l.state l.quiet takes
 
 -- and has rested
 pub open_rested : (life dmin : ℕ) (rest time : ℤ) (l : LinkAt) (ticked : ℤ) → OutlivesFrames life dmin l.set → ticked ≤ℤ time → is_open l ≡ true → Rested life dmin rest time l ticked → (rest +ℤ pos (2 * life)) <ℤ time
-open_rested life dmin rest time l ticked full past takes (inl dark) = absurd (not_true (sym dark ∙ open_has_carrier l takes))
+open_rested life dmin rest time l ticked full past takes (inl dark) = absurd (false≢true (sym dark ∙ open_has_carrier l takes))
 open_rested life dmin rest time l ticked full past takes (inr (inl long)) = long
 open_rested life dmin rest time l ticked full past takes (inr (inr (idle, calm))) =
     let over : l.quiet ≡ 0 = open_idle l.carrier l.quiet (subst (λ (s : LinkState). is_open_word (if l.carrier then word_in s l.quiet else Down) ≡ true) idle takes) in

@@ -1,21 +1,22 @@
 -- Events that bring a node no sample: its chain stood before them, and it has as many samples as it had.
 use Rattle.std.proofs.Common.{◌≡◌, inl, inr, ◌∙◌, refl, ap, ℕ, ◌+◌, ◌==◌, ℤ, true, false, if◌then◌else◌, List, [], ◌∷◌}
 use Rattle.std.proofs.lemmas.Bool.Decides.{eqb_tells}
+use Rattle.wrp_base.proofs.Naturals.{eq_self}
 use Rattle.wrp_node.specs.NodeAt.{NodeAt, settings_of}
 use Rattle.wrp_servo.specs.Call.{run}
 use Rattle.wrp_servo.specs.Laws.{ChainSince}
 use Rattle.wrp_world.specs.declared.clocks.ClockState.{ClockState}
 use Rattle.wrp_world.specs.declared.event.Event.{Event}
 use Rattle.wrp_world.specs.declared.event.Event.TheVariants.{Pass, Tick, Sample, Depart, Arrive, Deliver, Noise, Down, Up, Cut, Join}
+use Rattle.wrp_truth.proofs.NodeSteps.{Stands}
 use Rattle.wrp_world.specs.Given.{Given, clock_told, given_by, gives, gives_all, step_of}
 use Rattle.wrp_world.specs.Moved.{moved}
 use Rattle.wrp_world.specs.Run.{Happened, world_after}
 use Rattle.wrp_world.specs.Setting.{Setting, fixed_of}
 use Rattle.wrp_world.specs.WorldAt.{WorldAt}
-use Rattle.wrp_world.proofs.RunPorts.{self_equal}
 use Rattle.wrp_truth.specs.Rates.{HasChain}
 use Rattle.wrp_truth.proofs.Inputs.{GivesTo, node_kept}
-use Rattle.wrp_truth.proofs.LiveChains.{IsNoSampleInput, Stands, input_stood}
+use Rattle.wrp_truth.proofs.LiveChains.{IsNoSampleInput, input_stood}
 
 abbrev pub IsNoSampleOf : ℕ → Event → Type 0
 IsNoSampleOf n (Sample m base bits) = n ≡ m → ⊥
@@ -79,7 +80,7 @@ low_samples s w _ n h = refl
 
 -- a sample of the node is one more
 pub sampled_samples : (s : Setting) (w : WorldAt) (n m base bits : ℕ) → n ≡ m → ((moved s w (Sample m base bits)).clock n).samples ≡ (w.clock n).samples + 1
-sampled_samples s w n m base bits same = ap (λ b. (if b then record (w.clock n) { samples = (w.clock n).samples + 1 } else w.clock n).samples) (ap (λ i. i == m) same ∙ self_equal m)
+sampled_samples s w n m base bits same = ap (λ b. (if b then record (w.clock n) { samples = (w.clock n).samples + 1 } else w.clock n).samples) (ap (λ i. i == m) same ∙ eq_self m)
 
 -- the samples so far of a node stay in such an event
 pub low_stay : (s : Setting) (h : Happened) (before : List Happened) (n : ℕ) → IsLowOf n h.event → ((world_after s (h ∷ before)).clock n).samples ≡ ((world_after s before).clock n).samples

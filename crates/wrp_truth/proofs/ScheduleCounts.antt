@@ -1,9 +1,10 @@
 -- The counts of a port's schedule while it stays open: its ticks, and the messages of a kind, one each so many ticks.
 use Rattle.std.proofs.Common.{◌≡◌, ◌∙◌, refl, ap, sym, ℕ, ◌+◌, ◌*◌, ◌/◌, ◌%◌, ◌<◌, ◌≤◌, ◌==◌, Bool, true, false, if◌then◌else◌, List, ◌∷◌, Option, None, Some, arith}
-use Rattle.std.proofs.Math.Nat.{zero-mod, div-add-mod, mul-add-mod_self_left, mul-le-mul_left, lt_of_mul-lt-mul_left}
-use Rattle.std.proofs.lemmas.Bool.{eqb-true}
+use Rattle.std.proofs.Math.Nat.{zero-mod, div-add-mod, mul-le-mul_left, lt_of_mul-lt-mul_left}
+use Rattle.std.proofs.lemmas.Bool.{eqb-true, and_parts}
 use Rattle.wrp_base.specs.declared.link.Role.{Role}
 use Rattle.wrp_base.specs.declared.link.Role.TheVariants.{Master, Slave}
+use Rattle.wrp_base.proofs.Naturals.{turn_mod}
 use Rattle.wrp_link.specs.declared.interface.LinkIn.{LinkIn}
 use Rattle.wrp_link.specs.declared.interface.LinkIn.TheVariants as link
 use Rattle.wrp_link.specs.LinkAt.{LinkAt}
@@ -18,7 +19,6 @@ use Rattle.wrp_port.specs.History.{is_due_in, line_of, link_by, link_inputs, lin
 use Rattle.wrp_port.specs.LineAfter.{first_turns, is_due, next_turns, ticked}
 use Rattle.wrp_truth.proofs.ScheduleLinks.{IsNoTickThere, was_open}
 use Rattle.wrp_truth.proofs.ScheduleTold.{IsAside, KeptIn}
-use Rattle.wrp_truth.proofs.Basics.{both}
 
 -- The kinds that are stamped: a master's Sync and a slave's Delay_Req
 
@@ -34,12 +34,6 @@ turn_of Slave turns = turns.delay
 -- one is due on a line
 abbrev pub is_due_on : Role → Line → Bool
 is_due_on r line = is_due line.link (turn_of r line.turns)
-
-turn_mod : (n k : ℕ) → (k % n + 1) % n ≡ (k + 1) % n
-turn_mod n k =
-    let whole : n * (k / n) + k % n ≡ k = div-add-mod k n in
-    let grouped : n * (k / n) + (k % n + 1) ≡ k + 1 = omega arith in
-    sym (mul-add-mod_self_left n (k / n) (k % n + 1)) ∙ ap (λ x. x % n) grouped
 
 abbrev turns_by : Sched → ℕ → Turns
 turns_by sched k = record { announce = k % sched.announce; sync = k % sched.sync; delay = k % sched.delay }
@@ -62,7 +56,7 @@ due_in r set told locked certain =
 -- where one is due the port is open, and the ticks are a multiple
 pub due_at : (l : LinkAt) (turn : ℕ) → is_due l turn ≡ true → (is_open l ≡ true) × (turn ≡ 0)
 due_at l turn e =
-    let it : (is_open l ≡ true) × ((turn == 0) ≡ true) = both (is_open l) (turn == 0) e in
+    let it : (is_open l ≡ true) × ((turn == 0) ≡ true) = and_parts (is_open l) (turn == 0) e in
     (it.0, eqb-true turn 0 it.1)
 
 -- Since a message of the kind

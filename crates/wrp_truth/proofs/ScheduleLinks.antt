@@ -1,5 +1,6 @@
 -- A port's link that is closed, as it has no carrier or is in quiet time, opens by a tick alone.
 use Rattle.std.proofs.Common.{◌≡◌, ◌⊎◌, inl, inr, ◌∙◌, refl, ap, sym, subst, ℕ, zero, suc, ◌<◌, ◌*◌, ◌-◌, ◌==◌, ◌&&◌, Bool, true, false, if◌then◌else◌, is_some, List, [], ◌∷◌, Option, None, Some, arith}
+use Rattle.std.proofs.lemmas.Bool.{false≢true, true≢false}
 use Rattle.wrp_base.specs.declared.link.LinkState.{LinkState}
 use Rattle.wrp_base.specs.declared.link.LinkState.TheVariants.{Idle, Present, MLock}
 use Rattle.wrp_base.specs.declared.link.LinkWord.TheVariants.{Down, Quiet, Ptp}
@@ -14,7 +15,7 @@ use Rattle.wrp_link.specs.declared.interface.LinkIn.{LinkIn}
 use Rattle.wrp_link.specs.declared.interface.LinkIn.TheVariants.{Msg, Announce, Tick, CarrierDown, CarrierUp}
 use Rattle.wrp_link.specs.declared.interface.LinkSet.{LinkSet}
 use Rattle.wrp_link.specs.LinkAt.{LinkAt, new_link}
-use Rattle.wrp_link.specs.Rows.{Row, NoRow, Moves, CarrierGoes, under, offers, may_leave_idle, slave_row, master_row, message_row, announce_row}
+use Rattle.wrp_link.specs.Rows.{Row, NoRow, Moves, under, offers, may_leave_idle, slave_row, master_row, message_row, announce_row}
 use Rattle.wrp_link.specs.Table.{after, by_row, word_in}
 use Rattle.wrp_port.specs.declared.interface.PortIn.{PortIn}
 use Rattle.wrp_port.specs.declared.interface.PortIn.TheVariants.{Msg as PortMsg, Lease, Tick as PortTick, Sent, Carrier, Sample, Chain, Reset}
@@ -22,10 +23,6 @@ use Rattle.wrp_port.specs.declared.setting.Setting.{Setting}
 use Rattle.wrp_port.specs.Hearing.{early_reason, is_open, is_open_word, link_input}
 use Rattle.wrp_port.specs.History.{input_unless, link_by, link_inputs, link_of, to_link, with_input}
 use Rattle.wrp_world.proofs.RunLinks.{run_set}
-use Rattle.wrp_truth.proofs.Basics.{not_true}
-
-not_false : true ≡ false → ⊥
-not_false e = cc
 
 -- Closed
 
@@ -37,25 +34,20 @@ abbrev IsClosed : LinkAt → Type 0
 IsClosed l = ClosedBy l.carrier l.state l.quiet
 
 in_quiet : (b : Bool) → is_open_word (if b then Ptp else Quiet) ≡ false → b ≡ false
-in_quiet true e = absurd (not_false e)
+in_quiet true e = absurd (true≢false e)
 in_quiet false e = refl
 
 closed_by : (c : Bool) (s : LinkState) (quiet : ℕ) → is_open_word (if c then word_in s quiet else Down) ≡ false → ClosedBy c s quiet
 closed_by false s quiet e = inl refl
 closed_by true Idle quiet e = inr (refl, in_quiet (quiet == 0) e)
-closed_by true _ quiet e = absurd (not_false e)
+closed_by true _ quiet e = absurd (true≢false e)
 
 word_closed : (c : Bool) (s : LinkState) (quiet : ℕ) → ClosedBy c s quiet → is_open_word (if c then word_in s quiet else Down) ≡ false
 word_closed false s quiet h = refl
-word_closed true s quiet (inl e) = absurd (not_false e)
+word_closed true s quiet (inl e) = absurd (true≢false e)
 word_closed true s quiet (inr x) = ap (λ (t : LinkState). is_open_word (word_in t quiet)) x.0 ∙ ap (λ (b : Bool). is_open_word (if b then Ptp else Quiet)) x.1
 
 -- Inputs of a link
-
--- without a carrier there is no row
-dark_row : (l : LinkAt) (b : Bool) (row : Row) → b ≡ false → l.carrier ≡ false → (by_row l (under b row)).carrier ≡ false
-dark_row l true row e d = absurd (not_false e)
-dark_row l false row e d = d
 
 same_link : (l : LinkAt) (b : Bool) (row : Row) → row ≡ NoRow → by_row l (under b row) ≡ l
 same_link l true row e = ap (by_row l) e
@@ -80,10 +72,6 @@ idle_announce : (l : LinkAt) (r : Role) (suffix : Option ℕ) → (l.quiet == 0)
 idle_announce l Slave suffix q =
     under_none (offers suffix) (l.holdoff == 0) (may_leave_idle l) (Moves Present (SLAVE_PRESENT ∷ [])) (ap (λ (b : Bool). b && (is_some l.own_module && l.set.wr)) q)
 idle_announce l Master suffix q = refl
-
-gone_dark : (l : LinkAt) (b : Bool) → l.carrier ≡ b → (by_row l (under b CarrierGoes)).carrier ≡ false
-gone_dark l true e = refl
-gone_dark l false e = e
 
 not_zero : (n : ℕ) → 0 < n → (n == 0) ≡ false
 not_zero n h = grind (arith, h)
@@ -153,7 +141,7 @@ stays_closed set told (PortTick locked certain) some none e = absurd none
 
 open_or : (b c : Bool) → (b ≡ false → c ≡ false) → c ≡ true → b ≡ true
 open_or true c h e = refl
-open_or false c h e = absurd (not_true (sym (h refl) ∙ e))
+open_or false c h e = absurd (false≢true (sym (h refl) ∙ e))
 
 -- a port that is open after an input that is no tick was open before it
 pub was_open : (set : Setting) (told : List PortIn) (input : PortIn) → 0 < set.link.quiet → IsNoTickThere input → is_open (link_of set (input ∷ told)) ≡ true → is_open (link_of set told) ≡ true

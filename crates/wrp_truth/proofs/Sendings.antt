@@ -9,6 +9,7 @@ use Rattle.wrp_node.specs.declared.interface.Input.{Input}
 use Rattle.wrp_node.specs.declared.interface.Input.TheVariants.{Tick as TickInput}
 use Rattle.wrp_world.specs.declared.event.Event.{Event}
 use Rattle.wrp_world.specs.declared.event.Event.TheVariants.{Tick}
+use Rattle.wrp_world.proofs.RunFlights.{put_either}
 use Rattle.wrp_world.specs.Given.{Given, given_by, given_plain, gives, gives_all, sending, step_of, taken_of, world_step}
 use Rattle.wrp_world.specs.Moved.{moved}
 use Rattle.wrp_world.specs.Run.{Happened, world_after}
@@ -20,7 +21,7 @@ use Rattle.wrp_world.proofs.RunTimes.{all_given_time}
 use Rattle.wrp_truth.specs.Announcing.{IsCertainAnnounce}
 use Rattle.wrp_truth.proofs.Announces.{MayAnnounce, OnlyWhen, announces_only}
 use Rattle.wrp_truth.proofs.Inputs.{IsNoTick, no_tick_to, tick_or_not}
-use Rattle.wrp_truth.proofs.PutOut.{none_put, put_among, tick_put}
+use Rattle.wrp_truth.proofs.PutOut.{none_put, tick_put}
 use Rattle.wrp_truth.proofs.Suffixes.{all_given_count, count_is, rest_length}
 
 -- When
@@ -38,7 +39,7 @@ sent_now v x (m ∷ ms) h = elim h [
 given_put : (s : Setting) (y : ℤ) (v : WorldAt) (g : Given) (k : ℕ) (r : Role) (x : Sending) → WasPutOut x ((gives s y v g).end_at k r).sent → WasPutOut x (v.end_at k r).sent ⊎ IsNow v x
 given_put s y v g k r x =
     told_either (λ e. WasPutOut x e.sent → WasPutOut x (v.end_at k r).sent ⊎ IsNow v x) s v g (step_of s y v g) k r (end_at s k r) (λ h. inl h)
-    (λ end h. elim (put_among x (map (sending v) ((step_of s y v g).sends end.port)) (v.end_at k r).sent h) [
+    (λ end h. elim (put_either x (map (sending v) ((step_of s y v g).sends end.port)) (v.end_at k r).sent h) [
       | inl new ↦ inr (sent_now v x ((step_of s y v g).sends end.port) new)
       | inr old ↦ inl old
     ])

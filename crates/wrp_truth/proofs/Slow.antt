@@ -3,6 +3,7 @@ use Rattle.std.proofs.Common.{◌≡◌, sym, subst, ℕ, zero, suc, ◌+◌, �
 use Rattle.std.proofs.lemmas.Int.{ints}
 use Rattle.std.proofs.Math.Nat.{mul-le-mul_right}
 use Rattle.std.specs.Int.Signed.{le_z}
+use Rattle.wrp_base.proofs.Naturals.{nat_le_trans}
 use Rattle.wrp_tracking.specs.History.{IsSlow}
 use Rattle.wrp_world.specs.Checks.{AllHold, Check, Holds}
 use Rattle.wrp_world.specs.Setting.{from_on}
@@ -30,13 +31,10 @@ moved_by q0 q1 d e = omega (arith, ints, e)
 forward : (t0 t1 dt : ℤ) → t1 ≡ t0 +ℤ dt → pos 1 ≤ℤ dt → t0 ≤ℤ t1
 forward t0 t1 dt e h = omega (arith, ints, e, h)
 
-chained : (a b c : ℕ) → a ≤ b → b ≤ c → a ≤ c
-chained a b c h k = omega (arith, h, k)
-
 pub moved_slow : (rate kept : ℕ) (t0 t1 q0 q1 dt d : ℤ) → t1 ≡ t0 +ℤ dt → q1 ≡ q0 +ℤ d → pos 1 ≤ℤ dt → unsigned_abs d * 1_000_000_000_000 ≤ kept * unsigned_abs dt → kept ≤ rate → Slow rate t0 t1 q0 q1
 moved_slow rate kept t0 t1 q0 q1 dt d te qe past h less =
     let more : kept * unsigned_abs dt ≤ rate * unsigned_abs dt = mul-le-mul_right (unsigned_abs dt) less in
-    let all : unsigned_abs d * 1_000_000_000_000 ≤ rate * unsigned_abs dt = chained (unsigned_abs d * 1_000_000_000_000) (kept * unsigned_abs dt) (rate * unsigned_abs dt) h more in (
+    let all : unsigned_abs d * 1_000_000_000_000 ≤ rate * unsigned_abs dt = nat_le_trans (unsigned_abs d * 1_000_000_000_000) (kept * unsigned_abs dt) (rate * unsigned_abs dt) h more in (
       forward t0 t1 dt te past,
       subst (λ z. unsigned_abs z * 1_000_000_000_000 ≤ rate * unsigned_abs (t1 -ℤ t0)) (sym (moved_by q0 q1 d qe))
           (subst (λ z. unsigned_abs d * 1_000_000_000_000 ≤ rate * unsigned_abs z) (sym (moved_by t0 t1 dt te)) all),

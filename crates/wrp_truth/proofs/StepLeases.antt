@@ -1,6 +1,7 @@
 -- What an input of a node makes of the lease of its slave port.
-use Rattle.std.proofs.Common.{◌≡◌, ◌⊎◌, inl, inr, ◌∙◌, refl, ap, sym, ℕ, ℤ, ◌+◌, ◌==◌, Bool, true, false, if◌then◌else◌, List, ◌∷◌, Option, None, Some, option_map, Result, Ok, Err, arith}
+use Rattle.std.proofs.Common.{◌≡◌, ◌⊎◌, inl, inr, ◌∙◌, refl, ap, sym, ℕ, ℤ, ◌+◌, ◌==◌, Bool, true, false, if◌then◌else◌, List, ◌∷◌, Option, None, Some, option_map, Result, Ok, Err}
 use Rattle.std.proofs.lemmas.Bool.{eqb-true}
+use Rattle.std.proofs.lemmas.Option.{none-some, same_Some}
 use Rattle.wrp_base.specs.declared.measurement.ChainNews.{ChainNews}
 use Rattle.wrp_base.specs.declared.measurement.ChainNews.TheVariants.{Same, Started, Ended}
 use Rattle.wrp_base.specs.declared.message.PtpMsg.{PtpMsg}
@@ -11,17 +12,16 @@ use Rattle.wrp_frame.specs.declared.fault.FrameFault.{FrameFault}
 use Rattle.wrp_node.specs.declared.interface.Input.{Input}
 use Rattle.wrp_node.specs.declared.interface.Input.TheVariants.{Tick, Sample as SampleInput, Frame, Sent, Carrier, Reset}
 use Rattle.wrp_node.specs.NodeAt.{Fixed, NodeAt, Taken, slave_of, setting_of, link_at}
-use Rattle.wrp_node.specs.NodeStep.{counted_tick, lease_ticked, servo_ticked, ports_ticked, told_slave, measurement_by, measured_at, stamp_of, used, is_slave_port, handed, heard, heard_unless, stepped, node_step}
+use Rattle.wrp_node.specs.NodeStep.{counted_tick, lease_ticked, servo_ticked, ports_ticked, measurement_by, measured_at, stamp_of, used, is_slave_port, handed, heard, heard_unless, stepped, node_step}
 use Rattle.wrp_node.specs.Telling.{Step, step_from, tell, told_by, heard_of, with_news, with_sample, answer_of, number_of, for_slave, lease_change, link_change, with_lease, settled}
 use Rattle.wrp_port.specs.declared.interface.PortIn.{PortIn}
-use Rattle.wrp_port.specs.declared.interface.PortIn.TheVariants.{Msg, Lease, Sent as PortSent, Carrier as PortCarrier}
+use Rattle.wrp_port.specs.declared.interface.PortIn.TheVariants.{Msg, Sent as PortSent, Carrier as PortCarrier}
 use Rattle.wrp_port.specs.declared.setting.Setting.{Setting}
 use Rattle.wrp_port.specs.Hearing.{early_reason}
-use Rattle.wrp_port.specs.History.{renews_at, since_renewal, zero_where}
+use Rattle.wrp_port.specs.History.{renews_at, since_renewal}
 use Rattle.wrp_servo.specs.Call.{Call, CallSample, CallTick, CallCarrier}
 use Rattle.wrp_servo.specs.declared.interface.ServoOut.{ServoOut}
-use Rattle.wrp_truth.proofs.Basics.{none_some, some_is}
-use Rattle.wrp_world.proofs.RunPorts.{self_equal}
+use Rattle.wrp_world.proofs.Turned.{other_number}
 
 -- the turns of a port's lease since it was renewed
 abbrev pub turns_at : Fixed → NodeAt → ℕ → Option ℕ
@@ -63,35 +63,21 @@ TurnsBefore fixed n p (Carrier q false own_module) says turns = (p ≡ q → ⊥
 TurnsBefore fixed n p Reset says turns = ⊥
 TurnsBefore fixed n p _ says turns = turns_at fixed n p ≡ Some turns
 
-not_self : (n m : ℕ) → (n == m) ≡ false → n ≡ m → ⊥
-not_self n m e is = grind (arith, e, is)
-
--- a tick
-lease_told_to : (o : Option ℕ) (p : ℕ) (told : ℕ → List PortIn) → o ≡ Some p → told_slave o Lease told p ≡ Lease ∷ told p
-lease_told_to None p told e = absurd (none_some p e)
-lease_told_to (Some q) p told e =
-    let here : (p == q) ≡ true = ap (λ (k : ℕ). p == k) (some_is q p e) ∙ self_equal p in
-    ap (λ (b : Bool). if b then Lease ∷ told p else told p) here
-
 turned : (o : Option ℕ) (turns : ℕ) → option_map (λ n. n + 1) o ≡ Some turns → (u : ℕ) × (u + 1 ≡ turns) × (o ≡ Some u)
-turned None turns e = absurd (none_some turns e)
-turned (Some u) turns e = (u, some_is (u + 1) turns e, refl)
+turned None turns e = absurd (none-some turns e)
+turned (Some u) turns e = (u, same_Some (u + 1) turns e, refl)
 
 tick_turns : (fixed : Fixed) (n : NodeAt) (p : ℕ) → slave_of fixed.set ≡ Some p → turns_at fixed (ports_ticked fixed (servo_ticked fixed n)).node p ≡ option_map (λ k. k + 1) (turns_at fixed n p)
 tick_turns fixed n p slave =
     tell_turns fixed (for_slave fixed (Some CallTick)) (lease_ticked fixed n) p
     ∙ tell_turns fixed (lease_change fixed (counted_tick fixed n)) (step_from (counted_tick fixed n)) p
-    ∙ ap (since_renewal (setting_of fixed.set p)) (lease_told_to (slave_of fixed.set) p n.told slave)
+    ∙ ap (since_renewal (setting_of fixed.set p)) (lease_there (slave_of fixed.set) p n.told slave)
 
 -- one port is told something
 told_where : (b : Bool) (set : Setting) (told : List PortIn) (input : PortIn) (turns : ℕ) → since_renewal set (if b then input ∷ told else told) ≡ Some turns →
     ((b ≡ true) × (since_renewal set (input ∷ told) ≡ Some turns)) ⊎ ((b ≡ false) × (since_renewal set told ≡ Some turns))
 told_where true set told input turns e = inl (refl, e)
 told_where false set told input turns e = inr (refl, e)
-
-renewed_or_not : (b : Bool) (o : Option ℕ) (turns : ℕ) → zero_where b o ≡ Some turns → (b ≡ true) ⊎ (o ≡ Some turns)
-renewed_or_not true o turns e = inl refl
-renewed_or_not false o turns e = inr e
 
 -- a frame
 heard_before : (fixed : Fixed) (n : NodeAt) (p q : ℕ) (m : PtpMsg) (stamp : Stamp) (tick : ℕ) (answer : ℤ) (reason : Option Reason) (turns : ℕ) →
@@ -134,10 +120,10 @@ stepped_before fixed n p (Carrier q true own_module) says answer turns slave e =
     elim (carrier_before fixed n p q (for_slave fixed (if is_slave_port (slave_of fixed.set) q then Some (CallCarrier true) else None)) (PortCarrier true own_module) turns e) [ inl x ↦ x.1 | inr x ↦ x.1 ]
 stepped_before fixed n p (Carrier q false own_module) says answer turns slave e =
     elim (carrier_before fixed n p q (for_slave fixed (if is_slave_port (slave_of fixed.set) q then Some (CallCarrier false) else None)) (PortCarrier false own_module) turns e) [
-      | inl x ↦ absurd (none_some turns x.1)
-      | inr x ↦ (not_self p q x.0, x.1)
+      | inl x ↦ absurd (none-some turns x.1)
+      | inr x ↦ (other_number p q x.0, x.1)
     ]
-stepped_before fixed n p Reset says answer turns slave e = absurd (none_some turns e)
+stepped_before fixed n p Reset says answer turns slave e = absurd (none-some turns e)
 
 pub turns_before : (fixed : Fixed) (t : Taken) (n : NodeAt) (p turns : ℕ) → slave_of fixed.set ≡ Some p → turns_at fixed (node_step fixed t n).node p ≡ Some turns → TurnsBefore fixed n p t.input t.says turns
 turns_before fixed t n p turns slave e =

@@ -26,10 +26,6 @@ older_run s newer older run =
 pub run_before : (s : Setting) (h : Happened) (before : List Happened) → IsRun s (h ∷ before) → IsRun s before
 run_before s h before run = record { network = run.network; each = run.each.1; accepted = run.accepted.1 }
 
-pub appended : {A : Type 0} (xs ys zs : List A) → (xs ++ ys) ++ zs ≡ xs ++ (ys ++ zs)
-appended [] ys zs = refl
-appended (x ∷ xs) ys zs = ap (λ l. x ∷ l) (appended xs ys zs)
-
 pub rest_length : (a b : List Happened) → length b ≤ length (a ++ b)
 rest_length [] b = omega arith
 rest_length (x ∷ a) b = let h : length b ≤ length (a ++ b) = rest_length a b in omega (arith, h)

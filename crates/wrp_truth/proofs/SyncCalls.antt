@@ -3,6 +3,7 @@ use Rattle.std.proofs.Common.{◌≡◌, ◌⊎◌, inl, inr, refl, sym, ℕ, ze
 use Rattle.std.proofs.lemmas.Bool.{eqb-true}
 use Rattle.std.specs.List.{AllByRecursion, find}
 use Rattle.std.specs.Option.{option_or, option_and_then}
+use Rattle.std.proofs.lemmas.Option.{none-some, same_Some}
 use Rattle.wrp_base.specs.declared.time.Stamp.{Stamp}
 use Rattle.wrp_exch.specs.Call.{Call, CallStart, CallClear, CallSample, CallSync, CallFollowUp, CallReqOut, CallReqSent, CallResp}
 use Rattle.wrp_exch.specs.Chain.{first_sample, phase_since}
@@ -12,7 +13,6 @@ use Rattle.wrp_exch.specs.declared.sync.SyncPair.{SyncPair}
 use Rattle.wrp_exch.specs.Samples.{last_samples, phase_in}
 use Rattle.wrp_exch.specs.SyncPair.{followed_pair, held_sync, is_followed, kept_sync, last_sync, pair_of_sync, sync_pair}
 use Rattle.wrp_port.specs.Outputs.{with_call}
-use Rattle.wrp_truth.proofs.Basics.{none_some, some_is}
 
 first_or : {A : Type 0} (o p : Option A) (x : A) → option_or o p ≡ Some x → (o ≡ Some x) ⊎ (p ≡ Some x)
 first_or (Some y) p x e = inl e
@@ -95,14 +95,14 @@ pub pair_of : (ring : ℕ) (calls : List Call) (seq : ℕ) (precise : ℤ) (p : 
 pair_of ring calls seq precise p e = by_last (last_sync ring calls) refl e
   where
     by_tests : (s : HeldSync) (a b c : Bool) → (s.seq == seq) ≡ a → is_some (phase_in (last_samples ring calls) s.sample) ≡ c → last_sync ring calls ≡ Some s → (if a && (b && c) then Some (pair_of_sync s precise) else None) ≡ Some p → PairOf ring calls seq precise p
-    by_tests s true true true at ring_at is q = record { held = s; last = is; same = eqb-true s.seq seq at; in_ring = ring_at; is = sym (some_is (pair_of_sync s precise) p q) }
-    by_tests s true true false at ring_at is q = absurd (none_some p q)
-    by_tests s true false c at ring_at is q = absurd (none_some p q)
-    by_tests s false b c at ring_at is q = absurd (none_some p q)
+    by_tests s true true true at ring_at is q = record { held = s; last = is; same = eqb-true s.seq seq at; in_ring = ring_at; is = sym (same_Some (pair_of_sync s precise) p q) }
+    by_tests s true true false at ring_at is q = absurd (none-some p q)
+    by_tests s true false c at ring_at is q = absurd (none-some p q)
+    by_tests s false b c at ring_at is q = absurd (none-some p q)
 
     by_last : (o : Option HeldSync) → last_sync ring calls ≡ o →
         option_and_then (λ s. if (s.seq == seq) && (not (is_followed ring seq calls) && is_some (phase_in (last_samples ring calls) s.sample)) then Some (pair_of_sync s precise) else None) o ≡ Some p → PairOf ring calls seq precise p
-    by_last None is q = absurd (none_some p q)
+    by_last None is q = absurd (none-some p q)
     by_last (Some s) is q = by_tests s (s.seq == seq) (not (is_followed ring seq calls)) (is_some (phase_in (last_samples ring calls) s.sample)) refl refl is q
 
 -- a kept Sync latched a sample of the chain, which was in the ring
@@ -121,15 +121,15 @@ pub kept_of : (ring : ℕ) (calls : List Call) (seq : ℕ) (correction : ℤ) (t
 kept_of ring calls seq correction t2 tick held e = by_first (first_sample calls) refl e
   where
     by_phase : (first : ℕ) (o : Option ℤ) → first_sample calls ≡ Some first → first ≤ t2.sample → phase_in (last_samples ring calls) t2.sample ≡ o → option_map (held_sync seq correction t2 tick) o ≡ Some held → KeptOf ring calls seq correction t2 tick held
-    by_phase first None is since at q = absurd (none_some held q)
-    by_phase first (Some u) is since at q = record { phase = u; first = first; begins = is; since = since; latched = at; is = sym (some_is (held_sync seq correction t2 tick u) held q) }
+    by_phase first None is since at q = absurd (none-some held q)
+    by_phase first (Some u) is since at q = record { phase = u; first = first; begins = is; since = since; latched = at; is = sym (same_Some (held_sync seq correction t2 tick u) held q) }
 
     by_order : (first : ℕ) (b : Bool) → first_sample calls ≡ Some first → nat_le first t2.sample ≡ b → option_map (held_sync seq correction t2 tick) (if b then phase_in (last_samples ring calls) t2.sample else None) ≡ Some held → KeptOf ring calls seq correction t2 tick held
     by_order first true is le q = by_phase first (phase_in (last_samples ring calls) t2.sample) is (le_of first t2.sample le) refl q
-    by_order first false is le q = absurd (none_some held q)
+    by_order first false is le q = absurd (none-some held q)
 
     by_first : (o : Option ℕ) → first_sample calls ≡ o → option_map (held_sync seq correction t2 tick) (phase_since o (last_samples ring calls) t2.sample) ≡ Some held → KeptOf ring calls seq correction t2 tick held
-    by_first None is q = absurd (none_some held q)
+    by_first None is q = absurd (none-some held q)
     by_first (Some first) is q = by_order first (nat_le first t2.sample) is refl q
 
 -- The sample of a number, in a ring
@@ -151,8 +151,8 @@ none_by ring n u x xs true e l rest q = not_less x.number n l e
 none_by ring n u x xs false e l rest q = rest q
 
 none_below : (ring n : ℕ) (u : ℤ) (xs : List GoodSample) → Below n xs → phase_in (take ring xs) n ≡ Some u → ⊥
-none_below zero n u xs h q = none_some u q
-none_below (suc ring) n u [] h q = none_some u q
+none_below zero n u xs h q = none-some u q
+none_below (suc ring) n u [] h q = none-some u q
 none_below (suc ring) n u (x ∷ xs) h q = none_by ring n u x xs (x.number == n) refl h.0 (none_below ring n u xs h.1) q
 
 lower : (m n : ℕ) (xs : List GoodSample) → m ≤ n → Below m xs → Below n xs
@@ -173,7 +173,7 @@ some_more a b h = omega (arith, h)
 
 here_by : (ring n : ℕ) (u : ℤ) (g : GoodSample) (rest : List GoodSample) (b : Bool) → (g.number == n) ≡ b → g.number ≤ n → Below g.number rest →
     option_map (λ (s : GoodSample). s.phase) (cond b (Some g) (find (λ s. s.number == n) (take ring rest))) ≡ Some u → Found (suc ring) n u [] g
-here_by ring n u g rest true e le below q = record { number = eqb-true g.number n e; phase = sym (some_is g.phase u q); few = some_ring ring }
+here_by ring n u g rest true e le below q = record { number = eqb-true g.number n e; phase = sym (same_Some g.phase u q); few = some_ring ring }
   where
     some_ring : (k : ℕ) → 0 < suc k
     some_ring k = omega arith
@@ -185,7 +185,7 @@ past_by ring n u x xs g rest true e l h q = absurd (not_more x.number n l e)
 past_by ring n u x xs g rest false e l h q = let f : Found ring n u xs g = h q in record { number = f.number; phase = f.phase; few = some_more (length xs) ring f.few }
 
 pub found : (ring n : ℕ) (u : ℤ) (xs : List GoodSample) (g : GoodSample) (rest : List GoodSample) → Above n xs → g.number ≤ n → Below g.number rest → phase_in (take ring (xs ++ g ∷ rest)) n ≡ Some u → Found ring n u xs g
-found zero n u xs g rest above le below q = absurd (none_some u q)
+found zero n u xs g rest above le below q = absurd (none-some u q)
 found (suc ring) n u [] g rest above le below q = here_by ring n u g rest (g.number == n) refl le below q
 found (suc ring) n u (x ∷ xs) g rest above le below q = past_by ring n u x xs g rest (x.number == n) refl above.0 (found ring n u xs g rest above.1 le below) q
 

@@ -3,8 +3,11 @@ use Rattle.std.proofs.Common.{◌≡◌, inl, inr, ◌∙◌, refl, ap, ap₂, s
 use Rattle.std.proofs.lemmas.Bool.{eqb-true}
 use Rattle.std.proofs.lemmas.Bool.Decides.{eqb_tells}
 use Rattle.std.specs.List.{AllByRecursion}
+use Rattle.std.proofs.lemmas.Option.{none-some, same_Some}
 use Rattle.wrp_base.specs.declared.message.PtpMsg.{PtpMsg}
+use Rattle.wrp_base.proofs.Naturals.{le_one_more, nat_le_self, nat_le_trans}
 use Rattle.wrp_base.specs.declared.network.LinkCfg.{LinkCfg}
+use Rattle.wrp_base.proofs.Lists.{append_assoc, head_and_tail}
 use Rattle.wrp_frame.specs.declared.fault.FrameFault.{FrameFault}
 use Rattle.wrp_tracking.specs.Chain.{Good}
 use Rattle.wrp_world.specs.declared.event.Event.{Event}
@@ -12,17 +15,15 @@ use Rattle.wrp_world.specs.declared.event.Event.TheVariants.{Sample, Up}
 use Rattle.wrp_world.specs.Run.{Happened, world_after}
 use Rattle.wrp_world.specs.Runs.{IsRun}
 use Rattle.wrp_world.specs.Setting.{Setting, link_of}
-use Rattle.wrp_world.proofs.RunTimes.{comes_up_down}
+use Rattle.wrp_world.proofs.RunTimes.{comes_up_down, not_up}
 use Rattle.wrp_truth.specs.Chains.{ChainHasConstant, good_in, goods_since}
 use Rattle.wrp_truth.specs.Leases.{FollowsSource, IsCarried}
 use Rattle.wrp_truth.specs.Moments.{AtEach}
 use Rattle.wrp_truth.specs.Rates.{HasChain}
 use Rattle.wrp_truth.proofs.ChainSources.{ChainLaws, chain_has_source}
 use Rattle.wrp_truth.proofs.LeaseSources.{both_nodes}
-use Rattle.wrp_truth.proofs.Parents.{not_up}
-use Rattle.wrp_truth.proofs.Suffixes.{appended, at_newest, run_before}
+use Rattle.wrp_truth.proofs.Suffixes.{at_newest, run_before}
 use Rattle.wrp_truth.proofs.SyncGiven.{GivenLaws}
-use Rattle.wrp_truth.proofs.Basics.{none_some, some_is, heads}
 use Rattle.wrp_truth.proofs.SampleEvents.{IsLowOf, low_stay, sampled_samples, samples_then}
 
 -- the laws that this stands on
@@ -44,13 +45,13 @@ stands_now s link newer start before x = at_newest (HasChain s link.lower) newer
 -- in one event alone
 pub one_start : (s : Setting) (link : LinkCfg) (newer other : List Happened) (start first : Happened) (before earlier : List Happened) → newer ++ start ∷ before ≡ other ++ first ∷ earlier → Standing s link newer start before → Standing s link other first earlier →
     (newer ≡ other) × ((start ≡ first) × (before ≡ earlier))
-one_start s link [] [] start first before earlier e x y = (refl, heads start first before earlier e)
+one_start s link [] [] start first before earlier e x y = (refl, head_and_tail start first before earlier e)
 one_start s link [] (o ∷ other) start first before earlier e x y =
-    absurd (x.begins (subst (HasChain s link.lower) (sym (heads start o before (other ++ first ∷ earlier) e).1) (at_newest (HasChain s link.lower) other (first ∷ earlier) y.stands.1)))
+    absurd (x.begins (subst (HasChain s link.lower) (sym (head_and_tail start o before (other ++ first ∷ earlier) e).1) (at_newest (HasChain s link.lower) other (first ∷ earlier) y.stands.1)))
 one_start s link (n ∷ newer) [] start first before earlier e x y =
-    absurd (y.begins (subst (HasChain s link.lower) (heads n first (newer ++ start ∷ before) earlier e).1 (at_newest (HasChain s link.lower) newer (start ∷ before) x.stands.1)))
+    absurd (y.begins (subst (HasChain s link.lower) (head_and_tail n first (newer ++ start ∷ before) earlier e).1 (at_newest (HasChain s link.lower) newer (start ∷ before) x.stands.1)))
 one_start s link (n ∷ newer) (o ∷ other) start first before earlier e x y =
-    let h : (n ≡ o) × (newer ++ start ∷ before ≡ other ++ first ∷ earlier) = heads n o (newer ++ start ∷ before) (other ++ first ∷ earlier) e in
+    let h : (n ≡ o) × (newer ++ start ∷ before ≡ other ++ first ∷ earlier) = head_and_tail n o (newer ++ start ∷ before) (other ++ first ∷ earlier) e in
     let rest : _ = one_start s link newer other start first before earlier h.1 (record { stands = x.stands.1; begins = x.begins }) (record { stands = y.stands.1; begins = y.begins }) in
     (ap₂ (λ (a : Happened) (l : List Happened). a ∷ l) h.0 rest.0, rest.1)
 
@@ -65,9 +66,6 @@ chain_up laws s events k link run is chain =
 abbrev pub samples_of : Setting → List Happened → ℕ → ℕ
 samples_of s events n = ((world_after s events).clock n).samples
 
-one_up : (n : ℕ) → n ≤ n + 1
-one_up n = omega arith
-
 at_least : (n m : ℕ) → m ≡ n → n ≤ m
 at_least n m e = omega (arith, e)
 
@@ -78,7 +76,7 @@ event_up : (s : Setting) (says : Result PtpMsg FrameFault) (y : ℤ) (before : L
     samples_of s before n ≤ samples_of s (record { event = e; says = says; answer = y } ∷ before) n
 event_up s says y before (Sample m base bits) n run up = elim (eqb_tells n m) [
   | inl x ↦
-      subst (λ z. samples_of s before n ≤ z) (sym (samples_then s (record { event = Sample m base bits; says = says; answer = y }) before n ∙ sampled_samples s (world_after s before) n m base bits x.1)) (one_up (samples_of s before n))
+      subst (λ z. samples_of s before n ≤ z) (sym (samples_then s (record { event = Sample m base bits; says = says; answer = y }) before n ∙ sampled_samples s (world_after s before) n m base bits x.1)) (le_one_more (samples_of s before n))
   | inr x ↦ low_up s (record { event = Sample m base bits; says = says; answer = y }) before n x.1
 ]
 event_up s says y before (Up m off swaps) n run up =
@@ -89,18 +87,12 @@ event_up s says y before e n run up = low_up s (record { event = e; says = says;
 pub samples_up : (s : Setting) (h : Happened) (before : List Happened) (n : ℕ) → IsRun s (h ∷ before) → ((world_after s before).clock n).up ≡ true → samples_of s before n ≤ samples_of s (h ∷ before) n
 samples_up s h before n run up = event_up s h.says h.answer before h.event n run up
 
-no_less : (a b c : ℕ) → a ≤ b → b ≤ c → a ≤ c
-no_less a b c h k = omega (arith, h, k)
-
-same_many : (a : ℕ) → a ≤ a
-same_many a = omega arith
-
 -- over these events
 pub samples_since : (s : Setting) (newer older : List Happened) (n : ℕ) → IsRun s (newer ++ older) → AtEach (λ l. ((world_after s l).clock n).up ≡ true) newer older → samples_of s older n ≤ samples_of s (newer ++ older) n
-samples_since s [] older n run up = same_many (samples_of s older n)
+samples_since s [] older n run up = nat_le_self (samples_of s older n)
 samples_since s (h ∷ newer) older n run up =
     let was : IsRun s (newer ++ older) = run_before s h (newer ++ older) run in
-    no_less (samples_of s older n) (samples_of s (newer ++ older) n) (samples_of s (h ∷ (newer ++ older)) n) (samples_since s newer older n was up.1)
+    nat_le_trans (samples_of s older n) (samples_of s (newer ++ older) n) (samples_of s (h ∷ (newer ++ older)) n) (samples_since s newer older n was up.1)
     (samples_up s h (newer ++ older) n run (at_newest (λ l. ((world_after s l).clock n).up ≡ true) newer older up.1))
 
 -- Good samples
@@ -117,11 +109,11 @@ next_length n = omega arith
 
 good_if : (b : Bool) (o : Option Good) (g : Good) → (if b then o else None) ≡ Some g → (b ≡ true) × (o ≡ Some g)
 good_if true o g e = (refl, e)
-good_if false o g e = absurd (none_some g e)
+good_if false o g e = absurd (none-some g e)
 
 tagged : (f : ℕ → Good) (o : Option ℕ) (g : Good) → option_map f o ≡ Some g → (tag : ℕ) × (f tag ≡ g)
-tagged f None g e = absurd (none_some g e)
-tagged f (Some tag) g e = (tag, some_is (f tag) g e)
+tagged f None g e = absurd (none-some g e)
+tagged f (Some tag) g e = (tag, same_Some (f tag) g e)
 
 good_event : (s : Setting) (says : Result PtpMsg FrameFault) (y : ℤ) (before : List Happened) (e : Event) (n : ℕ) (g : Good) → good_in s n (record { event = e; says = says; answer = y }) before e ≡ Some g → BringsGood s (record { event = e; says = says; answer = y }) before n g
 good_event s says y before (Sample m base bits) n g e =
@@ -135,7 +127,7 @@ good_event s says y before (Sample m base bits) n g e =
       at = ap (λ (x : Good). x.at) (sym good.1) ∙ next_length (length before);
       time = refl;
     }
-good_event s says y before other n g e = absurd (none_some g e)
+good_event s says y before other n g e = absurd (none-some g e)
 
 pub brings_good : (s : Setting) (h : Happened) (before : List Happened) (n : ℕ) (g : Good) → good_in s n h before h.event ≡ Some g → BringsGood s h before n g
 brings_good s h before n g e = good_event s h.says h.answer before h.event n g e
@@ -152,14 +144,14 @@ joined (Some g) xs ys = refl
 pub goods_apart : (s : Setting) (n : ℕ) (a b older : List Happened) → goods_since s n (a ++ b) older ≡ goods_in s n a (b ++ older) ++ goods_since s n b older
 goods_apart s n [] b older = refl
 goods_apart s n (h ∷ a) b older =
-    ap₂ (λ (l : List Happened) (gs : List Good). option_to_list (good_in s n h l h.event) ++ gs) (appended a b older) (goods_apart s n a b older)
+    ap₂ (λ (l : List Happened) (gs : List Good). option_to_list (good_in s n h l h.event) ++ gs) (append_assoc a b older) (goods_apart s n a b older)
     ∙ joined (good_in s n h (a ++ (b ++ older)) h.event) (goods_in s n a (b ++ older)) (goods_since s n b older)
 
 -- their numbers are above those before
 abbrev pub AllAbove : ℕ → List Good → Type 0
 AllAbove n gs = AllByRecursion (λ (g : Good). n < g.number) gs
 
-above_more : (bound : ℕ) (o : Option Good) (gs : List Good) → ((g : Good) → o ≡ Some g → bound < g.number) → AllAbove bound gs → AllAbove bound (option_to_list o ++ gs)
+pub above_more : (bound : ℕ) (o : Option Good) (gs : List Good) → ((g : Good) → o ≡ Some g → bound < g.number) → AllAbove bound gs → AllAbove bound (option_to_list o ++ gs)
 above_more bound None gs h k = k
 above_more bound (Some g) gs h k = (h g refl, k)
 

@@ -2,8 +2,9 @@
 use Rattle.std.proofs.Common.{◌≡◌, inl, inr, ◌∙◌, refl, ap, sym, subst, ℕ, ◌==◌, ℤ, Bool, true, false, if◌then◌else◌, List, [], ◌∷◌, Option, None, Some, Result, Ok, Err}
 use Rattle.std.proofs.lemmas.Bool.Decides.{eqb_tells}
 use Rattle.std.specs.Option.{option_map_or}
+use Rattle.std.proofs.lemmas.Option.{none-some}
 use Rattle.arrayvec.specs.ArrayVec.{ArrayVec as Items}
-use Rattle.wrp_base.specs.declared.link.Role.{Role}
+use Rattle.std.proofs.lemmas.Bool.{false≢true}
 use Rattle.wrp_base.specs.declared.link.Role.TheVariants.{Master, Slave}
 use Rattle.wrp_base.specs.declared.message.Body.{Body}
 use Rattle.wrp_base.specs.declared.message.Body.TheVariants.{Sync, DelayReq, FollowUp, DelayResp, Announce, Signal}
@@ -31,7 +32,9 @@ use Rattle.wrp_servo.specs.Call.{run}
 use Rattle.wrp_servo.specs.Laws.{ChainSince, PhaseMovesByTags}
 use Rattle.wrp_tracking.specs.Chain.{Good}
 use Rattle.wrp_world.specs.declared.event.Event.{Event}
+use Rattle.wrp_truth.proofs.Renewals.{master_of}
 use Rattle.wrp_world.specs.declared.event.Event.TheVariants.{Pass, Tick, Sample, Depart, Arrive, Deliver, Noise, Down, Up, Cut, Join}
+use Rattle.wrp_truth.proofs.NodeSteps.{Stands}
 use Rattle.wrp_world.specs.Given.{Given, delivered, delivered_by, delivered_to, given, given_plain, gives, gives_all, sent_oldest, taken_of, told_sending, world_step}
 use Rattle.wrp_world.specs.Moved.{moved}
 use Rattle.wrp_world.specs.Premises.{Accepts, is_forged}
@@ -48,11 +51,9 @@ use Rattle.wrp_truth.specs.Exchanges.{exchange_at}
 use Rattle.wrp_truth.specs.Rates.{HasChain}
 use Rattle.wrp_truth.proofs.Inputs.{GivesTo, node_given, node_kept}
 use Rattle.wrp_truth.proofs.LinksAbove.{above_is}
-use Rattle.wrp_truth.proofs.LiveChains.{Stands}
 use Rattle.wrp_truth.proofs.Parents.{has_slave, ticked_node}
 use Rattle.wrp_truth.proofs.SyncTold.{Adds, AddsOther, IsOther, carrier_adds, frame_adds, frame_passes, frame_piece, sent_adds, tick_adds}
 use Rattle.wrp_truth.specs.SequenceIds.{IsTimed}
-use Rattle.wrp_truth.proofs.Basics.{none_some, not_true}
 
 -- the laws that this stands on
 pub record GivenLaws : Type 0 where
@@ -244,10 +245,10 @@ queue_grown law s h before k link v m p stamp samples (oldest ∷ rest) net is g
 
 open_by : (domain source addressed takes : Bool) → (if domain then (if source then (if addressed then (if takes then None else Some Quiet) else Some NotForUs) else Some Stranger) else Some Domain) ≡ None → takes ≡ true
 open_by true true true true e = refl
-open_by true true true false e = absurd (none_some Quiet (sym e))
-open_by true true false takes e = absurd (none_some NotForUs (sym e))
-open_by true false addressed takes e = absurd (none_some Stranger (sym e))
-open_by false source addressed takes e = absurd (none_some Domain (sym e))
+open_by true true true false e = absurd (none-some Quiet (sym e))
+open_by true true false takes e = absurd (none-some NotForUs (sym e))
+open_by true false addressed takes e = absurd (none-some Stranger (sym e))
+open_by false source addressed takes e = absurd (none-some Domain (sym e))
 
 -- the message of a frame that is handed over
 abbrev message_in : (s : Setting) (before : List Happened) (h : Happened) (k : ℕ) (link : LinkCfg) → Handed s before h k link → PtpMsg
@@ -272,10 +273,6 @@ message_comes s before h k link f a tick None role good x =
     (subst (λ z. ComesOf s before h k link (piece_of Slave it.0.frame.sending.message.head it.0.frame.sending.message.body (received_stamp s (world_after s before) link z) tick)) it.2
     (body_comes s before h k link it.0 it.0.frame.sending.message.body tick refl good)))
 message_comes s before h k link f a tick (Some reason) role good x = good
-
-master_of : (r : Role) → other_of r ≡ Slave → r ≡ Master
-master_of Master e = refl
-master_of Slave e = cc
 
 frame_grown : ChainSince → (s : Setting) (says : Result PtpMsg FrameFault) (y : ℤ) (before : List Happened) (i k : ℕ) (link : LinkCfg) (f : FrameAt) (a : Arrival) (o : Option End) → IsNetwork s → (setting_of (s.set link.lower) link.lower_port).ds.role ≡ Slave →
     link_of s k ≡ Some link → (world_after s before).frame i ≡ Some f → f.arrival ≡ Some a → end_at s f.link (other_of f.by) ≡ o →
@@ -347,7 +344,7 @@ deliver_grown law s says y before i k link (Some f) net role is at = arrival_gro
 -- Octets that the peer did not send
 
 stranger : (domain source : Bool) (rest : Option Reason) (piece : Option Piece) → source ≡ false → piece_unless (if domain then (if source then rest else Some Stranger) else Some Domain) piece ≡ None
-stranger true true rest piece e = absurd (not_true (sym e))
+stranger true true rest piece e = absurd (false≢true (sym e))
 stranger true false rest piece e = refl
 stranger false source rest piece e = refl
 

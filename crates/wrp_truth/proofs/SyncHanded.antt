@@ -1,9 +1,12 @@
 -- A frame of the master that is handed to a slave in a chain, and whose stamp latched a sample of the chain, arrived in it.
 use Rattle.std.proofs.Common.{◌≡◌, ◌⊎◌, inl, inr, ◌∙◌, refl, ap, sym, subst, ℕ, ◌+◌, ◌*◌, ◌≤◌, ℤ, pos, ◌+ℤ◌, ◌≤ℤ◌, true, List, [], ◌∷◌, ◌++◌, length, Option, Some, IfSome, arith}
 use Rattle.std.proofs.lemmas.Int.{ints}
+use Rattle.std.proofs.lemmas.Option.{same_Some}
 use Rattle.wrp_base.specs.declared.link.Role.TheVariants.{Slave}
 use Rattle.wrp_base.specs.declared.network.LinkCfg.{LinkCfg}
+use Rattle.wrp_base.proofs.Lists.{head_and_tail}
 use Rattle.wrp_base.specs.Network.{End}
+use Rattle.wrp_base.proofs.Integers.{int_le_trans}
 use Rattle.wrp_bounds.specs.Times.{frame_life}
 use Rattle.wrp_world.specs.Laws.{KeepsStamp}
 use Rattle.wrp_world.specs.Premises.{Accepts}
@@ -24,7 +27,6 @@ use Rattle.wrp_truth.proofs.SyncChains.{samples_of, samples_since}
 use Rattle.wrp_truth.proofs.SyncGiven.{Handed}
 use Rattle.wrp_truth.proofs.SyncPasts.{InRun}
 use Rattle.wrp_truth.proofs.SyncSamples.{Begun}
-use Rattle.wrp_truth.proofs.Basics.{some_is, heads}
 use Rattle.wrp_truth.proofs.Deliveries.{deliver_holds}
 
 -- Parts of a list
@@ -39,7 +41,7 @@ pub either_end : {A : Type 0} (xs ys zs ws : List A) → xs ++ ys ≡ zs ++ ws �
 either_end [] ys zs ws e = inl (record { between = zs; end = e; front = refl })
 either_end (x ∷ xs) ys [] ws e = inr (record { between = x ∷ xs; end = sym e; front = refl })
 either_end (x ∷ xs) ys (z ∷ zs) ws e =
-    let h : (x ≡ z) × (xs ++ ys ≡ zs ++ ws) = heads x z (xs ++ ys) (zs ++ ws) e in
+    let h : (x ≡ z) × (xs ++ ys ≡ zs ++ ws) = head_and_tail x z (xs ++ ys) (zs ++ ws) e in
     elim (either_end xs ys zs ws h.1) [
       | inl it ↦ inl (record { between = it.between; end = it.end; front = ap (λ y. y ∷ zs) (sym h.0) ∙ ap (λ l. x ∷ l) it.front })
       | inr it ↦ inr (record { between = it.between; end = it.end; front = ap (λ y. y ∷ xs) h.0 ∙ ap (λ l. z ∷ l) it.front })
@@ -82,9 +84,6 @@ pub record Flight (s : Setting) (k : ℕ) (link : LinkCfg) (older : List Happene
 two_lives : (now at arrived : ℤ) (life : ℕ) → now ≤ℤ (at +ℤ pos life) → at ≤ℤ arrived → now ≤ℤ (arrived +ℤ pos (2 * life))
 two_lives now at arrived life h k = omega (arith, ints)
 
-no_less_time : (a b c : ℤ) → a ≤ℤ b → b ≤ℤ c → a ≤ℤ c
-no_less_time a b c h k = omega (arith, ints, h, k)
-
 one_sooner : (a b c first : ℕ) → first ≡ b + 1 → first ≤ a → a ≡ c → c ≤ b → ⊥
 one_sooner a b c first e h f k = omega (arith, e, h, f, k)
 
@@ -117,12 +116,12 @@ came laws s events h k link x all run is =
     let arrives : _ = subst (λ o. IfSome o (λ z. (f.at ≤ℤ z.at) × (z.at ≤ℤ (world_after s events).time) × (f.moment ≤ z.moment) × (z.moment ≤ (world_after s events).count) × (z.at ≡ f.due))) x.arrived times.arrived in
     let newer : List Happened = arr.came.0 ++ arr.came.1 ∷ [] in
     let splits : events ≡ newer ++ arr.older = arr.came.2 ∙ one_list arr.came.0 arr.came.1 arr.older in
-    let sent : f.sending.at ≤ℤ (world_after s arr.older).time = subst (λ t. f.sending.at ≤ℤ t) arr.time (no_less_time f.sending.at f.at a.at times.sent arrives.0) in
+    let sent : f.sending.at ≤ℤ (world_after s arr.older).time = subst (λ t. f.sending.at ≤ℤ t) arr.time (int_le_trans f.sending.at f.at a.at times.sent arrives.0) in
     let near : (world_after s (newer ++ arr.older)).time ≤ℤ ((world_after s arr.older).time +ℤ pos (2 * frame_life s.cfg)) =
     subst (λ l. (world_after s l).time ≤ℤ ((world_after s arr.older).time +ℤ pos (2 * frame_life s.cfg))) splits
     (two_lives (world_after s events).time f.sending.at (world_after s arr.older).time (frame_life s.cfg) (young s events h k link x all) sent) in
     let end : arr.end ≡ end_of Slave link =
-    some_is arr.end (end_of Slave link) (sym arr.end_is ∙ ap (λ l. end_at s l (other_of f.by)) x.link_is ∙ ap (λ r. end_at s k (other_of r)) x.by_is ∙ end_is s k Slave link is) in
+    same_Some arr.end (end_of Slave link) (sym arr.end_is ∙ ap (λ l. end_at s l (other_of f.by)) x.link_is ∙ ap (λ r. end_at s k (other_of r)) x.by_is ∙ end_is s k Slave link is) in
     record {
       newer = newer;
       older = arr.older;
@@ -141,7 +140,7 @@ not_before : (s : Setting) (k : ℕ) (link : LinkCfg) (start : Happened) (before
     b.good.number ≤ a.sample → it.newer ≡ front ++ between → start ∷ before ≡ between ++ it.older → (it.older ≡ start ∷ before) × (it.newer ≡ front)
 not_before s k link start before b f a events front [] it run is first e g = (sym g, e ∙ sym (no_more front))
 not_before s k link start before b f a events front (z ∷ between) it run is first e g =
-    let h : (start ≡ z) × (before ≡ between ++ it.older) = heads start z before (between ++ it.older) g in
+    let h : (start ≡ z) × (before ≡ between ++ it.older) = head_and_tail start z before (between ++ it.older) g in
     let carried : AtEach (IsCarried s k) between it.older = (at_rest (IsCarried s k) front (z ∷ between) it.older (subst (λ l. AtEach (IsCarried s k) l it.older) e it.carried)).1 in
     let fewer : samples_of s it.older link.lower ≤ samples_of s before link.lower =
     subst (λ l. samples_of s it.older link.lower ≤ samples_of s l link.lower) (sym h.1) (samples_since s between it.older link.lower (subst (IsRun s) h.1 run) (up_since s between it.older k link is carried)) in

@@ -1,10 +1,13 @@
 -- A Sync that the exchange holds in a chain tells the chain's constant with the stamp of its own departure.
 use Rattle.std.proofs.Common.{◌≡◌, inl, inr, ◌∙◌, ap, sym, subst, ℕ, suc, ◌+◌, ◌<◌, ◌≤◌, ℤ, pos, ◌+ℤ◌, ◌-ℤ◌, ◌≤ℤ◌, unsigned_abs, true, List, [], ◌∷◌, ◌++◌, length, Some, IfSome, arith}
 use Rattle.std.proofs.lemmas.Int.{ints}
+use Rattle.std.proofs.lemmas.Option.{same_Some}
 use Rattle.std.specs.List.{AllByRecursion}
+use Rattle.std.proofs.lemmas.Bool.{and_parts}
 use Rattle.wrp_base.specs.declared.link.Role.TheVariants.{Master, Slave}
 use Rattle.wrp_base.specs.declared.network.LinkCfg.{LinkCfg}
 use Rattle.wrp_base.specs.Network.{End}
+use Rattle.wrp_base.proofs.Lists.{append_assoc}
 use Rattle.wrp_bounds.specs.Bounds.{numbers_of}
 use Rattle.wrp_bounds.specs.declared.numbers.HopNumbers.{HopNumbers}
 use Rattle.wrp_bounds.specs.Hop.{down_error}
@@ -22,14 +25,14 @@ use Rattle.wrp_world.specs.Runs.{IsRun}
 use Rattle.wrp_world.specs.Setting.{Setting, end_at, end_of, link_of, of_node}
 use Rattle.wrp_world.specs.WorldAt.{Arrival, FrameAt, WorldAt, delay_from, ends_are_up, has_carrier, reading}
 use Rattle.wrp_world.proofs.RunGiven.{end_is}
-use Rattle.wrp_world.proofs.RunTimes.{both_up, step_time}
+use Rattle.wrp_world.proofs.RunTimes.{step_time}
 use Rattle.wrp_truth.specs.Chains.{AllFit, ChainRuns, goods_since}
 use Rattle.wrp_truth.specs.Exchanges.{exchange_at, ring_below}
 use Rattle.wrp_truth.specs.Fibres.{FibresKeepTheirShare}
 use Rattle.wrp_truth.specs.FlightOrder.{FramesFollowTheSource}
 use Rattle.wrp_truth.specs.Views.{moment_at, moments_of}
 use Rattle.wrp_truth.proofs.ChainMoves.{HasNewest, newest_moment}
-use Rattle.wrp_truth.proofs.Suffixes.{appended, count_is, older_run, run_before, one_list}
+use Rattle.wrp_truth.proofs.Suffixes.{count_is, older_run, run_before, one_list}
 use Rattle.wrp_truth.proofs.SyncCalls.{Found, KeptOf, kept_of}
 use Rattle.wrp_truth.proofs.SyncChains.{SyncChainLaws, goods_apart, goods_in}
 use Rattle.wrp_truth.proofs.DepartedFrames.{arrival_raw}
@@ -39,7 +42,6 @@ use Rattle.wrp_truth.proofs.SyncLatched.{found_newest}
 use Rattle.wrp_truth.proofs.SyncPasts.{InRun, Recent, SyncCame, earlier_in, first_is, recent, then_in, was_here, was_then, fit_then}
 use Rattle.wrp_truth.proofs.SyncSamples.{Begun, sample_of}
 use Rattle.wrp_truth.proofs.ArrivalStamps.{Arrived, StampLaws, stamp_near}
-use Rattle.wrp_truth.proofs.Basics.{some_is}
 use Rattle.wrp_truth.proofs.HopNumbers.{HopHas, hop_has}
 
 -- the laws that this stands on
@@ -58,7 +60,7 @@ abbrev pub Tail : List Happened → List Happened → Type 0
 Tail events older = (front : List Happened) × (events ≡ front ++ older)
 
 pub tail_of : (a b c : List Happened) → Tail a b → Tail b c → Tail a c
-tail_of a b c h k = (h.0 ++ k.0, h.1 ∙ ap (λ l. h.0 ++ l) k.1 ∙ sym (appended h.0 k.0 c))
+tail_of a b c h k = (h.0 ++ k.0, h.1 ∙ ap (λ l. h.0 ++ l) k.1 ∙ sym (append_assoc h.0 k.0 c))
 
 pub tail_run : (s : Setting) (a b : List Happened) → Tail a b → IsRun s a → IsRun s b
 tail_run s a b h run = older_run s h.0 b (subst (IsRun s) h.1 run)
@@ -109,15 +111,15 @@ held_is laws s k link hop newer start before x fit numbers b held c =
     let kept : KeptOf ring (exchange_at s link events) c.seq c.correction c.t2 c.tick held = kept_of ring (exchange_at s link events) c.seq c.correction c.t2 c.tick held c.kept in
     let h : Handed s events c.hands k link = c.takes.handed in
     let number : c.t2.sample ≡ h.arrival.sample = ap (λ t. t.sample) c.takes.t2_is in
-    let first : kept.first ≡ b.good.number = some_is kept.first b.good.number (sym kept.begins ∙ first_is laws.chain s k link c.older start before z b) in
+    let first : kept.first ≡ b.good.number = same_Some kept.first b.good.number (sym kept.begins ∙ first_is laws.chain s k link c.older start before z b) in
     let since : b.good.number ≤ h.arrival.sample = subst (λ n. n ≤ h.arrival.sample) first (subst (λ n. kept.first ≤ n) number kept.since) in
     let fl : Flight s k link c.older start before h.frame h.arrival = flight laws.flight s k link c.older start before c.hands z b y.run h since in
     let w : InRun s k link (fl.newer ++ fl.chain) start before = subst (λ l. InRun s k link l start before) fl.splits z in
     let v : InRun s k link fl.chain start before = then_in s k link fl.newer fl.chain start before w in
     let fit_older : AllFit ((c.hands ∷ c.older) ++ start ∷ before) =
-    fit_then c.since ((c.hands ∷ c.older) ++ start ∷ before) (subst AllFit (ap (λ l. l ++ start ∷ before) c.splits ∙ appended c.since (c.hands ∷ c.older) (start ∷ before)) fit) in
+    fit_then c.since ((c.hands ∷ c.older) ++ start ∷ before) (subst AllFit (ap (λ l. l ++ start ∷ before) c.splits ∙ append_assoc c.since (c.hands ∷ c.older) (start ∷ before)) fit) in
     let fit_chain : AllFit (fl.chain ++ start ∷ before) =
-    fit_then fl.newer (fl.chain ++ start ∷ before) (subst AllFit (ap (λ l. l ++ start ∷ before) fl.splits ∙ appended fl.newer fl.chain (start ∷ before)) fit_older.1) in
+    fit_then fl.newer (fl.chain ++ start ∷ before) (subst AllFit (ap (λ l. l ++ start ∷ before) fl.splits ∙ append_assoc fl.newer fl.chain (start ∷ before)) fit_older.1) in
     let r : Recent s k link hop fl.chain start before = recent laws.chain s k link hop fl.chain start before v fit_chain numbers in
     let latched : phase_in (last_samples ring (exchange_at s link ((fl.newer ++ fl.chain) ++ start ∷ before))) h.arrival.sample ≡ Some kept.phase =
     subst (λ l. phase_in (last_samples ring (exchange_at s link (l ++ start ∷ before))) h.arrival.sample ≡ Some kept.phase) fl.splits
@@ -143,7 +145,7 @@ all_at : (P : Good → Type 0) (xs : List Good) (g : Good) (es : List Good) → 
 all_at P [] g es h = h.0
 all_at P (x ∷ xs) g es h = all_at P xs g es h.1
 
-fewer : (a b : ℕ) (n : ℕ) → a < b → b ≡ suc n → a ≤ n
+pub fewer : (a b : ℕ) (n : ℕ) → a < b → b ≡ suc n → a ≤ n
 fewer a b n h e = omega (arith, h, e)
 
 enough : (a b : ℕ) (xs : List Happened) (x : Happened) (ys : List Happened) → a ≡ length (xs ++ x ∷ ys) → length (x ∷ ys) ≤ a + 1
@@ -198,7 +200,7 @@ passage laws s events k link hop is numbers chain older held h tail =
     let come : List Happened = h.flight.chain ++ chain.start ∷ chain.before in
     let sent : WorldAt = world_after s dep.older in
     let sent_in : Tail here dep.older = (dep.came.0 ++ dep.came.1 ∷ [], dep.came.2 ∙ one_list dep.came.0 dep.came.1 dep.older) in
-    let come_in : Tail here come = (h.flight.newer, ap (λ l. l ++ chain.start ∷ chain.before) h.flight.splits ∙ appended h.flight.newer h.flight.chain (chain.start ∷ chain.before)) in
+    let come_in : Tail here come = (h.flight.newer, ap (λ l. l ++ chain.start ∷ chain.before) h.flight.splits ∙ append_assoc h.flight.newer h.flight.chain (chain.start ∷ chain.before)) in
     let moment : f.moment ≡ length dep.older = dep.moment ∙ count_is s dep.older in
     let after_source : length chain.follows.older ≤ f.moment =
     laws.follow s older (chain.start ∷ chain.before) k link chain.follows h.handed.number f a run h.handed.there h.handed.link_is h.handed.by_is h.handed.arrived
@@ -207,7 +209,7 @@ passage laws s events k link hop is numbers chain older held h tail =
     let carried : has_carrier s sent k ≡ true = subst (λ l. has_carrier s sent l ≡ true) h.handed.link_is dep.carried in
     let errors : HopHas s link hop = hop_has s run.network k link hop is numbers in
     let end : dep.end ≡ end_of Master link =
-    some_is dep.end (end_of Master link) (sym dep.end_is ∙ ap (λ l. end_at s l f.by) h.handed.link_is ∙ ap (end_at s k) h.handed.by_is ∙ end_is s k Master link is) in
+    same_Some dep.end (end_of Master link) (sym dep.end_is ∙ ap (λ l. end_at s l f.by) h.handed.link_is ∙ ap (end_at s k) h.handed.by_is ∙ end_is s k Master link is) in
     record {
       sent_then = dep.older;
       sent_tail = tail_of events here dep.older tail sent_in;
@@ -217,7 +219,7 @@ passage laws s events k link hop is numbers chain older held h tail =
       way = sym h.flight.at ∙ arrives.4 ∙ dep.due ∙ ap (λ d. f.at +ℤ d) way ∙ ap (λ t. t +ℤ delay_from sent k Master) dep.time;
       short =
           subst (λ n. delay_from sent k Master ≤ℤ pos n) (sym errors.reach_is)
-          (laws.fibres s dep.older k link (tail_run s here dep.older sent_in run) is (both_up (sent.fibre k).joined (ends_are_up sent.clock (link_of s k)) carried).0).reach_down;
+          (laws.fibres s dep.older k link (tail_run s here dep.older sent_in run) is (and_parts (sent.fibre k).joined (ends_are_up sent.clock (link_of s k)) carried).0).reach_down;
       stamp =
           subst (λ n. IsWithin n f.stamp (reading sent link.upper)) (sym errors.parent_tx)
           (subst (λ (e : End). unsigned_abs (f.stamp -ℤ reading sent e.node) ≤ of_node (λ node. node.e_tx) s e.node) end dep.stamp);
@@ -231,7 +233,7 @@ received laws s k link hop is numbers older start before held h =
     let come : List Happened = h.flight.chain ++ start ∷ before in
     let a : Arrival = h.handed.arrival in
     let run : IsRun s here = run_before s h.hands here h.run in
-    let split : here ≡ h.flight.newer ++ come = ap (λ l. l ++ start ∷ before) h.flight.splits ∙ appended h.flight.newer h.flight.chain (start ∷ before) in
+    let split : here ≡ h.flight.newer ++ come = ap (λ l. l ++ start ∷ before) h.flight.splits ∙ append_assoc h.flight.newer h.flight.chain (start ∷ before) in
     let errors : HopHas s link hop = hop_has s run.network k link hop is numbers in
     let it : Arrived s come k Slave h.handed.frame a.raw = record {
       link_is = h.handed.link_is;
@@ -255,11 +257,11 @@ held_tells laws s events k link hop is numbers chain front older e held h =
     let here : List Happened = older ++ sb in
     let come : List Happened = h.flight.chain ++ sb in
     let past : List Moment = moments_of s k link events in
-    let tail : Tail events here = (front, chain.splits ∙ ap (λ l. l ++ sb) e ∙ appended front older sb) in
+    let tail : Tail events here = (front, chain.splits ∙ ap (λ l. l ++ sb) e ∙ append_assoc front older sb) in
     let p : Passage s events k link hop (length chain.follows.older) (h.flight.chain ++ chain.start ∷ chain.before) h.handed.frame = passage laws s events k link hop is numbers chain older held h tail in
-    let whole : chain.newer ≡ (front ++ h.flight.newer) ++ h.flight.chain = e ∙ ap (λ l. front ++ l) h.flight.splits ∙ sym (appended front h.flight.newer h.flight.chain) in
+    let whole : chain.newer ≡ (front ++ h.flight.newer) ++ h.flight.chain = e ∙ ap (λ l. front ++ l) h.flight.splits ∙ sym (append_assoc front h.flight.newer h.flight.chain) in
     let good : GoodTells hop past (length sb) chain.constant h.recent.newest = good_tells s events k link hop chain (front ++ h.flight.newer) h.flight.chain whole h.recent in
-    let come_in : Tail here come = (h.flight.newer, ap (λ l. l ++ sb) h.flight.splits ∙ appended h.flight.newer h.flight.chain sb) in
+    let come_in : Tail here come = (h.flight.newer, ap (λ l. l ++ sb) h.flight.splits ∙ append_assoc h.flight.newer h.flight.chain sb) in
     let come_tail : Tail events come = tail_of events here come tail come_in in
     let same : good.moment ≡ h.recent.moment = was_one h.recent.newest.at good.moment h.recent.moment past good.was (was_tail s k link events come h.recent.newest.at h.recent.moment come_tail h.recent.was) in
     let newest : HasNewest s k link come = newest_moment s k link come in

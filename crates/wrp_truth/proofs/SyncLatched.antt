@@ -5,6 +5,7 @@ use Rattle.std.proofs.lemmas.Int.{ints}
 use Rattle.std.proofs.Math.Nat.{mul-le-mul_right}
 use Rattle.std.specs.List.{AllByRecursion}
 use Rattle.wrp_base.specs.declared.network.LinkCfg.{LinkCfg}
+use Rattle.wrp_base.proofs.Lists.{append_assoc}
 use Rattle.wrp_bounds.specs.Bounds.{numbers_of}
 use Rattle.wrp_bounds.specs.declared.numbers.HopNumbers.{HopNumbers}
 use Rattle.wrp_exch.specs.declared.ring.GoodSample.{GoodSample}
@@ -17,7 +18,7 @@ use Rattle.wrp_truth.specs.Chains.{AllFit}
 use Rattle.wrp_truth.specs.Exchanges.{exchange_at}
 use Rattle.wrp_truth.specs.Moments.{AtEach}
 use Rattle.wrp_truth.specs.Rates.{HasChain}
-use Rattle.wrp_truth.proofs.Suffixes.{appended, at_newest}
+use Rattle.wrp_truth.proofs.Suffixes.{at_newest}
 use Rattle.wrp_truth.proofs.SyncCalls.{Above, Below, Found, found}
 use Rattle.wrp_truth.proofs.SyncChains.{AllAbove, Falls, SyncChainLaws, falls_below, goods_above, goods_apart, goods_in, samples_of}
 use Rattle.wrp_truth.proofs.SyncNumbers.{numbers_hold}
@@ -28,7 +29,7 @@ use Rattle.wrp_truth.proofs.SyncSamples.{Begun, sample_of}
 
 pub at_front : (P : List Happened → Type 0) (a b older : List Happened) → AtEach P (a ++ b) older → AtEach P a (b ++ older)
 at_front P [] b older h = at_newest P b older h
-at_front P (x ∷ a) b older h = (subst (λ l. P (x ∷ l)) (appended a b older) h.0, at_front P a b older h.1)
+at_front P (x ∷ a) b older h = (subst (λ l. P (x ∷ l)) (append_assoc a b older) h.0, at_front P a b older h.1)
 
 -- Lists of samples
 
@@ -72,7 +73,7 @@ found_newest laws s k link hop newer chain start before x b r ring n u is e =
     ∙ ap (λ gs. map sample_of (goods_in s m newer there ++ gs) ++ old) r.goods ∙ split_map (goods_in s m newer there) r.newest r.earlier old in
     let falls : Falls (samples_of s there m + 1) (r.newest ∷ r.earlier) = subst (Falls (samples_of s there m + 1)) r.goods (goods_fall laws s k link chain start before y b) in
     let past : AllAbove (samples_of s before m) (r.newest ∷ r.earlier) = subst (AllAbove (samples_of s before m)) r.goods (goods_past laws s k link chain start before y b) in
-    let run : IsRun s (newer ++ there) = subst (IsRun s) (appended newer chain (start ∷ before)) x.run in
+    let run : IsRun s (newer ++ there) = subst (IsRun s) (append_assoc newer chain (start ∷ before)) x.run in
     let above : AllAbove (samples_of s there m) (goods_in s m newer there) =
     goods_above s newer there m run (up_each laws s k link newer there run x.is (at_front (HasChain s m) newer chain (start ∷ before) x.standing.stands)) in
     found ring n u (map sample_of (goods_in s m newer there)) (sample_of r.newest) (map sample_of r.earlier ++ old)

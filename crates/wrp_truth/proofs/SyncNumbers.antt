@@ -12,6 +12,7 @@ use Rattle.wrp_base.specs.declared.message.Head.{Head}
 use Rattle.wrp_base.specs.declared.message.PtpMsg.{PtpMsg}
 use Rattle.wrp_base.specs.declared.network.LinkCfg.{LinkCfg}
 use Rattle.wrp_base.specs.declared.time.Stamp.{Stamp}
+use Rattle.wrp_base.proofs.Naturals.{eq_self, le_one_more, nat_le_self}
 use Rattle.wrp_data.specs.declared.reason.Reason.{Reason}
 use Rattle.wrp_exch.specs.declared.ring.GoodSample.{GoodSample}
 use Rattle.wrp_exch.specs.Call.{Call as Piece, CallStart, CallClear, CallSample as SamplePiece, CallSync, CallFollowUp, CallReqOut, CallReqSent, CallResp}
@@ -38,7 +39,6 @@ use Rattle.wrp_world.specs.Moved.{moved}
 use Rattle.wrp_world.specs.Run.{Happened, world_after}
 use Rattle.wrp_world.specs.Setting.{Setting, fixed_of}
 use Rattle.wrp_world.specs.WorldAt.{WorldAt}
-use Rattle.wrp_world.proofs.RunPorts.{self_equal}
 use Rattle.wrp_truth.specs.Exchanges.{exchange_at}
 use Rattle.wrp_truth.proofs.Inputs.{GivesTo, node_given, node_given_all, node_kept, gives_to}
 use Rattle.wrp_truth.proofs.SampleEvents.{IsLowOf, samples_then, sampled_samples, low_stay}
@@ -218,12 +218,6 @@ low_to bound n (Join k ms sm) h = λ q own_module. tt
 low_to bound n (Pass dt drifts fibres) h = tt
 low_to bound n (Arrive i raw) h = tt
 
-some_more : (n : ℕ) → n ≤ n + 1
-some_more n = omega arith
-
-same_here : (n : ℕ) → n ≤ n
-same_here n = omega arith
-
 low_numbers : (s : Setting) (h : Happened) (before : List Happened) (link : LinkCfg) → IsLowOf link.lower h.event → NumbersHold s before link ((world_after s before).clock link.lower).samples → NumbersHold s (h ∷ before) link ((world_after s (h ∷ before)).clock link.lower).samples
 low_numbers s h before link low old =
     let n : ℕ = link.lower in
@@ -244,9 +238,9 @@ sample_numbers s says y before m base bits link same old =
     let number : (v.clock m).samples ≡ bound = ap (λ i. (v.clock i).samples) (sym same) ∙ sampled_samples s w n m base bits same in
     subst (NumbersHold s (h ∷ before) link) (sym (samples_then s h before n ∙ sampled_samples s w n m base bits same))
     (node_given (HoldsAt fixed link.lower_port bound) s y v (given_plain m (SampleInput (v.clock m).samples base bits)) n
-    (λ at. step_more fixed link.lower_port bound (taken_of y (given_plain m (SampleInput (v.clock m).samples base bits))) (w.node n) (subst (λ k. k ≤ bound) (sym number) (same_here bound))
-    (weaker (w.clock n).samples bound (exchange_at s link before) (some_more (w.clock n).samples) old))
-    (weaker (w.clock n).samples bound (exchange_at s link before) (some_more (w.clock n).samples) old))
+    (λ at. step_more fixed link.lower_port bound (taken_of y (given_plain m (SampleInput (v.clock m).samples base bits))) (w.node n) (subst (λ k. k ≤ bound) (sym number) (nat_le_self bound))
+    (weaker (w.clock n).samples bound (exchange_at s link before) (le_one_more (w.clock n).samples) old))
+    (weaker (w.clock n).samples bound (exchange_at s link before) (le_one_more (w.clock n).samples) old))
 
 up_numbers : (s : Setting) (says : Result PtpMsg FrameFault) (y : ℤ) (before : List Happened) (m : ℕ) (off : ℤ) (swaps : _) (link : LinkCfg) → link.lower ≡ m →
     NumbersHold s (record { event = Up m off swaps; says = says; answer = y } ∷ before) link ((world_after s (record { event = Up m off swaps; says = says; answer = y } ∷ before)).clock link.lower).samples
@@ -257,7 +251,7 @@ up_numbers s says y before m off swaps link same =
     let h : Happened = record { event = Up m off swaps; says = says; answer = y } in
     let fixed : Fixed = fixed_of s n in
     let bound : ℕ = ((world_after s (h ∷ before)).clock n).samples in
-    let here : (n == m) ≡ true = ap (λ i. i == m) same ∙ self_equal m in
+    let here : (n == m) ≡ true = ap (λ i. i == m) same ∙ eq_self m in
     let g : Given = given_plain m Reset in
     let first : HoldsAt fixed link.lower_port bound ((gives s y v g).node n) =
     subst (λ b. HoldsAt fixed link.lower_port bound (if b then (step_of s y v g).node else v.node n)) (sym here)

@@ -1,8 +1,11 @@
 -- What stood in a chain at each of its events: its samples, how near they are in time, and which frames its exchange took.
 use Rattle.std.proofs.Common.{◌≡◌, inl, inr, ◌∙◌, refl, ap, ap₂, sym, subst, ℕ, suc, ◌+◌, ◌*◌, ◌<◌, ◌≤◌, ℤ, pos, ◌+ℤ◌, ◌≤ℤ◌, true, List, [], ◌∷◌, ◌++◌, length, map, Option, None, Some, option_to_list, arith}
 use Rattle.std.proofs.lemmas.Int.{ints}
+use Rattle.std.proofs.lemmas.Option.{none-some}
 use Rattle.wrp_base.specs.declared.network.LinkCfg.{LinkCfg}
+use Rattle.wrp_base.proofs.Naturals.{nat_le_trans}
 use Rattle.wrp_base.specs.declared.time.Stamp.{Stamp}
+use Rattle.wrp_base.proofs.Lists.{append_assoc}
 use Rattle.wrp_bounds.specs.Bounds.{numbers_of}
 use Rattle.wrp_bounds.specs.declared.numbers.HopNumbers.{HopNumbers}
 use Rattle.wrp_exch.specs.Call.{Call as Piece, CallStart, CallClear, CallSample as SamplePiece, CallSync, CallFollowUp, CallReqOut, CallReqSent, CallResp}
@@ -24,12 +27,11 @@ use Rattle.wrp_truth.specs.Moments.{AtEach}
 use Rattle.wrp_truth.specs.Rates.{HasChain}
 use Rattle.wrp_truth.specs.Views.{moment_at, moments_of}
 use Rattle.wrp_truth.proofs.ChainMoves.{HasNewest, newest_moment}
-use Rattle.wrp_truth.proofs.Suffixes.{appended, older_run, run_before}
+use Rattle.wrp_truth.proofs.Suffixes.{older_run, run_before}
 use Rattle.wrp_truth.proofs.SyncCalls.{IsWithin, first_stays, last_by, pair_by}
-use Rattle.wrp_truth.proofs.SyncChains.{AllAbove, BringsGood, Falls, Standing, SyncChainLaws, brings_good, chain_up, falls_more, goods_in, one_start, samples_of, samples_up, stands_now}
+use Rattle.wrp_truth.proofs.SyncChains.{AllAbove, BringsGood, Falls, Standing, SyncChainLaws, brings_good, chain_up, falls_more, goods_in, one_start, samples_of, samples_up, stands_now, above_more}
 use Rattle.wrp_truth.proofs.SyncGiven.{ComesOf, Grown, TakesFollowUp, TakesSync}
 use Rattle.wrp_truth.proofs.SyncSamples.{Begun, begun, goods_more, grown, sample_of, samples_more}
-use Rattle.wrp_truth.proofs.Basics.{none_some}
 
 -- A chain that stands, in a run
 
@@ -132,15 +134,8 @@ goods_fall laws s k link (h ∷ newer) start before x b =
     (it.number, under g.number (samples_of s l n) (samples_of s (h ∷ l) n) it.number it.samples))
     (goods_fall laws s k link newer start before y b)
 
-above_on : (bound : ℕ) (o : Option Good) (gs : List Good) → ((g : Good) → o ≡ Some g → bound < g.number) → AllAbove bound gs → AllAbove bound (option_to_list o ++ gs)
-above_on bound None gs h k = k
-above_on bound (Some g) gs h k = (h g refl, k)
-
 past_first : (a b g : ℕ) → a ≤ b → g ≡ b + 1 → a < g
 past_first a b g h e = omega (arith, h, e)
-
-no_less : (a b c : ℕ) → a ≤ b → b ≤ c → a ≤ c
-no_less a b c h k = omega (arith, h, k)
 
 one_up : (a b : ℕ) → b ≡ a + 1 → a ≤ b
 one_up a b e = omega (arith, e)
@@ -152,7 +147,7 @@ counted_since laws s k link (h ∷ newer) start before x b =
     let l : List Happened = newer ++ start ∷ before in
     let n : ℕ = link.lower in
     let y : InRun s k link newer start before = earlier_in s k link h newer start before x in
-    no_less (samples_of s before n) (samples_of s l n) (samples_of s (h ∷ l) n) (counted_since laws s k link newer start before y b)
+    nat_le_trans (samples_of s before n) (samples_of s l n) (samples_of s (h ∷ l) n) (counted_since laws s k link newer start before y b)
     (samples_up s h l n x.run (chain_up laws.chains s l k link y.run x.is (stands_now s link newer start before y.standing)))
 
 pub goods_past : (laws : SyncChainLaws) (s : Setting) (k : ℕ) (link : LinkCfg) (newer : List Happened) (start : Happened) (before : List Happened) (x : InRun s k link newer start before) (b : Begun s start before link) →
@@ -163,7 +158,7 @@ goods_past laws s k link (h ∷ newer) start before x b =
     let l : List Happened = newer ++ start ∷ before in
     let n : ℕ = link.lower in
     let y : InRun s k link newer start before = earlier_in s k link h newer start before x in
-    above_on (samples_of s before n) (good_in s n h l h.event) (goods_since s n newer (start ∷ before))
+    above_more (samples_of s before n) (good_in s n h l h.event) (goods_since s n newer (start ∷ before))
     (λ g e. past_first (samples_of s before n) (samples_of s l n) g.number (counted_since laws s k link newer start before y b) (brings_good s h l n g e).number)
     (goods_past laws s k link newer start before y b)
 
@@ -184,7 +179,7 @@ pub record SyncCame (s : Setting) (k : ℕ) (link : LinkCfg) (newer : List Happe
 
 pub sync_came : SyncChainLaws → (s : Setting) (k : ℕ) (link : LinkCfg) (newer : List Happened) (start : Happened) (before : List Happened) → InRun s k link newer start before → Begun s start before link → (held : HeldSync) →
     last_sync (ring_below s link) (exchange_at s link (newer ++ start ∷ before)) ≡ Some held → SyncCame s k link newer start before held
-sync_came laws s k link [] start before x b held e = absurd (none_some held (sym (ap (last_sync (ring_below s link)) b.adds) ∙ e))
+sync_came laws s k link [] start before x b held e = absurd (none-some held (sym (ap (last_sync (ring_below s link)) b.adds) ∙ e))
 sync_came laws s k link (h ∷ newer) start before x b held e =
     let l : List Happened = newer ++ start ∷ before in
     let g : Grown s l h k link ((world_after s (h ∷ l)).node link.lower) = grew laws s k link h newer start before x in
@@ -231,7 +226,7 @@ pub record PairCame (s : Setting) (k : ℕ) (link : LinkCfg) (newer : List Happe
 
 pub pair_came : SyncChainLaws → (s : Setting) (k : ℕ) (link : LinkCfg) (newer : List Happened) (start : Happened) (before : List Happened) → InRun s k link newer start before → Begun s start before link → (p : SyncPair) →
     sync_pair (ring_below s link) (exchange_at s link (newer ++ start ∷ before)) ≡ Some p → PairCame s k link newer start before p
-pair_came laws s k link [] start before x b p e = absurd (none_some p (sym (ap (sync_pair (ring_below s link)) b.adds) ∙ e))
+pair_came laws s k link [] start before x b p e = absurd (none-some p (sym (ap (sync_pair (ring_below s link)) b.adds) ∙ e))
 pair_came laws s k link (h ∷ newer) start before x b p e =
     let l : List Happened = newer ++ start ∷ before in
     let g : Grown s l h k link ((world_after s (h ∷ l)).node link.lower) = grew laws s k link h newer start before x in
@@ -350,4 +345,4 @@ between laws s k link hop (h ∷ a) c start before x fit numbers first now =
     let y : InRun s k link (a ++ c) start before = earlier_in s k link h (a ++ c) start before x in
     let last : Recent s k link hop (a ++ c) start before = recent laws s k link hop (a ++ c) start before y fit.1 numbers in
     good_between laws s k link hop h a c start before first.moment.time (good_in s link.lower h ((a ++ c) ++ start ∷ before) h.event) refl
-    (ap (λ l. good_in s link.lower h l h.event) (sym (appended a c (start ∷ before)))) last (between laws s k link hop a c start before y fit.1 numbers first last) now
+    (ap (λ l. good_in s link.lower h l h.event) (sym (append_assoc a c (start ∷ before)))) last (between laws s k link hop a c start before y fit.1 numbers first last) now

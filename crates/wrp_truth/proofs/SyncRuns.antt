@@ -6,7 +6,9 @@ use Rattle.wrp_base.specs.declared.message.Body.{Body}
 use Rattle.wrp_base.specs.declared.message.Body.TheVariants.{FollowUp}
 use Rattle.wrp_base.specs.declared.message.PtpMsg.{PtpMsg}
 use Rattle.wrp_base.specs.declared.network.LinkCfg.{LinkCfg}
+use Rattle.wrp_base.proofs.Lists.{append_assoc}
 use Rattle.wrp_base.specs.declared.time.Ts.{Ts}
+use Rattle.wrp_base.proofs.Integers.{int_le_trans}
 use Rattle.wrp_bounds.specs.Bounds.{numbers_of}
 use Rattle.wrp_bounds.specs.declared.numbers.HopNumbers.{HopNumbers}
 use Rattle.wrp_bounds.specs.Hop.{down_error}
@@ -31,7 +33,7 @@ use Rattle.wrp_truth.specs.Exchanges.{SyncsTell, exchange_at, ring_below}
 use Rattle.wrp_truth.specs.Rates.{HasChain}
 use Rattle.wrp_truth.proofs.HopNumbers.{HopHas, hop_has}
 use Rattle.wrp_truth.proofs.Sendings.{WasPut, was_put}
-use Rattle.wrp_truth.proofs.Suffixes.{appended, older_run, run_before, one_list, no_more}
+use Rattle.wrp_truth.proofs.Suffixes.{older_run, run_before, one_list, no_more}
 use Rattle.wrp_truth.proofs.SyncCalls.{Found, PairOf, pair_of, some_phase}
 use Rattle.wrp_truth.proofs.DepartedFrames.{Stayed, frame_stays}
 use Rattle.wrp_truth.proofs.SyncGiven.{IsSync, TakesFollowUp}
@@ -106,9 +108,6 @@ sum_up now sample arrived at ring life h k l = omega (arith, ints)
 two_lives : (now left at : ℤ) (life : ℕ) → now ≤ℤ (left +ℤ pos life) → (left -ℤ at) ≤ℤ pos life → now ≤ℤ (at +ℤ pos (2 * life))
 two_lives now left at life h k = omega (arith, ints)
 
-then_time : (a b c : ℤ) → a ≤ℤ b → b ≤ℤ c → a ≤ℤ c
-then_time a b c h k = omega (arith, ints, h, k)
-
 -- the ring's gaps are those of the network
 ring_is : (s : Setting) (k : ℕ) (link : LinkCfg) (hop : HopNumbers) (events : List Happened) → IsRun s events → link_of s k ≡ Some link → numbers_of s.cfg link.lower ≡ Some hop → ring_below s link * hop.gap_time ≡ ring_time s
 ring_is s k link hop events run is numbers =
@@ -131,7 +130,7 @@ near laws s k link hop gap older start before held x =
     let sb : List Happened = start ∷ before in
     let c : List Happened = x.is.flight.chain in
     let front : List Happened = gap ++ x.is.flight.newer in
-    let whole : gap ++ older ≡ front ++ c = ap (λ l. gap ++ l) x.is.flight.splits ∙ sym (appended gap x.is.flight.newer c) in
+    let whole : gap ++ older ≡ front ++ c = ap (λ l. gap ++ l) x.is.flight.splits ∙ sym (append_assoc gap x.is.flight.newer c) in
     let y : InRun s k link (front ++ c) start before = subst (λ l. InRun s k link l start before) whole x.here in
     let fit : AllFit ((front ++ c) ++ sb) = subst (λ l. AllFit (l ++ sb)) whole x.fit in
     let u : (u : ℤ) × (phase_in (last_samples (ring_below s link) (exchange_at s link ((gap ++ older) ++ sb))) held.sample ≡ Some u) = some_phase (phase_in (last_samples (ring_below s link) (exchange_at s link ((gap ++ older) ++ sb))) held.sample) x.in_ring in
@@ -144,12 +143,12 @@ near laws s k link hop gap older start before held x =
     let late_here : (world_after s ((gap ++ older) ++ sb)).time ≤ℤ (x.is.recent.moment.time +ℤ pos (ring_time s)) =
     subst (λ n. (world_after s ((gap ++ older) ++ sb)).time ≤ℤ (x.is.recent.moment.time +ℤ pos n)) (ring_is s k link hop ((gap ++ older) ++ sb) x.here.run x.here.is x.numbers)
     (subst (λ l. (world_after s (l ++ sb)).time ≤ℤ (x.is.recent.moment.time +ℤ pos (ring_below s link * hop.gap_time))) (sym whole) late) in
-    let split : older ++ sb ≡ x.is.flight.newer ++ (c ++ sb) = ap (λ l. l ++ sb) x.is.flight.splits ∙ appended x.is.flight.newer c sb in
+    let split : older ++ sb ≡ x.is.flight.newer ++ (c ++ sb) = ap (λ l. l ++ sb) x.is.flight.splits ∙ append_assoc x.is.flight.newer c sb in
     let run : IsRun s (older ++ sb) = run_before s x.is.hands (older ++ sb) x.is.run in
     let run_split : IsRun s (x.is.flight.newer ++ (c ++ sb)) = subst (IsRun s) split run in
     let come : x.is.recent.moment.time ≤ℤ (world_after s (c ++ sb)).time = was_time s k link (c ++ sb) x.is.recent.newest.at x.is.recent.moment (older_run s x.is.flight.newer (c ++ sb) run_split) x.is.recent.was in
     let before_it : x.is.recent.moment.time ≤ℤ (world_after s (older ++ sb)).time =
-    then_time x.is.recent.moment.time (world_after s (c ++ sb)).time (world_after s (older ++ sb)).time come
+    int_le_trans x.is.recent.moment.time (world_after s (c ++ sb)).time (world_after s (older ++ sb)).time come
     (subst (λ l. (world_after s (c ++ sb)).time ≤ℤ (world_after s l).time) (sym split) (time_never_falls s x.is.flight.newer (c ++ sb) run_split)) in
     sum_up (world_after s ((gap ++ older) ++ sb)).time x.is.recent.moment.time (world_after s (older ++ sb)).time x.is.handed.frame.sending.at (ring_time s) (frame_life s.cfg) late_here before_it
     (young s (older ++ sb) x.is.hands k link x.is.handed x.is.run)
@@ -160,7 +159,7 @@ own_stamp : SyncLaws → (s : Setting) (k : ℕ) (link : LinkCfg) (hop : HopNumb
 own_stamp laws s k link hop gap older start before held seq precise x same t =
     let sb : List Happened = start ∷ before in
     let was : List Happened = older ++ sb in
-    let assoc : (gap ++ older) ++ sb ≡ gap ++ was = appended gap older sb in
+    let assoc : (gap ++ older) ++ sb ≡ gap ++ was = append_assoc gap older sb in
     let run : IsRun s (gap ++ was) = subst (IsRun s) assoc x.here.run in
     let run_was : IsRun s was = older_run s gap was run in
     let f : FrameAt = x.is.handed.frame in
@@ -212,7 +211,7 @@ made_tells laws s events k link hop is numbers chain front gap older e p held se
     let t1 : p.t1 ≡ x.is.handed.frame.stamp = ap (λ (q : SyncPair). q.t1) made ∙ told_plain precise held.correction (no_correction laws s k link hop older chain.start chain.before held is x.is) ∙ stamp in
     subst (λ z. IsWithin (down_error hop) z chain.constant)
     (sym (pair_sum p.t1 p.t2 p.u2 x.is.handed.frame.stamp held.t2 held.u2 t1 (ap (λ (q : SyncPair). q.t2) made) (ap (λ (q : SyncPair). q.u2) made)))
-    (held_tells laws.held s events k link hop is numbers chain (front ++ gap) older (e ∙ sym (appended front gap older)) held x.is)
+    (held_tells laws.held s events k link hop is numbers chain (front ++ gap) older (e ∙ sym (append_assoc front gap older)) held x.is)
 
 pair_tells : SyncLaws → (s : Setting) (events : List Happened) (k : ℕ) (link : LinkCfg) (hop : HopNumbers) → IsRun s events → AllFit events → link_of s k ≡ Some link → numbers_of s.cfg link.lower ≡ Some hop → (chain : ChainRuns s events k link hop) (front newer : List Happened) → chain.newer ≡ front ++ newer →
     (p : SyncPair) → sync_pair (ring_below s link) (exchange_at s link (newer ++ chain.start ∷ chain.before)) ≡ Some p → IsWithin (down_error hop) ((p.t1 -ℤ p.t2) +ℤ p.u2) chain.constant
@@ -232,10 +231,10 @@ pair_tells laws s events k link hop run fit is numbers chain front newer e p mad
     let gap : List Happened = d.since ++ d.hands ∷ [] in
     let split : c.older ≡ gap ++ d.older = d.splits ∙ one_list d.since d.hands d.older in
     let upto : chain.newer ≡ (front ++ (c.since ++ c.hands ∷ [])) ++ c.older =
-    e ∙ ap (λ l. front ++ l) (c.splits ∙ one_list c.since c.hands c.older) ∙ sym (appended front (c.since ++ c.hands ∷ []) c.older) in
+    e ∙ ap (λ l. front ++ l) (c.splits ∙ one_list c.since c.hands c.older) ∙ sym (append_assoc front (c.since ++ c.hands ∷ []) c.older) in
     let fit_all : AllFit (chain.newer ++ sb) = subst AllFit chain.splits fit in
     let fit_here : AllFit (c.older ++ sb) =
-    fit_then (front ++ (c.since ++ c.hands ∷ [])) (c.older ++ sb) (subst AllFit (ap (λ l. l ++ sb) upto ∙ appended (front ++ (c.since ++ c.hands ∷ [])) c.older sb) fit_all) in
+    fit_then (front ++ (c.since ++ c.hands ∷ [])) (c.older ++ sb) (subst AllFit (ap (λ l. l ++ sb) upto ∙ append_assoc (front ++ (c.since ++ c.hands ∷ [])) c.older sb) fit_all) in
     let later : Later s k link hop gap d.older start before q.held = record {
       here = subst (λ l. InRun s k link l start before) split z;
       fit = subst (λ l. AllFit (l ++ sb)) split fit_here;

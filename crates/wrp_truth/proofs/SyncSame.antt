@@ -2,19 +2,21 @@
 use Rattle.std.proofs.Common.{◌≡◌, inl, inr, ◌∙◌, ap, sym, subst, ℕ, ◌+◌, ◌*◌, ◌<◌, ◌≤◌, ℤ, pos, min, ◌+ℤ◌, ◌≤ℤ◌, unsigned_abs, false, if◌then◌else◌, List, [], ◌∷◌, ◌++◌, length, Option, None, Some, arith}
 use Rattle.std.proofs.lemmas.Int.{ints}
 use Rattle.wrp_base.specs.declared.link.Role.TheVariants.{Master}
+use Rattle.wrp_base.proofs.Naturals.{eq_self}
 use Rattle.wrp_base.specs.declared.network.LinkCfg.{LinkCfg}
+use Rattle.wrp_base.proofs.Lists.{append_assoc}
 use Rattle.wrp_bounds.specs.Times.{frame_life, gap_time, shortest_tick}
 use Rattle.wrp_world.specs.declared.event.Event.{Event}
-use Rattle.wrp_world.specs.declared.event.Event.TheVariants.{Depart}
+use Rattle.wrp_truth.proofs.DelayPieces.{still_depart}
 use Rattle.wrp_world.specs.declared.place.Place.{Place}
+use Rattle.wrp_truth.proofs.BoundRuns.{at_oldest}
 use Rattle.wrp_world.specs.Given.{given_by}
-use Rattle.wrp_world.specs.Moved.{departing, frame_after, moved, time_after, waiting_at}
+use Rattle.wrp_world.specs.Moved.{departing, frame_after, moved, waiting_at}
 use Rattle.wrp_world.specs.Run.{Happened, world_after}
 use Rattle.wrp_world.specs.Runs.{IsRun, WasPutOut}
 use Rattle.wrp_world.specs.Setting.{Setting, link_of}
 use Rattle.wrp_world.specs.WorldAt.{FrameAt, Sending, WorldAt, delay_from}
-use Rattle.wrp_world.proofs.RunPorts.{self_equal}
-use Rattle.wrp_world.proofs.RunTimes.{all_given_time, time_never_falls}
+use Rattle.wrp_world.proofs.RunTimes.{time_never_falls}
 use Rattle.wrp_truth.specs.Moments.{AtEach}
 use Rattle.wrp_truth.specs.Rates.{HasChain}
 use Rattle.wrp_truth.specs.SequenceIds.{IdsComeAgainLate, IsOpenAt, OneTimedAnEvent}
@@ -22,7 +24,7 @@ use Rattle.wrp_truth.proofs.DepartedFrames.{Stayed, frame_stays}
 use Rattle.wrp_truth.proofs.InOrder.{given_frame}
 use Rattle.wrp_truth.proofs.OpenPorts.{open_since}
 use Rattle.wrp_truth.proofs.Sendings.{WasPut, was_put}
-use Rattle.wrp_truth.proofs.Suffixes.{appended, at_newest, at_rest, older_run}
+use Rattle.wrp_truth.proofs.Suffixes.{at_newest, at_rest, older_run}
 use Rattle.wrp_truth.proofs.SyncGiven.{IsSync}
 use Rattle.wrp_truth.proofs.SyncHanded.{either_end}
 use Rattle.wrp_truth.proofs.SyncMasters.{MasterLaws, master_open_each, sent_sync}
@@ -66,12 +68,7 @@ departs_now s h before k link x f =
     ∙ ap (λ (e : Event). frame_after s w e i) f.event
     ∙ ap (λ (o : Option Place). departing w o f.stamp (waiting_at w o) i) f.place
     ∙ ap (λ (q : List Sending). departing w (Some (record { link = k; role = Master })) f.stamp q i) f.waits
-    ∙ ap (λ b. if b then Some g else w.frame i) (self_equal i)
-
-depart_time : (s : Setting) (h : Happened) (before : List Happened) (n p : ℕ) (stamp : ℤ) → h.event ≡ Depart n p stamp → (world_after s (h ∷ before)).time ≡ (world_after s before).time
-depart_time s h before n p stamp e =
-    let w : WorldAt = world_after s before in
-    all_given_time s h.answer (given_by s w (moved s w h.event) h.says h.event) (moved s w h.event) ∙ ap (time_after w) e
+    ∙ ap (λ b. if b then Some g else w.frame i) (eq_self i)
 
 stays_departed : (s : Setting) (newer : List Happened) (h : Happened) (before : List Happened) (k : ℕ) (link : LinkCfg) (x : Sending) (f : Follows s (world_after s before) k link h.event x) → IsRun s (newer ++ h ∷ before) →
     Departed s (newer ++ h ∷ before) k f.oldest f.stamp (world_after s before).time
@@ -92,7 +89,7 @@ stays_departed s newer h before k link x f run =
 -- it departed as the Follow_Up was put out
 pub departed : (s : Setting) (events : List Happened) (k : ℕ) (link : LinkCfg) (x : Sending) (it : FollowedIn s events k link x) → IsRun s events → Departed s events k it.follows.oldest it.follows.stamp x.at
 departed s events k link x it run =
-    subst (Departed s events k it.follows.oldest it.follows.stamp) (sym (it.at ∙ depart_time s it.event it.before link.upper link.upper_port it.follows.stamp it.follows.event))
+    subst (Departed s events k it.follows.oldest it.follows.stamp) (sym (it.at ∙ still_depart s it.event it.before link.upper link.upper_port it.follows.stamp it.follows.event))
     (subst (λ l. Departed s l k it.follows.oldest it.follows.stamp (world_after s it.before).time) (sym it.splits)
     (stays_departed s it.newer it.event it.before k link x it.follows (subst (IsRun s) it.splits run)))
 
@@ -120,7 +117,7 @@ much_too_late x y now big ring life h k l m = omega (arith, ints)
 
 at_both : (P : List Happened → Type 0) (a b older : List Happened) → AtEach P a (b ++ older) → AtEach P b older → AtEach P (a ++ b) older
 at_both P [] b older h k = k
-at_both P (x ∷ a) b older h k = (subst (λ l. P (x ∷ l)) (sym (appended a b older)) h.0, at_both P a b older h.1 k)
+at_both P (x ∷ a) b older h k = (subst (λ l. P (x ∷ l)) (sym (append_assoc a b older)) h.0, at_both P a b older h.1 k)
 
 -- two Syncs that the master put out, the first before the second of two events of a chain, or in it
 pub record TwoSyncs (s : Setting) (k : ℕ) (gap older : List Happened) (x y : Sending) : Type 0 where
@@ -144,10 +141,6 @@ less_length z zs older a b e f = let h : length older ≤ length (zs ++ older) =
     longer [] ys = omega arith
     longer (x ∷ xs) ys = let h : length ys ≤ length (xs ++ ys) = longer xs ys in omega (arith, h)
 
-at_oldest : (P : List Happened → Type 0) (newer old : List Happened) → AtEach P newer old → P old
-at_oldest P [] old h = h
-at_oldest P (z ∷ newer) old h = at_oldest P newer old h.1
-
 in_time : (s : Setting) (z : Sending) (events newer old : List Happened) → IsRun s events → events ≡ newer ++ old → z.at ≡ (world_after s old).time → z.at ≤ℤ (world_after s events).time
 in_time s z events newer old r e at =
     subst (λ t. t ≤ℤ (world_after s events).time) (sym at) (subst (λ l. (world_after s old).time ≤ℤ (world_after s l).time) (sym e) (time_never_falls s newer old (subst (IsRun s) e r)))
@@ -158,7 +151,7 @@ not_after : SameLaws → (s : Setting) (k : ℕ) (link : LinkCfg) (gap older : L
 not_after laws s k link gap older x y run is two a b [] end front open_all =
     laws.one s (gap ++ older) k link Master x y run is two.put_still two.put_other two.first two.other (a.in_it.moment ∙ ap length end ∙ sym b.in_it.moment)
 not_after laws s k link gap older x y run is two a b (z ∷ between) end front open_all =
-    let whole : gap ++ older ≡ (gap ++ a.newer) ++ a.older = ap (λ l. gap ++ l) a.splits ∙ sym (appended gap a.newer a.older) in
+    let whole : gap ++ older ≡ (gap ++ a.newer) ++ a.older = ap (λ l. gap ++ l) a.splits ∙ sym (append_assoc gap a.newer a.older) in
     let run_here : IsRun s ((z ∷ between) ++ b.older) = subst (IsRun s) end (older_run s (gap ++ a.newer) a.older (subst (IsRun s) whole run)) in
     let opens : AtEach (IsOpenAt s link Master) (z ∷ between) b.older = at_rest (IsOpenAt s link Master) (gap ++ a.newer) (z ∷ between) b.older (subst (λ l. AtEach (IsOpenAt s link Master) l b.older) front open_all) in
     let later : (y.at +ℤ pos (again s)) ≤ℤ x.at =
@@ -202,7 +195,7 @@ same_sending laws s k link gap older x y run is chain two =
     open_since laws.master.chains.lease.quiet s b.newer b.older Master link run_b (sent_sync laws.master s b.older k link y is two.other b.in_it).open_then last_open soon_b in
     let all_a : AtEach (IsOpenAt s link Master) (gap ++ a.newer) a.older =
     at_both (IsOpenAt s link Master) gap a.newer a.older (subst (AtEach (IsOpenAt s link Master) gap) a.splits open_each) since_a in
-    let whole : gap ++ older ≡ (gap ++ a.newer) ++ a.older = ap (λ l. gap ++ l) a.splits ∙ sym (appended gap a.newer a.older) in
+    let whole : gap ++ older ≡ (gap ++ a.newer) ++ a.older = ap (λ l. gap ++ l) a.splits ∙ sym (append_assoc gap a.newer a.older) in
     elim (either_end (gap ++ a.newer) a.older b.newer b.older (sym whole ∙ b.splits)) [
       | inl it ↦ not_after laws s k link gap older x y run is two a b it.between it.end it.front since_b
       | inr it ↦ not_sooner laws s k link gap older x y run is two a b it.between it.end it.front all_a

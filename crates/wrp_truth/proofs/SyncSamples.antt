@@ -1,9 +1,11 @@
 -- The samples of the exchange below a link, while a chain of the servo there stands, are the chain's good samples.
 use Rattle.std.proofs.Common.{◌≡◌, inl, inr, ◌∙◌, refl, ap, sym, subst, ℕ, ◌+◌, ◌==◌, ℤ, not, Bool, true, false, if◌then◌else◌, is_some, List, ◌∷◌, ◌++◌, map, length, Option, None, Some, option_map, option_to_list, Result}
 use Rattle.std.proofs.lemmas.Bool.Decides.{eqb_tells}
+use Rattle.std.proofs.lemmas.Bool.{false≢true}
 use Rattle.wrp_base.specs.declared.link.Role.TheVariants.{Slave}
 use Rattle.wrp_base.specs.declared.message.PtpMsg.{PtpMsg}
 use Rattle.wrp_base.specs.declared.network.LinkCfg.{LinkCfg}
+use Rattle.wrp_base.proofs.Naturals.{eq_self}
 use Rattle.wrp_exch.specs.declared.ring.GoodSample.{GoodSample}
 use Rattle.wrp_exch.specs.Call.{Call as Piece, CallStart, CallClear, CallSample as SamplePiece, CallSync, CallFollowUp, CallReqOut, CallReqSent, CallResp}
 use Rattle.wrp_exch.specs.Samples.{samples}
@@ -19,20 +21,18 @@ use Rattle.wrp_servo.specs.Tags.{heard_tag}
 use Rattle.wrp_tracking.specs.Chain.{Good}
 use Rattle.wrp_world.specs.declared.event.Event.{Event}
 use Rattle.wrp_world.specs.declared.event.Event.TheVariants.{Tick, Sample, Depart, Deliver, Noise, Up}
+use Rattle.wrp_truth.proofs.NodeSteps.{Stands}
 use Rattle.wrp_world.specs.Given.{Given, given_plain, step_of, taken_of, world_step}
 use Rattle.wrp_world.specs.Moved.{moved, waiting_at}
 use Rattle.wrp_world.specs.Run.{Happened, world_after}
 use Rattle.wrp_world.specs.Runs.{IsNetwork, IsRun}
 use Rattle.wrp_world.specs.Setting.{Setting, fixed_of, link_of, place_of}
 use Rattle.wrp_world.specs.WorldAt.{WorldAt}
-use Rattle.wrp_world.proofs.RunPorts.{self_equal}
-use Rattle.wrp_world.proofs.RunTimes.{comes_up_down}
+use Rattle.wrp_world.proofs.RunTimes.{comes_up_down, not_up}
 use Rattle.wrp_truth.specs.Chains.{good_in, phase_in}
 use Rattle.wrp_truth.specs.Exchanges.{exchange_at}
 use Rattle.wrp_truth.specs.Rates.{HasChain}
-use Rattle.wrp_truth.proofs.Basics.{not_true}
-use Rattle.wrp_truth.proofs.LiveChains.{Stands, sample_keeps, sample_stood, unheard_first}
-use Rattle.wrp_truth.proofs.Parents.{not_up}
+use Rattle.wrp_truth.proofs.LiveChains.{sample_keeps, sample_stood, unheard_first}
 use Rattle.wrp_truth.proofs.PortRoles.{role_is}
 use Rattle.wrp_truth.proofs.SampleEvents.{stood_before}
 use Rattle.wrp_truth.proofs.StepCalls.{IsTelling, KeptBy}
@@ -54,14 +54,14 @@ sample_node s says y before n m base bits same =
     let w : WorldAt = world_after s before in
     let v : WorldAt = moved s w (Sample m base bits) in
     let g : Given = given_plain m (SampleInput (v.clock m).samples base bits) in
-    let here : (n == m) ≡ true = ap (λ i. i == m) same ∙ self_equal m in
-    let number : (v.clock m).samples ≡ (w.clock m).samples + 1 = ap (λ b. (if b then record (w.clock m) { samples = (w.clock m).samples + 1 } else w.clock m).samples) (self_equal m) in
+    let here : (n == m) ≡ true = ap (λ i. i == m) same ∙ eq_self m in
+    let number : (v.clock m).samples ≡ (w.clock m).samples + 1 = ap (λ b. (if b then record (w.clock m) { samples = (w.clock m).samples + 1 } else w.clock m).samples) (eq_self m) in
     ap (λ b. if b then (step_of s y v g).node else w.node n) here
     ∙ ap (λ k. (node_step (fixed_of s m) (taken_of y (given_plain m (SampleInput k base bits))) (w.node m)).node) number
     ∙ ap (λ i. (node_step (fixed_of s i) (taken_of y (given_plain i (SampleInput ((w.clock i).samples + 1) base bits))) (w.node i)).node) (sym same)
 
 -- the phase that the servo has then stays to the end of the event
-phase_kept : PhaseMovesByTags → (x : Settings) (u : ℤ) → KeptBy IsTelling (λ calls. (run x calls).phase.u ≡ u)
+pub phase_kept : PhaseMovesByTags → (x : Settings) (u : ℤ) → KeptBy IsTelling (λ calls. (run x calls).phase.u ≡ u)
 phase_kept law x u calls (CallLease fresh) c h = law x calls (CallLease fresh) refl ∙ h
 phase_kept law x u calls (CallLink on) c h = law x calls (CallLink on) refl ∙ h
 phase_kept law x u calls (CallSample n base bits) c h = absurd c
@@ -84,19 +84,19 @@ phase_then law s says y before n m base bits same servo =
 abbrev good_by : Setting → ℤ → List Happened → ℕ → (u : ℤ) → ℕ → Good
 good_by s y before n u tag = record { number = ((world_after s before).clock n).samples + 1; tag = tag; u = u; at = length before + 1 }
 
-good_where : (b : Bool) (o : Option Good) → b ≡ true → (if b then o else None) ≡ o
+pub good_where : (b : Bool) (o : Option Good) → b ≡ true → (if b then o else None) ≡ o
 good_where true o e = refl
-good_where false o e = absurd (not_true e)
+good_where false o e = absurd (false≢true e)
 
-no_good_of : (b : Bool) (o : Option Good) → b ≡ false → (if b then o else None) ≡ None
-no_good_of true o e = absurd (not_true (sym e))
+pub no_good_of : (b : Bool) (o : Option Good) → b ≡ false → (if b then o else None) ≡ None
+no_good_of true o e = absurd (false≢true (sym e))
 no_good_of false o e = refl
 
 good_then : (s : Setting) (says : Result PtpMsg FrameFault) (y : ℤ) (before : List Happened) (n m base bits : ℕ) (o : Option ℕ) → n ≡ m → heard_by s before n base bits ≡ o →
     good_in s n (record { event = Sample m base bits; says = says; answer = y }) before (Sample m base bits)
     ≡ option_map (good_by s y before n (phase_in s (world_step s says y (world_after s before) (Sample m base bits)) n)) o
 good_then s says y before n m base bits o same heard =
-    good_where (n == m) (option_map (good_by s y before n (phase_in s (world_step s says y (world_after s before) (Sample m base bits)) n)) (heard_by s before n base bits)) (ap (λ i. i == m) same ∙ self_equal m)
+    good_where (n == m) (option_map (good_by s y before n (phase_in s (world_step s says y (world_after s before) (Sample m base bits)) n)) (heard_by s before n base bits)) (ap (λ i. i == m) same ∙ eq_self m)
     ∙ ap (option_map (good_by s y before n (phase_in s (world_step s says y (world_after s before) (Sample m base bits)) n))) heard
 
 -- in a chain

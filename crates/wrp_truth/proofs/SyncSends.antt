@@ -1,6 +1,7 @@
 -- A Follow_Up is put out as its Sync departs, and tells the stamp of that departure.
 use Rattle.std.proofs.Common.{◌≡◌, ◌⊎◌, inl, inr, ◌∙◌, refl, ap, sym, subst, ℕ, ℤ, Bool, true, false, List, [], ◌∷◌, ◌++◌, map, Option, None, Some, Result}
 use Rattle.std.specs.List.{AllByRecursion}
+use Rattle.std.proofs.lemmas.Bool.{false≢true}
 use Rattle.wrp_base.specs.declared.link.Role.{Role}
 use Rattle.wrp_base.specs.declared.link.Role.TheVariants.{Master, Slave}
 use Rattle.wrp_base.specs.declared.message.Body.{Body}
@@ -27,7 +28,6 @@ use Rattle.wrp_world.specs.Setting.{Setting, end_of, fixed_of, link_of, place_of
 use Rattle.wrp_world.specs.WorldAt.{Sending, WorldAt}
 use Rattle.wrp_world.proofs.RunGiven.{end_is}
 use Rattle.wrp_world.proofs.RunNetwork.{LinkEnd, are_apart, end_with, place_end}
-use Rattle.wrp_truth.proofs.Basics.{not_true}
 use Rattle.wrp_truth.proofs.Inputs.{GivesTo}
 use Rattle.wrp_truth.proofs.PutOut.{given_put, moved_back, none_put}
 use Rattle.wrp_truth.proofs.Sendings.{PutOutIn, WasPut, was_put, is_new}
@@ -59,7 +59,7 @@ follow_by : (fixed : Fixed) (n : NodeAt) (p : ℕ) (input : Input) (says : Resul
 follow_by fixed n p TickInput says = scheduled_follow (FollowsFrom fixed p TickInput) (setting_of fixed.set p) (setting_of fixed.set p).ds.role (ticked (setting_of fixed.set p) (line_at fixed.set (servo_ticked fixed n).node p) (locked_of fixed (servo_ticked fixed n).node)) (certain_of fixed (servo_ticked fixed n).node)
 follow_by fixed n p (SampleInput number base bits) says = tt
 follow_by fixed n p (Frame q octets raw sample) says = λ m is same hears request f. absurd f
-follow_by fixed n p (Sent q seq true stamp) says = λ e same f. absurd (not_true (sym e))
+follow_by fixed n p (Sent q seq true stamp) says = λ e same f. absurd (false≢true (sym e))
 follow_by fixed n p (Sent q seq false stamp) says = λ e same f. (same, refl)
 follow_by fixed n p (Carrier q up own_module) says = tt
 follow_by fixed n p Reset says = tt

@@ -1,6 +1,8 @@
 -- What an input of a node adds to the calls of its slave's exchange, while a chain of its servo stands.
 use Rattle.std.proofs.Common.{◌≡◌, ◌∙◌, refl, ap, sym, ℕ, ◌==◌, ◌&&◌, cond, ℤ, Bool, true, false, if◌then◌else◌, is_some, List, ◌∷◌, Option, None, Some, option_map, Result, Ok, Err}
+use Rattle.std.proofs.lemmas.Option.{none-some, same_Some}
 use Rattle.std.specs.Prelude.{int_le}
+use Rattle.std.proofs.lemmas.Bool.{false≢true}
 use Rattle.wrp_base.specs.declared.link.Role.{Role}
 use Rattle.wrp_base.specs.declared.link.Role.TheVariants.{Master, Slave}
 use Rattle.wrp_base.specs.declared.link.ServoState.{ServoState}
@@ -10,6 +12,7 @@ use Rattle.wrp_base.specs.declared.measurement.ChainNews.TheVariants.{Same, Star
 use Rattle.wrp_base.specs.declared.message.PtpMsg.{PtpMsg}
 use Rattle.wrp_base.specs.declared.time.Raw.{Raw}
 use Rattle.wrp_base.specs.declared.time.Stamp.{Stamp}
+use Rattle.wrp_base.proofs.Naturals.{eq_self}
 use Rattle.wrp_data.specs.declared.reason.Reason.{Reason}
 use Rattle.wrp_exch.specs.Call.{Call as Piece, CallStart, CallSample as SamplePiece, CallReqOut, CallReqSent, CallResp}
 use Rattle.wrp_frame.specs.declared.fault.FrameFault.{FrameFault}
@@ -34,23 +37,15 @@ use Rattle.wrp_servo.specs.Sampling.{chained, followed, good_tag, heard as servo
 use Rattle.wrp_servo.specs.Servo.{answer_to, news_at, news_of, out_by}
 use Rattle.wrp_servo.specs.Table.{ended, ended_in}
 use Rattle.wrp_servo.specs.Tags.{heard_tag}
-use Rattle.wrp_truth.proofs.LiveChains.{IsNoSample, Stands, stood_before}
-use Rattle.wrp_truth.proofs.Basics.{none_some, not_true, some_is}
-use Rattle.wrp_world.proofs.RunPorts.{self_equal}
+use Rattle.wrp_truth.proofs.LiveChains.{IsNoSample, stood_before}
 
 -- What the servo answers, at its slave port
 
 there : (o : Option ℕ) (out : ServoOut) (k : ℕ) (told : ℕ → List PortIn) (p : ℕ) → o ≡ Some p → told_by o out k told p ≡ heard_of out k (told p)
-there None out k told p e = absurd (none_some p e)
+there None out k told p e = absurd (none-some p e)
 there (Some q) out k told p e =
-    let here : (p == q) ≡ true = ap (λ (n : ℕ). p == n) (some_is q p e) ∙ self_equal p in
+    let here : (p == q) ≡ true = ap (λ (n : ℕ). p == n) (same_Some q p e) ∙ eq_self p in
     ap (λ (b : Bool). if b then heard_of out k (told p) else told p) here
-
--- no sample, and a chain that stood and stands
-same_news : (o p : Option ℕ) → is_some o ≡ true → is_some p ≡ true → news_of o p ≡ Same
-same_news (Some m) (Some n) e f = refl
-same_news None p e f = absurd (not_true e)
-same_news (Some m) None e f = absurd (not_true f)
 
 plain_heard : (out : ServoOut) (k : ℕ) (told : List PortIn) → out.unwrapped ≡ None → out.chain ≡ Same → heard_of out k told ≡ told
 plain_heard out k told e f = ap (λ o. with_sample o k (with_news out.chain told)) e ∙ ap (λ c. with_news c told) f
@@ -150,10 +145,10 @@ settled_adds law fixed n s p o slave now h =
     after_all fixed n s (settled fixed s) p o u (h u.stood)
 
 -- a tick
-lease_there : (o : Option ℕ) (p : ℕ) (told : ℕ → List PortIn) → o ≡ Some p → told_slave o Lease told p ≡ Lease ∷ told p
-lease_there None p told e = absurd (none_some p e)
+pub lease_there : (o : Option ℕ) (p : ℕ) (told : ℕ → List PortIn) → o ≡ Some p → told_slave o Lease told p ≡ Lease ∷ told p
+lease_there None p told e = absurd (none-some p e)
 lease_there (Some q) p told e =
-    let here : (p == q) ≡ true = ap (λ (k : ℕ). p == k) (some_is q p e) ∙ self_equal p in
+    let here : (p == q) ≡ true = ap (λ (k : ℕ). p == k) (same_Some q p e) ∙ eq_self p in
     ap (λ (b : Bool). if b then Lease ∷ told p else told p) here
 
 request_other : (b : Bool) (role : Role) (seq : ℕ) → IsOther (only_slave role (if b then Some (CallReqOut seq) else None))
@@ -231,7 +226,7 @@ measured_none (Some four) answer = tt
 
 told_here : (told : ℕ → List PortIn) (p q : ℕ) (input : PortIn) → q ≡ p → told_at told q input p ≡ input ∷ told p
 told_here told p q input e =
-    let here : (p == q) ≡ true = ap (λ (k : ℕ). p == k) e ∙ self_equal p in
+    let here : (p == q) ≡ true = ap (λ (k : ℕ). p == k) e ∙ eq_self p in
     ap (λ (b : Bool). if b then input ∷ told p else told p) here
 
 heard_adds : ChainSince → (fixed : Fixed) (n : NodeAt) (p : ℕ) (m : PtpMsg) (stamp : Stamp) (tick : ℕ) (answer : ℤ) (reason : Option Reason) → early_reason (setting_of fixed.set p) (link_at fixed.set n p) m ≡ reason → slave_of fixed.set ≡ Some p →
@@ -291,7 +286,7 @@ phase_told true v w news (Some tag) = by_range (is_far (with_tag v tag).phase.u)
     by_range false = refl
 phase_told false v w news o = refl
 
-news_told : (h : Heard) (w : Core) (news : ChainNews) → (out_by h w news).chain ≡ news
+pub news_told : (h : Heard) (w : Core) (news : ChainNews) → (out_by h w news).chain ≡ news
 news_told Ignored w news = refl
 news_told Refused w news = refl
 news_told Lost w news = refl
@@ -331,7 +326,7 @@ piece_is set told (Some tag) number u slave = ap (λ r. with_call (sample_call r
 
 stands_if : (fixed : Fixed) (n : NodeAt) (number base bits : ℕ) (b : Bool) → b ≡ true → Stands (run (settings_of fixed) (called (if b then Some (CallSample number base bits) else None) n.calls)) → Stands (sampled fixed n number base bits)
 stands_if fixed n number base bits true e h = h
-stands_if fixed n number base bits false e h = absurd (not_true e)
+stands_if fixed n number base bits false e h = absurd (false≢true e)
 
 -- in a chain
 pub sample_adds : ChainSince → (fixed : Fixed) (n : NodeAt) (p number base bits : ℕ) → slave_of fixed.set ≡ Some p → (setting_of fixed.set p).ds.role ≡ Slave → Stands (run (settings_of fixed) n.calls) →
@@ -359,7 +354,7 @@ either_first n true v w h k = h
 either_first n false v w h k = k
 
 none_first : (n : ℕ) (v : Core) → v.first ≡ None → FirstIs n v
-none_first n v e h = absurd (not_true (ap is_some (sym e) ∙ h))
+none_first n v e h = absurd (false≢true (ap is_some (sym e) ∙ h))
 
 ended_first : (n : ℕ) (v : Core) → FirstIs n v → FirstIs n (ended v)
 ended_first n v h = either_first n (is_some v.first) (ended_in v v.state) v (by_state v.state) h

@@ -1,16 +1,20 @@
 -- A frame that arrives once the lease was renewed departed after the Announce that renewed it.
 use Rattle.std.proofs.Common.{◌≡◌, ◌⊎◌, inl, inr, ◌∙◌, refl, ap, sym, subst, ℕ, ◌+◌, ◌<◌, ◌≤◌, ◌==◌, ◌&&◌, ◌||◌, nat_lt, ℤ, Bool, true, false, if◌then◌else◌, List, [], ◌∷◌, ◌++◌, length, Option, None, Some, option_map, Result, arith}
-use Rattle.std.proofs.lemmas.Bool.{eqb-true}
+use Rattle.std.proofs.lemmas.Bool.{eqb-true, false≢true}
 use Rattle.std.specs.Option.{option_or}
 use Rattle.std.specs.Prelude.{IfSome}
+use Rattle.std.proofs.lemmas.Option.{none-some, same_Some}
 use Rattle.wrp_base.specs.declared.message.PtpMsg.{PtpMsg}
 use Rattle.wrp_base.specs.declared.network.LinkCfg.{LinkCfg}
+use Rattle.wrp_base.proofs.Naturals.{not_next}
 use Rattle.wrp_base.specs.declared.time.Raw.{Raw}
+use Rattle.wrp_base.proofs.Lists.{append_assoc}
 use Rattle.wrp_frame.specs.declared.fault.FrameFault.{FrameFault}
 use Rattle.wrp_world.specs.declared.event.Event.{Event}
 use Rattle.wrp_world.specs.declared.event.Event.TheVariants.{Depart, Arrive, Deliver}
 use Rattle.wrp_world.specs.declared.place.Place.{Place}
 use Rattle.wrp_world.specs.Checks.{AllHold}
+use Rattle.wrp_truth.proofs.TimedQueues.{three_ways}
 use Rattle.wrp_world.specs.Given.{given_by}
 use Rattle.wrp_world.specs.Moved.{arrived, departing, frame_after, moved, removed, samples_at, waiting_at}
 use Rattle.wrp_world.specs.Premises.{Accepts, deliver_by, deliver_checks}
@@ -23,8 +27,7 @@ use Rattle.wrp_truth.specs.FlightOrder.{FramesFollowTheSource}
 use Rattle.wrp_truth.specs.Leases.{last_renewal, renewal_in}
 use Rattle.wrp_truth.proofs.InOrder.{Numbered, Past, all_numbered, flies, frames_arrive_in_order, frames_depart_in_order, given_frame, on_fibre}
 use Rattle.wrp_truth.proofs.Renewals.{Renewal, renewal_is}
-use Rattle.wrp_truth.proofs.Suffixes.{appended, count_is, older_run}
-use Rattle.wrp_truth.proofs.Basics.{none_some, not_true, some_is}
+use Rattle.wrp_truth.proofs.Suffixes.{count_is, older_run}
 
 -- The event that renewed the lease last
 
@@ -39,14 +42,14 @@ record Handed (s : Setting) (events : List Happened) (k : ℕ) (link : LinkCfg) 
 
 by_event : (s : Setting) (w : WorldAt) (k : ℕ) (link : LinkCfg) (e : Event) (x : Sending) → renewal_in s w k link e ≡ Some x → (i : ℕ) × (e ≡ Deliver i) × Renewal s w i k link x
 by_event s w k link (Deliver i) x e = (i, refl, renewal_is s w i k link x e)
-by_event s w k link other x e = absurd (none_some x e)
+by_event s w k link other x e = absurd (none-some x e)
 
 first_or : (o p : Option Sending) (x : Sending) → option_or o p ≡ Some x → (o ≡ Some x) ⊎ (p ≡ Some x)
 first_or (Some y) p x e = inl e
 first_or None p x e = inr e
 
 handed : (s : Setting) (events : List Happened) (k : ℕ) (link : LinkCfg) (x : Sending) → last_renewal s k link events ≡ Some x → Handed s events k link x
-handed s [] k link x e = absurd (none_some x e)
+handed s [] k link x e = absurd (none-some x e)
 handed s (h ∷ before) k link x e =
     elim (first_or (renewal_in s (world_after s before) k link h.event) (last_renewal s k link before) x e) [
       | inl now ↦
@@ -59,7 +62,7 @@ handed s (h ∷ before) k link x e =
 
 -- what is handed over had arrived
 had_arrived : (s : Setting) (w : WorldAt) (i : ℕ) (f : FrameAt) (o : Option Arrival) → AllHold (deliver_by s w i f o) → (a : Arrival) × (o ≡ Some a)
-had_arrived s w i f None h = absurd (not_true (sym h.1.0))
+had_arrived s w i f None h = absurd (false≢true (sym h.1.0))
 had_arrived s w i f (Some a) h = (a, refl)
 
 -- A frame is kept
@@ -72,9 +75,6 @@ KeptAs f (Some g) = (g.link ≡ f.link) × (g.by ≡ f.by) × (g.sending ≡ f.s
 kept_removed : (s : Setting) (e : Event) (f : FrameAt) (o : Option FrameAt) → KeptAs f o → KeptAs f (option_map (removed s e) o)
 kept_removed s e f None h = h
 kept_removed s e f (Some g) h = h
-
-not_next : (i n : ℕ) → i ≤ n → (i == (n + 1)) ≡ true → ⊥
-not_next i n le e = let is : i ≡ n + 1 = eqb-true i (n + 1) e in omega (arith, le, is)
 
 kept_where : (f new : FrameAt) (b : Bool) (o : Option FrameAt) → (b ≡ true → ⊥) → KeptAs f o → KeptAs f (if b then Some new else o)
 kept_where f new true o h k = absurd (h refl)
@@ -91,7 +91,7 @@ kept_departing w f (Some place) stamp (oldest ∷ rest) i le h = kept_where f _ 
 
 kept_either : (s : Setting) (w : WorldAt) (m : ℕ) (raw : Raw) (f x g : FrameAt) (i : ℕ) (b : Bool) → (b ≡ true → g.arrival ≡ None) → KeptAs f (Some g) →
     KeptAs f (Some (if b then record g { arrival = Some (record { raw = raw; sample = samples_at s w x; at = w.time; moment = w.count }) } else record g { gone = g.gone || (is_on_fibre (Some g) && (nat_lt i m && ((g.link == x.link) && is_role g.by x.by))) }))
-kept_either s w m raw f x g i true h k = (k.0, k.1, k.2, k.3, λ a e. absurd (none_some a (sym (h refl) ∙ k.4 a e)))
+kept_either s w m raw f x g i true h k = (k.0, k.1, k.2, k.3, λ a e. absurd (none-some a (sym (h refl) ∙ k.4 a e)))
 kept_either s w m raw f x g i false h k = k
 
 kept_arrived : (s : Setting) (w : WorldAt) (says : Result PtpMsg FrameFault) (m : ℕ) (raw : Raw) (f : FrameAt) (i : ℕ) (q o : Option FrameAt) → Accepts s w says (Arrive m raw) → w.frame i ≡ o → KeptAs f o → KeptAs f (arrived s w m raw q i o)
@@ -123,9 +123,6 @@ kept_frame f (Some g) h = (g, refl, h)
 past_of : (departed count i : ℕ) (f : FrameAt) (a : Arrival) → f.arrival ≡ Some a → Numbered departed count i (Some f) → a.moment < count
 past_of departed count i f a e h = subst (Past count) e h.2
 
-three_ways : (i j : ℕ) → (i < j) ⊎ ((i ≡ j) ⊎ (j < i))
-three_ways i j = grind (arith)
-
 some_less : (a b c d e : ℕ) → a < b → b ≡ c → c + 1 ≤ d → d ≤ e + 1 → e < a → ⊥
 some_less a b c d e h1 h2 h3 h4 h5 = omega (arith, h1, h2, h3, h4, h5)
 
@@ -141,9 +138,9 @@ rest_length (y ∷ a) x b = let h : length b + 1 ≤ length (a ++ x ∷ b) = res
 
 -- the arrivals of two frames of which one is behind the other
 arrives_first : (o p : Option Arrival) (a b : Arrival) → o ≡ Some a → p ≡ Some b → IfSome o (λ x. IfSome p (λ y. x.moment < y.moment)) → a.moment < b.moment
-arrives_first (Some x) (Some y) a b e f h = subst (λ z. z.moment < b.moment) (some_is x a e) (subst (λ z. x.moment < z.moment) (some_is y b f) h)
-arrives_first None p a b e f h = absurd (none_some a e)
-arrives_first (Some x) None a b e f h = absurd (none_some b f)
+arrives_first (Some x) (Some y) a b e f h = subst (λ z. z.moment < b.moment) (same_Some x a e) (subst (λ z. x.moment < z.moment) (same_Some y b f) h)
+arrives_first None p a b e f h = absurd (none-some a e)
+arrives_first (Some x) None a b e f h = absurd (none-some b f)
 
 pub frames_follow_the_source : FramesHaveTimes → FramesFollowTheSource
 frames_follow_the_source times s since earlier k link source j g b run at_j link_is by_is arrival late =
@@ -153,15 +150,15 @@ frames_follow_the_source times s since earlier k link source j g b run at_j link
     let w : WorldAt = world_after s was in
     let i : ℕ = it.number in
     let f : FrameAt = it.renewal.frame in
-    let whole : events ≡ (since ++ it.newer) ++ (it.hands ∷ was) = ap (λ l. since ++ l) it.splits ∙ sym (appended since it.newer (it.hands ∷ was)) in
+    let whole : events ≡ (since ++ it.newer) ++ (it.hands ∷ was) = ap (λ l. since ++ l) it.splits ∙ sym (append_assoc since it.newer (it.hands ∷ was)) in
     let run_there : IsRun s (it.hands ∷ was) = older_run s (since ++ it.newer) (it.hands ∷ was) (subst (IsRun s) whole run) in
     let accepted : Accepts s w it.hands.says (Deliver i) = subst (Accepts s w it.hands.says) it.event run_there.accepted.0 in
     let came : (a : Arrival) × (f.arrival ≡ Some a) = had_arrived s w i f f.arrival (subst (λ o. AllHold (deliver_checks s w i o)) it.renewal.there accepted) in
     let early : came.0.moment < w.count = past_of w.departed w.count i f came.0 came.1 (subst (Numbered w.departed w.count i) it.renewal.there (all_numbered s was i)) in
     let start : KeptAs f (w.frame i) = subst (KeptAs f) (sym it.renewal.there) (refl, refl, refl, refl, λ a e. e) in
     let kept_there : KeptAs f ((world_after s ((since ++ it.newer) ++ (it.hands ∷ was))).frame i) =
-    subst (λ l. KeptAs f ((world_after s l).frame i)) (appended (since ++ it.newer) (it.hands ∷ []) was)
-    (kept_on s ((since ++ it.newer) ++ (it.hands ∷ [])) was f i (subst (AllAccepted s) (whole ∙ sym (appended (since ++ it.newer) (it.hands ∷ []) was)) run.accepted) start) in
+    subst (λ l. KeptAs f ((world_after s l).frame i)) (append_assoc (since ++ it.newer) (it.hands ∷ []) was)
+    (kept_on s ((since ++ it.newer) ++ (it.hands ∷ [])) was f i (subst (AllAccepted s) (whole ∙ sym (append_assoc (since ++ it.newer) (it.hands ∷ []) was)) run.accepted) start) in
     let kept : KeptAs f ((world_after s events).frame i) = subst (λ l. KeptAs f ((world_after s l).frame i)) (sym whole) kept_there in
     let now : (x : FrameAt) × ((world_after s events).frame i ≡ Some x) × KeptAs f (Some x) = kept_frame f ((world_after s events).frame i) kept in
     let arrived_then : now.0.arrival ≡ Some came.0 = now.2.4 came.0 came.1 in
@@ -177,8 +174,8 @@ frames_follow_the_source times s since earlier k link source j g b run at_j link
           (frames_depart_in_order s events i j now.0 g run now.1 at_j less)
       | inr more ↦ elim more [
         | inl same ↦
-            let one : now.0 ≡ g = some_is now.0 g (sym now.1 ∙ ap (world_after s events).frame same ∙ at_j) in
-            let alike : came.0 ≡ b = some_is came.0 b (sym arrived_then ∙ ap (λ (x : FrameAt). x.arrival) one ∙ arrival) in
+            let one : now.0 ≡ g = same_Some now.0 g (sym now.1 ∙ ap (world_after s events).frame same ∙ at_j) in
+            let alike : came.0 ≡ b = same_Some came.0 b (sym arrived_then ∙ ap (λ (x : FrameAt). x.arrival) one ∙ arrival) in
             absurd (some_same came.0.moment w.count (length was) (length earlier) b.moment early count shorter late (ap (λ (x : Arrival). x.moment) (sym alike)))
         | inr greater ↦
             absurd (some_less came.0.moment w.count (length was) (length earlier) b.moment early count shorter late

@@ -19,13 +19,13 @@ use Rattle.wrp_world.specs.Runs.{IsRun}
 use Rattle.wrp_world.specs.Setting.{Setting, fixed_of}
 use Rattle.wrp_world.specs.WorldAt.{WorldAt}
 use Rattle.wrp_world.proofs.RunHanded.{not_early}
-use Rattle.wrp_world.proofs.RunTimes.{comes_up_down, step_time}
+use Rattle.wrp_world.proofs.RunTimes.{comes_up_down, step_time, not_up}
 use Rattle.wrp_truth.specs.Clocks.{TicksStepOnTime}
 use Rattle.wrp_truth.specs.Views.{ticks_at}
 use Rattle.wrp_truth.proofs.Inputs.{node_kept}
 use Rattle.wrp_truth.proofs.LeaseSources.{same_last}
 use Rattle.wrp_truth.proofs.OnTime.{on_time}
-use Rattle.wrp_truth.proofs.Parents.{IsCalmOf, calm_to, not_up, ticked_node}
+use Rattle.wrp_truth.proofs.Parents.{IsCalmOf, calm_to, ticked_node}
 use Rattle.wrp_truth.proofs.StepCalls.{IsCalm}
 
 calm_count : (input : Input) (ticks : ℕ) → IsCalm input → ticks_by input ticks ≡ ticks

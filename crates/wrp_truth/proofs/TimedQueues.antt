@@ -2,11 +2,13 @@
 use Rattle.std.proofs.Common.{◌≡◌, ◌⊎◌, inl, inr, ◌∙◌, refl, ap, sym, subst, ℕ, ◌+◌, ◌<◌, ◌≤◌, ◌==◌, ◌&&◌, ◌||◌, nat_lt, ℤ, Bool, true, false, if◌then◌else◌, List, [], ◌∷◌, ◌++◌, map, Option, None, Some, option_map, Result, arith}
 use Rattle.std.proofs.lemmas.Bool.{eqb-true}
 use Rattle.std.specs.List.{AllByRecursion}
+use Rattle.std.proofs.lemmas.Option.{same_Some}
 use Rattle.wrp_base.specs.declared.link.Role.{Role}
 use Rattle.wrp_base.specs.declared.link.Role.TheVariants.{Master, Slave}
 use Rattle.wrp_base.specs.declared.message.PtpMsg.{PtpMsg}
 use Rattle.wrp_base.specs.declared.network.LinkCfg.{LinkCfg}
 use Rattle.wrp_base.specs.declared.time.Raw.{Raw}
+use Rattle.wrp_base.proofs.Naturals.{eq_self}
 use Rattle.wrp_frame.specs.declared.fault.FrameFault.{FrameFault}
 use Rattle.wrp_node.specs.declared.interface.Input.TheVariants.{Tick as TickInput}
 use Rattle.wrp_node.specs.SetLaws.{EndsAreSet}
@@ -15,6 +17,7 @@ use Rattle.wrp_world.specs.declared.event.Event.{Event}
 use Rattle.wrp_world.specs.declared.event.Event.TheVariants.{Tick, Depart, Arrive, Down, Up, Cut}
 use Rattle.wrp_world.specs.declared.event.Swap.{Swap}
 use Rattle.wrp_world.specs.declared.place.Place.{Place}
+use Rattle.wrp_world.proofs.RunFrames.{with_swap_waiting}
 use Rattle.wrp_world.specs.Given.{Given, given_by, given_plain, gives, gives_all, sending, step_of, taken_of, world_step}
 use Rattle.wrp_world.specs.Moved.{arrived, behind_first, departing, frame_after, is_place, loses, moved, port_number, removed, samples_at, swap_at, waiting_at, with_swap}
 use Rattle.wrp_world.specs.Run.{Happened, world_after}
@@ -23,9 +26,7 @@ use Rattle.wrp_world.specs.Runs.{IsRun, WasPutOut}
 use Rattle.wrp_world.specs.Setting.{Setting, end_at, end_of, fixed_of, is_of, is_role, link_of, place_of}
 use Rattle.wrp_world.specs.WorldAt.{EndAt, FrameAt, Sending, WorldAt, is_on_fibre}
 use Rattle.wrp_world.proofs.RunFlights.{frames_have_times, times_keep}
-use Rattle.wrp_world.proofs.RunPorts.{self_equal}
 use Rattle.wrp_truth.specs.SequenceIds.{IsTimed}
-use Rattle.wrp_truth.proofs.Basics.{some_is}
 use Rattle.wrp_truth.proofs.IdsSent.{NoneSent, Where}
 use Rattle.wrp_truth.proofs.InOrder.{Numbered, all_numbered}
 use Rattle.wrp_truth.proofs.Inputs.{IsNoTick, IsNoTickOf, To, gives_to, no_tick_to, tick_or_not}
@@ -215,12 +216,8 @@ lost_line : (r : Role) (k : ℕ) (b : Bool) (e : EndAt) (frame : ℕ → Option 
 lost_line r k true e frame h = record { rising = tt; ahead = λ i. none_frame r k (frame i); apart = h.apart }
 lost_line r k false e frame h = h
 
-swapped_waiting : (o : Option Swap) (e : EndAt) → (with_swap o e).waiting ≡ e.waiting
-swapped_waiting None e = refl
-swapped_waiting (Some swap) e = refl
-
 swapped_line : (r : Role) (k : ℕ) (b : Bool) (o : Option Swap) (e : EndAt) (frame : ℕ → Option FrameAt) → InLine r k e.waiting frame → InLine r k (if b then with_swap o e else e).waiting frame
-swapped_line r k true o e frame h = subst (λ l. InLine r k l frame) (sym (swapped_waiting o e)) h
+swapped_line r k true o e frame h = subst (λ l. InLine r k l frame) (sym (with_swap_waiting o e)) h
 swapped_line r k false o e frame h = h
 
 -- an arrival
@@ -296,7 +293,7 @@ own_role Master = refl
 own_role Slave = refl
 
 place_is : (r : Role) (z : Place) (k : ℕ) → z.link ≡ k → z.role ≡ r → is_place (Some z) k r ≡ true
-place_is r z k l c = ap (λ i. (i == k) && is_role z.role r) l ∙ ap (λ q. (k == k) && is_role q r) c ∙ ap (λ b. b && is_role r r) (self_equal k) ∙ own_role r
+place_is r z k l c = ap (λ i. (i == k) && is_role z.role r) l ∙ ap (λ q. (k == k) && is_role q r) c ∙ ap (λ b. b && is_role r r) (eq_self k) ∙ own_role r
 
 first_ahead : (r : Role) (x : Sending) (ys rest : List Sending) → ys ≡ x ∷ rest → Rising r ys → Ahead r x (behind_first ys)
 first_ahead r x ys rest e h = subst (λ l. Ahead r x (behind_first l)) (sym e) (subst (Rising r) e h).0
@@ -364,7 +361,7 @@ in_line r ends s (h ∷ before) k link run is =
     (moved_line r s (world_after s before) h.event k (λ i. all_numbered s before i) (in_line r ends s before k link (run_before s h before run) is))
 
 -- two frames of one of them are one
-three_ways : (i j : ℕ) → (i < j) ⊎ ((i ≡ j) ⊎ (j < i))
+pub three_ways : (i j : ℕ) → (i < j) ⊎ ((i ≡ j) ⊎ (j < i))
 three_ways i j = grind (arith)
 
 not_less : (a b : ℕ) → a < b → a ≡ b → ⊥
@@ -381,7 +378,7 @@ departs_once ends s events k r link i j f g run is at_i at_j fl fb gl gb timed s
           absurd (not_less f.sending.moment g.sending.moment
           (subst (λ o. Apart r k o (Some g)) at_i (subst (λ o. Apart r k (w.frame i) o) at_j (line.apart i j less)) fl fb gl gb timed other) (ap (λ (x : Sending). x.moment) same))
       | inr more ↦ elim more [
-        | inl one ↦ some_is f g (sym at_i ∙ ap w.frame one ∙ at_j)
+        | inl one ↦ same_Some f g (sym at_i ∙ ap w.frame one ∙ at_j)
         | inr greater ↦
             absurd (not_less g.sending.moment f.sending.moment
             (subst (λ o. Apart r k o (Some f)) at_j (subst (λ o. Apart r k (w.frame j) o) at_i (line.apart j i greater)) gl gb fl fb other timed) (ap (λ (x : Sending). x.moment) (sym same)))

@@ -4,6 +4,7 @@ use Rattle.wrp_base.specs.declared.link.Role.{Role}
 use Rattle.wrp_base.specs.declared.link.Role.TheVariants.{Master, Slave}
 use Rattle.wrp_base.specs.declared.message.PtpMsg.{PtpMsg}
 use Rattle.wrp_base.specs.declared.network.LinkCfg.{LinkCfg}
+use Rattle.wrp_base.proofs.Lists.{append_assoc}
 use Rattle.wrp_frame.specs.declared.fault.FrameFault.{FrameFault}
 use Rattle.wrp_link.specs.declared.interface.LinkIn.TheVariants as link_in
 use Rattle.wrp_link.specs.LinkAt.{LinkAt}
@@ -43,7 +44,6 @@ use Rattle.wrp_truth.proofs.PutOut.{tick_puts}
 use Rattle.wrp_truth.proofs.ScheduleCounts.{due_at, turn_of, is_due_on}
 use Rattle.wrp_truth.proofs.Sendings.{PutOutIn, is_new}
 use Rattle.wrp_truth.proofs.StepSends.{both_each, due_each}
-use Rattle.wrp_truth.proofs.Suffixes.{appended}
 
 -- Inputs of a node
 
@@ -78,7 +78,7 @@ tick_sends set Master line locked certain master =
       none =
           both_each (λ m. IsTimed Master m.body → NoneSent m) signals announce (signals_where NoneSent Master set line.ids.signal (link_sends_of line.link (link_in.Tick locked)))
           (due_each (λ m. IsTimed Master m.body → NoneSent m) (announces_on now) (announce_of set now.link certain now.ids.announce) (λ e t. t));
-      is = ap (λ r. signals ++ scheduled_sends set r now certain) master ∙ sym (appended signals announce (where_due (syncs_on now) (sync_of set now.ids.sync)));
+      is = ap (λ r. signals ++ scheduled_sends set r now certain) master ∙ sym (append_assoc signals announce (where_due (syncs_on now) (sync_of set now.ids.sync)));
     }
 tick_sends set Slave line locked certain slave = record {
   before = signals_of set line.ids.signal (link_sends_of line.link (link_in.Tick locked));

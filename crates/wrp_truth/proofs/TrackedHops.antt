@@ -2,6 +2,7 @@
 use Rattle.std.proofs.Common.{◌≡◌, ◌∙◌, refl, ap, sym, subst, ℕ, zero, suc, ◌<◌, ℤ, pos, ◌-ℤ◌, ◌≤ℤ◌, unsigned_abs, true, false, is_some, List, [], ◌∷◌, length, Option, None, Some, option_map, arith}
 use Rattle.std.proofs.lemmas.Int.{ints}
 use Rattle.std.specs.Prelude.{option_and_then, slice_get}
+use Rattle.std.proofs.lemmas.Option.{same_Some}
 use Rattle.wrp_base.specs.declared.link.Deltas.{Deltas}
 use Rattle.wrp_base.specs.declared.link.ServoState.TheVariants.{Uninit, Track}
 use Rattle.wrp_base.specs.declared.network.LinkCfg.{LinkCfg}
@@ -22,7 +23,7 @@ use Rattle.wrp_servo.specs.Laws.{TrackHasChain, TrackIsNear}
 use Rattle.wrp_servo.specs.Measuring.{delay_of}
 use Rattle.wrp_servo.specs.Sampling.{est_of}
 use Rattle.wrp_servo.specs.Table.{is_track}
-use Rattle.wrp_truth.proofs.TrackedSets.{set_is}
+use Rattle.wrp_servo.proofs.Gone.{set_is}
 use Rattle.wrp_tracking.specs.Closeness.{IsWithin}
 use Rattle.wrp_tracking.specs.ErrorSum.{TrackFacts, estimate_of}
 use Rattle.wrp_tracking.specs.HopInTrack.{EstimateHolds, HopHolds, HopStands}
@@ -41,7 +42,6 @@ use Rattle.wrp_truth.specs.Views.{moment_at, moments_of}
 use Rattle.wrp_truth.proofs.HeldRuns.{core_at}
 use Rattle.wrp_truth.proofs.LinksAbove.{above_at, above_is}
 use Rattle.wrp_truth.proofs.Parents.{has_servo, with_servo}
-use Rattle.wrp_truth.proofs.Basics.{some_is}
 
 -- the laws that this stands on
 pub record TrackLaws : Type 0 where
@@ -86,8 +86,8 @@ pos_size t h = omega (arith, ints, h)
 has_limits : (s : Setting) → IsNetwork s → (n : ℕ) (link : LinkCfg) (hop : HopNumbers) (calls : List Call) → link_above s.cfg n ≡ Some link → numbers_of s.cfg n ≡ Some hop → HasLimits hop (run (settings_of (fixed_of s n)) calls).set
 has_limits s net n link hop calls above numbers =
     let it : _ = numbers_are s net n link above in
-    let track : unsigned_abs s.cfg.track_tau ≡ hop.track_tau = some_is (unsigned_abs s.cfg.track_tau) hop.track_tau (sym (ap (option_map (λ (h : HopNumbers). h.track_tau)) it.2) ∙ ap (option_map (λ (h : HopNumbers). h.track_tau)) numbers) in
-    let loop : unsigned_abs s.cfg.loop_tau ≡ hop.loop_tau = some_is (unsigned_abs s.cfg.loop_tau) hop.loop_tau (sym (ap (option_map (λ (h : HopNumbers). h.loop_tau)) it.2) ∙ ap (option_map (λ (h : HopNumbers). h.loop_tau)) numbers) in
+    let track : unsigned_abs s.cfg.track_tau ≡ hop.track_tau = same_Some (unsigned_abs s.cfg.track_tau) hop.track_tau (sym (ap (option_map (λ (h : HopNumbers). h.track_tau)) it.2) ∙ ap (option_map (λ (h : HopNumbers). h.track_tau)) numbers) in
+    let loop : unsigned_abs s.cfg.loop_tau ≡ hop.loop_tau = same_Some (unsigned_abs s.cfg.loop_tau) hop.loop_tau (sym (ap (option_map (λ (h : HopNumbers). h.loop_tau)) it.2) ∙ ap (option_map (λ (h : HopNumbers). h.loop_tau)) numbers) in
     let set : (run (settings_of (fixed_of s n)) calls).set ≡ (s.set n).servo = set_is (settings_of (fixed_of s n)) calls in
     record {
       track = ap (λ (z : ServoSet). z.track_tau) set ∙ ap (λ (z : NodeSet). z.servo.track_tau) (net.set n) ∙ pos_size s.cfg.track_tau net.accepted.ranges.track_tau.0 ∙ ap pos track;
@@ -113,7 +113,7 @@ pub record TrackStands (s : Setting) (events : List Happened) (k : ℕ) (link : 
   pub stands : HopStands hop (moment_at k link (world_after s events)) past deltas kept.four answer (core_at s events link.lower).phase.u
   pub limits : TrackFacts hop (est_of (core_at s events link.lower).phase.u kept) (e_tau (core_at s events link.lower).phase)
 
-new_state : Uninit ≡ Track → ⊥
+pub new_state : Uninit ≡ Track → ⊥
 new_state e = let f : false ≡ true = ap is_track e in cc
 
 pub track_stands : TrackLaws → (s : Setting) (events : List Happened) (k : ℕ) (link : LinkCfg) (hop : HopNumbers) → TrueRun s events → link_of s k ≡ Some link → numbers_of s.cfg link.lower ≡ Some hop → (core_at s events link.lower).state ≡ Track →
@@ -175,7 +175,7 @@ tracked_estimate laws s events k link hop est runs is numbers e told =
     let w : WorldAt = world_after s events in
     let v : Core = core_at s events link.lower in
     let it : TrackStands s events k link hop = track_stands laws s events k link hop runs is numbers e in
-    let same : est_of v.phase.u it.kept ≡ est = some_is (est_of v.phase.u it.kept) est (sym (ap (option_map (est_of v.phase.u)) it.is) ∙ told) in
+    let same : est_of v.phase.u it.kept ≡ est = same_Some (est_of v.phase.u it.kept) est (sym (ap (option_map (est_of v.phase.u)) it.is) ∙ told) in
     subst (λ z. IsWithin (estimate_error hop) z ((w.clock link.lower).off -ℤ (w.clock link.upper).off)) same
     (same_estimate (λ z. IsWithin (estimate_error hop) z ((w.clock link.lower).off -ℤ (w.clock link.upper).off)) v.phase.u it.kept it.deltas it.answer it.delay
     (laws.estimate hop (moment_at k link w) it.past it.deltas it.kept.four it.answer v.phase.u it.stands))

@@ -1,8 +1,8 @@
 -- The nodes take the inputs of an event one after another: what was given so far, and what one more makes of it.
-use Rattle.std.proofs.Common.{◌≡◌, ◌∙◌, refl, ap, ap₂, sym, subst, ℕ, zero, suc, ◌+◌, ◌<◌, ◌≤◌, ℤ, pos, true, List, [], ◌∷◌, ◌++◌, length, map, take, None, Some, slice_get, slice_set, slice_index_or, FitsSigned, to_z, of_z, arith}
+use Rattle.std.proofs.Common.{◌≡◌, ◌∙◌, refl, ap, ap₂, sym, subst, ℕ, zero, suc, ◌+◌, ◌<◌, ◌≤◌, ℤ, pos, true, List, [], ◌∷◌, ◌++◌, length, map, take, Some, slice_get, slice_set, slice_index_or, FitsSigned, to_z, of_z, arith}
 use Rattle.std.proofs.lemmas.Int.{to_z-of_z}
 use Rattle.std.proofs.lemmas.List.{take_all}
-use Rattle.std.proofs.lemmas.Option.{slice_get-get_or}
+use Rattle.std.proofs.lemmas.Option.{slice_get-get_or, none-some, same_Some}
 use Rattle.std.specs.Int.{w128}
 use Rattle.std.specs.List.{AllByRecursion, AllZip}
 use Rattle.wrp_base.specs.declared.configuration.NetCfg.{NetCfg}
@@ -27,19 +27,13 @@ use Rattle.wrp_world.proofs.Turned.{length_put, put_else}
 
 -- Lists, as far as a loop has come to them
 
-none_some : {A : Type 0} (x : A) → None ≡ Some x → ⊥
-none_some x e = cc
-
-some_same : {A : Type 0} (x y : A) → Some x ≡ Some y → x ≡ y
-some_same x y e = cc
-
 -- what stands at a place has its partner there
 zip_at : {A B : Type 0} (R : A → B → Type 0) (xs : List A) (ys : List B) (k : ℕ) (y : B) → AllZip R xs ys → slice_get ys k ≡ Some y →
     (x : A) × (slice_get xs k ≡ Some x) × R x y
-zip_at R [] [] k y h e = absurd (none_some y e)
+zip_at R [] [] k y h e = absurd (none-some y e)
 zip_at R [] (z ∷ ys) k y h e = absurd h
 zip_at R (x ∷ xs) [] k y h e = absurd h
-zip_at R (x ∷ xs) (z ∷ ys) zero y h e = (x, refl, subst (R x) (some_same z y e) h.0)
+zip_at R (x ∷ xs) (z ∷ ys) zero y h e = (x, refl, subst (R x) (same_Some z y e) h.0)
 zip_at R (x ∷ xs) (z ∷ ys) (suc k) y h e = zip_at R xs ys k y h.1 e
 
 zip_length : {A B : Type 0} (R : A → B → Type 0) (xs : List A) (ys : List B) → AllZip R xs ys → length xs ≡ length ys
@@ -51,14 +45,14 @@ zip_length R (x ∷ xs) (y ∷ ys) h = ap suc (zip_length R xs ys h.1)
 -- one more is given
 given_next : (s : Setting) (y : ℤ) (v : WorldAt) (gs : List Given) (k : ℕ) (g : Given) → slice_get gs k ≡ Some g →
     gives_all s y v (take (suc k) gs) ≡ gives s y (gives_all s y v (take k gs)) g
-given_next s y v [] k g e = absurd (none_some g e)
-given_next s y v (x ∷ gs) zero g e = ap (gives s y v) (some_same x g e)
+given_next s y v [] k g e = absurd (none-some g e)
+given_next s y v (x ∷ gs) zero g e = ap (gives s y v) (same_Some x g e)
 given_next s y v (x ∷ gs) (suc k) g e = given_next s y (gives s y v x) gs k g e
 
 steps_next : (s : Setting) (y : ℤ) (v : WorldAt) (gs : List Given) (k : ℕ) (g : Given) → slice_get gs k ≡ Some g →
     steps_of s y v (take (suc k) gs) ≡ steps_of s y v (take k gs) ++ (node_step_of s y (gives_all s y v (take k gs)) g ∷ [])
-steps_next s y v [] k g e = absurd (none_some g e)
-steps_next s y v (x ∷ gs) zero g e = ap (λ z. node_step_of s y v z ∷ []) (some_same x g e)
+steps_next s y v [] k g e = absurd (none-some g e)
+steps_next s y v (x ∷ gs) zero g e = ap (λ z. node_step_of s y v z ∷ []) (same_Some x g e)
 steps_next s y v (x ∷ gs) (suc k) g e = ap (λ rest. node_step_of s y v x ∷ rest) (steps_next s y (gives s y v x) gs k g e)
 
 seen_next : {A B : Type 0} (f : A → B) (xs : List A) (k : ℕ) (x : A) → k < length xs →
@@ -67,9 +61,9 @@ seen_next f [] k x h = absurd (omega arith)
 seen_next f (z ∷ xs) zero x h = refl
 seen_next f (z ∷ xs) (suc k) x h = ap (λ rest. f z ∷ rest) (seen_next f xs k x (omega arith))
 
-all_at : {A : Type 0} (P : A → Type 0) (xs : List A) (k : ℕ) (x : A) → AllByRecursion P xs → slice_get xs k ≡ Some x → P x
-all_at P [] k x h e = absurd (none_some x e)
-all_at P (z ∷ xs) zero x h e = subst P (some_same z x e) h.0
+pub all_at : {A : Type 0} (P : A → Type 0) (xs : List A) (k : ℕ) (x : A) → AllByRecursion P xs → slice_get xs k ≡ Some x → P x
+all_at P [] k x h e = absurd (none-some x e)
+all_at P (z ∷ xs) zero x h e = subst P (same_Some z x e) h.0
 all_at P (z ∷ xs) (suc k) x h e = all_at P xs k x h.1 e
 
 -- What was given so far
@@ -124,12 +118,12 @@ plain_is_no_frame Reset e f = grind (arith, f)
 
 -- an input behind the first is plain
 later_plain : {F : Type 0} (world : WorldOf F) (outs : List NodeOut) (k : ℕ) (out : NodeOut) → FirstAsks world outs → slice_get outs (suc k) ≡ Some out → is_plain out.input ≡ true
-later_plain world [] k out h e = absurd (none_some out e)
+later_plain world [] k out h e = absurd (none-some out e)
 later_plain world (first ∷ outs) k out h e = all_at (λ (o : NodeOut). is_plain o.input ≡ true) outs k out h.1 e
 
 first_asks : {F : Type 0} (world : WorldOf F) (outs : List NodeOut) (out : NodeOut) → FirstAsks world outs → slice_get outs 0 ≡ Some out → Asks world out.input
-first_asks world [] out h e = absurd (none_some out e)
-first_asks world (first ∷ outs) out h e = subst (λ (o : NodeOut). Asks world o.input) (some_same first out e) h.0
+first_asks world [] out h e = absurd (none-some out e)
+first_asks world (first ∷ outs) out h e = subst (λ (o : NodeOut). Asks world o.input) (same_Some first out e) h.0
 
 -- the first input's answer serves those behind it, which ask for none
 gave_next : {F : Type 0} (post : F → ℤ → ℤ → Type 0) (put : ℤ) (k : ℕ) (old now new : WorldOf F) (before after : List NodeOut) (out made : NodeOut) → FirstAsks old before →
@@ -164,7 +158,7 @@ nodes_of : (cfg : NetCfg) (outs : List NodeOut) → AllByRecursion (FitsGift cfg
 nodes_of cfg [] h = tt
 nodes_of cfg (out ∷ outs) h = (h.0.node, nodes_of cfg outs h.1)
 
-all_put : {A : Type 0} (P : A → Type 0) (xs : List A) (k : ℕ) (v : A) → P v → AllByRecursion P xs → AllByRecursion P (slice_set xs k v)
+pub all_put : {A : Type 0} (P : A → Type 0) (xs : List A) (k : ℕ) (v : A) → P v → AllByRecursion P xs → AllByRecursion P (slice_set xs k v)
 all_put P [] k v h all = tt
 all_put P (x ∷ xs) zero v h all = (h, all.1)
 all_put P (x ∷ xs) (suc k) v h all = (all.0, all_put P xs k v h all.1)

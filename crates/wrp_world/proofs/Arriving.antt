@@ -1,6 +1,7 @@
 -- A frame that arrives: of a plant as of the state that it stands for, with numbers in their sizes.
-use Rattle.std.proofs.Common.{◌≡◌, ◌∙◌, refl, ap, ap₂, sym, subst, ℕ, zero, suc, ◌+◌, ◌<◌, ◌≤◌, ◌^◌, ◌==◌, ◌||◌, ◌&&◌, nat_lt, ℤ, Bool, true, false, if◌then◌else◌, List, [], length, slice_get, Option, None, Some, option_map, arith}
+use Rattle.std.proofs.Common.{◌≡◌, ◌∙◌, refl, ap, ap₂, sym, subst, ℕ, suc, ◌+◌, ◌<◌, ◌≤◌, ◌^◌, ◌==◌, ◌||◌, ◌&&◌, nat_lt, Bool, true, false, if◌then◌else◌, List, length, Option, None, Some, option_map, arith}
 use Rattle.std.specs.Option.{option_map_or}
+use Rattle.std.proofs.lemmas.Option.{none-some, same_Some}
 use Rattle.wrp_base.specs.declared.link.Role.{Role}
 use Rattle.wrp_base.specs.declared.time.Raw.{Raw}
 use Rattle.wrp_base.specs.Network.{End}
@@ -15,24 +16,14 @@ use Rattle.wrp_world.specs.Moved.{arrived, arriving, moved, samples_at}
 use Rattle.wrp_world.specs.Moves.{Changed, Same, Stays, Turns}
 use Rattle.wrp_world.specs.Plant.{DepartedIs, FitsDeparted, FitsPlant, FramesAre, MaybeIs, PlantIs, ReceptionIs, SpanIs, frame_numbered, is_on}
 use Rattle.wrp_world.specs.Setting.{Setting, end_at, is_role, other_of}
-use Rattle.wrp_world.specs.Sizes.{IsDueBy, IsTimeBy}
 use Rattle.wrp_world.specs.WorldAt.{Arrival, FrameAt, WorldAt, is_on_fibre}
-use Rattle.wrp_world.proofs.Fitting.{plant_fits, same_clocks, same_spans, time_more}
+use Rattle.wrp_world.proofs.Fitting.{plant_fits, same_clocks, same_spans, time_more, due_more}
 use Rattle.wrp_world.proofs.Moving.{frames_turned, plant_is}
 use Rattle.wrp_world.proofs.NextArrivals.{on_alike}
 use Rattle.wrp_world.proofs.Turned.{all_stay, each_same, each_turned}
 
 none_from : (from : Place) → Some from ≡ None → ⊥
 none_from from e = cc
-
-some_same : (x y : Place) → Some x ≡ Some y → x ≡ y
-some_same x y e = cc
-
-none_is : (n : ℕ) → None ≡ Some n → ⊥
-none_is n e = cc
-
-number_is : (a b : ℕ) → Some a ≡ Some b → a ≡ b
-number_is a b e = cc
 
 -- One frame
 
@@ -77,8 +68,8 @@ abbrev pub samples_of : WorldAt → Option End → ℕ
 samples_of w o = option_map_or (λ end. (w.clock end.node).samples) o 0
 
 pub samples_at_end : (w : WorldAt) (o : Option End) (n x : ℕ) → option_map (λ end. end.node) o ≡ Some n → x ≡ (w.clock n).samples → x ≡ samples_of w o
-samples_at_end w None n x e h = absurd (none_is n e)
-samples_at_end w (Some end) n x e h = h ∙ ap (λ m. (w.clock m).samples) (sym (number_is end.node n e))
+samples_at_end w None n x e h = absurd (none-some n e)
+samples_at_end w (Some end) n x e h = h ∙ ap (λ m. (w.clock m).samples) (sym (same_Some end.node n e))
 
 -- All frames
 
@@ -101,7 +92,7 @@ frames_by s w j raw from r xs ys None None e k p a b t h = absurd (none_from fro
 frames_by s w j raw from r xs ys None (Some d) e k p a b t h = absurd k
 frames_by s w j raw from r xs ys (Some g) None e k p a b t h = absurd k
 frames_by s w j raw from r xs ys (Some g) (Some d) e k p a b t h =
-    let same : from ≡ from_of d = some_same from (from_of d) p in
+    let same : from ≡ from_of d = same_Some from (from_of d) p in
     frames_turned (Arrives j from r) (arriving s w j raw g) w (moved s w (Arrive j raw)) xs ys t refl
     (λ i. ap (λ q. arrived s w j raw q i (w.frame i)) e ∙ frame_by s w j raw g i (w.frame i))
     (λ i f x y q m. arrived_frame s w j raw g d r (suc i) f x y a (b ∙ ap (samples_from s w) same ∙ samples_alike s w g d k) k
@@ -144,9 +135,6 @@ none_arrives_is s w j raw old new c p h =
     (frames_stay s w j raw old.frames new.frames (w.frame j) (frame_numbered j old.frames) refl (h.frames.each j) p c.of_frames h.frames)
 
 -- Sizes
-
-due_more : (e : ℕ) (t : ℤ) → IsDueBy e t → IsDueBy (e + 1) t
-due_more e t h = omega arith
 
 either_fits : (links e : ℕ) (b : Bool) (x : Departed) (r : Reception) (g : Bool) → IsRaw r.raw → FitsDeparted links e x →
     FitsDeparted links (e + 1) (if b then record x { arrival = Some r } else record x { gone = g })

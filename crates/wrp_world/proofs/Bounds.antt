@@ -1,6 +1,6 @@
 -- What the premises on stamps and on beat bits leave true of an accepted event.
 use Rattle.std.proofs.Common.{◌≡◌, ◌∙◌, refl, ap, subst, ℕ, zero, suc, ◌+◌, ◌*◌, ◌/◌, ◌<◌, ◌≤◌, ◌&&◌, ◌||◌, ◌⊎◌, inl, inr, nat_le, nat_lt, ℤ, pos, ◌+ℤ◌, ◌-ℤ◌, ◌<ℤ◌, ◌≤ℤ◌, unsigned_abs, Bool, true, false, not, List, [], ◌∷◌, ◌++◌, map, Option, Some, arith}
-use Rattle.std.proofs.lemmas.Bool.{eqb-true}
+use Rattle.std.proofs.lemmas.Bool.{eqb-true, false≢true, true≢false}
 use Rattle.std.proofs.lemmas.Int.{ints}
 use Rattle.std.specs.Int.Signed.{le_z, lt_z}
 use Rattle.std.specs.Option.{option_map_or}
@@ -9,6 +9,7 @@ use Rattle.wrp_base.specs.declared.time.Raw.{Raw}
 use Rattle.wrp_base.specs.Clock.{period_of}
 use Rattle.wrp_base.specs.Division.{floor_quotient}
 use Rattle.wrp_base.specs.Network.{End}
+use Rattle.wrp_base.proofs.Integers.{pos_le}
 use Rattle.wrp_phase.specs.Beat.{beat_bit}
 use Rattle.wrp_phase.specs.BeatPattern.{KeepsBeatPattern, true_step, steps_past}
 use Rattle.wrp_stamp.specs.Merge.{quarter_of}
@@ -26,7 +27,7 @@ split : (xs ys : List Check) → AllHold (xs ++ ys) → AllHold xs × AllHold ys
 split [] ys h = (tt, h)
 split (x ∷ xs) ys h = let rest : AllHold xs × AllHold ys = split xs ys h.1 in ((h.0, rest.0), rest.1)
 
-holds_at : (f : ℕ → Check) (k first j : ℕ) → AllHold (map f (from_on k first)) → j < k → (f (first + j)).fails ≡ false
+pub holds_at : (f : ℕ → Check) (k first j : ℕ) → AllHold (map f (from_on k first)) → j < k → (f (first + j)).fails ≡ false
 holds_at f zero first j h l = absurd (omega arith)
 holds_at f (suc k) first zero h l = subst (λ n. (f n).fails ≡ false) (omega arith) h.0
 holds_at f (suc k) first (suc j) h l =
@@ -37,33 +38,27 @@ holds_from f k i h l =
     let e : 0 + i ≡ i = omega arith in
     subst (λ n. (f n).fails ≡ false) e (holds_at f k 0 i h l)
 
-apart : true ≡ false → ⊥
-apart e = cc
-
-away : false ≡ true → ⊥
-away e = cc
-
 -- what the event needs stands
 stood : (b : Bool) → AllHold (stands b ∷ []) → b ≡ true
 stood true h = refl
-stood false h = absurd (apart h.0)
+stood false h = absurd (true≢false h.0)
 
 -- ---- truth values
 
 left_of : (a b c : Bool) → ((a && not b) || c) ≡ false → a ≡ true → b ≡ true
 left_of true true c h e = refl
-left_of true false c h e = absurd (apart h)
-left_of false b c h e = absurd (away e)
+left_of true false c h e = absurd (true≢false h)
+left_of false b c h e = absurd (false≢true e)
 
 right_of : (d a b : Bool) → (d || (a && not b)) ≡ false → a ≡ true → b ≡ true
 right_of false true true h e = refl
-right_of false true false h e = absurd (apart h)
-right_of true a b h e = absurd (apart h)
-right_of false false b h e = absurd (away e)
+right_of false true false h e = absurd (true≢false h)
+right_of true a b h e = absurd (true≢false h)
+right_of false false b h e = absurd (false≢true e)
 
 both_of : (a b : Bool) → (a && b) ≡ false → a ≡ true → b ≡ false
 both_of true b h e = h
-both_of false b h e = absurd (away e)
+both_of false b h e = absurd (false≢true e)
 
 is_below : (x y : ℤ) → x <ℤ y → lt_z x y ≡ true
 is_below x y h = grind (arith, ints)
@@ -71,7 +66,7 @@ is_below x y h = grind (arith, ints)
 is_at_most : (x y : ℤ) → x ≤ℤ y → le_z x y ≡ true
 is_at_most x y h = grind (arith, ints)
 
-holds_most : (x y : ℤ) → not (le_z x y) ≡ false → x ≤ℤ y
+pub holds_most : (x y : ℤ) → not (le_z x y) ≡ false → x ≤ℤ y
 holds_most x y h = grind (arith, ints)
 
 -- ---- the beat pattern
@@ -104,9 +99,6 @@ sample_keeps s w says n base bits k link h e f =
 same_number : (c : ℕ) (due : ℤ) → pos (unsigned_abs (pos c -ℤ due)) ≤ℤ pos 0 → pos c ≡ due
 same_number c due h = omega (arith, ints, h)
 
-small_tag : (d e : ℕ) → pos d ≤ℤ pos e → d ≤ e
-small_tag d e h = omega (arith, ints, h)
-
 rise : (q e p : ℕ) → q ≤ p + e → p < 3 * q + e → (nat_le q (p + e) && nat_lt p (3 * q + e)) ≡ true
 rise q e p h k = grind arith
 
@@ -122,7 +114,7 @@ rises clock e_tag place h = rise (quarter_of clock) e_tag place h.0 h.1
 
 bound : (clock : Clock) (e_tag transition : ℕ) (at : ℤ) (raw : Raw) → AllHold (raw_checks clock e_tag transition at raw) → KeepsStampBound clock raw transition e_tag at
 bound clock e_tag transition at raw h = record {
-  tag = small_tag _ e_tag (holds_most _ _ h.0);
+  tag = pos_le _ e_tag (holds_most _ _ h.0);
   rising = λ may. same_number raw.rising (floor_quotient at (pos (period_of clock)))
       (holds_most _ _ (both_of _ _ h.1.0 (rises clock e_tag (true_place clock at) may)));
   falling = λ may. same_number raw.falling (floor_quotient (at +ℤ pos (period_of clock / 2)) (pos (period_of clock)))
@@ -131,7 +123,7 @@ bound clock e_tag transition at raw h = record {
 
 on_fibre : (s : Setting) (w : WorldAt) (i : ℕ) (raw : Raw) (f : FrameAt) (b : Bool) → AllHold (arrive_checks s w i raw b (Some f)) → AllHold (received s w f raw)
 on_fibre s w i raw f true h = (split (received s w f raw) (stands (has_carrier s w f.link) ∷ []) h.1).0
-on_fibre s w i raw f false h = absurd (apart h.0)
+on_fibre s w i raw f false h = absurd (true≢false h.0)
 
 pub arrival_keeps : ArrivalKeepsStampBound
 arrival_keeps s w says i raw f end h e g =

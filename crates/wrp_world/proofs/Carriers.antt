@@ -1,5 +1,5 @@
 -- Carriers that go and come: what the code lists at the ends of a link is what is given there.
-use Rattle.std.proofs.Common.{◌≡◌, ◌∙◌, refl, ap, ap₂, sym, subst, ℕ, ℤ, pos, ◌<◌, ◌==◌, ◌&&◌, ◌||◌, Bool, true, false, if◌then◌else◌, List, [], ◌∷◌, ◌++◌, slice_get, Option, None, Some, option_map, option_and_then, arith}
+use Rattle.std.proofs.Common.{◌≡◌, ◌∙◌, refl, ap, ap₂, sym, subst, ℕ, ℤ, pos, ◌<◌, ◌==◌, ◌&&◌, ◌||◌, Bool, true, false, if◌then◌else◌, List, [], ◌∷◌, ◌++◌, slice_get, Option, None, Some, option_map, option_and_then}
 use Rattle.std.specs.List.{AllZip}
 use Rattle.std.specs.Option.{option_map_or}
 use Rattle.arrayvec.specs.ArrayVec.{ArrayVec}
@@ -9,6 +9,7 @@ use Rattle.wrp_base.specs.declared.link.Role.{Role}
 use Rattle.wrp_base.specs.declared.link.Role.TheVariants.{Master, Slave}
 use Rattle.wrp_base.specs.declared.network.LinkCfg.{LinkCfg}
 use Rattle.wrp_base.specs.Network.{End}
+use Rattle.wrp_base.proofs.Naturals.{eq_self}
 use Rattle.wrp_caldb.specs.Database.{Database, module_at}
 use Rattle.wrp_node.specs.declared.interface.Input.TheVariants.{Carrier}
 use Rattle.wrp_world.specs.declared.event.Event.TheVariants.{Join}
@@ -26,9 +27,6 @@ use Rattle.wrp_world.specs.WorldAt.{EndAt, WorldAt, ends_are_up, has_carrier}
 use Rattle.wrp_world.proofs.PortNumbers.{has_end}
 
 -- An end of a link
-
-abbrev pair : End → ℕ × ℕ
-pair end = (end.node, end.port)
 
 abbrev unpair : ℕ × ℕ → End
 unpair p = record { node = p.0; port = p.1 }
@@ -98,13 +96,6 @@ at_no_place s w v plant n p gives h e =
     sym (ap (if_carried s v gives) (ap (λ (cfg : NetCfg). place_among n p 0 cfg.links.items) (sym h.cfg) ∙ e))
 
 -- A link that is joined
-
-eq_self : (n : ℕ) → (n == n) ≡ true
-eq_self n = grind arith
-
-joined_after : (b : Bool) (up : Bool) (old : Bool) → b ≡ true → ((if b then true else old) && up) ≡ up
-joined_after true up old e = refl
-joined_after false up old e = absurd (cc)
 
 pub joined_carrier : (s : Setting) (w : WorldAt) (k : ℕ) (ms sm : ℤ) → ends_are_up w.clock (link_of s k) ≡ has_carrier s (moved s w (Join k ms sm)) k
 joined_carrier s w k ms sm = rw (eq_self k) refl

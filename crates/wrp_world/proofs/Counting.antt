@@ -1,6 +1,7 @@
 -- What is told of numbers, one after another, and of a list as of its places.
 use Rattle.std.proofs.Common.{◌≡◌, ◌∙◌, refl, ap, ap₂, sym, ℕ, suc, ◌+◌, ◌-◌, ◌<◌, ◌≤◌, List, [], ◌∷◌, ◌++◌, map, flat_map, length, Option, None, Some, slice_get, arith}
 use Rattle.std.specs.Option.{option_or}
+use Rattle.wrp_base.proofs.Naturals.{plus_zero}
 use Rattle.wrp_world.specs.Checks.{Check, told_of}
 use Rattle.wrp_world.specs.declared.checks.Breach.{Breach}
 use Rattle.wrp_world.specs.Setting.{from_on}
@@ -18,9 +19,6 @@ range_end f count i h =
     let e : count - i ≡ 0 = omega arith in
     ap (λ k. told_of (flat_map f (from_on k i))) e
 
-here : (first : ℕ) → first + 0 ≡ first
-here first = omega arith
-
 next : (first k : ℕ) → first + suc k ≡ (first + 1) + k
 next first k = omega arith
 
@@ -29,14 +27,14 @@ pub map_numbers : {A : Type 0} (f : A → Check) (g : ℕ → Check) (xs : List 
     ((k : ℕ) (x : A) → slice_get xs k ≡ Some x → f x ≡ g (first + k)) → map f xs ≡ map g (from_on (length xs) first)
 map_numbers f g [] first h = refl
 map_numbers f g (x ∷ xs) first h =
-    ap₂ (λ c cs. c ∷ cs) (h 0 x refl ∙ ap g (here first))
+    ap₂ (λ c cs. c ∷ cs) (h 0 x refl ∙ ap g (plus_zero first))
     (map_numbers f g xs (first + 1) (λ k y e. h (suc k) y e ∙ ap g (next first k)))
 
 pub flat_numbers : {A : Type 0} (f : A → List Check) (g : ℕ → List Check) (xs : List A) (first : ℕ) →
     ((k : ℕ) (x : A) → slice_get xs k ≡ Some x → f x ≡ g (first + k)) → flat_map f xs ≡ flat_map g (from_on (length xs) first)
 flat_numbers f g [] first h = refl
 flat_numbers f g (x ∷ xs) first h =
-    ap₂ (λ c cs. c ++ cs) (h 0 x refl ∙ ap g (here first))
+    ap₂ (λ c cs. c ++ cs) (h 0 x refl ∙ ap g (plus_zero first))
     (flat_numbers f g xs (first + 1) (λ k y e. h (suc k) y e ∙ ap g (next first k)))
 
 -- checks one after another, of which the first or a later part is told

@@ -2,7 +2,9 @@
 use Rattle.std.proofs.Common.{◌≡◌, ◌∙◌, refl, ap, ap₂, sym, subst, ℕ, zero, suc, ◌+◌, ◌*◌, ◌<◌, ◌≤◌, ◌^◌, ◌==◌, ◌&&◌, ℤ, pos, ◌+ℤ◌, unsigned_abs, Bool, true, false, if◌then◌else◌, List, [], ◌∷◌, ◌++◌, length, drop, option_to_list, slice_get, Option, None, Some, IfSome, OnOk, Result, Ok, Err, vec_len, vec_capacity, arith}
 use Rattle.std.proofs.lemmas.Int.{ints}
 use Rattle.std.proofs.lemmas.List.{append-nil}
+use Rattle.std.proofs.lemmas.Option.{none-some, same_Some}
 use Rattle.std.specs.List.{AllZip}
+use Rattle.std.proofs.lemmas.Bool.{true≢false}
 use Rattle.wrp_base.specs.declared.link.Role.{Role}
 use Rattle.wrp_base.specs.declared.link.Role.TheVariants.{Master, Slave}
 use Rattle.wrp_world.specs.declared.ends.EndState.{EndState}
@@ -22,19 +24,10 @@ use Rattle.wrp_world.specs.Setting.{Setting, is_role, place_of}
 use Rattle.wrp_world.specs.Sizes.{IsDelayBy, IsDueBy, IsTimeBy}
 use Rattle.wrp_world.specs.WorldAt.{EndAt, FrameAt, Sending, WorldAt, delay_from}
 use Rattle.wrp_world.proofs.EachLists.{length_push}
-use Rattle.wrp_world.proofs.Fitting.{FramesFit, frame_more, plant_fits, same_clocks, span_more, time_more}
+use Rattle.wrp_world.proofs.Fitting.{FramesFit, frame_more, plant_fits, same_clocks, span_more, time_more, delay_more, end_more, where_fits}
 use Rattle.wrp_world.proofs.Moving.{plant_is}
 use Rattle.wrp_world.proofs.Standing.{down_told, end_told}
 use Rattle.wrp_world.proofs.Turned.{each_same, each_turned}
-
-none_some : {A : Type 0} (x : A) → None ≡ Some x → ⊥
-none_some x e = cc
-
-some_same : {A : Type 0} (x y : A) → Some x ≡ Some y → x ≡ y
-some_same x y e = cc
-
-true_false : true ≡ false → ⊥
-true_false e = cc
 
 -- Ends
 
@@ -70,7 +63,7 @@ taken_span true role f m a x y r e p q =
 taken_span false role f m a x y r e p q =
     (ap (λ (z : Span). z.fibre) r ∙ e, subst (λ (z : Span). EndIs m z.master) (sym r) p, subst (λ (z : Span). EndIs a z.slave) (sym r) q)
 
-turned_about : (a b : ℕ) → (a == b) ≡ (b == a)
+pub turned_about : (a b : ℕ) → (a == b) ≡ (b == a)
 turned_about a b = grind arith
 
 -- Frames
@@ -158,7 +151,7 @@ none_of : (w : WorldAt) (stamp : ℤ) → NoneOf None w stamp
 none_of w stamp = (refl, λ i. refl, λ k r. refl)
 
 end_same : (b : Bool) (at : EndAt) (x : EndState) → b ≡ false → EndIs at x → EndIs (if b then behind at else at) x
-end_same true at x e h = absurd (true_false e)
+end_same true at x e h = absurd (true≢false e)
 end_same false at x e h = h
 
 pub none_departs_is : (s : Setting) (w : WorldAt) (n p : ℕ) (stamp : ℤ) (old new : Plant) → Changed Same Same Same old.time old new → place_of s n p ≡ None →
@@ -209,7 +202,7 @@ delay_told w k span Master h = down_told w k span h
 delay_told w k span Slave h =
     ap₂ (λ x y. x +ℤ pos y) (ap₂ (λ x f. pos x +ℤ f) h.slave.tx (ap (λ (f : FibreState). f.sm) h.fibre)) h.master.rx
 
-fits_end : (e : ℕ) (span : Span) (role : Role) → FitsSpan e span → FitsEnd e (end_in span role)
+pub fits_end : (e : ℕ) (span : Span) (role : Role) → FitsSpan e span → FitsEnd e (end_in span role)
 fits_end e span Master h = h.master
 fits_end e span Slave h = h.slave
 
@@ -229,35 +222,25 @@ due_fits e t d a h = let s : unsigned_abs (t +ℤ d) ≤ unsigned_abs t + unsign
 
 -- Sizes and memory
 
-where_to : {A : Type 0} (b : Bool) (C : A → A → Type 0) (P Q : A → Type 0) (x y : A) → Where b C x y → (C x y → P x → Q y) → (P x → Q x) → P x → Q y
-where_to true C P Q x y r f g p = f r p
-where_to false C P Q x y r f g p = subst Q (sym r) (g p)
-
 behind_fits : (e : ℕ) (xs : List PutOut) → Each (λ i out. IsTimeBy e out.at) xs → Each (λ i out. IsTimeBy (e + 1) out.at) (drop 1 xs)
 behind_fits e [] h i out g = time_more e out.at (h i out g)
 behind_fits e (x ∷ xs) h i out g = time_more e out.at (h (suc i) out g)
 
-end_more : (e : ℕ) (x : EndState) → FitsEnd e x → FitsEnd (e + 1) x
-end_more e x h = record { waiting = λ i out g. time_more e out.at (h.waiting i out g) }
-
 end_fits : (e : ℕ) (x y : EndState) → LosesOldest x y → FitsEnd e x → FitsEnd (e + 1) y
 end_fits e x y r h = record { waiting = subst (λ (l : List PutOut). Each (λ i out. IsTimeBy (e + 1) out.at) l) (sym r.waiting) (behind_fits e x.waiting.items h.waiting) }
-
-delay_more : (e : ℕ) (t : ℤ) → IsDelayBy e t → IsDelayBy (e + 1) t
-delay_more e t h = omega arith
 
 span_fits : (e : ℕ) (role : Role) (x y : Span) → TakesOldest role x y → FitsSpan e x → FitsSpan (e + 1) y
 span_fits e role x y r h = record {
   ms = subst (λ (f : FibreState). IsDelayBy (e + 1) f.ms) (sym r.fibre) (delay_more e x.fibre.ms h.ms);
   sm = subst (λ (f : FibreState). IsDelayBy (e + 1) f.sm) (sym r.fibre) (delay_more e x.fibre.sm h.sm);
-  master = where_to (is_role role Master) LosesOldest (FitsEnd e) (FitsEnd (e + 1)) x.master y.master r.master (end_fits e x.master y.master) (end_more e x.master) h.master;
-  slave = where_to (is_role role Slave) LosesOldest (FitsEnd e) (FitsEnd (e + 1)) x.slave y.slave r.slave (end_fits e x.slave y.slave) (end_more e x.slave) h.slave;
+  master = where_fits (is_role role Master) LosesOldest (FitsEnd e) (FitsEnd (e + 1)) x.master y.master r.master (end_fits e x.master y.master) (end_more e x.master) h.master;
+  slave = where_fits (is_role role Slave) LosesOldest (FitsEnd e) (FitsEnd (e + 1)) x.slave y.slave r.slave (end_fits e x.slave y.slave) (end_more e x.slave) h.slave;
 }
 
 each_append : {A : Type 0} (P : A → Type 0) (xs : List A) (o : Option A) → Each (λ i. P) xs → IfSome o P → Each (λ i. P) (xs ++ option_to_list o)
-each_append P [] None h k i x e = absurd (none_some x e)
-each_append P [] (Some y) h k zero x e = subst P (some_same y x e) k
-each_append P [] (Some y) h k (suc i) x e = absurd (none_some x e)
+each_append P [] None h k i x e = absurd (none-some x e)
+each_append P [] (Some y) h k zero x e = subst P (same_Some y x e) k
+each_append P [] (Some y) h k (suc i) x e = absurd (none-some x e)
 each_append P (z ∷ xs) o h k zero x e = h zero x e
 each_append P (z ∷ xs) o h k (suc i) x e = each_append P xs o (λ j y f. h (suc j) y f) k i x e
 
@@ -276,7 +259,7 @@ depart_fits place d old new c k few f =
     (omega (arith, count, more, new_count))
     (same_clocks old.events old.clocks.items new.clocks.items c.of_clocks f.clocks)
     (each_turned (At place.link (TakesOldest place.role)) (λ n. FitsSpan old.events) (λ n. FitsSpan (old.events + 1)) old.spans.items new.spans.items c.of_spans
-    (λ m x y r h. where_to (m == place.link) (TakesOldest place.role) (FitsSpan old.events) (FitsSpan (old.events + 1)) x y r (span_fits old.events place.role x y) (span_more old.events x) h) f.spans)
+    (λ m x y r h. where_fits (m == place.link) (TakesOldest place.role) (FitsSpan old.events) (FitsSpan (old.events + 1)) x y r (span_fits old.events place.role x y) (span_more old.events x) h) f.spans)
     (subst (FramesFit (length old.net.cfg.links.items) (old.events + 1)) (sym c.of_frames)
     (each_append (FitsDeparted (length old.net.cfg.links.items) (old.events + 1)) old.frames d (λ i x e. frame_more (length old.net.cfg.links.items) old.events x (f.frames i x e)) k))
 
@@ -288,15 +271,15 @@ end_room k x y r h = record {
 
 span_room : (k : ℕ) (role : Role) (x y : Span) → TakesOldest role x y → HasSpanRoom k x → HasSpanRoom k y
 span_room k role x y r h = record {
-  master = where_to (is_role role Master) LosesOldest (HasEndRoom k) (HasEndRoom k) x.master y.master r.master (end_room k x.master y.master) (λ q. q) h.master;
-  slave = where_to (is_role role Slave) LosesOldest (HasEndRoom k) (HasEndRoom k) x.slave y.slave r.slave (end_room k x.slave y.slave) (λ q. q) h.slave;
+  master = where_fits (is_role role Master) LosesOldest (HasEndRoom k) (HasEndRoom k) x.master y.master r.master (end_room k x.master y.master) (λ q. q) h.master;
+  slave = where_fits (is_role role Slave) LosesOldest (HasEndRoom k) (HasEndRoom k) x.slave y.slave r.slave (end_room k x.slave y.slave) (λ q. q) h.slave;
 }
 
 pub depart_room : (place : Place) (d : Option Departed) (old new : Plant) → Changed Same (Turns (At place.link (TakesOldest place.role))) (Grows d) old.time old new →
     (k : ℕ) → HasRoom k old → HasRoom k new
 depart_room place d old new c k h =
     each_turned (At place.link (TakesOldest place.role)) (λ i. HasSpanRoom k) (λ i. HasSpanRoom k) old.spans.items new.spans.items c.of_spans
-    (λ i x y r p. where_to (i == place.link) (TakesOldest place.role) (HasSpanRoom k) (HasSpanRoom k) x y r (span_room k place.role x y) (λ q. q) p) h
+    (λ i x y r p. where_fits (i == place.link) (TakesOldest place.role) (HasSpanRoom k) (HasSpanRoom k) x y r (span_room k place.role x y) (λ q. q) p) h
 
 -- What follows where a call answers Ok
 

@@ -10,10 +10,12 @@ use Rattle.wrp_base.specs.declared.link.Role.{Role}
 use Rattle.wrp_base.specs.declared.link.Role.TheVariants.{Master, Slave}
 use Rattle.wrp_base.specs.declared.message.PtpMsg.{PtpMsg}
 use Rattle.wrp_base.specs.declared.time.Raw.{Raw}
+use Rattle.wrp_base.proofs.Naturals.{eq_self}
 use Rattle.wrp_base.specs.Network.{End}
+use Rattle.wrp_base.proofs.Lists.{all_weaker}
 use Rattle.wrp_frame.specs.declared.fault.FrameFault.{FrameFault}
 use Rattle.wrp_frame.specs.SentOctets.{octets_of}
-use Rattle.wrp_link.specs.Table.{is_same, place_of as state_place}
+use Rattle.wrp_link.proofs.Deltas.{is_same_self}
 use Rattle.wrp_node.specs.declared.interface.Input.{Input}
 use Rattle.wrp_node.specs.declared.interface.Input.TheVariants.{Tick as TickInput, Sample as SampleInput, Frame, Sent, Carrier, Reset}
 use Rattle.wrp_node.specs.declared.interface.NodeSet.{NodeSet}
@@ -24,6 +26,7 @@ use Rattle.wrp_node.specs.NodeStep.{dropped}
 use Rattle.wrp_node.specs.StepLaws.{is_frame}
 use Rattle.wrp_node.specs.Telling.{Step}
 use Rattle.wrp_servo.specs.Call.{Call, CallLease, CallLink}
+use Rattle.wrp_node.proofs.Sends.{not_equal}
 use Rattle.wrp_world.specs.declared.clocks.ClockState.{ClockState}
 use Rattle.wrp_world.specs.declared.event.Event.{Event}
 use Rattle.wrp_world.specs.declared.event.Event.TheVariants.{Pass, Tick, Sample, Depart, Arrive, Deliver, Noise, Down, Up, Cut, Join}
@@ -34,8 +37,6 @@ use Rattle.wrp_world.specs.Run.{Happened, world_after}
 use Rattle.wrp_world.specs.Setting.{Setting, end_at, fixed_of, is_of, other_of, place_of}
 use Rattle.wrp_world.specs.WorldAt.{Arrival, EndAt, FrameAt, WorldAt, has_carrier, is_on_fibre}
 use Rattle.wrp_world.proofs.RunGifts.{AllGiven, all_if, comes_all, goes_all, ports_all, sent_all}
-use Rattle.wrp_world.proofs.RunPorts.{not_equal, self_equal}
-use Rattle.wrp_world.proofs.WordReports.{all_weaker}
 
 -- Between inputs the servo of each node knows of the lease and of WR_LINK_ON
 
@@ -85,9 +86,6 @@ run_settled settles s (h ∷ before) =
 
 -- What a dropped frame makes of the rest of the world
 
-same_state : (state : LinkState) → is_same state state ≡ true
-same_state state = self_equal (state_place state)
-
 end_same : (v : WorldAt) (g : Given) (state : LinkState) (e : EndAt) → end_told v g state state [] e ≡ e
 end_same v g state e = λ i. record {
   name = e.name;
@@ -95,7 +93,7 @@ end_same v g state e = λ i. record {
   rx = e.rx;
   waiting = append-nil e.waiting i;
   sent = e.sent;
-  marks = ap (λ (b : Bool). if b then e.marks else record { at = v.time; from = state; to = state; by = mover_of g g.input } ∷ e.marks) (same_state state) i;
+  marks = ap (λ (b : Bool). if b then e.marks else record { at = v.time; from = state; to = state; by = mover_of g g.input } ∷ e.marks) (is_same_self state) i;
 }
 
 end_where : (s : Setting) (v : WorldAt) (g : Given) (p reason : ℕ) (k : ℕ) (r : Role) (o : Option End) (b : Bool) →
@@ -104,7 +102,7 @@ end_where s v g p reason k r None true = refl
 end_where s v g p reason k r (Some end) true = end_same v g (link_at (s.set g.to) (v.node g.to) end.port).state (v.end_at k r)
 end_where s v g p reason k r o false = refl
 
-still : (off : ℤ) (period : ℕ) → off +ℤ (pos 0 *ℤ pos period) ≡ off
+pub still : (off : ℤ) (period : ℕ) → off +ℤ (pos 0 *ℤ pos period) ≡ off
 still off period = omega (arith, ints)
 
 clock_where : (s : Setting) (v : WorldAt) (g : Given) (p : ℕ) (octets : Items ℕ) (raw : Raw) (sample : ℕ) (b : Bool) (c : ClockState) → g.input ≡ Frame p octets raw sample →
@@ -167,7 +165,7 @@ noise_unmoved s w n p octets raw = record {
 -- One frame
 
 node_same : (s : Setting) (y : ℤ) (v : WorldAt) (g : Given) (x : Step) → (stepped_by s v g (taken_of y g) x).node g.to ≡ x.node
-node_same s y v g x = ap (λ (b : Bool). if b then x.node else v.node g.to) (self_equal g.to)
+node_same s y v g x = ap (λ (b : Bool). if b then x.node else v.node g.to) (eq_self g.to)
 
 node_other : (s : Setting) (y : ℤ) (v : WorldAt) (g : Given) (x : Step) (m : ℕ) → m ≢ g.to → (stepped_by s v g (taken_of y g) x).node m ≡ v.node m
 node_other s y v g x m h = ap (λ (b : Bool). if b then x.node else v.node m) (not_equal m g.to h)
@@ -268,7 +266,7 @@ all_so s before e says y h =
     all_weaker (λ (g : Given). LeavesIf s y (world_after s before) (moved s (world_after s before) e) gs g g.input) (λ (g : Given). DropsLeaveACount s before (came e says y) g.to g g.input)
     (λ g. leaves_so s before e says y gs refl g g.input) gs h
 
-abbrev NoFrame : Input → Type 0
+abbrev pub NoFrame : Input → Type 0
 NoFrame input = is_frame input ≡ false
 
 none_so : (s : Setting) (before : List Happened) (h : Happened) (g : Given) (input : Input) → NoFrame input → DropsLeaveACount s before h g.to g input

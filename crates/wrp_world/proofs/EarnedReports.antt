@@ -2,27 +2,29 @@
 use Rattle.std.proofs.Common.{◌≡◌, ◌∙◌, refl, ap, sym, subst, ℕ, ℤ, ◌==◌, Bool, true, false, if◌then◌else◌, List, [], ◌∷◌, Option, None, Some, is_some, Result}
 use Rattle.std.specs.List.{AllByRecursion, list_any}
 use Rattle.std.specs.Option.{option_map_or}
+use Rattle.std.proofs.lemmas.Option.{same_Some}
 use Rattle.wrp_base.specs.declared.link.LinkState.TheVariants.{LinkOn}
 use Rattle.wrp_base.specs.declared.link.LinkWord.TheVariants.{In}
 use Rattle.wrp_base.specs.declared.link.Role.{Role}
 use Rattle.wrp_base.specs.declared.link.Role.TheVariants.{Master, Slave}
 use Rattle.wrp_base.specs.declared.message.PtpMsg.{PtpMsg}
 use Rattle.wrp_base.specs.declared.network.LinkCfg.{LinkCfg}
+use Rattle.wrp_base.proofs.Naturals.{eq_self}
 use Rattle.wrp_base.specs.Network.{End}
+use Rattle.wrp_base.proofs.Lists.{all_weaker}
 use Rattle.wrp_frame.specs.declared.fault.FrameFault.{FrameFault}
-use Rattle.wrp_node.specs.declared.interface.Input.{Input}
 use Rattle.wrp_node.specs.declared.interface.NodeSet.{NodeSet}
 use Rattle.wrp_node.specs.declared.interface.Output.{Output}
 use Rattle.wrp_node.specs.declared.interface.Output.TheVariants.{Report}
 use Rattle.wrp_node.specs.declared.interface.Report.TheVariants.{Link}
 use Rattle.wrp_node.specs.LinkNews.{StepGivesLinks}
 use Rattle.wrp_node.specs.NodeAt.{NodeAt, link_at, numbers_of}
-use Rattle.wrp_node.specs.StepLaws.{is_frame}
 use Rattle.wrp_world.specs.declared.event.Event.{Event}
 use Rattle.wrp_world.specs.declared.event.Event.TheVariants.{Pass, Tick, Sample, Depart, Arrive, Deliver, Noise, Down, Up, Cut, Join}
 use Rattle.wrp_world.specs.declared.place.Place.{Place}
 use Rattle.wrp_world.specs.Earned.{AllHaveEarned, AreTrueReports, IsTrueReport, LinkOnIsEarned, ReportsAreTrue}
 use Rattle.wrp_world.specs.FitsGifts.{has_port}
+use Rattle.wrp_world.proofs.DroppedFrames.{NoFrame}
 use Rattle.wrp_world.specs.Given.{Given, comes_from, delivered, delivered_by, delivered_to, event_steps, given_by, gives, gives_all, goes_from, node_step_of, step_of, steps_of, taken_of, world_step}
 use Rattle.wrp_world.specs.Moved.{moved, waiting_at}
 use Rattle.wrp_world.specs.Run.{world_after}
@@ -33,13 +35,9 @@ use Rattle.wrp_world.specs.WorldAt.{Arrival, FrameAt, WorldAt, has_carrier}
 use Rattle.wrp_world.proofs.PortNumbers.{has-place}
 use Rattle.wrp_world.proofs.RunGifts.{AllGiven, all_if, comes_all, goes_all, ports_all, sent_all}
 use Rattle.wrp_world.proofs.RunNetwork.{LinkEnd, end_with, place_end}
-use Rattle.wrp_world.proofs.RunPorts.{self_equal}
-use Rattle.wrp_world.proofs.WordReports.{NotOn, WordSo, all_weaker, outputs_so, quiet_step, word_on}
+use Rattle.wrp_world.proofs.WordReports.{NotOn, WordSo, outputs_so, quiet_step, word_on}
 
 -- Ports in WR_LINK_ON
-
-some_same : {A : Type 0} (x y : A) → Some x ≡ Some y → x ≡ y
-some_same x y e = cc
 
 slave_on : (s : Setting) (w : WorldAt) (n p : ℕ) (r : Role) (own link : LinkCfg) → end_of r own ≡ end_with n p → own ≡ link → r ≡ Slave → state_at s w n p ≡ LinkOn →
     (link_at (s.set (end_of Slave link).node) (w.node (end_of Slave link).node) (end_of Slave link).port).state ≡ LinkOn
@@ -53,7 +51,7 @@ link_on_is_earned handshake deltas s events run n p place at on = record {
   deltas = λ link slave is.
       let it : LinkEnd s place.link place.role (end_with n p) = place_end s n p place at in
       deltas s events place.link link run is
-      (slave_on s (world_after s events) n p place.role it.link link it.end_is (some_same it.link link (sym it.there ∙ is)) slave on);
+      (slave_on s (world_after s events) n p place.role it.link link it.end_is (same_Some it.link link (sym it.there ∙ is)) slave on);
 }
 
 -- Inputs that are no frames
@@ -61,9 +59,6 @@ link_on_is_earned handshake deltas s events run n p place at on = record {
 true_report : (s : Setting) (w : WorldAt) (n : ℕ) (o : Output) → NotOn o → IsTrueReport s w n o
 true_report s w n (Report (Link p (In LinkOn))) h = absurd h
 true_report s w n _ h = tt
-
-abbrev NoFrame : Input → Type 0
-NoFrame input = is_frame input ≡ false
 
 quiet_steps : StepGivesLinks → (s : Setting) (y : ℤ) (w : WorldAt) (gs : List Given) (v : WorldAt) → AllGiven NoFrame gs → AllByRecursion (AreTrueReports s w) (steps_of s y v gs)
 quiet_steps links s y w [] v h = tt
@@ -84,7 +79,7 @@ placed_port s n p net among =
     is_place (place_of s n p) (sym (has-place s.cfg n p) ∙ own)
 
 node_here : (s : Setting) (y : ℤ) (v : WorldAt) (g : Given) → (gives s y v g).node g.to ≡ (step_of s y v g).node
-node_here s y v g = ap (λ (b : Bool). if b then (step_of s y v g).node else v.node g.to) (self_equal g.to)
+node_here s y v g = ap (λ (b : Bool). if b then (step_of s y v g).node else v.node g.to) (eq_self g.to)
 
 reported : (s : Setting) (y : ℤ) (v : WorldAt) (g : Given) → IsNetwork s → AllHaveEarned s (gives s y v g) → (o : Output) → WordSo (fixed_of s g.to) (v.node g.to) (step_of s y v g) o →
     IsTrueReport s (gives s y v g) g.to o

@@ -1,6 +1,7 @@
 -- What an event changes by itself keeps the sizes of the numbers of a plant.
 use Rattle.std.proofs.Common.{◌≡◌, ◌∙◌, ap, sym, subst, ℕ, ◌+◌, ◌<◌, ◌≤◌, ◌^◌, ◌==◌, ℤ, ◌+ℤ◌, Bool, true, false, List, length, slice_get, Option, None, Some, unsigned_abs, arith}
 use Rattle.std.proofs.lemmas.Int.{ints}
+use Rattle.std.proofs.lemmas.Option.{none-some}
 use Rattle.wrp_base.specs.declared.configuration.NetCfg.{NetCfg}
 use Rattle.wrp_base.specs.declared.network.LinkCfg.{LinkCfg}
 use Rattle.wrp_caldb.specs.Database.{Database}
@@ -19,9 +20,6 @@ use Rattle.wrp_world.specs.Plant.{Each, FitsClock, FitsDeparted, FitsEnd, FitsPl
 use Rattle.wrp_world.specs.Sizes.{IsTimeBy, IsOffBy, IsDelayBy, IsDueBy}
 use Rattle.wrp_world.proofs.Turned.{each_turned, each_same}
 
-none_some : {A : Type 0} (x : A) → None ≡ Some x → ⊥
-none_some x e = cc
-
 -- One event more
 
 pub time_more : (e : ℕ) (t : ℤ) → IsTimeBy e t → IsTimeBy (e + 1) t
@@ -30,13 +28,13 @@ time_more e t h = omega arith
 off_more : (e : ℕ) (t : ℤ) → IsOffBy e t → IsOffBy (e + 1) t
 off_more e t h = omega arith
 
-delay_more : (e : ℕ) (t : ℤ) → IsDelayBy e t → IsDelayBy (e + 1) t
+pub delay_more : (e : ℕ) (t : ℤ) → IsDelayBy e t → IsDelayBy (e + 1) t
 delay_more e t h = omega arith
 
-due_more : (e : ℕ) (t : ℤ) → IsDueBy e t → IsDueBy (e + 1) t
+pub due_more : (e : ℕ) (t : ℤ) → IsDueBy e t → IsDueBy (e + 1) t
 due_more e t h = omega arith
 
-abs_sum : (a b : ℤ) → unsigned_abs (a +ℤ b) ≤ unsigned_abs a + unsigned_abs b
+pub abs_sum : (a b : ℤ) → unsigned_abs (a +ℤ b) ≤ unsigned_abs a + unsigned_abs b
 abs_sum a b = omega (arith, ints)
 
 pub time_later : (e : ℕ) (t d : ℤ) → IsTimeBy e t → unsigned_abs d ≤ 2 ^ 63 → IsTimeBy (e + 1) (t +ℤ d)
@@ -51,7 +49,7 @@ delay_moved e t d h k = omega (arith, abs_sum t d)
 clock_more : (e : ℕ) (x : ClockState) → FitsClock e x → FitsClock (e + 1) x
 clock_more e x h = record { off = off_more e x.off h.off; ticked = time_more e x.ticked h.ticked; samples = omega (arith, h.samples) }
 
-end_more : (e : ℕ) (x : EndState) → FitsEnd e x → FitsEnd (e + 1) x
+pub end_more : (e : ℕ) (x : EndState) → FitsEnd e x → FitsEnd (e + 1) x
 end_more e x h = record { waiting = λ i out g. time_more e out.at (h.waiting i out g) }
 
 pub span_more : (e : ℕ) (x : Span) → FitsSpan e x → FitsSpan (e + 1) x
@@ -107,7 +105,7 @@ same_count e xs ys s h = omega (arith, s, h)
 
 -- What changes
 
-where_fits : {A : Type 0} (b : Bool) (C : A → A → Type 0) (P Q : A → Type 0) (x y : A) → Where b C x y → (C x y → P x → Q y) → (P x → Q x) → P x → Q y
+pub where_fits : {A : Type 0} (b : Bool) (C : A → A → Type 0) (P Q : A → Type 0) (x y : A) → Where b C x y → (C x y → P x → Q y) → (P x → Q x) → P x → Q y
 where_fits true C P Q x y r f g p = f r p
 where_fits false C P Q x y r f g p = subst Q (sym r) (g p)
 
@@ -145,7 +143,7 @@ join_fits e ms sm x y a b r h = record {
 
 emptied_fits : (e : ℕ) (x y : EndState) → Empties x y → FitsEnd e x → FitsEnd (e + 1) y
 emptied_fits e x y r h = record {
-  waiting = λ i out g. absurd (none_some out (sym (ap (λ l. slice_get l i) r.waiting) ∙ g));
+  waiting = λ i out g. absurd (none-some out (sym (ap (λ l. slice_get l i) r.waiting) ∙ g));
 }
 
 cut_fits : (e : ℕ) (x y : Span) → Cuts x y → FitsSpan e x → FitsSpan (e + 1) y

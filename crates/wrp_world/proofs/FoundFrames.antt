@@ -1,11 +1,11 @@
 -- A frame that is found by its number is the one of that number.
 use Rattle.std.proofs.Common.{◌≡◌, ◌∙◌, refl, ap, ap₂, sym, subst, ℕ, List, Option, None, Some, option_map, option_and_then}
+use Rattle.std.proofs.lemmas.Option.{none-some, same_Some}
 use Rattle.wrp_base.specs.Network.{End}
-use Rattle.wrp_frame.specs.SentOctets.{octets_of}
 use Rattle.wrp_world.specs.declared.frames.Departed.{Departed}
 use Rattle.wrp_world.specs.Plant.{MaybeIs, DepartedIs, FramesAre, frame_numbered}
 use Rattle.wrp_world.specs.Setting.{Setting, end_at}
-use Rattle.wrp_world.specs.Views.{octets_at, sender_of}
+use Rattle.wrp_world.specs.Views.{sender_of}
 use Rattle.wrp_world.specs.WorldAt.{WorldAt, FrameAt}
 
 -- what stands behind what was found
@@ -14,19 +14,13 @@ pub record Found {A B : Type 0} (R : A → B → Type 0) (a : Option A) (y : B) 
   pub is : a ≡ Some one
   pub holds : R one y
 
-no_some : {B : Type 0} (y : B) → None ≡ Some y → ⊥
-no_some y e = cc
-
-same : {B : Type 0} (z y : B) → Some z ≡ Some y → z ≡ y
-same z y e = cc
-
 pub found : {A B : Type 0} (R : A → B → Type 0) (a : Option A) (b : Option B) (y : B) → MaybeIs R a b → b ≡ Some y → Found R a y
-found R None None y h e = absurd (no_some y e)
+found R None None y h e = absurd (none-some y e)
 found R None (Some z) y h e = absurd h
 found R (Some x) None y h e = absurd h
-found R (Some x) (Some z) y h e = record { one = x; is = refl; holds = subst (R x) (same z y e) h }
+found R (Some x) (Some z) y h e = record { one = x; is = refl; holds = subst (R x) (same_Some z y e) h }
 
-some_no : {B : Type 0} (y : B) → Some y ≡ None → ⊥
+pub some_no : {B : Type 0} (y : B) → Some y ≡ None → ⊥
 some_no y e = cc
 
 pub missing : {A B : Type 0} (R : A → B → Type 0) (a : Option A) (b : Option B) → MaybeIs R a b → b ≡ None → a ≡ None
@@ -44,20 +38,3 @@ sender_found s w n frames d r h e f =
     let it : Found DepartedIs (w.frame n) d = found DepartedIs (w.frame n) (frame_numbered n frames) d (h.each n) e in
     f ∙ ap₂ (λ k b. option_map pair (end_at s k b)) it.holds.link it.holds.by
     ∙ sym (ap (λ (o : Option FrameAt). option_map pair (option_and_then (λ g. end_at s g.link g.by) o)) it.is)
-
-pub sender_missing : (s : Setting) (w : WorldAt) (n : ℕ) (frames : List Departed) →
-    FramesAre w frames → frame_numbered n frames ≡ None → None ≡ option_map pair (sender_of s w n)
-sender_missing s w n frames h e =
-    sym (ap (λ (o : Option FrameAt). option_map pair (option_and_then (λ g. end_at s g.link g.by) o))
-    (missing DepartedIs (w.frame n) (frame_numbered n frames) (h.each n) e))
-
-pub octets_found : (w : WorldAt) (n : ℕ) (frames : List Departed) (d : Departed) →
-    FramesAre w frames → frame_numbered n frames ≡ Some d → Some d.octets.items ≡ octets_at w n
-octets_found w n frames d h e =
-    let it : Found DepartedIs (w.frame n) d = found DepartedIs (w.frame n) (frame_numbered n frames) d (h.each n) e in
-    ap (λ o. Some o) it.holds.octets ∙ sym (ap (option_map (λ (f : FrameAt). octets_of f.sending.message)) it.is)
-
-pub octets_missing : (w : WorldAt) (n : ℕ) (frames : List Departed) →
-    FramesAre w frames → frame_numbered n frames ≡ None → None ≡ octets_at w n
-octets_missing w n frames h e =
-    sym (ap (option_map (λ (f : FrameAt). octets_of f.sending.message)) (missing DepartedIs (w.frame n) (frame_numbered n frames) (h.each n) e))

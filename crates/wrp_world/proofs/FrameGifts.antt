@@ -1,9 +1,11 @@
 -- What a frame gives as it is handed over and as it departs, and the other events that give one input at most.
-use Rattle.std.proofs.Common.{◌≡◌, ◌∙◌, refl, ap, ap₂, sym, subst, ℕ, ℤ, pos, ◌+◌, ◌<◌, ◌≤◌, ◌^◌, ◌==◌, unsigned_abs, true, false, List, [], ◌∷◌, length, slice_get, Option, None, Some, IfSome, option_map, Result, Ok, Err, arith}
+use Rattle.std.proofs.Common.{◌≡◌, ◌∙◌, refl, ap, ap₂, sym, subst, ℕ, ℤ, pos, ◌+◌, ◌<◌, ◌≤◌, ◌^◌, unsigned_abs, true, List, [], ◌∷◌, length, slice_get, Option, None, Some, IfSome, option_map, Result, Ok, Err, arith}
 use Rattle.std.proofs.lemmas.Int.{ints}
 use Rattle.std.specs.List.{AllByRecursion, AllZip}
 use Rattle.std.specs.Option.{option_map_or}
+use Rattle.std.proofs.lemmas.Option.{none-some, same_Some}
 use Rattle.arrayvec.specs.ArrayVec.{ArrayVec}
+use Rattle.std.proofs.lemmas.Bool.{true≢false}
 use Rattle.wrp_base.specs.declared.configuration.NetCfg.{NetCfg}
 use Rattle.wrp_base.specs.declared.link.Role.{Role}
 use Rattle.wrp_base.specs.declared.message.Body.{Body}
@@ -12,6 +14,7 @@ use Rattle.wrp_base.specs.declared.message.PtpMsg.{PtpMsg}
 use Rattle.wrp_base.specs.declared.time.Raw.{Raw}
 use Rattle.wrp_base.specs.declared.time.Stamp.{Stamp}
 use Rattle.wrp_base.specs.Network.{End, node_count}
+use Rattle.wrp_base.proofs.Naturals.{eq_self}
 use Rattle.wrp_frame.specs.declared.fault.FrameFault.{FrameFault}
 use Rattle.wrp_frame.specs.Grammar.{Spells}
 use Rattle.wrp_frame.specs.SentOctets.{octets_of}
@@ -38,10 +41,7 @@ use Rattle.wrp_world.specs.Plant.{DepartedIs, MaybeIs, PlantIs, PutOutIs, Recept
 use Rattle.wrp_world.specs.Premises.{Accepts, noise_checks}
 use Rattle.wrp_world.specs.Setting.{Setting, end_at, other_of, place_among, place_of}
 use Rattle.wrp_world.specs.WorldAt.{Arrival, FrameAt, Sending, WorldAt}
-use Rattle.wrp_world.proofs.FoundFrames.{Found, found, missing}
-
-eq_self : (n : ℕ) → (n == n) ≡ true
-eq_self n = grind arith
+use Rattle.wrp_world.proofs.FoundFrames.{Found, found, missing, some_no}
 
 -- Ranges
 
@@ -110,14 +110,11 @@ pub noise_gives_copied : (plant : Plant) (n p k : ℕ) (octets copy : ArrayVec �
 noise_gives_copied plant n p k octets copy raw e h port range is =
     subst (λ (o : ArrayVec ℕ). Gives plant (Noise n p octets raw) (listed (record { node = n; input = Frame p o raw k }) ∷ [])) (sym e) (noise_gives plant n p k octets raw h port range is)
 
-yes : true ≡ false → ⊥
-yes e = cc
-
 -- no port is there: the event is not accepted
 no_noise : (s : Setting) (w : WorldAt) (says : Result PtpMsg FrameFault) (n p : ℕ) (octets : ArrayVec ℕ) (raw : Raw) → place_of s n p ≡ None → Accepts s w says (Noise n p octets raw) → ⊥
 no_noise s w says n p octets raw none accepted =
     let h : AllHold (noise_checks s w n p says None) = subst (λ (o : Option Place). AllHold (noise_checks s w n p says o)) none accepted in
-    yes h.0
+    true≢false h.0
 
 pub no_noise_gives : (plant : Plant) (n p : ℕ) (octets : ArrayVec ℕ) (raw : Raw) → place_among n p 0 plant.net.cfg.links.items ≡ None → Gives plant (Noise n p octets raw) []
 no_noise_gives plant n p octets raw none = record {
@@ -151,26 +148,17 @@ received_is s f d a r end octets at e h k =
     (subst (λ (o : ArrayVec ℕ). AllZip (GiftIs d.sent) (delivered_to f a end.node end.port) (listed (record { node = end.node; input = Frame end.port o r.raw r.sample }) ∷ [])) (sym e)
     (received_zip d.sent f d a r end refl h k))
 
-no_some : {A : Type 0} (x : A) → None ≡ Some x → ⊥
-no_some x e = cc
-
-some_none : {A : Type 0} (x : A) → Some x ≡ None → ⊥
-some_none x e = cc
-
-same_some : {A : Type 0} (x y : A) → Some x ≡ Some y → x ≡ y
-same_some x y e = cc
-
 pub arrived_is : (s : Setting) (f : FrameAt) (put : ℤ) (a : Option Arrival) (o : Option Reception) (r : Reception) (gift : Gift) → MaybeIs ReceptionIs a o → o ≡ Some r →
     ((b : Arrival) → ReceptionIs b r → AllZip (GiftIs put) (delivered_by s f (Some b)) (listed gift ∷ [])) → AllZip (GiftIs put) (delivered_by s f a) (listed gift ∷ [])
-arrived_is s f put None None r gift h e is = absurd (no_some r e)
+arrived_is s f put None None r gift h e is = absurd (none-some r e)
 arrived_is s f put None (Some q) r gift h e is = absurd h
 arrived_is s f put (Some b) None r gift h e is = absurd h
-arrived_is s f put (Some b) (Some q) r gift h e is = is b (subst (ReceptionIs b) (same_some q r e) h)
+arrived_is s f put (Some b) (Some q) r gift h e is = is b (subst (ReceptionIs b) (same_Some q r e) h)
 
 pub not_arrived : (s : Setting) (f : FrameAt) (put : ℤ) (a : Option Arrival) (o : Option Reception) → MaybeIs ReceptionIs a o → o ≡ None → AllZip (GiftIs put) (delivered_by s f a) []
 not_arrived s f put None o h e = tt
 not_arrived s f put (Some b) None h e = absurd h
-not_arrived s f put (Some b) (Some q) h e = absurd (some_none q e)
+not_arrived s f put (Some b) (Some q) h e = absurd (some_no q e)
 
 few_entries : (gift : Option Gift) → length (entries_of gift) ≤ 37
 few_entries None = omega arith
@@ -230,16 +218,16 @@ none_spelled m fault r e f = err_ok m fault (sym e ∙ f)
 
 pub first_sent : (p : ℕ) (stamp : Stamp) (ws : List Sending) (xs : List PutOut) (out : PutOut) (input : Option Input) → AllZip PutOutIs ws xs → slice_get xs 0 ≡ Some out →
     ((m : PtpMsg) → Spells out.octets.items m → input ≡ sent_by p stamp m) → input ≡ sent_first p stamp ws
-first_sent p stamp [] [] out input h e is = absurd (no_some out e)
+first_sent p stamp [] [] out input h e is = absurd (none-some out e)
 first_sent p stamp [] (x ∷ xs) out input h e is = absurd h
 first_sent p stamp (w ∷ ws) [] out input h e is = absurd h
 first_sent p stamp (w ∷ ws) (x ∷ xs) out input h e is =
-    is w.message (subst (λ (o : PutOut). Spells o.octets.items w.message) (same_some x out e) h.0.says)
+    is w.message (subst (λ (o : PutOut). Spells o.octets.items w.message) (same_Some x out e) h.0.says)
 
 pub none_sent : (p : ℕ) (stamp : Stamp) (ws : List Sending) (xs : List PutOut) → AllZip PutOutIs ws xs → slice_get xs 0 ≡ None → None ≡ sent_first p stamp ws
 none_sent p stamp [] xs h e = refl
 none_sent p stamp (w ∷ ws) [] h e = absurd h
-none_sent p stamp (w ∷ ws) (x ∷ xs) h e = absurd (some_none x e)
+none_sent p stamp (w ∷ ws) (x ∷ xs) h e = absurd (some_no x e)
 
 to_node_fits : (cfg : NetCfg) (n : ℕ) (input : Option Input) → n < node_count cfg → IfSome input (FitsNode cfg n) → AllByRecursion (FitsGift cfg) (entries_of (to_node n input))
 to_node_fits cfg n None h k = tt

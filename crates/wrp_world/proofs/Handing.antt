@@ -1,6 +1,7 @@
 -- What is told of a frame that is handed over.
 use Rattle.std.proofs.Common.{◌≡◌, ◌∙◌, ap, sym, ℕ, pos, ◌-ℤ◌, true, false, List, [], ◌∷◌, Option, None, Some}
 use Rattle.std.specs.Option.{option_or, is_some}
+use Rattle.std.proofs.lemmas.Bool.{false≢true, true≢false}
 use Rattle.wrp_bounds.specs.Times.{frame_life}
 use Rattle.wrp_world.specs.Checks.{told_of, at_most, stands, not_sent}
 use Rattle.wrp_world.specs.declared.checks.Breach.{Breach}
@@ -18,16 +19,10 @@ pub age_told : (s : Setting) (w : WorldAt) (f : FrameAt) (d : Departed) (r : Opt
     r ≡ told_of (at_most 10 (w.time -ℤ d.sent) (pos (frame_life s.cfg)) ∷ []) → r ≡ told_of (too_old s.cfg w.time f.sending ∷ [])
 age_told s w f d r h e = e ∙ ap (λ sent. told_of (at_most 10 (w.time -ℤ sent) (pos (frame_life s.cfg)) ∷ [])) h.sent
 
-no : false ≡ true → ⊥
-no e = cc
-
-yes : true ≡ false → ⊥
-yes e = cc
-
 arrived_by : (s : Setting) (w : WorldAt) (n : ℕ) (f : FrameAt) (a : Option Arrival) (r : Option Reception) (age b : Option Breach) →
     MaybeIs ReceptionIs a r → is_some r ≡ true → age ≡ told_of (too_old s.cfg w.time f.sending ∷ []) →
     b ≡ option_or age (told_of (stands (has_carrier s w f.link) ∷ [])) → b ≡ told_of (deliver_by s w n f a)
-arrived_by s w n f a None age b m i e g = absurd (no i)
+arrived_by s w n f a None age b m i e g = absurd (false≢true i)
 arrived_by s w n f None (Some r) age b m i e g = absurd m
 arrived_by s w n f (Some a) (Some r) age b m i e g =
     g ∙ ap (λ o. option_or o (told_of (stands (has_carrier s w f.link) ∷ []))) e
@@ -36,7 +31,7 @@ arrived_by s w n f (Some a) (Some r) age b m i e g =
 waiting_by : (s : Setting) (w : WorldAt) (n : ℕ) (f : FrameAt) (a : Option Arrival) (r : Option Reception) (age b : Option Breach) →
     MaybeIs ReceptionIs a r → is_some r ≡ false → age ≡ told_of (too_old s.cfg w.time f.sending ∷ []) →
     b ≡ option_or age (told_of (not_sent n w.departed ∷ [])) → b ≡ told_of (deliver_by s w n f a)
-waiting_by s w n f a (Some r) age b m i e g = absurd (yes i)
+waiting_by s w n f a (Some r) age b m i e g = absurd (true≢false i)
 waiting_by s w n f (Some a) None age b m i e g = absurd m
 waiting_by s w n f None None age b m i e g =
     g ∙ ap (λ o. option_or o (told_of (not_sent n w.departed ∷ []))) e

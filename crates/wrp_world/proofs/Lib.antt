@@ -14,7 +14,7 @@ pub mod Overtaken
 mod Rows
 pub mod SignedReads
 pub mod Sizing
-mod Bounds
+pub mod Bounds
 pub mod Standing
 mod Still
 pub mod TakenLaws

@@ -1,8 +1,9 @@
 -- Inputs that are listed: one behind the other, and all that an event gives.
-use Rattle.std.proofs.Common.{◌≡◌, ◌∙◌, refl, ap, sym, subst, ℕ, ℤ, pos, ◌+◌, ◌<◌, ◌≤◌, List, [], ◌∷◌, ◌++◌, append_assoc, length, length-append, slice_set, OnOk, Option, None, Some, Result, Ok, Err, arith}
+use Rattle.std.proofs.Common.{◌≡◌, ◌∙◌, refl, ap, sym, subst, ℕ, ℤ, pos, ◌+◌, ◌≤◌, List, [], ◌∷◌, ◌++◌, append_assoc, length, length-append, OnOk, Option, None, Some, Result, Ok, Err, arith}
 use Rattle.std.specs.List.{AllByRecursion, AllZip}
 use Rattle.arrayvec.specs.ArrayVec.{ArrayVec}
 use Rattle.wrp_base.specs.declared.message.PtpMsg.{PtpMsg}
+use Rattle.wrp_base.proofs.Lists.{all_append}
 use Rattle.wrp_frame.specs.declared.fault.FrameFault.{FrameFault}
 use Rattle.wrp_node.specs.declared.interface.Output.{Output}
 use Rattle.wrp_node.specs.Set.{set_of}
@@ -13,21 +14,17 @@ use Rattle.wrp_world.specs.declared.plant.giving.listing.Gift.{Gift}
 use Rattle.wrp_world.specs.FitsGifts.{FitsGift}
 use Rattle.wrp_world.specs.Gifts.{GiftIs}
 use Rattle.wrp_world.specs.Given.{Given, given_by}
-use Rattle.wrp_world.specs.Giving.{Adds, Gives, IsListed, IsListedAlone, entries_of, listed, put_of}
+use Rattle.wrp_world.specs.Giving.{Adds, Gives, IsListed, entries_of, listed, put_of}
 use Rattle.wrp_world.specs.Moved.{moved}
 use Rattle.wrp_world.specs.Plant.{PlantIs}
 use Rattle.wrp_world.specs.Setting.{Setting}
 use Rattle.wrp_world.specs.WorldAt.{WorldAt}
 
-zip_append : {A B : Type 0} (R : A → B → Type 0) (xs us : List A) (ys vs : List B) → AllZip R xs ys → AllZip R us vs → AllZip R (xs ++ us) (ys ++ vs)
+pub zip_append : {A B : Type 0} (R : A → B → Type 0) (xs us : List A) (ys vs : List B) → AllZip R xs ys → AllZip R us vs → AllZip R (xs ++ us) (ys ++ vs)
 zip_append R [] us [] vs h k = k
 zip_append R [] us (y ∷ ys) vs h k = absurd h
 zip_append R (x ∷ xs) us [] vs h k = absurd h
 zip_append R (x ∷ xs) us (y ∷ ys) vs h k = (h.0, zip_append R xs us ys vs h.1 k)
-
-all_append : {A : Type 0} (P : A → Type 0) (xs ys : List A) → AllByRecursion P xs → AllByRecursion P ys → AllByRecursion P (xs ++ ys)
-all_append P [] ys h k = k
-all_append P (x ∷ xs) ys h k = (h.0, all_append P xs ys h.1 k)
 
 pub no_more : {A : Type 0} (xs : List A) → xs ≡ xs ++ []
 no_more [] = refl
@@ -114,16 +111,6 @@ gives_listed plant e None outs is h = subst (Gives plant e) (sym is) h
 gives_listed plant e (Some gift) outs is h = subst (Gives plant e) (sym is.items) (gives_alone plant e gift is.beside h)
 
 -- An entry that is used again
-
-pub alone_set : (xs : List NodeOut) (gift : Gift) (o v : NodeOut) → 0 < length xs → length xs ≤ 1 → v ≡ record o { node = gift.node; input = gift.input } →
-    IsListedAlone gift (slice_set xs 0 v)
-alone_set [] gift o v some few e = absurd (omega arith)
-alone_set (x ∷ []) gift o v some few e = record { beside = o.outs; items = ap (λ y. y ∷ []) e }
-alone_set (x ∷ (y ∷ xs)) gift o v some few e = absurd (omega arith)
-
-pub alone_added : (xs ys : List NodeOut) (gift : Gift) → length xs ≡ 0 → ys ≡ xs ++ (listed gift ∷ []) → IsListedAlone gift ys
-alone_added [] ys gift none e = record { beside = record { items = [] }; items = e }
-alone_added (x ∷ xs) ys gift none e = absurd (omega (arith, none))
 
 -- An event, as it stands in an arm
 

@@ -1,23 +1,17 @@
 -- The White Rabbit message of a frame: what the octets say is one, and only a Signaling has such a message.
-use Rattle.std.proofs.Common.{◌≡◌, ◌∙◌, refl, ap, sym, subst, ℕ, ◌%◌, ◌==◌, ℤ, Bool, true, false, if◌then◌else◌, List, [], ◌∷◌, None, Some, Result, Ok, Err, ◌↔◌, arith}
+use Rattle.std.proofs.Common.{◌≡◌, ◌∙◌, refl, ap, sym, subst, ℕ, ◌%◌, ◌==◌, ℤ, Bool, true, false, if◌then◌else◌, List, [], ◌∷◌, None, Some, Result, Ok, Err, arith}
 use Rattle.wrp_base.specs.declared.message.PtpMsg.{PtpMsg}
+use Rattle.wrp_base.proofs.Booleans.{not_both}
 use Rattle.wrp_frame.specs.Body.{body_at}
 use Rattle.wrp_frame.specs.declared.fault.FrameFault.{FrameFault}
 use Rattle.wrp_frame.specs.declared.message_type.MessageType.{MessageType}
 use Rattle.wrp_frame.specs.declared.message_type.MessageType.TheVariants.{Sync, DelayReq, FollowUp, DelayResp, Announce, Signaling}
-use Rattle.wrp_frame.specs.Faults.{IsFirstFault}
 use Rattle.wrp_frame.specs.Grammar.{Spells}
 use Rattle.wrp_frame.specs.Header.{kind_of}
 use Rattle.wrp_frame.specs.MessageTypes.{kind_numbered}
 use Rattle.wrp_node.specs.NodeRun.{Says}
 use Rattle.wrp_world.specs.Given.{in_body, in_frame}
 use Rattle.wrp_world.specs.Taking.{is_signaling}
-
--- what was read is what the octets say
-pub read_says : (octets : List ℕ) (r : Result PtpMsg FrameFault) → ((m : PtpMsg) → (r ≡ Ok m) ↔ Spells octets m) → ((f : FrameFault) → (r ≡ Err f) ↔ IsFirstFault f octets) →
-    (says : Result PtpMsg FrameFault) → Says octets says → r ≡ says
-read_says octets r spelled refused (Ok m) h = (spelled m).1 h
-read_says octets r spelled refused (Err f) h = (refused f).1 h
 
 sync_not : Some Sync ≡ Some Signaling → ⊥
 sync_not e = cc
@@ -59,10 +53,6 @@ no_message FollowUp tlvs octets put h = refl
 no_message DelayResp tlvs octets put h = refl
 no_message Announce tlvs octets put h = refl
 no_message Signaling tlvs octets put h = absurd (h refl)
-
-not_both : (b : Bool) → b ≡ true → b ≡ false → ⊥
-not_both true e f = grind (arith, f)
-not_both false e f = grind (arith, e)
 
 silent : (octets : List ℕ) (m : PtpMsg) (put : ℤ) → Spells octets m → is_signaling octets ≡ false → in_body m.body put ≡ None
 silent [] m put h e = absurd (omega (arith, h.header.whole))

@@ -1,6 +1,6 @@
 -- What an event changes by itself: of a plant as of the state that it stands for.
 use Rattle.std.proofs.Common.{◌≡◌, ◌∙◌, refl, ap, ap₂, sym, subst, ℕ, zero, suc, ◌+◌, ◌<◌, ◌==◌, ◌||◌, ◌&&◌, ℤ, ◌+ℤ◌, Bool, true, false, if◌then◌else◌, List, [], length, slice_get, Option, None, Some, option_map}
-use Rattle.std.proofs.lemmas.Option.{slice_get-get_or, slice_get_within}
+use Rattle.std.proofs.lemmas.Option.{slice_get-get_or, slice_get_within, none-some, same_Some}
 use Rattle.std.specs.List.{AllZip}
 use Rattle.arrayvec.specs.ArrayVec.{ArrayVec}
 use Rattle.std.specs.Option.{option_map_or}
@@ -10,6 +10,7 @@ use Rattle.wrp_base.specs.declared.link.Role.TheVariants.{Master, Slave}
 use Rattle.wrp_base.specs.declared.network.LinkCfg.{LinkCfg}
 use Rattle.wrp_base.specs.declared.time.Raw.{Raw}
 use Rattle.wrp_base.specs.Network.{End}
+use Rattle.wrp_node.proofs.Telling.{either_same}
 use Rattle.wrp_world.specs.declared.clocks.ClockState.{ClockState}
 use Rattle.wrp_world.specs.declared.ends.EndState.{EndState}
 use Rattle.wrp_world.specs.declared.ends.Span.{Span}
@@ -27,12 +28,6 @@ use Rattle.wrp_world.specs.Setting.{Setting, end_of, is_of}
 use Rattle.wrp_world.specs.WorldAt.{WorldAt, EndAt, FrameAt, is_on_fibre}
 use Rattle.wrp_world.proofs.NextArrivals.{on_alike}
 use Rattle.wrp_world.proofs.Turned.{Came, each_turned, each_same, all_stay}
-
-none_some : {A : Type 0} (x : A) → None ≡ Some x → ⊥
-none_some x e = cc
-
-some_same : {A : Type 0} (x y : A) → Some x ≡ Some y → x ≡ y
-some_same x y e = cc
 
 -- Frames
 
@@ -70,16 +65,16 @@ turned_by : (R : ℕ → Departed → Departed → Type 0) (g : ℕ → FrameAt 
     MaybeIs DepartedIs (option_map (g (suc i)) o) b
 turned_by R g xs ys t q i None None None d e h = tt
 turned_by R g xs ys t q i None None (Some y) d e h =
-    let it : Came R xs i y = t.1 i y e in absurd (none_some it.0 (sym d ∙ it.1))
+    let it : Came R xs i y = t.1 i y e in absurd (none-some it.0 (sym d ∙ it.1))
 turned_by R g xs ys t q i None (Some x) b d e h = absurd h
 turned_by R g xs ys t q i (Some f) None b d e h = absurd h
 turned_by R g xs ys t q i (Some f) (Some x) None d e h =
     let within : i < length xs = slice_get_within xs i x d in
     let there : i < length ys = subst (λ n. i < n) (sym t.0) within in
-    absurd (none_some _ (sym e ∙ slice_get-get_or ys i x there))
+    absurd (none-some _ (sym e ∙ slice_get-get_or ys i x there))
 turned_by R g xs ys t q i (Some f) (Some x) (Some y) d e h =
     let it : Came R xs i y = t.1 i y e in
-    q i f it.0 y it.2 (subst (DepartedIs f) (some_same x it.0 (sym d ∙ it.1)) h)
+    q i f it.0 y it.2 (subst (DepartedIs f) (same_Some x it.0 (sym d ∙ it.1)) h)
 
 turned_one : (R : ℕ → Departed → Departed → Type 0) (g : ℕ → FrameAt → FrameAt) (xs ys : List Departed) → Turns R xs ys →
     ((i : ℕ) (f : FrameAt) (x y : Departed) → R i x y → DepartedIs f x → DepartedIs (g (suc i) f) y) →
@@ -213,7 +208,7 @@ join_is s w k ms sm old new c h =
 
 -- What waits, and what is on a fibre, is lost
 
-emptied_list : (ys : List PutOut) → ys ≡ [] → AllZip PutOutIs [] ys
+pub emptied_list : (ys : List PutOut) → ys ≡ [] → AllZip PutOutIs [] ys
 emptied_list ys e = subst (AllZip PutOutIs []) (sym e) tt
 
 emptied : (at : EndAt) (x y : EndState) → Empties x y → EndIs at x → EndIs (record at { waiting = [] }) y
@@ -244,10 +239,6 @@ cut_is s w k old new c h =
     (frames_turned (LosesLink k) (λ i. removed s (Cut k)) w (moved s w (Cut k)) old.frames new.frames c.of_frames refl (λ i. refl)
     (λ i f x y r d. subst (DepartedIs (removed s (Cut k) f)) (sym r) (lost_frame s (Cut k) f x (x.link == k) (ap (λ l. l == k) d.link) d)) h.frames)
 
-same_if : {A : Type 0} (b : Bool) (x : A) → (if b then x else x) ≡ x
-same_if true x = refl
-same_if false x = refl
-
 touched : (s : Setting) (cfg : NetCfg) (n k : ℕ) → cfg ≡ s.cfg → touches_in n (slice_get cfg.links.items k) ≡ touches s n k
 touched s cfg n k e = ap (λ (c : NetCfg). touches_in n (slice_get c.links.items k)) e
 
@@ -261,7 +252,7 @@ down_is s w n old new c h =
     (each_turned (DropsAt n old.net.cfg.links.items) (SpanIs w) (SpanIs (moved s w (Down n))) old.spans.items new.spans.items c.of_spans
     (λ l x y r e.
     let j = lose_span (touches s n l) (λ (f : FibreState). f) (w.fibre l) _ _ x y (subst (λ b. Where b Drops x y) (touched s old.net.cfg n l h.cfg) r) e.fibre e.master e.slave in
-    record { fibre = j.0 ∙ same_if (touches s n l) (w.fibre l); master = j.1; slave = j.2 }) h.spans)
+    record { fibre = j.0 ∙ either_same (touches s n l) (w.fibre l); master = j.1; slave = j.2 }) h.spans)
     (frames_turned (LosesNode n old.net.cfg.links.items) (λ i. removed s (Down n)) w (moved s w (Down n)) old.frames new.frames c.of_frames refl (λ i. refl)
     (λ i f x y r d. subst (DepartedIs (removed s (Down n) f)) (sym r)
     (lost_frame s (Down n) f x (touches_in n (slice_get old.net.cfg.links.items x.link)) (touched s old.net.cfg n x.link h.cfg ∙ ap (touches s n) d.link) d)) h.frames)

@@ -1,6 +1,5 @@
 -- A plant before any event stands for the first state of a world.
 use Rattle.std.proofs.Common.{◌≡◌, refl, ap, sym, subst, ℕ, zero, suc, ◌<◌, ℤ, List, [], ◌∷◌, length, Option, None, Some, slice_get, option_and_then, arith}
-use Rattle.std.specs.List.{AllZip}
 use Rattle.std.specs.Option.{option_map_or}
 use Rattle.wrp_base.specs.declared.link.Module.{Module}
 use Rattle.wrp_base.specs.declared.link.Role.TheVariants.{Master, Slave}
@@ -13,11 +12,12 @@ use Rattle.wrp_world.specs.declared.ends.Span.{Span}
 use Rattle.wrp_world.specs.declared.fibres.FibreState.{FibreState}
 use Rattle.wrp_world.specs.declared.plant.Plant.{Plant}
 use Rattle.wrp_world.specs.New.{IsNewEnd, IsNewSpan, IsSpanOf, new_clock}
-use Rattle.wrp_world.specs.Plant.{Each, EndIs, SpanIs, FitsClock, FitsSpan, PlantIs, MaybeIs, DepartedIs, PutOutIs, frame_numbered}
+use Rattle.wrp_world.specs.Plant.{Each, EndIs, SpanIs, FitsClock, FitsSpan, PlantIs, MaybeIs, DepartedIs, frame_numbered}
 use Rattle.wrp_world.specs.Setting.{Setting, start_of, entry_at}
 use Rattle.wrp_world.specs.Sizes.{IsTimeBy, IsDelayBy}
 use Rattle.wrp_world.specs.WorldAt.{new_world, new_end, named_at}
 use Rattle.wrp_world.proofs.EachLists.{at_place, each_none}
+use Rattle.wrp_world.proofs.Moving.{emptied_list}
 
 -- what the code made of a network
 pub record IsNewPlant (s : Setting) (plant : Plant) : Type 0 where
@@ -30,15 +30,12 @@ pub record IsNewPlant (s : Setting) (plant : Plant) : Type 0 where
   pub spans : Each (IsSpanOf s.db s.cfg.links.items) plant.spans.items
   pub frames : plant.frames ≡ []
 
-none_wait : (xs : List PutOut) → xs ≡ [] → AllZip PutOutIs [] xs
-none_wait xs e = subst (AllZip PutOutIs []) (sym e) tt
-
 end_is : (name : List ℕ) (entry : Option Module) (end : EndState) → IsNewEnd name entry end → EndIs (new_end name entry) end
 end_is name entry end h = record {
   name = h.name_is;
   tx = h.tx;
   rx = h.rx;
-  waiting = none_wait end.waiting.items h.waiting;
+  waiting = emptied_list end.waiting.items h.waiting;
   marks = h.marks;
 }
 

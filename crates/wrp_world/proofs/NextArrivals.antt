@@ -1,6 +1,8 @@
 -- The frame that is due first among those that are kept is the next arrival of the state.
-use Rattle.std.proofs.Common.{◌≡◌, ◌∙◌, refl, ap, ap₂, sym, subst, ℕ, zero, suc, ◌+◌, ◌<◌, ◌≤◌, ◌⊎◌, ℤ, ◌<ℤ◌, Bool, true, false, if◌then◌else◌, List, [], ◌∷◌, length, Option, None, Some, slice_get, arith}
+use Rattle.std.proofs.Common.{◌≡◌, ◌∙◌, refl, ap, ap₂, sym, subst, ℕ, zero, suc, ◌+◌, ◌<◌, ◌≤◌, ◌⊎◌, ℤ, ◌<ℤ◌, true, false, if◌then◌else◌, List, [], ◌∷◌, length, Option, None, Some, slice_get, arith}
+use Rattle.std.proofs.lemmas.Option.{none-some, same_Some}
 use Rattle.std.specs.Option.{is_some}
+use Rattle.std.proofs.lemmas.Bool.{false_from_ne_true}
 use Rattle.wrp_world.specs.declared.frames.Departed.{Departed}
 use Rattle.wrp_world.specs.declared.frames.Reception.{Reception}
 use Rattle.wrp_world.specs.Plant.{MaybeIs, DepartedIs, ReceptionIs, FramesAre, frame_numbered, is_on, next_from}
@@ -19,20 +21,11 @@ pub on_alike : (f : FrameAt) (d : Departed) → DepartedIs f d → is_on_fibre (
 on_alike f d h =
     ap₂ (λ g a. if g then false else (if a then false else true)) (sym h.gone) (some_alike f.arrival d.arrival h.arrival)
 
-none_some : (d : Departed) → None ≡ Some d → ⊥
-none_some d e = cc
-
-none_frame : (f : FrameAt) → None ≡ Some f → ⊥
-none_frame f e = cc
-
-same_frame : (g f : FrameAt) → Some g ≡ Some f → g ≡ f
-same_frame g f e = cc
-
 no_sooner : (i : ℕ) (due : ℤ) (j : ℕ) (d : Departed) (f : FrameAt) → d.due ≡ f.due → (due <ℤ d.due) ⊎ ((due ≡ d.due) × (i ≤ j)) → IsNoSooner i due j f
 no_sooner i due j d f e h = subst (λ z. (due <ℤ z) ⊎ ((due ≡ z) × (i ≤ j))) e h
 
 within : (frames : List Departed) (i : ℕ) (d : Departed) → slice_get frames i ≡ Some d → i < length frames
-within [] i d e = absurd (none_some d e)
+within [] i d e = absurd (none-some d e)
 within (x ∷ frames) zero d e = omega arith
 within (x ∷ frames) (suc i) d e = let h : i < length frames = within frames i d e in omega (arith, h)
 
@@ -40,21 +33,17 @@ numbered_within : (frames : List Departed) (i : ℕ) (d : Departed) → frame_nu
 numbered_within frames zero d e = omega arith
 numbered_within frames (suc i) d e = let h : i < length frames = within frames i d e in omega (arith, h)
 
-not_true : (b : Bool) → (b ≡ true → ⊥) → b ≡ false
-not_true true h = absurd (h refl)
-not_true false h = refl
-
 none_on : (f : Option FrameAt) (i : ℕ) (frames : List Departed) (d : Option Departed) → MaybeIs DepartedIs f d →
     ((x : Departed) → d ≡ Some x → is_on x ≡ true → ⊥) → is_on_fibre f ≡ false
 none_on None i frames d h k = refl
 none_on (Some f) i frames None h k = absurd h
-none_on (Some f) i frames (Some d) h k = not_true (is_on_fibre (Some f)) (λ on. k d refl (sym (on_alike f d h) ∙ on))
+none_on (Some f) i frames (Some d) h k = false_from_ne_true (is_on_fibre (Some f)) (λ on. k d refl (sym (on_alike f d h) ∙ on))
 
 -- the kept frame that stands for a frame of the state
 kept_of : (a : Option FrameAt) (b : Option Departed) (f : FrameAt) → MaybeIs DepartedIs a b → a ≡ Some f → Found (λ (d : Departed) (g : FrameAt). DepartedIs g d) b f
-kept_of None b f h e = absurd (none_frame f e)
+kept_of None b f h e = absurd (none-some f e)
 kept_of (Some g) None f h e = absurd h
-kept_of (Some g) (Some d) f h e = record { one = d; is = refl; holds = subst (λ x. DepartedIs x d) (same_frame g f e) h }
+kept_of (Some g) (Some d) f h e = record { one = d; is = refl; holds = subst (λ x. DepartedIs x d) (same_Some g f e) h }
 
 from_best : (w : WorldAt) (frames : List Departed) (next : Option (ℕ × ℤ)) → FramesAre w frames →
     BestOf (λ i. frame_numbered i frames) (1 + length frames) next → IsNextArrival w next
@@ -80,7 +69,7 @@ one_more : (i : ℕ) → 1 + i ≡ suc i
 one_more i = omega arith
 
 none_below : (frames : List Departed) (j : ℕ) (d : Departed) → j < 1 → frame_numbered j frames ≡ Some d → ⊥
-none_below frames zero d h e = none_some d e
+none_below frames zero d h e = none-some d e
 none_below frames (suc j) d h e = absurd (omega arith)
 
 pub next_arrival : (w : WorldAt) (frames : List Departed) → FramesAre w frames → IsNextArrival w (next_from 1 frames None)

@@ -1,17 +1,19 @@
 -- A step of a node, as the node took its input: what the rest of the world is told of it is the step of the definition.
-use Rattle.std.proofs.Common.{◌≡◌, ◌∙◌, refl, ap, ap₂, sym, subst, ℕ, zero, suc, ◌==◌, ◌||◌, ◌≤◌, ◌^◌, ◌⊎◌, inl, inr, ℤ, pos, unsigned_abs, Bool, true, false, if◌then◌else◌, List, [], ◌∷◌, ◌++◌, length, map, flat_map, Option, None, Some, option_map, slice_get, Result, Ok, Err, arith}
+use Rattle.std.proofs.Common.{◌≡◌, ◌∙◌, refl, ap, ap₂, sym, subst, ℕ, zero, suc, ◌==◌, ◌||◌, ◌≤◌, ◌^◌, ◌⊎◌, inl, inr, ℤ, pos, unsigned_abs, Bool, true, false, if◌then◌else◌, List, [], ◌∷◌, ◌++◌, length, map, flat_map, Option, None, Some, option_map, slice_get, Result, arith}
 use Rattle.std.proofs.lemmas.Int.{ints}
+use Rattle.std.proofs.lemmas.Option.{none-some, same_Some}
 use Rattle.std.specs.List.{AllByRecursion, AllZip, list_any}
+use Rattle.std.proofs.lemmas.Bool.{false≢true, or_right}
 use Rattle.wrp_base.specs.declared.configuration.NetCfg.{NetCfg}
 use Rattle.wrp_base.specs.declared.link.Role.{Role}
 use Rattle.wrp_base.specs.declared.link.Role.TheVariants.{Master, Slave}
 use Rattle.wrp_base.specs.declared.message.PtpMsg.{PtpMsg}
 use Rattle.wrp_base.specs.declared.network.LinkCfg.{LinkCfg}
 use Rattle.wrp_base.specs.Network.{End, NamesNoPortTwice}
+use Rattle.wrp_base.proofs.Lists.{length_map}
 use Rattle.wrp_data.specs.declared.datasets.PortDs.{PortDs}
 use Rattle.wrp_frame.specs.declared.fault.FrameFault.{FrameFault}
 use Rattle.wrp_frame.specs.SentOctets.{octets_of}
-use Rattle.wrp_frame.proofs.Exact.{exactly_spelled, exactly_refused}
 use Rattle.wrp_link.specs.Table.{word_of}
 use Rattle.wrp_node.specs.declared.interface.Input.{Input}
 use Rattle.wrp_node.specs.declared.interface.Input.TheVariants.{Tick, Sample, Frame, Sent, Carrier, Reset}
@@ -20,7 +22,7 @@ use Rattle.wrp_node.specs.declared.interface.Output.{Output}
 use Rattle.wrp_node.specs.declared.interface.Output.TheVariants.{Send, Step as StepOf, Dac, Report as ReportOf}
 use Rattle.wrp_node.specs.declared.interface.Report.TheVariants.{Servo}
 use Rattle.wrp_node.specs.NodeAt.{Fixed, NodeAt, Taken, numbers_of, link_at, state_of}
-use Rattle.wrp_node.specs.NodeRun.{IsSaid, Says, dac_out, est_out, node_after, outputs_of, port_out, servo_out, step_out, track_out, word_out, place_of as place_in, frame_out}
+use Rattle.wrp_node.specs.NodeRun.{IsSaid, dac_out, est_out, node_after, outputs_of, port_out, servo_out, step_out, track_out, word_out, place_of as place_in, frame_out}
 use Rattle.wrp_node.specs.Node.{is_tick}
 use Rattle.wrp_node.specs.NodeStep.{node_step}
 use Rattle.wrp_node.specs.New.{OfDifferentNumbers}
@@ -34,7 +36,9 @@ use Rattle.wrp_node.specs.Telling.{Step}
 use Rattle.wrp_node.proofs.OwnPorts.{different_numbers}
 use Rattle.wrp_node.proofs.Sends.{sends_are_put_out}
 use Rattle.wrp_node.proofs.Spelling.{among_is_port}
+use Rattle.wrp_node.proofs.OneRun.{ok_of}
 use Rattle.wrp_node.proofs.StepLaws.{commands_are_held, only_frames_say, sends_are_few, ticks_are_counted}
+use Rattle.wrp_node.proofs.Indexing.{eq_is}
 use Rattle.wrp_world.specs.declared.outcome.NodeOut.{NodeOut}
 use Rattle.wrp_world.specs.declared.plant.told.News.{News}
 use Rattle.wrp_world.specs.Gifts.{IsRead}
@@ -46,12 +50,6 @@ use Rattle.wrp_world.specs.StandsFor.{WorldOf}
 use Rattle.wrp_world.specs.WorldAt.{WorldAt}
 
 -- What is noted beside an input
-
-one_reading : (octets : List ℕ) (a : Result PtpMsg FrameFault) → Says octets a → (b : Result PtpMsg FrameFault) → Says octets b → a ≡ b
-one_reading octets (Ok m) h (Ok k) g = (exactly_spelled octets (Ok m) h tt k).1 g
-one_reading octets (Ok m) h (Err f) g = (exactly_refused octets (Ok m) h tt f).1 g
-one_reading octets (Err e) h (Ok k) g = (exactly_spelled octets (Err e) tt h k).1 g
-one_reading octets (Err e) h (Err f) g = (exactly_refused octets (Err e) tt h f).1 g
 
 pub read_is_said : (put : ℤ) (says : Result PtpMsg FrameFault) (at : ℤ) (input : Input) → IsRead put says at input → IsSaid input says
 read_is_said put says at (Frame p octets raw sample) h = h.0
@@ -77,7 +75,7 @@ same_step : (fixed : Fixed) (n : NodeAt) (input : Input) (says other : Result Pt
     IsSaid input says → IsSaid input other → (is_frame input ≡ true → y ≡ answer) →
     node_step fixed (took input other y) n ≡ node_step fixed (took input says answer) n
 same_step fixed n (Frame p octets raw sample) says other y answer h k e =
-    ap₂ (λ (r : Result PtpMsg FrameFault) (z : ℤ). node_step fixed (took (Frame p octets raw sample) r z) n) (one_reading octets.items other k says h) (e refl)
+    ap₂ (λ (r : Result PtpMsg FrameFault) (z : ℤ). node_step fixed (took (Frame p octets raw sample) r z) n) (ok_of octets.items other k says h) (e refl)
 same_step fixed n Tick says other y answer h k e = only_frames_say fixed n Tick other says y answer refl
 same_step fixed n (Sample m base bits) says other y answer h k e = only_frames_say fixed n (Sample m base bits) other says y answer refl
 same_step fixed n (Sent p seq delay stamp) says other y answer h k e = only_frames_say fixed n (Sent p seq delay stamp) other says y answer refl
@@ -208,10 +206,6 @@ are_sent (m ∷ ms) h = (record { octets = refl; says = h.0 }, are_sent ms h.1)
 where_true : {A : Type 0} (b : Bool) (x y : A) → b ≡ true → (if b then x else y) ≡ x
 where_true b x y e = rw e refl
 
-length_map : {A B : Type 0} (f : A → B) (xs : List A) → length (map f xs) ≡ length xs
-length_map f [] = refl
-length_map f (x ∷ xs) = ap suc (length_map f xs)
-
 few_where : (b : Bool) (ms : List PtpMsg) → length ms ≤ 4 → length (if b then map octets_of ms else []) ≤ 4
 few_where true ms h = let e : length (map octets_of ms) ≡ length ms = length_map octets_of ms in omega (arith, e, h)
 few_where false ms h = omega arith
@@ -225,51 +219,35 @@ or_first : (a b c : Bool) → (a || b) ≡ true → (b ≡ true → c ≡ true) 
 or_first true b c h k = refl
 or_first false b c h k = k h
 
-or_later : (a b : Bool) → b ≡ true → (a || b) ≡ true
-or_later true b h = refl
-or_later false b h = h
-
 or_one : (b : Bool) → b ≡ true → (b || false) ≡ true
 or_one true h = refl
 or_one false h = h
 
-not_false : false ≡ true → ⊥
-not_false e = grind arith
-
 any_first : (p : ℕ) (xs ys : List PortDs) → has_port p xs ≡ true → has_port p (xs ++ ys) ≡ true
-any_first p [] ys h = absurd (not_false h)
+any_first p [] ys h = absurd (false≢true h)
 any_first p (x ∷ xs) ys h = or_first (x.own.port == p) (has_port p xs) (has_port p (xs ++ ys)) h (any_first p xs ys)
 
 any_later : (p : ℕ) (xs ys : List PortDs) → has_port p ys ≡ true → has_port p (xs ++ ys) ≡ true
 any_later p [] ys h = h
-any_later p (x ∷ xs) ys h = or_later (x.own.port == p) (has_port p (xs ++ ys)) (any_later p xs ys h)
-
-same_numbers : (a b : ℕ) → a ≡ b → (a == b) ≡ true
-same_numbers a b e = grind (arith, e)
+any_later p (x ∷ xs) ys h = or_right (x.own.port == p) (has_port p (xs ++ ys)) (any_later p xs ys h)
 
 one_port : (p : ℕ) (ds : PortDs) (b : Bool) → b ≡ true → (ds.own.port == p) ≡ true → has_port p (if b then ds ∷ [] else []) ≡ true
 one_port p ds true e h = or_one (ds.own.port == p) h
-one_port p ds false e h = absurd (not_false e)
+one_port p ds false e h = absurd (false≢true e)
 
 end_of_link : (net : NetCfg) (n : ℕ) (link : LinkCfg) (r : Role) → (end_of r link).node ≡ n → has_port (end_of r link).port (ports_at net n link) ≡ true
 end_of_link net n link Master e =
     any_first link.upper_port (if link.upper == n then master_at net link ∷ [] else []) (if link.lower == n then slave_at net link ∷ [] else [])
-    (one_port link.upper_port (master_at net link) (link.upper == n) (same_numbers link.upper n e) (same_numbers link.upper_port link.upper_port refl))
+    (one_port link.upper_port (master_at net link) (link.upper == n) (eq_is link.upper n e) (eq_is link.upper_port link.upper_port refl))
 end_of_link net n link Slave e =
     any_later link.lower_port (if link.upper == n then master_at net link ∷ [] else []) (if link.lower == n then slave_at net link ∷ [] else [])
-    (one_port link.lower_port (slave_at net link) (link.lower == n) (same_numbers link.lower n e) (same_numbers link.lower_port link.lower_port refl))
-
-none_some : {A : Type 0} (x : A) → None ≡ Some x → ⊥
-none_some x e = cc
-
-some_same : {A : Type 0} (x y : A) → Some x ≡ Some y → x ≡ y
-some_same x y e = cc
+    (one_port link.lower_port (slave_at net link) (link.lower == n) (eq_is link.lower n e) (eq_is link.lower_port link.lower_port refl))
 
 end_among : (net : NetCfg) (n : ℕ) (links : List LinkCfg) (k : ℕ) (r : Role) (end : End) → option_map (end_of r) (slice_get links k) ≡ Some end → end.node ≡ n →
     has_port end.port (flat_map (ports_at net n) links) ≡ true
-end_among net n [] k r end e h = absurd (none_some end e)
+end_among net n [] k r end e h = absurd (none-some end e)
 end_among net n (link ∷ links) zero r end e h =
-    let same : end_of r link ≡ end = some_same (end_of r link) end e in
+    let same : end_of r link ≡ end = same_Some (end_of r link) end e in
     any_first end.port (ports_at net n link) (flat_map (ports_at net n) links)
     (subst (λ (x : End). x.node ≡ n → has_port x.port (ports_at net n link) ≡ true) same (end_of_link net n link r) h)
 end_among net n (link ∷ links) (suc k) r end e h =

@@ -1,7 +1,7 @@
 -- A node of a world takes an input, and the rest of the world is told of it: what the world stands for, and what it keeps.
 use Rattle.std.proofs.Common.{◌≡◌, ◌∙◌, refl, ap, ap₂, sym, subst, ℕ, zero, suc, ◌+◌, ◌<◌, ◌≤◌, ◌==◌, ◌^◌, ℤ, Bool, true, false, if◌then◌else◌, List, [], ◌∷◌, length, map, Some, slice_get, slice_set, slice_index_or, FitsSigned, to_z, of_z, arith}
 use Rattle.std.proofs.lemmas.Int.{to_z-of_z}
-use Rattle.std.proofs.lemmas.Option.{slice_get-get_or}
+use Rattle.std.proofs.lemmas.Option.{slice_get-get_or, same_Some}
 use Rattle.wrp_base.specs.declared.configuration.NetCfg.{NetCfg}
 use Rattle.wrp_base.specs.Network.{NamesNoPortTwice, node_count}
 use Rattle.wrp_config.specs.declared.network.Network.{Network}
@@ -19,6 +19,7 @@ use Rattle.wrp_node.specs.StepLaws.{is_frame, ticks_by}
 use Rattle.wrp_node.specs.Telling.{Step}
 use Rattle.std.specs.Int.{w128}
 use Rattle.std.specs.List.{list_any}
+use Rattle.std.proofs.lemmas.Bool.{eqb-true}
 use Rattle.wrp_world.specs.declared.outcome.NodeOut.{NodeOut}
 use Rattle.wrp_world.specs.declared.plant.Plant.{Plant}
 use Rattle.wrp_world.specs.declared.plant.told.News.{News}
@@ -34,10 +35,7 @@ use Rattle.wrp_world.specs.Taking.{Asks, Gave, IsNewsOf, laws_of}
 use Rattle.wrp_world.specs.WorldAt.{WorldAt}
 use Rattle.wrp_world.proofs.Inside.{world_of}
 use Rattle.wrp_world.proofs.NodeSteps.{NodeStepped, SteppedAt, is_step_of, may_step, node_stepped, read_is_said, said_is_read, sends_few, ticks_told, took}
-use Rattle.wrp_world.proofs.Turned.{length_put, put_else, put_here}
-
-some_same : {A : Type 0} (x y : A) → Some x ≡ Some y → x ≡ y
-some_same x y e = cc
+use Rattle.wrp_world.proofs.Turned.{length_put, put_else, put_here, other_number}
 
 -- What was done: a node of the world took the input, and this is told of it
 pub record TookOne {F : Type 0} (pre : F → ℤ → Type 0) (post : F → ℤ → ℤ → Type 0) (put : ℤ) (old : WorldOf F) (before : NodeOut) (put_out : List Output) (node fresh : NodeOf F) (news : News) : Type 0 where
@@ -121,12 +119,6 @@ either_way : {F : Type 0} (post : F → ℤ → ℤ → Type 0) (fixed : Fixed) 
 either_way post fixed node true n m xs ys h k = h refl
 either_way post fixed node false n m xs ys h k = k refl
 
-same_number : (n i : ℕ) → (n == i) ≡ true → n ≡ i
-same_number n i e = grind (arith, e)
-
-other_number : (n i : ℕ) → (n == i) ≡ false → n ≡ i → ⊥
-other_number n i e f = grind (arith, e, f)
-
 -- each node stands for the inputs that it had, of which one node has one more
 nodes_are : {F : Type 0} (post : F → ℤ → ℤ → Type 0) (s : Setting) (v : WorldAt) (g : Given) (taken : Taken) (step : Step) (xs : List (NodeOf F)) (fresh : NodeOf F) →
     AtBy post (fixed_of s g.to) step.node (taken ∷ v.inputs g.to) fresh → Each (NodeIs post s v) xs → Each (NodeIs post s (stepped_by s v g taken step)) (slice_set xs g.to fresh)
@@ -134,7 +126,7 @@ nodes_are post s v g taken step xs fresh h each m x e =
     let is : AtBy post (fixed_of s m) (if m == g.to then step.node else v.node m) (if m == g.to then taken ∷ v.inputs m else v.inputs m) x =
     either_way post (fixed_of s m) x (m == g.to) step.node (v.node m) (taken ∷ v.inputs m) (v.inputs m)
     (λ same.
-    let at : m ≡ g.to = same_number m g.to same in
+    let at : m ≡ g.to = eqb-true m g.to same in
     let is_fresh : x ≡ fresh = put_here xs g.to fresh x (sym (ap (slice_get (slice_set xs g.to fresh)) at) ∙ e) in
     subst (λ j. AtBy post (fixed_of s j) step.node (taken ∷ v.inputs j) x) (sym at) (subst (AtBy post (fixed_of s g.to) step.node (taken ∷ v.inputs g.to)) (sym is_fresh) h))
     (λ other.
@@ -193,7 +185,7 @@ ticks_within world n node Reset at a h = omega arith
 -- what holds of each place, where one is replaced
 put_where : {A : Type 0} (P : ℕ → A → Type 0) (xs : List A) (n m : ℕ) (v x : A) (b : Bool) → (m == n) ≡ b → P n v → Each P xs → slice_get (slice_set xs n v) m ≡ Some x → P m x
 put_where P xs n m v x true at h each e =
-    let same : m ≡ n = same_number m n at in
+    let same : m ≡ n = eqb-true m n at in
     let is : x ≡ v = put_here xs n v x (sym (ap (slice_get (slice_set xs n v)) same) ∙ e) in
     subst (λ j. P j x) (sym same) (subst (P n) (sym is) h)
 put_where P xs n m v x false at h each e = each m x (sym (put_else xs n m v (other_number m n at)) ∙ e)
@@ -237,7 +229,7 @@ valid_next {F} pre post put old before after node fresh news new h k a =
 
 map_put : {A B : Type 0} (f : A → B) (xs : List A) (n : ℕ) (x v : A) → slice_get xs n ≡ Some x → f v ≡ f x → map f (slice_set xs n v) ≡ map f xs
 map_put f [] n x v e h = refl
-map_put f (y ∷ xs) zero x v e h = ap (λ z. z ∷ map f xs) (h ∙ ap f (sym (some_same y x e)))
+map_put f (y ∷ xs) zero x v e h = ap (λ z. z ∷ map f xs) (h ∙ ap f (sym (same_Some y x e)))
 map_put f (y ∷ xs) (suc n) x v e h = ap (λ zs. f y ∷ zs) (map_put f xs n x v e h)
 
 pub laws_next : {F : Type 0} (old new : WorldOf F) (n : ℕ) (node fresh : NodeOf F) → slice_get old.nodes n ≡ Some node → new.nodes ≡ slice_set old.nodes n fresh →

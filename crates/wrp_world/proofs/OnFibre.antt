@@ -1,25 +1,21 @@
 -- The frames that are on a fibre, gone through by the places that list them.
-use Rattle.std.proofs.Common.{◌≡◌, ◌∙◌, refl, ap, sym, subst, ℕ, zero, suc, ◌+◌, ◌-◌, ◌<◌, ◌≤◌, ◌⊎◌, inl, inr, ℤ, Bool, true, false, if◌then◌else◌, List, [], ◌∷◌, ◌++◌, length, drop, Option, None, Some, slice_get, slice_set, slice_index_or, filter, length-append, arith}
+use Rattle.std.proofs.Common.{◌≡◌, ◌∙◌, refl, ap, sym, subst, ℕ, zero, suc, ◌+◌, ◌-◌, ◌<◌, ◌≤◌, inl, inr, ℤ, Bool, true, false, if◌then◌else◌, List, [], ◌∷◌, ◌++◌, length, drop, Option, None, Some, slice_get, slice_set, slice_index_or, filter, length-append, arith}
 use Rattle.std.proofs.Math.ListN.{drop_of_length-le}
 use Rattle.std.proofs.Math.Seq.{drop-cons, drop-length, drop-nil}
 use Rattle.std.proofs.lemmas.List.{drop_more}
 use Rattle.std.proofs.lemmas.Option.{slice_get-get_or}
 use Rattle.std.specs.Option.{option_map_or}
+use Rattle.std.proofs.lemmas.Bool.{cases_lt}
 use Rattle.wrp_world.specs.declared.frames.Departed.{Departed}
 use Rattle.wrp_world.specs.Moves.{Turns}
 use Rattle.wrp_world.specs.OnFibre.{NoneOn, ListsOn}
 use Rattle.wrp_world.specs.Plant.{is_on, before, sooner, next_from}
-use Rattle.wrp_world.proofs.Turned.{TurnedTo, turned_none, turned_next, turned_all}
-
-before_or_not : (i b : ℕ) → (i < b) ⊎ (b ≤ i)
-before_or_not i zero = inr (omega arith)
-before_or_not zero (suc b) = inl (omega arith)
-before_or_not (suc i) (suc b) = elim (before_or_not i b) [ inl l ↦ inl (omega (arith, l)) | inr l ↦ inr (omega (arith, l)) ]
+use Rattle.wrp_world.proofs.Turned.{TurnedTo, turned_next, turned_all}
 
 -- Places between which no frame is on a fibre
 
 joined : (a b c : ℕ) (frames : List Departed) → NoneOn a b frames → NoneOn b c frames → NoneOn a c frames
-joined a b c frames f g i d h l e = elim (before_or_not i b) [ inl m ↦ f i d h m e | inr m ↦ g i d m l e ]
+joined a b c frames f g i d h l e = elim (cases_lt i b) [ inl m ↦ f i d h m e | inr m ↦ g i d m l e ]
 
 lower : (a b : ℕ) (frames : List Departed) (places : List ℕ) → a ≤ b → NoneOn a b frames → ListsOn b frames places → ListsOn a frames places
 lower a b frames [] h f k = joined a b (length frames) frames f k
@@ -94,14 +90,11 @@ pub record Passing (R : ℕ → Departed → Departed → Type 0) (xs ys : List 
   pub rest : ListsOn from xs places
   pub turned : TurnedTo R xs ys from
 
-pub passing_none : (R : ℕ → Departed → Departed → Type 0) (xs : List Departed) (places : List ℕ) → ListsOn 0 xs places → Passing R xs xs places
-passing_none R xs places k = record { from = 0; rest = k; turned = turned_none R xs }
-
 turned_off : (R : ℕ → Departed → Departed → Type 0) (xs ys : List Departed) (a b : ℕ) → StaysOff R → NoneOn a b xs → a ≤ b →
     TurnedTo R xs ys a → TurnedTo R xs ys b
 turned_off R xs ys a b s none h t = record {
   count = t.count;
-  done = λ n y l e. elim (before_or_not n a) [
+  done = λ n y l e. elim (cases_lt n a) [
     | inl m ↦ t.done n y m e
     | inr m ↦ let f : slice_get xs n ≡ Some y = sym (t.left n m) ∙ e in (y, f, s n y (none n y m l f))
   ];
@@ -116,12 +109,6 @@ passed R xs ys p ps x v s e r k = record {
   turned = turned_next R xs ys p x v (omega (arith, k.rest.1, k.turned.count)) e r (turned_off R xs ys k.from p s k.rest.2 k.rest.0 k.turned);
 }
 
-pub within : (R : ℕ → Departed → Departed → Type 0) (xs ys : List Departed) (places : List ℕ) (i : ℕ) → i < length places →
-    Passing R xs ys (drop i places) → slice_index_or places i 0 < length ys
-within R xs ys places i h k =
-    let k2 = subst (Passing R xs ys) (drop_more places i 0 h) k in
-    omega (arith, k2.rest.1, k2.turned.count)
-
 pub passed_next : (R : ℕ → Departed → Departed → Type 0) (xs ys : List Departed) (places : List ℕ) (i : ℕ) (x v : Departed) → StaysOff R →
     i < length places → x ≡ slice_index_or ys (slice_index_or places i 0) x → R (slice_index_or places i 0) x v →
     Passing R xs ys (drop i places) → Passing R xs (slice_set ys (slice_index_or places i 0) v) (drop (i + 1) places)
@@ -129,7 +116,7 @@ passed_next R xs ys places i x v s h e r k =
     passed R xs ys (slice_index_or places i 0) (drop (i + 1) places) x v s e r (subst (Passing R xs ys) (drop_more places i 0 h) k)
 
 turned_rest : (R : ℕ → Departed → Departed → Type 0) (xs ys : List Departed) → StaysOff R → Passing R xs ys [] → Turns R xs ys
-turned_rest R xs ys s k = elim (before_or_not (length xs) k.from) [
+turned_rest R xs ys s k = elim (cases_lt (length xs) k.from) [
   | inl l ↦ turned_all R xs ys k.from (omega (arith, l, k.turned.count)) k.turned
   | inr l ↦
       turned_all R xs ys (length xs) (omega (arith, k.turned.count)) (turned_off R xs ys k.from (length xs) s k.rest l k.turned)
@@ -167,9 +154,6 @@ pub record Nearing (frames : List Departed) (places : List ℕ) (next : Option (
   pub rest : ListsOn from frames places
   pub next_is : next_from (suc from) (drop from frames) next ≡ next_from 1 frames None
 
-pub nearing_none : (frames : List Departed) (places : List ℕ) → ListsOn 0 frames places → Nearing frames places None
-nearing_none frames places k = record { from = 0; rest = k; next_is = refl }
-
 near_one : (frames : List Departed) (p : ℕ) (ps : List ℕ) (d : Departed) (next : Option (ℕ × ℤ)) → d ≡ slice_index_or frames p d → Nearing frames (p ∷ ps) next →
     Nearing frames ps (sooner next (p + 1) d)
 near_one frames p ps d next e k =
@@ -188,10 +172,6 @@ near_one frames p ps d next e k =
           ∙ whole;
     }
 
-pub near_within : (frames : List Departed) (places : List ℕ) (i : ℕ) (next : Option (ℕ × ℤ)) → i < length places → Nearing frames (drop i places) next →
-    slice_index_or places i 0 < length frames
-near_within frames places i next h k = (subst (λ ps. Nearing frames ps next) (drop_more places i 0 h) k).rest.1
-
 pub near_next : (frames : List Departed) (places : List ℕ) (i : ℕ) (d : Departed) (next : Option (ℕ × ℤ)) → i < length places →
     d ≡ slice_index_or frames (slice_index_or places i 0) d → Nearing frames (drop i places) next →
     Nearing frames (drop (i + 1) places) (sooner next (slice_index_or places i 0 + 1) d)
@@ -201,7 +181,7 @@ near_next frames places i d next h e k =
 ended : (frames : List Departed) (from : ℕ) (next : Option (ℕ × ℤ)) → NoneOn from (length frames) frames →
     next_from (suc from) (drop from frames) next ≡ next
 ended [] from next f = ap (λ xs. next_from (suc from) xs next) (drop-nil from)
-ended (x ∷ xs) from next f = elim (before_or_not (length (x ∷ xs)) from) [
+ended (x ∷ xs) from next f = elim (cases_lt (length (x ∷ xs)) from) [
   | inl l ↦ ap (λ ys. next_from (suc from) ys next) (drop_of_length-le (x ∷ xs) {i = from} (omega (arith, l)))
   | inr l ↦
       let all = length (x ∷ xs) in

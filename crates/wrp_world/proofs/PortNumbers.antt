@@ -1,28 +1,25 @@
 -- The numbers of a node's ports in ascending order: they are those that the links name, from 1 to 18, each once.
-use Rattle.std.proofs.Common.{◌≡◌, ◌≢◌, ◌∙◌, ◌⊎◌, inl, inr, refl, ap, ap₂, sym, subst, ℕ, zero, suc, ◌+◌, ◌<◌, ◌≤◌, ◌==◌, ◌&&◌, ◌||◌, nat_lt, Bool, true, false, if◌then◌else◌, List, [], ◌∷◌, ◌++◌, map, Option, None, Some, is_some, slice_get, arith}
-use Rattle.std.proofs.lemmas.Bool.{eqb-true}
+use Rattle.std.proofs.Common.{◌≡◌, ◌≢◌, ◌∙◌, ◌⊎◌, inl, inr, refl, ap, ap₂, sym, subst, ℕ, zero, suc, ◌+◌, ◌<◌, ◌≤◌, ◌==◌, ◌&&◌, ◌||◌, nat_lt, Bool, true, false, if◌then◌else◌, List, [], ◌∷◌, ◌++◌, Option, None, Some, is_some, slice_get, arith}
+use Rattle.std.proofs.lemmas.Bool.{eqb-true, or_left, or_right}
 use Rattle.std.specs.List.{AllByRecursion, list_any, flat_map}
+use Rattle.std.proofs.lemmas.Option.{same_Some}
 use Rattle.wrp_base.specs.declared.configuration.NetCfg.{NetCfg}
 use Rattle.wrp_base.specs.declared.link.Role.{Role}
 use Rattle.wrp_base.specs.declared.link.Role.TheVariants.{Master, Slave}
 use Rattle.wrp_base.specs.declared.network.LinkCfg.{LinkCfg}
 use Rattle.wrp_base.specs.Network.{End, ends_of, HasLinkRanges, HasRanges, NamesNoPortTwice}
+use Rattle.wrp_base.proofs.Naturals.{same_suc}
 use Rattle.wrp_config.specs.Names.{is_upper_end, is_lower_end}
 use Rattle.wrp_data.specs.declared.datasets.PortDs.{PortDs}
+use Rattle.wrp_config.proofs.Reached.{lower_has, upper_has}
 use Rattle.wrp_node.specs.NodeAt.{in_order, is_before, numbers_of, placed}
 use Rattle.wrp_node.specs.Set.{master_at, slave_at, ports_at, ports_of, set_of}
+use Rattle.wrp_node.proofs.OwnPorts.{AllApart, HasNoRepeat, InRange, numbers_in, with_number, zero_or_more}
 use Rattle.wrp_world.specs.declared.place.Place.{Place}
 use Rattle.wrp_world.specs.FitsGifts.{has_port}
 use Rattle.wrp_world.specs.Setting.{end_of, from_on, place_among}
 
 -- The numbers, as the ends of the links have them
-
-abbrev numbers_in : List PortDs → List ℕ
-numbers_in ports = map (λ (ds : PortDs). ds.own.port) ports
-
--- a number in front, where it is one
-abbrev with_number : Bool → ℕ → List ℕ → List ℕ
-with_number b p ns = if b then p ∷ ns else ns
 
 abbrev numbers_at : ℕ → List End → List ℕ
 numbers_at n [] = []
@@ -76,7 +73,7 @@ numbers-sorted net n = ordered-numbers (ports_of net n) ∙ ap sorted (numbers-a
 abbrev any_of : ℕ → List ℕ → Bool
 any_of p ns = list_any (λ q. q == p) ns
 
-or_swap : (a b c : Bool) → (a || (b || c)) ≡ (b || (a || c))
+pub or_swap : (a b c : Bool) → (a || (b || c)) ≡ (b || (a || c))
 or_swap true true c = refl
 or_swap true false c = refl
 or_swap false true c = refl
@@ -129,34 +126,14 @@ not_placed cfg n p e = none_placed (place_among n p 0 cfg.links.items) (sym (has
 
 -- The ports at the ends of links
 
-eq_self : (n : ℕ) → (n == n) ≡ true
-eq_self n = grind arith
-
-or_left : (a b : Bool) → a ≡ true → (a || b) ≡ true
-or_left true b e = refl
-or_left false b e = absurd (cc)
-
-or_right : (a b : Bool) → b ≡ true → (a || b) ≡ true
-or_right true b e = refl
-or_right false b e = e
-
-upper-end : (link : LinkCfg) → is_upper_end link.upper link.upper_port link ≡ true
-upper-end link = ap₂ (λ (a b : Bool). a && b) (eq_self link.upper) (eq_self link.upper_port)
-
-lower-end : (link : LinkCfg) → is_lower_end link.lower link.lower_port link ≡ true
-lower-end link = ap₂ (λ (a b : Bool). a && b) (eq_self link.lower) (eq_self link.lower_port)
-
 at-end : (link : LinkCfg) (role : Role) → (is_upper_end (end_of role link).node (end_of role link).port link || is_lower_end (end_of role link).node (end_of role link).port link) ≡ true
-at-end link Master = or_left (is_upper_end link.upper link.upper_port link) (is_lower_end link.upper link.upper_port link) (upper-end link)
-at-end link Slave = or_right (is_upper_end link.lower link.lower_port link) (is_lower_end link.lower link.lower_port link) (lower-end link)
+at-end link Master = or_left (is_upper_end link.upper link.upper_port link) (is_lower_end link.upper link.upper_port link) (upper_has link)
+at-end link Slave = or_right (is_upper_end link.lower link.lower_port link) (is_lower_end link.lower link.lower_port link) (lower_has link)
 
 or_three : (a b c : Bool) → (a || b) ≡ true → (a || (b || c)) ≡ true
 or_three true b c e = refl
 or_three false true c e = refl
 or_three false false c e = absurd (cc)
-
-same_link : (a b : LinkCfg) → Some a ≡ Some b → a ≡ b
-same_link a b e = cc
 
 placed_end : (k i : ℕ) (links : List LinkCfg) (link : LinkCfg) (role : Role) → slice_get links i ≡ Some link →
     is_some (place_among (end_of role link).node (end_of role link).port k links) ≡ true
@@ -165,7 +142,7 @@ placed_end k zero (other ∷ links) link role e =
     some-either (is_upper_end (end_of role link).node (end_of role link).port other) (is_lower_end (end_of role link).node (end_of role link).port other) (record { link = k; role = Master }) (record { link = k; role = Slave }) (place_among (end_of role link).node (end_of role link).port (k + 1) links)
     ∙ or_three (is_upper_end (end_of role link).node (end_of role link).port other) (is_lower_end (end_of role link).node (end_of role link).port other)
     (is_some (place_among (end_of role link).node (end_of role link).port (k + 1) links))
-    (ap (λ (l : LinkCfg). is_upper_end (end_of role link).node (end_of role link).port l || is_lower_end (end_of role link).node (end_of role link).port l) (same_link other link e) ∙ at-end link role)
+    (ap (λ (l : LinkCfg). is_upper_end (end_of role link).node (end_of role link).port l || is_lower_end (end_of role link).node (end_of role link).port l) (same_Some other link e) ∙ at-end link role)
 placed_end k (suc i) (other ∷ links) link role e =
     some-either (is_upper_end (end_of role link).node (end_of role link).port other) (is_lower_end (end_of role link).node (end_of role link).port other) (record { link = k; role = Master }) (record { link = k; role = Slave }) (place_among (end_of role link).node (end_of role link).port (k + 1) links)
     ∙ or_right (is_upper_end (end_of role link).node (end_of role link).port other) _
@@ -177,14 +154,6 @@ pub has_end : (cfg : NetCfg) (i : ℕ) (link : LinkCfg) (role : Role) → slice_
 has_end cfg i link role e = has-place cfg (end_of role link).node (end_of role link).port ∙ placed_end 0 i cfg.links.items link role e
 
 -- No two are equal
-
-abbrev AllApart : List ℕ → Type 0
-AllApart [] = Unit {0}
-AllApart (p ∷ ps) = AllByRecursion (λ q. q ≢ p) ps × AllApart ps
-
--- no two places have the same end
-abbrev HasNoRepeat : List End → Type 0
-HasNoRepeat ends = (i j : ℕ) (end : End) → slice_get ends i ≡ Some end → slice_get ends j ≡ Some end → i ≡ j
 
 abbrev end_with : ℕ → ℕ → End
 end_with node port = record { node = node; port = port }
@@ -206,23 +175,14 @@ apart-where : (n : ℕ) (end : End) (ns : List ℕ) (b : Bool) → (end.node == 
 apart-where n end ns true is others rest = (others (eqb-true end.node n is), rest)
 apart-where n end ns false is others rest = rest
 
-less_one : (i j : ℕ) → suc i ≡ suc j → i ≡ j
-less_one i j e = omega (arith, e)
-
-zero_or_more : (k : ℕ) → 0 ≡ suc k → ⊥
-zero_or_more k e = omega (arith, e)
-
 apart : (n : ℕ) (ends : List End) → HasNoRepeat ends → AllApart (numbers_at n ends)
 apart n [] once = tt
 apart n (end ∷ ends) once =
     apart-where n end (numbers_at n ends) (end.node == n) refl
     (λ same. away n end.port ends (λ k is. zero_or_more k (once 0 (suc k) end refl (is ∙ ap (λ (m : ℕ). Some (end_with m end.port)) (sym same)))))
-    (apart n ends (λ i j other at_i at_j. less_one i j (once (suc i) (suc j) other at_i at_j)))
+    (apart n ends (λ i j other at_i at_j. same_suc i j (once (suc i) (suc j) other at_i at_j)))
 
 -- From 1 to 18
-
-abbrev InRange : ℕ → Type 0
-InRange q = (1 ≤ q) × (q ≤ 18)
 
 range-where : (b : Bool) (p : ℕ) (ns : List ℕ) → InRange p → AllByRecursion InRange ns → AllByRecursion InRange (with_number b p ns)
 range-where true p ns h rest = (h, rest)

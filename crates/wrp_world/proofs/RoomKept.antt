@@ -1,5 +1,5 @@
 -- What an event changes by itself leaves the memory that was taken, and steps no clock.
-use Rattle.std.proofs.Common.{◌≡◌, ◌∙◌, refl, ap, sym, subst, ℕ, ◌+◌, ◌*◌, ◌==◌, ◌≤◌, ◌^◌, ℤ, Bool, true, false, List, [], length, Option, None, Some, slice_get, vec_len, vec_capacity, unsigned_abs, arith}
+use Rattle.std.proofs.Common.{◌≡◌, ◌∙◌, ap, sym, subst, ℕ, ◌+◌, ◌*◌, ◌==◌, ◌≤◌, ◌^◌, ℤ, Bool, true, false, List, Option, None, Some, slice_get, vec_len, vec_capacity, unsigned_abs, arith}
 use Rattle.wrp_base.specs.declared.network.LinkCfg.{LinkCfg}
 use Rattle.wrp_world.specs.declared.clocks.ClockState.{ClockState}
 use Rattle.wrp_world.specs.declared.ends.EndState.{EndState}
@@ -10,7 +10,7 @@ use Rattle.wrp_world.specs.declared.frames.Departed.{Departed}
 use Rattle.wrp_world.specs.declared.plant.Plant.{Plant}
 use Rattle.wrp_world.specs.Moved.{swap_at}
 use Rattle.wrp_world.specs.Moves.{Turns, Same, Where, At, Changed, HasFibre, Moves, Joins, Empties, Loses, Cuts, Drops, DropsAt, touches_in, Swapped, SwapsIn, SwapsAt}
-use Rattle.wrp_world.specs.Plant.{Each, FitsClock, FitsPlant}
+use Rattle.wrp_world.specs.Plant.{Each, FitsPlant}
 use Rattle.wrp_world.specs.PlantTold.{NoneStepped}
 use Rattle.wrp_world.specs.Room.{HasEndRoom, HasRoom, HasSpanRoom}
 use Rattle.wrp_world.proofs.Turned.{each_turned}
@@ -28,7 +28,7 @@ lost_span : (k : ℕ) (after : FibreState) (x y : Span) → Loses after x y → 
 lost_span k after x y r h =
     record { master = emptied_room k x.master y.master r.master h.master; slave = emptied_room k x.slave y.slave r.slave h.slave }
 
-where_room : {A : Type 0} (b : Bool) (C : A → A → Type 0) (P : A → Type 0) (x y : A) → Where b C x y → (C x y → P x → P y) → P x → P y
+pub where_room : {A : Type 0} (b : Bool) (C : A → A → Type 0) (P : A → Type 0) (x y : A) → Where b C x y → (C x y → P x → P y) → P x → P y
 where_room true C P x y r f h = f r h
 where_room false C P x y r f h = subst P (sym r) h
 

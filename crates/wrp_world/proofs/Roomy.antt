@@ -1,8 +1,7 @@
 -- Memory that is taken changes nothing, and what an event changes by itself leaves the memory that was taken.
-use Rattle.std.proofs.Common.{◌≡◌, ◌∙◌, refl, ap, sym, subst, ℕ, zero, suc, ◌+◌, ◌*◌, ◌==◌, ◌<◌, ◌≤◌, ◌⊎◌, inl, inr, Bool, true, false, List, [], length, Option, None, Some, slice_get, slice_set, slice_index_or, vec_len, vec_capacity, arith}
+use Rattle.std.proofs.Common.{◌≡◌, ◌∙◌, refl, ap, sym, subst, ℕ, ◌<◌, ◌≤◌, ◌⊎◌, inl, inr, List, Some, slice_get}
 use Rattle.std.specs.List.{AllZip}
-use Rattle.wrp_base.specs.declared.link.Mark.{Mark}
-use Rattle.wrp_base.specs.declared.network.LinkCfg.{LinkCfg}
+use Rattle.std.proofs.lemmas.Bool.{cases_lt}
 use Rattle.wrp_world.specs.declared.ends.EndState.{EndState}
 use Rattle.wrp_world.specs.declared.ends.PutOut.{PutOut}
 use Rattle.wrp_world.specs.declared.ends.Span.{Span}
@@ -10,11 +9,11 @@ use Rattle.wrp_world.specs.declared.fibres.FibreState.{FibreState}
 use Rattle.wrp_world.specs.declared.plant.Plant.{Plant}
 use Rattle.wrp_world.specs.Moves.{Turns}
 use Rattle.wrp_world.specs.Plant.{Each, EndIs, FitsEnd, FitsPlant, FitsSpan, FramesAre, PlantIs, PutOutIs, SpanIs}
-use Rattle.wrp_world.specs.Room.{HasEndRoom, HasRoom, HasSpanRoom, SameEnd, SameSpan}
+use Rattle.wrp_world.specs.Room.{HasSpanRoom, SameEnd, SameSpan}
 use Rattle.wrp_world.specs.Setting.{Setting}
 use Rattle.wrp_world.specs.Sizes.{IsDelayBy, IsTimeBy}
 use Rattle.wrp_world.specs.WorldAt.{WorldAt, EndAt}
-use Rattle.wrp_world.proofs.Turned.{Came, TurnedTo, each_turned, turned_next, turned_all}
+use Rattle.wrp_world.proofs.Turned.{Came, TurnedTo, each_turned}
 
 -- A loop that takes memory, link by link
 
@@ -41,15 +40,6 @@ at_any i j x y h = record { fibre = h.fibre; master = h.master; slave = h.slave 
 pub took_all : (steps : ℕ) (xs ys : List Span) → Turns (Takes steps) xs ys → Each (λ i. HasSpanRoom steps) ys
 took_all steps xs ys t n y e = let it : Came (Takes steps) xs n y = t.1 n y e in it.2.room
 
-split_up : (n i : ℕ) → (n < i) ⊎ (i ≤ n) → (suc n < suc i) ⊎ (suc i ≤ suc n)
-split_up n i (inl l) = inl (omega arith)
-split_up n i (inr l) = inr (omega arith)
-
-split : (n i : ℕ) → (n < i) ⊎ (i ≤ n)
-split n zero = inr (omega arith)
-split zero (suc i) = inl (omega arith)
-split (suc n) (suc i) = split_up n i (split n i)
-
 -- as far as it has come
 pub kept_so_far : (steps i : ℕ) (xs ys : List Span) → TurnedTo (Takes steps) xs ys i → TurnedTo Keeps xs ys i
 kept_so_far steps i xs ys t = record {
@@ -63,7 +53,7 @@ kept_at i n xs ys y t (inl l) e = t.done n y l e
 kept_at i n xs ys y t (inr l) e = (y, sym (t.left n l) ∙ e, keeps_itself n y)
 
 pub kept_all : (i : ℕ) (xs ys : List Span) → TurnedTo Keeps xs ys i → Turns Keeps xs ys
-kept_all i xs ys t = (t.count, λ n y e. kept_at i n xs ys y t (split n i) e)
+kept_all i xs ys t = (t.count, λ n y e. kept_at i n xs ys y t (cases_lt n i) e)
 
 pub same_of_kept : (xs ys : List Span) → Turns Keeps xs ys → Turns SameSpan xs ys
 same_of_kept xs ys t = (t.0, λ n y e. let it : Came Keeps xs n y = t.1 n y e in (it.0, it.1, it.2.same))

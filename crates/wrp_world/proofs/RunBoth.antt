@@ -1,20 +1,24 @@
 -- After every event of every run a link that has its carrier has it at both ends.
-use Rattle.std.proofs.Common.{◌≡◌, ◌⊎◌, inl, inr, ◌∙◌, refl, ap, sym, subst, ℕ, ◌==◌, ◌&&◌, ℤ, pos, not, Bool, true, false, if◌then◌else◌, List, [], ◌∷◌, ◌++◌, flat_map, Option, None, Some, option_map, Result}
+use Rattle.std.proofs.Common.{◌≡◌, ◌⊎◌, inl, inr, ◌∙◌, refl, ap, sym, subst, ℕ, ◌==◌, ◌&&◌, ℤ, pos, Bool, true, false, if◌then◌else◌, List, [], ◌∷◌, ◌++◌, flat_map, Option, None, Some, option_map, Result}
 use Rattle.std.proofs.lemmas.Bool.Decides.{eqb_tells}
-use Rattle.std.specs.Option.{option_map_or}
+use Rattle.std.proofs.lemmas.Option.{none-some, same_Some}
 use Rattle.arrayvec.specs.ArrayVec.{ArrayVec as Items}
+use Rattle.std.proofs.lemmas.Bool.{and_parts, cases_Bool}
 use Rattle.wrp_base.specs.declared.link.Module.{Module}
 use Rattle.wrp_base.specs.declared.link.Role.{Role}
 use Rattle.wrp_base.specs.declared.link.Role.TheVariants.{Master, Slave}
 use Rattle.wrp_base.specs.declared.message.PtpMsg.{PtpMsg}
 use Rattle.wrp_base.specs.declared.network.LinkCfg.{LinkCfg}
+use Rattle.wrp_base.proofs.Naturals.{eq_self}
 use Rattle.wrp_base.specs.Network.{End}
+use Rattle.wrp_base.proofs.Booleans.{not_both}
 use Rattle.wrp_frame.specs.declared.fault.FrameFault.{FrameFault}
 use Rattle.wrp_handshake.specs.Ends.{Port}
 use Rattle.wrp_link.specs.declared.interface.LinkIn.TheVariants as link_in
-use Rattle.wrp_node.specs.declared.interface.Input.TheVariants.{Tick as TickInput, Frame, Carrier, Reset}
+use Rattle.wrp_node.specs.declared.interface.Input.TheVariants.{Tick as TickInput, Frame, Reset}
 use Rattle.wrp_node.specs.LinkNews.{Nothing, Given as Handed}
 use Rattle.wrp_node.specs.NodeAt.{numbers_of}
+use Rattle.wrp_node.proofs.Sends.{not_equal}
 use Rattle.wrp_world.specs.declared.event.Event.{Event}
 use Rattle.wrp_world.specs.declared.event.Event.TheVariants.{Pass, Tick, Sample, Depart, Arrive, Deliver, Noise, Down, Up, Cut, Join}
 use Rattle.wrp_world.specs.declared.event.Swap.{Swap}
@@ -30,17 +34,17 @@ use Rattle.wrp_world.specs.Setting.{Setting, end_at, end_of, is_of, link_of, oth
 use Rattle.wrp_world.specs.WorldAt.{WorldAt, ends_are_up, has_carrier}
 use Rattle.wrp_world.proofs.RunCarried.{IsLeft, gives_append, not_next}
 use Rattle.wrp_world.proofs.RunCarriers.{comes_to, end_alike, lit_here}
-use Rattle.wrp_world.proofs.RunChanges.{bool_of, came_up, cut_carrier, cut_less, join_carrier, true_false, was_up}
+use Rattle.wrp_world.proofs.RunChanges.{came_up, cut_carrier, cut_less, join_carrier, was_up}
 use Rattle.wrp_world.proofs.RunDark.{goes_to}
 use Rattle.wrp_world.proofs.RunEvents.{run_keeps}
 use Rattle.wrp_world.proofs.RunGifts.{AllGiven, all_if, comes_all, delivered_all, sent_all}
 use Rattle.wrp_world.proofs.RunGiven.{end_is}
-use Rattle.wrp_world.proofs.RunKept.{Laws, LinkKeeps, none_some, some_same}
+use Rattle.wrp_world.proofs.RunKept.{Laws, LinkKeeps, come_at, go_at}
 use Rattle.wrp_world.proofs.RunLit.{IsBright, all_given_lit, given_lit}
 use Rattle.wrp_world.proofs.RunNetwork.{LinkEnd, are_apart, end_with, place_end}
-use Rattle.wrp_world.proofs.RunPorts.{not_equal, port_by_news, port_given, port_other, self_equal}
+use Rattle.wrp_world.proofs.RunPorts.{port_by_news, port_given, port_other}
 use Rattle.wrp_world.proofs.RunSettled.{Placed, all_given_carrier, passed_carrier, sampled_carrier}
-use Rattle.wrp_world.proofs.RunTimes.{both_up, comes_up_down, end_up}
+use Rattle.wrp_world.proofs.RunTimes.{comes_up_down, end_up, not_up}
 use Rattle.wrp_world.proofs.RunCarried.{Uncarried}
 
 abbrev IsLit : Setting → WorldAt → ℕ → Role → LinkCfg → Type 0
@@ -69,9 +73,6 @@ gone_other laws s y v end other k r is out =
       | inr x ↦ port_other s y v (goes_to end) k r other is x.1
     ]
 
-abbrev go_at : Role → Option LinkCfg → List Given
-go_at r o = option_map_or (λ (end : End). given_plain end.node (Carrier end.port false None) ∷ []) (option_map (end_of r) o) []
-
 go_away : Laws → (s : Setting) → IsNetwork s → (y : ℤ) (v : WorldAt) (k l : ℕ) (link : LinkCfg) (r q : Role) (o : Option LinkCfg) → link_of s l ≡ o → link_of s k ≡ Some link → (k ≡ l → ⊥) →
     port_at s (gives_all s y v (go_at r o ++ go_at (other_of r) o)) k q (end_of q link) ≡ port_at s v k q (end_of q link)
 go_away laws s net y v k l link r q None e is out = refl
@@ -96,7 +97,7 @@ cut_lit laws s net says y w l h k link is c r =
     let gs : List Given = if has_carrier s w l then goes_from s l Master else [] in
     let on : ((if k == l then false else (w.fibre k).joined) && ends_are_up w.clock (link_of s k)) ≡ true = sym (cut_carrier s w l k) ∙ sym (all_given_carrier s y gs v k) ∙ c in
     let out : k ≡ l → ⊥ =
-    λ e. true_false false (sym (ap (λ b. (if b then false else (w.fibre k).joined) && ends_are_up w.clock (link_of s k)) (ap (λ x. x == l) e ∙ self_equal l)) ∙ on) refl in
+    λ e. not_both false (sym (ap (λ b. (if b then false else (w.fibre k).joined) && ends_are_up w.clock (link_of s k)) (ap (λ x. x == l) e ∙ eq_self l)) ∙ on) refl in
     ap (λ (q : Port). q.link.carrier) (goes_if laws s net y v k l link Master r (has_carrier s w l) is out)
     ∙ h k link is (cut_less (k == l) (w.fibre k).joined (ends_are_up w.clock (link_of s k)) on) r
 
@@ -106,9 +107,9 @@ not_at s w n k p place at c e =
     let v : WorldAt = moved s w (Down n) in
     let it : LinkEnd s place.link place.role (end_with n p) = place_end s n p place at in
     let here : is_of n (option_map (end_of place.role) (link_of s k)) ≡ true =
-    ap (λ o. is_of n (option_map (end_of place.role) o)) (ap (link_of s) e ∙ it.there) ∙ ap (λ (x : End). x.node == n) it.end_is ∙ self_equal n in
-    true_false (v.clock n).up (end_up v place.role (link_of s k) n (both_up (v.fibre k).joined (ends_are_up v.clock (link_of s k)) c).1 here)
-    (ap (λ b. (if b then record (w.clock n) { up = false } else w.clock n).up) (self_equal n))
+    ap (λ o. is_of n (option_map (end_of place.role) o)) (ap (link_of s) e ∙ it.there) ∙ ap (λ (x : End). x.node == n) it.end_is ∙ eq_self n in
+    not_both (v.clock n).up (end_up v place.role (link_of s k) n (and_parts (v.fibre k).joined (ends_are_up v.clock (link_of s k)) c).1 here)
+    (ap (λ b. (if b then record (w.clock n) { up = false } else w.clock n).up) (eq_self n))
 
 carried_away : Laws → (s : Setting) → IsNetwork s → (y : ℤ) (w x : WorldAt) (n k p : ℕ) (link : LinkCfg) (q : Role) (o : Option Place) → place_of s n p ≡ o → link_of s k ≡ Some link →
     has_carrier s (moved s w (Down n)) k ≡ true → port_at s (gives_all s y x (if_carried s w (goes_from s) o)) k q (end_of q link) ≡ port_at s x k q (end_of q link)
@@ -134,9 +135,6 @@ down_lit laws s net says y w n h k link is c r =
 
 -- Carriers that come to the link
 
-abbrev come_at : Role → Option Module → Option LinkCfg → List Given
-come_at r m o = option_map_or (λ (end : End). given_plain end.node (Carrier end.port true m) ∷ []) (option_map (end_of r) o) []
-
 pair_lit : Laws → (s : Setting) (y : ℤ) (v : WorldAt) (k : ℕ) (link : LinkCfg) (r q : Role) (m n : Option Module) → link_of s k ≡ Some link → IsLit s (gives_all s y v (comes_to (end_of r link) m ∷ (comes_to (end_of (other_of r) link) n ∷ []))) k q link
 pair_lit laws s y v k link Master Master m n is =
     given_lit laws.links laws.signals s y (gives s y v (comes_to (end_of Master link) m)) (comes_to (end_of Slave link) n) k Master (end_of Master link) (end_is s k Master link is) tt
@@ -150,9 +148,9 @@ pair_lit laws s y v k link Slave Slave m n is =
     (ap (λ (t : Port). t.link.carrier) (lit_here laws.links laws.signals s y v (end_of Slave link) m k Slave (end_is s k Slave link is)))
 
 come_lit : Laws → (s : Setting) (y : ℤ) (v : WorldAt) (k : ℕ) (link : LinkCfg) (r q : Role) (m n : Option Module) (o : Option LinkCfg) → o ≡ Some link → link_of s k ≡ Some link → IsLit s (gives_all s y v (come_at r m o ++ come_at (other_of r) n o)) k q link
-come_lit laws s y v k link r q m n None e is = absurd (none_some link e)
+come_lit laws s y v k link r q m n None e is = absurd (none-some link e)
 come_lit laws s y v k link r q m n (Some other) e is =
-    subst (λ (z : LinkCfg). IsLit s (gives_all s y v (comes_to (end_of r z) m ∷ (comes_to (end_of (other_of r) z) n ∷ []))) k q link) (sym (some_same other link e))
+    subst (λ (z : LinkCfg). IsLit s (gives_all s y v (comes_to (end_of r z) m ∷ (comes_to (end_of (other_of r) z) n ∷ []))) k q link) (sym (same_Some other link e))
     (pair_lit laws s y v k link r q m n is)
 
 comes_lit : Laws → (s : Setting) (y : ℤ) (w v : WorldAt) (k : ℕ) (link : LinkCfg) (r q : Role) → link_of s k ≡ Some link → IsLit s (gives_all s y v (comes_from s w k r)) k q link
@@ -176,7 +174,7 @@ lit_port laws s y w v x n p ps k link place true e is c d h t r =
           (h (elim t [ inl a ↦ inl a | inr u ↦ inr (not_next s n k p ps (Some place) e (λ same. z.1 (sym same)) u) ]) r)
     ]
 lit_port laws s y w v x n p ps k link place false e is c d h t r =
-    h (elim t [ inl a ↦ inl a | inr u ↦ inr (not_next s n k p ps (Some place) e (λ same. true_false (has_carrier s v k) c (ap (has_carrier s v) (sym same) ∙ d)) u) ]) r
+    h (elim t [ inl a ↦ inl a | inr u ↦ inr (not_next s n k p ps (Some place) e (λ same. not_both (has_carrier s v k) c (ap (has_carrier s v) (sym same) ∙ d)) u) ]) r
 
 lit_next : Laws → (s : Setting) (y : ℤ) (w v x : WorldAt) (n p : ℕ) (ps : List ℕ) (k : ℕ) (link : LinkCfg) (o : Option Place) → place_of s n p ≡ o → link_of s k ≡ Some link → has_carrier s v k ≡ true →
     LitBut s w n (p ∷ ps) x k link → LitBut s w n ps (gives_all s y x (if_carried s v (comes_from s v) o)) k link
@@ -192,15 +190,12 @@ ports_lit laws s y w v n (p ∷ ps) x k link is c h r =
     subst (λ z. IsLit s z k r link) (sym (gives_append s y here rest x))
     (ports_lit laws s y w v n ps (gives_all s y x here) k link is c (lit_next laws s y w v x n p ps k link (place_of s n p) refl is c h) r)
 
-up_twice : (up : Bool) → up ≡ true → not (not up) ≡ false → ⊥
-up_twice up e f = cc
-
 -- a node that comes up is at no end of a link that had its carrier
 not_end : (s : Setting) (w : WorldAt) (says : Result PtpMsg FrameFault) (n : ℕ) (off : ℤ) (swaps : Items Swap) (k : ℕ) (r : Role) (link : LinkCfg) → Accepts s w says (Up n off swaps) → link_of s k ≡ Some link →
     has_carrier s w k ≡ true → (end_of r link).node ≡ n → ⊥
 not_end s w says n off swaps k r link a is c e =
-    let here : is_of n (option_map (end_of r) (link_of s k)) ≡ true = ap (λ o. is_of n (option_map (end_of r) o)) is ∙ ap (λ x. x == n) e ∙ self_equal n in
-    up_twice (w.clock n).up (end_up w r (link_of s k) n (both_up (w.fibre k).joined (ends_are_up w.clock (link_of s k)) c).1 here) (comes_up_down s w says n off swaps a)
+    let here : is_of n (option_map (end_of r) (link_of s k)) ≡ true = ap (λ o. is_of n (option_map (end_of r) o)) is ∙ ap (λ x. x == n) e ∙ eq_self n in
+    not_up (w.clock n).up (end_up w r (link_of s k) n (and_parts (w.fibre k).joined (ends_are_up w.clock (link_of s k)) c).1 here) (comes_up_down s w says n off swaps a)
 
 up_lit : Laws → (s : Setting) → IsNetwork s → (says : Result PtpMsg FrameFault) (y : ℤ) (w : WorldAt) (n : ℕ) (off : ℤ) (swaps : Items Swap) → Accepts s w says (Up n off swaps) → LitKeeps s w → LitKeeps s (world_step s says y w (Up n off swaps))
 up_lit laws s net says y w n off swaps a h k link is c r =
@@ -250,7 +245,7 @@ lit_step laws s net says y w (Cut k) a h = cut_lit laws s net says y w k h
 lit_step laws s net says y w (Join k ms sm) a h = join_lit laws s net says y w k ms sm h
 
 lit_keeps : Laws → (s : Setting) → IsNetwork s → (events : List Happened) → AllAccepted s events → LitKeeps s (world_after s events)
-lit_keeps laws s net [] accepted = λ k link is c r. absurd (true_false false c refl)
+lit_keeps laws s net [] accepted = λ k link is c r. absurd (not_both false c refl)
 lit_keeps laws s net (h ∷ before) accepted =
     lit_step laws s net h.says h.answer (world_after s before) h.event accepted.0 (lit_keeps laws s net before accepted.1)
 
@@ -258,7 +253,7 @@ pub carriers_are_the_links : Laws → CarriersAreTheLinks
 carriers_are_the_links laws s events k r link run is =
     let w : WorldAt = world_after s events in
     let it : LinkKeeps s (Placed s w) (Uncarried s w) w k link = (run_keeps laws s run.network events run.each run.accepted).links k link is in
-    elim (bool_of (has_carrier s w k)) [
+    elim (cases_Bool (has_carrier s w k)) [
       | inl x ↦ lit_keeps laws s run.network events run.accepted k link is x r ∙ sym x
       | inr x ↦ it.dark x r ∙ sym x
     ]

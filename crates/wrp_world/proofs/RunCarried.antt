@@ -3,6 +3,7 @@ use Rattle.std.proofs.Common.{◌≡◌, ◌⊎◌, inl, inr, ◌∙◌, refl, a
 use Rattle.std.proofs.lemmas.Bool.Decides.{eqb_tells}
 use Rattle.wrp_base.specs.declared.link.Module.{Module}
 use Rattle.wrp_base.specs.declared.link.Role.{Role}
+use Rattle.wrp_base.proofs.Booleans.{not_both}
 use Rattle.wrp_world.specs.declared.place.Place.{Place}
 use Rattle.wrp_world.specs.Given.{Given, comes_from, gives, gives_all, goes_from, if_carried}
 use Rattle.wrp_world.specs.LinkEnds.{in_place}
@@ -14,9 +15,6 @@ use Rattle.wrp_world.proofs.RunKept.{Laws, RunKeeps, comes_keep, goes_keep, weak
 pub gives_append : (s : Setting) (y : ℤ) (xs ys : List Given) (v : WorldAt) → gives_all s y v (xs ++ ys) ≡ gives_all s y (gives_all s y v xs) ys
 gives_append s y [] ys v = refl
 gives_append s y (x ∷ xs) ys v = gives_append s y xs ys (gives s y v x)
-
-true_false : (b : Bool) → b ≡ true → b ≡ false → ⊥
-true_false b e f = cc
 
 -- a link is that of a port among these, which are still to come
 
@@ -47,12 +45,12 @@ came_next s w v n p ps o e k placed h f c t = f c (elim t [ inl x ↦ inl x | in
 come_one : Laws → (s : Setting) → IsNetwork s → (y : ℤ) (w v : WorldAt) (n p : ℕ) (ps : List ℕ) (x : WorldAt) (place : Place) (b : Bool) → place_of s n p ≡ Some place → has_carrier s v place.link ≡ b →
     RunKeeps s (CameBut s w v n (p ∷ ps)) (Uncarried s v) x → RunKeeps s (CameBut s w v n ps) (Uncarried s v) (gives_all s y x (if b then comes_from s v place.link place.role else []))
 come_one laws s net y w v n p ps x place true e c h =
-    comes_keep laws s (CameBut s w v n (p ∷ ps)) (CameBut s w v n ps) (Uncarried s v) net y v x place.link place.role (λ d. true_false (has_carrier s v place.link) c d)
+    comes_keep laws s (CameBut s w v n (p ∷ ps)) (CameBut s w v n ps) (Uncarried s v) net y v x place.link place.role (λ d. not_both (has_carrier s v place.link) c d)
     (λ placed f i t q. f q)
     (λ k placed out f. came_next s w v n p ps (Some place) e k placed (λ i same. out (sym same)) f) h
 come_one laws s net y w v n p ps x place false e c h =
     weaker s (CameBut s w v n (p ∷ ps)) (CameBut s w v n ps) (Uncarried s v) (Uncarried s v) x
-    (λ k placed f. came_next s w v n p ps (Some place) e k placed (λ i same. true_false (has_carrier s v k) i (ap (has_carrier s v) (sym same) ∙ c)) f) (λ k d. d) h
+    (λ k placed f. came_next s w v n p ps (Some place) e k placed (λ i same. not_both (has_carrier s v k) i (ap (has_carrier s v) (sym same) ∙ c)) f) (λ k d. d) h
 
 come_next : Laws → (s : Setting) → IsNetwork s → (y : ℤ) (w v : WorldAt) (n p : ℕ) (ps : List ℕ) (x : WorldAt) (o : Option Place) → place_of s n p ≡ o →
     RunKeeps s (CameBut s w v n (p ∷ ps)) (Uncarried s v) x → RunKeeps s (CameBut s w v n ps) (Uncarried s v) (gives_all s y x (if_carried s v (comes_from s v) o))

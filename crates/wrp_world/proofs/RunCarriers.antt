@@ -6,18 +6,20 @@ use Rattle.wrp_base.specs.declared.link.Role.{Role}
 use Rattle.wrp_base.specs.declared.link.Role.TheVariants.{Master, Slave}
 use Rattle.wrp_base.specs.declared.network.LinkCfg.{LinkCfg}
 use Rattle.wrp_base.specs.Network.{End}
+use Rattle.wrp_base.proofs.Naturals.{eq_self}
 use Rattle.wrp_bounds.specs.Times.{shortest_tick, frame_life}
 use Rattle.wrp_handshake.specs.Ends.{heard}
 use Rattle.wrp_link.specs.declared.interface.LinkIn.TheVariants as link_in
 use Rattle.wrp_node.specs.declared.interface.Input.TheVariants.{Carrier}
 use Rattle.wrp_node.specs.LinkNews.{Nothing, Given as Handed, StepGivesLinks}
 use Rattle.wrp_node.specs.Sends.{SignalsAreOfLink}
+use Rattle.wrp_node.proofs.Sends.{not_equal}
 use Rattle.wrp_world.specs.Given.{Given, given_plain, gives}
 use Rattle.wrp_world.specs.LinkEnds.{ends_at, port_at}
 use Rattle.wrp_world.specs.Setting.{Setting, end_at, end_of, link_of, other_of}
 use Rattle.wrp_world.specs.WorldAt.{WorldAt}
 use Rattle.wrp_world.proofs.RunGiven.{LinkCan, carriers_come, end_is, of_both, with_ports}
-use Rattle.wrp_world.proofs.RunPorts.{port_by_news, port_given, port_other, self_equal, not_equal}
+use Rattle.wrp_world.proofs.RunPorts.{port_by_news, port_given, port_other}
 
 abbrev pub comes_to : End → Option Module → Given
 comes_to end m = given_plain end.node (Carrier end.port true m)
@@ -30,7 +32,7 @@ pub lit_here : StepGivesLinks → SignalsAreOfLink → (s : Setting) (y : ℤ) (
     port_at s (gives s y v (comes_to end m)) k r end ≡ heard v.time (port_at s v k r end) (link_in.CarrierUp m) (pos 0)
 lit_here links signals s y v end m k r is =
     port_given links signals s y v (comes_to end m) k r end is refl
-    ∙ ap (λ b. port_by_news v.time (port_at s v k r end) (pos 0) (if b then Handed (link_in.CarrierUp m) else Nothing)) (self_equal end.port)
+    ∙ ap (λ b. port_by_news v.time (port_at s v k r end) (pos 0) (if b then Handed (link_in.CarrierUp m) else Nothing)) (eq_self end.port)
 
 -- any other
 lit_other : StepGivesLinks → SignalsAreOfLink → (s : Setting) (y : ℤ) (v : WorldAt) (end other : End) (m : Option Module) (k : ℕ) (r : Role) → end_at s k r ≡ Some other → (other ≡ end → ⊥) →

@@ -7,9 +7,11 @@ use Rattle.wrp_base.specs.declared.link.Role.{Role}
 use Rattle.wrp_base.specs.declared.link.Role.TheVariants.{Master, Slave}
 use Rattle.wrp_base.specs.declared.message.PtpMsg.{PtpMsg}
 use Rattle.wrp_base.specs.declared.network.LinkCfg.{LinkCfg}
+use Rattle.wrp_base.proofs.Booleans.{not_both}
 use Rattle.wrp_frame.specs.declared.fault.FrameFault.{FrameFault}
 use Rattle.wrp_node.specs.declared.interface.Input.TheVariants.{Reset}
 use Rattle.wrp_node.specs.NodeAt.{numbers_of}
+use Rattle.wrp_node.proofs.Sends.{not_equal}
 use Rattle.wrp_world.specs.declared.clocks.ClockState.{ClockState}
 use Rattle.wrp_world.specs.declared.event.Event.{Event}
 use Rattle.wrp_world.specs.declared.event.Event.TheVariants.{Down, Up, Cut, Join}
@@ -26,14 +28,10 @@ use Rattle.wrp_world.specs.WorldAt.{WorldAt, ends_are_up, has_carrier}
 use Rattle.wrp_world.proofs.RunCarried.{CameBut, GoneBut, IsLeft, Uncarried, ports_come, ports_go}
 use Rattle.wrp_world.proofs.RunKept.{Laws, RunKeeps, comes_keep, fair_keeps, goes_keep, weaker}
 use Rattle.wrp_world.proofs.RunListed.{link_is_left}
-use Rattle.wrp_world.proofs.RunPorts.{not_equal}
 use Rattle.wrp_world.proofs.RunSettled.{Placed, WorldKeeps, kept_on, moved_keeps, settled}
 use Rattle.wrp_world.proofs.RunTimes.{all_right}
 
 -- Carriers that go
-
-pub true_false : (b : Bool) → b ≡ true → b ≡ false → ⊥
-true_false b e f = cc
 
 -- a link either is one of the node's, or has the same ends up
 link_of_node : (s : Setting) → IsNetwork s → (c d : ℕ → ClockState) (n k : ℕ) (o : Option LinkCfg) → link_of s k ≡ o → ((m : ℕ) → (m ≡ n → ⊥) → (c m).up ≡ (d m).up) →
@@ -52,16 +50,16 @@ other_clock : (c d : ClockState) (m n : ℕ) → (m ≡ n → ⊥) → (if m == 
 other_clock c d m n out = ap (λ b. (if b then c else d).up) (not_equal m n out)
 
 -- both ends are up where they still are once a node went down
-and_less : (a b c d : Bool) → (a ≡ true → c ≡ true) → (b ≡ true → d ≡ true) → (a && b) ≡ true → (c && d) ≡ true
+pub and_less : (a b c d : Bool) → (a ≡ true → c ≡ true) → (b ≡ true → d ≡ true) → (a && b) ≡ true → (c && d) ≡ true
 and_less true b c d f g e = ap₂ (λ x y. x && y) (f refl) (g e)
-and_less false b c d f g e = absurd (true_false false e refl)
+and_less false b c d f g e = absurd (not_both false e refl)
 
-ends_less : (c d : ℕ → ClockState) (o : Option LinkCfg) → ((n : ℕ) → (c n).up ≡ true → (d n).up ≡ true) → ends_are_up c o ≡ true → ends_are_up d o ≡ true
+pub ends_less : (c d : ℕ → ClockState) (o : Option LinkCfg) → ((n : ℕ) → (c n).up ≡ true → (d n).up ≡ true) → ends_are_up c o ≡ true → ends_are_up d o ≡ true
 ends_less c d None h e = e
 ends_less c d (Some link) h e = and_less (c link.upper).up (c link.lower).up (d link.upper).up (d link.lower).up (h link.upper) (h link.lower) e
 
 down_less : (b : Bool) (c : ClockState) → (if b then record c { up = false } else c).up ≡ true → c.up ≡ true
-down_less true c e = absurd (true_false false e refl)
+down_less true c e = absurd (not_both false e refl)
 down_less false c e = e
 
 pub was_up : (s : Setting) (w : WorldAt) (n k : ℕ) → has_carrier s (moved s w (Down n)) k ≡ true → has_carrier s w k ≡ true
@@ -75,7 +73,7 @@ went_down s net w n k false e d = inl e
 went_down s net w n k true e d =
     elim (link_of_node s net (moved s w (Down n)).clock w.clock n k (link_of s k) refl (λ m out. other_clock (record (w.clock m) { up = false }) (w.clock m) m n out)) [
       | inl x ↦ inr (x, λ t. t)
-      | inr x ↦ absurd (true_false (has_carrier s w k) e (sym (ap (λ b. (w.fibre k).joined && b) x) ∙ d))
+      | inr x ↦ absurd (not_both (has_carrier s w k) e (sym (ap (λ b. (w.fibre k).joined && b) x) ∙ d))
     ]
 
 -- none is gone yet
@@ -94,12 +92,12 @@ down_keeps laws s net says y w n event a h =
     (weaker s (Placed s w) (Placed s w) (Uncarried s w) (GoneBut s w n all all) v (λ k placed f. f) (none_gone s w n all)
     (moved_keeps s (Placed s w) (Uncarried s w) w (Down n) event h))))
 
-joined_where : (b : Bool) (f g : FibreState) → (if b then f else g).joined ≡ (if b then f.joined else g.joined)
+pub joined_where : (b : Bool) (f g : FibreState) → (if b then f else g).joined ≡ (if b then f.joined else g.joined)
 joined_where true f g = refl
 joined_where false f g = refl
 
 pub cut_less : (b j up : Bool) → ((if b then false else j) && up) ≡ true → (j && up) ≡ true
-cut_less true j up e = absurd (true_false false e refl)
+cut_less true j up e = absurd (not_both false e refl)
 cut_less false j up e = e
 
 pub cut_carrier : (s : Setting) (w : WorldAt) (l k : ℕ) → has_carrier s (moved s w (Cut l)) k ≡ ((if k == l then false else (w.fibre k).joined) && ends_are_up w.clock (link_of s k))
@@ -131,22 +129,18 @@ cut_keeps laws s net says y w l event a h =
 
 -- Carriers that come
 
-up_more : (b : Bool) (c d : ClockState) → c.up ≡ true → d.up ≡ true → (if b then c else d).up ≡ true
+pub up_more : (b : Bool) (c d : ClockState) → c.up ≡ true → d.up ≡ true → (if b then c else d).up ≡ true
 up_more true c d e f = e
 up_more false c d e f = f
 
-still_up : (s : Setting) (w : WorldAt) (n : ℕ) (off : ℤ) (swaps : Items Swap) (k : ℕ) → has_carrier s w k ≡ true → has_carrier s (moved s w (Up n off swaps)) k ≡ true
+pub still_up : (s : Setting) (w : WorldAt) (n : ℕ) (off : ℤ) (swaps : Items Swap) (k : ℕ) → has_carrier s w k ≡ true → has_carrier s (moved s w (Up n off swaps)) k ≡ true
 still_up s w n off swaps k c =
     and_less (w.fibre k).joined (ends_are_up w.clock (link_of s k)) (w.fibre k).joined (ends_are_up (moved s w (Up n off swaps)).clock (link_of s k)) (λ j. j)
     (ends_less w.clock (moved s w (Up n off swaps)).clock (link_of s k) (λ m e. up_more (m == n) (record { up = true; off = off; ticked = w.time; samples = 0 }) (w.clock m) refl e)) c
 
-pub bool_of : (b : Bool) → (b ≡ true) ⊎ (b ≡ false)
-bool_of true = inl refl
-bool_of false = inr refl
-
 -- without its carrier now, a link had none before
-less_dark : (a b : Bool) → (a ≡ true → b ≡ true) → b ≡ false → a ≡ false
-less_dark true b f e = absurd (true_false b (f refl) e)
+pub less_dark : (a b : Bool) → (a ≡ true → b ≡ true) → b ≡ false → a ≡ false
+less_dark true b f e = absurd (not_both b (f refl) e)
 less_dark false b f e = refl
 
 -- a carrier that is new is at one of the node's ports
@@ -178,21 +172,21 @@ pub join_carrier : (s : Setting) (w : WorldAt) (l : ℕ) (ms sm : ℤ) (k : ℕ)
 join_carrier s w l ms sm k out =
     ap (λ b. (if b then record { joined = true; ms = ms; sm = sm } else w.fibre k).joined && ends_are_up w.clock (link_of s k)) (not_equal k l out)
 
-not_joined : (s : Setting) (w : WorldAt) (says : Result PtpMsg FrameFault) (l : ℕ) (ms sm : ℤ) → Accepts s w says (Join l ms sm) → not (not (w.fibre l).joined) ≡ false
+pub not_joined : (s : Setting) (w : WorldAt) (says : Result PtpMsg FrameFault) (l : ℕ) (ms sm : ℤ) → Accepts s w says (Join l ms sm) → not (not (w.fibre l).joined) ≡ false
 not_joined s w says l ms sm a = (all_right Holds (fibre_kept s (moved s w (Join l ms sm)) l) (stands (not (w.fibre l).joined) ∷ []) a).0
 
 was_dark : (j up : Bool) → not (not j) ≡ false → (j && up) ≡ false
-was_dark true up e = absurd (true_false true refl e)
+was_dark true up e = absurd (not_both true refl e)
 was_dark false up e = refl
 
 join_gives : Laws → (s : Setting) → IsNetwork s → (y : ℤ) (w v : WorldAt) (l : ℕ) (b : Bool) → has_carrier s v l ≡ b → ((k : ℕ) (placed : Role → Option Module) → (k ≡ l → ⊥) → Placed s w k placed → Placed s v k placed) →
     RunKeeps s (Placed s w) (Uncarried s v) v → RunKeeps s (Placed s v) (Uncarried s v) (gives_all s y v (if b then comes_from s v l Master else []))
 join_gives laws s net y w v l true e f h =
-    comes_keep laws s (Placed s w) (Placed s v) (Uncarried s v) net y v v l Master (λ d. true_false (has_carrier s v l) e d) (λ placed g c. g) f h
+    comes_keep laws s (Placed s w) (Placed s v) (Uncarried s v) net y v v l Master (λ d. not_both (has_carrier s v l) e d) (λ placed g c. g) f h
 join_gives laws s net y w v l false e f h =
     weaker s (Placed s w) (Placed s v) (Uncarried s v) (Uncarried s v) v
     (λ k placed p. elim (eqb_tells k l) [
-      | inl x ↦ λ c. absurd (true_false (has_carrier s v k) c (ap (has_carrier s v) x.1 ∙ e))
+      | inl x ↦ λ c. absurd (not_both (has_carrier s v k) c (ap (has_carrier s v) x.1 ∙ e))
       | inr x ↦ f k placed x.1 p
     ]) (λ k d. d) h
 

@@ -4,6 +4,7 @@ use Rattle.std.proofs.lemmas.Bool.Decides.{eqb_tells}
 use Rattle.wrp_base.specs.declared.link.Role.{Role}
 use Rattle.wrp_base.specs.declared.message.PtpMsg.{PtpMsg}
 use Rattle.wrp_base.specs.Network.{End}
+use Rattle.wrp_base.proofs.Naturals.{eq_self}
 use Rattle.wrp_frame.specs.declared.fault.FrameFault.{FrameFault}
 use Rattle.wrp_handshake.specs.Ends.{IsNoCarrier, Port}
 use Rattle.wrp_link.specs.declared.interface.LinkIn.{LinkIn}
@@ -21,7 +22,7 @@ use Rattle.wrp_world.specs.LinkEnds.{port_at}
 use Rattle.wrp_world.specs.Setting.{Setting, end_at, fixed_of}
 use Rattle.wrp_world.specs.WorldAt.{WorldAt}
 use Rattle.wrp_world.proofs.RunGiven.{IsFair, IsFairInput}
-use Rattle.wrp_world.proofs.RunPorts.{any_frame, port_by_news, port_given, port_other, self_equal}
+use Rattle.wrp_world.proofs.RunPorts.{any_frame, port_by_news, port_given, port_other}
 
 -- news by which no carrier comes
 abbrev NoLight : LinkNews → Type 0
@@ -96,5 +97,5 @@ pub gone_here : StepGivesLinks → SignalsAreOfLink → (s : Setting) (y : ℤ) 
 gone_here links signals s y v k r end is =
     ap (λ (q : Port). q.link.carrier)
     (port_given links signals s y v (goes_to end) k r end is refl
-    ∙ ap (λ b. port_by_news v.time (port_at s v k r end) (pos 0) (if b then Handed link_in.CarrierDown else Nothing)) (self_equal end.port))
+    ∙ ap (λ b. port_by_news v.time (port_at s v k r end) (pos 0) (if b then Handed link_in.CarrierDown else Nothing)) (eq_self end.port))
     ∙ down_by (port_at s v k r end).link (port_at s v k r end).link.carrier refl

@@ -1,11 +1,13 @@
 -- What is kept after every event of every run, and the laws that follow.
 use Rattle.std.proofs.Common.{◌≡◌, inl, inr, ◌∙◌, refl, ap, sym, subst, subst₂, ℕ, ℤ, Bool, true, false, List, [], ◌∷◌, None, Result}
+use Rattle.std.proofs.lemmas.Bool.{cases_Bool}
 use Rattle.wrp_base.specs.declared.link.LinkState.TheVariants.{Idle, LinkOn}
 use Rattle.wrp_base.specs.declared.link.Role.{Role}
 use Rattle.wrp_base.specs.declared.link.Role.TheVariants.{Master, Slave}
 use Rattle.wrp_base.specs.declared.message.PtpMsg.{PtpMsg}
 use Rattle.wrp_base.specs.declared.network.LinkCfg.{LinkCfg}
 use Rattle.wrp_base.specs.Network.{End}
+use Rattle.wrp_base.proofs.Booleans.{not_both}
 use Rattle.wrp_bounds.specs.Times.{shortest_tick, frame_life}
 use Rattle.wrp_check.specs.Handshake.{SameHandshake}
 use Rattle.wrp_frame.specs.declared.fault.FrameFault.{FrameFault}
@@ -18,6 +20,7 @@ use Rattle.wrp_node.specs.NodeAt.{link_at}
 use Rattle.wrp_world.specs.declared.event.Event.{Event}
 use Rattle.wrp_world.specs.declared.event.Event.TheVariants.{Pass, Tick, Sample, Depart, Arrive, Deliver, Noise, Down, Up, Cut, Join}
 use Rattle.wrp_world.specs.EventAt.{IsEventOf}
+use Rattle.wrp_world.proofs.WordReports.{idle_on}
 use Rattle.wrp_world.specs.Given.{Given, delivered, given, given_plain, sent_oldest, world_step}
 use Rattle.wrp_world.specs.LinkEnds.{ends_at, port_at}
 use Rattle.wrp_world.specs.Moved.{moved, waiting_at}
@@ -30,7 +33,7 @@ use Rattle.wrp_world.specs.WorldAt.{WorldAt, has_carrier, new_world}
 use Rattle.wrp_world.proofs.RunCarried.{Uncarried}
 use Rattle.wrp_world.proofs.RunFrames.{FramesKeep}
 use Rattle.wrp_world.proofs.RunKept.{IsFree, Laws, LinkKeeps, fair_keeps, free_keep}
-use Rattle.wrp_world.proofs.RunChanges.{bool_of, cut_keeps, down_keeps, join_keeps, true_false, up_keeps}
+use Rattle.wrp_world.proofs.RunChanges.{cut_keeps, down_keeps, join_keeps, up_keeps}
 use Rattle.wrp_world.proofs.RunGifts.{sent_all}
 use Rattle.wrp_world.proofs.RunHanded.{deliver_keeps, noise_news, not_early, not_forged}
 use Rattle.wrp_world.proofs.RunLinks.{IsDark}
@@ -85,7 +88,7 @@ start_keeps : Laws → (s : Setting) → IsNetwork s → WorldKeeps s (new_world
 start_keeps laws s net = record {
   links = λ k link is. record {
     placed = λ r. None;
-    known = λ c q. absurd (true_false false c refl);
+    known = λ c q. absurd (not_both false c refl);
     can = start_can laws.ends s net k link is;
     dark = λ d r. refl;
   };
@@ -115,9 +118,6 @@ link_on_in_the_same_handshake laws s events n p place run at on =
     at_role laws.one_link s w place.link place.role it.link (links_can_be laws s events place.link it.link run it.there)
     (subst (λ (end : End). (link_at (s.set end.node) (w.node end.node) end.port).state ≡ LinkOn) (sym it.end_is) on)
 
-idle_on : Idle ≡ LinkOn → ⊥
-idle_on e = cc
-
 -- a port in WR_LINK_ON has its carrier
 on_lit : (l : LinkAt) (b : Bool) → l.carrier ≡ b → IsDark l → l.state ≡ LinkOn → b ≡ true
 on_lit l true e dark on = refl
@@ -127,9 +127,9 @@ on_lit l false e dark on = absurd (let idle : l.state ≡ Idle = ap (λ (x : Lin
 port_lit : (s : Setting) (w : WorldAt) (k : ℕ) (r : Role) (link : LinkCfg) → LinkKeeps s (Placed s w) (Uncarried s w) w k link →
     (port_at s w k r (end_of r link)).link.carrier ≡ true → has_carrier s w k ≡ true
 port_lit s w k r link it lit =
-    elim (bool_of (has_carrier s w k)) [
+    elim (cases_Bool (has_carrier s w k)) [
       | inl x ↦ x
-      | inr x ↦ absurd (true_false (port_at s w k r (end_of r link)).link.carrier lit (it.dark x r))
+      | inr x ↦ absurd (not_both (port_at s w k r (end_of r link)).link.carrier lit (it.dark x r))
     ]
 
 module_at : ModuleAsOneLink → (s : Setting) (w : WorldAt) (k : ℕ) (r : Role) (link : LinkCfg) (can : CanBe (frame_life s.cfg) (shortest_tick s.cfg) (ends_at s w k link)) →

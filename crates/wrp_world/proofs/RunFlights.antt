@@ -1,11 +1,13 @@
 -- When frames were put out, departed and arrived, after every event of every run.
 use Rattle.std.proofs.Common.{◌≡◌, ◌⊎◌, inl, inr, refl, sym, subst, ℕ, ◌+◌, ◌==◌, ◌&&◌, ◌||◌, ◌≤◌, ℤ, pos, ◌-ℤ◌, ◌≤ℤ◌, not, nat_lt, unsigned_abs, Bool, true, false, if◌then◌else◌, List, [], ◌∷◌, map, Option, None, Some, IfSome, option_map, Result, arith}
-use Rattle.std.proofs.lemmas.Bool.{eqb-true}
+use Rattle.std.proofs.lemmas.Bool.{eqb-true, true≢false}
 use Rattle.std.proofs.lemmas.Int.{ints}
 use Rattle.std.specs.Int.Signed.{le_z}
 use Rattle.wrp_base.specs.declared.link.Role.{Role}
 use Rattle.wrp_base.specs.declared.message.PtpMsg.{PtpMsg}
+use Rattle.wrp_base.proofs.Naturals.{le_one_more, nat_le_self, nat_le_trans}
 use Rattle.wrp_base.specs.declared.time.Raw.{Raw}
+use Rattle.wrp_base.proofs.Integers.{int_le_self, int_le_trans}
 use Rattle.wrp_frame.specs.declared.fault.FrameFault.{FrameFault}
 use Rattle.wrp_world.specs.declared.event.Event.{Event}
 use Rattle.wrp_world.specs.declared.event.Event.TheVariants.{Pass, Tick, Sample, Depart, Arrive, Deliver, Noise, Down, Up, Cut, Join}
@@ -23,36 +25,21 @@ use Rattle.wrp_world.specs.WorldAt.{Arrival, FrameAt, Sending, WorldAt, is_on_fi
 use Rattle.wrp_world.proofs.RunFrames.{FrameOf, FramesKeep, all_given_frames, moved_frames, moved_sent, queue_known, told_either}
 use Rattle.wrp_world.proofs.RunTimes.{moved_time}
 
-none_some : {A : Type 0} (x : A) → None ≡ Some x → ⊥
-none_some x e = cc
-
-some_same : {A : Type 0} (x y : A) → Some x ≡ Some y → x ≡ y
-some_same x y e = cc
-
-true_false : true ≡ false → ⊥
-true_false e = cc
-
 -- Later
-
-at_most_by : (a b c : ℤ) → a ≤ℤ b → b ≤ℤ c → a ≤ℤ c
-at_most_by a b c h k = omega (arith, ints, h, k)
-
-few_by : (a b c : ℕ) → a ≤ b → b ≤ c → a ≤ c
-few_by a b c h k = omega (arith, h, k)
 
 abbrev Came : (now : ℤ) (count : ℕ) → FrameAt → Arrival → Type 0
 Came now count f a = (f.at ≤ℤ a.at) × (a.at ≤ℤ now) × (f.moment ≤ a.moment) × (a.moment ≤ count) × (a.at ≡ f.due)
 
 came_later : (now past : ℤ) (count more : ℕ) (f : FrameAt) (o : Option Arrival) → now ≤ℤ past → count ≤ more → IfSome o (Came now count f) → IfSome o (Came past more f)
 came_later now past count more f None t c h = tt
-came_later now past count more f (Some a) t c h = (h.0, at_most_by a.at now past h.1 t, h.2, few_by a.moment count more h.3 c, h.4)
+came_later now past count more f (Some a) t c h = (h.0, int_le_trans a.at now past h.1 t, h.2, nat_le_trans a.moment count more h.3 c, h.4)
 
 times_later : (w v : WorldAt) (f : FrameAt) → w.time ≤ℤ v.time → w.count ≤ v.count → HasTimes w f → HasTimes v f
 times_later w v f t c h = record {
   sent = h.sent;
   sent_before = h.sent_before;
-  departed = at_most_by f.at w.time v.time h.departed t;
-  departed_before = few_by f.moment w.count v.count h.departed_before c;
+  departed = int_le_trans f.at w.time v.time h.departed t;
+  departed_before = nat_le_trans f.moment w.count v.count h.departed_before c;
   arrived = came_later w.time v.time w.count v.count f f.arrival t c h.arrived;
 }
 
@@ -72,23 +59,17 @@ pub record TimesKeep (w : WorldAt) : Type 0 where
 
 -- One input
 
-put_either : (x : Sending) (ms sent : List Sending) → WasPutOut x (put_out ms sent) → WasPutOut x ms ⊎ WasPutOut x sent
+pub put_either : (x : Sending) (ms sent : List Sending) → WasPutOut x (put_out ms sent) → WasPutOut x ms ⊎ WasPutOut x sent
 put_either x [] sent h = inr h
 put_either x (m ∷ ms) sent h = elim (put_either x ms (m ∷ sent) h) [
   | inl a ↦ inl (inr a)
   | inr b ↦ elim b [ inl e ↦ inl (inl e) | inr t ↦ inr t ]
 ]
 
-same_at : (t : ℤ) → t ≤ℤ t
-same_at t = omega (arith, ints)
-
-same_count : (n : ℕ) → n ≤ n
-same_count n = omega arith
-
 new_timed : (v : WorldAt) (x : Sending) (ms : List PtpMsg) → WasPutOut x (map (sending v) ms) → Timed v x
 new_timed v x [] h = absurd h
 new_timed v x (m ∷ ms) h = elim h [
-  | inl e ↦ subst (Timed v) (sym e) (same_at v.time, same_count v.count)
+  | inl e ↦ subst (Timed v) (sym e) (int_le_self v.time, nat_le_self v.count)
   | inr t ↦ new_timed v x ms t
 ]
 
@@ -102,7 +83,7 @@ given_sent s y v g k r x h =
 
 frame_given : (s : Setting) (y : ℤ) (v : WorldAt) (g : Given) (o : Option FrameAt) → FrameTimed v o → FrameTimed (gives s y v g) o
 frame_given s y v g None h = tt
-frame_given s y v g (Some f) h = times_later v (gives s y v g) f (same_at v.time) (same_count v.count) h
+frame_given s y v g (Some f) h = times_later v (gives s y v g) f (int_le_self v.time) (nat_le_self v.count) h
 
 all_given_times : (s : Setting) (y : ℤ) (gs : List Given) (v : WorldAt) → TimesKeep v → TimesKeep (gives_all s y v gs)
 all_given_times s y [] v h = h
@@ -115,9 +96,6 @@ all_given_times s y (g ∷ gs) v h =
     })
 
 -- What an event changes by itself
-
-one_count : (n : ℕ) → n ≤ n + 1
-one_count n = omega arith
 
 at_due : (now due : ℤ) → not (le_z (pos (unsigned_abs (now -ℤ due))) (pos 0)) ≡ false → now ≡ due
 at_due now due h = grind (arith, ints, h)
@@ -147,7 +125,7 @@ comes_due : (s : Setting) (w : WorldAt) (j : ℕ) (raw : Raw) (b : Bool) (o : Op
 comes_due s w j raw true None a = tt
 comes_due s w j raw true (Some f) a = at_due w.time f.due a.0
 comes_due s w j raw false None a = tt
-comes_due s w j raw false (Some f) a = absurd (true_false a.0)
+comes_due s w j raw false (Some f) a = absurd (true≢false a.0)
 
 came_now : (s : Setting) (w v : WorldAt) (j : ℕ) (raw : Raw) (g f : FrameAt) (i : ℕ) → w.time ≤ℤ v.time → w.count ≤ v.count → HasTimes w f → (i ≡ j → w.time ≡ f.due) → (i == j) ≡ true →
     Came v.time v.count f (record { raw = raw; sample = samples_at s w g; at = w.time; moment = w.count })
@@ -174,38 +152,38 @@ stays_timed w v (Some f) t c h = times_later w v f t c h
 
 frame_timed : (s : Setting) (w : WorldAt) (says : Result PtpMsg FrameFault) (e : Event) (i : ℕ) → IsEventOf s.cfg e → Accepts s w says e → TimesKeep w → FrameTimed (moved s w e) (frame_after s w e i)
 frame_timed s w says (Depart n p stamp) i event a h =
-    leaves w (moved s w (Depart n p stamp)) (place_of s n p) stamp i (waiting_at w (place_of s n p)) (same_at w.time) (one_count w.count)
+    leaves w (moved s w (Depart n p stamp)) (place_of s n p) stamp i (waiting_at w (place_of s n p)) (int_le_self w.time) (le_one_more w.count)
     (λ x z e q. h.sent z.link z.role x (queue_known w h.known.waits (place_of s n p) x z e q))
-    (stays_timed w (moved s w (Depart n p stamp)) (w.frame i) (same_at w.time) (one_count w.count) (h.frames i))
+    (stays_timed w (moved s w (Depart n p stamp)) (w.frame i) (int_le_self w.time) (le_one_more w.count) (h.frames i))
 frame_timed s w says (Arrive j raw) i event a h =
-    arrived_timed s w (moved s w (Arrive j raw)) j raw (w.frame j) i (w.frame i) (same_at w.time) (one_count w.count) (h.frames i)
+    arrived_timed s w (moved s w (Arrive j raw)) j raw (w.frame j) i (w.frame i) (int_le_self w.time) (le_one_more w.count) (h.frames i)
     (λ e. subst (λ x. due_of (w.frame x) w.time) (sym e) (comes_due s w j raw (is_on_fibre (w.frame j)) (w.frame j) a))
 frame_timed s w says (Pass dt drifts fibres) i event a h =
-    removed_timed s w (moved s w (Pass dt drifts fibres)) (Pass dt drifts fibres) (w.frame i) (moved_time s w (Pass dt drifts fibres) event) (one_count w.count) (h.frames i)
+    removed_timed s w (moved s w (Pass dt drifts fibres)) (Pass dt drifts fibres) (w.frame i) (moved_time s w (Pass dt drifts fibres) event) (le_one_more w.count) (h.frames i)
 frame_timed s w says (Tick n) i event a h =
-    removed_timed s w (moved s w (Tick n)) (Tick n) (w.frame i) (moved_time s w (Tick n) event) (one_count w.count) (h.frames i)
+    removed_timed s w (moved s w (Tick n)) (Tick n) (w.frame i) (moved_time s w (Tick n) event) (le_one_more w.count) (h.frames i)
 frame_timed s w says (Sample n base bits) i event a h =
-    removed_timed s w (moved s w (Sample n base bits)) (Sample n base bits) (w.frame i) (moved_time s w (Sample n base bits) event) (one_count w.count) (h.frames i)
+    removed_timed s w (moved s w (Sample n base bits)) (Sample n base bits) (w.frame i) (moved_time s w (Sample n base bits) event) (le_one_more w.count) (h.frames i)
 frame_timed s w says (Deliver j) i event a h =
-    removed_timed s w (moved s w (Deliver j)) (Deliver j) (w.frame i) (moved_time s w (Deliver j) event) (one_count w.count) (h.frames i)
+    removed_timed s w (moved s w (Deliver j)) (Deliver j) (w.frame i) (moved_time s w (Deliver j) event) (le_one_more w.count) (h.frames i)
 frame_timed s w says (Noise n p octets raw) i event a h =
-    removed_timed s w (moved s w (Noise n p octets raw)) (Noise n p octets raw) (w.frame i) (moved_time s w (Noise n p octets raw) event) (one_count w.count) (h.frames i)
+    removed_timed s w (moved s w (Noise n p octets raw)) (Noise n p octets raw) (w.frame i) (moved_time s w (Noise n p octets raw) event) (le_one_more w.count) (h.frames i)
 frame_timed s w says (Down n) i event a h =
-    removed_timed s w (moved s w (Down n)) (Down n) (w.frame i) (moved_time s w (Down n) event) (one_count w.count) (h.frames i)
+    removed_timed s w (moved s w (Down n)) (Down n) (w.frame i) (moved_time s w (Down n) event) (le_one_more w.count) (h.frames i)
 frame_timed s w says (Up n off swaps) i event a h =
-    removed_timed s w (moved s w (Up n off swaps)) (Up n off swaps) (w.frame i) (moved_time s w (Up n off swaps) event) (one_count w.count) (h.frames i)
+    removed_timed s w (moved s w (Up n off swaps)) (Up n off swaps) (w.frame i) (moved_time s w (Up n off swaps) event) (le_one_more w.count) (h.frames i)
 frame_timed s w says (Cut l) i event a h =
-    removed_timed s w (moved s w (Cut l)) (Cut l) (w.frame i) (moved_time s w (Cut l) event) (one_count w.count) (h.frames i)
+    removed_timed s w (moved s w (Cut l)) (Cut l) (w.frame i) (moved_time s w (Cut l) event) (le_one_more w.count) (h.frames i)
 frame_timed s w says (Join l ms sm) i event a h =
-    removed_timed s w (moved s w (Join l ms sm)) (Join l ms sm) (w.frame i) (moved_time s w (Join l ms sm) event) (one_count w.count) (h.frames i)
+    removed_timed s w (moved s w (Join l ms sm)) (Join l ms sm) (w.frame i) (moved_time s w (Join l ms sm) event) (le_one_more w.count) (h.frames i)
 
 sent_later : (w v : WorldAt) (x : Sending) → w.time ≤ℤ v.time → w.count ≤ v.count → Timed w x → Timed v x
-sent_later w v x t c h = (at_most_by x.at w.time v.time h.0 t, few_by x.moment w.count v.count h.1 c)
+sent_later w v x t c h = (int_le_trans x.at w.time v.time h.0 t, nat_le_trans x.moment w.count v.count h.1 c)
 
 moved_times : (s : Setting) (w : WorldAt) (says : Result PtpMsg FrameFault) (e : Event) → IsEventOf s.cfg e → Accepts s w says e → TimesKeep w → TimesKeep (moved s w e)
 moved_times s w says e event a h = record {
   known = moved_frames s w e h.known;
-  sent = λ k r x p. sent_later w (moved s w e) x (moved_time s w e event) (one_count w.count) (h.sent k r x (subst (WasPutOut x) (moved_sent s w e k r) p));
+  sent = λ k r x p. sent_later w (moved s w e) x (moved_time s w e event) (le_one_more w.count) (h.sent k r x (subst (WasPutOut x) (moved_sent s w e k r) p));
   frames = λ i. frame_timed s w says e i event a h;
 }
 

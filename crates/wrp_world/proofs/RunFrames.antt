@@ -1,5 +1,6 @@
 -- Frames that wait and frames that departed were put out by their port.
 use Rattle.std.proofs.Common.{◌≡◌, ◌⊎◌, inl, inr, refl, sym, subst, ℕ, ◌+◌, ◌==◌, ◌&&◌, ◌||◌, ℤ, nat_lt, Bool, true, false, if◌then◌else◌, List, [], ◌∷◌, ◌++◌, map, Option, None, Some, option_map}
+use Rattle.std.proofs.lemmas.Option.{none-some, same_Some}
 use Rattle.wrp_base.specs.declared.link.Role.{Role}
 use Rattle.wrp_base.specs.declared.time.Raw.{Raw}
 use Rattle.wrp_base.specs.Network.{End}
@@ -13,13 +14,7 @@ use Rattle.wrp_world.specs.Moved.{arrived, arriving, behind_first, departing, en
 use Rattle.wrp_world.specs.Runs.{WasPutOut}
 use Rattle.wrp_world.specs.Setting.{Setting, end_at, is_of, is_role, place_of}
 use Rattle.wrp_world.specs.WorldAt.{EndAt, FrameAt, Sending, WorldAt, is_on_fibre}
-use Rattle.wrp_world.proofs.RunPorts.{told_end}
-
-some_is : {A : Type 0} (x y : A) → Some x ≡ Some y → x ≡ y
-some_is x y e = cc
-
-none_some : {A : Type 0} (x : A) → None ≡ Some x → ⊥
-none_some x e = cc
+use Rattle.wrp_world.proofs.RunPorts.{told_end, one_of}
 
 -- what is known of a frame, if there is one
 abbrev pub FrameOf : WorldAt → Option FrameAt → Type 0
@@ -32,11 +27,11 @@ pub record FramesKeep (w : WorldAt) : Type 0 where
 
 -- A list of what was put out
 
-in_put : (x : Sending) (ms sent : List Sending) → WasPutOut x sent → WasPutOut x (put_out ms sent)
+pub in_put : (x : Sending) (ms sent : List Sending) → WasPutOut x sent → WasPutOut x (put_out ms sent)
 in_put x [] sent h = h
 in_put x (m ∷ ms) sent h = in_put x ms (m ∷ sent) (inr h)
 
-new_put : (x : Sending) (ms sent : List Sending) → WasPutOut x ms → WasPutOut x (put_out ms sent)
+pub new_put : (x : Sending) (ms sent : List Sending) → WasPutOut x ms → WasPutOut x (put_out ms sent)
 new_put x [] sent h = absurd h
 new_put x (m ∷ ms) sent h = elim h [ inl e ↦ in_put x ms (m ∷ sent) (inl e) | inr t ↦ new_put x ms (m ∷ sent) t ]
 
@@ -87,9 +82,6 @@ all_given_frames s y (g ∷ gs) v h = all_given_frames s y gs (gives s y v g) (g
 
 -- What an event changes by itself
 
-abbrev one_of : Bool → EndAt → EndAt → EndAt
-one_of b e f = if b then e else f
-
 with_swap_sent : (o : Option Swap) (e : EndAt) → (with_swap o e).sent ≡ e.sent
 with_swap_sent None e = refl
 with_swap_sent (Some swap) e = refl
@@ -98,7 +90,7 @@ with_swap_marks : (o : Option Swap) (e : EndAt) → (with_swap o e).marks ≡ e.
 with_swap_marks None e = refl
 with_swap_marks (Some swap) e = refl
 
-with_swap_waiting : (o : Option Swap) (e : EndAt) → (with_swap o e).waiting ≡ e.waiting
+pub with_swap_waiting : (o : Option Swap) (e : EndAt) → (with_swap o e).waiting ≡ e.waiting
 with_swap_waiting None e = refl
 with_swap_waiting (Some swap) e = refl
 
@@ -178,8 +170,8 @@ removed_known s w e (Some f) h = h
 
 pub queue_known : (w : WorldAt) → ((k : ℕ) (r : Role) (x : Sending) → WasPutOut x (w.end_at k r).waiting → WasPutOut x (w.end_at k r).sent) →
     (place : Option Place) (x : Sending) (z : Place) → place ≡ Some z → WasPutOut x (waiting_at w place) → WasPutOut x (w.end_at z.link z.role).sent
-queue_known w h None x z e q = absurd (none_some z e)
-queue_known w h (Some place) x z e q = subst (λ (t : Place). WasPutOut x (w.end_at t.link t.role).sent) (some_is place z e) (h place.link place.role x q)
+queue_known w h None x z e q = absurd (none-some z e)
+queue_known w h (Some place) x z e q = subst (λ (t : Place). WasPutOut x (w.end_at t.link t.role).sent) (same_Some place z e) (h place.link place.role x q)
 
 frame_known : (s : Setting) (w : WorldAt) (e : Event) (i : ℕ) → FramesKeep w → FrameOf w (frame_after s w e i)
 frame_known s w (Depart n p stamp) i h =

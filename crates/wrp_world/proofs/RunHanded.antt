@@ -2,7 +2,9 @@
 use Rattle.std.proofs.Common.{◌≡◌, inl, inr, ◌∙◌, refl, ap, sym, subst, subst₂, ℕ, ◌==◌, ◌&&◌, ◌≤ℤ◌, ℤ, pos, ◌+ℤ◌, ◌-ℤ◌, not, Bool, true, false, if◌then◌else◌, List, [], ◌∷◌, Option, None, Some, Result, Ok, Err, arith}
 use Rattle.std.proofs.lemmas.Int.{ints}
 use Rattle.std.specs.Int.Signed.{le_z}
+use Rattle.std.proofs.lemmas.Option.{none-some, same_Some}
 use Rattle.std.specs.Option.{option_map_or}
+use Rattle.std.proofs.lemmas.Bool.{true≢false}
 use Rattle.wrp_base.specs.declared.link.Role.{Role}
 use Rattle.wrp_base.specs.declared.link.Role.TheVariants.{Master, Slave}
 use Rattle.wrp_base.specs.declared.message.Body.{Body}
@@ -23,6 +25,7 @@ use Rattle.wrp_port.specs.Hearing.{early_reason, is_addressed, is_open, is_port,
 use Rattle.wrp_port.specs.History.{input_unless}
 use Rattle.wrp_world.specs.declared.place.Place.{Place}
 use Rattle.wrp_world.specs.Checks.{AllHold}
+use Rattle.wrp_world.proofs.RunCarriers.{end_alike}
 use Rattle.wrp_world.specs.Given.{Given, delivered, delivered_by, delivered_to, gives_all, in_body}
 use Rattle.wrp_world.specs.Premises.{deliver_by, deliver_checks, is_forged, noise_checks, too_old}
 use Rattle.wrp_world.specs.Runs.{IsNetwork, WasPutOut}
@@ -31,7 +34,7 @@ use Rattle.wrp_world.specs.Setting.{Setting, end_at, fixed_of, other_of}
 use Rattle.wrp_world.specs.WorldAt.{Arrival, FrameAt, Sending, WorldAt}
 use Rattle.wrp_world.proofs.RunFrames.{FrameOf}
 use Rattle.wrp_world.proofs.RunGiven.{IsFair, IsKnown}
-use Rattle.wrp_world.proofs.RunKept.{Known, Laws, RunKeeps, Where, fair_keeps, none_some, some_same}
+use Rattle.wrp_world.proofs.RunKept.{Known, Laws, RunKeeps, Where, fair_keeps}
 use Rattle.wrp_world.proofs.RunNetwork.{are_apart}
 
 -- A frame is handed over
@@ -50,18 +53,18 @@ in_link x (z ∷ xs) m h e = elim h [
 ]
 
 body_at : (body : Body) (at : ℤ) (m : Message) → in_body body at ≡ Some m → m.1 ≡ at
-body_at (Signal target (Some message)) at m e = ap (λ (x : Message). x.1) (sym (some_same (message, at) m e))
-body_at (Signal target None) at m e = absurd (none_some m e)
-body_at (Sync origin) at m e = absurd (none_some m e)
-body_at (DelayReq origin) at m e = absurd (none_some m e)
-body_at (FollowUp precise) at m e = absurd (none_some m e)
-body_at (DelayResp receive requesting) at m e = absurd (none_some m e)
-body_at (Announce origin utc p1 quality p2 gm steps source suffix) at m e = absurd (none_some m e)
+body_at (Signal target (Some message)) at m e = ap (λ (x : Message). x.1) (sym (same_Some (message, at) m e))
+body_at (Signal target None) at m e = absurd (none-some m e)
+body_at (Sync origin) at m e = absurd (none-some m e)
+body_at (DelayReq origin) at m e = absurd (none-some m e)
+body_at (FollowUp precise) at m e = absurd (none-some m e)
+body_at (DelayResp receive requesting) at m e = absurd (none-some m e)
+body_at (Announce origin utc p1 quality p2 gm steps source suffix) at m e = absurd (none-some m e)
 
 young : (now at past : ℤ) (life : ℕ) → past ≡ at → not (le_z (now -ℤ at) (pos life)) ≡ false → now ≤ℤ (past +ℤ pos life)
 young now at past life e h = grind (arith, ints, e, h)
 
-other_twice : (r : Role) → other_of (other_of r) ≡ r
+pub other_twice : (r : Role) → other_of (other_of r) ≡ r
 other_twice Master = refl
 other_twice Slave = refl
 
@@ -72,9 +75,6 @@ handed_over f arrival n p = record {
   says = Ok f.sending.message;
   at = f.sending.at;
 }
-
-end_alike : (a b : End) → a.node ≡ b.node → a.port ≡ b.port → a ≡ b
-end_alike a b n p = λ i. record { node = n i; port = p i }
 
 handed_known : (s : Setting) → IsNetwork s → (w v : WorldAt) (f : FrameAt) (k : ℕ) (r : Role) → (k ≡ f.link) × (r ≡ other_of f.by) → v.time ≡ w.time →
     WasPutOut f.sending (v.end_at f.link f.by).sent → (too_old s.cfg w.time f.sending).fails ≡ false → IsKnown s v k r (Ok f.sending.message) f.sending.at
@@ -127,15 +127,12 @@ noise_news s v n p (Ok m) e =
     (if is_addressed set.ds m.body then (if is_open (link_at (s.set n) (v.node n) p) then None else Some Quiet) else Some NotForUs) e in
     ap (λ o. news_of (input_unless o (link_input set.ds.role m.body))) it.1
 
-true_false : true ≡ false → ⊥
-true_false e = cc
-
 pub not_forged : (s : Setting) (w : WorldAt) (n p : ℕ) (says : Result PtpMsg FrameFault) (o : Option Place) → AllHold (noise_checks s w n p says o) → is_forged s n p says ≡ false
-not_forged s w n p says None a = absurd (true_false a.0)
+not_forged s w n p says None a = absurd (true≢false a.0)
 not_forged s w n p says (Some place) a = a.0
 
 -- A tick
 
 pub not_early : (up : Bool) (now past : ℤ) (dmin : ℕ) → not up ≡ false → (up && not (le_z (pos dmin) (now -ℤ past))) ≡ false → (past +ℤ pos dmin) ≤ℤ now
 not_early true now past dmin u h = grind (arith, ints, h)
-not_early false now past dmin u h = absurd (true_false u)
+not_early false now past dmin u h = absurd (true≢false u)

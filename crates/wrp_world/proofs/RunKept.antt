@@ -3,6 +3,7 @@ use Rattle.std.proofs.Common.{◌≡◌, ◌⊎◌, inl, inr, ◌∙◌, refl, a
 use Rattle.std.proofs.lemmas.Bool.Decides.{eqb_tells}
 use Rattle.std.specs.List.{AllByRecursion}
 use Rattle.std.specs.Option.{option_map_or}
+use Rattle.std.proofs.lemmas.Option.{none-some, same_Some}
 use Rattle.wrp_base.specs.declared.link.Module.{Module}
 use Rattle.wrp_base.specs.declared.link.Role.{Role}
 use Rattle.wrp_base.specs.declared.link.Role.TheVariants.{Master, Slave}
@@ -26,12 +27,6 @@ use Rattle.wrp_world.proofs.RunDark.{fair_quiet, given_dark, gone_here, goes_to}
 use Rattle.wrp_world.proofs.RunFrames.{FramesKeep, given_frames}
 use Rattle.wrp_world.proofs.RunGiven.{IsFair, LinkCan, end_is, given_keeps}
 use Rattle.wrp_world.proofs.RunNetwork.{are_apart, two_nodes}
-
-pub some_same : {A : Type 0} (x y : A) → Some x ≡ Some y → x ≡ y
-some_same x y e = cc
-
-pub none_some : {A : Type 0} (x : A) → None ≡ Some x → ⊥
-none_some x e = cc
 
 -- the laws that this stands on
 pub record Laws : Type 0 where
@@ -123,7 +118,7 @@ pair_keeps laws s R Q D net y v l r other m n there lit now others h = record {
       let it : LinkKeeps s R D v k link = h.links k link is in
       elim (eqb_tells k l) [
         | inl x ↦
-            let same : link ≡ other = some_same link other (sym is ∙ ap (link_of s) x.1 ∙ there) in
+            let same : link ≡ other = same_Some link other (sym is ∙ ap (link_of s) x.1 ∙ there) in
             record {
               placed = both_in r m n;
               known = subst (λ i. Q i (both_in r m n)) (sym x.1) now;
@@ -150,7 +145,7 @@ both_are f Master Slave = refl
 both_are f Slave Master = refl
 both_are f Slave Slave = refl
 
-abbrev come_at : Role → Option Module → Option LinkCfg → List Given
+abbrev pub come_at : Role → Option Module → Option LinkCfg → List Given
 come_at r m o = option_map_or (λ (end : End). given_plain end.node (Carrier end.port true m) ∷ []) (option_map (end_of r) o) []
 
 come_keep : Laws → (s : Setting) (R Q : Known) (D : Where) → IsNetwork s → (y : ℤ) (v : WorldAt) (l : ℕ) (r : Role) (m n : Option Module) (o : Option LinkCfg) → link_of s l ≡ o → (D l → ⊥) → Q l (both_in r m n) →
@@ -160,7 +155,7 @@ come_keep laws s R Q D net y v l r m n None e lit now others h = record {
       let it : LinkKeeps s R D v k link = h.links k link is in
       record {
         placed = it.placed;
-        known = others k it.placed (λ x. none_some link (sym e ∙ ap (link_of s) (sym x) ∙ is)) it.known;
+        known = others k it.placed (λ x. none-some link (sym e ∙ ap (link_of s) (sym x) ∙ is)) it.known;
         can = it.can;
         dark = it.dark;
       };
@@ -196,7 +191,7 @@ both_dark laws s y v k Slave Slave link is =
     given_dark laws.links laws.signals s y first (goes_to (end_of Master link)) k Slave (end_of Slave link) (end_is s k Slave link is) tt
     (gone_here laws.links laws.signals s y v k Slave (end_of Slave link) (end_is s k Slave link is))
 
-abbrev go_at : Role → Option LinkCfg → List Given
+abbrev pub go_at : Role → Option LinkCfg → List Given
 go_at r o = option_map_or (λ (end : End). given_plain end.node (Carrier end.port false None) ∷ []) (option_map (end_of r) o) []
 
 go_keep : Laws → (s : Setting) (R : Known) (D : Where) → IsNetwork s → (y : ℤ) (v : WorldAt) (l : ℕ) (r : Role) (o : Option LinkCfg) → link_of s l ≡ o → RunKeeps s R D v →
@@ -208,7 +203,7 @@ go_keep laws s R D net y v l r None e h = record {
         placed = it.placed;
         known = it.known;
         can = it.can;
-        dark = λ d. elim d [ inl x ↦ it.dark x | inr x ↦ absurd (none_some link (sym e ∙ ap (link_of s) (sym x) ∙ is)) ];
+        dark = λ d. elim d [ inl x ↦ it.dark x | inr x ↦ absurd (none-some link (sym e ∙ ap (link_of s) (sym x) ∙ is)) ];
       };
   frames = h.frames;
 }
@@ -224,7 +219,7 @@ go_keep laws s R D net y v l r (Some other) e h =
             dark = λ d q. elim d [
               | inl x ↦ it.dark x q
               | inr x ↦
-                  let same : link ≡ other = some_same link other (sym is ∙ ap (link_of s) x ∙ e) in
+                  let same : link ≡ other = same_Some link other (sym is ∙ ap (link_of s) x ∙ e) in
                   subst (λ (z : LinkCfg). IsDarkAt s (gives_all s y v (goes_pair r z)) k q link) same (both_dark laws s y v k r q link is)
             ];
           };

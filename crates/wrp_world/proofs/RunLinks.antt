@@ -3,53 +3,26 @@ use Rattle.std.proofs.Common.{◌≡◌, ◌∙◌, refl, sym, subst, Bool, true
 use Rattle.wrp_base.specs.declared.link.LinkState.{LinkState}
 use Rattle.wrp_base.specs.declared.link.LinkState.TheVariants.{Idle, LinkOn}
 use Rattle.wrp_base.specs.declared.link.Role.{Role}
+use Rattle.wrp_base.proofs.Booleans.{not_both}
 use Rattle.wrp_link.specs.declared.interface.LinkIn.{LinkIn}
 use Rattle.wrp_link.specs.declared.interface.LinkIn.TheVariants.{Msg, Announce, Tick, CarrierDown, CarrierUp}
 use Rattle.wrp_link.specs.declared.interface.LinkSet.{LinkSet}
 use Rattle.wrp_link.specs.LinkAt.{LinkAt, new_link}
 use Rattle.wrp_link.specs.Rows.{Row, Counts, CarrierComes, CarrierGoes, announce_row, message_row, row_of, tick_row, under}
-use Rattle.wrp_link.specs.Table.{after, by_row, counted, run_of, is_same}
-
-pub same_state : (s : LinkState) → is_same s s ≡ true
-same_state Idle = refl
-same_state _ = refl
+use Rattle.wrp_link.specs.Table.{after, by_row, counted, run_of}
+use Rattle.wrp_link.proofs.Runs.{by_row_set}
 
 -- What stays
 
-counted_role : (l : LinkAt) (s : LinkState) → (counted l s).role ≡ l.role
-counted_role l Idle = refl
-counted_role l LinkOn = refl
-counted_role l _ = refl
-
-counted_set : (l : LinkAt) (s : LinkState) → (counted l s).set ≡ l.set
-counted_set l Idle = refl
-counted_set l LinkOn = refl
-counted_set l _ = refl
-
-row_role : (l : LinkAt) (row : Row) → (by_row l row).role ≡ l.role
-row_role l Counts = counted_role l l.state
-row_role l _ = refl
-
-row_set : (l : LinkAt) (row : Row) → (by_row l row).set ≡ l.set
-row_set l Counts = counted_set l l.state
-row_set l _ = refl
-
-pub run_role : (l : LinkAt) (inputs : List LinkIn) → (run_of l inputs).role ≡ l.role
-run_role l [] = refl
-run_role l (input ∷ before) = row_role (run_of l before) (row_of (run_of l before) input) ∙ run_role l before
-
 pub run_set : (l : LinkAt) (inputs : List LinkIn) → (run_of l inputs).set ≡ l.set
 run_set l [] = refl
-run_set l (input ∷ before) = row_set (run_of l before) (row_of (run_of l before) input) ∙ run_set l before
+run_set l (input ∷ before) = by_row_set (run_of l before) (row_of (run_of l before) input) ∙ run_set l before
 
 -- Without a carrier
 
 -- a link without a carrier is as new
 abbrev pub IsDark : LinkAt → Type 0
 IsDark l = l.carrier ≡ false → l ≡ new_link l.role l.set
-
-no_carrier : (b : Bool) → b ≡ true → b ≡ false → ⊥
-no_carrier b e f = cc
 
 pub counted_carrier : (l : LinkAt) (s : LinkState) → (counted l s).carrier ≡ l.carrier
 counted_carrier l Idle = refl
@@ -58,14 +31,14 @@ counted_carrier l _ = refl
 
 -- with a carrier, it goes alone by the row of that
 lit_row : (l : LinkAt) (row : Row) → l.carrier ≡ true → IsDark (by_row l row)
-lit_row l Counts e = λ f. absurd (no_carrier l.carrier e (sym (counted_carrier l l.state) ∙ f))
+lit_row l Counts e = λ f. absurd (not_both l.carrier e (sym (counted_carrier l l.state) ∙ f))
 lit_row l CarrierGoes e = λ f. refl
-lit_row l (CarrierComes own_module) e = λ f. absurd (no_carrier true refl f)
-lit_row l _ e = λ f. absurd (no_carrier l.carrier e f)
+lit_row l (CarrierComes own_module) e = λ f. absurd (not_both true refl f)
+lit_row l _ e = λ f. absurd (not_both l.carrier e f)
 
 -- without one, a carrier comes or nothing changes
 dark_row : (l : LinkAt) (input : LinkIn) → l.carrier ≡ false → IsDark l → IsDark (after l input)
-dark_row l (CarrierUp own_module) e h = λ f. absurd (no_carrier true refl f)
+dark_row l (CarrierUp own_module) e h = λ f. absurd (not_both true refl f)
 dark_row l (Msg message) e h = subst (λ b. IsDark (by_row l (under b (message_row l l.role message)))) (sym e) h
 dark_row l (Announce suffix) e h = subst (λ b. IsDark (by_row l (under b (announce_row l l.role l.state suffix)))) (sym e) h
 dark_row l (Tick locked) e h = subst (λ b. IsDark (by_row l (under b (tick_row l l.state locked)))) (sym e) h

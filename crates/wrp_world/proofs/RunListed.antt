@@ -1,10 +1,12 @@
 -- Each port at an end of a link is among the ports that its node is set to.
 use Rattle.std.proofs.Common.{◌≡◌, ◌⊎◌, inl, inr, ◌∙◌, refl, ap, sym, subst, ℕ, zero, suc, ◌+◌, ◌==◌, ◌&&◌, Bool, true, false, if◌then◌else◌, List, [], ◌∷◌, ◌++◌, map, flat_map, Option, None, Some, slice_get}
+use Rattle.std.proofs.lemmas.Option.{none-some, same_Some}
 use Rattle.wrp_base.specs.declared.configuration.NetCfg.{NetCfg}
 use Rattle.wrp_base.specs.declared.link.Role.{Role}
 use Rattle.wrp_base.specs.declared.link.Role.TheVariants.{Master, Slave}
 use Rattle.wrp_base.specs.declared.network.LinkCfg.{LinkCfg}
 use Rattle.wrp_base.specs.Network.{End}
+use Rattle.wrp_base.proofs.Naturals.{eq_self}
 use Rattle.wrp_config.specs.Names.{is_lower_end, is_upper_end}
 use Rattle.wrp_data.specs.declared.datasets.PortDs.{PortDs}
 use Rattle.wrp_node.specs.declared.interface.NodeSet.{NodeSet}
@@ -14,15 +16,9 @@ use Rattle.wrp_world.specs.declared.place.Place.{Place}
 use Rattle.wrp_world.specs.Runs.{IsNetwork}
 use Rattle.wrp_world.specs.Setting.{Setting, end_of, link_of, place_among, place_of}
 use Rattle.wrp_world.proofs.RunCarried.{IsLeft, IsLinkOf}
+use Rattle.wrp_world.proofs.TriedOctets.{ds_at}
 use Rattle.wrp_world.proofs.RunGiven.{end_is}
 use Rattle.wrp_world.proofs.RunNetwork.{LinkEnd, are_apart, end_with, place_end}
-use Rattle.wrp_world.proofs.RunPorts.{self_equal}
-
-none_some : {A : Type 0} (x : A) → None ≡ Some x → ⊥
-none_some x e = cc
-
-some_same : {A : Type 0} (x y : A) → Some x ≡ Some y → x ≡ y
-some_same x y e = cc
 
 -- Among
 
@@ -43,8 +39,8 @@ in_map f x [] h = absurd h
 in_map f x (z ∷ xs) h = elim h [ inl e ↦ inl (ap f e) | inr t ↦ inr (in_map f x xs t) ]
 
 in_flat : {A B : Type 0} (f : A → List B) (xs : List A) (k : ℕ) (a : A) (x : B) → slice_get xs k ≡ Some a → In x (f a) → In x (flat_map f xs)
-in_flat f [] k a x e h = absurd (none_some a e)
-in_flat f (z ∷ xs) zero a x e h = in_left x (f z) (flat_map f xs) (subst (λ t. In x (f t)) (sym (some_same z a e)) h)
+in_flat f [] k a x e h = absurd (none-some a e)
+in_flat f (z ∷ xs) zero a x e h = in_left x (f z) (flat_map f xs) (subst (λ t. In x (f t)) (sym (same_Some z a e)) h)
 in_flat f (z ∷ xs) (suc k) a x e h = in_right x (f z) (flat_map f xs) (in_flat f xs k a x e h)
 
 -- In order
@@ -69,17 +65,13 @@ ordered x (ds ∷ ports) i = elim i [
 
 -- The port at an end
 
-abbrev ds_at : NetCfg → Role → LinkCfg → PortDs
-ds_at net Master link = master_at net link
-ds_at net Slave link = slave_at net link
-
 at_link : (net : NetCfg) (r : Role) (link : LinkCfg) → In (ds_at net r link) (ports_at net (end_of r link).node link)
 at_link net Master link =
     in_left (master_at net link) (if link.upper == link.upper then master_at net link ∷ [] else []) (if link.lower == link.upper then slave_at net link ∷ [] else [])
-    (subst (λ b. In (master_at net link) (if b then master_at net link ∷ [] else [])) (sym (self_equal link.upper)) (inl refl))
+    (subst (λ b. In (master_at net link) (if b then master_at net link ∷ [] else [])) (sym (eq_self link.upper)) (inl refl))
 at_link net Slave link =
     in_right (slave_at net link) (if link.upper == link.lower then master_at net link ∷ [] else []) (if link.lower == link.lower then slave_at net link ∷ [] else [])
-    (subst (λ b. In (slave_at net link) (if b then slave_at net link ∷ [] else [])) (sym (self_equal link.lower)) (inl refl))
+    (subst (λ b. In (slave_at net link) (if b then slave_at net link ∷ [] else [])) (sym (eq_self link.lower)) (inl refl))
 
 number_at : (net : NetCfg) (r : Role) (link : LinkCfg) → (ds_at net r link).own.port ≡ (end_of r link).port
 number_at net Master link = refl
@@ -96,31 +88,31 @@ is_listed s net k r link is =
 -- Its place
 
 either_some : (a : Bool) (x y : Place) → (if a then Some x else Some y) ≡ None → ⊥
-either_some true x y e = none_some x (sym e)
-either_some false x y e = none_some y (sym e)
+either_some true x y e = none-some x (sym e)
+either_some false x y e = none-some y (sym e)
 
 rest_none : (a b : Bool) (x y : Place) (o : Option Place) → (if a then Some x else (if b then Some y else o)) ≡ None → o ≡ None
-rest_none true b x y o e = absurd (none_some x (sym e))
-rest_none false true x y o e = absurd (none_some y (sym e))
+rest_none true b x y o e = absurd (none-some x (sym e))
+rest_none false true x y o e = absurd (none-some y (sym e))
 rest_none false false x y o e = e
 
 abbrev placed_by : Bool → Bool → ℕ → Option Place → Option Place
 placed_by a b k o = if a then Some (record { link = k; role = Master }) else (if b then Some (record { link = k; role = Slave }) else o)
 
 here : (n p : ℕ) (end : End) → end ≡ end_with n p → ((end.node == n) && (end.port == p)) ≡ true
-here n p end e = ap (λ (x : End). (x.node == n) && (x.port == p)) e ∙ ap (λ b. b && (p == p)) (self_equal n) ∙ self_equal p
+here n p end e = ap (λ (x : End). (x.node == n) && (x.port == p)) e ∙ ap (λ b. b && (p == p)) (eq_self n) ∙ eq_self p
 
 found_here : (r : Role) (n p k : ℕ) (l : LinkCfg) (links : List LinkCfg) → end_of r l ≡ end_with n p → place_among n p k (l ∷ links) ≡ None → ⊥
 found_here Master n p k l links e f =
-    none_some (record { link = k; role = Master })
+    none-some (record { link = k; role = Master })
     (sym f ∙ ap (λ b. placed_by b (is_lower_end n p l) k (place_among n p (k + 1) links)) (here n p (end_of Master l) e))
 found_here Slave n p k l links e f =
     either_some (is_upper_end n p l) (record { link = k; role = Master }) (record { link = k; role = Slave })
     (sym (ap (λ b. placed_by (is_upper_end n p l) b k (place_among n p (k + 1) links)) (here n p (end_of Slave l) e)) ∙ f)
 
 found : (r : Role) (n p k : ℕ) (links : List LinkCfg) (i : ℕ) (link : LinkCfg) → slice_get links i ≡ Some link → end_of r link ≡ end_with n p → place_among n p k links ≡ None → ⊥
-found r n p k [] i link is e f = none_some link is
-found r n p k (l ∷ links) zero link is e f = found_here r n p k l links (ap (end_of r) (some_same l link is) ∙ e) f
+found r n p k [] i link is e f = none-some link is
+found r n p k (l ∷ links) zero link is e f = found_here r n p k l links (ap (end_of r) (same_Some l link is) ∙ e) f
 found r n p k (l ∷ links) (suc i) link is e f =
     found r n p (k + 1) links i link is e
     (rest_none (is_upper_end n p l) (is_lower_end n p l) (record { link = k; role = Master }) (record { link = k; role = Slave }) (place_among n p (k + 1) links) f)

@@ -24,7 +24,7 @@ abbrev pub ticked_after : WorldAt → Event → ℕ → ℤ
 ticked_after w (Up n off swaps) m = if m == n then w.time else (w.clock m).ticked
 ticked_after w _ m = (w.clock m).ticked
 
-ticked_where : (b : Bool) (c d : ClockState) → (if b then c else d).ticked ≡ (if b then c.ticked else d.ticked)
+pub ticked_where : (b : Bool) (c d : ClockState) → (if b then c else d).ticked ≡ (if b then c.ticked else d.ticked)
 ticked_where true c d = refl
 ticked_where false c d = refl
 

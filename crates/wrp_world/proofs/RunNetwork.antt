@@ -1,12 +1,15 @@
 -- What an accepted network has of its links: two nodes at the ends of each, and each port at one end; and a link before any event.
 use Rattle.std.proofs.Common.{◌≡◌, ◌∙◌, refl, ap, ap₂, sym, subst, ℕ, zero, suc, ◌+◌, ◌≤◌, ◌==◌, ◌&&◌, Bool, true, false, if◌then◌else◌, List, [], ◌∷◌, flat_map, Option, None, Some, option_map, slice_get, arith}
-use Rattle.std.proofs.lemmas.Bool.{eqb-true}
+use Rattle.std.proofs.lemmas.Bool.{eqb-true, and_parts}
 use Rattle.std.specs.List.{find}
+use Rattle.std.proofs.lemmas.Option.{none-some, same_Some}
 use Rattle.wrp_base.specs.declared.configuration.NetCfg.{NetCfg}
 use Rattle.wrp_base.specs.declared.link.Role.{Role}
 use Rattle.wrp_base.specs.declared.link.Role.TheVariants.{Master, Slave}
 use Rattle.wrp_base.specs.declared.network.LinkCfg.{LinkCfg}
+use Rattle.wrp_base.proofs.Naturals.{eq_self, is_plus_zero}
 use Rattle.wrp_base.specs.Network.{End, HasDepth, IsTree, ends_of, link_above}
+use Rattle.wrp_base.proofs.Booleans.{not_both}
 use Rattle.wrp_bounds.specs.Times.{shortest_tick, frame_life}
 use Rattle.wrp_config.specs.Laws.{ChildIsDeeper}
 use Rattle.wrp_config.specs.Names.{is_lower_end, is_upper_end}
@@ -23,14 +26,9 @@ use Rattle.wrp_world.specs.LinkEnds.{port_at}
 use Rattle.wrp_world.specs.Setting.{Setting, end_at, end_of, link_of, place_among, place_of, start_of}
 use Rattle.wrp_world.specs.WorldAt.{new_world}
 use Rattle.wrp_world.proofs.RunCarriers.{AreApart}
+use Rattle.wrp_world.proofs.TriedOctets.{next_link}
 use Rattle.wrp_world.proofs.RunGiven.{LinkCan, with_ports}
-use Rattle.wrp_world.proofs.RunPorts.{port_is, self_equal}
-
-none_some : {A : Type 0} (x : A) → None ≡ Some x → ⊥
-none_some x e = cc
-
-some_same : {A : Type 0} (x y : A) → Some x ≡ Some y → x ≡ y
-some_same x y e = cc
+use Rattle.wrp_world.proofs.RunPorts.{port_is}
 
 -- Two nodes
 
@@ -47,22 +45,19 @@ found_later test x xs false e h =
     let f : FoundAt test xs = h refl in
     record { what = f.what; place = suc f.place; found = rw e f.found; there = f.there; passes = f.passes }
 
-not_both : (b : Bool) → b ≡ true → b ≡ false → ⊥
-not_both b e f = cc
-
 found_at : {A : Type 0} (test : A → Bool) (xs : List A) (k : ℕ) (x : A) → slice_get xs k ≡ Some x → test x ≡ true → FoundAt test xs
-found_at test [] k x e t = absurd (none_some x e)
+found_at test [] k x e t = absurd (none-some x e)
 found_at test (y ∷ xs) zero x e t =
-    found_later test y xs (test y) refl (λ f. absurd (not_both (test x) t (ap test (sym (some_same y x e)) ∙ f)))
+    found_later test y xs (test y) refl (λ f. absurd (not_both (test x) t (ap test (sym (same_Some y x e)) ∙ f)))
 found_at test (y ∷ xs) (suc k) x e t = found_later test y xs (test y) refl (λ f. found_at test xs k x e t)
 
 not_deeper : (d : ℕ) → d ≡ suc d → ⊥
 not_deeper d e = omega arith
 
 has_no_depth : ChildIsDeeper → (cfg : NetCfg) (n d : ℕ) (link : LinkCfg) → link_above cfg n ≡ Some link → link.upper ≡ n → HasDepth cfg d n → ⊥
-has_no_depth deeper cfg n zero link e same h = none_some link (sym h ∙ e)
+has_no_depth deeper cfg n zero link e same h = none-some link (sym h ∙ e)
 has_no_depth deeper cfg n (suc d) link e same h =
-    let it : h.0 ≡ link = some_same h.0 link (sym h.1 ∙ e) in
+    let it : h.0 ≡ link = same_Some h.0 link (sym h.1 ∙ e) in
     let up : HasDepth cfg d link.upper = subst (λ (x : LinkCfg). HasDepth cfg d x.upper) it h.2 in
     not_deeper d (deeper cfg n d d link e up (subst (HasDepth cfg d) same up))
 
@@ -70,10 +65,10 @@ pub two_nodes : ChildIsDeeper → (s : Setting) → IsNetwork s → (k : ℕ) (l
 two_nodes deeper s net k link is same =
     let tree : IsTree s.cfg = net.accepted.tree in
     let f : FoundAt (λ l. l.lower == link.lower) s.cfg.links.items =
-    found_at (λ (l : LinkCfg). l.lower == link.lower) s.cfg.links.items k link is (self_equal link.lower) in
+    found_at (λ (l : LinkCfg). l.lower == link.lower) s.cfg.links.items k link is (eq_self link.lower) in
     let lower : f.what.lower ≡ link.lower = eqb-true f.what.lower link.lower f.passes in
     let place : f.place ≡ k = tree.one_parent f.place k f.what link f.there is lower in
-    let what : f.what ≡ link = some_same f.what link (sym f.there ∙ ap (slice_get s.cfg.links.items) place ∙ is) in
+    let what : f.what ≡ link = same_Some f.what link (sym f.there ∙ ap (slice_get s.cfg.links.items) place ∙ is) in
     let above : link_above s.cfg link.lower ≡ Some link = f.found ∙ ap Some what in
     let deep : (depth : ℕ) × (depth ≤ 8) × HasDepth s.cfg depth link.lower = tree.shallow link.lower (tree.ends k link is).1 in
     has_no_depth deeper s.cfg link.lower deep.0 link above same deep.2
@@ -93,9 +88,9 @@ twice_is zero = refl
 twice_is (suc k) = let h : twice k ≡ k + k = twice_is k in omega (arith, h)
 
 end_there : (r : Role) (links : List LinkCfg) (k : ℕ) (link : LinkCfg) → slice_get links k ≡ Some link → slice_get (flat_map ends_of links) (place_in r k) ≡ Some (end_of r link)
-end_there r [] k link e = absurd (none_some link e)
-end_there Master (l ∷ links) zero link e = ap (λ x. Some (end_of Master x)) (some_same l link e)
-end_there Slave (l ∷ links) zero link e = ap (λ x. Some (end_of Slave x)) (some_same l link e)
+end_there r [] k link e = absurd (none-some link e)
+end_there Master (l ∷ links) zero link e = ap (λ x. Some (end_of Master x)) (same_Some l link e)
+end_there Slave (l ∷ links) zero link e = ap (λ x. Some (end_of Slave x)) (same_Some l link e)
 end_there Master (l ∷ links) (suc k) link e = end_there Master links k link e
 end_there Slave (l ∷ links) (suc k) link e = end_there Slave links k link e
 
@@ -111,8 +106,8 @@ pub record LinkEnd (s : Setting) (k : ℕ) (r : Role) (end : End) : Type 0 where
   pub end_is : end_of r link ≡ end
 
 ended : (r : Role) (o : Option LinkCfg) (end : End) → option_map (end_of r) o ≡ Some end → (link : LinkCfg) × (o ≡ Some link) × (end_of r link ≡ end)
-ended r None end e = absurd (none_some end e)
-ended r (Some link) end e = (link, refl, some_same (end_of r link) end e)
+ended r None end e = absurd (none-some end e)
+ended r (Some link) end e = (link, refl, same_Some (end_of r link) end e)
 
 pub link_end : (s : Setting) (k : ℕ) (r : Role) (end : End) → end_at s k r ≡ Some end → LinkEnd s k r end
 link_end s k r end e =
@@ -137,41 +132,31 @@ pub record PlacedAt (n p k : ℕ) (links : List LinkCfg) (place : Place) : Type 
   pub number : place.link ≡ k + at
   pub end_is : end_of place.role link ≡ record { node = n; port = p }
 
-both_true : (a b : Bool) → (a && b) ≡ true → (a ≡ true) × (b ≡ true)
-both_true true b e = (refl, e)
-both_true false b e = absurd (let f : false ≡ true = e in cc)
-
 abbrev pub end_with : ℕ → ℕ → End
 end_with n p = record { node = n; port = p }
 
 same_end : (a b n p : ℕ) → ((a == n) && (b == p)) ≡ true → end_with a b ≡ end_with n p
 same_end a b n p e =
-    let both : ((a == n) ≡ true) × ((b == p) ≡ true) = both_true (a == n) (b == p) e in
+    let both : ((a == n) ≡ true) × ((b == p) ≡ true) = and_parts (a == n) (b == p) e in
     ap₂ end_with (eqb-true a n both.0) (eqb-true b p both.1)
-
-at_first : (k : ℕ) → k ≡ k + 0
-at_first k = omega arith
-
-at_next : (k i : ℕ) → (k + 1) + i ≡ k + suc i
-at_next k i = omega arith
 
 placed_by : (n p k : ℕ) (l : LinkCfg) (links : List LinkCfg) (place : Place) (a b : Bool) → is_upper_end n p l ≡ a → is_lower_end n p l ≡ b →
     (if a then Some (record { link = k; role = Master }) else (if b then Some (record { link = k; role = Slave }) else place_among n p (k + 1) links)) ≡ Some place →
     (place_among n p (k + 1) links ≡ Some place → PlacedAt n p (k + 1) links place) → PlacedAt n p k (l ∷ links) place
 placed_by n p k l links place true b e f g h =
-    let it : record { link = k; role = Master } ≡ place = some_same (record { link = k; role = Master }) place g in
+    let it : record { link = k; role = Master } ≡ place = same_Some (record { link = k; role = Master }) place g in
     subst (PlacedAt n p k (l ∷ links)) it
-    (record { at = 0; link = l; there = refl; number = at_first k; end_is = same_end l.upper l.upper_port n p e })
+    (record { at = 0; link = l; there = refl; number = is_plus_zero k; end_is = same_end l.upper l.upper_port n p e })
 placed_by n p k l links place false true e f g h =
-    let it : record { link = k; role = Slave } ≡ place = some_same (record { link = k; role = Slave }) place g in
+    let it : record { link = k; role = Slave } ≡ place = same_Some (record { link = k; role = Slave }) place g in
     subst (PlacedAt n p k (l ∷ links)) it
-    (record { at = 0; link = l; there = refl; number = at_first k; end_is = same_end l.lower l.lower_port n p f })
+    (record { at = 0; link = l; there = refl; number = is_plus_zero k; end_is = same_end l.lower l.lower_port n p f })
 placed_by n p k l links place false false e f g h =
     let it : PlacedAt n p (k + 1) links place = h g in
-    record { at = suc it.at; link = it.link; there = it.there; number = it.number ∙ at_next k it.at; end_is = it.end_is }
+    record { at = suc it.at; link = it.link; there = it.there; number = it.number ∙ next_link k it.at; end_is = it.end_is }
 
 placed : (n p k : ℕ) (links : List LinkCfg) (place : Place) → place_among n p k links ≡ Some place → PlacedAt n p k links place
-placed n p k [] place e = absurd (none_some place e)
+placed n p k [] place e = absurd (none-some place e)
 placed n p k (l ∷ links) place e = placed_by n p k l links place (is_upper_end n p l) (is_lower_end n p l) refl refl e (placed n p (k + 1) links place)
 
 from_zero : (k i : ℕ) → k ≡ 0 + i → i ≡ k

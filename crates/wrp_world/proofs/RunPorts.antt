@@ -1,5 +1,5 @@
 -- The ports at the ends of a link as the laws of one link see them, and what an input of a node makes of them.
-use Rattle.std.proofs.Common.{◌≡◌, ◌∙◌, refl, ap, ap₂, sym, ℕ, ◌==◌, ℤ, Bool, true, false, if◌then◌else◌, List, [], ◌∷◌, map, Option, None, Some, Result, Ok, Err, arith}
+use Rattle.std.proofs.Common.{◌≡◌, ◌∙◌, refl, ap, ap₂, sym, ℕ, ◌==◌, ℤ, Bool, true, false, if◌then◌else◌, List, [], ◌∷◌, map, Option, None, Some, Result, Ok, Err}
 use Rattle.std.specs.Option.{option_map_or}
 use Rattle.wrp_base.specs.declared.link.LinkState.TheVariants.{Idle}
 use Rattle.wrp_base.specs.declared.link.Role.{Role}
@@ -9,13 +9,16 @@ use Rattle.wrp_base.specs.declared.message.Body.TheVariants.{Sync, DelayReq, Fol
 use Rattle.wrp_base.specs.declared.message.PtpMsg.{PtpMsg}
 use Rattle.wrp_base.specs.declared.message.WrMsg.{WrMsg}
 use Rattle.wrp_base.specs.Network.{End}
+use Rattle.wrp_base.proofs.Naturals.{eq_self}
 use Rattle.wrp_data.specs.declared.reason.Reason.{Reason}
 use Rattle.wrp_frame.specs.declared.fault.FrameFault.{FrameFault}
 use Rattle.wrp_handshake.specs.Ends.{Port, Sending as Message, stamped, mover_of as mover_in, marked, heard}
 use Rattle.wrp_link.specs.declared.interface.LinkIn.TheVariants as link_in
 use Rattle.wrp_link.specs.LinkAt.{new_link}
 use Rattle.wrp_link.specs.Table.{by_row}
+use Rattle.wrp_link.proofs.Orders.{run_role}
 use Rattle.wrp_link.specs.Rows.{row_of}
+use Rattle.wrp_link.proofs.Deltas.{is_same_self}
 use Rattle.wrp_node.specs.declared.interface.Input.{Input}
 use Rattle.wrp_node.specs.declared.interface.Input.TheVariants.{Tick, Sample, Frame, Sent, Carrier, Reset}
 use Rattle.wrp_node.specs.LinkNews.{LinkNews, Nothing, Given as Handed, Renewed, news_of, link_after, frame_news, news_at, StepGivesLinks}
@@ -26,17 +29,12 @@ use Rattle.wrp_port.specs.declared.setting.Setting.{Setting as PortSetting}
 use Rattle.wrp_port.specs.Hearing.{early_reason, link_input}
 use Rattle.wrp_port.specs.History.{input_unless, link_inputs}
 use Rattle.wrp_port.specs.Messages.{signals_of, signal_of, next_id}
+use Rattle.wrp_node.proofs.Sends.{not_equal}
 use Rattle.wrp_world.specs.Given.{Given, in_body, in_frame, mover_of, put_out, sending, step_of, taken_of, ticked_by, clock_told, gives, end_given}
 use Rattle.wrp_world.specs.LinkEnds.{link_sent, port_at, sent_with}
 use Rattle.wrp_world.specs.Setting.{Setting, end_at, fixed_of, is_of}
 use Rattle.wrp_world.specs.WorldAt.{WorldAt, EndAt, Sending}
-use Rattle.wrp_world.proofs.RunLinks.{IsDark, run_dark, run_role, run_set, same_state}
-
-pub self_equal : (n : ℕ) → (n == n) ≡ true
-self_equal n = grind (arith)
-
-pub not_equal : (n m : ℕ) → (n ≡ m → ⊥) → (n == m) ≡ false
-not_equal n m h = grind (arith, h)
+use Rattle.wrp_world.proofs.RunLinks.{IsDark, run_dark, run_set}
 
 pub port_is : (a b : Port) → a.link ≡ b.link → a.ticked ≡ b.ticked → a.marks ≡ b.marks → a.sent ≡ b.sent → a ≡ b
 port_is a b l t m s = λ i. record { link = l i; ticked = t i; marks = m i; sent = s i }
@@ -72,7 +70,7 @@ MoverFits Renewed at by = by ≡ None
 
 marks_by_news : (time : ℤ) (set : PortSetting) (q : Port) (at : ℤ) (news : LinkNews) (by : Option Message) → MoverFits news at by →
     marked time q.link.state (link_after set q.link news).state by q.marks ≡ (port_by_news time q at news).marks
-marks_by_news time set q at Nothing by h = rw (same_state q.link.state) refl
+marks_by_news time set q at Nothing by h = rw (is_same_self q.link.state) refl
 marks_by_news time set q at (Handed input) by h = ap (λ m. marked time q.link.state (by_row q.link (row_of q.link input)).state m q.marks) h
 marks_by_news time set q at Renewed by h = ap (λ m. marked time q.link.state Idle m q.marks) h
 
@@ -211,7 +209,7 @@ abbrev pub told_end : Setting → WorldAt → Given → Step → ℕ → Role �
 told_end s v g step k r o =
     if is_of g.to o then option_map_or (λ end. end_given s v g step k r end.port) o (v.end_at k r) else v.end_at k r
 
-abbrev one_of : Bool → EndAt → EndAt → EndAt
+abbrev pub one_of : Bool → EndAt → EndAt → EndAt
 one_of b e f = if b then e else f
 
 pub port_given : (links : StepGivesLinks) (signals : SignalsAreOfLink) (s : Setting) (y : ℤ) (v : WorldAt) (g : Given) (k : ℕ) (r : Role) (end : End) →
@@ -224,7 +222,7 @@ port_given links signals s y v g k r end is e =
     let news : LinkNews = news_at (fixed_of s g.to) (v.node g.to) g.input g.says p in
     let q : Port = port_at s v k r end in
     let set : PortSetting = setting_of (s.set g.to) p in
-    let here : (n == g.to) ≡ true = ap (λ x. x == g.to) e ∙ self_equal g.to in
+    let here : (n == g.to) ≡ true = ap (λ x. x == g.to) e ∙ eq_self g.to in
     let old : link_at (s.set n) (v.node n) p ≡ link_at (s.set g.to) (v.node g.to) p = ap (λ x. link_at (s.set x) (v.node x) p) e in
     let law : link_at (s.set g.to) step.node p ≡ link_after set q.link news = links (fixed_of s g.to) (taken_of y g) (v.node g.to) p ∙ ap (λ l. link_after set l news) (sym old) in
     let at_end : (gives s y v g).end_at k r ≡ end_given s v g step k r p =

@@ -34,11 +34,11 @@ WorldKeeps s w = RunKeeps s (Placed s w) (Uncarried s w) w
 
 -- Carriers and modules under inputs
 
-up_told : (b : Bool) (c d : ClockState) → c.up ≡ d.up → (if b then c else d).up ≡ d.up
+pub up_told : (b : Bool) (c d : ClockState) → c.up ≡ d.up → (if b then c else d).up ≡ d.up
 up_told true c d e = e
 up_told false c d e = refl
 
-given_up : (s : Setting) (y : ℤ) (v : WorldAt) (g : Given) (n : ℕ) → ((gives s y v g).clock n).up ≡ (v.clock n).up
+pub given_up : (s : Setting) (y : ℤ) (v : WorldAt) (g : Given) (n : ℕ) → ((gives s y v g).clock n).up ≡ (v.clock n).up
 given_up s y v g n = up_told (n == g.to) (clock_told s v g (step_of s y v g).cycles (v.clock n)) (v.clock n) refl
 
 ends_up : (c d : ℕ → ClockState) (o : Option LinkCfg) → ((n : ℕ) → (c n).up ≡ (d n).up) → ends_are_up c o ≡ ends_are_up d o

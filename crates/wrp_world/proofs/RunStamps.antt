@@ -1,9 +1,10 @@
 -- How each frame departed and arrived, after every event of every run.
-use Rattle.std.proofs.Common.{◌≡◌, ◌∙◌, refl, ap, sym, subst, ℕ, ◌+◌, ◌==◌, ◌&&◌, ◌||◌, ◌≤◌, ℤ, pos, ◌+ℤ◌, ◌-ℤ◌, ◌≤ℤ◌, not, nat_lt, unsigned_abs, Bool, true, false, if◌then◌else◌, List, [], ◌∷◌, ◌++◌, Option, None, Some, IfSome, option_map, Result, arith}
-use Rattle.std.proofs.lemmas.Bool.{eqb-true}
+use Rattle.std.proofs.Common.{◌≡◌, ◌∙◌, refl, ap, sym, subst, ℕ, ◌+◌, ◌==◌, ◌≤◌, ℤ, pos, ◌-ℤ◌, ◌≤ℤ◌, not, unsigned_abs, Bool, true, false, if◌then◌else◌, List, [], ◌∷◌, Option, None, Some, IfSome, option_map, Result, arith}
+use Rattle.std.proofs.lemmas.Bool.{eqb-true, not-false, true≢false}
 use Rattle.std.proofs.lemmas.Int.{ints}
 use Rattle.std.specs.Int.Signed.{le_z}
 use Rattle.std.specs.Option.{option_map_or}
+use Rattle.std.proofs.lemmas.Option.{same_Some}
 use Rattle.wrp_base.specs.declared.message.PtpMsg.{PtpMsg}
 use Rattle.wrp_base.specs.declared.time.Raw.{Raw}
 use Rattle.wrp_base.specs.Network.{End}
@@ -19,17 +20,13 @@ use Rattle.wrp_world.specs.Moved.{arrived, departing, frame_after, moved, remove
 use Rattle.wrp_world.specs.Premises.{Accepts, arrive_checks, depart_checks, received}
 use Rattle.wrp_world.specs.Run.{AllAccepted, Happened, world_after}
 use Rattle.wrp_world.specs.RunStamps.{ArrivedSo, CameAfter, DepartedSo, FramesAreStamped}
-use Rattle.wrp_world.specs.Runs.{IsRun}
-use Rattle.wrp_world.specs.Setting.{Setting, end_at, end_of, is_role, link_of, of_node, other_of, place_of}
+use Rattle.wrp_world.specs.Setting.{Setting, end_at, end_of, of_node, other_of, place_of}
 use Rattle.wrp_world.specs.WorldAt.{Arrival, FrameAt, Sending, WorldAt, has_carrier, is_on_fibre, reading}
 use Rattle.wrp_world.proofs.RunGiven.{end_is}
 use Rattle.wrp_world.proofs.RunNetwork.{LinkEnd, end_with, link_end, place_end}
 use Rattle.wrp_world.proofs.RunTimes.{all_right}
 
-true_false : true ≡ false → ⊥
-true_false e = cc
-
-all_given_frame : (s : Setting) (y : ℤ) (gs : List Given) (v : WorldAt) (i : ℕ) → (gives_all s y v gs).frame i ≡ v.frame i
+pub all_given_frame : (s : Setting) (y : ℤ) (gs : List Given) (v : WorldAt) (i : ℕ) → (gives_all s y v gs).frame i ≡ v.frame i
 all_given_frame s y [] v i = refl
 all_given_frame s y (g ∷ gs) v i = all_given_frame s y gs (gives s y v g) i
 
@@ -99,10 +96,6 @@ near a b h = grind (arith, ints, h)
 young : (now at : ℤ) (life : ℕ) → not (le_z (now -ℤ at) (pos life)) ≡ false → (now -ℤ at) ≤ℤ pos life
 young now at life h = grind (arith, ints, h)
 
-holds : (b : Bool) → not b ≡ false → b ≡ true
-holds true e = refl
-holds false e = absurd (true_false e)
-
 told_if : (s : Setting) (events : List Happened) (b : Bool) (o p : Option FrameAt) → Told s events o → Told s events p → Told s events (if b then o else p)
 told_if s events true o p x y = x
 told_if s events false o p x y = y
@@ -124,7 +117,7 @@ leaves s before h n p stamp (Some place) (oldest ∷ rest) i at a k =
         moment = refl;
         stamp = near (stamp -ℤ reading w n) (of_node (λ node. node.e_tx) s n) a.0;
         young = young w.time oldest.at (frame_life s.cfg) a.1.0;
-        carried = holds (has_carrier s w place.link) a.1.1.0;
+        carried = not-false (has_carrier s w place.link) a.1.1.0;
         due = refl;
       },
       tt,
@@ -158,9 +151,6 @@ comes_now bound s before h says j i raw f g gone o a is_g is_f same alike k c =
       carried = c;
     }
 
-some_same : {A : Type 0} (x y : A) → Some x ≡ Some y → x ≡ y
-some_same x y e = cc
-
 arrives_by : ArrivalKeepsStampBound → (s : Setting) (before : List Happened) (h : Happened) (says : Result PtpMsg FrameFault) (j i : ℕ) (raw : Raw) (f g : FrameAt) (gone b : Bool) → (i == j) ≡ b →
     Accepts s (world_after s before) says (Arrive j raw) → (world_after s before).frame j ≡ Some g → (world_after s before).frame i ≡ Some f → (i ≡ j → has_carrier s (world_after s before) f.link ≡ true) →
     Told s before (Some f) →
@@ -168,13 +158,13 @@ arrives_by : ArrivalKeepsStampBound → (s : Setting) (before : List Happened) (
     (Some (if b then record f { arrival = Some (record { raw = raw; sample = samples_at s (world_after s before) g; at = (world_after s before).time; moment = (world_after s before).count }) } else record f { gone = gone }))
 arrives_by bound s before h says j i raw f g gone true e a is_g is_f c k =
     let same : i ≡ j = eqb-true i j e in
-    let alike : f ≡ g = some_same f g (sym is_f ∙ ap (world_after s before).frame same ∙ is_g) in
+    let alike : f ≡ g = same_Some f g (sym is_f ∙ ap (world_after s before).frame same ∙ is_g) in
     (departed_more s before h f f.gone _ k.0, comes_now bound s before h says j i raw f g f.gone _ a is_g is_f same alike k.0 (c same))
 arrives_by bound s before h says j i raw f g gone false e a is_g is_f c k = told_more s before h f gone k
 
 carried_of : (s : Setting) (w : WorldAt) (j : ℕ) (raw : Raw) (b : Bool) (g : FrameAt) → AllHold (arrive_checks s w j raw b (Some g)) → has_carrier s w g.link ≡ true
-carried_of s w j raw true g a = holds (has_carrier s w g.link) (all_right Holds (received s w g raw) (stands (has_carrier s w g.link) ∷ []) a.1).0
-carried_of s w j raw false g a = absurd (true_false a.0)
+carried_of s w j raw true g a = not-false (has_carrier s w g.link) (all_right Holds (received s w g raw) (stands (has_carrier s w g.link) ∷ []) a.1).0
+carried_of s w j raw false g a = absurd (true≢false a.0)
 
 arrives : ArrivalKeepsStampBound → (s : Setting) (before : List Happened) (h : Happened) (says : Result PtpMsg FrameFault) (j i : ℕ) (raw : Raw) (o p : Option FrameAt) →
     Accepts s (world_after s before) says (Arrive j raw) → (world_after s before).frame j ≡ o → (world_after s before).frame i ≡ p → Told s before p →
@@ -183,7 +173,7 @@ arrives bound s before h says j i raw (Some g) (Some f) a is_g is_f k =
     let w : WorldAt = world_after s before in
     arrives_by bound s before h says j i raw f g _ (i == j) refl a is_g is_f
     (λ same.
-    let alike : g ≡ f = some_same g f (sym is_g ∙ ap w.frame (sym same) ∙ is_f) in
+    let alike : g ≡ f = same_Some g f (sym is_g ∙ ap w.frame (sym same) ∙ is_f) in
     subst (λ (x : FrameAt). has_carrier s w x.link ≡ true) alike
     (carried_of s w j raw (is_on_fibre (w.frame j)) g (subst (λ x. AllHold (arrive_checks s w j raw (is_on_fibre (w.frame j)) x)) is_g a))) k
 arrives bound s before h says j i raw None None a is_g is_f k = tt

@@ -28,7 +28,7 @@ use Rattle.wrp_world.proofs.RunTimes.{all_given_time}
 
 -- Inputs that are no tick
 
-abbrev NoTick : Input → Type 0
+abbrev pub NoTick : Input → Type 0
 NoTick TickInput = ⊥
 NoTick _ = Unit {0}
 
@@ -40,7 +40,7 @@ no_tick (Sent p seq delay stamp) time before h = refl
 no_tick (Carrier p up own_module) time before h = refl
 no_tick Reset time before h = refl
 
-told_same : (b : Bool) (c d : ClockState) → c.ticked ≡ d.ticked → (if b then c else d).ticked ≡ d.ticked
+pub told_same : (b : Bool) (c d : ClockState) → c.ticked ≡ d.ticked → (if b then c else d).ticked ≡ d.ticked
 told_same true c d e = e
 told_same false c d e = refl
 

@@ -1,6 +1,6 @@
 -- What holds of times, frames and modules after every event of every run.
-use Rattle.std.proofs.Common.{◌≡◌, ◌∙◌, refl, sym, subst, ℕ, ◌&&◌, ℤ, pos, ◌+ℤ◌, ◌≤ℤ◌, not, Bool, true, false, if◌then◌else◌, List, [], ◌∷◌, ◌++◌, map, flat_map, Option, None, Some, option_map, Result, arith}
-use Rattle.std.proofs.lemmas.Bool.{eqb-true}
+use Rattle.std.proofs.Common.{◌≡◌, ◌∙◌, refl, sym, subst, ℕ, ℤ, pos, ◌+ℤ◌, ◌≤ℤ◌, not, Bool, true, false, if◌then◌else◌, List, [], ◌∷◌, ◌++◌, map, flat_map, Option, None, Some, option_map, Result, arith}
+use Rattle.std.proofs.lemmas.Bool.{eqb-true, and_parts, true≢false}
 use Rattle.std.proofs.lemmas.Int.{ints}
 use Rattle.arrayvec.specs.ArrayVec.{ArrayVec as Items}
 use Rattle.std.specs.List.{AllByRecursion}
@@ -8,6 +8,7 @@ use Rattle.wrp_base.specs.declared.link.Role.{Role}
 use Rattle.wrp_base.specs.declared.link.Role.TheVariants.{Master, Slave}
 use Rattle.wrp_base.specs.declared.message.PtpMsg.{PtpMsg}
 use Rattle.wrp_base.specs.declared.network.LinkCfg.{LinkCfg}
+use Rattle.wrp_base.proofs.Integers.{int_le_self, int_le_trans}
 use Rattle.wrp_frame.specs.declared.fault.FrameFault.{FrameFault}
 use Rattle.wrp_world.specs.declared.event.Event.{Event}
 use Rattle.wrp_world.specs.declared.event.Event.TheVariants.{Pass, Depart, Down, Up, Cut}
@@ -30,27 +31,21 @@ pub all_given_time : (s : Setting) (y : ℤ) (gs : List Given) (v : WorldAt) →
 all_given_time s y [] v = refl
 all_given_time s y (g ∷ gs) v = all_given_time s y gs (gives s y v g)
 
-same_time : (t : ℤ) → t ≤ℤ t
-same_time t = omega (arith, ints)
-
 later : (t dt : ℤ) → pos 1 ≤ℤ dt → t ≤ℤ (t +ℤ dt)
 later t dt h = omega (arith, ints, h)
 
-after_that : (a b c : ℤ) → a ≤ℤ b → b ≤ℤ c → a ≤ℤ c
-after_that a b c h k = omega (arith, ints, h, k)
-
 pub moved_time : (s : Setting) (w : WorldAt) (e : Event) → IsEventOf s.cfg e → w.time ≤ℤ (moved s w e).time
 moved_time s w (Pass dt drifts fibres) h = later w.time dt h.span.0
-moved_time s w _ h = same_time w.time
+moved_time s w _ h = int_le_self w.time
 
 pub step_time : (s : Setting) (says : Result PtpMsg FrameFault) (y : ℤ) (w : WorldAt) (e : Event) → IsEventOf s.cfg e → w.time ≤ℤ (world_step s says y w e).time
 step_time s says y w e h =
     subst (λ t. w.time ≤ℤ t) (sym (all_given_time s y (given_by s w (moved s w e) says e) (moved s w e))) (moved_time s w e h)
 
 times_rise : (s : Setting) (newer older : List Happened) → AllEvents s.cfg (newer ++ older) → (world_after s older).time ≤ℤ (world_after s (newer ++ older)).time
-times_rise s [] older each = same_time (world_after s older).time
+times_rise s [] older each = int_le_self (world_after s older).time
 times_rise s (h ∷ newer) older each =
-    after_that (world_after s older).time (world_after s (newer ++ older)).time (world_after s (h ∷ (newer ++ older))).time
+    int_le_trans (world_after s older).time (world_after s (newer ++ older)).time (world_after s (h ∷ (newer ++ older))).time
     (times_rise s newer older each.1) (step_time s h.says h.answer (world_after s (newer ++ older)) h.event each.0)
 
 pub time_never_falls : TimeNeverFalls
@@ -58,7 +53,7 @@ time_never_falls s newer older run = times_rise s newer older run.each
 
 -- Modules
 
-same_module : (e : EndAt) → SameModule e e
+pub same_module : (e : EndAt) → SameModule e e
 same_module e = record { name = refl; tx = refl; rx = refl }
 
 module_by : (a b c : EndAt) → SameModule a b → SameModule b c → SameModule a c
@@ -75,26 +70,18 @@ all_given_module s y (g ∷ gs) v k r =
     module_by (v.end_at k r) ((gives s y v g).end_at k r) ((gives_all s y (gives s y v g) gs).end_at k r) (given_module s y v g k r)
     (all_given_module s y gs (gives s y v g) k r)
 
-one_module : (b : Bool) (e f : EndAt) → SameModule f e → SameModule f (if b then e else f)
+pub one_module : (b : Bool) (e f : EndAt) → SameModule f e → SameModule f (if b then e else f)
 one_module true e f h = h
 one_module false e f h = same_module f
 
--- a node that comes up was down, and so its links had no carrier
-true_false : true ≡ false → ⊥
-true_false e = cc
-
-pub both_up : (a b : Bool) → (a && b) ≡ true → (a ≡ true) × (b ≡ true)
-both_up true b e = (refl, e)
-both_up false b e = absurd (true_false (sym e))
-
 pub end_up : (w : WorldAt) (r : Role) (o : Option LinkCfg) (n : ℕ) → ends_are_up w.clock o ≡ true → is_of n (option_map (end_of r) o) ≡ true → (w.clock n).up ≡ true
-end_up w r None n e f = absurd (true_false (sym e))
+end_up w r None n e f = absurd (true≢false (sym e))
 end_up w Master (Some link) n e f =
-    subst (λ m. (w.clock m).up ≡ true) (eqb-true link.upper n f) (both_up (w.clock link.upper).up (w.clock link.lower).up e).0
+    subst (λ m. (w.clock m).up ≡ true) (eqb-true link.upper n f) (and_parts (w.clock link.upper).up (w.clock link.lower).up e).0
 end_up w Slave (Some link) n e f =
-    subst (λ m. (w.clock m).up ≡ true) (eqb-true link.lower n f) (both_up (w.clock link.upper).up (w.clock link.lower).up e).1
+    subst (λ m. (w.clock m).up ≡ true) (eqb-true link.lower n f) (and_parts (w.clock link.upper).up (w.clock link.lower).up e).1
 
-not_up : (up : Bool) → up ≡ true → not (not up) ≡ false → ⊥
+pub not_up : (up : Bool) → up ≡ true → not (not up) ≡ false → ⊥
 not_up up e f = cc
 
 swapped_where : (b : Bool) (e f : EndAt) → (b ≡ true → ⊥) → SameModule f (if b then e else f)
@@ -118,7 +105,7 @@ moved_module s w says (Depart n p stamp) k r a c =
     one_module (is_place (place_of s n p) k r) (record (w.end_at k r) { waiting = behind_first (w.end_at k r).waiting }) (w.end_at k r) (record { name = refl; tx = refl; rx = refl })
 moved_module s w says (Up n off swaps) k r a c =
     swapped_where (is_of n (end_at s k r)) (with_swap (swap_at (port_number s k r) swaps.items) (w.end_at k r)) (w.end_at k r)
-    (λ b. not_up (w.clock n).up (end_up w r (link_of s k) n (both_up (w.fibre k).joined (ends_are_up w.clock (link_of s k)) c).1 b) (comes_up_down s w says n off swaps a))
+    (λ b. not_up (w.clock n).up (end_up w r (link_of s k) n (and_parts (w.fibre k).joined (ends_are_up w.clock (link_of s k)) c).1 b) (comes_up_down s w says n off swaps a))
 moved_module s w says (Down n) k r a c = one_module (loses s (Down n) k) (record (w.end_at k r) { waiting = [] }) (w.end_at k r) (record { name = refl; tx = refl; rx = refl })
 moved_module s w says (Cut l) k r a c = one_module (loses s (Cut l) k) (record (w.end_at k r) { waiting = [] }) (w.end_at k r) (record { name = refl; tx = refl; rx = refl })
 moved_module s w says _ k r a c = same_module (w.end_at k r)

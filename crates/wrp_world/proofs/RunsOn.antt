@@ -1,5 +1,5 @@
 -- A run goes on with the event that a step takes.
-use Rattle.std.proofs.Common.{◌≡◌, subst, ℤ, List, ◌∷◌, Result}
+use Rattle.std.proofs.Common.{subst, ℤ, List, ◌∷◌, Result}
 use Rattle.wrp_base.specs.declared.configuration.NetCfg.{NetCfg}
 use Rattle.wrp_base.specs.declared.message.PtpMsg.{PtpMsg}
 use Rattle.wrp_frame.specs.declared.fault.FrameFault.{FrameFault}
@@ -11,7 +11,7 @@ use Rattle.wrp_world.specs.InRun.{InRun}
 use Rattle.wrp_world.specs.Run.{Happened}
 use Rattle.wrp_world.specs.RunsOn.{GoesOn, RunsOn}
 use Rattle.wrp_world.specs.Setting.{Setting}
-use Rattle.wrp_world.specs.StandsFor.{StandsFor, WorldOf}
+use Rattle.wrp_world.specs.StandsFor.{WorldOf}
 use Rattle.wrp_world.specs.Step.{MayCome, Stepped}
 use Rattle.wrp_world.proofs.InRuns.{step_adds_to_run}
 

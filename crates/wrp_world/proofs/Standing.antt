@@ -18,9 +18,6 @@ use Rattle.wrp_world.specs.Views.{tick_due}
 use Rattle.wrp_world.specs.WorldAt.{WorldAt, delay_from, ends_are_up, has_carrier, phase_of}
 use Rattle.wrp_world.proofs.Told.{told_standing, made, not_made, told_append}
 
-pub same_link : (a b : LinkCfg) → Some a ≡ Some b → a ≡ b
-same_link a b e = cc
-
 pub early_told : (s : Setting) (w : WorldAt) (n : ℕ) (least now : ℤ) (clock : ClockState) (r : Option Breach) →
     r ≡ told_of (early_by least now clock ∷ []) → least ≡ pos (shortest_tick s.cfg) → now ≡ w.time → clock ≡ w.clock n →
     r ≡ told_of (tick_early s w n ∷ [])

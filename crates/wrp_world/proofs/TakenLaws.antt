@@ -2,6 +2,7 @@
 use Rattle.std.proofs.Common.{◌≡◌, ◌∙◌, ap, sym, subst, ℕ, zero, suc, ◌+◌, ◌<◌, ◌≤◌, ℤ, List, [], ◌∷◌, length, drop, Option, Some, slice_get, option_and_then, arith}
 use Rattle.std.proofs.lemmas.List.{length-drop}
 use Rattle.wrp_base.specs.declared.configuration.NetCfg.{NetCfg}
+use Rattle.wrp_base.proofs.Lists.{head_and_tail}
 use Rattle.wrp_law.specs.Law.{LawOf}
 use Rattle.wrp_node.specs.Control.{law_in}
 use Rattle.wrp_node.specs.New.{fixed_of}
@@ -16,9 +17,6 @@ pub record Taken {A : Type 0} (xs rest : List A) (n : ℕ) (x : A) : Type 0 wher
   pub left : rest ≡ drop (suc n) xs
   pub within : n < length xs
 
-head_is : {A : Type 0} (x y : A) (xs ys : List A) → x ∷ xs ≡ y ∷ ys → (x ≡ y) × (xs ≡ ys)
-head_is x y xs ys e = (cc, cc)
-
 not_empty : {A : Type 0} (x : A) (xs : List A) → [] ≡ x ∷ xs → ⊥
 not_empty x xs e = cc
 
@@ -29,7 +27,7 @@ pub taken : {A : Type 0} (xs left rest : List A) (n : ℕ) (x : A) → left ≡ 
 taken [] left rest zero x e f = absurd (not_empty x rest (sym e ∙ f))
 taken [] left rest (suc n) x e f = absurd (not_empty x rest (sym e ∙ f))
 taken (y ∷ xs) left rest zero x e f =
-    let h : (y ≡ x) × (xs ≡ rest) = head_is y x xs rest (sym e ∙ f) in
+    let h : (y ≡ x) × (xs ≡ rest) = head_and_tail y x xs rest (sym e ∙ f) in
     record { at = ap Some h.0; left = sym h.1; within = omega arith }
 taken (y ∷ xs) left rest (suc n) x e f = more x y xs rest n (taken xs left rest n x e f)
 

@@ -1,8 +1,9 @@
 -- What a node's step makes of the ends of links: of a plant as of the state that it stands for.
-use Rattle.std.proofs.Common.{◌≡◌, ◌∙◌, refl, ap, ap₂, sym, subst, ℕ, ◌+◌, ◌==◌, ◌≤◌, ℤ, Bool, true, false, if◌then◌else◌, List, [], ◌∷◌, ◌++◌, length, map, reverse, drop, Option, None, Some, option_map, slice_get, append_assoc, arith}
-use Rattle.std.proofs.lemmas.List.{reverse-append, map-append, append-nil}
+use Rattle.std.proofs.Common.{◌≡◌, ◌∙◌, refl, ap, sym, subst, ℕ, ◌+◌, ◌==◌, ℤ, Bool, true, false, if◌then◌else◌, List, [], ◌∷◌, ◌++◌, map, reverse, Option, None, Some, option_map}
+use Rattle.std.proofs.lemmas.List.{reverse-append, append-nil}
 use Rattle.std.specs.List.{AllZip}
 use Rattle.std.specs.Option.{option_map_or}
+use Rattle.std.proofs.lemmas.Bool.{eqb-true}
 use Rattle.wrp_base.specs.declared.link.LinkState.{LinkState}
 use Rattle.wrp_base.specs.declared.link.Mark.{Mark}
 use Rattle.wrp_base.specs.declared.link.Role.{Role}
@@ -14,7 +15,6 @@ use Rattle.wrp_base.specs.Network.{End}
 use Rattle.wrp_handshake.specs.Ends.{marked}
 use Rattle.wrp_link.specs.Table.{is_same}
 use Rattle.wrp_node.specs.declared.interface.Output.{Output}
-use Rattle.wrp_node.specs.declared.interface.Output.TheVariants.{Send, Step as StepOf, Dac, Report}
 use Rattle.wrp_node.specs.NodeAt.{link_at}
 use Rattle.wrp_node.specs.Sends.{frames_at}
 use Rattle.wrp_node.specs.States.{state_in}
@@ -24,33 +24,18 @@ use Rattle.wrp_world.specs.declared.ends.PutOut.{PutOut}
 use Rattle.wrp_world.specs.declared.ends.Span.{Span}
 use Rattle.wrp_world.specs.declared.fibres.FibreState.{FibreState}
 use Rattle.wrp_world.specs.declared.plant.told.News.{News}
+use Rattle.wrp_world.proofs.Listing.{zip_append}
 use Rattle.wrp_world.specs.Given.{Given, end_told, mover_of, sending}
 use Rattle.wrp_world.specs.Moves.{Turns, Where}
 use Rattle.wrp_world.specs.Plant.{EndIs, PutOutIs}
-use Rattle.wrp_world.specs.PlantTold.{IsPortOf, IsSent, Tells, TellsAt, TellsIn, TellsPort, mark_of, put_at}
+use Rattle.wrp_world.specs.PlantTold.{IsPortOf, IsSent, TellsAt, TellsIn, TellsPort, mark_of, put_at}
 use Rattle.wrp_world.specs.Room.{HasSpanRoom}
 use Rattle.wrp_world.specs.Setting.{Setting, end_of, is_of}
-use Rattle.wrp_world.specs.WorldAt.{WorldAt, EndAt, Sending}
+use Rattle.wrp_world.specs.WorldAt.{WorldAt, EndAt}
 
 -- The frames of a port, one output after the other
 
-if_cons : (b : Bool) (f : List ℕ) (fs : List (List ℕ)) → (if b then f ∷ fs else fs) ≡ (if b then f ∷ [] else []) ++ fs
-if_cons true f fs = refl
-if_cons false f fs = refl
-
-pub frames_cons : (p : ℕ) (out : Output) (outs : List Output) → frames_at p (out ∷ outs) ≡ frames_at p (out ∷ []) ++ frames_at p outs
-frames_cons p (Send q frame) outs = if_cons (q == p) frame.items (frames_at p outs)
-frames_cons p (StepOf cycles) outs = refl
-frames_cons p (Dac value) outs = refl
-frames_cons p (Report report) outs = refl
-
 -- Lists that stand for one another, one behind the other
-
-zip_append : {A B : Type 0} (R : A → B → Type 0) (xs us : List A) (ys vs : List B) → AllZip R xs ys → AllZip R us vs → AllZip R (xs ++ us) (ys ++ vs)
-zip_append R [] us [] vs h k = k
-zip_append R [] us (y ∷ ys) vs h k = absurd h
-zip_append R (x ∷ xs) us [] vs h k = absurd h
-zip_append R (x ∷ xs) us (y ∷ ys) vs h k = (h.0, zip_append R xs us ys vs h.1 k)
 
 put_out_is : (v : WorldAt) (now : ℤ) (m : PtpMsg) (f : List ℕ) → now ≡ v.time → IsSent m f → PutOutIs (sending v m) (put_at now f)
 put_out_is v now m f t h = record { octets = h.octets; says = h.says; at = t }
@@ -104,9 +89,6 @@ end_where : (b : Bool) (s : Setting) (v : WorldAt) (g : Given) (step : Step) (ne
 end_where true s v g step news outs p now at x y t m q r h = end_is s v g step news outs p now at x y t m (q refl) r h
 end_where false s v g step news outs p now at x y t m q r h = subst (EndIs at) (sym r) h
 
-same_number : (n i : ℕ) → (n == i) ≡ true → n ≡ i
-same_number n i e = grind (arith, e)
-
 abbrev pub told_end : Setting → WorldAt → Given → Step → Role → Option LinkCfg → EndAt → EndAt
 told_end s v g step r o at =
     if is_of g.to (option_map (end_of r) o) then option_map_or (λ (end : End). given_end s v g step at end.port) (option_map (end_of r) o) at else at
@@ -121,10 +103,10 @@ span_is s v g step news outs now None f m a x y t n b q r e h k =
 span_is s v g step news outs now (Some link) f m a x y t n b q r e h k = (
   r.fibre ∙ e,
   end_where (link.upper == g.to) s v g step news outs link.upper_port now m x.master y.master t b
-      (λ i. q Master (end_of Master link) refl (same_number link.upper g.to i))
+      (λ i. q Master (end_of Master link) refl (eqb-true link.upper g.to i))
       (subst (λ d. Where (link.upper == d) (TellsPort now news outs link.upper_port) x.master y.master) (sym n) r.master) h,
   end_where (link.lower == g.to) s v g step news outs link.lower_port now a x.slave y.slave t b
-      (λ i. q Slave (end_of Slave link) refl (same_number link.lower g.to i))
+      (λ i. q Slave (end_of Slave link) refl (eqb-true link.lower g.to i))
       (subst (λ d. Where (link.lower == d) (TellsPort now news outs link.lower_port) x.slave y.slave) (sym n) r.slave) k,
 )
 

@@ -1,13 +1,13 @@
 -- What a node's step makes of a plant: as of the state that the plant stands for, with numbers in their sizes and memory
 -- for the steps that are left.
-use Rattle.std.proofs.Common.{◌≡◌, ◌∙◌, refl, ap, ap₂, sym, subst, ℕ, zero, suc, ◌+◌, ◌*◌, ◌==◌, ◌≤◌, ◌<◌, ◌^◌, ◌⊎◌, inl, inr, ℤ, pos, ◌+ℤ◌, ◌*ℤ◌, unsigned_abs, Bool, true, false, if◌then◌else◌, List, [], ◌∷◌, ◌++◌, length, map, Option, None, Some, option_map, slice_get, arith, lit<}
+use Rattle.std.proofs.Common.{◌≡◌, ◌∙◌, refl, ap, sym, subst, ℕ, zero, suc, ◌+◌, ◌*◌, ◌==◌, ◌≤◌, ◌<◌, ◌^◌, ◌⊎◌, inl, inr, ℤ, pos, ◌+ℤ◌, ◌*ℤ◌, unsigned_abs, Bool, true, false, if◌then◌else◌, List, [], ◌∷◌, ◌++◌, length, map, Option, None, Some, slice_get, arith, lit<}
 use Rattle.std.proofs.Math.Nat.{mul-le-mul}
-use Rattle.std.proofs.lemmas.Int.{ints, unsigned_abs-mul}
+use Rattle.std.proofs.lemmas.Int.{unsigned_abs-mul}
+use Rattle.std.proofs.lemmas.Option.{none-some, same_Some}
 use Rattle.wrp_base.specs.Clock.{period_of}
 use Rattle.wrp_base.specs.declared.configuration.NetCfg.{NetCfg}
 use Rattle.wrp_base.specs.declared.time.Clock.{Clock}
 use Rattle.wrp_base.specs.declared.time.Clock.TheVariants.{Mhz125, Mhz62}
-use Rattle.wrp_base.specs.declared.link.Role.TheVariants.{Master, Slave}
 use Rattle.wrp_base.specs.declared.network.LinkCfg.{LinkCfg}
 use Rattle.wrp_caldb.specs.Database.{Database}
 use Rattle.wrp_config.specs.Accepted.{IsAccepted}
@@ -25,23 +25,19 @@ use Rattle.wrp_world.specs.declared.ends.Span.{Span}
 use Rattle.wrp_world.specs.declared.fibres.FibreState.{FibreState}
 use Rattle.wrp_world.specs.declared.frames.Departed.{Departed}
 use Rattle.wrp_world.specs.declared.plant.Plant.{Plant}
+use Rattle.wrp_world.proofs.RoomKept.{where_room}
 use Rattle.wrp_world.specs.declared.plant.told.News.{News}
+use Rattle.wrp_world.proofs.DroppedFrames.{still}
 use Rattle.wrp_world.specs.Given.{Given, clock_told, stepped_by, ticked_by}
-use Rattle.wrp_world.specs.Moves.{Turns, Where, At}
+use Rattle.wrp_world.specs.Moves.{Where, At}
 use Rattle.wrp_world.specs.Plant.{Each, FitsClock, FitsEnd, FitsPlant, FitsSpan, FramesAre, PlantIs, SpanIs}
-use Rattle.wrp_world.specs.PlantTold.{IsStepOf, MayStep, NoneStepped, Steps, Told, TellsIn, TellsPort, TellsAt, cycles_in, put_at}
+use Rattle.wrp_world.specs.PlantTold.{IsStepOf, MayStep, Steps, Told, TellsIn, TellsPort, TellsAt, cycles_in, put_at}
 use Rattle.wrp_world.specs.Setting.{Setting}
 use Rattle.wrp_world.specs.Sizes.{IsDelayBy, IsOffBy, IsTimeBy}
 use Rattle.wrp_world.specs.WorldAt.{WorldAt}
-use Rattle.wrp_world.proofs.Fitting.{FramesFit}
+use Rattle.wrp_world.proofs.Fitting.{FramesFit, abs_sum}
 use Rattle.wrp_world.proofs.Turned.{each_turned}
 use Rattle.wrp_world.proofs.TellingEnds.{span_is}
-
-none_some : {A : Type 0} (x : A) → None ≡ Some x → ⊥
-none_some x e = cc
-
-some_same : {A : Type 0} (x y : A) → Some x ≡ Some y → x ≡ y
-some_same x y e = cc
 
 -- The clock
 
@@ -100,9 +96,6 @@ period_size : (kind : Clock) → period_of kind ≤ 2 ^ 30
 period_size Mhz125 = lit< tt
 period_size Mhz62 = lit< tt
 
-abs_sum : (a b : ℤ) → unsigned_abs (a +ℤ b) ≤ unsigned_abs a + unsigned_abs b
-abs_sum a b = omega (arith, ints)
-
 step_size : (cycles : ℤ) (period : ℕ) → unsigned_abs cycles ≤ 2 ^ 62 → period ≤ 2 ^ 30 → unsigned_abs (cycles *ℤ pos period) ≤ 2 ^ 92
 step_size cycles period h k =
     let size : unsigned_abs (cycles *ℤ pos period) ≤ 2 ^ 62 * 2 ^ 30 = rw unsigned_abs-mul (mul-le-mul h k) in
@@ -111,15 +104,12 @@ step_size cycles period h k =
 off_stepped : (e : ℕ) (off d : ℤ) → unsigned_abs off ≤ 2 ^ 92 * e → unsigned_abs d ≤ 2 ^ 92 → IsOffBy e (off +ℤ d)
 off_stepped e off d h k = omega (arith, abs_sum off d, h, k)
 
-no_step : (off : ℤ) (period : ℕ) → off +ℤ (pos 0 *ℤ pos period) ≡ off
-no_step off period = omega (arith, ints)
-
 -- so far a clock may be stepped
 abbrev MayMove : ℕ → ℤ → ℤ → Type 0
 MayMove e cycles off = (cycles ≡ pos 0) ⊎ ((unsigned_abs cycles ≤ 2 ^ 62) × (unsigned_abs off ≤ 2 ^ 92 * e))
 
 off_fits : (e : ℕ) (off cycles : ℤ) (kind : Clock) → IsOffBy e off → MayMove e cycles off → IsOffBy e (off +ℤ (cycles *ℤ pos (period_of kind)))
-off_fits e off cycles kind h (inl z) = subst (λ c. IsOffBy e (off +ℤ (c *ℤ pos (period_of kind)))) (sym z) (subst (IsOffBy e) (sym (no_step off (period_of kind))) h)
+off_fits e off cycles kind h (inl z) = subst (λ c. IsOffBy e (off +ℤ (c *ℤ pos (period_of kind)))) (sym z) (subst (IsOffBy e) (sym (still off (period_of kind))) h)
 off_fits e off cycles kind h (inr k) = off_stepped e off (cycles *ℤ pos (period_of kind)) k.1 (step_size cycles (period_of kind) k.0 (period_size kind))
 
 either : (P : ℤ → Type 0) (b : Bool) (x y : ℤ) → P x → P y → P (if b then x else y)
@@ -136,13 +126,9 @@ clock_fits e cycles now kind ticked x y t m r h =
       samples = h.samples;
     })
 
-where_fits : {A : Type 0} (b : Bool) (C : A → A → Type 0) (P : A → Type 0) (x y : A) → Where b C x y → (C x y → P x → P y) → P x → P y
-where_fits true C P x y r f p = f r p
-where_fits false C P x y r f p = subst P (sym r) p
-
 puts_fit : (e : ℕ) (now : ℤ) → IsTimeBy e now → (fs : List (List ℕ)) → Each (λ i out. IsTimeBy e out.at) (map (put_at now) fs)
-puts_fit e now t [] i out g = absurd (none_some out g)
-puts_fit e now t (f ∷ fs) zero out g = subst (λ (o : PutOut). IsTimeBy e o.at) (some_same (put_at now f) out g) t
+puts_fit e now t [] i out g = absurd (none-some out g)
+puts_fit e now t (f ∷ fs) zero out g = subst (λ (o : PutOut). IsTimeBy e o.at) (same_Some (put_at now f) out g) t
 puts_fit e now t (f ∷ fs) (suc i) out g = puts_fit e now t fs i out g
 
 each_append : {A : Type 0} (P : A → Type 0) (xs ys : List A) → Each (λ i. P) xs → Each (λ i. P) ys → Each (λ i. P) (xs ++ ys)
@@ -162,8 +148,8 @@ span_fits e now news outs None x y t r h = subst (FitsSpan e) (sym r) h
 span_fits e now news outs (Some link) x y t r h = record {
   ms = subst (λ (f : FibreState). IsDelayBy e f.ms) (sym r.fibre) h.ms;
   sm = subst (λ (f : FibreState). IsDelayBy e f.sm) (sym r.fibre) h.sm;
-  master = where_fits (link.upper == news.node) (TellsPort now news outs link.upper_port) (FitsEnd e) x.master y.master r.master (end_fits e now news outs link.upper_port x.master y.master t) h.master;
-  slave = where_fits (link.lower == news.node) (TellsPort now news outs link.lower_port) (FitsEnd e) x.slave y.slave r.slave (end_fits e now news outs link.lower_port x.slave y.slave t) h.slave;
+  master = where_room (link.upper == news.node) (TellsPort now news outs link.upper_port) (FitsEnd e) x.master y.master r.master (end_fits e now news outs link.upper_port x.master y.master t) h.master;
+  slave = where_room (link.lower == news.node) (TellsPort now news outs link.lower_port) (FitsEnd e) x.slave y.slave r.slave (end_fits e now news outs link.lower_port x.slave y.slave t) h.slave;
 }
 
 move_at : (outs : List Output) (old : Plant) (n : ℕ) (x : ClockState) → slice_get old.clocks.items n ≡ Some x → MayStep outs old → MayMove old.events (cycles_in outs) x.off
@@ -174,7 +160,7 @@ told_clocks : (news : News) (outs : List Output) (old new : Plant) → Told news
     Each (λ n. FitsClock old.events) new.clocks.items
 told_clocks news outs old new c m f n y e =
     let it = c.of_clocks.1 n y e in
-    where_fits (n == news.node) (Steps (cycles_in outs) old.time (period_of old.net.cfg.clock) news.ticked) (FitsClock old.events) it.0 y it.2
+    where_room (n == news.node) (Steps (cycles_in outs) old.time (period_of old.net.cfg.clock) news.ticked) (FitsClock old.events) it.0 y it.2
     (λ r h. clock_fits old.events (cycles_in outs) old.time old.net.cfg.clock news.ticked it.0 y f.time (move_at outs old n it.0 it.1 m) r h) (f.clocks n it.0 it.1)
 
 pub told_fits : (news : News) (outs : List Output) (old new : Plant) → Told news outs old new → MayStep outs old → FitsPlant old → FitsPlant new

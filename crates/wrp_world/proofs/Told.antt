@@ -1,6 +1,7 @@
 -- What is told of checks that stand one after another.
 use Rattle.std.proofs.Common.{◌≡◌, ◌∙◌, refl, ap, sym, ℕ, zero, suc, ◌+◌, ◌-◌, ◌<◌, ◌≤◌, Bool, true, false, if◌then◌else◌, List, [], ◌∷◌, ◌++◌, map, flat_map, drop, length, slice_index_or, Option, None, Some, option_map, arith}
 use Rattle.std.specs.Option.{option_or}
+use Rattle.wrp_frame.proofs.Walk.{or_none}
 use Rattle.wrp_world.specs.Checks.{Check, first_broken, breach_of, told_of, only_where, stands}
 use Rattle.wrp_world.specs.declared.checks.Breach.{Breach}
 use Rattle.wrp_world.specs.Setting.{from_on}
@@ -31,10 +32,6 @@ pub told_three : (a b c : Check) →
 told_three a b c =
     told_cons a (b ∷ (c ∷ [])) ∙ ap (option_or (told_of (a ∷ []))) (told_cons b (c ∷ []))
     ∙ or_or (told_of (a ∷ [])) (told_of (b ∷ [])) (told_of (c ∷ []))
-
-or_none : {A : Type 0} (a : Option A) → option_or a None ≡ a
-or_none None = refl
-or_none (Some a) = refl
 
 -- where what the event needs stands, the other checks are told
 pub told_standing : (xs : List Check) → told_of (xs ++ (stands true ∷ [])) ≡ told_of xs

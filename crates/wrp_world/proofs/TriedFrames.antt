@@ -1,20 +1,18 @@
 -- What is told of a frame that departs, and of one that arrives.
-use Rattle.std.proofs.Common.{◌≡◌, ◌∙◌, refl, ap, ap₂, sym, subst, ℕ, ◌<◌, ◌^◌, ℤ, pos, ◌-ℤ◌, true, false, List, [], ◌∷◌, Option, None, Some, IfSome, option_map, slice_get, arith}
+use Rattle.std.proofs.Common.{◌≡◌, ◌∙◌, refl, ap, ap₂, sym, subst, ℕ, ◌<◌, ◌^◌, ℤ, pos, ◌-ℤ◌, true, false, List, [], ◌∷◌, Option, None, Some, IfSome, option_map, slice_get}
 use Rattle.std.specs.List.{AllZip}
 use Rattle.std.specs.Option.{option_map_or, option_or}
+use Rattle.std.proofs.lemmas.Option.{none-some, same_Some}
 use Rattle.wrp_base.specs.declared.link.Role.{Role}
-use Rattle.wrp_base.specs.declared.link.Role.TheVariants.{Master, Slave}
 use Rattle.wrp_base.specs.declared.time.Clock.{Clock}
 use Rattle.wrp_base.specs.declared.time.Raw.{Raw}
 use Rattle.wrp_base.specs.Network.{End}
-use Rattle.wrp_node.specs.Parts.{FitsRaw}
 use Rattle.wrp_world.specs.Checks.{Check, told_of, at_most, not_sent, size_of, stands}
 use Rattle.wrp_world.specs.declared.checks.Breach.{Breach}
 use Rattle.wrp_world.specs.declared.ends.PutOut.{PutOut}
 use Rattle.wrp_world.specs.declared.ends.Span.{Span}
 use Rattle.wrp_world.specs.declared.frames.Departed.{Departed}
 use Rattle.wrp_world.specs.declared.place.Place.{Place}
-use Rattle.wrp_world.specs.EventAt.{IsRaw}
 use Rattle.wrp_world.specs.Moved.{waiting_at}
 use Rattle.wrp_world.specs.Plant.{DepartedIs, Each, EndIs, FitsEnd, FitsSpan, FramesAre, PutOutIs, SpanIs, end_in, frame_numbered, is_on}
 use Rattle.wrp_world.specs.Premises.{arrive_checks, depart_checks, raw_checks, received, received_at, transition_of}
@@ -28,6 +26,7 @@ use Rattle.wrp_world.proofs.NextArrivals.{on_alike}
 use Rattle.wrp_world.proofs.Sizing.{time_size}
 use Rattle.wrp_world.proofs.Standing.{end_told}
 use Rattle.wrp_world.proofs.Counting.{told_middle}
+use Rattle.wrp_world.proofs.Departing.{fits_end}
 
 -- The oldest that waits
 
@@ -43,10 +42,6 @@ oldest_told w k span role r h e =
     let end : EndIs (w.end_at k role) (end_in span role) = end_told w k span role h in
     e ∙ first_waits (w.end_at k role).waiting (end_in span role).waiting.items end.waiting
 
-fits_end : (events : ℕ) (span : Span) (role : Role) → FitsSpan events span → FitsEnd events (end_in span role)
-fits_end events span Master h = h.master
-fits_end events span Slave h = h.slave
-
 first_fits : (events : ℕ) (outs : List PutOut) → events < 2 ^ 32 → Each (λ i out. IsTimeBy events out.at) outs →
     IfSome (option_map (λ (out : PutOut). out.at) (slice_get outs 0)) IsTime
 first_fits events [] few h = tt
@@ -60,25 +55,19 @@ oldest_fits events span role r few h e =
 
 -- A departure
 
-some_same : (a b : ℤ) → Some a ≡ Some b → a ≡ b
-some_same a b e = cc
-
 some_none : (a : ℤ) → Some a ≡ None → ⊥
 some_none a e = cc
-
-none_some : (a : ℤ) → None ≡ Some a → ⊥
-none_some a e = cc
 
 pub leaves_told : (s : Setting) (w : WorldAt) (n : ℕ) (stamp sent : ℤ) (place : Place) (waiting : List Sending) → Some sent ≡ oldest_of waiting →
     told_of (departs_by s w n place.link stamp sent) ≡ told_of (depart_checks s w n stamp (Some place) waiting)
 leaves_told s w n stamp sent place [] e = absurd (some_none sent e)
 leaves_told s w n stamp sent place (oldest ∷ rest) e =
-    ap (λ at. told_of (departs_by s w n place.link stamp at)) (some_same sent oldest.at e)
+    ap (λ at. told_of (departs_by s w n place.link stamp at)) (same_Some sent oldest.at e)
 
 pub none_leaves_told : (s : Setting) (w : WorldAt) (n : ℕ) (stamp : ℤ) (place : Place) (waiting : List Sending) → None ≡ oldest_of waiting →
     told_of (not_sent 0 w.departed ∷ []) ≡ told_of (depart_checks s w n stamp (Some place) waiting)
 none_leaves_told s w n stamp place [] e = refl
-none_leaves_told s w n stamp place (oldest ∷ rest) e = absurd (none_some oldest.at e)
+none_leaves_told s w n stamp place (oldest ∷ rest) e = absurd (none-some oldest.at e)
 
 -- by the port
 abbrev pub departs_at : Setting → WorldAt → ℕ → ℤ → Option Place → Option Breach
@@ -90,16 +79,10 @@ depart_told s w n p stamp o r e f = e ∙ sym (ap (departs_at s w n stamp) f)
 
 -- An arrival
 
-no_number : (n : ℕ) → None ≡ Some n → ⊥
-no_number n e = cc
-
-same_number : (m n : ℕ) → Some m ≡ Some n → m ≡ n
-same_number m n e = cc
-
 received_by : (g : ℕ → List Check) (o : Option End) (n : ℕ) → option_map (λ end. end.node) o ≡ Some n →
     told_of (g n) ≡ told_of (option_map_or (λ end. g end.node) o [])
-received_by g None n e = absurd (no_number n e)
-received_by g (Some end) n e = ap (λ m. told_of (g m)) (sym (same_number end.node n e))
+received_by g None n e = absurd (none-some n e)
+received_by g (Some end) n e = ap (λ m. told_of (g m)) (sym (same_Some end.node n e))
 
 pub raw_told : (s : Setting) (w : WorldAt) (to : Place) (raw : Raw) (n : ℕ) (clock : Clock) (e_tag transition : ℕ) (at : ℤ) (r : Option Breach) →
     r ≡ told_of (raw_checks clock e_tag transition at raw) → clock ≡ s.cfg.clock → e_tag ≡ of_node (λ node. node.e_tag) s n →
@@ -144,12 +127,3 @@ pub no_arrival_told : (s : Setting) (w : WorldAt) (i : ℕ) (raw : Raw) (frames 
     r ≡ told_of (arrive_checks s w i raw (is_on_fibre (w.frame i)) (w.frame i))
 no_arrival_told s w i raw frames r h e told =
     told ∙ sym (ap (λ o. told_of (arrive_checks s w i raw (is_on_fibre o) o)) (missing DepartedIs (w.frame i) (frame_numbered i frames) (h.each i) e))
-
-pub raw_fits : (raw : Raw) → IsRaw raw → FitsRaw raw
-raw_fits raw h = record {
-  rising_least = omega (arith, h.rising.0);
-  rising_most = omega (arith, h.rising.1);
-  falling_least = omega (arith, h.falling.0);
-  falling_most = omega (arith, h.falling.1);
-  tag = omega (arith, h.tag);
-}

@@ -1,11 +1,11 @@
 -- What is told of modules that are put in place, and what the network has of a module.
 use Rattle.std.proofs.Common.{◌≡◌, ◌∙◌, refl, ap, ap₂, sym, ℕ, suc, ◌<◌, ◌==◌, ◌&&◌, Bool, true, false, cond, List, [], ◌∷◌, Option, None, Some, IfSome, option_map, option_and_then, slice_get, arith}
 use Rattle.std.specs.List.{find}
-use Rattle.std.specs.Option.{option_or}
 use Rattle.wrp_base.specs.declared.link.Module.{Module}
 use Rattle.wrp_base.specs.declared.link.Role.{Role}
 use Rattle.wrp_base.specs.declared.network.LinkCfg.{LinkCfg}
 use Rattle.wrp_base.specs.Clock.{steps_of_period}
+use Rattle.wrp_base.proofs.Options.{either_holds}
 use Rattle.wrp_caldb.specs.declared.database.Entry.{Entry}
 use Rattle.wrp_caldb.specs.Database.{Database, ModuleAt, delays_at, entry_at as entry_in, module_at}
 use Rattle.wrp_caldb.specs.Name.{same_name}
@@ -18,7 +18,7 @@ use Rattle.wrp_world.specs.Premises.{entry_for, module_checks, module_kept}
 use Rattle.wrp_world.specs.Setting.{Setting, entry_at, link_of, other_of, place_of, sends_nm}
 
 -- what was found is one of those that were searched
-found_case : {A : Type 0} (P : A → Type 0) (b : Bool) (x : A) (o : Option A) → P x → IfSome o P → IfSome (cond b (Some x) o) P
+pub found_case : {A : Type 0} (P : A → Type 0) (b : Bool) (x : A) (o : Option A) → P x → IfSome o P → IfSome (cond b (Some x) o) P
 found_case P true x o p q = p
 found_case P false x o p q = q
 
@@ -26,15 +26,11 @@ found_holds : {A : Type 0} (P : A → Type 0) (test : A → Bool) (xs : List A) 
 found_holds P test [] h = tt
 found_holds P test (x ∷ xs) h = found_case P (test x) x (find test xs) (h 0 x refl) (found_holds P test xs (λ k y e. h (suc k) y e))
 
-mapped_holds : {A B : Type 0} (f : A → B) (P : B → Type 0) (o : Option A) → IfSome o (λ x. P (f x)) → IfSome (option_map f o) P
+pub mapped_holds : {A B : Type 0} (f : A → B) (P : B → Type 0) (o : Option A) → IfSome o (λ x. P (f x)) → IfSome (option_map f o) P
 mapped_holds f P None h = tt
 mapped_holds f P (Some x) h = h
 
-either_holds : {A : Type 0} (P : A → Type 0) (a b : Option A) → IfSome a P → IfSome b P → IfSome (option_or a b) P
-either_holds P None b h k = k
-either_holds P (Some x) b h k = h
-
-then_holds : {A B : Type 0} (f : A → Option B) (P : B → Type 0) (o : Option A) → IfSome o (λ x. IfSome (f x) P) → IfSome (option_and_then f o) P
+pub then_holds : {A B : Type 0} (f : A → Option B) (P : B → Type 0) (o : Option A) → IfSome o (λ x. IfSome (f x) P) → IfSome (option_and_then f o) P
 then_holds f P None h = tt
 then_holds f P (Some x) h = h
 

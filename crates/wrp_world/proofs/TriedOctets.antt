@@ -1,13 +1,15 @@
 -- What is told of octets that are handed to a port: the peer that the node's set has there is the port at the other end.
-use Rattle.std.proofs.Common.{◌≡◌, ◌∙◌, refl, ap, sym, ℕ, suc, ◌+◌, ◌==◌, ◌&&◌, Bool, true, false, if◌then◌else◌, List, [], ◌∷◌, ◌++◌, flat_map, Option, None, Some, Result, Ok, Err, slice_get, arith}
+use Rattle.std.proofs.Common.{◌≡◌, ◌∙◌, refl, ap, sym, ℕ, suc, ◌+◌, ◌==◌, ◌&&◌, Bool, true, false, if◌then◌else◌, List, [], ◌∷◌, ◌++◌, flat_map, Option, Some, Result, Ok, Err, slice_get, arith}
 use Rattle.std.specs.List.{find}
 use Rattle.std.specs.Option.{option_or}
+use Rattle.std.proofs.lemmas.Option.{none-some, same_Some}
 use Rattle.wrp_base.specs.declared.configuration.NetCfg.{NetCfg}
 use Rattle.wrp_base.specs.declared.link.Role.{Role}
 use Rattle.wrp_base.specs.declared.link.Role.TheVariants.{Master, Slave}
 use Rattle.wrp_base.specs.declared.message.PortIdentity.{PortIdentity}
 use Rattle.wrp_base.specs.declared.message.PtpMsg.{PtpMsg}
 use Rattle.wrp_base.specs.declared.network.LinkCfg.{LinkCfg}
+use Rattle.wrp_base.proofs.Naturals.{is_plus_zero, zero_plus}
 use Rattle.wrp_data.specs.declared.datasets.PortDs.{PortDs}
 use Rattle.wrp_frame.specs.declared.fault.FrameFault.{FrameFault}
 use Rattle.wrp_frame.specs.Faults.{IsFirstFault}
@@ -26,7 +28,7 @@ use Rattle.wrp_world.specs.WorldAt.{WorldAt, has_carrier}
 use Rattle.wrp_world.proofs.Told.{told_cons}
 
 -- a port at an end of a link
-abbrev ds_at : NetCfg → Role → LinkCfg → PortDs
+abbrev pub ds_at : NetCfg → Role → LinkCfg → PortDs
 ds_at net Master link = master_at net link
 ds_at net Slave link = slave_at net link
 
@@ -42,37 +44,25 @@ record FoundEnd (net : NetCfg) (n p k : ℕ) (links : List LinkCfg) (place : Pla
   pub stands : slice_get links at ≡ Some link
   pub port : port_in p (flat_map (ports_at net n) links) ≡ Some (ds_at net place.role link)
 
-none_place : (place : Place) → None ≡ Some place → ⊥
-none_place place e = cc
-
-same_place : (a b : Place) → Some a ≡ Some b → a ≡ b
-same_place a b e = cc
-
 -- at one link, by what it has of the port: its upper end (a and b), its lower one (c and d)
 head_end : (a b c d : Bool) (rest : Option Place) (upper lower place : Place) (x y : PortDs) (test : PortDs → Bool) (ports : List PortDs) → test x ≡ b → test y ≡ d →
     (if a && b then Some upper else (if c && d then Some lower else rest)) ≡ Some place →
     (P : Type 0) → (find test (((if a then x ∷ [] else []) ++ (if c then y ∷ [] else [])) ++ ports) ≡ Some x → place ≡ upper → P) →
     (find test (((if a then x ∷ [] else []) ++ (if c then y ∷ [] else [])) ++ ports) ≡ Some y → place ≡ lower → P) →
     (find test (((if a then x ∷ [] else []) ++ (if c then y ∷ [] else [])) ++ ports) ≡ find test ports → rest ≡ Some place → P) → P
-head_end true true c d rest upper lower place x y test ports e f g P up low on = up (rw e refl) (sym (same_place upper place g))
-head_end true false true true rest upper lower place x y test ports e f g P up low on = low (rw e (rw f refl)) (sym (same_place lower place g))
+head_end true true c d rest upper lower place x y test ports e f g P up low on = up (rw e refl) (sym (same_Some upper place g))
+head_end true false true true rest upper lower place x y test ports e f g P up low on = low (rw e (rw f refl)) (sym (same_Some lower place g))
 head_end true false true false rest upper lower place x y test ports e f g P up low on = on (rw e (rw f refl)) g
 head_end true false false d rest upper lower place x y test ports e f g P up low on = on (rw e refl) g
-head_end false b true true rest upper lower place x y test ports e f g P up low on = low (rw f refl) (sym (same_place lower place g))
+head_end false b true true rest upper lower place x y test ports e f g P up low on = low (rw f refl) (sym (same_Some lower place g))
 head_end false b true false rest upper lower place x y test ports e f g P up low on = on (rw f refl) g
 head_end false b false d rest upper lower place x y test ports e f g P up low on = on refl g
 
 abbrev placed_at : ℕ → Role → Place
 placed_at k r = record { link = k; role = r }
 
-next_link : (k j : ℕ) → (k + 1) + j ≡ k + suc j
+pub next_link : (k j : ℕ) → (k + 1) + j ≡ k + suc j
 next_link k j = omega arith
-
-first_link : (k : ℕ) → k ≡ k + 0
-first_link k = omega arith
-
-from_none : (j : ℕ) → 0 + j ≡ j
-from_none j = omega arith
 
 one_on : (net : NetCfg) (n p k : ℕ) (link : LinkCfg) (links : List LinkCfg) (place : Place) → FoundEnd net n p (k + 1) links place →
     port_in p (flat_map (ports_at net n) (link ∷ links)) ≡ port_in p (flat_map (ports_at net n) links) → FoundEnd net n p k (link ∷ links) place
@@ -89,13 +79,13 @@ this_end : (net : NetCfg) (n p k : ℕ) (link : LinkCfg) (links : List LinkCfg) 
 this_end net n p k link links r place h e = record {
   at = 0;
   link = link;
-  number = ap (λ (q : Place). q.link) h ∙ first_link k;
+  number = ap (λ (q : Place). q.link) h ∙ is_plus_zero k;
   stands = refl;
   port = e ∙ sym (ap (λ (q : Place). Some (ds_at net q.role link)) h);
 }
 
 found_end : (net : NetCfg) (n p k : ℕ) (links : List LinkCfg) (place : Place) → place_among n p k links ≡ Some place → FoundEnd net n p k links place
-found_end net n p k [] place e = absurd (none_place place e)
+found_end net n p k [] place e = absurd (none-some place e)
 found_end net n p k (link ∷ links) place e =
     head_end (link.upper == n) (link.upper_port == p) (link.lower == n) (link.lower_port == p) (place_among n p (k + 1) links)
     (placed_at k Master) (placed_at k Slave) place (master_at net link) (slave_at net link) (λ (ds : PortDs). ds.own.port == p) (flat_map (ports_at net n) links) refl refl e
@@ -109,15 +99,12 @@ peer_at : (net : NetCfg) (r : Role) (link : LinkCfg) → (ds_at net r link).peer
 peer_at net Master link = refl
 peer_at net Slave link = refl
 
-same_link : (a b : LinkCfg) → Some a ≡ Some b → a ≡ b
-same_link a b e = cc
-
 pub peer_told : (net : NetCfg) (n p : ℕ) (place : Place) (link : LinkCfg) → place_among n p 0 net.links.items ≡ Some place →
     slice_get net.links.items place.link ≡ Some link → (port_of (set_of net n) p).peer ≡ identity_at net (other_of place.role) link
 peer_told net n p place link e f =
     let it : FoundEnd net n p 0 net.links.items place = found_end net n p 0 net.links.items place e in
-    let number : it.at ≡ place.link = sym (it.number ∙ from_none it.at) in
-    let same : it.link ≡ link = same_link it.link link (sym it.stands ∙ ap (slice_get net.links.items) number ∙ f) in
+    let number : it.at ≡ place.link = sym (it.number ∙ zero_plus it.at) in
+    let same : it.link ≡ link = same_Some it.link link (sym it.stands ∙ ap (slice_get net.links.items) number ∙ f) in
     ap (λ o. (port_or_none o).peer) it.port ∙ peer_at net place.role it.link ∙ ap (identity_at net (other_of place.role)) same
 
 -- whether they are forged

@@ -1,14 +1,11 @@
 -- Lists of which each element became what stands at its place.
-use Rattle.std.proofs.Common.{◌≡◌, ◌∙◌, refl, ap, sym, subst, ℕ, zero, suc, ◌+◌, ◌<◌, ◌≤◌, ◌==◌, ◌⊎◌, inl, inr, Bool, true, false, List, [], ◌∷◌, length, slice_set, slice_get, slice_index_or, None, Some, arith}
+use Rattle.std.proofs.Common.{◌≡◌, ◌∙◌, refl, ap, sym, subst, ℕ, zero, suc, ◌+◌, ◌<◌, ◌≤◌, ◌==◌, ◌⊎◌, inl, inr, Bool, true, false, List, [], ◌∷◌, length, slice_set, slice_get, slice_index_or, Some, arith}
+use Rattle.std.proofs.lemmas.Option.{none-some, same_Some}
 use Rattle.std.proofs.lemmas.Option.{slice_get-get_or, slice_get_within}
+use Rattle.std.proofs.lemmas.Bool.{eqb-true}
 use Rattle.wrp_world.specs.Moves.{Turns, Where, At, Stays}
 use Rattle.wrp_world.specs.Plant.{Each}
-
-none_some : {A : Type 0} (x : A) → None ≡ Some x → ⊥
-none_some x e = cc
-
-some_same : {A : Type 0} (x y : A) → Some x ≡ Some y → x ≡ y
-some_same x y e = cc
+use Rattle.wrp_world.proofs.EachLists.{each_of}
 
 pub length_put : {A : Type 0} (xs : List A) (i : ℕ) (v : A) → length (slice_set xs i v) ≡ length xs
 length_put [] i v = refl
@@ -16,8 +13,8 @@ length_put (x ∷ xs) zero v = refl
 length_put (x ∷ xs) (suc i) v = ap suc (length_put xs i v)
 
 pub put_here : {A : Type 0} (xs : List A) (i : ℕ) (v y : A) → slice_get (slice_set xs i v) i ≡ Some y → y ≡ v
-put_here [] i v y e = absurd (none_some y e)
-put_here (x ∷ xs) zero v y e = some_same y v (sym e)
+put_here [] i v y e = absurd (none-some y e)
+put_here (x ∷ xs) zero v y e = same_Some y v (sym e)
 put_here (x ∷ xs) (suc i) v y e = put_here xs i v y e
 
 pub put_else : {A : Type 0} (xs : List A) (i n : ℕ) (v : A) → (n ≡ i → ⊥) → slice_get (slice_set xs i v) n ≡ slice_get xs n
@@ -32,9 +29,6 @@ pub record TurnedTo {A : Type 0} (R : ℕ → A → A → Type 0) (xs ys : List 
   pub count : length ys ≡ length xs
   pub done : (n : ℕ) (y : A) → n < i → slice_get ys n ≡ Some y → (x : A) × (slice_get xs n ≡ Some x) × R n x y
   pub left : (n : ℕ) → i ≤ n → slice_get ys n ≡ slice_get xs n
-
-pub turned_none : {A : Type 0} (R : ℕ → A → A → Type 0) (xs : List A) → TurnedTo R xs xs 0
-turned_none R xs = record { count = refl; done = λ n y h e. absurd (omega arith); left = λ n h. refl }
 
 split_up : (n i : ℕ) → (n ≡ i) ⊎ (n < i) → (suc n ≡ suc i) ⊎ (suc n < suc i)
 split_up n i (inl e) = inl (ap suc e)
@@ -89,27 +83,16 @@ pub each_turned : {A : Type 0} (R : ℕ → A → A → Type 0) (P Q : ℕ → A
     ((n : ℕ) (x y : A) → R n x y → P n x → Q n y) → Each P xs → Each Q ys
 each_turned R P Q xs ys t f p n y e = let it : Came R xs n y = t.1 n y e in f n it.0 y it.2 (p n it.0 it.1)
 
-pub each_of : {A : Type 0} (P Q : ℕ → A → Type 0) (xs : List A) → ((n : ℕ) (x : A) → P n x → Q n x) → Each P xs → Each Q xs
-each_of P Q xs f p n y e = f n y (p n y e)
-
 pub all_stay : {A : Type 0} (xs : List A) → Turns Stays xs xs
 all_stay xs = (refl, λ n y e. (y, e, refl))
 
--- one place alone
-where_of : {A : Type 0} (b : Bool) (C : A → A → Type 0) (x y : A) → (b ≡ true → C x y) → (b ≡ false → y ≡ x) → Where b C x y
-where_of true C x y f g = f refl
-where_of false C x y f g = g refl
-
-same_number : (n i : ℕ) → (n == i) ≡ true → n ≡ i
-same_number n i e = grind (arith, e)
-
-other_number : (n i : ℕ) → (n == i) ≡ false → n ≡ i → ⊥
+pub other_number : (n i : ℕ) → (n == i) ≡ false → n ≡ i → ⊥
 other_number n i e f = grind (arith, e, f)
 
 at_one : {A : Type 0} (C : A → A → Type 0) (xs : List A) (i n : ℕ) (d v y : A) (b : Bool) → (n == i) ≡ b → i < length xs →
     C (slice_index_or xs i d) v → slice_get (slice_set xs i v) n ≡ Some y → Came (λ k. Where b C) xs n y
 at_one C xs i n d v y true e h r f =
-    let same : n ≡ i = same_number n i e in (
+    let same : n ≡ i = eqb-true n i e in (
       slice_index_or xs i d,
       ap (slice_get xs) same ∙ slice_get-get_or xs i d h,
       subst (C (slice_index_or xs i d)) (sym (put_here xs i v y (sym (ap (slice_get (slice_set xs i v)) same) ∙ f))) r,

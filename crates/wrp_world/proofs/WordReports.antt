@@ -1,11 +1,13 @@
 -- What a node's step reports of the words of its ports; a port comes to WR_LINK_ON by a frame alone.
-use Rattle.std.proofs.Common.{◌≡◌, ◌∙◌, refl, ap, subst, ℕ, ℤ, ◌==◌, ◌||◌, Bool, true, false, if◌then◌else◌, nat_lt, List, [], ◌∷◌, ◌++◌, map, flat_map, Option, None, Some, Result, arith}
+use Rattle.std.proofs.Common.{◌≡◌, ◌∙◌, refl, ap, subst, ℕ, ℤ, ◌==◌, Bool, true, false, if◌then◌else◌, nat_lt, List, [], ◌∷◌, ◌++◌, map, flat_map, Option, None, Some, Result, arith}
 use Rattle.std.specs.List.{AllByRecursion, list_any}
+use Rattle.std.proofs.lemmas.Bool.{or_right}
 use Rattle.wrp_base.specs.declared.link.LinkState.{LinkState}
 use Rattle.wrp_base.specs.declared.link.LinkState.TheVariants.{Idle, Present, SLock, MLock, Locked, Calibration, Calibrated, RespCalib, LinkOn}
 use Rattle.wrp_base.specs.declared.link.LinkWord.{LinkWord}
 use Rattle.wrp_base.specs.declared.link.LinkWord.TheVariants.{Down, Quiet, Ptp, In}
 use Rattle.wrp_base.specs.declared.message.PtpMsg.{PtpMsg}
+use Rattle.wrp_base.proofs.Lists.{all_append, all_weaker}
 use Rattle.wrp_frame.specs.declared.fault.FrameFault.{FrameFault}
 use Rattle.wrp_link.specs.declared.interface.LinkIn.{LinkIn}
 use Rattle.wrp_link.specs.declared.interface.LinkIn.TheVariants as link_in
@@ -28,24 +30,12 @@ use Rattle.wrp_port.specs.Outputs.{is_word}
 
 -- Lists
 
-pub all_append : {A : Type 0} (P : A → Type 0) (xs ys : List A) → AllByRecursion P xs → AllByRecursion P ys → AllByRecursion P (xs ++ ys)
-all_append P [] ys h k = k
-all_append P (x ∷ xs) ys h k = (h.0, all_append P xs ys h.1 k)
-
-pub all_weaker : {A : Type 0} (P Q : A → Type 0) → ((x : A) → P x → Q x) → (xs : List A) → AllByRecursion P xs → AllByRecursion Q xs
-all_weaker P Q f [] h = tt
-all_weaker P Q f (x ∷ xs) h = (f x h.0, all_weaker P Q f xs h.1)
-
-either_true : (a b : Bool) → b ≡ true → (a || b) ≡ true
-either_true true b e = refl
-either_true false b e = e
-
 -- where each of some numbers gives what holds, all that they give does
 all_numbers : (P : Output → Type 0) (f : ℕ → List Output) (qs : List ℕ) → ((p : ℕ) → list_any (λ q. q == p) qs ≡ true → AllByRecursion P (f p)) → AllByRecursion P (flat_map f qs)
 all_numbers P f [] h = tt
 all_numbers P f (q ∷ qs) h =
     all_append P (f q) (flat_map f qs) (h q (let same : (q == q) ≡ true = grind arith in rw same refl))
-    (all_numbers P f qs (λ p among. h p (either_true (q == p) (list_any (λ r. r == p) qs) among)))
+    (all_numbers P f qs (λ p among. h p (or_right (q == p) (list_any (λ r. r == p) qs) among)))
 
 -- Reports
 
@@ -145,7 +135,7 @@ IsCalm (Moves next sends) = next ≡ LinkOn → ⊥
 IsCalm (Keeps tx rx next sends) = next ≡ LinkOn → ⊥
 IsCalm _ = Unit {0}
 
-idle_on : Idle ≡ LinkOn → ⊥
+pub idle_on : Idle ≡ LinkOn → ⊥
 idle_on e = cc
 
 counted_lit : (l : LinkAt) (state : LinkState) → IsLit (counted l state) → IsLit l
@@ -223,9 +213,6 @@ news_lit set l Renewed calm h = absurd (idle_on h.on)
 calm_where : (b : Bool) (news : LinkNews) → IsCalmNews news → IsCalmNews (if b then news else Nothing)
 calm_where true news h = h
 calm_where false news h = tt
-
-true_false : (b : Bool) → b ≡ true → b ≡ false → ⊥
-true_false b e f = cc
 
 calm_input : (fixed : Fixed) (n : NodeAt) (input : Input) (says : Result PtpMsg FrameFault) (p : ℕ) → is_frame input ≡ false → IsCalmNews (news_at fixed n input says p)
 calm_input fixed n Tick says p e = tt

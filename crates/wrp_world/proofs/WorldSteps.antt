@@ -41,12 +41,9 @@ use Rattle.wrp_world.specs.Tried.{TellsBreach}
 use Rattle.wrp_world.specs.WorldAt.{Arrival, FrameAt, Sending, WorldAt, has_carrier}
 use Rattle.wrp_world.proofs.AllTake.{plain_asks}
 use Rattle.wrp_world.proofs.Inside.{world_of}
-use Rattle.wrp_world.proofs.Unbroken.{accepted_is_unbroken}
+use Rattle.wrp_world.proofs.Unbroken.{accepted_is_unbroken, none_is}
 
 -- No check is the first that fails
-
-none_is : {A : Type 0} {x : A} → Some x ≡ None → ⊥
-none_is e = cc
 
 untold : (o : Option Check) → None ≡ option_map breach_of o → o ≡ None
 untold None e = refl

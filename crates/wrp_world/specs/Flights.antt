@@ -1,5 +1,5 @@
 -- What a departure and an arrival do to the parts of a plant as the code keeps them (this project's profile).
-use Rattle.std.specs.Prelude.{◌≡◌, ◌≤◌, ◌==◌, ◌||◌, ◌&&◌, ◌+ℤ◌, ◌++◌, nat_lt, ℕ, ℤ, suc, Bool, if◌then◌else◌, List, [], ◌∷◌, Option, None, Some, true, false, drop, option_to_list, vec_len, vec_capacity}
+use Rattle.std.specs.Prelude.{◌≡◌, ◌≤◌, ◌==◌, ◌||◌, ◌&&◌, ◌+ℤ◌, ◌++◌, nat_lt, ℕ, ℤ, suc, if◌then◌else◌, List, [], ◌∷◌, Option, None, Some, false, drop, option_to_list, vec_len, vec_capacity}
 use Rattle.wrp_base.specs.declared.link.Role.{Role}
 use Rattle.wrp_base.specs.declared.link.Role.TheVariants.{Master, Slave}
 use Rattle.wrp_world.specs.declared.ends.EndState.{EndState}

@@ -1,5 +1,5 @@
 -- The inputs that an event gives, as the code lists them before the nodes take them (this project's profile).
-use Rattle.std.specs.Prelude.{◌≡◌, ℕ, ℤ, List, Result}
+use Rattle.std.specs.Prelude.{◌≡◌, ℤ, List, Result}
 use Rattle.std.specs.List.{AllZip}
 use Rattle.wrp_base.specs.declared.message.PtpMsg.{PtpMsg}
 use Rattle.wrp_frame.specs.declared.fault.FrameFault.{FrameFault}

@@ -1,5 +1,5 @@
 -- What a node's step makes of all of a world but its nodes, as the code keeps it (this project's profile).
-use Rattle.std.specs.Prelude.{◌≡◌, ◌≤◌, ◌==◌, ◌⊎◌, ◌+ℤ◌, ◌*ℤ◌, ◌*◌, ◌^◌, ℕ, ℤ, pos, Bool, true, false, if◌then◌else◌, unsigned_abs, List, [], ◌∷◌, ◌++◌, length, map, Option, None, Some, slice_get}
+use Rattle.std.specs.Prelude.{◌≡◌, ◌≤◌, ◌==◌, ◌⊎◌, ◌+ℤ◌, ◌*ℤ◌, ◌*◌, ◌^◌, ℕ, ℤ, pos, Bool, if◌then◌else◌, unsigned_abs, List, [], ◌∷◌, ◌++◌, length, map, Option, None, Some, slice_get}
 use Rattle.std.specs.List.{AllZip}
 use Rattle.wrp_base.specs.Clock.{period_of}
 use Rattle.wrp_base.specs.declared.link.LinkState.{LinkState}

@@ -3,16 +3,16 @@ use Rattle.std.specs.List.{find}
 use Rattle.toml.specs.View.{table_view}
 use Rattle.wrp_bounds.specs.Inequalities.{is_broken, inequalities}
 use Rattle.wrp_caldb.specs.declared.keys.Others.TheVariants.{Ignored}
-use Rattle.wrp_config.proofs.Accepted.{read_ranges, read_tree, read_accepted}
+use Rattle.wrp_config.proofs.Accepted.{read_accepted, ranges, tree}
 use Rattle.wrp_config.proofs.Refused.{clash_answer, none_broken}
 use Rattle.wrp_config.proofs.Taken.{lists_accepted}
 use Rattle.wrp_config.proofs.reading.answer_for_tree.Goals as goal
 
 pub check-requires-clause-ranges : goal.check-requires-clause-ranges
-check-requires-clause-ranges c = read_ranges (table_view c.args.doc.now) c.args.cfg c.requires.taken c.requires.network
+check-requires-clause-ranges c = ranges (table_view c.args.doc.now) c.args.cfg c.requires.taken c.requires.network
 
 pub check-requires-clause-tree : goal.check-requires-clause-tree
-check-requires-clause-tree c = read_tree (table_view c.args.doc.now) c.args.cfg c.requires.taken c.requires.network c.requires.tree
+check-requires-clause-tree c = tree (table_view c.args.doc.now) c.args.cfg c.requires.taken c.requires.network c.requires.tree
 
 pub of_lists-requires : goal.of_lists-requires
 of_lists-requires c =

@@ -1,9 +1,9 @@
 -- The four of the calls with this one in front.
-use Rattle.std.proofs.Common.{◌≡◌, ◌∙◌, ℕ, ℤ, Bool, true, false, if◌then◌else◌, is_some, List, ◌∷◌, Option, None, rules, arith}
+use Rattle.std.proofs.Common.{◌≡◌, ◌∙◌, ℕ, ℤ, Bool, is_some, ◌∷◌, rules, arith}
 use Rattle.std.proofs.lemmas.Grind.{common_steps}
-use Rattle.wrp_exch.specs.Call.{Call, CallResp}
+use Rattle.wrp_exch.specs.Call.{CallResp}
 use Rattle.wrp_exch.specs.DelayPair.{answered_pair}
-use Rattle.wrp_exch.specs.Exchange.{StandsFor as ExchangeStandsFor, four_of}
+use Rattle.wrp_exch.specs.Exchange.{StandsFor as ExchangeStandsFor}
 use Rattle.wrp_port.specs.Wire.{earlier_by}
 use Rattle.wrp_port.proofs.port.Port.delay_resp.Goals as goal
 

@@ -1,12 +1,13 @@
 -- The node is new, and is set to what the network says.
 use Rattle.std.proofs.Common.{◌∙◌, sym, rules}
 use Rattle.std.proofs.lemmas.Int.{to_z-of_z}
-use Rattle.wrp_run.proofs.GoingOn.{some_above, new_ready, nothing_taken}
+use Rattle.wrp_config.proofs.Bare.{above_some}
+use Rattle.wrp_run.proofs.GoingOn.{new_ready, nothing_taken}
 use Rattle.wrp_run.proofs.replay.ReplayedNode.new.Goals as goal
 
 pub new-requires-clause-law : goal.new-requires-clause-law
 new-requires-clause-law g c =
-    c.requires.law.some ∙ some_above c.args.replayed.net.now.cfg c.args.replayed.node ∙ sym c.node_set.ensures.has_slave
+    c.requires.law.some ∙ above_some c.args.replayed.net.now.cfg c.args.replayed.node ∙ sym c.node_set.ensures.has_slave
 
 pub returns-clause-ready : goal.returns-clause-ready
 returns-clause-ready g c =

@@ -1,5 +1,5 @@
 -- Another offset leaves a scenario.
-use Rattle.std.proofs.Common.{◌≡◌, ◌≤◌, unsigned_abs, to_z, of_z, arith}
+use Rattle.std.proofs.Common.{◌≡◌, to_z, of_z, arith}
 use Rattle.std.specs.Int.{w128}
 use Rattle.wrp_world.proofs.SignedReads.{read}
 use Rattle.wrp_sim.specs.Scenario.{IsOffset}

@@ -1,7 +1,6 @@
 -- The way down has its share of both.
-use Rattle.std.proofs.Common.{pos, ◌^◌, ◌*◌, ◌≤◌, ◌+ℤ◌, ◌*ℤ◌, unsigned_abs, arith}
-use Rattle.std.proofs.Math.Nat.{mul-le-mul}
-use Rattle.std.proofs.lemmas.Int.{ints, to_z-of_z, unsigned_abs-mul}
+use Rattle.std.proofs.Common.{arith}
+use Rattle.std.proofs.lemmas.Int.{to_z-of_z}
 use Rattle.wrp_sim.proofs.FibreDelays.{down_range}
 use Rattle.wrp_sim.proofs.scene.views.down_of.Goals as goal
 

@@ -1,5 +1,5 @@
 -- The asymmetry of each fibre is in its range.
-use Rattle.std.proofs.Common.{◌≡◌, ◌∙◌, refl, sym, ap, ap₂, Some, pos, length, ◌^◌, arith}
+use Rattle.std.proofs.Common.{◌∙◌, refl, sym, ap, ap₂, pos, length, ◌^◌, arith}
 use Rattle.std.specs.Prelude.{slice_get}
 use Rattle.std.specs.Option.{option_map_or}
 use Rattle.std.proofs.lemmas.Option.{slice_get_read}

@@ -1,4 +1,4 @@
-use Rattle.std.proofs.Common.{rules, ◌≡◌, ◌∙◌, ap, sym, ℤ, subst, Option, Some, option_map, FitsSigned, to_z, of_z, arith}
+use Rattle.std.proofs.Common.{◌∙◌, ap, sym, ℤ, subst, Some, option_map, arith}
 use Rattle.wrp_sim.specs.Departures.{IsReadable, departure_by}
 use Rattle.wrp_world.proofs.SignedReads.{read}
 use Rattle.wrp_sim.proofs.sim.departing.departure_at.Goals as goal

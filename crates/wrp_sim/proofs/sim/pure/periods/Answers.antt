@@ -1,4 +1,4 @@
-use Rattle.std.proofs.Common.{◌≡◌, ap₂, sym, subst, ◌/◌, ◌<◌, ◌^◌, ℕ, unsigned_abs, arith}
+use Rattle.std.proofs.Common.{◌≡◌, ap₂, sym, subst, ◌/◌, ◌<◌, ◌^◌, unsigned_abs, arith}
 use Rattle.std.proofs.lemmas.Int.{ints}
 use Rattle.wrp_base.specs.Clock.{period_of}
 use Rattle.wrp_sim.proofs.Numbers.{few_periods}

@@ -1,4 +1,4 @@
-use Rattle.std.proofs.Common.{◌≡◌, ◌∙◌, ◌≤◌, ◌^◌, unsigned_abs, ap, subst, sym, arith}
+use Rattle.std.proofs.Common.{◌≡◌, ◌∙◌, ap}
 use Rattle.wrp_world.specs.Flights.{departed_of}
 use Rattle.wrp_world.specs.Plant.{end_in}
 use Rattle.wrp_world.proofs.Departing.{due_size, leaving_fits, leaving_is}

@@ -5,7 +5,8 @@ use Rattle.wrp_base.specs.declared.network.NodeCfg.{NodeCfg}
 use Rattle.wrp_world.specs.Premises.{transition_of}
 use Rattle.wrp_world.specs.Setting.{entry_at}
 use Rattle.wrp_world.proofs.SignedReads.{read}
-use Rattle.wrp_world.proofs.TriedFrames.{raw_fits, raw_told}
+use Rattle.wrp_world.proofs.TriedFrames.{raw_told}
+use Rattle.wrp_world.proofs.FrameGifts.{raw_fits}
 use Rattle.wrp_world.proofs.plant.Plant.raw_broken.Goals as goal
 
 pub raw_kept-requires-clause-raw : goal.raw_kept-requires-clause-raw

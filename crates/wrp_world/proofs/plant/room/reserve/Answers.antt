@@ -1,7 +1,6 @@
-use Rattle.std.proofs.Common.{◌≡◌, ◌∙◌, ◌+◌, List, slice_set, arith}
-use Rattle.wrp_world.specs.declared.ends.Span.{Span}
+use Rattle.std.proofs.Common.{◌+◌, slice_set, arith}
 use Rattle.wrp_world.proofs.Roomy.{Keeps, Takes, at_any, kept_all, kept_so_far, room_of_kept, same_of_kept, took_all}
-use Rattle.wrp_world.proofs.Turned.{TurnedTo, turned_all, turned_next}
+use Rattle.wrp_world.proofs.Turned.{turned_all, turned_next}
 use Rattle.wrp_world.specs.Moves.{Turns}
 use Rattle.wrp_world.proofs.plant.room.reserve.Goals as goal
 

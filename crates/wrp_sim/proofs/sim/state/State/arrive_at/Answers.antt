@@ -1,8 +1,8 @@
-use Rattle.std.proofs.Common.{rules, ◌≡◌, ◌∙◌, ap, ap₂, sym, Bool, if◌then◌else◌, Option, None, Some, FitsSigned, true, false, arith}
+use Rattle.std.proofs.Common.{◌≡◌, ◌∙◌, ap, ap₂, sym, Bool, if◌then◌else◌, None, Some, FitsSigned, true, false, arith}
 use Rattle.std.proofs.lemmas.Int.{to_z-of_z}
 use Rattle.std.specs.Int.{w128}
 use Rattle.std.specs.Ordering.{int_eq}
-use Rattle.wrp_sim.specs.Rules.{Next, arrives, arrives_by}
+use Rattle.wrp_sim.specs.Rules.{arrives, arrives_by}
 use Rattle.wrp_sim.proofs.Turns.{gave_none, gives_same}
 use Rattle.wrp_world.proofs.SignedReads.{read}
 use Rattle.wrp_sim.proofs.sim.state.State.arrive_at.Goals as goal

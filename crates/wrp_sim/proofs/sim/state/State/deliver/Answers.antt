@@ -1,10 +1,11 @@
 -- The frame that arrived last is handed over.
 use Rattle.std.proofs.Common.{◌≡◌, ◌-◌, ap, sym, nat_lt, true, Some, arith}
+use Rattle.wrp_base.proofs.Naturals.{lt_true}
 use Rattle.wrp_world.specs.declared.event.Event.TheVariants.{Deliver}
 use Rattle.wrp_sim.specs.declared.sim.state.Handed.{Handed}
 use Rattle.wrp_sim.specs.Rules.{comes, delivers}
 use Rattle.wrp_sim.specs.SimAt.{SimAt}
-use Rattle.wrp_sim.proofs.RuleCases.{hands_over, lt_true}
+use Rattle.wrp_sim.proofs.RuleCases.{hands_over}
 use Rattle.wrp_sim.proofs.Turns.{came, gives_same}
 use Rattle.wrp_sim.proofs.sim.state.State.deliver.Goals as goal
 

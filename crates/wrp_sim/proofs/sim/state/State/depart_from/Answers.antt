@@ -1,4 +1,4 @@
-use Rattle.std.proofs.Common.{◌≡◌, ◌∙◌, ap, ap₂, sym, ℕ, ℤ, FitsSigned, slice_get, Some, Option, arith}
+use Rattle.std.proofs.Common.{◌∙◌, ap, ap₂, sym, ℕ, ℤ, FitsSigned, slice_get, Option, arith}
 use Rattle.std.proofs.Common.{rules}
 use Rattle.std.proofs.lemmas.Int.{to_z-of_z}
 use Rattle.std.specs.Int.{w128}

@@ -1,8 +1,8 @@
-use Rattle.std.proofs.Common.{rules, ◌≡◌, ◌∙◌, ap, sym, ℤ, pos, Bool, if◌then◌else◌, FitsSigned}
+use Rattle.std.proofs.Common.{rules, ◌∙◌, ap, sym, ℤ, pos, Bool, if◌then◌else◌, FitsSigned}
 use Rattle.std.proofs.lemmas.Int.{to_z-of_z}
 use Rattle.std.specs.Int.{w64}
 use Rattle.wrp_sim.specs.Numbers.{drift_at}
-use Rattle.wrp_sim.specs.Rules.{clock_rate, drift_over}
+use Rattle.wrp_sim.specs.Rules.{clock_rate}
 use Rattle.wrp_sim.proofs.sim.state.State.drift.Goals as goal
 
 pub returns-then-is_up : goal.returns-then-is_up

@@ -1,4 +1,4 @@
-use Rattle.std.proofs.Common.{◌≡◌, ◌∙◌, ap, ap₂, ℤ, pos, ◌*ℤ◌, ◌+ℤ◌, ◌≤ℤ◌, arith}
+use Rattle.std.proofs.Common.{◌≡◌, ◌∙◌, ap, ap₂, pos, ◌*ℤ◌, ◌+ℤ◌, ◌≤ℤ◌, arith}
 use Rattle.std.proofs.lemmas.Int.{ints}
 use Rattle.wrp_base.specs.declared.configuration.NetCfg.{NetCfg}
 use Rattle.wrp_config.specs.declared.network.Network.{Network}

@@ -1,4 +1,4 @@
-use Rattle.std.proofs.Common.{◌≡◌, ◌∙◌, ap, sym, find, ℕ}
+use Rattle.std.proofs.Common.{◌∙◌, ap, sym, find, ℕ}
 use Rattle.wrp_world.specs.Setting.{from_on}
 use Rattle.wrp_sim.specs.Rules.{ticks_now}
 use Rattle.wrp_sim.proofs.Seen.{nodes_are}

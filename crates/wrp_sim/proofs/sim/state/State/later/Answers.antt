@@ -1,4 +1,4 @@
-use Rattle.std.proofs.Common.{◌≡◌, ◌∙◌, subst, Option, None, Some}
+use Rattle.std.proofs.Common.{◌∙◌, subst, Some}
 use Rattle.wrp_sim.specs.Rules.{arrives, delivers, departs, passes, samples, ticks}
 use Rattle.wrp_sim.specs.Scenario.{SceneAt}
 use Rattle.wrp_sim.specs.Sim.{Gave}

@@ -1,5 +1,5 @@
-use Rattle.std.proofs.Common.{rules, ◌≡◌, ◌∙◌, ap, ap₂, sym, ℕ, ℤ, FitsSigned, Option, arith}
-use Rattle.std.proofs.lemmas.Int.{ints, to_z-of_z}
+use Rattle.std.proofs.Common.{rules, ◌∙◌, ap, ap₂, ℕ, ℤ, FitsSigned, arith}
+use Rattle.std.proofs.lemmas.Int.{to_z-of_z}
 use Rattle.std.specs.Int.{w64}
 use Rattle.wrp_sim.specs.Numbers.{drift_at, held_to, own_rate}
 use Rattle.wrp_sim.specs.Scenario.{free_of}

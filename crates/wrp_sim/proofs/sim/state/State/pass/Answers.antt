@@ -1,4 +1,4 @@
-use Rattle.std.proofs.Common.{rules, ◌≡◌, ◌∙◌, ap, ap₂, sym, ℕ, ℤ, ◌-ℤ◌, pos, List, map, length, FitsSigned}
+use Rattle.std.proofs.Common.{rules, ◌∙◌, ap, sym, ℕ, ℤ, ◌-ℤ◌, pos, map, length, FitsSigned}
 use Rattle.std.proofs.lemmas.Int.{to_z-of_z}
 use Rattle.std.specs.Int.{w64}
 use Rattle.wrp_base.specs.declared.configuration.NetCfg.{NetCfg}

@@ -1,4 +1,4 @@
-use Rattle.std.proofs.Common.{rules, ◌≡◌, ◌∙◌, ap, ap₂, sym, ℤ, Bool, if◌then◌else◌, FitsSigned, to_z, of_z, arith}
+use Rattle.std.proofs.Common.{rules, ◌∙◌, ap, ap₂, sym, ℤ, Bool, if◌then◌else◌, FitsSigned, to_z, of_z, arith}
 use Rattle.std.proofs.lemmas.Int.{ints, to_z-of_z}
 use Rattle.std.specs.Int.{w128}
 use Rattle.wrp_sim.specs.Rules.{sooner}

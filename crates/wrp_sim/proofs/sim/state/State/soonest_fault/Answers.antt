@@ -1,5 +1,5 @@
 -- The faults that are left are tried one after another.
-use Rattle.std.proofs.Common.{◌≡◌, ◌∙◌, ap, ap₂, sym, subst, ℕ, ℤ, pos, ◌*ℤ◌, ◌+ℤ◌, ◌≤◌, ◌^◌, unsigned_abs, List, fold, map, drop, get_or, arith}
+use Rattle.std.proofs.Common.{◌∙◌, ap, ap₂, sym, subst, ℤ, pos, ◌*ℤ◌, ◌+ℤ◌, ◌≤◌, ◌^◌, unsigned_abs, fold, map, get_or, arith}
 use Rattle.std.proofs.lemmas.Int.{ints}
 use Rattle.std.specs.List.{AllByRecursion}
 use Rattle.wrp_base.specs.declared.configuration.NetCfg.{NetCfg}

@@ -1,4 +1,4 @@
-use Rattle.std.proofs.Common.{◌≡◌, ◌∙◌, ap, ap₂, sym, Some, Option, option_map, slice_get, ◌+ℤ◌, arith}
+use Rattle.std.proofs.Common.{◌∙◌, ap, ap₂, sym, Some, option_map, slice_get, ◌+ℤ◌, arith}
 use Rattle.wrp_base.specs.declared.configuration.NetCfg.{NetCfg}
 use Rattle.wrp_base.specs.declared.network.LinkCfg.{LinkCfg}
 use Rattle.wrp_config.specs.declared.network.Network.{Network}
