@@ -1,5 +1,5 @@
--- The clock of a network: its period and its detector's step (this project's profile).
-use Rattle.std.specs.Prelude.{ℕ}
+-- The clock of a network: its period and its detector's step, and a second, in tau (this project's profile).
+use Rattle.std.specs.Prelude.{ℕ, ℤ, pos}
 use Rattle.wrp_base.specs.declared.time.Clock.{Clock}
 use Rattle.wrp_base.specs.declared.time.Clock.TheVariants.{Mhz125, Mhz62}
 
@@ -21,3 +21,7 @@ periods_per_second Mhz62 = 62_500_000
 -- the steps of the phase detector in one period
 abbrev pub steps_of_period : ℕ
 steps_of_period = 16_384
+
+-- one second, in tau
+abbrev pub second : ℤ
+second = pos 65_536_000_000_000_000

@@ -1,6 +1,7 @@
 pub mod Calls
 pub mod Circle
 pub mod Clock
+pub mod Closeness
 pub mod Division
 pub mod Held
 pub mod Lines

@@ -1,5 +1,5 @@
 -- Messages: which ones can be sent (IEEE 1588-2019, and this project's profile for the Sync).
-use Rattle.std.specs.Prelude.{ℕ, ◌<◌, ◌^◌, ◌≢◌, bit_and}
+use Rattle.std.specs.Prelude.{ℕ, ◌<◌, ◌^◌, ◌≢◌, ◌==◌, ◌&&◌, Bool, bit_and}
 use Rattle.wrp_base.specs.declared.time.Ts.{Ts}
 use Rattle.wrp_base.specs.declared.message.PortIdentity.{PortIdentity}
 use Rattle.wrp_base.specs.declared.message.Body.{Body}
@@ -40,3 +40,7 @@ empty_body = Sync (record { seconds = 0; nanos = 0 })
 -- the portIdentity of all ones, which stands for every port of every clock
 abbrev pub every_port : PortIdentity
 every_port = record { clock = 0xffff_ffff_ffff_ffff; port = 0xffff }
+
+-- whether two port identities are one
+abbrev pub is_port : PortIdentity → PortIdentity → Bool
+is_port a b = (a.clock == b.clock) && (a.port == b.port)

@@ -2,10 +2,13 @@
 -- profile).
 use Rattle.std.specs.Prelude.{ℕ, suc, zero, ℤ, pos, ◌≡◌, ◌⊎◌, ◌==◌, ◌^◌, ◌<◌, ◌≤◌, ◌≤ℤ◌, unsigned_abs, Option, None, Some, List, [], ◌∷◌, length, slice_get}
 use Rattle.std.specs.List.{find, flat_map}
+use Rattle.std.specs.Option.{option_map_or}
 use Rattle.wrp_base.specs.declared.time.Clock.{Clock}
 use Rattle.wrp_base.specs.declared.configuration.NetCfg.{NetCfg}
 use Rattle.wrp_base.specs.declared.network.NodeCfg.{NodeCfg}
 use Rattle.wrp_base.specs.declared.network.LinkCfg.{LinkCfg}
+use Rattle.wrp_base.specs.declared.link.Role.{Role}
+use Rattle.wrp_base.specs.declared.link.Role.TheVariants.{Master, Slave}
 use Rattle.wrp_base.specs.Clock.{step_of}
 
 -- how many nodes a network has
@@ -15,6 +18,10 @@ node_count net = length net.nodes.items
 -- the node of this number, which is its place from 0 in file order
 abbrev pub IsNode : NetCfg → ℕ → NodeCfg → Type 0
 IsNode net n node = slice_get net.nodes.items n ≡ Some node
+
+-- the name of the node of this number; no octets where there is none
+abbrev pub name_at : NetCfg → ℕ → List ℕ
+name_at net n = option_map_or (λ node. node.name.bytes) (slice_get net.nodes.items n) []
 
 -- the link of this number, which is its place from 0 in file order
 abbrev pub IsLink : NetCfg → ℕ → LinkCfg → Type 0
@@ -103,6 +110,11 @@ pub record End : Type 0 where
 abbrev pub ends_of : LinkCfg → List End
 ends_of link =
     record { node = link.upper; port = link.upper_port } ∷ (record { node = link.lower; port = link.lower_port } ∷ [])
+
+-- the role of the port at the other end of a link
+abbrev pub other_of : Role → Role
+other_of Master = Slave
+other_of Slave = Master
 
 -- no port of a node stands at two ends of links
 abbrev pub NamesNoPortTwice : NetCfg → Type 0

@@ -7,9 +7,9 @@ use Rattle.std.specs.List.{find}
 use Rattle.toml.specs.Data.{Data, Members, table, array, integer, as_integer, get_member}
 use Rattle.toml.specs.View.{items_of}
 use Rattle.wrp_base.proofs.Lists.{first_passed, passes_first}
-use Rattle.wrp_caldb.specs.Calibration.{fibre_name_key, kappa_key, fibre_err_key, table_err_key, table_key, linear_law, law_of, linear_keys, fibre_keys, place_in_fibre, place_in_fibres}
+use Rattle.wrp_caldb.specs.Calibration.{kappa_key, fibre_err_key, table_err_key, table_key, linear_law, law_of, linear_keys, fibre_keys, place_in_fibre, place_in_fibres}
 use Rattle.wrp_caldb.specs.Database.{TableAt, natural_at, number_at, name_at, each_table, table_of, fibre_of}
-use Rattle.wrp_caldb.specs.Key.{Key}
+use Rattle.wrp_caldb.specs.Key.{Key, name_key}
 use Rattle.wrp_caldb.specs.Name.{is_name}
 use Rattle.wrp_caldb.specs.Points.{stored_points, values_of, few_points, is_table}
 use Rattle.wrp_caldb.specs.Refusal.{place_in_table}
@@ -109,7 +109,7 @@ line_rows t tab more line rest =
     let test = at_fault co.Range (fibre_text t tab) in
     let behind = table_key (law_of (fibre_text t tab)) ∷ more in
     let named = ap is_name (name_read (name_in t) line.name) ∙ line.name.passes in
-    passes_first test fibre_name_key (kappa_key ∷ fibre_err_key ∷ behind) (ap not named)
+    passes_first test name_key (kappa_key ∷ fibre_err_key ∷ behind) (ap not named)
     (passes_first test kappa_key (fibre_err_key ∷ behind) (kappa_fits (get_member (codes "kappa") t) line.kappa)
     (passes_first test fibre_err_key behind line.err rest))
 
@@ -180,8 +180,8 @@ behind_line t = table_key (law_of t) ∷ (if is_some (get_member (codes "table")
 line_of : (t : Members) → find (at_fault co.Missing t) (fibre_keys t) ≡ None → find (at_fault co.Range t) (fibre_keys t) ≡ None
     → HasLine t × (find (at_fault co.Range t) (behind_line t) ≡ None)
 line_of t missing range =
-    let m1 = first_passed (at_fault co.Missing t) fibre_name_key (kappa_key ∷ fibre_err_key ∷ behind_line t) missing in
-    let r1 = first_passed (at_fault co.Range t) fibre_name_key (kappa_key ∷ fibre_err_key ∷ behind_line t) range in
+    let m1 = first_passed (at_fault co.Missing t) name_key (kappa_key ∷ fibre_err_key ∷ behind_line t) missing in
+    let r1 = first_passed (at_fault co.Range t) name_key (kappa_key ∷ fibre_err_key ∷ behind_line t) range in
     let m2 = first_passed (at_fault co.Missing t) kappa_key (fibre_err_key ∷ behind_line t) m1.1 in
     let r2 = first_passed (at_fault co.Range t) kappa_key (fibre_err_key ∷ behind_line t) r1.1 in
     let m3 = first_passed (at_fault co.Missing t) fibre_err_key (behind_line t) m2.1 in

@@ -3,7 +3,7 @@ use Rattle.std.specs.Prelude.{◌+◌, ℕ, ℤ, pos, negsuc, unsigned_abs, List
 use Rattle.std.specs.Option.{is_some, option_or}
 use Rattle.std.specs.Ordering.{int_eq}
 use Rattle.toml.specs.Data.{Data, Members, as_integer, get_member}
-use Rattle.wrp_caldb.specs.Key.{Key, required_key, optional_key, number_key, default_key}
+use Rattle.wrp_caldb.specs.Key.{Key, required_key, optional_key, number_key, default_key, name_key}
 use Rattle.wrp_caldb.specs.Place.{PlaceAt}
 use Rattle.wrp_caldb.specs.Repeats.{place_of_name, place_of_pair}
 use Rattle.wrp_caldb.specs.Rows.{number_in, tables_at}
@@ -78,10 +78,6 @@ pair_keys pair =
     tx_nm_key ∷ rx_nm_key (first_wavelength pair)
     ∷ tx_key ∷ rx_key ∷ transition_key ∷ module_err_key ∷ []
 
--- the name of a fibre
-abbrev pub fibre_name_key : Key
-fibre_name_key = required_key (codes "name") so.Name
-
 -- the asymmetry of a fibre, from -2^38 to 2^38
 abbrev pub kappa_key : Key
 kappa_key = number_key (codes "kappa") (negsuc 274_877_906_943) (pos 274_877_906_944)
@@ -111,7 +107,7 @@ table_key law = optional_key (codes "table") (so.Points law)
 -- the keys of a fibre, before these
 abbrev pub linear_keys : Members → List Key → List Key
 linear_keys fibre more =
-    fibre_name_key ∷ kappa_key ∷ fibre_err_key ∷ table_key (law_of fibre) ∷ more
+    name_key ∷ kappa_key ∷ fibre_err_key ∷ table_key (law_of fibre) ∷ more
 
 -- `table_err` is a key beside `table` alone
 abbrev pub fibre_keys : Members → List Key

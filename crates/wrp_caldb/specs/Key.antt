@@ -1,6 +1,6 @@
 -- A row: a key of a table of a TOML text, whether it is needed, and the sort of its value (this
 -- project's profile).
-use Rattle.std.specs.Prelude.{ℕ, ℤ, List}
+use Rattle.std.specs.Prelude.{ℕ, ℤ, List, codes}
 use Rattle.wrp_caldb.specs.declared.row.Sort.{Sort}
 use Rattle.wrp_caldb.specs.declared.row.Sort.TheVariants as so
 use Rattle.wrp_caldb.specs.declared.row.Need.{Need}
@@ -15,6 +15,10 @@ pub record Key : Type 0 where
 -- a key that has to be there
 abbrev pub required_key : List ℕ → Sort → Key
 required_key name sort = record { name = name; need = ne.Required; sort = sort }
+
+-- the key `name` of a table whose entry has a name
+abbrev pub name_key : Key
+name_key = required_key (codes "name") so.Name
 
 -- a key that may be missing
 abbrev pub optional_key : List ℕ → Sort → Key

@@ -2,8 +2,9 @@
 ghost use Rattle.std.specs.Prelude.{◌≡◌, ◌∷◌, [], option_and_then, codes, Some, None};
 ghost use Rattle.toml.specs.Data.{get_member, as_integer};
 ghost use Rattle.toml.specs.View.{table_view};
-ghost use Rattle.wrp_caldb.specs.Calibration.{version_key, module_key, fibre_key, top_keys, tx_key, rx_key, transition_key, module_err_key, module_name_key, module_keys, tx_nm_key, rx_nm_key, first_wavelength, pair_keys, fibre_name_key, kappa_key, fibre_err_key, table_err_key, law_of, table_key, linear_keys, version_of};
+ghost use Rattle.wrp_caldb.specs.Calibration.{version_key, module_key, fibre_key, top_keys, tx_key, rx_key, transition_key, module_err_key, module_name_key, module_keys, tx_nm_key, rx_nm_key, first_wavelength, pair_keys, kappa_key, fibre_err_key, table_err_key, law_of, table_key, linear_keys, version_of};
 ghost use Rattle.wrp_caldb.specs.declared.keys.Version.TheVariants.{One, Two};
+ghost use Rattle.wrp_caldb.specs.Key.{name_key};
 
 use crate::row::{Linear, Row, Sort};
 use crate::sort::number_at;
@@ -185,7 +186,7 @@ pub fn pair_rows(pair: &Table) -> [Row; 6]
 
 /// `name` of a fibre.
 pub fn fibre_name_row() -> Row
-    ensures { result ≡ fibre_name_key }
+    ensures { result ≡ name_key }
 {
     Row::required("name", Sort::Name)
 }

@@ -3,6 +3,7 @@ use Rattle.std.proofs.Common.{◌≡◌, ◌≢◌, ℤ, pos, ◌^◌, ◌≤ℤ
 use Rattle.std.proofs.lemmas.Int.{ints}
 use Rattle.std.proofs.lemmas.List.Elements.{All-head, All-tail}
 use Rattle.wrp_base.specs.Division.{floor_quotient, ceil_quotient}
+use Rattle.wrp_base.specs.Closeness.{IsWithin}
 use Rattle.wrp_calib.specs.declared.span.Span.{Span}
 use Rattle.wrp_calib.specs.declared.run.RunKind.{RunKind}
 use Rattle.wrp_calib.specs.declared.run.RunKind.TheVariants.{Ref, Straight, Swapped}
@@ -15,7 +16,7 @@ use Rattle.wrp_calib.specs.Span.{Holds, is_empty, intersection}
 use Rattle.wrp_calib.specs.Run.{Run, is_of, runs_of, down_of, up_of}
 use Rattle.wrp_calib.specs.Estimate.{Errors, ports_interval, strand_interval, ports_span, strand_span, kappa_span}
 use Rattle.wrp_calib.specs.Answer.{judged, answer_from, answer_of}
-use Rattle.wrp_calib.specs.Truth.{Delays, IsWithin, KeepsCord, KeepsErrorsAs, KeepsErrors, CameAll, HoldsAsymmetry, TellsTruth}
+use Rattle.wrp_calib.specs.Truth.{Delays, KeepsCord, KeepsErrorsAs, KeepsErrors, CameAll, HoldsAsymmetry, TellsTruth}
 use Rattle.wrp_calib.proofs.Spans.{intersection-append, Holds-meet, is_empty-holds}
 use Rattle.wrp_calib.proofs.Shares.{least-share, greatest-share}
 

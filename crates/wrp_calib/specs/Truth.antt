@@ -1,6 +1,7 @@
 -- The true delays of a calibration, what they keep of the stated errors, and what an answer tells of them (this
 -- project's profile).
 use Rattle.std.specs.Prelude.{ℕ, ℤ, pos, ◌^◌, ◌≤◌, ◌≤ℤ◌, ◌+ℤ◌, ◌-ℤ◌, ◌*ℤ◌, ◌≢◌, unsigned_abs, List, [], Result, Ok, Err}
+use Rattle.wrp_base.specs.Closeness.{IsWithin}
 use Rattle.wrp_calib.specs.declared.span.Span.{Span}
 use Rattle.wrp_calib.specs.declared.run.RunKind.{RunKind}
 use Rattle.wrp_calib.specs.declared.run.RunKind.TheVariants.{Ref, Straight, Swapped}
@@ -17,10 +18,6 @@ pub record Delays : Type 0 where
   pub q : ℤ
   pub x : ℤ
   pub y : ℤ
-
--- two numbers are at most e apart
-abbrev pub IsWithin : ℕ → ℤ → ℤ → Type 0
-IsWithin e a b = unsigned_abs (a -ℤ b) ≤ e
 
 -- the delay measured over the patch cord is within e of the ports' delay and the cord's, and the cord's within ep of d
 abbrev pub KeepsCord : Errors → ℤ → ℤ → Type 0

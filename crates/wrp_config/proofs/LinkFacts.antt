@@ -14,7 +14,7 @@ use Rattle.wrp_base.specs.declared.link.Fibre.{Fibre}
 use Rattle.wrp_base.proofs.Options.{pair_there}
 use Rattle.wrp_caldb.specs.Database.{Database, fibre_at, module_at}
 use Rattle.wrp_caldb.specs.Name.{is_name}
-use Rattle.wrp_caldb.specs.Key.{Key, required_key}
+use Rattle.wrp_caldb.specs.Key.{Key, name_key, required_key}
 use Rattle.wrp_caldb.specs.Refusal.{key_place, place_of_others}
 use Rattle.wrp_caldb.specs.Repeats.{are_same_texts, name_in, has_name_of, place_of_name}
 use Rattle.wrp_caldb.specs.Rows.{has_fault, is_wavelength, fits_first, number_in}
@@ -27,7 +27,6 @@ use Rattle.wrp_caldb.proofs.KeptNames.{IsText, plain_text, module_text, is_plain
 use Rattle.wrp_config.specs.Config.{end_at, name_of}
 use Rattle.wrp_config.specs.Ends.{end_in, end_of_value, text_at}
 use Rattle.wrp_config.specs.Links.{LinkKey, Context, link_keys, upper_key, lower_key, fibre_key, upper_module_key, lower_module_key, down_key, up_key, down_in, up_in, first_in, names_one, names_module, may_be_missing, is_stray, has_link_fault, place_of_link_keys, place_in_link_table, is_any, first_of}
-use Rattle.wrp_config.specs.Keys.{name_key}
 use Rattle.wrp_config.specs.declared.link_rows.Names.TheVariants as na
 use Rattle.wrp_caldb.specs.declared.row.Sort.TheVariants as so
 use Rattle.wrp_config.specs.Places.{has_end, repeats_upper, repeats_lower, place_of_port, place_in_link}

@@ -6,7 +6,7 @@ use Rattle.wrp_base.specs.declared.time.Clock.{Clock}
 use Rattle.wrp_base.specs.declared.time.Clock.TheVariants.{Mhz125, Mhz62}
 use Rattle.wrp_caldb.specs.Calibration.{version_key, module_key, fibre_key}
 use Rattle.wrp_caldb.specs.Database.{number_at}
-use Rattle.wrp_caldb.specs.Key.{Key, required_key, optional_key, default_key, defaulted_key}
+use Rattle.wrp_caldb.specs.Key.{Key, required_key, optional_key, default_key, defaulted_key, name_key}
 use Rattle.wrp_caldb.specs.declared.row.Sort.TheVariants as so
 use Rattle.wrp_config.specs.declared.settings.Setting.{Setting}
 use Rattle.wrp_config.specs.declared.settings.Setting.TheVariants as se
@@ -102,10 +102,6 @@ abbrev pub clock_in : Members → Clock
 clock_in doc = clock_of_period (number_at period_key (network_in doc))
 
 -- a node
-
--- the name of a node or of a link
-abbrev pub name_key : Key
-name_key = required_key (codes "name") so.Name
 
 -- the clockIdentity
 abbrev pub identity_key : Key

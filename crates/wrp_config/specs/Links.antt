@@ -6,7 +6,7 @@ use Rattle.std.specs.Ordering.{int_eq}
 use Rattle.std.specs.List.{find}
 use Rattle.toml.specs.Data.{Data, Members, as_integer, as_str, get_member}
 use Rattle.wrp_caldb.specs.Database.{Database, fibre_at, module_at, natural_at}
-use Rattle.wrp_caldb.specs.Key.{Key, required_key, optional_key, defaulted_key}
+use Rattle.wrp_caldb.specs.Key.{Key, required_key, optional_key, defaulted_key, name_key}
 use Rattle.wrp_caldb.specs.Place.{PlaceAt}
 use Rattle.wrp_caldb.specs.Refusal.{key_place, place_of_others}
 use Rattle.wrp_caldb.specs.Rows.{has_fault}
@@ -15,7 +15,6 @@ use Rattle.wrp_caldb.specs.declared.row.Code.{Code}
 use Rattle.wrp_caldb.specs.declared.row.Code.TheVariants as co
 use Rattle.wrp_caldb.specs.declared.row.Sort.TheVariants as so
 use Rattle.wrp_config.specs.Ends.{end_of_value}
-use Rattle.wrp_config.specs.Keys.{name_key}
 use Rattle.wrp_config.specs.declared.link_rows.Names.{Names}
 use Rattle.wrp_config.specs.declared.link_rows.Names.TheVariants as na
 

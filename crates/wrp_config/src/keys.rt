@@ -3,7 +3,8 @@ ghost use Rattle.std.specs.Prelude.{◌≡◌, ◌∷◌, []};
 ghost use Rattle.toml.specs.Data.{no_members};
 ghost use Rattle.toml.specs.View.{table_view};
 ghost use Rattle.wrp_caldb.specs.Calibration.{version_key};
-ghost use Rattle.wrp_config.specs.Keys.{network_key, node_key, link_key, top_keys, network_in, clock_of_period, clock_in, name_key, identity_key, e_tx_key, e_tag_key, beat_key, slew_key, held_key, node_keys};
+ghost use Rattle.wrp_caldb.specs.Key.{name_key};
+ghost use Rattle.wrp_config.specs.Keys.{network_key, node_key, link_key, top_keys, network_in, clock_of_period, clock_in, identity_key, e_tx_key, e_tag_key, beat_key, slew_key, held_key, node_keys};
 
 use crate::settings::period_row;
 use toml::Table;

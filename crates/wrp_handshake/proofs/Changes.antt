@@ -3,6 +3,7 @@ use Rattle.std.proofs.Common.{◌≡◌, refl, ap, sym, ◌∙◌, subst, ℕ, �
 use Rattle.wrp_base.specs.declared.link.LinkState.TheVariants.{Idle}
 use Rattle.wrp_base.specs.declared.link.Role.{Role}
 use Rattle.wrp_base.specs.declared.link.Role.TheVariants.{Master, Slave}
+use Rattle.wrp_base.specs.Network.{other_of}
 use Rattle.wrp_base.proofs.Integers.{int_le_self}
 use Rattle.wrp_link.specs.declared.interface.LinkIn.{LinkIn}
 use Rattle.wrp_link.specs.declared.interface.LinkIn.TheVariants.{CarrierUp}
@@ -10,7 +11,7 @@ use Rattle.wrp_link.specs.declared.interface.LinkSet.{LinkSet}
 use Rattle.wrp_link.specs.Rows.{row_of}
 use Rattle.wrp_link.proofs.Runs.{by_row_role}
 use Rattle.wrp_link.proofs.Orders.{idle_belongs}
-use Rattle.wrp_handshake.specs.Ends.{Port, Ends, Change, Passes, Hears, Starts, Lights, other_of, end_of, with_end, heard, MayHear, changed, MayCome, ends_after, AllMayCome, new_port, new_ends, OutlivesFrames, CanBe}
+use Rattle.wrp_handshake.specs.Ends.{Port, Ends, Change, Passes, Hears, Starts, Lights, end_of, with_end, heard, MayHear, changed, MayCome, ends_after, AllMayCome, new_port, new_ends, OutlivesFrames, CanBe}
 use Rattle.wrp_handshake.proofs.Stages.{engaged, bound}
 use Rattle.wrp_handshake.proofs.Times.{calm_later}
 use Rattle.wrp_handshake.proofs.Keeps.{view_of, Ghost, PortKeeps, Tied}

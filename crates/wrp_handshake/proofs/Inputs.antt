@@ -8,6 +8,7 @@ use Rattle.wrp_base.specs.declared.link.Role.{Role}
 use Rattle.wrp_base.specs.declared.link.Role.TheVariants.{Master, Slave}
 use Rattle.wrp_base.specs.declared.message.WrMsg.{WrMsg}
 use Rattle.wrp_base.specs.declared.message.WrMsg.TheVariants.{Present as SLAVE_PRESENT, Lock as LOCK, Locked as LOCKED}
+use Rattle.wrp_base.specs.Network.{other_of}
 use Rattle.wrp_base.proofs.Integers.{int_le_self}
 use Rattle.wrp_link.specs.declared.interface.LinkIn.{LinkIn}
 use Rattle.wrp_link.specs.declared.interface.LinkIn.TheVariants.{Msg, Tick}
@@ -17,7 +18,7 @@ use Rattle.wrp_link.proofs.Fits.{Belongs}
 use Rattle.wrp_link.proofs.Orders.{idle_belongs}
 use Rattle.wrp_check.specs.Stretches.{movers_of, with_mover}
 use Rattle.wrp_link.proofs.Deltas.{is_same_self}
-use Rattle.wrp_handshake.specs.Ends.{Sending, Port, other_of, stamped, mover_of, ticked_by, marked, port_by, heard, MayHear}
+use Rattle.wrp_handshake.specs.Ends.{Sending, Port, stamped, mover_of, ticked_by, marked, port_by, heard, MayHear}
 use Rattle.wrp_handshake.proofs.Stages.{engaged, bound, numbered, opens, SendsAll, Kind, opening, engaging, answering, binding, going_on, FitsMove}
 use Rattle.wrp_handshake.proofs.RowFits.{RowFits, row_fits}
 use Rattle.wrp_handshake.proofs.Times.{Calm, calm_later, calm_tick}

@@ -6,10 +6,11 @@ use Rattle.wrp_base.specs.declared.link.LinkState.TheVariants.{Idle}
 use Rattle.wrp_base.specs.declared.link.Mark.{Mark}
 use Rattle.wrp_base.specs.declared.link.Role.{Role}
 use Rattle.wrp_base.specs.declared.link.Role.TheVariants.{Master, Slave}
+use Rattle.wrp_base.specs.Network.{other_of}
 use Rattle.wrp_check.specs.Required.{required_of}
 use Rattle.wrp_link.proofs.Fits.{Belongs}
 use Rattle.wrp_check.specs.Stretches.{stretches_of, BeganBy, LastsTo, LiesIn, Entered, movers_of}
-use Rattle.wrp_handshake.specs.Ends.{Sending, Port, other_of, IsAmong}
+use Rattle.wrp_handshake.specs.Ends.{Sending, Port, IsAmong}
 use Rattle.wrp_handshake.proofs.Stages.{engaged, bound, numbered, opens, way_of}
 use Rattle.wrp_handshake.proofs.Times.{Calm}
 

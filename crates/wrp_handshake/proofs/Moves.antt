@@ -8,11 +8,12 @@ use Rattle.wrp_base.specs.declared.link.Role.{Role}
 use Rattle.wrp_base.specs.declared.link.Role.TheVariants.{Master}
 use Rattle.wrp_base.specs.declared.message.WrMsg.{WrMsg}
 use Rattle.wrp_base.specs.declared.message.WrMsg.TheVariants.{Present as SLAVE_PRESENT}
+use Rattle.wrp_base.specs.Network.{other_of}
 use Rattle.wrp_base.proofs.Integers.{int_le_self}
 use Rattle.wrp_link.specs.Table.{is_same}
 use Rattle.wrp_link.proofs.Fits.{Belongs}
 use Rattle.wrp_check.specs.Stretches.{joined, stretches_of, Entered, movers_of, with_mover}
-use Rattle.wrp_handshake.specs.Ends.{Sending, other_of, IsAmong, stamped}
+use Rattle.wrp_handshake.specs.Ends.{Sending, IsAmong, stamped}
 use Rattle.wrp_handshake.proofs.Stages.{engaged, bound, numbered, opens, way_of, shut_sends, bound_sends, SendsAll}
 use Rattle.wrp_handshake.proofs.Times.{Calm, older, no_opener, not_old, too_late, calm_over}
 use Rattle.wrp_handshake.proofs.Keeps.{View, Ghost, SentKeeps, IsOpen, IsEngaged, PortKeeps, FromLatest, Bond, Tied}

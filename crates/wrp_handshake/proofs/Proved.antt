@@ -6,9 +6,10 @@ use Rattle.wrp_base.specs.declared.link.Module.{Module}
 use Rattle.wrp_base.specs.declared.link.Role.{Role}
 use Rattle.wrp_base.specs.declared.link.Role.TheVariants.{Master, Slave}
 use Rattle.wrp_base.specs.declared.message.WrMsg.TheVariants.{Lock as LOCK, Locked as LOCKED}
+use Rattle.wrp_base.specs.Network.{other_of}
 use Rattle.wrp_check.specs.Handshake.{SameHandshake}
 use Rattle.wrp_check.specs.Laws.{IsHistory}
-use Rattle.wrp_handshake.specs.Ends.{Ends, other_of, end_of, placed_at}
+use Rattle.wrp_handshake.specs.Ends.{Ends, end_of, placed_at}
 use Rattle.wrp_handshake.specs.Laws.{OnInTheSameHandshake, OnWithTheDeltas, CarrierWithItsModule, MarksAreAHistory, IsAwake, IsLongAgo, QuietTimeOutlivesFrames, MasterStaysFromLock, SlaveStaysFromLocked, SlaveOnWithItsMaster}
 use Rattle.wrp_handshake.proofs.Keeps.{view_of}
 use Rattle.wrp_handshake.proofs.Changes.{EndsKeep, from_master, from_slave, can_keep}

@@ -7,10 +7,11 @@ use Rattle.wrp_base.specs.declared.link.LinkState.TheVariants.{LinkOn}
 use Rattle.wrp_base.specs.declared.link.Mark.{Mark}
 use Rattle.wrp_base.specs.declared.link.Role.{Role}
 use Rattle.wrp_base.specs.declared.link.Role.TheVariants.{Master, Slave}
+use Rattle.wrp_base.specs.Network.{other_of}
 use Rattle.wrp_check.specs.Required.{required_of}
 use Rattle.wrp_check.specs.Stretches.{stretches_of, newest_of, BeganBy, LiesIn, Entered, movers_of}
 use Rattle.wrp_check.specs.Handshake.{IsBacked, SameHandshake}
-use Rattle.wrp_handshake.specs.Ends.{Sending, other_of}
+use Rattle.wrp_handshake.specs.Ends.{Sending}
 use Rattle.wrp_handshake.proofs.Stages.{bound}
 use Rattle.wrp_handshake.proofs.Keeps.{View, Ghost, Current, IsEngaged, PortKeeps, FromLatest, Bond}
 use Rattle.wrp_handshake.proofs.Parts.{bound_engaged}

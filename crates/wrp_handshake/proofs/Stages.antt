@@ -8,6 +8,7 @@ use Rattle.wrp_base.specs.declared.link.Role.TheVariants.{Master, Slave}
 use Rattle.wrp_base.specs.declared.link.Mark.{Mark}
 use Rattle.wrp_base.specs.declared.message.WrMsg.{WrMsg}
 use Rattle.wrp_base.specs.declared.message.WrMsg.TheVariants.{Present as SLAVE_PRESENT, Lock as LOCK, Locked as LOCKED, Calibrate as CALIBRATE, Calibrated as CALIBRATED, ModeOn as WR_MODE_ON}
+use Rattle.wrp_base.specs.Network.{other_of}
 use Rattle.wrp_link.specs.declared.interface.LinkIn.{LinkIn}
 use Rattle.wrp_link.specs.declared.interface.LinkIn.TheVariants.{Msg, Announce}
 use Rattle.wrp_link.specs.LinkAt.{LinkAt}
@@ -16,7 +17,6 @@ use Rattle.wrp_link.specs.Table.{is_same}
 use Rattle.wrp_link.proofs.Fits.{Belongs}
 use Rattle.wrp_check.specs.Stretches.{Entered}
 use Rattle.wrp_check.proofs.Entering.{entered_less}
-use Rattle.wrp_handshake.specs.Ends.{other_of}
 
 -- past PRESENT: such a port sends numbered messages
 abbrev pub engaged : Role → LinkState → Bool

@@ -9,6 +9,7 @@ use Rattle.wrp_base.specs.declared.link.Role.{Role}
 use Rattle.wrp_base.specs.declared.link.Role.TheVariants.{Master, Slave}
 use Rattle.wrp_base.specs.declared.message.WrMsg.{WrMsg}
 use Rattle.wrp_base.specs.declared.message.WrMsg.TheVariants.{Present as SLAVE_PRESENT, ModeOn as WR_MODE_ON}
+use Rattle.wrp_base.specs.Network.{other_of}
 use Rattle.wrp_base.proofs.Naturals.{suc_less_one}
 use Rattle.wrp_link.specs.declared.interface.LinkIn.{LinkIn}
 use Rattle.wrp_link.specs.declared.interface.LinkIn.TheVariants.{Msg}
@@ -18,7 +19,7 @@ use Rattle.wrp_link.specs.Table.{counted, ticked, retried, sent_by}
 use Rattle.wrp_check.specs.Required.{required_of}
 use Rattle.wrp_check.specs.Stretches.{joined, stretches_of, newest_of, BeganBy, Entered}
 use Rattle.wrp_link.proofs.Deltas.{is_same_self}
-use Rattle.wrp_handshake.specs.Ends.{Sending, Port, Ends, Change, Passes, Hears, Starts, Lights, other_of, IsAmong, stamped, mover_of, ticked_by, marked, port_by, MayHear, IsNoCarrier, changed, MayCome, AllMayCome, ends_after, new_ends, lit_by, lit_at, CanBe}
+use Rattle.wrp_handshake.specs.Ends.{Sending, Port, Ends, Change, Passes, Hears, Starts, Lights, IsAmong, stamped, mover_of, ticked_by, marked, port_by, MayHear, IsNoCarrier, changed, MayCome, AllMayCome, ends_after, new_ends, lit_by, lit_at, CanBe}
 use Rattle.wrp_handshake.proofs.Stages.{engaged, bound, opens, way_of, Sends, SendsAll, bound_sends}
 use Rattle.wrp_handshake.proofs.RowFits.{RowFits, row_fits}
 use Rattle.wrp_handshake.proofs.Failing.{FailsBy, row_fails}

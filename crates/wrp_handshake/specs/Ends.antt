@@ -8,6 +8,7 @@ use Rattle.wrp_base.specs.declared.link.Module.{Module}
 use Rattle.wrp_base.specs.declared.link.Role.{Role}
 use Rattle.wrp_base.specs.declared.link.Role.TheVariants.{Master, Slave}
 use Rattle.wrp_base.specs.declared.message.WrMsg.{WrMsg}
+use Rattle.wrp_base.specs.Network.{other_of}
 use Rattle.wrp_link.specs.declared.interface.LinkIn.{LinkIn}
 use Rattle.wrp_link.specs.declared.interface.LinkIn.TheVariants.{Msg, Tick, CarrierUp}
 use Rattle.wrp_link.specs.declared.interface.LinkSet.{LinkSet}
@@ -34,11 +35,6 @@ pub record Ends : Type 0 where
   pub time : ℤ
   pub master : Port
   pub slave : Port
-
--- the role of a port's peer
-abbrev pub other_of : Role → Role
-other_of Master = Slave
-other_of Slave = Master
 
 -- the port of this role
 abbrev pub end_of : Ends → Role → Port

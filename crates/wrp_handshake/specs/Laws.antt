@@ -7,11 +7,12 @@ use Rattle.wrp_base.specs.declared.link.Role.{Role}
 use Rattle.wrp_base.specs.declared.link.Role.TheVariants.{Master, Slave}
 use Rattle.wrp_base.specs.declared.message.WrMsg.{WrMsg}
 use Rattle.wrp_base.specs.declared.message.WrMsg.TheVariants.{Lock as LOCK, Locked as LOCKED}
+use Rattle.wrp_base.specs.Network.{other_of}
 use Rattle.wrp_check.specs.Handshake.{SameHandshake}
 use Rattle.wrp_check.specs.Laws.{IsHistory}
 use Rattle.wrp_check.specs.Stretches.{stretches_of, newest_of, movers_of}
 use Rattle.wrp_handshake.specs.Deltas.{KnowsDeltas}
-use Rattle.wrp_handshake.specs.Ends.{Ends, Port, CanBe, new_ends, end_of, other_of, IsAmong, lit_at, placed_at}
+use Rattle.wrp_handshake.specs.Ends.{Ends, Port, CanBe, new_ends, end_of, IsAmong, lit_at, placed_at}
 
 -- a port in WR_LINK_ON is in the same handshake as its peer
 abbrev pub OnInTheSameHandshake : Type 0

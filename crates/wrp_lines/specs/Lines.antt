@@ -4,12 +4,13 @@ use Rattle.std.specs.Fmt.{decimal, signed_decimal}
 use Rattle.hex.specs.Hex.{encode_lower}
 use Rattle.wrp_base.specs.declared.configuration.NetCfg.{NetCfg}
 use Rattle.wrp_base.specs.declared.link.ServoState.{ServoState}
+use Rattle.wrp_base.specs.Network.{name_at}
 use Rattle.wrp_bounds.specs.Bounds.{path_of}
 use Rattle.wrp_node.specs.declared.interface.Output.{Output}
 use Rattle.wrp_node.specs.declared.interface.Output.TheVariants as output
 use Rattle.wrp_node.specs.declared.interface.Report.{Report}
 use Rattle.wrp_node.specs.declared.interface.Report.TheVariants.{Link, Servo, Track}
-use Rattle.wrp_lines.specs.Words.{link_word, name_at, reason_word, servo_word}
+use Rattle.wrp_lines.specs.Words.{link_word, reason_word, servo_word}
 
 -- the line of some words: a space (octet 32) between two of them, LF (octet 10) behind the last
 abbrev pub line_of : List (List ℕ) → List ℕ

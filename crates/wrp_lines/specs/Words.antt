@@ -10,10 +10,6 @@ use Rattle.wrp_base.specs.declared.link.ServoState.{ServoState}
 use Rattle.wrp_base.specs.declared.link.ServoState.TheVariants.{Uninit, SyncTai, SyncNsec, SyncPhase, WaitStable, Track, Holdover}
 use Rattle.wrp_data.specs.Reason.{name_of, number_of, reasons}
 
--- the name of the node of this number; no octets where there is none
-abbrev pub name_at : NetCfg → ℕ → List ℕ
-name_at cfg n = option_map_or (λ node. node.name.bytes) (slice_get cfg.nodes.items n) []
-
 -- how a link word is written; no port has the word of IDLE
 abbrev pub link_word : LinkWord → List ℕ
 link_word Down = codes "down"

@@ -1,7 +1,7 @@
 //! How nodes, the words of links, the states of servos and reasons are written.
 ghost use Rattle.std.specs.Prelude.{◌≡◌, ◌<◌, ◌≤◌};
-ghost use Rattle.wrp_base.specs.Network.{node_count};
-ghost use Rattle.wrp_lines.specs.Words.{link_word, name_at, reason_word, servo_word};
+ghost use Rattle.wrp_base.specs.Network.{name_at, node_count};
+ghost use Rattle.wrp_lines.specs.Words.{link_word, reason_word, servo_word};
 
 use wrp_base::{LinkState, LinkWord, NetCfg, ServoState};
 use wrp_data::Reason;

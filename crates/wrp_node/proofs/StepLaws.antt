@@ -3,7 +3,7 @@ use Rattle.std.proofs.Common.{◌≡◌, ◌∙◌, refl, ap, sym, subst, ℕ, s
 use Rattle.std.proofs.lemmas.List.{length-append}
 use Rattle.std.proofs.lemmas.Int.{ints, clamps}
 use Rattle.std.proofs.lemmas.Bool.{true≢false}
-use Rattle.wrp_base.specs.Clock.{period_of, periods_per_second}
+use Rattle.wrp_base.specs.Clock.{period_of, periods_per_second, second}
 use Rattle.wrp_base.specs.declared.link.Deltas.{Deltas}
 use Rattle.wrp_base.specs.declared.link.LinkState.{LinkState}
 use Rattle.wrp_base.specs.declared.link.LinkState.TheVariants.{Idle, Present, SLock, MLock, Locked, Calibration, Calibrated, RespCalib, LinkOn}
@@ -45,7 +45,7 @@ use Rattle.wrp_port.specs.Messages.{next_id, signals_of, announce_of, sync_of, r
 use Rattle.wrp_port.specs.Outputs.{where_due, scheduled_sends, link_sends, response_to, sends_unless, is_newest, sends_of}
 use Rattle.wrp_servo.specs.Call.{Call, CallSample, CallMeasured, CallTick, CallLease, CallLink, CallCarrier, CallReset, Settings, after, run}
 use Rattle.wrp_servo.specs.declared.machine.Core.{Core}
-use Rattle.wrp_servo.specs.Measuring.{second, half_period, x_of, is_in, kept_of, is_half, is_below_second, second_cycles, period_cycles, step_by_period, cycles_in, answered_cycles, deltas_in_chain}
+use Rattle.wrp_servo.specs.Measuring.{half_period, x_of, is_in, kept_of, is_half, is_below_second, second_cycles, period_cycles, step_by_period, cycles_in, answered_cycles, deltas_in_chain}
 use Rattle.wrp_servo.specs.declared.sampling.Heard.{Heard}
 use Rattle.wrp_servo.specs.declared.sampling.Heard.TheVariants.{Ignored, Refused, Lost, Followed}
 use Rattle.wrp_servo.specs.Sampling.{est_of, heard_as}

@@ -10,7 +10,7 @@ use Rattle.wrp_base.specs.declared.message.Head.{Head}
 use Rattle.wrp_base.specs.declared.message.PortIdentity.{PortIdentity}
 use Rattle.wrp_base.specs.declared.message.PtpMsg.{PtpMsg}
 use Rattle.wrp_base.specs.declared.time.Stamp.{Stamp}
-use Rattle.wrp_base.specs.Message.{every_port}
+use Rattle.wrp_base.specs.Message.{every_port, is_port}
 use Rattle.wrp_data.specs.declared.datasets.PortDs.{PortDs}
 use Rattle.wrp_data.specs.declared.reason.Reason.{Reason}
 use Rattle.wrp_data.specs.declared.reason.Reason.TheVariants.{Domain, Stranger, NotForUs, Quiet}
@@ -31,10 +31,6 @@ is_open_word _ = true
 -- a link whose port takes messages and keeps its schedule
 abbrev pub is_open : LinkAt → Bool
 is_open l = is_open_word (word_of l)
-
--- whether two port identities are one
-abbrev pub is_port : PortIdentity → PortIdentity → Bool
-is_port a b = (a.clock == b.clock) && (a.port == b.port)
 
 -- whether a body is for the port: a Signaling for it or for every port, a Delay_Resp for it, and each other kind
 abbrev pub is_addressed : PortDs → Body → Bool

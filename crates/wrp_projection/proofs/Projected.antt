@@ -4,30 +4,29 @@ use Rattle.std.specs.List.{AllByRecursion}
 use Rattle.std.proofs.lemmas.List.{length-map, length-reverse, reverse-reverse}
 use Rattle.wrp_base.specs.declared.configuration.NetCfg.{NetCfg}
 use Rattle.wrp_base.specs.declared.network.NodeCfg.{NodeCfg}
-use Rattle.wrp_base.specs.Network.{node_count}
+use Rattle.wrp_base.specs.Network.{name_at, node_count}
 use Rattle.wrp_caldb.specs.Database.{Database}
 use Rattle.wrp_caldb.specs.Name.{same_name}
 use Rattle.wrp_config.proofs.Lists.{found_place}
 use Rattle.wrp_config.specs.declared.network.Network.{Network}
 use Rattle.wrp_config.specs.Names.{node_named}
 use Rattle.wrp_config.specs.Same.{ReadingIsAccepted, bare_cfg}
-use Rattle.wrp_lines.specs.Words.{name_at}
 use Rattle.wrp_node.specs.declared.interface.Input.{Input}
 use Rattle.wrp_node.specs.NodeAt.{NodeAt, Taken, settings_of}
 use Rattle.wrp_node.specs.NodeRun.{AllSaid, node_after}
 use Rattle.wrp_node.specs.OneRun.{answers_by}
-use Rattle.wrp_recorded.specs.Recorded.{AllSaidByLines, InputsAreRecorded, IsRecorded, IsSaidRun, site_in}
+use Rattle.wrp_recorded.specs.Recorded.{AllSaidByLines, InputsAreRecorded, IsRecorded, IsSaidRun}
 use Rattle.wrp_servo.specs.Servo.{AllAnswered}
 use Rattle.wrp_trace.specs.Events.{event_read}
 use Rattle.wrp_trace.specs.Inputs.{read_of}
 use Rattle.wrp_trace.specs.Printing.{line_of}
-use Rattle.wrp_trace.specs.Site.{Site}
+use Rattle.wrp_trace.specs.Site.{Site, site_in}
 use Rattle.wrp_world.specs.Run.{Happened, world_after}
 use Rattle.wrp_world.specs.Setting.{Setting}
 use Rattle.wrp_world.specs.WorldAt.{WorldAt}
 use Rattle.wrp_run.specs.declared.status.Status.TheVariants.{Done}
 use Rattle.wrp_run.specs.Answer.{Answer}
-use Rattle.wrp_run.specs.Audited.{AreEvents, IsAudit, IsSettingOf, node_in, setting_at}
+use Rattle.wrp_run.specs.Audited.{AreEvents, IsAudit, IsSettingOf, setting_at}
 use Rattle.wrp_run.specs.AuditLaws.{OneAudit}
 use Rattle.wrp_run.specs.AuditText.{all_counts, audit_lines, given_lines}
 use Rattle.wrp_run.specs.DownLaw.{fixed_at, law_at}
@@ -163,11 +162,11 @@ recorded_bare site bare x line reads recorded = record {
   size = subst (λ (l : List ℕ). length l ≤ 8_192) (sym line) recorded.size;
 }
 
-all_bare : (cfg : NetCfg) (db : Database) (n : ℕ) (inputs : List Taken) → AllRecorded (site_in (setting_at cfg db) n) inputs → AllRecorded (node_in (bare_at cfg db) n) inputs
+all_bare : (cfg : NetCfg) (db : Database) (n : ℕ) (inputs : List Taken) → AllRecorded (site_in (setting_at cfg db) n) inputs → AllRecorded (site_in (bare_at cfg db) n) inputs
 all_bare cfg db n [] h = tt
 all_bare cfg db n (t ∷ inputs) h =
     let site : Site = site_in (setting_at cfg db) n in
-    (recorded_bare site (node_in (bare_at cfg db) n) t.input (line_bare site t.input) (read_bare site (line_of site t.input)) h.0, all_bare cfg db n inputs h.1)
+    (recorded_bare site (site_in (bare_at cfg db) n) t.input (line_bare site t.input) (read_bare site (line_of site t.input)) h.0, all_bare cfg db n inputs h.1)
 
 -- The replay of the inputs that a run gave a node
 
@@ -214,12 +213,12 @@ record OneOfBoth (input name audit records : List ℕ) : Type 0 where
   named : node_named site.cfg name ≡ Some site.node
   cfg : NetCfg
   db : Database
-  site_is : site ≡ node_in (setting_at cfg db) site.node
+  site_is : site ≡ site_in (setting_at cfg db) site.node
   words : (m : ℕ) → IsWord (name_at cfg m)
   alone : (m : ℕ) → same_name (name_at cfg m) name ≡ (m == site.node)
   events : List Happened
   run : IsAudit (setting_at cfg db) (map content_of (behind_separator (lines_of input))) events
-  recorded : AllRecorded (node_in (setting_at cfg db) site.node) ((world_after (setting_at cfg db) events).inputs site.node)
+  recorded : AllRecorded (site_in (setting_at cfg db) site.node) ((world_after (setting_at cfg db) events).inputs site.node)
   audit_is : audit ≡ audit_lines (setting_at cfg db) events ++ all_counts (setting_at cfg db) (world_after (setting_at cfg db) events)
   records_are : records ≡ given_lines (setting_at cfg db) site.node events
 
@@ -239,7 +238,7 @@ both_of inputs accepted one input name audit records a e =
     let said : IsSaidRun own a.events = said_run accepted input audit a in
     record {
       net = net;
-      site = node_in c e.node;
+      site = site_in c e.node;
       network = record { net = net; reads = a.setting.reads; cfg = refl; db = refl };
       named = named;
       words = λ m. subst IsWord (sym (name_bare net.cfg m)) (names_are_words net.cfg said.network.names m);
@@ -250,7 +249,7 @@ both_of inputs accepted one input name audit records a e =
       site_is = refl;
       events = a.events;
       run = run;
-      recorded = subst (λ (w : WorldAt). AllRecorded (node_in c e.node) (w.inputs e.node)) world
+      recorded = subst (λ (w : WorldAt). AllRecorded (site_in c e.node) (w.inputs e.node)) world
           (all_bare net.cfg net.db e.node ((world_after own a.events).inputs e.node) (inputs own a.events e.node said));
       audit_is = a.is ∙ ap₂ (λ (x y : List ℕ). x ++ y) (sym (lines_text a.s a.events)) (sym (counts_text a.s a.events))
           ∙ ap (λ (k : Setting). audit_lines k a.events ++ all_counts k (world_after k a.events)) to;
@@ -266,7 +265,7 @@ replay_is : (replaying : List (List ℕ)) (name input replayed audit records : L
 replay_is replaying name input replayed audit records asks within few has b =
     let s : Setting = setting_at b.cfg b.db in
     let n : ℕ = b.site.node in
-    let site : Site = node_in s n in
+    let site : Site = site_in s n in
     let w : WorldAt = world_after s b.events in
     let taken : List Taken = w.inputs n in
     let named : node_named s.cfg name ≡ Some n = ap (λ (k : Site). node_named k.cfg name) (sym b.site_is) ∙ b.named in

@@ -10,7 +10,7 @@ use Rattle.std.proofs.lemmas.List.Folds.{concat-append}
 use Rattle.std.proofs.lemmas.Option.{slice_get-map}
 use Rattle.wrp_base.specs.declared.configuration.NetCfg.{NetCfg}
 use Rattle.wrp_base.specs.declared.network.NodeCfg.{NodeCfg}
-use Rattle.wrp_base.specs.Network.{node_count}
+use Rattle.wrp_base.specs.Network.{name_at, node_count}
 use Rattle.wrp_base.proofs.Lists.{all_append}
 use Rattle.wrp_bounds.specs.Bounds.{path_of}
 use Rattle.wrp_caldb.specs.Name.{is_name, same_name}
@@ -21,7 +21,7 @@ use Rattle.wrp_config.specs.Names.{node_named}
 use Rattle.wrp_data.specs.Counters.{count_at}
 use Rattle.wrp_data.specs.Reason.{number_of, reasons}
 use Rattle.wrp_lines.specs.Lines.{count_line_of, line_of, output_words}
-use Rattle.wrp_lines.specs.Words.{name_at, reason_word}
+use Rattle.wrp_lines.specs.Words.{reason_word}
 use Rattle.wrp_node.specs.declared.interface.Output.{Output}
 use Rattle.wrp_node.specs.declared.interface.Output.TheVariants as output
 use Rattle.wrp_node.specs.declared.interface.Report.TheVariants.{Link, Servo, Track}

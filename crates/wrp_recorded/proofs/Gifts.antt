@@ -7,7 +7,7 @@ use Rattle.wrp_base.specs.declared.link.Role.TheVariants.{Master}
 use Rattle.wrp_base.specs.declared.message.Body.{Body}
 use Rattle.wrp_base.specs.declared.message.Body.TheVariants.{Sync, DelayReq, FollowUp, DelayResp, Announce, Signal}
 use Rattle.wrp_base.specs.declared.message.PtpMsg.{PtpMsg}
-use Rattle.wrp_base.specs.Network.{End}
+use Rattle.wrp_base.specs.Network.{End, other_of}
 use Rattle.wrp_base.proofs.Naturals.{below_word}
 use Rattle.wrp_config.specs.Accepted.{IsAccepted}
 use Rattle.wrp_config.specs.Laws.{PortIsOfOneLink}
@@ -16,7 +16,7 @@ use Rattle.wrp_node.specs.declared.interface.Input.{Input}
 use Rattle.wrp_node.specs.declared.interface.Input.TheVariants as inputs
 use Rattle.wrp_node.specs.NodeAt.{numbers_of}
 use Rattle.wrp_trace.specs.InputAt.{FitsTypes, IsInputAt}
-use Rattle.wrp_trace.specs.Site.{Site, has_port, is_grandmaster}
+use Rattle.wrp_trace.specs.Site.{Site, has_port, is_grandmaster, site_in}
 use Rattle.wrp_world.specs.Checks.{AllHold}
 use Rattle.wrp_world.specs.declared.event.Event.{Event}
 use Rattle.wrp_world.specs.declared.event.Event.TheVariants.{Pass, Tick, Sample, Depart, Arrive, Deliver, Noise, Down, Up, Cut, Join}
@@ -25,11 +25,10 @@ use Rattle.wrp_world.specs.EventAt.{IsTime}
 use Rattle.wrp_world.specs.Given.{Given, at_ports, comes_at, comes_from, delivered, delivered_by, delivered_to, given_by, given_plain, goes_at, goes_from, if_carried, sent_oldest, told_sending}
 use Rattle.wrp_world.specs.Moved.{moved, waiting_at}
 use Rattle.wrp_world.specs.Premises.{Accepts, noise_checks, sample_checks}
-use Rattle.wrp_world.specs.Setting.{Setting, above, end_at, entry_at, other_of, place_of}
+use Rattle.wrp_world.specs.Setting.{Setting, above, end_at, entry_at, place_of}
 use Rattle.wrp_world.specs.WorldAt.{Arrival, FrameAt, Sending, WorldAt, has_carrier}
 use Rattle.wrp_world.proofs.RunNetwork.{end_with}
 use Rattle.wrp_recorded.specs.Ranges.{IsRanged}
-use Rattle.wrp_recorded.specs.Recorded.{site_in}
 use Rattle.wrp_recorded.proofs.Frames.{frame_fits}
 use Rattle.wrp_recorded.proofs.Kept.{CameSo, FrameSo, Keeps, WaitShort, moved_keeps}
 use Rattle.wrp_recorded.proofs.Ports.{has_parent, here, listed, port_at_end, port_at_place}

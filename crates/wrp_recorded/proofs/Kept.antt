@@ -6,7 +6,7 @@ use Rattle.std.specs.Option.{option_map_or}
 use Rattle.wrp_base.specs.declared.link.Role.{Role}
 use Rattle.wrp_base.specs.declared.message.PtpMsg.{PtpMsg}
 use Rattle.wrp_base.specs.declared.time.Raw.{Raw}
-use Rattle.wrp_base.specs.Network.{End}
+use Rattle.wrp_base.specs.Network.{End, other_of}
 use Rattle.wrp_base.proofs.Naturals.{le_later}
 use Rattle.wrp_node.specs.Telling.{Step}
 use Rattle.wrp_world.specs.declared.clocks.ClockState.{ClockState}
@@ -18,7 +18,7 @@ use Rattle.wrp_world.specs.EventAt.{IsRaw}
 use Rattle.wrp_world.specs.Given.{Given, clock_told, end_given, given_by, gives, gives_all, sending, step_of, taken_of}
 use Rattle.wrp_world.specs.Moved.{arrived, behind_first, clock_after, departing, end_after, frame_after, is_place, loses, moved, port_number, removed, samples_at, swap_at, waiting_at, with_swap}
 use Rattle.wrp_world.specs.Run.{Happened, world_after}
-use Rattle.wrp_world.specs.Setting.{Setting, end_at, fixed_of, is_of, other_of, place_of}
+use Rattle.wrp_world.specs.Setting.{Setting, end_at, fixed_of, is_of, place_of}
 use Rattle.wrp_world.specs.WorldAt.{Arrival, EndAt, FrameAt, Sending, WorldAt}
 use Rattle.wrp_recorded.specs.Ranges.{IsRanged}
 use Rattle.wrp_recorded.specs.Recorded.{AllSaidByLines}

@@ -8,17 +8,16 @@ use Rattle.wrp_base.specs.declared.link.Module.{Module}
 use Rattle.wrp_base.specs.declared.link.Role.{Role}
 use Rattle.wrp_base.specs.declared.link.Role.TheVariants.{Master, Slave}
 use Rattle.wrp_base.specs.declared.network.LinkCfg.{LinkCfg}
-use Rattle.wrp_base.specs.Network.{End}
+use Rattle.wrp_base.specs.Network.{End, other_of}
 use Rattle.wrp_caldb.specs.Database.{module_at}
 use Rattle.wrp_config.specs.Accepted.{IsAccepted}
 use Rattle.wrp_config.specs.Laws.{PortIsOfOneLink}
 use Rattle.wrp_config.specs.Names.{pair_at}
 use Rattle.wrp_trace.specs.InputAt.{IsListed}
-use Rattle.wrp_trace.specs.Site.{Site, has_port, is_grandmaster, module_of}
+use Rattle.wrp_trace.specs.Site.{Site, has_port, is_grandmaster, module_of, site_in}
 use Rattle.wrp_world.specs.declared.place.Place.{Place}
-use Rattle.wrp_world.specs.Setting.{Setting, above, end_at, end_of, entry_at, link_of, other_of, place_of, sends_nm}
+use Rattle.wrp_world.specs.Setting.{Setting, above, end_at, end_of, entry_at, link_of, place_of, sends_nm}
 use Rattle.wrp_world.proofs.RunNetwork.{LinkEnd, end_with, link_end, place_end}
-use Rattle.wrp_recorded.specs.Recorded.{site_in}
 
 pub record PortAt (s : Setting) (k : ℕ) (r : Role) (end : End) : Type 0 where
   pub link : LinkCfg

@@ -6,7 +6,7 @@ use Rattle.wrp_config.specs.Accepted.{IsSoundDatabase}
 use Rattle.wrp_config.specs.Laws.{PortIsOfOneLink}
 use Rattle.wrp_node.specs.declared.interface.Input.{Input}
 use Rattle.wrp_node.specs.NodeAt.{Taken}
-use Rattle.wrp_trace.specs.Site.{Site}
+use Rattle.wrp_trace.specs.Site.{Site, site_in}
 use Rattle.wrp_trace.proofs.ReadsBack.{reads_back}
 use Rattle.wrp_world.specs.Given.{Given, given_by, gives, gives_all, taken_of}
 use Rattle.wrp_world.specs.Moved.{moved}
@@ -14,7 +14,7 @@ use Rattle.wrp_world.specs.Run.{Happened, world_after}
 use Rattle.wrp_world.specs.Setting.{Setting}
 use Rattle.wrp_world.specs.WorldAt.{WorldAt}
 use Rattle.wrp_recorded.specs.Ranges.{IsRanged}
-use Rattle.wrp_recorded.specs.Recorded.{InputsAreRecorded, IsRecorded, IsSaidRun, site_in}
+use Rattle.wrp_recorded.specs.Recorded.{InputsAreRecorded, IsRecorded, IsSaidRun}
 use Rattle.wrp_recorded.proofs.EventRanges.{event_ranged}
 use Rattle.wrp_recorded.proofs.Gifts.{Fits, GiftsFit, gifts_fit}
 use Rattle.wrp_recorded.proofs.Kept.{counted_after, kept_after}

@@ -9,7 +9,7 @@ use Rattle.wrp_node.specs.NodeAt.{Taken}
 use Rattle.wrp_trace.specs.Events.{event_read}
 use Rattle.wrp_trace.specs.Inputs.{read_of}
 use Rattle.wrp_trace.specs.Printing.{line_of}
-use Rattle.wrp_trace.specs.Site.{Site}
+use Rattle.wrp_trace.specs.Site.{Site, site_in}
 use Rattle.wrp_world.specs.Run.{AllAccepted, Happened, world_after}
 use Rattle.wrp_world.specs.Setting.{Setting}
 
@@ -25,10 +25,6 @@ pub record IsSaidRun (s : Setting) (events : List Happened) : Type 0 where
   pub said : AllSaidByLines s.cfg events
   pub accepted : AllAccepted s events
   pub few : length events < 2 ^ 32
-
--- a node of the network
-abbrev pub site_in : Setting → ℕ → Site
-site_in s n = record { cfg = s.cfg; db = s.db; node = n }
 
 -- the line of an input reads back as the input, and is no longer than a record line may be
 pub record IsRecorded (site : Site) (x : Input) : Type 0 where

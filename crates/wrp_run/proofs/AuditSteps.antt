@@ -7,14 +7,13 @@ use Rattle.std.proofs.lemmas.Option.{slice_get-map}
 use Rattle.wrp_base.specs.declared.configuration.NetCfg.{NetCfg}
 use Rattle.wrp_base.specs.declared.fault.TraceFault.{TraceFault}
 use Rattle.wrp_base.specs.declared.network.LinkCfg.{LinkCfg}
-use Rattle.wrp_base.specs.Network.{IsTree, link_above, node_count}
+use Rattle.wrp_base.specs.Network.{IsTree, link_above, name_at, node_count}
 use Rattle.wrp_base.proofs.Lists.{has_item}
 use Rattle.wrp_config.specs.declared.network.Network.{Network}
 use Rattle.wrp_law.specs.Law.{LawOf}
 use Rattle.wrp_node.specs.Control.{law_in}
 use Rattle.wrp_bounds.specs.Bounds.{path_of}
 use Rattle.wrp_lines.specs.Lines.{output_line_of}
-use Rattle.wrp_lines.specs.Words.{name_at}
 use Rattle.wrp_node.specs.NodeAt.{Fixed, Taken as TakenInput, NodeAt, settings_of, slave_in}
 use Rattle.wrp_node.specs.declared.interface.Output.{Output}
 use Rattle.wrp_node.specs.NodeRun.{node_after}
@@ -24,6 +23,7 @@ use Rattle.wrp_node.specs.StandsFor.{NodeOf, StandsFor as NodeStandsFor}
 use Rattle.wrp_node.proofs.OwnPorts.{slave_is_above}
 use Rattle.wrp_servo.specs.Servo.{AllAnswered}
 use Rattle.wrp_trace.specs.Events.{event_read, plain}
+use Rattle.wrp_trace.specs.Site.{site_in}
 use Rattle.wrp_fields.specs.Reading.{IsReading}
 use Rattle.wrp_world.specs.Checks.{AllHold, told_of}
 use Rattle.wrp_world.specs.declared.event.Event.{Event}
@@ -41,7 +41,7 @@ use Rattle.wrp_run.specs.declared.machine.Refusal.{Refusal}
 use Rattle.wrp_run.specs.declared.machine.Refusal.TheVariants as refusals
 use Rattle.wrp_run.specs.declared.machine.Taken.{Taken}
 use Rattle.wrp_run.specs.declared.machine.Taken.TheVariants as taken
-use Rattle.wrp_run.specs.Audited.{AllHeard, IsAudit, answers_in, node_in}
+use Rattle.wrp_run.specs.Audited.{AllHeard, IsAudit, answers_in}
 use Rattle.wrp_run.specs.AuditLaws.{OneAudit}
 use Rattle.wrp_run.specs.Audits.{Breaks}
 use Rattle.wrp_run.specs.AuditStands.{Broke, CanAudit, Happens, HasAudited, HasLawOf, TellsFault, Took, line_by, lines_by, setting_in, task_of}
@@ -117,7 +117,7 @@ answered {F} {post = post} net w world tree counted stands laws made n = go (lin
     go (Some link) is =
         let below : n < node_count net.cfg = below_count net.cfg n link tree is in
         let item = has_item world.nodes n (omega (arith, below, counted)) in
-        let run = run_of {post = post} (law_at (node_in s n)) (fixed_of s n) item.0 (w.inputs n) (stands.nodes n item.0 item.1).stands (laws n item.0 item.1) in
+        let run = run_of {post = post} (law_at (site_in s n)) (fixed_of s n) item.0 (w.inputs n) (stands.nodes n item.0 item.1).stands (laws n item.0 item.1) in
         subst (λ (node : NodeAt). AllAnswered (answers_in s n) (settings_of (fixed_of s n)) node.calls) (sym (made n)) run.answered
 
 -- Frames are read as their octets say
@@ -259,7 +259,7 @@ pub laws_stay : {F : Type 0} (post : F → ℤ → ℤ → Type 0) (s : Setting)
     → map (λ (node : NodeOf F). law_in node.control) new.nodes ≡ map (λ (node : NodeOf F). law_in node.control) old.nodes → HasLawOf post s old → HasLawOf post s new
 laws_stay {F} post s old new same has n node is =
     let law : NodeOf F → Option (LawOf F) = λ node. law_in node.control in
-    law_kept (AnswersBy post (law_at (node_in s n))) node (slice_get old.nodes n)
+    law_kept (AnswersBy post (law_at (site_in s n))) node (slice_get old.nodes n)
     (sym (slice_get-map law new.nodes n ∙ ap (option_map law) is) ∙ ap (λ (laws : List (Option (LawOf F))). slice_get laws n) same ∙ slice_get-map law old.nodes n)
     (λ b at. has n b at)
 

@@ -10,6 +10,7 @@ use Rattle.wrp_node.specs.NodeRun.{AllSaid}
 use Rattle.wrp_node.specs.OneRun.{answers_by}
 use Rattle.wrp_servo.specs.Servo.{AllAnswered}
 use Rattle.wrp_trace.specs.Events.{event_read}
+use Rattle.wrp_trace.specs.Site.{site_in}
 use Rattle.wrp_world.specs.Checks.{AllHold, told_of}
 use Rattle.wrp_world.specs.Premises.{checks_of}
 use Rattle.wrp_world.specs.Run.{AllAccepted, Happened, IsAnswered, world_after}
@@ -19,7 +20,7 @@ use Rattle.wrp_run.specs.declared.machine.Refusal.{Refusal}
 use Rattle.wrp_run.specs.declared.machine.Refusal.TheVariants as refusals
 use Rattle.wrp_run.specs.declared.status.Status.{Status}
 use Rattle.wrp_run.specs.declared.status.Status.TheVariants.{Done, BadTrace, Broken, TooLarge}
-use Rattle.wrp_run.specs.Audited.{AllHeard, IsAudit, answers_in, node_in}
+use Rattle.wrp_run.specs.Audited.{AllHeard, IsAudit, answers_in}
 use Rattle.wrp_run.specs.Audits.{AuditRefuses, audit_of, emission_of}
 use Rattle.wrp_run.specs.AuditText.{all_counts, audit_lines, given_line, given_lines, step_lines}
 use Rattle.wrp_run.specs.Lines.{content_of}
@@ -44,7 +45,7 @@ accepted_bare s (h ∷ before) all = (subst AllHold (sym (tried_after s before h
 
 pub answered_bare : (s : Setting) (events : List Happened) → IsAnswered (answers_in s) s (world_after s events) → IsAnswered (answers_in (bare_setting s)) (bare_setting s) (world_after (bare_setting s) events)
 answered_bare s events all n =
-    let laws : law_at (node_in s n) ≡ law_at (node_in (bare_setting s) n) = sym (λ i x. law_bare (node_in s n) x i) in
+    let laws : law_at (site_in s n) ≡ law_at (site_in (bare_setting s) n) = sym (λ i x. law_bare (site_in s n) x i) in
     subst (λ (w : WorldAt). AllAnswered (answers_in (bare_setting s) n) (settings_of (fixed_of s n)) (w.node n).calls) (sym (after_bare s events))
     (subst (λ (law : ℤ → ℤ). AllAnswered (answers_by law) (settings_of (fixed_of s n)) ((world_after s events).node n).calls) laws (all n))
 
@@ -76,7 +77,7 @@ lines_text s (h ∷ before) =
     ap₂ (λ (earlier lines : List ℕ). earlier ++ lines) (lines_text s before) (λ i. flat_map (steps_text s i (after_bare s (h ∷ before) i)) (steps_at_bare s before h i))
 
 given_text : (s : Setting) (n : ℕ) → given_line (bare_setting s) n ≡ given_line s n
-given_text s n = λ i step. if step.node == n then line_bare (node_in s n) step.input i ++ 10 ∷ [] else []
+given_text s n = λ i step. if step.node == n then line_bare (site_in s n) step.input i ++ 10 ∷ [] else []
 
 pub inputs_text : (s : Setting) (n : ℕ) (events : List Happened) → given_lines (bare_setting s) n events ≡ given_lines s n events
 inputs_text s n [] = refl
@@ -84,7 +85,7 @@ inputs_text s n (h ∷ before) =
     ap₂ (λ (earlier lines : List ℕ). earlier ++ lines) (inputs_text s n before) (λ i. flat_map (given_text s n i) (steps_at_bare s before h i))
 
 pub counts_text : (s : Setting) (events : List Happened) → all_counts (bare_setting s) (world_after (bare_setting s) events) ≡ all_counts s (world_after s events)
-counts_text s events = λ i. flat_map (λ n. counts_bare (node_in s n) ((after_bare s events i).node n) i) (nodes_bare s i)
+counts_text s events = λ i. flat_map (λ n. counts_bare (site_in s n) ((after_bare s events i).node n) i) (nodes_bare s i)
 
 refused_bare : (s : Setting) (lines : List (List ℕ)) (line last : List ℕ) (refusal : Refusal) → AuditRefuses s lines line refusal last → AuditRefuses (bare_setting s) lines line refusal last
 refused_bare s lines line last refusals.BadTrace h = (h.0, event_bare s.cfg line ∙ h.1, h.2)

@@ -9,7 +9,7 @@ use Rattle.wrp_base.specs.declared.link.Module.{Module}
 use Rattle.wrp_base.specs.declared.link.Role.TheVariants.{Master, Slave}
 use Rattle.wrp_base.specs.declared.network.LinkCfg.{LinkCfg}
 use Rattle.wrp_base.specs.declared.time.Raw.{Raw}
-use Rattle.wrp_base.specs.Network.{End, node_count}
+use Rattle.wrp_base.specs.Network.{End, node_count, other_of}
 use Rattle.wrp_config.specs.Config.{bare_link, bare_node}
 use Rattle.wrp_config.specs.Same.{bare_cfg}
 use Rattle.wrp_lines.specs.Lines.{output_line_of, sum_line_of}
@@ -27,7 +27,7 @@ use Rattle.wrp_world.specs.EventAt.{link_count}
 use Rattle.wrp_world.specs.Moved.{waiting_at}
 use Rattle.wrp_world.specs.Premises.{transition_of}
 use Rattle.wrp_world.specs.Run.{Happened, world_after}
-use Rattle.wrp_world.specs.Setting.{Setting, fixed_of, from_on, link_of, other_of}
+use Rattle.wrp_world.specs.Setting.{Setting, fixed_of, from_on, link_of}
 use Rattle.wrp_world.specs.Views.{oldest_of}
 use Rattle.wrp_world.specs.WorldAt.{WorldAt, reading}
 use Rattle.wrp_run.specs.declared.machine.Refusal.{Refusal}

@@ -10,7 +10,7 @@ use Rattle.wrp_base.specs.declared.fault.TraceFault.{TraceFault}
 use Rattle.wrp_base.specs.declared.network.LinkCfg.{LinkCfg}
 use Rattle.wrp_base.specs.declared.network.NodeCfg.{NodeCfg}
 use Rattle.wrp_base.specs.Lines.{parts_of}
-use Rattle.wrp_base.specs.Network.{link_above}
+use Rattle.wrp_base.specs.Network.{link_above, name_at}
 use Rattle.wrp_bounds.specs.Bounds.{held_by, held_motion, links_up, path_of, step_over}
 use Rattle.wrp_caldb.specs.Database.{Database}
 use Rattle.wrp_caldb.specs.Name.{same_name}
@@ -20,7 +20,6 @@ use Rattle.wrp_config.specs.Config.{bare_node, bare_link}
 use Rattle.wrp_config.specs.Names as names
 use Rattle.wrp_config.specs.Names.{node_named, link_at, pair_at, pair_of}
 use Rattle.wrp_config.specs.Same.{bare_cfg}
-use Rattle.wrp_lines.specs.Words.{name_at}
 use Rattle.wrp_node.specs.Set.{identity_of, ports_at, ports_of, set_of, steps_up, top_up}
 use Rattle.wrp_trace.specs.declared.kinds.InputKind.{InputKind}
 use Rattle.wrp_trace.specs.declared.kinds.InputKind.TheVariants as kinds

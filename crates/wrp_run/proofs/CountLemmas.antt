@@ -2,12 +2,12 @@
 use Rattle.std.proofs.Common.{◌≡◌, ◌∙◌, ℕ, ◌+◌, ◌<◌, ◌≤◌, Bool, true, false, if◌then◌else◌, List, [], ◌++◌, length, get_or, drop, refl, sym, ap, append_assoc, append-nil}
 use Rattle.std.proofs.lemmas.List.{drop_more, drop_all}
 use Rattle.std.specs.List.{flat_map}
+use Rattle.wrp_base.specs.Network.{name_at}
 use Rattle.wrp_data.specs.declared.reason.Reason.{Reason}
 use Rattle.wrp_data.specs.declared.reason.Reason.TheVariants.{Short}
 use Rattle.wrp_data.specs.Counters.{count_at}
 use Rattle.wrp_data.specs.Reason.{number_of, reasons}
 use Rattle.wrp_node.specs.NodeAt.{NodeAt}
-use Rattle.wrp_lines.specs.Words.{name_at}
 use Rattle.wrp_trace.specs.Site.{Site, has_port}
 use Rattle.wrp_run.specs.NodeText.{nonzero_line, port_counts, port_numbers, node_counts}
 

@@ -13,11 +13,12 @@ use Rattle.wrp_base.specs.declared.link.LinkWord.TheVariants.{Down, Quiet, Ptp, 
 use Rattle.wrp_base.specs.declared.link.ServoState.{ServoState}
 use Rattle.wrp_base.specs.declared.link.ServoState.TheVariants.{Uninit, SyncTai, SyncNsec, SyncPhase, WaitStable, Track as Tracking, Holdover}
 use Rattle.wrp_base.specs.declared.network.NodeCfg.{NodeCfg}
+use Rattle.wrp_base.specs.Network.{name_at}
 use Rattle.wrp_bounds.specs.Bounds.{path_of}
 use Rattle.wrp_caldb.specs.Name.{is_letter, is_name, is_name_octet}
 use Rattle.wrp_config.specs.Accepted.{HasNames}
 use Rattle.wrp_lines.specs.Lines.{line_of, output_line, output_words, truth_words}
-use Rattle.wrp_lines.specs.Words.{link_word, name_at, servo_word}
+use Rattle.wrp_lines.specs.Words.{link_word, servo_word}
 use Rattle.wrp_node.specs.declared.interface.Output.{Output}
 use Rattle.wrp_node.specs.declared.interface.Output.TheVariants.{Send, Step, Dac, Report}
 use Rattle.wrp_node.specs.declared.interface.Report.TheVariants.{Link, Servo, Track}

@@ -4,7 +4,7 @@ use Rattle.std.proofs.lemmas.Int.{ints}
 use Rattle.std.specs.List.{flat_map}
 use Rattle.wrp_base.specs.declared.fault.TraceFault.{TraceFault}
 use Rattle.wrp_base.specs.declared.network.LinkCfg.{LinkCfg}
-use Rattle.wrp_base.specs.Network.{link_above}
+use Rattle.wrp_base.specs.Network.{link_above, name_at}
 use Rattle.wrp_bounds.specs.Bounds.{path_of}
 use Rattle.wrp_config.proofs.Bare.{above_some}
 use Rattle.wrp_config.specs.Same.{bare_cfg}
@@ -13,7 +13,6 @@ use Rattle.wrp_law.specs.Law.{LawOf, KeepsFact}
 use Rattle.wrp_law.specs.declared.link_law.LinkLaw.{LinkLaw}
 use Rattle.wrp_law.specs.LinkLaw.{down_of}
 use Rattle.wrp_lines.specs.Lines.{output_line_of}
-use Rattle.wrp_lines.specs.Words.{name_at}
 use Rattle.wrp_node.specs.Control.{law_in}
 use Rattle.wrp_node.specs.declared.interface.Input.{Input}
 use Rattle.wrp_node.specs.declared.interface.Input.TheVariants.{Tick, Sample, Frame, Sent, Carrier, Reset}

@@ -1,6 +1,7 @@
 -- A world before its first event, with laws that fit its network, can be audited and stands for no lines.
 use Rattle.std.proofs.Common.{◌≡◌, ◌∙◌, refl, ap, sym, subst, ℕ, ℤ, ◌<◌, List, [], length, Option, None, Some, IfSome, arith}
 use Rattle.std.specs.Prelude.{slice_get, option_and_then}
+use Rattle.wrp_trace.specs.Site.{site_in}
 use Rattle.wrp_base.specs.declared.network.LinkCfg.{LinkCfg}
 use Rattle.wrp_base.specs.Network.{IsTree, link_above, node_count}
 use Rattle.wrp_base.proofs.Lists.{has_item}
@@ -16,7 +17,6 @@ use Rattle.wrp_world.specs.New.{law_at, setting_of}
 use Rattle.wrp_world.specs.StandsFor.{IsValid, StandsFor, WorldOf}
 use Rattle.wrp_world.specs.WorldAt.{new_world}
 use Rattle.wrp_run.specs.declared.audit.AuditedNetwork.{AuditedNetwork}
-use Rattle.wrp_run.specs.Audited.{node_in}
 use Rattle.wrp_run.specs.AuditStands.{CanAudit, HasAudited, HasLawOf, setting_in}
 use Rattle.wrp_run.specs.DownLaw.{AnswersBy, greatest_over, least_over}
 use Rattle.wrp_run.specs.DownLaw as down
@@ -71,7 +71,7 @@ laws_are {F} {post = post} net laws world fit has counted n node is =
     let counts = fit.count in
     let item = has_item laws n (omega (arith, within, counted, counts)) in
     let law : law_in node.control ≡ item.0 = has n node is ∙ ap (option_and_then (λ law. law)) item.1 in
-    subst (λ (o : Option (LawOf F)). IfSome o (AnswersBy post (down.law_at (node_in (setting_in net) n)))) (sym law) (fit.each n item.0 item.1).is.answers
+    subst (λ (o : Option (LawOf F)). IfSome o (AnswersBy post (down.law_at (site_in (setting_in net) n)))) (sym law) (fit.each n item.0 item.1).is.answers
 
 -- Before the first record
 

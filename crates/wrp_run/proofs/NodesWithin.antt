@@ -8,7 +8,7 @@ use Rattle.wrp_base.specs.declared.message.Body.{Body}
 use Rattle.wrp_base.specs.declared.message.Body.TheVariants as bodies
 use Rattle.wrp_base.specs.declared.message.PtpMsg.{PtpMsg}
 use Rattle.wrp_base.specs.declared.network.LinkCfg.{LinkCfg}
-use Rattle.wrp_base.specs.Network.{End, IsTree, node_count}
+use Rattle.wrp_base.specs.Network.{End, IsTree, node_count, other_of}
 use Rattle.wrp_frame.specs.declared.fault.FrameFault.{FrameFault}
 use Rattle.wrp_node.specs.NodeAt.{numbers_of}
 use Rattle.wrp_world.specs.declared.event.Event.{Event}
@@ -18,7 +18,7 @@ use Rattle.wrp_world.specs.declared.place.Place.{Place}
 use Rattle.wrp_world.specs.EventAt.{IsEventOf}
 use Rattle.wrp_world.specs.Given.{Given, NodeStepAt, at_ports, comes_at, comes_from, delivered, delivered_by, given_by, gives, goes_at, goes_from, if_carried, sent_oldest, steps_of, told_sending}
 use Rattle.wrp_world.specs.Moved.{moved, waiting_at}
-use Rattle.wrp_world.specs.Setting.{Setting, end_at, end_of, link_of, other_of, place_of}
+use Rattle.wrp_world.specs.Setting.{Setting, end_at, end_of, link_of, place_of}
 use Rattle.wrp_world.specs.StandsFor.{StandsFor, WorldOf}
 use Rattle.wrp_world.specs.Step.{Stepped, step_seen}
 use Rattle.wrp_world.specs.WorldAt.{Arrival, FrameAt, Sending, WorldAt, has_carrier}

@@ -2,12 +2,12 @@
 use Rattle.std.proofs.Common.{◌≡◌, ◌∙◌, refl, ap, ap₂, sym, ℕ, ℤ, if◌then◌else◌, Result, Ok, Err, List, [], ◌∷◌, ◌++◌, ◌+◌, length, map, reverse}
 use Rattle.std.proofs.lemmas.List.{map-append, reverse-append, reverse-reverse}
 use Rattle.wrp_base.specs.declared.fault.TraceFault.{TraceFault}
+use Rattle.wrp_base.specs.Network.{name_at}
 use Rattle.wrp_node.specs.declared.interface.Input.{Input}
 use Rattle.wrp_node.specs.declared.interface.Output.{Output}
 use Rattle.wrp_node.specs.NodeAt.{Taken, NodeAt}
 use Rattle.wrp_node.specs.NodeRun.{NodeRun, node_after}
 use Rattle.wrp_node.specs.OneRun.{SameInputs, OneRun, OneNode, IsRun, answers_by}
-use Rattle.wrp_lines.specs.Words.{name_at}
 use Rattle.wrp_trace.specs.Inputs.{read_of}
 use Rattle.wrp_trace.specs.Site.{Site, has_port}
 use Rattle.wrp_run.specs.declared.machine.Refusal.{Refusal}

@@ -1,6 +1,7 @@
 -- The same events make the same world, but for answers of the law that nobody asked for; its nodes make the same steps,
 -- and the same premise is the first that an event breaks.
 use Rattle.std.proofs.Common.{◌≡◌, ◌∙◌, refl, ap, ap₂, sym, subst, ℕ, ℤ, Bool, true, false, ◌==◌, if◌then◌else◌, List, [], ◌∷◌, ◌++◌, flat_map, map, is_some, Result, arith}
+use Rattle.wrp_trace.specs.Site.{site_in}
 use Rattle.wrp_base.specs.declared.link.ServoState.TheVariants.{Uninit}
 use Rattle.wrp_base.specs.declared.message.PtpMsg.{PtpMsg}
 use Rattle.wrp_base.proofs.Naturals.{eq_self}
@@ -23,7 +24,7 @@ use Rattle.wrp_world.specs.Premises.{checks_of, rate_kept, tick_late, fibre_rate
 use Rattle.wrp_world.specs.Run.{AllSaid, Happened, IsAnswered, IsSaid, world_after, steps_at}
 use Rattle.wrp_world.specs.Setting.{Setting, fixed_of, nodes_of, links_of}
 use Rattle.wrp_world.specs.WorldAt.{WorldAt}
-use Rattle.wrp_run.specs.Audited.{answers_in, node_in}
+use Rattle.wrp_run.specs.Audited.{answers_in}
 use Rattle.wrp_run.specs.DownLaw.{law_at}
 
 -- Two worlds that differ in what their servos were told of answers, and in what is noted of inputs, alone
@@ -39,7 +40,7 @@ pub record Alike (s : Setting) (v w : WorldAt) : Type 0 where
 
 -- the law of the link above a node
 abbrev law_of : Setting → ℕ → ℤ → ℤ
-law_of s n = law_at (node_in s n)
+law_of s n = law_at (site_in s n)
 
 -- each measurement of a node has the law's answer
 abbrev AnsweredAt : Setting → WorldAt → ℕ → Type 0

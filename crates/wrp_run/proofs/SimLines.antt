@@ -7,11 +7,10 @@ use Rattle.std.specs.Int.{w128}
 use Rattle.std.proofs.lemmas.List.{map-append, take_all, take_more}
 use Rattle.std.proofs.lemmas.Option.{slice_get-get_or}
 use Rattle.std.specs.List.{AllByRecursion}
-use Rattle.wrp_base.specs.Network.{node_count}
+use Rattle.wrp_base.specs.Network.{name_at, node_count}
 use Rattle.wrp_base.specs.declared.configuration.NetCfg.{NetCfg}
 use Rattle.wrp_bounds.specs.Bounds.{path_of}
 use Rattle.wrp_config.specs.Accepted.{greatest}
-use Rattle.wrp_lines.specs.Words.{name_at}
 use Rattle.wrp_node.specs.NodeAt.{Fixed, NodeAt, Taken, state_of}
 use Rattle.wrp_node.specs.NodeRun.{node_after}
 use Rattle.wrp_node.specs.StandsFor.{NodeOf, StandsFor as NodeStandsFor}

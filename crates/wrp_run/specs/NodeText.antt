@@ -2,10 +2,10 @@
 -- (this project's profile).
 use Rattle.std.specs.Prelude.{◌≡◌, ◌==◌, ℕ, if◌then◌else◌, None, List, [], ◌∷◌, ◌++◌}
 use Rattle.std.specs.List.{flat_map}
+use Rattle.wrp_base.specs.Network.{name_at}
 use Rattle.wrp_data.specs.Counters.{count_at}
 use Rattle.wrp_data.specs.Reason.{number_of, reasons}
 use Rattle.wrp_lines.specs.Lines.{output_line, count_line_of}
-use Rattle.wrp_lines.specs.Words.{name_at}
 use Rattle.wrp_node.specs.declared.interface.Output.{Output}
 use Rattle.wrp_node.specs.NodeAt.{Taken, NodeAt}
 use Rattle.wrp_node.specs.NodeRun.{NodeRun, node_after}

@@ -4,10 +4,9 @@
 use Rattle.std.specs.Prelude.{◌≡◌, ◌<◌, ◌≤◌, ℕ, ℤ, pos, unsigned_abs, true, List, [], ◌∷◌, codes}
 use Rattle.std.specs.Fmt.{signed_decimal}
 use Rattle.std.specs.List.{AllByRecursion}
-use Rattle.wrp_base.specs.Network.{node_count}
+use Rattle.wrp_base.specs.Network.{name_at, node_count}
 use Rattle.wrp_bounds.specs.Bounds.{path_of}
 use Rattle.wrp_lines.specs.Lines.{line_of}
-use Rattle.wrp_lines.specs.Words.{name_at}
 use Rattle.wrp_tracking.specs.Tree.{IsBounded}
 use Rattle.wrp_truth.specs.Bounds.{IsTrueReport, IsTrueStep}
 use Rattle.wrp_truth.specs.Views.{offsets_at}

@@ -1,12 +1,12 @@
 //! The audit of a network: its world, stepped by the events that lines say.
 ghost use Rattle.std.specs.Prelude.{◌≡◌, ◌<◌, ◌≤◌, ◌+◌, ◌++◌, ◌∷◌, [], ◌^◌, ℕ, List, IfOk, IfSome, length, map, pos};
 ghost use Rattle.std.specs.List.{AllByRecursion, flat_map};
-ghost use Rattle.wrp_base.specs.Network.{HasRanges, IsTree, node_count};
+ghost use Rattle.wrp_base.specs.Network.{HasRanges, IsTree, name_at, node_count};
 ghost use Rattle.wrp_bounds.specs.Bounds.{path_of};
 ghost use Rattle.wrp_config.specs.Accepted.{IsAccepted};
 ghost use Rattle.wrp_lines.specs.Lines.{output_line_of};
-ghost use Rattle.wrp_lines.specs.Words.{name_at};
 ghost use Rattle.wrp_trace.specs.Events.{event_read, plain, told};
+ghost use Rattle.wrp_trace.specs.Site.{site_in};
 ghost use Rattle.wrp_fields.specs.Reading.{IsReading};
 ghost use Rattle.wrp_world.specs.declared.outcome.NodeOut.{NodeOut};
 ghost use Rattle.wrp_world.specs.EventAt.{IsEventOf};
@@ -16,7 +16,6 @@ ghost use Rattle.wrp_world.specs.Step.{step_seen};
 ghost use Rattle.wrp_world.specs.WorldAt.{WorldAt};
 ghost use Rattle.wrp_run.specs.declared.machine.Refusal.{Refusal};
 ghost use Rattle.wrp_run.specs.declared.machine.Taken.{Taken};
-ghost use Rattle.wrp_run.specs.Audited.{node_in};
 ghost use Rattle.wrp_run.specs.AuditStands.{CanAudit, Happens, HasAudited, TellsFault, line_by, setting_in, task_of};
 ghost use Rattle.wrp_run.specs.AuditText.{given_line, step_lines};
 ghost use Rattle.wrp_run.specs.LawsFit.{LawsFit};

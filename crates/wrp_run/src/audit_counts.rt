@@ -1,11 +1,10 @@
 //! The lines that close an audit: the counters of all nodes that are not 0, by node, port and reason.
 ghost use Rattle.std.specs.Prelude.{◌≡◌, ◌<◌, ◌++◌, IfOk};
-ghost use Rattle.wrp_base.specs.Network.{node_count};
-ghost use Rattle.wrp_lines.specs.Words.{name_at};
+ghost use Rattle.wrp_trace.specs.Site.{site_in};
+ghost use Rattle.wrp_base.specs.Network.{name_at, node_count};
 ghost use Rattle.wrp_world.specs.Setting.{Setting};
 ghost use Rattle.wrp_world.specs.StandsFor.{IsValid, StandsFor};
 ghost use Rattle.wrp_world.specs.WorldAt.{WorldAt};
-ghost use Rattle.wrp_run.specs.Audited.{node_in};
 ghost use Rattle.wrp_run.specs.AuditText.{all_counts};
 ghost use Rattle.wrp_run.specs.NodeText.{node_counts};
 ghost use Rattle.wrp_run.specs.StandsFor.{site_at};
@@ -36,7 +35,7 @@ fn append_node<F: Fn(i64) -> i64>(
     requires valid { IsValid F.pre F.post world.now }
     requires node { node < node_count world.now.plant.net.cfg }
     ensures { IfOk result (λ _. (s : Setting) (w : WorldAt) → StandsFor F.post s w world.now
-        → text.new.items ≡ text.old.items ++ node_counts (node_in s node) (w.node node)) }
+        → text.new.items ≡ text.old.items ++ node_counts (site_in s node) (w.node node)) }
 {
     let replayed = Replayed {
         net: world.net(),

@@ -1,11 +1,10 @@
 //! The replay of one node's recorded inputs.
 ghost use Rattle.std.specs.Prelude.{pos, ◌≡◌, ◌<◌, ◌≤◌, ◌+◌, ◌++◌, ◌∷◌, [], ◌^◌, ℕ, List, None, IfOk, OnOk, length};
 ghost use Rattle.std.specs.List.{flat_map};
-ghost use Rattle.wrp_base.specs.Network.{node_count};
+ghost use Rattle.wrp_base.specs.Network.{name_at, node_count};
 ghost use Rattle.wrp_bounds.specs.Bounds.{path_of};
 ghost use Rattle.wrp_config.specs.Accepted.{IsAccepted};
 ghost use Rattle.wrp_lines.specs.Lines.{output_line_of};
-ghost use Rattle.wrp_lines.specs.Words.{name_at};
 ghost use Rattle.wrp_node.specs.NodeAt.{Taken as TakenInput};
 ghost use Rattle.wrp_node.specs.StandsFor.{StandsFor};
 ghost use Rattle.wrp_trace.specs.InputAt.{IsInputAt};

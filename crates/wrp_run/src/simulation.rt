@@ -1,10 +1,9 @@
 //! A network that is simulated: its world, and what makes its events.
 ghost use Rattle.std.specs.Prelude.{◌≡◌, ◌<◌, ◌+◌, ◌++◌, [], ℕ, ℤ, List, IfOk, OnOk, length, map, pos};
 ghost use Rattle.std.specs.List.{flat_map};
-ghost use Rattle.wrp_base.specs.Network.{HasRanges, IsTree, node_count};
+ghost use Rattle.wrp_base.specs.Network.{HasRanges, IsTree, name_at, node_count};
 ghost use Rattle.wrp_bounds.specs.Bounds.{path_of};
 ghost use Rattle.wrp_config.specs.Accepted.{IsAccepted};
-ghost use Rattle.wrp_lines.specs.Words.{name_at};
 ghost use Rattle.wrp_sim.specs.Scenario.{IsSceneOf};
 ghost use Rattle.wrp_sim.specs.Sim.{FitsSim, SimIs};
 ghost use Rattle.wrp_sim.specs.SimAt.{new_sim};

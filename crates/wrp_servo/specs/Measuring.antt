@@ -6,7 +6,7 @@ use Rattle.wrp_base.specs.declared.link.Deltas.{Deltas}
 use Rattle.wrp_base.specs.declared.link.ServoState.{ServoState}
 use Rattle.wrp_base.specs.declared.link.ServoState.TheVariants.{SyncTai, SyncNsec, SyncPhase, WaitStable, Track}
 use Rattle.wrp_base.specs.declared.measurement.Four.{Four}
-use Rattle.wrp_base.specs.Clock.{period_of, periods_per_second}
+use Rattle.wrp_base.specs.Clock.{period_of, periods_per_second, second}
 use Rattle.wrp_base.specs.Division.{floor_quotient, trunc_quotient}
 use Rattle.wrp_base.specs.Held.{held_within}
 use Rattle.wrp_servo.specs.declared.machine.Measurement.{Measurement}
@@ -25,10 +25,6 @@ x_of d f = mm_of f -ℤ (((pos d.txm +ℤ pos d.rxs) +ℤ pos d.txs) +ℤ pos d.
 -- the delay down, with the law's answer
 abbrev pub delay_of : Deltas → ℤ → ℤ
 delay_of d y = (pos d.txm +ℤ pos d.rxs) +ℤ y
-
--- one second, in tau
-abbrev pub second : ℤ
-second = pos 65_536_000_000_000_000
 
 -- half a period, in tau
 abbrev pub half_period : Clock → ℤ

@@ -2,9 +2,9 @@
 ghost use Rattle.std.specs.Prelude.{◌≡◌, ℕ, ℤ, pos, Option, Some, ◌^◌, ◌<◌, ◌≤◌, ◌-◌, ◌-ℤ◌, ◌+ℤ◌, ◌≤ℤ◌, unsigned_abs, IfSome, nat_le};
 ghost use Rattle.wrp_servo.specs.Following.{e_tau};
 ghost use Rattle.wrp_servo.specs.Sampling.{est_of, residual, is_within};
-ghost use Rattle.wrp_servo.specs.Measuring.{mm_of, x_of, delay_of, second, second_cycles, period_cycles, aimed, is_half, by_period, by_residual, settled, placed_in, placed, may_track, cycles_in, step_by_period, is_below_second, held_cycles, deltas_in_chain, stepped, half_period};
+ghost use Rattle.wrp_servo.specs.Measuring.{mm_of, x_of, delay_of, second_cycles, period_cycles, aimed, is_half, by_period, by_residual, settled, placed_in, placed, may_track, cycles_in, step_by_period, is_below_second, held_cycles, deltas_in_chain, stepped, half_period};
 ghost use Rattle.wrp_base.specs.Division.{floor_quotient, trunc_quotient};
-ghost use Rattle.wrp_base.specs.Clock.{period_of};
+ghost use Rattle.wrp_base.specs.Clock.{period_of, second};
 ghost use Rattle.wrp_base.specs.declared.link.ServoState.TheVariants.{SyncTai, WaitStable};
 ghost use Rattle.wrp_servo.specs.Sizes.{IsSized, FitsFour, HasRoom, FitsTimes};
 

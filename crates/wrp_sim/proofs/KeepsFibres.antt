@@ -9,14 +9,14 @@ use Rattle.wrp_base.specs.declared.link.Module.{Module}
 use Rattle.wrp_base.specs.declared.link.Role.{Role}
 use Rattle.wrp_base.specs.declared.link.Role.TheVariants.{Master, Slave}
 use Rattle.wrp_base.specs.declared.network.LinkCfg.{LinkCfg}
-use Rattle.wrp_base.specs.Network.{HasLinkRanges}
+use Rattle.wrp_base.specs.Network.{HasLinkRanges, other_of}
 use Rattle.wrp_bounds.specs.Times.{reach}
 use Rattle.wrp_caldb.specs.Database.{module_at}
 use Rattle.wrp_world.specs.declared.fibres.FibreState.{FibreState}
 use Rattle.wrp_world.specs.Checks.{AllHold, only_where}
 use Rattle.wrp_world.specs.Premises.{asymmetry, fibre_checks, fibre_kept, transition_of}
 use Rattle.wrp_world.specs.Runs.{IsNetwork}
-use Rattle.wrp_world.specs.Setting.{Setting, link_of, other_of, sends_nm}
+use Rattle.wrp_world.specs.Setting.{Setting, link_of, sends_nm}
 use Rattle.wrp_world.specs.WorldAt.{WorldAt, delay_from, first_name}
 use Rattle.wrp_world.proofs.TriedModules.{module_has}
 use Rattle.wrp_sim.specs.Rules.{first_entry}

@@ -12,7 +12,7 @@ use Rattle.wrp_base.specs.declared.link.Role.TheVariants.{Master, Slave}
 use Rattle.wrp_base.specs.declared.network.LinkCfg.{LinkCfg}
 use Rattle.wrp_base.specs.declared.time.Raw.{Raw}
 use Rattle.wrp_base.proofs.Naturals.{eq_self, nat_le_self}
-use Rattle.wrp_base.specs.Network.{End, node_count}
+use Rattle.wrp_base.specs.Network.{End, node_count, other_of}
 use Rattle.wrp_base.proofs.Booleans.{not_both}
 use Rattle.wrp_bounds.specs.Times.{frame_life, reach}
 use Rattle.wrp_world.specs.EventAt.{IsRaw}
@@ -22,7 +22,7 @@ use Rattle.wrp_world.specs.Checks.{AllHold, stands}
 use Rattle.wrp_world.specs.Moved.{arrived, arriving, moved, waiting_at}
 use Rattle.wrp_world.specs.Premises.{arrive_checks, deliver_by, deliver_checks, depart_checks, received, received_at, transition_of}
 use Rattle.wrp_world.specs.RunLaws.{HasTimes}
-use Rattle.wrp_world.specs.Setting.{Setting, end_at, end_of, entry_at, from_on, nodes_of, of_node, other_of, place_of}
+use Rattle.wrp_world.specs.Setting.{Setting, end_at, end_of, entry_at, from_on, nodes_of, of_node, place_of}
 use Rattle.wrp_world.specs.Views.{IsNextArrival, oldest_of, waiting_of}
 use Rattle.wrp_world.specs.WorldAt.{Arrival, FrameAt, Sending, WorldAt, has_carrier, is_on_fibre, reading}
 use Rattle.wrp_world.proofs.RunNetwork.{LinkEnd, link_end}

@@ -7,6 +7,7 @@ use Rattle.wrp_base.specs.declared.link.Role.TheVariants.{Master, Slave}
 use Rattle.wrp_base.specs.declared.message.PtpMsg.{PtpMsg}
 use Rattle.wrp_base.specs.declared.time.Raw.{Raw}
 use Rattle.wrp_base.specs.declared.time.Stamp.{Stamp}
+use Rattle.wrp_base.specs.Message.{is_port}
 use Rattle.wrp_data.specs.declared.reason.Reason.{Reason}
 use Rattle.wrp_data.specs.declared.reason.Reason.TheVariants.{Domain, Stranger, NotForUs, Quiet}
 use Rattle.wrp_frame.specs.declared.fault.FrameFault.{FrameFault}
@@ -22,7 +23,7 @@ use Rattle.wrp_node.proofs.Links.{before_ports}
 use Rattle.wrp_port.specs.declared.interface.PortIn.TheVariants.{Msg, Sent as PortSent}
 use Rattle.wrp_port.specs.declared.line.Line.{Line}
 use Rattle.wrp_port.specs.declared.setting.Setting.{Setting}
-use Rattle.wrp_port.specs.Hearing.{early_reason, is_addressed, is_open, is_open_word, is_port}
+use Rattle.wrp_port.specs.Hearing.{early_reason, is_addressed, is_open, is_open_word}
 use Rattle.wrp_port.specs.LineAfter.{ticked}
 use Rattle.wrp_port.specs.Messages.{announce_of, follow_up_of, request_of, signals_of, sync_of}
 use Rattle.wrp_port.specs.Outputs.{is_newest, scheduled_sends, sends_of, sends_unless, where_due}

@@ -9,7 +9,7 @@ use Rattle.wrp_base.specs.declared.message.Body.{Body}
 use Rattle.wrp_base.specs.declared.message.Body.TheVariants.{Sync, DelayReq, FollowUp, DelayResp, Announce, Signal}
 use Rattle.wrp_base.specs.declared.message.PtpMsg.{PtpMsg}
 use Rattle.wrp_base.specs.declared.network.LinkCfg.{LinkCfg}
-use Rattle.wrp_base.specs.Network.{End}
+use Rattle.wrp_base.specs.Network.{End, other_of}
 use Rattle.wrp_frame.specs.declared.fault.FrameFault.{FrameFault}
 use Rattle.wrp_node.specs.declared.interface.Input.TheVariants.{Frame, Reset, Sample as SampleInput, Tick as TickInput}
 use Rattle.wrp_node.specs.NodeAt.{link_at}
@@ -22,7 +22,7 @@ use Rattle.wrp_world.specs.declared.fibres.FibreState.{FibreState}
 use Rattle.wrp_world.proofs.RunFrames.{with_swap_waiting}
 use Rattle.wrp_world.specs.Given.{Given, at_ports, comes_from, delivered, delivered_by, delivered_to, end_given, given, given_by, given_plain, gives, gives_all, goes_from, sending, sent_oldest, step_of, taken_of, told_sending, world_step}
 use Rattle.wrp_world.specs.Moved.{behind_first, end_after, is_place, moved, port_number, swap_at, touches, waiting_at, with_swap}
-use Rattle.wrp_world.specs.Setting.{Setting, end_at, end_of, fixed_of, is_of, link_of, other_of, place_of}
+use Rattle.wrp_world.specs.Setting.{Setting, end_at, end_of, fixed_of, is_of, link_of, place_of}
 use Rattle.wrp_world.specs.WorldAt.{Arrival, EndAt, FrameAt, Sending, WorldAt, ends_are_up, has_carrier}
 use Rattle.wrp_world.proofs.RunChanges.{cut_carrier, and_less, less_dark, still_up}
 use Rattle.wrp_world.proofs.RunGifts.{AllGiven, all_if, comes_all, goes_all, ports_all}

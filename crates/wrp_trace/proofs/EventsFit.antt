@@ -15,6 +15,7 @@ use Rattle.wrp_base.specs.declared.network.LinkCfg.{LinkCfg}
 use Rattle.wrp_base.specs.declared.network.NodeCfg.{NodeCfg}
 use Rattle.wrp_caldb.specs.Name.{is_name, same_name}
 use Rattle.wrp_config.specs.Names.{link_named, node_named}
+use Rattle.wrp_config.specs.Config.{bare}
 use Rattle.wrp_world.specs.declared.event.Event.{Event}
 use Rattle.wrp_world.specs.declared.event.Event.TheVariants as events
 use Rattle.wrp_world.specs.declared.event.Swap.{Swap}
@@ -32,7 +33,7 @@ use Rattle.wrp_trace.specs.EventKinds.{kind_of, may_have}
 use Rattle.wrp_trace.specs.Events.{EventsCanCome, arrive_of, counted_of, cut_of, deliver_of, depart_of, down_of, event_of, fields_of_kind, join_of, noise_of, pass_of, pass_with, sample_of, tick_of, up_of}
 use Rattle.wrp_trace.specs.Fields.{bits_at, counter_at, long_at, octets_at, raw_from, short_at, step_at, time_at}
 use Rattle.wrp_trace.specs.Times.{time_of}
-use Rattle.wrp_trace.specs.Swaps.{module_name, new_port, own_port, plain_name, swap_at_port, swap_said, swaps_said, true_delay}
+use Rattle.wrp_trace.specs.Swaps.{module_name, new_port, own_port, swap_at_port, swap_said, swaps_said, true_delay}
 use Rattle.wrp_trace.proofs.ChangeLemmas.{drift_fits, move_fits, nothing_is_said}
 use Rattle.wrp_trace.proofs.PassLemmas.{passes}
 use Rattle.wrp_trace.proofs.SwapLemmas.{more_swaps}
@@ -207,7 +208,7 @@ delay_is place text n e = (natural_range 0 1_000_000_000_000 text n (found (Numb
 
 swap_at_is : (place port : ℕ) (text : List ℕ) (swap : Swap) → port ≤ 65_535 → swap_at_port place port text ≡ Ok swap → IsSwap swap × (port ≡ swap.port)
 swap_at_is place port text swap small e =
-    let made : List ℕ → ℕ → ℕ → Swap = λ name tx rx. record { port = port; name = plain_name name; tx = tx; rx = rx } in
+    let made : List ℕ → ℕ → ℕ → Swap = λ name tx rx. record { port = port; name = bare name; tx = tx; rx = rx } in
     let a = both (module_name place (before 58 text)) (λ name. true_delay place (before 58 (behind 58 text)) >>= (λ tx. true_delay place (behind 58 (behind 58 text)) >>= (λ rx. Ok (made name tx rx)))) swap e in
     let b = both (true_delay place (before 58 (behind 58 text))) (λ tx. true_delay place (behind 58 (behind 58 text)) >>= (λ rx. Ok (made a.first tx rx))) swap a.rest in
     let d = both (true_delay place (behind 58 (behind 58 text))) (λ rx. Ok (made a.first b.first rx)) swap b.rest in

@@ -14,7 +14,7 @@ use Rattle.wrp_base.specs.declared.configuration.NetCfg.{NetCfg}
 use Rattle.wrp_base.specs.declared.network.LinkCfg.{LinkCfg}
 use Rattle.wrp_base.specs.declared.network.NodeCfg.{NodeCfg}
 use Rattle.wrp_base.specs.declared.time.Raw.{Raw}
-use Rattle.wrp_base.specs.Network.{IsFromTo, node_count}
+use Rattle.wrp_base.specs.Network.{IsFromTo, name_at, node_count}
 use Rattle.wrp_base.proofs.Lists.{has_item}
 use Rattle.wrp_config.specs.Accepted.{HasNames}
 use Rattle.wrp_config.specs.Names.{node_named, link_named}
@@ -24,7 +24,7 @@ use Rattle.wrp_world.specs.declared.event.Swap.{Swap}
 use Rattle.wrp_trace.specs.Changes.{SaidAt, nothing_said, changes_said}
 use Rattle.wrp_names.specs.Fields.{node_at, link_at}
 use Rattle.wrp_trace.specs.EventFields.{span_at, delay_at, offset_at}
-use Rattle.wrp_trace.specs.EventPrinting.{node_text, link_text, drift_words, drift_texts, move_words, move_texts, swap_text, pass_texts, event_text}
+use Rattle.wrp_trace.specs.EventPrinting.{link_text, drift_words, drift_texts, move_words, move_texts, swap_text, pass_texts, event_text}
 use Rattle.wrp_trace.specs.Events.{pass_with, pass_of, tick_of, sample_of, depart_of, arrive_of, deliver_of, noise_of, down_of, up_of, cut_of, join_of, event_of, event_read, plain}
 use Rattle.wrp_trace.specs.Fields.{short_at, long_at, step_at, bits_at, octets_at, time_at, raw_from}
 use Rattle.wrp_fields.specs.Numbers.{number_in}
@@ -50,13 +50,13 @@ line_says cfg c cs texts are =
 -- Names
 
 pub record IsNodeText (cfg : NetCfg) (n : ℕ) : Type 0 where
-  pub finds : node_named cfg (node_text cfg n) ≡ Some n
-  pub text : IsText (node_text cfg n)
+  pub finds : node_named cfg (name_at cfg n) ≡ Some n
+  pub text : IsText (name_at cfg n)
 
 node_is : (cfg : NetCfg) → HasNames cfg → (n : ℕ) → n < node_count cfg → IsNodeText cfg n
 node_is cfg names n below =
     let node = has_item cfg.nodes.items n below in
-    let same : node_text cfg n ≡ node.0.name.bytes = ap (λ o. option_map_or (λ m. m.name.bytes) o []) node.1 in
+    let same : name_at cfg n ≡ node.0.name.bytes = ap (λ o. option_map_or (λ m. m.name.bytes) o []) node.1 in
     record {
       finds = ap (node_named cfg) same ∙ node_found cfg names n node.0 node.1;
       text = subst IsText (sym same) (part_text node.0.name.bytes (name_part node.0.name.bytes (names.node n node.0 node.1)));
@@ -77,7 +77,7 @@ link_is cfg names l below =
 
 -- Fields
 
-node_read : (cfg : NetCfg) (place n : ℕ) (fields : List (List ℕ)) → IsNodeText cfg n → field_of place fields ≡ node_text cfg n → node_at cfg place fields ≡ Ok n
+node_read : (cfg : NetCfg) (place n : ℕ) (fields : List (List ℕ)) → IsNodeText cfg n → field_of place fields ≡ name_at cfg n → node_at cfg place fields ≡ Ok n
 node_read cfg place n fields is e = ap (λ text. name_or_fault place (node_named cfg text)) e ∙ ap (name_or_fault place) is.finds
 
 link_read : (cfg : NetCfg) (place l : ℕ) (fields : List (List ℕ)) → IsLinkText cfg l → field_of place fields ≡ link_text cfg l → link_at cfg place fields ≡ Ok l
@@ -185,7 +185,7 @@ tick_read cfg fields n e = rw e refl
 
 tick_back : (cfg : NetCfg) (n : ℕ) → IsNodeText cfg n → event_read cfg (event_text cfg (events.Tick n)) ≡ Ok (events.Tick n)
 tick_back cfg n is =
-    let texts : List (List ℕ) = node_text cfg n ∷ [] in
+    let texts : List (List ℕ) = name_at cfg n ∷ [] in
     line_says cfg 116 (codes "ick") texts (refl, (is.text, tt)) ∙ tick_read cfg (codes "tick" ∷ texts) n (node_read cfg 2 n (codes "tick" ∷ texts) is refl)
 
 down_read : (cfg : NetCfg) (fields : List (List ℕ)) (n : ℕ) → node_at cfg 2 fields ≡ Ok n → down_of cfg fields ≡ Ok (events.Down n)
@@ -193,7 +193,7 @@ down_read cfg fields n e = rw e refl
 
 down_back : (cfg : NetCfg) (n : ℕ) → IsNodeText cfg n → event_read cfg (event_text cfg (events.Down n)) ≡ Ok (events.Down n)
 down_back cfg n is =
-    let texts : List (List ℕ) = node_text cfg n ∷ [] in
+    let texts : List (List ℕ) = name_at cfg n ∷ [] in
     line_says cfg 100 (codes "own") texts (refl, (is.text, tt)) ∙ down_read cfg (codes "down" ∷ texts) n (node_read cfg 2 n (codes "down" ∷ texts) is refl)
 
 cut_read : (cfg : NetCfg) (fields : List (List ℕ)) (l : ℕ) → link_at cfg 2 fields ≡ Ok l → cut_of cfg fields ≡ Ok (events.Cut l)
@@ -223,7 +223,7 @@ sample_read cfg fields n base bits e1 e2 e3 = rw (e1, e2, e3) refl
 sample_back : (cfg : NetCfg) (n base bits : ℕ) → IsNodeText cfg n → base ≤ 16_383 → bits < 2 ^ 64
     → event_read cfg (event_text cfg (events.Sample n base bits)) ≡ Ok (events.Sample n base bits)
 sample_back cfg n base bits is low few =
-    let texts : List (List ℕ) = node_text cfg n ∷ decimal base ∷ bits_text bits ∷ [] in
+    let texts : List (List ℕ) = name_at cfg n ∷ decimal base ∷ bits_text bits ∷ [] in
     let fields : List (List ℕ) = codes "sample" ∷ texts in
     line_says cfg 115 (codes "ample") texts (refl, (is.text, (short_text base (omega (arith, low)), (hex_text (big_bytes 8 bits) (number_octets 8 bits), tt))))
     ∙ sample_read cfg fields n base bits (node_read cfg 2 n fields is refl) (step_read 3 base fields low refl) (bits_read 4 bits fields few refl)
@@ -235,7 +235,7 @@ depart_read cfg fields n port stamp e1 e2 e3 = rw (e1, e2, e3) refl
 depart_back : (cfg : NetCfg) (n port : ℕ) (stamp : ℤ) → IsNodeText cfg n → port < 2 ^ 16 → IsTime stamp
     → event_read cfg (event_text cfg (events.Depart n port stamp)) ≡ Ok (events.Depart n port stamp)
 depart_back cfg n port stamp is small time =
-    let texts : List (List ℕ) = node_text cfg n ∷ decimal port ∷ signed_decimal stamp ∷ [] in
+    let texts : List (List ℕ) = name_at cfg n ∷ decimal port ∷ signed_decimal stamp ∷ [] in
     let fields : List (List ℕ) = codes "depart" ∷ texts in
     line_says cfg 100 (codes "epart") texts (refl, (is.text, (short_text port (omega (arith, small)), (signed_text stamp (omega (arith, time.greatest)), tt))))
     ∙ depart_read cfg fields n port stamp (node_read cfg 2 n fields is refl) (short_read 3 port fields small refl) (time_read 4 stamp fields time refl)
@@ -270,7 +270,7 @@ noise_read cfg fields n port octets raw e1 e2 e3 e4 = rw (e1, e2, e3, e4) refl
 noise_back : (cfg : NetCfg) (n port : ℕ) (octets : ArrayVec ℕ) (raw : Raw) → IsNodeText cfg n → port < 2 ^ 16 → IsBytes octets.items → length octets.items ≤ 256 → IsRaw raw
     → event_read cfg (event_text cfg (events.Noise n port octets raw)) ≡ Ok (events.Noise n port octets raw)
 noise_back cfg n port octets raw named small fit few is =
-    let texts : List (List ℕ) = node_text cfg n ∷ decimal port ∷ encode_lower octets.items ∷ decimal raw.rising ∷ decimal raw.falling ∷ decimal raw.tag ∷ [] in
+    let texts : List (List ℕ) = name_at cfg n ∷ decimal port ∷ encode_lower octets.items ∷ decimal raw.rising ∷ decimal raw.falling ∷ decimal raw.tag ∷ [] in
     let fields : List (List ℕ) = codes "noise" ∷ texts in
     line_says cfg 110 (codes "oise") texts
     (refl, (named.text, (short_text port (omega (arith, small)), (hex_text octets.items fit, (short_text raw.rising (omega (arith, is.rising.1)), (short_text raw.falling (omega (arith, is.falling.1)), (short_text raw.tag (omega (arith, is.tag)), tt)))))))
@@ -283,9 +283,9 @@ up_read : (cfg : NetCfg) (fields : List (List ℕ)) (n : ℕ) (off : ℤ) (swaps
 up_read cfg fields n off swaps e1 e2 e3 = rw (e1, e2, e3) refl
 
 up_says : (cfg : NetCfg) (n : ℕ) (off : ℤ) (swaps : ArrayVec Swap) → IsNodeText cfg n → unsigned_abs off ≤ 2 ^ 90 → AreSwaps swaps.items → length swaps.items ≤ 18
-    → event_of cfg (codes "up" ∷ node_text cfg n ∷ signed_decimal off ∷ map swap_text swaps.items) ≡ Ok (plain (events.Up n off swaps))
+    → event_of cfg (codes "up" ∷ name_at cfg n ∷ signed_decimal off ∷ map swap_text swaps.items) ≡ Ok (plain (events.Up n off swaps))
 up_says cfg n off swaps named near are few =
-    let fields : List (List ℕ) = codes "up" ∷ node_text cfg n ∷ signed_decimal off ∷ map swap_text swaps.items in
+    let fields : List (List ℕ) = codes "up" ∷ name_at cfg n ∷ signed_decimal off ∷ map swap_text swaps.items in
     let size : length (map swap_text swaps.items) ≤ 18 = omega (arith, length-map swaps.items swap_text, few) in
     rw (le-leb 3 (length fields) (omega arith), le-leb (length fields) 21 (omega (arith, size)))
     (up_read cfg fields n off (map plain_swap swaps.items) (node_read cfg 2 n fields named refl) (offset_read 3 off fields near refl)
@@ -294,7 +294,7 @@ up_says cfg n off swaps named near are few =
 up_back : (cfg : NetCfg) (n : ℕ) (off : ℤ) (swaps : ArrayVec Swap) → IsNodeText cfg n → unsigned_abs off ≤ 2 ^ 90 → AreSwaps swaps.items → length swaps.items ≤ 18
     → event_read cfg (event_text cfg (events.Up n off swaps)) ≡ Ok (plain (events.Up n off swaps))
 up_back cfg n off swaps named near are few =
-    line_says cfg 117 (codes "p") (node_text cfg n ∷ signed_decimal off ∷ map swap_text swaps.items)
+    line_says cfg 117 (codes "p") (name_at cfg n ∷ signed_decimal off ∷ map swap_text swaps.items)
     (refl, (named.text, (signed_text off (omega (arith, near)), swap_texts_are swaps.items are.each)))
     ∙ up_says cfg n off swaps named near are few
 

@@ -9,14 +9,11 @@ use Rattle.wrp_base.specs.declared.configuration.NetCfg.{NetCfg}
 use Rattle.wrp_base.specs.declared.network.LinkCfg.{LinkCfg}
 use Rattle.wrp_base.specs.declared.network.NodeCfg.{NodeCfg}
 use Rattle.wrp_base.specs.declared.time.Raw.{Raw}
+use Rattle.wrp_base.specs.Network.{name_at}
 use Rattle.wrp_world.specs.declared.event.Event.{Event}
 use Rattle.wrp_world.specs.declared.event.Event.TheVariants.{Pass, Tick, Sample, Depart, Arrive, Deliver, Noise, Down, Up, Cut, Join}
 use Rattle.wrp_world.specs.declared.event.Swap.{Swap}
 use Rattle.wrp_trace.specs.Printing.{bits_text, joined}
-
--- the name of a node
-abbrev pub node_text : NetCfg → ℕ → List ℕ
-node_text cfg n = option_map_or (λ node. node.name.bytes) (slice_get cfg.nodes.items n) []
 
 -- the name of a link
 abbrev pub link_text : NetCfg → ℕ → List ℕ
@@ -72,18 +69,18 @@ raw_texts raw = decimal raw.rising ∷ decimal raw.falling ∷ decimal raw.tag �
 -- the fields of an event's line
 abbrev pub event_texts : NetCfg → Event → List (List ℕ)
 event_texts cfg (Pass dt drifts fibres) = pass_texts cfg dt drifts.items fibres.items
-event_texts cfg (Tick node) = codes "tick" ∷ node_text cfg node ∷ []
+event_texts cfg (Tick node) = codes "tick" ∷ name_at cfg node ∷ []
 event_texts cfg (Sample node base bits) =
-    codes "sample" ∷ node_text cfg node ∷ decimal base ∷ bits_text bits ∷ []
+    codes "sample" ∷ name_at cfg node ∷ decimal base ∷ bits_text bits ∷ []
 event_texts cfg (Depart node port stamp) =
-    codes "depart" ∷ node_text cfg node ∷ decimal port ∷ signed_decimal stamp ∷ []
+    codes "depart" ∷ name_at cfg node ∷ decimal port ∷ signed_decimal stamp ∷ []
 event_texts cfg (Arrive frame raw) = codes "arrive" ∷ decimal frame ∷ raw_texts raw
 event_texts cfg (Deliver frame) = codes "deliver" ∷ decimal frame ∷ []
 event_texts cfg (Noise node port octets raw) =
-    codes "noise" ∷ node_text cfg node ∷ decimal port ∷ encode_lower octets.items ∷ raw_texts raw
-event_texts cfg (Down node) = codes "down" ∷ node_text cfg node ∷ []
+    codes "noise" ∷ name_at cfg node ∷ decimal port ∷ encode_lower octets.items ∷ raw_texts raw
+event_texts cfg (Down node) = codes "down" ∷ name_at cfg node ∷ []
 event_texts cfg (Up node off swaps) =
-    codes "up" ∷ node_text cfg node ∷ signed_decimal off ∷ map swap_text swaps.items
+    codes "up" ∷ name_at cfg node ∷ signed_decimal off ∷ map swap_text swaps.items
 event_texts cfg (Cut link) = codes "cut" ∷ link_text cfg link ∷ []
 event_texts cfg (Join link ms sm) =
     codes "join" ∷ link_text cfg link ∷ signed_decimal ms ∷ signed_decimal sm ∷ []

@@ -8,6 +8,7 @@ use Rattle.wrp_caldb.specs.Database.{Database}
 use Rattle.wrp_caldb.specs.Name.{same_name}
 use Rattle.wrp_config.specs.Names.{pair_at, listed_at}
 use Rattle.wrp_config.specs.declared.network.Network.{Network}
+use Rattle.wrp_world.specs.Setting.{Setting}
 
 -- a node of a network, by its place from 0 in file order
 pub record Site : Type 0 where
@@ -18,6 +19,10 @@ pub record Site : Type 0 where
 -- this node of this network
 abbrev pub site_of : Network → ℕ → Site
 site_of net node = record { cfg = net.cfg; db = net.db; node = node }
+
+-- a node of the network of a world's setting
+abbrev pub site_in : Setting → ℕ → Site
+site_in s n = record { cfg = s.cfg; db = s.db; node = n }
 
 -- whether the node gives the time: no link has it as its lower end
 abbrev pub is_grandmaster : Site → Bool

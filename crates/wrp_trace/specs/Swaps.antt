@@ -4,6 +4,7 @@ use Rattle.std.specs.Prelude.{ℕ, ◌+◌, ◌==◌, if◌then◌else◌, None,
 use Rattle.std.specs.List.{list_any}
 use Rattle.arrayvec.specs.ArrayString.{ArrayString}
 use Rattle.arrayvec.specs.ArrayVec.{ArrayVec}
+use Rattle.wrp_config.specs.Config.{bare}
 use Rattle.wrp_base.specs.declared.fault.TraceFault.{TraceFault}
 use Rattle.wrp_caldb.specs.Name.{is_name}
 use Rattle.wrp_world.specs.declared.event.Swap.{Swap}
@@ -11,13 +12,9 @@ use Rattle.wrp_trace.specs.EventFields.{before, behind}
 use Rattle.wrp_fields.specs.Numbers.{natural_in}
 use Rattle.wrp_fields.specs.Reading.{number_or_fault, name_or_fault}
 
--- a name, whose room past its end is no part of it
-abbrev pub plain_name : List ℕ → ArrayString
-plain_name text = record { bytes = text; spare = [] }
-
 -- a swap with its module's name alone
 abbrev pub plain_swap : Swap → Swap
-plain_swap swap = record swap { name = plain_name swap.name.bytes }
+plain_swap swap = record swap { name = bare swap.name.bytes }
 
 -- PORT: one that no swap before has
 abbrev pub own_port : ℕ → List Swap → ℕ → Result ℕ TraceFault
@@ -43,7 +40,7 @@ swap_at_port place port text = do
   name ← module_name place (before 58 text)
   tx ← true_delay place (before 58 (behind 58 text))
   rx ← true_delay place (behind 58 (behind 58 text))
-  Ok (record { port = port; name = plain_name name; tx = tx; rx = rx })
+  Ok (record { port = port; name = bare name; tx = tx; rx = rx })
 
 -- a field, behind these swaps
 abbrev pub swap_said : ℕ → List Swap → List ℕ → Result Swap TraceFault

@@ -10,10 +10,10 @@ use Rattle.wrp_base.specs.declared.time.Clock.{Clock}
 use Rattle.wrp_base.specs.declared.time.Clock.TheVariants.{Mhz125, Mhz62}
 use Rattle.wrp_base.specs.Clock.{period_of}
 use Rattle.wrp_base.specs.Circle.{distance_round}
+use Rattle.wrp_base.specs.Closeness.{IsWithin}
 use Rattle.wrp_phase.specs.Beat.{phase_of}
 use Rattle.wrp_phase.specs.Unwrapping.{brought_round, added_by}
 use Rattle.wrp_phase.proofs.UnwrapLaws.{brought_round-is}
-use Rattle.wrp_tracking.specs.Closeness.{IsWithin}
 use Rattle.wrp_tracking.specs.ChainPhase.{KeepsConstant, ConstantStarts, ConstantKept, ConstantOfAll}
 
 -- what is left of z when whole multiples of p are taken away or added

@@ -2,9 +2,9 @@
 use Rattle.std.proofs.Common.{ℕ, ℤ, pos, ◌+◌, ◌*◌, ◌≤◌, ◌^◌, ◌+ℤ◌, ◌-ℤ◌}
 use Rattle.wrp_base.specs.declared.measurement.Four.{Four}
 use Rattle.wrp_base.specs.declared.link.Deltas.{Deltas}
+use Rattle.wrp_base.specs.Closeness.{IsWithin}
 use Rattle.wrp_bounds.specs.declared.numbers.HopNumbers.{HopNumbers}
 use Rattle.wrp_bounds.specs.Hop.{detector_error, gap_motion, down_error, up_error, age_motion, both_ways_error, scaled_error, estimate_error}
-use Rattle.wrp_tracking.specs.Closeness.{IsWithin}
 use Rattle.wrp_tracking.specs.Moment.{Moment, phase_at, ways_at}
 use Rattle.wrp_tracking.specs.ErrorSum.{sync_sum, ports_sum, law_argument, estimate_of, FibreHolds, FourFacts, EstimateIsNear, HopSum}
 use Rattle.wrp_tracking.proofs.Sums.{two_sides, four_delays, both_ways, law_scaled, estimated, way_down, ways_sum, regrouped, renamed, limited}

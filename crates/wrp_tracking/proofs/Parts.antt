@@ -10,6 +10,7 @@ use Rattle.wrp_base.specs.declared.measurement.Four.{Four}
 use Rattle.wrp_base.specs.declared.link.Deltas.{Deltas}
 use Rattle.wrp_base.specs.declared.link.ServoState.TheVariants.{Track, Holdover}
 use Rattle.wrp_base.specs.Network.{link_above}
+use Rattle.wrp_base.specs.Closeness.{IsWithin}
 use Rattle.wrp_exch.specs.Call.{Call}
 use Rattle.wrp_servo.specs.declared.machine.Core.{Core}
 use Rattle.wrp_servo.specs.declared.machine.Measurement.{Measurement}
@@ -21,7 +22,6 @@ use Rattle.wrp_bounds.specs.Hop.{hop_bound}
 use Rattle.wrp_bounds.specs.Motion.{motion}
 use Rattle.wrp_bounds.specs.Bounds.{numbers_of, hop_of, path_of, held_by, held_motion, holdover_of}
 use Rattle.wrp_bounds.specs.Times.{held_time}
-use Rattle.wrp_tracking.specs.Closeness.{IsWithin}
 use Rattle.wrp_tracking.specs.History.{IsSlow}
 use Rattle.wrp_tracking.specs.Moment.{Moment}
 use Rattle.wrp_tracking.specs.ErrorSum.{TrackFacts, estimate_of}

@@ -2,9 +2,9 @@
 use Rattle.std.proofs.Common.{ℕ, ℤ, ◌+◌, ◌≤◌, ◌-ℤ◌, ◌+ℤ◌, arith}
 use Rattle.std.proofs.lemmas.Int.{ints}
 use Rattle.std.specs.Prelude.{unsigned_abs}
+use Rattle.wrp_base.specs.Closeness.{IsWithin}
 use Rattle.wrp_bounds.specs.declared.numbers.HopNumbers.{HopNumbers}
 use Rattle.wrp_bounds.specs.Hop.{detector_error, gap_motion, reach_motion}
-use Rattle.wrp_tracking.specs.Closeness.{IsWithin}
 use Rattle.wrp_tracking.specs.Moment.{Moment, phase_at, ways_at}
 use Rattle.wrp_tracking.specs.Sides.{KeepsRates, KeepsParentRate, SyncSide, DelaySide}
 use Rattle.wrp_tracking.proofs.Sums.{sync_stamps, sync_side, delay_stamps, delay_side, moved_three, moved_two, moved_one}

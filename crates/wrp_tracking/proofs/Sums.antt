@@ -4,7 +4,7 @@ use Rattle.std.proofs.lemmas.Int.{ints, unsigned_abs-mul}
 use Rattle.std.proofs.Math.Nat.{mul-le-mul_left, mul-le-mul_right}
 use borrow.Author.Differences.{up, down}
 use Rattle.std.specs.Prelude.{unsigned_abs}
-use Rattle.wrp_tracking.specs.Closeness.{IsWithin}
+use Rattle.wrp_base.specs.Closeness.{IsWithin}
 use Rattle.wrp_bounds.specs.Motion.{rounded_up, motion}
 use Rattle.wrp_bounds.proofs.Rounding.{rounded_up-next}
 

@@ -5,6 +5,7 @@ use Rattle.std.specs.Prelude.{true, false, Bool, Option, IfSome, ◌==◌}
 use Rattle.std.specs.List.{AllByRecursion}
 use Rattle.std.specs.Option.{is_some}
 use Rattle.std.proofs.lemmas.Bool.{eqb-true}
+use Rattle.wrp_base.specs.Closeness.{IsWithin}
 use Rattle.wrp_exch.specs.declared.ring.GoodSample.{GoodSample}
 use Rattle.wrp_exch.specs.declared.sync.HeldSync.{HeldSync}
 use Rattle.wrp_exch.specs.Samples.{samples, phase_in, last_samples}
@@ -12,7 +13,6 @@ use Rattle.wrp_exch.specs.SyncHalf.{pending_sync}
 use Rattle.wrp_exch.specs.Chain.{first_sample, phase_since}
 use Rattle.wrp_bounds.specs.declared.numbers.HopNumbers.{HopNumbers}
 use Rattle.wrp_bounds.specs.Hop.{detector_error}
-use Rattle.wrp_tracking.specs.Closeness.{IsWithin}
 use Rattle.wrp_tracking.specs.Moment.{phase_at}
 use Rattle.wrp_tracking.specs.SyncPieces.{Told, Among, HeldTrue, SyncKeeps, FollowUpKeeps, SampleKeepsSync, OthersKeepSync, FewerKeepSync, MoreKeepSync, SampleTells, LatchedTells}
 

@@ -7,12 +7,12 @@ use Rattle.wrp_base.specs.declared.configuration.NetCfg.{NetCfg}
 use Rattle.wrp_base.specs.declared.network.LinkCfg.{LinkCfg}
 use Rattle.wrp_base.specs.declared.link.ServoState.TheVariants.{Track}
 use Rattle.wrp_base.specs.Network.{IsTree, IsLink, HasDepth, link_above, node_count}
+use Rattle.wrp_base.specs.Closeness.{IsWithin}
 use Rattle.wrp_base.proofs.Lists.{found_at}
 use Rattle.wrp_bounds.specs.Bounds.{hop_of, path_of, holdover_of}
 use Rattle.wrp_bounds.specs.Motion.{motion}
 use Rattle.wrp_bounds.proofs.PathLaws.{path-child}
 use Rattle.wrp_bounds.proofs.Rounding.{rounded_up-next}
-use Rattle.wrp_tracking.specs.Closeness.{IsWithin}
 use Rattle.wrp_tracking.specs.Tree.{Offsets, HopsHold, TreeSum, HeldWithin}
 
 -- the upper end of the link above a node is a node

@@ -1,9 +1,9 @@
 -- The worked hop, number by number.
 use Rattle.std.proofs.Common.{◌≡◌, ℕ, ℤ, pos, neg_ℤ, ◌+ℤ◌, ◌-ℤ◌, ◌*ℤ◌, ◌*◌, ◌^◌, ◌≤◌, refl, arith}
 use Rattle.std.proofs.lemmas.Int.{ints}
+use Rattle.wrp_base.specs.Closeness.{IsWithin}
 use Rattle.wrp_bounds.specs.declared.numbers.HopNumbers.{HopNumbers}
 use Rattle.wrp_bounds.specs.Hop.{detector_error, down_error, up_error, age_motion}
-use Rattle.wrp_tracking.specs.Closeness.{IsWithin}
 use Rattle.wrp_tracking.specs.Moment.{Moment, phase_at, ways_at}
 use Rattle.wrp_tracking.specs.Sides.{KeepsRates}
 use Rattle.wrp_tracking.specs.ErrorSum.{sync_sum, delay_sum, numerator_of, law_argument}

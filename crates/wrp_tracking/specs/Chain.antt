@@ -3,10 +3,10 @@
 use Rattle.std.specs.Prelude.{ℕ, ℤ, pos, ◌≡◌, ◌≤◌, ◌+ℤ◌, ◌-ℤ◌, ◌≤ℤ◌, length, List, [], ◌∷◌}
 use Rattle.std.specs.List.{AllByRecursion}
 use Rattle.wrp_base.specs.Circle.{distance_round}
+use Rattle.wrp_base.specs.Closeness.{IsWithin}
 use Rattle.wrp_phase.specs.Beat.{phase_of}
 use Rattle.wrp_bounds.specs.declared.numbers.HopNumbers.{HopNumbers}
 use Rattle.wrp_bounds.specs.Hop.{detector_error, gap_motion, down_error, up_error}
-use Rattle.wrp_tracking.specs.Closeness.{IsWithin}
 use Rattle.wrp_tracking.specs.Moment.{Moment, MovesSlowly, phase_at, ways_at}
 use Rattle.wrp_tracking.specs.History.{Was, EachStep}
 use Rattle.wrp_tracking.specs.ChainPhase.{KeepsConstant, HasPhaseRoom, unwrapped_by}

@@ -4,9 +4,9 @@ use Rattle.std.specs.Prelude.{ℕ, ℤ, pos, ◌≡◌, ◌+◌, ◌*◌, ◌<�
 use Rattle.wrp_base.specs.declared.time.Clock.{Clock}
 use Rattle.wrp_base.specs.Clock.{period_of}
 use Rattle.wrp_base.specs.Circle.{distance_round}
+use Rattle.wrp_base.specs.Closeness.{IsWithin}
 use Rattle.wrp_phase.specs.Beat.{phase_of}
 use Rattle.wrp_phase.specs.Unwrapping.{added_by}
-use Rattle.wrp_tracking.specs.Closeness.{IsWithin}
 
 -- the unwrapped phase u of a sample with this tag keeps the constant: u less the true phase is within e of
 -- it, and round the period u is the tag's phase past it

@@ -3,6 +3,7 @@
 use Rattle.std.specs.Prelude.{ℕ, ℤ, ◌≡◌, ◌≤◌, ◌+ℤ◌, ◌-ℤ◌, List, ◌∷◌, IfSome}
 use Rattle.wrp_base.specs.declared.time.Stamp.{Stamp}
 use Rattle.wrp_base.specs.declared.measurement.Four.{Four}
+use Rattle.wrp_base.specs.Closeness.{IsWithin}
 use Rattle.wrp_exch.specs.declared.delay.Sent.{Sent}
 use Rattle.wrp_exch.specs.declared.delay.DelayPair.{DelayPair}
 use Rattle.wrp_exch.specs.Call.{Call, CallSync, CallFollowUp, CallSample, CallStart, CallClear, CallReqOut, CallReqSent, CallResp}
@@ -11,7 +12,6 @@ use Rattle.wrp_exch.specs.DelayHalf.{open_request}
 use Rattle.wrp_exch.specs.Exchange.{four_of}
 use Rattle.wrp_bounds.specs.declared.numbers.HopNumbers.{HopNumbers}
 use Rattle.wrp_bounds.specs.Hop.{down_error, up_error}
-use Rattle.wrp_tracking.specs.Closeness.{IsWithin}
 use Rattle.wrp_tracking.specs.Moment.{Moment, ways_at}
 use Rattle.wrp_tracking.specs.History.{Was}
 use Rattle.wrp_tracking.specs.ErrorSum.{sync_sum, delay_sum}

@@ -1,6 +1,5 @@
 pub mod Chain
 pub mod ChainPhase
-pub mod Closeness
 pub mod DelayPieces
 pub mod ErrorSum
 pub mod History

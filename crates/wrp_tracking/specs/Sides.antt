@@ -1,9 +1,9 @@
 -- The sync side and the delay side of an exchange: what two stamps and the phase that one of them
 -- latched tell, from stamps, flight and waiting alone (this project's profile).
 use Rattle.std.specs.Prelude.{ℕ, ℤ, pos, ◌≡◌, ◌*◌, ◌≤◌, ◌+ℤ◌, ◌-ℤ◌, unsigned_abs}
+use Rattle.wrp_base.specs.Closeness.{IsWithin}
 use Rattle.wrp_bounds.specs.declared.numbers.HopNumbers.{HopNumbers}
 use Rattle.wrp_bounds.specs.Hop.{detector_error, down_error, up_error}
-use Rattle.wrp_tracking.specs.Closeness.{IsWithin}
 use Rattle.wrp_tracking.specs.Moment.{Moment, phase_at, ways_at}
 
 -- a quantity moved in this time at most at a rate in 10^-12

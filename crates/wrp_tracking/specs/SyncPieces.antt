@@ -4,6 +4,7 @@ use Rattle.std.specs.Prelude.{ℕ, ℤ, pos, true, ◌≡◌, ◌<◌, ◌≤◌
 use Rattle.std.specs.Option.{is_some}
 use Rattle.std.specs.List.{AllByRecursion}
 use Rattle.wrp_base.specs.declared.time.Stamp.{Stamp}
+use Rattle.wrp_base.specs.Closeness.{IsWithin}
 use Rattle.wrp_exch.specs.declared.ring.GoodSample.{GoodSample}
 use Rattle.wrp_exch.specs.declared.sync.HeldSync.{HeldSync}
 use Rattle.wrp_exch.specs.Call.{Call, CallSync, CallFollowUp, CallSample, CallStart, CallClear, CallReqOut, CallReqSent, CallResp}
@@ -13,7 +14,6 @@ use Rattle.wrp_exch.specs.SyncPair.{sync_pair, kept_sync}
 use Rattle.wrp_exch.specs.SyncHalf.{pending_sync}
 use Rattle.wrp_bounds.specs.declared.numbers.HopNumbers.{HopNumbers}
 use Rattle.wrp_bounds.specs.Hop.{detector_error, down_error}
-use Rattle.wrp_tracking.specs.Closeness.{IsWithin}
 use Rattle.wrp_tracking.specs.Moment.{Moment, phase_at}
 use Rattle.wrp_tracking.specs.History.{Was}
 

@@ -5,9 +5,9 @@ use Rattle.wrp_base.specs.declared.network.LinkCfg.{LinkCfg}
 use Rattle.wrp_base.specs.declared.link.ServoState.{ServoState}
 use Rattle.wrp_base.specs.declared.link.ServoState.TheVariants.{Track, Holdover}
 use Rattle.wrp_base.specs.Network.{IsTree, link_above, node_count}
+use Rattle.wrp_base.specs.Closeness.{IsWithin}
 use Rattle.wrp_bounds.specs.Bounds.{hop_of, path_of, holdover_of}
 use Rattle.wrp_bounds.specs.Motion.{motion}
-use Rattle.wrp_tracking.specs.Closeness.{IsWithin}
 
 -- what one moment shows of all nodes: the offset and the servo's state of each
 pub record Offsets : Type 0 where

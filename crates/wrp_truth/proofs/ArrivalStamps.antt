@@ -11,7 +11,7 @@ use Rattle.wrp_base.specs.declared.network.NodeCfg.{NodeCfg}
 use Rattle.wrp_base.specs.declared.time.Clock.{Clock}
 use Rattle.wrp_base.specs.declared.time.Clock.TheVariants.{Mhz125, Mhz62}
 use Rattle.wrp_base.specs.declared.time.Raw.{Raw}
-use Rattle.wrp_base.specs.Network.{End}
+use Rattle.wrp_base.specs.Network.{End, other_of}
 use Rattle.wrp_caldb.specs.declared.database.Entry.{Entry}
 use Rattle.wrp_caldb.specs.Database.{Database, ModuleAt, delays_at, entry_at as entry_in, module_at}
 use Rattle.wrp_caldb.specs.Name.{same_name}
@@ -29,7 +29,7 @@ use Rattle.wrp_world.specs.Run.{Happened, world_after}
 use Rattle.wrp_world.specs.RunLaws.{ModulesStay}
 use Rattle.wrp_world.specs.Runs.{IsNetwork, IsRun}
 use Rattle.wrp_world.specs.SameHandshake.{CarriersAreTheLinks, CarriersWithTheirModules}
-use Rattle.wrp_world.specs.Setting.{Setting, end_at, end_of, entry_at, fixed_of, link_of, of_node, other_of, sends_nm}
+use Rattle.wrp_world.specs.Setting.{Setting, end_at, end_of, entry_at, fixed_of, link_of, of_node, sends_nm}
 use Rattle.wrp_world.specs.WorldAt.{FrameAt, WorldAt, reading}
 use Rattle.wrp_world.proofs.RunHanded.{other_twice}
 use Rattle.wrp_world.proofs.RunGiven.{end_is}

@@ -8,6 +8,7 @@ use Rattle.wrp_base.specs.declared.link.Role.TheVariants.{Master, Slave}
 use Rattle.wrp_base.specs.declared.message.Body.{Body}
 use Rattle.wrp_base.specs.declared.message.Body.TheVariants.{Signal, Announce}
 use Rattle.wrp_base.specs.declared.message.PtpMsg.{PtpMsg}
+use Rattle.wrp_base.specs.Message.{is_port}
 use Rattle.wrp_data.specs.declared.reason.Reason.{Reason}
 use Rattle.wrp_data.specs.declared.reason.Reason.TheVariants.{Domain, Stranger, NotForUs, Quiet}
 use Rattle.wrp_handshake.proofs.RowFits.{RowFits, row_fits}
@@ -20,7 +21,7 @@ use Rattle.wrp_link.proofs.Orders.{IsOrdered, new_ordered, run_ordered}
 use Rattle.wrp_port.specs.declared.interface.PortIn.{PortIn}
 use Rattle.wrp_port.specs.declared.interface.PortIn.TheVariants.{Msg, Lease, Tick, Sent, Sample, Chain, Carrier, Reset}
 use Rattle.wrp_port.specs.declared.setting.Setting.{Setting}
-use Rattle.wrp_port.specs.Hearing.{early_reason, is_open, is_addressed, is_port, link_input, renews}
+use Rattle.wrp_port.specs.Hearing.{early_reason, is_open, is_addressed, link_input, renews}
 use Rattle.wrp_port.specs.History.{input_unless, link_by, link_inputs, link_of, renews_at, since_renewal, to_link, with_input, zero_where}
 use Rattle.wrp_world.proofs.RunLinks.{counted_carrier}
 use Rattle.wrp_truth.proofs.Resting.{open_has_carrier}

@@ -13,6 +13,7 @@ use Rattle.wrp_base.specs.declared.time.Raw.{Raw}
 use Rattle.wrp_base.specs.declared.time.Stamp.{Stamp}
 use Rattle.wrp_base.specs.declared.time.Ts.{Ts}
 use Rattle.wrp_base.specs.Network.{End}
+use Rattle.wrp_base.specs.Closeness.{IsWithin}
 use Rattle.wrp_base.proofs.Lists.{append_assoc}
 use Rattle.wrp_bounds.specs.Hop.{up_error}
 use Rattle.wrp_bounds.specs.Times.{frame_life}
@@ -23,7 +24,6 @@ use Rattle.wrp_node.specs.NodeStep.{stamp_of, transition_of}
 use Rattle.wrp_port.specs.Wire.{corrected_by, earlier_by, timestamp_of}
 use Rattle.wrp_stamp.specs.Merge.{merged}
 use Rattle.wrp_tracking.specs.Chain.{FlewAt}
-use Rattle.wrp_tracking.specs.Closeness.{IsWithin}
 use Rattle.wrp_tracking.specs.DelayPieces.{PairTrue}
 use Rattle.wrp_tracking.specs.History.{Was}
 use Rattle.wrp_tracking.specs.Moment.{Moment, ways_at}

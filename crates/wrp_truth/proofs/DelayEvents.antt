@@ -7,7 +7,7 @@ use Rattle.wrp_base.specs.declared.message.Body.TheVariants.{Sync, DelayReq, Fol
 use Rattle.wrp_base.specs.declared.message.PtpMsg.{PtpMsg}
 use Rattle.wrp_base.specs.declared.time.Raw.{Raw}
 use Rattle.wrp_base.specs.declared.time.Stamp.{Stamp}
-use Rattle.wrp_base.specs.Network.{End}
+use Rattle.wrp_base.specs.Network.{End, other_of}
 use Rattle.wrp_base.proofs.Naturals.{eq_self}
 use Rattle.wrp_frame.specs.declared.fault.FrameFault.{FrameFault}
 use Rattle.wrp_frame.specs.SentOctets.{octets_of}
@@ -23,7 +23,7 @@ use Rattle.wrp_world.specs.declared.event.Event.TheVariants.{Pass, Tick, Sample,
 use Rattle.wrp_world.specs.declared.event.Swap.{Swap}
 use Rattle.wrp_world.specs.Given.{Given, at_ports, comes_from, delivered, delivered_by, delivered_to, given, given_plain, gives, gives_all, step_of, sent_oldest, taken_of, told_sending, world_step}
 use Rattle.wrp_world.specs.Moved.{moved, waiting_at}
-use Rattle.wrp_world.specs.Setting.{Setting, end_at, fixed_of, other_of, place_of}
+use Rattle.wrp_world.specs.Setting.{Setting, end_at, fixed_of, place_of}
 use Rattle.wrp_world.specs.WorldAt.{Arrival, FrameAt, Sending, WorldAt}
 use Rattle.wrp_world.proofs.RunGifts.{comes_all, ports_all}
 use Rattle.wrp_truth.proofs.StepTold.{Hears, IsTurn, KeptByNews, KeptByTurns, frame_told, sample_told, sent_told, settled_told, tick_told, turn_told}

@@ -10,7 +10,7 @@ use Rattle.wrp_base.specs.declared.message.Body.{Body}
 use Rattle.wrp_base.specs.declared.message.Body.TheVariants.{Sync, DelayReq, FollowUp, DelayResp, Announce, Signal}
 use Rattle.wrp_base.specs.declared.message.PtpMsg.{PtpMsg}
 use Rattle.wrp_base.specs.declared.network.LinkCfg.{LinkCfg}
-use Rattle.wrp_base.specs.Network.{End}
+use Rattle.wrp_base.specs.Network.{End, other_of}
 use Rattle.wrp_base.proofs.Lists.{append_assoc}
 use Rattle.wrp_exch.specs.declared.delay.DelayPair.{DelayPair}
 use Rattle.wrp_exch.specs.declared.delay.Sent.{Sent}
@@ -38,7 +38,7 @@ use Rattle.wrp_world.specs.Given.{Given as Told, given_plain, sending, taken_of}
 use Rattle.wrp_world.specs.Moved.{moved}
 use Rattle.wrp_world.specs.Run.{Happened, world_after}
 use Rattle.wrp_world.specs.Runs.{IsRun}
-use Rattle.wrp_world.specs.Setting.{Setting, end_at, end_of, fixed_of, other_of}
+use Rattle.wrp_world.specs.Setting.{Setting, end_at, end_of, fixed_of}
 use Rattle.wrp_world.specs.WorldAt.{FrameAt, Sending, WorldAt}
 use Rattle.wrp_world.proofs.RunCarriers.{end_alike}
 use Rattle.wrp_world.proofs.RunGiven.{end_is}

@@ -15,7 +15,7 @@ use Rattle.wrp_base.specs.declared.message.PtpMsg.{PtpMsg}
 use Rattle.wrp_base.specs.declared.network.LinkCfg.{LinkCfg}
 use Rattle.wrp_base.specs.declared.time.Raw.{Raw}
 use Rattle.wrp_base.specs.declared.time.Stamp.{Stamp}
-use Rattle.wrp_base.specs.Network.{End, link_above}
+use Rattle.wrp_base.specs.Network.{End, link_above, other_of}
 use Rattle.wrp_base.proofs.Naturals.{eq_self}
 use Rattle.wrp_data.specs.declared.reason.Reason.{Reason}
 use Rattle.wrp_frame.specs.declared.fault.FrameFault.{FrameFault}
@@ -51,7 +51,7 @@ use Rattle.wrp_world.specs.Given.{Given, at_ports, comes_from, delivered, delive
 use Rattle.wrp_world.specs.Moved.{moved}
 use Rattle.wrp_world.specs.Run.{Happened, world_after}
 use Rattle.wrp_world.specs.Runs.{IsNetwork, IsRun}
-use Rattle.wrp_world.specs.Setting.{Setting, end_at, fixed_of, other_of}
+use Rattle.wrp_world.specs.Setting.{Setting, end_at, fixed_of}
 use Rattle.wrp_world.specs.WorldAt.{Arrival, FrameAt, WorldAt}
 use Rattle.wrp_world.proofs.RunGifts.{comes_all, ports_all}
 use Rattle.wrp_world.proofs.RunTimes.{comes_up_down, not_up}

@@ -5,7 +5,7 @@ use Rattle.std.specs.Option.{option_map_or}
 use Rattle.std.proofs.lemmas.Option.{none-some}
 use Rattle.wrp_base.specs.declared.message.PtpMsg.{PtpMsg}
 use Rattle.wrp_base.specs.declared.network.LinkCfg.{LinkCfg}
-use Rattle.wrp_base.specs.Network.{End}
+use Rattle.wrp_base.specs.Network.{End, other_of}
 use Rattle.wrp_bounds.specs.declared.numbers.HopNumbers.{HopNumbers}
 use Rattle.wrp_exch.specs.Exchange.{four_of}
 use Rattle.wrp_frame.specs.declared.fault.FrameFault.{FrameFault}
@@ -19,7 +19,7 @@ use Rattle.wrp_world.specs.Given.{Given, delivered, delivered_by, delivered_to, 
 use Rattle.wrp_world.specs.Moved.{moved}
 use Rattle.wrp_world.specs.Run.{Happened, world_after}
 use Rattle.wrp_world.specs.Runs.{IsNetwork}
-use Rattle.wrp_world.specs.Setting.{Setting, end_at, fixed_of, link_of, other_of}
+use Rattle.wrp_world.specs.Setting.{Setting, end_at, fixed_of, link_of}
 use Rattle.wrp_world.specs.WorldAt.{Arrival, FrameAt, WorldAt}
 use Rattle.wrp_truth.specs.Chains.{ChainRuns}
 use Rattle.wrp_truth.specs.Exchanges.{IsInChain, exchange_at, ring_below}

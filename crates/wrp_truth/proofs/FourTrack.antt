@@ -5,6 +5,7 @@ use Rattle.std.proofs.lemmas.Option.{none-some, same_Some}
 use Rattle.wrp_base.specs.declared.link.ServoState.TheVariants.{Track}
 use Rattle.wrp_base.specs.declared.measurement.Four.{Four}
 use Rattle.wrp_base.specs.declared.network.LinkCfg.{LinkCfg}
+use Rattle.wrp_base.specs.Closeness.{IsWithin}
 use Rattle.wrp_base.proofs.Naturals.{nat_le_trans}
 use Rattle.wrp_bounds.specs.Bounds.{numbers_of}
 use Rattle.wrp_bounds.specs.declared.numbers.HopNumbers.{HopNumbers}
@@ -24,7 +25,6 @@ use Rattle.wrp_servo.specs.Laws.{TrackHasChain, TrackIsNear}
 use Rattle.wrp_servo.specs.Table.{is_track}
 use Rattle.wrp_servo.specs.Told.{ToldLast, ticks_told}
 use Rattle.wrp_servo.proofs.Gone.{set_is}
-use Rattle.wrp_tracking.specs.Closeness.{IsWithin}
 use Rattle.wrp_tracking.specs.DelayPieces.{PairTrue}
 use Rattle.wrp_tracking.specs.ErrorSum.{delay_sum, sync_sum}
 use Rattle.wrp_tracking.specs.History.{Was}

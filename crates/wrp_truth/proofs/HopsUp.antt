@@ -7,6 +7,7 @@ use Rattle.wrp_base.specs.declared.link.ServoState.TheVariants.{Uninit, Track, H
 use Rattle.wrp_base.specs.declared.network.LinkCfg.{LinkCfg}
 use Rattle.wrp_base.specs.declared.network.NodeCfg.{NodeCfg}
 use Rattle.wrp_base.specs.Network.{link_above, node_count}
+use Rattle.wrp_base.specs.Closeness.{IsWithin}
 use Rattle.wrp_bounds.specs.Bounds.{held_by, held_motion, hop_of, holdover_of, numbers_of, path_of}
 use Rattle.wrp_bounds.specs.Hop.{hop_bound}
 use Rattle.wrp_bounds.specs.Motion.{motion}
@@ -17,7 +18,6 @@ use Rattle.wrp_node.specs.NodeAt.{servo_at, slave_of, state_of}
 use Rattle.wrp_node.proofs.OwnPorts.{slave_is_above}
 use Rattle.wrp_servo.specs.Laws.{TrackHasChain}
 use Rattle.wrp_servo.specs.Sampling.{is_holdover}
-use Rattle.wrp_tracking.specs.Closeness.{IsWithin}
 use Rattle.wrp_tracking.specs.History.{IsSlow, Was}
 use Rattle.wrp_tracking.specs.Tree.{HeldWithin, HopsHold, IsBounded, IsSource, Offsets, TreeSum}
 use Rattle.wrp_tracking.proofs.Histories.{slow_between}

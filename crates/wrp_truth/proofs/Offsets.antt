@@ -4,7 +4,7 @@ use Rattle.std.proofs.lemmas.Bool.Decides.{eqb_tells}
 use Rattle.std.specs.Option.{option_map_or}
 use Rattle.wrp_base.specs.Clock.{period_of}
 use Rattle.wrp_base.specs.declared.message.PtpMsg.{PtpMsg}
-use Rattle.wrp_base.specs.Network.{End}
+use Rattle.wrp_base.specs.Network.{End, other_of}
 use Rattle.wrp_base.proofs.Naturals.{eq_self}
 use Rattle.wrp_frame.specs.declared.fault.FrameFault.{FrameFault}
 use Rattle.wrp_frame.specs.SentOctets.{octets_of}
@@ -19,7 +19,7 @@ use Rattle.wrp_world.specs.declared.event.Event.TheVariants.{Pass, Tick, Sample,
 use Rattle.wrp_world.proofs.DroppedFrames.{still as no_move}
 use Rattle.wrp_world.specs.Given.{Given, clock_told, delivered, delivered_by, delivered_to, given, given_by, gives, gives_all, step_of, taken_of, world_step}
 use Rattle.wrp_world.specs.Moved.{clock_after, moved}
-use Rattle.wrp_world.specs.Setting.{Setting, end_at, fixed_of, other_of}
+use Rattle.wrp_world.specs.Setting.{Setting, end_at, fixed_of}
 use Rattle.wrp_world.specs.WorldAt.{Arrival, FrameAt, WorldAt}
 use Rattle.wrp_truth.proofs.Inputs.{GivesTo, To, gives_to}
 

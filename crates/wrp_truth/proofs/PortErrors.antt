@@ -7,12 +7,13 @@ use Rattle.wrp_base.specs.declared.link.Module.{Module}
 use Rattle.wrp_base.specs.declared.link.Role.{Role}
 use Rattle.wrp_base.specs.declared.link.Role.TheVariants.{Master, Slave}
 use Rattle.wrp_base.specs.declared.network.LinkCfg.{LinkCfg}
+use Rattle.wrp_base.specs.Network.{other_of}
 use Rattle.wrp_base.proofs.Lists.{found_at}
 use Rattle.wrp_caldb.specs.Database.{Database, ModuleAt, delays_at, module_at}
 use Rattle.wrp_caldb.specs.Name.{same_name}
 use Rattle.wrp_config.specs.Accepted.{FitsDatabase, error_at_ends, error_of, greatest}
 use Rattle.wrp_world.specs.Runs.{IsNetwork}
-use Rattle.wrp_world.specs.Setting.{Setting, entry_at, link_of, other_of, sends_nm}
+use Rattle.wrp_world.specs.Setting.{Setting, entry_at, link_of, sends_nm}
 
 -- The greatest of some numbers
 

@@ -8,6 +8,7 @@ use Rattle.wrp_base.specs.declared.measurement.Four.{Four}
 use Rattle.wrp_base.specs.declared.message.PtpMsg.{PtpMsg}
 use Rattle.wrp_base.specs.declared.time.Raw.{Raw}
 use Rattle.wrp_base.specs.declared.time.Stamp.{Stamp}
+use Rattle.wrp_base.specs.Message.{is_port}
 use Rattle.wrp_data.specs.declared.reason.Reason.{Reason}
 use Rattle.wrp_data.specs.declared.reason.Reason.TheVariants.{Domain, NotForUs, Quiet, Stranger}
 use Rattle.wrp_frame.specs.declared.fault.FrameFault.{FrameFault}
@@ -19,7 +20,7 @@ use Rattle.wrp_node.specs.NodeStep.{carried, counted_tick, handed, heard, heard_
 use Rattle.wrp_node.specs.Telling.{Step, answer_of, for_slave, heard_of, is_changed, lease_change, link_change, number_of, settled, step_from, tell, told_by, with_lease, with_news, with_sample}
 use Rattle.wrp_port.specs.declared.interface.PortIn.{PortIn}
 use Rattle.wrp_port.specs.declared.interface.PortIn.TheVariants.{Chain, Lease, Sample as PortSample, Sent as PortSent, Carrier as PortCarrier, Reset as PortReset}
-use Rattle.wrp_port.specs.Hearing.{early_reason, is_addressed, is_open, is_port}
+use Rattle.wrp_port.specs.Hearing.{early_reason, is_addressed, is_open}
 use Rattle.wrp_servo.specs.declared.interface.ServoOut.{ServoOut}
 use Rattle.wrp_servo.specs.Call.{Call, CallSample, CallMeasured, CallTick, CallLease, CallLink, CallCarrier, CallReset}
 use Rattle.wrp_servo.specs.Told.{lease_told, link_told}

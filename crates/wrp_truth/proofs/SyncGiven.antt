@@ -13,7 +13,8 @@ use Rattle.wrp_base.specs.declared.network.LinkCfg.{LinkCfg}
 use Rattle.wrp_base.specs.declared.time.Raw.{Raw}
 use Rattle.wrp_base.specs.declared.time.Stamp.{Stamp}
 use Rattle.wrp_base.specs.declared.time.Ts.{Ts}
-use Rattle.wrp_base.specs.Network.{End}
+use Rattle.wrp_base.specs.Network.{End, other_of}
+use Rattle.wrp_base.specs.Message.{is_port}
 use Rattle.wrp_data.specs.declared.reason.Reason.{Reason}
 use Rattle.wrp_data.specs.declared.reason.Reason.TheVariants.{Domain, Stranger, NotForUs, Quiet}
 use Rattle.wrp_exch.specs.Call.{Call as Piece, CallStart, CallClear, CallSample as SamplePiece, CallSync, CallFollowUp, CallReqOut, CallReqSent, CallResp}
@@ -25,7 +26,7 @@ use Rattle.wrp_node.specs.NodeAt.{Fixed, NodeAt, Taken, link_at, pieces_at, sett
 use Rattle.wrp_node.specs.NodeStep.{carried, node_step, ports_ticked, servo_ticked, stamp_of, stepped}
 use Rattle.wrp_node.specs.Telling.{settled}
 use Rattle.wrp_port.specs.declared.setting.Setting.{Setting as PortSetting}
-use Rattle.wrp_port.specs.Hearing.{early_reason, is_addressed, is_open, is_port, piece_of}
+use Rattle.wrp_port.specs.Hearing.{early_reason, is_addressed, is_open, piece_of}
 use Rattle.wrp_port.specs.Outputs.{piece_unless, with_call}
 use Rattle.wrp_port.specs.Wire.{later_by}
 use Rattle.wrp_servo.specs.Call.{run}
@@ -40,7 +41,7 @@ use Rattle.wrp_world.specs.Moved.{moved}
 use Rattle.wrp_world.specs.Premises.{Accepts, is_forged}
 use Rattle.wrp_world.specs.Run.{Happened, world_after}
 use Rattle.wrp_world.specs.Runs.{IsNetwork}
-use Rattle.wrp_world.specs.Setting.{Setting, end_at, end_of, fixed_of, link_of, other_of, place_of}
+use Rattle.wrp_world.specs.Setting.{Setting, end_at, end_of, fixed_of, link_of, place_of}
 use Rattle.wrp_world.specs.WorldAt.{Arrival, FrameAt, Sending, WorldAt}
 use Rattle.wrp_world.proofs.RunCarriers.{end_alike}
 use Rattle.wrp_world.proofs.RunGiven.{end_is}

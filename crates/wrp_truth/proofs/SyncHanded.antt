@@ -5,7 +5,7 @@ use Rattle.std.proofs.lemmas.Option.{same_Some}
 use Rattle.wrp_base.specs.declared.link.Role.TheVariants.{Slave}
 use Rattle.wrp_base.specs.declared.network.LinkCfg.{LinkCfg}
 use Rattle.wrp_base.proofs.Lists.{head_and_tail}
-use Rattle.wrp_base.specs.Network.{End}
+use Rattle.wrp_base.specs.Network.{End, other_of}
 use Rattle.wrp_base.proofs.Integers.{int_le_trans}
 use Rattle.wrp_bounds.specs.Times.{frame_life}
 use Rattle.wrp_world.specs.Laws.{KeepsStamp}
@@ -14,7 +14,7 @@ use Rattle.wrp_world.specs.Run.{Happened, world_after}
 use Rattle.wrp_world.specs.RunLaws.{FramesHaveTimes, HasTimes}
 use Rattle.wrp_world.specs.RunStamps.{ArrivedSo, DepartedSo, FramesAreStamped}
 use Rattle.wrp_world.specs.Runs.{IsRun}
-use Rattle.wrp_world.specs.Setting.{Setting, end_at, end_of, link_of, other_of}
+use Rattle.wrp_world.specs.Setting.{Setting, end_at, end_of, link_of}
 use Rattle.wrp_world.specs.WorldAt.{Arrival, FrameAt, WorldAt}
 use Rattle.wrp_world.proofs.RunGiven.{end_is}
 use Rattle.wrp_truth.specs.Leases.{IsCarried}

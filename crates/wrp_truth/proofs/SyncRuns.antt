@@ -8,6 +8,7 @@ use Rattle.wrp_base.specs.declared.message.PtpMsg.{PtpMsg}
 use Rattle.wrp_base.specs.declared.network.LinkCfg.{LinkCfg}
 use Rattle.wrp_base.proofs.Lists.{append_assoc}
 use Rattle.wrp_base.specs.declared.time.Ts.{Ts}
+use Rattle.wrp_base.specs.Closeness.{IsWithin}
 use Rattle.wrp_base.proofs.Integers.{int_le_trans}
 use Rattle.wrp_bounds.specs.Bounds.{numbers_of}
 use Rattle.wrp_bounds.specs.declared.numbers.HopNumbers.{HopNumbers}
@@ -19,7 +20,6 @@ use Rattle.wrp_exch.specs.Samples.{last_samples, phase_in}
 use Rattle.wrp_exch.specs.SyncPair.{pair_of_sync, sync_pair}
 use Rattle.wrp_node.specs.declared.interface.NodeSet.{NodeSet}
 use Rattle.wrp_port.specs.Wire.{later_by, rest_of, timestamp_of}
-use Rattle.wrp_tracking.specs.Closeness.{IsWithin}
 use Rattle.wrp_world.specs.EventAt.{IsEventOf, IsTime}
 use Rattle.wrp_world.specs.Run.{Happened, world_after}
 use Rattle.wrp_world.specs.RunLaws.{FramesWerePutOut}

@@ -8,6 +8,7 @@ use Rattle.wrp_base.specs.declared.link.ServoState.TheVariants.{Uninit, Track}
 use Rattle.wrp_base.specs.declared.network.LinkCfg.{LinkCfg}
 use Rattle.wrp_base.specs.declared.network.NodeCfg.{NodeCfg}
 use Rattle.wrp_base.specs.Network.{link_above, node_count}
+use Rattle.wrp_base.specs.Closeness.{IsWithin}
 use Rattle.wrp_bounds.specs.Bounds.{numbers_between, numbers_of, numbers_over}
 use Rattle.wrp_bounds.specs.Hop.{estimate_error, hop_bound}
 use Rattle.wrp_bounds.specs.declared.numbers.HopNumbers.{HopNumbers}
@@ -24,7 +25,6 @@ use Rattle.wrp_servo.specs.Measuring.{delay_of}
 use Rattle.wrp_servo.specs.Sampling.{est_of}
 use Rattle.wrp_servo.specs.Table.{is_track}
 use Rattle.wrp_servo.proofs.Gone.{set_is}
-use Rattle.wrp_tracking.specs.Closeness.{IsWithin}
 use Rattle.wrp_tracking.specs.ErrorSum.{TrackFacts, estimate_of}
 use Rattle.wrp_tracking.specs.HopInTrack.{EstimateHolds, HopHolds, HopStands}
 use Rattle.wrp_tracking.specs.Moment.{Moment}

@@ -2,6 +2,7 @@
 -- project's profile).
 use Rattle.std.specs.Prelude.{◌≡◌, ◌≤◌, ◌+ℤ◌, ◌-ℤ◌, ℕ, List, ◌∷◌, ◌++◌, length, Some, IfSome}
 use Rattle.wrp_base.specs.declared.network.LinkCfg.{LinkCfg}
+use Rattle.wrp_base.specs.Closeness.{IsWithin}
 use Rattle.wrp_bounds.specs.Bounds.{numbers_of}
 use Rattle.wrp_bounds.specs.Hop.{down_error}
 use Rattle.wrp_bounds.specs.declared.numbers.HopNumbers.{HopNumbers}
@@ -9,7 +10,6 @@ use Rattle.wrp_exch.specs.Call.{Call}
 use Rattle.wrp_exch.specs.DelayPair.{delay_pair}
 use Rattle.wrp_exch.specs.SyncPair.{sync_pair}
 use Rattle.wrp_node.specs.NodeAt.{pieces_at}
-use Rattle.wrp_tracking.specs.Closeness.{IsWithin}
 use Rattle.wrp_tracking.specs.DelayPieces.{PairTrue}
 use Rattle.wrp_world.specs.Run.{Happened, world_after}
 use Rattle.wrp_world.specs.Runs.{IsRun}

@@ -4,7 +4,7 @@ use Rattle.std.specs.Option.{option_map_or}
 use Rattle.std.proofs.lemmas.Option.{none-some, same_Some}
 use Rattle.wrp_base.specs.declared.link.Role.{Role}
 use Rattle.wrp_base.specs.declared.time.Raw.{Raw}
-use Rattle.wrp_base.specs.Network.{End}
+use Rattle.wrp_base.specs.Network.{End, other_of}
 use Rattle.wrp_world.specs.declared.event.Event.TheVariants.{Arrive}
 use Rattle.wrp_world.specs.declared.frames.Departed.{Departed}
 use Rattle.wrp_world.specs.declared.frames.Reception.{Reception}
@@ -15,7 +15,7 @@ use Rattle.wrp_world.specs.Flights.{Arrives, from_of, overtaken}
 use Rattle.wrp_world.specs.Moved.{arrived, arriving, moved, samples_at}
 use Rattle.wrp_world.specs.Moves.{Changed, Same, Stays, Turns}
 use Rattle.wrp_world.specs.Plant.{DepartedIs, FitsDeparted, FitsPlant, FramesAre, MaybeIs, PlantIs, ReceptionIs, SpanIs, frame_numbered, is_on}
-use Rattle.wrp_world.specs.Setting.{Setting, end_at, is_role, other_of}
+use Rattle.wrp_world.specs.Setting.{Setting, end_at, is_role}
 use Rattle.wrp_world.specs.WorldAt.{Arrival, FrameAt, WorldAt, is_on_fibre}
 use Rattle.wrp_world.proofs.Fitting.{plant_fits, same_clocks, same_spans, time_more, due_more}
 use Rattle.wrp_world.proofs.Moving.{frames_turned, plant_is}

@@ -8,7 +8,7 @@ use Rattle.wrp_base.specs.declared.time.Clock.{Clock}
 use Rattle.wrp_base.specs.declared.time.Raw.{Raw}
 use Rattle.wrp_base.specs.Clock.{period_of}
 use Rattle.wrp_base.specs.Division.{floor_quotient}
-use Rattle.wrp_base.specs.Network.{End}
+use Rattle.wrp_base.specs.Network.{End, other_of}
 use Rattle.wrp_base.proofs.Integers.{pos_le}
 use Rattle.wrp_phase.specs.Beat.{beat_bit}
 use Rattle.wrp_phase.specs.BeatPattern.{KeepsBeatPattern, true_step, steps_past}
@@ -17,7 +17,7 @@ use Rattle.wrp_stamp.specs.StampBound.{KeepsStampBound, true_place, MayUseRising
 use Rattle.wrp_world.specs.Checks.{Check, AllHold, only_where, stands}
 use Rattle.wrp_world.specs.Laws.{ArrivalKeepsStampBound, SampleKeepsBeatPattern}
 use Rattle.wrp_world.specs.Premises.{bit_check, beat_by, beat_checks, sample_checks, raw_checks, received, received_at, arrive_checks, transition_of, may_rise, may_fall}
-use Rattle.wrp_world.specs.Setting.{Setting, entry_at, from_on, link_of, of_node, other_of}
+use Rattle.wrp_world.specs.Setting.{Setting, entry_at, from_on, link_of, of_node}
 use Rattle.wrp_world.specs.WorldAt.{WorldAt, FrameAt, has_carrier, is_on_fibre, phase_of, reading}
 use Rattle.wrp_world.proofs.Told.{made}
 

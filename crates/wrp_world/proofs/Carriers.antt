@@ -8,7 +8,7 @@ use Rattle.wrp_base.specs.declared.link.Module.{Module}
 use Rattle.wrp_base.specs.declared.link.Role.{Role}
 use Rattle.wrp_base.specs.declared.link.Role.TheVariants.{Master, Slave}
 use Rattle.wrp_base.specs.declared.network.LinkCfg.{LinkCfg}
-use Rattle.wrp_base.specs.Network.{End}
+use Rattle.wrp_base.specs.Network.{End, other_of}
 use Rattle.wrp_base.proofs.Naturals.{eq_self}
 use Rattle.wrp_caldb.specs.Database.{Database, module_at}
 use Rattle.wrp_node.specs.declared.interface.Input.TheVariants.{Carrier}
@@ -22,7 +22,7 @@ use Rattle.wrp_world.specs.Given.{Given, comes_from, given_plain, goes_at, if_ca
 use Rattle.wrp_world.specs.Giving.{comes_over, comes_over_both, listed, name_with, up_of}
 use Rattle.wrp_world.specs.Moved.{moved, swap_at, with_swap}
 use Rattle.wrp_world.specs.Plant.{PlantIs}
-use Rattle.wrp_world.specs.Setting.{Setting, end_at, end_of, entry_at, is_of, link_of, other_of, place_among, place_of, sends_nm}
+use Rattle.wrp_world.specs.Setting.{Setting, end_at, end_of, entry_at, is_of, link_of, place_among, place_of, sends_nm}
 use Rattle.wrp_world.specs.WorldAt.{EndAt, WorldAt, ends_are_up, has_carrier}
 use Rattle.wrp_world.proofs.PortNumbers.{has_end}
 

@@ -11,7 +11,7 @@ use Rattle.wrp_base.specs.declared.link.Role.TheVariants.{Master, Slave}
 use Rattle.wrp_base.specs.declared.message.PtpMsg.{PtpMsg}
 use Rattle.wrp_base.specs.declared.time.Raw.{Raw}
 use Rattle.wrp_base.proofs.Naturals.{eq_self}
-use Rattle.wrp_base.specs.Network.{End}
+use Rattle.wrp_base.specs.Network.{End, other_of}
 use Rattle.wrp_base.proofs.Lists.{all_weaker}
 use Rattle.wrp_frame.specs.declared.fault.FrameFault.{FrameFault}
 use Rattle.wrp_frame.specs.SentOctets.{octets_of}
@@ -34,7 +34,7 @@ use Rattle.wrp_world.specs.Dropped.{AllDropsLeaveACount, CountsAlone, DroppedFra
 use Rattle.wrp_world.specs.Given.{Given, clock_told, comes_from, delivered, delivered_by, delivered_to, end_by, end_given, end_told, given, given_by, gives, gives_all, goes_from, mover_of, step_of, stepped_by, steps_of, taken_of, ticked_by}
 use Rattle.wrp_world.specs.Moved.{loses, moved, removed, waiting_at}
 use Rattle.wrp_world.specs.Run.{Happened, world_after}
-use Rattle.wrp_world.specs.Setting.{Setting, end_at, fixed_of, is_of, other_of, place_of}
+use Rattle.wrp_world.specs.Setting.{Setting, end_at, fixed_of, is_of, place_of}
 use Rattle.wrp_world.specs.WorldAt.{Arrival, EndAt, FrameAt, WorldAt, has_carrier, is_on_fibre}
 use Rattle.wrp_world.proofs.RunGifts.{AllGiven, all_if, comes_all, goes_all, ports_all, sent_all}
 

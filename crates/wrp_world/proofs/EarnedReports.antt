@@ -10,7 +10,7 @@ use Rattle.wrp_base.specs.declared.link.Role.TheVariants.{Master, Slave}
 use Rattle.wrp_base.specs.declared.message.PtpMsg.{PtpMsg}
 use Rattle.wrp_base.specs.declared.network.LinkCfg.{LinkCfg}
 use Rattle.wrp_base.proofs.Naturals.{eq_self}
-use Rattle.wrp_base.specs.Network.{End}
+use Rattle.wrp_base.specs.Network.{End, other_of}
 use Rattle.wrp_base.proofs.Lists.{all_weaker}
 use Rattle.wrp_frame.specs.declared.fault.FrameFault.{FrameFault}
 use Rattle.wrp_node.specs.declared.interface.NodeSet.{NodeSet}
@@ -30,7 +30,7 @@ use Rattle.wrp_world.specs.Moved.{moved, waiting_at}
 use Rattle.wrp_world.specs.Run.{world_after}
 use Rattle.wrp_world.specs.Runs.{IsNetwork}
 use Rattle.wrp_world.specs.SameHandshake.{LinkOnInTheSameHandshake, LinkOnWithTheDeltas, state_at}
-use Rattle.wrp_world.specs.Setting.{Setting, end_at, end_of, fixed_of, other_of, place_of}
+use Rattle.wrp_world.specs.Setting.{Setting, end_at, end_of, fixed_of, place_of}
 use Rattle.wrp_world.specs.WorldAt.{Arrival, FrameAt, WorldAt, has_carrier}
 use Rattle.wrp_world.proofs.PortNumbers.{has-place}
 use Rattle.wrp_world.proofs.RunGifts.{AllGiven, all_if, comes_all, goes_all, ports_all, sent_all}

@@ -13,7 +13,7 @@ use Rattle.wrp_base.specs.declared.message.Body.TheVariants.{Sync, DelayReq, Fol
 use Rattle.wrp_base.specs.declared.message.PtpMsg.{PtpMsg}
 use Rattle.wrp_base.specs.declared.time.Raw.{Raw}
 use Rattle.wrp_base.specs.declared.time.Stamp.{Stamp}
-use Rattle.wrp_base.specs.Network.{End, node_count}
+use Rattle.wrp_base.specs.Network.{End, node_count, other_of}
 use Rattle.wrp_base.proofs.Naturals.{eq_self}
 use Rattle.wrp_frame.specs.declared.fault.FrameFault.{FrameFault}
 use Rattle.wrp_frame.specs.Grammar.{Spells}
@@ -39,7 +39,7 @@ use Rattle.wrp_world.specs.Giving.{Gives, entries_of, listed, put_of, sent_by, s
 use Rattle.wrp_world.specs.Moved.{waiting_at}
 use Rattle.wrp_world.specs.Plant.{DepartedIs, MaybeIs, PlantIs, PutOutIs, ReceptionIs, frame_numbered}
 use Rattle.wrp_world.specs.Premises.{Accepts, noise_checks}
-use Rattle.wrp_world.specs.Setting.{Setting, end_at, other_of, place_among, place_of}
+use Rattle.wrp_world.specs.Setting.{Setting, end_at, place_among, place_of}
 use Rattle.wrp_world.specs.WorldAt.{Arrival, FrameAt, Sending, WorldAt}
 use Rattle.wrp_world.proofs.FoundFrames.{Found, found, missing, some_no}
 

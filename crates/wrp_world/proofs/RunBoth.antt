@@ -10,7 +10,7 @@ use Rattle.wrp_base.specs.declared.link.Role.TheVariants.{Master, Slave}
 use Rattle.wrp_base.specs.declared.message.PtpMsg.{PtpMsg}
 use Rattle.wrp_base.specs.declared.network.LinkCfg.{LinkCfg}
 use Rattle.wrp_base.proofs.Naturals.{eq_self}
-use Rattle.wrp_base.specs.Network.{End}
+use Rattle.wrp_base.specs.Network.{End, other_of}
 use Rattle.wrp_base.proofs.Booleans.{not_both}
 use Rattle.wrp_frame.specs.declared.fault.FrameFault.{FrameFault}
 use Rattle.wrp_handshake.specs.Ends.{Port}
@@ -30,7 +30,7 @@ use Rattle.wrp_world.specs.Premises.{Accepts}
 use Rattle.wrp_world.specs.Run.{AllAccepted, Happened, world_after}
 use Rattle.wrp_world.specs.Runs.{IsNetwork}
 use Rattle.wrp_world.specs.SameHandshake.{CarriersAreTheLinks}
-use Rattle.wrp_world.specs.Setting.{Setting, end_at, end_of, is_of, link_of, other_of, place_of}
+use Rattle.wrp_world.specs.Setting.{Setting, end_at, end_of, is_of, link_of, place_of}
 use Rattle.wrp_world.specs.WorldAt.{WorldAt, ends_are_up, has_carrier}
 use Rattle.wrp_world.proofs.RunCarried.{IsLeft, gives_append, not_next}
 use Rattle.wrp_world.proofs.RunCarriers.{comes_to, end_alike, lit_here}

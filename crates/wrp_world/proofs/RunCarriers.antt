@@ -5,7 +5,7 @@ use Rattle.wrp_base.specs.declared.link.Module.{Module}
 use Rattle.wrp_base.specs.declared.link.Role.{Role}
 use Rattle.wrp_base.specs.declared.link.Role.TheVariants.{Master, Slave}
 use Rattle.wrp_base.specs.declared.network.LinkCfg.{LinkCfg}
-use Rattle.wrp_base.specs.Network.{End}
+use Rattle.wrp_base.specs.Network.{End, other_of}
 use Rattle.wrp_base.proofs.Naturals.{eq_self}
 use Rattle.wrp_bounds.specs.Times.{shortest_tick, frame_life}
 use Rattle.wrp_handshake.specs.Ends.{heard}
@@ -16,7 +16,7 @@ use Rattle.wrp_node.specs.Sends.{SignalsAreOfLink}
 use Rattle.wrp_node.proofs.Sends.{not_equal}
 use Rattle.wrp_world.specs.Given.{Given, given_plain, gives}
 use Rattle.wrp_world.specs.LinkEnds.{ends_at, port_at}
-use Rattle.wrp_world.specs.Setting.{Setting, end_at, end_of, link_of, other_of}
+use Rattle.wrp_world.specs.Setting.{Setting, end_at, end_of, link_of}
 use Rattle.wrp_world.specs.WorldAt.{WorldAt}
 use Rattle.wrp_world.proofs.RunGiven.{LinkCan, carriers_come, end_is, of_both, with_ports}
 use Rattle.wrp_world.proofs.RunPorts.{port_by_news, port_given, port_other}

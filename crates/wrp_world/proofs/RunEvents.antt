@@ -6,7 +6,7 @@ use Rattle.wrp_base.specs.declared.link.Role.{Role}
 use Rattle.wrp_base.specs.declared.link.Role.TheVariants.{Master, Slave}
 use Rattle.wrp_base.specs.declared.message.PtpMsg.{PtpMsg}
 use Rattle.wrp_base.specs.declared.network.LinkCfg.{LinkCfg}
-use Rattle.wrp_base.specs.Network.{End}
+use Rattle.wrp_base.specs.Network.{End, other_of}
 use Rattle.wrp_base.proofs.Booleans.{not_both}
 use Rattle.wrp_bounds.specs.Times.{shortest_tick, frame_life}
 use Rattle.wrp_check.specs.Handshake.{SameHandshake}
@@ -28,7 +28,7 @@ use Rattle.wrp_world.specs.Premises.{Accepts}
 use Rattle.wrp_world.specs.Run.{AllAccepted, Happened, world_after}
 use Rattle.wrp_world.specs.Runs.{AllEvents, IsNetwork}
 use Rattle.wrp_world.specs.SameHandshake.{CarriersWithTheirModules, LinkOnInTheSameHandshake, LinkOnWithTheDeltas, LinksCanBe}
-use Rattle.wrp_world.specs.Setting.{Setting, end_of, other_of, place_of}
+use Rattle.wrp_world.specs.Setting.{Setting, end_of, place_of}
 use Rattle.wrp_world.specs.WorldAt.{WorldAt, has_carrier, new_world}
 use Rattle.wrp_world.proofs.RunCarried.{Uncarried}
 use Rattle.wrp_world.proofs.RunFrames.{FramesKeep}

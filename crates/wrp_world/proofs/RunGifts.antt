@@ -9,12 +9,12 @@ use Rattle.wrp_base.specs.declared.message.Body.{Body}
 use Rattle.wrp_base.specs.declared.message.Body.TheVariants.{Sync, DelayReq, FollowUp, DelayResp, Announce, Signal}
 use Rattle.wrp_base.specs.declared.time.Raw.{Raw}
 use Rattle.wrp_base.specs.declared.time.Stamp.{Stamp}
-use Rattle.wrp_base.specs.Network.{End}
+use Rattle.wrp_base.specs.Network.{End, other_of}
 use Rattle.wrp_node.specs.declared.interface.Input.{Input}
 use Rattle.wrp_node.specs.declared.interface.Input.TheVariants.{Frame, Sent, Carrier}
 use Rattle.wrp_world.specs.declared.place.Place.{Place}
 use Rattle.wrp_world.specs.Given.{Given, comes_at, comes_from, delivered, delivered_by, delivered_to, given_plain, goes_at, goes_from, if_carried, sent_oldest, told_sending}
-use Rattle.wrp_world.specs.Setting.{Setting, end_at, other_of, place_of}
+use Rattle.wrp_world.specs.Setting.{Setting, end_at, place_of}
 use Rattle.wrp_world.specs.WorldAt.{Arrival, FrameAt, Sending, WorldAt, has_carrier}
 
 abbrev pub AllGiven : (Input → Type 0) → List Given → Type 0

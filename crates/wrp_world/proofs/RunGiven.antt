@@ -10,11 +10,11 @@ use Rattle.wrp_base.specs.declared.message.Body.{Body}
 use Rattle.wrp_base.specs.declared.message.Body.TheVariants.{Sync, DelayReq, FollowUp, DelayResp, Announce, Signal}
 use Rattle.wrp_base.specs.declared.message.PtpMsg.{PtpMsg}
 use Rattle.wrp_base.specs.declared.network.LinkCfg.{LinkCfg}
-use Rattle.wrp_base.specs.Network.{End}
+use Rattle.wrp_base.specs.Network.{End, other_of}
 use Rattle.wrp_bounds.specs.Times.{shortest_tick, frame_life}
 use Rattle.wrp_data.specs.declared.reason.Reason.{Reason}
 use Rattle.wrp_frame.specs.declared.fault.FrameFault.{FrameFault}
-use Rattle.wrp_handshake.specs.Ends.{Port, Ends, Sending as Message, Change, Passes, Hears, Starts, Lights, IsAmong, IsNoCarrier, MayHear, MayCome, CanBe, placed_at, placed_by, changed, heard, marked, port_by, with_end, end_of as port_of, other_of as peer_of}
+use Rattle.wrp_handshake.specs.Ends.{Port, Ends, Sending as Message, Change, Passes, Hears, Starts, Lights, IsAmong, IsNoCarrier, MayHear, MayCome, CanBe, placed_at, placed_by, changed, heard, marked, port_by, with_end, end_of as port_of}
 use Rattle.wrp_link.specs.declared.interface.LinkIn.TheVariants as link_in
 use Rattle.wrp_link.specs.LinkAt.{LinkAt, new_link}
 use Rattle.wrp_link.specs.Rows.{CarrierGoes, under}
@@ -27,7 +27,7 @@ use Rattle.wrp_port.specs.Hearing.{early_reason, link_input}
 use Rattle.wrp_port.specs.History.{input_unless}
 use Rattle.wrp_world.specs.Given.{Given, in_body, in_frame, gives}
 use Rattle.wrp_world.specs.LinkEnds.{ends_at, link_sent, port_at}
-use Rattle.wrp_world.specs.Setting.{Setting, end_at, end_of, fixed_of, link_of, other_of}
+use Rattle.wrp_world.specs.Setting.{Setting, end_at, end_of, fixed_of, link_of}
 use Rattle.wrp_world.specs.WorldAt.{WorldAt}
 use Rattle.wrp_world.proofs.RunLinks.{IsDark}
 use Rattle.wrp_world.proofs.RunPorts.{link_dark, port_by_news, port_given, port_is, port_other}
@@ -130,7 +130,7 @@ renewed_keeps life dmin placed ends role at false e h dark =
     same_ends life dmin placed ends role (port_by_news ends.time (port_of ends role) at Renewed) (begins_dark ends.time (port_of ends role) at dark e) h
 
 pub news_keep : (life dmin : ℕ) (placed : Role → Option Module) (ends : Ends) (role : Role) (at : ℤ) (news : LinkNews) → CanHave life dmin placed ends → IsDark (port_of ends role).link →
-    NewsMay life dmin ends.time (port_of ends role) (port_of ends (peer_of role)) at news → CanHave life dmin placed (with_end ends role (port_by_news ends.time (port_of ends role) at news))
+    NewsMay life dmin ends.time (port_of ends role) (port_of ends (other_of role)) at news → CanHave life dmin placed (with_end ends role (port_by_news ends.time (port_of ends role) at news))
 news_keep life dmin placed ends role at Nothing h dark may = same_ends life dmin placed ends role (port_of ends role) refl h
 news_keep life dmin placed ends role at (Handed input) h dark may = one_more life dmin placed ends (Hears role input at) tt h may
 news_keep life dmin placed ends role at Renewed h dark may = renewed_keeps life dmin placed ends role at (port_of ends role).link.carrier refl h dark

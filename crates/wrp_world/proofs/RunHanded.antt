@@ -10,7 +10,8 @@ use Rattle.wrp_base.specs.declared.link.Role.TheVariants.{Master, Slave}
 use Rattle.wrp_base.specs.declared.message.Body.{Body}
 use Rattle.wrp_base.specs.declared.message.Body.TheVariants.{Sync, DelayReq, FollowUp, DelayResp, Announce, Signal}
 use Rattle.wrp_base.specs.declared.message.PtpMsg.{PtpMsg}
-use Rattle.wrp_base.specs.Network.{End}
+use Rattle.wrp_base.specs.Network.{End, other_of}
+use Rattle.wrp_base.specs.Message.{is_port}
 use Rattle.wrp_bounds.specs.Times.{frame_life}
 use Rattle.wrp_data.specs.declared.reason.Reason.{Reason}
 use Rattle.wrp_data.specs.declared.reason.Reason.TheVariants.{Domain, NotForUs, Quiet, Stranger}
@@ -21,7 +22,7 @@ use Rattle.wrp_node.specs.declared.interface.Input.TheVariants.{Frame}
 use Rattle.wrp_node.specs.LinkNews.{Nothing, news_of, frame_news}
 use Rattle.wrp_node.specs.NodeAt.{link_at, setting_of}
 use Rattle.wrp_port.specs.declared.setting.Setting.{Setting as PortSetting}
-use Rattle.wrp_port.specs.Hearing.{early_reason, is_addressed, is_open, is_port, link_input}
+use Rattle.wrp_port.specs.Hearing.{early_reason, is_addressed, is_open, link_input}
 use Rattle.wrp_port.specs.History.{input_unless}
 use Rattle.wrp_world.specs.declared.place.Place.{Place}
 use Rattle.wrp_world.specs.Checks.{AllHold}
@@ -30,7 +31,7 @@ use Rattle.wrp_world.specs.Given.{Given, delivered, delivered_by, delivered_to, 
 use Rattle.wrp_world.specs.Premises.{deliver_by, deliver_checks, is_forged, noise_checks, too_old}
 use Rattle.wrp_world.specs.Runs.{IsNetwork, WasPutOut}
 use Rattle.wrp_world.specs.LinkEnds.{link_sent, sent_with}
-use Rattle.wrp_world.specs.Setting.{Setting, end_at, fixed_of, other_of}
+use Rattle.wrp_world.specs.Setting.{Setting, end_at, fixed_of}
 use Rattle.wrp_world.specs.WorldAt.{Arrival, FrameAt, Sending, WorldAt}
 use Rattle.wrp_world.proofs.RunFrames.{FrameOf}
 use Rattle.wrp_world.proofs.RunGiven.{IsFair, IsKnown}

@@ -8,7 +8,7 @@ use Rattle.wrp_base.specs.declared.link.Module.{Module}
 use Rattle.wrp_base.specs.declared.link.Role.{Role}
 use Rattle.wrp_base.specs.declared.link.Role.TheVariants.{Master, Slave}
 use Rattle.wrp_base.specs.declared.network.LinkCfg.{LinkCfg}
-use Rattle.wrp_base.specs.Network.{End}
+use Rattle.wrp_base.specs.Network.{End, other_of}
 use Rattle.wrp_config.specs.Laws.{ChildIsDeeper}
 use Rattle.wrp_handshake.specs.Ends.{Port}
 use Rattle.wrp_handshake.specs.Laws.{OnInTheSameHandshake as OnAsOneLink, OnWithTheDeltas as DeltasAsOneLink, CarrierWithItsModule as ModuleAsOneLink}
@@ -20,7 +20,7 @@ use Rattle.wrp_node.specs.SetLaws.{EndsAreSet}
 use Rattle.wrp_world.specs.Given.{Given, comes_from, given_plain, gives, gives_all, goes_from}
 use Rattle.wrp_world.specs.LinkEnds.{in_place, port_at}
 use Rattle.wrp_world.specs.Runs.{IsNetwork}
-use Rattle.wrp_world.specs.Setting.{Setting, end_of, link_of, other_of}
+use Rattle.wrp_world.specs.Setting.{Setting, end_of, link_of}
 use Rattle.wrp_world.specs.WorldAt.{WorldAt}
 use Rattle.wrp_world.proofs.RunCarriers.{both_in, comes_to, pair_away, pair_lights, pair_passes}
 use Rattle.wrp_world.proofs.RunDark.{fair_quiet, given_dark, gone_here, goes_to}

@@ -7,7 +7,7 @@ use Rattle.std.specs.Option.{option_map_or}
 use Rattle.std.proofs.lemmas.Option.{same_Some}
 use Rattle.wrp_base.specs.declared.message.PtpMsg.{PtpMsg}
 use Rattle.wrp_base.specs.declared.time.Raw.{Raw}
-use Rattle.wrp_base.specs.Network.{End}
+use Rattle.wrp_base.specs.Network.{End, other_of}
 use Rattle.wrp_bounds.specs.Times.{frame_life}
 use Rattle.wrp_frame.specs.declared.fault.FrameFault.{FrameFault}
 use Rattle.wrp_world.specs.declared.event.Event.{Event}
@@ -20,7 +20,7 @@ use Rattle.wrp_world.specs.Moved.{arrived, departing, frame_after, moved, remove
 use Rattle.wrp_world.specs.Premises.{Accepts, arrive_checks, depart_checks, received}
 use Rattle.wrp_world.specs.Run.{AllAccepted, Happened, world_after}
 use Rattle.wrp_world.specs.RunStamps.{ArrivedSo, CameAfter, DepartedSo, FramesAreStamped}
-use Rattle.wrp_world.specs.Setting.{Setting, end_at, end_of, of_node, other_of, place_of}
+use Rattle.wrp_world.specs.Setting.{Setting, end_at, end_of, of_node, place_of}
 use Rattle.wrp_world.specs.WorldAt.{Arrival, FrameAt, Sending, WorldAt, has_carrier, is_on_fibre, reading}
 use Rattle.wrp_world.proofs.RunGiven.{end_is}
 use Rattle.wrp_world.proofs.RunNetwork.{LinkEnd, end_with, link_end, place_end}

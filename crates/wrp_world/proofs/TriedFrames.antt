@@ -6,7 +6,7 @@ use Rattle.std.proofs.lemmas.Option.{none-some, same_Some}
 use Rattle.wrp_base.specs.declared.link.Role.{Role}
 use Rattle.wrp_base.specs.declared.time.Clock.{Clock}
 use Rattle.wrp_base.specs.declared.time.Raw.{Raw}
-use Rattle.wrp_base.specs.Network.{End}
+use Rattle.wrp_base.specs.Network.{End, other_of}
 use Rattle.wrp_world.specs.Checks.{Check, told_of, at_most, not_sent, size_of, stands}
 use Rattle.wrp_world.specs.declared.checks.Breach.{Breach}
 use Rattle.wrp_world.specs.declared.ends.PutOut.{PutOut}
@@ -16,7 +16,7 @@ use Rattle.wrp_world.specs.declared.place.Place.{Place}
 use Rattle.wrp_world.specs.Moved.{waiting_at}
 use Rattle.wrp_world.specs.Plant.{DepartedIs, Each, EndIs, FitsEnd, FitsSpan, FramesAre, PutOutIs, SpanIs, end_in, frame_numbered, is_on}
 use Rattle.wrp_world.specs.Premises.{arrive_checks, depart_checks, raw_checks, received, received_at, transition_of}
-use Rattle.wrp_world.specs.Setting.{Setting, end_at, entry_at, of_node, other_of, place_of}
+use Rattle.wrp_world.specs.Setting.{Setting, end_at, entry_at, of_node, place_of}
 use Rattle.wrp_world.specs.Sizes.{IsTime, IsTimeBy}
 use Rattle.wrp_world.specs.Tried.{departs_by, received_to}
 use Rattle.wrp_world.specs.Views.{oldest_of}

@@ -9,6 +9,7 @@ use Rattle.wrp_base.specs.declared.link.Role.TheVariants.{Master, Slave}
 use Rattle.wrp_base.specs.declared.message.PortIdentity.{PortIdentity}
 use Rattle.wrp_base.specs.declared.message.PtpMsg.{PtpMsg}
 use Rattle.wrp_base.specs.declared.network.LinkCfg.{LinkCfg}
+use Rattle.wrp_base.specs.Network.{other_of}
 use Rattle.wrp_base.proofs.Naturals.{is_plus_zero, zero_plus}
 use Rattle.wrp_data.specs.declared.datasets.PortDs.{PortDs}
 use Rattle.wrp_frame.specs.declared.fault.FrameFault.{FrameFault}
@@ -22,7 +23,7 @@ use Rattle.wrp_world.specs.Checks.{told_of, stands}
 use Rattle.wrp_world.specs.declared.checks.Breach.{Breach}
 use Rattle.wrp_world.specs.declared.place.Place.{Place}
 use Rattle.wrp_world.specs.Premises.{is_forged, noise_checks}
-use Rattle.wrp_world.specs.Setting.{Setting, link_of, other_of, place_among, place_of}
+use Rattle.wrp_world.specs.Setting.{Setting, link_of, place_among, place_of}
 use Rattle.wrp_world.specs.Tried.{forged_by, identity_at, is_by}
 use Rattle.wrp_world.specs.WorldAt.{WorldAt, has_carrier}
 use Rattle.wrp_world.proofs.Told.{told_cons}

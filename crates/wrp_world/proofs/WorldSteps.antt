@@ -9,7 +9,7 @@ use Rattle.wrp_base.specs.declared.link.Role.TheVariants.{Master}
 use Rattle.wrp_base.specs.declared.message.Body.{Body}
 use Rattle.wrp_base.specs.declared.message.Body.TheVariants.{Sync, DelayReq, FollowUp, DelayResp, Announce, Signal}
 use Rattle.wrp_base.specs.declared.message.PtpMsg.{PtpMsg}
-use Rattle.wrp_base.specs.Network.{End, node_count}
+use Rattle.wrp_base.specs.Network.{End, node_count, other_of}
 use Rattle.wrp_config.specs.declared.network.Network.{Network}
 use Rattle.wrp_frame.specs.declared.fault.FrameFault.{FrameFault}
 use Rattle.wrp_node.specs.declared.interface.Input.TheVariants.{Carrier}
@@ -33,7 +33,7 @@ use Rattle.wrp_world.specs.Plant.{Each, FitsPlant}
 use Rattle.wrp_world.specs.PlantTold.{NoneStepped}
 use Rattle.wrp_world.specs.Premises.{Accepts, checks_of}
 use Rattle.wrp_world.specs.Run.{IsSaid}
-use Rattle.wrp_world.specs.Setting.{Setting, end_at, entry_at, other_of, place_of}
+use Rattle.wrp_world.specs.Setting.{Setting, end_at, entry_at, place_of}
 use Rattle.wrp_world.specs.StandsFor.{IsValid, NodeIs, StandsFor, WorldOf}
 use Rattle.wrp_world.specs.Step.{IsRefusal, StaysSo, Stepped}
 use Rattle.wrp_world.specs.Taking.{Asks, FirstAsks, GaveAll, HasTicks, is_plain}

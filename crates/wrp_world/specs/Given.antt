@@ -10,6 +10,7 @@ use Rattle.wrp_base.specs.declared.message.Body.{Body}
 use Rattle.wrp_base.specs.declared.message.Body.TheVariants.{Sync, DelayReq, Signal}
 use Rattle.wrp_base.specs.declared.message.PtpMsg.{PtpMsg}
 use Rattle.wrp_base.specs.declared.message.WrMsg.{WrMsg}
+use Rattle.wrp_base.specs.Network.{other_of}
 use Rattle.wrp_frame.specs.declared.fault.FrameFault.{FrameFault}
 use Rattle.wrp_frame.specs.declared.fault.FrameFault.TheVariants.{Short}
 use Rattle.wrp_frame.specs.SentOctets.{octets_of}
@@ -26,7 +27,7 @@ use Rattle.wrp_world.specs.declared.event.Event.{Event}
 use Rattle.wrp_world.specs.declared.event.Event.TheVariants.{Tick, Sample, Depart, Deliver, Noise, Down, Up, Cut, Join}
 use Rattle.wrp_world.specs.Moved.{moved, waiting_at}
 use Rattle.wrp_world.specs.declared.place.Place.{Place}
-use Rattle.wrp_world.specs.Setting.{Setting, end_at, entry_at, fixed_of, is_of, other_of, place_of}
+use Rattle.wrp_world.specs.Setting.{Setting, end_at, entry_at, fixed_of, is_of, place_of}
 use Rattle.wrp_world.specs.WorldAt.{WorldAt, EndAt, FrameAt, Arrival, Sending, has_carrier}
 
 -- What an event gives

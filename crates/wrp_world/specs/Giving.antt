@@ -8,6 +8,7 @@ use Rattle.wrp_base.specs.declared.message.Body.{Body}
 use Rattle.wrp_base.specs.declared.message.Body.TheVariants.{Sync, DelayReq}
 use Rattle.wrp_base.specs.declared.message.PtpMsg.{PtpMsg}
 use Rattle.wrp_base.specs.declared.time.Stamp.{Stamp}
+use Rattle.wrp_base.specs.Network.{other_of}
 use Rattle.wrp_frame.specs.declared.fault.FrameFault.{FrameFault}
 use Rattle.wrp_node.specs.declared.interface.Input.{Input}
 use Rattle.wrp_node.specs.declared.interface.Input.TheVariants.{Carrier, Sent}
@@ -26,7 +27,7 @@ use Rattle.wrp_world.specs.Moved.{moved, swap_at}
 use Rattle.wrp_world.specs.Plant.{PlantIs, frame_numbered}
 use Rattle.wrp_world.specs.Premises.{Accepts}
 use Rattle.wrp_world.specs.Run.{IsSaid}
-use Rattle.wrp_world.specs.Setting.{Setting, end_at, entry_at, other_of, place_of}
+use Rattle.wrp_world.specs.Setting.{Setting, end_at, entry_at, place_of}
 use Rattle.wrp_world.specs.WorldAt.{Sending, WorldAt}
 
 -- when the frame that an event hands over was put out, in true time; 0 where it hands over none

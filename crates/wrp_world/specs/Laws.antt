@@ -3,14 +3,14 @@ use Rattle.std.specs.Prelude.{◌≡◌, ℕ, [], None, Some, Result}
 use Rattle.wrp_base.specs.declared.message.PtpMsg.{PtpMsg}
 use Rattle.wrp_base.specs.declared.network.LinkCfg.{LinkCfg}
 use Rattle.wrp_base.specs.declared.time.Raw.{Raw}
-use Rattle.wrp_base.specs.Network.{End}
+use Rattle.wrp_base.specs.Network.{End, other_of}
 use Rattle.wrp_frame.specs.declared.fault.FrameFault.{FrameFault}
 use Rattle.wrp_phase.specs.BeatPattern.{KeepsBeatPattern}
 use Rattle.wrp_stamp.specs.StampBound.{KeepsStampBound}
 use Rattle.wrp_world.specs.declared.event.Event.{Event}
 use Rattle.wrp_world.specs.declared.event.Event.TheVariants.{Arrive, Sample}
 use Rattle.wrp_world.specs.Premises.{Accepts, broken, transition_of}
-use Rattle.wrp_world.specs.Setting.{Setting, above, end_at, entry_at, link_of, of_node, other_of, place_of}
+use Rattle.wrp_world.specs.Setting.{Setting, above, end_at, entry_at, link_of, of_node, place_of}
 use Rattle.wrp_world.specs.Views.{history_of, waiting_of, tick_due, IsNextArrival, octets_at, sender_of}
 use Rattle.wrp_world.specs.WorldAt.{WorldAt, FrameAt, new_world, phase_of, reading}
 

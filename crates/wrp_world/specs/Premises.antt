@@ -17,7 +17,8 @@ use Rattle.wrp_base.specs.declared.message.PtpMsg.{PtpMsg}
 use Rattle.wrp_base.specs.declared.network.LinkCfg.{LinkCfg}
 use Rattle.wrp_base.specs.declared.time.Clock.{Clock}
 use Rattle.wrp_base.specs.declared.time.Raw.{Raw}
-use Rattle.wrp_base.specs.Network.{link_above}
+use Rattle.wrp_base.specs.Network.{link_above, other_of}
+use Rattle.wrp_base.specs.Message.{is_port}
 use Rattle.wrp_bounds.specs.Times.{shortest_tick, longest_tick, frame_life, reach}
 use Rattle.wrp_frame.specs.declared.fault.FrameFault.{FrameFault}
 use Rattle.wrp_node.specs.NodeAt.{locked_of, state_of, port_of}
@@ -34,7 +35,7 @@ use Rattle.wrp_world.specs.declared.fibres.FibreState.{FibreState}
 use Rattle.wrp_world.specs.Checks.{Check, at_most, at_least, only_where, size_of, stands, not_sent, AllHold, first_broken}
 use Rattle.wrp_world.specs.Moved.{moved, waiting_at, drift_of, move_of}
 use Rattle.wrp_world.specs.declared.place.Place.{Place}
-use Rattle.wrp_world.specs.Setting.{Setting, above, end_at, entry_at, fixed_of, from_on, link_of, links_of, nodes_of, of_node, other_of, place_of}
+use Rattle.wrp_world.specs.Setting.{Setting, above, end_at, entry_at, fixed_of, from_on, link_of, links_of, nodes_of, of_node, place_of}
 use Rattle.wrp_world.specs.WorldAt.{WorldAt, FrameAt, Arrival, Sending, delay_from, has_carrier, is_on_fibre, phase_of, reading}
 
 -- rates are in 10^-12
@@ -223,12 +224,9 @@ deliver_checks s w i (Some f) = deliver_by s w i f f.arrival
 
 -- 12, Forged: octets that the peer did not send do not say a message of the peer
 
-abbrev pub is_same_port : PortIdentity → PortIdentity → Bool
-is_same_port a b = (a.clock == b.clock) && (a.port == b.port)
-
 abbrev pub is_forged : Setting → (n p : ℕ) → Result PtpMsg FrameFault → Bool
 is_forged s n p (Err fault) = false
-is_forged s n p (Ok message) = is_same_port message.head.source (port_of (s.set n) p).peer
+is_forged s n p (Ok message) = is_port message.head.source (port_of (s.set n) p).peer
 
 abbrev pub noise_checks : Setting → WorldAt → (n p : ℕ) → Result PtpMsg FrameFault → Option Place → List Check
 noise_checks s w n p says None = stands false ∷ []

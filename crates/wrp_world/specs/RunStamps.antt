@@ -1,11 +1,11 @@
 -- What is true of the departure and of the arrival of each frame, in the world before that event (this project's profile).
 use Rattle.std.specs.Prelude.{◌≡◌, ℕ, pos, ◌+ℤ◌, ◌-ℤ◌, ◌≤◌, ◌≤ℤ◌, unsigned_abs, true, List, ◌∷◌, ◌++◌, Some, IfSome}
-use Rattle.wrp_base.specs.Network.{End}
+use Rattle.wrp_base.specs.Network.{End, other_of}
 use Rattle.wrp_bounds.specs.Times.{frame_life}
 use Rattle.wrp_world.specs.Laws.{KeepsStamp}
 use Rattle.wrp_world.specs.Run.{Happened, world_after}
 use Rattle.wrp_world.specs.Runs.{IsRun}
-use Rattle.wrp_world.specs.Setting.{Setting, end_at, of_node, other_of}
+use Rattle.wrp_world.specs.Setting.{Setting, end_at, of_node}
 use Rattle.wrp_world.specs.WorldAt.{Arrival, FrameAt, delay_from, has_carrier, reading}
 
 -- one of these events, the newest first, came after these older ones

@@ -5,6 +5,7 @@ use Rattle.wrp_base.specs.declared.link.LinkState.TheVariants.{LinkOn}
 use Rattle.wrp_base.specs.declared.link.Role.{Role}
 use Rattle.wrp_base.specs.declared.link.Role.TheVariants.{Master, Slave}
 use Rattle.wrp_base.specs.declared.network.LinkCfg.{LinkCfg}
+use Rattle.wrp_base.specs.Network.{other_of}
 use Rattle.wrp_bounds.specs.Times.{shortest_tick, frame_life}
 use Rattle.wrp_check.specs.Handshake.{SameHandshake}
 use Rattle.wrp_handshake.specs.Deltas.{KnowsDeltas}
@@ -14,7 +15,7 @@ use Rattle.wrp_world.specs.declared.place.Place.{Place}
 use Rattle.wrp_world.specs.LinkEnds.{ends_at, in_place, port_at}
 use Rattle.wrp_world.specs.Run.{Happened, world_after}
 use Rattle.wrp_world.specs.Runs.{IsRun}
-use Rattle.wrp_world.specs.Setting.{Setting, end_of, link_of, other_of, place_of}
+use Rattle.wrp_world.specs.Setting.{Setting, end_of, link_of, place_of}
 use Rattle.wrp_world.specs.WorldAt.{WorldAt, has_carrier}
 
 -- the state of the link of a port of a node

@@ -8,7 +8,8 @@ use Rattle.wrp_base.specs.declared.link.Role.{Role}
 use Rattle.wrp_base.specs.declared.link.Role.TheVariants.{Master, Slave}
 use Rattle.wrp_base.specs.declared.network.LinkCfg.{LinkCfg}
 use Rattle.wrp_base.specs.declared.network.NodeCfg.{NodeCfg}
-use Rattle.wrp_base.specs.Network.{End, node_count}
+use Rattle.wrp_base.specs.Network.{End, node_count, other_of}
+use Rattle.wrp_base.specs.Clock.{second}
 use Rattle.wrp_caldb.specs.Database.{Database, module_at}
 use Rattle.wrp_config.specs.Names.{is_upper_end, is_lower_end}
 use Rattle.wrp_node.specs.declared.interface.NodeSet.{NodeSet}
@@ -46,18 +47,11 @@ link_of s k = slice_get s.cfg.links.items k
 abbrev pub of_node : (NodeCfg → ℕ) → Setting → ℕ → ℕ
 of_node number s n = option_map_or number (slice_get s.cfg.nodes.items n) 0
 
--- one second, in tau; the first moment of a world is its epoch
-abbrev pub second : ℤ
-second = pos 65_536_000_000_000_000
-
+-- the first moment of a world is its epoch, in seconds
 abbrev pub start_of : Setting → ℤ
 start_of s = s.cfg.epoch *ℤ second
 
 -- Ends of links
-
-abbrev pub other_of : Role → Role
-other_of Master = Slave
-other_of Slave = Master
 
 abbrev pub is_role : Role → Role → Bool
 is_role Master Master = true

@@ -11,6 +11,8 @@ use Rattle.wrp_base.specs.declared.message.PtpMsg.{PtpMsg}
 use Rattle.wrp_base.specs.declared.network.LinkCfg.{LinkCfg}
 use Rattle.wrp_base.specs.declared.network.NodeCfg.{NodeCfg}
 use Rattle.wrp_base.specs.declared.time.Raw.{Raw}
+use Rattle.wrp_base.specs.Message.{is_port}
+use Rattle.wrp_base.specs.Network.{other_of}
 use Rattle.wrp_bounds.specs.Times.{frame_life}
 use Rattle.wrp_frame.specs.declared.fault.FrameFault.{FrameFault}
 use Rattle.wrp_node.specs.NodeRun.{Says}
@@ -26,9 +28,9 @@ use Rattle.wrp_world.specs.declared.place.Place.{Place}
 use Rattle.wrp_world.specs.declared.plant.Plant.{Plant}
 use Rattle.wrp_world.specs.Moved.{move_of}
 use Rattle.wrp_world.specs.Plant.{PlantIs}
-use Rattle.wrp_world.specs.Premises.{checks_of, is_holdover, is_same_port, noise_checks, received_at}
+use Rattle.wrp_world.specs.Premises.{checks_of, is_holdover, noise_checks, received_at}
 use Rattle.wrp_world.specs.Run.{IsSaid}
-use Rattle.wrp_world.specs.Setting.{Setting, end_at, entry_at, of_node, other_of, place_of}
+use Rattle.wrp_world.specs.Setting.{Setting, end_at, entry_at, of_node, place_of}
 use Rattle.wrp_world.specs.StandsFor.{StandsFor, WorldOf}
 use Rattle.wrp_world.specs.WorldAt.{EndAt, WorldAt, has_carrier, reading}
 
@@ -91,7 +93,7 @@ identity_at cfg Slave link = lower_of cfg link
 -- octets say a message of this port
 abbrev pub is_by : PortIdentity → Result PtpMsg FrameFault → Bool
 is_by peer (Err fault) = false
-is_by peer (Ok message) = is_same_port message.head.source peer
+is_by peer (Ok message) = is_port message.head.source peer
 
 abbrev pub forged_by : Bool → Check
 forged_by by_peer = record { premise = 12; fails = by_peer; shown = pos 1; bound = pos 0 }

@@ -1,7 +1,8 @@
 //! Which end of which link a port of a node is.
 ghost use Rattle.std.specs.Prelude.{◌≡◌, ◌<◌, length, IfSome};
+ghost use Rattle.wrp_base.specs.Network.{other_of};
 ghost use Rattle.wrp_config.specs.Names as names;
-ghost use Rattle.wrp_world.specs.Setting.{other_of, place_among};
+ghost use Rattle.wrp_world.specs.Setting.{place_among};
 ghost use Rattle.wrp_world.specs.Tried.{across};
 
 use wrp_base::{LinkCfg, NetCfg, Role};

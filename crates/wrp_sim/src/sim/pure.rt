@@ -2,12 +2,11 @@
 ghost use Rattle.std.specs.Prelude.{◌≡◌, ◌<◌, ◌≤◌, ◌≤ℤ◌, ◌^◌, ◌*ℤ◌, ◌*◌, pos, unsigned_abs, IfSome};
 ghost use Rattle.std.specs.Int.Signed.{le_z};
 ghost use Rattle.std.specs.Ordering.{int_eq};
-ghost use Rattle.wrp_base.specs.Clock.{period_of, steps_of_period};
+ghost use Rattle.wrp_base.specs.Clock.{period_of, second, steps_of_period};
 ghost use Rattle.wrp_base.specs.Network.{HasRanges};
 ghost use Rattle.wrp_bounds.specs.Times as times;
 ghost use Rattle.wrp_phase.specs.BeatPattern as beat;
 ghost use Rattle.wrp_sim.specs.Numbers as number;
-ghost use Rattle.wrp_world.specs.Setting.{second};
 
 use wrp_base::{Clock, NetCfg, Raw, Tau, difference, hold, product, sum, trunc_div};
 

@@ -3,10 +3,10 @@ ghost use Rattle.std.specs.Prelude.{◌≡◌, ◌<◌, ◌++◌, ◌∷◌, [],
 ghost use Rattle.std.specs.Fmt.{decimal, signed_decimal};
 ghost use Rattle.std.specs.String.{string_bytes};
 ghost use Rattle.hex.specs.Hex.{encode_lower};
-ghost use Rattle.wrp_base.specs.Network.{node_count};
+ghost use Rattle.wrp_base.specs.Network.{name_at, node_count};
 ghost use Rattle.wrp_base.specs.Octets.{AreOctets};
 ghost use Rattle.wrp_config.specs.Accepted.{IsAccepted};
-ghost use Rattle.wrp_trace.specs.EventPrinting.{node_text, link_text, drift_words, drift_piece, drift_texts, move_words, move_piece, move_texts, swap_text, pass_texts, raw_texts, event_texts, event_text, further};
+ghost use Rattle.wrp_trace.specs.EventPrinting.{link_text, drift_words, drift_piece, drift_texts, move_words, move_piece, move_texts, swap_text, pass_texts, raw_texts, event_texts, event_text, further};
 ghost use Rattle.wrp_trace.specs.Events.{event_read, plain};
 ghost use Rattle.wrp_trace.specs.Printing.{bits_text, joined};
 ghost use Rattle.wrp_world.specs.EventAt.{link_count, IsEventOf, FitsEvent};
@@ -63,7 +63,7 @@ fn text_of(alloc: Global, e: &Event, cfg: &NetCfg) -> Result<String, AllocError>
 // The name of a node.
 fn node_name(cfg: &NetCfg, n: u8) -> &str
     requires { n < node_count cfg.now }
-    ensures { result.now ≡ node_text cfg.now n }
+    ensures { result.now ≡ name_at cfg.now n }
 {
     cfg.nodes[usize::from(n)].name.as_str()
 }

@@ -2,10 +2,11 @@
 ghost use Rattle.std.specs.Prelude.{◌≡◌, ◌*ℤ◌, IfOk, length};
 ghost use Rattle.std.specs.Option.{option_map_or};
 ghost use Rattle.wrp_base.specs.Network.{HasRanges};
+ghost use Rattle.wrp_base.specs.Clock.{second};
 ghost use Rattle.wrp_config.specs.Accepted.{IsAccepted};
 ghost use Rattle.wrp_world.specs.New.{IsNewEnd, IsNewSpan, IsSpanOf, new_clock};
 ghost use Rattle.wrp_world.specs.Plant.{Each, FitsPlant, PlantIs};
-ghost use Rattle.wrp_world.specs.Setting.{Setting, second};
+ghost use Rattle.wrp_world.specs.Setting.{Setting};
 ghost use Rattle.wrp_world.specs.Sizes.{IsTimeBy};
 ghost use Rattle.wrp_world.specs.WorldAt.{new_world};
 

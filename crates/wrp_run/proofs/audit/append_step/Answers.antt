@@ -2,9 +2,9 @@
 use Rattle.std.proofs.Common.{◌≡◌, ◌∙◌, ap, pos, rules}
 use Rattle.std.proofs.lemmas.Int.{to_z-of_z}
 use Rattle.std.proofs.lemmas.Result.{IfOk-weaker}
+use Rattle.wrp_base.specs.Network.{name_at}
 use Rattle.wrp_bounds.specs.Bounds.{path_of}
 use Rattle.wrp_config.specs.declared.network.Network.{Network}
-use Rattle.wrp_lines.specs.Words.{name_at}
 use Rattle.wrp_run.proofs.AuditSteps.{step_text}
 use Rattle.wrp_run.proofs.audit.append_step.Goals as goal
 

@@ -1,12 +1,11 @@
 //! Carriers that go and come at the ends of a link.
 ghost use Rattle.std.specs.Prelude.{◌≡◌, ◌<◌, length, true, Some, OnOk};
-ghost use Rattle.wrp_base.specs.Network.{node_count};
+ghost use Rattle.wrp_base.specs.Network.{node_count, other_of};
 ghost use Rattle.wrp_world.specs.FitsGifts.{has_port};
 ghost use Rattle.wrp_world.specs.Given.{goes_at, goes_from};
 ghost use Rattle.wrp_world.specs.Giving.{Adds, comes_over, comes_over_both};
 ghost use Rattle.wrp_world.specs.Plant.{FitsPlant, PlantIs};
 ghost use Rattle.wrp_world.specs.Setting.{Setting, end_at, entry_at, sends_nm as sends_in};
-ghost use Rattle.wrp_world.specs.Setting as setting;
 ghost use Rattle.wrp_world.specs.WorldAt.{WorldAt};
 
 use super::super::Plant;
@@ -20,7 +19,7 @@ use wrp_node::Input;
 
 // The role at the other end.
 fn other_of(role: Role) -> Role
-    ensures { result ≡ setting.other_of role }
+    ensures { result ≡ other_of role }
 {
     match role {
         Role::Master => Role::Slave,
@@ -30,7 +29,7 @@ fn other_of(role: Role) -> Role
 
 /// The other end of the link.
 pub fn other_end(place: Place) -> Place
-    ensures { result ≡ record { link = place.link; role = setting.other_of place.role } }
+    ensures { result ≡ record { link = place.link; role = other_of place.role } }
 {
     Place {
         link: place.link,

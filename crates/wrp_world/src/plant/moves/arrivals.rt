@@ -1,6 +1,7 @@
 //! Frames that arrive.
 ghost use Rattle.std.specs.Prelude.{◌≡◌, ◌<◌, ◌+◌, ◌^◌, ℕ, length, option_map, IfSome};
 ghost use Rattle.std.specs.Option.{option_map_or};
+ghost use Rattle.wrp_base.specs.Network.{other_of};
 ghost use Rattle.wrp_world.specs.declared.event.Event.TheVariants as event;
 ghost use Rattle.wrp_world.specs.EventAt.{IsRaw};
 ghost use Rattle.wrp_world.specs.Flights.{Arrives, from_of};
@@ -8,7 +9,7 @@ ghost use Rattle.wrp_world.specs.Moved.{moved};
 ghost use Rattle.wrp_world.specs.Moves.{Changed, Same, Turns};
 ghost use Rattle.wrp_world.specs.Plant.{FitsPlant, PlantIs, frame_numbered};
 ghost use Rattle.wrp_world.specs.Room.{HasRoom};
-ghost use Rattle.wrp_world.specs.Setting.{Setting, end_at, other_of};
+ghost use Rattle.wrp_world.specs.Setting.{Setting, end_at};
 ghost use Rattle.wrp_world.specs.WorldAt.{WorldAt};
 
 use super::super::Plant;

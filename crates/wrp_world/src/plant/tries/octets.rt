@@ -1,5 +1,6 @@
 //! Which premise octets break that the peer of a port did not send.
 ghost use Rattle.std.specs.Prelude.{◌≡◌, ◌<◌, ◌∷◌, [], length, Some};
+ghost use Rattle.wrp_base.specs.Message.{is_port};
 ghost use Rattle.wrp_node.specs.Set as set;
 ghost use Rattle.wrp_world.specs.Checks.{told_of};
 ghost use Rattle.wrp_world.specs.Plant.{FitsPlant, PlantIs};
@@ -16,7 +17,7 @@ use wrp_frame::{FrameFault, decode};
 
 // Two ports are one.
 fn is_same_port(a: PortIdentity, b: PortIdentity) -> bool
-    ensures { result ≡ premise.is_same_port a b }
+    ensures { result ≡ is_port a b }
 {
     a.clock == b.clock && a.port == b.port
 }

@@ -1,11 +1,11 @@
 use Rattle.std.proofs.Common.{◌≡◌, ◌∙◌, refl, sym, ap, subst, ◌*ℤ◌, ◌≤◌, List, length, arith}
 use Rattle.wrp_base.specs.declared.configuration.NetCfg.{NetCfg}
 use Rattle.wrp_base.specs.declared.network.LinkCfg.{LinkCfg}
+use Rattle.wrp_base.specs.Clock.{second}
 use Rattle.wrp_caldb.specs.Database.{Database}
 use Rattle.wrp_world.specs.declared.frames.Departed.{Departed}
 use Rattle.wrp_world.specs.New.{IsSpanOf, new_clock}
 use Rattle.wrp_world.specs.Plant.{Each, FitsDeparted}
-use Rattle.wrp_world.specs.Setting.{second}
 use Rattle.wrp_world.specs.Sizes.{IsTimeBy}
 use Rattle.wrp_world.proofs.EachLists.{each_none}
 use Rattle.wrp_world.proofs.NewPlants.{new_plant, clocks_fit, spans_fit}

@@ -1,7 +1,7 @@
 use Rattle.std.proofs.Common.{◌∙◌, sym, ap, slice_get}
 use Rattle.wrp_base.specs.declared.configuration.NetCfg.{NetCfg}
+use Rattle.wrp_base.specs.Network.{other_of}
 use Rattle.wrp_world.specs.declared.place.Place.{Place}
-use Rattle.wrp_world.specs.Setting.{other_of}
 use Rattle.wrp_world.specs.Tried.{identity_at}
 use Rattle.wrp_world.proofs.TriedOctets.{noise_told}
 use Rattle.wrp_world.proofs.plant.Plant.said_broken.Goals as goal

@@ -3,8 +3,8 @@ use Rattle.std.proofs.Common.{◌∙◌, ap, ap₂, sym, subst, ℤ, pos, ◌*�
 use Rattle.std.proofs.lemmas.Int.{ints}
 use Rattle.std.specs.List.{AllByRecursion}
 use Rattle.wrp_base.specs.declared.configuration.NetCfg.{NetCfg}
+use Rattle.wrp_base.specs.Clock.{second}
 use Rattle.wrp_config.specs.declared.network.Network.{Network}
-use Rattle.wrp_world.specs.Setting.{second}
 use Rattle.wrp_world.proofs.SignedReads.{read}
 use Rattle.wrp_sim.specs.declared.scene.fault.Fault.{Fault}
 use Rattle.wrp_sim.specs.declared.scene.fault.FaultKind.TheVariants.{Down}
