@@ -1,8 +1,7 @@
 -- How nodes, the words of links, the states of servos and reasons are written (this project's profile).
-use Rattle.std.specs.Prelude.{ℕ, ◌==◌, List, [], slice_get, codes}
+use Rattle.std.specs.Prelude.{ℕ, ◌==◌, List, [], codes}
 use Rattle.std.specs.List.{find}
 use Rattle.std.specs.Option.{option_map_or}
-use Rattle.wrp_base.specs.declared.configuration.NetCfg.{NetCfg}
 use Rattle.wrp_base.specs.declared.link.LinkState.TheVariants.{Idle, Present, SLock, MLock, Locked, Calibration, Calibrated, RespCalib, LinkOn}
 use Rattle.wrp_base.specs.declared.link.LinkWord.{LinkWord}
 use Rattle.wrp_base.specs.declared.link.LinkWord.TheVariants.{Down, Quiet, Ptp, In}

@@ -9,7 +9,7 @@ use Rattle.wrp_node.specs.NodeRun.{AllSaid}
 use Rattle.wrp_node.specs.OneRun.{answers_by}
 use Rattle.wrp_node.specs.Set.{set_of}
 use Rattle.wrp_trace.specs.Events.{event_read}
-use Rattle.wrp_trace.specs.Site.{Site, site_in}
+use Rattle.wrp_trace.specs.Site.{site_in}
 use Rattle.wrp_world.specs.Run.{Happened, WorldRun, world_after}
 use Rattle.wrp_world.specs.Setting.{Setting}
 use Rattle.wrp_world.specs.WorldAt.{WorldAt}

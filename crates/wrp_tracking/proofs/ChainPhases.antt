@@ -1,5 +1,5 @@
 -- A chain's constant, sample by sample.
-use Rattle.std.proofs.Common.{◌≡◌, ℕ, ℤ, pos, negsuc, neg_ℤ, ◌+◌, ◌-◌, ◌*◌, ◌/◌, ◌%◌, ◌<◌, ◌≤◌, ◌+ℤ◌, ◌-ℤ◌, ◌≤ℤ◌, ◌<ℤ◌, lit<, [], ◌∷◌, Some, arith, min}
+use Rattle.std.proofs.Common.{◌≡◌, ℕ, ℤ, pos, negsuc, neg_ℤ, ◌+◌, ◌-◌, ◌*◌, ◌/◌, ◌%◌, ◌<◌, ◌≤◌, ◌+ℤ◌, ◌-ℤ◌, ◌≤ℤ◌, ◌<ℤ◌, lit<, arith, min}
 use Rattle.std.proofs.lemmas.Int.{ints}
 use Rattle.std.proofs.Math.Nat.{div-add-mod, mod-lt}
 use Rattle.std.specs.Prelude.{unsigned_abs}
@@ -12,9 +12,19 @@ use Rattle.wrp_base.specs.Clock.{period_of}
 use Rattle.wrp_base.specs.Circle.{distance_round}
 use Rattle.wrp_base.specs.Closeness.{IsWithin}
 use Rattle.wrp_phase.specs.Beat.{phase_of}
-use Rattle.wrp_phase.specs.Unwrapping.{brought_round, added_by}
+use Rattle.wrp_phase.specs.Unwrapping.{brought_round}
 use Rattle.wrp_phase.proofs.UnwrapLaws.{brought_round-is}
-use Rattle.wrp_tracking.specs.ChainPhase.{KeepsConstant, ConstantStarts, ConstantKept, ConstantOfAll}
+use Rattle.wrp_tracking.specs.ChainPhase.{KeepsConstant, HasPhaseRoom, unwrapped_by}
+
+-- a good sample: its tag, and the true phase at its moment
+pub record TruePhase : Type 0 where
+  pub tag : ℕ
+  pub phase : ℤ
+
+-- one good sample after another: its tag is within e of the true phase round the period, which has moved by at most h
+pub record Follows (clock : Clock) (e h : ℕ) (before next : TruePhase) : Type 0 where
+  pub tag : distance_round clock (pos (phase_of clock next.tag)) next.phase ≤ e
+  pub moved : IsWithin h next.phase before.phase
 
 -- what is left of z when whole multiples of p are taken away or added
 left_over : (z : ℤ) (p : ℕ) → 0 < p →
@@ -108,7 +118,9 @@ next_is u d c place phase error i j step is = omega (arith, ints)
 next_near : (a c error : ℤ) (e : ℕ) → a ≡ c +ℤ error → unsigned_abs error ≤ e → IsWithin e a c
 next_near a c error e step small = omega (arith, ints)
 
-pub constant-starts : ConstantStarts
+-- a chain has a constant: its first sample keeps one, whatever its u
+pub constant-starts : (clock : Clock) (e : ℕ) (u : ℤ) (first : TruePhase) → distance_round clock (pos (phase_of clock first.tag)) first.phase ≤ e →
+    (constant : ℤ) × KeepsConstant clock e constant u first.tag first.phase
 constant-starts clock e u first near =
     let (error, i, j, is, small) = apart-round clock e (pos (phase_of clock first.tag)) first.phase near in (
       u -ℤ (first.phase +ℤ error),
@@ -119,7 +131,9 @@ constant-starts clock e u first near =
       },
     )
 
-pub constant-kept : ConstantKept
+-- a good sample that follows another keeps that one's constant
+pub constant-kept : (clock : Clock) (e h : ℕ) (constant u : ℤ) (before next : TruePhase) → HasPhaseRoom clock e h → KeepsConstant clock e constant u before.tag before.phase → Follows clock e h before next →
+    KeepsConstant clock e constant (unwrapped_by clock u before.tag next.tag) next.tag next.phase
 constant-kept clock e h constant u before next small keeps follows =
     let d : ℤ = brought_round clock (pos (phase_of clock next.tag) -ℤ pos (phase_of clock before.tag)) in
     let (none, i0, j0, old, zero_error) = apart-round clock 0 (u -ℤ constant) (pos (phase_of clock before.tag)) (omega (arith, keeps.round)) in
@@ -133,9 +147,3 @@ constant-kept clock e h constant u before next small keeps follows =
       round = whole-round clock ((u +ℤ d) -ℤ constant) (pos (phase_of clock next.tag)) i1 j1
           (next_is u d constant (pos (phase_of clock next.tag)) next.phase error (pos (i1 * period_of clock)) (pos (j1 * period_of clock)) is new);
     }
-
-pub constant-of_all : ConstantOfAll
-constant-of_all clock e h constant u before [] small keeps all = tt
-constant-of_all clock e h constant u before (next ∷ rest) small keeps all =
-    let first : KeepsConstant clock e constant (u +ℤ added_by clock (Some before.tag) next.tag) next.tag next.phase = constant-kept clock e h constant u before next small keeps all.0 in
-    (first, constant-of_all clock e h constant (u +ℤ added_by clock (Some before.tag) next.tag) next rest small first all.1)

@@ -8,11 +8,11 @@ use Rattle.wrp_bounds.specs.declared.numbers.HopNumbers.{HopNumbers}
 use Rattle.wrp_bounds.specs.Hop.{detector_error, gap_motion}
 use Rattle.wrp_tracking.specs.Moment.{Moment, MovesSlowly, phase_at}
 use Rattle.wrp_tracking.specs.History.{Was, EachStep}
-use Rattle.wrp_tracking.specs.Sides.{KeepsRates, KeepsParentRate, Latched, Flown}
+use Rattle.wrp_tracking.specs.Rates.{KeepsRates, KeepsParentRate}
 use Rattle.wrp_tracking.specs.ChainPhase.{KeepsConstant, unwrapped_by}
 use Rattle.wrp_tracking.specs.Chain.{Good, GoodTells, KeepsLimits, KeepsLimitsAbove, FlewAt, LatchedAt, MomentKeepsChain, SampleKeepsChain, ChainStarts, SyncTellsConstant, DelayTellsWays}
 use Rattle.wrp_tracking.proofs.Histories.{no_steps, slow_between, was_one, was_before, each_since}
-use Rattle.wrp_tracking.proofs.Sides.{sync-side, delay-side, phase_moved}
+use Rattle.wrp_tracking.proofs.Sides.{Latched, Flown, sync-side, delay-side, phase_moved}
 use Rattle.wrp_tracking.proofs.ChainPhases.{constant-kept, constant-starts}
 use Rattle.wrp_tracking.proofs.Trees.{span}
 

@@ -1,7 +1,11 @@
 -- The pieces of the delay half, call by call.
-use Rattle.std.proofs.Common.{arith}
+use Rattle.std.proofs.Common.{ℕ, ℤ, List, ◌∷◌, arith}
 use Rattle.std.proofs.lemmas.Grind.{common_steps}
-use Rattle.wrp_tracking.specs.DelayPieces.{RequestKeeps, SendingKeeps, RespKeeps, OthersKeepDelay, MomentKeepsDelay, FewerKeepDelay, MoreKeepDelay, FourOfPieces}
+use Rattle.wrp_exch.specs.Call.{Call}
+use Rattle.wrp_bounds.specs.declared.numbers.HopNumbers.{HopNumbers}
+use Rattle.wrp_tracking.specs.Moment.{Moment}
+use Rattle.wrp_tracking.specs.SyncPieces.{Told}
+use Rattle.wrp_tracking.specs.DelayPieces.{DelayHolds, RequestKeeps, SendingKeeps, RespKeeps, OthersKeepDelay, FourOfPieces}
 
 pub request-keeps : RequestKeeps
 request-keeps hop constant past from may ring calls seq holds = grind (arith, common_steps)
@@ -12,7 +16,9 @@ sending-keeps hop constant past from may ring calls seq t3 tick true_if holds = 
 pub others-keep_delay : OthersKeepDelay
 others-keep_delay hop constant past from may ring calls number seq tick phase precise correction t2 holds = grind (arith, common_steps)
 
-pub moment-keeps_delay : MomentKeepsDelay
+-- more moments keep it
+pub moment-keeps_delay : (hop : HopNumbers) (constant : ℤ) (now : Moment) (past : List Moment) (from : ℕ) (may : List Told) (ring : ℕ) (calls : List Call) → DelayHolds hop constant past from may ring calls →
+    DelayHolds hop constant (now ∷ past) from may ring calls
 moment-keeps_delay hop constant now past from may ring calls holds = grind (arith, common_steps)
 
 pub four-of_pieces : FourOfPieces
@@ -20,9 +26,3 @@ four-of_pieces hop constant past from said may ring calls sync delay = grind (ar
 
 pub resp-keeps : RespKeeps
 resp-keeps hop constant past from may ring calls seq t4 comes holds = grind (arith, common_steps)
-
-pub more-keep_delay : MoreKeepDelay
-more-keep_delay hop constant past from may ring calls told same holds = grind (arith, common_steps)
-
-pub fewer-keep_delay : FewerKeepDelay
-fewer-keep_delay hop constant past from may fewer ring calls less holds = grind (arith, common_steps)

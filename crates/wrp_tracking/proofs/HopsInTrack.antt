@@ -8,7 +8,7 @@ use Rattle.wrp_base.specs.Closeness.{IsWithin}
 use Rattle.wrp_bounds.specs.declared.numbers.HopNumbers.{HopNumbers}
 use Rattle.wrp_bounds.specs.Hop.{age_motion}
 use Rattle.wrp_tracking.specs.Moment.{Moment, ways_at}
-use Rattle.wrp_tracking.specs.Sides.{KeepsRates, KeepsParentRate}
+use Rattle.wrp_tracking.specs.Rates.{KeepsRates, KeepsParentRate}
 use Rattle.wrp_tracking.specs.ErrorSum.{delay_sum, FourFacts, PhaseFacts, HopFacts}
 use Rattle.wrp_tracking.specs.Chain.{Good, GoodTells, KeepsLimits, IsRecent}
 use Rattle.wrp_tracking.specs.HopInTrack.{WaysTold, FourHolds, HopStands, EstimateHolds, HopHolds}

@@ -5,7 +5,7 @@ use Rattle.wrp_base.specs.Closeness.{IsWithin}
 use Rattle.wrp_bounds.specs.declared.numbers.HopNumbers.{HopNumbers}
 use Rattle.wrp_bounds.specs.Hop.{detector_error, down_error, up_error, age_motion}
 use Rattle.wrp_tracking.specs.Moment.{Moment, phase_at, ways_at}
-use Rattle.wrp_tracking.specs.Sides.{KeepsRates}
+use Rattle.wrp_tracking.specs.Rates.{KeepsRates}
 use Rattle.wrp_tracking.specs.ErrorSum.{sync_sum, delay_sum, numerator_of, law_argument}
 use Rattle.wrp_tracking.specs.Reference.{switch_hop}
 use Rattle.wrp_tracking.specs.Worked.{worked_moment, worked_deltas, worked_four, worked_answer, WorkedHop}

@@ -90,40 +90,6 @@ OthersKeepDelay =
     × DelayHolds hop constant past from may ring (CallClear ∷ calls)
     × DelayHolds hop constant past from may ring (CallStart number ∷ calls)
 
--- more moments keep it
-abbrev pub MomentKeepsDelay : Type 0
-MomentKeepsDelay =
-    (hop : HopNumbers) (constant : ℤ) (now : Moment) (past : List Moment) (from : ℕ) →
-    (may : List Told) (ring : ℕ) (calls : List Call) →
-    DelayHolds hop constant past from may ring calls →
-    DelayHolds hop constant (now ∷ past) from may ring calls
-
--- fewer Delay_Resps may come
-abbrev pub FewerKeepDelay : Type 0
-FewerKeepDelay =
-    (hop : HopNumbers) (constant : ℤ) (past : List Moment) (from : ℕ) (may fewer : List Told) →
-    (ring : ℕ) (calls : List Call) →
-    ((told : Told) → Among told fewer → Among told may) →
-    DelayHolds hop constant past from may ring calls →
-    DelayHolds hop constant past from fewer ring calls
-
--- a Delay_Resp of the id of a sending tells the constant and both ways with it
-abbrev pub FitsSent : HopNumbers → ℤ → List Moment → ℕ → List Told → Told → ℕ → Sent → Type 0
-FitsSent hop constant past from may told seq s =
-    (holds : SentTrue hop constant past from may seq s) →
-    told.seq ≡ seq →
-    TellsWays hop constant told.time s holds.sent
-
--- one more Delay_Resp may come: of another sequenceId than the open request's, or true of it
-abbrev pub MoreKeepDelay : Type 0
-MoreKeepDelay =
-    (hop : HopNumbers) (constant : ℤ) (past : List Moment) (from : ℕ) (may : List Told) (ring : ℕ) →
-    (calls : List Call) (told : Told) →
-    IfSome (open_request ring calls)
-    (λ r. IfSome r.sent (FitsSent hop constant past from may told r.seq)) →
-    DelayHolds hop constant past from may ring calls →
-    DelayHolds hop constant past from (told ∷ may) ring calls
-
 -- the Sync of a four tells the constant, and its Delay_Req both ways as they were at a moment
 abbrev pub FourTells : HopNumbers → ℤ → List Moment → ℕ → Four → Type 0
 FourTells hop constant past from f =

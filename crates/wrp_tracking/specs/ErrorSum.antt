@@ -7,7 +7,7 @@ use Rattle.wrp_base.specs.Closeness.{IsWithin}
 use Rattle.wrp_bounds.specs.declared.numbers.HopNumbers.{HopNumbers}
 use Rattle.wrp_bounds.specs.Hop.{detector_error, down_error, up_error, age_motion, estimate_error, hop_bound}
 use Rattle.wrp_tracking.specs.Moment.{Moment, phase_at, ways_at}
-use Rattle.wrp_tracking.specs.Sides.{KeepsRates}
+use Rattle.wrp_tracking.specs.Rates.{KeepsRates}
 
 -- what the Sync's two stamps and their phase tell
 abbrev pub sync_sum : Four → ℤ

@@ -13,11 +13,6 @@ EachStep P k [] = Unit {0}
 EachStep P k (m ∷ []) = Unit {0}
 EachStep P k (m ∷ (b ∷ ms)) = (k ≤ length ms → P b m) × EachStep P k (b ∷ ms)
 
--- each moment from the one of number k on is one of these
-abbrev pub EachOf : {A : Type 0} → (A → Type 0) → ℕ → List A → Type 0
-EachOf P k [] = Unit {0}
-EachOf P k (m ∷ ms) = (k ≤ length ms → P m) × EachOf P k ms
-
 -- a quantity moves from a to b at most at this rate, in 10^-12, and time does not run back
 pub record IsSlow {A : Type 0} (time : A → ℤ) (rate : ℕ) (quantity : A → ℤ) (a b : A) : Type 0 where
   pub order : time a ≤ℤ time b

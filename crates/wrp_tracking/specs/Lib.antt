@@ -7,9 +7,9 @@ pub mod HopInTrack
 pub mod Measured
 pub mod Moment
 pub mod Parts
+pub mod Rates
 pub mod Reference
 pub mod ServoGives
-pub mod Sides
 pub mod SyncPieces
 pub mod Ticks
 pub mod Tree

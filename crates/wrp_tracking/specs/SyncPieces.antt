@@ -1,21 +1,16 @@
 -- What is true of the Sync half of an exchange, over the list of its calls, the newest first: the pending
 -- Sync and the Sync pair tell the chain's constant (this project's profile).
-use Rattle.std.specs.Prelude.{ℕ, ℤ, pos, true, ◌≡◌, ◌<◌, ◌≤◌, ◌⊎◌, ◌+ℤ◌, ◌-ℤ◌, ◌*ℤ◌, List, [], ◌∷◌, Some, IfSome}
+use Rattle.std.specs.Prelude.{ℕ, ℤ, pos, true, ◌≡◌, ◌<◌, ◌⊎◌, ◌+ℤ◌, ◌-ℤ◌, ◌*ℤ◌, List, [], ◌∷◌, IfSome}
 use Rattle.std.specs.Option.{is_some}
-use Rattle.std.specs.List.{AllByRecursion}
 use Rattle.wrp_base.specs.declared.time.Stamp.{Stamp}
 use Rattle.wrp_base.specs.Closeness.{IsWithin}
-use Rattle.wrp_exch.specs.declared.ring.GoodSample.{GoodSample}
 use Rattle.wrp_exch.specs.declared.sync.HeldSync.{HeldSync}
 use Rattle.wrp_exch.specs.Call.{Call, CallSync, CallFollowUp, CallSample, CallStart, CallClear, CallReqOut, CallReqSent, CallResp}
-use Rattle.wrp_exch.specs.Samples.{samples, phase_in, last_samples}
-use Rattle.wrp_exch.specs.Chain.{first_sample, latched_phase}
+use Rattle.wrp_exch.specs.Samples.{phase_in, last_samples}
 use Rattle.wrp_exch.specs.SyncPair.{sync_pair, kept_sync}
 use Rattle.wrp_exch.specs.SyncHalf.{pending_sync}
 use Rattle.wrp_bounds.specs.declared.numbers.HopNumbers.{HopNumbers}
-use Rattle.wrp_bounds.specs.Hop.{detector_error, down_error}
-use Rattle.wrp_tracking.specs.Moment.{Moment, phase_at}
-use Rattle.wrp_tracking.specs.History.{Was}
+use Rattle.wrp_bounds.specs.Hop.{down_error}
 
 -- a message that may still come: its sequenceId and the time that it tells
 pub record Told : Type 0 where
@@ -90,46 +85,3 @@ OthersKeepSync =
     × SyncHolds hop constant may ring (CallResp seq t4 ∷ calls)
     × SyncHolds hop constant may ring (CallClear ∷ calls)
     × SyncHolds hop constant may ring (CallStart number ∷ calls)
-
--- it stands where fewer Follow_Ups may come
-abbrev pub FewerKeepSync : Type 0
-FewerKeepSync =
-    (hop : HopNumbers) (constant : ℤ) (may fewer : List Told) (ring : ℕ) (calls : List Call) →
-    ((told : Told) → Among told fewer → Among told may) →
-    SyncHolds hop constant may ring calls →
-    SyncHolds hop constant fewer ring calls
-
--- a Follow_Up of the id of a held Sync that is in the ring tells its departure
-abbrev pub FitsHeld : HopNumbers → ℤ → List Told → ℕ → List Call → Told → HeldSync → Type 0
-FitsHeld hop constant may ring calls told s =
-    IsInRing ring calls s →
-    (held : HeldTrue hop constant may s) →
-    told.seq ≡ s.seq →
-    TellsDeparture told s held.t1
-
--- and where one more may come: of another sequenceId than the pending Sync's, or with its departure
-abbrev pub MoreKeepSync : Type 0
-MoreKeepSync =
-    (hop : HopNumbers) (constant : ℤ) (may : List Told) (ring : ℕ) (calls : List Call) →
-    (told : Told) →
-    IfSome (pending_sync ring calls) (FitsHeld hop constant may ring calls told) →
-    SyncHolds hop constant may ring calls →
-    SyncHolds hop constant (told ∷ may) ring calls
-
--- a good sample from the chain's first on was taken at a moment at which it tells the constant
-abbrev pub SampleTells : HopNumbers → List Moment → (first start : ℕ) → ℤ → GoodSample → Type 0
-SampleTells hop past first start constant g =
-    first ≤ g.number →
-    (at : ℕ) × (x : Moment) × Was past at x × (start ≤ at)
-    × IsWithin (detector_error hop) (g.phase -ℤ phase_at x) constant
-
--- so the phase that a stamp latched was taken at such a moment
-abbrev pub LatchedTells : Type 0
-LatchedTells =
-    (hop : HopNumbers) (past : List Moment) (first start ring number : ℕ) (constant u : ℤ) →
-    (calls : List Call) →
-    first_sample calls ≡ Some first →
-    AllByRecursion (SampleTells hop past first start constant) (samples calls) →
-    latched_phase ring calls number ≡ Some u →
-    (at : ℕ) × (x : Moment) × Was past at x × (start ≤ at)
-    × IsWithin (detector_error hop) (u -ℤ phase_at x) constant

@@ -1,19 +1,6 @@
 //! The error sum of one hop. Each function here computes nothing: its contract is the law.
 ghost use Rattle.wrp_tracking.specs.ErrorSum.{EstimateIsNear, HopSum};
-ghost use Rattle.wrp_tracking.specs.Sides.{DelaySide, SyncSide};
 ghost use Rattle.wrp_tracking.specs.Worked.{WorkedHop};
-
-/// A Sync's two stamps and the phase latched with its arrival tell the chain's constant, within the error
-/// of the way down.
-pub fn sync_side()
-    ensures { SyncSide }
-{}
-
-/// A Delay_Req's two stamps and the phase latched with its departure tell the chain's constant and both
-/// ways of the link, within the error of the way up.
-pub fn delay_side()
-    ensures { DelaySide }
-{}
 
 /// The estimate is within its error of the true offset from the parent.
 pub fn estimate_is_near()

@@ -4,7 +4,6 @@
 #![tactic(auto)]
 
 mod chain;
-mod chain_phase;
 mod error_sum;
 mod history;
 mod invariant;
@@ -13,13 +12,9 @@ mod servo;
 mod tree;
 
 pub use chain::{chain_is_kept, hop_holds, stamps_tell_constant};
-pub use chain_phase::{constant_is_kept, constant_starts};
-pub use error_sum::{delay_side, estimate_is_near, hop_sum, sync_side, worked_hop};
+pub use error_sum::{estimate_is_near, hop_sum, worked_hop};
 pub use history::{slow_between, ticks_tell_time};
 pub use invariant::{moment_keeps_track, parts_give_bound};
-pub use pieces::{
-    delay_half_by_moments, delay_half_is_kept, four_tells, latched_phase_tells,
-    sync_half_by_messages, sync_half_is_kept,
-};
+pub use pieces::{delay_half_is_kept, four_tells, sync_half_is_kept};
 pub use servo::{kept_is_measured, track_gives, track_is_young};
 pub use tree::{held_within_motion, reference_bounds, tree_sum};

@@ -1,5 +1,5 @@
 -- The good samples that the exchange of a slave keeps: the one of the node's last sample is the newest of the chain.
-use Rattle.std.proofs.Common.{◌≡◌, inl, inr, ◌∙◌, refl, ap, sym, subst, ℕ, ◌+◌, ◌≤◌, ◌==◌, nat_le, cond, not, ℤ, Bool, true, false, if◌then◌else◌, is_some, List, [], ◌∷◌, ◌++◌, length, Option, None, Some, option_map, option_to_list, Result, arith}
+use Rattle.std.proofs.Common.{◌≡◌, inl, inr, ◌∙◌, refl, ap, sym, subst, ℕ, zero, suc, ◌+◌, ◌≤◌, ◌==◌, nat_le, cond, not, ℤ, Bool, true, false, if◌then◌else◌, is_some, List, [], ◌∷◌, ◌++◌, length, take, Option, None, Some, option_map, option_to_list, Result, arith}
 use Rattle.std.proofs.lemmas.Bool.{eqb-true, false≢true}
 use Rattle.std.proofs.lemmas.Bool.Decides.{eqb_tells}
 use Rattle.std.specs.List.{AllByRecursion, find}
@@ -40,7 +40,6 @@ use Rattle.wrp_servo.specs.Sampling.{good_tag, hears, is_far, tag_as, with_tag}
 use Rattle.wrp_servo.specs.Servo.{news_at, out_by}
 use Rattle.wrp_servo.specs.Tags.{heard_tag}
 use Rattle.wrp_tracking.specs.Chain.{Good}
-use Rattle.wrp_tracking.proofs.SyncHalves.{all_take}
 use Rattle.wrp_world.specs.declared.event.Event.{Event}
 use Rattle.wrp_world.specs.declared.event.Event.TheVariants.{Tick, Sample, Depart, Deliver, Noise, Up}
 use Rattle.wrp_truth.proofs.SyncSamples.{phase_kept}
@@ -389,6 +388,12 @@ since_in (Some first) good number u e = by_test (nat_le first number) (phase_in 
     by_test : (b : Bool) (o : Option ℤ) → (if b then o else None) ≡ Some u → o ≡ Some u
     by_test true o f = f
     by_test false o f = absurd (none-some u f)
+
+-- what is true of each of a list is true of its first ones
+all_take : (P : GoodSample → Type 0) (n : ℕ) (xs : List GoodSample) → AllByRecursion P xs → AllByRecursion P (take n xs)
+all_take P zero xs all = tt
+all_take P (suc n) [] all = tt
+all_take P (suc n) (x ∷ xs) all = (all.0, all_take P n xs all.1)
 
 -- is that of the chain's newest good sample
 pub latched_newest : SampleLaws → (s : Setting) (newer : List Happened) (start : Happened) (before : List Happened) (k : ℕ) (link : LinkCfg) (ring : ℕ) (u : ℤ) → IsRun s (newer ++ start ∷ before) → link_of s k ≡ Some link →

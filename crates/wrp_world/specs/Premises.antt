@@ -12,7 +12,6 @@ use Rattle.wrp_base.specs.declared.link.Module.{Module}
 use Rattle.wrp_base.specs.declared.link.Role.TheVariants.{Master, Slave}
 use Rattle.wrp_base.specs.declared.link.ServoState.{ServoState}
 use Rattle.wrp_base.specs.declared.link.ServoState.TheVariants.{Holdover}
-use Rattle.wrp_base.specs.declared.message.PortIdentity.{PortIdentity}
 use Rattle.wrp_base.specs.declared.message.PtpMsg.{PtpMsg}
 use Rattle.wrp_base.specs.declared.network.LinkCfg.{LinkCfg}
 use Rattle.wrp_base.specs.declared.time.Clock.{Clock}
