@@ -3,7 +3,7 @@
 //! `whole`, all that stands behind `---` is one line.
 ghost use Rattle.wrp_config.specs.Accepted.{IsAccepted};
 ghost use Rattle.wrp_trace.specs.InputAt.{IsInputAt};
-ghost use Rattle.wrp_trace.specs.Site.{site_of};
+ghost use Rattle.wrp_trace.specs.LineSetting.{line_setting_of};
 
 use crate::octets::digits_of;
 use crate::parts::{halves, network_of, node_of, push_line, push_printed, push_refused};
@@ -89,7 +89,7 @@ fn push_input(
     input: &Input,
 ) -> Result<(), AllocError>
     requires accepted { IsAccepted net.now.cfg net.now.db }
-    requires printable { IsInputAt (site_of net.now node) input.now }
+    requires printable { IsInputAt (line_setting_of net.now node) input.now }
 {
     let words = input_words(alloc, input)?;
     push_line(out, words.as_str())?;

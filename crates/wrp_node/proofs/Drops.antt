@@ -16,7 +16,7 @@ use Rattle.wrp_node.specs.declared.interface.Input.{Input}
 use Rattle.wrp_node.specs.declared.interface.Input.TheVariants.{Frame}
 use Rattle.wrp_node.specs.declared.interface.Output.{Output}
 use Rattle.wrp_node.specs.Laws.{IsSettled, reason_of, DroppedLeavesACount}
-use Rattle.wrp_node.specs.NodeAt.{Fixed, NodeAt, numbers_of, slave_of, state_of, setting_of, link_at}
+use Rattle.wrp_node.specs.NodeAt.{NodeSetting, NodeAt, numbers_of, slave_of, state_of, setting_of, link_at}
 use Rattle.wrp_node.specs.NodeRun.{place_of, servo_out, word_out, port_out, outputs_of}
 use Rattle.wrp_node.specs.NodeStep.{dropped, heard, heard_unless, message_of, stepped, node_step}
 use Rattle.wrp_node.specs.Telling.{Step, tell, settled, with_lease, link_change}
@@ -26,7 +26,7 @@ use Rattle.wrp_port.specs.Hearing.{early_reason}
 use Rattle.wrp_port.specs.Outputs.{place_of as place_of_word}
 use Rattle.wrp_servo.specs.Call.{Call}
 
-tell_nothing : (fixed : Fixed) (s : Step) → tell fixed None s ≡ s
+tell_nothing : (fixed : NodeSetting) (s : Step) → tell fixed None s ≡ s
 tell_nothing fixed s = λ i. record {
   node = record {
     ticks = s.node.ticks;
@@ -39,16 +39,16 @@ tell_nothing fixed s = λ i. record {
   sends = s.sends;
 }
 
-settled_same : (fixed : Fixed) (s : Step) → IsSettled fixed s.node → settled fixed s ≡ s
+settled_same : (fixed : NodeSetting) (s : Step) → IsSettled fixed s.node → settled fixed s ≡ s
 settled_same fixed s h =
     let lease : with_lease fixed s ≡ s = ap (λ (c : Option Call). tell fixed c s) h.lease ∙ tell_nothing fixed s in
     ap (λ (x : Step). tell fixed (link_change fixed x.node) x) lease ∙ ap (λ (c : Option Call). tell fixed c s) h.link ∙ tell_nothing fixed s
 
-unless_dropped : (fixed : Fixed) (p : ℕ) (input : PortIn) (y : ℤ) (n : NodeAt) (o : Option Reason) (reason : ℕ) → option_map number_of o ≡ Some reason → heard_unless o fixed p input y n ≡ dropped p reason n
+unless_dropped : (fixed : NodeSetting) (p : ℕ) (input : PortIn) (y : ℤ) (n : NodeAt) (o : Option Reason) (reason : ℕ) → option_map number_of o ≡ Some reason → heard_unless o fixed p input y n ≡ dropped p reason n
 unless_dropped fixed p input y n None reason e = absurd (grind arith)
 unless_dropped fixed p input y n (Some r) reason e = ap (λ (k : ℕ). dropped p k n) (same_Some (number_of r) reason e)
 
-heard_dropped : (fixed : Fixed) (p : ℕ) (says : Result PtpMsg FrameFault) (raw : Raw) (sample : ℕ) (y : ℤ) (n : NodeAt) (reason : ℕ) → reason_of fixed n p says ≡ Some reason →
+heard_dropped : (fixed : NodeSetting) (p : ℕ) (says : Result PtpMsg FrameFault) (raw : Raw) (sample : ℕ) (y : ℤ) (n : NodeAt) (reason : ℕ) → reason_of fixed n p says ≡ Some reason →
     heard fixed p says raw sample y n ≡ dropped p reason n
 heard_dropped fixed p (Err fault) raw sample y n reason e = ap (λ (k : ℕ). dropped p k n) (same_Some (fault_number fault) reason e)
 heard_dropped fixed p (Ok m) raw sample y n reason e =
@@ -60,12 +60,12 @@ no_servo_out s = rw (eq_self (place_of s)) refl
 no_word_out : (q : ℕ) (w : LinkWord) → word_out q w w ≡ []
 no_word_out q w = rw (eq_self (place_of_word w)) refl
 
-no_port_out : (fixed : Fixed) (n : NodeAt) (p reason : ℕ) (numbers : List ℕ) → flat_map (port_out fixed n (dropped p reason n)) numbers ≡ []
+no_port_out : (fixed : NodeSetting) (n : NodeAt) (p reason : ℕ) (numbers : List ℕ) → flat_map (port_out fixed n (dropped p reason n)) numbers ≡ []
 no_port_out fixed n p reason [] = refl
 no_port_out fixed n p reason (q ∷ qs) =
     ap₂ (λ (a b : List Output). (a ++ []) ++ b) (no_word_out q (word_of (link_at fixed.set n q))) (no_port_out fixed n p reason qs)
 
-silent : (fixed : Fixed) (p reason : ℕ) (octets : List ℕ) (raw : Raw) (sample : ℕ) (n : NodeAt) → outputs_of fixed (Frame p (record { items = octets }) raw sample) n (dropped p reason n) ≡ []
+silent : (fixed : NodeSetting) (p reason : ℕ) (octets : List ℕ) (raw : Raw) (sample : ℕ) (n : NodeAt) → outputs_of fixed (Frame p (record { items = octets }) raw sample) n (dropped p reason n) ≡ []
 silent fixed p reason octets raw sample n =
     ap₂ (λ (a b : List Output). (a ++ b) ++ []) (no_servo_out (state_of fixed n)) (no_port_out fixed n p reason (numbers_of fixed.set))
 

@@ -7,7 +7,7 @@ use Rattle.wrp_link.specs.Table.{word_of}
 use Rattle.wrp_node.specs.declared.parts.Parts.{Parts}
 use Rattle.wrp_node.specs.declared.place.Place.{Place}
 use Rattle.wrp_node.specs.Inputs.{lease_in, deltas_in as deltas_of_place, transition_in, word_in, times_in}
-use Rattle.wrp_node.specs.NodeAt.{Fixed, NodeAt, slave_of, setting_of, port_of, link_at, is_fresh_at, deltas_at}
+use Rattle.wrp_node.specs.NodeAt.{NodeSetting, NodeAt, slave_of, setting_of, port_of, link_at, is_fresh_at, deltas_at}
 use Rattle.wrp_node.specs.NodeStep.{transition_of}
 use Rattle.wrp_node.specs.Parts.{PlaceStands, PlaceIn, PartsAt, PartsIn, is_among}
 use Rattle.wrp_node.specs.Place.{place_of}
@@ -47,11 +47,11 @@ nat_left : (lease : ℕ) (turns : Option ℕ) → nat_lt 0 (left_of lease turns)
 nat_left lease None = refl
 nat_left lease (Some turns) = grind arith
 
-slave_found : (fixed : Fixed) (before : NodeAt) (s : Step) (parts : Parts) (p : ℕ) → PartsIn fixed before s parts → parts.slave ≡ Some p → Found (PlaceIn fixed before s) p parts.ports
+slave_found : (fixed : NodeSetting) (before : NodeAt) (s : Step) (parts : Parts) (p : ℕ) → PartsIn fixed before s parts → parts.slave ≡ Some p → Found (PlaceIn fixed before s) p parts.ports
 slave_found fixed before s parts p h e =
     found (PlaceIn fixed before s) p parts.ports h.places (subst (λ (o : Option ℕ). IfSome o (λ q. is_among q parts.ports ≡ true)) e h.has_slave)
 
-pub lease_told : (fixed : Fixed) (before : NodeAt) (s : Step) (parts : Parts) (p : ℕ) → PartsIn fixed before s parts → parts.slave ≡ Some p →
+pub lease_told : (fixed : NodeSetting) (before : NodeAt) (s : Step) (parts : Parts) (p : ℕ) → PartsIn fixed before s parts → parts.slave ≡ Some p →
     lease_in (place_of p parts.ports) ≡ is_fresh_at fixed.set s.node (slave_of fixed.set)
 lease_told fixed before s parts p h e =
     let f : Found (PlaceIn fixed before s) p parts.ports = slave_found fixed before s parts p h e in
@@ -61,7 +61,7 @@ lease_told fixed before s parts p h e =
     ∙ ap (λ (q : ℕ). is_fresh (setting_of fixed.set q) (s.node.told q)) f.number
     ∙ ap (is_fresh_at fixed.set s.node) (sym e ∙ h.slave)
 
-pub deltas_told : (fixed : Fixed) (before : NodeAt) (s : Step) (parts : Parts) (p : ℕ) → PartsIn fixed before s parts → parts.slave ≡ Some p →
+pub deltas_told : (fixed : NodeSetting) (before : NodeAt) (s : Step) (parts : Parts) (p : ℕ) → PartsIn fixed before s parts → parts.slave ≡ Some p →
     deltas_of_place (place_of p parts.ports) ≡ deltas_at fixed.set s.node (slave_of fixed.set)
 deltas_told fixed before s parts p h e =
     let f : Found (PlaceIn fixed before s) p parts.ports = slave_found fixed before s parts p h e in
@@ -70,7 +70,7 @@ deltas_told fixed before s parts p h e =
     ∙ ap (λ (q : ℕ). deltas_of (port_of fixed.set q).role (link_at fixed.set s.node q)) f.number
     ∙ ap (deltas_at fixed.set s.node) (sym e ∙ h.slave)
 
-pub transition_told : (fixed : Fixed) (before : NodeAt) (s : Step) (parts : Parts) (p : ℕ) → PartsIn fixed before s parts → is_among p parts.ports ≡ true →
+pub transition_told : (fixed : NodeSetting) (before : NodeAt) (s : Step) (parts : Parts) (p : ℕ) → PartsIn fixed before s parts → is_among p parts.ports ≡ true →
     transition_in (place_of p parts.ports) ≡ transition_of (link_at fixed.set s.node p).own_module
 transition_told fixed before s parts p h e =
     let f : Found (PlaceIn fixed before s) p parts.ports = found (PlaceIn fixed before s) p parts.ports h.places e in
@@ -80,14 +80,14 @@ transition_told fixed before s parts p h e =
 
 -- ---- what a port tells between inputs
 
-pub word_told : (fixed : Fixed) (n : NodeAt) (parts : Parts) (p : ℕ) → PartsAt fixed n parts → is_among p parts.ports ≡ true → word_in (place_of p parts.ports) ≡ word_of (link_at fixed.set n p)
+pub word_told : (fixed : NodeSetting) (n : NodeAt) (parts : Parts) (p : ℕ) → PartsAt fixed n parts → is_among p parts.ports ≡ true → word_in (place_of p parts.ports) ≡ word_of (link_at fixed.set n p)
 word_told fixed n parts p h e =
     let f : Found (PlaceStands fixed n) p parts.ports = found (PlaceStands fixed n) p parts.ports h.places e in
     ap word_in f.is
     ∙ ap (λ (l : Line). word_of l.link) (line_is fixed n f.place f.holds)
     ∙ ap (λ (q : ℕ). word_of (link_at fixed.set n q)) f.number
 
-pub times_told : (fixed : Fixed) (n : NodeAt) (parts : Parts) (p reason : ℕ) → PartsAt fixed n parts → is_among p parts.ports ≡ true →
+pub times_told : (fixed : NodeSetting) (n : NodeAt) (parts : Parts) (p reason : ℕ) → PartsAt fixed n parts → is_among p parts.ports ≡ true →
     times_in reason (place_of p parts.ports) ≡ count_at (n.counters p) reason
 times_told fixed n parts p reason h e =
     let f : Found (PlaceStands fixed n) p parts.ports = found (PlaceStands fixed n) p parts.ports h.places e in

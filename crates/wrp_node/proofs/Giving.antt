@@ -6,7 +6,7 @@ use Rattle.wrp_node.specs.declared.parts.Parts.{Parts}
 use Rattle.wrp_node.specs.declared.place.Place.{Place}
 use Rattle.wrp_node.specs.declared.ports.To.{To}
 use Rattle.wrp_link.specs.Table.{word_of}
-use Rattle.wrp_node.specs.NodeAt.{Fixed, NodeAt, setting_of, line_at, link_at, pieces_at}
+use Rattle.wrp_node.specs.NodeAt.{NodeSetting, NodeAt, setting_of, line_at, link_at, pieces_at}
 use Rattle.wrp_port.specs.declared.line.Line.{Line}
 use Rattle.wrp_node.specs.Parts.{PlaceStands, PlaceIn, PartsAt, PartsIn, given, reason_counted, commanded}
 use Rattle.wrp_node.specs.Place.{Gives, GivenWhere, GivesTo, Begins, Counts, is_to, newest_sends}
@@ -28,7 +28,7 @@ pub record SameAt (s t : Step) : Type 0 where
   pub counters : (q : ℕ) → s.node.counters q ≡ t.node.counters q
   pub sends : (q : ℕ) → s.sends q ≡ t.sends q
 
-pub place_same : (fixed : Fixed) (before : NodeAt) (s t : Step) → SameAt s t → (place : Place) → PlaceIn fixed before s place → PlaceIn fixed before t place
+pub place_same : (fixed : NodeSetting) (before : NodeAt) (s t : Step) → SameAt s t → (place : Place) → PlaceIn fixed before s place → PlaceIn fixed before t place
 place_same fixed before s t e place h = record {
   stands = record {
     set = h.stands.set;
@@ -40,7 +40,7 @@ place_same fixed before s t e place h = record {
   sound = h.sound;
 }
 
-pub parts_same : (fixed : Fixed) (before : NodeAt) (s t : Step) (parts : Parts) → SameAt s t → s.node.ticks ≡ t.node.ticks → s.cycles ≡ t.cycles → s.dac ≡ t.dac →
+pub parts_same : (fixed : NodeSetting) (before : NodeAt) (s t : Step) (parts : Parts) → SameAt s t → s.node.ticks ≡ t.node.ticks → s.cycles ≡ t.cycles → s.dac ≡ t.dac →
     PartsIn fixed before s parts → PartsIn fixed before t parts
 parts_same fixed before s t parts e ticks cycles dac h = record {
   numbers = h.numbers;
@@ -60,10 +60,10 @@ sound_newest [] ys h k = k
 sound_newest (x ∷ xs) ys h k = h
 
 -- the line and the pieces of a port are those of the node
-pub line_is : (fixed : Fixed) (n : NodeAt) (place : Place) → PlaceStands fixed n place → place.port.line ≡ line_at fixed.set n place.number
+pub line_is : (fixed : NodeSetting) (n : NodeAt) (place : Place) → PlaceStands fixed n place → place.port.line ≡ line_at fixed.set n place.number
 line_is fixed n place h = h.told.line ∙ ap (λ (x : Setting). line_of x (n.told place.number)) h.set
 
-told_place : (fixed : Fixed) (before : NodeAt) (s : Step) (to : To) (input : PortIn) (old new : Place) → IsFit input → is_to to old.number ≡ true → Gives input old new →
+told_place : (fixed : NodeSetting) (before : NodeAt) (s : Step) (to : To) (input : PortIn) (old new : Place) → IsFit input → is_to to old.number ≡ true → Gives input old new →
     PlaceIn fixed before s old → PlaceIn fixed before (given to input fixed s) new
 told_place fixed before s to input old new fit e g h =
     let t : List PortIn = s.node.told old.number in
@@ -88,7 +88,7 @@ told_place fixed before s to input old new fit e g h =
     }
 
 -- one that is not stays as it is
-left_place : (fixed : Fixed) (before : NodeAt) (s : Step) (to : To) (input : PortIn) (old : Place) → is_to to old.number ≡ false →
+left_place : (fixed : NodeSetting) (before : NodeAt) (s : Step) (to : To) (input : PortIn) (old : Place) → is_to to old.number ≡ false →
     PlaceIn fixed before s old → PlaceIn fixed before (given to input fixed s) old
 left_place fixed before s to input old e h = record {
   stands = record {
@@ -102,7 +102,7 @@ left_place fixed before s to input old e h = record {
   sound = h.sound;
 }
 
-given_where : (fixed : Fixed) (before : NodeAt) (s : Step) (to : To) (input : PortIn) (old new : Place) (b : Bool) → IsFit input → is_to to old.number ≡ b → GivenWhere b input old new →
+given_where : (fixed : NodeSetting) (before : NodeAt) (s : Step) (to : To) (input : PortIn) (old new : Place) (b : Bool) → IsFit input → is_to to old.number ≡ b → GivenWhere b input old new →
     PlaceIn fixed before s old → PlaceIn fixed before (given to input fixed s) new
 given_where fixed before s to input old new true fit e g h = told_place fixed before s to input old new fit e g h
 given_where fixed before s to input old new false fit e g h =
@@ -115,14 +115,14 @@ number_where input old new false g = ap (λ (x : Place). x.number) g
 pub numbers_given : (to : To) (input : PortIn) (xs ys : List Place) → AllZip (GivesTo to input) xs ys → map (λ (x : Place). x.number) ys ≡ map (λ (x : Place). x.number) xs
 numbers_given to input xs ys z = zip_map (GivesTo to input) (λ (x : Place). x.number) xs ys (λ x y g. number_where input x y (is_to to x.number) g) z
 
-pub places_given : (fixed : Fixed) (before : NodeAt) (s : Step) (to : To) (input : PortIn) (xs ys : List Place) → IsFit input → AllZip (GivesTo to input) xs ys →
+pub places_given : (fixed : NodeSetting) (before : NodeAt) (s : Step) (to : To) (input : PortIn) (xs ys : List Place) → IsFit input → AllZip (GivesTo to input) xs ys →
     AllByRecursion (PlaceIn fixed before s) xs → AllByRecursion (PlaceIn fixed before (given to input fixed s)) ys
 places_given fixed before s to input xs ys fit z h =
     zip_all (GivesTo to input) (PlaceIn fixed before s) (PlaceIn fixed before (given to input fixed s)) xs ys
     (λ x y g k. given_where fixed before s to input x y (is_to to x.number) fit refl g k) z h
 
 -- the ports were told, and nothing else changed
-pub parts_given : (fixed : Fixed) (before : NodeAt) (s : Step) (to : To) (input : PortIn) (old : Parts) (ys : List Place) → IsFit input → AllZip (GivesTo to input) old.ports ys →
+pub parts_given : (fixed : NodeSetting) (before : NodeAt) (s : Step) (to : To) (input : PortIn) (old : Parts) (ys : List Place) → IsFit input → AllZip (GivesTo to input) old.ports ys →
     PartsIn fixed before s old → PartsIn fixed before (given to input fixed s) (record old { ports = ys })
 parts_given fixed before s to input old ys fit z h =
     let numbers : map (λ (x : Place). x.number) ys ≡ map (λ (x : Place). x.number) old.ports = numbers_given to input old.ports ys z in
@@ -143,7 +143,7 @@ counted_number : (p reason : ℕ) (place : Place) (b : Bool) → (if b then reco
 counted_number p reason place true = refl
 counted_number p reason place false = refl
 
-counted_place : (fixed : Fixed) (before : NodeAt) (s : Step) (p reason : ℕ) (place : Place) (b : Bool) → (place.number == p) ≡ b → PlaceIn fixed before s place →
+counted_place : (fixed : NodeSetting) (before : NodeAt) (s : Step) (p reason : ℕ) (place : Place) (b : Bool) → (place.number == p) ≡ b → PlaceIn fixed before s place →
     PlaceIn fixed before (reason_counted p (Some reason) fixed s) (if b then record place { counters = counted (Some reason) place.counters } else place)
 counted_place fixed before s p reason place true e h = record {
   stands = record {
@@ -168,12 +168,12 @@ counted_place fixed before s p reason place false e h = record {
   sound = h.sound;
 }
 
-counted_so : (fixed : Fixed) (before : NodeAt) (s : Step) (p reason : ℕ) (old new : Place) → Counts p reason old new → PlaceIn fixed before s old →
+counted_so : (fixed : NodeSetting) (before : NodeAt) (s : Step) (p reason : ℕ) (old new : Place) → Counts p reason old new → PlaceIn fixed before s old →
     PlaceIn fixed before (reason_counted p (Some reason) fixed s) new
 counted_so fixed before s p reason old new g h =
     subst (λ (x : Place). PlaceIn fixed before (reason_counted p (Some reason) fixed s) x) (sym g) (counted_place fixed before s p reason old (old.number == p) refl h)
 
-pub parts_counted : (fixed : Fixed) (before : NodeAt) (s : Step) (p reason : ℕ) (old : Parts) (ys : List Place) → AllZip (Counts p reason) old.ports ys →
+pub parts_counted : (fixed : NodeSetting) (before : NodeAt) (s : Step) (p reason : ℕ) (old : Parts) (ys : List Place) → AllZip (Counts p reason) old.ports ys →
     PartsIn fixed before s old → PartsIn fixed before (reason_counted p (Some reason) fixed s) (record old { ports = ys })
 parts_counted fixed before s p reason old ys z h =
     let numbers : map (λ (x : Place). x.number) ys ≡ map (λ (x : Place). x.number) old.ports =
@@ -194,14 +194,14 @@ same_either true x = refl
 same_either false x = refl
 
 -- no reason is counted nowhere
-pub counted_none : (fixed : Fixed) (before : NodeAt) (s : Step) (p : ℕ) (parts : Parts) → PartsIn fixed before s parts → PartsIn fixed before (reason_counted p None fixed s) parts
+pub counted_none : (fixed : NodeSetting) (before : NodeAt) (s : Step) (p : ℕ) (parts : Parts) → PartsIn fixed before s parts → PartsIn fixed before (reason_counted p None fixed s) parts
 counted_none fixed before s p parts h =
     parts_same fixed before s (reason_counted p None fixed s) parts
     (record { told = λ q. refl; counters = λ q. same_either (q == p) (s.node.counters q); sends = λ q. refl }) refl refl refl h
 
 -- ---- before an input
 
-begun_place : (fixed : Fixed) (n : NodeAt) (old new : Place) → Begins old new → PlaceStands fixed n old → PlaceIn fixed n (step_from n) new
+begun_place : (fixed : NodeSetting) (n : NodeAt) (old new : Place) → Begins old new → PlaceStands fixed n old → PlaceIn fixed n (step_from n) new
 begun_place fixed n old new g h = record {
   stands = record {
     set = ap (λ p. p.set) g.port ∙ h.set ∙ ap (setting_of fixed.set) (sym g.number);
@@ -216,7 +216,7 @@ begun_place fixed n old new g h = record {
 pub numbers_begun : (xs ys : List Place) → AllZip Begins xs ys → map (λ (x : Place). x.number) ys ≡ map (λ (x : Place). x.number) xs
 numbers_begun xs ys z = zip_map Begins (λ (x : Place). x.number) xs ys (λ x y g. g.number) z
 
-pub parts_begun : (fixed : Fixed) (n : NodeAt) (old : Parts) (ys : List Place) → AllZip Begins old.ports ys → PartsAt fixed n old →
+pub parts_begun : (fixed : NodeSetting) (n : NodeAt) (old : Parts) (ys : List Place) → AllZip Begins old.ports ys → PartsAt fixed n old →
     PartsIn fixed n (step_from n) (record old { ports = ys; cycles = pos 0; dac = None })
 parts_begun fixed n old ys z h =
     let numbers : map (λ (x : Place). x.number) ys ≡ map (λ (x : Place). x.number) old.ports =
@@ -234,7 +234,7 @@ parts_begun fixed n old ys z h =
 
 -- ---- what is commanded
 
-pub parts_commanded : (fixed : Fixed) (before : NodeAt) (s : Step) (out : ServoOut) (old : Parts) → PartsIn fixed before s old →
+pub parts_commanded : (fixed : NodeSetting) (before : NodeAt) (s : Step) (out : ServoOut) (old : Parts) → PartsIn fixed before s old →
     PartsIn fixed before (commanded out fixed s) (record old { cycles = newest_step out.cycles old.cycles; dac = option_or out.dac old.dac })
 parts_commanded fixed before s out old h = record {
   numbers = h.numbers;

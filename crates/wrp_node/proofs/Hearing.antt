@@ -15,7 +15,7 @@ use Rattle.wrp_node.specs.declared.place.Place.{Place}
 use Rattle.wrp_node.specs.declared.ports.To.{To}
 use Rattle.wrp_node.specs.declared.ports.To.TheVariants.{One}
 use Rattle.wrp_node.specs.Inputs.{measured_in}
-use Rattle.wrp_node.specs.NodeAt.{Fixed, NodeAt, setting_of, line_at, link_at, pieces_at}
+use Rattle.wrp_node.specs.NodeAt.{NodeSetting, NodeAt, setting_of, line_at, link_at, pieces_at}
 use Rattle.wrp_link.specs.Table.{word_of}
 use Rattle.wrp_node.specs.NodeStep.{dropped, used, measured_at, message_of, stamp_of}
 use Rattle.wrp_node.specs.Parts.{PlaceIn, PartsIn, is_among, given, taken_unless, four_unless, reason_at, HearsAt}
@@ -71,7 +71,7 @@ found_both P R p (x ∷ xs) (y ∷ ys) n z h e =
 given_here : (p : ℕ) (input : PortIn) (x y : Place) → x.number ≡ p → GivesTo (One p) input x y → Gives input x y
 given_here p input x y e g = subst (λ (b : Bool). GivenWhere b input x y) (ap (λ (k : ℕ). k == p) e ∙ eq_self p) g
 
-measured_here : (fixed : Fixed) (n : NodeAt) (p : ℕ) (input : PortIn) (xs ys : List Place) → AllZip (GivesTo (One p) input) xs ys →
+measured_here : (fixed : NodeSetting) (n : NodeAt) (p : ℕ) (input : PortIn) (xs ys : List Place) → AllZip (GivesTo (One p) input) xs ys →
     AllByRecursion (PlaceIn fixed n (step_from n)) xs → is_among p xs ≡ true → measured_in (place_of p ys) ≡ measured_at fixed n p input
 measured_here fixed n p input xs ys z h e =
     let f : FoundBoth (PlaceIn fixed n (step_from n)) (GivesTo (One p) input) p ys =
@@ -102,21 +102,21 @@ pub newest_alone : (xs : List PtpMsg) → newest_sends xs [] ≡ xs
 newest_alone [] = refl
 newest_alone (x ∷ xs) = refl
 
-counted_here : (fixed : Fixed) (n : NodeAt) (p q : ℕ) (input : PortIn) (b : Bool) → (q == p) ≡ b →
+counted_here : (fixed : NodeSetting) (n : NodeAt) (p q : ℕ) (input : PortIn) (b : Bool) → (q == p) ≡ b →
     (if b then counted (drop_of (setting_of fixed.set q) (line_at fixed.set n q) (pieces_at fixed.set n q) input) (n.counters q) else n.counters q)
     ≡ (if b then counted (drop_of (setting_of fixed.set p) (line_at fixed.set n p) (pieces_at fixed.set n p) input) (n.counters q) else n.counters q)
 counted_here fixed n p q input true e =
     ap (λ (k : ℕ). counted (drop_of (setting_of fixed.set k) (line_at fixed.set n k) (pieces_at fixed.set n k) input) (n.counters q)) (eqb-true q p e)
 counted_here fixed n p q input false e = refl
 
-pub sent_here : (fixed : Fixed) (n : NodeAt) (p q : ℕ) (input : PortIn) (b : Bool) → (q == p) ≡ b →
+pub sent_here : (fixed : NodeSetting) (n : NodeAt) (p q : ℕ) (input : PortIn) (b : Bool) → (q == p) ≡ b →
     (if b then newest_sends (sends_of (setting_of fixed.set q) (line_at fixed.set n q) input) [] else []) ≡ (if b then sends_of (setting_of fixed.set p) (line_at fixed.set n p) input else [])
 sent_here fixed n p q input true e =
     newest_alone (sends_of (setting_of fixed.set q) (line_at fixed.set n q) input)
     ∙ ap (λ (k : ℕ). sends_of (setting_of fixed.set k) (line_at fixed.set n k) input) (eqb-true q p e)
 sent_here fixed n p q input false e = refl
 
-parts_used : (fixed : Fixed) (n : NodeAt) (p : ℕ) (input : PortIn) (parts : Parts) → PartsIn fixed n (given (One p) input fixed (step_from n)) parts → PartsIn fixed n (used fixed p input n) parts
+parts_used : (fixed : NodeSetting) (n : NodeAt) (p : ℕ) (input : PortIn) (parts : Parts) → PartsIn fixed n (given (One p) input fixed (step_from n)) parts → PartsIn fixed n (used fixed p input n) parts
 parts_used fixed n p input parts h =
     parts_same fixed n (given (One p) input fixed (step_from n)) (used fixed p input n) parts
     (record {
@@ -141,7 +141,7 @@ measured_none : (set : Setting) (line : Line) (calls : List Call) (m : PtpMsg) (
 measured_none set line calls m stamp tick reason e =
     ap (λ (r : Option Reason). four_by set.ring calls (piece_unless r (piece_of set.ds.role m.head m.body stamp tick))) e
 
-dropped_here : (fixed : Fixed) (n : NodeAt) (p : ℕ) (m : PtpMsg) (stamp : Stamp) (tick : ℕ) (reason : Reason) (old new : Place) → reason_at fixed n p m ≡ Some reason → old.number ≡ p →
+dropped_here : (fixed : NodeSetting) (n : NodeAt) (p : ℕ) (m : PtpMsg) (stamp : Stamp) (tick : ℕ) (reason : Reason) (old new : Place) → reason_at fixed n p m ≡ Some reason → old.number ≡ p →
     Gives (Msg m stamp tick) old new → PlaceIn fixed n (step_from n) old → PlaceIn fixed n (dropped p (reason_number reason) n) new
 dropped_here fixed n p m stamp tick reason old new e at g h =
     let early : early_reason old.port.set old.port.line.link m ≡ Some reason =
@@ -162,7 +162,7 @@ dropped_here fixed n p m stamp tick reason old new e at g h =
       sound = subst AllSound (sym (g.sends ∙ ap₂ newest_sends (sends_none old.port.set old.port.line m stamp tick reason early) h.sends)) tt;
     }
 
-left_here : (fixed : Fixed) (n : NodeAt) (p reason : ℕ) (old : Place) → (old.number == p) ≡ false → PlaceIn fixed n (step_from n) old → PlaceIn fixed n (dropped p reason n) old
+left_here : (fixed : NodeSetting) (n : NodeAt) (p reason : ℕ) (old : Place) → (old.number == p) ≡ false → PlaceIn fixed n (step_from n) old → PlaceIn fixed n (dropped p reason n) old
 left_here fixed n p reason old e h = record {
   stands = record {
     set = h.stands.set;
@@ -174,13 +174,13 @@ left_here fixed n p reason old e h = record {
   sound = h.sound;
 }
 
-dropped_where : (fixed : Fixed) (n : NodeAt) (p : ℕ) (m : PtpMsg) (stamp : Stamp) (tick : ℕ) (reason : Reason) (old new : Place) (b : Bool) → reason_at fixed n p m ≡ Some reason →
+dropped_where : (fixed : NodeSetting) (n : NodeAt) (p : ℕ) (m : PtpMsg) (stamp : Stamp) (tick : ℕ) (reason : Reason) (old new : Place) (b : Bool) → reason_at fixed n p m ≡ Some reason →
     (old.number == p) ≡ b → GivenWhere b (Msg m stamp tick) old new → PlaceIn fixed n (step_from n) old → PlaceIn fixed n (dropped p (reason_number reason) n) new
 dropped_where fixed n p m stamp tick reason old new true r e g h = dropped_here fixed n p m stamp tick reason old new r (eqb-true old.number p e) g h
 dropped_where fixed n p m stamp tick reason old new false r e g h =
     subst (λ (x : Place). PlaceIn fixed n (dropped p (reason_number reason) n) x) (sym g) (left_here fixed n p (reason_number reason) old e h)
 
-parts_dropped : (fixed : Fixed) (n : NodeAt) (p : ℕ) (m : PtpMsg) (stamp : Stamp) (tick : ℕ) (reason : Reason) (old : Parts) (ys : List Place) → reason_at fixed n p m ≡ Some reason →
+parts_dropped : (fixed : NodeSetting) (n : NodeAt) (p : ℕ) (m : PtpMsg) (stamp : Stamp) (tick : ℕ) (reason : Reason) (old : Parts) (ys : List Place) → reason_at fixed n p m ≡ Some reason →
     AllZip (GivesTo (One p) (Msg m stamp tick)) old.ports ys → PartsIn fixed n (step_from n) old → PartsIn fixed n (dropped p (reason_number reason) n) (record old { ports = ys })
 parts_dropped fixed n p m stamp tick reason old ys r z h =
     let numbers : map (λ (x : Place). x.number) ys ≡ map (λ (x : Place). x.number) old.ports = numbers_given (One p) (Msg m stamp tick) old.ports ys z in
@@ -198,7 +198,7 @@ parts_dropped fixed n p m stamp tick reason old ys r z h =
 
 -- ---- either
 
-heard_as : (fixed : Fixed) (n : NodeAt) (p : ℕ) (m : PtpMsg) (raw : Raw) (sample : ℕ) (old : Parts) (ys : List Place) (reason : Option Reason) → reason_at fixed n p m ≡ reason →
+heard_as : (fixed : NodeSetting) (n : NodeAt) (p : ℕ) (m : PtpMsg) (raw : Raw) (sample : ℕ) (old : Parts) (ys : List Place) (reason : Option Reason) → reason_at fixed n p m ≡ reason →
     IsFit (message_of fixed n p m raw sample) → AllZip (GivesTo (One p) (message_of fixed n p m raw sample)) old.ports ys → PartsIn fixed n (step_from n) old → is_among p old.ports ≡ true →
     PartsIn fixed n (taken_unless reason fixed p (message_of fixed n p m raw sample) n) (record old { ports = ys })
     × (measured_in (place_of p ys) ≡ four_unless reason fixed p (message_of fixed n p m raw sample) n)
@@ -213,7 +213,7 @@ heard_as fixed n p m raw sample old ys (Some reason) e fit z h a = (
       ∙ measured_none (setting_of fixed.set p) (line_at fixed.set n p) (pieces_at fixed.set n p) m (stamp_of fixed n p raw sample) n.ticks reason e,
 )
 
-pub hears_at : (fixed : Fixed) (n : NodeAt) (p : ℕ) (m : PtpMsg) (raw : Raw) (sample : ℕ) (old : Parts) (ys : List Place) →
+pub hears_at : (fixed : NodeSetting) (n : NodeAt) (p : ℕ) (m : PtpMsg) (raw : Raw) (sample : ℕ) (old : Parts) (ys : List Place) →
     IsFit (message_of fixed n p m raw sample) → AllZip (GivesTo (One p) (message_of fixed n p m raw sample)) old.ports ys → PartsIn fixed n (step_from n) old → is_among p old.ports ≡ true →
     HearsAt fixed n p m raw sample (record old { ports = ys }) (measured_in (place_of p ys))
 hears_at fixed n p m raw sample old ys fit z h a =

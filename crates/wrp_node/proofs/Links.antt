@@ -13,7 +13,7 @@ use Rattle.wrp_link.specs.Table.{after}
 use Rattle.wrp_node.specs.declared.interface.Input.{Input}
 use Rattle.wrp_node.specs.declared.interface.Input.TheVariants.{Tick, Sample, Frame, Sent, Carrier, Reset}
 use Rattle.wrp_node.specs.LinkNews.{LinkNews, Nothing, Given, news_of, link_after, frame_news, news_at, StepGivesLinks}
-use Rattle.wrp_node.specs.NodeAt.{Fixed, NodeAt, slave_of, setting_of, link_at, locked_of}
+use Rattle.wrp_node.specs.NodeAt.{NodeSetting, NodeAt, slave_of, setting_of, link_at, locked_of}
 use Rattle.wrp_node.specs.NodeStep.{counted_tick, lease_ticked, servo_ticked, told_slave, measurement_by, measured_at, stamp_of, used, heard, heard_unless, is_slave_port, handed, stepped}
 use Rattle.wrp_node.specs.Telling.{Step, step_from, tell, answer_of, number_of, for_slave, lease_change, link_change, with_lease, settled}
 use Rattle.wrp_node.proofs.Settled.{link_by}
@@ -25,10 +25,10 @@ use Rattle.wrp_port.specs.History.{link_of, input_unless, to_link, link_by as li
 use Rattle.wrp_servo.specs.Call.{Call, CallSample, CallTick, CallCarrier}
 
 -- telling the servo leaves every link as it is
-pub tell_link : (fixed : Fixed) (call : Option Call) (s : Step) (p : ℕ) → link_at fixed.set (tell fixed call s).node p ≡ link_at fixed.set s.node p
+pub tell_link : (fixed : NodeSetting) (call : Option Call) (s : Step) (p : ℕ) → link_at fixed.set (tell fixed call s).node p ≡ link_at fixed.set s.node p
 tell_link fixed call s p = link_by (slave_of fixed.set) (setting_of fixed.set p) (answer_of fixed call s.node.calls) (number_of call) s.node.told p
 
-settled_link : (fixed : Fixed) (s : Step) (p : ℕ) → link_at fixed.set (settled fixed s).node p ≡ link_at fixed.set s.node p
+settled_link : (fixed : NodeSetting) (s : Step) (p : ℕ) → link_at fixed.set (settled fixed s).node p ≡ link_at fixed.set s.node p
 settled_link fixed s p = tell_link fixed (link_change fixed (with_lease fixed s).node) (with_lease fixed s) p ∙ tell_link fixed (lease_change fixed s.node) s p
 
 -- a turn of the lease is nothing to a link
@@ -40,7 +40,7 @@ lease_link : (o : Option ℕ) (set : Setting) (told : ℕ → List PortIn) (q : 
 lease_link None set told q = refl
 lease_link (Some p) set told q = lease_where (q == p) set (told q)
 
-pub before_ports : (fixed : Fixed) (n : NodeAt) (p : ℕ) → link_at fixed.set (servo_ticked fixed n).node p ≡ link_at fixed.set n p
+pub before_ports : (fixed : NodeSetting) (n : NodeAt) (p : ℕ) → link_at fixed.set (servo_ticked fixed n).node p ≡ link_at fixed.set n p
 before_ports fixed n p =
     tell_link fixed (for_slave fixed (Some CallTick)) (lease_ticked fixed n) p
     ∙ tell_link fixed (lease_change fixed (counted_tick fixed n)) (step_from (counted_tick fixed n)) p
@@ -65,7 +65,7 @@ either_none : (b : Bool) (set : Setting) (l : LinkAt) → l ≡ link_after set l
 either_none true set l = refl
 either_none false set l = refl
 
-heard_link : (fixed : Fixed) (n : NodeAt) (q p : ℕ) (m : PtpMsg) (stamp : Stamp) (y : ℤ) (o : Option Reason) → early_reason (setting_of fixed.set q) (link_at fixed.set n q) m ≡ o →
+heard_link : (fixed : NodeSetting) (n : NodeAt) (q p : ℕ) (m : PtpMsg) (stamp : Stamp) (y : ℤ) (o : Option Reason) → early_reason (setting_of fixed.set q) (link_at fixed.set n q) m ≡ o →
     link_at fixed.set (heard_unless o fixed q (Msg m stamp n.ticks) y n).node p
     ≡ link_after (setting_of fixed.set p) (link_at fixed.set n p) (if p == q then news_of (input_unless o (link_input (setting_of fixed.set q).ds.role m.body)) else Nothing)
 heard_link fixed n q p m stamp y None e =
@@ -76,7 +76,7 @@ heard_link fixed n q p m stamp y None e =
     ∙ ap (λ (r : Option Reason). link_after (setting_of fixed.set p) (link_at fixed.set n p) (news_of (input_unless r (link_input (setting_of fixed.set q).ds.role m.body)))) e)
 heard_link fixed n q p m stamp y (Some reason) e = either_none (p == q) (setting_of fixed.set p) (link_at fixed.set n p)
 
-frame_link : (fixed : Fixed) (n : NodeAt) (q p : ℕ) (says : Result PtpMsg FrameFault) (raw : Raw) (sample : ℕ) (y : ℤ) →
+frame_link : (fixed : NodeSetting) (n : NodeAt) (q p : ℕ) (says : Result PtpMsg FrameFault) (raw : Raw) (sample : ℕ) (y : ℤ) →
     link_at fixed.set (heard fixed q says raw sample y n).node p ≡ link_after (setting_of fixed.set p) (link_at fixed.set n p) (if p == q then frame_news fixed n q says else Nothing)
 frame_link fixed n q p (Err fault) raw sample y = either_none (p == q) (setting_of fixed.set p) (link_at fixed.set n p)
 frame_link fixed n q p (Ok m) raw sample y =
@@ -86,7 +86,7 @@ same_where : (b : Bool) (set : Setting) (told : List PortIn) (delay : Bool) (seq
 same_where true set told delay seq stamp tick = refl
 same_where false set told delay seq stamp tick = refl
 
-stepped_link : (fixed : Fixed) (input : Input) (says : Result PtpMsg FrameFault) (y : ℤ) (n : NodeAt) (p : ℕ) →
+stepped_link : (fixed : NodeSetting) (input : Input) (says : Result PtpMsg FrameFault) (y : ℤ) (n : NodeAt) (p : ℕ) →
     link_at fixed.set (stepped fixed input says y n).node p ≡ link_after (setting_of fixed.set p) (link_at fixed.set n p) (news_at fixed n input says p)
 stepped_link fixed Tick says y n p = ap (λ (l : LinkAt). after l (link.Tick (locked_of fixed (servo_ticked fixed n).node))) (before_ports fixed n p)
 stepped_link fixed (Sample number base bits) says y n p = tell_link fixed (for_slave fixed (Some (CallSample number base bits))) (step_from n) p

@@ -23,7 +23,7 @@ use Rattle.wrp_node.specs.declared.parts.Parts.{Parts}
 use Rattle.wrp_node.specs.declared.place.Place.{Place}
 use Rattle.wrp_node.specs.declared.ports.To.TheVariants.{Every, One}
 use Rattle.wrp_node.specs.Node.{track_in, puts_out, is_tick}
-use Rattle.wrp_node.specs.NodeAt.{Fixed, NodeAt, slave_of, state_of, locked_of, certain_of, est_of, servo_at, setting_of, line_at, is_fresh_in, deltas_in}
+use Rattle.wrp_node.specs.NodeAt.{NodeSetting, NodeAt, slave_of, state_of, locked_of, certain_of, est_of, servo_at, setting_of, line_at, is_fresh_in, deltas_in}
 use Rattle.wrp_node.specs.NodeRun.{step_out, dac_out, servo_out, est_out, track_out, port_out, word_out, frame_out, outputs_of}
 use Rattle.wrp_node.specs.NodeStep.{handed, carried, ports_ticked, tick_of, is_slave_port, used, dropped, measured_at, measurement_by, message_of, heard, heard_unless}
 use Rattle.wrp_node.specs.Parts.{PlaceStands, PlaceIn, PartsIn, IsNumber, HearsAt, given, taken_unless, four_unless, reason_at}
@@ -51,48 +51,48 @@ either_number true true call e = sym e
 either_number true false call e = refl
 either_number false b call e = refl
 
-no_number : (fixed : Fixed) (b : Bool) (call : Call) (out : ServoOut) → number_of (Some call) ≡ 0 → IsNumber out 0 (for_slave fixed (if b then Some call else None))
+no_number : (fixed : NodeSetting) (b : Bool) (call : Call) (out : ServoOut) → number_of (Some call) ≡ 0 → IsNumber out 0 (for_slave fixed (if b then Some call else None))
 no_number fixed b call out e told = ap (λ (k : ℕ). heard_of out k told) (either_number (is_some (slave_of fixed.set)) b call e)
 
-pub no_sample : (fixed : Fixed) (call : Call) (out : ServoOut) → number_of (Some call) ≡ 0 → IsNumber out 0 (for_slave fixed (Some call))
+pub no_sample : (fixed : NodeSetting) (call : Call) (out : ServoOut) → number_of (Some call) ≡ 0 → IsNumber out 0 (for_slave fixed (Some call))
 no_sample fixed call out e = no_number fixed true call out e
 
-sample_where : (b : Bool) (fixed : Fixed) (n base bits : ℕ) (calls : List Call) (out : ServoOut) → out ≡ answer_of fixed (if b then Some (CallSample n base bits) else None) calls →
+sample_where : (b : Bool) (fixed : NodeSetting) (n base bits : ℕ) (calls : List Call) (out : ServoOut) → out ≡ answer_of fixed (if b then Some (CallSample n base bits) else None) calls →
     IsNumber out n (if b then Some (CallSample n base bits) else None)
 sample_where true fixed n base bits calls out e told = refl
 sample_where false fixed n base bits calls out e told = ap (λ (o : ServoOut). heard_of o n told) e ∙ sym (ap (λ (o : ServoOut). heard_of o 0 told) e)
 
-pub sample_number : (fixed : Fixed) (n base bits : ℕ) (calls : List Call) (out : ServoOut) → out ≡ answer_of fixed (for_slave fixed (Some (CallSample n base bits))) calls →
+pub sample_number : (fixed : NodeSetting) (n base bits : ℕ) (calls : List Call) (out : ServoOut) → out ≡ answer_of fixed (for_slave fixed (Some (CallSample n base bits))) calls →
     IsNumber out n (for_slave fixed (Some (CallSample n base bits)))
 sample_number fixed n base bits calls out e = sample_where (is_some (slave_of fixed.set)) fixed n base bits calls out e
 
 -- ---- one call
 
 -- what a call of the servo makes of the other parts
-abbrev pub Taken : Fixed → NodeAt → Step → ServoOut → ℕ → Parts → Type 0
+abbrev pub Taken : NodeSetting → NodeAt → Step → ServoOut → ℕ → Parts → Type 0
 Taken fixed before s out number new =
     (call : Option Call) → out ≡ answer_of fixed call s.node.calls → IsNumber out number call → PartsIn fixed before (tell fixed call s) new
 
-pub told_node : {F : Type 0} {post : F → ℤ → ℤ → Type 0} (fixed : Fixed) (before : NodeAt) (s : Step) (call : Option Call) (number : ℕ) (out : ServoOut) (new : Parts) (control : ControlOf F) (report : ℕ) →
+pub told_node : {F : Type 0} {post : F → ℤ → ℤ → Type 0} (fixed : NodeSetting) (before : NodeAt) (s : Step) (call : Option Call) (number : ℕ) (out : ServoOut) (new : Parts) (control : ControlOf F) (report : ℕ) →
     Calls post fixed s.node.calls control call out → IsNumber out number (for_slave fixed call) → Taken fixed before s out number new → report ≡ fixed.set.report →
     IsIn post fixed before (tell fixed (for_slave fixed call) s) (record { parts = new; control = control; report = report })
 told_node fixed before s call number out new control report k n f r = record { parts = f (for_slave fixed call) k.answer n; control = k.stands; report = r }
 
-pub lease_node : {F : Type 0} {post : F → ℤ → ℤ → Type 0} (fixed : Fixed) (before : NodeAt) (s : Step) (fresh : Bool) (out : ServoOut) (new : Parts) (control : ControlOf F) (report : ℕ) →
+pub lease_node : {F : Type 0} {post : F → ℤ → ℤ → Type 0} (fixed : NodeSetting) (before : NodeAt) (s : Step) (fresh : Bool) (out : ServoOut) (new : Parts) (control : ControlOf F) (report : ℕ) →
     fresh ≡ is_fresh_in fixed.set s.node → Calls post fixed s.node.calls control (lease_call fresh s.node.calls) out → Taken fixed before s out 0 new → report ≡ fixed.set.report →
     IsIn post fixed before (with_lease fixed s) (record { parts = new; control = control; report = report })
 lease_node {post} fixed before s fresh out new control report e k f r =
     subst (λ (b : Bool). IsIn post fixed before (tell fixed (for_slave fixed (lease_call b s.node.calls)) s) (record { parts = new; control = control; report = report })) e
     (told_node fixed before s (lease_call fresh s.node.calls) 0 out new control report k (no_number fixed (is_changed (lease_told s.node.calls) fresh) (CallLease fresh) out refl) f r)
 
-pub link_node : {F : Type 0} {post : F → ℤ → ℤ → Type 0} (fixed : Fixed) (before : NodeAt) (s : Step) (on : Option Deltas) (out : ServoOut) (new : Parts) (control : ControlOf F) (report : ℕ) →
+pub link_node : {F : Type 0} {post : F → ℤ → ℤ → Type 0} (fixed : NodeSetting) (before : NodeAt) (s : Step) (on : Option Deltas) (out : ServoOut) (new : Parts) (control : ControlOf F) (report : ℕ) →
     on ≡ deltas_in fixed.set s.node → Calls post fixed s.node.calls control (link_call on s.node.calls) out → Taken fixed before s out 0 new → report ≡ fixed.set.report →
     IsIn post fixed before (with_link fixed s) (record { parts = new; control = control; report = report })
 link_node {post} fixed before s on out new control report e k f r =
     subst (λ (o : Option Deltas). IsIn post fixed before (tell fixed (for_slave fixed (link_call o s.node.calls)) s) (record { parts = new; control = control; report = report })) e
     (told_node fixed before s (link_call on s.node.calls) 0 out new control report k (no_number fixed (is_changed (is_some (link_told s.node.calls)) (is_some on)) (CallLink on) out refl) f r)
 
-pub carrier_node : {F : Type 0} {post : F → ℤ → ℤ → Type 0} (fixed : Fixed) (n : NodeAt) (p : ℕ) (up : Bool) (own_module : Option Module) (slave : Bool) (out : ServoOut) (new : Parts) (control : ControlOf F) (report : ℕ) →
+pub carrier_node : {F : Type 0} {post : F → ℤ → ℤ → Type 0} (fixed : NodeSetting) (n : NodeAt) (p : ℕ) (up : Bool) (own_module : Option Module) (slave : Bool) (out : ServoOut) (new : Parts) (control : ControlOf F) (report : ℕ) →
     slave ≡ is_slave_port (slave_of fixed.set) p → Calls post fixed n.calls control (carrier_call slave up) out → Taken fixed n (handed fixed p (PortCarrier up own_module) n) out 0 new → report ≡ fixed.set.report →
     IsIn post fixed n (carried fixed p up own_module n) (record { parts = new; control = control; report = report })
 carrier_node {post} fixed n p up own_module slave out new control report e k f r =
@@ -100,10 +100,10 @@ carrier_node {post} fixed n p up own_module slave out new control report e k f r
     (told_node fixed n (handed fixed p (PortCarrier up own_module) n) (carrier_call slave up) 0 out new control report k (no_number fixed slave (CallCarrier up) out refl) f r)
 
 -- a node as its fields make it
-pub inside_in : {F : Type 0} {post : F → ℤ → ℤ → Type 0} {fixed : Fixed} {before : NodeAt} {s : Step} {v w : NodeOf F} → v ≡ w → IsIn post fixed before s w → IsIn post fixed before s v
+pub inside_in : {F : Type 0} {post : F → ℤ → ℤ → Type 0} {fixed : NodeSetting} {before : NodeAt} {s : Step} {v w : NodeOf F} → v ≡ w → IsIn post fixed before s w → IsIn post fixed before s v
 inside_in {post} {fixed} {before} {s} e h = subst (λ x. IsIn post fixed before s x) (sym e) h
 
-pub inside_at : {F : Type 0} {post : F → ℤ → ℤ → Type 0} {fixed : Fixed} {n : NodeAt} {v w : NodeOf F} → v ≡ w → IsAt post fixed n w → IsAt post fixed n v
+pub inside_at : {F : Type 0} {post : F → ℤ → ℤ → Type 0} {fixed : NodeSetting} {n : NodeAt} {v w : NodeOf F} → v ≡ w → IsAt post fixed n w → IsAt post fixed n v
 inside_at {post} {fixed} {n} e h = subst (λ x. IsAt post fixed n x) (sym e) h
 
 -- where nothing is told, nothing changes
@@ -111,10 +111,10 @@ same_call : (b : Bool) (o : Option Call) → (if b then o else o) ≡ o
 same_call true o = refl
 same_call false o = refl
 
-none_for : (fixed : Fixed) → for_slave fixed None ≡ None
+none_for : (fixed : NodeSetting) → for_slave fixed None ≡ None
 none_for fixed = same_call (is_some (slave_of fixed.set)) None
 
-pub nothing_node : {F : Type 0} {post : F → ℤ → ℤ → Type 0} (fixed : Fixed) (before : NodeAt) (s : Step) (call : Option Call) (node : NodeOf F) → call ≡ None → IsIn post fixed before s node →
+pub nothing_node : {F : Type 0} {post : F → ℤ → ℤ → Type 0} (fixed : NodeSetting) (before : NodeAt) (s : Step) (call : Option Call) (node : NodeOf F) → call ≡ None → IsIn post fixed before s node →
     IsIn post fixed before (tell fixed (for_slave fixed call) s) node
 nothing_node {post} fixed before s call node e h =
     subst (λ (o : Option Call). IsIn post fixed before (tell fixed o s) node) (sym (ap (for_slave fixed) e ∙ none_for fixed))
@@ -122,14 +122,14 @@ nothing_node {post} fixed before s call node e h =
 
 -- ---- a message
 
-heard_some : {F : Type 0} {post : F → ℤ → ℤ → Type 0} (fixed : Fixed) (n : NodeAt) (p : ℕ) (input : PortIn) (y : ℤ) (four : Four) (reason : Option Reason) (node : NodeOf F) →
+heard_some : {F : Type 0} {post : F → ℤ → ℤ → Type 0} (fixed : NodeSetting) (n : NodeAt) (p : ℕ) (input : PortIn) (y : ℤ) (four : Four) (reason : Option Reason) (node : NodeOf F) →
     Some four ≡ four_unless reason fixed p input n → IsIn post fixed n (tell fixed (for_slave fixed (Some (CallMeasured four y))) (taken_unless reason fixed p input n)) node →
     IsIn post fixed n (heard_unless reason fixed p input y n) node
 heard_some {post} fixed n p input y four None node e h =
     subst (λ (o : Option Four). IsIn post fixed n (tell fixed (for_slave fixed (measurement_by o y)) (used fixed p input n)) node) e h
 heard_some fixed n p input y four (Some reason) node e h = absurd (none-some four (sym e))
 
-measured_node : {F : Type 0} {post : F → ℤ → ℤ → Type 0} (fixed : Fixed) (n : NodeAt) (p : ℕ) (input : PortIn) (y : ℤ) (four : Four) (reason : Option Reason) (out : ServoOut) (new : Parts)
+measured_node : {F : Type 0} {post : F → ℤ → ℤ → Type 0} (fixed : NodeSetting) (n : NodeAt) (p : ℕ) (input : PortIn) (y : ℤ) (four : Four) (reason : Option Reason) (out : ServoOut) (new : Parts)
     (control : ControlOf F) (report : ℕ) → Calls post fixed n.calls control (Some (CallMeasured four y)) out → Taken fixed n (taken_unless reason fixed p input n) out 0 new → report ≡ fixed.set.report →
     IsIn post fixed n (tell fixed (for_slave fixed (Some (CallMeasured four y))) (taken_unless reason fixed p input n)) (record { parts = new; control = control; report = report })
 measured_node fixed n p input y four None out new control report k f r =
@@ -137,7 +137,7 @@ measured_node fixed n p input y four None out new control report k f r =
 measured_node fixed n p input y four (Some reason) out new control report k f r =
     told_node fixed n (dropped p (reason_number reason) n) (Some (CallMeasured four y)) 0 out new control report k (no_sample fixed (CallMeasured four y) out refl) f r
 
-pub message_some : {F : Type 0} {post : F → ℤ → ℤ → Type 0} (fixed : Fixed) (n : NodeAt) (p : ℕ) (m : PtpMsg) (raw : Raw) (sample : ℕ) (y : ℤ) (four : Four) (first : Parts) (out : ServoOut) (new : Parts)
+pub message_some : {F : Type 0} {post : F → ℤ → ℤ → Type 0} (fixed : NodeSetting) (n : NodeAt) (p : ℕ) (m : PtpMsg) (raw : Raw) (sample : ℕ) (y : ℤ) (four : Four) (first : Parts) (out : ServoOut) (new : Parts)
     (control : ControlOf F) (report : ℕ) → HearsAt fixed n p m raw sample first (Some four) → Calls post fixed n.calls control (Some (CallMeasured four y)) out →
     ((s : Step) → PartsIn fixed n s first → Taken fixed n s out 0 new) → report ≡ fixed.set.report →
     IsIn post fixed n (heard fixed p (Ok m) raw sample y n) (record { parts = new; control = control; report = report })
@@ -145,16 +145,16 @@ message_some {post} fixed n p m raw sample y four first out new control report a
     heard_some fixed n p (message_of fixed n p m raw sample) y four (reason_at fixed n p m) (record { parts = new; control = control; report = report }) a.four_is
     (measured_node fixed n p (message_of fixed n p m raw sample) y four (reason_at fixed n p m) out new control report k (f (taken_unless (reason_at fixed n p m) fixed p (message_of fixed n p m raw sample) n) a.parts) r)
 
-heard_none : {F : Type 0} {post : F → ℤ → ℤ → Type 0} (fixed : Fixed) (n : NodeAt) (p : ℕ) (input : PortIn) (y : ℤ) (reason : Option Reason) (node : NodeOf F) →
+heard_none : {F : Type 0} {post : F → ℤ → ℤ → Type 0} (fixed : NodeSetting) (n : NodeAt) (p : ℕ) (input : PortIn) (y : ℤ) (reason : Option Reason) (node : NodeOf F) →
     four_unless reason fixed p input n ≡ None → IsIn post fixed n (taken_unless reason fixed p input n) node → IsIn post fixed n (heard_unless reason fixed p input y n) node
 heard_none fixed n p input y None node e h = nothing_node fixed n (used fixed p input n) (measurement_by (measured_at fixed n p input) y) node (ap (λ (o : Option Four). measurement_by o y) e) h
 heard_none fixed n p input y (Some reason) node e h = h
 
-calls_unless : (fixed : Fixed) (n : NodeAt) (p : ℕ) (input : PortIn) (reason : Option Reason) → (taken_unless reason fixed p input n).node.calls ≡ n.calls
+calls_unless : (fixed : NodeSetting) (n : NodeAt) (p : ℕ) (input : PortIn) (reason : Option Reason) → (taken_unless reason fixed p input n).node.calls ≡ n.calls
 calls_unless fixed n p input None = refl
 calls_unless fixed n p input (Some reason) = refl
 
-pub message_none : {F : Type 0} {post : F → ℤ → ℤ → Type 0} (fixed : Fixed) (n : NodeAt) (p : ℕ) (m : PtpMsg) (raw : Raw) (sample : ℕ) (y : ℤ) (new : Parts) (control : ControlOf F) (report : ℕ) →
+pub message_none : {F : Type 0} {post : F → ℤ → ℤ → Type 0} (fixed : NodeSetting) (n : NodeAt) (p : ℕ) (m : PtpMsg) (raw : Raw) (sample : ℕ) (y : ℤ) (new : Parts) (control : ControlOf F) (report : ℕ) →
     HearsAt fixed n p m raw sample new None → ControlStands post fixed n.calls control → report ≡ fixed.set.report →
     IsIn post fixed n (heard fixed p (Ok m) raw sample y n) (record { parts = new; control = control; report = report })
 message_none {post} fixed n p m raw sample y new control report a k r =
@@ -167,28 +167,28 @@ message_none {post} fixed n p m raw sample y new control report a k r =
 
 -- ---- what the servo's part tells
 
-state_by : {F : Type 0} (post : F → ℤ → ℤ → Type 0) (fixed : Fixed) (n : NodeAt) (t : Option (ToldServo F)) → ServoIs post fixed n.calls t → state_in t ≡ state_of fixed n
+state_by : {F : Type 0} (post : F → ℤ → ℤ → Type 0) (fixed : NodeSetting) (n : NodeAt) (t : Option (ToldServo F)) → ServoIs post fixed n.calls t → state_in t ≡ state_of fixed n
 state_by post fixed n None h = sym (ap (λ (b : Bool). if b then (servo_at fixed n).state else Uninit) h)
 state_by post fixed n (Some t) h = ap (λ (v : Core). v.state) h.1.servo.core ∙ sym (ap (λ (b : Bool). if b then (servo_at fixed n).state else Uninit) h.0)
 
-pub state_is : {F : Type 0} {post : F → ℤ → ℤ → Type 0} (fixed : Fixed) (n : NodeAt) (c : ControlOf F) → ControlStands post fixed n.calls c → state_in c.told ≡ state_of fixed n
+pub state_is : {F : Type 0} {post : F → ℤ → ℤ → Type 0} (fixed : NodeSetting) (n : NodeAt) (c : ControlOf F) → ControlStands post fixed n.calls c → state_in c.told ≡ state_of fixed n
 state_is {post} fixed n c h = state_by post fixed n c.told h.servo
 
-locked_by : {F : Type 0} (post : F → ℤ → ℤ → Type 0) (fixed : Fixed) (n : NodeAt) (t : Option (ToldServo F)) → ServoIs post fixed n.calls t → locked_in t ≡ locked_of fixed n
+locked_by : {F : Type 0} (post : F → ℤ → ℤ → Type 0) (fixed : NodeSetting) (n : NodeAt) (t : Option (ToldServo F)) → ServoIs post fixed n.calls t → locked_in t ≡ locked_of fixed n
 locked_by post fixed n None h = sym (ap (λ (b : Bool). if b then (servo_at fixed n).phase.lock.locked else false) h)
 locked_by post fixed n (Some t) h = ap (λ (v : Core). v.phase.lock.locked) h.1.servo.core ∙ sym (ap (λ (b : Bool). if b then (servo_at fixed n).phase.lock.locked else false) h.0)
 
-pub locked_is : {F : Type 0} {post : F → ℤ → ℤ → Type 0} (fixed : Fixed) (n : NodeAt) (c : ControlOf F) → ControlStands post fixed n.calls c → locked_in c.told ≡ locked_of fixed n
+pub locked_is : {F : Type 0} {post : F → ℤ → ℤ → Type 0} (fixed : NodeSetting) (n : NodeAt) (c : ControlOf F) → ControlStands post fixed n.calls c → locked_in c.told ≡ locked_of fixed n
 locked_is {post} fixed n c h = locked_by post fixed n c.told h.servo
 
-certain_by : {F : Type 0} (post : F → ℤ → ℤ → Type 0) (fixed : Fixed) (n : NodeAt) (t : Option (ToldServo F)) → ServoIs post fixed n.calls t → certain_in t ≡ certain_of fixed n
+certain_by : {F : Type 0} (post : F → ℤ → ℤ → Type 0) (fixed : NodeSetting) (n : NodeAt) (t : Option (ToldServo F)) → ServoIs post fixed n.calls t → certain_in t ≡ certain_of fixed n
 certain_by post fixed n None h = sym (ap (λ (b : Bool). if b then is_track (servo_at fixed n).state else true) h)
 certain_by post fixed n (Some t) h = ap (λ (v : Core). is_track v.state) h.1.servo.core ∙ sym (ap (λ (b : Bool). if b then is_track (servo_at fixed n).state else true) h.0)
 
-pub certain_is : {F : Type 0} {post : F → ℤ → ℤ → Type 0} (fixed : Fixed) (n : NodeAt) (c : ControlOf F) → ControlStands post fixed n.calls c → certain_in c.told ≡ certain_of fixed n
+pub certain_is : {F : Type 0} {post : F → ℤ → ℤ → Type 0} (fixed : NodeSetting) (n : NodeAt) (c : ControlOf F) → ControlStands post fixed n.calls c → certain_in c.told ≡ certain_of fixed n
 certain_is {post} fixed n c h = certain_by post fixed n c.told h.servo
 
-tracked_by : {F : Type 0} (post : F → ℤ → ℤ → Type 0) (fixed : Fixed) (n : NodeAt) (t : Option (ToldServo F)) → ServoIs post fixed n.calls t →
+tracked_by : {F : Type 0} (post : F → ℤ → ℤ → Type 0) (fixed : NodeSetting) (n : NodeAt) (t : Option (ToldServo F)) → ServoIs post fixed n.calls t →
     tracked_in t ≡ (if is_track (state_of fixed n) then est_of fixed n else None)
 tracked_by post fixed n None h = sym (ap (λ (b : Bool). if is_track (if b then (servo_at fixed n).state else Uninit) then est_of fixed n else None) h)
 tracked_by post fixed n (Some t) h =
@@ -197,13 +197,13 @@ tracked_by post fixed n (Some t) h =
 
 -- ---- what is put out
 
-place_puts : (fixed : Fixed) (before : NodeAt) (s : Step) (place : Place) → PlaceIn fixed before s place → place_out place ≡ port_out fixed before s place.number
+place_puts : (fixed : NodeSetting) (before : NodeAt) (s : Step) (place : Place) → PlaceIn fixed before s place → place_out place ≡ port_out fixed before s place.number
 place_puts fixed before s place h =
     ap₂ (λ (a b : List Output). a ++ b)
     (ap₂ (λ (v w : LinkWord). word_out place.number v w) h.word (ap (λ (l : Line). word_of l.link) (line_is fixed s.node place h.stands)))
     (ap (λ (ms : List PtpMsg). map (frame_out place.number) ms) h.sends)
 
-places_put : (fixed : Fixed) (before : NodeAt) (s : Step) (places : List Place) → AllByRecursion (PlaceIn fixed before s) places →
+places_put : (fixed : NodeSetting) (before : NodeAt) (s : Step) (places : List Place) → AllByRecursion (PlaceIn fixed before s) places →
     flat_map place_out places ≡ flat_map (port_out fixed before s) (map (λ (x : Place). x.number) places)
 places_put fixed before s [] h = refl
 places_put fixed before s (x ∷ xs) h = ap₂ (λ (a b : List Output). a ++ b) (place_puts fixed before s x h.0) (places_put fixed before s xs h.1)
@@ -214,7 +214,7 @@ track_out_by true false est = refl
 track_out_by false true est = refl
 track_out_by false false est = refl
 
-track_put : {F : Type 0} (post : F → ℤ → ℤ → Type 0) (fixed : Fixed) (before : NodeAt) (s : Step) (node : NodeOf F) (input : Input) → IsIn post fixed before s node →
+track_put : {F : Type 0} (post : F → ℤ → ℤ → Type 0) (fixed : NodeSetting) (before : NodeAt) (s : Step) (node : NodeOf F) (input : Input) → IsIn post fixed before s node →
     est_out (track_in (is_tick input) node) ≡ track_out fixed input s.node
 track_put post fixed before s node Tick h =
     ap₂ (λ (k r : ℕ). est_out (if k % r == 0 then tracked_in node.control.told else None)) h.parts.ticks h.report
@@ -226,7 +226,7 @@ track_put post fixed before s node (Sent p seq delay stamp) h = refl
 track_put post fixed before s node (Carrier p up own_module) h = refl
 track_put post fixed before s node Reset h = refl
 
-pub all_put : {F : Type 0} {post : F → ℤ → ℤ → Type 0} (fixed : Fixed) (before : NodeAt) (s : Step) (node : NodeOf F) (input : Input) (state : ServoState) → IsIn post fixed before s node →
+pub all_put : {F : Type 0} {post : F → ℤ → ℤ → Type 0} (fixed : NodeSetting) (before : NodeAt) (s : Step) (node : NodeOf F) (input : Input) (state : ServoState) → IsIn post fixed before s node →
     state ≡ state_of fixed before → puts_out state (is_tick input) node ≡ outputs_of fixed input before s
 all_put {post} fixed before s node input state h e =
     ap₂ (λ (a b : List Output). a ++ b)
@@ -237,18 +237,18 @@ all_put {post} fixed before s node input state h e =
     (places_put fixed before s node.parts.ports h.parts.places ∙ ap (λ (ns : List ℕ). flat_map (port_out fixed before s) ns) h.parts.numbers))
     (track_put post fixed before s node input h)
 
-pub all_sound : (fixed : Fixed) (before : NodeAt) (s : Step) (places : List Place) → AllByRecursion (PlaceIn fixed before s) places →
+pub all_sound : (fixed : NodeSetting) (before : NodeAt) (s : Step) (places : List Place) → AllByRecursion (PlaceIn fixed before s) places →
     AllByRecursion (λ (x : Place). AllByRecursion IsSound x.sends.items) places
 all_sound fixed before s [] h = tt
 all_sound fixed before s (x ∷ xs) h = (h.0.sound, all_sound fixed before s xs h.1)
 
 -- ---- between inputs
 
-place_at : (fixed : Fixed) (before : NodeAt) (s : Step) (places : List Place) → AllByRecursion (PlaceIn fixed before s) places → AllByRecursion (PlaceStands fixed s.node) places
+place_at : (fixed : NodeSetting) (before : NodeAt) (s : Step) (places : List Place) → AllByRecursion (PlaceIn fixed before s) places → AllByRecursion (PlaceStands fixed s.node) places
 place_at fixed before s [] h = tt
 place_at fixed before s (x ∷ xs) h = (h.0.stands, place_at fixed before s xs h.1)
 
-pub in_at : {F : Type 0} {post : F → ℤ → ℤ → Type 0} (fixed : Fixed) (before : NodeAt) (s : Step) (node : NodeOf F) → IsIn post fixed before s node → IsAt post fixed s.node node
+pub in_at : {F : Type 0} {post : F → ℤ → ℤ → Type 0} (fixed : NodeSetting) (before : NodeAt) (s : Step) (node : NodeOf F) → IsIn post fixed before s node → IsAt post fixed s.node node
 in_at fixed before s node h = record {
   parts = record {
     numbers = h.parts.numbers;
@@ -264,7 +264,7 @@ in_at fixed before s node h = record {
 
 -- ---- one port, or every port, is told something that it never counts
 
-pub sent_told : (fixed : Fixed) (n : NodeAt) (p seq : ℕ) (delay : Bool) (stamp : Stamp) (tick : ℕ) (parts : Parts) → tick ≡ n.ticks →
+pub sent_told : (fixed : NodeSetting) (n : NodeAt) (p seq : ℕ) (delay : Bool) (stamp : Stamp) (tick : ℕ) (parts : Parts) → tick ≡ n.ticks →
     PartsIn fixed n (given (One p) (PortSent delay seq stamp tick) fixed (step_from n)) parts → PartsIn fixed n (handed fixed p (PortSent delay seq stamp n.ticks) n) parts
 sent_told fixed n p seq delay stamp tick parts e h =
     subst (λ (k : ℕ). PartsIn fixed n (handed fixed p (PortSent delay seq stamp k) n) parts) e
@@ -275,7 +275,7 @@ sent_told fixed n p seq delay stamp tick parts e h =
       sends = λ q. sent_here fixed n p q (PortSent delay seq stamp tick) (q == p) refl;
     }) refl refl refl h)
 
-pub carrier_told : (fixed : Fixed) (n : NodeAt) (p : ℕ) (up : Bool) (own_module : Option Module) (parts : Parts) →
+pub carrier_told : (fixed : NodeSetting) (n : NodeAt) (p : ℕ) (up : Bool) (own_module : Option Module) (parts : Parts) →
     PartsIn fixed n (given (One p) (PortCarrier up own_module) fixed (step_from n)) parts → PartsIn fixed n (handed fixed p (PortCarrier up own_module) n) parts
 carrier_told fixed n p up own_module parts h =
     parts_same fixed n (given (One p) (PortCarrier up own_module) fixed (step_from n)) (handed fixed p (PortCarrier up own_module) n) parts
@@ -285,7 +285,7 @@ carrier_told fixed n p up own_module parts h =
       sends = λ q. sent_here fixed n p q (PortCarrier up own_module) (q == p) refl;
     }) refl refl refl h
 
-pub ticks_told : (fixed : Fixed) (before : NodeAt) (s : Step) (parts : Parts) (locked certain : Bool) → ((p : ℕ) → s.sends p ≡ []) → locked ≡ locked_of fixed s.node → certain ≡ certain_of fixed s.node →
+pub ticks_told : (fixed : NodeSetting) (before : NodeAt) (s : Step) (parts : Parts) (locked certain : Bool) → ((p : ℕ) → s.sends p ≡ []) → locked ≡ locked_of fixed s.node → certain ≡ certain_of fixed s.node →
     PartsIn fixed before (given Every (PortTick locked certain) fixed s) parts → PartsIn fixed before (ports_ticked fixed s) parts
 ticks_told fixed before s parts locked certain none l k h =
     let is : PortTick locked certain ≡ tick_of fixed s.node = ap₂ PortTick l k in

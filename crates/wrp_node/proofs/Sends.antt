@@ -32,7 +32,7 @@ use Rattle.wrp_node.specs.declared.interface.Report.{Report}
 use Rattle.wrp_node.specs.declared.interface.Report.TheVariants.{Link, Servo}
 use Rattle.wrp_node.specs.LinkNews.{LinkNews, Nothing, Given, news_of, frame_news, news_at}
 use Rattle.wrp_node.specs.New.{OfDifferentNumbers}
-use Rattle.wrp_node.specs.NodeAt.{Fixed, NodeAt, is_before, placed, in_order, numbers_of, slave_of, setting_of, line_at, link_at, locked_of, certain_of, state_of, est_of}
+use Rattle.wrp_node.specs.NodeAt.{NodeSetting, NodeAt, is_before, placed, in_order, numbers_of, slave_of, setting_of, line_at, link_at, locked_of, certain_of, state_of, est_of}
 use Rattle.wrp_node.specs.NodeRun.{step_out, dac_out, servo_out, place_of, word_out, frame_out, port_out, est_out, track_out}
 use Rattle.wrp_node.specs.NodeStep.{counted_tick, lease_ticked, servo_ticked, told_slave, stamp_of, heard_unless, heard, stepped, node_step, tick_of}
 use Rattle.wrp_node.specs.Sends.{is_signal, signals_in, link_sends, signals_at, SignalsAreOfLink, frames_at, is_port, SendsArePutOut}
@@ -72,10 +72,10 @@ next_by : (o : Option ℕ) (set : Setting) (out : ServoOut) (k : ℕ) (told : �
 next_by None set out k told q = refl
 next_by (Some p) set out k told q = next_where (q == p) set out k (told q)
 
-abbrev next_at : Fixed → NodeAt → ℕ → ℕ
+abbrev next_at : NodeSetting → NodeAt → ℕ → ℕ
 next_at fixed n p = next_signal (setting_of fixed.set p) (n.told p)
 
-tell_next : (fixed : Fixed) (call : Option Call) (s : Step) (p : ℕ) → next_at fixed (tell fixed call s).node p ≡ next_at fixed s.node p
+tell_next : (fixed : NodeSetting) (call : Option Call) (s : Step) (p : ℕ) → next_at fixed (tell fixed call s).node p ≡ next_at fixed s.node p
 tell_next fixed call s p = next_by (slave_of fixed.set) (setting_of fixed.set p) (answer_of fixed call s.node.calls) (number_of call) s.node.told p
 
 lease_where : (b : Bool) (set : Setting) (told : List PortIn) → next_signal set (if b then Lease ∷ told else told) ≡ next_signal set told
@@ -86,7 +86,7 @@ lease_next : (o : Option ℕ) (set : Setting) (told : ℕ → List PortIn) (q : 
 lease_next None set told q = refl
 lease_next (Some p) set told q = lease_where (q == p) set (told q)
 
-next_before_ports : (fixed : Fixed) (n : NodeAt) (p : ℕ) → next_at fixed (servo_ticked fixed n).node p ≡ next_at fixed n p
+next_before_ports : (fixed : NodeSetting) (n : NodeAt) (p : ℕ) → next_at fixed (servo_ticked fixed n).node p ≡ next_at fixed n p
 next_before_ports fixed n p =
     tell_next fixed (for_slave fixed (Some CallTick)) (lease_ticked fixed n) p
     ∙ tell_next fixed (lease_change fixed (counted_tick fixed n)) (step_from (counted_tick fixed n)) p
@@ -141,12 +141,12 @@ unless_sent set line m stamp (Some reason) = refl
 -- ---- each input
 
 -- only one port sends, and only its link is told something
-at_port : (fixed : Fixed) (n : NodeAt) (p q : ℕ) (sends : List PtpMsg) (news : LinkNews) (b : Bool) → (q == p) ≡ b → signals_in sends ≡ signals_at fixed n p news →
+at_port : (fixed : NodeSetting) (n : NodeAt) (p q : ℕ) (sends : List PtpMsg) (news : LinkNews) (b : Bool) → (q == p) ≡ b → signals_in sends ≡ signals_at fixed n p news →
     signals_in (if b then sends else []) ≡ signals_at fixed n q (if b then news else Nothing)
 at_port fixed n p q sends news true e h = h ∙ ap (λ (k : ℕ). signals_at fixed n k news) (sym (eqb-true q p e))
 at_port fixed n p q sends news false e h = refl
 
-nothing_where : (fixed : Fixed) (n : NodeAt) (q : ℕ) (b : Bool) (news : LinkNews) → link_sends (link_at fixed.set n q) news ≡ [] → [] ≡ signals_at fixed n q (if b then news else Nothing)
+nothing_where : (fixed : NodeSetting) (n : NodeAt) (q : ℕ) (b : Bool) (news : LinkNews) → link_sends (link_at fixed.set n q) news ≡ [] → [] ≡ signals_at fixed n q (if b then news else Nothing)
 nothing_where fixed n q true news h = ap (signals_of (setting_of fixed.set q) (line_at fixed.set n q).ids.signal) (sym h)
 nothing_where fixed n q false news h = refl
 
@@ -154,7 +154,7 @@ none_where : (b : Bool) → signals_in (if b then [] else []) ≡ []
 none_where true = refl
 none_where false = refl
 
-unless_signals : (fixed : Fixed) (n : NodeAt) (p q : ℕ) (m : PtpMsg) (stamp : Stamp) (y : ℤ) (o : Option Reason) → early_reason (setting_of fixed.set p) (link_at fixed.set n p) m ≡ o →
+unless_signals : (fixed : NodeSetting) (n : NodeAt) (p q : ℕ) (m : PtpMsg) (stamp : Stamp) (y : ℤ) (o : Option Reason) → early_reason (setting_of fixed.set p) (link_at fixed.set n p) m ≡ o →
     signals_in ((heard_unless o fixed p (Msg m stamp n.ticks) y n).sends q) ≡ signals_at fixed n q (if q == p then frame_news fixed n p (Ok m) else Nothing)
 unless_signals fixed n p q m stamp y None e =
     at_port fixed n p q (sends_of (setting_of fixed.set p) (line_at fixed.set n p) (Msg m stamp n.ticks)) (frame_news fixed n p (Ok m)) (q == p) refl
@@ -163,7 +163,7 @@ unless_signals fixed n p q m stamp y (Some reason) e =
     nothing_where fixed n q (q == p) (frame_news fixed n p (Ok m))
     (ap (λ (r : Option Reason). link_sends (link_at fixed.set n q) (news_of (input_unless r (link_input (setting_of fixed.set p).ds.role m.body)))) e)
 
-heard_signals : (fixed : Fixed) (n : NodeAt) (p q : ℕ) (says : Result PtpMsg FrameFault) (raw : Raw) (sample : ℕ) (y : ℤ) →
+heard_signals : (fixed : NodeSetting) (n : NodeAt) (p q : ℕ) (says : Result PtpMsg FrameFault) (raw : Raw) (sample : ℕ) (y : ℤ) →
     signals_in ((heard fixed p says raw sample y n).sends q) ≡ signals_at fixed n q (if q == p then frame_news fixed n p says else Nothing)
 heard_signals fixed n p q (Err fault) raw sample y = nothing_where fixed n q (q == p) Nothing refl
 heard_signals fixed n p q (Ok m) raw sample y =
@@ -178,7 +178,7 @@ sent_where : (b : Bool) (sends : List PtpMsg) → signals_in sends ≡ [] → si
 sent_where true sends h = h
 sent_where false sends h = refl
 
-ticked_signals : (fixed : Fixed) (n : NodeAt) (p : ℕ) →
+ticked_signals : (fixed : NodeSetting) (n : NodeAt) (p : ℕ) →
     signals_in (sends_of (setting_of fixed.set p) (line_at fixed.set (servo_ticked fixed n).node p) (tick_of fixed (servo_ticked fixed n).node))
     ≡ signals_at fixed n p (Given (link.Tick (locked_of fixed (servo_ticked fixed n).node)))
 ticked_signals fixed n p =
@@ -198,7 +198,7 @@ gone_where false = refl
 gone_sends : (l : LinkAt) → link_sends l (Given link.CarrierDown) ≡ []
 gone_sends l = gone_where l.carrier
 
-stepped_signals : (fixed : Fixed) (input : Input) (says : Result PtpMsg FrameFault) (y : ℤ) (n : NodeAt) (p : ℕ) →
+stepped_signals : (fixed : NodeSetting) (input : Input) (says : Result PtpMsg FrameFault) (y : ℤ) (n : NodeAt) (p : ℕ) →
     signals_in ((stepped fixed input says y n).sends p) ≡ signals_at fixed n p (news_at fixed n input says p)
 stepped_signals fixed Tick says y n p = ticked_signals fixed n p
 stepped_signals fixed (Sample number base bits) says y n p = refl
@@ -248,7 +248,7 @@ est_where : (p : ℕ) (b : Bool) (est : Option ℤ) → frames_at p (if b then e
 est_where p true est = no_est p est
 est_where p false est = refl
 
-no_track : (p : ℕ) (fixed : Fixed) (input : Input) (n : NodeAt) → frames_at p (track_out fixed input n) ≡ []
+no_track : (p : ℕ) (fixed : NodeSetting) (input : Input) (n : NodeAt) → frames_at p (track_out fixed input n) ≡ []
 no_track p fixed Tick n = est_where p (is_track (state_of fixed n) && (n.ticks % fixed.set.report == 0)) (est_of fixed n)
 no_track p fixed (Sample number base bits) n = refl
 no_track p fixed (Frame q octets raw sample) n = refl
@@ -266,7 +266,7 @@ sent_frames p q (m ∷ messages) true e =
 sent_frames p q (m ∷ messages) false e =
     ap (λ (b : Bool). if b then octets_of m ∷ frames_at p (map (frame_out q) messages) else frames_at p (map (frame_out q) messages)) e ∙ sent_frames p q messages false e
 
-port_frames : (p : ℕ) (fixed : Fixed) (n : NodeAt) (s : Step) (q : ℕ) → frames_at p (port_out fixed n s q) ≡ (if q == p then map octets_of (s.sends q) else [])
+port_frames : (p : ℕ) (fixed : NodeSetting) (n : NodeAt) (s : Step) (q : ℕ) → frames_at p (port_out fixed n s q) ≡ (if q == p then map octets_of (s.sends q) else [])
 port_frames p fixed n s q =
     let before : LinkWord = word_of (link_at fixed.set n q) in
     let now : LinkWord = word_of (link_at fixed.set s.node q) in
@@ -287,7 +287,7 @@ port_where : (b : Bool) (p q k : ℕ) (sends : ℕ → List PtpMsg) (rest : List
 port_where true p q k sends rest e h = ap₂ (λ (a b : List (List ℕ)). a ++ b) (ap (λ (j : ℕ). map octets_of (sends j)) (eqb-true q p e)) h
 port_where false p q k sends rest e h = h
 
-ports_frames : (p : ℕ) (fixed : Fixed) (n : NodeAt) (s : Step) (ports : List PortDs) →
+ports_frames : (p : ℕ) (fixed : NodeSetting) (n : NodeAt) (s : Step) (ports : List PortDs) →
     frames_at p (flat_map (port_out fixed n s) (map (λ ds. ds.own.port) ports)) ≡ repeated (times p ports) (map octets_of (s.sends p))
 ports_frames p fixed n s [] = refl
 ports_frames p fixed n s (ds ∷ ports) =

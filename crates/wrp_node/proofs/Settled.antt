@@ -5,7 +5,7 @@ use Rattle.wrp_base.specs.declared.measurement.ChainNews.{ChainNews}
 use Rattle.wrp_base.specs.declared.measurement.ChainNews.TheVariants.{Same, Started, Ended}
 use Rattle.wrp_link.specs.LinkAt.{LinkAt}
 use Rattle.wrp_node.specs.Laws.{IsSettled, StepSettles}
-use Rattle.wrp_node.specs.NodeAt.{Fixed, slave_of, setting_of, port_of, is_fresh_at, is_fresh_in, deltas_at, deltas_in}
+use Rattle.wrp_node.specs.NodeAt.{NodeSetting, slave_of, setting_of, port_of, is_fresh_at, is_fresh_in, deltas_at, deltas_in}
 use Rattle.wrp_node.specs.NodeStep.{stepped}
 use Rattle.wrp_node.specs.Telling.{Step, told_by, heard_of, with_news, with_sample, answer_of, number_of, called, is_changed, tell, lease_change, link_change, with_lease, settled}
 use Rattle.wrp_port.specs.declared.interface.PortIn.{PortIn}
@@ -50,19 +50,19 @@ pub link_by : (o : Option ℕ) (set : Setting) (out : ServoOut) (k : ℕ) (told 
 link_by None set out k told q = refl
 link_by (Some p) set out k told q = link_where (q == p) set out k (told q)
 
-pub fresh_at : (fixed : Fixed) (call : Option Call) (s : Step) (o : Option ℕ) → is_fresh_at fixed.set (tell fixed call s).node o ≡ is_fresh_at fixed.set s.node o
+pub fresh_at : (fixed : NodeSetting) (call : Option Call) (s : Step) (o : Option ℕ) → is_fresh_at fixed.set (tell fixed call s).node o ≡ is_fresh_at fixed.set s.node o
 fresh_at fixed call s None = refl
 fresh_at fixed call s (Some p) = fresh_by (slave_of fixed.set) (setting_of fixed.set p) (answer_of fixed call s.node.calls) (number_of call) s.node.told p
 
-pub tell_fresh : (fixed : Fixed) (call : Option Call) (s : Step) → is_fresh_in fixed.set (tell fixed call s).node ≡ is_fresh_in fixed.set s.node
+pub tell_fresh : (fixed : NodeSetting) (call : Option Call) (s : Step) → is_fresh_in fixed.set (tell fixed call s).node ≡ is_fresh_in fixed.set s.node
 tell_fresh fixed call s = fresh_at fixed call s (slave_of fixed.set)
 
-pub deltas_by : (fixed : Fixed) (call : Option Call) (s : Step) (o : Option ℕ) → deltas_at fixed.set (tell fixed call s).node o ≡ deltas_at fixed.set s.node o
+pub deltas_by : (fixed : NodeSetting) (call : Option Call) (s : Step) (o : Option ℕ) → deltas_at fixed.set (tell fixed call s).node o ≡ deltas_at fixed.set s.node o
 deltas_by fixed call s None = refl
 deltas_by fixed call s (Some p) =
     ap (λ (l : LinkAt). deltas_of (port_of fixed.set p).role l) (link_by (slave_of fixed.set) (setting_of fixed.set p) (answer_of fixed call s.node.calls) (number_of call) s.node.told p)
 
-pub tell_deltas : (fixed : Fixed) (call : Option Call) (s : Step) → deltas_in fixed.set (tell fixed call s).node ≡ deltas_in fixed.set s.node
+pub tell_deltas : (fixed : NodeSetting) (call : Option Call) (s : Step) → deltas_in fixed.set (tell fixed call s).node ≡ deltas_in fixed.set s.node
 tell_deltas fixed call s = deltas_by fixed call s (slave_of fixed.set)
 
 -- ---- what was told is known
@@ -94,7 +94,7 @@ link_known true true on calls has e = same_known (is_some on)
 link_known true false on calls has e = e
 link_known false changes on calls has e = absurd (grind arith)
 
-settles : (fixed : Fixed) (s : Step) → IsSettled fixed (settled fixed s).node
+settles : (fixed : NodeSetting) (s : Step) → IsSettled fixed (settled fixed s).node
 settles fixed s =
     let has : Bool = is_some (slave_of fixed.set) in
     let s1 : Step = with_lease fixed s in

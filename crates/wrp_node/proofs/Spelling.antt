@@ -4,7 +4,7 @@ use Rattle.std.specs.List.{AllByRecursion, list_any}
 use Rattle.wrp_data.specs.declared.datasets.PortDs.{PortDs}
 use Rattle.wrp_node.specs.declared.parts.Parts.{Parts}
 use Rattle.wrp_node.specs.declared.place.Place.{Place}
-use Rattle.wrp_node.specs.NodeAt.{Fixed, NodeAt, is_before, placed, in_order, numbers_of}
+use Rattle.wrp_node.specs.NodeAt.{NodeSetting, NodeAt, is_before, placed, in_order, numbers_of}
 use Rattle.wrp_node.specs.Parts.{PlaceIn, PartsIn, is_among}
 use Rattle.wrp_node.specs.Sends.{is_port}
 use Rattle.wrp_node.specs.Spelled.{AreSpelled, AllSpelled}
@@ -37,10 +37,10 @@ has_ordered p [] = refl
 has_ordered p (ds ∷ ports) = has_placed p ds (in_order ports) ∙ ap (λ (c : Bool). (ds.own.port == p) || c) (has_ordered p ports)
 
 -- a number among those of the ports, in their order, is one of the node's
-pub number_is_port : (fixed : Fixed) (p : ℕ) → list_any (λ (q : ℕ). q == p) (numbers_of fixed.set) ≡ is_port fixed p
+pub number_is_port : (fixed : NodeSetting) (p : ℕ) → list_any (λ (q : ℕ). q == p) (numbers_of fixed.set) ≡ is_port fixed p
 number_is_port fixed p = has_ordered p fixed.set.ports.items
 
-pub among_is_port : (fixed : Fixed) (places : List Place) (p : ℕ) → map (λ (place : Place). place.number) places ≡ numbers_of fixed.set →
+pub among_is_port : (fixed : NodeSetting) (places : List Place) (p : ℕ) → map (λ (place : Place). place.number) places ≡ numbers_of fixed.set →
     is_among p places ≡ is_port fixed p
 among_is_port fixed places p e = ap (list_any (λ (q : ℕ). q == p)) e ∙ number_is_port fixed p
 
@@ -50,7 +50,7 @@ both_all : {A : Type 0} (P Q : A → Type 0) (xs : List A) → AllByRecursion P 
 both_all P Q [] h k = tt
 both_all P Q (x ∷ xs) h k = ((h.0, k.0), both_all P Q xs h.1 k.1)
 
-pub spelled_at : (fixed : Fixed) (before : NodeAt) (s : Step) (parts : Parts) (p : ℕ) → PartsIn fixed before s parts → AllSpelled parts.ports →
+pub spelled_at : (fixed : NodeSetting) (before : NodeAt) (s : Step) (parts : Parts) (p : ℕ) → PartsIn fixed before s parts → AllSpelled parts.ports →
     is_port fixed p ≡ true → AreSpelled (s.sends p)
 spelled_at fixed before s parts p h k e =
     let P : Place → Type 0 = PlaceIn fixed before s in

@@ -5,7 +5,7 @@ use Rattle.wrp_base.specs.declared.link.LinkState.TheVariants.{Idle}
 use Rattle.wrp_node.specs.declared.parts.Parts.{Parts}
 use Rattle.wrp_node.specs.declared.place.Place.{Place}
 use Rattle.wrp_node.specs.declared.ports.states.PortState.{PortState}
-use Rattle.wrp_node.specs.NodeAt.{Fixed, NodeAt}
+use Rattle.wrp_node.specs.NodeAt.{NodeSetting, NodeAt}
 use Rattle.wrp_node.specs.Parts.{PlaceStands, PartsAt, is_among}
 use Rattle.wrp_node.specs.Place.{place_of}
 use Rattle.wrp_node.specs.States.{port_state, state_in, state_at}
@@ -26,7 +26,7 @@ state_found : (p : ℕ) (places : List Place) → state_in p (map port_state pla
 state_found p [] = refl
 state_found p (x ∷ xs) = found_where p x xs (x.number == p) refl (state_found p xs)
 
-pub state_told : (fixed : Fixed) (n : NodeAt) (parts : Parts) (p : ℕ) → PartsAt fixed n parts → is_among p parts.ports ≡ true →
+pub state_told : (fixed : NodeSetting) (n : NodeAt) (parts : Parts) (p : ℕ) → PartsAt fixed n parts → is_among p parts.ports ≡ true →
     state_in p (map port_state parts.ports) ≡ state_at p fixed n
 state_told fixed n parts p h e =
     let f : Found (PlaceStands fixed n) p parts.ports = found (PlaceStands fixed n) p parts.ports h.places e in

@@ -31,7 +31,7 @@ use Rattle.wrp_link.specs.Rows.{Row, Moves, Fails, Waits, Resends, CarrierGoes, 
 use Rattle.wrp_link.specs.Table.{sent_by, sends_of as link_sends_of}
 use Rattle.wrp_node.specs.declared.interface.Input.{Input}
 use Rattle.wrp_node.specs.declared.interface.Input.TheVariants.{Tick, Sample, Frame, Sent, Carrier, Reset}
-use Rattle.wrp_node.specs.NodeAt.{Fixed, NodeAt, slave_of, setting_of, line_at, link_at, settings_of, is_fresh_in, deltas_in}
+use Rattle.wrp_node.specs.NodeAt.{NodeSetting, NodeAt, slave_of, setting_of, line_at, link_at, servo_setting_of, is_fresh_in, deltas_in}
 use Rattle.wrp_node.specs.NodeStep.{counted_tick, lease_ticked, servo_ticked, message_of, measured_at, measurement_by, used, heard_unless, heard, is_slave_port, handed, stepped, tick_of}
 use Rattle.wrp_node.specs.StepLaws.{is_frame, OnlyFramesSay, CommandsAreHeld, SendsAreFew, ticks_by, TicksAreCounted}
 use Rattle.wrp_node.specs.Telling.{Step, step_from, tell, answer_of, for_slave, is_changed, newest_step, lease_change, link_change, with_lease, settled}
@@ -43,7 +43,7 @@ use Rattle.wrp_port.specs.Hearing.{is_open, early_reason, link_input}
 use Rattle.wrp_port.specs.LineAfter.{ticked, announces_on, syncs_on, requests_on}
 use Rattle.wrp_port.specs.Messages.{next_id, signals_of, announce_of, sync_of, request_of, follow_up_of}
 use Rattle.wrp_port.specs.Outputs.{where_due, scheduled_sends, link_sends, response_to, sends_unless, is_newest, sends_of}
-use Rattle.wrp_servo.specs.Call.{Call, CallSample, CallMeasured, CallTick, CallLease, CallLink, CallCarrier, CallReset, Settings, after, run}
+use Rattle.wrp_servo.specs.Call.{Call, CallSample, CallMeasured, CallTick, CallLease, CallLink, CallCarrier, CallReset, ServoSetting, after, run}
 use Rattle.wrp_servo.specs.declared.machine.Core.{Core}
 use Rattle.wrp_servo.specs.Measuring.{half_period, x_of, is_in, kept_of, is_half, is_below_second, second_cycles, period_cycles, step_by_period, cycles_in, answered_cycles, deltas_in_chain}
 use Rattle.wrp_servo.specs.declared.sampling.Heard.{Heard}
@@ -64,16 +64,16 @@ only_frames_say fixed n Reset says other y z h = refl
 
 -- ---- ticks
 
-unless_ticks : (reason : Option Reason) (fixed : Fixed) (p : ℕ) (input : PortIn) (y : ℤ) (n : NodeAt) → (heard_unless reason fixed p input y n).node.ticks ≡ n.ticks
+unless_ticks : (reason : Option Reason) (fixed : NodeSetting) (p : ℕ) (input : PortIn) (y : ℤ) (n : NodeAt) → (heard_unless reason fixed p input y n).node.ticks ≡ n.ticks
 unless_ticks None fixed p input y n = refl
 unless_ticks (Some reason) fixed p input y n = refl
 
-heard_ticks : (fixed : Fixed) (p : ℕ) (says : Result PtpMsg FrameFault) (raw : Raw) (sample : ℕ) (y : ℤ) (n : NodeAt) → (heard fixed p says raw sample y n).node.ticks ≡ n.ticks
+heard_ticks : (fixed : NodeSetting) (p : ℕ) (says : Result PtpMsg FrameFault) (raw : Raw) (sample : ℕ) (y : ℤ) (n : NodeAt) → (heard fixed p says raw sample y n).node.ticks ≡ n.ticks
 heard_ticks fixed p (Err fault) raw sample y n = refl
 heard_ticks fixed p (Ok m) raw sample y n =
     unless_ticks (early_reason (setting_of fixed.set p) (link_at fixed.set n p) m) fixed p (message_of fixed n p m raw sample) y n
 
-stepped_ticks : (fixed : Fixed) (input : Input) (says : Result PtpMsg FrameFault) (y : ℤ) (n : NodeAt) → (stepped fixed input says y n).node.ticks ≡ ticks_by input n.ticks
+stepped_ticks : (fixed : NodeSetting) (input : Input) (says : Result PtpMsg FrameFault) (y : ℤ) (n : NodeAt) → (stepped fixed input says y n).node.ticks ≡ ticks_by input n.ticks
 stepped_ticks fixed Tick says y n = refl
 stepped_ticks fixed (Sample number base bits) says y n = refl
 stepped_ticks fixed (Frame p octets raw sample) says y n = heard_ticks fixed p says raw sample y n
@@ -91,16 +91,16 @@ abbrev is_calm : Option Call → Bool
 is_calm (Some (CallMeasured four y)) = false
 is_calm _ = true
 
-out_cycles : (h : Heard) (v : Core) (x : Settings) (w : Core) (c : Call) → (out_by h v (news_at x w c)).cycles ≡ pos 0
+out_cycles : (h : Heard) (v : Core) (x : ServoSetting) (w : Core) (c : Call) → (out_by h v (news_at x w c)).cycles ≡ pos 0
 out_cycles Ignored v x w c = refl
 out_cycles Refused v x w c = refl
 out_cycles Lost v x w c = refl
 out_cycles Followed v x w c = refl
 
-calm_answer : (fixed : Fixed) (call : Option Call) (calls : List Call) → is_calm call ≡ true → (answer_of fixed call calls).cycles ≡ pos 0
+calm_answer : (fixed : NodeSetting) (call : Option Call) (calls : List Call) → is_calm call ≡ true → (answer_of fixed call calls).cycles ≡ pos 0
 calm_answer fixed None calls h = refl
 calm_answer fixed (Some (CallSample n base bits)) calls h =
-    let x : Settings = settings_of fixed in
+    let x : ServoSetting = servo_setting_of fixed in
     let v : Core = run x calls in
     out_cycles (heard_as v n base bits) (after x v (CallSample n base bits)) x v (CallSample n base bits)
 calm_answer fixed (Some (CallMeasured four y)) calls h = absurd (true≢false (sym h))
@@ -110,7 +110,7 @@ calm_answer fixed (Some (CallLink on)) calls h = refl
 calm_answer fixed (Some (CallCarrier up)) calls h = refl
 calm_answer fixed (Some CallReset) calls h = refl
 
-calm_tell : (fixed : Fixed) (call : Option Call) (s : Step) → is_calm call ≡ true → (tell fixed call s).cycles ≡ s.cycles
+calm_tell : (fixed : NodeSetting) (call : Option Call) (s : Step) → is_calm call ≡ true → (tell fixed call s).cycles ≡ s.cycles
 calm_tell fixed call s h = ap (λ (c : ℤ). newest_step c s.cycles) (calm_answer fixed call s.node.calls h)
 
 calm_where : (a b : Bool) (c : Call) → is_calm (Some c) ≡ true → is_calm (if a then (if b then Some c else None) else None) ≡ true
@@ -122,12 +122,12 @@ calm_one : (a : Bool) (c : Call) → is_calm (Some c) ≡ true → is_calm (if a
 calm_one true c h = h
 calm_one false c h = refl
 
-lease_cycles : (fixed : Fixed) (s : Step) → (with_lease fixed s).cycles ≡ s.cycles
+lease_cycles : (fixed : NodeSetting) (s : Step) → (with_lease fixed s).cycles ≡ s.cycles
 lease_cycles fixed s =
     calm_tell fixed (lease_change fixed s.node) s
     (calm_where (is_some (slave_of fixed.set)) (is_changed (lease_told s.node.calls) (is_fresh_in fixed.set s.node)) (CallLease (is_fresh_in fixed.set s.node)) refl)
 
-pub settled_cycles : (fixed : Fixed) (s : Step) → (settled fixed s).cycles ≡ s.cycles
+pub settled_cycles : (fixed : NodeSetting) (s : Step) → (settled fixed s).cycles ≡ s.cycles
 settled_cycles fixed s =
     let leased : Step = with_lease fixed s in
     calm_tell fixed (link_change fixed leased.node) leased
@@ -135,7 +135,7 @@ settled_cycles fixed s =
     ∙ lease_cycles fixed s
 
 -- no input but a frame commands one
-calm_stepped : (fixed : Fixed) (input : Input) (says : Result PtpMsg FrameFault) (y : ℤ) (n : NodeAt) → is_frame input ≡ false → (stepped fixed input says y n).cycles ≡ pos 0
+calm_stepped : (fixed : NodeSetting) (input : Input) (says : Result PtpMsg FrameFault) (y : ℤ) (n : NodeAt) → is_frame input ≡ false → (stepped fixed input says y n).cycles ≡ pos 0
 calm_stepped fixed Tick says y n h =
     calm_tell fixed (for_slave fixed (Some CallTick)) (lease_ticked fixed n) (calm_one (is_some (slave_of fixed.set)) CallTick refl)
     ∙ lease_cycles fixed (step_from (counted_tick fixed n))
@@ -184,28 +184,28 @@ newest_where : (b : Bool) (x y : ℤ) → IsHeld x → IsHeld y → IsHeld (if b
 newest_where true x y h k = k
 newest_where false x y h k = h
 
-measured_held : (fixed : Fixed) (o : Option Four) (y : ℤ) (b : Bool) (s : Step) → IsHeld s.cycles → IsHeld (tell fixed (if b then measurement_by o y else None) s).cycles
+measured_held : (fixed : NodeSetting) (o : Option Four) (y : ℤ) (b : Bool) (s : Step) → IsHeld s.cycles → IsHeld (tell fixed (if b then measurement_by o y else None) s).cycles
 measured_held fixed o y false s h = h
 measured_held fixed None y true s h = h
 measured_held fixed (Some f) y true s h =
-    let x : Settings = settings_of fixed in
+    let x : ServoSetting = servo_setting_of fixed in
     let v : Core = run x s.node.calls in
     let told : ℤ = answered_cycles x.lo x.hi v f y (deltas_in_chain v) in
     newest_where (unsigned_abs told == 0) told s.cycles (answered_held x.lo x.hi v f y (deltas_in_chain v)) h
 
-unless_held : (reason : Option Reason) (fixed : Fixed) (p : ℕ) (input : PortIn) (y : ℤ) (n : NodeAt) → IsHeld (heard_unless reason fixed p input y n).cycles
+unless_held : (reason : Option Reason) (fixed : NodeSetting) (p : ℕ) (input : PortIn) (y : ℤ) (n : NodeAt) → IsHeld (heard_unless reason fixed p input y n).cycles
 unless_held None fixed p input y n = measured_held fixed (measured_at fixed n p input) y (is_some (slave_of fixed.set)) (used fixed p input n) zero_held
 unless_held (Some reason) fixed p input y n = zero_held
 
-heard_held : (fixed : Fixed) (p : ℕ) (says : Result PtpMsg FrameFault) (raw : Raw) (sample : ℕ) (y : ℤ) (n : NodeAt) → IsHeld (heard fixed p says raw sample y n).cycles
+heard_held : (fixed : NodeSetting) (p : ℕ) (says : Result PtpMsg FrameFault) (raw : Raw) (sample : ℕ) (y : ℤ) (n : NodeAt) → IsHeld (heard fixed p says raw sample y n).cycles
 heard_held fixed p (Err fault) raw sample y n = zero_held
 heard_held fixed p (Ok m) raw sample y n =
     unless_held (early_reason (setting_of fixed.set p) (link_at fixed.set n p) m) fixed p (message_of fixed n p m raw sample) y n
 
-calm_held : (fixed : Fixed) (input : Input) (says : Result PtpMsg FrameFault) (y : ℤ) (n : NodeAt) → is_frame input ≡ false → IsHeld (stepped fixed input says y n).cycles
+calm_held : (fixed : NodeSetting) (input : Input) (says : Result PtpMsg FrameFault) (y : ℤ) (n : NodeAt) → is_frame input ≡ false → IsHeld (stepped fixed input says y n).cycles
 calm_held fixed input says y n h = subst IsHeld (sym (calm_stepped fixed input says y n h)) zero_held
 
-stepped_held : (fixed : Fixed) (input : Input) (says : Result PtpMsg FrameFault) (y : ℤ) (n : NodeAt) → IsHeld (stepped fixed input says y n).cycles
+stepped_held : (fixed : NodeSetting) (input : Input) (says : Result PtpMsg FrameFault) (y : ℤ) (n : NodeAt) → IsHeld (stepped fixed input says y n).cycles
 stepped_held fixed Tick says y n = calm_held fixed Tick says y n refl
 stepped_held fixed (Sample number base bits) says y n = calm_held fixed (Sample number base bits) says y n refl
 stepped_held fixed (Frame p octets raw sample) says y n = heard_held fixed p says raw sample y n
@@ -348,21 +348,21 @@ only_few : (b : Bool) (ms : List PtpMsg) → length ms ≤ 4 → length (if b th
 only_few true ms h = h
 only_few false ms h = no_sends
 
-unless_node : (reason : Option Reason) (fixed : Fixed) (p q : ℕ) (input : PortIn) (y : ℤ) (n : NodeAt) → length ((heard_unless reason fixed p input y n).sends q) ≤ 4
+unless_node : (reason : Option Reason) (fixed : NodeSetting) (p q : ℕ) (input : PortIn) (y : ℤ) (n : NodeAt) → length ((heard_unless reason fixed p input y n).sends q) ≤ 4
 unless_node None fixed p q input y n =
     only_few (q == p) (sends_of (setting_of fixed.set p) (line_at fixed.set n p) input) (sends_few (setting_of fixed.set p) (line_at fixed.set n p) input)
 unless_node (Some reason) fixed p q input y n = no_sends
 
-heard_node : (fixed : Fixed) (p q : ℕ) (says : Result PtpMsg FrameFault) (raw : Raw) (sample : ℕ) (y : ℤ) (n : NodeAt) → length ((heard fixed p says raw sample y n).sends q) ≤ 4
+heard_node : (fixed : NodeSetting) (p q : ℕ) (says : Result PtpMsg FrameFault) (raw : Raw) (sample : ℕ) (y : ℤ) (n : NodeAt) → length ((heard fixed p says raw sample y n).sends q) ≤ 4
 heard_node fixed p q (Err fault) raw sample y n = no_sends
 heard_node fixed p q (Ok m) raw sample y n =
     unless_node (early_reason (setting_of fixed.set p) (link_at fixed.set n p) m) fixed p q (message_of fixed n p m raw sample) y n
 
-handed_few : (fixed : Fixed) (p q : ℕ) (input : PortIn) (n : NodeAt) → length ((handed fixed p input n).sends q) ≤ 4
+handed_few : (fixed : NodeSetting) (p q : ℕ) (input : PortIn) (n : NodeAt) → length ((handed fixed p input n).sends q) ≤ 4
 handed_few fixed p q input n =
     only_few (q == p) (sends_of (setting_of fixed.set p) (line_at fixed.set n p) input) (sends_few (setting_of fixed.set p) (line_at fixed.set n p) input)
 
-stepped_few : (fixed : Fixed) (input : Input) (says : Result PtpMsg FrameFault) (y : ℤ) (n : NodeAt) (q : ℕ) → length ((stepped fixed input says y n).sends q) ≤ 4
+stepped_few : (fixed : NodeSetting) (input : Input) (says : Result PtpMsg FrameFault) (y : ℤ) (n : NodeAt) (q : ℕ) → length ((stepped fixed input says y n).sends q) ≤ 4
 stepped_few fixed Tick says y n q =
     let s : NodeAt = (servo_ticked fixed n).node in
     sends_few (setting_of fixed.set q) (line_at fixed.set s q) (tick_of fixed s)

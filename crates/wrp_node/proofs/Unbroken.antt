@@ -20,7 +20,7 @@ use Rattle.wrp_link.specs.Table.{after as link_after_input}
 use Rattle.wrp_node.specs.declared.interface.Input.{Input}
 use Rattle.wrp_node.specs.declared.interface.Input.TheVariants.{Tick, Sample, Frame, Sent, Carrier, Reset}
 use Rattle.wrp_node.specs.LinkNews.{LinkNews, Nothing, Given, link_after, news_at}
-use Rattle.wrp_node.specs.NodeAt.{Taken, Fixed, NodeAt, slave_of, setting_of, port_of, link_at, settings_of, is_fresh_in, deltas_at, deltas_in}
+use Rattle.wrp_node.specs.NodeAt.{Taken, NodeSetting, NodeAt, slave_of, setting_of, port_of, link_at, servo_setting_of, is_fresh_in, deltas_at, deltas_in}
 use Rattle.wrp_node.specs.NodeRun.{node_after}
 use Rattle.wrp_node.specs.NodeStep.{counted_tick, lease_ticked, message_of, measurement_by, measured_at, heard_unless, heard, is_slave_port, stepped, node_step}
 use Rattle.wrp_node.specs.Telling.{Step, step_from, called, for_slave, is_changed, lease_change, link_change, with_lease, settled}
@@ -30,7 +30,7 @@ use Rattle.wrp_node.proofs.Settled.{step_settles}
 use Rattle.wrp_port.specs.declared.interface.PortIn.{PortIn}
 use Rattle.wrp_port.specs.Hearing.{early_reason}
 use Rattle.wrp_port.specs.PortAt.{deltas_of}
-use Rattle.wrp_servo.specs.Call.{Call, CallSample, CallMeasured, CallTick, CallLease, CallLink, CallCarrier, CallReset, Settings, run}
+use Rattle.wrp_servo.specs.Call.{Call, CallSample, CallMeasured, CallTick, CallLease, CallLink, CallCarrier, CallReset, ServoSetting, run}
 use Rattle.wrp_servo.specs.declared.machine.Core.{Core}
 use Rattle.wrp_servo.specs.LookBack.{chain_starts, chain_ends}
 use Rattle.wrp_servo.specs.Sampling.{hears, is_holdover, good_tag, is_far, with_tag, with_last, followed, stays_near, judged, judged_in, chained, may_start, good, lost, heard as heard_tag, by_sample}
@@ -106,13 +106,13 @@ pub record ServoLaws : Type 0 where
 
 -- ---- one call more, in a chain: it is the start, or the chain stood before and is not ended
 
-abbrev InChain : Settings → List Call → Call → Type 0
+abbrev InChain : ServoSetting → List Call → Call → Type 0
 InChain x calls c = (chain_starts x calls c ≡ true) ⊎ ((is_some (run x calls).first ≡ true) × (chain_ends x calls c ≡ false))
 
 head_is : (c d : Call) (calls rest : List Call) → c ∷ calls ≡ d ∷ rest → (c ≡ d) × (calls ≡ rest)
 head_is c d calls rest e = (cc, cc)
 
-in_chain : (laws : ServoLaws) (x : Settings) (calls : List Call) (c : Call) (since : List Call) (start : Call) (before : List Call) → c ∷ calls ≡ since ++ start ∷ before → chain_starts x before start ≡ true →
+in_chain : (laws : ServoLaws) (x : ServoSetting) (calls : List Call) (c : Call) (since : List Call) (start : Call) (before : List Call) → c ∷ calls ≡ since ++ start ∷ before → chain_starts x before start ≡ true →
     NoneEnds (chain_ends x) since (start ∷ before) → InChain x calls c
 in_chain laws x calls c [] start before e s n =
     let h : (c ≡ start) × (calls ≡ before) = head_is c start calls before e in
@@ -124,7 +124,7 @@ in_chain laws x calls c (d ∷ since) start before e s n =
       ap (λ (l : List Call). chain_ends x l c) h.1 ∙ ap (chain_ends x (since ++ start ∷ before)) h.0 ∙ n.0,
     )
 
-stands_at : (laws : ServoLaws) (x : Settings) (calls : List Call) (c : Call) → is_some (run x (c ∷ calls)).first ≡ true → InChain x calls c
+stands_at : (laws : ServoLaws) (x : ServoSetting) (calls : List Call) (c : Call) → is_some (run x (c ∷ calls)).first ≡ true → InChain x calls c
 stands_at laws x calls c e =
     let s : Since (chain_starts x) (chain_ends x) (c ∷ calls) = (laws.since x (c ∷ calls)).0 e in
     in_chain laws x calls c s.since s.start s.before s.splits s.started s.stays
@@ -134,7 +134,7 @@ no_start true e = cc
 no_start false e = cc
 
 -- where the call is no good sample, and the tags since the last restart stay
-kept_live : (laws : ServoLaws) (x : Settings) (calls : List Call) (c : Call) → (chain_starts x calls c ≡ true → ⊥) → (is_some (run x calls).first ≡ true → tags x (c ∷ calls) ≡ tags x calls) →
+kept_live : (laws : ServoLaws) (x : ServoSetting) (calls : List Call) (c : Call) → (chain_starts x calls c ≡ true → ⊥) → (is_some (run x calls).first ≡ true → tags x (c ∷ calls) ≡ tags x calls) →
     IsLive (run x calls) → IsLive (run x (c ∷ calls))
 kept_live laws x calls c never same h e = elim (stands_at laws x calls c e) [
   | inl s ↦ absurd (never s)
@@ -146,7 +146,7 @@ abbrev is_coming : Call → Bool
 is_coming (CallCarrier up) = up
 is_coming _ = false
 
-live_more : (laws : ServoLaws) (x : Settings) (calls : List Call) (c : Call) → is_coming c ≡ false → IsLive (run x calls) → IsLive (run x (c ∷ calls))
+live_more : (laws : ServoLaws) (x : ServoSetting) (calls : List Call) (c : Call) → is_coming c ≡ false → IsLive (run x calls) → IsLive (run x (c ∷ calls))
 live_more laws x calls (CallSample n base bits) k h = sample_live (run x calls) n base bits h
 live_more laws x calls (CallMeasured f y) k h = kept_live laws x calls (CallMeasured f y) (no_start (is_some (run x calls).first)) (λ s. refl) h
 live_more laws x calls CallTick k h =
@@ -159,7 +159,7 @@ live_more laws x calls (CallCarrier false) k h = kept_live laws x calls (CallCar
 live_more laws x calls CallReset k h = λ e. absurd cc
 
 -- what calls leave unbroken
-record Unbroken (x : Settings) (calls : List Call) : Type 0 where
+record Unbroken (x : ServoSetting) (calls : List Call) : Type 0 where
   live : IsLive (run x calls)
   since : is_some (run x calls).first ≡ true → Since (chain_starts x) (breaks_chain x) calls
 
@@ -167,7 +167,7 @@ first_none : (a b : Bool) → (a || b) ≡ false → a ≡ false
 first_none true b h = h
 first_none false b h = refl
 
-since_more : (x : Settings) (calls : List Call) (c : Call) → Unbroken x calls → leaves_fresh x calls c ≡ false → InChain x calls c → Since (chain_starts x) (breaks_chain x) (c ∷ calls)
+since_more : (x : ServoSetting) (calls : List Call) (c : Call) → Unbroken x calls → leaves_fresh x calls c ≡ false → InChain x calls c → Since (chain_starts x) (breaks_chain x) (c ∷ calls)
 since_more x calls c u live (inl s) = record { since = []; start = c; before = calls; splits = refl; started = s; stays = tt }
 since_more x calls c u live (inr k) =
     let s : Since (chain_starts x) (breaks_chain x) calls = u.since k.0 in
@@ -183,12 +183,12 @@ since_more x calls c u live (inr k) =
       );
     }
 
-unbroken_more : (laws : ServoLaws) (x : Settings) (calls : List Call) (c : Call) → is_coming c ≡ false → Unbroken x calls → Unbroken x (c ∷ calls)
+unbroken_more : (laws : ServoLaws) (x : ServoSetting) (calls : List Call) (c : Call) → is_coming c ≡ false → Unbroken x calls → Unbroken x (c ∷ calls)
 unbroken_more laws x calls c k u =
     let live : IsLive (run x (c ∷ calls)) = live_more laws x calls c k u.live in
     record { live = live; since = λ e. since_more x calls c u (live e) (stands_at laws x calls c e) }
 
-unbroken_none : (x : Settings) (calls : List Call) → (is_some (run x calls).first ≡ true → ⊥) → Unbroken x calls
+unbroken_none : (x : ServoSetting) (calls : List Call) → (is_some (run x calls).first ≡ true → ⊥) → Unbroken x calls
 unbroken_none x calls never = record { live = λ e. absurd (never e); since = λ e. absurd (never e) }
 
 -- ---- the calls of a node
@@ -197,7 +197,7 @@ abbrev may_come : Option Call → Bool
 may_come None = false
 may_come (Some c) = is_coming c
 
-unbroken_called : (laws : ServoLaws) (x : Settings) (o : Option Call) (calls : List Call) → may_come o ≡ false → Unbroken x calls → Unbroken x (called o calls)
+unbroken_called : (laws : ServoLaws) (x : ServoSetting) (o : Option Call) (calls : List Call) → may_come o ≡ false → Unbroken x calls → Unbroken x (called o calls)
 unbroken_called laws x None calls k u = u
 unbroken_called laws x (Some c) calls k u = unbroken_more laws x calls c k u
 
@@ -211,18 +211,18 @@ where_changed true true c h = h
 where_changed true false c h = refl
 where_changed false changes c h = refl
 
-abbrev UnbrokenAt : Fixed → Step → Type 0
-UnbrokenAt fixed s = Unbroken (settings_of fixed) s.node.calls
+abbrev UnbrokenAt : NodeSetting → Step → Type 0
+UnbrokenAt fixed s = Unbroken (servo_setting_of fixed) s.node.calls
 
-leased : (laws : ServoLaws) (fixed : Fixed) (s : Step) → UnbrokenAt fixed s → UnbrokenAt fixed (with_lease fixed s)
+leased : (laws : ServoLaws) (fixed : NodeSetting) (s : Step) → UnbrokenAt fixed s → UnbrokenAt fixed (with_lease fixed s)
 leased laws fixed s u =
-    unbroken_called laws (settings_of fixed) (lease_change fixed s.node) s.node.calls
+    unbroken_called laws (servo_setting_of fixed) (lease_change fixed s.node) s.node.calls
     (where_changed (is_some (slave_of fixed.set)) (is_changed (lease_told s.node.calls) (is_fresh_in fixed.set s.node)) (CallLease (is_fresh_in fixed.set s.node)) refl) u
 
-all_settled : (laws : ServoLaws) (fixed : Fixed) (s : Step) → UnbrokenAt fixed s → UnbrokenAt fixed (settled fixed s)
+all_settled : (laws : ServoLaws) (fixed : NodeSetting) (s : Step) → UnbrokenAt fixed s → UnbrokenAt fixed (settled fixed s)
 all_settled laws fixed s u =
     let r : Step = with_lease fixed s in
-    unbroken_called laws (settings_of fixed) (link_change fixed r.node) r.node.calls
+    unbroken_called laws (servo_setting_of fixed) (link_change fixed r.node) r.node.calls
     (where_changed (is_some (slave_of fixed.set)) (is_changed (is_some (link_told r.node.calls)) (is_some (deltas_in fixed.set r.node))) (CallLink (deltas_in fixed.set r.node)) refl)
     (leased laws fixed s u)
 
@@ -230,13 +230,13 @@ measured_none : (o : Option Four) (y : ℤ) → may_come (measurement_by o y) �
 measured_none None y = refl
 measured_none (Some f) y = refl
 
-unless_unbroken : (laws : ServoLaws) (fixed : Fixed) (p : ℕ) (input : PortIn) (y : ℤ) (n : NodeAt) (o : Option Reason) → Unbroken (settings_of fixed) n.calls → UnbrokenAt fixed (heard_unless o fixed p input y n)
+unless_unbroken : (laws : ServoLaws) (fixed : NodeSetting) (p : ℕ) (input : PortIn) (y : ℤ) (n : NodeAt) (o : Option Reason) → Unbroken (servo_setting_of fixed) n.calls → UnbrokenAt fixed (heard_unless o fixed p input y n)
 unless_unbroken laws fixed p input y n None u =
-    unbroken_called laws (settings_of fixed) (for_slave fixed (measurement_by (measured_at fixed n p input) y)) n.calls
+    unbroken_called laws (servo_setting_of fixed) (for_slave fixed (measurement_by (measured_at fixed n p input) y)) n.calls
     (where_told (is_some (slave_of fixed.set)) (measurement_by (measured_at fixed n p input) y) (measured_none (measured_at fixed n p input) y)) u
 unless_unbroken laws fixed p input y n (Some reason) u = u
 
-heard_unbroken : (laws : ServoLaws) (fixed : Fixed) (p : ℕ) (says : Result PtpMsg FrameFault) (raw : Raw) (sample : ℕ) (y : ℤ) (n : NodeAt) → Unbroken (settings_of fixed) n.calls → UnbrokenAt fixed (heard fixed p says raw sample y n)
+heard_unbroken : (laws : ServoLaws) (fixed : NodeSetting) (p : ℕ) (says : Result PtpMsg FrameFault) (raw : Raw) (sample : ℕ) (y : ℤ) (n : NodeAt) → Unbroken (servo_setting_of fixed) n.calls → UnbrokenAt fixed (heard fixed p says raw sample y n)
 heard_unbroken laws fixed p (Err fault) raw sample y n u = u
 heard_unbroken laws fixed p (Ok m) raw sample y n u =
     unless_unbroken laws fixed p (message_of fixed n p m raw sample) y n (early_reason (setting_of fixed.set p) (link_at fixed.set n p) m) u
@@ -263,8 +263,8 @@ still_on true false on h k e none = cc
 still_on false b on h k e none = cc
 
 -- the link is off, and with it the chain
-no_chain_after : (laws : ServoLaws) (fixed : Fixed) (t : Taken) (n : NodeAt) (q : ℕ) (own_module : Option Module) → t.input ≡ Carrier q true own_module → is_slave_port (slave_of fixed.set) q ≡ true →
-    is_some (run (settings_of fixed) (node_step fixed t n).node.calls).first ≡ true → ⊥
+no_chain_after : (laws : ServoLaws) (fixed : NodeSetting) (t : Taken) (n : NodeAt) (q : ℕ) (own_module : Option Module) → t.input ≡ Carrier q true own_module → is_slave_port (slave_of fixed.set) q ≡ true →
+    is_some (run (servo_setting_of fixed) (node_step fixed t n).node.calls).first ≡ true → ⊥
 no_chain_after laws fixed t n q own_module is h e =
     let m : NodeAt = (node_step fixed t n).node in
     let slave : slave_of fixed.set ≡ Some q = is_slave_at (slave_of fixed.set) q h in
@@ -276,7 +276,7 @@ no_chain_after laws fixed t n q own_module is h e =
     let off : deltas_in fixed.set m ≡ None =
     ap (deltas_at fixed.set m) slave ∙ ap (deltas_of (port_of fixed.set q).role) up ∙ no_deltas (port_of fixed.set q).role (link_at fixed.set n q) own_module in
     still_on (is_some (slave_of fixed.set)) (is_some (link_told m.calls)) (deltas_in fixed.set m) (ap is_some slave)
-    (laws.signals (settings_of fixed) m.calls e).link off (step_settles fixed t n).link
+    (laws.signals (servo_setting_of fixed) m.calls e).link off (step_settles fixed t n).link
 
 -- ---- each input
 
@@ -285,23 +285,23 @@ abbrev is_carrier_to : Option ℕ → Input → Bool
 is_carrier_to slave (Carrier p up own_module) = is_slave_port slave p && up
 is_carrier_to slave _ = false
 
-unbroken_stepped : (laws : ServoLaws) (fixed : Fixed) (input : Input) (says : Result PtpMsg FrameFault) (y : ℤ) (n : NodeAt) → Unbroken (settings_of fixed) n.calls → is_carrier_to (slave_of fixed.set) input ≡ false →
+unbroken_stepped : (laws : ServoLaws) (fixed : NodeSetting) (input : Input) (says : Result PtpMsg FrameFault) (y : ℤ) (n : NodeAt) → Unbroken (servo_setting_of fixed) n.calls → is_carrier_to (slave_of fixed.set) input ≡ false →
     UnbrokenAt fixed (stepped fixed input says y n)
 unbroken_stepped laws fixed Tick says y n u k =
-    unbroken_called laws (settings_of fixed) (for_slave fixed (Some CallTick)) (lease_ticked fixed n).node.calls (where_told (is_some (slave_of fixed.set)) (Some CallTick) refl)
+    unbroken_called laws (servo_setting_of fixed) (for_slave fixed (Some CallTick)) (lease_ticked fixed n).node.calls (where_told (is_some (slave_of fixed.set)) (Some CallTick) refl)
     (leased laws fixed (step_from (counted_tick fixed n)) u)
 unbroken_stepped laws fixed (Sample number base bits) says y n u k =
-    unbroken_called laws (settings_of fixed) (for_slave fixed (Some (CallSample number base bits))) n.calls (where_told (is_some (slave_of fixed.set)) (Some (CallSample number base bits)) refl) u
+    unbroken_called laws (servo_setting_of fixed) (for_slave fixed (Some (CallSample number base bits))) n.calls (where_told (is_some (slave_of fixed.set)) (Some (CallSample number base bits)) refl) u
 unbroken_stepped laws fixed (Frame p octets raw sample) says y n u k = heard_unbroken laws fixed p says raw sample y n u
 unbroken_stepped laws fixed (Sent p seq delay stamp) says y n u k = u
 unbroken_stepped laws fixed (Carrier p up own_module) says y n u k =
     let o : Option Call = if is_slave_port (slave_of fixed.set) p then Some (CallCarrier up) else None in
-    unbroken_called laws (settings_of fixed) (for_slave fixed o) n.calls (where_told (is_some (slave_of fixed.set)) o (carrier_where (is_slave_port (slave_of fixed.set) p) up k)) u
+    unbroken_called laws (servo_setting_of fixed) (for_slave fixed o) n.calls (where_told (is_some (slave_of fixed.set)) o (carrier_where (is_slave_port (slave_of fixed.set) p) up k)) u
 unbroken_stepped laws fixed Reset says y n u k =
-    unbroken_called laws (settings_of fixed) (for_slave fixed (Some CallReset)) n.calls (where_told (is_some (slave_of fixed.set)) (Some CallReset) refl) u
+    unbroken_called laws (servo_setting_of fixed) (for_slave fixed (Some CallReset)) n.calls (where_told (is_some (slave_of fixed.set)) (Some CallReset) refl) u
 
-comes_at : (laws : ServoLaws) (fixed : Fixed) (t : Taken) (n : NodeAt) (input : Input) → t.input ≡ input → is_carrier_to (slave_of fixed.set) input ≡ true →
-    is_some (run (settings_of fixed) (node_step fixed t n).node.calls).first ≡ true → ⊥
+comes_at : (laws : ServoLaws) (fixed : NodeSetting) (t : Taken) (n : NodeAt) (input : Input) → t.input ≡ input → is_carrier_to (slave_of fixed.set) input ≡ true →
+    is_some (run (servo_setting_of fixed) (node_step fixed t n).node.calls).first ≡ true → ⊥
 comes_at laws fixed t n Tick is h e = cc
 comes_at laws fixed t n (Sample number base bits) is h e = cc
 comes_at laws fixed t n (Frame p octets raw sample) is h e = cc
@@ -311,23 +311,23 @@ comes_at laws fixed t n (Carrier q up own_module) is h e =
     no_chain_after laws fixed t n q own_module (is ∙ ap (λ (b : Bool). Carrier q b own_module) k.1) k.0 e
 comes_at laws fixed t n Reset is h e = cc
 
-step_unbroken : (laws : ServoLaws) (fixed : Fixed) (t : Taken) (n : NodeAt) (b : Bool) → is_carrier_to (slave_of fixed.set) t.input ≡ b → Unbroken (settings_of fixed) n.calls → UnbrokenAt fixed (node_step fixed t n)
-step_unbroken laws fixed t n true k u = unbroken_none (settings_of fixed) (node_step fixed t n).node.calls (comes_at laws fixed t n t.input refl k)
+step_unbroken : (laws : ServoLaws) (fixed : NodeSetting) (t : Taken) (n : NodeAt) (b : Bool) → is_carrier_to (slave_of fixed.set) t.input ≡ b → Unbroken (servo_setting_of fixed) n.calls → UnbrokenAt fixed (node_step fixed t n)
+step_unbroken laws fixed t n true k u = unbroken_none (servo_setting_of fixed) (node_step fixed t n).node.calls (comes_at laws fixed t n t.input refl k)
 step_unbroken laws fixed t n false k u =
     all_settled laws fixed (stepped fixed t.input t.says t.answer n) (unbroken_stepped laws fixed t.input t.says t.answer n u k)
 
-unbroken : (laws : ServoLaws) (fixed : Fixed) (inputs : List Taken) → Unbroken (settings_of fixed) (node_after fixed inputs).calls
-unbroken laws fixed [] = unbroken_none (settings_of fixed) [] (λ e. cc)
+unbroken : (laws : ServoLaws) (fixed : NodeSetting) (inputs : List Taken) → Unbroken (servo_setting_of fixed) (node_after fixed inputs).calls
+unbroken laws fixed [] = unbroken_none (servo_setting_of fixed) [] (λ e. cc)
 unbroken laws fixed (t ∷ before) = step_unbroken laws fixed t (node_after fixed before) (is_carrier_to (slave_of fixed.set) t.input) refl (unbroken laws fixed before)
 
 -- ---- the laws
 
-fewer_end : (x : Settings) (since before : List Call) → NoneEnds (breaks_chain x) since before → NoneEnds (chain_ends x) since before
+fewer_end : (x : ServoSetting) (since before : List Call) → NoneEnds (breaks_chain x) since before → NoneEnds (chain_ends x) since before
 fewer_end x [] before h = tt
 fewer_end x (c ∷ since) before h =
     (first_none (chain_ends x (since ++ before) c) (leaves_fresh x (since ++ before) c) h.0, fewer_end x since before h.1)
 
-since_unbroken : (x : Settings) (calls : List Call) → Since (chain_starts x) (breaks_chain x) calls → Since (chain_starts x) (chain_ends x) calls
+since_unbroken : (x : ServoSetting) (calls : List Call) → Since (chain_starts x) (breaks_chain x) calls → Since (chain_starts x) (chain_ends x) calls
 since_unbroken x calls s = record {
   since = s.since;
   start = s.start;
@@ -340,7 +340,7 @@ since_unbroken x calls s = record {
 pub chain_is_unbroken : ServoLaws → ChainIsUnbroken
 chain_is_unbroken laws fixed inputs =
     let calls : List Call = (node_after fixed inputs).calls in
-    ((unbroken laws fixed inputs).since, λ s. (laws.since (settings_of fixed) calls).1 (since_unbroken (settings_of fixed) calls s))
+    ((unbroken laws fixed inputs).since, λ s. (laws.since (servo_setting_of fixed) calls).1 (since_unbroken (servo_setting_of fixed) calls s))
 
 either_locked : (locked fresh : Bool) → (locked || fresh) ≡ true → fresh ≡ false → locked ≡ true
 either_locked true fresh h k = refl
@@ -348,5 +348,5 @@ either_locked false fresh h k = absurd cc
 
 pub chain_is_locked : ServoLaws → ChainIsLocked
 chain_is_locked laws fixed inputs e =
-    let v : Core = run (settings_of fixed) (node_after fixed inputs).calls in
-    either_locked v.phase.lock.locked v.phase.fresh (laws.held (settings_of fixed) (node_after fixed inputs).calls e).locked ((unbroken laws fixed inputs).live e)
+    let v : Core = run (servo_setting_of fixed) (node_after fixed inputs).calls in
+    either_locked v.phase.lock.locked v.phase.fresh (laws.held (servo_setting_of fixed) (node_after fixed inputs).calls e).locked ((unbroken laws fixed inputs).live e)

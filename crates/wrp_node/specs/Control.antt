@@ -5,7 +5,7 @@ use Rattle.wrp_base.specs.declared.link.Deltas.{Deltas}
 use Rattle.wrp_base.specs.declared.link.ServoState.{ServoState}
 use Rattle.wrp_base.specs.declared.link.ServoState.TheVariants.{Uninit}
 use Rattle.wrp_law.specs.Law.{KeepsFact, LawOf}
-use Rattle.wrp_node.specs.NodeAt.{Fixed, slave_of, settings_of}
+use Rattle.wrp_node.specs.NodeAt.{NodeSetting, slave_of, servo_setting_of}
 use Rattle.wrp_node.specs.Telling.{answer_of, called, for_slave, is_changed}
 use Rattle.wrp_servo.specs.Call.{Call, CallLease, CallLink, CallCarrier}
 use Rattle.wrp_servo.specs.declared.interface.ServoOut.{ServoOut}
@@ -25,35 +25,35 @@ pub record ControlOf (F : Type 0) : Type 0 where
   pub bias : ℕ
 
 -- the servo stands for these calls, and knows what they told last
-pub record ToldStands {F : Type 0} (post : F → ℤ → ℤ → Type 0) (fixed : Fixed) (calls : List Call) (t : ToldServo F) : Type 0 where
-  pub servo : ServoStandsFor post (settings_of fixed) t.servo calls
+pub record ToldStands {F : Type 0} (post : F → ℤ → ℤ → Type 0) (fixed : NodeSetting) (calls : List Call) (t : ToldServo F) : Type 0 where
+  pub servo : ServoStandsFor post (servo_setting_of fixed) t.servo calls
   pub lease : t.lease ≡ lease_told calls
   pub link : t.link ≡ is_some (link_told calls)
 
 -- there is a servo exactly where there is a slave port
-abbrev pub ServoIs : {F : Type 0} → (F → ℤ → ℤ → Type 0) → Fixed → List Call → Option (ToldServo F) → Type 0
+abbrev pub ServoIs : {F : Type 0} → (F → ℤ → ℤ → Type 0) → NodeSetting → List Call → Option (ToldServo F) → Type 0
 ServoIs post fixed calls None = is_some (slave_of fixed.set) ≡ false
 ServoIs post fixed calls (Some t) = (is_some (slave_of fixed.set) ≡ true) × ToldStands post fixed calls t
 
 -- the servo's part stands for these calls
-pub record ControlStands {F : Type 0} (post : F → ℤ → ℤ → Type 0) (fixed : Fixed) (calls : List Call) (c : ControlOf F) : Type 0 where
+pub record ControlStands {F : Type 0} (post : F → ℤ → ℤ → Type 0) (fixed : NodeSetting) (calls : List Call) (c : ControlOf F) : Type 0 where
   pub servo : ServoIs post fixed calls c.told
   pub bias : c.bias ≡ fixed.set.servo.bias
 
 -- a call was made, where there is a servo and something to tell: it answers so
-pub record Calls {F : Type 0} (post : F → ℤ → ℤ → Type 0) (fixed : Fixed) (calls : List Call) (new : ControlOf F) (call : Option Call) (out : ServoOut) : Type 0 where
+pub record Calls {F : Type 0} (post : F → ℤ → ℤ → Type 0) (fixed : NodeSetting) (calls : List Call) (new : ControlOf F) (call : Option Call) (out : ServoOut) : Type 0 where
   pub stands : ControlStands post fixed (called (for_slave fixed call) calls) new
   pub answer : out ≡ answer_of fixed (for_slave fixed call) calls
 
 -- so it is for each list of calls that it stood for; what it is told may depend on what was told before
 abbrev pub AddsCalls : {F : Type 0} → (F → ℤ → ℤ → Type 0) → ControlOf F → ControlOf F → (List Call → Option Call) → ServoOut → Type 0
 AddsCalls post old new call out =
-    (fixed : Fixed) (calls : List Call) → ControlStands post fixed calls old → Calls post fixed calls new (call calls) out
+    (fixed : NodeSetting) (calls : List Call) → ControlStands post fixed calls old → Calls post fixed calls new (call calls) out
 
 -- one call to a servo that is there
 abbrev pub AddsTold : {F : Type 0} → (F → ℤ → ℤ → Type 0) → ToldServo F → ToldServo F → Call → ServoOut → Type 0
 AddsTold post old new call out =
-    (fixed : Fixed) (calls : List Call) → ToldStands post fixed calls old →
+    (fixed : NodeSetting) (calls : List Call) → ToldStands post fixed calls old →
     ToldStands post fixed (call ∷ calls) new × (out ≡ answer_of fixed (Some call) calls)
 
 -- what is told of a lease, of a link, and of a carrier

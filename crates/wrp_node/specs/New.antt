@@ -6,7 +6,7 @@ use Rattle.wrp_data.specs.declared.datasets.PortDs.{PortDs}
 use Rattle.wrp_law.specs.Law.{LawOf}
 use Rattle.wrp_node.specs.declared.interface.NodeSet.{NodeSet}
 use Rattle.wrp_node.specs.declared.place.Place.{Place}
-use Rattle.wrp_node.specs.NodeAt.{Fixed, setting_by}
+use Rattle.wrp_node.specs.NodeAt.{NodeSetting, setting_by}
 use Rattle.wrp_port.specs.PortAt.{StandsFor as PortStandsFor}
 use Rattle.wrp_servo.specs.Sizes.{FitsServoSet}
 
@@ -44,8 +44,8 @@ high_of None = pos 0
 high_of (Some law) = law.hi
 
 -- what is fixed of a node with these settings and this law
-abbrev pub fixed_of : {F : Type 0} → NodeSet → Option (LawOf F) → Fixed
-fixed_of set law = record { set = set; lo = low_of law; hi = high_of law }
+abbrev pub node_setting_of : {F : Type 0} → NodeSet → Option (LawOf F) → NodeSetting
+node_setting_of set law = record { set = set; lo = low_of law; hi = high_of law }
 
 -- a port that was told nothing
 pub record IsNewPlace (set : NodeSet) (ds : PortDs) (place : Place) : Type 0 where

@@ -14,7 +14,7 @@ use Rattle.wrp_node.specs.Control.{HasTick, KeepsLaw, state_in, tracked_in}
 use Rattle.wrp_node.specs.declared.interface.Input.{Input}
 use Rattle.wrp_node.specs.declared.interface.Input.TheVariants.{Tick, Sample, Frame, Sent, Carrier, Reset}
 use Rattle.wrp_node.specs.declared.interface.Output.{Output}
-use Rattle.wrp_node.specs.NodeAt.{Taken, Fixed, NodeAt, link_at}
+use Rattle.wrp_node.specs.NodeAt.{Taken, NodeSetting, NodeAt, link_at}
 use Rattle.wrp_node.specs.NodeRun.{IsSaid, Says, node_after, step_out, dac_out, servo_out, est_out}
 use Rattle.wrp_node.specs.NodeStep.{servo_ticked, ports_ticked, stepped, handed, carried, restarted, heard}
 use Rattle.wrp_node.specs.Parts.{FitsRaw, is_among}
@@ -30,7 +30,7 @@ use Rattle.wrp_servo.specs.Call.{CallTick, CallSample}
 pub record IsValid {F : Type 0} (pre : F → ℤ → Type 0) (post : F → ℤ → ℤ → Type 0) (node : NodeOf F) : Type 0 where
   pub law : KeepsLaw pre post node.control
   pub report : 1 ≤ node.report
-  pub fixed : Fixed
+  pub fixed : NodeSetting
   pub inputs : List Taken
   pub stands : StandsFor post fixed node inputs
 
@@ -51,35 +51,35 @@ HasTickFor node _ = Unit {0}
 -- ---- calls on the way through an input
 
 -- a call leads from one moment of an input to a later one
-abbrev pub NodeLeads : {F : Type 0} → (F → ℤ → ℤ → Type 0) → (Fixed → Step → Step) → NodeOf F → NodeOf F → Type 0
+abbrev pub NodeLeads : {F : Type 0} → (F → ℤ → ℤ → Type 0) → (NodeSetting → Step → Step) → NodeOf F → NodeOf F → Type 0
 NodeLeads post moved old new =
-    (fixed : Fixed) (before : NodeAt) (s : Step) → IsIn post fixed before s old → IsIn post fixed before (moved fixed s) new
+    (fixed : NodeSetting) (before : NodeAt) (s : Step) → IsIn post fixed before s old → IsIn post fixed before (moved fixed s) new
 
 -- from the beginning of an input
-abbrev pub NodeTakes : {F : Type 0} → (F → ℤ → ℤ → Type 0) → (Fixed → NodeAt → Step) → NodeOf F → NodeOf F → Type 0
+abbrev pub NodeTakes : {F : Type 0} → (F → ℤ → ℤ → Type 0) → (NodeSetting → NodeAt → Step) → NodeOf F → NodeOf F → Type 0
 NodeTakes post taken old new =
-    (fixed : Fixed) (n : NodeAt) → IsIn post fixed n (step_from n) old → IsIn post fixed n (taken fixed n) new
+    (fixed : NodeSetting) (n : NodeAt) → IsIn post fixed n (step_from n) old → IsIn post fixed n (taken fixed n) new
 
 -- the servo's tick, its sample, and the ports' tick
-abbrev pub servo_has_tick : Fixed → Step → Step
+abbrev pub servo_has_tick : NodeSetting → Step → Step
 servo_has_tick fixed s = tell fixed (for_slave fixed (Some CallTick)) s
 
-abbrev pub servo_has_sample : ℕ → ℕ → ℕ → Fixed → NodeAt → Step
+abbrev pub servo_has_sample : ℕ → ℕ → ℕ → NodeSetting → NodeAt → Step
 servo_has_sample number base bits fixed n = tell fixed (for_slave fixed (Some (CallSample number base bits))) (step_from n)
 
-abbrev pub ticked : Fixed → NodeAt → Step
+abbrev pub ticked : NodeSetting → NodeAt → Step
 ticked fixed n = ports_ticked fixed (servo_ticked fixed n)
 
 -- the ports have their tick, where none has sent yet
 abbrev pub PortsTick : {F : Type 0} → (F → ℤ → ℤ → Type 0) → NodeOf F → NodeOf F → Type 0
 PortsTick post old new =
-    (fixed : Fixed) (before : NodeAt) (s : Step) → ((p : ℕ) → s.sends p ≡ []) → IsIn post fixed before s old →
+    (fixed : NodeSetting) (before : NodeAt) (s : Step) → ((p : ℕ) → s.sends p ≡ []) → IsIn post fixed before s old →
     IsIn post fixed before (ports_ticked fixed s) new
 
-abbrev pub restarts : Fixed → NodeAt → Step
+abbrev pub restarts : NodeSetting → NodeAt → Step
 restarts fixed n = step_from (restarted fixed n)
 
-abbrev pub heard_at : ℕ → Result PtpMsg FrameFault → Raw → ℕ → ℤ → Fixed → NodeAt → Step
+abbrev pub heard_at : ℕ → Result PtpMsg FrameFault → Raw → ℕ → ℤ → NodeSetting → NodeAt → Step
 heard_at p says raw sample answer fixed n = heard fixed p says raw sample answer n
 
 -- a frame, with what its octets say and an answer of the law
@@ -91,10 +91,10 @@ TakesFrame post p octets raw sample old new =
 abbrev pub TakesMessage : {F : Type 0} → (F → ℤ → ℤ → Type 0) → ℕ → PtpMsg → Raw → ℕ → NodeOf F → NodeOf F → Type 0
 TakesMessage post p message raw sample old new = (answer : ℤ) × NodeTakes post (heard_at p (Ok message) raw sample answer) old new
 
-abbrev pub sent_at : ℕ → ℕ → Bool → Stamp → Fixed → NodeAt → Step
+abbrev pub sent_at : ℕ → ℕ → Bool → Stamp → NodeSetting → NodeAt → Step
 sent_at p seq delay stamp fixed n = handed fixed p (PortSent delay seq stamp n.ticks) n
 
-abbrev pub carried_at : ℕ → Bool → Option Module → Fixed → NodeAt → Step
+abbrev pub carried_at : ℕ → Bool → Option Module → NodeSetting → NodeAt → Step
 carried_at p up own_module fixed n = carried fixed p up own_module n
 
 -- an input, with what its octets say and an answer of the law
@@ -119,15 +119,15 @@ is_tick _ = false
 
 -- ---- what it tells of itself, for each list of inputs that it stands for
 
-abbrev pub Tells : {F A : Type 0} → (F → ℤ → ℤ → Type 0) → (Fixed → NodeAt → A) → NodeOf F → A → Type 0
+abbrev pub Tells : {F A : Type 0} → (F → ℤ → ℤ → Type 0) → (NodeSetting → NodeAt → A) → NodeOf F → A → Type 0
 Tells post value node result =
-    (fixed : Fixed) (inputs : List Taken) → StandsFor post fixed node inputs → result ≡ value fixed (node_after fixed inputs)
+    (fixed : NodeSetting) (inputs : List Taken) → StandsFor post fixed node inputs → result ≡ value fixed (node_after fixed inputs)
 
-abbrev pub word_at : ℕ → Fixed → NodeAt → LinkWord
+abbrev pub word_at : ℕ → NodeSetting → NodeAt → LinkWord
 word_at p fixed n = word_of (link_at fixed.set n p)
 
-abbrev pub count_of : ℕ → ℕ → Fixed → NodeAt → ℕ
+abbrev pub count_of : ℕ → ℕ → NodeSetting → NodeAt → ℕ
 count_of p reason fixed n = count_at (n.counters p) reason
 
-abbrev pub ticks_at : Fixed → NodeAt → ℕ
+abbrev pub ticks_at : NodeSetting → NodeAt → ℕ
 ticks_at fixed n = n.ticks

@@ -19,7 +19,7 @@ use Rattle.wrp_port.specs.declared.line.Line.{Line}
 use Rattle.wrp_port.specs.declared.setting.Setting.{Setting}
 use Rattle.wrp_port.specs.History.{line_of, calls_of, is_fresh}
 use Rattle.wrp_port.specs.PortAt.{deltas_of as port_deltas_of}
-use Rattle.wrp_servo.specs.Call.{Call, Settings, run}
+use Rattle.wrp_servo.specs.Call.{Call, ServoSetting, run}
 use Rattle.wrp_servo.specs.declared.machine.Core.{Core}
 use Rattle.wrp_servo.specs.Servo.{est_now}
 use Rattle.wrp_servo.specs.Table.{is_track}
@@ -31,7 +31,7 @@ pub record Taken : Type 0 where
   pub answer : ℤ
 
 -- what is fixed of a node: its settings, and the range of its delay law
-pub record Fixed : Type 0 where
+pub record NodeSetting : Type 0 where
   pub set : NodeSet
   pub lo : ℤ
   pub hi : ℤ
@@ -112,29 +112,29 @@ abbrev pub pieces_at : NodeSet → NodeAt → ℕ → List ExchangeCall
 pieces_at set n p = calls_of (setting_of set p) (n.told p)
 
 -- what the servo is set to
-abbrev pub settings_of : Fixed → Settings
-settings_of fixed = record { set = fixed.set.servo; lo = fixed.lo; hi = fixed.hi }
+abbrev pub servo_setting_of : NodeSetting → ServoSetting
+servo_setting_of fixed = record { set = fixed.set.servo; lo = fixed.lo; hi = fixed.hi }
 
 -- the servo
-abbrev pub servo_at : Fixed → NodeAt → Core
-servo_at fixed n = run (settings_of fixed) n.calls
+abbrev pub servo_at : NodeSetting → NodeAt → Core
+servo_at fixed n = run (servo_setting_of fixed) n.calls
 
 -- a node without a slave port has no servo: it is UNINIT, unlocked, and its DAC value is the bias
-abbrev pub state_of : Fixed → NodeAt → ServoState
+abbrev pub state_of : NodeSetting → NodeAt → ServoState
 state_of fixed n = if is_some (slave_of fixed.set) then (servo_at fixed n).state else Uninit
 
-abbrev pub locked_of : Fixed → NodeAt → Bool
+abbrev pub locked_of : NodeSetting → NodeAt → Bool
 locked_of fixed n = if is_some (slave_of fixed.set) then (servo_at fixed n).phase.lock.locked else false
 
-abbrev pub dac_of : Fixed → NodeAt → ℕ
+abbrev pub dac_of : NodeSetting → NodeAt → ℕ
 dac_of fixed n = if is_some (slave_of fixed.set) then (servo_at fixed n).phase.dac else fixed.set.servo.bias
 
 -- its time is certain: it is the grandmaster, or in TRACK
-abbrev pub certain_of : Fixed → NodeAt → Bool
+abbrev pub certain_of : NodeSetting → NodeAt → Bool
 certain_of fixed n = if is_some (slave_of fixed.set) then is_track (servo_at fixed n).state else true
 
 -- the offset from the parent, where a four stands
-abbrev pub est_of : Fixed → NodeAt → Option ℤ
+abbrev pub est_of : NodeSetting → NodeAt → Option ℤ
 est_of fixed n = est_now (servo_at fixed n)
 
 -- the lease of the slave port is fresh

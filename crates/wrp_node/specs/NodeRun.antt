@@ -15,7 +15,7 @@ use Rattle.wrp_node.specs.declared.interface.Input.TheVariants.{Tick, Frame}
 use Rattle.wrp_node.specs.declared.interface.Output.{Output}
 use Rattle.wrp_node.specs.declared.interface.Output.TheVariants.{Send, Step as StepOf, Dac, Report as ReportOf}
 use Rattle.wrp_node.specs.declared.interface.Report.TheVariants.{Link, Servo, Track as TrackReport}
-use Rattle.wrp_node.specs.NodeAt.{Taken, Fixed, NodeAt, numbers_of, settings_of, link_at, state_of, est_of}
+use Rattle.wrp_node.specs.NodeAt.{Taken, NodeSetting, NodeAt, numbers_of, servo_setting_of, link_at, state_of, est_of}
 use Rattle.wrp_node.specs.NodeStep.{node_step}
 use Rattle.wrp_node.specs.Telling.{Step}
 use Rattle.wrp_port.specs.Outputs.{is_word}
@@ -55,7 +55,7 @@ abbrev pub frame_out : ℕ → PtpMsg → Output
 frame_out p message = Send p (record { items = octets_of message })
 
 -- a port's word, then its frames
-abbrev pub port_out : Fixed → NodeAt → Step → ℕ → List Output
+abbrev pub port_out : NodeSetting → NodeAt → Step → ℕ → List Output
 port_out fixed before s p =
     word_out p (word_of (link_at fixed.set before p)) (word_of (link_at fixed.set s.node p)) ++ map (frame_out p) (s.sends p)
 
@@ -64,13 +64,13 @@ est_out None = []
 est_out (Some est) = ReportOf (TrackReport est) ∷ []
 
 -- a track report: in TRACK, at a tick whose number `report` divides
-abbrev pub track_out : Fixed → Input → NodeAt → List Output
+abbrev pub track_out : NodeSetting → Input → NodeAt → List Output
 track_out fixed Tick n =
     if is_track (state_of fixed n) && (n.ticks % fixed.set.report == 0) then est_out (est_of fixed n) else []
 track_out fixed _ n = []
 
 -- the step, the DAC value, the servo's state, each port in ascending order, and the track report
-abbrev pub outputs_of : Fixed → Input → NodeAt → Step → List Output
+abbrev pub outputs_of : NodeSetting → Input → NodeAt → Step → List Output
 outputs_of fixed input before s =
     step_out s.cycles ++ dac_out s.dac ++ servo_out (state_of fixed before) (state_of fixed s.node)
     ++ flat_map (port_out fixed before s) (numbers_of fixed.set) ++ track_out fixed input s.node
@@ -82,12 +82,12 @@ abbrev pub new_node : NodeAt
 new_node = record { ticks = 0; told = λ p. []; calls = []; counters = λ p. no_counts }
 
 -- the node after these inputs, newest first
-abbrev pub node_after : Fixed → List Taken → NodeAt
+abbrev pub node_after : NodeSetting → List Taken → NodeAt
 node_after fixed [] = new_node
 node_after fixed (t ∷ before) = (node_step fixed t (node_after fixed before)).node
 
 -- what the newest input puts out
-abbrev pub outputs_at : Fixed → List Taken → Taken → List Output
+abbrev pub outputs_at : NodeSetting → List Taken → Taken → List Output
 outputs_at fixed before t =
     outputs_of fixed t.input (node_after fixed before) (node_step fixed t (node_after fixed before))
 
@@ -107,7 +107,7 @@ AllSaid [] = Unit {0}
 AllSaid (t ∷ before) = IsSaid t.input t.says × AllSaid before
 
 -- the run of a node whose law may answer so: each frame is read as its octets say, each measurement has one of the law's answers, and these are the outputs of the newest input
-pub record NodeRun (answers : ℤ → ℤ → Type 0) (fixed : Fixed) (before : List Taken) (t : Taken) (put_out : List Output) : Type 0 where
+pub record NodeRun (answers : ℤ → ℤ → Type 0) (fixed : NodeSetting) (before : List Taken) (t : Taken) (put_out : List Output) : Type 0 where
   pub said : AllSaid (t ∷ before)
-  pub answered : AllAnswered answers (settings_of fixed) (node_after fixed (t ∷ before)).calls
+  pub answered : AllAnswered answers (servo_setting_of fixed) (node_after fixed (t ∷ before)).calls
   pub outputs : put_out ≡ outputs_at fixed before t

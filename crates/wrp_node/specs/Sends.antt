@@ -12,7 +12,7 @@ use Rattle.wrp_node.specs.declared.interface.Output.{Output}
 use Rattle.wrp_node.specs.declared.interface.Output.TheVariants.{Send}
 use Rattle.wrp_node.specs.LinkNews.{LinkNews, Nothing, Given, Renewed, news_at}
 use Rattle.wrp_node.specs.New.{OfDifferentNumbers}
-use Rattle.wrp_node.specs.NodeAt.{Taken, Fixed, NodeAt, setting_of, line_at, link_at}
+use Rattle.wrp_node.specs.NodeAt.{Taken, NodeSetting, NodeAt, setting_of, line_at, link_at}
 use Rattle.wrp_node.specs.NodeRun.{outputs_of}
 use Rattle.wrp_node.specs.NodeStep.{node_step}
 use Rattle.wrp_port.specs.Messages.{signals_of}
@@ -35,14 +35,14 @@ link_sends l (Given input) = sends_of l input
 link_sends l Renewed = []
 
 -- what the link of a port sends, each as a Signaling to the peer, from the port's next sequenceId on
-abbrev pub signals_at : Fixed → NodeAt → ℕ → LinkNews → List PtpMsg
+abbrev pub signals_at : NodeSetting → NodeAt → ℕ → LinkNews → List PtpMsg
 signals_at fixed n p news =
     signals_of (setting_of fixed.set p) (line_at fixed.set n p).ids.signal (link_sends (link_at fixed.set n p) news)
 
 -- the Signaling messages that a port sends at a step are those of its link, in their order, and no others
 abbrev pub SignalsAreOfLink : Type 0
 SignalsAreOfLink =
-    (fixed : Fixed) (t : Taken) (n : NodeAt) (p : ℕ) →
+    (fixed : NodeSetting) (t : Taken) (n : NodeAt) (p : ℕ) →
     signals_in ((node_step fixed t n).sends p) ≡ signals_at fixed n p (news_at fixed n t.input t.says p)
 
 -- ---- what is put out
@@ -54,12 +54,12 @@ frames_at p (Send q frame ∷ outs) = if q == p then frame.items ∷ frames_at p
 frames_at p (out ∷ outs) = frames_at p outs
 
 -- whether a number is that of one of the node's ports
-abbrev pub is_port : Fixed → ℕ → Bool
+abbrev pub is_port : NodeSetting → ℕ → Bool
 is_port fixed p = list_any (λ ds. ds.own.port == p) fixed.set.ports.items
 
 -- the frames among the outputs of a step are what its ports send: at each port, in order, and at no other number
 abbrev pub SendsArePutOut : Type 0
 SendsArePutOut =
-    (fixed : Fixed) (t : Taken) (n : NodeAt) (p : ℕ) → OfDifferentNumbers fixed.set.ports.items →
+    (fixed : NodeSetting) (t : Taken) (n : NodeAt) (p : ℕ) → OfDifferentNumbers fixed.set.ports.items →
     frames_at p (outputs_of fixed t.input n (node_step fixed t n))
     ≡ (if is_port fixed p then map octets_of ((node_step fixed t n).sends p) else [])

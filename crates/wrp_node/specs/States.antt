@@ -4,7 +4,7 @@ use Rattle.wrp_base.specs.declared.link.LinkState.{LinkState}
 use Rattle.wrp_base.specs.declared.link.LinkState.TheVariants.{Idle}
 use Rattle.wrp_node.specs.declared.place.Place.{Place}
 use Rattle.wrp_node.specs.declared.ports.states.PortState.{PortState}
-use Rattle.wrp_node.specs.NodeAt.{Fixed, NodeAt, link_at}
+use Rattle.wrp_node.specs.NodeAt.{NodeSetting, NodeAt, link_at}
 
 -- a port and the state of its link
 abbrev pub port_state : Place → PortState
@@ -16,5 +16,5 @@ state_in p [] = Idle
 state_in p (port ∷ ports) = if port.port == p then port.state else state_in p ports
 
 -- the state of a port's link
-abbrev pub state_at : ℕ → Fixed → NodeAt → LinkState
+abbrev pub state_at : ℕ → NodeSetting → NodeAt → LinkState
 state_at p fixed n = (link_at fixed.set n p).state

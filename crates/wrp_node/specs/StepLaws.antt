@@ -4,7 +4,7 @@ use Rattle.wrp_base.specs.declared.message.PtpMsg.{PtpMsg}
 use Rattle.wrp_frame.specs.declared.fault.FrameFault.{FrameFault}
 use Rattle.wrp_node.specs.declared.interface.Input.{Input}
 use Rattle.wrp_node.specs.declared.interface.Input.TheVariants.{Tick, Frame, Reset}
-use Rattle.wrp_node.specs.NodeAt.{Taken, Fixed, NodeAt}
+use Rattle.wrp_node.specs.NodeAt.{Taken, NodeSetting, NodeAt}
 use Rattle.wrp_node.specs.NodeStep.{node_step}
 
 abbrev pub is_frame : Input → Bool
@@ -14,20 +14,20 @@ is_frame _ = false
 -- what is noted beside an input that is no frame is of no account
 abbrev pub OnlyFramesSay : Type 0
 OnlyFramesSay =
-    (fixed : Fixed) (n : NodeAt) (input : Input) (says other : Result PtpMsg FrameFault) (y z : ℤ) → is_frame input ≡ false →
+    (fixed : NodeSetting) (n : NodeAt) (input : Input) (says other : Result PtpMsg FrameFault) (y z : ℤ) → is_frame input ≡ false →
     node_step fixed (record { input = input; says = says; answer = y }) n ≡ node_step fixed (record { input = input; says = other; answer = z }) n
 
 -- a step of the clock is commanded by a frame alone, by at most 2^62 periods
-pub record CommandIsHeld (fixed : Fixed) (t : Taken) (n : NodeAt) : Type 0 where
+pub record CommandIsHeld (fixed : NodeSetting) (t : Taken) (n : NodeAt) : Type 0 where
   pub by_frame : is_frame t.input ≡ false → (node_step fixed t n).cycles ≡ pos 0
   pub held : unsigned_abs (node_step fixed t n).cycles ≤ 2 ^ 62
 
 abbrev pub CommandsAreHeld : Type 0
-CommandsAreHeld = (fixed : Fixed) (t : Taken) (n : NodeAt) → CommandIsHeld fixed t n
+CommandsAreHeld = (fixed : NodeSetting) (t : Taken) (n : NodeAt) → CommandIsHeld fixed t n
 
 -- a port sends at most four messages
 abbrev pub SendsAreFew : Type 0
-SendsAreFew = (fixed : Fixed) (t : Taken) (n : NodeAt) (p : ℕ) → length ((node_step fixed t n).sends p) ≤ 4
+SendsAreFew = (fixed : NodeSetting) (t : Taken) (n : NodeAt) (p : ℕ) → length ((node_step fixed t n).sends p) ≤ 4
 
 -- the ticks after an input
 abbrev pub ticks_by : Input → ℕ → ℕ
@@ -36,4 +36,4 @@ ticks_by Reset ticks = 0
 ticks_by _ ticks = ticks
 
 abbrev pub TicksAreCounted : Type 0
-TicksAreCounted = (fixed : Fixed) (t : Taken) (n : NodeAt) → (node_step fixed t n).node.ticks ≡ ticks_by t.input n.ticks
+TicksAreCounted = (fixed : NodeSetting) (t : Taken) (n : NodeAt) → (node_step fixed t n).node.ticks ≡ ticks_by t.input n.ticks

@@ -5,7 +5,7 @@ use Rattle.wrp_base.specs.declared.measurement.ChainNews.{ChainNews}
 use Rattle.wrp_base.specs.declared.measurement.ChainNews.TheVariants.{Same}
 use Rattle.wrp_base.specs.declared.message.PtpMsg.{PtpMsg}
 use Rattle.wrp_data.specs.Counters.{counts_after}
-use Rattle.wrp_node.specs.NodeAt.{Fixed, NodeAt, slave_of, settings_of, is_fresh_in, deltas_in}
+use Rattle.wrp_node.specs.NodeAt.{NodeSetting, NodeAt, slave_of, servo_setting_of, is_fresh_in, deltas_in}
 use Rattle.wrp_port.specs.declared.interface.PortIn.{PortIn}
 use Rattle.wrp_port.specs.declared.interface.PortIn.TheVariants.{Sample, Chain}
 use Rattle.wrp_servo.specs.Call.{Call, CallSample, CallLease, CallLink, run}
@@ -76,7 +76,7 @@ counted_by (Some p) out counters q = counted_at counters p out.refused q
 -- ---- telling
 
 -- a node without a slave port has no servo that could be told
-abbrev pub for_slave : Fixed → Option Call → Option Call
+abbrev pub for_slave : NodeSetting → Option Call → Option Call
 for_slave fixed call = if is_some (slave_of fixed.set) then call else None
 
 -- nothing is told, and nothing comes of it
@@ -84,9 +84,9 @@ abbrev pub no_answer : ServoOut
 no_answer = plain_out (pos 0) Same None
 
 -- what the servo answers
-abbrev pub answer_of : Fixed → Option Call → List Call → ServoOut
+abbrev pub answer_of : NodeSetting → Option Call → List Call → ServoOut
 answer_of fixed None calls = no_answer
-answer_of fixed (Some call) calls = answer_to (settings_of fixed) (run (settings_of fixed) calls) call
+answer_of fixed (Some call) calls = answer_to (servo_setting_of fixed) (run (servo_setting_of fixed) calls) call
 
 abbrev pub called : Option Call → List Call → List Call
 called None calls = calls
@@ -97,7 +97,7 @@ abbrev pub newest_step : ℤ → ℤ → ℤ
 newest_step new old = if unsigned_abs new == 0 then old else new
 
 -- the servo is told something, if there is something to tell
-abbrev pub tell : Fixed → Option Call → Step → Step
+abbrev pub tell : NodeSetting → Option Call → Step → Step
 tell fixed call s = record {
   node = record {
     ticks = s.node.ticks;
@@ -117,23 +117,23 @@ is_changed true now = not now
 is_changed false now = now
 
 -- what is to be told of the lease: only where it is another than was told last
-abbrev pub lease_change : Fixed → NodeAt → Option Call
+abbrev pub lease_change : NodeSetting → NodeAt → Option Call
 lease_change fixed n =
     for_slave fixed
     (if is_changed (lease_told n.calls) (is_fresh_in fixed.set n) then Some (CallLease (is_fresh_in fixed.set n)) else None)
 
 -- and of WR_LINK_ON
-abbrev pub link_change : Fixed → NodeAt → Option Call
+abbrev pub link_change : NodeSetting → NodeAt → Option Call
 link_change fixed n =
     for_slave fixed
     (if is_changed (is_some (link_told n.calls)) (is_some (deltas_in fixed.set n)) then Some (CallLink (deltas_in fixed.set n)) else None)
 
-abbrev pub with_lease : Fixed → Step → Step
+abbrev pub with_lease : NodeSetting → Step → Step
 with_lease fixed s = tell fixed (lease_change fixed s.node) s
 
-abbrev pub with_link : Fixed → Step → Step
+abbrev pub with_link : NodeSetting → Step → Step
 with_link fixed s = tell fixed (link_change fixed s.node) s
 
 -- the servo is told of a changed lease, then of a changed WR_LINK_ON
-abbrev pub settled : Fixed → Step → Step
+abbrev pub settled : NodeSetting → Step → Step
 settled fixed s = with_link fixed (with_lease fixed s)

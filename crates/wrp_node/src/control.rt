@@ -5,7 +5,7 @@ ghost use Rattle.wrp_node.specs.Control.{ControlStands, AddsCalls, KeepsLaw, Has
 ghost use Rattle.wrp_node.specs.Telling.{no_answer};
 ghost use Rattle.wrp_servo.specs.Call.{CallSample, CallMeasured, CallTick, CallReset};
 ghost use Rattle.wrp_node.specs.declared.interface.NodeSet.{NodeSet};
-ghost use Rattle.wrp_node.specs.New.{fixed_of};
+ghost use Rattle.wrp_node.specs.New.{node_setting_of};
 ghost use Rattle.wrp_node.specs.NodeAt.{slave_of};
 ghost use Rattle.wrp_servo.specs.Sizes.{FitsTimes, FitsServoSet};
 
@@ -51,7 +51,7 @@ impl<F: Fn(i64) -> i64> Control<F> {
         ensures law { KeepsLaw F.pre F.post result }
         ensures given { law_in result ≡ law }
         ensures stands { (cfg : NodeSet) → cfg.servo ≡ set → is_some law ≡ is_some (slave_of cfg) →
-            ControlStands F.post (fixed_of cfg law) [] result }
+            ControlStands F.post (node_setting_of cfg law) [] result }
     {
         let told = match law {
             Some(law) => Some(Told::of(set, law)),

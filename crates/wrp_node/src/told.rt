@@ -3,7 +3,7 @@ ghost use Rattle.std.specs.Prelude.{◌≡◌, ◌+◌, ◌<◌, ◌^◌, ℤ, [
 ghost use Rattle.wrp_law.specs.Law.{KeepsFact};
 ghost use Rattle.wrp_node.specs.Control.{AddsTold, IsReason};
 ghost use Rattle.wrp_servo.specs.Call.{CallSample, CallMeasured, CallTick, CallLease, CallLink, CallCarrier, CallReset};
-ghost use Rattle.wrp_servo.specs.Servo.{StandsFor as ServoStandsFor, settings_of};
+ghost use Rattle.wrp_servo.specs.Servo.{StandsFor as ServoStandsFor, servo_setting_of};
 ghost use Rattle.wrp_servo.specs.Sizes.{FitsTimes, FitsServoSet};
 
 use std::marker::Model;
@@ -36,7 +36,7 @@ impl<F: Fn(i64) -> i64> Told<F> {
         requires set { FitsServoSet set }
         requires law { KeepsFact F.pre F.post law }
         ensures law { result.servo.law ≡ law }
-        ensures servo { ServoStandsFor F.post (settings_of set law) result.servo [] }
+        ensures servo { ServoStandsFor F.post (servo_setting_of set law) result.servo [] }
         ensures lease { result.lease ≡ false }
         ensures link { result.link ≡ false }
     {

@@ -46,7 +46,7 @@ fn role_of(word: &str) -> Option<Role> {
 }
 
 // The role, and the two counts of the schedule.
-fn settings_of(words: &[String]) -> Option<(Role, u32, u32)> {
+fn servo_setting_of(words: &[String]) -> Option<(Role, u32, u32)> {
     match words {
         [role, announce, every] => {
             let role = role_of(role.as_str())?;
@@ -60,7 +60,7 @@ fn settings_of(words: &[String]) -> Option<(Role, u32, u32)> {
 
 // The port of a case.
 fn port_of(alloc: Global, case: &Case) -> Result<Port, Fault> {
-    let (role, announce, every) = settings_of(&case.words).ok_or(Fault::Input)?;
+    let (role, announce, every) = servo_setting_of(&case.words).ok_or(Fault::Input)?;
     if announce == 0 || every == 0 {
         return Err(Fault::Condition);
     }

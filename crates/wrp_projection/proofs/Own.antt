@@ -25,7 +25,7 @@ use Rattle.wrp_node.specs.NodeRun.{node_after, outputs_at, outputs_of}
 use Rattle.wrp_node.specs.NodeStep.{node_step}
 use Rattle.wrp_node.specs.StepLaws.{ticks_by}
 use Rattle.wrp_trace.specs.Printing.{line_of}
-use Rattle.wrp_trace.specs.Site.{Site, site_in}
+use Rattle.wrp_trace.specs.LineSetting.{LineSetting, line_setting_in}
 use Rattle.wrp_world.specs.declared.event.Event.{Event}
 use Rattle.wrp_world.specs.declared.event.Event.TheVariants.{Pass, Tick, Sample, Depart, Arrive, Deliver, Noise, Down, Up, Cut, Join}
 use Rattle.wrp_world.specs.declared.place.Place.{Place}
@@ -33,11 +33,11 @@ use Rattle.wrp_world.proofs.Departing.{turned_about}
 use Rattle.wrp_world.specs.Given.{Given, NodeStepAt, at_ports, comes_at, comes_from, delivered, delivered_by, delivered_to, given_by, given_plain, gives, gives_all, goes_at, goes_from, if_carried, node_step_of, sent_oldest, step_of, steps_of, taken_of, told_sending}
 use Rattle.wrp_world.specs.Moved.{moved, waiting_at}
 use Rattle.wrp_world.specs.Run.{Happened, steps_at, world_after}
-use Rattle.wrp_world.specs.Setting.{Setting, end_at, entry_at, fixed_of, place_of}
+use Rattle.wrp_world.specs.Setting.{Setting, end_at, entry_at, node_setting_of, place_of}
 use Rattle.wrp_world.specs.WorldAt.{Arrival, FrameAt, Sending, WorldAt, has_carrier}
 use Rattle.wrp_run.specs.Audited.{setting_at}
 use Rattle.wrp_run.specs.AuditText.{audit_lines, given_line, given_lines, step_lines}
-use Rattle.wrp_run.specs.DownLaw.{fixed_at}
+use Rattle.wrp_run.specs.DownLaw.{node_setting_at}
 use Rattle.wrp_run.specs.NodeText.{output_lines}
 use Rattle.wrp_run.proofs.AuditSteps.{made_after, made_given}
 use Rattle.wrp_run.proofs.Reaching.{concat-snoc}
@@ -48,24 +48,24 @@ use Rattle.wrp_projection.proofs.Written.{record_of, records_of, written}
 
 -- The record lines of what a node is given
 
-one_by : (site : Site) (b : Bool) (t : Taken) (inputs : List Taken) → concat (records_of site inputs) ++ (if b then line_of site t.input ++ 10 ∷ [] else []) ≡ concat (records_of site (if b then t ∷ inputs else inputs))
+one_by : (site : LineSetting) (b : Bool) (t : Taken) (inputs : List Taken) → concat (records_of site inputs) ++ (if b then line_of site t.input ++ 10 ∷ [] else []) ≡ concat (records_of site (if b then t ∷ inputs else inputs))
 one_by site true t inputs = sym (concat-snoc (records_of site inputs) (record_of site t))
 one_by site false t inputs = append-nil (concat (records_of site inputs))
 
 given_one : (s : Setting) (n : ℕ) (y : ℤ) (v : WorldAt) (g : Given) →
-    concat (records_of (site_in s n) (v.inputs n)) ++ given_line s n (node_step_of s y v g) ≡ concat (records_of (site_in s n) ((gives s y v g).inputs n))
+    concat (records_of (line_setting_in s n) (v.inputs n)) ++ given_line s n (node_step_of s y v g) ≡ concat (records_of (line_setting_in s n) ((gives s y v g).inputs n))
 given_one s n y v g =
-    ap (λ (b : Bool). concat (records_of (site_in s n) (v.inputs n)) ++ (if b then line_of (site_in s n) g.input ++ 10 ∷ [] else [])) (turned_about g.to n)
-    ∙ one_by (site_in s n) (n == g.to) (taken_of y g) (v.inputs n)
+    ap (λ (b : Bool). concat (records_of (line_setting_in s n) (v.inputs n)) ++ (if b then line_of (line_setting_in s n) g.input ++ 10 ∷ [] else [])) (turned_about g.to n)
+    ∙ one_by (line_setting_in s n) (n == g.to) (taken_of y g) (v.inputs n)
 
 given_all : (s : Setting) (n : ℕ) (y : ℤ) (v : WorldAt) (gs : List Given) →
-    concat (records_of (site_in s n) (v.inputs n)) ++ flat_map (given_line s n) (steps_of s y v gs) ≡ concat (records_of (site_in s n) ((gives_all s y v gs).inputs n))
-given_all s n y v [] = append-nil (concat (records_of (site_in s n) (v.inputs n)))
+    concat (records_of (line_setting_in s n) (v.inputs n)) ++ flat_map (given_line s n) (steps_of s y v gs) ≡ concat (records_of (line_setting_in s n) ((gives_all s y v gs).inputs n))
+given_all s n y v [] = append-nil (concat (records_of (line_setting_in s n) (v.inputs n)))
 given_all s n y v (g ∷ gs) =
-    sym (append_assoc (concat (records_of (site_in s n) (v.inputs n))) (given_line s n (node_step_of s y v g)) (flat_map (given_line s n) (steps_of s y (gives s y v g) gs)))
+    sym (append_assoc (concat (records_of (line_setting_in s n) (v.inputs n))) (given_line s n (node_step_of s y v g)) (flat_map (given_line s n) (steps_of s y (gives s y v g) gs)))
     ∙ ap (λ (l : List ℕ). l ++ flat_map (given_line s n) (steps_of s y (gives s y v g) gs)) (given_one s n y v g) ∙ given_all s n y (gives s y v g) gs
 
-pub given_are : (s : Setting) (n : ℕ) (events : List Happened) → given_lines s n events ≡ concat (records_of (site_in s n) ((world_after s events).inputs n))
+pub given_are : (s : Setting) (n : ℕ) (events : List Happened) → given_lines s n events ≡ concat (records_of (line_setting_in s n) ((world_after s events).inputs n))
 given_are s n [] = refl
 given_are s n (h ∷ before) =
     let w : WorldAt = world_after s before in
@@ -203,7 +203,7 @@ stays_by inputs.Reset ticks h = absurd h
 
 one_stays : (s : Setting) (y : ℤ) (v : WorldAt) (g : Given) (n : ℕ) (b : Bool) → (n == g.to) ≡ b → Stays g.input → (if b then (step_of s y v g).node else v.node n).ticks ≡ (v.node n).ticks
 one_stays s y v g n true is stays =
-    ticks_are_counted (fixed_of s g.to) (taken_of y g) (v.node g.to) ∙ stays_by g.input (v.node g.to).ticks stays ∙ ap (λ m. (v.node m).ticks) (sym (eqb-true n g.to is))
+    ticks_are_counted (node_setting_of s g.to) (taken_of y g) (v.node g.to) ∙ stays_by g.input (v.node g.to).ticks stays ∙ ap (λ m. (v.node m).ticks) (sym (eqb-true n g.to is))
 one_stays s y v g n false is stays = refl
 
 all_stay : (s : Setting) (y : ℤ) (v : WorldAt) (gs : List Given) (n : ℕ) → AllStay gs → ((gives_all s y v gs).node n).ticks ≡ (v.node n).ticks
@@ -219,29 +219,29 @@ const_filter test made true same (o ∷ outs) = rw (same o) (ap (λ (xs : List P
 const_filter test made false same (o ∷ outs) = rw (same o) (const_filter test made false same outs)
 
 abbrev Made : Setting → WorldAt → Type 0
-Made s v = (n : ℕ) → v.node n ≡ node_after (fixed_of s n) (v.inputs n)
+Made s v = (n : ℕ) → v.node n ≡ node_after (node_setting_of s n) (v.inputs n)
 
 -- a step of the node itself
 own_step : (cfg : NetCfg) (db : Database) (y : ℤ) (v w : WorldAt) (g : Given) → Made (setting_at cfg db) v → ((gives (setting_at cfg db) y v g).node g.to).ticks ≡ (w.node g.to).ticks
-    → written (site_in (setting_at cfg db) g.to) (v.inputs g.to) ++ flat_map (replay_line cfg) (of_node g.to (put_in w (node_step_of (setting_at cfg db) y v g)))
-    ≡ written (site_in (setting_at cfg db) g.to) (taken_of y g ∷ v.inputs g.to)
+    → written (line_setting_in (setting_at cfg db) g.to) (v.inputs g.to) ++ flat_map (replay_line cfg) (of_node g.to (put_in w (node_step_of (setting_at cfg db) y v g)))
+    ≡ written (line_setting_in (setting_at cfg db) g.to) (taken_of y g ∷ v.inputs g.to)
 own_step cfg db y v w g made ticks =
     let s : Setting = setting_at cfg db in
-    let site : Site = site_in s g.to in
+    let site : LineSetting = line_setting_in s g.to in
     let t : Taken = taken_of y g in
     let outs : List Output = (node_step_of s y v g).outs in
     let all : of_node g.to (put_in w (node_step_of s y v g)) ≡ put_in w (node_step_of s y v g) = const_filter (λ x. x.node == g.to) (put_at w g.to) true (λ o. eq_self g.to) outs in
     let lines : flat_map (replay_line cfg) (put_in w (node_step_of s y v g)) ≡ output_lines site (w.node g.to).ticks outs = flat_map-map (replay_line cfg) (put_at w g.to) outs in
-    let after : (step_of s y v g).node ≡ node_after (fixed_at site) (t ∷ v.inputs g.to) = ap (λ (node : NodeAt). (node_step (fixed_of s g.to) t node).node) (made g.to) in
+    let after : (step_of s y v g).node ≡ node_after (node_setting_at site) (t ∷ v.inputs g.to) = ap (λ (node : NodeAt). (node_step (node_setting_of s g.to) t node).node) (made g.to) in
     let given : (gives s y v g).node g.to ≡ (step_of s y v g).node = ap (λ (b : Bool). if b then (step_of s y v g).node else v.node g.to) (eq_self g.to) in
-    let tick : (w.node g.to).ticks ≡ (node_after (fixed_at site) (t ∷ v.inputs g.to)).ticks = sym ticks ∙ ap (λ (node : NodeAt). node.ticks) (given ∙ after) in
-    let put : outs ≡ outputs_at (fixed_at site) (v.inputs g.to) t = ap (λ (node : NodeAt). outputs_of (fixed_of s g.to) g.input node (node_step (fixed_of s g.to) t node)) (made g.to) in
+    let tick : (w.node g.to).ticks ≡ (node_after (node_setting_at site) (t ∷ v.inputs g.to)).ticks = sym ticks ∙ ap (λ (node : NodeAt). node.ticks) (given ∙ after) in
+    let put : outs ≡ outputs_at (node_setting_at site) (v.inputs g.to) t = ap (λ (node : NodeAt). outputs_of (node_setting_of s g.to) g.input node (node_step (node_setting_of s g.to) t node)) (made g.to) in
     ap (λ (l : List ℕ). written site (v.inputs g.to) ++ l) (ap (flat_map (replay_line cfg)) all ∙ lines ∙ ap₂ (output_lines site) tick put)
 
 abbrev Own : NetCfg → Database → ℤ → WorldAt → WorldAt → Given → ℕ → Type 0
 Own cfg db y v w g n =
-    written (site_in (setting_at cfg db) n) (v.inputs n) ++ flat_map (replay_line cfg) (of_node n (put_in w (node_step_of (setting_at cfg db) y v g)))
-    ≡ written (site_in (setting_at cfg db) n) ((gives (setting_at cfg db) y v g).inputs n)
+    written (line_setting_in (setting_at cfg db) n) (v.inputs n) ++ flat_map (replay_line cfg) (of_node n (put_in w (node_step_of (setting_at cfg db) y v g)))
+    ≡ written (line_setting_in (setting_at cfg db) n) ((gives (setting_at cfg db) y v g).inputs n)
 
 own_one : (cfg : NetCfg) (db : Database) (y : ℤ) (v w : WorldAt) (g : Given) (n : ℕ) → Made (setting_at cfg db) v → ((gives (setting_at cfg db) y v g).node n).ticks ≡ (w.node n).ticks → Own cfg db y v w g n
 own_one cfg db y v w g n made ticks = go (n == g.to) refl
@@ -254,25 +254,25 @@ own_one cfg db y v w g n made ticks = go (n == g.to) refl
         let same : n ≡ g.to = eqb-true n g.to is in
         subst (Own cfg db y v w g) (sym same)
         (own_step cfg db y v w g made (subst (λ m. ((gives s y v g).node m).ticks ≡ (w.node m).ticks) same ticks)
-        ∙ ap (λ (b : Bool). written (site_in s g.to) (if b then taken_of y g ∷ v.inputs g.to else v.inputs g.to)) (sym (eq_self g.to)))
+        ∙ ap (λ (b : Bool). written (line_setting_in s g.to) (if b then taken_of y g ∷ v.inputs g.to else v.inputs g.to)) (sym (eq_self g.to)))
     go false is =
-        ap (λ (xs : List PutOut). written (site_in s n) (v.inputs n) ++ flat_map (replay_line cfg) xs)
+        ap (λ (xs : List PutOut). written (line_setting_in s n) (v.inputs n) ++ flat_map (replay_line cfg) xs)
         (const_filter (λ x. x.node == n) (put_at w g.to) false (λ o. turned_about g.to n ∙ is) (node_step_of s y v g).outs)
-        ∙ append-nil (written (site_in s n) (v.inputs n))
-        ∙ ap (λ (b : Bool). written (site_in s n) (if b then taken_of y g ∷ v.inputs n else v.inputs n)) (sym is)
+        ∙ append-nil (written (line_setting_in s n) (v.inputs n))
+        ∙ ap (λ (b : Bool). written (line_setting_in s n) (if b then taken_of y g ∷ v.inputs n else v.inputs n)) (sym is)
 
 own_all : (cfg : NetCfg) (db : Database) (y : ℤ) (v : WorldAt) (gs : List Given) (n : ℕ) → Made (setting_at cfg db) v → Late gs
-    → written (site_in (setting_at cfg db) n) (v.inputs n)
+    → written (line_setting_in (setting_at cfg db) n) (v.inputs n)
     ++ flat_map (replay_line cfg) (of_node n (flat_map (put_in (gives_all (setting_at cfg db) y v gs)) (steps_of (setting_at cfg db) y v gs)))
-    ≡ written (site_in (setting_at cfg db) n) ((gives_all (setting_at cfg db) y v gs).inputs n)
-own_all cfg db y v [] n made late = append-nil (written (site_in (setting_at cfg db) n) (v.inputs n))
+    ≡ written (line_setting_in (setting_at cfg db) n) ((gives_all (setting_at cfg db) y v gs).inputs n)
+own_all cfg db y v [] n made late = append-nil (written (line_setting_in (setting_at cfg db) n) (v.inputs n))
 own_all cfg db y v (g ∷ gs) n made late =
     let s : Setting = setting_at cfg db in
     let next : WorldAt = gives s y v g in
     let w : WorldAt = gives_all s y next gs in
     let first : List PutOut = put_in w (node_step_of s y v g) in
     let rest : List PutOut = flat_map (put_in w) (steps_of s y next gs) in
-    let front : List ℕ = written (site_in s n) (v.inputs n) in
+    let front : List ℕ = written (line_setting_in s n) (v.inputs n) in
     let one : Own cfg db y v w g n = own_one cfg db y v w g n made (sym (all_stay s y next gs n late.0)) in
     ap (λ (l : List ℕ). front ++ l) (ap (flat_map (replay_line cfg)) (filter-append (λ x. x.node == n) first rest) ∙ flat_map-append (replay_line cfg) (of_node n first) (of_node n rest))
     ∙ sym (append_assoc front (flat_map (replay_line cfg) (of_node n first)) (flat_map (replay_line cfg) (of_node n rest)))
@@ -280,7 +280,7 @@ own_all cfg db y v (g ∷ gs) n made late =
     ∙ own_all cfg db y next gs n (made_given s y v g made) late.1
 
 pub own_lines : (cfg : NetCfg) (db : Database) (n : ℕ) (events : List Happened)
-    → flat_map (replay_line cfg) (of_node n (put_out_by (setting_at cfg db) events)) ≡ written (site_in (setting_at cfg db) n) ((world_after (setting_at cfg db) events).inputs n)
+    → flat_map (replay_line cfg) (of_node n (put_out_by (setting_at cfg db) events)) ≡ written (line_setting_in (setting_at cfg db) n) ((world_after (setting_at cfg db) events).inputs n)
 own_lines cfg db n [] = refl
 own_lines cfg db n (h ∷ before) =
     let s : Setting = setting_at cfg db in

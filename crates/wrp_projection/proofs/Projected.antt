@@ -12,7 +12,7 @@ use Rattle.wrp_config.specs.declared.network.Network.{Network}
 use Rattle.wrp_config.specs.Names.{node_named}
 use Rattle.wrp_config.specs.Same.{ReadingIsAccepted, bare_cfg}
 use Rattle.wrp_node.specs.declared.interface.Input.{Input}
-use Rattle.wrp_node.specs.NodeAt.{NodeAt, Taken, settings_of}
+use Rattle.wrp_node.specs.NodeAt.{NodeAt, Taken, servo_setting_of}
 use Rattle.wrp_node.specs.NodeRun.{AllSaid, node_after}
 use Rattle.wrp_node.specs.OneRun.{answers_by}
 use Rattle.wrp_recorded.specs.Recorded.{AllSaidByLines, InputsAreRecorded, IsRecorded, IsSaidRun}
@@ -20,7 +20,7 @@ use Rattle.wrp_servo.specs.Servo.{AllAnswered}
 use Rattle.wrp_trace.specs.Events.{event_read}
 use Rattle.wrp_trace.specs.Inputs.{read_of}
 use Rattle.wrp_trace.specs.Printing.{line_of}
-use Rattle.wrp_trace.specs.Site.{Site, site_in}
+use Rattle.wrp_trace.specs.LineSetting.{LineSetting, line_setting_in}
 use Rattle.wrp_world.specs.Run.{Happened, world_after}
 use Rattle.wrp_world.specs.Setting.{Setting}
 use Rattle.wrp_world.specs.WorldAt.{WorldAt}
@@ -29,7 +29,7 @@ use Rattle.wrp_run.specs.Answer.{Answer}
 use Rattle.wrp_run.specs.Audited.{AreEvents, IsAudit, IsSettingOf, setting_at}
 use Rattle.wrp_run.specs.AuditLaws.{OneAudit}
 use Rattle.wrp_run.specs.AuditText.{all_counts, audit_lines, given_lines}
-use Rattle.wrp_run.specs.DownLaw.{fixed_at, law_at}
+use Rattle.wrp_run.specs.DownLaw.{node_setting_at, law_at}
 use Rattle.wrp_run.specs.Input.{behind_separator, network_limit, network_text}
 use Rattle.wrp_run.specs.Lines.{content_of, lines_of}
 use Rattle.wrp_run.specs.NodeText.{node_counts}
@@ -41,7 +41,7 @@ use Rattle.wrp_run.proofs.AuditSteps.{made_after}
 use Rattle.wrp_run.proofs.BareAudit.{after_bare, bare_is, bare_setting}
 use Rattle.wrp_run.proofs.BareEvents.{line_bare}
 use Rattle.wrp_run.proofs.BareRuns.{counts_text, inputs_text, lines_text, run_bare}
-use Rattle.wrp_run.proofs.BareSite.{name_bare, named_bare, read_bare}
+use Rattle.wrp_run.proofs.BareSetting.{name_bare, named_bare, read_bare}
 use Rattle.wrp_run.proofs.OneAnswer.{one_setting}
 use Rattle.wrp_run.proofs.OneAudit.{read}
 use Rattle.wrp_run.proofs.Reaching.{lines_alone}
@@ -156,38 +156,38 @@ said_run accepted input audit a =
 abbrev bare_at : NetCfg → Database → Setting
 bare_at cfg db = setting_at (bare_cfg cfg) db
 
-recorded_bare : (site bare : Site) (x : Input) → line_of bare x ≡ line_of site x → read_of bare (line_of site x) ≡ read_of site (line_of site x) → IsRecorded site x → IsRecorded bare x
+recorded_bare : (site bare : LineSetting) (x : Input) → line_of bare x ≡ line_of site x → read_of bare (line_of site x) ≡ read_of site (line_of site x) → IsRecorded site x → IsRecorded bare x
 recorded_bare site bare x line reads recorded = record {
   reads = ap (read_of bare) line ∙ reads ∙ recorded.reads;
   size = subst (λ (l : List ℕ). length l ≤ 8_192) (sym line) recorded.size;
 }
 
-all_bare : (cfg : NetCfg) (db : Database) (n : ℕ) (inputs : List Taken) → AllRecorded (site_in (setting_at cfg db) n) inputs → AllRecorded (site_in (bare_at cfg db) n) inputs
+all_bare : (cfg : NetCfg) (db : Database) (n : ℕ) (inputs : List Taken) → AllRecorded (line_setting_in (setting_at cfg db) n) inputs → AllRecorded (line_setting_in (bare_at cfg db) n) inputs
 all_bare cfg db n [] h = tt
 all_bare cfg db n (t ∷ inputs) h =
-    let site : Site = site_in (setting_at cfg db) n in
-    (recorded_bare site (site_in (bare_at cfg db) n) t.input (line_bare site t.input) (read_bare site (line_of site t.input)) h.0, all_bare cfg db n inputs h.1)
+    let site : LineSetting = line_setting_in (setting_at cfg db) n in
+    (recorded_bare site (line_setting_in (bare_at cfg db) n) t.input (line_bare site t.input) (read_bare site (line_of site t.input)) h.0, all_bare cfg db n inputs h.1)
 
 -- The replay of the inputs that a run gave a node
 
-record Replayed (site : Site) (inputs : List Taken) (last : NodeAt) : Type 0 where
+record Replayed (site : LineSetting) (inputs : List Taken) (last : NodeAt) : Type 0 where
   accepts : Accepts site (map content_of (records_of site inputs)) (written site inputs)
   closes : Closes site (map content_of (records_of site inputs)) (node_counts site last)
 
-replayed_so : (site : Site) (inputs : List Taken) (last : NodeAt) → AllRecorded site inputs → AllSaid inputs → last ≡ node_after (fixed_at site) inputs
-    → AllAnswered (answers_by (law_at site)) (settings_of (fixed_at site)) last.calls → Replayed site inputs last
+replayed_so : (site : LineSetting) (inputs : List Taken) (last : NodeAt) → AllRecorded site inputs → AllSaid inputs → last ≡ node_after (node_setting_at site) inputs
+    → AllAnswered (answers_by (law_at site)) (servo_setting_of (node_setting_at site)) last.calls → Replayed site inputs last
 replayed_so site inputs last recorded said made answered =
     let are : AreInputs site (map content_of (records_of site inputs)) inputs =
     subst (λ (lines : List (List ℕ)). AreInputs site lines inputs) (sym (said_records site inputs recorded)) (are_inputs site inputs recorded) in
-    let by_law : AllAnswered (answers_by (law_at site)) (settings_of (fixed_at site)) (node_after (fixed_at site) inputs).calls =
-    subst (λ (node : NodeAt). AllAnswered (answers_by (law_at site)) (settings_of (fixed_at site)) node.calls) made answered in
+    let by_law : AllAnswered (answers_by (law_at site)) (servo_setting_of (node_setting_at site)) (node_after (node_setting_at site) inputs).calls =
+    subst (λ (node : NodeAt). AllAnswered (answers_by (law_at site)) (servo_setting_of (node_setting_at site)) node.calls) made answered in
     record {
       accepts = (inputs, are, writes site inputs said by_law);
       closes = (inputs, are, record { said = said; answered = by_law }, ap (node_counts site) made);
     }
 
 -- the records that stand for them are due to be replayed
-wholly : (site : Site) (inputs : List Taken) (last : NodeAt) (lines : List (List ℕ)) → lines ≡ records_of site inputs → length lines < 2 ^ 32 → AllRecorded site inputs → Replayed site inputs last
+wholly : (site : LineSetting) (inputs : List Taken) (last : NodeAt) (lines : List (List ℕ)) → lines ≡ records_of site inputs → length lines < 2 ^ 32 → AllRecorded site inputs → Replayed site inputs last
     → IsWholly (meaning_of site) lines (written site inputs ++ node_counts site last)
 wholly site inputs last lines are few recorded replayed =
     subst (λ (ls : List (List ℕ)). IsWholly (meaning_of site) ls (written site inputs ++ node_counts site last)) (sym are)
@@ -208,17 +208,17 @@ wholly site inputs last lines are few recorded replayed =
 -- the audit and the emission, in one network whose names stand without their unused room
 record OneOfBoth (input name audit records : List ℕ) : Type 0 where
   net : Network
-  site : Site
+  site : LineSetting
   network : IsNetworkOf (network_text input) site
   named : node_named site.cfg name ≡ Some site.node
   cfg : NetCfg
   db : Database
-  site_is : site ≡ site_in (setting_at cfg db) site.node
+  site_is : site ≡ line_setting_in (setting_at cfg db) site.node
   words : (m : ℕ) → IsWord (name_at cfg m)
   alone : (m : ℕ) → same_name (name_at cfg m) name ≡ (m == site.node)
   events : List Happened
   run : IsAudit (setting_at cfg db) (map content_of (behind_separator (lines_of input))) events
-  recorded : AllRecorded (site_in (setting_at cfg db) site.node) ((world_after (setting_at cfg db) events).inputs site.node)
+  recorded : AllRecorded (line_setting_in (setting_at cfg db) site.node) ((world_after (setting_at cfg db) events).inputs site.node)
   audit_is : audit ≡ audit_lines (setting_at cfg db) events ++ all_counts (setting_at cfg db) (world_after (setting_at cfg db) events)
   records_are : records ≡ given_lines (setting_at cfg db) site.node events
 
@@ -238,7 +238,7 @@ both_of inputs accepted one input name audit records a e =
     let said : IsSaidRun own a.events = said_run accepted input audit a in
     record {
       net = net;
-      site = site_in c e.node;
+      site = line_setting_in c e.node;
       network = record { net = net; reads = a.setting.reads; cfg = refl; db = refl };
       named = named;
       words = λ m. subst IsWord (sym (name_bare net.cfg m)) (names_are_words net.cfg said.network.names m);
@@ -249,7 +249,7 @@ both_of inputs accepted one input name audit records a e =
       site_is = refl;
       events = a.events;
       run = run;
-      recorded = subst (λ (w : WorldAt). AllRecorded (site_in c e.node) (w.inputs e.node)) world
+      recorded = subst (λ (w : WorldAt). AllRecorded (line_setting_in c e.node) (w.inputs e.node)) world
           (all_bare net.cfg net.db e.node ((world_after own a.events).inputs e.node) (inputs own a.events e.node said));
       audit_is = a.is ∙ ap₂ (λ (x y : List ℕ). x ++ y) (sym (lines_text a.s a.events)) (sym (counts_text a.s a.events))
           ∙ ap (λ (k : Setting). audit_lines k a.events ++ all_counts k (world_after k a.events)) to;
@@ -265,10 +265,10 @@ replay_is : (replaying : List (List ℕ)) (name input replayed audit records : L
 replay_is replaying name input replayed audit records asks within few has b =
     let s : Setting = setting_at b.cfg b.db in
     let n : ℕ = b.site.node in
-    let site : Site = site_in s n in
+    let site : LineSetting = line_setting_in s n in
     let w : WorldAt = world_after s b.events in
     let taken : List Taken = w.inputs n in
-    let named : node_named s.cfg name ≡ Some n = ap (λ (k : Site). node_named k.cfg name) (sym b.site_is) ∙ b.named in
+    let named : node_named s.cfg name ≡ Some n = ap (λ (k : LineSetting). node_named k.cfg name) (sym b.site_is) ∙ b.named in
     let within_nodes : n < node_count s.cfg = (found_place (λ (node : NodeCfg). same_name node.name.bytes name) s.cfg.nodes.items n named).within in
     let said : AllSaid taken = b.run.heard n within_nodes in
     let again : Replayed site taken (w.node n) = replayed_so site taken (w.node n) b.recorded said (made_after s b.events n) (b.run.run.answered n) in

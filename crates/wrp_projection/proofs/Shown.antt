@@ -26,7 +26,7 @@ use Rattle.wrp_node.specs.declared.interface.Output.{Output}
 use Rattle.wrp_node.specs.declared.interface.Output.TheVariants as output
 use Rattle.wrp_node.specs.declared.interface.Report.TheVariants.{Link, Servo, Track}
 use Rattle.wrp_node.specs.NodeAt.{NodeAt}
-use Rattle.wrp_trace.specs.Site.{Site, has_port}
+use Rattle.wrp_trace.specs.LineSetting.{LineSetting, has_port}
 use Rattle.wrp_world.specs.Setting.{from_on}
 use Rattle.wrp_run.specs.Lines.{IsWhole, lines_of}
 use Rattle.wrp_run.specs.NodeText.{node_counts, nonzero_line, port_counts, port_numbers}
@@ -209,7 +209,7 @@ port_shown cfg n m port counters word =
     (count_shown cfg n m port (number_of reason) (count_at counters (number_of reason)) word))
     reasons
 
-counts_shown : (site : Site) (n m : ℕ) (node : NodeAt) → IsWord (name_at site.cfg m) → OfOne site.cfg n m (node_counts (node_of site m) node)
+counts_shown : (site : LineSetting) (n m : ℕ) (node : NodeAt) → IsWord (name_at site.cfg m) → OfOne site.cfg n m (node_counts (node_of site m) node)
 counts_shown site n m node word =
     of_all site.cfg n m (λ port. if has_port (node_of site m) port then port_counts (name_at site.cfg m) port (node.counters port) else [])
     (λ port.
@@ -245,7 +245,7 @@ one_later n h (suc count) first low high =
 
 -- The projection by the octets
 
-projection_shown : (site : Site) (audit replay : List ℕ) → ((m : ℕ) → IsWord (name_at site.cfg m)) → site.node < node_count site.cfg → IsProjection site audit replay → Shown site.cfg site.node audit replay
+projection_shown : (site : LineSetting) (audit replay : List ℕ) → ((m : ℕ) → IsWord (name_at site.cfg m)) → site.node < node_count site.cfg → IsProjection site audit replay → Shown site.cfg site.node audit replay
 projection_shown site audit replay words within is =
     let n : ℕ = site.node in
     let counts : ℕ → List ℕ = λ m. node_counts (node_of site m) (is.last m) in
@@ -260,7 +260,7 @@ projection_shown site audit replay words within is =
     subst (λ (t : List ℕ). Shown site.cfg n t replay) (sym is.of_all)
     (subst (Shown site.cfg n (flat_map (audit_line site.cfg) is.outs ++ flat_map counts (from_on (node_count site.cfg) 0))) short shown)
 
-pub by_octets : (site : Site) (name audit replay : List ℕ) → ((m : ℕ) → IsWord (name_at site.cfg m)) → ((m : ℕ) → same_name (name_at site.cfg m) name ≡ (m == site.node)) → site.node < node_count site.cfg
+pub by_octets : (site : LineSetting) (name audit replay : List ℕ) → ((m : ℕ) → IsWord (name_at site.cfg m)) → ((m : ℕ) → same_name (name_at site.cfg m) name ≡ (m == site.node)) → site.node < node_count site.cfg
     → IsProjection site audit replay → replay ≡ lines_of_node name audit
 by_octets site name audit replay words named within is =
     sym (shown_lines site.cfg name site.node audit replay named (projection_shown site audit replay words within is))

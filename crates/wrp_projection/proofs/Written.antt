@@ -10,7 +10,7 @@ use Rattle.wrp_base.specs.Lines.{parts_of}
 use Rattle.wrp_base.proofs.Lists.{all_append}
 use Rattle.wrp_node.proofs.OneRun.{before_step}
 use Rattle.wrp_node.specs.declared.interface.Input.{Input}
-use Rattle.wrp_node.specs.NodeAt.{Taken, settings_of}
+use Rattle.wrp_node.specs.NodeAt.{Taken, servo_setting_of}
 use Rattle.wrp_node.specs.NodeRun.{AllSaid, node_after, outputs_at}
 use Rattle.wrp_node.specs.OneRun.{answers_by}
 use Rattle.wrp_recorded.specs.Recorded.{IsRecorded}
@@ -18,8 +18,8 @@ use Rattle.wrp_servo.specs.Servo.{AllAnswered}
 use Rattle.wrp_trace.specs.Inputs.{input_of, read_of}
 use Rattle.wrp_trace.specs.Printing.{line_of}
 use Rattle.wrp_fields.specs.Reading.{is_plain, is_plain_octet}
-use Rattle.wrp_trace.specs.Site.{Site}
-use Rattle.wrp_run.specs.DownLaw.{law_at, fixed_at}
+use Rattle.wrp_trace.specs.LineSetting.{LineSetting}
+use Rattle.wrp_run.specs.DownLaw.{law_at, node_setting_at}
 use Rattle.wrp_run.specs.Lines.{HasNoFeed, IsWhole, content_of, without_return}
 use Rattle.wrp_run.specs.NodeText.{Writes, output_lines}
 use Rattle.wrp_run.specs.Replays.{AreInputs}
@@ -28,18 +28,18 @@ use Rattle.wrp_run.proofs.LineEnds.{content_whole, whole_within}
 use Rattle.wrp_run.proofs.OneReplay.{one_more}
 
 -- the record lines of these inputs, which stand newest first, and what they say
-abbrev pub record_of : Site → Taken → List ℕ
+abbrev pub record_of : LineSetting → Taken → List ℕ
 record_of site t = line_of site t.input ++ 10 ∷ []
 
-abbrev pub records_of : Site → List Taken → List (List ℕ)
+abbrev pub records_of : LineSetting → List Taken → List (List ℕ)
 records_of site [] = []
 records_of site (t ∷ before) = records_of site before ++ record_of site t ∷ []
 
-abbrev pub said_of : Site → List Taken → List (List ℕ)
+abbrev pub said_of : LineSetting → List Taken → List (List ℕ)
 said_of site [] = []
 said_of site (t ∷ before) = said_of site before ++ line_of site t.input ∷ []
 
-abbrev pub AllRecorded : Site → List Taken → Type 0
+abbrev pub AllRecorded : LineSetting → List Taken → Type 0
 AllRecorded site inputs = AllByRecursion (λ (t : Taken). IsRecorded site t.input) inputs
 
 pub all_turned : {A : Type 0} (P : A → Type 0) (xs : List A) → AllByRecursion P xs → AllByRecursion P (reverse xs)
@@ -52,7 +52,7 @@ plain_by : (b : Bool) (read : Result Input TraceFault) (x : Input) → (if b the
 plain_by true read x is = refl
 plain_by false read x is = absurd (cc)
 
-plain_of : (site : Site) (line : List ℕ) (x : Input) → read_of site line ≡ Ok x → is_plain line ≡ true
+plain_of : (site : LineSetting) (line : List ℕ) (x : Input) → read_of site line ≡ Ok x → is_plain line ≡ true
 plain_of site line x is = plain_by (is_plain line) (input_of site (parts_of line)) x is
 
 octets_of : (line : List ℕ) → is_plain line ≡ true → list_all is_plain_octet line ≡ true
@@ -95,45 +95,45 @@ content_plain line is = content_clean line (no_returns is_plain_octet (λ c plai
 
 -- The record lines
 
-record_whole : (site : Site) (t : Taken) → IsRecorded site t.input → IsWhole (record_of site t)
+record_whole : (site : LineSetting) (t : Taken) → IsRecorded site t.input → IsWhole (record_of site t)
 record_whole site t recorded =
     record { front = line_of site t.input; is = refl; plain = no_feeds is_plain_octet (λ c plain. (octet_plain c plain).1) (line_of site t.input) (octets_of (line_of site t.input) (plain_of site (line_of site t.input) t.input recorded.reads)) }
 
-pub whole_records : (site : Site) (inputs : List Taken) → AllRecorded site inputs → AllByRecursion IsWhole (records_of site inputs)
+pub whole_records : (site : LineSetting) (inputs : List Taken) → AllRecorded site inputs → AllByRecursion IsWhole (records_of site inputs)
 whole_records site [] h = tt
 whole_records site (t ∷ before) h = all_append IsWhole (records_of site before) (record_of site t ∷ []) (whole_records site before h.1) (record_whole site t h.0, tt)
 
-record_within : (site : Site) (t : Taken) → IsRecorded site t.input → IsWithin (record_of site t)
+record_within : (site : LineSetting) (t : Taken) → IsRecorded site t.input → IsWithin (record_of site t)
 record_within site t recorded =
     let few = recorded.size in
     let size : length (record_of site t) ≡ length (line_of site t.input) + 1 = length-append (line_of site t.input) (10 ∷ []) in
     whole_within (record_of site t) (record_whole site t recorded) (omega (arith, few, size))
 
-pub within_records : (site : Site) (inputs : List Taken) → AllRecorded site inputs → AllByRecursion IsWithin (records_of site inputs)
+pub within_records : (site : LineSetting) (inputs : List Taken) → AllRecorded site inputs → AllByRecursion IsWithin (records_of site inputs)
 within_records site [] h = tt
 within_records site (t ∷ before) h = all_append IsWithin (records_of site before) (record_of site t ∷ []) (within_records site before h.1) (record_within site t h.0, tt)
 
-pub said_records : (site : Site) (inputs : List Taken) → AllRecorded site inputs → map content_of (records_of site inputs) ≡ said_of site inputs
+pub said_records : (site : LineSetting) (inputs : List Taken) → AllRecorded site inputs → map content_of (records_of site inputs) ≡ said_of site inputs
 said_records site [] h = refl
 said_records site (t ∷ before) h =
     map-append content_of (records_of site before) (record_of site t ∷ [])
     ∙ ap (λ (said : List (List ℕ)). said ++ content_of (record_of site t) ∷ []) (said_records site before h.1)
     ∙ ap (λ (said : List ℕ). said_of site before ++ said ∷ []) (content_plain (line_of site t.input) (plain_of site (line_of site t.input) t.input h.0.reads))
 
-pub are_inputs : (site : Site) (inputs : List Taken) → AllRecorded site inputs → AreInputs site (said_of site inputs) inputs
+pub are_inputs : (site : LineSetting) (inputs : List Taken) → AllRecorded site inputs → AreInputs site (said_of site inputs) inputs
 are_inputs site [] h = refl
 are_inputs site (t ∷ before) h = one_more site (said_of site before) before (line_of site t.input) t (are_inputs site before h.1) h.0.reads
 
 -- What the run over them writes
 
-abbrev pub written : Site → List Taken → List ℕ
+abbrev pub written : LineSetting → List Taken → List ℕ
 written site [] = []
 written site (t ∷ before) =
-    written site before ++ output_lines site (node_after (fixed_at site) (t ∷ before)).ticks (outputs_at (fixed_at site) before t)
+    written site before ++ output_lines site (node_after (node_setting_at site) (t ∷ before)).ticks (outputs_at (node_setting_at site) before t)
 
-pub writes : (site : Site) (inputs : List Taken) → AllSaid inputs → AllAnswered (answers_by (law_at site)) (settings_of (fixed_at site)) (node_after (fixed_at site) inputs).calls
+pub writes : (site : LineSetting) (inputs : List Taken) → AllSaid inputs → AllAnswered (answers_by (law_at site)) (servo_setting_of (node_setting_at site)) (node_after (node_setting_at site) inputs).calls
     → Writes site inputs (written site inputs)
 writes site [] said answered = refl
 writes site (t ∷ before) said answered =
-    let earlier = before_step (law_at site) (fixed_at site) t (node_after (fixed_at site) before) answered in
-    (written site before, outputs_at (fixed_at site) before t, writes site before said.1 earlier, record { said = said; answered = answered; outputs = refl }, refl)
+    let earlier = before_step (law_at site) (node_setting_at site) t (node_after (node_setting_at site) before) answered in
+    (written site before, outputs_at (node_setting_at site) before t, writes site before said.1 earlier, record { said = said; answered = answered; outputs = refl }, refl)

@@ -9,7 +9,7 @@ use Rattle.wrp_config.specs.Names.{node_named}
 use Rattle.wrp_lines.specs.Lines.{output_line}
 use Rattle.wrp_node.specs.declared.interface.Output.{Output}
 use Rattle.wrp_node.specs.NodeAt.{NodeAt}
-use Rattle.wrp_trace.specs.Site.{Site}
+use Rattle.wrp_trace.specs.LineSetting.{LineSetting}
 use Rattle.wrp_world.specs.Setting.{from_on}
 use Rattle.wrp_run.specs.Lines.{content_of, lines_of}
 use Rattle.wrp_run.specs.NodeText.{node_counts}
@@ -57,13 +57,13 @@ abbrev pub of_node : ℕ → List PutOut → List PutOut
 of_node n outs = filter (λ x. x.node == n) outs
 
 -- another node of the network
-abbrev pub node_of : Site → ℕ → Site
+abbrev pub node_of : LineSetting → ℕ → LineSetting
 node_of site n = record site { node = n }
 
 -- Of one run an audit and a replay are the texts: the audit has the line of all that its nodes put out,
 -- and then the counters that are not 0 of all nodes; the replay has the line of what this node put out,
 -- without the true offset, and then the counters of this node
-pub record IsProjection (site : Site) (audit replay : List ℕ) : Type 0 where
+pub record IsProjection (site : LineSetting) (audit replay : List ℕ) : Type 0 where
   pub outs : List PutOut
   pub last : ℕ → NodeAt
   pub of_all : audit ≡
@@ -75,7 +75,7 @@ pub record IsProjection (site : Site) (audit replay : List ℕ) : Type 0 where
 -- the replay of the node of a name is that of the audit, in the network that a text describes: by the
 -- run, and by the octets alone
 pub record IsProjectionTo (text name audit replay : List ℕ) : Type 0 where
-  pub site : Site
+  pub site : LineSetting
   pub network : IsNetworkOf text site
   pub named : node_named site.cfg name ≡ Some site.node
   pub is : IsProjection site audit replay

@@ -16,7 +16,7 @@ use Rattle.wrp_node.specs.declared.interface.Input.{Input}
 use Rattle.wrp_node.specs.declared.interface.Input.TheVariants as inputs
 use Rattle.wrp_node.specs.NodeAt.{numbers_of}
 use Rattle.wrp_trace.specs.InputAt.{FitsTypes, IsInputAt}
-use Rattle.wrp_trace.specs.Site.{Site, has_port, is_grandmaster, site_in}
+use Rattle.wrp_trace.specs.LineSetting.{LineSetting, has_port, is_grandmaster, line_setting_in}
 use Rattle.wrp_world.specs.Checks.{AllHold}
 use Rattle.wrp_world.specs.declared.event.Event.{Event}
 use Rattle.wrp_world.specs.declared.event.Event.TheVariants.{Pass, Tick, Sample, Depart, Arrive, Deliver, Noise, Down, Up, Cut, Join}
@@ -34,12 +34,12 @@ use Rattle.wrp_recorded.proofs.Kept.{CameSo, FrameSo, Keeps, WaitShort, moved_ke
 use Rattle.wrp_recorded.proofs.Ports.{has_parent, here, listed, port_at_end, port_at_place}
 use Rattle.wrp_recorded.proofs.Sends.{HasShortId}
 
-pub record Fits (site : Site) (x : Input) : Type 0 where
+pub record Fits (site : LineSetting) (x : Input) : Type 0 where
   pub may : IsInputAt site x
   pub types : FitsTypes x
 
 abbrev pub GiftsFit : Setting → List Given → Type 0
-GiftsFit s gifts = AllByRecursion (λ (g : Given). Fits (site_in s g.to) g.input) gifts
+GiftsFit s gifts = AllByRecursion (λ (g : Given). Fits (line_setting_in s g.to) g.input) gifts
 
 both : (s : Setting) (xs ys : List Given) → GiftsFit s xs → GiftsFit s ys → GiftsFit s (xs ++ ys)
 both s [] ys h k = k
@@ -51,13 +51,13 @@ only s false xs h = tt
 
 -- Samples
 
-sampled : (s : Setting) (w : WorldAt) (n base bits : ℕ) (o : Option ℕ) → above s n ≡ o → AllHold (sample_checks s w n base bits o) → is_grandmaster (site_in s n) ≡ false
+sampled : (s : Setting) (w : WorldAt) (n base bits : ℕ) (o : Option ℕ) → above s n ≡ o → AllHold (sample_checks s w n base bits o) → is_grandmaster (line_setting_in s n) ≡ false
 sampled s w n base bits None is holds = absurd (let never : not false ≡ false = holds.0 in cc)
 sampled s w n base bits (Some k) is holds = has_parent s n k is
 
 -- Departures
 
-told_fits : (s : Setting) (n p seq : ℕ) (stamp : ℤ) (samples : ℕ) (body : Body) → has_port (site_in s n) p ≡ true → p < 2 ^ 16 → IsTime stamp → samples < 2 ^ 32 → HasShortId body seq
+told_fits : (s : Setting) (n p seq : ℕ) (stamp : ℤ) (samples : ℕ) (body : Body) → has_port (line_setting_in s n) p ≡ true → p < 2 ^ 16 → IsTime stamp → samples < 2 ^ 32 → HasShortId body seq
     → GiftsFit s (told_sending n p seq stamp samples body)
 told_fits s n p seq stamp samples (Sync origin) has small time few id = (record { may = (has, time); types = (small, id, few) }, tt)
 told_fits s n p seq stamp samples (DelayReq origin) has small time few id = (record { may = (has, time); types = (small, id, few) }, tt)
@@ -66,7 +66,7 @@ told_fits s n p seq stamp samples (DelayResp receive requesting) has small time 
 told_fits s n p seq stamp samples (Announce origin utc p1 quality p2 gm steps source suffix) has small time few id = tt
 told_fits s n p seq stamp samples (Signal target message) has small time few id = tt
 
-oldest_fits : (s : Setting) (n p : ℕ) (stamp : ℤ) (samples : ℕ) (waiting : List Sending) → has_port (site_in s n) p ≡ true → p < 2 ^ 16 → IsTime stamp → samples < 2 ^ 32 → WaitShort waiting
+oldest_fits : (s : Setting) (n p : ℕ) (stamp : ℤ) (samples : ℕ) (waiting : List Sending) → has_port (line_setting_in s n) p ≡ true → p < 2 ^ 16 → IsTime stamp → samples < 2 ^ 32 → WaitShort waiting
     → GiftsFit s (sent_oldest n p stamp samples waiting)
 oldest_fits s n p stamp samples [] has small time few short = tt
 oldest_fits s n p stamp samples (oldest ∷ rest) has small time few short = told_fits s n p oldest.message.head.seq stamp samples oldest.message.body has small time few short.0
@@ -101,7 +101,7 @@ noised : (s : Setting) (w : WorldAt) (n p : ℕ) (says : Result PtpMsg FrameFaul
 noised s w n p says None holds is = let never : not false ≡ false = holds.0 in cc
 noised s w n p says (Some place) holds is = cc
 
-noise_at : PortIsOfOneLink → (s : Setting) → IsAccepted s.cfg s.db → (n p : ℕ) (o : Option Place) → place_of s n p ≡ o → (o ≡ None → ⊥) → (has_port (site_in s n) p ≡ true) × (p < 2 ^ 16)
+noise_at : PortIsOfOneLink → (s : Setting) → IsAccepted s.cfg s.db → (n p : ℕ) (o : Option Place) → place_of s n p ≡ o → (o ≡ None → ⊥) → (has_port (line_setting_in s n) p ≡ true) × (p < 2 ^ 16)
 noise_at ports s accepted n p None is some = absurd (some refl)
 noise_at ports s accepted n p (Some place) is some =
     let at = port_at_place ports s accepted n p place is in

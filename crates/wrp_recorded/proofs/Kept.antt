@@ -18,7 +18,7 @@ use Rattle.wrp_world.specs.EventAt.{IsRaw}
 use Rattle.wrp_world.specs.Given.{Given, clock_told, end_given, given_by, gives, gives_all, sending, step_of, taken_of}
 use Rattle.wrp_world.specs.Moved.{arrived, behind_first, clock_after, departing, end_after, frame_after, is_place, loses, moved, port_number, removed, samples_at, swap_at, waiting_at, with_swap}
 use Rattle.wrp_world.specs.Run.{Happened, world_after}
-use Rattle.wrp_world.specs.Setting.{Setting, end_at, fixed_of, is_of, place_of}
+use Rattle.wrp_world.specs.Setting.{Setting, end_at, node_setting_of, is_of, place_of}
 use Rattle.wrp_world.specs.WorldAt.{Arrival, EndAt, FrameAt, Sending, WorldAt}
 use Rattle.wrp_recorded.specs.Ranges.{IsRanged}
 use Rattle.wrp_recorded.specs.Recorded.{AllSaidByLines}
@@ -178,7 +178,7 @@ given_keeps s y v g keeps =
     let step : Step = step_of s y v g in
     record {
       samples = λ n. let same = told_samples (n == g.to) s v g step.cycles (v.clock n) in let old = keeps.samples n in omega (arith, same, old);
-      waiting = λ k r. end_short (is_of g.to (end_at s k r)) s v g step k r (end_at s k r) (keeps.waiting k r) (λ p. node_short (fixed_of s g.to) (taken_of y g) (v.node g.to) p);
+      waiting = λ k r. end_short (is_of g.to (end_at s k r)) s v g step k r (end_at s k r) (keeps.waiting k r) (λ p. node_short (node_setting_of s g.to) (taken_of y g) (v.node g.to) p);
       frames = λ i. keeps.frames i;
     }
 

@@ -16,7 +16,7 @@ use Rattle.wrp_node.specs.declared.interface.Input.{Input}
 use Rattle.wrp_node.specs.declared.interface.Input.TheVariants.{Tick, Sample, Frame, Sent, Carrier, Reset}
 use Rattle.wrp_trace.specs.InputAt.{FitsTypes, IsInputAt, IsListed}
 use Rattle.wrp_trace.specs.Printing.{bits_text, line_of, message_text, module_text, texts_of}
-use Rattle.wrp_trace.specs.Site.{Site}
+use Rattle.wrp_trace.specs.LineSetting.{LineSetting}
 use Rattle.wrp_trace.proofs.Listed.{plain_name, printed_name}
 use Rattle.wrp_world.specs.EventAt.{IsTime}
 
@@ -60,7 +60,7 @@ name_brief (c ∷ cs) is =
     let few : length cs ≤ 15 = leb-true (length cs) 15 rest.1 in
     omega (arith, few)
 
-module_brief : (site : Site) (port : ℕ) (entry : Option Module) → IsSoundDatabase site.db → IsListed site port entry → IsBrief (module_text site port entry)
+module_brief : (site : LineSetting) (port : ℕ) (entry : Option Module) → IsSoundDatabase site.db → IsListed site port entry → IsBrief (module_text site port entry)
 module_brief site port None sound listed = omega arith
 module_brief site port (Some values) sound listed =
     let found = printed_name site port values sound listed in
@@ -70,7 +70,7 @@ message_brief : (delay : Bool) → IsBrief (message_text delay)
 message_brief true = omega arith
 message_brief false = omega arith
 
-texts_brief : (site : Site) (x : Input) → IsSoundDatabase site.db → IsInputAt site x → FitsTypes x → AllByRecursion IsBrief (texts_of site x) × (length (texts_of site x) ≤ 7)
+texts_brief : (site : LineSetting) (x : Input) → IsSoundDatabase site.db → IsInputAt site x → FitsTypes x → AllByRecursion IsBrief (texts_of site x) × (length (texts_of site x) ≤ 7)
 texts_brief site Tick sound is fits = ((omega arith, tt), omega arith)
 texts_brief site (Sample n base bits) sound is fits =
     let low = is.1 in
@@ -113,7 +113,7 @@ texts_brief site (Carrier port false entry) sound is fits =
     ((omega arith, (short_brief port (omega (arith, a)), tt)), omega arith)
 texts_brief site Reset sound is fits = ((omega arith, tt), omega arith)
 
-pub line_size : (site : Site) (x : Input) → IsSoundDatabase site.db → IsInputAt site x → FitsTypes x → length (line_of site x) ≤ 8_192
+pub line_size : (site : LineSetting) (x : Input) → IsSoundDatabase site.db → IsInputAt site x → FitsTypes x → length (line_of site x) ≤ 8_192
 line_size site x sound is fits =
     let brief = texts_brief site x sound is fits in
     let size : length (line_of site x) ≤ 513 * length (texts_of site x) = joined_size (texts_of site x) brief.0 in

@@ -14,7 +14,7 @@ use Rattle.wrp_config.specs.Accepted.{IsAccepted}
 use Rattle.wrp_config.specs.Laws.{PortIsOfOneLink}
 use Rattle.wrp_config.specs.Names.{pair_at}
 use Rattle.wrp_trace.specs.InputAt.{IsListed}
-use Rattle.wrp_trace.specs.Site.{Site, has_port, is_grandmaster, module_of, site_in}
+use Rattle.wrp_trace.specs.LineSetting.{LineSetting, has_port, is_grandmaster, module_of, line_setting_in}
 use Rattle.wrp_world.specs.declared.place.Place.{Place}
 use Rattle.wrp_world.specs.Setting.{Setting, above, end_at, end_of, entry_at, link_of, place_of, sends_nm}
 use Rattle.wrp_world.proofs.RunNetwork.{LinkEnd, end_with, link_end, place_end}
@@ -44,17 +44,17 @@ port_at_end ports s accepted k r end is = port_of_end ports s accepted k r end (
 pub port_at_place : PortIsOfOneLink → (s : Setting) → IsAccepted s.cfg s.db → (n p : ℕ) (place : Place) → place_of s n p ≡ Some place → PortAt s place.link place.role (end_with n p)
 port_at_place ports s accepted n p place is = port_of_end ports s accepted place.link place.role (end_with n p) (place_end s n p place is)
 
-pub here : (s : Setting) (k : ℕ) (r : Role) (end : End) → PortAt s k r end → has_port (site_in s end.node) end.port ≡ true
+pub here : (s : Setting) (k : ℕ) (r : Role) (end : End) → PortAt s k r end → has_port (line_setting_in s end.node) end.port ≡ true
 here s k r end at = ap is_some at.pair
 
 -- modules
-listed_by : (site : Site) (port : ℕ) (name : List ℕ) (entry : Option Module) → module_of site port name ≡ entry → IsListed site port entry
+listed_by : (site : LineSetting) (port : ℕ) (name : List ℕ) (entry : Option Module) → module_of site port name ≡ entry → IsListed site port entry
 listed_by site port name None is = tt
 listed_by site port name (Some values) is = (name, is)
 
-pub listed : (s : Setting) (k : ℕ) (r : Role) (end : End) (name : List ℕ) → PortAt s k r end → IsListed (site_in s end.node) end.port (entry_at s k r name)
+pub listed : (s : Setting) (k : ℕ) (r : Role) (end : End) (name : List ℕ) → PortAt s k r end → IsListed (line_setting_in s end.node) end.port (entry_at s k r name)
 listed s k r end name at =
-    listed_by (site_in s end.node) end.port name (entry_at s k r name)
+    listed_by (line_setting_in s end.node) end.port name (entry_at s k r name)
     (ap (option_and_then (λ (pair : ℕ × ℕ). module_at s.db name pair.0 pair.1)) at.pair
     ∙ sym (ap (option_and_then (λ (link : LinkCfg). module_at s.db name (sends_nm r link) (sends_nm (other_of r) link))) at.there))
 
@@ -69,5 +69,5 @@ found_by : {A : Type 0} (p : A → Bool) (xs : List A) (k : ℕ) (b : Bool) → 
 found_by p xs k true below is = ap is_none (find_at p xs) ∙ stands_there xs (position_or_len p xs) (ltb-true (position_or_len p xs) (length xs) below)
 found_by p xs k false below is = absurd (cc)
 
-pub has_parent : (s : Setting) (n k : ℕ) → above s n ≡ Some k → is_grandmaster (site_in s n) ≡ false
+pub has_parent : (s : Setting) (n k : ℕ) → above s n ≡ Some k → is_grandmaster (line_setting_in s n) ≡ false
 has_parent s n k is = found_by (λ (link : LinkCfg). link.lower == n) s.cfg.links.items k (nat_lt (position_or_len (λ (link : LinkCfg). link.lower == n) s.cfg.links.items) (length s.cfg.links.items)) refl is

@@ -15,7 +15,7 @@ use Rattle.wrp_link.specs.declared.interface.LinkIn.TheVariants as link
 use Rattle.wrp_link.specs.Table.{sends_of as link_sends_of}
 use Rattle.wrp_node.specs.declared.interface.Input.{Input}
 use Rattle.wrp_node.specs.declared.interface.Input.TheVariants as inputs
-use Rattle.wrp_node.specs.NodeAt.{Fixed, NodeAt, Taken, line_at, link_at, setting_of}
+use Rattle.wrp_node.specs.NodeAt.{NodeSetting, NodeAt, Taken, line_at, link_at, setting_of}
 use Rattle.wrp_node.specs.NodeStep.{heard_unless, message_of, node_step, servo_ticked, stepped, tick_of}
 use Rattle.wrp_port.specs.declared.interface.PortIn.{PortIn}
 use Rattle.wrp_port.specs.declared.interface.PortIn.TheVariants.{Msg, Lease, Tick, Sent, Carrier, Sample, Chain, Reset}
@@ -103,11 +103,11 @@ port_short set told Reset = tt
 
 -- A node
 
-reason_short : (fixed : Fixed) (q : ℕ) (input : PortIn) (answer : ℤ) (n : NodeAt) (p : ℕ) (o : Option Reason) → AreShort ((heard_unless o fixed q input answer n).sends p)
+reason_short : (fixed : NodeSetting) (q : ℕ) (input : PortIn) (answer : ℤ) (n : NodeAt) (p : ℕ) (o : Option Reason) → AreShort ((heard_unless o fixed q input answer n).sends p)
 reason_short fixed q input answer n p None = only_short (p == q) (sends_of (setting_of fixed.set q) (line_at fixed.set n q) input) (port_short (setting_of fixed.set q) (n.told q) input)
 reason_short fixed q input answer n p (Some reason) = tt
 
-stepped_short : (fixed : Fixed) (input : Input) (says : Result PtpMsg FrameFault) (answer : ℤ) (n : NodeAt) (p : ℕ) → AreShort ((stepped fixed input says answer n).sends p)
+stepped_short : (fixed : NodeSetting) (input : Input) (says : Result PtpMsg FrameFault) (answer : ℤ) (n : NodeAt) (p : ℕ) → AreShort ((stepped fixed input says answer n).sends p)
 stepped_short fixed inputs.Tick says answer n p =
     let before : NodeAt = (servo_ticked fixed n).node in
     port_short (setting_of fixed.set p) (before.told p) (tick_of fixed before)
@@ -121,5 +121,5 @@ stepped_short fixed (inputs.Carrier q up own_module) says answer n p =
     only_short (p == q) (sends_of (setting_of fixed.set q) (line_at fixed.set n q) (Carrier up own_module)) (port_short (setting_of fixed.set q) (n.told q) (Carrier up own_module))
 stepped_short fixed inputs.Reset says answer n p = tt
 
-pub node_short : (fixed : Fixed) (t : Taken) (n : NodeAt) (p : ℕ) → AreShort ((node_step fixed t n).sends p)
+pub node_short : (fixed : NodeSetting) (t : Taken) (n : NodeAt) (p : ℕ) → AreShort ((node_step fixed t n).sends p)
 node_short fixed t n p = stepped_short fixed t.input t.says t.answer n p

@@ -9,7 +9,7 @@ use Rattle.wrp_node.specs.NodeAt.{Taken}
 use Rattle.wrp_trace.specs.Events.{event_read}
 use Rattle.wrp_trace.specs.Inputs.{read_of}
 use Rattle.wrp_trace.specs.Printing.{line_of}
-use Rattle.wrp_trace.specs.Site.{Site, site_in}
+use Rattle.wrp_trace.specs.LineSetting.{LineSetting, line_setting_in}
 use Rattle.wrp_world.specs.Run.{AllAccepted, Happened, world_after}
 use Rattle.wrp_world.specs.Setting.{Setting}
 
@@ -27,7 +27,7 @@ pub record IsSaidRun (s : Setting) (events : List Happened) : Type 0 where
   pub few : length events < 2 ^ 32
 
 -- the line of an input reads back as the input, and is no longer than a record line may be
-pub record IsRecorded (site : Site) (x : Input) : Type 0 where
+pub record IsRecorded (site : LineSetting) (x : Input) : Type 0 where
   pub reads : read_of site (line_of site x) ≡ Ok x
   pub size : length (line_of site x) ≤ 8_192
 
@@ -35,4 +35,4 @@ pub record IsRecorded (site : Site) (x : Input) : Type 0 where
 abbrev pub InputsAreRecorded : Type 0
 InputsAreRecorded =
     (s : Setting) (events : List Happened) (n : ℕ) → IsSaidRun s events →
-    AllByRecursion (λ (t : Taken). IsRecorded (site_in s n) t.input) ((world_after s events).inputs n)
+    AllByRecursion (λ (t : Taken). IsRecorded (line_setting_in s n) t.input) ((world_after s events).inputs n)

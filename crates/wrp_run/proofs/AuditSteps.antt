@@ -14,7 +14,7 @@ use Rattle.wrp_law.specs.Law.{LawOf}
 use Rattle.wrp_node.specs.Control.{law_in}
 use Rattle.wrp_bounds.specs.Bounds.{path_of}
 use Rattle.wrp_lines.specs.Lines.{output_line_of}
-use Rattle.wrp_node.specs.NodeAt.{Fixed, Taken as TakenInput, NodeAt, settings_of, slave_in}
+use Rattle.wrp_node.specs.NodeAt.{NodeSetting, Taken as TakenInput, NodeAt, servo_setting_of, slave_in}
 use Rattle.wrp_node.specs.declared.interface.Output.{Output}
 use Rattle.wrp_node.specs.NodeRun.{node_after}
 use Rattle.wrp_node.specs.NodeStep.{node_step}
@@ -23,7 +23,7 @@ use Rattle.wrp_node.specs.StandsFor.{NodeOf, StandsFor as NodeStandsFor}
 use Rattle.wrp_node.proofs.OwnPorts.{slave_is_above}
 use Rattle.wrp_servo.specs.Servo.{AllAnswered}
 use Rattle.wrp_trace.specs.Events.{event_read, plain}
-use Rattle.wrp_trace.specs.Site.{site_in}
+use Rattle.wrp_trace.specs.LineSetting.{line_setting_in}
 use Rattle.wrp_fields.specs.Reading.{IsReading}
 use Rattle.wrp_world.specs.Checks.{AllHold, told_of}
 use Rattle.wrp_world.specs.declared.event.Event.{Event}
@@ -32,7 +32,7 @@ use Rattle.wrp_world.specs.declared.outcome.Refused.TheVariants.{Broken}
 use Rattle.wrp_world.specs.Given.{Given, given_by, gives, gives_all, step_of, taken_of, world_step}
 use Rattle.wrp_world.specs.Moved.{moved}
 use Rattle.wrp_world.specs.Run.{Happened, IsAnswered, world_after, steps_at}
-use Rattle.wrp_world.specs.Setting.{Setting, fixed_of}
+use Rattle.wrp_world.specs.Setting.{Setting, node_setting_of}
 use Rattle.wrp_world.specs.StandsFor.{IsValid, StandsFor, WorldOf}
 use Rattle.wrp_world.specs.Step.{IsRefusal, StaysSo, Stepped, step_seen}
 use Rattle.wrp_world.specs.WorldAt.{WorldAt}
@@ -56,16 +56,16 @@ use Rattle.wrp_run.proofs.Runs.{no_calls, run_of}
 -- Each node of a world is what its inputs made of it
 
 abbrev IsMade : Setting → WorldAt → Type 0
-IsMade s w = (n : ℕ) → w.node n ≡ node_after (fixed_of s n) (w.inputs n)
+IsMade s w = (n : ℕ) → w.node n ≡ node_after (node_setting_of s n) (w.inputs n)
 
 pub made_given : (s : Setting) (y : ℤ) (v : WorldAt) (g : Given) → IsMade s v → IsMade s (gives s y v g)
 made_given s y v g made n = go (n == g.to) refl
   where
-    go : (b : Bool) → (n == g.to) ≡ b → (if b then (step_of s y v g).node else v.node n) ≡ node_after (fixed_of s n) (if b then taken_of y g ∷ v.inputs n else v.inputs n)
+    go : (b : Bool) → (n == g.to) ≡ b → (if b then (step_of s y v g).node else v.node n) ≡ node_after (node_setting_of s n) (if b then taken_of y g ∷ v.inputs n else v.inputs n)
     go true is =
         let same : g.to ≡ n = grind (arith, is) in
-        subst (λ (k : ℕ). (step_of s y v g).node ≡ node_after (fixed_of s k) (taken_of y g ∷ v.inputs k)) same
-        (ap (λ (node : NodeAt). (node_step (fixed_of s g.to) (taken_of y g) node).node) (made g.to))
+        subst (λ (k : ℕ). (step_of s y v g).node ≡ node_after (node_setting_of s k) (taken_of y g ∷ v.inputs k)) same
+        (ap (λ (node : NodeAt). (node_step (node_setting_of s g.to) (taken_of y g) node).node) (made g.to))
     go false is = made n
 
 made_all : (s : Setting) (y : ℤ) (v : WorldAt) (gs : List Given) → IsMade s v → IsMade s (gives_all s y v gs)
@@ -110,15 +110,15 @@ answered {F} {post = post} net w world tree counted stands laws made n = go (lin
     s : Setting
     s = setting_in net
 
-    go : (above : Option LinkCfg) → link_above net.cfg n ≡ above → AllAnswered (answers_in s n) (settings_of (fixed_of s n)) (w.node n).calls
+    go : (above : Option LinkCfg) → link_above net.cfg n ≡ above → AllAnswered (answers_in s n) (servo_setting_of (node_setting_of s n)) (w.node n).calls
     go None is =
-        let none : (w.node n).calls ≡ [] = ap (λ (node : NodeAt). node.calls) (made n) ∙ no_calls (fixed_of s n) (w.inputs n) (none_slave net.cfg n is) in
-        subst (AllAnswered (answers_in s n) (settings_of (fixed_of s n))) (sym none) tt
+        let none : (w.node n).calls ≡ [] = ap (λ (node : NodeAt). node.calls) (made n) ∙ no_calls (node_setting_of s n) (w.inputs n) (none_slave net.cfg n is) in
+        subst (AllAnswered (answers_in s n) (servo_setting_of (node_setting_of s n))) (sym none) tt
     go (Some link) is =
         let below : n < node_count net.cfg = below_count net.cfg n link tree is in
         let item = has_item world.nodes n (omega (arith, below, counted)) in
-        let run = run_of {post = post} (law_at (site_in s n)) (fixed_of s n) item.0 (w.inputs n) (stands.nodes n item.0 item.1).stands (laws n item.0 item.1) in
-        subst (λ (node : NodeAt). AllAnswered (answers_in s n) (settings_of (fixed_of s n)) node.calls) (sym (made n)) run.answered
+        let run = run_of {post = post} (law_at (line_setting_in s n)) (node_setting_of s n) item.0 (w.inputs n) (stands.nodes n item.0 item.1).stands (laws n item.0 item.1) in
+        subst (λ (node : NodeAt). AllAnswered (answers_in s n) (servo_setting_of (node_setting_of s n)) node.calls) (sym (made n)) run.answered
 
 -- Frames are read as their octets say
 
@@ -259,7 +259,7 @@ pub laws_stay : {F : Type 0} (post : F → ℤ → ℤ → Type 0) (s : Setting)
     → map (λ (node : NodeOf F). law_in node.control) new.nodes ≡ map (λ (node : NodeOf F). law_in node.control) old.nodes → HasLawOf post s old → HasLawOf post s new
 laws_stay {F} post s old new same has n node is =
     let law : NodeOf F → Option (LawOf F) = λ node. law_in node.control in
-    law_kept (AnswersBy post (law_at (site_in s n))) node (slice_get old.nodes n)
+    law_kept (AnswersBy post (law_at (line_setting_in s n))) node (slice_get old.nodes n)
     (sym (slice_get-map law new.nodes n ∙ ap (option_map law) is) ∙ ap (λ (laws : List (Option (LawOf F))). slice_get laws n) same ∙ slice_get-map law old.nodes n)
     (λ b at. has n b at)
 
@@ -287,12 +287,12 @@ nothing_accepted (Some n) s = ([], nothing_audited s, refl)
 -- The lines of a step
 
 pub step_text : {F : Type 0} (post : F → ℤ → ℤ → Type 0) (s : Setting) (w : WorldAt) (world : WorldOf F) (out : NodeOut) (node : NodeOf F) (ticks : ℕ) (off : ℤ) (name : List ℕ) (bound : ℤ) (lent : List Output) (text old : List ℕ) → StandsFor post s w world
-    → slice_get world.nodes out.node ≡ Some node → ((fixed : Fixed) (inputs : List TakenInput) → NodeStandsFor post fixed node inputs → ticks ≡ (node_after fixed inputs).ticks)
+    → slice_get world.nodes out.node ≡ Some node → ((fixed : NodeSetting) (inputs : List TakenInput) → NodeStandsFor post fixed node inputs → ticks ≡ (node_after fixed inputs).ticks)
     → ((s : Setting) (w : WorldAt) → StandsFor post s w world → off ≡ (w.clock out.node).off) → name ≡ name_at world.plant.net.cfg out.node → bound ≡ pos (path_of world.plant.net.cfg out.node)
     → lent ≡ out.outs.items → text ≡ old ++ flat_map (λ o. output_line_of name ticks o bound (Some off)) lent → text ≡ old ++ step_lines s w (step_seen out)
 step_text post s w world out node ticks off name bound lent text old stands is ticked offs named bounded lends wrote =
     let ticks_are : ticks ≡ (w.node out.node).ticks =
-    ticked (fixed_of s out.node) (w.inputs out.node) (stands.nodes out.node node is).stands ∙ ap (λ (n : NodeAt). n.ticks) (sym (stands.nodes out.node node is).at) in
+    ticked (node_setting_of s out.node) (w.inputs out.node) (stands.nodes out.node node is).stands ∙ ap (λ (n : NodeAt). n.ticks) (sym (stands.nodes out.node node is).at) in
     let name_is : name ≡ name_at s.cfg out.node = named ∙ ap (λ (cfg : NetCfg). name_at cfg out.node) stands.plant.cfg in
     let bound_is : bound ≡ pos (path_of s.cfg out.node) = bounded ∙ ap (λ (cfg : NetCfg). pos (path_of cfg out.node)) stands.plant.cfg in
     wrote ∙ (λ i. old ++ flat_map (λ o. output_line_of (name_is i) (ticks_are i) o (bound_is i) (Some (offs s w stands i))) (lends i))

@@ -31,10 +31,10 @@ use Rattle.wrp_world.specs.Given.{Given, NodeStepAt, at_ports, comes_from, deliv
 use Rattle.wrp_world.specs.Run.{Happened, steps_at, world_after}
 use Rattle.wrp_world.specs.Moved.{moved, arrived, behind_first, departing, drift_of, is_place, one_more, samples_at, swap_at, with_swap, waiting_at}
 use Rattle.wrp_world.specs.Premises.{arrive_checks, beat_by, beat_checks, checks, checks_of, deliver_by, deliver_checks, depart_checks, entry_for, fibre_checks, fibre_kept, fibre_rate, is_forged, is_holdover, module_checks, module_kept, noise_checks, pass_checks, rate_checks, rate_of, raw_checks, received, sample_checks, swap_stands, tick_late, too_old, transition_of, true_at_top}
-use Rattle.wrp_world.specs.Setting.{Setting, above, end_at, end_of, entry_at, fixed_of, from_on, is_of, is_role, link_of, links_of, nodes_of, of_node, place_among, place_of, sends_nm}
+use Rattle.wrp_world.specs.Setting.{Setting, above, end_at, end_of, entry_at, node_setting_of, from_on, is_of, is_role, link_of, links_of, nodes_of, of_node, place_among, place_of, sends_nm}
 use Rattle.wrp_world.specs.WorldAt.{Arrival, FrameAt, Sending, WorldAt, ends_are_up, first_name, has_carrier, is_on_fibre, named_at, new_end, new_world, phase_of, reading}
 use Rattle.wrp_run.specs.Audited.{setting_at}
-use Rattle.wrp_run.proofs.BareSite.{fixed_bare, flat_map_same, set_bare}
+use Rattle.wrp_run.proofs.BareSetting.{fixed_bare, flat_map_same, set_bare}
 
 -- a setting whose network's names stand without their unused room
 abbrev pub bare_setting : Setting → Setting
@@ -251,8 +251,8 @@ pub rates_bare : (s : Setting) → rate_of (bare_setting s) ≡ rate_of s
 rates_bare s = λ i w n.
     if not (tops_bare s i n) then Some 0
     else (if not (w.clock n).up then None
-    else (if locked_of (fixed_of s n) (w.node n) then Some (number_bare (λ node. node.slew) (λ node. refl) s i n)
-    else (if is_holdover (state_of (fixed_of s n) (w.node n)) then Some (number_bare (λ node. node.held) (λ node. refl) s i n) else None)))
+    else (if locked_of (node_setting_of s n) (w.node n) then Some (number_bare (λ node. node.slew) (λ node. refl) s i n)
+    else (if is_holdover (state_of (node_setting_of s n) (w.node n)) then Some (number_bare (λ node. node.held) (λ node. refl) s i n) else None)))
 
 fibre_over : (s : Setting) (v : WorldAt) (k : ℕ) (o : Option LinkCfg) →
     option_map_or (fibre_checks (bare_setting s) v k) (option_map bare_link o) [] ≡ option_map_or (fibre_checks s v k) o []

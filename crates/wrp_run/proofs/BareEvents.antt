@@ -20,8 +20,8 @@ use Rattle.wrp_trace.specs.EventKinds.{kind_of}
 use Rattle.wrp_trace.specs.Events.{counted_of, event_of, event_read, fields_of_kind, pass_with}
 use Rattle.wrp_trace.specs.Printing.{line_of}
 use Rattle.wrp_fields.specs.Reading.{field_of, ◌>>=◌}
-use Rattle.wrp_trace.specs.Site.{Site}
-use Rattle.wrp_run.proofs.BareSite.{bare_site, bind_same, named_bare, pair_bare}
+use Rattle.wrp_trace.specs.LineSetting.{LineSetting}
+use Rattle.wrp_run.proofs.BareSetting.{bare_setting, bind_same, named_bare, pair_bare}
 use Rattle.wrp_run.proofs.BareScene.{link_read, node_read}
 
 -- Names
@@ -87,7 +87,7 @@ event_bare cfg line = rw (of_bare cfg (parts_of line)) refl
 
 -- The line of an input
 
-pub line_bare : (site : Site) (x : Input) → line_of (bare_site site) x ≡ line_of site x
+pub line_bare : (site : LineSetting) (x : Input) → line_of (bare_setting site) x ≡ line_of site x
 line_bare site inputs.Tick = refl
 line_bare site (inputs.Sample n base bits) = refl
 line_bare site (inputs.Frame port octets raw sample) = refl

@@ -5,16 +5,16 @@ use Rattle.wrp_base.specs.Network.{node_count}
 use Rattle.wrp_config.specs.Config.{bare_node}
 use Rattle.wrp_config.specs.Same.{bare_cfg}
 use Rattle.wrp_lines.specs.Lines.{output_line_of}
-use Rattle.wrp_node.specs.NodeAt.{settings_of}
+use Rattle.wrp_node.specs.NodeAt.{servo_setting_of}
 use Rattle.wrp_node.specs.NodeRun.{AllSaid}
 use Rattle.wrp_node.specs.OneRun.{answers_by}
 use Rattle.wrp_servo.specs.Servo.{AllAnswered}
 use Rattle.wrp_trace.specs.Events.{event_read}
-use Rattle.wrp_trace.specs.Site.{site_in}
+use Rattle.wrp_trace.specs.LineSetting.{line_setting_in}
 use Rattle.wrp_world.specs.Checks.{AllHold, told_of}
 use Rattle.wrp_world.specs.Premises.{checks_of}
 use Rattle.wrp_world.specs.Run.{AllAccepted, Happened, IsAnswered, world_after}
-use Rattle.wrp_world.specs.Setting.{Setting, fixed_of}
+use Rattle.wrp_world.specs.Setting.{Setting, node_setting_of}
 use Rattle.wrp_world.specs.WorldAt.{WorldAt}
 use Rattle.wrp_run.specs.declared.machine.Refusal.{Refusal}
 use Rattle.wrp_run.specs.declared.machine.Refusal.TheVariants as refusals
@@ -31,7 +31,7 @@ use Rattle.wrp_run.specs.Stream.{Handles}
 use Rattle.wrp_run.proofs.AuditCounts.{counts_bare}
 use Rattle.wrp_run.proofs.BareAudit.{after_bare, bare_setting, checks_bare, nodes_bare, steps_at_bare}
 use Rattle.wrp_run.proofs.BareEvents.{event_bare, line_bare}
-use Rattle.wrp_run.proofs.BareSite.{law_bare, name_bare, path_bare}
+use Rattle.wrp_run.proofs.BareSetting.{law_bare, name_bare, path_bare}
 use Rattle.wrp_run.proofs.OneSim.{map_same}
 
 -- The run
@@ -45,9 +45,9 @@ accepted_bare s (h ∷ before) all = (subst AllHold (sym (tried_after s before h
 
 pub answered_bare : (s : Setting) (events : List Happened) → IsAnswered (answers_in s) s (world_after s events) → IsAnswered (answers_in (bare_setting s)) (bare_setting s) (world_after (bare_setting s) events)
 answered_bare s events all n =
-    let laws : law_at (site_in s n) ≡ law_at (site_in (bare_setting s) n) = sym (λ i x. law_bare (site_in s n) x i) in
-    subst (λ (w : WorldAt). AllAnswered (answers_in (bare_setting s) n) (settings_of (fixed_of s n)) (w.node n).calls) (sym (after_bare s events))
-    (subst (λ (law : ℤ → ℤ). AllAnswered (answers_by law) (settings_of (fixed_of s n)) ((world_after s events).node n).calls) laws (all n))
+    let laws : law_at (line_setting_in s n) ≡ law_at (line_setting_in (bare_setting s) n) = sym (λ i x. law_bare (line_setting_in s n) x i) in
+    subst (λ (w : WorldAt). AllAnswered (answers_in (bare_setting s) n) (servo_setting_of (node_setting_of s n)) (w.node n).calls) (sym (after_bare s events))
+    (subst (λ (law : ℤ → ℤ). AllAnswered (answers_by law) (servo_setting_of (node_setting_of s n)) ((world_after s events).node n).calls) laws (all n))
 
 heard_bare : (s : Setting) (events : List Happened) → AllHeard s (world_after s events) → AllHeard (bare_setting s) (world_after (bare_setting s) events)
 heard_bare s events all n below =
@@ -77,7 +77,7 @@ lines_text s (h ∷ before) =
     ap₂ (λ (earlier lines : List ℕ). earlier ++ lines) (lines_text s before) (λ i. flat_map (steps_text s i (after_bare s (h ∷ before) i)) (steps_at_bare s before h i))
 
 given_text : (s : Setting) (n : ℕ) → given_line (bare_setting s) n ≡ given_line s n
-given_text s n = λ i step. if step.node == n then line_bare (site_in s n) step.input i ++ 10 ∷ [] else []
+given_text s n = λ i step. if step.node == n then line_bare (line_setting_in s n) step.input i ++ 10 ∷ [] else []
 
 pub inputs_text : (s : Setting) (n : ℕ) (events : List Happened) → given_lines (bare_setting s) n events ≡ given_lines s n events
 inputs_text s n [] = refl
@@ -85,7 +85,7 @@ inputs_text s n (h ∷ before) =
     ap₂ (λ (earlier lines : List ℕ). earlier ++ lines) (inputs_text s n before) (λ i. flat_map (given_text s n i) (steps_at_bare s before h i))
 
 pub counts_text : (s : Setting) (events : List Happened) → all_counts (bare_setting s) (world_after (bare_setting s) events) ≡ all_counts s (world_after s events)
-counts_text s events = λ i. flat_map (λ n. counts_bare (site_in s n) ((after_bare s events i).node n) i) (nodes_bare s i)
+counts_text s events = λ i. flat_map (λ n. counts_bare (line_setting_in s n) ((after_bare s events i).node n) i) (nodes_bare s i)
 
 refused_bare : (s : Setting) (lines : List (List ℕ)) (line last : List ℕ) (refusal : Refusal) → AuditRefuses s lines line refusal last → AuditRefuses (bare_setting s) lines line refusal last
 refused_bare s lines line last refusals.BadTrace h = (h.0, event_bare s.cfg line ∙ h.1, h.2)

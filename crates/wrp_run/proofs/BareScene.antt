@@ -20,7 +20,7 @@ use Rattle.wrp_sim.specs.declared.scene.kinds.SceneKind.TheVariants as kinds
 use Rattle.wrp_sim.specs.Scenario.{SceneAt, new_scene}
 use Rattle.wrp_sim.specs.ScenarioKinds.{kind_of}
 use Rattle.wrp_sim.specs.ScenarioLines.{below, counted_of, fault_at, fault_kind, line_of_kind, link_fault, lower_at, node_fault, scene_of, scene_read}
-use Rattle.wrp_run.proofs.BareSite.{bind_same, named_bare, none_over}
+use Rattle.wrp_run.proofs.BareSetting.{bind_same, named_bare, none_over}
 
 -- A new scenario
 

@@ -27,12 +27,12 @@ use Rattle.wrp_trace.specs.Fields.{module_at as module_in, own_port, port_at, sh
 use Rattle.wrp_trace.specs.Inputs.{counted_of, fields_of_kind, input_of, read_of, up_of}
 use Rattle.wrp_trace.specs.Kinds.{kind_of}
 use Rattle.wrp_fields.specs.Reading.{field_of, name_or_fault, ◌>>=◌}
-use Rattle.wrp_trace.specs.Site.{Site, has_port, is_grandmaster, named_at}
-use Rattle.wrp_run.specs.DownLaw.{down_over, fixed_at, greatest_over, law_at, least_over}
+use Rattle.wrp_trace.specs.LineSetting.{LineSetting, has_port, is_grandmaster, named_at}
+use Rattle.wrp_run.specs.DownLaw.{down_over, node_setting_at, greatest_over, law_at, least_over}
 
 -- a node, whose network's names stand without their unused room
-abbrev pub bare_site : Site → Site
-bare_site site = record site { cfg = bare_cfg site.cfg }
+abbrev pub bare_setting : LineSetting → LineSetting
+bare_setting site = record site { cfg = bare_cfg site.cfg }
 
 -- Names
 
@@ -68,43 +68,43 @@ pair_bare cfg node port =
     ap (option_map (pair_of node port)) (find_bare (names.has_port node port) (λ link. refl) cfg.links.items)
     ∙ pair_over node port (link_at cfg node port)
 
-pub port_bare : (site : Site) (port : ℕ) → has_port (bare_site site) port ≡ has_port site port
+pub port_bare : (site : LineSetting) (port : ℕ) → has_port (bare_setting site) port ≡ has_port site port
 port_bare site port = ap is_some (pair_bare site.cfg site.node port)
 
 pub none_over : (o : Option LinkCfg) → is_none (option_map bare_link o) ≡ is_none o
 none_over None = refl
 none_over (Some link) = refl
 
-grandmaster_bare : (site : Site) → is_grandmaster (bare_site site) ≡ is_grandmaster site
+grandmaster_bare : (site : LineSetting) → is_grandmaster (bare_setting site) ≡ is_grandmaster site
 grandmaster_bare site = ap is_none (above_bare site.cfg site.node) ∙ none_over (link_above site.cfg site.node)
 
 -- What a line says
 
-kind_bare : (site : Site) (word : List ℕ) → kind_of (bare_site site) word ≡ kind_of site word
+kind_bare : (site : LineSetting) (word : List ℕ) → kind_of (bare_setting site) word ≡ kind_of site word
 kind_bare site word = rw (grandmaster_bare site) refl
 
 pub bind_same : {A B : Type 0} (read : Result A TraceFault) (f g : A → Result B TraceFault) → ((a : A) → f a ≡ g a) → (read >>= f) ≡ (read >>= g)
 bind_same (Ok a) f g same = same a
 bind_same (Err fault) f g same = refl
 
-own_port_bare : (site : Site) (place port : ℕ) → own_port (bare_site site) place port ≡ own_port site place port
+own_port_bare : (site : LineSetting) (place port : ℕ) → own_port (bare_setting site) place port ≡ own_port site place port
 own_port_bare site place port = ap (λ (b : Bool). name_or_fault place (if b then Some port else None)) (port_bare site port)
 
-port_read_bare : (site : Site) (place : ℕ) (fields : List (List ℕ)) → port_at (bare_site site) place fields ≡ port_at site place fields
+port_read_bare : (site : LineSetting) (place : ℕ) (fields : List (List ℕ)) → port_at (bare_setting site) place fields ≡ port_at site place fields
 port_read_bare site place fields =
-    bind_same (short_at place fields) (own_port (bare_site site) place) (own_port site place) (λ port. own_port_bare site place port)
+    bind_same (short_at place fields) (own_port (bare_setting site) place) (own_port site place) (λ port. own_port_bare site place port)
 
-named_module_bare : (site : Site) (port : ℕ) (name : List ℕ) → named_at (bare_site site) port name ≡ named_at site port name
+named_module_bare : (site : LineSetting) (port : ℕ) (name : List ℕ) → named_at (bare_setting site) port name ≡ named_at site port name
 named_module_bare site port name = rw (pair_bare site.cfg site.node port) refl
 
-module_read_bare : (site : Site) (port place : ℕ) (fields : List (List ℕ)) → module_in (bare_site site) port place fields ≡ module_in site port place fields
+module_read_bare : (site : LineSetting) (port place : ℕ) (fields : List (List ℕ)) → module_in (bare_setting site) port place fields ≡ module_in site port place fields
 module_read_bare site port place fields = ap (name_or_fault place) (named_module_bare site port (field_of place fields))
 
-up_bare : (site : Site) (fields : List (List ℕ)) → up_of (bare_site site) fields ≡ up_of site fields
+up_bare : (site : LineSetting) (fields : List (List ℕ)) → up_of (bare_setting site) fields ≡ up_of site fields
 up_bare site fields =
     rw (port_read_bare site 2 fields) (bind_same (port_at site 2 fields) _ _ (λ port. rw (module_read_bare site port 3 fields) refl))
 
-kind_fields_bare : (site : Site) (kind : InputKind) (fields : List (List ℕ)) → fields_of_kind (bare_site site) kind fields ≡ fields_of_kind site kind fields
+kind_fields_bare : (site : LineSetting) (kind : InputKind) (fields : List (List ℕ)) → fields_of_kind (bare_setting site) kind fields ≡ fields_of_kind site kind fields
 kind_fields_bare site kinds.Tick fields = refl
 kind_fields_bare site kinds.Sample fields = refl
 kind_fields_bare site kinds.Frame fields = rw (port_read_bare site 2 fields) refl
@@ -113,14 +113,14 @@ kind_fields_bare site kinds.Up fields = up_bare site fields
 kind_fields_bare site kinds.Down fields = rw (port_read_bare site 2 fields) refl
 kind_fields_bare site kinds.Reset fields = refl
 
-counted_bare : (site : Site) (fields : List (List ℕ)) (kind : Option InputKind) → counted_of (bare_site site) fields kind ≡ counted_of site fields kind
+counted_bare : (site : LineSetting) (fields : List (List ℕ)) (kind : Option InputKind) → counted_of (bare_setting site) fields kind ≡ counted_of site fields kind
 counted_bare site fields None = refl
 counted_bare site fields (Some kind) = rw (kind_fields_bare site kind fields) refl
 
-input_bare : (site : Site) (fields : List (List ℕ)) → input_of (bare_site site) fields ≡ input_of site fields
+input_bare : (site : LineSetting) (fields : List (List ℕ)) → input_of (bare_setting site) fields ≡ input_of site fields
 input_bare site fields = rw (kind_bare site (field_of 1 fields)) (counted_bare site fields (kind_of site (field_of 1 fields)))
 
-pub read_bare : (site : Site) (line : List ℕ) → read_of (bare_site site) line ≡ read_of site line
+pub read_bare : (site : LineSetting) (line : List ℕ) → read_of (bare_setting site) line ≡ read_of site line
 read_bare site line = rw (input_bare site (parts_of line)) refl
 
 -- What a node is set to
@@ -191,11 +191,11 @@ greatest_bare : (db : Database) (o : Option LinkCfg) → greatest_over db (optio
 greatest_bare db None = refl
 greatest_bare db (Some link) = refl
 
-pub law_bare : (site : Site) (x : ℤ) → law_at (bare_site site) x ≡ law_at site x
+pub law_bare : (site : LineSetting) (x : ℤ) → law_at (bare_setting site) x ≡ law_at site x
 law_bare site x =
     ap (λ (o : Option LinkCfg). down_over site.db o x) (above_bare site.cfg site.node) ∙ down_bare site.db (link_above site.cfg site.node) x
 
-pub fixed_bare : (site : Site) → fixed_at (bare_site site) ≡ fixed_at site
+pub fixed_bare : (site : LineSetting) → node_setting_at (bare_setting site) ≡ node_setting_at site
 fixed_bare site =
     rw (set_bare site.cfg site.node, above_bare site.cfg site.node, least_bare site.db (link_above site.cfg site.node), greatest_bare site.db (link_above site.cfg site.node)) refl
 

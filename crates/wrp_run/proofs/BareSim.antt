@@ -27,7 +27,7 @@ use Rattle.wrp_world.specs.EventAt.{link_count}
 use Rattle.wrp_world.specs.Moved.{waiting_at}
 use Rattle.wrp_world.specs.Premises.{transition_of}
 use Rattle.wrp_world.specs.Run.{Happened, world_after}
-use Rattle.wrp_world.specs.Setting.{Setting, fixed_of, from_on, link_of}
+use Rattle.wrp_world.specs.Setting.{Setting, node_setting_of, from_on, link_of}
 use Rattle.wrp_world.specs.Views.{oldest_of}
 use Rattle.wrp_world.specs.WorldAt.{WorldAt, reading}
 use Rattle.wrp_run.specs.declared.machine.Refusal.{Refusal}
@@ -41,7 +41,7 @@ use Rattle.wrp_run.specs.Stream.{large_line}
 use Rattle.wrp_run.proofs.BareAudit.{aboves_bare, after_bare, bare_setting, carriers_bare, ends_bare, entries_bare, link_bare, names_bare, nodes_bare, number_bare, places_bare, rates_bare, steps_at_bare}
 use Rattle.wrp_run.proofs.BareRuns.{answered_bare, due_so}
 use Rattle.wrp_run.proofs.BareScene.{scene_bare, new_scene_bare}
-use Rattle.wrp_run.proofs.BareSite.{name_bare, path_bare}
+use Rattle.wrp_run.proofs.BareSetting.{name_bare, path_bare}
 
 -- Counts, delays and entries
 
@@ -153,7 +153,7 @@ passes_bare scene s w due at = λ i.
       items = map
           (λ n. if (w.clock n).up
           then drift_at (passed scene s w due at (nodes_bare s i))
-          (held_to (rates_bare s i w n) (own_rate (free_of scene n) (dac_of (fixed_of s n) (w.node n)) s.cfg.bias))
+          (held_to (rates_bare s i w n) (own_rate (free_of scene n) (dac_of (node_setting_of s n) (w.node n)) s.cfg.bias))
           else pos 0)
           (nodes_bare s i);
     })
@@ -232,7 +232,7 @@ tracked_bare s n (h ∷ before) =
 sum_bare : (s : Setting) (events : List Happened) → node_sum (bare_setting s) events ≡ node_sum s events
 sum_bare s events = λ i n.
     sum_line_of (name_bare s.cfg n i) ((after_bare s events i).node n).ticks (count_of (tracked_bare s n events i)) (worst_of (tracked_bare s n events i))
-    (pos (path_bare s.cfg n i)) (state_of (fixed_of s n) ((after_bare s events i).node n))
+    (pos (path_bare s.cfg n i)) (state_of (node_setting_of s n) ((after_bare s events i).node n))
 
 sums_bare : (s : Setting) (events : List Happened) → sum_lines (bare_setting s) events ≡ sum_lines s events
 sums_bare s events = λ i. flat_map (sum_bare s events i) (nodes_bare s i)

@@ -8,7 +8,7 @@ use Rattle.wrp_data.specs.declared.reason.Reason.TheVariants.{Short}
 use Rattle.wrp_data.specs.Counters.{count_at}
 use Rattle.wrp_data.specs.Reason.{number_of, reasons}
 use Rattle.wrp_node.specs.NodeAt.{NodeAt}
-use Rattle.wrp_trace.specs.Site.{Site, has_port}
+use Rattle.wrp_trace.specs.LineSetting.{LineSetting, has_port}
 use Rattle.wrp_run.specs.NodeText.{nonzero_line, port_counts, port_numbers, node_counts}
 
 -- what a text lacks of all is what the elements from the i-th on give
@@ -28,7 +28,7 @@ lacks_none f xs i text all h is = sym (append-nil text) ∙ sym (ap (λ part. te
 abbrev reason_line : List ℕ → ℕ → List ℕ → Reason → List ℕ
 reason_line name port counters reason = nonzero_line name port (number_of reason) (count_at counters (number_of reason))
 
-abbrev port_line : Site → NodeAt → ℕ → List ℕ
+abbrev port_line : LineSetting → NodeAt → ℕ → List ℕ
 port_line site n port = if has_port site port then port_counts (name_at site.cfg site.node) port (n.counters port) else []
 
 -- the lines of the reasons from the i-th on are lacking
@@ -51,28 +51,28 @@ unfolding LacksReasons
 no_reason name port counters i text old h is = lacks_none (reason_line name port counters) reasons i text (old ++ port_counts name port counters) h is
 
 -- the lines of the ports from the i-th on are lacking
-unfoldable pub LacksPorts : Site → NodeAt → ℕ → List ℕ → List ℕ → Type 0
+unfoldable pub LacksPorts : LineSetting → NodeAt → ℕ → List ℕ → List ℕ → Type 0
 LacksPorts site n i text old = Lacks (port_line site n) port_numbers i text (old ++ node_counts site n)
 
-pub all_ports : (site : Site) (n : NodeAt) (old : List ℕ) → LacksPorts site n 0 old old
+pub all_ports : (site : LineSetting) (n : NodeAt) (old : List ℕ) → LacksPorts site n 0 old old
 unfolding LacksPorts
 all_ports site n old = refl
 
 -- a port of the node, and a number that is none
-pub port_less : (site : Site) (n : NodeAt) (i port : ℕ) (name text now old : List ℕ) → i < 18 → LacksPorts site n i text old → port ≡ get_or port_numbers i 0 → has_port site port ≡ true
+pub port_less : (site : LineSetting) (n : NodeAt) (i port : ℕ) (name text now old : List ℕ) → i < 18 → LacksPorts site n i text old → port ≡ get_or port_numbers i 0 → has_port site port ≡ true
     → name ≡ name_at site.cfg site.node → now ≡ text ++ port_counts name port (n.counters port) → LacksPorts site n (i + 1) now old
 unfolding LacksPorts
 port_less site n i port name text now old h is numbered has named more =
     lacks_less (port_line site n) port_numbers i 0 text now (old ++ node_counts site n) h is
     (more ∙ ap (λ (k : List ℕ). text ++ port_counts k port (n.counters port)) named ∙ sym (ap (λ (b : Bool). text ++ (if b then port_counts (name_at site.cfg site.node) port (n.counters port) else [])) has) ∙ ap (λ p. text ++ port_line site n p) numbered)
 
-pub no_port_less : (site : Site) (n : NodeAt) (i port : ℕ) (text old : List ℕ) → i < 18 → LacksPorts site n i text old → port ≡ get_or port_numbers i 0 → has_port site port ≡ false
+pub no_port_less : (site : LineSetting) (n : NodeAt) (i port : ℕ) (text old : List ℕ) → i < 18 → LacksPorts site n i text old → port ≡ get_or port_numbers i 0 → has_port site port ≡ false
     → LacksPorts site n (i + 1) text old
 unfolding LacksPorts
 no_port_less site n i port text old h is numbered has =
     lacks_less (port_line site n) port_numbers i 0 text text (old ++ node_counts site n) h is
     (sym (append-nil text) ∙ sym (ap (λ (b : Bool). text ++ (if b then port_counts (name_at site.cfg site.node) port (n.counters port) else [])) has) ∙ ap (λ p. text ++ port_line site n p) numbered)
 
-pub no_port : (site : Site) (n : NodeAt) (i : ℕ) (text old : List ℕ) → 18 ≤ i → LacksPorts site n i text old → text ≡ old ++ node_counts site n
+pub no_port : (site : LineSetting) (n : NodeAt) (i : ℕ) (text old : List ℕ) → 18 ≤ i → LacksPorts site n i text old → text ≡ old ++ node_counts site n
 unfolding LacksPorts
 no_port site n i text old h is = lacks_none (port_line site n) port_numbers i text (old ++ node_counts site n) h is

@@ -18,9 +18,9 @@ use Rattle.wrp_node.specs.declared.interface.Input.{Input}
 use Rattle.wrp_node.specs.declared.interface.Input.TheVariants.{Tick, Sample, Frame, Sent, Carrier, Reset}
 use Rattle.wrp_node.specs.declared.interface.NodeSet.{NodeSet}
 use Rattle.wrp_node.specs.declared.interface.Output.{Output}
-use Rattle.wrp_node.specs.New.{fixed_of}
+use Rattle.wrp_node.specs.New.{node_setting_of}
 use Rattle.wrp_node.specs.Node.{FitsInput, IsValid}
-use Rattle.wrp_node.specs.NodeAt.{Fixed, Taken}
+use Rattle.wrp_node.specs.NodeAt.{NodeSetting, Taken}
 use Rattle.wrp_node.specs.NodeRun.{node_after}
 use Rattle.wrp_node.specs.OneRun.{OneRun, OneNode}
 use Rattle.wrp_node.specs.Set.{set_of}
@@ -28,20 +28,20 @@ use Rattle.wrp_node.specs.StandsFor.{NodeOf, StandsFor, Took}
 use Rattle.wrp_trace.specs.InputAt.{IsInputAt}
 use Rattle.wrp_trace.specs.Inputs.{read_of}
 use Rattle.wrp_fields.specs.Reading.{IsReading}
-use Rattle.wrp_trace.specs.Site.{Site}
+use Rattle.wrp_trace.specs.LineSetting.{LineSetting}
 use Rattle.wrp_run.specs.declared.machine.Refusal.{Refusal}
 use Rattle.wrp_run.specs.declared.machine.Refusal.TheVariants as refusals
 use Rattle.wrp_run.specs.declared.machine.Taken as machine
 use Rattle.wrp_run.specs.declared.machine.Taken.TheVariants.{Refused}
 use Rattle.wrp_run.specs.declared.replay.ReplayedNode.{ReplayedNode}
 use Rattle.wrp_run.specs.declared.replayed.Replayed.{Replayed}
-use Rattle.wrp_run.specs.DownLaw.{AnswersBy, IsLawAt, least_over, greatest_over, law_at, fixed_at}
+use Rattle.wrp_run.specs.DownLaw.{AnswersBy, IsLawAt, least_over, greatest_over, law_at, node_setting_at}
 use Rattle.wrp_run.specs.LinkLaw.{IsLawOver}
 use Rattle.wrp_run.specs.NodeText.{Writes, node_counts}
 use Rattle.wrp_run.specs.Refusals.{bad_trace_line}
 use Rattle.wrp_run.specs.Replays.{AreInputs, Accepts, Closes, Refuses}
-use Rattle.wrp_run.specs.StandsFor.{HasTaken, IsReady, OwnsPorts, Tells, TookInput, site_at}
-use Rattle.wrp_run.proofs.BareSite.{bare_site, fixed_bare, law_bare, port_bare, read_bare, set_bare}
+use Rattle.wrp_run.specs.StandsFor.{HasTaken, IsReady, OwnsPorts, Tells, TookInput, line_setting_at}
+use Rattle.wrp_run.proofs.BareSetting.{bare_setting, fixed_bare, law_bare, port_bare, read_bare, set_bare}
 use Rattle.wrp_run.proofs.OneReplay.{one_more, one_text}
 use Rattle.wrp_run.proofs.OwnPorts.{is_among_own}
 use Rattle.wrp_run.proofs.Runs.{node_run, one_tick, run_of}
@@ -49,31 +49,31 @@ use Rattle.wrp_run.proofs.Runs.{node_run, one_tick, run_of}
 -- A new node
 
 pub fixed_is : {F : Type 0} {pre : F → ℤ → Type 0} {post : F → ℤ → ℤ → Type 0} (replayed : Replayed) (set : NodeSet) (law : Option (LawOf F)) → set ≡ set_of replayed.net.now.cfg replayed.node
-    → IsLawAt pre post (site_at replayed) law → fixed_of set law ≡ fixed_at (site_at replayed)
+    → IsLawAt pre post (line_setting_at replayed) law → node_setting_of set law ≡ node_setting_at (line_setting_at replayed)
 fixed_is replayed set law is at =
-    ap (λ (s : NodeSet). fixed_of s law) (is ∙ sym (set_bare replayed.net.now.cfg replayed.node)) ∙ at.range
+    ap (λ (s : NodeSet). node_setting_of s law) (is ∙ sym (set_bare replayed.net.now.cfg replayed.node)) ∙ at.range
 
-pub owns_ports : {F : Type 0} {post : F → ℤ → ℤ → Type 0} (site : Site) (node : NodeOf F) (inputs : List Taken) → StandsFor post (fixed_at site) node inputs → OwnsPorts site node.parts.ports
-owns_ports site node inputs stands p has = is_among_own site (node_after (fixed_at site) inputs) node.parts p stands.is_at.parts has
+pub owns_ports : {F : Type 0} {post : F → ℤ → ℤ → Type 0} (site : LineSetting) (node : NodeOf F) (inputs : List Taken) → StandsFor post (node_setting_at site) node inputs → OwnsPorts site node.parts.ports
+owns_ports site node inputs stands p has = is_among_own site (node_after (node_setting_at site) inputs) node.parts p stands.is_at.parts has
 
 new_stands : {F : Type 0} {pre : F → ℤ → Type 0} {post : F → ℤ → ℤ → Type 0} (replayed : Replayed) (set : NodeSet) (law : Option (LawOf F)) (node : NodeOf F)
-    → set ≡ set_of replayed.net.now.cfg replayed.node → IsLawAt pre post (site_at replayed) law → StandsFor post (fixed_of set law) node [] → StandsFor post (fixed_at (site_at replayed)) node []
-new_stands {post = post} replayed set law node is at stands = subst (λ (f : Fixed). StandsFor post f node []) (fixed_is replayed set law is at) stands
+    → set ≡ set_of replayed.net.now.cfg replayed.node → IsLawAt pre post (line_setting_at replayed) law → StandsFor post (node_setting_of set law) node [] → StandsFor post (node_setting_at (line_setting_at replayed)) node []
+new_stands {post = post} replayed set law node is at stands = subst (λ (f : NodeSetting). StandsFor post f node []) (fixed_is replayed set law is at) stands
 
 pub new_ready : {F : Type 0} {pre : F → ℤ → Type 0} {post : F → ℤ → ℤ → Type 0} (held : ReplayedNode F) (set : NodeSet) (law : Option (LawOf F))
-    → set ≡ set_of held.replayed.net.now.cfg held.replayed.node → IsLawAt pre post (site_at held.replayed) law → StandsFor post (fixed_of set law) held.node []
-    → IsValid pre post held.node → law_in held.node.control ≡ law → held.name.now ≡ name_at (site_at held.replayed).cfg held.replayed.node
-    → held.bound ≡ pos (path_of (site_at held.replayed).cfg held.replayed.node) → IsReady pre post held
+    → set ≡ set_of held.replayed.net.now.cfg held.replayed.node → IsLawAt pre post (line_setting_at held.replayed) law → StandsFor post (node_setting_of set law) held.node []
+    → IsValid pre post held.node → law_in held.node.control ≡ law → held.name.now ≡ name_at (line_setting_at held.replayed).cfg held.replayed.node
+    → held.bound ≡ pos (path_of (line_setting_at held.replayed).cfg held.replayed.node) → IsReady pre post held
 new_ready {F = F} {post = post} held set law is at stands valid kept named bounded = record {
   valid = valid;
-  law = subst (λ (l : Option (LawOf F)). IfSome l (AnswersBy post (law_at (site_at held.replayed)))) (sym kept) at.answers;
-  ports = owns_ports (site_at held.replayed) held.node [] (new_stands held.replayed set law held.node is at stands);
+  law = subst (λ (l : Option (LawOf F)). IfSome l (AnswersBy post (law_at (line_setting_at held.replayed)))) (sym kept) at.answers;
+  ports = owns_ports (line_setting_at held.replayed) held.node [] (new_stands held.replayed set law held.node is at stands);
   name = named;
   bound = bounded;
 }
 
 pub nothing_taken : {F : Type 0} {pre : F → ℤ → Type 0} {post : F → ℤ → ℤ → Type 0} (held : ReplayedNode F) (set : NodeSet) (law : Option (LawOf F))
-    → set ≡ set_of held.replayed.net.now.cfg held.replayed.node → IsLawAt pre post (site_at held.replayed) law → StandsFor post (fixed_of set law) held.node []
+    → set ≡ set_of held.replayed.net.now.cfg held.replayed.node → IsLawAt pre post (line_setting_at held.replayed) law → StandsFor post (node_setting_of set law) held.node []
     → HasTaken post held []
 nothing_taken held set law is at stands =
     ([], [], record { are = refl; writes = refl; stands = new_stands held.replayed set law held.node is at stands })
@@ -83,7 +83,7 @@ nothing_taken held set law is at stands =
 is_time : (value : ℤ) → pos 0 ≤ℤ value → unsigned_abs value ≤ 2 ^ 92 → value ≤ℤ pos (2 ^ 93)
 is_time value least most = omega (arith, ints, least, most)
 
-pub fits_input : {F : Type 0} (site : Site) (node : NodeOf F) (input : Input) → OwnsPorts (bare_site site) node.parts.ports → node.parts.ticks + 1 < 2 ^ 32 → IsInputAt site input → FitsInput node input
+pub fits_input : {F : Type 0} (site : LineSetting) (node : NodeOf F) (input : Input) → OwnsPorts (bare_setting site) node.parts.ports → node.parts.ticks + 1 < 2 ^ 32 → IsInputAt site input → FitsInput node input
 fits_input site node Tick own room is = room
 fits_input site node (Sample n base bits) own room is = let small = is.1 in omega (arith, small)
 fits_input site node (Frame p octets raw sample) own room is =
@@ -107,7 +107,7 @@ fits_input site node Reset own room is = tt
 
 -- A step
 
-pub tick_more : {F : Type 0} {post : F → ℤ → ℤ → Type 0} (fixed : Fixed) (old new : NodeOf F) (before : List Taken) (input : Input) (outs : List Output) → StandsFor post fixed old before → Took post old new input outs
+pub tick_more : {F : Type 0} {post : F → ℤ → ℤ → Type 0} (fixed : NodeSetting) (old new : NodeOf F) (before : List Taken) (input : Input) (outs : List Output) → StandsFor post fixed old before → Took post old new input outs
     → new.parts.ticks ≤ old.parts.ticks + 1
 tick_more fixed old new before input outs stood took =
     let t : Taken = record { input = input; says = took.0; answer = took.1 } in
@@ -118,12 +118,12 @@ tick_more fixed old new before input outs stood took =
 
 pub took_input : {F : Type 0} {pre : F → ℤ → Type 0} {post : F → ℤ → ℤ → Type 0} (held : ReplayedNode F) (new : NodeOf F) (input : Input) (outs lent : List Output) (ticks : ℕ) (bound : ℤ) (old text : List ℕ) → IsReady pre post held
     → Took post held.node new input outs → law_in new.control ≡ law_in held.node.control
-    → ((fixed : Fixed) (inputs : List Taken) → StandsFor post fixed new inputs → ticks ≡ (node_after fixed inputs).ticks)
+    → ((fixed : NodeSetting) (inputs : List Taken) → StandsFor post fixed new inputs → ticks ≡ (node_after fixed inputs).ticks)
     → old ≡ [] → lent ≡ outs → bound ≡ held.bound → text ≡ old ++ flat_map (λ (o : Output). output_line_of held.name.now ticks o bound None) lent
-    → (inputs : List Taken) → StandsFor post (fixed_at (site_at held.replayed)) held.node inputs → TookInput post held new input inputs text
+    → (inputs : List Taken) → StandsFor post (node_setting_at (line_setting_at held.replayed)) held.node inputs → TookInput post held new input inputs text
 took_input {F = F} {post = post} held new input outs lent ticks bound old text ready took same tells none lends bounded wrote inputs stood =
-    let site : Site = site_at held.replayed in
-    let fixed : Fixed = fixed_at site in
+    let site : LineSetting = line_setting_at held.replayed in
+    let fixed : NodeSetting = node_setting_at site in
     let t : Taken = record { input = input; says = took.0; answer = took.1 } in
     let stands = took.2.stands fixed inputs stood in
     let law = subst (λ (l : Option (LawOf F)). IfSome l (AnswersBy post (law_at site))) (sym same) ready.law in
@@ -144,12 +144,12 @@ pub taken_with : {F : Type 0} {post : F → ℤ → ℤ → Type 0} (held : Repl
 taken_with held input lines (inputs, text, so) = (inputs, text, record { are = so.are; writes = so.writes; stands = so.stands })
 
 pub goes_on : {F : Type 0} {post : F → ℤ → ℤ → Type 0} → OneRun → OneNode → (held now : ReplayedNode F) (lines : List (List ℕ)) (line before text : List ℕ) (input : Input)
-    → read_of (site_at held.replayed) line ≡ Ok input → now.replayed ≡ held.replayed
-    → ((inputs : List Taken) → StandsFor post (fixed_at (site_at held.replayed)) held.node inputs → TookInput post held now.node input inputs text)
-    → HasTaken post held lines → Accepts (site_at held.replayed) lines before
-    → HasTaken post now (lines ++ line ∷ []) × Accepts (site_at held.replayed) (lines ++ line ∷ []) (before ++ text)
+    → read_of (line_setting_at held.replayed) line ≡ Ok input → now.replayed ≡ held.replayed
+    → ((inputs : List Taken) → StandsFor post (node_setting_at (line_setting_at held.replayed)) held.node inputs → TookInput post held now.node input inputs text)
+    → HasTaken post held lines → Accepts (line_setting_at held.replayed) lines before
+    → HasTaken post now (lines ++ line ∷ []) × Accepts (line_setting_at held.replayed) (lines ++ line ∷ []) (before ++ text)
 goes_on {post = post} runs nodes held now lines line before text input is same took taken accepted =
-    let site : Site = site_at held.replayed in
+    let site : LineSetting = line_setting_at held.replayed in
     let so = taken.2 in
     let more = took taken.0 so.stands in
     let inputs : List Taken = more.taken ∷ taken.0 in
@@ -161,9 +161,9 @@ goes_on {post = post} runs nodes held now lines line before text input is same t
         inputs,
         before ++ text,
         record {
-          are = subst (λ (r : Replayed). AreInputs (site_at r) (lines ++ line ∷ []) inputs) (sym same) are;
-          writes = subst (λ (r : Replayed). Writes (site_at r) inputs (before ++ text)) (sym same) writes;
-          stands = subst (λ (r : Replayed). StandsFor post (fixed_at (site_at r)) now.node inputs) (sym same) more.stands;
+          are = subst (λ (r : Replayed). AreInputs (line_setting_at r) (lines ++ line ∷ []) inputs) (sym same) are;
+          writes = subst (λ (r : Replayed). Writes (line_setting_at r) inputs (before ++ text)) (sym same) writes;
+          stands = subst (λ (r : Replayed). StandsFor post (node_setting_at (line_setting_at r)) now.node inputs) (sym same) more.stands;
         },
       ),
       (inputs, are, writes),
@@ -172,21 +172,21 @@ goes_on {post = post} runs nodes held now lines line before text input is same t
 -- The end
 
 pub closes_so : {F : Type 0} {pre : F → ℤ → Type 0} {post : F → ℤ → ℤ → Type 0} (held : ReplayedNode F) (old text : List ℕ) → IsReady pre post held → old ≡ []
-    → ((fixed : Fixed) (inputs : List Taken) → StandsFor post fixed held.node inputs → text ≡ old ++ node_counts (site_at held.replayed) (node_after fixed inputs))
-    → (lines : List (List ℕ)) → HasTaken post held lines → Closes (site_at held.replayed) lines text
+    → ((fixed : NodeSetting) (inputs : List Taken) → StandsFor post fixed held.node inputs → text ≡ old ++ node_counts (line_setting_at held.replayed) (node_after fixed inputs))
+    → (lines : List (List ℕ)) → HasTaken post held lines → Closes (line_setting_at held.replayed) lines text
 closes_so held old text ready none counts lines taken =
-    let site : Site = site_at held.replayed in
+    let site : LineSetting = line_setting_at held.replayed in
     let so = taken.2 in (
       taken.0,
       so.are,
-      run_of (law_at site) (fixed_at site) held.node taken.0 so.stands ready.law,
-      counts (fixed_at site) taken.0 so.stands ∙ ap (λ (k : List ℕ). k ++ node_counts site (node_after (fixed_at site) taken.0)) none,
+      run_of (law_at site) (node_setting_at site) held.node taken.0 so.stands ready.law,
+      counts (node_setting_at site) taken.0 so.stands ∙ ap (λ (k : List ℕ). k ++ node_counts site (node_after (node_setting_at site) taken.0)) none,
     )
 
 -- A refusal
 
-pub refuses_so : (site : Site) (lines : List (List ℕ)) (line old new : List ℕ) (number : ℕ) (fault : TraceFault) (taken : machine.Taken) (refusal : Refusal) → Tells fault number old new taken → old ≡ []
-    → IsReading (read_of site line) (Err fault) → taken ≡ Refused refusal → number ≡ length lines + 1 → Refuses (bare_site site) lines line refusal new
+pub refuses_so : (site : LineSetting) (lines : List (List ℕ)) (line old new : List ℕ) (number : ℕ) (fault : TraceFault) (taken : machine.Taken) (refusal : Refusal) → Tells fault number old new taken → old ≡ []
+    → IsReading (read_of site line) (Err fault) → taken ≡ Refused refusal → number ≡ length lines + 1 → Refuses (bare_setting site) lines line refusal new
 refuses_so site lines line old new number fault taken refusals.BadTrace tells none reads is counts = (
   fault,
   read_bare site line ∙ tells.only (read_of site line) reads,
@@ -205,29 +205,29 @@ none_greatest : (db : Database) (o : Option LinkCfg) → is_some o ≡ false →
 none_greatest db None e = refl
 none_greatest db (Some link) e = absurd (cc)
 
-abbrev range_of : NodeSet → ℤ → ℤ → Fixed
+abbrev range_of : NodeSet → ℤ → ℤ → NodeSetting
 range_of set lo hi = record { set = set; lo = lo; hi = hi }
 
-pub law_if : {F : Type 0} {pre : F → ℤ → Type 0} {post : F → ℤ → ℤ → Type 0} (site : Site) (has : Bool) (law : LawOf F) → has ≡ is_some (link_above site.cfg site.node) → KeepsFact pre post law
+pub law_if : {F : Type 0} {pre : F → ℤ → Type 0} {post : F → ℤ → ℤ → Type 0} (site : LineSetting) (has : Bool) (law : LawOf F) → has ≡ is_some (link_above site.cfg site.node) → KeepsFact pre post law
     → (has ≡ true → law.lo ≡ least_over site.db (link_above site.cfg site.node)) → (has ≡ true → law.hi ≡ greatest_over site.db (link_above site.cfg site.node))
-    → (has ≡ true → AnswersBy post (law_at (bare_site site)) law) → IsLawAt pre post (bare_site site) (if has then Some law else None)
+    → (has ≡ true → AnswersBy post (law_at (bare_setting site)) law) → IsLawAt pre post (bare_setting site) (if has then Some law else None)
 law_if site true law some fact least greatest answers = record {
   some = some ∙ sym (above_some site.cfg site.node);
   fact = fact;
-  range = ap₂ (range_of (set_of (bare_cfg site.cfg) site.node)) (least refl) (greatest refl) ∙ ap₂ (range_of (set_of (bare_cfg site.cfg) site.node)) (sym (ap (λ (f : Fixed). f.lo) (fixed_bare site))) (sym (ap (λ (f : Fixed). f.hi) (fixed_bare site)));
+  range = ap₂ (range_of (set_of (bare_cfg site.cfg) site.node)) (least refl) (greatest refl) ∙ ap₂ (range_of (set_of (bare_cfg site.cfg) site.node)) (sym (ap (λ (f : NodeSetting). f.lo) (fixed_bare site))) (sym (ap (λ (f : NodeSetting). f.hi) (fixed_bare site)));
   answers = answers refl;
 }
 law_if site false law some fact least greatest answers = record {
   some = some ∙ sym (above_some site.cfg site.node);
   fact = tt;
   range = ap₂ (range_of (set_of (bare_cfg site.cfg) site.node)) (none_least site.db (link_above site.cfg site.node) (sym some)) (none_greatest site.db (link_above site.cfg site.node) (sym some))
-      ∙ ap₂ (range_of (set_of (bare_cfg site.cfg) site.node)) (sym (ap (λ (f : Fixed). f.lo) (fixed_bare site))) (sym (ap (λ (f : Fixed). f.hi) (fixed_bare site)));
+      ∙ ap₂ (range_of (set_of (bare_cfg site.cfg) site.node)) (sym (ap (λ (f : NodeSetting). f.lo) (fixed_bare site))) (sym (ap (λ (f : NodeSetting). f.hi) (fixed_bare site)));
   answers = tt;
 }
 
 -- Where there is no memory for the node
 
-pub nothing_accepted : (site : Site) → Accepts site [] []
+pub nothing_accepted : (site : LineSetting) → Accepts site [] []
 nothing_accepted site = ([], refl, refl)
 
 -- What a described law answers is what the law of the node says
@@ -237,5 +237,5 @@ pub law_of_some : (db : Database) (above : Option LinkCfg) (o : Option LinkLaw) 
 law_of_some db above None link has over same = absurd (cc)
 law_of_some db above (Some law) link has over same = subst (IsLawOver db above) (sym same) over
 
-pub law_says : (site : Site) (link : LinkLaw) (x y : ℤ) → IsLawOver site.db (link_above site.cfg site.node) link → y ≡ down_of link x → y ≡ law_at (bare_site site) x
+pub law_says : (site : LineSetting) (link : LinkLaw) (x y : ℤ) → IsLawOver site.db (link_above site.cfg site.node) link → y ≡ down_of link x → y ≡ law_at (bare_setting site) x
 law_says site link x y over is = is ∙ over.down x ∙ sym (law_bare site x)

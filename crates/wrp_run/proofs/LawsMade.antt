@@ -1,7 +1,7 @@
 -- The laws of all nodes, as they are made one after another, fit the network.
 use Rattle.std.proofs.Common.{◌≡◌, ◌∙◌, refl, ap, ap₂, sym, subst, ℕ, ℤ, pos, ◌==◌, ◌≤◌, ◌≤ℤ◌, Bool, true, false, if◌then◌else◌, List, length, Option, None, Some, IfSome, is_some, option_map}
 use Rattle.std.specs.Prelude.{slice_get}
-use Rattle.wrp_trace.specs.Site.{site_in}
+use Rattle.wrp_trace.specs.LineSetting.{line_setting_in}
 use Rattle.wrp_base.specs.declared.network.LinkCfg.{LinkCfg}
 use Rattle.wrp_base.specs.Network.{link_above, node_count}
 use Rattle.wrp_base.proofs.Naturals.{le_of_same}
@@ -17,7 +17,7 @@ use Rattle.wrp_law.specs.Law.{IsNear, KeepsFact, LawOf}
 use Rattle.wrp_law.specs.LinkLaw.{IsSound, down_of, error_of, kind_of, least_of, most_of}
 use Rattle.wrp_node.specs.Set.{set_of}
 use Rattle.wrp_run.specs.AuditStands.{setting_in}
-use Rattle.wrp_run.specs.DownLaw.{fixed_at}
+use Rattle.wrp_run.specs.DownLaw.{node_setting_at}
 use Rattle.wrp_run.specs.LawsFit.{FitsAt, HasNumbers, IsMade, LawsFit}
 use Rattle.wrp_run.specs.LinkLaw.{IsLawOver, error_over, kind_over}
 use Rattle.wrp_run.proofs.AuditSteps.{found_in, Found}
@@ -92,7 +92,7 @@ law_error_is net n link accepted is =
     let found : Found (λ (l : LinkCfg). l.lower == n) net.cfg.links.items link = found_in (λ (l : LinkCfg). l.lower == n) net.cfg.links.items link is in
     sym (accepted.links found.at link found.is).law_err
 
-none_range : (net : Network) (n : ℕ) (o : Option LinkCfg) → link_above net.cfg n ≡ o → false ≡ is_some o → record { set = set_of net.cfg n; lo = pos 0; hi = pos 0 } ≡ fixed_at (site_in (setting_in net) n)
+none_range : (net : Network) (n : ℕ) (o : Option LinkCfg) → link_above net.cfg n ≡ o → false ≡ is_some o → record { set = set_of net.cfg n; lo = pos 0; hi = pos 0 } ≡ node_setting_at (line_setting_in (setting_in net) n)
 none_range net n None is none = rw is refl
 none_range net n (Some link) is none = absurd (cc)
 

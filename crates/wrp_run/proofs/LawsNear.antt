@@ -17,14 +17,14 @@ use Rattle.wrp_config.specs.Accepted.{IsAccepted, IsSoundTable, law_error}
 use Rattle.wrp_law.specs.declared.delay.LawKind.TheVariants.{Linear}
 use Rattle.wrp_law.specs.Law.{IsNear}
 use Rattle.wrp_law.proofs.Tables.{table_value-near}
-use Rattle.wrp_node.specs.NodeAt.{settings_of}
-use Rattle.wrp_servo.specs.Call.{Call, CallSample, CallMeasured, CallTick, CallLease, CallLink, CallCarrier, CallReset, Settings}
+use Rattle.wrp_node.specs.NodeAt.{servo_setting_of}
+use Rattle.wrp_servo.specs.Call.{Call, CallSample, CallMeasured, CallTick, CallLease, CallLink, CallCarrier, CallReset, ServoSetting}
 use Rattle.wrp_servo.specs.Measuring.{is_in, x_of}
 use Rattle.wrp_servo.specs.Servo.{AllAnswered}
 use Rattle.wrp_tracking.specs.ErrorSum.{IsShare}
 use Rattle.wrp_truth.specs.Fours.{IsNearAnswer}
 use Rattle.wrp_world.specs.Run.{IsAnswered}
-use Rattle.wrp_world.specs.Setting.{Setting, fixed_of}
+use Rattle.wrp_world.specs.Setting.{Setting, node_setting_of}
 use Rattle.wrp_world.specs.WorldAt.{WorldAt}
 use Rattle.wrp_run.specs.Audited.{answers_in, setting_at}
 use Rattle.wrp_run.specs.DownLaw.{down_by, down_over, greatest_by, greatest_over, least_by, least_over}
@@ -120,7 +120,7 @@ in_range lo hi x is =
     let high : int_le x hi ≡ true = parts.1 in
     (grind (arith, ints), grind (arith, ints))
 
-near_calls : (P Q : ℤ → ℤ → Type 0) (x : Settings) → ((a y : ℤ) → x.lo ≤ℤ a → a ≤ℤ x.hi → P a y → Q a y) → (calls : List Call) → AllAnswered P x calls → AllAnswered Q x calls
+near_calls : (P Q : ℤ → ℤ → Type 0) (x : ServoSetting) → ((a y : ℤ) → x.lo ≤ℤ a → a ≤ℤ x.hi → P a y → Q a y) → (calls : List Call) → AllAnswered P x calls → AllAnswered Q x calls
 near_calls P Q x f [] h = tt
 near_calls P Q x f (CallMeasured four y ∷ calls) h = (
   λ d is range. let within = in_range x.lo x.hi (x_of d four) range in f (x_of d four) y within.0 within.1 (h.0 d is range),
@@ -135,4 +135,4 @@ near_calls P Q x f (CallReset ∷ calls) h = near_calls P Q x f calls h
 
 pub answers_near : (s : Setting) (w : WorldAt) → LawsAreNear s → IsAnswered (answers_in s) s w → IsAnswered (IsNearAnswer s) s w
 answers_near s w near answered n =
-    near_calls (answers_in s n) (IsNearAnswer s n) (settings_of (fixed_of s n)) (λ a y low high is hop numbers. near n hop a y numbers low high is) (w.node n).calls (answered n)
+    near_calls (answers_in s n) (IsNearAnswer s n) (servo_setting_of (node_setting_of s n)) (λ a y low high is hop numbers. near n hop a y numbers low high is) (w.node n).calls (answered n)

@@ -7,7 +7,7 @@ pub mod BareEvents
 pub mod BareRuns
 pub mod BareScene
 pub mod BareSim
-pub mod BareSite
+pub mod BareSetting
 pub mod CountLemmas
 pub mod DueTold
 pub mod EmitTold

@@ -1,7 +1,7 @@
 -- A world before its first event, with laws that fit its network, can be audited and stands for no lines.
 use Rattle.std.proofs.Common.{◌≡◌, ◌∙◌, refl, ap, sym, subst, ℕ, ℤ, ◌<◌, List, [], length, Option, None, Some, IfSome, arith}
 use Rattle.std.specs.Prelude.{slice_get, option_and_then}
-use Rattle.wrp_trace.specs.Site.{site_in}
+use Rattle.wrp_trace.specs.LineSetting.{line_setting_in}
 use Rattle.wrp_base.specs.declared.network.LinkCfg.{LinkCfg}
 use Rattle.wrp_base.specs.Network.{IsTree, link_above, node_count}
 use Rattle.wrp_base.proofs.Lists.{has_item}
@@ -9,7 +9,7 @@ use Rattle.wrp_config.specs.declared.network.Network.{Network}
 use Rattle.wrp_law.specs.Law.{LawOf}
 use Rattle.wrp_node.specs.Control.{law_in}
 use Rattle.wrp_node.specs.New.{high_of, low_of}
-use Rattle.wrp_node.specs.NodeAt.{Fixed}
+use Rattle.wrp_node.specs.NodeAt.{NodeSetting}
 use Rattle.wrp_node.specs.Set.{set_of}
 use Rattle.wrp_world.proofs.EachLists.{at_place}
 use Rattle.wrp_world.specs.HasLaws.{HasLaws}
@@ -43,7 +43,7 @@ low_is {F} {pre} {post} net laws fit tree n = go (slice_get laws n) refl
   where
     go : (o : Option (Option (LawOf F))) → slice_get laws n ≡ o → low_of (option_and_then (λ law. law) (slice_get laws n)) ≡ least_over net.db (link_above net.cfg n)
     go None is = rw is (sym (ap (least_over net.db) (none_above net laws n tree fit.count is)))
-    go (Some law) is = rw is (ap (λ (f : Fixed). f.lo) (fit.each n law is).is.range)
+    go (Some law) is = rw is (ap (λ (f : NodeSetting). f.lo) (fit.each n law is).is.range)
 
 high_is : {F : Type 0} {pre : F → ℤ → Type 0} {post : F → ℤ → ℤ → Type 0} (net : Network) (laws : List (Option (LawOf F))) → LawsFit pre post net laws → IsTree net.cfg → (n : ℕ)
     → high_of (law_at laws n) ≡ greatest_over net.db (link_above net.cfg n)
@@ -51,7 +51,7 @@ high_is {F} {pre} {post} net laws fit tree n = go (slice_get laws n) refl
   where
     go : (o : Option (Option (LawOf F))) → slice_get laws n ≡ o → high_of (option_and_then (λ law. law) (slice_get laws n)) ≡ greatest_over net.db (link_above net.cfg n)
     go None is = rw is (sym (ap (greatest_over net.db) (none_above net laws n tree fit.count is)))
-    go (Some law) is = rw is (ap (λ (f : Fixed). f.hi) (fit.each n law is).is.range)
+    go (Some law) is = rw is (ap (λ (f : NodeSetting). f.hi) (fit.each n law is).is.range)
 
 pub setting_is : {F : Type 0} {pre : F → ℤ → Type 0} {post : F → ℤ → ℤ → Type 0} (net : Network) (laws : List (Option (LawOf F))) → LawsFit pre post net laws → IsTree net.cfg → setting_of net.cfg net.db laws ≡ setting_in net
 setting_is {pre = pre} {post = post} net laws fit tree = λ i. record {
@@ -71,7 +71,7 @@ laws_are {F} {post = post} net laws world fit has counted n node is =
     let counts = fit.count in
     let item = has_item laws n (omega (arith, within, counted, counts)) in
     let law : law_in node.control ≡ item.0 = has n node is ∙ ap (option_and_then (λ law. law)) item.1 in
-    subst (λ (o : Option (LawOf F)). IfSome o (AnswersBy post (down.law_at (site_in (setting_in net) n)))) (sym law) (fit.each n item.0 item.1).is.answers
+    subst (λ (o : Option (LawOf F)). IfSome o (AnswersBy post (down.law_at (line_setting_in (setting_in net) n)))) (sym law) (fit.each n item.0 item.1).is.answers
 
 -- Before the first record
 

@@ -8,7 +8,7 @@ use Rattle.wrp_caldb.specs.Database.{Database}
 use Rattle.wrp_config.proofs.OneReading.{one_reading}
 use Rattle.wrp_config.specs.Names.{node_named}
 use Rattle.wrp_node.specs.OneRun.{OneRun, OneNode}
-use Rattle.wrp_trace.specs.Site.{Site}
+use Rattle.wrp_trace.specs.LineSetting.{LineSetting}
 use Rattle.wrp_world.specs.Setting.{Setting}
 use Rattle.wrp_servo.specs.Told.{ToldLast}
 use Rattle.wrp_run.specs.declared.command_line.Form.TheVariants as forms
@@ -31,7 +31,7 @@ use Rattle.wrp_run.proofs.Asking.{command_of}
 use Rattle.wrp_run.proofs.BareAudit.{bare_is, bare_setting}
 use Rattle.wrp_run.proofs.BareRuns.{bare_answer, bare_emission}
 use Rattle.wrp_run.proofs.BareSim.{bare_simulation}
-use Rattle.wrp_run.proofs.BareSite.{named_bare}
+use Rattle.wrp_run.proofs.BareSetting.{named_bare}
 use Rattle.wrp_run.proofs.ExactAudit.{exact_audit, exact_emission}
 use Rattle.wrp_run.proofs.OneReplay.{exact_replay}
 use Rattle.wrp_run.proofs.OneSim.{exact_simulation}
@@ -39,14 +39,14 @@ use Rattle.wrp_run.proofs.Unique.{one_records_answer}
 use Rattle.wrp_run.proofs.WordLemmas.{audit_alone, emission_alone, no_option, one_seed, one_value, simulation_alone}
 
 -- a site of these parts
-abbrev site_with : NetCfg → Database → ℕ → Site
+abbrev site_with : NetCfg → Database → ℕ → LineSetting
 site_with cfg db node = record { cfg = cfg; db = db; node = node }
 
 -- one status and one text
 abbrev pub AreOne : Status → Status → List ℕ → List ℕ → Type 0
 AreOne s t o u = (s ≡ t) × (o ≡ u)
 
-one_site : (words : List (List ℕ)) (text : List ℕ) (a b : Site) → AsksFor words text (Replay a) → AsksFor words text (Replay b) → a ≡ b
+one_site : (words : List (List ℕ)) (text : List ℕ) (a b : LineSetting) → AsksFor words text (Replay a) → AsksFor words text (Replay b) → a ≡ b
 one_site words text a b p q =
     let name : p.1 ≡ q.1 = one_value (codes "replay") (codes "--node") words p.1 q.1 p.2 q.2 in
     let nets = one_reading text (Ok p.3.net) (Ok q.3.net) p.3.reads q.3.reads in
@@ -62,7 +62,7 @@ one_setting text a b p q =
     ap bare_setting p.is ∙ sym (bare_is p.net.cfg p.net.db) ∙ ap₂ setting_at nets.0 nets.1 ∙ bare_is q.net.cfg q.net.db ∙ ap bare_setting (sym q.is)
 
 -- a node that words and a text name is not missing
-no_site : (words : List (List ℕ)) (text : List ℕ) (site : Site) → AsksNone words text → AsksFor words text (Replay site) → ⊥
+no_site : (words : List (List ℕ)) (text : List ℕ) (site : LineSetting) → AsksNone words text → AsksFor words text (Replay site) → ⊥
 no_site words text site p q =
     let is : IsReplay words p.name = elim p.words_are [ inl replay ↦ replay | inr emission ↦ absurd (emission_alone words p.name q.1 emission q.2) ] in
     let name : p.name ≡ q.1 = one_value (codes "replay") (codes "--node") words p.name q.1 is q.2 in
@@ -151,11 +151,11 @@ is_command : (words : List (List ℕ)) (input : List ℕ) (s : Status) (o : List
 is_command words input s o p = command_of words (network_text input) p.0 p.1
 
 -- two answers that came to the records
-both_replay : OneRun → OneNode → (words : List (List ℕ)) (text : List ℕ) (lines : List (List ℕ)) (a b : Site) (s t : Status) (o u : List ℕ) → AsksFor words text (Replay a) → AsksFor words text (Replay b)
+both_replay : OneRun → OneNode → (words : List (List ℕ)) (text : List ℕ) (lines : List (List ℕ)) (a b : LineSetting) (s t : Status) (o u : List ℕ) → AsksFor words text (Replay a) → AsksFor words text (Replay b)
     → RecordsAnswer (meaning_of a) lines s o → RecordsAnswer (meaning_of b) lines t u → AreOne s t o u
 both_replay runs nodes words text lines a b s t o u p q x y =
     let same : b ≡ a = one_site words text b a q p in
-    one_records_answer (meaning_of a) (exact_replay runs nodes a) lines s t o u x (subst (λ (n : Site). RecordsAnswer (meaning_of n) lines t u) same y)
+    one_records_answer (meaning_of a) (exact_replay runs nodes a) lines s t o u x (subst (λ (n : LineSetting). RecordsAnswer (meaning_of n) lines t u) same y)
 
 both_audits : OneAudit → (text : List ℕ) (lines : List (List ℕ)) (a b : Setting) (s t : Status) (o u : List ℕ) → IsSettingOf text a → IsSettingOf text b
     → RecordsAnswer (audit_of a) lines s o → RecordsAnswer (audit_of b) lines t u → AreOne s t o u

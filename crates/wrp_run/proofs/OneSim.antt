@@ -7,7 +7,7 @@ use Rattle.std.proofs.lemmas.Option.{none-some, same_Some}
 use Rattle.wrp_base.specs.declared.fault.TraceFault.{TraceFault}
 use Rattle.wrp_lines.specs.Lines.{sum_line}
 use Rattle.wrp_node.proofs.OneRun.{SameServo, with_calls}
-use Rattle.wrp_node.specs.NodeAt.{Fixed, NodeAt, Taken, dac_of, slave_of}
+use Rattle.wrp_node.specs.NodeAt.{NodeSetting, NodeAt, Taken, dac_of, slave_of}
 use Rattle.wrp_servo.specs.Call.{Call}
 use Rattle.wrp_servo.specs.declared.machine.Core.{Core}
 use Rattle.wrp_servo.specs.Told.{ToldLast}
@@ -20,7 +20,7 @@ use Rattle.wrp_world.specs.declared.event.Event.{Event}
 use Rattle.wrp_world.specs.declared.event.Event.TheVariants.{Pass}
 use Rattle.wrp_world.specs.Given.{NodeStepAt}
 use Rattle.wrp_world.specs.Run.{AllSaid, Happened, IsAnswered, steps_at, world_after}
-use Rattle.wrp_world.specs.Setting.{Setting, fixed_of, links_of, nodes_of}
+use Rattle.wrp_world.specs.Setting.{Setting, node_setting_of, links_of, nodes_of}
 use Rattle.wrp_world.specs.Views.{IsNextArrival, IsNoSooner}
 use Rattle.wrp_world.specs.WorldAt.{WorldAt}
 use Rattle.wrp_run.specs.declared.machine.Refusal.{Refusal}
@@ -32,7 +32,7 @@ use Rattle.wrp_run.specs.Refusals.{bad_trace_line}
 use Rattle.wrp_run.specs.SimText.{count_of, node_sum, offsets_in, printed_lines, sim_lines, sum_by, sum_lines, tracked, worst_of}
 use Rattle.wrp_run.specs.Simulates.{Changes, IsOver, IsSimulated, Overruns, SimAccepts, SimRefuses, Simulates, simulation_of}
 use Rattle.wrp_run.specs.Stream.{large_line}
-use Rattle.wrp_run.proofs.BareSite.{flat_map_same}
+use Rattle.wrp_run.proofs.BareSetting.{flat_map_same}
 use Rattle.wrp_run.proofs.OneWorld.{Alike, SameEvents, alike_after, before_newest, locked_same, state_same, steps_after, with_all}
 use Rattle.wrp_run.proofs.Unique.{EndsWith, IsExact}
 
@@ -71,16 +71,16 @@ one_due w (Some m) (Some n) p q =
 
 -- The rules in alike worlds
 
-dac_same : (fixed : Fixed) (n : NodeAt) (calls : List Call) → SameServo fixed n.calls calls → dac_of fixed (with_calls calls n) ≡ dac_of fixed n
+dac_same : (fixed : NodeSetting) (n : NodeAt) (calls : List Call) → SameServo fixed n.calls calls → dac_of fixed (with_calls calls n) ≡ dac_of fixed n
 dac_same fixed n calls h = ap (λ (v : Core). if is_some (slave_of fixed.set) then v.phase.dac else fixed.set.servo.bias) (sym h)
 
-drift_same : (scene : SceneAt) (s : Setting) (v : WorldAt) (calls : ℕ → List Call) (inputs : ℕ → List Taken) (dt : ℤ) → ((n : ℕ) → SameServo (fixed_of s n) (v.node n).calls (calls n)) → (n : ℕ) →
+drift_same : (scene : SceneAt) (s : Setting) (v : WorldAt) (calls : ℕ → List Call) (inputs : ℕ → List Taken) (dt : ℤ) → ((n : ℕ) → SameServo (node_setting_of s n) (v.node n).calls (calls n)) → (n : ℕ) →
     drift_over scene s (with_all calls inputs v) dt n ≡ drift_over scene s v dt n
 drift_same scene s v calls inputs dt servo n =
     rw (
-      locked_same (fixed_of s n) (v.node n) (calls n) (servo n),
-      state_same (fixed_of s n) (v.node n) (calls n) (servo n),
-      dac_same (fixed_of s n) (v.node n) (calls n) (servo n),
+      locked_same (node_setting_of s n) (v.node n) (calls n) (servo n),
+      state_same (node_setting_of s n) (v.node n) (calls n) (servo n),
+      dac_same (node_setting_of s n) (v.node n) (calls n) (servo n),
     ) refl
 
 pub map_same : {A B : Type 0} (f g : A → B) → ((a : A) → f a ≡ g a) → (xs : List A) → map f xs ≡ map g xs
@@ -92,14 +92,14 @@ abbrev passing : Setting → ℤ → List ℤ → Event
 passing s dt drifts = Pass dt (record { items = drifts }) (record { items = map (λ k. (pos 0, pos 0)) (links_of s) })
 
 passes_alike : (scene : SceneAt) (s : Setting) (v : WorldAt) (calls : ℕ → List Call) (inputs : ℕ → List Taken) (due : Option (ℕ × ℤ)) (at : SimAt) →
-    ((n : ℕ) → SameServo (fixed_of s n) (v.node n).calls (calls n)) → passes scene s (with_all calls inputs v) due at ≡ passes scene s v due at
+    ((n : ℕ) → SameServo (node_setting_of s n) (v.node n).calls (calls n)) → passes scene s (with_all calls inputs v) due at ≡ passes scene s v due at
 passes_alike scene s v calls inputs due at servo =
     let dt : ℤ = next_moment v.time (moments scene s v due at) -ℤ v.time in
     ap (λ (drifts : List ℤ). if is_over scene s v then None else comes (passing s dt drifts) at)
     (map_same (drift_over scene s (with_all calls inputs v) dt) (drift_over scene s v dt) (drift_same scene s v calls inputs dt servo) (nodes_of s))
 
 next_alike : (scene : SceneAt) (s : Setting) (v : WorldAt) (calls : ℕ → List Call) (inputs : ℕ → List Taken) (due : Option (ℕ × ℤ)) (at : SimAt) →
-    ((n : ℕ) → SameServo (fixed_of s n) (v.node n).calls (calls n)) → next_of scene s (with_all calls inputs v) due at ≡ next_of scene s v due at
+    ((n : ℕ) → SameServo (node_setting_of s n) (v.node n).calls (calls n)) → next_of scene s (with_all calls inputs v) due at ≡ next_of scene s v due at
 next_alike scene s v calls inputs due at servo =
     ap (λ (last : Option Next). first_of (
     begins scene s v at ∷ (fails scene s v at
@@ -174,7 +174,7 @@ tracked_one last s n (h ∷ a) (k ∷ b) same t u =
 sum_alike : (s : Setting) (n : ℕ) (v w : WorldAt) (offs : List ℤ) → Alike s v w → sum_by s w n offs ≡ sum_by s v n offs
 sum_alike s n v w offs h =
     ap (λ (k : WorldAt). sum_by s k n offs) h.is
-    ∙ ap (sum_line s.cfg n (v.node n).ticks (count_of offs) (worst_of offs)) (state_same (fixed_of s n) (v.node n) (h.calls n) (h.servo n))
+    ∙ ap (sum_line s.cfg n (v.node n).ticks (count_of offs) (worst_of offs)) (state_same (node_setting_of s n) (v.node n) (h.calls n) (h.servo n))
 
 sums_one : ToldLast → (s : Setting) (a b : List Happened) → SameEvents a b → Told s a → Told s b → sum_lines s a ≡ sum_lines s b
 sums_one last s a b same t u =

@@ -1,13 +1,13 @@
 -- The same events make the same world, but for answers of the law that nobody asked for; its nodes make the same steps,
 -- and the same premise is the first that an event breaks.
 use Rattle.std.proofs.Common.{◌≡◌, ◌∙◌, refl, ap, ap₂, sym, subst, ℕ, ℤ, Bool, true, false, ◌==◌, if◌then◌else◌, List, [], ◌∷◌, ◌++◌, flat_map, map, is_some, Result, arith}
-use Rattle.wrp_trace.specs.Site.{site_in}
+use Rattle.wrp_trace.specs.LineSetting.{line_setting_in}
 use Rattle.wrp_base.specs.declared.link.ServoState.TheVariants.{Uninit}
 use Rattle.wrp_base.specs.declared.message.PtpMsg.{PtpMsg}
 use Rattle.wrp_base.proofs.Naturals.{eq_self}
 use Rattle.wrp_frame.specs.declared.fault.FrameFault.{FrameFault}
 use Rattle.wrp_node.proofs.OneRun.{SameServo, SameStep, Answered, with_calls, step_with, step_alike, before_step, put_out_same, ok_of}
-use Rattle.wrp_node.specs.NodeAt.{Taken, Fixed, NodeAt, settings_of, slave_of, locked_of, state_of}
+use Rattle.wrp_node.specs.NodeAt.{Taken, NodeSetting, NodeAt, servo_setting_of, slave_of, locked_of, state_of}
 use Rattle.wrp_node.specs.OneRun.{answers_by}
 use Rattle.wrp_node.specs.Telling.{Step}
 use Rattle.wrp_servo.specs.Call.{Call}
@@ -17,12 +17,12 @@ use Rattle.wrp_servo.specs.Told.{ToldLast}
 use Rattle.wrp_world.specs.Checks.{Check}
 use Rattle.wrp_world.specs.declared.event.Event.{Event}
 use Rattle.wrp_world.specs.declared.event.Event.TheVariants.{Pass, Tick, Sample, Depart, Arrive, Deliver, Noise, Down, Up, Cut, Join}
-use Rattle.wrp_run.proofs.BareSite.{flat_map_same}
+use Rattle.wrp_run.proofs.BareSetting.{flat_map_same}
 use Rattle.wrp_world.specs.Given.{Given, given_by, gives, gives_all, node_step_of, steps_of, step_of, stepped_by, taken_of, world_step, event_steps}
 use Rattle.wrp_world.specs.Moved.{moved}
 use Rattle.wrp_world.specs.Premises.{checks_of, rate_kept, tick_late, fibre_rate, fibre_kept}
 use Rattle.wrp_world.specs.Run.{AllSaid, Happened, IsAnswered, IsSaid, world_after, steps_at}
-use Rattle.wrp_world.specs.Setting.{Setting, fixed_of, nodes_of, links_of}
+use Rattle.wrp_world.specs.Setting.{Setting, node_setting_of, nodes_of, links_of}
 use Rattle.wrp_world.specs.WorldAt.{WorldAt}
 use Rattle.wrp_run.specs.Audited.{answers_in}
 use Rattle.wrp_run.specs.DownLaw.{law_at}
@@ -36,15 +36,15 @@ pub record Alike (s : Setting) (v w : WorldAt) : Type 0 where
   pub calls : ℕ → List Call
   pub inputs : ℕ → List Taken
   pub is : w ≡ with_all calls inputs v
-  pub servo : (n : ℕ) → SameServo (fixed_of s n) (v.node n).calls (calls n)
+  pub servo : (n : ℕ) → SameServo (node_setting_of s n) (v.node n).calls (calls n)
 
 -- the law of the link above a node
 abbrev law_of : Setting → ℕ → ℤ → ℤ
-law_of s n = law_at (site_in s n)
+law_of s n = law_at (line_setting_in s n)
 
 -- each measurement of a node has the law's answer
 abbrev AnsweredAt : Setting → WorldAt → ℕ → Type 0
-AnsweredAt s w n = AllAnswered (answers_by (law_of s n)) (settings_of (fixed_of s n)) (w.node n).calls
+AnsweredAt s w n = AllAnswered (answers_by (law_of s n)) (servo_setting_of (node_setting_of s n)) (w.node n).calls
 
 -- An event by itself
 
@@ -96,27 +96,27 @@ stepped_alike s v calls inputs g t u r c =
     ap (λ (nodes : ℕ → NodeAt). record (stepped_by s v g t r) { node = nodes; inputs = λ n. if n == g.to then u ∷ inputs n else inputs n })
     (λ i n. node_at g.to c calls r.node v.node n i)
 
-servo_at_node : (s : Setting) (v : WorldAt) (calls : ℕ → List Call) (m : ℕ) (r : NodeAt) (c : List Call) → ((n : ℕ) → SameServo (fixed_of s n) (v.node n).calls (calls n)) →
-    SameServo (fixed_of s m) r.calls c → (n : ℕ) → SameServo (fixed_of s n) (if n == m then r else v.node n).calls (at_node m c calls n)
+servo_at_node : (s : Setting) (v : WorldAt) (calls : ℕ → List Call) (m : ℕ) (r : NodeAt) (c : List Call) → ((n : ℕ) → SameServo (node_setting_of s n) (v.node n).calls (calls n)) →
+    SameServo (node_setting_of s m) r.calls c → (n : ℕ) → SameServo (node_setting_of s n) (if n == m then r else v.node n).calls (at_node m c calls n)
 servo_at_node s v calls m r c all one n = go (n == m) refl
   where
-    go : (b : Bool) → (n == m) ≡ b → SameServo (fixed_of s n) (if b then r else v.node n).calls (if b then c else calls n)
-    go true is = let same : m ≡ n = grind (arith, is) in subst (λ (k : ℕ). SameServo (fixed_of s k) r.calls c) same one
+    go : (b : Bool) → (n == m) ≡ b → SameServo (node_setting_of s n) (if b then r else v.node n).calls (if b then c else calls n)
+    go true is = let same : m ≡ n = grind (arith, is) in subst (λ (k : ℕ). SameServo (node_setting_of s k) r.calls c) same one
     go false is = all n
 
 -- what the node that is given an input holds after it
-after_given : (s : Setting) (y : ℤ) (v : WorldAt) (g : Given) → AnsweredAt s (gives s y v g) g.to → Answered (law_of s g.to) (fixed_of s g.to) (step_of s y v g)
+after_given : (s : Setting) (y : ℤ) (v : WorldAt) (g : Given) → AnsweredAt s (gives s y v g) g.to → Answered (law_of s g.to) (node_setting_of s g.to) (step_of s y v g)
 after_given s y v g a =
-    subst (λ (b : Bool). AllAnswered (answers_by (law_of s g.to)) (settings_of (fixed_of s g.to)) (if b then (step_of s y v g).node else v.node g.to).calls) (eq_self g.to) a
+    subst (λ (b : Bool). AllAnswered (answers_by (law_of s g.to)) (servo_setting_of (node_setting_of s g.to)) (if b then (step_of s y v g).node else v.node g.to).calls) (eq_self g.to) a
 
 before_given : (s : Setting) (y : ℤ) (v : WorldAt) (g : Given) → IsAnswered (answers_in s) s (gives s y v g) → IsAnswered (answers_in s) s v
 before_given s y v g all n = go (n == g.to) refl (all n)
   where
-    go : (b : Bool) → (n == g.to) ≡ b → AllAnswered (answers_in s n) (settings_of (fixed_of s n)) (if b then (step_of s y v g).node else v.node n).calls → AnsweredAt s v n
+    go : (b : Bool) → (n == g.to) ≡ b → AllAnswered (answers_in s n) (servo_setting_of (node_setting_of s n)) (if b then (step_of s y v g).node else v.node n).calls → AnsweredAt s v n
     go true is a =
         let same : g.to ≡ n = grind (arith, is) in
         subst (AnsweredAt s v) same
-        (before_step (law_of s g.to) (fixed_of s g.to) (taken_of y g) (v.node g.to) (after_given s y v g (all g.to)))
+        (before_step (law_of s g.to) (node_setting_of s g.to) (taken_of y g) (v.node g.to) (after_given s y v g (all g.to)))
     go false is a = a
 
 before_all : (s : Setting) (y : ℤ) (v : WorldAt) (gs : List Given) → IsAnswered (answers_in s) s (gives_all s y v gs) → IsAnswered (answers_in s) s v
@@ -128,10 +128,10 @@ record Gives (s : Setting) (y z : ℤ) (v w : WorldAt) (g : Given) : Type 0 wher
   worlds : Alike s (gives s y v g) (gives s z w g)
   steps : node_step_of s y v g ≡ node_step_of s z w g
 
-with_given : ToldLast → (s : Setting) (y z : ℤ) (v : WorldAt) (calls : ℕ → List Call) (inputs : ℕ → List Taken) (g : Given) → ((n : ℕ) → SameServo (fixed_of s n) (v.node n).calls (calls n)) →
+with_given : ToldLast → (s : Setting) (y z : ℤ) (v : WorldAt) (calls : ℕ → List Call) (inputs : ℕ → List Taken) (g : Given) → ((n : ℕ) → SameServo (node_setting_of s n) (v.node n).calls (calls n)) →
     IsAnswered (answers_in s) s (gives s y v g) → IsAnswered (answers_in s) s (gives s z (with_all calls inputs v) g) → Gives s y z v (with_all calls inputs v) g
 with_given last s y z v calls inputs g servo a b =
-    let fixed : Fixed = fixed_of s g.to in
+    let fixed : NodeSetting = node_setting_of s g.to in
     let step : SameStep fixed (step_of s y v g) (step_of s z (with_all calls inputs v) g) =
     step_alike last (law_of s g.to) fixed g.input g.says y z (v.node g.to) (calls g.to) (servo g.to) (after_given s y v g (a g.to)) (after_given s z (with_all calls inputs v) g (b g.to)) in
     record {
@@ -195,17 +195,17 @@ tried_same s w (Join k ms sm) a b p q = refl
 
 -- Premises
 
-pub locked_same : (fixed : Fixed) (n : NodeAt) (calls : List Call) → SameServo fixed n.calls calls → locked_of fixed (with_calls calls n) ≡ locked_of fixed n
+pub locked_same : (fixed : NodeSetting) (n : NodeAt) (calls : List Call) → SameServo fixed n.calls calls → locked_of fixed (with_calls calls n) ≡ locked_of fixed n
 locked_same fixed n calls h = ap (λ (v : Core). if is_some (slave_of fixed.set) then v.phase.lock.locked else false) (sym h)
 
-pub state_same : (fixed : Fixed) (n : NodeAt) (calls : List Call) → SameServo fixed n.calls calls → state_of fixed (with_calls calls n) ≡ state_of fixed n
+pub state_same : (fixed : NodeSetting) (n : NodeAt) (calls : List Call) → SameServo fixed n.calls calls → state_of fixed (with_calls calls n) ≡ state_of fixed n
 state_same fixed n calls h = ap (λ (v : Core). if is_some (slave_of fixed.set) then v.state else Uninit) (sym h)
 
-rate_same : (s : Setting) (v : WorldAt) (calls : ℕ → List Call) (inputs : ℕ → List Taken) (dt : ℤ) (drifts : List ℤ) → ((n : ℕ) → SameServo (fixed_of s n) (v.node n).calls (calls n)) → (n : ℕ) →
+rate_same : (s : Setting) (v : WorldAt) (calls : ℕ → List Call) (inputs : ℕ → List Taken) (dt : ℤ) (drifts : List ℤ) → ((n : ℕ) → SameServo (node_setting_of s n) (v.node n).calls (calls n)) → (n : ℕ) →
     rate_kept s (with_all calls inputs v) dt drifts n ≡ rate_kept s v dt drifts n
-rate_same s v calls inputs dt drifts servo n = rw (locked_same (fixed_of s n) (v.node n) (calls n) (servo n), state_same (fixed_of s n) (v.node n) (calls n) (servo n)) refl
+rate_same s v calls inputs dt drifts servo n = rw (locked_same (node_setting_of s n) (v.node n) (calls n) (servo n), state_same (node_setting_of s n) (v.node n) (calls n) (servo n)) refl
 
-checks_alike : (s : Setting) (v : WorldAt) (calls : ℕ → List Call) (inputs : ℕ → List Taken) (says : Result PtpMsg FrameFault) (e : Event) → ((n : ℕ) → SameServo (fixed_of s n) (v.node n).calls (calls n)) →
+checks_alike : (s : Setting) (v : WorldAt) (calls : ℕ → List Call) (inputs : ℕ → List Taken) (says : Result PtpMsg FrameFault) (e : Event) → ((n : ℕ) → SameServo (node_setting_of s n) (v.node n).calls (calls n)) →
     checks_of s (with_all calls inputs v) says e ≡ checks_of s v says e
 checks_alike s v calls inputs says (Pass dt drifts fibres) servo =
     ap (λ (rates : List Check). map (tick_late s v dt) (nodes_of s) ++ (rates ++ (flat_map (fibre_rate dt fibres.items) (links_of s) ++ flat_map (fibre_kept s (moved s v (Pass dt drifts fibres))) (links_of s))))

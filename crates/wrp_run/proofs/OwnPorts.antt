@@ -13,8 +13,8 @@ use Rattle.wrp_node.specs.declared.parts.Parts.{Parts}
 use Rattle.wrp_node.specs.Parts.{PartsAt, is_among}
 use Rattle.wrp_node.specs.Set.{master_at, slave_at, ports_at, ports_of}
 use Rattle.wrp_world.proofs.PortNumbers.{or_swap}
-use Rattle.wrp_trace.specs.Site.{Site, has_port}
-use Rattle.wrp_run.specs.DownLaw.{fixed_at}
+use Rattle.wrp_trace.specs.LineSetting.{LineSetting, has_port}
+use Rattle.wrp_run.specs.DownLaw.{node_setting_at}
 
 -- one of the ports has this number
 abbrev any_of : ℕ → List PortDs → Bool
@@ -70,11 +70,11 @@ at_links net n p (link ∷ links) is =
     ] refl is
 
 -- a port that a link names is one that the node is set to
-pub is_own : (site : Site) (p : ℕ) → has_port site p ≡ true → any_of p (in_order (ports_of site.cfg site.node)) ≡ true
+pub is_own : (site : LineSetting) (p : ℕ) → has_port site p ≡ true → any_of p (in_order (ports_of site.cfg site.node)) ≡ true
 is_own site p has =
     ordered_any p (ports_of site.cfg site.node)
     ∙ at_links site.cfg site.node p site.cfg.links.items (sym (some_bare (pair_of site.node p) (link_at site.cfg site.node p)) ∙ has)
 
 -- and one of a node that stands for some inputs
-pub is_among_own : (site : Site) (n : NodeAt) (parts : Parts) (p : ℕ) → PartsAt (fixed_at site) n parts → has_port site p ≡ true → is_among p parts.ports ≡ true
+pub is_among_own : (site : LineSetting) (n : NodeAt) (parts : Parts) (p : ℕ) → PartsAt (node_setting_at site) n parts → has_port site p ≡ true → is_among p parts.ports ≡ true
 is_among_own site n parts p at has = ap (λ (ns : List ℕ). list_any (λ q. q == p) ns) at.numbers ∙ is_own site p has

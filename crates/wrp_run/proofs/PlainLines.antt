@@ -12,7 +12,7 @@ use Rattle.wrp_trace.specs.Inputs.{input_of, read_of, IsReadInto}
 use Rattle.wrp_fields.specs.Reading.{IsReading, is_plain}
 use Rattle.wrp_fields.proofs.PlainLemmas.{line_is, line_passes}
 use Rattle.wrp_trace.proofs.ReadingLemmas.{is_reading}
-use Rattle.wrp_trace.specs.Site.{Site}
+use Rattle.wrp_trace.specs.LineSetting.{LineSetting}
 use Rattle.wrp_trace.specs.Events.{event_of, event_read}
 use Rattle.wrp_world.specs.declared.event.Event.{Event}
 use Rattle.wrp_run.specs.Split.{HasParts}
@@ -21,19 +21,19 @@ use Rattle.wrp_run.specs.Split.{HasParts}
 pub other_fails : (line : List ℕ) → (IsLine line → ⊥) → is_plain line ≡ false
 other_fails line other = false_from_ne_true (is_plain line) (λ e. other (line_is line e))
 
-passes_read : (site : Site) (line : List ℕ) → is_plain line ≡ true → read_of site line ≡ input_of site (parts_of line)
+passes_read : (site : LineSetting) (line : List ℕ) → is_plain line ≡ true → read_of site line ≡ input_of site (parts_of line)
 passes_read site line is = rw is refl
 
-other_read : (site : Site) (line : List ℕ) → is_plain line ≡ false → read_of site line ≡ Err Fields
+other_read : (site : LineSetting) (line : List ℕ) → is_plain line ≡ false → read_of site line ≡ Err Fields
 other_read site line is = rw is refl
 
 -- a line with parts reads into a place as they do
-pub reads_parts : (site : Site) (line : List ℕ) (row : Row) (answer : Result Unit TraceFault) (old new : Input) → HasParts line row → IsReadInto (input_of site (fields_of row)) answer old new → IsReadInto (read_of site line) answer old new
+pub reads_parts : (site : LineSetting) (line : List ℕ) (row : Row) (answer : Result Unit TraceFault) (old new : Input) → HasParts line row → IsReadInto (input_of site (fields_of row)) answer old new → IsReadInto (read_of site line) answer old new
 reads_parts site line row answer old new parts is =
     subst (λ (read : Result Input TraceFault). IsReadInto read answer old new) (ap (input_of site) parts.1 ∙ sym (passes_read site line (line_passes line parts.0))) is
 
 -- a line without parts has no fields
-pub reads_none : (site : Site) (line : List ℕ) (input : Input) → (IsLine line → ⊥) → IsReadInto (read_of site line) (Err Fields) input input
+pub reads_none : (site : LineSetting) (line : List ℕ) (input : Input) → (IsLine line → ⊥) → IsReadInto (read_of site line) (Err Fields) input input
 reads_none site line input other =
     subst (λ (read : Result Input TraceFault). IsReadInto read (Err Fields) input input) (sym (other_read site line (other_fails line other))) (refl, refl)
 

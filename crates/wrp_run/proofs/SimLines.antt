@@ -11,7 +11,7 @@ use Rattle.wrp_base.specs.Network.{name_at, node_count}
 use Rattle.wrp_base.specs.declared.configuration.NetCfg.{NetCfg}
 use Rattle.wrp_bounds.specs.Bounds.{path_of}
 use Rattle.wrp_config.specs.Accepted.{greatest}
-use Rattle.wrp_node.specs.NodeAt.{Fixed, NodeAt, Taken, state_of}
+use Rattle.wrp_node.specs.NodeAt.{NodeSetting, NodeAt, Taken, state_of}
 use Rattle.wrp_node.specs.NodeRun.{node_after}
 use Rattle.wrp_node.specs.StandsFor.{NodeOf, StandsFor as NodeStandsFor}
 use Rattle.wrp_node.specs.declared.interface.Output.{Output}
@@ -21,7 +21,7 @@ use Rattle.wrp_lines.specs.Lines.{sum_line_of}
 use Rattle.wrp_world.specs.declared.outcome.NodeOut.{NodeOut}
 use Rattle.wrp_world.specs.Given.{NodeStepAt}
 use Rattle.wrp_world.specs.Plant.{Each}
-use Rattle.wrp_world.specs.Setting.{Setting, fixed_of, from_on}
+use Rattle.wrp_world.specs.Setting.{Setting, node_setting_of, from_on}
 use Rattle.wrp_world.specs.StandsFor.{StandsFor, WorldOf}
 use Rattle.wrp_world.specs.Step.{step_seen}
 use Rattle.wrp_world.specs.WorldAt.{WorldAt}
@@ -32,24 +32,24 @@ use Rattle.wrp_run.specs.SimText.{is_track, offsets_in, outs_of, printed_lines, 
 -- Lines
 
 pub printed_text : {F : Type 0} (post : F → ℤ → ℤ → Type 0) (s : Setting) (w : WorldAt) (world : WorldOf F) (out : NodeOut) (node : NodeOf F) (ticks : ℕ) (off : ℤ) (name : List ℕ) (bound : ℤ) (lent : List Output) (text old : List ℕ) → StandsFor post s w world
-    → slice_get world.nodes out.node ≡ Some node → ((fixed : Fixed) (inputs : List Taken) → NodeStandsFor post fixed node inputs → ticks ≡ (node_after fixed inputs).ticks)
+    → slice_get world.nodes out.node ≡ Some node → ((fixed : NodeSetting) (inputs : List Taken) → NodeStandsFor post fixed node inputs → ticks ≡ (node_after fixed inputs).ticks)
     → ((s : Setting) (w : WorldAt) → StandsFor post s w world → off ≡ (w.clock out.node).off) → name ≡ name_at world.plant.net.cfg out.node → bound ≡ pos (path_of world.plant.net.cfg out.node)
     → lent ≡ out.outs.items → text ≡ old ++ flat_map (λ o. printed_by name ticks bound off o) lent → text ≡ old ++ printed_lines s w (step_seen out)
 printed_text post s w world out node ticks off name bound lent text old stands is ticked offs named bounded lends wrote =
     let ticks_are : ticks ≡ (w.node out.node).ticks =
-    ticked (fixed_of s out.node) (w.inputs out.node) (stands.nodes out.node node is).stands ∙ ap (λ (n : NodeAt). n.ticks) (sym (stands.nodes out.node node is).at) in
+    ticked (node_setting_of s out.node) (w.inputs out.node) (stands.nodes out.node node is).stands ∙ ap (λ (n : NodeAt). n.ticks) (sym (stands.nodes out.node node is).at) in
     let name_is : name ≡ name_at s.cfg out.node = named ∙ ap (λ (cfg : NetCfg). name_at cfg out.node) stands.plant.cfg in
     let bound_is : bound ≡ pos (path_of s.cfg out.node) = bounded ∙ ap (λ (cfg : NetCfg). pos (path_of cfg out.node)) stands.plant.cfg in
     wrote ∙ (λ i. old ++ flat_map (λ o. printed_by (name_is i) (ticks_are i) (bound_is i) (offs s w stands i) o) (lends i))
 
 pub sum_text : {F : Type 0} (post : F → ℤ → ℤ → Type 0) (s : Setting) (w : WorldAt) (world : WorldOf F) (n : ℕ) (node : NodeOf F) (ticks : ℕ) (state : ServoState) (name : List ℕ) (bound : ℤ) (total : Total) (offs : List ℤ) (text old : List ℕ) → StandsFor post s w world
-    → slice_get world.nodes n ≡ Some node → ((fixed : Fixed) (inputs : List Taken) → NodeStandsFor post fixed node inputs → ticks ≡ (node_after fixed inputs).ticks)
-    → ((fixed : Fixed) (inputs : List Taken) → NodeStandsFor post fixed node inputs → state ≡ state_of fixed (node_after fixed inputs)) → name ≡ name_at world.plant.net.cfg n → bound ≡ pos (path_of world.plant.net.cfg n)
+    → slice_get world.nodes n ≡ Some node → ((fixed : NodeSetting) (inputs : List Taken) → NodeStandsFor post fixed node inputs → ticks ≡ (node_after fixed inputs).ticks)
+    → ((fixed : NodeSetting) (inputs : List Taken) → NodeStandsFor post fixed node inputs → state ≡ state_of fixed (node_after fixed inputs)) → name ≡ name_at world.plant.net.cfg n → bound ≡ pos (path_of world.plant.net.cfg n)
     → IsTotal offs total → text ≡ old ++ sum_line_of name ticks total.tracks total.worst bound state → text ≡ old ++ sum_by s w n offs
 sum_text post s w world n node ticks state name bound total offs text old stands is ticked stated named bounded tells wrote =
     let at = (stands.nodes n node is).at in
-    let ticks_are : ticks ≡ (w.node n).ticks = ticked (fixed_of s n) (w.inputs n) (stands.nodes n node is).stands ∙ ap (λ (k : NodeAt). k.ticks) (sym at) in
-    let state_is : state ≡ state_of (fixed_of s n) (w.node n) = stated (fixed_of s n) (w.inputs n) (stands.nodes n node is).stands ∙ ap (state_of (fixed_of s n)) (sym at) in
+    let ticks_are : ticks ≡ (w.node n).ticks = ticked (node_setting_of s n) (w.inputs n) (stands.nodes n node is).stands ∙ ap (λ (k : NodeAt). k.ticks) (sym at) in
+    let state_is : state ≡ state_of (node_setting_of s n) (w.node n) = stated (node_setting_of s n) (w.inputs n) (stands.nodes n node is).stands ∙ ap (state_of (node_setting_of s n)) (sym at) in
     let name_is : name ≡ name_at s.cfg n = named ∙ ap (λ (cfg : NetCfg). name_at cfg n) stands.plant.cfg in
     let bound_is : bound ≡ pos (path_of s.cfg n) = bounded ∙ ap (λ (cfg : NetCfg). pos (path_of cfg n)) stands.plant.cfg in
     wrote ∙ (λ i. old ++ sum_line_of (name_is i) (ticks_are i) (tells.tracks i) (tells.worst i) (bound_is i) (state_is i))

@@ -1,7 +1,7 @@
 -- What an audited network stands for: the lines that it has taken (this project's profile).
 use Rattle.std.specs.Prelude.{◌≡◌, ◌<◌, ℕ, ℤ, Option, None, Some, IfSome, List, ◌++◌, Result, Err}
 use Rattle.std.specs.List.{flat_map}
-use Rattle.wrp_trace.specs.Site.{site_in}
+use Rattle.wrp_trace.specs.LineSetting.{line_setting_in}
 use Rattle.wrp_base.specs.declared.fault.TraceFault.{TraceFault}
 use Rattle.wrp_base.specs.declared.message.PtpMsg.{PtpMsg}
 use Rattle.wrp_base.specs.Network.{node_count}
@@ -61,7 +61,7 @@ HasAudited post held lines = (events : List Happened) × AuditedSo post held lin
 -- the law of a node is that of the link above it
 abbrev pub HasLawOf : {F : Type 0} → (F → ℤ → ℤ → Type 0) → Setting → WorldOf F → Type 0
 HasLawOf post s world =
-    Each (λ n node. IfSome (law_in node.control) (AnswersBy post (law_at (site_in s n)))) world.nodes
+    Each (λ n node. IfSome (law_in node.control) (AnswersBy post (law_at (line_setting_in s n)))) world.nodes
 
 -- it can take a line: its world is one that its calls made, the law of each node is that of the link
 -- above it, and the node whose inputs are asked for is one of the network

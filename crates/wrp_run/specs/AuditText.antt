@@ -4,7 +4,7 @@ use Rattle.std.specs.Prelude.{ℕ, ◌==◌, if◌then◌else◌, Some, List, []
 use Rattle.std.specs.List.{flat_map}
 use Rattle.wrp_lines.specs.Lines.{output_line}
 use Rattle.wrp_trace.specs.Printing.{line_of}
-use Rattle.wrp_trace.specs.Site.{site_in}
+use Rattle.wrp_trace.specs.LineSetting.{line_setting_in}
 use Rattle.wrp_world.specs.Given.{NodeStepAt}
 use Rattle.wrp_world.specs.Run.{Happened, world_after, steps_at}
 use Rattle.wrp_world.specs.Setting.{Setting, nodes_of}
@@ -30,13 +30,13 @@ audit_lines s (h ∷ before) = audit_lines s before ++ event_lines s before h
 
 -- the counters of all nodes, by node, port and reason
 abbrev pub all_counts : Setting → WorldAt → List ℕ
-all_counts s w = flat_map (λ n. node_counts (site_in s n) (w.node n)) (nodes_of s)
+all_counts s w = flat_map (λ n. node_counts (line_setting_in s n) (w.node n)) (nodes_of s)
 
 -- The inputs of one node
 
 -- the line of what a step gave the node, where the step is its own; LF is octet 10
 abbrev pub given_line : Setting → ℕ → NodeStepAt → List ℕ
-given_line s n step = if step.node == n then line_of (site_in s n) step.input ++ 10 ∷ [] else []
+given_line s n step = if step.node == n then line_of (line_setting_in s n) step.input ++ 10 ∷ [] else []
 
 -- those of all events
 abbrev pub given_lines : Setting → ℕ → List Happened → List ℕ

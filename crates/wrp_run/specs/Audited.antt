@@ -9,7 +9,7 @@ use Rattle.wrp_node.specs.NodeRun.{AllSaid}
 use Rattle.wrp_node.specs.OneRun.{answers_by}
 use Rattle.wrp_node.specs.Set.{set_of}
 use Rattle.wrp_trace.specs.Events.{event_read}
-use Rattle.wrp_trace.specs.Site.{site_in}
+use Rattle.wrp_trace.specs.LineSetting.{line_setting_in}
 use Rattle.wrp_world.specs.Run.{Happened, WorldRun, world_after}
 use Rattle.wrp_world.specs.Setting.{Setting}
 use Rattle.wrp_world.specs.WorldAt.{WorldAt}
@@ -34,7 +34,7 @@ pub record IsSettingOf (text : List ℕ) (s : Setting) : Type 0 where
 
 -- what the laws of the links answer, by the node below each
 abbrev pub answers_in : Setting → ℕ → ℤ → ℤ → Type 0
-answers_in s n = answers_by (law_at (site_in s n))
+answers_in s n = answers_by (law_at (line_setting_in s n))
 
 -- each line says its event; the events stand newest first
 abbrev pub AreEvents : Setting → List (List ℕ) → List Happened → Type 0

@@ -6,10 +6,10 @@ use Rattle.wrp_base.specs.Network.{link_above}
 use Rattle.wrp_caldb.specs.Database.{Database, TableAt, table_at}
 use Rattle.wrp_law.specs.Law.{LawOf, KeepsFact, floor_at}
 use Rattle.wrp_law.specs.Table.{first_x, last_x, table_value}
-use Rattle.wrp_node.specs.New.{fixed_of}
-use Rattle.wrp_node.specs.NodeAt.{Fixed}
+use Rattle.wrp_node.specs.New.{node_setting_of}
+use Rattle.wrp_node.specs.NodeAt.{NodeSetting}
 use Rattle.wrp_node.specs.Set.{set_of}
-use Rattle.wrp_trace.specs.Site.{Site}
+use Rattle.wrp_trace.specs.LineSetting.{LineSetting}
 
 -- the delay down where x is the delay both ways, in tau: the value of the fibre's table, or else the
 -- exact fraction (2^39 + kappa) / 2^40 of x, rounded down
@@ -41,12 +41,12 @@ greatest_over db None = pos 0
 greatest_over db (Some link) = greatest_by (table_at db link.fibre.bytes)
 
 -- the law of the link above a node
-abbrev pub law_at : Site → ℤ → ℤ
+abbrev pub law_at : LineSetting → ℤ → ℤ
 law_at site x = down_over site.db (link_above site.cfg site.node) x
 
 -- what is fixed of a node: what it is set to, and the range of that law
-abbrev pub fixed_at : Site → Fixed
-fixed_at site = record {
+abbrev pub node_setting_at : LineSetting → NodeSetting
+node_setting_at site = record {
   set = set_of site.cfg site.node;
   lo = least_over site.db (link_above site.cfg site.node);
   hi = greatest_over site.db (link_above site.cfg site.node);
@@ -59,9 +59,9 @@ pub record AnswersBy {F : Type 0} (post : F → ℤ → ℤ → Type 0) (law : �
 
 -- the law that a node is given: there is one exactly where a link is above it, it keeps its fact, and
 -- its range and its answers are those of that link
-pub record IsLawAt {F : Type 0} (pre : F → ℤ → Type 0) (post : F → ℤ → ℤ → Type 0) (site : Site)
+pub record IsLawAt {F : Type 0} (pre : F → ℤ → Type 0) (post : F → ℤ → ℤ → Type 0) (site : LineSetting)
     (law : Option (LawOf F)) : Type 0 where
   pub some : is_some law ≡ is_some (link_above site.cfg site.node)
   pub fact : IfSome law (KeepsFact pre post)
-  pub range : fixed_of (set_of site.cfg site.node) law ≡ fixed_at site
+  pub range : node_setting_of (set_of site.cfg site.node) law ≡ node_setting_at site
   pub answers : IfSome law (AnswersBy post (law_at site))

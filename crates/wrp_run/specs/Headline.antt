@@ -14,7 +14,7 @@ use Rattle.wrp_world.specs.Dropped.{LeavesACount, given_at}
 use Rattle.wrp_world.specs.Earned.{AllHaveEarned, IsOn}
 use Rattle.wrp_world.specs.Given.{Given}
 use Rattle.wrp_world.specs.Run.{Happened, world_after}
-use Rattle.wrp_world.specs.Setting.{Setting, fixed_of}
+use Rattle.wrp_world.specs.Setting.{Setting, node_setting_of}
 use Rattle.wrp_world.specs.WorldAt.{WorldAt}
 use Rattle.wrp_run.specs.declared.machine.Refusal.TheVariants as refusals
 use Rattle.wrp_run.specs.declared.status.Status.{Status}
@@ -125,7 +125,7 @@ pub record OnlyCounts (write : Writing) (s : Setting) (before : List Happened) (
 -- an input that is a frame which the node drops for one of the reasons 1 to 12
 abbrev pub OnlyCountsIf : Writing → Setting → List Happened → Happened → Given → Input → Type 0
 OnlyCountsIf write s before h g (Frame p octets raw sample) =
-    (reason : ℕ) → reason_of (fixed_of s g.to) ((world_after s before).node g.to) p g.says ≡ Some reason →
+    (reason : ℕ) → reason_of (node_setting_of s g.to) ((world_after s before).node g.to) p g.says ≡ Some reason →
     OnlyCounts write s before h g.to p reason
 OnlyCountsIf write s before h g _ = Unit {0}
 

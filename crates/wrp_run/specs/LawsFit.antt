@@ -1,6 +1,6 @@
 -- The delay laws of all nodes of a network (this project's profile).
 use Rattle.std.specs.Prelude.{◌≡◌, ℕ, ℤ, IfSome, List, Option, is_some, length}
-use Rattle.wrp_trace.specs.Site.{site_in}
+use Rattle.wrp_trace.specs.LineSetting.{line_setting_in}
 use Rattle.wrp_base.specs.Network.{link_above, node_count}
 use Rattle.wrp_config.specs.declared.network.Network.{Network}
 use Rattle.wrp_law.specs.declared.link_law.LinkLaw.{LinkLaw}
@@ -29,7 +29,7 @@ pub record IsMade {F : Type 0} (has : F → LinkLaw) (net : Network) (n : ℕ) (
 pub record FitsAt {F : Type 0} (pre : F → ℤ → Type 0) (post : F → ℤ → ℤ → Type 0) (net : Network) (n : ℕ)
     (law : Option (LawOf F)) : Type 0 where
   pub fits : FitsLaw pre post net.cfg n law
-  pub is : IsLawAt pre post (site_in (setting_in net) n) law
+  pub is : IsLawAt pre post (line_setting_in (setting_in net) n) law
 
 -- each node has one
 pub record LawsFit {F : Type 0} (pre : F → ℤ → Type 0) (post : F → ℤ → ℤ → Type 0) (net : Network)

@@ -10,21 +10,21 @@ use Rattle.wrp_node.specs.declared.interface.Output.{Output}
 use Rattle.wrp_node.specs.NodeAt.{Taken, NodeAt}
 use Rattle.wrp_node.specs.NodeRun.{NodeRun, node_after}
 use Rattle.wrp_node.specs.OneRun.{answers_by}
-use Rattle.wrp_trace.specs.Site.{Site, has_port}
-use Rattle.wrp_run.specs.DownLaw.{law_at, fixed_at}
+use Rattle.wrp_trace.specs.LineSetting.{LineSetting, has_port}
+use Rattle.wrp_run.specs.DownLaw.{law_at, node_setting_at}
 
 -- the lines of a node's outputs at a tick, in their order; the true offset is not known
-abbrev pub output_lines : Site → ℕ → List Output → List ℕ
+abbrev pub output_lines : LineSetting → ℕ → List Output → List ℕ
 output_lines site tick outs = flat_map (λ o. output_line site.cfg site.node tick o None) outs
 
 -- the run of a node over these inputs, newest first, writes this: for each input the lines of what it
 -- puts out, with the node's tick count after it
-abbrev pub Writes : Site → List Taken → List ℕ → Type 0
+abbrev pub Writes : LineSetting → List Taken → List ℕ → Type 0
 Writes site [] text = text ≡ []
 Writes site (t ∷ before) text =
     (earlier : List ℕ) × (outs : List Output) × Writes site before earlier
-    × NodeRun (answers_by (law_at site)) (fixed_at site) before t outs
-    × (text ≡ earlier ++ output_lines site (node_after (fixed_at site) (t ∷ before)).ticks outs)
+    × NodeRun (answers_by (law_at site)) (node_setting_at site) before t outs
+    × (text ≡ earlier ++ output_lines site (node_after (node_setting_at site) (t ∷ before)).ticks outs)
 
 -- the numbers that a port may have
 abbrev pub port_numbers : List ℕ
@@ -44,7 +44,7 @@ port_counts name port counters =
     reasons
 
 -- those of all ports of a node, by port
-abbrev pub node_counts : Site → NodeAt → List ℕ
+abbrev pub node_counts : LineSetting → NodeAt → List ℕ
 node_counts site n =
     flat_map
     (λ port.

@@ -11,17 +11,17 @@ use Rattle.wrp_node.specs.NodeAt.{Taken}
 use Rattle.wrp_node.specs.NodeRun.{node_after}
 use Rattle.wrp_node.specs.OneRun.{IsRun}
 use Rattle.wrp_trace.specs.Inputs.{read_of}
-use Rattle.wrp_trace.specs.Site.{Site}
+use Rattle.wrp_trace.specs.LineSetting.{LineSetting}
 use Rattle.wrp_run.specs.declared.machine.Refusal.{Refusal}
 use Rattle.wrp_run.specs.declared.machine.Refusal.TheVariants.{BadTrace, Broken}
-use Rattle.wrp_run.specs.DownLaw.{law_at, fixed_at}
+use Rattle.wrp_run.specs.DownLaw.{law_at, node_setting_at}
 use Rattle.wrp_run.specs.Meaning.{Meaning, never}
 use Rattle.wrp_run.specs.NodeText.{Writes, node_counts}
 use Rattle.wrp_run.specs.Refusals.{bad_network_line, bad_trace_line}
 
 -- the text describes the network that has this node; its names are taken without what stands in their
 -- unused room
-pub record IsNetworkOf (text : List ℕ) (site : Site) : Type 0 where
+pub record IsNetworkOf (text : List ℕ) (site : LineSetting) : Type 0 where
   pub net : Network
   pub reads : IsReadingOf text (Ok net)
   pub cfg : site.cfg ≡ bare_cfg net.cfg
@@ -38,31 +38,31 @@ IsRefusedBy text line =
     × (line ≡ bad_network_line code place.bytes)
 
 -- each line says its input to the node; the inputs stand newest first
-abbrev pub AreInputs : Site → List (List ℕ) → List Taken → Type 0
+abbrev pub AreInputs : LineSetting → List (List ℕ) → List Taken → Type 0
 AreInputs site lines inputs =
     map (read_of site) lines ≡ map (λ (t : Taken). Ok t.input) (reverse inputs)
 
 -- the lines are inputs of the node, and this is what its run writes
-abbrev pub Accepts : Site → List (List ℕ) → List ℕ → Type 0
+abbrev pub Accepts : LineSetting → List (List ℕ) → List ℕ → Type 0
 Accepts site lines text =
     (inputs : List Taken) × AreInputs site lines inputs × Writes site inputs text
 
 -- behind some lines a line is no input of the node
-abbrev pub Refuses : Site → List (List ℕ) → List ℕ → Refusal → List ℕ → Type 0
+abbrev pub Refuses : LineSetting → List (List ℕ) → List ℕ → Refusal → List ℕ → Type 0
 Refuses site lines line BadTrace last =
     (fault : TraceFault) × (read_of site line ≡ Err fault)
     × (last ≡ bad_trace_line (length lines + 1) fault)
 Refuses site lines line Broken last = ⊥
 
 -- at the end the counters that are not 0 are written
-abbrev pub Closes : Site → List (List ℕ) → List ℕ → Type 0
+abbrev pub Closes : LineSetting → List (List ℕ) → List ℕ → Type 0
 Closes site lines last =
     (inputs : List Taken) × AreInputs site lines inputs
-    × IsRun (law_at site) (fixed_at site) inputs
-    × (last ≡ node_counts site (node_after (fixed_at site) inputs))
+    × IsRun (law_at site) (node_setting_at site) inputs
+    × (last ≡ node_counts site (node_after (node_setting_at site) inputs))
 
 -- what the record lines mean
-abbrev pub meaning_of : Site → Meaning
+abbrev pub meaning_of : LineSetting → Meaning
 meaning_of site = record {
   accepts = Accepts site;
   refuses = Refuses site;

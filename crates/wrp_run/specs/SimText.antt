@@ -10,7 +10,7 @@ use Rattle.wrp_node.specs.declared.interface.Report.TheVariants.{Track}
 use Rattle.wrp_node.specs.NodeAt.{state_of}
 use Rattle.wrp_world.specs.Given.{NodeStepAt}
 use Rattle.wrp_world.specs.Run.{Happened, world_after, steps_at}
-use Rattle.wrp_world.specs.Setting.{Setting, fixed_of, nodes_of}
+use Rattle.wrp_world.specs.Setting.{Setting, node_setting_of, nodes_of}
 use Rattle.wrp_world.specs.WorldAt.{WorldAt}
 
 -- The lines of events
@@ -75,7 +75,7 @@ worst_of offs = greatest (map unsigned_abs offs)
 -- and the state of its servo are those in that world
 abbrev pub sum_by : Setting → WorldAt → ℕ → List ℤ → List ℕ
 sum_by s w n offs =
-    sum_line s.cfg n (w.node n).ticks (count_of offs) (worst_of offs) (state_of (fixed_of s n) (w.node n))
+    sum_line s.cfg n (w.node n).ticks (count_of offs) (worst_of offs) (state_of (node_setting_of s n) (w.node n))
 
 -- those of all nodes, over all events
 abbrev pub node_sum : Setting → List Happened → ℕ → List ℕ

@@ -15,24 +15,24 @@ use Rattle.wrp_node.specs.OneRun.{answers_by}
 use Rattle.wrp_node.specs.Parts.{is_among}
 use Rattle.wrp_node.specs.StandsFor.{NodeOf, StandsFor}
 use Rattle.wrp_fields.specs.Reading.{IsReading}
-use Rattle.wrp_trace.specs.Site.{Site, has_port}
+use Rattle.wrp_trace.specs.LineSetting.{LineSetting, has_port}
 use Rattle.wrp_run.specs.declared.machine.Refusal.TheVariants.{BadTrace}
 use Rattle.wrp_run.specs.declared.machine.Taken as machine
 use Rattle.wrp_run.specs.declared.machine.Taken.TheVariants.{Refused}
 use Rattle.wrp_run.specs.declared.replay.ReplayedNode.{ReplayedNode}
 use Rattle.wrp_run.specs.declared.replayed.Replayed.{Replayed}
-use Rattle.wrp_run.specs.DownLaw.{AnswersBy, law_at, fixed_at}
+use Rattle.wrp_run.specs.DownLaw.{AnswersBy, law_at, node_setting_at}
 use Rattle.wrp_run.specs.NodeText.{Writes, output_lines}
 use Rattle.wrp_run.specs.Refusals.{bad_trace_line}
 use Rattle.wrp_run.specs.Replays.{AreInputs}
 
 -- the ports that links name are among these
-abbrev pub OwnsPorts : Site → List Place → Type 0
+abbrev pub OwnsPorts : LineSetting → List Place → Type 0
 OwnsPorts site places = (p : ℕ) → has_port site p ≡ true → is_among p places ≡ true
 
 -- the node that is replayed, of the network without what stands in the unused room of its names
-abbrev pub site_at : Replayed → Site
-site_at replayed = record {
+abbrev pub line_setting_at : Replayed → LineSetting
+line_setting_at replayed = record {
   cfg = bare_cfg replayed.net.now.cfg;
   db = replayed.net.now.db;
   node = replayed.node;
@@ -41,9 +41,9 @@ site_at replayed = record {
 -- the node holds what the lines made that it has taken, and they wrote this
 pub record TakenSo {F : Type 0} (post : F → ℤ → ℤ → Type 0) (held : ReplayedNode F)
     (lines : List (List ℕ)) (inputs : List Taken) (text : List ℕ) : Type 0 where
-  pub are : AreInputs (site_at held.replayed) lines inputs
-  pub writes : Writes (site_at held.replayed) inputs text
-  pub stands : StandsFor post (fixed_at (site_at held.replayed)) held.node inputs
+  pub are : AreInputs (line_setting_at held.replayed) lines inputs
+  pub writes : Writes (line_setting_at held.replayed) inputs text
+  pub stands : StandsFor post (node_setting_at (line_setting_at held.replayed)) held.node inputs
 
 abbrev pub HasTaken : {F : Type 0} → (F → ℤ → ℤ → Type 0) → ReplayedNode F → List (List ℕ) → Type 0
 HasTaken post held lines = (inputs : List Taken) × (text : List ℕ) × TakenSo post held lines inputs text
@@ -53,10 +53,10 @@ HasTaken post held lines = (inputs : List Taken) × (text : List ℕ) × TakenSo
 pub record IsReady {F : Type 0} (pre : F → ℤ → Type 0) (post : F → ℤ → ℤ → Type 0)
     (held : ReplayedNode F) : Type 0 where
   pub valid : IsValid pre post held.node
-  pub law : IfSome (law_in held.node.control) (AnswersBy post (law_at (site_at held.replayed)))
-  pub ports : OwnsPorts (site_at held.replayed) held.node.parts.ports
-  pub name : held.name.now ≡ name_at (site_at held.replayed).cfg held.replayed.node
-  pub bound : held.bound ≡ pos (path_of (site_at held.replayed).cfg held.replayed.node)
+  pub law : IfSome (law_in held.node.control) (AnswersBy post (law_at (line_setting_at held.replayed)))
+  pub ports : OwnsPorts (line_setting_at held.replayed) held.node.parts.ports
+  pub name : held.name.now ≡ name_at (line_setting_at held.replayed).cfg held.replayed.node
+  pub bound : held.bound ≡ pos (path_of (line_setting_at held.replayed).cfg held.replayed.node)
 
 -- the node took an input: for each list of inputs that it stood for it stands for one with this input
 -- in front, and what is written are the lines of its run
@@ -65,9 +65,9 @@ pub record TookInput {F : Type 0} (post : F → ℤ → ℤ → Type 0) (held : 
   pub taken : Taken
   pub is : taken.input ≡ input
   pub outs : List Output
-  pub stands : StandsFor post (fixed_at (site_at held.replayed)) new (taken ∷ inputs)
-  pub run : NodeRun (answers_by (law_at (site_at held.replayed))) (fixed_at (site_at held.replayed)) inputs taken outs
-  pub wrote : text ≡ output_lines (site_at held.replayed) (node_after (fixed_at (site_at held.replayed)) (taken ∷ inputs)).ticks outs
+  pub stands : StandsFor post (node_setting_at (line_setting_at held.replayed)) new (taken ∷ inputs)
+  pub run : NodeRun (answers_by (law_at (line_setting_at held.replayed))) (node_setting_at (line_setting_at held.replayed)) inputs taken outs
+  pub wrote : text ≡ output_lines (line_setting_at held.replayed) (node_after (node_setting_at (line_setting_at held.replayed)) (taken ∷ inputs)).ticks outs
 
 -- a fault that is no want of memory is told: a line that is read with it has it
 pub record Tells (fault : TraceFault) (number : ℕ) (old new : List ℕ) (taken : machine.Taken)

@@ -1,7 +1,7 @@
 -- What the words of the command line ask for (this project's profile).
 use Rattle.std.specs.Prelude.{◌≡◌, ℕ, ◌≤◌, Some, List, [], ◌∷◌, length, codes}
 use Rattle.wrp_config.specs.Names.{node_named}
-use Rattle.wrp_trace.specs.Site.{Site}
+use Rattle.wrp_trace.specs.LineSetting.{LineSetting}
 use Rattle.wrp_world.specs.Setting.{Setting}
 use Rattle.wrp_run.specs.Audited.{IsSettingOf}
 use Rattle.wrp_run.specs.Audits.{audit_of, emission_of}
@@ -14,7 +14,7 @@ use Rattle.wrp_run.specs.Simulates.{simulation_of}
 -- the replay of a node, the audit of a network, the inputs of a node in it, or its simulation from a
 -- seed
 pub data Task : Type 0 where
-  Replay : (site : Site) → Task
+  Replay : (site : LineSetting) → Task
   Audit : (setting : Setting) → Task
   Emit : (setting : Setting) (node : ℕ) → Task
   Simulate : (setting : Setting) (seed : ℕ) → Task

@@ -6,7 +6,7 @@ ghost use Rattle.wrp_bounds.specs.Bounds.{path_of};
 ghost use Rattle.wrp_config.specs.Accepted.{IsAccepted};
 ghost use Rattle.wrp_lines.specs.Lines.{output_line_of};
 ghost use Rattle.wrp_trace.specs.Events.{event_read, plain, told};
-ghost use Rattle.wrp_trace.specs.Site.{site_in};
+ghost use Rattle.wrp_trace.specs.LineSetting.{line_setting_in};
 ghost use Rattle.wrp_fields.specs.Reading.{IsReading};
 ghost use Rattle.wrp_world.specs.declared.outcome.NodeOut.{NodeOut};
 ghost use Rattle.wrp_world.specs.EventAt.{IsEventOf};

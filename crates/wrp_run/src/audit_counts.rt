@@ -4,10 +4,10 @@ ghost use Rattle.wrp_base.specs.Network.{name_at, node_count};
 ghost use Rattle.wrp_world.specs.Setting.{Setting};
 ghost use Rattle.wrp_world.specs.StandsFor.{IsValid, StandsFor};
 ghost use Rattle.wrp_world.specs.WorldAt.{WorldAt};
-ghost use Rattle.wrp_trace.specs.Site.{site_in};
+ghost use Rattle.wrp_trace.specs.LineSetting.{line_setting_in};
 ghost use Rattle.wrp_run.specs.AuditText.{all_counts};
 ghost use Rattle.wrp_run.specs.NodeText.{node_counts};
-ghost use Rattle.wrp_run.specs.StandsFor.{site_at};
+ghost use Rattle.wrp_run.specs.StandsFor.{line_setting_at};
 
 use crate::counting::append_counts;
 use crate::replayed::Replayed;
@@ -16,10 +16,10 @@ use wrp_config::Network;
 use wrp_world::World;
 
 // The name of a node.
-#[tactic(auto, using(crate::proofs::BareSite::name_bare))]
+#[tactic(auto, using(crate::proofs::BareSetting::name_bare))]
 fn name_of<'a>(replayed: Replayed<'a>) -> &'a str
     requires { replayed.node < node_count replayed.net.now.cfg }
-    ensures { result.now ≡ name_at (site_at replayed.entry).cfg replayed.entry.node }
+    ensures { result.now ≡ name_at (line_setting_at replayed.entry).cfg replayed.entry.node }
 {
     replayed.net.cfg.nodes[usize::from(replayed.node)]
         .name
@@ -35,7 +35,7 @@ fn append_node<F: Fn(i64) -> i64>(
     requires valid { IsValid F.pre F.post world.now }
     requires node { node < node_count world.now.plant.net.cfg }
     ensures { IfOk result (λ _. (s : Setting) (w : WorldAt) → StandsFor F.post s w world.now
-        → text.new.items ≡ text.old.items ++ node_counts (site_in s node) (w.node node)) }
+        → text.new.items ≡ text.old.items ++ node_counts (line_setting_in s node) (w.node node)) }
 {
     let replayed = Replayed {
         net: world.net(),

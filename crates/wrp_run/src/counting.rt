@@ -1,13 +1,13 @@
 //! The lines that close a node's records: its counters that are not 0, by port and reason.
 ghost use Rattle.std.specs.Prelude.{◌≡◌, ◌≤◌, ◌++◌, List, IfOk, true};
 ghost use Rattle.wrp_base.specs.Network.{name_at};
-ghost use Rattle.wrp_node.specs.NodeAt.{Fixed, Taken};
+ghost use Rattle.wrp_node.specs.NodeAt.{NodeSetting, Taken};
 ghost use Rattle.wrp_node.specs.NodeRun.{node_after};
 ghost use Rattle.wrp_node.specs.Parts.{is_among};
 ghost use Rattle.wrp_node.specs.StandsFor.{StandsFor};
-ghost use Rattle.wrp_trace.specs.Site.{has_port};
+ghost use Rattle.wrp_trace.specs.LineSetting.{has_port};
 ghost use Rattle.wrp_run.specs.NodeText.{nonzero_line, port_counts, node_counts};
-ghost use Rattle.wrp_run.specs.StandsFor.{OwnsPorts, site_at};
+ghost use Rattle.wrp_run.specs.StandsFor.{OwnsPorts, line_setting_at};
 
 use crate::replayed::Replayed;
 use std::alloc::AllocError;
@@ -48,7 +48,7 @@ fn append_port<F: Fn(i64) -> i64>(
     text: &mut Vec<u8>,
 ) -> Result<(), AllocError>
     requires port { is_among port node.now.parts.ports ≡ true }
-    ensures { IfOk result (λ _. (fixed : Fixed) (inputs : List Taken)
+    ensures { IfOk result (λ _. (fixed : NodeSetting) (inputs : List Taken)
         → StandsFor F.post fixed node.now inputs → text.new.items ≡ text.old.items
         ++ port_counts name.now port ((node_after fixed inputs).counters port)) }
 {
@@ -62,7 +62,7 @@ fn append_port<F: Fn(i64) -> i64>(
 
 // Whether the node has a port of this number.
 fn has_port(replayed: Replayed<'_>, port: u16) -> bool
-    ensures { result ≡ has_port (site_at replayed.entry) port }
+    ensures { result ≡ has_port (line_setting_at replayed.entry) port }
 {
     pair_at(&replayed.net.cfg, replayed.node, port).is_some()
 }
@@ -74,11 +74,11 @@ pub fn append_counts<F: Fn(i64) -> i64>(
     node: &Node<F>,
     text: &mut Vec<u8>,
 ) -> Result<(), AllocError>
-    requires name { name.now ≡ name_at (site_at replayed).cfg replayed.node }
-    requires ports { OwnsPorts (site_at replayed) node.now.parts.ports }
-    ensures { IfOk result (λ _. (fixed : Fixed) (inputs : List Taken)
+    requires name { name.now ≡ name_at (line_setting_at replayed).cfg replayed.node }
+    requires ports { OwnsPorts (line_setting_at replayed) node.now.parts.ports }
+    ensures { IfOk result (λ _. (fixed : NodeSetting) (inputs : List Taken)
         → StandsFor F.post fixed node.now inputs → text.new.items ≡ text.old.items
-        ++ node_counts (site_at replayed.entry) (node_after fixed inputs)) }
+        ++ node_counts (line_setting_at replayed.entry) (node_after fixed inputs)) }
 {
     for port in &PORTS {
         if has_port(replayed, *port) {

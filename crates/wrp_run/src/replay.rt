@@ -9,13 +9,13 @@ ghost use Rattle.wrp_node.specs.NodeAt.{Taken as TakenInput};
 ghost use Rattle.wrp_node.specs.StandsFor.{StandsFor};
 ghost use Rattle.wrp_trace.specs.InputAt.{IsInputAt};
 ghost use Rattle.wrp_trace.specs.Inputs.{read_of, IsReadInto};
-ghost use Rattle.wrp_trace.specs.Site.{site_of};
+ghost use Rattle.wrp_trace.specs.LineSetting.{line_setting_of};
 ghost use Rattle.wrp_run.specs.declared.machine.Refusal.{Refusal};
 ghost use Rattle.wrp_run.specs.declared.machine.Taken.{Taken};
-ghost use Rattle.wrp_run.specs.DownLaw.{IsLawAt, fixed_at};
+ghost use Rattle.wrp_run.specs.DownLaw.{IsLawAt, node_setting_at};
 ghost use Rattle.wrp_run.specs.Replays.{Accepts, Refuses, Closes};
 ghost use Rattle.wrp_run.specs.Split.{IsSplit};
-ghost use Rattle.wrp_run.specs.StandsFor.{HasTaken, IsReady, Tells, TookInput, site_at};
+ghost use Rattle.wrp_run.specs.StandsFor.{HasTaken, IsReady, Tells, TookInput, line_setting_at};
 
 use crate::counting::append_counts;
 use crate::machine::{Machine, Refusal, Taken};
@@ -51,7 +51,7 @@ impl<'a, F: Fn(i64) -> i64> ReplayedNode<'a, F> {
     ) -> Result<ReplayedNode<'a, F>, AllocError>
         requires accepted { IsAccepted replayed.net.now.cfg replayed.net.now.db }
         requires node { replayed.node < node_count replayed.net.now.cfg }
-        requires law { IsLawAt F.pre F.post (site_at replayed) law }
+        requires law { IsLawAt F.pre F.post (line_setting_at replayed) law }
         ensures ready { IfOk result (IsReady F.pre F.post) }
         ensures taken { IfOk result (λ held. HasTaken F.post held []) }
         ensures same { IfOk result (λ held. held.replayed ≡ replayed.entry) }
@@ -72,7 +72,7 @@ impl<'a, F: Fn(i64) -> i64> ReplayedNode<'a, F> {
     // Takes the input at hand, and appends the lines that it writes.
     fn write(&mut self, alloc: Global, text: &mut Vec<u8>) -> Result<(), AllocError>
         requires ready { IsReady F.pre F.post self.old }
-        requires input { IsInputAt (site_of self.old.replayed.net.now self.old.replayed.node)
+        requires input { IsInputAt (line_setting_of self.old.replayed.net.now self.old.replayed.node)
             self.old.input }
         requires room { self.old.node.parts.ticks + 1 < 2 ^ 32 }
         requires none { text.old.items ≡ [] }
@@ -80,7 +80,7 @@ impl<'a, F: Fn(i64) -> i64> ReplayedNode<'a, F> {
         ensures same { self.new.replayed ≡ self.old.replayed }
         ensures count { self.new.node.parts.ticks ≤ self.old.node.parts.ticks + 1 }
         ensures took { IfOk result (λ _. (inputs : List TakenInput)
-            → StandsFor F.post (fixed_at (site_at self.old.replayed)) self.old.node inputs
+            → StandsFor F.post (node_setting_at (line_setting_at self.old.replayed)) self.old.node inputs
             → TookInput F.post self.old self.new.node self.old.input inputs text.new.items) }
     {
         self.node.step_into(&self.input, &mut self.outs);
@@ -106,14 +106,14 @@ impl<'a, F: Fn(i64) -> i64> ReplayedNode<'a, F> {
         ensures count { self.new.node.parts.ticks ≤ self.old.node.parts.ticks + 1 }
         ensures accepted { (lines : List (List ℕ)) (before : List ℕ)
             → IfOk result (λ taken. taken ≡ Taken.Accepted
-            → HasTaken F.post self.old lines → Accepts (site_at self.old.replayed) lines before
+            → HasTaken F.post self.old lines → Accepts (line_setting_at self.old.replayed) lines before
             → HasTaken F.post self.new (lines ++ line.now ∷ [])
-            × Accepts (site_at self.old.replayed) (lines ++ line.now ∷ [])
+            × Accepts (line_setting_at self.old.replayed) (lines ++ line.now ∷ [])
             (before ++ text.new.items)) }
         ensures refused { (lines : List (List ℕ)) (refusal : Refusal)
             → IfOk result (λ taken. taken ≡ Taken.Refused refusal
             → HasTaken F.post self.old lines → number ≡ length lines + 1
-            → Refuses (site_at self.old.replayed) lines line.now refusal text.new.items) }
+            → Refuses (line_setting_at self.old.replayed) lines line.now refusal text.new.items) }
         ensures enough { IfOk result (λ taken. taken ≡ Taken.Memory → ⊥) }
     {
         one_run();
@@ -131,7 +131,7 @@ impl<'a, F: Fn(i64) -> i64> ReplayedNode<'a, F> {
         requires ready { IsReady F.pre F.post self.now }
         requires none { text.old.items ≡ [] }
         ensures { IfOk result (λ _. (lines : List (List ℕ)) → HasTaken F.post self.now lines
-            → Closes (site_at self.now.replayed) lines text.new.items) }
+            → Closes (line_setting_at self.now.replayed) lines text.new.items) }
     {
         append_counts(self.replayed, self.name, &self.node, text)
     }
@@ -139,7 +139,7 @@ impl<'a, F: Fn(i64) -> i64> ReplayedNode<'a, F> {
 
 impl<'a, F: Fn(i64) -> i64> Machine for ReplayedNode<'a, F> {
     ghost use Rattle.wrp_run.specs.Replays.{Accepts, Refuses};
-    ghost use Rattle.wrp_run.specs.StandsFor.{HasTaken, IsReady, site_at};
+    ghost use Rattle.wrp_run.specs.StandsFor.{HasTaken, IsReady, line_setting_at};
 
     type Setting = Replayed<'a>;
 
@@ -151,9 +151,9 @@ impl<'a, F: Fn(i64) -> i64> Machine for ReplayedNode<'a, F> {
 
     ghost has_taken = { HasTaken F.post };
 
-    ghost accepts = { λ replayed. Accepts (site_at replayed) };
+    ghost accepts = { λ replayed. Accepts (line_setting_at replayed) };
 
-    ghost refuses = { λ replayed. Refuses (site_at replayed) };
+    ghost refuses = { λ replayed. Refuses (line_setting_at replayed) };
 
     fn take(
         &mut self,
@@ -179,10 +179,10 @@ fn read_parts(
 ) -> Result<(), TraceFault>
     requires { IsSplit line.now parts }
     ensures value { IsReadInto
-        (read_of (site_of replayed.entry.net.now replayed.entry.node) line.now) result
+        (read_of (line_setting_of replayed.entry.net.now replayed.entry.node) line.now) result
         input.old input.new }
     ensures input { OnOk result
-        (IsInputAt (site_of replayed.entry.net.now replayed.entry.node) input.new) }
+        (IsInputAt (line_setting_of replayed.entry.net.now replayed.entry.node) input.new) }
 {
     let _line = line;
     match parts {
@@ -209,10 +209,10 @@ fn refuse(
 }
 
 // The name of the node.
-#[tactic(auto, using(crate::proofs::BareSite::name_bare))]
+#[tactic(auto, using(crate::proofs::BareSetting::name_bare))]
 fn name_of<'a>(replayed: Replayed<'a>) -> &'a str
     requires { replayed.node < node_count replayed.net.now.cfg }
-    ensures { result.now ≡ name_at (site_at replayed.entry).cfg replayed.entry.node }
+    ensures { result.now ≡ name_at (line_setting_at replayed.entry).cfg replayed.entry.node }
 {
     replayed.net.cfg.nodes[usize::from(replayed.node)]
         .name
@@ -220,11 +220,11 @@ fn name_of<'a>(replayed: Replayed<'a>) -> &'a str
 }
 
 // The bound of the node in TRACK.
-#[tactic(auto, using(crate::proofs::BareSite::path_bare))]
+#[tactic(auto, using(crate::proofs::BareSetting::path_bare))]
 fn bound_of(replayed: Replayed<'_>) -> Tau
     requires accepted { IsAccepted replayed.net.now.cfg replayed.net.now.db }
     requires node { replayed.node < node_count replayed.net.now.cfg }
-    ensures { result ≡ pos (path_of (site_at replayed.entry).cfg replayed.entry.node) }
+    ensures { result ≡ pos (path_of (line_setting_at replayed.entry).cfg replayed.entry.node) }
 {
     path(&replayed.net.cfg, replayed.node)
 }

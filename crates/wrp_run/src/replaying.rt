@@ -11,7 +11,7 @@ ghost use Rattle.wrp_run.specs.After.{After, Closing};
 ghost use Rattle.wrp_run.specs.DownLaw.{AnswersBy, greatest_over, law_at, least_over};
 ghost use Rattle.wrp_run.specs.Ends.{Ends};
 ghost use Rattle.wrp_run.specs.Replays.{Closes, meaning_of};
-ghost use Rattle.wrp_run.specs.StandsFor.{HasTaken, IsReady, site_at};
+ghost use Rattle.wrp_run.specs.StandsFor.{HasTaken, IsReady, line_setting_at};
 ghost use Rattle.wrp_run.specs.Tasks.{IsReplay};
 ghost use Rattle.wrp_run.specs.Words.{texts_of};
 
@@ -36,7 +36,7 @@ fn close<F: Fn(i64) -> i64, K: Sink>(
     sink: &mut K,
 ) -> Status
     requires { IsReady F.pre F.post machine.now }
-    ensures stands { Closing (HasTaken F.post machine.now) (Closes (site_at machine.now.replayed))
+    ensures stands { Closing (HasTaken F.post machine.now) (Closes (line_setting_at machine.now.replayed))
         result (K.held sink.old) (K.held sink.new) }
     ensures rose { result ≡ Status.WriteFault → Rose (K.faults sink.old) (K.faults sink.new) }
     ensures kept { (result ≡ Status.WriteFault → ⊥) → K.faults sink.new ≡ K.faults sink.old }
@@ -63,7 +63,7 @@ fn replay_on<F: Fn(i64) -> i64, S: Source, K: Sink>(
     ensures stands { (given : List ℕ) × (octets : List ℕ)
         × Consumes (S.left source.old) (S.left source.new) given
         × Appends (K.held sink.old) (K.held sink.new) octets
-        × After (meaning_of (site_at machine.old.replayed)) (reader.old.rest ++ given) reader.new result
+        × After (meaning_of (line_setting_at machine.old.replayed)) (reader.old.rest ++ given) reader.new result
         octets }
     ensures at_end { reader.new.ended ≡ true → IsAtEnd (S.left source.new) }
     ensures done { result ≡ Status.Done → IsAtEnd (S.left source.new) }
@@ -104,11 +104,11 @@ fn replay_by<F: Fn(i64) -> i64, S: Source, K: Sink>(
         ≡ least_over replayed.net.now.db (link_above replayed.net.now.cfg replayed.node) }
     requires greatest { has_law ≡ true → law.hi
         ≡ greatest_over replayed.net.now.db (link_above replayed.net.now.cfg replayed.node) }
-    requires answers { has_law ≡ true → AnswersBy F.post (law_at (site_at replayed)) law }
+    requires answers { has_law ≡ true → AnswersBy F.post (law_at (line_setting_at replayed)) law }
     ensures stands { (given : List ℕ) × (octets : List ℕ)
         × Consumes (S.left source.old) (S.left source.new) given
         × Appends (K.held sink.old) (K.held sink.new) octets
-        × After (meaning_of (site_at replayed.entry)) (reader.old.rest ++ given) reader.new result
+        × After (meaning_of (line_setting_at replayed.entry)) (reader.old.rest ++ given) reader.new result
         octets }
     ensures at_end { reader.new.ended ≡ true → IsAtEnd (S.left source.new) }
     ensures done { result ≡ Status.Done → IsAtEnd (S.left source.new) }
@@ -143,7 +143,7 @@ fn replay<S: Source, K: Sink>(
     ensures stands { (given : List ℕ) × (octets : List ℕ)
         × Consumes (S.left source.old) (S.left source.new) given
         × Appends (K.held sink.old) (K.held sink.new) octets
-        × After (meaning_of (site_at replayed.entry)) (reader.old.rest ++ given) reader.new result
+        × After (meaning_of (line_setting_at replayed.entry)) (reader.old.rest ++ given) reader.new result
         octets }
     ensures at_end { reader.new.ended ≡ true → IsAtEnd (S.left source.new) }
     ensures done { result ≡ Status.Done → IsAtEnd (S.left source.new) }

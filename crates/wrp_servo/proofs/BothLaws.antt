@@ -9,7 +9,7 @@ use Rattle.wrp_servo.specs.declared.machine.Core.{Core}
 use Rattle.wrp_servo.specs.Table.{is_track, is_past_gap, is_old, one_tick, ended, ended_by_age, by_tick}
 use Rattle.wrp_servo.specs.Sampling.{hears, good_tag, is_far, is_calm, is_near, is_within, residual, with_tag, with_last, followed, stays_near, judged, chained, may_start, good, heard, lost}
 use Rattle.wrp_servo.specs.Measuring.{deltas_in_chain, is_in, x_of, delay_of, answered, placed, aimed}
-use Rattle.wrp_servo.specs.Call.{Call, CallSample, CallMeasured, CallTick, CallLease, CallLink, CallCarrier, CallReset, Settings, after, run}
+use Rattle.wrp_servo.specs.Call.{Call, CallSample, CallMeasured, CallTick, CallLease, CallLink, CallCarrier, CallReset, ServoSetting, after, run}
 use Rattle.wrp_servo.specs.Tracking.{enters, enters_by, is_wait_stable}
 use Rattle.wrp_servo.proofs.Leaving.{leaves, leaves_at, leaves_by}
 use Rattle.wrp_servo.specs.Chain.{unlocks, is_outside, steps, strays, strays_by, ends, strays_at, starts, ends_chain}
@@ -51,7 +51,7 @@ tick-same v m =
       | false ↦ either-same (is_old w) (ended w) w refl refl
     ]
 
-measured-same : (x : Settings) (v : Core) (m : ℕ) (f : Four) (y : ℤ) (on : Option Deltas) → Same (answered x.lo x.hi (tracker v m) f y on)
+measured-same : (x : ServoSetting) (v : Core) (m : ℕ) (f : Four) (y : ℤ) (on : Option Deltas) → Same (answered x.lo x.hi (tracker v m) f y on)
 measured-same x v m f y None = refl
 measured-same x v m f y (Some d) =
     let k : Measurement = record { four = f; delay = delay_of d y } in
@@ -60,7 +60,7 @@ measured-same x v m f y (Some d) =
     (either-same (is_within v.set.track_tau (residual v.phase k)) (aimed w k Track) (ended w) refl refl)
     refl
 
-call-same : (x : Settings) (v : Core) (m : ℕ) (call : Call) → Same (after x (tracker v m) call)
+call-same : (x : ServoSetting) (v : Core) (m : ℕ) (call : Call) → Same (after x (tracker v m) call)
 call-same x v m (CallSample n base bits) =
     either-same (hears (tracker v m)) (heard (with_last (tracker v m) n) n (good_tag v.last n base bits)) (tracker v m) (heard-same v m n (good_tag v.last n base bits)) refl
 call-same x v m (CallMeasured f y) = measured-same x v m f y v.signals.link
@@ -92,7 +92,7 @@ or_none : (i n : Bool) → (not i || not n) ≡ ((not i || (i && false)) || not 
 or_none true n = refl
 or_none false n = refl
 
-measured-leaves : (x : Settings) (v : Core) (m : ℕ) (f : Four) (y : ℤ) (on : Option Deltas) →
+measured-leaves : (x : ServoSetting) (v : Core) (m : ℕ) (f : Four) (y : ℤ) (on : Option Deltas) →
     leaves_by x (tracker v m) f y on ≡ ((is_outside x f on || steps x (tracker v m) f y on) || strays_by x (tracker v m) f y on)
 measured-leaves x v m f y None = refl
 measured-leaves x v m f y (Some d) = or_none (is_in x.lo x.hi (x_of d f)) (is_within v.set.track_tau (residual v.phase (record { four = f; delay = delay_of d y })))
@@ -101,7 +101,7 @@ or_false : (b : Bool) → b ≡ (b || false)
 or_false true = refl
 or_false false = refl
 
-call-leaves : (x : Settings) (v : Core) (m : ℕ) (call : Call) → leaves x (tracker v m) call ≡ (ends x (tracker v m) call || strays_at x (tracker v m) call)
+call-leaves : (x : ServoSetting) (v : Core) (m : ℕ) (call : Call) → leaves x (tracker v m) call ≡ (ends x (tracker v m) call || strays_at x (tracker v m) call)
 call-leaves x v m (CallSample n base bits) = sample-leaves (tracker v m) (hears (tracker v m)) (good_tag v.last n base bits)
 call-leaves x v m (CallMeasured f y) = measured-leaves x v m f y v.signals.link
 call-leaves x v m CallTick = refl
@@ -117,27 +117,27 @@ is_track-of Track h = refl
 is_track-of WaitStable h = cc
 is_track-of _ h = refl
 
-enters_by-of : (x : Settings) (v : Core) (f : Four) (y : ℤ) (on : Option Deltas) → is_track v.state ≡ true → enters_by x v f y on ≡ false
+enters_by-of : (x : ServoSetting) (v : Core) (f : Four) (y : ℤ) (on : Option Deltas) → is_track v.state ≡ true → enters_by x v f y on ≡ false
 enters_by-of x v f y None h = refl
 enters_by-of x v f y (Some d) h = rw (is_track-of v.state h) refl
 
-enters-of : (x : Settings) (v : Core) (call : Call) → is_track v.state ≡ true → enters x v call ≡ false
+enters-of : (x : ServoSetting) (v : Core) (call : Call) → is_track v.state ≡ true → enters x v call ≡ false
 enters-of x v (CallMeasured f y) h = enters_by-of x v f y (deltas_in_chain v) h
 enters-of x v _ h = refl
 
 -- ---- any call
 
-pub record Next (x : Settings) (v : Core) (call : Call) : Type 0 where
+pub record Next (x : ServoSetting) (v : Core) (call : Call) : Type 0 where
   pub track : is_track (after x v call).state ≡ cond (is_track v.state) (not (ends x v call || strays_at x v call)) (enters x v call)
   pub chain : is_some (after x v call).first ≡ cond (is_some v.first) (not (ends_chain x v call)) (starts x v call)
 
-next-track : (x : Settings) (v : Core) (m : ℕ) (call : Call) → Next x (tracker v m) call
+next-track : (x : ServoSetting) (v : Core) (m : ℕ) (call : Call) → Next x (tracker v m) call
 next-track x v m call =
     let known : Ends (after x (tracker v m) call) (not (leaves x (tracker v m) call)) = call-track x v m call in
     let t : is_track (after x (tracker v m) call).state ≡ not (ends x (tracker v m) call || strays_at x (tracker v m) call) = known.track ∙ ap not (call-leaves x v m call) in
     record { track = t; chain = call-same x v m call ∙ t }
 
-next-other : (x : Settings) (v : Core) (s : ServoState) (first : Option ℕ) (call : Call) → is_track s ≡ false →
+next-other : (x : ServoSetting) (v : Core) (s : ServoState) (first : Option ℕ) (call : Call) → is_track s ≡ false →
     is_track (after x (record v { state = s; first = first }) call).state ≡ cond (is_track s) (not (leaves x (record v { state = s; first = first }) call)) (enters x (record v { state = s; first = first }) call) →
     Next x (record v { state = s; first = first }) call
 next-other x v s first call h e =
@@ -147,7 +147,7 @@ next-other x v s first call h e =
       chain = call-other x v s first call h;
     }
 
-next-at : (x : Settings) (v : Core) (s : ServoState) (first : Option ℕ) (call : Call) → (is_track s ≡ true → is_some first ≡ true) → Next x (record v { state = s; first = first }) call
+next-at : (x : ServoSetting) (v : Core) (s : ServoState) (first : Option ℕ) (call : Call) → (is_track s ≡ true → is_some first ≡ true) → Next x (record v { state = s; first = first }) call
 next-at x v Track None call h = absurd (let e : false ≡ true = h refl in cc)
 next-at x v Track (Some m) call h = next-track x v m call
 next-at x v Uninit first call h = next-other x v Uninit first call refl (call-at x v Uninit first call h).track
@@ -157,16 +157,16 @@ next-at x v SyncPhase first call h = next-other x v SyncPhase first call refl (c
 next-at x v WaitStable first call h = next-other x v WaitStable first call refl (call-at x v WaitStable first call h).track
 next-at x v Holdover first call h = next-other x v Holdover first call refl (call-at x v Holdover first call h).track
 
-pub next : (x : Settings) (calls : List Call) (call : Call) → Next x (run x calls) call
+pub next : (x : ServoSetting) (calls : List Call) (call : Call) → Next x (run x calls) call
 next x calls call = next-at x (run x calls) (run x calls).state (run x calls).first call (stands x calls).chain
 
 -- the same, asked of what looking back finds
-pub next-seen : (x : Settings) (calls : List Call) (call : Call) → is_track (run x (call ∷ calls)).state ≡ cond (is_track (run x calls).state) (not (leaves_track x calls call)) (enters_track x calls call)
+pub next-seen : (x : ServoSetting) (calls : List Call) (call : Call) → is_track (run x (call ∷ calls)).state ≡ cond (is_track (run x calls).state) (not (leaves_track x calls call)) (enters_track x calls call)
 next-seen x calls call =
     subst (λ (v : Core). is_track (run x (call ∷ calls)).state ≡ cond (is_track (run x calls).state) (not (ends x v call || strays_at x v call)) (enters x v call)) (seen-is x calls)
     (next x calls call).track
 
-tracks : (x : Settings) → Runs (enters_track x) (leaves_track x) (λ calls. is_track (run x calls).state)
+tracks : (x : ServoSetting) → Runs (enters_track x) (leaves_track x) (λ calls. is_track (run x calls).state)
 tracks x = record {
   first = refl;
   next = λ call calls. next-seen x calls call;
@@ -177,11 +177,11 @@ tracks x = record {
 }
 
 -- TRACK stands exactly where a call enters it and none after it leaves it
-pub track_stands_since : (x : Settings) (calls : List Call) → (is_track (run x calls).state ≡ true) ↔ Since (enters_track x) (leaves_track x) calls
+pub track_stands_since : (x : ServoSetting) (calls : List Call) → (is_track (run x calls).state ≡ true) ↔ Since (enters_track x) (leaves_track x) calls
 track_stands_since x calls = stands_since (enters_track x) (leaves_track x) (λ c. is_track (run x c).state) (tracks x) calls
 
 -- where TRACK stands, so does the chain
-pub track_holds_chain : (x : Settings) (calls : List Call) → is_track (run x calls).state ≡ true → is_some (run x calls).first ≡ true
+pub track_holds_chain : (x : ServoSetting) (calls : List Call) → is_track (run x calls).state ≡ true → is_some (run x calls).first ≡ true
 track_holds_chain x calls = (stands x calls).chain
 
 none_stands : (b p q : Bool) → cond b p q ≡ cond b p (not b && q)
@@ -192,12 +192,12 @@ not_both : (b q : Bool) (A : Type 0) → b ≡ true → (not b && q) ≡ true �
 not_both true q A h e = absurd cc
 not_both false q A h e = absurd cc
 
-next-chain : (x : Settings) (calls : List Call) (call : Call) → is_some (run x (call ∷ calls)).first ≡ cond (is_some (run x calls).first) (not (chain_ends x calls call)) (starts x (seen x calls) call)
+next-chain : (x : ServoSetting) (calls : List Call) (call : Call) → is_some (run x (call ∷ calls)).first ≡ cond (is_some (run x calls).first) (not (chain_ends x calls call)) (starts x (seen x calls) call)
 next-chain x calls call =
     subst (λ (v : Core). is_some (run x (call ∷ calls)).first ≡ cond (is_some (run x calls).first) (not (ends_chain x v call)) (starts x v call)) (seen-is x calls)
     (next x calls call).chain
 
-chains : (x : Settings) → Runs (chain_starts x) (chain_ends x) (λ calls. is_some (run x calls).first)
+chains : (x : ServoSetting) → Runs (chain_starts x) (chain_ends x) (λ calls. is_some (run x calls).first)
 chains x = record {
   first = refl;
   next = λ call calls. next-chain x calls call ∙ none_stands (is_some (run x calls).first) (not (chain_ends x calls call)) (starts x (seen x calls) call);
@@ -205,5 +205,5 @@ chains x = record {
 }
 
 -- a chain stands exactly where a call starts it and none after it ends it
-pub chain_stands_since : (x : Settings) (calls : List Call) → (is_some (run x calls).first ≡ true) ↔ Since (chain_starts x) (chain_ends x) calls
+pub chain_stands_since : (x : ServoSetting) (calls : List Call) → (is_some (run x calls).first ≡ true) ↔ Since (chain_starts x) (chain_ends x) calls
 chain_stands_since x calls = stands_since (chain_starts x) (chain_ends x) (λ c. is_some (run x c).first) (chains x) calls

@@ -3,7 +3,7 @@ use Rattle.std.proofs.Common.{◌≡◌, refl, ◌∙◌, sym, ℕ, Bool, true, 
 use Rattle.wrp_servo.specs.declared.machine.Core.{Core}
 use Rattle.wrp_servo.specs.Table.{one_tick, is_past_gap, is_track}
 use Rattle.wrp_servo.specs.Sampling.{hears, is_holdover, good_tag, good, heard}
-use Rattle.wrp_servo.specs.Call.{Call, CallSample, CallTick, CallReset, Settings, run}
+use Rattle.wrp_servo.specs.Call.{Call, CallSample, CallTick, CallReset, ServoSetting, run}
 use Rattle.std.proofs.lemmas.Bool.Decides.{nat_tests}
 use Rattle.wrp_servo.specs.declared.interface.ServoSet.{ServoSet}
 use Rattle.wrp_servo.specs.Chain.{ends_chain, starts, starts_by}
@@ -30,12 +30,12 @@ either_le : (b : Bool) (m gap : ℕ) → m ≤ gap → cond b 0 m ≤ gap
 either_le true m gap h = omega arith
 either_le false m gap h = h
 
-started_at : (x : Settings) (heard : Bool) (v : Core) (tag : Option ℕ) (m : ℕ) → (heard && starts_by v tag) ≡ true → cond (is_some (cond heard tag None)) 0 m ≤ x.set.gap
+started_at : (x : ServoSetting) (heard : Bool) (v : Core) (tag : Option ℕ) (m : ℕ) → (heard && starts_by v tag) ≡ true → cond (is_some (cond heard tag None)) 0 m ≤ x.set.gap
 started_at x false v tag m h = absurd cc
 started_at x true v None m h = absurd cc
 started_at x true v (Some tag) m h = omega arith
 
-kept : (x : Settings) (call : Call) (calls : List Call) → is_some (run x calls).first ≡ true → ticks_since_good x calls ≤ x.set.gap → ends_chain x (run x calls) call ≡ false → ticks_since_good x (call ∷ calls) ≤ x.set.gap
+kept : (x : ServoSetting) (call : Call) (calls : List Call) → is_some (run x calls).first ≡ true → ticks_since_good x calls ≤ x.set.gap → ends_chain x (run x calls) call ≡ false → ticks_since_good x (call ∷ calls) ≤ x.set.gap
 kept x (CallSample n base bits) calls stood g e = either_le (is_some (cond (hears (run x calls)) (good_tag (run x calls).last n base bits) None)) (ticks_since_good x calls) x.set.gap g
 kept x CallTick calls stood g e =
     let v : Core = run x calls in
@@ -46,7 +46,7 @@ kept x CallTick calls stood g e =
 kept x CallReset calls stood g e = omega arith
 kept x _ calls stood g e = g
 
-begun : (x : Settings) (call : Call) (calls : List Call) → starts x (run x calls) call ≡ true → ticks_since_good x (call ∷ calls) ≤ x.set.gap
+begun : (x : ServoSetting) (call : Call) (calls : List Call) → starts x (run x calls) call ≡ true → ticks_since_good x (call ∷ calls) ≤ x.set.gap
 begun x (CallSample n base bits) calls h = started_at x (hears (run x calls)) (run x calls) (good_tag (run x calls).last n base bits) (ticks_since_good x calls) h
 begun x _ calls h = absurd cc
 

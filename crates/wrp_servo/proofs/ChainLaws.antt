@@ -12,7 +12,7 @@ use Rattle.wrp_servo.specs.Following.{restarted}
 use Rattle.wrp_servo.specs.Table.{is_track, is_past_gap, is_old, one_tick, ended, uninit_outside_holdover, ended_by_gap, ended_by_age, by_tick, holdover_ticked, carrier_gone, with_link, with_lease, with_carrier, linked, restarted_outside_holdover}
 use Rattle.wrp_servo.specs.Sampling.{hears, is_holdover, good_tag, is_far, with_tag, with_last, followed, judged, judged_in, chained, may_start, good, heard, lost, est_of, by_sample}
 use Rattle.wrp_servo.specs.Measuring.{is_in, x_of, delay_of, may_track, answered, placed, placed_in, aimed, by_period, settled, stepped, is_half, is_below_second}
-use Rattle.wrp_servo.specs.Call.{Call, CallSample, CallMeasured, CallTick, CallLease, CallLink, CallCarrier, CallReset, Settings, after}
+use Rattle.wrp_servo.specs.Call.{Call, CallSample, CallMeasured, CallTick, CallLease, CallLink, CallCarrier, CallReset, ServoSetting, after}
 use Rattle.wrp_servo.specs.Chain.{unlocks, is_outside, steps, steps_in, ends, strays_at, starts, starts_by, ends_chain}
 
 -- ---- what leaves the chain's first sample as it is
@@ -139,7 +139,7 @@ placed-some v m k WaitStable h =
     refl)
 placed-some v m k _ h = refl
 
-answered-some : (x : Settings) (v : Core) (m : ℕ) (s : ServoState) (f : Four) (y : ℤ) (on : Option Deltas) → is_track s ≡ false →
+answered-some : (x : ServoSetting) (v : Core) (m : ℕ) (s : ServoState) (f : Four) (y : ℤ) (on : Option Deltas) → is_track s ≡ false →
     is_some (answered x.lo x.hi (chainer v m s) f y on).first ≡ not (is_outside x f on || steps x (chainer v m s) f y on)
 answered-some x v m s f y None h = refl
 answered-some x v m s f y (Some d) h =
@@ -151,7 +151,7 @@ answered-some x v m s f y (Some d) h =
     ]
 
 -- any call where a chain stands, in a state other than TRACK
-call-some : (x : Settings) (v : Core) (m : ℕ) (s : ServoState) (call : Call) → is_track s ≡ false → is_some (after x (chainer v m s) call).first ≡ not (ends x (chainer v m s) call)
+call-some : (x : ServoSetting) (v : Core) (m : ℕ) (s : ServoState) (call : Call) → is_track s ≡ false → is_some (after x (chainer v m s) call).first ≡ not (ends x (chainer v m s) call)
 call-some x v m s (CallSample n base bits) h = sample-some v m s n base bits h
 call-some x v m s (CallMeasured f y) h = answered-some x v m s f y v.signals.link h
 call-some x v m s CallTick h = tick-some v m s h
@@ -219,7 +219,7 @@ tick-none v SyncNsec = ap is_some (later-none (one_tick v) SyncNsec)
 tick-none v SyncPhase = ap is_some (later-none (one_tick v) SyncPhase)
 tick-none v WaitStable = ap is_some (later-none (one_tick v) WaitStable)
 
-call-none : (x : Settings) (v : Core) (s : ServoState) (call : Call) → is_track s ≡ false → is_some (after x (loose v s) call).first ≡ starts x (loose v s) call
+call-none : (x : ServoSetting) (v : Core) (s : ServoState) (call : Call) → is_track s ≡ false → is_some (after x (loose v s) call).first ≡ starts x (loose v s) call
 call-none x v s (CallSample n base bits) h = sample-none v s n base bits h
 call-none x v s (CallMeasured f y) h = refl
 call-none x v s CallTick h = tick-none v s
@@ -233,7 +233,7 @@ call-none x v s CallReset h = refl
 
 -- ---- any call outside TRACK
 
-pub call-other : (x : Settings) (v : Core) (s : ServoState) (first : Option ℕ) (call : Call) → is_track s ≡ false →
+pub call-other : (x : ServoSetting) (v : Core) (s : ServoState) (first : Option ℕ) (call : Call) → is_track s ≡ false →
     is_some (after x (record v { state = s; first = first }) call).first
     ≡ cond (is_some first) (not (ends_chain x (record v { state = s; first = first }) call)) (starts x (record v { state = s; first = first }) call)
 call-other x v s None call h = call-none x v s call h

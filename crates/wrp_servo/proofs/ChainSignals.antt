@@ -2,7 +2,7 @@
 use Rattle.std.proofs.Common.{◌≡◌, refl, ap, ◌∙◌, sym, ℕ, Bool, true, false, cond, not, ◌&&◌, is_some, Option, None, Some, List, [], ◌∷◌}
 use Rattle.wrp_base.proofs.Booleans.{and_first, and_second}
 use Rattle.wrp_servo.specs.declared.machine.Core.{Core}
-use Rattle.wrp_servo.specs.Call.{Call, CallSample, CallMeasured, CallTick, CallLease, CallLink, CallCarrier, CallReset, Settings, run}
+use Rattle.wrp_servo.specs.Call.{Call, CallSample, CallMeasured, CallTick, CallLease, CallLink, CallCarrier, CallReset, ServoSetting, run}
 use Rattle.wrp_servo.specs.Chain.{ends_chain, starts, starts_by}
 use Rattle.wrp_servo.specs.Laws.{HasSignals, ChainHasSignals}
 use Rattle.wrp_servo.specs.Sampling.{hears, is_holdover, good_tag, is_far, with_tag, followed}
@@ -45,7 +45,7 @@ started v calls tag told h =
       lease = sym told.lease ∙ s.lease;
     }
 
-kept : (x : Settings) (call : Call) (calls : List Call) → HasSignals calls → ends_chain x (run x calls) call ≡ false → HasSignals (call ∷ calls)
+kept : (x : ServoSetting) (call : Call) (calls : List Call) → HasSignals calls → ends_chain x (run x calls) call ≡ false → HasSignals (call ∷ calls)
 kept x (CallSample n base bits) calls s e = record { carrier = s.carrier; link = s.link; lease = s.lease }
 kept x (CallMeasured f y) calls s e = record { carrier = s.carrier; link = s.link; lease = s.lease }
 kept x CallTick calls s e = record { carrier = s.carrier; link = s.link; lease = s.lease }
@@ -57,7 +57,7 @@ kept x (CallCarrier true) calls s e = record { carrier = refl; link = s.link; le
 kept x (CallCarrier false) calls s e = absurd cc
 kept x CallReset calls s e = absurd cc
 
-begun : (x : Settings) (call : Call) (calls : List Call) → starts x (run x calls) call ≡ true → HasSignals (call ∷ calls)
+begun : (x : ServoSetting) (call : Call) (calls : List Call) → starts x (run x calls) call ≡ true → HasSignals (call ∷ calls)
 begun x (CallSample n base bits) calls h =
     let s : HasSignals calls = started (run x calls) calls (good_tag (run x calls).last n base bits) (last_told x calls) h in
     record { carrier = s.carrier; link = s.link; lease = s.lease }

@@ -7,7 +7,7 @@ use Rattle.wrp_servo.specs.Following.{restarted}
 use Rattle.wrp_servo.specs.Table.{one_tick, ended, by_tick, carrier_gone, with_link, with_lease, with_carrier, restarted_outside_holdover}
 use Rattle.wrp_servo.specs.Sampling.{hears, good_tag, is_far, with_tag, with_last, followed, judged, chained, good, heard, lost, by_sample}
 use Rattle.wrp_servo.specs.Measuring.{deltas_in_chain}
-use Rattle.wrp_servo.specs.Call.{Call, CallSample, CallMeasured, CallTick, CallLease, CallLink, CallCarrier, CallReset, Settings, run}
+use Rattle.wrp_servo.specs.Call.{Call, CallSample, CallMeasured, CallTick, CallLease, CallLink, CallCarrier, CallReset, ServoSetting, run}
 use Rattle.wrp_servo.proofs.Rests.{Rest, end-rest, uninit_outside_holdover-rest, linked-rest, judged-rest, chained-rest, later-rest, answered-rest}
 use Rattle.wrp_servo.specs.declared.interface.ServoSet.{ServoSet}
 use Rattle.wrp_servo.specs.Told.{ticks_since_good}
@@ -52,33 +52,33 @@ restarted-heart v _ = refl
 
 -- ---- the ticks of a servo are those at its last good sample and those since
 
-pub record Gone (x : Settings) (h : Heart) (n : ℕ) : Type 0 where
+pub record Gone (x : ServoSetting) (h : Heart) (n : ℕ) : Type 0 where
   pub set : h.set ≡ x.set
   pub ticks : h.ticks ≡ h.good_tick + n
 
-same_gone : (x : Settings) (h k : Heart) (n : ℕ) → h ≡ k → Gone x k n → Gone x h n
+same_gone : (x : ServoSetting) (h k : Heart) (n : ℕ) → h ≡ k → Gone x k n → Gone x h n
 same_gone x h k n e g = subst (λ z. Gone x z n) (sym e) g
 
-fresh_gone : (x : Settings) (set : ServoSet) (ticks : ℕ) → set ≡ x.set → Gone x (record { set = set; ticks = ticks; good_tick = ticks }) 0
+fresh_gone : (x : ServoSetting) (set : ServoSet) (ticks : ℕ) → set ≡ x.set → Gone x (record { set = set; ticks = ticks; good_tick = ticks }) 0
 fresh_gone x set ticks e = record { set = e; ticks = omega arith }
 
-heard_gone : (x : Settings) (v : Core) (n : ℕ) (tag : Option ℕ) (m : ℕ) → Gone x (heart v) m → Gone x (heart (heard (with_last v n) n tag)) (cond (is_some tag) 0 m)
+heard_gone : (x : ServoSetting) (v : Core) (n : ℕ) (tag : Option ℕ) (m : ℕ) → Gone x (heart v) m → Gone x (heart (heard (with_last v n) n tag)) (cond (is_some tag) 0 m)
 heard_gone x v n None m g = g
 heard_gone x v n (Some tag) m g =
     same_gone x (heart (good (with_tag (with_last v n) tag) n)) (heart (with_tag (with_last v n) tag)) 0 (good-heart (with_tag (with_last v n) tag) n)
     (fresh_gone x v.set v.ticks g.set)
 
-sample_gone : (x : Settings) (v : Core) (n base bits m : ℕ) → Gone x (heart v) m → Gone x (heart (by_sample v n base bits)) (cond (is_some (cond (hears v) (good_tag v.last n base bits) None)) 0 m)
+sample_gone : (x : ServoSetting) (v : Core) (n base bits m : ℕ) → Gone x (heart v) m → Gone x (heart (by_sample v n base bits)) (cond (is_some (cond (hears v) (good_tag v.last n base bits) None)) 0 m)
 sample_gone x v n base bits m g =
     elim (hears v) as (λ b. Gone x (heart (cond b (heard (with_last v n) n (good_tag v.last n base bits)) v)) (cond (is_some (cond b (good_tag v.last n base bits) None)) 0 m)) [
       | true ↦ heard_gone x v n (good_tag v.last n base bits) m g
       | false ↦ g
     ]
 
-one_more : (x : Settings) (h : Heart) (m : ℕ) → Gone x h m → Gone x (record h { ticks = h.ticks + 1 }) (m + 1)
+one_more : (x : ServoSetting) (h : Heart) (m : ℕ) → Gone x h m → Gone x (record h { ticks = h.ticks + 1 }) (m + 1)
 one_more x h m g = let t : h.ticks ≡ h.good_tick + m = g.ticks in record { set = g.set; ticks = omega arith }
 
-pub gone : (x : Settings) (calls : List Call) → Gone x (heart (run x calls)) (ticks_since_good x calls)
+pub gone : (x : ServoSetting) (calls : List Call) → Gone x (heart (run x calls)) (ticks_since_good x calls)
 gone x [] = fresh_gone x x.set 0 refl
 gone x (CallSample n base bits ∷ calls) = sample_gone x (run x calls) n base bits (ticks_since_good x calls) (gone x calls)
 gone x (CallMeasured f y ∷ calls) = same_gone x _ (heart (run x calls)) (ticks_since_good x calls) (ap timed (answered-rest x (run x calls) f y (deltas_in_chain (run x calls)))) (gone x calls)
@@ -98,5 +98,5 @@ gone x (CallCarrier false ∷ calls) =
 gone x (CallReset ∷ calls) = fresh_gone x (run x calls).set 0 (gone x calls).set
 
 -- the settings stay
-pub set_is : (x : Settings) (calls : List Call) → (run x calls).set ≡ x.set
+pub set_is : (x : ServoSetting) (calls : List Call) → (run x calls).set ≡ x.set
 set_is x calls = (gone x calls).set

@@ -14,7 +14,7 @@ use Rattle.wrp_servo.specs.Following.{restarted}
 use Rattle.wrp_servo.specs.Table.{is_track, is_past_gap, is_old, one_tick, ended, ended_by_age, by_tick}
 use Rattle.wrp_servo.specs.Sampling.{hears, is_holdover, good_tag, is_far, is_within, residual, with_tag, with_last, followed, stays_near, judged, chained, may_start, good, heard, lost}
 use Rattle.wrp_servo.specs.Measuring.{is_in, x_of, delay_of, answered, placed, aimed}
-use Rattle.wrp_servo.specs.Call.{Call, CallSample, CallMeasured, CallTick, CallLease, CallLink, CallCarrier, CallReset, Settings, after, run, is_reset}
+use Rattle.wrp_servo.specs.Call.{Call, CallSample, CallMeasured, CallTick, CallLease, CallLink, CallCarrier, CallReset, ServoSetting, after, run, is_reset}
 use Rattle.wrp_servo.specs.LookBack.{enters_track, leaves_track}
 use Rattle.wrp_servo.specs.Holdover.{ticks_among, NoneResets, InHoldover, HoldoverSince}
 use Rattle.wrp_servo.proofs.Tracks.{tracker, stands}
@@ -63,7 +63,7 @@ tick-falls v m =
       | false ↦ either-falls (is_old w) (ended w) w (λ e. record { state = refl; ticks = is_plus_zero w.ticks }) (up w refl)
     ]
 
-measured-falls : (x : Settings) (v : Core) (m : ℕ) (f : Four) (y : ℤ) (on : Option Deltas) → Falls (answered x.lo x.hi (tracker v m) f y on)
+measured-falls : (x : ServoSetting) (v : Core) (m : ℕ) (f : Four) (y : ℤ) (on : Option Deltas) → Falls (answered x.lo x.hi (tracker v m) f y on)
 measured-falls x v m f y None = up _ refl
 measured-falls x v m f y (Some d) =
     let k : Measurement = record { four = f; delay = delay_of d y } in
@@ -72,7 +72,7 @@ measured-falls x v m f y (Some d) =
     (either-falls (is_within v.set.track_tau (residual v.phase k)) (aimed w k Track) (ended w) (up _ refl) (λ e. record { state = refl; ticks = is_plus_zero w.ticks }))
     (λ e. record { state = refl; ticks = is_plus_zero v.ticks })
 
-call-falls : (x : Settings) (v : Core) (m : ℕ) (call : Call) → is_reset call ≡ false → Falls (after x (tracker v m) call)
+call-falls : (x : ServoSetting) (v : Core) (m : ℕ) (call : Call) → is_reset call ≡ false → Falls (after x (tracker v m) call)
 call-falls x v m (CallSample n base bits) r =
     either-falls (hears (tracker v m)) (heard (with_last (tracker v m) n) n (good_tag v.last n base bits)) (tracker v m) (heard-falls v m n (good_tag v.last n base bits)) (up _ refl)
 call-falls x v m (CallMeasured f y) r = measured-falls x v m f y v.signals.link
@@ -85,7 +85,7 @@ call-falls x v m (CallCarrier true) r = up _ refl
 call-falls x v m (CallCarrier false) r = λ e. record { state = refl; ticks = is_plus_zero v.ticks }
 call-falls x v m CallReset r = absurd cc
 
-falls-at : (x : Settings) (v : Core) (s : ServoState) (first : Option ℕ) (call : Call) → is_track s ≡ true → (is_track s ≡ true → is_some first ≡ true) → is_reset call ≡ false →
+falls-at : (x : ServoSetting) (v : Core) (s : ServoState) (first : Option ℕ) (call : Call) → is_track s ≡ true → (is_track s ≡ true → is_some first ≡ true) → is_reset call ≡ false →
     is_track (after x (record v { state = s; first = first }) call).state ≡ false → Held (after x (record v { state = s; first = first }) call) 0
 falls-at x v Track (Some m) call t h r e = call-falls x v m call r e
 falls-at x v Track None call t h r e = absurd (let n : false ≡ true = h refl in cc)
@@ -113,7 +113,7 @@ tick-stays v n t few =
     subst (λ (b : Bool). Held (cond b (record w { state = cond (is_some w.signals.link) SyncTai Uninit; phase = restarted w.phase }) w) (n + 1)) (sym test)
     (record { state = refl; ticks = omega arith })
 
-call-stays : (x : Settings) (v : Core) (call : Call) (since : List Call) → is_reset call ≡ false → v.ticks ≡ v.left_tick + ticks_among since → ticks_among (call ∷ since) < v.set.holdover →
+call-stays : (x : ServoSetting) (v : Core) (call : Call) (since : List Call) → is_reset call ≡ false → v.ticks ≡ v.left_tick + ticks_among since → ticks_among (call ∷ since) < v.set.holdover →
     Held (after x (holder v) call) (ticks_among (call ∷ since))
 call-stays x v (CallSample n base bits) since r t few =
     elim v.signals.carrier as (λ b. Held (cond (b && false) (heard (with_last (holder v) n) n (good_tag v.last n base bits)) (holder v)) (ticks_among since)) [
@@ -130,7 +130,7 @@ call-stays x v (CallCarrier false) since r t few = record { state = refl; ticks 
 call-stays x v (CallMeasured f y) since r t few = record { state = refl; ticks = t }
 call-stays x v CallReset since r t few = absurd cc
 
-stays-at : (x : Settings) (v : Core) (s : ServoState) (first : Option ℕ) (call : Call) (since : List Call) → is_holdover s ≡ true → (is_some first ≡ true → is_holdover s ≡ false) → is_reset call ≡ false →
+stays-at : (x : ServoSetting) (v : Core) (s : ServoState) (first : Option ℕ) (call : Call) (since : List Call) → is_holdover s ≡ true → (is_some first ≡ true → is_holdover s ≡ false) → is_reset call ≡ false →
     v.ticks ≡ v.left_tick + ticks_among since → ticks_among (call ∷ since) < v.set.holdover → Held (after x (record v { state = s; first = first }) call) (ticks_among (call ∷ since))
 stays-at x v Holdover None call since t h r e few = call-stays x v call since r e few
 stays-at x v Holdover (Some m) call since t h r e few = absurd (let n : true ≡ false = h refl in cc)
@@ -155,7 +155,7 @@ still_few holdover ticks left n t test =
     let below : (ticks + 1) - left < holdover = grind (arith, nat_tests) in
     omega arith
 
-few-at : (x : Settings) (v : Core) (s : ServoState) (call : Call) (since : List Call) → is_holdover s ≡ true →
+few-at : (x : ServoSetting) (v : Core) (s : ServoState) (call : Call) (since : List Call) → is_holdover s ≡ true →
     v.ticks ≡ v.left_tick + ticks_among since → ticks_among since < v.set.holdover → is_holdover (after x (record v { state = s }) call).state ≡ true → ticks_among (call ∷ since) < v.set.holdover
 few-at x v Holdover CallTick since t e few h =
     let w : Core = one_tick (record v { state = Holdover }) in
@@ -176,7 +176,7 @@ few-at x v s CallReset since t e few h = few
 
 -- ---- over a list of calls
 
-held_state : (x : Settings) (calls : List Call) → is_some (run x calls).first ≡ true → is_holdover (run x calls).state ≡ false
+held_state : (x : ServoSetting) (calls : List Call) → is_some (run x calls).first ≡ true → is_holdover (run x calls).state ≡ false
 held_state x calls h = (chain_stays_held x calls h).state
 
 pub more : (call : Call) (since : List Call) → ticks_among since ≤ ticks_among (call ∷ since)
@@ -189,7 +189,7 @@ more (CallCarrier up) since = omega arith
 more CallReset since = omega arith
 
 -- from the call that left TRACK on HOLDOVER stands
-holds : (x : Settings) (since : List Call) (leave : Call) (before : List Call) → is_track (run x before).state ≡ true → leaves_track x before leave ≡ true → is_reset leave ≡ false →
+holds : (x : ServoSetting) (since : List Call) (leave : Call) (before : List Call) → is_track (run x before).state ≡ true → leaves_track x before leave ≡ true → is_reset leave ≡ false →
     NoneResets since → ticks_among since < x.set.holdover → Held (run x (since ++ leave ∷ before)) (ticks_among since)
 holds x [] leave before stood left no_reset none few =
     let v : Core = run x before in
@@ -207,11 +207,11 @@ holds x (call ∷ since) leave before stood left no_reset none few =
     stays-at x v v.state v.first call since known.state (held_state x calls) none.0 known.ticks few_here
 
 -- what leads to HOLDOVER
-data Way (x : Settings) (calls : List Call) (call : Call) : Type 0 where
+data Way (x : ServoSetting) (calls : List Call) (call : Call) : Type 0 where
   Left : is_track (run x calls).state ≡ true → leaves_track x calls call ≡ true → is_reset call ≡ false → Way x calls call
   Stays : is_holdover (run x calls).state ≡ true → is_reset call ≡ false → Way x calls call
 
-no_reset_to : (x : Settings) (v : Core) (call : Call) → is_holdover (after x v call).state ≡ true → is_reset call ≡ false
+no_reset_to : (x : ServoSetting) (v : Core) (call : Call) → is_holdover (after x v call).state ≡ true → is_reset call ≡ false
 no_reset_to x v CallReset h = absurd cc
 no_reset_to x v (CallSample n base bits) h = refl
 no_reset_to x v (CallMeasured f y) h = refl
@@ -225,13 +225,13 @@ off_track Holdover h = refl
 off_track Track h = absurd cc
 off_track _ h = refl
 
-low : (x : Settings) (calls : List Call) (call : Call) (s : ServoState) → (run x calls).state ≡ s → out s ≡ true → is_holdover (run x (call ∷ calls)).state ≡ true → ⊥
+low : (x : ServoSetting) (calls : List Call) (call : Call) (s : ServoState) → (run x calls).state ≡ s → out s ≡ true → is_holdover (run x (call ∷ calls)).state ≡ true → ⊥
 low x calls call s e o h =
     let v : Core = run x calls in
     let no : is_holdover (after x v call).state ≡ false = call-low x v v.state v.first call (ap out e ∙ o) in
     absurd cc
 
-way : (x : Settings) (calls : List Call) (call : Call) (s : ServoState) → (run x calls).state ≡ s → is_holdover (run x (call ∷ calls)).state ≡ true → Way x calls call
+way : (x : ServoSetting) (calls : List Call) (call : Call) (s : ServoState) → (run x calls).state ≡ s → is_holdover (run x (call ∷ calls)).state ≡ true → Way x calls call
 way x calls call Track e h =
     let v : Core = run x calls in
     let stood : is_track v.state ≡ true = ap is_track e in
@@ -247,7 +247,7 @@ way x calls call SyncNsec e h = absurd (low x calls call SyncNsec e refl h)
 way x calls call SyncPhase e h = absurd (low x calls call SyncPhase e refl h)
 way x calls call WaitStable e h = absurd (low x calls call WaitStable e refl h)
 
-extends : (x : Settings) (calls : List Call) (call : Call) → is_holdover (run x calls).state ≡ true → is_reset call ≡ false → is_holdover (run x (call ∷ calls)).state ≡ true → InHoldover x calls → InHoldover x (call ∷ calls)
+extends : (x : ServoSetting) (calls : List Call) (call : Call) → is_holdover (run x calls).state ≡ true → is_reset call ≡ false → is_holdover (run x (call ∷ calls)).state ≡ true → InHoldover x calls → InHoldover x (call ∷ calls)
 extends x calls call stood r h i =
     let v : Core = run x calls in
     let known : Held v (ticks_among i.since) =
@@ -265,7 +265,7 @@ extends x calls call stood r h i =
       few_ticks = subst (λ (s : ServoSet). ticks_among (call ∷ i.since) < s.holdover) (set_is x calls) (few-at x v v.state call i.since stood known.ticks few h);
     }
 
-goes : (x : Settings) (calls : List Call) → 1 ≤ x.set.holdover → is_holdover (run x calls).state ≡ true → InHoldover x calls
+goes : (x : ServoSetting) (calls : List Call) → 1 ≤ x.set.holdover → is_holdover (run x calls).state ≡ true → InHoldover x calls
 goes x [] least h = absurd cc
 goes x (call ∷ calls) least h =
     elim (way x calls call (run x calls).state refl h) as (λ _. InHoldover x (call ∷ calls)) [

@@ -10,7 +10,7 @@ use Rattle.wrp_servo.specs.declared.machine.Core.{Core}
 use Rattle.wrp_servo.specs.Table.{is_past_gap, is_old, is_track, one_tick, ended, ended_by_age, by_tick}
 use Rattle.wrp_servo.specs.Sampling.{hears, good_tag, is_far, is_calm, is_near, is_within, residual, with_tag, with_last, followed, stays_near, judged, chained, may_start, good, heard, lost, est_of, by_sample}
 use Rattle.wrp_servo.specs.Measuring.{is_in, x_of, kept_of, may_track, answered, placed, placed_in, aimed, by_period, settled, stepped, is_half, is_below_second}
-use Rattle.wrp_servo.specs.Call.{Call, CallSample, CallMeasured, CallTick, CallLease, CallLink, CallCarrier, CallReset, Settings, after, run}
+use Rattle.wrp_servo.specs.Call.{Call, CallSample, CallMeasured, CallTick, CallLease, CallLink, CallCarrier, CallReset, ServoSetting, after, run}
 use Rattle.wrp_servo.specs.Laws.{InTrack, TrackIsNear}
 use Rattle.wrp_servo.proofs.Tracks.{tracker, call-other as entered, stands, either-other, by_period-other, ended-other}
 
@@ -62,7 +62,7 @@ tick-shows v m t =
       | false ↦ tested (is_old w) (ended w) w (λ _. off (ended w) refl) (λ _ e. record { kept = t.kept; calm = t.calm; near = t.near })
     ]
 
-measured-shows : (x : Settings) (v : Core) (m : ℕ) (f : Four) (y : ℤ) (on : Option Deltas) → InTrack (tracker v m) → Shows (answered x.lo x.hi (tracker v m) f y on)
+measured-shows : (x : ServoSetting) (v : Core) (m : ℕ) (f : Four) (y : ℤ) (on : Option Deltas) → InTrack (tracker v m) → Shows (answered x.lo x.hi (tracker v m) f y on)
 measured-shows x v m f y None t = λ e. t
 measured-shows x v m f y (Some d) t =
     let k : Measurement = kept_of f d y in
@@ -71,7 +71,7 @@ measured-shows x v m f y (Some d) t =
     (λ _. tested (is_within v.set.track_tau (residual v.phase k)) (aimed w k Track) (ended w) (λ h e. record { kept = refl; calm = t.calm; near = h }) (λ _. off (ended w) refl))
     (λ _. off (ended (tracker v m)) refl)
 
-track-shows : (x : Settings) (v : Core) (m : ℕ) (call : Call) → InTrack (tracker v m) → Shows (after x (tracker v m) call)
+track-shows : (x : ServoSetting) (v : Core) (m : ℕ) (call : Call) → InTrack (tracker v m) → Shows (after x (tracker v m) call)
 track-shows x v m (CallSample n base bits) t = sample-shows v m n base bits t
 track-shows x v m (CallMeasured f y) t = measured-shows x v m f y v.signals.link t
 track-shows x v m CallTick t = tick-shows v m t
@@ -108,7 +108,7 @@ placed-shows v k est Uninit h = off _ refl
 placed-shows v k est SyncPhase h = off _ refl
 placed-shows v k est Holdover h = off _ refl
 
-answered-shows : (x : Settings) (v : Core) (s : ServoState) (f : Four) (y : ℤ) (on : Option Deltas) → is_track s ≡ false → Shows (answered x.lo x.hi (record v { state = s }) f y on)
+answered-shows : (x : ServoSetting) (v : Core) (s : ServoState) (f : Four) (y : ℤ) (on : Option Deltas) → is_track s ≡ false → Shows (answered x.lo x.hi (record v { state = s }) f y on)
 answered-shows x v s f y None h = off _ h
 answered-shows x v s f y (Some d) h =
     let k : Measurement = kept_of f d y in
@@ -117,7 +117,7 @@ answered-shows x v s f y (Some d) h =
     (λ _. placed-shows v k (est_of v.phase.u k) s h)
     (λ _. off (ended w) (ended-other v s h))
 
-shows-other : (x : Settings) (v : Core) (s : ServoState) (first : Option ℕ) (call : Call) → is_track s ≡ false → Shows (after x (record v { state = s; first = first }) call)
+shows-other : (x : ServoSetting) (v : Core) (s : ServoState) (first : Option ℕ) (call : Call) → is_track s ≡ false → Shows (after x (record v { state = s; first = first }) call)
 shows-other x v s None (CallMeasured f y) h = off _ h
 shows-other x v s (Some m) (CallMeasured f y) h = answered-shows x (record v { first = Some m }) s f y v.signals.link h
 shows-other x v s first (CallSample n base bits) h = off _ (entered x v s first (CallSample n base bits) h).track
@@ -127,7 +127,7 @@ shows-other x v s first (CallLink on) h = off _ (entered x v s first (CallLink o
 shows-other x v s first (CallCarrier up) h = off _ (entered x v s first (CallCarrier up) h).track
 shows-other x v s first CallReset h = off _ (entered x v s first CallReset h).track
 
-pub shows-at : (x : Settings) (v : Core) (s : ServoState) (first : Option ℕ) (call : Call) → (is_track s ≡ true → is_some first ≡ true) →
+pub shows-at : (x : ServoSetting) (v : Core) (s : ServoState) (first : Option ℕ) (call : Call) → (is_track s ≡ true → is_some first ≡ true) →
     (is_track s ≡ true → InTrack (record v { state = s; first = first })) → Shows (after x (record v { state = s; first = first }) call)
 shows-at x v Track None call h t = absurd (let e : false ≡ true = h refl in cc)
 shows-at x v Track (Some m) call h t = track-shows x v m call (t refl)

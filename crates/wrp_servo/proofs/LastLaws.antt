@@ -8,7 +8,7 @@ use Rattle.wrp_servo.specs.Following.{restarted}
 use Rattle.wrp_servo.specs.Table.{one_tick, ended, by_tick, carrier_gone, with_link, with_lease, with_carrier, restarted_outside_holdover}
 use Rattle.wrp_servo.specs.Sampling.{hears, good_tag, is_far, with_tag, with_last, followed, judged, chained, good, heard, lost, by_sample}
 use Rattle.wrp_servo.specs.Measuring.{deltas_in_chain}
-use Rattle.wrp_servo.specs.Call.{Call, CallSample, CallMeasured, CallTick, CallLease, CallLink, CallCarrier, CallReset, Settings, run}
+use Rattle.wrp_servo.specs.Call.{Call, CallSample, CallMeasured, CallTick, CallLease, CallLink, CallCarrier, CallReset, ServoSetting, run}
 use Rattle.wrp_servo.proofs.Rests.{Rest, end-rest, uninit_outside_holdover-rest, linked-rest, judged-rest, chained-rest, later-rest, answered-rest}
 use Rattle.wrp_servo.specs.LookBack.{last_told}
 
@@ -49,7 +49,7 @@ restarted-last : (v : Core) (s : ServoState) → (restarted_outside_holdover (re
 restarted-last v Holdover = refl
 restarted-last v _ = refl
 
-pub last_is : (x : Settings) (calls : List Call) → (run x calls).last ≡ last_told x calls
+pub last_is : (x : ServoSetting) (calls : List Call) → (run x calls).last ≡ last_told x calls
 last_is x [] = refl
 last_is x (CallSample n base bits ∷ calls) =
     sample-last (run x calls) n base bits ∙ ap (λ (m : ℕ). cond (hears (run x calls)) (max m n) m) (last_is x calls)

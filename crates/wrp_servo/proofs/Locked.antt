@@ -11,7 +11,7 @@ use Rattle.wrp_servo.specs.Following.{restarted}
 use Rattle.wrp_servo.specs.Table.{is_past_gap, is_old, is_track, one_tick, ended, uninit_outside_holdover, ended_by_gap, ended_by_age, by_tick, holdover_ticked, carrier_gone, with_link, with_lease, with_carrier, linked, restarted_outside_holdover}
 use Rattle.wrp_servo.specs.Sampling.{hears, good_tag, is_far, is_within, residual, with_tag, with_last, followed, stays_near, judged, judged_in, chained, may_start, good, heard, lost, est_of, by_sample}
 use Rattle.wrp_servo.specs.Measuring.{deltas_in_chain, is_in, x_of, delay_of, may_track, answered, placed, placed_in, aimed, by_period, settled, stepped, is_half, is_below_second}
-use Rattle.wrp_servo.specs.Call.{Call, CallSample, CallMeasured, CallTick, CallLease, CallLink, CallCarrier, CallReset, Settings, after, run}
+use Rattle.wrp_servo.specs.Call.{Call, CallSample, CallMeasured, CallTick, CallLease, CallLink, CallCarrier, CallReset, ServoSetting, after, run}
 use Rattle.wrp_servo.specs.Laws.{InChain, ChainIsHeld}
 use Rattle.wrp_servo.specs.Sampling.{is_holdover}
 
@@ -142,7 +142,7 @@ placed-held v k est Track h =
     either-held (is_within v.set.track_tau (residual v.phase k)) (aimed w k Track) (ended w) (λ e. record { locked = (h e).locked; state = refl }) (end-held w)
 placed-held v k est _ h = h
 
-answered-held : (x : Settings) (v : Core) (f : Four) (y : ℤ) (on : Option Deltas) → IsHeld v → IsHeld (answered x.lo x.hi v f y on)
+answered-held : (x : ServoSetting) (v : Core) (f : Four) (y : ℤ) (on : Option Deltas) → IsHeld v → IsHeld (answered x.lo x.hi v f y on)
 answered-held x v f y None h = h
 answered-held x v f y (Some d) h =
     let k : Measurement = record { four = f; delay = delay_of d y } in
@@ -151,7 +151,7 @@ answered-held x v f y (Some d) h =
     (end-held v)
 
 -- any call
-held : (x : Settings) (v : Core) (call : Call) → IsHeld v → IsHeld (after x v call)
+held : (x : ServoSetting) (v : Core) (call : Call) → IsHeld v → IsHeld (after x v call)
 held x v (CallSample n base bits) h = sample-held v n base bits h
 held x v (CallMeasured f y) h = answered-held x v f y (deltas_in_chain v) h
 held x v CallTick h = tick-held v v.state h

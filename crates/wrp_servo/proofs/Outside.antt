@@ -10,7 +10,7 @@ use Rattle.wrp_servo.specs.declared.machine.Core.{Core}
 use Rattle.wrp_servo.specs.Table.{is_track, is_past_gap, is_old, one_tick, ended, ended_in, uninit_outside_holdover, ended_by_gap, ended_by_age, by_tick, carrier_gone, with_link, with_lease, with_carrier, linked, restarted_outside_holdover}
 use Rattle.wrp_servo.specs.Sampling.{hears, is_holdover, good_tag, is_far, with_tag, with_last, followed, judged, judged_in, chained, may_start, good, heard, lost, est_of, by_sample}
 use Rattle.wrp_servo.specs.Measuring.{is_in, x_of, delay_of, may_track, answered, placed, placed_in, aimed, by_period, settled, stepped, is_half, is_below_second}
-use Rattle.wrp_servo.specs.Call.{Call, CallSample, CallMeasured, CallTick, CallLease, CallLink, CallCarrier, CallReset, Settings, after}
+use Rattle.wrp_servo.specs.Call.{Call, CallSample, CallMeasured, CallTick, CallLease, CallLink, CallCarrier, CallReset, ServoSetting, after}
 
 -- neither TRACK nor HOLDOVER
 abbrev pub out : ServoState → Bool
@@ -114,7 +114,7 @@ placed-low v k est WaitStable h =
 placed-low v k est Uninit h = refl
 placed-low v k est SyncPhase h = refl
 
-answered-low : (x : Settings) (v : Core) (s : ServoState) (f : Four) (y : ℤ) (on : Option Deltas) → out s ≡ true → is_holdover (answered x.lo x.hi (record v { state = s }) f y on).state ≡ false
+answered-low : (x : ServoSetting) (v : Core) (s : ServoState) (f : Four) (y : ℤ) (on : Option Deltas) → out s ≡ true → is_holdover (answered x.lo x.hi (record v { state = s }) f y on).state ≡ false
 answered-low x v s f y None h = low_of s h
 answered-low x v s f y (Some d) h =
     let k : Measurement = record { four = f; delay = delay_of d y } in
@@ -123,11 +123,11 @@ answered-low x v s f y (Some d) h =
     (placed-low (record v { kept = Some k }) k (est_of v.phase.u k) s h)
     (low_of (ended w).state (ended-out v s h))
 
-measured-low : (x : Settings) (v : Core) (s : ServoState) (first : Option ℕ) (f : Four) (y : ℤ) → out s ≡ true → is_holdover (after x (record v { state = s; first = first }) (CallMeasured f y)).state ≡ false
+measured-low : (x : ServoSetting) (v : Core) (s : ServoState) (first : Option ℕ) (f : Four) (y : ℤ) → out s ≡ true → is_holdover (after x (record v { state = s; first = first }) (CallMeasured f y)).state ≡ false
 measured-low x v s None f y h = low_of s h
 measured-low x v s (Some m) f y h = answered-low x (record v { first = Some m }) s f y v.signals.link h
 
-pub call-low : (x : Settings) (v : Core) (s : ServoState) (first : Option ℕ) (call : Call) → out s ≡ true → is_holdover (after x (record v { state = s; first = first }) call).state ≡ false
+pub call-low : (x : ServoSetting) (v : Core) (s : ServoState) (first : Option ℕ) (call : Call) → out s ≡ true → is_holdover (after x (record v { state = s; first = first }) call).state ≡ false
 call-low x v s first (CallMeasured f y) h = measured-low x v s first f y h
 call-low x v s first (CallSample n base bits) h = low_of (after x (record v { state = s; first = first }) (CallSample n base bits)).state (sample-out (record v { first = first }) s n base bits h)
 call-low x v s first CallTick h = low_of (after x (record v { state = s; first = first }) CallTick).state (tick-out (record v { first = first }) s h)

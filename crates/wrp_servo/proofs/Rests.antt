@@ -14,7 +14,7 @@ use Rattle.wrp_servo.specs.declared.machine.Core.{Core}
 use Rattle.wrp_servo.specs.Table.{is_past_gap, is_old, is_track, ended_in, ended, uninit_outside_holdover, ended_by_gap, ended_by_age, linked}
 use Rattle.wrp_servo.specs.Sampling.{is_within, residual, stays_near, judged_in, chained, may_start, est_of}
 use Rattle.wrp_servo.specs.Measuring.{is_in, x_of, delay_of, may_track, answered, placed, placed_in, aimed, by_period, settled, stepped, is_half, is_below_second}
-use Rattle.wrp_servo.specs.Call.{Settings}
+use Rattle.wrp_servo.specs.Call.{ServoSetting}
 
 -- all but the state, the chain, the four, the calm count, the tick at which TRACK was left, the goal and the lock detector
 pub record Rest : Type 0 where
@@ -104,7 +104,7 @@ placed-rest v k est WaitStable = either-rest (nat_le v.set.stable v.calm) (settl
 placed-rest v k est Track = either-rest (is_within v.set.track_tau (residual v.phase k)) (aimed v k Track) (ended v) (rest v) refl (end-rest v)
 placed-rest v k est _ = refl
 
-pub answered-rest : (x : Settings) (v : Core) (f : Four) (y : ℤ) (on : Option Deltas) → rest (answered x.lo x.hi v f y on) ≡ rest v
+pub answered-rest : (x : ServoSetting) (v : Core) (f : Four) (y : ℤ) (on : Option Deltas) → rest (answered x.lo x.hi v f y on) ≡ rest v
 answered-rest x v f y None = refl
 answered-rest x v f y (Some d) =
     let k : Measurement = record { four = f; delay = delay_of d y } in

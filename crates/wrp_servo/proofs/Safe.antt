@@ -19,7 +19,7 @@ use Rattle.wrp_servo.specs.Following.{e_tau, moved_toward, restarted}
 use Rattle.wrp_servo.specs.Table.{is_past_gap, is_old, is_track, one_tick, ended_in, ended, uninit_outside_holdover, ended_by_gap, ended_by_age, by_tick, holdover_ticked, carrier_gone, with_link, with_lease, with_carrier, linked, restarted_outside_holdover, new_core}
 use Rattle.wrp_servo.specs.Sampling.{hears, good_tag, is_far, is_calm, is_within, residual, with_tag, with_last, followed, stays_near, judged, judged_in, chained, may_start, good, heard, lost, est_of}
 use Rattle.wrp_servo.specs.Measuring.{deltas_in_chain, is_in, x_of, kept_of, may_track, answered, placed, placed_in, aimed, by_period, settled, stepped, is_half, is_below_second, half_period}
-use Rattle.wrp_servo.specs.Call.{Call, CallSample, CallMeasured, CallTick, CallLease, CallLink, CallCarrier, CallReset, Settings, after}
+use Rattle.wrp_servo.specs.Call.{Call, CallSample, CallMeasured, CallTick, CallLease, CallLink, CallCarrier, CallReset, ServoSetting, after}
 use Rattle.wrp_servo.specs.Sizes.{HasRoom, FitsFour, FitsSet, IsSafe}
 use Rattle.wrp_servo.proofs.Sized.{within_says, half_keeps, goal_keeps}
 use Rattle.wrp_servo.proofs.Rooms.{zero_or}
@@ -251,7 +251,7 @@ keeps v k f i = record {
   set = i.set;
 }
 
-answered-safe : (x : Settings) (v : Core) (f : Four) (y : ℤ) (on : Option Deltas) → ((d : Deltas) → on ≡ Some d → FitsFour (kept_of f d y)) → (is_track v.state ≡ true → is_calm v ≡ true) → IsSafe v → IsSafe (answered x.lo x.hi v f y on)
+answered-safe : (x : ServoSetting) (v : Core) (f : Four) (y : ℤ) (on : Option Deltas) → ((d : Deltas) → on ≡ Some d → FitsFour (kept_of f d y)) → (is_track v.state ≡ true → is_calm v ≡ true) → IsSafe v → IsSafe (answered x.lo x.hi v f y on)
 answered-safe x v f y None t c i = i
 answered-safe x v f y (Some e) t c i =
     let k : Measurement = kept_of f e y in
@@ -308,7 +308,7 @@ abbrev pub FitsCall : Core → Call → Type 0
 FitsCall v (CallMeasured f y) = (d : Deltas) → deltas_in_chain v ≡ Some d → FitsFour (kept_of f d y)
 FitsCall v _ = Unit {0}
 
-pub sizes_stay : (x : Settings) (v : Core) (call : Call) → FitsCall v call → (is_track v.state ≡ true → is_calm v ≡ true) → IsSafe v → IsSafe (after x v call)
+pub sizes_stay : (x : ServoSetting) (v : Core) (call : Call) → FitsCall v call → (is_track v.state ≡ true → is_calm v ≡ true) → IsSafe v → IsSafe (after x v call)
 sizes_stay x v (CallSample n base bits) f c i = choose (hears v) (heard (with_last v n) n (good_tag v.last n base bits)) v (λ _. heard-safe (with_last v n) n (good_tag v.last n base bits) (safe v (with_last v n) (same _ _ refl refl refl refl refl refl) i)) (λ _. i)
 sizes_stay x v (CallMeasured four y) f c i = answered-safe x v four y (deltas_in_chain v) f c i
 sizes_stay x v CallTick f c i = tick-safe v v.state i

@@ -4,7 +4,7 @@ use Rattle.wrp_base.specs.declared.time.Clock.{Clock}
 use Rattle.wrp_phase.specs.Unwrapping.{Unwrapping, last_tag, pushed, unwrapped}
 use Rattle.wrp_servo.specs.declared.machine.Core.{Core}
 use Rattle.wrp_servo.specs.declared.machine.Signals.{Signals}
-use Rattle.wrp_servo.specs.Call.{Call, CallSample, CallMeasured, CallTick, CallLease, CallLink, CallCarrier, CallReset, Settings, run}
+use Rattle.wrp_servo.specs.Call.{Call, CallSample, CallMeasured, CallTick, CallLease, CallLink, CallCarrier, CallReset, ServoSetting, run}
 use Rattle.wrp_servo.specs.Laws.{phase_after}
 use Rattle.wrp_servo.specs.LookBack.{phase_with, phase_told, last_told, seen}
 use Rattle.wrp_servo.specs.Tags.{heard_tag, tags, HasTaken}
@@ -16,7 +16,7 @@ use Rattle.wrp_servo.proofs.TagLaws.{phase_sums_tags}
 use Rattle.wrp_servo.proofs.ToldLaws.{last_told as told_last}
 
 -- an unwrapper that has taken these tags
-abbrev unwrapping : Settings → List Call → Unwrapping
+abbrev unwrapping : ServoSetting → List Call → Unwrapping
 unwrapping x calls = record { clock = x.set.clock; last = last_tag (tags x calls); answer = unwrapped x.set.clock (tags x calls) }
 
 made : (u : Unwrapping) (clock : Clock) (ts : List ℕ) → u.clock ≡ clock → u.last ≡ last_tag ts → u.answer ≡ unwrapped u.clock ts → u ≡ record { clock = clock; last = last_tag ts; answer = unwrapped clock ts }
@@ -25,17 +25,17 @@ made u clock ts c l a =
     ∙ ap (λ (z : ℤ). record { clock = u.clock; last = last_tag ts; answer = z }) a
     ∙ ap (λ (k : Clock). record { clock = k; last = last_tag ts; answer = unwrapped k ts }) c
 
-unwrap_is : (x : Settings) (calls : List Call) → (run x calls).phase.unwrap ≡ record { clock = x.set.clock; last = last_tag (tags x calls); answer = unwrapped x.set.clock (tags x calls) }
+unwrap_is : (x : ServoSetting) (calls : List Call) → (run x calls).phase.unwrap ≡ record { clock = x.set.clock; last = last_tag (tags x calls); answer = unwrapped x.set.clock (tags x calls) }
 unwrap_is x calls =
     let t : HasTaken x (run x calls) (tags x calls) = phase_sums_tags x calls in
     made (run x calls).phase.unwrap x.set.clock (tags x calls) t.clock t.stands.last t.stands.answer
 
 -- the phase after a tag is the sum with it
-moved : (x : Settings) (calls : List Call) (before : ℤ) (tag : Option ℕ) → (run x calls).phase.u ≡ before → phase_after (run x calls) tag ≡ phase_with x (tags x calls) before tag
+moved : (x : ServoSetting) (calls : List Call) (before : ℤ) (tag : Option ℕ) → (run x calls).phase.u ≡ before → phase_after (run x calls) tag ≡ phase_with x (tags x calls) before tag
 moved x calls before None e = e
 moved x calls before (Some tag) e = ap (λ (u : Unwrapping). (pushed u tag).answer) (unwrap_is x calls)
 
-phase_is : (x : Settings) (calls : List Call) → (run x calls).phase.u ≡ phase_told x calls
+phase_is : (x : ServoSetting) (calls : List Call) → (run x calls).phase.u ≡ phase_told x calls
 phase_is x [] = refl
 phase_is x (CallSample n base bits ∷ calls) =
     phase_moves x calls (CallSample n base bits) refl ∙ moved x calls (phase_told x calls) (heard_tag x calls n base bits) (phase_is x calls)
@@ -49,7 +49,7 @@ phase_is x (CallReset ∷ calls) = refl
 before_is : (ticks good n told : ℕ) → ticks ≡ good + n → ticks ≡ told → good ≡ told - n
 before_is ticks good n told h e = omega arith
 
-good_tick_is : (x : Settings) (calls : List Call) → (run x calls).good_tick ≡ ticks_told calls - ticks_since_good x calls
+good_tick_is : (x : ServoSetting) (calls : List Call) → (run x calls).good_tick ≡ ticks_told calls - ticks_since_good x calls
 good_tick_is x calls =
     before_is (run x calls).ticks (run x calls).good_tick (ticks_since_good x calls) (ticks_told calls)
     (gone x calls).ticks (told_last x calls).ticks
@@ -69,7 +69,7 @@ signals_are v calls t =
     ∙ ap (λ o. record { carrier = carrier_told calls; link = o; lease = v.signals.lease }) t.link
     ∙ ap (λ (b : Bool). record { carrier = carrier_told calls; link = link_told calls; lease = b }) t.lease
 
-pub seen-is : (x : Settings) (calls : List Call) → run x calls ≡ seen x calls
+pub seen-is : (x : ServoSetting) (calls : List Call) → run x calls ≡ seen x calls
 seen-is x calls =
     let v : Core = run x calls in
     ap (λ (s : Signals). put v s v.last v.ticks v.good_tick v.phase.unwrap v.phase.u) (signals_are v calls (told_last x calls))

@@ -12,7 +12,7 @@ use Rattle.wrp_servo.specs.Following.{restarted}
 use Rattle.wrp_servo.specs.Table.{one_tick, ended, uninit_outside_holdover, ended_by_gap, ended_by_age, by_tick, holdover_ticked, carrier_gone, with_link, with_lease, with_carrier, linked, restarted_outside_holdover}
 use Rattle.wrp_servo.specs.Sampling.{hears, is_holdover, good_tag, is_far, with_tag, with_last, followed, judged, judged_in, chained, good, heard, lost, by_sample}
 use Rattle.wrp_servo.specs.Measuring.{deltas_in_chain, answered}
-use Rattle.wrp_servo.specs.Call.{Call, CallSample, CallMeasured, CallTick, CallLease, CallLink, CallCarrier, CallReset, Settings, run}
+use Rattle.wrp_servo.specs.Call.{Call, CallSample, CallMeasured, CallTick, CallLease, CallLink, CallCarrier, CallReset, ServoSetting, run}
 use Rattle.wrp_servo.specs.Tags.{with_more, tags, is_empty, PhaseIsSum}
 use Rattle.wrp_servo.proofs.Rests.{Rest, end-rest, uninit_outside_holdover-rest, linked-rest, judged-rest, chained-rest, later-rest, answered-rest}
 
@@ -48,23 +48,23 @@ chained-heart v n = ap tagged (chained-rest v n)
 later-heart : (v : Core) → heart (ended_by_age (ended_by_gap v)) ≡ heart v
 later-heart v = ap tagged (later-rest v)
 
-answered-heart : (x : Settings) (v : Core) (f : Four) (y : ℤ) (on : Option Deltas) → heart (answered x.lo x.hi v f y on) ≡ heart v
+answered-heart : (x : ServoSetting) (v : Core) (f : Four) (y : ℤ) (on : Option Deltas) → heart (answered x.lo x.hi v f y on) ≡ heart v
 answered-heart x v f y on = ap tagged (answered-rest x v f y on)
 
 -- ---- the law, one call at a time
 
 -- a heart has taken these tags
-record Took (x : Settings) (h : Heart) (ts : List ℕ) : Type 0 where
+record Took (x : ServoSetting) (h : Heart) (ts : List ℕ) : Type 0 where
   set : h.set ≡ x.set
   clock : h.unwrap.clock ≡ x.set.clock
   stands : StandsFor h.unwrap ts
   fresh : h.fresh ≡ is_empty ts
   u : is_empty ts ≡ false → h.u ≡ unwrapped x.set.clock ts
 
-rest : (x : Settings) (set : ServoSet) (unwrap : Unwrapping) (u : ℤ) → set ≡ x.set → unwrap.clock ≡ x.set.clock → Took x (record { set = set; unwrap = untouched unwrap.clock; fresh = true; u = u }) []
+rest : (x : ServoSetting) (set : ServoSet) (unwrap : Unwrapping) (u : ℤ) → set ≡ x.set → unwrap.clock ≡ x.set.clock → Took x (record { set = set; unwrap = untouched unwrap.clock; fresh = true; u = u }) []
 rest x set unwrap u h e = record { set = h; clock = e; stands = record { last = refl; answer = refl }; fresh = refl; u = λ h. absurd cc }
 
-push : (x : Settings) (h : Heart) (ts : List ℕ) (tag : ℕ) → Took x h ts →
+push : (x : ServoSetting) (h : Heart) (ts : List ℕ) (tag : ℕ) → Took x h ts →
     Took x (record { set = h.set; unwrap = pushed h.unwrap tag; fresh = false; u = (pushed h.unwrap tag).answer }) (tag ∷ ts)
 push x h ts tag t =
     let s : StandsFor (pushed h.unwrap tag) (tag ∷ ts) = StandsFor-pushed h.unwrap tag ts t.stands in
@@ -76,11 +76,11 @@ push x h ts tag t =
       u = λ e. s.answer ∙ ap (λ c. unwrapped c (tag ∷ ts)) t.clock;
     }
 
-pushed-answer : (x : Settings) (h : Heart) (ts : List ℕ) (tag : ℕ) → Took x h ts → (pushed h.unwrap tag).answer ≡ unwrapped x.set.clock (tag ∷ ts)
+pushed-answer : (x : ServoSetting) (h : Heart) (ts : List ℕ) (tag : ℕ) → Took x h ts → (pushed h.unwrap tag).answer ≡ unwrapped x.set.clock (tag ∷ ts)
 pushed-answer x h ts tag t = (push x h ts tag t).u refl
 
 -- a good sample
-good-took : (x : Settings) (v : Core) (n tag : ℕ) (ts : List ℕ) → Took x (heart v) ts → Took x (heart (good (with_tag v tag) n)) (with_more x ts (Some tag))
+good-took : (x : ServoSetting) (v : Core) (n tag : ℕ) (ts : List ℕ) → Took x (heart v) ts → Took x (heart (good (with_tag v tag) n)) (with_more x ts (Some tag))
 good-took x v n tag ts t =
     let w : Core = with_tag v tag in
     let p : Took x (heart w) (tag ∷ ts) = push x (heart v) ts tag t in
@@ -91,11 +91,11 @@ good-took x v n tag ts t =
       | false ↦ subst (λ (h : Heart). Took x h (tag ∷ ts)) (sym (judged-heart (chained (followed w) n) (chained (followed w) n).state ∙ chained-heart (followed w) n)) p
     ])
 
-heard-took : (x : Settings) (v : Core) (n : ℕ) (tag : Option ℕ) (ts : List ℕ) → Took x (heart v) ts → Took x (heart (heard v n tag)) (with_more x ts tag)
+heard-took : (x : ServoSetting) (v : Core) (n : ℕ) (tag : Option ℕ) (ts : List ℕ) → Took x (heart v) ts → Took x (heart (heard v n tag)) (with_more x ts tag)
 heard-took x v n None ts t = t
 heard-took x v n (Some tag) ts t = good-took x v n tag ts t
 
-sample-took : (x : Settings) (v : Core) (n base bits : ℕ) (ts : List ℕ) → Took x (heart v) ts →
+sample-took : (x : ServoSetting) (v : Core) (n base bits : ℕ) (ts : List ℕ) → Took x (heart v) ts →
     Took x (heart (by_sample v n base bits)) (with_more x ts (cond (hears v) (good_tag v.last n base bits) None))
 sample-took x v n base bits ts t =
     elim (hears v) as (λ b. Took x (heart (cond b (heard (with_last v n) n (good_tag v.last n base bits)) v)) (with_more x ts (cond b (good_tag v.last n base bits) None))) [
@@ -103,7 +103,7 @@ sample-took x v n base bits ts t =
       | false ↦ t
     ]
 
-tick_in_holdover-took : (x : Settings) (v : Core) (ts : List ℕ) → Took x (heart v) ts →
+tick_in_holdover-took : (x : ServoSetting) (v : Core) (ts : List ℕ) → Took x (heart v) ts →
     Took x (heart (holdover_ticked (record v { state = Holdover }))) (cond (not (is_holdover (holdover_ticked (record v { state = Holdover })).state)) [] ts)
 tick_in_holdover-took x v ts t =
     let w : Core = record v { state = Holdover } in
@@ -115,10 +115,10 @@ tick_in_holdover-took x v ts t =
       | false ↦ t
     ]
 
-later-took : (x : Settings) (v : Core) (ts : List ℕ) → Took x (heart v) ts → Took x (heart (ended_by_age (ended_by_gap v))) ts
+later-took : (x : ServoSetting) (v : Core) (ts : List ℕ) → Took x (heart v) ts → Took x (heart (ended_by_age (ended_by_gap v))) ts
 later-took x v ts t = subst (λ (h : Heart). Took x h ts) (sym (later-heart v)) t
 
-tick-took : (x : Settings) (v : Core) (s : ServoState) (ts : List ℕ) → Took x (heart v) ts →
+tick-took : (x : ServoSetting) (v : Core) (s : ServoState) (ts : List ℕ) → Took x (heart v) ts →
     Took x (heart (by_tick (record v { state = s }))) (cond (is_holdover s && not (is_holdover (by_tick (record v { state = s })).state)) [] ts)
 tick-took x v Holdover ts t = tick_in_holdover-took x (one_tick v) ts t
 tick-took x v Track ts t = later-took x (one_tick (record v { state = Track })) ts t
@@ -128,11 +128,11 @@ tick-took x v SyncNsec ts t = later-took x (one_tick (record v { state = SyncNse
 tick-took x v SyncPhase ts t = later-took x (one_tick (record v { state = SyncPhase })) ts t
 tick-took x v WaitStable ts t = later-took x (one_tick (record v { state = WaitStable })) ts t
 
-restarted_outside_holdover-took : (x : Settings) (v : Core) (s : ServoState) (ts : List ℕ) → Took x (heart v) ts → Took x (heart (restarted_outside_holdover (record v { state = s }) s)) (cond (is_holdover s) ts [])
+restarted_outside_holdover-took : (x : ServoSetting) (v : Core) (s : ServoState) (ts : List ℕ) → Took x (heart v) ts → Took x (heart (restarted_outside_holdover (record v { state = s }) s)) (cond (is_holdover s) ts [])
 restarted_outside_holdover-took x v Holdover ts t = t
 restarted_outside_holdover-took x v _ ts t = rest x v.set v.phase.unwrap v.phase.u t.set t.clock
 
-took : (x : Settings) (calls : List Call) → Took x (heart (run x calls)) (tags x calls) → (call : Call) → Took x (heart (run x (call ∷ calls))) (tags x (call ∷ calls))
+took : (x : ServoSetting) (calls : List Call) → Took x (heart (run x calls)) (tags x calls) → (call : Call) → Took x (heart (run x (call ∷ calls))) (tags x (call ∷ calls))
 took x calls t (CallSample n base bits) = sample-took x (run x calls) n base bits (tags x calls) t
 took x calls t (CallMeasured f y) = subst (λ (h : Heart). Took x h (tags x calls)) (sym (answered-heart x (run x calls) f y (deltas_in_chain (run x calls)))) t
 took x calls t CallTick = tick-took x (run x calls) (run x calls).state (tags x calls) t
@@ -148,7 +148,7 @@ took x calls t (CallCarrier false) =
     subst (λ (h : Heart). Took x h (tags x calls)) (sym (uninit_outside_holdover-heart w w.state ∙ end-heart (carrier_gone (run x calls)))) t
 took x calls t CallReset = record { set = t.set; clock = ap (λ (s : ServoSet). s.clock) t.set; stands = record { last = refl; answer = refl }; fresh = refl; u = λ h. absurd cc }
 
-took_all : (x : Settings) (calls : List Call) → Took x (heart (run x calls)) (tags x calls)
+took_all : (x : ServoSetting) (calls : List Call) → Took x (heart (run x calls)) (tags x calls)
 took_all x [] = record { set = refl; clock = refl; stands = record { last = refl; answer = refl }; fresh = refl; u = λ h. absurd cc }
 took_all x (call ∷ calls) = took x calls (took_all x calls) call
 

@@ -10,7 +10,7 @@ use Rattle.wrp_servo.specs.Following.{restarted}
 use Rattle.wrp_servo.specs.Table.{one_tick, ended, uninit_outside_holdover, ended_by_gap, ended_by_age, by_tick, holdover_ticked, carrier_gone, with_link, with_lease, with_carrier, linked, restarted_outside_holdover}
 use Rattle.wrp_servo.specs.Sampling.{hears, good_tag, is_far, with_tag, with_last, followed, judged, judged_in, chained, good, heard, lost, by_sample}
 use Rattle.wrp_servo.specs.Measuring.{deltas_in_chain, answered}
-use Rattle.wrp_servo.specs.Call.{Call, CallSample, CallMeasured, CallTick, CallLease, CallLink, CallCarrier, CallReset, Settings, after, run}
+use Rattle.wrp_servo.specs.Call.{Call, CallSample, CallMeasured, CallTick, CallLease, CallLink, CallCarrier, CallReset, ServoSetting, after, run}
 use Rattle.wrp_servo.specs.Told.{carrier_told, link_told, lease_told, ticks_told, ToldLast}
 use Rattle.wrp_servo.proofs.Rests.{Rest, end-rest, uninit_outside_holdover-rest, linked-rest, judged-rest, chained-rest, later-rest, answered-rest}
 
@@ -48,7 +48,7 @@ chained-heart v n = ap told (chained-rest v n)
 later-heart : (v : Core) → heart (ended_by_age (ended_by_gap v)) ≡ heart v
 later-heart v = ap told (later-rest v)
 
-answered-heart : (x : Settings) (v : Core) (f : Four) (y : ℤ) (on : Option Deltas) → heart (answered x.lo x.hi v f y on) ≡ heart v
+answered-heart : (x : ServoSetting) (v : Core) (f : Four) (y : ℤ) (on : Option Deltas) → heart (answered x.lo x.hi v f y on) ≡ heart v
 answered-heart x v f y on = ap told (answered-rest x v f y on)
 
 restarted_outside_holdover-heart : (v : Core) (s : ServoState) → heart (restarted_outside_holdover (record v { state = s }) s) ≡ heart v
@@ -88,7 +88,7 @@ told-by h CallTick = record h { ticks = h.ticks + 1 }
 told-by h CallReset = record { signals = record { carrier = false; link = None; lease = false }; ticks = 0 }
 told-by h _ = h
 
-call-heart : (x : Settings) (v : Core) (call : Call) → heart (after x v call) ≡ told-by (heart v) call
+call-heart : (x : ServoSetting) (v : Core) (call : Call) → heart (after x v call) ≡ told-by (heart v) call
 unfolding told-by
 call-heart x v (CallSample n base bits) = sample-heart v n base bits
 call-heart x v (CallMeasured f y) = answered-heart x v f y (deltas_in_chain v)
@@ -107,7 +107,7 @@ told-ticks h CallReset = omega arith
 told-ticks h _ = omega arith
 
 -- a call brings one tick at the most
-pub after-ticks : (x : Settings) (v : Core) (call : Call) → (after x v call).ticks ≤ v.ticks + 1
+pub after-ticks : (x : ServoSetting) (v : Core) (call : Call) → (after x v call).ticks ≤ v.ticks + 1
 after-ticks x v call = subst (λ (n : ℕ). n ≤ v.ticks + 1) (sym (ap (λ (h : Heart). h.ticks) (call-heart x v call))) (told-ticks (heart v) call)
 
 looked : List Call → Heart
@@ -123,7 +123,7 @@ looked-by (CallLink on) calls = refl
 looked-by (CallCarrier up) calls = refl
 looked-by CallReset calls = refl
 
-heart-told : (x : Settings) (calls : List Call) → heart (run x calls) ≡ looked calls
+heart-told : (x : ServoSetting) (calls : List Call) → heart (run x calls) ≡ looked calls
 unfolding looked
 heart-told x [] = refl
 heart-told x (call ∷ calls) = call-heart x (run x calls) call ∙ ap (λ (h : Heart). told-by h call) (heart-told x calls) ∙ sym (looked-by call calls)

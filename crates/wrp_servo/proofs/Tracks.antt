@@ -11,7 +11,7 @@ use Rattle.wrp_servo.specs.Following.{restarted}
 use Rattle.wrp_servo.specs.Table.{is_track, is_past_gap, is_old, one_tick, ended, uninit_outside_holdover, ended_by_gap, ended_by_age, by_tick, holdover_ticked, carrier_gone, with_link, with_lease, with_carrier, linked, restarted_outside_holdover}
 use Rattle.wrp_servo.specs.Sampling.{hears, good_tag, is_far, is_calm, is_near, is_within, residual, with_tag, with_last, followed, judged, judged_in, chained, may_start, good, heard, lost, est_of, by_sample}
 use Rattle.wrp_servo.specs.Measuring.{is_in, x_of, delay_of, may_track, answered, placed, placed_in, aimed, by_period, settled, stepped, is_half, is_below_second}
-use Rattle.wrp_servo.specs.Call.{Call, CallSample, CallMeasured, CallTick, CallLease, CallLink, CallCarrier, CallReset, Settings, after, run}
+use Rattle.wrp_servo.specs.Call.{Call, CallSample, CallMeasured, CallTick, CallLease, CallLink, CallCarrier, CallReset, ServoSetting, after, run}
 use Rattle.wrp_servo.specs.Tracking.{enters, enters_by, is_wait_stable}
 use Rattle.wrp_servo.proofs.Leaving.{leaves, leaves_at, leaves_by}
 
@@ -66,7 +66,7 @@ sample-track v m n base bits =
       | false ↦ record { track = refl; chain = λ e. refl }
     ]
 
-measured-track : (x : Settings) (v : Core) (m : ℕ) (f : Four) (y : ℤ) (on : Option Deltas) → Ends (answered x.lo x.hi (tracker v m) f y on) (not (leaves_by x (tracker v m) f y on))
+measured-track : (x : ServoSetting) (v : Core) (m : ℕ) (f : Four) (y : ℤ) (on : Option Deltas) → Ends (answered x.lo x.hi (tracker v m) f y on) (not (leaves_by x (tracker v m) f y on))
 measured-track x v m f y None = record { track = refl; chain = λ e. refl }
 measured-track x v m f y (Some d) =
     let k : Measurement = record { four = f; delay = delay_of d y } in
@@ -80,7 +80,7 @@ measured-track x v m f y (Some d) =
     ]
 
 -- a call in TRACK leaves it exactly where it says
-pub call-track : (x : Settings) (v : Core) (m : ℕ) (call : Call) → Ends (after x (tracker v m) call) (not (leaves x (tracker v m) call))
+pub call-track : (x : ServoSetting) (v : Core) (m : ℕ) (call : Call) → Ends (after x (tracker v m) call) (not (leaves x (tracker v m) call))
 call-track x v m (CallSample n base bits) = sample-track v m n base bits
 call-track x v m (CallMeasured f y) = measured-track x v m f y v.signals.link
 call-track x v m CallTick = tick-track v m
@@ -206,7 +206,7 @@ not_in : (wait a b : Bool) → (wait && (false && (a && b))) ≡ false
 not_in true a b = refl
 not_in false a b = refl
 
-answered-other : (x : Settings) (v : Core) (m : ℕ) (s : ServoState) (f : Four) (y : ℤ) (on : Option Deltas) → is_track s ≡ false →
+answered-other : (x : ServoSetting) (v : Core) (m : ℕ) (s : ServoState) (f : Four) (y : ℤ) (on : Option Deltas) → is_track s ≡ false →
     Ends (answered x.lo x.hi (record v { state = s; first = Some m }) f y on) (enters_by x (record v { state = s; first = Some m }) f y on)
 answered-other x v m s f y None h = other _ h
 answered-other x v m s f y (Some d) h =
@@ -217,12 +217,12 @@ answered-other x v m s f y (Some d) h =
       | false ↦ record { track = ended-other (record v { first = Some m }) s h ∙ sym (not_in (is_wait_stable s) (nat_le v.set.stable v.calm) (may_track v k)); chain = λ e. let n : is_track (ended w).state ≡ false = ended-other (record v { first = Some m }) s h in cc }
     ]
 
-measured-other : (x : Settings) (v : Core) (s : ServoState) (first : Option ℕ) (f : Four) (y : ℤ) → is_track s ≡ false →
+measured-other : (x : ServoSetting) (v : Core) (s : ServoState) (first : Option ℕ) (f : Four) (y : ℤ) → is_track s ≡ false →
     Ends (after x (record v { state = s; first = first }) (CallMeasured f y)) (enters x (record v { state = s; first = first }) (CallMeasured f y))
 measured-other x v s None f y h = other _ h
 measured-other x v s (Some m) f y h = answered-other x v m s f y v.signals.link h
 
-pub call-other : (x : Settings) (v : Core) (s : ServoState) (first : Option ℕ) (call : Call) → is_track s ≡ false →
+pub call-other : (x : ServoSetting) (v : Core) (s : ServoState) (first : Option ℕ) (call : Call) → is_track s ≡ false →
     Ends (after x (record v { state = s; first = first }) call) (enters x (record v { state = s; first = first }) call)
 call-other x v s first (CallMeasured f y) h = measured-other x v s first f y h
 call-other x v s first (CallSample n base bits) h = other _ (sample-other (record v { first = first }) s n base bits h)
@@ -241,7 +241,7 @@ call-other x v s first CallReset h = record { track = refl; chain = λ e. cc }
 
 -- ---- any call
 
-pub call-at : (x : Settings) (v : Core) (s : ServoState) (first : Option ℕ) (call : Call) → (is_track s ≡ true → is_some first ≡ true) →
+pub call-at : (x : ServoSetting) (v : Core) (s : ServoState) (first : Option ℕ) (call : Call) → (is_track s ≡ true → is_some first ≡ true) →
     Ends (after x (record v { state = s; first = first }) call)
     (cond (is_track s) (not (leaves x (record v { state = s; first = first }) call)) (enters x (record v { state = s; first = first }) call))
 call-at x v Track None call h = absurd (let e : false ≡ true = h refl in cc)
@@ -254,11 +254,11 @@ call-at x v WaitStable first call h = call-other x v WaitStable first call refl
 call-at x v Holdover first call h = call-other x v Holdover first call refl
 
 -- TRACK as a running value: what the definitions say, one call after another
-unfoldable pub tracking : Settings → List Call → Bool
+unfoldable pub tracking : ServoSetting → List Call → Bool
 tracking x [] = false
 tracking x (call ∷ calls) = cond (tracking x calls) (not (leaves x (run x calls) call)) (enters x (run x calls) call)
 
-pub stands : (x : Settings) (calls : List Call) → Ends (run x calls) (tracking x calls)
+pub stands : (x : ServoSetting) (calls : List Call) → Ends (run x calls) (tracking x calls)
 unfolding tracking
 stands x [] = record { track = refl; chain = λ e. cc }
 stands x (call ∷ calls) =

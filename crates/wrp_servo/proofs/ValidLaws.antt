@@ -4,7 +4,7 @@ use Rattle.wrp_base.specs.declared.link.Deltas.{Deltas}
 use Rattle.wrp_base.specs.declared.measurement.Four.{Four}
 use Rattle.wrp_servo.specs.declared.machine.Core.{Core}
 use Rattle.wrp_servo.specs.Table.{is_track, ended}
-use Rattle.wrp_servo.specs.Call.{Call, CallMeasured, Settings, after}
+use Rattle.wrp_servo.specs.Call.{Call, CallMeasured, ServoSetting, after}
 use Rattle.wrp_servo.specs.Sizes.{FitsFour}
 use Rattle.wrp_servo.specs.Valid.{IsValid}
 use Rattle.wrp_servo.proofs.Tracks.{call-at, ended-other}
@@ -16,7 +16,7 @@ use Rattle.wrp_base.specs.declared.link.ServoState.{ServoState}
 use Rattle.wrp_base.specs.declared.link.ServoState.TheVariants.{Uninit, SyncTai, SyncNsec, SyncPhase, WaitStable, Track, Holdover}
 use Rattle.wrp_servo.specs.Measuring.{deltas_in_chain, placed, kept_of, x_of, is_in, answered}
 
-pub valid : (x : Settings) (v : Core) (call : Call) → FitsCall v call → IsValid v → IsValid (after x v call)
+pub valid : (x : ServoSetting) (v : Core) (call : Call) → FitsCall v call → IsValid v → IsValid (after x v call)
 valid x v call f i = record {
   safe = sizes_stay x v call f (λ e. (i.near e).calm) i.safe;
   chain = (call-at x v v.state v.first call i.chain).chain;
@@ -24,7 +24,7 @@ valid x v call f i = record {
 }
 
 -- the same, for a servo that is known to be the old one after the call
-pub becomes : (x : Settings) (v w : Core) (call : Call) → FitsCall v call → IsValid v → w ≡ after x v call → IsValid w
+pub becomes : (x : ServoSetting) (v w : Core) (call : Call) → FitsCall v call → IsValid v → w ≡ after x v call → IsValid w
 becomes x v w call f i e = subst IsValid (sym e) (valid x v call f i)
 
 either-le : (z : ℤ) → is_in z z z ≡ true
@@ -33,7 +33,7 @@ either-le z = grind (arith, ints)
 pub becomes_placed : (v w : Core) (f : Four) (d : Deltas) (y : ℤ) → FitsFour (kept_of f d y) → IsValid v → deltas_in_chain v ≡ Some d → w ≡ placed v (kept_of f d y) → IsValid w
 becomes_placed v w f d y t i a e =
     let z : ℤ = x_of d f in
-    let x : Settings = record { set = v.set; lo = z; hi = z } in
+    let x : ServoSetting = record { set = v.set; lo = z; hi = z } in
     becomes x v w (CallMeasured f y) (λ e h. subst (λ (z : Deltas). FitsFour (kept_of f z y)) (same_Some d e (sym a ∙ h)) t) i
     (e ∙ sym (ap (λ (b : Bool). cond b (placed v (kept_of f d y)) (ended v)) (either-le z)) ∙ sym (ap (λ (on : Option Deltas). answered z z v f y on) a))
 

@@ -19,13 +19,13 @@ pub data Call : Type 0 where
   CallReset : Call
 
 -- what is fixed: the settings, and the range of the law
-pub record Settings : Type 0 where
+pub record ServoSetting : Type 0 where
   pub set : ServoSet
   pub lo : ℤ
   pub hi : ℤ
 
 -- the servo after one more call
-abbrev pub after : Settings → Core → Call → Core
+abbrev pub after : ServoSetting → Core → Call → Core
 after x v (CallSample n base bits) = by_sample v n base bits
 after x v (CallMeasured four answer) = by_measured x.lo x.hi v four answer
 after x v CallTick = by_tick v
@@ -35,7 +35,7 @@ after x v (CallCarrier up) = by_carrier v up
 after x v CallReset = by_reset v
 
 -- the servo after a list of calls, the newest first
-abbrev pub run : Settings → List Call → Core
+abbrev pub run : ServoSetting → List Call → Core
 run x [] = new_core x.set
 run x (call ∷ calls) = after x (run x calls) call
 

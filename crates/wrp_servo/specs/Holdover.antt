@@ -2,7 +2,7 @@
 use Rattle.std.specs.Prelude.{◌≡◌, ◌↔◌, ℕ, ◌+◌, ◌<◌, ◌≤◌, true, false, List, [], ◌∷◌, ◌++◌}
 use Rattle.wrp_servo.specs.Table.{is_track}
 use Rattle.wrp_servo.specs.Sampling.{is_holdover}
-use Rattle.wrp_servo.specs.Call.{Call, CallTick, Settings, run, is_reset}
+use Rattle.wrp_servo.specs.Call.{Call, CallTick, ServoSetting, run, is_reset}
 use Rattle.wrp_servo.specs.LookBack.{leaves_track}
 
 -- the ticks among these calls
@@ -17,7 +17,7 @@ NoneResets [] = Unit {0}
 NoneResets (call ∷ calls) = (is_reset call ≡ false) × NoneResets calls
 
 -- a call other than a reset left TRACK, and since then there were no reset and fewer than `holdover` ticks
-pub record InHoldover (x : Settings) (calls : List Call) : Type 0 where
+pub record InHoldover (x : ServoSetting) (calls : List Call) : Type 0 where
   pub since : List Call
   pub leave : Call
   pub before : List Call
@@ -31,5 +31,5 @@ pub record InHoldover (x : Settings) (calls : List Call) : Type 0 where
 -- HOLDOVER is entered from TRACK alone, and left at its `holdover`-th tick or by a reset
 abbrev pub HoldoverSince : Type 0
 HoldoverSince =
-    (x : Settings) (calls : List Call) → 1 ≤ x.set.holdover →
+    (x : ServoSetting) (calls : List Call) → 1 ≤ x.set.holdover →
     (is_holdover (run x calls).state ≡ true) ↔ InHoldover x calls

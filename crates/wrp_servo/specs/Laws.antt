@@ -6,7 +6,7 @@ use Rattle.wrp_servo.specs.Since.{Since}
 use Rattle.wrp_servo.specs.LookBack.{enters_track, leaves_track, chain_starts, chain_ends}
 use Rattle.wrp_servo.specs.Table.{is_track}
 use Rattle.wrp_servo.specs.Sampling.{is_calm, is_near, is_holdover}
-use Rattle.wrp_servo.specs.Call.{Call, CallSample, Settings, run, is_reset}
+use Rattle.wrp_servo.specs.Call.{Call, CallSample, ServoSetting, run, is_reset}
 use Rattle.wrp_servo.specs.Servo.{answer_to}
 use Rattle.wrp_servo.specs.Tags.{heard_tag}
 use Rattle.wrp_servo.specs.Told.{carrier_told, link_told, lease_told, lease_starts, lease_ends, ticks_since_good}
@@ -14,25 +14,25 @@ use Rattle.wrp_servo.specs.Told.{carrier_told, link_told, lease_told, lease_star
 -- TRACK stands exactly where a call entered it and none after that left it
 abbrev pub TrackSince : Type 0
 TrackSince =
-    (x : Settings) (calls : List Call) →
+    (x : ServoSetting) (calls : List Call) →
     (is_track (run x calls).state ≡ true) ↔ Since (enters_track x) (leaves_track x) calls
 
 -- a chain stands exactly where a call started it and none after that ended it
 abbrev pub ChainSince : Type 0
 ChainSince =
-    (x : Settings) (calls : List Call) →
+    (x : ServoSetting) (calls : List Call) →
     (is_some (run x calls).first ≡ true) ↔ Since (chain_starts x) (chain_ends x) calls
 
 -- the lease is fresh exactly where a call told so and none after that told its lapse, nor a reset came
 abbrev pub LeaseSince : Type 0
 LeaseSince =
-    (x : Settings) (calls : List Call) →
+    (x : ServoSetting) (calls : List Call) →
     ((run x calls).signals.lease ≡ true) ↔ Since lease_starts lease_ends calls
 
 -- where TRACK stands, a chain stands
 abbrev pub TrackHasChain : Type 0
 TrackHasChain =
-    (x : Settings) (calls : List Call) → is_track (run x calls).state ≡ true → is_some (run x calls).first ≡ true
+    (x : ServoSetting) (calls : List Call) → is_track (run x calls).state ≡ true → is_some (run x calls).first ≡ true
 
 -- in TRACK a four stands, and the loop's error and the residual are within their limits
 pub record InTrack (v : Core) : Type 0 where
@@ -41,7 +41,7 @@ pub record InTrack (v : Core) : Type 0 where
   pub near : is_near v.set.track_tau v.phase v.kept ≡ true
 
 abbrev pub TrackIsNear : Type 0
-TrackIsNear = (x : Settings) (calls : List Call) → is_track (run x calls).state ≡ true → InTrack (run x calls)
+TrackIsNear = (x : ServoSetting) (calls : List Call) → is_track (run x calls).state ≡ true → InTrack (run x calls)
 
 -- with a chain the lock detector is locked, or the loop restarted since its last good sample (a carrier came where one
 -- stood), and the state is not HOLDOVER
@@ -50,7 +50,7 @@ pub record InChain (v : Core) : Type 0 where
   pub state : is_holdover v.state ≡ false
 
 abbrev pub ChainIsHeld : Type 0
-ChainIsHeld = (x : Settings) (calls : List Call) → is_some (run x calls).first ≡ true → InChain (run x calls)
+ChainIsHeld = (x : ServoSetting) (calls : List Call) → is_some (run x calls).first ≡ true → InChain (run x calls)
 
 -- what was told last while a chain stands: a carrier, a link that is on, and a fresh lease
 pub record HasSignals (calls : List Call) : Type 0 where
@@ -59,12 +59,12 @@ pub record HasSignals (calls : List Call) : Type 0 where
   pub lease : lease_told calls ≡ true
 
 abbrev pub ChainHasSignals : Type 0
-ChainHasSignals = (x : Settings) (calls : List Call) → is_some (run x calls).first ≡ true → HasSignals calls
+ChainHasSignals = (x : ServoSetting) (calls : List Call) → is_some (run x calls).first ≡ true → HasSignals calls
 
 -- while a chain stands, at most `gap` ticks passed since the last good sample
 abbrev pub ChainKeepsGap : Type 0
 ChainKeepsGap =
-    (x : Settings) (calls : List Call) → is_some (run x calls).first ≡ true → ticks_since_good x calls ≤ x.set.gap
+    (x : ServoSetting) (calls : List Call) → is_some (run x calls).first ≡ true → ticks_since_good x calls ≤ x.set.gap
 
 -- the phase after a call: a good sample's tag alone changes it
 abbrev pub phase_after : Core → Option ℕ → ℤ
@@ -72,19 +72,19 @@ phase_after v None = v.phase.u
 phase_after v (Some tag) = (pushed v.phase.unwrap tag).answer
 
 -- the tag of a good sample that this call brings
-abbrev pub good_tag_of : Settings → List Call → Call → Option ℕ
+abbrev pub good_tag_of : ServoSetting → List Call → Call → Option ℕ
 good_tag_of x calls (CallSample n base bits) = heard_tag x calls n base bits
 good_tag_of x calls _ = None
 
 -- while no reset comes, u changes by the next good tag alone
 abbrev pub PhaseMovesByTags : Type 0
 PhaseMovesByTags =
-    (x : Settings) (calls : List Call) (call : Call) → is_reset call ≡ false →
+    (x : ServoSetting) (calls : List Call) (call : Call) → is_reset call ≡ false →
     (run x (call ∷ calls)).phase.u ≡ phase_after (run x calls) (good_tag_of x calls call)
 
 -- no step is commanded in TRACK or HOLDOVER
 abbrev pub NoStepInTrack : Type 0
 NoStepInTrack =
-    (x : Settings) (calls : List Call) (call : Call) →
+    (x : ServoSetting) (calls : List Call) (call : Call) →
     (is_track (run x calls).state || is_holdover (run x calls).state) ≡ true →
     (answer_to x (run x calls) call).cycles ≡ pos 0

@@ -2,7 +2,7 @@
 use Rattle.std.specs.Prelude.{ℕ, ℤ, pos, ◌-◌, max, Bool, cond, not, ◌&&◌, ◌||◌, is_some, Option, None, Some, List, [], ◌∷◌}
 use Rattle.wrp_phase.specs.Unwrapping.{last_tag, unwrapped}
 use Rattle.wrp_servo.specs.declared.machine.Core.{Core}
-use Rattle.wrp_servo.specs.Call.{Call, CallSample, CallReset, Settings, run}
+use Rattle.wrp_servo.specs.Call.{Call, CallSample, CallReset, ServoSetting, run}
 use Rattle.wrp_servo.specs.Chain.{ends, ends_chain, starts, strays_at}
 use Rattle.wrp_servo.specs.Sampling.{hears}
 use Rattle.wrp_servo.specs.Tags.{heard_tag, tags}
@@ -10,11 +10,11 @@ use Rattle.wrp_servo.specs.Told.{carrier_told, link_told, lease_told, ticks_told
 use Rattle.wrp_servo.specs.Tracking.{enters}
 
 -- the phase at the last good sample: the sum of the wrapped differences of the good tags up to it
-abbrev pub phase_with : Settings → List ℕ → ℤ → Option ℕ → ℤ
+abbrev pub phase_with : ServoSetting → List ℕ → ℤ → Option ℕ → ℤ
 phase_with x tags before None = before
 phase_with x tags before (Some tag) = unwrapped x.set.clock (tag ∷ tags)
 
-abbrev pub phase_told : Settings → List Call → ℤ
+abbrev pub phase_told : ServoSetting → List Call → ℤ
 phase_told x [] = pos 0
 phase_told x (CallReset ∷ calls) = pos 0
 phase_told x (CallSample n base bits ∷ calls) =
@@ -22,7 +22,7 @@ phase_told x (CallSample n base bits ∷ calls) =
 phase_told x (_ ∷ calls) = phase_told x calls
 
 -- the greatest number of a sample that was not ignored since the last reset
-abbrev pub last_told : Settings → List Call → ℕ
+abbrev pub last_told : ServoSetting → List Call → ℕ
 last_told x [] = 0
 last_told x (CallReset ∷ calls) = 0
 last_told x (CallSample n base bits ∷ calls) = cond (hears (run x calls)) (max (last_told x calls) n) (last_told x calls)
@@ -31,7 +31,7 @@ last_told x (_ ∷ calls) = last_told x calls
 -- what stands after a list of calls: carrier, link and lease as they were told last, the ticks and those since the
 -- last good sample as they are counted, the greatest number of a sample, and the phase as a sum of tags. The state, the
 -- chain, the four, the calm count, the setpoint, its goal, the controller and the detector are those of the rows.
-abbrev pub seen : Settings → List Call → Core
+abbrev pub seen : ServoSetting → List Call → Core
 seen x calls = record (run x calls) {
   signals = record { carrier = carrier_told calls; link = link_told calls; lease = lease_told calls };
   last = last_told x calls;
@@ -48,17 +48,17 @@ seen x calls = record (run x calls) {
 }
 
 -- a call starts a chain, where none stands
-abbrev pub chain_starts : Settings → List Call → Call → Bool
+abbrev pub chain_starts : ServoSetting → List Call → Call → Bool
 chain_starts x calls call = not (is_some (run x calls).first) && starts x (seen x calls) call
 
 -- a call ends the chain
-abbrev pub chain_ends : Settings → List Call → Call → Bool
+abbrev pub chain_ends : ServoSetting → List Call → Call → Bool
 chain_ends x calls call = ends_chain x (seen x calls) call
 
 -- a call enters TRACK
-abbrev pub enters_track : Settings → List Call → Call → Bool
+abbrev pub enters_track : ServoSetting → List Call → Call → Bool
 enters_track x calls call = enters x (seen x calls) call
 
 -- a call leaves TRACK: it ends the chain whatever the state, or by a cause of TRACK alone
-abbrev pub leaves_track : Settings → List Call → Call → Bool
+abbrev pub leaves_track : ServoSetting → List Call → Call → Bool
 leaves_track x calls call = ends x (seen x calls) call || strays_at x (seen x calls) call

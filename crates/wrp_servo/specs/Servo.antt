@@ -14,7 +14,7 @@ use Rattle.wrp_servo.specs.declared.sampling.Heard.TheVariants.{Ignored, Refused
 use Rattle.wrp_servo.specs.declared.machine.Core.{Core}
 use Rattle.wrp_servo.specs.Sampling.{heard_as, est_of}
 use Rattle.wrp_servo.specs.Measuring.{deltas_in_chain, is_in, x_of, cycles_of}
-use Rattle.wrp_servo.specs.Call.{Call, CallSample, CallMeasured, Settings, after, run}
+use Rattle.wrp_servo.specs.Call.{Call, CallSample, CallMeasured, ServoSetting, after, run}
 
 -- what a servo is seen as: what it holds, and its law
 pub record ServoOf (F : Type 0) : Type 0 where
@@ -22,33 +22,33 @@ pub record ServoOf (F : Type 0) : Type 0 where
   pub law : LawOf F
 
 -- what is fixed for a set and a law
-abbrev pub settings_of : {F : Type 0} → ServoSet → LawOf F → Settings
-settings_of set law = record { set = set; lo = law.lo; hi = law.hi }
+abbrev pub servo_setting_of : {F : Type 0} → ServoSet → LawOf F → ServoSetting
+servo_setting_of set law = record { set = set; lo = law.lo; hi = law.hi }
 
 -- the answer beside a measurement is one of the law's, where the law is asked
-abbrev pub IsAnswer : (ℤ → ℤ → Type 0) → Settings → Core → Four → ℤ → Type 0
+abbrev pub IsAnswer : (ℤ → ℤ → Type 0) → ServoSetting → Core → Four → ℤ → Type 0
 IsAnswer answers x v f y = (d : Deltas) → deltas_in_chain v ≡ Some d → IsTrue (is_in x.lo x.hi (x_of d f)) → answers (x_of d f) y
 
 -- each measurement's answer is one of the law's
-abbrev pub AllAnswered : (ℤ → ℤ → Type 0) → Settings → List Call → Type 0
+abbrev pub AllAnswered : (ℤ → ℤ → Type 0) → ServoSetting → List Call → Type 0
 AllAnswered answers x [] = Unit {0}
 AllAnswered answers x (CallMeasured f y ∷ calls) = IsAnswer answers x (run x calls) f y × AllAnswered answers x calls
 AllAnswered answers x (call ∷ calls) = AllAnswered answers x calls
 
 -- the servo stands for this list of calls
-pub record StandsFor {F : Type 0} (post : F → ℤ → ℤ → Type 0) (x : Settings) (servo : ServoOf F) (calls : List Call) : Type 0 where
+pub record StandsFor {F : Type 0} (post : F → ℤ → ℤ → Type 0) (x : ServoSetting) (servo : ServoOf F) (calls : List Call) : Type 0 where
   pub core : servo.core ≡ run x calls
   pub fixed : x ≡ record { set = x.set; lo = servo.law.lo; hi = servo.law.hi }
   pub answered : AllAnswered (post servo.law.closure) x calls
 
 -- the new servo stands for what the old one stood for, with this call in front
 abbrev pub AddsCall : {F : Type 0} → (F → ℤ → ℤ → Type 0) → ServoOf F → ServoOf F → Call → Type 0
-AddsCall post old new call = (x : Settings) → Adds (StandsFor post x) old new call
+AddsCall post old new call = (x : ServoSetting) → Adds (StandsFor post x) old new call
 
 -- the servo after a call
 abbrev pub after_call : {F : Type 0} → ServoOf F → Call → ServoOf F
 after_call servo call =
-    record { core = after (settings_of servo.core.set servo.law) servo.core call; law = servo.law }
+    record { core = after (servo_setting_of servo.core.set servo.law) servo.core call; law = servo.law }
 
 -- what became of the chain
 abbrev pub news_of : Option ℕ → Option ℕ → ChainNews
@@ -57,7 +57,7 @@ news_of None (Some n) = Started n
 news_of _ _ = Same
 
 -- what becomes of the chain at a call
-abbrev pub news_at : Settings → Core → Call → ChainNews
+abbrev pub news_at : ServoSetting → Core → Call → ChainNews
 news_at x v call = news_of v.first (after x v call).first
 
 -- an answer without a sample
@@ -74,12 +74,12 @@ out_by Followed v chain =
     record { cycles = pos 0; dac = Some v.phase.dac; unwrapped = Some v.phase.u; chain = chain; refused = None }
 
 -- the reason for which a measurement is refused
-abbrev pub refused_by : Settings → Four → Option Deltas → Option ℕ
+abbrev pub refused_by : ServoSetting → Four → Option Deltas → Option ℕ
 refused_by x f None = None
 refused_by x f (Some d) = cond (is_in x.lo x.hi (x_of d f)) None (Some 14)
 
 -- the answer to a call
-abbrev pub answer_to : Settings → Core → Call → ServoOut
+abbrev pub answer_to : ServoSetting → Core → Call → ServoOut
 answer_to x v (CallSample n base bits) =
     out_by (heard_as v n base bits) (after x v (CallSample n base bits)) (news_at x v (CallSample n base bits))
 answer_to x v (CallMeasured f y) =
@@ -88,12 +88,12 @@ answer_to x v call = plain_out (pos 0) (news_at x v call) None
 
 -- the answer of a servo to a call
 abbrev pub out_of : {F : Type 0} → ServoOf F → Call → ServoOut
-out_of servo call = answer_to (settings_of servo.core.set servo.law) servo.core call
+out_of servo call = answer_to (servo_setting_of servo.core.set servo.law) servo.core call
 
 -- a measurement with an answer y: y is one of the law's, the new servo is the old one after it and stands for the list
 -- with it, and the output is that of its row
 pub record AddsMeasured {F : Type 0} (post : F → ℤ → ℤ → Type 0) (old new : ServoOf F) (f : Four) (y : ℤ) (out : ServoOut) : Type 0 where
-  pub answer : IsAnswer (post old.law.closure) (settings_of old.core.set old.law) old.core f y
+  pub answer : IsAnswer (post old.law.closure) (servo_setting_of old.core.set old.law) old.core f y
   pub value : new ≡ after_call old (CallMeasured f y)
   pub stands : AddsCall post old new (CallMeasured f y)
   pub out_is : out ≡ out_of old (CallMeasured f y)

@@ -1,7 +1,7 @@
 -- What was told last, and what was counted since, looking back over the list of calls (this project's profile).
 use Rattle.std.specs.Prelude.{◌≡◌, ℕ, Bool, true, false, cond, not, is_some, ◌+◌, ◌≤◌, List, [], ◌∷◌, Option, None}
 use Rattle.wrp_base.specs.declared.link.Deltas.{Deltas}
-use Rattle.wrp_servo.specs.Call.{Call, CallSample, CallTick, CallLease, CallLink, CallCarrier, CallReset, Settings, after, run}
+use Rattle.wrp_servo.specs.Call.{Call, CallSample, CallTick, CallLease, CallLink, CallCarrier, CallReset, ServoSetting, after, run}
 use Rattle.wrp_servo.specs.declared.machine.Core.{Core}
 use Rattle.wrp_servo.specs.Tags.{heard_tag}
 
@@ -41,14 +41,14 @@ pub record IsTold (v : Core) (calls : List Call) : Type 0 where
   pub ticks : v.ticks ≡ ticks_told calls
 
 abbrev pub ToldLast : Type 0
-ToldLast = (x : Settings) (calls : List Call) → IsTold (run x calls) calls
+ToldLast = (x : ServoSetting) (calls : List Call) → IsTold (run x calls) calls
 
 -- a call counts one tick at the most
 abbrev pub CountsOneTick : Type 0
-CountsOneTick = (x : Settings) (v : Core) (call : Call) → (after x v call).ticks ≤ v.ticks + 1
+CountsOneTick = (x : ServoSetting) (v : Core) (call : Call) → (after x v call).ticks ≤ v.ticks + 1
 
 -- the ticks since the last good sample, or since the last reset
-abbrev pub ticks_since_good : Settings → List Call → ℕ
+abbrev pub ticks_since_good : ServoSetting → List Call → ℕ
 ticks_since_good x [] = 0
 ticks_since_good x (CallTick ∷ calls) = ticks_since_good x calls + 1
 ticks_since_good x (CallReset ∷ calls) = 0

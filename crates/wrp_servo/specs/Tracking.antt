@@ -6,7 +6,7 @@ use Rattle.wrp_base.specs.declared.link.ServoState.TheVariants.{WaitStable}
 use Rattle.wrp_base.specs.declared.measurement.Four.{Four}
 use Rattle.wrp_servo.specs.declared.machine.Core.{Core}
 use Rattle.wrp_servo.specs.Measuring.{deltas_in_chain, is_in, x_of, delay_of, may_track}
-use Rattle.wrp_servo.specs.Call.{Call, CallMeasured, Settings}
+use Rattle.wrp_servo.specs.Call.{Call, CallMeasured, ServoSetting}
 
 abbrev pub is_wait_stable : ServoState → Bool
 is_wait_stable WaitStable = true
@@ -14,13 +14,13 @@ is_wait_stable _ = false
 
 -- a measurement enters TRACK: in WAIT_STABLE, calm at `stable`, x in range, and r, e_tau and the four's age within their
 -- limits
-abbrev pub enters_by : Settings → Core → Four → ℤ → Option Deltas → Bool
+abbrev pub enters_by : ServoSetting → Core → Four → ℤ → Option Deltas → Bool
 enters_by x v f y None = false
 enters_by x v f y (Some d) =
     is_wait_stable v.state
     && (is_in x.lo x.hi (x_of d f)
     && (nat_le v.set.stable v.calm && may_track v (record { four = f; delay = delay_of d y })))
 
-abbrev pub enters : Settings → Core → Call → Bool
+abbrev pub enters : ServoSetting → Core → Call → Bool
 enters x v (CallMeasured f y) = enters_by x v f y (deltas_in_chain v)
 enters x v _ = false

@@ -2,10 +2,10 @@
 ghost use Rattle.std.specs.Prelude.{◌≡◌, ℕ, ℤ, pos, ◌^◌, ◌<◌, ◌≤◌, ◌+◌, ◌≤ℤ◌, unsigned_abs, List, [], ◌∷◌, IfSome, None, Some, cond, true, IsTrue, ◌↔◌};
 ghost use Rattle.std.specs.Option.{option_map};
 ghost use Rattle.wrp_law.specs.Law.{LawOf, KeepsFact};
-ghost use Rattle.wrp_servo.specs.Call.{Call, CallSample, CallMeasured, CallTick, CallLease, CallLink, CallCarrier, CallReset, Settings, after};
+ghost use Rattle.wrp_servo.specs.Call.{Call, CallSample, CallMeasured, CallTick, CallLease, CallLink, CallCarrier, CallReset, ServoSetting, after};
 ghost use Rattle.wrp_servo.specs.Measuring.{is_in, deltas_in_chain, x_of, placed, kept_of, cycles_in};
 ghost use Rattle.wrp_servo.specs.Sampling.{est_of};
-ghost use Rattle.wrp_servo.specs.Servo.{plain_out, ServoOf, StandsFor, AddsCall, AddsMeasured, after_call, settings_of, IsAnswer, out_of, est_now, news_of};
+ghost use Rattle.wrp_servo.specs.Servo.{plain_out, ServoOf, StandsFor, AddsCall, AddsMeasured, after_call, servo_setting_of, IsAnswer, out_of, est_now, news_of};
 ghost use Rattle.wrp_servo.specs.Sizes.{FitsTimes, FitsServoSet};
 ghost use Rattle.wrp_servo.specs.LookBack.{enters_track, leaves_track};
 ghost use Rattle.wrp_servo.specs.Since.{Since};
@@ -45,7 +45,7 @@ impl<F: Fn(i64) -> i64> Servo<F> {
         requires set { FitsServoSet set }
         requires law { KeepsFact F.pre F.post law }
         ensures value { result ≡ record { core = new_core set; law = law } }
-        ensures stands { StandsFor F.post (settings_of set law) result [] }
+        ensures stands { StandsFor F.post (servo_setting_of set law) result [] }
     {
         Servo {
             core: Machine::new(set),
@@ -115,9 +115,9 @@ impl<F: Fn(i64) -> i64> Servo<F> {
         requires law { KeepsFact F.pre F.post self.old.law }
         requires four { FitsTimes four.now }
         ensures law { self.new.law ≡ self.old.law }
-        ensures answer { IsAnswer (F.post self.old.law.closure) (settings_of self.old.core.set self.old.law)
+        ensures answer { IsAnswer (F.post self.old.law.closure) (servo_setting_of self.old.core.set self.old.law)
             self.old.core four.now result.1 }
-        ensures core { self.new.core ≡ after (settings_of self.old.core.set self.old.law)
+        ensures core { self.new.core ≡ after (servo_setting_of self.old.core.set self.old.law)
             self.old.core (CallMeasured four.now result.1) }
         ensures out { result.0 ≡ out_of self.old (CallMeasured four.now result.1) }
     {
@@ -252,7 +252,7 @@ impl<F: Fn(i64) -> i64> Servo<F> {
     /// Whether TRACK stands: looking back over the calls, one entered it, and none after that left it.
     pub fn tracking(&self) -> bool
         ensures state { result ≡ is_track self.now.core.state }
-        ensures since { (x : Settings) (calls : List Call) → StandsFor F.post x self.now calls
+        ensures since { (x : ServoSetting) (calls : List Call) → StandsFor F.post x self.now calls
             → IsTrue result ↔ Since (enters_track x) (leaves_track x) calls }
     {
         self.is_in_track()

@@ -7,12 +7,12 @@ use Rattle.wrp_base.specs.declared.link.Deltas.{Deltas}
 use Rattle.wrp_base.specs.declared.link.ServoState.{ServoState}
 use Rattle.wrp_base.specs.declared.link.ServoState.TheVariants.{Uninit, SyncTai, SyncNsec, SyncPhase, WaitStable, Track, Holdover}
 use Rattle.wrp_base.specs.declared.measurement.Four.{Four}
-use Rattle.wrp_node.specs.NodeAt.{Fixed, NodeAt, dac_of, servo_at, settings_of, slave_of}
+use Rattle.wrp_node.specs.NodeAt.{NodeSetting, NodeAt, dac_of, servo_at, servo_setting_of, slave_of}
 use Rattle.wrp_pi.specs.Loop.{drive, raised}
 use Rattle.wrp_servo.specs.declared.machine.Core.{Core}
 use Rattle.wrp_servo.specs.declared.machine.Measurement.{Measurement}
 use Rattle.wrp_servo.specs.declared.phase_loop.PhaseLoop.{PhaseLoop}
-use Rattle.wrp_servo.specs.Call.{Call, CallSample, CallMeasured, CallTick, CallLease, CallLink, CallCarrier, CallReset, Settings, after, run}
+use Rattle.wrp_servo.specs.Call.{Call, CallSample, CallMeasured, CallTick, CallLease, CallLink, CallCarrier, CallReset, ServoSetting, after, run}
 use Rattle.wrp_servo.specs.Following.{approached, e_tau, error_of, restarted}
 use Rattle.wrp_servo.specs.Measuring.{aimed, answered, by_period, deltas_in_chain, is_below_second, is_half, is_in, kept_of, may_track, placed, placed_in, settled, stepped, x_of}
 use Rattle.wrp_servo.specs.Sampling.{chained, est_of, followed, good, good_tag, heard, hears, is_far, is_within, judged, judged_in, lost, may_start, residual, stays_near, with_last, with_tag}
@@ -97,7 +97,7 @@ placed_range v k est WaitStable h = either_range (nat_le v.set.stable v.calm) (s
 placed_range v k est Track h = either_range (is_within v.set.track_tau (residual v.phase k)) (aimed v k Track) (ended v) h (end_range v h)
 placed_range v k est _ h = h
 
-answered_range : (x : Settings) (v : Core) (f : Four) (y : ℤ) (on : Option Deltas) → InRange v → InRange (answered x.lo x.hi v f y on)
+answered_range : (x : ServoSetting) (v : Core) (f : Four) (y : ℤ) (on : Option Deltas) → InRange v → InRange (answered x.lo x.hi v f y on)
 answered_range x v f y None h = h
 answered_range x v f y (Some d) h =
     either_range (is_in x.lo x.hi (x_of d f)) (placed v (kept_of f d y)) (ended v)
@@ -116,7 +116,7 @@ restarted_range : (v : Core) (s : ServoState) → InRange v → InRange (restart
 restarted_range v Holdover h = h
 restarted_range v _ h = h
 
-call_range : (x : Settings) (v : Core) (call : Call) → InRange v → InRange (after x v call)
+call_range : (x : ServoSetting) (v : Core) (call : Call) → InRange v → InRange (after x v call)
 call_range x v (CallSample n base bits) h =
     either_range (hears v) (heard (with_last v n) n (good_tag v.last n base bits)) v (heard_range (with_last v n) n (good_tag v.last n base bits) h) h
 call_range x v (CallMeasured f y) h = answered_range x v f y (deltas_in_chain v) h
@@ -133,7 +133,7 @@ call_range x v (CallCarrier false) h =
     uninit_range w w.state (end_range (carrier_gone v) h)
 call_range x v CallReset h = (h.1, h.1)
 
-run_range : (x : Settings) (calls : List Call) → x.set.bias ≤ 65535 → InRange (run x calls)
+run_range : (x : ServoSetting) (calls : List Call) → x.set.bias ≤ 65535 → InRange (run x calls)
 run_range x [] h = (h, h)
 run_range x (call ∷ calls) h = call_range x (run x calls) call (run_range x calls h)
 
@@ -141,6 +141,6 @@ value_where : (b : Bool) (value bias : ℕ) → value ≤ 65535 → bias ≤ 655
 value_where true value bias h k = h
 value_where false value bias h k = k
 
-pub dac_small : (fixed : Fixed) (n : NodeAt) → fixed.set.servo.bias ≤ 65535 → dac_of fixed n ≤ 65535
+pub dac_small : (fixed : NodeSetting) (n : NodeAt) → fixed.set.servo.bias ≤ 65535 → dac_of fixed n ≤ 65535
 dac_small fixed n h =
-    value_where (is_some (slave_of fixed.set)) (servo_at fixed n).phase.dac fixed.set.servo.bias (run_range (settings_of fixed) n.calls h).0 h
+    value_where (is_some (slave_of fixed.set)) (servo_at fixed n).phase.dac fixed.set.servo.bias (run_range (servo_setting_of fixed) n.calls h).0 h

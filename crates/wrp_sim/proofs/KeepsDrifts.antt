@@ -11,7 +11,7 @@ use Rattle.wrp_world.specs.EventAt.{IsChange}
 use Rattle.wrp_world.specs.Moved.{drift_of, move_of}
 use Rattle.wrp_world.specs.Premises.{fibre_rate, parts, rate_checks, rate_kept, rate_of, rate_of_fibre}
 use Rattle.wrp_world.specs.Runs.{IsNetwork}
-use Rattle.wrp_world.specs.Setting.{Setting, fixed_of, from_on, links_of, nodes_of}
+use Rattle.wrp_world.specs.Setting.{Setting, node_setting_of, from_on, links_of, nodes_of}
 use Rattle.wrp_world.specs.WorldAt.{WorldAt}
 use Rattle.wrp_sim.specs.Numbers.{drift_at, held_to}
 use Rattle.wrp_sim.specs.Rules.{clock_rate, drift_over}
@@ -54,7 +54,7 @@ pub rate_holds : (scene : SceneAt) (s : Setting) (w : WorldAt) (dt : ℤ) (n : �
 rate_holds scene s w dt n =
     drift_got (λ x. AllHold (rate_checks x dt (rate_of s w n))) (drift_over scene s w dt) s n (still_rate dt (rate_of s w n))
     (drift_where (λ x. AllHold (rate_checks x dt (rate_of s w n))) (w.clock n).up (drift_at dt (clock_rate scene s w n))
-    (held_rate dt (free_of scene n -ℤ (pos 10 *ℤ (pos (dac_of (fixed_of s n) (w.node n)) -ℤ s.cfg.bias))) (rate_of s w n)) (still_rate dt (rate_of s w n)))
+    (held_rate dt (free_of scene n -ℤ (pos 10 *ℤ (pos (dac_of (node_setting_of s n) (w.node n)) -ℤ s.cfg.bias))) (rate_of s w n)) (still_rate dt (rate_of s w n)))
 
 no_move : (moves : List (ℤ × ℤ)) (k : ℕ) → move_of moves k ≡ (pos 0, pos 0) → (dt : ℤ) → AllHold (fibre_rate dt moves k)
 no_move moves k e dt =
@@ -98,7 +98,7 @@ drift_small scene s net fits w dt short n =
     let set : (s.set n).servo.bias ≤ 65535 = subst (λ (x : NodeSet). x.servo.bias ≤ 65535) (sym (net.set n)) (size_of_bias s.cfg.bias bias.0 bias.1) in
     let free : unsigned_abs (free_of scene n) ≤ 100_000 = listed_at IsFree scene.frees n (pos 0) (omega arith) fits.free in
     let rate : unsigned_abs (clock_rate scene s w n) ≤ 1_000_000 =
-    held_small (rate_of s w n) (free_of scene n -ℤ (pos 10 *ℤ (pos (dac_of (fixed_of s n) (w.node n)) -ℤ s.cfg.bias)))
-    (rate_small (free_of scene n) s.cfg.bias (dac_of (fixed_of s n) (w.node n)) free (dac_small (fixed_of s n) (w.node n) set) bias.0 bias.1) in
+    held_small (rate_of s w n) (free_of scene n -ℤ (pos 10 *ℤ (pos (dac_of (node_setting_of s n) (w.node n)) -ℤ s.cfg.bias)))
+    (rate_small (free_of scene n) s.cfg.bias (dac_of (node_setting_of s n) (w.node n)) free (dac_small (node_setting_of s n) (w.node n) set) bias.0 bias.1) in
     drift_where IsChange (w.clock n).up (drift_at dt (clock_rate scene s w n))
     (change_small (drift_at dt (clock_rate scene s w n)) dt (drift_within dt (clock_rate scene s w n) 1_000_000 rate) short) no_change

@@ -17,7 +17,7 @@ use Rattle.wrp_link.specs.Rows.{tick_row, under}
 use Rattle.wrp_link.specs.Table.{after, by_row, sent_by, word_in}
 use Rattle.wrp_node.specs.declared.interface.Input.{Input}
 use Rattle.wrp_node.specs.declared.interface.Input.TheVariants.{Tick, Sample, Frame, Sent, Carrier, Reset}
-use Rattle.wrp_node.specs.NodeAt.{Taken, Fixed, NodeAt, setting_of, line_at, link_at, locked_of, certain_of}
+use Rattle.wrp_node.specs.NodeAt.{Taken, NodeSetting, NodeAt, setting_of, line_at, link_at, locked_of, certain_of}
 use Rattle.wrp_node.specs.NodeStep.{heard, heard_unless, node_step, servo_ticked, stamp_of, stepped, tick_of}
 use Rattle.wrp_node.proofs.Links.{before_ports}
 use Rattle.wrp_port.specs.declared.interface.PortIn.TheVariants.{Msg, Sent as PortSent}
@@ -83,28 +83,28 @@ only_here true sends h = h refl
 only_here false sends h = refl
 
 -- the link of the port that is told, where it is this one
-same_carrier : (fixed : Fixed) (n : NodeAt) (p q : ℕ) → (p == q) ≡ true → (link_at fixed.set n p).carrier ≡ false → (link_at fixed.set n q).carrier ≡ false
+same_carrier : (fixed : NodeSetting) (n : NodeAt) (p q : ℕ) → (p == q) ≡ true → (link_at fixed.set n p).carrier ≡ false → (link_at fixed.set n q).carrier ≡ false
 same_carrier fixed n p q b e = subst (λ x. (link_at fixed.set n x).carrier ≡ false) (eqb-true p q b) e
 
-unless_dark : (fixed : Fixed) (n : NodeAt) (p q : ℕ) (m : PtpMsg) (stamp : Stamp) (y : ℤ) (o : Option Reason) → (link_at fixed.set n p).carrier ≡ false →
+unless_dark : (fixed : NodeSetting) (n : NodeAt) (p q : ℕ) (m : PtpMsg) (stamp : Stamp) (y : ℤ) (o : Option Reason) → (link_at fixed.set n p).carrier ≡ false →
     (heard_unless o fixed q (Msg m stamp n.ticks) y n).sends p ≡ []
 unless_dark fixed n p q m stamp y None e =
     only_here (p == q) (sends_of (setting_of fixed.set q) (line_at fixed.set n q) (Msg m stamp n.ticks))
     (λ b. dark_heard (setting_of fixed.set q) (line_at fixed.set n q) m stamp (dark_open (link_at fixed.set n q) (same_carrier fixed n p q b e)))
 unless_dark fixed n p q m stamp y (Some reason) e = refl
 
-frame_dark : (fixed : Fixed) (n : NodeAt) (p q : ℕ) (says : Result PtpMsg FrameFault) (raw : Raw) (sample : ℕ) (y : ℤ) → (link_at fixed.set n p).carrier ≡ false → (heard fixed q says raw sample y n).sends p ≡ []
+frame_dark : (fixed : NodeSetting) (n : NodeAt) (p q : ℕ) (says : Result PtpMsg FrameFault) (raw : Raw) (sample : ℕ) (y : ℤ) → (link_at fixed.set n p).carrier ≡ false → (heard fixed q says raw sample y n).sends p ≡ []
 frame_dark fixed n p q (Err fault) raw sample y e = refl
 frame_dark fixed n p q (Ok m) raw sample y e =
     unless_dark fixed n p q m (stamp_of fixed n q raw sample) y (early_reason (setting_of fixed.set q) (link_at fixed.set n q) m) e
 
-tick_dark : (fixed : Fixed) (n : NodeAt) (p : ℕ) → (link_at fixed.set n p).carrier ≡ false →
+tick_dark : (fixed : NodeSetting) (n : NodeAt) (p : ℕ) → (link_at fixed.set n p).carrier ≡ false →
     sends_of (setting_of fixed.set p) (line_at fixed.set (servo_ticked fixed n).node p) (tick_of fixed (servo_ticked fixed n).node) ≡ []
 tick_dark fixed n p e =
     let s : NodeAt = (servo_ticked fixed n).node in
     dark_tick (setting_of fixed.set p) (line_at fixed.set s p) (locked_of fixed s) (certain_of fixed s) (ap (λ (l : LinkAt). l.carrier) (before_ports fixed n p) ∙ e)
 
-stepped_dark : (fixed : Fixed) (input : Input) (says : Result PtpMsg FrameFault) (y : ℤ) (n : NodeAt) (p : ℕ) → (link_at fixed.set n p).carrier ≡ false → (stepped fixed input says y n).sends p ≡ []
+stepped_dark : (fixed : NodeSetting) (input : Input) (says : Result PtpMsg FrameFault) (y : ℤ) (n : NodeAt) (p : ℕ) → (link_at fixed.set n p).carrier ≡ false → (stepped fixed input says y n).sends p ≡ []
 stepped_dark fixed Tick says y n p e = tick_dark fixed n p e
 stepped_dark fixed (Sample number base bits) says y n p e = refl
 stepped_dark fixed (Frame q octets raw sample) says y n p e = frame_dark fixed n p q says raw sample y e
@@ -115,7 +115,7 @@ stepped_dark fixed (Carrier q up own_module) says y n p e = only_here (p == q) [
 stepped_dark fixed Reset says y n p e = refl
 
 -- a port without a carrier sends nothing
-pub dark_sends : (fixed : Fixed) (t : Taken) (n : NodeAt) (p : ℕ) → (link_at fixed.set n p).carrier ≡ false → (node_step fixed t n).sends p ≡ []
+pub dark_sends : (fixed : NodeSetting) (t : Taken) (n : NodeAt) (p : ℕ) → (link_at fixed.set n p).carrier ≡ false → (node_step fixed t n).sends p ≡ []
 dark_sends fixed t n p e = stepped_dark fixed t.input t.says t.answer n p e
 
 -- inputs at which no port sends
@@ -124,7 +124,7 @@ IsSilent (Carrier p up own_module) = Unit {0}
 IsSilent Reset = Unit {0}
 IsSilent _ = ⊥
 
-silent_stepped : (fixed : Fixed) (input : Input) (says : Result PtpMsg FrameFault) (y : ℤ) (n : NodeAt) (p : ℕ) → IsSilent input → (stepped fixed input says y n).sends p ≡ []
+silent_stepped : (fixed : NodeSetting) (input : Input) (says : Result PtpMsg FrameFault) (y : ℤ) (n : NodeAt) (p : ℕ) → IsSilent input → (stepped fixed input says y n).sends p ≡ []
 silent_stepped fixed Tick says y n p h = absurd h
 silent_stepped fixed (Sample number base bits) says y n p h = absurd h
 silent_stepped fixed (Frame q octets raw sample) says y n p h = absurd h
@@ -132,5 +132,5 @@ silent_stepped fixed (Sent q seq delay stamp) says y n p h = absurd h
 silent_stepped fixed (Carrier q up own_module) says y n p h = only_here (p == q) [] (λ b. refl)
 silent_stepped fixed Reset says y n p h = refl
 
-pub silent_sends : (fixed : Fixed) (t : Taken) (n : NodeAt) (p : ℕ) → IsSilent t.input → (node_step fixed t n).sends p ≡ []
+pub silent_sends : (fixed : NodeSetting) (t : Taken) (n : NodeAt) (p : ℕ) → IsSilent t.input → (node_step fixed t n).sends p ≡ []
 silent_sends fixed t n p h = silent_stepped fixed t.input t.says t.answer n p h

@@ -22,7 +22,7 @@ use Rattle.wrp_world.specs.declared.fibres.FibreState.{FibreState}
 use Rattle.wrp_world.proofs.RunFrames.{with_swap_waiting}
 use Rattle.wrp_world.specs.Given.{Given, at_ports, comes_from, delivered, delivered_by, delivered_to, end_given, given, given_by, given_plain, gives, gives_all, goes_from, sending, sent_oldest, step_of, taken_of, told_sending, world_step}
 use Rattle.wrp_world.specs.Moved.{behind_first, end_after, is_place, moved, port_number, swap_at, touches, waiting_at, with_swap}
-use Rattle.wrp_world.specs.Setting.{Setting, end_at, end_of, fixed_of, is_of, link_of, place_of}
+use Rattle.wrp_world.specs.Setting.{Setting, end_at, end_of, node_setting_of, is_of, link_of, place_of}
 use Rattle.wrp_world.specs.WorldAt.{Arrival, EndAt, FrameAt, Sending, WorldAt, ends_are_up, has_carrier}
 use Rattle.wrp_world.proofs.RunChanges.{cut_carrier, and_less, less_dark, still_up}
 use Rattle.wrp_world.proofs.RunGifts.{AllGiven, all_if, comes_all, goes_all, ports_all}
@@ -63,7 +63,7 @@ PortsDark s w =
 one_waiting : (s : Setting) (y : ℤ) (v : WorldAt) (g : Given) (k : ℕ) (r : Role) → PortsDark s v → has_carrier s v k ≡ false → ((gives s y v g).end_at k r).waiting ≡ (v.end_at k r).waiting
 one_waiting s y v g k r dark c =
     given_waiting s y v g k r
-    (λ end is b. dark_sends (fixed_of s g.to) (taken_of y g) (v.node g.to) end.port
+    (λ end is b. dark_sends (node_setting_of s g.to) (taken_of y g) (v.node g.to) end.port
     (subst (λ n. (link_at (s.set n) (v.node n) end.port).carrier ≡ false) (eqb-true end.node g.to b) (dark k r end is c)))
 
 -- inputs at which no port sends
@@ -71,7 +71,7 @@ silent_waiting : (s : Setting) (y : ℤ) (gs : List Given) (v : WorldAt) (k : �
 silent_waiting s y [] v k r h = refl
 silent_waiting s y (g ∷ gs) v k r h =
     silent_waiting s y gs (gives s y v g) k r h.1
-    ∙ given_waiting s y v g k r (λ end is b. silent_sends (fixed_of s g.to) (taken_of y g) (v.node g.to) end.port h.0)
+    ∙ given_waiting s y v g k r (λ end is b. silent_sends (node_setting_of s g.to) (taken_of y g) (v.node g.to) end.port h.0)
 
 -- Events that give at most one input
 

@@ -17,7 +17,7 @@ use Rattle.wrp_world.specs.declared.event.Event.{Event}
 use Rattle.wrp_world.specs.declared.event.Event.TheVariants.{Pass, Tick, Sample, Depart, Arrive, Deliver, Down, Up, Cut, Join}
 use Rattle.wrp_world.specs.EventAt.{link_count}
 use Rattle.wrp_world.specs.Premises.{rate_of, transition_of}
-use Rattle.wrp_world.specs.Setting.{Setting, above, end_at, entry_at, fixed_of, from_on, link_of, links_of, nodes_of, of_node, start_of}
+use Rattle.wrp_world.specs.Setting.{Setting, above, end_at, entry_at, node_setting_of, from_on, link_of, links_of, nodes_of, of_node, start_of}
 use Rattle.wrp_world.specs.Views.{waiting_of}
 use Rattle.wrp_world.specs.WorldAt.{WorldAt, first_name, has_carrier, reading}
 use Rattle.wrp_sim.specs.declared.scene.fault.Fault.{Fault}
@@ -254,7 +254,7 @@ next_moment now times = fold (sooner now) (now +ℤ pos (2 ^ 62)) times
 -- slew where it is locked and its held in HOLDOVER, and the grandmaster's is 0
 abbrev pub clock_rate : SceneAt → Setting → WorldAt → ℕ → ℤ
 clock_rate scene s w n =
-    held_to (rate_of s w n) (own_rate (free_of scene n) (dac_of (fixed_of s n) (w.node n)) s.cfg.bias)
+    held_to (rate_of s w n) (own_rate (free_of scene n) (dac_of (node_setting_of s n) (w.node n)) s.cfg.bias)
 
 abbrev pub drift_over : SceneAt → Setting → WorldAt → ℤ → ℕ → ℤ
 drift_over scene s w dt n = if (w.clock n).up then drift_at dt (clock_rate scene s w n) else pos 0

@@ -1,7 +1,7 @@
 //! Cases on `Plain`: the input is a line with its settings (`plain_settings`), and then a line a call: `measured T1 T2 T3 T4`
 //! or `tick`. A line is due for each call: `taken EST BOUND COMMAND`, `short ROUND LEAST`, or of a tick `report EST BOUND`, or
 //! `nothing`.
-use crate::plain_settings::{settings_of, stamp_of};
+use crate::plain_settings::{servo_setting_of, stamp_of};
 use crate::telling::line_of_numbers;
 use crate::words::{first_line, text_of, words_of};
 use std::alloc::Global;
@@ -48,7 +48,7 @@ fn call(alloc: Global, plain: &mut Plain, words: &[&str]) -> Result<String, Faul
 /// What a plain servo answers, call by call.
 pub fn answer(alloc: Global, case: &Case) -> Result<Answer, Fault> {
     let (first, calls) = first_line(text_of(case)?);
-    let set = settings_of(&words_of(alloc, first)?)?;
+    let set = servo_setting_of(&words_of(alloc, first)?)?;
     let mut plain = Plain::new(alloc, set)?;
     let mut text = String::new(alloc);
     for line in calls.split_terminator('\n') {

@@ -7,7 +7,7 @@ use wrp_plain::PlainSet;
 use wrp_suite::Fault;
 
 /// The settings of a line.
-pub fn settings_of(words: &[&str]) -> Result<PlainSet, Fault>
+pub fn servo_setting_of(words: &[&str]) -> Result<PlainSet, Fault>
     ensures { IfOk result HasRanges }
 {
     let ["set", rate, err, least, span, dmax, ring, step] = *words else {

@@ -5,7 +5,7 @@
 ghost use Rattle.std.specs.Prelude.{◌≤◌, ◌^◌, IfOk, unsigned_abs};
 ghost use Rattle.wrp_plain.specs.Event.{HasFields, IsShort};
 
-use crate::plain_settings::{settings_of, stamp_of};
+use crate::plain_settings::{servo_setting_of, stamp_of};
 use crate::telling::{line_of_numbers, line_of_pairs};
 use crate::words::{first_line, from_to, sized, text_of, wide, words_of};
 use std::alloc::{AllocError, Global};
@@ -122,7 +122,7 @@ fn step(alloc: Global, world: &mut PlainWorld, event: &PlainEvent) -> Result<Str
 pub fn answer(alloc: Global, case: &Case) -> Result<Answer, Fault> {
     let (first, rest) = first_line(text_of(case)?);
     let (second, events) = first_line(rest);
-    let set = settings_of(&words_of(alloc, first)?)?;
+    let set = servo_setting_of(&words_of(alloc, first)?)?;
     let off = offset_of(&words_of(alloc, second)?)?;
     let mut world = PlainWorld::new(alloc, set, off)?;
     let mut text = String::new(alloc);

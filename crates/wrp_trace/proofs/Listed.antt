@@ -10,7 +10,7 @@ use Rattle.wrp_caldb.specs.Name.{same_name, is_name, is_module_name}
 use Rattle.wrp_config.specs.Accepted.{IsSoundDatabase}
 use Rattle.wrp_config.specs.Names.{pair_at}
 use Rattle.wrp_trace.specs.InputAt.{IsListed}
-use Rattle.wrp_trace.specs.Site.{Site, module_of, named_at, same_module, has_values, name_of}
+use Rattle.wrp_trace.specs.LineSetting.{LineSetting, module_of, named_at, same_module, has_values, name_of}
 
 -- what is found passes the test, and stands in the list
 pub record IsFound {X : Type 0} (p : X → Bool) (xs : List X) (x : X) : Type 0 where
@@ -91,16 +91,16 @@ named_at_pair db name values None is = cc is
 named_at_pair db name values (Some p) is =
     named_in db name p.0 p.1 values (find (λ m. same_name m.name name) db.modules) refl is
 
-named : (site : Site) (port : ℕ) (name : List ℕ) (values : Module) → module_of site port name ≡ Some values → IsNamed site.db name
+named : (site : LineSetting) (port : ℕ) (name : List ℕ) (values : Module) → module_of site port name ≡ Some values → IsNamed site.db name
 named site port name values is = named_at_pair site.db name values (pair_at site.cfg site.node port) is
 
 -- the name by which values are printed at a port: one that may be listed, and has them there
-pub record IsPrintedName (site : Site) (port : ℕ) (values : Module) (name : List ℕ) : Type 0 where
+pub record IsPrintedName (site : LineSetting) (port : ℕ) (values : Module) (name : List ℕ) : Type 0 where
   pub printed : name_of site port values ≡ Some name
   pub valid : is_module_name name ≡ true
   pub values_there : module_of site port name ≡ Some values
 
-pub printed_name : (site : Site) (port : ℕ) (values : Module) → IsSoundDatabase site.db → IsListed site port (Some values)
+pub printed_name : (site : LineSetting) (port : ℕ) (values : Module) → IsSoundDatabase site.db → IsListed site port (Some values)
     → (name : List ℕ) × IsPrintedName site port values name
 printed_name site port values sound (name, there) =
     let test : ModuleAt → Bool = λ m. has_values values (module_of site port m.name) in
@@ -123,7 +123,7 @@ not_unlisted name valid =
     not-true (same_name name (codes "unlisted")) (and_parts (is_name name) (not (same_name name (codes "unlisted"))) valid).1
 
 -- the values that a printed name finds
-pub name_finds : (site : Site) (port : ℕ) (values : Module) (name : List ℕ) → IsPrintedName site port values name
+pub name_finds : (site : LineSetting) (port : ℕ) (values : Module) (name : List ℕ) → IsPrintedName site port values name
     → named_at site port name ≡ Some (Some values)
 name_finds site port values name is = rw (not_unlisted name is.valid, is.values_there) refl
 

@@ -21,7 +21,7 @@ use Rattle.wrp_trace.specs.Times.{time_of}
 use Rattle.wrp_trace.specs.InputAt.{IsListed, IsInputAt, FitsTypes}
 use Rattle.wrp_trace.specs.Printing.{bits_text, message_text, module_text, texts_of, line_of}
 use Rattle.wrp_fields.specs.Reading.{field_of, ◌>>=◌, number_or_fault, name_or_fault}
-use Rattle.wrp_trace.specs.Site.{Site, is_grandmaster, has_port, named_at}
+use Rattle.wrp_trace.specs.LineSetting.{LineSetting, is_grandmaster, has_port, named_at}
 use Rattle.wrp_trace.proofs.DigitLemmas.{frame_back, bits_back, number_octets}
 use Rattle.wrp_trace.proofs.Listed.{printed_name, name_finds, plain_name}
 use Rattle.wrp_trace.proofs.NumberLemmas.{natural_back, time_back}
@@ -61,10 +61,10 @@ pub time_read : (place : ℕ) (time : ℤ) (fields : List (List ℕ)) → IsTime
 time_read place time fields is e =
     ap (λ text. number_or_fault place (time_of text)) e ∙ ap (number_or_fault place) (time_back time is)
 
-own : (site : Site) (place port : ℕ) → has_port site port ≡ true → own_port site place port ≡ Ok port
+own : (site : LineSetting) (place port : ℕ) → has_port site port ≡ true → own_port site place port ≡ Ok port
 own site place port has = ap (λ b. name_or_fault place (if b then Some port else None)) has
 
-port_read : (site : Site) (place port : ℕ) (fields : List (List ℕ)) → port < 2 ^ 16 → has_port site port ≡ true
+port_read : (site : LineSetting) (place port : ℕ) (fields : List (List ℕ)) → port < 2 ^ 16 → has_port site port ≡ true
     → field_of place fields ≡ decimal port → port_at site place fields ≡ Ok port
 port_read site place port fields small has e =
     ap (λ r. r >>= own_port site place) (short_read place port fields small e) ∙ own site place port has
@@ -80,7 +80,7 @@ pub raw_read : (place : ℕ) (fields : List (List ℕ)) (raw : Raw) → counter_
     → raw_from place fields ≡ Ok raw
 raw_read place fields raw e1 e2 e3 = rw (e1, e2, e3) refl
 
-frame_read : (site : Site) (fields : List (List ℕ)) (port : ℕ) (frame : ArrayVec ℕ) (raw : Raw) (sample : ℕ)
+frame_read : (site : LineSetting) (fields : List (List ℕ)) (port : ℕ) (frame : ArrayVec ℕ) (raw : Raw) (sample : ℕ)
     → port_at site 2 fields ≡ Ok port → octets_at 3 fields ≡ Ok frame → raw_from 4 fields ≡ Ok raw → long_at 7 fields ≡ Ok sample
     → frame_of site fields ≡ Ok (inputs.Frame port frame raw sample)
 frame_read site fields port frame raw sample e1 e2 e3 e4 = rw (e1, e2, e3, e4) refl
@@ -89,17 +89,17 @@ stamp_read : (place : ℕ) (fields : List (List ℕ)) (stamp : Stamp) → time_a
     → long_at (place + 1) fields ≡ Ok stamp.sample → stamp_from place fields ≡ Ok stamp
 stamp_read place fields stamp e1 e2 = rw (e1, e2) refl
 
-sent_read : (site : Site) (fields : List (List ℕ)) (port seq : ℕ) (delay : Bool) (stamp : Stamp)
+sent_read : (site : LineSetting) (fields : List (List ℕ)) (port seq : ℕ) (delay : Bool) (stamp : Stamp)
     → port_at site 2 fields ≡ Ok port → message_at 3 fields ≡ Ok delay → short_at 4 fields ≡ Ok seq → stamp_from 5 fields ≡ Ok stamp
     → sent_of site fields ≡ Ok (inputs.Sent port seq delay stamp)
 sent_read site fields port seq delay stamp e1 e2 e3 e4 = rw (e1, e2, e3, e4) refl
 
-up_read : (site : Site) (fields : List (List ℕ)) (port : ℕ) (entry : Option Module)
+up_read : (site : LineSetting) (fields : List (List ℕ)) (port : ℕ) (entry : Option Module)
     → port_at site 2 fields ≡ Ok port → module_at site port 3 fields ≡ Ok entry
     → up_of site fields ≡ Ok (inputs.Carrier port true entry)
 up_read site fields port entry e1 e2 = rw (e1, e2) refl
 
-down_read : (site : Site) (fields : List (List ℕ)) (port : ℕ) → port_at site 2 fields ≡ Ok port
+down_read : (site : LineSetting) (fields : List (List ℕ)) (port : ℕ) → port_at site 2 fields ≡ Ok port
     → down_of site fields ≡ Ok (inputs.Carrier port false None)
 down_read site fields port e1 = rw e1 refl
 
@@ -108,20 +108,20 @@ down_read site fields port e1 = rw e1 refl
 pub short_text : (n : ℕ) → n < 2 ^ 64 → IsText (decimal n)
 short_text n small = decimal_text n (omega arith)
 
-sample_says : (site : Site) (n base bits : ℕ) → is_grandmaster site ≡ false → n < 2 ^ 32 → base ≤ 16_383 → bits < 2 ^ 64
+sample_says : (site : LineSetting) (n base bits : ℕ) → is_grandmaster site ≡ false → n < 2 ^ 32 → base ≤ 16_383 → bits < 2 ^ 64
     → input_of site (texts_of site (inputs.Sample n base bits)) ≡ Ok (inputs.Sample n base bits)
 sample_says site n base bits slave small low few =
     let fields = texts_of site (inputs.Sample n base bits) in
     rw slave (sample_read fields n base bits (long_read 2 n fields small refl) (step_read 3 base fields low refl) (bits_read 4 bits fields few refl))
 
-pub sample_back : (site : Site) (n base bits : ℕ) → is_grandmaster site ≡ false → n < 2 ^ 32 → base ≤ 16_383 → bits < 2 ^ 64
+pub sample_back : (site : LineSetting) (n base bits : ℕ) → is_grandmaster site ≡ false → n < 2 ^ 32 → base ≤ 16_383 → bits < 2 ^ 64
     → read_of site (line_of site (inputs.Sample n base bits)) ≡ Ok (inputs.Sample n base bits)
 sample_back site n base bits slave small low few =
     line_says site 115 (codes "ample") (decimal n ∷ decimal base ∷ bits_text bits ∷ [])
     (refl, (short_text n (omega arith), (short_text base (omega arith), (hex_text (big_bytes 8 bits) (number_octets 8 bits), tt))))
     ∙ sample_says site n base bits slave small low few
 
-frame_says : (site : Site) (port : ℕ) (frame : ArrayVec ℕ) (raw : Raw) (sample : ℕ) → has_port site port ≡ true → port < 2 ^ 16
+frame_says : (site : LineSetting) (port : ℕ) (frame : ArrayVec ℕ) (raw : Raw) (sample : ℕ) → has_port site port ≡ true → port < 2 ^ 16
     → IsBytes frame.items → length frame.items ≤ 256 → IsRaw raw → sample < 2 ^ 32
     → input_of site (texts_of site (inputs.Frame port frame raw sample)) ≡ Ok (inputs.Frame port frame raw sample)
 frame_says site port frame raw sample has small fit few is last =
@@ -130,7 +130,7 @@ frame_says site port frame raw sample has small fit few is last =
     (raw_read 4 fields raw (counter_read 4 raw.rising fields is.rising.0 is.rising.1 refl) (counter_read 5 raw.falling fields is.falling.0 is.falling.1 refl) (step_read 6 raw.tag fields is.tag refl))
     (long_read 7 sample fields last refl)
 
-pub frame_line_back : (site : Site) (port : ℕ) (frame : ArrayVec ℕ) (raw : Raw) (sample : ℕ) → has_port site port ≡ true → port < 2 ^ 16
+pub frame_line_back : (site : LineSetting) (port : ℕ) (frame : ArrayVec ℕ) (raw : Raw) (sample : ℕ) → has_port site port ≡ true → port < 2 ^ 16
     → IsBytes frame.items → length frame.items ≤ 256 → IsRaw raw → sample < 2 ^ 32
     → read_of site (line_of site (inputs.Frame port frame raw sample)) ≡ Ok (inputs.Frame port frame raw sample)
 frame_line_back site port frame raw sample has small fit few is last =
@@ -146,7 +146,7 @@ message_is_text : (delay : Bool) → IsText (message_text delay)
 message_is_text true = refl
 message_is_text false = refl
 
-sent_says : (site : Site) (port seq : ℕ) (delay : Bool) (stamp : Stamp) → has_port site port ≡ true → port < 2 ^ 16 → seq < 2 ^ 16
+sent_says : (site : LineSetting) (port seq : ℕ) (delay : Bool) (stamp : Stamp) → has_port site port ≡ true → port < 2 ^ 16 → seq < 2 ^ 16
     → IsTime stamp.value → stamp.sample < 2 ^ 32
     → input_of site (texts_of site (inputs.Sent port seq delay stamp)) ≡ Ok (inputs.Sent port seq delay stamp)
 sent_says site port seq delay stamp has small low is last =
@@ -158,7 +158,7 @@ time_text : (time : ℤ) → IsTime time → IsText (signed_decimal time)
 time_text (pos n) is = decimal_text n (omega (arith, is.greatest))
 time_text (negsuc n) is = absurd (omega (arith, is.least))
 
-pub sent_back : (site : Site) (port seq : ℕ) (delay : Bool) (stamp : Stamp) → has_port site port ≡ true → port < 2 ^ 16 → seq < 2 ^ 16
+pub sent_back : (site : LineSetting) (port seq : ℕ) (delay : Bool) (stamp : Stamp) → has_port site port ≡ true → port < 2 ^ 16 → seq < 2 ^ 16
     → IsTime stamp.value → stamp.sample < 2 ^ 32
     → read_of site (line_of site (inputs.Sent port seq delay stamp)) ≡ Ok (inputs.Sent port seq delay stamp)
 sent_back site port seq delay stamp has small low is last =
@@ -167,12 +167,12 @@ sent_back site port seq delay stamp has small low is last =
     ∙ sent_says site port seq delay stamp has small low is last
 
 -- what names a module at a port, and the module that it names
-pub record IsName (site : Site) (port : ℕ) (entry : Option Module) (name : List ℕ) : Type 0 where
+pub record IsName (site : LineSetting) (port : ℕ) (entry : Option Module) (name : List ℕ) : Type 0 where
   pub printed : module_text site port entry ≡ name
   pub text : IsText name
   pub finds : named_at site port name ≡ Some entry
 
-some_name : (site : Site) (port : ℕ) (entry : Option Module) → IsSoundDatabase site.db → IsListed site port entry
+some_name : (site : LineSetting) (port : ℕ) (entry : Option Module) → IsSoundDatabase site.db → IsListed site port entry
     → (name : List ℕ) × IsName site port entry name
 some_name site port None sound listed = (codes "unlisted", record { printed = refl; text = refl; finds = refl })
 some_name site port (Some values) sound listed =
@@ -186,14 +186,14 @@ some_name site port (Some values) sound listed =
       },
     )
 
-up_says : (site : Site) (port : ℕ) (entry : Option Module) (name : List ℕ) → has_port site port ≡ true → port < 2 ^ 16
+up_says : (site : LineSetting) (port : ℕ) (entry : Option Module) (name : List ℕ) → has_port site port ≡ true → port < 2 ^ 16
     → named_at site port name ≡ Some entry
     → input_of site (codes "up" ∷ decimal port ∷ name ∷ []) ≡ Ok (inputs.Carrier port true entry)
 up_says site port entry name has small finds =
     let fields : List (List ℕ) = codes "up" ∷ decimal port ∷ name ∷ [] in
     up_read site fields port entry (port_read site 2 port fields small has refl) (ap (name_or_fault 3) finds)
 
-pub up_back : (site : Site) (port : ℕ) (entry : Option Module) → IsSoundDatabase site.db → has_port site port ≡ true → port < 2 ^ 16
+pub up_back : (site : LineSetting) (port : ℕ) (entry : Option Module) → IsSoundDatabase site.db → has_port site port ≡ true → port < 2 ^ 16
     → IsListed site port entry
     → read_of site (line_of site (inputs.Carrier port true entry)) ≡ Ok (inputs.Carrier port true entry)
 up_back site port entry sound has small listed =
@@ -203,20 +203,20 @@ up_back site port entry sound has small listed =
     ∙ line_says site 117 (codes "p") (decimal port ∷ named.0 ∷ []) (refl, (short_text port (omega arith), (is.text, tt)))
     ∙ up_says site port entry named.0 has small is.finds
 
-down_says : (site : Site) (port : ℕ) → has_port site port ≡ true → port < 2 ^ 16
+down_says : (site : LineSetting) (port : ℕ) → has_port site port ≡ true → port < 2 ^ 16
     → input_of site (codes "down" ∷ decimal port ∷ []) ≡ Ok (inputs.Carrier port false None)
 down_says site port has small =
     let fields : List (List ℕ) = codes "down" ∷ decimal port ∷ [] in
     down_read site fields port (port_read site 2 port fields small has refl)
 
-pub down_back : (site : Site) (port : ℕ) (entry : Option Module) → has_port site port ≡ true → port < 2 ^ 16 → entry ≡ None
+pub down_back : (site : LineSetting) (port : ℕ) (entry : Option Module) → has_port site port ≡ true → port < 2 ^ 16 → entry ≡ None
     → read_of site (line_of site (inputs.Carrier port false entry)) ≡ Ok (inputs.Carrier port false entry)
 down_back site port entry has small none =
     line_says site 100 (codes "own") (decimal port ∷ []) (refl, (short_text port (omega arith), tt))
     ∙ down_says site port has small ∙ ap (λ e. Ok (inputs.Carrier port false e)) (sym none)
 
 -- each line that can be printed reads back
-pub reads_back : (site : Site) (x : Input) → IsSoundDatabase site.db → IsInputAt site x → FitsTypes x
+pub reads_back : (site : LineSetting) (x : Input) → IsSoundDatabase site.db → IsInputAt site x → FitsTypes x
     → read_of site (line_of site x) ≡ Ok x
 reads_back site inputs.Tick sound is fits = line_says site 116 (codes "ick") [] (refl, tt)
 reads_back site (inputs.Sample n base bits) sound is fits = sample_back site n base bits is.0 fits.0 is.1 fits.1

@@ -15,7 +15,7 @@ use Rattle.wrp_base.specs.Lines.{parts_of}
 use Rattle.wrp_caldb.specs.Name.{is_letter, is_name_octet, is_name}
 use Rattle.wrp_trace.specs.Inputs.{input_of, read_of}
 use Rattle.wrp_fields.specs.Reading.{is_plain_octet, is_plain}
-use Rattle.wrp_trace.specs.Site.{Site}
+use Rattle.wrp_trace.specs.LineSetting.{LineSetting}
 
 -- an octet that may stand in a line, and is no comma
 abbrev pub is_text_octet : ℕ → Bool
@@ -134,7 +134,7 @@ starts c cs [] are = are
 starts c cs (next ∷ texts) are = are
 
 -- texts with commas between them say what the texts say as fields
-pub line_says : (site : Site) (c : ℕ) (cs : List ℕ) (texts : List (List ℕ)) → AreTexts ((c ∷ cs) ∷ texts)
+pub line_says : (site : LineSetting) (c : ℕ) (cs : List ℕ) (texts : List (List ℕ)) → AreTexts ((c ∷ cs) ∷ texts)
     → read_of site (join_with_byte 44 ((c ∷ cs) ∷ texts)) ≡ input_of site ((c ∷ cs) ∷ texts)
 line_says site c cs texts are =
     rw (starts c cs texts (plain_line (c ∷ cs) texts are), parts_back (c ∷ cs) texts are) refl

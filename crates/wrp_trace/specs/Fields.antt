@@ -10,7 +10,7 @@ use Rattle.wrp_fields.specs.Fields.{number_at}
 use Rattle.wrp_fields.specs.Reading.{field_of, number_or_fault, name_or_fault}
 use Rattle.wrp_trace.specs.Digits.{frame_of, bits_of}
 use Rattle.wrp_trace.specs.Times.{time_of}
-use Rattle.wrp_trace.specs.Site.{Site, has_port, named_at}
+use Rattle.wrp_trace.specs.LineSetting.{LineSetting, has_port, named_at}
 
 -- a number of 16 bits
 abbrev pub short_at : ℕ → List (List ℕ) → Result ℕ TraceFault
@@ -67,16 +67,16 @@ abbrev pub message_at : ℕ → List (List ℕ) → Result Bool TraceFault
 message_at place fields = name_or_fault place (message_of (field_of place fields))
 
 -- a port of the node
-abbrev pub own_port : Site → ℕ → ℕ → Result ℕ TraceFault
+abbrev pub own_port : LineSetting → ℕ → ℕ → Result ℕ TraceFault
 own_port site place port =
     name_or_fault place (if has_port site port then Some port else None)
 
 -- the port in the field of a place: a number first, and then one of the node's
-abbrev pub port_at : Site → ℕ → List (List ℕ) → Result ℕ TraceFault
+abbrev pub port_at : LineSetting → ℕ → List (List ℕ) → Result ℕ TraceFault
 port_at site place fields = do
   port ← short_at place fields
   own_port site place port
 
 -- the module in the field of a place, at this port of the node
-abbrev pub module_at : Site → ℕ → ℕ → List (List ℕ) → Result (Option Module) TraceFault
+abbrev pub module_at : LineSetting → ℕ → ℕ → List (List ℕ) → Result (Option Module) TraceFault
 module_at site port place fields = name_or_fault place (named_at site port (field_of place fields))

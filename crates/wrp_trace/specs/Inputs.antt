@@ -11,7 +11,7 @@ use Rattle.wrp_trace.specs.declared.kinds.InputKind.TheVariants as kinds
 use Rattle.wrp_trace.specs.Fields.{short_at, long_at, step_at, bits_at, octets_at, raw_from, stamp_from, message_at, port_at, module_at}
 use Rattle.wrp_trace.specs.Kinds.{field_count, kind_of}
 use Rattle.wrp_fields.specs.Reading.{field_of, is_plain}
-use Rattle.wrp_trace.specs.Site.{Site}
+use Rattle.wrp_trace.specs.LineSetting.{LineSetting}
 
 -- `sample,N,BASE,BITS`
 abbrev pub sample_of : List (List ℕ) → Result Input TraceFault
@@ -22,7 +22,7 @@ sample_of fields = do
   Ok (inputs.Sample n base bits)
 
 -- `frame,PORT,HEX,RISING,FALLING,TAG,SAMPLE`
-abbrev pub frame_of : Site → List (List ℕ) → Result Input TraceFault
+abbrev pub frame_of : LineSetting → List (List ℕ) → Result Input TraceFault
 frame_of site fields = do
   port ← port_at site 2 fields
   octets ← octets_at 3 fields
@@ -31,7 +31,7 @@ frame_of site fields = do
   Ok (inputs.Frame port octets raw sample)
 
 -- `sent,PORT,sync,SEQ,STAMP,SAMPLE`, and the same with `delay`
-abbrev pub sent_of : Site → List (List ℕ) → Result Input TraceFault
+abbrev pub sent_of : LineSetting → List (List ℕ) → Result Input TraceFault
 sent_of site fields = do
   port ← port_at site 2 fields
   delay ← message_at 3 fields
@@ -40,20 +40,20 @@ sent_of site fields = do
   Ok (inputs.Sent port seq delay stamp)
 
 -- `up,PORT,MODULE`
-abbrev pub up_of : Site → List (List ℕ) → Result Input TraceFault
+abbrev pub up_of : LineSetting → List (List ℕ) → Result Input TraceFault
 up_of site fields = do
   port ← port_at site 2 fields
   entry ← module_at site port 3 fields
   Ok (inputs.Carrier port true entry)
 
 -- `down,PORT`
-abbrev pub down_of : Site → List (List ℕ) → Result Input TraceFault
+abbrev pub down_of : LineSetting → List (List ℕ) → Result Input TraceFault
 down_of site fields = do
   port ← port_at site 2 fields
   Ok (inputs.Carrier port false None)
 
 -- the input that the fields of a line of a kind say
-abbrev pub fields_of_kind : Site → InputKind → List (List ℕ) → Result Input TraceFault
+abbrev pub fields_of_kind : LineSetting → InputKind → List (List ℕ) → Result Input TraceFault
 fields_of_kind site kinds.Tick fields = Ok inputs.Tick
 fields_of_kind site kinds.Sample fields = sample_of fields
 fields_of_kind site kinds.Frame fields = frame_of site fields
@@ -63,17 +63,17 @@ fields_of_kind site kinds.Down fields = down_of site fields
 fields_of_kind site kinds.Reset fields = Ok inputs.Reset
 
 -- the same, where the kind is known and has so many fields
-abbrev pub counted_of : Site → List (List ℕ) → Option InputKind → Result Input TraceFault
+abbrev pub counted_of : LineSetting → List (List ℕ) → Option InputKind → Result Input TraceFault
 counted_of site fields None = Err Kind
 counted_of site fields (Some kind) =
     if length fields == field_count kind then fields_of_kind site kind fields else Err Fields
 
 -- the input that the fields of a line say at a node, or the first fault that they have
-abbrev pub input_of : Site → List (List ℕ) → Result Input TraceFault
+abbrev pub input_of : LineSetting → List (List ℕ) → Result Input TraceFault
 input_of site fields = counted_of site fields (kind_of site (field_of 1 fields))
 
 -- the input that a line says at a node, or the first fault that it has
-abbrev pub read_of : Site → List ℕ → Result Input TraceFault
+abbrev pub read_of : LineSetting → List ℕ → Result Input TraceFault
 read_of site line = if is_plain line then input_of site (parts_of line) else Err Fields
 
 -- an answer to a reading into a place: the place has what was read, and stays as it was at a fault

@@ -5,7 +5,7 @@ use Rattle.std.specs.List.{find}
 use Rattle.wrp_caldb.specs.Name.{same_name}
 use Rattle.wrp_trace.specs.declared.kinds.InputKind.{InputKind}
 use Rattle.wrp_trace.specs.declared.kinds.InputKind.TheVariants.{Tick, Sample, Frame, Sent, Up, Down, Reset}
-use Rattle.wrp_trace.specs.Site.{Site, is_grandmaster}
+use Rattle.wrp_trace.specs.LineSetting.{LineSetting, is_grandmaster}
 
 -- the word of a kind
 abbrev pub word_of : InputKind → List ℕ
@@ -32,10 +32,10 @@ abbrev pub all_kinds : List InputKind
 all_kinds = Tick ∷ Sample ∷ Frame ∷ Sent ∷ Up ∷ Down ∷ Reset ∷ []
 
 -- whether a node has lines of a kind: no sample comes to the node that gives the time
-abbrev pub has_kind : Site → InputKind → Bool
+abbrev pub has_kind : LineSetting → InputKind → Bool
 has_kind site Sample = not (is_grandmaster site)
 has_kind site kind = true
 
 -- the kind of a line at a node, by its first field
-abbrev pub kind_of : Site → List ℕ → Option InputKind
+abbrev pub kind_of : LineSetting → List ℕ → Option InputKind
 kind_of site word = find (λ kind. same_name (word_of kind) word && has_kind site kind) all_kinds

@@ -11,6 +11,6 @@ pub mod Inputs
 pub mod Kinds
 pub mod Printing
 pub mod Reading
-pub mod Site
+pub mod LineSetting
 pub mod Swaps
 pub mod Times

@@ -11,34 +11,34 @@ use Rattle.wrp_config.specs.declared.network.Network.{Network}
 use Rattle.wrp_world.specs.Setting.{Setting}
 
 -- a node of a network, by its place from 0 in file order
-pub record Site : Type 0 where
+pub record LineSetting : Type 0 where
   pub cfg : NetCfg
   pub db : Database
   pub node : ℕ
 
 -- this node of this network
-abbrev pub site_of : Network → ℕ → Site
-site_of net node = record { cfg = net.cfg; db = net.db; node = node }
+abbrev pub line_setting_of : Network → ℕ → LineSetting
+line_setting_of net node = record { cfg = net.cfg; db = net.db; node = node }
 
 -- a node of the network of a world's setting
-abbrev pub site_in : Setting → ℕ → Site
-site_in s n = record { cfg = s.cfg; db = s.db; node = n }
+abbrev pub line_setting_in : Setting → ℕ → LineSetting
+line_setting_in s n = record { cfg = s.cfg; db = s.db; node = n }
 
 -- whether the node gives the time: no link has it as its lower end
-abbrev pub is_grandmaster : Site → Bool
+abbrev pub is_grandmaster : LineSetting → Bool
 is_grandmaster site = is_none (link_above site.cfg site.node)
 
 -- whether a link names this port of the node
-abbrev pub has_port : Site → ℕ → Bool
+abbrev pub has_port : LineSetting → ℕ → Bool
 has_port site port = is_some (pair_at site.cfg site.node port)
 
 -- the numbers of a listed module at a port of the node
-abbrev pub module_of : Site → ℕ → List ℕ → Option Module
+abbrev pub module_of : LineSetting → ℕ → List ℕ → Option Module
 module_of site port name = listed_at site.cfg site.db site.node port name
 
 -- the module that a text names at a port: `unlisted` stands for a module that the database does not
 -- list, and nothing is found for a name that is neither
-abbrev pub named_at : Site → ℕ → List ℕ → Option (Option Module)
+abbrev pub named_at : LineSetting → ℕ → List ℕ → Option (Option Module)
 named_at site port name =
     if same_name name (codes "unlisted") then Some None
     else option_map (λ entry. Some entry) (module_of site port name)
@@ -54,7 +54,7 @@ has_values values None = false
 has_values values (Some entry) = same_module entry values
 
 -- the first listed name, in file order, whose module at a port has these values
-abbrev pub name_of : Site → ℕ → Module → Option (List ℕ)
+abbrev pub name_of : LineSetting → ℕ → Module → Option (List ℕ)
 name_of site port values =
     option_map (λ m. m.name)
     (find (λ m. has_values values (module_of site port m.name)) site.db.modules)

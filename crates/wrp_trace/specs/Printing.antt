@@ -9,7 +9,7 @@ use Rattle.wrp_base.specs.declared.time.Raw.{Raw}
 use Rattle.wrp_base.specs.declared.time.Stamp.{Stamp}
 use Rattle.wrp_node.specs.declared.interface.Input.{Input}
 use Rattle.wrp_node.specs.declared.interface.Input.TheVariants.{Tick, Sample, Frame, Sent, Carrier, Reset}
-use Rattle.wrp_trace.specs.Site.{Site, name_of}
+use Rattle.wrp_trace.specs.LineSetting.{LineSetting, name_of}
 
 -- BITS: the 16 digits of a number's eight octets, the most significant first
 abbrev pub bits_text : ℕ → List ℕ
@@ -22,7 +22,7 @@ message_text false = codes "sync"
 
 -- MODULE: the first listed name with these values at the port, and `unlisted` for a module that the
 -- database does not list
-abbrev pub module_text : Site → ℕ → Option Module → List ℕ
+abbrev pub module_text : LineSetting → ℕ → Option Module → List ℕ
 module_text site port None = codes "unlisted"
 module_text site port (Some values) = unwrap_or (name_of site port values) []
 
@@ -47,13 +47,13 @@ sent_texts port seq delay stamp =
     ∷ signed_decimal stamp.value ∷ decimal stamp.sample ∷ []
 
 -- `up,PORT,MODULE` and `down,PORT`
-abbrev pub carrier_texts : Site → ℕ → Bool → Option Module → List (List ℕ)
+abbrev pub carrier_texts : LineSetting → ℕ → Bool → Option Module → List (List ℕ)
 carrier_texts site port true entry =
     codes "up" ∷ decimal port ∷ module_text site port entry ∷ []
 carrier_texts site port false entry = codes "down" ∷ decimal port ∷ []
 
 -- the fields of an input's line
-abbrev pub texts_of : Site → Input → List (List ℕ)
+abbrev pub texts_of : LineSetting → Input → List (List ℕ)
 texts_of site Tick = codes "tick" ∷ []
 texts_of site (Sample n base bits) = sample_texts n base bits
 texts_of site (Frame port octets raw sample) = frame_texts port octets.items raw sample
@@ -62,5 +62,5 @@ texts_of site (Carrier port up entry) = carrier_texts site port up entry
 texts_of site Reset = codes "reset" ∷ []
 
 -- the line of an input at a node
-abbrev pub line_of : Site → Input → List ℕ
+abbrev pub line_of : LineSetting → Input → List ℕ
 line_of site x = joined (texts_of site x)

@@ -3,7 +3,7 @@ ghost use Rattle.std.specs.Prelude.{◌≡◌, ◌<◌, ◌≤◌, ◌^◌, IfOk
 ghost use Rattle.csv.specs.Records.{fields_of};
 ghost use Rattle.wrp_trace.specs.Fields.{short_at, long_at, step_at, counter_at, bits_at, octets_at, time_at, raw_from, stamp_from, port_at, message_at, module_at};
 ghost use Rattle.wrp_trace.specs.InputAt.{IsListed};
-ghost use Rattle.wrp_trace.specs.Site.{site_of, has_port};
+ghost use Rattle.wrp_trace.specs.LineSetting.{line_setting_of, has_port};
 ghost use Rattle.wrp_base.specs.Network.{IsAmong};
 ghost use Rattle.wrp_world.specs.EventAt.{IsRaw, IsTime};
 
@@ -128,9 +128,9 @@ pub fn stamp_from(row: &ByteRecord, place: u32) -> Result<Stamp, TraceFault>
 /// A port of the node: a number first, and then one of the node's ports.
 pub fn port_at(row: &ByteRecord, place: u32, net: &Network, node: u8) -> Result<u16, TraceFault>
     requires { 0 < place }
-    ensures value { result ≡ port_at (site_of net.now node) place (fields_of row.now) }
+    ensures value { result ≡ port_at (line_setting_of net.now node) place (fields_of row.now) }
     ensures range { IfOk result (λ port.
-        has_port (site_of net.now node) port ≡ true) }
+        has_port (line_setting_of net.now node) port ≡ true) }
 {
     let port = short_at(row, place)?;
     if has_port(net, node, port) {
@@ -164,8 +164,8 @@ pub fn module_at(
     port: u16,
 ) -> Result<Option<Module>, TraceFault>
     requires { 0 < place }
-    ensures value { result ≡ module_at (site_of net.now node) port place (fields_of row.now) }
-    ensures range { IfOk result (IsListed (site_of net.now node) port) }
+    ensures value { result ≡ module_at (line_setting_of net.now node) port place (fields_of row.now) }
+    ensures range { IfOk result (IsListed (line_setting_of net.now node) port) }
 {
     match named_at(net, node, port, field(row, place)) {
         Some(module) => Ok(module),

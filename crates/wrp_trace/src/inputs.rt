@@ -5,7 +5,7 @@ ghost use Rattle.wrp_trace.specs.Inputs.{sample_of, frame_of, sent_of, up_of, do
 ghost use Rattle.wrp_trace.specs.InputAt.{IsInputAt};
 ghost use Rattle.wrp_trace.specs.Kinds.{has_kind};
 ghost use Rattle.wrp_fields.specs.Reading.{IsReading};
-ghost use Rattle.wrp_trace.specs.Site.{site_of, is_grandmaster};
+ghost use Rattle.wrp_trace.specs.LineSetting.{line_setting_of, is_grandmaster};
 
 use crate::fields::{
     bits_at, long_at, message_at, module_at, octets_at, port_at, raw_from, short_at, stamp_from,
@@ -30,9 +30,9 @@ pub fn read_input_fields(
     node: u8,
     input: &mut Input,
 ) -> Result<(), TraceFault>
-    ensures value { IsReadInto (input_of (site_of net.now node) (fields_of row.now)) result
+    ensures value { IsReadInto (input_of (line_setting_of net.now node) (fields_of row.now)) result
         input.old input.new }
-    ensures input { OnOk result (IsInputAt (site_of net.now node) input.new) }
+    ensures input { OnOk result (IsInputAt (line_setting_of net.now node) input.new) }
 {
     match kind_of(net, node, field(row, KIND)) {
         Some(kind) if row.len() == kind.field_count() => read_kind(kind, row, net, node, input),
@@ -49,10 +49,10 @@ fn read_kind(
     node: u8,
     input: &mut Input,
 ) -> Result<(), TraceFault>
-    requires { has_kind (site_of net.now node) kind ≡ true }
-    ensures value { IsReadInto (fields_of_kind (site_of net.now node) kind (fields_of row.now)) result
+    requires { has_kind (line_setting_of net.now node) kind ≡ true }
+    ensures value { IsReadInto (fields_of_kind (line_setting_of net.now node) kind (fields_of row.now)) result
         input.old input.new }
-    ensures input { OnOk result (IsInputAt (site_of net.now node) input.new) }
+    ensures input { OnOk result (IsInputAt (line_setting_of net.now node) input.new) }
 {
     match kind {
         InputKind::Tick => *input = Input::Tick,
@@ -68,9 +68,9 @@ fn read_kind(
 
 // `sample,N,BASE,BITS`.
 fn sample(row: &ByteRecord, net: &Network, node: u8, input: &mut Input) -> Result<(), TraceFault>
-    requires { is_grandmaster (site_of net.now node) ≡ false }
+    requires { is_grandmaster (line_setting_of net.now node) ≡ false }
     ensures value { IsReadInto (sample_of (fields_of row.now)) result input.old input.new }
-    ensures input { OnOk result (IsInputAt (site_of net.now node) input.new) }
+    ensures input { OnOk result (IsInputAt (line_setting_of net.now node) input.new) }
 {
     let n = long_at(row, 2)?;
     let base = step_at(row, 3)?;
@@ -81,8 +81,8 @@ fn sample(row: &ByteRecord, net: &Network, node: u8, input: &mut Input) -> Resul
 
 // `frame,PORT,HEX,RISING,FALLING,TAG,SAMPLE`.
 fn frame(row: &ByteRecord, net: &Network, node: u8, input: &mut Input) -> Result<(), TraceFault>
-    ensures value { IsReadInto (frame_of (site_of net.now node) (fields_of row.now)) result input.old input.new }
-    ensures input { OnOk result (IsInputAt (site_of net.now node) input.new) }
+    ensures value { IsReadInto (frame_of (line_setting_of net.now node) (fields_of row.now)) result input.old input.new }
+    ensures input { OnOk result (IsInputAt (line_setting_of net.now node) input.new) }
 {
     let port = port_at(row, 2, net, node)?;
     let bytes = octets_at(row, 3)?;
@@ -99,8 +99,8 @@ fn frame(row: &ByteRecord, net: &Network, node: u8, input: &mut Input) -> Result
 
 // `sent,PORT,sync,SEQ,STAMP,SAMPLE`, and the same with `delay`.
 fn sent(row: &ByteRecord, net: &Network, node: u8, input: &mut Input) -> Result<(), TraceFault>
-    ensures value { IsReadInto (sent_of (site_of net.now node) (fields_of row.now)) result input.old input.new }
-    ensures input { OnOk result (IsInputAt (site_of net.now node) input.new) }
+    ensures value { IsReadInto (sent_of (line_setting_of net.now node) (fields_of row.now)) result input.old input.new }
+    ensures input { OnOk result (IsInputAt (line_setting_of net.now node) input.new) }
 {
     let port = port_at(row, 2, net, node)?;
     let delay = message_at(row, 3)?;
@@ -117,8 +117,8 @@ fn sent(row: &ByteRecord, net: &Network, node: u8, input: &mut Input) -> Result<
 
 // `up,PORT,MODULE`.
 fn up(row: &ByteRecord, net: &Network, node: u8, input: &mut Input) -> Result<(), TraceFault>
-    ensures value { IsReadInto (up_of (site_of net.now node) (fields_of row.now)) result input.old input.new }
-    ensures input { OnOk result (IsInputAt (site_of net.now node) input.new) }
+    ensures value { IsReadInto (up_of (line_setting_of net.now node) (fields_of row.now)) result input.old input.new }
+    ensures input { OnOk result (IsInputAt (line_setting_of net.now node) input.new) }
 {
     let port = port_at(row, 2, net, node)?;
     let module = module_at(row, 3, net, node, port)?;
@@ -132,8 +132,8 @@ fn up(row: &ByteRecord, net: &Network, node: u8, input: &mut Input) -> Result<()
 
 // `down,PORT`.
 fn down(row: &ByteRecord, net: &Network, node: u8, input: &mut Input) -> Result<(), TraceFault>
-    ensures value { IsReadInto (down_of (site_of net.now node) (fields_of row.now)) result input.old input.new }
-    ensures input { OnOk result (IsInputAt (site_of net.now node) input.new) }
+    ensures value { IsReadInto (down_of (line_setting_of net.now node) (fields_of row.now)) result input.old input.new }
+    ensures input { OnOk result (IsInputAt (line_setting_of net.now node) input.new) }
 {
     let port = port_at(row, 2, net, node)?;
     *input = Input::Carrier {
@@ -146,8 +146,8 @@ fn down(row: &ByteRecord, net: &Network, node: u8, input: &mut Input) -> Result<
 
 // What the fields of a line say to a node.
 fn read_row(row: &ByteRecord, net: &Network, node: u8) -> Result<Input, TraceFault>
-    ensures value { result ≡ input_of (site_of net.now node) (fields_of row.now) }
-    ensures input { IfOk result (IsInputAt (site_of net.now node)) }
+    ensures value { result ≡ input_of (line_setting_of net.now node) (fields_of row.now) }
+    ensures input { IfOk result (IsInputAt (line_setting_of net.now node)) }
 {
     let mut input = Input::Tick;
     match read_input_fields(row, net, node, &mut input) {
@@ -158,8 +158,8 @@ fn read_row(row: &ByteRecord, net: &Network, node: u8) -> Result<Input, TraceFau
 
 /// What a line says to a node.
 pub fn read_input(alloc: Global, line: &[u8], net: &Network, node: u8) -> Result<Input, TraceFault>
-    ensures value { IsReading (read_of (site_of net.now node) line.now) result }
-    ensures input { IfOk result (IsInputAt (site_of net.now node)) }
+    ensures value { IsReading (read_of (line_setting_of net.now node) line.now) result }
+    ensures input { IfOk result (IsInputAt (line_setting_of net.now node)) }
 {
     if !is_plain(line) {
         return Err(TraceFault::Fields);

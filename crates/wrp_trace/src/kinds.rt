@@ -3,7 +3,7 @@ ghost use Rattle.std.specs.Prelude.{◌≡◌, ◌&&◌, IfSome, true};
 ghost use Rattle.std.specs.List.{find};
 ghost use Rattle.wrp_caldb.specs.Name.{same_name};
 ghost use Rattle.wrp_trace.specs.Kinds.{word_of, field_count, has_kind, kind_of, all_kinds};
-ghost use Rattle.wrp_trace.specs.Site.{site_of};
+ghost use Rattle.wrp_trace.specs.LineSetting.{line_setting_of};
 
 use crate::site::is_grandmaster;
 use wrp_config::Network;
@@ -76,7 +76,7 @@ fn all_kinds() -> [InputKind; 7]
 
 // Whether a node has lines of a kind.
 fn has_kind(net: &Network, node: u8, kind: InputKind) -> bool
-    ensures { result ≡ has_kind (site_of net.now node) kind }
+    ensures { result ≡ has_kind (line_setting_of net.now node) kind }
 {
     match kind {
         InputKind::Sample => !is_grandmaster(net, node),
@@ -86,7 +86,7 @@ fn has_kind(net: &Network, node: u8, kind: InputKind) -> bool
 
 // Whether a node has lines of a kind, and this is its word.
 fn is_kind(net: &Network, node: u8, kind: InputKind, word: &[u8]) -> bool
-    ensures { result ≡ (same_name (word_of kind) word.now && has_kind (site_of net.now node) kind) }
+    ensures { result ≡ (same_name (word_of kind) word.now && has_kind (line_setting_of net.now node) kind) }
 {
     kind.word().as_bytes() == word && has_kind(net, node, kind)
 }
@@ -94,7 +94,7 @@ fn is_kind(net: &Network, node: u8, kind: InputKind, word: &[u8]) -> bool
 // The first of some kinds that a node has lines of, and whose word this is.
 fn among(kinds: &[InputKind], net: &Network, node: u8, word: &[u8]) -> Option<InputKind>
     ensures { result ≡ find
-        (λ kind. same_name (word_of kind) word.now && has_kind (site_of net.now node) kind) kinds.now }
+        (λ kind. same_name (word_of kind) word.now && has_kind (line_setting_of net.now node) kind) kinds.now }
 {
     kinds
         .iter()
@@ -105,8 +105,8 @@ fn among(kinds: &[InputKind], net: &Network, node: u8, word: &[u8]) -> Option<In
 /// The kind of a line at a node, by its first field.
 #[tactic(auto, using(crate::proofs::KindLemmas::has_kind_found))]
 pub fn kind_of(net: &Network, node: u8, word: &[u8]) -> Option<InputKind>
-    ensures value { result ≡ kind_of (site_of net.now node) word.now }
-    ensures here { IfSome result (λ kind. has_kind (site_of net.now node) kind ≡ true) }
+    ensures value { result ≡ kind_of (line_setting_of net.now node) word.now }
+    ensures here { IfSome result (λ kind. has_kind (line_setting_of net.now node) kind ≡ true) }
 {
     among(all_kinds().as_slice(), net, node, word)
 }

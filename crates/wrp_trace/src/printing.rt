@@ -7,7 +7,7 @@ ghost use Rattle.wrp_config.specs.Accepted.{IsAccepted};
 ghost use Rattle.wrp_trace.specs.Inputs.{read_of};
 ghost use Rattle.wrp_trace.specs.InputAt.{IsInputAt, FitsTypes};
 ghost use Rattle.wrp_trace.specs.Printing.{bits_text, message_text, joined, sample_texts, frame_texts, sent_texts, carrier_texts, line_of};
-ghost use Rattle.wrp_trace.specs.Site.{site_of};
+ghost use Rattle.wrp_trace.specs.LineSetting.{line_setting_of};
 
 use crate::site::module_name;
 use std::alloc::{AllocError, Global};
@@ -18,10 +18,10 @@ use wrp_node::Input;
 /// The line of an input at a node, without LF.
 pub fn input_line(alloc: Global, node: u8, x: &Input, net: &Network) -> Result<Vec<u8>, AllocError>
     requires accepted { IsAccepted net.now.cfg net.now.db }
-    requires printable { IsInputAt (site_of net.now node) x.now }
-    ensures text { IfOk result (λ line. line.items ≡ line_of (site_of net.now node) x.now) }
+    requires printable { IsInputAt (line_setting_of net.now node) x.now }
+    ensures text { IfOk result (λ line. line.items ≡ line_of (line_setting_of net.now node) x.now) }
     ensures reads_back { IfOk result (λ line.
-        read_of (site_of net.now node) line.items ≡ Ok x.now) }
+        read_of (line_setting_of net.now node) line.items ≡ Ok x.now) }
 {
     let text = text_of(alloc, node, x, net)?;
     Ok(octets_of(text))
@@ -37,7 +37,7 @@ pub fn append_input_line(
     text: &mut Vec<u8>,
 ) -> Result<(), AllocError>
     ensures ok { OnOk result (
-        text.new.items ≡ text.old.items ++ (line_of (site_of net.now node) x.now ++ 10 ∷ [])) }
+        text.new.items ≡ text.old.items ++ (line_of (line_setting_of net.now node) x.now ++ 10 ∷ [])) }
     ensures err { OnErr result (text.new.items ≡ text.old.items) }
 {
     let line = text_of(alloc, node, x, net)?;
@@ -56,7 +56,7 @@ pub fn octets_of(text: String) -> Vec<u8>
 // The same as text.
 fn text_of(alloc: Global, node: u8, x: &Input, net: &Network) -> Result<String, AllocError>
     ensures text { IfOk result (λ text.
-        string_bytes text ≡ line_of (site_of net.now node) x.now) }
+        string_bytes text ≡ line_of (line_setting_of net.now node) x.now) }
     ensures fits { FitsTypes x.now }
 {
     match x {
@@ -161,7 +161,7 @@ fn carrier_text(
     module: Option<Module>,
 ) -> Result<String, AllocError>
     ensures text { IfOk result (λ text.
-        string_bytes text ≡ joined (carrier_texts (site_of net.now node) port up «module»)) }
+        string_bytes text ≡ joined (carrier_texts (line_setting_of net.now node) port up «module»)) }
     ensures fits { port < 2 ^ 16 }
 {
     if up {

@@ -3,7 +3,7 @@ ghost use Rattle.std.specs.Prelude.{◌≡◌, option_map, IfSome};
 ghost use Rattle.std.specs.List.{find};
 ghost use Rattle.wrp_caldb.specs.Name.{same_name};
 ghost use Rattle.wrp_caldb.specs.Database.{module_at};
-ghost use Rattle.wrp_trace.specs.Site.{site_of, is_grandmaster, has_port, module_of, named_at, same_module, has_values, name_of};
+ghost use Rattle.wrp_trace.specs.LineSetting.{line_setting_of, is_grandmaster, has_port, module_of, named_at, same_module, has_values, name_of};
 ghost use Rattle.wrp_trace.specs.InputAt.{IsListed};
 ghost use Rattle.wrp_trace.specs.Printing.{module_text};
 
@@ -16,7 +16,7 @@ const UNLISTED: &str = "unlisted";
 
 /// Whether a node gives the time: no link has it as its lower end.
 pub fn is_grandmaster(net: &Network, node: u8) -> bool
-    ensures { result ≡ is_grandmaster (site_of net.now node) }
+    ensures { result ≡ is_grandmaster (line_setting_of net.now node) }
 {
     match link_above(&net.cfg, node) {
         Some(_) => false,
@@ -26,7 +26,7 @@ pub fn is_grandmaster(net: &Network, node: u8) -> bool
 
 /// Whether a node has a port.
 pub fn has_port(net: &Network, node: u8, port: u16) -> bool
-    ensures { result ≡ has_port (site_of net.now node) port }
+    ensures { result ≡ has_port (line_setting_of net.now node) port }
 {
     pair_at(&net.cfg, node, port).is_some()
 }
@@ -57,7 +57,7 @@ fn entry_of(net: &Network, name: &[u8], tx_nm: u16, rx_nm: u16) -> Option<Module
 
 // The numbers of a listed module at a port of a node.
 fn module_of(net: &Network, node: u8, port: u16, name: &[u8]) -> Option<Module>
-    ensures { result ≡ module_of (site_of net.now node) port name.now }
+    ensures { result ≡ module_of (line_setting_of net.now node) port name.now }
 {
     let (tx_nm, rx_nm) = pair_at(&net.cfg, node, port)?;
     entry_of(net, name, tx_nm, rx_nm)
@@ -66,8 +66,8 @@ fn module_of(net: &Network, node: u8, port: u16, name: &[u8]) -> Option<Module>
 /// The module that a text names at a port of a node: `unlisted` stands for one that the database does
 /// not list. None where the name is neither.
 pub fn named_at(net: &Network, node: u8, port: u16, name: &[u8]) -> Option<Option<Module>>
-    ensures value { result ≡ named_at (site_of net.now node) port name.now }
-    ensures listed { IfSome result (IsListed (site_of net.now node) port) }
+    ensures value { result ≡ named_at (line_setting_of net.now node) port name.now }
+    ensures listed { IfSome result (IsListed (line_setting_of net.now node) port) }
 {
     if name == UNLISTED.as_bytes() {
         return Some(None);
@@ -87,7 +87,7 @@ fn same_module(a: Module, b: Module) -> bool
 
 // Whether a name is listed at a port of a node with these values.
 fn has_values(net: &Network, node: u8, port: u16, name: &str, values: Module) -> bool
-    ensures { result ≡ has_values values (module_of (site_of net.now node) port name.now) }
+    ensures { result ≡ has_values values (module_of (line_setting_of net.now node) port name.now) }
 {
     match module_of(net, node, port, name.as_bytes()) {
         Some(entry) => same_module(entry, values),
@@ -98,14 +98,14 @@ fn has_values(net: &Network, node: u8, port: u16, name: &str, values: Module) ->
 // The first listed module, in file order, whose name has these values at a port of a node.
 fn valued<'a>(net: &'a Network, node: u8, port: u16, values: Module) -> Option<&'a ListedModule>
     ensures { option_map (λ m. m.now) result
-        ≡ find (λ m. has_values values (module_of (site_of net.now node) port m.name)) net.now.db.modules }
+        ≡ find (λ m. has_values values (module_of (line_setting_of net.now node) port m.name)) net.now.db.modules }
 {
     net.db.modules().iter().find(|module| has_values(net, node, port, module.name(), values))
 }
 
 // The first listed name, in file order, whose module at a port of a node has these values.
 fn name_of<'a>(net: &'a Network, node: u8, port: u16, values: Module) -> Option<&'a str>
-    ensures { option_map (λ name. name.now) result ≡ name_of (site_of net.now node) port values }
+    ensures { option_map (λ name. name.now) result ≡ name_of (line_setting_of net.now node) port values }
 {
     match valued(net, node, port, values) {
         Some(module) => Some(module.name()),
@@ -116,7 +116,7 @@ fn name_of<'a>(net: &'a Network, node: u8, port: u16, values: Module) -> Option<
 /// How a module is named at a port of a node: by the first listed name whose values it has, and by
 /// `unlisted` where the database does not list it.
 pub fn module_name<'a>(net: &'a Network, node: u8, port: u16, module: Option<Module>) -> &'a str
-    ensures { result.now ≡ module_text (site_of net.now node) port «module» }
+    ensures { result.now ≡ module_text (line_setting_of net.now node) port «module» }
 {
     match module {
         Some(values) => match name_of(net, node, port, values) {

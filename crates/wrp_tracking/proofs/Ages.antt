@@ -14,7 +14,7 @@ use Rattle.wrp_servo.specs.Table as table
 use Rattle.wrp_servo.specs.Table.{is_old, is_track, too_old}
 use Rattle.wrp_servo.specs.Sampling as sampling
 use Rattle.wrp_servo.specs.Measuring as measuring
-use Rattle.wrp_servo.specs.Call.{Call, CallSample, CallMeasured, CallTick, CallLease, CallLink, CallCarrier, CallReset, Settings, run}
+use Rattle.wrp_servo.specs.Call.{Call, CallSample, CallMeasured, CallTick, CallLease, CallLink, CallCarrier, CallReset, ServoSetting, run}
 use Rattle.wrp_servo.specs.Laws.{TrackHasChain, TrackIsNear}
 use Rattle.wrp_tracking.specs.ServoGives.{FoursRise, TrackIsYoung}
 
@@ -188,7 +188,7 @@ placed-shows v k est Track young =
     either (sampling.is_within v.set.track_tau (sampling.residual v.phase k)) (measuring.aimed w k Track) (table.ended w) young (ended-shows w young)
 placed-shows v k est Holdover young = off (record v { state = Holdover; kept = Some k }) refl
 
-measured-shows : (x : Settings) (v : Core) (f : Four) (y : ℤ) (on : Option Deltas) → (is_track v.state ≡ true → is_some v.kept ≡ true) → IfSome v.kept (λ k. k.four.tick ≤ f.tick) → Shows v → Shows (measuring.answered x.lo x.hi v f y on)
+measured-shows : (x : ServoSetting) (v : Core) (f : Four) (y : ℤ) (on : Option Deltas) → (is_track v.state ≡ true → is_some v.kept ≡ true) → IfSome v.kept (λ k. k.four.tick ≤ f.tick) → Shows v → Shows (measuring.answered x.lo x.hi v f y on)
 measured-shows x v f y None some rises h = h
 measured-shows x v f y (Some d) some rises h =
     let k : Measurement = measuring.kept_of f d y in
@@ -213,7 +213,7 @@ lease-shows : (v : Core) (fresh : Bool) → Shows v → Shows (table.by_lease v 
 lease-shows v true h = h
 lease-shows v false h = ended-shows (table.with_lease v false) h
 
-young : TrackHasChain → TrackIsNear → (x : Settings) (calls : List Call) → FoursRise x calls → Shows (run x calls)
+young : TrackHasChain → TrackIsNear → (x : ServoSetting) (calls : List Call) → FoursRise x calls → Shows (run x calls)
 young chain near x [] rise = off (run x []) refl
 young chain near x (CallSample n base bits ∷ calls) rise = sample-shows (run x calls) n base bits (young chain near x calls rise)
 young chain near x (CallMeasured f y ∷ calls) rise =

@@ -11,7 +11,7 @@ use Rattle.wrp_servo.specs.Following.{restarted}
 use Rattle.wrp_servo.specs.Table as table
 use Rattle.wrp_servo.specs.Sampling as sampling
 use Rattle.wrp_servo.specs.Measuring as measuring
-use Rattle.wrp_servo.specs.Call.{Call, CallSample, CallMeasured, CallTick, CallLease, CallLink, CallCarrier, CallReset, Settings, after, run}
+use Rattle.wrp_servo.specs.Call.{Call, CallSample, CallMeasured, CallTick, CallLease, CallLink, CallCarrier, CallReset, ServoSetting, after, run}
 use Rattle.wrp_tracking.specs.ServoGives.{WasMeasured, KeptIsMeasured}
 use Rattle.wrp_tracking.proofs.Ages.{ended_in-none}
 
@@ -144,7 +144,7 @@ was_there : (k : Measurement) (o : Option Measurement) (w : Core) → Leaves o w
 was_there k o w (inl none) is = absurd (cc)
 was_there k o w (inr same) is = sym same ∙ is
 
-later : (x : Settings) (calls : List Call) (call : Call) (k : Measurement) → WasMeasured x calls k → WasMeasured x (call ∷ calls) k
+later : (x : ServoSetting) (calls : List Call) (call : Call) (k : Measurement) → WasMeasured x calls k → WasMeasured x (call ∷ calls) k
 later x calls call k was = record {
   since = call ∷ was.since;
   before = was.before;
@@ -157,7 +157,7 @@ later x calls call k was = record {
 }
 
 -- the call that brought it
-brought : (x : Settings) (calls : List Call) (f : Four) (y : ℤ) (d : Deltas) → measuring.deltas_in_chain (run x calls) ≡ Some d → measuring.is_in x.lo x.hi (measuring.x_of d f) ≡ true →
+brought : (x : ServoSetting) (calls : List Call) (f : Four) (y : ℤ) (d : Deltas) → measuring.deltas_in_chain (run x calls) ≡ Some d → measuring.is_in x.lo x.hi (measuring.x_of d f) ≡ true →
     WasMeasured x (CallMeasured f y ∷ calls) (measuring.kept_of f d y)
 brought x calls f y d chain range = record {
   since = [];
@@ -170,7 +170,7 @@ brought x calls f y d chain range = record {
   delay = refl;
 }
 
-by_range : (x : Settings) (calls : List Call) (f : Four) (y : ℤ) (d : Deltas) (k : Measurement) → (b : Bool) → measuring.is_in x.lo x.hi (measuring.x_of d f) ≡ b → measuring.deltas_in_chain (run x calls) ≡ Some d →
+by_range : (x : ServoSetting) (calls : List Call) (f : Four) (y : ℤ) (d : Deltas) (k : Measurement) → (b : Bool) → measuring.is_in x.lo x.hi (measuring.x_of d f) ≡ b → measuring.deltas_in_chain (run x calls) ≡ Some d →
     ((run x calls).kept ≡ Some k → WasMeasured x calls k) →
     (cond b (measuring.placed (run x calls) (measuring.kept_of f d y)) (table.ended (run x calls))).kept ≡ Some k → WasMeasured x (CallMeasured f y ∷ calls) k
 by_range x calls f y d k true range chain before is =
@@ -184,14 +184,14 @@ by_range x calls f y d k true range chain before is =
 by_range x calls f y d k false range chain before is =
     later x calls (CallMeasured f y) k (before (was_there k (run x calls).kept (table.ended (run x calls)) (ended-leaves (run x calls).kept (run x calls) (inr refl)) is))
 
-measured : (x : Settings) (calls : List Call) (f : Four) (y : ℤ) (k : Measurement) → (on : Option Deltas) → measuring.deltas_in_chain (run x calls) ≡ on →
+measured : (x : ServoSetting) (calls : List Call) (f : Four) (y : ℤ) (k : Measurement) → (on : Option Deltas) → measuring.deltas_in_chain (run x calls) ≡ on →
     ((run x calls).kept ≡ Some k → WasMeasured x calls k) →
     (measuring.answered x.lo x.hi (run x calls) f y on).kept ≡ Some k → WasMeasured x (CallMeasured f y ∷ calls) k
 measured x calls f y k None chain before is = later x calls (CallMeasured f y) k (before is)
 measured x calls f y k (Some d) chain before is = by_range x calls f y d k (measuring.is_in x.lo x.hi (measuring.x_of d f)) refl chain before is
 
 -- a call that is no measurement
-unmeasured : (x : Settings) (calls : List Call) (call : Call) (k : Measurement) → Leaves (run x calls).kept (after x (run x calls) call) → ((run x calls).kept ≡ Some k → WasMeasured x calls k) →
+unmeasured : (x : ServoSetting) (calls : List Call) (call : Call) (k : Measurement) → Leaves (run x calls).kept (after x (run x calls) call) → ((run x calls).kept ≡ Some k → WasMeasured x calls k) →
     (after x (run x calls) call).kept ≡ Some k → WasMeasured x (call ∷ calls) k
 unmeasured x calls call k leaves before is = later x calls call k (before (was_there k (run x calls).kept (after x (run x calls) call) leaves is))
 

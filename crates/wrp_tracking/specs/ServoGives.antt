@@ -9,7 +9,7 @@ use Rattle.wrp_servo.specs.Following.{e_tau}
 use Rattle.wrp_servo.specs.Table.{is_track}
 use Rattle.wrp_servo.specs.Sampling.{est_of}
 use Rattle.wrp_servo.specs.Measuring.{deltas_in_chain, is_in, x_of, delay_of}
-use Rattle.wrp_servo.specs.Call.{Call, CallMeasured, Settings, run}
+use Rattle.wrp_servo.specs.Call.{Call, CallMeasured, ServoSetting, run}
 use Rattle.wrp_servo.specs.Laws.{InTrack, TrackHasChain, TrackIsNear}
 use Rattle.wrp_bounds.specs.declared.numbers.HopNumbers.{HopNumbers}
 use Rattle.wrp_tracking.specs.ErrorSum.{TrackFacts}
@@ -34,7 +34,7 @@ TrackGives =
     Tracks hop v
 
 -- a measurement was brought by a call, in a chain and in the law's range, with the law's answer
-pub record WasMeasured (x : Settings) (calls : List Call) (kept : Measurement) : Type 0 where
+pub record WasMeasured (x : ServoSetting) (calls : List Call) (kept : Measurement) : Type 0 where
   pub since : List Call
   pub before : List Call
   pub deltas : Deltas
@@ -47,12 +47,12 @@ pub record WasMeasured (x : Settings) (calls : List Call) (kept : Measurement) :
 -- the measurement that stands was brought by such a call
 abbrev pub KeptIsMeasured : Type 0
 KeptIsMeasured =
-    (x : Settings) (calls : List Call) (kept : Measurement) →
+    (x : ServoSetting) (calls : List Call) (kept : Measurement) →
     (run x calls).kept ≡ Some kept →
     WasMeasured x calls kept
 
 -- no measured four is older than the one that stands
-abbrev pub FoursRise : Settings → List Call → Type 0
+abbrev pub FoursRise : ServoSetting → List Call → Type 0
 FoursRise x [] = Unit {0}
 FoursRise x (CallMeasured f y ∷ calls) =
     IfSome (run x calls).kept (λ k. k.four.tick ≤ f.tick) × FoursRise x calls
@@ -61,7 +61,7 @@ FoursRise x (call ∷ calls) = FoursRise x calls
 -- then in TRACK, where a chain and a four stand as the servo's laws tell, that four is young
 abbrev pub TrackIsYoung : Type 0
 TrackIsYoung =
-    (x : Settings) (calls : List Call) (kept : Measurement) →
+    (x : ServoSetting) (calls : List Call) (kept : Measurement) →
     TrackHasChain → TrackIsNear →
     FoursRise x calls →
     is_track (run x calls).state ≡ true →

@@ -7,7 +7,7 @@ use Rattle.wrp_base.specs.declared.message.PtpMsg.{PtpMsg}
 use Rattle.wrp_frame.specs.declared.fault.FrameFault.{FrameFault}
 use Rattle.wrp_node.specs.declared.interface.Input.{Input}
 use Rattle.wrp_node.specs.declared.interface.Input.TheVariants.{Tick, Sample, Frame, Sent, Carrier, Reset}
-use Rattle.wrp_node.specs.NodeAt.{Fixed, NodeAt, Taken, certain_of, setting_of, line_at, locked_of}
+use Rattle.wrp_node.specs.NodeAt.{NodeSetting, NodeAt, Taken, certain_of, setting_of, line_at, locked_of}
 use Rattle.wrp_node.specs.NodeStep.{servo_ticked, node_step}
 use Rattle.wrp_port.specs.declared.line.Line.{Line}
 use Rattle.wrp_port.specs.declared.setting.Setting.{Setting}
@@ -28,7 +28,7 @@ certain_flags true e = refl
 certain_flags false e = absurd (not_certain e)
 
 -- at a tick it is certain; at no other input is one sent
-abbrev pub MayAnnounce : Fixed → NodeAt → Input → Type 0
+abbrev pub MayAnnounce : NodeSetting → NodeAt → Input → Type 0
 MayAnnounce fixed n Tick = certain_of fixed (servo_ticked fixed n).node ≡ true
 MayAnnounce fixed n _ = ⊥
 
@@ -36,7 +36,7 @@ scheduled_certain : (C : Type 0) (set : Setting) (role : Role) (line : Line) (ce
 scheduled_certain C set Master line certain h = (λ e a. h (certain_flags certain a.certain), λ e a. absurd a.announce)
 scheduled_certain C set Slave line certain h = λ e a. absurd a.announce
 
-certain_by : (fixed : Fixed) (n : NodeAt) (p : ℕ) (input : Input) (says : Result PtpMsg FrameFault) → SentBy (λ m. IsCertainAnnounce m → MayAnnounce fixed n input) fixed n p input says
+certain_by : (fixed : NodeSetting) (n : NodeAt) (p : ℕ) (input : Input) (says : Result PtpMsg FrameFault) → SentBy (λ m. IsCertainAnnounce m → MayAnnounce fixed n input) fixed n p input says
 certain_by fixed n p Tick says = scheduled_certain (certain_of fixed (servo_ticked fixed n).node ≡ true) (setting_of fixed.set p) (setting_of fixed.set p).ds.role (ticked (setting_of fixed.set p) (line_at fixed.set (servo_ticked fixed n).node p) (locked_of fixed (servo_ticked fixed n).node)) (certain_of fixed (servo_ticked fixed n).node) (λ e. e)
 certain_by fixed n p (Sample number base bits) says = tt
 certain_by fixed n p (Frame q octets raw sample) says = λ m is same hears request a. absurd a.announce
@@ -44,5 +44,5 @@ certain_by fixed n p (Sent q seq delay stamp) says = λ e same a. absurd a.annou
 certain_by fixed n p (Carrier q up own_module) says = tt
 certain_by fixed n p Reset says = tt
 
-pub announces_only : (fixed : Fixed) (t : Taken) (n : NodeAt) (p : ℕ) → OnlyWhen (MayAnnounce fixed n t.input) ((node_step fixed t n).sends p)
+pub announces_only : (fixed : NodeSetting) (t : Taken) (n : NodeAt) (p : ℕ) → OnlyWhen (MayAnnounce fixed n t.input) ((node_step fixed t n).sends p)
 announces_only fixed t n p = step_each (λ m. IsCertainAnnounce m → MayAnnounce fixed n t.input) fixed t n p (λ seq m a. absurd a.announce) (certain_by fixed n p t.input t.says)

@@ -29,7 +29,7 @@ use Rattle.wrp_world.specs.Run.{Happened, world_after}
 use Rattle.wrp_world.specs.RunLaws.{ModulesStay}
 use Rattle.wrp_world.specs.Runs.{IsNetwork, IsRun}
 use Rattle.wrp_world.specs.SameHandshake.{CarriersAreTheLinks, CarriersWithTheirModules}
-use Rattle.wrp_world.specs.Setting.{Setting, end_at, end_of, entry_at, fixed_of, link_of, of_node, sends_nm}
+use Rattle.wrp_world.specs.Setting.{Setting, end_at, end_of, entry_at, node_setting_of, link_of, of_node, sends_nm}
 use Rattle.wrp_world.specs.WorldAt.{FrameAt, WorldAt, reading}
 use Rattle.wrp_world.proofs.RunHanded.{other_twice}
 use Rattle.wrp_world.proofs.RunGiven.{end_is}
@@ -131,7 +131,7 @@ some_more : (n : ℕ) → 1 ≤ n → 0 < n
 some_more n h = omega (arith, h)
 
 pub stamp_near : StampLaws → (s : Setting) (newer older : List Happened) (k : ℕ) (r : Role) (link : LinkCfg) (f : FrameAt) (raw : Raw) (sample : ℕ) → IsRun s (newer ++ older) → link_of s k ≡ Some link → AtEach (IsCarried s k) newer older → Arrived s older k r f raw →
-    unsigned_abs ((stamp_of (fixed_of s (end_of r link).node) ((world_after s (newer ++ older)).node (end_of r link).node) (end_of r link).port raw sample).value -ℤ reading (world_after s older) (end_of r link).node) ≤ of_node (λ node. node.e_tag) s (end_of r link).node
+    unsigned_abs ((stamp_of (node_setting_of s (end_of r link).node) ((world_after s (newer ++ older)).node (end_of r link).node) (end_of r link).port raw sample).value -ℤ reading (world_after s older) (end_of r link).node) ≤ of_node (λ node. node.e_tag) s (end_of r link).node
 stamp_near laws s newer older k r link f raw sample run is carried it =
     let end : End = end_of r link in
     let events : List Happened = newer ++ older in

@@ -17,7 +17,7 @@ use Rattle.wrp_node.specs.declared.interface.Input.TheVariants.{Tick as TickInpu
 use Rattle.wrp_node.specs.declared.interface.Output.{Output}
 use Rattle.wrp_node.specs.declared.interface.Output.TheVariants as output
 use Rattle.wrp_node.specs.declared.interface.Report.TheVariants as report
-use Rattle.wrp_node.specs.NodeAt.{Fixed, NodeAt, est_of, link_at, numbers_of as ports_of, state_of}
+use Rattle.wrp_node.specs.NodeAt.{NodeSetting, NodeAt, est_of, link_at, numbers_of as ports_of, state_of}
 use Rattle.wrp_node.specs.NodeRun.{dac_out, est_out, outputs_of, place_of, port_out, servo_out, step_out, track_out, word_out, frame_out}
 use Rattle.wrp_node.specs.Telling.{Step}
 use Rattle.wrp_port.specs.Outputs.{is_word}
@@ -29,7 +29,7 @@ use Rattle.wrp_world.specs.Given.{Given, event_steps, given_by, given_plain, giv
 use Rattle.wrp_world.specs.Moved.{moved}
 use Rattle.wrp_world.specs.Run.{Happened, world_after}
 use Rattle.wrp_world.specs.Runs.{IsNetwork}
-use Rattle.wrp_world.specs.Setting.{Setting, fixed_of}
+use Rattle.wrp_world.specs.Setting.{Setting, node_setting_of}
 use Rattle.wrp_world.specs.WorldAt.{WorldAt}
 use Rattle.wrp_world.proofs.RunGifts.{AllGiven}
 use Rattle.wrp_truth.specs.Bounds.{EstimatesAreNear, IsTrueOutput, IsTrueReport, IsTrueStep, OffsetsKeepBounds, TrackReportsAreTrue, TrueRun}
@@ -69,19 +69,19 @@ frames_true : (s : Setting) (w : WorldAt) (n p : ℕ) (messages : List PtpMsg) �
 frames_true s w n p [] = tt
 frames_true s w n p (m ∷ messages) = (tt, frames_true s w n p messages)
 
-port_true : (s : Setting) (w : WorldAt) (n : ℕ) (fixed : Fixed) (before : NodeAt) (step : Step) (p : ℕ) → AllTrue s w n (port_out fixed before step p)
+port_true : (s : Setting) (w : WorldAt) (n : ℕ) (fixed : NodeSetting) (before : NodeAt) (step : Step) (p : ℕ) → AllTrue s w n (port_out fixed before step p)
 port_true s w n fixed before step p =
     let old : LinkWord = word_of (link_at fixed.set before p) in
     let new : LinkWord = word_of (link_at fixed.set step.node p) in
     all_both s w n (word_out p old new) (map (frame_out p) (step.sends p)) (word_true s w n p (is_word old new) new) (frames_true s w n p (step.sends p))
 
-ports_true : (s : Setting) (w : WorldAt) (n : ℕ) (fixed : Fixed) (before : NodeAt) (step : Step) (ports : List ℕ) → AllTrue s w n (flat_map (port_out fixed before step) ports)
+ports_true : (s : Setting) (w : WorldAt) (n : ℕ) (fixed : NodeSetting) (before : NodeAt) (step : Step) (ports : List ℕ) → AllTrue s w n (flat_map (port_out fixed before step) ports)
 ports_true s w n fixed before step [] = tt
 ports_true s w n fixed before step (p ∷ ports) =
     all_both s w n (port_out fixed before step p) (flat_map (port_out fixed before step) ports) (port_true s w n fixed before step p) (ports_true s w n fixed before step ports)
 
 -- all outputs are true where its report of TRACK is
-outs_true : (s : Setting) (w : WorldAt) (n : ℕ) (fixed : Fixed) (input : Input) (before : NodeAt) (step : Step) → AllTrue s w n (track_out fixed input step.node) → AllTrue s w n (outputs_of fixed input before step)
+outs_true : (s : Setting) (w : WorldAt) (n : ℕ) (fixed : NodeSetting) (input : Input) (before : NodeAt) (step : Step) → AllTrue s w n (track_out fixed input step.node) → AllTrue s w n (outputs_of fixed input before step)
 outs_true s w n fixed input before step h =
     let old : ServoState = state_of fixed before in
     let new : ServoState = state_of fixed step.node in
@@ -98,7 +98,7 @@ outs_true s w n fixed input before step h =
 
 -- Inputs that are no tick
 
-none_told : (s : Setting) (w : WorldAt) (n : ℕ) (fixed : Fixed) (input : Input) (node : NodeAt) → IsNoTick input → AllTrue s w n (track_out fixed input node)
+none_told : (s : Setting) (w : WorldAt) (n : ℕ) (fixed : NodeSetting) (input : Input) (node : NodeAt) → IsNoTick input → AllTrue s w n (track_out fixed input node)
 none_told s w n fixed TickInput node h = absurd h
 none_told s w n fixed (SampleInput number base bits) node h = tt
 none_told s w n fixed (Frame p octets raw sample) node h = tt
@@ -109,7 +109,7 @@ none_told s w n fixed Reset node h = tt
 steps_true : (s : Setting) (w : WorldAt) (y : ℤ) (gs : List Given) (v : WorldAt) → AllGiven IsNoTick gs → AllByRecursion (IsTrueStep s w) (steps_of s y v gs)
 steps_true s w y [] v h = tt
 steps_true s w y (g ∷ gs) v h =
-    (outs_true s w g.to (fixed_of s g.to) g.input (v.node g.to) (step_of s y v g) (none_told s w g.to (fixed_of s g.to) g.input (step_of s y v g).node h.0), steps_true s w y gs (gives s y v g) h.1)
+    (outs_true s w g.to (node_setting_of s g.to) g.input (v.node g.to) (step_of s y v g) (none_told s w g.to (node_setting_of s g.to) g.input (step_of s y v g).node h.0), steps_true s w y gs (gives s y v g) h.1)
 
 all_given : (Q : Input → Type 0) (gs : List Given) → ((n : ℕ) → To Q n gs) → AllGiven Q gs
 all_given Q [] h = tt
@@ -138,8 +138,8 @@ pub record ReportLaws : Type 0 where
   pub source : ChainHasSource
   pub chain : TrackHasChain
 
-report_true : ReportLaws → (s : Setting) (events : List Happened) (n : ℕ) (above : Option LinkCfg) (est : ℤ) → TrueRun s events → link_above s.cfg n ≡ above → state_of (fixed_of s n) ((world_after s events).node n) ≡ Track →
-    est_of (fixed_of s n) ((world_after s events).node n) ≡ Some est → IsTrueReport s (world_after s events) n est
+report_true : ReportLaws → (s : Setting) (events : List Happened) (n : ℕ) (above : Option LinkCfg) (est : ℤ) → TrueRun s events → link_above s.cfg n ≡ above → state_of (node_setting_of s n) ((world_after s events).node n) ≡ Track →
+    est_of (node_setting_of s n) ((world_after s events).node n) ≡ Some est → IsTrueReport s (world_after s events) n est
 report_true laws s events n None est runs is e told = absurd (new_state (sym (top_state s runs.run.network (world_after s events) n is) ∙ e))
 report_true laws s events n (Some link) est runs is e told =
     let net : IsNetwork s = runs.run.network in
@@ -161,10 +161,10 @@ est_true s w n true None h = tt
 est_true s w n true (Some est) h = (h est refl refl, tt)
 est_true s w n false o h = tt
 
-told_true : ReportLaws → (s : Setting) (h : Happened) (before : List Happened) (n : ℕ) → TrueRun s (h ∷ before) → AllTrue s (world_after s (h ∷ before)) n (track_out (fixed_of s n) TickInput ((world_after s (h ∷ before)).node n))
+told_true : ReportLaws → (s : Setting) (h : Happened) (before : List Happened) (n : ℕ) → TrueRun s (h ∷ before) → AllTrue s (world_after s (h ∷ before)) n (track_out (node_setting_of s n) TickInput ((world_after s (h ∷ before)).node n))
 told_true laws s h before n runs =
     let w : WorldAt = world_after s (h ∷ before) in
-    let fixed : Fixed = fixed_of s n in
+    let fixed : NodeSetting = node_setting_of s n in
     let in_track : Bool = is_track (state_of fixed (w.node n)) in
     let due : Bool = (w.node n).ticks % fixed.set.report == 0 in
     est_true s w n (in_track && due) (est_of fixed (w.node n))
@@ -177,9 +177,9 @@ tick_true laws s says y before m runs =
     let v : WorldAt = moved s w (Tick m) in
     let now : WorldAt = world_step s says y w (Tick m) in
     let g : Given = given_plain m TickInput in
-    let told : AllTrue s now m (track_out (fixed_of s m) TickInput (step_of s y v g).node) =
-    subst (λ (node : NodeAt). AllTrue s now m (track_out (fixed_of s m) TickInput node)) (ticked_node s says y w m m refl).0 (told_true laws s (record { event = Tick m; says = says; answer = y }) before m runs) in
-    (outs_true s now m (fixed_of s m) TickInput (v.node m) (step_of s y v g) told, tt)
+    let told : AllTrue s now m (track_out (node_setting_of s m) TickInput (step_of s y v g).node) =
+    subst (λ (node : NodeAt). AllTrue s now m (track_out (node_setting_of s m) TickInput node)) (ticked_node s says y w m m refl).0 (told_true laws s (record { event = Tick m; says = says; answer = y }) before m runs) in
+    (outs_true s now m (node_setting_of s m) TickInput (v.node m) (step_of s y v g) told, tt)
 
 reports_by : ReportLaws → (s : Setting) (says : Result PtpMsg FrameFault) (y : ℤ) (before : List Happened) (e : Event) → TrueRun s (record { event = e; says = says; answer = y } ∷ before) →
     AllByRecursion (IsTrueStep s (world_step s says y (world_after s before) e)) (event_steps s says y (world_after s before) e)

@@ -2,12 +2,12 @@
 use Rattle.std.proofs.Common.{◌≡◌, inl, inr, refl, ℕ, ◌+◌, ◌<◌, ℤ, List, [], ◌∷◌, ◌++◌, length, arith}
 use Rattle.wrp_node.specs.declared.interface.Input.{Input}
 use Rattle.wrp_node.specs.declared.interface.Input.TheVariants.{Tick, Sample, Frame, Sent, Carrier, Reset}
-use Rattle.wrp_node.specs.NodeAt.{NodeAt, settings_of}
-use Rattle.wrp_servo.specs.Call.{Call, CallSample, CallMeasured, CallTick, CallLease, CallLink, CallCarrier, CallReset, Settings}
+use Rattle.wrp_node.specs.NodeAt.{NodeAt, servo_setting_of}
+use Rattle.wrp_servo.specs.Call.{Call, CallSample, CallMeasured, CallTick, CallLease, CallLink, CallCarrier, CallReset, ServoSetting}
 use Rattle.wrp_servo.specs.Servo.{AllAnswered}
 use Rattle.wrp_tracking.specs.History.{Was}
 use Rattle.wrp_world.specs.Run.{Happened, IsAnswered, world_after, worlds_of}
-use Rattle.wrp_world.specs.Setting.{Setting, fixed_of}
+use Rattle.wrp_world.specs.Setting.{Setting, node_setting_of}
 use Rattle.wrp_truth.specs.Bounds.{TrueRun}
 use Rattle.wrp_truth.specs.Fours.{IsNearAnswer}
 use Rattle.wrp_truth.specs.Moments.{AtEach}
@@ -18,7 +18,7 @@ use Rattle.wrp_truth.proofs.Suffixes.{run_before}
 
 -- The answers of the laws
 
-fewer_answered : (answers : ℤ → ℤ → Type 0) (x : Settings) (calls : List Call) (call : Call) → AllAnswered answers x (call ∷ calls) → AllAnswered answers x calls
+fewer_answered : (answers : ℤ → ℤ → Type 0) (x : ServoSetting) (calls : List Call) (call : Call) → AllAnswered answers x (call ∷ calls) → AllAnswered answers x calls
 fewer_answered answers x calls (CallSample n base bits) h = h
 fewer_answered answers x calls (CallMeasured f y) h = h.1
 fewer_answered answers x calls CallTick h = h
@@ -38,10 +38,10 @@ brings_any Reset = tt
 -- what was answered before an event was answered before it still
 answered_before : (answers : ℕ → ℤ → ℤ → Type 0) (s : Setting) (h : Happened) (before : List Happened) → IsAnswered answers s (world_after s (h ∷ before)) → IsAnswered answers s (world_after s before)
 answered_before answers s h before all n =
-    let x : Settings = settings_of (fixed_of s n) in
+    let x : ServoSetting = servo_setting_of (node_setting_of s n) in
     let Kept : List Call → Type 0 = λ calls. AllAnswered (answers n) x calls → AllAnswered (answers n) x ((world_after s before).node n).calls in
     node_kept (λ (m : NodeAt). Kept m.calls) (λ _. Unit {0}) s h.says h.answer (world_after s before) h.event n
-    (λ t m q old. step_keeps (λ _. Unit {0}) Kept (λ calls call c f now. f (fewer_answered (answers n) x calls call now)) (λ calls call c f now. f (fewer_answered (answers n) x calls call now)) (fixed_of s n) t m (brings_any t.input) old)
+    (λ t m q old. step_keeps (λ _. Unit {0}) Kept (λ calls call c f now. f (fewer_answered (answers n) x calls call now)) (λ calls call c f now. f (fewer_answered (answers n) x calls call now)) (node_setting_of s n) t m (brings_any t.input) old)
     (any_to n h.event) (λ a. a) (all n)
 
 -- The run

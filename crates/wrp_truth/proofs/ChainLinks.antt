@@ -11,7 +11,7 @@ use Rattle.wrp_link.specs.declared.interface.LinkSet.{LinkSet}
 use Rattle.wrp_link.specs.LinkAt.{LinkAt, new_link}
 use Rattle.wrp_link.specs.Table.{word_in}
 use Rattle.wrp_node.specs.Laws.{IsSettled, StepSettles}
-use Rattle.wrp_node.specs.NodeAt.{Fixed, NodeAt, deltas_at, deltas_in, link_at, port_of, setting_of, settings_of, slave_of}
+use Rattle.wrp_node.specs.NodeAt.{NodeSetting, NodeAt, deltas_at, deltas_in, link_at, port_of, setting_of, servo_setting_of, slave_of}
 use Rattle.wrp_node.specs.NodeRun.{new_node}
 use Rattle.wrp_node.specs.NodeStep.{node_step}
 use Rattle.wrp_node.specs.Telling.{is_changed}
@@ -22,14 +22,14 @@ use Rattle.wrp_servo.specs.Laws.{ChainHasSignals}
 use Rattle.wrp_servo.specs.Told.{link_told as link_known}
 use Rattle.wrp_world.specs.Run.{Happened, world_after}
 use Rattle.wrp_world.specs.Runs.{IsNetwork}
-use Rattle.wrp_world.specs.Setting.{Setting, fixed_of, link_of}
+use Rattle.wrp_world.specs.Setting.{Setting, node_setting_of, link_of}
 use Rattle.wrp_truth.specs.Rates.{HasChain}
 use Rattle.wrp_truth.proofs.ChainSources.{any_to, none_told, not_changed}
 use Rattle.wrp_truth.proofs.Inputs.{node_kept}
 use Rattle.wrp_truth.proofs.LinksAbove.{above_is}
 use Rattle.wrp_truth.proofs.Parents.{has_slave}
 
-pub settled_link : (fixed : Fixed) (n : NodeAt) → is_some (slave_of fixed.set) ≡ true → IsSettled fixed n → is_some (link_known n.calls) ≡ is_some (deltas_in fixed.set n)
+pub settled_link : (fixed : NodeSetting) (n : NodeAt) → is_some (slave_of fixed.set) ≡ true → IsSettled fixed n → is_some (link_known n.calls) ≡ is_some (deltas_in fixed.set n)
 settled_link fixed n servo h =
     not_changed (is_some (link_known n.calls)) (is_some (deltas_in fixed.set n))
     (none_told (is_some (slave_of fixed.set)) (is_changed (is_some (link_known n.calls)) (is_some (deltas_in fixed.set n))) (CallLink (deltas_in fixed.set n)) servo h.link)
@@ -44,7 +44,7 @@ knows_link settles s [] n p slave =
     sym (ap (λ (o : Option ℕ). is_some (deltas_at (s.set n) new_node o)) slave ∙ ap is_some (new_deltas (port_of (s.set n) p).role (setting_of (s.set n) p).ds.role (setting_of (s.set n) p).link))
 knows_link settles s (h ∷ before) n p slave =
     node_kept (λ (m : NodeAt). is_some (link_known m.calls) ≡ is_some (deltas_in (s.set n) m)) (λ _. Unit {0}) s h.says h.answer (world_after s before) h.event n
-    (λ t m q old. settled_link (fixed_of s n) (node_step (fixed_of s n) t m).node (ap is_some slave) (settles (fixed_of s n) t m))
+    (λ t m q old. settled_link (node_setting_of s n) (node_step (node_setting_of s n) t m).node (ap is_some slave) (settles (node_setting_of s n) t m))
     (any_to n h.event) (knows_link settles s before n p slave)
 
 on_state : (role : Role) (l : LinkAt) (state : LinkState) → is_some (port_deltas_in role state l) ≡ true → state ≡ LinkOn
@@ -71,5 +71,5 @@ chain_on settles signals s events k link net is chain =
     let node : NodeAt = (world_after s events).node n in
     let slave : slave_of (s.set n) ≡ Some link.lower_port = has_slave s net n link (above_is s net k link is) in
     let l : LinkAt = link_at (s.set n) node link.lower_port in
-    let on : is_some (deltas_in (s.set n) node) ≡ true = sym (knows_link settles s events n link.lower_port slave) ∙ (signals (settings_of (fixed_of s n)) node.calls chain).link in
+    let on : is_some (deltas_in (s.set n) node) ≡ true = sym (knows_link settles s events n link.lower_port slave) ∙ (signals (servo_setting_of (node_setting_of s n)) node.calls chain).link in
     on_state (port_of (s.set n) link.lower_port).role l l.state (sym (ap (λ (o : Option ℕ). is_some (deltas_at (s.set n) node o)) slave) ∙ on)

@@ -12,7 +12,7 @@ use Rattle.wrp_tracking.specs.Moment.{Moment, MovesSlowly}
 use Rattle.wrp_world.specs.Run.{Happened, world_after}
 use Rattle.wrp_world.specs.RunLaws.{ModulesStay}
 use Rattle.wrp_world.specs.Runs.{IsRun}
-use Rattle.wrp_world.specs.Setting.{Setting, fixed_of, link_of, of_node}
+use Rattle.wrp_world.specs.Setting.{Setting, node_setting_of, link_of, of_node}
 use Rattle.wrp_world.specs.WorldAt.{WorldAt}
 use Rattle.wrp_truth.specs.Leases.{FollowsSource, HasSource, IsCarried}
 use Rattle.wrp_truth.specs.Moments.{AtEach}
@@ -67,9 +67,9 @@ own_slow laws s h before k link hop run is numbers carried chain later =
     let above : link_above s.cfg n ≡ Some link = above_is s run.network k link is in
     let up : (w.clock n).up ≡ true = (both_nodes s w k link is carried).1 in
     let slow : Slow (greatest_rate s n) w.time now.time (w.clock n).off (now.clock n).off =
-    clock_slow laws.rates.commands s h.says h.answer before h.event n (of_node (λ node. node.slew) s n) (greatest_rate s n) (λ (m : NodeAt). is_some (servo_at (fixed_of s n) m).first ≡ true) run
+    clock_slow laws.rates.commands s h.says h.answer before h.event n (of_node (λ node. node.slew) s n) (greatest_rate s n) (λ (m : NodeAt). is_some (servo_at (node_setting_of s n) m).first ≡ true) run
     (run.network.accepted.tree.ends k link is).1 up (chain_rate laws.rates.locked s before n link run.network above up chain) (slew_is s n link above)
-    (λ t stands. still_in_chain laws.rates.commands (fixed_of s n) t (w.node n) stands) later in
+    (λ t stands. still_in_chain laws.rates.commands (node_setting_of s n) t (w.node n) stands) later in
     same_limit (greatest_rate s n) hop.own.rate (λ m. m.own) (moment_at k link w) (moment_at k link now) (sym (hop_has s run.network k link hop is numbers).own)
     (as_slow (λ m. m.time) (greatest_rate s n) (λ m. m.own) (moment_at k link w) (moment_at k link now) slow)
 

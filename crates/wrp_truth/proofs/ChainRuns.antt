@@ -20,14 +20,14 @@ use Rattle.wrp_bounds.specs.Times.{longest_tick}
 use Rattle.wrp_frame.specs.declared.fault.FrameFault.{FrameFault}
 use Rattle.wrp_node.specs.declared.interface.Input.TheVariants.{Tick as TickInput, Sample as SampleInput}
 use Rattle.wrp_node.specs.declared.interface.NodeSet.{NodeSet}
-use Rattle.wrp_node.specs.NodeAt.{NodeAt, Taken, servo_at, settings_of, slave_of}
+use Rattle.wrp_node.specs.NodeAt.{NodeAt, Taken, servo_at, servo_setting_of, slave_of}
 use Rattle.wrp_node.specs.NodeRun.{node_after}
 use Rattle.wrp_node.specs.NodeStep.{node_step}
 use Rattle.wrp_node.specs.Unbroken.{ChainIsUnbroken}
 use Rattle.wrp_phase.specs.Beat.{phase_of as phase_told}
 use Rattle.wrp_phase.specs.BeatPattern.{KeepsBeatPattern, TagWithinDetectorError}
 use Rattle.wrp_phase.specs.Unwrapping.{unwrapped}
-use Rattle.wrp_servo.specs.Call.{Call, Settings, run}
+use Rattle.wrp_servo.specs.Call.{Call, ServoSetting, run}
 use Rattle.wrp_servo.specs.Laws.{ChainKeepsGap, ChainSince}
 use Rattle.wrp_servo.specs.Sampling.{is_far}
 use Rattle.wrp_servo.specs.Tags.{PhaseIsSum, heard_tag, is_empty, tags, with_more}
@@ -49,7 +49,7 @@ use Rattle.wrp_world.specs.Moved.{moved}
 use Rattle.wrp_world.specs.Premises.{Accepts, beat_checks, sample_checks}
 use Rattle.wrp_world.specs.Run.{Happened, world_after}
 use Rattle.wrp_world.specs.Runs.{IsNetwork, IsRun}
-use Rattle.wrp_world.specs.Setting.{Setting, above, fixed_of, link_of, of_node}
+use Rattle.wrp_world.specs.Setting.{Setting, above, node_setting_of, link_of, of_node}
 use Rattle.wrp_world.specs.WorldAt.{WorldAt, delay_from, has_carrier, phase_of}
 use Rattle.wrp_world.proofs.RunTimes.{all_right, comes_up_down, not_up}
 use Rattle.wrp_truth.specs.Chains.{AllFit, ChainHasConstant, good_in, goods_since, phase_in}
@@ -87,8 +87,8 @@ pub record ChainRunLaws : Type 0 where
 
 -- The servo of a node
 
-abbrev set_at : Setting → ℕ → Settings
-set_at s n = settings_of (fixed_of s n)
+abbrev set_at : Setting → ℕ → ServoSetting
+set_at s n = servo_setting_of (node_setting_of s n)
 
 abbrev calls_at : Setting → List Happened → ℕ → List Call
 calls_at s events n = ((world_after s events).node n).calls
@@ -102,10 +102,10 @@ since_at s events n = ticks_since_good (set_at s n) (calls_at s events n)
 -- with a chain it has taken a good sample
 has_tags : ChainRunLaws → (s : Setting) (events : List Happened) (n : ℕ) → HasChain s n events → is_empty (tags_at s events n) ≡ false
 has_tags laws s events n chain =
-    let is : (world_after s events).node n ≡ node_after (fixed_of s n) ((world_after s events).inputs n) = node_is s events n in
-    let live : (servo_at (fixed_of s n) ((world_after s events).node n)).phase.fresh ≡ false =
-    subst (λ (m : NodeAt). (servo_at (fixed_of s n) m).phase.fresh ≡ false) (sym is)
-    (chain_live laws.unbroken (fixed_of s n) ((world_after s events).inputs n) (subst (λ (m : NodeAt). Stands (servo_at (fixed_of s n) m)) is chain)) in
+    let is : (world_after s events).node n ≡ node_after (node_setting_of s n) ((world_after s events).inputs n) = node_is s events n in
+    let live : (servo_at (node_setting_of s n) ((world_after s events).node n)).phase.fresh ≡ false =
+    subst (λ (m : NodeAt). (servo_at (node_setting_of s n) m).phase.fresh ≡ false) (sym is)
+    (chain_live laws.unbroken (node_setting_of s n) ((world_after s events).inputs n) (subst (λ (m : NodeAt). Stands (servo_at (node_setting_of s n) m)) is chain)) in
     sym (laws.sum (set_at s n) (calls_at s events n)).fresh ∙ live
 
 -- and its phase is their sum
@@ -118,7 +118,7 @@ phase_is laws s events n net chain =
 other_tags : (s : Setting) (h : Happened) (before : List Happened) (n : ℕ) → IsNoSampleOf n h.event → TagsAre (set_at s n) (tags_at s before n) (calls_at s (h ∷ before) n)
 other_tags s h before n none =
     node_kept (λ (m : NodeAt). TagsAre (set_at s n) (tags_at s before n) m.calls) IsNoSampleInput s h.says h.answer (world_after s before) h.event n
-    (λ t m q k. input_tags (fixed_of s n) (tags_at s before n) t m q k) (no_sample_to n h.event none) (λ e. refl)
+    (λ t m q k. input_tags (node_setting_of s n) (tags_at s before n) t m q k) (no_sample_to n h.event none) (λ e. refl)
 
 abbrev IsIdleOf : ℕ → Event → Type 0
 IsIdleOf n (Tick m) = n ≡ m → ⊥
@@ -147,15 +147,15 @@ idle_calm n e h = tt
 -- A sample of it
 
 sampled_node : (s : Setting) (says : Result PtpMsg FrameFault) (y : ℤ) (w : WorldAt) (n m base bits : ℕ) → n ≡ m →
-    (world_step s says y w (Sample m base bits)).node n ≡ (node_step (fixed_of s n) (taken_of y (given_plain n (SampleInput ((w.clock n).samples + 1) base bits))) (w.node n)).node
+    (world_step s says y w (Sample m base bits)).node n ≡ (node_step (node_setting_of s n) (taken_of y (given_plain n (SampleInput ((w.clock n).samples + 1) base bits))) (w.node n)).node
 sampled_node s says y w n m base bits same =
     let v : WorldAt = moved s w (Sample m base bits) in
     let g : Given = given_plain m (SampleInput (v.clock m).samples base bits) in
     let here : (n == m) ≡ true = ap (λ i. i == m) same ∙ eq_self m in
     let number : (v.clock m).samples ≡ (w.clock m).samples + 1 = ap (λ b. (if b then record (w.clock m) { samples = (w.clock m).samples + 1 } else w.clock m).samples) (eq_self m) in
     ap (λ b. if b then (step_of s y v g).node else w.node n) here
-    ∙ ap (λ k. (node_step (fixed_of s m) (taken_of y (given_plain m (SampleInput k base bits))) (w.node m)).node) number
-    ∙ ap (λ i. (node_step (fixed_of s i) (taken_of y (given_plain i (SampleInput ((w.clock i).samples + 1) base bits))) (w.node i)).node) (sym same)
+    ∙ ap (λ k. (node_step (node_setting_of s m) (taken_of y (given_plain m (SampleInput k base bits))) (w.node m)).node) number
+    ∙ ap (λ i. (node_step (node_setting_of s i) (taken_of y (given_plain i (SampleInput ((w.clock i).samples + 1) base bits))) (w.node i)).node) (sym same)
 
 -- what it hears of it
 abbrev heard_in : Setting → List Happened → ℕ → ℕ → ℕ → Option ℕ
@@ -165,7 +165,7 @@ not_far : (b : Bool) (l : List ℕ) → is_empty (cond b [] l) ≡ false → con
 not_far true l e = absurd (false≢true (sym e))
 not_far false l e = refl
 
-more_tags : (x : Settings) (ts : List ℕ) (o : Option ℕ) (tag : ℕ) → o ≡ Some tag → is_empty (with_more x ts o) ≡ false → with_more x ts o ≡ tag ∷ ts
+more_tags : (x : ServoSetting) (ts : List ℕ) (o : Option ℕ) (tag : ℕ) → o ≡ Some tag → is_empty (with_more x ts o) ≡ false → with_more x ts o ≡ tag ∷ ts
 more_tags x ts None tag e h = cc
 more_tags x ts (Some t) tag e h = not_far (is_far (unwrapped x.set.clock (t ∷ ts))) (t ∷ ts) h ∙ ap (λ z. z ∷ ts) (same_Some t tag e)
 
@@ -180,14 +180,14 @@ sampled law s says y before n m base bits same servo =
     let w : WorldAt = world_after s before in
     let number : ℕ = (w.clock n).samples + 1 in
     let t : Taken = taken_of y (given_plain n (SampleInput number base bits)) in
-    let is : (world_step s says y w (Sample m base bits)).node n ≡ (node_step (fixed_of s n) t (w.node n)).node = sampled_node s says y w n m base bits same in
+    let is : (world_step s says y w (Sample m base bits)).node n ≡ (node_step (node_setting_of s n) t (w.node n)).node = sampled_node s says y w n m base bits same in
     record {
-      tags_are = subst (λ (x : NodeAt). TagsAre (set_at s n) (with_more (set_at s n) (tags_at s before n) (heard_in s before n base bits)) x.calls) (sym is) (sample_tags (fixed_of s n) t (w.node n) number base bits refl servo);
-      since_is = subst (λ (x : NodeAt). SinceGood (set_at s n) (cond (is_some (heard_in s before n base bits)) 0 (since_at s before n)) x.calls) (sym is) (sample_since (fixed_of s n) t (w.node n) number base bits refl servo);
+      tags_are = subst (λ (x : NodeAt). TagsAre (set_at s n) (with_more (set_at s n) (tags_at s before n) (heard_in s before n base bits)) x.calls) (sym is) (sample_tags (node_setting_of s n) t (w.node n) number base bits refl servo);
+      since_is = subst (λ (x : NodeAt). SinceGood (set_at s n) (cond (is_some (heard_in s before n base bits)) 0 (since_at s before n)) x.calls) (sym is) (sample_since (node_setting_of s n) t (w.node n) number base bits refl servo);
       stood =
           λ none chain.
           sym (ap is_some (unheard_first (set_at s n) (w.node n).calls number base bits none))
-          ∙ sample_stood law (fixed_of s n) t (w.node n) number base bits refl servo (subst (λ (x : NodeAt). Stands (run (set_at s n) x.calls)) is chain);
+          ∙ sample_stood law (node_setting_of s n) t (w.node n) number base bits refl servo (subst (λ (x : NodeAt). Stands (run (set_at s n) x.calls)) is chain);
     }
 
 -- The tag of a good sample tells the true phase
@@ -456,7 +456,7 @@ idle_late : (s : Setting) (h : Happened) (before : List Happened) (n : ℕ) → 
 idle_late s h before n idle tm late =
     let ticks : since_at s (h ∷ before) n ≡ since_at s before n =
     node_kept (λ (m : NodeAt). SinceGood (set_at s n) (since_at s before n) m.calls) IsIdleInput s h.says h.answer (world_after s before) h.event n
-    (λ t m q k. input_since (fixed_of s n) (since_at s before n) t m q k) (idle_to n h.event idle) refl in
+    (λ t m q k. input_since (node_setting_of s n) (since_at s before n) t m q k) (idle_to n h.event idle) refl in
     subst (λ z. z ≤ℤ (tm +ℤ pos (since_at s (h ∷ before) n * longest_tick s.cfg))) (sym (same_last s h before n (idle_calm n h.event idle)))
     (subst (λ z. ((world_after s before).clock n).ticked ≤ℤ (tm +ℤ pos (z * longest_tick s.cfg))) (sym ticks) late)
 
@@ -474,7 +474,7 @@ tick_held laws s says y before m k link hop run is numbers chain same old =
     let servo : is_some (slave_of (s.set n)) ≡ true = has_servo s run.network n link (above_is s run.network k link is) in
     let node : _ = ticked_node s says y w n m same in
     let ticks : since_at s (h ∷ before) n ≡ since_at s before n + 1 =
-    subst (λ (x : NodeAt). SinceGood (set_at s n) (since_at s before n + 1) x.calls) (sym node.0) (tick_since (fixed_of s n) (since_at s before n) (taken_of y (given_plain m TickInput)) (w.node n) refl servo refl) in
+    subst (λ (x : NodeAt). SinceGood (set_at s n) (since_at s before n + 1) x.calls) (sym node.0) (tick_since (node_setting_of s n) (since_at s before n) (taken_of y (given_plain m TickInput)) (w.node n) refl servo refl) in
     other_held laws s h before k link hop run is numbers chain tt refl old
     (λ tm was late.
     subst (λ z. z ≤ℤ (tm +ℤ pos (since_at s (h ∷ before) n * longest_tick s.cfg))) (sym node.1)
@@ -491,16 +491,16 @@ sample_good : ChainRunLaws → (s : Setting) (says : Result PtpMsg FrameFault) (
     good_in s link.lower (record { event = Sample m base bits; says = says; answer = y }) before (Sample m base bits)
     ≡ Some (record { number = ((world_after s before).clock link.lower).samples + 1; tag = tag; u = phase_in s (world_after s (record { event = Sample m base bits; says = says; answer = y } ∷ before)) link.lower; at = length before + 1 }) →
     tags_at s (record { event = Sample m base bits; says = says; answer = y } ∷ before) link.lower ≡ tag ∷ tags_at s before link.lower → (c : Bool) →
-    is_some (servo_at (fixed_of s link.lower) ((world_after s before).node link.lower)).first ≡ c → Before s before k link hop → Held s (record { event = Sample m base bits; says = says; answer = y } ∷ before) k link hop
+    is_some (servo_at (node_setting_of s link.lower) ((world_after s before).node link.lower)).first ≡ c → Before s before k link hop → Held s (record { event = Sample m base bits; says = says; answer = y } ∷ before) k link hop
 sample_good laws s says y before m base bits k link hop tag run is numbers chain tells good more true stood old =
     one_good laws s (record { event = Sample m base bits; says = says; answer = y }) before k link hop tag run is numbers stood chain tells (all_time s says y (world_after s before) m base bits) good more (old stood)
 sample_good laws s says y before m base bits k link hop tag run is numbers chain tells good more false stood old =
     begin_at laws s (record { event = Sample m base bits; says = says; answer = y }) before k link hop tag run is numbers
-    (both_ways (is_some (servo_at (fixed_of s link.lower) ((world_after s before).node link.lower)).first) stood) chain tells good more
+    (both_ways (is_some (servo_at (node_setting_of s link.lower) ((world_after s before).node link.lower)).first) stood) chain tells good more
 
 sample_held : ChainRunLaws → (s : Setting) (says : Result PtpMsg FrameFault) (y : ℤ) (before : List Happened) (m base bits k : ℕ) (link : LinkCfg) (hop : HopNumbers) (o : Option ℕ) → IsRun s (record { event = Sample m base bits; says = says; answer = y } ∷ before) → bits < 2 ^ 64 →
     link_of s k ≡ Some link → numbers_of s.cfg link.lower ≡ Some hop → HasChain s link.lower (record { event = Sample m base bits; says = says; answer = y } ∷ before) → link.lower ≡ m → heard_in s before link.lower base bits ≡ o →
-    (c : Bool) → is_some (servo_at (fixed_of s link.lower) ((world_after s before).node link.lower)).first ≡ c → Before s before k link hop → Held s (record { event = Sample m base bits; says = says; answer = y } ∷ before) k link hop
+    (c : Bool) → is_some (servo_at (node_setting_of s link.lower) ((world_after s before).node link.lower)).first ≡ c → Before s before k link hop → Held s (record { event = Sample m base bits; says = says; answer = y } ∷ before) k link hop
 sample_held laws s says y before m base bits k link hop None run fits is numbers chain same heard c stood old =
     let n : ℕ = link.lower in
     let h : Happened = record { event = Sample m base bits; says = says; answer = y } in
@@ -543,7 +543,7 @@ step_held laws s says y before (Tick m) k link hop run fits is numbers chain old
 step_held laws s says y before (Sample m base bits) k link hop run fits is numbers chain old = elim (eqb_tells link.lower m) [
   | inl x ↦
       sample_held laws s says y before m base bits k link hop (heard_in s before link.lower base bits) run fits is numbers chain x.1 refl
-      (is_some (servo_at (fixed_of s link.lower) ((world_after s before).node link.lower)).first) refl old
+      (is_some (servo_at (node_setting_of s link.lower) ((world_after s before).node link.lower)).first) refl old
   | inr x ↦
       idle_held laws s (record { event = Sample m base bits; says = says; answer = y }) before k link hop run is numbers chain x.1
       (no_good_of (link.lower == m) _ x.0) (λ was. x.1) old

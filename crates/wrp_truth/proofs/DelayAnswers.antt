@@ -34,7 +34,7 @@ use Rattle.wrp_world.specs.Run.{Happened, world_after}
 use Rattle.wrp_world.specs.RunLaws.{HasTimes}
 use Rattle.wrp_world.specs.Runs.{IsRun, WasPutOut}
 use Rattle.wrp_world.specs.RunStamps.{ArrivedSo, DepartedSo}
-use Rattle.wrp_world.specs.Setting.{Setting, end_at, end_of, fixed_of, of_node}
+use Rattle.wrp_world.specs.Setting.{Setting, end_at, end_of, node_setting_of, of_node}
 use Rattle.wrp_world.specs.WorldAt.{Arrival, FrameAt, Sending, WorldAt, delay_from, has_carrier, reading}
 use Rattle.wrp_truth.proofs.Moving.{joined_is}
 use Rattle.wrp_world.proofs.RunGiven.{end_is}
@@ -168,7 +168,7 @@ stamp_told receive t requesting source e = cc
 
 -- the stamp of its reception
 abbrev stamp_at : (c : Given) (handed : List Happened) (raw : Raw) (sample : ℕ) → Stamp
-stamp_at c handed raw sample = stamp_of (fixed_of c.s c.link.upper) ((world_after c.s handed).node c.link.upper) c.link.upper_port raw sample
+stamp_at c handed raw sample = stamp_of (node_setting_of c.s c.link.upper) ((world_after c.s handed).node c.link.upper) c.link.upper_port raw sample
 
 time_told : (c : Given) (events : List Happened) (z : Sending) (receive : Ts) (requesting : PortIdentity) → z.message.body ≡ DelayResp receive requesting → (a : Asks c events z) →
     earlier_by receive z.message.head.correction ≡ (stamp_at c a.handed a.it.arrival.raw a.it.arrival.sample).value

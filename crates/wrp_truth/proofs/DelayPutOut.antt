@@ -14,7 +14,7 @@ use Rattle.wrp_frame.specs.declared.fault.FrameFault.{FrameFault}
 use Rattle.wrp_frame.specs.SentOctets.{octets_of}
 use Rattle.wrp_node.specs.declared.interface.Input.{Input}
 use Rattle.wrp_node.specs.declared.interface.Input.TheVariants.{Tick as TickInput, Sample as SampleInput, Frame, Sent, Carrier, Reset}
-use Rattle.wrp_node.specs.NodeAt.{Fixed, NodeAt, setting_of}
+use Rattle.wrp_node.specs.NodeAt.{NodeSetting, NodeAt, setting_of}
 use Rattle.wrp_node.specs.NodeStep.{stamp_of}
 use Rattle.wrp_port.specs.Messages.{response_of}
 use Rattle.wrp_world.specs.declared.event.Event.{Event}
@@ -25,7 +25,7 @@ use Rattle.wrp_world.specs.Moved.{moved}
 use Rattle.wrp_world.specs.Premises.{Accepts, is_forged}
 use Rattle.wrp_world.specs.Run.{Happened, world_after}
 use Rattle.wrp_world.specs.Runs.{IsNetwork, IsRun, WasPutOut}
-use Rattle.wrp_world.specs.Setting.{Setting, end_at, end_of, fixed_of, link_of, place_of}
+use Rattle.wrp_world.specs.Setting.{Setting, end_at, end_of, node_setting_of, link_of, place_of}
 use Rattle.wrp_world.specs.WorldAt.{Arrival, FrameAt, Sending, WorldAt}
 use Rattle.wrp_world.proofs.RunCarriers.{end_alike}
 use Rattle.wrp_world.proofs.RunGiven.{end_is}
@@ -63,7 +63,7 @@ sent_as I C v x (m ∷ ms) all it h = elim h [
 
 -- Delay_Resps
 
-no_answer : (fixed : Fixed) (n : NodeAt) (p : ℕ) (input : Input) (says : Result PtpMsg FrameFault) (z : PtpMsg) → IsNoFrame input → IsAnswerTo fixed n p input says z → ⊥
+no_answer : (fixed : NodeSetting) (n : NodeAt) (p : ℕ) (input : Input) (says : Result PtpMsg FrameFault) (z : PtpMsg) → IsNoFrame input → IsAnswerTo fixed n p input says z → ⊥
 no_answer fixed n p (Frame q octets raw sample) says z none h = absurd none
 no_answer fixed n p TickInput says z none h = h
 no_answer fixed n p (SampleInput number base bits) says z none h = h
@@ -72,15 +72,15 @@ no_answer fixed n p (Carrier q up own_module) says z none h = h
 no_answer fixed n p Reset says z none h = h
 
 given_resp : (s : Setting) (y : ℤ) (v : WorldAt) (g : Given) (k : ℕ) (link : LinkCfg) (x : Sending) → link_of s k ≡ Some link → IsResponse x.message.body → WasPutOut x ((gives s y v g).end_at k Master).sent →
-    WasPutOut x (v.end_at k Master).sent ⊎ ((link.upper ≡ g.to) × IsAnswerTo (fixed_of s g.to) (v.node g.to) link.upper_port g.input g.says x.message)
+    WasPutOut x (v.end_at k Master).sent ⊎ ((link.upper ≡ g.to) × IsAnswerTo (node_setting_of s g.to) (v.node g.to) link.upper_port g.input g.says x.message)
 given_resp s y v g k link x is it h =
     elim (given_put s y v g k Master link x is h) [
       | inl old ↦ inl old
       | inr new ↦
           inr (
             new.0,
-            (sent_as IsResponse (IsAnswerTo (fixed_of s g.to) (v.node g.to) link.upper_port g.input g.says) v x ((step_of s y v g).sends link.upper_port)
-                (responses_answer (fixed_of s g.to) _ (v.node g.to) link.upper_port) it new.1).is,
+            (sent_as IsResponse (IsAnswerTo (node_setting_of s g.to) (v.node g.to) link.upper_port g.input g.says) v x ((step_of s y v g).sends link.upper_port)
+                (responses_answer (node_setting_of s g.to) _ (v.node g.to) link.upper_port) it new.1).is,
           )
     ]
 
@@ -95,8 +95,8 @@ pub record AnsweredIn (s : Setting) (w : WorldAt) (e : Event) (k : ℕ) (link : 
   pub link_is : frame.link ≡ k
   pub by_is : frame.by ≡ Slave
   pub request : IsRequest frame.sending.message.body
-  pub hears : Hears (fixed_of s link.upper) (w.node link.upper) link.upper_port frame.sending.message
-  pub message : x.message ≡ response_of (setting_of (s.set link.upper) link.upper_port) frame.sending.message.head (stamp_of (fixed_of s link.upper) (w.node link.upper) link.upper_port arrival.raw arrival.sample)
+  pub hears : Hears (node_setting_of s link.upper) (w.node link.upper) link.upper_port frame.sending.message
+  pub message : x.message ≡ response_of (setting_of (s.set link.upper) link.upper_port) frame.sending.message.head (stamp_of (node_setting_of s link.upper) (w.node link.upper) link.upper_port arrival.raw arrival.sample)
 
 slave_of_other : (r : Role) → other_of r ≡ Master → r ≡ Slave
 slave_of_other Slave e = refl
@@ -132,7 +132,7 @@ handed_resp m y w i x f a (Some end) there arrived at it h =
     elim (given_resp s y (moved s w (Deliver i)) g m.k link x m.is it h) [
       | inl old ↦ inl old
       | inr new ↦
-          let an : Answers (fixed_of s end.node) (w.node end.node) link.upper_port (Ok f.sending.message) a.raw a.sample x.message = new.1.1 in
+          let an : Answers (node_setting_of s end.node) (w.node end.node) link.upper_port (Ok f.sending.message) a.raw a.sample x.message = new.1.1 in
           let alike : end_of Master link ≡ end = end_alike (end_of Master link) end new.0 new.1.0 in
           let end_there : (f.link ≡ m.k) × (other_of f.by ≡ Master) = are_apart s m.net f.link m.k (other_of f.by) Master end at (end_is s m.k Master link m.is ∙ ap Some alike) in
           let message : f.sending.message ≡ an.request = ok_is f.sending.message an.request an.says_it in
@@ -147,12 +147,12 @@ handed_resp m y w i x f a (Some end) there arrived at it h =
             by_is = slave_of_other f.by end_there.1;
             request = subst (λ (z : PtpMsg). IsRequest z.body) (sym message) an.is_request;
             hears =
-                subst (λ (z : PtpMsg). Hears (fixed_of s link.upper) (w.node link.upper) link.upper_port z) (sym message)
-                (subst (λ n. Hears (fixed_of s n) (w.node n) link.upper_port an.request) (sym new.0) an.hears);
+                subst (λ (z : PtpMsg). Hears (node_setting_of s link.upper) (w.node link.upper) link.upper_port z) (sym message)
+                (subst (λ n. Hears (node_setting_of s n) (w.node n) link.upper_port an.request) (sym new.0) an.hears);
             message =
                 an.is
-                ∙ ap (λ n. response_of (setting_of (s.set n) link.upper_port) an.request.head (stamp_of (fixed_of s n) (w.node n) link.upper_port a.raw a.sample)) (sym new.0)
-                ∙ ap (λ (z : PtpMsg). response_of (setting_of (s.set link.upper) link.upper_port) z.head (stamp_of (fixed_of s link.upper) (w.node link.upper) link.upper_port a.raw a.sample)) (sym message);
+                ∙ ap (λ n. response_of (setting_of (s.set n) link.upper_port) an.request.head (stamp_of (node_setting_of s n) (w.node n) link.upper_port a.raw a.sample)) (sym new.0)
+                ∙ ap (λ (z : PtpMsg). response_of (setting_of (s.set link.upper) link.upper_port) z.head (stamp_of (node_setting_of s link.upper) (w.node link.upper) link.upper_port a.raw a.sample)) (sym message);
           })
     ]
 
@@ -166,9 +166,9 @@ frame_resp m y w i x None there it h = inl h
 frame_resp m y w i x (Some f) there it h = arrival_resp m y w i x f f.arrival there refl it h
 
 -- octets that the peer did not send are not taken
-pub noise_unheard : (s : Setting) (says : Result PtpMsg FrameFault) (w : WorldAt) (n p : ℕ) (octets : Items ℕ) (raw : Raw) (node : NodeAt) (m : PtpMsg) → Accepts s w says (Noise n p octets raw) → says ≡ Ok m → Hears (fixed_of s n) node p m → ⊥
+pub noise_unheard : (s : Setting) (says : Result PtpMsg FrameFault) (w : WorldAt) (n p : ℕ) (octets : Items ℕ) (raw : Raw) (node : NodeAt) (m : PtpMsg) → Accepts s w says (Noise n p octets raw) → says ≡ Ok m → Hears (node_setting_of s n) node p m → ⊥
 noise_unheard s says w n p octets raw node m a is h =
-    false≢true (sym (sym (ap (is_forged s n p) is) ∙ not_forged s w n p says (place_of s n p) a) ∙ (heard_of_peer (fixed_of s n) node p m h).0)
+    false≢true (sym (sym (ap (is_forged s n p) is) ∙ not_forged s w n p says (place_of s n p) a) ∙ (heard_of_peer (node_setting_of s n) node p m h).0)
 
 noise_resp : (s : Setting) (says : Result PtpMsg FrameFault) (y : ℤ) (w : WorldAt) (n p : ℕ) (octets : Items ℕ) (raw : Raw) (k : ℕ) (link : LinkCfg) (x : Sending) → link_of s k ≡ Some link → Accepts s w says (Noise n p octets raw) → IsResponse x.message.body →
     WasPutOut x ((world_step s says y w (Noise n p octets raw)).end_at k Master).sent → WasPutOut x (w.end_at k Master).sent
@@ -178,8 +178,8 @@ noise_resp s says y w n p octets raw k link x is a it h =
     elim (given_resp s y v g k link x is it h) [
       | inl old ↦ moved_back s w (Noise n p octets raw) k Master x old
       | inr new ↦
-          let an : Answers (fixed_of s n) (w.node n) link.upper_port says raw (w.clock n).samples x.message = new.1.1 in
-          absurd (noise_unheard s says w n p octets raw (w.node n) an.request a an.says_it (subst (λ q. Hears (fixed_of s n) (w.node n) q an.request) new.1.0 an.hears))
+          let an : Answers (node_setting_of s n) (w.node n) link.upper_port says raw (w.clock n).samples x.message = new.1.1 in
+          absurd (noise_unheard s says w n p octets raw (w.node n) an.request a an.says_it (subst (λ q. Hears (node_setting_of s n) (w.node n) q an.request) new.1.0 an.hears))
     ]
 
 quiet_resp : (s : Setting) (says : Result PtpMsg FrameFault) (y : ℤ) (w : WorldAt) (e : Event) (k : ℕ) (link : LinkCfg) (x : Sending) → link_of s k ≡ Some link → GivesTo IsNoFrame link.upper e → IsResponse x.message.body →
@@ -187,8 +187,8 @@ quiet_resp : (s : Setting) (says : Result PtpMsg FrameFault) (y : ℤ) (w : Worl
 quiet_resp s says y w e k link x is none it h =
     none_put IsNoFrame s says y w e k Master link x is
     (λ v g input new.
-    no_answer (fixed_of s g.to) (v.node g.to) link.upper_port g.input g.says x.message input
-    (sent_as IsResponse (IsAnswerTo (fixed_of s g.to) (v.node g.to) link.upper_port g.input g.says) v x ((step_of s y v g).sends link.upper_port) (responses_answer (fixed_of s g.to) _ (v.node g.to) link.upper_port) it new).is) none h
+    no_answer (node_setting_of s g.to) (v.node g.to) link.upper_port g.input g.says x.message input
+    (sent_as IsResponse (IsAnswerTo (node_setting_of s g.to) (v.node g.to) link.upper_port g.input g.says) v x ((step_of s y v g).sends link.upper_port) (responses_answer (node_setting_of s g.to) _ (v.node g.to) link.upper_port) it new).is) none h
 
 event_resp : (s : Setting) → IsNetwork s → (says : Result PtpMsg FrameFault) (y : ℤ) (w : WorldAt) (e : Event) (k : ℕ) (link : LinkCfg) (x : Sending) → link_of s k ≡ Some link → Accepts s w says e → IsResponse x.message.body →
     WasPutOut x ((world_step s says y w e).end_at k Master).sent → WasPutOut x (w.end_at k Master).sent ⊎ AnsweredIn s w e k link x

@@ -17,7 +17,7 @@ use Rattle.wrp_exch.specs.declared.delay.Sent.{Sent}
 use Rattle.wrp_exch.specs.Call.{Call, CallStart}
 use Rattle.wrp_frame.specs.declared.fault.FrameFault.{FrameFault}
 use Rattle.wrp_node.specs.declared.interface.Input.TheVariants.{Sample as SampleInput, Tick as TickInput}
-use Rattle.wrp_node.specs.NodeAt.{Fixed, NodeAt, setting_of, settings_of, slave_of}
+use Rattle.wrp_node.specs.NodeAt.{NodeSetting, NodeAt, setting_of, servo_setting_of, slave_of}
 use Rattle.wrp_node.specs.NodeStep.{stamp_of}
 use Rattle.wrp_node.specs.Telling.{answer_of, with_news, with_sample}
 use Rattle.wrp_port.specs.declared.interface.PortIn.{PortIn}
@@ -26,7 +26,7 @@ use Rattle.wrp_port.specs.declared.setting.Setting.{Setting as PortSetting}
 use Rattle.wrp_port.specs.History.{calls_of}
 use Rattle.wrp_port.specs.Outputs.{only_slave, with_call}
 use Rattle.wrp_servo.specs.declared.interface.ServoOut.{ServoOut}
-use Rattle.wrp_servo.specs.Call.{Call as ServoCall, CallSample, Settings, run as servo_run}
+use Rattle.wrp_servo.specs.Call.{Call as ServoCall, CallSample, ServoSetting, run as servo_run}
 use Rattle.wrp_servo.specs.Sampling.{heard_as}
 use Rattle.wrp_servo.specs.Servo.{news_at, news_of}
 use Rattle.wrp_tracking.specs.DelayPieces.{PairTrue}
@@ -38,7 +38,7 @@ use Rattle.wrp_world.specs.Given.{Given as Told, given_plain, sending, taken_of}
 use Rattle.wrp_world.specs.Moved.{moved}
 use Rattle.wrp_world.specs.Run.{Happened, world_after}
 use Rattle.wrp_world.specs.Runs.{IsRun}
-use Rattle.wrp_world.specs.Setting.{Setting, end_at, end_of, fixed_of}
+use Rattle.wrp_world.specs.Setting.{Setting, end_at, end_of, node_setting_of}
 use Rattle.wrp_world.specs.WorldAt.{FrameAt, Sending, WorldAt}
 use Rattle.wrp_world.proofs.RunCarriers.{end_alike}
 use Rattle.wrp_world.proofs.RunGiven.{end_is}
@@ -123,7 +123,7 @@ brought c says y (Sample m base bits) before i j none h = λ is.
     let events : List Happened = record { event = Sample m base bits; says = says; answer = y } ∷ before in
     let w : WorldAt = world_after c.s before in
     out_told (Keeps c events) (news_asked (Waits c events) (Pairs c) (set_below c)) (sample_asked (Waits c events) (Pairs c) (set_below c))
-    (answer_of (fixed_of c.s c.link.lower) (Some (CallSample ((w.clock c.link.lower).samples + 1) base bits)) (w.node c.link.lower).calls) ((w.clock c.link.lower).samples + 1) (told_at c before) h
+    (answer_of (node_setting_of c.s c.link.lower) (Some (CallSample ((w.clock c.link.lower).samples + 1) base bits)) (w.node c.link.lower).calls) ((w.clock c.link.lower).samples + 1) (told_at c before) h
 brought c says y (Depart m q stamp) before i j none h = λ at_node at_port z rest delay queue request.
     let x : Happened = record { event = Depart m q stamp; says = says; answer = y } in
     let w : WorldAt = world_after c.s before in
@@ -137,12 +137,12 @@ brought c says y (Depart m q stamp) before i j none h = λ at_node at_port z res
 brought c says y (Deliver number) before i j none h = λ f a end there arrived at_end at_node at_port hears.
     let x : Happened = record { event = Deliver number; says = says; answer = y } in
     let w : WorldAt = world_after c.s before in
-    message_asked (Waits c (x ∷ before)) (Pairs c) (set_below c) (told_at c before) f.sending.message (stamp_of (fixed_of c.s c.link.lower) (w.node c.link.lower) c.link.lower_port a.raw a.sample) (w.node c.link.lower).ticks
+    message_asked (Waits c (x ∷ before)) (Pairs c) (set_below c) (told_at c before) f.sending.message (stamp_of (node_setting_of c.s c.link.lower) (w.node c.link.lower) c.link.lower_port a.raw a.sample) (w.node c.link.lower).ticks
     (message_fits c x before f f.sending.message.body i j (record { number = number; end = end; event = refl; there = there; at_end = at_end; at_node = at_node; at_port = at_port }) refl) h
 brought c says y (Noise m q octets raw) before i j none h = λ x at_node at_port is hears.
     let w : WorldAt = world_after c.s before in
     absurd (noise_unheard c.s says w m q octets raw (w.node c.link.lower) x (run_at c (record { event = Noise m q octets raw; says = says; answer = y } ∷ before) j).accepted.0 is
-    (subst (λ p. Hears (fixed_of c.s m) (w.node c.link.lower) p x) at_port (subst (λ n. Hears (fixed_of c.s n) (w.node c.link.lower) c.link.lower_port x) at_node hears)))
+    (subst (λ p. Hears (node_setting_of c.s m) (w.node c.link.lower) p x) at_port (subst (λ n. Hears (node_setting_of c.s n) (w.node c.link.lower) c.link.lower_port x) at_node hears)))
 brought c says y e before i j none h = tt
 
 other_keeps : (c : Given) (h : Happened) (before : List Happened) → Inside c before → Inside c (h ∷ before) → IsNoTickOf c.link.lower h.event → Keeps c before (told_at c before) → Keeps c (h ∷ before) (told_at c (h ∷ before))
@@ -161,7 +161,7 @@ tick_keeps c says y before run old =
     let n : ℕ = link.lower in
     let h : Happened = record { event = Tick n; says = says; answer = y } in
     let w : WorldAt = world_after s before in
-    let fixed : Fixed = fixed_of s n in
+    let fixed : NodeSetting = node_setting_of s n in
     let told : List PortIn = port_then s w Slave link in
     let mid : Keeps c before told = before_tick (Keeps c before) (news_asked (Waits c before) (Pairs c) (set_below c)) (λ t k. k) fixed (w.node n) link.lower_port old in
     let ticks : Keeps c (h ∷ before) (PortTick (locked_then s w n) (certain_then s w n) ∷ told) =
@@ -205,21 +205,21 @@ sample_starts c says y before base bits run stands begins =
     let w : WorldAt = world_after s before in
     let v : WorldAt = moved s w (Sample n base bits) in
     let g : Told = given_plain n (SampleInput (v.clock n).samples base bits) in
-    let x : Settings = settings_of (fixed_of s n) in
+    let x : ServoSetting = servo_setting_of (node_setting_of s n) in
     let calls : List ServoCall = (w.node n).calls in
     let call : ServoCall = CallSample (v.clock n).samples base bits in
     let slave : slave_of (s.set n) ≡ Some c.link.lower_port = has_slave s run.network n c.link (above_is s run.network c.k c.link c.is) in
     let node : (world_after s (h ∷ before)).node n ≡ _ = given_node s y v g n refl in
     let now : is_some (servo_run x (call ∷ calls)).first ≡ true =
-    sample_stood c.laws.samples.since (fixed_of s n) (taken_of y g) (w.node n) (v.clock n).samples base bits refl (ap is_some slave) (subst (λ (z : NodeAt). is_some (servo_run x z.calls).first ≡ true) node stands) in
+    sample_stood c.laws.samples.since (node_setting_of s n) (taken_of y g) (w.node n) (v.clock n).samples base bits refl (ap is_some slave) (subst (λ (z : NodeAt). is_some (servo_run x z.calls).first ≡ true) node stands) in
     let first : (first : ℕ) × (news_of (servo_run x calls).first (servo_run x (call ∷ calls)).first ≡ Started first) = started (servo_run x calls).first (servo_run x (call ∷ calls)).first begins now in
-    let out : ServoOut = answer_of (fixed_of s n) (Some call) calls in
+    let out : ServoOut = answer_of (node_setting_of s n) (Some call) calls in
     let chain : out.chain ≡ Started first.0 = news_told (heard_as (servo_run x calls) (v.clock n).samples base bits) (servo_run x (call ∷ calls)) (news_at x (servo_run x calls) call) ∙ first.1 in
     let begun : Keeps c (h ∷ before) (with_news out.chain (told_at c before)) =
     subst (λ z. Keeps c (h ∷ before) (with_news z (told_at c before))) (sym chain)
     (anew (Waits c (h ∷ before)) (Pairs c) (set_below c).ring first.0 (set_below c).ds.role (calls_of (set_below c) (told_at c before)) (role_is c.laws.opens.quiet.ends s run.network c.k Slave c.link c.is)) in
     subst (λ (z : NodeAt). Keeps c (h ∷ before) (z.told c.link.lower_port)) (sym node)
-    (sample_heard (Keeps c (h ∷ before)) (news_asked (Waits c (h ∷ before)) (Pairs c) (set_below c)) (fixed_of s n) g.says y (w.node n) c.link.lower_port (v.clock n).samples base bits slave
+    (sample_heard (Keeps c (h ∷ before)) (news_asked (Waits c (h ∷ before)) (Pairs c) (set_below c)) (node_setting_of s n) g.says y (w.node n) c.link.lower_port (v.clock n).samples base bits slave
     (with_any c (h ∷ before) out.unwrapped (v.clock n).samples (with_news out.chain (told_at c before)) begun))
 
 start_keeps : (c : Given) (says : Result PtpMsg FrameFault) (y : ℤ) (e : Event) (before : List Happened) → IsRun c.s (record { event = e; says = says; answer = y } ∷ before) → HasChain c.s c.link.lower (record { event = e; says = says; answer = y } ∷ before) →

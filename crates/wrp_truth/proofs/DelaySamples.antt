@@ -21,7 +21,7 @@ use Rattle.wrp_exch.specs.Chain.{first_sample, latched_phase, phase_since}
 use Rattle.wrp_exch.specs.Samples.{last_samples, phase_in, samples}
 use Rattle.wrp_frame.specs.declared.fault.FrameFault.{FrameFault}
 use Rattle.wrp_node.specs.declared.interface.Input.TheVariants.{Sample as SampleInput}
-use Rattle.wrp_node.specs.NodeAt.{NodeAt, certain_of, locked_of, setting_of, settings_of, slave_of}
+use Rattle.wrp_node.specs.NodeAt.{NodeAt, certain_of, locked_of, setting_of, servo_setting_of, slave_of}
 use Rattle.wrp_node.specs.NodeStep.{servo_ticked, stamp_of}
 use Rattle.wrp_node.specs.Telling.{answer_of, heard_of, with_news, with_sample}
 use Rattle.wrp_port.specs.declared.interface.PortIn.{PortIn}
@@ -34,7 +34,7 @@ use Rattle.wrp_port.specs.Outputs.{only_slave, with_call}
 use Rattle.wrp_servo.specs.declared.interface.ServoOut.{ServoOut}
 use Rattle.wrp_servo.specs.declared.machine.Core.{Core}
 use Rattle.wrp_servo.specs.declared.sampling.Heard.TheVariants.{Ignored, Lost, Followed}
-use Rattle.wrp_servo.specs.Call.{Call as ServoCall, CallSample as ServoSample, Settings, run}
+use Rattle.wrp_servo.specs.Call.{Call as ServoCall, CallSample as ServoSample, ServoSetting, run}
 use Rattle.wrp_servo.specs.Laws.{ChainSince, PhaseMovesByTags}
 use Rattle.wrp_servo.specs.Sampling.{good_tag, hears, is_far, tag_as, with_tag}
 use Rattle.wrp_servo.specs.Servo.{news_at, out_by}
@@ -47,7 +47,7 @@ use Rattle.wrp_world.specs.Given.{Given, given_plain, taken_of}
 use Rattle.wrp_world.specs.Moved.{moved}
 use Rattle.wrp_world.specs.Run.{Happened, world_after}
 use Rattle.wrp_world.specs.Runs.{IsRun}
-use Rattle.wrp_world.specs.Setting.{Setting, fixed_of, link_of}
+use Rattle.wrp_world.specs.Setting.{Setting, node_setting_of, link_of}
 use Rattle.wrp_world.specs.WorldAt.{WorldAt}
 use Rattle.wrp_world.proofs.RunTimes.{comes_up_down, not_up}
 use Rattle.wrp_truth.specs.Chains.{good_in, goods_since, phase_in as unwrapped_in}
@@ -110,11 +110,11 @@ tick_each B set told locked certain h = due_each B set.ds.role (requests_on (tic
 
 each_brings : (B : GoodSample → Type 0) (set : PortSetting) (s : Setting) (w : WorldAt) (says : Result PtpMsg FrameFault) (n p : ℕ) (e : Event) → IsNoSampleOf n e → EachOf B set ((w.node n).told p) → Brings (EachOf B set) s w says n p e
 each_brings B set s w says n p (Tick m) none h = λ is.
-    tick_each B set ((servo_ticked (fixed_of s n) (w.node n)).node.told p) (locked_of (fixed_of s n) (servo_ticked (fixed_of s n) (w.node n)).node) (certain_of (fixed_of s n) (servo_ticked (fixed_of s n) (w.node n)).node) (before_tick (EachOf B set) (news_each B set) (λ told k. k) (fixed_of s n) (w.node n) p h)
+    tick_each B set ((servo_ticked (node_setting_of s n) (w.node n)).node.told p) (locked_of (node_setting_of s n) (servo_ticked (node_setting_of s n) (w.node n)).node) (certain_of (node_setting_of s n) (servo_ticked (node_setting_of s n) (w.node n)).node) (before_tick (EachOf B set) (news_each B set) (λ told k. k) (node_setting_of s n) (w.node n) p h)
 each_brings B set s w says n p (Sample m base bits) none h = λ is. absurd (none is)
 each_brings B set s w says n p (Depart m q stamp) none h = λ a b x rest delay queue is. sending_each B set ((w.node n).told p) x.message.head.seq (w.node n).ticks delay (record { value = stamp; sample = (w.clock m).samples }) h
-each_brings B set s w says n p (Deliver i) none h = λ f a end there arrived at_end at_node at_port hears. message_each B set ((w.node n).told p) f.sending.message (stamp_of (fixed_of s n) (w.node n) p a.raw a.sample) (w.node n).ticks h
-each_brings B set s w says n p (Noise m q octets raw) none h = λ x at_node at_port is hears. message_each B set ((w.node n).told p) x (stamp_of (fixed_of s n) (w.node n) p raw (w.clock m).samples) (w.node n).ticks h
+each_brings B set s w says n p (Deliver i) none h = λ f a end there arrived at_end at_node at_port hears. message_each B set ((w.node n).told p) f.sending.message (stamp_of (node_setting_of s n) (w.node n) p a.raw a.sample) (w.node n).ticks h
+each_brings B set s w says n p (Noise m q octets raw) none h = λ x at_node at_port is hears. message_each B set ((w.node n).told p) x (stamp_of (node_setting_of s n) (w.node n) p raw (w.clock m).samples) (w.node n).ticks h
 each_brings B set s w says n p _ none h = tt
 
 -- A sample of the node
@@ -173,10 +173,10 @@ calm_each B s h before link calm k =
 
 -- what its tag is, if it is good
 abbrev heard_in : Setting → List Happened → ℕ → ℕ → ℕ → Option ℕ
-heard_in s before n base bits = heard_tag (settings_of (fixed_of s n)) ((world_after s before).node n).calls (count_at s before n + 1) base bits
+heard_in s before n base bits = heard_tag (servo_setting_of (node_setting_of s n)) ((world_after s before).node n).calls (count_at s before n + 1) base bits
 
 abbrev sampled_core : Setting → List Happened → ℕ → ℕ → ℕ → Core
-sampled_core s before n base bits = run (settings_of (fixed_of s n)) (ServoSample (count_at s before n + 1) base bits ∷ ((world_after s before).node n).calls)
+sampled_core s before n base bits = run (servo_setting_of (node_setting_of s n)) (ServoSample (count_at s before n + 1) base bits ∷ ((world_after s before).node n).calls)
 
 sample_event : (B C : GoodSample → Type 0) (s : Setting) (says : Result PtpMsg FrameFault) (y : ℤ) (before : List Happened) (base bits : ℕ) (link : LinkCfg) →
     ((u : ℤ) (tag : ℕ) → heard_in s before link.lower base bits ≡ Some tag → u ≡ (sampled_core s before link.lower base bits).phase.u → C (record { number = count_at s before link.lower + 1; phase = u })) → ((g : GoodSample) → B g → C g) → EachAt B s link before →
@@ -189,8 +189,8 @@ sample_event B C s says y before base bits link new weaker h =
     let number : (v.clock n).samples ≡ count_at s before n + 1 = ap (λ b. (if b then record (w.clock n) { samples = (w.clock n).samples + 1 } else w.clock n).samples) (eq_self n) in
     let told : List PortIn = (w.node n).told link.lower_port in
     subst (λ (z : NodeAt). EachOf C (set_below s link) (z.told link.lower_port)) (sym (given_node s y v g n refl))
-    (sample_told (EachOf C (set_below s link)) (news_each C (set_below s link)) (fixed_of s n) g.says y (w.node n) link.lower_port (v.clock n).samples base bits
-    (subst (λ i. EachOf C (set_below s link) (heard_of (answer_of (fixed_of s n) (Some (ServoSample i base bits)) (w.node n).calls) i told)) (sym number) (heard (heard_in s before n base bits) refl))
+    (sample_told (EachOf C (set_below s link)) (news_each C (set_below s link)) (node_setting_of s n) g.says y (w.node n) link.lower_port (v.clock n).samples base bits
+    (subst (λ i. EachOf C (set_below s link) (heard_of (answer_of (node_setting_of s n) (Some (ServoSample i base bits)) (w.node n).calls) i told)) (sym number) (heard (heard_in s before n base bits) refl))
     (each_less (samples (calls_of (set_below s link) told)) h))
   where
     each_less : (gs : List GoodSample) → AllByRecursion B gs → AllByRecursion C gs
@@ -198,18 +198,18 @@ sample_event B C s says y before base bits link new weaker h =
     each_less (x ∷ gs) k = (weaker x k.0, each_less gs k.1)
 
     heard : (o : Option ℕ) → heard_in s before link.lower base bits ≡ o →
-        EachOf C (set_below s link) (heard_of (answer_of (fixed_of s link.lower) (Some (ServoSample (count_at s before link.lower + 1) base bits)) ((world_after s before).node link.lower).calls) (count_at s before link.lower + 1) (((world_after s before).node link.lower).told link.lower_port))
+        EachOf C (set_below s link) (heard_of (answer_of (node_setting_of s link.lower) (Some (ServoSample (count_at s before link.lower + 1) base bits)) ((world_after s before).node link.lower).calls) (count_at s before link.lower + 1) (((world_after s before).node link.lower).told link.lower_port))
     heard None e =
-        let x : Settings = settings_of (fixed_of s link.lower) in
+        let x : ServoSetting = servo_setting_of (node_setting_of s link.lower) in
         let core : Core = run x ((world_after s before).node link.lower).calls in
         let call : ServoCall = ServoSample (count_at s before link.lower + 1) base bits in
-        heard_each B C (set_below s link) (answer_of (fixed_of s link.lower) (Some call) ((world_after s before).node link.lower).calls) (count_at s before link.lower + 1) (((world_after s before).node link.lower).told link.lower_port) None
+        heard_each B C (set_below s link) (answer_of (node_setting_of s link.lower) (Some call) ((world_after s before).node link.lower).calls) (count_at s before link.lower + 1) (((world_after s before).node link.lower).told link.lower_port) None
         (unheard_out core (sampled_core s before link.lower base bits) (news_at x core call) (hears core) (good_tag core.last (count_at s before link.lower + 1) base bits) e) (λ u f. absurd (none-some u f)) weaker h
     heard (Some tag) e =
-        let x : Settings = settings_of (fixed_of s link.lower) in
+        let x : ServoSetting = servo_setting_of (node_setting_of s link.lower) in
         let core : Core = run x ((world_after s before).node link.lower).calls in
         let call : ServoCall = ServoSample (count_at s before link.lower + 1) base bits in
-        heard_each B C (set_below s link) (answer_of (fixed_of s link.lower) (Some call) ((world_after s before).node link.lower).calls) (count_at s before link.lower + 1) (((world_after s before).node link.lower).told link.lower_port)
+        heard_each B C (set_below s link) (answer_of (node_setting_of s link.lower) (Some call) ((world_after s before).node link.lower).calls) (count_at s before link.lower + 1) (((world_after s before).node link.lower).told link.lower_port)
         (Some (sampled_core s before link.lower base bits).phase.u)
         (heard_out core (sampled_core s before link.lower base bits) (news_at x core call) (hears core) (good_tag core.last (count_at s before link.lower + 1) base bits) tag e)
         (λ u f. new u tag e (sym (same_Some (sampled_core s before link.lower base bits).phase.u u f))) weaker h
@@ -270,11 +270,11 @@ phase_sampled law s says y before base bits n servo =
     let w : WorldAt = world_after s before in
     let v : WorldAt = moved s w (Sample n base bits) in
     let g : Given = given_plain n (SampleInput (v.clock n).samples base bits) in
-    let x : Settings = settings_of (fixed_of s n) in
+    let x : ServoSetting = servo_setting_of (node_setting_of s n) in
     let calls : List ServoCall = (w.node n).calls in
     let number : (v.clock n).samples ≡ count_at s before n + 1 = ap (λ b. (if b then record (w.clock n) { samples = (w.clock n).samples + 1 } else w.clock n).samples) (eq_self n) in
     ap (λ (z : NodeAt). (run x z.calls).phase.u) (given_node s y v g n refl)
-    ∙ sample_keeps (λ now. (run x now).phase.u ≡ (run x (ServoSample (v.clock n).samples base bits ∷ calls)).phase.u) (phase_kept law x (run x (ServoSample (v.clock n).samples base bits ∷ calls)).phase.u) (fixed_of s n) (taken_of y g) (w.node n)
+    ∙ sample_keeps (λ now. (run x now).phase.u ≡ (run x (ServoSample (v.clock n).samples base bits ∷ calls)).phase.u) (phase_kept law x (run x (ServoSample (v.clock n).samples base bits ∷ calls)).phase.u) (node_setting_of s n) (taken_of y g) (w.node n)
     (v.clock n).samples base bits refl servo refl
     ∙ ap (λ i. (run x (ServoSample i base bits ∷ calls)).phase.u) number
 

@@ -25,7 +25,7 @@ use Rattle.wrp_link.specs.LinkAt.{LinkAt}
 use Rattle.wrp_node.specs.declared.interface.Input.{Input}
 use Rattle.wrp_node.specs.declared.interface.Input.TheVariants.{Tick as TickInput, Sample as SampleInput, Frame, Sent, Carrier, Reset}
 use Rattle.wrp_node.specs.Laws.{StepSettles}
-use Rattle.wrp_node.specs.NodeAt.{Fixed, NodeAt, Taken, deltas_at, deltas_in, is_fresh_at, is_fresh_in, line_at, numbers_of, pieces_at, port_of, setting_of, settings_of, slave_of}
+use Rattle.wrp_node.specs.NodeAt.{NodeSetting, NodeAt, Taken, deltas_at, deltas_in, is_fresh_at, is_fresh_in, line_at, numbers_of, pieces_at, port_of, setting_of, servo_setting_of, slave_of}
 use Rattle.wrp_node.specs.NodeStep.{heard, heard_unless, measured, measured_at, measurement_by, node_step, stepped, used}
 use Rattle.wrp_node.specs.StepLaws.{CommandsAreHeld}
 use Rattle.wrp_node.specs.Telling.{Step, called, for_slave, is_changed, lease_change, link_change, settled, with_lease}
@@ -37,7 +37,7 @@ use Rattle.wrp_port.specs.Hearing.{early_reason, link_input, piece_of, renews}
 use Rattle.wrp_port.specs.History.{input_unless, is_fresh, is_fresh_at as is_left, link_by, link_inputs, link_of, since_renewal, with_input, zero_where}
 use Rattle.wrp_port.specs.Outputs.{call_of, is_kept, pairs, piece_unless}
 use Rattle.wrp_port.specs.PortAt.{deltas_of}
-use Rattle.wrp_servo.specs.Call.{Call, CallSample, CallMeasured, CallTick, CallLease, CallLink, CallCarrier, CallReset, Settings, run}
+use Rattle.wrp_servo.specs.Call.{Call, CallSample, CallMeasured, CallTick, CallLease, CallLink, CallCarrier, CallReset, ServoSetting, run}
 use Rattle.wrp_servo.specs.declared.machine.Core.{Core}
 use Rattle.wrp_servo.specs.Laws.{NoStepInTrack}
 use Rattle.wrp_servo.specs.Sampling.{is_holdover}
@@ -51,7 +51,7 @@ use Rattle.wrp_world.specs.Given.{Given, at_ports, comes_from, delivered, delive
 use Rattle.wrp_world.specs.Moved.{moved}
 use Rattle.wrp_world.specs.Run.{Happened, world_after}
 use Rattle.wrp_world.specs.Runs.{IsNetwork, IsRun}
-use Rattle.wrp_world.specs.Setting.{Setting, end_at, fixed_of}
+use Rattle.wrp_world.specs.Setting.{Setting, end_at, node_setting_of}
 use Rattle.wrp_world.specs.WorldAt.{Arrival, FrameAt, WorldAt}
 use Rattle.wrp_world.proofs.RunGifts.{comes_all, ports_all}
 use Rattle.wrp_world.proofs.RunTimes.{comes_up_down, not_up}
@@ -116,12 +116,12 @@ link_used : (b : Bool) (set : PortSetting) (told : List PortIn) (m : PtpMsg) (st
 link_used true set told m stamp tick h = link_heard set told m stamp tick (h refl)
 link_used false set told m stamp tick h = refl
 
-node_fresh : (fixed : Fixed) (n : NodeAt) (q : ℕ) (m : PtpMsg) (stamp : Stamp) (tick : ℕ) (o : Option ℕ) → renews (setting_of fixed.set q).ds.role m.head m.body ≡ false → is_fresh_at fixed.set (used fixed q (Msg m stamp tick) n).node o ≡ is_fresh_at fixed.set n o
+node_fresh : (fixed : NodeSetting) (n : NodeAt) (q : ℕ) (m : PtpMsg) (stamp : Stamp) (tick : ℕ) (o : Option ℕ) → renews (setting_of fixed.set q).ds.role m.head m.body ≡ false → is_fresh_at fixed.set (used fixed q (Msg m stamp tick) n).node o ≡ is_fresh_at fixed.set n o
 node_fresh fixed n q m stamp tick None e = refl
 node_fresh fixed n q m stamp tick (Some p) e =
     fresh_used (p == q) (setting_of fixed.set p) (n.told p) m stamp tick (λ same. subst (λ i. renews (setting_of fixed.set i).ds.role m.head m.body ≡ false) (sym (eqb-true p q same)) e)
 
-node_deltas : (fixed : Fixed) (n : NodeAt) (q : ℕ) (m : PtpMsg) (stamp : Stamp) (tick : ℕ) (o : Option ℕ) → link_input (setting_of fixed.set q).ds.role m.body ≡ None → deltas_at fixed.set (used fixed q (Msg m stamp tick) n).node o ≡ deltas_at fixed.set n o
+node_deltas : (fixed : NodeSetting) (n : NodeAt) (q : ℕ) (m : PtpMsg) (stamp : Stamp) (tick : ℕ) (o : Option ℕ) → link_input (setting_of fixed.set q).ds.role m.body ≡ None → deltas_at fixed.set (used fixed q (Msg m stamp tick) n).node o ≡ deltas_at fixed.set n o
 node_deltas fixed n q m stamp tick None e = refl
 node_deltas fixed n q m stamp tick (Some p) e =
     ap (λ (l : LinkAt). deltas_of (port_of fixed.set p).role l)
@@ -130,7 +130,7 @@ node_deltas fixed n q m stamp tick (Some p) e =
 -- So nothing else is told
 
 -- the servo knows of the lease and of the link
-pub record Knows (fixed : Fixed) (n : NodeAt) : Type 0 where
+pub record Knows (fixed : NodeSetting) (n : NodeAt) : Type 0 where
   pub lease : lease_told n.calls ≡ is_fresh_in fixed.set n
   pub link : is_some (link_told n.calls) ≡ is_some (deltas_in fixed.set n)
 
@@ -141,7 +141,7 @@ no_change true true false call e = absurd (false≢true (sym e))
 no_change true false true call e = absurd (false≢true e)
 no_change false told now call e = refl
 
-told_alone : (fixed : Fixed) (n : NodeAt) (q : ℕ) (m : PtpMsg) (stamp : Stamp) (tick : ℕ) (answer : ℤ) (four : Four) → is_some (slave_of fixed.set) ≡ true → Knows fixed n → measured_at fixed n q (Msg m stamp tick) ≡ Some four →
+told_alone : (fixed : NodeSetting) (n : NodeAt) (q : ℕ) (m : PtpMsg) (stamp : Stamp) (tick : ℕ) (answer : ℤ) (four : Four) → is_some (slave_of fixed.set) ≡ true → Knows fixed n → measured_at fixed n q (Msg m stamp tick) ≡ Some four →
     (settled fixed (measured fixed q (Msg m stamp tick) answer n)).node.calls ≡ CallMeasured four answer ∷ n.calls
 told_alone fixed n q m stamp tick answer four servo knows e =
     let input : PortIn = Msg m stamp tick in
@@ -171,17 +171,17 @@ pub record IsOut (v : Core) : Type 0 where
   pub track : is_track v.state ≡ true → ⊥
   pub held : is_holdover v.state ≡ true → ⊥
 
-out_stays : HoldLaws → (x : Settings) → 0 < x.set.holdover → (calls : List Call) (c : Call) → IsNoMeasure c → IsOut (run x calls) → IsOut (run x (c ∷ calls))
+out_stays : HoldLaws → (x : ServoSetting) → 0 < x.set.holdover → (calls : List Call) (c : Call) → IsNoMeasure c → IsOut (run x calls) → IsOut (run x (c ∷ calls))
 out_stays laws x some calls c h out = record {
   track = λ e. out.track (tracked_before laws.track x calls c h e);
   held = λ e. elim (held_before laws.held x calls c some e) [ inl track ↦ out.track track | inr held ↦ out.held held ];
 }
 
-abbrev OutAt : Fixed → NodeAt → Type 0
-OutAt fixed m = IsOut (run (settings_of fixed) m.calls)
+abbrev OutAt : NodeSetting → NodeAt → Type 0
+OutAt fixed m = IsOut (run (servo_setting_of fixed) m.calls)
 
-abbrev Lasts : Fixed → Type 0
-Lasts fixed = 0 < (settings_of fixed).set.holdover
+abbrev Lasts : NodeSetting → Type 0
+Lasts fixed = 0 < (servo_setting_of fixed).set.holdover
 
 telling_no_measure : (c : Call) → IsTelling c → IsNoMeasure c
 telling_no_measure (CallLease fresh) h = tt
@@ -192,8 +192,8 @@ telling_no_measure CallTick h = absurd h
 telling_no_measure (CallCarrier up) h = absurd h
 telling_no_measure CallReset h = absurd h
 
-telling_out : HoldLaws → (fixed : Fixed) → Lasts fixed → KeptBy IsTelling (λ calls. IsOut (run (settings_of fixed) calls))
-telling_out laws fixed some calls c ok k = out_stays laws (settings_of fixed) some calls c (telling_no_measure c ok) k
+telling_out : HoldLaws → (fixed : NodeSetting) → Lasts fixed → KeptBy IsTelling (λ calls. IsOut (run (servo_setting_of fixed) calls))
+telling_out laws fixed some calls c ok k = out_stays laws (servo_setting_of fixed) some calls c (telling_no_measure c ok) k
 
 -- by inputs that are no frame
 brings_none : (input : Input) → IsNoFrame input → Brings IsNoMeasure input
@@ -204,37 +204,37 @@ brings_none (Sent p seq delay stamp) h = tt
 brings_none (Carrier p up own_module) h = tt
 brings_none Reset h = tt
 
-plain_out : HoldLaws → (fixed : Fixed) → Lasts fixed → (t : Taken) (m : NodeAt) → IsNoFrame t.input → OutAt fixed m → OutAt fixed (node_step fixed t m).node
+plain_out : HoldLaws → (fixed : NodeSetting) → Lasts fixed → (t : Taken) (m : NodeAt) → IsNoFrame t.input → OutAt fixed m → OutAt fixed (node_step fixed t m).node
 plain_out laws fixed some t m h out =
-    step_keeps IsNoMeasure (λ calls. IsOut (run (settings_of fixed) calls)) (λ calls c ok k. out_stays laws (settings_of fixed) some calls c ok k) (telling_out laws fixed some) fixed t m (brings_none t.input h) out
+    step_keeps IsNoMeasure (λ calls. IsOut (run (servo_setting_of fixed) calls)) (λ calls c ok k. out_stays laws (servo_setting_of fixed) some calls c ok k) (telling_out laws fixed some) fixed t m (brings_none t.input h) out
 
 -- by a frame it may come to TRACK, but not to HOLDOVER
-abbrev NotHeld : Fixed → NodeAt → Type 0
-NotHeld fixed m = is_holdover (run (settings_of fixed) m.calls).state ≡ true → ⊥
+abbrev NotHeld : NodeSetting → NodeAt → Type 0
+NotHeld fixed m = is_holdover (run (servo_setting_of fixed) m.calls).state ≡ true → ⊥
 
-untold_out : HoldLaws → (fixed : Fixed) → Lasts fixed → (n : NodeAt) (s : Step) → s.node.calls ≡ n.calls → OutAt fixed n → NotHeld fixed (settled fixed s).node
+untold_out : HoldLaws → (fixed : NodeSetting) → Lasts fixed → (n : NodeAt) (s : Step) → s.node.calls ≡ n.calls → OutAt fixed n → NotHeld fixed (settled fixed s).node
 untold_out laws fixed some n s same out e =
-    (settled_keeps (λ calls. IsOut (run (settings_of fixed) calls)) (telling_out laws fixed some) fixed s (subst (λ l. IsOut (run (settings_of fixed) l)) (sym same) out)).held e
+    (settled_keeps (λ calls. IsOut (run (servo_setting_of fixed) calls)) (telling_out laws fixed some) fixed s (subst (λ l. IsOut (run (servo_setting_of fixed) l)) (sym same) out)).held e
 
-measured_out : HoldLaws → (fixed : Fixed) → Lasts fixed → is_some (slave_of fixed.set) ≡ true → (n : NodeAt) → Knows fixed n → OutAt fixed n → (q : ℕ) (m : PtpMsg) (stamp : Stamp) (tick : ℕ) (answer : ℤ) (o : Option Four) →
+measured_out : HoldLaws → (fixed : NodeSetting) → Lasts fixed → is_some (slave_of fixed.set) ≡ true → (n : NodeAt) → Knows fixed n → OutAt fixed n → (q : ℕ) (m : PtpMsg) (stamp : Stamp) (tick : ℕ) (answer : ℤ) (o : Option Four) →
     measured_at fixed n q (Msg m stamp tick) ≡ o → NotHeld fixed (settled fixed (measured fixed q (Msg m stamp tick) answer n)).node
 measured_out laws fixed some servo n knows out q m stamp tick answer None e =
     untold_out laws fixed some n (measured fixed q (Msg m stamp tick) answer n)
     (ap (λ (o : Option Four). called (for_slave fixed (measurement_by o answer)) n.calls) e ∙ ap (λ (b : Bool). called (if b then None else None) n.calls) servo) out
 measured_out laws fixed some servo n knows out q m stamp tick answer (Some four) e = λ h.
-    let x : Settings = settings_of fixed in
+    let x : ServoSetting = servo_setting_of fixed in
     let held : is_holdover (run x (CallMeasured four answer ∷ n.calls)).state ≡ true = subst (λ l. is_holdover (run x l).state ≡ true) (told_alone fixed n q m stamp tick answer four servo knows e) h in
     elim (held_before laws.held x n.calls (CallMeasured four answer) some held) [
       | inl track ↦ out.track track
       | inr was ↦ out.held was
     ]
 
-message_out : HoldLaws → (fixed : Fixed) → Lasts fixed → is_some (slave_of fixed.set) ≡ true → (n : NodeAt) → Knows fixed n → OutAt fixed n → (q : ℕ) (m : PtpMsg) (stamp : Stamp) (tick : ℕ) (answer : ℤ) (reason : Option Reason) →
+message_out : HoldLaws → (fixed : NodeSetting) → Lasts fixed → is_some (slave_of fixed.set) ≡ true → (n : NodeAt) → Knows fixed n → OutAt fixed n → (q : ℕ) (m : PtpMsg) (stamp : Stamp) (tick : ℕ) (answer : ℤ) (reason : Option Reason) →
     NotHeld fixed (settled fixed (heard_unless reason fixed q (Msg m stamp tick) answer n)).node
 message_out laws fixed some servo n knows out q m stamp tick answer None = measured_out laws fixed some servo n knows out q m stamp tick answer (measured_at fixed n q (Msg m stamp tick)) refl
 message_out laws fixed some servo n knows out q m stamp tick answer (Some reason) = untold_out laws fixed some n (heard_unless (Some reason) fixed q (Msg m stamp tick) answer n) refl out
 
-frame_out : HoldLaws → (fixed : Fixed) → Lasts fixed → is_some (slave_of fixed.set) ≡ true → (n : NodeAt) → Knows fixed n → OutAt fixed n → (p : ℕ) (octets : Items ℕ) (raw : Raw) (sample : ℕ) (says : Result PtpMsg FrameFault) (answer : ℤ) →
+frame_out : HoldLaws → (fixed : NodeSetting) → Lasts fixed → is_some (slave_of fixed.set) ≡ true → (n : NodeAt) → Knows fixed n → OutAt fixed n → (p : ℕ) (octets : Items ℕ) (raw : Raw) (sample : ℕ) (says : Result PtpMsg FrameFault) (answer : ℤ) →
     NotHeld fixed (settled fixed (heard fixed p says raw sample answer n)).node
 frame_out laws fixed some servo n knows out p octets raw sample (Err fault) answer = untold_out laws fixed some n (heard fixed p (Err fault) raw sample answer n) refl out
 frame_out laws fixed some servo n knows out p octets raw sample (Ok m) answer =
@@ -250,14 +250,14 @@ pub record EnterLaws : Type 0 where
 
 -- what an event finds of a node that is up
 pub record Found (s : Setting) (w : WorldAt) (n : ℕ) : Type 0 where
-  pub lasts : Lasts (fixed_of s n)
+  pub lasts : Lasts (node_setting_of s n)
   pub servo : is_some (slave_of (s.set n)) ≡ true
-  pub knows : Knows (fixed_of s n) (w.node n)
-  pub out : OutAt (fixed_of s n) (w.node n)
+  pub knows : Knows (node_setting_of s n) (w.node n)
+  pub out : OutAt (node_setting_of s n) (w.node n)
 
-handed_out : HoldLaws → (s : Setting) (w v : WorldAt) (y : ℤ) (g : Given) (n p : ℕ) (octets : Items ℕ) (raw : Raw) (sample : ℕ) → Found s w n → v.node ≡ w.node → g.input ≡ Frame p octets raw sample → NotHeld (fixed_of s n) ((gives s y v g).node n)
+handed_out : HoldLaws → (s : Setting) (w v : WorldAt) (y : ℤ) (g : Given) (n p : ℕ) (octets : Items ℕ) (raw : Raw) (sample : ℕ) → Found s w n → v.node ≡ w.node → g.input ≡ Frame p octets raw sample → NotHeld (node_setting_of s n) ((gives s y v g).node n)
 handed_out laws s w v y g n p octets raw sample f same is =
-    let fixed : Fixed = fixed_of s n in
+    let fixed : NodeSetting = node_setting_of s n in
     let here : NotHeld fixed (settled fixed (stepped fixed (Frame p octets raw sample) g.says y (w.node n))).node =
     frame_out laws fixed f.lasts f.servo (w.node n) f.knows f.out p octets raw sample g.says y in
     node_given (NotHeld fixed) s y v g n
@@ -265,25 +265,25 @@ handed_out laws s w v y g n p octets raw sample f same is =
     (subst (λ (z : ℕ → NodeAt). NotHeld fixed (settled fixed (stepped fixed (Frame p octets raw sample) g.says y (z n))).node) (sym same) here))
     (subst (λ (z : ℕ → NodeAt). NotHeld fixed (z n)) (sym same) f.out.held)
 
-end_out : HoldLaws → (s : Setting) (w v : WorldAt) (y : ℤ) (f : FrameAt) (a : Arrival) (o : Option End) (n : ℕ) → Found s w n → v.node ≡ w.node → NotHeld (fixed_of s n) ((gives_all s y v (option_map_or (λ end. delivered_to f a end.node end.port) o [])).node n)
-end_out laws s w v y f a None n found same = subst (λ (z : ℕ → NodeAt). NotHeld (fixed_of s n) (z n)) (sym same) found.out.held
+end_out : HoldLaws → (s : Setting) (w v : WorldAt) (y : ℤ) (f : FrameAt) (a : Arrival) (o : Option End) (n : ℕ) → Found s w n → v.node ≡ w.node → NotHeld (node_setting_of s n) ((gives_all s y v (option_map_or (λ end. delivered_to f a end.node end.port) o [])).node n)
+end_out laws s w v y f a None n found same = subst (λ (z : ℕ → NodeAt). NotHeld (node_setting_of s n) (z n)) (sym same) found.out.held
 end_out laws s w v y f a (Some end) n found same =
     handed_out laws s w v y (record { to = end.node; input = Frame end.port (record { items = octets_of f.sending.message }) a.raw a.sample; says = Ok f.sending.message; at = f.sending.at }) n end.port (record { items = octets_of f.sending.message }) a.raw a.sample
     found same refl
 
-arrival_out : HoldLaws → (s : Setting) (w v : WorldAt) (y : ℤ) (f : FrameAt) (o : Option Arrival) (n : ℕ) → Found s w n → v.node ≡ w.node → NotHeld (fixed_of s n) ((gives_all s y v (delivered_by s f o)).node n)
-arrival_out laws s w v y f None n found same = subst (λ (z : ℕ → NodeAt). NotHeld (fixed_of s n) (z n)) (sym same) found.out.held
+arrival_out : HoldLaws → (s : Setting) (w v : WorldAt) (y : ℤ) (f : FrameAt) (o : Option Arrival) (n : ℕ) → Found s w n → v.node ≡ w.node → NotHeld (node_setting_of s n) ((gives_all s y v (delivered_by s f o)).node n)
+arrival_out laws s w v y f None n found same = subst (λ (z : ℕ → NodeAt). NotHeld (node_setting_of s n) (z n)) (sym same) found.out.held
 arrival_out laws s w v y f (Some a) n found same = end_out laws s w v y f a (end_at s f.link (other_of f.by)) n found same
 
-deliver_out : HoldLaws → (s : Setting) (w v : WorldAt) (y : ℤ) (o : Option FrameAt) (n : ℕ) → Found s w n → v.node ≡ w.node → NotHeld (fixed_of s n) ((gives_all s y v (delivered s o)).node n)
-deliver_out laws s w v y None n found same = subst (λ (z : ℕ → NodeAt). NotHeld (fixed_of s n) (z n)) (sym same) found.out.held
+deliver_out : HoldLaws → (s : Setting) (w v : WorldAt) (y : ℤ) (o : Option FrameAt) (n : ℕ) → Found s w n → v.node ≡ w.node → NotHeld (node_setting_of s n) ((gives_all s y v (delivered s o)).node n)
+deliver_out laws s w v y None n found same = subst (λ (z : ℕ → NodeAt). NotHeld (node_setting_of s n) (z n)) (sym same) found.out.held
 deliver_out laws s w v y (Some f) n found same = arrival_out laws s w v y f f.arrival n found same
 
-kept_out : HoldLaws → (s : Setting) (says : Result PtpMsg FrameFault) (y : ℤ) (w : WorldAt) (e : Event) (n : ℕ) → HandsNone e → Found s w n → NotHeld (fixed_of s n) ((world_step s says y w e).node n)
+kept_out : HoldLaws → (s : Setting) (says : Result PtpMsg FrameFault) (y : ℤ) (w : WorldAt) (e : Event) (n : ℕ) → HandsNone e → Found s w n → NotHeld (node_setting_of s n) ((world_step s says y w e).node n)
 kept_out laws s says y w e n none found h =
-    (node_kept (OutAt (fixed_of s n)) IsNoFrame s says y w e n (λ t m q k. plain_out laws (fixed_of s n) found.lasts t m q k) (none_to n e none) found.out).held h
+    (node_kept (OutAt (node_setting_of s n)) IsNoFrame s says y w e n (λ t m q k. plain_out laws (node_setting_of s n) found.lasts t m q k) (none_to n e none) found.out).held h
 
-event_out : HoldLaws → (s : Setting) (says : Result PtpMsg FrameFault) (y : ℤ) (w : WorldAt) (e : Event) (n : ℕ) → Found s w n → NotHeld (fixed_of s n) ((world_step s says y w e).node n)
+event_out : HoldLaws → (s : Setting) (says : Result PtpMsg FrameFault) (y : ℤ) (w : WorldAt) (e : Event) (n : ℕ) → Found s w n → NotHeld (node_setting_of s n) ((world_step s says y w e).node n)
 event_out laws s says y w (Deliver i) n found = deliver_out laws s w (moved s w (Deliver i)) y (w.frame i) n found refl
 event_out laws s says y w (Noise m p octets raw) n found = handed_out laws s w (moved s w (Noise m p octets raw)) y (given m (Frame p octets raw (w.clock m).samples) says) n p octets raw (w.clock m).samples found refl refl
 event_out laws s says y w (Pass dt drifts fibres) n found = found.out.held
@@ -292,32 +292,32 @@ event_out laws s says y w e n found = kept_out laws s says y w e n tt found
 
 -- A start
 
-reset_out : HoldLaws → (fixed : Fixed) → Lasts fixed → is_some (slave_of fixed.set) ≡ true → (t : Taken) (m : NodeAt) → t.input ≡ Reset → OutAt fixed (node_step fixed t m).node
+reset_out : HoldLaws → (fixed : NodeSetting) → Lasts fixed → is_some (slave_of fixed.set) ≡ true → (t : Taken) (m : NodeAt) → t.input ≡ Reset → OutAt fixed (node_step fixed t m).node
 reset_out laws fixed some servo t m is =
-    let x : Settings = settings_of fixed in
+    let x : ServoSetting = servo_setting_of fixed in
     let calls : (stepped fixed t.input t.says t.answer m).node.calls ≡ CallReset ∷ m.calls =
     ap (λ (i : Input). (stepped fixed i t.says t.answer m).node.calls) is ∙ ap (λ (b : Bool). called (if b then Some CallReset else None) m.calls) servo in
     settled_keeps (λ now. IsOut (run x now)) (telling_out laws fixed some) fixed (stepped fixed t.input t.says t.answer m)
     (subst (λ now. IsOut (run x now)) (sym calls) (record { track = λ e. false≢true e; held = λ e. false≢true e }))
 
-start_out : HoldLaws → (s : Setting) (says : Result PtpMsg FrameFault) (y : ℤ) (w : WorldAt) (n m : ℕ) (off : ℤ) (swaps : Items Swap) → Lasts (fixed_of s n) → is_some (slave_of (s.set n)) ≡ true → n ≡ m → OutAt (fixed_of s n) ((world_step s says y w (Up m off swaps)).node n)
+start_out : HoldLaws → (s : Setting) (says : Result PtpMsg FrameFault) (y : ℤ) (w : WorldAt) (n m : ℕ) (off : ℤ) (swaps : Items Swap) → Lasts (node_setting_of s n) → is_some (slave_of (s.set n)) ≡ true → n ≡ m → OutAt (node_setting_of s n) ((world_step s says y w (Up m off swaps)).node n)
 start_out laws s says y w n m off swaps some servo same =
     let v : WorldAt = moved s w (Up m off swaps) in
     let g : Given = given_plain m Reset in
     let rest : List Given = at_ports s v (comes_from s v) m in
     let here : (n == m) ≡ true = ap (λ i. i == m) same ∙ eq_self m in
-    let first : OutAt (fixed_of s n) ((gives s y v g).node n) =
-    subst (OutAt (fixed_of s n)) (sym (ap (λ b. if b then (step_of s y v g).node else w.node n) here ∙ ap (λ i. (node_step (fixed_of s i) (taken_of y g) (w.node i)).node) (sym same)))
-    (reset_out laws (fixed_of s n) some servo (taken_of y g) (w.node n) refl) in
-    node_given_all (OutAt (fixed_of s n)) IsNoFrame s y n (λ t x q k. plain_out laws (fixed_of s n) some t x q k) rest (gives s y v g)
+    let first : OutAt (node_setting_of s n) ((gives s y v g).node n) =
+    subst (OutAt (node_setting_of s n)) (sym (ap (λ b. if b then (step_of s y v g).node else w.node n) here ∙ ap (λ i. (node_step (node_setting_of s i) (taken_of y g) (w.node i)).node) (sym same)))
+    (reset_out laws (node_setting_of s n) some servo (taken_of y g) (w.node n) refl) in
+    node_given_all (OutAt (node_setting_of s n)) IsNoFrame s y n (λ t x q k. plain_out laws (node_setting_of s n) some t x q k) rest (gives s y v g)
     (all_to IsNoFrame n rest (ports_all IsNoFrame s v (comes_from s v) m (numbers_of (s.set m)) (comes_all IsNoFrame (λ p q. refl) s v))) first
 
 -- a node that is up after an event and was not before has started
 up_after : (s : Setting) (says : Result PtpMsg FrameFault) (y : ℤ) (w : WorldAt) (e : Event) (n : ℕ) → IsStill n e → ((world_step s says y w e).clock n).up ≡ true → (w.clock n).up ≡ true
 up_after s says y w e n still up = was_up s w e n still (sym (all_given_stands s y (given_by s w (moved s w e) says e) (moved s w e) n) ∙ up)
 
-from_down : HoldLaws → (s : Setting) (says : Result PtpMsg FrameFault) (y : ℤ) (w : WorldAt) (e : Event) (n : ℕ) → Lasts (fixed_of s n) → is_some (slave_of (s.set n)) ≡ true → (w.clock n).up ≡ false → ((world_step s says y w e).clock n).up ≡ true →
-    NotHeld (fixed_of s n) ((world_step s says y w e).node n)
+from_down : HoldLaws → (s : Setting) (says : Result PtpMsg FrameFault) (y : ℤ) (w : WorldAt) (e : Event) (n : ℕ) → Lasts (node_setting_of s n) → is_some (slave_of (s.set n)) ≡ true → (w.clock n).up ≡ false → ((world_step s says y w e).clock n).up ≡ true →
+    NotHeld (node_setting_of s n) ((world_step s says y w e).node n)
 from_down laws s says y w (Up m off swaps) n some servo down up = elim (eqb_tells n m) [
   | inl x ↦ (start_out laws s says y w n m off swaps some servo x.1).held
   | inr x ↦ absurd (false≢true (sym down ∙ up_after s says y w (Up m off swaps) n x.1 up))
@@ -340,7 +340,7 @@ no_step : EnterLaws → (s : Setting) (h : Happened) (before : List Happened) (n
 no_step laws s h before n once track =
     let w : WorldAt = world_after s before in
     event_off laws.commands s h.says h.answer w h.event n (λ _. Unit {0})
-    (λ u k. still_in_track laws.commands laws.still (fixed_of s n) u (w.node n) (ap (λ b. b || is_holdover (core_at s before n).state) track)) tt
+    (λ u k. still_in_track laws.commands laws.still (node_setting_of s n) u (w.node n) (ap (λ b. b || is_holdover (core_at s before n).state) track)) tt
     ∙ same_off w h.event n once
 
 -- it was in TRACK
@@ -377,6 +377,6 @@ holdover_is_from_track laws s h before n link run above held none =
     let track : is_track (core_at s before n).state ≡ true = tracked laws s h before n link net above held none up in
     record {
       up = up;
-      state = with_servo (fixed_of s n) ((world_after s before).node n) (has_servo s net n link above) ∙ state_of_track (core_at s before n).state track;
+      state = with_servo (node_setting_of s n) ((world_after s before).node n) (has_servo s net n link above) ∙ state_of_track (core_at s before n).state track;
       still = no_step laws s h before n (at_once s h.says h.answer before h.event n run up held none) track;
     }

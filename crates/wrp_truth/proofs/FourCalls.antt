@@ -11,7 +11,7 @@ use Rattle.wrp_base.specs.declared.measurement.ChainNews.TheVariants.{Same}
 use Rattle.wrp_base.specs.declared.measurement.Four.{Four}
 use Rattle.wrp_node.specs.Telling.{heard_of, with_news, with_sample}
 use Rattle.wrp_port.specs.declared.interface.PortIn.{PortIn}
-use Rattle.wrp_servo.specs.Call.{Call, CallSample, CallMeasured, CallTick, CallLease, CallLink, CallCarrier, CallReset, Settings, after, run}
+use Rattle.wrp_servo.specs.Call.{Call, CallSample, CallMeasured, CallTick, CallLease, CallLink, CallCarrier, CallReset, ServoSetting, after, run}
 use Rattle.wrp_servo.specs.declared.interface.ServoSet.{ServoSet}
 use Rattle.wrp_servo.specs.declared.machine.Core.{Core}
 use Rattle.wrp_servo.specs.declared.machine.Measurement.{Measurement}
@@ -139,7 +139,7 @@ placed_leaves set o v k est Track h = either set o (sampling.is_within v.set.tra
 placed_leaves set o v k est Holdover h = h
 
 -- a measurement is brought by a call, in a chain and in the law's range
-record IsBrought (x : Settings) (v : Core) (f : Four) (y : ℤ) (o : Option Measurement) : Type 0 where
+record IsBrought (x : ServoSetting) (v : Core) (f : Four) (y : ℤ) (o : Option Measurement) : Type 0 where
   deltas : Deltas
   in_chain : measuring.deltas_in_chain v ≡ Some deltas
   in_range : measuring.is_in x.lo x.hi (measuring.x_of deltas f) ≡ true
@@ -150,10 +150,10 @@ chain_of v (Some n) d e h = ap is_some e
 chain_of v None d e h = absurd (none-some d (sym (ap (λ o. measuring.deltas_in_chain (record v { first = o })) e) ∙ h))
 
 -- it keeps the one that stands, or brings its own
-abbrev Measures : Settings → ServoSet → Core → Four → ℤ → Core → Type 0
+abbrev Measures : ServoSetting → ServoSet → Core → Four → ℤ → Core → Type 0
 Measures x set v f y w = (o : Option Measurement) × Leaves set o w × ((v.kept ≡ o) ⊎ IsBrought x v f y o)
 
-ranged_leaves : (x : Settings) (set : ServoSet) (v : Core) (f : Four) (y : ℤ) (d : Deltas) (b : Bool) → measuring.is_in x.lo x.hi (measuring.x_of d f) ≡ b → measuring.deltas_in_chain v ≡ Some d → Leaves set v.kept v →
+ranged_leaves : (x : ServoSetting) (set : ServoSet) (v : Core) (f : Four) (y : ℤ) (d : Deltas) (b : Bool) → measuring.is_in x.lo x.hi (measuring.x_of d f) ≡ b → measuring.deltas_in_chain v ≡ Some d → Leaves set v.kept v →
     Measures x set v f y (cond b (measuring.placed v (measuring.kept_of f d y)) (table.ended v))
 ranged_leaves x set v f y d true range chain old =
     let new : Measurement = measuring.kept_of f d y in (
@@ -163,7 +163,7 @@ ranged_leaves x set v f y d true range chain old =
     )
 ranged_leaves x set v f y d false range chain old = (v.kept, ended_leaves set v.kept v old, inl refl)
 
-measured_leaves : (x : Settings) (set : ServoSet) (v : Core) (f : Four) (y : ℤ) (on : Option Deltas) → measuring.deltas_in_chain v ≡ on → Leaves set v.kept v → Measures x set v f y (measuring.answered x.lo x.hi v f y on)
+measured_leaves : (x : ServoSetting) (set : ServoSet) (v : Core) (f : Four) (y : ℤ) (on : Option Deltas) → measuring.deltas_in_chain v ≡ on → Leaves set v.kept v → Measures x set v f y (measuring.answered x.lo x.hi v f y on)
 measured_leaves x set v f y None chain old = (v.kept, old, inl refl)
 measured_leaves x set v f y (Some d) chain old = ranged_leaves x set v f y d (measuring.is_in x.lo x.hi (measuring.x_of d f)) refl chain old
 
@@ -190,7 +190,7 @@ sample_leaves set o v n base bits h =
     let w : Core = sampling.with_last v n in
     either set o (sampling.hears v) (sampling.heard w n (sampling.good_tag v.last n base bits)) v (heard_leaves set o w n (sampling.good_tag v.last n base bits) h) h
 
-call_leaves : (x : Settings) (set : ServoSet) (o : Option Measurement) (v : Core) (c : Call) → IsNoMeasure c → Leaves set o v → Leaves set o (after x v c)
+call_leaves : (x : ServoSetting) (set : ServoSet) (o : Option Measurement) (v : Core) (c : Call) → IsNoMeasure c → Leaves set o v → Leaves set o (after x v c)
 call_leaves x set o v (CallSample n base bits) c h = sample_leaves set o v n base bits h
 call_leaves x set o v (CallMeasured f y) c h = absurd c
 call_leaves x set o v CallTick c h = ticked_leaves set o (table.one_tick v) v.state h
@@ -213,10 +213,10 @@ free_or_not (CallLink on) = inl tt
 free_or_not (CallCarrier up) = inl tt
 free_or_not CallReset = inl tt
 
-measured_at : (x : Settings) (calls : List Call) (f : Four) (y : ℤ) → Leaves x.set (run x calls).kept (run x calls) → Measures x x.set (run x calls) f y (run x (CallMeasured f y ∷ calls))
+measured_at : (x : ServoSetting) (calls : List Call) (f : Four) (y : ℤ) → Leaves x.set (run x calls).kept (run x calls) → Measures x x.set (run x calls) f y (run x (CallMeasured f y ∷ calls))
 measured_at x calls f y old = measured_leaves x x.set (run x calls) f y (measuring.deltas_in_chain (run x calls)) refl old
 
-each_leaves : (x : Settings) (calls : List Call) → Leaves x.set (run x calls).kept (run x calls)
+each_leaves : (x : ServoSetting) (calls : List Call) → Leaves x.set (run x calls).kept (run x calls)
 each_leaves x [] = (refl, inl refl)
 each_leaves x (c ∷ calls) =
     let v : Core = run x calls in
@@ -233,7 +233,7 @@ stood : (v : Core) (k : Measurement) (o : Option Measurement) → Keeps o v → 
 stood v k o (inl none) is = absurd (none-some k (sym none ∙ is))
 stood v k o (inr it) is = it.1
 
-pub kept_stands : (x : Settings) (calls : List Call) (k : Measurement) → (run x calls).kept ≡ Some k → Stands (run x calls)
+pub kept_stands : (x : ServoSetting) (calls : List Call) (k : Measurement) → (run x calls).kept ≡ Some k → Stands (run x calls)
 kept_stands x calls k is = stood (run x calls) k (run x calls).kept (each_leaves x calls).1 is
 
 was_there : (k : Measurement) (o : Option Measurement) (w : Core) → Keeps o w → w.kept ≡ Some k → o ≡ Some k
@@ -241,20 +241,20 @@ was_there k o w (inl none) is = absurd (none-some k (sym none ∙ is))
 was_there k o w (inr it) is = sym it.0 ∙ is
 
 -- a call that is no measurement brings none
-pub kept_before : (x : Settings) (calls : List Call) (c : Call) (k : Measurement) → IsNoMeasure c → (run x (c ∷ calls)).kept ≡ Some k → (run x calls).kept ≡ Some k
+pub kept_before : (x : ServoSetting) (calls : List Call) (c : Call) (k : Measurement) → IsNoMeasure c → (run x (c ∷ calls)).kept ≡ Some k → (run x calls).kept ≡ Some k
 kept_before x calls c k free is =
     let v : Core = run x calls in
     was_there k v.kept (after x v c) (call_leaves x x.set v.kept v c free (each_leaves x calls)).1 is
 
 -- a measurement was brought by this call
-pub record Brings (x : Settings) (calls : List Call) (f : Four) (y : ℤ) (k : Measurement) : Type 0 where
+pub record Brings (x : ServoSetting) (calls : List Call) (f : Four) (y : ℤ) (k : Measurement) : Type 0 where
   pub deltas : Deltas
   pub in_chain : measuring.deltas_in_chain (run x calls) ≡ Some deltas
   pub in_range : measuring.is_in x.lo x.hi (measuring.x_of deltas f) ≡ true
   pub is : k ≡ measuring.kept_of f deltas y
 
 -- a measurement keeps the one that stands, or brings its own
-pub measured_before : (x : Settings) (calls : List Call) (f : Four) (y : ℤ) (k : Measurement) → (run x (CallMeasured f y ∷ calls)).kept ≡ Some k → ((run x calls).kept ≡ Some k) ⊎ Brings x calls f y k
+pub measured_before : (x : ServoSetting) (calls : List Call) (f : Four) (y : ℤ) (k : Measurement) → (run x (CallMeasured f y ∷ calls)).kept ≡ Some k → ((run x calls).kept ≡ Some k) ⊎ Brings x calls f y k
 measured_before x calls f y k is =
     let m : Measures x x.set (run x calls) f y (run x (CallMeasured f y ∷ calls)) = measured_at x calls f y (each_leaves x calls) in
     let there : m.0 ≡ Some k = was_there k m.0 (run x (CallMeasured f y ∷ calls)) m.1.1 is in
@@ -264,7 +264,7 @@ measured_before x calls f y k is =
     ]
 
 -- with a chain before
-pub brought_in_chain : (x : Settings) (calls : List Call) (f : Four) (y : ℤ) (k : Measurement) → Brings x calls f y k → Stands (run x calls)
+pub brought_in_chain : (x : ServoSetting) (calls : List Call) (f : Four) (y : ℤ) (k : Measurement) → Brings x calls f y k → Stands (run x calls)
 brought_in_chain x calls f y k b = chain_of (run x calls) (run x calls).first b.deltas refl b.in_chain
 
 -- What the servo answers where its chain goes on
@@ -274,11 +274,11 @@ same_news (Some m) (Some n) e f = refl
 same_news None b e f = absurd (false≢true e)
 same_news (Some m) None e f = absurd (false≢true f)
 
-told_none : (x : Settings) (v w : Core) (number : ℕ) (told : List PortIn) → Stands v → Stands w → with_sample None number (with_news (news_of v.first w.first) told) ≡ told
+told_none : (x : ServoSetting) (v w : Core) (number : ℕ) (told : List PortIn) → Stands v → Stands w → with_sample None number (with_news (news_of v.first w.first) told) ≡ told
 told_none x v w number told s t = ap (λ news. with_sample None number (with_news news told)) (same_news v.first w.first s t)
 
 -- nothing reaches the port
-pub nothing_heard : (x : Settings) (calls : List Call) (c : Call) (number : ℕ) (told : List PortIn) → IsNoSample c → Stands (run x calls) → Stands (run x (c ∷ calls)) → heard_of (answer_to x (run x calls) c) number told ≡ told
+pub nothing_heard : (x : ServoSetting) (calls : List Call) (c : Call) (number : ℕ) (told : List PortIn) → IsNoSample c → Stands (run x calls) → Stands (run x (c ∷ calls)) → heard_of (answer_to x (run x calls) c) number told ≡ told
 nothing_heard x calls (CallSample n base bits) number told free s t = absurd free
 nothing_heard x calls (CallMeasured f y) number told free s t = told_none x (run x calls) (run x (CallMeasured f y ∷ calls)) number told s t
 nothing_heard x calls CallTick number told free s t = told_none x (run x calls) (run x (CallTick ∷ calls)) number told s t

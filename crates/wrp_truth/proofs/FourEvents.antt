@@ -10,7 +10,7 @@ use Rattle.wrp_bounds.specs.declared.numbers.HopNumbers.{HopNumbers}
 use Rattle.wrp_exch.specs.Exchange.{four_of}
 use Rattle.wrp_frame.specs.declared.fault.FrameFault.{FrameFault}
 use Rattle.wrp_node.specs.declared.interface.NodeSet.{NodeSet}
-use Rattle.wrp_node.specs.NodeAt.{NodeAt, port_of, servo_at, settings_of, slave_of}
+use Rattle.wrp_node.specs.NodeAt.{NodeAt, port_of, servo_at, servo_setting_of, slave_of}
 use Rattle.wrp_servo.specs.declared.machine.Measurement.{Measurement}
 use Rattle.wrp_world.specs.declared.event.Event.{Event}
 use Rattle.wrp_world.specs.declared.event.Event.TheVariants.{Pass, Tick, Sample, Depart, Arrive, Deliver, Noise, Down, Up, Cut, Join}
@@ -19,7 +19,7 @@ use Rattle.wrp_world.specs.Given.{Given, delivered, delivered_by, delivered_to, 
 use Rattle.wrp_world.specs.Moved.{moved}
 use Rattle.wrp_world.specs.Run.{Happened, world_after}
 use Rattle.wrp_world.specs.Runs.{IsNetwork}
-use Rattle.wrp_world.specs.Setting.{Setting, end_at, fixed_of, link_of}
+use Rattle.wrp_world.specs.Setting.{Setting, end_at, node_setting_of, link_of}
 use Rattle.wrp_world.specs.WorldAt.{Arrival, FrameAt, WorldAt}
 use Rattle.wrp_truth.specs.Chains.{ChainRuns}
 use Rattle.wrp_truth.specs.Exchanges.{IsInChain, exchange_at, ring_below}
@@ -35,7 +35,7 @@ use Rattle.wrp_truth.proofs.Inputs.{GivesTo, node_given, node_kept}
 
 -- The slave port of the node below a link
 
-pub only_below : (s : Setting) → IsNetwork s → (k : ℕ) (link : LinkCfg) → link_of s k ≡ Some link → IsOnlySlave (fixed_of s link.lower) link.lower_port
+pub only_below : (s : Setting) → IsNetwork s → (k : ℕ) (link : LinkCfg) → link_of s k ≡ Some link → IsOnlySlave (node_setting_of s link.lower) link.lower_port
 only_below s net k link is q role =
     slave_alone s.cfg link.lower link.lower_port q net.accepted.tree (sym (ap (λ (x : NodeSet). slave_of x) (net.set link.lower)) ∙ slave_at s net k link is)
     (sym (ap (λ (x : NodeSet). (port_of x q).role) (net.set link.lower)) ∙ role)
@@ -47,10 +47,10 @@ IsFew [] = Unit {0}
 IsFew (g ∷ []) = Unit {0}
 IsFew (g ∷ (h ∷ gs)) = ⊥
 
-few_given : (s : Setting) (y : ℤ) (v : WorldAt) (n p : ℕ) (gs : List Given) → slave_of (s.set n) ≡ Some p → IsOnlySlave (fixed_of s n) p → IsFew gs → StoodOrNew (fixed_of s n) p (v.node n) ((gives_all s y v gs).node n)
+few_given : (s : Setting) (y : ℤ) (v : WorldAt) (n p : ℕ) (gs : List Given) → slave_of (s.set n) ≡ Some p → IsOnlySlave (node_setting_of s n) p → IsFew gs → StoodOrNew (node_setting_of s n) p (v.node n) ((gives_all s y v gs).node n)
 few_given s y v n p [] slave only few = λ k e. inl e
 few_given s y v n p (g ∷ []) slave only few =
-    node_given (λ (m : NodeAt). StoodOrNew (fixed_of s n) p (v.node n) m) s y v g n (λ e. stood_or_new (fixed_of s n) p (taken_of y g) (v.node n) slave only) (λ k e. inl e)
+    node_given (λ (m : NodeAt). StoodOrNew (node_setting_of s n) p (v.node n) m) s y v g n (λ e. stood_or_new (node_setting_of s n) p (taken_of y g) (v.node n) slave only) (λ k e. inl e)
 few_given s y v n p (g ∷ (h ∷ gs)) slave only few = absurd few
 
 few_end : (f : FrameAt) (a : Arrival) (o : Option End) → IsFew (option_map_or (λ end. delivered_to f a end.node end.port) o [])
@@ -85,14 +85,14 @@ no_frame_to n (Join k ms sm) h = λ q own_module. tt
 no_frame_to n (Pass dt drifts fibres) h = tt
 no_frame_to n (Arrive i raw) h = tt
 
-unframed : (s : Setting) (says : Result PtpMsg FrameFault) (y : ℤ) (w : WorldAt) (e : Event) (n p : ℕ) → GivesNoFrame e → StoodOrNew (fixed_of s n) p (w.node n) ((world_step s says y w e).node n)
+unframed : (s : Setting) (says : Result PtpMsg FrameFault) (y : ℤ) (w : WorldAt) (e : Event) (n p : ℕ) → GivesNoFrame e → StoodOrNew (node_setting_of s n) p (w.node n) ((world_step s says y w e).node n)
 unframed s says y w e n p none k is =
-    inl (node_kept (λ (m : NodeAt). (j : Measurement) → (servo_at (fixed_of s n) m).kept ≡ Some j → (servo_at (fixed_of s n) (w.node n)).kept ≡ Some j) IsNoFrame s says y w e n
-    (λ t m q h. other_stood (fixed_of s n) (servo_at (fixed_of s n) (w.node n)).kept t m q h) (no_frame_to n e none) (λ j f. f) k is)
+    inl (node_kept (λ (m : NodeAt). (j : Measurement) → (servo_at (node_setting_of s n) m).kept ≡ Some j → (servo_at (node_setting_of s n) (w.node n)).kept ≡ Some j) IsNoFrame s says y w e n
+    (λ t m q h. other_stood (node_setting_of s n) (servo_at (node_setting_of s n) (w.node n)).kept t m q h) (no_frame_to n e none) (λ j f. f) k is)
 
 -- Any event
 
-event_new : (s : Setting) (says : Result PtpMsg FrameFault) (y : ℤ) (w : WorldAt) (e : Event) (n p : ℕ) → slave_of (s.set n) ≡ Some p → IsOnlySlave (fixed_of s n) p → StoodOrNew (fixed_of s n) p (w.node n) ((world_step s says y w e).node n)
+event_new : (s : Setting) (says : Result PtpMsg FrameFault) (y : ℤ) (w : WorldAt) (e : Event) (n p : ℕ) → slave_of (s.set n) ≡ Some p → IsOnlySlave (node_setting_of s n) p → StoodOrNew (node_setting_of s n) p (w.node n) ((world_step s says y w e).node n)
 event_new s says y w (Deliver i) n p slave only = few_given s y (moved s w (Deliver i)) n p (delivered s (w.frame i)) slave only (few_delivered s (w.frame i))
 event_new s says y w (Noise m q octets raw) n p slave only = few_given s y (moved s w (Noise m q octets raw)) n p (given_by s w (moved s w (Noise m q octets raw)) says (Noise m q octets raw)) slave only tt
 event_new s says y w e n p slave only = unframed s says y w e n p tt
@@ -126,8 +126,8 @@ kept_from s net (h ∷ before) k link kept is stands =
 -- In the chain
 
 each_chain : (s : Setting) (n : ℕ) (kept : Measurement) (since earlier : List Happened) → AtEach (λ (l : List Happened). IsKept s n l kept) since earlier → AtEach (HasChain s n) since earlier
-each_chain s n kept [] earlier h = kept_stands (settings_of (fixed_of s n)) ((world_after s earlier).node n).calls kept h
-each_chain s n kept (x ∷ since) earlier h = (kept_stands (settings_of (fixed_of s n)) ((world_after s (x ∷ (since ++ earlier))).node n).calls kept h.0, each_chain s n kept since earlier h.1)
+each_chain s n kept [] earlier h = kept_stands (servo_setting_of (node_setting_of s n)) ((world_after s earlier).node n).calls kept h
+each_chain s n kept (x ∷ since) earlier h = (kept_stands (servo_setting_of (node_setting_of s n)) ((world_after s (x ∷ (since ++ earlier))).node n).calls kept h.0, each_chain s n kept since earlier h.1)
 
 pub kept_in_chain : (s : Setting) (events : List Happened) (k : ℕ) (link : LinkCfg) (hop : HopNumbers) (chain : ChainRuns s events k link hop) (kept : Measurement) → (it : KeptFrom s events link kept) → IsInChain chain it.since it.earlier
 kept_in_chain s events k link hop chain kept it = record {

@@ -11,7 +11,7 @@ use Rattle.wrp_exch.specs.Exchange.{four_of}
 use Rattle.wrp_frame.specs.declared.fault.FrameFault.{FrameFault}
 use Rattle.wrp_node.specs.declared.interface.Input.{Input}
 use Rattle.wrp_node.specs.declared.interface.Input.TheVariants.{Tick, Sample, Frame, Sent, Carrier, Reset}
-use Rattle.wrp_node.specs.NodeAt.{Fixed, NodeAt, Taken, deltas_in, is_fresh_in, link_at, pieces_at, servo_at, setting_of, settings_of, slave_of}
+use Rattle.wrp_node.specs.NodeAt.{NodeSetting, NodeAt, Taken, deltas_in, is_fresh_in, link_at, pieces_at, servo_at, setting_of, servo_setting_of, slave_of}
 use Rattle.wrp_node.specs.NodeStep.{heard, heard_unless, measured_at, measurement_by, node_step, stamp_of, stepped, used}
 use Rattle.wrp_node.specs.Telling.{Step, is_changed, number_of, settled, tell, with_lease}
 use Rattle.wrp_port.specs.declared.interface.PortIn.{PortIn}
@@ -19,7 +19,7 @@ use Rattle.wrp_port.specs.declared.interface.PortIn.TheVariants.{Msg}
 use Rattle.wrp_port.specs.Hearing.{early_reason}
 use Rattle.wrp_port.specs.History.{calls_of, line_of}
 use Rattle.wrp_port.specs.Outputs.{measured_by}
-use Rattle.wrp_servo.specs.Call.{Call, CallMeasured, CallLease, CallLink, Settings, run}
+use Rattle.wrp_servo.specs.Call.{Call, CallMeasured, CallLease, CallLink, ServoSetting, run}
 use Rattle.wrp_servo.specs.declared.machine.Measurement.{Measurement}
 use Rattle.wrp_servo.specs.Told.{lease_told, link_told}
 use Rattle.wrp_truth.proofs.FourCalls.{brought_in_chain, kept_before, kept_stands, measured_before, nothing_heard}
@@ -30,20 +30,20 @@ use Rattle.wrp_truth.proofs.LiveChains.{IsNoSample, telling_less}
 use Rattle.wrp_truth.proofs.StepCalls.{Brings as BringsCalls, KeptBy, step_keeps}
 
 -- a measurement that stands is the one of before, or of all that the port's exchange was given
-abbrev IsNew : Fixed → ℕ → Option Measurement → ℕ → List PortIn → List Call → Type 0
+abbrev IsNew : NodeSetting → ℕ → Option Measurement → ℕ → List PortIn → List Call → Type 0
 IsNew fixed p old ticks told calls =
-    (k : Measurement) → (run (settings_of fixed) calls).kept ≡ Some k → (old ≡ Some k) ⊎ (four_of fixed.set.ring (calls_of (setting_of fixed.set p) told) ≡ Some k.four)
+    (k : Measurement) → (run (servo_setting_of fixed) calls).kept ≡ Some k → (old ≡ Some k) ⊎ (four_of fixed.set.ring (calls_of (setting_of fixed.set p) told) ≡ Some k.four)
 
 -- What is told after an input
 
-telling_new : (fixed : Fixed) (p : ℕ) (old : Option Measurement) (ticks : ℕ) (told : List PortIn) (calls : List Call) (c : Call) → IsNoMeasure c → IsNoSample c → IsNew fixed p old ticks told calls →
+telling_new : (fixed : NodeSetting) (p : ℕ) (old : Option Measurement) (ticks : ℕ) (told : List PortIn) (calls : List Call) (c : Call) → IsNoMeasure c → IsNoSample c → IsNew fixed p old ticks told calls →
     IsNew fixed p old ticks (answered fixed told calls c) (c ∷ calls)
 telling_new fixed p old ticks told calls c none sample h k is =
-    let was : (run (settings_of fixed) calls).kept ≡ Some k = kept_before (settings_of fixed) calls c k none is in
-    let same : answered fixed told calls c ≡ told = nothing_heard (settings_of fixed) calls c (number_of (Some c)) told sample (kept_stands (settings_of fixed) calls k was) (kept_stands (settings_of fixed) (c ∷ calls) k is) in
+    let was : (run (servo_setting_of fixed) calls).kept ≡ Some k = kept_before (servo_setting_of fixed) calls c k none is in
+    let same : answered fixed told calls c ≡ told = nothing_heard (servo_setting_of fixed) calls c (number_of (Some c)) told sample (kept_stands (servo_setting_of fixed) calls k was) (kept_stands (servo_setting_of fixed) (c ∷ calls) k is) in
     subst (λ (l : List PortIn). (old ≡ Some k) ⊎ (four_of fixed.set.ring (calls_of (setting_of fixed.set p) l) ≡ Some k.four)) (sym same) (h k was)
 
-settled_new : (fixed : Fixed) (p : ℕ) (old : Option Measurement) (s : Step) → slave_of fixed.set ≡ Some p → At (IsNew fixed p old) p s.node → At (IsNew fixed p old) p (settled fixed s).node
+settled_new : (fixed : NodeSetting) (p : ℕ) (old : Option Measurement) (s : Step) → slave_of fixed.set ≡ Some p → At (IsNew fixed p old) p s.node → At (IsNew fixed p old) p (settled fixed s).node
 settled_new fixed p old s slave h =
     let fresh : Bool = is_fresh_in fixed.set s.node in
     let w : Step = with_lease fixed s in
@@ -56,19 +56,19 @@ settled_new fixed p old s slave h =
 
 -- A frame
 
-brought_new : (fixed : Fixed) (p ticks : ℕ) (told : List PortIn) (calls : List Call) (m : PtpMsg) (stamp : Stamp) (four : Four) (answer : ℤ) →
+brought_new : (fixed : NodeSetting) (p ticks : ℕ) (told : List PortIn) (calls : List Call) (m : PtpMsg) (stamp : Stamp) (four : Four) (answer : ℤ) →
     measured_by (setting_of fixed.set p) (line_of (setting_of fixed.set p) told) (calls_of (setting_of fixed.set p) told) (Msg m stamp ticks) ≡ Some four →
-    IsNew fixed p (run (settings_of fixed) calls).kept ticks (answered fixed (Msg m stamp ticks ∷ told) calls (CallMeasured four answer)) (CallMeasured four answer ∷ calls)
-brought_new fixed p ticks told calls m stamp four answer by k is = elim (measured_before (settings_of fixed) calls four answer k is) [
+    IsNew fixed p (run (servo_setting_of fixed) calls).kept ticks (answered fixed (Msg m stamp ticks ∷ told) calls (CallMeasured four answer)) (CallMeasured four answer ∷ calls)
+brought_new fixed p ticks told calls m stamp four answer by k is = elim (measured_before (servo_setting_of fixed) calls four answer k is) [
   | inl old ↦ inl old
   | inr new ↦
       let same : answered fixed (Msg m stamp ticks ∷ told) calls (CallMeasured four answer) ≡ Msg m stamp ticks ∷ told =
-      nothing_heard (settings_of fixed) calls (CallMeasured four answer) 0 (Msg m stamp ticks ∷ told) tt (brought_in_chain (settings_of fixed) calls four answer k new) (kept_stands (settings_of fixed) (CallMeasured four answer ∷ calls) k is) in
+      nothing_heard (servo_setting_of fixed) calls (CallMeasured four answer) 0 (Msg m stamp ticks ∷ told) tt (brought_in_chain (servo_setting_of fixed) calls four answer k new) (kept_stands (servo_setting_of fixed) (CallMeasured four answer ∷ calls) k is) in
       inr (ap (λ (l : List PortIn). four_of fixed.set.ring (calls_of (setting_of fixed.set p) l)) same
       ∙ four_measured (setting_of fixed.set p) told m stamp ticks four by ∙ ap (λ (z : Measurement). Some z.four) (sym new.is))
 ]
 
-measured_new : (fixed : Fixed) (p q : ℕ) (n : NodeAt) (m : PtpMsg) (stamp : Stamp) (answer : ℤ) (has : Bool) (o : Option Four) → slave_of fixed.set ≡ Some p → IsOnlySlave fixed p → measured_at fixed n q (Msg m stamp n.ticks) ≡ o →
+measured_new : (fixed : NodeSetting) (p q : ℕ) (n : NodeAt) (m : PtpMsg) (stamp : Stamp) (answer : ℤ) (has : Bool) (o : Option Four) → slave_of fixed.set ≡ Some p → IsOnlySlave fixed p → measured_at fixed n q (Msg m stamp n.ticks) ≡ o →
     At (IsNew fixed p (servo_at fixed n).kept) p (tell fixed (if has then measurement_by o answer else None) (used fixed q (Msg m stamp n.ticks) n)).node
 measured_new fixed p q n m stamp answer true (Some four) slave only is =
     let here : q ≡ p = measured_here fixed p q n m stamp n.ticks four only is in
@@ -81,12 +81,12 @@ measured_new fixed p q n m stamp answer true None slave only is =
 measured_new fixed p q n m stamp answer false o slave only is =
     tell_nothing (IsNew fixed p (servo_at fixed n).kept) fixed p (used fixed q (Msg m stamp n.ticks) n) slave (λ k e. inl e)
 
-heard_new : (fixed : Fixed) (p q : ℕ) (n : NodeAt) (m : PtpMsg) (stamp : Stamp) (answer : ℤ) (reason : Option Reason) → slave_of fixed.set ≡ Some p → IsOnlySlave fixed p →
+heard_new : (fixed : NodeSetting) (p q : ℕ) (n : NodeAt) (m : PtpMsg) (stamp : Stamp) (answer : ℤ) (reason : Option Reason) → slave_of fixed.set ≡ Some p → IsOnlySlave fixed p →
     At (IsNew fixed p (servo_at fixed n).kept) p (heard_unless reason fixed q (Msg m stamp n.ticks) answer n).node
 heard_new fixed p q n m stamp answer None slave only = measured_new fixed p q n m stamp answer (is_some (slave_of fixed.set)) (measured_at fixed n q (Msg m stamp n.ticks)) slave only refl
 heard_new fixed p q n m stamp answer (Some reason) slave only = λ k e. inl e
 
-frame_new : (fixed : Fixed) (p q : ℕ) (n : NodeAt) (says : Result PtpMsg FrameFault) (raw : Raw) (sample : ℕ) (answer : ℤ) → slave_of fixed.set ≡ Some p → IsOnlySlave fixed p → At (IsNew fixed p (servo_at fixed n).kept) p (heard fixed q says raw sample answer n).node
+frame_new : (fixed : NodeSetting) (p q : ℕ) (n : NodeAt) (says : Result PtpMsg FrameFault) (raw : Raw) (sample : ℕ) (answer : ℤ) → slave_of fixed.set ≡ Some p → IsOnlySlave fixed p → At (IsNew fixed p (servo_at fixed n).kept) p (heard fixed q says raw sample answer n).node
 frame_new fixed p q n (Err fault) raw sample answer slave only = λ k e. inl e
 frame_new fixed p q n (Ok m) raw sample answer slave only = heard_new fixed p q n m (stamp_of fixed n q raw sample) answer (early_reason (setting_of fixed.set q) (link_at fixed.set n q) m) slave only
 
@@ -106,26 +106,26 @@ brings_none (Carrier q up own_module) h = tt
 brings_none Reset h = tt
 
 -- the measurement that stands stood before
-abbrev Stood : Settings → Option Measurement → List Call → Type 0
+abbrev Stood : ServoSetting → Option Measurement → List Call → Type 0
 Stood x old calls = (k : Measurement) → (run x calls).kept ≡ Some k → old ≡ Some k
 
-stood_kept : (x : Settings) (old : Option Measurement) → KeptBy IsNoMeasure (Stood x old)
+stood_kept : (x : ServoSetting) (old : Option Measurement) → KeptBy IsNoMeasure (Stood x old)
 stood_kept x old calls c none h k is = h k (kept_before x calls c k none is)
 
-pub other_stood : (fixed : Fixed) (old : Option Measurement) (t : Taken) (n : NodeAt) → IsNoFrame t.input → ((k : Measurement) → (servo_at fixed n).kept ≡ Some k → old ≡ Some k) →
+pub other_stood : (fixed : NodeSetting) (old : Option Measurement) (t : Taken) (n : NodeAt) → IsNoFrame t.input → ((k : Measurement) → (servo_at fixed n).kept ≡ Some k → old ≡ Some k) →
     (k : Measurement) → (servo_at fixed (node_step fixed t n).node).kept ≡ Some k → old ≡ Some k
 other_stood fixed old t n none h =
-    let x : Settings = settings_of fixed in
+    let x : ServoSetting = servo_setting_of fixed in
     step_keeps IsNoMeasure (Stood x old) (stood_kept x old) (telling_less IsNoMeasure (Stood x old) (λ fresh. tt) (λ on. tt) (stood_kept x old)) fixed t n (brings_none t.input none) h
 
 -- Any input
 
 -- what stands after it stood before it, or is of all pieces of the port
-abbrev pub StoodOrNew : Fixed → ℕ → (before after : NodeAt) → Type 0
+abbrev pub StoodOrNew : NodeSetting → ℕ → (before after : NodeAt) → Type 0
 StoodOrNew fixed p before after =
     (k : Measurement) → (servo_at fixed after).kept ≡ Some k → ((servo_at fixed before).kept ≡ Some k) ⊎ (four_of fixed.set.ring (pieces_at fixed.set after p) ≡ Some k.four)
 
-input_where : (fixed : Fixed) (p : ℕ) (input : Input) (says : Result PtpMsg FrameFault) (answer : ℤ) (n : NodeAt) → slave_of fixed.set ≡ Some p → IsOnlySlave fixed p → StoodOrNew fixed p n (node_step fixed (record { input = input; says = says; answer = answer }) n).node
+input_where : (fixed : NodeSetting) (p : ℕ) (input : Input) (says : Result PtpMsg FrameFault) (answer : ℤ) (n : NodeAt) → slave_of fixed.set ≡ Some p → IsOnlySlave fixed p → StoodOrNew fixed p n (node_step fixed (record { input = input; says = says; answer = answer }) n).node
 input_where fixed p (Frame q octets raw sample) says answer n slave only k is =
     settled_new fixed p (servo_at fixed n).kept (stepped fixed (Frame q octets raw sample) says answer n) slave (frame_new fixed p q n says raw sample answer slave only) k is
 input_where fixed p Tick says answer n slave only k is = inl (other_stood fixed (servo_at fixed n).kept (record { input = Tick; says = says; answer = answer }) n tt (λ j e. e) k is)
@@ -134,5 +134,5 @@ input_where fixed p (Sent q seq delay stamp) says answer n slave only k is = inl
 input_where fixed p (Carrier q up own_module) says answer n slave only k is = inl (other_stood fixed (servo_at fixed n).kept (record { input = Carrier q up own_module; says = says; answer = answer }) n tt (λ j e. e) k is)
 input_where fixed p Reset says answer n slave only k is = inl (other_stood fixed (servo_at fixed n).kept (record { input = Reset; says = says; answer = answer }) n tt (λ j e. e) k is)
 
-pub stood_or_new : (fixed : Fixed) (p : ℕ) (t : Taken) (n : NodeAt) → slave_of fixed.set ≡ Some p → IsOnlySlave fixed p → StoodOrNew fixed p n (node_step fixed t n).node
+pub stood_or_new : (fixed : NodeSetting) (p : ℕ) (t : Taken) (n : NodeAt) → slave_of fixed.set ≡ Some p → IsOnlySlave fixed p → StoodOrNew fixed p n (node_step fixed t n).node
 stood_or_new fixed p t n slave only = input_where fixed p t.input t.says t.answer n slave only

@@ -19,7 +19,7 @@ use Rattle.wrp_exch.specs.Call.{Call as ExchangeCall, CallReqOut}
 use Rattle.wrp_exch.specs.Exchange.{four_of}
 use Rattle.wrp_exch.specs.Ticks.{NoneAfter, NotOlder, TicksRise, tick_of}
 use Rattle.wrp_exch.proofs.Ticks.{four_of-rises}
-use Rattle.wrp_node.specs.NodeAt.{Fixed, Taken, setting_of, settings_of, slave_of}
+use Rattle.wrp_node.specs.NodeAt.{NodeSetting, Taken, setting_of, servo_setting_of, slave_of}
 use Rattle.wrp_node.specs.NodeRun.{node_after}
 use Rattle.wrp_node.specs.Telling.{heard_of, number_of, with_news, with_sample}
 use Rattle.wrp_port.specs.declared.interface.PortIn.{PortIn}
@@ -30,7 +30,7 @@ use Rattle.wrp_port.specs.Hearing.{early_reason, piece_of}
 use Rattle.wrp_port.specs.History.{calls_of, line_of}
 use Rattle.wrp_port.specs.LineAfter.{requests_on, ticked}
 use Rattle.wrp_port.specs.Outputs.{call_of, due_request, is_kept, measured_by, news_call, only_slave, pairs, piece_unless, sample_call, sent_call, with_call}
-use Rattle.wrp_servo.specs.Call.{Call, CallSample, CallMeasured, CallTick, CallLease, CallLink, CallCarrier, CallReset, Settings, run}
+use Rattle.wrp_servo.specs.Call.{Call, CallSample, CallMeasured, CallTick, CallLease, CallLink, CallCarrier, CallReset, ServoSetting, run}
 use Rattle.wrp_servo.specs.declared.interface.ServoOut.{ServoOut}
 use Rattle.wrp_servo.specs.declared.machine.Measurement.{Measurement}
 use Rattle.wrp_servo.specs.Servo.{answer_to}
@@ -163,10 +163,10 @@ sample_rises set ticks told (Some phase) number kept r = pieces_rise set ticks t
 heard_rises : (set : Setting) (ticks : ℕ) (told : List PortIn) (out : ServoOut) (number : ℕ) (kept : Option Measurement) → Rise set.ring ticks (calls_of set told) kept → Rise set.ring ticks (calls_of set (heard_of out number told)) kept
 heard_rises set ticks told out number kept r = sample_rises set ticks (with_news out.chain told) out.unwrapped number kept (news_rises set ticks told out.chain kept r)
 
-answered_rises : (fixed : Fixed) (p ticks : ℕ) (told : List PortIn) (calls : List Call) (c : Call) (kept : Option Measurement) → Rise fixed.set.ring ticks (calls_of (setting_of fixed.set p) told) kept →
+answered_rises : (fixed : NodeSetting) (p ticks : ℕ) (told : List PortIn) (calls : List Call) (c : Call) (kept : Option Measurement) → Rise fixed.set.ring ticks (calls_of (setting_of fixed.set p) told) kept →
     Rise fixed.set.ring ticks (calls_of (setting_of fixed.set p) (answered fixed told calls c)) kept
 answered_rises fixed p ticks told calls c kept r =
-    heard_rises (setting_of fixed.set p) ticks told (answer_to (settings_of fixed) (run (settings_of fixed) calls) c) (number_of (Some c)) kept r
+    heard_rises (setting_of fixed.set p) ticks told (answer_to (servo_setting_of fixed) (run (servo_setting_of fixed) calls) c) (number_of (Some c)) kept r
 
 -- A measurement
 
@@ -195,7 +195,7 @@ each_young : (o : Option Measurement) (tick : ℕ) → ((k : Measurement) → o 
 each_young None tick h = tt
 each_young (Some k) tick h = h k refl
 
-new_rises : (x : Settings) (calls : List Call) (ring ticks : ℕ) (pieces : List ExchangeCall) (four : Four) (y : ℤ) → four_of ring pieces ≡ Some four → Rise ring ticks pieces (run x calls).kept →
+new_rises : (x : ServoSetting) (calls : List Call) (ring ticks : ℕ) (pieces : List ExchangeCall) (four : Four) (y : ℤ) → four_of ring pieces ≡ Some four → Rise ring ticks pieces (run x calls).kept →
     Rise ring ticks pieces (run x (CallMeasured four y ∷ calls)).kept
 new_rises x calls ring ticks pieces four y is r = record {
   last = r.last;
@@ -209,11 +209,11 @@ new_rises x calls ring ticks pieces four y is r = record {
 
 -- A node
 
-pub record NodeRises (fixed : Fixed) (p ticks : ℕ) (told : List PortIn) (calls : List Call) : Type 0 where
-  pub pieces : Rise fixed.set.ring ticks (calls_of (setting_of fixed.set p) told) (run (settings_of fixed) calls).kept
-  pub fours : FoursRise (settings_of fixed) calls
+pub record NodeRises (fixed : NodeSetting) (p ticks : ℕ) (told : List PortIn) (calls : List Call) : Type 0 where
+  pub pieces : Rise fixed.set.ring ticks (calls_of (setting_of fixed.set p) told) (run (servo_setting_of fixed) calls).kept
+  pub fours : FoursRise (servo_setting_of fixed) calls
 
-free_rises : (x : Settings) (calls : List Call) (c : Call) → IsFree c → FoursRise x calls → FoursRise x (c ∷ calls)
+free_rises : (x : ServoSetting) (calls : List Call) (c : Call) → IsFree c → FoursRise x calls → FoursRise x (c ∷ calls)
 free_rises x calls (CallSample n base bits) free h = h
 free_rises x calls (CallMeasured f y) free h = absurd free
 free_rises x calls CallTick free h = h
@@ -231,10 +231,10 @@ free_measures_none (CallLink on) free = tt
 free_measures_none (CallCarrier up) free = tt
 free_measures_none CallReset free = tt
 
-each_rises : (fixed : Fixed) (p : ℕ) → KeptByEach fixed p (NodeRises fixed p)
+each_rises : (fixed : NodeSetting) (p : ℕ) → KeptByEach fixed p (NodeRises fixed p)
 each_rises fixed p =
     let set : Setting = setting_of fixed.set p in
-    let x : Settings = settings_of fixed in
+    let x : ServoSetting = servo_setting_of fixed in
     record {
       port = λ ticks told calls input plain h. record { pieces = pieces_rise set ticks told input (run x calls).kept (plain_pieces set ticks told input plain) h.pieces; fours = h.fours };
       count = λ ticks told calls h. record { pieces = tick_rises fixed.set.ring ticks (calls_of set told) (run x calls).kept h.pieces; fours = h.fours };
@@ -260,10 +260,10 @@ each_rises fixed p =
       reset = λ ticks told calls h. record { pieces = record { last = tt; rise = tt; of = λ k e. absurd (none-some k e) }; fours = h.fours };
     }
 
-link_rises : (fixed : Fixed) (p ticks : ℕ) (told : List PortIn) (calls : List Call) (on : Option Deltas) → NodeRises fixed p ticks told calls → NodeRises fixed p ticks (answered fixed told calls (CallLink on)) (CallLink on ∷ calls)
+link_rises : (fixed : NodeSetting) (p ticks : ℕ) (told : List PortIn) (calls : List Call) (on : Option Deltas) → NodeRises fixed p ticks told calls → NodeRises fixed p ticks (answered fixed told calls (CallLink on)) (CallLink on ∷ calls)
 link_rises fixed p ticks told calls on h =
     let set : Setting = setting_of fixed.set p in
-    let x : Settings = settings_of fixed in
+    let x : ServoSetting = servo_setting_of fixed in
     record {
       pieces =
           answered_rises fixed p ticks told calls (CallLink on) (run x (CallLink on ∷ calls)).kept
@@ -271,15 +271,15 @@ link_rises fixed p ticks told calls on h =
       fours = h.fours;
     }
 
-new_node_rises : (fixed : Fixed) (p : ℕ) → NodeRises fixed p 0 [] []
+new_node_rises : (fixed : NodeSetting) (p : ℕ) → NodeRises fixed p 0 [] []
 new_node_rises fixed p = record { pieces = record { last = tt; rise = tt; of = λ k e. absurd (none-some k e) }; fours = tt }
 
-node_rises : (fixed : Fixed) (p : ℕ) → slave_of fixed.set ≡ Some p → IsOnlySlave fixed p → (inputs : List Taken) →
+node_rises : (fixed : NodeSetting) (p : ℕ) → slave_of fixed.set ≡ Some p → IsOnlySlave fixed p → (inputs : List Taken) →
     NodeRises fixed p (node_after fixed inputs).ticks ((node_after fixed inputs).told p) (node_after fixed inputs).calls
 node_rises fixed p slave only [] = new_node_rises fixed p
 node_rises fixed p slave only (t ∷ before) =
     step_keeps_each (NodeRises fixed p) fixed p (each_rises fixed p) (λ ticks told calls on changed h. link_rises fixed p ticks told calls on h) slave only t (node_after fixed before)
     (node_rises fixed p slave only before)
 
-pub fours_rise : (fixed : Fixed) (p : ℕ) → slave_of fixed.set ≡ Some p → IsOnlySlave fixed p → (inputs : List Taken) → FoursRise (settings_of fixed) (node_after fixed inputs).calls
+pub fours_rise : (fixed : NodeSetting) (p : ℕ) → slave_of fixed.set ≡ Some p → IsOnlySlave fixed p → (inputs : List Taken) → FoursRise (servo_setting_of fixed) (node_after fixed inputs).calls
 fours_rise fixed p slave only inputs = (node_rises fixed p slave only inputs).fours

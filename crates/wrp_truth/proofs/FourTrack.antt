@@ -16,10 +16,10 @@ use Rattle.wrp_exch.specs.DelayPair.{delay_pair}
 use Rattle.wrp_exch.specs.Exchange.{four_from, join_pairs}
 use Rattle.wrp_exch.specs.SyncPair.{sync_pair}
 use Rattle.wrp_node.specs.declared.interface.NodeSet.{NodeSet}
-use Rattle.wrp_node.specs.NodeAt.{NodeAt, servo_at, settings_of}
+use Rattle.wrp_node.specs.NodeAt.{NodeAt, servo_at, servo_setting_of}
 use Rattle.wrp_node.specs.NodeRun.{node_after}
 use Rattle.wrp_node.proofs.NodeTicks.{ticks_agree}
-use Rattle.wrp_servo.specs.Call.{Settings, run as servo_after}
+use Rattle.wrp_servo.specs.Call.{ServoSetting, run as servo_after}
 use Rattle.wrp_servo.specs.declared.machine.Measurement.{Measurement}
 use Rattle.wrp_servo.specs.Laws.{TrackHasChain, TrackIsNear}
 use Rattle.wrp_servo.specs.Table.{is_track}
@@ -32,7 +32,7 @@ use Rattle.wrp_tracking.specs.Moment.{Moment, ways_at}
 use Rattle.wrp_tracking.specs.ServoGives.{FoursRise, TrackIsYoung}
 use Rattle.wrp_world.specs.Run.{Happened, world_after, worlds_of}
 use Rattle.wrp_world.specs.Runs.{IsRun}
-use Rattle.wrp_world.specs.Setting.{Setting, fixed_of, link_of}
+use Rattle.wrp_world.specs.Setting.{Setting, node_setting_of, link_of}
 use Rattle.wrp_world.specs.WorldAt.{WorldAt}
 use Rattle.wrp_truth.specs.Chains.{AllFit, ChainRuns}
 use Rattle.wrp_truth.specs.Exchanges.{DelaysTell, IsInChain, SyncsTell, exchange_at, ring_below}
@@ -70,18 +70,18 @@ joined S D (Some sync) (Some delay) four e s d = record { sync = sync; delay = d
 
 -- The age of the four that stands
 
-young_ticks : FourLaws → (s : Setting) (events : List Happened) (k : ℕ) (link : LinkCfg) (kept : Measurement) → IsRun s events → link_of s k ≡ Some link → (servo_at (fixed_of s link.lower) ((world_after s events).node link.lower)).state ≡ Track →
+young_ticks : FourLaws → (s : Setting) (events : List Happened) (k : ℕ) (link : LinkCfg) (kept : Measurement) → IsRun s events → link_of s k ≡ Some link → (servo_at (node_setting_of s link.lower) ((world_after s events).node link.lower)).state ≡ Track →
     IsKept s link.lower events kept → ((world_after s events).node link.lower).ticks ≤ kept.four.tick + unsigned_abs s.cfg.age
 young_ticks laws s events k link kept run is track stands =
     let n : ℕ = link.lower in
     let node : NodeAt = (world_after s events).node n in
-    let x : Settings = settings_of (fixed_of s n) in
-    let made : node ≡ node_after (fixed_of s n) ((world_after s events).inputs n) = node_is s events n in
+    let x : ServoSetting = servo_setting_of (node_setting_of s n) in
+    let made : node ≡ node_after (node_setting_of s n) ((world_after s events).inputs n) = node_is s events n in
     let slave : _ = slave_at s run.network k link is in
     let rise : FoursRise x node.calls =
-    subst (λ (m : NodeAt). FoursRise x m.calls) (sym made) (fours_rise (fixed_of s n) link.lower_port slave (only_below s run.network k link is) ((world_after s events).inputs n)) in
+    subst (λ (m : NodeAt). FoursRise x m.calls) (sym made) (fours_rise (node_setting_of s n) link.lower_port slave (only_below s run.network k link is) ((world_after s events).inputs n)) in
     let counted : ticks_told node.calls ≡ node.ticks =
-    subst (λ (m : NodeAt). ticks_told m.calls ≡ m.ticks) (sym made) (ticks_agree (fixed_of s n) ((world_after s events).inputs n) (ap is_some slave)) in
+    subst (λ (m : NodeAt). ticks_told m.calls ≡ m.ticks) (sym made) (ticks_agree (node_setting_of s n) ((world_after s events).inputs n) (ap is_some slave)) in
     let age : (servo_after x node.calls).set.age ≡ unsigned_abs s.cfg.age = ap (λ v. v.age) (set_is x node.calls) ∙ ap (λ (z : NodeSet). z.servo.age) (run.network.set n) in
     in_age (servo_after x node.calls).ticks node.ticks kept.four.tick (servo_after x node.calls).set.age (unsigned_abs s.cfg.age) ((laws.told x node.calls).ticks ∙ counted) age
     (laws.young x node.calls kept laws.chain laws.near rise (ap is_track track) stands)

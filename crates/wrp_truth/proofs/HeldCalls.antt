@@ -10,7 +10,7 @@ use Rattle.wrp_base.specs.declared.measurement.Four.{Four}
 use Rattle.wrp_base.proofs.Lists.{head_and_tail}
 use Rattle.wrp_servo.specs.declared.machine.Core.{Core}
 use Rattle.wrp_servo.specs.declared.machine.Measurement.{Measurement}
-use Rattle.wrp_servo.specs.Call.{Call, CallSample, CallMeasured, CallTick, CallLease, CallLink, CallCarrier, CallReset, Settings, after, is_reset, run}
+use Rattle.wrp_servo.specs.Call.{Call, CallSample, CallMeasured, CallTick, CallLease, CallLink, CallCarrier, CallReset, ServoSetting, after, is_reset, run}
 use Rattle.wrp_servo.specs.Following.{restarted}
 use Rattle.wrp_servo.specs.Holdover.{HoldoverSince, InHoldover, NoneResets, ticks_among}
 use Rattle.wrp_servo.specs.Laws.{TrackHasChain, TrackSince}
@@ -30,7 +30,7 @@ abbrev pub IsNoMeasure : Call → Type 0
 IsNoMeasure (CallMeasured f y) = ⊥
 IsNoMeasure _ = Unit {0}
 
-enters_none : (x : Settings) (calls : List Call) (c : Call) → IsNoMeasure c → enters_track x calls c ≡ true → ⊥
+enters_none : (x : ServoSetting) (calls : List Call) (c : Call) → IsNoMeasure c → enters_track x calls c ≡ true → ⊥
 enters_none x calls (CallMeasured f y) h e = absurd h
 enters_none x calls (CallSample n base bits) h e = false≢true e
 enters_none x calls CallTick h e = false≢true e
@@ -39,7 +39,7 @@ enters_none x calls (CallLink on) h e = false≢true e
 enters_none x calls (CallCarrier up) h e = false≢true e
 enters_none x calls CallReset h e = false≢true e
 
-tracked_since : TrackSince → (x : Settings) (calls : List Call) (c : Call) (since : List Call) (start : Call) (before : List Call) → IsNoMeasure c → c ∷ calls ≡ since ++ start ∷ before → enters_track x before start ≡ true →
+tracked_since : TrackSince → (x : ServoSetting) (calls : List Call) (c : Call) (since : List Call) (start : Call) (before : List Call) → IsNoMeasure c → c ∷ calls ≡ since ++ start ∷ before → enters_track x before start ≡ true →
     NoneEnds (leaves_track x) since (start ∷ before) → is_track (run x calls).state ≡ true
 tracked_since law x calls c [] start before h e s n =
     let it : (c ≡ start) × (calls ≡ before) = head_and_tail c start calls before e in
@@ -49,7 +49,7 @@ tracked_since law x calls c (d ∷ since) start before h e s n =
     (law x calls).1 (record { since = since; start = start; before = before; splits = it.1; started = s; stays = n.1 })
 
 -- no other call enters TRACK
-pub tracked_before : TrackSince → (x : Settings) (calls : List Call) (c : Call) → IsNoMeasure c → is_track (run x (c ∷ calls)).state ≡ true → is_track (run x calls).state ≡ true
+pub tracked_before : TrackSince → (x : ServoSetting) (calls : List Call) (c : Call) → IsNoMeasure c → is_track (run x (c ∷ calls)).state ≡ true → is_track (run x calls).state ≡ true
 tracked_before law x calls c h e =
     let s : Since (enters_track x) (leaves_track x) (c ∷ calls) = (law x (c ∷ calls)).0 e in
     tracked_since law x calls c s.since s.start s.before h s.splits s.started s.stays
@@ -57,7 +57,7 @@ tracked_before law x calls c h e =
 fewer_ticks : (a b holdover : ℕ) → a ≤ b → b < holdover → a < holdover
 fewer_ticks a b holdover h k = omega (arith, h, k)
 
-held_since : HoldoverSince → (x : Settings) (calls : List Call) (c : Call) (i : InHoldover x (c ∷ calls)) (since : List Call) → i.since ≡ since → 0 < x.set.holdover → (is_track (run x calls).state ≡ true) ⊎ (is_holdover (run x calls).state ≡ true)
+held_since : HoldoverSince → (x : ServoSetting) (calls : List Call) (c : Call) (i : InHoldover x (c ∷ calls)) (since : List Call) → i.since ≡ since → 0 < x.set.holdover → (is_track (run x calls).state ≡ true) ⊎ (is_holdover (run x calls).state ≡ true)
 held_since law x calls c i [] e some =
     let it : (c ≡ i.leave) × (calls ≡ i.before) = head_and_tail c i.leave calls i.before (i.splits ∙ ap (λ l. l ++ i.leave ∷ i.before) e) in
     inl (subst (λ l. is_track (run x l).state ≡ true) (sym it.1) i.stood)
@@ -77,7 +77,7 @@ held_since law x calls c i (d ∷ since) e some =
     }))
 
 -- before a call that leads to HOLDOVER there was TRACK or HOLDOVER
-pub held_before : HoldoverSince → (x : Settings) (calls : List Call) (c : Call) → 0 < x.set.holdover → is_holdover (run x (c ∷ calls)).state ≡ true → (is_track (run x calls).state ≡ true) ⊎ (is_holdover (run x calls).state ≡ true)
+pub held_before : HoldoverSince → (x : ServoSetting) (calls : List Call) (c : Call) → 0 < x.set.holdover → is_holdover (run x (c ∷ calls)).state ≡ true → (is_track (run x calls).state ≡ true) ⊎ (is_holdover (run x calls).state ≡ true)
 held_before law x calls c some e = let i : InHoldover x (c ∷ calls) = (law x (c ∷ calls) some).0 e in held_since law x calls c i i.since refl some
 
 -- A servo in HOLDOVER, which it entered so many ticks ago
@@ -88,7 +88,7 @@ pub record OnHold (v : Core) (t : ℕ) : Type 0 where
   pub ticks : v.ticks ≡ v.left_tick + t
   pub locked : v.phase.lock.locked ≡ false
 
-calm_holder : (x : Settings) (v : Core) (t : ℕ) (c : Call) → IsCalmCall c → v.ticks ≡ v.left_tick + t → v.phase.lock.locked ≡ false → OnHold (after x (holder v) c) t
+calm_holder : (x : ServoSetting) (v : Core) (t : ℕ) (c : Call) → IsCalmCall c → v.ticks ≡ v.left_tick + t → v.phase.lock.locked ≡ false → OnHold (after x (holder v) c) t
 calm_holder x v t (CallSample n base bits) calm e l =
     elim v.signals.carrier as (λ b. OnHold (cond (b && false) (heard (with_last (holder v) n) n (good_tag v.last n base bits)) (holder v)) t) [
       | true ↦ record { state = refl; first = refl; ticks = e; locked = l }
@@ -107,7 +107,7 @@ calm_holder x v t CallReset calm e l = absurd calm
 as_holder : (v : Core) → v.state ≡ Holdover → v.first ≡ None → v ≡ holder v
 as_holder v e f = λ i. record v { state = e i; first = f i }
 
-pub calm_holds : (x : Settings) (calls : List Call) (c : Call) (t : ℕ) → IsCalmCall c → OnHold (run x calls) t → OnHold (run x (c ∷ calls)) t
+pub calm_holds : (x : ServoSetting) (calls : List Call) (c : Call) (t : ℕ) → IsCalmCall c → OnHold (run x calls) t → OnHold (run x (c ∷ calls)) t
 calm_holds x calls c t calm h =
     let v : Core = run x calls in
     subst (λ u. OnHold (after x u c) t) (sym (as_holder v h.state h.first)) (calm_holder x v t c calm h.ticks h.locked)
@@ -117,7 +117,7 @@ tick_holder : (v : Core) (t : ℕ) (b : Bool) → nat_le v.set.holdover ((v.tick
 tick_holder v t true test e l h = absurd (false≢true (sym (off_link (is_some v.signals.link)) ∙ h))
 tick_holder v t false test e l h = (record { state = refl; first = refl; ticks = omega (arith, e); locked = l }, still_few v.set.holdover v.ticks v.left_tick t e test)
 
-pub tick_holds : (x : Settings) (calls : List Call) (t : ℕ) → OnHold (run x calls) t → is_holdover (run x (CallTick ∷ calls)).state ≡ true → OnHold (run x (CallTick ∷ calls)) (t + 1) × (t + 1 < (run x calls).set.holdover)
+pub tick_holds : (x : ServoSetting) (calls : List Call) (t : ℕ) → OnHold (run x calls) t → is_holdover (run x (CallTick ∷ calls)).state ≡ true → OnHold (run x (CallTick ∷ calls)) (t + 1) × (t + 1 < (run x calls).set.holdover)
 tick_holds x calls t h e =
     let v : Core = run x calls in
     let is : v ≡ holder v = as_holder v h.state h.first in
@@ -168,7 +168,7 @@ tick-holds v m =
       | false ↦ either-holds (is_old w) (ended w) w (inr (record { state = refl; first = refl; ticks = is_plus_zero w.ticks; locked = refl })) (inl refl)
     ]
 
-measured-holds : (x : Settings) (v : Core) (m : ℕ) (f : Four) (y : ℤ) (on : Option Deltas) → TracksOrHolds (answered x.lo x.hi (tracker v m) f y on)
+measured-holds : (x : ServoSetting) (v : Core) (m : ℕ) (f : Four) (y : ℤ) (on : Option Deltas) → TracksOrHolds (answered x.lo x.hi (tracker v m) f y on)
 measured-holds x v m f y None = inl refl
 measured-holds x v m f y (Some d) =
     let k : Measurement = record { four = f; delay = delay_of d y } in
@@ -177,7 +177,7 @@ measured-holds x v m f y (Some d) =
     (either-holds (is_within v.set.track_tau (residual v.phase k)) (aimed w k Track) (ended w) (inl refl) (inr (record { state = refl; first = refl; ticks = is_plus_zero v.ticks; locked = refl })))
     (inr (falls v m))
 
-tracker-holds : (x : Settings) (v : Core) (m : ℕ) (call : Call) → IsNoReset call → TracksOrHolds (after x (tracker v m) call)
+tracker-holds : (x : ServoSetting) (v : Core) (m : ℕ) (call : Call) → IsNoReset call → TracksOrHolds (after x (tracker v m) call)
 tracker-holds x v m (CallSample n base bits) r =
     either-holds (hears (tracker v m)) (heard (with_last (tracker v m) n) n (good_tag v.last n base bits)) (tracker v m) (heard-holds v m n (good_tag v.last n base bits)) (inl refl)
 tracker-holds x v m (CallMeasured f y) r = measured-holds x v m f y v.signals.link
@@ -207,7 +207,7 @@ as_tracker : (v : Core) (m : ℕ) → v.state ≡ Track → v.first ≡ Some m �
 as_tracker v m e f = λ i. record v { state = e i; first = f i }
 
 -- from TRACK no other way leads than to HOLDOVER, but a reset
-pub tracked_holds : TrackHasChain → (x : Settings) (calls : List Call) (c : Call) → IsNoReset c → is_track (run x calls).state ≡ true → TracksOrHolds (run x (c ∷ calls))
+pub tracked_holds : TrackHasChain → (x : ServoSetting) (calls : List Call) (c : Call) → IsNoReset c → is_track (run x calls).state ≡ true → TracksOrHolds (run x (c ∷ calls))
 tracked_holds law x calls c r e =
     let v : Core = run x calls in
     let m : (m : ℕ) × (v.first ≡ Some m) = first_of v.first (law x calls e) in
@@ -247,7 +247,7 @@ pub record HoldLaws : Type 0 where
   pub track : TrackSince
   pub chain : TrackHasChain
 
-holds_since : HoldLaws → (x : Settings) (since : List Call) (leave : Call) (before : List Call) → 0 < x.set.holdover → is_track (run x before).state ≡ true → leaves_track x before leave ≡ true → is_reset leave ≡ false → NoneResets since →
+holds_since : HoldLaws → (x : ServoSetting) (since : List Call) (leave : Call) (before : List Call) → 0 < x.set.holdover → is_track (run x before).state ≡ true → leaves_track x before leave ≡ true → is_reset leave ≡ false → NoneResets since →
     ticks_among since < x.set.holdover → OnHold (run x (since ++ leave ∷ before)) (ticks_among since)
 holds_since laws x [] leave before some stood left r none few =
     let h : is_holdover (run x (leave ∷ before)).state ≡ true =
@@ -270,7 +270,7 @@ holds_since laws x (c ∷ since) leave before some stood left r none few =
     ]
 
 -- it has been on hold for fewer ticks than HOLDOVER lasts
-pub on_hold : HoldLaws → (x : Settings) (calls : List Call) → 0 < x.set.holdover → is_holdover (run x calls).state ≡ true → (t : ℕ) × OnHold (run x calls) t × (t < x.set.holdover)
+pub on_hold : HoldLaws → (x : ServoSetting) (calls : List Call) → 0 < x.set.holdover → is_holdover (run x calls).state ≡ true → (t : ℕ) × OnHold (run x calls) t × (t < x.set.holdover)
 on_hold laws x calls some h =
     let i : InHoldover x calls = (laws.held x calls some).0 h in (
       ticks_among i.since,
@@ -290,13 +290,13 @@ pub record IsTicked (v : Core) (t : ℕ) : Type 0 where
   pub track : is_track v.state ≡ true → ⊥
   pub held : is_holdover v.state ≡ true → OnHold v t
 
-pub ticked_first : HoldLaws → (x : Settings) (calls : List Call) (t : ℕ) → OnHold (run x calls) t → IsTicked (run x (CallTick ∷ calls)) (t + 1)
+pub ticked_first : HoldLaws → (x : ServoSetting) (calls : List Call) (t : ℕ) → OnHold (run x calls) t → IsTicked (run x (CallTick ∷ calls)) (t + 1)
 ticked_first laws x calls t h = record {
   track = λ e. not_both (run x calls).state (tracked_before laws.track x calls CallTick tt e) (ap is_holdover h.state);
   held = λ e. (tick_holds x calls t h e).0;
 }
 
-pub ticked_stays : HoldLaws → (x : Settings) → 0 < x.set.holdover → (calls : List Call) (c : Call) (t : ℕ) → IsNoMeasure c → IsCalmCall c → IsTicked (run x calls) t → IsTicked (run x (c ∷ calls)) t
+pub ticked_stays : HoldLaws → (x : ServoSetting) → 0 < x.set.holdover → (calls : List Call) (c : Call) (t : ℕ) → IsNoMeasure c → IsCalmCall c → IsTicked (run x calls) t → IsTicked (run x (c ∷ calls)) t
 ticked_stays laws x some calls c t h calm k = record {
   track = λ e. k.track (tracked_before laws.track x calls c h e);
   held = λ e. elim (held_before laws.held x calls c some e) [ inl track ↦ absurd (k.track track) | inr held ↦ calm_holds x calls c t calm (k.held held) ];

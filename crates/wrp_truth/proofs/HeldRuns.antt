@@ -13,9 +13,9 @@ use Rattle.wrp_bounds.specs.Times.{longest_tick, shortest_tick, frame_life}
 use Rattle.wrp_frame.specs.declared.fault.FrameFault.{FrameFault}
 use Rattle.wrp_node.specs.declared.interface.Input.TheVariants.{Tick as TickInput}
 use Rattle.wrp_node.specs.declared.interface.NodeSet.{NodeSet}
-use Rattle.wrp_node.specs.NodeAt.{Fixed, NodeAt, locked_of, servo_at, settings_of, state_of}
+use Rattle.wrp_node.specs.NodeAt.{NodeSetting, NodeAt, locked_of, servo_at, servo_setting_of, state_of}
 use Rattle.wrp_node.specs.StepLaws.{CommandsAreHeld}
-use Rattle.wrp_servo.specs.Call.{Call, CallSample, CallMeasured, CallTick, CallLease, CallLink, CallCarrier, CallReset, Settings, run}
+use Rattle.wrp_servo.specs.Call.{Call, CallSample, CallMeasured, CallTick, CallLease, CallLink, CallCarrier, CallReset, ServoSetting, run}
 use Rattle.wrp_servo.specs.declared.machine.Core.{Core}
 use Rattle.wrp_servo.specs.Laws.{NoStepInTrack}
 use Rattle.wrp_servo.specs.Sampling.{is_holdover}
@@ -30,7 +30,7 @@ use Rattle.wrp_world.specs.Premises.{is_holdover as held_state, rate_of}
 use Rattle.wrp_world.specs.Run.{Happened, world_after, worlds_of}
 use Rattle.wrp_world.specs.RunLaws.{TicksAreApart}
 use Rattle.wrp_world.specs.Runs.{IsNetwork, IsRun}
-use Rattle.wrp_world.specs.Setting.{Setting, fixed_of, link_of, of_node}
+use Rattle.wrp_world.specs.Setting.{Setting, node_setting_of, link_of, of_node}
 use Rattle.wrp_world.specs.WorldAt.{WorldAt}
 use Rattle.wrp_world.proofs.RunTimes.{comes_up_down, not_up}
 use Rattle.wrp_truth.specs.Holdovers.{HoldoverIsShort, IsHeld}
@@ -57,11 +57,11 @@ pub record HeldLaws : Type 0 where
   pub still : NoStepInTrack
 
 abbrev pub core_at : Setting → List Happened → ℕ → Core
-core_at s events n = servo_at (fixed_of s n) ((world_after s events).node n)
+core_at s events n = servo_at (node_setting_of s n) ((world_after s events).node n)
 
 -- A network's HOLDOVER has a tick
 
-pub lasts : (s : Setting) → IsNetwork s → (n : ℕ) → 0 < (settings_of (fixed_of s n)).set.holdover
+pub lasts : (s : Setting) → IsNetwork s → (n : ℕ) → 0 < (servo_setting_of (node_setting_of s n)).set.holdover
 lasts s net n =
     subst (λ z. 0 < z) (sym (ap (λ (x : NodeSet). x.servo.holdover) (net.set n)))
     (some_holdover (unsigned_abs s.cfg.holdover) ((unsigned_abs s.cfg.lease + 1) * longest_tick s.cfg + frame_life s.cfg) (shortest_tick s.cfg) net.accepted.inequalities.holdover_time)
@@ -69,15 +69,15 @@ lasts s net n =
 -- The servo of a node in HOLDOVER
 
 pub held_core : (s : Setting) (events : List Happened) (n : ℕ) (link : LinkCfg) → IsNetwork s → link_above s.cfg n ≡ Some link → IsHeld s n events → is_holdover (core_at s events n).state ≡ true
-held_core s events n link net above h = ap is_holdover (sym (with_servo (fixed_of s n) ((world_after s events).node n) (has_servo s net n link above)) ∙ h.state)
+held_core s events n link net above h = ap is_holdover (sym (with_servo (node_setting_of s n) ((world_after s events).node n) (has_servo s net n link above)) ∙ h.state)
 
 pub core_held : (s : Setting) (events : List Happened) (n : ℕ) (link : LinkCfg) → IsNetwork s → link_above s.cfg n ≡ Some link → ((world_after s events).clock n).up ≡ true → (core_at s events n).state ≡ Holdover → IsHeld s n events
-core_held s events n link net above up e = record { up = up; state = with_servo (fixed_of s n) ((world_after s events).node n) (has_servo s net n link above) ∙ e }
+core_held s events n link net above up e = record { up = up; state = with_servo (node_setting_of s n) ((world_after s events).node n) (has_servo s net n link above) ∙ e }
 
 since_when : HeldLaws → (s : Setting) (events : List Happened) (n : ℕ) (link : LinkCfg) → IsNetwork s → link_above s.cfg n ≡ Some link → IsHeld s n events → (t : ℕ) × OnHold (core_at s events n) t × (t < unsigned_abs s.cfg.holdover)
 since_when laws s events n link net above h =
-    let it : (t : ℕ) × OnHold (core_at s events n) t × (t < (settings_of (fixed_of s n)).set.holdover) =
-    on_hold laws.holds (settings_of (fixed_of s n)) ((world_after s events).node n).calls (lasts s net n) (held_core s events n link net above h) in
+    let it : (t : ℕ) × OnHold (core_at s events n) t × (t < (servo_setting_of (node_setting_of s n)).set.holdover) =
+    on_hold laws.holds (servo_setting_of (node_setting_of s n)) ((world_after s events).node n).calls (lasts s net n) (held_core s events n link net above h) in
     (it.0, it.1, subst (λ z. it.0 < z) (ap (λ (x : NodeSet). x.servo.holdover) (net.set n)) it.2)
 
 -- Events
@@ -85,8 +85,8 @@ since_when laws s events n link net above h =
 -- by which it neither ticks nor starts
 calm_on : HeldLaws → (s : Setting) (h : Happened) (before : List Happened) (n t : ℕ) → IsCalmOf n h.event → OnHold (core_at s before n) t → OnHold (core_at s (h ∷ before) n) t
 calm_on laws s h before n t calm hold =
-    node_kept (λ (m : NodeAt). OnHold (run (settings_of (fixed_of s n)) m.calls) t) IsCalm s h.says h.answer (world_after s before) h.event n
-    (λ u m q k. calls_kept (λ calls. OnHold (run (settings_of (fixed_of s n)) calls) t) (λ calls c ok k2. calm_holds (settings_of (fixed_of s n)) calls c t ok k2) (fixed_of s n) u m q k)
+    node_kept (λ (m : NodeAt). OnHold (run (servo_setting_of (node_setting_of s n)) m.calls) t) IsCalm s h.says h.answer (world_after s before) h.event n
+    (λ u m q k. calls_kept (λ calls. OnHold (run (servo_setting_of (node_setting_of s n)) calls) t) (λ calls c ok k2. calm_holds (servo_setting_of (node_setting_of s n)) calls c t ok k2) (node_setting_of s n) u m q k)
     (calm_to n h.event calm) hold
 
 telling_calm : (c : Call) → IsTelling c → IsCalmCall c × IsNoMeasure c
@@ -102,12 +102,12 @@ telling_calm CallReset h = absurd h
 tick_on : HeldLaws → (s : Setting) (says : Result PtpMsg FrameFault) (y : ℤ) (before : List Happened) (n m t : ℕ) (link : LinkCfg) → IsNetwork s → link_above s.cfg n ≡ Some link → n ≡ m → OnHold (core_at s before n) t →
     IsTicked (core_at s (record { event = Tick m; says = says; answer = y } ∷ before) n) (t + 1)
 tick_on laws s says y before n m t link net above same hold =
-    let x : Settings = settings_of (fixed_of s n) in
+    let x : ServoSetting = servo_setting_of (node_setting_of s n) in
     let w : WorldAt = world_after s before in
     subst (λ (z : NodeAt). IsTicked (run x z.calls) (t + 1)) (sym (ticked_node s says y w n m same).0)
     (told_tick (λ calls. OnHold (run x calls) t) (λ calls. IsTicked (run x calls) (t + 1)) (λ calls c ok k. calm_holds x calls c t (telling_calm c ok).0 k)
     (λ calls c ok k. ticked_stays laws.holds x (lasts s net n) calls c (t + 1) (telling_calm c ok).1 (telling_calm c ok).0 k)
-    (λ calls k. ticked_first laws.holds x calls t k) (fixed_of s n) (taken_of y (given_plain m TickInput)) (w.node n) refl (has_servo s net n link above) hold)
+    (λ calls k. ticked_first laws.holds x calls t k) (node_setting_of s n) (taken_of y (given_plain m TickInput)) (w.node n) refl (has_servo s net n link above) hold)
 
 -- How fast
 
@@ -121,7 +121,7 @@ unlocked_keeps false up locked held slew hold b u l h = absurd (false≢true b)
 held_rate : (s : Setting) (events : List Happened) (n t : ℕ) (link : LinkCfg) → IsNetwork s → link_above s.cfg n ≡ Some link → IsHeld s n events → OnHold (core_at s events n) t → rate_of s (world_after s events) n ≡ Some (of_node (λ node. node.held) s n)
 held_rate s events n t link net above h hold =
     let w : WorldAt = world_after s events in
-    let fixed : Fixed = fixed_of s n in
+    let fixed : NodeSetting = node_setting_of s n in
     let lock : locked_of fixed (w.node n) ≡ false = ap (λ (b : Bool). if b then (servo_at fixed (w.node n)).phase.lock.locked else false) (has_servo s net n link above) ∙ hold.locked in
     unlocked_keeps (is_some (link_above s.cfg n)) (w.clock n).up (locked_of fixed (w.node n)) (held_state (state_of fixed (w.node n))) (of_node (λ node. node.slew) s n) (of_node (λ node. node.held) s n) (ap is_some above) h.up lock (ap held_state h.state)
 
@@ -138,7 +138,7 @@ held_slow laws s h before n t link run above held hold =
     let inside : n < node_count s.cfg = is_inside s n link run.network above in
     as_slow (λ (x : WorldAt). x.time) rate (λ (x : WorldAt). (x.clock n).off) w (world_after s (h ∷ before))
     (clock_slow laws.commands s h.says h.answer before h.event n rate rate (λ _. Unit {0}) run inside held.up (held_rate s before n t link run.network above held hold) (nat_le_self rate)
-    (λ u k. still_in_track laws.commands laws.still (fixed_of s n) u (w.node n) (ap (λ z. is_track z || is_holdover z) hold.state)) tt)
+    (λ u k. still_in_track laws.commands laws.still (node_setting_of s n) u (w.node n) (ap (λ z. is_track z || is_holdover z) hold.state)) tt)
 
 -- Through one more event
 

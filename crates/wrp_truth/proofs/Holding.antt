@@ -3,7 +3,7 @@ use Rattle.std.proofs.Common.{◌≡◌, ◌⊎◌, inl, inr, ◌∙◌, refl, a
 use Rattle.std.proofs.lemmas.Int.{ints}
 use Rattle.std.proofs.Math.Nat.{mul-le-mul_right}
 use Rattle.std.proofs.lemmas.Bool.{cases_Bool, cases_lt}
-use Rattle.wrp_servo.specs.Call.{Call, CallSample, CallMeasured, CallTick, CallLease, CallLink, CallCarrier, CallReset, Settings, run, is_reset}
+use Rattle.wrp_servo.specs.Call.{Call, CallSample, CallMeasured, CallTick, CallLease, CallLink, CallCarrier, CallReset, ServoSetting, run, is_reset}
 use Rattle.wrp_servo.specs.Holdover.{ticks_among, NoneResets, InHoldover, HoldoverSince}
 use Rattle.wrp_servo.specs.Laws.{TrackSince}
 use Rattle.wrp_servo.specs.LookBack.{enters_track, leaves_track}
@@ -27,10 +27,10 @@ both_more CallReset calls others h = h
 -- The servo since it was in TRACK
 
 -- it is in TRACK, or left it no more ticks ago
-abbrev Stands : Settings → List Call → ℕ → Type 0
+abbrev Stands : ServoSetting → List Call → ℕ → Type 0
 Stands x calls ticks = (is_track (run x calls).state ≡ true) ⊎ ((i : InHoldover x calls) × (ticks_among i.since ≤ ticks))
 
-track_stays : TrackSince → (x : Settings) (calls : List Call) (call : Call) → is_track (run x calls).state ≡ true → leaves_track x calls call ≡ false → is_track (run x (call ∷ calls)).state ≡ true
+track_stays : TrackSince → (x : ServoSetting) (calls : List Call) (call : Call) → is_track (run x calls).state ≡ true → leaves_track x calls call ≡ false → is_track (run x (call ∷ calls)).state ≡ true
 track_stays law x calls call track stays =
     let s : Since (enters_track x) (leaves_track x) calls = (law x calls).0 track in
     (law x (call ∷ calls)).1 (record {
@@ -42,7 +42,7 @@ track_stays law x calls call track stays =
       stays = (subst (λ (l : List Call). leaves_track x l call ≡ false) s.splits stays, s.stays);
     })
 
-stands_on : TrackSince → (x : Settings) (calls : List Call) (call : Call) (ticks more : ℕ) → is_reset call ≡ false → 0 < x.set.holdover → more < x.set.holdover →
+stands_on : TrackSince → (x : ServoSetting) (calls : List Call) (call : Call) (ticks more : ℕ) → is_reset call ≡ false → 0 < x.set.holdover → more < x.set.holdover →
     ((since : List Call) → ticks_among since ≤ ticks → ticks_among (call ∷ since) ≤ more) → Stands x calls ticks → Stands x (call ∷ calls) more
 stands_on law x calls call ticks more no_reset some few grows (inl track) =
     elim (cases_Bool (leaves_track x calls call)) [
@@ -73,7 +73,7 @@ stands_on law x calls call ticks more no_reset some few grows (inr (i, early)) =
 some_ticks : (holdover a : ℕ) → a < holdover → 0 < holdover
 some_ticks holdover a h = omega arith
 
-stands_since : TrackSince → (x : Settings) (since before : List Call) → is_track (run x before).state ≡ true → NoneResets since → ticks_among since < x.set.holdover → Stands x (since ++ before) (ticks_among since)
+stands_since : TrackSince → (x : ServoSetting) (since before : List Call) → is_track (run x before).state ≡ true → NoneResets since → ticks_among since < x.set.holdover → Stands x (since ++ before) (ticks_among since)
 stands_since law x [] before track none few = inl track
 stands_since law x (call ∷ since) before track none few =
     let less : ticks_among since ≤ ticks_among (call ∷ since) = some_more call since in
@@ -83,10 +83,10 @@ stands_since law x (call ∷ since) before track none few =
     (stands_since law x since before track none.1 (omega arith))
 
 -- TRACK or HOLDOVER
-abbrev pub IsFollowed : Settings → List Call → Type 0
+abbrev pub IsFollowed : ServoSetting → List Call → Type 0
 IsFollowed x calls = (is_track (run x calls).state ≡ true) ⊎ (is_holdover (run x calls).state ≡ true)
 
-pub followed_since : TrackSince → HoldoverSince → (x : Settings) (since before : List Call) → is_track (run x before).state ≡ true → NoneResets since → ticks_among since < x.set.holdover → IsFollowed x (since ++ before)
+pub followed_since : TrackSince → HoldoverSince → (x : ServoSetting) (since before : List Call) → is_track (run x before).state ≡ true → NoneResets since → ticks_among since < x.set.holdover → IsFollowed x (since ++ before)
 followed_since law held x since before track none few =
     elim (stands_since law x since before track none few) [
       | inl is ↦ inl is
@@ -97,7 +97,7 @@ followed_since law held x since before track none few =
 
 -- since a true time at which the servo was in TRACK it was not reset, and its ticks came at least dmin apart; the last
 -- tick was at the second time
-pub record Followed (x : Settings) (dmin : ℕ) (at ticked : ℤ) (calls : List Call) : Type 0 where
+pub record Followed (x : ServoSetting) (dmin : ℕ) (at ticked : ℤ) (calls : List Call) : Type 0 where
   pub since : List Call
   pub before : List Call
   pub splits : calls ≡ since ++ before
@@ -105,7 +105,7 @@ pub record Followed (x : Settings) (dmin : ℕ) (at ticked : ℤ) (calls : List 
   pub no_reset : NoneResets since
   pub elapsed : (d : ℕ) → ticks_among since ≡ suc d → (at +ℤ pos (d * dmin)) ≤ℤ ticked
 
-pub follows_now : (x : Settings) (dmin : ℕ) (at ticked : ℤ) (calls : List Call) → is_track (run x calls).state ≡ true → Followed x dmin at ticked calls
+pub follows_now : (x : ServoSetting) (dmin : ℕ) (at ticked : ℤ) (calls : List Call) → is_track (run x calls).state ≡ true → Followed x dmin at ticked calls
 follows_now x dmin at ticked calls track = record {
   since = [];
   before = calls;
@@ -142,7 +142,7 @@ calm_stays (CallCarrier up) h = refl
 calm_stays CallTick h = refl
 calm_stays CallReset h = absurd h
 
-pub follows_calm : (x : Settings) (dmin : ℕ) (at ticked : ℤ) (calls : List Call) (call : Call) → IsCalmCall call → Followed x dmin at ticked calls → Followed x dmin at ticked (call ∷ calls)
+pub follows_calm : (x : ServoSetting) (dmin : ℕ) (at ticked : ℤ) (calls : List Call) (call : Call) → IsCalmCall call → Followed x dmin at ticked calls → Followed x dmin at ticked (call ∷ calls)
 follows_calm x dmin at ticked calls call calm f = record {
   since = call ∷ f.since;
   before = f.before;
@@ -162,7 +162,7 @@ next_elapsed dmin (suc d) ticks at ticked now past late h e =
 one_less : (a d : ℕ) → a + 1 ≡ suc d → a ≡ d
 one_less a d e = omega (arith, e)
 
-pub follows_tick : (x : Settings) (dmin : ℕ) (at ticked now : ℤ) (calls : List Call) → at ≤ℤ now → (ticked +ℤ pos dmin) ≤ℤ now → Followed x dmin at ticked calls → Followed x dmin at now (CallTick ∷ calls)
+pub follows_tick : (x : ServoSetting) (dmin : ℕ) (at ticked now : ℤ) (calls : List Call) → at ≤ℤ now → (ticked +ℤ pos dmin) ≤ℤ now → Followed x dmin at ticked calls → Followed x dmin at now (CallTick ∷ calls)
 follows_tick x dmin at ticked now calls past late f = record {
   since = CallTick ∷ f.since;
   before = f.before;
@@ -183,7 +183,7 @@ enough dmin holdover (suc e) at ticked h some all =
     sum : (at ticked : ℤ) (p q : ℕ) → p ≤ q → (at +ℤ pos q) ≤ℤ ticked → (at +ℤ pos p) ≤ℤ ticked
     sum at ticked p q more late = omega (arith, ints)
 
-pub follows_still : TrackSince → HoldoverSince → (x : Settings) (dmin : ℕ) (at ticked : ℤ) (calls : List Call) → 0 < x.set.holdover → Followed x dmin at ticked calls →
+pub follows_still : TrackSince → HoldoverSince → (x : ServoSetting) (dmin : ℕ) (at ticked : ℤ) (calls : List Call) → 0 < x.set.holdover → Followed x dmin at ticked calls →
     ((at +ℤ pos ((x.set.holdover - 1) * dmin)) ≤ℤ ticked → ⊥) → IsFollowed x calls
 follows_still law held x dmin at ticked calls some f early =
     elim (cases_lt (ticks_among f.since) x.set.holdover) [

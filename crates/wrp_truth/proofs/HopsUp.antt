@@ -23,7 +23,7 @@ use Rattle.wrp_tracking.specs.Tree.{HeldWithin, HopsHold, IsBounded, IsSource, O
 use Rattle.wrp_tracking.proofs.Histories.{slow_between}
 use Rattle.wrp_world.specs.Run.{Happened, world_after, worlds_of}
 use Rattle.wrp_world.specs.Runs.{IsNetwork, IsRun}
-use Rattle.wrp_world.specs.Setting.{Setting, fixed_of, link_of, of_node}
+use Rattle.wrp_world.specs.Setting.{Setting, node_setting_of, link_of, of_node}
 use Rattle.wrp_world.specs.WorldAt.{WorldAt}
 use Rattle.wrp_truth.specs.Bounds.{OffsetsKeepBounds, TrueRun}
 use Rattle.wrp_truth.specs.Holdovers.{HeldSince, HoldoverIsFromTrack, HoldoverIsShort, IsHeld, LeavesTrack}
@@ -51,10 +51,10 @@ pub record HopLaws : Type 0 where
 
 -- the offset of each node, and the state of its servo where it is up: a node that is down keeps the one in which it stopped
 abbrev pub offsets_up : Setting → WorldAt → Offsets
-offsets_up s w = record { off = λ n. (w.clock n).off; state = λ n. if (w.clock n).up then state_of (fixed_of s n) (w.node n) else Uninit }
+offsets_up s w = record { off = λ n. (w.clock n).off; state = λ n. if (w.clock n).up then state_of (node_setting_of s n) (w.node n) else Uninit }
 
-state_up : (s : Setting) (w : WorldAt) (n : ℕ) → (w.clock n).up ≡ true → (offsets_up s w).state n ≡ state_of (fixed_of s n) (w.node n)
-state_up s w n up = ap (λ b. if b then state_of (fixed_of s n) (w.node n) else Uninit) up
+state_up : (s : Setting) (w : WorldAt) (n : ℕ) → (w.clock n).up ≡ true → (offsets_up s w).state n ≡ state_of (node_setting_of s n) (w.node n)
+state_up s w n up = ap (λ b. if b then state_of (node_setting_of s n) (w.node n) else Uninit) up
 
 shown : (b : Bool) (state other : ServoState) → (if b then state else Uninit) ≡ other → (Uninit ≡ other → ⊥) → (b ≡ true) × (state ≡ other)
 shown true state other e h = (refl, e)
@@ -64,10 +64,10 @@ not_held : Uninit ≡ Holdover → ⊥
 not_held e = let f : false ≡ true = ap is_holdover e in cc
 
 -- the grandmaster shows none
-pub top_state : (s : Setting) → IsNetwork s → (w : WorldAt) (n : ℕ) → link_above s.cfg n ≡ None → state_of (fixed_of s n) (w.node n) ≡ Uninit
+pub top_state : (s : Setting) → IsNetwork s → (w : WorldAt) (n : ℕ) → link_above s.cfg n ≡ None → state_of (node_setting_of s n) (w.node n) ≡ Uninit
 top_state s net w n above =
     let none : slave_of (s.set n) ≡ None = ap (λ (x : NodeSet). slave_of x) (net.set n) ∙ slave_is_above s.cfg n ∙ ap (option_map (λ (l : LinkCfg). l.lower_port)) above in
-    ap (λ (o : Option ℕ). if is_some o then (servo_at (fixed_of s n) (w.node n)).state else Uninit) none
+    ap (λ (o : Option ℕ). if is_some o then (servo_at (node_setting_of s n) (w.node n)).state else Uninit) none
 
 -- A node in TRACK
 
@@ -84,7 +84,7 @@ below_source source chain s events k link run is e =
     record { parent = up.0; own = up.1; source = subst (HasSource s link) (sym f.splits) (at_newest (HasSource s link) f.newer f.older f.source) }
 
 -- so it is up
-pub track_up : ChainHasSource → TrackHasChain → (s : Setting) (events : List Happened) (n : ℕ) (link : LinkCfg) → IsRun s events → link_above s.cfg n ≡ Some link → state_of (fixed_of s n) ((world_after s events).node n) ≡ Track → ((world_after s events).clock n).up ≡ true
+pub track_up : ChainHasSource → TrackHasChain → (s : Setting) (events : List Happened) (n : ℕ) (link : LinkCfg) → IsRun s events → link_above s.cfg n ≡ Some link → state_of (node_setting_of s n) ((world_after s events).node n) ≡ Track → ((world_after s events).clock n).up ≡ true
 track_up source chain s events n link run above e =
     let at : (k : ℕ) × (link_of s k ≡ Some link) × (link.lower ≡ n) = above_at s n link above in
     subst (λ i. (core_at s events i).state ≡ Track → ((world_after s events).clock i).up ≡ true) at.2
@@ -114,7 +114,7 @@ lower_tracks laws s events k link runs is above e =
       source = source_up s w link.upper it.parent it.source;
     }
 
-node_tracks : HopLaws → (s : Setting) (events : List Happened) (n : ℕ) (link : LinkCfg) → TrueRun s events → link_above s.cfg n ≡ Some link → state_of (fixed_of s n) ((world_after s events).node n) ≡ Track → TracksBelow s events n link
+node_tracks : HopLaws → (s : Setting) (events : List Happened) (n : ℕ) (link : LinkCfg) → TrueRun s events → link_above s.cfg n ≡ Some link → state_of (node_setting_of s n) ((world_after s events).node n) ≡ Track → TracksBelow s events n link
 node_tracks laws s events n link runs above e =
     let at : (k : ℕ) × (link_of s k ≡ Some link) × (link.lower ≡ n) = above_at s n link above in
     subst (λ i. link_above s.cfg i ≡ Some link → (core_at s events i).state ≡ Track → TracksBelow s events i link) at.2
@@ -170,7 +170,7 @@ held_within laws s events n link runs older above held =
     (subst (λ o. unsigned_abs o ≤ path_of s.cfg n) (sym left.still) (bounded.track (state_up s w n left.up ∙ left.state)))
 
 held_any : HopLaws → (s : Setting) (events : List Happened) (n : ℕ) (above : Option LinkCfg) → TrueRun s events → HopsBefore s events → link_above s.cfg n ≡ above → ((world_after s events).clock n).up ≡ true →
-    state_of (fixed_of s n) ((world_after s events).node n) ≡ Holdover → unsigned_abs ((world_after s events).clock n).off ≤ holdover_of s.cfg n
+    state_of (node_setting_of s n) ((world_after s events).node n) ≡ Holdover → unsigned_abs ((world_after s events).clock n).off ≤ holdover_of s.cfg n
 held_any laws s events n None runs older above up e = absurd (not_held (sym (top_state s runs.run.network (world_after s events) n above) ∙ e))
 held_any laws s events n (Some link) runs older above up e = held_within laws s events n link runs older above (record { up = up; state = e })
 
@@ -181,9 +181,9 @@ hops_by laws s events runs older =
     let w : WorldAt = world_after s events in
     record {
       top = λ n above. laws.top s events n runs.run above;
-      hop = λ n link above e. (node_tracks laws s events n link runs above (shown (w.clock n).up (state_of (fixed_of s n) (w.node n)) Track e new_state).1).hop;
-      source = λ n link above e. (node_tracks laws s events n link runs above (shown (w.clock n).up (state_of (fixed_of s n) (w.node n)) Track e new_state).1).source;
-      held = λ n e. let it : _ = shown (w.clock n).up (state_of (fixed_of s n) (w.node n)) Holdover e not_held in held_any laws s events n (link_above s.cfg n) runs older refl it.0 it.1;
+      hop = λ n link above e. (node_tracks laws s events n link runs above (shown (w.clock n).up (state_of (node_setting_of s n) (w.node n)) Track e new_state).1).hop;
+      source = λ n link above e. (node_tracks laws s events n link runs above (shown (w.clock n).up (state_of (node_setting_of s n) (w.node n)) Track e new_state).1).source;
+      held = λ n e. let it : _ = shown (w.clock n).up (state_of (node_setting_of s n) (w.node n)) Holdover e not_held in held_any laws s events n (link_above s.cfg n) runs older refl it.0 it.1;
     }
 
 -- of lists that are no longer than this

@@ -27,7 +27,7 @@ use Rattle.wrp_world.specs.Premises.{Accepts}
 use Rattle.wrp_world.specs.Run.{Happened, world_after}
 use Rattle.wrp_world.specs.RunLaws.{TicksAreApart}
 use Rattle.wrp_world.specs.Runs.{IsNetwork, IsRun, WasPutOut}
-use Rattle.wrp_world.specs.Setting.{Setting, end_of, fixed_of, link_of}
+use Rattle.wrp_world.specs.Setting.{Setting, end_of, node_setting_of, link_of}
 use Rattle.wrp_world.specs.WorldAt.{Sending, WorldAt}
 use Rattle.wrp_truth.specs.Moments.{AtEach}
 use Rattle.wrp_truth.specs.SequenceIds.{IdsComeAgainLate, IsOpenAt, IsTimed, OneTimedAnEvent}
@@ -139,9 +139,9 @@ put_in s events k link r x is timed put =
 abbrev one_put : Setting → WorldAt → LinkCfg → Role → Sending
 one_put s w link r =
     let set : PortSetting = setting_of (s.set (end_of r link).node) (end_of r link).port in
-    let node : NodeAt = (servo_ticked (fixed_of s (end_of r link).node) (w.node (end_of r link).node)).node in
+    let node : NodeAt = (servo_ticked (node_setting_of s (end_of r link).node) (w.node (end_of r link).node)).node in
     sending (moved s w (Tick (end_of r link).node))
-    (timed_of r set (ticked set (line_of set (node.told (end_of r link).port)) (locked_of (fixed_of s (end_of r link).node) node)).ids)
+    (timed_of r set (ticked set (line_of set (node.told (end_of r link).port)) (locked_of (node_setting_of s (end_of r link).node) node)).ids)
 
 is_one : (s : Setting) (w : WorldAt) (link : LinkCfg) (r : Role) (e : Event) (x : Sending) → NewIn s w link r e x → x ≡ one_put s w link r
 is_one s w link r e x new = new.1.1 ∙ ap (sending (moved s w (Tick (end_of r link).node))) new.1.2.2
@@ -176,11 +176,11 @@ seq_is Slave set told locked e = ap (λ (x : Role). at_slave x (sent_each set.sc
 on_tick : (s : Setting) (w : WorldAt) (link : LinkCfg) (r : Role) (e : Event) (x : Sending) → NewIn s w link r e x → OnTick s (port_at link r) r w x
 on_tick s w link r e x new =
     let q : PortOf = port_at link r in
-    let node : NodeAt = (servo_ticked (fixed_of s q.node) (w.node q.node)).node in
-    let locked : Bool = locked_of (fixed_of s q.node) node in
+    let node : NodeAt = (servo_ticked (node_setting_of s q.node) (w.node q.node)).node in
+    let locked : Bool = locked_of (node_setting_of s q.node) node in
     record {
       at = ap (λ (t : Sending). t.at) new.1.1;
-      due = sym (due_in r (set_at s q) (told_then s q w) locked (certain_of (fixed_of s q.node) node)) ∙ new.1.2.1;
+      due = sym (due_in r (set_at s q) (told_then s q w) locked (certain_of (node_setting_of s q.node) node)) ∙ new.1.2.1;
       seq = ap (λ (t : Sending). t.message.head.seq) new.1.1 ∙ ap (λ (m : PtpMsg). m.head.seq) new.1.2.2 ∙ seq_is r (set_at s q) (told_then s q w) locked new.1.2.0;
     }
 
@@ -260,12 +260,12 @@ comes_late s q r first w x y says net a xt yt takes since same =
     let started : List PortIn = tick_then s q first ∷ told_then s q first in
     let told : List PortIn = told_then s q w in
     let now : List PortIn = tick_then s q w ∷ told in
-    let node : NodeAt = (servo_ticked (fixed_of s q.node) (w.node q.node)).node in
+    let node : NodeAt = (servo_ticked (node_setting_of s q.node) (w.node q.node)).node in
     let held : OpenGone set b.every b.ticks b.sent d told = gone_then s q b d w takes since.later.gone in
     let whole : b.ticks % b.every ≡ 0 = (due_at (link_told set started) (ticks_open set started % b.every) xt.due).1 in
     let due : (is_open (link_told set now) ≡ true) × (ticks_open set now % b.every ≡ 0) = due_at (link_told set now) (ticks_open set now % b.every) yt.due in
     let count : ticks_open set now ≡ b.ticks + (d + 1) =
-    one_tick set b.every b.ticks b.sent d told (locked_of (fixed_of s q.node) node) (certain_of (fixed_of s q.node) node) held due.0 in
+    one_tick set b.every b.ticks b.sent d told (locked_of (node_setting_of s q.node) node) (certain_of (node_setting_of s q.node) node) held due.0 in
     let rounds : (held.1.more + 1) * b.every ≤ d + 1 =
     next_multiple b.every b.ticks d held.1.more whole (sym (ap (λ n. n % b.every) count) ∙ due.1) held.1.few in
     let again : 65536 ≤ held.1.more + 1 =

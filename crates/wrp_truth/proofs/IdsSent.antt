@@ -10,7 +10,7 @@ use Rattle.wrp_base.specs.declared.time.Stamp.{Stamp}
 use Rattle.wrp_frame.specs.declared.fault.FrameFault.{FrameFault}
 use Rattle.wrp_node.specs.declared.interface.Input.{Input}
 use Rattle.wrp_node.specs.declared.interface.Input.TheVariants.{Tick, Sample, Frame, Sent, Carrier, Reset}
-use Rattle.wrp_node.specs.NodeAt.{Fixed, NodeAt, Taken, certain_of, setting_of, line_at, locked_of}
+use Rattle.wrp_node.specs.NodeAt.{NodeSetting, NodeAt, Taken, certain_of, setting_of, line_at, locked_of}
 use Rattle.wrp_node.specs.NodeStep.{servo_ticked, stamp_of, node_step}
 use Rattle.wrp_port.specs.declared.line.Ids.{Ids}
 use Rattle.wrp_port.specs.declared.line.Line.{Line}
@@ -71,12 +71,12 @@ no_follow_up Master set seq stamp t = t
 no_follow_up Slave set seq stamp t = t
 
 -- a port at a tick, once the lease and the servo had theirs, sends such a message; at no other input is one sent
-abbrev pub SentAt : Fixed → NodeAt → (r : Role) → (p : ℕ) → Input → PtpMsg → Type 0
+abbrev pub SentAt : NodeSetting → NodeAt → (r : Role) → (p : ℕ) → Input → PtpMsg → Type 0
 SentAt fixed n r p Tick m =
     TickSends (setting_of fixed.set p) r (line_at fixed.set (servo_ticked fixed n).node p) (locked_of fixed (servo_ticked fixed n).node) m
 SentAt fixed n r p _ m = ⊥
 
-timed_by : (fixed : Fixed) (n : NodeAt) (r : Role) (p : ℕ) (input : Input) (says : Result PtpMsg FrameFault) → SentBy (λ m. IsTimed r m.body → SentAt fixed n r p input m) fixed n p input says
+timed_by : (fixed : NodeSetting) (n : NodeAt) (r : Role) (p : ℕ) (input : Input) (says : Result PtpMsg FrameFault) → SentBy (λ m. IsTimed r m.body → SentAt fixed n r p input m) fixed n p input says
 timed_by fixed n r p Tick says = scheduled_timed (setting_of fixed.set p) (setting_of fixed.set p).ds.role r (ticked (setting_of fixed.set p) (line_at fixed.set (servo_ticked fixed n).node p) (locked_of fixed (servo_ticked fixed n).node)) (certain_of fixed (servo_ticked fixed n).node)
 timed_by fixed n r p (Sample number base bits) says = tt
 timed_by fixed n r p (Frame q octets raw sample) says = λ m is same hears request t. no_response r (setting_of fixed.set p) m.head (stamp_of fixed n p raw sample) t
@@ -84,7 +84,7 @@ timed_by fixed n r p (Sent q seq delay stamp) says = λ e same t. no_follow_up r
 timed_by fixed n r p (Carrier q up own_module) says = tt
 timed_by fixed n r p Reset says = tt
 
-pub step_where : (fixed : Fixed) (t : Taken) (n : NodeAt) (r : Role) (p : ℕ) → Where (SentAt fixed n r p t.input) r ((node_step fixed t n).sends p)
+pub step_where : (fixed : NodeSetting) (t : Taken) (n : NodeAt) (r : Role) (p : ℕ) → Where (SentAt fixed n r p t.input) r ((node_step fixed t n).sends p)
 step_where fixed t n r p =
     step_each (λ m. IsTimed r m.body → SentAt fixed n r p t.input m) fixed t n p (no_signal (SentAt fixed n r p t.input) r (setting_of fixed.set p)) (timed_by fixed n r p t.input t.says)
 
@@ -101,5 +101,5 @@ among Q r v x (m ∷ ms) h timed put = elim put [
   | inr rest ↦ among Q r v x ms h.1 timed rest
 ]
 
-pub put_by_step : (fixed : Fixed) (t : Taken) (n : NodeAt) (r : Role) (p : ℕ) (v : WorldAt) (x : Sending) → IsTimed r x.message.body → WasPutOut x (map (sending v) ((node_step fixed t n).sends p)) → PutNow (SentAt fixed n r p t.input) v x
+pub put_by_step : (fixed : NodeSetting) (t : Taken) (n : NodeAt) (r : Role) (p : ℕ) (v : WorldAt) (x : Sending) → IsTimed r x.message.body → WasPutOut x (map (sending v) ((node_step fixed t n).sends p)) → PutNow (SentAt fixed n r p t.input) v x
 put_by_step fixed t n r p v x timed put = among (SentAt fixed n r p t.input) r v x ((node_step fixed t n).sends p) (step_where fixed t n r p) timed put

@@ -18,19 +18,19 @@ use Rattle.wrp_world.specs.declared.event.Event.TheVariants.{Pass, Tick, Sample,
 use Rattle.wrp_world.proofs.RunSettled.{given_up}
 use Rattle.wrp_world.specs.Given.{Given, at_ports, clock_told, comes_from, delivered, given_by, gives, gives_all, goes_from, step_of, taken_of, ticked_by, world_step}
 use Rattle.wrp_world.specs.Moved.{moved, waiting_at}
-use Rattle.wrp_world.specs.Setting.{Setting, fixed_of, place_of}
+use Rattle.wrp_world.specs.Setting.{Setting, node_setting_of, place_of}
 use Rattle.wrp_world.specs.WorldAt.{WorldAt, has_carrier}
 use Rattle.wrp_world.proofs.RunGifts.{AllGiven, all_if, comes_all, delivered_all, goes_all, ports_all, sent_all}
 use Rattle.arrayvec.specs.ArrayVec.{ArrayVec as Items}
 
 -- One input
 
-pub node_given : (P : NodeAt → Type 0) (s : Setting) (y : ℤ) (v : WorldAt) (g : Given) (n : ℕ) → (n ≡ g.to → P (node_step (fixed_of s n) (taken_of y g) (v.node n)).node) → P (v.node n) → P ((gives s y v g).node n)
+pub node_given : (P : NodeAt → Type 0) (s : Setting) (y : ℤ) (v : WorldAt) (g : Given) (n : ℕ) → (n ≡ g.to → P (node_step (node_setting_of s n) (taken_of y g) (v.node n)).node) → P (v.node n) → P ((gives s y v g).node n)
 node_given P s y v g n here there =
     elim (eqb_tells n g.to) [
       | inl x ↦
           subst (λ b. P (if b then (step_of s y v g).node else v.node n)) (sym x.0)
-          (subst (λ i. P (node_step (fixed_of s i) (taken_of y g) (v.node i)).node) x.1 (here x.1))
+          (subst (λ i. P (node_step (node_setting_of s i) (taken_of y g) (v.node i)).node) x.1 (here x.1))
       | inr x ↦ subst (λ b. P (if b then (step_of s y v g).node else v.node n)) (sym x.0) there
     ]
 
@@ -42,7 +42,7 @@ pub all_to : (Q : Input → Type 0) (n : ℕ) (gs : List Given) → AllGiven Q g
 all_to Q n [] h = tt
 all_to Q n (g ∷ gs) h = (λ e. h.0, all_to Q n gs h.1)
 
-pub node_given_all : (P : NodeAt → Type 0) (Q : Input → Type 0) (s : Setting) (y : ℤ) (n : ℕ) → ((t : Taken) (m : NodeAt) → Q t.input → P m → P (node_step (fixed_of s n) t m).node) → (gs : List Given) (v : WorldAt) → To Q n gs →
+pub node_given_all : (P : NodeAt → Type 0) (Q : Input → Type 0) (s : Setting) (y : ℤ) (n : ℕ) → ((t : Taken) (m : NodeAt) → Q t.input → P m → P (node_step (node_setting_of s n) t m).node) → (gs : List Given) (v : WorldAt) → To Q n gs →
     P (v.node n) → P ((gives_all s y v gs).node n)
 node_given_all P Q s y n step [] v h p = p
 node_given_all P Q s y n step (g ∷ gs) v h p =
@@ -85,7 +85,7 @@ gives_to Q s w v says n (Join k ms sm) h =
 
 -- what inputs of these kinds keep of a node, an event that gives it no others keeps
 pub node_kept : (P : NodeAt → Type 0) (Q : Input → Type 0) (s : Setting) (says : Result PtpMsg FrameFault) (y : ℤ) (w : WorldAt) (e : Event) (n : ℕ) →
-    ((t : Taken) (m : NodeAt) → Q t.input → P m → P (node_step (fixed_of s n) t m).node) → GivesTo Q n e → P (w.node n) → P ((world_step s says y w e).node n)
+    ((t : Taken) (m : NodeAt) → Q t.input → P m → P (node_step (node_setting_of s n) t m).node) → GivesTo Q n e → P (w.node n) → P ((world_step s says y w e).node n)
 node_kept P Q s says y w e n step h p =
     node_given_all P Q s y n step (given_by s w (moved s w e) says e) (moved s w e) (gives_to Q s w (moved s w e) says n e h) p
 

@@ -17,14 +17,14 @@ use Rattle.wrp_link.specs.LinkAt.{LinkAt}
 use Rattle.wrp_link.specs.Rows.{Row, CarrierGoes, Counts, Fails, announce_row, message_row, under}
 use Rattle.wrp_link.specs.Table.{after, by_row}
 use Rattle.wrp_node.specs.LinkNews.{LinkNews, Nothing, Given, Renewed, StepGivesLinks, link_after, news_at}
-use Rattle.wrp_node.specs.NodeAt.{Fixed, NodeAt, Taken, deltas_at, deltas_in, link_at, port_of, setting_of, settings_of, slave_of}
+use Rattle.wrp_node.specs.NodeAt.{NodeSetting, NodeAt, Taken, deltas_at, deltas_in, link_at, port_of, setting_of, servo_setting_of, slave_of}
 use Rattle.wrp_node.specs.NodeRun.{node_after}
 use Rattle.wrp_node.specs.NodeStep.{node_step, stepped}
 use Rattle.wrp_node.specs.Telling.{Step, called, is_changed, link_change, with_lease}
 use Rattle.wrp_node.proofs.Links.{tell_link}
 use Rattle.wrp_port.specs.declared.setting.Setting.{Setting}
 use Rattle.wrp_port.specs.PortAt.{deltas_in as deltas_while, deltas_of}
-use Rattle.wrp_servo.specs.Call.{Call, CallSample, CallMeasured, CallTick, CallLease, CallLink, CallCarrier, CallReset, Settings, run}
+use Rattle.wrp_servo.specs.Call.{Call, CallSample, CallMeasured, CallTick, CallLease, CallLink, CallCarrier, CallReset, ServoSetting, run}
 use Rattle.wrp_servo.specs.declared.machine.Core.{Core}
 use Rattle.wrp_servo.specs.declared.machine.Measurement.{Measurement}
 use Rattle.wrp_servo.specs.Laws.{ChainHasSignals}
@@ -44,14 +44,14 @@ pub record DeltaLaws : Type 0 where
 -- What the servo was told of the link
 
 -- the measurement that stands was reckoned by the deltas that the servo was told last
-pub record IsReckonedBy (x : Settings) (calls : List Call) (k : Measurement) : Type 0 where
+pub record IsReckonedBy (x : ServoSetting) (calls : List Call) (k : Measurement) : Type 0 where
   pub was : WasMeasured x calls k
   pub told : link_told calls ≡ Some was.deltas
 
-abbrev pub Reckons : Settings → List Call → Type 0
+abbrev pub Reckons : ServoSetting → List Call → Type 0
 Reckons x calls = (k : Measurement) → (run x calls).kept ≡ Some k → IsReckonedBy x calls k
 
-later : (x : Settings) (calls : List Call) (c : Call) (k : Measurement) → link_told (c ∷ calls) ≡ link_told calls → IsReckonedBy x calls k → IsReckonedBy x (c ∷ calls) k
+later : (x : ServoSetting) (calls : List Call) (c : Call) (k : Measurement) → link_told (c ∷ calls) ≡ link_told calls → IsReckonedBy x calls k → IsReckonedBy x (c ∷ calls) k
 later x calls c k same h = record {
   was = record {
     since = c ∷ h.was.since;
@@ -79,7 +79,7 @@ chain_deltas : (v : Core) (first : Option ℕ) (d : Deltas) → v.first ≡ firs
 chain_deltas v (Some n) d e h = sym (ap (λ o. deltas_in_chain (record v { first = o })) e) ∙ h
 chain_deltas v None d e h = absurd (none-some d (sym (ap (λ o. deltas_in_chain (record v { first = o })) e) ∙ h))
 
-brought : DeltaLaws → (x : Settings) (calls : List Call) (f : Four) (y : ℤ) (k : Measurement) → Brings x calls f y k → IsReckonedBy x (CallMeasured f y ∷ calls) k
+brought : DeltaLaws → (x : ServoSetting) (calls : List Call) (f : Four) (y : ℤ) (k : Measurement) → Brings x calls f y k → IsReckonedBy x (CallMeasured f y ∷ calls) k
 brought laws x calls f y k b =
     subst (λ (m : Measurement). IsReckonedBy x (CallMeasured f y ∷ calls) m) (sym b.is)
     (record {
@@ -87,9 +87,9 @@ brought laws x calls f y k b =
       told = sym (laws.told x calls).link ∙ chain_deltas (run x calls) (run x calls).first b.deltas refl b.in_chain;
     })
 
-each_reckons : DeltaLaws → (fixed : Fixed) (p : ℕ) → KeptByEach fixed p (λ ticks told calls. Reckons (settings_of fixed) calls)
+each_reckons : DeltaLaws → (fixed : NodeSetting) (p : ℕ) → KeptByEach fixed p (λ ticks told calls. Reckons (servo_setting_of fixed) calls)
 each_reckons laws fixed p =
-    let x : Settings = settings_of fixed in
+    let x : ServoSetting = servo_setting_of fixed in
     record {
       port = λ ticks told calls input plain h. h;
       count = λ ticks told calls h. h;
@@ -107,16 +107,16 @@ never_off true true e f c = false≢true c
 never_off true false e f c = false≢true f
 never_off false on e f c = false≢true e
 
-link_reckons : DeltaLaws → (fixed : Fixed) → KeptByLink fixed (λ ticks told calls. Reckons (settings_of fixed) calls)
+link_reckons : DeltaLaws → (fixed : NodeSetting) → KeptByLink fixed (λ ticks told calls. Reckons (servo_setting_of fixed) calls)
 link_reckons laws fixed ticks told calls on changed h k is =
-    let x : Settings = settings_of fixed in
+    let x : ServoSetting = servo_setting_of fixed in
     let old : IsReckonedBy x calls k = h k (kept_before x calls (CallLink on) k tt is) in
     absurd (never_off (is_some (link_told calls)) (is_some on) (ap is_some old.told) (laws.signals x (CallLink on ∷ calls) (kept_stands x (CallLink on ∷ calls) k is)).link changed)
 
-pub node_reckons : DeltaLaws → (fixed : Fixed) (p : ℕ) → slave_of fixed.set ≡ Some p → IsOnlySlave fixed p → (inputs : List Taken) → Reckons (settings_of fixed) (node_after fixed inputs).calls
+pub node_reckons : DeltaLaws → (fixed : NodeSetting) (p : ℕ) → slave_of fixed.set ≡ Some p → IsOnlySlave fixed p → (inputs : List Taken) → Reckons (servo_setting_of fixed) (node_after fixed inputs).calls
 node_reckons laws fixed p slave only [] = λ k is. absurd (none-some k is)
 node_reckons laws fixed p slave only (t ∷ before) =
-    step_keeps_each (λ ticks told calls. Reckons (settings_of fixed) calls) fixed p (each_reckons laws fixed p) (link_reckons laws fixed) slave only t (node_after fixed before) (node_reckons laws fixed p slave only before)
+    step_keeps_each (λ ticks told calls. Reckons (servo_setting_of fixed) calls) fixed p (each_reckons laws fixed p) (link_reckons laws fixed) slave only t (node_after fixed before) (node_reckons laws fixed p slave only before)
 
 -- The link itself
 
@@ -182,11 +182,11 @@ stays_on set role l d news e =
 
 -- What the servo was told of it is so, after every input
 
-abbrev pub KnowsDeltas : Fixed → NodeAt → Type 0
+abbrev pub KnowsDeltas : NodeSetting → NodeAt → Type 0
 KnowsDeltas fixed n = (d : Deltas) → link_told n.calls ≡ Some d → deltas_in fixed.set n ≡ Some d
 
 -- nothing is told of it before the end of a step
-each_tells : (fixed : Fixed) (p : ℕ) (old : List Call) → KeptByEach fixed p (λ ticks told calls. (d : Deltas) → link_told calls ≡ Some d → link_told old ≡ Some d)
+each_tells : (fixed : NodeSetting) (p : ℕ) (old : List Call) → KeptByEach fixed p (λ ticks told calls. (d : Deltas) → link_told calls ≡ Some d → link_told old ≡ Some d)
 each_tells fixed p old = record {
   port = λ ticks told calls input plain h. h;
   count = λ ticks told calls h. h;
@@ -201,7 +201,7 @@ told_at_end true true on calls d e is = inl is
 told_at_end true false on calls d e is = inr (is, refl)
 told_at_end false changes on calls d e is = absurd (false≢true e)
 
-deltas_here : (fixed : Fixed) (p : ℕ) (n : NodeAt) → slave_of fixed.set ≡ Some p → deltas_in fixed.set n ≡ deltas_of (port_of fixed.set p).role (link_at fixed.set n p)
+deltas_here : (fixed : NodeSetting) (p : ℕ) (n : NodeAt) → slave_of fixed.set ≡ Some p → deltas_in fixed.set n ≡ deltas_of (port_of fixed.set p).role (link_at fixed.set n p)
 deltas_here fixed p n slave = ap (deltas_at fixed.set n) slave
 
 still_some : (told on : Option Deltas) (d : Deltas) → told ≡ Some d → is_changed (is_some told) (is_some on) ≡ false → on ≡ None → ⊥
@@ -212,7 +212,7 @@ still_some told on d e c none = absurd (flip (is_some told) (is_some on) (ap is_
     flip true true e f c = false≢true (sym f)
     flip false b e f c = false≢true e
 
-pub step_knows : DeltaLaws → (fixed : Fixed) (p : ℕ) → slave_of fixed.set ≡ Some p → IsOnlySlave fixed p → (t : Taken) (n : NodeAt) → KnowsDeltas fixed n → KnowsDeltas fixed (node_step fixed t n).node
+pub step_knows : DeltaLaws → (fixed : NodeSetting) (p : ℕ) → slave_of fixed.set ≡ Some p → IsOnlySlave fixed p → (t : Taken) (n : NodeAt) → KnowsDeltas fixed n → KnowsDeltas fixed (node_step fixed t n).node
 step_knows laws fixed p slave only t n knows d is =
     let s : Step = with_lease fixed (stepped fixed t.input t.says t.answer n) in
     let after : NodeAt = (node_step fixed t n).node in
@@ -234,6 +234,6 @@ step_knows laws fixed p slave only t n knows d is =
           ]
     ]
 
-pub node_knows : DeltaLaws → (fixed : Fixed) (p : ℕ) → slave_of fixed.set ≡ Some p → IsOnlySlave fixed p → (inputs : List Taken) → KnowsDeltas fixed (node_after fixed inputs)
+pub node_knows : DeltaLaws → (fixed : NodeSetting) (p : ℕ) → slave_of fixed.set ≡ Some p → IsOnlySlave fixed p → (inputs : List Taken) → KnowsDeltas fixed (node_after fixed inputs)
 node_knows laws fixed p slave only [] d is = absurd (none-some d is)
 node_knows laws fixed p slave only (t ∷ before) d is = step_knows laws fixed p slave only t (node_after fixed before) (node_knows laws fixed p slave only before) d is

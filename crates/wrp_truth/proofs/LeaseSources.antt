@@ -28,7 +28,7 @@ use Rattle.wrp_world.specs.Moved.{moved}
 use Rattle.wrp_world.specs.Run.{Happened, world_after}
 use Rattle.wrp_world.specs.RunLaws.{FramesWerePutOut}
 use Rattle.wrp_world.specs.Runs.{IsRun, WasPutOut}
-use Rattle.wrp_world.specs.Setting.{Setting, fixed_of, link_of}
+use Rattle.wrp_world.specs.Setting.{Setting, node_setting_of, link_of}
 use Rattle.wrp_world.specs.WorldAt.{Sending, WorldAt, ends_are_up, has_carrier}
 use Rattle.wrp_world.proofs.RunSettled.{all_given_carrier}
 use Rattle.wrp_world.proofs.RunTimes.{comes_up_down, time_never_falls, not_up}
@@ -126,8 +126,8 @@ tick_held laws s says y before m k link turns run is same e old =
     let node : _ = ticked_node s says y w link.lower m same in
     let slave : slave_of (s.set link.lower) ≡ Some link.lower_port = has_slave s run.network link.lower link (above_is s run.network k link is) in
     let was : (u : ℕ) × (u + 1 ≡ turns) × (turns_in s w link ≡ Some u) =
-    turns_before (fixed_of s link.lower) (taken_of y (given_plain m TickInput)) (w.node link.lower) link.lower_port turns slave
-    (subst (λ (n : NodeAt). turns_at (fixed_of s link.lower) n link.lower_port ≡ Some turns) node.0 e) in
+    turns_before (node_setting_of s link.lower) (taken_of y (given_plain m TickInput)) (w.node link.lower) link.lower_port turns slave
+    (subst (λ (n : NodeAt). turns_at (node_setting_of s link.lower) n link.lower_port ≡ Some turns) node.0 e) in
     let it : Held s before k link was.0 = old was.0 was.2 in
     let late : w.time ≤ℤ ((w.clock link.lower).ticked +ℤ pos (longest_tick s.cfg)) =
     on_time laws.quiet.apart s before link.lower (run.network.accepted.tree.ends k link is).1 (run_before s h before run) (lower_up s before k link was.0 is it) in

@@ -7,13 +7,13 @@ use Rattle.wrp_base.specs.declared.link.ServoState.TheVariants.{Uninit, SyncTai,
 use Rattle.wrp_base.proofs.Lists.{head_and_tail}
 use Rattle.wrp_node.specs.declared.interface.Input.{Input}
 use Rattle.wrp_node.specs.declared.interface.Input.TheVariants.{Tick, Sample, Frame, Sent, Carrier, Reset}
-use Rattle.wrp_node.specs.NodeAt.{Fixed, NodeAt, Taken, settings_of, slave_of, servo_at}
+use Rattle.wrp_node.specs.NodeAt.{NodeSetting, NodeAt, Taken, servo_setting_of, slave_of, servo_at}
 use Rattle.wrp_node.specs.NodeRun.{node_after}
 use Rattle.wrp_node.specs.NodeStep.{node_step, stepped}
 use Rattle.wrp_node.specs.Telling.{called}
 use Rattle.wrp_node.specs.Unbroken.{ChainIsUnbroken, breaks_chain, leaves_fresh}
 use Rattle.wrp_phase.specs.Beat.{deglitched}
-use Rattle.wrp_servo.specs.Call.{Call, CallSample, CallMeasured, CallTick, CallLease, CallLink, CallCarrier, CallReset, Settings, run}
+use Rattle.wrp_servo.specs.Call.{Call, CallSample, CallMeasured, CallTick, CallLease, CallLink, CallCarrier, CallReset, ServoSetting, run}
 use Rattle.wrp_servo.specs.declared.machine.Core.{Core}
 use Rattle.wrp_servo.specs.Laws.{ChainSince}
 use Rattle.wrp_servo.specs.LookBack.{chain_starts, chain_ends}
@@ -32,7 +32,7 @@ abbrev pub IsNoSample : Call → Type 0
 IsNoSample (CallSample n base bits) = ⊥
 IsNoSample _ = Unit {0}
 
-starts_none : (x : Settings) (calls : List Call) (c : Call) → IsNoSample c → chain_starts x calls c ≡ true → ⊥
+starts_none : (x : ServoSetting) (calls : List Call) (c : Call) → IsNoSample c → chain_starts x calls c ≡ true → ⊥
 starts_none x calls (CallSample n base bits) h e = absurd h
 starts_none x calls (CallMeasured f y) h e = no_start (is_some (run x calls).first) e
 starts_none x calls CallTick h e = no_start (is_some (run x calls).first) e
@@ -41,7 +41,7 @@ starts_none x calls (CallLink on) h e = no_start (is_some (run x calls).first) e
 starts_none x calls (CallCarrier up) h e = no_start (is_some (run x calls).first) e
 starts_none x calls CallReset h e = no_start (is_some (run x calls).first) e
 
-since_before : ChainSince → (x : Settings) (calls : List Call) (c : Call) (since : List Call) (start : Call) (before : List Call) → IsNoSample c → c ∷ calls ≡ since ++ start ∷ before → chain_starts x before start ≡ true →
+since_before : ChainSince → (x : ServoSetting) (calls : List Call) (c : Call) (since : List Call) (start : Call) (before : List Call) → IsNoSample c → c ∷ calls ≡ since ++ start ∷ before → chain_starts x before start ≡ true →
     NoneEnds (chain_ends x) since (start ∷ before) → Stands (run x calls)
 since_before law x calls c [] start before h e s n =
     let it : (c ≡ start) × (calls ≡ before) = head_and_tail c start calls before e in
@@ -51,7 +51,7 @@ since_before law x calls c (d ∷ since) start before h e s n =
     (law x calls).1 (record { since = since; start = start; before = before; splits = it.1; started = s; stays = n.1 })
 
 -- a chain that stands after a call that is no sample stood before it
-pub stood_before : ChainSince → (x : Settings) (calls : List Call) (c : Call) → IsNoSample c → Stands (run x (c ∷ calls)) → Stands (run x calls)
+pub stood_before : ChainSince → (x : ServoSetting) (calls : List Call) (c : Call) → IsNoSample c → Stands (run x (c ∷ calls)) → Stands (run x calls)
 stood_before law x calls c h stands =
     let s : Since (chain_starts x) (chain_ends x) (c ∷ calls) = (law x (c ∷ calls)).0 stands in
     since_before law x calls c s.since s.start s.before h s.splits s.started s.stays
@@ -62,7 +62,7 @@ unheard true v n None e = refl
 unheard true v n (Some tag) e = cc
 unheard false v n tag e = refl
 
-pub unheard_first : (x : Settings) (calls : List Call) (n base bits : ℕ) → heard_tag x calls n base bits ≡ None → (run x (CallSample n base bits ∷ calls)).first ≡ (run x calls).first
+pub unheard_first : (x : ServoSetting) (calls : List Call) (n base bits : ℕ) → heard_tag x calls n base bits ≡ None → (run x (CallSample n base bits ∷ calls)).first ≡ (run x calls).first
 unheard_first x calls n base bits e = unheard (hears (run x calls)) (run x calls) n (good_tag (run x calls).last n base bits) e
 
 -- a good tag is the detector's
@@ -71,7 +71,7 @@ tag_told true true o tag e = e
 tag_told true false o tag e = cc
 tag_told false b o tag e = cc
 
-pub heard_deglitched : (x : Settings) (calls : List Call) (n base bits tag : ℕ) → heard_tag x calls n base bits ≡ Some tag → deglitched base bits ≡ Some tag
+pub heard_deglitched : (x : ServoSetting) (calls : List Call) (n base bits tag : ℕ) → heard_tag x calls n base bits ≡ Some tag → deglitched base bits ≡ Some tag
 heard_deglitched x calls n base bits tag e = tag_told (hears (run x calls)) (nat_lt (run x calls).last n) (deglitched base bits) tag e
 
 -- The loop of a chain has taken a good sample
@@ -119,7 +119,7 @@ none_before : (b a : Bool) → (not b && a) ≡ true → b ≡ true → ⊥
 none_before true a e h = false≢true e
 none_before false a e h = false≢true h
 
-start_live : (x : Settings) (before : List Call) (start : Call) → chain_starts x before start ≡ true → Stands (run x (start ∷ before)) → (run x (start ∷ before)).phase.fresh ≡ false
+start_live : (x : ServoSetting) (before : List Call) (start : Call) → chain_starts x before start ≡ true → Stands (run x (start ∷ before)) → (run x (start ∷ before)).phase.fresh ≡ false
 start_live x before (CallSample n base bits) e s =
     let v : Core = run x before in
     sampled_live (hears v) v n (good_tag v.last n base bits) (none_before (is_some v.first) _ e) s
@@ -134,21 +134,21 @@ last_false : (a b : Bool) → (a || b) ≡ false → b ≡ false
 last_false true b e = cc
 last_false false b e = e
 
-since_live : (x : Settings) (calls since : List Call) (start : Call) (before : List Call) → calls ≡ since ++ start ∷ before → chain_starts x before start ≡ true → NoneEnds (breaks_chain x) since (start ∷ before) → Stands (run x calls) → (run x calls).phase.fresh ≡ false
+since_live : (x : ServoSetting) (calls since : List Call) (start : Call) (before : List Call) → calls ≡ since ++ start ∷ before → chain_starts x before start ≡ true → NoneEnds (breaks_chain x) since (start ∷ before) → Stands (run x calls) → (run x calls).phase.fresh ≡ false
 since_live x calls [] start before e s n stands = subst (λ l. Stands (run x l) → (run x l).phase.fresh ≡ false) (sym e) (start_live x before start s) stands
 since_live x calls (d ∷ since) start before e s n stands =
     ap (λ l. (run x l).phase.fresh) e ∙ last_false (chain_ends x (since ++ start ∷ before) d) (leaves_fresh x (since ++ start ∷ before) d) n.0
 
 -- between the inputs of a node
-pub chain_live : ChainIsUnbroken → (fixed : Fixed) (inputs : List Taken) → Stands (servo_at fixed (node_after fixed inputs)) → (servo_at fixed (node_after fixed inputs)).phase.fresh ≡ false
+pub chain_live : ChainIsUnbroken → (fixed : NodeSetting) (inputs : List Taken) → Stands (servo_at fixed (node_after fixed inputs)) → (servo_at fixed (node_after fixed inputs)).phase.fresh ≡ false
 chain_live law fixed inputs stands =
-    let s : Since (chain_starts (settings_of fixed)) (breaks_chain (settings_of fixed)) (node_after fixed inputs).calls = (law fixed inputs).0 stands in
-    since_live (settings_of fixed) (node_after fixed inputs).calls s.since s.start s.before s.splits s.started s.stays stands
+    let s : Since (chain_starts (servo_setting_of fixed)) (breaks_chain (servo_setting_of fixed)) (node_after fixed inputs).calls = (law fixed inputs).0 stands in
+    since_live (servo_setting_of fixed) (node_after fixed inputs).calls s.since s.start s.before s.splits s.started s.stays stands
 
 -- The good tags, call by call
 
 -- they are these, if there are any
-abbrev pub TagsAre : Settings → List ℕ → List Call → Type 0
+abbrev pub TagsAre : ServoSetting → List ℕ → List Call → Type 0
 TagsAre x ts calls = is_empty (tags x calls) ≡ false → tags x calls ≡ ts
 
 cleared_where : (b : Bool) (ts all : List ℕ) → (is_empty all ≡ false → all ≡ ts) → is_empty (cond b [] all) ≡ false → cond b [] all ≡ ts
@@ -159,7 +159,7 @@ kept_where : (b : Bool) (ts all : List ℕ) → (is_empty all ≡ false → all 
 kept_where true ts all h e = h e
 kept_where false ts all h e = absurd (false≢true (sym e))
 
-tags_kept : (x : Settings) (ts : List ℕ) → KeptBy IsNoSample (TagsAre x ts)
+tags_kept : (x : ServoSetting) (ts : List ℕ) → KeptBy IsNoSample (TagsAre x ts)
 tags_kept x ts calls (CallSample n base bits) c h = absurd c
 tags_kept x ts calls (CallMeasured f y) c h = h
 tags_kept x ts calls CallTick c h = cleared_where (is_holdover (run x calls).state && not (is_holdover (run x (CallTick ∷ calls)).state)) ts (tags x calls) h
@@ -193,43 +193,43 @@ brings_none (Sent p seq delay stamp) h = tt
 brings_none (Carrier p up own_module) h = tt
 brings_none Reset h = tt
 
-pub input_tags : (fixed : Fixed) (ts : List ℕ) (t : Taken) (n : NodeAt) → IsNoSampleInput t.input → TagsAre (settings_of fixed) ts n.calls → TagsAre (settings_of fixed) ts (node_step fixed t n).node.calls
+pub input_tags : (fixed : NodeSetting) (ts : List ℕ) (t : Taken) (n : NodeAt) → IsNoSampleInput t.input → TagsAre (servo_setting_of fixed) ts n.calls → TagsAre (servo_setting_of fixed) ts (node_step fixed t n).node.calls
 input_tags fixed ts t n h k =
-    step_keeps IsNoSample (TagsAre (settings_of fixed) ts) (tags_kept (settings_of fixed) ts) (telling_less IsNoSample (TagsAre (settings_of fixed) ts) (λ fresh. tt) (λ on. tt) (tags_kept (settings_of fixed) ts)) fixed t n
+    step_keeps IsNoSample (TagsAre (servo_setting_of fixed) ts) (tags_kept (servo_setting_of fixed) ts) (telling_less IsNoSample (TagsAre (servo_setting_of fixed) ts) (λ fresh. tt) (λ on. tt) (tags_kept (servo_setting_of fixed) ts)) fixed t n
     (brings_none t.input h) k
 
-stood_kept : ChainSince → (x : Settings) (calls : List Call) → KeptBy IsNoSample (λ now. Stands (run x now) → Stands (run x calls))
+stood_kept : ChainSince → (x : ServoSetting) (calls : List Call) → KeptBy IsNoSample (λ now. Stands (run x now) → Stands (run x calls))
 stood_kept law x calls now c h old s = old (stood_before law x now c h s)
 
-pub input_stood : ChainSince → (fixed : Fixed) (calls : List Call) (t : Taken) (n : NodeAt) → IsNoSampleInput t.input → (Stands (run (settings_of fixed) n.calls) → Stands (run (settings_of fixed) calls)) →
-    Stands (run (settings_of fixed) (node_step fixed t n).node.calls) → Stands (run (settings_of fixed) calls)
+pub input_stood : ChainSince → (fixed : NodeSetting) (calls : List Call) (t : Taken) (n : NodeAt) → IsNoSampleInput t.input → (Stands (run (servo_setting_of fixed) n.calls) → Stands (run (servo_setting_of fixed) calls)) →
+    Stands (run (servo_setting_of fixed) (node_step fixed t n).node.calls) → Stands (run (servo_setting_of fixed) calls)
 input_stood law fixed calls t n h old =
-    step_keeps IsNoSample (λ now. Stands (run (settings_of fixed) now) → Stands (run (settings_of fixed) calls)) (stood_kept law (settings_of fixed) calls)
-    (telling_less IsNoSample (λ now. Stands (run (settings_of fixed) now) → Stands (run (settings_of fixed) calls)) (λ fresh. tt) (λ on. tt) (stood_kept law (settings_of fixed) calls)) fixed t n
+    step_keeps IsNoSample (λ now. Stands (run (servo_setting_of fixed) now) → Stands (run (servo_setting_of fixed) calls)) (stood_kept law (servo_setting_of fixed) calls)
+    (telling_less IsNoSample (λ now. Stands (run (servo_setting_of fixed) now) → Stands (run (servo_setting_of fixed) calls)) (λ fresh. tt) (λ on. tt) (stood_kept law (servo_setting_of fixed) calls)) fixed t n
     (brings_none t.input h) old
 
 -- a sample
-sampled_calls : (fixed : Fixed) (t : Taken) (n : NodeAt) (number base bits : ℕ) → t.input ≡ Sample number base bits → is_some (slave_of fixed.set) ≡ true → (stepped fixed t.input t.says t.answer n).node.calls ≡ CallSample number base bits ∷ n.calls
+sampled_calls : (fixed : NodeSetting) (t : Taken) (n : NodeAt) (number base bits : ℕ) → t.input ≡ Sample number base bits → is_some (slave_of fixed.set) ≡ true → (stepped fixed t.input t.says t.answer n).node.calls ≡ CallSample number base bits ∷ n.calls
 sampled_calls fixed t n number base bits is servo =
     ap (λ (i : Input). (stepped fixed i t.says t.answer n).node.calls) is
     ∙ ap (λ (b : Bool). called (if b then Some (CallSample number base bits) else None) n.calls) servo
 
-pub sample_keeps : (P : List Call → Type 0) → KeptBy IsTelling P → (fixed : Fixed) (t : Taken) (n : NodeAt) (number base bits : ℕ) → t.input ≡ Sample number base bits → is_some (slave_of fixed.set) ≡ true → P (CallSample number base bits ∷ n.calls) →
+pub sample_keeps : (P : List Call → Type 0) → KeptBy IsTelling P → (fixed : NodeSetting) (t : Taken) (n : NodeAt) (number base bits : ℕ) → t.input ≡ Sample number base bits → is_some (slave_of fixed.set) ≡ true → P (CallSample number base bits ∷ n.calls) →
     P (node_step fixed t n).node.calls
 sample_keeps P k fixed t n number base bits is servo h =
     settled_keeps P k fixed (stepped fixed t.input t.says t.answer n) (subst P (sym (sampled_calls fixed t n number base bits is servo)) h)
 
-pub sample_tags : (fixed : Fixed) (t : Taken) (n : NodeAt) (number base bits : ℕ) → t.input ≡ Sample number base bits → is_some (slave_of fixed.set) ≡ true →
-    TagsAre (settings_of fixed) (tags (settings_of fixed) (CallSample number base bits ∷ n.calls)) (node_step fixed t n).node.calls
+pub sample_tags : (fixed : NodeSetting) (t : Taken) (n : NodeAt) (number base bits : ℕ) → t.input ≡ Sample number base bits → is_some (slave_of fixed.set) ≡ true →
+    TagsAre (servo_setting_of fixed) (tags (servo_setting_of fixed) (CallSample number base bits ∷ n.calls)) (node_step fixed t n).node.calls
 sample_tags fixed t n number base bits is servo =
-    let x : Settings = settings_of fixed in
+    let x : ServoSetting = servo_setting_of fixed in
     let ts : List ℕ = tags x (CallSample number base bits ∷ n.calls) in
     sample_keeps (TagsAre x ts) (telling_less IsNoSample (TagsAre x ts) (λ fresh. tt) (λ on. tt) (tags_kept x ts)) fixed t n number base bits is servo (λ e. refl)
 
-pub sample_stood : ChainSince → (fixed : Fixed) (t : Taken) (n : NodeAt) (number base bits : ℕ) → t.input ≡ Sample number base bits → is_some (slave_of fixed.set) ≡ true → Stands (run (settings_of fixed) (node_step fixed t n).node.calls) →
-    Stands (run (settings_of fixed) (CallSample number base bits ∷ n.calls))
+pub sample_stood : ChainSince → (fixed : NodeSetting) (t : Taken) (n : NodeAt) (number base bits : ℕ) → t.input ≡ Sample number base bits → is_some (slave_of fixed.set) ≡ true → Stands (run (servo_setting_of fixed) (node_step fixed t n).node.calls) →
+    Stands (run (servo_setting_of fixed) (CallSample number base bits ∷ n.calls))
 sample_stood law fixed t n number base bits is servo =
-    let x : Settings = settings_of fixed in
+    let x : ServoSetting = servo_setting_of fixed in
     let calls : List Call = CallSample number base bits ∷ n.calls in
     sample_keeps (λ now. Stands (run x now) → Stands (run x calls)) (telling_less IsNoSample (λ now. Stands (run x now) → Stands (run x calls)) (λ fresh. tt) (λ on. tt) (stood_kept law x calls)) fixed t n number base bits is servo (λ s. s)
 
@@ -242,10 +242,10 @@ IsIdle (CallSample n base bits) = ⊥
 IsIdle CallReset = ⊥
 IsIdle _ = Unit {0}
 
-abbrev pub SinceGood : Settings → ℕ → List Call → Type 0
+abbrev pub SinceGood : ServoSetting → ℕ → List Call → Type 0
 SinceGood x ticks calls = ticks_since_good x calls ≡ ticks
 
-idle_since : (x : Settings) (ticks : ℕ) → KeptBy IsIdle (SinceGood x ticks)
+idle_since : (x : ServoSetting) (ticks : ℕ) → KeptBy IsIdle (SinceGood x ticks)
 idle_since x ticks calls (CallMeasured f y) c h = h
 idle_since x ticks calls (CallLease fresh) c h = h
 idle_since x ticks calls (CallLink on) c h = h
@@ -254,7 +254,7 @@ idle_since x ticks calls CallTick c h = absurd c
 idle_since x ticks calls (CallSample n base bits) c h = absurd c
 idle_since x ticks calls CallReset c h = absurd c
 
-told_since : (x : Settings) (ticks : ℕ) → KeptBy IsTelling (SinceGood x ticks)
+told_since : (x : ServoSetting) (ticks : ℕ) → KeptBy IsTelling (SinceGood x ticks)
 told_since x ticks = telling_less IsIdle (SinceGood x ticks) (λ fresh. tt) (λ on. tt) (idle_since x ticks)
 
 -- inputs that are neither
@@ -272,15 +272,15 @@ brings_idle (Sent p seq delay stamp) h = tt
 brings_idle (Carrier p up own_module) h = tt
 brings_idle Reset h = absurd h
 
-pub input_since : (fixed : Fixed) (ticks : ℕ) (t : Taken) (n : NodeAt) → IsIdleInput t.input → SinceGood (settings_of fixed) ticks n.calls → SinceGood (settings_of fixed) ticks (node_step fixed t n).node.calls
-input_since fixed ticks t n h k = step_keeps IsIdle (SinceGood (settings_of fixed) ticks) (idle_since (settings_of fixed) ticks) (told_since (settings_of fixed) ticks) fixed t n (brings_idle t.input h) k
+pub input_since : (fixed : NodeSetting) (ticks : ℕ) (t : Taken) (n : NodeAt) → IsIdleInput t.input → SinceGood (servo_setting_of fixed) ticks n.calls → SinceGood (servo_setting_of fixed) ticks (node_step fixed t n).node.calls
+input_since fixed ticks t n h k = step_keeps IsIdle (SinceGood (servo_setting_of fixed) ticks) (idle_since (servo_setting_of fixed) ticks) (told_since (servo_setting_of fixed) ticks) fixed t n (brings_idle t.input h) k
 
-pub tick_since : (fixed : Fixed) (ticks : ℕ) (t : Taken) (n : NodeAt) → t.input ≡ Tick → is_some (slave_of fixed.set) ≡ true → SinceGood (settings_of fixed) ticks n.calls → SinceGood (settings_of fixed) (ticks + 1) (node_step fixed t n).node.calls
+pub tick_since : (fixed : NodeSetting) (ticks : ℕ) (t : Taken) (n : NodeAt) → t.input ≡ Tick → is_some (slave_of fixed.set) ≡ true → SinceGood (servo_setting_of fixed) ticks n.calls → SinceGood (servo_setting_of fixed) (ticks + 1) (node_step fixed t n).node.calls
 tick_since fixed ticks t n is servo k =
-    told_tick (SinceGood (settings_of fixed) ticks) (SinceGood (settings_of fixed) (ticks + 1)) (told_since (settings_of fixed) ticks) (told_since (settings_of fixed) (ticks + 1)) (λ calls h. ap (λ z. z + 1) h) fixed t n is servo k
+    told_tick (SinceGood (servo_setting_of fixed) ticks) (SinceGood (servo_setting_of fixed) (ticks + 1)) (told_since (servo_setting_of fixed) ticks) (told_since (servo_setting_of fixed) (ticks + 1)) (λ calls h. ap (λ z. z + 1) h) fixed t n is servo k
 
-pub sample_since : (fixed : Fixed) (t : Taken) (n : NodeAt) (number base bits : ℕ) → t.input ≡ Sample number base bits → is_some (slave_of fixed.set) ≡ true →
-    SinceGood (settings_of fixed) (ticks_since_good (settings_of fixed) (CallSample number base bits ∷ n.calls)) (node_step fixed t n).node.calls
+pub sample_since : (fixed : NodeSetting) (t : Taken) (n : NodeAt) (number base bits : ℕ) → t.input ≡ Sample number base bits → is_some (slave_of fixed.set) ≡ true →
+    SinceGood (servo_setting_of fixed) (ticks_since_good (servo_setting_of fixed) (CallSample number base bits ∷ n.calls)) (node_step fixed t n).node.calls
 sample_since fixed t n number base bits is servo =
-    let ticks : ℕ = ticks_since_good (settings_of fixed) (CallSample number base bits ∷ n.calls) in
-    sample_keeps (SinceGood (settings_of fixed) ticks) (told_since (settings_of fixed) ticks) fixed t n number base bits is servo refl
+    let ticks : ℕ = ticks_since_good (servo_setting_of fixed) (CallSample number base bits ∷ n.calls) in
+    sample_keeps (SinceGood (servo_setting_of fixed) ticks) (told_since (servo_setting_of fixed) ticks) fixed t n number base bits is servo refl

@@ -17,7 +17,7 @@ use Rattle.wrp_base.specs.Network.{link_above, node_count}
 use Rattle.wrp_base.proofs.Naturals.{nat_le_self}
 use Rattle.wrp_frame.specs.declared.fault.FrameFault.{FrameFault}
 use Rattle.wrp_node.specs.declared.interface.NodeSet.{NodeSet}
-use Rattle.wrp_node.specs.NodeAt.{Fixed, NodeAt, locked_of, servo_at, settings_of, slave_of, state_of}
+use Rattle.wrp_node.specs.NodeAt.{NodeSetting, NodeAt, locked_of, servo_at, servo_setting_of, slave_of, state_of}
 use Rattle.wrp_node.specs.StepLaws.{CommandsAreHeld}
 use Rattle.wrp_node.specs.Unbroken.{ChainIsLocked}
 use Rattle.wrp_node.proofs.OwnPorts.{slave_is_above}
@@ -38,7 +38,7 @@ use Rattle.wrp_world.specs.Premises.{Accepts, fibre_kept, fibre_rate, is_holdove
 use Rattle.wrp_world.specs.Run.{Happened, world_after}
 use Rattle.wrp_world.specs.RunLaws.{ModulesStay, SameModule}
 use Rattle.wrp_world.specs.Runs.{IsNetwork, IsRun}
-use Rattle.wrp_world.specs.Setting.{Setting, fixed_of, link_of, links_of, nodes_of, of_node}
+use Rattle.wrp_world.specs.Setting.{Setting, node_setting_of, link_of, links_of, nodes_of, of_node}
 use Rattle.wrp_world.specs.WorldAt.{WorldAt, delay_from, ends_are_up, has_carrier}
 use Rattle.wrp_world.proofs.RunTimes.{all_right, comes_up_down, step_time, not_up}
 use Rattle.wrp_truth.specs.Leases.{IsCarried}
@@ -109,10 +109,10 @@ held_keeps false up locked held slew hold b u h = absurd (let f : false ≡ true
 
 -- a node with a chain is locked
 pub chain_rate : ChainIsLocked → (s : Setting) (events : List Happened) (n : ℕ) (link : LinkCfg) → IsNetwork s → link_above s.cfg n ≡ Some link → ((world_after s events).clock n).up ≡ true →
-    is_some (servo_at (fixed_of s n) ((world_after s events).node n)).first ≡ true → rate_of s (world_after s events) n ≡ Some (of_node (λ node. node.slew) s n)
+    is_some (servo_at (node_setting_of s n) ((world_after s events).node n)).first ≡ true → rate_of s (world_after s events) n ≡ Some (of_node (λ node. node.slew) s n)
 chain_rate locked s events n link net above up chain =
     let w : WorldAt = world_after s events in
-    let fixed : Fixed = fixed_of s n in
+    let fixed : NodeSetting = node_setting_of s n in
     let lock : locked_of fixed (w.node n) ≡ true = ap (λ (b : Bool). if b then (servo_at fixed (w.node n)).phase.lock.locked else false) (has_servo s net n link above) ∙ chain_locked locked s events n chain in
     locked_keeps (is_some (link_above s.cfg n)) (w.clock n).up (locked_of fixed (w.node n)) (is_holdover (state_of fixed (w.node n))) (of_node (λ node. node.slew) s n) (of_node (λ node. node.held) s n) (ap is_some above) up lock
 
@@ -128,21 +128,21 @@ pub record RateLaws : Type 0 where
   pub chain : TrackHasChain
 
 source_rate : RateLaws → (s : Setting) (events : List Happened) (n : ℕ) (link : LinkCfg) → IsNetwork s → link_above s.cfg n ≡ Some link → ((world_after s events).clock n).up ≡ true →
-    ((state_of (fixed_of s n) ((world_after s events).node n) ≡ Track) ⊎ (state_of (fixed_of s n) ((world_after s events).node n) ≡ Holdover)) →
+    ((state_of (node_setting_of s n) ((world_after s events).node n) ≡ Track) ⊎ (state_of (node_setting_of s n) ((world_after s events).node n) ≡ Holdover)) →
     (rate : ℕ) × (rate_of s (world_after s events) n ≡ Some rate) × (rate ≤ greatest_rate s n)
 source_rate laws s events n link net above up (inl track) =
     let w : WorldAt = world_after s events in
-    let fixed : Fixed = fixed_of s n in
+    let fixed : NodeSetting = node_setting_of s n in
     let in_track : is_track (servo_at fixed (w.node n)).state ≡ true = ap is_track (sym (with_servo fixed (w.node n) (has_servo s net n link above)) ∙ track) in
     let slew : ℕ = of_node (λ node. node.slew) s n in
     let hold : ℕ = of_node (λ node. node.held) s n in (
       slew,
-      chain_rate laws.locked s events n link net above up (laws.chain (settings_of fixed) (w.node n).calls in_track),
+      chain_rate laws.locked s events n link net above up (laws.chain (servo_setting_of fixed) (w.node n).calls in_track),
       subst (λ z. slew ≤ z) (most_is (is_some (link_above s.cfg n)) slew hold (ap is_some above)) (most_left slew hold),
     )
 source_rate laws s events n link net above up (inr held) =
     let w : WorldAt = world_after s events in
-    let fixed : Fixed = fixed_of s n in
+    let fixed : NodeSetting = node_setting_of s n in
     let slew : ℕ = of_node (λ node. node.slew) s n in
     let hold : ℕ = of_node (λ node. node.held) s n in
     let it : (rate : ℕ) × (rate_of s w n ≡ Some rate) × (rate ≤ max slew hold) =
@@ -186,7 +186,7 @@ top_drift : (s : Setting) (w : WorldAt) (says : Result PtpMsg FrameFault) (dt : 
 top_drift s w says dt drifts fibres n event a above = elim (cases_lt n (node_count s.cfg)) [
   | inl inside ↦
       zero_drift (drift_of drifts.items n) dt
-      (rate_is_kept s w says dt drifts fibres n 0 inside a (ap (λ o. kept_by (is_some o) (w.clock n).up (locked_of (fixed_of s n) (w.node n)) (is_holdover (state_of (fixed_of s n) (w.node n))) (of_node (λ node. node.slew) s n) (of_node (λ node. node.held) s n)) above))
+      (rate_is_kept s w says dt drifts fibres n 0 inside a (ap (λ o. kept_by (is_some o) (w.clock n).up (locked_of (node_setting_of s n) (w.node n)) (is_holdover (state_of (node_setting_of s n) (w.node n))) (of_node (λ node. node.slew) s n) (of_node (λ node. node.held) s n)) above))
   | inr outside ↦
       ap (λ o. option_map_or (λ drift. drift) o (pos 0)) (slice_get_past drifts.items n (subst (λ z. z ≤ n) (sym event.nodes) outside))
 ]
@@ -217,7 +217,7 @@ pub top_is_true : CommandsAreHeld → TopIsTrue
 top_is_true held s [] n run above = refl
 top_is_true held s (h ∷ before) n run above =
     let w : WorldAt = world_after s before in
-    event_off held s h.says h.answer w h.event n (λ _. Unit {0}) (λ t k. still_without_servo held (fixed_of s n) t (w.node n) (no_slave s run.network n above)) tt
+    event_off held s h.says h.answer w h.event n (λ _. Unit {0}) (λ t k. still_without_servo held (node_setting_of s n) t (w.node n) (no_slave s run.network n above)) tt
     ∙ top_after s w h.says h.event n run.each.0 run.accepted.0 above (top_is_true held s before n (run_before s h before run) above)
 
 -- A node that may be followed
@@ -234,7 +234,7 @@ source_slow laws s h before n None run above source up =
 source_slow laws s h before n (Some link) run above (inl top) up = absurd (let f : None ≡ Some link = sym top ∙ above in cc)
 source_slow laws s h before n (Some link) run above (inr states) up =
     let w : WorldAt = world_after s before in
-    let fixed : Fixed = fixed_of s n in
+    let fixed : NodeSetting = node_setting_of s n in
     let at : (k : ℕ) × (link_of s k ≡ Some link) × (link.lower ≡ n) = above_at s n link above in
     let inside : n < node_count s.cfg = subst (λ i. i < node_count s.cfg) at.2 (run.network.accepted.tree.ends at.0 link at.1).1 in
     let rate : (rate : ℕ) × (rate_of s w n ≡ Some rate) × (rate ≤ greatest_rate s n) = source_rate laws s before n link run.network above up states in

@@ -10,13 +10,13 @@ use Rattle.wrp_data.specs.declared.reason.Reason.{Reason}
 use Rattle.wrp_frame.specs.declared.fault.FrameFault.{FrameFault}
 use Rattle.wrp_node.specs.declared.interface.Input.{Input}
 use Rattle.wrp_node.specs.declared.interface.Input.TheVariants.{Tick, Sample, Frame, Sent, Carrier, Reset}
-use Rattle.wrp_node.specs.NodeAt.{Fixed, NodeAt, Taken, settings_of, slave_of, setting_of, link_at}
+use Rattle.wrp_node.specs.NodeAt.{NodeSetting, NodeAt, Taken, servo_setting_of, slave_of, setting_of, link_at}
 use Rattle.wrp_node.specs.NodeStep.{measurement_by, measured_at, message_of, heard, heard_unless, stepped, node_step}
 use Rattle.wrp_node.specs.StepLaws.{CommandsAreHeld, is_frame}
 use Rattle.wrp_node.specs.Telling.{Step, answer_of, called, newest_step, settled}
 use Rattle.wrp_port.specs.declared.interface.PortIn.{PortIn}
 use Rattle.wrp_port.specs.Hearing.{early_reason}
-use Rattle.wrp_servo.specs.Call.{Call, CallSample, CallMeasured, CallTick, CallLease, CallLink, CallCarrier, CallReset, Settings, run}
+use Rattle.wrp_servo.specs.Call.{Call, CallSample, CallMeasured, CallTick, CallLease, CallLink, CallCarrier, CallReset, ServoSetting, run}
 use Rattle.wrp_servo.specs.declared.machine.Core.{Core}
 use Rattle.wrp_servo.specs.declared.machine.Measurement.{Measurement}
 use Rattle.wrp_servo.specs.Laws.{NoStepInTrack}
@@ -32,27 +32,27 @@ use Rattle.wrp_truth.proofs.StepCalls.{IsTelling, settled_keeps}
 -- A measurement
 
 -- the servo, told this measurement after these calls, commands no step, if it is one that the step allows
-abbrev Stills : Fixed → NodeAt → (List Call → Type 0) → Type 0
-Stills fixed n P = (four : Four) (answer : ℤ) → P (CallMeasured four answer ∷ n.calls) → (answer_to (settings_of fixed) (run (settings_of fixed) n.calls) (CallMeasured four answer)).cycles ≡ pos 0
+abbrev Stills : NodeSetting → NodeAt → (List Call → Type 0) → Type 0
+Stills fixed n P = (four : Four) (answer : ℤ) → P (CallMeasured four answer ∷ n.calls) → (answer_to (servo_setting_of fixed) (run (servo_setting_of fixed) n.calls) (CallMeasured four answer)).cycles ≡ pos 0
 
-measured_still : (fixed : Fixed) (n : NodeAt) (P : List Call → Type 0) (has : Bool) (four : Option Four) (answer : ℤ) → (has ≡ true → Stills fixed n P) → P (called (if has then measurement_by four answer else None) n.calls) →
+measured_still : (fixed : NodeSetting) (n : NodeAt) (P : List Call → Type 0) (has : Bool) (four : Option Four) (answer : ℤ) → (has ≡ true → Stills fixed n P) → P (called (if has then measurement_by four answer else None) n.calls) →
     newest_step (answer_of fixed (if has then measurement_by four answer else None) n.calls).cycles (pos 0) ≡ pos 0
 measured_still fixed n P true None answer still h = refl
 measured_still fixed n P true (Some four) answer still h = ap (λ (c : ℤ). newest_step c (pos 0)) (still refl four answer h)
 measured_still fixed n P false four answer still h = refl
 
-heard_still : (fixed : Fixed) (n : NodeAt) (P : List Call → Type 0) (p : ℕ) (input : PortIn) (answer : ℤ) (reason : Option Reason) → (is_some (slave_of fixed.set) ≡ true → Stills fixed n P) → P (heard_unless reason fixed p input answer n).node.calls → (heard_unless reason fixed p input answer n).cycles ≡ pos 0
+heard_still : (fixed : NodeSetting) (n : NodeAt) (P : List Call → Type 0) (p : ℕ) (input : PortIn) (answer : ℤ) (reason : Option Reason) → (is_some (slave_of fixed.set) ≡ true → Stills fixed n P) → P (heard_unless reason fixed p input answer n).node.calls → (heard_unless reason fixed p input answer n).cycles ≡ pos 0
 heard_still fixed n P p input answer None still h = measured_still fixed n P (is_some (slave_of fixed.set)) (measured_at fixed n p input) answer still h
 heard_still fixed n P p input answer (Some reason) still h = refl
 
-frame_still : (fixed : Fixed) (n : NodeAt) (P : List Call → Type 0) (p : ℕ) (says : Result PtpMsg FrameFault) (raw : Raw) (sample : ℕ) (answer : ℤ) → (is_some (slave_of fixed.set) ≡ true → Stills fixed n P) → P (heard fixed p says raw sample answer n).node.calls →
+frame_still : (fixed : NodeSetting) (n : NodeAt) (P : List Call → Type 0) (p : ℕ) (says : Result PtpMsg FrameFault) (raw : Raw) (sample : ℕ) (answer : ℤ) → (is_some (slave_of fixed.set) ≡ true → Stills fixed n P) → P (heard fixed p says raw sample answer n).node.calls →
     (heard fixed p says raw sample answer n).cycles ≡ pos 0
 frame_still fixed n P p (Err fault) raw sample answer still h = refl
 frame_still fixed n P p (Ok m) raw sample answer still h =
     heard_still fixed n P p (message_of fixed n p m raw sample) answer (early_reason (setting_of fixed.set p) (link_at fixed.set n p) m) still h
 
 -- an input
-input_still : CommandsAreHeld → (fixed : Fixed) (t : Taken) (n : NodeAt) (P : List Call → Type 0) (input : Input) → t.input ≡ input → (is_some (slave_of fixed.set) ≡ true → Stills fixed n P) → P (stepped fixed input t.says t.answer n).node.calls → (node_step fixed t n).cycles ≡ pos 0
+input_still : CommandsAreHeld → (fixed : NodeSetting) (t : Taken) (n : NodeAt) (P : List Call → Type 0) (input : Input) → t.input ≡ input → (is_some (slave_of fixed.set) ≡ true → Stills fixed n P) → P (stepped fixed input t.says t.answer n).node.calls → (node_step fixed t n).cycles ≡ pos 0
 input_still held fixed t n P (Frame p octets raw sample) is still h =
     settled_cycles fixed (stepped fixed t.input t.says t.answer n)
     ∙ ap (λ (i : Input). (stepped fixed i t.says t.answer n).cycles) is
@@ -65,13 +65,13 @@ input_still held fixed t n P Reset is still h = (held fixed t n).by_frame (ap is
 
 -- In TRACK and in HOLDOVER
 
-pub still_in_track : CommandsAreHeld → NoStepInTrack → (fixed : Fixed) (t : Taken) (n : NodeAt) →
-    (is_track (run (settings_of fixed) n.calls).state || is_holdover (run (settings_of fixed) n.calls).state) ≡ true → (node_step fixed t n).cycles ≡ pos 0
+pub still_in_track : CommandsAreHeld → NoStepInTrack → (fixed : NodeSetting) (t : Taken) (n : NodeAt) →
+    (is_track (run (servo_setting_of fixed) n.calls).state || is_holdover (run (servo_setting_of fixed) n.calls).state) ≡ true → (node_step fixed t n).cycles ≡ pos 0
 still_in_track held law fixed t n e =
-    input_still held fixed t n (λ _. Unit {0}) t.input refl (λ servo four answer h. law (settings_of fixed) n.calls (CallMeasured four answer) e) tt
+    input_still held fixed t n (λ _. Unit {0}) t.input refl (λ servo four answer h. law (servo_setting_of fixed) n.calls (CallMeasured four answer) e) tt
 
 -- without a servo
-pub still_without_servo : CommandsAreHeld → (fixed : Fixed) (t : Taken) (n : NodeAt) → is_some (slave_of fixed.set) ≡ false → (node_step fixed t n).cycles ≡ pos 0
+pub still_without_servo : CommandsAreHeld → (fixed : NodeSetting) (t : Taken) (n : NodeAt) → is_some (slave_of fixed.set) ≡ false → (node_step fixed t n).cycles ≡ pos 0
 still_without_servo held fixed t n e =
     input_still held fixed t n (λ _. Unit {0}) t.input refl (λ servo. absurd (let f : false ≡ true = sym e ∙ servo in cc)) tt
 
@@ -118,11 +118,11 @@ placed_still v k est WaitStable h = refl
 placed_still v k est Track h = refl
 placed_still v k est Holdover h = refl
 
-range_still : (x : Settings) (v : Core) (f : Four) (y : ℤ) (d : Deltas) (b : Bool) → Stands (cond b (placed v (kept_of f d y)) (ended v)) → cond b (cycles_in v (est_of v.phase.u (kept_of f d y)) v.state) (pos 0) ≡ pos 0
+range_still : (x : ServoSetting) (v : Core) (f : Four) (y : ℤ) (d : Deltas) (b : Bool) → Stands (cond b (placed v (kept_of f d y)) (ended v)) → cond b (cycles_in v (est_of v.phase.u (kept_of f d y)) v.state) (pos 0) ≡ pos 0
 range_still x v f y d true h = placed_still (record v { kept = Some (kept_of f d y) }) (kept_of f d y) (est_of v.phase.u (kept_of f d y)) v.state h
 range_still x v f y d false h = refl
 
-deltas_still : (x : Settings) (v : Core) (f : Four) (y : ℤ) (o : Option Deltas) → Stands (answered x.lo x.hi v f y o) → answered_cycles x.lo x.hi v f y o ≡ pos 0
+deltas_still : (x : ServoSetting) (v : Core) (f : Four) (y : ℤ) (o : Option Deltas) → Stands (answered x.lo x.hi v f y o) → answered_cycles x.lo x.hi v f y o ≡ pos 0
 deltas_still x v f y None h = refl
 deltas_still x v f y (Some d) h = range_still x v f y d (is_in x.lo x.hi (x_of d f)) h
 
@@ -145,7 +145,7 @@ linked_first v WaitStable = refl
 linked_first v Track = refl
 linked_first v Holdover = refl
 
-pub telling_starts_none : (x : Settings) (calls : List Call) (call : Call) → IsTelling call → Stands (run x (call ∷ calls)) → Stands (run x calls)
+pub telling_starts_none : (x : ServoSetting) (calls : List Call) (call : Call) → IsTelling call → Stands (run x (call ∷ calls)) → Stands (run x calls)
 telling_starts_none x calls (CallLease true) t h = h
 telling_starts_none x calls (CallLease false) t h = absurd (none_stands (lease_by (run x calls) false) h)
 telling_starts_none x calls (CallLink (Some d)) t h = sym (ap is_some (linked_first (with_link (run x calls) (Some d)) (run x calls).state)) ∙ h
@@ -159,13 +159,13 @@ telling_starts_none x calls (CallCarrier up) t h = absurd t
 telling_starts_none x calls CallReset t h = absurd t
 
 -- it stood when lease and link were told
-pub stood_before_telling : (fixed : Fixed) (s : Step) → Stands (run (settings_of fixed) (settled fixed s).node.calls) → Stands (run (settings_of fixed) s.node.calls)
+pub stood_before_telling : (fixed : NodeSetting) (s : Step) → Stands (run (servo_setting_of fixed) (settled fixed s).node.calls) → Stands (run (servo_setting_of fixed) s.node.calls)
 stood_before_telling fixed s h =
-    settled_keeps (λ calls. Stands (run (settings_of fixed) calls) → Stands (run (settings_of fixed) s.node.calls))
-    (λ calls call t old now. old (telling_starts_none (settings_of fixed) calls call t now)) fixed s (λ now. now) h
+    settled_keeps (λ calls. Stands (run (servo_setting_of fixed) calls) → Stands (run (servo_setting_of fixed) s.node.calls))
+    (λ calls call t old now. old (telling_starts_none (servo_setting_of fixed) calls call t now)) fixed s (λ now. now) h
 
-pub still_in_chain : CommandsAreHeld → (fixed : Fixed) (t : Taken) (n : NodeAt) → Stands (run (settings_of fixed) (node_step fixed t n).node.calls) → (node_step fixed t n).cycles ≡ pos 0
+pub still_in_chain : CommandsAreHeld → (fixed : NodeSetting) (t : Taken) (n : NodeAt) → Stands (run (servo_setting_of fixed) (node_step fixed t n).node.calls) → (node_step fixed t n).cycles ≡ pos 0
 still_in_chain held fixed t n h =
-    input_still held fixed t n (λ calls. Stands (run (settings_of fixed) calls)) t.input refl
-    (λ servo four answer stands. deltas_still (settings_of fixed) (run (settings_of fixed) n.calls) four answer (deltas_in_chain (run (settings_of fixed) n.calls)) stands)
+    input_still held fixed t n (λ calls. Stands (run (servo_setting_of fixed) calls)) t.input refl
+    (λ servo four answer stands. deltas_still (servo_setting_of fixed) (run (servo_setting_of fixed) n.calls) four answer (deltas_in_chain (run (servo_setting_of fixed) n.calls)) stands)
     (stood_before_telling fixed (stepped fixed t.input t.says t.answer n) h)

@@ -19,7 +19,7 @@ use Rattle.wrp_world.specs.declared.event.Event.TheVariants.{Pass, Tick, Sample,
 use Rattle.wrp_world.proofs.DroppedFrames.{still as no_move}
 use Rattle.wrp_world.specs.Given.{Given, clock_told, delivered, delivered_by, delivered_to, given, given_by, gives, gives_all, step_of, taken_of, world_step}
 use Rattle.wrp_world.specs.Moved.{clock_after, moved}
-use Rattle.wrp_world.specs.Setting.{Setting, end_at, fixed_of}
+use Rattle.wrp_world.specs.Setting.{Setting, end_at, node_setting_of}
 use Rattle.wrp_world.specs.WorldAt.{Arrival, FrameAt, WorldAt}
 use Rattle.wrp_truth.proofs.Inputs.{GivesTo, To, gives_to}
 
@@ -43,7 +43,7 @@ IsNoFrame input = is_frame input ≡ false
 all_given_off : CommandsAreHeld → (s : Setting) (y : ℤ) (gs : List Given) (v : WorldAt) (n : ℕ) → To IsNoFrame n gs → ((gives_all s y v gs).clock n).off ≡ (v.clock n).off
 all_given_off held s y [] v n h = refl
 all_given_off held s y (g ∷ gs) v n h =
-    all_given_off held s y gs (gives s y v g) n h.1 ∙ given_off s y v g n (λ e. (held (fixed_of s g.to) (taken_of y g) (v.node g.to)).by_frame (h.0 e))
+    all_given_off held s y gs (gives s y v g) n h.1 ∙ given_off s y v g n (λ e. (held (node_setting_of s g.to) (taken_of y g) (v.node g.to)).by_frame (h.0 e))
 
 -- Events
 
@@ -68,17 +68,17 @@ none_to n (Arrive i raw) h = tt
 
 -- a node commands no step at an input, if what it becomes is of this kind
 abbrev pub IsStill : Setting → WorldAt → ℕ → (NodeAt → Type 0) → Type 0
-IsStill s w n K = (t : Taken) → K (node_step (fixed_of s n) t (w.node n)).node → (node_step (fixed_of s n) t (w.node n)).cycles ≡ pos 0
+IsStill s w n K = (t : Taken) → K (node_step (node_setting_of s n) t (w.node n)).node → (node_step (node_setting_of s n) t (w.node n)).cycles ≡ pos 0
 
 one_off : (s : Setting) (y : ℤ) (w v : WorldAt) (g : Given) (n : ℕ) (K : NodeAt → Type 0) → v.node ≡ w.node → IsStill s w n K → K ((gives s y v g).node n) → ((gives s y v g).clock n).off ≡ (v.clock n).off
 one_off s y w v g n K same still h =
     given_off s y v g n (λ e.
     let here : (n == g.to) ≡ true = ap (λ i. i == g.to) e ∙ eq_self g.to in
-    let node : (gives s y v g).node n ≡ (node_step (fixed_of s n) (taken_of y g) (w.node n)).node =
-    ap (λ b. if b then (step_of s y v g).node else v.node n) here ∙ ap (λ i. (node_step (fixed_of s i) (taken_of y g) (v.node i)).node) (sym e)
-    ∙ ap (λ (f : ℕ → NodeAt). (node_step (fixed_of s n) (taken_of y g) (f n)).node) same in
-    ap (λ i. (node_step (fixed_of s i) (taken_of y g) (v.node i)).cycles) (sym e)
-    ∙ ap (λ (f : ℕ → NodeAt). (node_step (fixed_of s n) (taken_of y g) (f n)).cycles) same
+    let node : (gives s y v g).node n ≡ (node_step (node_setting_of s n) (taken_of y g) (w.node n)).node =
+    ap (λ b. if b then (step_of s y v g).node else v.node n) here ∙ ap (λ i. (node_step (node_setting_of s i) (taken_of y g) (v.node i)).node) (sym e)
+    ∙ ap (λ (f : ℕ → NodeAt). (node_step (node_setting_of s n) (taken_of y g) (f n)).node) same in
+    ap (λ i. (node_step (node_setting_of s i) (taken_of y g) (v.node i)).cycles) (sym e)
+    ∙ ap (λ (f : ℕ → NodeAt). (node_step (node_setting_of s n) (taken_of y g) (f n)).cycles) same
     ∙ still (taken_of y g) (subst K node h))
 
 end_off : (s : Setting) (y : ℤ) (w v : WorldAt) (f : FrameAt) (a : Arrival) (o : Option End) (n : ℕ) (K : NodeAt → Type 0) → v.node ≡ w.node → IsStill s w n K →

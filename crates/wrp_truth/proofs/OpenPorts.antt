@@ -18,7 +18,7 @@ use Rattle.wrp_node.specs.declared.interface.Input.{Input}
 use Rattle.wrp_node.specs.declared.interface.Input.TheVariants.{Tick as TickInput, Sample as SampleInput, Frame, Sent, Carrier, Reset}
 use Rattle.wrp_node.specs.declared.interface.NodeSet.{NodeSet}
 use Rattle.wrp_node.specs.LinkNews.{LinkNews, Nothing, Given as Handed, StepGivesLinks, frame_news, link_after, news_at}
-use Rattle.wrp_node.specs.NodeAt.{Fixed, NodeAt, Taken, link_at, locked_of, setting_of}
+use Rattle.wrp_node.specs.NodeAt.{NodeSetting, NodeAt, Taken, link_at, locked_of, setting_of}
 use Rattle.wrp_node.specs.NodeStep.{node_step, servo_ticked}
 use Rattle.wrp_node.specs.SetLaws.{EndsAreSet}
 use Rattle.wrp_port.specs.declared.interface.PortIn.{PortIn}
@@ -32,7 +32,7 @@ use Rattle.wrp_world.specs.Run.{Happened, world_after}
 use Rattle.wrp_world.specs.RunLaws.{TicksAreApart}
 use Rattle.wrp_world.specs.Runs.{IsNetwork, IsRun}
 use Rattle.wrp_world.specs.SameHandshake.{CarriersAreTheLinks}
-use Rattle.wrp_world.specs.Setting.{Setting, fixed_of, link_of, end_of}
+use Rattle.wrp_world.specs.Setting.{Setting, node_setting_of, link_of, end_of}
 use Rattle.wrp_world.specs.WorldAt.{WorldAt, has_carrier}
 use Rattle.wrp_world.proofs.RunHanded.{not_early}
 use Rattle.wrp_world.proofs.RunLinks.{run_set}
@@ -85,7 +85,7 @@ news_where : (still : Bool) (life dmin : ℕ) (rest time ticked : ℤ) (set : Po
 news_where still life dmin rest time ticked set l true news h = h
 news_where still life dmin rest time ticked set l false news h = λ r. r
 
-news_on : (still : Bool) (life dmin : ℕ) (rest time ticked : ℤ) (fixed : Fixed) (n : NodeAt) (p : ℕ) (input : Input) (says : Result PtpMsg FrameFault) → IsNoTick input → OutlivesFrames life dmin (link_at fixed.set n p).set → ticked ≤ℤ time →
+news_on : (still : Bool) (life dmin : ℕ) (rest time ticked : ℤ) (fixed : NodeSetting) (n : NodeAt) (p : ℕ) (input : Input) (says : Result PtpMsg FrameFault) → IsNoTick input → OutlivesFrames life dmin (link_at fixed.set n p).set → ticked ≤ℤ time →
     NewsOn still life dmin rest time ticked (setting_of fixed.set p) (link_at fixed.set n p) (news_at fixed n input says p)
 news_on still life dmin rest time ticked fixed n p TickInput says none full tick = absurd none
 news_on still life dmin rest time ticked fixed n p (SampleInput number base bits) says none full tick = λ r. r
@@ -118,10 +118,10 @@ abbrev SinceAt : Setting → (n p : ℕ) (still : Bool) (rest time ticked : ℤ)
 SinceAt s n p still rest time ticked node = Since still (frame_life s.cfg) (shortest_tick s.cfg) rest time ticked (link_at (s.set n) node p)
 
 step_on : StepGivesLinks → (still : Bool) (s : Setting) → IsNetwork s → (n p : ℕ) (rest time ticked : ℤ) → ticked ≤ℤ time →
-    (t : Taken) (node : NodeAt) → IsNoTick t.input → SinceAt s n p still rest time ticked node → SinceAt s n p still rest time ticked (node_step (fixed_of s n) t node).node
+    (t : Taken) (node : NodeAt) → IsNoTick t.input → SinceAt s n p still rest time ticked node → SinceAt s n p still rest time ticked (node_step (node_setting_of s n) t node).node
 step_on gives_links still s net n p rest time ticked tick t node none r =
-    subst (Since still (frame_life s.cfg) (shortest_tick s.cfg) rest time ticked) (sym (gives_links (fixed_of s n) t node p))
-    (news_on still (frame_life s.cfg) (shortest_tick s.cfg) rest time ticked (fixed_of s n) node p t.input t.says none (quiet_is s n p net (node.told p)) tick r)
+    subst (Since still (frame_life s.cfg) (shortest_tick s.cfg) rest time ticked) (sym (gives_links (node_setting_of s n) t node p))
+    (news_on still (frame_life s.cfg) (shortest_tick s.cfg) rest time ticked (node_setting_of s n) node p t.input t.says none (quiet_is s n p net (node.told p)) tick r)
 
 -- the last tick does not come earlier
 pub last_grows : TicksAreApart → (s : Setting) (h : Happened) (before : List Happened) (n : ℕ) → IsRun s (h ∷ before) → ((world_after s before).clock n).ticked ≤ℤ ((world_after s (h ∷ before)).clock n).ticked
@@ -158,7 +158,7 @@ tick_since : QuietLaws → (still : Bool) (s : Setting) (says : Result PtpMsg Fr
     SinceAt s n p still rest w.time (w.clock n).ticked (w.node n) →
     SinceAt s n p still rest w.time ((world_step s says y w (Tick n)).clock n).ticked ((world_step s says y w (Tick n)).node n)
 tick_since laws still s says y w n p rest a past r =
-    let fixed : Fixed = fixed_of s n in
+    let fixed : NodeSetting = node_setting_of s n in
     let l : LinkAt = link_at (s.set n) (w.node n) p in
     let late : ((w.clock n).ticked +ℤ pos (shortest_tick s.cfg)) ≤ℤ w.time = not_early (w.clock n).up w.time (w.clock n).ticked (shortest_tick s.cfg) a.1.0 a.0 in
     let heard_tick : Since still (frame_life s.cfg) (shortest_tick s.cfg) rest w.time w.time (after l (link_in.Tick (locked_of fixed (servo_ticked fixed (w.node n)).node))) =

@@ -12,10 +12,10 @@ use Rattle.wrp_bounds.specs.Times.{shortest_tick}
 use Rattle.wrp_frame.specs.declared.fault.FrameFault.{FrameFault}
 use Rattle.wrp_node.specs.declared.interface.Input.TheVariants.{Tick as TickInput}
 use Rattle.wrp_node.specs.declared.interface.NodeSet.{NodeSet}
-use Rattle.wrp_node.specs.NodeAt.{Fixed, NodeAt, Taken, certain_of, servo_at, settings_of, slave_of, state_of}
+use Rattle.wrp_node.specs.NodeAt.{NodeSetting, NodeAt, Taken, certain_of, servo_at, servo_setting_of, slave_of, state_of}
 use Rattle.wrp_node.specs.NodeStep.{node_step, servo_ticked}
 use Rattle.wrp_node.proofs.OwnPorts.{slave_is_above}
-use Rattle.wrp_servo.specs.Call.{Settings, run}
+use Rattle.wrp_servo.specs.Call.{ServoSetting, run}
 use Rattle.wrp_servo.specs.Holdover.{HoldoverSince}
 use Rattle.wrp_servo.specs.Laws.{TrackSince}
 use Rattle.wrp_servo.specs.Sampling.{is_holdover}
@@ -29,7 +29,7 @@ use Rattle.wrp_world.specs.Moved.{moved}
 use Rattle.wrp_world.specs.Premises.{Accepts}
 use Rattle.wrp_world.specs.Run.{Happened, world_after}
 use Rattle.wrp_world.specs.Runs.{IsNetwork, IsRun}
-use Rattle.wrp_world.specs.Setting.{Setting, fixed_of}
+use Rattle.wrp_world.specs.Setting.{Setting, node_setting_of}
 use Rattle.wrp_world.specs.WorldAt.{WorldAt}
 use Rattle.wrp_world.proofs.RunHanded.{not_early}
 use Rattle.wrp_world.proofs.RunMoves.{moved_ticked}
@@ -52,13 +52,13 @@ has_servo s net n link above = ap is_some (has_slave s net n link above)
 -- The node since a true time
 
 abbrev pub FollowedAt : Setting → ℕ → (at ticked : ℤ) → NodeAt → Type 0
-FollowedAt s n at ticked node = Followed (settings_of (fixed_of s n)) (shortest_tick s.cfg) at ticked node.calls
+FollowedAt s n at ticked node = Followed (servo_setting_of (node_setting_of s n)) (shortest_tick s.cfg) at ticked node.calls
 
-kept_by : (s : Setting) (n : ℕ) (at ticked : ℤ) → KeptBy IsCalmCall (Followed (settings_of (fixed_of s n)) (shortest_tick s.cfg) at ticked)
-kept_by s n at ticked calls call calm f = follows_calm (settings_of (fixed_of s n)) (shortest_tick s.cfg) at ticked calls call calm f
+kept_by : (s : Setting) (n : ℕ) (at ticked : ℤ) → KeptBy IsCalmCall (Followed (servo_setting_of (node_setting_of s n)) (shortest_tick s.cfg) at ticked)
+kept_by s n at ticked calls call calm f = follows_calm (servo_setting_of (node_setting_of s n)) (shortest_tick s.cfg) at ticked calls call calm f
 
-calm_step : (s : Setting) (n : ℕ) (at ticked : ℤ) (t : Taken) (m : NodeAt) → IsCalm t.input → FollowedAt s n at ticked m → FollowedAt s n at ticked (node_step (fixed_of s n) t m).node
-calm_step s n at ticked t m calm f = calls_kept (Followed (settings_of (fixed_of s n)) (shortest_tick s.cfg) at ticked) (kept_by s n at ticked) (fixed_of s n) t m calm f
+calm_step : (s : Setting) (n : ℕ) (at ticked : ℤ) (t : Taken) (m : NodeAt) → IsCalm t.input → FollowedAt s n at ticked m → FollowedAt s n at ticked (node_step (node_setting_of s n) t m).node
+calm_step s n at ticked t m calm f = calls_kept (Followed (servo_setting_of (node_setting_of s n)) (shortest_tick s.cfg) at ticked) (kept_by s n at ticked) (node_setting_of s n) t m calm f
 
 -- an event by which the node neither ticks nor starts
 abbrev pub IsCalmOf : ℕ → Event → Type 0
@@ -102,26 +102,26 @@ calm_event s says y w e n at calm f =
 -- a tick of the node
 
 pub ticked_node : (s : Setting) (says : Result PtpMsg FrameFault) (y : ℤ) (w : WorldAt) (n m : ℕ) → n ≡ m →
-    ((world_step s says y w (Tick m)).node n ≡ (node_step (fixed_of s n) (taken_of y (given_plain m TickInput)) (w.node n)).node) × (((world_step s says y w (Tick m)).clock n).ticked ≡ w.time)
+    ((world_step s says y w (Tick m)).node n ≡ (node_step (node_setting_of s n) (taken_of y (given_plain m TickInput)) (w.node n)).node) × (((world_step s says y w (Tick m)).clock n).ticked ≡ w.time)
 ticked_node s says y w n m same =
     let v : WorldAt = moved s w (Tick m) in
     let g : Given = given_plain m TickInput in
     let here : (n == m) ≡ true = ap (λ i. i == m) same ∙ eq_self m in (
-      ap (λ b. if b then (step_of s y v g).node else w.node n) here ∙ ap (λ i. (node_step (fixed_of s i) (taken_of y g) (w.node i)).node) (sym same),
+      ap (λ b. if b then (step_of s y v g).node else w.node n) here ∙ ap (λ i. (node_step (node_setting_of s i) (taken_of y g) (w.node i)).node) (sym same),
       ap (λ b. (if b then clock_told s v g (step_of s y v g).cycles (w.clock n) else w.clock n).ticked) here,
     )
 
 tick_event : (s : Setting) (says : Result PtpMsg FrameFault) (y : ℤ) (w : WorldAt) (n m : ℕ) (at : ℤ) → n ≡ m → is_some (slave_of (s.set n)) ≡ true → Accepts s w says (Tick m) → at ≤ℤ w.time →
     FollowedAt s n at (w.clock n).ticked (w.node n) → FollowedAt s n at ((world_step s says y w (Tick m)).clock n).ticked ((world_step s says y w (Tick m)).node n)
 tick_event s says y w n m at same servo a past f =
-    let x : Settings = settings_of (fixed_of s n) in
+    let x : ServoSetting = servo_setting_of (node_setting_of s n) in
     let dmin : ℕ = shortest_tick s.cfg in
     let late : ((w.clock n).ticked +ℤ pos dmin) ≤ℤ w.time =
     subst (λ i. ((w.clock i).ticked +ℤ pos dmin) ≤ℤ w.time) (sym same) (not_early (w.clock m).up w.time (w.clock m).ticked dmin a.1.0 a.0) in
     let t : Taken = taken_of y (given_plain m TickInput) in
-    let it : FollowedAt s n at w.time (node_step (fixed_of s n) t (w.node n)).node =
+    let it : FollowedAt s n at w.time (node_step (node_setting_of s n) t (w.node n)).node =
     calls_ticked (Followed x dmin at (w.clock n).ticked) (Followed x dmin at w.time) (kept_by s n at (w.clock n).ticked) (kept_by s n at w.time)
-    (λ calls h. follows_tick x dmin at (w.clock n).ticked w.time calls past late h) (fixed_of s n) t (w.node n) refl servo f in
+    (λ calls h. follows_tick x dmin at (w.clock n).ticked w.time calls past late h) (node_setting_of s n) t (w.node n) refl servo f in
     let is : _ = ticked_node s says y w n m same in
     subst (λ z. FollowedAt s n at z ((world_step s says y w (Tick m)).node n)) (sym is.1) (subst (FollowedAt s n at w.time) (sym is.0) it)
 
@@ -143,20 +143,20 @@ next_follows s h before n at servo run up past f = step_follows s h.says h.answe
 
 -- The beginning: a tick at which the node is certain of its time
 
-certain_track : (fixed : Fixed) (n : NodeAt) (b : Bool) → is_some (slave_of fixed.set) ≡ b → b ≡ true → certain_of fixed n ≡ true → is_track (run (settings_of fixed) n.calls).state ≡ true
+certain_track : (fixed : NodeSetting) (n : NodeAt) (b : Bool) → is_some (slave_of fixed.set) ≡ b → b ≡ true → certain_of fixed n ≡ true → is_track (run (servo_setting_of fixed) n.calls).state ≡ true
 certain_track fixed n true e f c = sym (ap (λ (x : Bool). if x then is_track (servo_at fixed n).state else true) e) ∙ c
 certain_track fixed n false e f c = absurd (let g : false ≡ true = f in cc)
 
-pub begins : (s : Setting) (says : Result PtpMsg FrameFault) (y : ℤ) (w : WorldAt) (n : ℕ) (at : ℤ) → is_some (slave_of (s.set n)) ≡ true → MayAnnounce (fixed_of s n) (w.node n) TickInput →
+pub begins : (s : Setting) (says : Result PtpMsg FrameFault) (y : ℤ) (w : WorldAt) (n : ℕ) (at : ℤ) → is_some (slave_of (s.set n)) ≡ true → MayAnnounce (node_setting_of s n) (w.node n) TickInput →
     FollowedAt s n at ((world_step s says y w (Tick n)).clock n).ticked ((world_step s says y w (Tick n)).node n)
 begins s says y w n at servo certain =
-    let x : Settings = settings_of (fixed_of s n) in
+    let x : ServoSetting = servo_setting_of (node_setting_of s n) in
     let t : Taken = taken_of y (given_plain n TickInput) in
-    let mid : NodeAt = (servo_ticked (fixed_of s n) (w.node n)).node in
+    let mid : NodeAt = (servo_ticked (node_setting_of s n) (w.node n)).node in
     let ticked : ℤ = ((world_step s says y w (Tick n)).clock n).ticked in
-    let track : is_track (run x mid.calls).state ≡ true = certain_track (fixed_of s n) mid (is_some (slave_of (s.set n))) refl servo certain in
+    let track : is_track (run x mid.calls).state ≡ true = certain_track (node_setting_of s n) mid (is_some (slave_of (s.set n))) refl servo certain in
     subst (FollowedAt s n at ticked) (sym (ticked_node s says y w n n refl).0)
-    (calls_after_ports (Followed x (shortest_tick s.cfg) at ticked) (kept_by s n at ticked) (fixed_of s n) t (w.node n) refl (follows_now x (shortest_tick s.cfg) at ticked mid.calls track))
+    (calls_after_ports (Followed x (shortest_tick s.cfg) at ticked) (kept_by s n at ticked) (node_setting_of s n) t (w.node n) refl (follows_now x (shortest_tick s.cfg) at ticked mid.calls track))
 
 -- What follows: it may be followed
 
@@ -169,17 +169,17 @@ state_holdover SyncPhase e = cc
 state_holdover WaitStable e = cc
 state_holdover Track e = cc
 
-pub with_servo : (fixed : Fixed) (n : NodeAt) → is_some (slave_of fixed.set) ≡ true → state_of fixed n ≡ (servo_at fixed n).state
+pub with_servo : (fixed : NodeSetting) (n : NodeAt) → is_some (slave_of fixed.set) ≡ true → state_of fixed n ≡ (servo_at fixed n).state
 with_servo fixed n e = ap (λ (b : Bool). if b then (servo_at fixed n).state else Uninit) e
 
-followed_source : (s : Setting) (w : WorldAt) (n : ℕ) → is_some (slave_of (s.set n)) ≡ true → IsFollowed (settings_of (fixed_of s n)) (w.node n).calls → IsSource s.cfg (offsets_at s w) n
-followed_source s w n servo (inl track) = inr (inl (with_servo (fixed_of s n) (w.node n) servo ∙ state_of_track (servo_at (fixed_of s n) (w.node n)).state track))
-followed_source s w n servo (inr held) = inr (inr (with_servo (fixed_of s n) (w.node n) servo ∙ state_holdover (servo_at (fixed_of s n) (w.node n)).state held))
+followed_source : (s : Setting) (w : WorldAt) (n : ℕ) → is_some (slave_of (s.set n)) ≡ true → IsFollowed (servo_setting_of (node_setting_of s n)) (w.node n).calls → IsSource s.cfg (offsets_at s w) n
+followed_source s w n servo (inl track) = inr (inl (with_servo (node_setting_of s n) (w.node n) servo ∙ state_of_track (servo_at (node_setting_of s n) (w.node n)).state track))
+followed_source s w n servo (inr held) = inr (inr (with_servo (node_setting_of s n) (w.node n) servo ∙ state_holdover (servo_at (node_setting_of s n) (w.node n)).state held))
 
 pub is_source : TrackSince → HoldoverSince → (s : Setting) → IsNetwork s → (w : WorldAt) (n : ℕ) (at : ℤ) → is_some (slave_of (s.set n)) ≡ true → 0 < unsigned_abs s.cfg.holdover →
     FollowedAt s n at (w.clock n).ticked (w.node n) → ((at +ℤ pos ((unsigned_abs s.cfg.holdover - 1) * shortest_tick s.cfg)) ≤ℤ (w.clock n).ticked → ⊥) → IsSource s.cfg (offsets_at s w) n
 is_source law held s net w n at servo some f early =
-    let set : (settings_of (fixed_of s n)).set.holdover ≡ unsigned_abs s.cfg.holdover = ap (λ (x : NodeSet). x.servo.holdover) (net.set n) in
+    let set : (servo_setting_of (node_setting_of s n)).set.holdover ≡ unsigned_abs s.cfg.holdover = ap (λ (x : NodeSet). x.servo.holdover) (net.set n) in
     followed_source s w n servo
-    (follows_still law held (settings_of (fixed_of s n)) (shortest_tick s.cfg) at (w.clock n).ticked (w.node n).calls (subst (λ k. 0 < k) (sym set) some) f
+    (follows_still law held (servo_setting_of (node_setting_of s n)) (shortest_tick s.cfg) at (w.clock n).ticked (w.node n).calls (subst (λ k. 0 < k) (sym set) some) f
     (subst (λ k. (at +ℤ pos ((k - 1) * shortest_tick s.cfg)) ≤ℤ (w.clock n).ticked → ⊥) (sym set) early))

@@ -20,7 +20,7 @@ use Rattle.wrp_frame.specs.declared.fault.FrameFault.{FrameFault}
 use Rattle.wrp_frame.specs.SentOctets.{octets_of}
 use Rattle.wrp_node.specs.declared.interface.Input.{Input}
 use Rattle.wrp_node.specs.declared.interface.Input.TheVariants.{Tick as TickInput, Sample as SampleInput, Frame, Sent, Carrier, Reset}
-use Rattle.wrp_node.specs.NodeAt.{Fixed, NodeAt, link_at, setting_of, slave_of}
+use Rattle.wrp_node.specs.NodeAt.{NodeSetting, NodeAt, link_at, setting_of, slave_of}
 use Rattle.wrp_port.specs.Hearing.{renews}
 use Rattle.wrp_port.specs.History.{renews_at}
 use Rattle.wrp_world.specs.declared.event.Event.{Event}
@@ -30,7 +30,7 @@ use Rattle.wrp_world.specs.Given.{Given, delivered, delivered_by, delivered_to, 
 use Rattle.wrp_world.specs.Moved.{moved}
 use Rattle.wrp_world.specs.Premises.{Accepts, is_forged}
 use Rattle.wrp_world.specs.Runs.{IsNetwork}
-use Rattle.wrp_world.specs.Setting.{Setting, end_at, end_of, fixed_of, is_role, link_of, place_of}
+use Rattle.wrp_world.specs.Setting.{Setting, end_at, end_of, node_setting_of, is_role, link_of, place_of}
 use Rattle.wrp_world.specs.WorldAt.{Arrival, FrameAt, Sending, WorldAt, has_carrier}
 use Rattle.wrp_world.proofs.RunCarriers.{end_alike}
 use Rattle.wrp_world.proofs.RunGiven.{end_is}
@@ -45,7 +45,7 @@ use Rattle.wrp_truth.proofs.Deliveries.{deliver_holds}
 
 -- the turns of the lease of a link's slave since it was renewed
 abbrev pub turns_in : Setting → WorldAt → LinkCfg → Option ℕ
-turns_in s w link = turns_at (fixed_of s link.lower) (w.node link.lower) link.lower_port
+turns_in s w link = turns_at (node_setting_of s link.lower) (w.node link.lower) link.lower_port
 
 -- Events that renew no lease and count none of its turns
 
@@ -54,7 +54,7 @@ IsPlain TickInput = ⊥
 IsPlain (Frame p octets raw sample) = ⊥
 IsPlain _ = Unit {0}
 
-plain_before : (fixed : Fixed) (n : NodeAt) (p turns : ℕ) (input : Input) (says : Result PtpMsg FrameFault) → IsPlain input → TurnsBefore fixed n p input says turns → turns_at fixed n p ≡ Some turns
+plain_before : (fixed : NodeSetting) (n : NodeAt) (p turns : ℕ) (input : Input) (says : Result PtpMsg FrameFault) → IsPlain input → TurnsBefore fixed n p input says turns → turns_at fixed n p ≡ Some turns
 plain_before fixed n p turns TickInput says plain h = absurd plain
 plain_before fixed n p turns (Frame q octets raw sample) says plain h = absurd plain
 plain_before fixed n p turns (SampleInput number base bits) says plain h = h
@@ -85,7 +85,7 @@ plain_to n (Arrive i raw) h = tt
 pub plain_turns : (s : Setting) (says : Result PtpMsg FrameFault) (y : ℤ) (w : WorldAt) (e : Event) (link : LinkCfg) (turns : ℕ) → slave_of (s.set link.lower) ≡ Some link.lower_port → IsPlainOf link.lower e →
     turns_in s (world_step s says y w e) link ≡ Some turns → turns_in s w link ≡ Some turns
 plain_turns s says y w e link turns slave plain =
-    let fixed : Fixed = fixed_of s link.lower in
+    let fixed : NodeSetting = node_setting_of s link.lower in
     node_kept (λ m. turns_at fixed m link.lower_port ≡ Some turns → turns_in s w link ≡ Some turns) IsPlain s says y w e link.lower
     (λ t m q old h. old (plain_before fixed m link.lower_port turns t.input t.says q (turns_before fixed t m link.lower_port turns slave h)))
     (plain_to link.lower e plain) (λ h. h)
@@ -102,7 +102,7 @@ forged_not s link n p says m at_node at_port is e =
 pub noise_turns : (s : Setting) (says : Result PtpMsg FrameFault) (y : ℤ) (w : WorldAt) (n p : ℕ) (octets : Items ℕ) (raw : Raw) (link : LinkCfg) (turns : ℕ) → slave_of (s.set link.lower) ≡ Some link.lower_port →
     Accepts s w says (Noise n p octets raw) → turns_in s (world_step s says y w (Noise n p octets raw)) link ≡ Some turns → turns_in s w link ≡ Some turns
 noise_turns s says y w n p octets raw link turns slave a =
-    let fixed : Fixed = fixed_of s link.lower in
+    let fixed : NodeSetting = node_setting_of s link.lower in
     let v : WorldAt = moved s w (Noise n p octets raw) in
     let g : Given = given n (Frame p octets raw (w.clock n).samples) says in
     node_given (λ m. turns_at fixed m link.lower_port ≡ Some turns → turns_in s w link ≡ Some turns) s y v g link.lower
@@ -144,7 +144,7 @@ handed_turns : (s : Setting) → IsNetwork s → (y : ℤ) (w v : WorldAt) (k : 
     turns_in s (gives_all s y v (option_map_or (λ end. delivered_to f arrival end.node end.port) o [])) link ≡ Some turns → (turns_in s v link ≡ Some turns) ⊎ Renewing s w k link (Some f)
 handed_turns s net y w v k link turns f arrival None slave is same at h = inl h
 handed_turns s net y w v k link turns f arrival (Some end) slave is same at h =
-    let fixed : Fixed = fixed_of s link.lower in
+    let fixed : NodeSetting = node_setting_of s link.lower in
     let g : Given = record {
       to = end.node;
       input = Frame end.port (record { items = octets_of f.sending.message }) arrival.raw arrival.sample;

@@ -2,7 +2,7 @@
 use Rattle.std.proofs.Common.{◌≡◌, inl, inr, ◌∙◌, refl, ap, ℕ, ◌+◌, ◌==◌, ℤ, true, false, if◌then◌else◌, List, [], ◌∷◌}
 use Rattle.std.proofs.lemmas.Bool.Decides.{eqb_tells}
 use Rattle.wrp_base.proofs.Naturals.{eq_self}
-use Rattle.wrp_node.specs.NodeAt.{NodeAt, settings_of}
+use Rattle.wrp_node.specs.NodeAt.{NodeAt, servo_setting_of}
 use Rattle.wrp_servo.specs.Call.{run}
 use Rattle.wrp_servo.specs.Laws.{ChainSince}
 use Rattle.wrp_world.specs.declared.clocks.ClockState.{ClockState}
@@ -12,7 +12,7 @@ use Rattle.wrp_truth.proofs.NodeSteps.{Stands}
 use Rattle.wrp_world.specs.Given.{Given, clock_told, given_by, gives, gives_all, step_of}
 use Rattle.wrp_world.specs.Moved.{moved}
 use Rattle.wrp_world.specs.Run.{Happened, world_after}
-use Rattle.wrp_world.specs.Setting.{Setting, fixed_of}
+use Rattle.wrp_world.specs.Setting.{Setting, node_setting_of}
 use Rattle.wrp_world.specs.WorldAt.{WorldAt}
 use Rattle.wrp_truth.specs.Rates.{HasChain}
 use Rattle.wrp_truth.proofs.Inputs.{GivesTo, node_kept}
@@ -37,8 +37,8 @@ no_sample_to n (Arrive i raw) h = tt
 
 pub stood_before : ChainSince → (s : Setting) (h : Happened) (before : List Happened) (n : ℕ) → IsNoSampleOf n h.event → HasChain s n (h ∷ before) → HasChain s n before
 stood_before law s h before n none =
-    node_kept (λ (m : NodeAt). Stands (run (settings_of (fixed_of s n)) m.calls) → HasChain s n before) IsNoSampleInput s h.says h.answer (world_after s before) h.event n
-    (λ t m q old. input_stood law (fixed_of s n) ((world_after s before).node n).calls t m q old) (no_sample_to n h.event none) (λ chain. chain)
+    node_kept (λ (m : NodeAt). Stands (run (servo_setting_of (node_setting_of s n)) m.calls) → HasChain s n before) IsNoSampleInput s h.says h.answer (world_after s before) h.event n
+    (λ t m q old. input_stood law (node_setting_of s n) ((world_after s before).node n).calls t m q old) (no_sample_to n h.event none) (λ chain. chain)
 
 -- The samples so far of a node
 

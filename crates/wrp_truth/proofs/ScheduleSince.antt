@@ -19,7 +19,7 @@ use Rattle.wrp_world.specs.Premises.{Accepts}
 use Rattle.wrp_world.specs.Run.{Happened, world_after}
 use Rattle.wrp_world.specs.RunLaws.{TicksAreApart}
 use Rattle.wrp_world.specs.Runs.{IsNetwork, IsRun}
-use Rattle.wrp_world.specs.Setting.{Setting, fixed_of}
+use Rattle.wrp_world.specs.Setting.{Setting, node_setting_of}
 use Rattle.wrp_world.specs.WorldAt.{WorldAt}
 use Rattle.wrp_world.proofs.RunHanded.{not_early}
 use Rattle.wrp_truth.specs.Moments.{AtEach}
@@ -95,7 +95,7 @@ calm_later apart s q b d h before run none takes it =
     record {
       gone =
           node_kept (λ (m : NodeAt). Goes set b.every b.ticks b.sent d (m.told q.port)) IsNoTick s h.says h.answer w h.event q.node
-          (λ t m free g. told_kept (Goes set b.every b.ticks b.sent d) kept (fixed_of s q.node) t m q.port free g)
+          (λ t m free g. told_kept (Goes set b.every b.ticks b.sent d) kept (node_setting_of s q.node) t m q.port free g)
           (no_tick_to q.node h.event none) (λ e. it.gone) takes;
       late = longer b.at (w.clock q.node).ticked (now.clock q.node).ticked (d * shortest_tick s.cfg) (last_grows apart s h before q.node run) it.late;
     }
@@ -106,22 +106,22 @@ tick_taken y n = taken_of y (given_plain n TickInput)
 
 -- what the port was told when the lease and the servo had their tick
 abbrev pub told_then : Setting → PortOf → WorldAt → List PortIn
-told_then s q w = (servo_ticked (fixed_of s q.node) (w.node q.node)).node.told q.port
+told_then s q w = (servo_ticked (node_setting_of s q.node) (w.node q.node)).node.told q.port
 
 -- and its own tick
 abbrev pub tick_then : Setting → PortOf → WorldAt → PortIn
-tick_then s q w = tick_of (fixed_of s q.node) (servo_ticked (fixed_of s q.node) (w.node q.node)).node
+tick_then s q w = tick_of (node_setting_of s q.node) (servo_ticked (node_setting_of s q.node) (w.node q.node)).node
 
 pub ticked_told : (Q : List PortIn → Type 0) → KeptIn IsAside Q → (s : Setting) (q : PortOf) (says : Result PtpMsg FrameFault) (y : ℤ) (w : WorldAt) (m : ℕ) → q.node ≡ m →
     Q (tick_then s q w ∷ told_then s q w) → Q (told_in q (world_step s says y w (Tick m)))
 ticked_told Q k s q says y w m same h =
     subst (λ (z : NodeAt). Q (z.told q.port)) (sym (ticked_node s says y w q.node m same).0)
-    (told_after Q k (fixed_of s q.node) (tick_taken y m) (w.node q.node) q.port refl h)
+    (told_after Q k (node_setting_of s q.node) (tick_taken y m) (w.node q.node) q.port refl h)
 
 pub gone_then : (s : Setting) (q : PortOf) (b : Beginning) (d : ℕ) (w : WorldAt) → is_open (link_told (set_at s q) (told_in q w)) ≡ true → Gone (set_at s q) b.every b.ticks b.sent d (told_in q w) →
     OpenGone (set_at s q) b.every b.ticks b.sent d (told_then s q w)
 gone_then s q b d w takes g =
-    told_before (OpenGone (set_at s q) b.every b.ticks b.sent d) (aside_gone (set_at s q) b.every b.ticks b.sent d) (fixed_of s q.node) (w.node q.node) q.port (takes, g)
+    told_before (OpenGone (set_at s q) b.every b.ticks b.sent d) (aside_gone (set_at s q) b.every b.ticks b.sent d) (node_setting_of s q.node) (w.node q.node) q.port (takes, g)
 
 pub late_then : (s : Setting) (q : PortOf) (b : Beginning) (d m : ℕ) (says : Result PtpMsg FrameFault) (w : WorldAt) → q.node ≡ m → Accepts s w says (Tick m) → Later s q b d w → (b.at +ℤ pos ((d + 1) * shortest_tick s.cfg)) ≤ℤ w.time
 late_then s q b d m says w same a it =
@@ -132,13 +132,13 @@ tick_later : (s : Setting) (q : PortOf) (b : Beginning) (d m : ℕ) (says : Resu
     is_open (link_told (set_at s q) (told_in q w)) ≡ true → is_open (link_told (set_at s q) (told_in q (world_step s says y w (Tick m)))) ≡ true → Later s q b d w → Later s q b (d + 1) (world_step s says y w (Tick m))
 tick_later s q b d m says y w net begins same a was takes it =
     let set : PortSetting = set_at s q in
-    let node : NodeAt = (servo_ticked (fixed_of s q.node) (w.node q.node)).node in
+    let node : NodeAt = (servo_ticked (node_setting_of s q.node) (w.node q.node)).node in
     let kept : KeptIn IsAside (Goes set b.every b.ticks b.sent (d + 1)) =
     aside_kept (Goes set b.every b.ticks b.sent (d + 1)) (goes_on set b.every b.ticks b.sent (d + 1) (some_quiet s q net)) in
     record {
       gone =
           ticked_told (Goes set b.every b.ticks b.sent (d + 1)) kept s q says y w m same
-          (ticks_on set b.every b.ticks b.sent d begins (told_then s q w) (locked_of (fixed_of s q.node) node) (certain_of (fixed_of s q.node) node) (gone_then s q b d w was it.gone)) takes;
+          (ticks_on set b.every b.ticks b.sent d begins (told_then s q w) (locked_of (node_setting_of s q.node) node) (certain_of (node_setting_of s q.node) node) (gone_then s q b d w was it.gone)) takes;
       late =
           subst (λ t. (b.at +ℤ pos ((d + 1) * shortest_tick s.cfg)) ≤ℤ t) (sym (ticked_node s says y w q.node m same).1)
           (late_then s q b d m says w same a it);

@@ -2,7 +2,7 @@
 use Rattle.std.proofs.Common.{◌≡◌, ℕ, List, ◌∷◌, Some}
 use Rattle.wrp_node.specs.declared.interface.Input.{Input}
 use Rattle.wrp_node.specs.declared.interface.Input.TheVariants.{Tick, Sample as SampleInput, Frame, Sent, Carrier, Reset}
-use Rattle.wrp_node.specs.NodeAt.{Fixed, NodeAt, Taken}
+use Rattle.wrp_node.specs.NodeAt.{NodeSetting, NodeAt, Taken}
 use Rattle.wrp_node.specs.NodeStep.{servo_ticked, tick_of, stepped, node_step, message_of}
 use Rattle.wrp_node.specs.Telling.{answer_of, settled}
 use Rattle.wrp_port.specs.declared.interface.PortIn.{PortIn}
@@ -36,17 +36,17 @@ aside_kept P k told PortReset c h = absurd c
 -- A tick
 
 -- before the ports' own
-pub told_before : (P : List PortIn → Type 0) → KeptIn IsAside P → (fixed : Fixed) (n : NodeAt) (p : ℕ) → P (n.told p) → P ((servo_ticked fixed n).node.told p)
+pub told_before : (P : List PortIn → Type 0) → KeptIn IsAside P → (fixed : NodeSetting) (n : NodeAt) (p : ℕ) → P (n.told p) → P ((servo_ticked fixed n).node.told p)
 told_before P k fixed n p h = before_tick P (λ told news x. k told (Chain news) tt x) (λ told x. k told Lease tt x) fixed n p h
 
 -- and from then on
-pub told_after : (Q : List PortIn → Type 0) → KeptIn IsAside Q → (fixed : Fixed) (t : Taken) (n : NodeAt) (p : ℕ) → t.input ≡ Tick →
+pub told_after : (Q : List PortIn → Type 0) → KeptIn IsAside Q → (fixed : NodeSetting) (t : Taken) (n : NodeAt) (p : ℕ) → t.input ≡ Tick →
     Q (tick_of fixed (servo_ticked fixed n).node ∷ (servo_ticked fixed n).node.told p) → Q ((node_step fixed t n).node.told p)
 told_after Q k fixed t n p is h = tick_told Q (λ told news x. k told (Chain news) tt x) fixed t n p is h
 
 -- Any other input
 
-pub told_kept : (P : List PortIn → Type 0) → KeptIn IsNoTickThere P → (fixed : Fixed) (t : Taken) (n : NodeAt) (p : ℕ) → IsNoTick t.input → P (n.told p) → P ((node_step fixed t n).node.told p)
+pub told_kept : (P : List PortIn → Type 0) → KeptIn IsNoTickThere P → (fixed : NodeSetting) (t : Taken) (n : NodeAt) (p : ℕ) → IsNoTick t.input → P (n.told p) → P ((node_step fixed t n).node.told p)
 told_kept P k fixed t n p none h = by_input t.input none
   where
     news : KeptByNews P

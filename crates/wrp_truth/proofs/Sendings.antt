@@ -14,7 +14,7 @@ use Rattle.wrp_world.specs.Given.{Given, given_by, given_plain, gives, gives_all
 use Rattle.wrp_world.specs.Moved.{moved}
 use Rattle.wrp_world.specs.Run.{Happened, world_after}
 use Rattle.wrp_world.specs.Runs.{WasPutOut}
-use Rattle.wrp_world.specs.Setting.{Setting, end_at, fixed_of, link_of}
+use Rattle.wrp_world.specs.Setting.{Setting, end_at, node_setting_of, link_of}
 use Rattle.wrp_world.specs.WorldAt.{Sending, WorldAt}
 use Rattle.wrp_world.proofs.RunFrames.{moved_sent, told_either}
 use Rattle.wrp_world.proofs.RunTimes.{all_given_time}
@@ -108,17 +108,17 @@ sent_when C v x (m ∷ ms) certain only h = elim h [
   | inr rest ↦ sent_when C v x ms certain only.1 rest
 ]
 
-no_announce : (s : Setting) (v : WorldAt) (n : ℕ) (input : Input) → IsNoTick input → MayAnnounce (fixed_of s n) (v.node n) input → ⊥
+no_announce : (s : Setting) (v : WorldAt) (n : ℕ) (input : Input) → IsNoTick input → MayAnnounce (node_setting_of s n) (v.node n) input → ⊥
 no_announce s v n TickInput h m = absurd h
 no_announce s v n _ h m = m
 
-step_certain : (s : Setting) (y : ℤ) (v : WorldAt) (g : Given) (p : ℕ) (x : Sending) → IsCertainAnnounce x.message → WasPutOut x (map (sending v) ((step_of s y v g).sends p)) → MayAnnounce (fixed_of s g.to) (v.node g.to) g.input
+step_certain : (s : Setting) (y : ℤ) (v : WorldAt) (g : Given) (p : ℕ) (x : Sending) → IsCertainAnnounce x.message → WasPutOut x (map (sending v) ((step_of s y v g).sends p)) → MayAnnounce (node_setting_of s g.to) (v.node g.to) g.input
 step_certain s y v g p x certain new =
-    sent_when (MayAnnounce (fixed_of s g.to) (v.node g.to) g.input) v x ((step_of s y v g).sends p) certain (announces_only (fixed_of s g.to) (taken_of y g) (v.node g.to) p) new
+    sent_when (MayAnnounce (node_setting_of s g.to) (v.node g.to) g.input) v x ((step_of s y v g).sends p) certain (announces_only (node_setting_of s g.to) (taken_of y g) (v.node g.to) p) new
 
 -- it is new by a tick of the master's node in TRACK, or of the grandmaster
 abbrev pub CertainIn : Setting → WorldAt → ℕ → LinkCfg → Event → Sending → Type 0
-CertainIn s w k link e x = WasPutOut x (w.end_at k Master).sent ⊎ ((e ≡ Tick link.upper) × MayAnnounce (fixed_of s link.upper) (w.node link.upper) TickInput)
+CertainIn s w k link e x = WasPutOut x (w.end_at k Master).sent ⊎ ((e ≡ Tick link.upper) × MayAnnounce (node_setting_of s link.upper) (w.node link.upper) TickInput)
 
 pub certain_in : (s : Setting) (says : Result PtpMsg FrameFault) (y : ℤ) (w : WorldAt) (e : Event) (k : ℕ) (link : LinkCfg) (x : Sending) → link_of s k ≡ Some link → IsCertainAnnounce x.message →
     WasPutOut x ((world_step s says y w e).end_at k Master).sent → CertainIn s w k link e x

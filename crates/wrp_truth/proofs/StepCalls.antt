@@ -7,7 +7,7 @@ use Rattle.wrp_data.specs.declared.reason.Reason.{Reason}
 use Rattle.wrp_frame.specs.declared.fault.FrameFault.{FrameFault}
 use Rattle.wrp_node.specs.declared.interface.Input.{Input}
 use Rattle.wrp_node.specs.declared.interface.Input.TheVariants.{Tick, Sample, Frame, Sent, Carrier, Reset}
-use Rattle.wrp_node.specs.NodeAt.{Fixed, NodeAt, Taken, slave_of, setting_of, link_at, is_fresh_in, deltas_in}
+use Rattle.wrp_node.specs.NodeAt.{NodeSetting, NodeAt, Taken, slave_of, setting_of, link_at, is_fresh_in, deltas_in}
 use Rattle.wrp_node.specs.NodeStep.{counted_tick, lease_ticked, servo_ticked, ports_ticked, measurement_by, measured_at, message_of, is_slave_port, heard, heard_unless, stepped, node_step}
 use Rattle.wrp_node.specs.Telling.{Step, called, step_from, is_changed, with_lease, settled}
 use Rattle.wrp_port.specs.declared.interface.PortIn.{PortIn}
@@ -44,11 +44,11 @@ called_if C P k true changes call calls c h = called_where C P k changes call ca
 called_if C P k false changes call calls c h = h
 
 -- the servo is told of the lease and of the link
-leased : (P : List Call → Type 0) → KeptBy IsTelling P → (fixed : Fixed) (s : Step) → P s.node.calls → P (with_lease fixed s).node.calls
+leased : (P : List Call → Type 0) → KeptBy IsTelling P → (fixed : NodeSetting) (s : Step) → P s.node.calls → P (with_lease fixed s).node.calls
 leased P k fixed s h =
     called_if IsTelling P k (is_some (slave_of fixed.set)) (is_changed (lease_told s.node.calls) (is_fresh_in fixed.set s.node)) (CallLease (is_fresh_in fixed.set s.node)) s.node.calls tt h
 
-pub settled_keeps : (P : List Call → Type 0) → KeptBy IsTelling P → (fixed : Fixed) (s : Step) → P s.node.calls → P (settled fixed s).node.calls
+pub settled_keeps : (P : List Call → Type 0) → KeptBy IsTelling P → (fixed : NodeSetting) (s : Step) → P s.node.calls → P (settled fixed s).node.calls
 settled_keeps P k fixed s h =
     let w : Step = with_lease fixed s in
     called_if IsTelling P k (is_some (slave_of fixed.set)) (is_changed (is_some (link_told w.node.calls)) (is_some (deltas_in fixed.set w.node))) (CallLink (deltas_in fixed.set w.node)) w.node.calls tt
@@ -61,18 +61,18 @@ measured_where C P k c true None answer calls h = h
 measured_where C P k c true (Some four) answer calls h = k calls (CallMeasured four answer) (c four answer) h
 measured_where C P k c false four answer calls h = h
 
-heard_keeps : (C : Call → Type 0) (P : List Call → Type 0) → KeptBy C P → ((four : Four) (answer : ℤ) → C (CallMeasured four answer)) → (fixed : Fixed) (n : NodeAt) (p : ℕ) (input : PortIn) (answer : ℤ) (reason : Option Reason) → P n.calls →
+heard_keeps : (C : Call → Type 0) (P : List Call → Type 0) → KeptBy C P → ((four : Four) (answer : ℤ) → C (CallMeasured four answer)) → (fixed : NodeSetting) (n : NodeAt) (p : ℕ) (input : PortIn) (answer : ℤ) (reason : Option Reason) → P n.calls →
     P (heard_unless reason fixed p input answer n).node.calls
 heard_keeps C P k c fixed n p input answer None h = measured_where C P k c (is_some (slave_of fixed.set)) (measured_at fixed n p input) answer n.calls h
 heard_keeps C P k c fixed n p input answer (Some reason) h = h
 
-frame_keeps : (C : Call → Type 0) (P : List Call → Type 0) → KeptBy C P → ((four : Four) (answer : ℤ) → C (CallMeasured four answer)) → (fixed : Fixed) (n : NodeAt) (p : ℕ) (says : Result PtpMsg FrameFault) (raw : Raw) (sample : ℕ) (answer : ℤ) → P n.calls →
+frame_keeps : (C : Call → Type 0) (P : List Call → Type 0) → KeptBy C P → ((four : Four) (answer : ℤ) → C (CallMeasured four answer)) → (fixed : NodeSetting) (n : NodeAt) (p : ℕ) (says : Result PtpMsg FrameFault) (raw : Raw) (sample : ℕ) (answer : ℤ) → P n.calls →
     P (heard fixed p says raw sample answer n).node.calls
 frame_keeps C P k c fixed n p (Err fault) raw sample answer h = h
 frame_keeps C P k c fixed n p (Ok m) raw sample answer h =
     heard_keeps C P k c fixed n p (message_of fixed n p m raw sample) answer (early_reason (setting_of fixed.set p) (link_at fixed.set n p) m) h
 
-stepped_keeps : (C : Call → Type 0) (P : List Call → Type 0) → KeptBy C P → KeptBy IsTelling P → (fixed : Fixed) (n : NodeAt) (input : Input) (says : Result PtpMsg FrameFault) (answer : ℤ) → Brings C input → P n.calls → P (stepped fixed input says answer n).node.calls
+stepped_keeps : (C : Call → Type 0) (P : List Call → Type 0) → KeptBy C P → KeptBy IsTelling P → (fixed : NodeSetting) (n : NodeAt) (input : Input) (says : Result PtpMsg FrameFault) (answer : ℤ) → Brings C input → P n.calls → P (stepped fixed input says answer n).node.calls
 stepped_keeps C P k l fixed n Tick says answer c h =
     called_where C P k (is_some (slave_of fixed.set)) CallTick (lease_ticked fixed n).node.calls c (leased P l fixed (step_from (counted_tick fixed n)) h)
 stepped_keeps C P k l fixed n (Sample number base bits) says answer c h = called_where C P k (is_some (slave_of fixed.set)) (CallSample number base bits) n.calls c h
@@ -83,7 +83,7 @@ stepped_keeps C P k l fixed n (Carrier p up own_module) says answer c h =
 stepped_keeps C P k l fixed n Reset says answer c h = called_where C P k (is_some (slave_of fixed.set)) CallReset n.calls c h
 
 -- what calls of these kinds keep, an input that brings no others keeps
-pub step_keeps : (C : Call → Type 0) (P : List Call → Type 0) → KeptBy C P → KeptBy IsTelling P → (fixed : Fixed) (t : Taken) (n : NodeAt) → Brings C t.input → P n.calls → P (node_step fixed t n).node.calls
+pub step_keeps : (C : Call → Type 0) (P : List Call → Type 0) → KeptBy C P → KeptBy IsTelling P → (fixed : NodeSetting) (t : Taken) (n : NodeAt) → Brings C t.input → P n.calls → P (node_step fixed t n).node.calls
 step_keeps C P k l fixed t n c h = settled_keeps P l fixed (stepped fixed t.input t.says t.answer n) (stepped_keeps C P k l fixed n t.input t.says t.answer c h)
 
 -- Calls that are neither a tick nor a reset
@@ -111,7 +111,7 @@ brings_calm (Sent p seq delay stamp) h = tt
 brings_calm (Carrier p up own_module) h = tt
 brings_calm Reset h = absurd h
 
-pub calls_kept : (P : List Call → Type 0) → KeptBy IsCalmCall P → (fixed : Fixed) (t : Taken) (n : NodeAt) → IsCalm t.input → P n.calls → P (node_step fixed t n).node.calls
+pub calls_kept : (P : List Call → Type 0) → KeptBy IsCalmCall P → (fixed : NodeSetting) (t : Taken) (n : NodeAt) → IsCalm t.input → P n.calls → P (node_step fixed t n).node.calls
 calls_kept P k fixed t n calm h = step_keeps IsCalmCall P k (telling_calm P k) fixed t n (brings_calm t.input calm) h
 
 -- A tick
@@ -121,23 +121,23 @@ one_tick P Q f true calls e h = f calls h
 one_tick P Q f false calls e h = absurd cc
 
 -- it is told to the servo once: after what is told of the lease that may lapse, and before what the ports' tick makes
-calls_before_ports : (P Q : List Call → Type 0) → KeptBy IsTelling P → ((calls : List Call) → P calls → Q (CallTick ∷ calls)) → (fixed : Fixed) (n : NodeAt) → is_some (slave_of fixed.set) ≡ true → P n.calls → Q (servo_ticked fixed n).node.calls
+calls_before_ports : (P Q : List Call → Type 0) → KeptBy IsTelling P → ((calls : List Call) → P calls → Q (CallTick ∷ calls)) → (fixed : NodeSetting) (n : NodeAt) → is_some (slave_of fixed.set) ≡ true → P n.calls → Q (servo_ticked fixed n).node.calls
 calls_before_ports P Q k f fixed n has h =
     one_tick P Q f (is_some (slave_of fixed.set)) (lease_ticked fixed n).node.calls has (leased P k fixed (step_from (counted_tick fixed n)) h)
 
-ports_keep : (Q : List Call → Type 0) → KeptBy IsTelling Q → (fixed : Fixed) (t : Taken) (n : NodeAt) → t.input ≡ Tick → Q (servo_ticked fixed n).node.calls → Q (node_step fixed t n).node.calls
+ports_keep : (Q : List Call → Type 0) → KeptBy IsTelling Q → (fixed : NodeSetting) (t : Taken) (n : NodeAt) → t.input ≡ Tick → Q (servo_ticked fixed n).node.calls → Q (node_step fixed t n).node.calls
 ports_keep Q k fixed t n is h =
     let stepped_tick : Q (node_step fixed (record t { input = Tick }) n).node.calls = settled_keeps Q k fixed (ports_ticked fixed (servo_ticked fixed n)) h in
     subst (λ (i : Input). Q (node_step fixed (record t { input = i }) n).node.calls) (sym is) stepped_tick
 
-pub calls_after_ports : (Q : List Call → Type 0) → KeptBy IsCalmCall Q → (fixed : Fixed) (t : Taken) (n : NodeAt) → t.input ≡ Tick → Q (servo_ticked fixed n).node.calls → Q (node_step fixed t n).node.calls
+pub calls_after_ports : (Q : List Call → Type 0) → KeptBy IsCalmCall Q → (fixed : NodeSetting) (t : Taken) (n : NodeAt) → t.input ≡ Tick → Q (servo_ticked fixed n).node.calls → Q (node_step fixed t n).node.calls
 calls_after_ports Q k fixed t n is h = ports_keep Q (telling_calm Q k) fixed t n is h
 
 -- what stands before it, and what it makes of that
-pub told_tick : (P Q : List Call → Type 0) → KeptBy IsTelling P → KeptBy IsTelling Q → ((calls : List Call) → P calls → Q (CallTick ∷ calls)) → (fixed : Fixed) (t : Taken) (n : NodeAt) → t.input ≡ Tick → is_some (slave_of fixed.set) ≡ true →
+pub told_tick : (P Q : List Call → Type 0) → KeptBy IsTelling P → KeptBy IsTelling Q → ((calls : List Call) → P calls → Q (CallTick ∷ calls)) → (fixed : NodeSetting) (t : Taken) (n : NodeAt) → t.input ≡ Tick → is_some (slave_of fixed.set) ≡ true →
     P n.calls → Q (node_step fixed t n).node.calls
 told_tick P Q k l f fixed t n is has h = ports_keep Q l fixed t n is (calls_before_ports P Q k f fixed n has h)
 
-pub calls_ticked : (P Q : List Call → Type 0) → KeptBy IsCalmCall P → KeptBy IsCalmCall Q → ((calls : List Call) → P calls → Q (CallTick ∷ calls)) → (fixed : Fixed) (t : Taken) (n : NodeAt) → t.input ≡ Tick → is_some (slave_of fixed.set) ≡ true →
+pub calls_ticked : (P Q : List Call → Type 0) → KeptBy IsCalmCall P → KeptBy IsCalmCall Q → ((calls : List Call) → P calls → Q (CallTick ∷ calls)) → (fixed : NodeSetting) (t : Taken) (n : NodeAt) → t.input ≡ Tick → is_some (slave_of fixed.set) ≡ true →
     P n.calls → Q (node_step fixed t n).node.calls
 calls_ticked P Q k l f fixed t n is has h = told_tick P Q (telling_calm P k) (telling_calm Q l) f fixed t n is has h

@@ -15,7 +15,7 @@ use Rattle.wrp_data.specs.declared.reason.Reason.{Reason}
 use Rattle.wrp_frame.specs.declared.fault.FrameFault.{FrameFault}
 use Rattle.wrp_node.specs.declared.interface.Input.{Input}
 use Rattle.wrp_node.specs.declared.interface.Input.TheVariants.{Tick, Sample, Frame, Sent, Carrier, Reset}
-use Rattle.wrp_node.specs.NodeAt.{Fixed, NodeAt, Taken, certain_of, line_at, link_at, locked_of, setting_of}
+use Rattle.wrp_node.specs.NodeAt.{NodeSetting, NodeAt, Taken, certain_of, line_at, link_at, locked_of, setting_of}
 use Rattle.wrp_node.specs.NodeStep.{heard, heard_unless, node_step, servo_ticked, stamp_of, stepped}
 use Rattle.wrp_port.specs.declared.interface.PortIn.TheVariants.{Msg, Tick as PortTick, Sent as PortSent}
 use Rattle.wrp_port.specs.declared.line.Line.{Line}
@@ -97,7 +97,7 @@ sent_each P set line false seq stamp tick h = due_each P (is_newest line.ids.new
 
 -- what it sends at a port: at a tick what is scheduled, for a Delay_Req that the port takes a Delay_Resp, for the sending of a
 -- Sync a Follow_Up
-abbrev pub SentBy : (PtpMsg → Type 0) → Fixed → NodeAt → ℕ → Input → Result PtpMsg FrameFault → Type 0
+abbrev pub SentBy : (PtpMsg → Type 0) → NodeSetting → NodeAt → ℕ → Input → Result PtpMsg FrameFault → Type 0
 SentBy P fixed n p Tick says =
     ScheduledAll P (setting_of fixed.set p) (setting_of fixed.set p).ds.role
     (ticked (setting_of fixed.set p) (line_at fixed.set (servo_ticked fixed n).node p) (locked_of fixed (servo_ticked fixed n).node)) (certain_of fixed (servo_ticked fixed n).node)
@@ -105,14 +105,14 @@ SentBy P fixed n p (Frame q octets raw sample) says = (m : PtpMsg) → says ≡ 
 SentBy P fixed n p (Sent q seq delay stamp) says = delay ≡ false → p ≡ q → P (follow_up_of (setting_of fixed.set p) seq stamp)
 SentBy P fixed n p _ says = Unit {0}
 
-unless_each : (P : PtpMsg → Type 0) (fixed : Fixed) (n : NodeAt) (q : ℕ) (m : PtpMsg) (stamp : Stamp) (tick : ℕ) (answer : ℤ) (p : ℕ) (reason : Option Reason) →
+unless_each : (P : PtpMsg → Type 0) (fixed : NodeSetting) (n : NodeAt) (q : ℕ) (m : PtpMsg) (stamp : Stamp) (tick : ℕ) (answer : ℤ) (p : ℕ) (reason : Option Reason) →
     ((p == q) ≡ true → Signals P (setting_of fixed.set q)) → ((p == q) ≡ true → reason ≡ None → IsRequest m.body → P (response_of (setting_of fixed.set q) m.head stamp)) → Each P ((heard_unless reason fixed q (Msg m stamp tick) answer n).sends p)
 unless_each P fixed n q m stamp tick answer p None signals h =
     there_each P (p == q) (sends_of (setting_of fixed.set q) (line_at fixed.set n q) (Msg m stamp tick))
     (λ e. heard_each P (setting_of fixed.set q) (line_at fixed.set n q) m stamp (early_reason (setting_of fixed.set q) (line_at fixed.set n q).link m) (signals e) (h e refl))
 unless_each P fixed n q m stamp tick answer p (Some reason) signals h = tt
 
-frame_each : (P : PtpMsg → Type 0) (fixed : Fixed) (n : NodeAt) (q : ℕ) (says : Result PtpMsg FrameFault) (raw : Raw) (sample : ℕ) (answer : ℤ) (p : ℕ) → Signals P (setting_of fixed.set p) →
+frame_each : (P : PtpMsg → Type 0) (fixed : NodeSetting) (n : NodeAt) (q : ℕ) (says : Result PtpMsg FrameFault) (raw : Raw) (sample : ℕ) (answer : ℤ) (p : ℕ) → Signals P (setting_of fixed.set p) →
     ((m : PtpMsg) → says ≡ Ok m → p ≡ q → Hears fixed n p m → IsRequest m.body → P (response_of (setting_of fixed.set p) m.head (stamp_of fixed n p raw sample))) → Each P ((heard fixed q says raw sample answer n).sends p)
 frame_each P fixed n q (Err fault) raw sample answer p signals h = tt
 frame_each P fixed n q (Ok m) raw sample answer p signals h =
@@ -122,7 +122,7 @@ frame_each P fixed n q (Ok m) raw sample answer p signals h =
     let same : p ≡ q = eqb-true p q e in
     subst (λ i. P (response_of (setting_of fixed.set i) m.head (stamp_of fixed n i raw sample))) same (h m refl same (subst (λ i. Hears fixed n i m) (sym same) none) request))
 
-stepped_each : (P : PtpMsg → Type 0) (fixed : Fixed) (n : NodeAt) (input : Input) (says : Result PtpMsg FrameFault) (answer : ℤ) (p : ℕ) → Signals P (setting_of fixed.set p) → SentBy P fixed n p input says → Each P ((stepped fixed input says answer n).sends p)
+stepped_each : (P : PtpMsg → Type 0) (fixed : NodeSetting) (n : NodeAt) (input : Input) (says : Result PtpMsg FrameFault) (answer : ℤ) (p : ℕ) → Signals P (setting_of fixed.set p) → SentBy P fixed n p input says → Each P ((stepped fixed input says answer n).sends p)
 stepped_each P fixed n Tick says answer p signals h =
     tick_each P (setting_of fixed.set p) (line_at fixed.set (servo_ticked fixed n).node p) (locked_of fixed (servo_ticked fixed n).node) (certain_of fixed (servo_ticked fixed n).node) signals h
 stepped_each P fixed n (Sample number base bits) says answer p signals h = tt
@@ -134,5 +134,5 @@ stepped_each P fixed n (Carrier q true own_module) says answer p signals h = the
 stepped_each P fixed n (Carrier q false own_module) says answer p signals h = there_each P (p == q) [] (λ e. tt)
 stepped_each P fixed n Reset says answer p signals h = tt
 
-pub step_each : (P : PtpMsg → Type 0) (fixed : Fixed) (t : Taken) (n : NodeAt) (p : ℕ) → Signals P (setting_of fixed.set p) → SentBy P fixed n p t.input t.says → Each P ((node_step fixed t n).sends p)
+pub step_each : (P : PtpMsg → Type 0) (fixed : NodeSetting) (t : Taken) (n : NodeAt) (p : ℕ) → Signals P (setting_of fixed.set p) → SentBy P fixed n p t.input t.says → Each P ((node_step fixed t n).sends p)
 step_each P fixed t n p signals h = stepped_each P fixed n t.input t.says t.answer p signals h

@@ -14,7 +14,7 @@ use Rattle.wrp_data.specs.declared.reason.Reason.TheVariants.{Domain, NotForUs, 
 use Rattle.wrp_frame.specs.declared.fault.FrameFault.{FrameFault}
 use Rattle.wrp_node.specs.declared.interface.Input.{Input}
 use Rattle.wrp_node.specs.declared.interface.Input.TheVariants.{Tick, Sample as SampleInput, Frame, Sent, Carrier, Reset}
-use Rattle.wrp_node.specs.NodeAt.{Fixed, NodeAt, Taken, link_at, setting_of, slave_of}
+use Rattle.wrp_node.specs.NodeAt.{NodeSetting, NodeAt, Taken, link_at, setting_of, slave_of}
 use Rattle.wrp_node.specs.NodeAt.{deltas_in, is_fresh_in}
 use Rattle.wrp_node.specs.NodeStep.{carried, counted_tick, handed, heard, heard_unless, is_slave_port, lease_ticked, measured_at, measurement_by, message_of, node_step, ports_ticked, servo_ticked, stepped, tick_of, told_slave, used}
 use Rattle.wrp_node.specs.Telling.{Step, answer_of, for_slave, heard_of, is_changed, lease_change, link_change, number_of, settled, step_from, tell, told_by, with_lease, with_news, with_sample}
@@ -64,7 +64,7 @@ abbrev IsNoSampleCall : Option Call → Type 0
 IsNoSampleCall (Some (CallSample number base bits)) = ⊥
 IsNoSampleCall _ = Unit {0}
 
-nothing_unwrapped : (fixed : Fixed) (call : Option Call) (calls : List Call) → IsNoSampleCall call → (answer_of fixed call calls).unwrapped ≡ None
+nothing_unwrapped : (fixed : NodeSetting) (call : Option Call) (calls : List Call) → IsNoSampleCall call → (answer_of fixed call calls).unwrapped ≡ None
 nothing_unwrapped fixed None calls h = refl
 nothing_unwrapped fixed (Some (CallSample number base bits)) calls h = absurd h
 nothing_unwrapped fixed (Some (CallMeasured four answer)) calls h = refl
@@ -74,7 +74,7 @@ nothing_unwrapped fixed (Some (CallLink on)) calls h = refl
 nothing_unwrapped fixed (Some (CallCarrier up)) calls h = refl
 nothing_unwrapped fixed (Some CallReset) calls h = refl
 
-tell_kept : (P : List PortIn → Type 0) → KeptByNews P → (fixed : Fixed) (call : Option Call) (s : Step) (p : ℕ) → IsNoSampleCall call → P (s.node.told p) → P ((tell fixed call s).node.told p)
+tell_kept : (P : List PortIn → Type 0) → KeptByNews P → (fixed : NodeSetting) (call : Option Call) (s : Step) (p : ℕ) → IsNoSampleCall call → P (s.node.told p) → P ((tell fixed call s).node.told p)
 tell_kept P k fixed call s p none h =
     told_by_kept P (slave_of fixed.set) (answer_of fixed call s.node.calls) (number_of call) s.node.told p
     (out_kept P k (answer_of fixed call s.node.calls) (number_of call) (s.node.told p) (nothing_unwrapped fixed call s.node.calls none) h) h
@@ -84,13 +84,13 @@ no_sample_if true call h = h
 no_sample_if false call h = tt
 
 -- what is told of lease and link
-lease_kept : (P : List PortIn → Type 0) → KeptByNews P → (fixed : Fixed) (s : Step) (p : ℕ) → P (s.node.told p) → P ((with_lease fixed s).node.told p)
+lease_kept : (P : List PortIn → Type 0) → KeptByNews P → (fixed : NodeSetting) (s : Step) (p : ℕ) → P (s.node.told p) → P ((with_lease fixed s).node.told p)
 lease_kept P k fixed s p h =
     tell_kept P k fixed (lease_change fixed s.node) s p
     (no_sample_if (is_some (slave_of fixed.set)) (if is_changed (lease_told s.node.calls) (is_fresh_in fixed.set s.node) then Some (CallLease (is_fresh_in fixed.set s.node)) else None)
     (no_sample_if (is_changed (lease_told s.node.calls) (is_fresh_in fixed.set s.node)) (Some (CallLease (is_fresh_in fixed.set s.node))) tt)) h
 
-pub settled_told : (P : List PortIn → Type 0) → KeptByNews P → (fixed : Fixed) (s : Step) (p : ℕ) → P (s.node.told p) → P ((settled fixed s).node.told p)
+pub settled_told : (P : List PortIn → Type 0) → KeptByNews P → (fixed : NodeSetting) (s : Step) (p : ℕ) → P (s.node.told p) → P ((settled fixed s).node.told p)
 settled_told P k fixed s p h =
     let w : Step = with_lease fixed s in
     tell_kept P k fixed (link_change fixed w.node) w p
@@ -105,19 +105,19 @@ slave_told : (P : List PortIn → Type 0) → ((told : List PortIn) → P told �
 slave_told P k None told p h = h
 slave_told P k (Some q) told p h = told_where P (p == q) (Lease ∷ told p) (told p) (λ e. k (told p) h) h
 
-pub before_tick : (P : List PortIn → Type 0) → KeptByNews P → ((told : List PortIn) → P told → P (Lease ∷ told)) → (fixed : Fixed) (n : NodeAt) (p : ℕ) → P (n.told p) → P ((servo_ticked fixed n).node.told p)
+pub before_tick : (P : List PortIn → Type 0) → KeptByNews P → ((told : List PortIn) → P told → P (Lease ∷ told)) → (fixed : NodeSetting) (n : NodeAt) (p : ℕ) → P (n.told p) → P ((servo_ticked fixed n).node.told p)
 before_tick P k l fixed n p h =
     tell_kept P k fixed (for_slave fixed (Some CallTick)) (lease_ticked fixed n) p (no_sample_if (is_some (slave_of fixed.set)) (Some CallTick) tt)
     (lease_kept P k fixed (step_from (counted_tick fixed n)) p (slave_told P l (slave_of fixed.set) n.told p h))
 
 -- and after it
-pub tick_told : (P : List PortIn → Type 0) → KeptByNews P → (fixed : Fixed) (t : Taken) (n : NodeAt) (p : ℕ) → t.input ≡ Tick → P (tick_of fixed (servo_ticked fixed n).node ∷ (servo_ticked fixed n).node.told p) → P ((node_step fixed t n).node.told p)
+pub tick_told : (P : List PortIn → Type 0) → KeptByNews P → (fixed : NodeSetting) (t : Taken) (n : NodeAt) (p : ℕ) → t.input ≡ Tick → P (tick_of fixed (servo_ticked fixed n).node ∷ (servo_ticked fixed n).node.told p) → P ((node_step fixed t n).node.told p)
 tick_told P k fixed t n p is h =
     let stepped_tick : P ((settled fixed (stepped fixed Tick t.says t.answer n)).node.told p) = settled_told P k fixed (ports_ticked fixed (servo_ticked fixed n)) p h in
     subst (λ (i : Input). P ((settled fixed (stepped fixed i t.says t.answer n)).node.told p)) (sym is) stepped_tick
 
 -- a sample
-pub sample_told : (P : List PortIn → Type 0) → KeptByNews P → (fixed : Fixed) (says : Result PtpMsg FrameFault) (answer : ℤ) (n : NodeAt) (p number base bits : ℕ) →
+pub sample_told : (P : List PortIn → Type 0) → KeptByNews P → (fixed : NodeSetting) (says : Result PtpMsg FrameFault) (answer : ℤ) (n : NodeAt) (p number base bits : ℕ) →
     P (heard_of (answer_of fixed (Some (CallSample number base bits)) n.calls) number (n.told p)) → P (n.told p) →
     P ((node_step fixed (record { input = SampleInput number base bits; says = says; answer = answer }) n).node.told p)
 sample_told P k fixed says answer n p number base bits new old =
@@ -128,7 +128,7 @@ sample_told P k fixed says answer n p number base bits new old =
     sampled false = tell_kept P k fixed None (step_from n) p tt old
 
 -- at the slave port it is heard there
-pub sample_heard : (P : List PortIn → Type 0) → KeptByNews P → (fixed : Fixed) (says : Result PtpMsg FrameFault) (answer : ℤ) (n : NodeAt) (p number base bits : ℕ) → slave_of fixed.set ≡ Some p →
+pub sample_heard : (P : List PortIn → Type 0) → KeptByNews P → (fixed : NodeSetting) (says : Result PtpMsg FrameFault) (answer : ℤ) (n : NodeAt) (p number base bits : ℕ) → slave_of fixed.set ≡ Some p →
     P (heard_of (answer_of fixed (Some (CallSample number base bits)) n.calls) number (n.told p)) → P ((node_step fixed (record { input = SampleInput number base bits; says = says; answer = answer }) n).node.told p)
 sample_heard P k fixed says answer n p number base bits slave new =
     settled_told P k fixed (stepped fixed (SampleInput number base bits) says answer n) p
@@ -139,7 +139,7 @@ sample_heard P k fixed says answer n p number base bits slave new =
     same m = grind (arith)
 
 -- a frame
-unless_told : (P : List PortIn → Type 0) → KeptByNews P → (fixed : Fixed) (n : NodeAt) (p q : ℕ) (input : PortIn) (answer : ℤ) (reason : Option Reason) → ((p == q) ≡ true → reason ≡ None → P (input ∷ n.told p)) → P (n.told p) →
+unless_told : (P : List PortIn → Type 0) → KeptByNews P → (fixed : NodeSetting) (n : NodeAt) (p q : ℕ) (input : PortIn) (answer : ℤ) (reason : Option Reason) → ((p == q) ≡ true → reason ≡ None → P (input ∷ n.told p)) → P (n.told p) →
     P ((heard_unless reason fixed q input answer n).node.told p)
 unless_told P k fixed n p q input answer None h old =
     tell_kept P k fixed (for_slave fixed (measurement_by (measured_at fixed n q input) answer)) (used fixed q input n) p
@@ -152,10 +152,10 @@ unless_told P k fixed n p q input answer None h old =
 unless_told P k fixed n p q input answer (Some reason) h old = old
 
 -- where a port takes a message
-abbrev pub Hears : Fixed → NodeAt → ℕ → PtpMsg → Type 0
+abbrev pub Hears : NodeSetting → NodeAt → ℕ → PtpMsg → Type 0
 Hears fixed n p m = early_reason (setting_of fixed.set p) (link_at fixed.set n p) m ≡ None
 
-pub frame_told : (P : List PortIn → Type 0) → KeptByNews P → (fixed : Fixed) (n : NodeAt) (p q : ℕ) (says : Result PtpMsg FrameFault) (raw : Raw) (sample : ℕ) (answer : ℤ) →
+pub frame_told : (P : List PortIn → Type 0) → KeptByNews P → (fixed : NodeSetting) (n : NodeAt) (p q : ℕ) (says : Result PtpMsg FrameFault) (raw : Raw) (sample : ℕ) (answer : ℤ) →
     ((m : PtpMsg) → says ≡ Ok m → p ≡ q → Hears fixed n p m → P (message_of fixed n p m raw sample ∷ n.told p)) → P (n.told p) → P ((settled fixed (heard fixed q says raw sample answer n)).node.told p)
 frame_told P k fixed n p q (Err fault) raw sample answer h old = settled_told P k fixed (heard fixed q (Err fault) raw sample answer n) p old
 frame_told P k fixed n p q (Ok m) raw sample answer h old =
@@ -167,14 +167,14 @@ frame_told P k fixed n p q (Ok m) raw sample answer h old =
     (h m refl same (subst (λ i. Hears fixed n i m) (sym same) none))) old)
 
 -- a sending that is told
-pub sent_told : (P : List PortIn → Type 0) → KeptByNews P → (fixed : Fixed) (n : NodeAt) (p q seq : ℕ) (delay : Bool) (stamp : Stamp) → (p ≡ q → P (PortSent delay seq stamp n.ticks ∷ n.told p)) → P (n.told p) →
+pub sent_told : (P : List PortIn → Type 0) → KeptByNews P → (fixed : NodeSetting) (n : NodeAt) (p q seq : ℕ) (delay : Bool) (stamp : Stamp) → (p ≡ q → P (PortSent delay seq stamp n.ticks ∷ n.told p)) → P (n.told p) →
     P ((settled fixed (handed fixed q (PortSent delay seq stamp n.ticks) n)).node.told p)
 sent_told P k fixed n p q seq delay stamp h old =
     settled_told P k fixed (handed fixed q (PortSent delay seq stamp n.ticks) n) p
     (told_where P (p == q) (PortSent delay seq stamp n.ticks ∷ n.told p) (n.told p) (λ e. h (eqb-true p q e)) old)
 
 -- a carrier
-pub carrier_told : (P : List PortIn → Type 0) → KeptByNews P → (fixed : Fixed) (n : NodeAt) (p q : ℕ) (up : Bool) (own_module : Option Module) → P (PortCarrier up own_module ∷ n.told p) → P (n.told p) →
+pub carrier_told : (P : List PortIn → Type 0) → KeptByNews P → (fixed : NodeSetting) (n : NodeAt) (p q : ℕ) (up : Bool) (own_module : Option Module) → P (PortCarrier up own_module ∷ n.told p) → P (n.told p) →
     P ((settled fixed (carried fixed q up own_module n)).node.told p)
 carrier_told P k fixed n p q up own_module new old =
     settled_told P k fixed (carried fixed q up own_module n) p
@@ -193,7 +193,7 @@ pub record KeptByTurns (P : List PortIn → Type 0) : Type 0 where
   pub carrier : (told : List PortIn) (up : Bool) (own_module : Option Module) → P told → P (PortCarrier up own_module ∷ told)
   pub reset : (told : List PortIn) → P told → P (PortReset ∷ told)
 
-pub turn_told : (P : List PortIn → Type 0) → KeptByNews P → KeptByTurns P → (fixed : Fixed) (t : Taken) (n : NodeAt) (p : ℕ) → IsTurn t.input → P (n.told p) → P ((node_step fixed t n).node.told p)
+pub turn_told : (P : List PortIn → Type 0) → KeptByNews P → KeptByTurns P → (fixed : NodeSetting) (t : Taken) (n : NodeAt) (p : ℕ) → IsTurn t.input → P (n.told p) → P ((node_step fixed t n).node.told p)
 turn_told P k turns fixed t n p is old = by_input t.input is
   where
     by_input : (input : Input) → IsTurn input → P ((settled fixed (stepped fixed input t.says t.answer n)).node.told p)
@@ -217,6 +217,6 @@ heard_by true false addressed takes e = absurd (not_none Stranger e)
 heard_by false source addressed takes e = absurd (not_none Domain e)
 
 -- is of its peer, and it takes messages then
-pub heard_of_peer : (fixed : Fixed) (n : NodeAt) (p : ℕ) (m : PtpMsg) → Hears fixed n p m → (is_port m.head.source (setting_of fixed.set p).ds.peer ≡ true) × (is_open (link_at fixed.set n p) ≡ true)
+pub heard_of_peer : (fixed : NodeSetting) (n : NodeAt) (p : ℕ) (m : PtpMsg) → Hears fixed n p m → (is_port m.head.source (setting_of fixed.set p).ds.peer ≡ true) × (is_open (link_at fixed.set n p) ≡ true)
 heard_of_peer fixed n p m h =
     heard_by (m.head.domain == (setting_of fixed.set p).own.domain) (is_port m.head.source (setting_of fixed.set p).ds.peer) (is_addressed (setting_of fixed.set p).ds m.body) (is_open (link_at fixed.set n p)) h

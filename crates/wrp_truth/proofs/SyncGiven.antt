@@ -22,7 +22,7 @@ use Rattle.wrp_frame.specs.declared.fault.FrameFault.{FrameFault}
 use Rattle.wrp_frame.specs.SentOctets.{octets_of}
 use Rattle.wrp_node.specs.declared.interface.Input.{Input}
 use Rattle.wrp_node.specs.declared.interface.Input.TheVariants.{Tick as TickInput, Sample as SampleInput, Frame, Sent, Carrier, Reset}
-use Rattle.wrp_node.specs.NodeAt.{Fixed, NodeAt, Taken, link_at, pieces_at, setting_of, settings_of, slave_of}
+use Rattle.wrp_node.specs.NodeAt.{NodeSetting, NodeAt, Taken, link_at, pieces_at, setting_of, servo_setting_of, slave_of}
 use Rattle.wrp_node.specs.NodeStep.{carried, node_step, ports_ticked, servo_ticked, stamp_of, stepped}
 use Rattle.wrp_node.specs.Telling.{settled}
 use Rattle.wrp_port.specs.declared.setting.Setting.{Setting as PortSetting}
@@ -41,7 +41,7 @@ use Rattle.wrp_world.specs.Moved.{moved}
 use Rattle.wrp_world.specs.Premises.{Accepts, is_forged}
 use Rattle.wrp_world.specs.Run.{Happened, world_after}
 use Rattle.wrp_world.specs.Runs.{IsNetwork}
-use Rattle.wrp_world.specs.Setting.{Setting, end_at, end_of, fixed_of, link_of, place_of}
+use Rattle.wrp_world.specs.Setting.{Setting, end_at, end_of, node_setting_of, link_of, place_of}
 use Rattle.wrp_world.specs.WorldAt.{Arrival, FrameAt, Sending, WorldAt}
 use Rattle.wrp_world.proofs.RunCarriers.{end_alike}
 use Rattle.wrp_world.proofs.RunGiven.{end_is}
@@ -65,7 +65,7 @@ pub record GivenLaws : Type 0 where
 
 -- the reception's stamp, of a frame that arrived so
 abbrev pub received_stamp : Setting → WorldAt → LinkCfg → Arrival → Stamp
-received_stamp s w link a = stamp_of (fixed_of s link.lower) (w.node link.lower) link.lower_port a.raw a.sample
+received_stamp s w link a = stamp_of (node_setting_of s link.lower) (w.node link.lower) link.lower_port a.raw a.sample
 
 -- an event hands it over
 pub record Handed (s : Setting) (before : List Happened) (h : Happened) (k : ℕ) (link : LinkCfg) : Type 0 where
@@ -144,7 +144,7 @@ other_grown s before h k link node o i g e = record { piece = o; adds = e; comes
 
 -- a chain stands in a node
 abbrev pub ChainIn : Setting → LinkCfg → NodeAt → Type 0
-ChainIn s link node = Stands (run (settings_of (fixed_of s link.lower)) node.calls)
+ChainIn s link node = Stands (run (servo_setting_of (node_setting_of s link.lower)) node.calls)
 
 pub slave_at : (s : Setting) → IsNetwork s → (k : ℕ) (link : LinkCfg) → link_of s k ≡ Some link → slave_of (s.set link.lower) ≡ Some link.lower_port
 slave_at s net k link is = has_slave s net link.lower link (above_is s net k link is)
@@ -180,10 +180,10 @@ carriers_to n (Arrive i raw) h = tt
 abbrev Keeps : Setting → LinkCfg → List Piece → NodeAt → Type 0
 Keeps s link pieces node = ChainIn s link node → pieces_at (s.set link.lower) node link.lower_port ≡ pieces
 
-carrier_keeps : ChainSince → (s : Setting) (link : LinkCfg) (pieces : List Piece) → slave_of (s.set link.lower) ≡ Some link.lower_port → (t : Taken) (m : NodeAt) (input : Input) → t.input ≡ input → IsCarrier input → Keeps s link pieces m → Keeps s link pieces (node_step (fixed_of s link.lower) t m).node
+carrier_keeps : ChainSince → (s : Setting) (link : LinkCfg) (pieces : List Piece) → slave_of (s.set link.lower) ≡ Some link.lower_port → (t : Taken) (m : NodeAt) (input : Input) → t.input ≡ input → IsCarrier input → Keeps s link pieces m → Keeps s link pieces (node_step (node_setting_of s link.lower) t m).node
 carrier_keeps law s link pieces slave t m (Carrier q up own_module) is c old chain =
-    let fixed : Fixed = fixed_of s link.lower in
-    let now : Stands (run (settings_of fixed) (settled fixed (carried fixed q up own_module m)).node.calls) = subst (λ (i : Input). Stands (run (settings_of fixed) (settled fixed (stepped fixed i t.says t.answer m)).node.calls)) is chain in
+    let fixed : NodeSetting = node_setting_of s link.lower in
+    let now : Stands (run (servo_setting_of fixed) (settled fixed (carried fixed q up own_module m)).node.calls) = subst (λ (i : Input). Stands (run (servo_setting_of fixed) (settled fixed (stepped fixed i t.says t.answer m)).node.calls)) is chain in
     let it : Adds fixed m (settled fixed (carried fixed q up own_module m)) link.lower_port None = carrier_adds law fixed m link.lower_port q up own_module slave now in
     ap (λ (i : Input). pieces_at fixed.set (settled fixed (stepped fixed i t.says t.answer m)).node link.lower_port) is ∙ it.adds ∙ old it.stood
 carrier_keeps law s link pieces slave t m TickInput is c old chain = absurd c
@@ -205,7 +205,7 @@ carriers_grown law s h before k link net is only good chain =
 pub tick_grown : ChainSince → (s : Setting) (says : Result PtpMsg FrameFault) (y : ℤ) (before : List Happened) (m k : ℕ) (link : LinkCfg) → IsNetwork s → link_of s k ≡ Some link → link.lower ≡ m →
     HasChain s link.lower (record { event = Tick m; says = says; answer = y } ∷ before) → Grown s before (record { event = Tick m; says = says; answer = y }) k link ((world_step s says y (world_after s before) (Tick m)).node link.lower)
 tick_grown law s says y before m k link net is same chain =
-    let fixed : Fixed = fixed_of s link.lower in
+    let fixed : NodeSetting = node_setting_of s link.lower in
     let h : Happened = record { event = Tick m; says = says; answer = y } in
     let w : WorldAt = world_after s before in
     let node : _ = ticked_node s says y w link.lower m same in
@@ -219,7 +219,7 @@ GrownIf s before h k link node = ChainIn s link node → Grown s before h k link
 sent_grown : ChainSince → (s : Setting) (h : Happened) (before : List Happened) (k : ℕ) (link : LinkCfg) (v : WorldAt) (m p seq : ℕ) (delay : Bool) (stamp : Stamp) → IsNetwork s → link_of s k ≡ Some link → NoGood s before h link → v.node link.lower ≡ (world_after s before).node link.lower →
     GrownIf s before h k link ((gives s h.answer v (given_plain m (Sent p seq delay stamp))).node link.lower)
 sent_grown law s h before k link v m p seq delay stamp net is good same =
-    let fixed : Fixed = fixed_of s link.lower in
+    let fixed : NodeSetting = node_setting_of s link.lower in
     let back : pieces_at (s.set link.lower) (v.node link.lower) link.lower_port ≡ exchange_at s link before = ap (λ (x : NodeAt). pieces_at (s.set link.lower) x link.lower_port) same in
     node_given (GrownIf s before h k link) s h.answer v (given_plain m (Sent p seq delay stamp)) link.lower
     (λ at chain.
@@ -284,7 +284,7 @@ frame_grown law s says y before i k link f a (Some end) net role is at arrived e
     let w : WorldAt = world_after s before in
     let h : Happened = record { event = Deliver i; says = says; answer = y } in
     let v : WorldAt = moved s w (Deliver i) in
-    let fixed : Fixed = fixed_of s link.lower in
+    let fixed : NodeSetting = node_setting_of s link.lower in
     let set : PortSetting = setting_of (s.set link.lower) link.lower_port in
     let node : NodeAt = w.node link.lower in
     let slave : slave_of (s.set link.lower) ≡ Some link.lower_port = slave_at s net k link is in
@@ -297,8 +297,8 @@ frame_grown law s says y before i k link f a (Some end) net role is at arrived e
     node_given (GrownIf s before h k link) s y v g link.lower
     (λ at_node chain. elim (eqb_tells link.lower_port end.port) [
       | inl x ↦
-          let chain_there : Stands (run (settings_of fixed) (node_step fixed (taken_of y (record g { input = Frame link.lower_port (record { items = octets_of f.sending.message }) a.raw a.sample })) node).node.calls) =
-          subst (λ q. Stands (run (settings_of fixed) (node_step fixed (taken_of y (record g { input = Frame q (record { items = octets_of f.sending.message }) a.raw a.sample })) node).node.calls)) (sym x.1) chain in
+          let chain_there : Stands (run (servo_setting_of fixed) (node_step fixed (taken_of y (record g { input = Frame link.lower_port (record { items = octets_of f.sending.message }) a.raw a.sample })) node).node.calls) =
+          subst (λ q. Stands (run (servo_setting_of fixed) (node_step fixed (taken_of y (record g { input = Frame q (record { items = octets_of f.sending.message }) a.raw a.sample })) node).node.calls)) (sym x.1) chain in
           let it : _ = frame_adds law fixed node link.lower_port (Ok f.sending.message) a.raw a.sample y slave chain_there in
           let same : end_of Slave link ≡ end = end_alike (end_of Slave link) end at_node x.1 in
           let where_it_is : (f.link ≡ k) × (other_of f.by ≡ Slave) = are_apart s net f.link k (other_of f.by) Slave end end_there (end_is s k Slave link is ∙ ap Some same) in
@@ -349,7 +349,7 @@ stranger true true rest piece e = absurd (false≢true (sym e))
 stranger true false rest piece e = refl
 stranger false source rest piece e = refl
 
-strange_piece : (s : Setting) (link : LinkCfg) (node : NodeAt) (says : Result PtpMsg FrameFault) (raw : Raw) (sample : ℕ) → is_forged s link.lower link.lower_port says ≡ false → frame_piece (fixed_of s link.lower) node link.lower_port says raw sample ≡ None
+strange_piece : (s : Setting) (link : LinkCfg) (node : NodeAt) (says : Result PtpMsg FrameFault) (raw : Raw) (sample : ℕ) → is_forged s link.lower link.lower_port says ≡ false → frame_piece (node_setting_of s link.lower) node link.lower_port says raw sample ≡ None
 strange_piece s link node (Err fault) raw sample e = refl
 strange_piece s link node (Ok m) raw sample e =
     let set : PortSetting = setting_of (s.set link.lower) link.lower_port in
@@ -362,7 +362,7 @@ pub noise_grown : ChainSince → (s : Setting) (says : Result PtpMsg FrameFault)
 noise_grown law s says y before n p octets raw k link net is a =
     let w : WorldAt = world_after s before in
     let h : Happened = record { event = Noise n p octets raw; says = says; answer = y } in
-    let fixed : Fixed = fixed_of s link.lower in
+    let fixed : NodeSetting = node_setting_of s link.lower in
     let node : NodeAt = w.node link.lower in
     let sample : ℕ = (w.clock n).samples in
     let slave : slave_of (s.set link.lower) ≡ Some link.lower_port = slave_at s net k link is in
@@ -370,8 +370,8 @@ noise_grown law s says y before n p octets raw k link net is a =
     node_given (GrownIf s before h k link) s y (moved s w (Noise n p octets raw)) g link.lower
     (λ at_node chain. elim (eqb_tells link.lower_port p) [
       | inl x ↦
-          let chain_there : Stands (run (settings_of fixed) (node_step fixed (taken_of y (record g { input = Frame link.lower_port octets raw sample })) node).node.calls) =
-          subst (λ q. Stands (run (settings_of fixed) (node_step fixed (taken_of y (record g { input = Frame q octets raw sample })) node).node.calls)) (sym x.1) chain in
+          let chain_there : Stands (run (servo_setting_of fixed) (node_step fixed (taken_of y (record g { input = Frame link.lower_port octets raw sample })) node).node.calls) =
+          subst (λ q. Stands (run (servo_setting_of fixed) (node_step fixed (taken_of y (record g { input = Frame q octets raw sample })) node).node.calls)) (sym x.1) chain in
           let forged : is_forged s link.lower link.lower_port says ≡ false =
           ap (λ i. is_forged s i link.lower_port says) at_node ∙ ap (λ q. is_forged s n q says) x.1 ∙ not_forged s w n p says (place_of s n p) a in
           nothing_grown s before h k link (node_step fixed (taken_of y g) node).node refl

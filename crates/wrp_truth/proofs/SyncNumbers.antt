@@ -20,7 +20,7 @@ use Rattle.wrp_exch.specs.Samples.{samples}
 use Rattle.wrp_frame.specs.declared.fault.FrameFault.{FrameFault}
 use Rattle.wrp_node.specs.declared.interface.Input.{Input}
 use Rattle.wrp_node.specs.declared.interface.Input.TheVariants.{Tick as TickInput, Sample as SampleInput, Frame, Sent, Carrier, Reset}
-use Rattle.wrp_node.specs.NodeAt.{Fixed, NodeAt, Taken, certain_of, locked_of, link_at, setting_of, slave_of}
+use Rattle.wrp_node.specs.NodeAt.{NodeSetting, NodeAt, Taken, certain_of, locked_of, link_at, setting_of, slave_of}
 use Rattle.wrp_node.specs.NodeStep.{counted_tick, handed, heard, heard_unless, is_slave_port, lease_ticked, measured_at, measurement_by, node_step, servo_ticked, stepped, told_slave, used}
 use Rattle.wrp_node.specs.Telling.{Step, answer_of, for_slave, heard_of, lease_change, link_change, number_of, settled, step_from, tell, told_by, with_lease, with_news, with_sample}
 use Rattle.wrp_port.specs.declared.interface.PortIn.{PortIn}
@@ -37,7 +37,7 @@ use Rattle.wrp_world.specs.declared.event.Event.TheVariants.{Pass, Tick as TickE
 use Rattle.wrp_world.specs.Given.{Given, at_ports, comes_from, given_plain, gives, step_of, taken_of}
 use Rattle.wrp_world.specs.Moved.{moved}
 use Rattle.wrp_world.specs.Run.{Happened, world_after}
-use Rattle.wrp_world.specs.Setting.{Setting, fixed_of}
+use Rattle.wrp_world.specs.Setting.{Setting, node_setting_of}
 use Rattle.wrp_world.specs.WorldAt.{WorldAt}
 use Rattle.wrp_truth.specs.Exchanges.{exchange_at}
 use Rattle.wrp_truth.proofs.Inputs.{GivesTo, node_given, node_given_all, node_kept, gives_to}
@@ -122,10 +122,10 @@ told_by_more n set (Some q) out k told p l h = more_where n set (p == q) (heard_
 
 -- A node's step
 
-abbrev pub HoldsAt : Fixed → ℕ → ℕ → NodeAt → Type 0
+abbrev pub HoldsAt : NodeSetting → ℕ → ℕ → NodeAt → Type 0
 HoldsAt fixed p n node = Holds n (setting_of fixed.set p) (node.told p)
 
-tell_more : (fixed : Fixed) (p n : ℕ) (o : Option Call) (s : Step) → number_of o ≤ n → HoldsAt fixed p n s.node → HoldsAt fixed p n (tell fixed o s).node
+tell_more : (fixed : NodeSetting) (p n : ℕ) (o : Option Call) (s : Step) → number_of o ≤ n → HoldsAt fixed p n s.node → HoldsAt fixed p n (tell fixed o s).node
 tell_more fixed p n o s l h = told_by_more n (setting_of fixed.set p) (slave_of fixed.set) (answer_of fixed o s.node.calls) (number_of o) s.node.told p l h
 
 small_if : (n : ℕ) (b : Bool) (o : Option Call) → number_of o ≤ n → number_of (if b then o else None) ≤ n
@@ -135,7 +135,7 @@ small_if n false o h = omega arith
 least : (n : ℕ) → 0 ≤ n
 least n = omega arith
 
-settled_more : (fixed : Fixed) (p n : ℕ) (s : Step) → HoldsAt fixed p n s.node → HoldsAt fixed p n (settled fixed s).node
+settled_more : (fixed : NodeSetting) (p n : ℕ) (s : Step) → HoldsAt fixed p n s.node → HoldsAt fixed p n (settled fixed s).node
 settled_more fixed p n s h =
     let w : Step = with_lease fixed s in
     tell_more fixed p n (link_change fixed w.node) w (small_if n (is_some (slave_of fixed.set)) _ (small_if n _ (Some (CallLink _)) (least n)))
@@ -145,13 +145,13 @@ slave_told : (n : ℕ) (set : PortSetting) (o : Option ℕ) (told : ℕ → List
 slave_told n set None told p h = h
 slave_told n set (Some q) told p h = more_where n set (p == q) (Lease ∷ told p) (told p) h h
 
-tick_more : (fixed : Fixed) (p n : ℕ) (node : NodeAt) → HoldsAt fixed p n node → HoldsAt fixed p n (servo_ticked fixed node).node
+tick_more : (fixed : NodeSetting) (p n : ℕ) (node : NodeAt) → HoldsAt fixed p n node → HoldsAt fixed p n (servo_ticked fixed node).node
 tick_more fixed p n node h =
     tell_more fixed p n (for_slave fixed (Some CallTick)) (lease_ticked fixed node) (small_if n (is_some (slave_of fixed.set)) (Some CallTick) (least n))
     (tell_more fixed p n (lease_change fixed (counted_tick fixed node)) (step_from (counted_tick fixed node)) (small_if n (is_some (slave_of fixed.set)) _ (small_if n _ (Some (CallLease _)) (least n)))
     (slave_told n (setting_of fixed.set p) (slave_of fixed.set) node.told p h))
 
-unless_more : (fixed : Fixed) (p n : ℕ) (node : NodeAt) (q : ℕ) (m : PtpMsg) (stamp : Stamp) (tick : ℕ) (answer : ℤ) (reason : Option Reason) → HoldsAt fixed p n node → HoldsAt fixed p n (heard_unless reason fixed q (Msg m stamp tick) answer node).node
+unless_more : (fixed : NodeSetting) (p n : ℕ) (node : NodeAt) (q : ℕ) (m : PtpMsg) (stamp : Stamp) (tick : ℕ) (answer : ℤ) (reason : Option Reason) → HoldsAt fixed p n node → HoldsAt fixed p n (heard_unless reason fixed q (Msg m stamp tick) answer node).node
 unless_more fixed p n node q m stamp tick answer None h =
     tell_more fixed p n (for_slave fixed (measurement_by (measured_at fixed node q (Msg m stamp tick)) answer)) (used fixed q (Msg m stamp tick) node)
     (small_if n (is_some (slave_of fixed.set)) _ (none_small (measured_at fixed node q (Msg m stamp tick))))
@@ -162,7 +162,7 @@ unless_more fixed p n node q m stamp tick answer None h =
     none_small (Some four) = least n
 unless_more fixed p n node q m stamp tick answer (Some reason) h = h
 
-heard_all : (fixed : Fixed) (p n : ℕ) (node : NodeAt) (q : ℕ) (says : Result PtpMsg FrameFault) (raw : _) (sample : ℕ) (answer : ℤ) → HoldsAt fixed p n node → HoldsAt fixed p n (heard fixed q says raw sample answer node).node
+heard_all : (fixed : NodeSetting) (p n : ℕ) (node : NodeAt) (q : ℕ) (says : Result PtpMsg FrameFault) (raw : _) (sample : ℕ) (answer : ℤ) → HoldsAt fixed p n node → HoldsAt fixed p n (heard fixed q says raw sample answer node).node
 heard_all fixed p n node q (Err fault) raw sample answer h = h
 heard_all fixed p n node q (Ok m) raw sample answer h = unless_more fixed p n node q m _ node.ticks answer (early_reason (setting_of fixed.set q) (link_at fixed.set node q) m) h
 
@@ -171,7 +171,7 @@ abbrev pub IsLow : ℕ → Input → Type 0
 IsLow n (SampleInput number base bits) = number ≤ n
 IsLow n _ = Unit {0}
 
-stepped_more : (fixed : Fixed) (p n : ℕ) (node : NodeAt) (input : Input) (says : Result PtpMsg FrameFault) (answer : ℤ) → IsLow n input → HoldsAt fixed p n node → HoldsAt fixed p n (stepped fixed input says answer node).node
+stepped_more : (fixed : NodeSetting) (p n : ℕ) (node : NodeAt) (input : Input) (says : Result PtpMsg FrameFault) (answer : ℤ) → IsLow n input → HoldsAt fixed p n node → HoldsAt fixed p n (stepped fixed input says answer node).node
 stepped_more fixed p n node TickInput says answer l h = told_more n (setting_of fixed.set p) (Tick (locked_of fixed (servo_ticked fixed node).node) (certain_of fixed (servo_ticked fixed node).node)) ((servo_ticked fixed node).node.told p) tt (tick_more fixed p n node h)
 stepped_more fixed p n node (SampleInput number base bits) says answer l h = tell_more fixed p n (for_slave fixed (Some (CallSample number base bits))) (step_from node) (small_if n (is_some (slave_of fixed.set)) (Some (CallSample number base bits)) l) h
 stepped_more fixed p n node (Frame q octets raw sample) says answer l h = heard_all fixed p n node q says raw sample answer h
@@ -183,17 +183,17 @@ stepped_more fixed p n node (Carrier q up own_module) says answer l h =
     (more_where n (setting_of fixed.set p) (p == q) (PortCarrier up own_module ∷ node.told p) (node.told p) (told_more n (setting_of fixed.set p) (PortCarrier up own_module) (node.told p) tt h) h)
 stepped_more fixed p n node Reset says answer l h = tt
 
-pub step_more : (fixed : Fixed) (p n : ℕ) (t : Taken) (node : NodeAt) → IsLow n t.input → HoldsAt fixed p n node → HoldsAt fixed p n (node_step fixed t node).node
+pub step_more : (fixed : NodeSetting) (p n : ℕ) (t : Taken) (node : NodeAt) → IsLow n t.input → HoldsAt fixed p n node → HoldsAt fixed p n (node_step fixed t node).node
 step_more fixed p n t node l h = settled_more fixed p n (stepped fixed t.input t.says t.answer node) (stepped_more fixed p n node t.input t.says t.answer l h)
 
-reset_more : (fixed : Fixed) (p n : ℕ) (t : Taken) (node : NodeAt) → t.input ≡ Reset → HoldsAt fixed p n (node_step fixed t node).node
+reset_more : (fixed : NodeSetting) (p n : ℕ) (t : Taken) (node : NodeAt) → t.input ≡ Reset → HoldsAt fixed p n (node_step fixed t node).node
 reset_more fixed p n t node e =
     subst (λ (i : Input). HoldsAt fixed p n (settled fixed (stepped fixed i t.says t.answer node)).node) (sym e) (settled_more fixed p n (stepped fixed Reset t.says t.answer node) tt)
 
 -- Every run
 
 abbrev NumbersHold : Setting → List Happened → LinkCfg → ℕ → Type 0
-NumbersHold s events link n = HoldsAt (fixed_of s link.lower) link.lower_port n ((world_after s events).node link.lower)
+NumbersHold s events link n = HoldsAt (node_setting_of s link.lower) link.lower_port n ((world_after s events).node link.lower)
 
 weaker : (a b : ℕ) (calls : List Piece) → a ≤ b → AtMost a calls → AtMost b calls
 weaker a b calls l h = all_weaker (samples calls) h
@@ -221,7 +221,7 @@ low_to bound n (Arrive i raw) h = tt
 low_numbers : (s : Setting) (h : Happened) (before : List Happened) (link : LinkCfg) → IsLowOf link.lower h.event → NumbersHold s before link ((world_after s before).clock link.lower).samples → NumbersHold s (h ∷ before) link ((world_after s (h ∷ before)).clock link.lower).samples
 low_numbers s h before link low old =
     let n : ℕ = link.lower in
-    let fixed : Fixed = fixed_of s n in
+    let fixed : NodeSetting = node_setting_of s n in
     let bound : ℕ = ((world_after s before).clock n).samples in
     subst (NumbersHold s (h ∷ before) link) (sym (low_stay s h before n low))
     (node_kept (HoldsAt fixed link.lower_port bound) (IsLow bound) s h.says h.answer (world_after s before) h.event n (λ t m q k. step_more fixed link.lower_port bound t m q k) (low_to bound n h.event low) old)
@@ -233,7 +233,7 @@ sample_numbers s says y before m base bits link same old =
     let w : WorldAt = world_after s before in
     let v : WorldAt = moved s w (SampleEvent m base bits) in
     let h : Happened = record { event = SampleEvent m base bits; says = says; answer = y } in
-    let fixed : Fixed = fixed_of s n in
+    let fixed : NodeSetting = node_setting_of s n in
     let bound : ℕ = (w.clock n).samples + 1 in
     let number : (v.clock m).samples ≡ bound = ap (λ i. (v.clock i).samples) (sym same) ∙ sampled_samples s w n m base bits same in
     subst (NumbersHold s (h ∷ before) link) (sym (samples_then s h before n ∙ sampled_samples s w n m base bits same))
@@ -249,13 +249,13 @@ up_numbers s says y before m off swaps link same =
     let w : WorldAt = world_after s before in
     let v : WorldAt = moved s w (Up m off swaps) in
     let h : Happened = record { event = Up m off swaps; says = says; answer = y } in
-    let fixed : Fixed = fixed_of s n in
+    let fixed : NodeSetting = node_setting_of s n in
     let bound : ℕ = ((world_after s (h ∷ before)).clock n).samples in
     let here : (n == m) ≡ true = ap (λ i. i == m) same ∙ eq_self m in
     let g : Given = given_plain m Reset in
     let first : HoldsAt fixed link.lower_port bound ((gives s y v g).node n) =
     subst (λ b. HoldsAt fixed link.lower_port bound (if b then (step_of s y v g).node else v.node n)) (sym here)
-    (subst (λ i. HoldsAt fixed link.lower_port bound (node_step (fixed_of s i) (taken_of y g) (v.node i)).node) same (reset_more fixed link.lower_port bound (taken_of y g) (v.node n) refl)) in
+    (subst (λ i. HoldsAt fixed link.lower_port bound (node_step (node_setting_of s i) (taken_of y g) (v.node i)).node) same (reset_more fixed link.lower_port bound (taken_of y g) (v.node n) refl)) in
     node_given_all (HoldsAt fixed link.lower_port bound) (IsLow bound) s y n (λ t x q k. step_more fixed link.lower_port bound t x q k) (at_ports s v (comes_from s v) m) (gives s y v g)
     (gives_to (IsLow bound) s w v says n (Up m off swaps) (λ is. tt, λ q own_module. tt)).1 first
 

@@ -11,11 +11,11 @@ use Rattle.wrp_exch.specs.Call.{Call as Piece, CallStart, CallClear, CallSample 
 use Rattle.wrp_exch.specs.Samples.{samples}
 use Rattle.wrp_frame.specs.declared.fault.FrameFault.{FrameFault}
 use Rattle.wrp_node.specs.declared.interface.Input.TheVariants.{Sample as SampleInput}
-use Rattle.wrp_node.specs.NodeAt.{Fixed, NodeAt, Taken, pieces_at, setting_of, settings_of, slave_of}
+use Rattle.wrp_node.specs.NodeAt.{NodeSetting, NodeAt, Taken, pieces_at, setting_of, servo_setting_of, slave_of}
 use Rattle.wrp_node.specs.NodeStep.{node_step}
 use Rattle.wrp_node.specs.SetLaws.{EndsAreSet}
 use Rattle.wrp_port.specs.Outputs.{with_call}
-use Rattle.wrp_servo.specs.Call.{CallLease, CallLink, CallSample, CallMeasured, CallTick, CallCarrier, CallReset, Settings, run}
+use Rattle.wrp_servo.specs.Call.{CallLease, CallLink, CallSample, CallMeasured, CallTick, CallCarrier, CallReset, ServoSetting, run}
 use Rattle.wrp_servo.specs.Laws.{PhaseMovesByTags}
 use Rattle.wrp_servo.specs.Tags.{heard_tag}
 use Rattle.wrp_tracking.specs.Chain.{Good}
@@ -26,7 +26,7 @@ use Rattle.wrp_world.specs.Given.{Given, given_plain, step_of, taken_of, world_s
 use Rattle.wrp_world.specs.Moved.{moved, waiting_at}
 use Rattle.wrp_world.specs.Run.{Happened, world_after}
 use Rattle.wrp_world.specs.Runs.{IsNetwork, IsRun}
-use Rattle.wrp_world.specs.Setting.{Setting, fixed_of, link_of, place_of}
+use Rattle.wrp_world.specs.Setting.{Setting, node_setting_of, link_of, place_of}
 use Rattle.wrp_world.specs.WorldAt.{WorldAt}
 use Rattle.wrp_world.proofs.RunTimes.{comes_up_down, not_up}
 use Rattle.wrp_truth.specs.Chains.{good_in, phase_in}
@@ -42,14 +42,14 @@ use Rattle.wrp_truth.proofs.SyncTold.{Starts, sample_adds, sample_piece, sample_
 -- A sample of the node
 
 abbrev heard_by : Setting → List Happened → ℕ → (base bits : ℕ) → Option ℕ
-heard_by s before n base bits = heard_tag (settings_of (fixed_of s n)) ((world_after s before).node n).calls (((world_after s before).clock n).samples + 1) base bits
+heard_by s before n base bits = heard_tag (servo_setting_of (node_setting_of s n)) ((world_after s before).node n).calls (((world_after s before).clock n).samples + 1) base bits
 
 -- what the node takes of it
 abbrev sample_taken : Setting → ℤ → List Happened → ℕ → (base bits : ℕ) → Taken
 sample_taken s y before n base bits = taken_of y (given_plain n (SampleInput (((world_after s before).clock n).samples + 1) base bits))
 
 sample_node : (s : Setting) (says : Result PtpMsg FrameFault) (y : ℤ) (before : List Happened) (n m base bits : ℕ) → n ≡ m →
-    (world_step s says y (world_after s before) (Sample m base bits)).node n ≡ (node_step (fixed_of s n) (sample_taken s y before n base bits) ((world_after s before).node n)).node
+    (world_step s says y (world_after s before) (Sample m base bits)).node n ≡ (node_step (node_setting_of s n) (sample_taken s y before n base bits) ((world_after s before).node n)).node
 sample_node s says y before n m base bits same =
     let w : WorldAt = world_after s before in
     let v : WorldAt = moved s w (Sample m base bits) in
@@ -57,11 +57,11 @@ sample_node s says y before n m base bits same =
     let here : (n == m) ≡ true = ap (λ i. i == m) same ∙ eq_self m in
     let number : (v.clock m).samples ≡ (w.clock m).samples + 1 = ap (λ b. (if b then record (w.clock m) { samples = (w.clock m).samples + 1 } else w.clock m).samples) (eq_self m) in
     ap (λ b. if b then (step_of s y v g).node else w.node n) here
-    ∙ ap (λ k. (node_step (fixed_of s m) (taken_of y (given_plain m (SampleInput k base bits))) (w.node m)).node) number
-    ∙ ap (λ i. (node_step (fixed_of s i) (taken_of y (given_plain i (SampleInput ((w.clock i).samples + 1) base bits))) (w.node i)).node) (sym same)
+    ∙ ap (λ k. (node_step (node_setting_of s m) (taken_of y (given_plain m (SampleInput k base bits))) (w.node m)).node) number
+    ∙ ap (λ i. (node_step (node_setting_of s i) (taken_of y (given_plain i (SampleInput ((w.clock i).samples + 1) base bits))) (w.node i)).node) (sym same)
 
 -- the phase that the servo has then stays to the end of the event
-pub phase_kept : PhaseMovesByTags → (x : Settings) (u : ℤ) → KeptBy IsTelling (λ calls. (run x calls).phase.u ≡ u)
+pub phase_kept : PhaseMovesByTags → (x : ServoSetting) (u : ℤ) → KeptBy IsTelling (λ calls. (run x calls).phase.u ≡ u)
 phase_kept law x u calls (CallLease fresh) c h = law x calls (CallLease fresh) refl ∙ h
 phase_kept law x u calls (CallLink on) c h = law x calls (CallLink on) refl ∙ h
 phase_kept law x u calls (CallSample n base bits) c h = absurd c
@@ -71,14 +71,14 @@ phase_kept law x u calls (CallCarrier up) c h = absurd c
 phase_kept law x u calls CallReset c h = absurd c
 
 phase_then : PhaseMovesByTags → (s : Setting) (says : Result PtpMsg FrameFault) (y : ℤ) (before : List Happened) (n m base bits : ℕ) → n ≡ m → is_some (slave_of (s.set n)) ≡ true →
-    phase_in s (world_step s says y (world_after s before) (Sample m base bits)) n ≡ (sampled (fixed_of s n) ((world_after s before).node n) (((world_after s before).clock n).samples + 1) base bits).phase.u
+    phase_in s (world_step s says y (world_after s before) (Sample m base bits)) n ≡ (sampled (node_setting_of s n) ((world_after s before).node n) (((world_after s before).clock n).samples + 1) base bits).phase.u
 phase_then law s says y before n m base bits same servo =
     let w : WorldAt = world_after s before in
     let number : ℕ = (w.clock n).samples + 1 in
-    let x : Settings = settings_of (fixed_of s n) in
-    let u : ℤ = (sampled (fixed_of s n) (w.node n) number base bits).phase.u in
+    let x : ServoSetting = servo_setting_of (node_setting_of s n) in
+    let u : ℤ = (sampled (node_setting_of s n) (w.node n) number base bits).phase.u in
     ap (λ (z : NodeAt). (run x z.calls).phase.u) (sample_node s says y before n m base bits same)
-    ∙ sample_keeps (λ calls. (run x calls).phase.u ≡ u) (phase_kept law x u) (fixed_of s n) (sample_taken s y before n base bits) (w.node n) number base bits refl servo refl
+    ∙ sample_keeps (λ calls. (run x calls).phase.u ≡ u) (phase_kept law x u) (node_setting_of s n) (sample_taken s y before n base bits) (w.node n) number base bits refl servo refl
 
 -- the good sample that it is
 abbrev good_by : Setting → ℤ → List Happened → ℕ → (u : ℤ) → ℕ → Good
@@ -102,7 +102,7 @@ good_then s says y before n m base bits o same heard =
 -- in a chain
 sample_comes : PhaseMovesByTags → (s : Setting) (says : Result PtpMsg FrameFault) (y : ℤ) (before : List Happened) (m base bits k : ℕ) (link : LinkCfg) (o : Option ℕ) → link.lower ≡ m → is_some (slave_of (s.set link.lower)) ≡ true → heard_by s before link.lower base bits ≡ o →
     ComesOf s before (record { event = Sample m base bits; says = says; answer = y }) k link
-    (option_map (λ (tag : ℕ). SamplePiece (((world_after s before).clock link.lower).samples + 1) (sampled (fixed_of s link.lower) ((world_after s before).node link.lower) (((world_after s before).clock link.lower).samples + 1) base bits).phase.u) o)
+    (option_map (λ (tag : ℕ). SamplePiece (((world_after s before).clock link.lower).samples + 1) (sampled (node_setting_of s link.lower) ((world_after s before).node link.lower) (((world_after s before).clock link.lower).samples + 1) base bits).phase.u) o)
 sample_comes law s says y before m base bits k link None same servo heard = good_then s says y before link.lower m base bits None same heard
 sample_comes law s says y before m base bits k link (Some tag) same servo heard = record {
   good = good_by s y before link.lower (phase_in s (world_step s says y (world_after s before) (Sample m base bits)) link.lower) tag;
@@ -114,12 +114,12 @@ sample_comes law s says y before m base bits k link (Some tag) same servo heard 
 sample_grown : GivenLaws → (s : Setting) (says : Result PtpMsg FrameFault) (y : ℤ) (before : List Happened) (m base bits k : ℕ) (link : LinkCfg) → IsNetwork s → (setting_of (s.set link.lower) link.lower_port).ds.role ≡ Slave → link_of s k ≡ Some link → link.lower ≡ m → HasChain s link.lower before →
     HasChain s link.lower (record { event = Sample m base bits; says = says; answer = y } ∷ before) → Grown s before (record { event = Sample m base bits; says = says; answer = y }) k link ((world_step s says y (world_after s before) (Sample m base bits)).node link.lower)
 sample_grown laws s says y before m base bits k link net role is same was chain =
-    let fixed : Fixed = fixed_of s link.lower in
+    let fixed : NodeSetting = node_setting_of s link.lower in
     let w : WorldAt = world_after s before in
     let number : ℕ = (w.clock link.lower).samples + 1 in
     let slave : slave_of (s.set link.lower) ≡ Some link.lower_port = slave_at s net k link is in
     let node : _ = sample_node s says y before link.lower m base bits same in
-    let it : _ = sample_adds laws.since fixed (w.node link.lower) link.lower_port number base bits slave role was (subst (λ (z : NodeAt). Stands (run (settings_of fixed) z.calls)) node chain) in
+    let it : _ = sample_adds laws.since fixed (w.node link.lower) link.lower_port number base bits slave role was (subst (λ (z : NodeAt). Stands (run (servo_setting_of fixed) z.calls)) node chain) in
     record {
       piece = sample_piece fixed (w.node link.lower) number base bits;
       adds = ap (λ (z : NodeAt). pieces_at (s.set link.lower) z link.lower_port) node ∙ it.adds;
@@ -167,15 +167,15 @@ pub record Begun (s : Setting) (start : Happened) (before : List Happened) (link
 sample_begun : GivenLaws → (s : Setting) (says : Result PtpMsg FrameFault) (y : ℤ) (before : List Happened) (m base bits k : ℕ) (link : LinkCfg) → IsNetwork s → (setting_of (s.set link.lower) link.lower_port).ds.role ≡ Slave → link_of s k ≡ Some link → link.lower ≡ m → (HasChain s link.lower before → ⊥) →
     HasChain s link.lower (record { event = Sample m base bits; says = says; answer = y } ∷ before) → Begun s (record { event = Sample m base bits; says = says; answer = y }) before link
 sample_begun laws s says y before m base bits k link net role is same out chain =
-    let fixed : Fixed = fixed_of s link.lower in
+    let fixed : NodeSetting = node_setting_of s link.lower in
     let w : WorldAt = world_after s before in
     let number : ℕ = (w.clock link.lower).samples + 1 in
     let slave : slave_of (s.set link.lower) ≡ Some link.lower_port = slave_at s net k link is in
     let node : _ = sample_node s says y before link.lower m base bits same in
-    let there : Stands (run (settings_of fixed) (node_step fixed (sample_taken s y before link.lower base bits) (w.node link.lower)).node.calls) = subst (λ (z : NodeAt). Stands (run (settings_of fixed) z.calls)) node chain in
+    let there : Stands (run (servo_setting_of fixed) (node_step fixed (sample_taken s y before link.lower base bits) (w.node link.lower)).node.calls) = subst (λ (z : NodeAt). Stands (run (servo_setting_of fixed) z.calls)) node chain in
     let it : Starts fixed (w.node link.lower) (node_step fixed (sample_taken s y before link.lower base bits) (w.node link.lower)) link.lower_port number base bits =
     sample_starts laws.since fixed (w.node link.lower) link.lower_port number base bits slave role out
-    (λ none. out (sym (ap is_some (unheard_first (settings_of fixed) (w.node link.lower).calls number base bits none)) ∙ sample_stood laws.since fixed (sample_taken s y before link.lower base bits) (w.node link.lower) number base bits refl (ap is_some slave) there))
+    (λ none. out (sym (ap is_some (unheard_first (servo_setting_of fixed) (w.node link.lower).calls number base bits none)) ∙ sample_stood laws.since fixed (sample_taken s y before link.lower base bits) (w.node link.lower) number base bits refl (ap is_some slave) there))
     there in
     record {
       good = good_by s y before link.lower (phase_in s (world_step s says y w (Sample m base bits)) link.lower) it.tag;

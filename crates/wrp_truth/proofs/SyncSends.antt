@@ -11,7 +11,7 @@ use Rattle.wrp_base.specs.declared.network.LinkCfg.{LinkCfg}
 use Rattle.wrp_frame.specs.declared.fault.FrameFault.{FrameFault}
 use Rattle.wrp_node.specs.declared.interface.Input.{Input}
 use Rattle.wrp_node.specs.declared.interface.Input.TheVariants.{Tick as TickInput, Sample as SampleInput, Frame, Sent, Carrier, Reset}
-use Rattle.wrp_node.specs.NodeAt.{Fixed, NodeAt, Taken, certain_of, line_at, locked_of, setting_of}
+use Rattle.wrp_node.specs.NodeAt.{NodeSetting, NodeAt, Taken, certain_of, line_at, locked_of, setting_of}
 use Rattle.wrp_node.specs.NodeStep.{node_step, servo_ticked}
 use Rattle.wrp_port.specs.declared.line.Line.{Line}
 use Rattle.wrp_port.specs.declared.setting.Setting.{Setting as PortSetting}
@@ -24,7 +24,7 @@ use Rattle.wrp_world.specs.Given.{Given, given_plain, gives, gives_all, sending,
 use Rattle.wrp_world.specs.Moved.{moved, waiting_at}
 use Rattle.wrp_world.specs.Run.{Happened, world_after}
 use Rattle.wrp_world.specs.Runs.{IsNetwork, WasPutOut}
-use Rattle.wrp_world.specs.Setting.{Setting, end_of, fixed_of, link_of, place_of}
+use Rattle.wrp_world.specs.Setting.{Setting, end_of, node_setting_of, link_of, place_of}
 use Rattle.wrp_world.specs.WorldAt.{Sending, WorldAt}
 use Rattle.wrp_world.proofs.RunGiven.{end_is}
 use Rattle.wrp_world.proofs.RunNetwork.{LinkEnd, are_apart, end_with, place_end}
@@ -47,7 +47,7 @@ OnlySo Q ms = AllByRecursion (λ m. IsFollowUp m.body → Q m) ms
 -- An input of a node
 
 -- the sending of a Sync is told, and this is its Follow_Up
-abbrev pub FollowsFrom : Fixed → ℕ → Input → PtpMsg → Type 0
+abbrev pub FollowsFrom : NodeSetting → ℕ → Input → PtpMsg → Type 0
 FollowsFrom fixed p (Sent q seq false stamp) m = (p ≡ q) × (m ≡ follow_up_of (setting_of fixed.set p) seq stamp)
 FollowsFrom fixed p _ m = ⊥
 
@@ -55,7 +55,7 @@ scheduled_follow : (Q : PtpMsg → Type 0) (set : PortSetting) (role : Role) (li
 scheduled_follow Q set Master line certain = (λ e f. absurd f, λ e f. absurd f)
 scheduled_follow Q set Slave line certain = λ e f. absurd f
 
-follow_by : (fixed : Fixed) (n : NodeAt) (p : ℕ) (input : Input) (says : Result PtpMsg FrameFault) → SentBy (λ m. IsFollowUp m.body → FollowsFrom fixed p input m) fixed n p input says
+follow_by : (fixed : NodeSetting) (n : NodeAt) (p : ℕ) (input : Input) (says : Result PtpMsg FrameFault) → SentBy (λ m. IsFollowUp m.body → FollowsFrom fixed p input m) fixed n p input says
 follow_by fixed n p TickInput says = scheduled_follow (FollowsFrom fixed p TickInput) (setting_of fixed.set p) (setting_of fixed.set p).ds.role (ticked (setting_of fixed.set p) (line_at fixed.set (servo_ticked fixed n).node p) (locked_of fixed (servo_ticked fixed n).node)) (certain_of fixed (servo_ticked fixed n).node)
 follow_by fixed n p (SampleInput number base bits) says = tt
 follow_by fixed n p (Frame q octets raw sample) says = λ m is same hears request f. absurd f
@@ -64,7 +64,7 @@ follow_by fixed n p (Sent q seq false stamp) says = λ e same f. (same, refl)
 follow_by fixed n p (Carrier q up own_module) says = tt
 follow_by fixed n p Reset says = tt
 
-follows_from : (fixed : Fixed) (t : Taken) (n : NodeAt) (p : ℕ) → OnlySo (FollowsFrom fixed p t.input) ((node_step fixed t n).sends p)
+follows_from : (fixed : NodeSetting) (t : Taken) (n : NodeAt) (p : ℕ) → OnlySo (FollowsFrom fixed p t.input) ((node_step fixed t n).sends p)
 follows_from fixed t n p = step_each (λ m. IsFollowUp m.body → FollowsFrom fixed p t.input m) fixed t n p (λ seq m f. absurd f) (follow_by fixed n p t.input t.says)
 
 -- What an input puts out
@@ -77,10 +77,10 @@ sent_so Q v x (m ∷ ms) f only h = elim h [
 ]
 
 abbrev FollowsBy : Setting → Given → LinkCfg → Sending → Type 0
-FollowsBy s g link x = (link.upper ≡ g.to) × FollowsFrom (fixed_of s g.to) link.upper_port g.input x.message
+FollowsBy s g link x = (link.upper ≡ g.to) × FollowsFrom (node_setting_of s g.to) link.upper_port g.input x.message
 
-step_follow : (s : Setting) (y : ℤ) (v : WorldAt) (g : Given) (p : ℕ) (x : Sending) → IsFollowUp x.message.body → WasPutOut x (map (sending v) ((step_of s y v g).sends p)) → FollowsFrom (fixed_of s g.to) p g.input x.message
-step_follow s y v g p x f new = sent_so (FollowsFrom (fixed_of s g.to) p g.input) v x ((step_of s y v g).sends p) f (follows_from (fixed_of s g.to) (taken_of y g) (v.node g.to) p) new
+step_follow : (s : Setting) (y : ℤ) (v : WorldAt) (g : Given) (p : ℕ) (x : Sending) → IsFollowUp x.message.body → WasPutOut x (map (sending v) ((step_of s y v g).sends p)) → FollowsFrom (node_setting_of s g.to) p g.input x.message
+step_follow s y v g p x f new = sent_so (FollowsFrom (node_setting_of s g.to) p g.input) v x ((step_of s y v g).sends p) f (follows_from (node_setting_of s g.to) (taken_of y g) (v.node g.to) p) new
 
 given_follow : (s : Setting) (y : ℤ) (v : WorldAt) (g : Given) (k : ℕ) (link : LinkCfg) (x : Sending) → link_of s k ≡ Some link → IsFollowUp x.message.body → WasPutOut x ((gives s y v g).end_at k Master).sent →
     WasPutOut x (v.end_at k Master).sent ⊎ FollowsBy s g link x
@@ -94,7 +94,7 @@ abbrev IsNoSent : Input → Type 0
 IsNoSent (Sent p seq delay stamp) = ⊥
 IsNoSent _ = Unit {0}
 
-no_follow : (fixed : Fixed) (p : ℕ) (m : PtpMsg) (input : Input) → IsNoSent input → FollowsFrom fixed p input m → ⊥
+no_follow : (fixed : NodeSetting) (p : ℕ) (m : PtpMsg) (input : Input) → IsNoSent input → FollowsFrom fixed p input m → ⊥
 no_follow fixed p m (Sent q seq delay stamp) h f = absurd h
 no_follow fixed p m TickInput h f = f
 no_follow fixed p m (SampleInput number base bits) h f = f
@@ -204,7 +204,7 @@ no_sent_to n (Arrive i raw) h = tt
 other_follow : (s : Setting) (says : Result PtpMsg FrameFault) (y : ℤ) (w : WorldAt) (e : Event) (k : ℕ) (link : LinkCfg) (x : Sending) → link_of s k ≡ Some link → IsFollowUp x.message.body → GivesNoSent link.upper e →
     WasPutOut x ((world_step s says y w e).end_at k Master).sent → WasPutOut x (w.end_at k Master).sent
 other_follow s says y w e k link x is f none put =
-    none_put IsNoSent s says y w e k Master link x is (λ v g input new. no_follow (fixed_of s g.to) link.upper_port x.message g.input input (step_follow s y v g link.upper_port x f new)) (no_sent_to link.upper e none) put
+    none_put IsNoSent s says y w e k Master link x is (λ v g input new. no_follow (node_setting_of s g.to) link.upper_port x.message g.input input (step_follow s y v g link.upper_port x f new)) (no_sent_to link.upper e none) put
 
 follow_in : (s : Setting) → IsNetwork s → (says : Result PtpMsg FrameFault) (y : ℤ) (w : WorldAt) (e : Event) (k : ℕ) (link : LinkCfg) (x : Sending) → link_of s k ≡ Some link → IsFollowUp x.message.body → WasPutOut x ((world_step s says y w e).end_at k Master).sent →
     FollowIn s w k link e x

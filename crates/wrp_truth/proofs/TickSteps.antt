@@ -16,7 +16,7 @@ use Rattle.wrp_world.specs.Given.{given_plain, taken_of, world_step}
 use Rattle.wrp_world.specs.Run.{Happened, world_after}
 use Rattle.wrp_world.specs.RunLaws.{TicksAreApart}
 use Rattle.wrp_world.specs.Runs.{IsRun}
-use Rattle.wrp_world.specs.Setting.{Setting, fixed_of}
+use Rattle.wrp_world.specs.Setting.{Setting, node_setting_of}
 use Rattle.wrp_world.specs.WorldAt.{WorldAt}
 use Rattle.wrp_world.proofs.RunHanded.{not_early}
 use Rattle.wrp_world.proofs.RunTimes.{comes_up_down, step_time, not_up}
@@ -39,7 +39,7 @@ calm_count Reset ticks h = absurd h
 calm_ticks : TicksAreCounted → (s : Setting) (h : Happened) (before : List Happened) (n : ℕ) → IsCalmOf n h.event → ((world_after s (h ∷ before)).node n).ticks ≡ ((world_after s before).node n).ticks
 calm_ticks counted s h before n calm =
     node_kept (λ (m : NodeAt). m.ticks ≡ ((world_after s before).node n).ticks) IsCalm s h.says h.answer (world_after s before) h.event n
-    (λ t m q e. counted (fixed_of s n) t m ∙ calm_count t.input m.ticks q ∙ e) (calm_to n h.event calm) refl
+    (λ t m q e. counted (node_setting_of s n) t m ∙ calm_count t.input m.ticks q ∙ e) (calm_to n h.event calm) refl
 
 abbrev Steps : Setting → Happened → List Happened → ℕ → Type 0
 Steps s h before n = TickStep (shortest_tick s.cfg) (longest_tick s.cfg) (ticks_at (world_after s before) n) (ticks_at (world_after s (h ∷ before)) n)
@@ -63,7 +63,7 @@ tick_step counted apart s says y before (Tick m) n run inside was up = elim (eqb
       let w : WorldAt = world_after s before in
       let node : _ = ticked_node s says y w n m x.1 in
       inr (record {
-        ticks = ap (λ (z : NodeAt). z.ticks) node.0 ∙ counted (fixed_of s n) (taken_of y (given_plain m TickInput)) (w.node n);
+        ticks = ap (λ (z : NodeAt). z.ticks) node.0 ∙ counted (node_setting_of s n) (taken_of y (given_plain m TickInput)) (w.node n);
         last = node.1;
         now = refl;
         late =

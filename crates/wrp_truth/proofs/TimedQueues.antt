@@ -23,7 +23,7 @@ use Rattle.wrp_world.specs.Moved.{arrived, behind_first, departing, frame_after,
 use Rattle.wrp_world.specs.Run.{Happened, world_after}
 use Rattle.wrp_world.specs.RunLaws.{HasTimes}
 use Rattle.wrp_world.specs.Runs.{IsRun, WasPutOut}
-use Rattle.wrp_world.specs.Setting.{Setting, end_at, end_of, fixed_of, is_of, is_role, link_of, place_of}
+use Rattle.wrp_world.specs.Setting.{Setting, end_at, end_of, node_setting_of, is_of, is_role, link_of, place_of}
 use Rattle.wrp_world.specs.WorldAt.{EndAt, FrameAt, Sending, WorldAt, is_on_fibre}
 use Rattle.wrp_world.proofs.RunFlights.{frames_have_times, times_keep}
 use Rattle.wrp_truth.specs.SequenceIds.{IsTimed}
@@ -149,7 +149,7 @@ given_line r s y v g k link is none h =
     told_there (λ e. InLine r k e.waiting v.frame) s y v g k r link is h
     (λ here.
     let ms : List PtpMsg = (step_of s y v g).sends (end_of r link).port in
-    let quiet : Where NoneSent r ms = no_tick_where (fixed_of s g.to) (taken_of y g) (v.node g.to) r (end_of r link).port (none here) in
+    let quiet : Where NoneSent r ms = no_tick_where (node_setting_of s g.to) (taken_of y g) (v.node g.to) r (end_of r link).port (none here) in
     more_in_line r k (v.end_at k r).waiting (map (sending v) ms) v.frame h (record {
       waits = all_waits r (v.end_at k r).waiting (map (sending v) ms) (λ x. none_ahead r v x ms quiet);
       frames = λ i. any_frame r k (map (sending v) ms) (v.frame i) (λ x. none_ahead r v x ms quiet);

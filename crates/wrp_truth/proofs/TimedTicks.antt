@@ -12,7 +12,7 @@ use Rattle.wrp_link.specs.Table.{sends_of as link_sends_of, after}
 use Rattle.wrp_node.specs.declared.interface.Input.{Input}
 use Rattle.wrp_node.specs.declared.interface.Input.TheVariants.{Tick, Frame, Sent, Carrier, Reset, Tick as TickInput, Sample as SampleInput}
 use Rattle.wrp_node.specs.LinkNews.{StepGivesLinks}
-use Rattle.wrp_node.specs.NodeAt.{Fixed, NodeAt, Taken, line_at, link_at, setting_of, certain_of, locked_of}
+use Rattle.wrp_node.specs.NodeAt.{NodeSetting, NodeAt, Taken, line_at, link_at, setting_of, certain_of, locked_of}
 use Rattle.wrp_node.specs.NodeStep.{node_step, servo_ticked}
 use Rattle.wrp_node.specs.SetLaws.{EndsAreSet}
 use Rattle.wrp_node.proofs.Links.{before_ports}
@@ -32,7 +32,7 @@ use Rattle.wrp_world.specs.Given.{given_plain, sending, step_of, taken_of, world
 use Rattle.wrp_world.specs.Moved.{moved}
 use Rattle.wrp_world.specs.Run.{Happened, world_after}
 use Rattle.wrp_world.specs.Runs.{IsNetwork, WasPutOut}
-use Rattle.wrp_world.specs.Setting.{Setting, end_of, fixed_of, link_of}
+use Rattle.wrp_world.specs.Setting.{Setting, end_of, node_setting_of, link_of}
 use Rattle.wrp_world.specs.WorldAt.{Sending, WorldAt}
 use Rattle.wrp_truth.specs.SequenceIds.{IsOpenAt, IsTimed}
 use Rattle.wrp_truth.proofs.IdsPutOut.{NewIn, timed_in}
@@ -47,7 +47,7 @@ use Rattle.wrp_truth.proofs.StepSends.{both_each, due_each}
 
 -- Inputs of a node
 
-quiet_where : (fixed : Fixed) (n : NodeAt) (r : Role) (p : ℕ) (input : Input) (ms : List PtpMsg) → IsNoTick input → Where (SentAt fixed n r p input) r ms → Where NoneSent r ms
+quiet_where : (fixed : NodeSetting) (n : NodeAt) (r : Role) (p : ℕ) (input : Input) (ms : List PtpMsg) → IsNoTick input → Where (SentAt fixed n r p input) r ms → Where NoneSent r ms
 quiet_where fixed n r p TickInput ms none h = absurd none
 quiet_where fixed n r p (SampleInput number base bits) ms none h = h
 quiet_where fixed n r p (Frame q octets raw sample) ms none h = h
@@ -56,7 +56,7 @@ quiet_where fixed n r p (Carrier q up own_module) ms none h = h
 quiet_where fixed n r p Reset ms none h = h
 
 -- at one that is no tick none is sent that is stamped
-pub no_tick_where : (fixed : Fixed) (t : Taken) (n : NodeAt) (r : Role) (p : ℕ) → IsNoTick t.input → Where NoneSent r ((node_step fixed t n).sends p)
+pub no_tick_where : (fixed : NodeSetting) (t : Taken) (n : NodeAt) (r : Role) (p : ℕ) → IsNoTick t.input → Where NoneSent r ((node_step fixed t n).sends p)
 no_tick_where fixed t n r p none = quiet_where fixed n r p t.input ((node_step fixed t n).sends p) none (step_where fixed t n r p)
 
 -- A tick of a port
@@ -90,13 +90,13 @@ tick_sends set Slave line locked certain slave = record {
 
 -- the port once it was told of lease and chain, and before its own tick
 abbrev pub port_then : Setting → WorldAt → Role → LinkCfg → List PortIn
-port_then s w r link = (servo_ticked (fixed_of s (end_of r link).node) (w.node (end_of r link).node)).node.told (end_of r link).port
+port_then s w r link = (servo_ticked (node_setting_of s (end_of r link).node) (w.node (end_of r link).node)).node.told (end_of r link).port
 
 abbrev pub locked_then : Setting → WorldAt → ℕ → Bool
-locked_then s w n = locked_of (fixed_of s n) (servo_ticked (fixed_of s n) (w.node n)).node
+locked_then s w n = locked_of (node_setting_of s n) (servo_ticked (node_setting_of s n) (w.node n)).node
 
 abbrev pub certain_then : Setting → WorldAt → ℕ → Bool
-certain_then s w n = certain_of (fixed_of s n) (servo_ticked (fixed_of s n) (w.node n)).node
+certain_then s w n = certain_of (node_setting_of s n) (servo_ticked (node_setting_of s n) (w.node n)).node
 
 -- its line once it ticked, and whether one is due
 abbrev pub line_then : Setting → WorldAt → Role → LinkCfg → Line
@@ -141,11 +141,11 @@ no_correction : (r : Role) (set : PortSetting) (ids : Ids) → (timed_of r set i
 no_correction Master set ids = refl
 no_correction Slave set ids = refl
 
-open_now : StepGivesLinks → (s : Setting) (says : Result PtpMsg FrameFault) (y : ℤ) (w : WorldAt) (r : Role) (link : LinkCfg) → is_open (after (link_at (s.set (end_of r link).node) (w.node (end_of r link).node) (end_of r link).port) (link_in.Tick (locked_of (fixed_of s (end_of r link).node) (servo_ticked (fixed_of s (end_of r link).node) (w.node (end_of r link).node)).node))) ≡ true →
+open_now : StepGivesLinks → (s : Setting) (says : Result PtpMsg FrameFault) (y : ℤ) (w : WorldAt) (r : Role) (link : LinkCfg) → is_open (after (link_at (s.set (end_of r link).node) (w.node (end_of r link).node) (end_of r link).port) (link_in.Tick (locked_of (node_setting_of s (end_of r link).node) (servo_ticked (node_setting_of s (end_of r link).node) (w.node (end_of r link).node)).node))) ≡ true →
     is_open (link_at (s.set (end_of r link).node) ((world_step s says y w (Tick (end_of r link).node)).node (end_of r link).node) (end_of r link).port) ≡ true
 open_now links s says y w r link e =
     let n : ℕ = (end_of r link).node in
-    let fixed : Fixed = fixed_of s n in
+    let fixed : NodeSetting = node_setting_of s n in
     ap (λ (x : NodeAt). is_open (link_at (s.set n) x (end_of r link).port)) (ticked_node s says y w n n refl).0
     ∙ ap is_open (links fixed (taken_of y (given_plain n TickInput)) (w.node n) (end_of r link).port) ∙ e
 
@@ -153,7 +153,7 @@ new_timed : StepGivesLinks → (s : Setting) (h : Happened) (before : List Happe
 new_timed links s h before r link x new =
     let n : ℕ = (end_of r link).node in
     let w : WorldAt = world_after s before in
-    let fixed : Fixed = fixed_of s n in
+    let fixed : NodeSetting = node_setting_of s n in
     let mid : NodeAt = (servo_ticked fixed (w.node n)).node in
     let line : Line = ticked (setting_of (s.set n) (end_of r link).port) (line_at (s.set n) mid (end_of r link).port) (locked_of fixed mid) in
     let opens : is_open line.link ≡ true = (due_at line.link (turn_of r line.turns) new.1.2.1).0 in

@@ -14,8 +14,8 @@ use Rattle.wrp_bounds.specs.Hop.{estimate_error, hop_bound}
 use Rattle.wrp_bounds.specs.declared.numbers.HopNumbers.{HopNumbers}
 use Rattle.wrp_bounds.proofs.Placed.{numbers_over-at}
 use Rattle.wrp_node.specs.declared.interface.NodeSet.{NodeSet}
-use Rattle.wrp_node.specs.NodeAt.{est_of as node_est, settings_of, state_of}
-use Rattle.wrp_servo.specs.Call.{Call, Settings, run}
+use Rattle.wrp_node.specs.NodeAt.{est_of as node_est, servo_setting_of, state_of}
+use Rattle.wrp_servo.specs.Call.{Call, ServoSetting, run}
 use Rattle.wrp_servo.specs.declared.interface.ServoSet.{ServoSet}
 use Rattle.wrp_servo.specs.declared.machine.Core.{Core}
 use Rattle.wrp_servo.specs.declared.machine.Measurement.{Measurement}
@@ -31,7 +31,7 @@ use Rattle.wrp_tracking.specs.Moment.{Moment}
 use Rattle.wrp_tracking.specs.ServoGives.{HasLimits, TrackGives, Tracks}
 use Rattle.wrp_world.specs.Run.{Happened, world_after}
 use Rattle.wrp_world.specs.Runs.{IsNetwork}
-use Rattle.wrp_world.specs.Setting.{Setting, fixed_of, link_of}
+use Rattle.wrp_world.specs.Setting.{Setting, node_setting_of, link_of}
 use Rattle.wrp_world.specs.WorldAt.{WorldAt}
 use Rattle.wrp_truth.specs.Bounds.{EstimatesAreNear, TrueRun}
 use Rattle.wrp_truth.specs.Chains.{ChainHasConstant, ChainRuns}
@@ -83,12 +83,12 @@ pos_size : (t : ℤ) → pos 1 ≤ℤ t → t ≡ pos (unsigned_abs t)
 pos_size t h = omega (arith, ints, h)
 
 -- the limits of its node's servo are among them
-has_limits : (s : Setting) → IsNetwork s → (n : ℕ) (link : LinkCfg) (hop : HopNumbers) (calls : List Call) → link_above s.cfg n ≡ Some link → numbers_of s.cfg n ≡ Some hop → HasLimits hop (run (settings_of (fixed_of s n)) calls).set
+has_limits : (s : Setting) → IsNetwork s → (n : ℕ) (link : LinkCfg) (hop : HopNumbers) (calls : List Call) → link_above s.cfg n ≡ Some link → numbers_of s.cfg n ≡ Some hop → HasLimits hop (run (servo_setting_of (node_setting_of s n)) calls).set
 has_limits s net n link hop calls above numbers =
     let it : _ = numbers_are s net n link above in
     let track : unsigned_abs s.cfg.track_tau ≡ hop.track_tau = same_Some (unsigned_abs s.cfg.track_tau) hop.track_tau (sym (ap (option_map (λ (h : HopNumbers). h.track_tau)) it.2) ∙ ap (option_map (λ (h : HopNumbers). h.track_tau)) numbers) in
     let loop : unsigned_abs s.cfg.loop_tau ≡ hop.loop_tau = same_Some (unsigned_abs s.cfg.loop_tau) hop.loop_tau (sym (ap (option_map (λ (h : HopNumbers). h.loop_tau)) it.2) ∙ ap (option_map (λ (h : HopNumbers). h.loop_tau)) numbers) in
-    let set : (run (settings_of (fixed_of s n)) calls).set ≡ (s.set n).servo = set_is (settings_of (fixed_of s n)) calls in
+    let set : (run (servo_setting_of (node_setting_of s n)) calls).set ≡ (s.set n).servo = set_is (servo_setting_of (node_setting_of s n)) calls in
     record {
       track = ap (λ (z : ServoSet). z.track_tau) set ∙ ap (λ (z : NodeSet). z.servo.track_tau) (net.set n) ∙ pos_size s.cfg.track_tau net.accepted.ranges.track_tau.0 ∙ ap pos track;
       loop = ap (λ (z : ServoSet). z.loop_tau) set ∙ ap (λ (z : NodeSet). z.servo.loop_tau) (net.set n) ∙ pos_size s.cfg.loop_tau net.accepted.ranges.loop_tau.0 ∙ ap pos loop;
@@ -96,11 +96,11 @@ has_limits s net n link hop calls above numbers =
 
 -- A node in TRACK
 
-pub track_core : (s : Setting) (events : List Happened) (n : ℕ) (link : LinkCfg) → IsNetwork s → link_above s.cfg n ≡ Some link → state_of (fixed_of s n) ((world_after s events).node n) ≡ Track → (core_at s events n).state ≡ Track
-track_core s events n link net above e = sym (with_servo (fixed_of s n) ((world_after s events).node n) (has_servo s net n link above)) ∙ e
+pub track_core : (s : Setting) (events : List Happened) (n : ℕ) (link : LinkCfg) → IsNetwork s → link_above s.cfg n ≡ Some link → state_of (node_setting_of s n) ((world_after s events).node n) ≡ Track → (core_at s events n).state ≡ Track
+track_core s events n link net above e = sym (with_servo (node_setting_of s n) ((world_after s events).node n) (has_servo s net n link above)) ∙ e
 
 pub track_chain : TrackHasChain → (s : Setting) (events : List Happened) (n : ℕ) → (core_at s events n).state ≡ Track → HasChain s n events
-track_chain law s events n e = law (settings_of (fixed_of s n)) ((world_after s events).node n).calls (ap is_track e)
+track_chain law s events n e = law (servo_setting_of (node_setting_of s n)) ((world_after s events).node n).calls (ap is_track e)
 
 -- what stands of its hop: the measurement of its servo, with the deltas and the answer by which its delay was reckoned
 pub record TrackStands (s : Setting) (events : List Happened) (k : ℕ) (link : LinkCfg) (hop : HopNumbers) : Type 0 where
@@ -121,7 +121,7 @@ pub track_stands : TrackLaws → (s : Setting) (events : List Happened) (k : ℕ
 track_stands laws s [] k link hop runs is numbers e = absurd (new_state e)
 track_stands laws s (h ∷ before) k link hop runs is numbers e =
     let n : ℕ = link.lower in
-    let x : Settings = settings_of (fixed_of s n) in
+    let x : ServoSetting = servo_setting_of (node_setting_of s n) in
     let w : WorldAt = world_after s (h ∷ before) in
     let above : link_above s.cfg n ≡ Some link = above_is s runs.run.network k link is in
     let tracks : Tracks hop (core_at s (h ∷ before) n) =
@@ -170,7 +170,7 @@ tracked_hop laws s events k link hop runs is numbers e =
 
 -- and its estimate near its offset from it
 tracked_estimate : TrackLaws → (s : Setting) (events : List Happened) (k : ℕ) (link : LinkCfg) (hop : HopNumbers) (est : ℤ) → TrueRun s events → link_of s k ≡ Some link → numbers_of s.cfg link.lower ≡ Some hop → (core_at s events link.lower).state ≡ Track →
-    node_est (fixed_of s link.lower) ((world_after s events).node link.lower) ≡ Some est → IsWithin (estimate_error hop) est (((world_after s events).clock link.lower).off -ℤ ((world_after s events).clock link.upper).off)
+    node_est (node_setting_of s link.lower) ((world_after s events).node link.lower) ≡ Some est → IsWithin (estimate_error hop) est (((world_after s events).clock link.lower).off -ℤ ((world_after s events).clock link.upper).off)
 tracked_estimate laws s events k link hop est runs is numbers e told =
     let w : WorldAt = world_after s events in
     let v : Core = core_at s events link.lower in
@@ -184,5 +184,5 @@ pub estimates_are_near : TrackLaws → EstimatesAreNear
 estimates_are_near laws s events n link hop est runs above numbers e told =
     let w : WorldAt = world_after s events in
     let at : (k : ℕ) × (link_of s k ≡ Some link) × (link.lower ≡ n) = above_at s n link above in
-    subst (λ i. numbers_of s.cfg i ≡ Some hop → (core_at s events i).state ≡ Track → node_est (fixed_of s i) (w.node i) ≡ Some est → IsWithin (estimate_error hop) est ((w.clock i).off -ℤ (w.clock link.upper).off)) at.2
+    subst (λ i. numbers_of s.cfg i ≡ Some hop → (core_at s events i).state ≡ Track → node_est (node_setting_of s i) (w.node i) ≡ Some est → IsWithin (estimate_error hop) est ((w.clock i).off -ℤ (w.clock link.upper).off)) at.2
     (λ m t o. tracked_estimate laws s events at.0 link hop est runs at.1 m t o) numbers (track_core s events n link runs.run.network above e) told

@@ -17,7 +17,7 @@ use Rattle.wrp_tracking.specs.Tree.{IsBounded}
 use Rattle.wrp_world.specs.Given.{NodeStepAt}
 use Rattle.wrp_world.specs.Run.{Happened, IsAnswered, steps_at, world_after}
 use Rattle.wrp_world.specs.Runs.{IsRun}
-use Rattle.wrp_world.specs.Setting.{Setting, fixed_of}
+use Rattle.wrp_world.specs.Setting.{Setting, node_setting_of}
 use Rattle.wrp_world.specs.WorldAt.{WorldAt}
 use Rattle.wrp_truth.specs.Chains.{AllFit}
 use Rattle.wrp_truth.specs.Fours.{IsNearAnswer}
@@ -40,14 +40,14 @@ abbrev pub EstimatesAreNear : Type 0
 EstimatesAreNear =
     (s : Setting) (events : List Happened) (n : ℕ) (link : LinkCfg) (hop : HopNumbers) (est : ℤ) →
     TrueRun s events → link_above s.cfg n ≡ Some link → numbers_of s.cfg n ≡ Some hop →
-    state_of (fixed_of s n) ((world_after s events).node n) ≡ Track →
-    est_of (fixed_of s n) ((world_after s events).node n) ≡ Some est →
+    state_of (node_setting_of s n) ((world_after s events).node n) ≡ Track →
+    est_of (node_setting_of s n) ((world_after s events).node n) ≡ Some est →
     IsWithin (estimate_error hop) est (((world_after s events).clock n).off -ℤ ((world_after s events).clock link.upper).off)
 
 -- a report of TRACK by a node in an event that left this world: the node is in TRACK, within its path, and the estimate that
 -- is reported near its offset from its parent
 pub record IsTrueReport (s : Setting) (w : WorldAt) (n : ℕ) (est : ℤ) : Type 0 where
-  pub track : state_of (fixed_of s n) (w.node n) ≡ Track
+  pub track : state_of (node_setting_of s n) (w.node n) ≡ Track
   pub path : unsigned_abs (w.clock n).off ≤ path_of s.cfg n
   pub link : LinkCfg
   pub above : link_above s.cfg n ≡ Some link

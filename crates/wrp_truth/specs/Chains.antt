@@ -3,7 +3,7 @@ use Rattle.std.specs.Prelude.{◌≡◌, ◌+◌, ◌==◌, ◌++◌, ◌+ℤ◌
 use Rattle.wrp_base.specs.declared.network.LinkCfg.{LinkCfg}
 use Rattle.wrp_bounds.specs.Bounds.{numbers_of}
 use Rattle.wrp_bounds.specs.declared.numbers.HopNumbers.{HopNumbers}
-use Rattle.wrp_node.specs.NodeAt.{servo_at, settings_of}
+use Rattle.wrp_node.specs.NodeAt.{servo_at, servo_setting_of}
 use Rattle.wrp_servo.specs.Tags.{heard_tag}
 use Rattle.wrp_tracking.specs.Chain.{ChainHolds, Good}
 use Rattle.wrp_world.specs.declared.event.Event.{Event}
@@ -11,7 +11,7 @@ use Rattle.wrp_world.specs.declared.event.Event.TheVariants.{Sample}
 use Rattle.wrp_world.specs.EventAt.{FitsEvent}
 use Rattle.wrp_world.specs.Run.{Happened, world_after}
 use Rattle.wrp_world.specs.Runs.{IsRun}
-use Rattle.wrp_world.specs.Setting.{Setting, fixed_of, link_of}
+use Rattle.wrp_world.specs.Setting.{Setting, node_setting_of, link_of}
 use Rattle.wrp_world.specs.WorldAt.{WorldAt}
 use Rattle.wrp_truth.specs.Leases.{FollowsSource}
 use Rattle.wrp_truth.specs.Moments.{AtEach}
@@ -22,7 +22,7 @@ use Rattle.wrp_truth.specs.Views.{moments_of}
 
 -- the phase that its servo has unwrapped
 abbrev pub phase_in : Setting → WorldAt → ℕ → ℤ
-phase_in s w n = (servo_at (fixed_of s n) (w.node n)).phase.u
+phase_in s w n = (servo_at (node_setting_of s n) (w.node n)).phase.u
 
 -- the good sample that an event brings to a node, if it does: its number, its tag, the phase once it is unwrapped, and the
 -- number of the event
@@ -31,7 +31,7 @@ good_in s n h before (Sample m base bits) =
     if n == m
     then option_map
     (λ tag. record { number = ((world_after s before).clock n).samples + 1; tag = tag; u = phase_in s (world_after s (h ∷ before)) n; at = length before + 1 })
-    (heard_tag (settings_of (fixed_of s n)) ((world_after s before).node n).calls (((world_after s before).clock n).samples + 1) base bits)
+    (heard_tag (servo_setting_of (node_setting_of s n)) ((world_after s before).node n).calls (((world_after s before).clock n).samples + 1) base bits)
     else None
 good_in s n h before _ = None
 

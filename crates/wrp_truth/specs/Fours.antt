@@ -13,13 +13,13 @@ use Rattle.wrp_tracking.specs.ErrorSum.{IsAnswer, IsShare}
 use Rattle.wrp_tracking.specs.HopInTrack.{FourHolds}
 use Rattle.wrp_world.specs.Run.{Happened, IsAnswered, world_after}
 use Rattle.wrp_world.specs.Runs.{IsRun}
-use Rattle.wrp_world.specs.Setting.{Setting, fixed_of, link_of}
+use Rattle.wrp_world.specs.Setting.{Setting, node_setting_of, link_of}
 use Rattle.wrp_truth.specs.Chains.{AllFit, ChainRuns}
 use Rattle.wrp_truth.specs.Views.{moment_at, moments_of}
 
 -- a measurement stands in the servo of a node
 abbrev pub IsKept : Setting → ℕ → List Happened → Measurement → Type 0
-IsKept s n events kept = (servo_at (fixed_of s n) ((world_after s events).node n)).kept ≡ Some kept
+IsKept s n events kept = (servo_at (node_setting_of s n) ((world_after s events).node n)).kept ≡ Some kept
 
 -- the four that stands in TRACK is true of the chain, and its Delay_Req departed not too long ago
 abbrev pub FourHoldsInTrack : Type 0
@@ -27,7 +27,7 @@ FourHoldsInTrack =
     (s : Setting) (h : Happened) (before : List Happened) (k : ℕ) (link : LinkCfg) (hop : HopNumbers) (kept : Measurement) →
     IsRun s (h ∷ before) → AllFit (h ∷ before) → link_of s k ≡ Some link → numbers_of s.cfg link.lower ≡ Some hop →
     (chain : ChainRuns s (h ∷ before) k link hop) →
-    (servo_at (fixed_of s link.lower) ((world_after s (h ∷ before)).node link.lower)).state ≡ Track →
+    (servo_at (node_setting_of s link.lower) ((world_after s (h ∷ before)).node link.lower)).state ≡ Track →
     IsKept s link.lower (h ∷ before) kept →
     FourHolds hop (moment_at k link (world_after s (h ∷ before))) (moments_of s k link before) (length chain.follows.older)
     chain.constant kept.four

@@ -8,13 +8,13 @@ use Rattle.wrp_node.specs.NodeAt.{state_of}
 use Rattle.wrp_tracking.specs.History.{EachStep, IsSlow}
 use Rattle.wrp_world.specs.Run.{Happened, world_after, worlds_of}
 use Rattle.wrp_world.specs.Runs.{IsRun}
-use Rattle.wrp_world.specs.Setting.{Setting, fixed_of, of_node}
+use Rattle.wrp_world.specs.Setting.{Setting, node_setting_of, of_node}
 use Rattle.wrp_truth.specs.Moments.{AtEach}
 
 -- a node is up, and in HOLDOVER
 pub record IsHeld (s : Setting) (n : ℕ) (events : List Happened) : Type 0 where
   pub up : ((world_after s events).clock n).up ≡ true
-  pub state : state_of (fixed_of s n) ((world_after s events).node n) ≡ Holdover
+  pub state : state_of (node_setting_of s n) ((world_after s events).node n) ≡ Holdover
 
 -- a node was brought to HOLDOVER by an event; since then it moved at most at the rate of HOLDOVER in each event, and took no
 -- step; and the time of HOLDOVER has not passed
@@ -39,7 +39,7 @@ HoldoverIsShort =
 -- a node was up and in TRACK before an event that did not move it
 pub record LeavesTrack (s : Setting) (h : Happened) (before : List Happened) (n : ℕ) : Type 0 where
   pub up : ((world_after s before).clock n).up ≡ true
-  pub state : state_of (fixed_of s n) ((world_after s before).node n) ≡ Track
+  pub state : state_of (node_setting_of s n) ((world_after s before).node n) ≡ Track
   pub still : ((world_after s (h ∷ before)).clock n).off ≡ ((world_after s before).clock n).off
 
 -- so it is where an event brings a node to HOLDOVER

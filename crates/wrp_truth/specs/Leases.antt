@@ -13,7 +13,7 @@ use Rattle.wrp_world.specs.declared.event.Event.{Event}
 use Rattle.wrp_world.specs.declared.event.Event.TheVariants.{Deliver}
 use Rattle.wrp_world.specs.Run.{Happened, world_after}
 use Rattle.wrp_world.specs.Runs.{IsRun, WasPutOut}
-use Rattle.wrp_world.specs.Setting.{Setting, fixed_of, is_role, link_of}
+use Rattle.wrp_world.specs.Setting.{Setting, node_setting_of, is_role, link_of}
 use Rattle.wrp_world.specs.WorldAt.{FrameAt, Sending, WorldAt, has_carrier}
 use Rattle.wrp_truth.specs.Announcing.{IsCertainAnnounce}
 use Rattle.wrp_truth.specs.Moments.{AtEach}
@@ -84,10 +84,10 @@ LeaseHasSource =
 abbrev pub ChainHasSource : Type 0
 ChainHasSource =
     (s : Setting) (events : List Happened) (k : ℕ) (link : LinkCfg) → IsRun s events → link_of s k ≡ Some link →
-    is_some (servo_at (fixed_of s link.lower) ((world_after s events).node link.lower)).first ≡ true → FollowsSource s events k link
+    is_some (servo_at (node_setting_of s link.lower) ((world_after s events).node link.lower)).first ≡ true → FollowsSource s events k link
 
 -- a node in TRACK has a parent that is the grandmaster, or in TRACK or HOLDOVER
 abbrev pub TrackHasSource : Type 0
 TrackHasSource =
     (s : Setting) (events : List Happened) (n : ℕ) (link : LinkCfg) → IsRun s events → link_above s.cfg n ≡ Some link →
-    state_of (fixed_of s n) ((world_after s events).node n) ≡ Track → HasSource s link events
+    state_of (node_setting_of s n) ((world_after s events).node n) ≡ Track → HasSource s link events

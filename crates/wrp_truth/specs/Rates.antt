@@ -11,7 +11,7 @@ use Rattle.wrp_tracking.specs.Moment.{MovesSlowly}
 use Rattle.wrp_tracking.specs.Tree.{IsSource}
 use Rattle.wrp_world.specs.Run.{Happened, world_after}
 use Rattle.wrp_world.specs.Runs.{IsRun}
-use Rattle.wrp_world.specs.Setting.{Setting, fixed_of, link_of, of_node}
+use Rattle.wrp_world.specs.Setting.{Setting, node_setting_of, link_of, of_node}
 use Rattle.wrp_truth.specs.Leases.{IsCarried}
 use Rattle.wrp_truth.specs.Views.{moment_at, offsets_at}
 
@@ -43,7 +43,7 @@ WaysMoveSlowly =
 
 -- a chain of a node's servo stands
 abbrev pub HasChain : Setting → ℕ → List Happened → Type 0
-HasChain s n events = is_some (servo_at (fixed_of s n) ((world_after s events).node n)).first ≡ true
+HasChain s n events = is_some (servo_at (node_setting_of s n) ((world_after s events).node n)).first ≡ true
 
 -- while a chain of the servo below a link stands, an event moves nothing of the link faster than the bound of its hop takes it
 abbrev pub ChainPassesSlowly : Type 0

@@ -7,12 +7,12 @@ use Rattle.wrp_tracking.specs.Moment.{Moment}
 use Rattle.wrp_tracking.specs.Ticks.{TickMoment}
 use Rattle.wrp_tracking.specs.Tree.{Offsets}
 use Rattle.wrp_world.specs.Run.{Happened, worlds_of}
-use Rattle.wrp_world.specs.Setting.{Setting, fixed_of}
+use Rattle.wrp_world.specs.Setting.{Setting, node_setting_of}
 use Rattle.wrp_world.specs.WorldAt.{WorldAt, delay_from}
 
 -- how far the clock of each node is ahead of true time, and the state of its servo
 abbrev pub offsets_at : Setting → WorldAt → Offsets
-offsets_at s w = record { off = λ n. (w.clock n).off; state = λ n. state_of (fixed_of s n) (w.node n) }
+offsets_at s w = record { off = λ n. (w.clock n).off; state = λ n. state_of (node_setting_of s n) (w.node n) }
 
 -- a node's ticks: true time, how many there were since its start, and the time of the last or of the start
 abbrev pub ticks_at : WorldAt → ℕ → TickMoment

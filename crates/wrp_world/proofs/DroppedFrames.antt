@@ -20,7 +20,7 @@ use Rattle.wrp_node.specs.declared.interface.Input.{Input}
 use Rattle.wrp_node.specs.declared.interface.Input.TheVariants.{Tick as TickInput, Sample as SampleInput, Frame, Sent, Carrier, Reset}
 use Rattle.wrp_node.specs.declared.interface.NodeSet.{NodeSet}
 use Rattle.wrp_node.specs.Laws.{DroppedLeavesACount, IsSettled, LeavesACount as NodeLeavesACount, StepSettles, reason_of}
-use Rattle.wrp_node.specs.NodeAt.{Fixed, NodeAt, deltas_at, is_fresh_at, is_fresh_in, link_at, numbers_of, port_of, slave_of}
+use Rattle.wrp_node.specs.NodeAt.{NodeSetting, NodeAt, deltas_at, is_fresh_at, is_fresh_in, link_at, numbers_of, port_of, slave_of}
 use Rattle.wrp_node.specs.NodeRun.{new_node}
 use Rattle.wrp_node.specs.NodeStep.{dropped}
 use Rattle.wrp_node.specs.StepLaws.{is_frame}
@@ -34,7 +34,7 @@ use Rattle.wrp_world.specs.Dropped.{AllDropsLeaveACount, CountsAlone, DroppedFra
 use Rattle.wrp_world.specs.Given.{Given, clock_told, comes_from, delivered, delivered_by, delivered_to, end_by, end_given, end_told, given, given_by, gives, gives_all, goes_from, mover_of, step_of, stepped_by, steps_of, taken_of, ticked_by}
 use Rattle.wrp_world.specs.Moved.{loses, moved, removed, waiting_at}
 use Rattle.wrp_world.specs.Run.{Happened, world_after}
-use Rattle.wrp_world.specs.Setting.{Setting, end_at, fixed_of, is_of, place_of}
+use Rattle.wrp_world.specs.Setting.{Setting, end_at, node_setting_of, is_of, place_of}
 use Rattle.wrp_world.specs.WorldAt.{Arrival, EndAt, FrameAt, WorldAt, has_carrier, is_on_fibre}
 use Rattle.wrp_world.proofs.RunGifts.{AllGiven, all_if, comes_all, goes_all, ports_all, sent_all}
 
@@ -56,30 +56,30 @@ nothing_new : (has changes : Bool) (call : Call) → changes ≡ false → (if h
 nothing_new true changes call e = ap (λ (b : Bool). if b then Some call else None) e
 nothing_new false changes call e = refl
 
-new_settled : (fixed : Fixed) → IsSettled fixed new_node
+new_settled : (fixed : NodeSetting) → IsSettled fixed new_node
 new_settled fixed = record {
   lease = nothing_new (is_some (slave_of fixed.set)) (is_fresh_in fixed.set new_node) (CallLease (is_fresh_in fixed.set new_node)) (fresh_new fixed.set (slave_of fixed.set));
   link = nothing_new (is_some (slave_of fixed.set)) (is_some (deltas_at fixed.set new_node (slave_of fixed.set))) (CallLink (deltas_at fixed.set new_node (slave_of fixed.set))) (deltas_new fixed.set (slave_of fixed.set));
 }
 
 abbrev AllSettled : Setting → WorldAt → Type 0
-AllSettled s w = (n : ℕ) → IsSettled (fixed_of s n) (w.node n)
+AllSettled s w = (n : ℕ) → IsSettled (node_setting_of s n) (w.node n)
 
-own_settled : (s : Setting) (n m : ℕ) (b : Bool) (one other : NodeAt) → (n == m) ≡ b → (n ≡ m → IsSettled (fixed_of s n) one) → IsSettled (fixed_of s n) other → IsSettled (fixed_of s n) (if b then one else other)
+own_settled : (s : Setting) (n m : ℕ) (b : Bool) (one other : NodeAt) → (n == m) ≡ b → (n ≡ m → IsSettled (node_setting_of s n) one) → IsSettled (node_setting_of s n) other → IsSettled (node_setting_of s n) (if b then one else other)
 own_settled s n m true one other e h k = h (let same : (n == m) ≡ true = e in grind (arith, same))
 own_settled s n m false one other e h k = k
 
 given_settled : StepSettles → (s : Setting) (y : ℤ) (v : WorldAt) (g : Given) → AllSettled s v → AllSettled s (gives s y v g)
 given_settled settles s y v g h n =
     own_settled s n g.to (n == g.to) (step_of s y v g).node (v.node n) refl
-    (λ same. subst (λ (m : ℕ). IsSettled (fixed_of s m) (step_of s y v g).node) (sym same) (settles (fixed_of s g.to) (taken_of y g) (v.node g.to))) (h n)
+    (λ same. subst (λ (m : ℕ). IsSettled (node_setting_of s m) (step_of s y v g).node) (sym same) (settles (node_setting_of s g.to) (taken_of y g) (v.node g.to))) (h n)
 
 all_given_settled : StepSettles → (s : Setting) (y : ℤ) (gs : List Given) (v : WorldAt) → AllSettled s v → AllSettled s (gives_all s y v gs)
 all_given_settled settles s y [] v h = h
 all_given_settled settles s y (g ∷ gs) v h = all_given_settled settles s y gs (gives s y v g) (given_settled settles s y v g h)
 
 run_settled : StepSettles → (s : Setting) (events : List Happened) → AllSettled s (world_after s events)
-run_settled settles s [] = λ n. new_settled (fixed_of s n)
+run_settled settles s [] = λ n. new_settled (node_setting_of s n)
 run_settled settles s (h ∷ before) =
     let w : WorldAt = world_after s before in
     all_given_settled settles s h.answer (given_by s w (moved s w h.event) h.says h.event) (moved s w h.event) (run_settled settles s before)
@@ -193,19 +193,19 @@ record Leaves (s : Setting) (y : ℤ) (w v : WorldAt) (gs : List Given) (n p rea
 
 abbrev LeavesIf : Setting → ℤ → (w v : WorldAt) → List Given → Given → Input → Type 0
 LeavesIf s y w v gs g (Frame p octets raw sample) =
-    (reason : ℕ) → reason_of (fixed_of s g.to) (w.node g.to) p g.says ≡ Some reason → Leaves s y w v gs g.to p reason
+    (reason : ℕ) → reason_of (node_setting_of s g.to) (w.node g.to) p g.says ≡ Some reason → Leaves s y w v gs g.to p reason
 LeavesIf s y w v gs g _ = Unit {0}
 
 abbrev AllLeave : Setting → ℤ → (w v : WorldAt) → List Given → Type 0
 AllLeave s y w v gs = AllByRecursion (λ (g : Given). LeavesIf s y w v gs g g.input) gs
 
 one_leaves : DroppedLeavesACount → (s : Setting) (y : ℤ) (w v : WorldAt) (g : Given) (p : ℕ) (octets : Items ℕ) (raw : Raw) (sample reason : ℕ) → AllSettled s w → IsUnmoved w v →
-    g.input ≡ Frame p octets raw sample → reason_of (fixed_of s g.to) (w.node g.to) p g.says ≡ Some reason → Leaves s y w v (g ∷ []) g.to p reason
+    g.input ≡ Frame p octets raw sample → reason_of (node_setting_of s g.to) (w.node g.to) p g.says ≡ Some reason → Leaves s y w v (g ∷ []) g.to p reason
 one_leaves law s y w v g p octets raw sample reason settled same e why =
     let here : v.node g.to ≡ w.node g.to = same.node g.to in
-    let it : NodeLeavesACount (fixed_of s g.to) (taken_of y g) (v.node g.to) p reason =
-    law (fixed_of s g.to) (taken_of y g) (v.node g.to) p octets.items raw sample reason e (subst (IsSettled (fixed_of s g.to)) (sym here) (settled g.to))
-    (ap (λ (n : NodeAt). reason_of (fixed_of s g.to) n p g.says) here ∙ why) in
+    let it : NodeLeavesACount (node_setting_of s g.to) (taken_of y g) (v.node g.to) p reason =
+    law (node_setting_of s g.to) (taken_of y g) (v.node g.to) p octets.items raw sample reason e (subst (IsSettled (node_setting_of s g.to)) (sym here) (settled g.to))
+    (ap (λ (n : NodeAt). reason_of (node_setting_of s g.to) n p g.says) here ∙ why) in
     record {
       silent = (it.silent, tt);
       counts = counts_alone s y w v g p octets raw sample reason (step_of s y v g) same e it.node;

@@ -30,7 +30,7 @@ use Rattle.wrp_world.specs.Moved.{moved, waiting_at}
 use Rattle.wrp_world.specs.Run.{world_after}
 use Rattle.wrp_world.specs.Runs.{IsNetwork}
 use Rattle.wrp_world.specs.SameHandshake.{LinkOnInTheSameHandshake, LinkOnWithTheDeltas, state_at}
-use Rattle.wrp_world.specs.Setting.{Setting, end_at, end_of, fixed_of, place_of}
+use Rattle.wrp_world.specs.Setting.{Setting, end_at, end_of, node_setting_of, place_of}
 use Rattle.wrp_world.specs.WorldAt.{Arrival, FrameAt, WorldAt, has_carrier}
 use Rattle.wrp_world.proofs.PortNumbers.{has-place}
 use Rattle.wrp_world.proofs.RunGifts.{AllGiven, all_if, comes_all, goes_all, ports_all, sent_all}
@@ -63,7 +63,7 @@ true_report s w n _ h = tt
 quiet_steps : StepGivesLinks → (s : Setting) (y : ℤ) (w : WorldAt) (gs : List Given) (v : WorldAt) → AllGiven NoFrame gs → AllByRecursion (AreTrueReports s w) (steps_of s y v gs)
 quiet_steps links s y w [] v h = tt
 quiet_steps links s y w (g ∷ gs) v h = (
-  all_weaker NotOn (IsTrueReport s w g.to) (true_report s w g.to) (node_step_of s y v g).outs (quiet_step links (fixed_of s g.to) (taken_of y g) (v.node g.to) h.0),
+  all_weaker NotOn (IsTrueReport s w g.to) (true_report s w g.to) (node_step_of s y v g).outs (quiet_step links (node_setting_of s g.to) (taken_of y g) (v.node g.to) h.0),
   quiet_steps links s y w gs (gives s y v g) h.1,
 )
 
@@ -81,7 +81,7 @@ placed_port s n p net among =
 node_here : (s : Setting) (y : ℤ) (v : WorldAt) (g : Given) → (gives s y v g).node g.to ≡ (step_of s y v g).node
 node_here s y v g = ap (λ (b : Bool). if b then (step_of s y v g).node else v.node g.to) (eq_self g.to)
 
-reported : (s : Setting) (y : ℤ) (v : WorldAt) (g : Given) → IsNetwork s → AllHaveEarned s (gives s y v g) → (o : Output) → WordSo (fixed_of s g.to) (v.node g.to) (step_of s y v g) o →
+reported : (s : Setting) (y : ℤ) (v : WorldAt) (g : Given) → IsNetwork s → AllHaveEarned s (gives s y v g) → (o : Output) → WordSo (node_setting_of s g.to) (v.node g.to) (step_of s y v g) o →
     IsTrueReport s (gives s y v g) g.to o
 reported s y v g net earned (Report (Link p (In LinkOn))) h =
     let at : (place : Place) × (place_of s g.to p ≡ Some place) = placed_port s g.to p net h.port in
@@ -92,8 +92,8 @@ reported s y v g net earned _ h = tt
 
 one_step : (s : Setting) (y : ℤ) (v : WorldAt) (g : Given) → IsNetwork s → AllHaveEarned s (gives s y v g) → AllByRecursion (AreTrueReports s (gives s y v g)) (steps_of s y v (g ∷ []))
 one_step s y v g net earned = (
-  all_weaker (WordSo (fixed_of s g.to) (v.node g.to) (step_of s y v g)) (IsTrueReport s (gives s y v g) g.to) (reported s y v g net earned) (node_step_of s y v g).outs
-      (outputs_so (fixed_of s g.to) g.input (v.node g.to) (step_of s y v g)),
+  all_weaker (WordSo (node_setting_of s g.to) (v.node g.to) (step_of s y v g)) (IsTrueReport s (gives s y v g) g.to) (reported s y v g net earned) (node_step_of s y v g).outs
+      (outputs_so (node_setting_of s g.to) g.input (v.node g.to) (step_of s y v g)),
   tt,
 )
 

@@ -21,7 +21,7 @@ use Rattle.wrp_node.specs.declared.interface.NodeSet.{NodeSet}
 use Rattle.wrp_node.specs.declared.interface.Output.{Output}
 use Rattle.wrp_node.specs.declared.interface.Output.TheVariants.{Send, Step as StepOf, Dac, Report as ReportOf}
 use Rattle.wrp_node.specs.declared.interface.Report.TheVariants.{Servo}
-use Rattle.wrp_node.specs.NodeAt.{Fixed, NodeAt, Taken, numbers_of, link_at, state_of}
+use Rattle.wrp_node.specs.NodeAt.{NodeSetting, NodeAt, Taken, numbers_of, link_at, state_of}
 use Rattle.wrp_node.specs.NodeRun.{IsSaid, dac_out, est_out, node_after, outputs_of, port_out, servo_out, step_out, track_out, word_out, place_of as place_in, frame_out}
 use Rattle.wrp_node.specs.Node.{is_tick}
 use Rattle.wrp_node.specs.NodeStep.{node_step}
@@ -45,7 +45,7 @@ use Rattle.wrp_world.specs.Gifts.{IsRead}
 use Rattle.wrp_world.specs.Given.{Given, mover_of, step_of, taken_of}
 use Rattle.wrp_world.specs.Taking.{Asks, IsNewsOf}
 use Rattle.wrp_world.specs.PlantTold.{IsPortOf, IsSent, IsStepOf, MayStep, NoneStepped, SendsFew, cycles_in}
-use Rattle.wrp_world.specs.Setting.{Setting, end_at, end_of, fixed_of}
+use Rattle.wrp_world.specs.Setting.{Setting, end_at, end_of, node_setting_of}
 use Rattle.wrp_world.specs.StandsFor.{WorldOf}
 use Rattle.wrp_world.specs.WorldAt.{WorldAt}
 
@@ -71,7 +71,7 @@ abbrev pub took : Input → Result PtpMsg FrameFault → ℤ → Taken
 took input says answer = record { input = input; says = says; answer = answer }
 
 -- an input makes one step, whatever is noted beside one that is no frame
-same_step : (fixed : Fixed) (n : NodeAt) (input : Input) (says other : Result PtpMsg FrameFault) (y answer : ℤ) →
+same_step : (fixed : NodeSetting) (n : NodeAt) (input : Input) (says other : Result PtpMsg FrameFault) (y answer : ℤ) →
     IsSaid input says → IsSaid input other → (is_frame input ≡ true → y ≡ answer) →
     node_step fixed (took input other y) n ≡ node_step fixed (took input says answer) n
 same_step fixed n (Frame p octets raw sample) says other y answer h k e =
@@ -83,13 +83,13 @@ same_step fixed n (Carrier p up m) says other y answer h k e = only_frames_say f
 same_step fixed n Reset says other y answer h k e = only_frames_say fixed n Reset other says y answer refl
 
 -- A node of a state took an input: n is the node of the state, which these inputs made
-pub record NodeStepped {F : Type 0} (post : F → ℤ → ℤ → Type 0) (fixed : Fixed) (n : NodeAt) (inputs : List Taken) (t : Taken) (node : NodeOf F) (put_out : List Output) : Type 0 where
+pub record NodeStepped {F : Type 0} (post : F → ℤ → ℤ → Type 0) (fixed : NodeSetting) (n : NodeAt) (inputs : List Taken) (t : Taken) (node : NodeOf F) (put_out : List Output) : Type 0 where
   pub outputs : put_out ≡ outputs_of fixed t.input n (node_step fixed t n)
   pub at : (node_step fixed t n).node ≡ node_after fixed (t ∷ inputs)
   pub stands : NodeStandsFor post fixed node (t ∷ inputs)
   pub spelled : (p : ℕ) → is_port fixed p ≡ true → AreSpelled ((node_step fixed t n).sends p)
 
-stepped_after : {F : Type 0} (post : F → ℤ → ℤ → Type 0) (fixed : Fixed) (inputs : List Taken) (input : Input) (says other : Result PtpMsg FrameFault) (y answer : ℤ) (old new : NodeOf F) (put_out : List Output) →
+stepped_after : {F : Type 0} (post : F → ℤ → ℤ → Type 0) (fixed : NodeSetting) (inputs : List Taken) (input : Input) (says other : Result PtpMsg FrameFault) (y answer : ℤ) (old new : NodeOf F) (put_out : List Output) →
     Steps post old new (took input says answer) put_out → NodeStandsFor post fixed old inputs → IsSaid input other → (is_frame input ≡ true → y ≡ answer) →
     NodeStepped post fixed (node_after fixed inputs) inputs (took input other y) new put_out
 stepped_after post fixed inputs input says other y answer old new put_out h st k e =
@@ -105,7 +105,7 @@ stepped_after post fixed inputs input says other y answer old new put_out h st k
       spelled = λ p here. subst (λ (q : Step). AreSpelled (q.sends p)) (sym same) (h.spelled fixed inputs st p here);
     }
 
-pub node_stepped : {F : Type 0} (post : F → ℤ → ℤ → Type 0) (fixed : Fixed) (n : NodeAt) (inputs : List Taken) (input : Input) (says other : Result PtpMsg FrameFault) (y answer : ℤ) (old new : NodeOf F) (put_out : List Output) →
+pub node_stepped : {F : Type 0} (post : F → ℤ → ℤ → Type 0) (fixed : NodeSetting) (n : NodeAt) (inputs : List Taken) (input : Input) (says other : Result PtpMsg FrameFault) (y answer : ℤ) (old new : NodeOf F) (put_out : List Output) →
     Steps post old new (took input says answer) put_out → n ≡ node_after fixed inputs → NodeStandsFor post fixed old inputs → IsSaid input other → (is_frame input ≡ true → y ≡ answer) →
     NodeStepped post fixed n inputs (took input other y) new put_out
 node_stepped post fixed n inputs input says other y answer old new put_out h at st k e =
@@ -149,7 +149,7 @@ no_step_track_where : (b : Bool) (est : Option ℤ) → AllByRecursion NoStep (i
 no_step_track_where true est = no_step_est est
 no_step_track_where false est = tt
 
-no_step_track : (fixed : Fixed) (input : Input) (n : NodeAt) → AllByRecursion NoStep (track_out fixed input n)
+no_step_track : (fixed : NodeSetting) (input : Input) (n : NodeAt) → AllByRecursion NoStep (track_out fixed input n)
 no_step_track fixed Tick n = no_step_track_where _ _
 no_step_track fixed (Sample m base bits) n = tt
 no_step_track fixed (Frame p octets raw sample) n = tt
@@ -157,12 +157,12 @@ no_step_track fixed (Sent p seq delay stamp) n = tt
 no_step_track fixed (Carrier p up m) n = tt
 no_step_track fixed Reset n = tt
 
-no_step_port : (fixed : Fixed) (before : NodeAt) (s : Step) (p : ℕ) → AllByRecursion NoStep (port_out fixed before s p)
+no_step_port : (fixed : NodeSetting) (before : NodeAt) (s : Step) (p : ℕ) → AllByRecursion NoStep (port_out fixed before s p)
 no_step_port fixed before s p =
     both (word_out p (word_of (link_at fixed.set before p)) (word_of (link_at fixed.set s.node p))) (map (frame_out p) (s.sends p))
     (no_step_where _ _ tt) (no_step_frames p (s.sends p))
 
-no_step_ports : (fixed : Fixed) (before : NodeAt) (s : Step) (ps : List ℕ) → AllByRecursion NoStep (flat_map (port_out fixed before s) ps)
+no_step_ports : (fixed : NodeSetting) (before : NodeAt) (s : Step) (ps : List ℕ) → AllByRecursion NoStep (flat_map (port_out fixed before s) ps)
 no_step_ports fixed before s [] = tt
 no_step_ports fixed before s (p ∷ ps) =
     both (port_out fixed before s p) (flat_map (port_out fixed before s) ps) (no_step_port fixed before s p) (no_step_ports fixed before s ps)
@@ -190,7 +190,7 @@ four_behind : (a b c d e : List Output) → AllByRecursion NoStep b → AllByRec
 four_behind a b c d e hb hc hd he =
     none_behind (a ++ b ++ c ++ d) e he ∙ none_behind (a ++ b ++ c) d hd ∙ none_behind (a ++ b) c hc ∙ none_behind a b hb
 
-pub cycles_out : (fixed : Fixed) (input : Input) (before : NodeAt) (s : Step) → cycles_in (outputs_of fixed input before s) ≡ s.cycles
+pub cycles_out : (fixed : NodeSetting) (input : Input) (before : NodeAt) (s : Step) → cycles_in (outputs_of fixed input before s) ≡ s.cycles
 cycles_out fixed input before s =
     four_behind (step_out s.cycles) (dac_out s.dac) (servo_out (state_of fixed before) (state_of fixed s.node)) (flat_map (port_out fixed before s) (numbers_of fixed.set)) (track_out fixed input s.node)
     (no_step_dac s.dac) (no_step_where (place_in (state_of fixed before) == place_in (state_of fixed s.node)) (ReportOf (Servo (state_of fixed s.node))) tt)
@@ -255,7 +255,7 @@ end_among net n (link ∷ links) (suc k) r end e h =
 
 -- each end of a link that is a node's is one of the node's ports
 pub end_is_port : (s : Setting) (n k : ℕ) (r : Role) (end : End) → s.set n ≡ set_of s.cfg n → end_at s k r ≡ Some end → end.node ≡ n →
-    is_port (fixed_of s n) end.port ≡ true
+    is_port (node_setting_of s n) end.port ≡ true
 end_is_port s n k r end set e h = ap (λ (x : NodeSet). has_port end.port x.ports.items) set ∙ end_among s.cfg n s.cfg.links.items k r end e h
 
 pub ports_differ : (s : Setting) (n : ℕ) → s.set n ≡ set_of s.cfg n → NamesNoPortTwice s.cfg → OfDifferentNumbers (s.set n).ports.items
@@ -270,31 +270,31 @@ pub record SteppedAt {F : Type 0} (post : F → ℤ → ℤ → Type 0) (s : Set
   pub node : out.node ≡ g.to
   pub input : out.input ≡ g.input
   pub read : IsRead put g.says g.at g.input
-  pub at : v.node g.to ≡ node_after (fixed_of s g.to) (v.inputs g.to)
-  pub before : NodeStandsFor post (fixed_of s g.to) old (v.inputs g.to)
-  pub stepped : NodeStepped post (fixed_of s g.to) (v.node g.to) (v.inputs g.to) (taken_of y g) new put_out
+  pub at : v.node g.to ≡ node_after (node_setting_of s g.to) (v.inputs g.to)
+  pub before : NodeStandsFor post (node_setting_of s g.to) old (v.inputs g.to)
+  pub stepped : NodeStepped post (node_setting_of s g.to) (v.node g.to) (v.inputs g.to) (taken_of y g) new put_out
   pub news_is : IsNewsOf post put old new out news
 
 frames_are : {F : Type 0} (post : F → ℤ → ℤ → Type 0) (s : Setting) (v : WorldAt) (put y : ℤ) (g : Given) (old new : NodeOf F) (out : NodeOut) (put_out : List Output) (news : News) →
     SteppedAt post s v put y g old new out put_out news → (p : ℕ) →
-    frames_at p put_out ≡ (if is_port (fixed_of s g.to) p then map octets_of ((step_of s y v g).sends p) else [])
+    frames_at p put_out ≡ (if is_port (node_setting_of s g.to) p then map octets_of ((step_of s y v g).sends p) else [])
 frames_are post s v put y g old new out put_out news h p =
     ap (frames_at p) h.stepped.outputs
-    ∙ sends_are_put_out (fixed_of s g.to) (taken_of y g) (v.node g.to) p (ports_differ s g.to h.set h.once)
+    ∙ sends_are_put_out (node_setting_of s g.to) (taken_of y g) (v.node g.to) p (ports_differ s g.to h.set h.once)
 
 port_told : {F : Type 0} (post : F → ℤ → ℤ → Type 0) (s : Setting) (v : WorldAt) (put y : ℤ) (g : Given) (old new : NodeOf F) (out : NodeOut) (put_out : List Output) (news : News) →
-    SteppedAt post s v put y g old new out put_out news → (p : ℕ) → is_port (fixed_of s g.to) p ≡ true → IsPortOf s v g (step_of s y v g) news put_out p
+    SteppedAt post s v put y g old new out put_out news → (p : ℕ) → is_port (node_setting_of s g.to) p ≡ true → IsPortOf s v g (step_of s y v g) news put_out p
 port_told post s v put y g old new out put_out news h p here = record {
   frames =
       subst (λ (fs : List (List ℕ)). AllZip IsSent ((step_of s y v g).sends p) fs)
-      (sym (frames_are post s v put y g old new out put_out news h p ∙ where_true (is_port (fixed_of s g.to) p) (map octets_of ((step_of s y v g).sends p)) [] here))
+      (sym (frames_are post s v put y g old new out put_out news h p ∙ where_true (is_port (node_setting_of s g.to) p) (map octets_of ((step_of s y v g).sends p)) [] here))
       (are_sent ((step_of s y v g).sends p) (h.stepped.spelled p here));
   before =
-      h.news_is.before p (among_is_port (fixed_of s g.to) old.parts.ports p h.before.is_at.parts.numbers ∙ here) (fixed_of s g.to) (v.inputs g.to) h.before
-      ∙ ap (state_at p (fixed_of s g.to)) (sym h.at);
+      h.news_is.before p (among_is_port (node_setting_of s g.to) old.parts.ports p h.before.is_at.parts.numbers ∙ here) (node_setting_of s g.to) (v.inputs g.to) h.before
+      ∙ ap (state_at p (node_setting_of s g.to)) (sym h.at);
   after =
-      h.news_is.after p (among_is_port (fixed_of s g.to) new.parts.ports p h.stepped.stands.is_at.parts.numbers ∙ here) (fixed_of s g.to) (taken_of y g ∷ v.inputs g.to) h.stepped.stands
-      ∙ ap (state_at p (fixed_of s g.to)) (sym h.stepped.at);
+      h.news_is.after p (among_is_port (node_setting_of s g.to) new.parts.ports p h.stepped.stands.is_at.parts.numbers ∙ here) (node_setting_of s g.to) (taken_of y g ∷ v.inputs g.to) h.stepped.stands
+      ∙ ap (state_at p (node_setting_of s g.to)) (sym h.stepped.at);
 }
 
 -- it is the step of the definition
@@ -303,7 +303,7 @@ pub is_step_of : {F : Type 0} (post : F → ℤ → ℤ → Type 0) (s : Setting
 is_step_of post s v put y g old new out put_out news h = record {
   node = sym (h.news_is.node ∙ h.node);
   ticked = h.news_is.ticked ∙ ap is_tick h.input;
-  cycles = ap cycles_in h.stepped.outputs ∙ cycles_out (fixed_of s g.to) g.input (v.node g.to) (step_of s y v g);
+  cycles = ap cycles_in h.stepped.outputs ∙ cycles_out (node_setting_of s g.to) g.input (v.node g.to) (step_of s y v g);
   by = h.news_is.by g (subst (IsRead put g.says g.at) (sym h.input) h.read) ∙ ap (mover_of g) h.input;
   ports = λ k r end e own. port_told post s v put y g old new out put_out news h end.port (end_is_port s g.to k r end h.set e own);
 }
@@ -314,7 +314,7 @@ pub sends_few : {F : Type 0} (post : F → ℤ → ℤ → Type 0) (s : Setting)
     SteppedAt post s v put y g old new out put_out news → SendsFew put_out
 sends_few post s v put y g old new out put_out news h p =
     subst (λ (fs : List (List ℕ)). length fs ≤ 4) (sym (frames_are post s v put y g old new out put_out news h p))
-    (few_where (is_port (fixed_of s g.to) p) ((step_of s y v g).sends p) (sends_are_few (fixed_of s g.to) (taken_of y g) (v.node g.to) p))
+    (few_where (is_port (node_setting_of s g.to) p) ((step_of s y v g).sends p) (sends_are_few (node_setting_of s g.to) (taken_of y g) (v.node g.to) p))
 
 asked : {F : Type 0} (world : WorldOf F) (input : Input) (cycles : ℤ) → Asks world input → (is_frame input ≡ false → cycles ≡ pos 0) → unsigned_abs cycles ≤ 2 ^ 62 →
     (cycles ≡ pos 0) ⊎ ((unsigned_abs cycles ≤ 2 ^ 62) × NoneStepped world.plant)
@@ -328,8 +328,8 @@ asked world Reset cycles a h k = inl (h refl)
 pub may_step : {F : Type 0} (post : F → ℤ → ℤ → Type 0) (s : Setting) (v : WorldAt) (put y : ℤ) (g : Given) (old new : NodeOf F) (out : NodeOut) (put_out : List Output) (news : News) (world : WorldOf F) →
     SteppedAt post s v put y g old new out put_out news → Asks world out.input → MayStep put_out world.plant
 may_step post s v put y g old new out put_out news world h a =
-    let e : cycles_in put_out ≡ (step_of s y v g).cycles = ap cycles_in h.stepped.outputs ∙ cycles_out (fixed_of s g.to) g.input (v.node g.to) (step_of s y v g) in
-    let held = commands_are_held (fixed_of s g.to) (taken_of y g) (v.node g.to) in
+    let e : cycles_in put_out ≡ (step_of s y v g).cycles = ap cycles_in h.stepped.outputs ∙ cycles_out (node_setting_of s g.to) g.input (v.node g.to) (step_of s y v g) in
+    let held = commands_are_held (node_setting_of s g.to) (taken_of y g) (v.node g.to) in
     subst (λ c. (c ≡ pos 0) ⊎ ((unsigned_abs c ≤ 2 ^ 62) × NoneStepped world.plant)) (sym e)
     (asked world g.input (step_of s y v g).cycles (subst (Asks world) h.input a) held.by_frame held.held)
 
@@ -339,6 +339,6 @@ pub ticks_told : {F : Type 0} (post : F → ℤ → ℤ → Type 0) (s : Setting
 ticks_told post s v put y g old new out put_out news h =
     h.stepped.stands.is_at.parts.ticks
     ∙ sym (ap (λ (m : NodeAt). m.ticks) h.stepped.at)
-    ∙ ticks_are_counted (fixed_of s g.to) (taken_of y g) (v.node g.to)
+    ∙ ticks_are_counted (node_setting_of s g.to) (taken_of y g) (v.node g.to)
     ∙ ap₂ (λ (i : Input) (m : NodeAt). ticks_by i m.ticks) (sym h.input) h.at
     ∙ ap (ticks_by out.input) (sym h.before.is_at.parts.ticks)

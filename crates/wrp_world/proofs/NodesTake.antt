@@ -10,7 +10,7 @@ use Rattle.wrp_node.specs.declared.interface.Input.{Input}
 use Rattle.wrp_node.specs.declared.interface.Input.TheVariants.{Tick, Sample, Frame, Sent, Carrier, Reset}
 use Rattle.wrp_node.specs.declared.interface.Output.{Output}
 use Rattle.wrp_node.specs.Node.{FitsInput, IsValid as NodeIsValid}
-use Rattle.wrp_node.specs.NodeAt.{Fixed, NodeAt, Taken, numbers_of}
+use Rattle.wrp_node.specs.NodeAt.{NodeSetting, NodeAt, Taken, numbers_of}
 use Rattle.wrp_node.specs.NodeRun.{IsSaid, node_after}
 use Rattle.wrp_node.specs.Parts.{is_among}
 use Rattle.wrp_node.specs.Set.{set_of}
@@ -28,7 +28,7 @@ use Rattle.wrp_world.specs.Gifts.{GiftIs}
 use Rattle.wrp_world.specs.Given.{Given, NodeStepAt, gives, node_step_of, step_of, stepped_by, taken_of}
 use Rattle.wrp_world.specs.Plant.{Each, FitsPlant, PlantIs}
 use Rattle.wrp_world.specs.PlantTold.{IsStepOf, MayStep, SendsFew}
-use Rattle.wrp_world.specs.Setting.{Setting, fixed_of}
+use Rattle.wrp_world.specs.Setting.{Setting, node_setting_of}
 use Rattle.wrp_world.specs.StandsFor.{IsValid, NodeIs, StandsFor, WorldOf}
 use Rattle.wrp_world.specs.Step.{step_seen}
 use Rattle.wrp_world.specs.Taking.{Asks, Gave, IsNewsOf, laws_of}
@@ -59,8 +59,8 @@ stepped_at pre post put old before put_out node fresh news h s v g y st i e =
       at = is.at;
       before = is.stands;
       stepped =
-          subst (λ (x : Input). NodeStepped post (fixed_of s g.to) (v.node g.to) (v.inputs g.to) (took x g.says y) fresh put_out) i.input
-          (node_stepped post (fixed_of s g.to) (v.node g.to) (v.inputs g.to) before.input h.took.0 g.says y h.took.1 node fresh put_out h.took.2 is.at is.stands
+          subst (λ (x : Input). NodeStepped post (node_setting_of s g.to) (v.node g.to) (v.inputs g.to) (took x g.says y) fresh put_out) i.input
+          (node_stepped post (node_setting_of s g.to) (v.node g.to) (v.inputs g.to) before.input h.took.0 g.says y h.took.1 node fresh put_out h.took.2 is.at is.stands
           (subst (λ (x : Input). IsSaid x g.says) (sym i.input) (read_is_said put g.says g.at g.input i.read)) e);
       news_is = h.news_is;
     }
@@ -111,24 +111,24 @@ pub record ToldOne {F : Type 0} (pre : F → ℤ → Type 0) (post : F → ℤ �
       PlantIs s (stepped_by s v g taken step) new.plant
 
 -- a node of a state, with the inputs that it had
-abbrev AtBy : {F : Type 0} → (F → ℤ → ℤ → Type 0) → Fixed → NodeAt → List Taken → NodeOf F → Type 0
+abbrev AtBy : {F : Type 0} → (F → ℤ → ℤ → Type 0) → NodeSetting → NodeAt → List Taken → NodeOf F → Type 0
 AtBy post fixed n inputs node = (n ≡ node_after fixed inputs) × NodeStandsFor post fixed node inputs
 
-either_way : {F : Type 0} (post : F → ℤ → ℤ → Type 0) (fixed : Fixed) (node : NodeOf F) (b : Bool) (n m : NodeAt) (xs ys : List Taken) →
+either_way : {F : Type 0} (post : F → ℤ → ℤ → Type 0) (fixed : NodeSetting) (node : NodeOf F) (b : Bool) (n m : NodeAt) (xs ys : List Taken) →
     (b ≡ true → AtBy post fixed n xs node) → (b ≡ false → AtBy post fixed m ys node) → AtBy post fixed (if b then n else m) (if b then xs else ys) node
 either_way post fixed node true n m xs ys h k = h refl
 either_way post fixed node false n m xs ys h k = k refl
 
 -- each node stands for the inputs that it had, of which one node has one more
 nodes_are : {F : Type 0} (post : F → ℤ → ℤ → Type 0) (s : Setting) (v : WorldAt) (g : Given) (taken : Taken) (step : Step) (xs : List (NodeOf F)) (fresh : NodeOf F) →
-    AtBy post (fixed_of s g.to) step.node (taken ∷ v.inputs g.to) fresh → Each (NodeIs post s v) xs → Each (NodeIs post s (stepped_by s v g taken step)) (slice_set xs g.to fresh)
+    AtBy post (node_setting_of s g.to) step.node (taken ∷ v.inputs g.to) fresh → Each (NodeIs post s v) xs → Each (NodeIs post s (stepped_by s v g taken step)) (slice_set xs g.to fresh)
 nodes_are post s v g taken step xs fresh h each m x e =
-    let is : AtBy post (fixed_of s m) (if m == g.to then step.node else v.node m) (if m == g.to then taken ∷ v.inputs m else v.inputs m) x =
-    either_way post (fixed_of s m) x (m == g.to) step.node (v.node m) (taken ∷ v.inputs m) (v.inputs m)
+    let is : AtBy post (node_setting_of s m) (if m == g.to then step.node else v.node m) (if m == g.to then taken ∷ v.inputs m else v.inputs m) x =
+    either_way post (node_setting_of s m) x (m == g.to) step.node (v.node m) (taken ∷ v.inputs m) (v.inputs m)
     (λ same.
     let at : m ≡ g.to = eqb-true m g.to same in
     let is_fresh : x ≡ fresh = put_here xs g.to fresh x (sym (ap (slice_get (slice_set xs g.to fresh)) at) ∙ e) in
-    subst (λ j. AtBy post (fixed_of s j) step.node (taken ∷ v.inputs j) x) (sym at) (subst (AtBy post (fixed_of s g.to) step.node (taken ∷ v.inputs g.to)) (sym is_fresh) h))
+    subst (λ j. AtBy post (node_setting_of s j) step.node (taken ∷ v.inputs j) x) (sym at) (subst (AtBy post (node_setting_of s g.to) step.node (taken ∷ v.inputs g.to)) (sym is_fresh) h))
     (λ other.
     let k : NodeIs post s v m x = each m x (sym (put_else xs g.to m fresh (other_number m g.to other)) ∙ e) in
     (k.at, k.stands)) in

@@ -15,11 +15,11 @@ use Rattle.wrp_link.specs.Table.{after, by_row}
 use Rattle.wrp_node.specs.declared.interface.Input.{Input}
 use Rattle.wrp_node.specs.declared.interface.Input.TheVariants.{Tick, Sample, Frame, Sent, Carrier, Reset}
 use Rattle.wrp_node.specs.LinkNews.{LinkNews, Nothing, Given as Handed, Renewed, frame_news, news_at, StepGivesLinks}
-use Rattle.wrp_node.specs.NodeAt.{Fixed, NodeAt}
+use Rattle.wrp_node.specs.NodeAt.{NodeSetting, NodeAt}
 use Rattle.wrp_node.specs.Sends.{SignalsAreOfLink}
 use Rattle.wrp_world.specs.Given.{Given, given_plain, gives}
 use Rattle.wrp_world.specs.LinkEnds.{port_at}
-use Rattle.wrp_world.specs.Setting.{Setting, end_at, fixed_of}
+use Rattle.wrp_world.specs.Setting.{Setting, end_at, node_setting_of}
 use Rattle.wrp_world.specs.WorldAt.{WorldAt}
 use Rattle.wrp_world.proofs.RunGiven.{IsFair, IsFairInput}
 use Rattle.wrp_world.proofs.RunPorts.{any_frame, port_by_news, port_given, port_other}
@@ -51,7 +51,7 @@ light_where : (b : Bool) (news : LinkNews) → NoLight news → NoLight (if b th
 light_where true news h = h
 light_where false news h = tt
 
-input_light : (fixed : Fixed) (n : NodeAt) (says : Result PtpMsg FrameFault) (input : Input) (p : ℕ) → IsQuiet input → NoLight (news_at fixed n input says p)
+input_light : (fixed : NodeSetting) (n : NodeAt) (says : Result PtpMsg FrameFault) (input : Input) (p : ℕ) → IsQuiet input → NoLight (news_at fixed n input says p)
 input_light fixed n says Tick p h = tt
 input_light fixed n says (Sample number base bits) p h = tt
 input_light fixed n says (Frame x octets raw sample) p h = light_where (p == x) (frame_news fixed n x says) (any_frame NoLight tt (λ a. tt) (λ m. tt) fixed n x says)
@@ -66,8 +66,8 @@ given_dark links signals s y v g k r end is h e =
     elim (eqb_tells end.node g.to) [
       | inl x ↦
           ap (λ (q : Port). q.link.carrier) (port_given links signals s y v g k r end is x.1)
-          ∙ news_dark v.time (port_at s v k r end) g.at (news_at (fixed_of s g.to) (v.node g.to) g.input g.says end.port)
-          (input_light (fixed_of s g.to) (v.node g.to) g.says g.input end.port h) e
+          ∙ news_dark v.time (port_at s v k r end) g.at (news_at (node_setting_of s g.to) (v.node g.to) g.input g.says end.port)
+          (input_light (node_setting_of s g.to) (v.node g.to) g.says g.input end.port h) e
       | inr x ↦ ap (λ (q : Port). q.link.carrier) (port_other s y v g k r end is x.1) ∙ e
     ]
 

@@ -21,13 +21,13 @@ use Rattle.wrp_link.specs.Rows.{CarrierGoes, under}
 use Rattle.wrp_node.specs.declared.interface.Input.{Input}
 use Rattle.wrp_node.specs.declared.interface.Input.TheVariants.{Tick, Sample, Frame, Sent, Carrier, Reset}
 use Rattle.wrp_node.specs.LinkNews.{LinkNews, Nothing, Given as Handed, Renewed, news_of, frame_news, news_at, StepGivesLinks}
-use Rattle.wrp_node.specs.NodeAt.{Fixed, NodeAt, link_at, setting_of}
+use Rattle.wrp_node.specs.NodeAt.{NodeSetting, NodeAt, link_at, setting_of}
 use Rattle.wrp_node.specs.Sends.{SignalsAreOfLink}
 use Rattle.wrp_port.specs.Hearing.{early_reason, link_input}
 use Rattle.wrp_port.specs.History.{input_unless}
 use Rattle.wrp_world.specs.Given.{Given, in_body, in_frame, gives}
 use Rattle.wrp_world.specs.LinkEnds.{ends_at, link_sent, port_at}
-use Rattle.wrp_world.specs.Setting.{Setting, end_at, end_of, fixed_of, link_of}
+use Rattle.wrp_world.specs.Setting.{Setting, end_at, end_of, node_setting_of, link_of}
 use Rattle.wrp_world.specs.WorldAt.{WorldAt}
 use Rattle.wrp_world.proofs.RunLinks.{IsDark}
 use Rattle.wrp_world.proofs.RunPorts.{link_dark, port_by_news, port_given, port_is, port_other}
@@ -145,7 +145,7 @@ IsKnown s v k r says at =
 abbrev pub IsFairInput : Setting → WorldAt → Given → Input → Type 0
 IsFairInput s v g Tick = ((v.clock g.to).ticked +ℤ pos (shortest_tick s.cfg)) ≤ℤ v.time
 IsFairInput s v g (Frame p octets raw sample) =
-    (frame_news (fixed_of s g.to) (v.node g.to) p g.says ≡ Nothing)
+    (frame_news (node_setting_of s g.to) (v.node g.to) p g.says ≡ Nothing)
     ⊎ ((k : ℕ) (r : Role) (end : End) → end_at s k r ≡ Some end → end.node ≡ g.to → end.port ≡ p → IsKnown s v k r g.says g.at)
 IsFairInput s v g (Carrier p true own_module) = ⊥
 IsFairInput s v g _ = Unit {0}
@@ -177,7 +177,7 @@ unless_may : (life dmin : ℕ) (time : ℤ) (q peer : Port) (at : ℤ) (reason :
 unless_may life dmin time q peer at None role body h = body_may life dmin time q peer at role body h
 unless_may life dmin time q peer at (Some reason) role body h = tt
 
-frame_may : (life dmin : ℕ) (time : ℤ) (q peer : Port) (at : ℤ) (fixed : Fixed) (n : NodeAt) (p : ℕ) (says : Result PtpMsg FrameFault) → Knows life time peer (in_frame says at) →
+frame_may : (life dmin : ℕ) (time : ℤ) (q peer : Port) (at : ℤ) (fixed : NodeSetting) (n : NodeAt) (p : ℕ) (says : Result PtpMsg FrameFault) → Knows life time peer (in_frame says at) →
     NewsMay life dmin time q peer at (frame_news fixed n p says)
 frame_may life dmin time q peer at fixed n p (Err fault) h = tt
 frame_may life dmin time q peer at fixed n p (Ok m) h =
@@ -190,15 +190,15 @@ may_where life dmin time q peer at false news h = tt
 
 input_may : (s : Setting) (v : WorldAt) (g : Given) (input : Input) (k : ℕ) (r : Role) (end : End) (peer : Port) → end_at s k r ≡ Some end → end.node ≡ g.to →
     peer.sent ≡ link_sent (v.end_at k (other_of r)).sent → IsFairInput s v g input →
-    NewsMay (frame_life s.cfg) (shortest_tick s.cfg) v.time (port_at s v k r end) peer g.at (news_at (fixed_of s g.to) (v.node g.to) input g.says end.port)
+    NewsMay (frame_life s.cfg) (shortest_tick s.cfg) v.time (port_at s v k r end) peer g.at (news_at (node_setting_of s g.to) (v.node g.to) input g.says end.port)
 input_may s v g Tick k r end peer is e sent f = (tt, subst (λ n. ((v.clock n).ticked +ℤ pos (shortest_tick s.cfg)) ≤ℤ v.time) (sym e) f)
 input_may s v g (Sample number base bits) k r end peer is e sent f = tt
 input_may s v g (Frame x octets raw sample) k r end peer is e sent f =
-    may_where (frame_life s.cfg) (shortest_tick s.cfg) v.time (port_at s v k r end) peer g.at (end.port == x) (frame_news (fixed_of s g.to) (v.node g.to) x g.says)
+    may_where (frame_life s.cfg) (shortest_tick s.cfg) v.time (port_at s v k r end) peer g.at (end.port == x) (frame_news (node_setting_of s g.to) (v.node g.to) x g.says)
     (λ b. elim f [
       | inl none ↦ subst (NewsMay (frame_life s.cfg) (shortest_tick s.cfg) v.time (port_at s v k r end) peer g.at) (sym none) tt
       | inr known ↦
-          frame_may (frame_life s.cfg) (shortest_tick s.cfg) v.time (port_at s v k r end) peer g.at (fixed_of s g.to) (v.node g.to) x g.says
+          frame_may (frame_life s.cfg) (shortest_tick s.cfg) v.time (port_at s v k r end) peer g.at (node_setting_of s g.to) (v.node g.to) x g.says
           (subst (λ xs. (m : Message) → in_frame g.says g.at ≡ Some m → IsAmong m xs × (v.time ≤ℤ (m.1 +ℤ pos (frame_life s.cfg)))) (sym sent)
           (known k r end is e (eqb-true end.port x b)))
     ])
@@ -235,7 +235,7 @@ given_keeps links signals s placed y v g k link is two f can =
           with_ports s placed (gives s y v g) k link v.time _ _ refl
           (port_given links signals s y v g k Master (end_of Master link) up x.1)
           (port_other s y v g k Slave (end_of Slave link) low (λ e. two (x.1 ∙ sym e)))
-          (news_keep (frame_life s.cfg) (shortest_tick s.cfg) placed (ends_at s v k link) Master g.at (news_at (fixed_of s g.to) (v.node g.to) g.input g.says link.upper_port) can
+          (news_keep (frame_life s.cfg) (shortest_tick s.cfg) placed (ends_at s v k link) Master g.at (news_at (node_setting_of s g.to) (v.node g.to) g.input g.says link.upper_port) can
           (link_dark s v link.upper link.upper_port)
           (input_may s v g g.input k Master (end_of Master link) (port_at s v k Slave (end_of Slave link)) up x.1 refl f))
       | inr x ↦ elim (eqb_tells link.lower g.to) [
@@ -243,7 +243,7 @@ given_keeps links signals s placed y v g k link is two f can =
             with_ports s placed (gives s y v g) k link v.time _ _ refl
             (port_other s y v g k Master (end_of Master link) up x.1)
             (port_given links signals s y v g k Slave (end_of Slave link) low z.1)
-            (news_keep (frame_life s.cfg) (shortest_tick s.cfg) placed (ends_at s v k link) Slave g.at (news_at (fixed_of s g.to) (v.node g.to) g.input g.says link.lower_port) can
+            (news_keep (frame_life s.cfg) (shortest_tick s.cfg) placed (ends_at s v k link) Slave g.at (news_at (node_setting_of s g.to) (v.node g.to) g.input g.says link.lower_port) can
             (link_dark s v link.lower link.lower_port)
             (input_may s v g g.input k Slave (end_of Slave link) (port_at s v k Master (end_of Master link)) low z.1 refl f))
         | inr z ↦

@@ -31,7 +31,7 @@ use Rattle.wrp_world.specs.Given.{Given, delivered, delivered_by, delivered_to, 
 use Rattle.wrp_world.specs.Premises.{deliver_by, deliver_checks, is_forged, noise_checks, too_old}
 use Rattle.wrp_world.specs.Runs.{IsNetwork, WasPutOut}
 use Rattle.wrp_world.specs.LinkEnds.{link_sent, sent_with}
-use Rattle.wrp_world.specs.Setting.{Setting, end_at, fixed_of}
+use Rattle.wrp_world.specs.Setting.{Setting, end_at, node_setting_of}
 use Rattle.wrp_world.specs.WorldAt.{Arrival, FrameAt, Sending, WorldAt}
 use Rattle.wrp_world.proofs.RunFrames.{FrameOf}
 use Rattle.wrp_world.proofs.RunGiven.{IsFair, IsKnown}
@@ -119,7 +119,7 @@ stranger : (d b : Bool) (x : Option Reason) → b ≡ false → (reason : Reason
 stranger true b x e = (Stranger, rw e refl)
 stranger false b x e = (Domain, refl)
 
-pub noise_news : (s : Setting) (v : WorldAt) (n p : ℕ) (says : Result PtpMsg FrameFault) → is_forged s n p says ≡ false → frame_news (fixed_of s n) (v.node n) p says ≡ Nothing
+pub noise_news : (s : Setting) (v : WorldAt) (n p : ℕ) (says : Result PtpMsg FrameFault) → is_forged s n p says ≡ false → frame_news (node_setting_of s n) (v.node n) p says ≡ Nothing
 noise_news s v n p (Err fault) e = refl
 noise_news s v n p (Ok m) e =
     let set : PortSetting = setting_of (s.set n) p in

@@ -18,11 +18,11 @@ use Rattle.wrp_link.specs.Table.{by_row}
 use Rattle.wrp_node.specs.declared.interface.Input.{Input}
 use Rattle.wrp_node.specs.declared.interface.Input.TheVariants.{Tick, Sample, Frame, Sent, Carrier, Reset}
 use Rattle.wrp_node.specs.LinkNews.{LinkNews, Nothing, Given as Handed, Renewed, frame_news, news_at, StepGivesLinks}
-use Rattle.wrp_node.specs.NodeAt.{Fixed, NodeAt}
+use Rattle.wrp_node.specs.NodeAt.{NodeSetting, NodeAt}
 use Rattle.wrp_node.specs.Sends.{SignalsAreOfLink}
 use Rattle.wrp_world.specs.Given.{Given, gives, gives_all}
 use Rattle.wrp_world.specs.LinkEnds.{port_at}
-use Rattle.wrp_world.specs.Setting.{Setting, end_at, fixed_of}
+use Rattle.wrp_world.specs.Setting.{Setting, end_at, node_setting_of}
 use Rattle.wrp_world.specs.WorldAt.{WorldAt}
 use Rattle.wrp_world.proofs.RunGifts.{AllGiven}
 use Rattle.wrp_world.proofs.RunLinks.{counted_carrier}
@@ -117,7 +117,7 @@ bright_where : (b : Bool) (news : LinkNews) → NoLoss news → NoLoss (if b the
 bright_where true news h = h
 bright_where false news h = tt
 
-input_bright : (fixed : Fixed) (n : NodeAt) (says : Result PtpMsg FrameFault) (input : Input) (p : ℕ) → IsBright input → NoLoss (news_at fixed n input says p)
+input_bright : (fixed : NodeSetting) (n : NodeAt) (says : Result PtpMsg FrameFault) (input : Input) (p : ℕ) → IsBright input → NoLoss (news_at fixed n input says p)
 input_bright fixed n says Tick p h = tt
 input_bright fixed n says (Sample number base bits) p h = tt
 input_bright fixed n says (Frame x octets raw sample) p h = bright_where (p == x) (frame_news fixed n x says) (any_frame NoLoss tt (λ a. tt) (λ m. tt) fixed n x says)
@@ -132,8 +132,8 @@ given_lit links signals s y v g k r end is h e =
     elim (eqb_tells end.node g.to) [
       | inl x ↦
           ap (λ (q : Port). q.link.carrier) (port_given links signals s y v g k r end is x.1)
-          ∙ news_lit v.time (port_at s v k r end) g.at (news_at (fixed_of s g.to) (v.node g.to) g.input g.says end.port)
-          (input_bright (fixed_of s g.to) (v.node g.to) g.says g.input end.port h) e
+          ∙ news_lit v.time (port_at s v k r end) g.at (news_at (node_setting_of s g.to) (v.node g.to) g.input g.says end.port)
+          (input_bright (node_setting_of s g.to) (v.node g.to) g.says g.input end.port h) e
       | inr x ↦ ap (λ (q : Port). q.link.carrier) (port_other s y v g k r end is x.1) ∙ e
     ]
 

@@ -22,7 +22,7 @@ use Rattle.wrp_link.proofs.Deltas.{is_same_self}
 use Rattle.wrp_node.specs.declared.interface.Input.{Input}
 use Rattle.wrp_node.specs.declared.interface.Input.TheVariants.{Tick, Sample, Frame, Sent, Carrier, Reset}
 use Rattle.wrp_node.specs.LinkNews.{LinkNews, Nothing, Given as Handed, Renewed, news_of, link_after, frame_news, news_at, StepGivesLinks}
-use Rattle.wrp_node.specs.NodeAt.{Fixed, NodeAt, link_at, setting_of}
+use Rattle.wrp_node.specs.NodeAt.{NodeSetting, NodeAt, link_at, setting_of}
 use Rattle.wrp_node.specs.Sends.{is_signal, signals_in, link_sends, SignalsAreOfLink}
 use Rattle.wrp_node.specs.Telling.{Step}
 use Rattle.wrp_port.specs.declared.setting.Setting.{Setting as PortSetting}
@@ -32,7 +32,7 @@ use Rattle.wrp_port.specs.Messages.{signals_of, signal_of, next_id}
 use Rattle.wrp_node.proofs.Sends.{not_equal}
 use Rattle.wrp_world.specs.Given.{Given, in_body, in_frame, mover_of, put_out, sending, step_of, taken_of, ticked_by, clock_told, gives, end_given}
 use Rattle.wrp_world.specs.LinkEnds.{link_sent, port_at, sent_with}
-use Rattle.wrp_world.specs.Setting.{Setting, end_at, fixed_of, is_of}
+use Rattle.wrp_world.specs.Setting.{Setting, end_at, node_setting_of, is_of}
 use Rattle.wrp_world.specs.WorldAt.{WorldAt, EndAt, Sending}
 use Rattle.wrp_world.proofs.RunLinks.{IsDark, run_dark, run_set}
 
@@ -105,12 +105,12 @@ unless_fits : (reason : Option Reason) (role : Role) (body : Body) (at : ℤ) �
 unless_fits None role body at = body_fits role body at
 unless_fits (Some reason) role body at = tt
 
-frame_fits : (fixed : Fixed) (n : NodeAt) (p : ℕ) (says : Result PtpMsg FrameFault) (at : ℤ) → MoverFits (frame_news fixed n p says) at (in_frame says at)
+frame_fits : (fixed : NodeSetting) (n : NodeAt) (p : ℕ) (says : Result PtpMsg FrameFault) (at : ℤ) → MoverFits (frame_news fixed n p says) at (in_frame says at)
 frame_fits fixed n p (Err fault) at = tt
 frame_fits fixed n p (Ok m) at =
     unless_fits (early_reason (setting_of fixed.set p) (link_at fixed.set n p) m) (setting_of fixed.set p).ds.role m.body at
 
-input_fits : (fixed : Fixed) (n : NodeAt) (g : Given) (input : Input) (p : ℕ) → MoverFits (news_at fixed n input g.says p) g.at (mover_of g input)
+input_fits : (fixed : NodeSetting) (n : NodeAt) (g : Given) (input : Input) (p : ℕ) → MoverFits (news_at fixed n input g.says p) g.at (mover_of g input)
 input_fits fixed n g Tick p = refl
 input_fits fixed n g (Sample number base bits) p = tt
 input_fits fixed n g (Frame q octets raw sample) p = fits_where (p == q) (frame_news fixed n q g.says) g.at (in_frame g.says g.at) (frame_fits fixed n q g.says g.at)
@@ -151,12 +151,12 @@ unless_news Q h a m None role body = body_news Q h a m role body
 unless_news Q h a m (Some reason) role body = h
 
 pub any_frame : (Q : LinkNews → Type 0) → Q Nothing → ((a : Option ℕ) → Q (Handed (link_in.Announce a))) → ((m : WrMsg) → Q (Handed (link_in.Msg m))) →
-    (fixed : Fixed) (n : NodeAt) (p : ℕ) (says : Result PtpMsg FrameFault) → Q (frame_news fixed n p says)
+    (fixed : NodeSetting) (n : NodeAt) (p : ℕ) (says : Result PtpMsg FrameFault) → Q (frame_news fixed n p says)
 any_frame Q h a m fixed n p (Err fault) = h
 any_frame Q h a m fixed n p (Ok message) =
     unless_news Q h a m (early_reason (setting_of fixed.set p) (link_at fixed.set n p) message) (setting_of fixed.set p).ds.role message.body
 
-input_ticks : (fixed : Fixed) (n : NodeAt) (says : Result PtpMsg FrameFault) (input : Input) (p : ℕ) → TicksFit (news_at fixed n input says p) input
+input_ticks : (fixed : NodeSetting) (n : NodeAt) (says : Result PtpMsg FrameFault) (input : Input) (p : ℕ) → TicksFit (news_at fixed n input says p) input
 input_ticks fixed n says Tick p = λ time q at. refl
 input_ticks fixed n says (Sample number base bits) p = λ time q at. refl
 input_ticks fixed n says (Frame x octets raw sample) p =
@@ -214,17 +214,17 @@ one_of b e f = if b then e else f
 
 pub port_given : (links : StepGivesLinks) (signals : SignalsAreOfLink) (s : Setting) (y : ℤ) (v : WorldAt) (g : Given) (k : ℕ) (r : Role) (end : End) →
     end_at s k r ≡ Some end → end.node ≡ g.to →
-    port_at s (gives s y v g) k r end ≡ port_by_news v.time (port_at s v k r end) g.at (news_at (fixed_of s g.to) (v.node g.to) g.input g.says end.port)
+    port_at s (gives s y v g) k r end ≡ port_by_news v.time (port_at s v k r end) g.at (news_at (node_setting_of s g.to) (v.node g.to) g.input g.says end.port)
 port_given links signals s y v g k r end is e =
     let n : ℕ = end.node in
     let p : ℕ = end.port in
     let step : Step = step_of s y v g in
-    let news : LinkNews = news_at (fixed_of s g.to) (v.node g.to) g.input g.says p in
+    let news : LinkNews = news_at (node_setting_of s g.to) (v.node g.to) g.input g.says p in
     let q : Port = port_at s v k r end in
     let set : PortSetting = setting_of (s.set g.to) p in
     let here : (n == g.to) ≡ true = ap (λ x. x == g.to) e ∙ eq_self g.to in
     let old : link_at (s.set n) (v.node n) p ≡ link_at (s.set g.to) (v.node g.to) p = ap (λ x. link_at (s.set x) (v.node x) p) e in
-    let law : link_at (s.set g.to) step.node p ≡ link_after set q.link news = links (fixed_of s g.to) (taken_of y g) (v.node g.to) p ∙ ap (λ l. link_after set l news) (sym old) in
+    let law : link_at (s.set g.to) step.node p ≡ link_after set q.link news = links (node_setting_of s g.to) (taken_of y g) (v.node g.to) p ∙ ap (λ l. link_after set l news) (sym old) in
     let at_end : (gives s y v g).end_at k r ≡ end_given s v g step k r p =
     ap (told_end s v g step k r) is ∙ ap (λ b. one_of b (end_given s v g step k r p) (v.end_at k r)) here in
     port_is (port_at s (gives s y v g) k r end) (port_by_news v.time q g.at news)
@@ -233,14 +233,14 @@ port_given links signals s y v g k r end is e =
     ∙ law
     ∙ link_by_news v.time set q g.at news (ap (λ l. l.role) old ∙ link_role s v g.to p) (ap (λ l. l.set) old ∙ link_set s v g.to p))
     (ap (λ b. (if b then clock_told s v g step.cycles (v.clock n) else v.clock n).ticked) here
-    ∙ input_ticks (fixed_of s g.to) (v.node g.to) g.says g.input p v.time q g.at)
+    ∙ input_ticks (node_setting_of s g.to) (v.node g.to) g.says g.input p v.time q g.at)
     (ap (λ (z : EndAt). z.marks) at_end
     ∙ ap (λ l. marked v.time (link_at (s.set g.to) (v.node g.to) p).state l.state (mover_of g g.input) q.marks) law
     ∙ ap (λ l. marked v.time l.state (link_after set q.link news).state (mover_of g g.input) q.marks) (sym old)
-    ∙ marks_by_news v.time set q g.at news (mover_of g g.input) (input_fits (fixed_of s g.to) (v.node g.to) g g.input p))
+    ∙ marks_by_news v.time set q g.at news (mover_of g g.input) (input_fits (node_setting_of s g.to) (v.node g.to) g g.input p))
     (ap (λ (z : EndAt). link_sent z.sent) at_end
     ∙ signals_sent v (step.sends p) (v.end_at k r).sent
-    ∙ ap (λ ms. sent_after v ms (v.end_at k r).sent) (signals (fixed_of s g.to) (taken_of y g) (v.node g.to) p)
+    ∙ ap (λ ms. sent_after v ms (v.end_at k r).sent) (signals (node_setting_of s g.to) (taken_of y g) (v.node g.to) p)
     ∙ stamped_sent v set _ (link_sends (link_at (s.set g.to) (v.node g.to) p) news) (v.end_at k r).sent
     ∙ ap (λ l. stamped v.time (link_sends l news) q.sent) (sym old)
     ∙ sent_by_news v.time q g.at news)

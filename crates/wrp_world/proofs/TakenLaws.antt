@@ -5,7 +5,7 @@ use Rattle.wrp_base.specs.declared.configuration.NetCfg.{NetCfg}
 use Rattle.wrp_base.proofs.Lists.{head_and_tail}
 use Rattle.wrp_law.specs.Law.{LawOf}
 use Rattle.wrp_node.specs.Control.{law_in}
-use Rattle.wrp_node.specs.New.{fixed_of}
+use Rattle.wrp_node.specs.New.{node_setting_of}
 use Rattle.wrp_node.specs.Node.{IsValid as NodeIsValid}
 use Rattle.wrp_node.specs.Set.{set_of}
 use Rattle.wrp_node.specs.StandsFor.{NodeOf, StandsFor as NodeStandsFor}
@@ -40,10 +40,10 @@ all_taken xs left n e f h = omega (arith, length-drop n xs, ap length e)
 
 -- a node with the law at its place
 pub new_node : {F : Type 0} (pre : F → ℤ → Type 0) (post : F → ℤ → ℤ → Type 0) (cfg : NetCfg) (laws rest : List (Option (LawOf F))) (n m : ℕ) (law : Option (LawOf F)) (node : NodeOf F) →
-    Taken laws rest n law → m ≡ n → NodeStandsFor post (fixed_of (set_of cfg n) law) node [] → NodeIsValid pre post node → law_in node.control ≡ law → IsNewNode pre post cfg laws m node
+    Taken laws rest n law → m ≡ n → NodeStandsFor post (node_setting_of (set_of cfg n) law) node [] → NodeIsValid pre post node → law_in node.control ≡ law → IsNewNode pre post cfg laws m node
 new_node pre post cfg laws rest n m law node t e h v k =
     subst (λ k. IsNewNode pre post cfg laws k node) (sym e) (record {
-      stands = subst (λ l. NodeStandsFor post (fixed_of (set_of cfg n) l) node []) (sym (ap (option_and_then (λ law. law)) t.at)) h;
+      stands = subst (λ l. NodeStandsFor post (node_setting_of (set_of cfg n) l) node []) (sym (ap (option_and_then (λ law. law)) t.at)) h;
       valid = v;
       law = k ∙ sym (ap (option_and_then (λ law. law)) t.at);
     })

@@ -9,7 +9,7 @@ use Rattle.wrp_world.specs.Checks.{told_of}
 use Rattle.wrp_world.specs.declared.clocks.ClockState.{ClockState}
 use Rattle.wrp_world.specs.Plant.{Each}
 use Rattle.wrp_world.specs.Premises.{fibre_rate, is_holdover, late_by, rate_of, rate_of_fibre, tick_late}
-use Rattle.wrp_world.specs.Setting.{Setting, fixed_of, from_on, links_of, nodes_of}
+use Rattle.wrp_world.specs.Setting.{Setting, node_setting_of, from_on, links_of, nodes_of}
 use Rattle.wrp_world.specs.Tried.{kept_rate, steered_rate}
 use Rattle.wrp_world.specs.WorldAt.{WorldAt}
 use Rattle.wrp_world.proofs.Counting.{flat_numbers, map_numbers}
@@ -27,13 +27,13 @@ rate_in top up locked holdover slew held =
 
 pub rate_told : (s : Setting) (w : WorldAt) (n : ℕ) (top up locked : Bool) (state : ServoState) (node : NodeCfg) (r : Option ℕ) →
     r ≡ kept_rate top up (steered_rate locked state node) → top ≡ not (is_some (link_above s.cfg n)) → up ≡ (w.clock n).up →
-    locked ≡ locked_of (fixed_of s n) (w.node n) → state ≡ state_of (fixed_of s n) (w.node n) → slice_get s.cfg.nodes.items n ≡ Some node →
+    locked ≡ locked_of (node_setting_of s n) (w.node n) → state ≡ state_of (node_setting_of s n) (w.node n) → slice_get s.cfg.nodes.items n ≡ Some node →
     r ≡ rate_of s w n
 rate_told s w n top up locked state node r e t u l h g =
     e ∙ ap (λ o. if top then Some 0 else o) (turned up (steered_rate locked state node))
     ∙ ap₂ (λ a b. rate_in a b locked (is_holdover state) node.slew node.held) t u
     ∙ ap₂ (λ a b. rate_in (not (is_some (link_above s.cfg n))) (w.clock n).up a (is_holdover b) node.slew node.held) l h
-    ∙ ap₂ (λ a b. rate_in (not (is_some (link_above s.cfg n))) (w.clock n).up (locked_of (fixed_of s n) (w.node n)) (is_holdover (state_of (fixed_of s n) (w.node n))) a b)
+    ∙ ap₂ (λ a b. rate_in (not (is_some (link_above s.cfg n))) (w.clock n).up (locked_of (node_setting_of s n) (w.node n)) (is_holdover (state_of (node_setting_of s n) (w.node n))) a b)
     (sym (ap (λ o. option_map_or (λ (x : NodeCfg). x.slew) o 0) g)) (sym (ap (λ o. option_map_or (λ (x : NodeCfg). x.held) o 0) g))
 
 steered_small : (locked holdover : Bool) (slew held most : ℕ) → slew ≤ most → held ≤ most →

@@ -20,7 +20,7 @@ use Rattle.wrp_node.specs.declared.interface.Output.{Output}
 use Rattle.wrp_node.specs.declared.interface.Output.TheVariants.{Step as StepOf, Dac, Report}
 use Rattle.wrp_node.specs.declared.interface.Report.TheVariants.{Link, Servo}
 use Rattle.wrp_node.specs.LinkNews.{LinkNews, Nothing, Given, Renewed, StepGivesLinks, link_after, news_at}
-use Rattle.wrp_node.specs.NodeAt.{Taken, Fixed, NodeAt, numbers_of, setting_of, link_at, state_of, est_of}
+use Rattle.wrp_node.specs.NodeAt.{Taken, NodeSetting, NodeAt, numbers_of, setting_of, link_at, state_of, est_of}
 use Rattle.wrp_node.specs.NodeRun.{dac_out, est_out, frame_out, outputs_of, port_out, servo_out, step_out, track_out, word_out}
 use Rattle.wrp_node.specs.NodeStep.{node_step}
 use Rattle.wrp_node.specs.StepLaws.{is_frame}
@@ -40,12 +40,12 @@ all_numbers P f (q ∷ qs) h =
 -- Reports
 
 -- the port is one of the node's, and its word is this after the step, and was another before it
-pub record ReportsWord (fixed : Fixed) (before : NodeAt) (s : Step) (p : ℕ) (word : LinkWord) : Type 0 where
+pub record ReportsWord (fixed : NodeSetting) (before : NodeAt) (s : Step) (p : ℕ) (word : LinkWord) : Type 0 where
   pub port : list_any (λ q. q == p) (numbers_of fixed.set) ≡ true
   pub is : word_of (link_at fixed.set s.node p) ≡ word
   pub other : is_word (word_of (link_at fixed.set before p)) word ≡ false
 
-abbrev pub WordSo : Fixed → NodeAt → Step → Output → Type 0
+abbrev pub WordSo : NodeSetting → NodeAt → Step → Output → Type 0
 WordSo fixed before s (Report (Link p word)) = ReportsWord fixed before s p word
 WordSo fixed before s _ = Unit {0}
 
@@ -57,15 +57,15 @@ dac_so : (P : Output → Type 0) → ((value : ℕ) → P (Dac value)) → (o : 
 dac_so P h None = tt
 dac_so P h (Some value) = (h value, tt)
 
-est_so : (fixed : Fixed) (before : NodeAt) (s : Step) (o : Option ℤ) → AllByRecursion (WordSo fixed before s) (est_out o)
+est_so : (fixed : NodeSetting) (before : NodeAt) (s : Step) (o : Option ℤ) → AllByRecursion (WordSo fixed before s) (est_out o)
 est_so fixed before s None = tt
 est_so fixed before s (Some est) = (tt, tt)
 
-est_where : (fixed : Fixed) (before : NodeAt) (s : Step) (b : Bool) (o : Option ℤ) → AllByRecursion (WordSo fixed before s) (if b then est_out o else [])
+est_where : (fixed : NodeSetting) (before : NodeAt) (s : Step) (b : Bool) (o : Option ℤ) → AllByRecursion (WordSo fixed before s) (if b then est_out o else [])
 est_where fixed before s true o = est_so fixed before s o
 est_where fixed before s false o = tt
 
-track_so : (fixed : Fixed) (before : NodeAt) (s : Step) (input : Input) (n : NodeAt) → AllByRecursion (WordSo fixed before s) (track_out fixed input n)
+track_so : (fixed : NodeSetting) (before : NodeAt) (s : Step) (input : Input) (n : NodeAt) → AllByRecursion (WordSo fixed before s) (track_out fixed input n)
 track_so fixed before s Tick n = est_where fixed before s _ (est_of fixed n)
 track_so fixed before s (Sample number base bits) n = tt
 track_so fixed before s (Frame p octets raw sample) n = tt
@@ -73,11 +73,11 @@ track_so fixed before s (Sent p seq delay stamp) n = tt
 track_so fixed before s (Carrier p up own_module) n = tt
 track_so fixed before s Reset n = tt
 
-frames_so : (fixed : Fixed) (before : NodeAt) (s : Step) (p : ℕ) (ms : List PtpMsg) → AllByRecursion (WordSo fixed before s) (map (frame_out p) ms)
+frames_so : (fixed : NodeSetting) (before : NodeAt) (s : Step) (p : ℕ) (ms : List PtpMsg) → AllByRecursion (WordSo fixed before s) (map (frame_out p) ms)
 frames_so fixed before s p [] = tt
 frames_so fixed before s p (m ∷ ms) = (tt, frames_so fixed before s p ms)
 
-port_so : (fixed : Fixed) (before : NodeAt) (s : Step) (p : ℕ) → list_any (λ q. q == p) (numbers_of fixed.set) ≡ true → AllByRecursion (WordSo fixed before s) (port_out fixed before s p)
+port_so : (fixed : NodeSetting) (before : NodeAt) (s : Step) (p : ℕ) → list_any (λ q. q == p) (numbers_of fixed.set) ≡ true → AllByRecursion (WordSo fixed before s) (port_out fixed before s p)
 port_so fixed before s p among =
     let was : LinkWord = word_of (link_at fixed.set before p) in
     let word : LinkWord = word_of (link_at fixed.set s.node p) in
@@ -85,7 +85,7 @@ port_so fixed before s p among =
     (unless (WordSo fixed before s) (is_word was word) (Report (Link p word)) (λ other. record { port = among; is = refl; other = other }))
     (frames_so fixed before s p (s.sends p))
 
-pub outputs_so : (fixed : Fixed) (input : Input) (before : NodeAt) (s : Step) → AllByRecursion (WordSo fixed before s) (outputs_of fixed input before s)
+pub outputs_so : (fixed : NodeSetting) (input : Input) (before : NodeAt) (s : Step) → AllByRecursion (WordSo fixed before s) (outputs_of fixed input before s)
 outputs_so fixed input before s =
     let P : Output → Type 0 = WordSo fixed before s in
     let steps : List Output = step_out s.cycles in
@@ -214,7 +214,7 @@ calm_where : (b : Bool) (news : LinkNews) → IsCalmNews news → IsCalmNews (if
 calm_where true news h = h
 calm_where false news h = tt
 
-calm_input : (fixed : Fixed) (n : NodeAt) (input : Input) (says : Result PtpMsg FrameFault) (p : ℕ) → is_frame input ≡ false → IsCalmNews (news_at fixed n input says p)
+calm_input : (fixed : NodeSetting) (n : NodeAt) (input : Input) (says : Result PtpMsg FrameFault) (p : ℕ) → is_frame input ≡ false → IsCalmNews (news_at fixed n input says p)
 calm_input fixed n Tick says p e = tt
 calm_input fixed n (Sample number base bits) says p e = tt
 calm_input fixed n (Frame q octets raw sample) says p e = absurd (let f : true ≡ false = e in cc)
@@ -231,7 +231,7 @@ NotOn _ = Unit {0}
 same_word : is_word (In LinkOn) (In LinkOn) ≡ false → ⊥
 same_word e = let f : true ≡ false = e in cc
 
-not_on : StepGivesLinks → (fixed : Fixed) (t : Taken) (n : NodeAt) → is_frame t.input ≡ false → (o : Output) → WordSo fixed n (node_step fixed t n) o → NotOn o
+not_on : StepGivesLinks → (fixed : NodeSetting) (t : Taken) (n : NodeAt) → is_frame t.input ≡ false → (o : Output) → WordSo fixed n (node_step fixed t n) o → NotOn o
 not_on links fixed t n e (Report (Link p (In LinkOn))) h =
     let lit : IsLit (link_at fixed.set (node_step fixed t n).node p) = word_on (link_at fixed.set (node_step fixed t n).node p) h.is in
     let by_news : IsLit (link_after (setting_of fixed.set p) (link_at fixed.set n p) (news_at fixed n t.input t.says p)) = subst IsLit (links fixed t n p) lit in
@@ -241,6 +241,6 @@ not_on links fixed t n e (Report (Link p (In LinkOn))) h =
 not_on links fixed t n e _ h = tt
 
 -- an input that is no frame brings no port to WR_LINK_ON
-pub quiet_step : StepGivesLinks → (fixed : Fixed) (t : Taken) (n : NodeAt) → is_frame t.input ≡ false → AllByRecursion NotOn (outputs_of fixed t.input n (node_step fixed t n))
+pub quiet_step : StepGivesLinks → (fixed : NodeSetting) (t : Taken) (n : NodeAt) → is_frame t.input ≡ false → AllByRecursion NotOn (outputs_of fixed t.input n (node_step fixed t n))
 quiet_step links fixed t n e =
     all_weaker (WordSo fixed n (node_step fixed t n)) NotOn (not_on links fixed t n e) (outputs_of fixed t.input n (node_step fixed t n)) (outputs_so fixed t.input n (node_step fixed t n))

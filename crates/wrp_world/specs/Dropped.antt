@@ -11,7 +11,7 @@ use Rattle.wrp_node.specs.Telling.{counted_at}
 use Rattle.wrp_world.specs.Given.{Given, given_by}
 use Rattle.wrp_world.specs.Moved.{moved}
 use Rattle.wrp_world.specs.Run.{Happened, steps_at, world_after}
-use Rattle.wrp_world.specs.Setting.{Setting, fixed_of}
+use Rattle.wrp_world.specs.Setting.{Setting, node_setting_of}
 use Rattle.wrp_world.specs.WorldAt.{WorldAt}
 
 -- the inputs that an event gives the nodes, in their order
@@ -43,7 +43,7 @@ pub record LeavesACount (s : Setting) (before : List Happened) (h : Happened) (n
 -- if an input is a frame that its node drops for one of the reasons 1 to 12, its event leaves a count
 abbrev pub DropsLeaveACount : Setting → List Happened → Happened → ℕ → Given → Input → Type 0
 DropsLeaveACount s before h n g (Frame p octets raw sample) =
-    (reason : ℕ) → reason_of (fixed_of s n) ((world_after s before).node n) p g.says ≡ Some reason →
+    (reason : ℕ) → reason_of (node_setting_of s n) ((world_after s before).node n) p g.says ≡ Some reason →
     LeavesACount s before h n p reason
 DropsLeaveACount s before h n g _ = Unit {0}
 

@@ -27,7 +27,7 @@ use Rattle.wrp_world.specs.declared.event.Event.{Event}
 use Rattle.wrp_world.specs.declared.event.Event.TheVariants.{Tick, Sample, Depart, Deliver, Noise, Down, Up, Cut, Join}
 use Rattle.wrp_world.specs.Moved.{moved, waiting_at}
 use Rattle.wrp_world.specs.declared.place.Place.{Place}
-use Rattle.wrp_world.specs.Setting.{Setting, end_at, entry_at, fixed_of, is_of, place_of}
+use Rattle.wrp_world.specs.Setting.{Setting, end_at, entry_at, node_setting_of, is_of, place_of}
 use Rattle.wrp_world.specs.WorldAt.{WorldAt, EndAt, FrameAt, Arrival, Sending, has_carrier}
 
 -- What an event gives
@@ -158,7 +158,7 @@ abbrev pub taken_of : ℤ → Given → Taken
 taken_of y g = record { input = g.input; says = g.says; answer = y }
 
 abbrev pub step_of : Setting → ℤ → WorldAt → Given → Step
-step_of s y v g = node_step (fixed_of s g.to) (taken_of y g) (v.node g.to)
+step_of s y v g = node_step (node_setting_of s g.to) (taken_of y g) (v.node g.to)
 
 -- a tick is noted where it is given
 abbrev pub ticked_by : Input → ℤ → ℤ → ℤ
@@ -208,7 +208,7 @@ abbrev pub node_step_of : Setting → ℤ → WorldAt → Given → NodeStepAt
 node_step_of s y v g = record {
   node = g.to;
   input = g.input;
-  outs = outputs_of (fixed_of s g.to) g.input (v.node g.to) (step_of s y v g);
+  outs = outputs_of (node_setting_of s g.to) g.input (v.node g.to) (step_of s y v g);
 }
 
 -- the steps of the nodes, in their order

@@ -9,7 +9,7 @@ use Rattle.wrp_caldb.specs.Database.{Database, module_at}
 use Rattle.wrp_law.specs.declared.delay.LawKind.TheVariants.{Linear}
 use Rattle.wrp_law.specs.Law.{LawOf, KeepsFact}
 use Rattle.wrp_node.specs.Control.{law_in}
-use Rattle.wrp_node.specs.New.{low_of, high_of, fixed_of}
+use Rattle.wrp_node.specs.New.{low_of, high_of, node_setting_of}
 use Rattle.wrp_node.specs.Node.{IsValid as NodeIsValid}
 use Rattle.wrp_node.specs.Set.{set_of}
 use Rattle.wrp_node.specs.StandsFor.{NodeOf, StandsFor as NodeStandsFor}
@@ -63,6 +63,6 @@ IsSpanOf db links k span = (link : LinkCfg) → slice_get links k ≡ Some link 
 
 -- a node before any input
 pub record IsNewNode {F : Type 0} (pre : F → ℤ → Type 0) (post : F → ℤ → ℤ → Type 0) (cfg : NetCfg) (laws : List (Option (LawOf F))) (n : ℕ) (node : NodeOf F) : Type 0 where
-  pub stands : NodeStandsFor post (fixed_of (set_of cfg n) (law_at laws n)) node []
+  pub stands : NodeStandsFor post (node_setting_of (set_of cfg n) (law_at laws n)) node []
   pub valid : NodeIsValid pre post node
   pub law : law_in node.control ≡ law_at laws n

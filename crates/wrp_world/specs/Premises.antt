@@ -34,7 +34,7 @@ use Rattle.wrp_world.specs.declared.fibres.FibreState.{FibreState}
 use Rattle.wrp_world.specs.Checks.{Check, at_most, at_least, only_where, size_of, stands, not_sent, AllHold, first_broken}
 use Rattle.wrp_world.specs.Moved.{moved, waiting_at, drift_of, move_of}
 use Rattle.wrp_world.specs.declared.place.Place.{Place}
-use Rattle.wrp_world.specs.Setting.{Setting, above, end_at, entry_at, fixed_of, from_on, link_of, links_of, nodes_of, of_node, place_of}
+use Rattle.wrp_world.specs.Setting.{Setting, above, end_at, entry_at, node_setting_of, from_on, link_of, links_of, nodes_of, of_node, place_of}
 use Rattle.wrp_world.specs.WorldAt.{WorldAt, FrameAt, Arrival, Sending, delay_from, has_carrier, is_on_fibre, phase_of, reading}
 
 -- rates are in 10^-12
@@ -65,8 +65,8 @@ abbrev pub rate_of : Setting → WorldAt → ℕ → Option ℕ
 rate_of s w n =
     if not (is_some (link_above s.cfg n)) then Some 0
     else (if not (w.clock n).up then None
-    else (if locked_of (fixed_of s n) (w.node n) then Some (of_node (λ node. node.slew) s n)
-    else (if is_holdover (state_of (fixed_of s n) (w.node n)) then Some (of_node (λ node. node.held) s n) else None)))
+    else (if locked_of (node_setting_of s n) (w.node n) then Some (of_node (λ node. node.slew) s n)
+    else (if is_holdover (state_of (node_setting_of s n) (w.node n)) then Some (of_node (λ node. node.held) s n) else None)))
 
 -- a move, in a time, at a rate: both sides with the factor 10^12
 abbrev pub moves_at : ℕ → ℤ → ℤ → ℕ → Check

@@ -5,12 +5,12 @@ use Rattle.wrp_base.specs.declared.message.PtpMsg.{PtpMsg}
 use Rattle.wrp_frame.specs.declared.fault.FrameFault.{FrameFault}
 use Rattle.wrp_node.specs.NodeRun.{Says}
 use Rattle.wrp_servo.specs.Servo.{AllAnswered}
-use Rattle.wrp_node.specs.NodeAt.{settings_of}
+use Rattle.wrp_node.specs.NodeAt.{servo_setting_of}
 use Rattle.wrp_world.specs.declared.event.Event.{Event}
 use Rattle.wrp_world.specs.declared.event.Event.TheVariants.{Noise}
 use Rattle.wrp_world.specs.Given.{NodeStepAt, world_step, event_steps}
 use Rattle.wrp_world.specs.Premises.{Accepts}
-use Rattle.wrp_world.specs.Setting.{Setting, fixed_of}
+use Rattle.wrp_world.specs.Setting.{Setting, node_setting_of}
 use Rattle.wrp_world.specs.WorldAt.{WorldAt, new_world}
 
 -- an event that came
@@ -49,7 +49,7 @@ AllSaid (h ∷ before) = IsSaid h.event h.says × AllSaid before
 
 -- the laws of the links may answer so, by the node below each
 abbrev pub IsAnswered : (ℕ → ℤ → ℤ → Type 0) → Setting → WorldAt → Type 0
-IsAnswered answers s w = (n : ℕ) → AllAnswered (answers n) (settings_of (fixed_of s n)) (w.node n).calls
+IsAnswered answers s w = (n : ℕ) → AllAnswered (answers n) (servo_setting_of (node_setting_of s n)) (w.node n).calls
 
 -- a run of the world: each event is accepted, octets are read as they say, and each measurement has one of the law's answers
 pub record WorldRun (answers : ℕ → ℤ → ℤ → Type 0) (s : Setting) (events : List Happened) : Type 0 where

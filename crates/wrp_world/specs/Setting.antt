@@ -13,7 +13,7 @@ use Rattle.wrp_base.specs.Clock.{second}
 use Rattle.wrp_caldb.specs.Database.{Database, module_at}
 use Rattle.wrp_config.specs.Names.{is_upper_end, is_lower_end}
 use Rattle.wrp_node.specs.declared.interface.NodeSet.{NodeSet}
-use Rattle.wrp_node.specs.NodeAt.{Fixed}
+use Rattle.wrp_node.specs.NodeAt.{NodeSetting}
 use Rattle.wrp_world.specs.declared.place.Place.{Place}
 
 -- the network, what each node is set to, and the range of the delay law of the link above it
@@ -25,8 +25,8 @@ pub record Setting : Type 0 where
   pub hi : ℕ → ℤ
 
 -- what is fixed of a node
-abbrev pub fixed_of : Setting → ℕ → Fixed
-fixed_of s n = record { set = s.set n; lo = s.lo n; hi = s.hi n }
+abbrev pub node_setting_of : Setting → ℕ → NodeSetting
+node_setting_of s n = record { set = s.set n; lo = s.lo n; hi = s.hi n }
 
 -- so many numbers, ascending from the first of them
 abbrev pub from_on : (count first : ℕ) → List ℕ

@@ -9,7 +9,7 @@ use Rattle.wrp_node.specs.Set.{set_of}
 use Rattle.wrp_node.specs.StandsFor.{NodeOf, StandsFor as NodeStandsFor}
 use Rattle.wrp_world.specs.declared.plant.Plant.{Plant}
 use Rattle.wrp_world.specs.Plant.{Each, FitsPlant, PlantIs}
-use Rattle.wrp_world.specs.Setting.{Setting, fixed_of, place_of}
+use Rattle.wrp_world.specs.Setting.{Setting, node_setting_of, place_of}
 use Rattle.wrp_world.specs.Views.{history_of}
 use Rattle.wrp_world.specs.WorldAt.{WorldAt}
 
@@ -20,8 +20,8 @@ pub record WorldOf (F : Type 0) : Type 0 where
 
 -- a node is what its inputs made of it
 pub record NodeIs {F : Type 0} (post : F → ℤ → ℤ → Type 0) (s : Setting) (w : WorldAt) (n : ℕ) (node : NodeOf F) : Type 0 where
-  pub at : w.node n ≡ node_after (fixed_of s n) (w.inputs n)
-  pub stands : NodeStandsFor post (fixed_of s n) node (w.inputs n)
+  pub at : w.node n ≡ node_after (node_setting_of s n) (w.inputs n)
+  pub stands : NodeStandsFor post (node_setting_of s n) node (w.inputs n)
 
 -- the world stands for this state of a world with this setting, in which each node is set to its part of the network
 pub record StandsFor {F : Type 0} (post : F → ℤ → ℤ → Type 0) (s : Setting) (w : WorldAt) (world : WorldOf F) : Type 0 where

@@ -3,7 +3,7 @@ ghost use Rattle.std.specs.Prelude.{◌≡◌, [], IfOk, IfSome, is_some};
 ghost use Rattle.std.specs.List.{AllZip};
 ghost use Rattle.wrp_law.specs.Law.{KeepsFact};
 ghost use Rattle.wrp_node.specs.Control.{law_in};
-ghost use Rattle.wrp_node.specs.New.{FitsNodeSet, FitsPorts, OfDifferentNumbers, IsNewPlace, fixed_of};
+ghost use Rattle.wrp_node.specs.New.{FitsNodeSet, FitsPorts, OfDifferentNumbers, IsNewPlace, node_setting_of};
 ghost use Rattle.wrp_node.specs.Node.{IsValid};
 ghost use Rattle.wrp_node.specs.NodeAt.{in_order, slave_of};
 ghost use Rattle.wrp_node.specs.StandsFor.{StandsFor};
@@ -29,7 +29,7 @@ impl<F: Fn(i64) -> i64> Node<F> {
         requires set { FitsNodeSet cfg }
         requires law { is_some law ≡ is_some (slave_of cfg) }
         requires fact { IfSome law (KeepsFact F.pre F.post) }
-        ensures stands { IfOk result (λ node. StandsFor F.post (fixed_of cfg law) node []) }
+        ensures stands { IfOk result (λ node. StandsFor F.post (node_setting_of cfg law) node []) }
         ensures valid { IfOk result (IsValid F.pre F.post) }
         ensures law { IfOk result (λ node. law_in node.control ≡ law) }
     {

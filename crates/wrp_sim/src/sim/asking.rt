@@ -5,7 +5,7 @@ ghost use Rattle.std.specs.Option.{is_some};
 ghost use Rattle.wrp_base.specs.Network.{link_above};
 ghost use Rattle.wrp_node.specs.NodeAt.{dac_of};
 ghost use Rattle.wrp_world.specs.Premises.{is_holdover, rate_of};
-ghost use Rattle.wrp_world.specs.Setting.{above, fixed_of};
+ghost use Rattle.wrp_world.specs.Setting.{above, node_setting_of};
 ghost use Rattle.wrp_world.specs.StandsFor.{IsValid, Tells, off_of, time_of};
 ghost use Rattle.wrp_world.specs.WorldAt.{has_carrier, reading};
 ghost use Rattle.wrp_world.specs.Tried.{kept_rate, steered_rate};
@@ -152,7 +152,7 @@ pub fn has_carrier<F: Fn(i64) -> i64>(world: &World<F>, k: u8) -> bool
 pub fn dac<F: Fn(i64) -> i64>(world: &World<F>, n: u8) -> u16
     requires valid { IsValid F.pre F.post world.now }
     requires node { n < length world.now.nodes }
-    ensures { Tells F.post (λ s w. dac_of (fixed_of s n) (w.node n)) world.now result }
+    ensures { Tells F.post (λ s w. dac_of (node_setting_of s n) (w.node n)) world.now result }
 {
     world.node(n).dac()
 }

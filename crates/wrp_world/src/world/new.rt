@@ -3,7 +3,7 @@ ghost use Rattle.std.specs.Prelude.{◌≡◌, ◌<◌, [], IfOk, length};
 ghost use Rattle.wrp_base.specs.Network.{node_count};
 ghost use Rattle.wrp_config.specs.Accepted.{IsAccepted};
 ghost use Rattle.wrp_node.specs.Control.{law_in};
-ghost use Rattle.wrp_node.specs.New.{fixed_of};
+ghost use Rattle.wrp_node.specs.New.{node_setting_of};
 ghost use Rattle.wrp_node.specs.Node.{IsValid as NodeIsValid};
 ghost use Rattle.wrp_node.specs.Set.{set_of};
 ghost use Rattle.wrp_node.specs.StandsFor.{StandsFor as NodeStandsFor};
@@ -81,7 +81,7 @@ fn new_node<F: Fn(i64) -> i64>(
     requires net { IsAccepted net.now.cfg net.now.db }
     requires node { n < node_count net.now.cfg }
     requires law { FitsLaw F.pre F.post net.now.cfg n law }
-    ensures stands { IfOk result (λ node. NodeStandsFor F.post (fixed_of (set_of net.now.cfg n) law) node []) }
+    ensures stands { IfOk result (λ node. NodeStandsFor F.post (node_setting_of (set_of net.now.cfg n) law) node []) }
     ensures valid { IfOk result (NodeIsValid F.pre F.post) }
     ensures law { IfOk result (λ node. law_in node.control ≡ law) }
 {

@@ -1,7 +1,7 @@
 -- Each port of the node has its lines.
 use Rattle.std.proofs.Common.{◌∙◌, ap, refl, sym}
 use Rattle.wrp_node.specs.NodeRun.{node_after}
-use Rattle.wrp_run.specs.StandsFor.{site_at}
+use Rattle.wrp_run.specs.StandsFor.{line_setting_at}
 use Rattle.wrp_run.proofs.CountLemmas.{all_ports, port_less, no_port_less, no_port}
 use Rattle.wrp_run.proofs.counting.append_counts.Goals.{then-has_port+in_ok-append_port, else-has_port}
 use Rattle.wrp_run.proofs.counting.append_counts.Goals as goal
@@ -14,14 +14,14 @@ loop-port-preserved g c = λ fixed inputs stands.
     elim c.if-has_port.branch [
       | then-has_port+in_ok-append_port w ↦
           rw (ap (λ v. v.items) w.text-is)
-          (port_less (site_at c.args.replayed) (node_after fixed inputs) c.loop-port.port-index _ c.args.name.now c.loop-port.text.items w.append_port.new.text.items c.args.text.now.items
+          (port_less (line_setting_at c.args.replayed) (node_after fixed inputs) c.loop-port.port-index _ c.args.name.now c.loop-port.text.items w.append_port.new.text.items c.args.text.now.items
           c.loop-port-test.true (c.loop-port.invariant fixed inputs stands) refl (sym c.has_port.ensures ∙ w.if-has_port.true) c.requires.name
           (w.in_ok-append_port.ensures fixed inputs stands))
       | else-has_port w ↦
           rw (ap (λ v. v.items) w.text-is)
-          (no_port_less (site_at c.args.replayed) (node_after fixed inputs) c.loop-port.port-index _ c.loop-port.text.items c.args.text.now.items
+          (no_port_less (line_setting_at c.args.replayed) (node_after fixed inputs) c.loop-port.port-index _ c.loop-port.text.items c.args.text.now.items
           c.loop-port-test.true (c.loop-port.invariant fixed inputs stands) refl (sym c.has_port.ensures ∙ w.if-has_port.false))
     ]
 
 pub returns : goal.returns
-returns g c = λ fixed inputs stands. no_port (site_at c.args.replayed) (node_after fixed inputs) _ _ _ c.loop-port-test.false (c.loop-port.invariant fixed inputs stands)
+returns g c = λ fixed inputs stands. no_port (line_setting_at c.args.replayed) (node_after fixed inputs) _ _ _ c.loop-port-test.false (c.loop-port.invariant fixed inputs stands)

@@ -3,7 +3,7 @@ use Rattle.std.proofs.Common.{◌≡◌, ◌∙◌, pos, ap, sym, rules}
 use Rattle.std.proofs.lemmas.Int.{to_z-of_z}
 use Rattle.wrp_bounds.specs.Bounds.{path_of}
 use Rattle.wrp_config.specs.Same.{bare_cfg}
-use Rattle.wrp_run.proofs.BareSite.{path_bare}
+use Rattle.wrp_run.proofs.BareSetting.{path_bare}
 use Rattle.wrp_run.proofs.replay.bound_of.Goals as goal
 
 pub returns : goal.returns

@@ -2,7 +2,7 @@
 use Rattle.std.proofs.Common.{◌∙◌, ap, sym}
 use Rattle.wrp_base.specs.Network.{link_above}
 use Rattle.wrp_law.specs.LinkLaw.{down_of}
-use Rattle.wrp_trace.specs.Site.{site_of}
+use Rattle.wrp_trace.specs.LineSetting.{line_setting_of}
 use Rattle.wrp_run.proofs.GoingOn.{law_of_some, law_says}
 use Rattle.wrp_run.proofs.replaying.replay.Goals as goal
 
@@ -13,5 +13,5 @@ replay_by-requires-clause-answers g c = λ has.
     c.law_above-above.ensures.law c.asked-link.ensures.same in
     record {
       answer = λ x y low high is.
-          law_says (site_of net c.args.replayed.node) c.asked-link.result x y over (is.0 ∙ ap (λ v. down_of v.closure.0 x) c.new-law.ensures);
+          law_says (line_setting_of net c.args.replayed.node) c.asked-link.result x y over (is.0 ∙ ap (λ v. down_of v.closure.0 x) c.new-law.ensures);
     }

@@ -3,7 +3,7 @@ use Rattle.std.proofs.Common.{◌≡◌, ◌∙◌, inl, inr, ℕ, List, Ok, Err
 use Rattle.std.proofs.KnownBytes.{Appends-nil}
 use Rattle.wrp_config.proofs.Lists.{found_place}
 use Rattle.wrp_config.specs.Reading.{IsReadingOf}
-use Rattle.wrp_trace.specs.Site.{Site, site_of}
+use Rattle.wrp_trace.specs.LineSetting.{LineSetting, line_setting_of}
 use Rattle.wrp_io.specs.Faults.{Rose}
 use Rattle.wrp_run.specs.declared.network_text.End.{End}
 use Rattle.wrp_run.specs.declared.network_text.End.TheVariants.{Whole, Failed}
@@ -14,7 +14,7 @@ use Rattle.wrp_run.specs.Replays.{meaning_of}
 use Rattle.wrp_run.specs.Tasks.{Replay, AsksFor}
 use Rattle.wrp_run.specs.Words.{texts_of}
 use Rattle.wrp_run.proofs.Asking.{TookNetwork, TookRecords, size_ends, refused_ends, no_node_ends, network_fails, memory_ends, records_end}
-use Rattle.wrp_run.proofs.BareSite.{bare_site, named_bare}
+use Rattle.wrp_run.proofs.BareSetting.{bare_setting, named_bare}
 use Rattle.wrp_run.proofs.replaying.replay_named.Goals as goal
 
 -- a network text that came whole did not fail
@@ -140,7 +140,7 @@ returns-clause-ends g c =
     let text = c.take_network-network.result.text.items in
     let whole = subst (λ (e : End). NetworkOutcome e taken.0 text c.take_network-network.new.reader) c.in-Whole.is taken.2 in
     let reads = subst (λ (t : List ℕ). IsReadingOf t (Ok c.in-Ok.net)) c.deref.ensures.value c.in-Ok.ensures.value in
-    let site : Site = bare_site (site_of c.in-Ok.net c.in-Some.node) in
+    let site : LineSetting = bare_setting (line_setting_of c.in-Ok.net c.in-Some.node) in
     let asks : AsksFor (texts_of c.args.words.now) text (Replay site) = (
       whole.1,
       c.args.name.now,

@@ -1,6 +1,6 @@
 -- A new node stands for no inputs.
 use Rattle.std.proofs.Common.{◌≡◌, ◌∙◌, refl, ap, sym, subst, ℕ, true, [], Option, IfSome}
-use Rattle.wrp_node.specs.New.{fixed_of}
+use Rattle.wrp_node.specs.New.{node_setting_of}
 use Rattle.wrp_node.specs.NodeAt.{in_order, slave_in}
 use Rattle.wrp_node.specs.Parts.{is_among}
 use Rattle.wrp_node.proofs.NewNode.{has_slave, all_ports, new_places, new_numbers}
@@ -15,7 +15,7 @@ returns-clause-stands g c =
       is_at = record {
         parts = record {
           numbers = numbers;
-          places = new_places (fixed_of c.args.cfg c.args.law) (in_order c.args.cfg.ports.items) c.in_ok-ports.ports c.in_ok-ports.ensures (all_ports c.args.cfg c.requires.set.numbers);
+          places = new_places (node_setting_of c.args.cfg c.args.law) (in_order c.args.cfg.ports.items) c.in_ok-ports.ports c.in_ok-ports.ensures (all_ports c.args.cfg c.requires.set.numbers);
           slave = slave;
           clock = refl;
           ticks = refl;
@@ -30,7 +30,7 @@ pub returns-clause-valid : goal.returns-clause-valid
 returns-clause-valid g c = record {
   law = c.of.ensures.law;
   report = c.requires.set.report;
-  fixed = fixed_of c.args.cfg c.args.law;
+  fixed = node_setting_of c.args.cfg c.args.law;
   inputs = [];
   stands = returns-clause-stands g c;
 }

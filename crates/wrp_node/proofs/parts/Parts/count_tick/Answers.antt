@@ -1,7 +1,7 @@
 -- The tick is counted, then the lease has its turn.
 use Rattle.std.proofs.Common.{◌≡◌, ◌∙◌, ◌+◌, refl, sym, subst, ℕ, Option, None, Some}
 use Rattle.wrp_node.specs.declared.parts.Parts.{Parts}
-use Rattle.wrp_node.specs.NodeAt.{Fixed, NodeAt}
+use Rattle.wrp_node.specs.NodeAt.{NodeSetting, NodeAt}
 use Rattle.wrp_node.specs.Parts.{PartsIn}
 use Rattle.wrp_node.specs.Telling.{Step}
 use Rattle.wrp_node.proofs.Telling.{lease_turned, no_lease, ticks_set}
@@ -11,7 +11,7 @@ none_is : (o : Option ℕ) → ((x : ℕ) → o ≡ Some x → ⊥) → o ≡ No
 none_is None h = refl
 none_is (Some x) h = absurd (h x refl)
 
-ticked_on : (parts : Parts) (fixed : Fixed) (before : NodeAt) (s : Step) → PartsIn fixed before s parts →
+ticked_on : (parts : Parts) (fixed : NodeSetting) (before : NodeAt) (s : Step) → PartsIn fixed before s parts →
     PartsIn fixed before (record s { node = record s.node { ticks = s.node.ticks + 1 } }) (record parts { ticks = parts.ticks + 1 })
 ticked_on parts fixed before s h =
     subst (λ (k : ℕ). PartsIn fixed before (record s { node = record s.node { ticks = k + 1 } }) (record parts { ticks = parts.ticks + 1 })) h.ticks

@@ -2,13 +2,13 @@
 use Rattle.std.proofs.Common.{rules}
 use Rattle.std.proofs.lemmas.Int.{to_z-of_z}
 use Rattle.std.proofs.lemmas.Result.{IfOk-weaker}
-use Rattle.wrp_trace.specs.Site.{site_of}
+use Rattle.wrp_trace.specs.LineSetting.{line_setting_of}
 use Rattle.wrp_run.proofs.GoingOn.{fits_input, tick_more, took_input}
 use Rattle.wrp_run.proofs.replay.ReplayedNode.write.Goals as goal
 
 pub step_into-requires-clause-input : goal.step_into-requires-clause-input
 step_into-requires-clause-input g c =
-    fits_input (site_of c.args.self.now.replayed.net.now c.args.self.now.replayed.node) c.args.self.now.node c.args.self.now.input
+    fits_input (line_setting_of c.args.self.now.replayed.net.now c.args.self.now.replayed.node) c.args.self.now.node c.args.self.now.input
     c.requires.ready.ports c.requires.room c.requires.input
 
 pub returns-clause-count : goal.returns-clause-count

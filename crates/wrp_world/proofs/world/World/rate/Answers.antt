@@ -2,7 +2,7 @@ use Rattle.std.proofs.Common.{◌∙◌, sym, ap, slice_get}
 use Rattle.wrp_base.specs.declared.configuration.NetCfg.{NetCfg}
 use Rattle.wrp_node.specs.NodeAt.{locked_of, state_of}
 use Rattle.wrp_world.specs.Plant.{PlantIs}
-use Rattle.wrp_world.specs.Setting.{fixed_of}
+use Rattle.wrp_world.specs.Setting.{node_setting_of}
 use Rattle.wrp_world.specs.Tried.{kept_rate}
 use Rattle.wrp_world.proofs.Inside.{plant_is}
 use Rattle.wrp_world.proofs.TriedRates.{rate_small, rate_told}
@@ -15,8 +15,8 @@ returns-clause-value g c s w h =
     rate_told s w c.args.n c.is_top-is_top.result c.is_up-up.result c.locked-locked.result c.servo-state.result c.node_cfg-cfg.result.now c.kept_rate.result
     (c.kept_rate.ensures ∙ ap (kept_rate c.is_top-is_top.result c.is_up-up.result) c.steered_rate.ensures)
     (c.is_top-is_top.ensures s w p) (c.is_up-up.ensures s w p)
-    (c.locked-locked.ensures (fixed_of s c.args.n) (w.inputs c.args.n) node.stands ∙ ap (locked_of (fixed_of s c.args.n)) (sym node.at))
-    (c.servo-state.ensures (fixed_of s c.args.n) (w.inputs c.args.n) node.stands ∙ ap (state_of (fixed_of s c.args.n)) (sym node.at))
+    (c.locked-locked.ensures (node_setting_of s c.args.n) (w.inputs c.args.n) node.stands ∙ ap (locked_of (node_setting_of s c.args.n)) (sym node.at))
+    (c.servo-state.ensures (node_setting_of s c.args.n) (w.inputs c.args.n) node.stands ∙ ap (state_of (node_setting_of s c.args.n)) (sym node.at))
     (ap (λ (cfg : NetCfg). slice_get cfg.nodes.items c.args.n) (sym p.cfg) ∙ c.node_cfg-cfg.ensures.value)
 
 pub returns-clause-most : goal.returns-clause-most
