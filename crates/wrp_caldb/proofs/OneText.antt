@@ -10,9 +10,9 @@ use Rattle.std.specs.Prelude.{codes, option_and_then, unwrap_or, if◌then◌els
 use Rattle.toml.specs.Data.{Data, table, Members, as_integer, get_member, is_before}
 use Rattle.toml.specs.View.{items_of}
 use Rattle.wrp_base.proofs.Lists.{first_passed}
-use Rattle.wrp_caldb.specs.Calibration.{module_key, fibre_key, fibre_name_key, kappa_key, fibre_err_key, table_err_key, table_key, law_of, fibre_keys, version_of, place_in_fibre, place_in_fibres, place_in_modules, place_in_lists, place_in_top, IsAccepted}
+use Rattle.wrp_caldb.specs.Calibration.{module_key, fibre_key, kappa_key, fibre_err_key, table_err_key, table_key, law_of, fibre_keys, version_of, place_in_fibre, place_in_fibres, place_in_modules, place_in_lists, place_in_top, IsAccepted}
 use Rattle.wrp_caldb.specs.Database.{Database, ModuleAt, FibreAt, TableAt, each_table, fibre_of, natural_at, database_of}
-use Rattle.wrp_caldb.specs.Key.{Key}
+use Rattle.wrp_caldb.specs.Key.{Key, name_key}
 use Rattle.wrp_caldb.specs.Points.{values_of, stored_points, is_sound, has_bounds, is_near, is_table, rises}
 use Rattle.wrp_caldb.specs.Refusal.{place_of_keys, place_in_table, on_table, first_among}
 use Rattle.wrp_caldb.specs.Repeats.{place_of_name}
@@ -154,7 +154,7 @@ table_fits ds n t none =
     let test = at_fault co.Range t in
     let more = table_key (law_of t) ∷ behind_line t in
     let keys = no_key co.Range at (fibre_keys t) t (none_parts (place_in_table co.Range at (fibre_keys t) t) (place_of_name co.Range at (take n ds) t) none).0 in
-    let after_name = (first_passed test fibre_name_key (kappa_key ∷ fibre_err_key ∷ more) keys).1 in
+    let after_name = (first_passed test name_key (kappa_key ∷ fibre_err_key ∷ more) keys).1 in
     let after_kappa = (first_passed test kappa_key (fibre_err_key ∷ more) after_name).1 in
     let after_err = (first_passed test fibre_err_key more after_kappa).1 in
     (first_passed test (table_key (law_of t)) (behind_line t) after_err).0
