@@ -1,7 +1,8 @@
 -- The integer loop: a proportional and integral controller of a DAC, over the errors since its last restart (this project's profile).
-use Rattle.std.specs.Prelude.{ℕ, ℤ, pos, neg_ℤ, ◌≡◌, ◌^◌, ◌+ℤ◌, ◌*ℤ◌, Bool, ◌&&◌, ◌||◌, int_lt, if◌then◌else◌, List, [], ◌∷◌}
-use Rattle.std.specs.Int.{int_min, int_max, saturate_unsigned, w16}
+use Rattle.std.specs.Prelude.{ℕ, ℤ, pos, ◌≡◌, ◌^◌, ◌+ℤ◌, ◌*ℤ◌, Bool, ◌&&◌, ◌||◌, int_lt, if◌then◌else◌, List, [], ◌∷◌}
+use Rattle.std.specs.Int.{saturate_unsigned, w16}
 use Rattle.wrp_base.specs.Division.{floor_quotient}
+use Rattle.wrp_base.specs.Held.{held_within}
 
 -- the loop's gains, proportional and integral in 1/4096, and its DAC value at rest
 pub record Gains : Type 0 where
@@ -11,7 +12,7 @@ pub record Gains : Type 0 where
 
 -- the accumulated error with one more error, held within 2^40 on either side
 abbrev pub raised : ℤ → ℤ → ℤ
-raised accumulated e = int_max (neg_ℤ (pos (2 ^ 40))) (int_min (pos (2 ^ 40)) (accumulated +ℤ e))
+raised accumulated e = held_within (pos (2 ^ 40)) (accumulated +ℤ e)
 
 -- where that drives the DAC, before it is held within the DAC's range
 abbrev pub drive : Gains → ℤ → ℤ → ℤ

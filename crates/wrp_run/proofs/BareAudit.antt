@@ -13,6 +13,7 @@ use Rattle.wrp_base.specs.declared.network.NodeCfg.{NodeCfg}
 use Rattle.wrp_base.specs.declared.time.Raw.{Raw}
 use Rattle.wrp_base.specs.Network.{End, link_above, other_of}
 use Rattle.wrp_caldb.specs.Database.{Database, module_at}
+use Rattle.wrp_servo.specs.Sampling.{is_holdover}
 use Rattle.wrp_config.proofs.Bare.{above_bare}
 use Rattle.wrp_config.proofs.Lists.{position-map}
 use Rattle.wrp_config.specs.Config.{bare_link, bare_node}
@@ -30,7 +31,7 @@ use Rattle.wrp_world.specs.declared.place.Place.{Place}
 use Rattle.wrp_world.specs.Given.{Given, NodeStepAt, at_ports, comes_from, delivered, delivered_by, delivered_to, end_given, event_steps, given_by, given_plain, gives, gives_all, goes_from, if_carried, node_step_of, sent_oldest, step_of, steps_of, world_step}
 use Rattle.wrp_world.specs.Run.{Happened, steps_at, world_after}
 use Rattle.wrp_world.specs.Moved.{moved, arrived, behind_first, departing, drift_of, is_place, one_more, samples_at, swap_at, with_swap, waiting_at}
-use Rattle.wrp_world.specs.Premises.{arrive_checks, beat_by, beat_checks, checks, checks_of, deliver_by, deliver_checks, depart_checks, entry_for, fibre_checks, fibre_kept, fibre_rate, is_forged, is_holdover, module_checks, module_kept, noise_checks, pass_checks, rate_checks, rate_of, raw_checks, received, sample_checks, swap_stands, tick_late, too_old, transition_of, true_at_top}
+use Rattle.wrp_world.specs.Premises.{arrive_checks, beat_by, beat_checks, checks, checks_of, deliver_by, deliver_checks, depart_checks, entry_for, fibre_checks, fibre_kept, fibre_rate, is_forged, module_checks, module_kept, noise_checks, pass_checks, rate_checks, rate_of, raw_checks, received, sample_checks, swap_stands, tick_late, too_old, transition_of, true_at_top}
 use Rattle.wrp_world.specs.Setting.{Setting, above, end_at, end_of, entry_at, node_setting_of, from_on, is_of, is_role, link_of, links_of, nodes_of, of_node, place_among, place_of, sends_nm}
 use Rattle.wrp_world.specs.WorldAt.{Arrival, FrameAt, Sending, WorldAt, ends_are_up, first_name, has_carrier, is_on_fibre, named_at, new_end, new_world, phase_of, reading}
 use Rattle.wrp_run.specs.Audited.{setting_at}

@@ -1,7 +1,6 @@
 -- The laws of all nodes, as they are made one after another, fit the network.
 use Rattle.std.proofs.Common.{◌≡◌, ◌∙◌, refl, ap, ap₂, sym, subst, ℕ, ℤ, pos, ◌==◌, ◌≤◌, ◌≤ℤ◌, Bool, true, false, if◌then◌else◌, List, length, Option, None, Some, IfSome, is_some, option_map}
 use Rattle.std.specs.Prelude.{slice_get}
-use Rattle.wrp_trace.specs.LineSetting.{line_setting_in}
 use Rattle.wrp_base.specs.declared.network.LinkCfg.{LinkCfg}
 use Rattle.wrp_base.specs.Network.{link_above, node_count}
 use Rattle.wrp_base.proofs.Naturals.{le_of_same}
@@ -16,6 +15,7 @@ use Rattle.wrp_law.specs.declared.delay.LawKind.{LawKind}
 use Rattle.wrp_law.specs.Law.{IsNear, KeepsFact, LawOf}
 use Rattle.wrp_law.specs.LinkLaw.{IsSound, down_of, error_of, kind_of, least_of, most_of}
 use Rattle.wrp_node.specs.Set.{set_of}
+use Rattle.wrp_trace.specs.LineSetting.{line_setting_in}
 use Rattle.wrp_run.specs.AuditStands.{setting_in}
 use Rattle.wrp_run.specs.DownLaw.{node_setting_at}
 use Rattle.wrp_run.specs.LawsFit.{FitsAt, HasNumbers, IsMade, LawsFit}

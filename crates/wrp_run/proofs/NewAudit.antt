@@ -1,7 +1,6 @@
 -- A world before its first event, with laws that fit its network, can be audited and stands for no lines.
 use Rattle.std.proofs.Common.{◌≡◌, ◌∙◌, refl, ap, sym, subst, ℕ, ℤ, ◌<◌, List, [], length, Option, None, Some, IfSome, arith}
 use Rattle.std.specs.Prelude.{slice_get, option_and_then}
-use Rattle.wrp_trace.specs.LineSetting.{line_setting_in}
 use Rattle.wrp_base.specs.declared.network.LinkCfg.{LinkCfg}
 use Rattle.wrp_base.specs.Network.{IsTree, link_above, node_count}
 use Rattle.wrp_base.proofs.Lists.{has_item}
@@ -16,6 +15,7 @@ use Rattle.wrp_world.specs.HasLaws.{HasLaws}
 use Rattle.wrp_world.specs.New.{law_at, setting_of}
 use Rattle.wrp_world.specs.StandsFor.{IsValid, StandsFor, WorldOf}
 use Rattle.wrp_world.specs.WorldAt.{new_world}
+use Rattle.wrp_trace.specs.LineSetting.{line_setting_in}
 use Rattle.wrp_run.specs.declared.audit.AuditedNetwork.{AuditedNetwork}
 use Rattle.wrp_run.specs.AuditStands.{CanAudit, HasAudited, HasLawOf, setting_in}
 use Rattle.wrp_run.specs.DownLaw.{AnswersBy, greatest_over, least_over}

@@ -1,7 +1,6 @@
 -- The same events make the same world, but for answers of the law that nobody asked for; its nodes make the same steps,
 -- and the same premise is the first that an event breaks.
 use Rattle.std.proofs.Common.{◌≡◌, ◌∙◌, refl, ap, ap₂, sym, subst, ℕ, ℤ, Bool, true, false, ◌==◌, if◌then◌else◌, List, [], ◌∷◌, ◌++◌, flat_map, map, is_some, Result, arith}
-use Rattle.wrp_trace.specs.LineSetting.{line_setting_in}
 use Rattle.wrp_base.specs.declared.link.ServoState.TheVariants.{Uninit}
 use Rattle.wrp_base.specs.declared.message.PtpMsg.{PtpMsg}
 use Rattle.wrp_base.proofs.Naturals.{eq_self}
@@ -24,6 +23,7 @@ use Rattle.wrp_world.specs.Premises.{checks_of, rate_kept, tick_late, fibre_rate
 use Rattle.wrp_world.specs.Run.{AllSaid, Happened, IsAnswered, IsSaid, world_after, steps_at}
 use Rattle.wrp_world.specs.Setting.{Setting, node_setting_of, nodes_of, links_of}
 use Rattle.wrp_world.specs.WorldAt.{WorldAt}
+use Rattle.wrp_trace.specs.LineSetting.{line_setting_in}
 use Rattle.wrp_run.specs.Audited.{answers_in}
 use Rattle.wrp_run.specs.DownLaw.{law_at}
 

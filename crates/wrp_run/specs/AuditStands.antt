@@ -1,7 +1,6 @@
 -- What an audited network stands for: the lines that it has taken (this project's profile).
 use Rattle.std.specs.Prelude.{◌≡◌, ◌<◌, ℕ, ℤ, Option, None, Some, IfSome, List, ◌++◌, Result, Err}
 use Rattle.std.specs.List.{flat_map}
-use Rattle.wrp_trace.specs.LineSetting.{line_setting_in}
 use Rattle.wrp_base.specs.declared.fault.TraceFault.{TraceFault}
 use Rattle.wrp_base.specs.declared.message.PtpMsg.{PtpMsg}
 use Rattle.wrp_base.specs.Network.{node_count}
@@ -19,6 +18,7 @@ use Rattle.wrp_world.specs.Run.{Happened, IsSaid, world_after}
 use Rattle.wrp_world.specs.Setting.{Setting}
 use Rattle.wrp_world.specs.StandsFor.{IsValid, StandsFor, WorldOf}
 use Rattle.wrp_world.specs.WorldAt.{WorldAt}
+use Rattle.wrp_trace.specs.LineSetting.{line_setting_in}
 use Rattle.wrp_run.specs.declared.audit.AuditedNetwork.{AuditedNetwork}
 use Rattle.wrp_run.specs.declared.machine.Refusal.TheVariants as refusal
 use Rattle.wrp_run.specs.declared.machine.Taken.{Taken}

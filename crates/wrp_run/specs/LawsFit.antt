@@ -1,6 +1,5 @@
 -- The delay laws of all nodes of a network (this project's profile).
 use Rattle.std.specs.Prelude.{◌≡◌, ℕ, ℤ, IfSome, List, Option, is_some, length}
-use Rattle.wrp_trace.specs.LineSetting.{line_setting_in}
 use Rattle.wrp_base.specs.Network.{link_above, node_count}
 use Rattle.wrp_config.specs.declared.network.Network.{Network}
 use Rattle.wrp_law.specs.declared.link_law.LinkLaw.{LinkLaw}
@@ -8,6 +7,7 @@ use Rattle.wrp_law.specs.Law.{LawOf}
 use Rattle.wrp_law.specs.LinkLaw.{error_of, kind_of, least_of, most_of}
 use Rattle.wrp_world.specs.New.{FitsLaw}
 use Rattle.wrp_world.specs.Plant.{Each}
+use Rattle.wrp_trace.specs.LineSetting.{line_setting_in}
 use Rattle.wrp_run.specs.AuditStands.{setting_in}
 use Rattle.wrp_run.specs.DownLaw.{IsLawAt}
 use Rattle.wrp_run.specs.LinkLaw.{IsLawOver}

@@ -5,14 +5,19 @@ use Rattle.wrp_base.specs.declared.link.Deltas.{Deltas}
 use Rattle.wrp_base.specs.Closeness.{IsWithin}
 use Rattle.wrp_bounds.specs.declared.numbers.HopNumbers.{HopNumbers}
 use Rattle.wrp_bounds.specs.Hop.{detector_error, gap_motion, down_error, up_error, age_motion, both_ways_error, scaled_error, estimate_error}
+use Rattle.wrp_servo.specs.Measuring.{x_of}
 use Rattle.wrp_tracking.specs.Moment.{Moment, phase_at, ways_at}
-use Rattle.wrp_tracking.specs.ErrorSum.{sync_sum, ports_sum, law_argument, estimate_of, FibreHolds, FourFacts, EstimateIsNear, HopSum}
+use Rattle.wrp_tracking.specs.ErrorSum.{sync_sum, estimate_of, FibreHolds, FourFacts, EstimateIsNear, HopSum}
 use Rattle.wrp_tracking.proofs.Sums.{two_sides, four_delays, both_ways, law_scaled, estimated, way_down, ways_sum, regrouped, renamed, limited}
 use Rattle.wrp_tracking.proofs.Sides.{phase_moved}
 
+-- the sum of the delays of the four ports
+abbrev ports_sum : Deltas → ℤ
+ports_sum d = ((pos d.txm +ℤ pos d.rxs) +ℤ pos d.txs) +ℤ pos d.rxm
+
 -- both ways of the fibre now, as the law's argument tells them
 argument_near : (hop : HopNumbers) (constant : ℤ) (four : Four) (deltas : Deltas) (now : Moment) → FourFacts hop constant four now → (fibre : FibreHolds hop now deltas) →
-    IsWithin (both_ways_error hop) (law_argument deltas four) (fibre.down_fibre +ℤ fibre.up_fibre)
+    IsWithin (both_ways_error hop) (x_of deltas four) (fibre.down_fibre +ℤ fibre.up_fibre)
 argument_near hop constant four deltas now stamps fibre =
     both_ways (((four.t2 -ℤ four.t1) -ℤ four.u2) +ℤ ((four.t4 -ℤ four.t3) +ℤ four.u3)) stamps.ways (ways_at now) (ports_sum deltas) (ports_sum fibre.ports) (fibre.down_fibre +ℤ fibre.up_fibre)
     (down_error hop + up_error hop) (4 * hop.e_db) (age_motion hop)
@@ -32,7 +37,7 @@ estimate-near hop constant four deltas y u sampled now facts =
     let law : ℕ = scaled_error hop + hop.law_err + hop.e_asym in
     let delay : ℤ = (pos deltas.txm +ℤ pos deltas.rxs) +ℤ y in
     let share : IsWithin (scaled_error hop + hop.law_err + hop.e_asym) y fibre.down_fibre =
-    law_scaled (law_argument deltas four) y (fibre.down_fibre +ℤ fibre.up_fibre) fibre.down_fibre (pos (2 ^ 39) +ℤ hop.kappa) (both_ways_error hop) hop.law_err hop.e_asym
+    law_scaled (x_of deltas four) y (fibre.down_fibre +ℤ fibre.up_fibre) fibre.down_fibre (pos (2 ^ 39) +ℤ hop.kappa) (both_ways_error hop) hop.law_err hop.e_asym
     facts.answer fibre.asymmetry (argument_near hop constant four deltas now facts.stamps fibre) in
     let way : IsWithin (law + 2 * hop.e_db) delay ((pos fibre.ports.txm +ℤ fibre.down_fibre) +ℤ pos fibre.ports.rxs) =
     way_down (pos deltas.txm) (pos deltas.rxs) (pos fibre.ports.txm) (pos fibre.ports.rxs) y fibre.down_fibre hop.e_db law fibre.database.txm fibre.database.rxs share in

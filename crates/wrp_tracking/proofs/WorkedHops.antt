@@ -4,9 +4,10 @@ use Rattle.std.proofs.lemmas.Int.{ints}
 use Rattle.wrp_base.specs.Closeness.{IsWithin}
 use Rattle.wrp_bounds.specs.declared.numbers.HopNumbers.{HopNumbers}
 use Rattle.wrp_bounds.specs.Hop.{detector_error, down_error, up_error, age_motion}
+use Rattle.wrp_servo.specs.Measuring.{x_of}
 use Rattle.wrp_tracking.specs.Moment.{Moment, phase_at, ways_at}
 use Rattle.wrp_tracking.specs.Rates.{KeepsRates}
-use Rattle.wrp_tracking.specs.ErrorSum.{sync_sum, delay_sum, numerator_of, law_argument}
+use Rattle.wrp_tracking.specs.ErrorSum.{sync_sum, delay_sum, numerator_of}
 use Rattle.wrp_tracking.specs.Reference.{switch_hop}
 use Rattle.wrp_tracking.specs.Worked.{worked_moment, worked_deltas, worked_four, worked_answer, WorkedHop}
 
@@ -59,7 +60,7 @@ worked-hop = record {
       };
       asymmetry = exact (2 ^ 40 * 1_310_720) (pos (2 ^ 40) *ℤ pos 549_829_436_064) (numerator_of (pos 73_622_176) (pos 549_829_436_064 +ℤ pos 549_682_191_712)) refl;
     };
-    answer = exact (2 ^ 40 * 1) (pos (2 ^ 40) *ℤ worked_answer) (numerator_of (pos 73_622_176) (law_argument worked_deltas worked_four)) refl;
+    answer = exact (2 ^ 40 * 1) (pos (2 ^ 40) *ℤ worked_answer) (numerator_of (pos 73_622_176) (x_of worked_deltas worked_four)) refl;
   };
   track = record {
     loop_limit = small;

@@ -6,6 +6,7 @@ use Rattle.wrp_base.specs.declared.link.Deltas.{Deltas}
 use Rattle.wrp_base.specs.Closeness.{IsWithin}
 use Rattle.wrp_bounds.specs.declared.numbers.HopNumbers.{HopNumbers}
 use Rattle.wrp_bounds.specs.Hop.{detector_error, down_error, up_error, age_motion, estimate_error, hop_bound}
+use Rattle.wrp_servo.specs.Measuring.{x_of}
 use Rattle.wrp_tracking.specs.Moment.{Moment, phase_at, ways_at}
 use Rattle.wrp_tracking.specs.Rates.{KeepsRates}
 
@@ -16,14 +17,6 @@ sync_sum f = (f.t1 -ℤ f.t2) +ℤ f.u2
 -- what the Delay_Req's two stamps and their phase tell
 abbrev pub delay_sum : Four → ℤ
 delay_sum f = (f.t4 -ℤ f.t3) +ℤ f.u3
-
--- the sum of the delays of the four ports
-abbrev pub ports_sum : Deltas → ℤ
-ports_sum d = ((pos d.txm +ℤ pos d.rxs) +ℤ pos d.txs) +ℤ pos d.rxm
-
--- both ways of the fibre as the four stamps tell them: what the delay law is asked
-abbrev pub law_argument : Deltas → Four → ℤ
-law_argument d f = (((f.t2 -ℤ f.t1) -ℤ f.u2) +ℤ ((f.t4 -ℤ f.t3) +ℤ f.u3)) -ℤ ports_sum d
 
 -- the estimated offset from the parent, by the law's answer y and the unwrapped phase u
 abbrev pub estimate_of : Deltas → Four → (y u : ℤ) → ℤ
@@ -71,7 +64,7 @@ pub record PhaseFacts (hop : HopNumbers) (constant u : ℤ) (sampled now : Momen
 
 -- y is an answer of the hop's delay law to the four stamps
 abbrev pub IsAnswer : HopNumbers → Deltas → Four → ℤ → Type 0
-IsAnswer hop deltas four y = IsShare hop hop.law_err y (law_argument deltas four)
+IsAnswer hop deltas four y = IsShare hop hop.law_err y (x_of deltas four)
 
 -- what TRACK lets stand: the loop's error, and the estimate less that error, within their limits
 pub record TrackFacts (hop : HopNumbers) (estimate loop_error : ℤ) : Type 0 where

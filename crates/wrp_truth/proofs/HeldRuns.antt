@@ -26,7 +26,7 @@ use Rattle.wrp_world.specs.declared.event.Event.{Event}
 use Rattle.wrp_world.specs.declared.event.Event.TheVariants.{Tick, Up}
 use Rattle.wrp_truth.proofs.FourMoments.{longer}
 use Rattle.wrp_world.specs.Given.{given_plain, taken_of}
-use Rattle.wrp_world.specs.Premises.{is_holdover as held_state, rate_of}
+use Rattle.wrp_world.specs.Premises.{rate_of}
 use Rattle.wrp_world.specs.Run.{Happened, world_after, worlds_of}
 use Rattle.wrp_world.specs.RunLaws.{TicksAreApart}
 use Rattle.wrp_world.specs.Runs.{IsNetwork, IsRun}
@@ -123,7 +123,7 @@ held_rate s events n t link net above h hold =
     let w : WorldAt = world_after s events in
     let fixed : NodeSetting = node_setting_of s n in
     let lock : locked_of fixed (w.node n) ≡ false = ap (λ (b : Bool). if b then (servo_at fixed (w.node n)).phase.lock.locked else false) (has_servo s net n link above) ∙ hold.locked in
-    unlocked_keeps (is_some (link_above s.cfg n)) (w.clock n).up (locked_of fixed (w.node n)) (held_state (state_of fixed (w.node n))) (of_node (λ node. node.slew) s n) (of_node (λ node. node.held) s n) (ap is_some above) h.up lock (ap held_state h.state)
+    unlocked_keeps (is_some (link_above s.cfg n)) (w.clock n).up (locked_of fixed (w.node n)) (is_holdover (state_of fixed (w.node n))) (of_node (λ node. node.slew) s n) (of_node (λ node. node.held) s n) (ap is_some above) h.up lock (ap is_holdover h.state)
 
 is_inside : (s : Setting) (n : ℕ) (link : LinkCfg) → IsNetwork s → link_above s.cfg n ≡ Some link → n < node_count s.cfg
 is_inside s n link net above =

@@ -23,7 +23,7 @@ use Rattle.wrp_node.specs.Unbroken.{ChainIsLocked}
 use Rattle.wrp_node.proofs.OwnPorts.{slave_is_above}
 use Rattle.wrp_servo.specs.Call.{run}
 use Rattle.wrp_servo.specs.Laws.{NoStepInTrack, TrackHasChain}
-use Rattle.wrp_servo.specs.Sampling.{is_holdover as is_held}
+use Rattle.wrp_servo.specs.Sampling.{is_holdover}
 use Rattle.wrp_servo.specs.Table.{is_track}
 use Rattle.wrp_tracking.specs.Tree.{IsSource}
 use Rattle.wrp_world.specs.declared.event.Event.{Event}
@@ -34,7 +34,7 @@ use Rattle.wrp_world.specs.EventAt.{IsEventOf}
 use Rattle.wrp_world.proofs.RunChanges.{not_joined}
 use Rattle.wrp_world.specs.Given.{Given, given_by, gives, gives_all, world_step}
 use Rattle.wrp_world.specs.Moved.{clock_after, drift_of, fibre_after, move_of, moved}
-use Rattle.wrp_world.specs.Premises.{Accepts, fibre_kept, fibre_rate, is_holdover, rate_checks, rate_kept, rate_of, tick_late}
+use Rattle.wrp_world.specs.Premises.{Accepts, fibre_kept, fibre_rate, rate_checks, rate_kept, rate_of, tick_late}
 use Rattle.wrp_world.specs.Run.{Happened, world_after}
 use Rattle.wrp_world.specs.RunLaws.{ModulesStay, SameModule}
 use Rattle.wrp_world.specs.Runs.{IsNetwork, IsRun}
@@ -222,9 +222,9 @@ top_is_true held s (h ∷ before) n run above =
 
 -- A node that may be followed
 
-either_state : (state : ServoState) → (state ≡ Track) ⊎ (state ≡ Holdover) → (is_track state || is_held state) ≡ true
-either_state state (inl e) = ap (λ x. is_track x || is_held x) e
-either_state state (inr e) = ap (λ x. is_track x || is_held x) e
+either_state : (state : ServoState) → (state ≡ Track) ⊎ (state ≡ Holdover) → (is_track state || is_holdover state) ≡ true
+either_state state (inl e) = ap (λ x. is_track x || is_holdover x) e
+either_state state (inr e) = ap (λ x. is_track x || is_holdover x) e
 
 source_slow : RateLaws → (s : Setting) (h : Happened) (before : List Happened) (n : ℕ) (o : Option LinkCfg) → IsRun s (h ∷ before) → link_above s.cfg n ≡ o → IsSource s.cfg (offsets_at s (world_after s before)) n → ((world_after s before).clock n).up ≡ true →
     Slow (greatest_rate s n) (world_after s before).time (world_after s (h ∷ before)).time ((world_after s before).clock n).off ((world_after s (h ∷ before)).clock n).off
@@ -239,8 +239,8 @@ source_slow laws s h before n (Some link) run above (inr states) up =
     let inside : n < node_count s.cfg = subst (λ i. i < node_count s.cfg) at.2 (run.network.accepted.tree.ends at.0 link at.1).1 in
     let rate : (rate : ℕ) × (rate_of s w n ≡ Some rate) × (rate ≤ greatest_rate s n) = source_rate laws s before n link run.network above up states in
     let servo : state_of fixed (w.node n) ≡ (servo_at fixed (w.node n)).state = with_servo fixed (w.node n) (has_servo s run.network n link above) in
-    let there : (is_track (servo_at fixed (w.node n)).state || is_held (servo_at fixed (w.node n)).state) ≡ true =
-    sym (ap (λ x. is_track x || is_held x) servo) ∙ either_state (state_of fixed (w.node n)) states in
+    let there : (is_track (servo_at fixed (w.node n)).state || is_holdover (servo_at fixed (w.node n)).state) ≡ true =
+    sym (ap (λ x. is_track x || is_holdover x) servo) ∙ either_state (state_of fixed (w.node n)) states in
     clock_slow laws.commands s h.says h.answer before h.event n rate.0 (greatest_rate s n) (λ _. Unit {0}) run inside up rate.1 rate.2
     (λ t k. still_in_track laws.commands laws.track fixed t (w.node n) there) tt
 

@@ -4,11 +4,12 @@ use Rattle.std.specs.Option.{is_some, option_map_or}
 use Rattle.wrp_base.specs.declared.link.ServoState.{ServoState}
 use Rattle.wrp_base.specs.declared.network.NodeCfg.{NodeCfg}
 use Rattle.wrp_base.specs.Network.{link_above}
+use Rattle.wrp_servo.specs.Sampling.{is_holdover}
 use Rattle.wrp_node.specs.NodeAt.{locked_of, state_of}
 use Rattle.wrp_world.specs.Checks.{told_of}
 use Rattle.wrp_world.specs.declared.clocks.ClockState.{ClockState}
 use Rattle.wrp_world.specs.Plant.{Each}
-use Rattle.wrp_world.specs.Premises.{fibre_rate, is_holdover, late_by, rate_of, rate_of_fibre, tick_late}
+use Rattle.wrp_world.specs.Premises.{fibre_rate, late_by, rate_of, rate_of_fibre, tick_late}
 use Rattle.wrp_world.specs.Setting.{Setting, node_setting_of, from_on, links_of, nodes_of}
 use Rattle.wrp_world.specs.Tried.{kept_rate, steered_rate}
 use Rattle.wrp_world.specs.WorldAt.{WorldAt}

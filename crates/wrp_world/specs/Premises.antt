@@ -10,8 +10,6 @@ use Rattle.wrp_base.specs.Division.{floor_quotient}
 use Rattle.wrp_base.specs.declared.configuration.NetCfg.{NetCfg}
 use Rattle.wrp_base.specs.declared.link.Module.{Module}
 use Rattle.wrp_base.specs.declared.link.Role.TheVariants.{Master, Slave}
-use Rattle.wrp_base.specs.declared.link.ServoState.{ServoState}
-use Rattle.wrp_base.specs.declared.link.ServoState.TheVariants.{Holdover}
 use Rattle.wrp_base.specs.declared.message.PtpMsg.{PtpMsg}
 use Rattle.wrp_base.specs.declared.network.LinkCfg.{LinkCfg}
 use Rattle.wrp_base.specs.declared.time.Clock.{Clock}
@@ -21,11 +19,11 @@ use Rattle.wrp_base.specs.Message.{is_port}
 use Rattle.wrp_bounds.specs.Times.{shortest_tick, longest_tick, frame_life, reach}
 use Rattle.wrp_frame.specs.declared.fault.FrameFault.{FrameFault}
 use Rattle.wrp_node.specs.NodeAt.{locked_of, state_of, port_of}
-use Rattle.wrp_node.specs.NodeRun.{place_of as state_place}
 use Rattle.wrp_phase.specs.Beat.{beat_bit}
 use Rattle.wrp_phase.specs.BeatPattern.{true_step, steps_past}
 use Rattle.wrp_stamp.specs.Merge.{quarter_of, place_of as place_in_period}
 use Rattle.wrp_stamp.specs.StampBound.{true_place}
+use Rattle.wrp_servo.specs.Sampling.{is_holdover}
 use Rattle.wrp_world.specs.declared.event.Event.{Event}
 use Rattle.wrp_world.specs.declared.event.Event.TheVariants.{Pass, Tick, Sample, Depart, Arrive, Deliver, Noise, Down, Up, Cut, Join}
 use Rattle.wrp_world.specs.declared.event.Swap.{Swap}
@@ -56,9 +54,6 @@ abbrev pub tick_late : Setting → WorldAt → ℤ → ℕ → Check
 tick_late s w dt n = late_by (pos (longest_tick s.cfg)) (w.time +ℤ dt) (w.clock n)
 
 -- 3, Rate: a clock that is locked keeps its slew, one in HOLDOVER its held, and the grandmaster's does not move
-
-abbrev pub is_holdover : ServoState → Bool
-is_holdover state = state_place state == state_place Holdover
 
 -- the rate that a node's clock keeps, if it keeps one
 abbrev pub rate_of : Setting → WorldAt → ℕ → Option ℕ

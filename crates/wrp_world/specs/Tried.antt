@@ -14,6 +14,7 @@ use Rattle.wrp_base.specs.declared.time.Raw.{Raw}
 use Rattle.wrp_base.specs.Message.{is_port}
 use Rattle.wrp_base.specs.Network.{other_of}
 use Rattle.wrp_bounds.specs.Times.{frame_life}
+use Rattle.wrp_servo.specs.Sampling.{is_holdover}
 use Rattle.wrp_frame.specs.declared.fault.FrameFault.{FrameFault}
 use Rattle.wrp_node.specs.NodeRun.{Says}
 use Rattle.wrp_node.specs.Set.{lower_of, set_of, upper_of}
@@ -28,7 +29,7 @@ use Rattle.wrp_world.specs.declared.place.Place.{Place}
 use Rattle.wrp_world.specs.declared.plant.Plant.{Plant}
 use Rattle.wrp_world.specs.Moved.{move_of}
 use Rattle.wrp_world.specs.Plant.{PlantIs}
-use Rattle.wrp_world.specs.Premises.{checks_of, is_holdover, noise_checks, received_at}
+use Rattle.wrp_world.specs.Premises.{checks_of, noise_checks, received_at}
 use Rattle.wrp_world.specs.Run.{IsSaid}
 use Rattle.wrp_world.specs.Setting.{Setting, end_at, entry_at, of_node, place_of}
 use Rattle.wrp_world.specs.StandsFor.{StandsFor, WorldOf}

@@ -3,8 +3,9 @@ ghost use Rattle.std.specs.Prelude.{◌≡◌, ◌<◌, ◌≤◌, ◌^◌, ◌&
 ghost use Rattle.std.specs.List.{position};
 ghost use Rattle.std.specs.Option.{is_some};
 ghost use Rattle.wrp_base.specs.Network.{link_above};
+ghost use Rattle.wrp_servo.specs.Sampling.{is_holdover};
 ghost use Rattle.wrp_node.specs.NodeAt.{dac_of};
-ghost use Rattle.wrp_world.specs.Premises.{is_holdover, rate_of};
+ghost use Rattle.wrp_world.specs.Premises.{rate_of};
 ghost use Rattle.wrp_world.specs.Setting.{above, node_setting_of};
 ghost use Rattle.wrp_world.specs.StandsFor.{IsValid, Tells, off_of, time_of};
 ghost use Rattle.wrp_world.specs.WorldAt.{has_carrier, reading};

@@ -1,6 +1,7 @@
 //! Which premise a time breaks that passes: the rates of clocks are asked of the nodes.
 ghost use Rattle.std.specs.Prelude.{◌≡◌, ◌<◌, ◌≤◌, length, flat_map, IfSome, Result};
 ghost use Rattle.wrp_base.specs.declared.message.PtpMsg.{PtpMsg};
+ghost use Rattle.wrp_servo.specs.Sampling.{is_holdover};
 ghost use Rattle.wrp_frame.specs.declared.fault.FrameFault.{FrameFault};
 ghost use Rattle.wrp_world.specs.Checks.{told_of};
 ghost use Rattle.wrp_world.specs.declared.event.Event.TheVariants as event;
@@ -20,7 +21,7 @@ use wrp_base::{NodeCfg, ServoState};
 
 // Whether a servo is in HOLDOVER.
 fn is_holdover(state: ServoState) -> bool
-    ensures { result ≡ premise.is_holdover state }
+    ensures { result ≡ is_holdover state }
 {
     matches!(state, ServoState::Holdover)
 }
