@@ -7,6 +7,7 @@ mod database;
 mod faults;
 mod judging;
 mod keys;
+mod met;
 mod name;
 mod place;
 mod points;
