@@ -2,6 +2,8 @@ pub mod Values
 pub mod Refusals
 pub mod Refused
 pub mod Inserts
+pub mod NamesMet
+pub mod Passes
 pub mod Depth
 pub mod ReadBack
 pub mod Kept

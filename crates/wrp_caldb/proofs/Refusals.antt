@@ -1,5 +1,5 @@
--- The codes tried in turn give the least one that has a place.
-use Rattle.std.proofs.Common.{◌≡◌, ◌↔◌, ◌<◌, Option, None, Some, refl, subst, arith}
+-- The codes tried in turn give the least one that has a place; memory may be wanting for the answer.
+use Rattle.std.proofs.Common.{◌≡◌, ◌↔◌, ◌<◌, Option, None, Some, Result, Ok, Err, IfOk, refl, sym, subst, arith}
 use Rattle.std.specs.Option.{option_or}
 use Rattle.std.proofs.lemmas.Option.{same_Some}
 use Rattle.wrp_caldb.specs.Place.{PlaceAt}
@@ -90,3 +90,8 @@ least_none first = (
   λ e code. rw (picked first code) at (none_chosen (first co.UnknownKey) (first co.Missing) (first co.Range) (first co.Twice) code e),
   λ none. rw (none co.UnknownKey, none co.Missing, none co.Range, none co.Twice) refl,
 )
+
+-- what holds of a value holds of an answer that is this value, where it is one
+pub on_answer : {X E : Type 0} (P : X → Type 0) (value : X) (answer : Result X E) → IfOk answer (λ x. x ≡ value) → P value → IfOk answer P
+on_answer P value (Ok x) is holds = subst P (sym is) holds
+on_answer P value (Err error) is holds = tt

@@ -1,6 +1,7 @@
 pub mod Calibration
 pub mod Database
 pub mod Key
+pub mod Met
 pub mod Name
 pub mod Place
 pub mod Points

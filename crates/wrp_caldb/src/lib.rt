@@ -8,6 +8,7 @@ mod faults;
 mod judging;
 mod keys;
 mod laws;
+mod met;
 mod name;
 mod place;
 mod points;

@@ -242,12 +242,13 @@ pub fn fault_at(alloc: Global, code: Code, place: &Place) -> ConfFault
 fn answer_of(alloc: Global, others: Others, doc: &Table) -> Result<CalDb, ConfFault>
     ensures { IsAnswerOf others (table_view doc.now) result }
 {
-    match refusal(others, doc) {
-        Some((code, place)) => Err(fault_at(alloc, code, &place)),
-        None => match database_of(alloc, others, doc) {
+    match refusal(alloc, others, doc) {
+        Ok(Some((code, place))) => Err(fault_at(alloc, code, &place)),
+        Ok(None) => match database_of(alloc, others, doc) {
             Ok(database) => Ok(database),
             Err(error) => Err(ConfFault::Memory(error)),
         },
+        Err(error) => Err(ConfFault::Memory(error)),
     }
 }
 

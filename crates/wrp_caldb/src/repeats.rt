@@ -1,7 +1,9 @@
 //! What stands twice: a name among tables of a kind, and the wavelengths of a pair in its module.
-ghost use Rattle.std.specs.Prelude.{◌≡◌, ◌≤◌, Some, None, map, option_copied, length, take};
+ghost use Rattle.std.specs.Prelude.{◌≡◌, ◌≤◌, List, Some, None, map, option_copied, length, take};
 ghost use Rattle.std.specs.List.{list_any};
+ghost use Rattle.toml.specs.Data.{Data, Members};
 ghost use Rattle.toml.specs.View.{view, table_view};
+ghost use Rattle.wrp_caldb.specs.Met.{IsTold};
 ghost use Rattle.wrp_caldb.specs.Repeats.{are_same_texts, are_same_numbers, name_in, has_name_of, integer_in, has_number_of, has_wavelengths_of, place_of_name, place_of_pair};
 
 use crate::place::{At, Place};
@@ -54,8 +56,26 @@ fn has_name_before(values: &[Value], count: usize, table: &Table) -> bool
     any_has_name_of(table, &values[..count])
 }
 
+/// The key `name`, where the code is `Twice` and the table was told to have the name of an earlier
+/// one.
+pub fn place_of_repeat(code: Code, at: At, repeats: bool) -> Option<Place>
+    ensures { (earlier : List Data) (table : Members) → IsTold code earlier table repeats
+        → result ≡ place_of_name code at earlier table }
+{
+    match code {
+        Code::Twice => {
+            if repeats {
+                Some(Place::of_key(at, "name"))
+            } else {
+                None
+            }
+        }
+        Code::UnknownKey | Code::Missing | Code::Range => None,
+    }
+}
+
 /// The key `name`, where the code is `Twice` and one of the first values is a table with the same
-/// name.
+/// name. It searches them one by one, so it is for the short lists of nodes and links alone.
 pub fn place_of_name(
     code: Code,
     at: At,
@@ -131,7 +151,8 @@ fn has_wavelengths_before(values: &[Value], count: usize, table: &Table) -> bool
     any_has_wavelengths_of(table, &values[..count])
 }
 
-// The pair, where one of the first values is a pair of the same wavelengths.
+// The pair, where one of the first values is a pair of the same wavelengths. It searches them one by
+// one: where `Twice` is looked for, a module has at most 16 pairs, since more are out of range.
 pub fn place_of_pair(
     code: Code,
     at: At,

@@ -1,6 +1,10 @@
 //! Where a network file is refused for what one of its tables says: the first place of each code, in
 //! the order of the places.
-ghost use Rattle.std.specs.Prelude.{◌≡◌, ◌↔◌, ◌≤◌, ◌<◌, Some, None, map, length, take, option_copied};
+//!
+//! Texts that stand twice are searched for among the tables before each one. The lists are short
+//! then: `Twice` is looked for where nothing is out of range, and so among at most 64 nodes and 63
+//! links. The modules and the fibres, of which there may be thousands, are judged by `wrp_caldb`.
+ghost use Rattle.std.specs.Prelude.{◌≡◌, ◌↔◌, ◌≤◌, ◌<◌, Some, None, IfOk, map, length, take, option_copied};
 ghost use Rattle.std.specs.List.{list_any};
 ghost use Rattle.toml.specs.View.{view, table_view};
 ghost use Rattle.wrp_caldb.specs.Database.{database_of};
@@ -14,6 +18,7 @@ use crate::ends::{are_same_texts, text_at};
 use crate::keys::{clock_in, head_rows, link_row, node_row, node_rows, top_rows};
 use crate::link_rows::place_in_link_table;
 use crate::settings::network_rows;
+use std::alloc::{AllocError, Global};
 use toml::{Table, Value};
 use wrp_base::Clock;
 use wrp_caldb::{
@@ -273,52 +278,69 @@ fn place_at_links(code: Code, doc: &Table, lists: &Lists) -> Option<Place>
 }
 
 // The first place of a code in the text.
-fn first_place(code: Code, doc: &Table, network: &Table, lists: &Lists) -> Option<Place>
+fn first_place(
+    alloc: Global,
+    code: Code,
+    doc: &Table,
+    network: &Table,
+    lists: &Lists,
+) -> Result<Option<Place>, AllocError>
     requires network { table_view network.now ≡ network_in (table_view doc.now) }
     requires lists { lists.now ≡ database_of (table_view doc.now) }
-    ensures { result ≡ first_place (table_view doc.now) code }
+    ensures { IfOk result (λ place. place ≡ first_place (table_view doc.now) code) }
 {
     if let Some(place) = place_in_head(code, doc, network) {
-        return Some(place);
+        return Ok(Some(place));
     }
     if let Some(place) = place_at_nodes(code, doc, network) {
-        return Some(place);
+        return Ok(Some(place));
     }
     match place_at_links(code, doc, lists) {
-        Some(place) => Some(place),
-        None => place_in_lists(code, doc),
+        Some(place) => Ok(Some(place)),
+        None => place_in_lists(alloc, code, doc),
     }
 }
 
 // The least code that has a place, with its first place.
-fn least_of(doc: &Table, network: &Table, lists: &Lists) -> Option<(Code, Place)>
+fn least_of(
+    alloc: Global,
+    doc: &Table,
+    network: &Table,
+    lists: &Lists,
+) -> Result<Option<(Code, Place)>, AllocError>
     requires network { table_view network.now ≡ network_in (table_view doc.now) }
     requires lists { lists.now ≡ database_of (table_view doc.now) }
-    ensures { result ≡ least_of (first_place (table_view doc.now)) }
+    ensures { IfOk result (λ least. least ≡ least_of (first_place (table_view doc.now))) }
 {
-    if let Some(place) = first_place(Code::UnknownKey, doc, network, lists) {
-        return Some((Code::UnknownKey, place));
+    if let Some(place) = first_place(alloc, Code::UnknownKey, doc, network, lists)? {
+        return Ok(Some((Code::UnknownKey, place)));
     }
-    if let Some(place) = first_place(Code::Missing, doc, network, lists) {
-        return Some((Code::Missing, place));
+    if let Some(place) = first_place(alloc, Code::Missing, doc, network, lists)? {
+        return Ok(Some((Code::Missing, place)));
     }
-    if let Some(place) = first_place(Code::Range, doc, network, lists) {
-        return Some((Code::Range, place));
+    if let Some(place) = first_place(alloc, Code::Range, doc, network, lists)? {
+        return Ok(Some((Code::Range, place)));
     }
-    match first_place(Code::Twice, doc, network, lists) {
-        Some(place) => Some((Code::Twice, place)),
-        None => None,
+    match first_place(alloc, Code::Twice, doc, network, lists)? {
+        Some(place) => Ok(Some((Code::Twice, place))),
+        None => Ok(None),
     }
 }
 
 /// Why a table of a network file is refused: the least code that has a place, at its first place.
-/// `network` is the table `network` of the text, and `lists` are its modules and fibres.
-pub fn refusal(doc: &Table, network: &Table, lists: &Lists) -> Option<(Code, Place)>
+/// `network` is the table `network` of the text, and `lists` are its modules and fibres. Memory is
+/// taken where no code below `Twice` has a place.
+pub fn refusal(
+    alloc: Global,
+    doc: &Table,
+    network: &Table,
+    lists: &Lists,
+) -> Result<Option<(Code, Place)>, AllocError>
     requires network { table_view network.now ≡ network_in (table_view doc.now) }
     requires lists { lists.now ≡ database_of (table_view doc.now) }
-    ensures refused { (code : Code) (place : PlaceAt) →
-        (result ≡ Some (code, place)) ↔ IsRefused (table_view doc.now) code place }
-    ensures taken { (result ≡ None) ↔ IsTaken (table_view doc.now) }
+    ensures refused { (code : Code) (place : PlaceAt) → IfOk result (λ refusal.
+        (refusal ≡ Some (code, place)) ↔ IsRefused (table_view doc.now) code place) }
+    ensures taken { IfOk result (λ refusal. (refusal ≡ None) ↔ IsTaken (table_view doc.now)) }
 {
-    least_of(doc, network, lists)
+    least_of(alloc, doc, network, lists)
 }

@@ -79,9 +79,10 @@ fn answer_for_lists(
     ensures value { IsAnswerOf (table_view doc.now) result }
     ensures accepted { IfOk result (λ net. IsAccepted net.cfg net.db) }
 {
-    match refusal(doc, network, &lists) {
-        Some((code, place)) => Err(fault_at(alloc, code, &place)),
-        None => answer_for_taken(alloc, doc, network, lists),
+    match refusal(alloc, doc, network, &lists) {
+        Ok(Some((code, place))) => Err(fault_at(alloc, code, &place)),
+        Ok(None) => answer_for_taken(alloc, doc, network, lists),
+        Err(error) => Err(ConfFault::Memory(error)),
     }
 }
 
