@@ -271,7 +271,7 @@ link_fits doc taken l t at link is =
 
 -- The network
 
-ranges : (doc : Members) (cfg : NetCfg) → IsTaken doc → IsNetworkOf doc cfg → HasRanges cfg
+pub ranges : (doc : Members) (cfg : NetCfg) → IsTaken doc → IsNetworkOf doc cfg → HasRanges cfg
 ranges doc cfg taken is =
     let s = setting_ranges doc cfg taken is in
     let fit = delays_fit (database_of doc) (sound_database doc taken) in
@@ -320,7 +320,7 @@ some_table : (ds : List Data) → no_node co.Missing ds ≡ None → 0 < length 
 some_table [] e = cc e
 some_table (d ∷ ds) e = omega arith
 
-tree : (doc : Members) (cfg : NetCfg) → IsTaken doc → IsNetworkOf doc cfg → HasNoFault cfg → IsTree cfg
+pub tree : (doc : Members) (cfg : NetCfg) → IsTaken doc → IsNetworkOf doc cfg → HasNoFault cfg → IsTree cfg
 tree doc cfg taken is none =
     let count = count_nodes doc cfg is in
     let some = some_table (tables_at (codes "node") doc) (parts_of doc taken co.Missing).some_node in

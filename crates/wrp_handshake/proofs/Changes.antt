@@ -9,9 +9,9 @@ use Rattle.wrp_link.specs.declared.interface.LinkIn.{LinkIn}
 use Rattle.wrp_link.specs.declared.interface.LinkIn.TheVariants.{CarrierUp}
 use Rattle.wrp_link.specs.declared.interface.LinkSet.{LinkSet}
 use Rattle.wrp_link.specs.Rows.{row_of}
-use Rattle.wrp_link.proofs.Runs.{by_row_role}
 use Rattle.wrp_link.proofs.Orders.{idle_belongs}
 use Rattle.wrp_handshake.specs.Ends.{Port, Ends, Change, Passes, Hears, Starts, Lights, end_of, with_end, heard, MayHear, changed, MayCome, ends_after, AllMayCome, new_port, new_ends, OutlivesFrames, CanBe}
+use Rattle.wrp_link.proofs.Runs.{by_row_role}
 use Rattle.wrp_handshake.proofs.Stages.{engaged, bound}
 use Rattle.wrp_handshake.proofs.Times.{calm_later}
 use Rattle.wrp_handshake.proofs.Keeps.{view_of, Ghost, PortKeeps, Tied}

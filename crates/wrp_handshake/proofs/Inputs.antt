@@ -15,10 +15,10 @@ use Rattle.wrp_link.specs.declared.interface.LinkIn.TheVariants.{Msg, Tick}
 use Rattle.wrp_link.specs.Rows.{Row, NoRow, Stays, Moves, Keeps, Resends, Fails, Waits, Counts, CarrierComes, CarrierGoes, row_of}
 use Rattle.wrp_link.specs.Table.{is_same, counted}
 use Rattle.wrp_link.proofs.Fits.{Belongs}
-use Rattle.wrp_link.proofs.Orders.{idle_belongs}
 use Rattle.wrp_check.specs.Stretches.{movers_of, with_mover}
 use Rattle.wrp_link.proofs.Deltas.{is_same_self}
 use Rattle.wrp_handshake.specs.Ends.{Sending, Port, stamped, mover_of, ticked_by, marked, port_by, heard, MayHear}
+use Rattle.wrp_link.proofs.Orders.{idle_belongs}
 use Rattle.wrp_handshake.proofs.Stages.{engaged, bound, numbered, opens, SendsAll, Kind, opening, engaging, answering, binding, going_on, FitsMove}
 use Rattle.wrp_handshake.proofs.RowFits.{RowFits, row_fits}
 use Rattle.wrp_handshake.proofs.Times.{Calm, calm_later, calm_tick}

@@ -9,10 +9,10 @@ use Rattle.wrp_base.specs.declared.link.Module.{Module}
 use Rattle.wrp_base.specs.declared.link.Role.{Role}
 use Rattle.wrp_base.specs.declared.link.Role.TheVariants.{Master, Slave}
 use Rattle.wrp_base.specs.declared.message.WrMsg.{WrMsg}
-use Rattle.wrp_base.proofs.Options.{pair_there}
 use Rattle.wrp_base.specs.declared.message.WrMsg.TheVariants.{Calibrated as CALIBRATED, ModeOn as WR_MODE_ON}
 use Rattle.wrp_base.specs.Network.{other_of}
 use Rattle.wrp_base.proofs.Integers.{int_le_self}
+use Rattle.wrp_base.proofs.Options.{pair_there}
 use Rattle.wrp_link.specs.declared.interface.LinkIn.{LinkIn}
 use Rattle.wrp_link.specs.declared.interface.LinkIn.TheVariants.{Msg, CarrierUp}
 use Rattle.wrp_link.specs.declared.interface.LinkSet.{LinkSet}
@@ -22,10 +22,10 @@ use Rattle.wrp_link.specs.Rows.{Row, NoRow, Stays, Moves, Keeps, Resends, Fails,
 use Rattle.wrp_link.specs.Table.{by_row, sent_by, counted, ticked, retried}
 use Rattle.wrp_link.specs.LinkAt.{wait_of}
 use Rattle.wrp_link.proofs.Fits.{Fits, knows, row_fits as link_fits}
-use Rattle.wrp_link.proofs.Runs.{by_row_role}
 use Rattle.wrp_link.proofs.Orders.{IsOrdered, after_ordered, new_ordered}
 use Rattle.wrp_link.proofs.Deltas.{is_same_self, out_of_idle}
 use Rattle.wrp_handshake.specs.Ends.{Sending, Port, Ends, Change, Passes, Hears, Starts, Lights, end_of, with_end, IsAmong, stamped, mover_of, ticked_by, marked, port_by, heard, MayHear, IsNoCarrier, changed, MayCome, ends_after, AllMayCome, new_ends, lit_by, lit_at, placed_by, placed_at, OutlivesFrames, CanBe}
+use Rattle.wrp_link.proofs.Runs.{by_row_role}
 use Rattle.wrp_handshake.specs.Deltas.{KnowsDeltas}
 use Rattle.wrp_handshake.specs.Laws.{IsAwake, IsLongAgo}
 use Rattle.wrp_handshake.proofs.Stages.{Kind, opening, engaging, answering, binding, going_on, FitsMove}

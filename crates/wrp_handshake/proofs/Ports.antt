@@ -5,9 +5,9 @@ use Rattle.wrp_base.specs.declared.link.LinkState.{LinkState}
 use Rattle.wrp_base.specs.declared.link.LinkState.TheVariants.{Idle}
 use Rattle.wrp_base.specs.declared.link.Mark.{Mark}
 use Rattle.wrp_base.specs.declared.link.Role.{Role}
-use Rattle.wrp_base.proofs.Lists.{all_weaker}
 use Rattle.wrp_base.specs.declared.message.WrMsg.{WrMsg}
 use Rattle.wrp_base.proofs.Integers.{int_le_self}
+use Rattle.wrp_base.proofs.Lists.{all_weaker}
 use Rattle.wrp_link.proofs.Fits.{Belongs}
 use Rattle.wrp_check.specs.Stretches.{joined, stretches_of, BeganBy}
 use Rattle.wrp_check.proofs.Entering.{entered_more}

@@ -5,9 +5,9 @@ use Rattle.std.proofs.lemmas.Map.Steps.{length-le_from_distinct_below}
 use Rattle.std.specs.List.{AllByRecursion, IsDistinct, list_any, filter, find, flat_map}
 use Rattle.wrp_base.specs.declared.configuration.NetCfg.{NetCfg}
 use Rattle.wrp_base.specs.declared.network.LinkCfg.{LinkCfg}
-use Rattle.wrp_base.proofs.Naturals.{same_suc}
 use Rattle.wrp_base.specs.Network.{End, ends_of, HasLinkRanges, HasRanges, IsTree, NamesNoPortTwice, link_above}
 use Rattle.wrp_base.proofs.Lists.{length_map}
+use Rattle.wrp_base.proofs.Naturals.{same_suc}
 use Rattle.wrp_data.specs.declared.datasets.PortDs.{PortDs}
 use Rattle.wrp_node.specs.New.{OfDifferentNumbers}
 use Rattle.wrp_node.specs.NodeAt.{is_slave, slave_in}

@@ -1,9 +1,9 @@
 -- What an event that breaks no premise keeps.
 use Rattle.std.proofs.Common.{◌≡◌, ℕ, ℤ, pos, ◌+◌, ◌*◌, ◌/◌, ◌^◌, ◌≤◌, ◌≤ℤ◌, ◌-ℤ◌, unsigned_abs, Bool, true, false, int_lt, cond, List, [], ◌∷◌, Option, Some, None, Result, Ok, Err, refl, ap, ◌∙◌, sym, arith}
 use Rattle.std.proofs.lemmas.Int.{ints}
-use Rattle.wrp_base.proofs.Naturals.{nat_le_trans}
 use Rattle.std.proofs.Math.Nat.{mul-le-mul_left}
 use Rattle.wrp_base.proofs.Integers.{pos_le}
+use Rattle.wrp_base.proofs.Naturals.{nat_le_trans}
 use Rattle.wrp_plain.specs.declared.settings.PlainSet.{PlainSet}
 use Rattle.wrp_plain.specs.declared.event.PlainEvent.{PlainEvent}
 use Rattle.wrp_plain.specs.declared.event.PlainEvent.TheVariants.{Pass, Exch}

@@ -1,9 +1,9 @@
 -- The lesser of two reports, taken over a list, is the first of the least bound.
 use Rattle.std.proofs.Common.{◌≡◌, ◌≢◌, ℤ, ◌+◌, ◌*◌, ◌^◌, ◌≤◌, unsigned_abs, Bool, true, false, not, ◌&&◌, int_lt, cond, length, List, [], ◌∷◌, map, find, fold, Option, Some, None, IfSome, IsSome, rules, refl, ap, ap₂, ◌∙◌, sym, subst, arith}
 use Rattle.std.specs.List.{list_all}
-use Rattle.wrp_base.proofs.Booleans.{and_first as left_of, and_second as right_of}
 use Rattle.std.proofs.lemmas.Int.{ints}
 use Rattle.std.proofs.lemmas.Bool.{and_from}
+use Rattle.wrp_base.proofs.Booleans.{and_first as left_of, and_second as right_of}
 use Rattle.wrp_plain.specs.declared.settings.PlainReport.{PlainReport}
 use Rattle.wrp_plain.specs.declared.settings.PlainSet.{PlainSet}
 use Rattle.wrp_plain.specs.declared.kept.Kept.{Kept}

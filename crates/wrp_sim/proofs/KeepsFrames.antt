@@ -3,17 +3,17 @@ use Rattle.std.proofs.Common.{◌≡◌, inl, inr, ◌∙◌, refl, ap, sym, sub
 use Rattle.std.proofs.lemmas.Int.{ints}
 use Rattle.std.specs.List.{AllByRecursion, find}
 use Rattle.std.specs.Option.{option_and_then, option_map_or}
-use Rattle.std.proofs.lemmas.Option.{none-some, same_Some}
 use Rattle.std.specs.Ordering.{int_eq}
 use Rattle.std.proofs.lemmas.Bool.{and_parts, cases_Bool}
+use Rattle.std.proofs.lemmas.Option.{none-some, same_Some}
 use Rattle.wrp_base.specs.Clock.{step_of}
 use Rattle.wrp_base.specs.declared.link.Role.{Role}
 use Rattle.wrp_base.specs.declared.link.Role.TheVariants.{Master, Slave}
 use Rattle.wrp_base.specs.declared.network.LinkCfg.{LinkCfg}
 use Rattle.wrp_base.specs.declared.time.Raw.{Raw}
-use Rattle.wrp_base.proofs.Naturals.{eq_self, nat_le_self}
 use Rattle.wrp_base.specs.Network.{End, node_count, other_of}
 use Rattle.wrp_base.proofs.Booleans.{not_both}
+use Rattle.wrp_base.proofs.Naturals.{eq_self, nat_le_self}
 use Rattle.wrp_bounds.specs.Times.{frame_life, reach}
 use Rattle.wrp_world.specs.EventAt.{IsRaw}
 use Rattle.wrp_world.specs.declared.event.Event.TheVariants.{Depart, Arrive, Deliver}

@@ -4,16 +4,16 @@ use Rattle.std.proofs.lemmas.Bool.Decides.{Decides-int_eq, eqb_tells, nat_tests}
 use Rattle.std.proofs.lemmas.Int.{ints}
 use Rattle.std.specs.List.{AllByRecursion, find}
 use Rattle.std.specs.Option.{option_and_then, option_map_or}
-use Rattle.std.proofs.lemmas.Option.{none-some}
 use Rattle.std.specs.Ordering.{int_eq}
 use Rattle.std.proofs.lemmas.Bool.{and_parts}
+use Rattle.std.proofs.lemmas.Option.{none-some}
 use Rattle.wrp_base.specs.declared.message.PtpMsg.{PtpMsg}
 use Rattle.wrp_base.specs.declared.network.LinkCfg.{LinkCfg}
-use Rattle.wrp_base.proofs.Lists.{has_item}
 use Rattle.wrp_base.specs.declared.network.NodeCfg.{NodeCfg}
-use Rattle.wrp_base.proofs.Integers.{le_plus}
 use Rattle.wrp_base.specs.Network.{node_count}
 use Rattle.wrp_base.proofs.Booleans.{not_both}
+use Rattle.wrp_base.proofs.Integers.{le_plus}
+use Rattle.wrp_base.proofs.Lists.{has_item}
 use Rattle.wrp_bounds.specs.Times.{longest_tick, shortest_tick}
 use Rattle.wrp_frame.specs.declared.fault.FrameFault.{FrameFault}
 use Rattle.wrp_world.specs.declared.event.Event.{Event}

@@ -11,9 +11,9 @@ use Rattle.wrp_node.specs.NodeAt.{link_at}
 use Rattle.wrp_world.specs.declared.event.Event.{Event}
 use Rattle.wrp_world.specs.declared.event.Event.TheVariants.{Pass, Tick, Sample, Depart, Arrive, Deliver, Noise, Down, Up, Cut, Join}
 use Rattle.wrp_world.specs.declared.place.Place.{Place}
-use Rattle.wrp_world.proofs.RunStamps.{all_given_frame}
 use Rattle.wrp_world.specs.Checks.{AllHold}
 use Rattle.wrp_world.proofs.RunChanges.{still_up}
+use Rattle.wrp_world.proofs.RunStamps.{all_given_frame}
 use Rattle.wrp_world.specs.Given.{Given, given_by, gives_all, world_step}
 use Rattle.wrp_world.specs.Moved.{arrived, departing, frame_after, loses, moved, removed, samples_at, waiting_at}
 use Rattle.wrp_world.specs.Premises.{Accepts, depart_checks}

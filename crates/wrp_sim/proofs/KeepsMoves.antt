@@ -5,11 +5,11 @@ use Rattle.std.proofs.lemmas.Int.{ints}
 use Rattle.std.specs.Option.{option_map_or}
 use Rattle.wrp_base.specs.declared.link.Role.{Role}
 use Rattle.wrp_base.specs.declared.link.Role.TheVariants.{Master}
-use Rattle.wrp_base.proofs.Naturals.{le_of_same}
 use Rattle.wrp_base.specs.declared.message.PtpMsg.{PtpMsg}
-use Rattle.wrp_base.proofs.Integers.{int_plus_zero}
 use Rattle.wrp_base.specs.declared.time.Raw.{Raw}
 use Rattle.wrp_base.proofs.Booleans.{not_both}
+use Rattle.wrp_base.proofs.Integers.{int_plus_zero}
+use Rattle.wrp_base.proofs.Naturals.{le_of_same}
 use Rattle.wrp_bounds.specs.Times.{reach}
 use Rattle.wrp_frame.specs.declared.fault.FrameFault.{FrameFault}
 use Rattle.wrp_node.specs.declared.interface.Input.{Input}
@@ -19,11 +19,11 @@ use Rattle.wrp_world.specs.declared.clocks.ClockState.{ClockState}
 use Rattle.wrp_world.specs.declared.event.Event.{Event}
 use Rattle.wrp_world.specs.declared.event.Event.TheVariants.{Pass, Tick, Sample, Depart, Arrive, Deliver, Noise, Down, Up, Cut, Join}
 use Rattle.wrp_world.specs.declared.event.Swap.{Swap}
-use Rattle.wrp_world.proofs.RunTicks.{NoTick, told_same}
 use Rattle.wrp_world.specs.declared.fibres.FibreState.{FibreState}
-use Rattle.wrp_world.proofs.RunSettled.{up_told}
 use Rattle.wrp_world.specs.declared.place.Place.{Place}
 use Rattle.wrp_world.proofs.RunMoves.{ticked_where}
+use Rattle.wrp_world.proofs.RunSettled.{up_told}
+use Rattle.wrp_world.proofs.RunTicks.{NoTick, told_same}
 use Rattle.wrp_world.specs.Given.{Given, at_ports, clock_told, comes_from, delivered, given, given_by, given_plain, gives, gives_all, goes_from, sent_oldest, step_of, ticked_by, world_step}
 use Rattle.wrp_world.specs.Moved.{arrived, behind_first, departed_after, departing, end_after, fibre_after, frame_after, is_place, loses, move_of, moved, one_more, port_number, removed, samples_at, swap_at, waiting_at, with_swap}
 use Rattle.wrp_world.specs.RunLaws.{SameModule}

@@ -5,9 +5,9 @@ use Rattle.std.specs.Option.{option_and_then, option_map_or}
 use Rattle.std.proofs.lemmas.Option.{none-some}
 use Rattle.wrp_base.specs.declared.link.Role.TheVariants.{Master, Slave}
 use Rattle.wrp_base.specs.declared.network.LinkCfg.{LinkCfg}
-use Rattle.wrp_base.proofs.Naturals.{nat_le_self}
 use Rattle.wrp_base.specs.Network.{node_count}
 use Rattle.wrp_base.proofs.Integers.{le_plus}
+use Rattle.wrp_base.proofs.Naturals.{nat_le_self}
 use Rattle.wrp_world.specs.Checks.{AllHold, only_where, stands}
 use Rattle.wrp_world.specs.Premises.{beat_by, beat_checks, sample_checks}
 use Rattle.wrp_world.specs.Setting.{Setting, above, link_of, of_node}

@@ -101,7 +101,7 @@ falling_in Mhz62 n h k = (omega (arith, h, k), omega (arith, h, k))
 tag_in : (x : ℕ) → x % 16384 ≤ 16_383
 tag_in x = omega arith
 
-raw_by : (s : Setting) (transition : ℕ) (at : ℤ) → IsTold s at → IsRaw (true_raw s transition at)
+pub raw_by : (s : Setting) (transition : ℕ) (at : ℤ) → IsTold s at → IsRaw (true_raw s transition at)
 raw_by s transition (pos n) h = record {
   rising = rising_in s.cfg.clock n (pos_le (2 * period_of s.cfg.clock) n h.least) (pos_le n (2 ^ 62 * period_of s.cfg.clock) h.most);
   falling = falling_in s.cfg.clock n (pos_le (2 * period_of s.cfg.clock) n h.least) (pos_le n (2 ^ 62 * period_of s.cfg.clock) h.most);

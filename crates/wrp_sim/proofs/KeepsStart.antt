@@ -3,15 +3,15 @@ use Rattle.std.proofs.Common.{◌≡◌, refl, ap, sym, ℕ, ◌+◌, ◌-◌, �
 use Rattle.std.proofs.lemmas.Int.{ints}
 use Rattle.std.specs.Int.Signed.{le_z}
 use Rattle.std.specs.List.{AllByRecursion}
-use Rattle.std.proofs.lemmas.Option.{none-some}
 use Rattle.std.specs.Option.{is_some, option_and_then}
 use Rattle.std.proofs.lemmas.Bool.{and_parts, not-true, not_from_false}
+use Rattle.std.proofs.lemmas.Option.{none-some}
 use Rattle.wrp_base.specs.declared.message.PtpMsg.{PtpMsg}
-use Rattle.wrp_base.proofs.Naturals.{le_one_more, nat_le_self}
 use Rattle.wrp_base.specs.declared.network.LinkCfg.{LinkCfg}
-use Rattle.wrp_base.proofs.Lists.{has_item}
 use Rattle.wrp_base.specs.Network.{link_above, node_count}
 use Rattle.wrp_base.proofs.Booleans.{not_both}
+use Rattle.wrp_base.proofs.Lists.{has_item}
+use Rattle.wrp_base.proofs.Naturals.{le_one_more, nat_le_self}
 use Rattle.wrp_bounds.specs.Times.{longest_tick, reach, shortest_tick}
 use Rattle.wrp_frame.specs.declared.fault.FrameFault.{FrameFault}
 use Rattle.wrp_config.proofs.Taken.{none_at}

@@ -5,17 +5,17 @@ use Rattle.std.specs.Int.Signed.{le_z}
 use Rattle.std.specs.List.{AllByRecursion}
 use Rattle.std.proofs.lemmas.Option.{none-some}
 use Rattle.wrp_base.specs.declared.message.PtpMsg.{PtpMsg}
-use Rattle.wrp_base.proofs.Naturals.{nat_le_trans, not_next}
 use Rattle.wrp_base.specs.Network.{node_count}
 use Rattle.wrp_base.proofs.Booleans.{not_both}
+use Rattle.wrp_base.proofs.Naturals.{nat_le_trans, not_next}
 use Rattle.wrp_bounds.specs.Times.{longest_tick, shortest_tick}
 use Rattle.wrp_frame.specs.declared.fault.FrameFault.{FrameFault}
 use Rattle.wrp_world.specs.declared.event.Event.{Event}
 use Rattle.wrp_world.specs.declared.event.Event.TheVariants.{Pass, Tick, Sample, Depart, Arrive, Deliver, Noise, Down, Up, Cut, Join}
 use Rattle.wrp_world.specs.declared.fibres.FibreState.{FibreState}
-use Rattle.wrp_world.proofs.RunStamps.{all_given_frame}
 use Rattle.wrp_world.specs.EventAt.{link_count}
 use Rattle.wrp_world.proofs.RunChanges.{joined_where, still_up}
+use Rattle.wrp_world.proofs.RunStamps.{all_given_frame}
 use Rattle.wrp_world.specs.Given.{Given, given_by, world_step}
 use Rattle.wrp_world.specs.Moved.{departing, moved, removed, time_after, waiting_at}
 use Rattle.wrp_world.specs.declared.place.Place.{Place}

@@ -4,13 +4,13 @@ use Rattle.std.proofs.lemmas.Bool.{cases_lt, and_parts, cases_Bool}
 use Rattle.std.proofs.lemmas.Int.{ints}
 use Rattle.std.specs.List.{AllByRecursion, filter, find}
 use Rattle.std.specs.Option.{option_map}
-use Rattle.wrp_base.proofs.Naturals.{nat_le_self}
 use Rattle.std.specs.Ordering.{int_eq}
 use Rattle.std.proofs.lemmas.Option.{none-some, same_Some}
 use Rattle.wrp_base.specs.declared.message.PtpMsg.{PtpMsg}
-use Rattle.wrp_base.proofs.Integers.{int_le_trans}
 use Rattle.wrp_base.specs.Network.{node_count}
 use Rattle.wrp_base.proofs.Booleans.{not_both}
+use Rattle.wrp_base.proofs.Integers.{int_le_trans}
+use Rattle.wrp_base.proofs.Naturals.{nat_le_self}
 use Rattle.wrp_bounds.specs.Times.{longest_tick, shortest_tick}
 use Rattle.wrp_frame.specs.declared.fault.FrameFault.{FrameFault}
 use Rattle.wrp_config.proofs.Taken.{none_at}

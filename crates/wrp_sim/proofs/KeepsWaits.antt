@@ -17,9 +17,9 @@ use Rattle.wrp_node.specs.Telling.{Step}
 use Rattle.wrp_world.specs.declared.clocks.ClockState.{ClockState}
 use Rattle.wrp_world.specs.declared.event.Event.{Event}
 use Rattle.wrp_world.specs.declared.event.Event.TheVariants.{Pass, Tick, Sample, Depart, Arrive, Deliver, Noise, Down, Up, Cut, Join}
-use Rattle.wrp_world.proofs.RunPorts.{one_of}
 use Rattle.wrp_world.specs.declared.fibres.FibreState.{FibreState}
 use Rattle.wrp_world.proofs.RunFrames.{with_swap_waiting}
+use Rattle.wrp_world.proofs.RunPorts.{one_of}
 use Rattle.wrp_world.specs.Given.{Given, at_ports, comes_from, delivered, delivered_by, delivered_to, end_given, given, given_by, given_plain, gives, gives_all, goes_from, sending, sent_oldest, step_of, taken_of, told_sending, world_step}
 use Rattle.wrp_world.specs.Moved.{behind_first, end_after, is_place, moved, port_number, swap_at, touches, waiting_at, with_swap}
 use Rattle.wrp_world.specs.Setting.{Setting, end_at, end_of, node_setting_of, is_of, link_of, place_of}

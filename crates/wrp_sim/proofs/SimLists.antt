@@ -1,8 +1,8 @@
 -- Lists by their places, and numbers one after another.
 use Rattle.std.proofs.Common.{◌≡◌, ◌∙◌, refl, ap, sym, subst, ℕ, zero, suc, ◌+◌, ◌-◌, ◌<◌, ◌≤◌, ℤ, Bool, true, false, cond, List, [], ◌∷◌, ◌++◌, map, find, fold, flat_map, take, drop, remove, slice_set, None, Some, option_map, slice_get, arith}
-use Rattle.wrp_base.proofs.Lists.{append_assoc}
 use Rattle.std.specs.Option.{option_or}
 use Rattle.std.proofs.lemmas.Option.{none-some, same_Some}
+use Rattle.wrp_base.proofs.Lists.{append_assoc}
 use Rattle.wrp_world.specs.Plant.{Each}
 use Rattle.wrp_world.specs.Setting.{from_on}
 

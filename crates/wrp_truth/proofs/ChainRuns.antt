@@ -10,9 +10,9 @@ use Rattle.wrp_base.specs.declared.link.Role.TheVariants.{Master}
 use Rattle.wrp_base.specs.declared.message.PtpMsg.{PtpMsg}
 use Rattle.wrp_base.specs.declared.network.LinkCfg.{LinkCfg}
 use Rattle.wrp_base.specs.Circle.{distance_round}
-use Rattle.wrp_base.proofs.Naturals.{eq_self}
 use Rattle.wrp_base.specs.Clock.{period_of, step_of as tag_step}
 use Rattle.wrp_base.proofs.Lists.{first_is}
+use Rattle.wrp_base.proofs.Naturals.{eq_self}
 use Rattle.wrp_bounds.specs.declared.numbers.HopNumbers.{HopNumbers}
 use Rattle.wrp_bounds.specs.Bounds.{numbers_of}
 use Rattle.wrp_bounds.specs.Hop.{detector_error as hop_error, gap_motion}
@@ -38,11 +38,11 @@ use Rattle.wrp_tracking.specs.Moment.{Moment, phase_at}
 use Rattle.wrp_tracking.proofs.Histories.{was_one}
 use Rattle.wrp_world.specs.declared.event.Event.{Event}
 use Rattle.wrp_world.specs.declared.event.Event.TheVariants.{Pass, Tick, Sample, Depart, Arrive, Deliver, Noise, Down, Up, Cut, Join}
-use Rattle.wrp_truth.proofs.SyncSamples.{good_where, no_good_of}
 use Rattle.wrp_world.specs.Checks.{AllHold, Holds, only_where, stands}
-use Rattle.wrp_truth.proofs.NodeSteps.{Stands}
 use Rattle.wrp_world.specs.EventAt.{FitsEvent}
 use Rattle.wrp_truth.proofs.HeldRuns.{one_turn}
+use Rattle.wrp_truth.proofs.NodeSteps.{Stands}
+use Rattle.wrp_truth.proofs.SyncSamples.{good_where, no_good_of}
 use Rattle.wrp_world.specs.Given.{Given, given_plain, step_of, taken_of, world_step}
 use Rattle.wrp_world.specs.Laws.{SampleKeepsBeatPattern}
 use Rattle.wrp_world.specs.Moved.{moved}

@@ -4,9 +4,9 @@ use Rattle.std.proofs.lemmas.Int.{ints}
 use Rattle.std.specs.List.{AllByRecursion}
 use Rattle.wrp_base.specs.declared.link.Role.TheVariants.{Slave}
 use Rattle.wrp_base.specs.declared.network.LinkCfg.{LinkCfg}
-use Rattle.wrp_base.proofs.Naturals.{eq_self}
 use Rattle.wrp_base.specs.Network.{End}
 use Rattle.wrp_base.proofs.Lists.{append_assoc}
+use Rattle.wrp_base.proofs.Naturals.{eq_self}
 use Rattle.wrp_bounds.specs.Bounds.{numbers_of}
 use Rattle.wrp_bounds.specs.declared.numbers.HopNumbers.{HopNumbers}
 use Rattle.wrp_bounds.specs.Times.{frame_life}
@@ -20,9 +20,9 @@ use Rattle.wrp_tracking.specs.History.{Was}
 use Rattle.wrp_tracking.specs.Moment.{Moment}
 use Rattle.wrp_tracking.proofs.Histories.{was_at_most}
 use Rattle.wrp_world.specs.declared.event.Event.TheVariants.{Depart}
-use Rattle.wrp_truth.proofs.SyncPasts.{fit_then, was_then}
 use Rattle.wrp_world.specs.declared.place.Place.{Place}
 use Rattle.wrp_truth.proofs.SyncHeld.{fewer}
+use Rattle.wrp_truth.proofs.SyncPasts.{fit_then, was_then}
 use Rattle.wrp_world.specs.Given.{given_by}
 use Rattle.wrp_world.specs.Moved.{departing, moved, waiting_at}
 use Rattle.wrp_world.specs.Run.{Happened, world_after}

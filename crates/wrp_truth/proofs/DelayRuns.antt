@@ -31,9 +31,9 @@ use Rattle.wrp_servo.specs.Sampling.{heard_as}
 use Rattle.wrp_servo.specs.Servo.{news_at, news_of}
 use Rattle.wrp_tracking.specs.DelayPieces.{PairTrue}
 use Rattle.wrp_world.specs.declared.event.Event.{Event}
-use Rattle.wrp_truth.proofs.SyncTold.{news_told}
 use Rattle.wrp_world.specs.declared.event.Event.TheVariants.{Tick, Sample, Depart, Deliver, Noise}
 use Rattle.wrp_truth.proofs.Renewals.{master_of}
+use Rattle.wrp_truth.proofs.SyncTold.{news_told}
 use Rattle.wrp_world.specs.Given.{Given as Told, given_plain, sending, taken_of}
 use Rattle.wrp_world.specs.Moved.{moved}
 use Rattle.wrp_world.specs.Run.{Happened, world_after}

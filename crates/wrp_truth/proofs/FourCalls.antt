@@ -1,9 +1,9 @@
 -- The measurement that stands in a servo, call by call: with it a chain stands, and only a measurement brings it; and the
 -- settings stay.
 use Rattle.std.proofs.Common.{◌≡◌, ◌⊎◌, inl, inr, ◌∙◌, refl, ap, sym, subst, ℕ, ◌-◌, ℤ, ◌&&◌, cond, Bool, true, false, is_some, List, [], ◌∷◌, Option, None, Some}
-use Rattle.std.proofs.lemmas.Option.{none-some, same_Some}
 use Rattle.std.specs.Prelude.{int_le, nat_le}
 use Rattle.std.proofs.lemmas.Bool.{false≢true}
+use Rattle.std.proofs.lemmas.Option.{none-some, same_Some}
 use Rattle.wrp_base.specs.declared.link.Deltas.{Deltas}
 use Rattle.wrp_base.specs.declared.link.ServoState.{ServoState}
 use Rattle.wrp_base.specs.declared.link.ServoState.TheVariants.{Uninit, SyncTai, SyncNsec, SyncPhase, WaitStable, Track, Holdover}
@@ -23,6 +23,7 @@ use Rattle.wrp_servo.specs.Table as table
 use Rattle.wrp_tracking.proofs.Ages.{ended_in-none}
 use Rattle.wrp_truth.proofs.HeldCalls.{IsNoMeasure}
 use Rattle.wrp_truth.proofs.LiveChains.{IsNoSample}
+use Rattle.wrp_truth.proofs.NodeSteps.{Stands}
 use Rattle.wrp_truth.proofs.TrackedSets.{ended_in_set}
 
 -- no measurement stands, or this one does, and with it a chain

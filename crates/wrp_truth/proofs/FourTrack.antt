@@ -42,6 +42,7 @@ use Rattle.wrp_truth.proofs.FourEvents.{KeptFrom, kept_from, kept_in_chain, only
 use Rattle.wrp_truth.proofs.FourMoments.{IsTicksAgo, MomentLaws, was_mapped, young}
 use Rattle.wrp_truth.proofs.FourRises.{fours_rise}
 use Rattle.wrp_truth.proofs.NodeRuns.{node_is}
+use Rattle.wrp_truth.proofs.Suffixes.{rest_length}
 use Rattle.wrp_truth.proofs.SyncGiven.{slave_at}
 
 -- the laws that this stands on

@@ -5,9 +5,9 @@ use Rattle.std.proofs.lemmas.Bool.{false≢true}
 use Rattle.wrp_base.specs.declared.link.Deltas.{Deltas}
 use Rattle.wrp_base.specs.declared.link.ServoState.{ServoState}
 use Rattle.wrp_base.specs.declared.link.ServoState.TheVariants.{Uninit, SyncTai, SyncNsec, SyncPhase, WaitStable, Track, Holdover}
-use Rattle.wrp_base.proofs.Naturals.{is_plus_zero}
 use Rattle.wrp_base.specs.declared.measurement.Four.{Four}
 use Rattle.wrp_base.proofs.Lists.{head_and_tail}
+use Rattle.wrp_base.proofs.Naturals.{is_plus_zero}
 use Rattle.wrp_servo.specs.declared.machine.Core.{Core}
 use Rattle.wrp_servo.specs.declared.machine.Measurement.{Measurement}
 use Rattle.wrp_servo.specs.Call.{Call, CallSample, CallMeasured, CallTick, CallLease, CallLink, CallCarrier, CallReset, ServoSetting, after, is_reset, run}
@@ -18,9 +18,9 @@ use Rattle.wrp_servo.specs.LookBack.{enters_track, leaves_track}
 use Rattle.wrp_servo.specs.Measuring.{aimed, answered, delay_of, is_in, placed, x_of}
 use Rattle.wrp_servo.specs.Sampling.{followed, good, good_tag, heard, hears, is_far, is_holdover, is_within, judged, lost, may_start, chained, residual, stays_near, with_last, with_tag}
 use Rattle.wrp_servo.specs.Since.{Since, NoneEnds}
-use Rattle.wrp_servo.proofs.Tracks.{tracker}
 use Rattle.wrp_servo.specs.Table.{by_tick, ended, ended_by_age, is_old, is_past_gap, is_track, one_tick}
 use Rattle.wrp_servo.proofs.HoldoverLaws.{holder, more, off_link, still_few}
+use Rattle.wrp_servo.proofs.Tracks.{tracker}
 use Rattle.wrp_truth.proofs.Holding.{IsCalmCall, calm_ticks}
 
 -- What enters TRACK and HOLDOVER

@@ -24,6 +24,7 @@ use Rattle.wrp_servo.specs.Tags.{heard_tag, is_empty, tags}
 use Rattle.wrp_servo.specs.Told.{ticks_since_good}
 use Rattle.wrp_node.proofs.Unbroken.{chained_fresh, either_fresh, no_start}
 use Rattle.wrp_truth.proofs.StepCalls.{Brings, IsTelling, KeptBy, settled_keeps, step_keeps, told_tick}
+use Rattle.wrp_truth.proofs.NodeSteps.{Stands, none_ended}
 
 -- What starts a chain
 

@@ -4,9 +4,9 @@ use Rattle.std.proofs.lemmas.Bool.Decides.{eqb_tells}
 use Rattle.std.proofs.lemmas.Int.{ints}
 use Rattle.std.specs.Int.Signed.{le_z}
 use Rattle.wrp_base.specs.declared.message.PtpMsg.{PtpMsg}
-use Rattle.wrp_base.proofs.Naturals.{zero_plus}
 use Rattle.wrp_base.specs.Network.{node_count}
 use Rattle.wrp_base.proofs.Integers.{int_le_self, int_le_trans, le_plus}
+use Rattle.wrp_base.proofs.Naturals.{zero_plus}
 use Rattle.wrp_bounds.specs.Times.{longest_tick}
 use Rattle.wrp_frame.specs.declared.fault.FrameFault.{FrameFault}
 use Rattle.wrp_world.specs.declared.clocks.ClockState.{ClockState}

@@ -1,9 +1,9 @@
 -- While a link is on, the delays by which its slave reckons are near the true ones, and its fibre keeps its share.
 use Rattle.std.proofs.Common.{◌≡◌, ◌∙◌, refl, ap, ap₂, sym, subst, ℕ, ◌*◌, ◌^◌, ◌≤◌, ℤ, pos, ◌+ℤ◌, ◌-ℤ◌, ◌*ℤ◌, unsigned_abs, Bool, true, false, Option, None, Some, IfSome, slice_get, arith}
 use Rattle.std.proofs.Math.IntN.{*ℤ_comm}
-use Rattle.std.proofs.lemmas.Option.{none-some, same_Some}
 use Rattle.std.specs.Prelude.{option_and_then}
 use Rattle.std.proofs.lemmas.Bool.{and_parts}
+use Rattle.std.proofs.lemmas.Option.{none-some, same_Some}
 use Rattle.wrp_base.specs.declared.configuration.NetCfg.{NetCfg}
 use Rattle.wrp_base.specs.declared.link.Deltas.{Deltas}
 use Rattle.wrp_base.specs.declared.link.LinkState.{LinkState}
@@ -29,6 +29,7 @@ use Rattle.wrp_world.specs.Setting.{Setting, end_of, entry_at, link_of}
 use Rattle.wrp_world.specs.WorldAt.{EndAt, WorldAt, ends_are_up, has_carrier}
 use Rattle.wrp_world.proofs.RunLinks.{IsDark}
 use Rattle.wrp_world.proofs.RunPorts.{link_dark}
+use Rattle.wrp_world.proofs.WordReports.{idle_on}
 use Rattle.wrp_truth.specs.Fibres.{FibresKeepTheirShare}
 use Rattle.wrp_truth.specs.PortDelays.{FibreHoldsWhileOn}
 use Rattle.wrp_truth.proofs.LinksAbove.{above_is}

@@ -2,9 +2,9 @@
 use Rattle.std.proofs.Common.{◌≡◌, inl, inr, ◌∙◌, refl, ap, sym, subst, ℕ, ◌==◌, ℤ, Bool, true, false, if◌then◌else◌, List, [], ◌∷◌, Option, None, Some, Result, Ok, Err}
 use Rattle.std.proofs.lemmas.Bool.Decides.{eqb_tells}
 use Rattle.std.specs.Option.{option_map_or}
-use Rattle.std.proofs.lemmas.Option.{none-some}
 use Rattle.arrayvec.specs.ArrayVec.{ArrayVec as Items}
 use Rattle.std.proofs.lemmas.Bool.{false≢true}
+use Rattle.std.proofs.lemmas.Option.{none-some}
 use Rattle.wrp_base.specs.declared.link.Role.TheVariants.{Master, Slave}
 use Rattle.wrp_base.specs.declared.message.Body.{Body}
 use Rattle.wrp_base.specs.declared.message.Body.TheVariants.{Sync, DelayReq, FollowUp, DelayResp, Announce, Signal}
@@ -33,9 +33,9 @@ use Rattle.wrp_servo.specs.Call.{run}
 use Rattle.wrp_servo.specs.Laws.{ChainSince, PhaseMovesByTags}
 use Rattle.wrp_tracking.specs.Chain.{Good}
 use Rattle.wrp_world.specs.declared.event.Event.{Event}
-use Rattle.wrp_truth.proofs.Renewals.{master_of}
 use Rattle.wrp_world.specs.declared.event.Event.TheVariants.{Pass, Tick, Sample, Depart, Arrive, Deliver, Noise, Down, Up, Cut, Join}
 use Rattle.wrp_truth.proofs.NodeSteps.{Stands}
+use Rattle.wrp_truth.proofs.Renewals.{master_of}
 use Rattle.wrp_world.specs.Given.{Given, delivered, delivered_by, delivered_to, given, given_plain, gives, gives_all, sent_oldest, taken_of, told_sending, world_step}
 use Rattle.wrp_world.specs.Moved.{moved}
 use Rattle.wrp_world.specs.Premises.{Accepts, is_forged}

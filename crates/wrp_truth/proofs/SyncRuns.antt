@@ -6,10 +6,10 @@ use Rattle.wrp_base.specs.declared.message.Body.{Body}
 use Rattle.wrp_base.specs.declared.message.Body.TheVariants.{FollowUp}
 use Rattle.wrp_base.specs.declared.message.PtpMsg.{PtpMsg}
 use Rattle.wrp_base.specs.declared.network.LinkCfg.{LinkCfg}
-use Rattle.wrp_base.proofs.Lists.{append_assoc}
 use Rattle.wrp_base.specs.declared.time.Ts.{Ts}
 use Rattle.wrp_base.specs.Closeness.{IsWithin}
 use Rattle.wrp_base.proofs.Integers.{int_le_trans}
+use Rattle.wrp_base.proofs.Lists.{append_assoc}
 use Rattle.wrp_bounds.specs.Bounds.{numbers_of}
 use Rattle.wrp_bounds.specs.declared.numbers.HopNumbers.{HopNumbers}
 use Rattle.wrp_bounds.specs.Hop.{down_error}

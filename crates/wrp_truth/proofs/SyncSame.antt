@@ -2,14 +2,14 @@
 use Rattle.std.proofs.Common.{◌≡◌, inl, inr, ◌∙◌, ap, sym, subst, ℕ, ◌+◌, ◌*◌, ◌<◌, ◌≤◌, ℤ, pos, min, ◌+ℤ◌, ◌≤ℤ◌, unsigned_abs, false, if◌then◌else◌, List, [], ◌∷◌, ◌++◌, length, Option, None, Some, arith}
 use Rattle.std.proofs.lemmas.Int.{ints}
 use Rattle.wrp_base.specs.declared.link.Role.TheVariants.{Master}
-use Rattle.wrp_base.proofs.Naturals.{eq_self}
 use Rattle.wrp_base.specs.declared.network.LinkCfg.{LinkCfg}
 use Rattle.wrp_base.proofs.Lists.{append_assoc}
+use Rattle.wrp_base.proofs.Naturals.{eq_self}
 use Rattle.wrp_bounds.specs.Times.{frame_life, gap_time, shortest_tick}
 use Rattle.wrp_world.specs.declared.event.Event.{Event}
-use Rattle.wrp_truth.proofs.DelayPieces.{still_depart}
 use Rattle.wrp_world.specs.declared.place.Place.{Place}
 use Rattle.wrp_truth.proofs.BoundRuns.{at_oldest}
+use Rattle.wrp_truth.proofs.DelayPieces.{still_depart}
 use Rattle.wrp_world.specs.Given.{given_by}
 use Rattle.wrp_world.specs.Moved.{departing, frame_after, moved, waiting_at}
 use Rattle.wrp_world.specs.Run.{Happened, world_after}

@@ -1,8 +1,8 @@
 -- What an input of a node adds to the calls of its slave's exchange, while a chain of its servo stands.
 use Rattle.std.proofs.Common.{◌≡◌, ◌∙◌, refl, ap, sym, ℕ, ◌==◌, ◌&&◌, cond, ℤ, Bool, true, false, if◌then◌else◌, is_some, List, ◌∷◌, Option, None, Some, option_map, Result, Ok, Err}
-use Rattle.std.proofs.lemmas.Option.{none-some, same_Some}
 use Rattle.std.specs.Prelude.{int_le}
 use Rattle.std.proofs.lemmas.Bool.{false≢true}
+use Rattle.std.proofs.lemmas.Option.{none-some, same_Some}
 use Rattle.wrp_base.specs.declared.link.Role.{Role}
 use Rattle.wrp_base.specs.declared.link.Role.TheVariants.{Master, Slave}
 use Rattle.wrp_base.specs.declared.link.ServoState.{ServoState}
@@ -38,6 +38,8 @@ use Rattle.wrp_servo.specs.Servo.{answer_to, news_at, news_of, out_by}
 use Rattle.wrp_servo.specs.Table.{ended, ended_in}
 use Rattle.wrp_servo.specs.Tags.{heard_tag}
 use Rattle.wrp_truth.proofs.LiveChains.{IsNoSample, stood_before}
+use Rattle.wrp_truth.proofs.FourCalls.{same_news}
+use Rattle.wrp_truth.proofs.NodeSteps.{Stands}
 
 -- What the servo answers, at its slave port
 

@@ -1,8 +1,8 @@
 -- The frame that is due first among those that are kept is the next arrival of the state.
 use Rattle.std.proofs.Common.{◌≡◌, ◌∙◌, refl, ap, ap₂, sym, subst, ℕ, zero, suc, ◌+◌, ◌<◌, ◌≤◌, ◌⊎◌, ℤ, ◌<ℤ◌, true, false, if◌then◌else◌, List, [], ◌∷◌, length, Option, None, Some, slice_get, arith}
-use Rattle.std.proofs.lemmas.Option.{none-some, same_Some}
 use Rattle.std.specs.Option.{is_some}
 use Rattle.std.proofs.lemmas.Bool.{false_from_ne_true}
+use Rattle.std.proofs.lemmas.Option.{none-some, same_Some}
 use Rattle.wrp_world.specs.declared.frames.Departed.{Departed}
 use Rattle.wrp_world.specs.declared.frames.Reception.{Reception}
 use Rattle.wrp_world.specs.Plant.{MaybeIs, DepartedIs, ReceptionIs, FramesAre, frame_numbered, is_on, next_from}

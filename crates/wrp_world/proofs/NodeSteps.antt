@@ -1,9 +1,9 @@
 -- A step of a node, as the node took its input: what the rest of the world is told of it is the step of the definition.
 use Rattle.std.proofs.Common.{◌≡◌, ◌∙◌, refl, ap, ap₂, sym, subst, ℕ, zero, suc, ◌==◌, ◌||◌, ◌≤◌, ◌^◌, ◌⊎◌, inl, inr, ℤ, pos, unsigned_abs, Bool, true, false, if◌then◌else◌, List, [], ◌∷◌, ◌++◌, length, map, flat_map, Option, None, Some, option_map, slice_get, Result, arith}
 use Rattle.std.proofs.lemmas.Int.{ints}
-use Rattle.std.proofs.lemmas.Option.{none-some, same_Some}
 use Rattle.std.specs.List.{AllByRecursion, AllZip, list_any}
 use Rattle.std.proofs.lemmas.Bool.{false≢true, or_right}
+use Rattle.std.proofs.lemmas.Option.{none-some, same_Some}
 use Rattle.wrp_base.specs.declared.configuration.NetCfg.{NetCfg}
 use Rattle.wrp_base.specs.declared.link.Role.{Role}
 use Rattle.wrp_base.specs.declared.link.Role.TheVariants.{Master, Slave}
@@ -36,9 +36,9 @@ use Rattle.wrp_node.specs.Telling.{Step}
 use Rattle.wrp_node.proofs.OwnPorts.{different_numbers}
 use Rattle.wrp_node.proofs.Sends.{sends_are_put_out}
 use Rattle.wrp_node.proofs.Spelling.{among_is_port}
-use Rattle.wrp_node.proofs.OneRun.{ok_of}
 use Rattle.wrp_node.proofs.StepLaws.{commands_are_held, only_frames_say, sends_are_few, ticks_are_counted}
 use Rattle.wrp_node.proofs.Indexing.{eq_is}
+use Rattle.wrp_node.proofs.OneRun.{ok_of}
 use Rattle.wrp_world.specs.declared.outcome.NodeOut.{NodeOut}
 use Rattle.wrp_world.specs.declared.plant.told.News.{News}
 use Rattle.wrp_world.specs.Gifts.{IsRead}

@@ -7,9 +7,9 @@ use Rattle.wrp_base.specs.declared.configuration.NetCfg.{NetCfg}
 use Rattle.wrp_base.specs.declared.link.Role.{Role}
 use Rattle.wrp_base.specs.declared.link.Role.TheVariants.{Master, Slave}
 use Rattle.wrp_base.specs.declared.network.LinkCfg.{LinkCfg}
-use Rattle.wrp_base.proofs.Naturals.{eq_self, is_plus_zero}
 use Rattle.wrp_base.specs.Network.{End, HasDepth, IsTree, ends_of, link_above}
 use Rattle.wrp_base.proofs.Booleans.{not_both}
+use Rattle.wrp_base.proofs.Naturals.{eq_self, is_plus_zero}
 use Rattle.wrp_bounds.specs.Times.{shortest_tick, frame_life}
 use Rattle.wrp_config.specs.Laws.{ChildIsDeeper}
 use Rattle.wrp_config.specs.Names.{is_lower_end, is_upper_end}

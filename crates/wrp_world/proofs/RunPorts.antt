@@ -16,9 +16,9 @@ use Rattle.wrp_handshake.specs.Ends.{Port, Sending as Message, stamped, mover_of
 use Rattle.wrp_link.specs.declared.interface.LinkIn.TheVariants as link_in
 use Rattle.wrp_link.specs.LinkAt.{new_link}
 use Rattle.wrp_link.specs.Table.{by_row}
-use Rattle.wrp_link.proofs.Orders.{run_role}
 use Rattle.wrp_link.specs.Rows.{row_of}
 use Rattle.wrp_link.proofs.Deltas.{is_same_self}
+use Rattle.wrp_link.proofs.Orders.{run_role}
 use Rattle.wrp_node.specs.declared.interface.Input.{Input}
 use Rattle.wrp_node.specs.declared.interface.Input.TheVariants.{Tick, Sample, Frame, Sent, Carrier, Reset}
 use Rattle.wrp_node.specs.LinkNews.{LinkNews, Nothing, Given as Handed, Renewed, news_of, link_after, frame_news, news_at, StepGivesLinks}

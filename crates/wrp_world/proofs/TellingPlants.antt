@@ -25,9 +25,9 @@ use Rattle.wrp_world.specs.declared.ends.Span.{Span}
 use Rattle.wrp_world.specs.declared.fibres.FibreState.{FibreState}
 use Rattle.wrp_world.specs.declared.frames.Departed.{Departed}
 use Rattle.wrp_world.specs.declared.plant.Plant.{Plant}
-use Rattle.wrp_world.proofs.RoomKept.{where_room}
 use Rattle.wrp_world.specs.declared.plant.told.News.{News}
 use Rattle.wrp_world.proofs.DroppedFrames.{still}
+use Rattle.wrp_world.proofs.RoomKept.{where_room}
 use Rattle.wrp_world.specs.Given.{Given, clock_told, stepped_by, ticked_by}
 use Rattle.wrp_world.specs.Moves.{Where, At}
 use Rattle.wrp_world.specs.Plant.{Each, FitsClock, FitsEnd, FitsPlant, FitsSpan, FramesAre, PlantIs, SpanIs}

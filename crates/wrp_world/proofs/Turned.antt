@@ -1,8 +1,8 @@
 -- Lists of which each element became what stands at its place.
 use Rattle.std.proofs.Common.{◌≡◌, ◌∙◌, refl, ap, sym, subst, ℕ, zero, suc, ◌+◌, ◌<◌, ◌≤◌, ◌==◌, ◌⊎◌, inl, inr, Bool, true, false, List, [], ◌∷◌, length, slice_set, slice_get, slice_index_or, Some, arith}
-use Rattle.std.proofs.lemmas.Option.{none-some, same_Some}
 use Rattle.std.proofs.lemmas.Option.{slice_get-get_or, slice_get_within}
 use Rattle.std.proofs.lemmas.Bool.{eqb-true}
+use Rattle.std.proofs.lemmas.Option.{none-some, same_Some}
 use Rattle.wrp_world.specs.Moves.{Turns, Where, At, Stays}
 use Rattle.wrp_world.specs.Plant.{Each}
 use Rattle.wrp_world.proofs.EachLists.{each_of}
