@@ -11,7 +11,7 @@ use Rattle.wrp_caldb.specs.Name.{same_name}
 use Rattle.wrp_fields.specs.Fields.{number_at}
 use Rattle.wrp_names.specs.Fields.{node_at, link_at}
 use Rattle.wrp_fields.specs.Numbers.{number_in}
-use Rattle.wrp_fields.specs.Reading.{field_of, number_or_fault, name_or_fault, is_plain}
+use Rattle.wrp_fields.specs.Reading.{◌>>=◌, field_of, number_or_fault, name_or_fault, is_plain}
 use Rattle.wrp_sim.specs.declared.scene.fault.Fault.{Fault}
 use Rattle.wrp_sim.specs.declared.scene.fault.FaultKind.{FaultKind}
 use Rattle.wrp_sim.specs.declared.scene.fault.FaultKind.TheVariants.{Down, Up, Cut, Join}

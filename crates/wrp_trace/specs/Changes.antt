@@ -8,7 +8,7 @@ use Rattle.wrp_config.specs.Names.{node_named, link_named}
 use Rattle.wrp_trace.specs.declared.events.changes.Said.{Said}
 use Rattle.wrp_trace.specs.EventFields.{before, behind}
 use Rattle.wrp_fields.specs.Numbers.{number_in}
-use Rattle.wrp_fields.specs.Reading.{number_or_fault}
+use Rattle.wrp_fields.specs.Reading.{◌>>=◌, number_or_fault}
 
 -- what a line says so far, one place for each node and for each link in file order: a node's drift, and
 -- how far the delays of a link's fibre move, down and up. None where nothing is said of it

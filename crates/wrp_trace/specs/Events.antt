@@ -15,7 +15,7 @@ use Rattle.wrp_names.specs.Fields.{node_at, link_at}
 use Rattle.wrp_trace.specs.EventFields.{span_at, delay_at, offset_at}
 use Rattle.wrp_trace.specs.EventKinds.{may_have, kind_of}
 use Rattle.wrp_trace.specs.Fields.{short_at, long_at, step_at, bits_at, octets_at, time_at, raw_from}
-use Rattle.wrp_fields.specs.Reading.{field_of, is_plain}
+use Rattle.wrp_fields.specs.Reading.{◌>>=◌, field_of, is_plain}
 use Rattle.wrp_trace.specs.Swaps.{plain_swap, swaps_said}
 
 -- so much time passes, with what is said of the nodes and the links

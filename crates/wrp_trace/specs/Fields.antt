@@ -7,7 +7,7 @@ use Rattle.wrp_base.specs.declared.time.Raw.{Raw}
 use Rattle.wrp_base.specs.declared.time.Stamp.{Stamp}
 use Rattle.wrp_caldb.specs.Name.{same_name}
 use Rattle.wrp_fields.specs.Fields.{number_at}
-use Rattle.wrp_fields.specs.Reading.{field_of, number_or_fault, name_or_fault}
+use Rattle.wrp_fields.specs.Reading.{◌>>=◌, field_of, number_or_fault, name_or_fault}
 use Rattle.wrp_trace.specs.Digits.{frame_of, bits_of}
 use Rattle.wrp_trace.specs.Times.{time_of}
 use Rattle.wrp_trace.specs.LineSetting.{LineSetting, has_port, named_at}

@@ -10,7 +10,7 @@ use Rattle.wrp_trace.specs.declared.kinds.InputKind.{InputKind}
 use Rattle.wrp_trace.specs.declared.kinds.InputKind.TheVariants as kinds
 use Rattle.wrp_trace.specs.Fields.{short_at, long_at, step_at, bits_at, octets_at, raw_from, stamp_from, message_at, port_at, module_at}
 use Rattle.wrp_trace.specs.Kinds.{field_count, kind_of}
-use Rattle.wrp_fields.specs.Reading.{field_of, is_plain}
+use Rattle.wrp_fields.specs.Reading.{◌>>=◌, field_of, is_plain}
 use Rattle.wrp_trace.specs.LineSetting.{LineSetting}
 
 -- `sample,N,BASE,BITS`

@@ -10,7 +10,7 @@ use Rattle.wrp_config.specs.Config.{bare}
 use Rattle.wrp_world.specs.declared.event.Swap.{Swap}
 use Rattle.wrp_trace.specs.EventFields.{before, behind}
 use Rattle.wrp_fields.specs.Numbers.{natural_in}
-use Rattle.wrp_fields.specs.Reading.{number_or_fault, name_or_fault}
+use Rattle.wrp_fields.specs.Reading.{◌>>=◌, number_or_fault, name_or_fault}
 
 -- a swap with its module's name alone
 abbrev pub plain_swap : Swap → Swap

@@ -247,11 +247,11 @@ record Held (s : Setting) (events : List Happened) (k : ℕ) (link : LinkCfg) (h
   newest : Good
   earlier : List Good
   goods : newest ∷ earlier ≡ goods_since s link.lower newer (start ∷ before)
-  not-false : ChainHolds hop (moments_of s k link events) (length follows.older) (length (start ∷ before)) constant newest earlier
+  holds : ChainHolds hop (moments_of s k link events) (length follows.older) (length (start ∷ before)) constant newest earlier
   rest : List ℕ
   tags_are : tags_at s events link.lower ≡ newest.tag ∷ rest
   u : newest.u ≡ unwrapped s.cfg.clock (newest.tag ∷ rest)
-  late : ((world_after s events).clock link.lower).ticked ≤ℤ (not-false.moment.time +ℤ pos (since_at s events link.lower * longest_tick s.cfg))
+  late : ((world_after s events).clock link.lower).ticked ≤ℤ (holds.moment.time +ℤ pos (since_at s events link.lower * longest_tick s.cfg))
 
 -- the newest sample is no longer ago than the gap
 in_gap : (now last at : ℤ) (ticks gap dmax : ℕ) → ticks ≤ gap → now ≤ℤ (last +ℤ pos dmax) → last ≤ℤ (at +ℤ pos (ticks * dmax)) → now ≤ℤ (at +ℤ pos ((gap + 1) * dmax))
@@ -284,21 +284,21 @@ recent_by laws s events k link hop run is numbers chain c =
 kept_holds : ChainRunLaws → (s : Setting) (h : Happened) (before : List Happened) (k : ℕ) (link : LinkCfg) (hop : HopNumbers) → IsRun s (h ∷ before) → link_of s k ≡ Some link → numbers_of s.cfg link.lower ≡ Some hop → HasChain s link.lower before →
     HasChain s link.lower (h ∷ before) → (from start : ℕ) (constant : ℤ) (newest : Good) (earlier : List Good) → ChainHolds hop (moments_of s k link before) from start constant newest earlier →
     ChainHolds hop (moments_of s k link (h ∷ before)) from start constant newest earlier
-kept_holds laws s h before k link hop run is numbers chain later from start constant newest earlier not-false =
+kept_holds laws s h before k link hop run is numbers chain later from start constant newest earlier holds =
     let it : HasNewest s k link before = newest_moment s k link before in
     let now : Moment = moment_at k link (world_after s (h ∷ before)) in
     subst (λ ms. ChainHolds hop (now ∷ ms) from start constant newest earlier) (sym it.is)
     (laws.moment hop now (moment_at k link (world_after s before)) it.past from start constant newest earlier (chain_passes_slowly laws.moves s h before k link hop run is numbers chain later)
-    (subst (λ ms. ChainHolds hop ms from start constant newest earlier) it.is not-false))
+    (subst (λ ms. ChainHolds hop ms from start constant newest earlier) it.is holds))
 
 -- an event without a good sample
 no_good : ChainRunLaws → (s : Setting) (h : Happened) (before : List Happened) (k : ℕ) (link : LinkCfg) (hop : HopNumbers) → IsRun s (h ∷ before) → link_of s k ≡ Some link → numbers_of s.cfg link.lower ≡ Some hop → HasChain s link.lower before →
     HasChain s link.lower (h ∷ before) → good_in s link.lower h before h.event ≡ None → tags_at s (h ∷ before) link.lower ≡ tags_at s before link.lower → (c : Held s before k link hop) →
     ((world_after s (h ∷ before)).clock link.lower).ticked ≤ℤ (c.holds.moment.time +ℤ pos (since_at s (h ∷ before) link.lower * longest_tick s.cfg)) → Held s (h ∷ before) k link hop
 no_good laws s h before k link hop run is numbers chain later none same c late =
-    let not-false : ChainHolds hop (moments_of s k link (h ∷ before)) (length c.follows.older) (length (c.start ∷ c.before)) c.constant c.newest c.earlier =
+    let holds : ChainHolds hop (moments_of s k link (h ∷ before)) (length c.follows.older) (length (c.start ∷ c.before)) c.constant c.newest c.earlier =
     kept_holds laws s h before k link hop run is numbers chain later (length c.follows.older) (length (c.start ∷ c.before)) c.constant c.newest c.earlier c.holds in
-    let moment : c.holds.moment ≡ not-false.moment = was_one c.newest.at c.holds.moment not-false.moment (moments_of s k link (h ∷ before)) (inr c.holds.was) not-false.was in
+    let moment : c.holds.moment ≡ holds.moment = was_one c.newest.at c.holds.moment holds.moment (moments_of s k link (h ∷ before)) (inr c.holds.was) holds.was in
     record {
       newer = h ∷ c.newer;
       start = c.start;
@@ -311,7 +311,7 @@ no_good laws s h before k link hop run is numbers chain later none same c late =
       newest = c.newest;
       earlier = c.earlier;
       goods = c.goods ∙ sym (ap (λ o. option_to_list o ++ goods_since s link.lower c.newer (c.start ∷ c.before)) (subst (λ l. good_in s link.lower h l h.event ≡ None) c.splits none));
-      not-false = not-false;
+      holds = holds;
       rest = c.rest;
       tags_are = same ∙ c.tags_are;
       u = c.u;
@@ -350,7 +350,7 @@ one_good laws s h before k link hop tag run is numbers chain later tells time to
     let room : HasPhaseRoom hop.clock (hop_error hop) (gap_motion hop) =
     subst (λ z. 2 * gap_motion hop + 4 * hop_error hop < period_of z) (sym has.clock) (run.network.accepted.inequalities.phase_room n hop (run.network.accepted.tree.ends k link is).1 numbers) in
     let newest : Good = good_now number tag (unwrapped_by hop.clock c.newest.u c.newest.tag tag) past in
-    let not-false : ChainHolds hop (now ∷ past) from begun c.constant newest (c.newest ∷ c.earlier) =
+    let holds : ChainHolds hop (now ∷ past) from begun c.constant newest (c.newest ∷ c.earlier) =
     laws.sample hop now past from begun c.constant c.newest c.earlier number tag room held (record { moment = held.moment; was = held.was; near = near }) tells in
     let tags_now : tags_at s (h ∷ before) n ≡ tag ∷ (c.newest.tag ∷ c.rest) = more ∙ ap (λ l. tag ∷ l) c.tags_are in
     let u_now : newest.u ≡ unwrapped s.cfg.clock (tag ∷ (c.newest.tag ∷ c.rest)) =
@@ -359,7 +359,7 @@ one_good laws s h before k link hop tag run is numbers chain later tells time to
     let same : newest ≡ record { number = number; tag = tag; u = phase_in s (world_after s (h ∷ before)) n; at = length before + 1 } =
     good_same newest (record { number = number; tag = tag; u = phase_in s (world_after s (h ∷ before)) n; at = length before + 1 }) refl refl
     (u_now ∙ sym (ap (unwrapped s.cfg.clock) tags_now) ∙ sym (phase_is laws s (h ∷ before) n run.network later)) length_is in
-    let here : now ≡ not-false.moment = was_one (length past) now not-false.moment (now ∷ past) (inl (refl, refl)) not-false.was in
+    let here : now ≡ holds.moment = was_one (length past) now holds.moment (now ∷ past) (inl (refl, refl)) holds.was in
     record {
       newer = h ∷ c.newer;
       start = c.start;
@@ -374,7 +374,7 @@ one_good laws s h before k link hop tag run is numbers chain later tells time to
       goods =
           ap₂ (λ (g : Good) (gs : List Good). g ∷ gs) same c.goods
           ∙ sym (ap (λ o. option_to_list o ++ goods_since s n c.newer (c.start ∷ c.before)) (subst (λ l. good_in s n h l h.event ≡ good_in s n h before h.event) c.splits refl ∙ told));
-      not-false = not-false;
+      holds = holds;
       rest = c.newest.tag ∷ c.rest;
       tags_are = tags_now;
       u = u_now;
@@ -409,10 +409,10 @@ begin_at laws s h before k link hop tag run is numbers none chain tells told mor
     let begun : (constant : ℤ) × ChainHolds hop (now ∷ past) (length f.older) (length past) constant (good_now number tag u past) [] = laws.starts hop now past (length f.older) number tag u order limits tells in
     let newest : Good = good_now number tag u past in
     let at_is : length past ≡ length before + 1 = ap length it.is ∙ count_more (length it.past) (length before) it.length_is in
-    let not-false : ChainHolds hop (now ∷ past) (length f.older) (length (h ∷ before)) begun.0 newest [] = subst (λ z. ChainHolds hop (now ∷ past) (length f.older) z begun.0 newest []) length_is begun.1 in
+    let holds : ChainHolds hop (now ∷ past) (length f.older) (length (h ∷ before)) begun.0 newest [] = subst (λ z. ChainHolds hop (now ∷ past) (length f.older) z begun.0 newest []) length_is begun.1 in
     let same : newest ≡ record { number = number; tag = tag; u = u; at = length before + 1 } =
     good_same newest (record { number = number; tag = tag; u = u; at = length before + 1 }) refl refl refl at_is in
-    let here : now ≡ not-false.moment = was_one (length past) now not-false.moment (now ∷ past) (inl (refl, refl)) not-false.was in
+    let here : now ≡ holds.moment = was_one (length past) now holds.moment (now ∷ past) (inl (refl, refl)) holds.was in
     record {
       newer = [];
       start = h;
@@ -425,7 +425,7 @@ begin_at laws s h before k link hop tag run is numbers none chain tells told mor
       newest = newest;
       earlier = [];
       goods = ap (λ (g : Good). g ∷ []) same ∙ sym (ap option_to_list told);
-      not-false = not-false;
+      holds = holds;
       rest = tags_at s before n;
       tags_are = more;
       u = phase_is laws s (h ∷ before) n run.network chain ∙ ap (unwrapped s.cfg.clock) more;
@@ -576,7 +576,7 @@ chain_has_constant laws s events k link hop run fits is numbers chain =
       newest = c.newest;
       earlier = c.earlier;
       goods = c.goods;
-      not-false = c.holds;
+      holds = c.holds;
       phase = phase_is laws s events link.lower run.network chain ∙ ap (unwrapped s.cfg.clock) c.tags_are ∙ sym c.u;
       recent = recent_by laws s events k link hop run is numbers chain c;
     }
