@@ -11,8 +11,8 @@ const NANOSECOND: u128 = 65_536_000;
 /// The nanoseconds in one second.
 const SECOND: u128 = 1_000_000_000;
 
-// Both divide 128 bits, which is slow. Inlined, the optimiser moves the divisions to the head of each
-// input's loop over the ports, where most inputs need none; so they stay calls.
+// Both divide 128 bits, which is slow, and most inputs need none. They stay calls, so that the
+// optimiser does not move the divisions to where every input passes.
 
 /// The Timestamp of a reading, in tau.
 #[inline(never)]
