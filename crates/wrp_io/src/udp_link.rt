@@ -79,30 +79,17 @@ fn drop_earlier(socket: &UdpSocket) -> io::Result<()> {
 }
 
 // The sockets of this many ends, of which two and two are connected.
-fn sockets_of<R: Net>(rt: &R, alloc: Global, ends: u32) -> Result<Vec<UdpSocket>, StartFault>
+fn sockets_of<R: Net>(rt: &R, alloc: Global, ends: u32) -> io::Result<Vec<UdpSocket>>
     ensures pairs { IfOk result (λ sockets. vec_len sockets ≡ ends + ends % 2) }
     ensures none { ends ≡ 0 → IsOk result }
 {
     let mut sockets = Vec::new(alloc);
     for _pair in 0..ends.div_ceil(2) {
-        let Ok(pair) = connected_pair(rt) else {
-            return Err(StartFault::Failed);
-        };
-        if let Err(fault) = push_pair(&mut sockets, pair) {
-            return Err(StartFault::Memory(fault));
-        }
+        let (upper, lower) = connected_pair(rt)?;
+        sockets.push(upper)?;
+        sockets.push(lower)?;
     }
     Ok(sockets)
-}
-
-// Puts the two sockets of a link behind the others.
-fn push_pair(sockets: &mut Vec<UdpSocket>, pair: (UdpSocket, UdpSocket)) -> Result<(), AllocError>
-    ensures { OnOk result (vec_len sockets.new ≡ vec_len sockets.old + 2) }
-{
-    let (upper, lower) = pair;
-    sockets.push(upper)?;
-    sockets.push(lower)?;
-    Ok(())
 }
 
 // Sends one datagram from an end.
@@ -140,7 +127,7 @@ impl<'a, R: Net> Link for UdpLink<'a, R> {
     ghost faults = { λ s. s.faults };
 
     /// Makes `ends` ends, and one more where that is odd, in place of those that the link had, with
-    /// what waits there. A call of the system that fails is a fault.
+    /// what waits there. A call of the system that fails is a fault, but for want of memory.
     fn start(&mut self, ends: u32) -> Result<(), StartFault>
         ensures cause { HasStartCause self.old.faults self.new.faults result }
         ensures tells { Tells None None result (λ _. Start ends) }
@@ -157,11 +144,13 @@ impl<'a, R: Net> Link for UdpLink<'a, R> {
                 self.sockets = sockets;
                 Ok(())
             }
-            Err(StartFault::Failed) => {
+            Err(error) if error.kind() == io::ErrorKind::OutOfMemory => {
+                Err(StartFault::Memory(AllocError))
+            }
+            Err(_) => {
                 self.faults = faults.saturating_add(1);
                 Err(StartFault::Failed)
             }
-            Err(StartFault::Memory(fault)) => Err(StartFault::Memory(fault)),
         }
     }
 
