@@ -130,10 +130,10 @@ near_by m e c x1 y1 x2 y2 x p start end =
     rw y_is (rw x_is both)
 
 near_at : (m e f c : ℕ) (part : ℤ) (x1 y1 x2 y2 x : ℤ) → part ≡ pos c → f ≡ e + m → Steps x1 y1 x2 y2 x → unsigned_abs ((pos m *ℤ y1) -ℤ (x1 *ℤ part)) ≤ e → unsigned_abs ((pos m *ℤ y2) -ℤ (x2 *ℤ part)) ≤ e → unsigned_abs ((pos m *ℤ segment_value (x1, y1) (x2, y2) x) -ℤ (x *ℤ part)) ≤ f
-near_at m e f c part x1 y1 x2 y2 x fraction_is_positive f_is p start end =
-    rw f_is (rw fraction_is_positive (near_by m e c x1 y1 x2 y2 x p
-    (subst (λ k. unsigned_abs ((pos m *ℤ y1) -ℤ (x1 *ℤ k)) ≤ e) fraction_is_positive start)
-    (subst (λ k. unsigned_abs ((pos m *ℤ y2) -ℤ (x2 *ℤ k)) ≤ e) fraction_is_positive end)))
+near_at m e f c part x1 y1 x2 y2 x part_is f_is p start end =
+    rw f_is (rw part_is (near_by m e c x1 y1 x2 y2 x p
+    (subst (λ k. unsigned_abs ((pos m *ℤ y1) -ℤ (x1 *ℤ k)) ≤ e) part_is start)
+    (subst (λ k. unsigned_abs ((pos m *ℤ y2) -ℤ (x2 *ℤ k)) ≤ e) part_is end)))
 
 pub segment_value-near : (kappa : ℤ) (err : ℕ) (x1 y1 x2 y2 x : ℤ) → unsigned_abs kappa ≤ 2 ^ 38 → x1 <ℤ x2 → y1 ≤ℤ y2 → x1 ≤ℤ x → x ≤ℤ x2 → IsNear (Linear kappa) err x1 y1 → IsNear (Linear kappa) err x2 y2 → IsNear (Linear kappa) (err + 1) x (segment_value (x1, y1) (x2, y2) x)
 segment_value-near kappa err x1 y1 x2 y2 x size rises stays after before start end =
