@@ -1,6 +1,7 @@
 //! A link over sockets of this machine: what goes in at one end comes out at the other.
+use std::alloc::Global;
 use std::io;
-use std::net::{Net, SocketAddr, TcpListener, TcpStream};
+use std::net::{Net, SocketAddr, TcpListener, TcpStream, UdpSocket};
 use std::test::Fail;
 use wrp_base::Frame;
 use wrp_io::{Link, StartFault, UdpLink};
@@ -52,9 +53,9 @@ fn odd_end_has_its_other_end(rt: HostRuntime) -> Result<(), Fail> {
     Ok(())
 }
 
-// A system without sockets.
+// A system that gives no socket, for this cause.
 #[derive(Drop)]
-struct NoNet;
+struct NoNet(io::ErrorKind);
 
 impl Net for NoNet {
     type Stream = TcpStream;
@@ -62,21 +63,36 @@ impl Net for NoNet {
     type Listener = TcpListener;
 
     fn bind(&self, _addr: SocketAddr) -> io::Result<TcpListener> {
-        Err(io::Error::from(io::ErrorKind::Unsupported))
+        Err(io::Error::from(self.0))
     }
 
     fn connect(&self, _addr: SocketAddr) -> io::Result<TcpStream> {
-        Err(io::Error::from(io::ErrorKind::Unsupported))
+        Err(io::Error::from(self.0))
+    }
+
+    fn bind_udp(&self, _addr: SocketAddr) -> io::Result<UdpSocket> {
+        Err(io::Error::from(self.0))
+    }
+}
+
+// Whether a start over such a system is a fault, and not want of memory.
+fn is_start_fault(alloc: Global, cause: io::ErrorKind) -> Option<bool> {
+    match UdpLink::new(&NoNet(cause), alloc).start(2) {
+        Err(StartFault::Failed) => Some(true),
+        Err(StartFault::Memory(_)) => Some(false),
+        Ok(()) => None,
     }
 }
 
 #[test]
-fn no_sockets_are_a_fault(rt: HostRuntime) -> Result<(), Fail> {
-    let mut link = UdpLink::new(&NoNet, rt.alloc());
-    let failed = match link.start(2) {
-        Err(StartFault::Failed) => true,
-        Err(StartFault::Memory(_)) | Ok(()) => false,
-    };
-    assert!(rt; failed);
-    Ok(())
+fn no_sockets_are_a_fault(rt: HostRuntime) {
+    let alloc = rt.alloc();
+    assert_eq!(rt;
+        is_start_fault(alloc, io::ErrorKind::Unsupported),
+        Some(true)
+    );
+    assert_eq!(rt;
+        is_start_fault(alloc, io::ErrorKind::OutOfMemory),
+        Some(false)
+    );
 }
