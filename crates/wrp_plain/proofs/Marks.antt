@@ -17,7 +17,7 @@ moved_by by mark = record mark { est = mark.est +ℤ by }
 mark : ℕ → ℤ → ℤ → Mark
 mark ticks base est = record { est = est; base = base; ticks = ticks }
 
-pub ticked : ℤ → ℤ → ℕ → Mark
+unfoldable pub ticked : ℤ → ℤ → ℕ → Mark
 ticked est base ticks = record { est = est; base = base; ticks = ticks }
 
 assoc : (a b c : ℤ) → a +ℤ (b +ℤ c) ≡ (a +ℤ b) +ℤ c
