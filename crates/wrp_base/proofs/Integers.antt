@@ -11,8 +11,8 @@ int_le_self t = omega (arith, ints)
 pub pos_le : (a b : ℕ) → pos a ≤ℤ pos b → a ≤ b
 pos_le a b h = omega (arith, ints)
 
-pub fraction_is_positive : (kappa : ℤ) → unsigned_abs kappa ≤ 2 ^ 38 → pos (2 ^ 39) +ℤ kappa ≡ pos (unsigned_abs (pos (2 ^ 39) +ℤ kappa))
-fraction_is_positive kappa size = omega (arith, ints)
+pub fraction_is_its_size : (kappa : ℤ) → unsigned_abs kappa ≤ 2 ^ 38 → pos (2 ^ 39) +ℤ kappa ≡ pos (unsigned_abs (pos (2 ^ 39) +ℤ kappa))
+fraction_is_its_size kappa size = omega (arith, ints)
 
 pub le_plus : (a : ℤ) (x : ℕ) → a ≤ℤ (a +ℤ pos x)
 le_plus a x = omega (arith, ints)

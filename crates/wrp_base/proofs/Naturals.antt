@@ -48,5 +48,5 @@ lt_true a b h = grind (arith, h)
 pub le_later : (a b : ℕ) → a ≤ b → a ≤ b + 1
 le_later a b h = omega (arith, h)
 
-pub below_word : (samples count : ℕ) → samples ≤ count → count < 2 ^ 32 → samples < 2 ^ 32
-below_word samples count h few = omega (arith, h, few)
+pub below_word : (a b : ℕ) → a ≤ b → b < 2 ^ 32 → a < 2 ^ 32
+below_word a b h few = omega (arith, h, few)

@@ -76,11 +76,11 @@ IsTextDue db octets = IsDocumentText false (document_of db) octets
 abbrev pub OneText : Type 0
 OneText = (db : Database) (octets other : List ℕ) → IsTextDue db octets → IsTextDue db other → octets ≡ other
 
--- the database is that of an accepted text
+-- the database is that of an accepted document
 abbrev pub IsListed : Database → Type 0
 IsListed db = (others : Others) × (doc : Members) × IsAccepted others doc × (db ≡ database_of doc)
 
--- the database of an accepted text has such a text
+-- the database of an accepted document has such a text
 abbrev pub EachHasText : Type 0
 EachHasText = (db : Database) → IsListed db → (octets : List ℕ) × IsTextDue db octets
 

@@ -15,7 +15,7 @@ use std::marker::Model;
 use std::net::{Ipv4Addr, Net, SocketAddrV4, UdpSocket};
 use wrp_base::{FRAME_ROOM, Frame};
 
-// More datagrams than the system keeps for a socket.
+// More datagrams than a system usually keeps for a socket; where more came, the start fails.
 const MOST_EARLIER: u32 = 65_536;
 
 /// A link over UDP sockets on 127.0.0.1, one for each end. No call waits. The two ends of a link are
@@ -48,7 +48,7 @@ impl<'a, R: Net> UdpLink<'a, R> {
     }
 }
 
-// The sockets of the two ends of a link, which hear one another and nobody else.
+// The sockets of the two ends of a link, which once connected hear one another and nobody else.
 fn connected_pair<R: Net>(rt: &R) -> io::Result<(UdpSocket, UdpSocket)> {
     let upper = bound_socket(rt)?;
     let lower = bound_socket(rt)?;
@@ -133,7 +133,7 @@ impl<'a, R: Net> Link for UdpLink<'a, R> {
         ensures tells { Tells None None result (λ _. Start ends) }
         ensures waits { SameWaits (λ _. None) (λ _. None) }
 
-        // No end is made without a call of the system.
+        // No ends take no call of the system, so that none fails.
         ensures none { ends ≡ 0 → IsOk result }
         ensures good { OnOk result (self.new ≡ with_ends self.old ends) }
         ensures bad { IfErr result (NotStarted self.old self.new) }

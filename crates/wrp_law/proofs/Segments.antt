@@ -6,7 +6,7 @@ use Rattle.std.proofs.lemmas.Nat.{le-div}
 use Rattle.std.proofs.lemmas.Int.{ints}
 use borrow.Author.Differences.{up, down}
 use Rattle.wrp_base.specs.Division.{floor_quotient}
-use Rattle.wrp_base.proofs.Integers.{fraction_is_positive}
+use Rattle.wrp_base.proofs.Integers.{fraction_is_its_size}
 use Rattle.wrp_law.specs.Law.{IsNear}
 use Rattle.wrp_law.specs.Table.{segment_value}
 use Rattle.wrp_law.specs.declared.delay.LawKind.TheVariants.{Linear}
@@ -138,4 +138,4 @@ near_at m e f c part x1 y1 x2 y2 x part_is f_is p start end =
 pub segment_value-near : (kappa : ℤ) (err : ℕ) (x1 y1 x2 y2 x : ℤ) → unsigned_abs kappa ≤ 2 ^ 38 → x1 <ℤ x2 → y1 ≤ℤ y2 → x1 ≤ℤ x → x ≤ℤ x2 → IsNear (Linear kappa) err x1 y1 → IsNear (Linear kappa) err x2 y2 → IsNear (Linear kappa) (err + 1) x (segment_value (x1, y1) (x2, y2) x)
 segment_value-near kappa err x1 y1 x2 y2 x size rises stays after before start end =
     near_at (2 ^ 40) (2 ^ 40 * err) (2 ^ 40 * (err + 1)) (unsigned_abs (pos (2 ^ 39) +ℤ kappa)) (pos (2 ^ 39) +ℤ kappa) x1 y1 x2 y2 x
-    (fraction_is_positive kappa size) (omega arith) (steps x1 y1 x2 y2 x rises stays after before) start end
+    (fraction_is_its_size kappa size) (omega arith) (steps x1 y1 x2 y2 x rises stays after before) start end

@@ -27,7 +27,7 @@ pub record FitsPorts (set : NodeSet) : Type 0 where
   pub ring_least : 1 ≤ set.ring
   pub ring_most : set.ring ≤ 4096
 
--- settings of a node: those of its ports and of its servo, ports of different numbers, and at least one tick from one track report to the next
+-- what a node may be set to: what its ports and its servo may, ports of different numbers, and at least one tick from one track report to the next
 pub record FitsNodeSet (set : NodeSet) : Type 0 where
   pub ports : FitsPorts set
   pub servo : FitsServoSet set.servo
@@ -43,7 +43,7 @@ abbrev pub high_of : {F : Type 0} → Option (LawOf F) → ℤ
 high_of None = pos 0
 high_of (Some law) = law.hi
 
--- what is fixed of a node with these settings and this law
+-- the setting of a node that is set to this, with this law
 abbrev pub node_setting_of : {F : Type 0} → NodeSet → Option (LawOf F) → NodeSetting
 node_setting_of set law = record { set = set; lo = low_of law; hi = high_of law }
 

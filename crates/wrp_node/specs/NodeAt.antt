@@ -30,7 +30,7 @@ pub record Taken : Type 0 where
   pub says : Result PtpMsg FrameFault
   pub answer : ℤ
 
--- what is fixed of a node: its settings, and the range of its delay law
+-- the setting of a node: what it is set to, and the range of its delay law
 pub record NodeSetting : Type 0 where
   pub set : NodeSet
   pub lo : ℤ

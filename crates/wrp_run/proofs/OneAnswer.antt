@@ -38,7 +38,7 @@ use Rattle.wrp_run.proofs.OneSim.{exact_simulation}
 use Rattle.wrp_run.proofs.Unique.{one_records_answer}
 use Rattle.wrp_run.proofs.WordLemmas.{audit_alone, emission_alone, no_option, one_seed, one_value, simulation_alone}
 
--- a site of these parts
+-- a setting of these parts
 abbrev site_with : NetCfg → Database → ℕ → LineSetting
 site_with cfg db node = record { cfg = cfg; db = db; node = node }
 

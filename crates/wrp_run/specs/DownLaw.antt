@@ -44,7 +44,7 @@ greatest_over db (Some link) = greatest_by (table_at db link.fibre.bytes)
 abbrev pub law_at : LineSetting → ℤ → ℤ
 law_at site x = down_over site.db (link_above site.cfg site.node) x
 
--- what is fixed of a node: what it is set to, and the range of that law
+-- the setting of a node: what it is set to, and the range of that law
 abbrev pub node_setting_at : LineSetting → NodeSetting
 node_setting_at site = record {
   set = set_of site.cfg site.node;

@@ -18,7 +18,7 @@ pub data Call : Type 0 where
   CallCarrier : (up : Bool) → Call
   CallReset : Call
 
--- what is fixed: the settings, and the range of the law
+-- the setting of a servo: what it is set to, and the range of its law
 pub record ServoSetting : Type 0 where
   pub set : ServoSet
   pub lo : ℤ

@@ -21,7 +21,7 @@ pub record ServoOf (F : Type 0) : Type 0 where
   pub core : Core
   pub law : LawOf F
 
--- what is fixed for a set and a law
+-- the setting of a set and a law
 abbrev pub servo_setting_of : {F : Type 0} → ServoSet → LawOf F → ServoSetting
 servo_setting_of set law = record { set = set; lo = law.lo; hi = law.hi }
 

@@ -5,7 +5,7 @@ use Rattle.std.proofs.Math.Nat.{div-add-mod, mod-lt, mul-le-mul_left}
 use Rattle.wrp_base.specs.Division.{floor_quotient, trunc_quotient}
 use Rattle.wrp_base.specs.Held.{held_within}
 use Rattle.wrp_base.proofs.DivisionLaws.{floor_quotient-at_most, floor_quotient-next}
-use Rattle.wrp_base.proofs.Integers.{fraction_is_positive}
+use Rattle.wrp_base.proofs.Integers.{fraction_is_its_size}
 
 -- Draws
 
@@ -105,8 +105,8 @@ pub split : (kappa : ℤ) (sum room e : ℕ) → unsigned_abs kappa ≤ 2 ^ 38 �
     IsSplit kappa room e (floor_quotient (pos sum *ℤ (pos (2 ^ 39) +ℤ kappa)) (pos (2 ^ 40))) (pos sum -ℤ floor_quotient (pos sum *ℤ (pos (2 ^ 39) +ℤ kappa)) (pos (2 ^ 40)))
 split kappa sum room e small fits one =
     let c : ℕ = unsigned_abs (pos (2 ^ 39) +ℤ kappa) in
-    subst (λ (x : ℤ). IsSplit kappa room e x (pos sum -ℤ x)) (sym (floor_is kappa sum c (fraction_is_positive kappa small)))
-    (split_by kappa c (sum * c / 2 ^ 40) sum room e (fraction_is_positive kappa small) (div-add-mod (sum * c) (2 ^ 40)) (share_low kappa small) (share_high kappa small) fits one)
+    subst (λ (x : ℤ). IsSplit kappa room e x (pos sum -ℤ x)) (sym (floor_is kappa sum c (fraction_is_its_size kappa small)))
+    (split_by kappa c (sum * c / 2 ^ 40) sum room e (fraction_is_its_size kappa small) (div-add-mod (sum * c) (2 ^ 40)) (share_low kappa small) (share_high kappa small) fits one)
 
 -- Drifts
 

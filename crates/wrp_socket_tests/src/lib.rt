@@ -1,4 +1,4 @@
-//! Tests of the link over sockets, of which no clause says what it carries, and no case can have the system's sockets.
+//! Tests of the link over sockets: no clause says what it carries, and a case cannot have the sockets of the system.
 #![tactic(auto)]
 
 #[cfg(test)]

@@ -8,7 +8,7 @@ ghost use Rattle.wrp_base.specs.Network.{IsAmong};
 ghost use Rattle.wrp_world.specs.EventAt.{IsRaw, IsTime};
 
 use crate::digits::{bits, octets};
-use crate::site::{has_port, named_at};
+use crate::line_setting::{has_port, named_at};
 use crate::times::time;
 use csv::ByteRecord;
 use wrp_base::{Frame, Module, Raw, Stamp, Tau, TraceFault};

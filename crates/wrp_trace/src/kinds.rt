@@ -5,7 +5,7 @@ ghost use Rattle.wrp_caldb.specs.Name.{same_name};
 ghost use Rattle.wrp_trace.specs.Kinds.{word_of, field_count, has_kind, kind_of, all_kinds};
 ghost use Rattle.wrp_trace.specs.LineSetting.{line_setting_of};
 
-use crate::site::is_grandmaster;
+use crate::line_setting::is_grandmaster;
 use wrp_config::Network;
 
 /// A kind of input line.

@@ -8,8 +8,8 @@ mod fields;
 mod inputs;
 mod kinds;
 mod laws;
+mod line_setting;
 mod printing;
-mod site;
 mod times;
 
 pub use events::{EventKind, event_line, read_event, read_event_fields};

@@ -9,7 +9,7 @@ ghost use Rattle.wrp_trace.specs.InputAt.{IsInputAt, FitsTypes};
 ghost use Rattle.wrp_trace.specs.Printing.{bits_text, message_text, joined, sample_texts, frame_texts, sent_texts, carrier_texts, line_of};
 ghost use Rattle.wrp_trace.specs.LineSetting.{line_setting_of};
 
-use crate::site::module_name;
+use crate::line_setting::module_name;
 use std::alloc::{AllocError, Global};
 use wrp_base::{Frame, Module, Raw, Stamp};
 use wrp_config::Network;

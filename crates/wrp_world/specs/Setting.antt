@@ -24,7 +24,7 @@ pub record Setting : Type 0 where
   pub lo : ℕ → ℤ
   pub hi : ℕ → ℤ
 
--- what is fixed of a node
+-- the setting of a node
 abbrev pub node_setting_of : Setting → ℕ → NodeSetting
 node_setting_of s n = record { set = s.set n; lo = s.lo n; hi = s.hi n }
 
