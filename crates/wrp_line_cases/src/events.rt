@@ -1,7 +1,7 @@
 //! Cases on `read_event` and `event_line`: for each line behind `---` is due what happens, and then the line that
 //! this is printed as; or why it is refused. Nodes and links are told by their places in the network, from 0.
 ghost use Rattle.wrp_config.specs.Accepted.{IsAccepted};
-ghost use Rattle.wrp_world.specs.EventAt.{IsEventOf};
+ghost use Rattle.wrp_course.specs.EventAt.{IsEventOf};
 
 use crate::octets::digits_of;
 use crate::parts::{halves, network_of, push_line, push_printed, push_refused};
@@ -10,7 +10,7 @@ use wrp_base::{Frame, Raw, Tau};
 use wrp_config::Network;
 use wrp_suite::{Answer, Case, Fault};
 use wrp_trace::{event_line, read_event};
-use wrp_world::{Event, Swap};
+use wrp_course::{Event, Swap};
 
 // A raw stamp.
 fn raw_words(alloc: Global, raw: Raw) -> Result<String, AllocError> {

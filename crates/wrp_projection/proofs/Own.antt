@@ -26,15 +26,15 @@ use Rattle.wrp_node.specs.NodeStep.{node_step}
 use Rattle.wrp_node.specs.StepLaws.{ticks_by}
 use Rattle.wrp_trace.specs.Printing.{line_of}
 use Rattle.wrp_trace.specs.LineSetting.{LineSetting, line_setting_in}
-use Rattle.wrp_world.specs.declared.event.Event.{Event}
-use Rattle.wrp_world.specs.declared.event.Event.TheVariants.{Pass, Tick, Sample, Depart, Arrive, Deliver, Noise, Down, Up, Cut, Join}
-use Rattle.wrp_world.specs.declared.place.Place.{Place}
-use Rattle.wrp_world.proofs.Departing.{turned_about}
-use Rattle.wrp_world.specs.Given.{Given, NodeStepAt, at_ports, comes_at, comes_from, delivered, delivered_by, delivered_to, given_by, given_plain, gives, gives_all, goes_at, goes_from, if_carried, node_step_of, sent_oldest, step_of, steps_of, taken_of, told_sending}
-use Rattle.wrp_world.specs.Moved.{moved, waiting_at}
-use Rattle.wrp_world.specs.Run.{Happened, steps_at, world_after}
-use Rattle.wrp_world.specs.Setting.{Setting, end_at, entry_at, node_setting_of, place_of}
-use Rattle.wrp_world.specs.WorldAt.{Arrival, FrameAt, Sending, WorldAt, has_carrier}
+use Rattle.wrp_course.specs.declared.event.Event.{Event}
+use Rattle.wrp_course.specs.declared.event.Event.TheVariants.{Pass, Tick, Sample, Depart, Arrive, Deliver, Noise, Down, Up, Cut, Join}
+use Rattle.wrp_course.specs.declared.place.Place.{Place}
+use Rattle.wrp_plant.proofs.Departing.{turned_about}
+use Rattle.wrp_course.specs.Given.{Given, NodeStepAt, at_ports, comes_at, comes_from, delivered, delivered_by, delivered_to, given_by, given_plain, gives, gives_all, goes_at, goes_from, if_carried, node_step_of, sent_oldest, step_of, steps_of, taken_of, told_sending}
+use Rattle.wrp_course.specs.Moved.{moved, waiting_at}
+use Rattle.wrp_course.specs.Run.{Happened, steps_at, world_after}
+use Rattle.wrp_course.specs.Setting.{Setting, end_at, entry_at, node_setting_of, place_of}
+use Rattle.wrp_course.specs.WorldAt.{Arrival, FrameAt, Sending, WorldAt, has_carrier}
 use Rattle.wrp_run.specs.Audited.{setting_at}
 use Rattle.wrp_run.specs.AuditText.{audit_lines, given_line, given_lines, step_lines}
 use Rattle.wrp_run.specs.DownLaw.{node_setting_at}

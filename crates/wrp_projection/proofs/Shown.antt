@@ -27,7 +27,7 @@ use Rattle.wrp_node.specs.declared.interface.Output.TheVariants as output
 use Rattle.wrp_node.specs.declared.interface.Report.TheVariants.{Link, Servo, Track}
 use Rattle.wrp_node.specs.NodeAt.{NodeAt}
 use Rattle.wrp_trace.specs.LineSetting.{LineSetting, has_port}
-use Rattle.wrp_world.specs.Setting.{from_on}
+use Rattle.wrp_course.specs.Setting.{from_on}
 use Rattle.wrp_run.specs.Lines.{IsWhole, lines_of}
 use Rattle.wrp_run.specs.NodeText.{node_counts, nonzero_line, port_counts, port_numbers}
 use Rattle.wrp_run.proofs.Reaching.{lines_alone}

@@ -30,10 +30,10 @@ use Rattle.wrp_fields.specs.Numbers.{kept_in, natural_in, number_of}
 use Rattle.wrp_trace.specs.Times.{time_of}
 use Rattle.wrp_fields.specs.Reading.{field_of, is_plain, ◌>>=◌}
 use Rattle.wrp_trace.specs.Swaps.{swaps_said}
-use Rattle.wrp_world.specs.declared.event.Event.{Event}
-use Rattle.wrp_world.specs.declared.event.Event.TheVariants as events
-use Rattle.wrp_world.specs.declared.event.Swap.{Swap}
-use Rattle.wrp_world.specs.EventAt.{IsRaw, IsTime}
+use Rattle.wrp_course.specs.declared.event.Event.{Event}
+use Rattle.wrp_course.specs.declared.event.Event.TheVariants as events
+use Rattle.wrp_course.specs.declared.event.Swap.{Swap}
+use Rattle.wrp_course.specs.EventAt.{IsRaw, IsTime}
 use Rattle.wrp_recorded.specs.Ranges.{FitsFrame, IsRanged}
 
 -- Readings that gave a value

@@ -17,17 +17,17 @@ use Rattle.wrp_node.specs.declared.interface.Input.TheVariants as inputs
 use Rattle.wrp_node.specs.NodeAt.{numbers_of}
 use Rattle.wrp_trace.specs.InputAt.{FitsTypes, IsInputAt}
 use Rattle.wrp_trace.specs.LineSetting.{LineSetting, has_port, is_grandmaster, line_setting_in}
-use Rattle.wrp_world.specs.Checks.{AllHold}
-use Rattle.wrp_world.specs.declared.event.Event.{Event}
-use Rattle.wrp_world.specs.declared.event.Event.TheVariants.{Pass, Tick, Sample, Depart, Arrive, Deliver, Noise, Down, Up, Cut, Join}
-use Rattle.wrp_world.specs.declared.place.Place.{Place}
-use Rattle.wrp_world.specs.EventAt.{IsTime}
-use Rattle.wrp_world.specs.Given.{Given, at_ports, comes_at, comes_from, delivered, delivered_by, delivered_to, given_by, given_plain, goes_at, goes_from, if_carried, sent_oldest, told_sending}
-use Rattle.wrp_world.specs.Moved.{moved, waiting_at}
-use Rattle.wrp_world.specs.Premises.{Accepts, noise_checks, sample_checks}
-use Rattle.wrp_world.specs.Setting.{Setting, above, end_at, entry_at, place_of}
-use Rattle.wrp_world.specs.WorldAt.{Arrival, FrameAt, Sending, WorldAt, has_carrier}
-use Rattle.wrp_world.proofs.RunNetwork.{end_with}
+use Rattle.wrp_course.specs.Checks.{AllHold}
+use Rattle.wrp_course.specs.declared.event.Event.{Event}
+use Rattle.wrp_course.specs.declared.event.Event.TheVariants.{Pass, Tick, Sample, Depart, Arrive, Deliver, Noise, Down, Up, Cut, Join}
+use Rattle.wrp_course.specs.declared.place.Place.{Place}
+use Rattle.wrp_course.specs.EventAt.{IsTime}
+use Rattle.wrp_course.specs.Given.{Given, at_ports, comes_at, comes_from, delivered, delivered_by, delivered_to, given_by, given_plain, goes_at, goes_from, if_carried, sent_oldest, told_sending}
+use Rattle.wrp_course.specs.Moved.{moved, waiting_at}
+use Rattle.wrp_course.specs.Premises.{Accepts, noise_checks, sample_checks}
+use Rattle.wrp_course.specs.Setting.{Setting, above, end_at, entry_at, place_of}
+use Rattle.wrp_course.specs.WorldAt.{Arrival, FrameAt, Sending, WorldAt, has_carrier}
+use Rattle.wrp_course.proofs.RunNetwork.{end_with}
 use Rattle.wrp_recorded.specs.Ranges.{IsRanged}
 use Rattle.wrp_recorded.proofs.Frames.{frame_fits}
 use Rattle.wrp_recorded.proofs.Kept.{CameSo, FrameSo, Keeps, WaitShort, moved_keeps}

@@ -9,17 +9,17 @@ use Rattle.wrp_base.specs.declared.time.Raw.{Raw}
 use Rattle.wrp_base.specs.Network.{End, other_of}
 use Rattle.wrp_base.proofs.Naturals.{le_later}
 use Rattle.wrp_node.specs.Telling.{Step}
-use Rattle.wrp_world.specs.declared.clocks.ClockState.{ClockState}
-use Rattle.wrp_world.specs.declared.event.Event.{Event}
-use Rattle.wrp_world.specs.declared.event.Event.TheVariants.{Pass, Tick, Sample, Depart, Arrive, Deliver, Noise, Down, Up, Cut, Join}
-use Rattle.wrp_world.specs.declared.event.Swap.{Swap}
-use Rattle.wrp_world.specs.declared.place.Place.{Place}
-use Rattle.wrp_world.specs.EventAt.{IsRaw}
-use Rattle.wrp_world.specs.Given.{Given, clock_told, end_given, given_by, gives, gives_all, sending, step_of, taken_of}
-use Rattle.wrp_world.specs.Moved.{arrived, behind_first, clock_after, departing, end_after, frame_after, is_place, loses, moved, port_number, removed, samples_at, swap_at, waiting_at, with_swap}
-use Rattle.wrp_world.specs.Run.{Happened, world_after}
-use Rattle.wrp_world.specs.Setting.{Setting, end_at, node_setting_of, is_of, place_of}
-use Rattle.wrp_world.specs.WorldAt.{Arrival, EndAt, FrameAt, Sending, WorldAt}
+use Rattle.wrp_course.specs.declared.clocks.ClockState.{ClockState}
+use Rattle.wrp_course.specs.declared.event.Event.{Event}
+use Rattle.wrp_course.specs.declared.event.Event.TheVariants.{Pass, Tick, Sample, Depart, Arrive, Deliver, Noise, Down, Up, Cut, Join}
+use Rattle.wrp_course.specs.declared.event.Swap.{Swap}
+use Rattle.wrp_course.specs.declared.place.Place.{Place}
+use Rattle.wrp_course.specs.EventAt.{IsRaw}
+use Rattle.wrp_course.specs.Given.{Given, clock_told, end_given, given_by, gives, gives_all, sending, step_of, taken_of}
+use Rattle.wrp_course.specs.Moved.{arrived, behind_first, clock_after, departing, end_after, frame_after, is_place, loses, moved, port_number, removed, samples_at, swap_at, waiting_at, with_swap}
+use Rattle.wrp_course.specs.Run.{Happened, world_after}
+use Rattle.wrp_course.specs.Setting.{Setting, end_at, node_setting_of, is_of, place_of}
+use Rattle.wrp_course.specs.WorldAt.{Arrival, EndAt, FrameAt, Sending, WorldAt}
 use Rattle.wrp_recorded.specs.Ranges.{IsRanged}
 use Rattle.wrp_recorded.specs.Recorded.{AllSaidByLines}
 use Rattle.wrp_recorded.proofs.EventRanges.{event_ranged}

@@ -18,7 +18,7 @@ use Rattle.wrp_trace.specs.InputAt.{FitsTypes, IsInputAt, IsListed}
 use Rattle.wrp_trace.specs.Printing.{bits_text, line_of, message_text, module_text, texts_of}
 use Rattle.wrp_trace.specs.LineSetting.{LineSetting}
 use Rattle.wrp_trace.proofs.Listed.{plain_name, printed_name}
-use Rattle.wrp_world.specs.EventAt.{IsTime}
+use Rattle.wrp_course.specs.EventAt.{IsTime}
 
 -- a text of at most 512 octets
 abbrev IsBrief : List ℕ → Type 0

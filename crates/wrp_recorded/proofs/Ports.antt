@@ -15,9 +15,9 @@ use Rattle.wrp_config.specs.Laws.{PortIsOfOneLink}
 use Rattle.wrp_config.specs.Names.{pair_at}
 use Rattle.wrp_trace.specs.InputAt.{IsListed}
 use Rattle.wrp_trace.specs.LineSetting.{LineSetting, has_port, is_grandmaster, module_of, line_setting_in}
-use Rattle.wrp_world.specs.declared.place.Place.{Place}
-use Rattle.wrp_world.specs.Setting.{Setting, above, end_at, end_of, entry_at, link_of, place_of, sends_nm}
-use Rattle.wrp_world.proofs.RunNetwork.{LinkEnd, end_with, link_end, place_end}
+use Rattle.wrp_course.specs.declared.place.Place.{Place}
+use Rattle.wrp_course.specs.Setting.{Setting, above, end_at, end_of, entry_at, link_of, place_of, sends_nm}
+use Rattle.wrp_course.proofs.RunNetwork.{LinkEnd, end_with, link_end, place_end}
 
 pub record PortAt (s : Setting) (k : ℕ) (r : Role) (end : End) : Type 0 where
   pub link : LinkCfg

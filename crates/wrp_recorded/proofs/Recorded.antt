@@ -8,11 +8,11 @@ use Rattle.wrp_node.specs.declared.interface.Input.{Input}
 use Rattle.wrp_node.specs.NodeAt.{Taken}
 use Rattle.wrp_trace.specs.LineSetting.{LineSetting, line_setting_in}
 use Rattle.wrp_trace.proofs.ReadsBack.{reads_back}
-use Rattle.wrp_world.specs.Given.{Given, given_by, gives, gives_all, taken_of}
-use Rattle.wrp_world.specs.Moved.{moved}
-use Rattle.wrp_world.specs.Run.{Happened, world_after}
-use Rattle.wrp_world.specs.Setting.{Setting}
-use Rattle.wrp_world.specs.WorldAt.{WorldAt}
+use Rattle.wrp_course.specs.Given.{Given, given_by, gives, gives_all, taken_of}
+use Rattle.wrp_course.specs.Moved.{moved}
+use Rattle.wrp_course.specs.Run.{Happened, world_after}
+use Rattle.wrp_course.specs.Setting.{Setting}
+use Rattle.wrp_course.specs.WorldAt.{WorldAt}
 use Rattle.wrp_recorded.specs.Ranges.{IsRanged}
 use Rattle.wrp_recorded.specs.Recorded.{InputsAreRecorded, IsRecorded, IsSaidRun}
 use Rattle.wrp_recorded.proofs.EventRanges.{event_ranged}

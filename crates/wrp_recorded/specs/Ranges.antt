@@ -1,9 +1,9 @@
 -- The ranges of the numbers of an event, as far as it hands them on to a node (this project's profile).
 use Rattle.std.specs.Prelude.{ℕ, ◌≤◌, ◌<◌, ◌^◌, List, length}
 use Rattle.wrp_base.specs.Octets.{AreOctets}
-use Rattle.wrp_world.specs.declared.event.Event.{Event}
-use Rattle.wrp_world.specs.declared.event.Event.TheVariants.{Sample, Depart, Arrive, Noise}
-use Rattle.wrp_world.specs.EventAt.{IsRaw, IsTime}
+use Rattle.wrp_course.specs.declared.event.Event.{Event}
+use Rattle.wrp_course.specs.declared.event.Event.TheVariants.{Sample, Depart, Arrive, Noise}
+use Rattle.wrp_course.specs.EventAt.{IsRaw, IsTime}
 
 -- octets that a frame has room for
 pub record FitsFrame (octets : List ℕ) : Type 0 where

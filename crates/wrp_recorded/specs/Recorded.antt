@@ -10,8 +10,8 @@ use Rattle.wrp_trace.specs.Events.{event_read}
 use Rattle.wrp_trace.specs.Inputs.{read_of}
 use Rattle.wrp_trace.specs.Printing.{line_of}
 use Rattle.wrp_trace.specs.LineSetting.{LineSetting, line_setting_in}
-use Rattle.wrp_world.specs.Run.{AllAccepted, Happened, world_after}
-use Rattle.wrp_world.specs.Setting.{Setting}
+use Rattle.wrp_course.specs.Run.{AllAccepted, Happened, world_after}
+use Rattle.wrp_course.specs.Setting.{Setting}
 
 -- each event is one that a line says
 abbrev pub AllSaidByLines : NetCfg → List Happened → Type 0

@@ -12,9 +12,9 @@ use Rattle.wrp_node.specs.Set.{set_of}
 use Rattle.wrp_node.specs.StandsFor.{NodeOf, StandsFor as NodeStandsFor}
 use Rattle.wrp_trace.specs.LineSetting.{LineSetting, has_port, line_setting_in, line_setting_of}
 use Rattle.wrp_config.specs.declared.network.Network.{Network}
-use Rattle.wrp_world.specs.Setting.{Setting, node_setting_of, from_on}
+use Rattle.wrp_course.specs.Setting.{Setting, node_setting_of, from_on}
 use Rattle.wrp_world.specs.StandsFor.{StandsFor, WorldOf}
-use Rattle.wrp_world.specs.WorldAt.{WorldAt}
+use Rattle.wrp_course.specs.WorldAt.{WorldAt}
 use Rattle.wrp_run.specs.AuditText.{all_counts}
 use Rattle.wrp_run.specs.NodeText.{node_counts, port_counts, port_numbers}
 use Rattle.wrp_run.specs.StandsFor.{OwnsPorts}

@@ -25,17 +25,17 @@ use Rattle.wrp_servo.specs.Servo.{AllAnswered}
 use Rattle.wrp_trace.specs.Events.{event_read, plain}
 use Rattle.wrp_trace.specs.LineSetting.{line_setting_in}
 use Rattle.wrp_fields.specs.Reading.{IsReading}
-use Rattle.wrp_world.specs.Checks.{AllHold, told_of}
-use Rattle.wrp_world.specs.declared.event.Event.{Event}
-use Rattle.wrp_world.specs.declared.outcome.NodeOut.{NodeOut}
+use Rattle.wrp_course.specs.Checks.{AllHold, told_of}
+use Rattle.wrp_course.specs.declared.event.Event.{Event}
+use Rattle.wrp_course.specs.declared.node_out.NodeOut.{NodeOut}
 use Rattle.wrp_world.specs.declared.outcome.Refused.TheVariants.{Broken}
-use Rattle.wrp_world.specs.Given.{Given, given_by, gives, gives_all, step_of, taken_of, world_step}
-use Rattle.wrp_world.specs.Moved.{moved}
-use Rattle.wrp_world.specs.Run.{Happened, IsAnswered, world_after, steps_at}
-use Rattle.wrp_world.specs.Setting.{Setting, node_setting_of}
+use Rattle.wrp_course.specs.Given.{Given, given_by, gives, gives_all, step_of, taken_of, world_step}
+use Rattle.wrp_course.specs.Moved.{moved}
+use Rattle.wrp_course.specs.Run.{Happened, IsAnswered, world_after, steps_at}
+use Rattle.wrp_course.specs.Setting.{Setting, node_setting_of}
 use Rattle.wrp_world.specs.StandsFor.{IsValid, StandsFor, WorldOf}
 use Rattle.wrp_world.specs.Step.{IsRefusal, StaysSo, Stepped, step_seen}
-use Rattle.wrp_world.specs.WorldAt.{WorldAt}
+use Rattle.wrp_course.specs.WorldAt.{WorldAt}
 use Rattle.wrp_run.specs.declared.audit.AuditedNetwork.{AuditedNetwork}
 use Rattle.wrp_run.specs.declared.machine.Refusal.{Refusal}
 use Rattle.wrp_run.specs.declared.machine.Refusal.TheVariants as refusals

@@ -22,18 +22,18 @@ use Rattle.wrp_config.specs.Same.{bare_cfg}
 use Rattle.wrp_frame.specs.declared.fault.FrameFault.{FrameFault}
 use Rattle.wrp_node.specs.declared.interface.Input.TheVariants.{Carrier, Reset}
 use Rattle.wrp_node.specs.NodeAt.{locked_of, numbers_of, state_of}
-use Rattle.wrp_world.specs.Checks.{at_most, only_where, size_of, stands}
-use Rattle.wrp_world.specs.declared.clocks.ClockState.{ClockState}
-use Rattle.wrp_world.specs.declared.event.Event.{Event}
-use Rattle.wrp_world.specs.declared.event.Event.TheVariants.{Pass, Tick, Sample, Depart, Arrive, Deliver, Noise, Down, Up, Cut, Join}
-use Rattle.wrp_world.specs.declared.event.Swap.{Swap}
-use Rattle.wrp_world.specs.declared.place.Place.{Place}
-use Rattle.wrp_world.specs.Given.{Given, NodeStepAt, at_ports, comes_from, delivered, delivered_by, delivered_to, end_given, event_steps, given_by, given_plain, gives, gives_all, goes_from, if_carried, node_step_of, sent_oldest, step_of, steps_of, world_step}
-use Rattle.wrp_world.specs.Run.{Happened, steps_at, world_after}
-use Rattle.wrp_world.specs.Moved.{moved, arrived, behind_first, departing, drift_of, is_place, one_more, samples_at, swap_at, with_swap, waiting_at}
-use Rattle.wrp_world.specs.Premises.{arrive_checks, beat_by, beat_checks, checks, checks_of, deliver_by, deliver_checks, depart_checks, entry_for, fibre_checks, fibre_kept, fibre_rate, is_forged, module_checks, module_kept, noise_checks, pass_checks, rate_checks, rate_of, raw_checks, received, sample_checks, swap_stands, tick_late, too_old, transition_of, true_at_top}
-use Rattle.wrp_world.specs.Setting.{Setting, above, end_at, end_of, entry_at, node_setting_of, from_on, is_of, is_role, link_of, links_of, nodes_of, of_node, place_among, place_of, sends_nm}
-use Rattle.wrp_world.specs.WorldAt.{Arrival, FrameAt, Sending, WorldAt, ends_are_up, first_name, has_carrier, is_on_fibre, named_at, new_end, new_world, phase_of, reading}
+use Rattle.wrp_course.specs.Checks.{at_most, only_where, size_of, stands}
+use Rattle.wrp_course.specs.declared.clocks.ClockState.{ClockState}
+use Rattle.wrp_course.specs.declared.event.Event.{Event}
+use Rattle.wrp_course.specs.declared.event.Event.TheVariants.{Pass, Tick, Sample, Depart, Arrive, Deliver, Noise, Down, Up, Cut, Join}
+use Rattle.wrp_course.specs.declared.event.Swap.{Swap}
+use Rattle.wrp_course.specs.declared.place.Place.{Place}
+use Rattle.wrp_course.specs.Given.{Given, NodeStepAt, at_ports, comes_from, delivered, delivered_by, delivered_to, end_given, event_steps, given_by, given_plain, gives, gives_all, goes_from, if_carried, node_step_of, sent_oldest, step_of, steps_of, world_step}
+use Rattle.wrp_course.specs.Run.{Happened, steps_at, world_after}
+use Rattle.wrp_course.specs.Moved.{moved, arrived, behind_first, departing, drift_of, is_place, one_more, samples_at, swap_at, with_swap, waiting_at}
+use Rattle.wrp_course.specs.Premises.{arrive_checks, beat_by, beat_checks, checks, checks_of, deliver_by, deliver_checks, depart_checks, entry_for, fibre_checks, fibre_kept, fibre_rate, is_forged, module_checks, module_kept, noise_checks, pass_checks, rate_checks, rate_of, raw_checks, received, sample_checks, swap_stands, tick_late, too_old, transition_of, true_at_top}
+use Rattle.wrp_course.specs.Setting.{Setting, above, end_at, end_of, entry_at, node_setting_of, from_on, is_of, is_role, link_of, links_of, nodes_of, of_node, place_among, place_of, sends_nm}
+use Rattle.wrp_course.specs.WorldAt.{Arrival, FrameAt, Sending, WorldAt, ends_are_up, first_name, has_carrier, is_on_fibre, named_at, new_end, new_world, phase_of, reading}
 use Rattle.wrp_run.specs.Audited.{setting_at}
 use Rattle.wrp_run.proofs.BareSetting.{fixed_bare, flat_map_same, set_bare}
 

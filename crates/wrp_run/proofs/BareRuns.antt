@@ -11,11 +11,11 @@ use Rattle.wrp_node.specs.OneRun.{answers_by}
 use Rattle.wrp_servo.specs.Servo.{AllAnswered}
 use Rattle.wrp_trace.specs.Events.{event_read}
 use Rattle.wrp_trace.specs.LineSetting.{line_setting_in}
-use Rattle.wrp_world.specs.Checks.{AllHold, told_of}
-use Rattle.wrp_world.specs.Premises.{checks_of}
-use Rattle.wrp_world.specs.Run.{AllAccepted, Happened, IsAnswered, world_after}
-use Rattle.wrp_world.specs.Setting.{Setting, node_setting_of}
-use Rattle.wrp_world.specs.WorldAt.{WorldAt}
+use Rattle.wrp_course.specs.Checks.{AllHold, told_of}
+use Rattle.wrp_course.specs.Premises.{checks_of}
+use Rattle.wrp_course.specs.Run.{AllAccepted, Happened, IsAnswered, world_after}
+use Rattle.wrp_course.specs.Setting.{Setting, node_setting_of}
+use Rattle.wrp_course.specs.WorldAt.{WorldAt}
 use Rattle.wrp_run.specs.declared.machine.Refusal.{Refusal}
 use Rattle.wrp_run.specs.declared.machine.Refusal.TheVariants as refusals
 use Rattle.wrp_run.specs.declared.status.Status.{Status}

@@ -22,14 +22,14 @@ use Rattle.wrp_sim.specs.Rules.{Next, after_arrival, after_draw, arrives, begins
 use Rattle.wrp_sim.specs.Scenario.{SceneAt, delta_ms, delta_sm, free_of, kappa_of, new_scene, sum_of}
 use Rattle.wrp_sim.specs.SimAt.{SimAt}
 use Rattle.wrp_sim.specs.SimRun.{Gives, IsSimRun}
-use Rattle.wrp_world.specs.declared.event.Event.TheVariants.{Pass, Sample, Depart, Arrive, Join}
-use Rattle.wrp_world.specs.EventAt.{link_count}
-use Rattle.wrp_world.specs.Moved.{waiting_at}
-use Rattle.wrp_world.specs.Premises.{transition_of}
-use Rattle.wrp_world.specs.Run.{Happened, world_after}
-use Rattle.wrp_world.specs.Setting.{Setting, node_setting_of, from_on, link_of}
-use Rattle.wrp_world.specs.Views.{oldest_of}
-use Rattle.wrp_world.specs.WorldAt.{WorldAt, reading}
+use Rattle.wrp_course.specs.declared.event.Event.TheVariants.{Pass, Sample, Depart, Arrive, Join}
+use Rattle.wrp_course.specs.EventAt.{link_count}
+use Rattle.wrp_course.specs.Moved.{waiting_at}
+use Rattle.wrp_course.specs.Premises.{transition_of}
+use Rattle.wrp_course.specs.Run.{Happened, world_after}
+use Rattle.wrp_course.specs.Setting.{Setting, node_setting_of, from_on, link_of}
+use Rattle.wrp_course.specs.Views.{oldest_of}
+use Rattle.wrp_course.specs.WorldAt.{WorldAt, reading}
 use Rattle.wrp_run.specs.declared.machine.Refusal.{Refusal}
 use Rattle.wrp_run.specs.declared.machine.Refusal.TheVariants as refusals
 use Rattle.wrp_run.specs.declared.status.Status.{Status}

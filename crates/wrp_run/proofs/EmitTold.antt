@@ -1,7 +1,7 @@
 -- What an audit that was asked for the inputs of a node wrote are these, and what stands behind them, by its status.
 use Rattle.std.proofs.Common.{◌≡◌, ◌⊎◌, inl, inr, refl, sym, subst, ℕ, Option, None, Some, IfSome, List, [], ◌++◌, arith}
 use Rattle.std.specs.Io.KnownBytes.{Appends}
-use Rattle.wrp_world.specs.Setting.{Setting}
+use Rattle.wrp_course.specs.Setting.{Setting}
 use Rattle.wrp_run.specs.declared.command_line.Form.TheVariants as forms
 use Rattle.wrp_run.specs.declared.status.Status.{Status}
 use Rattle.wrp_run.specs.declared.status.Status.TheVariants.{ReadFault, OutOfMemory}

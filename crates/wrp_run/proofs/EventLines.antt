@@ -22,9 +22,9 @@ use Rattle.wrp_lines.specs.Words.{link_word, servo_word}
 use Rattle.wrp_node.specs.declared.interface.Output.{Output}
 use Rattle.wrp_node.specs.declared.interface.Output.TheVariants.{Send, Step, Dac, Report}
 use Rattle.wrp_node.specs.declared.interface.Report.TheVariants.{Link, Servo, Track}
-use Rattle.wrp_world.specs.Given.{NodeStepAt}
-use Rattle.wrp_world.specs.Setting.{Setting}
-use Rattle.wrp_world.specs.WorldAt.{WorldAt}
+use Rattle.wrp_course.specs.Given.{NodeStepAt}
+use Rattle.wrp_course.specs.Setting.{Setting}
+use Rattle.wrp_course.specs.WorldAt.{WorldAt}
 use Rattle.wrp_run.specs.EventLines.{IsWord, is_word_octet}
 use Rattle.wrp_run.specs.Lines.{HasNoFeed, IsWhole, lines_of}
 use Rattle.wrp_run.proofs.Feeds.{lines_of-whole, no_feed-append}

@@ -4,14 +4,14 @@ use Rattle.std.proofs.lemmas.List.{map-append, reverse-append, reverse-reverse}
 use Rattle.wrp_node.specs.NodeAt.{Taken}
 use Rattle.wrp_node.specs.NodeRun.{AllSaid}
 use Rattle.wrp_trace.specs.Events.{event_read}
-use Rattle.wrp_world.specs.Checks.{AllHold, Check, breach_of, first_broken, told_of}
-use Rattle.wrp_world.specs.declared.event.Event.{Event}
-use Rattle.wrp_world.specs.Given.{Given, given_by, gives, gives_all, taken_of}
-use Rattle.wrp_world.specs.Moved.{moved}
-use Rattle.wrp_world.specs.Premises.{Accepts, checks_of}
-use Rattle.wrp_world.specs.Run.{Happened, IsSaid, world_after}
-use Rattle.wrp_world.specs.Setting.{Setting}
-use Rattle.wrp_world.specs.WorldAt.{WorldAt}
+use Rattle.wrp_course.specs.Checks.{AllHold, Check, breach_of, first_broken, told_of}
+use Rattle.wrp_course.specs.declared.event.Event.{Event}
+use Rattle.wrp_course.specs.Given.{Given, given_by, gives, gives_all, taken_of}
+use Rattle.wrp_course.specs.Moved.{moved}
+use Rattle.wrp_course.specs.Premises.{Accepts, checks_of}
+use Rattle.wrp_course.specs.Run.{Happened, IsSaid, world_after}
+use Rattle.wrp_course.specs.Setting.{Setting}
+use Rattle.wrp_course.specs.WorldAt.{WorldAt}
 use Rattle.wrp_run.specs.declared.machine.Refusal.{Refusal}
 use Rattle.wrp_run.specs.declared.machine.Refusal.TheVariants as refusals
 use Rattle.wrp_run.specs.Audited.{IsAudit}

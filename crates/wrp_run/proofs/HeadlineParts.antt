@@ -10,15 +10,15 @@ use Rattle.wrp_node.specs.declared.interface.Input.{Input}
 use Rattle.wrp_node.specs.declared.interface.Input.TheVariants.{Tick, Sample, Frame, Sent, Carrier, Reset}
 use Rattle.wrp_node.specs.declared.interface.Output.{Output}
 use Rattle.wrp_trace.specs.Events.{EventsCanCome, event_read}
-use Rattle.wrp_world.specs.Dropped.{DroppedFramesLeaveACount, DropsLeaveACount, LeavesACount, given_at}
-use Rattle.wrp_world.specs.Earned.{LinkOnIsEarned, ReportsAreTrue}
-use Rattle.wrp_world.specs.declared.event.Event.{Event}
-use Rattle.wrp_world.specs.EventAt.{IsEventOf}
+use Rattle.wrp_course.specs.Dropped.{DroppedFramesLeaveACount, DropsLeaveACount, LeavesACount, given_at}
+use Rattle.wrp_course.specs.Earned.{LinkOnIsEarned, ReportsAreTrue}
+use Rattle.wrp_course.specs.declared.event.Event.{Event}
+use Rattle.wrp_course.specs.EventAt.{IsEventOf}
 use Rattle.wrp_truth.proofs.Suffixes.{run_before}
-use Rattle.wrp_world.specs.Given.{Given}
-use Rattle.wrp_world.specs.Run.{Happened, steps_at, world_after}
-use Rattle.wrp_world.specs.Runs.{AllEvents, IsNetwork, IsRun}
-use Rattle.wrp_world.specs.Setting.{Setting}
+use Rattle.wrp_course.specs.Given.{Given}
+use Rattle.wrp_course.specs.Run.{Happened, steps_at, world_after}
+use Rattle.wrp_course.specs.Runs.{AllEvents, IsNetwork, IsRun}
+use Rattle.wrp_course.specs.Setting.{Setting}
 use Rattle.wrp_run.specs.Audited.{AreEvents, IsSettingOf}
 use Rattle.wrp_run.specs.EventLines.{AtEachEvent, Writing}
 use Rattle.wrp_run.specs.Headline.{AsksEventsOf, CarriesParts, Came, DropsCountAt, IsEarnedAt, OnlyCounts, OnlyCountsIf}

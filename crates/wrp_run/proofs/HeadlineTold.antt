@@ -1,7 +1,7 @@
 -- What an audit wrote are the lines of the nodes' steps, and what stands behind them, by its status.
 use Rattle.std.proofs.Common.{◌≡◌, ◌⊎◌, inl, inr, refl, sym, subst, ℕ, Option, None, Some, IfSome, List, [], ◌++◌}
 use Rattle.std.specs.Io.KnownBytes.{Appends}
-use Rattle.wrp_world.specs.Setting.{Setting}
+use Rattle.wrp_course.specs.Setting.{Setting}
 use Rattle.wrp_run.specs.declared.status.Status.{Status}
 use Rattle.wrp_run.specs.declared.status.Status.TheVariants.{ReadFault, OutOfMemory}
 use Rattle.wrp_run.specs.Answer.{AsksNone, CutTask, TaskAnswer}

@@ -23,9 +23,9 @@ use Rattle.wrp_servo.specs.Measuring.{is_in, x_of}
 use Rattle.wrp_servo.specs.Servo.{AllAnswered}
 use Rattle.wrp_tracking.specs.ErrorSum.{IsShare}
 use Rattle.wrp_truth.specs.Fours.{IsNearAnswer}
-use Rattle.wrp_world.specs.Run.{IsAnswered}
-use Rattle.wrp_world.specs.Setting.{Setting, node_setting_of}
-use Rattle.wrp_world.specs.WorldAt.{WorldAt}
+use Rattle.wrp_course.specs.Run.{IsAnswered}
+use Rattle.wrp_course.specs.Setting.{Setting, node_setting_of}
+use Rattle.wrp_course.specs.WorldAt.{WorldAt}
 use Rattle.wrp_run.specs.Audited.{answers_in, setting_at}
 use Rattle.wrp_run.specs.DownLaw.{down_by, down_over, greatest_by, greatest_over, least_by, least_over}
 use Rattle.wrp_run.proofs.LinkLaws.{above_is, kappa_fits, table_fits}

@@ -25,10 +25,10 @@ use Rattle.wrp_trace.specs.EventKinds.{kind_of, may_have}
 use Rattle.wrp_trace.specs.Events.{arrive_of, counted_of, cut_of, deliver_of, depart_of, down_of, event_of, event_read, fields_of_kind, join_of, noise_of, pass_of, pass_with, sample_of, tick_of, up_of}
 use Rattle.wrp_trace.specs.Fields.{bits_at, long_at, octets_at, raw_from, short_at, step_at, time_at}
 use Rattle.wrp_trace.specs.Swaps.{swap_said, swaps_said}
-use Rattle.wrp_world.specs.declared.event.Event.{Event}
-use Rattle.wrp_world.specs.declared.event.Event.TheVariants as events
-use Rattle.wrp_world.specs.declared.event.Swap.{Swap}
-use Rattle.wrp_world.specs.EventAt.{FitsEvent}
+use Rattle.wrp_course.specs.declared.event.Event.{Event}
+use Rattle.wrp_course.specs.declared.event.Event.TheVariants as events
+use Rattle.wrp_course.specs.declared.event.Swap.{Swap}
+use Rattle.wrp_course.specs.EventAt.{FitsEvent}
 use Rattle.wrp_trace.proofs.EventsFit.{found, number_read}
 use Rattle.wrp_run.proofs.FieldsRead.{both, ok_same, read_if, some_if}
 

@@ -14,10 +14,10 @@ use Rattle.wrp_lines.specs.Words.{link_word}
 use Rattle.wrp_node.specs.declared.interface.Output.{Output}
 use Rattle.wrp_node.specs.declared.interface.Output.TheVariants.{Send, Step, Dac, Report}
 use Rattle.wrp_node.specs.declared.interface.Report.TheVariants.{Link, Servo, Track}
-use Rattle.wrp_world.specs.Earned.{AreTrueReports, IsOn, IsTrueReport}
-use Rattle.wrp_world.specs.Given.{NodeStepAt}
-use Rattle.wrp_world.specs.Setting.{Setting}
-use Rattle.wrp_world.specs.WorldAt.{WorldAt}
+use Rattle.wrp_course.specs.Earned.{AreTrueReports, IsOn, IsTrueReport}
+use Rattle.wrp_course.specs.Given.{NodeStepAt}
+use Rattle.wrp_course.specs.Setting.{Setting}
+use Rattle.wrp_course.specs.WorldAt.{WorldAt}
 use Rattle.wrp_run.specs.EventLines.{IsWord}
 use Rattle.wrp_run.specs.Headline.{IsEarnedLine}
 use Rattle.wrp_run.specs.Lines.{lines_of}

@@ -20,17 +20,17 @@ use Rattle.wrp_sim.specs.Scenario.{SceneAt}
 use Rattle.wrp_sim.specs.SimAt.{SimAt}
 use Rattle.wrp_sim.specs.SimRun.{GivesEvent, IsSimRun}
 use Rattle.wrp_truth.specs.Chains.{AllFit}
-use Rattle.wrp_world.specs.Checks.{AllHold}
-use Rattle.wrp_world.specs.declared.event.Event.{Event}
-use Rattle.wrp_world.specs.declared.event.Event.TheVariants.{Pass, Tick, Sample, Depart, Arrive, Deliver, Noise, Down, Up, Cut, Join}
-use Rattle.wrp_world.specs.EventAt.{FitsEvent, link_count}
-use Rattle.wrp_world.specs.Given.{Given, given_by, gives, gives_all}
-use Rattle.wrp_world.specs.Moved.{arrived, departing, departed_after, frame_after, moved, one_more, removed, waiting_at}
-use Rattle.wrp_world.specs.declared.place.Place.{Place}
-use Rattle.wrp_world.specs.Premises.{Accepts, arrive_checks, deliver_checks}
-use Rattle.wrp_world.specs.Run.{AllAccepted, Happened, world_after}
-use Rattle.wrp_world.specs.Setting.{Setting, above, from_on, link_of, nodes_of, place_of}
-use Rattle.wrp_world.specs.WorldAt.{FrameAt, Sending, WorldAt, has_carrier, is_on_fibre}
+use Rattle.wrp_course.specs.Checks.{AllHold}
+use Rattle.wrp_course.specs.declared.event.Event.{Event}
+use Rattle.wrp_course.specs.declared.event.Event.TheVariants.{Pass, Tick, Sample, Depart, Arrive, Deliver, Noise, Down, Up, Cut, Join}
+use Rattle.wrp_course.specs.EventAt.{FitsEvent, link_count}
+use Rattle.wrp_course.specs.Given.{Given, given_by, gives, gives_all}
+use Rattle.wrp_course.specs.Moved.{arrived, departing, departed_after, frame_after, moved, one_more, removed, waiting_at}
+use Rattle.wrp_course.specs.declared.place.Place.{Place}
+use Rattle.wrp_course.specs.Premises.{Accepts, arrive_checks, deliver_checks}
+use Rattle.wrp_course.specs.Run.{AllAccepted, Happened, world_after}
+use Rattle.wrp_course.specs.Setting.{Setting, above, from_on, link_of, nodes_of, place_of}
+use Rattle.wrp_course.specs.WorldAt.{FrameAt, Sending, WorldAt, has_carrier, is_on_fibre}
 
 -- What each rule gives
 

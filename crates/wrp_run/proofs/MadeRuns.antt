@@ -2,9 +2,9 @@
 use Rattle.std.proofs.Common.{ℕ, List}
 use Rattle.wrp_config.specs.Same.{ReadingIsAccepted}
 use Rattle.wrp_sim.specs.Keeps.{SimRunsAreRuns}
-use Rattle.wrp_world.specs.Run.{Happened}
-use Rattle.wrp_world.specs.Runs.{IsNetwork, IsRun}
-use Rattle.wrp_world.specs.Setting.{Setting}
+use Rattle.wrp_course.specs.Run.{Happened}
+use Rattle.wrp_course.specs.Runs.{IsNetwork, IsRun}
+use Rattle.wrp_course.specs.Setting.{Setting}
 use Rattle.wrp_run.specs.Input.{network_text}
 use Rattle.wrp_run.specs.SimHeadline.{Made}
 use Rattle.wrp_run.proofs.HeadlineParts.{network_of}

@@ -10,11 +10,11 @@ use Rattle.wrp_node.specs.Control.{law_in}
 use Rattle.wrp_node.specs.New.{high_of, low_of}
 use Rattle.wrp_node.specs.NodeAt.{NodeSetting}
 use Rattle.wrp_node.specs.Set.{set_of}
-use Rattle.wrp_world.proofs.EachLists.{at_place}
+use Rattle.wrp_plant.proofs.EachLists.{at_place}
 use Rattle.wrp_world.specs.HasLaws.{HasLaws}
 use Rattle.wrp_world.specs.New.{law_at, setting_of}
 use Rattle.wrp_world.specs.StandsFor.{IsValid, StandsFor, WorldOf}
-use Rattle.wrp_world.specs.WorldAt.{new_world}
+use Rattle.wrp_course.specs.WorldAt.{new_world}
 use Rattle.wrp_trace.specs.LineSetting.{line_setting_in}
 use Rattle.wrp_run.specs.declared.audit.AuditedNetwork.{AuditedNetwork}
 use Rattle.wrp_run.specs.AuditStands.{CanAudit, HasAudited, HasLawOf, setting_in}

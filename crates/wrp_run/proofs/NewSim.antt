@@ -5,15 +5,15 @@ use Rattle.wrp_config.specs.declared.network.Network.{Network}
 use Rattle.wrp_law.specs.Law.{LawOf}
 use Rattle.wrp_node.specs.Control.{law_in}
 use Rattle.wrp_node.specs.StandsFor.{NodeOf}
-use Rattle.wrp_world.specs.Checks.{Check, breach_of}
-use Rattle.wrp_world.specs.declared.event.Event.{Event}
+use Rattle.wrp_course.specs.Checks.{Check, breach_of}
+use Rattle.wrp_course.specs.declared.event.Event.{Event}
 use Rattle.wrp_world.specs.declared.outcome.Refused.TheVariants.{Broken}
 use Rattle.wrp_world.specs.HasLaws.{HasLaws}
-use Rattle.wrp_world.specs.Laws.{AcceptedIsUnbroken}
+use Rattle.wrp_course.specs.Laws.{AcceptedIsUnbroken}
 use Rattle.wrp_world.specs.New.{setting_of}
 use Rattle.wrp_world.specs.StandsFor.{IsValid, StandsFor, WorldOf}
 use Rattle.wrp_world.specs.Step.{IsRefusal}
-use Rattle.wrp_world.specs.WorldAt.{new_world}
+use Rattle.wrp_course.specs.WorldAt.{new_world}
 use Rattle.std.specs.Prelude.{option_map}
 use Rattle.wrp_run.specs.declared.simulation.SimulatedNetwork.{SimulatedNetwork}
 use Rattle.wrp_run.specs.AuditStands.{HasLawOf, setting_in}

@@ -11,17 +11,17 @@ use Rattle.wrp_base.specs.declared.network.LinkCfg.{LinkCfg}
 use Rattle.wrp_base.specs.Network.{End, IsTree, node_count, other_of}
 use Rattle.wrp_frame.specs.declared.fault.FrameFault.{FrameFault}
 use Rattle.wrp_node.specs.NodeAt.{numbers_of}
-use Rattle.wrp_world.specs.declared.event.Event.{Event}
-use Rattle.wrp_world.specs.declared.event.Event.TheVariants.{Pass, Tick, Sample, Depart, Arrive, Deliver, Noise, Down, Up, Cut, Join}
-use Rattle.wrp_world.specs.declared.outcome.NodeOut.{NodeOut}
-use Rattle.wrp_world.specs.declared.place.Place.{Place}
-use Rattle.wrp_world.specs.EventAt.{IsEventOf}
-use Rattle.wrp_world.specs.Given.{Given, NodeStepAt, at_ports, comes_at, comes_from, delivered, delivered_by, given_by, gives, goes_at, goes_from, if_carried, sent_oldest, steps_of, told_sending}
-use Rattle.wrp_world.specs.Moved.{moved, waiting_at}
-use Rattle.wrp_world.specs.Setting.{Setting, end_at, end_of, link_of, place_of}
+use Rattle.wrp_course.specs.declared.event.Event.{Event}
+use Rattle.wrp_course.specs.declared.event.Event.TheVariants.{Pass, Tick, Sample, Depart, Arrive, Deliver, Noise, Down, Up, Cut, Join}
+use Rattle.wrp_course.specs.declared.node_out.NodeOut.{NodeOut}
+use Rattle.wrp_course.specs.declared.place.Place.{Place}
+use Rattle.wrp_course.specs.EventAt.{IsEventOf}
+use Rattle.wrp_course.specs.Given.{Given, NodeStepAt, at_ports, comes_at, comes_from, delivered, delivered_by, given_by, gives, goes_at, goes_from, if_carried, sent_oldest, steps_of, told_sending}
+use Rattle.wrp_course.specs.Moved.{moved, waiting_at}
+use Rattle.wrp_course.specs.Setting.{Setting, end_at, end_of, link_of, place_of}
 use Rattle.wrp_world.specs.StandsFor.{StandsFor, WorldOf}
 use Rattle.wrp_world.specs.Step.{Stepped, step_seen}
-use Rattle.wrp_world.specs.WorldAt.{Arrival, FrameAt, Sending, WorldAt, has_carrier}
+use Rattle.wrp_course.specs.WorldAt.{Arrival, FrameAt, Sending, WorldAt, has_carrier}
 
 abbrev IsWithin : Setting → Given → Type 0
 IsWithin s g = g.to < node_count s.cfg

@@ -9,7 +9,7 @@ use Rattle.wrp_config.proofs.OneReading.{one_reading}
 use Rattle.wrp_config.specs.Names.{node_named}
 use Rattle.wrp_node.specs.OneRun.{OneRun, OneNode}
 use Rattle.wrp_trace.specs.LineSetting.{LineSetting}
-use Rattle.wrp_world.specs.Setting.{Setting}
+use Rattle.wrp_course.specs.Setting.{Setting}
 use Rattle.wrp_servo.specs.Told.{ToldLast}
 use Rattle.wrp_run.specs.declared.command_line.Form.TheVariants as forms
 use Rattle.wrp_run.specs.declared.status.Status.{Status}

@@ -4,11 +4,11 @@ use Rattle.std.proofs.lemmas.List.{map-append, reverse-append, reverse-reverse}
 use Rattle.wrp_base.specs.declared.fault.TraceFault.{TraceFault}
 use Rattle.wrp_servo.specs.Told.{ToldLast}
 use Rattle.wrp_trace.specs.Events.{event_read}
-use Rattle.wrp_world.specs.declared.event.Event.{Event}
-use Rattle.wrp_world.specs.Given.{NodeStepAt}
-use Rattle.wrp_world.specs.Run.{AllSaid, Happened, IsAnswered, world_after, steps_at}
-use Rattle.wrp_world.specs.Setting.{Setting}
-use Rattle.wrp_world.specs.WorldAt.{WorldAt}
+use Rattle.wrp_course.specs.declared.event.Event.{Event}
+use Rattle.wrp_course.specs.Given.{NodeStepAt}
+use Rattle.wrp_course.specs.Run.{AllSaid, Happened, IsAnswered, world_after, steps_at}
+use Rattle.wrp_course.specs.Setting.{Setting}
+use Rattle.wrp_course.specs.WorldAt.{WorldAt}
 use Rattle.wrp_run.specs.Audited.{AreEvents, answers_in}
 use Rattle.wrp_run.specs.AuditLaws.{OneAudit}
 use Rattle.wrp_run.specs.AuditText.{audit_lines, all_counts, given_line, given_lines, step_lines}

@@ -16,13 +16,13 @@ use Rattle.wrp_sim.specs.Scenario.{SceneAt, new_scene}
 use Rattle.wrp_sim.specs.ScenarioLines.{scene_read}
 use Rattle.wrp_sim.specs.SimAt.{SimAt}
 use Rattle.wrp_sim.specs.SimRun.{Gives, GivesEvent, IsSimRun}
-use Rattle.wrp_world.specs.declared.event.Event.{Event}
-use Rattle.wrp_world.specs.declared.event.Event.TheVariants.{Pass}
-use Rattle.wrp_world.specs.Given.{NodeStepAt}
-use Rattle.wrp_world.specs.Run.{AllSaid, Happened, IsAnswered, steps_at, world_after}
-use Rattle.wrp_world.specs.Setting.{Setting, node_setting_of, links_of, nodes_of}
-use Rattle.wrp_world.specs.Views.{IsNextArrival, IsNoSooner}
-use Rattle.wrp_world.specs.WorldAt.{WorldAt}
+use Rattle.wrp_course.specs.declared.event.Event.{Event}
+use Rattle.wrp_course.specs.declared.event.Event.TheVariants.{Pass}
+use Rattle.wrp_course.specs.Given.{NodeStepAt}
+use Rattle.wrp_course.specs.Run.{AllSaid, Happened, IsAnswered, steps_at, world_after}
+use Rattle.wrp_course.specs.Setting.{Setting, node_setting_of, links_of, nodes_of}
+use Rattle.wrp_course.specs.Views.{IsNextArrival, IsNoSooner}
+use Rattle.wrp_course.specs.WorldAt.{WorldAt}
 use Rattle.wrp_run.specs.declared.machine.Refusal.{Refusal}
 use Rattle.wrp_run.specs.declared.machine.Refusal.TheVariants as refusals
 use Rattle.wrp_run.specs.declared.status.Status.{Status}

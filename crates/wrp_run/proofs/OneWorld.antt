@@ -13,16 +13,16 @@ use Rattle.wrp_servo.specs.Call.{Call}
 use Rattle.wrp_servo.specs.declared.machine.Core.{Core}
 use Rattle.wrp_servo.specs.Servo.{AllAnswered}
 use Rattle.wrp_servo.specs.Told.{ToldLast}
-use Rattle.wrp_world.specs.Checks.{Check}
-use Rattle.wrp_world.specs.declared.event.Event.{Event}
-use Rattle.wrp_world.specs.declared.event.Event.TheVariants.{Pass, Tick, Sample, Depart, Arrive, Deliver, Noise, Down, Up, Cut, Join}
+use Rattle.wrp_course.specs.Checks.{Check}
+use Rattle.wrp_course.specs.declared.event.Event.{Event}
+use Rattle.wrp_course.specs.declared.event.Event.TheVariants.{Pass, Tick, Sample, Depart, Arrive, Deliver, Noise, Down, Up, Cut, Join}
 use Rattle.wrp_run.proofs.BareSetting.{flat_map_same}
-use Rattle.wrp_world.specs.Given.{Given, given_by, gives, gives_all, node_step_of, steps_of, step_of, stepped_by, taken_of, world_step, event_steps}
-use Rattle.wrp_world.specs.Moved.{moved}
-use Rattle.wrp_world.specs.Premises.{checks_of, rate_kept, tick_late, fibre_rate, fibre_kept}
-use Rattle.wrp_world.specs.Run.{AllSaid, Happened, IsAnswered, IsSaid, world_after, steps_at}
-use Rattle.wrp_world.specs.Setting.{Setting, node_setting_of, nodes_of, links_of}
-use Rattle.wrp_world.specs.WorldAt.{WorldAt}
+use Rattle.wrp_course.specs.Given.{Given, given_by, gives, gives_all, node_step_of, steps_of, step_of, stepped_by, taken_of, world_step, event_steps}
+use Rattle.wrp_course.specs.Moved.{moved}
+use Rattle.wrp_course.specs.Premises.{checks_of, rate_kept, tick_late, fibre_rate, fibre_kept}
+use Rattle.wrp_course.specs.Run.{AllSaid, Happened, IsAnswered, IsSaid, world_after, steps_at}
+use Rattle.wrp_course.specs.Setting.{Setting, node_setting_of, nodes_of, links_of}
+use Rattle.wrp_course.specs.WorldAt.{WorldAt}
 use Rattle.wrp_trace.specs.LineSetting.{line_setting_in}
 use Rattle.wrp_run.specs.Audited.{answers_in}
 use Rattle.wrp_run.specs.DownLaw.{law_at}

@@ -12,7 +12,7 @@ use Rattle.wrp_node.specs.NodeAt.{NodeAt, in_order, is_before, placed}
 use Rattle.wrp_node.specs.declared.parts.Parts.{Parts}
 use Rattle.wrp_node.specs.Parts.{PartsAt, is_among}
 use Rattle.wrp_node.specs.Set.{master_at, slave_at, ports_at, ports_of}
-use Rattle.wrp_world.proofs.PortNumbers.{or_swap}
+use Rattle.wrp_course.proofs.PortNumbers.{or_swap}
 use Rattle.wrp_trace.specs.LineSetting.{LineSetting, has_port}
 use Rattle.wrp_run.specs.DownLaw.{node_setting_at}
 

@@ -3,8 +3,8 @@ use Rattle.std.proofs.Common.{true}
 use Rattle.wrp_config.specs.Same.{ReadingIsAccepted}
 use Rattle.wrp_sim.specs.Keeps.{SimRunsAreRuns}
 use Rattle.wrp_trace.specs.Events.{EventsCanCome}
-use Rattle.wrp_world.specs.Dropped.{DroppedFramesLeaveACount}
-use Rattle.wrp_world.specs.Earned.{LinkOnIsEarned, ReportsAreTrue}
+use Rattle.wrp_course.specs.Dropped.{DroppedFramesLeaveACount}
+use Rattle.wrp_course.specs.Earned.{LinkOnIsEarned, ReportsAreTrue}
 use Rattle.wrp_run.specs.Headline.{EventsCarryParts}
 use Rattle.wrp_run.specs.SimHeadline.{MadeEventsCarryParts}
 use Rattle.wrp_run.specs.SimText.{is_printed}

@@ -5,17 +5,17 @@ use Rattle.wrp_base.specs.declared.message.PtpMsg.{PtpMsg}
 use Rattle.wrp_frame.specs.declared.fault.FrameFault.{FrameFault}
 use Rattle.wrp_trace.specs.Events.{plain}
 use Rattle.wrp_trace.specs.Swaps.{plain_swap}
-use Rattle.wrp_world.specs.Checks.{Check, stands}
-use Rattle.wrp_world.specs.declared.event.Event.{Event}
-use Rattle.wrp_world.specs.declared.event.Event.TheVariants.{Pass, Tick, Sample, Depart, Arrive, Deliver, Noise, Down, Up, Cut, Join}
-use Rattle.wrp_world.specs.declared.event.Swap.{Swap}
-use Rattle.wrp_world.specs.Given.{at_ports, comes_from, event_steps, given_plain, gives_all, steps_of, world_step}
+use Rattle.wrp_course.specs.Checks.{Check, stands}
+use Rattle.wrp_course.specs.declared.event.Event.{Event}
+use Rattle.wrp_course.specs.declared.event.Event.TheVariants.{Pass, Tick, Sample, Depart, Arrive, Deliver, Noise, Down, Up, Cut, Join}
+use Rattle.wrp_course.specs.declared.event.Swap.{Swap}
+use Rattle.wrp_course.specs.Given.{at_ports, comes_from, event_steps, given_plain, gives_all, steps_of, world_step}
 use Rattle.wrp_node.specs.declared.interface.Input.TheVariants.{Reset}
-use Rattle.wrp_world.specs.Moved.{moved, port_number, swap_at, with_swap}
-use Rattle.wrp_world.specs.Premises.{checks_of, fibre_kept, module_kept, swap_stands, true_at_top}
-use Rattle.wrp_world.specs.Run.{IsSaid}
-use Rattle.wrp_world.specs.Setting.{Setting, end_at, is_of, links_of}
-use Rattle.wrp_world.specs.WorldAt.{EndAt, WorldAt}
+use Rattle.wrp_course.specs.Moved.{moved, port_number, swap_at, with_swap}
+use Rattle.wrp_course.specs.Premises.{checks_of, fibre_kept, module_kept, swap_stands, true_at_top}
+use Rattle.wrp_course.specs.Run.{IsSaid}
+use Rattle.wrp_course.specs.Setting.{Setting, end_at, is_of, links_of}
+use Rattle.wrp_course.specs.WorldAt.{EndAt, WorldAt}
 
 -- The module that a swap puts in place
 

@@ -14,7 +14,7 @@ use Rattle.wrp_fields.proofs.PlainLemmas.{line_is, line_passes}
 use Rattle.wrp_trace.proofs.ReadingLemmas.{is_reading}
 use Rattle.wrp_trace.specs.LineSetting.{LineSetting}
 use Rattle.wrp_trace.specs.Events.{event_of, event_read}
-use Rattle.wrp_world.specs.declared.event.Event.{Event}
+use Rattle.wrp_course.specs.declared.event.Event.{Event}
 use Rattle.wrp_run.specs.Split.{HasParts}
 
 -- and no other line does

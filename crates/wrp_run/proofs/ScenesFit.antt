@@ -20,8 +20,8 @@ use Rattle.wrp_sim.specs.Scenario.{IsFault, IsFaultKind, IsFree, IsOffset, IsSce
 use Rattle.wrp_sim.specs.ScenarioKinds.{field_count, kind_of}
 use Rattle.wrp_sim.specs.ScenarioLines.{below, counted_of, fault_at, fault_kind, fault_line, fibre_line, free_line, length_line, line_of_kind, link_fault, loss_line, lower_at, node_fault, ns_at, offset_line, permille_at, rate_at, repeat_line, scene_of, scene_read, sum_at, time_at, with_fault}
 use Rattle.wrp_sim.proofs.SceneLemmas as scenes
-use Rattle.wrp_world.specs.EventAt.{link_count}
-use Rattle.wrp_world.specs.Setting.{Setting}
+use Rattle.wrp_course.specs.EventAt.{link_count}
+use Rattle.wrp_course.specs.Setting.{Setting}
 use Rattle.wrp_trace.proofs.EventsFit.{found, link_there, node_there, number_in_range, number_read}
 use Rattle.wrp_run.specs.Simulates.{Changes, IsScenario}
 use Rattle.wrp_run.proofs.FieldsRead.{both, none_if, ok_same, read_if}

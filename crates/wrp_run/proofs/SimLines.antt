@@ -18,13 +18,13 @@ use Rattle.wrp_node.specs.declared.interface.Output.{Output}
 use Rattle.wrp_base.specs.declared.link.ServoState.{ServoState}
 use Rattle.wrp_base.proofs.Naturals.{eq_self}
 use Rattle.wrp_lines.specs.Lines.{sum_line_of}
-use Rattle.wrp_world.specs.declared.outcome.NodeOut.{NodeOut}
-use Rattle.wrp_world.specs.Given.{NodeStepAt}
-use Rattle.wrp_world.specs.Plant.{Each}
-use Rattle.wrp_world.specs.Setting.{Setting, node_setting_of, from_on}
+use Rattle.wrp_course.specs.declared.node_out.NodeOut.{NodeOut}
+use Rattle.wrp_course.specs.Given.{NodeStepAt}
+use Rattle.wrp_plant.specs.Plant.{Each}
+use Rattle.wrp_course.specs.Setting.{Setting, node_setting_of, from_on}
 use Rattle.wrp_world.specs.StandsFor.{StandsFor, WorldOf}
 use Rattle.wrp_world.specs.Step.{step_seen}
-use Rattle.wrp_world.specs.WorldAt.{WorldAt}
+use Rattle.wrp_course.specs.WorldAt.{WorldAt}
 use Rattle.wrp_run.specs.declared.totals.Total.{Total}
 use Rattle.wrp_run.specs.SimStands.{AreBounds, AreTotals, IsTotal, printed_by, sums_by}
 use Rattle.wrp_run.specs.SimText.{is_track, offsets_in, outs_of, printed_lines, sum_by}

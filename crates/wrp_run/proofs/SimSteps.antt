@@ -17,15 +17,15 @@ use Rattle.wrp_sim.specs.Scenario.{IsSceneOf, SceneAt, new_scene}
 use Rattle.wrp_sim.specs.Sim.{FitsSim, FollowsRules, Gave, GaveNext, SimIs}
 use Rattle.wrp_sim.specs.SimAt.{SimAt, new_sim}
 use Rattle.wrp_sim.specs.SimRun.{Gives, IsSimRun}
-use Rattle.wrp_world.specs.declared.event.Event.{Event}
-use Rattle.wrp_world.specs.EventAt.{IsEventOf}
-use Rattle.wrp_world.specs.Premises.{Accepts}
-use Rattle.wrp_world.specs.Run.{Happened, IsAnswered, steps_at, world_after}
-use Rattle.wrp_world.specs.Runs.{IsNetwork, IsRun}
-use Rattle.wrp_world.specs.Setting.{Setting}
+use Rattle.wrp_course.specs.declared.event.Event.{Event}
+use Rattle.wrp_course.specs.EventAt.{IsEventOf}
+use Rattle.wrp_course.specs.Premises.{Accepts}
+use Rattle.wrp_course.specs.Run.{Happened, IsAnswered, steps_at, world_after}
+use Rattle.wrp_course.specs.Runs.{IsNetwork, IsRun}
+use Rattle.wrp_course.specs.Setting.{Setting}
 use Rattle.wrp_world.specs.StandsFor.{IsValid, StandsFor, WorldOf}
 use Rattle.wrp_world.specs.Step.{MayCome, Stepped, step_seen}
-use Rattle.wrp_world.specs.WorldAt.{WorldAt, new_world}
+use Rattle.wrp_course.specs.WorldAt.{WorldAt, new_world}
 use Rattle.wrp_sim.proofs.Turns.{no_rule}
 use Rattle.wrp_run.specs.declared.simulation.Course.{Course}
 use Rattle.wrp_run.specs.declared.simulation.SimulatedNetwork.{SimulatedNetwork}

@@ -7,10 +7,10 @@ use Rattle.wrp_sim.specs.Keeps.{SimRunsAreRuns}
 use Rattle.wrp_trace.specs.Events.{EventsCanCome}
 use Rattle.wrp_truth.specs.Bounds.{OffsetsKeepBounds, TrackReportsAreTrue, TrueRun}
 use Rattle.wrp_truth.specs.Chains.{AllFit}
-use Rattle.wrp_world.specs.EventAt.{FitsEvent}
-use Rattle.wrp_world.specs.Run.{Happened, IsAnswered, steps_at, world_after}
-use Rattle.wrp_world.specs.Runs.{IsRun}
-use Rattle.wrp_world.specs.Setting.{Setting}
+use Rattle.wrp_course.specs.EventAt.{FitsEvent}
+use Rattle.wrp_course.specs.Run.{Happened, IsAnswered, steps_at, world_after}
+use Rattle.wrp_course.specs.Runs.{IsRun}
+use Rattle.wrp_course.specs.Setting.{Setting}
 use Rattle.wrp_truth.proofs.Suffixes.{run_before}
 use Rattle.wrp_run.specs.Audited.{IsSettingOf, answers_in}
 use Rattle.wrp_run.specs.Headline.{Came}

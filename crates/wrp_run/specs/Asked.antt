@@ -4,7 +4,7 @@ use Rattle.std.specs.Borrow.{Bor}
 use Rattle.wrp_base.specs.Network.{node_count}
 use Rattle.wrp_config.specs.declared.network.Network.{Network}
 use Rattle.wrp_config.specs.Names.{node_named}
-use Rattle.wrp_world.specs.Setting.{Setting}
+use Rattle.wrp_course.specs.Setting.{Setting}
 use Rattle.wrp_run.specs.declared.command.Request.{Request}
 use Rattle.wrp_run.specs.declared.command.Request.TheVariants.{Work, Replay, Nothing}
 use Rattle.wrp_run.specs.declared.worlds.Asked.{Asked}

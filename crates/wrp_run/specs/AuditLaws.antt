@@ -2,10 +2,10 @@
 use Rattle.std.specs.Prelude.{◌≡◌, ℕ, List, [], Result}
 use Rattle.wrp_base.specs.declared.message.PtpMsg.{PtpMsg}
 use Rattle.wrp_frame.specs.declared.fault.FrameFault.{FrameFault}
-use Rattle.wrp_world.specs.declared.event.Event.{Event}
-use Rattle.wrp_world.specs.Premises.{checks_of}
-use Rattle.wrp_world.specs.Run.{Happened, IsSaid, world_after}
-use Rattle.wrp_world.specs.Setting.{Setting}
+use Rattle.wrp_course.specs.declared.event.Event.{Event}
+use Rattle.wrp_course.specs.Premises.{checks_of}
+use Rattle.wrp_course.specs.Run.{Happened, IsSaid, world_after}
+use Rattle.wrp_course.specs.Setting.{Setting}
 use Rattle.wrp_run.specs.Audited.{IsAudit}
 use Rattle.wrp_run.specs.AuditText.{audit_lines, all_counts, given_lines}
 use Rattle.wrp_run.specs.Tasks.{Audit, Emit, AsksFor, IsAuditing, meaning_at}

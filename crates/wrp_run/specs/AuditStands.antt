@@ -8,16 +8,16 @@ use Rattle.wrp_config.specs.declared.network.Network.{Network}
 use Rattle.wrp_frame.specs.declared.fault.FrameFault.{FrameFault}
 use Rattle.wrp_node.specs.Control.{law_in}
 use Rattle.wrp_fields.specs.Reading.{IsReading}
-use Rattle.wrp_world.specs.Checks.{told_of}
-use Rattle.wrp_world.specs.declared.checks.Breach.{Breach}
-use Rattle.wrp_world.specs.declared.event.Event.{Event}
-use Rattle.wrp_world.specs.Given.{NodeStepAt, event_steps, world_step}
-use Rattle.wrp_world.specs.Plant.{Each}
-use Rattle.wrp_world.specs.Premises.{Accepts, checks_of}
-use Rattle.wrp_world.specs.Run.{Happened, IsSaid, world_after}
-use Rattle.wrp_world.specs.Setting.{Setting}
+use Rattle.wrp_course.specs.Checks.{told_of}
+use Rattle.wrp_course.specs.declared.breach.Breach.{Breach}
+use Rattle.wrp_course.specs.declared.event.Event.{Event}
+use Rattle.wrp_course.specs.Given.{NodeStepAt, event_steps, world_step}
+use Rattle.wrp_plant.specs.Plant.{Each}
+use Rattle.wrp_course.specs.Premises.{Accepts, checks_of}
+use Rattle.wrp_course.specs.Run.{Happened, IsSaid, world_after}
+use Rattle.wrp_course.specs.Setting.{Setting}
 use Rattle.wrp_world.specs.StandsFor.{IsValid, StandsFor, WorldOf}
-use Rattle.wrp_world.specs.WorldAt.{WorldAt}
+use Rattle.wrp_course.specs.WorldAt.{WorldAt}
 use Rattle.wrp_trace.specs.LineSetting.{line_setting_in}
 use Rattle.wrp_run.specs.declared.audit.AuditedNetwork.{AuditedNetwork}
 use Rattle.wrp_run.specs.declared.machine.Refusal.TheVariants as refusal

@@ -5,10 +5,10 @@ use Rattle.std.specs.List.{flat_map}
 use Rattle.wrp_lines.specs.Lines.{output_line}
 use Rattle.wrp_trace.specs.Printing.{line_of}
 use Rattle.wrp_trace.specs.LineSetting.{line_setting_in}
-use Rattle.wrp_world.specs.Given.{NodeStepAt}
-use Rattle.wrp_world.specs.Run.{Happened, world_after, steps_at}
-use Rattle.wrp_world.specs.Setting.{Setting, nodes_of}
-use Rattle.wrp_world.specs.WorldAt.{WorldAt}
+use Rattle.wrp_course.specs.Given.{NodeStepAt}
+use Rattle.wrp_course.specs.Run.{Happened, world_after, steps_at}
+use Rattle.wrp_course.specs.Setting.{Setting, nodes_of}
+use Rattle.wrp_course.specs.WorldAt.{WorldAt}
 use Rattle.wrp_run.specs.NodeText.{node_counts}
 
 -- the lines of what a node put out in an event that left this world: its tick count there, and how far

@@ -10,9 +10,9 @@ use Rattle.wrp_node.specs.OneRun.{answers_by}
 use Rattle.wrp_node.specs.Set.{set_of}
 use Rattle.wrp_trace.specs.Events.{event_read}
 use Rattle.wrp_trace.specs.LineSetting.{line_setting_in}
-use Rattle.wrp_world.specs.Run.{Happened, WorldRun, world_after}
-use Rattle.wrp_world.specs.Setting.{Setting}
-use Rattle.wrp_world.specs.WorldAt.{WorldAt}
+use Rattle.wrp_course.specs.Run.{Happened, WorldRun, world_after}
+use Rattle.wrp_course.specs.Setting.{Setting}
+use Rattle.wrp_course.specs.WorldAt.{WorldAt}
 use Rattle.wrp_run.specs.DownLaw.{law_at, least_over, greatest_over}
 
 -- the setting of a network: each node is set to its part of it, and its delay law is that of the link

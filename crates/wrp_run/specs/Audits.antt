@@ -5,12 +5,12 @@ use Rattle.wrp_base.specs.declared.fault.TraceFault.{TraceFault}
 use Rattle.wrp_base.specs.declared.message.PtpMsg.{PtpMsg}
 use Rattle.wrp_frame.specs.declared.fault.FrameFault.{FrameFault}
 use Rattle.wrp_trace.specs.Events.{event_read}
-use Rattle.wrp_world.specs.Checks.{told_of}
-use Rattle.wrp_world.specs.declared.checks.Breach.{Breach}
-use Rattle.wrp_world.specs.declared.event.Event.{Event}
-use Rattle.wrp_world.specs.Premises.{checks_of}
-use Rattle.wrp_world.specs.Run.{Happened, IsSaid, world_after}
-use Rattle.wrp_world.specs.Setting.{Setting}
+use Rattle.wrp_course.specs.Checks.{told_of}
+use Rattle.wrp_course.specs.declared.breach.Breach.{Breach}
+use Rattle.wrp_course.specs.declared.event.Event.{Event}
+use Rattle.wrp_course.specs.Premises.{checks_of}
+use Rattle.wrp_course.specs.Run.{Happened, IsSaid, world_after}
+use Rattle.wrp_course.specs.Setting.{Setting}
 use Rattle.wrp_run.specs.declared.machine.Refusal.{Refusal}
 use Rattle.wrp_run.specs.declared.machine.Refusal.TheVariants.{BadTrace, Broken}
 use Rattle.wrp_run.specs.Audited.{IsAudit}

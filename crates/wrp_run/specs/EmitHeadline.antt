@@ -2,8 +2,8 @@
 -- (`PrintsTheInputs`), and no output of a node; and the events behind them carry the other parts as those of an audit do, of which
 -- each step is printed. This project's profile.
 use Rattle.std.specs.Prelude.{◌≡◌, ◌⊎◌, ℕ, List, [], ◌++◌}
-use Rattle.wrp_world.specs.Run.{Happened}
-use Rattle.wrp_world.specs.Setting.{Setting}
+use Rattle.wrp_course.specs.Run.{Happened}
+use Rattle.wrp_course.specs.Setting.{Setting}
 use Rattle.wrp_run.specs.declared.status.Status.{Status}
 use Rattle.wrp_run.specs.declared.status.Status.TheVariants.{Usage}
 use Rattle.wrp_run.specs.Answer.{AsksNone}

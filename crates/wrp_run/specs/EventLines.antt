@@ -1,8 +1,8 @@
 -- What is written of an event, the words of its lines, and what holds at each event of a run (this project's profile).
 use Rattle.std.specs.Prelude.{◌≡◌, ℕ, ◌==◌, ◌&&◌, not, Bool, true, List, [], ◌∷◌}
 use Rattle.std.specs.List.{list_all}
-use Rattle.wrp_world.specs.Run.{Happened}
-use Rattle.wrp_world.specs.Setting.{Setting}
+use Rattle.wrp_course.specs.Run.{Happened}
+use Rattle.wrp_course.specs.Setting.{Setting}
 
 -- what is written of an event behind those before it
 abbrev pub Writing : Type 0

@@ -10,12 +10,12 @@ use Rattle.wrp_lines.specs.Lines.{line_of}
 use Rattle.wrp_node.specs.declared.interface.Input.{Input}
 use Rattle.wrp_node.specs.declared.interface.Input.TheVariants.{Frame}
 use Rattle.wrp_node.specs.Laws.{reason_of}
-use Rattle.wrp_world.specs.Dropped.{LeavesACount, given_at}
-use Rattle.wrp_world.specs.Earned.{AllHaveEarned, IsOn}
-use Rattle.wrp_world.specs.Given.{Given}
-use Rattle.wrp_world.specs.Run.{Happened, world_after}
-use Rattle.wrp_world.specs.Setting.{Setting, node_setting_of}
-use Rattle.wrp_world.specs.WorldAt.{WorldAt}
+use Rattle.wrp_course.specs.Dropped.{LeavesACount, given_at}
+use Rattle.wrp_course.specs.Earned.{AllHaveEarned, IsOn}
+use Rattle.wrp_course.specs.Given.{Given}
+use Rattle.wrp_course.specs.Run.{Happened, world_after}
+use Rattle.wrp_course.specs.Setting.{Setting, node_setting_of}
+use Rattle.wrp_course.specs.WorldAt.{WorldAt}
 use Rattle.wrp_run.specs.declared.machine.Refusal.TheVariants as refusals
 use Rattle.wrp_run.specs.declared.status.Status.{Status}
 use Rattle.wrp_run.specs.declared.status.Status.TheVariants.{Done, BadNetwork, BadTrace, Broken, ReadFault, WriteFault, TooLarge, OutOfMemory}

@@ -6,7 +6,7 @@ use Rattle.wrp_law.specs.declared.link_law.LinkLaw.{LinkLaw}
 use Rattle.wrp_law.specs.Law.{LawOf}
 use Rattle.wrp_law.specs.LinkLaw.{error_of, kind_of, least_of, most_of}
 use Rattle.wrp_world.specs.New.{FitsLaw}
-use Rattle.wrp_world.specs.Plant.{Each}
+use Rattle.wrp_plant.specs.Plant.{Each}
 use Rattle.wrp_trace.specs.LineSetting.{line_setting_in}
 use Rattle.wrp_run.specs.AuditStands.{setting_in}
 use Rattle.wrp_run.specs.DownLaw.{IsLawAt}

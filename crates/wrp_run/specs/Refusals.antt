@@ -4,7 +4,7 @@ use Rattle.std.specs.Fmt.{decimal, signed_decimal}
 use Rattle.wrp_lines.specs.Lines.{line_of}
 use Rattle.wrp_base.specs.declared.fault.TraceFault.{TraceFault}
 use Rattle.wrp_base.specs.declared.fault.TraceFault.TheVariants.{Fields, Kind, Number, Name, Memory}
-use Rattle.wrp_world.specs.declared.checks.Breach.{Breach}
+use Rattle.wrp_course.specs.declared.breach.Breach.{Breach}
 
 -- the only line where the words are no command
 abbrev pub usage_line : List ℕ

@@ -16,13 +16,13 @@ use Rattle.wrp_sim.specs.Scenario.{IsSceneOf, SceneAt}
 use Rattle.wrp_sim.specs.Sim.{FitsSim, SimIs}
 use Rattle.wrp_sim.specs.SimAt.{SimAt}
 use Rattle.wrp_sim.specs.SimRun.{Gives}
-use Rattle.wrp_world.specs.Plant.{Each}
-use Rattle.wrp_world.specs.declared.event.Event.{Event}
-use Rattle.wrp_world.specs.Premises.{Accepts}
-use Rattle.wrp_world.specs.Run.{Happened, IsSaid, steps_at, world_after}
-use Rattle.wrp_world.specs.Setting.{Setting, nodes_of}
+use Rattle.wrp_plant.specs.Plant.{Each}
+use Rattle.wrp_course.specs.declared.event.Event.{Event}
+use Rattle.wrp_course.specs.Premises.{Accepts}
+use Rattle.wrp_course.specs.Run.{Happened, IsSaid, steps_at, world_after}
+use Rattle.wrp_course.specs.Setting.{Setting, nodes_of}
 use Rattle.wrp_world.specs.StandsFor.{IsValid, StandsFor, WorldOf}
-use Rattle.wrp_world.specs.WorldAt.{WorldAt}
+use Rattle.wrp_course.specs.WorldAt.{WorldAt}
 use Rattle.wrp_run.specs.declared.machine.Refusal.TheVariants as refusal
 use Rattle.wrp_run.specs.declared.machine.Taken.{Taken}
 use Rattle.wrp_run.specs.declared.machine.Taken.TheVariants as taken

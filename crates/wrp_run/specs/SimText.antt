@@ -8,10 +8,10 @@ use Rattle.wrp_node.specs.declared.interface.Output.{Output}
 use Rattle.wrp_node.specs.declared.interface.Output.TheVariants.{Send, Step, Dac, Report}
 use Rattle.wrp_node.specs.declared.interface.Report.TheVariants.{Track}
 use Rattle.wrp_node.specs.NodeAt.{state_of}
-use Rattle.wrp_world.specs.Given.{NodeStepAt}
-use Rattle.wrp_world.specs.Run.{Happened, world_after, steps_at}
-use Rattle.wrp_world.specs.Setting.{Setting, node_setting_of, nodes_of}
-use Rattle.wrp_world.specs.WorldAt.{WorldAt}
+use Rattle.wrp_course.specs.Given.{NodeStepAt}
+use Rattle.wrp_course.specs.Run.{Happened, world_after, steps_at}
+use Rattle.wrp_course.specs.Setting.{Setting, node_setting_of, nodes_of}
+use Rattle.wrp_course.specs.WorldAt.{WorldAt}
 
 -- The lines of events
 

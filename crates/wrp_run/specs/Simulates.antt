@@ -7,8 +7,8 @@ use Rattle.wrp_sim.specs.Scenario.{SceneAt, new_scene}
 use Rattle.wrp_sim.specs.ScenarioLines.{scene_read}
 use Rattle.wrp_sim.specs.SimAt.{SimAt}
 use Rattle.wrp_sim.specs.SimRun.{Gives, IsSimRun}
-use Rattle.wrp_world.specs.Run.{AllSaid, Happened, IsAnswered, world_after}
-use Rattle.wrp_world.specs.Setting.{Setting}
+use Rattle.wrp_course.specs.Run.{AllSaid, Happened, IsAnswered, world_after}
+use Rattle.wrp_course.specs.Setting.{Setting}
 use Rattle.wrp_run.specs.declared.machine.Refusal.{Refusal}
 use Rattle.wrp_run.specs.declared.machine.Refusal.TheVariants.{BadTrace, Broken}
 use Rattle.wrp_run.specs.declared.status.Status.{Status}

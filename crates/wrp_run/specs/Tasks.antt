@@ -2,7 +2,7 @@
 use Rattle.std.specs.Prelude.{◌≡◌, ℕ, ◌≤◌, Some, List, [], ◌∷◌, length, codes}
 use Rattle.wrp_config.specs.Names.{node_named}
 use Rattle.wrp_trace.specs.LineSetting.{LineSetting}
-use Rattle.wrp_world.specs.Setting.{Setting}
+use Rattle.wrp_course.specs.Setting.{Setting}
 use Rattle.wrp_run.specs.Audited.{IsSettingOf}
 use Rattle.wrp_run.specs.Audits.{audit_of, emission_of}
 use Rattle.wrp_run.specs.CommandLine.{IsCommandWith, IsSeeded}

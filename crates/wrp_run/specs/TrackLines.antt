@@ -10,9 +10,9 @@ use Rattle.wrp_lines.specs.Lines.{line_of}
 use Rattle.wrp_tracking.specs.Tree.{IsBounded}
 use Rattle.wrp_truth.specs.Bounds.{IsTrueReport, IsTrueStep}
 use Rattle.wrp_truth.specs.Views.{offsets_at}
-use Rattle.wrp_world.specs.Run.{Happened, steps_at, world_after}
-use Rattle.wrp_world.specs.Setting.{Setting}
-use Rattle.wrp_world.specs.WorldAt.{WorldAt}
+use Rattle.wrp_course.specs.Run.{Happened, steps_at, world_after}
+use Rattle.wrp_course.specs.Setting.{Setting}
+use Rattle.wrp_course.specs.WorldAt.{WorldAt}
 use Rattle.wrp_run.specs.EventLines.{AtEachEvent, IsWord, Writing}
 use Rattle.wrp_run.specs.Lines.{lines_of}
 

@@ -1,9 +1,9 @@
 //! The lines that close an audit: the counters of all nodes that are not 0, by node, port and reason.
 ghost use Rattle.std.specs.Prelude.{◌≡◌, ◌<◌, ◌++◌, IfOk};
 ghost use Rattle.wrp_base.specs.Network.{name_at, node_count};
-ghost use Rattle.wrp_world.specs.Setting.{Setting};
+ghost use Rattle.wrp_course.specs.Setting.{Setting};
 ghost use Rattle.wrp_world.specs.StandsFor.{IsValid, StandsFor};
-ghost use Rattle.wrp_world.specs.WorldAt.{WorldAt};
+ghost use Rattle.wrp_course.specs.WorldAt.{WorldAt};
 ghost use Rattle.wrp_trace.specs.LineSetting.{line_setting_in};
 ghost use Rattle.wrp_run.specs.AuditText.{all_counts};
 ghost use Rattle.wrp_run.specs.NodeText.{node_counts};

@@ -10,7 +10,7 @@ use wrp_servo::told_last;
 use wrp_sim::simulator_keeps_the_bounds;
 use wrp_trace::events_can_come;
 use wrp_truth::{offsets_keep_bounds, reports_are_within};
-use wrp_world::{dropped_frames_leave_a_count, reported_link_on_is_earned};
+use wrp_course::{dropped_frames_leave_a_count, reported_link_on_is_earned};
 
 /// Before any record an audit has written nothing.
 pub fn audits_begin()

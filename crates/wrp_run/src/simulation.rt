@@ -7,11 +7,11 @@ ghost use Rattle.wrp_config.specs.Accepted.{IsAccepted};
 ghost use Rattle.wrp_sim.specs.Scenario.{IsSceneOf};
 ghost use Rattle.wrp_sim.specs.Sim.{FitsSim, SimIs};
 ghost use Rattle.wrp_sim.specs.SimAt.{new_sim};
-ghost use Rattle.wrp_world.specs.Setting.{Setting};
+ghost use Rattle.wrp_course.specs.Setting.{Setting};
 ghost use Rattle.wrp_world.specs.StandsFor.{IsValid, StandsFor};
 ghost use Rattle.wrp_world.specs.Step.{MayCome, Stepped, step_seen};
 ghost use Rattle.wrp_world.specs.Taking.{AreOfNodes};
-ghost use Rattle.wrp_world.specs.WorldAt.{WorldAt, new_world};
+ghost use Rattle.wrp_course.specs.WorldAt.{WorldAt, new_world};
 ghost use Rattle.wrp_run.specs.AuditStands.{setting_in};
 ghost use Rattle.wrp_run.specs.LawsFit.{LawsFit};
 ghost use Rattle.wrp_run.specs.SimStands.{AreBounds, AreTotals, CanHappen, CanRun, IsTotal, printed_by, sums_by};
@@ -27,7 +27,8 @@ use wrp_law::DelayLaw;
 use wrp_lines::{Sum, append_line, append_sum_line};
 use wrp_node::Output;
 use wrp_sim::{Scene, Sim};
-use wrp_world::{Event, NodeOut, Refused, World, accepted_is_unbroken};
+use wrp_course::accepted_is_unbroken;
+use wrp_world::{Event, NodeOut, Refused, World};
 
 /// A network that is simulated: its world, the bounds of its nodes in TRACK, and a place for the steps of
 /// an event.

@@ -2,11 +2,11 @@
 ghost use Rattle.std.specs.Prelude.{◌≡◌, ◌<◌, ◌++◌, ◌∷◌, [], ℕ, ℤ, List, IfOk, filter, length, map};
 ghost use Rattle.std.specs.List.{AllByRecursion};
 ghost use Rattle.wrp_base.specs.Network.{node_count};
-ghost use Rattle.wrp_world.specs.declared.outcome.NodeOut.{NodeOut};
-ghost use Rattle.wrp_world.specs.Setting.{Setting};
+ghost use Rattle.wrp_course.specs.declared.node_out.NodeOut.{NodeOut};
+ghost use Rattle.wrp_course.specs.Setting.{Setting};
 ghost use Rattle.wrp_world.specs.StandsFor.{IsValid, StandsFor};
 ghost use Rattle.wrp_world.specs.Step.{step_seen};
-ghost use Rattle.wrp_world.specs.WorldAt.{WorldAt};
+ghost use Rattle.wrp_course.specs.WorldAt.{WorldAt};
 ghost use Rattle.wrp_run.specs.SimStands.{AreTotals, IsTotal};
 ghost use Rattle.wrp_run.specs.SimText.{is_track, offsets_in};
 

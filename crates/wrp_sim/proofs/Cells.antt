@@ -9,10 +9,10 @@ use Rattle.wrp_base.specs.declared.network.LinkCfg.{LinkCfg}
 use Rattle.wrp_base.specs.declared.time.Clock.{Clock}
 use Rattle.wrp_base.specs.declared.time.Clock.TheVariants.{Mhz125, Mhz62}
 use Rattle.wrp_base.specs.declared.time.Raw.{Raw}
-use Rattle.wrp_world.specs.Premises.{transition_of}
-use Rattle.wrp_world.specs.Setting.{Setting, end_of, link_of}
+use Rattle.wrp_course.specs.Premises.{transition_of}
+use Rattle.wrp_course.specs.Setting.{Setting, end_of, link_of}
 use Rattle.wrp_world.specs.StandsFor.{IsValid, WorldOf}
-use Rattle.wrp_world.specs.WorldAt.{WorldAt, reading}
+use Rattle.wrp_course.specs.WorldAt.{WorldAt, reading}
 use Rattle.wrp_sim.specs.Numbers.{is_within, raw_at}
 use Rattle.wrp_sim.specs.Rules.{first_entry, raw_by, raw_to}
 use Rattle.wrp_sim.specs.Scenario.{IsFree}

@@ -9,13 +9,13 @@ use Rattle.wrp_base.specs.Network.{End, other_of}
 use Rattle.wrp_caldb.specs.Database.{Database}
 use Rattle.wrp_config.specs.Accepted.{IsAccepted}
 use Rattle.wrp_config.specs.Names.{is_upper_end, is_lower_end}
-use Rattle.wrp_world.specs.declared.place.Place.{Place}
-use Rattle.wrp_world.specs.Runs.{IsNetwork}
-use Rattle.wrp_world.specs.Setting.{Setting, end_at, end_of, link_of, place_among, place_of}
+use Rattle.wrp_course.specs.declared.place.Place.{Place}
+use Rattle.wrp_course.specs.Runs.{IsNetwork}
+use Rattle.wrp_course.specs.Setting.{Setting, end_at, end_of, link_of, place_among, place_of}
 use Rattle.wrp_world.specs.StandsFor.{IsValid, StandsFor, WorldOf}
-use Rattle.wrp_world.specs.Views.{sender_of}
-use Rattle.wrp_world.specs.WorldAt.{WorldAt, FrameAt}
-use Rattle.wrp_world.proofs.RunNetwork.{LinkEnd as EndThere, are_apart, link_end, place_end}
+use Rattle.wrp_course.specs.Views.{sender_of}
+use Rattle.wrp_course.specs.WorldAt.{WorldAt, FrameAt}
+use Rattle.wrp_course.proofs.RunNetwork.{LinkEnd as EndThere, are_apart, link_end, place_end}
 use Rattle.wrp_sim.specs.declared.sim.modules.LinkEnd.{LinkEnd}
 use Rattle.wrp_sim.specs.Departures.{across}
 use Rattle.wrp_sim.specs.Rules.{raw_by, raw_of, raw_to}

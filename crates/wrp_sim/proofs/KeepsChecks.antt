@@ -8,10 +8,10 @@ use Rattle.std.proofs.lemmas.Bool.{and_right}
 use Rattle.wrp_base.specs.declared.network.NodeCfg.{NodeCfg}
 use Rattle.wrp_base.specs.declared.time.Clock.{Clock}
 use Rattle.wrp_phase.specs.BeatPattern.{true_step}
-use Rattle.wrp_world.specs.declared.clocks.ClockState.{ClockState}
-use Rattle.wrp_world.specs.Checks.{AllHold, Check, Holds, only_where, stands}
-use Rattle.wrp_world.specs.Premises.{beat_by, bit_check, early_by, late_by}
-use Rattle.wrp_world.specs.Setting.{Setting, from_on, of_node}
+use Rattle.wrp_course.specs.declared.clocks.ClockState.{ClockState}
+use Rattle.wrp_course.specs.Checks.{AllHold, Check, Holds, only_where, stands}
+use Rattle.wrp_course.specs.Premises.{beat_by, bit_check, early_by, late_by}
+use Rattle.wrp_course.specs.Setting.{Setting, from_on, of_node}
 use Rattle.wrp_sim.specs.Numbers.{base_before, bits_behind}
 use Rattle.wrp_sim.proofs.KeepsBeat.{bit_right, steps_are, true_step_small}
 

@@ -6,13 +6,13 @@ use Rattle.wrp_base.specs.Held.{held_within}
 use Rattle.wrp_base.specs.Network.{IsFromTo, node_count}
 use Rattle.wrp_node.specs.declared.interface.NodeSet.{NodeSet}
 use Rattle.wrp_node.specs.NodeAt.{dac_of}
-use Rattle.wrp_world.specs.Checks.{AllHold}
-use Rattle.wrp_world.specs.EventAt.{IsChange}
-use Rattle.wrp_world.specs.Moved.{drift_of, move_of}
-use Rattle.wrp_world.specs.Premises.{fibre_rate, parts, rate_checks, rate_kept, rate_of, rate_of_fibre}
-use Rattle.wrp_world.specs.Runs.{IsNetwork}
-use Rattle.wrp_world.specs.Setting.{Setting, node_setting_of, from_on, links_of, nodes_of}
-use Rattle.wrp_world.specs.WorldAt.{WorldAt}
+use Rattle.wrp_course.specs.Checks.{AllHold}
+use Rattle.wrp_course.specs.EventAt.{IsChange}
+use Rattle.wrp_course.specs.Moved.{drift_of, move_of}
+use Rattle.wrp_course.specs.Premises.{fibre_rate, parts, rate_checks, rate_kept, rate_of, rate_of_fibre}
+use Rattle.wrp_course.specs.Runs.{IsNetwork}
+use Rattle.wrp_course.specs.Setting.{Setting, node_setting_of, from_on, links_of, nodes_of}
+use Rattle.wrp_course.specs.WorldAt.{WorldAt}
 use Rattle.wrp_sim.specs.Numbers.{drift_at, held_to}
 use Rattle.wrp_sim.specs.Rules.{clock_rate, drift_over}
 use Rattle.wrp_sim.specs.Scenario.{IsFree, IsSceneOf, SceneAt, free_of}

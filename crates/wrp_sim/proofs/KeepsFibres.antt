@@ -12,13 +12,13 @@ use Rattle.wrp_base.specs.declared.network.LinkCfg.{LinkCfg}
 use Rattle.wrp_base.specs.Network.{HasLinkRanges, other_of}
 use Rattle.wrp_bounds.specs.Times.{reach}
 use Rattle.wrp_caldb.specs.Database.{module_at}
-use Rattle.wrp_world.specs.declared.fibres.FibreState.{FibreState}
-use Rattle.wrp_world.specs.Checks.{AllHold, only_where}
-use Rattle.wrp_world.specs.Premises.{asymmetry, fibre_checks, fibre_kept, transition_of}
-use Rattle.wrp_world.specs.Runs.{IsNetwork}
-use Rattle.wrp_world.specs.Setting.{Setting, link_of, sends_nm}
-use Rattle.wrp_world.specs.WorldAt.{WorldAt, delay_from, first_name}
-use Rattle.wrp_world.proofs.TriedModules.{module_has}
+use Rattle.wrp_course.specs.declared.fibres.FibreState.{FibreState}
+use Rattle.wrp_course.specs.Checks.{AllHold, only_where}
+use Rattle.wrp_course.specs.Premises.{asymmetry, fibre_checks, fibre_kept, transition_of}
+use Rattle.wrp_course.specs.Runs.{IsNetwork}
+use Rattle.wrp_course.specs.Setting.{Setting, link_of, sends_nm}
+use Rattle.wrp_course.specs.WorldAt.{WorldAt, delay_from, first_name}
+use Rattle.wrp_plant.proofs.TriedModules.{module_has}
 use Rattle.wrp_sim.specs.Rules.{first_entry}
 use Rattle.wrp_sim.specs.Scenario.{IsSceneOf, IsSum, SceneAt, fibre_room, kappa_of, ms_of, sm_of, sum_of}
 use Rattle.wrp_sim.proofs.KeepsEntries.{module_small}

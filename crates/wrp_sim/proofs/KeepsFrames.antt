@@ -15,17 +15,17 @@ use Rattle.wrp_base.specs.Network.{End, node_count, other_of}
 use Rattle.wrp_base.proofs.Booleans.{not_both}
 use Rattle.wrp_base.proofs.Naturals.{eq_self, nat_le_self}
 use Rattle.wrp_bounds.specs.Times.{frame_life, reach}
-use Rattle.wrp_world.specs.EventAt.{IsRaw}
-use Rattle.wrp_world.specs.declared.event.Event.TheVariants.{Depart, Arrive, Deliver}
-use Rattle.wrp_world.specs.declared.place.Place.{Place}
-use Rattle.wrp_world.specs.Checks.{AllHold, stands}
-use Rattle.wrp_world.specs.Moved.{arrived, arriving, moved, waiting_at}
-use Rattle.wrp_world.specs.Premises.{arrive_checks, deliver_by, deliver_checks, depart_checks, received, received_at, transition_of}
-use Rattle.wrp_world.specs.RunLaws.{HasTimes}
-use Rattle.wrp_world.specs.Setting.{Setting, end_at, end_of, entry_at, from_on, nodes_of, of_node, place_of}
-use Rattle.wrp_world.specs.Views.{IsNextArrival, oldest_of, waiting_of}
-use Rattle.wrp_world.specs.WorldAt.{Arrival, FrameAt, Sending, WorldAt, has_carrier, is_on_fibre, reading}
-use Rattle.wrp_world.proofs.RunNetwork.{LinkEnd, link_end}
+use Rattle.wrp_course.specs.EventAt.{IsRaw}
+use Rattle.wrp_course.specs.declared.event.Event.TheVariants.{Depart, Arrive, Deliver}
+use Rattle.wrp_course.specs.declared.place.Place.{Place}
+use Rattle.wrp_course.specs.Checks.{AllHold, stands}
+use Rattle.wrp_course.specs.Moved.{arrived, arriving, moved, waiting_at}
+use Rattle.wrp_course.specs.Premises.{arrive_checks, deliver_by, deliver_checks, depart_checks, received, received_at, transition_of}
+use Rattle.wrp_course.specs.RunLaws.{HasTimes}
+use Rattle.wrp_course.specs.Setting.{Setting, end_at, end_of, entry_at, from_on, nodes_of, of_node, place_of}
+use Rattle.wrp_course.specs.Views.{IsNextArrival, oldest_of, waiting_of}
+use Rattle.wrp_course.specs.WorldAt.{Arrival, FrameAt, Sending, WorldAt, has_carrier, is_on_fibre, reading}
+use Rattle.wrp_course.proofs.RunNetwork.{LinkEnd, link_end}
 use Rattle.wrp_sim.specs.Numbers.{drawn_stamp}
 use Rattle.wrp_sim.specs.Rules.{after_arrival, after_draw, arrives, arrives_by, comes, delivers, departs, departs_from, departs_now, first_entry, is_now, is_tellable, ports_of, raw_by, raw_of, raw_to, stamp_room, true_raw}
 use Rattle.wrp_sim.specs.Scenario.{SceneAt}

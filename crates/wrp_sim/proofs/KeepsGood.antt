@@ -16,15 +16,15 @@ use Rattle.wrp_base.proofs.Integers.{le_plus}
 use Rattle.wrp_base.proofs.Lists.{has_item}
 use Rattle.wrp_bounds.specs.Times.{longest_tick, shortest_tick}
 use Rattle.wrp_frame.specs.declared.fault.FrameFault.{FrameFault}
-use Rattle.wrp_world.specs.declared.event.Event.{Event}
-use Rattle.wrp_world.specs.declared.event.Event.TheVariants.{Deliver}
-use Rattle.wrp_world.specs.EventAt.{IsEventOf}
-use Rattle.wrp_world.specs.Given.{world_step}
-use Rattle.wrp_world.specs.Premises.{Accepts}
-use Rattle.wrp_world.specs.RunLaws.{HasTimes}
-use Rattle.wrp_world.specs.Runs.{IsNetwork}
-use Rattle.wrp_world.specs.Setting.{Setting, from_on, link_of, nodes_of, of_node}
-use Rattle.wrp_world.specs.WorldAt.{FrameAt, WorldAt, ends_are_up, has_carrier}
+use Rattle.wrp_course.specs.declared.event.Event.{Event}
+use Rattle.wrp_course.specs.declared.event.Event.TheVariants.{Deliver}
+use Rattle.wrp_course.specs.EventAt.{IsEventOf}
+use Rattle.wrp_course.specs.Given.{world_step}
+use Rattle.wrp_course.specs.Premises.{Accepts}
+use Rattle.wrp_course.specs.RunLaws.{HasTimes}
+use Rattle.wrp_course.specs.Runs.{IsNetwork}
+use Rattle.wrp_course.specs.Setting.{Setting, from_on, link_of, nodes_of, of_node}
+use Rattle.wrp_course.specs.WorldAt.{FrameAt, WorldAt, ends_are_up, has_carrier}
 use Rattle.wrp_sim.specs.Draws.{drawn, drawn_from}
 use Rattle.wrp_sim.specs.Rules.{Next, drawn_tick}
 use Rattle.wrp_sim.specs.Scenario.{IsSceneOf, SceneAt}

@@ -8,22 +8,22 @@ use Rattle.wrp_base.specs.Network.{End}
 use Rattle.wrp_base.proofs.Booleans.{not_both}
 use Rattle.wrp_frame.specs.declared.fault.FrameFault.{FrameFault}
 use Rattle.wrp_node.specs.NodeAt.{link_at}
-use Rattle.wrp_world.specs.declared.event.Event.{Event}
-use Rattle.wrp_world.specs.declared.event.Event.TheVariants.{Pass, Tick, Sample, Depart, Arrive, Deliver, Noise, Down, Up, Cut, Join}
-use Rattle.wrp_world.specs.declared.place.Place.{Place}
-use Rattle.wrp_world.specs.Checks.{AllHold}
-use Rattle.wrp_world.proofs.RunChanges.{still_up}
-use Rattle.wrp_world.proofs.RunStamps.{all_given_frame}
-use Rattle.wrp_world.specs.Given.{Given, given_by, gives_all, world_step}
-use Rattle.wrp_world.specs.Moved.{arrived, departing, frame_after, loses, moved, removed, samples_at, waiting_at}
-use Rattle.wrp_world.specs.Premises.{Accepts, depart_checks}
-use Rattle.wrp_world.specs.Run.{Happened, world_after}
-use Rattle.wrp_world.specs.Runs.{IsRun}
-use Rattle.wrp_world.specs.SameHandshake.{CarriersAreTheLinks}
-use Rattle.wrp_world.specs.Setting.{Setting, is_role, place_of}
-use Rattle.wrp_world.specs.WorldAt.{Arrival, FrameAt, Sending, WorldAt, has_carrier, is_on_fibre, new_world}
-use Rattle.wrp_world.proofs.RunNetwork.{LinkEnd, link_end}
-use Rattle.wrp_world.proofs.RunSettled.{all_given_carrier, passed_carrier, sampled_carrier}
+use Rattle.wrp_course.specs.declared.event.Event.{Event}
+use Rattle.wrp_course.specs.declared.event.Event.TheVariants.{Pass, Tick, Sample, Depart, Arrive, Deliver, Noise, Down, Up, Cut, Join}
+use Rattle.wrp_course.specs.declared.place.Place.{Place}
+use Rattle.wrp_course.specs.Checks.{AllHold}
+use Rattle.wrp_course.proofs.RunChanges.{still_up}
+use Rattle.wrp_course.proofs.RunStamps.{all_given_frame}
+use Rattle.wrp_course.specs.Given.{Given, given_by, gives_all, world_step}
+use Rattle.wrp_course.specs.Moved.{arrived, departing, frame_after, loses, moved, removed, samples_at, waiting_at}
+use Rattle.wrp_course.specs.Premises.{Accepts, depart_checks}
+use Rattle.wrp_course.specs.Run.{Happened, world_after}
+use Rattle.wrp_course.specs.Runs.{IsRun}
+use Rattle.wrp_course.specs.SameHandshake.{CarriersAreTheLinks}
+use Rattle.wrp_course.specs.Setting.{Setting, is_role, place_of}
+use Rattle.wrp_course.specs.WorldAt.{Arrival, FrameAt, Sending, WorldAt, has_carrier, is_on_fibre, new_world}
+use Rattle.wrp_course.proofs.RunNetwork.{LinkEnd, link_end}
+use Rattle.wrp_course.proofs.RunSettled.{all_given_carrier, passed_carrier, sampled_carrier}
 use Rattle.wrp_sim.proofs.KeepsWaits.{PortsDark, WaitsLit, step_waits, still_joined, uncut_carrier, untouched_carrier}
 
 -- Frames on a fibre

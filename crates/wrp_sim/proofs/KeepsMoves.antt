@@ -15,22 +15,22 @@ use Rattle.wrp_frame.specs.declared.fault.FrameFault.{FrameFault}
 use Rattle.wrp_node.specs.declared.interface.Input.{Input}
 use Rattle.wrp_node.specs.declared.interface.Input.TheVariants.{Tick as TickInput, Sample as SampleInput, Frame, Sent, Carrier, Reset}
 use Rattle.wrp_node.specs.NodeAt.{numbers_of}
-use Rattle.wrp_world.specs.declared.clocks.ClockState.{ClockState}
-use Rattle.wrp_world.specs.declared.event.Event.{Event}
-use Rattle.wrp_world.specs.declared.event.Event.TheVariants.{Pass, Tick, Sample, Depart, Arrive, Deliver, Noise, Down, Up, Cut, Join}
-use Rattle.wrp_world.specs.declared.event.Swap.{Swap}
-use Rattle.wrp_world.specs.declared.fibres.FibreState.{FibreState}
-use Rattle.wrp_world.specs.declared.place.Place.{Place}
-use Rattle.wrp_world.proofs.RunMoves.{ticked_where}
-use Rattle.wrp_world.proofs.RunSettled.{up_told}
-use Rattle.wrp_world.proofs.RunTicks.{NoTick, told_same}
-use Rattle.wrp_world.specs.Given.{Given, at_ports, clock_told, comes_from, delivered, given, given_by, given_plain, gives, gives_all, goes_from, sent_oldest, step_of, ticked_by, world_step}
-use Rattle.wrp_world.specs.Moved.{arrived, behind_first, departed_after, departing, end_after, fibre_after, frame_after, is_place, loses, move_of, moved, one_more, port_number, removed, samples_at, swap_at, waiting_at, with_swap}
-use Rattle.wrp_world.specs.RunLaws.{SameModule}
-use Rattle.wrp_world.specs.Setting.{Setting, end_at, is_of, is_role, place_of}
-use Rattle.wrp_world.specs.WorldAt.{Arrival, EndAt, FrameAt, Sending, WorldAt, delay_from, first_name, has_carrier, is_on_fibre, new_world}
-use Rattle.wrp_world.proofs.RunGifts.{AllGiven, all_if, comes_all, delivered_all, goes_all, ports_all, sent_all}
-use Rattle.wrp_world.proofs.RunTimes.{all_given_module, one_module, same_module}
+use Rattle.wrp_course.specs.declared.clocks.ClockState.{ClockState}
+use Rattle.wrp_course.specs.declared.event.Event.{Event}
+use Rattle.wrp_course.specs.declared.event.Event.TheVariants.{Pass, Tick, Sample, Depart, Arrive, Deliver, Noise, Down, Up, Cut, Join}
+use Rattle.wrp_course.specs.declared.event.Swap.{Swap}
+use Rattle.wrp_course.specs.declared.fibres.FibreState.{FibreState}
+use Rattle.wrp_course.specs.declared.place.Place.{Place}
+use Rattle.wrp_course.proofs.RunMoves.{ticked_where}
+use Rattle.wrp_course.proofs.RunSettled.{up_told}
+use Rattle.wrp_course.proofs.RunTicks.{NoTick, told_same}
+use Rattle.wrp_course.specs.Given.{Given, at_ports, clock_told, comes_from, delivered, given, given_by, given_plain, gives, gives_all, goes_from, sent_oldest, step_of, ticked_by, world_step}
+use Rattle.wrp_course.specs.Moved.{arrived, behind_first, departed_after, departing, end_after, fibre_after, frame_after, is_place, loses, move_of, moved, one_more, port_number, removed, samples_at, swap_at, waiting_at, with_swap}
+use Rattle.wrp_course.specs.RunLaws.{SameModule}
+use Rattle.wrp_course.specs.Setting.{Setting, end_at, is_of, is_role, place_of}
+use Rattle.wrp_course.specs.WorldAt.{Arrival, EndAt, FrameAt, Sending, WorldAt, delay_from, first_name, has_carrier, is_on_fibre, new_world}
+use Rattle.wrp_course.proofs.RunGifts.{AllGiven, all_if, comes_all, delivered_all, goes_all, ports_all, sent_all}
+use Rattle.wrp_course.proofs.RunTimes.{all_given_module, one_module, same_module}
 use Rattle.wrp_sim.specs.Rules.{first_entry}
 use Rattle.wrp_sim.specs.Scenario.{SceneAt, ms_of, sm_of}
 

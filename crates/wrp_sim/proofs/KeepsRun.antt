@@ -4,17 +4,17 @@ use Rattle.std.proofs.lemmas.Bool.Decides.{nat_tests}
 use Rattle.std.proofs.lemmas.Option.{none-some}
 use Rattle.wrp_base.proofs.Booleans.{not_both}
 use Rattle.wrp_base.proofs.Naturals.{nat_le_self}
-use Rattle.wrp_world.specs.declared.event.Event.{Event}
-use Rattle.wrp_world.specs.declared.event.Event.TheVariants.{Pass, Tick, Sample, Depart, Arrive, Deliver, Noise, Down, Up, Cut, Join}
-use Rattle.wrp_world.specs.EventAt.{IsEventOf}
-use Rattle.wrp_world.specs.Premises.{Accepts}
-use Rattle.wrp_world.specs.Run.{Happened, world_after}
-use Rattle.wrp_world.specs.RunLaws.{FramesHaveTimes}
-use Rattle.wrp_world.specs.Runs.{IsNetwork, IsRun}
-use Rattle.wrp_world.specs.SameHandshake.{CarriersAreTheLinks}
-use Rattle.wrp_world.specs.Setting.{Setting}
-use Rattle.wrp_world.specs.Views.{IsNextArrival}
-use Rattle.wrp_world.specs.WorldAt.{WorldAt}
+use Rattle.wrp_course.specs.declared.event.Event.{Event}
+use Rattle.wrp_course.specs.declared.event.Event.TheVariants.{Pass, Tick, Sample, Depart, Arrive, Deliver, Noise, Down, Up, Cut, Join}
+use Rattle.wrp_course.specs.EventAt.{IsEventOf}
+use Rattle.wrp_course.specs.Premises.{Accepts}
+use Rattle.wrp_course.specs.Run.{Happened, world_after}
+use Rattle.wrp_course.specs.RunLaws.{FramesHaveTimes}
+use Rattle.wrp_course.specs.Runs.{IsNetwork, IsRun}
+use Rattle.wrp_course.specs.SameHandshake.{CarriersAreTheLinks}
+use Rattle.wrp_course.specs.Setting.{Setting}
+use Rattle.wrp_course.specs.Views.{IsNextArrival}
+use Rattle.wrp_course.specs.WorldAt.{WorldAt}
 use Rattle.wrp_sim.specs.Keeps.{Between, Comes, EventsAreAccepted, IsDriven, LeftOut, MayBeBetween, Silent, SimRunsAreRuns, Turn, events_of}
 use Rattle.wrp_sim.specs.Rules.{Next, arrives, begins, delivers, departs, fails, first_of, later_rules, next_of, passes, rest_of, samples, ticks}
 use Rattle.wrp_sim.specs.Scenario.{IsSceneOf, SceneAt}

@@ -8,10 +8,10 @@ use Rattle.wrp_base.specs.declared.network.LinkCfg.{LinkCfg}
 use Rattle.wrp_base.specs.Network.{node_count}
 use Rattle.wrp_base.proofs.Integers.{le_plus}
 use Rattle.wrp_base.proofs.Naturals.{nat_le_self}
-use Rattle.wrp_world.specs.Checks.{AllHold, only_where, stands}
-use Rattle.wrp_world.specs.Premises.{beat_by, beat_checks, sample_checks}
-use Rattle.wrp_world.specs.Setting.{Setting, above, link_of, of_node}
-use Rattle.wrp_world.specs.WorldAt.{WorldAt, delay_from, has_carrier}
+use Rattle.wrp_course.specs.Checks.{AllHold, only_where, stands}
+use Rattle.wrp_course.specs.Premises.{beat_by, beat_checks, sample_checks}
+use Rattle.wrp_course.specs.Setting.{Setting, above, link_of, of_node}
+use Rattle.wrp_course.specs.WorldAt.{WorldAt, delay_from, has_carrier}
 use Rattle.wrp_sim.specs.Draws.{drawn, drawn_from}
 use Rattle.wrp_sim.specs.Numbers.{base_before, bits_behind, drawn_zeros}
 use Rattle.wrp_sim.specs.Rules.{after_draw, comes, delay_down, first_entry, sample_below, sample_of, samples, step_below}

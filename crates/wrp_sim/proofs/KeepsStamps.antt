@@ -12,10 +12,10 @@ use Rattle.wrp_base.specs.Network.{IsAmong}
 use Rattle.wrp_base.proofs.Integers.{le_plus, pos_le, pos_of_abs}
 use Rattle.wrp_stamp.specs.Merge.{place_of as place_in_period}
 use Rattle.wrp_stamp.specs.StampBound.{true_place}
-use Rattle.wrp_world.specs.Checks.{AllHold, Holds}
-use Rattle.wrp_world.specs.EventAt.{IsRaw, IsTime}
-use Rattle.wrp_world.specs.Premises.{counter_check, may_fall, may_rise, raw_checks}
-use Rattle.wrp_world.specs.Setting.{Setting}
+use Rattle.wrp_course.specs.Checks.{AllHold, Holds}
+use Rattle.wrp_course.specs.EventAt.{IsRaw, IsTime}
+use Rattle.wrp_course.specs.Premises.{counter_check, may_fall, may_rise, raw_checks}
+use Rattle.wrp_course.specs.Setting.{Setting}
 use Rattle.wrp_sim.specs.Draws.{drawn, drawn_from}
 use Rattle.wrp_sim.specs.Numbers.{drawn_stamp}
 use Rattle.wrp_sim.specs.Rules.{is_tellable, true_raw}

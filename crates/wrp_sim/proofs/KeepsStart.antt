@@ -15,13 +15,13 @@ use Rattle.wrp_base.proofs.Naturals.{le_one_more, nat_le_self}
 use Rattle.wrp_bounds.specs.Times.{longest_tick, reach, shortest_tick}
 use Rattle.wrp_frame.specs.declared.fault.FrameFault.{FrameFault}
 use Rattle.wrp_config.proofs.Taken.{none_at}
-use Rattle.wrp_world.specs.declared.event.Event.TheVariants.{Down, Cut}
-use Rattle.wrp_world.specs.Checks.{stands}
-use Rattle.wrp_world.specs.EventAt.{IsEventOf, link_count}
-use Rattle.wrp_world.specs.Moved.{moved}
-use Rattle.wrp_world.specs.Premises.{Accepts, fibre_kept}
-use Rattle.wrp_world.specs.Setting.{Setting, link_of, links_of}
-use Rattle.wrp_world.specs.WorldAt.{WorldAt}
+use Rattle.wrp_course.specs.declared.event.Event.TheVariants.{Down, Cut}
+use Rattle.wrp_course.specs.Checks.{stands}
+use Rattle.wrp_course.specs.EventAt.{IsEventOf, link_count}
+use Rattle.wrp_course.specs.Moved.{moved}
+use Rattle.wrp_course.specs.Premises.{Accepts, fibre_kept}
+use Rattle.wrp_course.specs.Setting.{Setting, link_of, links_of}
+use Rattle.wrp_course.specs.WorldAt.{WorldAt}
 use Rattle.wrp_sim.specs.declared.scene.fault.Fault.{Fault}
 use Rattle.wrp_sim.specs.declared.scene.fault.FaultKind.{FaultKind}
 use Rattle.wrp_sim.specs.declared.scene.fault.FaultKind.TheVariants as kind

@@ -10,19 +10,19 @@ use Rattle.wrp_base.proofs.Booleans.{not_both}
 use Rattle.wrp_base.proofs.Naturals.{nat_le_trans, not_next}
 use Rattle.wrp_bounds.specs.Times.{longest_tick, shortest_tick}
 use Rattle.wrp_frame.specs.declared.fault.FrameFault.{FrameFault}
-use Rattle.wrp_world.specs.declared.event.Event.{Event}
-use Rattle.wrp_world.specs.declared.event.Event.TheVariants.{Pass, Tick, Sample, Depart, Arrive, Deliver, Noise, Down, Up, Cut, Join}
-use Rattle.wrp_world.specs.declared.fibres.FibreState.{FibreState}
-use Rattle.wrp_world.specs.EventAt.{link_count}
-use Rattle.wrp_world.proofs.RunChanges.{joined_where, still_up}
-use Rattle.wrp_world.proofs.RunStamps.{all_given_frame}
-use Rattle.wrp_world.specs.Given.{Given, given_by, world_step}
-use Rattle.wrp_world.specs.Moved.{departing, moved, removed, time_after, waiting_at}
-use Rattle.wrp_world.specs.declared.place.Place.{Place}
-use Rattle.wrp_world.specs.Setting.{Setting, place_of}
-use Rattle.wrp_world.specs.WorldAt.{Arrival, FrameAt, Sending, WorldAt, has_carrier, new_world}
-use Rattle.wrp_world.proofs.RunSettled.{all_given_carrier, sampled_carrier}
-use Rattle.wrp_world.proofs.RunTimes.{all_given_time}
+use Rattle.wrp_course.specs.declared.event.Event.{Event}
+use Rattle.wrp_course.specs.declared.event.Event.TheVariants.{Pass, Tick, Sample, Depart, Arrive, Deliver, Noise, Down, Up, Cut, Join}
+use Rattle.wrp_course.specs.declared.fibres.FibreState.{FibreState}
+use Rattle.wrp_course.specs.EventAt.{link_count}
+use Rattle.wrp_course.proofs.RunChanges.{joined_where, still_up}
+use Rattle.wrp_course.proofs.RunStamps.{all_given_frame}
+use Rattle.wrp_course.specs.Given.{Given, given_by, world_step}
+use Rattle.wrp_course.specs.Moved.{departing, moved, removed, time_after, waiting_at}
+use Rattle.wrp_course.specs.declared.place.Place.{Place}
+use Rattle.wrp_course.specs.Setting.{Setting, place_of}
+use Rattle.wrp_course.specs.WorldAt.{Arrival, FrameAt, Sending, WorldAt, has_carrier, new_world}
+use Rattle.wrp_course.proofs.RunSettled.{all_given_carrier, sampled_carrier}
+use Rattle.wrp_course.proofs.RunTimes.{all_given_time}
 use Rattle.wrp_sim.specs.declared.scene.fault.Fault.{Fault}
 use Rattle.wrp_sim.specs.Rules.{fault_time}
 use Rattle.wrp_sim.specs.Scenario.{IsFault, IsSceneOf, SceneAt}

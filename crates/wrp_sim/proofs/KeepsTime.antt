@@ -14,14 +14,14 @@ use Rattle.wrp_base.proofs.Naturals.{nat_le_self}
 use Rattle.wrp_bounds.specs.Times.{longest_tick, shortest_tick}
 use Rattle.wrp_frame.specs.declared.fault.FrameFault.{FrameFault}
 use Rattle.wrp_config.proofs.Taken.{none_at}
-use Rattle.wrp_world.specs.declared.event.Event.{Event}
-use Rattle.wrp_world.specs.declared.event.Event.TheVariants.{Tick}
-use Rattle.wrp_world.specs.Checks.{Holds}
-use Rattle.wrp_world.specs.EventAt.{IsChange, IsEventOf, IsMove, link_count}
-use Rattle.wrp_world.specs.Moved.{moved}
-use Rattle.wrp_world.specs.Premises.{Accepts, fibre_kept, fibre_rate, rate_kept, tick_late}
-use Rattle.wrp_world.specs.Setting.{Setting, links_of, nodes_of}
-use Rattle.wrp_world.specs.WorldAt.{WorldAt}
+use Rattle.wrp_course.specs.declared.event.Event.{Event}
+use Rattle.wrp_course.specs.declared.event.Event.TheVariants.{Tick}
+use Rattle.wrp_course.specs.Checks.{Holds}
+use Rattle.wrp_course.specs.EventAt.{IsChange, IsEventOf, IsMove, link_count}
+use Rattle.wrp_course.specs.Moved.{moved}
+use Rattle.wrp_course.specs.Premises.{Accepts, fibre_kept, fibre_rate, rate_kept, tick_late}
+use Rattle.wrp_course.specs.Setting.{Setting, links_of, nodes_of}
+use Rattle.wrp_course.specs.WorldAt.{WorldAt}
 use Rattle.wrp_sim.specs.Rules.{comes, drawn_tick, drift_over, due_times, end_time, fault_time, is_over, moments, next_moment, pass_of, passes, sooner, tick_of, tick_times, ticks, ticks_now, with_tick}
 use Rattle.wrp_sim.specs.Scenario.{SceneAt}
 use Rattle.wrp_sim.specs.SimAt.{SimAt}

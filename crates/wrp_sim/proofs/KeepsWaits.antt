@@ -14,19 +14,19 @@ use Rattle.wrp_frame.specs.declared.fault.FrameFault.{FrameFault}
 use Rattle.wrp_node.specs.declared.interface.Input.TheVariants.{Frame, Reset, Sample as SampleInput, Tick as TickInput}
 use Rattle.wrp_node.specs.NodeAt.{link_at}
 use Rattle.wrp_node.specs.Telling.{Step}
-use Rattle.wrp_world.specs.declared.clocks.ClockState.{ClockState}
-use Rattle.wrp_world.specs.declared.event.Event.{Event}
-use Rattle.wrp_world.specs.declared.event.Event.TheVariants.{Pass, Tick, Sample, Depart, Arrive, Deliver, Noise, Down, Up, Cut, Join}
-use Rattle.wrp_world.specs.declared.fibres.FibreState.{FibreState}
-use Rattle.wrp_world.proofs.RunFrames.{with_swap_waiting}
-use Rattle.wrp_world.proofs.RunPorts.{one_of}
-use Rattle.wrp_world.specs.Given.{Given, at_ports, comes_from, delivered, delivered_by, delivered_to, end_given, given, given_by, given_plain, gives, gives_all, goes_from, sending, sent_oldest, step_of, taken_of, told_sending, world_step}
-use Rattle.wrp_world.specs.Moved.{behind_first, end_after, is_place, moved, port_number, swap_at, touches, waiting_at, with_swap}
-use Rattle.wrp_world.specs.Setting.{Setting, end_at, end_of, node_setting_of, is_of, link_of, place_of}
-use Rattle.wrp_world.specs.WorldAt.{Arrival, EndAt, FrameAt, Sending, WorldAt, ends_are_up, has_carrier}
-use Rattle.wrp_world.proofs.RunChanges.{cut_carrier, and_less, less_dark, still_up}
-use Rattle.wrp_world.proofs.RunGifts.{AllGiven, all_if, comes_all, goes_all, ports_all}
-use Rattle.wrp_world.proofs.RunSettled.{all_given_carrier, passed_carrier, sampled_carrier}
+use Rattle.wrp_course.specs.declared.clocks.ClockState.{ClockState}
+use Rattle.wrp_course.specs.declared.event.Event.{Event}
+use Rattle.wrp_course.specs.declared.event.Event.TheVariants.{Pass, Tick, Sample, Depart, Arrive, Deliver, Noise, Down, Up, Cut, Join}
+use Rattle.wrp_course.specs.declared.fibres.FibreState.{FibreState}
+use Rattle.wrp_course.proofs.RunFrames.{with_swap_waiting}
+use Rattle.wrp_course.proofs.RunPorts.{one_of}
+use Rattle.wrp_course.specs.Given.{Given, at_ports, comes_from, delivered, delivered_by, delivered_to, end_given, given, given_by, given_plain, gives, gives_all, goes_from, sending, sent_oldest, step_of, taken_of, told_sending, world_step}
+use Rattle.wrp_course.specs.Moved.{behind_first, end_after, is_place, moved, port_number, swap_at, touches, waiting_at, with_swap}
+use Rattle.wrp_course.specs.Setting.{Setting, end_at, end_of, node_setting_of, is_of, link_of, place_of}
+use Rattle.wrp_course.specs.WorldAt.{Arrival, EndAt, FrameAt, Sending, WorldAt, ends_are_up, has_carrier}
+use Rattle.wrp_course.proofs.RunChanges.{cut_carrier, and_less, less_dark, still_up}
+use Rattle.wrp_course.proofs.RunGifts.{AllGiven, all_if, comes_all, goes_all, ports_all}
+use Rattle.wrp_course.proofs.RunSettled.{all_given_carrier, passed_carrier, sampled_carrier}
 use Rattle.wrp_sim.proofs.KeepsSends.{IsSilent, dark_sends, silent_sends}
 
 -- Waiting frames

@@ -5,10 +5,10 @@ use Rattle.std.proofs.lemmas.Option.{none-some, same_Some}
 use Rattle.wrp_base.specs.Clock.{period_of}
 use Rattle.wrp_base.specs.declared.time.Clock.{Clock}
 use Rattle.wrp_base.specs.declared.time.Clock.TheVariants.{Mhz125, Mhz62}
-use Rattle.wrp_world.specs.declared.event.Event.TheVariants.{Depart}
-use Rattle.wrp_world.specs.Setting.{Setting, from_on}
-use Rattle.wrp_world.specs.Views.{waiting_of}
-use Rattle.wrp_world.specs.WorldAt.{WorldAt, reading}
+use Rattle.wrp_course.specs.declared.event.Event.TheVariants.{Depart}
+use Rattle.wrp_course.specs.Setting.{Setting, from_on}
+use Rattle.wrp_course.specs.Views.{waiting_of}
+use Rattle.wrp_course.specs.WorldAt.{WorldAt, reading}
 use Rattle.wrp_sim.specs.declared.sim.departing.Departure.{Departure}
 use Rattle.wrp_sim.specs.Departures.{IsReadable, departure_by, departure_from}
 use Rattle.wrp_sim.specs.Numbers.{drawn_stamp, is_within}

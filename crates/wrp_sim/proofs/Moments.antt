@@ -6,8 +6,8 @@ use Rattle.std.proofs.lemmas.Int.{ints}
 use Rattle.std.proofs.lemmas.Option.{slice_get-get_or}
 use Rattle.std.specs.List.{AllByRecursion}
 use Rattle.wrp_base.specs.declared.configuration.NetCfg.{NetCfg}
-use Rattle.wrp_world.specs.Setting.{Setting, from_on}
-use Rattle.wrp_world.specs.WorldAt.{WorldAt}
+use Rattle.wrp_course.specs.Setting.{Setting, from_on}
+use Rattle.wrp_course.specs.WorldAt.{WorldAt}
 use Rattle.wrp_world.proofs.AllTake.{all_at}
 use Rattle.wrp_sim.specs.declared.scene.fault.Fault.{Fault}
 use Rattle.wrp_sim.specs.Rules.{due_times, end_time, fault_time, moments, next_moment, sooner, tick_times}

@@ -2,10 +2,10 @@
 use Rattle.std.proofs.Common.{◌≡◌, ◌∙◌, refl, ap, ap₂, sym, ℕ, ◌-◌, ◌≤◌, nat_lt, ℤ, ◌-ℤ◌, Bool, true, false, if◌then◌else◌, List, find, Option, None, Some, option_map, option_and_then, arith}
 use Rattle.std.proofs.lemmas.Option.{none-some, same_Some}
 use Rattle.wrp_base.specs.declared.time.Raw.{Raw}
-use Rattle.wrp_world.specs.declared.event.Event.TheVariants.{Arrive, Deliver, Pass}
-use Rattle.wrp_world.specs.EventAt.{link_count}
-use Rattle.wrp_world.specs.Setting.{Setting, above, link_of, nodes_of}
-use Rattle.wrp_world.specs.WorldAt.{WorldAt, has_carrier}
+use Rattle.wrp_course.specs.declared.event.Event.TheVariants.{Arrive, Deliver, Pass}
+use Rattle.wrp_course.specs.EventAt.{link_count}
+use Rattle.wrp_course.specs.Setting.{Setting, above, link_of, nodes_of}
+use Rattle.wrp_course.specs.WorldAt.{WorldAt, has_carrier}
 use Rattle.wrp_sim.specs.declared.scene.fault.Fault.{Fault}
 use Rattle.wrp_sim.specs.declared.scene.fault.FaultKind.{FaultKind}
 use Rattle.wrp_sim.specs.Rules.{Next, after_arrival, after_draw, arrives_by, begins, comes, delivers, is_over, join_event, moments, next_moment, one_begun, pass_of, passes, raw_of, sample_below, sample_of, samples, tick_of, ticks, ticks_now, wakes}

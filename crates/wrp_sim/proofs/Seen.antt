@@ -4,11 +4,11 @@ use Rattle.wrp_base.specs.declared.configuration.NetCfg.{NetCfg}
 use Rattle.wrp_base.specs.declared.network.LinkCfg.{LinkCfg}
 use Rattle.wrp_base.specs.declared.network.NodeCfg.{NodeCfg}
 use Rattle.wrp_base.proofs.Lists.{has_item}
-use Rattle.wrp_world.specs.declared.clocks.ClockState.{ClockState}
-use Rattle.wrp_world.specs.Setting.{Setting, from_on, link_of, nodes_of}
+use Rattle.wrp_course.specs.declared.clocks.ClockState.{ClockState}
+use Rattle.wrp_course.specs.Setting.{Setting, from_on, link_of, nodes_of}
 use Rattle.wrp_world.specs.StandsFor.{IsValid, StandsFor, Tells, WorldOf, off_of, time_of}
-use Rattle.wrp_world.specs.WorldAt.{WorldAt}
-use Rattle.wrp_world.proofs.Sizing.{off_size, time_size}
+use Rattle.wrp_course.specs.WorldAt.{WorldAt}
+use Rattle.wrp_plant.proofs.Sizing.{off_size, time_size}
 
 pub time_fits : {F : Type 0} (pre : F → ℤ → Type 0) (post : F → ℤ → ℤ → Type 0) (world : WorldOf F) (t : ℤ) → IsValid pre post world →
     Tells post time_of world t → unsigned_abs t ≤ 2 ^ 100

@@ -3,8 +3,8 @@ use Rattle.std.proofs.Common.{◌≡◌, ◌∙◌, refl, ap, sym, subst, ℕ, z
 use Rattle.std.specs.Option.{option_or}
 use Rattle.std.proofs.lemmas.Option.{none-some, same_Some}
 use Rattle.wrp_base.proofs.Lists.{append_assoc}
-use Rattle.wrp_world.specs.Plant.{Each}
-use Rattle.wrp_world.specs.Setting.{from_on}
+use Rattle.wrp_plant.specs.Plant.{Each}
+use Rattle.wrp_course.specs.Setting.{from_on}
 
 nothing_more : {A : Type 0} (xs : List A) → xs ++ [] ≡ xs
 nothing_more [] = refl

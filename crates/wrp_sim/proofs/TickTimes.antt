@@ -1,7 +1,7 @@
 -- The tick times of nodes.
 use Rattle.std.proofs.Common.{◌≡◌, refl, sym, subst, ℕ, ◌==◌, ℤ, Bool, true, false, if◌then◌else◌, List, slice_set, eq-eqb, eqb-true}
-use Rattle.wrp_world.specs.Plant.{Each}
-use Rattle.wrp_world.specs.Setting.{Setting}
+use Rattle.wrp_plant.specs.Plant.{Each}
+use Rattle.wrp_course.specs.Setting.{Setting}
 use Rattle.wrp_sim.specs.Rules.{drawn_tick, with_tick}
 use Rattle.wrp_sim.specs.SimAt.{SimAt}
 use Rattle.wrp_sim.proofs.SimLists.{each_set}

@@ -1,6 +1,6 @@
 -- What a rule gave, and what the rules give one after another.
 use Rattle.std.proofs.Common.{◌≡◌, ◌∙◌, refl, sym, subst, List, [], ◌∷◌, Option, None, Some}
-use Rattle.wrp_world.specs.declared.event.Event.{Event}
+use Rattle.wrp_course.specs.declared.event.Event.{Event}
 use Rattle.wrp_sim.specs.Rules.{Next, comes, first_of}
 use Rattle.wrp_sim.specs.declared.sim.state.State.{State}
 use Rattle.wrp_sim.specs.Sim.{Gave, SimIs}

@@ -8,11 +8,11 @@ use Rattle.wrp_base.specs.declared.network.LinkCfg.{LinkCfg}
 use Rattle.wrp_base.specs.declared.time.Raw.{Raw}
 use Rattle.wrp_base.specs.Network.{other_of}
 use Rattle.wrp_caldb.specs.Database.{Database, module_at}
-use Rattle.wrp_world.specs.declared.event.Event.{Event}
-use Rattle.wrp_world.specs.declared.event.Event.TheVariants.{Depart}
-use Rattle.wrp_world.specs.declared.place.Place.{Place}
-use Rattle.wrp_world.specs.Setting.{Setting}
-use Rattle.wrp_world.specs.WorldAt.{WorldAt, reading}
+use Rattle.wrp_course.specs.declared.event.Event.{Event}
+use Rattle.wrp_course.specs.declared.event.Event.TheVariants.{Depart}
+use Rattle.wrp_course.specs.declared.place.Place.{Place}
+use Rattle.wrp_course.specs.Setting.{Setting}
+use Rattle.wrp_course.specs.WorldAt.{WorldAt, reading}
 use Rattle.wrp_sim.specs.declared.sim.departing.Departure.{Departure}
 use Rattle.wrp_sim.specs.declared.sim.modules.LinkEnd.{LinkEnd}
 use Rattle.wrp_sim.specs.Numbers.{drawn_stamp}

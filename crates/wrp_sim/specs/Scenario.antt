@@ -7,7 +7,7 @@ use Rattle.wrp_base.specs.declared.configuration.NetCfg.{NetCfg}
 use Rattle.wrp_base.specs.Network.{IsFromTo, IsGrandmaster, node_count}
 use Rattle.wrp_bounds.specs.Times.{reach}
 use Rattle.wrp_law.specs.Law.{floor_at}
-use Rattle.wrp_world.specs.EventAt.{link_count}
+use Rattle.wrp_course.specs.EventAt.{link_count}
 use Rattle.wrp_sim.specs.declared.scene.fault.Fault.{Fault}
 use Rattle.wrp_sim.specs.declared.scene.fault.FaultKind.{FaultKind}
 use Rattle.wrp_sim.specs.declared.scene.fault.FaultKind.TheVariants.{Down, Up, Cut, Join}

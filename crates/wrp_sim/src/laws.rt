@@ -2,7 +2,7 @@
 //! stand on.
 ghost use Rattle.wrp_sim.specs.Keeps.{EventsAreAccepted, SimRunsAreRuns};
 
-use wrp_world::{frames_have_times, link_on_in_the_same_handshake};
+use wrp_course::{frames_have_times, link_on_in_the_same_handshake};
 
 /// The simulator never breaks a bound: each of its events is accepted by the world, whatever frames were
 /// handed over and whatever octets came between; and so the events of a simulator that runs by itself are a

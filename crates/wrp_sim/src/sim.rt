@@ -5,7 +5,7 @@ ghost use Rattle.wrp_sim.specs.Scenario.{IsSceneOf};
 ghost use Rattle.wrp_sim.specs.Sim.{FitsSim, FollowsRules, SimIs, StaysFit};
 ghost use Rattle.wrp_sim.specs.SimAt.{new_sim};
 ghost use Rattle.wrp_sim.specs.TakesTurns.{TakesTurns};
-ghost use Rattle.wrp_world.specs.Plant.{Each};
+ghost use Rattle.wrp_plant.specs.Plant.{Each};
 ghost use Rattle.wrp_world.specs.StandsFor.{IsValid};
 
 mod arriving;

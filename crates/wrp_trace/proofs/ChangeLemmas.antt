@@ -9,7 +9,7 @@ use Rattle.wrp_fields.specs.Reading.{field_of, ◌>>=◌}
 use Rattle.wrp_base.specs.declared.configuration.NetCfg.{NetCfg}
 use Rattle.wrp_trace.specs.Changes.{SaidAt, is_said, count_said, said_count, with_drift, with_move, nothing_said, change_said, changes_said}
 use Rattle.wrp_trace.specs.EventAt.{Fits, IsSaid}
-use Rattle.wrp_world.specs.EventAt.{IsChange, IsMove}
+use Rattle.wrp_course.specs.EventAt.{IsChange, IsMove}
 
 swapped : (n : ℕ) → 1 + n ≡ n + 1
 swapped n = omega arith

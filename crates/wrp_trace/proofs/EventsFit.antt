@@ -16,10 +16,10 @@ use Rattle.wrp_base.specs.declared.network.NodeCfg.{NodeCfg}
 use Rattle.wrp_caldb.specs.Name.{is_name, same_name}
 use Rattle.wrp_config.specs.Names.{link_named, node_named}
 use Rattle.wrp_config.specs.Config.{bare}
-use Rattle.wrp_world.specs.declared.event.Event.{Event}
-use Rattle.wrp_world.specs.declared.event.Event.TheVariants as events
-use Rattle.wrp_world.specs.declared.event.Swap.{Swap}
-use Rattle.wrp_world.specs.EventAt.{AreSwaps, IsChange, IsEventOf, IsMove, IsRaw, IsSwap, IsTime, link_count}
+use Rattle.wrp_course.specs.declared.event.Event.{Event}
+use Rattle.wrp_course.specs.declared.event.Event.TheVariants as events
+use Rattle.wrp_course.specs.declared.event.Swap.{Swap}
+use Rattle.wrp_course.specs.EventAt.{AreSwaps, IsChange, IsEventOf, IsMove, IsRaw, IsSwap, IsTime, link_count}
 use Rattle.wrp_trace.specs.declared.events.kinds.EventKind.{EventKind}
 use Rattle.wrp_trace.specs.declared.events.kinds.EventKind.TheVariants as kinds
 use Rattle.wrp_trace.specs.Changes.{SaidAt, change_in, change_said, changes_said, drift_said, is_said, move_in, move_said, named_said, nothing_said, said_once, with_drift, with_move}

@@ -18,9 +18,9 @@ use Rattle.wrp_base.specs.Network.{IsFromTo, name_at, node_count}
 use Rattle.wrp_base.proofs.Lists.{has_item}
 use Rattle.wrp_config.specs.Accepted.{HasNames}
 use Rattle.wrp_config.specs.Names.{node_named, link_named}
-use Rattle.wrp_world.specs.declared.event.Event.{Event}
-use Rattle.wrp_world.specs.declared.event.Event.TheVariants as events
-use Rattle.wrp_world.specs.declared.event.Swap.{Swap}
+use Rattle.wrp_course.specs.declared.event.Event.{Event}
+use Rattle.wrp_course.specs.declared.event.Event.TheVariants as events
+use Rattle.wrp_course.specs.declared.event.Swap.{Swap}
 use Rattle.wrp_trace.specs.Changes.{SaidAt, nothing_said, changes_said}
 use Rattle.wrp_names.specs.Fields.{node_at, link_at}
 use Rattle.wrp_trace.specs.EventFields.{span_at, delay_at, offset_at}
@@ -39,7 +39,7 @@ use Rattle.wrp_trace.proofs.ReadsBack.{short_read, long_read, step_read, counter
 use Rattle.wrp_trace.proofs.SignedLemmas.{number_in_back}
 use Rattle.wrp_trace.proofs.Texts.{IsText, AreTexts, hex_text, plain_line, parts_back, starts}
 use Rattle.wrp_trace.proofs.UpReadsBack.{swaps_back}
-use Rattle.wrp_world.specs.EventAt.{link_count, IsRaw, IsTime, IsChange, IsMove, IsPass, IsSwap, AreSwaps, IsEventOf, FitsEvent}
+use Rattle.wrp_course.specs.EventAt.{link_count, IsRaw, IsTime, IsChange, IsMove, IsPass, IsSwap, AreSwaps, IsEventOf, FitsEvent}
 
 -- texts with commas between them say what the texts say as fields
 line_says : (cfg : NetCfg) (c : ℕ) (cs : List ℕ) (texts : List (List ℕ)) → AreTexts ((c ∷ cs) ∷ texts)

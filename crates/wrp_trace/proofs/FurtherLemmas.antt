@@ -6,7 +6,7 @@ use Rattle.std.proofs.lemmas.List.{drop_more, append_assoc, append-nil}
 use Rattle.wrp_base.specs.declared.configuration.NetCfg.{NetCfg}
 use Rattle.wrp_base.specs.declared.network.LinkCfg.{LinkCfg}
 use Rattle.wrp_base.specs.declared.network.NodeCfg.{NodeCfg}
-use Rattle.wrp_world.specs.declared.event.Swap.{Swap}
+use Rattle.wrp_course.specs.declared.event.Swap.{Swap}
 use Rattle.wrp_trace.specs.Printing.{joined}
 use Rattle.wrp_trace.specs.EventPrinting.{further, drift_words, drift_text, drift_piece, drift_texts, move_words, move_text, move_piece, move_texts, swap_text, pass_texts}
 

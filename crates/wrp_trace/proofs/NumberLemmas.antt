@@ -10,7 +10,7 @@ use Rattle.std.proofs.lemmas.Fmt.{decimal_is_IsNumeral_wide, length-decimal-le_w
 use Rattle.std.proofs.lemmas.Str.Parse.{IsNumeralModel, numerals_by_fold, digit_from_value}
 use Rattle.wrp_fields.specs.Numbers.{value_of, number_of, natural_in}
 use Rattle.wrp_trace.specs.Times.{time_of}
-use Rattle.wrp_world.specs.EventAt.{IsTime}
+use Rattle.wrp_course.specs.EventAt.{IsTime}
 
 pub own : IsNumeralModel (λ ds. list_all is_ascii_digit ds ≡ true) value_of
 own = numerals_by_fold (λ ds. list_all is_ascii_digit ds ≡ true) (search rules) (λ v ds. fold (λ value digit. value * 10 + (digit - 48)) v ds) (search rules)

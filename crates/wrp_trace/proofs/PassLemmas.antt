@@ -7,7 +7,7 @@ use Rattle.wrp_base.specs.declared.configuration.NetCfg.{NetCfg}
 use Rattle.wrp_base.specs.Network.{IsFromTo}
 use Rattle.wrp_trace.specs.Changes.{SaidAt, all_drifts, all_moves}
 use Rattle.wrp_trace.specs.EventAt.{Fits, IsSaid}
-use Rattle.wrp_world.specs.EventAt.{IsChange, IsMove, IsPass}
+use Rattle.wrp_course.specs.EventAt.{IsChange, IsMove, IsPass}
 
 zero_change : IsChange (pos 0)
 zero_change = omega arith

@@ -19,7 +19,7 @@ use Rattle.wrp_fields.specs.Reading.{◌>>=◌}
 use Rattle.wrp_trace.proofs.EventParts.{name_part, signed_part, lacks_equals, lacks_slash, before_part, behind_part}
 use Rattle.wrp_trace.proofs.NamesFound.{node_found, link_found, link_no_node}
 use Rattle.wrp_trace.proofs.SignedLemmas.{number_in_back}
-use Rattle.wrp_world.specs.EventAt.{IsChange, IsMove}
+use Rattle.wrp_course.specs.EventAt.{IsChange, IsMove}
 
 -- what a printed line says of a drift, and of a move
 abbrev pub drift_of : ℤ → Option ℤ

@@ -26,7 +26,7 @@ use Rattle.wrp_trace.proofs.DigitLemmas.{frame_back, bits_back, number_octets}
 use Rattle.wrp_trace.proofs.Listed.{printed_name, name_finds, plain_name}
 use Rattle.wrp_trace.proofs.NumberLemmas.{natural_back, time_back}
 use Rattle.wrp_trace.proofs.Texts.{IsText, decimal_text, hex_text, name_text, line_says}
-use Rattle.wrp_world.specs.EventAt.{IsRaw, IsTime}
+use Rattle.wrp_course.specs.EventAt.{IsRaw, IsTime}
 
 -- Fields
 

@@ -6,13 +6,13 @@ use Rattle.std.proofs.lemmas.Bool.{eq-eqb, false≢true, or_parts}
 use Rattle.std.proofs.lemmas.List.{drop_more, map-append}
 use Rattle.std.proofs.lemmas.List.Quantifiers.{all_pairs_push}
 use Rattle.wrp_base.specs.declared.fault.TraceFault.{TraceFault}
-use Rattle.wrp_world.specs.declared.event.Swap.{Swap}
+use Rattle.wrp_course.specs.declared.event.Swap.{Swap}
 use Rattle.wrp_fields.specs.Reading.{field_of, ◌>>=◌, number_or_fault, name_or_fault}
 use Rattle.wrp_fields.specs.Numbers.{natural_in}
 use Rattle.wrp_trace.specs.EventFields.{before, behind}
 use Rattle.wrp_trace.specs.Swaps.{plain_swap, own_port, swap_at_port, swap_said, swaps_said}
 use Rattle.wrp_trace.proofs.ChangeLemmas.{field_here}
-use Rattle.wrp_world.specs.EventAt.{IsSwap, AreSwaps}
+use Rattle.wrp_course.specs.EventAt.{IsSwap, AreSwaps}
 
 any_plain : (port : ℕ) (swaps : List Swap) → list_any (λ swap. swap.port == port) (map plain_swap swaps) ≡ list_any (λ swap. swap.port == port) swaps
 any_plain port [] = refl

@@ -5,14 +5,14 @@ use Rattle.std.specs.List.{AllByRecursion, AllPairs, list_any}
 use Rattle.std.specs.Fmt.{decimal}
 use Rattle.std.proofs.lemmas.Bool.{ne_eqb}
 use Rattle.std.proofs.lemmas.List.{append_assoc, append-nil, map-append, get_or_append_left, get_or_at}
-use Rattle.wrp_world.specs.declared.event.Swap.{Swap}
+use Rattle.wrp_course.specs.declared.event.Swap.{Swap}
 use Rattle.wrp_trace.specs.EventPrinting.{swap_text}
 use Rattle.wrp_fields.specs.Reading.{◌>>=◌}
 use Rattle.wrp_trace.specs.Swaps.{plain_swap, swap_said, swaps_said}
 use Rattle.wrp_trace.proofs.EventParts.{decimal_part, name_part, lacks_colon, before_part, behind_part}
 use Rattle.wrp_trace.proofs.NumberLemmas.{natural_back}
 use Rattle.wrp_trace.proofs.SwapLemmas.{no_pass, said_plain}
-use Rattle.wrp_world.specs.EventAt.{IsSwap}
+use Rattle.wrp_course.specs.EventAt.{IsSwap}
 
 -- each port is none of those before
 abbrev pub ArePortsApart : List Swap → Type 0

@@ -3,7 +3,7 @@ use Rattle.std.specs.Prelude.{◌≡◌, Option, None, Some, length}
 use Rattle.std.specs.List.{AllByRecursion}
 use Rattle.wrp_base.specs.declared.configuration.NetCfg.{NetCfg}
 use Rattle.wrp_base.specs.Network.{node_count}
-use Rattle.wrp_world.specs.EventAt.{link_count, IsChange, IsMove}
+use Rattle.wrp_course.specs.EventAt.{link_count, IsChange, IsMove}
 use Rattle.wrp_trace.specs.Changes.{SaidAt}
 
 -- what is said fits, if it is said

@@ -10,9 +10,9 @@ use Rattle.wrp_base.specs.declared.network.LinkCfg.{LinkCfg}
 use Rattle.wrp_base.specs.declared.network.NodeCfg.{NodeCfg}
 use Rattle.wrp_base.specs.declared.time.Raw.{Raw}
 use Rattle.wrp_base.specs.Network.{name_at}
-use Rattle.wrp_world.specs.declared.event.Event.{Event}
-use Rattle.wrp_world.specs.declared.event.Event.TheVariants.{Pass, Tick, Sample, Depart, Arrive, Deliver, Noise, Down, Up, Cut, Join}
-use Rattle.wrp_world.specs.declared.event.Swap.{Swap}
+use Rattle.wrp_course.specs.declared.event.Event.{Event}
+use Rattle.wrp_course.specs.declared.event.Event.TheVariants.{Pass, Tick, Sample, Depart, Arrive, Deliver, Noise, Down, Up, Cut, Join}
+use Rattle.wrp_course.specs.declared.event.Swap.{Swap}
 use Rattle.wrp_trace.specs.Printing.{bits_text, joined}
 
 -- the name of a link

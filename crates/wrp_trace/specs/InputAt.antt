@@ -4,7 +4,7 @@ use Rattle.wrp_base.specs.declared.link.Module.{Module}
 use Rattle.wrp_base.specs.Octets.{AreOctets}
 use Rattle.wrp_node.specs.declared.interface.Input.{Input}
 use Rattle.wrp_node.specs.declared.interface.Input.TheVariants.{Tick, Sample, Frame, Sent, Carrier, Reset}
-use Rattle.wrp_world.specs.EventAt.{IsRaw, IsTime}
+use Rattle.wrp_course.specs.EventAt.{IsRaw, IsTime}
 use Rattle.wrp_trace.specs.LineSetting.{LineSetting, is_grandmaster, has_port, module_of}
 
 -- a module that the database does not list, or the values of one that is listed at the port

@@ -8,7 +8,7 @@ use Rattle.wrp_caldb.specs.Database.{Database}
 use Rattle.wrp_caldb.specs.Name.{same_name}
 use Rattle.wrp_config.specs.Names.{pair_at, listed_at}
 use Rattle.wrp_config.specs.declared.network.Network.{Network}
-use Rattle.wrp_world.specs.Setting.{Setting}
+use Rattle.wrp_course.specs.Setting.{Setting}
 
 -- a node of a network, by its place from 0 in file order
 pub record LineSetting : Type 0 where

@@ -7,7 +7,7 @@ ghost use Rattle.wrp_trace.specs.EventAt.{IsSaid};
 ghost use Rattle.wrp_trace.specs.EventKinds.{may_have};
 ghost use Rattle.wrp_trace.specs.Events.{pass_with, pass_of, tick_of, sample_of, depart_of, arrive_of, deliver_of, noise_of, down_of, up_of, cut_of, join_of, fields_of_kind, event_of, event_read, told};
 ghost use Rattle.wrp_fields.specs.Reading.{IsReading};
-ghost use Rattle.wrp_world.specs.EventAt.{IsEventOf};
+ghost use Rattle.wrp_course.specs.EventAt.{IsEventOf};
 
 mod changes;
 mod fields;
@@ -29,7 +29,7 @@ use wrp_base::{NetCfg, TraceFault};
 use wrp_config::Network;
 use wrp_fields::{field, is_plain, split};
 use wrp_names::{link_at, node_at};
-use wrp_world::Event;
+use wrp_course::Event;
 
 // The place of the first field.
 const KIND: u32 = 1;

@@ -5,7 +5,7 @@ ghost use Rattle.wrp_trace.specs.Fields.{short_at, long_at, step_at, counter_at,
 ghost use Rattle.wrp_trace.specs.InputAt.{IsListed};
 ghost use Rattle.wrp_trace.specs.LineSetting.{line_setting_of, has_port};
 ghost use Rattle.wrp_base.specs.Network.{IsAmong};
-ghost use Rattle.wrp_world.specs.EventAt.{IsRaw, IsTime};
+ghost use Rattle.wrp_course.specs.EventAt.{IsRaw, IsTime};
 
 use crate::digits::{bits, octets};
 use crate::line_setting::{has_port, named_at};

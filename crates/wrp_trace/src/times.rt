@@ -1,7 +1,7 @@
 //! Times of stamps in a line.
 ghost use Rattle.std.specs.Prelude.{◌≡◌, IfSome};
 ghost use Rattle.wrp_trace.specs.Times.{time_of};
-ghost use Rattle.wrp_world.specs.EventAt.{IsTime};
+ghost use Rattle.wrp_course.specs.EventAt.{IsTime};
 
 use wrp_base::Tau;
 use wrp_fields::number;

@@ -21,18 +21,18 @@ use Rattle.wrp_node.specs.NodeAt.{link_at}
 use Rattle.wrp_node.specs.NodeStep.{stamp_of, transition_of as node_transition}
 use Rattle.wrp_stamp.specs.Merge.{merged, quarter_of}
 use Rattle.wrp_stamp.specs.StampBound.{KeepsStampBound, MergedWithinTag}
-use Rattle.wrp_world.specs.EventAt.{IsRaw}
-use Rattle.wrp_world.specs.Laws.{KeepsStamp}
-use Rattle.wrp_world.specs.LinkEnds.{in_place}
-use Rattle.wrp_world.specs.Premises.{transition_of}
-use Rattle.wrp_world.specs.Run.{Happened, world_after}
-use Rattle.wrp_world.specs.RunLaws.{ModulesStay}
-use Rattle.wrp_world.specs.Runs.{IsNetwork, IsRun}
-use Rattle.wrp_world.specs.SameHandshake.{CarriersAreTheLinks, CarriersWithTheirModules}
-use Rattle.wrp_world.specs.Setting.{Setting, end_at, end_of, entry_at, node_setting_of, link_of, of_node, sends_nm}
-use Rattle.wrp_world.specs.WorldAt.{FrameAt, WorldAt, reading}
-use Rattle.wrp_world.proofs.RunHanded.{other_twice}
-use Rattle.wrp_world.proofs.RunGiven.{end_is}
+use Rattle.wrp_course.specs.EventAt.{IsRaw}
+use Rattle.wrp_course.specs.Laws.{KeepsStamp}
+use Rattle.wrp_course.specs.LinkEnds.{in_place}
+use Rattle.wrp_course.specs.Premises.{transition_of}
+use Rattle.wrp_course.specs.Run.{Happened, world_after}
+use Rattle.wrp_course.specs.RunLaws.{ModulesStay}
+use Rattle.wrp_course.specs.Runs.{IsNetwork, IsRun}
+use Rattle.wrp_course.specs.SameHandshake.{CarriersAreTheLinks, CarriersWithTheirModules}
+use Rattle.wrp_course.specs.Setting.{Setting, end_at, end_of, entry_at, node_setting_of, link_of, of_node, sends_nm}
+use Rattle.wrp_course.specs.WorldAt.{FrameAt, WorldAt, reading}
+use Rattle.wrp_course.proofs.RunHanded.{other_twice}
+use Rattle.wrp_course.proofs.RunGiven.{end_is}
 use Rattle.wrp_truth.specs.Leases.{IsCarried}
 use Rattle.wrp_truth.specs.Moments.{AtEach}
 use Rattle.wrp_truth.proofs.LinksAbove.{place_found}

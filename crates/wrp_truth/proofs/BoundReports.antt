@@ -23,15 +23,15 @@ use Rattle.wrp_node.specs.Telling.{Step}
 use Rattle.wrp_port.specs.Outputs.{is_word}
 use Rattle.wrp_servo.specs.Laws.{TrackHasChain}
 use Rattle.wrp_servo.specs.Table.{is_track}
-use Rattle.wrp_world.specs.declared.event.Event.{Event}
-use Rattle.wrp_world.specs.declared.event.Event.TheVariants.{Tick}
-use Rattle.wrp_world.specs.Given.{Given, event_steps, given_by, given_plain, gives, step_of, steps_of, world_step}
-use Rattle.wrp_world.specs.Moved.{moved}
-use Rattle.wrp_world.specs.Run.{Happened, world_after}
-use Rattle.wrp_world.specs.Runs.{IsNetwork}
-use Rattle.wrp_world.specs.Setting.{Setting, node_setting_of}
-use Rattle.wrp_world.specs.WorldAt.{WorldAt}
-use Rattle.wrp_world.proofs.RunGifts.{AllGiven}
+use Rattle.wrp_course.specs.declared.event.Event.{Event}
+use Rattle.wrp_course.specs.declared.event.Event.TheVariants.{Tick}
+use Rattle.wrp_course.specs.Given.{Given, event_steps, given_by, given_plain, gives, step_of, steps_of, world_step}
+use Rattle.wrp_course.specs.Moved.{moved}
+use Rattle.wrp_course.specs.Run.{Happened, world_after}
+use Rattle.wrp_course.specs.Runs.{IsNetwork}
+use Rattle.wrp_course.specs.Setting.{Setting, node_setting_of}
+use Rattle.wrp_course.specs.WorldAt.{WorldAt}
+use Rattle.wrp_course.proofs.RunGifts.{AllGiven}
 use Rattle.wrp_truth.specs.Bounds.{EstimatesAreNear, IsTrueOutput, IsTrueReport, IsTrueStep, OffsetsKeepBounds, TrackReportsAreTrue, TrueRun}
 use Rattle.wrp_truth.specs.Leases.{ChainHasSource}
 use Rattle.wrp_truth.proofs.HeldCalls.{state_of_track}

@@ -6,8 +6,8 @@ use Rattle.wrp_node.specs.NodeAt.{NodeAt, servo_setting_of}
 use Rattle.wrp_servo.specs.Call.{Call, CallSample, CallMeasured, CallTick, CallLease, CallLink, CallCarrier, CallReset, ServoSetting}
 use Rattle.wrp_servo.specs.Servo.{AllAnswered}
 use Rattle.wrp_tracking.specs.History.{Was}
-use Rattle.wrp_world.specs.Run.{Happened, IsAnswered, world_after, worlds_of}
-use Rattle.wrp_world.specs.Setting.{Setting, node_setting_of}
+use Rattle.wrp_course.specs.Run.{Happened, IsAnswered, world_after, worlds_of}
+use Rattle.wrp_course.specs.Setting.{Setting, node_setting_of}
 use Rattle.wrp_truth.specs.Bounds.{TrueRun}
 use Rattle.wrp_truth.specs.Fours.{IsNearAnswer}
 use Rattle.wrp_truth.specs.Moments.{AtEach}

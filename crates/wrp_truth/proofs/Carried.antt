@@ -23,7 +23,7 @@ use Rattle.wrp_port.specs.declared.interface.PortIn.TheVariants.{Msg, Lease, Tic
 use Rattle.wrp_port.specs.declared.setting.Setting.{Setting}
 use Rattle.wrp_port.specs.Hearing.{early_reason, is_open, is_addressed, link_input, renews}
 use Rattle.wrp_port.specs.History.{input_unless, link_by, link_inputs, link_of, renews_at, since_renewal, to_link, with_input, zero_where}
-use Rattle.wrp_world.proofs.RunLinks.{counted_carrier}
+use Rattle.wrp_course.proofs.RunLinks.{counted_carrier}
 use Rattle.wrp_truth.proofs.Resting.{open_has_carrier}
 
 -- Inputs of a link by which no carrier goes

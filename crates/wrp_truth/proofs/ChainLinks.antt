@@ -20,9 +20,9 @@ use Rattle.wrp_port.specs.PortAt.{deltas_in as port_deltas_in, deltas_of as port
 use Rattle.wrp_servo.specs.Call.{CallLink}
 use Rattle.wrp_servo.specs.Laws.{ChainHasSignals}
 use Rattle.wrp_servo.specs.Told.{link_told as link_known}
-use Rattle.wrp_world.specs.Run.{Happened, world_after}
-use Rattle.wrp_world.specs.Runs.{IsNetwork}
-use Rattle.wrp_world.specs.Setting.{Setting, node_setting_of, link_of}
+use Rattle.wrp_course.specs.Run.{Happened, world_after}
+use Rattle.wrp_course.specs.Runs.{IsNetwork}
+use Rattle.wrp_course.specs.Setting.{Setting, node_setting_of, link_of}
 use Rattle.wrp_truth.specs.Rates.{HasChain}
 use Rattle.wrp_truth.proofs.ChainSources.{any_to, none_told, not_changed}
 use Rattle.wrp_truth.proofs.Inputs.{node_kept}

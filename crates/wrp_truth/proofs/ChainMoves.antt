@@ -9,11 +9,11 @@ use Rattle.wrp_node.specs.NodeAt.{NodeAt, servo_at}
 use Rattle.wrp_tracking.specs.Chain.{KeepsLimitsAbove}
 use Rattle.wrp_tracking.specs.History.{EachStep, IsSlow}
 use Rattle.wrp_tracking.specs.Moment.{Moment, MovesSlowly}
-use Rattle.wrp_world.specs.Run.{Happened, world_after}
-use Rattle.wrp_world.specs.RunLaws.{ModulesStay}
-use Rattle.wrp_world.specs.Runs.{IsRun}
-use Rattle.wrp_world.specs.Setting.{Setting, node_setting_of, link_of, of_node}
-use Rattle.wrp_world.specs.WorldAt.{WorldAt}
+use Rattle.wrp_course.specs.Run.{Happened, world_after}
+use Rattle.wrp_course.specs.RunLaws.{ModulesStay}
+use Rattle.wrp_course.specs.Runs.{IsRun}
+use Rattle.wrp_course.specs.Setting.{Setting, node_setting_of, link_of, of_node}
+use Rattle.wrp_course.specs.WorldAt.{WorldAt}
 use Rattle.wrp_truth.specs.Leases.{FollowsSource, HasSource, IsCarried}
 use Rattle.wrp_truth.specs.Moments.{AtEach}
 use Rattle.wrp_truth.specs.Rates.{ChainPassesSlowly, HasChain, greatest_rate}

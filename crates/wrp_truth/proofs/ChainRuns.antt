@@ -36,22 +36,22 @@ use Rattle.wrp_tracking.specs.Chain.{ChainHolds, ChainStarts, Good, KeepsLimitsA
 use Rattle.wrp_tracking.specs.ChainPhase.{HasPhaseRoom, unwrapped_by}
 use Rattle.wrp_tracking.specs.Moment.{Moment, phase_at}
 use Rattle.wrp_tracking.proofs.Histories.{was_one}
-use Rattle.wrp_world.specs.declared.event.Event.{Event}
-use Rattle.wrp_world.specs.declared.event.Event.TheVariants.{Pass, Tick, Sample, Depart, Arrive, Deliver, Noise, Down, Up, Cut, Join}
-use Rattle.wrp_world.specs.Checks.{AllHold, Holds, only_where, stands}
-use Rattle.wrp_world.specs.EventAt.{FitsEvent}
+use Rattle.wrp_course.specs.declared.event.Event.{Event}
+use Rattle.wrp_course.specs.declared.event.Event.TheVariants.{Pass, Tick, Sample, Depart, Arrive, Deliver, Noise, Down, Up, Cut, Join}
+use Rattle.wrp_course.specs.Checks.{AllHold, Holds, only_where, stands}
+use Rattle.wrp_course.specs.EventAt.{FitsEvent}
 use Rattle.wrp_truth.proofs.HeldRuns.{one_turn}
 use Rattle.wrp_truth.proofs.NodeSteps.{Stands}
 use Rattle.wrp_truth.proofs.SyncSamples.{good_where, no_good_of}
-use Rattle.wrp_world.specs.Given.{Given, given_plain, step_of, taken_of, world_step}
-use Rattle.wrp_world.specs.Laws.{SampleKeepsBeatPattern}
-use Rattle.wrp_world.specs.Moved.{moved}
-use Rattle.wrp_world.specs.Premises.{Accepts, beat_checks, sample_checks}
-use Rattle.wrp_world.specs.Run.{Happened, world_after}
-use Rattle.wrp_world.specs.Runs.{IsNetwork, IsRun}
-use Rattle.wrp_world.specs.Setting.{Setting, above, node_setting_of, link_of, of_node}
-use Rattle.wrp_world.specs.WorldAt.{WorldAt, delay_from, has_carrier, phase_of}
-use Rattle.wrp_world.proofs.RunTimes.{all_right, comes_up_down, not_up}
+use Rattle.wrp_course.specs.Given.{Given, given_plain, step_of, taken_of, world_step}
+use Rattle.wrp_course.specs.Laws.{SampleKeepsBeatPattern}
+use Rattle.wrp_course.specs.Moved.{moved}
+use Rattle.wrp_course.specs.Premises.{Accepts, beat_checks, sample_checks}
+use Rattle.wrp_course.specs.Run.{Happened, world_after}
+use Rattle.wrp_course.specs.Runs.{IsNetwork, IsRun}
+use Rattle.wrp_course.specs.Setting.{Setting, above, node_setting_of, link_of, of_node}
+use Rattle.wrp_course.specs.WorldAt.{WorldAt, delay_from, has_carrier, phase_of}
+use Rattle.wrp_course.proofs.RunTimes.{all_right, comes_up_down, not_up}
 use Rattle.wrp_truth.specs.Chains.{AllFit, ChainHasConstant, good_in, goods_since, phase_in}
 use Rattle.wrp_truth.specs.Leases.{FollowsSource, IsCarried}
 use Rattle.wrp_truth.specs.Moments.{AtEach}

@@ -9,10 +9,10 @@ use Rattle.wrp_servo.specs.Call.{Call, CallLease, run}
 use Rattle.wrp_servo.specs.Laws.{ChainHasSignals, TrackHasChain}
 use Rattle.wrp_servo.specs.Table.{is_track}
 use Rattle.wrp_servo.specs.Told.{lease_told}
-use Rattle.wrp_world.specs.declared.event.Event.{Event}
-use Rattle.wrp_world.specs.declared.event.Event.TheVariants.{Pass, Tick, Sample, Depart, Arrive, Deliver, Noise, Down, Up, Cut, Join}
-use Rattle.wrp_world.specs.Run.{Happened, world_after}
-use Rattle.wrp_world.specs.Setting.{Setting, node_setting_of, link_of}
+use Rattle.wrp_course.specs.declared.event.Event.{Event}
+use Rattle.wrp_course.specs.declared.event.Event.TheVariants.{Pass, Tick, Sample, Depart, Arrive, Deliver, Noise, Down, Up, Cut, Join}
+use Rattle.wrp_course.specs.Run.{Happened, world_after}
+use Rattle.wrp_course.specs.Setting.{Setting, node_setting_of, link_of}
 use Rattle.wrp_truth.specs.Leases.{ChainHasSource, FollowsSource, HasSource, TrackHasSource}
 use Rattle.wrp_truth.proofs.Inputs.{GivesTo, node_kept}
 use Rattle.wrp_truth.proofs.LeaseSources.{LeaseLaws, lease_has_source}

@@ -27,17 +27,17 @@ use Rattle.wrp_tracking.specs.Chain.{FlewAt}
 use Rattle.wrp_tracking.specs.DelayPieces.{PairTrue}
 use Rattle.wrp_tracking.specs.History.{Was}
 use Rattle.wrp_tracking.specs.Moment.{Moment, ways_at}
-use Rattle.wrp_world.specs.declared.event.Event.{Event}
-use Rattle.wrp_world.specs.declared.event.Event.TheVariants.{Deliver}
-use Rattle.wrp_world.specs.Premises.{Accepts}
-use Rattle.wrp_world.specs.Run.{Happened, world_after}
-use Rattle.wrp_world.specs.RunLaws.{HasTimes}
-use Rattle.wrp_world.specs.Runs.{IsRun, WasPutOut}
-use Rattle.wrp_world.specs.RunStamps.{ArrivedSo, DepartedSo}
-use Rattle.wrp_world.specs.Setting.{Setting, end_at, end_of, node_setting_of, of_node}
-use Rattle.wrp_world.specs.WorldAt.{Arrival, FrameAt, Sending, WorldAt, delay_from, has_carrier, reading}
+use Rattle.wrp_course.specs.declared.event.Event.{Event}
+use Rattle.wrp_course.specs.declared.event.Event.TheVariants.{Deliver}
+use Rattle.wrp_course.specs.Premises.{Accepts}
+use Rattle.wrp_course.specs.Run.{Happened, world_after}
+use Rattle.wrp_course.specs.RunLaws.{HasTimes}
+use Rattle.wrp_course.specs.Runs.{IsRun, WasPutOut}
+use Rattle.wrp_course.specs.RunStamps.{ArrivedSo, DepartedSo}
+use Rattle.wrp_course.specs.Setting.{Setting, end_at, end_of, node_setting_of, of_node}
+use Rattle.wrp_course.specs.WorldAt.{Arrival, FrameAt, Sending, WorldAt, delay_from, has_carrier, reading}
 use Rattle.wrp_truth.proofs.Moving.{joined_is}
-use Rattle.wrp_world.proofs.RunGiven.{end_is}
+use Rattle.wrp_course.proofs.RunGiven.{end_is}
 use Rattle.wrp_truth.specs.Fibres.{IsFibre}
 use Rattle.wrp_truth.specs.Leases.{IsCarried}
 use Rattle.wrp_truth.specs.Moments.{AtEach}

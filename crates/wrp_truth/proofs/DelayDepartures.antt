@@ -19,19 +19,19 @@ use Rattle.wrp_tracking.specs.Chain.{Good, GoodTells, LatchedAt}
 use Rattle.wrp_tracking.specs.History.{Was}
 use Rattle.wrp_tracking.specs.Moment.{Moment}
 use Rattle.wrp_tracking.proofs.Histories.{was_at_most}
-use Rattle.wrp_world.specs.declared.event.Event.TheVariants.{Depart}
-use Rattle.wrp_world.specs.declared.place.Place.{Place}
+use Rattle.wrp_course.specs.declared.event.Event.TheVariants.{Depart}
+use Rattle.wrp_course.specs.declared.place.Place.{Place}
 use Rattle.wrp_truth.proofs.SyncHeld.{fewer}
 use Rattle.wrp_truth.proofs.SyncPasts.{fit_then, was_then}
-use Rattle.wrp_world.specs.Given.{given_by}
-use Rattle.wrp_world.specs.Moved.{departing, moved, waiting_at}
-use Rattle.wrp_world.specs.Run.{Happened, world_after}
-use Rattle.wrp_world.specs.Runs.{IsRun, WasPutOut}
-use Rattle.wrp_world.specs.Setting.{Setting, end_of, link_of, place_of}
-use Rattle.wrp_world.specs.WorldAt.{FrameAt, Sending, WorldAt, delay_from}
-use Rattle.wrp_world.proofs.RunCarriers.{end_alike}
-use Rattle.wrp_world.proofs.RunGiven.{end_is}
-use Rattle.wrp_world.proofs.RunNetwork.{LinkEnd, are_apart, end_with, place_end}
+use Rattle.wrp_course.specs.Given.{given_by}
+use Rattle.wrp_course.specs.Moved.{departing, moved, waiting_at}
+use Rattle.wrp_course.specs.Run.{Happened, world_after}
+use Rattle.wrp_course.specs.Runs.{IsRun, WasPutOut}
+use Rattle.wrp_course.specs.Setting.{Setting, end_of, link_of, place_of}
+use Rattle.wrp_course.specs.WorldAt.{FrameAt, Sending, WorldAt, delay_from}
+use Rattle.wrp_course.proofs.RunCarriers.{end_alike}
+use Rattle.wrp_course.proofs.RunGiven.{end_is}
+use Rattle.wrp_course.proofs.RunNetwork.{LinkEnd, are_apart, end_with, place_end}
 use Rattle.wrp_truth.specs.Chains.{AllFit, ChainRuns, goods_since}
 use Rattle.wrp_truth.specs.Moments.{AtEach}
 use Rattle.wrp_truth.specs.Rates.{HasChain}

@@ -18,14 +18,14 @@ use Rattle.wrp_node.specs.Telling.{answer_of, heard_of}
 use Rattle.wrp_port.specs.declared.interface.PortIn.{PortIn}
 use Rattle.wrp_port.specs.declared.interface.PortIn.TheVariants.{Reset as PortReset, Sent as PortSent}
 use Rattle.wrp_servo.specs.Call.{CallSample}
-use Rattle.wrp_world.specs.declared.event.Event.{Event}
-use Rattle.wrp_world.specs.declared.event.Event.TheVariants.{Pass, Tick, Sample, Depart, Arrive, Deliver, Noise, Down, Up, Cut, Join}
-use Rattle.wrp_world.specs.declared.event.Swap.{Swap}
-use Rattle.wrp_world.specs.Given.{Given, at_ports, comes_from, delivered, delivered_by, delivered_to, given, given_plain, gives, gives_all, step_of, sent_oldest, taken_of, told_sending, world_step}
-use Rattle.wrp_world.specs.Moved.{moved, waiting_at}
-use Rattle.wrp_world.specs.Setting.{Setting, end_at, node_setting_of, place_of}
-use Rattle.wrp_world.specs.WorldAt.{Arrival, FrameAt, Sending, WorldAt}
-use Rattle.wrp_world.proofs.RunGifts.{comes_all, ports_all}
+use Rattle.wrp_course.specs.declared.event.Event.{Event}
+use Rattle.wrp_course.specs.declared.event.Event.TheVariants.{Pass, Tick, Sample, Depart, Arrive, Deliver, Noise, Down, Up, Cut, Join}
+use Rattle.wrp_course.specs.declared.event.Swap.{Swap}
+use Rattle.wrp_course.specs.Given.{Given, at_ports, comes_from, delivered, delivered_by, delivered_to, given, given_plain, gives, gives_all, step_of, sent_oldest, taken_of, told_sending, world_step}
+use Rattle.wrp_course.specs.Moved.{moved, waiting_at}
+use Rattle.wrp_course.specs.Setting.{Setting, end_at, node_setting_of, place_of}
+use Rattle.wrp_course.specs.WorldAt.{Arrival, FrameAt, Sending, WorldAt}
+use Rattle.wrp_course.proofs.RunGifts.{comes_all, ports_all}
 use Rattle.wrp_truth.proofs.StepTold.{Hears, IsTurn, KeptByNews, KeptByTurns, frame_told, sample_told, sent_told, settled_told, tick_told, turn_told}
 use Rattle.wrp_truth.proofs.Inputs.{GivesTo, all_to, node_given, node_given_all, node_kept}
 use Rattle.wrp_truth.proofs.StepSends.{IsRequest}

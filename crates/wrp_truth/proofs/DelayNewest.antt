@@ -7,14 +7,14 @@ use Rattle.wrp_base.specs.declared.network.LinkCfg.{LinkCfg}
 use Rattle.wrp_base.proofs.Naturals.{le_of_same}
 use Rattle.wrp_frame.specs.declared.fault.FrameFault.{FrameFault}
 use Rattle.wrp_node.specs.SetLaws.{EndsAreSet}
-use Rattle.wrp_world.specs.declared.event.Event.TheVariants.{Tick}
-use Rattle.wrp_world.specs.Given.{sending, world_step}
-use Rattle.wrp_world.specs.Moved.{moved}
-use Rattle.wrp_world.specs.Run.{Happened, world_after}
-use Rattle.wrp_world.specs.Runs.{IsRun, WasPutOut}
-use Rattle.wrp_world.specs.Setting.{Setting, link_of}
-use Rattle.wrp_world.specs.WorldAt.{Sending, WorldAt}
-use Rattle.wrp_world.proofs.RunFlights.{times_keep}
+use Rattle.wrp_course.specs.declared.event.Event.TheVariants.{Tick}
+use Rattle.wrp_course.specs.Given.{sending, world_step}
+use Rattle.wrp_course.specs.Moved.{moved}
+use Rattle.wrp_course.specs.Run.{Happened, world_after}
+use Rattle.wrp_course.specs.Runs.{IsRun, WasPutOut}
+use Rattle.wrp_course.specs.Setting.{Setting, link_of}
+use Rattle.wrp_course.specs.WorldAt.{Sending, WorldAt}
+use Rattle.wrp_course.proofs.RunFlights.{times_keep}
 use Rattle.wrp_truth.proofs.IdsPutOut.{other_timed, timed_in}
 use Rattle.wrp_truth.proofs.Inputs.{IsNoTickOf}
 use Rattle.wrp_truth.proofs.PutOut.{put_stays}

@@ -6,9 +6,9 @@ use Rattle.wrp_link.specs.LinkAt.{LinkAt}
 use Rattle.wrp_node.specs.Laws.{StepSettles}
 use Rattle.wrp_node.specs.NodeAt.{link_at}
 use Rattle.wrp_servo.specs.Laws.{ChainHasSignals}
-use Rattle.wrp_world.specs.Run.{Happened, world_after}
-use Rattle.wrp_world.specs.Runs.{IsRun}
-use Rattle.wrp_world.specs.Setting.{Setting, link_of}
+use Rattle.wrp_course.specs.Run.{Happened, world_after}
+use Rattle.wrp_course.specs.Runs.{IsRun}
+use Rattle.wrp_course.specs.Setting.{Setting, link_of}
 use Rattle.wrp_truth.specs.Leases.{IsCarried}
 use Rattle.wrp_truth.specs.Rates.{HasChain}
 use Rattle.wrp_truth.specs.SequenceIds.{IsOpenAt}

@@ -8,18 +8,18 @@ use Rattle.wrp_base.proofs.Lists.{heads, tails}
 use Rattle.wrp_bounds.specs.Times.{frame_life, gap_time, shortest_tick}
 use Rattle.wrp_tracking.specs.Chain.{DelayTellsWays, Good}
 use Rattle.wrp_tracking.specs.History.{Was}
-use Rattle.wrp_world.specs.declared.event.Event.{Event}
-use Rattle.wrp_world.specs.declared.event.Event.TheVariants.{Deliver, Depart}
+use Rattle.wrp_course.specs.declared.event.Event.{Event}
+use Rattle.wrp_course.specs.declared.event.Event.TheVariants.{Deliver, Depart}
 use Rattle.wrp_truth.proofs.SyncPasts.{was_then as was_later}
-use Rattle.wrp_world.specs.Given.{given_by}
-use Rattle.wrp_world.specs.Moved.{moved}
-use Rattle.wrp_world.specs.Run.{Happened, world_after}
-use Rattle.wrp_world.specs.RunLaws.{FramesHaveTimes, FramesWerePutOut}
-use Rattle.wrp_world.specs.Runs.{IsRun, WasPutOut}
-use Rattle.wrp_world.specs.RunStamps.{FramesAreStamped}
-use Rattle.wrp_world.specs.Setting.{Setting, link_of}
-use Rattle.wrp_world.specs.WorldAt.{Sending, WorldAt}
-use Rattle.wrp_world.proofs.RunTimes.{all_given_time}
+use Rattle.wrp_course.specs.Given.{given_by}
+use Rattle.wrp_course.specs.Moved.{moved}
+use Rattle.wrp_course.specs.Run.{Happened, world_after}
+use Rattle.wrp_course.specs.RunLaws.{FramesHaveTimes, FramesWerePutOut}
+use Rattle.wrp_course.specs.Runs.{IsRun, WasPutOut}
+use Rattle.wrp_course.specs.RunStamps.{FramesAreStamped}
+use Rattle.wrp_course.specs.Setting.{Setting, link_of}
+use Rattle.wrp_course.specs.WorldAt.{Sending, WorldAt}
+use Rattle.wrp_course.proofs.RunTimes.{all_given_time}
 use Rattle.wrp_truth.specs.Chains.{ChainHasConstant, good_in, goods_since}
 use Rattle.wrp_truth.specs.Fibres.{FibresKeepTheirShare}
 use Rattle.wrp_truth.specs.Moments.{AtEach}

@@ -17,20 +17,20 @@ use Rattle.wrp_node.specs.declared.interface.Input.TheVariants.{Tick as TickInpu
 use Rattle.wrp_node.specs.NodeAt.{NodeSetting, NodeAt, setting_of}
 use Rattle.wrp_node.specs.NodeStep.{stamp_of}
 use Rattle.wrp_port.specs.Messages.{response_of}
-use Rattle.wrp_world.specs.declared.event.Event.{Event}
-use Rattle.wrp_world.specs.declared.event.Event.TheVariants.{Pass, Tick, Sample, Depart, Arrive, Deliver, Noise, Down, Up, Cut, Join}
+use Rattle.wrp_course.specs.declared.event.Event.{Event}
+use Rattle.wrp_course.specs.declared.event.Event.TheVariants.{Pass, Tick, Sample, Depart, Arrive, Deliver, Noise, Down, Up, Cut, Join}
 use Rattle.wrp_truth.proofs.FourInputs.{IsNoFrame}
-use Rattle.wrp_world.specs.Given.{Given, delivered, delivered_by, delivered_to, given, gives, gives_all, sending, step_of, world_step}
-use Rattle.wrp_world.specs.Moved.{moved}
-use Rattle.wrp_world.specs.Premises.{Accepts, is_forged}
-use Rattle.wrp_world.specs.Run.{Happened, world_after}
-use Rattle.wrp_world.specs.Runs.{IsNetwork, IsRun, WasPutOut}
-use Rattle.wrp_world.specs.Setting.{Setting, end_at, end_of, node_setting_of, link_of, place_of}
-use Rattle.wrp_world.specs.WorldAt.{Arrival, FrameAt, Sending, WorldAt}
-use Rattle.wrp_world.proofs.RunCarriers.{end_alike}
-use Rattle.wrp_world.proofs.RunGiven.{end_is}
-use Rattle.wrp_world.proofs.RunHanded.{not_forged}
-use Rattle.wrp_world.proofs.RunNetwork.{are_apart}
+use Rattle.wrp_course.specs.Given.{Given, delivered, delivered_by, delivered_to, given, gives, gives_all, sending, step_of, world_step}
+use Rattle.wrp_course.specs.Moved.{moved}
+use Rattle.wrp_course.specs.Premises.{Accepts, is_forged}
+use Rattle.wrp_course.specs.Run.{Happened, world_after}
+use Rattle.wrp_course.specs.Runs.{IsNetwork, IsRun, WasPutOut}
+use Rattle.wrp_course.specs.Setting.{Setting, end_at, end_of, node_setting_of, link_of, place_of}
+use Rattle.wrp_course.specs.WorldAt.{Arrival, FrameAt, Sending, WorldAt}
+use Rattle.wrp_course.proofs.RunCarriers.{end_alike}
+use Rattle.wrp_course.proofs.RunGiven.{end_is}
+use Rattle.wrp_course.proofs.RunHanded.{not_forged}
+use Rattle.wrp_course.proofs.RunNetwork.{are_apart}
 use Rattle.wrp_truth.proofs.DelayResponses.{Answers, IsAnswerTo, IsResponse, responses_answer}
 use Rattle.wrp_truth.proofs.StepTold.{Hears, heard_of_peer}
 use Rattle.wrp_truth.proofs.Inputs.{GivesTo}

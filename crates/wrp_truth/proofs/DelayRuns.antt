@@ -30,19 +30,19 @@ use Rattle.wrp_servo.specs.Call.{Call as ServoCall, CallSample, ServoSetting, ru
 use Rattle.wrp_servo.specs.Sampling.{heard_as}
 use Rattle.wrp_servo.specs.Servo.{news_at, news_of}
 use Rattle.wrp_tracking.specs.DelayPieces.{PairTrue}
-use Rattle.wrp_world.specs.declared.event.Event.{Event}
-use Rattle.wrp_world.specs.declared.event.Event.TheVariants.{Tick, Sample, Depart, Deliver, Noise}
+use Rattle.wrp_course.specs.declared.event.Event.{Event}
+use Rattle.wrp_course.specs.declared.event.Event.TheVariants.{Tick, Sample, Depart, Deliver, Noise}
 use Rattle.wrp_truth.proofs.Renewals.{master_of}
 use Rattle.wrp_truth.proofs.SyncTold.{news_told}
-use Rattle.wrp_world.specs.Given.{Given as Told, given_plain, sending, taken_of}
-use Rattle.wrp_world.specs.Moved.{moved}
-use Rattle.wrp_world.specs.Run.{Happened, world_after}
-use Rattle.wrp_world.specs.Runs.{IsRun}
-use Rattle.wrp_world.specs.Setting.{Setting, end_at, end_of, node_setting_of}
-use Rattle.wrp_world.specs.WorldAt.{FrameAt, Sending, WorldAt}
-use Rattle.wrp_world.proofs.RunCarriers.{end_alike}
-use Rattle.wrp_world.proofs.RunGiven.{end_is}
-use Rattle.wrp_world.proofs.RunNetwork.{are_apart}
+use Rattle.wrp_course.specs.Given.{Given as Told, given_plain, sending, taken_of}
+use Rattle.wrp_course.specs.Moved.{moved}
+use Rattle.wrp_course.specs.Run.{Happened, world_after}
+use Rattle.wrp_course.specs.Runs.{IsRun}
+use Rattle.wrp_course.specs.Setting.{Setting, end_at, end_of, node_setting_of}
+use Rattle.wrp_course.specs.WorldAt.{FrameAt, Sending, WorldAt}
+use Rattle.wrp_course.proofs.RunCarriers.{end_alike}
+use Rattle.wrp_course.proofs.RunGiven.{end_is}
+use Rattle.wrp_course.proofs.RunNetwork.{are_apart}
 use Rattle.wrp_truth.specs.Exchanges.{DelaysTell}
 use Rattle.wrp_truth.specs.Moments.{AtEach}
 use Rattle.wrp_truth.specs.Rates.{HasChain}

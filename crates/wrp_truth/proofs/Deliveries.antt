@@ -6,11 +6,11 @@ use Rattle.std.proofs.lemmas.Bool.{false≢true, not-false}
 use Rattle.wrp_base.specs.declared.message.PtpMsg.{PtpMsg}
 use Rattle.wrp_bounds.specs.Times.{frame_life}
 use Rattle.wrp_frame.specs.declared.fault.FrameFault.{FrameFault}
-use Rattle.wrp_world.specs.declared.event.Event.TheVariants.{Deliver}
-use Rattle.wrp_world.specs.Checks.{AllHold}
-use Rattle.wrp_world.specs.Premises.{Accepts, deliver_by, deliver_checks}
-use Rattle.wrp_world.specs.Setting.{Setting}
-use Rattle.wrp_world.specs.WorldAt.{Arrival, FrameAt, WorldAt, has_carrier}
+use Rattle.wrp_course.specs.declared.event.Event.TheVariants.{Deliver}
+use Rattle.wrp_course.specs.Checks.{AllHold}
+use Rattle.wrp_course.specs.Premises.{Accepts, deliver_by, deliver_checks}
+use Rattle.wrp_course.specs.Setting.{Setting}
+use Rattle.wrp_course.specs.WorldAt.{Arrival, FrameAt, WorldAt, has_carrier}
 
 young : (now at : ℤ) (life : ℕ) → not (le_z (now -ℤ at) (pos life)) ≡ false → now ≤ℤ (at +ℤ pos life)
 young now at life h = grind (arith, ints, h)

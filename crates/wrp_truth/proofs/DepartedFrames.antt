@@ -7,17 +7,17 @@ use Rattle.wrp_base.specs.declared.message.PtpMsg.{PtpMsg}
 use Rattle.wrp_base.specs.declared.time.Raw.{Raw}
 use Rattle.wrp_base.proofs.Naturals.{not_next}
 use Rattle.wrp_frame.specs.declared.fault.FrameFault.{FrameFault}
-use Rattle.wrp_world.specs.declared.event.Event.{Event}
-use Rattle.wrp_world.specs.declared.event.Event.TheVariants.{Depart, Arrive}
-use Rattle.wrp_world.specs.declared.place.Place.{Place}
-use Rattle.wrp_world.specs.EventAt.{IsEventOf, IsRaw}
-use Rattle.wrp_world.specs.Given.{given_by}
-use Rattle.wrp_world.specs.Moved.{arrived, departing, frame_after, moved, removed, samples_at, waiting_at}
-use Rattle.wrp_world.specs.Premises.{Accepts}
-use Rattle.wrp_world.specs.Run.{AllAccepted, Happened, world_after}
-use Rattle.wrp_world.specs.Runs.{AllEvents, IsRun}
-use Rattle.wrp_world.specs.Setting.{Setting, is_role, place_of}
-use Rattle.wrp_world.specs.WorldAt.{Arrival, FrameAt, Sending, WorldAt, is_on_fibre}
+use Rattle.wrp_course.specs.declared.event.Event.{Event}
+use Rattle.wrp_course.specs.declared.event.Event.TheVariants.{Depart, Arrive}
+use Rattle.wrp_course.specs.declared.place.Place.{Place}
+use Rattle.wrp_course.specs.EventAt.{IsEventOf, IsRaw}
+use Rattle.wrp_course.specs.Given.{given_by}
+use Rattle.wrp_course.specs.Moved.{arrived, departing, frame_after, moved, removed, samples_at, waiting_at}
+use Rattle.wrp_course.specs.Premises.{Accepts}
+use Rattle.wrp_course.specs.Run.{AllAccepted, Happened, world_after}
+use Rattle.wrp_course.specs.Runs.{AllEvents, IsRun}
+use Rattle.wrp_course.specs.Setting.{Setting, is_role, place_of}
+use Rattle.wrp_course.specs.WorldAt.{Arrival, FrameAt, Sending, WorldAt, is_on_fibre}
 use Rattle.wrp_truth.proofs.InOrder.{Numbered, all_numbered, flies, given_frame, on_fibre}
 
 -- A frame later

@@ -43,18 +43,18 @@ use Rattle.wrp_servo.specs.Laws.{NoStepInTrack}
 use Rattle.wrp_servo.specs.Sampling.{is_holdover}
 use Rattle.wrp_servo.specs.Table.{is_track}
 use Rattle.wrp_servo.specs.Told.{lease_told, link_told}
-use Rattle.wrp_world.specs.declared.event.Event.{Event}
-use Rattle.wrp_world.specs.declared.event.Event.TheVariants.{Pass, Arrive, Deliver, Noise, Up}
-use Rattle.wrp_world.specs.declared.event.Swap.{Swap}
+use Rattle.wrp_course.specs.declared.event.Event.{Event}
+use Rattle.wrp_course.specs.declared.event.Event.TheVariants.{Pass, Arrive, Deliver, Noise, Up}
+use Rattle.wrp_course.specs.declared.event.Swap.{Swap}
 use Rattle.wrp_truth.proofs.ChainLinks.{knows_link}
-use Rattle.wrp_world.specs.Given.{Given, at_ports, comes_from, delivered, delivered_by, delivered_to, given, given_by, given_plain, gives, gives_all, step_of, taken_of, world_step}
-use Rattle.wrp_world.specs.Moved.{moved}
-use Rattle.wrp_world.specs.Run.{Happened, world_after}
-use Rattle.wrp_world.specs.Runs.{IsNetwork, IsRun}
-use Rattle.wrp_world.specs.Setting.{Setting, end_at, node_setting_of}
-use Rattle.wrp_world.specs.WorldAt.{Arrival, FrameAt, WorldAt}
-use Rattle.wrp_world.proofs.RunGifts.{comes_all, ports_all}
-use Rattle.wrp_world.proofs.RunTimes.{comes_up_down, not_up}
+use Rattle.wrp_course.specs.Given.{Given, at_ports, comes_from, delivered, delivered_by, delivered_to, given, given_by, given_plain, gives, gives_all, step_of, taken_of, world_step}
+use Rattle.wrp_course.specs.Moved.{moved}
+use Rattle.wrp_course.specs.Run.{Happened, world_after}
+use Rattle.wrp_course.specs.Runs.{IsNetwork, IsRun}
+use Rattle.wrp_course.specs.Setting.{Setting, end_at, node_setting_of}
+use Rattle.wrp_course.specs.WorldAt.{Arrival, FrameAt, WorldAt}
+use Rattle.wrp_course.proofs.RunGifts.{comes_all, ports_all}
+use Rattle.wrp_course.proofs.RunTimes.{comes_up_down, not_up}
 use Rattle.wrp_truth.specs.Holdovers.{HoldoverIsFromTrack, IsHeld}
 use Rattle.wrp_truth.proofs.ChainSources.{knows_lease}
 use Rattle.wrp_truth.proofs.HeldCalls.{HoldLaws, IsNoMeasure, held_before, state_of_track, tracked_before}

@@ -8,20 +8,20 @@ use Rattle.wrp_base.specs.declared.message.PtpMsg.{PtpMsg}
 use Rattle.wrp_base.specs.declared.network.LinkCfg.{LinkCfg}
 use Rattle.wrp_bounds.specs.Times.{reach}
 use Rattle.wrp_frame.specs.declared.fault.FrameFault.{FrameFault}
-use Rattle.wrp_world.specs.declared.event.Event.{Event}
-use Rattle.wrp_world.specs.declared.event.Event.TheVariants.{Pass, Depart, Up, Cut, Join}
-use Rattle.wrp_world.specs.declared.fibres.FibreState.{FibreState}
-use Rattle.wrp_world.specs.Checks.{AllHold, Check, Holds, only_where}
-use Rattle.wrp_world.proofs.Bounds.{holds_most}
-use Rattle.wrp_world.specs.Given.{Given, given_by, gives, gives_all}
-use Rattle.wrp_world.specs.Moved.{behind_first, loses, is_place, moved}
-use Rattle.wrp_world.specs.Premises.{Accepts, asymmetry, fibre_by, fibre_checks, fibre_kept, fibre_rate, rate_kept, tick_late}
-use Rattle.wrp_world.specs.Run.{Happened, world_after}
-use Rattle.wrp_world.specs.RunLaws.{SameModule}
-use Rattle.wrp_world.specs.Runs.{IsRun}
-use Rattle.wrp_world.specs.Setting.{Setting, link_of, links_of, nodes_of, place_of}
-use Rattle.wrp_world.specs.WorldAt.{EndAt, Sending, WorldAt, delay_from}
-use Rattle.wrp_world.proofs.RunTimes.{all_given_module, all_right}
+use Rattle.wrp_course.specs.declared.event.Event.{Event}
+use Rattle.wrp_course.specs.declared.event.Event.TheVariants.{Pass, Depart, Up, Cut, Join}
+use Rattle.wrp_course.specs.declared.fibres.FibreState.{FibreState}
+use Rattle.wrp_course.specs.Checks.{AllHold, Check, Holds, only_where}
+use Rattle.wrp_course.proofs.Bounds.{holds_most}
+use Rattle.wrp_course.specs.Given.{Given, given_by, gives, gives_all}
+use Rattle.wrp_course.specs.Moved.{behind_first, loses, is_place, moved}
+use Rattle.wrp_course.specs.Premises.{Accepts, asymmetry, fibre_by, fibre_checks, fibre_kept, fibre_rate, rate_kept, tick_late}
+use Rattle.wrp_course.specs.Run.{Happened, world_after}
+use Rattle.wrp_course.specs.RunLaws.{SameModule}
+use Rattle.wrp_course.specs.Runs.{IsRun}
+use Rattle.wrp_course.specs.Setting.{Setting, link_of, links_of, nodes_of, place_of}
+use Rattle.wrp_course.specs.WorldAt.{EndAt, Sending, WorldAt, delay_from}
+use Rattle.wrp_course.proofs.RunTimes.{all_given_module, all_right}
 use Rattle.wrp_truth.specs.Fibres.{FibresKeepTheirShare}
 use Rattle.wrp_truth.proofs.OnTime.{first_part}
 use Rattle.wrp_truth.proofs.Slow.{check_says, flat_from}

@@ -12,15 +12,15 @@ use Rattle.wrp_frame.specs.declared.fault.FrameFault.{FrameFault}
 use Rattle.wrp_node.specs.declared.interface.NodeSet.{NodeSet}
 use Rattle.wrp_node.specs.NodeAt.{NodeAt, port_of, servo_at, servo_setting_of, slave_of}
 use Rattle.wrp_servo.specs.declared.machine.Measurement.{Measurement}
-use Rattle.wrp_world.specs.declared.event.Event.{Event}
-use Rattle.wrp_world.specs.declared.event.Event.TheVariants.{Pass, Tick, Sample, Depart, Arrive, Deliver, Noise, Down, Up, Cut, Join}
+use Rattle.wrp_course.specs.declared.event.Event.{Event}
+use Rattle.wrp_course.specs.declared.event.Event.TheVariants.{Pass, Tick, Sample, Depart, Arrive, Deliver, Noise, Down, Up, Cut, Join}
 use Rattle.wrp_truth.proofs.SyncGiven.{slave_at}
-use Rattle.wrp_world.specs.Given.{Given, delivered, delivered_by, delivered_to, gives_all, given_by, taken_of, world_step}
-use Rattle.wrp_world.specs.Moved.{moved}
-use Rattle.wrp_world.specs.Run.{Happened, world_after}
-use Rattle.wrp_world.specs.Runs.{IsNetwork}
-use Rattle.wrp_world.specs.Setting.{Setting, end_at, node_setting_of, link_of}
-use Rattle.wrp_world.specs.WorldAt.{Arrival, FrameAt, WorldAt}
+use Rattle.wrp_course.specs.Given.{Given, delivered, delivered_by, delivered_to, gives_all, given_by, taken_of, world_step}
+use Rattle.wrp_course.specs.Moved.{moved}
+use Rattle.wrp_course.specs.Run.{Happened, world_after}
+use Rattle.wrp_course.specs.Runs.{IsNetwork}
+use Rattle.wrp_course.specs.Setting.{Setting, end_at, node_setting_of, link_of}
+use Rattle.wrp_course.specs.WorldAt.{Arrival, FrameAt, WorldAt}
 use Rattle.wrp_truth.specs.Chains.{ChainRuns}
 use Rattle.wrp_truth.specs.Exchanges.{IsInChain, exchange_at, ring_below}
 use Rattle.wrp_truth.specs.Fours.{IsKept}

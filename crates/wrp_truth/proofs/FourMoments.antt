@@ -10,10 +10,10 @@ use Rattle.wrp_bounds.specs.Times.{frame_life, longest_tick, shortest_tick}
 use Rattle.wrp_tracking.specs.History.{EachStep, Was}
 use Rattle.wrp_tracking.specs.Ticks.{IsOnTime, TickMoment, TickStep, TickedSince, WithinTicks}
 use Rattle.wrp_tracking.proofs.Histories.{each_seen, each_since, no_steps, was_seen}
-use Rattle.wrp_world.specs.Run.{Happened, world_after, worlds_of}
-use Rattle.wrp_world.specs.Runs.{IsRun}
-use Rattle.wrp_world.specs.Setting.{Setting, link_of}
-use Rattle.wrp_world.specs.WorldAt.{WorldAt}
+use Rattle.wrp_course.specs.Run.{Happened, world_after, worlds_of}
+use Rattle.wrp_course.specs.Runs.{IsRun}
+use Rattle.wrp_course.specs.Setting.{Setting, link_of}
+use Rattle.wrp_course.specs.WorldAt.{WorldAt}
 use Rattle.wrp_truth.specs.Chains.{ChainRuns}
 use Rattle.wrp_truth.specs.Clocks.{TicksAreOnTime, TicksStepOnTime}
 use Rattle.wrp_truth.specs.Leases.{ChainHasSource, FollowsSource, IsCarried}

@@ -1,6 +1,6 @@
 -- Parts of a run: where a part begins, and what held at an event of it.
 use Rattle.std.proofs.Common.{◌≡◌, sym, subst, ℕ, suc, ◌≤◌, List, [], ◌∷◌, ◌++◌, length, arith}
-use Rattle.wrp_world.specs.Run.{Happened}
+use Rattle.wrp_course.specs.Run.{Happened}
 use Rattle.wrp_truth.specs.Moments.{AtEach}
 use Rattle.wrp_truth.proofs.Suffixes.{at_newest, rest_length}
 

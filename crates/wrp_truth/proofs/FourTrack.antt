@@ -30,10 +30,10 @@ use Rattle.wrp_tracking.specs.ErrorSum.{delay_sum, sync_sum}
 use Rattle.wrp_tracking.specs.History.{Was}
 use Rattle.wrp_tracking.specs.Moment.{Moment, ways_at}
 use Rattle.wrp_tracking.specs.ServoGives.{FoursRise, TrackIsYoung}
-use Rattle.wrp_world.specs.Run.{Happened, world_after, worlds_of}
-use Rattle.wrp_world.specs.Runs.{IsRun}
-use Rattle.wrp_world.specs.Setting.{Setting, node_setting_of, link_of}
-use Rattle.wrp_world.specs.WorldAt.{WorldAt}
+use Rattle.wrp_course.specs.Run.{Happened, world_after, worlds_of}
+use Rattle.wrp_course.specs.Runs.{IsRun}
+use Rattle.wrp_course.specs.Setting.{Setting, node_setting_of, link_of}
+use Rattle.wrp_course.specs.WorldAt.{WorldAt}
 use Rattle.wrp_truth.specs.Chains.{AllFit, ChainRuns}
 use Rattle.wrp_truth.specs.Exchanges.{DelaysTell, IsInChain, SyncsTell, exchange_at, ring_below}
 use Rattle.wrp_truth.specs.Fours.{FourHoldsInTrack, IsKept}

@@ -22,17 +22,17 @@ use Rattle.wrp_servo.specs.Sampling.{is_holdover}
 use Rattle.wrp_servo.specs.Table.{is_track}
 use Rattle.wrp_handshake.proofs.Times.{passes}
 use Rattle.wrp_tracking.specs.History.{EachStep, IsSlow}
-use Rattle.wrp_world.specs.declared.event.Event.{Event}
-use Rattle.wrp_world.specs.declared.event.Event.TheVariants.{Tick, Up}
+use Rattle.wrp_course.specs.declared.event.Event.{Event}
+use Rattle.wrp_course.specs.declared.event.Event.TheVariants.{Tick, Up}
 use Rattle.wrp_truth.proofs.FourMoments.{longer}
-use Rattle.wrp_world.specs.Given.{given_plain, taken_of}
-use Rattle.wrp_world.specs.Premises.{rate_of}
-use Rattle.wrp_world.specs.Run.{Happened, world_after, worlds_of}
-use Rattle.wrp_world.specs.RunLaws.{TicksAreApart}
-use Rattle.wrp_world.specs.Runs.{IsNetwork, IsRun}
-use Rattle.wrp_world.specs.Setting.{Setting, node_setting_of, link_of, of_node}
-use Rattle.wrp_world.specs.WorldAt.{WorldAt}
-use Rattle.wrp_world.proofs.RunTimes.{comes_up_down, not_up}
+use Rattle.wrp_course.specs.Given.{given_plain, taken_of}
+use Rattle.wrp_course.specs.Premises.{rate_of}
+use Rattle.wrp_course.specs.Run.{Happened, world_after, worlds_of}
+use Rattle.wrp_course.specs.RunLaws.{TicksAreApart}
+use Rattle.wrp_course.specs.Runs.{IsNetwork, IsRun}
+use Rattle.wrp_course.specs.Setting.{Setting, node_setting_of, link_of, of_node}
+use Rattle.wrp_course.specs.WorldAt.{WorldAt}
+use Rattle.wrp_course.proofs.RunTimes.{comes_up_down, not_up}
 use Rattle.wrp_truth.specs.Holdovers.{HoldoverIsShort, IsHeld}
 use Rattle.wrp_truth.specs.Moments.{AtEach}
 use Rattle.wrp_truth.proofs.ChainMoves.{nothing_later}

@@ -10,8 +10,8 @@ use Rattle.wrp_base.specs.Network.{link_above}
 use Rattle.wrp_bounds.specs.declared.numbers.HopNumbers.{HopNumbers}
 use Rattle.wrp_bounds.specs.Bounds.{numbers_between, numbers_of, numbers_over}
 use Rattle.wrp_bounds.specs.Times.{gap_time, age_time, reach}
-use Rattle.wrp_world.specs.Runs.{IsNetwork}
-use Rattle.wrp_world.specs.Setting.{Setting, link_of, of_node}
+use Rattle.wrp_course.specs.Runs.{IsNetwork}
+use Rattle.wrp_course.specs.Setting.{Setting, link_of, of_node}
 use Rattle.wrp_truth.specs.Rates.{greatest_rate}
 use Rattle.wrp_truth.proofs.LinksAbove.{above_is}
 

@@ -21,10 +21,10 @@ use Rattle.wrp_servo.specs.Sampling.{is_holdover}
 use Rattle.wrp_tracking.specs.History.{IsSlow, Was}
 use Rattle.wrp_tracking.specs.Tree.{HeldWithin, HopsHold, IsBounded, IsSource, Offsets, TreeSum}
 use Rattle.wrp_tracking.proofs.Histories.{slow_between}
-use Rattle.wrp_world.specs.Run.{Happened, world_after, worlds_of}
-use Rattle.wrp_world.specs.Runs.{IsNetwork, IsRun}
-use Rattle.wrp_world.specs.Setting.{Setting, node_setting_of, link_of, of_node}
-use Rattle.wrp_world.specs.WorldAt.{WorldAt}
+use Rattle.wrp_course.specs.Run.{Happened, world_after, worlds_of}
+use Rattle.wrp_course.specs.Runs.{IsNetwork, IsRun}
+use Rattle.wrp_course.specs.Setting.{Setting, node_setting_of, link_of, of_node}
+use Rattle.wrp_course.specs.WorldAt.{WorldAt}
 use Rattle.wrp_truth.specs.Bounds.{OffsetsKeepBounds, TrueRun}
 use Rattle.wrp_truth.specs.Holdovers.{HeldSince, HoldoverIsFromTrack, HoldoverIsShort, IsHeld, LeavesTrack}
 use Rattle.wrp_truth.specs.Leases.{ChainHasSource, FollowsSource, HasSource, IsCarried}

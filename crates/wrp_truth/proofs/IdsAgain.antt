@@ -19,16 +19,16 @@ use Rattle.wrp_port.specs.declared.setting.Setting.{Setting as PortSetting}
 use Rattle.wrp_port.specs.Hearing.{is_open}
 use Rattle.wrp_port.specs.History.{at_master, at_slave, is_due_in, line_of, link_of as link_told, one_more_where, sent_each, ticks_open}
 use Rattle.wrp_port.specs.LineAfter.{ticked}
-use Rattle.wrp_world.specs.declared.event.Event.{Event}
-use Rattle.wrp_world.specs.declared.event.Event.TheVariants.{Tick}
-use Rattle.wrp_world.specs.Given.{sending, world_step}
-use Rattle.wrp_world.specs.Moved.{moved}
-use Rattle.wrp_world.specs.Premises.{Accepts}
-use Rattle.wrp_world.specs.Run.{Happened, world_after}
-use Rattle.wrp_world.specs.RunLaws.{TicksAreApart}
-use Rattle.wrp_world.specs.Runs.{IsNetwork, IsRun, WasPutOut}
-use Rattle.wrp_world.specs.Setting.{Setting, end_of, node_setting_of, link_of}
-use Rattle.wrp_world.specs.WorldAt.{Sending, WorldAt}
+use Rattle.wrp_course.specs.declared.event.Event.{Event}
+use Rattle.wrp_course.specs.declared.event.Event.TheVariants.{Tick}
+use Rattle.wrp_course.specs.Given.{sending, world_step}
+use Rattle.wrp_course.specs.Moved.{moved}
+use Rattle.wrp_course.specs.Premises.{Accepts}
+use Rattle.wrp_course.specs.Run.{Happened, world_after}
+use Rattle.wrp_course.specs.RunLaws.{TicksAreApart}
+use Rattle.wrp_course.specs.Runs.{IsNetwork, IsRun, WasPutOut}
+use Rattle.wrp_course.specs.Setting.{Setting, end_of, node_setting_of, link_of}
+use Rattle.wrp_course.specs.WorldAt.{Sending, WorldAt}
 use Rattle.wrp_truth.specs.Moments.{AtEach}
 use Rattle.wrp_truth.specs.SequenceIds.{IdsComeAgainLate, IsOpenAt, IsTimed, OneTimedAnEvent}
 use Rattle.wrp_truth.proofs.IdsPutOut.{NewIn, timed_in}

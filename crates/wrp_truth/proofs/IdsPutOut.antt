@@ -6,13 +6,13 @@ use Rattle.wrp_base.specs.declared.network.LinkCfg.{LinkCfg}
 use Rattle.wrp_frame.specs.declared.fault.FrameFault.{FrameFault}
 use Rattle.wrp_node.specs.declared.interface.Input.{Input}
 use Rattle.wrp_node.specs.declared.interface.Input.TheVariants.{Tick as TickInput}
-use Rattle.wrp_world.specs.declared.event.Event.{Event}
-use Rattle.wrp_world.specs.declared.event.Event.TheVariants.{Tick}
-use Rattle.wrp_world.specs.Given.{given_plain, taken_of, world_step}
-use Rattle.wrp_world.specs.Moved.{moved}
-use Rattle.wrp_world.specs.Runs.{WasPutOut}
-use Rattle.wrp_world.specs.Setting.{Setting, end_of, node_setting_of, link_of}
-use Rattle.wrp_world.specs.WorldAt.{Sending, WorldAt}
+use Rattle.wrp_course.specs.declared.event.Event.{Event}
+use Rattle.wrp_course.specs.declared.event.Event.TheVariants.{Tick}
+use Rattle.wrp_course.specs.Given.{given_plain, taken_of, world_step}
+use Rattle.wrp_course.specs.Moved.{moved}
+use Rattle.wrp_course.specs.Runs.{WasPutOut}
+use Rattle.wrp_course.specs.Setting.{Setting, end_of, node_setting_of, link_of}
+use Rattle.wrp_course.specs.WorldAt.{Sending, WorldAt}
 use Rattle.wrp_truth.specs.SequenceIds.{IsTimed}
 use Rattle.wrp_truth.proofs.IdsSent.{PutNow, SentAt, put_by_step}
 use Rattle.wrp_truth.proofs.Inputs.{IsNoTick, IsNoTickOf, no_tick_to, tick_or_not}

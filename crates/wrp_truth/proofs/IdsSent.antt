@@ -17,9 +17,9 @@ use Rattle.wrp_port.specs.declared.line.Line.{Line}
 use Rattle.wrp_port.specs.declared.setting.Setting.{Setting}
 use Rattle.wrp_port.specs.LineAfter.{ticked}
 use Rattle.wrp_port.specs.Messages.{follow_up_of, request_of, signals_of, sync_of, signal_of, response_of}
-use Rattle.wrp_world.specs.Given.{sending}
-use Rattle.wrp_world.specs.Runs.{WasPutOut}
-use Rattle.wrp_world.specs.WorldAt.{Sending, WorldAt}
+use Rattle.wrp_course.specs.Given.{sending}
+use Rattle.wrp_course.specs.Runs.{WasPutOut}
+use Rattle.wrp_course.specs.WorldAt.{Sending, WorldAt}
 use Rattle.wrp_truth.specs.SequenceIds.{IsTimed}
 use Rattle.wrp_truth.proofs.ScheduleCounts.{is_due_on}
 use Rattle.wrp_truth.proofs.StepSends.{ScheduledAll, SentBy, signals_each, step_each}

@@ -9,16 +9,16 @@ use Rattle.wrp_base.specs.declared.message.PtpMsg.{PtpMsg}
 use Rattle.wrp_base.specs.declared.time.Raw.{Raw}
 use Rattle.wrp_base.proofs.Naturals.{eq_self}
 use Rattle.wrp_frame.specs.declared.fault.FrameFault.{FrameFault}
-use Rattle.wrp_world.specs.declared.event.Event.{Event}
-use Rattle.wrp_world.specs.declared.event.Event.TheVariants.{Depart, Arrive}
-use Rattle.wrp_world.specs.declared.place.Place.{Place}
-use Rattle.wrp_world.specs.Checks.{AllHold}
-use Rattle.wrp_world.specs.Given.{Given, given_by, gives, gives_all}
-use Rattle.wrp_world.specs.Moved.{arrived, departed_after, departing, frame_after, moved, one_more, removed, samples_at, waiting_at}
-use Rattle.wrp_world.specs.Premises.{Accepts, arrive_checks}
-use Rattle.wrp_world.specs.Run.{AllAccepted, Happened, world_after}
-use Rattle.wrp_world.specs.Setting.{Setting, is_role, place_of}
-use Rattle.wrp_world.specs.WorldAt.{Arrival, FrameAt, Sending, WorldAt, is_on_fibre}
+use Rattle.wrp_course.specs.declared.event.Event.{Event}
+use Rattle.wrp_course.specs.declared.event.Event.TheVariants.{Depart, Arrive}
+use Rattle.wrp_course.specs.declared.place.Place.{Place}
+use Rattle.wrp_course.specs.Checks.{AllHold}
+use Rattle.wrp_course.specs.Given.{Given, given_by, gives, gives_all}
+use Rattle.wrp_course.specs.Moved.{arrived, departed_after, departing, frame_after, moved, one_more, removed, samples_at, waiting_at}
+use Rattle.wrp_course.specs.Premises.{Accepts, arrive_checks}
+use Rattle.wrp_course.specs.Run.{AllAccepted, Happened, world_after}
+use Rattle.wrp_course.specs.Setting.{Setting, is_role, place_of}
+use Rattle.wrp_course.specs.WorldAt.{Arrival, FrameAt, Sending, WorldAt, is_on_fibre}
 use Rattle.wrp_truth.specs.FlightOrder.{FramesArriveInOrder, FramesDepartInOrder}
 use Rattle.wrp_truth.proofs.Suffixes.{all_given_count}
 

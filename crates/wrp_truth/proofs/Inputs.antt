@@ -12,15 +12,15 @@ use Rattle.wrp_node.specs.declared.interface.Input.{Input}
 use Rattle.wrp_node.specs.declared.interface.Input.TheVariants.{Tick as TickInput, Sample as SampleInput, Frame, Sent, Carrier, Reset}
 use Rattle.wrp_node.specs.NodeAt.{NodeAt, Taken, numbers_of}
 use Rattle.wrp_node.specs.NodeStep.{node_step}
-use Rattle.wrp_world.specs.declared.clocks.ClockState.{ClockState}
-use Rattle.wrp_world.specs.declared.event.Event.{Event}
-use Rattle.wrp_world.specs.declared.event.Event.TheVariants.{Pass, Tick, Sample, Depart, Arrive, Deliver, Noise, Down, Up, Cut, Join}
-use Rattle.wrp_world.proofs.RunSettled.{given_up}
-use Rattle.wrp_world.specs.Given.{Given, at_ports, clock_told, comes_from, delivered, given_by, gives, gives_all, goes_from, step_of, taken_of, ticked_by, world_step}
-use Rattle.wrp_world.specs.Moved.{moved, waiting_at}
-use Rattle.wrp_world.specs.Setting.{Setting, node_setting_of, place_of}
-use Rattle.wrp_world.specs.WorldAt.{WorldAt, has_carrier}
-use Rattle.wrp_world.proofs.RunGifts.{AllGiven, all_if, comes_all, delivered_all, goes_all, ports_all, sent_all}
+use Rattle.wrp_course.specs.declared.clocks.ClockState.{ClockState}
+use Rattle.wrp_course.specs.declared.event.Event.{Event}
+use Rattle.wrp_course.specs.declared.event.Event.TheVariants.{Pass, Tick, Sample, Depart, Arrive, Deliver, Noise, Down, Up, Cut, Join}
+use Rattle.wrp_course.proofs.RunSettled.{given_up}
+use Rattle.wrp_course.specs.Given.{Given, at_ports, clock_told, comes_from, delivered, given_by, gives, gives_all, goes_from, step_of, taken_of, ticked_by, world_step}
+use Rattle.wrp_course.specs.Moved.{moved, waiting_at}
+use Rattle.wrp_course.specs.Setting.{Setting, node_setting_of, place_of}
+use Rattle.wrp_course.specs.WorldAt.{WorldAt, has_carrier}
+use Rattle.wrp_course.proofs.RunGifts.{AllGiven, all_if, comes_all, delivered_all, goes_all, ports_all, sent_all}
 use Rattle.arrayvec.specs.ArrayVec.{ArrayVec as Items}
 
 -- One input

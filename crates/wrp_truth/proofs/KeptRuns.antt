@@ -8,8 +8,8 @@ use Rattle.wrp_servo.specs.Measuring.{is_in, x_of}
 use Rattle.wrp_servo.specs.Servo.{AllAnswered, IsAnswer}
 use Rattle.wrp_tracking.specs.ServoGives.{WasMeasured}
 use Rattle.wrp_node.proofs.Hearing.{is_true}
-use Rattle.wrp_world.specs.Run.{world_after}
-use Rattle.wrp_world.specs.Setting.{node_setting_of}
+use Rattle.wrp_course.specs.Run.{world_after}
+use Rattle.wrp_course.specs.Setting.{node_setting_of}
 use Rattle.wrp_truth.specs.Fours.{KeptIsReckoned, IsNearAnswer}
 use Rattle.wrp_truth.proofs.FourEvents.{only_below}
 use Rattle.wrp_truth.proofs.FourSteps.{IsOnlySlave}

@@ -21,17 +21,17 @@ use Rattle.wrp_port.specs.Hearing.{is_open}
 use Rattle.wrp_port.specs.History.{is_fresh, is_fresh_at as is_fresh_by}
 use Rattle.wrp_servo.specs.Holdover.{HoldoverSince}
 use Rattle.wrp_servo.specs.Laws.{TrackSince}
-use Rattle.wrp_world.specs.declared.event.Event.{Event}
-use Rattle.wrp_world.specs.declared.event.Event.TheVariants.{Pass, Tick, Sample, Depart, Arrive, Deliver, Noise, Down, Up, Cut, Join}
-use Rattle.wrp_world.specs.Given.{given_by, given_plain, taken_of, world_step}
-use Rattle.wrp_world.specs.Moved.{moved}
-use Rattle.wrp_world.specs.Run.{Happened, world_after}
-use Rattle.wrp_world.specs.RunLaws.{FramesWerePutOut}
-use Rattle.wrp_world.specs.Runs.{IsRun, WasPutOut}
-use Rattle.wrp_world.specs.Setting.{Setting, node_setting_of, link_of}
-use Rattle.wrp_world.specs.WorldAt.{Sending, WorldAt, ends_are_up, has_carrier}
-use Rattle.wrp_world.proofs.RunSettled.{all_given_carrier}
-use Rattle.wrp_world.proofs.RunTimes.{comes_up_down, time_never_falls, not_up}
+use Rattle.wrp_course.specs.declared.event.Event.{Event}
+use Rattle.wrp_course.specs.declared.event.Event.TheVariants.{Pass, Tick, Sample, Depart, Arrive, Deliver, Noise, Down, Up, Cut, Join}
+use Rattle.wrp_course.specs.Given.{given_by, given_plain, taken_of, world_step}
+use Rattle.wrp_course.specs.Moved.{moved}
+use Rattle.wrp_course.specs.Run.{Happened, world_after}
+use Rattle.wrp_course.specs.RunLaws.{FramesWerePutOut}
+use Rattle.wrp_course.specs.Runs.{IsRun, WasPutOut}
+use Rattle.wrp_course.specs.Setting.{Setting, node_setting_of, link_of}
+use Rattle.wrp_course.specs.WorldAt.{Sending, WorldAt, ends_are_up, has_carrier}
+use Rattle.wrp_course.proofs.RunSettled.{all_given_carrier}
+use Rattle.wrp_course.proofs.RunTimes.{comes_up_down, time_never_falls, not_up}
 use Rattle.wrp_truth.specs.Announcing.{IsCertainAnnounce}
 use Rattle.wrp_truth.specs.Leases.{HasSource, IsCarried, LeaseHasSource, last_renewal, lease_time, renewal_in}
 use Rattle.wrp_truth.specs.Moments.{AtEach}

@@ -13,21 +13,21 @@ use Rattle.wrp_base.specs.declared.network.LinkCfg.{LinkCfg}
 use Rattle.wrp_base.specs.Network.{End}
 use Rattle.wrp_base.specs.Closeness.{IsWithin}
 use Rattle.wrp_frame.specs.declared.fault.FrameFault.{FrameFault}
-use Rattle.wrp_world.specs.Checks.{AllHold, Check, Holds, stands}
-use Rattle.wrp_world.specs.declared.event.Event.{Event}
-use Rattle.wrp_world.specs.declared.event.Event.TheVariants.{Depart, Down, Up, Cut}
-use Rattle.wrp_world.specs.declared.event.Swap.{Swap}
-use Rattle.wrp_world.specs.declared.place.Place.{Place}
-use Rattle.wrp_world.specs.Given.{given_by}
-use Rattle.wrp_world.specs.Moved.{behind_first, end_after, is_place, loses, moved, swap_at, with_swap}
-use Rattle.wrp_world.specs.Premises.{Accepts, entry_for, fibre_kept, module_checks, module_kept, swap_stands}
-use Rattle.wrp_world.specs.Run.{Happened, world_after}
-use Rattle.wrp_world.specs.RunLaws.{SameModule}
-use Rattle.wrp_world.specs.Runs.{IsNetwork, IsRun}
-use Rattle.wrp_world.specs.Setting.{Setting, end_at, end_of, entry_at, is_of, link_of, links_of, place_of}
-use Rattle.wrp_world.specs.WorldAt.{EndAt, Sending, WorldAt, first_name}
-use Rattle.wrp_world.proofs.RunNetwork.{LinkEnd, are_apart, end_with, place_end}
-use Rattle.wrp_world.proofs.RunTimes.{all_given_module, all_right}
+use Rattle.wrp_course.specs.Checks.{AllHold, Check, Holds, stands}
+use Rattle.wrp_course.specs.declared.event.Event.{Event}
+use Rattle.wrp_course.specs.declared.event.Event.TheVariants.{Depart, Down, Up, Cut}
+use Rattle.wrp_course.specs.declared.event.Swap.{Swap}
+use Rattle.wrp_course.specs.declared.place.Place.{Place}
+use Rattle.wrp_course.specs.Given.{given_by}
+use Rattle.wrp_course.specs.Moved.{behind_first, end_after, is_place, loses, moved, swap_at, with_swap}
+use Rattle.wrp_course.specs.Premises.{Accepts, entry_for, fibre_kept, module_checks, module_kept, swap_stands}
+use Rattle.wrp_course.specs.Run.{Happened, world_after}
+use Rattle.wrp_course.specs.RunLaws.{SameModule}
+use Rattle.wrp_course.specs.Runs.{IsNetwork, IsRun}
+use Rattle.wrp_course.specs.Setting.{Setting, end_at, end_of, entry_at, is_of, link_of, links_of, place_of}
+use Rattle.wrp_course.specs.WorldAt.{EndAt, Sending, WorldAt, first_name}
+use Rattle.wrp_course.proofs.RunNetwork.{LinkEnd, are_apart, end_with, place_end}
+use Rattle.wrp_course.proofs.RunTimes.{all_given_module, all_right}
 use Rattle.wrp_truth.proofs.OnTime.{first_part}
 use Rattle.wrp_truth.proofs.Slow.{check_says}
 use Rattle.wrp_truth.proofs.Suffixes.{run_before}

@@ -26,21 +26,21 @@ use Rattle.wrp_servo.specs.Laws.{NoStepInTrack, TrackHasChain}
 use Rattle.wrp_servo.specs.Sampling.{is_holdover}
 use Rattle.wrp_servo.specs.Table.{is_track}
 use Rattle.wrp_tracking.specs.Tree.{IsSource}
-use Rattle.wrp_world.specs.declared.event.Event.{Event}
-use Rattle.wrp_world.specs.declared.event.Event.TheVariants.{Pass, Sample, Down, Up, Cut, Join}
-use Rattle.wrp_world.specs.declared.fibres.FibreState.{FibreState}
-use Rattle.wrp_world.specs.Checks.{AllHold, Check, Holds}
-use Rattle.wrp_world.specs.EventAt.{IsEventOf}
-use Rattle.wrp_world.proofs.RunChanges.{not_joined}
-use Rattle.wrp_world.specs.Given.{Given, given_by, gives, gives_all, world_step}
-use Rattle.wrp_world.specs.Moved.{clock_after, drift_of, fibre_after, move_of, moved}
-use Rattle.wrp_world.specs.Premises.{Accepts, fibre_kept, fibre_rate, rate_checks, rate_kept, rate_of, tick_late}
-use Rattle.wrp_world.specs.Run.{Happened, world_after}
-use Rattle.wrp_world.specs.RunLaws.{ModulesStay, SameModule}
-use Rattle.wrp_world.specs.Runs.{IsNetwork, IsRun}
-use Rattle.wrp_world.specs.Setting.{Setting, node_setting_of, link_of, links_of, nodes_of, of_node}
-use Rattle.wrp_world.specs.WorldAt.{WorldAt, delay_from, ends_are_up, has_carrier}
-use Rattle.wrp_world.proofs.RunTimes.{all_right, comes_up_down, step_time, not_up}
+use Rattle.wrp_course.specs.declared.event.Event.{Event}
+use Rattle.wrp_course.specs.declared.event.Event.TheVariants.{Pass, Sample, Down, Up, Cut, Join}
+use Rattle.wrp_course.specs.declared.fibres.FibreState.{FibreState}
+use Rattle.wrp_course.specs.Checks.{AllHold, Check, Holds}
+use Rattle.wrp_course.specs.EventAt.{IsEventOf}
+use Rattle.wrp_course.proofs.RunChanges.{not_joined}
+use Rattle.wrp_course.specs.Given.{Given, given_by, gives, gives_all, world_step}
+use Rattle.wrp_course.specs.Moved.{clock_after, drift_of, fibre_after, move_of, moved}
+use Rattle.wrp_course.specs.Premises.{Accepts, fibre_kept, fibre_rate, rate_checks, rate_kept, rate_of, tick_late}
+use Rattle.wrp_course.specs.Run.{Happened, world_after}
+use Rattle.wrp_course.specs.RunLaws.{ModulesStay, SameModule}
+use Rattle.wrp_course.specs.Runs.{IsNetwork, IsRun}
+use Rattle.wrp_course.specs.Setting.{Setting, node_setting_of, link_of, links_of, nodes_of, of_node}
+use Rattle.wrp_course.specs.WorldAt.{WorldAt, delay_from, ends_are_up, has_carrier}
+use Rattle.wrp_course.proofs.RunTimes.{all_right, comes_up_down, step_time, not_up}
 use Rattle.wrp_truth.specs.Leases.{IsCarried}
 use Rattle.wrp_truth.specs.Rates.{SourceMovesSlowly, TopIsTrue, WaysMoveSlowly, greatest_rate}
 use Rattle.wrp_truth.specs.Views.{moment_at, offsets_at}

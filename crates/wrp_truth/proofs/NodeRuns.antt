@@ -5,11 +5,11 @@ use Rattle.wrp_node.specs.NodeAt.{NodeAt, Taken, servo_at}
 use Rattle.wrp_node.specs.NodeRun.{node_after}
 use Rattle.wrp_node.specs.NodeStep.{node_step}
 use Rattle.wrp_node.specs.Unbroken.{ChainIsLocked}
-use Rattle.wrp_world.specs.Given.{Given, given_by, gives, gives_all, step_of, taken_of}
-use Rattle.wrp_world.specs.Moved.{moved}
-use Rattle.wrp_world.specs.Run.{Happened, world_after}
-use Rattle.wrp_world.specs.Setting.{Setting, node_setting_of}
-use Rattle.wrp_world.specs.WorldAt.{WorldAt}
+use Rattle.wrp_course.specs.Given.{Given, given_by, gives, gives_all, step_of, taken_of}
+use Rattle.wrp_course.specs.Moved.{moved}
+use Rattle.wrp_course.specs.Run.{Happened, world_after}
+use Rattle.wrp_course.specs.Setting.{Setting, node_setting_of}
+use Rattle.wrp_course.specs.WorldAt.{WorldAt}
 
 abbrev IsMade : Setting → ℕ → WorldAt → Type 0
 IsMade s n w = w.node n ≡ node_after (node_setting_of s n) (w.inputs n)

@@ -13,14 +13,14 @@ use Rattle.wrp_node.specs.declared.interface.Input.TheVariants.{Frame}
 use Rattle.wrp_node.specs.NodeAt.{NodeAt, Taken}
 use Rattle.wrp_node.specs.NodeStep.{node_step}
 use Rattle.wrp_node.specs.StepLaws.{CommandsAreHeld, is_frame}
-use Rattle.wrp_world.specs.declared.clocks.ClockState.{ClockState}
-use Rattle.wrp_world.specs.declared.event.Event.{Event}
-use Rattle.wrp_world.specs.declared.event.Event.TheVariants.{Pass, Tick, Sample, Depart, Arrive, Deliver, Noise, Down, Up, Cut, Join}
-use Rattle.wrp_world.proofs.DroppedFrames.{still as no_move}
-use Rattle.wrp_world.specs.Given.{Given, clock_told, delivered, delivered_by, delivered_to, given, given_by, gives, gives_all, step_of, taken_of, world_step}
-use Rattle.wrp_world.specs.Moved.{clock_after, moved}
-use Rattle.wrp_world.specs.Setting.{Setting, end_at, node_setting_of}
-use Rattle.wrp_world.specs.WorldAt.{Arrival, FrameAt, WorldAt}
+use Rattle.wrp_course.specs.declared.clocks.ClockState.{ClockState}
+use Rattle.wrp_course.specs.declared.event.Event.{Event}
+use Rattle.wrp_course.specs.declared.event.Event.TheVariants.{Pass, Tick, Sample, Depart, Arrive, Deliver, Noise, Down, Up, Cut, Join}
+use Rattle.wrp_course.proofs.DroppedFrames.{still as no_move}
+use Rattle.wrp_course.specs.Given.{Given, clock_told, delivered, delivered_by, delivered_to, given, given_by, gives, gives_all, step_of, taken_of, world_step}
+use Rattle.wrp_course.specs.Moved.{clock_after, moved}
+use Rattle.wrp_course.specs.Setting.{Setting, end_at, node_setting_of}
+use Rattle.wrp_course.specs.WorldAt.{Arrival, FrameAt, WorldAt}
 use Rattle.wrp_truth.proofs.Inputs.{GivesTo, To, gives_to}
 
 -- One input

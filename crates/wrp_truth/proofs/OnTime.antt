@@ -9,21 +9,21 @@ use Rattle.wrp_base.proofs.Integers.{int_le_self, int_le_trans, le_plus}
 use Rattle.wrp_base.proofs.Naturals.{zero_plus}
 use Rattle.wrp_bounds.specs.Times.{longest_tick}
 use Rattle.wrp_frame.specs.declared.fault.FrameFault.{FrameFault}
-use Rattle.wrp_world.specs.declared.clocks.ClockState.{ClockState}
-use Rattle.wrp_world.specs.declared.event.Event.{Event}
-use Rattle.wrp_world.specs.declared.event.Event.TheVariants.{Pass, Tick, Sample, Depart, Arrive, Deliver, Noise, Down, Up, Cut, Join}
-use Rattle.wrp_world.specs.Checks.{AllHold, Check}
-use Rattle.wrp_world.proofs.Bounds.{holds_at}
-use Rattle.wrp_world.specs.Given.{given_by, world_step}
-use Rattle.wrp_world.specs.Moved.{moved}
-use Rattle.wrp_world.specs.Premises.{tick_late}
-use Rattle.wrp_world.specs.Run.{Happened, world_after}
-use Rattle.wrp_world.specs.RunLaws.{TicksAreApart}
-use Rattle.wrp_world.specs.Runs.{IsRun}
-use Rattle.wrp_world.specs.Setting.{Setting, nodes_of}
-use Rattle.wrp_world.specs.WorldAt.{WorldAt}
-use Rattle.wrp_world.proofs.RunMoves.{moved_ticked}
-use Rattle.wrp_world.proofs.RunTimes.{all_given_time, step_time}
+use Rattle.wrp_course.specs.declared.clocks.ClockState.{ClockState}
+use Rattle.wrp_course.specs.declared.event.Event.{Event}
+use Rattle.wrp_course.specs.declared.event.Event.TheVariants.{Pass, Tick, Sample, Depart, Arrive, Deliver, Noise, Down, Up, Cut, Join}
+use Rattle.wrp_course.specs.Checks.{AllHold, Check}
+use Rattle.wrp_course.proofs.Bounds.{holds_at}
+use Rattle.wrp_course.specs.Given.{given_by, world_step}
+use Rattle.wrp_course.specs.Moved.{moved}
+use Rattle.wrp_course.specs.Premises.{tick_late}
+use Rattle.wrp_course.specs.Run.{Happened, world_after}
+use Rattle.wrp_course.specs.RunLaws.{TicksAreApart}
+use Rattle.wrp_course.specs.Runs.{IsRun}
+use Rattle.wrp_course.specs.Setting.{Setting, nodes_of}
+use Rattle.wrp_course.specs.WorldAt.{WorldAt}
+use Rattle.wrp_course.proofs.RunMoves.{moved_ticked}
+use Rattle.wrp_course.proofs.RunTimes.{all_given_time, step_time}
 use Rattle.wrp_truth.specs.Clocks.{TicksAreOnTime}
 use Rattle.wrp_truth.proofs.Inputs.{all_given_stands, no_tick_last}
 use Rattle.wrp_truth.proofs.Suffixes.{run_before}

@@ -25,19 +25,19 @@ use Rattle.wrp_port.specs.declared.interface.PortIn.{PortIn}
 use Rattle.wrp_port.specs.declared.setting.Setting.{Setting as PortSetting}
 use Rattle.wrp_port.specs.Hearing.{is_open}
 use Rattle.wrp_port.specs.History.{link_inputs, link_of as link_told}
-use Rattle.wrp_world.specs.declared.event.Event.TheVariants.{Tick}
-use Rattle.wrp_world.specs.Given.{given_plain, taken_of, world_step}
-use Rattle.wrp_world.specs.Premises.{Accepts}
-use Rattle.wrp_world.specs.Run.{Happened, world_after}
-use Rattle.wrp_world.specs.RunLaws.{TicksAreApart}
-use Rattle.wrp_world.specs.Runs.{IsNetwork, IsRun}
-use Rattle.wrp_world.specs.SameHandshake.{CarriersAreTheLinks}
-use Rattle.wrp_world.specs.Setting.{Setting, node_setting_of, link_of, end_of}
-use Rattle.wrp_world.specs.WorldAt.{WorldAt, has_carrier}
-use Rattle.wrp_world.proofs.RunHanded.{not_early}
-use Rattle.wrp_world.proofs.RunLinks.{run_set}
-use Rattle.wrp_world.proofs.RunPorts.{any_frame}
-use Rattle.wrp_world.proofs.RunTimes.{step_time, time_never_falls}
+use Rattle.wrp_course.specs.declared.event.Event.TheVariants.{Tick}
+use Rattle.wrp_course.specs.Given.{given_plain, taken_of, world_step}
+use Rattle.wrp_course.specs.Premises.{Accepts}
+use Rattle.wrp_course.specs.Run.{Happened, world_after}
+use Rattle.wrp_course.specs.RunLaws.{TicksAreApart}
+use Rattle.wrp_course.specs.Runs.{IsNetwork, IsRun}
+use Rattle.wrp_course.specs.SameHandshake.{CarriersAreTheLinks}
+use Rattle.wrp_course.specs.Setting.{Setting, node_setting_of, link_of, end_of}
+use Rattle.wrp_course.specs.WorldAt.{WorldAt, has_carrier}
+use Rattle.wrp_course.proofs.RunHanded.{not_early}
+use Rattle.wrp_course.proofs.RunLinks.{run_set}
+use Rattle.wrp_course.proofs.RunPorts.{any_frame}
+use Rattle.wrp_course.proofs.RunTimes.{step_time, time_never_falls}
 use Rattle.wrp_truth.specs.Leases.{IsCarried}
 use Rattle.wrp_truth.specs.Moments.{AtEach}
 use Rattle.wrp_truth.specs.SequenceIds.{IsOpenAt}

@@ -21,19 +21,19 @@ use Rattle.wrp_servo.specs.Laws.{TrackSince}
 use Rattle.wrp_servo.specs.Sampling.{is_holdover}
 use Rattle.wrp_servo.specs.Table.{is_track}
 use Rattle.wrp_tracking.specs.Tree.{IsSource}
-use Rattle.wrp_world.specs.declared.event.Event.{Event}
-use Rattle.wrp_world.specs.declared.event.Event.TheVariants.{Pass, Tick, Sample, Depart, Arrive, Deliver, Noise, Down, Up, Cut, Join}
+use Rattle.wrp_course.specs.declared.event.Event.{Event}
+use Rattle.wrp_course.specs.declared.event.Event.TheVariants.{Pass, Tick, Sample, Depart, Arrive, Deliver, Noise, Down, Up, Cut, Join}
 use Rattle.wrp_truth.proofs.HeldCalls.{state_of_track}
-use Rattle.wrp_world.specs.Given.{Given, clock_told, given_plain, step_of, taken_of, world_step}
-use Rattle.wrp_world.specs.Moved.{moved}
-use Rattle.wrp_world.specs.Premises.{Accepts}
-use Rattle.wrp_world.specs.Run.{Happened, world_after}
-use Rattle.wrp_world.specs.Runs.{IsNetwork, IsRun}
-use Rattle.wrp_world.specs.Setting.{Setting, node_setting_of}
-use Rattle.wrp_world.specs.WorldAt.{WorldAt}
-use Rattle.wrp_world.proofs.RunHanded.{not_early}
-use Rattle.wrp_world.proofs.RunMoves.{moved_ticked}
-use Rattle.wrp_world.proofs.RunTimes.{comes_up_down, not_up}
+use Rattle.wrp_course.specs.Given.{Given, clock_told, given_plain, step_of, taken_of, world_step}
+use Rattle.wrp_course.specs.Moved.{moved}
+use Rattle.wrp_course.specs.Premises.{Accepts}
+use Rattle.wrp_course.specs.Run.{Happened, world_after}
+use Rattle.wrp_course.specs.Runs.{IsNetwork, IsRun}
+use Rattle.wrp_course.specs.Setting.{Setting, node_setting_of}
+use Rattle.wrp_course.specs.WorldAt.{WorldAt}
+use Rattle.wrp_course.proofs.RunHanded.{not_early}
+use Rattle.wrp_course.proofs.RunMoves.{moved_ticked}
+use Rattle.wrp_course.proofs.RunTimes.{comes_up_down, not_up}
 use Rattle.wrp_truth.specs.Views.{offsets_at}
 use Rattle.wrp_truth.proofs.Announces.{MayAnnounce}
 use Rattle.wrp_truth.proofs.Holding.{Followed, IsCalmCall, IsFollowed, follows_calm, follows_now, follows_still, follows_tick}

@@ -20,16 +20,16 @@ use Rattle.wrp_link.specs.LinkAt.{LinkAt}
 use Rattle.wrp_node.specs.NodeAt.{deltas_at, deltas_in, link_at, port_of, slave_of}
 use Rattle.wrp_port.specs.PortAt.{deltas_by, deltas_in as port_deltas_in}
 use Rattle.wrp_tracking.specs.ErrorSum.{Agree, IsShare}
-use Rattle.wrp_world.specs.LinkEnds.{in_place, port_at}
-use Rattle.wrp_world.specs.Premises.{asymmetry}
-use Rattle.wrp_world.specs.Run.{world_after}
-use Rattle.wrp_world.specs.Runs.{IsNetwork}
-use Rattle.wrp_world.specs.SameHandshake.{CarriersAreTheLinks, LinkOnWithTheDeltas}
-use Rattle.wrp_world.specs.Setting.{Setting, end_of, entry_at, link_of}
-use Rattle.wrp_world.specs.WorldAt.{EndAt, WorldAt, ends_are_up, has_carrier}
-use Rattle.wrp_world.proofs.RunLinks.{IsDark}
-use Rattle.wrp_world.proofs.RunPorts.{link_dark}
-use Rattle.wrp_world.proofs.WordReports.{idle_on}
+use Rattle.wrp_course.specs.LinkEnds.{in_place, port_at}
+use Rattle.wrp_course.specs.Premises.{asymmetry}
+use Rattle.wrp_course.specs.Run.{world_after}
+use Rattle.wrp_course.specs.Runs.{IsNetwork}
+use Rattle.wrp_course.specs.SameHandshake.{CarriersAreTheLinks, LinkOnWithTheDeltas}
+use Rattle.wrp_course.specs.Setting.{Setting, end_of, entry_at, link_of}
+use Rattle.wrp_course.specs.WorldAt.{EndAt, WorldAt, ends_are_up, has_carrier}
+use Rattle.wrp_course.proofs.RunLinks.{IsDark}
+use Rattle.wrp_course.proofs.RunPorts.{link_dark}
+use Rattle.wrp_course.proofs.WordReports.{idle_on}
 use Rattle.wrp_truth.specs.Fibres.{FibresKeepTheirShare}
 use Rattle.wrp_truth.specs.PortDelays.{FibreHoldsWhileOn}
 use Rattle.wrp_truth.proofs.LinksAbove.{above_is}

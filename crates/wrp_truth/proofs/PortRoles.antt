@@ -7,8 +7,8 @@ use Rattle.wrp_node.specs.declared.interface.NodeSet.{NodeSet}
 use Rattle.wrp_node.specs.NodeAt.{setting_of}
 use Rattle.wrp_node.specs.SetLaws.{EndsAreSet}
 use Rattle.wrp_port.specs.declared.setting.Setting.{Setting as PortSetting}
-use Rattle.wrp_world.specs.Runs.{IsNetwork}
-use Rattle.wrp_world.specs.Setting.{Setting, end_of, link_of}
+use Rattle.wrp_course.specs.Runs.{IsNetwork}
+use Rattle.wrp_course.specs.Setting.{Setting, end_of, link_of}
 
 abbrev pub set_at : Setting → Role → LinkCfg → PortSetting
 set_at s r link = setting_of (s.set (end_of r link).node) (end_of r link).port

@@ -9,18 +9,18 @@ use Rattle.wrp_frame.specs.declared.fault.FrameFault.{FrameFault}
 use Rattle.wrp_node.specs.declared.interface.Input.{Input}
 use Rattle.wrp_node.specs.declared.interface.Input.TheVariants.{Tick as TickInput}
 use Rattle.wrp_node.specs.Telling.{Step}
-use Rattle.wrp_world.specs.declared.event.Event.{Event}
-use Rattle.wrp_world.specs.declared.event.Event.TheVariants.{Tick}
-use Rattle.wrp_world.proofs.RunFlights.{put_either}
-use Rattle.wrp_world.specs.Given.{Given, end_given, given_by, given_plain, gives, gives_all, sending, step_of, world_step}
-use Rattle.wrp_world.specs.Moved.{moved}
-use Rattle.wrp_world.specs.Run.{Happened, world_after}
-use Rattle.wrp_world.specs.Runs.{WasPutOut}
-use Rattle.wrp_world.specs.Setting.{Setting, end_of, link_of}
-use Rattle.wrp_world.specs.WorldAt.{EndAt, Sending, WorldAt}
-use Rattle.wrp_world.proofs.RunFrames.{moved_sent, sent_stays, new_put}
-use Rattle.wrp_world.proofs.RunGiven.{end_is}
-use Rattle.wrp_world.proofs.RunPorts.{told_end}
+use Rattle.wrp_course.specs.declared.event.Event.{Event}
+use Rattle.wrp_course.specs.declared.event.Event.TheVariants.{Tick}
+use Rattle.wrp_course.proofs.RunFlights.{put_either}
+use Rattle.wrp_course.specs.Given.{Given, end_given, given_by, given_plain, gives, gives_all, sending, step_of, world_step}
+use Rattle.wrp_course.specs.Moved.{moved}
+use Rattle.wrp_course.specs.Run.{Happened, world_after}
+use Rattle.wrp_course.specs.Runs.{WasPutOut}
+use Rattle.wrp_course.specs.Setting.{Setting, end_of, link_of}
+use Rattle.wrp_course.specs.WorldAt.{EndAt, Sending, WorldAt}
+use Rattle.wrp_course.proofs.RunFrames.{moved_sent, sent_stays, new_put}
+use Rattle.wrp_course.proofs.RunGiven.{end_is}
+use Rattle.wrp_course.proofs.RunPorts.{told_end}
 use Rattle.wrp_truth.proofs.Inputs.{GivesTo, To, gives_to}
 
 -- An end of a link

@@ -23,19 +23,19 @@ use Rattle.wrp_node.specs.declared.interface.Input.TheVariants.{Tick as TickInpu
 use Rattle.wrp_node.specs.NodeAt.{NodeSetting, NodeAt, link_at, setting_of, slave_of}
 use Rattle.wrp_port.specs.Hearing.{renews}
 use Rattle.wrp_port.specs.History.{renews_at}
-use Rattle.wrp_world.specs.declared.event.Event.{Event}
-use Rattle.wrp_world.specs.declared.event.Event.TheVariants.{Pass, Tick, Sample, Depart, Arrive, Deliver, Noise, Down, Up, Cut, Join}
+use Rattle.wrp_course.specs.declared.event.Event.{Event}
+use Rattle.wrp_course.specs.declared.event.Event.TheVariants.{Pass, Tick, Sample, Depart, Arrive, Deliver, Noise, Down, Up, Cut, Join}
 use Rattle.wrp_truth.proofs.DelayPutOut.{ok_is}
-use Rattle.wrp_world.specs.Given.{Given, delivered, delivered_by, delivered_to, given, gives_all, taken_of, world_step}
-use Rattle.wrp_world.specs.Moved.{moved}
-use Rattle.wrp_world.specs.Premises.{Accepts, is_forged}
-use Rattle.wrp_world.specs.Runs.{IsNetwork}
-use Rattle.wrp_world.specs.Setting.{Setting, end_at, end_of, node_setting_of, is_role, link_of, place_of}
-use Rattle.wrp_world.specs.WorldAt.{Arrival, FrameAt, Sending, WorldAt, has_carrier}
-use Rattle.wrp_world.proofs.RunCarriers.{end_alike}
-use Rattle.wrp_world.proofs.RunGiven.{end_is}
-use Rattle.wrp_world.proofs.RunHanded.{not_forged}
-use Rattle.wrp_world.proofs.RunNetwork.{are_apart}
+use Rattle.wrp_course.specs.Given.{Given, delivered, delivered_by, delivered_to, given, gives_all, taken_of, world_step}
+use Rattle.wrp_course.specs.Moved.{moved}
+use Rattle.wrp_course.specs.Premises.{Accepts, is_forged}
+use Rattle.wrp_course.specs.Runs.{IsNetwork}
+use Rattle.wrp_course.specs.Setting.{Setting, end_at, end_of, node_setting_of, is_role, link_of, place_of}
+use Rattle.wrp_course.specs.WorldAt.{Arrival, FrameAt, Sending, WorldAt, has_carrier}
+use Rattle.wrp_course.proofs.RunCarriers.{end_alike}
+use Rattle.wrp_course.proofs.RunGiven.{end_is}
+use Rattle.wrp_course.proofs.RunHanded.{not_forged}
+use Rattle.wrp_course.proofs.RunNetwork.{are_apart}
 use Rattle.wrp_truth.specs.Announcing.{IsAnnounce, IsCertainAnnounce}
 use Rattle.wrp_truth.specs.Leases.{renewal_in, renewed_by, renews_by}
 use Rattle.wrp_truth.proofs.Carried.{Renews, renewing}

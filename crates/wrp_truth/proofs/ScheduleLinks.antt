@@ -22,7 +22,7 @@ use Rattle.wrp_port.specs.declared.interface.PortIn.TheVariants.{Msg as PortMsg,
 use Rattle.wrp_port.specs.declared.setting.Setting.{Setting}
 use Rattle.wrp_port.specs.Hearing.{early_reason, is_open, is_open_word, link_input}
 use Rattle.wrp_port.specs.History.{input_unless, link_by, link_inputs, link_of, to_link, with_input}
-use Rattle.wrp_world.proofs.RunLinks.{run_set}
+use Rattle.wrp_course.proofs.RunLinks.{run_set}
 use Rattle.wrp_truth.proofs.Resting.{dark_row, gone_dark}
 
 -- Closed

@@ -12,16 +12,16 @@ use Rattle.wrp_port.specs.declared.interface.PortIn.{PortIn}
 use Rattle.wrp_port.specs.declared.setting.Setting.{Setting as PortSetting}
 use Rattle.wrp_port.specs.Hearing.{is_open}
 use Rattle.wrp_port.specs.History.{link_of as link_told}
-use Rattle.wrp_world.specs.declared.event.Event.{Event}
-use Rattle.wrp_world.specs.declared.event.Event.TheVariants.{Tick}
-use Rattle.wrp_world.specs.Given.{given_plain, taken_of, world_step}
-use Rattle.wrp_world.specs.Premises.{Accepts}
-use Rattle.wrp_world.specs.Run.{Happened, world_after}
-use Rattle.wrp_world.specs.RunLaws.{TicksAreApart}
-use Rattle.wrp_world.specs.Runs.{IsNetwork, IsRun}
-use Rattle.wrp_world.specs.Setting.{Setting, node_setting_of}
-use Rattle.wrp_world.specs.WorldAt.{WorldAt}
-use Rattle.wrp_world.proofs.RunHanded.{not_early}
+use Rattle.wrp_course.specs.declared.event.Event.{Event}
+use Rattle.wrp_course.specs.declared.event.Event.TheVariants.{Tick}
+use Rattle.wrp_course.specs.Given.{given_plain, taken_of, world_step}
+use Rattle.wrp_course.specs.Premises.{Accepts}
+use Rattle.wrp_course.specs.Run.{Happened, world_after}
+use Rattle.wrp_course.specs.RunLaws.{TicksAreApart}
+use Rattle.wrp_course.specs.Runs.{IsNetwork, IsRun}
+use Rattle.wrp_course.specs.Setting.{Setting, node_setting_of}
+use Rattle.wrp_course.specs.WorldAt.{WorldAt}
+use Rattle.wrp_course.proofs.RunHanded.{not_early}
 use Rattle.wrp_truth.specs.Moments.{AtEach}
 use Rattle.wrp_truth.proofs.Inputs.{IsNoTick, IsNoTickOf, no_tick_to, node_kept, tick_or_not}
 use Rattle.wrp_truth.proofs.Parents.{ticked_node}

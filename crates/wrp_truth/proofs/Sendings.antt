@@ -7,17 +7,17 @@ use Rattle.wrp_base.specs.declared.network.LinkCfg.{LinkCfg}
 use Rattle.wrp_frame.specs.declared.fault.FrameFault.{FrameFault}
 use Rattle.wrp_node.specs.declared.interface.Input.{Input}
 use Rattle.wrp_node.specs.declared.interface.Input.TheVariants.{Tick as TickInput}
-use Rattle.wrp_world.specs.declared.event.Event.{Event}
-use Rattle.wrp_world.specs.declared.event.Event.TheVariants.{Tick}
-use Rattle.wrp_world.proofs.RunFlights.{put_either}
-use Rattle.wrp_world.specs.Given.{Given, given_by, given_plain, gives, gives_all, sending, step_of, taken_of, world_step}
-use Rattle.wrp_world.specs.Moved.{moved}
-use Rattle.wrp_world.specs.Run.{Happened, world_after}
-use Rattle.wrp_world.specs.Runs.{WasPutOut}
-use Rattle.wrp_world.specs.Setting.{Setting, end_at, node_setting_of, link_of}
-use Rattle.wrp_world.specs.WorldAt.{Sending, WorldAt}
-use Rattle.wrp_world.proofs.RunFrames.{moved_sent, told_either}
-use Rattle.wrp_world.proofs.RunTimes.{all_given_time}
+use Rattle.wrp_course.specs.declared.event.Event.{Event}
+use Rattle.wrp_course.specs.declared.event.Event.TheVariants.{Tick}
+use Rattle.wrp_course.proofs.RunFlights.{put_either}
+use Rattle.wrp_course.specs.Given.{Given, given_by, given_plain, gives, gives_all, sending, step_of, taken_of, world_step}
+use Rattle.wrp_course.specs.Moved.{moved}
+use Rattle.wrp_course.specs.Run.{Happened, world_after}
+use Rattle.wrp_course.specs.Runs.{WasPutOut}
+use Rattle.wrp_course.specs.Setting.{Setting, end_at, node_setting_of, link_of}
+use Rattle.wrp_course.specs.WorldAt.{Sending, WorldAt}
+use Rattle.wrp_course.proofs.RunFrames.{moved_sent, told_either}
+use Rattle.wrp_course.proofs.RunTimes.{all_given_time}
 use Rattle.wrp_truth.specs.Announcing.{IsCertainAnnounce}
 use Rattle.wrp_truth.proofs.Announces.{MayAnnounce, OnlyWhen, announces_only}
 use Rattle.wrp_truth.proofs.Inputs.{IsNoTick, no_tick_to, tick_or_not}

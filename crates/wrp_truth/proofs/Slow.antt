@@ -5,9 +5,9 @@ use Rattle.std.proofs.Math.Nat.{mul-le-mul_right}
 use Rattle.std.specs.Int.Signed.{le_z}
 use Rattle.wrp_base.proofs.Naturals.{nat_le_trans}
 use Rattle.wrp_tracking.specs.History.{IsSlow}
-use Rattle.wrp_world.specs.Checks.{AllHold, Check, Holds}
-use Rattle.wrp_world.specs.Setting.{from_on}
-use Rattle.wrp_world.proofs.RunTimes.{all_right}
+use Rattle.wrp_course.specs.Checks.{AllHold, Check, Holds}
+use Rattle.wrp_course.specs.Setting.{from_on}
+use Rattle.wrp_course.proofs.RunTimes.{all_right}
 use Rattle.wrp_truth.proofs.OnTime.{first_part}
 
 -- a quantity moves from one time to another at most at a rate

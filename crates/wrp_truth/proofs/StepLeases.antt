@@ -20,7 +20,7 @@ use Rattle.wrp_port.specs.declared.setting.Setting.{Setting}
 use Rattle.wrp_port.specs.Hearing.{early_reason}
 use Rattle.wrp_port.specs.History.{renews_at, since_renewal}
 use Rattle.wrp_servo.specs.Call.{Call, CallSample, CallTick, CallCarrier}
-use Rattle.wrp_world.proofs.Turned.{other_number}
+use Rattle.wrp_course.proofs.LinkPorts.{other_number}
 use Rattle.wrp_servo.specs.declared.interface.ServoOut.{ServoOut}
 use Rattle.wrp_truth.proofs.Carried.{renewed_or_not}
 use Rattle.wrp_truth.proofs.SyncTold.{lease_there}

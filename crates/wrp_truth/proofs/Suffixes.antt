@@ -1,12 +1,12 @@
 -- Parts of a run: its older events are a run, and what held at each event of a part.
 use Rattle.std.proofs.Common.{◌≡◌, refl, ap, ◌∙◌, ℕ, ◌+◌, ℤ, List, [], ◌∷◌, ◌++◌, length, arith, ◌≤◌}
 use Rattle.wrp_base.specs.declared.configuration.NetCfg.{NetCfg}
-use Rattle.wrp_world.specs.Given.{Given, given_by, gives, gives_all}
-use Rattle.wrp_world.specs.Moved.{moved}
-use Rattle.wrp_world.specs.Run.{AllAccepted, Happened, world_after}
-use Rattle.wrp_world.specs.Runs.{AllEvents, IsRun}
-use Rattle.wrp_world.specs.Setting.{Setting}
-use Rattle.wrp_world.specs.WorldAt.{WorldAt}
+use Rattle.wrp_course.specs.Given.{Given, given_by, gives, gives_all}
+use Rattle.wrp_course.specs.Moved.{moved}
+use Rattle.wrp_course.specs.Run.{AllAccepted, Happened, world_after}
+use Rattle.wrp_course.specs.Runs.{AllEvents, IsRun}
+use Rattle.wrp_course.specs.Setting.{Setting}
+use Rattle.wrp_course.specs.WorldAt.{WorldAt}
 use Rattle.wrp_truth.specs.Moments.{AtEach}
 
 -- The older events

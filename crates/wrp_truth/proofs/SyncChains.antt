@@ -10,12 +10,12 @@ use Rattle.wrp_base.proofs.Lists.{append_assoc, head_and_tail}
 use Rattle.wrp_base.proofs.Naturals.{le_one_more, nat_le_self, nat_le_trans}
 use Rattle.wrp_frame.specs.declared.fault.FrameFault.{FrameFault}
 use Rattle.wrp_tracking.specs.Chain.{Good}
-use Rattle.wrp_world.specs.declared.event.Event.{Event}
-use Rattle.wrp_world.specs.declared.event.Event.TheVariants.{Sample, Up}
-use Rattle.wrp_world.specs.Run.{Happened, world_after}
-use Rattle.wrp_world.specs.Runs.{IsRun}
-use Rattle.wrp_world.specs.Setting.{Setting, link_of}
-use Rattle.wrp_world.proofs.RunTimes.{comes_up_down, not_up}
+use Rattle.wrp_course.specs.declared.event.Event.{Event}
+use Rattle.wrp_course.specs.declared.event.Event.TheVariants.{Sample, Up}
+use Rattle.wrp_course.specs.Run.{Happened, world_after}
+use Rattle.wrp_course.specs.Runs.{IsRun}
+use Rattle.wrp_course.specs.Setting.{Setting, link_of}
+use Rattle.wrp_course.proofs.RunTimes.{comes_up_down, not_up}
 use Rattle.wrp_truth.specs.Chains.{ChainHasConstant, good_in, goods_since}
 use Rattle.wrp_truth.specs.Leases.{FollowsSource, IsCarried}
 use Rattle.wrp_truth.specs.Moments.{AtEach}

@@ -32,21 +32,21 @@ use Rattle.wrp_port.specs.Wire.{later_by}
 use Rattle.wrp_servo.specs.Call.{run}
 use Rattle.wrp_servo.specs.Laws.{ChainSince, PhaseMovesByTags}
 use Rattle.wrp_tracking.specs.Chain.{Good}
-use Rattle.wrp_world.specs.declared.event.Event.{Event}
-use Rattle.wrp_world.specs.declared.event.Event.TheVariants.{Pass, Tick, Sample, Depart, Arrive, Deliver, Noise, Down, Up, Cut, Join}
+use Rattle.wrp_course.specs.declared.event.Event.{Event}
+use Rattle.wrp_course.specs.declared.event.Event.TheVariants.{Pass, Tick, Sample, Depart, Arrive, Deliver, Noise, Down, Up, Cut, Join}
 use Rattle.wrp_truth.proofs.NodeSteps.{Stands}
 use Rattle.wrp_truth.proofs.Renewals.{master_of}
-use Rattle.wrp_world.specs.Given.{Given, delivered, delivered_by, delivered_to, given, given_plain, gives, gives_all, sent_oldest, taken_of, told_sending, world_step}
-use Rattle.wrp_world.specs.Moved.{moved}
-use Rattle.wrp_world.specs.Premises.{Accepts, is_forged}
-use Rattle.wrp_world.specs.Run.{Happened, world_after}
-use Rattle.wrp_world.specs.Runs.{IsNetwork}
-use Rattle.wrp_world.specs.Setting.{Setting, end_at, end_of, node_setting_of, link_of, place_of}
-use Rattle.wrp_world.specs.WorldAt.{Arrival, FrameAt, Sending, WorldAt}
-use Rattle.wrp_world.proofs.RunCarriers.{end_alike}
-use Rattle.wrp_world.proofs.RunGiven.{end_is}
-use Rattle.wrp_world.proofs.RunHanded.{not_forged}
-use Rattle.wrp_world.proofs.RunNetwork.{are_apart}
+use Rattle.wrp_course.specs.Given.{Given, delivered, delivered_by, delivered_to, given, given_plain, gives, gives_all, sent_oldest, taken_of, told_sending, world_step}
+use Rattle.wrp_course.specs.Moved.{moved}
+use Rattle.wrp_course.specs.Premises.{Accepts, is_forged}
+use Rattle.wrp_course.specs.Run.{Happened, world_after}
+use Rattle.wrp_course.specs.Runs.{IsNetwork}
+use Rattle.wrp_course.specs.Setting.{Setting, end_at, end_of, node_setting_of, link_of, place_of}
+use Rattle.wrp_course.specs.WorldAt.{Arrival, FrameAt, Sending, WorldAt}
+use Rattle.wrp_course.proofs.RunCarriers.{end_alike}
+use Rattle.wrp_course.proofs.RunGiven.{end_is}
+use Rattle.wrp_course.proofs.RunHanded.{not_forged}
+use Rattle.wrp_course.proofs.RunNetwork.{are_apart}
 use Rattle.wrp_truth.specs.Chains.{good_in}
 use Rattle.wrp_truth.specs.Exchanges.{exchange_at}
 use Rattle.wrp_truth.specs.Rates.{HasChain}

@@ -8,15 +8,15 @@ use Rattle.wrp_base.specs.Network.{End, other_of}
 use Rattle.wrp_base.proofs.Integers.{int_le_trans}
 use Rattle.wrp_base.proofs.Lists.{head_and_tail}
 use Rattle.wrp_bounds.specs.Times.{frame_life}
-use Rattle.wrp_world.specs.Laws.{KeepsStamp}
-use Rattle.wrp_world.specs.Premises.{Accepts}
-use Rattle.wrp_world.specs.Run.{Happened, world_after}
-use Rattle.wrp_world.specs.RunLaws.{FramesHaveTimes, HasTimes}
-use Rattle.wrp_world.specs.RunStamps.{ArrivedSo, DepartedSo, FramesAreStamped}
-use Rattle.wrp_world.specs.Runs.{IsRun}
-use Rattle.wrp_world.specs.Setting.{Setting, end_at, end_of, link_of}
-use Rattle.wrp_world.specs.WorldAt.{Arrival, FrameAt, WorldAt}
-use Rattle.wrp_world.proofs.RunGiven.{end_is}
+use Rattle.wrp_course.specs.Laws.{KeepsStamp}
+use Rattle.wrp_course.specs.Premises.{Accepts}
+use Rattle.wrp_course.specs.Run.{Happened, world_after}
+use Rattle.wrp_course.specs.RunLaws.{FramesHaveTimes, HasTimes}
+use Rattle.wrp_course.specs.RunStamps.{ArrivedSo, DepartedSo, FramesAreStamped}
+use Rattle.wrp_course.specs.Runs.{IsRun}
+use Rattle.wrp_course.specs.Setting.{Setting, end_at, end_of, link_of}
+use Rattle.wrp_course.specs.WorldAt.{Arrival, FrameAt, WorldAt}
+use Rattle.wrp_course.proofs.RunGiven.{end_is}
 use Rattle.wrp_truth.specs.Leases.{IsCarried}
 use Rattle.wrp_truth.specs.Moments.{AtEach}
 use Rattle.wrp_truth.specs.SequenceIds.{IsOpenAt}

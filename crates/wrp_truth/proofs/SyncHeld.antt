@@ -18,14 +18,14 @@ use Rattle.wrp_tracking.specs.Chain.{FlewAt, Good, GoodTells, LatchedAt, SyncTel
 use Rattle.wrp_tracking.specs.History.{Was}
 use Rattle.wrp_tracking.specs.Moment.{Moment}
 use Rattle.wrp_tracking.proofs.Histories.{was_at_most, was_one}
-use Rattle.wrp_world.specs.Run.{Happened, world_after}
-use Rattle.wrp_world.specs.RunLaws.{HasTimes}
-use Rattle.wrp_world.specs.RunStamps.{DepartedSo}
-use Rattle.wrp_world.specs.Runs.{IsRun}
-use Rattle.wrp_world.specs.Setting.{Setting, end_at, end_of, link_of, of_node}
-use Rattle.wrp_world.specs.WorldAt.{Arrival, FrameAt, WorldAt, delay_from, ends_are_up, has_carrier, reading}
-use Rattle.wrp_world.proofs.RunGiven.{end_is}
-use Rattle.wrp_world.proofs.RunTimes.{step_time}
+use Rattle.wrp_course.specs.Run.{Happened, world_after}
+use Rattle.wrp_course.specs.RunLaws.{HasTimes}
+use Rattle.wrp_course.specs.RunStamps.{DepartedSo}
+use Rattle.wrp_course.specs.Runs.{IsRun}
+use Rattle.wrp_course.specs.Setting.{Setting, end_at, end_of, link_of, of_node}
+use Rattle.wrp_course.specs.WorldAt.{Arrival, FrameAt, WorldAt, delay_from, ends_are_up, has_carrier, reading}
+use Rattle.wrp_course.proofs.RunGiven.{end_is}
+use Rattle.wrp_course.proofs.RunTimes.{step_time}
 use Rattle.wrp_truth.specs.Chains.{AllFit, ChainRuns, goods_since}
 use Rattle.wrp_truth.specs.Exchanges.{exchange_at, ring_below}
 use Rattle.wrp_truth.specs.Fibres.{FibresKeepTheirShare}

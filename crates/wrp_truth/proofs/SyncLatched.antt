@@ -11,9 +11,9 @@ use Rattle.wrp_bounds.specs.declared.numbers.HopNumbers.{HopNumbers}
 use Rattle.wrp_exch.specs.declared.ring.GoodSample.{GoodSample}
 use Rattle.wrp_exch.specs.Samples.{last_samples, phase_in, samples}
 use Rattle.wrp_tracking.specs.Chain.{Good}
-use Rattle.wrp_world.specs.Run.{Happened, world_after}
-use Rattle.wrp_world.specs.Runs.{IsRun}
-use Rattle.wrp_world.specs.Setting.{Setting}
+use Rattle.wrp_course.specs.Run.{Happened, world_after}
+use Rattle.wrp_course.specs.Runs.{IsRun}
+use Rattle.wrp_course.specs.Setting.{Setting}
 use Rattle.wrp_truth.specs.Chains.{AllFit}
 use Rattle.wrp_truth.specs.Exchanges.{exchange_at}
 use Rattle.wrp_truth.specs.Moments.{AtEach}

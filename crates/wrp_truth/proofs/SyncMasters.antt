@@ -8,12 +8,12 @@ use Rattle.wrp_handshake.specs.Ends.{Ends}
 use Rattle.wrp_handshake.specs.Laws.{SlaveOnWithItsMaster}
 use Rattle.wrp_link.specs.LinkAt.{LinkAt}
 use Rattle.wrp_node.specs.NodeAt.{link_at}
-use Rattle.wrp_world.specs.LinkEnds.{ends_at}
-use Rattle.wrp_world.specs.Run.{Happened, world_after}
-use Rattle.wrp_world.specs.Runs.{IsRun}
-use Rattle.wrp_world.specs.SameHandshake.{LinksCanBe}
-use Rattle.wrp_world.specs.Setting.{Setting, link_of}
-use Rattle.wrp_world.specs.WorldAt.{Sending, WorldAt}
+use Rattle.wrp_course.specs.LinkEnds.{ends_at}
+use Rattle.wrp_course.specs.Run.{Happened, world_after}
+use Rattle.wrp_course.specs.Runs.{IsRun}
+use Rattle.wrp_course.specs.SameHandshake.{LinksCanBe}
+use Rattle.wrp_course.specs.Setting.{Setting, link_of}
+use Rattle.wrp_course.specs.WorldAt.{Sending, WorldAt}
 use Rattle.wrp_truth.specs.Leases.{FollowsSource, IsCarried}
 use Rattle.wrp_truth.specs.Moments.{AtEach}
 use Rattle.wrp_truth.specs.Rates.{HasChain}

@@ -18,9 +18,9 @@ use Rattle.wrp_tracking.specs.Chain.{Good}
 use Rattle.wrp_tracking.specs.History.{Was}
 use Rattle.wrp_tracking.specs.Moment.{Moment}
 use Rattle.wrp_tracking.proofs.Histories.{was_one}
-use Rattle.wrp_world.specs.Run.{Happened, world_after}
-use Rattle.wrp_world.specs.Runs.{IsRun}
-use Rattle.wrp_world.specs.Setting.{Setting, link_of}
+use Rattle.wrp_course.specs.Run.{Happened, world_after}
+use Rattle.wrp_course.specs.Runs.{IsRun}
+use Rattle.wrp_course.specs.Setting.{Setting, link_of}
 use Rattle.wrp_truth.specs.Chains.{AllFit, ChainRuns, good_in, goods_since}
 use Rattle.wrp_truth.specs.Exchanges.{exchange_at, ring_below}
 use Rattle.wrp_truth.specs.Moments.{AtEach}

@@ -20,14 +20,14 @@ use Rattle.wrp_exch.specs.Samples.{last_samples, phase_in}
 use Rattle.wrp_exch.specs.SyncPair.{pair_of_sync, sync_pair}
 use Rattle.wrp_node.specs.declared.interface.NodeSet.{NodeSet}
 use Rattle.wrp_port.specs.Wire.{later_by, rest_of, timestamp_of}
-use Rattle.wrp_world.specs.EventAt.{IsEventOf, IsTime}
-use Rattle.wrp_world.specs.Run.{Happened, world_after}
-use Rattle.wrp_world.specs.RunLaws.{FramesWerePutOut}
-use Rattle.wrp_world.specs.RunStamps.{DepartedSo}
-use Rattle.wrp_world.specs.Runs.{IsRun, WasPutOut}
-use Rattle.wrp_world.specs.Setting.{Setting, link_of}
-use Rattle.wrp_world.specs.WorldAt.{FrameAt, Sending}
-use Rattle.wrp_world.proofs.RunTimes.{time_never_falls}
+use Rattle.wrp_course.specs.EventAt.{IsEventOf, IsTime}
+use Rattle.wrp_course.specs.Run.{Happened, world_after}
+use Rattle.wrp_course.specs.RunLaws.{FramesWerePutOut}
+use Rattle.wrp_course.specs.RunStamps.{DepartedSo}
+use Rattle.wrp_course.specs.Runs.{IsRun, WasPutOut}
+use Rattle.wrp_course.specs.Setting.{Setting, link_of}
+use Rattle.wrp_course.specs.WorldAt.{FrameAt, Sending}
+use Rattle.wrp_course.proofs.RunTimes.{time_never_falls}
 use Rattle.wrp_truth.specs.Chains.{AllFit, ChainRuns}
 use Rattle.wrp_truth.specs.Exchanges.{SyncsTell, exchange_at, ring_below}
 use Rattle.wrp_truth.specs.Rates.{HasChain}

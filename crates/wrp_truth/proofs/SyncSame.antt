@@ -6,17 +6,17 @@ use Rattle.wrp_base.specs.declared.network.LinkCfg.{LinkCfg}
 use Rattle.wrp_base.proofs.Lists.{append_assoc}
 use Rattle.wrp_base.proofs.Naturals.{eq_self}
 use Rattle.wrp_bounds.specs.Times.{frame_life, gap_time, shortest_tick}
-use Rattle.wrp_world.specs.declared.event.Event.{Event}
-use Rattle.wrp_world.specs.declared.place.Place.{Place}
+use Rattle.wrp_course.specs.declared.event.Event.{Event}
+use Rattle.wrp_course.specs.declared.place.Place.{Place}
 use Rattle.wrp_truth.proofs.BoundRuns.{at_oldest}
 use Rattle.wrp_truth.proofs.DelayPieces.{still_depart}
-use Rattle.wrp_world.specs.Given.{given_by}
-use Rattle.wrp_world.specs.Moved.{departing, frame_after, moved, waiting_at}
-use Rattle.wrp_world.specs.Run.{Happened, world_after}
-use Rattle.wrp_world.specs.Runs.{IsRun, WasPutOut}
-use Rattle.wrp_world.specs.Setting.{Setting, link_of}
-use Rattle.wrp_world.specs.WorldAt.{FrameAt, Sending, WorldAt, delay_from}
-use Rattle.wrp_world.proofs.RunTimes.{time_never_falls}
+use Rattle.wrp_course.specs.Given.{given_by}
+use Rattle.wrp_course.specs.Moved.{departing, frame_after, moved, waiting_at}
+use Rattle.wrp_course.specs.Run.{Happened, world_after}
+use Rattle.wrp_course.specs.Runs.{IsRun, WasPutOut}
+use Rattle.wrp_course.specs.Setting.{Setting, link_of}
+use Rattle.wrp_course.specs.WorldAt.{FrameAt, Sending, WorldAt, delay_from}
+use Rattle.wrp_course.proofs.RunTimes.{time_never_falls}
 use Rattle.wrp_truth.specs.Moments.{AtEach}
 use Rattle.wrp_truth.specs.Rates.{HasChain}
 use Rattle.wrp_truth.specs.SequenceIds.{IdsComeAgainLate, IsOpenAt, OneTimedAnEvent}

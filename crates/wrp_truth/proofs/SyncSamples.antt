@@ -19,16 +19,16 @@ use Rattle.wrp_servo.specs.Call.{CallLease, CallLink, CallSample, CallMeasured, 
 use Rattle.wrp_servo.specs.Laws.{PhaseMovesByTags}
 use Rattle.wrp_servo.specs.Tags.{heard_tag}
 use Rattle.wrp_tracking.specs.Chain.{Good}
-use Rattle.wrp_world.specs.declared.event.Event.{Event}
-use Rattle.wrp_world.specs.declared.event.Event.TheVariants.{Tick, Sample, Depart, Deliver, Noise, Up}
+use Rattle.wrp_course.specs.declared.event.Event.{Event}
+use Rattle.wrp_course.specs.declared.event.Event.TheVariants.{Tick, Sample, Depart, Deliver, Noise, Up}
 use Rattle.wrp_truth.proofs.NodeSteps.{Stands}
-use Rattle.wrp_world.specs.Given.{Given, given_plain, step_of, taken_of, world_step}
-use Rattle.wrp_world.specs.Moved.{moved, waiting_at}
-use Rattle.wrp_world.specs.Run.{Happened, world_after}
-use Rattle.wrp_world.specs.Runs.{IsNetwork, IsRun}
-use Rattle.wrp_world.specs.Setting.{Setting, node_setting_of, link_of, place_of}
-use Rattle.wrp_world.specs.WorldAt.{WorldAt}
-use Rattle.wrp_world.proofs.RunTimes.{comes_up_down, not_up}
+use Rattle.wrp_course.specs.Given.{Given, given_plain, step_of, taken_of, world_step}
+use Rattle.wrp_course.specs.Moved.{moved, waiting_at}
+use Rattle.wrp_course.specs.Run.{Happened, world_after}
+use Rattle.wrp_course.specs.Runs.{IsNetwork, IsRun}
+use Rattle.wrp_course.specs.Setting.{Setting, node_setting_of, link_of, place_of}
+use Rattle.wrp_course.specs.WorldAt.{WorldAt}
+use Rattle.wrp_course.proofs.RunTimes.{comes_up_down, not_up}
 use Rattle.wrp_truth.specs.Chains.{good_in, phase_in}
 use Rattle.wrp_truth.specs.Exchanges.{exchange_at}
 use Rattle.wrp_truth.specs.Rates.{HasChain}

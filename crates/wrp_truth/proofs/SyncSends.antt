@@ -17,17 +17,17 @@ use Rattle.wrp_port.specs.declared.line.Line.{Line}
 use Rattle.wrp_port.specs.declared.setting.Setting.{Setting as PortSetting}
 use Rattle.wrp_port.specs.LineAfter.{ticked}
 use Rattle.wrp_port.specs.Messages.{follow_up_of}
-use Rattle.wrp_world.specs.declared.event.Event.{Event}
-use Rattle.wrp_world.specs.declared.event.Event.TheVariants.{Pass, Tick, Sample, Depart, Arrive, Deliver, Noise, Down, Up, Cut, Join}
-use Rattle.wrp_world.specs.declared.place.Place.{Place}
-use Rattle.wrp_world.specs.Given.{Given, given_plain, gives, gives_all, sending, sent_oldest, step_of, taken_of, told_sending, world_step}
-use Rattle.wrp_world.specs.Moved.{moved, waiting_at}
-use Rattle.wrp_world.specs.Run.{Happened, world_after}
-use Rattle.wrp_world.specs.Runs.{IsNetwork, WasPutOut}
-use Rattle.wrp_world.specs.Setting.{Setting, end_of, node_setting_of, link_of, place_of}
-use Rattle.wrp_world.specs.WorldAt.{Sending, WorldAt}
-use Rattle.wrp_world.proofs.RunGiven.{end_is}
-use Rattle.wrp_world.proofs.RunNetwork.{LinkEnd, are_apart, end_with, place_end}
+use Rattle.wrp_course.specs.declared.event.Event.{Event}
+use Rattle.wrp_course.specs.declared.event.Event.TheVariants.{Pass, Tick, Sample, Depart, Arrive, Deliver, Noise, Down, Up, Cut, Join}
+use Rattle.wrp_course.specs.declared.place.Place.{Place}
+use Rattle.wrp_course.specs.Given.{Given, given_plain, gives, gives_all, sending, sent_oldest, step_of, taken_of, told_sending, world_step}
+use Rattle.wrp_course.specs.Moved.{moved, waiting_at}
+use Rattle.wrp_course.specs.Run.{Happened, world_after}
+use Rattle.wrp_course.specs.Runs.{IsNetwork, WasPutOut}
+use Rattle.wrp_course.specs.Setting.{Setting, end_of, node_setting_of, link_of, place_of}
+use Rattle.wrp_course.specs.WorldAt.{Sending, WorldAt}
+use Rattle.wrp_course.proofs.RunGiven.{end_is}
+use Rattle.wrp_course.proofs.RunNetwork.{LinkEnd, are_apart, end_with, place_end}
 use Rattle.wrp_truth.proofs.Inputs.{GivesTo}
 use Rattle.wrp_truth.proofs.PutOut.{given_put, moved_back, none_put}
 use Rattle.wrp_truth.proofs.Sendings.{PutOutIn, WasPut, was_put, is_new}

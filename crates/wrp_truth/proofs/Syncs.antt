@@ -10,19 +10,19 @@ use Rattle.wrp_base.specs.declared.time.Raw.{Raw}
 use Rattle.wrp_base.proofs.Lists.{append_assoc}
 use Rattle.wrp_base.proofs.Naturals.{not_next}
 use Rattle.wrp_frame.specs.declared.fault.FrameFault.{FrameFault}
-use Rattle.wrp_world.specs.declared.event.Event.{Event}
-use Rattle.wrp_world.specs.declared.event.Event.TheVariants.{Depart, Arrive, Deliver}
-use Rattle.wrp_world.specs.declared.place.Place.{Place}
-use Rattle.wrp_world.specs.Checks.{AllHold}
+use Rattle.wrp_course.specs.declared.event.Event.{Event}
+use Rattle.wrp_course.specs.declared.event.Event.TheVariants.{Depart, Arrive, Deliver}
+use Rattle.wrp_course.specs.declared.place.Place.{Place}
+use Rattle.wrp_course.specs.Checks.{AllHold}
 use Rattle.wrp_truth.proofs.TimedQueues.{three_ways}
-use Rattle.wrp_world.specs.Given.{given_by}
-use Rattle.wrp_world.specs.Moved.{arrived, departing, frame_after, moved, removed, samples_at, waiting_at}
-use Rattle.wrp_world.specs.Premises.{Accepts, deliver_by, deliver_checks}
-use Rattle.wrp_world.specs.Run.{AllAccepted, Happened, world_after}
-use Rattle.wrp_world.specs.RunLaws.{FramesHaveTimes}
-use Rattle.wrp_world.specs.Runs.{IsRun}
-use Rattle.wrp_world.specs.Setting.{Setting, is_role, place_of}
-use Rattle.wrp_world.specs.WorldAt.{Arrival, FrameAt, Sending, WorldAt, is_on_fibre}
+use Rattle.wrp_course.specs.Given.{given_by}
+use Rattle.wrp_course.specs.Moved.{arrived, departing, frame_after, moved, removed, samples_at, waiting_at}
+use Rattle.wrp_course.specs.Premises.{Accepts, deliver_by, deliver_checks}
+use Rattle.wrp_course.specs.Run.{AllAccepted, Happened, world_after}
+use Rattle.wrp_course.specs.RunLaws.{FramesHaveTimes}
+use Rattle.wrp_course.specs.Runs.{IsRun}
+use Rattle.wrp_course.specs.Setting.{Setting, is_role, place_of}
+use Rattle.wrp_course.specs.WorldAt.{Arrival, FrameAt, Sending, WorldAt, is_on_fibre}
 use Rattle.wrp_truth.specs.FlightOrder.{FramesFollowTheSource}
 use Rattle.wrp_truth.specs.Leases.{last_renewal, renewal_in}
 use Rattle.wrp_truth.proofs.InOrder.{Numbered, Past, all_numbered, flies, frames_arrive_in_order, frames_depart_in_order, given_frame, on_fibre}

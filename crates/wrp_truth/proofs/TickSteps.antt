@@ -10,16 +10,16 @@ use Rattle.wrp_node.specs.declared.interface.Input.TheVariants.{Tick as TickInpu
 use Rattle.wrp_node.specs.NodeAt.{NodeAt}
 use Rattle.wrp_node.specs.StepLaws.{TicksAreCounted, ticks_by}
 use Rattle.wrp_tracking.specs.Ticks.{TickStep}
-use Rattle.wrp_world.specs.declared.event.Event.{Event}
-use Rattle.wrp_world.specs.declared.event.Event.TheVariants.{Tick, Up}
-use Rattle.wrp_world.specs.Given.{given_plain, taken_of, world_step}
-use Rattle.wrp_world.specs.Run.{Happened, world_after}
-use Rattle.wrp_world.specs.RunLaws.{TicksAreApart}
-use Rattle.wrp_world.specs.Runs.{IsRun}
-use Rattle.wrp_world.specs.Setting.{Setting, node_setting_of}
-use Rattle.wrp_world.specs.WorldAt.{WorldAt}
-use Rattle.wrp_world.proofs.RunHanded.{not_early}
-use Rattle.wrp_world.proofs.RunTimes.{comes_up_down, step_time, not_up}
+use Rattle.wrp_course.specs.declared.event.Event.{Event}
+use Rattle.wrp_course.specs.declared.event.Event.TheVariants.{Tick, Up}
+use Rattle.wrp_course.specs.Given.{given_plain, taken_of, world_step}
+use Rattle.wrp_course.specs.Run.{Happened, world_after}
+use Rattle.wrp_course.specs.RunLaws.{TicksAreApart}
+use Rattle.wrp_course.specs.Runs.{IsRun}
+use Rattle.wrp_course.specs.Setting.{Setting, node_setting_of}
+use Rattle.wrp_course.specs.WorldAt.{WorldAt}
+use Rattle.wrp_course.proofs.RunHanded.{not_early}
+use Rattle.wrp_course.proofs.RunTimes.{comes_up_down, step_time, not_up}
 use Rattle.wrp_truth.specs.Clocks.{TicksStepOnTime}
 use Rattle.wrp_truth.specs.Views.{ticks_at}
 use Rattle.wrp_truth.proofs.Inputs.{node_kept}

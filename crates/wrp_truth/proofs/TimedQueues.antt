@@ -13,19 +13,19 @@ use Rattle.wrp_frame.specs.declared.fault.FrameFault.{FrameFault}
 use Rattle.wrp_node.specs.declared.interface.Input.TheVariants.{Tick as TickInput}
 use Rattle.wrp_node.specs.SetLaws.{EndsAreSet}
 use Rattle.wrp_port.specs.Outputs.{where_due}
-use Rattle.wrp_world.specs.declared.event.Event.{Event}
-use Rattle.wrp_world.specs.declared.event.Event.TheVariants.{Tick, Depart, Arrive, Down, Up, Cut}
-use Rattle.wrp_world.specs.declared.event.Swap.{Swap}
-use Rattle.wrp_world.specs.declared.place.Place.{Place}
-use Rattle.wrp_world.proofs.RunFrames.{with_swap_waiting}
-use Rattle.wrp_world.specs.Given.{Given, given_by, given_plain, gives, gives_all, sending, step_of, taken_of, world_step}
-use Rattle.wrp_world.specs.Moved.{arrived, behind_first, departing, frame_after, is_place, loses, moved, port_number, removed, samples_at, swap_at, waiting_at, with_swap}
-use Rattle.wrp_world.specs.Run.{Happened, world_after}
-use Rattle.wrp_world.specs.RunLaws.{HasTimes}
-use Rattle.wrp_world.specs.Runs.{IsRun, WasPutOut}
-use Rattle.wrp_world.specs.Setting.{Setting, end_at, end_of, node_setting_of, is_of, is_role, link_of, place_of}
-use Rattle.wrp_world.specs.WorldAt.{EndAt, FrameAt, Sending, WorldAt, is_on_fibre}
-use Rattle.wrp_world.proofs.RunFlights.{frames_have_times, times_keep}
+use Rattle.wrp_course.specs.declared.event.Event.{Event}
+use Rattle.wrp_course.specs.declared.event.Event.TheVariants.{Tick, Depart, Arrive, Down, Up, Cut}
+use Rattle.wrp_course.specs.declared.event.Swap.{Swap}
+use Rattle.wrp_course.specs.declared.place.Place.{Place}
+use Rattle.wrp_course.proofs.RunFrames.{with_swap_waiting}
+use Rattle.wrp_course.specs.Given.{Given, given_by, given_plain, gives, gives_all, sending, step_of, taken_of, world_step}
+use Rattle.wrp_course.specs.Moved.{arrived, behind_first, departing, frame_after, is_place, loses, moved, port_number, removed, samples_at, swap_at, waiting_at, with_swap}
+use Rattle.wrp_course.specs.Run.{Happened, world_after}
+use Rattle.wrp_course.specs.RunLaws.{HasTimes}
+use Rattle.wrp_course.specs.Runs.{IsRun, WasPutOut}
+use Rattle.wrp_course.specs.Setting.{Setting, end_at, end_of, node_setting_of, is_of, is_role, link_of, place_of}
+use Rattle.wrp_course.specs.WorldAt.{EndAt, FrameAt, Sending, WorldAt, is_on_fibre}
+use Rattle.wrp_course.proofs.RunFlights.{frames_have_times, times_keep}
 use Rattle.wrp_truth.specs.SequenceIds.{IsTimed}
 use Rattle.wrp_truth.proofs.IdsSent.{NoneSent, Where}
 use Rattle.wrp_truth.proofs.InOrder.{Numbered, all_numbered}

@@ -26,14 +26,14 @@ use Rattle.wrp_port.specs.History.{line_of}
 use Rattle.wrp_port.specs.LineAfter.{announces_on, syncs_on, ticked}
 use Rattle.wrp_port.specs.Messages.{announce_of, signals_of, sync_of}
 use Rattle.wrp_port.specs.Outputs.{scheduled_sends, sends_of, where_due}
-use Rattle.wrp_world.specs.declared.event.Event.{Event}
-use Rattle.wrp_world.specs.declared.event.Event.TheVariants.{Tick}
-use Rattle.wrp_world.specs.Given.{given_plain, sending, step_of, taken_of, world_step}
-use Rattle.wrp_world.specs.Moved.{moved}
-use Rattle.wrp_world.specs.Run.{Happened, world_after}
-use Rattle.wrp_world.specs.Runs.{IsNetwork, WasPutOut}
-use Rattle.wrp_world.specs.Setting.{Setting, end_of, node_setting_of, link_of}
-use Rattle.wrp_world.specs.WorldAt.{Sending, WorldAt}
+use Rattle.wrp_course.specs.declared.event.Event.{Event}
+use Rattle.wrp_course.specs.declared.event.Event.TheVariants.{Tick}
+use Rattle.wrp_course.specs.Given.{given_plain, sending, step_of, taken_of, world_step}
+use Rattle.wrp_course.specs.Moved.{moved}
+use Rattle.wrp_course.specs.Run.{Happened, world_after}
+use Rattle.wrp_course.specs.Runs.{IsNetwork, WasPutOut}
+use Rattle.wrp_course.specs.Setting.{Setting, end_of, node_setting_of, link_of}
+use Rattle.wrp_course.specs.WorldAt.{Sending, WorldAt}
 use Rattle.wrp_truth.specs.SequenceIds.{IsOpenAt, IsTimed}
 use Rattle.wrp_truth.proofs.IdsPutOut.{NewIn, timed_in}
 use Rattle.wrp_truth.proofs.IdsSent.{NoneSent, SentAt, Where, signals_where, step_where, timed_of}

@@ -29,10 +29,10 @@ use Rattle.wrp_tracking.specs.ErrorSum.{TrackFacts, estimate_of}
 use Rattle.wrp_tracking.specs.HopInTrack.{EstimateHolds, HopHolds, HopStands}
 use Rattle.wrp_tracking.specs.Moment.{Moment}
 use Rattle.wrp_tracking.specs.ServoGives.{HasLimits, TrackGives, Tracks}
-use Rattle.wrp_world.specs.Run.{Happened, world_after}
-use Rattle.wrp_world.specs.Runs.{IsNetwork}
-use Rattle.wrp_world.specs.Setting.{Setting, node_setting_of, link_of}
-use Rattle.wrp_world.specs.WorldAt.{WorldAt}
+use Rattle.wrp_course.specs.Run.{Happened, world_after}
+use Rattle.wrp_course.specs.Runs.{IsNetwork}
+use Rattle.wrp_course.specs.Setting.{Setting, node_setting_of, link_of}
+use Rattle.wrp_course.specs.WorldAt.{WorldAt}
 use Rattle.wrp_truth.specs.Bounds.{EstimatesAreNear, TrueRun}
 use Rattle.wrp_truth.specs.Chains.{ChainHasConstant, ChainRuns}
 use Rattle.wrp_truth.specs.Fours.{FourHoldsInTrack, IsReckoned, KeptIsReckoned}

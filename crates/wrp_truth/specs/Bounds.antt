@@ -14,11 +14,11 @@ use Rattle.wrp_node.specs.declared.interface.Output.TheVariants as output
 use Rattle.wrp_node.specs.declared.interface.Report.TheVariants as report
 use Rattle.wrp_node.specs.NodeAt.{est_of, state_of}
 use Rattle.wrp_tracking.specs.Tree.{IsBounded}
-use Rattle.wrp_world.specs.Given.{NodeStepAt}
-use Rattle.wrp_world.specs.Run.{Happened, IsAnswered, steps_at, world_after}
-use Rattle.wrp_world.specs.Runs.{IsRun}
-use Rattle.wrp_world.specs.Setting.{Setting, node_setting_of}
-use Rattle.wrp_world.specs.WorldAt.{WorldAt}
+use Rattle.wrp_course.specs.Given.{NodeStepAt}
+use Rattle.wrp_course.specs.Run.{Happened, IsAnswered, steps_at, world_after}
+use Rattle.wrp_course.specs.Runs.{IsRun}
+use Rattle.wrp_course.specs.Setting.{Setting, node_setting_of}
+use Rattle.wrp_course.specs.WorldAt.{WorldAt}
 use Rattle.wrp_truth.specs.Chains.{AllFit}
 use Rattle.wrp_truth.specs.Fours.{IsNearAnswer}
 use Rattle.wrp_truth.specs.Views.{offsets_at}

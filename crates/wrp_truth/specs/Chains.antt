@@ -6,13 +6,13 @@ use Rattle.wrp_bounds.specs.declared.numbers.HopNumbers.{HopNumbers}
 use Rattle.wrp_node.specs.NodeAt.{servo_at, servo_setting_of}
 use Rattle.wrp_servo.specs.Tags.{heard_tag}
 use Rattle.wrp_tracking.specs.Chain.{ChainHolds, Good}
-use Rattle.wrp_world.specs.declared.event.Event.{Event}
-use Rattle.wrp_world.specs.declared.event.Event.TheVariants.{Sample}
-use Rattle.wrp_world.specs.EventAt.{FitsEvent}
-use Rattle.wrp_world.specs.Run.{Happened, world_after}
-use Rattle.wrp_world.specs.Runs.{IsRun}
-use Rattle.wrp_world.specs.Setting.{Setting, node_setting_of, link_of}
-use Rattle.wrp_world.specs.WorldAt.{WorldAt}
+use Rattle.wrp_course.specs.declared.event.Event.{Event}
+use Rattle.wrp_course.specs.declared.event.Event.TheVariants.{Sample}
+use Rattle.wrp_course.specs.EventAt.{FitsEvent}
+use Rattle.wrp_course.specs.Run.{Happened, world_after}
+use Rattle.wrp_course.specs.Runs.{IsRun}
+use Rattle.wrp_course.specs.Setting.{Setting, node_setting_of, link_of}
+use Rattle.wrp_course.specs.WorldAt.{WorldAt}
 use Rattle.wrp_truth.specs.Leases.{FollowsSource}
 use Rattle.wrp_truth.specs.Moments.{AtEach}
 use Rattle.wrp_truth.specs.Rates.{HasChain}

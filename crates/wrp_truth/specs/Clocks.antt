@@ -3,9 +3,9 @@ use Rattle.std.specs.Prelude.{◌≡◌, ◌<◌, ℕ, true, List, ◌∷◌}
 use Rattle.wrp_base.specs.Network.{node_count}
 use Rattle.wrp_bounds.specs.Times.{longest_tick, shortest_tick}
 use Rattle.wrp_tracking.specs.Ticks.{IsOnTime, TickStep}
-use Rattle.wrp_world.specs.Run.{Happened, world_after}
-use Rattle.wrp_world.specs.Runs.{IsRun}
-use Rattle.wrp_world.specs.Setting.{Setting}
+use Rattle.wrp_course.specs.Run.{Happened, world_after}
+use Rattle.wrp_course.specs.Runs.{IsRun}
+use Rattle.wrp_course.specs.Setting.{Setting}
 use Rattle.wrp_truth.specs.Views.{ticks_at}
 
 -- a node that is up ticked last, or started, no longer ago than its longest tick

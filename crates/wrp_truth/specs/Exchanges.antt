@@ -11,9 +11,9 @@ use Rattle.wrp_exch.specs.DelayPair.{delay_pair}
 use Rattle.wrp_exch.specs.SyncPair.{sync_pair}
 use Rattle.wrp_node.specs.NodeAt.{pieces_at}
 use Rattle.wrp_tracking.specs.DelayPieces.{PairTrue}
-use Rattle.wrp_world.specs.Run.{Happened, world_after}
-use Rattle.wrp_world.specs.Runs.{IsRun}
-use Rattle.wrp_world.specs.Setting.{Setting, link_of}
+use Rattle.wrp_course.specs.Run.{Happened, world_after}
+use Rattle.wrp_course.specs.Runs.{IsRun}
+use Rattle.wrp_course.specs.Setting.{Setting, link_of}
 use Rattle.wrp_truth.specs.Chains.{AllFit, ChainRuns}
 use Rattle.wrp_truth.specs.Views.{moments_of}
 

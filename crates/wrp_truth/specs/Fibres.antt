@@ -3,11 +3,11 @@ use Rattle.std.specs.Prelude.{◌≡◌, ◌≤◌, ◌*◌, ◌^◌, ◌≤ℤ�
 use Rattle.wrp_base.specs.declared.link.Role.TheVariants.{Master, Slave}
 use Rattle.wrp_base.specs.declared.network.LinkCfg.{LinkCfg}
 use Rattle.wrp_bounds.specs.Times.{reach}
-use Rattle.wrp_world.specs.Premises.{asymmetry}
-use Rattle.wrp_world.specs.Run.{Happened, world_after}
-use Rattle.wrp_world.specs.Runs.{IsRun}
-use Rattle.wrp_world.specs.Setting.{Setting, link_of}
-use Rattle.wrp_world.specs.WorldAt.{WorldAt, delay_from}
+use Rattle.wrp_course.specs.Premises.{asymmetry}
+use Rattle.wrp_course.specs.Run.{Happened, world_after}
+use Rattle.wrp_course.specs.Runs.{IsRun}
+use Rattle.wrp_course.specs.Setting.{Setting, link_of}
+use Rattle.wrp_course.specs.WorldAt.{WorldAt, delay_from}
 
 -- a fibre: it takes time both ways, at most the reach with the ports' own, and the way down has its share of both
 pub record IsFibre (s : Setting) (k : ℕ) (link : LinkCfg) (w : WorldAt) : Type 0 where

@@ -11,9 +11,9 @@ use Rattle.wrp_servo.specs.declared.machine.Measurement.{Measurement}
 use Rattle.wrp_servo.specs.Measuring.{delay_of}
 use Rattle.wrp_tracking.specs.ErrorSum.{IsAnswer, IsShare}
 use Rattle.wrp_tracking.specs.HopInTrack.{FourHolds}
-use Rattle.wrp_world.specs.Run.{Happened, IsAnswered, world_after}
-use Rattle.wrp_world.specs.Runs.{IsRun}
-use Rattle.wrp_world.specs.Setting.{Setting, node_setting_of, link_of}
+use Rattle.wrp_course.specs.Run.{Happened, IsAnswered, world_after}
+use Rattle.wrp_course.specs.Runs.{IsRun}
+use Rattle.wrp_course.specs.Setting.{Setting, node_setting_of, link_of}
 use Rattle.wrp_truth.specs.Chains.{AllFit, ChainRuns}
 use Rattle.wrp_truth.specs.Views.{moment_at, moments_of}
 

@@ -6,9 +6,9 @@ use Rattle.wrp_base.specs.Network.{link_above}
 use Rattle.wrp_bounds.specs.Times.{held_time}
 use Rattle.wrp_node.specs.NodeAt.{state_of}
 use Rattle.wrp_tracking.specs.History.{EachStep, IsSlow}
-use Rattle.wrp_world.specs.Run.{Happened, world_after, worlds_of}
-use Rattle.wrp_world.specs.Runs.{IsRun}
-use Rattle.wrp_world.specs.Setting.{Setting, node_setting_of, of_node}
+use Rattle.wrp_course.specs.Run.{Happened, world_after, worlds_of}
+use Rattle.wrp_course.specs.Runs.{IsRun}
+use Rattle.wrp_course.specs.Setting.{Setting, node_setting_of, of_node}
 use Rattle.wrp_truth.specs.Moments.{AtEach}
 
 -- a node is up, and in HOLDOVER

@@ -9,12 +9,12 @@ use Rattle.wrp_bounds.specs.Times.{frame_life, longest_tick}
 use Rattle.wrp_node.specs.NodeAt.{is_fresh_in, link_at, servo_at, setting_of, state_of}
 use Rattle.wrp_port.specs.History.{renews_at}
 use Rattle.wrp_tracking.specs.Tree.{IsSource}
-use Rattle.wrp_world.specs.declared.event.Event.{Event}
-use Rattle.wrp_world.specs.declared.event.Event.TheVariants.{Deliver}
-use Rattle.wrp_world.specs.Run.{Happened, world_after}
-use Rattle.wrp_world.specs.Runs.{IsRun, WasPutOut}
-use Rattle.wrp_world.specs.Setting.{Setting, node_setting_of, is_role, link_of}
-use Rattle.wrp_world.specs.WorldAt.{FrameAt, Sending, WorldAt, has_carrier}
+use Rattle.wrp_course.specs.declared.event.Event.{Event}
+use Rattle.wrp_course.specs.declared.event.Event.TheVariants.{Deliver}
+use Rattle.wrp_course.specs.Run.{Happened, world_after}
+use Rattle.wrp_course.specs.Runs.{IsRun, WasPutOut}
+use Rattle.wrp_course.specs.Setting.{Setting, node_setting_of, is_role, link_of}
+use Rattle.wrp_course.specs.WorldAt.{FrameAt, Sending, WorldAt, has_carrier}
 use Rattle.wrp_truth.specs.Announcing.{IsCertainAnnounce}
 use Rattle.wrp_truth.specs.Moments.{AtEach}
 use Rattle.wrp_truth.specs.Views.{offsets_at}

@@ -1,6 +1,6 @@
 -- Parts of a run: what held after an event, and after each that came since (this project's profile).
 use Rattle.std.specs.Prelude.{List, [], ◌∷◌, ◌++◌}
-use Rattle.wrp_world.specs.Run.{Happened}
+use Rattle.wrp_course.specs.Run.{Happened}
 
 -- it held once the older events had come, and after each of the newer ones
 abbrev pub AtEach : (List Happened → Type 0) → (newer older : List Happened) → Type 0

@@ -7,9 +7,9 @@ use Rattle.wrp_bounds.specs.Bounds.{numbers_of}
 use Rattle.wrp_bounds.specs.declared.numbers.HopNumbers.{HopNumbers}
 use Rattle.wrp_node.specs.NodeAt.{deltas_in}
 use Rattle.wrp_tracking.specs.ErrorSum.{FibreHolds}
-use Rattle.wrp_world.specs.Run.{Happened, world_after}
-use Rattle.wrp_world.specs.Runs.{IsRun}
-use Rattle.wrp_world.specs.Setting.{Setting, link_of}
+use Rattle.wrp_course.specs.Run.{Happened, world_after}
+use Rattle.wrp_course.specs.Runs.{IsRun}
+use Rattle.wrp_course.specs.Setting.{Setting, link_of}
 use Rattle.wrp_truth.specs.Views.{moment_at}
 
 -- each of the four is within the database's error of the true delay, and the fibre between the ports keeps its share

@@ -9,9 +9,9 @@ use Rattle.wrp_tracking.specs.Chain.{PassesSlowly}
 use Rattle.wrp_tracking.specs.History.{IsSlow}
 use Rattle.wrp_tracking.specs.Moment.{MovesSlowly}
 use Rattle.wrp_tracking.specs.Tree.{IsSource}
-use Rattle.wrp_world.specs.Run.{Happened, world_after}
-use Rattle.wrp_world.specs.Runs.{IsRun}
-use Rattle.wrp_world.specs.Setting.{Setting, node_setting_of, link_of, of_node}
+use Rattle.wrp_course.specs.Run.{Happened, world_after}
+use Rattle.wrp_course.specs.Runs.{IsRun}
+use Rattle.wrp_course.specs.Setting.{Setting, node_setting_of, link_of, of_node}
 use Rattle.wrp_truth.specs.Leases.{IsCarried}
 use Rattle.wrp_truth.specs.Views.{moment_at, offsets_at}
 

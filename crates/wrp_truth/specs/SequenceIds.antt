@@ -9,10 +9,10 @@ use Rattle.wrp_base.specs.declared.network.LinkCfg.{LinkCfg}
 use Rattle.wrp_bounds.specs.Times.{shortest_tick}
 use Rattle.wrp_node.specs.NodeAt.{link_at}
 use Rattle.wrp_port.specs.Hearing.{is_open}
-use Rattle.wrp_world.specs.Run.{Happened, world_after}
-use Rattle.wrp_world.specs.Runs.{IsRun, WasPutOut}
-use Rattle.wrp_world.specs.Setting.{Setting, end_of, link_of}
-use Rattle.wrp_world.specs.WorldAt.{Sending}
+use Rattle.wrp_course.specs.Run.{Happened, world_after}
+use Rattle.wrp_course.specs.Runs.{IsRun, WasPutOut}
+use Rattle.wrp_course.specs.Setting.{Setting, end_of, link_of}
+use Rattle.wrp_course.specs.WorldAt.{Sending}
 use Rattle.wrp_truth.specs.Moments.{AtEach}
 
 -- the port at an end of a link takes messages and keeps its schedule

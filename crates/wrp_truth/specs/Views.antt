@@ -6,9 +6,9 @@ use Rattle.wrp_node.specs.NodeAt.{state_of}
 use Rattle.wrp_tracking.specs.Moment.{Moment}
 use Rattle.wrp_tracking.specs.Ticks.{TickMoment}
 use Rattle.wrp_tracking.specs.Tree.{Offsets}
-use Rattle.wrp_world.specs.Run.{Happened, worlds_of}
-use Rattle.wrp_world.specs.Setting.{Setting, node_setting_of}
-use Rattle.wrp_world.specs.WorldAt.{WorldAt, delay_from}
+use Rattle.wrp_course.specs.Run.{Happened, worlds_of}
+use Rattle.wrp_course.specs.Setting.{Setting, node_setting_of}
+use Rattle.wrp_course.specs.WorldAt.{WorldAt, delay_from}
 
 -- how far the clock of each node is ahead of true time, and the state of its servo
 abbrev pub offsets_at : Setting → WorldAt → Offsets

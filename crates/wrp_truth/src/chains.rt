@@ -11,7 +11,7 @@ use wrp_servo::{
     phase_is_sum, track_is_near, track_since,
 };
 use wrp_tracking::chain_is_kept;
-use wrp_world::{
+use wrp_course::{
     frames_were_put_out, link_on_in_the_same_handshake, modules_stay, sample_keeps_beat_pattern,
     ticks_are_apart,
 };

@@ -13,7 +13,7 @@ use wrp_servo::{
 };
 use wrp_stamp::merged_within_tag;
 use wrp_tracking::stamps_tell_constant;
-use wrp_world::{
+use wrp_course::{
     frames_are_stamped, frames_have_times, frames_were_put_out, link_on_in_the_same_handshake,
     modules_stay, ticks_are_apart,
 };

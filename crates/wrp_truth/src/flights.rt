@@ -2,7 +2,7 @@
 ghost use Rattle.wrp_truth.specs.FlightOrder.{FramesArriveInOrder, FramesDepartInOrder};
 ghost use Rattle.wrp_truth.specs.FlightOrder.{FramesFollowTheSource};
 
-use wrp_world::frames_have_times;
+use wrp_course::frames_have_times;
 
 /// Frames depart in the order of their numbers; and those from one end of a link that arrive do so in that
 /// order: one that is overtaken never arrives.

@@ -2,7 +2,7 @@
 ghost use Rattle.wrp_truth.specs.PortDelays.{FibreHoldsWhileOn};
 
 use crate::clocks::fibres_keep_their_share;
-use wrp_world::link_on_in_the_same_handshake;
+use wrp_course::link_on_in_the_same_handshake;
 
 /// While a link is on, each of the four delays of ports by which its slave reckons is within the database's
 /// error of the true delay of the module in place, and the fibre between the ports keeps its share.

@@ -2,7 +2,7 @@
 //! contract is the law.
 ghost use Rattle.wrp_truth.specs.SequenceIds.{IdsComeAgainLate, OneTimedAnEvent};
 
-use wrp_world::ticks_are_apart;
+use wrp_course::ticks_are_apart;
 
 /// An end of a link puts out at most one message in an event whose sending is stamped: a master's Sync, or a
 /// slave's Delay_Req.

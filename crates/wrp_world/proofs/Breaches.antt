@@ -4,11 +4,11 @@ use Rattle.std.proofs.lemmas.Int.{ints, to_z-of_z}
 use Rattle.std.specs.Int.{w64}
 use Rattle.wrp_base.specs.declared.configuration.NetCfg.{NetCfg}
 use Rattle.wrp_base.specs.Network.{IsFromTo}
-use Rattle.wrp_world.specs.declared.checks.Breach.{Breach}
-use Rattle.wrp_world.specs.declared.event.Event.{Event}
-use Rattle.wrp_world.specs.EventAt.{IsEventOf, IsPass}
+use Rattle.wrp_course.specs.declared.breach.Breach.{Breach}
+use Rattle.wrp_course.specs.declared.event.Event.{Event}
+use Rattle.wrp_course.specs.EventAt.{IsEventOf, IsPass}
 use Rattle.wrp_world.specs.StandsFor.{WorldOf}
-use Rattle.wrp_world.specs.Tried.{TellsBreach}
+use Rattle.wrp_world.specs.Step.{TellsBreach}
 
 pub breach_as : {F : Type 0} (post : F → ℤ → ℤ → Type 0) (world : WorldOf F) (breach : Option Breach) (e kind : Event) → e ≡ kind →
     TellsBreach post kind world breach → TellsBreach post e world breach

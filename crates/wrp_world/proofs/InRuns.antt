@@ -1,7 +1,7 @@
 -- Each step of a world adds its event to the run that the world is in.
 use Rattle.std.proofs.Common.{refl, ℤ}
 use Rattle.wrp_world.specs.InRun.{NewIsInRun, StepAddsToRun}
-use Rattle.wrp_world.specs.Run.{world_after}
+use Rattle.wrp_course.specs.Run.{world_after}
 
 pub new_is_in_run : {F : Type 0} (post : F → ℤ → ℤ → Type 0) → NewIsInRun post
 new_is_in_run post cfg db laws world accepted stands = record {

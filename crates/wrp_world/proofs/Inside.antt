@@ -1,11 +1,11 @@
 -- What stands for a state of a world has a plant that does.
 use Rattle.std.proofs.Common.{◌≡◌, sym, ap, subst, ℤ, List}
 use Rattle.wrp_node.specs.StandsFor.{NodeOf}
-use Rattle.wrp_world.specs.declared.plant.Plant.{Plant}
-use Rattle.wrp_world.specs.Plant.{PlantIs}
-use Rattle.wrp_world.specs.Setting.{Setting}
+use Rattle.wrp_plant.specs.declared.plant.Plant.{Plant}
+use Rattle.wrp_plant.specs.Plant.{PlantIs}
+use Rattle.wrp_course.specs.Setting.{Setting}
 use Rattle.wrp_world.specs.StandsFor.{WorldOf, StandsFor}
-use Rattle.wrp_world.specs.WorldAt.{WorldAt}
+use Rattle.wrp_course.specs.WorldAt.{WorldAt}
 
 abbrev pub world_of : {F : Type 0} → Plant → List (NodeOf F) → WorldOf F
 world_of plant nodes = record { plant = plant; nodes = nodes }

@@ -5,9 +5,9 @@ use Rattle.wrp_base.specs.Network.{node_count}
 use Rattle.wrp_caldb.specs.Database.{Database}
 use Rattle.wrp_law.specs.Law.{LawOf}
 use Rattle.wrp_world.specs.New.{IsNewNode, setting_of}
-use Rattle.wrp_world.specs.Plant.{Each, FitsPlant, PlantIs}
+use Rattle.wrp_plant.specs.Plant.{Each, FitsPlant, PlantIs}
 use Rattle.wrp_world.specs.StandsFor.{IsValid, StandsFor, WorldOf}
-use Rattle.wrp_world.specs.WorldAt.{new_world}
+use Rattle.wrp_course.specs.WorldAt.{new_world}
 
 -- what the code made of a network and of laws
 pub record IsNewWorld {F : Type 0} (pre : F → ℤ → Type 0) (post : F → ℤ → ℤ → Type 0) (cfg : NetCfg) (db : Database) (laws : List (Option (LawOf F))) (world : WorldOf F) : Type 0 where

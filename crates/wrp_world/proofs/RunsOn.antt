@@ -3,14 +3,14 @@ use Rattle.std.proofs.Common.{subst, ℤ, List, ◌∷◌, Result}
 use Rattle.wrp_base.specs.declared.configuration.NetCfg.{NetCfg}
 use Rattle.wrp_base.specs.declared.message.PtpMsg.{PtpMsg}
 use Rattle.wrp_frame.specs.declared.fault.FrameFault.{FrameFault}
-use Rattle.wrp_world.specs.declared.event.Event.{Event}
-use Rattle.wrp_world.specs.declared.outcome.NodeOut.{NodeOut}
-use Rattle.wrp_world.specs.Earned.{LinkOnIsEarned}
-use Rattle.wrp_world.specs.EventAt.{IsEventOf}
+use Rattle.wrp_course.specs.declared.event.Event.{Event}
+use Rattle.wrp_course.specs.declared.node_out.NodeOut.{NodeOut}
+use Rattle.wrp_course.specs.Earned.{LinkOnIsEarned}
+use Rattle.wrp_course.specs.EventAt.{IsEventOf}
 use Rattle.wrp_world.specs.InRun.{InRun}
-use Rattle.wrp_world.specs.Run.{Happened}
+use Rattle.wrp_course.specs.Run.{Happened}
 use Rattle.wrp_world.specs.RunsOn.{GoesOn, RunsOn}
-use Rattle.wrp_world.specs.Setting.{Setting}
+use Rattle.wrp_course.specs.Setting.{Setting}
 use Rattle.wrp_world.specs.StandsFor.{WorldOf}
 use Rattle.wrp_world.specs.Step.{MayCome, Stepped}
 use Rattle.wrp_world.proofs.InRuns.{step_adds_to_run}

@@ -15,33 +15,33 @@ use Rattle.wrp_frame.specs.declared.fault.FrameFault.{FrameFault}
 use Rattle.wrp_node.specs.declared.interface.Input.TheVariants.{Carrier}
 use Rattle.wrp_node.specs.NodeAt.{numbers_of}
 use Rattle.wrp_node.specs.StandsFor.{NodeOf}
-use Rattle.wrp_world.specs.Begins.{ListsGifts, MovesBy, StaysAsWas}
-use Rattle.wrp_world.specs.Changes.{MayStepAfter}
-use Rattle.wrp_world.specs.Checks.{Check, breach_of, first_broken, told_of}
-use Rattle.wrp_world.specs.declared.checks.Breach.{Breach}
-use Rattle.wrp_world.specs.declared.event.Event.{Event}
-use Rattle.wrp_world.specs.declared.event.Event.TheVariants.{Pass, Tick, Sample, Depart, Arrive, Deliver, Noise, Down, Up, Cut, Join}
-use Rattle.wrp_world.specs.declared.outcome.NodeOut.{NodeOut}
-use Rattle.wrp_world.specs.declared.place.Place.{Place}
-use Rattle.wrp_world.specs.declared.plant.Plant.{Plant}
+use Rattle.wrp_plant.specs.Begins.{ListsGifts, MovesBy, StaysAsWas}
+use Rattle.wrp_plant.specs.Changes.{MayStepAfter}
+use Rattle.wrp_course.specs.Checks.{Check, breach_of, first_broken, told_of}
+use Rattle.wrp_course.specs.declared.breach.Breach.{Breach}
+use Rattle.wrp_course.specs.declared.event.Event.{Event}
+use Rattle.wrp_course.specs.declared.event.Event.TheVariants.{Pass, Tick, Sample, Depart, Arrive, Deliver, Noise, Down, Up, Cut, Join}
+use Rattle.wrp_course.specs.declared.node_out.NodeOut.{NodeOut}
+use Rattle.wrp_course.specs.declared.place.Place.{Place}
+use Rattle.wrp_plant.specs.declared.plant.Plant.{Plant}
 use Rattle.wrp_world.specs.declared.outcome.Refused.{Refused}
 use Rattle.wrp_world.specs.declared.outcome.Refused.TheVariants.{Broken, Memory}
-use Rattle.wrp_world.specs.Gifts.{AreGifts, GiftIs}
-use Rattle.wrp_world.specs.Given.{Given, comes_at, comes_from, delivered, delivered_by, delivered_to, given_by, given_plain, goes_at, goes_from, if_carried, sent_oldest, told_sending}
-use Rattle.wrp_world.specs.Moved.{moved, waiting_at}
-use Rattle.wrp_world.specs.Plant.{Each, FitsPlant}
-use Rattle.wrp_world.specs.PlantTold.{NoneStepped}
-use Rattle.wrp_world.specs.Premises.{Accepts, checks_of}
-use Rattle.wrp_world.specs.Run.{IsSaid}
-use Rattle.wrp_world.specs.Setting.{Setting, end_at, entry_at, place_of}
+use Rattle.wrp_plant.specs.Gifts.{AreGifts, GiftIs}
+use Rattle.wrp_course.specs.Given.{Given, comes_at, comes_from, delivered, delivered_by, delivered_to, given_by, given_plain, goes_at, goes_from, if_carried, sent_oldest, told_sending}
+use Rattle.wrp_course.specs.Moved.{moved, waiting_at}
+use Rattle.wrp_plant.specs.Plant.{Each, FitsPlant}
+use Rattle.wrp_plant.specs.PlantTold.{NoneStepped}
+use Rattle.wrp_course.specs.Premises.{Accepts, checks_of}
+use Rattle.wrp_course.specs.Run.{IsSaid}
+use Rattle.wrp_course.specs.Setting.{Setting, end_at, entry_at, place_of}
 use Rattle.wrp_world.specs.StandsFor.{IsValid, NodeIs, StandsFor, WorldOf}
 use Rattle.wrp_world.specs.Step.{IsRefusal, StaysSo, Stepped}
 use Rattle.wrp_world.specs.Taking.{Asks, FirstAsks, GaveAll, HasTicks, is_plain}
-use Rattle.wrp_world.specs.Tried.{TellsBreach}
-use Rattle.wrp_world.specs.WorldAt.{Arrival, FrameAt, Sending, WorldAt, has_carrier}
+use Rattle.wrp_world.specs.Step.{TellsBreach}
+use Rattle.wrp_course.specs.WorldAt.{Arrival, FrameAt, Sending, WorldAt, has_carrier}
 use Rattle.wrp_world.proofs.AllTake.{plain_asks}
 use Rattle.wrp_world.proofs.Inside.{world_of}
-use Rattle.wrp_world.proofs.Unbroken.{accepted_is_unbroken, none_is}
+use Rattle.wrp_course.proofs.Unbroken.{accepted_is_unbroken, none_is}
 
 -- No check is the first that fails
 
@@ -252,10 +252,6 @@ stays_valid {F} pre post old plant h f n e v = record {
 pub none_left : {A : Type 0} (o : Option A) → ((x : A) → o ≢ Some x) → o ≡ None
 none_left None h = refl
 none_left (Some x) h = absurd (h x refl)
-
-pub on_err : {A E P : Type 0} (r : Result A E) → P → OnErr r P
-on_err (Ok x) p = tt
-on_err (Err e) p = p
 
 pub breach_refused : {F : Type 0} (post : F → ℤ → ℤ → Type 0) (e : Event) (world : WorldOf F) (breach : Breach) (o : Option Breach) (r : Refused) → TellsBreach post e world o → o ≡ Some breach →
     r ≡ Broken breach.premise breach.shown breach.bound → IsRefusal post e world r

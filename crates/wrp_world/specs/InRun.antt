@@ -6,16 +6,16 @@ use Rattle.wrp_caldb.specs.Database.{Database}
 use Rattle.wrp_config.specs.Accepted.{IsAccepted}
 use Rattle.wrp_frame.specs.declared.fault.FrameFault.{FrameFault}
 use Rattle.wrp_law.specs.Law.{LawOf}
-use Rattle.wrp_world.specs.declared.event.Event.{Event}
-use Rattle.wrp_world.specs.declared.outcome.NodeOut.{NodeOut}
-use Rattle.wrp_world.specs.EventAt.{IsEventOf}
+use Rattle.wrp_course.specs.declared.event.Event.{Event}
+use Rattle.wrp_course.specs.declared.node_out.NodeOut.{NodeOut}
+use Rattle.wrp_course.specs.EventAt.{IsEventOf}
 use Rattle.wrp_world.specs.New.{setting_of}
-use Rattle.wrp_world.specs.Run.{Happened, world_after}
-use Rattle.wrp_world.specs.Runs.{IsRun}
-use Rattle.wrp_world.specs.Setting.{Setting}
+use Rattle.wrp_course.specs.Run.{Happened, world_after}
+use Rattle.wrp_course.specs.Runs.{IsRun}
+use Rattle.wrp_course.specs.Setting.{Setting}
 use Rattle.wrp_world.specs.StandsFor.{StandsFor, WorldOf}
 use Rattle.wrp_world.specs.Step.{Steps}
-use Rattle.wrp_world.specs.WorldAt.{new_world}
+use Rattle.wrp_course.specs.WorldAt.{new_world}
 
 -- the world stands for what these events, a run of its network, make of the first world
 pub record InRun {F : Type 0} (post : F → ℤ → ℤ → Type 0) (s : Setting) (events : List Happened) (world : WorldOf F) : Type 0 where

@@ -1,4 +1,4 @@
--- A world before any event, as the code makes it: its setting, its clocks, its ends and its nodes (this project's profile).
+-- A world before any event: its setting, and its nodes with their laws (this project's profile).
 use Rattle.std.specs.Prelude.{◌≡◌, ◌≤◌, ℕ, ℤ, pos, false, List, [], Option, Some, IfSome, slice_get, option_and_then}
 use Rattle.std.specs.Option.{is_some, option_map_or}
 use Rattle.wrp_base.specs.declared.configuration.NetCfg.{NetCfg}
@@ -13,10 +13,10 @@ use Rattle.wrp_node.specs.New.{low_of, high_of, node_setting_of}
 use Rattle.wrp_node.specs.Node.{IsValid as NodeIsValid}
 use Rattle.wrp_node.specs.Set.{set_of}
 use Rattle.wrp_node.specs.StandsFor.{NodeOf, StandsFor as NodeStandsFor}
-use Rattle.wrp_world.specs.declared.clocks.ClockState.{ClockState}
-use Rattle.wrp_world.specs.declared.ends.EndState.{EndState}
-use Rattle.wrp_world.specs.declared.ends.Span.{Span}
-use Rattle.wrp_world.specs.Setting.{Setting}
+use Rattle.wrp_course.specs.declared.clocks.ClockState.{ClockState}
+use Rattle.wrp_plant.specs.declared.ends.EndState.{EndState}
+use Rattle.wrp_plant.specs.declared.ends.Span.{Span}
+use Rattle.wrp_course.specs.Setting.{Setting}
 
 -- the law of a node, if it has one
 abbrev pub law_at : {F : Type 0} → List (Option (LawOf F)) → ℕ → Option (LawOf F)
@@ -39,27 +39,6 @@ pub record FitsLaw {F : Type 0} (pre : F → ℤ → Type 0) (post : F → ℤ �
   pub fact : IfSome law (KeepsFact pre post)
   pub kind : (link : LinkCfg) → link_above cfg n ≡ Some link → IfSome law (λ l. l.kind ≡ Linear link.kappa)
   pub err : (link : LinkCfg) → link_above cfg n ≡ Some link → IfSome law (λ l. l.err ≤ link.law_err)
-
--- a clock before any event
-abbrev pub new_clock : ℤ → ClockState
-new_clock start = record { up = false; off = pos 0; ticked = start; samples = 0 }
-
--- an end before any event, with this module in place
-pub record IsNewEnd (name : List ℕ) (entry : Option Module) (end : EndState) : Type 0 where
-  pub name_is : end.name.bytes ≡ name
-  pub tx : end.tx ≡ option_map_or (λ m. m.tx) entry 0
-  pub rx : end.rx ≡ option_map_or (λ m. m.rx) entry 0
-  pub waiting : end.waiting.items ≡ []
-  pub marks : end.marks.items ≡ []
-
--- a link before any event
-pub record IsNewSpan (db : Database) (link : LinkCfg) (span : Span) : Type 0 where
-  pub fibre : span.fibre ≡ record { joined = false; ms = pos 0; sm = pos 0 }
-  pub master : IsNewEnd link.upper_module.bytes (module_at db link.upper_module.bytes link.down_nm link.up_nm) span.master
-  pub slave : IsNewEnd link.lower_module.bytes (module_at db link.lower_module.bytes link.up_nm link.down_nm) span.slave
-
-abbrev pub IsSpanOf : Database → List LinkCfg → ℕ → Span → Type 0
-IsSpanOf db links k span = (link : LinkCfg) → slice_get links k ≡ Some link → IsNewSpan db link span
 
 -- a node before any input
 pub record IsNewNode {F : Type 0} (pre : F → ℤ → Type 0) (post : F → ℤ → ℤ → Type 0) (cfg : NetCfg) (laws : List (Option (LawOf F))) (n : ℕ) (node : NodeOf F) : Type 0 where

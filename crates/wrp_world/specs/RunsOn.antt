@@ -2,11 +2,11 @@
 use Rattle.std.specs.Prelude.{ℤ, List, ◌∷◌, Result}
 use Rattle.wrp_base.specs.declared.message.PtpMsg.{PtpMsg}
 use Rattle.wrp_frame.specs.declared.fault.FrameFault.{FrameFault}
-use Rattle.wrp_world.specs.declared.event.Event.{Event}
-use Rattle.wrp_world.specs.Earned.{AllHaveEarned}
+use Rattle.wrp_course.specs.declared.event.Event.{Event}
+use Rattle.wrp_course.specs.Earned.{AllHaveEarned}
 use Rattle.wrp_world.specs.InRun.{InRun}
-use Rattle.wrp_world.specs.Run.{Happened, world_after}
-use Rattle.wrp_world.specs.Setting.{Setting}
+use Rattle.wrp_course.specs.Run.{Happened, world_after}
+use Rattle.wrp_course.specs.Setting.{Setting}
 use Rattle.wrp_world.specs.StandsFor.{WorldOf}
 
 -- the run goes on with this event, the world is in it, and each port in WR_LINK_ON has earned it: its peer went through the

@@ -7,11 +7,11 @@ use Rattle.wrp_node.specs.Node.{IsValid as NodeIsValid}
 use Rattle.wrp_node.specs.NodeRun.{node_after}
 use Rattle.wrp_node.specs.Set.{set_of}
 use Rattle.wrp_node.specs.StandsFor.{NodeOf, StandsFor as NodeStandsFor}
-use Rattle.wrp_world.specs.declared.plant.Plant.{Plant}
-use Rattle.wrp_world.specs.Plant.{Each, FitsPlant, PlantIs}
-use Rattle.wrp_world.specs.Setting.{Setting, node_setting_of, place_of}
-use Rattle.wrp_world.specs.Views.{history_of}
-use Rattle.wrp_world.specs.WorldAt.{WorldAt}
+use Rattle.wrp_plant.specs.declared.plant.Plant.{Plant}
+use Rattle.wrp_plant.specs.Plant.{Each, FitsPlant, PlantIs}
+use Rattle.wrp_course.specs.Setting.{Setting, node_setting_of, place_of}
+use Rattle.wrp_course.specs.Views.{history_of}
+use Rattle.wrp_course.specs.WorldAt.{WorldAt}
 
 -- what a world is seen as: its nodes, and all the rest
 pub record WorldOf (F : Type 0) : Type 0 where

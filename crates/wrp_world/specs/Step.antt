@@ -1,19 +1,20 @@
 -- What a step of a world answers, and what it makes of the world (this project's profile).
-use Rattle.std.specs.Prelude.{◌≡◌, ◌<◌, ◌+◌, ◌^◌, ℤ, List, map, Some, Result}
+use Rattle.std.specs.Prelude.{◌≡◌, ◌<◌, ◌+◌, ◌^◌, ℤ, List, map, Some, Result, Option}
 use Rattle.wrp_base.specs.declared.message.PtpMsg.{PtpMsg}
 use Rattle.wrp_frame.specs.declared.fault.FrameFault.{FrameFault}
-use Rattle.wrp_world.specs.declared.event.Event.{Event}
-use Rattle.wrp_world.specs.declared.outcome.NodeOut.{NodeOut}
+use Rattle.wrp_course.specs.declared.event.Event.{Event}
+use Rattle.wrp_course.specs.declared.node_out.NodeOut.{NodeOut}
 use Rattle.wrp_world.specs.declared.outcome.Refused.{Refused}
 use Rattle.wrp_world.specs.declared.outcome.Refused.TheVariants.{Broken, Memory}
-use Rattle.wrp_world.specs.Checks.{told_of}
-use Rattle.wrp_world.specs.EventAt.{IsEventOf}
-use Rattle.wrp_world.specs.Given.{NodeStepAt, world_step, event_steps}
-use Rattle.wrp_world.specs.Premises.{Accepts, checks_of}
-use Rattle.wrp_world.specs.Run.{IsSaid}
-use Rattle.wrp_world.specs.Setting.{Setting}
+use Rattle.wrp_course.specs.Checks.{told_of}
+use Rattle.wrp_course.specs.EventAt.{IsEventOf}
+use Rattle.wrp_course.specs.Given.{NodeStepAt, world_step, event_steps}
+use Rattle.wrp_course.specs.Premises.{Accepts, checks_of}
+use Rattle.wrp_course.specs.Run.{IsSaid}
+use Rattle.wrp_course.specs.Setting.{Setting}
 use Rattle.wrp_world.specs.StandsFor.{StandsFor, WorldOf}
-use Rattle.wrp_world.specs.WorldAt.{WorldAt}
+use Rattle.wrp_course.specs.WorldAt.{WorldAt}
+use Rattle.wrp_course.specs.declared.breach.Breach.{Breach}
 
 -- an event that can come: it is one of the network, and it can still be counted
 pub record MayCome {F : Type 0} (world : WorldOf F) (e : Event) : Type 0 where
@@ -48,3 +49,11 @@ IsRefusal post e world (Memory fault) =
 -- the world stands for whatever it stood for
 abbrev pub StaysSo : {F : Type 0} → (F → ℤ → ℤ → Type 0) → (old new : WorldOf F) → Type 0
 StaysSo post old new = (s : Setting) (w : WorldAt) → StandsFor post s w old → StandsFor post s w new
+
+-- what is told of an event: of each state that the world stands for, the first check that fails
+abbrev pub TellsBreach :
+    {F : Type 0} → (F → ℤ → ℤ → Type 0) → Event → WorldOf F → Option Breach → Type 0
+TellsBreach post e world breach =
+    (says : Result PtpMsg FrameFault) × IsSaid e says
+    × ((s : Setting) (w : WorldAt) → StandsFor post s w world
+    → breach ≡ told_of (checks_of s w says e))

@@ -13,16 +13,16 @@ use Rattle.wrp_node.specs.Parts.{is_among}
 use Rattle.wrp_node.specs.StandsFor.{NodeOf}
 use Rattle.wrp_node.specs.States.{state_at, state_in}
 use Rattle.wrp_node.specs.StepLaws.{is_frame}
-use Rattle.wrp_world.specs.declared.outcome.NodeOut.{NodeOut}
-use Rattle.wrp_world.specs.declared.plant.told.News.{News}
-use Rattle.wrp_world.specs.Gifts.{GiftIs, IsRead}
-use Rattle.wrp_world.specs.Given.{Given, gives, gives_all, mover_of, node_step_of, steps_of}
-use Rattle.wrp_world.specs.Plant.{Each}
-use Rattle.wrp_world.specs.PlantTold.{NoneStepped}
-use Rattle.wrp_world.specs.Setting.{Setting}
+use Rattle.wrp_course.specs.declared.node_out.NodeOut.{NodeOut}
+use Rattle.wrp_plant.specs.declared.plant.told.News.{News}
+use Rattle.wrp_plant.specs.Gifts.{GiftIs, IsRead}
+use Rattle.wrp_course.specs.Given.{Given, gives, gives_all, mover_of, node_step_of, steps_of}
+use Rattle.wrp_plant.specs.Plant.{Each}
+use Rattle.wrp_plant.specs.PlantTold.{NoneStepped}
+use Rattle.wrp_course.specs.Setting.{Setting}
 use Rattle.wrp_world.specs.StandsFor.{StandsFor, WorldOf}
 use Rattle.wrp_world.specs.Step.{step_seen}
-use Rattle.wrp_world.specs.WorldAt.{WorldAt}
+use Rattle.wrp_course.specs.WorldAt.{WorldAt}
 
 -- What inputs ask of a world
 

@@ -4,18 +4,6 @@ ghost use Rattle.wrp_world.specs.declared.outcome.Refused.TheVariants.{Memory};
 
 use std::alloc::AllocError;
 use wrp_base::Tau;
-use wrp_node::{Input, Outputs};
-
-/// A step of a node: what it was given, and what it put out.
-#[derive(Debug, Drop)]
-pub struct NodeOut {
-    /// The node.
-    pub node: u8,
-    /// What it was given.
-    pub input: Input,
-    /// What it put out, in order; at most 96.
-    pub outs: Outputs,
-}
 
 /// Why an event was refused: the world is as it was.
 #[derive(Debug, Drop, PartialEq, Eq)]

@@ -6,10 +6,10 @@ mod rates;
 mod step;
 mod views;
 
-use crate::NodeOut;
-use crate::plant::Plant;
 use std::marker::Model;
+use wrp_course::NodeOut;
 use wrp_node::Node;
+use wrp_plant::Plant;
 
 /// A network of nodes over true time: what it is after a list of accepted events is the run of the
 /// world (`StandsFor`).

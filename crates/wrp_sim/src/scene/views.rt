@@ -2,7 +2,7 @@
 ghost use Rattle.std.specs.Prelude.{◌≡◌, ◌≤◌, ◌<◌, ◌^◌, length, unsigned_abs};
 ghost use Rattle.wrp_base.specs.Network.{HasRanges, IsFromTo};
 ghost use Rattle.wrp_sim.specs.Scenario.{IsSceneOf, IsOffset, IsFree, delta_ms, delta_sm, kappa_of, ms_of, sm_of, sum_of, offset_of, free_of};
-ghost use Rattle.wrp_world.specs.EventAt.{link_count};
+ghost use Rattle.wrp_course.specs.EventAt.{link_count};
 
 use super::Scene;
 use super::fault::Fault;

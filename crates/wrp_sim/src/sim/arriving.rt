@@ -3,14 +3,14 @@ ghost use Rattle.std.specs.Prelude.{◌≡◌, ◌<◌, length, option_map, Some
 ghost use Rattle.wrp_base.specs.declared.configuration.NetCfg.{NetCfg};
 ghost use Rattle.wrp_sim.specs.Departures.{across, raw_across};
 ghost use Rattle.wrp_sim.specs.Draws.{next_state};
-ghost use Rattle.wrp_world.specs.Setting.{place_of};
+ghost use Rattle.wrp_course.specs.Setting.{place_of};
 ghost use Rattle.wrp_sim.specs.Numbers as number;
 ghost use Rattle.wrp_sim.specs.Rules as rule;
 ghost use Rattle.wrp_sim.specs.Sim.{FitsSim, Follows, Gave, SimIs, StaysFit, as_is};
 ghost use Rattle.wrp_sim.specs.SimAt.{SimAt};
-ghost use Rattle.wrp_world.specs.Setting.{Setting};
+ghost use Rattle.wrp_course.specs.Setting.{Setting};
 ghost use Rattle.wrp_world.specs.StandsFor.{IsValid, StandsFor, Tells};
-ghost use Rattle.wrp_world.specs.WorldAt.{WorldAt};
+ghost use Rattle.wrp_course.specs.WorldAt.{WorldAt};
 
 use super::asking::{link_cfg, reading, time};
 use super::modules::{LinkEnd, end_across, entry, node_of, transition_of};

@@ -5,11 +5,11 @@ ghost use Rattle.std.specs.Option.{is_some};
 ghost use Rattle.wrp_base.specs.Network.{link_above};
 ghost use Rattle.wrp_servo.specs.Sampling.{is_holdover};
 ghost use Rattle.wrp_node.specs.NodeAt.{dac_of};
-ghost use Rattle.wrp_world.specs.Premises.{rate_of};
-ghost use Rattle.wrp_world.specs.Setting.{above, node_setting_of};
+ghost use Rattle.wrp_course.specs.Premises.{rate_of};
+ghost use Rattle.wrp_course.specs.Setting.{above, node_setting_of};
 ghost use Rattle.wrp_world.specs.StandsFor.{IsValid, Tells, off_of, time_of};
-ghost use Rattle.wrp_world.specs.WorldAt.{has_carrier, reading};
-ghost use Rattle.wrp_world.specs.Tried.{kept_rate, steered_rate};
+ghost use Rattle.wrp_course.specs.WorldAt.{has_carrier, reading};
+ghost use Rattle.wrp_plant.specs.Tried.{kept_rate, steered_rate};
 
 use wrp_base::{LinkCfg, NetCfg, NodeCfg, ServoState, Tau, difference, sum};
 use wrp_config::link_above;

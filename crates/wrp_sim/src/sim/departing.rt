@@ -9,11 +9,11 @@ ghost use Rattle.wrp_sim.specs.Numbers as number;
 ghost use Rattle.wrp_sim.specs.Rules as rule;
 ghost use Rattle.wrp_sim.specs.Sim.{FitsSim, Follows, Gave, SimIs, StaysFit, as_is};
 ghost use Rattle.wrp_sim.specs.Departures.{IsDeparture, IsReadable, departs_by, departure_by, departure_from};
-ghost use Rattle.wrp_world.specs.Views.{waiting_of};
+ghost use Rattle.wrp_course.specs.Views.{waiting_of};
 ghost use Rattle.wrp_sim.specs.SimAt.{SimAt};
-ghost use Rattle.wrp_world.specs.Setting.{Setting, from_on};
+ghost use Rattle.wrp_course.specs.Setting.{Setting, from_on};
 ghost use Rattle.wrp_world.specs.StandsFor.{IsValid, StandsFor, Tells};
-ghost use Rattle.wrp_world.specs.WorldAt.{WorldAt};
+ghost use Rattle.wrp_course.specs.WorldAt.{WorldAt};
 
 use super::asking::{node_cfg, node_count, reading, time};
 use super::pure::{is_at, is_within, stamp_at, thousands};

@@ -2,8 +2,8 @@
 ghost use Rattle.std.specs.Prelude.{◌≡◌, ◌<◌, length, option_map, IfSome};
 ghost use Rattle.wrp_config.specs.Names as names;
 ghost use Rattle.wrp_sim.specs.Rules.{first_entry};
-ghost use Rattle.wrp_world.specs.Premises.{transition_of};
-ghost use Rattle.wrp_world.specs.Setting.{end_of, place_among};
+ghost use Rattle.wrp_course.specs.Premises.{transition_of};
+ghost use Rattle.wrp_course.specs.Setting.{end_of, place_among};
 ghost use Rattle.wrp_world.specs.StandsFor.{IsValid, Tells};
 ghost use Rattle.wrp_sim.specs.Departures.{across, named_entry};
 

@@ -6,9 +6,9 @@ ghost use Rattle.wrp_sim.specs.Rules as rule;
 ghost use Rattle.wrp_sim.specs.Scenario.{IsFree, free_of};
 ghost use Rattle.wrp_sim.specs.Sim.{FitsSim, Follows, SimIs, StaysFit, as_is};
 ghost use Rattle.wrp_sim.specs.SimAt.{SimAt};
-ghost use Rattle.wrp_world.specs.Setting.{Setting, from_on, nodes_of};
+ghost use Rattle.wrp_course.specs.Setting.{Setting, from_on, nodes_of};
 ghost use Rattle.wrp_world.specs.StandsFor.{IsValid, StandsFor, Tells};
-ghost use Rattle.wrp_world.specs.WorldAt.{WorldAt};
+ghost use Rattle.wrp_course.specs.WorldAt.{WorldAt};
 
 use super::asking::{dac, node_count, rate, time};
 use super::pure::{drift_at, held_to, is_by, own_rate, start};

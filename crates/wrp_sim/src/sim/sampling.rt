@@ -7,9 +7,9 @@ ghost use Rattle.wrp_sim.specs.Draws as draw;
 ghost use Rattle.wrp_sim.specs.Rules as rule;
 ghost use Rattle.wrp_sim.specs.Sim.{FitsSim, Follows, Gave, SimIs, StaysFit, as_is};
 ghost use Rattle.wrp_sim.specs.SimAt.{SimAt};
-ghost use Rattle.wrp_world.specs.Setting.{Setting, link_of};
+ghost use Rattle.wrp_course.specs.Setting.{Setting, link_of};
 ghost use Rattle.wrp_world.specs.StandsFor.{IsValid, StandsFor, Tells};
-ghost use Rattle.wrp_world.specs.WorldAt.{WorldAt};
+ghost use Rattle.wrp_course.specs.WorldAt.{WorldAt};
 
 use super::asking::{above, apart, has_carrier, link_cfg, node_cfg};
 use super::modules::entry;

@@ -5,9 +5,9 @@ ghost use Rattle.std.specs.Ordering.{int_eq};
 ghost use Rattle.wrp_sim.specs.Rules as rule;
 ghost use Rattle.wrp_sim.specs.Sim.{FitsSim, Follows, SimIs, StaysFit, as_is};
 ghost use Rattle.wrp_sim.specs.SimAt.{SimAt};
-ghost use Rattle.wrp_world.specs.Setting.{Setting, nodes_of};
+ghost use Rattle.wrp_course.specs.Setting.{Setting, nodes_of};
 ghost use Rattle.wrp_world.specs.StandsFor.{IsValid, StandsFor};
-ghost use Rattle.wrp_world.specs.WorldAt.{WorldAt};
+ghost use Rattle.wrp_course.specs.WorldAt.{WorldAt};
 
 use super::asking::{node_count, time};
 use super::pure::is_at;

@@ -5,7 +5,7 @@ ghost use Rattle.wrp_base.specs.Network.{node_count};
 ghost use Rattle.wrp_trace.specs.Changes.{nothing_said, change_in, move_in, is_said, said_once, with_drift, with_move, drift_said, move_said, change_said, changes_said, said_count, all_drifts, all_moves, said_of, outcome, reading};
 ghost use Rattle.wrp_trace.specs.EventAt.{IsSaid};
 ghost use Rattle.wrp_fields.specs.Reading.{field_of};
-ghost use Rattle.wrp_world.specs.EventAt.{link_count, IsChange, IsMove};
+ghost use Rattle.wrp_course.specs.EventAt.{link_count, IsChange, IsMove};
 
 use super::names::parts_at;
 use arrayvec::ArrayVec;

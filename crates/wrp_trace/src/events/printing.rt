@@ -9,14 +9,14 @@ ghost use Rattle.wrp_config.specs.Accepted.{IsAccepted};
 ghost use Rattle.wrp_trace.specs.EventPrinting.{link_text, drift_words, drift_piece, drift_texts, move_words, move_piece, move_texts, swap_text, pass_texts, raw_texts, event_texts, event_text, further};
 ghost use Rattle.wrp_trace.specs.Events.{event_read, plain};
 ghost use Rattle.wrp_trace.specs.Printing.{bits_text, joined};
-ghost use Rattle.wrp_world.specs.EventAt.{link_count, IsEventOf, FitsEvent};
+ghost use Rattle.wrp_course.specs.EventAt.{link_count, IsEventOf, FitsEvent};
 
 use super::swaps::Swaps;
 use crate::printing::{bits_text, octets_of, octets_text};
 use std::alloc::{AllocError, Global};
 use wrp_base::{Frame, LinkCfg, NetCfg, NodeCfg, Raw, Tau};
 use wrp_config::Network;
-use wrp_world::{Event, Swap};
+use wrp_course::{Event, Swap};
 
 /// The line of an event, without LF.
 pub fn event_line(alloc: Global, e: &Event, net: &Network) -> Result<Vec<u8>, AllocError>

@@ -4,14 +4,14 @@ ghost use Rattle.std.specs.List.{list_any};
 ghost use Rattle.csv.specs.Records.{fields_of};
 ghost use Rattle.wrp_caldb.specs.Name.{is_name};
 ghost use Rattle.wrp_trace.specs.Swaps.{new_port, own_port, module_name, true_delay, swap_at_port, swap_said, swaps_said, name_read, swap_read, swaps_read};
-ghost use Rattle.wrp_world.specs.EventAt.{IsSwap, AreSwaps};
+ghost use Rattle.wrp_course.specs.EventAt.{IsSwap, AreSwaps};
 
 use super::names::{name_in, parts_at};
 use arrayvec::ArrayVec;
 use csv::ByteRecord;
 use wrp_base::{Name, TraceFault};
 use wrp_fields::{field, name_fault, natural, number_fault};
-use wrp_world::Swap;
+use wrp_course::Swap;
 
 /// The swaps of an `up`.
 pub type Swaps = ArrayVec<Swap, 18>;

@@ -1,11 +1,10 @@
 //! Which premise an event breaks.
 ghost use Rattle.wrp_world.specs.StandsFor.{IsValid};
 ghost use Rattle.wrp_world.specs.Step.{MayCome};
-ghost use Rattle.wrp_world.specs.Tried.{TellsBreach};
+ghost use Rattle.wrp_world.specs.Step.{TellsBreach};
 
 use super::World;
-use crate::checks::Breach;
-use crate::event::Event;
+use wrp_course::{Breach, Event};
 
 impl<F: Fn(i64) -> i64> World<F> {
     /// The first comparison that fails of the least premise that an event breaks. `None` exactly

@@ -7,20 +7,20 @@ ghost use Rattle.wrp_node.specs.Control.{law_in};
 ghost use Rattle.wrp_node.specs.Node.{FitsInput, IsValid as NodeIsValid, is_tick};
 ghost use Rattle.wrp_node.specs.NodeRun.{Says};
 ghost use Rattle.wrp_node.specs.StandsFor.{Took};
-ghost use Rattle.wrp_world.specs.FitsGifts.{FitsGift};
-ghost use Rattle.wrp_world.specs.Gifts.{IsRead};
-ghost use Rattle.wrp_world.specs.Given.{Given, in_body, in_frame, mover_of};
+ghost use Rattle.wrp_plant.specs.FitsGifts.{FitsGift};
+ghost use Rattle.wrp_plant.specs.Gifts.{IsRead};
+ghost use Rattle.wrp_course.specs.Given.{Given, in_body, in_frame, mover_of};
 ghost use Rattle.wrp_world.specs.Taking.{AreOfNodes, Asks, FirstAsks, Gave, GaveAll};
 ghost use Rattle.wrp_world.specs.Taking.{IsNewsOf, is_signaling, laws_of};
-ghost use Rattle.wrp_world.specs.Room.{HasRoom};
+ghost use Rattle.wrp_plant.specs.Room.{HasRoom};
 ghost use Rattle.wrp_world.specs.StandsFor.{IsValid};
 
 use super::World;
-use crate::NodeOut;
-use crate::plant::told::News;
 use wrp_base::{Body, Tau, WrMsg};
+use wrp_course::NodeOut;
 use wrp_frame::decode;
 use wrp_node::{Input, Node};
+use wrp_plant::News;
 
 impl<F: Fn(i64) -> i64> World<F> {
     // Each node takes its input, in their order; a frame among them was put out then. The memory

@@ -9,16 +9,16 @@ ghost use Rattle.wrp_node.specs.Set.{set_of};
 ghost use Rattle.wrp_node.specs.StandsFor.{StandsFor as NodeStandsFor};
 ghost use Rattle.wrp_world.specs.HasLaws.{HasLaws};
 ghost use Rattle.wrp_world.specs.New.{FitsLaw, IsNewNode, setting_of};
-ghost use Rattle.wrp_world.specs.Plant.{Each};
+ghost use Rattle.wrp_plant.specs.Plant.{Each};
 ghost use Rattle.wrp_world.specs.StandsFor.{IsValid, StandsFor};
-ghost use Rattle.wrp_world.specs.WorldAt.{new_world};
+ghost use Rattle.wrp_course.specs.WorldAt.{new_world};
 
 use super::World;
-use crate::plant::Plant;
 use std::alloc::{AllocError, Global};
 use wrp_config::Network;
 use wrp_law::DelayLaw;
 use wrp_node::{Node, node_set};
+use wrp_plant::Plant;
 
 impl<F: Fn(i64) -> i64> World<F> {
     /// All nodes are down, all links are cut, and true time is the epoch. `laws` has a place for each

@@ -3,21 +3,21 @@ ghost use Rattle.std.specs.Prelude.{◌≡◌, ◌<◌, ◌≤◌, length, flat_
 ghost use Rattle.wrp_base.specs.declared.message.PtpMsg.{PtpMsg};
 ghost use Rattle.wrp_servo.specs.Sampling.{is_holdover};
 ghost use Rattle.wrp_frame.specs.declared.fault.FrameFault.{FrameFault};
-ghost use Rattle.wrp_world.specs.Checks.{told_of};
-ghost use Rattle.wrp_world.specs.declared.event.Event.TheVariants as event;
-ghost use Rattle.wrp_world.specs.EventAt.{IsPass};
-ghost use Rattle.wrp_world.specs.Moved.{drift_of};
-ghost use Rattle.wrp_world.specs.Premises as premise;
-ghost use Rattle.wrp_world.specs.Setting.{Setting, nodes_of};
+ghost use Rattle.wrp_course.specs.Checks.{told_of};
+ghost use Rattle.wrp_course.specs.declared.event.Event.TheVariants as event;
+ghost use Rattle.wrp_course.specs.EventAt.{IsPass};
+ghost use Rattle.wrp_course.specs.Moved.{drift_of};
+ghost use Rattle.wrp_course.specs.Premises as premise;
+ghost use Rattle.wrp_course.specs.Setting.{Setting, nodes_of};
 ghost use Rattle.wrp_world.specs.StandsFor.{IsValid, StandsFor};
-ghost use Rattle.wrp_world.specs.Tried.{kept_rate, steered_rate};
-ghost use Rattle.wrp_world.specs.WorldAt.{WorldAt};
+ghost use Rattle.wrp_plant.specs.Tried.{kept_rate, steered_rate};
+ghost use Rattle.wrp_course.specs.WorldAt.{WorldAt};
 
 use super::World;
-use crate::checks::Breach;
-use crate::premises::rates::rate_kept;
 use arrayvec::ArrayVec;
 use wrp_base::{NodeCfg, ServoState};
+use wrp_course::Breach;
+use wrp_plant::rate_kept;
 
 // Whether a servo is in HOLDOVER.
 fn is_holdover(state: ServoState) -> bool

@@ -7,10 +7,9 @@ ghost use Rattle.wrp_world.specs.Step.{IsRefusal, MayCome, StaysSo, Stepped};
 ghost use Rattle.wrp_world.specs.Taking.{AreOfNodes, laws_of};
 
 use super::World;
-use crate::checks::Breach;
-use crate::run_laws::reported_link_on_is_earned;
-use crate::{Event, NodeOut, Refused};
+use crate::Refused;
 use std::alloc::Global;
+use wrp_course::{Breach, Event, NodeOut, reported_link_on_is_earned};
 
 impl<F: Fn(i64) -> i64> World<F> {
     /// Takes an event: where it keeps all premises, and the memory for it can be had, it changes

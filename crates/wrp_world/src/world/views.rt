@@ -1,9 +1,9 @@
 //! What is asked of a world.
 ghost use Rattle.std.specs.Prelude.{◌≡◌, ◌<◌, length, option_map, slice_get, Some};
 ghost use Rattle.wrp_world.specs.StandsFor.{IsValid, StandsFor, Tells, time_of, off_of, up_of, joined_of, history_at};
-ghost use Rattle.wrp_world.specs.Setting.{Setting};
-ghost use Rattle.wrp_world.specs.Views as view;
-ghost use Rattle.wrp_world.specs.WorldAt.{WorldAt};
+ghost use Rattle.wrp_course.specs.Setting.{Setting};
+ghost use Rattle.wrp_course.specs.Views as view;
+ghost use Rattle.wrp_course.specs.WorldAt.{WorldAt};
 
 use super::World;
 use wrp_base::{Mark, Tau};

@@ -3,7 +3,7 @@ ghost use Rattle.std.specs.Prelude.{◌≡◌, IsTrue, true};
 ghost use Rattle.std.specs.List.{AllByRecursion};
 ghost use Rattle.wrp_base.specs.Network.{IsFromTo};
 ghost use Rattle.wrp_caldb.specs.Name.{is_name};
-ghost use Rattle.wrp_world.specs.EventAt.{AreSwaps, IsChange, IsEventOf, IsMove, IsRaw, IsSwap, IsTime};
+ghost use Rattle.wrp_course.specs.EventAt.{AreSwaps, IsChange, IsEventOf, IsMove, IsRaw, IsSwap, IsTime};
 
 use wrp_base::{Name, NetCfg, Raw, Tau};
 use wrp_caldb::is_name;

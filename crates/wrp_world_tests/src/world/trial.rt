@@ -5,7 +5,7 @@ ghost use Rattle.wrp_config.specs.Accepted.{IsAccepted};
 ghost use Rattle.wrp_law.specs.declared.delay.LawKind.TheVariants.{Linear};
 ghost use Rattle.wrp_law.specs.Law.{KeepsFact};
 ghost use Rattle.wrp_world.specs.New.{FitsLaw};
-ghost use Rattle.wrp_world.specs.Plant.{Each};
+ghost use Rattle.wrp_plant.specs.Plant.{Each};
 ghost use Rattle.wrp_world.specs.StandsFor.{IsValid};
 
 use super::fitting::can_come;

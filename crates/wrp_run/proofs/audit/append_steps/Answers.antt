@@ -1,7 +1,7 @@
 -- Each step has its lines.
 use Rattle.std.proofs.Common.{◌++◌, ◌∙◌, ap, sym, ℕ, List}
 use Rattle.std.proofs.lemmas.List.Folds.{flat_map-map}
-use Rattle.wrp_world.specs.declared.outcome.NodeOut.{NodeOut}
+use Rattle.wrp_course.specs.declared.node_out.NodeOut.{NodeOut}
 use Rattle.wrp_world.specs.Step.{step_seen}
 use Rattle.wrp_run.specs.AuditStands.{line_by}
 use Rattle.wrp_run.proofs.CountLemmas.{lacks_less, lacks_none}

@@ -1,10 +1,10 @@
 -- The lines of the steps from this one on are lacking.
 use Rattle.std.proofs.Common.{◌++◌, map}
 use Rattle.std.specs.List.{flat_map}
-use Rattle.wrp_world.specs.Setting.{Setting}
+use Rattle.wrp_course.specs.Setting.{Setting}
 use Rattle.wrp_world.specs.StandsFor.{StandsFor}
 use Rattle.wrp_world.specs.Step.{step_seen}
-use Rattle.wrp_world.specs.WorldAt.{WorldAt}
+use Rattle.wrp_course.specs.WorldAt.{WorldAt}
 use Rattle.wrp_run.specs.AuditStands.{line_by}
 use Rattle.wrp_run.proofs.CountLemmas.{Lacks}
 use Rattle.wrp_run.proofs.audit.append_steps.Given as goal

@@ -1,9 +1,9 @@
 -- The counters of the nodes from this one on are lacking.
 use Rattle.std.proofs.Common.{◌≤◌, ◌-◌}
 use Rattle.wrp_base.specs.Network.{node_count}
-use Rattle.wrp_world.specs.Setting.{Setting}
+use Rattle.wrp_course.specs.Setting.{Setting}
 use Rattle.wrp_world.specs.StandsFor.{StandsFor}
-use Rattle.wrp_world.specs.WorldAt.{WorldAt}
+use Rattle.wrp_course.specs.WorldAt.{WorldAt}
 use Rattle.wrp_run.proofs.AuditCounts.{LacksNodes}
 use Rattle.wrp_run.proofs.audit_counts.append_all_counts.Given as goal
 

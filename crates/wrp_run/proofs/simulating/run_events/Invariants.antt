@@ -1,7 +1,7 @@
 -- The lines of the events so far are written, or wait.
 use Rattle.std.proofs.Common.{◌≡◌, ◌-◌, ℕ}
 use Rattle.wrp_sim.specs.Scenario.{SceneAt}
-use Rattle.wrp_world.specs.Setting.{Setting}
+use Rattle.wrp_course.specs.Setting.{Setting}
 use Rattle.wrp_run.specs.SimStands.{Begins, CanRun, FitsCourse, IsInRun, Running}
 use Rattle.wrp_run.specs.Simulates.{event_limit}
 use Rattle.wrp_run.proofs.simulating.run_events.Given as goal

@@ -2,7 +2,7 @@
 use Rattle.std.proofs.Common.{◌<◌, List, arith, refl, subst, sym}
 use Rattle.std.specs.List.{AllByRecursion}
 use Rattle.wrp_base.specs.Network.{node_count}
-use Rattle.wrp_world.specs.declared.outcome.NodeOut.{NodeOut}
+use Rattle.wrp_course.specs.declared.node_out.NodeOut.{NodeOut}
 use Rattle.wrp_run.proofs.SimSteps.{can_happen, event_comes, goes_on, may_come, none_comes, some_comes}
 use Rattle.wrp_run.proofs.simulating.step.Goals as goal
 

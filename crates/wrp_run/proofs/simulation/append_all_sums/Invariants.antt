@@ -1,9 +1,9 @@
 -- The sums of the nodes from this one on are lacking.
 use Rattle.std.proofs.Common.{◌≤◌, ◌-◌, ℕ, ℤ, List}
 use Rattle.wrp_base.specs.Network.{node_count}
-use Rattle.wrp_world.specs.Setting.{Setting}
+use Rattle.wrp_course.specs.Setting.{Setting}
 use Rattle.wrp_world.specs.StandsFor.{StandsFor}
-use Rattle.wrp_world.specs.WorldAt.{WorldAt}
+use Rattle.wrp_course.specs.WorldAt.{WorldAt}
 use Rattle.wrp_run.specs.SimStands.{AreTotals}
 use Rattle.wrp_run.proofs.SimLines.{LacksSums}
 use Rattle.wrp_run.proofs.simulation.append_all_sums.Given as goal

@@ -3,8 +3,8 @@ use Rattle.std.proofs.Common.{◌≡◌, ◌∙◌, ◌+◌, ◌<◌, ◌^◌, �
 use Rattle.std.proofs.lemmas.Int.{to_z-of_z}
 use Rattle.std.specs.Int.{w128}
 use Rattle.wrp_bounds.specs.Bounds.{path_of}
-use Rattle.wrp_world.proofs.EachLists.{each_push, length_push}
-use Rattle.wrp_world.specs.Plant.{Each}
+use Rattle.wrp_plant.proofs.EachLists.{each_push, length_push}
+use Rattle.wrp_plant.specs.Plant.{Each}
 use Rattle.wrp_run.proofs.SimLines.{small_path}
 use Rattle.wrp_run.proofs.simulation.bounds_of.Goals as goal
 

@@ -2,7 +2,7 @@
 use Rattle.std.proofs.Common.{◌≡◌, ◌<◌, ◌≤◌, ◌-◌, ◌^◌, length, pos}
 use Rattle.wrp_base.specs.Network.{node_count}
 use Rattle.wrp_bounds.specs.Bounds.{path_of}
-use Rattle.wrp_world.specs.Plant.{Each}
+use Rattle.wrp_plant.specs.Plant.{Each}
 use Rattle.wrp_run.proofs.simulation.bounds_of.Given as goal
 
 abbrev pub invariant-loop-node : goal.invariant-loop-node

@@ -1,8 +1,8 @@
 -- The steps before this one are told.
 use Rattle.std.proofs.Common.{◌≡◌, length}
-use Rattle.wrp_world.specs.Setting.{Setting}
+use Rattle.wrp_course.specs.Setting.{Setting}
 use Rattle.wrp_world.specs.StandsFor.{StandsFor}
-use Rattle.wrp_world.specs.WorldAt.{WorldAt}
+use Rattle.wrp_course.specs.WorldAt.{WorldAt}
 use Rattle.wrp_run.proofs.SimLines.{AddsTo}
 use Rattle.wrp_run.proofs.totals.add_tracks.Given as goal
 

@@ -1,6 +1,6 @@
 -- So many totals of no line.
 use Rattle.std.proofs.Common.{◌≡◌, [], length}
-use Rattle.wrp_world.specs.Plant.{Each}
+use Rattle.wrp_plant.specs.Plant.{Each}
 use Rattle.wrp_run.specs.SimStands.{IsTotal}
 use Rattle.wrp_run.proofs.totals.no_totals.Given as goal
 

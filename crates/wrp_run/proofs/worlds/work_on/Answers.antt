@@ -6,7 +6,7 @@ use Rattle.std.specs.Int.{w64}
 use Rattle.std.proofs.KnownBytes.{Appends-nil, Consumes-nil}
 use Rattle.wrp_base.specs.Network.{node_count}
 use Rattle.wrp_config.proofs.Bare.{count_bare}
-use Rattle.wrp_world.proofs.EachLists.{each_none, each_push, length_push}
+use Rattle.wrp_plant.proofs.EachLists.{each_none, each_push, length_push}
 use Rattle.wrp_run.specs.AuditStands.{setting_in}
 use Rattle.wrp_run.specs.Asked.{task_by}
 use Rattle.wrp_run.specs.LawsFit.{IsMade}

@@ -1,7 +1,7 @@
 -- Each node before this one has its law, as its link's law says.
 use Rattle.std.proofs.Common.{◌≡◌, ◌≤◌, ◌-◌, length}
 use Rattle.wrp_base.specs.Network.{node_count}
-use Rattle.wrp_world.specs.Plant.{Each}
+use Rattle.wrp_plant.specs.Plant.{Each}
 use Rattle.wrp_run.specs.LawsFit.{IsMade}
 use Rattle.wrp_run.proofs.worlds.work_on.Given as goal
 

@@ -1,6 +1,6 @@
 -- So many times, all 0.
 use Rattle.std.proofs.Common.{◌≡◌, length, pos}
-use Rattle.wrp_world.specs.Plant.{Each}
+use Rattle.wrp_plant.specs.Plant.{Each}
 use Rattle.wrp_sim.proofs.sim.no_ticks.Given as goal
 
 abbrev pub invariant-loop-node : goal.invariant-loop-node

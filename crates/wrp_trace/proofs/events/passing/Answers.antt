@@ -4,7 +4,7 @@ use Rattle.std.proofs.lemmas.Int.{to_z-of_z}
 use Rattle.wrp_trace.specs.Changes.{said_of}
 use Rattle.wrp_trace.proofs.PassLemmas.{passes_as}
 use Rattle.wrp_trace.proofs.events.passing.Goals as goal
-use Rattle.wrp_world.specs.EventAt.{IsPass}
+use Rattle.wrp_course.specs.EventAt.{IsPass}
 
 pub returns-clause-event : goal.returns-clause-event
 returns-clause-event c =

@@ -5,8 +5,8 @@ use Rattle.std.specs.List.{AllByRecursion}
 use Rattle.wrp_base.specs.declared.configuration.NetCfg.{NetCfg}
 use Rattle.wrp_base.specs.Network.{IsTree, node_count}
 use Rattle.wrp_config.specs.declared.network.Network.{Network}
-use Rattle.wrp_world.specs.declared.outcome.NodeOut.{NodeOut}
-use Rattle.wrp_world.specs.EventAt.{IsEventOf}
+use Rattle.wrp_course.specs.declared.node_out.NodeOut.{NodeOut}
+use Rattle.wrp_course.specs.EventAt.{IsEventOf}
 use Rattle.wrp_world.specs.Step.{IsRefusal}
 use Rattle.wrp_run.specs.AuditStands.{setting_in}
 use Rattle.wrp_run.proofs.AuditSteps.{behind_none, broke_of, can_stay, counts_none, counts_one, took_of}

@@ -2,7 +2,7 @@
 use Rattle.std.proofs.Common.{◌∙◌, ap₂, ◌≤◌, ◌^◌, unsigned_abs, arith}
 use Rattle.std.proofs.lemmas.Int.{ints}
 use Rattle.wrp_bounds.proofs.Counts.{read_of_size}
-use Rattle.wrp_world.proofs.SignedReads.{read}
+use Rattle.wrp_plant.proofs.SignedReads.{read}
 use Rattle.wrp_sim.specs.Scenario.{delta_ms}
 use Rattle.wrp_sim.proofs.scene.Scene.delay_down.Goals as goal
 

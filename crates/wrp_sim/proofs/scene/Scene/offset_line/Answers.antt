@@ -1,7 +1,7 @@
 -- Another offset leaves a scenario.
 use Rattle.std.proofs.Common.{◌≡◌, to_z, of_z, arith}
 use Rattle.std.specs.Int.{w128}
-use Rattle.wrp_world.proofs.SignedReads.{read}
+use Rattle.wrp_plant.proofs.SignedReads.{read}
 use Rattle.wrp_sim.specs.Scenario.{IsOffset}
 use Rattle.wrp_sim.proofs.SceneLemmas.{with_offset}
 use Rattle.wrp_sim.proofs.scene.Scene.offset_line.Goals as goal

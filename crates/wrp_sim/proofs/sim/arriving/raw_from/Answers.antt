@@ -1,7 +1,7 @@
 use Rattle.std.proofs.Common.{◌∙◌, ap, sym, option_map}
 use Rattle.wrp_base.specs.declared.configuration.NetCfg.{NetCfg}
 use Rattle.wrp_config.specs.declared.network.Network.{Network}
-use Rattle.wrp_world.specs.Setting.{place_among}
+use Rattle.wrp_course.specs.Setting.{place_among}
 use Rattle.wrp_sim.specs.Departures.{across, raw_across}
 use Rattle.wrp_sim.proofs.sim.arriving.raw_from.Goals as goal
 

@@ -1,9 +1,9 @@
 use Rattle.std.proofs.Common.{◌∙◌, ap, sym, subst, ℕ, ◌<◌, length, slice_get, arith}
 use Rattle.wrp_base.specs.declared.configuration.NetCfg.{NetCfg}
 use Rattle.wrp_config.specs.declared.network.Network.{Network}
-use Rattle.wrp_world.specs.Premises.{transition_of}
-use Rattle.wrp_world.specs.WorldAt.{reading}
-use Rattle.wrp_world.proofs.SignedReads.{read}
+use Rattle.wrp_course.specs.Premises.{transition_of}
+use Rattle.wrp_course.specs.WorldAt.{reading}
+use Rattle.wrp_plant.proofs.SignedReads.{read}
 use Rattle.wrp_sim.proofs.Cells.{node_within, raw_there, raw_untold, within_least}
 use Rattle.wrp_sim.proofs.Seen.{link_is}
 use Rattle.wrp_sim.proofs.sim.arriving.raw_to.Goals as goal

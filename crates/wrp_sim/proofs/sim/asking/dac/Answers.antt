@@ -1,6 +1,6 @@
 use Rattle.std.proofs.Common.{◌∙◌, ap, sym}
 use Rattle.wrp_node.specs.NodeAt.{dac_of}
-use Rattle.wrp_world.specs.Setting.{node_setting_of}
+use Rattle.wrp_course.specs.Setting.{node_setting_of}
 use Rattle.wrp_sim.proofs.sim.asking.dac.Goals as goal
 
 pub returns : goal.returns

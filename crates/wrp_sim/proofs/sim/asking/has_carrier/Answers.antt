@@ -1,6 +1,6 @@
 use Rattle.std.proofs.Common.{◌∙◌, ap, ap₂, sym, ◌&&◌, slice_get}
 use Rattle.wrp_config.specs.declared.network.Network.{Network}
-use Rattle.wrp_world.specs.WorldAt.{ends_are_up}
+use Rattle.wrp_course.specs.WorldAt.{ends_are_up}
 use Rattle.wrp_sim.proofs.Seen.{ends_within, link_is}
 use Rattle.wrp_sim.proofs.sim.asking.has_carrier.Goals as goal
 

@@ -1,5 +1,5 @@
 use Rattle.std.proofs.Common.{sym, subst, ◌≤◌, ◌^◌, unsigned_abs, arith}
-use Rattle.wrp_world.proofs.SignedReads.{read}
+use Rattle.wrp_plant.proofs.SignedReads.{read}
 use Rattle.wrp_sim.proofs.Seen.{off_fits}
 use Rattle.wrp_sim.proofs.sim.asking.off.Goals as goal
 

@@ -1,9 +1,9 @@
 use Rattle.std.proofs.Common.{◌∙◌, sym, ap, slice_get}
 use Rattle.wrp_config.specs.declared.network.Network.{Network}
 use Rattle.wrp_node.specs.NodeAt.{locked_of, state_of}
-use Rattle.wrp_world.specs.Setting.{node_setting_of}
-use Rattle.wrp_world.specs.Tried.{kept_rate}
-use Rattle.wrp_world.proofs.TriedRates.{rate_small, rate_told}
+use Rattle.wrp_course.specs.Setting.{node_setting_of}
+use Rattle.wrp_plant.specs.Tried.{kept_rate}
+use Rattle.wrp_plant.proofs.TriedRates.{rate_small, rate_told}
 use Rattle.wrp_sim.proofs.Seen.{node_is}
 use Rattle.wrp_sim.proofs.sim.asking.rate.Goals as goal
 

@@ -1,6 +1,6 @@
 use Rattle.std.proofs.Common.{◌∙◌, ap, sym, ℤ, subst, Some, option_map, arith}
 use Rattle.wrp_sim.specs.Departures.{IsReadable, departure_by}
-use Rattle.wrp_world.proofs.SignedReads.{read}
+use Rattle.wrp_plant.proofs.SignedReads.{read}
 use Rattle.wrp_sim.proofs.sim.departing.departure_at.Goals as goal
 
 pub returns-in-Some-clause-value : goal.returns-in-Some-clause-value

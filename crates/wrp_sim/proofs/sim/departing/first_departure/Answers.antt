@@ -1,5 +1,5 @@
 use Rattle.std.proofs.Common.{◌∙◌, ap, sym, ℕ, List, find, flat_map, map, option_map}
-use Rattle.wrp_world.specs.Setting.{from_on}
+use Rattle.wrp_course.specs.Setting.{from_on}
 use Rattle.wrp_sim.specs.Departures.{departure_from}
 use Rattle.wrp_sim.specs.Rules.{departs_now}
 use Rattle.wrp_sim.proofs.Leaving.{here_first, not_here}

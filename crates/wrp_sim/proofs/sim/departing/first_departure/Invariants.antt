@@ -1,8 +1,8 @@
 -- No port of the nodes so far has anything to send.
 use Rattle.std.proofs.Common.{◌≡◌, ◌-◌, find, flat_map, map}
-use Rattle.wrp_world.specs.Setting.{Setting, from_on}
+use Rattle.wrp_course.specs.Setting.{Setting, from_on}
 use Rattle.wrp_world.specs.StandsFor.{StandsFor}
-use Rattle.wrp_world.specs.WorldAt.{WorldAt}
+use Rattle.wrp_course.specs.WorldAt.{WorldAt}
 use Rattle.wrp_sim.specs.Rules.{departs_now}
 use Rattle.wrp_sim.proofs.sim.departing.first_departure.Given as goal
 

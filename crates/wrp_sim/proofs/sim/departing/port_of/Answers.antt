@@ -1,5 +1,5 @@
 use Rattle.std.proofs.Common.{◌∙◌, sym}
-use Rattle.wrp_world.specs.Views.{waiting_of}
+use Rattle.wrp_course.specs.Views.{waiting_of}
 use Rattle.wrp_sim.specs.Rules.{is_now}
 use Rattle.wrp_sim.proofs.SimLists.{found_at, passed_at}
 use Rattle.wrp_sim.proofs.sim.departing.port_of.Goals as goal

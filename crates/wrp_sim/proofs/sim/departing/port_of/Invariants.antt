@@ -1,9 +1,9 @@
 -- No port so far has anything to send.
 use Rattle.std.proofs.Common.{◌≡◌, ◌-◌, find}
-use Rattle.wrp_world.specs.Setting.{Setting, from_on}
+use Rattle.wrp_course.specs.Setting.{Setting, from_on}
 use Rattle.wrp_world.specs.StandsFor.{StandsFor}
-use Rattle.wrp_world.specs.Views.{waiting_of}
-use Rattle.wrp_world.specs.WorldAt.{WorldAt}
+use Rattle.wrp_course.specs.Views.{waiting_of}
+use Rattle.wrp_course.specs.WorldAt.{WorldAt}
 use Rattle.wrp_sim.specs.Rules.{is_now}
 use Rattle.wrp_sim.proofs.sim.departing.port_of.Given as goal
 

@@ -4,7 +4,7 @@ use Rattle.std.specs.Int.Signed.{le_z}
 use Rattle.wrp_base.specs.declared.configuration.NetCfg.{NetCfg}
 use Rattle.wrp_base.specs.Clock.{second}
 use Rattle.wrp_config.specs.declared.network.Network.{Network}
-use Rattle.wrp_world.proofs.SignedReads.{read}
+use Rattle.wrp_plant.proofs.SignedReads.{read}
 use Rattle.wrp_sim.proofs.sim.failing.has_come.Goals as goal
 
 pub returns : goal.returns

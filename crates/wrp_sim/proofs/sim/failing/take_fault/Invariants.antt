@@ -1,9 +1,9 @@
 -- The faults before the place at hand have not come, and those from it on are still to be tried.
 use Rattle.std.proofs.Common.{◌-◌, length}
 use Rattle.std.specs.List.{AllByRecursion}
-use Rattle.wrp_world.specs.Setting.{Setting}
+use Rattle.wrp_course.specs.Setting.{Setting}
 use Rattle.wrp_world.specs.StandsFor.{StandsFor}
-use Rattle.wrp_world.specs.WorldAt.{WorldAt}
+use Rattle.wrp_course.specs.WorldAt.{WorldAt}
 use Rattle.wrp_sim.specs.Scenario.{IsFault}
 use Rattle.wrp_sim.proofs.Faults.{Left}
 use Rattle.wrp_sim.proofs.sim.failing.take_fault.Given as goal

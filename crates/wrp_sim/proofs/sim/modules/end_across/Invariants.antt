@@ -1,6 +1,6 @@
 -- None of the links so far has the port.
 use Rattle.std.proofs.Common.{◌≡◌, drop}
-use Rattle.wrp_world.specs.Setting.{place_among}
+use Rattle.wrp_course.specs.Setting.{place_among}
 use Rattle.wrp_sim.proofs.sim.modules.end_across.Given as goal
 
 abbrev pub invariant-loop-link : goal.invariant-loop-link

@@ -1,5 +1,5 @@
 use Rattle.std.proofs.Common.{◌∙◌, ap, sym, ◌+◌, ◌++◌, pos, ◌∷◌, [], length}
-use Rattle.wrp_world.proofs.EachLists.{length_push}
+use Rattle.wrp_plant.proofs.EachLists.{length_push}
 use Rattle.wrp_sim.proofs.SimLists.{map_more}
 use Rattle.wrp_sim.proofs.sim.passing.no_moves.Goals as goal
 

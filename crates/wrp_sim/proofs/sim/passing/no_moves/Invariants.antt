@@ -1,6 +1,6 @@
 -- So many fibres that do not move.
 use Rattle.std.proofs.Common.{◌≡◌, pos, map, length}
-use Rattle.wrp_world.specs.Setting.{from_on}
+use Rattle.wrp_course.specs.Setting.{from_on}
 use Rattle.wrp_sim.proofs.sim.passing.no_moves.Given as goal
 
 abbrev pub invariant-loop-link : goal.invariant-loop-link

@@ -2,7 +2,7 @@ use Rattle.std.proofs.Common.{◌≡◌, ◌+◌, [], length, map, drop}
 use Rattle.csv.specs.Records.{fields_of}
 use Rattle.wrp_trace.specs.Swaps.{plain_swap, swaps_said}
 use Rattle.wrp_trace.proofs.events.swaps.swaps_at.Given as goal
-use Rattle.wrp_world.specs.EventAt.{AreSwaps}
+use Rattle.wrp_course.specs.EventAt.{AreSwaps}
 
 -- what is left says the rest
 abbrev pub invariant-loop-at : goal.invariant-loop-at

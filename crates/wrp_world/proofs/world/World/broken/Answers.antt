@@ -1,12 +1,12 @@
 -- Each kind of event.
 use Rattle.std.proofs.Common.{◌∙◌, ap, ap₂, Err, arith}
 use Rattle.wrp_frame.specs.declared.fault.FrameFault.TheVariants.{Short}
-use Rattle.wrp_world.specs.Checks.{told_of}
-use Rattle.wrp_world.specs.declared.event.Event.TheVariants.{Depart, Join, Pass, Up}
-use Rattle.wrp_world.specs.Premises.{checks_of}
+use Rattle.wrp_course.specs.Checks.{told_of}
+use Rattle.wrp_course.specs.declared.event.Event.TheVariants.{Depart, Join, Pass, Up}
+use Rattle.wrp_course.specs.Premises.{checks_of}
 use Rattle.wrp_world.proofs.Breaches.{breach_as, delay_small, event_as, span_read}
 use Rattle.wrp_world.proofs.Inside.{plant_is}
-use Rattle.wrp_world.proofs.SignedReads.{read}
+use Rattle.wrp_plant.proofs.SignedReads.{read}
 use Rattle.wrp_world.proofs.world.World.broken.Goals as goal
 
 pub returns-in-Pass : goal.returns-in-Pass

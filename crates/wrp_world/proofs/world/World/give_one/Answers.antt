@@ -1,7 +1,7 @@
 -- The node takes its input, and the plant is told of it.
 use Rattle.std.proofs.Common.{◌∙◌, ap, sym, subst, slice_set, ◌+◌}
-use Rattle.wrp_world.specs.PlantTold.{MayStep, SendsFew}
-use Rattle.wrp_world.specs.Room.{HasRoom}
+use Rattle.wrp_plant.specs.PlantTold.{MayStep, SendsFew}
+use Rattle.wrp_plant.specs.Room.{HasRoom}
 use Rattle.wrp_world.proofs.Inside.{world_of}
 use Rattle.wrp_world.proofs.NodesTake.{few_sent, fits_input, gave_one, laws_next, news_read, node_here, steps_once, told_one, took_one, valid_next}
 use Rattle.wrp_world.proofs.world.World.give_one.Goals as goal

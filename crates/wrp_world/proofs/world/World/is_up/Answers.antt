@@ -1,5 +1,5 @@
 use Rattle.std.proofs.Common.{ap}
-use Rattle.wrp_world.specs.declared.clocks.ClockState.{ClockState}
+use Rattle.wrp_course.specs.declared.clocks.ClockState.{ClockState}
 use Rattle.wrp_world.proofs.Inside.{plant_is}
 use Rattle.wrp_world.proofs.world.World.is_up.Goals as goal
 

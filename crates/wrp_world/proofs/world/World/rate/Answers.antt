@@ -1,11 +1,11 @@
 use Rattle.std.proofs.Common.{◌∙◌, sym, ap, slice_get}
 use Rattle.wrp_base.specs.declared.configuration.NetCfg.{NetCfg}
 use Rattle.wrp_node.specs.NodeAt.{locked_of, state_of}
-use Rattle.wrp_world.specs.Plant.{PlantIs}
-use Rattle.wrp_world.specs.Setting.{node_setting_of}
-use Rattle.wrp_world.specs.Tried.{kept_rate}
+use Rattle.wrp_plant.specs.Plant.{PlantIs}
+use Rattle.wrp_course.specs.Setting.{node_setting_of}
+use Rattle.wrp_plant.specs.Tried.{kept_rate}
 use Rattle.wrp_world.proofs.Inside.{plant_is}
-use Rattle.wrp_world.proofs.TriedRates.{rate_small, rate_told}
+use Rattle.wrp_plant.proofs.TriedRates.{rate_small, rate_told}
 use Rattle.wrp_world.proofs.world.World.rate.Goals as goal
 
 pub returns-clause-value : goal.returns-clause-value

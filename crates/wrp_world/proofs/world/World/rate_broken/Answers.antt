@@ -1,9 +1,9 @@
 use Rattle.std.proofs.Common.{◌∙◌, ap, ap₂, to_z, of_z}
 use Rattle.std.proofs.lemmas.Int.{to_z-of_z}
 use Rattle.std.specs.Int.{w64}
-use Rattle.wrp_world.specs.Checks.{told_of}
-use Rattle.wrp_world.specs.Moved.{drift_of}
-use Rattle.wrp_world.specs.Premises.{rate_checks}
+use Rattle.wrp_course.specs.Checks.{told_of}
+use Rattle.wrp_course.specs.Moved.{drift_of}
+use Rattle.wrp_course.specs.Premises.{rate_checks}
 use Rattle.wrp_world.proofs.world.World.rate_broken.Goals as goal
 
 pub returns : goal.returns

@@ -2,11 +2,11 @@ use Rattle.std.proofs.Common.{◌∙◌, sym, ap, flat_map, length, to_z, of_z}
 use Rattle.std.proofs.lemmas.Int.{to_z-of_z}
 use Rattle.std.specs.Int.{w64}
 use Rattle.wrp_base.specs.declared.configuration.NetCfg.{NetCfg}
-use Rattle.wrp_world.specs.Checks.{told_of}
-use Rattle.wrp_world.specs.Premises.{rate_kept}
-use Rattle.wrp_world.specs.Setting.{from_on, nodes_of}
-use Rattle.wrp_world.proofs.Counting.{range_end, range_more}
-use Rattle.wrp_world.proofs.Told.{ends, goes_on}
+use Rattle.wrp_course.specs.Checks.{told_of}
+use Rattle.wrp_course.specs.Premises.{rate_kept}
+use Rattle.wrp_course.specs.Setting.{from_on, nodes_of}
+use Rattle.wrp_plant.proofs.Counting.{range_end, range_more}
+use Rattle.wrp_course.proofs.Told.{ends, goes_on}
 use Rattle.wrp_world.proofs.world.World.rates_broken.Goals as goal
 
 pub returns-in-Some : goal.returns-in-Some

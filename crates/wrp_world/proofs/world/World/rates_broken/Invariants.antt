@@ -1,10 +1,10 @@
 -- What is told of the nodes that are left is told of all.
 use Rattle.std.proofs.Common.{◌≡◌, ◌-◌, flat_map}
-use Rattle.wrp_world.specs.Checks.{told_of}
-use Rattle.wrp_world.specs.Premises.{rate_kept}
-use Rattle.wrp_world.specs.Setting.{Setting, from_on}
+use Rattle.wrp_course.specs.Checks.{told_of}
+use Rattle.wrp_course.specs.Premises.{rate_kept}
+use Rattle.wrp_course.specs.Setting.{Setting, from_on}
 use Rattle.wrp_world.specs.StandsFor.{StandsFor}
-use Rattle.wrp_world.specs.WorldAt.{WorldAt}
+use Rattle.wrp_course.specs.WorldAt.{WorldAt}
 use Rattle.wrp_world.proofs.world.World.rates_broken.Given as goal
 
 abbrev pub invariant-loop-n : goal.invariant-loop-n

@@ -8,7 +8,8 @@ use Rattle.wrp_world.specs.StandsFor.{IsValid}
 use Rattle.wrp_world.specs.Step.{StaysSo, Stepped}
 use Rattle.wrp_world.proofs.Inside.{world_of}
 use Rattle.wrp_world.proofs.RunsOn.{runs_on}
-use Rattle.wrp_world.proofs.WorldSteps.{begun_asks, begun_of, begun_valid, breach_refused, event_taken, lists_read, memory_refused, none_left, on_err, stays_valid, world_stays}
+use Rattle.wrp_world.proofs.WorldSteps.{begun_asks, begun_of, begun_valid, breach_refused, event_taken, lists_read, memory_refused, none_left, stays_valid, world_stays}
+use Rattle.wrp_plant.proofs.Refusals.{on_err}
 use Rattle.wrp_world.proofs.world.World.step_into.Goals as goal
 
 pub returns-in-Some-clause-refusal : goal.returns-in-Some-clause-refusal

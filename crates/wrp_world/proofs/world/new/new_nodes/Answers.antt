@@ -1,5 +1,5 @@
 use Rattle.std.proofs.Common.{◌≡◌, ◌∙◌, ap, sym, ℕ, List, [], ◌∷◌, ◌++◌, length, ◌+◌, None, Some, slice_get, arith}
-use Rattle.wrp_world.proofs.EachLists.{each_push, length_push}
+use Rattle.wrp_plant.proofs.EachLists.{each_push, length_push}
 use Rattle.wrp_world.proofs.TakenLaws.{taken, left_on, all_taken, new_node}
 use Rattle.wrp_world.proofs.world.new.new_nodes.Goals as goal
 

@@ -1,7 +1,7 @@
 -- As many nodes as laws were taken so far, each of which is new.
 use Rattle.std.proofs.Common.{◌≡◌, ◌≤◌, length, drop}
 use Rattle.wrp_world.specs.New.{IsNewNode}
-use Rattle.wrp_world.specs.Plant.{Each}
+use Rattle.wrp_plant.specs.Plant.{Each}
 use Rattle.wrp_world.proofs.world.new.new_nodes.Given as goal
 
 abbrev pub invariant-loop-law : goal.invariant-loop-law

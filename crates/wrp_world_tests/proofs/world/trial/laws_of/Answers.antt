@@ -7,7 +7,7 @@ use Rattle.wrp_base.specs.Network.{link_above}
 use Rattle.wrp_law.specs.declared.delay.LawKind.TheVariants.{Linear}
 use Rattle.wrp_law.specs.Law.{LawOf, KeepsFact}
 use Rattle.wrp_world.specs.New.{FitsLaw}
-use Rattle.wrp_world.specs.Plant.{Each}
+use Rattle.wrp_plant.specs.Plant.{Each}
 
 none_some : {A : Type 0} (x : A) → None ≡ Some x → ⊥
 none_some x e = cc

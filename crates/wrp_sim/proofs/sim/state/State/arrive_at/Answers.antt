@@ -4,7 +4,7 @@ use Rattle.std.specs.Int.{w128}
 use Rattle.std.specs.Ordering.{int_eq}
 use Rattle.wrp_sim.specs.Rules.{arrives, arrives_by}
 use Rattle.wrp_sim.proofs.Turns.{gave_none, gives_same}
-use Rattle.wrp_world.proofs.SignedReads.{read}
+use Rattle.wrp_plant.proofs.SignedReads.{read}
 use Rattle.wrp_sim.proofs.sim.state.State.arrive_at.Goals as goal
 
 pub returns-then-is_at-clause-follows : goal.returns-then-is_at-clause-follows

@@ -1,5 +1,5 @@
 use Rattle.std.proofs.Common.{◌∙◌, sym}
-use Rattle.wrp_world.specs.declared.event.Event.TheVariants.{Arrive}
+use Rattle.wrp_course.specs.declared.event.Event.TheVariants.{Arrive}
 use Rattle.wrp_sim.specs.Rules.{after_arrival, arrives_by, comes}
 use Rattle.wrp_sim.proofs.RuleCases.{raw_known, raw_unknown}
 use Rattle.wrp_sim.proofs.Turns.{gave_none, gives_same}

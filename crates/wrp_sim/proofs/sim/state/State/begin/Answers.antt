@@ -4,7 +4,7 @@ use Rattle.wrp_base.specs.declared.configuration.NetCfg.{NetCfg}
 use Rattle.wrp_base.specs.Network.{node_count}
 use Rattle.wrp_base.proofs.Naturals.{lt_true}
 use Rattle.wrp_config.specs.declared.network.Network.{Network}
-use Rattle.wrp_world.specs.EventAt.{link_count}
+use Rattle.wrp_course.specs.EventAt.{link_count}
 use Rattle.wrp_sim.specs.Rules.{begins, comes, join_event, one_begun, up_event, with_tick}
 use Rattle.wrp_sim.specs.Sim.{Gave}
 use Rattle.wrp_sim.proofs.RuleCases.{ge_false, joins_first, joined_all}

@@ -6,7 +6,7 @@ use Rattle.wrp_base.specs.declared.configuration.NetCfg.{NetCfg}
 use Rattle.wrp_base.specs.declared.link.Module.{Module}
 use Rattle.wrp_config.specs.declared.network.Network.{Network}
 use Rattle.wrp_sim.specs.Scenario.{ms_of}
-use Rattle.wrp_world.proofs.SignedReads.{read}
+use Rattle.wrp_plant.proofs.SignedReads.{read}
 use Rattle.wrp_sim.proofs.sim.state.State.delay_down.Goals as goal
 
 pub returns-clause-value : goal.returns-clause-value

@@ -1,7 +1,7 @@
 -- The frame that arrived last is handed over.
 use Rattle.std.proofs.Common.{◌≡◌, ◌-◌, ap, sym, nat_lt, true, Some, arith}
 use Rattle.wrp_base.proofs.Naturals.{lt_true}
-use Rattle.wrp_world.specs.declared.event.Event.TheVariants.{Deliver}
+use Rattle.wrp_course.specs.declared.event.Event.TheVariants.{Deliver}
 use Rattle.wrp_sim.specs.declared.sim.state.Handed.{Handed}
 use Rattle.wrp_sim.specs.Rules.{comes, delivers}
 use Rattle.wrp_sim.specs.SimAt.{SimAt}

@@ -1,5 +1,5 @@
 use Rattle.std.proofs.Common.{◌∙◌, sym, find}
-use Rattle.wrp_world.specs.declared.event.Event.TheVariants.{Depart}
+use Rattle.wrp_course.specs.declared.event.Event.TheVariants.{Depart}
 use Rattle.wrp_sim.specs.Numbers.{drawn_stamp}
 use Rattle.wrp_sim.specs.Rules.{after_draw, comes, departs, departs_now, ports_of, stamp_room}
 use Rattle.wrp_sim.proofs.Leaving.{departs_none, departs_then}

@@ -5,13 +5,13 @@ use Rattle.std.specs.Int.{w128}
 use Rattle.std.specs.Option.{option_map_or}
 use Rattle.wrp_base.specs.declared.network.NodeCfg.{NodeCfg}
 use Rattle.wrp_config.specs.declared.network.Network.{Network}
-use Rattle.wrp_world.specs.declared.event.Event.TheVariants.{Depart}
+use Rattle.wrp_course.specs.declared.event.Event.TheVariants.{Depart}
 use Rattle.wrp_sim.specs.Draws.{next_state}
 use Rattle.wrp_sim.specs.Numbers.{drawn_stamp, thousands}
 use Rattle.wrp_sim.specs.Rules.{after_draw, stamp_room}
 use Rattle.wrp_sim.proofs.Seen.{node_is}
 use Rattle.wrp_sim.proofs.Turns.{came}
-use Rattle.wrp_world.proofs.SignedReads.{read}
+use Rattle.wrp_plant.proofs.SignedReads.{read}
 use Rattle.wrp_sim.proofs.sim.state.State.depart_from.Goals as goal
 
 pub draw_stamp-stamp-requires-clause-e_tx : goal.draw_stamp-stamp-requires-clause-e_tx

@@ -1,8 +1,8 @@
 use Rattle.std.proofs.Common.{rules, ◌≡◌, ◌∙◌, ap, sym, ℕ, ℤ, ◌+◌, ◌-◌, ◌++◌, ◌∷◌, [], List, map, length, to_z, of_z, FitsSigned, arith}
 use Rattle.std.proofs.lemmas.Int.{to_z-of_z}
 use Rattle.std.specs.Int.{w64}
-use Rattle.wrp_world.specs.Setting.{from_on, nodes_of}
-use Rattle.wrp_world.proofs.EachLists.{length_push}
+use Rattle.wrp_course.specs.Setting.{from_on, nodes_of}
+use Rattle.wrp_plant.proofs.EachLists.{length_push}
 use Rattle.wrp_sim.specs.Rules.{drift_over}
 use Rattle.wrp_sim.proofs.Seen.{nodes_are}
 use Rattle.wrp_sim.proofs.SimLists.{map_done, map_left}

@@ -1,8 +1,8 @@
 -- The drifts of the nodes so far, and of those that are left.
 use Rattle.std.proofs.Common.{◌≡◌, ◌-◌, ◌++◌, map, length}
-use Rattle.wrp_world.specs.Setting.{Setting, from_on}
+use Rattle.wrp_course.specs.Setting.{Setting, from_on}
 use Rattle.wrp_world.specs.StandsFor.{StandsFor}
-use Rattle.wrp_world.specs.WorldAt.{WorldAt}
+use Rattle.wrp_course.specs.WorldAt.{WorldAt}
 use Rattle.wrp_sim.specs.Rules.{drift_over}
 use Rattle.wrp_sim.proofs.sim.state.State.drifts.Given as goal
 

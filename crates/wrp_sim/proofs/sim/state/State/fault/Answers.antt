@@ -1,5 +1,5 @@
 use Rattle.std.proofs.Common.{ap, sym}
-use Rattle.wrp_world.specs.declared.event.Event.TheVariants.{Down, Cut}
+use Rattle.wrp_course.specs.declared.event.Event.TheVariants.{Down, Cut}
 use Rattle.wrp_sim.specs.Rules.{comes, fault_of, join_event, up_event, with_tick}
 use Rattle.wrp_sim.proofs.Turns.{gives_same}
 use Rattle.wrp_sim.proofs.sim.state.State.fault.Goals as goal

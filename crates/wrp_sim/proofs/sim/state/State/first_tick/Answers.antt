@@ -1,5 +1,5 @@
 use Rattle.std.proofs.Common.{◌∙◌, ap, sym, find, ℕ}
-use Rattle.wrp_world.specs.Setting.{from_on}
+use Rattle.wrp_course.specs.Setting.{from_on}
 use Rattle.wrp_sim.specs.Rules.{ticks_now}
 use Rattle.wrp_sim.proofs.Seen.{nodes_are}
 use Rattle.wrp_sim.proofs.SimLists.{find_end, found_at, passed_at}

@@ -1,8 +1,8 @@
 -- No node so far ticks now.
 use Rattle.std.proofs.Common.{◌≡◌, ◌-◌, find}
-use Rattle.wrp_world.specs.Setting.{Setting, from_on}
+use Rattle.wrp_course.specs.Setting.{Setting, from_on}
 use Rattle.wrp_world.specs.StandsFor.{StandsFor}
-use Rattle.wrp_world.specs.WorldAt.{WorldAt}
+use Rattle.wrp_course.specs.WorldAt.{WorldAt}
 use Rattle.wrp_sim.specs.Rules.{ticks_now}
 use Rattle.wrp_sim.specs.Sim.{SimIs}
 use Rattle.wrp_sim.specs.SimAt.{SimAt}

@@ -1,5 +1,5 @@
 use Rattle.std.proofs.Common.{◌∙◌, refl, subst, Option, Some}
-use Rattle.wrp_world.specs.declared.event.Event.{Event}
+use Rattle.wrp_course.specs.declared.event.Event.{Event}
 use Rattle.wrp_sim.specs.Rules.{begins, fails, first_of, later_rules, next_of, rest_of}
 use Rattle.wrp_sim.specs.Scenario.{SceneAt}
 use Rattle.wrp_sim.specs.Sim.{Gave}

@@ -3,7 +3,7 @@ use Rattle.std.proofs.lemmas.Int.{to_z-of_z}
 use Rattle.std.specs.Int.{w64}
 use Rattle.wrp_base.specs.declared.configuration.NetCfg.{NetCfg}
 use Rattle.wrp_config.specs.declared.network.Network.{Network}
-use Rattle.wrp_world.specs.Setting.{from_on, nodes_of}
+use Rattle.wrp_course.specs.Setting.{from_on, nodes_of}
 use Rattle.wrp_sim.specs.Rules.{comes, drift_over, moments, next_moment, pass_of, passes}
 use Rattle.wrp_sim.proofs.RuleCases.{goes_on, pass_is}
 use Rattle.wrp_sim.proofs.Turns.{came, gives_same}

@@ -5,8 +5,8 @@ use Rattle.wrp_base.specs.declared.network.LinkCfg.{LinkCfg}
 use Rattle.wrp_base.specs.declared.network.NodeCfg.{NodeCfg}
 use Rattle.wrp_base.proofs.Lists.{has_item}
 use Rattle.wrp_config.specs.declared.network.Network.{Network}
-use Rattle.wrp_world.specs.declared.event.Event.TheVariants.{Sample}
-use Rattle.wrp_world.specs.Setting.{link_of}
+use Rattle.wrp_course.specs.declared.event.Event.TheVariants.{Sample}
+use Rattle.wrp_course.specs.Setting.{link_of}
 use Rattle.wrp_sim.specs.Draws.{next_state}
 use Rattle.wrp_sim.specs.Numbers.{base_before, bits_behind, drawn_zeros}
 use Rattle.wrp_sim.specs.Rules.{after_draw, comes, sample_of, step_below}

@@ -1,5 +1,5 @@
 use Rattle.std.proofs.Common.{◌∙◌, sym, option_and_then}
-use Rattle.wrp_world.specs.Setting.{link_of}
+use Rattle.wrp_course.specs.Setting.{link_of}
 use Rattle.wrp_sim.specs.Rules.{after_draw, comes, sample_below, sample_of}
 use Rattle.wrp_sim.proofs.RuleCases.{dark, lit}
 use Rattle.wrp_sim.proofs.Turns.{gave_none, gives_same}

@@ -2,8 +2,8 @@ use Rattle.std.proofs.Common.{◌≡◌, ◌∙◌, ap, ap₂, sym, subst, ℕ, 
 use Rattle.wrp_base.specs.declared.configuration.NetCfg.{NetCfg}
 use Rattle.wrp_bounds.specs.Times.{longest_tick, shortest_tick}
 use Rattle.wrp_config.specs.declared.network.Network.{Network}
-use Rattle.wrp_world.specs.Plant.{Each}
-use Rattle.wrp_world.proofs.SignedReads.{read}
+use Rattle.wrp_plant.specs.Plant.{Each}
+use Rattle.wrp_plant.proofs.SignedReads.{read}
 use Rattle.wrp_sim.specs.Draws.{drawn_from, next_state}
 use Rattle.wrp_sim.specs.Rules.{with_tick}
 use Rattle.wrp_sim.proofs.TickTimes.{ticks_set}

@@ -2,7 +2,7 @@ use Rattle.std.proofs.Common.{rules, ◌∙◌, ap, ap₂, sym, ℤ, Bool, if◌
 use Rattle.std.proofs.lemmas.Int.{ints, to_z-of_z}
 use Rattle.std.specs.Int.{w128}
 use Rattle.wrp_sim.specs.Rules.{sooner}
-use Rattle.wrp_world.proofs.SignedReads.{read}
+use Rattle.wrp_plant.proofs.SignedReads.{read}
 use Rattle.wrp_sim.proofs.sim.state.State.sooner_tick.Goals as goal
 
 pub returns-then-up-clause-value : goal.returns-then-up-clause-value

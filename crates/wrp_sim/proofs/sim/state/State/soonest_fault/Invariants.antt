@@ -1,8 +1,8 @@
 -- The soonest of the times of the faults that are left is the soonest of all; it is after now.
 use Rattle.std.proofs.Common.{◌≡◌, ◌≤◌, ◌^◌, ◌<ℤ◌, ◌≤ℤ◌, unsigned_abs, fold, map, drop}
-use Rattle.wrp_world.specs.Setting.{Setting}
+use Rattle.wrp_course.specs.Setting.{Setting}
 use Rattle.wrp_world.specs.StandsFor.{StandsFor}
-use Rattle.wrp_world.specs.WorldAt.{WorldAt}
+use Rattle.wrp_course.specs.WorldAt.{WorldAt}
 use Rattle.wrp_sim.specs.Rules.{fault_time, sooner}
 use Rattle.wrp_sim.proofs.sim.state.State.soonest_fault.Given as goal
 

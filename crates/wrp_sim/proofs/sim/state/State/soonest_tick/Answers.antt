@@ -3,8 +3,8 @@ use Rattle.std.proofs.Common.{◌≡◌, ◌∙◌, ap, ap₂, sym, subst, ℕ, 
 use Rattle.std.proofs.lemmas.Int.{ints}
 use Rattle.wrp_base.specs.declared.configuration.NetCfg.{NetCfg}
 use Rattle.wrp_base.specs.Network.{node_count}
-use Rattle.wrp_world.specs.Setting.{from_on}
-use Rattle.wrp_world.proofs.SignedReads.{read}
+use Rattle.wrp_course.specs.Setting.{from_on}
+use Rattle.wrp_plant.proofs.SignedReads.{read}
 use Rattle.wrp_sim.specs.Rules.{sooner}
 use Rattle.wrp_sim.proofs.Moments.{tried_node, tried_nodes, untried_nodes}
 use Rattle.wrp_sim.proofs.sim.state.State.soonest_tick.Goals as goal

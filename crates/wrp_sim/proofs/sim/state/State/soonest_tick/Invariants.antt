@@ -1,9 +1,9 @@
 -- The soonest of the tick times that are left is the soonest of all; it is after now.
 use Rattle.std.proofs.Common.{◌≡◌, ◌-◌, ◌≤◌, ◌^◌, unsigned_abs, fold, map, filter}
 use Rattle.std.proofs.Common.{◌<ℤ◌, ◌≤ℤ◌}
-use Rattle.wrp_world.specs.Setting.{Setting, from_on}
+use Rattle.wrp_course.specs.Setting.{Setting, from_on}
 use Rattle.wrp_world.specs.StandsFor.{StandsFor}
-use Rattle.wrp_world.specs.WorldAt.{WorldAt}
+use Rattle.wrp_course.specs.WorldAt.{WorldAt}
 use Rattle.wrp_sim.specs.Rules.{sooner}
 use Rattle.wrp_sim.specs.Sim.{SimIs}
 use Rattle.wrp_sim.specs.SimAt.{SimAt}

@@ -5,7 +5,7 @@ use Rattle.wrp_config.specs.declared.network.Network.{Network}
 use Rattle.wrp_phase.specs.BeatPattern.{true_step}
 use Rattle.wrp_sim.specs.Rules.{step_below}
 use Rattle.wrp_sim.proofs.Seen.{ends_within, link_is}
-use Rattle.wrp_world.proofs.SignedReads.{read}
+use Rattle.wrp_plant.proofs.SignedReads.{read}
 use Rattle.wrp_sim.proofs.sim.state.State.step_below.Goals as goal
 
 pub apart-ahead-requires-clause-upper : goal.apart-ahead-requires-clause-upper

@@ -1,7 +1,7 @@
 use Rattle.std.proofs.Common.{rules, ◌∙◌, FitsSigned, arith}
 use Rattle.std.proofs.lemmas.Int.{ints, to_z-of_z}
 use Rattle.std.specs.Int.{w64}
-use Rattle.wrp_world.proofs.SignedReads.{read}
+use Rattle.wrp_plant.proofs.SignedReads.{read}
 use Rattle.wrp_sim.proofs.Moments.{waited}
 use Rattle.wrp_sim.proofs.sim.state.State.wait.Goals as goal
 

@@ -1,0 +1,75 @@
+//! Which end of which link a port of a node is.
+ghost use Rattle.std.specs.Prelude.{◌≡◌, ◌<◌, length, IfSome};
+ghost use Rattle.wrp_base.specs.Network.{other_of};
+ghost use Rattle.wrp_config.specs.Names as names;
+ghost use Rattle.wrp_course.specs.Setting.{place_among};
+ghost use Rattle.wrp_course.specs.Setting.{across};
+
+use wrp_base::{LinkCfg, NetCfg, Role};
+
+/// An end of a link.
+#[derive(Clone, Copy, Debug, PartialEq, Eq)]
+pub struct Place {
+    /// The link.
+    pub link: u8,
+    /// Which end it is.
+    pub role: Role,
+}
+
+impl Place {
+    /// The other end of its link.
+    pub fn across(self) -> Place
+        ensures { result ≡ across self }
+    {
+        Place {
+            link: self.link,
+            role: other_of(self.role),
+        }
+    }
+}
+
+/// The role at the other end.
+pub fn other_of(role: Role) -> Role
+    ensures { result ≡ other_of role }
+{
+    match role {
+        Role::Master => Role::Slave,
+        Role::Slave => Role::Master,
+    }
+}
+
+fn is_upper_end(link: &LinkCfg, n: u8, port: u16) -> bool
+    ensures { result ≡ names.is_upper_end n port link.now }
+{
+    link.upper == n && link.upper_port == port
+}
+
+fn is_lower_end(link: &LinkCfg, n: u8, port: u16) -> bool
+    ensures { result ≡ names.is_lower_end n port link.now }
+{
+    link.lower == n && link.lower_port == port
+}
+
+/// The end that a port of a node is. `None` exactly where no link has that port.
+pub fn place_of(cfg: &NetCfg, n: u8, port: u16) -> Option<Place>
+    ensures value { result ≡ place_among n port 0 cfg.now.links.items }
+    ensures within { IfSome result (λ place. place.link < length cfg.now.links.items) }
+{
+    let mut k: u8 = 0;
+    for link in cfg.links.as_slice() {
+        if is_upper_end(link, n, port) {
+            return Some(Place {
+                link: k,
+                role: Role::Master,
+            });
+        }
+        if is_lower_end(link, n, port) {
+            return Some(Place {
+                link: k,
+                role: Role::Slave,
+            });
+        }
+        k += 1;
+    }
+    None
+}

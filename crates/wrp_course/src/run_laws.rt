@@ -1,0 +1,99 @@
+//! Laws of every run of an accepted network: functions whose contracts are the laws, and whose bodies call
+//! the laws that they stand on.
+ghost use Rattle.wrp_course.specs.Dropped.{DroppedFramesLeaveACount};
+ghost use Rattle.wrp_course.specs.Earned.{LinkOnIsEarned, ReportsAreTrue};
+ghost use Rattle.wrp_course.specs.RunLaws.{FramesHaveTimes, FramesWerePutOut, ModulesStay, TicksAreApart};
+ghost use Rattle.wrp_course.specs.RunLaws.{TimeNeverFalls};
+ghost use Rattle.wrp_course.specs.RunStamps.{FramesAreStamped};
+ghost use Rattle.wrp_course.specs.SameHandshake.{CarriersAreTheLinks, CarriersWithTheirModules};
+ghost use Rattle.wrp_course.specs.SameHandshake.{LinkOnInTheSameHandshake, LinkOnWithTheDeltas, LinksCanBe};
+
+use crate::laws::arrival_keeps_stamp_bound;
+use wrp_config::child_is_deeper;
+use wrp_handshake::{carrier_with_its_module, on_in_the_same_handshake, on_with_the_deltas};
+use wrp_node::{
+    dropped_leaves_a_count, ends_are_set, signals_are_of_link, step_gives_links, step_settles,
+};
+
+/// Each link is one that can be, as the laws of one link by itself have it; and so, after every event of
+/// every run, whatever frames are lost, late, repeated or of an earlier carrier, whatever octets come
+/// that the peer did not send, and whichever nodes go down and come up with whichever modules:
+///
+/// - No port is in WR_LINK_ON unless its peer went through the steps that this requires, in that same
+///   handshake.
+/// - A slave in WR_LINK_ON knows the deltas of the modules that are in place at both ends, and its
+///   master's were told in that handshake.
+/// - A port has its carrier exactly where its link has, at both ends in the same event, and then its
+///   module is the one in place.
+pub fn link_on_in_the_same_handshake()
+    ensures links { LinksCanBe }
+    ensures handshake { LinkOnInTheSameHandshake }
+    ensures deltas { LinkOnWithTheDeltas }
+    ensures carriers { CarriersAreTheLinks }
+    ensures modules { CarriersWithTheirModules }
+{
+    step_gives_links();
+    signals_are_of_link();
+    ends_are_set();
+    child_is_deeper();
+    on_in_the_same_handshake();
+    on_with_the_deltas();
+    carrier_with_its_module();
+}
+
+/// Each port in WR_LINK_ON has earned it, after every event of every run: its peer passed the required
+/// steps of that same handshake, and a slave knows the deltas of the modules that are in place. And
+/// whatever port a node reports to be in WR_LINK_ON in an event is there after it, and has earned it.
+pub fn reported_link_on_is_earned()
+    ensures earned { LinkOnIsEarned }
+    ensures reports { ReportsAreTrue }
+{
+    step_gives_links();
+    link_on_in_the_same_handshake();
+}
+
+/// A frame that a node drops for one of the reasons 1 to 12, as no message or as a foreign one, raises
+/// one counter of that node. In the event that hands it over nothing else changes, of no node and of
+/// nothing between the nodes, and nothing is put out.
+pub fn dropped_frames_leave_a_count()
+    ensures { DroppedFramesLeaveACount }
+{
+    dropped_leaves_a_count();
+    step_settles();
+}
+
+/// True time never falls.
+pub fn time_never_falls()
+    ensures { TimeNeverFalls }
+{}
+
+/// Each frame that departed is among those that its port ever put out.
+pub fn frames_were_put_out()
+    ensures { FramesWerePutOut }
+{}
+
+/// A frame is put out, departs and arrives in this order, by true time and by events, and arrives when it
+/// is due.
+pub fn frames_have_times()
+    ensures { FramesHaveTimes }
+{}
+
+/// Each frame departed with a stamp near the reading of the node that sent it, no older than a frame's
+/// life; if it arrived, its raw stamp keeps the stamp bound about the reading of the node that received
+/// it; both over a link that had its carrier.
+pub fn frames_are_stamped()
+    ensures { FramesAreStamped }
+{
+    arrival_keeps_stamp_bound();
+}
+
+/// The time of a node's last tick, or of its start, stays in an event, or the node ticks, no sooner than
+/// dmin after it, or starts.
+pub fn ticks_are_apart()
+    ensures { TicksAreApart }
+{}
+
+/// At the ends of a link that has its carrier the modules stay, with their true delays.
+pub fn modules_stay()
+    ensures { ModulesStay }
+{}

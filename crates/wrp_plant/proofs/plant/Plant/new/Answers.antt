@@ -1,0 +1,46 @@
+use Rattle.std.proofs.Common.{◌≡◌, ◌∙◌, refl, sym, ap, subst, ◌*ℤ◌, ◌≤◌, List, length, arith}
+use Rattle.wrp_base.specs.declared.configuration.NetCfg.{NetCfg}
+use Rattle.wrp_base.specs.declared.network.LinkCfg.{LinkCfg}
+use Rattle.wrp_base.specs.Clock.{second}
+use Rattle.wrp_caldb.specs.Database.{Database}
+use Rattle.wrp_plant.specs.declared.frames.Departed.{Departed}
+use Rattle.wrp_plant.specs.New.{IsSpanOf, new_clock}
+use Rattle.wrp_plant.specs.Plant.{Each, FitsDeparted}
+use Rattle.wrp_plant.specs.Sizes.{IsTimeBy}
+use Rattle.wrp_plant.proofs.EachLists.{each_none}
+use Rattle.wrp_plant.proofs.NewPlants.{new_plant, clocks_fit, spans_fit}
+use Rattle.wrp_plant.proofs.SignedReads.{read}
+use Rattle.wrp_plant.proofs.plant.Plant.new.Goals as goal
+
+pub returns-clause-stands : goal.returns-clause-stands
+returns-clause-stands c s e f =
+    let start = read c.start_of-start.result (omega (arith, c.start_of-start.ensures.size)) ∙ c.start_of-start.ensures.value
+    ∙ ap (λ (cfg : NetCfg). cfg.epoch *ℤ second) e in
+    let links = c.as_slice.ensures.value ∙ ap (λ (cfg : NetCfg). cfg.links.items) e in
+    new_plant s _ (record {
+      cfg = e;
+      db = f;
+      time = start;
+      events = refl;
+      clocks = subst (λ t. Each (λ n clock. clock ≡ new_clock t) c.in_ok-clocks.clocks.items) start c.in_ok-clocks.ensures.each;
+      span_count = c.in_ok-spans.ensures.count ∙ ap length links;
+      spans = subst (λ (db : Database). Each (IsSpanOf db s.cfg.links.items) c.in_ok-spans.spans.items) f
+          (subst (λ (xs : List LinkCfg). Each (IsSpanOf c.args.net.db xs) c.in_ok-spans.spans.items) links c.in_ok-spans.ensures.each);
+      frames = c.new.ensures;
+    })
+
+pub returns-clause-fits : goal.returns-clause-fits
+returns-clause-fits c =
+    let start = read c.start_of-start.result (omega (arith, c.start_of-start.ensures.size)) in
+    let time = subst (IsTimeBy 0) (sym start) c.start_of-start.ensures.size in
+    record {
+      accepted = c.requires;
+      clock_count = c.in_ok-clocks.ensures.count ∙ c.len.ensures.value;
+      span_count = c.in_ok-spans.ensures.count ∙ ap length c.as_slice.ensures.value;
+      events = omega arith;
+      time = time;
+      clocks = clocks_fit _ c.in_ok-clocks.clocks.items time c.in_ok-clocks.ensures.each;
+      spans = spans_fit c.args.net.db c.as_slice.result.now c.in_ok-spans.spans.items c.in_ok-spans.ensures.count c.in_ok-spans.ensures.each;
+      frame_count = subst (λ (fs : List Departed). length fs ≤ 0) (sym c.new.ensures) (omega arith);
+      frames = subst (Each (λ i. FitsDeparted (length c.args.net.cfg.links.items) 0)) (sym c.new.ensures) (each_none (λ i. FitsDeparted (length c.args.net.cfg.links.items) 0));
+    }

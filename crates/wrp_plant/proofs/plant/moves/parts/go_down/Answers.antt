@@ -1,0 +1,8 @@
+use Rattle.std.proofs.Common.{refl, sym, subst}
+use Rattle.wrp_plant.specs.Moves.{Changed}
+use Rattle.wrp_plant.proofs.plant.moves.parts.go_down.Goals as goal
+
+pub returns : goal.returns
+returns c =
+    subst (Changed _ _ _ _ c.args.plant.now) (sym c.count.ensures)
+    (record { cfg = refl; db = refl; time = refl; count = refl; of_clocks = c.go_down.ensures; of_spans = c.drop_at.ensures; of_frames = c.lose_node.ensures })

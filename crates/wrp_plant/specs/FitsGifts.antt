@@ -1,0 +1,27 @@
+-- Which inputs a node of a network can take, as far as its count of ticks is not asked (this project's profile).
+use Rattle.std.specs.Prelude.{ℕ, ◌≡◌, ◌<◌, ◌==◌, Bool, true}
+use Rattle.std.specs.List.{list_any}
+use Rattle.wrp_base.specs.declared.configuration.NetCfg.{NetCfg}
+use Rattle.wrp_base.specs.Network.{node_count}
+use Rattle.wrp_node.specs.declared.interface.Input.{Input}
+use Rattle.wrp_node.specs.declared.interface.Input.TheVariants.{Tick, Sample, Frame, Sent, Carrier, Reset}
+use Rattle.wrp_node.specs.NodeAt.{numbers_of}
+use Rattle.wrp_node.specs.Parts.{FitsRaw}
+use Rattle.wrp_node.specs.Set.{set_of}
+use Rattle.wrp_port.specs.PortAt.{IsStamp}
+use Rattle.wrp_course.specs.declared.node_out.NodeOut.{NodeOut}
+use Rattle.wrp_course.specs.Setting.{has_port}
+
+-- the port is one of the node's, and numbers are in their ranges
+abbrev pub FitsNode : NetCfg → ℕ → Input → Type 0
+FitsNode cfg n Tick = Unit {0}
+FitsNode cfg n (Sample number base bits) = base < 16_384
+FitsNode cfg n (Frame p octets raw sample) = (has_port cfg n p ≡ true) × FitsRaw raw
+FitsNode cfg n (Sent p seq delay stamp) = (has_port cfg n p ≡ true) × IsStamp stamp
+FitsNode cfg n (Carrier p up own_module) = has_port cfg n p ≡ true
+FitsNode cfg n Reset = Unit {0}
+
+-- an input that is listed goes to a node of the network, and can come there
+pub record FitsGift (cfg : NetCfg) (out : NodeOut) : Type 0 where
+  pub node : out.node < node_count cfg
+  pub input : FitsNode cfg out.node out.input

@@ -1,0 +1,14 @@
+pub mod Begins
+pub mod Changes
+pub mod FitsGifts
+pub mod Flights
+pub mod Gifts
+pub mod Giving
+pub mod Moves
+pub mod New
+pub mod OnFibre
+pub mod Plant
+pub mod PlantTold
+pub mod Room
+pub mod Sizes
+pub mod Tried

@@ -1,0 +1,33 @@
+-- Memory that is taken before it is used, at each end of each link (this project's profile).
+use Rattle.std.specs.Prelude.{◌≡◌, ◌≤◌, ◌+◌, ◌*◌, ℕ, vec_len, vec_capacity}
+use Rattle.wrp_plant.specs.declared.ends.EndState.{EndState}
+use Rattle.wrp_plant.specs.declared.ends.Span.{Span}
+use Rattle.wrp_plant.specs.declared.plant.Plant.{Plant}
+use Rattle.wrp_plant.specs.Plant.{Each}
+
+-- an end has places for what its port may send in so many steps of its node, at most four frames in each, and for a mark
+-- at each
+pub record HasEndRoom (steps : ℕ) (end : EndState) : Type 0 where
+  pub waiting : vec_len end.waiting + 4 * steps ≤ vec_capacity end.waiting
+  pub marks : vec_len end.marks + steps ≤ vec_capacity end.marks
+
+pub record HasSpanRoom (steps : ℕ) (span : Span) : Type 0 where
+  pub master : HasEndRoom steps span.master
+  pub slave : HasEndRoom steps span.slave
+
+-- each end of each link has places for so many steps of nodes
+abbrev pub HasRoom : ℕ → Plant → Type 0
+HasRoom steps plant = Each (λ k. HasSpanRoom steps) plant.spans.items
+
+-- an end is as it was, but for places that may be more
+pub record SameEnd (old new : EndState) : Type 0 where
+  pub name : new.name ≡ old.name
+  pub tx : new.tx ≡ old.tx
+  pub rx : new.rx ≡ old.rx
+  pub waiting : new.waiting.items ≡ old.waiting.items
+  pub marks : new.marks.items ≡ old.marks.items
+
+pub record SameSpan (k : ℕ) (old new : Span) : Type 0 where
+  pub fibre : new.fibre ≡ old.fibre
+  pub master : SameEnd old.master new.master
+  pub slave : SameEnd old.slave new.slave

@@ -1,0 +1,14 @@
+//! All of a world but its nodes, as the code keeps it: true time, clocks, fibres, ends of links and frames in
+//! flight; which premise an event breaks, what an event changes of them by itself, and which inputs it gives the
+//! nodes (this project's profile).
+#![tactic(auto)]
+
+mod checks;
+mod ends;
+mod frames;
+mod plant;
+mod premises;
+
+pub use plant::Plant;
+pub use plant::told::News;
+pub use premises::rates::rate_kept;

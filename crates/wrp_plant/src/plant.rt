@@ -1,0 +1,35 @@
+//! All of a world but its nodes: true time, clocks, fibres, ends of links and frames in flight.
+mod begin;
+mod change;
+mod giving;
+mod handing;
+pub mod moves;
+mod new;
+mod parts;
+mod room;
+pub mod told;
+mod tries;
+mod views;
+
+use crate::ends::Span;
+use crate::frames::Frames;
+use wrp_base::Tau;
+use wrp_config::Network;
+use wrp_course::ClockState;
+
+/// All of a world but its nodes.
+#[derive(Debug, Drop)]
+pub struct Plant {
+    /// The network.
+    pub net: Network,
+    /// True time.
+    pub time: Tau,
+    /// The events so far.
+    pub events: u32,
+    /// The clock of each node, in file order.
+    pub clocks: Vec<ClockState>,
+    /// Each link, in file order.
+    pub spans: Vec<Span>,
+    /// The frames that departed.
+    pub frames: Frames,
+}

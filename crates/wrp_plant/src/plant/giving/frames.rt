@@ -1,0 +1,174 @@
+//! What a frame gives as it is handed over, and as it departs.
+ghost use Rattle.std.specs.Prelude.{◌≡◌, ◌<◌, ◌∷◌, [], ℕ, length, pos, true, option_map, IfSome};
+ghost use Rattle.std.specs.List.{AllByRecursion, AllZip};
+ghost use Rattle.std.specs.Option.{option_map_or};
+ghost use Rattle.wrp_base.specs.declared.configuration.NetCfg.{NetCfg as Net};
+ghost use Rattle.wrp_base.specs.declared.message.PtpMsg.{PtpMsg as Message};
+ghost use Rattle.wrp_base.specs.Network.{node_count};
+ghost use Rattle.wrp_frame.specs.Grammar.{Spells};
+ghost use Rattle.wrp_port.specs.PortAt.{IsStamp};
+ghost use Rattle.wrp_course.specs.declared.event.Event.TheVariants as event;
+ghost use Rattle.wrp_course.specs.EventAt.{IsRaw, IsTime};
+ghost use Rattle.wrp_plant.specs.FitsGifts.{FitsGift, FitsNode};
+ghost use Rattle.wrp_course.specs.Setting.{has_port};
+ghost use Rattle.wrp_plant.specs.Gifts.{GiftIs};
+ghost use Rattle.wrp_course.specs.Given.{delivered_by};
+ghost use Rattle.wrp_plant.specs.Giving.{Gives, entries_of, listed, sent_by, sent_first};
+ghost use Rattle.wrp_plant.specs.Plant.{DepartedIs, EndIs, FitsDeparted, FitsPlant, PlantIs, ReceptionIs, frame_numbered};
+ghost use Rattle.wrp_course.specs.Setting.{Setting};
+ghost use Rattle.wrp_course.specs.WorldAt.{Arrival, EndAt, FrameAt, WorldAt};
+
+use super::super::Plant;
+use super::ends::other_end;
+use super::listing::Gift;
+use crate::ends::EndState;
+use crate::frames::{Departed, Reception};
+use crate::plant::told::ends::copied;
+use wrp_base::{Body, PtpMsg, Stamp, Tau};
+use wrp_course::{Place, place_of};
+use wrp_frame::decode;
+use wrp_node::Input;
+
+// The input that tells the sending of a message: a Sync and a Delay_Req alone are told.
+fn sending(message: &PtpMsg, port: u16, stamp: Stamp) -> Option<Input>
+    ensures is { result ≡ sent_by port stamp message.now }
+    ensures fits { (cfg : Net) (n : ℕ) → has_port cfg n port ≡ true → IsStamp stamp
+        → IfSome result (FitsNode cfg n) }
+{
+    let seq = message.head.seq;
+    match message.body {
+        Body::Sync { .. } => Some(Input::Sent {
+            port,
+            seq,
+            delay: false,
+            stamp,
+        }),
+        Body::DelayReq { .. } => Some(Input::Sent {
+            port,
+            seq,
+            delay: true,
+            stamp,
+        }),
+        _ => None,
+    }
+}
+
+// The same of octets.
+fn sending_of(octets: &[u8], port: u16, stamp: Stamp) -> Option<Input>
+    ensures is { (message : Message) → Spells octets.now message
+        → result ≡ sent_by port stamp message }
+    ensures fits { (cfg : Net) (n : ℕ) → has_port cfg n port ≡ true → IsStamp stamp
+        → IfSome result (FitsNode cfg n) }
+{
+    match decode(octets) {
+        Ok(message) => sending(&message, port, stamp),
+        Err(_fault) => None,
+    }
+}
+
+// The same of the oldest frame that waits at an end.
+fn oldest_sending(end: &EndState, port: u16, stamp: Stamp) -> Option<Input>
+    ensures is { (at : EndAt) → EndIs at end.now → result ≡ sent_first port stamp at.waiting }
+    ensures fits { (cfg : Net) (n : ℕ) → has_port cfg n port ≡ true → IsStamp stamp
+        → IfSome result (FitsNode cfg n) }
+{
+    match end.waiting.first() {
+        Some(oldest) => sending_of(&oldest.octets, port, stamp),
+        None => None,
+    }
+}
+
+// An input of this node.
+fn to_node(n: u8, input: Option<Input>) -> Option<Gift>
+    ensures { result ≡ option_map (λ it. record { node = n; input = it }) input }
+{
+    match input {
+        Some(input) => Some(Gift { node: n, input }),
+        None => None,
+    }
+}
+
+impl Plant {
+    /// The input that a departure gives, at which the sending of a frame may be told.
+    pub fn gift_of_departure(&self, n: u8, port: u16, stamp: Tau) -> Option<Gift>
+        requires fits { FitsPlant self.now }
+        requires node { n < node_count self.now.net.cfg }
+        requires stamp { IsTime stamp }
+        ensures { Gives self.now (event.Depart n port stamp) (entries_of result) }
+    {
+        let sample = self.clock(n).samples;
+        let told = Stamp {
+            value: stamp,
+            sample,
+        };
+        match place_of(&self.net.cfg, n, port) {
+            Some(place) => to_node(n, oldest_sending(self.end(place), port, told)),
+            None => None,
+        }
+    }
+
+    /// The input that a frame gives as it is handed over: none where it has not arrived.
+    pub fn gift_of_frame(&self, number: u32) -> Option<Gift>
+        requires fits { FitsPlant self.now }
+        ensures { Gives self.now (event.Deliver number) (entries_of result) }
+    {
+        match self.frame(number) {
+            Some(frame) => self.arrived(frame),
+            None => None,
+        }
+    }
+
+    // The same of a frame that departed.
+    fn arrived(&self, frame: &Departed) -> Option<Gift>
+        requires fits { FitsPlant self.now }
+        requires frame { FitsDeparted (length self.now.net.cfg.links.items)
+            self.now.events frame.now }
+        ensures gifts { (s : Setting) (w : WorldAt) (f : FrameAt) → PlantIs s w self.now
+            → DepartedIs f frame.now
+            → AllZip (GiftIs frame.now.sent) (delivered_by s f f.arrival) (entries_of result) }
+        ensures fits { AllByRecursion (FitsGift self.now.net.cfg) (entries_of result) }
+    {
+        match frame.arrival {
+            Some(reception) => Some(self.received(frame, reception)),
+            None => None,
+        }
+    }
+
+    // The same of a frame that arrived so.
+    fn received(&self, frame: &Departed, reception: Reception) -> Gift
+        requires fits { FitsPlant self.now }
+        requires link { frame.now.link < length self.now.net.cfg.links.items }
+        requires raw { IsRaw reception.raw }
+        ensures gifts { (s : Setting) (w : WorldAt) (f : FrameAt) (a : Arrival)
+            → PlantIs s w self.now → DepartedIs f frame.now → ReceptionIs a reception
+            → AllZip (GiftIs frame.now.sent) (delivered_by s f (Some a)) (listed result ∷ []) }
+        ensures fits { FitsGift self.now.net.cfg (listed result) }
+    {
+        let sender = Place {
+            link: frame.link,
+            role: frame.by,
+        };
+        let (node, port) = self.own_at(other_end(sender));
+        Gift {
+            node,
+            input: Input::Frame {
+                port,
+                bytes: copied(&frame.octets),
+                raw: reception.raw,
+                sample: reception.sample,
+            },
+        }
+    }
+
+    /// The true time at which a frame was put out, 0 where its number was not given.
+    pub fn sent_at(&self, number: u32) -> Tau
+        requires { FitsPlant self.now }
+        ensures { result ≡ option_map_or (λ d. d.sent)
+            (frame_numbered number self.now.frames) (pos 0) }
+    {
+        match self.frame(number) {
+            Some(frame) => frame.sent,
+            None => 0,
+        }
+    }
+}

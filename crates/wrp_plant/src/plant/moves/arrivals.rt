@@ -1,0 +1,93 @@
+//! Frames that arrive.
+ghost use Rattle.std.specs.Prelude.{◌≡◌, ◌<◌, ◌+◌, ◌^◌, ℕ, length, option_map, IfSome};
+ghost use Rattle.std.specs.Option.{option_map_or};
+ghost use Rattle.wrp_base.specs.Network.{other_of};
+ghost use Rattle.wrp_course.specs.declared.event.Event.TheVariants as event;
+ghost use Rattle.wrp_course.specs.EventAt.{IsRaw};
+ghost use Rattle.wrp_plant.specs.Flights.{Arrives, from_of};
+ghost use Rattle.wrp_course.specs.Moved.{moved};
+ghost use Rattle.wrp_plant.specs.Moves.{Changed, Same, Turns};
+ghost use Rattle.wrp_plant.specs.Plant.{FitsPlant, PlantIs, frame_numbered};
+ghost use Rattle.wrp_plant.specs.Room.{HasRoom};
+ghost use Rattle.wrp_course.specs.Setting.{Setting, end_at};
+ghost use Rattle.wrp_course.specs.WorldAt.{WorldAt};
+
+use super::super::Plant;
+use super::parts::stay;
+use crate::frames::Reception;
+use wrp_base::{Raw, Role};
+use wrp_course::Place;
+
+// The role at the other end.
+fn other_of(role: Role) -> Role
+    ensures { result ≡ other_of role }
+{
+    match role {
+        Role::Master => Role::Slave,
+        Role::Slave => Role::Master,
+    }
+}
+
+// A frame arrives, and one event is counted.
+fn arrive(plant: &mut Plant, number: u32, from: Place, reception: Reception)
+    requires fits { FitsPlant plant.old }
+    requires few { plant.old.events + 1 < 2 ^ 32 }
+    ensures { Changed Same Same (Turns (Arrives number from reception)) plant.old.time plant.old plant.new }
+{
+    plant.frames.arrive(number, from, reception);
+    plant.events += 1;
+}
+
+impl Plant {
+    // The end that sent a frame. `None` exactly where the number was not given.
+    fn sent_from(&self, number: u32) -> Option<Place>
+        requires { FitsPlant self.now }
+        ensures value { result ≡ option_map from_of (frame_numbered number self.now.frames) }
+        ensures within { IfSome result (λ from. from.link < length self.now.net.cfg.links.items) }
+    {
+        match self.frame(number) {
+            Some(frame) => Some(Place {
+                link: frame.link,
+                role: frame.by,
+            }),
+            None => None,
+        }
+    }
+
+    // The samples so far at the node that receives what this end sends.
+    fn samples_past(&self, from: Place) -> u32
+        requires fits { FitsPlant self.now }
+        requires link { from.link < length self.now.net.cfg.links.items }
+        ensures { (s : Setting) (w : WorldAt) → PlantIs s w self.now
+            → result ≡ option_map_or (λ end. (w.clock end.node).samples) (end_at s from.link (other_of from.role)) 0 }
+    {
+        let to = Place {
+            link: from.link,
+            role: other_of(from.role),
+        };
+        let n = self.node_at(to);
+        self.clock(n).samples
+    }
+
+    /// A frame arrives with this stamp, and the older ones of its direction that are on its fibre are
+    /// lost.
+    pub fn arrive(&mut self, number: u32, raw: Raw)
+        requires fits { FitsPlant self.old }
+        requires raw { IsRaw raw }
+        requires few { self.old.events + 1 < 2 ^ 32 }
+        ensures is { (s : Setting) (w : WorldAt) → PlantIs s w self.old
+            → PlantIs s (moved s w (event.Arrive number raw)) self.new }
+        ensures fits { FitsPlant self.new }
+        ensures net { self.new.net ≡ self.old.net }
+        ensures events { self.new.events ≡ self.old.events + 1 }
+        ensures room { (k : ℕ) → HasRoom k self.old → HasRoom k self.new }
+    {
+        match self.sent_from(number) {
+            Some(from) => {
+                let sample = self.samples_past(from);
+                arrive(self, number, from, Reception { raw, sample });
+            }
+            None => stay(self),
+        }
+    }
+}

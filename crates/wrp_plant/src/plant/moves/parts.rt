@@ -1,0 +1,110 @@
+//! What an event changes of each part of a plant.
+ghost use Rattle.std.specs.Prelude.{◌≡◌, ◌<◌, ◌≤◌, ◌+◌, ◌+ℤ◌, ◌^◌, length};
+ghost use Rattle.wrp_plant.specs.Moves.{At, Changed, ComesUp, Cuts, Drifts, DropsAt, GoesDown, Joins, LosesLink, LosesNode, Moves, Same, Samples, SwapsAt, Turns};
+ghost use Rattle.wrp_plant.specs.Plant.{FitsPlant};
+ghost use Rattle.wrp_plant.specs.Sizes.{IsTime};
+
+use super::super::Plant;
+use super::{clocks, spans, swaps};
+use arrayvec::ArrayVec;
+use wrp_base::{Tau, sum};
+use wrp_course::Swap;
+
+// One event more.
+fn count(plant: &mut Plant)
+    requires { plant.old.events + 1 < 2 ^ 32 }
+    ensures { plant.new ≡ record plant.old { events = plant.old.events + 1 } }
+{
+    plant.events += 1;
+}
+
+// One event more, and it is later by so much.
+fn count_later(plant: &mut Plant, dt: i64)
+    requires few { plant.old.events + 1 < 2 ^ 32 }
+    requires time { IsTime plant.old.time }
+    ensures { plant.new ≡ record plant.old { time = plant.old.time +ℤ dt; events = plant.old.events + 1 } }
+{
+    plant.time = sum(plant.time, i128::from(dt));
+    plant.events += 1;
+}
+
+/// Nothing changes.
+pub fn stay(plant: &mut Plant)
+    requires { plant.old.events + 1 < 2 ^ 32 }
+    ensures { Changed Same Same Same plant.old.time plant.old plant.new }
+{
+    count(plant);
+}
+
+/// True time passes.
+pub fn pass(
+    plant: &mut Plant,
+    dt: i64,
+    drifts: &ArrayVec<i64, 64>,
+    moves: &ArrayVec<(i64, i64), 63>,
+)
+    requires fits { FitsPlant plant.old }
+    requires few { plant.old.events + 1 < 2 ^ 32 }
+    ensures { Changed (Turns (Drifts drifts.now.items)) (Turns (Moves moves.now.items)) Same (plant.old.time +ℤ dt) plant.old plant.new }
+{
+    clocks::drift(&mut plant.clocks, drifts.as_slice());
+    spans::move_fibres(&mut plant.spans, moves.as_slice());
+    count_later(plant, dt);
+}
+
+/// A node's sample is counted.
+pub fn sample(plant: &mut Plant, n: u8)
+    requires fits { FitsPlant plant.old }
+    requires node { n < length plant.old.clocks.items }
+    requires few { plant.old.events + 1 < 2 ^ 32 }
+    ensures { Changed (Turns (At n Samples)) Same Same plant.old.time plant.old plant.new }
+{
+    clocks::sampled(&mut plant.clocks, n);
+    count(plant);
+}
+
+/// A link is joined.
+pub fn join(plant: &mut Plant, k: u8, ms: Tau, sm: Tau)
+    requires link { k < length plant.old.spans.items }
+    requires few { plant.old.events + 1 < 2 ^ 32 }
+    ensures { Changed Same (Turns (At k (Joins ms sm))) Same plant.old.time plant.old plant.new }
+{
+    spans::join(&mut plant.spans, k, ms, sm);
+    count(plant);
+}
+
+/// A link is cut.
+pub fn cut(plant: &mut Plant, k: u8)
+    requires link { k < length plant.old.spans.items }
+    requires few { plant.old.events + 1 < 2 ^ 32 }
+    ensures { Changed Same (Turns (At k Cuts)) (Turns (LosesLink k)) plant.old.time plant.old plant.new }
+{
+    spans::cut(&mut plant.spans, k);
+    plant.frames.lose_link(k);
+    count(plant);
+}
+
+/// A node goes down.
+pub fn go_down(plant: &mut Plant, n: u8)
+    requires node { n < length plant.old.clocks.items }
+    requires few { plant.old.events + 1 < 2 ^ 32 }
+    ensures { Changed (Turns (At n GoesDown)) (Turns (DropsAt n plant.old.net.cfg.links.items)) (Turns (LosesNode n plant.old.net.cfg.links.items)) plant.old.time plant.old plant.new }
+{
+    clocks::go_down(&mut plant.clocks, n);
+    spans::drop_at(&mut plant.spans, &plant.net.cfg, n);
+    plant.frames.lose_node(n, &plant.net.cfg);
+    count(plant);
+}
+
+/// A node comes up, with the modules that are put in place.
+pub fn come_up(plant: &mut Plant, n: u8, off: Tau, swaps: &ArrayVec<Swap, 18>)
+    requires node { n < length plant.old.clocks.items }
+    requires time { IsTime plant.old.time }
+    requires few { plant.old.events + 1 < 2 ^ 32 }
+    ensures { Changed (Turns (At n (ComesUp off plant.old.time)))
+        (Turns (SwapsAt n swaps.now.items plant.old.net.cfg.links.items)) Same plant.old.time plant.old plant.new }
+{
+    clocks::come_up(&mut plant.clocks, n, off, plant.time);
+    swaps::put_modules(&mut plant.spans, &plant.net.cfg, n, swaps.as_slice());
+    count(plant);
+}

@@ -1,0 +1,154 @@
+//! Fibres that move, are joined and are cut, and frames that are lost as they wait.
+ghost use Rattle.std.specs.Prelude.{◌≡◌, ◌<◌, ◌≤◌, ◌+ℤ◌, ◌^◌, length, slice_get, Some, unsigned_abs};
+ghost use Rattle.wrp_course.specs.Moved.{move_of};
+ghost use Rattle.wrp_plant.specs.Moves.{At, Cuts, Drops, DropsAt, Empties, Joins, Moves, Turns, Where, touches_in};
+ghost use Rattle.wrp_plant.specs.Plant.{Each};
+ghost use Rattle.wrp_plant.specs.Sizes.{IsDelay};
+ghost use Rattle.wrp_plant.specs.Tried.{moved_fibre};
+
+use crate::ends::{EndState, Span};
+use wrp_base::{LinkCfg, NetCfg, Tau, sum};
+use wrp_course::FibreState;
+
+// How far the delay of a fibre moves down.
+fn down_at(moves: &[(i64, i64)], k: usize) -> i64
+    ensures value { result ≡ (move_of moves.now k).0 }
+    ensures size { unsigned_abs result ≤ 2 ^ 63 }
+{
+    match moves.get(k) {
+        Some(by) => by.0,
+        None => 0,
+    }
+}
+
+// How far it moves up.
+fn up_at(moves: &[(i64, i64)], k: usize) -> i64
+    ensures value { result ≡ (move_of moves.now k).1 }
+    ensures size { unsigned_abs result ≤ 2 ^ 63 }
+{
+    match moves.get(k) {
+        Some(by) => by.1,
+        None => 0,
+    }
+}
+
+// The delays of a fibre move, down and up.
+fn move_by(fibre: &mut FibreState, down: i64, up: i64)
+    requires ms { IsDelay fibre.old.ms }
+    requires sm { IsDelay fibre.old.sm }
+    ensures { fibre.new ≡ record fibre.old { ms = fibre.old.ms +ℤ down; sm = fibre.old.sm +ℤ up } }
+{
+    fibre.ms = sum(fibre.ms, i128::from(down));
+    fibre.sm = sum(fibre.sm, i128::from(up));
+}
+
+/// A fibre whose delays moved by its own of the moves.
+pub fn moved(fibre: &FibreState, moves: &[(i64, i64)], k: u8) -> FibreState
+    requires ms { unsigned_abs fibre.now.ms ≤ 2 ^ 98 }
+    requires sm { unsigned_abs fibre.now.sm ≤ 2 ^ 98 }
+    ensures value { result ≡ moved_fibre moves.now k fibre.now }
+    ensures ms { IsDelay result.ms }
+    ensures sm { IsDelay result.sm }
+{
+    let mut moved = *fibre;
+    let place = usize::from(k);
+    move_by(&mut moved, down_at(moves, place), up_at(moves, place));
+    moved
+}
+
+// The delays of a link move by its own of the moves.
+fn move_one(span: &mut Span, moves: &[(i64, i64)], k: usize)
+    requires ms { IsDelay span.old.fibre.ms }
+    requires sm { IsDelay span.old.fibre.sm }
+    ensures { Moves moves.now k span.old span.new }
+{
+    move_by(&mut span.fibre, down_at(moves, k), up_at(moves, k));
+}
+
+/// The delays of each link move by its own of the moves.
+pub fn move_fibres(spans: &mut Vec<Span>, moves: &[(i64, i64)])
+    requires { Each (λ k span. IsDelay span.fibre.ms × IsDelay span.fibre.sm) spans.old.items }
+    ensures { Turns (Moves moves.now) spans.old.items spans.new.items }
+{
+    for k in 0..spans.len() {
+        move_one(&mut spans[k], moves, k);
+    }
+}
+
+/// A link is joined.
+pub fn join(spans: &mut Vec<Span>, k: u8, ms: Tau, sm: Tau)
+    requires { k < length spans.old.items }
+    ensures { Turns (At k (Joins ms sm)) spans.old.items spans.new.items }
+{
+    spans[usize::from(k)].fibre = FibreState {
+        joined: true,
+        ms,
+        sm,
+    };
+}
+
+// What waits at an end is lost.
+fn empty(end: &mut EndState)
+    ensures { Empties end.old end.new }
+{
+    end.waiting.clear();
+}
+
+// What waits at both ends of a link is lost.
+fn drop_waiting(span: &mut Span)
+    ensures { Drops span.old span.new }
+{
+    empty(&mut span.master);
+    empty(&mut span.slave);
+}
+
+// A link is cut.
+fn cut_span(span: &mut Span)
+    ensures { Cuts span.old span.new }
+{
+    drop_waiting(span);
+    span.fibre.joined = false;
+}
+
+/// A link is cut, and what waits at its ends is lost.
+pub fn cut(spans: &mut Vec<Span>, k: u8)
+    requires { k < length spans.old.items }
+    ensures { Turns (At k Cuts) spans.old.items spans.new.items }
+{
+    cut_span(&mut spans[usize::from(k)]);
+}
+
+// An end of a link is this node's.
+fn is_end_of(link: &LinkCfg, n: u8) -> bool
+    ensures { result ≡ touches_in n (Some link.now) }
+{
+    link.upper == n || link.lower == n
+}
+
+/// An end of the link of a number is this node's.
+pub fn touches(cfg: &NetCfg, k: usize, n: u8) -> bool
+    ensures { result ≡ touches_in n (slice_get cfg.now.links.items k) }
+{
+    match cfg.links.get(k) {
+        Some(link) => is_end_of(link, n),
+        None => false,
+    }
+}
+
+// What waits at both ends of a link is lost, where it is so.
+fn drop_where(span: &mut Span, lost: bool)
+    ensures { Where lost Drops span.old span.new }
+{
+    if lost {
+        drop_waiting(span);
+    }
+}
+
+/// What waits at the ends of a node's links is lost.
+pub fn drop_at(spans: &mut Vec<Span>, cfg: &NetCfg, n: u8)
+    ensures { Turns (DropsAt n cfg.now.links.items) spans.old.items spans.new.items }
+{
+    for k in 0..spans.len() {
+        drop_where(&mut spans[k], touches(cfg, k, n));
+    }
+}

@@ -1,0 +1,66 @@
+//! Memory that is taken before it is used.
+ghost use Rattle.std.specs.Prelude.{◌≡◌, ◌≤◌, ◌+◌, ℕ, OnOk};
+ghost use Rattle.wrp_plant.specs.Moves.{Turns};
+ghost use Rattle.wrp_plant.specs.Plant.{Each, FitsPlant, PlantIs};
+ghost use Rattle.wrp_plant.specs.Room.{HasEndRoom, HasRoom, HasSpanRoom, SameEnd, SameSpan};
+ghost use Rattle.wrp_course.specs.Setting.{Setting};
+ghost use Rattle.wrp_course.specs.WorldAt.{WorldAt};
+
+use super::Plant;
+use crate::ends::{EndState, Span};
+use std::alloc::AllocError;
+
+// Places for so many steps at an end.
+fn reserve_end(end: &mut EndState, steps: u8) -> Result<(), AllocError>
+    ensures same { SameEnd end.old end.new }
+    ensures room { OnOk result (HasEndRoom steps end.new) }
+    ensures kept { (k : ℕ) → HasEndRoom k end.old → HasEndRoom k end.new }
+{
+    end.waiting.reserve(4 * usize::from(steps))?;
+    end.marks.reserve(usize::from(steps))?;
+    Ok(())
+}
+
+// Places for so many steps at both ends of a link.
+fn reserve_span(span: &mut Span, steps: u8) -> Result<(), AllocError>
+    ensures same { SameSpan 0 span.old span.new }
+    ensures room { OnOk result (HasSpanRoom steps span.new) }
+    ensures kept { (k : ℕ) → HasSpanRoom k span.old → HasSpanRoom k span.new }
+{
+    reserve_end(&mut span.master, steps)?;
+    reserve_end(&mut span.slave, steps)?;
+    Ok(())
+}
+
+// Places for so many steps at all ends.
+fn reserve(spans: &mut Vec<Span>, steps: u8) -> Result<(), AllocError>
+    ensures same { Turns SameSpan spans.old.items spans.new.items }
+    ensures room { OnOk result (Each (λ i. HasSpanRoom steps) spans.new.items) }
+    ensures kept { (k : ℕ) → Each (λ i. HasSpanRoom k) spans.old.items
+        → Each (λ i. HasSpanRoom k) spans.new.items }
+{
+    for k in 0..spans.len() {
+        reserve_span(&mut spans[k], steps)?;
+    }
+    Ok(())
+}
+
+impl Plant {
+    /// Takes the memory that so many steps of nodes may need: at each end of each link, places for four
+    /// frames and a mark a step. Nothing else changes, also where memory could not be had.
+    pub fn reserve(&mut self, steps: u8) -> Result<(), AllocError>
+        requires fits { FitsPlant self.old }
+        ensures room { OnOk result (HasRoom steps self.new) }
+        ensures kept { (k : ℕ) → HasRoom k self.old → HasRoom k self.new }
+        ensures is { (s : Setting) (w : WorldAt) → PlantIs s w self.old → PlantIs s w self.new }
+        ensures fits { FitsPlant self.new }
+        ensures net { self.new.net ≡ self.old.net }
+        ensures time { self.new.time ≡ self.old.time }
+        ensures events { self.new.events ≡ self.old.events }
+        ensures clocks { self.new.clocks ≡ self.old.clocks }
+        ensures spans { Turns SameSpan self.old.spans.items self.new.spans.items }
+        ensures frames { self.new.frames ≡ self.old.frames }
+    {
+        reserve(&mut self.spans, steps)
+    }
+}

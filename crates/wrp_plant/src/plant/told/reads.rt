@@ -1,0 +1,39 @@
+//! What is read of a node's step.
+ghost use Rattle.std.specs.Prelude.{◌≡◌};
+ghost use Rattle.wrp_link.specs.Table.{is_same};
+ghost use Rattle.wrp_node.specs.States.{state_in};
+ghost use Rattle.wrp_plant.specs.PlantTold.{cycles_in};
+
+use wrp_base::LinkState;
+use wrp_node::{Output, PortState};
+
+/// The periods by which the clock is stepped, 0 where it is not.
+pub fn cycles_in(outs: &[Output]) -> i64
+    ensures { result ≡ cycles_in outs.now }
+{
+    for out in outs {
+        if let Output::Step { cycles } = out {
+            return *cycles;
+        }
+    }
+    0
+}
+
+/// The link state of a port among these, IDLE where it is not among them.
+pub fn state_in(ports: &[PortState], port: u16) -> LinkState
+    ensures { result ≡ state_in port ports.now }
+{
+    for it in ports {
+        if it.port == port {
+            return it.state;
+        }
+    }
+    LinkState::Idle
+}
+
+/// The two states are one.
+pub fn is_same(from: LinkState, to: LinkState) -> bool
+    ensures { result ≡ is_same from to }
+{
+    from == to
+}

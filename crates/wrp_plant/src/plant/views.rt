@@ -1,0 +1,117 @@
+//! What is asked of a plant.
+ghost use Rattle.std.specs.Prelude.{◌≡◌, ◌<◌, length, option_map};
+ghost use Rattle.wrp_plant.specs.Plant.{FitsPlant, PlantIs};
+ghost use Rattle.wrp_course.specs.Setting.{Setting, end_at, end_of, place_of};
+ghost use Rattle.wrp_course.specs.Views as view;
+ghost use Rattle.wrp_course.specs.WorldAt.{WorldAt};
+
+use super::Plant;
+use crate::checks::{longest_tick, shortest_tick};
+use wrp_base::{LinkCfg, Mark, Role, Tau, sum};
+use wrp_course::place_of;
+
+impl Plant {
+    /// Whether a link is joined.
+    pub fn joined(&self, link: u8) -> bool
+        requires fits { FitsPlant self.now }
+        requires link { link < length self.now.net.cfg.links.items }
+        ensures { (s : Setting) (w : WorldAt) → PlantIs s w self.now → result ≡ (w.fibre link).joined }
+    {
+        self.span(link).fibre.joined
+    }
+
+    /// When a node may tick next: the true times dmin and dmax after its last tick, or after it came up.
+    pub fn tick_due(&self, n: u8) -> Option<(Tau, Tau)>
+        requires fits { FitsPlant self.now }
+        requires node { n < length self.now.net.cfg.nodes.items }
+        ensures { (s : Setting) (w : WorldAt) → PlantIs s w self.now → result ≡ view.tick_due s w n }
+    {
+        let cfg = self.cfg();
+        let least = shortest_tick(cfg);
+        let most = longest_tick(cfg);
+        let clock = self.clock(n);
+        if clock.up {
+            let first = sum(clock.ticked, least);
+            let last = sum(clock.ticked, most);
+            Some((first, last))
+        } else {
+            None
+        }
+    }
+
+    /// The history of a port's link, the oldest mark first.
+    pub fn history(&self, n: u8, port: u16) -> &[Mark]
+        requires { FitsPlant self.now }
+        ensures { (s : Setting) (w : WorldAt) → PlantIs s w self.now
+            → result.now ≡ view.history_of w (place_of s n port) }
+    {
+        match place_of(&self.net.cfg, n, port) {
+            Some(place) => self.end(place).marks.as_slice(),
+            None => &[],
+        }
+    }
+
+    /// The true time at which the oldest frame that waits at a port was put out. `None` exactly where
+    /// none waits.
+    pub fn waiting(&self, n: u8, port: u16) -> Option<Tau>
+        requires { FitsPlant self.now }
+        ensures { (s : Setting) (w : WorldAt) → PlantIs s w self.now → result ≡ view.waiting_of s w n port }
+    {
+        match place_of(&self.net.cfg, n, port) {
+            Some(place) => self.end(place).oldest(),
+            None => None,
+        }
+    }
+
+    /// The frame on a fibre that is due first, with that time; the least number among equals. `None`
+    /// exactly where no frame is on a fibre.
+    pub fn next_arrival(&self) -> Option<(u32, Tau)>
+        requires { FitsPlant self.now }
+        ensures { (s : Setting) (w : WorldAt) → PlantIs s w self.now → view.IsNextArrival w result }
+    {
+        self.frames.next_due()
+    }
+
+    /// The octets of a frame that departed. `None` exactly where the number was not given.
+    pub fn octets(&self, number: u32) -> Option<&[u8]>
+        ensures { (s : Setting) (w : WorldAt) → PlantIs s w self.now
+            → option_map (λ octets. octets.now) result ≡ view.octets_at w number }
+    {
+        match self.frames.find(number) {
+            Some(frame) => Some(frame.octets.as_slice()),
+            None => None,
+        }
+    }
+
+    /// The node and the port that sent a frame. `None` exactly where the number was not given.
+    pub fn sender(&self, number: u32) -> Option<(u8, u16)>
+        ensures { (s : Setting) (w : WorldAt) → PlantIs s w self.now
+            → result ≡ option_map (λ end. (end.node, end.port)) (view.sender_of s w number) }
+    {
+        match self.frames.find(number) {
+            Some(frame) => self.port_at(frame.link, frame.by),
+            None => None,
+        }
+    }
+
+    // The node and the port at an end of a link.
+    fn port_at(&self, link: u8, role: Role) -> Option<(u8, u16)>
+        ensures { (s : Setting) (w : WorldAt) → PlantIs s w self.now
+            → result ≡ option_map (λ end. (end.node, end.port)) (end_at s link role) }
+    {
+        match self.net.cfg.links.get(usize::from(link)) {
+            Some(link) => Some(port_of(link, role)),
+            None => None,
+        }
+    }
+}
+
+/// The node and the port at this end of a link.
+pub fn port_of(link: &LinkCfg, role: Role) -> (u8, u16)
+    ensures { result ≡ ((end_of role link.now).node, (end_of role link.now).port) }
+{
+    match role {
+        Role::Master => (link.upper, link.upper_port),
+        Role::Slave => (link.lower, link.lower_port),
+    }
+}

@@ -1,0 +1,117 @@
+//! What the beat bits of a sample may be: premise 9.
+ghost use Rattle.std.specs.Prelude.{◌≡◌, ◌<◌, ◌≤◌, ◌==◌, ◌&&◌, ◌+ℤ◌, ◌-ℤ◌, pos, unsigned_abs, not, map, [], ◌∷◌};
+ghost use Rattle.std.specs.Int.Signed.{le_z, lt_z};
+ghost use Rattle.wrp_base.specs.Clock.{steps_of_period};
+ghost use Rattle.wrp_phase.specs.Beat.{beat_bit};
+ghost use Rattle.wrp_phase.specs.BeatPattern.{true_step, steps_past};
+ghost use Rattle.wrp_course.specs.Checks.{told_of};
+ghost use Rattle.wrp_course.specs.Premises as premise;
+ghost use Rattle.wrp_course.specs.Setting.{from_on};
+
+use wrp_base::{Clock, Tau};
+use wrp_course::Breach;
+
+// The detector step in which a true phase lies.
+fn true_step(clock: Clock, phase: Tau) -> u16
+    ensures value { result ≡ true_step clock phase }
+    ensures most { result < steps_of_period }
+{
+    let place = phase.rem_euclid(clock.period()).unsigned_abs();
+    (place / clock.step().unsigned_abs()) as u16
+}
+
+// How many steps that is past the base, from -8192 to 8191.
+fn steps_past(step: u16, base: u16) -> i32
+    requires step { step < steps_of_period }
+    requires base { base < steps_of_period }
+    ensures value { result ≡ steps_past step base }
+    ensures size { unsigned_abs result ≤ 8192 }
+{
+    (i32::from(step) - i32::from(base) + 8_192).rem_euclid(16_384) - 8_192
+}
+
+// A beat bit, the most significant first.
+fn beat_bit(bits: u64, i: u8) -> u64
+    requires { i < 64 }
+    ensures { result ≡ beat_bit bits i }
+{
+    (bits >> (63 - i)) & 1
+}
+
+// The first place at which a beat bit may be 1.
+fn first_one(steps: i32, beat: u16) -> i32
+    requires { unsigned_abs steps ≤ 8192 }
+    ensures { result ≡ steps -ℤ pos beat }
+{
+    steps - i32::from(beat)
+}
+
+// The first place at which a beat bit may not be 0.
+fn first_sure(steps: i32, beat: u16) -> i32
+    requires { unsigned_abs steps ≤ 8192 }
+    ensures { result ≡ steps +ℤ pos beat }
+{
+    steps + i32::from(beat)
+}
+
+// Whether a 1 stands too early.
+fn is_early(first: i32, bit: u64, i: u8) -> bool
+    ensures { result ≡ (lt_z (pos i) first && not (bit == 0)) }
+{
+    i32::from(i) < first && bit != 0
+}
+
+// Whether a 0 stands too late.
+fn is_late(sure: i32, bit: u64, i: u8) -> bool
+    ensures { result ≡ (le_z sure (pos i) && not (bit == 1)) }
+{
+    sure <= i32::from(i) && bit != 1
+}
+
+// Whether a beat bit is wrong.
+fn is_wrong(steps: i32, beat: u16, bits: u64, i: u8) -> bool
+    requires steps { unsigned_abs steps ≤ 8192 }
+    requires i { i < 64 }
+    ensures { result ≡ premise.is_wrong steps beat bits i }
+{
+    let bit = beat_bit(bits, i);
+    is_early(first_one(steps, beat), bit, i) || is_late(first_sure(steps, beat), bit, i)
+}
+
+// One beat bit.
+fn bit_kept(steps: i32, beat: u16, bits: u64, i: u8) -> Option<Breach>
+    requires steps { unsigned_abs steps ≤ 8192 }
+    requires i { i < 64 }
+    ensures { result ≡ told_of (premise.bit_check steps beat bits i ∷ []) }
+{
+    if is_wrong(steps, beat, bits, i) {
+        Some(Breach {
+            premise: 9,
+            shown: i128::from(i),
+            bound: i128::from(steps),
+        })
+    } else {
+        None
+    }
+}
+
+// No beat bit is wrong, where the true step is so far past the base.
+fn bits_kept(steps: i32, beat: u16, bits: u64) -> Option<Breach>
+    requires { unsigned_abs steps ≤ 8192 }
+    ensures { result ≡ told_of (map (premise.bit_check steps beat bits) (from_on 64 0)) }
+{
+    for i in 0..64u8 {
+        if let Some(breach) = bit_kept(steps, beat, bits, i) {
+            return Some(breach);
+        }
+    }
+    None
+}
+
+/// No beat bit of a sample is wrong, where the true phase is this.
+pub fn beat_kept(clock: Clock, beat: u16, base: u16, bits: u64, phase: Tau) -> Option<Breach>
+    requires { base < steps_of_period }
+    ensures { result ≡ told_of (premise.beat_by clock beat base bits phase) }
+{
+    bits_kept(steps_past(true_step(clock, phase), base), beat, bits)
+}

@@ -1,0 +1,84 @@
+//! How fast clocks and fibres may move: premises 3 and 4.
+ghost use Rattle.std.specs.Prelude.{◌≡◌, ◌*◌, ◌≤◌, pos, unsigned_abs, not, [], ◌∷◌, flat_map, IfSome};
+ghost use Rattle.wrp_course.specs.Checks.{told_of, only_where, size_of};
+ghost use Rattle.wrp_course.specs.Checks as spec;
+ghost use Rattle.wrp_course.specs.Premises as premise;
+ghost use Rattle.wrp_plant.specs.Sizes.{IsOff};
+
+use crate::checks::{at_most, size};
+use wrp_base::Tau;
+use wrp_course::Breach;
+
+/// Rates are in `10^-12`.
+const PARTS: u128 = 1_000_000_000_000;
+
+/// The greatest rate of a fibre's one-way delay.
+const FIBRE_RATE: u64 = 2;
+
+// A move as it is compared.
+fn scaled(by: i64) -> Tau
+    ensures { result ≡ pos (unsigned_abs by * 1_000_000_000_000) }
+{
+    (u128::from(by.unsigned_abs()) * PARTS) as i128
+}
+
+// How far a rate leads in a time, as it is compared.
+fn led(rate: u64, dt: i64) -> Tau
+    requires { rate ≤ 1_000_000_000 }
+    ensures { result ≡ pos (rate * unsigned_abs dt) }
+{
+    (u128::from(rate) * u128::from(dt.unsigned_abs())) as i128
+}
+
+// A move in a time keeps a rate.
+fn moves_at(number: u8, by: i64, dt: i64, rate: u64) -> Option<Breach>
+    requires { rate ≤ 1_000_000_000 }
+    ensures { result ≡ told_of (premise.moves_at number by dt rate ∷ []) }
+{
+    at_most(number, scaled(by), led(rate, dt))
+}
+
+/// A clock keeps its rate, if it has one to keep.
+pub fn rate_kept(drift: i64, dt: i64, rate: Option<u64>) -> Option<Breach>
+    requires { IfSome rate (λ r. r ≤ 1_000_000_000) }
+    ensures { result ≡ told_of (premise.rate_checks drift dt rate) }
+{
+    match rate {
+        Some(rate) => moves_at(3, drift, dt, rate),
+        None => None,
+    }
+}
+
+/// The grandmaster comes up with true time.
+pub fn true_at_top(is_top: bool, off: Tau) -> Option<Breach>
+    requires { IsOff off }
+    ensures { result ≡ told_of (only_where is_top (spec.at_most 3 (size_of off) (pos 0)) ∷ []) }
+{
+    if is_top {
+        at_most(3, size(off), 0)
+    } else {
+        None
+    }
+}
+
+// The delays of a fibre keep their rate, the way down told first.
+fn fibre_rate(dt: i64, by: &(i64, i64)) -> Option<Breach>
+    ensures { result ≡ told_of (premise.rate_of_fibre dt by.now) }
+{
+    match moves_at(4, by.0, dt, FIBRE_RATE) {
+        Some(breach) => Some(breach),
+        None => moves_at(4, by.1, dt, FIBRE_RATE),
+    }
+}
+
+/// The delays of all fibres keep their rate.
+pub fn fibre_rates(dt: i64, moves: &[(i64, i64)]) -> Option<Breach>
+    ensures { result ≡ told_of (flat_map (premise.rate_of_fibre dt) moves.now) }
+{
+    for by in moves {
+        if let Some(breach) = fibre_rate(dt, by) {
+            return Some(breach);
+        }
+    }
+    None
+}

@@ -1,5 +1,0 @@
-use Rattle.wrp_world.proofs.Unbroken as proof
-use Rattle.wrp_world.proofs.laws.accepted_is_unbroken.Goals as goal
-
-pub returns : goal.returns
-returns c = proof.accepted_is_unbroken

@@ -1,5 +1,0 @@
-use Rattle.wrp_world.proofs.Bounds as proof
-use Rattle.wrp_world.proofs.laws.arrival_keeps_stamp_bound.Goals as goal
-
-pub returns : goal.returns
-returns c = proof.arrival_keeps

@@ -1,5 +1,0 @@
-use Rattle.wrp_world.proofs.Still as proof
-use Rattle.wrp_world.proofs.laws.new_world_is_still.Goals as goal
-
-pub returns : goal.returns
-returns c = proof.new_world_is_still

@@ -1,5 +1,0 @@
-use Rattle.wrp_world.proofs.Bounds as proof
-use Rattle.wrp_world.proofs.laws.sample_keeps_beat_pattern.Goals as goal
-
-pub returns : goal.returns
-returns c = proof.sample_keeps

@@ -1,6 +1,0 @@
-use Rattle.std.proofs.Common.{◌∙◌, ap, ◌∷◌, []}
-use Rattle.wrp_world.specs.Checks.{told_of, stands}
-use Rattle.wrp_world.proofs.plant.Plant.cut_broken.Goals as goal
-
-pub returns : goal.returns
-returns c s w h = c.stands.ensures ∙ ap (λ b. told_of (stands b ∷ [])) (c.joined.ensures s w h)

@@ -1,6 +1,0 @@
-use Rattle.std.proofs.Common.{ap}
-use Rattle.wrp_world.specs.declared.fibres.FibreState.{FibreState}
-use Rattle.wrp_world.proofs.plant.Plant.joined.Goals as goal
-
-pub returns : goal.returns
-returns c s w h = ap (λ (f : FibreState). f.joined) (h.spans c.args.link c.span.result.now c.span.ensures.value).fibre

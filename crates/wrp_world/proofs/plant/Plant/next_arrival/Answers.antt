@@ -1,7 +1,0 @@
-use Rattle.std.proofs.Common.{sym, subst}
-use Rattle.wrp_world.specs.Views.{IsNextArrival}
-use Rattle.wrp_world.proofs.NextArrivals.{next_arrival}
-use Rattle.wrp_world.proofs.plant.Plant.next_arrival.Goals as goal
-
-pub returns : goal.returns
-returns c s w h = subst (IsNextArrival w) (sym c.next_due.ensures) (next_arrival w c.args.self.now.frames h.frames)

@@ -1,6 +1,0 @@
-use Rattle.std.proofs.Common.{◌∙◌, ap, ◌∷◌, [], not}
-use Rattle.wrp_world.specs.Checks.{told_of, stands}
-use Rattle.wrp_world.proofs.plant.Plant.up_again_broken.Goals as goal
-
-pub returns : goal.returns
-returns c s w h = c.stands.ensures ∙ ap (λ b. told_of (stands (not b) ∷ [])) (c.is_up-up.ensures s w h)
