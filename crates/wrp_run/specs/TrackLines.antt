@@ -1,15 +1,13 @@
 -- The aim's part on how far nodes are from true time: each node keeps its bound in TRACK and in HOLDOVER; what a node reports of
 -- TRACK is true, and so is each line that is written of that: the true offset is within the bound, and the estimate near the
 -- offset from the parent (this project's profile).
-use Rattle.std.specs.Prelude.{◌≡◌, ◌<◌, ◌≤◌, ℕ, ℤ, pos, unsigned_abs, true, List, [], ◌∷◌, codes}
+use Rattle.std.specs.Prelude.{◌≡◌, ◌≤◌, ℕ, ℤ, pos, unsigned_abs, List, [], ◌∷◌, codes}
 use Rattle.std.specs.Fmt.{signed_decimal}
 use Rattle.std.specs.List.{AllByRecursion}
-use Rattle.wrp_base.specs.Network.{name_at, node_count}
+use Rattle.wrp_base.specs.Network.{name_at}
 use Rattle.wrp_bounds.specs.Bounds.{path_of}
 use Rattle.wrp_lines.specs.Lines.{line_of}
-use Rattle.wrp_tracking.specs.Tree.{IsBounded}
-use Rattle.wrp_truth.specs.Bounds.{IsTrueReport, IsTrueStep}
-use Rattle.wrp_truth.specs.Views.{offsets_at}
+use Rattle.wrp_truth.specs.Bounds.{AllAreBounded, IsTrueReport, IsTrueStep}
 use Rattle.wrp_course.specs.Run.{Happened, steps_at, world_after}
 use Rattle.wrp_course.specs.Setting.{Setting}
 use Rattle.wrp_course.specs.WorldAt.{WorldAt}
@@ -38,10 +36,6 @@ IsTrueLine s w line =
     (node tick est bound off : List ℕ) → IsWord node → IsWord tick → IsWord est → IsWord bound → IsWord off →
     line ≡ line_of (node ∷ tick ∷ codes "track" ∷ est ∷ bound ∷ codes "true" ∷ off ∷ []) →
     TellsTruth s w node est bound off
-
--- each node that is up is within its bound: that of its path in TRACK, and in HOLDOVER that with what it may have moved since
-abbrev pub AllAreBounded : Setting → WorldAt → Type 0
-AllAreBounded s w = (n : ℕ) → n < node_count s.cfg → (w.clock n).up ≡ true → IsBounded s.cfg (offsets_at s w) n
 
 -- after an event each node keeps its bound; in it each report of TRACK is true, and so is each line of one that is written of
 -- the event

@@ -96,3 +96,4 @@ pub mod DelayPieces
 pub mod DelayDepartures
 pub mod DelayAnswers
 pub mod DelayRuns
+pub mod NearAnswers

@@ -29,6 +29,10 @@ pub record TrueRun (s : Setting) (events : List Happened) : Type 0 where
   pub fit : AllFit events
   pub answered : IsAnswered (IsNearAnswer s) s (world_after s events)
 
+-- each node that is up is within its bound: in TRACK that of its path, and in HOLDOVER that with what it may have moved since
+abbrev pub AllAreBounded : Setting → WorldAt → Type 0
+AllAreBounded s w = (n : ℕ) → n < node_count s.cfg → (w.clock n).up ≡ true → IsBounded s.cfg (offsets_at s w) n
+
 -- each node that is up is within its bound: of the path in TRACK, and of HOLDOVER in HOLDOVER
 abbrev pub OffsetsKeepBounds : Type 0
 OffsetsKeepBounds =

@@ -64,6 +64,12 @@ pub record ChainRuns (s : Setting) (events : List Happened) (k : ℕ) (link : Li
   pub phase : phase_in s (world_after s events) link.lower ≡ newest.u
   pub recent : (world_after s events).time ≤ℤ (holds.moment.time +ℤ pos hop.gap_time)
 
+-- each chain that stands has a constant
+abbrev pub AllHaveConstants : Setting → List Happened → Type 0
+AllHaveConstants s events =
+    (k : ℕ) (link : LinkCfg) (hop : HopNumbers) → link_of s k ≡ Some link → numbers_of s.cfg link.lower ≡ Some hop →
+    HasChain s link.lower events → ChainRuns s events k link hop
+
 -- each event's numbers fit the types that hold them
 abbrev pub AllFit : List Happened → Type 0
 AllFit [] = Unit {0}

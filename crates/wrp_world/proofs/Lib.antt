@@ -3,9 +3,11 @@ pub mod Breaches
 pub mod InRuns
 pub mod Inside
 pub mod Movers
+pub mod NearLaws
 pub mod NewWorlds
 pub mod NodeSteps
 pub mod NodesTake
 pub mod RunsOn
 pub mod TakenLaws
+pub mod TrueRuns
 pub mod WorldSteps

@@ -1,7 +1,10 @@
+pub mod EventHolds
 pub mod HasLaws
 pub mod InRun
+pub mod InTrueRun
 pub mod New
 pub mod RunsOn
 pub mod StandsFor
 pub mod Step
+pub mod StepHolds
 pub mod Taking

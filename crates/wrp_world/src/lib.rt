@@ -7,6 +7,6 @@ mod run_laws;
 mod world;
 
 pub use outcome::Refused;
-pub use run_laws::worlds_are_in_runs;
+pub use run_laws::{events_hold, worlds_are_in_runs};
 pub use world::World;
 pub use wrp_course::{Event, NodeOut, Swap};

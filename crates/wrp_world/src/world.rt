@@ -1,5 +1,6 @@
 //! The world itself: its calls.
 mod broken;
+mod fitting;
 mod give;
 mod new;
 mod rates;

@@ -8,6 +8,7 @@ ghost use Rattle.wrp_node.specs.Node.{IsValid as NodeIsValid};
 ghost use Rattle.wrp_node.specs.Set.{set_of};
 ghost use Rattle.wrp_node.specs.StandsFor.{StandsFor as NodeStandsFor};
 ghost use Rattle.wrp_world.specs.HasLaws.{HasLaws};
+ghost use Rattle.wrp_world.specs.InTrueRun.{InTrueRun};
 ghost use Rattle.wrp_world.specs.New.{FitsLaw, IsNewNode, setting_of};
 ghost use Rattle.wrp_plant.specs.Plant.{Each};
 ghost use Rattle.wrp_world.specs.StandsFor.{IsValid, StandsFor};
@@ -37,6 +38,8 @@ impl<F: Fn(i64) -> i64> World<F> {
         ensures valid { IfOk result (IsValid F.pre F.post) }
         ensures net { IfOk result (λ world. world.plant.net ≡ net) }
         ensures laws { IfOk result (HasLaws laws.items) }
+        ensures begins { IfOk result (InTrueRun F.pre F.post (setting_of net.cfg net.db laws.items)
+            []) }
     {
         let aside = Vec::new(alloc);
         let nodes = new_nodes(alloc, &net, laws)?;

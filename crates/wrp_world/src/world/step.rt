@@ -4,24 +4,38 @@ ghost use Rattle.wrp_world.specs.declared.outcome.Refused.TheVariants.{Broken};
 ghost use Rattle.wrp_world.specs.RunsOn.{RunsOn};
 ghost use Rattle.wrp_world.specs.StandsFor.{IsValid};
 ghost use Rattle.wrp_world.specs.Step.{IsRefusal, MayCome, StaysSo, Stepped};
+ghost use Rattle.wrp_world.specs.StepHolds.{LinksGoOn, TruthGoesOn};
 ghost use Rattle.wrp_world.specs.Taking.{AreOfNodes, laws_of};
 
 use super::World;
+use super::fitting::event_fits;
 use crate::Refused;
+use crate::run_laws::events_hold;
 use std::alloc::Global;
-use wrp_course::{Breach, Event, NodeOut, reported_link_on_is_earned};
+use wrp_course::{Breach, Event, NodeOut};
 
 impl<F: Fn(i64) -> i64> World<F> {
     /// Takes an event: where it keeps all premises, and the memory for it can be had, it changes
     /// the world, and `outs` is filled with the steps that the nodes make of it, in their order.
     /// What `outs` had before is gone. A refused event changes nothing, and leaves in `outs`
     /// nothing of use.
+    ///
+    /// An accepted event goes on with each run that the world was in. After it no port is in
+    /// WR_LINK_ON unless its peer went through the required steps of that same handshake; a frame
+    /// that a node drops for one of the reasons 1 to 12 changed one counter of it alone; and, where
+    /// the node's laws fit the links (`World::new`), each node that is up is within its bound of
+    /// true time in TRACK and in HOLDOVER, and each estimate among the steps is near the node's
+    /// offset from its parent.
     pub fn step_into(&mut self, event: &Event, outs: &mut Vec<NodeOut>) -> Result<(), Refused>
         requires valid { IsValid F.pre F.post self.old }
         requires event { MayCome self.old event.now }
         ensures valid { IsValid F.pre F.post self.new }
         ensures steps { OnOk result (Stepped F.post event.now self.old self.new outs.new.items) }
         ensures handshakes { OnOk result (RunsOn F.post event.now self.old self.new) }
+        ensures links { OnOk result (LinksGoOn F.post event.now self.old self.new
+            outs.new.items) }
+        ensures truth { OnOk result (TruthGoesOn F.pre F.post event.now self.old self.new
+            outs.new.items) }
         ensures nodes { OnOk result (AreOfNodes self.new.plant.net.cfg outs.new.items) }
         ensures refusal { IfErr result (IsRefusal F.post event.now self.old) }
         ensures stays { OnErr result (StaysSo F.post self.old self.new) }
@@ -30,7 +44,8 @@ impl<F: Fn(i64) -> i64> World<F> {
         ensures net { self.new.plant.net ≡ self.old.plant.net }
         ensures laws { laws_of self.new ≡ laws_of self.old }
     {
-        reported_link_on_is_earned();
+        events_hold();
+        event_fits(event);
         if let Some(breach) = self.broken(event) {
             return Err(refused(breach));
         }
@@ -49,6 +64,10 @@ impl<F: Fn(i64) -> i64> World<F> {
         ensures steps { IfOk result (λ outs. Stepped F.post event.now self.old self.new
             outs.items) }
         ensures handshakes { OnOk result (RunsOn F.post event.now self.old self.new) }
+        ensures links { IfOk result (λ outs. LinksGoOn F.post event.now self.old self.new
+            outs.items) }
+        ensures truth { IfOk result (λ outs. TruthGoesOn F.pre F.post event.now self.old
+            self.new outs.items) }
         ensures nodes { IfOk result (λ outs. AreOfNodes self.new.plant.net.cfg outs.items) }
         ensures refusal { IfErr result (IsRefusal F.post event.now self.old) }
         ensures stays { OnErr result (StaysSo F.post self.old self.new) }

@@ -3,6 +3,7 @@ use Rattle.wrp_base.specs.Network.{node_count}
 use Rattle.wrp_config.specs.declared.network.Network.{Network}
 use Rattle.wrp_world.specs.New.{setting_of}
 use Rattle.wrp_world.proofs.NewWorlds.{IsNewWorld, new_stands, new_valid}
+use Rattle.wrp_world.proofs.TrueRuns.{begins}
 use Rattle.wrp_world.proofs.world.World.new.Goals as goal
 
 -- what was made
@@ -22,3 +23,8 @@ returns-clause-valid g c = new_valid _ _ c.args.net.cfg c.args.net.db c.args.law
 
 pub returns-clause-laws : goal.returns-clause-laws
 returns-clause-laws g c = λ n node e. (c.in_ok-nodes.ensures.each n node e).law
+
+pub returns-clause-begins : goal.returns-clause-begins
+returns-clause-begins g c =
+    begins _ _ c.args.net.cfg c.args.net.db c.args.laws.items (record { plant = c.in_ok-plant.plant; nodes = c.in_ok-nodes.nodes.items }) c.requires.net (returns-clause-stands g c)
+    c.in_ok-nodes.ensures.count c.requires.count (returns-clause-laws g c) c.requires.laws

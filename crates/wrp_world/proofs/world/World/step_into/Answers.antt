@@ -8,6 +8,7 @@ use Rattle.wrp_world.specs.StandsFor.{IsValid}
 use Rattle.wrp_world.specs.Step.{StaysSo, Stepped}
 use Rattle.wrp_world.proofs.Inside.{world_of}
 use Rattle.wrp_world.proofs.RunsOn.{runs_on}
+use Rattle.wrp_world.proofs.TrueRuns.{links_go_on, truth_goes_on}
 use Rattle.wrp_world.proofs.WorldSteps.{begun_asks, begun_of, begun_valid, breach_refused, event_taken, lists_read, memory_refused, none_left, stays_valid, world_stays}
 use Rattle.wrp_plant.proofs.Refusals.{on_err}
 use Rattle.wrp_world.proofs.world.World.step_into.Goals as goal
@@ -59,4 +60,13 @@ returns-clause-steps g c =
 
 pub returns-clause-handshakes : goal.returns-clause-handshakes
 returns-clause-handshakes g c =
-    runs_on _ c.args.event.now c.args.self.now c.give_all.new.self c.give_all.new.outs.items c.reported_link_on_is_earned.ensures.earned c.requires.event (returns-clause-steps g c)
+    runs_on _ c.args.event.now c.args.self.now c.give_all.new.self c.give_all.new.outs.items c.events_hold.ensures.links c.requires.event (returns-clause-steps g c)
+
+pub returns-clause-links : goal.returns-clause-links
+returns-clause-links g c =
+    links_go_on _ c.args.event.now c.args.self.now c.give_all.new.self c.give_all.new.outs.items c.events_hold.ensures.links c.requires.event (returns-clause-steps g c)
+
+pub returns-clause-truth : goal.returns-clause-truth
+returns-clause-truth g c =
+    truth_goes_on _ _ c.args.event.now c.args.self.now c.give_all.new.self c.give_all.new.outs.items c.events_hold.ensures.links c.events_hold.ensures.tracks c.requires.event c.event_fits.ensures
+    (c.give_all.ensures.laws) (returns-clause-steps g c)

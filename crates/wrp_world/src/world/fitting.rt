@@ -1,0 +1,39 @@
+//! Which numbers an event has.
+ghost use Rattle.std.specs.Prelude.{◌≤◌, length};
+ghost use Rattle.wrp_base.specs.Octets.{AreOctets};
+ghost use Rattle.wrp_course.specs.EventAt.{FitsEvent};
+
+use wrp_base::Frame;
+use wrp_course::Event;
+
+// The octets of a frame.
+fn octets_fit(bytes: &Frame)
+    ensures { AreOctets bytes.now.items × (length bytes.now.items ≤ 256) }
+{
+    let _octets = bytes.as_slice();
+}
+
+/// An event's numbers fit the types that hold them.
+pub(super) fn event_fits(event: &Event)
+    ensures { FitsEvent event.now }
+{
+    match event {
+        Event::Sample { bits, .. } => {
+            let _bits = *bits;
+        }
+        Event::Depart { port, .. } => {
+            let _port = *port;
+        }
+        Event::Arrive { frame, .. } | Event::Deliver { frame } => {
+            let _frame = *frame;
+        }
+        Event::Noise { port, bytes, .. } => {
+            let _port = *port;
+            octets_fit(bytes);
+        }
+        Event::Up { swaps, .. } => {
+            let _count = swaps.len();
+        }
+        _ => {}
+    }
+}
