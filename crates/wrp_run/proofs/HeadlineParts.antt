@@ -10,8 +10,7 @@ use Rattle.wrp_node.specs.declared.interface.Input.{Input}
 use Rattle.wrp_node.specs.declared.interface.Input.TheVariants.{Tick, Sample, Frame, Sent, Carrier, Reset}
 use Rattle.wrp_node.specs.declared.interface.Output.{Output}
 use Rattle.wrp_trace.specs.Events.{EventsCanCome, event_read}
-use Rattle.wrp_course.specs.Dropped.{DroppedFramesLeaveACount, DropsLeaveACount, LeavesACount, given_at}
-use Rattle.wrp_course.specs.Earned.{LinkOnIsEarned, ReportsAreTrue}
+use Rattle.wrp_course.specs.Dropped.{DropsLeaveACount, LeavesACount, given_at}
 use Rattle.wrp_course.specs.declared.event.Event.{Event}
 use Rattle.wrp_course.specs.EventAt.{IsEventOf}
 use Rattle.wrp_truth.proofs.Suffixes.{run_before}
@@ -19,6 +18,7 @@ use Rattle.wrp_course.specs.Given.{Given}
 use Rattle.wrp_course.specs.Run.{Happened, steps_at, world_after}
 use Rattle.wrp_course.specs.Runs.{AllEvents, IsNetwork, IsRun}
 use Rattle.wrp_course.specs.Setting.{Setting}
+use Rattle.wrp_world.specs.EventHolds.{LinksHold, LinksHoldInRuns}
 use Rattle.wrp_run.specs.Audited.{AreEvents, IsSettingOf}
 use Rattle.wrp_run.specs.EventLines.{AtEachEvent, Writing}
 use Rattle.wrp_run.specs.Headline.{AsksEventsOf, CarriesParts, Came, DropsCountAt, IsEarnedAt, OnlyCounts, OnlyCountsIf}
@@ -108,19 +108,19 @@ all_count has_line s before h gs f =
 
 -- Lines
 
-earned_at : (has_line : Output → Bool) (s : Setting) (h : Happened) (before : List Happened) → LinkOnIsEarned → ReportsAreTrue → IsRun s (h ∷ before) → IsEarnedAt (writes has_line) s before h
-earned_at has_line s h before earned reports run = record {
-  ports = earned s (h ∷ before) run;
-  lines = lines_are_earned has_line s (world_after s (h ∷ before)) (steps_at s before h) run.network.accepted.names (reports s h before run);
+earned_at : (has_line : Output → Bool) (s : Setting) (h : Happened) (before : List Happened) → LinksHold s h before → IsRun s (h ∷ before) → IsEarnedAt (writes has_line) s before h
+earned_at has_line s h before holds run = record {
+  ports = holds.handshakes;
+  lines = lines_are_earned has_line s (world_after s (h ∷ before)) (steps_at s before h) run.network.accepted.names holds.reports;
 }
 
 -- All parts
 
 -- whichever outputs have a line
-pub parts_of : (has_line : Output → Bool) → LinkOnIsEarned → ReportsAreTrue → DroppedFramesLeaveACount → (s : Setting) (events : List Happened) → IsRun s events → TracksAreWithin (writes has_line) s events →
+pub parts_of : (has_line : Output → Bool) → LinksHoldInRuns → (s : Setting) (events : List Happened) → IsRun s events → TracksAreWithin (writes has_line) s events →
     CarriesParts (writes has_line) s events
-parts_of has_line earned reports drops s events run tracks = record {
+parts_of has_line links s events run tracks = record {
   tracks = tracks;
-  link_on = at_each s (IsEarnedAt (writes has_line) s) (λ h before r. earned_at has_line s h before earned reports r) events run;
-  drops = at_each s (DropsCountAt (writes has_line) s) (λ h before r. all_count has_line s before h (given_at s before h) (drops s h before)) events run;
+  link_on = at_each s (IsEarnedAt (writes has_line) s) (λ h before r. earned_at has_line s h before (links s h before r) r) events run;
+  drops = at_each s (DropsCountAt (writes has_line) s) (λ h before r. all_count has_line s before h (given_at s before h) (links s h before r).drops) events run;
 }

@@ -1,16 +1,12 @@
 -- What the laws of the links answer is near the exact fraction, in every network that is accepted.
-use Rattle.std.proofs.Common.{◌≡◌, ◌∙◌, refl, ap, sym, subst, ℕ, ℤ, pos, ◌*◌, ◌≤◌, ◌^◌, ◌+ℤ◌, ◌-ℤ◌, ◌*ℤ◌, ◌≤ℤ◌, ◌<ℤ◌, unsigned_abs, length, Option, None, Some, IfSome, List, [], ◌∷◌, true, arith}
-use Rattle.std.specs.Prelude.{int_le, option_and_then, slice_get}
-use Rattle.std.specs.Option.{option_map_or}
-use Rattle.std.proofs.lemmas.Bool.{and_parts}
+use Rattle.std.proofs.Common.{◌≡◌, ◌∙◌, refl, ap, sym, subst, ℕ, ℤ, pos, ◌*◌, ◌≤◌, ◌^◌, ◌+ℤ◌, ◌-ℤ◌, ◌*ℤ◌, ◌≤ℤ◌, ◌<ℤ◌, unsigned_abs, length, Option, None, Some, IfSome, arith}
 use Rattle.std.proofs.lemmas.Int.{ints}
 use Rattle.wrp_base.specs.declared.configuration.NetCfg.{NetCfg}
 use Rattle.wrp_base.specs.declared.network.LinkCfg.{LinkCfg}
-use Rattle.wrp_base.specs.declared.network.NodeCfg.{NodeCfg}
 use Rattle.wrp_base.specs.Division.{floor_quotient}
 use Rattle.wrp_base.specs.Network.{link_above}
 use Rattle.wrp_base.proofs.DivisionLaws.{floor_quotient-at_most, floor_quotient-next}
-use Rattle.wrp_bounds.specs.Bounds.{numbers_between, numbers_of, numbers_over}
+use Rattle.wrp_bounds.specs.Bounds.{numbers_of}
 use Rattle.wrp_bounds.specs.declared.numbers.HopNumbers.{HopNumbers}
 use Rattle.wrp_caldb.specs.Database.{Database, TableAt, table_at}
 use Rattle.wrp_config.specs.Accepted.{IsAccepted, IsSoundTable, law_error}
@@ -18,14 +14,13 @@ use Rattle.wrp_law.specs.declared.delay.LawKind.TheVariants.{Linear}
 use Rattle.wrp_law.specs.Law.{IsNear}
 use Rattle.wrp_law.proofs.Tables.{table_value-near}
 use Rattle.wrp_node.specs.NodeAt.{servo_setting_of}
-use Rattle.wrp_servo.specs.Call.{Call, CallSample, CallMeasured, CallTick, CallLease, CallLink, CallCarrier, CallReset, ServoSetting}
-use Rattle.wrp_servo.specs.Measuring.{is_in, x_of}
-use Rattle.wrp_servo.specs.Servo.{AllAnswered}
 use Rattle.wrp_tracking.specs.ErrorSum.{IsShare}
 use Rattle.wrp_truth.specs.Fours.{IsNearAnswer}
 use Rattle.wrp_course.specs.Run.{IsAnswered}
 use Rattle.wrp_course.specs.Setting.{Setting, node_setting_of}
 use Rattle.wrp_course.specs.WorldAt.{WorldAt}
+use Rattle.wrp_truth.proofs.NearAnswers.{HopOf, hop_of, near_calls}
+use Rattle.wrp_world.proofs.NearLaws.{share_of}
 use Rattle.wrp_run.specs.Audited.{answers_in, setting_at}
 use Rattle.wrp_run.specs.DownLaw.{down_by, down_over, greatest_by, greatest_over, least_by, least_over}
 use Rattle.wrp_run.proofs.LinkLaws.{above_is, kappa_fits, table_fits}
@@ -52,34 +47,6 @@ table_sound : (cfg : NetCfg) (db : Database) (n : ℕ) (link : LinkCfg) (o : Opt
 table_sound cfg db n link None accepted is has = tt
 table_sound cfg db n link (Some table) accepted is has = table_fits cfg db n link table accepted is has
 
--- The numbers of a hop
-
--- of which link they are
-record HopOf (cfg : NetCfg) (n : ℕ) (hop : HopNumbers) : Type 0 where
-  link : LinkCfg
-  above : link_above cfg n ≡ Some link
-  kappa : hop.kappa ≡ link.kappa
-  error : hop.law_err ≡ link.law_err
-
-between_nodes : (cfg : NetCfg) (link : LinkCfg) (own parent : Option NodeCfg) (hop : HopNumbers) → numbers_between cfg link own parent ≡ Some hop → (hop.kappa ≡ link.kappa) × (hop.law_err ≡ link.law_err)
-between_nodes cfg link (Some own) (Some parent) hop e =
-    (sym (ap (λ (o : Option HopNumbers). option_map_or (λ (h : HopNumbers). h.kappa) o (pos 0)) e), sym (ap (λ (o : Option HopNumbers). option_map_or (λ (h : HopNumbers). h.law_err) o 0) e))
-between_nodes cfg link None parent hop e = absurd (cc)
-between_nodes cfg link (Some own) None hop e = absurd (cc)
-
-over_link : (cfg : NetCfg) (link : LinkCfg) (hop : HopNumbers) → numbers_over cfg link ≡ Some hop → (hop.kappa ≡ link.kappa) × (hop.law_err ≡ link.law_err)
-unfolding numbers_over
-over_link cfg link hop e = between_nodes cfg link (slice_get cfg.nodes.items link.lower) (slice_get cfg.nodes.items link.upper) hop e
-
-hop_with : (cfg : NetCfg) (n : ℕ) (hop : HopNumbers) (o : Option LinkCfg) → link_above cfg n ≡ o → option_and_then (numbers_over cfg) o ≡ Some hop → HopOf cfg n hop
-hop_with cfg n hop None above e = absurd (cc)
-hop_with cfg n hop (Some link) above e =
-    let parts : (hop.kappa ≡ link.kappa) × (hop.law_err ≡ link.law_err) = over_link cfg link hop e in
-    record { link = link; above = above; kappa = parts.0; error = parts.1 }
-
-hop_of : (cfg : NetCfg) (n : ℕ) (hop : HopNumbers) → numbers_of cfg n ≡ Some hop → HopOf cfg n hop
-hop_of cfg n hop e = hop_with cfg n hop (link_above cfg n) refl e
-
 -- A node's law
 
 near_over : (cfg : NetCfg) (db : Database) (n : ℕ) (link : LinkCfg) (x : ℤ) → IsAccepted cfg db → link_above cfg n ≡ Some link → least_over db (Some link) ≤ℤ x → x ≤ℤ greatest_over db (Some link) →
@@ -89,9 +56,8 @@ near_over cfg db n link x accepted is low high =
     subst (λ (e : ℕ). IsNear (Linear link.kappa) e x (down_over db (Some link) x)) (sym (accepted.links at.0 link at.1).law_err)
     (down_near (table_at db link.fibre.bytes) link.kappa x (kappa_fits cfg db n link accepted is) (table_sound cfg db n link (table_at db link.fibre.bytes) accepted is refl) low high)
 
-share_of : (hop : HopNumbers) (kappa : ℤ) (err : ℕ) (x y : ℤ) → hop.kappa ≡ kappa → hop.law_err ≡ err → IsNear (Linear kappa) err x y → IsShare hop hop.law_err y x
-share_of hop kappa err x y same even near =
-    subst (λ (k : ℤ). IsNear (Linear k) hop.law_err x y) (sym same) (subst (λ (e : ℕ). IsNear (Linear kappa) e x y) (sym even) near)
+le_self : (n : ℕ) → n ≤ n
+le_self n = omega arith
 
 -- what the laws answer in their ranges is near
 abbrev pub LawsAreNear : Setting → Type 0
@@ -104,7 +70,7 @@ laws_of cfg db accepted n hop x y numbers low high answer =
     let from : least_over db (Some it.link) ≤ℤ x = subst (λ (o : Option LinkCfg). least_over db o ≤ℤ x) it.above low in
     let to : x ≤ℤ greatest_over db (Some it.link) = subst (λ (o : Option LinkCfg). x ≤ℤ greatest_over db o) it.above high in
     let is : y ≡ down_over db (Some it.link) x = answer ∙ ap (λ (o : Option LinkCfg). down_over db o x) it.above in
-    share_of hop it.link.kappa it.link.law_err x y it.kappa it.error
+    share_of hop it.link.kappa it.link.law_err it.link.law_err x y it.kappa it.error (le_self it.link.law_err)
     (subst (IsNear (Linear it.link.kappa) it.link.law_err x) (sym is) (near_over cfg db n it.link x accepted it.above from to))
 
 -- of an accepted network that has this setting
@@ -112,26 +78,6 @@ pub laws_near : (s : Setting) (cfg : NetCfg) (db : Database) → IsAccepted cfg 
 laws_near s cfg db accepted is = subst LawsAreNear (sym is) (laws_of cfg db accepted)
 
 -- What was answered in a run
-
-in_range : (lo hi x : ℤ) → is_in lo hi x ≡ true → (lo ≤ℤ x) × (x ≤ℤ hi)
-in_range lo hi x is =
-    let parts : (int_le lo x ≡ true) × (int_le x hi ≡ true) = and_parts (int_le lo x) (int_le x hi) is in
-    let low : int_le lo x ≡ true = parts.0 in
-    let high : int_le x hi ≡ true = parts.1 in
-    (grind (arith, ints), grind (arith, ints))
-
-near_calls : (P Q : ℤ → ℤ → Type 0) (x : ServoSetting) → ((a y : ℤ) → x.lo ≤ℤ a → a ≤ℤ x.hi → P a y → Q a y) → (calls : List Call) → AllAnswered P x calls → AllAnswered Q x calls
-near_calls P Q x f [] h = tt
-near_calls P Q x f (CallMeasured four y ∷ calls) h = (
-  λ d is range. let within = in_range x.lo x.hi (x_of d four) range in f (x_of d four) y within.0 within.1 (h.0 d is range),
-  near_calls P Q x f calls h.1,
-)
-near_calls P Q x f (CallSample n base bits ∷ calls) h = near_calls P Q x f calls h
-near_calls P Q x f (CallTick ∷ calls) h = near_calls P Q x f calls h
-near_calls P Q x f (CallLease fresh ∷ calls) h = near_calls P Q x f calls h
-near_calls P Q x f (CallLink on ∷ calls) h = near_calls P Q x f calls h
-near_calls P Q x f (CallCarrier up ∷ calls) h = near_calls P Q x f calls h
-near_calls P Q x f (CallReset ∷ calls) h = near_calls P Q x f calls h
 
 pub answers_near : (s : Setting) (w : WorldAt) → LawsAreNear s → IsAnswered (answers_in s) s w → IsAnswered (IsNearAnswer s) s w
 answers_near s w near answered n =

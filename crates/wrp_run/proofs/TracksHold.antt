@@ -5,13 +5,14 @@ use Rattle.wrp_config.specs.Same.{ReadingIsAccepted}
 use Rattle.wrp_node.specs.declared.interface.Output.{Output}
 use Rattle.wrp_sim.specs.Keeps.{SimRunsAreRuns}
 use Rattle.wrp_trace.specs.Events.{EventsCanCome}
-use Rattle.wrp_truth.specs.Bounds.{OffsetsKeepBounds, TrackReportsAreTrue, TrueRun}
+use Rattle.wrp_truth.specs.Bounds.{TrueRun}
 use Rattle.wrp_truth.specs.Chains.{AllFit}
 use Rattle.wrp_course.specs.EventAt.{FitsEvent}
 use Rattle.wrp_course.specs.Run.{Happened, IsAnswered, steps_at, world_after}
 use Rattle.wrp_course.specs.Runs.{IsRun}
 use Rattle.wrp_course.specs.Setting.{Setting}
 use Rattle.wrp_truth.proofs.Suffixes.{run_before}
+use Rattle.wrp_world.specs.EventHolds.{TracksHold, TracksHoldInRuns}
 use Rattle.wrp_run.specs.Audited.{IsSettingOf, answers_in}
 use Rattle.wrp_run.specs.Headline.{Came}
 use Rattle.wrp_run.specs.Input.{network_text}
@@ -47,25 +48,19 @@ true_run s events runs = record { run = runs.run; fit = runs.fit; answered = ans
 
 -- At each event
 
--- the laws of every run
-pub record Laws : Type 0 where
-  pub offsets : OffsetsKeepBounds
-  pub reports : TrackReportsAreTrue
-
-true_at : Laws → (has_line : Output → Bool) (s : Setting) (h : Happened) (before : List Happened) → RunsNear s (h ∷ before) → IsTrueAt (writes has_line) s before h
-true_at laws has_line s h before runs =
-    let run : TrueRun s (h ∷ before) = true_run s (h ∷ before) runs in
-    let are = laws.reports s h before run in
+true_at : TracksHoldInRuns → (has_line : Output → Bool) (s : Setting) (h : Happened) (before : List Happened) → RunsNear s (h ∷ before) → IsTrueAt (writes has_line) s before h
+true_at tracks has_line s h before runs =
+    let holds : TracksHold s h before = tracks s h before (true_run s (h ∷ before) runs) in
     record {
-      nodes = λ n within up. laws.offsets s (h ∷ before) n run within up;
-      reports = are;
-      lines = lines_are_true has_line s (world_after s (h ∷ before)) (steps_at s before h) runs.run.network.accepted.names are;
+      nodes = holds.offsets;
+      reports = holds.reports;
+      lines = lines_are_true has_line s (world_after s (h ∷ before)) (steps_at s before h) runs.run.network.accepted.names holds.reports;
     }
 
 -- whichever outputs have a line
-pub tracks_hold : Laws → (has_line : Output → Bool) (s : Setting) (events : List Happened) → RunsNear s events → TracksAreWithin (writes has_line) s events
-tracks_hold laws has_line s [] runs = tt
-tracks_hold laws has_line s (h ∷ before) runs = (true_at laws has_line s h before runs, tracks_hold laws has_line s before (runs_before s h before runs))
+pub tracks_hold : TracksHoldInRuns → (has_line : Output → Bool) (s : Setting) (events : List Happened) → RunsNear s events → TracksAreWithin (writes has_line) s events
+tracks_hold tracks has_line s [] runs = tt
+tracks_hold tracks has_line s (h ∷ before) runs = (true_at tracks has_line s h before runs, tracks_hold tracks has_line s before (runs_before s h before runs))
 
 -- Audits
 

@@ -9,8 +9,7 @@ use wrp_node::one_run;
 use wrp_servo::told_last;
 use wrp_sim::simulator_keeps_the_bounds;
 use wrp_trace::events_can_come;
-use wrp_truth::{offsets_keep_bounds, reports_are_within};
-use wrp_course::{dropped_frames_leave_a_count, reported_link_on_is_earned};
+use wrp_world::events_hold;
 
 /// Before any record an audit has written nothing.
 pub fn audits_begin()
@@ -43,10 +42,7 @@ pub fn events_carry_parts()
 {
     reading_is_accepted();
     events_can_come();
-    reported_link_on_is_earned();
-    offsets_keep_bounds();
-    reports_are_within();
-    dropped_frames_leave_a_count();
+    events_hold();
 }
 
 /// So it is in each event that a simulation makes, whatever its scenario and its seed: none can break a
@@ -56,8 +52,5 @@ pub fn made_events_carry_parts()
 {
     reading_is_accepted();
     simulator_keeps_the_bounds();
-    reported_link_on_is_earned();
-    offsets_keep_bounds();
-    reports_are_within();
-    dropped_frames_leave_a_count();
+    events_hold();
 }

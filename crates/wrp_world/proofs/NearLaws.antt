@@ -33,7 +33,7 @@ use Rattle.wrp_world.specs.StandsFor.{NodeIs, StandsFor, WorldOf}
 no_worse : (z : ℤ) (err most least : ℕ) → unsigned_abs z ≤ 2 ^ 40 * err → err ≤ most → least ≡ most → unsigned_abs z ≤ 2 ^ 40 * least
 no_worse z err most least h few same = omega (arith, h, few, same)
 
-share_of : (hop : HopNumbers) (kappa : ℤ) (err most : ℕ) (x y : ℤ) → hop.kappa ≡ kappa → hop.law_err ≡ most → err ≤ most → IsNear (Linear kappa) err x y → IsShare hop hop.law_err y x
+pub share_of : (hop : HopNumbers) (kappa : ℤ) (err most : ℕ) (x y : ℤ) → hop.kappa ≡ kappa → hop.law_err ≡ most → err ≤ most → IsNear (Linear kappa) err x y → IsShare hop hop.law_err y x
 share_of hop kappa err most x y same even few near =
     subst (λ (k : ℤ). IsNear (Linear k) hop.law_err x y) (sym same)
     (no_worse ((pos (2 ^ 40) *ℤ y) -ℤ (x *ℤ (pos (2 ^ 39) +ℤ kappa))) err most hop.law_err near few even)
