@@ -1,13 +1,10 @@
 -- Which inputs a node of a network can take, as far as its count of ticks is not asked (this project's profile).
-use Rattle.std.specs.Prelude.{ℕ, ◌≡◌, ◌<◌, ◌==◌, Bool, true}
-use Rattle.std.specs.List.{list_any}
+use Rattle.std.specs.Prelude.{ℕ, ◌≡◌, ◌<◌, true}
 use Rattle.wrp_base.specs.declared.configuration.NetCfg.{NetCfg}
 use Rattle.wrp_base.specs.Network.{node_count}
 use Rattle.wrp_node.specs.declared.interface.Input.{Input}
 use Rattle.wrp_node.specs.declared.interface.Input.TheVariants.{Tick, Sample, Frame, Sent, Carrier, Reset}
-use Rattle.wrp_node.specs.NodeAt.{numbers_of}
 use Rattle.wrp_node.specs.Parts.{FitsRaw}
-use Rattle.wrp_node.specs.Set.{set_of}
 use Rattle.wrp_port.specs.PortAt.{IsStamp}
 use Rattle.wrp_course.specs.declared.node_out.NodeOut.{NodeOut}
 use Rattle.wrp_course.specs.Setting.{has_port}

@@ -1,22 +1,12 @@
 -- All of a world but its nodes before any event: its clocks, and the ends of its links (this project's profile).
-use Rattle.std.specs.Prelude.{◌≡◌, ◌≤◌, ℕ, ℤ, pos, false, List, [], Option, Some, IfSome, slice_get, option_and_then}
-use Rattle.std.specs.Option.{is_some, option_map_or}
-use Rattle.wrp_base.specs.declared.configuration.NetCfg.{NetCfg}
+use Rattle.std.specs.Prelude.{◌≡◌, ℕ, ℤ, pos, false, List, [], Option, Some, slice_get}
+use Rattle.std.specs.Option.{option_map_or}
 use Rattle.wrp_base.specs.declared.link.Module.{Module}
 use Rattle.wrp_base.specs.declared.network.LinkCfg.{LinkCfg}
-use Rattle.wrp_base.specs.Network.{link_above}
 use Rattle.wrp_caldb.specs.Database.{Database, module_at}
-use Rattle.wrp_law.specs.declared.delay.LawKind.TheVariants.{Linear}
-use Rattle.wrp_law.specs.Law.{LawOf, KeepsFact}
-use Rattle.wrp_node.specs.Control.{law_in}
-use Rattle.wrp_node.specs.New.{low_of, high_of, node_setting_of}
-use Rattle.wrp_node.specs.Node.{IsValid as NodeIsValid}
-use Rattle.wrp_node.specs.Set.{set_of}
-use Rattle.wrp_node.specs.StandsFor.{NodeOf, StandsFor as NodeStandsFor}
 use Rattle.wrp_course.specs.declared.clocks.ClockState.{ClockState}
 use Rattle.wrp_plant.specs.declared.ends.EndState.{EndState}
 use Rattle.wrp_plant.specs.declared.ends.Span.{Span}
-use Rattle.wrp_course.specs.Setting.{Setting}
 
 -- a clock before any event
 abbrev pub new_clock : ℤ → ClockState

@@ -12,7 +12,6 @@ use Rattle.wrp_base.specs.declared.network.LinkCfg.{LinkCfg}
 use Rattle.wrp_base.specs.declared.network.NodeCfg.{NodeCfg}
 use Rattle.wrp_base.specs.declared.time.Raw.{Raw}
 use Rattle.wrp_base.specs.Message.{is_port}
-use Rattle.wrp_base.specs.Network.{other_of}
 use Rattle.wrp_bounds.specs.Times.{frame_life}
 use Rattle.wrp_servo.specs.Sampling.{is_holdover}
 use Rattle.wrp_frame.specs.declared.fault.FrameFault.{FrameFault}
@@ -22,17 +21,14 @@ use Rattle.wrp_course.specs.Checks.{Check, at_most, size_of, stands, told_of}
 use Rattle.wrp_course.specs.declared.breach.Breach.{Breach}
 use Rattle.wrp_plant.specs.declared.ends.Delays.{Delays}
 use Rattle.wrp_plant.specs.declared.ends.EndState.{EndState}
-use Rattle.wrp_course.specs.declared.event.Event.{Event}
 use Rattle.wrp_course.specs.declared.event.Swap.{Swap}
 use Rattle.wrp_course.specs.declared.fibres.FibreState.{FibreState}
 use Rattle.wrp_course.specs.declared.place.Place.{Place}
 use Rattle.wrp_plant.specs.declared.plant.Plant.{Plant}
 use Rattle.wrp_course.specs.Moved.{move_of}
 use Rattle.wrp_plant.specs.Plant.{PlantIs}
-use Rattle.wrp_course.specs.Premises.{checks_of, noise_checks, received_at}
-use Rattle.wrp_course.specs.Run.{IsSaid}
+use Rattle.wrp_course.specs.Premises.{noise_checks, received_at}
 use Rattle.wrp_course.specs.Setting.{Setting, end_at, entry_at, of_node, place_of}
-use Rattle.wrp_world.specs.StandsFor.{StandsFor, WorldOf}
 use Rattle.wrp_course.specs.WorldAt.{EndAt, WorldAt, has_carrier, reading}
 
 -- Delays
