@@ -22,10 +22,13 @@ pub mod RunLit
 pub mod RunMoves
 pub mod RunNetwork
 pub mod RunPorts
+pub mod RunQuiet
+pub mod RunSent
 pub mod RunSettled
 pub mod RunStamps
 pub mod RunTicks
 pub mod RunTimes
+pub mod RunWaking
 pub mod Still
 pub mod Told
 pub mod Unbroken

@@ -22,15 +22,15 @@ use Rattle.wrp_course.proofs.RunNetwork.{LinkEnd, are_apart, end_with, place_end
 
 -- Among
 
-abbrev In : {A : Type 0} → A → List A → Type 0
+abbrev pub In : {A : Type 0} → A → List A → Type 0
 In x [] = ⊥
 In x (y ∷ ys) = (x ≡ y) ⊎ In x ys
 
-in_left : {A : Type 0} (x : A) (xs ys : List A) → In x xs → In x (xs ++ ys)
+pub in_left : {A : Type 0} (x : A) (xs ys : List A) → In x xs → In x (xs ++ ys)
 in_left x [] ys h = absurd h
 in_left x (z ∷ xs) ys h = elim h [ inl e ↦ inl e | inr t ↦ inr (in_left x xs ys t) ]
 
-in_right : {A : Type 0} (x : A) (xs ys : List A) → In x ys → In x (xs ++ ys)
+pub in_right : {A : Type 0} (x : A) (xs ys : List A) → In x ys → In x (xs ++ ys)
 in_right x [] ys h = h
 in_right x (z ∷ xs) ys h = inr (in_right x xs ys h)
 
@@ -77,7 +77,7 @@ number_at : (net : NetCfg) (r : Role) (link : LinkCfg) → (ds_at net r link).ow
 number_at net Master link = refl
 number_at net Slave link = refl
 
-is_listed : (s : Setting) → IsNetwork s → (k : ℕ) (r : Role) (link : LinkCfg) → link_of s k ≡ Some link → In (end_of r link).port (numbers_of (s.set (end_of r link).node))
+pub is_listed : (s : Setting) → IsNetwork s → (k : ℕ) (r : Role) (link : LinkCfg) → link_of s k ≡ Some link → In (end_of r link).port (numbers_of (s.set (end_of r link).node))
 is_listed s net k r link is =
     subst (λ (x : NodeSet). In (end_of r link).port (numbers_of x)) (sym (net.set (end_of r link).node))
     (subst (λ p. In p (numbers_of (set_of s.cfg (end_of r link).node))) (number_at s.cfg r link)

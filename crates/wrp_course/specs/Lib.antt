@@ -2,10 +2,12 @@ pub mod Checks
 pub mod Dropped
 pub mod Earned
 pub mod EventAt
+pub mod FramesMayCome
 pub mod Given
 pub mod Laws
 pub mod LinkEnds
 pub mod Moved
+pub mod PortsWakeLate
 pub mod Premises
 pub mod Rows
 pub mod Run

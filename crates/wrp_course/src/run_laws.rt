@@ -2,6 +2,8 @@
 //! the laws that they stand on.
 ghost use Rattle.wrp_course.specs.Dropped.{DroppedFramesLeaveACount};
 ghost use Rattle.wrp_course.specs.Earned.{LinkOnIsEarned, ReportsAreTrue};
+ghost use Rattle.wrp_course.specs.FramesMayCome.{FramesMayCome};
+ghost use Rattle.wrp_course.specs.PortsWakeLate.{AwakePortsLeftLongAgo, AwakePortsWereLitLongAgo};
 ghost use Rattle.wrp_course.specs.RunLaws.{FramesHaveTimes, FramesWerePutOut, ModulesStay, TicksAreApart};
 ghost use Rattle.wrp_course.specs.RunLaws.{TimeNeverFalls};
 ghost use Rattle.wrp_course.specs.RunStamps.{FramesAreStamped};
@@ -10,7 +12,10 @@ ghost use Rattle.wrp_course.specs.SameHandshake.{LinkOnInTheSameHandshake, LinkO
 
 use crate::laws::arrival_keeps_stamp_bound;
 use wrp_config::child_is_deeper;
-use wrp_handshake::{carrier_with_its_module, on_in_the_same_handshake, on_with_the_deltas};
+use wrp_handshake::{
+    carrier_with_its_module, on_in_the_same_handshake, on_with_the_deltas,
+    quiet_time_outlives_frames,
+};
 use wrp_node::{
     dropped_leaves_a_count, ends_are_set, signals_are_of_link, step_gives_links, step_settles,
 };
@@ -39,6 +44,21 @@ pub fn link_on_in_the_same_handshake()
     on_in_the_same_handshake();
     on_with_the_deltas();
     carrier_with_its_module();
+}
+
+/// A port that has its carrier, and whose quiet time is over, got the carrier more than two lives of a frame
+/// ago: by an event that joined its link, or that brought up a node of it, since which the carrier stood. And
+/// it left no stretch of its link within that time.
+pub fn ports_wake_late()
+    ensures lit { AwakePortsWereLitLongAgo }
+    ensures left { AwakePortsLeftLongAgo }
+{
+    step_gives_links();
+    signals_are_of_link();
+    time_never_falls();
+    ticks_are_apart();
+    link_on_in_the_same_handshake();
+    quiet_time_outlives_frames();
 }
 
 /// Each port in WR_LINK_ON has earned it, after every event of every run: its peer passed the required
@@ -85,6 +105,17 @@ pub fn frames_are_stamped()
     ensures { FramesAreStamped }
 {
     arrival_keeps_stamp_bound();
+}
+
+/// Each frame that can still be handed over, now or behind further events, was put out at most a frame's life
+/// ago: in a step of its sender's node, in the event and in the world of that time, the node sent the frame's
+/// octets at the sender's port.
+pub fn frames_may_come()
+    ensures { FramesMayCome }
+{
+    time_never_falls();
+    frames_were_put_out();
+    frames_are_stamped();
 }
 
 /// The time of a node's last tick, or of its start, stays in an event, or the node ticks, no sooner than
