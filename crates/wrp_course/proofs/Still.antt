@@ -21,6 +21,8 @@ new_world_is_still s = record {
   histories = λ n p. no_history s (place_of s n p);
   waiting = λ n p. none_waits s (place_of s n p);
   arrivals = λ i. refl;
+  frames = λ i. refl;
+  kept = refl;
   octets = λ i. refl;
   senders = λ i. refl;
 }

@@ -11,7 +11,7 @@ use Rattle.wrp_course.specs.declared.event.Event.{Event}
 use Rattle.wrp_course.specs.declared.event.Event.TheVariants.{Arrive, Sample}
 use Rattle.wrp_course.specs.Premises.{Accepts, broken, transition_of}
 use Rattle.wrp_course.specs.Setting.{Setting, above, end_at, entry_at, link_of, of_node, place_of}
-use Rattle.wrp_course.specs.Views.{history_of, waiting_of, tick_due, IsNextArrival, octets_at, sender_of}
+use Rattle.wrp_course.specs.Views.{history_of, waiting_of, tick_due, IsNextArrival, kept_count, octets_at, sender_of}
 use Rattle.wrp_course.specs.WorldAt.{WorldAt, FrameAt, new_world, phase_of, reading}
 
 -- an event is accepted exactly where no check is the first that fails
@@ -20,13 +20,15 @@ AcceptedIsUnbroken =
     (s : Setting) (w : WorldAt) (says : Result PtpMsg FrameFault) (e : Event) →
     (Accepts s w says e → broken s w says e ≡ None) × (broken s w says e ≡ None → Accepts s w says e)
 
--- before any event no node ticks, no port has a history or a frame that waits, and no frame departed
+-- before any event no node ticks, no port has a history or a frame that waits, no frame departed, and none is kept
 pub record IsStill (s : Setting) (w : WorldAt) : Type 0 where
   pub ticks : (n : ℕ) → tick_due s w n ≡ None
   pub histories : (n p : ℕ) → history_of w (place_of s n p) ≡ []
   pub waiting : (n p : ℕ) → waiting_of s w n p ≡ None
   pub arrivals : IsNextArrival w None
-  pub octets : (i : ℕ) → octets_at w i ≡ None
+  pub frames : (i : ℕ) → w.frame i ≡ None
+  pub kept : kept_count s w ≡ 0
+  pub octets : (i : ℕ) → octets_at s w i ≡ None
   pub senders : (i : ℕ) → sender_of s w i ≡ None
 
 abbrev pub NewWorldIsStill : Type 0

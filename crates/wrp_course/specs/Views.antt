@@ -1,11 +1,12 @@
 -- What is asked of a world (this project's profile).
-use Rattle.std.specs.Prelude.{◌≡◌, ◌⊎◌, ℕ, ℤ, pos, ◌+ℤ◌, ◌<ℤ◌, ◌≤◌, true, false, if◌then◌else◌, List, [], ◌∷◌, reverse, Option, None, Some, option_map, option_and_then}
+use Rattle.std.specs.Prelude.{◌≡◌, ◌⊎◌, ◌||◌, ℕ, ℤ, pos, ◌+ℤ◌, ◌-ℤ◌, ◌<ℤ◌, ◌≤◌, Bool, true, false, if◌then◌else◌, List, [], ◌∷◌, count_by, reverse, Option, None, Some, option_map, option_and_then}
+use Rattle.std.specs.Int.Signed.{le_z}
 use Rattle.wrp_base.specs.declared.link.Mark.{Mark}
 use Rattle.wrp_base.specs.Network.{End}
-use Rattle.wrp_bounds.specs.Times.{shortest_tick, longest_tick}
+use Rattle.wrp_bounds.specs.Times.{shortest_tick, longest_tick, frame_life}
 use Rattle.wrp_frame.specs.SentOctets.{octets_of}
 use Rattle.wrp_course.specs.declared.place.Place.{Place}
-use Rattle.wrp_course.specs.Setting.{Setting, end_at, place_of}
+use Rattle.wrp_course.specs.Setting.{Setting, end_at, from_on, place_of}
 use Rattle.wrp_course.specs.WorldAt.{WorldAt, FrameAt, Sending, is_on_fibre}
 use Rattle.wrp_course.specs.Moved.{waiting_at}
 
@@ -41,9 +42,24 @@ IsNextArrival w (Some next) =
     (f : FrameAt) × (w.frame next.0 ≡ Some f) × (is_on_fibre (w.frame next.0) ≡ true) × (f.due ≡ next.1)
     × ((j : ℕ) (g : FrameAt) → w.frame j ≡ Some g → is_on_fibre (w.frame j) ≡ true → IsNoSooner next.0 next.1 j g)
 
--- the octets of a frame, and the port that sent it
-abbrev pub octets_at : WorldAt → ℕ → Option (List ℕ)
-octets_at w i = option_map (λ f. octets_of f.sending.message) (w.frame i)
+-- Of which frames a world still tells: of those that are kept
+
+-- a frame is kept while it is on a fibre, and as long as it was put out at most a frame's life ago
+abbrev pub is_kept : Setting → WorldAt → Option FrameAt → Bool
+is_kept s w None = false
+is_kept s w (Some f) = is_on_fibre (Some f) || le_z (w.time -ℤ f.sending.at) (pos (frame_life s.cfg))
+
+-- the frame of a number, where it is kept
+abbrev pub kept_frame : Setting → WorldAt → ℕ → Option FrameAt
+kept_frame s w i = if is_kept s w (w.frame i) then w.frame i else None
+
+-- how many of the numbers that were given, from 1 on, are those of frames that are kept
+abbrev pub kept_count : Setting → WorldAt → ℕ
+kept_count s w = count_by (λ i. is_kept s w (w.frame i)) (from_on w.departed 1)
+
+-- the octets of a frame that is kept, and the port that sent it
+abbrev pub octets_at : Setting → WorldAt → ℕ → Option (List ℕ)
+octets_at s w i = option_map (λ f. octets_of f.sending.message) (kept_frame s w i)
 
 abbrev pub sender_of : Setting → WorldAt → ℕ → Option End
-sender_of s w i = option_and_then (λ f. end_at s f.link f.by) (w.frame i)
+sender_of s w i = option_and_then (λ f. end_at s f.link f.by) (kept_frame s w i)

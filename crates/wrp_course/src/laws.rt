@@ -13,7 +13,7 @@ pub fn accepted_is_unbroken()
     ensures { AcceptedIsUnbroken }
 {}
 
-/// Before any event no node ticks, nothing waits at a port, and no frame departed.
+/// Before any event no node ticks, nothing waits at a port, no frame departed, and none is kept.
 pub fn new_world_is_still()
     ensures { NewWorldIsStill }
 {}

@@ -10,6 +10,7 @@ pub mod FrameGifts
 pub mod GiftsFit
 pub mod Handing
 pub mod JoinedLinks
+pub mod KeptFrames
 pub mod Listing
 pub mod Moving
 pub mod NewPlants

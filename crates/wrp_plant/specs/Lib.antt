@@ -4,6 +4,7 @@ pub mod FitsGifts
 pub mod Flights
 pub mod Gifts
 pub mod Giving
+pub mod Kept
 pub mod Moves
 pub mod New
 pub mod OnFibre

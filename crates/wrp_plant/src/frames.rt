@@ -1,5 +1,7 @@
 //! The frames of a world that departed, found by their numbers.
-ghost use Rattle.std.specs.Prelude.{◌≡◌, ◌<◌, ◌^◌, [], length, None, option_map};
+ghost use Rattle.std.specs.Prelude.{◌≡◌, ◌<◌, ◌-ℤ◌, ◌^◌, [], pos, count_by, length, None, option_map};
+ghost use Rattle.std.specs.Int.Signed.{le_z};
+ghost use Rattle.wrp_plant.specs.Kept.{is_kept_at};
 ghost use Rattle.wrp_plant.specs.Plant.{frame_numbered, is_on, next_from};
 
 mod flights;
@@ -46,6 +48,20 @@ impl Departed {
     {
         !self.gone && self.arrival.is_none()
     }
+
+    /// Whether it is kept at a true time: it is on a fibre, or was put out at most `life` ago.
+    pub fn is_kept(&self, now: Tau, life: u128) -> bool
+        ensures { result ≡ is_kept_at now life self.now }
+    {
+        self.is_on() || is_young(now, self.sent, life)
+    }
+}
+
+// Whether at a true time at most `life` has passed since `sent`.
+fn is_young(now: Tau, sent: Tau, life: u128) -> bool
+    ensures { result ≡ le_z (now -ℤ sent) (pos life) }
+{
+    now <= sent || now.abs_diff(sent) <= life
 }
 
 /// The frames that departed, numbered from 1 in the order of their departures.
@@ -98,6 +114,16 @@ impl Frames {
         } else {
             self.list.get(number as usize - 1)
         }
+    }
+
+    /// How many are kept at a true time, where a frame lives so long.
+    pub fn kept(&self, now: Tau, life: u128) -> usize
+        ensures { result ≡ count_by (is_kept_at now life) self.now }
+    {
+        self.list
+            .iter()
+            .filter(|frame| frame.is_kept(now, life))
+            .count()
     }
 
     /// The frame on a fibre that is due first, with that time; the least number among equals.

@@ -13,12 +13,14 @@ use Rattle.wrp_course.specs.declared.place.Place.{Place}
 use Rattle.wrp_course.specs.Runs.{IsNetwork}
 use Rattle.wrp_course.specs.Setting.{Setting, end_at, end_of, link_of, place_among, place_of}
 use Rattle.wrp_world.specs.StandsFor.{IsValid, StandsFor, WorldOf}
-use Rattle.wrp_course.specs.Views.{sender_of}
-use Rattle.wrp_course.specs.WorldAt.{WorldAt, FrameAt}
+use Rattle.wrp_course.specs.Views.{IsNextArrival, sender_of}
+use Rattle.wrp_course.specs.WorldAt.{WorldAt, FrameAt, is_on_fibre}
+use Rattle.wrp_plant.proofs.KeptFrames.{kept_on_fibre}
 use Rattle.wrp_course.proofs.RunNetwork.{LinkEnd as EndThere, are_apart, link_end, place_end}
 use Rattle.wrp_sim.specs.declared.sim.modules.LinkEnd.{LinkEnd}
 use Rattle.wrp_sim.specs.Departures.{across}
 use Rattle.wrp_sim.specs.Rules.{raw_by, raw_of, raw_to}
+use Rattle.wrp_sim.specs.Sim.{IsDue}
 
 -- a world that is valid stands for states of an accepted network
 pub network_of : {F : Type 0} (pre : F → ℤ → Type 0) (post : F → ℤ → ℤ → Type 0) (s : Setting) (w : WorldAt) (world : WorldOf F) →
@@ -82,6 +84,17 @@ end_found s net k r end e = found s net k r end e (place_of s end.node end.port)
 
 -- The raw stamp of a frame, over its sender
 
+-- what is due first is on a fibre
+pub due_on : {F : Type 0} (post : F → ℤ → ℤ → Type 0) (world : WorldOf F) (due : Option (ℕ × ℤ)) →
+    ((s : Setting) (w : WorldAt) → StandsFor post s w world → IsNextArrival w due) → IsDue post world due
+due_on post world None h = tt
+due_on post world (Some next) h = λ s w k. (h s w k).2
+
+-- and its sender is told
+sent_from : (s : Setting) (w : WorldAt) (i : ℕ) → is_on_fibre (w.frame i) ≡ true →
+    option_map port_in (sender_of s w i) ≡ option_map port_in (option_and_then (λ f. end_at s f.link f.by) (w.frame i))
+sent_from s w i on = ap (λ (o : Option FrameAt). option_map port_in (option_and_then (λ f. end_at s f.link f.by) o)) (kept_on_fibre s w i on)
+
 no_end : (s : Setting) (w : WorldAt) (k : ℕ) (r q : Role) (o : Option LinkCfg) → link_of s k ≡ o → end_at s k r ≡ None → raw_to s w k q ≡ None
 no_end s w k r q None e f = ap (λ (l : Option LinkCfg). option_and_then (raw_by s w k q) (option_map (end_of q) l)) e
 no_end s w k r q (Some link) e f = absurd (none-some (end_of r link) (sym f ∙ ap (option_map (end_of r)) e))
@@ -92,8 +105,8 @@ no_sender s w None e = refl
 no_sender s w (Some f) e = no_end s w f.link f.by (other_of f.by) (link_of s f.link) refl (unmapped (end_at s f.link f.by) e)
 
 -- no sender is told of it
-pub unsent : (s : Setting) (w : WorldAt) (i : ℕ) → None ≡ option_map port_in (sender_of s w i) → raw_of s w i ≡ None
-unsent s w i e = no_sender s w (w.frame i) (sym e)
+pub unsent : (s : Setting) (w : WorldAt) (i : ℕ) → is_on_fibre (w.frame i) ≡ true → None ≡ option_map port_in (sender_of s w i) → raw_of s w i ≡ None
+unsent s w i on e = no_sender s w (w.frame i) (sym (e ∙ sent_from s w i on))
 
 -- its sender is this port
 by_end : (s : Setting) → IsNetwork s → (w : WorldAt) (n p k : ℕ) (r : Role) (o : Option End) → end_at s k r ≡ o → Some (n, p) ≡ option_map port_in o →
@@ -111,6 +124,6 @@ by_frame s net w n p (Some f) e to g =
     ap (option_and_then (λ (x : LinkEnd). raw_to s w x.link x.role)) (g ∙ ap (option_map across) (by_end s net w n p f.link f.by (end_at s f.link f.by) refl e))
 
 -- the raw stamp is that at the other end of the sender's link
-pub sent_by : (s : Setting) → IsNetwork s → (w : WorldAt) (i n p : ℕ) → Some (n, p) ≡ option_map port_in (sender_of s w i) → (to : Option LinkEnd) →
+pub sent_by : (s : Setting) → IsNetwork s → (w : WorldAt) (i n p : ℕ) → is_on_fibre (w.frame i) ≡ true → Some (n, p) ≡ option_map port_in (sender_of s w i) → (to : Option LinkEnd) →
     to ≡ option_map across (place_of s n p) → option_and_then (λ (x : LinkEnd). raw_to s w x.link x.role) to ≡ raw_of s w i
-sent_by s net w i n p e to g = by_frame s net w n p (w.frame i) e to g
+sent_by s net w i n p on e to g = by_frame s net w n p (w.frame i) (e ∙ sent_from s w i on) to g

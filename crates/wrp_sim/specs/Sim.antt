@@ -1,5 +1,5 @@
 -- What a simulator holds, and what has been drawn and done that it stands for (this project's profile).
-use Rattle.std.specs.Prelude.{◌≡◌, ◌<◌, ◌≤◌, ◌+◌, ℤ, length, Option, None, Some, IfSome}
+use Rattle.std.specs.Prelude.{◌≡◌, ◌<◌, ◌≤◌, ◌+◌, ℕ, ℤ, true, length, Option, None, Some, IfSome}
 use Rattle.std.specs.List.{AllByRecursion}
 use Rattle.wrp_base.specs.declared.configuration.NetCfg.{NetCfg}
 use Rattle.wrp_base.specs.Network.{node_count}
@@ -7,7 +7,7 @@ use Rattle.wrp_course.specs.declared.event.Event.{Event}
 use Rattle.wrp_plant.specs.Plant.{Each}
 use Rattle.wrp_course.specs.Setting.{Setting}
 use Rattle.wrp_world.specs.StandsFor.{StandsFor, WorldOf}
-use Rattle.wrp_course.specs.WorldAt.{WorldAt}
+use Rattle.wrp_course.specs.WorldAt.{WorldAt, is_on_fibre}
 use Rattle.wrp_sim.specs.declared.sim.state.State.{State}
 use Rattle.wrp_sim.specs.Rules.{Next, rest_of}
 use Rattle.wrp_sim.specs.Scenario.{IsFault, IsSceneOf, SceneAt}
@@ -46,6 +46,14 @@ Follows post rule stays world old new event =
 -- a rule that leaves all as it is where it does not apply
 abbrev pub as_is : Setting → WorldAt → SimAt → SimAt
 as_is s w at = at
+
+-- a frame is on a fibre, in each state that the world stands for
+abbrev pub IsOnFibre : {F : Type 0} → (F → ℤ → ℤ → Type 0) → WorldOf F → ℕ → Type 0
+IsOnFibre post world i = (s : Setting) (w : WorldAt) → StandsFor post s w world → is_on_fibre (w.frame i) ≡ true
+
+-- what is due first is a frame on a fibre, if there is one
+abbrev pub IsDue : {F : Type 0} → (F → ℤ → ℤ → Type 0) → WorldOf F → Option (ℕ × ℤ) → Type 0
+IsDue post world due = IfSome due (λ next. IsOnFibre post world next.0)
 
 -- what a step of a simulator leaves as it is: its scenario, and that it is one of the network
 pub record StaysFit (cfg : NetCfg) (old new : State) : Type 0 where

@@ -4,6 +4,7 @@
 mod course;
 mod dice;
 mod fitting;
+mod life;
 mod networks;
 mod plan;
 mod readings;

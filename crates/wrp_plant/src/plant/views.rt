@@ -1,12 +1,13 @@
 //! What is asked of a plant.
 ghost use Rattle.std.specs.Prelude.{◌≡◌, ◌<◌, length, option_map};
-ghost use Rattle.wrp_plant.specs.Plant.{FitsPlant, PlantIs};
+ghost use Rattle.wrp_plant.specs.Plant.{DepartedIs, FitsPlant, MaybeIs, PlantIs};
 ghost use Rattle.wrp_course.specs.Setting.{Setting, end_at, end_of, place_of};
 ghost use Rattle.wrp_course.specs.Views as view;
 ghost use Rattle.wrp_course.specs.WorldAt.{WorldAt};
 
 use super::Plant;
-use crate::checks::{longest_tick, shortest_tick};
+use crate::checks::{life_of, longest_tick, shortest_tick};
+use crate::frames::Departed;
 use wrp_base::{LinkCfg, Mark, Role, Tau, sum};
 use wrp_course::place_of;
 
@@ -72,23 +73,43 @@ impl Plant {
         self.frames.next_due()
     }
 
-    /// The octets of a frame that departed. `None` exactly where the number was not given.
+    // The frame of a number, where it is kept.
+    fn kept_frame(&self, number: u32) -> Option<&Departed>
+        ensures { (s : Setting) (w : WorldAt) → PlantIs s w self.now
+            → MaybeIs DepartedIs (view.kept_frame s w number) (option_map (λ f. f.now) result) }
+    {
+        let life = life_of(&self.net.cfg);
+        match self.frames.find(number) {
+            Some(frame) if frame.is_kept(self.time, life) => Some(frame),
+            _ => None,
+        }
+    }
+
+    /// How many frames are kept.
+    pub fn kept(&self) -> usize
+        ensures { (s : Setting) (w : WorldAt) → PlantIs s w self.now → result ≡ view.kept_count s w }
+    {
+        let life = life_of(&self.net.cfg);
+        self.frames.kept(self.time, life)
+    }
+
+    /// The octets of a frame. `None` exactly where none of this number is kept.
     pub fn octets(&self, number: u32) -> Option<&[u8]>
         ensures { (s : Setting) (w : WorldAt) → PlantIs s w self.now
-            → option_map (λ octets. octets.now) result ≡ view.octets_at w number }
+            → option_map (λ octets. octets.now) result ≡ view.octets_at s w number }
     {
-        match self.frames.find(number) {
+        match self.kept_frame(number) {
             Some(frame) => Some(frame.octets.as_slice()),
             None => None,
         }
     }
 
-    /// The node and the port that sent a frame. `None` exactly where the number was not given.
+    /// The node and the port that sent a frame. `None` exactly where none of this number is kept.
     pub fn sender(&self, number: u32) -> Option<(u8, u16)>
         ensures { (s : Setting) (w : WorldAt) → PlantIs s w self.now
             → result ≡ option_map (λ end. (end.node, end.port)) (view.sender_of s w number) }
     {
-        match self.frames.find(number) {
+        match self.kept_frame(number) {
             Some(frame) => self.port_at(frame.link, frame.by),
             None => None,
         }

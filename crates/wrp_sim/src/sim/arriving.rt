@@ -6,7 +6,7 @@ ghost use Rattle.wrp_sim.specs.Draws.{next_state};
 ghost use Rattle.wrp_course.specs.Setting.{place_of};
 ghost use Rattle.wrp_sim.specs.Numbers as number;
 ghost use Rattle.wrp_sim.specs.Rules as rule;
-ghost use Rattle.wrp_sim.specs.Sim.{FitsSim, Follows, Gave, SimIs, StaysFit, as_is};
+ghost use Rattle.wrp_sim.specs.Sim.{FitsSim, Follows, Gave, IsDue, IsOnFibre, SimIs, StaysFit, as_is};
 ghost use Rattle.wrp_sim.specs.SimAt.{SimAt};
 ghost use Rattle.wrp_course.specs.Setting.{Setting};
 ghost use Rattle.wrp_world.specs.StandsFor.{IsValid, StandsFor, Tells};
@@ -58,9 +58,10 @@ fn raw_to<F: Fn(i64) -> i64>(world: &World<F>, to: LinkEnd) -> Option<Raw>
     }
 }
 
-// The raw stamp of a frame, at the end that it comes to.
+// The raw stamp of a frame on a fibre, at the end that it comes to.
 fn raw_of<F: Fn(i64) -> i64>(world: &World<F>, frame: u32) -> Option<Raw>
-    requires { IsValid F.pre F.post world.now }
+    requires valid { IsValid F.pre F.post world.now }
+    requires on { IsOnFibre F.post world.now frame }
     ensures { Tells F.post (λ s w. rule.raw_of s w frame) world.now result }
 {
     match world.sender(frame) {
@@ -98,6 +99,7 @@ impl State {
     fn arrive_now<F: Fn(i64) -> i64>(&mut self, world: &World<F>, frame: u32) -> Option<Event>
         requires valid { IsValid F.pre F.post world.now }
         requires fits { FitsSim world.now.plant.net.cfg self.old }
+        requires on { IsOnFibre F.post world.now frame }
         ensures follows { Follows F.post (λ scene s w at. rule.arrives_by scene s w at frame) as_is world.now self.old self.new result }
         ensures stays { StaysFit world.now.plant.net.cfg self.old self.new }
     {
@@ -118,6 +120,7 @@ impl State {
     ) -> Option<Event>
         requires valid { IsValid F.pre F.post world.now }
         requires fits { FitsSim world.now.plant.net.cfg self.old }
+        requires due { IsDue F.post world.now due }
         ensures follows { Follows F.post (λ scene s w at. rule.arrives scene s w due at) as_is world.now self.old self.new result }
         ensures stays { StaysFit world.now.plant.net.cfg self.old self.new }
     {
@@ -136,6 +139,7 @@ impl State {
     ) -> Option<Event>
         requires valid { IsValid F.pre F.post world.now }
         requires fits { FitsSim world.now.plant.net.cfg self.old }
+        requires on { IsOnFibre F.post world.now frame }
         ensures follows { Follows F.post (λ scene s w at. rule.arrives scene s w (Some (frame, due)) at) as_is world.now self.old self.new result }
         ensures stays { StaysFit world.now.plant.net.cfg self.old self.new }
     {

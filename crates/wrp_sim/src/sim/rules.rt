@@ -1,6 +1,6 @@
 //! The rules, one after the other.
 ghost use Rattle.wrp_sim.specs.Rules as rule;
-ghost use Rattle.wrp_sim.specs.Sim.{FitsSim, Follows, FollowsRules, StaysFit, as_is};
+ghost use Rattle.wrp_sim.specs.Sim.{FitsSim, Follows, FollowsRules, IsDue, StaysFit, as_is};
 ghost use Rattle.wrp_world.specs.StandsFor.{IsValid};
 
 use super::state::State;
@@ -16,6 +16,7 @@ impl State {
     ) -> Option<Event>
         requires valid { IsValid F.pre F.post world.now }
         requires fits { FitsSim world.now.plant.net.cfg self.old }
+        requires due { IsDue F.post world.now due }
         ensures follows { Follows F.post (λ scene s w at. rule.first_of (rule.later_rules scene s w due at)) as_is world.now self.old self.new result }
         ensures stays { StaysFit world.now.plant.net.cfg self.old self.new }
     {

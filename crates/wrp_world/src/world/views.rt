@@ -96,14 +96,25 @@ impl<F: Fn(i64) -> i64> World<F> {
         self.plant.next_arrival()
     }
 
-    /// The octets of a frame that departed. `None` exactly where the number was not given.
+    /// How many frames are kept: of the numbers given, those whose frame is on a fibre or was put out at
+    /// most a frame's life ago. True time is in tau; the life is `life_ns` of the network, 65,536,000 tau to
+    /// the ns.
+    pub fn kept(&self) -> usize
+        ensures { Tells F.post view.kept_count self.now result }
+    {
+        self.plant.kept()
+    }
+
+    /// The octets of a frame. `None` exactly where the number was not given, or the frame is on no fibre and
+    /// was put out more than a frame's life ago, as `kept` has it.
     pub fn frame(&self, k: u32) -> Option<&[u8]>
-        ensures { Tells F.post (λ s w. view.octets_at w k) self.now (option_map (λ octets. octets.now) result) }
+        ensures { Tells F.post (λ s w. view.octets_at s w k) self.now (option_map (λ octets. octets.now) result) }
     {
         self.plant.octets(k)
     }
 
-    /// The node and the port that sent a frame. `None` exactly where the number was not given.
+    /// The node and the port that sent a frame. `None` exactly where the number was not given, or the frame
+    /// is on no fibre and was put out more than a frame's life ago, as `kept` has it.
     pub fn sender(&self, k: u32) -> Option<(u8, u16)>
         ensures { Tells F.post (λ s w. option_map (λ end. (end.node, end.port)) (view.sender_of s w k)) self.now result }
     {

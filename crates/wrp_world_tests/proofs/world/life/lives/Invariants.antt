@@ -1,0 +1,9 @@
+-- The world stays valid, and its events are counted.
+use Rattle.std.proofs.Common.{◌≤◌}
+use Rattle.wrp_world.specs.StandsFor.{IsValid}
+use Rattle.wrp_world_tests.proofs.world.life.lives.Given as goal
+
+abbrev pub invariant-loop-number : goal.invariant-loop-number
+invariant-loop-number g l =
+    IsValid (λ f x. g.F.Fn.pre f (x, tt)) (λ f x y. g.F.Fn.post f (x, tt) y) l.trial.world
+    × (l.trial.world.plant.events ≤ l.trial.came)
