@@ -9,9 +9,9 @@ use Rattle.wrp_link.specs.declared.interface.LinkIn.{LinkIn}
 use Rattle.wrp_link.specs.declared.interface.LinkIn.TheVariants.{CarrierUp}
 use Rattle.wrp_link.specs.Rows.{row_of}
 use Rattle.wrp_link.specs.Table.{is_same, place_of, by_row}
-use Rattle.wrp_check.specs.Laws.{state_after, IsHistory}
 use Rattle.wrp_link.proofs.Deltas.{differs}
 use Rattle.wrp_handshake.specs.Ends.{Sending, Port, Ends, Change, Passes, Hears, Starts, Lights, marked, mover_of, heard, changed, ends_after, new_ends, CanBe}
+use Rattle.wrp_handshake.specs.Laws.{LeadsTo}
 use Rattle.wrp_handshake.proofs.Parts.{by_bool}
 use Rattle.wrp_handshake.proofs.Inputs.{marked_new, marked_same}
 
@@ -35,11 +35,6 @@ back LinkOn = refl
 
 same_is : (a b : LinkState) → is_same a b ≡ true → a ≡ b
 same_is a b e = sym (back a) ∙ ap state_at (eqb-true (place_of a) (place_of b) e) ∙ back b
-
--- a history that leads to a state
-pub record LeadsTo (state : LinkState) (marks : List Mark) : Type 0 where
-  pub history : IsHistory marks
-  pub leads : state_after marks ≡ state
 
 leads_now : (time : ℤ) (old new : LinkState) (by : Option Sending) (marks : List Mark) → LeadsTo old marks → LeadsTo new (marked time old new by marks)
 leads_now time old new by marks h =

@@ -8,9 +8,8 @@ use Rattle.wrp_base.specs.declared.link.Role.TheVariants.{Master, Slave}
 use Rattle.wrp_base.specs.declared.message.WrMsg.TheVariants.{Lock as LOCK, Locked as LOCKED}
 use Rattle.wrp_base.specs.Network.{other_of}
 use Rattle.wrp_check.specs.Handshake.{SameHandshake}
-use Rattle.wrp_check.specs.Laws.{IsHistory}
 use Rattle.wrp_handshake.specs.Ends.{Ends, end_of, placed_at}
-use Rattle.wrp_handshake.specs.Laws.{OnInTheSameHandshake, OnWithTheDeltas, CarrierWithItsModule, MarksAreAHistory, IsAwake, IsLongAgo, QuietTimeOutlivesFrames, MasterStaysFromLock, SlaveStaysFromLocked, SlaveOnWithItsMaster}
+use Rattle.wrp_handshake.specs.Laws.{OnInTheSameHandshake, OnWithTheDeltas, CarrierWithItsModule, LeadsTo, MarksAreAHistory, IsAwake, IsLongAgo, QuietTimeOutlivesFrames, MasterStaysFromLock, SlaveStaysFromLocked, SlaveOnWithItsMaster}
 use Rattle.wrp_handshake.proofs.Keeps.{view_of}
 use Rattle.wrp_handshake.proofs.Changes.{EndsKeep, from_master, from_slave, can_keep}
 use Rattle.wrp_handshake.proofs.Histories.{EndsLead, can_lead}
@@ -44,12 +43,12 @@ module_at life dmin ends Slave lit placed k h = module_in_place (placed Slave) e
 pub carrier_with_its_module : CarrierWithItsModule
 carrier_with_its_module life dmin ends role can h = module_at life dmin ends role _ (placed_at can.changes) (can_keep_lit life dmin ends can) h
 
-history_at : (ends : Ends) (role : Role) → EndsLead ends → IsHistory (end_of ends role).marks
-history_at ends Master h = h.master.history
-history_at ends Slave h = h.slave.history
+leads_at : (ends : Ends) (role : Role) → EndsLead ends → LeadsTo (end_of ends role).link.state (end_of ends role).marks
+leads_at ends Master h = h.master
+leads_at ends Slave h = h.slave
 
 pub marks_are_a_history : MarksAreAHistory
-marks_are_a_history life dmin ends role can = history_at ends role (can_lead life dmin ends can)
+marks_are_a_history life dmin ends role can = leads_at ends role (can_lead life dmin ends can)
 
 long_ago_at : (life dmin : ℕ) (ends : Ends) (role : Role) (lit : ℤ) (placed : Role → Option Module) → EndsKeep life dmin ends → LitKeeps life dmin ends lit placed → IsAwake (end_of ends role) →
     IsLongAgo life ends.time lit × AllByRecursion (λ mark. mark.to ≡ Idle → IsLongAgo life ends.time mark.at) (end_of ends role).marks

@@ -1,15 +1,17 @@
 -- What holds of every link at every moment, whatever was lost, late, repeated or of an earlier carrier.
 -- This project's profile.
-use Rattle.std.specs.Prelude.{◌≡◌, ◌≢◌, ◌⊎◌, ℕ, ◌*◌, ℤ, pos, ◌+ℤ◌, ◌<ℤ◌, ◌≤ℤ◌, true}
+use Rattle.std.specs.Prelude.{◌≡◌, ◌≢◌, ◌⊎◌, ℕ, ◌*◌, ℤ, pos, ◌+ℤ◌, ◌<ℤ◌, ◌≤ℤ◌, true, List}
 use Rattle.std.specs.List.{AllByRecursion}
+use Rattle.wrp_base.specs.declared.link.LinkState.{LinkState}
 use Rattle.wrp_base.specs.declared.link.LinkState.TheVariants.{Idle, Present, SLock, LinkOn}
+use Rattle.wrp_base.specs.declared.link.Mark.{Mark}
 use Rattle.wrp_base.specs.declared.link.Role.{Role}
 use Rattle.wrp_base.specs.declared.link.Role.TheVariants.{Master, Slave}
 use Rattle.wrp_base.specs.declared.message.WrMsg.{WrMsg}
 use Rattle.wrp_base.specs.declared.message.WrMsg.TheVariants.{Lock as LOCK, Locked as LOCKED}
 use Rattle.wrp_base.specs.Network.{other_of}
 use Rattle.wrp_check.specs.Handshake.{SameHandshake}
-use Rattle.wrp_check.specs.Laws.{IsHistory}
+use Rattle.wrp_check.specs.Laws.{state_after, IsHistory}
 use Rattle.wrp_check.specs.Stretches.{stretches_of, newest_of, movers_of}
 use Rattle.wrp_handshake.specs.Deltas.{KnowsDeltas}
 use Rattle.wrp_handshake.specs.Ends.{Ends, Port, CanBe, new_ends, end_of, IsAmong, lit_at, placed_at}
@@ -36,9 +38,17 @@ CarrierWithItsModule =
     (end_of ends role).link.carrier ≡ true →
     (end_of ends role).link.own_module ≡ placed_at can.changes role
 
--- the marks of a port are a history
+-- marks are a history, which leads to a state
+pub record LeadsTo (state : LinkState) (marks : List Mark) : Type 0 where
+  pub history : IsHistory marks
+  pub leads : state_after marks ≡ state
+
+-- the marks of a port are a history, which leads to its state
 abbrev pub MarksAreAHistory : Type 0
-MarksAreAHistory = (life dmin : ℕ) (ends : Ends) (role : Role) → CanBe life dmin ends → IsHistory (end_of ends role).marks
+MarksAreAHistory =
+    (life dmin : ℕ) (ends : Ends) (role : Role) →
+    CanBe life dmin ends →
+    LeadsTo (end_of ends role).link.state (end_of ends role).marks
 
 -- a port has its carrier, and its quiet time is over
 pub record IsAwake (port : Port) : Type 0 where

@@ -22,7 +22,8 @@ pub fn carrier_with_its_module()
     ensures { CarrierWithItsModule }
 {}
 
-/// The marks of a port are a history: each is a change of the state to which those before it led.
+/// The marks of a port are a history: each is a change of the state to which those before it led. And the
+/// port is in the state to which they all lead.
 pub fn marks_are_a_history()
     ensures { MarksAreAHistory }
 {}
