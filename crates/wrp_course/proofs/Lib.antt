@@ -1,6 +1,18 @@
+-- The laws of all runs. The main lemma is that of RunBoth and RunEvents: what an event makes of each link is one of the changes of
+-- which the laws of one link speak (`wrp_handshake`), and it may come when it does; so each link of a run is one that can be, and
+-- all those laws hold of it (`link_on_in_the_same_handshake`). In the order in which they stand on one another:
+--
+-- Told, Unbroken, Bounds, Still, Rows: lists of checks, what accepted stamps and samples leave true, the first state, the worked rows.
+-- LinkPorts, PortNumbers, RunLinks, RunNetwork, RunListed: the ports at the ends of links, in an accepted network.
+-- RunPorts, RunGiven, RunGifts, RunHanded, RunTicks: what an event gives a port, as the laws of one link see it.
+-- RunFrames, RunTimes, RunFlights, RunStamps: what stays of times, frames and modules, and how a frame departs and arrives.
+-- RunCarriers, RunDark, RunLit, RunCarried, RunKept, RunMoves, RunSettled, RunChanges: what is kept of each link at each kind of event.
+-- RunBoth, RunEvents: all of it after every event of every run.
+-- WordReports, EarnedReports, DroppedFrames: what is reported of WR_LINK_ON, and what a dropped frame leaves.
 pub mod Bounds
 pub mod DroppedFrames
 pub mod EarnedReports
+pub mod JudgedPorts
 pub mod LinkPorts
 pub mod PortNumbers
 pub mod Rows

@@ -4,6 +4,7 @@ pub mod Earned
 pub mod EventAt
 pub mod FramesMayCome
 pub mod Given
+pub mod Judged
 pub mod Laws
 pub mod LinkEnds
 pub mod Moved

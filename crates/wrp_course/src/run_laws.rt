@@ -3,6 +3,7 @@
 ghost use Rattle.wrp_course.specs.Dropped.{DroppedFramesLeaveACount};
 ghost use Rattle.wrp_course.specs.Earned.{LinkOnIsEarned, ReportsAreTrue};
 ghost use Rattle.wrp_course.specs.FramesMayCome.{FramesMayCome};
+ghost use Rattle.wrp_course.specs.Judged.{PortsAreJudged};
 ghost use Rattle.wrp_course.specs.PortsWakeLate.{AwakePortsLeftLongAgo, AwakePortsWereLitLongAgo};
 ghost use Rattle.wrp_course.specs.RunLaws.{FramesHaveTimes, FramesWerePutOut, ModulesStay, TicksAreApart};
 ghost use Rattle.wrp_course.specs.RunLaws.{TimeNeverFalls};
@@ -13,7 +14,7 @@ ghost use Rattle.wrp_course.specs.SameHandshake.{LinkOnInTheSameHandshake, LinkO
 use crate::laws::arrival_keeps_stamp_bound;
 use wrp_config::child_is_deeper;
 use wrp_handshake::{
-    carrier_with_its_module, on_in_the_same_handshake, on_with_the_deltas,
+    carrier_with_its_module, marks_are_a_history, on_in_the_same_handshake, on_with_the_deltas,
     quiet_time_outlives_frames,
 };
 use wrp_node::{
@@ -70,6 +71,19 @@ pub fn reported_link_on_is_earned()
 {
     step_gives_links();
     link_on_in_the_same_handshake();
+}
+
+/// Each port is in the state to which its marks lead, after every event of every run, and they are a
+/// history: each is a change of the state to which those before it led. The verdict that is due for the
+/// histories of both ends of its link is Ok where the port is in WR_LINK_ON, and NotOn elsewhere.
+///
+/// So whoever has a world with a port in WR_LINK_ON, and gives `judge` what `World::history` answers for
+/// that port and for its peer, gets Ok.
+pub fn ports_are_judged()
+    ensures { PortsAreJudged }
+{
+    link_on_in_the_same_handshake();
+    marks_are_a_history();
 }
 
 /// A frame that a node drops for one of the reasons 1 to 12, as no message or as a foreign one, raises

@@ -5,6 +5,7 @@ use Rattle.std.specs.Prelude.{List, ◌∷◌}
 use Rattle.std.specs.List.{AllByRecursion}
 use Rattle.wrp_course.specs.Dropped.{AllDropsLeaveACount}
 use Rattle.wrp_course.specs.Earned.{AllHaveEarned, AreTrueReports}
+use Rattle.wrp_course.specs.Judged.{AllAreJudged}
 use Rattle.wrp_course.specs.Run.{Happened, steps_at, world_after}
 use Rattle.wrp_course.specs.Runs.{IsRun}
 use Rattle.wrp_course.specs.Setting.{Setting}
@@ -12,10 +13,12 @@ use Rattle.wrp_truth.specs.Bounds.{AllAreBounded, IsTrueStep, TrueRun}
 use Rattle.wrp_truth.specs.Chains.{AllHaveConstants}
 
 -- after the event each port in WR_LINK_ON has earned it: its peer went through the steps that this requires, in that same
--- handshake, and a slave knows the deltas of the modules that are in place; each port that a node reports in it to be in
--- WR_LINK_ON is there, and has earned it; and a frame that a node drops for one of the reasons 1 to 12 leaves a count alone
+-- handshake, and a slave knows the deltas of the modules that are in place; each port is where its marks lead, and the verdict
+-- on both ends' histories is Ok exactly in WR_LINK_ON; each port that a node reports in the event to be in WR_LINK_ON is there,
+-- and has earned it; and a frame that a node drops for one of the reasons 1 to 12 leaves a count alone
 pub record LinksHold (s : Setting) (h : Happened) (before : List Happened) : Type 0 where
   pub handshakes : AllHaveEarned s (world_after s (h ∷ before))
+  pub judged : AllAreJudged s (world_after s (h ∷ before))
   pub reports : AllByRecursion (AreTrueReports s (world_after s (h ∷ before))) (steps_at s before h)
   pub drops : AllDropsLeaveACount s before h
 

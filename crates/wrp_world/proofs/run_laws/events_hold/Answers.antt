@@ -5,6 +5,7 @@ use Rattle.wrp_world.proofs.run_laws.events_hold.Goals as goal
 pub returns-clause-links : goal.returns-clause-links
 returns-clause-links c = λ s h before run. record {
   handshakes = c.reported_link_on_is_earned.ensures.earned s (h ∷ before) run;
+  judged = c.ports_are_judged.ensures s (h ∷ before) run;
   reports = c.reported_link_on_is_earned.ensures.reports s h before run;
   drops = c.dropped_frames_leave_a_count.ensures s h before;
 }
