@@ -4,25 +4,24 @@ use Rattle.std.specs.Int.Signed.{le_z}
 use Rattle.std.proofs.lemmas.List.Sums.{sum_by-cons}
 use Rattle.wrp_base.specs.Network.{End}
 use Rattle.wrp_bounds.specs.Times.{frame_life}
-use Rattle.wrp_frame.specs.SentOctets.{octets_of}
 use Rattle.wrp_plant.specs.declared.frames.Departed.{Departed}
 use Rattle.wrp_plant.specs.declared.plant.Plant.{Plant}
 use Rattle.wrp_plant.specs.Kept.{is_kept_at}
 use Rattle.wrp_plant.specs.Plant.{MaybeIs, DepartedIs, FramesAre, PlantIs, frame_numbered}
 use Rattle.wrp_course.specs.Setting.{Setting, end_at, from_on}
-use Rattle.wrp_course.specs.Views.{is_kept, kept_count, kept_frame, octets_at, sender_of}
+use Rattle.wrp_course.specs.Views.{is_kept, kept_count, kept_frame, sender_of}
 use Rattle.wrp_course.specs.WorldAt.{WorldAt, FrameAt, is_on_fibre}
 use Rattle.wrp_plant.proofs.FoundFrames.{Found, found, missing}
 use Rattle.wrp_plant.proofs.NextArrivals.{on_alike}
 
+-- a frame is kept where the code says so
 kept_alike : (s : Setting) (w : WorldAt) (f : FrameAt) (d : Departed) → DepartedIs f d → is_kept s w (Some f) ≡ is_kept_at w.time (frame_life s.cfg) d
 kept_alike s w f d h = ap₂ (λ on at. on || le_z (w.time -ℤ at) (pos (frame_life s.cfg))) (on_alike f d h) (sym h.sent)
 
 -- the code's time and life are those of the state
 pub same_age : (s : Setting) (w : WorldAt) (plant : Plant) (now : ℤ) (life : ℕ) (d : Departed) → PlantIs s w plant → now ≡ plant.time →
     life ≡ frame_life plant.net.cfg → is_kept_at now life d ≡ is_kept_at w.time (frame_life s.cfg) d
-same_age s w plant now life d h e f =
-    ap₂ (λ t l. is_kept_at t l d) (e ∙ h.time) (f ∙ ap frame_life h.cfg)
+same_age s w plant now life d h e f = ap₂ (λ t l. is_kept_at t l d) (e ∙ h.time) (f ∙ ap frame_life h.cfg)
 
 -- a frame on a fibre is kept
 on_kept : (s : Setting) (w : WorldAt) (o : Option FrameAt) → is_on_fibre o ≡ true → (if is_kept s w o then o else None) ≡ o
@@ -34,10 +33,10 @@ kept_on_fibre s w i e = on_kept s w (w.frame i) e
 
 -- The frame of a number
 
+-- it is told exactly where the code says that it is kept
 kept_as : (s : Setting) (w : WorldAt) (o : Option FrameAt) (d : Departed) (b : Bool) → Found DepartedIs o d → is_kept_at w.time (frame_life s.cfg) d ≡ b →
     (if is_kept s w o then o else None) ≡ (if b then o else None)
-kept_as s w o d b it e =
-    ap (λ k. if k then o else None) (ap (is_kept s w) it.is ∙ kept_alike s w it.one d it.holds ∙ e)
+kept_as s w o d b it e = ap (λ k. if k then o else None) (ap (is_kept s w) it.is ∙ kept_alike s w it.one d it.holds ∙ e)
 
 pub kept_found : (s : Setting) (w : WorldAt) (n : ℕ) (frames : List Departed) (d : Departed) → FramesAre w frames → frame_numbered n frames ≡ Some d →
     is_kept_at w.time (frame_life s.cfg) d ≡ true → MaybeIs DepartedIs (kept_frame s w n) (Some d)
@@ -58,31 +57,17 @@ none_found s w n frames h e =
     let none : w.frame n ≡ None = missing DepartedIs (w.frame n) (frame_numbered n frames) (h.each n) e in
     subst (λ o. MaybeIs DepartedIs (if is_kept s w o then o else None) None) (sym none) tt
 
--- What is told of it
-
 -- the node and the port at an end
 abbrev pub pair : End → ℕ × ℕ
 pair end = (end.node, end.port)
 
-pub octets_told : (s : Setting) (w : WorldAt) (n : ℕ) (d : Departed) → MaybeIs DepartedIs (kept_frame s w n) (Some d) → Some d.octets.items ≡ octets_at s w n
-octets_told s w n d h =
-    let it : Found DepartedIs (kept_frame s w n) d = found DepartedIs (kept_frame s w n) (Some d) d h refl in
-    ap Some it.holds.octets ∙ sym (ap (option_map (λ (f : FrameAt). octets_of f.sending.message)) it.is)
-
-pub octets_untold : (s : Setting) (w : WorldAt) (n : ℕ) → MaybeIs DepartedIs (kept_frame s w n) None → None ≡ octets_at s w n
-octets_untold s w n h =
-    sym (ap (option_map (λ (f : FrameAt). octets_of f.sending.message)) (missing DepartedIs (kept_frame s w n) None h refl))
-
+-- the port that sent a frame that is kept
 pub sender_told : (s : Setting) (w : WorldAt) (n : ℕ) (d : Departed) (r : Option (ℕ × ℕ)) → MaybeIs DepartedIs (kept_frame s w n) (Some d) →
     r ≡ option_map pair (end_at s d.link d.by) → r ≡ option_map pair (sender_of s w n)
 sender_told s w n d r h f =
     let it : Found DepartedIs (kept_frame s w n) d = found DepartedIs (kept_frame s w n) (Some d) d h refl in
     f ∙ ap₂ (λ k b. option_map pair (end_at s k b)) it.holds.link it.holds.by
     ∙ sym (ap (λ (o : Option FrameAt). option_map pair (option_and_then (λ g. end_at s g.link g.by) o)) it.is)
-
-pub sender_untold : (s : Setting) (w : WorldAt) (n : ℕ) → MaybeIs DepartedIs (kept_frame s w n) None → None ≡ option_map pair (sender_of s w n)
-sender_untold s w n h =
-    sym (ap (λ (o : Option FrameAt). option_map pair (option_and_then (λ g. end_at s g.link g.by) o)) (missing DepartedIs (kept_frame s w n) None h refl))
 
 -- How many are kept
 
