@@ -41,11 +41,11 @@ use Rattle.wrp_course.proofs.RunGiven.{end_is}
 use Rattle.wrp_truth.specs.Fibres.{IsFibre}
 use Rattle.wrp_truth.specs.Leases.{IsCarried}
 use Rattle.wrp_truth.specs.Moments.{AtEach}
+use Rattle.wrp_truth.specs.OneMessage.{NewestRequest}
 use Rattle.wrp_truth.specs.SequenceIds.{IsOpenAt}
 use Rattle.wrp_truth.specs.Views.{moment_at, moments_of}
 use Rattle.wrp_truth.proofs.ArrivalStamps.{stamp_near}
 use Rattle.wrp_truth.proofs.DelayDepartures.{Departs, Given, Inside, open_at, past_of, run_at, start_at}
-use Rattle.wrp_truth.proofs.DelayNewest.{Newest}
 use Rattle.wrp_truth.proofs.DelayPieces.{same_end, same_request, still_deliver, was_then}
 use Rattle.wrp_truth.proofs.DelayPutOut.{Answered, AnsweredIn, was_answered}
 use Rattle.wrp_truth.proofs.DelayResponses.{IsResponse}
@@ -106,7 +106,7 @@ pub record Hands (c : Given) (events : List Happened) (h : Happened) (x : Sendin
   pub link_is : frame.link ≡ c.k
   pub by_is : frame.by ≡ Master
   pub body : frame.sending.message.body ≡ DelayResp receive requesting
-  pub newest : Newest c.s (h ∷ events) c.k x
+  pub newest : NewestRequest c.s (h ∷ events) c.k x
   pub seq : frame.sending.message.head.seq ≡ x.message.head.seq
 
 -- the master was handed its Delay_Req after these earlier events, at most two frame's lives after that was put out

@@ -34,12 +34,12 @@ use Rattle.wrp_course.proofs.RunGiven.{end_is}
 use Rattle.wrp_course.proofs.RunNetwork.{LinkEnd, are_apart, end_with, place_end}
 use Rattle.wrp_truth.specs.Chains.{AllFit, ChainRuns, goods_since}
 use Rattle.wrp_truth.specs.Moments.{AtEach}
+use Rattle.wrp_truth.specs.OneMessage.{NewestRequest}
 use Rattle.wrp_truth.specs.Rates.{HasChain}
 use Rattle.wrp_truth.specs.SequenceIds.{IsOpenAt}
 use Rattle.wrp_truth.specs.Views.{moment_at, moments_of}
 use Rattle.wrp_truth.proofs.ChainMoves.{HasNewest, newest_moment, one_longer}
 use Rattle.wrp_truth.proofs.DepartedFrames.{Stayed, frame_stays}
-use Rattle.wrp_truth.proofs.DelayNewest.{Newest}
 use Rattle.wrp_truth.proofs.DelayOpen.{chain_open}
 use Rattle.wrp_truth.proofs.DelayPieces.{DelayLaws, behind, later_goods, one_start, same_request, still_depart}
 use Rattle.wrp_truth.proofs.StepSends.{IsRequest}
@@ -241,7 +241,7 @@ frame_young c h before stamp z u run it new =
     young_now (world_after c.s (h ∷ before)).time new.frame.at z.at (frame_life c.s.cfg) (still_depart c.s h before it.node it.port stamp it.event ∙ sym new.at)
     (subst (λ (t : Sending). (new.frame.at -ℤ t.at) ≤ℤ pos (frame_life c.s.cfg)) new.sending (c.laws.stamped c.s (h ∷ before) new.number new.frame run new.there).0.young)
 
-pub departs : (c : Given) (h : Happened) (before : List Happened) (stamp : ℤ) (x z : Sending) (u : ℤ) → Inside c before → Inside c (h ∷ before) → Leaves c h before stamp z u → Newest c.s (h ∷ before) c.k x → z.message.head.seq ≡ x.message.head.seq →
+pub departs : (c : Given) (h : Happened) (before : List Happened) (stamp : ℤ) (x z : Sending) (u : ℤ) → Inside c before → Inside c (h ∷ before) → Leaves c h before stamp z u → NewestRequest c.s (h ∷ before) c.k x → z.message.head.seq ≡ x.message.head.seq →
     Departs c x (record { t3 = stamp; u3 = u; tick = ((world_after c.s before).node c.link.lower).ticks })
 departs c h before stamp x z u i j it newest seq =
     let s : Setting = c.s in

@@ -15,6 +15,7 @@ use Rattle.wrp_course.specs.Runs.{IsRun, WasPutOut}
 use Rattle.wrp_course.specs.Setting.{Setting, link_of}
 use Rattle.wrp_course.specs.WorldAt.{Sending, WorldAt}
 use Rattle.wrp_course.proofs.RunFlights.{times_keep}
+use Rattle.wrp_truth.specs.OneMessage.{NewestRequest}
 use Rattle.wrp_truth.proofs.IdsPutOut.{other_timed, timed_in}
 use Rattle.wrp_truth.proofs.Inputs.{IsNoTickOf}
 use Rattle.wrp_truth.proofs.PutOut.{put_stays}
@@ -27,16 +28,11 @@ known_moment s events k r x run put =
     let it : _ = (times_keep s events run.each run.accepted).sent k r x put in
     (subst (λ c. x.moment ≤ c) (count_is s events) it.1, it.0)
 
-pub record Newest (s : Setting) (events : List Happened) (k : ℕ) (x : Sending) : Type 0 where
-  pub put : WasPutOut x ((world_after s events).end_at k Slave).sent
-  pub request : IsRequest x.message.body
-  pub newest : (y : Sending) → WasPutOut y ((world_after s events).end_at k Slave).sent → IsRequest y.message.body → y.moment ≤ x.moment
-
 -- it is so after an event in which no other is put out
 abbrev pub NoneNew : Setting → Happened → List Happened → ℕ → Type 0
 NoneNew s h before k = (y : Sending) → IsRequest y.message.body → WasPutOut y ((world_after s (h ∷ before)).end_at k Slave).sent → WasPutOut y ((world_after s before).end_at k Slave).sent
 
-pub newest_stays : (s : Setting) (h : Happened) (before : List Happened) (k : ℕ) (x : Sending) → NoneNew s h before k → Newest s before k x → Newest s (h ∷ before) k x
+pub newest_stays : (s : Setting) (h : Happened) (before : List Happened) (k : ℕ) (x : Sending) → NoneNew s h before k → NewestRequest s before k x → NewestRequest s (h ∷ before) k x
 newest_stays s h before k x none it = record {
   put = put_stays s h before k Slave x it.put;
   request = it.request;
@@ -73,7 +69,7 @@ at_most_next a b c h e = omega (arith, h, e)
 -- and one at which one is
 pub newest_now : EndsAreSet → (s : Setting) (says : Result PtpMsg FrameFault) (y : ℤ) (before : List Happened) (k : ℕ) (link : LinkCfg) → IsRun s (record { event = Tick link.lower; says = says; answer = y } ∷ before) → link_of s k ≡ Some link →
     is_due_then s (world_after s before) Slave link ≡ true →
-    Newest s (record { event = Tick link.lower; says = says; answer = y } ∷ before) k (sending (moved s (world_after s before) (Tick link.lower)) (timed_then s (world_after s before) Slave link))
+    NewestRequest s (record { event = Tick link.lower; says = says; answer = y } ∷ before) k (sending (moved s (world_after s before) (Tick link.lower)) (timed_then s (world_after s before) Slave link))
 newest_now ends s says y before k link run is due =
     let w : WorldAt = world_after s before in
     let h : Happened = record { event = Tick link.lower; says = says; answer = y } in

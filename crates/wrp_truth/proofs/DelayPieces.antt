@@ -23,11 +23,12 @@ use Rattle.wrp_course.proofs.RunTimes.{all_given_time}
 use Rattle.wrp_truth.specs.Chains.{ChainHasConstant, good_in, goods_since}
 use Rattle.wrp_truth.specs.Fibres.{FibresKeepTheirShare}
 use Rattle.wrp_truth.specs.Moments.{AtEach}
+use Rattle.wrp_truth.specs.OneMessage.{NewestRequest}
 use Rattle.wrp_truth.specs.SequenceIds.{IdsComeAgainLate, IsOpenAt, OneTimedAnEvent}
 use Rattle.wrp_truth.specs.Views.{moment_at, moments_of}
 use Rattle.wrp_truth.proofs.ArrivalStamps.{StampLaws}
 use Rattle.wrp_truth.proofs.ChainMoves.{HasNewest, newest_moment}
-use Rattle.wrp_truth.proofs.DelayNewest.{Newest, known_moment}
+use Rattle.wrp_truth.proofs.DelayNewest.{known_moment}
 use Rattle.wrp_truth.proofs.DelayOpen.{OpenLaws}
 use Rattle.wrp_truth.proofs.DelaySamples.{SampleLaws}
 use Rattle.wrp_truth.proofs.OpenPorts.{open_since}
@@ -113,7 +114,7 @@ later_goods P s n (x ∷ a) b older h = later_goods P s n a b older (more P (goo
 
 -- Ids
 
-less_or_same : (a b : ℕ) → a ≤ b → (a < b) ⊎ (a ≡ b)
+pub less_or_same : (a b : ℕ) → a ≤ b → (a < b) ⊎ (a ≡ b)
 less_or_same a b h = grind (arith, h)
 
 too_soon : (a x now : ℤ) (life span more : ℕ) → more + 4 * life < span → (a +ℤ pos span) ≤ℤ x → x ≤ℤ now → now ≤ℤ (a +ℤ pos (2 * life)) → ⊥
@@ -127,7 +128,7 @@ pub record Comes (s : Setting) (events : List Happened) (k : ℕ) (x y : Sending
   pub young : (world_after s events).time ≤ℤ (y.at +ℤ pos (2 * frame_life s.cfg))
 
 -- is the newest, if the other one is
-pub same_request : DelayLaws → (s : Setting) (events : List Happened) (k : ℕ) (link : LinkCfg) (x y : Sending) → IsRun s events → link_of s k ≡ Some link → IsOpenAt s link Slave events → Newest s events k x → Comes s events k x y → y ≡ x
+pub same_request : DelayLaws → (s : Setting) (events : List Happened) (k : ℕ) (link : LinkCfg) (x y : Sending) → IsRun s events → link_of s k ≡ Some link → IsOpenAt s link Slave events → NewestRequest s events k x → Comes s events k x y → y ≡ x
 same_request laws s events k link x y run is takes newest comes =
     let it : WasPut s events k Slave y = was_put s events k Slave y comes.put in
     let then_open : IsOpenAt s link Slave it.older = (sent_timed laws.opens.quiet.links s it.older k Slave link y is comes.request it.in_it).open_then in

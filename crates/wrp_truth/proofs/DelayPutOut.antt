@@ -1,5 +1,5 @@
 -- A link's master puts out a Delay_Resp where it is handed a Delay_Req of the slave, and nowhere else.
-use Rattle.std.proofs.Common.{◌≡◌, ◌⊎◌, inl, inr, ◌∙◌, refl, ap, sym, subst, ℕ, ℤ, List, [], ◌∷◌, ◌++◌, map, Option, None, Some, Result, Ok}
+use Rattle.std.proofs.Common.{◌≡◌, ◌⊎◌, inl, inr, ◌∙◌, refl, ap, sym, subst, ℕ, ℤ, List, [], ◌∷◌, ◌++◌, length, map, Option, None, Some, Result, Ok}
 use Rattle.std.specs.List.{AllByRecursion}
 use Rattle.std.specs.Option.{option_map_or}
 use Rattle.std.proofs.lemmas.Bool.{false≢true}
@@ -215,6 +215,7 @@ pub record Answered (s : Setting) (events : List Happened) (k : ℕ) (link : Lin
   pub older : List Happened
   pub splits : events ≡ newer ++ hands ∷ older
   pub at : x.at ≡ (world_after s (hands ∷ older)).time
+  pub moment : x.moment ≡ length (hands ∷ older)
   pub in_it : AnsweredIn s (world_after s older) hands.event k link x
 
 answered_now : (s : Setting) (newer older : List Happened) (k : ℕ) (link : LinkCfg) (x : Sending) → IsRun s older → link_of s k ≡ Some link → IsResponse x.message.body → PutOutIn s older k Master x → Answered s (newer ++ older) k link x
@@ -222,7 +223,7 @@ answered_now s newer [] k link x run is it put = absurd put.put
 answered_now s newer (hands ∷ older) k link x run is it put =
     elim (event_resp s run.network hands.says hands.answer (world_after s older) hands.event k link x is run.accepted.0 it put.put) [
       | inl old ↦ absurd (is_new s hands older k Master x put old)
-      | inr new ↦ record { newer = newer; hands = hands; older = older; splits = refl; at = put.at; in_it = new }
+      | inr new ↦ record { newer = newer; hands = hands; older = older; splits = refl; at = put.at; moment = put.moment; in_it = new }
     ]
 
 pub was_answered : (s : Setting) (events : List Happened) (k : ℕ) (link : LinkCfg) (x : Sending) → IsRun s events → link_of s k ≡ Some link → IsResponse x.message.body → WasPutOut x ((world_after s events).end_at k Master).sent → Answered s events k link x

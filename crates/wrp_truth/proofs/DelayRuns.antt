@@ -45,12 +45,13 @@ use Rattle.wrp_course.proofs.RunGiven.{end_is}
 use Rattle.wrp_course.proofs.RunNetwork.{are_apart}
 use Rattle.wrp_truth.specs.Exchanges.{DelaysTell}
 use Rattle.wrp_truth.specs.Moments.{AtEach}
+use Rattle.wrp_truth.specs.OneMessage.{NewestRequest}
 use Rattle.wrp_truth.specs.Rates.{HasChain}
 use Rattle.wrp_truth.proofs.DelayAnswers.{pair_true}
 use Rattle.wrp_truth.proofs.DelayCalls.{Asked, AskedOf, MessageFits, asked_less, message_asked, news_asked, sample_asked, tick_asked, told_asked, turns_asked}
 use Rattle.wrp_truth.proofs.DelayDepartures.{Departs, Given, Inside, departs, past_of, run_at, start_at}
 use Rattle.wrp_truth.proofs.DelayEvents.{Brings, event_told, given_node}
-use Rattle.wrp_truth.proofs.DelayNewest.{Newest, NoneNew, newest_now, newest_stays, none_due, none_new}
+use Rattle.wrp_truth.proofs.DelayNewest.{NoneNew, newest_now, newest_stays, none_due, none_new}
 use Rattle.wrp_truth.proofs.DelayPieces.{DelayLaws, LongerEnd, longer_end}
 use Rattle.wrp_truth.proofs.DelayPutOut.{noise_unheard}
 use Rattle.wrp_truth.proofs.StepTold.{Hears, before_tick, out_told, sample_heard, tick_told}
@@ -66,19 +67,19 @@ use Rattle.wrp_truth.proofs.SampleEvents.{stood_before}
 -- What the exchange keeps in a chain
 
 -- it waits for the newest Delay_Req of this id; the sending that it keeps is of that one
-abbrev Waits : Given → List Happened → ℕ → Option Sent → Type 0
-Waits c events id o = (x : Sending) × Newest c.s events c.k x × (x.message.head.seq ≡ id) × IfSome o (Departs c x)
+abbrev pub Waits : Given → List Happened → ℕ → Option Sent → Type 0
+Waits c events id o = (x : Sending) × NewestRequest c.s events c.k x × (x.message.head.seq ≡ id) × IfSome o (Departs c x)
 
-abbrev Pairs : Given → DelayPair → Type 0
+abbrev pub Pairs : Given → DelayPair → Type 0
 Pairs c p = PairTrue c.hop c.chain.constant (past_of c) (start_at c) p
 
-abbrev set_below : Given → PortSetting
+abbrev pub set_below : Given → PortSetting
 set_below c = setting_of (c.s.set c.link.lower) c.link.lower_port
 
-abbrev Keeps : Given → List Happened → List PortIn → Type 0
+abbrev pub Keeps : Given → List Happened → List PortIn → Type 0
 Keeps c events told = AskedOf (Waits c events) (Pairs c) (set_below c) told
 
-abbrev told_at : Given → List Happened → List PortIn
+abbrev pub told_at : Given → List Happened → List PortIn
 told_at c events = ((world_after c.s events).node c.link.lower).told c.link.lower_port
 
 -- where no Delay_Req is put out it is as it was
@@ -235,7 +236,7 @@ start_keeps c says y e before run stands begins = absurd (begins (stood_before c
 
 -- The chain
 
-keeps_all : (c : Given) (top mid : List Happened) → c.events ≡ top ++ (mid ++ c.chain.start ∷ c.chain.before) → c.chain.newer ≡ top ++ mid → AtEach (HasChain c.s c.link.lower) mid (c.chain.start ∷ c.chain.before) →
+pub keeps_all : (c : Given) (top mid : List Happened) → c.events ≡ top ++ (mid ++ c.chain.start ∷ c.chain.before) → c.chain.newer ≡ top ++ mid → AtEach (HasChain c.s c.link.lower) mid (c.chain.start ∷ c.chain.before) →
     Keeps c (mid ++ c.chain.start ∷ c.chain.before) (told_at c (mid ++ c.chain.start ∷ c.chain.before))
 keeps_all c top [] splits first stands =
     start_keeps c c.chain.start.says c.chain.start.answer c.chain.start.event c.chain.before

@@ -97,3 +97,7 @@ pub mod DelayDepartures
 pub mod DelayAnswers
 pub mod DelayRuns
 pub mod NearAnswers
+pub mod ExchangeChains
+pub mod OneSync
+pub mod OneRequest
+pub mod StillToCome

@@ -1,5 +1,5 @@
 -- A Sync that the exchange holds in a chain tells the chain's constant with the stamp of its own departure.
-use Rattle.std.proofs.Common.{◌≡◌, inl, inr, ◌∙◌, ap, sym, subst, ℕ, suc, ◌+◌, ◌<◌, ◌≤◌, ℤ, pos, ◌+ℤ◌, ◌-ℤ◌, ◌≤ℤ◌, unsigned_abs, true, List, [], ◌∷◌, ◌++◌, length, Some, IfSome, arith}
+use Rattle.std.proofs.Common.{◌≡◌, inl, inr, ◌∙◌, refl, ap, sym, subst, ℕ, suc, ◌+◌, ◌<◌, ◌≤◌, ℤ, pos, ◌+ℤ◌, ◌-ℤ◌, ◌≤ℤ◌, unsigned_abs, true, List, [], ◌∷◌, ◌++◌, length, Some, IfSome, arith}
 use Rattle.std.proofs.lemmas.Int.{ints}
 use Rattle.std.specs.List.{AllByRecursion}
 use Rattle.std.proofs.lemmas.Bool.{and_parts}
@@ -138,6 +138,12 @@ held_is laws s k link hop newer start before x fit numbers b held c =
       recent = r;
       u = ap (λ (q : HeldSync). q.u2) kept.is ∙ f.phase;
     }
+
+-- the event that handed it over
+pub held_hands : (laws : HeldLaws) (s : Setting) (k : ℕ) (link : LinkCfg) (hop : HopNumbers) (newer : List Happened) (start : Happened) (before : List Happened) (x : InRun s k link newer start before) (fit : AllFit (newer ++ start ∷ before)) (numbers : numbers_of s.cfg link.lower ≡ Some hop) →
+    (b : Begun s start before link) (held : HeldSync) (c : SyncCame s k link newer start before held) → (held_is laws s k link hop newer start before x fit numbers b held c).hands ≡ c.hands
+unfolding held_is
+held_hands laws s k link hop newer start before x fit numbers b held c = refl
 
 -- Its departure and its arrival
 

@@ -57,7 +57,7 @@ pub record SyncLaws : Type 0 where
 -- What a Follow_Up tells
 
 -- a frame that was handed over was put out by the master
-put_out_by : FramesWerePutOut → (s : Setting) (events : List Happened) (i k : ℕ) (f : FrameAt) → IsRun s events → (world_after s events).frame i ≡ Some f → f.link ≡ k → f.by ≡ Master → WasPutOut f.sending ((world_after s events).end_at k Master).sent
+pub put_out_by : FramesWerePutOut → (s : Setting) (events : List Happened) (i k : ℕ) (f : FrameAt) → IsRun s events → (world_after s events).frame i ≡ Some f → f.link ≡ k → f.by ≡ Master → WasPutOut f.sending ((world_after s events).end_at k Master).sent
 put_out_by law s events i k f run there link by =
     subst (λ r. WasPutOut f.sending ((world_after s events).end_at k r).sent) by (subst (λ l. WasPutOut f.sending ((world_after s events).end_at l f.by).sent) link (law s events i f run there))
 
@@ -73,7 +73,8 @@ record Tells (s : Setting) (events : List Happened) (k : ℕ) (seq : ℕ) (preci
   stamp : ℤ
   at : ℤ
   kind : IsSync sync.message.body
-  gone : Departed s events k sync stamp at
+  moment : ℕ
+  gone : Departed s events k sync stamp at moment
   of : seq ≡ sync.message.head.seq
   tells : precise ≡ stamp
   young : (world_after s events).time ≤ℤ (at +ℤ pos (frame_life s.cfg))
@@ -94,6 +95,7 @@ tells laws s events h k link seq precise is all t =
       stamp = it.follows.stamp;
       at = z.at;
       kind = it.follows.sync;
+      moment = length it.before;
       gone = departed s events k link z it run;
       of = t.seq_is ∙ ap (λ (m : PtpMsg). m.head.seq) it.follows.message;
       tells = t.precise_is ∙ ap (λ y. later_by y z.message.head.correction) told ∙ ap (later_by (timestamp_of n)) rest ∙ told_whole it.follows.stamp time.least time.whole;
@@ -115,13 +117,13 @@ ring_is s k link hop events run is numbers =
     ap (λ (x : NodeSet). x.ring * hop.gap_time) (run.network.set link.lower) ∙ ap (λ g. unsigned_abs s.cfg.ring * g) has.gap
 
 -- a Sync that is held, and a later event of the chain, while its sample is in the ring
-record Later (s : Setting) (k : ℕ) (link : LinkCfg) (hop : HopNumbers) (gap older : List Happened) (start : Happened) (before : List Happened) (held : HeldSync) : Type 0 where
-  here : InRun s k link (gap ++ older) start before
-  fit : AllFit ((gap ++ older) ++ start ∷ before)
-  numbers : numbers_of s.cfg link.lower ≡ Some hop
-  begun : Begun s start before link
-  is : HeldIs s k link hop older start before held
-  in_ring : is_some (phase_in (last_samples (ring_below s link) (exchange_at s link ((gap ++ older) ++ start ∷ before))) held.sample) ≡ true
+pub record Later (s : Setting) (k : ℕ) (link : LinkCfg) (hop : HopNumbers) (gap older : List Happened) (start : Happened) (before : List Happened) (held : HeldSync) : Type 0 where
+  pub here : InRun s k link (gap ++ older) start before
+  pub fit : AllFit ((gap ++ older) ++ start ∷ before)
+  pub numbers : numbers_of s.cfg link.lower ≡ Some hop
+  pub begun : Begun s start before link
+  pub is : HeldIs s k link hop older start before held
+  pub in_ring : is_some (phase_in (last_samples (ring_below s link) (exchange_at s link ((gap ++ older) ++ start ∷ before))) held.sample) ≡ true
 
 -- it was put out not long before
 near : SyncLaws → (s : Setting) (k : ℕ) (link : LinkCfg) (hop : HopNumbers) (gap older : List Happened) (start : Happened) (before : List Happened) (held : HeldSync) (x : Later s k link hop gap older start before held) →
@@ -153,42 +155,60 @@ near laws s k link hop gap older start before held x =
     sum_up (world_after s ((gap ++ older) ++ sb)).time x.is.recent.moment.time (world_after s (older ++ sb)).time x.is.handed.frame.sending.at (ring_time s) (frame_life s.cfg) late_here before_it
     (young s (older ++ sb) x.is.hands k link x.is.handed x.is.run)
 
--- and a Follow_Up of its sequenceId that is then handed over tells the stamp of its own departure
-own_stamp : SyncLaws → (s : Setting) (k : ℕ) (link : LinkCfg) (hop : HopNumbers) (gap older : List Happened) (start : Happened) (before : List Happened) (held : HeldSync) (seq : ℕ) (precise : ℤ) (x : Later s k link hop gap older start before held) → held.seq ≡ seq →
-    Tells s ((gap ++ older) ++ start ∷ before) k seq precise → precise ≡ x.is.handed.frame.stamp
-own_stamp laws s k link hop gap older start before held seq precise x same t =
+-- its frame, and that of this sending and stamp, are one
+pub record OneFrame (s : Setting) (events : List Happened) (k i : ℕ) (f : FrameAt) (y : Sending) (stamp at : ℤ) (moment : ℕ) : Type 0 where
+  pub stay : Stayed s events i f
+  pub gone : Departed s events k y stamp at moment
+  pub alike : stay.frame ≡ gone.frame
+
+-- so it is with the Sync of which a Follow_Up of its sequenceId tells that was put out at most a frame's life ago
+pub one_frame : SyncLaws → (s : Setting) (k : ℕ) (link : LinkCfg) (hop : HopNumbers) (gap older : List Happened) (start : Happened) (before : List Happened) (held : HeldSync) (x : Later s k link hop gap older start before held) (y : Sending) (stamp at : ℤ) (moment : ℕ) → held.seq ≡ y.message.head.seq →
+    IsSync y.message.body → Departed s ((gap ++ older) ++ start ∷ before) k y stamp at moment → (world_after s ((gap ++ older) ++ start ∷ before)).time ≤ℤ (at +ℤ pos (frame_life s.cfg)) →
+    OneFrame s (gap ++ (older ++ start ∷ before)) k x.is.handed.number x.is.handed.frame y stamp at moment
+one_frame laws s k link hop gap older start before held x y stamp at moment same kind told soon =
     let sb : List Happened = start ∷ before in
     let was : List Happened = older ++ sb in
     let assoc : (gap ++ older) ++ sb ≡ gap ++ was = append_assoc gap older sb in
     let run : IsRun s (gap ++ was) = subst (IsRun s) assoc x.here.run in
     let run_was : IsRun s was = older_run s gap was run in
     let f : FrameAt = x.is.handed.frame in
-    let gone : Departed s (gap ++ was) k t.sync t.stamp t.at = subst (λ l. Departed s l k t.sync t.stamp t.at) assoc t.gone in
+    let gone : Departed s (gap ++ was) k y stamp at moment = subst (λ l. Departed s l k y stamp at moment) assoc told in
     let stay : Stayed s (gap ++ was) x.is.handed.number f = frame_stays s gap was x.is.handed.number f run x.is.handed.there in
     let put_still : WasPutOut f.sending ((world_after s (gap ++ was)).end_at k Master).sent =
     subst (λ (z : Sending). WasPutOut z ((world_after s (gap ++ was)).end_at k Master).sent) stay.sending
     (put_out_by laws.put s (gap ++ was) x.is.handed.number k stay.frame run stay.there (stay.link ∙ x.is.handed.link_is) (stay.by ∙ x.is.handed.by_is)) in
-    let put_other : WasPutOut t.sync ((world_after s (gap ++ was)).end_at k Master).sent =
+    let put_other : WasPutOut y ((world_after s (gap ++ was)).end_at k Master).sent =
     subst (λ (z : Sending). WasPutOut z ((world_after s (gap ++ was)).end_at k Master).sent) gone.sending (put_out_by laws.put s (gap ++ was) gone.number k gone.frame run gone.there gone.link gone.by) in
     let dep : DepartedSo s (gap ++ was) gone.frame = (laws.held.flight.stamped s (gap ++ was) gone.number gone.frame run gone.there).0 in
-    let left : (t.at -ℤ t.sync.at) ≤ℤ pos (frame_life s.cfg) =
-    subst (λ (z : Sending). (t.at -ℤ z.at) ≤ℤ pos (frame_life s.cfg)) gone.sending (subst (λ d. (d -ℤ gone.frame.sending.at) ≤ℤ pos (frame_life s.cfg)) gone.at_is dep.young) in
-    let two : TwoSyncs s k gap was f.sending t.sync = record {
+    let left : (at -ℤ y.at) ≤ℤ pos (frame_life s.cfg) =
+    subst (λ (z : Sending). (at -ℤ z.at) ≤ℤ pos (frame_life s.cfg)) gone.sending (subst (λ d. (d -ℤ gone.frame.sending.at) ≤ℤ pos (frame_life s.cfg)) gone.at_is dep.young) in
+    let two : TwoSyncs s k gap was f.sending y = record {
       put_first = put_out_by laws.put s was x.is.handed.number k f run_was x.is.handed.there x.is.handed.link_is x.is.handed.by_is;
       put_still = put_still;
       put_other = put_other;
       first = x.is.sync;
-      other = t.kind;
-      same = sym x.is.seq ∙ same ∙ t.of;
+      other = kind;
+      same = sym x.is.seq ∙ same;
       young = young s was x.is.hands k link x.is.handed x.is.run;
       near = subst (λ l. (world_after s l).time ≤ℤ (f.sending.at +ℤ pos (frame_life s.cfg + ring_time s))) assoc (near laws s k link hop gap older start before held x);
-      near_other = subst (λ l. (world_after s l).time ≤ℤ (t.sync.at +ℤ pos (2 * frame_life s.cfg))) assoc (two_lives (world_after s ((gap ++ older) ++ sb)).time t.at t.sync.at (frame_life s.cfg) t.young left);
+      near_other = subst (λ l. (world_after s l).time ≤ℤ (y.at +ℤ pos (2 * frame_life s.cfg))) assoc (two_lives (world_after s ((gap ++ older) ++ sb)).time at y.at (frame_life s.cfg) soon left);
     } in
-    let one : f.sending ≡ t.sync = same_sending laws.same s k link gap was f.sending t.sync run x.here.is (at_front (HasChain s link.lower) gap older sb x.here.standing.stands) two in
-    let alike : stay.frame ≡ gone.frame =
-    departs_once laws.same.master.chains.lease.quiet.ends s (gap ++ was) k Master link x.is.handed.number gone.number stay.frame gone.frame run x.here.is stay.there gone.there (stay.link ∙ x.is.handed.link_is) (stay.by ∙ x.is.handed.by_is) gone.link gone.by
-    (subst (λ (z : Sending). IsSync z.message.body) (sym stay.sending) x.is.sync) (stay.sending ∙ one ∙ sym gone.sending) in
-    t.tells ∙ sym gone.stamp_is ∙ ap (λ (z : FrameAt). z.stamp) (sym alike) ∙ stay.stamp
+    let one : f.sending ≡ y = same_sending laws.same s k link gap was f.sending y run x.here.is (at_front (HasChain s link.lower) gap older sb x.here.standing.stands) two in
+    record {
+      stay = stay;
+      gone = gone;
+      alike =
+          departs_once laws.same.master.chains.lease.quiet.ends s (gap ++ was) k Master link x.is.handed.number gone.number stay.frame gone.frame run x.here.is stay.there gone.there (stay.link ∙ x.is.handed.link_is) (stay.by ∙ x.is.handed.by_is) gone.link gone.by
+          (subst (λ (z : Sending). IsSync z.message.body) (sym stay.sending) x.is.sync) (stay.sending ∙ one ∙ sym gone.sending);
+    }
+
+-- so that one tells the stamp of its own departure
+own_stamp : SyncLaws → (s : Setting) (k : ℕ) (link : LinkCfg) (hop : HopNumbers) (gap older : List Happened) (start : Happened) (before : List Happened) (held : HeldSync) (seq : ℕ) (precise : ℤ) (x : Later s k link hop gap older start before held) → held.seq ≡ seq →
+    Tells s ((gap ++ older) ++ start ∷ before) k seq precise → precise ≡ x.is.handed.frame.stamp
+own_stamp laws s k link hop gap older start before held seq precise x same t =
+    let it : OneFrame s (gap ++ (older ++ start ∷ before)) k x.is.handed.number x.is.handed.frame t.sync t.stamp t.at t.moment =
+    one_frame laws s k link hop gap older start before held x t.sync t.stamp t.at t.moment (same ∙ t.of) t.kind t.gone t.young in
+    t.tells ∙ sym it.gone.stamp_is ∙ ap (λ (z : FrameAt). z.stamp) (sym it.alike) ∙ it.stay.stamp
 
 -- A pair
 

@@ -24,7 +24,7 @@ use Rattle.wrp_truth.proofs.DepartedFrames.{Stayed, frame_stays}
 use Rattle.wrp_truth.proofs.InOrder.{given_frame}
 use Rattle.wrp_truth.proofs.OpenPorts.{open_since}
 use Rattle.wrp_truth.proofs.Sendings.{WasPut, was_put}
-use Rattle.wrp_truth.proofs.Suffixes.{at_newest, at_rest, older_run}
+use Rattle.wrp_truth.proofs.Suffixes.{at_newest, at_rest, count_is, older_run}
 use Rattle.wrp_truth.proofs.SyncGiven.{IsSync}
 use Rattle.wrp_truth.proofs.SyncHanded.{either_end}
 use Rattle.wrp_truth.proofs.SyncMasters.{MasterLaws, master_open_each, sent_sync}
@@ -32,8 +32,8 @@ use Rattle.wrp_truth.proofs.SyncSends.{FollowedIn, Follows}
 
 -- The frame that departed as a Follow_Up was put out
 
--- a frame of the master's end, of this sending and stamp, departed at this time
-pub record Departed (s : Setting) (events : List Happened) (k : ℕ) (y : Sending) (stamp at : ℤ) : Type 0 where
+-- a frame of the master's end, of this sending and stamp, departed at this time, after so many events
+pub record Departed (s : Setting) (events : List Happened) (k : ℕ) (y : Sending) (stamp at : ℤ) (moment : ℕ) : Type 0 where
   pub number : ℕ
   pub frame : FrameAt
   pub there : (world_after s events).frame number ≡ Some frame
@@ -42,6 +42,7 @@ pub record Departed (s : Setting) (events : List Happened) (k : ℕ) (y : Sendin
   pub sending : frame.sending ≡ y
   pub stamp_is : frame.stamp ≡ stamp
   pub at_is : frame.at ≡ at
+  pub moment_is : frame.moment ≡ moment
 
 -- the frame that it becomes
 abbrev leaves : Setting → WorldAt → ℕ → Sending → ℤ → FrameAt
@@ -71,7 +72,7 @@ departs_now s h before k link x f =
     ∙ ap (λ b. if b then Some g else w.frame i) (eq_self i)
 
 stays_departed : (s : Setting) (newer : List Happened) (h : Happened) (before : List Happened) (k : ℕ) (link : LinkCfg) (x : Sending) (f : Follows s (world_after s before) k link h.event x) → IsRun s (newer ++ h ∷ before) →
-    Departed s (newer ++ h ∷ before) k f.oldest f.stamp (world_after s before).time
+    Departed s (newer ++ h ∷ before) k f.oldest f.stamp (world_after s before).time (length before)
 stays_departed s newer h before k link x f run =
     let it : Stayed s (newer ++ h ∷ before) ((world_after s before).departed + 1) (leaves s (world_after s before) k f.oldest f.stamp) =
     frame_stays s newer (h ∷ before) ((world_after s before).departed + 1) (leaves s (world_after s before) k f.oldest f.stamp) run (departs_now s h before k link x f) in
@@ -84,13 +85,14 @@ stays_departed s newer h before k link x f run =
       sending = it.sending;
       stamp_is = it.stamp;
       at_is = it.at;
+      moment_is = it.moment ∙ count_is s before;
     }
 
 -- it departed as the Follow_Up was put out
-pub departed : (s : Setting) (events : List Happened) (k : ℕ) (link : LinkCfg) (x : Sending) (it : FollowedIn s events k link x) → IsRun s events → Departed s events k it.follows.oldest it.follows.stamp x.at
+pub departed : (s : Setting) (events : List Happened) (k : ℕ) (link : LinkCfg) (x : Sending) (it : FollowedIn s events k link x) → IsRun s events → Departed s events k it.follows.oldest it.follows.stamp x.at (length it.before)
 departed s events k link x it run =
-    subst (Departed s events k it.follows.oldest it.follows.stamp) (sym (it.at ∙ still_depart s it.event it.before link.upper link.upper_port it.follows.stamp it.follows.event))
-    (subst (λ l. Departed s l k it.follows.oldest it.follows.stamp (world_after s it.before).time) (sym it.splits)
+    subst (λ t. Departed s events k it.follows.oldest it.follows.stamp t (length it.before)) (sym (it.at ∙ still_depart s it.event it.before link.upper link.upper_port it.follows.stamp it.follows.event))
+    (subst (λ l. Departed s l k it.follows.oldest it.follows.stamp (world_after s it.before).time (length it.before)) (sym it.splits)
     (stays_departed s it.newer it.event it.before k link x it.follows (subst (IsRun s) it.splits run)))
 
 -- Two Syncs of one sequenceId

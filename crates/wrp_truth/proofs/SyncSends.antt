@@ -1,5 +1,5 @@
 -- A Follow_Up is put out as its Sync departs, and tells the stamp of that departure.
-use Rattle.std.proofs.Common.{◌≡◌, ◌⊎◌, inl, inr, ◌∙◌, refl, ap, sym, subst, ℕ, ℤ, Bool, true, false, List, [], ◌∷◌, ◌++◌, map, Option, None, Some, Result}
+use Rattle.std.proofs.Common.{◌≡◌, ◌⊎◌, inl, inr, ◌∙◌, refl, ap, sym, subst, ℕ, ℤ, Bool, true, false, List, [], ◌∷◌, ◌++◌, length, map, Option, None, Some, Result}
 use Rattle.std.specs.List.{AllByRecursion}
 use Rattle.std.proofs.lemmas.Bool.{false≢true}
 use Rattle.wrp_base.specs.declared.link.Role.{Role}
@@ -220,6 +220,7 @@ pub record FollowedIn (s : Setting) (events : List Happened) (k : ℕ) (link : L
   pub before : List Happened
   pub splits : events ≡ newer ++ event ∷ before
   pub at : x.at ≡ (world_after s (event ∷ before)).time
+  pub moment : x.moment ≡ length (event ∷ before)
   pub follows : Follows s (world_after s before) k link event.event x
 
 followed_now : (s : Setting) → IsNetwork s → (newer older : List Happened) (k : ℕ) (link : LinkCfg) (x : Sending) → link_of s k ≡ Some link → IsFollowUp x.message.body → PutOutIn s older k Master x → FollowedIn s (newer ++ older) k link x
@@ -227,7 +228,7 @@ followed_now s net newer [] k link x is f put = absurd put.put
 followed_now s net newer (h ∷ before) k link x is f put =
     elim (follow_in s net h.says h.answer (world_after s before) h.event k link x is f put.put) [
       | inl old ↦ absurd (is_new s h before k Master x put old)
-      | inr now ↦ record { newer = newer; event = h; before = before; splits = refl; at = put.at; follows = now }
+      | inr now ↦ record { newer = newer; event = h; before = before; splits = refl; at = put.at; moment = put.moment; follows = now }
     ]
 
 pub followed_in : (s : Setting) → IsNetwork s → (events : List Happened) (k : ℕ) (link : LinkCfg) (x : Sending) → link_of s k ≡ Some link → IsFollowUp x.message.body → WasPutOut x ((world_after s events).end_at k Master).sent → FollowedIn s events k link x

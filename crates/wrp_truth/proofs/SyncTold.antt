@@ -43,7 +43,7 @@ use Rattle.wrp_truth.proofs.NodeSteps.{Stands}
 
 -- What the servo answers, at its slave port
 
-there : (o : Option ℕ) (out : ServoOut) (k : ℕ) (told : ℕ → List PortIn) (p : ℕ) → o ≡ Some p → told_by o out k told p ≡ heard_of out k (told p)
+pub there : (o : Option ℕ) (out : ServoOut) (k : ℕ) (told : ℕ → List PortIn) (p : ℕ) → o ≡ Some p → told_by o out k told p ≡ heard_of out k (told p)
 there None out k told p e = absurd (none-some p e)
 there (Some q) out k told p e =
     let here : (p == q) ≡ true = ap (λ (n : ℕ). p == n) (same_Some q p e) ∙ eq_self p in

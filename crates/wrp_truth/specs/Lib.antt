@@ -9,6 +9,7 @@ pub mod Fours
 pub mod Holdovers
 pub mod Leases
 pub mod Moments
+pub mod OneMessage
 pub mod PortDelays
 pub mod Rates
 pub mod SequenceIds

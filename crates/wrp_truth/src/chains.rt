@@ -2,6 +2,10 @@
 ghost use Rattle.wrp_truth.specs.Chains.{ChainHasConstant};
 ghost use Rattle.wrp_truth.specs.Rates.{ChainPassesSlowly};
 
+use wrp_course::{
+    frames_were_put_out, link_on_in_the_same_handshake, modules_stay, sample_keeps_beat_pattern,
+    ticks_are_apart,
+};
 use wrp_node::{
     chain_is_unbroken, commands_are_held, ends_are_set, step_gives_links, step_settles,
 };
@@ -11,10 +15,6 @@ use wrp_servo::{
     phase_is_sum, track_is_near, track_since,
 };
 use wrp_tracking::chain_is_kept;
-use wrp_course::{
-    frames_were_put_out, link_on_in_the_same_handshake, modules_stay, sample_keeps_beat_pattern,
-    ticks_are_apart,
-};
 
 /// While a chain of a node's servo stands, an event moves neither the node's clock nor its parent's nor the
 /// fibre between them faster than the bound of the hop takes it; neither node takes a step.

@@ -4,9 +4,9 @@ ghost use Rattle.wrp_truth.specs.Clocks.{TicksAreOnTime, TicksStepOnTime};
 ghost use Rattle.wrp_truth.specs.Fibres.{FibresKeepTheirShare};
 ghost use Rattle.wrp_truth.specs.Rates.{SourceMovesSlowly, TopIsTrue, WaysMoveSlowly};
 
+use wrp_course::{modules_stay, ticks_are_apart};
 use wrp_node::{chain_is_unbroken, commands_are_held, ticks_are_counted};
 use wrp_servo::{no_step_in_track, track_is_near};
-use wrp_course::{modules_stay, ticks_are_apart};
 
 /// A node that is up ticked last, or started, no longer ago than dmax. In each event through which it is
 /// up, it either ticks, at least dmin after its last tick or start, or does not.

@@ -6,6 +6,10 @@ use crate::chains::chain_has_constant;
 use crate::clocks::fibres_keep_their_share;
 use crate::flights::frames_follow_the_source;
 use crate::sequence_ids::{ids_come_again_late, one_timed_an_event};
+use wrp_course::{
+    frames_are_stamped, frames_have_times, frames_were_put_out, link_on_in_the_same_handshake,
+    modules_stay, ticks_are_apart,
+};
 use wrp_handshake::slave_on_with_its_master;
 use wrp_node::{ends_are_set, step_gives_links, step_settles};
 use wrp_servo::{
@@ -13,10 +17,6 @@ use wrp_servo::{
 };
 use wrp_stamp::merged_within_tag;
 use wrp_tracking::stamps_tell_constant;
-use wrp_course::{
-    frames_are_stamped, frames_have_times, frames_were_put_out, link_on_in_the_same_handshake,
-    modules_stay, ticks_are_apart,
-};
 
 /// While a chain of the servo below a link stands, the Sync pair that the slave's exchange kept at any
 /// event of the chain tells the chain's constant: its Follow_Up told the stamp of the departure of the

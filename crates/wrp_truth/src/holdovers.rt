@@ -1,9 +1,9 @@
 //! HOLDOVER in a run. Each function here computes nothing: its contract is the law.
 ghost use Rattle.wrp_truth.specs.Holdovers.{HoldoverIsFromTrack, HoldoverIsShort};
 
+use wrp_course::ticks_are_apart;
 use wrp_node::{commands_are_held, step_settles};
 use wrp_servo::{holdover_since, no_step_in_track, track_is_near, track_since};
-use wrp_course::ticks_are_apart;
 
 /// A node in HOLDOVER came to it in an event; since then it moved no faster than its rate of HOLDOVER and
 /// took no step, and the time of HOLDOVER has not passed.

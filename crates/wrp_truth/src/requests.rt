@@ -6,14 +6,14 @@ use crate::chains::chain_has_constant;
 use crate::clocks::fibres_keep_their_share;
 use crate::leases::lease_has_source;
 use crate::sequence_ids::{ids_come_again_late, one_timed_an_event};
-use wrp_node::{ends_are_set, step_gives_links, step_settles};
-use wrp_servo::{chain_has_signals, chain_since, phase_is_sum};
-use wrp_stamp::merged_within_tag;
-use wrp_tracking::stamps_tell_constant;
 use wrp_course::{
     frames_are_stamped, frames_have_times, frames_were_put_out, link_on_in_the_same_handshake,
     modules_stay, ticks_are_apart,
 };
+use wrp_node::{ends_are_set, step_gives_links, step_settles};
+use wrp_servo::{chain_has_signals, chain_since, phase_is_sum};
+use wrp_stamp::merged_within_tag;
+use wrp_tracking::stamps_tell_constant;
 
 /// While a chain of a slave's servo stands, the delay pair that its exchange kept at any moment of the chain
 /// is of one Delay_Req that departed in the chain: it tells the chain's constant and both ways, as they were
