@@ -19,7 +19,7 @@ use Rattle.wrp_truth.specs.Fours.{IsNearAnswer}
 use Rattle.wrp_course.specs.Run.{IsAnswered}
 use Rattle.wrp_course.specs.Setting.{Setting, node_setting_of}
 use Rattle.wrp_course.specs.WorldAt.{WorldAt}
-use Rattle.wrp_truth.proofs.NearAnswers.{HopOf, hop_of, near_calls}
+use Rattle.wrp_truth.proofs.Runs.NearAnswers.{HopOf, hop_of, near_calls}
 use Rattle.wrp_world.proofs.NearLaws.{share_of}
 use Rattle.wrp_run.specs.Audited.{answers_in, setting_at}
 use Rattle.wrp_run.specs.DownLaw.{down_by, down_over, greatest_by, greatest_over, least_by, least_over}

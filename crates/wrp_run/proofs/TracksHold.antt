@@ -11,7 +11,7 @@ use Rattle.wrp_course.specs.EventAt.{FitsEvent}
 use Rattle.wrp_course.specs.Run.{Happened, IsAnswered, steps_at, world_after}
 use Rattle.wrp_course.specs.Runs.{IsRun}
 use Rattle.wrp_course.specs.Setting.{Setting}
-use Rattle.wrp_truth.proofs.Suffixes.{run_before}
+use Rattle.wrp_truth.proofs.Runs.Suffixes.{run_before}
 use Rattle.wrp_world.specs.EventHolds.{TracksHold, TracksHoldInRuns}
 use Rattle.wrp_run.specs.Audited.{IsSettingOf, answers_in}
 use Rattle.wrp_run.specs.Headline.{Came}

@@ -1,103 +1,26 @@
-pub mod Basics
-pub mod Holding
-pub mod Resting
-pub mod StepCalls
-pub mod Carried
-pub mod StepLeases
-pub mod StepTold
-pub mod StepSends
-pub mod Announces
-pub mod Inputs
-pub mod Suffixes
-pub mod OnTime
-pub mod PutOut
-pub mod Sendings
-pub mod OpenLinks
-pub mod OpenPorts
-pub mod Parents
-pub mod LinksAbove
-pub mod Deliveries
-pub mod Renewals
-pub mod LeaseSources
-pub mod ChainSources
-pub mod NodeSteps
-pub mod NodeRuns
-pub mod Offsets
-pub mod Slow
-pub mod Moving
-pub mod TickSteps
-pub mod Fibres
-pub mod LiveChains
-pub mod HopNumbers
-pub mod ChainMoves
-pub mod HeldCalls
-pub mod HeldRuns
-pub mod Entering
-pub mod SampleEvents
-pub mod ChainRuns
-pub mod InOrder
-pub mod Syncs
-pub mod PortErrors
-pub mod ModulesNear
-pub mod PortDelays
-pub mod ScheduleLinks
-pub mod ScheduleTold
-pub mod ScheduleCounts
-pub mod ScheduleSince
-pub mod IdsSent
-pub mod IdsPutOut
-pub mod IdsAgain
-pub mod PortRoles
-pub mod TimedTicks
-pub mod TimedQueues
-pub mod SyncTold
-pub mod SyncCalls
-pub mod SyncReadings
-pub mod SyncGiven
-pub mod SyncSamples
-pub mod SyncNumbers
-pub mod SyncChains
-pub mod SyncPasts
-pub mod SyncSends
-pub mod DepartedFrames
-pub mod ArrivalStamps
-pub mod SyncHanded
-pub mod SyncLatched
-pub mod ChainLinks
-pub mod SyncMasters
-pub mod SyncSame
-pub mod SyncHeld
-pub mod SyncRuns
-pub mod FourCalls
-pub mod FourSteps
-pub mod FourRises
-pub mod FourInputs
-pub mod FourPorts
-pub mod FourParts
-pub mod FourEvents
-pub mod FourMoments
-pub mod FourTrack
-pub mod KeptDeltas
-pub mod KeptRuns
-pub mod BoundRuns
-pub mod TrackedSets
-pub mod TrackedHops
-pub mod HopsUp
-pub mod BoundReports
-pub mod DelayCalls
-pub mod DelayResponses
-pub mod DelayWire
-pub mod DelayEvents
-pub mod DelayPutOut
-pub mod DelayNewest
-pub mod DelayOpen
-pub mod DelaySamples
-pub mod DelayPieces
-pub mod DelayDepartures
-pub mod DelayAnswers
-pub mod DelayRuns
-pub mod NearAnswers
-pub mod ExchangeChains
-pub mod OneSync
-pub mod OneRequest
-pub mod StillToCome
+-- The laws of how far nodes are from true time. Each folder beside this page has the proofs of some of them, and begins with a head
+-- that names its main lemmas, the files that build them, and the laws (functions of src) that they prove. The order here
+-- is that of the laws; single files also look ahead, where a later folder says of a node, a servo or a call what they need:
+--
+-- Runs and Nodes (what events make of nodes), Motion (clocks and fibres), Frames and Schedules (what is sent and handed over),
+-- Sources (leases), Samples (chains and their constant), SyncPairs and DelayPairs (what the exchange keeps), Measurements (the four
+-- that stands in TRACK), Hops (the bound, hop by hop and down the tree).
+--
+-- What is reckoned of one node, its parent and the link between them stands in `wrp_tracking`, and is used here in these places:
+-- `chain_is_kept` in ChainRuns: a chain's constant, as time passes and as good samples come;
+-- `stamps_tell_constant` in SyncHeld and in DelayPieces: the stamps of a pair tell that constant, and both ways;
+-- `ticks_tell_time` in FourMoments and `track_is_young` in FourTrack: ticks as true time, and the age of the four in TRACK;
+-- `track_gives` and `hop_holds` in TrackedHops: the limits of TRACK, and the error of an estimate, summed over one hop;
+-- `held_within_motion` and `tree_sum` in HopsUp: what HOLDOVER adds, and the sum over the tree from the grandmaster on.
+-- Its other laws are of parts that a servo keeps, and are used by no law of runs.
+pub mod Runs
+pub mod Nodes
+pub mod Motion
+pub mod Frames
+pub mod Schedules
+pub mod Sources
+pub mod Samples
+pub mod SyncPairs
+pub mod DelayPairs
+pub mod Measurements
+pub mod Hops

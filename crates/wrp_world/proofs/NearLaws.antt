@@ -22,8 +22,8 @@ use Rattle.wrp_course.specs.Runs.{IsNetwork}
 use Rattle.wrp_course.specs.Setting.{Setting, node_setting_of}
 use Rattle.wrp_course.specs.WorldAt.{WorldAt}
 use Rattle.wrp_truth.specs.Fours.{IsNearAnswer}
-use Rattle.wrp_truth.proofs.HopsUp.{inside_below}
-use Rattle.wrp_truth.proofs.NearAnswers.{HopOf, each_call, hop_of, near_calls}
+use Rattle.wrp_truth.proofs.Hops.HopsUp.{inside_below}
+use Rattle.wrp_truth.proofs.Runs.NearAnswers.{HopOf, each_call, hop_of, near_calls}
 use Rattle.wrp_world.specs.InTrueRun.{HasFittingLaws}
 use Rattle.wrp_world.specs.New.{FitsLaw}
 use Rattle.wrp_world.specs.StandsFor.{NodeIs, StandsFor, WorldOf}

@@ -1,4 +1,4 @@
-use Rattle.wrp_truth.proofs.TrackedHops.{estimates_are_near}
+use Rattle.wrp_truth.proofs.Hops.TrackedHops.{estimates_are_near}
 use Rattle.wrp_truth.proofs.bounds.estimates_are_near.Goals as goal
 
 pub returns : goal.returns

@@ -1,4 +1,4 @@
-use Rattle.wrp_truth.proofs.HopsUp.{offsets_keep_bounds}
+use Rattle.wrp_truth.proofs.Hops.HopsUp.{offsets_keep_bounds}
 use Rattle.wrp_truth.proofs.bounds.offsets_keep_bounds.Goals as goal
 
 pub returns : goal.returns

@@ -1,4 +1,4 @@
-use Rattle.wrp_truth.proofs.BoundReports.{track_reports_are_true}
+use Rattle.wrp_truth.proofs.Hops.BoundReports.{track_reports_are_true}
 use Rattle.wrp_truth.proofs.bounds.reports_are_within.Goals as goal
 
 pub returns : goal.returns

@@ -1,4 +1,4 @@
-use Rattle.wrp_truth.proofs.ChainRuns.{chain_has_constant}
+use Rattle.wrp_truth.proofs.Samples.ChainRuns.{chain_has_constant}
 use Rattle.wrp_truth.proofs.chains.chain_has_constant.Goals as goal
 
 pub returns : goal.returns

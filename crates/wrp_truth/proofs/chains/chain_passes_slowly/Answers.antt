@@ -1,4 +1,4 @@
-use Rattle.wrp_truth.proofs.ChainMoves.{chain_passes_slowly}
+use Rattle.wrp_truth.proofs.Samples.ChainMoves.{chain_passes_slowly}
 use Rattle.wrp_truth.proofs.chains.chain_passes_slowly.Goals as goal
 
 pub returns : goal.returns

@@ -1,4 +1,4 @@
-use Rattle.wrp_truth.proofs.Moving.{source_moves_slowly, top_is_true, ways_move_slowly}
+use Rattle.wrp_truth.proofs.Motion.Moving.{source_moves_slowly, top_is_true, ways_move_slowly}
 use Rattle.wrp_truth.proofs.clocks.clocks_move_slowly.Goals as goal
 
 pub returns-clause-top : goal.returns-clause-top

@@ -1,5 +1,5 @@
-use Rattle.wrp_truth.proofs.OnTime.{ticks_are_on_time}
-use Rattle.wrp_truth.proofs.TickSteps.{ticks_step_on_time}
+use Rattle.wrp_truth.proofs.Motion.OnTime.{ticks_are_on_time}
+use Rattle.wrp_truth.proofs.Motion.TickSteps.{ticks_step_on_time}
 use Rattle.wrp_truth.proofs.clocks.ticks_are_on_time.Goals as goal
 
 pub returns-clause-near : goal.returns-clause-near

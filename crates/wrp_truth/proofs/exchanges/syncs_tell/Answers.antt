@@ -1,7 +1,7 @@
 use Rattle.wrp_truth.proofs.exchanges.syncs_tell.Goals as goal
-use Rattle.wrp_truth.proofs.OpenPorts.{QuietLaws}
-use Rattle.wrp_truth.proofs.ChainSources.{ChainLaws}
-use Rattle.wrp_truth.proofs.SyncRuns.{syncs_tell}
+use Rattle.wrp_truth.proofs.Schedules.OpenPorts.{QuietLaws}
+use Rattle.wrp_truth.proofs.Samples.ChainSources.{ChainLaws}
+use Rattle.wrp_truth.proofs.SyncPairs.SyncRuns.{syncs_tell}
 
 pub returns : goal.returns
 returns c =

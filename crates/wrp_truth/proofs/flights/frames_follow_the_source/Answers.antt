@@ -1,4 +1,4 @@
-use Rattle.wrp_truth.proofs.Syncs.{frames_follow_the_source}
+use Rattle.wrp_truth.proofs.Sources.Syncs.{frames_follow_the_source}
 use Rattle.wrp_truth.proofs.flights.frames_follow_the_source.Goals as goal
 
 pub returns : goal.returns

@@ -1,4 +1,4 @@
-use Rattle.wrp_truth.proofs.InOrder.{frames_arrive_in_order, frames_depart_in_order}
+use Rattle.wrp_truth.proofs.Frames.InOrder.{frames_arrive_in_order, frames_depart_in_order}
 use Rattle.wrp_truth.proofs.flights.frames_keep_order.Goals as goal
 
 pub returns-clause-depart : goal.returns-clause-depart

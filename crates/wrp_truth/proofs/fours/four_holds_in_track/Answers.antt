@@ -1,4 +1,4 @@
-use Rattle.wrp_truth.proofs.FourTrack.{four_holds_in_track}
+use Rattle.wrp_truth.proofs.Measurements.FourTrack.{four_holds_in_track}
 use Rattle.wrp_truth.proofs.fours.four_holds_in_track.Goals as goal
 
 pub returns : goal.returns

@@ -1,4 +1,4 @@
-use Rattle.wrp_truth.proofs.KeptRuns.{kept_is_reckoned}
+use Rattle.wrp_truth.proofs.Measurements.KeptRuns.{kept_is_reckoned}
 use Rattle.wrp_truth.proofs.fours.kept_is_reckoned.Goals as goal
 
 pub returns : goal.returns

@@ -1,4 +1,4 @@
-use Rattle.wrp_truth.proofs.Entering.{holdover_is_from_track}
+use Rattle.wrp_truth.proofs.Hops.Entering.{holdover_is_from_track}
 use Rattle.wrp_truth.proofs.holdovers.holdover_is_from_track.Goals as goal
 
 pub returns : goal.returns

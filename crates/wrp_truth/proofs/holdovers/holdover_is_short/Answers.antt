@@ -1,4 +1,4 @@
-use Rattle.wrp_truth.proofs.HeldRuns.{holdover_is_short}
+use Rattle.wrp_truth.proofs.Hops.HeldRuns.{holdover_is_short}
 use Rattle.wrp_truth.proofs.holdovers.holdover_is_short.Goals as goal
 
 pub returns : goal.returns

@@ -1,5 +1,5 @@
-use Rattle.wrp_truth.proofs.ChainSources.{ChainLaws, chain_has_source, track_has_source}
-use Rattle.wrp_truth.proofs.LeaseSources.{lease_has_source}
+use Rattle.wrp_truth.proofs.Samples.ChainSources.{ChainLaws, chain_has_source, track_has_source}
+use Rattle.wrp_truth.proofs.Sources.LeaseSources.{lease_has_source}
 use Rattle.wrp_truth.proofs.leases.lease_has_source.Goals as goal
 
 laws : goal.After-chain_has_signals → ChainLaws

@@ -1,11 +1,11 @@
-use Rattle.wrp_truth.proofs.ChainSources.{ChainLaws}
-use Rattle.wrp_truth.proofs.DelayPieces.{DelayLaws}
-use Rattle.wrp_truth.proofs.DelaySamples.{lit_in_chain}
-use Rattle.wrp_truth.proofs.OneRequest.{of_one_request}
-use Rattle.wrp_truth.proofs.OneSync.{of_one_sync}
-use Rattle.wrp_truth.proofs.OpenPorts.{QuietLaws}
-use Rattle.wrp_truth.proofs.StillToCome.{only_such}
-use Rattle.wrp_truth.proofs.SyncRuns.{SyncLaws}
+use Rattle.wrp_truth.proofs.Samples.ChainSources.{ChainLaws}
+use Rattle.wrp_truth.proofs.DelayPairs.DelayPieces.{DelayLaws}
+use Rattle.wrp_truth.proofs.DelayPairs.DelaySamples.{lit_in_chain}
+use Rattle.wrp_truth.proofs.DelayPairs.OneRequest.{of_one_request}
+use Rattle.wrp_truth.proofs.SyncPairs.OneSync.{of_one_sync}
+use Rattle.wrp_truth.proofs.Schedules.OpenPorts.{QuietLaws}
+use Rattle.wrp_truth.proofs.Frames.StillToCome.{only_such}
+use Rattle.wrp_truth.proofs.SyncPairs.SyncRuns.{SyncLaws}
 use Rattle.wrp_truth.proofs.one_message.pieces_are_of_one_message.Goals as goal
 
 quiet : goal.After-ticks_are_apart → QuietLaws

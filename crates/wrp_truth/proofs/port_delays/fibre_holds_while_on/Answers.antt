@@ -1,4 +1,4 @@
-use Rattle.wrp_truth.proofs.PortDelays.{fibre_holds_while_on}
+use Rattle.wrp_truth.proofs.Hops.PortDelays.{fibre_holds_while_on}
 use Rattle.wrp_truth.proofs.port_delays.fibre_holds_while_on.Goals as goal
 
 pub returns : goal.returns

@@ -1,6 +1,6 @@
-use Rattle.wrp_truth.proofs.DelayRuns.{delays_tell}
-use Rattle.wrp_truth.proofs.DelaySamples.{lit_in_chain}
-use Rattle.wrp_truth.proofs.OpenPorts.{QuietLaws}
+use Rattle.wrp_truth.proofs.DelayPairs.DelayRuns.{delays_tell}
+use Rattle.wrp_truth.proofs.DelayPairs.DelaySamples.{lit_in_chain}
+use Rattle.wrp_truth.proofs.Schedules.OpenPorts.{QuietLaws}
 use Rattle.wrp_truth.proofs.requests.delays_tell.Goals as goal
 
 quiet : goal.After-stamps_tell_constant → QuietLaws

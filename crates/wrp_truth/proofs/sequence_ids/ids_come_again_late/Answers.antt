@@ -1,4 +1,4 @@
-use Rattle.wrp_truth.proofs.IdsAgain.{ids_come_again_late}
+use Rattle.wrp_truth.proofs.Schedules.IdsAgain.{ids_come_again_late}
 use Rattle.wrp_truth.proofs.sequence_ids.ids_come_again_late.Goals as goal
 
 pub returns : goal.returns

@@ -1,4 +1,4 @@
-use Rattle.wrp_truth.proofs.IdsAgain.{one_timed_an_event}
+use Rattle.wrp_truth.proofs.Schedules.IdsAgain.{one_timed_an_event}
 use Rattle.wrp_truth.proofs.sequence_ids.one_timed_an_event.Goals as goal
 
 pub returns : goal.returns

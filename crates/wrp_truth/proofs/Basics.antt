@@ -1,1 +1,0 @@
--- Small facts on options, Booleans and lists.
