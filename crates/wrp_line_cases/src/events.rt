@@ -8,9 +8,9 @@ use crate::parts::{halves, network_of, push_line, push_printed, push_refused};
 use std::alloc::{AllocError, Global};
 use wrp_base::{Frame, Raw, Tau};
 use wrp_config::Network;
+use wrp_course::{Event, Swap};
 use wrp_suite::{Answer, Case, Fault};
 use wrp_trace::{event_line, read_event};
-use wrp_course::{Event, Swap};
 
 // A raw stamp.
 fn raw_words(alloc: Global, raw: Raw) -> Result<String, AllocError> {

@@ -109,4 +109,3 @@ steered_rate locked state node =
 -- the grandmaster's does not move, and that of a node that is down keeps none
 abbrev pub kept_rate : (is_top up : Bool) → Option ℕ → Option ℕ
 kept_rate is_top up steered = if is_top then Some 0 else (if up then steered else None)
-

@@ -23,11 +23,11 @@ use std::alloc::{AllocError, Global};
 use wrp_base::Tau;
 use wrp_bounds::path;
 use wrp_config::Network;
+use wrp_course::accepted_is_unbroken;
 use wrp_law::DelayLaw;
 use wrp_lines::{Sum, append_line, append_sum_line};
 use wrp_node::Output;
 use wrp_sim::{Scene, Sim};
-use wrp_course::accepted_is_unbroken;
 use wrp_world::{Event, NodeOut, Refused, World};
 
 /// A network that is simulated: its world, the bounds of its nodes in TRACK, and a place for the steps of

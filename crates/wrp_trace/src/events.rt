@@ -27,9 +27,9 @@ use std::alloc::Global;
 use swaps::swaps_at;
 use wrp_base::{NetCfg, TraceFault};
 use wrp_config::Network;
+use wrp_course::Event;
 use wrp_fields::{field, is_plain, split};
 use wrp_names::{link_at, node_at};
-use wrp_course::Event;
 
 // The place of the first field.
 const KIND: u32 = 1;

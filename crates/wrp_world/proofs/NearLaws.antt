@@ -81,13 +81,14 @@ beyond a b n same past inside = omega (arith, same, past, inside)
 pub answers_near : {F : Type 0} (pre : F → ℤ → Type 0) (post : F → ℤ → ℤ → Type 0) (s : Setting) (w : WorldAt) (world : WorldOf F) →
     IsNetwork s → HasFittingLaws pre post s.cfg world → StandsFor post s w world → IsAnswered (IsNearAnswer s) s w
 answers_near {F} pre post s w world network laws stands n =
-    elim (slice_get_cases world.nodes n).1
-    [ inl found ↦
-        let node : NodeOf F = found.0 in
-        node_near pre post s w n node
-        (laws.each n (law_in node.control) (map_at (λ (m : NodeOf F). law_in m.control) world.nodes n node found.2))
-        (stands.nodes n node found.2)
-    | inr past ↦
-        each_call (IsNearAnswer s n) (servo_setting_of (node_setting_of s n))
-        (none_above s n (λ link above. beyond (length world.nodes) (node_count s.cfg) n laws.count past.0 (inside_below s network n link above)))
-        (w.node n).calls ]
+    elim (slice_get_cases world.nodes n).1 [
+      | inl found ↦
+          let node : NodeOf F = found.0 in
+          node_near pre post s w n node
+          (laws.each n (law_in node.control) (map_at (λ (m : NodeOf F). law_in m.control) world.nodes n node found.2))
+          (stands.nodes n node found.2)
+      | inr past ↦
+          each_call (IsNearAnswer s n) (servo_setting_of (node_setting_of s n))
+          (none_above s n (λ link above. beyond (length world.nodes) (node_count s.cfg) n laws.count past.0 (inside_below s network n link above)))
+          (w.node n).calls
+    ]

@@ -51,9 +51,10 @@ past_end a n past inside = omega (arith, past, inside)
 
 inside_none : {A : Type 0} (xs : List A) (n : ℕ) → slice_get xs n ≡ None → n < length xs → ⊥
 inside_none xs n none inside =
-    elim (slice_get_cases xs n).1
-    [ inl found ↦ let there : slice_get xs n ≡ Some found.0 = found.2 in cc
-    | inr past ↦ past_end (length xs) n past.0 inside ]
+    elim (slice_get_cases xs n).1 [
+      | inl found ↦ let there : slice_get xs n ≡ Some found.0 = found.2 in cc
+      | inr past ↦ past_end (length xs) n past.0 inside
+    ]
 
 -- each law of a new world is the one that it was given
 law_given : {F : Type 0} (pre : F → ℤ → Type 0) (post : F → ℤ → ℤ → Type 0) (cfg : NetCfg) (laws : List (Option (LawOf F))) (n : ℕ) (o : Option (Option (LawOf F))) →

@@ -10,8 +10,8 @@ use super::names::{name_in, parts_at};
 use arrayvec::ArrayVec;
 use csv::ByteRecord;
 use wrp_base::{Name, TraceFault};
-use wrp_fields::{field, name_fault, natural, number_fault};
 use wrp_course::Swap;
+use wrp_fields::{field, name_fault, natural, number_fault};
 
 /// The swaps of an `up`.
 pub type Swaps = ArrayVec<Swap, 18>;
