@@ -6,11 +6,18 @@ ghost use Rattle.wrp_course.specs.EventAt.{FitsEvent};
 use wrp_base::Frame;
 use wrp_course::Event;
 
-// The octets of a frame.
+// Octets are below 256.
+fn are_octets(octets: &[u8])
+    ensures { AreOctets octets.now }
+{
+    let _count = octets.len();
+}
+
+// Those of a frame are, and a frame has at most 256.
 fn octets_fit(bytes: &Frame)
     ensures { AreOctets bytes.now.items × (length bytes.now.items ≤ 256) }
 {
-    let _octets = bytes.as_slice();
+    are_octets(bytes.as_slice());
 }
 
 /// An event's numbers fit the types that hold them.

@@ -1,11 +1,12 @@
 -- The event keeps all premises, or breaks one; memory is had for all that comes of it, or nothing is changed; then the nodes
 -- take what it gives.
-use Rattle.std.proofs.Common.{◌∙◌, sym, subst, to_z, of_z}
+use Rattle.std.proofs.Common.{◌∙◌, ap, sym, subst, to_z, of_z}
 use Rattle.std.proofs.lemmas.Int.{to_z-of_z}
 use Rattle.std.proofs.lemmas.Result.{err_from_is_err_and}
 use Rattle.std.specs.Int.{w128}
 use Rattle.wrp_world.specs.StandsFor.{IsValid}
 use Rattle.wrp_world.specs.Step.{StaysSo, Stepped}
+use Rattle.wrp_world.specs.Taking.{laws_of}
 use Rattle.wrp_world.proofs.Inside.{world_of}
 use Rattle.wrp_world.proofs.RunsOn.{runs_on}
 use Rattle.wrp_world.proofs.TrueRuns.{links_go_on, truth_goes_on}
@@ -69,4 +70,4 @@ returns-clause-links g c =
 pub returns-clause-truth : goal.returns-clause-truth
 returns-clause-truth g c =
     truth_goes_on _ _ c.args.event.now c.args.self.now c.give_all.new.self c.give_all.new.outs.items c.events_hold.ensures.links c.events_hold.ensures.tracks c.requires.event c.event_fits.ensures
-    (c.give_all.ensures.laws) (returns-clause-steps g c)
+    (c.give_all.ensures.laws ∙ ap laws_of c.self.view_is) (returns-clause-steps g c)
