@@ -8,7 +8,10 @@
 -- RunFrames, RunTimes, RunFlights, RunStamps: what stays of times, frames and modules, and how a frame departs and arrives.
 -- RunCarriers, RunDark, RunLit, RunCarried, RunKept, RunMoves, RunSettled, RunChanges: what is kept of each link at each kind of event.
 -- RunBoth, RunEvents: all of it after every event of every run.
--- WordReports, EarnedReports, DroppedFrames: what is reported of WR_LINK_ON, and what a dropped frame leaves.
+-- WordReports, EarnedReports, JudgedPorts, DroppedFrames: what is reported of WR_LINK_ON, how a port is judged (`ports_are_judged`), and
+-- what a dropped frame leaves.
+-- RunSent: which frames may still come (`frames_may_come`). RunQuiet, RunWaking: how long ago a port whose quiet time is over got its
+-- carrier (`ports_wake_late`).
 pub mod Bounds
 pub mod DroppedFrames
 pub mod EarnedReports

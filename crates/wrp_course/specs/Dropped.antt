@@ -22,9 +22,9 @@ given_at s before h = given_by s (world_after s before) (moved s (world_after s 
 abbrev pub with_count : ℕ → ℕ → NodeAt → NodeAt
 with_count p reason n = record n { counters = counted_at n.counters p (Some reason) }
 
--- a world in which that counter of a node is one more, or stays at its greatest value, and nothing else is changed: no node, no
--- clock, no fibre, no frame, nor how many departed, and at the end of no link what waits there, what was ever put out there, and
--- the history of the link's state
+-- a world in which that counter of a node is one more, or stays at its greatest value, and nothing else is changed, but that one
+-- more event came, of which its node took an input: no node, no clock, no fibre, no frame, nor how many departed, and at the end
+-- of no link what waits there, what was ever put out there, and the history of the link's state
 pub record CountsAlone (n p reason : ℕ) (old new : WorldAt) : Type 0 where
   pub node : new.node n ≡ with_count p reason (old.node n)
   pub others : (m : ℕ) → m ≢ n → new.node m ≡ old.node m

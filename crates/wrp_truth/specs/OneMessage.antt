@@ -28,8 +28,8 @@ use Rattle.wrp_truth.specs.SequenceIds.{IsTimed}
 
 -- Frames that can still be delivered
 
--- an end of a link put a frame out, and it is no older than a frame's life; so it can still be delivered at the other end,
--- whether it waits, is on the fibre, or has arrived, and also if it was delivered before
+-- an end of a link put a frame out, and it is no older than a frame's life: so it is taken for one that can still be delivered at
+-- the other end, whether it waits, is on the fibre, has arrived, was delivered before, or was lost meanwhile
 pub record CanComeStill (s : Setting) (w : WorldAt) (k : ℕ) (r : Role) (x : Sending) : Type 0 where
   pub put : WasPutOut x (w.end_at k r).sent
   pub young : w.time ≤ℤ (x.at +ℤ pos (frame_life s.cfg))
@@ -117,7 +117,7 @@ pub record IsResponseTo (s : Setting) (events : List Happened) (k : ℕ) (link :
   pub at : y.at ≡ (world_after s older).time
   pub moment : y.moment ≡ length older + 1
 
--- a sending that the exchange keeps is the departure of this Delay_Req
+-- a sending that the exchange keeps has the stamp of the departure of this Delay_Req
 pub record IsSentOf (w : WorldAt) (k : ℕ) (x : Sending) (kept : Sent) : Type 0 where
   pub frame : FrameOf w k Slave x
   pub t3 : kept.t3 ≡ frame.frame.stamp

@@ -27,8 +27,8 @@ use Rattle.wrp_world.specs.InRun.{InRun}
 use Rattle.wrp_world.specs.InTrueRun.{HasFittingLaws, InTrueRun}
 use Rattle.wrp_world.specs.New.{FitsLaw, law_at, setting_of}
 use Rattle.wrp_world.specs.StandsFor.{StandsFor, WorldOf}
-use Rattle.wrp_world.specs.Step.{MayCome, Stepped}
-use Rattle.wrp_world.specs.StepHolds.{LinksGoOn, TruthGoesOn}
+use Rattle.wrp_world.specs.Step.{MayCome, StaysSo, Stepped}
+use Rattle.wrp_world.specs.StepHolds.{KeepsRuns, LinksGoOn, TruthGoesOn}
 use Rattle.wrp_world.specs.Taking.{laws_of}
 use Rattle.wrp_world.proofs.InRuns.{new_is_in_run, step_adds_to_run}
 use Rattle.wrp_world.proofs.NearLaws.{answers_near}
@@ -104,6 +104,7 @@ links_go_on post e old new outs links may (says, answer, steps) s events h =
     record {
       says = says;
       answer = answer;
+      said = steps.said;
       run = run;
       steps = steps.seen s (world_after s events) h.stands;
       links = links s (record { event = e; says = says; answer = answer }) events run.run;
@@ -119,8 +120,20 @@ truth_goes_on pre post e old new outs links tracks may fits same (says, answer, 
     record {
       says = says;
       answer = answer;
+      said = steps.said;
       run = on;
       steps = steps.seen s (world_after s events) h.run.stands;
       links = links s (record { event = e; says = says; answer = answer }) events run.run;
       tracks = tracks s (record { event = e; says = says; answer = answer }) events (true_run pre post s (record { event = e; says = says; answer = answer } ∷ events) new on);
     }
+
+-- a refused event leaves the world in its runs
+pub runs_kept : {F : Type 0} (pre : F → ℤ → Type 0) (post : F → ℤ → ℤ → Type 0) (old new : WorldOf F) → laws_of new ≡ laws_of old → StaysSo post old new → KeepsRuns pre post old new
+runs_kept pre post old new same stays = record {
+  run = λ s events h. record { run = h.run; stands = stays s (world_after s events) h.stands };
+  true_run = λ s events h. record {
+    run = record { run = h.run.run; stands = stays s (world_after s events) h.run.stands };
+    fit = h.fit;
+    laws = laws_kept pre post s.cfg old new same h.laws;
+  };
+}

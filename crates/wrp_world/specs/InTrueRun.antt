@@ -1,4 +1,4 @@
--- Worlds in a run whose events' numbers fit the types that hold them, with a law for each node that fits the link above it
+-- Worlds in a run whose events' numbers fit the types that hold them, with a law that fits for each node that has a link above it
 -- (this project's profile).
 use Rattle.std.specs.Prelude.{◌≡◌, ℤ, length, List}
 use Rattle.wrp_base.specs.declared.configuration.NetCfg.{NetCfg}

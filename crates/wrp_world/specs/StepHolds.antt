@@ -6,7 +6,7 @@ use Rattle.wrp_base.specs.declared.message.PtpMsg.{PtpMsg}
 use Rattle.wrp_frame.specs.declared.fault.FrameFault.{FrameFault}
 use Rattle.wrp_course.specs.declared.event.Event.{Event}
 use Rattle.wrp_course.specs.declared.node_out.NodeOut.{NodeOut}
-use Rattle.wrp_course.specs.Run.{Happened, steps_at}
+use Rattle.wrp_course.specs.Run.{Happened, IsSaid, steps_at}
 use Rattle.wrp_course.specs.Setting.{Setting}
 use Rattle.wrp_world.specs.EventHolds.{LinksHold, TracksHold}
 use Rattle.wrp_world.specs.InRun.{InRun}
@@ -18,6 +18,8 @@ use Rattle.wrp_world.specs.Step.{step_seen}
 pub record CarriesLinks {F : Type 0} (post : F → ℤ → ℤ → Type 0) (s : Setting) (e : Event) (events : List Happened) (new : WorldOf F) (outs : List NodeOut) : Type 0 where
   pub says : Result PtpMsg FrameFault
   pub answer : ℤ
+  -- where octets came that the peer did not send, this is what they say
+  pub said : IsSaid e says
   pub run : InRun post s (record { event = e; says = says; answer = answer } ∷ events) new
   pub steps : map step_seen outs ≡ steps_at s events (record { event = e; says = says; answer = answer })
   pub links : LinksHold s (record { event = e; says = says; answer = answer }) events
@@ -30,6 +32,8 @@ LinksGoOn post e old new outs =
 pub record CarriesTruth {F : Type 0} (pre : F → ℤ → Type 0) (post : F → ℤ → ℤ → Type 0) (s : Setting) (e : Event) (events : List Happened) (new : WorldOf F) (outs : List NodeOut) : Type 0 where
   pub says : Result PtpMsg FrameFault
   pub answer : ℤ
+  -- where octets came that the peer did not send, this is what they say
+  pub said : IsSaid e says
   pub run : InTrueRun pre post s (record { event = e; says = says; answer = answer } ∷ events) new
   pub steps : map step_seen outs ≡ steps_at s events (record { event = e; says = says; answer = answer })
   pub links : LinksHold s (record { event = e; says = says; answer = answer }) events
@@ -38,3 +42,10 @@ pub record CarriesTruth {F : Type 0} (pre : F → ℤ → Type 0) (post : F → 
 abbrev pub TruthGoesOn : {F : Type 0} → (F → ℤ → Type 0) → (F → ℤ → ℤ → Type 0) → Event → (old new : WorldOf F) → List NodeOut → Type 0
 TruthGoesOn pre post e old new outs =
     (s : Setting) (events : List Happened) → InTrueRun pre post s events old → CarriesTruth pre post s e events new outs
+
+-- Where an event is refused
+
+-- the world is in every run that it was in
+pub record KeepsRuns {F : Type 0} (pre : F → ℤ → Type 0) (post : F → ℤ → ℤ → Type 0) (old new : WorldOf F) : Type 0 where
+  pub run : (s : Setting) (events : List Happened) → InRun post s events old → InRun post s events new
+  pub true_run : (s : Setting) (events : List Happened) → InTrueRun pre post s events old → InTrueRun pre post s events new

@@ -6,9 +6,10 @@ use wrp_course::{dropped_frames_leave_a_count, ports_are_judged, reported_link_o
 use wrp_truth::{chain_has_constant, offsets_keep_bounds, reports_are_within};
 
 /// What holds of each event of every run: each port in WR_LINK_ON has earned it, and so has each that is
-/// reported to be; each port is where its marks lead, and judged Ok exactly in WR_LINK_ON; and a frame that is dropped as no message, or as a foreign one, leaves a count alone.
-/// And where the events' numbers fit and the laws' answers are near: each node that is up is within its bound
-/// of true time in TRACK and in HOLDOVER, each report of TRACK is true, and each chain has a constant.
+/// reported to be; each port is where its marks lead, and judged Ok exactly in WR_LINK_ON; and a frame that
+/// is dropped as no message, or as a foreign one, leaves a count alone. And where the events' numbers fit
+/// and the laws' answers are near: each node that is up is within its bound of true time in TRACK and in
+/// HOLDOVER, each report of TRACK is true, and each chain has a constant.
 pub fn events_hold()
     ensures links { LinksHoldInRuns }
     ensures tracks { TracksHoldInRuns }

@@ -4,7 +4,7 @@ ghost use Rattle.wrp_world.specs.declared.outcome.Refused.TheVariants.{Broken};
 ghost use Rattle.wrp_world.specs.RunsOn.{RunsOn};
 ghost use Rattle.wrp_world.specs.StandsFor.{IsValid};
 ghost use Rattle.wrp_world.specs.Step.{IsRefusal, MayCome, StaysSo, Stepped};
-ghost use Rattle.wrp_world.specs.StepHolds.{LinksGoOn, TruthGoesOn};
+ghost use Rattle.wrp_world.specs.StepHolds.{KeepsRuns, LinksGoOn, TruthGoesOn};
 ghost use Rattle.wrp_world.specs.Taking.{AreOfNodes, laws_of};
 
 use super::World;
@@ -21,11 +21,15 @@ impl<F: Fn(i64) -> i64> World<F> {
     /// nothing of use.
     ///
     /// An accepted event goes on with each run that the world was in. After it no port is in
-    /// WR_LINK_ON unless its peer went through the required steps of that same handshake; a frame
-    /// that a node drops for one of the reasons 1 to 12 changed one counter of it alone; and, where
-    /// the node's laws fit the links (`World::new`), each node that is up is within its bound of
-    /// true time in TRACK and in HOLDOVER, and each estimate among the steps is near the node's
-    /// offset from its parent.
+    /// WR_LINK_ON unless its peer went through the required steps of that same handshake, and a
+    /// slave there knows the deltas of the modules that are in place; each port is where its marks
+    /// lead, and judged Ok exactly in WR_LINK_ON; what the nodes report of that is true; and a
+    /// frame that a node drops for one of the reasons 1 to 12 changed one counter of it alone.
+    ///
+    /// In a run that began with `World::new`, each node that is up is, besides, within its bound of
+    /// true time in TRACK and in HOLDOVER, ahead or behind; each estimate among the steps is of a
+    /// node in TRACK, within its path, and near its offset from its parent; and each chain of good
+    /// samples has a constant.
     pub fn step_into(&mut self, event: &Event, outs: &mut Vec<NodeOut>) -> Result<(), Refused>
         requires valid { IsValid F.pre F.post self.old }
         requires event { MayCome self.old event.now }
@@ -39,6 +43,7 @@ impl<F: Fn(i64) -> i64> World<F> {
         ensures nodes { OnOk result (AreOfNodes self.new.plant.net.cfg outs.new.items) }
         ensures refusal { IfErr result (IsRefusal F.post event.now self.old) }
         ensures stays { OnErr result (StaysSo F.post self.old self.new) }
+        ensures runs { OnErr result (KeepsRuns F.pre F.post self.old self.new) }
         ensures counted { OnOk result (self.new.plant.events ≡ self.old.plant.events + 1) }
         ensures count { OnErr result (self.new.plant.events ≡ self.old.plant.events) }
         ensures net { self.new.plant.net ≡ self.old.plant.net }
@@ -71,6 +76,7 @@ impl<F: Fn(i64) -> i64> World<F> {
         ensures nodes { IfOk result (λ outs. AreOfNodes self.new.plant.net.cfg outs.items) }
         ensures refusal { IfErr result (IsRefusal F.post event.now self.old) }
         ensures stays { OnErr result (StaysSo F.post self.old self.new) }
+        ensures runs { OnErr result (KeepsRuns F.pre F.post self.old self.new) }
         ensures counted { OnOk result (self.new.plant.events ≡ self.old.plant.events + 1) }
         ensures count { OnErr result (self.new.plant.events ≡ self.old.plant.events) }
         ensures net { self.new.plant.net ≡ self.old.plant.net }

@@ -9,7 +9,7 @@ use Rattle.wrp_world.specs.Step.{StaysSo, Stepped}
 use Rattle.wrp_world.specs.Taking.{laws_of}
 use Rattle.wrp_world.proofs.Inside.{world_of}
 use Rattle.wrp_world.proofs.RunsOn.{runs_on}
-use Rattle.wrp_world.proofs.TrueRuns.{links_go_on, truth_goes_on}
+use Rattle.wrp_world.proofs.TrueRuns.{links_go_on, runs_kept, truth_goes_on}
 use Rattle.wrp_world.proofs.WorldSteps.{begun_asks, begun_of, begun_valid, breach_refused, event_taken, lists_read, memory_refused, none_left, stays_valid, world_stays}
 use Rattle.wrp_plant.proofs.Refusals.{on_err}
 use Rattle.wrp_world.proofs.world.World.step_into.Goals as goal
@@ -71,3 +71,10 @@ pub returns-clause-truth : goal.returns-clause-truth
 returns-clause-truth g c =
     truth_goes_on _ _ c.args.event.now c.args.self.now c.give_all.new.self c.give_all.new.outs.items c.events_hold.ensures.links c.events_hold.ensures.tracks c.requires.event c.event_fits.ensures
     (c.give_all.ensures.laws ∙ ap laws_of c.self.view_is) (returns-clause-steps g c)
+
+pub returns-in_err-begin-clause-runs : goal.returns-in_err-begin-clause-runs
+returns-in_err-begin-clause-runs g c =
+    on_err c.from_residual.result
+    (runs_kept _ _ c.args.self.now (world_of c.begin.new.self c.self.inside.nodes.items) (ap laws_of c.self.view_is)
+    (subst (λ w. StaysSo (λ f x y. g.F.Fn.post f (x, tt) y) w (world_of c.begin.new.self c.self.inside.nodes.items)) c.self.view_is
+    (world_stays _ (world_of c.self.inside.plant c.self.inside.nodes.items) c.begin.new.self c.in_err-begin.ensures.stays)))
