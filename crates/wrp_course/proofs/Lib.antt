@@ -9,7 +9,7 @@
 -- RunCarriers, RunDark, RunLit, RunCarried, RunKept, RunMoves, RunSettled, RunChanges: what is kept of each link at each kind of event.
 -- RunBoth, RunEvents: all of it after every event of every run.
 -- WordReports, EarnedReports, JudgedPorts, DroppedFrames: what is reported of WR_LINK_ON, how a port is judged (`ports_are_judged`), and
--- what a dropped frame leaves.
+-- what a dropped frame leaves. StayingPeers: how each end stays in the handshake that the other relies on.
 -- RunSent: which frames may still come (`frames_may_come`). RunQuiet, RunWaking: how long ago a port whose quiet time is over got its
 -- carrier (`ports_wake_late`).
 pub mod Bounds
@@ -44,6 +44,7 @@ pub mod RunStamps
 pub mod RunTicks
 pub mod RunTimes
 pub mod RunWaking
+pub mod StayingPeers
 pub mod Still
 pub mod Told
 pub mod Unbroken

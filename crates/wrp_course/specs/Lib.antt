@@ -8,6 +8,7 @@ pub mod Judged
 pub mod Laws
 pub mod LinkEnds
 pub mod Moved
+pub mod PeersStay
 pub mod PortsWakeLate
 pub mod Premises
 pub mod Rows

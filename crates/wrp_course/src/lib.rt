@@ -25,6 +25,7 @@ pub use node_out::NodeOut;
 pub use place::{Place, other_of, place_of};
 pub use run_laws::{
     dropped_frames_leave_a_count, frames_are_stamped, frames_have_times, frames_may_come,
-    frames_were_put_out, link_on_in_the_same_handshake, modules_stay, ports_are_judged,
-    ports_wake_late, reported_link_on_is_earned, ticks_are_apart, time_never_falls,
+    frames_were_put_out, link_on_in_the_same_handshake, modules_stay, peers_stay_in_the_handshake,
+    ports_are_judged, ports_wake_late, reported_link_on_is_earned, ticks_are_apart,
+    time_never_falls,
 };

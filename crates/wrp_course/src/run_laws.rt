@@ -4,6 +4,7 @@ ghost use Rattle.wrp_course.specs.Dropped.{DroppedFramesLeaveACount};
 ghost use Rattle.wrp_course.specs.Earned.{LinkOnIsEarned, ReportsAreTrue};
 ghost use Rattle.wrp_course.specs.FramesMayCome.{FramesMayCome};
 ghost use Rattle.wrp_course.specs.Judged.{PortsAreJudged};
+ghost use Rattle.wrp_course.specs.PeersStay.{PeersStayInTheHandshake};
 ghost use Rattle.wrp_course.specs.PortsWakeLate.{AwakePortsLeftLongAgo, AwakePortsWereLitLongAgo};
 ghost use Rattle.wrp_course.specs.RunLaws.{FramesHaveTimes, FramesWerePutOut, ModulesStay, TicksAreApart};
 ghost use Rattle.wrp_course.specs.RunLaws.{TimeNeverFalls};
@@ -14,8 +15,8 @@ ghost use Rattle.wrp_course.specs.SameHandshake.{LinkOnInTheSameHandshake, LinkO
 use crate::laws::arrival_keeps_stamp_bound;
 use wrp_config::child_is_deeper;
 use wrp_handshake::{
-    carrier_with_its_module, marks_are_a_history, on_in_the_same_handshake, on_with_the_deltas,
-    quiet_time_outlives_frames,
+    carrier_with_its_module, marks_are_a_history, master_stays_from_lock, on_in_the_same_handshake,
+    on_with_the_deltas, quiet_time_outlives_frames, slave_stays_from_locked,
 };
 use wrp_node::{
     dropped_leaves_a_count, ends_are_set, signals_are_of_link, step_gives_links, step_settles,
@@ -45,6 +46,17 @@ pub fn link_on_in_the_same_handshake()
     on_in_the_same_handshake();
     on_with_the_deltas();
     carrier_with_its_module();
+}
+
+/// At each link, after every event of every run: from the LOCK that moved the slave on, its master begins no
+/// new stretch while the slave stays in its own; from the LOCKED that moved the master on, its slave comes
+/// from PRESENT to S_LOCK in no other stretch while the master stays in its own.
+pub fn peers_stay_in_the_handshake()
+    ensures { PeersStayInTheHandshake }
+{
+    link_on_in_the_same_handshake();
+    master_stays_from_lock();
+    slave_stays_from_locked();
 }
 
 /// A port that has its carrier, and whose quiet time is over, got the carrier more than two lives of a frame

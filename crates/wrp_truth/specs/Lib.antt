@@ -6,11 +6,15 @@ pub mod Exchanges
 pub mod Fibres
 pub mod FlightOrder
 pub mod Fours
+pub mod Holding
 pub mod Holdovers
 pub mod Leases
+pub mod Limits
 pub mod Moments
 pub mod OneMessage
 pub mod PortDelays
 pub mod Rates
 pub mod SequenceIds
+pub mod Steps
+pub mod UnbrokenChains
 pub mod Views

@@ -14,6 +14,7 @@ mod leases;
 mod one_message;
 mod port_delays;
 mod requests;
+mod safety;
 mod sequence_ids;
 
 pub use bounds::{estimates_are_near, offsets_keep_bounds, reports_are_within};
@@ -27,4 +28,5 @@ pub use leases::lease_has_source;
 pub use one_message::pieces_are_of_one_message;
 pub use port_delays::fibre_holds_while_on;
 pub use requests::delays_tell;
+pub use safety::{chain_stays_unbroken, holdover_came_within_path, track_keeps_limits};
 pub use sequence_ids::{ids_come_again_late, one_timed_an_event};

@@ -74,7 +74,7 @@ held_core s events n link net above h = ap is_holdover (sym (with_servo (node_se
 pub core_held : (s : Setting) (events : List Happened) (n : ℕ) (link : LinkCfg) → IsNetwork s → link_above s.cfg n ≡ Some link → ((world_after s events).clock n).up ≡ true → (core_at s events n).state ≡ Holdover → IsHeld s n events
 core_held s events n link net above up e = record { up = up; state = with_servo (node_setting_of s n) ((world_after s events).node n) (has_servo s net n link above) ∙ e }
 
-since_when : HeldLaws → (s : Setting) (events : List Happened) (n : ℕ) (link : LinkCfg) → IsNetwork s → link_above s.cfg n ≡ Some link → IsHeld s n events → (t : ℕ) × OnHold (core_at s events n) t × (t < unsigned_abs s.cfg.holdover)
+pub since_when : HeldLaws → (s : Setting) (events : List Happened) (n : ℕ) (link : LinkCfg) → IsNetwork s → link_above s.cfg n ≡ Some link → IsHeld s n events → (t : ℕ) × OnHold (core_at s events n) t × (t < unsigned_abs s.cfg.holdover)
 since_when laws s events n link net above h =
     let it : (t : ℕ) × OnHold (core_at s events n) t × (t < (servo_setting_of (node_setting_of s n)).set.holdover) =
     on_hold laws.holds (servo_setting_of (node_setting_of s n)) ((world_after s events).node n).calls (lasts s net n) (held_core s events n link net above h) in
@@ -83,7 +83,7 @@ since_when laws s events n link net above h =
 -- Events
 
 -- by which it neither ticks nor starts
-calm_on : HeldLaws → (s : Setting) (h : Happened) (before : List Happened) (n t : ℕ) → IsCalmOf n h.event → OnHold (core_at s before n) t → OnHold (core_at s (h ∷ before) n) t
+pub calm_on : HeldLaws → (s : Setting) (h : Happened) (before : List Happened) (n t : ℕ) → IsCalmOf n h.event → OnHold (core_at s before n) t → OnHold (core_at s (h ∷ before) n) t
 calm_on laws s h before n t calm hold =
     node_kept (λ (m : NodeAt). OnHold (run (servo_setting_of (node_setting_of s n)) m.calls) t) IsCalm s h.says h.answer (world_after s before) h.event n
     (λ u m q k. calls_kept (λ calls. OnHold (run (servo_setting_of (node_setting_of s n)) calls) t) (λ calls c ok k2. calm_holds (servo_setting_of (node_setting_of s n)) calls c t ok k2) (node_setting_of s n) u m q k)
@@ -99,7 +99,7 @@ telling_calm (CallCarrier up) h = absurd h
 telling_calm CallReset h = absurd h
 
 -- its tick
-tick_on : HeldLaws → (s : Setting) (says : Result PtpMsg FrameFault) (y : ℤ) (before : List Happened) (n m t : ℕ) (link : LinkCfg) → IsNetwork s → link_above s.cfg n ≡ Some link → n ≡ m → OnHold (core_at s before n) t →
+pub tick_on : HeldLaws → (s : Setting) (says : Result PtpMsg FrameFault) (y : ℤ) (before : List Happened) (n m t : ℕ) (link : LinkCfg) → IsNetwork s → link_above s.cfg n ≡ Some link → n ≡ m → OnHold (core_at s before n) t →
     IsTicked (core_at s (record { event = Tick m; says = says; answer = y } ∷ before) n) (t + 1)
 tick_on laws s says y before n m t link net above same hold =
     let x : ServoSetting = servo_setting_of (node_setting_of s n) in
@@ -125,7 +125,7 @@ held_rate s events n t link net above h hold =
     let lock : locked_of fixed (w.node n) ≡ false = ap (λ (b : Bool). if b then (servo_at fixed (w.node n)).phase.lock.locked else false) (has_servo s net n link above) ∙ hold.locked in
     unlocked_keeps (is_some (link_above s.cfg n)) (w.clock n).up (locked_of fixed (w.node n)) (is_holdover (state_of fixed (w.node n))) (of_node (λ node. node.slew) s n) (of_node (λ node. node.held) s n) (ap is_some above) h.up lock (ap is_holdover h.state)
 
-is_inside : (s : Setting) (n : ℕ) (link : LinkCfg) → IsNetwork s → link_above s.cfg n ≡ Some link → n < node_count s.cfg
+pub is_inside : (s : Setting) (n : ℕ) (link : LinkCfg) → IsNetwork s → link_above s.cfg n ≡ Some link → n < node_count s.cfg
 is_inside s n link net above =
     let at : (k : ℕ) × (link_of s k ≡ Some link) × (link.lower ≡ n) = above_at s n link above in
     subst (λ i. i < node_count s.cfg) at.2 (net.accepted.tree.ends at.0 link at.1).1

@@ -45,15 +45,19 @@ use Rattle.wrp_truth.proofs.Runs.NodeRuns.{node_is}
 use Rattle.wrp_truth.proofs.Runs.Suffixes.{rest_length}
 use Rattle.wrp_truth.proofs.SyncPairs.SyncGiven.{slave_at}
 
+-- the laws on the age of the four
+pub record AgeLaws : Type 0 where
+  pub told : ToldLast
+  pub chain : TrackHasChain
+  pub near : TrackIsNear
+  pub young : TrackIsYoung
+
 -- the laws that this stands on
 pub record FourLaws : Type 0 where
   pub syncs : SyncsTell
   pub delays : DelaysTell
   pub moments : MomentLaws
-  pub told : ToldLast
-  pub chain : TrackHasChain
-  pub near : TrackIsNear
-  pub young : TrackIsYoung
+  pub age : AgeLaws
 
 -- A four is of two pairs
 
@@ -71,7 +75,7 @@ joined S D (Some sync) (Some delay) four e s d = record { sync = sync; delay = d
 
 -- The age of the four that stands
 
-young_ticks : FourLaws → (s : Setting) (events : List Happened) (k : ℕ) (link : LinkCfg) (kept : Measurement) → IsRun s events → link_of s k ≡ Some link → (servo_at (node_setting_of s link.lower) ((world_after s events).node link.lower)).state ≡ Track →
+pub young_ticks : AgeLaws → (s : Setting) (events : List Happened) (k : ℕ) (link : LinkCfg) (kept : Measurement) → IsRun s events → link_of s k ≡ Some link → (servo_at (node_setting_of s link.lower) ((world_after s events).node link.lower)).state ≡ Track →
     IsKept s link.lower events kept → ((world_after s events).node link.lower).ticks ≤ kept.four.tick + unsigned_abs s.cfg.age
 young_ticks laws s events k link kept run is track stands =
     let n : ℕ = link.lower in
@@ -150,5 +154,5 @@ four_holds_in_track laws s h before k link hop kept run fit is numbers chain tra
       young =
           subst (λ (m : Moment). (world_after s (h ∷ before)).time ≤ℤ (m.time +ℤ pos hop.age_time)) (sym at.2)
           (young laws.moments s h before k link hop run is numbers chain of.delayed.at at.0
-          (ticks_ago s (h ∷ before) k link hop chain kept of (young_ticks laws s (h ∷ before) k link kept run is track stands) at.0 at.1 at.2));
+          (ticks_ago s (h ∷ before) k link hop chain kept of (young_ticks laws.age s (h ∷ before) k link kept run is track stands) at.0 at.1 at.2));
     }

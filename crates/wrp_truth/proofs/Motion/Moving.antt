@@ -176,7 +176,7 @@ clock_slow held s says y before e n rate most K run inside up is less still k = 
 
 -- The grandmaster
 
-no_slave : (s : Setting) → IsNetwork s → (n : ℕ) → link_above s.cfg n ≡ None → is_some (slave_of (s.set n)) ≡ false
+pub no_slave : (s : Setting) → IsNetwork s → (n : ℕ) → link_above s.cfg n ≡ None → is_some (slave_of (s.set n)) ≡ false
 no_slave s net n above = ap is_some (ap (λ (x : NodeSet). slave_of x) (net.set n) ∙ slave_is_above s.cfg n ∙ ap (option_map (λ (l : LinkCfg). l.lower_port)) above)
 
 zero_drift : (d dt : ℤ) → unsigned_abs d * 1_000_000_000_000 ≤ 0 * unsigned_abs dt → d ≡ pos 0
@@ -222,7 +222,7 @@ top_is_true held s (h ∷ before) n run above =
 
 -- A node that may be followed
 
-either_state : (state : ServoState) → (state ≡ Track) ⊎ (state ≡ Holdover) → (is_track state || is_holdover state) ≡ true
+pub either_state : (state : ServoState) → (state ≡ Track) ⊎ (state ≡ Holdover) → (is_track state || is_holdover state) ≡ true
 either_state state (inl e) = ap (λ x. is_track x || is_holdover x) e
 either_state state (inr e) = ap (λ x. is_track x || is_holdover x) e
 

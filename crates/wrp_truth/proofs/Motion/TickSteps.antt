@@ -36,7 +36,7 @@ calm_count (Sent p seq delay stamp) ticks h = refl
 calm_count (Carrier p up own_module) ticks h = refl
 calm_count Reset ticks h = absurd h
 
-calm_ticks : TicksAreCounted → (s : Setting) (h : Happened) (before : List Happened) (n : ℕ) → IsCalmOf n h.event → ((world_after s (h ∷ before)).node n).ticks ≡ ((world_after s before).node n).ticks
+pub calm_ticks : TicksAreCounted → (s : Setting) (h : Happened) (before : List Happened) (n : ℕ) → IsCalmOf n h.event → ((world_after s (h ∷ before)).node n).ticks ≡ ((world_after s before).node n).ticks
 calm_ticks counted s h before n calm =
     node_kept (λ (m : NodeAt). m.ticks ≡ ((world_after s before).node n).ticks) IsCalm s h.says h.answer (world_after s before) h.event n
     (λ t m q e. counted (node_setting_of s n) t m ∙ calm_count t.input m.ticks q ∙ e) (calm_to n h.event calm) refl

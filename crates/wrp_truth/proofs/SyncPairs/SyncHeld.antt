@@ -154,7 +154,7 @@ all_at P (x ∷ xs) g es h = all_at P xs g es h.1
 pub fewer : (a b : ℕ) (n : ℕ) → a < b → b ≡ suc n → a ≤ n
 fewer a b n h e = omega (arith, h, e)
 
-enough : (a b : ℕ) (xs : List Happened) (x : Happened) (ys : List Happened) → a ≡ length (xs ++ x ∷ ys) → length (x ∷ ys) ≤ a + 1
+pub enough : (a b : ℕ) (xs : List Happened) (x : Happened) (ys : List Happened) → a ≡ length (xs ++ x ∷ ys) → length (x ∷ ys) ≤ a + 1
 enough a b xs x ys e = let h : length (x ∷ ys) ≤ length (xs ++ x ∷ ys) = longer xs (x ∷ ys) in omega (arith, e, h)
   where
     longer : (zs ys : List Happened) → length ys ≤ length (zs ++ ys)

@@ -11,8 +11,10 @@ returns c = four_holds_in_track (record {
     step = c.ticks_are_on_time.ensures.step;
     within = c.ticks_tell_time.ensures.within;
   };
-  told = c.told_last.ensures;
-  chain = c.track_is_near.ensures.chain;
-  near = c.track_is_near.ensures.near;
-  young = c.track_is_young.ensures;
+  age = record {
+    told = c.told_last.ensures;
+    chain = c.track_is_near.ensures.chain;
+    near = c.track_is_near.ensures.near;
+    young = c.track_is_young.ensures;
+  };
 })
