@@ -2,7 +2,6 @@
 use Rattle.std.proofs.Common.{◌≡◌, ◌∙◌, refl, ap, sym, subst, ℕ, ◌+◌, ◌≤◌, ℤ, pos, ◌≤ℤ◌, unsigned_abs, true, is_some, Option, None, Some}
 use Rattle.std.proofs.lemmas.Bool.{false≢true}
 use Rattle.wrp_base.specs.declared.link.ServoState.TheVariants.{Track}
-use Rattle.wrp_base.specs.declared.network.LinkCfg.{LinkCfg}
 use Rattle.wrp_node.specs.declared.interface.NodeSet.{NodeSet}
 use Rattle.wrp_node.specs.NodeAt.{NodeAt, servo_at, servo_setting_of}
 use Rattle.wrp_servo.specs.Call.{ServoSetting}
@@ -16,9 +15,9 @@ use Rattle.wrp_servo.specs.Table.{is_track}
 use Rattle.wrp_servo.proofs.Gone.{set_is}
 use Rattle.wrp_servo.proofs.Sized.{within_says}
 use Rattle.wrp_course.specs.Run.{world_after}
-use Rattle.wrp_course.specs.Setting.{Setting, link_of, node_setting_of}
+use Rattle.wrp_course.specs.Setting.{link_of, node_setting_of}
 use Rattle.wrp_truth.specs.Fours.{IsKept}
-use Rattle.wrp_truth.specs.Limits.{KeepsLimits, TrackKeepsLimits}
+use Rattle.wrp_truth.specs.Limits.{TrackKeepsLimits}
 use Rattle.wrp_truth.proofs.Measurements.FourTrack.{AgeLaws, young_ticks}
 use Rattle.wrp_truth.proofs.Runs.LinksAbove.{above_at}
 use Rattle.wrp_truth.proofs.Sources.Parents.{has_servo, with_servo}
