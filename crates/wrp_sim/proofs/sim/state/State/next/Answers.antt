@@ -1,23 +1,14 @@
-use Rattle.std.proofs.Common.{◌∙◌, refl, subst, ℕ, ℤ, Option, None, Some}
+use Rattle.std.proofs.Common.{◌∙◌, refl, subst, Option, Some}
 use Rattle.wrp_course.specs.declared.event.Event.{Event}
-use Rattle.wrp_course.specs.Setting.{Setting}
-use Rattle.wrp_course.specs.Views.{IsNextArrival}
-use Rattle.wrp_course.specs.WorldAt.{WorldAt}
 use Rattle.wrp_sim.specs.Rules.{begins, fails, first_of, later_rules, next_of, rest_of}
 use Rattle.wrp_sim.specs.Scenario.{SceneAt}
-use Rattle.wrp_sim.specs.Sim.{Gave, IsDue}
-use Rattle.wrp_world.specs.StandsFor.{StandsFor, WorldOf}
+use Rattle.wrp_sim.specs.Sim.{Gave}
+use Rattle.wrp_sim.proofs.Ends.{due_on}
 use Rattle.wrp_sim.proofs.Turns.{by_first, by_later, first_gave, passes_on, whatever_stays}
 use Rattle.wrp_sim.proofs.sim.state.State.next.Goals as goal
 
--- what arrives next is on a fibre
-due_next : {F : Type 0} (post : F → ℤ → ℤ → Type 0) (world : WorldOf F) (due : Option (ℕ × ℤ)) →
-    ((s : Setting) (w : WorldAt) → StandsFor post s w world → IsNextArrival w due) → IsDue post world due
-due_next post world None h = tt
-due_next post world (Some next) h = λ s w stands. (h s w stands).2
-
 pub later-requires-clause-due : goal.later-requires-clause-due
-later-requires-clause-due g c = due_next _ c.args.world.now c.next_arrival-due.result c.next_arrival-due.ensures
+later-requires-clause-due g c = due_on _ c.args.world.now c.next_arrival-due.result c.next_arrival-due.ensures
 
 pub returns-in-Some-clause-follows : goal.returns-in-Some-clause-follows
 returns-in-Some-clause-follows g c s w at h i = record {
