@@ -1,0 +1,3 @@
+pub mod CaptureReading
+pub mod CaptureWalk
+pub mod CaptureExact

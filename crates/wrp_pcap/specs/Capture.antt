@@ -1,10 +1,11 @@
 -- The classic libpcap file format: a header of 24 octets, and packets that follow one another to the end. The
 -- magic that a file begins with sets the order of octets of all its numbers. (That only Ethernet is read, and no
 -- packet of more than 262,144 octets, is this project's profile.)
-use Rattle.std.specs.Prelude.{◌≡◌, ◌≢◌, ◌<◌, ◌≤◌, ◌+◌, ◌⊎◌, ℕ, zero, suc, Bool, true, false, ◌==◌, if◌then◌else◌, List, [], ◌∷◌, ◌++◌, length, take, drop, slice_range, Option, Some, None, codes}
+use Rattle.std.specs.Prelude.{◌≡◌, ◌≢◌, ◌<◌, ◌≤◌, ◌+◌, ◌⊎◌, ℕ, Bool, true, false, ◌==◌, if◌then◌else◌, List, [], ◌∷◌, length, take, drop, slice_range, Option, Some, None, codes}
 use Rattle.byteorder.specs.Endian.{big_number, little_number}
 use Rattle.wrp_pcap.specs.declared.capture.CaptureFault.{CaptureFault}
 use Rattle.wrp_pcap.specs.declared.capture.CaptureFault.TheVariants.{Magic, LinkType, Header, Packet, Long}
+use Rattle.wrp_pcap.specs.declared.capture.Refusal.{Refusal}
 use Rattle.wrp_pcap.specs.declared.capture.Front.{Front}
 use Rattle.wrp_pcap.specs.declared.capture.Front.TheVariants.{End, Whole, Refused, More}
 use Rattle.wrp_pcap.specs.declared.capture.Order.{Order}
@@ -125,26 +126,35 @@ pub record HasReading
   pub begins : Begins order packets rest octets
   pub ends : IsEnd order fault rest
 
--- the octets are a capture of so many packets, and of nothing else
-pub record IsCapture (count : ℕ) (octets : List ℕ) : Type 0 where
+-- the octets are a whole header, and these packets behind it, up to the end or to the first fault
+pub record IsFile
+    (packets : List StoredPacket) (fault : Option CaptureFault) (octets : List ℕ) : Type 0 where
   pub order : Order
   pub header : HasHeader order octets
-  pub packets : List StoredPacket
-  pub counted : length packets ≡ count
-  pub reading : HasReading order packets None (drop 24 octets)
+  pub reading : HasReading order packets fault (drop 24 octets)
 
--- the octets are refused at the packet behind so many whole ones
-pub record IsRefusedBehind (count : ℕ) (fault : CaptureFault) (octets : List ℕ) : Type 0 where
-  pub order : Order
-  pub header : HasHeader order octets
-  pub packets : List StoredPacket
-  pub counted : length packets ≡ count
-  pub reading : HasReading order packets (Some fault) (drop 24 octets)
+-- the octets are refused: at the header, which is packet 0, before any packet; or behind these packets, at the
+-- next one, counted from 1
+abbrev pub IsRefused : List StoredPacket → Refusal → List ℕ → Type 0
+IsRefused packets refusal octets =
+    ((refusal.packet ≡ 0) × (packets ≡ []) × HasHeaderFault refusal.fault octets)
+    ⊎ ((refusal.packet ≡ length packets + 1) × IsFile packets (Some refusal.fault) octets)
 
--- the octets are refused at this packet, of which the first is 1, or at the header, which is 0
-abbrev pub IsRefused : ℕ → CaptureFault → List ℕ → Type 0
-IsRefused zero fault octets = HasHeaderFault fault octets
-IsRefused (suc count) fault octets = IsRefusedBehind count fault octets
+-- the octets are a capture of these packets, or are refused behind them
+abbrev pub IsReadAs : List StoredPacket → Option Refusal → List ℕ → Type 0
+IsReadAs packets None octets = IsFile packets None octets
+IsReadAs packets (Some refusal) octets = IsRefused packets refusal octets
+
+-- the octets are a capture of so many packets
+pub record IsCaptureOf (count : ℕ) (octets : List ℕ) : Type 0 where
+  pub packets : List StoredPacket
+  pub counted : count ≡ length packets
+  pub is : IsReadAs packets None octets
+
+-- the octets are refused so
+pub record IsRefusedAs (refusal : Refusal) (octets : List ℕ) : Type 0 where
+  pub packets : List StoredPacket
+  pub is : IsReadAs packets (Some refusal) octets
 
 -- octets of a packet are left, and it is not whole yet, nor too long
 abbrev pub IsCut : Order → List ℕ → Type 0

@@ -5,4 +5,4 @@
 
 mod capture;
 
-pub use capture::{CaptureFault, Front, Order, Refusal, captured_len, header, in_front};
+pub use capture::{CaptureFault, Front, Order, Refusal, captured_len, header, in_front, packets};
