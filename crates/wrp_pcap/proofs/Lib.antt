@@ -1,3 +1,4 @@
 pub mod CaptureReading
 pub mod CaptureWalk
 pub mod CaptureExact
+pub mod CaptureLaws

@@ -1,1 +1,4 @@
 pub mod Capture
+pub mod CaptureReading
+pub mod Ethernet
+pub mod Words

@@ -1,0 +1,19 @@
+-- What an Ethernet packet carries, by its EtherType, behind one VLAN tag at most (IEEE 802.3, IEEE 802.1Q). PTP
+-- over Ethernet has EtherType 88f7 (IEEE 1588-2019).
+use Rattle.std.specs.Prelude.{◌≡◌, ◌≤◌, ◌+◌, ℕ, ◌==◌, if◌then◌else◌, List, length, drop}
+use Rattle.byteorder.specs.Endian.{big_number}
+
+-- the number of two octets that stands at a place
+abbrev pub type_at : ℕ → List ℕ → ℕ
+type_at at packet = big_number 2 (drop at packet)
+
+-- where the EtherType of what is carried stands: behind the two addresses, and where a VLAN tag, 8100, stands
+-- there, behind that tag
+abbrev pub type_place : List ℕ → ℕ
+type_place packet = if type_at 12 packet == 0x8100 then 16 else 12
+
+-- the packet carries this PTP frame: all that stands behind the EtherType, which may be nothing
+pub record Carries (packet frame : List ℕ) : Type 0 where
+  pub whole : type_place packet + 2 ≤ length packet
+  pub ptp : type_at (type_place packet) packet ≡ 0x88F7
+  pub behind : frame ≡ drop (type_place packet + 2) packet

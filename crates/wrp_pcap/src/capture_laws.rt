@@ -1,0 +1,19 @@
+//! What holds of every capture. The functions here do nothing: their contracts are laws, and their
+//! proofs show that the laws hold.
+ghost use Rattle.wrp_pcap.specs.CaptureReading.{FilesHaveOneReading, CapturesAreTheirPackets};
+ghost use Rattle.wrp_pcap.specs.CaptureReading.{StayWhateverComes};
+
+/// The octets of a file hold these packets, up to the end or to this refusal, and no others.
+pub fn files_have_one_reading()
+    ensures { FilesHaveOneReading }
+{}
+
+/// A capture is its header and its packets, one behind another, and nothing else.
+pub fn captures_are_their_packets()
+    ensures { CapturesAreTheirPackets }
+{}
+
+/// A header, its fault, whole packets and a packet that is too long stay, whatever comes behind.
+pub fn packets_stay()
+    ensures { StayWhateverComes }
+{}

@@ -1,0 +1,44 @@
+//! What an Ethernet packet carries (IEEE 802.3, IEEE 802.1Q).
+ghost use Rattle.std.specs.Prelude.{◌≡◌, ◌↔◌, ◌≤◌, ◌+◌, ℕ, List, length, Some, option_map};
+ghost use Rattle.wrp_pcap.specs.Ethernet.{type_at, Carries};
+
+use byteorder::{BigEndian, ByteOrder};
+
+// Behind the two addresses, where the EtherType stands, or a VLAN tag.
+const TYPE_AT: usize = 12;
+// Behind the VLAN tag.
+const TAGGED_TYPE_AT: usize = 16;
+// The octets of an EtherType.
+const TYPE_LENGTH: usize = 2;
+// The EtherType of a VLAN tag.
+const VLAN_TAG: u16 = 0x8100;
+// The EtherType of PTP.
+const PTP: u16 = 0x88F7;
+
+/// The PTP frame that a packet carries, which may have no octets, or more than a frame has room for;
+/// None exactly where its EtherType is another, or cut. One VLAN tag is passed over.
+pub fn frame_of(packet: &[u8]) -> Option<&[u8]>
+    ensures { (frame : List ℕ)
+        → (option_map (λ octets. octets.now) result ≡ Some frame) ↔ Carries packet.now frame }
+{
+    if packet.len() < TYPE_AT + TYPE_LENGTH {
+        return None;
+    }
+    let at = if type_at(packet, TYPE_AT) == VLAN_TAG {
+        TAGGED_TYPE_AT
+    } else {
+        TYPE_AT
+    };
+    if packet.len() < at + TYPE_LENGTH || type_at(packet, at) != PTP {
+        return None;
+    }
+    Some(&packet[at + TYPE_LENGTH..])
+}
+
+// The EtherType at a place.
+fn type_at(packet: &[u8], at: usize) -> u16
+    requires { at + 2 ≤ length packet.now }
+    ensures { result ≡ type_at at packet.now }
+{
+    BigEndian::read_u16(&packet[at..])
+}
