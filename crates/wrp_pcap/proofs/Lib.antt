@@ -2,3 +2,4 @@ pub mod CaptureReading
 pub mod CaptureWalk
 pub mod CaptureExact
 pub mod CaptureLaws
+pub mod CaptureRows

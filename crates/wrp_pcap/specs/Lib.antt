@@ -1,4 +1,5 @@
 pub mod Capture
 pub mod CaptureReading
+pub mod CaptureRows
 pub mod Ethernet
 pub mod Words

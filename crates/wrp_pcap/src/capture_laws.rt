@@ -2,6 +2,7 @@
 //! proofs show that the laws hold.
 ghost use Rattle.wrp_pcap.specs.CaptureReading.{FilesHaveOneReading, CapturesAreTheirPackets};
 ghost use Rattle.wrp_pcap.specs.CaptureReading.{StayWhateverComes};
+ghost use Rattle.wrp_pcap.specs.CaptureRows.{CapturesAreRows};
 
 /// The octets of a file hold these packets, up to the end or to this refusal, and no others.
 pub fn files_have_one_reading()
@@ -16,4 +17,10 @@ pub fn captures_are_their_packets()
 /// A header, its fault, whole packets and a packet that is too long stay, whatever comes behind.
 pub fn packets_stay()
     ensures { StayWhateverComes }
+{}
+
+/// Captures worked out octet by octet: of no packet and of one, cut, too long, of each magic and of
+/// none, with and without a VLAN tag.
+pub fn worked_captures()
+    ensures { CapturesAreRows }
 {}
