@@ -10,7 +10,7 @@ use Rattle.wrp_pcap.specs.declared.capture.CaptureFault.TheVariants.{Magic, Link
 use Rattle.wrp_pcap.specs.declared.capture.Order.{Order}
 use Rattle.wrp_pcap.specs.declared.capture.Order.TheVariants.{Big, Little}
 use Rattle.wrp_pcap.specs.Capture.{order_by, order_of, number_at, captured, StoredPacket, HasHeader, HasHeaderFault, IsWhole, first_packet, behind_first, Begins, HasPacketFault, IsEnd, IsFile, IsReadAs}
-use Rattle.wrp_pcap.specs.CaptureReading.{header_by, header_of, is_whole, first_packets, left_behind, fault_left, packets_behind, packets_of, refusal_at, refusal_behind, refusal_of, FilesHaveOneReading, stored, CapturesAreTheirPackets, StayWhateverComes}
+use Rattle.wrp_pcap.specs.CaptureReading.{header_by, header_of, is_whole, first_packets, left_behind, fault_left, packets_behind, packets_of, refusal_at, refusal_behind, refusal_of, FilesHaveOneReading, stored, CapturesAreTheirPackets, StayWhateverComes, ReadingsGoOn}
 use Rattle.wrp_pcap.proofs.CaptureExact.{read_once}
 
 -- what is said of both ways is said of an if
@@ -242,3 +242,19 @@ long_stays order octets later (enough, long) =
 
 pub stay : StayWhateverComes
 stay = record { header = header_stays; header_fault = header_fault_stays; packets = packets_stay; long = long_stays }
+
+packets_go_on : (order : Order) (packets more : List StoredPacket) (left rest octets : List ℕ) → Begins order packets rest octets → Begins order more left rest
+    → Begins order (packets ++ more) left octets
+packets_go_on order [] more left rest octets is on = subst (Begins order more left) (sym is) on
+packets_go_on order (packet ∷ packets) more left rest octets (whole, is, begins) on =
+    (whole, is, packets_go_on order packets more left rest (behind_first order octets) begins on)
+
+pub go_on : ReadingsGoOn
+go_on = record {
+  packets = packets_go_on;
+  reading = λ order packets more fault rest octets begins reading. record {
+    rest = reading.rest;
+    begins = packets_go_on order packets more reading.rest rest octets begins reading.begins;
+    ends = reading.ends;
+  };
+}

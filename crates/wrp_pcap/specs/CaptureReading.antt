@@ -5,7 +5,7 @@ use Rattle.wrp_pcap.specs.declared.capture.CaptureFault.{CaptureFault}
 use Rattle.wrp_pcap.specs.declared.capture.CaptureFault.TheVariants.{Magic, LinkType, Header, Packet, Long}
 use Rattle.wrp_pcap.specs.declared.capture.Order.{Order}
 use Rattle.wrp_pcap.specs.declared.capture.Refusal.{Refusal}
-use Rattle.wrp_pcap.specs.Capture.{order_of, number_at, captured, StoredPacket, first_packet, behind_first, HasHeader, HasHeaderFault, Begins, HasPacketFault, IsFile, IsReadAs}
+use Rattle.wrp_pcap.specs.Capture.{order_of, number_at, captured, StoredPacket, first_packet, behind_first, HasHeader, HasHeaderFault, Begins, HasPacketFault, HasReading, IsFile, IsReadAs}
 
 -- a header of this order, or its other link type
 abbrev pub header_by : Option Order → List ℕ → Result Order CaptureFault
@@ -104,3 +104,14 @@ pub record StayWhateverComes : Type 0 where
       → Begins order packets rest octets → Begins order packets (rest ++ later) (octets ++ later)
   pub long : (order : Order) (octets later : List ℕ)
       → HasPacketFault Long order octets → HasPacketFault Long order (octets ++ later)
+
+-- a reading goes on behind the packets that were read: what stands in front of the octets behind them stands behind
+-- them in all octets, and what these are read as, all are
+pub record ReadingsGoOn : Type 0 where
+  pub packets : (order : Order) (packets more : List StoredPacket) (left rest octets : List ℕ)
+      → Begins order packets rest octets → Begins order more left rest
+      → Begins order (packets ++ more) left octets
+  pub reading : (order : Order) (packets more : List StoredPacket) (fault : Option CaptureFault)
+      (rest octets : List ℕ)
+      → Begins order packets rest octets → HasReading order more fault rest
+      → HasReading order (packets ++ more) fault octets

@@ -10,7 +10,8 @@ mod words;
 
 pub use capture::{CaptureFault, Front, Order, Refusal, captured_len, header, in_front, packets};
 pub use capture_laws::{
-    captures_are_their_packets, files_have_one_reading, packets_stay, worked_captures,
+    captures_are_their_packets, files_have_one_reading, packets_stay, readings_go_on,
+    worked_captures,
 };
 pub use ethernet::frame_of;
 pub use words::{kind_word, message_word};
