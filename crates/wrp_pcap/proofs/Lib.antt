@@ -3,3 +3,4 @@ pub mod CaptureWalk
 pub mod CaptureExact
 pub mod CaptureLaws
 pub mod CaptureRows
+pub mod Carried

@@ -1,8 +1,11 @@
 //! What an Ethernet packet carries (IEEE 802.3, IEEE 802.1Q).
-ghost use Rattle.std.specs.Prelude.{◌≡◌, ◌↔◌, ◌≤◌, ◌+◌, ℕ, List, length, Some, option_map};
-ghost use Rattle.wrp_pcap.specs.Ethernet.{type_at, Carries};
+ghost use Rattle.std.specs.Prelude.{◌≡◌, ◌↔◌, ◌≤◌, ◌+◌, ℕ, List, length, IsNone, Some, Ok, Err, option_map};
+ghost use Rattle.wrp_pcap.specs.Ethernet.{type_at, Carries, CarriesNone};
+ghost use Rattle.wrp_pcap.specs.Ethernet.{CarriesMessage, CarriesFault};
 
 use byteorder::{BigEndian, ByteOrder};
+use wrp_base::PtpMsg;
+use wrp_frame::{FrameFault, decode};
 
 // Behind the two addresses, where the EtherType stands, or a VLAN tag.
 const TYPE_AT: usize = 12;
@@ -33,6 +36,21 @@ pub fn frame_of(packet: &[u8]) -> Option<&[u8]>
         return None;
     }
     Some(&packet[at + TYPE_LENGTH..])
+}
+
+/// The message in the PTP frame that a packet carries, or the first fault of that frame; None exactly
+/// where the packet carries no PTP frame.
+pub fn message_in(packet: &[u8]) -> Option<Result<PtpMsg, FrameFault>>
+    ensures message { (message : PtpMsg)
+        → (result ≡ Some (Ok message)) ↔ CarriesMessage packet.now message }
+    ensures fault { (fault : FrameFault)
+        → (result ≡ Some (Err fault)) ↔ CarriesFault packet.now fault }
+    ensures none { IsNone result ↔ CarriesNone packet.now }
+{
+    match frame_of(packet) {
+        Some(frame) => Some(decode(frame)),
+        None => None,
+    }
 }
 
 // The EtherType at a place.

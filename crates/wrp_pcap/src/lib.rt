@@ -13,5 +13,5 @@ pub use capture_laws::{
     captures_are_their_packets, files_have_one_reading, packets_stay, readings_go_on,
     worked_captures,
 };
-pub use ethernet::frame_of;
+pub use ethernet::{frame_of, message_in};
 pub use words::{kind_word, message_word};
