@@ -1,6 +1,13 @@
-pub mod CaptureReading
-pub mod CaptureWalk
 pub mod CaptureExact
 pub mod CaptureLaws
+pub mod CaptureReading
 pub mod CaptureRows
+pub mod CaptureWalk
 pub mod Carried
+pub mod Chains
+pub mod Due
+pub mod Judging
+pub mod LookingBack
+pub mod Rising
+pub mod Standing
+pub mod Table

@@ -1,5 +1,11 @@
 pub mod Capture
 pub mod CaptureReading
 pub mod CaptureRows
+pub mod Certificate
+pub mod Chain
 pub mod Ethernet
+pub mod Laws
+pub mod Marks
+pub mod StandsFor
 pub mod Words
+pub mod Worked

@@ -1,11 +1,17 @@
-//! Captures of a link as the classic libpcap file format writes them: the header, the packets that
-//! follow one another, what a packet carries, and the words of the PTP messages in it. Only captures
-//! of Ethernet are read, and no packet of more than 262,144 octets (this project's profile).
+//! Captures of a link as the classic libpcap file format writes them, and the handshakes in them: the header,
+//! the packets that follow one another, what a packet carries, and of each WR_MODE_ON whether the messages of
+//! one handshake stand behind it. Only captures of Ethernet are read, and no packet of more than 262,144
+//! octets; that, and what counts as one handshake, is this project's profile.
 #![tactic(auto)]
 
 mod capture;
 mod capture_laws;
+mod chain;
 mod ethernet;
+mod histories;
+mod laws;
+mod pairs;
+mod verdict;
 mod words;
 
 pub use capture::{CaptureFault, Front, Order, Refusal, captured_len, header, in_front, packets};
@@ -14,4 +20,8 @@ pub use capture_laws::{
     worked_captures,
 };
 pub use ethernet::{frame_of, message_in};
+pub use histories::marks;
+pub use laws::{certificate_is_due, complete_rises, worked_certificates};
+pub use pairs::Pairs;
+pub use verdict::Verdict8;
 pub use words::{kind_word, message_word};

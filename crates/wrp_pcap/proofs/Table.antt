@@ -1,0 +1,132 @@
+-- The table of pairs: what an entry that is put or written makes of the chains.
+use Rattle.std.proofs.Common.{◌≡◌, refl, sym, ap, ◌∙◌, ap₂, subst, ℕ, Bool, true, false, ◌&&◌, ◌==◌, cond, if◌then◌else◌, Option, None, Some, IsSome, is_some, unwrap_or, []}
+use Rattle.std.proofs.lemmas.Bool.{eqb-true}
+use Rattle.std.specs.BTreeMap as tree
+use Rattle.std.specs.Cmp.{both_tied, unsigned_tied}
+use Rattle.std.specs.Ordering.{is_eq}
+use Rattle.wrp_base.proofs.Booleans.{and_first, and_second}
+use Rattle.wrp_base.specs.declared.message.PortIdentity.{PortIdentity}
+use Rattle.wrp_base.specs.declared.message.WrMsg.{WrMsg}
+use Rattle.wrp_pcap.specs.declared.chain.Chain.{Chain}
+use Rattle.wrp_pcap.specs.declared.pairs.Pairs.{Pairs}
+use Rattle.wrp_pcap.specs.Certificate.{same_port, goes}
+use Rattle.wrp_pcap.specs.Chain.{chain_of, after_master, after_slave}
+use Rattle.wrp_pcap.specs.StandsFor.{Key, key, port_cmp, key_cmp, chain_at, HasRoom, KeepsRoom, Opened, Written, HeardAsMaster, HeardAsSlave}
+
+-- ---- keys
+
+port_is : (a b : PortIdentity) → same_port a b ≡ is_eq (port_cmp (a.clock, a.port) (b.clock, b.port))
+port_is a b = both_tied _ _ _ _ (sym (unsigned_tied a.clock b.clock)) (sym (unsigned_tied a.port b.port))
+
+key_is : (master slave m s : PortIdentity) → goes master slave m s ≡ is_eq (key_cmp (key master slave) (key m s))
+key_is master slave m s = both_tied _ _ _ _ (port_is master m) (port_is slave s)
+
+port_same : (a b : PortIdentity) → same_port a b ≡ true → a ≡ b
+port_same a b is =
+    let clock : a.clock ≡ b.clock = eqb-true a.clock b.clock (and_first (a.clock == b.clock) (a.port == b.port) is) in
+    let port : a.port ≡ b.port = eqb-true a.port b.port (and_second (a.clock == b.clock) (a.port == b.port) is) in
+    λ i. record { clock = clock i; port = port i }
+
+-- a chain is one where its pair is
+chain_same : (pairs : Pairs) (master slave m s : PortIdentity) → goes master slave m s ≡ true → chain_at pairs master slave ≡ chain_at pairs m s
+chain_same pairs master slave m s is =
+    ap₂ (chain_at pairs) (port_same master m (and_first (same_port master m) (same_port slave s) is))
+    (port_same slave s (and_second (same_port master m) (same_port slave s) is))
+
+-- ---- one entry
+
+-- the table with a chain at one pair
+abbrev pub Puts : (master slave : PortIdentity) → Chain → Pairs → Pairs → Type 0
+Puts master slave chain old new = tree.Updates key_cmp old.chains new.chains (key master slave) (Some chain)
+
+put_at : (master slave : PortIdentity) (chain : Chain) (old new : Pairs) → Puts master slave chain old new → (m s : PortIdentity) →
+    tree.get key_cmp new.chains (key m s) ≡ (if goes master slave m s then Some chain else tree.get key_cmp old.chains (key m s))
+put_at master slave chain old new puts m s =
+    puts.0 (key m s) ∙ ap (λ b. cond b (Some chain) (tree.get key_cmp old.chains (key m s))) (sym (key_is master slave m s))
+
+room_if : (b : Bool) (chain : Chain) (o : Option Chain) → IsSome o → IsSome (if b then Some chain else o)
+room_if true chain o h = refl
+room_if false chain o h = h
+
+pub put_room : (master slave : PortIdentity) (chain : Chain) (old new : Pairs) → Puts master slave chain old new → KeepsRoom old new
+put_room master slave chain old new puts m s room =
+    subst (λ (o : Option Chain). IsSome o) (sym (put_at master slave chain old new puts m s)) (room_if (goes master slave m s) chain (tree.get key_cmp old.chains (key m s)) room)
+
+chain_if : (b : Bool) (chain empty : Chain) (o : Option Chain) → unwrap_or (if b then Some chain else o) empty ≡ (if b then chain else unwrap_or o empty)
+chain_if true chain empty o = refl
+chain_if false chain empty o = refl
+
+pub put_written : (master slave : PortIdentity) (chain : Chain) (old new : Pairs) → Puts master slave chain old new → Written master slave chain old new
+put_written master slave chain old new puts m s =
+    ap (λ o. unwrap_or o (chain_of m s [])) (put_at master slave chain old new puts m s)
+    ∙ chain_if (goes master slave m s) chain (chain_of m s []) (tree.get key_cmp old.chains (key m s))
+
+none_if : (o : Option Chain) → is_some o ≡ false → o ≡ None
+none_if None e = refl
+none_if (Some chain) e = absurd cc
+
+-- an entry that was put at a key
+pub puts_at : (master slave : PortIdentity) (at : Key) (chain : Chain) (old new : Pairs) → at ≡ key master slave →
+    tree.Updates key_cmp old.chains new.chains at (Some chain) → Puts master slave chain old new
+puts_at master slave at chain old new is updates = subst (λ (k : Key). tree.Updates key_cmp old.chains new.chains k (Some chain)) is updates
+
+pub none_at : (master slave : PortIdentity) (at : Key) (pairs : Pairs) → at ≡ key master slave → is_some (tree.get key_cmp pairs.chains at) ≡ false →
+    tree.get key_cmp pairs.chains (key master slave) ≡ None
+none_at master slave at pairs is none =
+    none_if (tree.get key_cmp pairs.chains (key master slave)) (subst (λ (k : Key). is_some (tree.get key_cmp pairs.chains k) ≡ false) is none)
+
+-- the chain of no messages, put where there is none
+same_if : (b : Bool) (x y : Chain) → (b ≡ true → x ≡ y) → (if b then x else y) ≡ y
+same_if true x y h = h refl
+same_if false x y h = refl
+
+pub none_found : (master slave : PortIdentity) (at : Key) (pairs : Pairs) → at ≡ key master slave → None ≡ tree.get key_cmp pairs.chains at →
+    tree.get key_cmp pairs.chains (key master slave) ≡ None
+none_found master slave at pairs is none = sym (subst (λ (k : Key). None ≡ tree.get key_cmp pairs.chains k) is none)
+
+pub room_at : (master slave : PortIdentity) (at : Key) (pairs : Pairs) → at ≡ key master slave → HasRoom master slave pairs →
+    IsSome (tree.get key_cmp pairs.chains at)
+room_at master slave at pairs is room = subst (λ (k : Key). IsSome (tree.get key_cmp pairs.chains k)) (sym is) room
+
+-- a chain that is shown where the table has none
+pub shown_empty : (master slave : PortIdentity) (chain : Chain) (pairs : Pairs) →
+    tree.get key_cmp pairs.chains (key master slave) ≡ None → chain ≡ chain_of master slave [] → chain ≡ chain_at pairs master slave
+shown_empty master slave chain pairs none empty = empty ∙ sym (ap (λ o. unwrap_or o (chain_of master slave [])) none)
+
+pub put_empty : (master slave : PortIdentity) (chain : Chain) (old new : Pairs) → Puts master slave chain old new →
+    tree.get key_cmp old.chains (key master slave) ≡ None → chain ≡ chain_of master slave [] → Opened old new
+put_empty master slave chain old new puts none empty =
+    let old_chain : chain ≡ chain_at old master slave = shown_empty master slave chain old none empty in
+    record {
+      chains = λ m s.
+          put_written master slave chain old new puts m s
+          ∙ same_if (goes master slave m s) chain (chain_at old m s) (λ is. old_chain ∙ chain_same old master slave m s is);
+      room = put_room master slave chain old new puts;
+    }
+
+-- ---- a message
+
+if_at : (b : Bool) (x y z : Chain) → (b ≡ true → x ≡ y) → (if b then x else z) ≡ (if b then y else z)
+if_at true x y z h = h refl
+if_at false x y z h = refl
+
+pub written_master : (source target : PortIdentity) (message : WrMsg) (n : ℕ) (chain : Chain) (old new : Pairs) →
+    chain ≡ after_master message n (chain_at old source target) → Written source target chain old new → HeardAsMaster source target message n old new
+written_master source target message n chain old new is written m s =
+    written m s
+    ∙ if_at (goes source target m s) chain (after_master message n (chain_at old m s)) (chain_at old m s)
+    (λ same. is ∙ ap (after_master message n) (chain_same old source target m s same))
+
+and_turned : (a b : Bool) → (a && b) ≡ (b && a)
+and_turned true true = refl
+and_turned true false = refl
+and_turned false true = refl
+and_turned false false = refl
+
+pub written_slave : (source target : PortIdentity) (message : WrMsg) (n : ℕ) (chain : Chain) (old new : Pairs) →
+    chain ≡ after_slave message n (chain_at old target source) → Written target source chain old new → HeardAsSlave source target message n old new
+written_slave source target message n chain old new is written m s =
+    written m s
+    ∙ if_at (goes target source m s) chain (after_slave message n (chain_at old m s)) (chain_at old m s)
+    (λ same. is ∙ ap (after_slave message n) (chain_same old target source m s same))
+    ∙ ap (λ b. if b then after_slave message n (chain_at old m s) else chain_at old m s) (and_turned (same_port target m) (same_port source s))

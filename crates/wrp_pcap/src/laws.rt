@@ -1,0 +1,21 @@
+//! Laws of certificates. The functions here do nothing: the contract of each is a law, and its proof shows
+//! that the law holds.
+ghost use Rattle.wrp_pcap.specs.Laws.{CertificateIsDue, CompleteRises};
+ghost use Rattle.wrp_pcap.specs.Worked.{WorkedCertificates};
+
+/// The verdict on a WR_MODE_ON, without the recursion that finds it: each message is the last of its kind
+/// before the next one of the handshake; the greatest place of which there is none is missing; and the
+/// first SLAVE_PRESENT behind the LOCK began the handshake again.
+pub fn certificate_is_due()
+    ensures { CertificateIsDue }
+{}
+
+/// The numbers of a complete certificate rise.
+pub fn complete_rises()
+    ensures { CompleteRises }
+{}
+
+/// What is told in certain captures.
+pub fn worked_certificates()
+    ensures { WorkedCertificates }
+{}
