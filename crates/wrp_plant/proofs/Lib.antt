@@ -7,7 +7,6 @@ pub mod EachLists
 pub mod Fitting
 pub mod FoundFrames
 pub mod FrameGifts
-pub mod GiftsFit
 pub mod Handing
 pub mod JoinedLinks
 pub mod KeptFrames

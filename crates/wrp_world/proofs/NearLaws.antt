@@ -1,6 +1,5 @@
 -- In a world whose nodes have laws that fit the links above them, what the laws answered is near the exact fraction.
-use Rattle.std.proofs.Common.{◌≡◌, ◌⊎◌, inl, inr, ap, sym, subst, ℕ, ℤ, ◌+ℤ◌, ◌-ℤ◌, ◌*ℤ◌, pos, ◌*◌, ◌≤◌, ◌<◌, ◌^◌, ◌≤ℤ◌, unsigned_abs, List, length, Option, None, Some, is_some, true, false, arith}
-use Rattle.std.specs.Prelude.{slice_get}
+use Rattle.std.proofs.Common.{◌≡◌, inl, inr, ap, sym, subst, ℕ, ℤ, ◌+ℤ◌, ◌-ℤ◌, ◌*ℤ◌, pos, ◌*◌, ◌≤◌, ◌<◌, ◌^◌, ◌≤ℤ◌, unsigned_abs, List, length, Option, None, Some, is_some, false, arith}
 use Rattle.std.proofs.lemmas.Option.{slice_get_cases}
 use Rattle.wrp_base.specs.declared.configuration.NetCfg.{NetCfg}
 use Rattle.wrp_base.specs.declared.network.LinkCfg.{LinkCfg}
@@ -12,7 +11,7 @@ use Rattle.wrp_law.specs.declared.delay.LawKind.{LawKind}
 use Rattle.wrp_law.specs.declared.delay.LawKind.TheVariants.{Linear}
 use Rattle.wrp_law.specs.Law.{IsNear, LawOf}
 use Rattle.wrp_node.specs.Control.{ServoIs, ToldServo, law_in}
-use Rattle.wrp_node.specs.NodeAt.{NodeAt, NodeSetting, servo_setting_of}
+use Rattle.wrp_node.specs.NodeAt.{NodeAt, servo_setting_of}
 use Rattle.wrp_node.specs.StandsFor.{NodeOf}
 use Rattle.wrp_servo.specs.Call.{Call, ServoSetting}
 use Rattle.wrp_servo.specs.Servo.{AllAnswered}

@@ -1,15 +1,13 @@
 -- A run goes on with the event that a step takes, and what holds of each event of a run holds of it.
-use Rattle.std.proofs.Common.{◌≡◌, ◌∙◌, ◌⊎◌, inl, inr, refl, ap, sym, subst, ℕ, ◌<◌, ◌≤◌, ℤ, List, [], ◌∷◌, length, Option, None, Some, Result, arith}
+use Rattle.std.proofs.Common.{◌≡◌, ◌∙◌, inl, inr, refl, ap, sym, subst, ℕ, ◌<◌, ◌≤◌, ℤ, List, [], ◌∷◌, length, Option, None, Some, arith}
 use Rattle.std.specs.Prelude.{option_and_then, slice_get}
 use Rattle.std.proofs.lemmas.Option.{slice_get_cases, slice_get_within}
 use Rattle.wrp_base.specs.declared.configuration.NetCfg.{NetCfg}
-use Rattle.wrp_base.specs.declared.message.PtpMsg.{PtpMsg}
 use Rattle.wrp_base.specs.Network.{node_count}
 use Rattle.wrp_base.proofs.Lists.{length_map}
 use Rattle.wrp_caldb.specs.Database.{Database}
 use Rattle.wrp_config.specs.Accepted.{IsAccepted}
 use Rattle.wrp_config.proofs.Lists.{IsMadeOf, made_of}
-use Rattle.wrp_frame.specs.declared.fault.FrameFault.{FrameFault}
 use Rattle.wrp_law.specs.Law.{LawOf}
 use Rattle.wrp_node.specs.Control.{law_in}
 use Rattle.wrp_node.specs.StandsFor.{NodeOf}
@@ -25,7 +23,7 @@ use Rattle.wrp_world.specs.EventHolds.{LinksHoldInRuns, TracksHoldInRuns}
 use Rattle.wrp_world.specs.HasLaws.{HasLaws}
 use Rattle.wrp_world.specs.InRun.{InRun}
 use Rattle.wrp_world.specs.InTrueRun.{HasFittingLaws, InTrueRun}
-use Rattle.wrp_world.specs.New.{FitsLaw, law_at, setting_of}
+use Rattle.wrp_world.specs.New.{FitsLaw, setting_of}
 use Rattle.wrp_world.specs.StandsFor.{StandsFor, WorldOf}
 use Rattle.wrp_world.specs.Step.{MayCome, StaysSo, Stepped}
 use Rattle.wrp_world.specs.StepHolds.{KeepsRuns, LinksGoOn, TruthGoesOn}

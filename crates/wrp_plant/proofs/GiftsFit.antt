@@ -1,1 +1,0 @@
--- An input that is listed can come to its node, where the node's ticks can still be counted.
