@@ -10,17 +10,8 @@ use Rattle.wrp_node.specs.declared.interface.Output.{Output}
 use Rattle.wrp_node.specs.declared.interface.Output.TheVariants as output
 use Rattle.wrp_node.specs.declared.interface.Report.{Report}
 use Rattle.wrp_node.specs.declared.interface.Report.TheVariants.{Link, Servo, Track}
+use Rattle.wrp_records.specs.Words.{line_of}
 use Rattle.wrp_lines.specs.Words.{link_word, reason_word, servo_word}
-
--- the line of some words: a space (octet 32) between two of them, LF (octet 10) behind the last
-abbrev pub line_of : List (List ℕ) → List ℕ
-line_of [] = 10 ∷ []
-line_of (word ∷ []) = word ++ 10 ∷ []
-line_of (word ∷ words) = word ++ 32 ∷ line_of words
-
--- a text begins as an older one
-abbrev pub Begins : List ℕ → List ℕ → Type 0
-Begins old new = take (length old) new ≡ old
 
 -- What a line says of an output, behind the node's name and tick
 

@@ -2,9 +2,10 @@
 ghost use Rattle.std.specs.Prelude.{◌≡◌, ◌∷◌, ◌++◌, ◌<◌, ◌≤◌, IfOk, OnOk, OnErr};
 ghost use Rattle.wrp_base.specs.Network.{node_count};
 ghost use Rattle.wrp_lines.specs.Lines as lines;
-ghost use Rattle.wrp_lines.specs.Lines.{count_line_of, count_words, line_of};
+ghost use Rattle.wrp_lines.specs.Lines.{count_line_of, count_words};
+ghost use Rattle.wrp_records.specs.Words.{line_of};
 
-use crate::line::append_words;
+use wrp_records::append_words;
 use crate::words::{name_of_node, name_of_reason};
 use itoa::Buffer;
 use std::alloc::{AllocError, Global};

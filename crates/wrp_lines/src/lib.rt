@@ -3,7 +3,6 @@
 #![tactic(auto)]
 
 mod counts;
-mod line;
 mod outputs;
 mod sums;
 mod words;

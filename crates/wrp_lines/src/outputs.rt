@@ -5,9 +5,10 @@ ghost use Rattle.hex.specs.Hex.{encode_lower};
 ghost use Rattle.wrp_base.specs.Network.{HasRanges, IsTree, node_count};
 ghost use Rattle.wrp_bounds.specs.Bounds.{path_of};
 ghost use Rattle.wrp_lines.specs.Lines as lines;
-ghost use Rattle.wrp_lines.specs.Lines.{dac_words, line_of, link_words, output_line_of, report_words, send_words, servo_words, step_words, track_words};
+ghost use Rattle.wrp_lines.specs.Lines.{dac_words, link_words, output_line_of, report_words, send_words, servo_words, step_words, track_words};
+ghost use Rattle.wrp_records.specs.Words.{line_of};
 
-use crate::line::append_words;
+use wrp_records::append_words;
 use crate::words::{name_of_node, text_of_link, text_of_servo};
 use itoa::Buffer;
 use std::alloc::{AllocError, Global};

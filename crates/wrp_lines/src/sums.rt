@@ -1,8 +1,9 @@
 //! The line that sums up the run of a node.
 ghost use Rattle.std.specs.Prelude.{◌≡◌, ◌∷◌, ◌++◌, OnOk, OnErr};
-ghost use Rattle.wrp_lines.specs.Lines.{line_of, sum_line_of, sum_words};
+ghost use Rattle.wrp_lines.specs.Lines.{sum_line_of, sum_words};
+ghost use Rattle.wrp_records.specs.Words.{line_of};
 
-use crate::line::append_words;
+use wrp_records::append_words;
 use crate::words::text_of_servo;
 use itoa::Buffer;
 use std::alloc::AllocError;

@@ -40,7 +40,7 @@ use Rattle.wrp_run.specs.AuditText.{audit_lines, given_line, given_lines, step_l
 use Rattle.wrp_run.specs.DownLaw.{node_setting_at}
 use Rattle.wrp_run.specs.NodeText.{output_lines}
 use Rattle.wrp_run.proofs.AuditSteps.{made_after, made_given}
-use Rattle.wrp_run.proofs.Reaching.{concat-snoc}
+use Rattle.wrp_records.proofs.Reaching.{concat-snoc}
 use Rattle.wrp_projection.specs.Projection.{PutOut, audit_line, of_node, replay_line}
 use Rattle.wrp_projection.proofs.Written.{record_of, records_of, written}
 

@@ -24,16 +24,16 @@ use Rattle.wrp_trace.specs.LineSetting.{LineSetting, line_setting_in}
 use Rattle.wrp_course.specs.Run.{Happened, world_after}
 use Rattle.wrp_course.specs.Setting.{Setting}
 use Rattle.wrp_course.specs.WorldAt.{WorldAt}
-use Rattle.wrp_run.specs.declared.status.Status.TheVariants.{Done}
+use Rattle.wrp_records.specs.declared.status.Status.TheVariants.{Done}
 use Rattle.wrp_run.specs.Answer.{Answer}
 use Rattle.wrp_run.specs.Audited.{AreEvents, IsAudit, IsSettingOf, setting_at}
 use Rattle.wrp_run.specs.AuditLaws.{OneAudit}
 use Rattle.wrp_run.specs.AuditText.{all_counts, audit_lines, given_lines}
 use Rattle.wrp_run.specs.DownLaw.{node_setting_at, law_at}
 use Rattle.wrp_run.specs.Input.{behind_separator, network_limit, network_text}
-use Rattle.wrp_run.specs.Lines.{content_of, lines_of}
+use Rattle.wrp_records.specs.Lines.{content_of, lines_of}
 use Rattle.wrp_run.specs.NodeText.{node_counts}
-use Rattle.wrp_run.specs.RecordsAnswer.{IsWholly, RecordsAnswer}
+use Rattle.wrp_records.specs.RecordsAnswer.{IsWholly, RecordsAnswer}
 use Rattle.wrp_run.specs.Replays.{Accepts, AreInputs, Closes, IsNetworkOf, meaning_of}
 use Rattle.wrp_run.specs.declared.command_line.Form.TheVariants as forms
 use Rattle.wrp_run.specs.Tasks.{AsksFor, Audit, Emit, IsAuditing, IsEmission, IsReplay, Replay, Simulate, Task, meaning_at}
@@ -44,7 +44,7 @@ use Rattle.wrp_run.proofs.BareRuns.{counts_text, inputs_text, lines_text, run_ba
 use Rattle.wrp_run.proofs.BareSetting.{name_bare, named_bare, read_bare}
 use Rattle.wrp_run.proofs.OneAnswer.{one_setting}
 use Rattle.wrp_run.proofs.OneAudit.{read}
-use Rattle.wrp_run.proofs.Reaching.{lines_alone}
+use Rattle.wrp_records.proofs.Reaching.{lines_alone}
 use Rattle.wrp_run.proofs.WordLemmas.{audit_alone, emission_alone, no_option, no_simulation, one_value, simulation_alone}
 use Rattle.wrp_projection.specs.Law.{FrontWithRecords, HasRecords, ReplayOfEmittedInputs}
 use Rattle.wrp_projection.specs.Projection.{IsProjection, IsProjectionTo}

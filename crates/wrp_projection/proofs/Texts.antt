@@ -19,9 +19,9 @@ use Rattle.wrp_caldb.specs.Name.{is_letter, is_name, is_name_octet}
 use Rattle.wrp_data.specs.declared.reason.Reason.{Reason}
 use Rattle.wrp_data.specs.declared.reason.Reason.TheVariants.{Short, Version, Kind, Length, Time, Tlv, BadWr, OneStep, Domain, Stranger, NotForUs, Quiet as QuietReason, Unmatched, Range, Sample}
 use Rattle.wrp_data.specs.Reason.{name_of, number_of, reasons}
-use Rattle.wrp_lines.specs.Lines.{line_of}
+use Rattle.wrp_records.specs.Words.{line_of}
 use Rattle.wrp_lines.specs.Words.{link_word, reason_word, servo_word}
-use Rattle.wrp_run.specs.Lines.{IsWhole, content_of}
+use Rattle.wrp_records.specs.Lines.{IsWhole, content_of}
 use Rattle.wrp_projection.specs.Projection.{without_truth, words_of}
 use Rattle.wrp_projection.proofs.Written.{content_clean, no_feeds, no_returns}
 

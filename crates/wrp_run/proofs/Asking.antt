@@ -6,28 +6,29 @@ use Rattle.std.proofs.KnownBytes.{Appends-nil, Consumes-trans}
 use Rattle.wrp_base.specs.declared.fault.ConfFault.{ConfFault}
 use Rattle.wrp_base.specs.declared.fault.ConfFault.TheVariants.{Fault, Memory}
 use Rattle.wrp_config.specs.Reading.{IsReadingOf}
-use Rattle.wrp_run.specs.declared.machine.Refusal.{Refusal}
-use Rattle.wrp_run.specs.declared.machine.Refusal.TheVariants as refusals
-use Rattle.wrp_run.specs.declared.status.Status.{Status}
-use Rattle.wrp_run.specs.declared.status.Status.TheVariants.{Done, Usage, BadNetwork, BadTrace, Broken, ReadFault, WriteFault, TooLarge, OutOfMemory}
-use Rattle.wrp_run.specs.After.{After}
+use Rattle.wrp_records.specs.declared.machine.Refusal.{Refusal}
+use Rattle.wrp_records.specs.declared.machine.Refusal.TheVariants as refusals
+use Rattle.wrp_records.specs.declared.status.Status.{Status}
+use Rattle.wrp_records.specs.declared.status.Status.TheVariants.{Done, Usage, BadNetwork, BadTrace, Broken, ReadFault, WriteFault, TooLarge, OutOfMemory}
+use Rattle.wrp_records.specs.LinesAfter.{After}
 use Rattle.wrp_run.specs.Answer.{Answer, AsksNone, IsCommand, FirstAnswer, PartAnswer, CutTask}
 use Rattle.wrp_run.specs.Ends.{Run, AsksEvents, Ends, EndsRefused, TakesPiece, ReadFailed, WriteFailed, Wrote}
-use Rattle.wrp_run.specs.Engine.{Finishes, RefusesNetwork}
+use Rattle.wrp_records.specs.Engine.{Finishes, RefusesNetwork}
 use Rattle.wrp_run.specs.Input.{network_text, behind_separator, network_limit, IsDivided, IsTooLong, IsUndivided}
-use Rattle.wrp_run.specs.Lines.{lines_of}
-use Rattle.wrp_run.specs.Meaning.{Meaning}
-use Rattle.wrp_run.specs.Reader.{ReaderAt, piece_limit}
-use Rattle.wrp_run.specs.RecordsAnswer.{RecordsAnswer, StandsFirst}
+use Rattle.wrp_records.specs.Lines.{lines_of}
+use Rattle.wrp_records.specs.LineMeaning.{LineMeaning}
+use Rattle.wrp_records.specs.Reader.{ReaderAt, piece_limit}
+use Rattle.wrp_records.specs.RecordsAnswer.{RecordsAnswer, StandsFirst}
 use Rattle.wrp_run.specs.Replays.{IsRefusedBy}
-use Rattle.wrp_run.specs.Statuses.{is_answer}
-use Rattle.wrp_run.specs.Stream.{RefusedAt, CutHandled}
-use Rattle.wrp_run.specs.Refusals.{bad_network_line, usage_line, too_large_line}
+use Rattle.wrp_records.specs.Statuses.{is_answer}
+use Rattle.wrp_records.specs.Stream.{RefusedAt, CutHandled}
+use Rattle.wrp_run.specs.Refusals.{usage_line}
+use Rattle.wrp_records.specs.Refusals.{bad_network_line, too_large_line}
 use Rattle.wrp_run.specs.Tasks.{Task, Replay, Audit, Emit, Simulate, AsksFor, meaning_at}
-use Rattle.wrp_run.proofs.Feeds.{lines_of-open}
-use Rattle.wrp_run.proofs.Networking.{next_line}
-use Rattle.wrp_run.proofs.Reaching.{lines_behind, next_some}
-use Rattle.wrp_run.proofs.Telling.{DueOf, due_told, answer_told, stands_told}
+use Rattle.wrp_records.proofs.Feeds.{lines_of-open}
+use Rattle.wrp_records.proofs.NextLines.{next_line}
+use Rattle.wrp_records.proofs.Reaching.{lines_behind, next_some}
+use Rattle.wrp_records.proofs.Telling.{DueOf, due_told, answer_told, stands_told}
 
 -- what is due for the records is due for the words and the input
 answer_of : (words : List (List ℕ)) (input : List ℕ) (task : Task) (status : Status) (octets : List ℕ) → AsksFor words (network_text input) task
@@ -85,7 +86,7 @@ pub record TookNetwork (words : List (List ℕ)) (first middle : Option (List �
   pub asks : AsksFor words text task
 
 -- what was taken of the records, and what stands
-pub record TookRecords (M : Meaning) (middle last held now : Option (List ℕ)) (r s : ReaderAt) (status : Status) : Type 0 where
+pub record TookRecords (M : LineMeaning) (middle last held now : Option (List ℕ)) (r s : ReaderAt) (status : Status) : Type 0 where
   pub given : List ℕ
   pub octets : List ℕ
   pub taken : Consumes middle last given

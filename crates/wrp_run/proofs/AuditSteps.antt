@@ -37,17 +37,18 @@ use Rattle.wrp_world.specs.StandsFor.{IsValid, StandsFor, WorldOf}
 use Rattle.wrp_world.specs.Step.{IsRefusal, StaysSo, Stepped, step_seen}
 use Rattle.wrp_course.specs.WorldAt.{WorldAt}
 use Rattle.wrp_run.specs.declared.audit.AuditedNetwork.{AuditedNetwork}
-use Rattle.wrp_run.specs.declared.machine.Refusal.{Refusal}
-use Rattle.wrp_run.specs.declared.machine.Refusal.TheVariants as refusals
-use Rattle.wrp_run.specs.declared.machine.Taken.{Taken}
-use Rattle.wrp_run.specs.declared.machine.Taken.TheVariants as taken
+use Rattle.wrp_records.specs.declared.machine.Refusal.{Refusal}
+use Rattle.wrp_records.specs.declared.machine.Refusal.TheVariants as refusals
+use Rattle.wrp_records.specs.declared.machine.Taken.{Taken}
+use Rattle.wrp_records.specs.declared.machine.Taken.TheVariants as taken
 use Rattle.wrp_run.specs.Audited.{AllHeard, IsAudit, answers_in}
 use Rattle.wrp_run.specs.AuditLaws.{OneAudit}
 use Rattle.wrp_run.specs.Audits.{Breaks}
 use Rattle.wrp_run.specs.AuditStands.{Broke, CanAudit, Happens, HasAudited, HasLawOf, TellsFault, Took, line_by, lines_by, setting_in, task_of}
 use Rattle.wrp_run.specs.AuditText.{all_counts, step_lines}
 use Rattle.wrp_run.specs.DownLaw.{AnswersBy, law_at}
-use Rattle.wrp_run.specs.Refusals.{bad_trace_line, broken_line}
+use Rattle.wrp_run.specs.Refusals.{broken_line}
+use Rattle.wrp_records.specs.Refusals.{bad_trace_line}
 use Rattle.wrp_run.specs.Tasks.{meaning_at}
 use Rattle.wrp_run.proofs.OneAudit.{one_line}
 use Rattle.wrp_run.proofs.PlainEvents.{same_checks, same_said, same_steps, same_world}

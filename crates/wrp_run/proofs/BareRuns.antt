@@ -16,18 +16,18 @@ use Rattle.wrp_course.specs.Premises.{checks_of}
 use Rattle.wrp_course.specs.Run.{AllAccepted, Happened, IsAnswered, world_after}
 use Rattle.wrp_course.specs.Setting.{Setting, node_setting_of}
 use Rattle.wrp_course.specs.WorldAt.{WorldAt}
-use Rattle.wrp_run.specs.declared.machine.Refusal.{Refusal}
-use Rattle.wrp_run.specs.declared.machine.Refusal.TheVariants as refusals
-use Rattle.wrp_run.specs.declared.status.Status.{Status}
-use Rattle.wrp_run.specs.declared.status.Status.TheVariants.{Done, BadTrace, Broken, TooLarge}
+use Rattle.wrp_records.specs.declared.machine.Refusal.{Refusal}
+use Rattle.wrp_records.specs.declared.machine.Refusal.TheVariants as refusals
+use Rattle.wrp_records.specs.declared.status.Status.{Status}
+use Rattle.wrp_records.specs.declared.status.Status.TheVariants.{Done, BadTrace, Broken, TooLarge}
 use Rattle.wrp_run.specs.Audited.{AllHeard, IsAudit, answers_in}
 use Rattle.wrp_run.specs.Audits.{AuditRefuses, audit_of, emission_of}
 use Rattle.wrp_run.specs.AuditText.{all_counts, audit_lines, given_line, given_lines, step_lines}
-use Rattle.wrp_run.specs.Lines.{content_of}
+use Rattle.wrp_records.specs.Lines.{content_of}
 use Rattle.wrp_run.specs.DownLaw.{law_at}
-use Rattle.wrp_run.specs.Meaning.{Meaning}
-use Rattle.wrp_run.specs.RecordsAnswer.{RecordsAnswer}
-use Rattle.wrp_run.specs.Stream.{Handles}
+use Rattle.wrp_records.specs.LineMeaning.{LineMeaning}
+use Rattle.wrp_records.specs.RecordsAnswer.{RecordsAnswer}
+use Rattle.wrp_records.specs.Stream.{Handles}
 use Rattle.wrp_run.proofs.AuditCounts.{counts_bare}
 use Rattle.wrp_run.proofs.BareAudit.{after_bare, bare_setting, checks_bare, nodes_bare, steps_at_bare}
 use Rattle.wrp_run.proofs.BareEvents.{event_bare, line_bare}
@@ -104,16 +104,16 @@ refused_bare s lines line last refusals.Broken h = record {
 -- What is due
 
 -- what is due by one meaning is due by another that it leads to
-pub record Leads (M N : Meaning) : Type 0 where
+pub record Leads (M N : LineMeaning) : Type 0 where
   pub accepts : (lines : List (List ℕ)) (text : List ℕ) → M.accepts lines text → N.accepts lines text
   pub refuses : (lines : List (List ℕ)) (line last : List ℕ) (refusal : Refusal) → M.refuses lines line refusal last → N.refuses lines line refusal last
   pub closes : (lines : List (List ℕ)) (last : List ℕ) → M.closes lines last → N.closes lines last
   pub breaks_off : (lines : List (List ℕ)) (status : Status) (last : List ℕ) → M.breaks_off lines status last → N.breaks_off lines status last
 
-handles_so : (M N : Meaning) → Leads M N → (lines : List (List ℕ)) (text : List ℕ) → Handles M.accepts lines text → Handles N.accepts lines text
+handles_so : (M N : LineMeaning) → Leads M N → (lines : List (List ℕ)) (text : List ℕ) → Handles M.accepts lines text → Handles N.accepts lines text
 handles_so M N leads lines text h = record { sizes = h.sizes; count = h.count; accepted = leads.accepts (map content_of lines) text h.accepted }
 
-pub due_so : (M N : Meaning) → Leads M N → (lines : List (List ℕ)) (status : Status) (octets : List ℕ) → RecordsAnswer M lines status octets → RecordsAnswer N lines status octets
+pub due_so : (M N : LineMeaning) → Leads M N → (lines : List (List ℕ)) (status : Status) (octets : List ℕ) → RecordsAnswer M lines status octets → RecordsAnswer N lines status octets
 due_so M N leads lines Done octets h = record {
   written = h.written;
   last = h.last;

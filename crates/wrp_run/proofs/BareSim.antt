@@ -30,14 +30,14 @@ use Rattle.wrp_course.specs.Run.{Happened, world_after}
 use Rattle.wrp_course.specs.Setting.{Setting, node_setting_of, from_on, link_of}
 use Rattle.wrp_course.specs.Views.{oldest_of}
 use Rattle.wrp_course.specs.WorldAt.{WorldAt, reading}
-use Rattle.wrp_run.specs.declared.machine.Refusal.{Refusal}
-use Rattle.wrp_run.specs.declared.machine.Refusal.TheVariants as refusals
-use Rattle.wrp_run.specs.declared.status.Status.{Status}
-use Rattle.wrp_run.specs.declared.status.Status.TheVariants.{TooLarge, OutOfMemory}
-use Rattle.wrp_run.specs.RecordsAnswer.{RecordsAnswer}
+use Rattle.wrp_records.specs.declared.machine.Refusal.{Refusal}
+use Rattle.wrp_records.specs.declared.machine.Refusal.TheVariants as refusals
+use Rattle.wrp_records.specs.declared.status.Status.{Status}
+use Rattle.wrp_records.specs.declared.status.Status.TheVariants.{TooLarge, OutOfMemory}
+use Rattle.wrp_records.specs.RecordsAnswer.{RecordsAnswer}
 use Rattle.wrp_run.specs.SimText.{count_of, is_printed, node_sum, offsets_in, printed_lines, sim_lines, sum_lines, tracked, worst_of}
 use Rattle.wrp_run.specs.Simulates.{Changes, IsScenario, SimBreaks, SimCloses, SimRefuses, Simulates, simulation_of}
-use Rattle.wrp_run.specs.Stream.{large_line}
+use Rattle.wrp_records.specs.Stream.{large_line}
 use Rattle.wrp_run.proofs.BareAudit.{aboves_bare, after_bare, bare_setting, carriers_bare, ends_bare, entries_bare, link_bare, names_bare, nodes_bare, number_bare, places_bare, rates_bare, steps_at_bare}
 use Rattle.wrp_run.proofs.BareRuns.{answered_bare, due_so}
 use Rattle.wrp_run.proofs.BareScene.{scene_bare, new_scene_bare}

@@ -2,14 +2,14 @@
 -- first octets of what is due for another status.
 use Rattle.std.proofs.Common.{◌≡◌, ◌⊎◌, inl, inr, refl, sym, subst, ℕ, Option, None, Some, IfSome, List, [], ◌++◌}
 use Rattle.std.specs.Io.KnownBytes.{Appends, Consumes}
-use Rattle.wrp_run.specs.declared.status.Status.{Status}
-use Rattle.wrp_run.specs.declared.status.Status.TheVariants.{Done, Usage, BadNetwork, BadTrace, Broken, ReadFault, WriteFault, LinkFault, TooLarge, OutOfMemory}
+use Rattle.wrp_records.specs.declared.status.Status.{Status}
+use Rattle.wrp_records.specs.declared.status.Status.TheVariants.{Done, Usage, BadNetwork, BadTrace, Broken, ReadFault, WriteFault, LinkFault, TooLarge, OutOfMemory}
 use Rattle.wrp_run.specs.Answer.{Answer, AsksNone, CutAnswer, CutTask, FirstAnswer, IsCommand, PartAnswer, TaskAnswer}
 use Rattle.wrp_run.specs.Ends.{Answered, Ends, Run}
 use Rattle.wrp_run.specs.Headline.{Prints, ReachesNone}
 use Rattle.wrp_run.specs.Input.{behind_separator, network_text}
-use Rattle.wrp_run.specs.Lines.{lines_of}
-use Rattle.wrp_run.specs.RecordsAnswer.{StandsFirst}
+use Rattle.wrp_records.specs.Lines.{lines_of}
+use Rattle.wrp_records.specs.RecordsAnswer.{StandsFirst}
 use Rattle.wrp_run.specs.Refusals.{usage_line}
 use Rattle.wrp_run.specs.Tasks.{Task, AsksFor, meaning_at}
 

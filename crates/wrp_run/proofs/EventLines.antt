@@ -17,7 +17,8 @@ use Rattle.wrp_base.specs.Network.{name_at}
 use Rattle.wrp_bounds.specs.Bounds.{path_of}
 use Rattle.wrp_caldb.specs.Name.{is_letter, is_name, is_name_octet}
 use Rattle.wrp_config.specs.Accepted.{HasNames}
-use Rattle.wrp_lines.specs.Lines.{line_of, output_line, output_words, truth_words}
+use Rattle.wrp_lines.specs.Lines.{output_line, output_words, truth_words}
+use Rattle.wrp_records.specs.Words.{line_of}
 use Rattle.wrp_lines.specs.Words.{link_word, servo_word}
 use Rattle.wrp_node.specs.declared.interface.Output.{Output}
 use Rattle.wrp_node.specs.declared.interface.Output.TheVariants.{Send, Step, Dac, Report}
@@ -26,8 +27,8 @@ use Rattle.wrp_course.specs.Given.{NodeStepAt}
 use Rattle.wrp_course.specs.Setting.{Setting}
 use Rattle.wrp_course.specs.WorldAt.{WorldAt}
 use Rattle.wrp_run.specs.EventLines.{IsWord, is_word_octet}
-use Rattle.wrp_run.specs.Lines.{HasNoFeed, IsWhole, lines_of}
-use Rattle.wrp_run.proofs.Feeds.{lines_of-whole, no_feed-append}
+use Rattle.wrp_records.specs.Lines.{HasNoFeed, IsWhole, lines_of}
+use Rattle.wrp_records.proofs.Feeds.{lines_of-whole, no_feed-append}
 
 -- Words
 

@@ -12,15 +12,16 @@ use Rattle.wrp_course.specs.Premises.{Accepts, checks_of}
 use Rattle.wrp_course.specs.Run.{Happened, IsSaid, world_after}
 use Rattle.wrp_course.specs.Setting.{Setting}
 use Rattle.wrp_course.specs.WorldAt.{WorldAt}
-use Rattle.wrp_run.specs.declared.machine.Refusal.{Refusal}
-use Rattle.wrp_run.specs.declared.machine.Refusal.TheVariants as refusals
+use Rattle.wrp_records.specs.declared.machine.Refusal.{Refusal}
+use Rattle.wrp_records.specs.declared.machine.Refusal.TheVariants as refusals
 use Rattle.wrp_run.specs.Audited.{IsAudit}
 use Rattle.wrp_run.specs.AuditLaws.{OneAudit}
 use Rattle.wrp_run.specs.Audits.{AuditRefuses, audit_of, emission_of}
-use Rattle.wrp_run.specs.Refusals.{bad_trace_line, broken_line}
+use Rattle.wrp_run.specs.Refusals.{broken_line}
+use Rattle.wrp_records.specs.Refusals.{bad_trace_line}
 use Rattle.wrp_run.proofs.OneAudit.{read}
 use Rattle.wrp_run.proofs.OneWorld.{before_newest}
-use Rattle.wrp_run.proofs.Unique.{IsExact, ends_once}
+use Rattle.wrp_records.proofs.Unique.{IsExact, ends_once}
 
 -- The newest event of a run
 

@@ -29,16 +29,16 @@ use Rattle.wrp_trace.specs.InputAt.{IsInputAt}
 use Rattle.wrp_trace.specs.Inputs.{read_of}
 use Rattle.wrp_fields.specs.Reading.{IsReading}
 use Rattle.wrp_trace.specs.LineSetting.{LineSetting}
-use Rattle.wrp_run.specs.declared.machine.Refusal.{Refusal}
-use Rattle.wrp_run.specs.declared.machine.Refusal.TheVariants as refusals
-use Rattle.wrp_run.specs.declared.machine.Taken as machine
-use Rattle.wrp_run.specs.declared.machine.Taken.TheVariants.{Refused}
+use Rattle.wrp_records.specs.declared.machine.Refusal.{Refusal}
+use Rattle.wrp_records.specs.declared.machine.Refusal.TheVariants as refusals
+use Rattle.wrp_records.specs.declared.machine.Taken as machine
+use Rattle.wrp_records.specs.declared.machine.Taken.TheVariants.{Refused}
 use Rattle.wrp_run.specs.declared.replay.ReplayedNode.{ReplayedNode}
 use Rattle.wrp_run.specs.declared.replayed.Replayed.{Replayed}
 use Rattle.wrp_run.specs.DownLaw.{AnswersBy, IsLawAt, least_over, greatest_over, law_at, node_setting_at}
 use Rattle.wrp_run.specs.LinkLaw.{IsLawOver}
 use Rattle.wrp_run.specs.NodeText.{Writes, node_counts}
-use Rattle.wrp_run.specs.Refusals.{bad_trace_line}
+use Rattle.wrp_records.specs.Refusals.{bad_trace_line}
 use Rattle.wrp_run.specs.Replays.{AreInputs, Accepts, Closes, Refuses}
 use Rattle.wrp_run.specs.StandsFor.{HasTaken, IsReady, OwnsPorts, Tells, TookInput, line_setting_at}
 use Rattle.wrp_run.proofs.BareSetting.{bare_setting, fixed_bare, law_bare, port_bare, read_bare, set_bare}

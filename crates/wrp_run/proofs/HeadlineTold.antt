@@ -2,17 +2,17 @@
 use Rattle.std.proofs.Common.{◌≡◌, ◌⊎◌, inl, inr, refl, sym, subst, ℕ, Option, None, Some, IfSome, List, [], ◌++◌}
 use Rattle.std.specs.Io.KnownBytes.{Appends}
 use Rattle.wrp_course.specs.Setting.{Setting}
-use Rattle.wrp_run.specs.declared.status.Status.{Status}
-use Rattle.wrp_run.specs.declared.status.Status.TheVariants.{ReadFault, OutOfMemory}
+use Rattle.wrp_records.specs.declared.status.Status.{Status}
+use Rattle.wrp_records.specs.declared.status.Status.TheVariants.{ReadFault, OutOfMemory}
 use Rattle.wrp_run.specs.Answer.{AsksNone, CutTask, TaskAnswer}
 use Rattle.wrp_run.specs.AuditLaws.{OneAudit}
 use Rattle.wrp_run.specs.Audits.{audit_of}
 use Rattle.wrp_run.specs.Ends.{Ends, Run}
 use Rattle.wrp_run.specs.Headline.{EventsCarryParts, Headline, ReachesNone, StepsOf}
 use Rattle.wrp_run.specs.Input.{behind_separator, network_text}
-use Rattle.wrp_run.specs.Lines.{lines_of}
-use Rattle.wrp_run.specs.RecordsAnswer.{RecordsAnswer, StandsFirst}
-use Rattle.wrp_run.specs.Stream.{CutHandled}
+use Rattle.wrp_records.specs.Lines.{lines_of}
+use Rattle.wrp_records.specs.RecordsAnswer.{RecordsAnswer, StandsFirst}
+use Rattle.wrp_records.specs.Stream.{CutHandled}
 use Rattle.wrp_run.specs.Tasks.{Task, Replay, Audit, Emit, Simulate, AsksFor, IsAuditing, meaning_at}
 use Rattle.wrp_run.proofs.DueTold.{IsDueSo, PrintsDue, prints, prints_nothing}
 use Rattle.wrp_run.proofs.EventsTold.{AreTold, audit_means, audit_writes, cut_due, records_due, stand_first}

@@ -14,13 +14,10 @@ pub mod EmitTold
 pub mod EventsTold
 pub mod EventLines
 pub mod ExactAudit
-pub mod Feeds
-pub mod FirstFeed
 pub mod FieldsRead
 pub mod GoingOn
 pub mod HeadlineParts
 pub mod HeadlineTold
-pub mod LineEnds
 pub mod LawsMade
 pub mod LawsNear
 pub mod LineLemmas
@@ -41,13 +38,8 @@ pub mod OneWorld
 pub mod OwnPorts
 pub mod ParsingLemmas
 pub mod PartsCarried
-pub mod Passing
-pub mod Pieces
 pub mod PlainLines
-pub mod PlainTexts
 pub mod PlainEvents
-pub mod Reaching
-pub mod ReaderLemmas
 pub mod Runs
 pub mod SceneLines
 pub mod ScenesFit
@@ -55,8 +47,6 @@ pub mod SimLines
 pub mod SimSteps
 pub mod SimTold
 pub mod TablesNear
-pub mod Telling
 pub mod TrackTold
 pub mod TracksHold
-pub mod Unique
 pub mod WordLemmas

@@ -9,14 +9,15 @@ use Rattle.std.proofs.lemmas.List.{reverse-reverse, nil_from_length}
 use Rattle.std.specs.Io.KnownBytes.{Consumes}
 use Rattle.std.proofs.KnownBytes.{Consumes-nil}
 use Rattle.wrp_sim.proofs.SceneLemmas.{all_more}
-use Rattle.wrp_run.specs.Lines.{lines_of, content_of, without_end, HasNoFeed, IsWhole}
+use Rattle.wrp_records.specs.Lines.{lines_of, content_of, without_end, HasNoFeed, IsWhole}
 use Rattle.wrp_run.specs.Input.{is_separator, before_separator, behind_separator, network_text, network_limit, IsDivided, IsTooLong, IsUndivided, BeginsSeparator, NetworkOutcome}
 use Rattle.wrp_run.specs.declared.network_text.End.{End}
 use Rattle.wrp_run.specs.declared.network_text.End.TheVariants.{Whole, TooLong, Failed, Memory}
-use Rattle.wrp_run.specs.Reader.{ReaderAt, Takes, IsNext, IsCut, IsLast}
-use Rattle.wrp_run.proofs.Feeds.{lines_of-whole, lines_of-open}
-use Rattle.wrp_run.specs.Reached.{Reached}
-use Rattle.wrp_run.proofs.Reaching.{Coming, comes, whole_before, next_some, goes_on_with, lines_behind, concat-snoc}
+use Rattle.wrp_records.specs.Reader.{ReaderAt, Takes, IsNext, IsCut, IsLast}
+use Rattle.wrp_records.proofs.Feeds.{lines_of-whole, lines_of-open}
+use Rattle.wrp_records.specs.Reached.{Reached}
+use Rattle.wrp_records.proofs.NextLines.{next_line, cut_line}
+use Rattle.wrp_records.proofs.Reaching.{Coming, comes, whole_before, next_some, goes_on_with, lines_behind, concat-snoc}
 
 -- the lines are those of a network text so far
 pub record NetworkLines (lines : List (List ℕ)) (text : List ℕ) : Type 0 where
@@ -70,16 +71,6 @@ records_behind (line ∷ lines) behind none =
     let other : is_separator line ≡ false = none.0 in
     simp other (records_behind lines behind none.1)
 
--- the next line, however the input goes on
-pub next_line : (line more : List ℕ) (r : ReaderAt) → IsNext line r → (r.ended ≡ true → more ≡ []) → lines_of (line ++ (r.rest ++ more)) ≡ line ∷ lines_of (r.rest ++ more)
-next_line line more r next goes =
-    elim next [
-      | inl whole ↦ subst (λ (l : List ℕ). lines_of (l ++ (r.rest ++ more)) ≡ l ∷ lines_of (r.rest ++ more)) (sym whole.is) (lines_of-whole whole.front (r.rest ++ more) whole.plain)
-      | inr end ↦
-          let nothing : r.rest ++ more ≡ [] = ap (λ l. l ++ more) end.last.none ∙ goes end.last.ended in
-          ap (λ l. lines_of (line ++ l)) nothing ∙ ap lines_of (append-nil line) ∙ lines_of-open line end.some end.plain ∙ ap (λ l. line ∷ lines_of l) (sym nothing)
-    ]
-
 -- at the separator
 pub divides : (line : List ℕ) (r : ReaderAt) (left rest : Option (List ℕ)) (waiting : List ℕ) (number : ℕ) → (so_far : Coming NetworkLines Anything [] line r left rest None None waiting number)
     → IsNext line r → is_separator line ≡ true → IsDivided so_far.given so_far.text r
@@ -127,21 +118,6 @@ divides_at_end line r left rest waiting number so_far last none =
       ap before_separator are ∙ network_before so_far.lines [] so_far.handled.none ∙ append-nil (concat so_far.lines) ∙ sym so_far.handled.is,
       ap behind_separator are ∙ records_behind so_far.lines [] so_far.handled.none,
     )
-
--- a cut line goes on with the input
-pub cut_line : (cut more : List ℕ) → HasNoFeed cut → 0 < length cut → (tail : List ℕ) × (behind : List (List ℕ)) × (lines_of (cut ++ more) ≡ (cut ++ tail) ∷ behind)
-cut_line [] more plain some = absurd (omega arith)
-cut_line (octet ∷ []) more plain some =
-    let other : (octet == 10) ≡ false = plain.0 in
-    elim (lines_of more) as (λ ls. lines_of more ≡ ls → (tail : List ℕ) × (behind : List (List ℕ)) × (lines_of (octet ∷ more) ≡ (octet ∷ tail) ∷ behind)) [
-      | [] ↦ λ is. ([], [], simp (other, is) refl)
-      | l ∷ ls ↦ λ is. (l, ls, simp (other, is) refl)
-    ] refl
-cut_line (octet ∷ next ∷ cut) more plain some =
-    let other : (octet == 10) ≡ false = plain.0 in
-    let later = cut_line (next ∷ cut) more plain.1 (omega arith) in
-    let is : lines_of ((next ∷ cut) ++ more) ≡ ((next ∷ cut) ++ later.0) ∷ later.1 = later.2 in
-    (later.0, later.1, simp (other, is) refl)
 
 -- octets without an LF that begin a word with its LF begin the word
 begins_word : (cut tail word : List ℕ) → cut ++ tail ≡ word ++ 10 ∷ [] → HasNoFeed cut → StartsWith word cut

@@ -12,19 +12,20 @@ use Rattle.wrp_trace.specs.LineSetting.{LineSetting}
 use Rattle.wrp_course.specs.Setting.{Setting}
 use Rattle.wrp_servo.specs.Told.{ToldLast}
 use Rattle.wrp_run.specs.declared.command_line.Form.TheVariants as forms
-use Rattle.wrp_run.specs.declared.status.Status.{Status}
-use Rattle.wrp_run.specs.declared.status.Status.TheVariants.{Done, Usage, BadNetwork, BadTrace, Broken, ReadFault, WriteFault, LinkFault, TooLarge, OutOfMemory}
+use Rattle.wrp_records.specs.declared.status.Status.{Status}
+use Rattle.wrp_records.specs.declared.status.Status.TheVariants.{Done, Usage, BadNetwork, BadTrace, Broken, ReadFault, WriteFault, LinkFault, TooLarge, OutOfMemory}
 use Rattle.wrp_run.specs.Answer.{Answer, AsksNone, IsCommand, TaskAnswer}
 use Rattle.wrp_run.specs.Audited.{IsSettingOf, setting_at}
 use Rattle.wrp_run.specs.AuditLaws.{OneAudit}
 use Rattle.wrp_run.specs.Audits.{audit_of, emission_of}
 use Rattle.wrp_run.specs.Tasks.{Task, Replay, Audit, Emit, Simulate, AsksFor, IsEmission, IsReplay, meaning_at}
 use Rattle.wrp_run.specs.Ends.{Run, Ends, ReadFailed, WriteFailed, Wrote}
-use Rattle.wrp_run.specs.Statuses.{is_answer}
+use Rattle.wrp_records.specs.Statuses.{is_answer}
 use Rattle.wrp_run.specs.Input.{network_text, behind_separator, network_limit}
-use Rattle.wrp_run.specs.Lines.{lines_of}
-use Rattle.wrp_run.specs.RecordsAnswer.{RecordsAnswer}
-use Rattle.wrp_run.specs.Refusals.{bad_network_line, usage_line, too_large_line}
+use Rattle.wrp_records.specs.Lines.{lines_of}
+use Rattle.wrp_records.specs.RecordsAnswer.{RecordsAnswer}
+use Rattle.wrp_run.specs.Refusals.{usage_line}
+use Rattle.wrp_records.specs.Refusals.{bad_network_line, too_large_line}
 use Rattle.wrp_run.specs.Replays.{IsAccepted, IsRefusedBy, meaning_of}
 use Rattle.wrp_run.specs.Simulates.{simulation_of}
 use Rattle.wrp_run.proofs.Asking.{command_of}
@@ -35,7 +36,7 @@ use Rattle.wrp_run.proofs.BareSetting.{named_bare}
 use Rattle.wrp_run.proofs.ExactAudit.{exact_audit, exact_emission}
 use Rattle.wrp_run.proofs.OneReplay.{exact_replay}
 use Rattle.wrp_run.proofs.OneSim.{exact_simulation}
-use Rattle.wrp_run.proofs.Unique.{one_records_answer}
+use Rattle.wrp_records.proofs.Unique.{one_records_answer}
 use Rattle.wrp_run.proofs.WordLemmas.{audit_alone, emission_alone, no_option, one_seed, one_value, simulation_alone}
 
 -- a setting of these parts

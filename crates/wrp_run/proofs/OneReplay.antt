@@ -10,14 +10,14 @@ use Rattle.wrp_node.specs.NodeRun.{NodeRun, node_after}
 use Rattle.wrp_node.specs.OneRun.{SameInputs, OneRun, OneNode, IsRun, answers_by}
 use Rattle.wrp_trace.specs.Inputs.{read_of}
 use Rattle.wrp_trace.specs.LineSetting.{LineSetting, has_port}
-use Rattle.wrp_run.specs.declared.machine.Refusal.{Refusal}
-use Rattle.wrp_run.specs.declared.machine.Refusal.TheVariants as refusals
+use Rattle.wrp_records.specs.declared.machine.Refusal.{Refusal}
+use Rattle.wrp_records.specs.declared.machine.Refusal.TheVariants as refusals
 use Rattle.wrp_run.specs.DownLaw.{law_at, node_setting_at}
 use Rattle.wrp_run.specs.NodeText.{Writes, output_lines, port_counts, port_numbers, node_counts}
-use Rattle.wrp_run.specs.Refusals.{bad_trace_line}
+use Rattle.wrp_records.specs.Refusals.{bad_trace_line}
 use Rattle.wrp_run.specs.Replays.{AreInputs, Accepts, Refuses, Closes, meaning_of}
 use Rattle.wrp_run.proofs.BareSetting.{flat_map_same}
-use Rattle.wrp_run.proofs.Unique.{IsExact, ends_once}
+use Rattle.wrp_records.proofs.Unique.{IsExact, ends_once}
 
 -- an input as it is read
 abbrev ok : Taken → Result Input TraceFault

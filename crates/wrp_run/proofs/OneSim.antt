@@ -23,18 +23,18 @@ use Rattle.wrp_course.specs.Run.{AllSaid, Happened, IsAnswered, steps_at, world_
 use Rattle.wrp_course.specs.Setting.{Setting, node_setting_of, links_of, nodes_of}
 use Rattle.wrp_course.specs.Views.{IsNextArrival, IsNoSooner}
 use Rattle.wrp_course.specs.WorldAt.{WorldAt}
-use Rattle.wrp_run.specs.declared.machine.Refusal.{Refusal}
-use Rattle.wrp_run.specs.declared.machine.Refusal.TheVariants as refusals
-use Rattle.wrp_run.specs.declared.status.Status.{Status}
-use Rattle.wrp_run.specs.declared.status.Status.TheVariants.{Done, TooLarge}
+use Rattle.wrp_records.specs.declared.machine.Refusal.{Refusal}
+use Rattle.wrp_records.specs.declared.machine.Refusal.TheVariants as refusals
+use Rattle.wrp_records.specs.declared.status.Status.{Status}
+use Rattle.wrp_records.specs.declared.status.Status.TheVariants.{Done, TooLarge}
 use Rattle.wrp_run.specs.Audited.{answers_in}
-use Rattle.wrp_run.specs.Refusals.{bad_trace_line}
+use Rattle.wrp_records.specs.Refusals.{bad_trace_line}
 use Rattle.wrp_run.specs.SimText.{count_of, node_sum, offsets_in, printed_lines, sim_lines, sum_by, sum_lines, tracked, worst_of}
 use Rattle.wrp_run.specs.Simulates.{Changes, IsOver, IsSimulated, Overruns, SimAccepts, SimRefuses, Simulates, simulation_of}
-use Rattle.wrp_run.specs.Stream.{large_line}
+use Rattle.wrp_records.specs.Stream.{large_line}
 use Rattle.wrp_run.proofs.BareSetting.{flat_map_same}
 use Rattle.wrp_run.proofs.OneWorld.{Alike, SameEvents, alike_after, before_newest, locked_same, state_same, steps_after, with_all}
-use Rattle.wrp_run.proofs.Unique.{EndsWith, IsExact}
+use Rattle.wrp_records.proofs.Unique.{EndsWith, IsExact}
 
 -- The frame that is due first
 

@@ -15,7 +15,7 @@ use Rattle.wrp_trace.proofs.ReadingLemmas.{is_reading}
 use Rattle.wrp_trace.specs.LineSetting.{LineSetting}
 use Rattle.wrp_trace.specs.Events.{event_of, event_read}
 use Rattle.wrp_course.specs.declared.event.Event.{Event}
-use Rattle.wrp_run.specs.Split.{HasParts}
+use Rattle.wrp_records.specs.Split.{HasParts}
 
 -- and no other line does
 pub other_fails : (line : List ℕ) → (IsLine line → ⊥) → is_plain line ≡ false

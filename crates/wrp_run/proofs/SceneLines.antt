@@ -15,7 +15,7 @@ use Rattle.wrp_run.specs.declared.scenario.ScenarioLines.{ScenarioLines}
 use Rattle.wrp_run.specs.AuditStands.{setting_in}
 use Rattle.wrp_run.specs.SimStands.{SaysScenario}
 use Rattle.wrp_run.specs.Simulates.{Changes, IsScenario, SimAccepts}
-use Rattle.wrp_run.specs.Split.{HasParts}
+use Rattle.wrp_records.specs.Split.{HasParts}
 use Rattle.wrp_run.proofs.OneSim.{joined}
 use Rattle.wrp_run.proofs.PlainLines.{other_fails}
 

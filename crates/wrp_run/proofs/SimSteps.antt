@@ -29,23 +29,23 @@ use Rattle.wrp_course.specs.WorldAt.{WorldAt, new_world}
 use Rattle.wrp_sim.proofs.Turns.{no_rule}
 use Rattle.wrp_run.specs.declared.simulation.Course.{Course}
 use Rattle.wrp_run.specs.declared.simulation.SimulatedNetwork.{SimulatedNetwork}
-use Rattle.wrp_run.specs.declared.status.Status.{Status}
-use Rattle.wrp_run.specs.declared.status.Status.TheVariants.{Done, WriteFault, TooLarge, OutOfMemory}
+use Rattle.wrp_records.specs.declared.status.Status.{Status}
+use Rattle.wrp_records.specs.declared.status.Status.TheVariants.{Done, WriteFault, TooLarge, OutOfMemory}
 use Rattle.wrp_run.specs.declared.worlds.Work.{Work}
 use Rattle.wrp_run.specs.declared.worlds.Work.TheVariants as works
-use Rattle.wrp_run.specs.After.{Closed}
+use Rattle.wrp_records.specs.LinesAfter.{Closed}
 use Rattle.wrp_run.specs.Asked.{task_by}
 use Rattle.wrp_run.specs.Audited.{answers_in}
 use Rattle.wrp_run.specs.AuditStands.{setting_in}
-use Rattle.wrp_run.specs.Engine.{Finishes}
+use Rattle.wrp_records.specs.Engine.{Finishes}
 use Rattle.wrp_run.specs.SimStands.{AreTotals, Begins, CanHappen, CanRun, ClosesLarge, ClosesRun, FitsCourse, HasRun, Running, RunsOn}
 use Rattle.wrp_run.specs.SimText.{offsets_in, printed_lines, sum_lines, tracked}
 use Rattle.wrp_run.specs.Simulates.{IsScenario, event_limit, simulation_of}
-use Rattle.wrp_run.specs.Stream.{large_line}
-use Rattle.wrp_run.specs.Taking.{AppendsPart}
+use Rattle.wrp_records.specs.Stream.{large_line}
+use Rattle.wrp_records.specs.Taking.{AppendsPart}
 use Rattle.wrp_run.specs.Tasks.{meaning_at}
 use Rattle.wrp_run.proofs.AuditSteps.{answered, made_after, nothing_accepted}
-use Rattle.wrp_run.proofs.Reaching.{take_two}
+use Rattle.wrp_records.proofs.Reaching.{take_two}
 
 -- behind no record lines nothing is written
 pub nothing_done : (work : Work) (s : Setting) → (meaning_at (task_by work s)).accepts [] []

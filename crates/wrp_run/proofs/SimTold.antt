@@ -3,19 +3,19 @@ use Rattle.std.proofs.Common.{◌≡◌, ◌⊎◌, inl, inr, ◌∙◌, refl, a
 use Rattle.std.specs.Io.KnownBytes.{Appends}
 use Rattle.wrp_course.specs.Setting.{Setting}
 use Rattle.wrp_run.specs.declared.command_line.Form.TheVariants as forms
-use Rattle.wrp_run.specs.declared.machine.Refusal.TheVariants as refusals
-use Rattle.wrp_run.specs.declared.status.Status.{Status}
-use Rattle.wrp_run.specs.declared.status.Status.TheVariants.{Done, BadTrace, Broken, ReadFault, TooLarge, OutOfMemory}
+use Rattle.wrp_records.specs.declared.machine.Refusal.TheVariants as refusals
+use Rattle.wrp_records.specs.declared.status.Status.{Status}
+use Rattle.wrp_records.specs.declared.status.Status.TheVariants.{Done, BadTrace, Broken, ReadFault, TooLarge, OutOfMemory}
 use Rattle.wrp_run.specs.Answer.{AsksNone, CutTask, TaskAnswer}
 use Rattle.wrp_run.specs.Ends.{Ends, Run}
 use Rattle.wrp_run.specs.Headline.{ReachesNone}
 use Rattle.wrp_run.specs.Input.{behind_separator, network_text}
-use Rattle.wrp_run.specs.Lines.{content_of, lines_of}
-use Rattle.wrp_run.specs.RecordsAnswer.{BreaksOff, IsLarge, IsRefused, IsWholly, RecordsAnswer, StandsFirst}
+use Rattle.wrp_records.specs.Lines.{content_of, lines_of}
+use Rattle.wrp_records.specs.RecordsAnswer.{BreaksOff, IsLarge, IsRefused, IsWholly, RecordsAnswer, StandsFirst}
 use Rattle.wrp_run.specs.SimHeadline.{LacksScenario, Made, MadeEventsCarryParts, RunOf, SimHeadline}
 use Rattle.wrp_run.specs.SimText.{sim_lines, sum_lines}
 use Rattle.wrp_run.specs.Simulates.{SimRefuses, Simulates, simulation_of}
-use Rattle.wrp_run.specs.Stream.{CutHandled, large_line}
+use Rattle.wrp_records.specs.Stream.{CutHandled, large_line}
 use Rattle.wrp_run.specs.Tasks.{Task, Replay, Audit, Emit, Simulate, AsksFor, IsSimulation, meaning_at}
 use Rattle.wrp_run.proofs.DueTold.{IsDueSo, PrintsDue, prints, prints_nothing}
 use Rattle.wrp_run.proofs.WordLemmas.{no_simulation, simulation_alone}

@@ -6,7 +6,8 @@ use Rattle.wrp_base.proofs.Lists.{all_weaker}
 use Rattle.wrp_base.specs.Network.{name_at}
 use Rattle.wrp_bounds.specs.Bounds.{path_of}
 use Rattle.wrp_config.specs.Accepted.{HasNames}
-use Rattle.wrp_lines.specs.Lines.{line_of, output_words}
+use Rattle.wrp_lines.specs.Lines.{output_words}
+use Rattle.wrp_records.specs.Words.{line_of}
 use Rattle.wrp_node.specs.declared.interface.Output.{Output}
 use Rattle.wrp_node.specs.declared.interface.Output.TheVariants.{Send, Step, Dac, Report}
 use Rattle.wrp_node.specs.declared.interface.Report.TheVariants.{Link, Servo, Track}
@@ -15,7 +16,7 @@ use Rattle.wrp_course.specs.Given.{NodeStepAt}
 use Rattle.wrp_course.specs.Setting.{Setting}
 use Rattle.wrp_course.specs.WorldAt.{WorldAt}
 use Rattle.wrp_run.specs.EventLines.{IsWord}
-use Rattle.wrp_run.specs.Lines.{lines_of}
+use Rattle.wrp_records.specs.Lines.{lines_of}
 use Rattle.wrp_run.specs.TrackLines.{IsTrueLine}
 use Rattle.wrp_run.proofs.EventLines.{SameWord, at_word, behind_two, decimal_word, first_word, head_of, line_at, lines_by, rest_of, signed_word, steps_lines}
 

@@ -1,29 +1,38 @@
--- What is due for the words of the command line and the octets of the input: one status and the
--- octets that are written (this project's profile). The first refusal decides: the form of the words,
--- the size of the network text, the network, the node's name, and then the records, one by one.
+-- What is due for the words of the command line, the octets of the input and the calls of a link that the run
+-- made, as they were answered: one status and the octets that are written (this project's profile). The first
+-- refusal decides: the form of the words, the size of the network text, the network, the node's name, and then
+-- the records, one by one. A command that stands alone has its own records and refusals.
 use Rattle.std.specs.Prelude.{◌≡◌, ◌⊎◌, ℕ, ◌<◌, ◌≤◌, None, Ok, List, [], ◌++◌, length, take}
 use Rattle.wrp_config.specs.declared.network.Network.{Network}
 use Rattle.wrp_config.specs.Names.{node_named}
 use Rattle.wrp_config.specs.Reading.{IsReadingOf}
-use Rattle.wrp_run.specs.declared.status.Status.{Status}
-use Rattle.wrp_run.specs.declared.status.Status.TheVariants.{Usage, BadNetwork, TooLarge}
+use Rattle.wrp_io.specs.declared.link.LinkCall.{LinkCall}
+use Rattle.wrp_records.specs.declared.status.Status.{Status}
+use Rattle.wrp_records.specs.declared.status.Status.TheVariants.{Usage, BadNetwork, TooLarge}
+use Rattle.wrp_records.specs.Lines.{lines_of}
+use Rattle.wrp_records.specs.RecordsAnswer.{RecordsAnswer, StandsFirst}
+use Rattle.wrp_records.specs.Refusals.{too_large_line}
+use Rattle.wrp_records.specs.Stream.{CutHandled}
+use Rattle.wrp_run.specs.declared.command_line.Alone.{Alone}
+use Rattle.wrp_run.specs.Alone.{IsAlone, alone_meaning}
 use Rattle.wrp_run.specs.Input.{network_text, behind_separator, network_limit, Divides, IsUndivided}
-use Rattle.wrp_run.specs.Lines.{lines_of}
-use Rattle.wrp_run.specs.RecordsAnswer.{RecordsAnswer, StandsFirst}
+use Rattle.wrp_run.specs.Refusals.{usage_line}
 use Rattle.wrp_run.specs.Replays.{IsRefusedBy}
-use Rattle.wrp_run.specs.Stream.{CutHandled}
-use Rattle.wrp_run.specs.Refusals.{usage_line, too_large_line}
 use Rattle.wrp_run.specs.Tasks.{Task, AsksFor, IsAuditing, IsEmission, IsReplay, IsSimulation, meaning_at}
 
 -- the words ask for what needs a node of this name
 abbrev pub IsOfNode : List (List ℕ) → List ℕ → Type 0
 IsOfNode words name = IsReplay words name ⊎ IsEmission words name
 
--- the words are a command that is built
-abbrev pub IsCommand : List (List ℕ) → Type 0
-IsCommand words =
+-- the words are a command with a network text in front of its records, of those that are built
+abbrev pub IsNetworked : List (List ℕ) → Type 0
+IsNetworked words =
     IsAuditing words
     ⊎ (((name : List ℕ) × IsOfNode words name) ⊎ ((seed : ℕ) × IsSimulation words seed))
+
+-- the words are a command that is built
+abbrev pub IsCommand : List (List ℕ) → Type 0
+IsCommand words = IsNetworked words ⊎ ((alone : Alone) × IsAlone words alone)
 
 -- the words ask for what needs a node, and the network that this text describes has none of that name
 pub record AsksNone (words : List (List ℕ)) (text : List ℕ) : Type 0 where
@@ -34,37 +43,52 @@ pub record AsksNone (words : List (List ℕ)) (text : List ℕ) : Type 0 where
   pub reads : IsReadingOf text (Ok net)
   pub none : node_named net.cfg name ≡ None
 
--- what is due where the words ask for a task, and its node is found
-abbrev pub TaskAnswer : List (List ℕ) → List ℕ → Status → List ℕ → Type 0
-TaskAnswer words input status octets =
+-- what is due where the words ask for a task on a network, and its node is found; no task calls a link
+abbrev pub TaskAnswer : List (List ℕ) → List ℕ → List LinkCall → Status → List ℕ → Type 0
+TaskAnswer words input calls status octets =
     (task : Task) × AsksFor words (network_text input) task
     × RecordsAnswer (meaning_at task) (behind_separator (lines_of input)) status octets
+    × (calls ≡ [])
 
--- what is due for words and an input
-abbrev pub Answer : List (List ℕ) → List ℕ → Status → List ℕ → Type 0
-Answer words input Usage octets =
+-- what is due where the words ask for a command that stands alone
+abbrev pub AloneAnswer : List (List ℕ) → List ℕ → List LinkCall → Status → List ℕ → Type 0
+AloneAnswer words input calls status octets =
+    (alone : Alone) × IsAlone words alone × (alone_meaning alone).answers input calls status octets
+
+-- what is due where no refusal stands in front of the records
+abbrev pub RecordsDue : List (List ℕ) → List ℕ → List LinkCall → Status → List ℕ → Type 0
+RecordsDue words input calls status octets =
+    TaskAnswer words input calls status octets ⊎ AloneAnswer words input calls status octets
+
+-- what is due for words, an input and the calls of a link
+abbrev pub Answer : List (List ℕ) → List ℕ → List LinkCall → Status → List ℕ → Type 0
+Answer words input calls Usage octets =
     ((IsCommand words → ⊥) ⊎ AsksNone words (network_text input)) × (octets ≡ usage_line)
-Answer words input BadNetwork octets =
-    IsCommand words × (length (network_text input) ≤ network_limit)
-    × IsRefusedBy (network_text input) octets
-Answer words input TooLarge octets =
-    (IsCommand words × (network_limit < length (network_text input)) × (octets ≡ too_large_line))
-    ⊎ TaskAnswer words input TooLarge octets
-Answer words input status octets = TaskAnswer words input status octets
+    × (calls ≡ [])
+Answer words input calls BadNetwork octets =
+    (IsNetworked words × (length (network_text input) ≤ network_limit)
+    × IsRefusedBy (network_text input) octets × (calls ≡ []))
+    ⊎ AloneAnswer words input calls BadNetwork octets
+Answer words input calls TooLarge octets =
+    (IsNetworked words × (network_limit < length (network_text input)) × (octets ≡ too_large_line)
+    × (calls ≡ []))
+    ⊎ RecordsDue words input calls TooLarge octets
+Answer words input calls status octets = RecordsDue words input calls status octets
 
 -- the lines of the first records of an input, or of the first events of a simulation; none, where the
 -- records were not reached
-abbrev pub FirstAnswer : List (List ℕ) → List ℕ → List ℕ → Type 0
-FirstAnswer words input octets =
-    (octets ≡ [])
-    ⊎ ((task : Task) × AsksFor words (network_text input) task
-    × StandsFirst (meaning_at task) (behind_separator (lines_of input)) octets)
+abbrev pub FirstAnswer : List (List ℕ) → List ℕ → List LinkCall → List ℕ → Type 0
+FirstAnswer words input calls octets =
+    ((octets ≡ []) × (calls ≡ []))
+    ⊎ (((task : Task) × AsksFor words (network_text input) task
+    × StandsFirst (meaning_at task) (behind_separator (lines_of input)) octets × (calls ≡ []))
+    ⊎ ((alone : Alone) × IsAlone words alone × (alone_meaning alone).first input calls octets))
 
 -- the first octets of an answer, or of the lines of the first records
-abbrev pub PartAnswer : List (List ℕ) → List ℕ → List ℕ → Type 0
-PartAnswer words input octets =
+abbrev pub PartAnswer : List (List ℕ) → List ℕ → List LinkCall → List ℕ → Type 0
+PartAnswer words input calls octets =
     (due : List ℕ) × (count : ℕ) × (octets ≡ take count due)
-    × (((status : Status) × Answer words input status due) ⊎ FirstAnswer words input due)
+    × (((status : Status) × Answer words input calls status due) ⊎ FirstAnswer words input calls due)
 
 -- the `---` line came, and of the octets behind it the lines that are whole are handled
 pub record CutTask (words : List (List ℕ)) (taken octets : List ℕ) : Type 0 where
@@ -80,4 +104,5 @@ pub record CutTask (words : List (List ℕ)) (taken octets : List ℕ) : Type 0 
 -- what stands where the source failed behind these octets: no refusal stands in them
 abbrev pub CutAnswer : List (List ℕ) → List ℕ → List ℕ → Type 0
 CutAnswer words taken octets =
-    IsCommand words × ((IsUndivided taken × (octets ≡ [])) ⊎ CutTask words taken octets)
+    (IsNetworked words × ((IsUndivided taken × (octets ≡ [])) ⊎ CutTask words taken octets))
+    ⊎ ((alone : Alone) × IsAlone words alone × (alone_meaning alone).cut taken octets)

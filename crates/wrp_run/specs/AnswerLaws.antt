@@ -1,6 +1,6 @@
 -- What holds of every answer (this project's profile).
 use Rattle.std.specs.Prelude.{◌≡◌, ℕ, List}
-use Rattle.wrp_run.specs.declared.status.Status.{Status}
+use Rattle.wrp_records.specs.declared.status.Status.{Status}
 use Rattle.wrp_run.specs.Answer.{Answer}
 
 -- for words and an input one status and one text are due

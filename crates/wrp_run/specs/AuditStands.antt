@@ -20,13 +20,14 @@ use Rattle.wrp_world.specs.StandsFor.{IsValid, StandsFor, WorldOf}
 use Rattle.wrp_course.specs.WorldAt.{WorldAt}
 use Rattle.wrp_trace.specs.LineSetting.{line_setting_in}
 use Rattle.wrp_run.specs.declared.audit.AuditedNetwork.{AuditedNetwork}
-use Rattle.wrp_run.specs.declared.machine.Refusal.TheVariants as refusal
-use Rattle.wrp_run.specs.declared.machine.Taken.{Taken}
-use Rattle.wrp_run.specs.declared.machine.Taken.TheVariants as taken
+use Rattle.wrp_records.specs.declared.machine.Refusal.TheVariants as refusal
+use Rattle.wrp_records.specs.declared.machine.Taken.{Taken}
+use Rattle.wrp_records.specs.declared.machine.Taken.TheVariants as taken
 use Rattle.wrp_run.specs.Audited.{IsAudit, setting_at}
 use Rattle.wrp_run.specs.AuditText.{audit_lines, given_line, given_lines, step_lines}
 use Rattle.wrp_run.specs.DownLaw.{AnswersBy, law_at}
-use Rattle.wrp_run.specs.Refusals.{bad_trace_line, broken_line}
+use Rattle.wrp_run.specs.Refusals.{broken_line}
+use Rattle.wrp_records.specs.Refusals.{bad_trace_line}
 use Rattle.wrp_run.specs.Tasks.{Task, Audit, Emit}
 
 -- the setting of a network

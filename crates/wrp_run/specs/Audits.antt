@@ -11,12 +11,13 @@ use Rattle.wrp_course.specs.declared.event.Event.{Event}
 use Rattle.wrp_course.specs.Premises.{checks_of}
 use Rattle.wrp_course.specs.Run.{Happened, IsSaid, world_after}
 use Rattle.wrp_course.specs.Setting.{Setting}
-use Rattle.wrp_run.specs.declared.machine.Refusal.{Refusal}
-use Rattle.wrp_run.specs.declared.machine.Refusal.TheVariants.{BadTrace, Broken}
+use Rattle.wrp_records.specs.declared.machine.Refusal.{Refusal}
+use Rattle.wrp_records.specs.declared.machine.Refusal.TheVariants.{BadTrace, Broken}
 use Rattle.wrp_run.specs.Audited.{IsAudit}
 use Rattle.wrp_run.specs.AuditText.{audit_lines, all_counts, given_lines}
-use Rattle.wrp_run.specs.Meaning.{Meaning, never}
-use Rattle.wrp_run.specs.Refusals.{bad_trace_line, broken_line}
+use Rattle.wrp_records.specs.LineMeaning.{LineMeaning, bars_none, meaning_by}
+use Rattle.wrp_run.specs.Refusals.{broken_line}
+use Rattle.wrp_records.specs.Refusals.{bad_trace_line}
 
 -- the lines are events that kept all premises, and this is what an audit writes of them
 abbrev pub Audits : Setting → List (List ℕ) → List ℕ → Type 0
@@ -58,18 +59,8 @@ abbrev pub EmitCloses : List (List ℕ) → List ℕ → Type 0
 EmitCloses lines last = last ≡ []
 
 -- what the record lines of an audit mean, and what those of the inputs of a node
-abbrev pub audit_of : Setting → Meaning
-audit_of s = record {
-  accepts = Audits s;
-  refuses = AuditRefuses s;
-  closes = AuditCloses s;
-  breaks_off = never;
-}
+abbrev pub audit_of : Setting → LineMeaning
+audit_of s = meaning_by (Audits s) (AuditRefuses s) (AuditCloses s) bars_none
 
-abbrev pub emission_of : Setting → ℕ → Meaning
-emission_of s n = record {
-  accepts = Emits s n;
-  refuses = AuditRefuses s;
-  closes = EmitCloses;
-  breaks_off = never;
-}
+abbrev pub emission_of : Setting → ℕ → LineMeaning
+emission_of s n = meaning_by (Emits s n) (AuditRefuses s) EmitCloses bars_none

@@ -4,8 +4,8 @@
 use Rattle.std.specs.Prelude.{◌≡◌, ◌⊎◌, ℕ, List, [], ◌++◌}
 use Rattle.wrp_course.specs.Run.{Happened}
 use Rattle.wrp_course.specs.Setting.{Setting}
-use Rattle.wrp_run.specs.declared.status.Status.{Status}
-use Rattle.wrp_run.specs.declared.status.Status.TheVariants.{Usage}
+use Rattle.wrp_records.specs.declared.status.Status.{Status}
+use Rattle.wrp_records.specs.declared.status.Status.TheVariants.{Usage}
 use Rattle.wrp_run.specs.Answer.{AsksNone}
 use Rattle.wrp_run.specs.AuditText.{event_lines, given_lines}
 use Rattle.wrp_run.specs.Headline.{Came, CarriesParts, EndsEvents, Prints, ReachesNone}

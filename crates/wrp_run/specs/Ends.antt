@@ -1,56 +1,55 @@
 -- How a run ends, for each status: what is then written, and what was taken (this project's profile).
-use Rattle.std.specs.Prelude.{◌≡◌, ◌⊎◌, ℕ, ◌≤◌, Option, Some, IfSome, List, [], ◌++◌, length}
+use Rattle.std.specs.Prelude.{◌≡◌, ◌⊎◌, ℕ, ◌≤◌, Option, None, Some, IfSome, List, [], ◌++◌, length, option_map}
 use Rattle.std.specs.Io.KnownBytes.{Appends, Consumes, IsAtEnd}
-use Rattle.wrp_io.specs.Faults.{Rose}
-use Rattle.wrp_run.specs.declared.machine.Refusal.{Refusal}
-use Rattle.wrp_run.specs.declared.machine.Refusal.TheVariants as refusals
-use Rattle.wrp_run.specs.declared.status.Status.{Status}
-use Rattle.wrp_run.specs.declared.status.Status.TheVariants.{Done, Usage, BadTrace, Broken, ReadFault, WriteFault, LinkFault, OutOfMemory}
-use Rattle.wrp_run.specs.Answer.{IsCommand, AsksNone, Answer, FirstAnswer, PartAnswer, CutAnswer}
+use Rattle.wrp_io.specs.declared.link.LinkCall.{LinkCall}
+use Rattle.wrp_records.specs.declared.machine.Refusal.{Refusal}
+use Rattle.wrp_records.specs.declared.machine.Refusal.TheVariants as refusals
+use Rattle.wrp_records.specs.declared.status.Status.{Status}
+use Rattle.wrp_records.specs.declared.status.Status.TheVariants.{Done, Usage, BadTrace, Broken, ReadFault, WriteFault, LinkFault, OutOfMemory, BadCapture, BadCalib}
+use Rattle.wrp_records.specs.Lines.{lines_of}
+use Rattle.wrp_records.specs.Passages.{Failed, Passage}
+use Rattle.wrp_records.specs.Reader.{piece_limit}
+use Rattle.wrp_records.specs.RecordsAnswer.{IsRefused}
+use Rattle.wrp_run.specs.declared.command_line.Alone.{Alone}
+use Rattle.wrp_run.specs.Alone.{IsAlone, alone_meaning}
+use Rattle.wrp_run.specs.Answer.{IsCommand, IsOfNode, AsksNone, Answer, FirstAnswer, PartAnswer, CutAnswer}
 use Rattle.wrp_run.specs.Input.{network_text, behind_separator}
-use Rattle.wrp_run.specs.Lines.{lines_of}
-use Rattle.wrp_run.specs.Reader.{piece_limit}
-use Rattle.wrp_run.specs.RecordsAnswer.{IsRefused}
 use Rattle.wrp_run.specs.Refusals.{usage_line}
 use Rattle.wrp_run.specs.Tasks.{Task, AsksFor, IsAuditing, IsEmission, meaning_at}
 
--- what a run was given and what it left: the words; what the source has, before and after; what the
--- sink holds, before and after; and how often each of both had failed, before and after. What a source
--- or a sink does not tell is None
+-- what a run was given and what passed in it between it and the outside: the words; what the source has left;
+-- what the sink holds; the calls of the link; and how often each of the three had failed, before and after
 pub record Run : Type 0 where
   pub words : List (List ℕ)
-  pub input : Option (List ℕ)
-  pub left : Option (List ℕ)
-  pub held : Option (List ℕ)
-  pub now : Option (List ℕ)
-  pub read_faults : ℕ
-  pub read_faults_now : ℕ
-  pub write_faults : ℕ
-  pub write_faults_now : ℕ
+  pub source : Passage (List ℕ)
+  pub sink : Passage (List ℕ)
+  pub link : Passage (List LinkCall)
 
 -- the run wrote these octets
 abbrev pub Wrote : Run → List ℕ → Type 0
-Wrote run octets = Appends run.held run.now octets
+Wrote run octets = Appends run.sink.before run.sink.now octets
 
 -- the run took these octets
 abbrev pub Took : Run → List ℕ → Type 0
-Took run octets = Consumes run.input run.left octets
+Took run octets = Consumes run.source.before run.source.now octets
 
--- the source failed in this run
-abbrev pub ReadFailed : Run → Type 0
-ReadFailed run = Rose run.read_faults run.read_faults_now
+-- the run added these calls, as they were answered, to those that the link tells
+abbrev pub Called : Run → List LinkCall → Type 0
+Called run calls = run.link.now ≡ option_map (λ told. told ++ calls) run.link.before
 
--- the sink failed in this run
-abbrev pub WriteFailed : Run → Type 0
-WriteFailed run = Rose run.write_faults run.write_faults_now
+-- these calls decide what is due: those that the run added, where the link tells them; or it made none
+abbrev pub IsToldOf : Run → List LinkCall → Type 0
+IsToldOf run calls =
+    (calls ≡ [])
+    ⊎ ((told : List LinkCall) × (run.link.before ≡ Some told) × (run.link.now ≡ Some (told ++ calls)))
 
 -- the words are a command, and what is due for this status was written
 abbrev pub Answered : Run → Status → Type 0
 Answered run status =
-    IsCommand run.words × (octets : List ℕ) × Wrote run octets
-    × IfSome run.input (λ input. Answer run.words input status octets)
+    IsCommand run.words × (octets : List ℕ) × (calls : List LinkCall) × Wrote run octets × Called run calls
+    × IfSome run.source.before (λ input. Answer run.words input calls status octets)
 
--- the line of a refused record ends these octets
+-- behind a network text the line of a refused record ends these octets
 pub record EndsRefused (words : List (List ℕ)) (front : List ℕ) (refusal : Refusal) : Type 0 where
   pub task : Task
   pub octets : List ℕ
@@ -58,16 +57,28 @@ pub record EndsRefused (words : List (List ℕ)) (front : List ℕ) (refusal : R
   pub refused : IsRefused (meaning_at task) refusal (behind_separator (lines_of front)) octets
   pub last : refused.behind ≡ []
 
--- of an input the octets up to the end of a refused record's line were taken, and at most one piece
--- behind them
-pub record TakesPiece (run : Run) (refusal : Refusal) (input : List ℕ) : Type 0 where
+-- a refused record of a command that stands alone ends these octets
+abbrev pub EndsRefusedAlone : List (List ℕ) → List ℕ → Status → Type 0
+EndsRefusedAlone words front status =
+    (alone : Alone) × IsAlone words alone × (alone_meaning alone).refused status front
+
+-- a record that is refused with this status ends these octets
+abbrev pub EndsRefusedAs : List (List ℕ) → List ℕ → Status → Type 0
+EndsRefusedAs words front BadTrace =
+    EndsRefused words front refusals.BadTrace ⊎ EndsRefusedAlone words front BadTrace
+EndsRefusedAs words front Broken =
+    EndsRefused words front refusals.Broken ⊎ EndsRefusedAlone words front Broken
+EndsRefusedAs words front status = EndsRefusedAlone words front status
+
+-- of an input the octets up to the end of a refused record were taken, and at most one piece behind them
+pub record TakesPiece (run : Run) (status : Status) (input : List ℕ) : Type 0 where
   pub front : List ℕ
   pub past : List ℕ
   pub left : List ℕ
   pub all : input ≡ front ++ (past ++ left)
-  pub now : run.left ≡ Some left
+  pub now : run.source.now ≡ Some left
   pub piece : length past ≤ piece_limit
-  pub refused : EndsRefused run.words front refusal
+  pub refused : EndsRefusedAs run.words front status
 
 -- the words ask for an audit, or for the inputs of a node in one
 abbrev pub AsksEvents : List (List ℕ) → Type 0
@@ -76,32 +87,36 @@ AsksEvents words = IsAuditing words ⊎ ((name : List ℕ) × IsEmission words n
 -- how a run ends
 abbrev pub Ends : Run → Status → Type 0
 -- the input was read to its end, and what is due is written
-Ends run Done = Answered run Done × IsAtEnd run.left
--- the usage line stands alone; the words show it, or no node of the network has the name
+Ends run Done = Answered run Done × IsAtEnd run.source.now
+-- the usage line stands alone: the words are no command, or they name a node and no node of the network has the name
 Ends run Usage =
     Wrote run usage_line
     × ((IsCommand run.words → ⊥)
-    ⊎ (IsCommand run.words × IfSome run.input (λ input. AsksNone run.words (network_text input))))
+    ⊎ (((name : List ℕ) × IsOfNode run.words name)
+    × IfSome run.source.before (λ input. AsksNone run.words (network_text input))))
+    × Called run []
 -- a record is refused: at most one piece behind its line was taken
 Ends run BadTrace =
-    Answered run BadTrace × IfSome run.input (TakesPiece run refusals.BadTrace)
+    Answered run BadTrace × IfSome run.source.before (TakesPiece run BadTrace)
 -- a record breaks a premise: the same, and only where events are audited
 Ends run Broken =
-    Answered run Broken × IfSome run.input (TakesPiece run refusals.Broken) × AsksEvents run.words
+    Answered run Broken × IfSome run.source.before (TakesPiece run Broken) × AsksEvents run.words
 -- the source failed: the lines of the whole records among what was taken stand, and no refusal
 -- stands in it
 Ends run ReadFault =
-    ReadFailed run × (taken : List ℕ) × (octets : List ℕ)
-    × Took run taken × Wrote run octets × CutAnswer run.words taken octets
+    Failed run.source × (taken : List ℕ) × (octets : List ℕ)
+    × Took run taken × Wrote run octets × CutAnswer run.words taken octets × Called run []
 -- the sink failed: the first octets of what is due stand
 Ends run WriteFault =
-    WriteFailed run × (octets : List ℕ) × Wrote run octets
-    × IfSome run.input (λ input. PartAnswer run.words input octets)
+    Failed run.sink × (octets : List ℕ) × (calls : List LinkCall) × Wrote run octets × Called run calls
+    × IfSome run.source.before (λ input. PartAnswer run.words input calls octets)
 -- there was no memory: the lines of the first records stand
 Ends run OutOfMemory =
-    (octets : List ℕ) × Wrote run octets
-    × IfSome run.input (λ input. FirstAnswer run.words input octets)
--- no link is used
+    (octets : List ℕ) × (calls : List LinkCall) × Wrote run octets × Called run calls
+    × IfSome run.source.before (λ input. FirstAnswer run.words input calls octets)
+-- no command that is built calls a link, reads a capture or answers a calibration
 Ends run LinkFault = ⊥
+Ends run BadCapture = ⊥
+Ends run BadCalib = ⊥
 -- the network or a size is refused, and its line is written behind those of the records before it
 Ends run status = Answered run status

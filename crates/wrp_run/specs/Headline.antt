@@ -6,7 +6,7 @@ use Rattle.std.specs.Prelude.{◌≡◌, ◌⊎◌, ℕ, ◌+◌, ◌<◌, ◌�
 use Rattle.std.specs.Fmt.{decimal}
 use Rattle.std.specs.List.{AllByRecursion}
 use Rattle.wrp_base.specs.Network.{name_at}
-use Rattle.wrp_lines.specs.Lines.{line_of}
+use Rattle.wrp_records.specs.Words.{line_of}
 use Rattle.wrp_node.specs.declared.interface.Input.{Input}
 use Rattle.wrp_node.specs.declared.interface.Input.TheVariants.{Frame}
 use Rattle.wrp_node.specs.Laws.{reason_of}
@@ -16,18 +16,18 @@ use Rattle.wrp_course.specs.Given.{Given}
 use Rattle.wrp_course.specs.Run.{Happened, world_after}
 use Rattle.wrp_course.specs.Setting.{Setting, node_setting_of}
 use Rattle.wrp_course.specs.WorldAt.{WorldAt}
-use Rattle.wrp_run.specs.declared.machine.Refusal.TheVariants as refusals
-use Rattle.wrp_run.specs.declared.status.Status.{Status}
-use Rattle.wrp_run.specs.declared.status.Status.TheVariants.{Done, BadNetwork, BadTrace, Broken, ReadFault, WriteFault, TooLarge, OutOfMemory}
+use Rattle.wrp_records.specs.declared.machine.Refusal.TheVariants as refusals
+use Rattle.wrp_records.specs.declared.status.Status.{Status}
+use Rattle.wrp_records.specs.declared.status.Status.TheVariants.{Done, BadNetwork, BadTrace, Broken, ReadFault, WriteFault, TooLarge, OutOfMemory}
 use Rattle.wrp_run.specs.Audited.{IsAudit}
 use Rattle.wrp_run.specs.Audits.{AuditRefuses}
 use Rattle.wrp_run.specs.AuditText.{all_counts, audit_lines, event_lines}
 use Rattle.wrp_run.specs.EventLines.{AtEachEvent, IsWord, Writing}
 use Rattle.wrp_run.specs.Input.{network_text, behind_separator, network_limit}
-use Rattle.wrp_run.specs.Lines.{lines_of, content_of}
-use Rattle.wrp_run.specs.Refusals.{too_large_line}
+use Rattle.wrp_records.specs.Lines.{lines_of, content_of}
+use Rattle.wrp_records.specs.Refusals.{too_large_line}
 use Rattle.wrp_run.specs.Replays.{IsRefusedBy}
-use Rattle.wrp_run.specs.Stream.{IsTooLarge, large_line}
+use Rattle.wrp_records.specs.Stream.{IsTooLarge, large_line}
 use Rattle.wrp_run.specs.Tasks.{Audit, Emit, AsksFor}
 use Rattle.wrp_run.specs.TrackLines.{TracksAreWithin}
 

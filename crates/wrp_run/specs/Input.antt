@@ -6,8 +6,8 @@ use Rattle.std.specs.List.{concat, AllByRecursion}
 use Rattle.std.specs.Str.{bytes_eq}
 use Rattle.wrp_run.specs.declared.network_text.End.{End}
 use Rattle.wrp_run.specs.declared.network_text.End.TheVariants.{Whole, TooLong, Failed, Memory}
-use Rattle.wrp_run.specs.Lines.{lines_of, content_of, HasNoFeed, IsWhole}
-use Rattle.wrp_run.specs.Reader.{ReaderAt, IsLast}
+use Rattle.wrp_records.specs.Lines.{lines_of, content_of, HasNoFeed, IsWhole}
+use Rattle.wrp_records.specs.Reader.{ReaderAt, IsLast}
 
 -- whether a line is the one that ends the network text
 abbrev pub is_separator : List ℕ → Bool

@@ -12,12 +12,12 @@ use Rattle.wrp_node.specs.NodeRun.{node_after}
 use Rattle.wrp_node.specs.OneRun.{IsRun}
 use Rattle.wrp_trace.specs.Inputs.{read_of}
 use Rattle.wrp_trace.specs.LineSetting.{LineSetting}
-use Rattle.wrp_run.specs.declared.machine.Refusal.{Refusal}
-use Rattle.wrp_run.specs.declared.machine.Refusal.TheVariants.{BadTrace, Broken}
+use Rattle.wrp_records.specs.declared.machine.Refusal.{Refusal}
+use Rattle.wrp_records.specs.declared.machine.Refusal.TheVariants.{BadTrace, Broken}
 use Rattle.wrp_run.specs.DownLaw.{law_at, node_setting_at}
-use Rattle.wrp_run.specs.Meaning.{Meaning, never}
+use Rattle.wrp_records.specs.LineMeaning.{LineMeaning, bars_none, meaning_by}
 use Rattle.wrp_run.specs.NodeText.{Writes, node_counts}
-use Rattle.wrp_run.specs.Refusals.{bad_network_line, bad_trace_line}
+use Rattle.wrp_records.specs.Refusals.{bad_network_line, bad_trace_line}
 
 -- the text describes the network that has this node; its names are taken without what stands in their
 -- unused room
@@ -62,10 +62,5 @@ Closes site lines last =
     × (last ≡ node_counts site (node_after (node_setting_at site) inputs))
 
 -- what the record lines mean
-abbrev pub meaning_of : LineSetting → Meaning
-meaning_of site = record {
-  accepts = Accepts site;
-  refuses = Refuses site;
-  closes = Closes site;
-  breaks_off = never;
-}
+abbrev pub meaning_of : LineSetting → LineMeaning
+meaning_of site = meaning_by (Accepts site) (Refuses site) (Closes site) bars_none

@@ -11,15 +11,15 @@ use Rattle.wrp_sim.specs.SimAt.{SimAt}
 use Rattle.wrp_sim.specs.SimRun.{Gives}
 use Rattle.wrp_course.specs.Run.{Happened, steps_at, world_after}
 use Rattle.wrp_course.specs.Setting.{Setting}
-use Rattle.wrp_run.specs.declared.machine.Refusal.TheVariants as refusals
-use Rattle.wrp_run.specs.declared.status.Status.{Status}
-use Rattle.wrp_run.specs.declared.status.Status.TheVariants.{Done, BadTrace, TooLarge, OutOfMemory}
+use Rattle.wrp_records.specs.declared.machine.Refusal.TheVariants as refusals
+use Rattle.wrp_records.specs.declared.status.Status.{Status}
+use Rattle.wrp_records.specs.declared.status.Status.TheVariants.{Done, BadTrace, TooLarge, OutOfMemory}
 use Rattle.wrp_run.specs.Headline.{CarriesParts, Prints, ReachesNone}
 use Rattle.wrp_run.specs.Input.{behind_separator, network_text}
-use Rattle.wrp_run.specs.Lines.{content_of, lines_of}
+use Rattle.wrp_records.specs.Lines.{content_of, lines_of}
 use Rattle.wrp_run.specs.Simulates.{IsScenario, IsSimulated, SimRefuses, event_limit}
 use Rattle.wrp_run.specs.SimText.{printed_lines, sim_lines, sum_lines}
-use Rattle.wrp_run.specs.Stream.{IsTooLarge, large_line}
+use Rattle.wrp_records.specs.Stream.{IsTooLarge, large_line}
 use Rattle.wrp_run.specs.Tasks.{Simulate, AsksFor}
 
 -- Which events are made

@@ -23,23 +23,23 @@ use Rattle.wrp_course.specs.Run.{Happened, IsSaid, steps_at, world_after}
 use Rattle.wrp_course.specs.Setting.{Setting, nodes_of}
 use Rattle.wrp_world.specs.StandsFor.{IsValid, StandsFor, WorldOf}
 use Rattle.wrp_course.specs.WorldAt.{WorldAt}
-use Rattle.wrp_run.specs.declared.machine.Refusal.TheVariants as refusal
-use Rattle.wrp_run.specs.declared.machine.Taken.{Taken}
-use Rattle.wrp_run.specs.declared.machine.Taken.TheVariants as taken
+use Rattle.wrp_records.specs.declared.machine.Refusal.TheVariants as refusal
+use Rattle.wrp_records.specs.declared.machine.Taken.{Taken}
+use Rattle.wrp_records.specs.declared.machine.Taken.TheVariants as taken
 use Rattle.wrp_run.specs.declared.scenario.ScenarioLines.{ScenarioLines}
 use Rattle.wrp_run.specs.declared.simulating.Stepped.{Stepped}
 use Rattle.wrp_run.specs.declared.simulating.Stepped.TheVariants as stepped
 use Rattle.wrp_run.specs.declared.simulation.Course.{Course}
 use Rattle.wrp_run.specs.declared.simulation.SimulatedNetwork.{SimulatedNetwork}
 use Rattle.wrp_run.specs.declared.totals.Total.{Total}
-use Rattle.wrp_run.specs.declared.status.Status.{Status}
-use Rattle.wrp_run.specs.declared.status.Status.TheVariants.{Done, TooLarge, OutOfMemory}
+use Rattle.wrp_records.specs.declared.status.Status.{Status}
+use Rattle.wrp_records.specs.declared.status.Status.TheVariants.{Done, TooLarge, OutOfMemory}
 use Rattle.wrp_run.specs.AuditStands.{HasLawOf, setting_in}
-use Rattle.wrp_run.specs.Engine.{Finishes}
-use Rattle.wrp_run.specs.Refusals.{bad_trace_line}
+use Rattle.wrp_records.specs.Engine.{Finishes}
+use Rattle.wrp_records.specs.Refusals.{bad_trace_line}
 use Rattle.wrp_run.specs.Simulates.{IsScenario, IsSimulated, event_limit}
 use Rattle.wrp_run.specs.SimText.{count_of, is_printed, printed_lines, sim_lines, sum_by, tracked, worst_of}
-use Rattle.wrp_run.specs.Stream.{large_line}
+use Rattle.wrp_records.specs.Stream.{large_line}
 
 -- The lines of a scenario
 

@@ -9,15 +9,15 @@ use Rattle.wrp_sim.specs.SimAt.{SimAt}
 use Rattle.wrp_sim.specs.SimRun.{Gives, IsSimRun}
 use Rattle.wrp_course.specs.Run.{AllSaid, Happened, IsAnswered, world_after}
 use Rattle.wrp_course.specs.Setting.{Setting}
-use Rattle.wrp_run.specs.declared.machine.Refusal.{Refusal}
-use Rattle.wrp_run.specs.declared.machine.Refusal.TheVariants.{BadTrace, Broken}
-use Rattle.wrp_run.specs.declared.status.Status.{Status}
-use Rattle.wrp_run.specs.declared.status.Status.TheVariants.{TooLarge, OutOfMemory}
+use Rattle.wrp_records.specs.declared.machine.Refusal.{Refusal}
+use Rattle.wrp_records.specs.declared.machine.Refusal.TheVariants.{BadTrace, Broken}
+use Rattle.wrp_records.specs.declared.status.Status.{Status}
+use Rattle.wrp_records.specs.declared.status.Status.TheVariants.{TooLarge, OutOfMemory}
 use Rattle.wrp_run.specs.Audited.{answers_in}
-use Rattle.wrp_run.specs.Meaning.{Meaning}
-use Rattle.wrp_run.specs.Refusals.{bad_trace_line}
+use Rattle.wrp_records.specs.LineMeaning.{LineMeaning}
+use Rattle.wrp_records.specs.Refusals.{bad_trace_line}
 use Rattle.wrp_run.specs.SimText.{sim_lines, sum_lines}
-use Rattle.wrp_run.specs.Stream.{large_line}
+use Rattle.wrp_records.specs.Stream.{large_line}
 
 -- Scenarios
 
@@ -96,7 +96,7 @@ SimBreaks s seed lines OutOfMemory last =
 SimBreaks s seed lines _ last = ⊥
 
 -- what the record lines of a simulation mean
-abbrev pub simulation_of : Setting → ℕ → Meaning
+abbrev pub simulation_of : Setting → ℕ → LineMeaning
 simulation_of s seed = record {
   accepts = SimAccepts s;
   refuses = SimRefuses s;

@@ -16,14 +16,14 @@ use Rattle.wrp_node.specs.Parts.{is_among}
 use Rattle.wrp_node.specs.StandsFor.{NodeOf, StandsFor}
 use Rattle.wrp_fields.specs.Reading.{IsReading}
 use Rattle.wrp_trace.specs.LineSetting.{LineSetting, has_port}
-use Rattle.wrp_run.specs.declared.machine.Refusal.TheVariants.{BadTrace}
-use Rattle.wrp_run.specs.declared.machine.Taken as machine
-use Rattle.wrp_run.specs.declared.machine.Taken.TheVariants.{Refused}
+use Rattle.wrp_records.specs.declared.machine.Refusal.TheVariants.{BadTrace}
+use Rattle.wrp_records.specs.declared.machine.Taken as machine
+use Rattle.wrp_records.specs.declared.machine.Taken.TheVariants.{Refused}
 use Rattle.wrp_run.specs.declared.replay.ReplayedNode.{ReplayedNode}
 use Rattle.wrp_run.specs.declared.replayed.Replayed.{Replayed}
 use Rattle.wrp_run.specs.DownLaw.{AnswersBy, law_at, node_setting_at}
 use Rattle.wrp_run.specs.NodeText.{Writes, output_lines}
-use Rattle.wrp_run.specs.Refusals.{bad_trace_line}
+use Rattle.wrp_records.specs.Refusals.{bad_trace_line}
 use Rattle.wrp_run.specs.Replays.{AreInputs}
 
 -- the ports that links name are among these

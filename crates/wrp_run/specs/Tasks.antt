@@ -7,7 +7,7 @@ use Rattle.wrp_run.specs.Audited.{IsSettingOf}
 use Rattle.wrp_run.specs.Audits.{audit_of, emission_of}
 use Rattle.wrp_run.specs.CommandLine.{IsCommandWith, IsSeeded}
 use Rattle.wrp_run.specs.Input.{network_limit}
-use Rattle.wrp_run.specs.Meaning.{Meaning}
+use Rattle.wrp_records.specs.LineMeaning.{LineMeaning}
 use Rattle.wrp_run.specs.Replays.{IsNetworkOf, meaning_of}
 use Rattle.wrp_run.specs.Simulates.{simulation_of}
 
@@ -20,7 +20,7 @@ pub data Task : Type 0 where
   Simulate : (setting : Setting) (seed : ℕ) → Task
 
 -- what the record lines mean there
-abbrev pub meaning_at : Task → Meaning
+abbrev pub meaning_at : Task → LineMeaning
 meaning_at (Replay site) = meaning_of site
 meaning_at (Audit setting) = audit_of setting
 meaning_at (Emit setting node) = emission_of setting node

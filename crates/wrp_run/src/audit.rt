@@ -14,18 +14,17 @@ ghost use Rattle.wrp_course.specs.Setting.{Setting};
 ghost use Rattle.wrp_world.specs.StandsFor.{IsValid, StandsFor};
 ghost use Rattle.wrp_world.specs.Step.{step_seen};
 ghost use Rattle.wrp_course.specs.WorldAt.{WorldAt};
-ghost use Rattle.wrp_run.specs.declared.machine.Refusal.{Refusal};
-ghost use Rattle.wrp_run.specs.declared.machine.Taken.{Taken};
+ghost use Rattle.wrp_records.specs.declared.machine.Refusal.{Refusal};
+ghost use Rattle.wrp_records.specs.declared.machine.Taken.{Taken};
 ghost use Rattle.wrp_run.specs.AuditStands.{CanAudit, Happens, HasAudited, TellsFault, line_by, setting_in, task_of};
 ghost use Rattle.wrp_run.specs.AuditText.{given_line, step_lines};
 ghost use Rattle.wrp_run.specs.LawsFit.{LawsFit};
-ghost use Rattle.wrp_run.specs.Split.{IsSplit};
+ghost use Rattle.wrp_records.specs.Split.{IsSplit};
 ghost use Rattle.wrp_run.specs.Tasks.{meaning_at};
 
 use crate::audit_counts::append_all_counts;
 use crate::audits::one_audit;
-use crate::machine::{Machine, Refusal, Taken};
-use crate::refusals::{append_bad_trace, append_broken};
+use crate::refusals::append_broken;
 use csv::ByteRecord;
 use std::alloc::{AllocError, Global};
 use wrp_base::{Tau, TraceFault};
@@ -36,6 +35,7 @@ use wrp_lines::append_line;
 use wrp_node::Output;
 use wrp_trace::{append_input_line, read_event_fields};
 use wrp_world::{Event, NodeOut, Refused, World};
+use wrp_records::{Machine, Refusal, Taken, append_bad_trace};
 
 /// A network as far as it is audited: its world, the node whose inputs are asked for, if one is, and a
 /// place for the steps of an event.

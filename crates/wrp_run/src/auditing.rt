@@ -4,21 +4,18 @@ ghost use Rattle.std.specs.Io.KnownBytes.{Appends, Consumes, IsAtEnd};
 ghost use Rattle.wrp_base.specs.Network.{node_count};
 ghost use Rattle.wrp_config.specs.Accepted.{IsAccepted};
 ghost use Rattle.wrp_io.specs.Faults.{Rose};
-ghost use Rattle.wrp_run.specs.declared.status.Status.{Status};
-ghost use Rattle.wrp_run.specs.After.{After, Closing};
+ghost use Rattle.wrp_records.specs.declared.status.Status.{Status};
+ghost use Rattle.wrp_records.specs.LinesAfter.{After, Closing};
 ghost use Rattle.wrp_run.specs.AuditStands.{CanAudit, HasAudited, setting_in, task_of};
 ghost use Rattle.wrp_run.specs.LawsFit.{LawsFit};
 ghost use Rattle.wrp_run.specs.Tasks.{meaning_at};
 
-use crate::answering::answer;
 use crate::audit::AuditedNetwork;
-use crate::engine::handle_records;
-use crate::reader::Reader;
-use crate::status::Status;
 use std::alloc::Global;
 use wrp_config::Network;
 use wrp_io::{Sink, Source};
 use wrp_law::DelayLaw;
+use wrp_records::{Reader, Status, answer, handle_records};
 
 // Writes what closes the records of an audit.
 fn close<F: Fn(i64) -> i64, K: Sink>(

@@ -2,28 +2,27 @@
 ghost use Rattle.std.specs.Prelude.{◌≡◌, ℕ, List, true, IfOk, IfSome};
 ghost use Rattle.std.specs.Io.KnownBytes.{Appends};
 ghost use Rattle.wrp_io.specs.Faults.{Rose};
-ghost use Rattle.wrp_run.specs.declared.status.Status.{Status};
+ghost use Rattle.wrp_records.specs.declared.status.Status.{Status};
 ghost use Rattle.wrp_run.specs.Answer.{Answer, IsCommand};
 ghost use Rattle.wrp_run.specs.Asked.{AsksSo};
 ghost use Rattle.wrp_run.specs.EmitHeadline.{EmitHeadline};
 ghost use Rattle.wrp_run.specs.Ends.{Ends};
 ghost use Rattle.wrp_run.specs.Headline.{Headline};
 ghost use Rattle.wrp_run.specs.SimHeadline.{SimHeadline};
-ghost use Rattle.wrp_run.specs.Statuses.{is_answer};
+ghost use Rattle.wrp_records.specs.Statuses.{is_answer};
 ghost use Rattle.wrp_run.specs.Tasks.{IsAuditing, IsEmission, IsSimulation};
 ghost use Rattle.wrp_run.specs.Words.{texts_of};
 
-use crate::answering::answer;
 use crate::audits::{events_carry_parts, made_events_carry_parts, one_audit};
 use crate::parse::{Command, read_words};
 use crate::refusals::USAGE_LINE;
 use crate::replaying::replay_named;
-use crate::status::Status;
 use crate::worlds::{Asked, run_network};
 use std::alloc::{AllocError, Global};
 use wrp_io::{Link, Sink, Source};
 use wrp_node::one_run;
 use wrp_servo::told_last;
+use wrp_records::{Status, answer};
 
 // What the words ask for, of what is built.
 #[derive(Clone, Copy, Debug, PartialEq, Eq)]

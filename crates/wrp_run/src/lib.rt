@@ -3,7 +3,6 @@
 //! in both directions. Words, inputs, lines and statuses are this project's profile.
 #![tactic(auto)]
 
-mod answering;
 mod audit;
 mod audit_counts;
 mod auditing;
@@ -11,15 +10,10 @@ mod audits;
 mod command;
 mod command_line;
 mod counting;
-mod engine;
-mod feed;
 mod fields;
 mod law;
-mod line;
-mod machine;
 mod network_text;
 mod parse;
-mod reader;
 mod refusals;
 mod replay;
 mod replayed;
@@ -27,13 +21,11 @@ mod replaying;
 mod scenario;
 mod simulating;
 mod simulation;
-mod status;
 mod totals;
 mod worlds;
-mod writing;
 
 pub use audits::{
     audits_begin, events_carry_parts, made_events_carry_parts, one_answer, one_audit,
 };
 pub use command::run;
-pub use status::Status;
+pub use wrp_records::Status;

@@ -3,12 +3,11 @@ ghost use Rattle.std.specs.Prelude.{◌≡◌, ◌⊎◌, ◌↔◌, ℕ, List, 
 ghost use Rattle.std.specs.Io.KnownBytes.{Consumes, IsAtEnd};
 ghost use Rattle.wrp_io.specs.Faults.{Rose};
 ghost use Rattle.wrp_run.specs.Input.{is_separator, BeginsSeparator, NetworkOutcome};
-ghost use Rattle.wrp_run.specs.Reader.{Takes, IsNext, IsCut, IsLast};
+ghost use Rattle.wrp_records.specs.Reader.{Takes, IsNext, IsCut, IsLast};
 
-use crate::line::content;
-use crate::reader::{Next, Reader};
 use std::alloc::Global;
 use wrp_io::Source;
+use wrp_records::{Next, Reader, content};
 
 // How many octets a network text may have.
 const NETWORK_LIMIT: usize = 262_144;

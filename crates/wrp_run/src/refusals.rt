@@ -1,105 +1,14 @@
-//! The lines that name what is refused.
+//! The lines that name what is refused, of what this crate alone refuses.
 ghost use Rattle.std.specs.Prelude.{◌≡◌, ◌++◌, IfOk};
-ghost use Rattle.std.specs.Fmt.{signed_decimal};
-ghost use Rattle.std.specs.String.{string_bytes};
-ghost use Rattle.wrp_run.specs.Refusals.{bad_network_line, bad_trace_line, broken_line, code_name, code_of, field_of, name_of, premise_name};
+ghost use Rattle.wrp_run.specs.Refusals.{broken_line, premise_name};
 
 use std::alloc::{AllocError, Global};
-use wrp_base::{Tau, TraceFault};
+use wrp_base::Tau;
+use wrp_records::append_broken_words;
 
 /// The line where the words are no command.
 pub const USAGE_LINE: &str =
     "usage: wrnet audit [--emit NODE] | replay --node NODE | simulate --seed N | loop --seed N\n";
-
-/// The line where the network text is too large.
-pub const TOO_LARGE_LINE: &str = "too-large 0\n";
-
-// The name of a fault of a network text, by its code.
-#[tactic(auto, unfolding(crate::specs::Refusals::code_name))]
-fn network_fault(code: u8) -> &'static str
-    ensures { result.now ≡ code_name code }
-{
-    match code {
-        1 => "Syntax",
-        2 => "UnknownKey",
-        3 => "Missing",
-        4 => "Range",
-        5 => "Twice",
-        7 => "NotATree",
-        8 => "TwoSlaves",
-        9 => "TooDeep",
-        10 => "Clash",
-        _ => "",
-    }
-}
-
-/// The line of a network text that is refused.
-pub fn bad_network(alloc: Global, code: u8, place: &str) -> Result<String, AllocError>
-    ensures { IfOk result (λ line. string_bytes line ≡ bad_network_line code place.now) }
-{
-    let name = network_fault(code);
-    format!(in alloc; "bad-network {code} {name} {place}\n")
-}
-
-// The code of a line's fault.
-fn code_of(fault: &TraceFault) -> u8
-    ensures { result ≡ code_of fault.now }
-{
-    match fault {
-        TraceFault::Fields => 1,
-        TraceFault::Kind => 2,
-        TraceFault::Number { .. } => 3,
-        TraceFault::Name { .. } => 4,
-        TraceFault::Memory(_) => 0,
-    }
-}
-
-// The name of a line's fault.
-fn name_of(fault: &TraceFault) -> &'static str
-    ensures { result.now ≡ name_of fault.now }
-{
-    match fault {
-        TraceFault::Fields => "Fields",
-        TraceFault::Kind => "Kind",
-        TraceFault::Number { .. } => "Number",
-        TraceFault::Name { .. } => "Name",
-        TraceFault::Memory(_) => "",
-    }
-}
-
-// The field at fault, which counts from 1; 0 where it is the whole line.
-fn field_of(fault: &TraceFault) -> u32
-    ensures { result ≡ field_of fault.now }
-{
-    match fault {
-        TraceFault::Number { field } => *field,
-        TraceFault::Name { field } => *field,
-        _ => 0,
-    }
-}
-
-// The line of a record that is refused.
-fn bad_trace(alloc: Global, number: u32, fault: &TraceFault) -> Result<String, AllocError>
-    ensures { IfOk result (λ line. string_bytes line ≡ bad_trace_line number fault.now) }
-{
-    let code = code_of(fault);
-    let name = name_of(fault);
-    let field = field_of(fault);
-    format!(in alloc; "bad-trace {number} {code} {name} {field}\n")
-}
-
-/// Appends the line of a record that is refused.
-pub fn append_bad_trace(
-    alloc: Global,
-    text: &mut Vec<u8>,
-    number: u32,
-    fault: &TraceFault,
-) -> Result<(), AllocError>
-    ensures { IfOk result (λ _. text.new.items ≡ text.old.items ++ bad_trace_line number fault.now) }
-{
-    let line = bad_trace(alloc, number, fault)?;
-    text.extend_from_slice(line.as_bytes())
-}
 
 // The name of a premise, by its number.
 #[tactic(auto, unfolding(crate::specs::Refusals::premise_name))]
@@ -124,33 +33,7 @@ fn premise_name(premise: u8) -> &'static str
     }
 }
 
-// A side of a comparison in decimal, in the unit of its premise.
-fn side(alloc: Global, value: Tau) -> Result<String, AllocError>
-    ensures { IfOk result (λ text. string_bytes text ≡ signed_decimal value) }
-{
-    format!(in alloc; "{value}")
-}
-
-// The line of a record that breaks a premise.
-fn broken(
-    alloc: Global,
-    number: u32,
-    premise: u8,
-    shown: Tau,
-    bound: Tau,
-) -> Result<String, AllocError>
-    ensures { IfOk result (λ line. string_bytes line ≡ broken_line number
-        (record { premise = premise; shown = shown; bound = bound })) }
-{
-    let name = premise_name(premise);
-    let shown = side(alloc, shown)?;
-    let shown = shown.as_str();
-    let bound = side(alloc, bound)?;
-    let bound = bound.as_str();
-    format!(in alloc; "broken {number} {premise} {name} {shown} {bound}\n")
-}
-
-/// Appends the line of a record that breaks a premise: the number of the premise, and both sides of the
+/// Appends the line of an event that breaks a premise: the number of the premise, and both sides of the
 /// comparison that fails.
 pub fn append_broken(
     alloc: Global,
@@ -163,6 +46,5 @@ pub fn append_broken(
     ensures { IfOk result (λ _. text.new.items ≡ text.old.items ++ broken_line number
         (record { premise = premise; shown = shown; bound = bound })) }
 {
-    let line = broken(alloc, number, premise, shown, bound)?;
-    text.extend_from_slice(line.as_bytes())
+    append_broken_words(alloc, text, number, premise, premise_name(premise), shown, bound)
 }

@@ -10,16 +10,14 @@ ghost use Rattle.wrp_node.specs.StandsFor.{StandsFor};
 ghost use Rattle.wrp_trace.specs.InputAt.{IsInputAt};
 ghost use Rattle.wrp_trace.specs.Inputs.{read_of, IsReadInto};
 ghost use Rattle.wrp_trace.specs.LineSetting.{line_setting_of};
-ghost use Rattle.wrp_run.specs.declared.machine.Refusal.{Refusal};
-ghost use Rattle.wrp_run.specs.declared.machine.Taken.{Taken};
+ghost use Rattle.wrp_records.specs.declared.machine.Refusal.{Refusal};
+ghost use Rattle.wrp_records.specs.declared.machine.Taken.{Taken};
 ghost use Rattle.wrp_run.specs.DownLaw.{IsLawAt, node_setting_at};
 ghost use Rattle.wrp_run.specs.Replays.{Accepts, Refuses, Closes};
-ghost use Rattle.wrp_run.specs.Split.{IsSplit};
+ghost use Rattle.wrp_records.specs.Split.{IsSplit};
 ghost use Rattle.wrp_run.specs.StandsFor.{HasTaken, IsReady, Tells, TookInput, line_setting_at};
 
 use crate::counting::append_counts;
-use crate::machine::{Machine, Refusal, Taken};
-use crate::refusals::append_bad_trace;
 use crate::replayed::Replayed;
 use csv::ByteRecord;
 use std::alloc::{AllocError, Global};
@@ -29,6 +27,7 @@ use wrp_law::DelayLaw;
 use wrp_lines::append_line;
 use wrp_node::{Input, Node, Output, Outputs, node_set, one_run};
 use wrp_trace::read_input_fields;
+use wrp_records::{Machine, Refusal, Taken, append_bad_trace};
 
 /// A node as far as it is replayed: the node, what its lines say of it, and a place for an input and
 /// one for its outputs, which serve record after record.

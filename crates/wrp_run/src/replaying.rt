@@ -6,8 +6,8 @@ ghost use Rattle.wrp_config.specs.Accepted.{IsAccepted};
 ghost use Rattle.wrp_io.specs.Faults.{Rose};
 ghost use Rattle.wrp_law.specs.Law.{IsNear, KeepsFact};
 ghost use Rattle.wrp_law.specs.LinkLaw.{IsSound, down_of, error_of, kind_of, least_of, most_of};
-ghost use Rattle.wrp_run.specs.declared.status.Status.{Status};
-ghost use Rattle.wrp_run.specs.After.{After, Closing};
+ghost use Rattle.wrp_records.specs.declared.status.Status.{Status};
+ghost use Rattle.wrp_records.specs.LinesAfter.{After, Closing};
 ghost use Rattle.wrp_run.specs.DownLaw.{AnswersBy, greatest_over, law_at, least_over};
 ghost use Rattle.wrp_run.specs.Ends.{Ends};
 ghost use Rattle.wrp_run.specs.Replays.{Closes, meaning_of};
@@ -15,19 +15,16 @@ ghost use Rattle.wrp_run.specs.StandsFor.{HasTaken, IsReady, line_setting_at};
 ghost use Rattle.wrp_run.specs.Tasks.{IsReplay};
 ghost use Rattle.wrp_run.specs.Words.{texts_of};
 
-use crate::answering::{answer, refuse_network};
-use crate::engine::handle_records;
 use crate::law::{asked, kept_if, law_above};
 use crate::network_text::{End, take_network};
-use crate::reader::Reader;
-use crate::refusals::{TOO_LARGE_LINE, USAGE_LINE};
+use crate::refusals::USAGE_LINE;
 use crate::replay::ReplayedNode;
 use crate::replayed::Replayed;
-use crate::status::Status;
 use std::alloc::Global;
 use wrp_config::Network;
 use wrp_io::{Sink, Source};
 use wrp_law::DelayLaw;
+use wrp_records::{Reader, Status, TOO_LARGE_LINE, answer, handle_records, refuse_network};
 
 // Writes what closes the records of a node.
 fn close<F: Fn(i64) -> i64, K: Sink>(

@@ -4,20 +4,19 @@ ghost use Rattle.wrp_base.specs.Lines.{parts_of};
 ghost use Rattle.wrp_base.specs.Network.{HasRanges};
 ghost use Rattle.wrp_sim.specs.Scenario.{IsSceneOf};
 ghost use Rattle.wrp_sim.specs.ScenarioLines.{outcome, scene_read};
-ghost use Rattle.wrp_run.specs.declared.machine.Refusal.{Refusal};
-ghost use Rattle.wrp_run.specs.declared.machine.Taken.{Taken};
+ghost use Rattle.wrp_records.specs.declared.machine.Refusal.{Refusal};
+ghost use Rattle.wrp_records.specs.declared.machine.Taken.{Taken};
 ghost use Rattle.wrp_run.specs.AuditStands.{setting_in};
 ghost use Rattle.wrp_run.specs.SimStands.{CanRead, SaysScenario, TellsLine};
 ghost use Rattle.wrp_run.specs.Simulates.{SimAccepts, SimRefuses};
-ghost use Rattle.wrp_run.specs.Split.{IsSplit};
+ghost use Rattle.wrp_records.specs.Split.{IsSplit};
 
-use crate::machine::{Machine, Refusal, Taken};
-use crate::refusals::append_bad_trace;
 use csv::ByteRecord;
 use std::alloc::{AllocError, Global};
 use wrp_base::TraceFault;
 use wrp_config::Network;
 use wrp_sim::Scene;
+use wrp_records::{Machine, Refusal, Taken, append_bad_trace};
 
 /// The scenario of a network, as far as its lines were read.
 #[derive(Drop)]

@@ -9,28 +9,24 @@ ghost use Rattle.wrp_course.specs.Run.{Happened};
 ghost use Rattle.wrp_course.specs.Setting.{Setting};
 ghost use Rattle.wrp_world.specs.StandsFor.{StandsFor};
 ghost use Rattle.wrp_course.specs.WorldAt.{WorldAt};
-ghost use Rattle.wrp_run.specs.declared.status.Status.{Status};
-ghost use Rattle.wrp_run.specs.After.{After, Closed};
+ghost use Rattle.wrp_records.specs.declared.status.Status.{Status};
+ghost use Rattle.wrp_records.specs.LinesAfter.{After, Closed};
 ghost use Rattle.wrp_run.specs.AuditStands.{setting_in};
 ghost use Rattle.wrp_run.specs.LawsFit.{LawsFit};
 ghost use Rattle.wrp_run.specs.SimStands.{AreTotals, Begins, CanRun, ClosesLarge, ClosesRun, FitsCourse, HasRun, IsInRun, Steps};
 ghost use Rattle.wrp_run.specs.Simulates.{IsScenario, simulation_of};
-ghost use Rattle.wrp_run.specs.Taking.{AppendsPart};
+ghost use Rattle.wrp_records.specs.Taking.{AppendsPart};
 ghost use Rattle.wrp_run.specs.Tasks.{Simulate, meaning_at};
 
-use crate::answering::answer;
-use crate::engine::{append_large, handle_records};
-use crate::reader::Reader;
 use crate::scenario::ScenarioLines;
 use crate::simulation::{Course, SimulatedNetwork};
-use crate::status::Status;
 use crate::totals::add_tracks;
-use crate::writing::write_all;
 use std::alloc::{AllocError, Global};
 use wrp_config::Network;
 use wrp_io::{Sink, Source};
 use wrp_law::DelayLaw;
 use wrp_sim::{Scene, simulator_keeps_the_bounds};
+use wrp_records::{Reader, Status, answer, append_large, handle_records, write_all};
 
 // From how many octets on those that wait are written, behind an event.
 const PIECE: usize = 65_536;

@@ -7,8 +7,8 @@ ghost use Rattle.wrp_config.specs.Same.{IsSameNetwork};
 ghost use Rattle.wrp_io.specs.Faults.{Rose};
 ghost use Rattle.wrp_law.specs.Law.{IsNear};
 ghost use Rattle.wrp_law.specs.LinkLaw.{IsSound, down_of, error_of, kind_of, least_of, most_of};
-ghost use Rattle.wrp_run.specs.declared.status.Status.{Status};
-ghost use Rattle.wrp_run.specs.After.{After};
+ghost use Rattle.wrp_records.specs.declared.status.Status.{Status};
+ghost use Rattle.wrp_records.specs.LinesAfter.{After};
 ghost use Rattle.wrp_run.specs.Asked.{AsksWork, FitsWork, IsNodeAsked, IsWork, LacksAsked, LacksWork, task_by};
 ghost use Rattle.wrp_run.specs.AuditStands.{setting_in};
 ghost use Rattle.wrp_run.specs.Ends.{Ends};
@@ -16,20 +16,18 @@ ghost use Rattle.wrp_run.specs.LawsFit.{LawsFit};
 ghost use Rattle.wrp_run.specs.Tasks.{meaning_at};
 ghost use Rattle.wrp_run.specs.Words.{texts_of};
 
-use crate::answering::{answer, refuse_network};
 use crate::audit_counts::count_of;
 use crate::auditing::audit_by;
 use crate::law::{asked, kept_if, law_above};
 use crate::network_text::{End, take_network};
-use crate::reader::Reader;
-use crate::refusals::{TOO_LARGE_LINE, USAGE_LINE};
+use crate::refusals::USAGE_LINE;
 use crate::replayed::Replayed;
 use crate::simulating::simulate;
-use crate::status::Status;
 use std::alloc::Global;
 use wrp_config::Network;
 use wrp_io::{Sink, Source};
 use wrp_law::DelayLaw;
+use wrp_records::{Reader, Status, TOO_LARGE_LINE, answer, refuse_network};
 
 /// What is asked of a whole network.
 #[derive(Clone, Copy, Debug, PartialEq, Eq)]

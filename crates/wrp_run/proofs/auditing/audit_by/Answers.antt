@@ -4,7 +4,7 @@ use Rattle.std.proofs.KnownBytes.{Appends-nil, Consumes-nil}
 use Rattle.wrp_run.specs.AuditStands.{setting_in, task_of}
 use Rattle.wrp_run.specs.Tasks.{meaning_at}
 use Rattle.wrp_run.proofs.AuditSteps.{nothing_accepted}
-use Rattle.wrp_run.proofs.Telling.{nothing_handled}
+use Rattle.wrp_records.proofs.Telling.{nothing_handled}
 use Rattle.wrp_run.proofs.auditing.audit_by.Goals as goal
 
 pub returns-in-Err-clause-stands : goal.returns-in-Err-clause-stands

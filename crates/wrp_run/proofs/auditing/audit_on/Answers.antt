@@ -1,11 +1,11 @@
 -- What stands after the records, and at the end.
 use Rattle.std.proofs.Common.{◌≡◌, ◌++◌, refl, subst, ℕ}
 use Rattle.wrp_io.specs.Faults.{Rose}
-use Rattle.wrp_run.specs.declared.status.Status.TheVariants.{Done, WriteFault}
+use Rattle.wrp_records.specs.declared.status.Status.TheVariants.{Done, WriteFault}
 use Rattle.wrp_run.specs.AuditStands.{HasAudited, setting_in, task_of}
 use Rattle.wrp_run.specs.Tasks.{meaning_at}
 use Rattle.wrp_run.proofs.AuditSteps.{nothing_accepted}
-use Rattle.wrp_run.proofs.Telling.{closed, outcome_after}
+use Rattle.wrp_records.proofs.Telling.{closed, outcome_after}
 use Rattle.wrp_run.proofs.auditing.audit_on.Goals as goal
 
 pub handle_records-requires-clause-fresh : goal.handle_records-requires-clause-fresh

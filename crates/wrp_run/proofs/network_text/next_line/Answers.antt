@@ -2,7 +2,7 @@
 use Rattle.std.proofs.Common.{◌≡◌, ◌≤◌, length, refl, inr, subst, rules, arith}
 use Rattle.wrp_run.specs.Input.{BeginsSeparator}
 use Rattle.wrp_run.proofs.Networking.{begun_fails, begins_fits}
-use Rattle.wrp_run.proofs.ReaderLemmas.{takes_on}
+use Rattle.wrp_records.proofs.ReaderLemmas.{takes_on}
 use Rattle.wrp_run.proofs.network_text.next_line.Goals as goal
 
 pub returns-in-Failed-clause-failed : goal.returns-in-Failed-clause-failed

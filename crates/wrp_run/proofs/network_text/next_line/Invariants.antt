@@ -1,7 +1,7 @@
 use Rattle.std.proofs.Common.{◌≡◌, ◌-◌, ◌+◌, ◌^◌, ◌<◌, ◌≤◌, true}
 use Rattle.std.specs.Io.KnownBytes.{IsAtEnd}
-use Rattle.wrp_run.specs.Lines.{HasNoFeed}
-use Rattle.wrp_run.specs.Reader.{Takes}
+use Rattle.wrp_records.specs.Lines.{HasNoFeed}
+use Rattle.wrp_records.specs.Reader.{Takes}
 use Rattle.wrp_run.proofs.Networking.{HasBegun}
 use Rattle.wrp_run.proofs.network_text.next_line.Given as goal
 

@@ -5,7 +5,7 @@ use Rattle.wrp_trace.specs.LineSetting.{line_setting_of}
 use Rattle.wrp_run.specs.Replays.{meaning_of}
 use Rattle.wrp_run.specs.StandsFor.{line_setting_at}
 use Rattle.wrp_run.proofs.GoingOn.{law_if, nothing_accepted}
-use Rattle.wrp_run.proofs.Telling.{nothing_handled}
+use Rattle.wrp_records.proofs.Telling.{nothing_handled}
 use Rattle.wrp_run.proofs.replaying.replay_by.Goals as goal
 
 pub new-requires-clause-law : goal.new-requires-clause-law

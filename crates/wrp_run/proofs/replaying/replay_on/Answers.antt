@@ -1,12 +1,12 @@
 -- What stands after the records, and at the end.
 use Rattle.std.proofs.Common.{◌++◌, refl, subst}
 use Rattle.wrp_run.specs.declared.replayed.Replayed.{Replayed}
-use Rattle.wrp_run.specs.declared.status.Status.{Status}
+use Rattle.wrp_records.specs.declared.status.Status.{Status}
 use Rattle.wrp_run.specs.Replays.{Accepts, Refuses, Closes, meaning_of}
 use Rattle.wrp_run.specs.StandsFor.{HasTaken, line_setting_at}
-use Rattle.wrp_run.specs.Stream.{Outcome}
+use Rattle.wrp_records.specs.Stream.{Outcome}
 use Rattle.wrp_run.proofs.GoingOn.{nothing_accepted}
-use Rattle.wrp_run.proofs.Telling.{closed, outcome_after}
+use Rattle.wrp_records.proofs.Telling.{closed, outcome_after}
 use Rattle.wrp_run.proofs.replaying.replay_on.Goals as goal
 
 pub handle_records-requires-clause-fresh : goal.handle_records-requires-clause-fresh

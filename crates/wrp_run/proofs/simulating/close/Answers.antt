@@ -1,8 +1,8 @@
 -- The lines that sum up stand behind what waits.
 use Rattle.std.proofs.Common.{◌≡◌, ◌∙◌, inl, inr, subst, sym, List, ℕ}
-use Rattle.wrp_run.specs.declared.status.Status.TheVariants.{Done, ReadFault, WriteFault}
+use Rattle.wrp_records.specs.declared.status.Status.TheVariants.{Done, ReadFault, WriteFault}
 use Rattle.wrp_run.specs.declared.totals.Total.{Total}
-use Rattle.wrp_run.specs.Engine.{Finishes}
+use Rattle.wrp_records.specs.Engine.{Finishes}
 use Rattle.wrp_run.specs.SimStands.{AreTotals}
 use Rattle.wrp_run.proofs.simulating.close.Goals as goal
 

@@ -1,6 +1,6 @@
 -- The line that names the event stands behind what waits.
 use Rattle.std.proofs.Common.{◌≡◌, ◌∙◌, inl, inr, sym}
-use Rattle.wrp_run.specs.declared.status.Status.TheVariants.{ReadFault, TooLarge, WriteFault}
+use Rattle.wrp_records.specs.declared.status.Status.TheVariants.{ReadFault, TooLarge, WriteFault}
 use Rattle.wrp_run.proofs.simulating.overrun.Goals as goal
 
 pub returns-in-Ok-clause-never : goal.returns-in-Ok-clause-never

@@ -5,7 +5,7 @@ use Rattle.wrp_config.specs.declared.network.Network.{Network}
 use Rattle.wrp_sim.specs.Sim.{FitsSim}
 use Rattle.wrp_world.specs.StandsFor.{StandsFor}
 use Rattle.wrp_course.specs.WorldAt.{new_world}
-use Rattle.wrp_run.specs.After.{Closed}
+use Rattle.wrp_records.specs.LinesAfter.{Closed}
 use Rattle.wrp_run.specs.AuditStands.{setting_in}
 use Rattle.wrp_run.specs.Simulates.{IsScenario, simulation_of}
 use Rattle.wrp_run.proofs.SimSteps.{first_run, nothing_run}

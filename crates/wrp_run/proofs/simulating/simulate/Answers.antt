@@ -4,13 +4,13 @@ use Rattle.std.specs.Io.KnownBytes.{Appends, Consumes}
 use Rattle.wrp_config.specs.declared.network.Network.{Network}
 use Rattle.wrp_sim.specs.Scenario.{SceneAt}
 use Rattle.wrp_io.specs.Faults.{Rose}
-use Rattle.wrp_run.specs.declared.status.Status.TheVariants.{Done, WriteFault}
-use Rattle.wrp_run.specs.After.{After, Closed}
+use Rattle.wrp_records.specs.declared.status.Status.TheVariants.{Done, WriteFault}
+use Rattle.wrp_records.specs.LinesAfter.{After, Closed}
 use Rattle.wrp_run.specs.AuditStands.{setting_in}
-use Rattle.wrp_run.specs.Lines.{content_of, lines_of}
+use Rattle.wrp_records.specs.Lines.{content_of, lines_of}
 use Rattle.wrp_run.specs.Simulates.{IsScenario, simulation_of}
 use Rattle.wrp_run.specs.Tasks.{Simulate, meaning_at}
-use Rattle.wrp_run.proofs.Telling.{closed_so, outcome_after}
+use Rattle.wrp_records.proofs.Telling.{closed_so, outcome_after}
 use Rattle.wrp_run.proofs.simulating.simulate.Goals as goal
 
 pub handle_records-requires-clause-fresh : goal.handle_records-requires-clause-fresh

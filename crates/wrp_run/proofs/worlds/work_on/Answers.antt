@@ -13,7 +13,7 @@ use Rattle.wrp_run.specs.LawsFit.{IsMade}
 use Rattle.wrp_run.specs.Tasks.{meaning_at}
 use Rattle.wrp_run.proofs.SimSteps.{nothing_done}
 use Rattle.wrp_run.proofs.LawsMade.{fits_all, made_next}
-use Rattle.wrp_run.proofs.Telling.{nothing_handled}
+use Rattle.wrp_records.proofs.Telling.{nothing_handled}
 use Rattle.wrp_run.proofs.worlds.work_on.Goals as goal
 
 pub loop-n-init : goal.loop-n-init

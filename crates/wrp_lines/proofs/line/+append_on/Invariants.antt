@@ -1,6 +1,0 @@
--- Each turn has one word less.
-use Rattle.std.proofs.Common.{length}
-use Rattle.wrp_lines.proofs.line.+append_on.Given as goal
-
-abbrev pub decreases-append_on : goal.decreases-append_on
-decreases-append_on l = length l.words.now

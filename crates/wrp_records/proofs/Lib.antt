@@ -1,0 +1,12 @@
+pub mod Feeds
+pub mod FirstFeed
+pub mod LineEnds
+pub mod NextLines
+pub mod Passed
+pub mod Passing
+pub mod Pieces
+pub mod PlainTexts
+pub mod Reaching
+pub mod ReaderLemmas
+pub mod Telling
+pub mod Unique

@@ -1,0 +1,17 @@
+pub mod After
+pub mod ByLines
+pub mod Engine
+pub mod LineMeaning
+pub mod Lines
+pub mod LinesAfter
+pub mod Meaning
+pub mod Passages
+pub mod Reached
+pub mod Reader
+pub mod RecordsAnswer
+pub mod Refusals
+pub mod Split
+pub mod Statuses
+pub mod Stream
+pub mod Taking
+pub mod Words

@@ -1,0 +1,36 @@
+-- What the record lines of a command mean (this project's profile).
+use Rattle.std.specs.Prelude.{ℕ, List}
+use Rattle.wrp_records.specs.declared.status.Status.{Status}
+use Rattle.wrp_records.specs.declared.status.Status.TheVariants.{BadCalib}
+use Rattle.wrp_records.specs.Stream.{Accepting, Refusing}
+
+-- with which status what is written at the end behind all lines, by what they say, may break off, and
+-- what of it then stands
+abbrev pub Breaking : Type 1
+Breaking = List (List ℕ) → Status → List ℕ → Type 0
+
+-- the end of the input is refused behind all lines, which this last line names
+abbrev pub breaks_by : Accepting → Breaking
+breaks_by bars lines BadCalib text = bars lines text
+breaks_by bars lines status text = ⊥
+
+-- no lines give no answer
+abbrev pub bars_none : Accepting
+bars_none lines text = ⊥
+
+-- which lines are records and what they write, which line is refused behind others and what names it,
+-- what is written at the end behind all, and how that may break off
+pub record LineMeaning : Type 1 where
+  pub accepts : Accepting
+  pub refuses : Refusing
+  pub closes : Accepting
+  pub breaks_off : Breaking
+
+-- the meaning of a machine's lines
+abbrev pub meaning_by : Accepting → Refusing → Accepting → Accepting → LineMeaning
+meaning_by accepts refuses closes bars = record {
+  accepts = accepts;
+  refuses = refuses;
+  closes = closes;
+  breaks_off = breaks_by bars;
+}

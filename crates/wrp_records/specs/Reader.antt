@@ -1,0 +1,41 @@
+-- A reader of lines: what it holds of what it took, and whether the input ended (this project's
+-- profile).
+use Rattle.std.specs.Prelude.{◌≡◌, true, ℕ, ◌<◌, ◌⊎◌, Bool, Option, List, [], ◌++◌, length}
+use Rattle.std.specs.Io.KnownBytes.{Consumes}
+use Rattle.wrp_records.specs.Lines.{HasNoFeed, IsWhole}
+
+-- how many octets are asked for at a time
+abbrev pub piece_limit : ℕ
+piece_limit = 65_536
+
+-- what a reader holds of what it took, and whether the source answered that there is no more
+pub record ReaderAt : Type 0 where
+  pub rest : List ℕ
+  pub ended : Bool
+
+-- the input ended, and nothing is held
+pub record IsLast (r : ReaderAt) : Type 0 where
+  pub ended : r.ended ≡ true
+  pub none : r.rest ≡ []
+
+-- the line has no LF, and nothing is held behind it
+pub record IsCut (line : List ℕ) (r : ReaderAt) : Type 0 where
+  pub plain : HasNoFeed line
+  pub none : r.rest ≡ []
+
+-- the line ends with the input, without an LF
+pub record EndsInput (line : List ℕ) (r : ReaderAt) : Type 0 where
+  pub plain : HasNoFeed line
+  pub some : 0 < length line
+  pub last : IsLast r
+
+-- the line is whole, or the last one
+abbrev pub IsNext : List ℕ → ReaderAt → Type 0
+IsNext line r = IsWhole line ⊎ EndsInput line r
+
+-- what was taken from the source stands behind what was held: of both a line is given, and the rest
+-- is held; where the input had ended nothing is taken
+abbrev pub Takes : Option (List ℕ) → Option (List ℕ) → List ℕ → Bool → ReaderAt → List ℕ → Type 0
+Takes before now held ended r line =
+    (given : List ℕ) × Consumes before now given × (line ++ r.rest ≡ held ++ given)
+    × (ended ≡ true → (given ≡ []) × (r.ended ≡ true))

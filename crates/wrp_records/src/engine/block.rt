@@ -1,0 +1,150 @@
+//! The lines that a reader holds, handled one after the other: one reader of `csv` serves them all.
+ghost use Rattle.std.specs.Prelude.{◌≡◌, true, ◌+◌, ◌<◌, ◌≤◌, ◌++◌, ℕ, List, Option, IfSome, length, drop};
+ghost use Rattle.wrp_fields.specs.Block.{StartsPlain};
+ghost use Rattle.wrp_fields.specs.Lines.{IsLine};
+ghost use Rattle.wrp_records.specs.Lines.{content_of, IsPlainText, IsWhole};
+ghost use Rattle.wrp_records.specs.Reached.{Reached, Comes};
+ghost use Rattle.wrp_records.specs.Stream.{Handles, IsWithin, number_limit};
+
+use super::splitting::split_next;
+use super::{Ended, LINE_LIMIT, handle_line};
+use crate::feed::first_whole;
+use crate::line::content;
+use crate::machine::Machine;
+use crate::reader::Reader;
+use csv::ByteRecord;
+use memchr::memchr2;
+use std::alloc::Global;
+use wrp_fields::{Block, is_plain};
+
+// True only where each octet may stand in a plain line or is an LF: then what a line says is plain,
+// unless it is empty.
+#[tactic(auto, using(crate::proofs::PlainTexts::all_plain))]
+fn is_plain_text(octets: &[u8]) -> bool
+    ensures { result ≡ true → IsPlainText octets.now }
+{
+    octets.is_ascii() && memchr2(b'"', b'\r', octets).is_none()
+}
+
+// True only where what a line says is plain. In a plain text its length alone says so.
+#[tactic(auto, using(crate::proofs::PlainTexts::long_is_plain))]
+fn is_plain_line(line: &[u8], text_is_plain: bool) -> bool
+    requires whole { IsWhole line.now }
+    requires text { text_is_plain ≡ true → IsPlainText line.now }
+    ensures { result ≡ true → IsLine (content_of line.now) }
+{
+    text_is_plain && line.len() > 1 || is_plain(content(line))
+}
+
+// The first line, where it is whole, no larger than a line may be, and plain, and one more record may
+// come behind so many.
+#[tactic(auto, using(crate::proofs::LineEnds::front_is, crate::proofs::LineEnds::front_within, crate::proofs::PlainTexts::front_plain))]
+fn plain_line(octets: &[u8], text_is_plain: bool, number: u32) -> Option<&[u8]>
+    requires text { text_is_plain ≡ true → IsPlainText octets.now }
+    ensures front { IfSome result (λ line.
+        octets.now ≡ line.now ++ drop (length line.now) octets.now) }
+    ensures whole { IfSome result (λ line. IsWhole line.now) }
+    ensures within { IfSome result (λ line. IsWithin line.now) }
+    ensures plain { IfSome result (λ line. IsLine (content_of line.now)) }
+    ensures number { IfSome result (λ _. number + 1 < number_limit) }
+{
+    let size = first_whole(octets)?;
+    let line = &octets[..size];
+    if number == u32::MAX || size > LINE_LIMIT + 1 || !is_plain_line(line, text_is_plain) {
+        return None;
+    }
+    Some(line)
+}
+
+// The octets from a place on.
+fn behind(octets: &[u8], at: usize) -> &[u8]
+    requires { at ≤ length octets.now }
+    ensures { result.now ≡ drop at octets.now }
+{
+    &octets[at..]
+}
+
+// Handles the lines that a reader holds, which are those of these octets, up to the first that is not
+// whole or not plain.
+fn handle_block<M: Machine>(
+    alloc: Global,
+    machine: &mut M,
+    octets: &[u8],
+    reader: &mut Reader,
+    number: &mut u32,
+    text: &mut Vec<u8>,
+    waiting: &mut Vec<u8>,
+) -> Option<Ended>
+    requires starts { StartsPlain octets.now }
+    requires held { reader.old.rest ≡ octets.now }
+    requires ready { M.is_ready machine.old }
+    requires count { M.count machine.old ≤ number.old }
+    ensures ready { M.is_ready machine.new }
+    ensures count { M.count machine.new ≤ number.new }
+    ensures setting { M.setting machine.new ≡ M.setting machine.old }
+    ensures ended { reader.new.ended ≡ reader.old.ended }
+    ensures more { number.old ≤ number.new }
+    ensures stands { (start : List ℕ) (left rest held now : Option (List ℕ))
+        → Reached (Handles (M.accepts (M.setting machine.old))) (M.has_taken machine.old) start
+        reader.old left rest held now waiting.old.items number.old
+        → Comes (M.accepts (M.setting machine.old)) (M.refuses (M.setting machine.old))
+        (M.has_taken machine.new) start reader.new left rest held now waiting.new.items
+        number.new result }
+{
+    let mut row = ByteRecord::new(alloc);
+    let mut block = Block::new(alloc, octets);
+    let text_is_plain = is_plain_text(octets);
+    let mut at = 0;
+    'lines: loop {
+        let left = behind(octets, at);
+        let Some(line) = plain_line(left, text_is_plain, *number) else {
+            return None;
+        };
+        match split_next(&mut block, line, &mut row) {
+            Ok(()) => {}
+            Err(_) => return Some(Ended::Memory),
+        }
+        let size = line.len();
+        at += size;
+        reader.pass(size);
+        *number += 1;
+        let said = content(line);
+        match handle_line(alloc, machine, said, Some(&row), *number, text, waiting) {
+            Some(ended) => return Some(ended),
+            None => {}
+        }
+    }
+}
+
+/// Handles the lines that a reader holds, up to the first that is not whole or not plain.
+pub fn handle_held<M: Machine>(
+    alloc: Global,
+    machine: &mut M,
+    reader: &mut Reader,
+    number: &mut u32,
+    text: &mut Vec<u8>,
+    waiting: &mut Vec<u8>,
+) -> Option<Ended>
+    requires ready { M.is_ready machine.old }
+    requires count { M.count machine.old ≤ number.old }
+    ensures ready { M.is_ready machine.new }
+    ensures count { M.count machine.new ≤ number.new }
+    ensures setting { M.setting machine.new ≡ M.setting machine.old }
+    ensures ended { reader.new.ended ≡ reader.old.ended }
+    ensures more { number.old ≤ number.new }
+    ensures stands { (start : List ℕ) (left rest held now : Option (List ℕ))
+        → Reached (Handles (M.accepts (M.setting machine.old))) (M.has_taken machine.old) start
+        reader.old left rest held now waiting.old.items number.old
+        → Comes (M.accepts (M.setting machine.old)) (M.refuses (M.setting machine.old))
+        (M.has_taken machine.new) start reader.new left rest held now waiting.new.items
+        number.new result }
+{
+    let Some(line) = plain_line(reader.held(), false, *number) else {
+        return None;
+    };
+    let _line = line;
+    match reader.held().to_vec(alloc) {
+        Ok(octets) => handle_block(alloc, machine, &octets, reader, number, text, waiting),
+        Err(_) => Some(Ended::Memory),
+    }
+}

@@ -1,0 +1,38 @@
+//! The parts of lines, by readers of `csv`.
+ghost use Rattle.std.specs.Prelude.{◌≡◌, ◌++◌, List, ℕ, Some, true, false, IfOk};
+ghost use Rattle.wrp_fields.specs.Lines.{IsLine};
+ghost use Rattle.wrp_records.specs.Lines.{content_of, IsWhole};
+ghost use Rattle.wrp_records.specs.Split.{HasParts};
+
+use csv::ByteRecord;
+use std::alloc::{AllocError, Global};
+use wrp_fields::{Block, is_plain};
+
+/// Puts the parts of a line that stands alone into `row`, and answers whether it is plain.
+#[tactic(auto, using(crate::proofs::LineEnds::starts_plain))]
+pub fn split(alloc: Global, line: &[u8], row: &mut ByteRecord) -> Result<bool, AllocError>
+    ensures plain { IfOk result (λ is. is ≡ true → HasParts line.now row.new) }
+    ensures other { IfOk result (λ is. is ≡ false → IsLine line.now → ⊥) }
+{
+    if !is_plain(line) {
+        return Ok(false);
+    }
+    let _found = Block::new(alloc, line).next(row)?;
+    Ok(true)
+}
+
+/// Puts the parts of the next line of a block, which is this, into `row`.
+pub fn split_next(
+    block: &mut Block<'_>,
+    line: &[u8],
+    row: &mut ByteRecord,
+) -> Result<(), AllocError>
+    requires whole { IsWhole line.now }
+    requires plain { IsLine (content_of line.now) }
+    ensures { (rest : List ℕ) → block.old ≡ Some (line.now ++ rest)
+        → IfOk result (λ _. HasParts (content_of line.now) row.new × (block.new ≡ Some rest)) }
+{
+    let _line = line;
+    let _found = block.next(row)?;
+    Ok(())
+}

@@ -1,0 +1,49 @@
+//! Where a line ends.
+ghost use Rattle.std.specs.Prelude.{◌≡◌, ◌≤◌, ◌==◌, ◌++◌, length, take, MatchOption, IfOk, OnErr};
+ghost use Rattle.std.specs.List.{position};
+ghost use Rattle.wrp_records.specs.Lines.{line_feed, HasNoFeed, IsWhole};
+
+use memchr::memchr;
+use std::alloc::AllocError;
+
+/// The place of the first LF.
+#[tactic(auto, using(crate::proofs::FirstFeed::first_is))]
+pub fn first_feed(octets: &[u8]) -> Option<usize>
+    ensures { result ≡ position (λ octet. octet == line_feed) octets.now }
+{
+    memchr(b'\n', octets)
+}
+
+/// How many octets stand up to the first LF and with it, or None where there is no LF.
+pub fn first_whole(octets: &[u8]) -> Option<usize>
+    ensures { MatchOption result
+        (HasNoFeed octets.now)
+        (λ size. (size ≤ length octets.now) × IsWhole (take size octets.now)) }
+{
+    match first_feed(octets) {
+        Some(at) => Some(at + 1),
+        None => None,
+    }
+}
+
+/// Appends the octets up to the first LF and with it, and answers how many these are; all of them,
+/// where there is no LF.
+pub fn append_front(line: &mut Vec<u8>, octets: &[u8]) -> Result<Option<usize>, AllocError>
+    requires { HasNoFeed line.old.items }
+    ensures all { IfOk result (λ given. MatchOption given
+        (HasNoFeed line.new.items × (line.new.items ≡ line.old.items ++ octets.now))
+        (λ size. (size ≤ length octets.now) × IsWhole line.new.items
+        × (line.new.items ≡ line.old.items ++ take size octets.now))) }
+    ensures err { OnErr result (line.new.items ≡ line.old.items) }
+{
+    match first_whole(octets) {
+        Some(size) => {
+            line.extend_from_slice(&octets[..size])?;
+            Ok(Some(size))
+        }
+        None => {
+            line.extend_from_slice(octets)?;
+            Ok(None)
+        }
+    }
+}

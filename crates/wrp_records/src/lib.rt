@@ -1,0 +1,27 @@
+//! What every command stands on: the records of an input, taken from a source in pieces and handled as they
+//! come, what they write, which goes to a sink before more is asked for, and the refusals that end it. A
+//! command is a machine for its lines. It knows no network (this project's profile).
+#![tactic(auto)]
+
+mod answering;
+mod engine;
+mod feed;
+mod line;
+mod machine;
+mod reader;
+mod refusals;
+mod running;
+mod status;
+mod words;
+mod writing;
+
+pub use answering::{answer, refuse_network};
+pub use engine::{append_large, handle_records};
+pub use line::content;
+pub use machine::{Closing, Machine, Refusal, Taken};
+pub use reader::{Next, Reader};
+pub use refusals::{TOO_LARGE_LINE, append_bad_trace, append_broken_words, bad_network};
+pub use running::{run_all_lines, run_lines};
+pub use status::Status;
+pub use words::append_words;
+pub use writing::write_all;

@@ -1,0 +1,103 @@
+//! What handles the records of a command, a line each, and the end of its input.
+ghost use Rattle.std.specs.Prelude.{◌≡◌, ℕ, ◌+◌, ◌^◌, ◌<◌, ◌≤◌, List, [], ◌∷◌, ◌++◌, length};
+ghost use Rattle.wrp_records.specs.declared.machine.Refusal.{Refusal};
+ghost use Rattle.wrp_records.specs.Split.{IsSplit};
+
+use csv::ByteRecord;
+use std::alloc::Global;
+
+/// Why a record is refused.
+#[derive(Clone, Copy, Debug, PartialEq, Eq)]
+pub enum Refusal {
+    /// It is no line of its kind.
+    BadTrace,
+    /// It breaks a premise.
+    Broken,
+}
+
+/// What a machine answers to a line.
+#[derive(Clone, Copy, Debug, PartialEq, Eq)]
+pub enum Taken {
+    /// It is a record, and what it writes is given.
+    Accepted,
+    /// It is refused, and the line that names it is given.
+    Refused(Refusal),
+    /// There was no memory.
+    Memory,
+}
+
+/// What a machine answers to the end of the input.
+#[derive(Clone, Copy, Debug, PartialEq, Eq)]
+pub enum Closing {
+    /// What is written behind all records is given.
+    Closed,
+    /// The records as a whole give no answer, and the line that names it is given.
+    BadCalib,
+    /// There was no memory.
+    Memory,
+}
+
+/// What handles the records of a command.
+pub trait Machine {
+    /// What no record changes: the network and the node.
+    type Setting;
+
+    /// The setting.
+    ghost setting: { Self → Self.Setting };
+
+    /// How many records were taken, at most.
+    ghost count: { Self → ℕ };
+
+    /// The machine can take a line.
+    ghost is_ready: { Self → Type 0 };
+
+    /// The machine stands for the lines that say this.
+    ghost has_taken: { Self → List (List ℕ) → Type 0 };
+
+    /// Lines that say this are records, and write this.
+    ghost accepts: { Self.Setting → List (List ℕ) → List ℕ → Type 0 };
+
+    /// Behind lines that say this a line that says this is refused, and this last line names it.
+    ghost refuses: { Self.Setting → List (List ℕ) → List ℕ → Refusal → List ℕ → Type 0 };
+
+    /// Behind lines that say this, and no more, this is written at the end.
+    ghost closes: { Self.Setting → List (List ℕ) → List ℕ → Type 0 };
+
+    /// Lines that say this, and no more, give no answer, and this last line names it.
+    ghost bars: { Self.Setting → List (List ℕ) → List ℕ → Type 0 };
+
+    /// Takes what a line says, the record of this number, by the parts that `csv` gives, and appends
+    /// what it writes to `text`. A line that is not plain has no parts.
+    fn take(
+        &mut self,
+        alloc: Global,
+        line: &[u8],
+        parts: Option<&ByteRecord>,
+        number: u32,
+        text: &mut Vec<u8>,
+    ) -> Taken
+        requires split { IsSplit line.now parts }
+        requires ready { is_ready self.old }
+        requires none { text.old.items ≡ [] }
+        requires room { count self.old + 1 < 2 ^ 32 }
+        ensures ready { is_ready self.new }
+        ensures count { count self.new ≤ count self.old + 1 }
+        ensures setting { setting self.new ≡ setting self.old }
+        ensures accepted { (lines : List (List ℕ)) (before : List ℕ) → result ≡ Taken.Accepted
+            → has_taken self.old lines → accepts (setting self.old) lines before
+            → has_taken self.new (lines ++ line.now ∷ [])
+            × accepts (setting self.old) (lines ++ line.now ∷ []) (before ++ text.new.items) }
+        ensures refused { (lines : List (List ℕ)) (refusal : Refusal)
+            → result ≡ Taken.Refused refusal
+            → has_taken self.old lines → number ≡ length lines + 1
+            → refuses (setting self.old) lines line.now refusal text.new.items };
+
+    /// Takes the end of the input, and appends what is written behind all records to `text`.
+    fn close(&self, alloc: Global, text: &mut Vec<u8>) -> Closing
+        requires ready { is_ready self.now }
+        requires none { text.old.items ≡ [] }
+        ensures closed { (lines : List (List ℕ)) → result ≡ Closing.Closed
+            → has_taken self.now lines → closes (setting self.now) lines text.new.items }
+        ensures barred { (lines : List (List ℕ)) → result ≡ Closing.BadCalib
+            → has_taken self.now lines → bars (setting self.now) lines text.new.items };
+}
