@@ -3,3 +3,9 @@ pub mod Adding
 pub mod Telling
 pub mod Shares
 pub mod Holding
+pub mod LineLemmas
+pub mod Saying
+pub mod LinesExact
+pub mod LinesTelling
+pub mod InputsTelling
+pub mod InputsAnswered

@@ -5,3 +5,12 @@ pub mod Answer
 pub mod StandsFor
 pub mod Truth
 pub mod Kept
+pub mod Lines
+pub mod Said
+pub mod Printing
+pub mod Recorded
+pub mod LinesMeaning
+pub mod LinesStand
+pub mod LinesTruth
+pub mod LinesTold
+pub mod LinesAnswer

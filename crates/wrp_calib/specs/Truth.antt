@@ -1,6 +1,6 @@
 -- The true delays of a calibration, what they keep of the stated errors, and what an answer tells of them (this
 -- project's profile).
-use Rattle.std.specs.Prelude.{ℤ, pos, ◌^◌, ◌≤◌, ◌≤ℤ◌, ◌+ℤ◌, ◌*ℤ◌, ◌≢◌, List, [], Result, Ok, Err}
+use Rattle.std.specs.Prelude.{ℤ, pos, ◌^◌, ◌≤ℤ◌, ◌+ℤ◌, ◌*ℤ◌, ◌≢◌, List, [], Result, Ok, Err}
 use Rattle.wrp_base.specs.Closeness.{IsWithin}
 use Rattle.wrp_calib.specs.declared.span.Span.{Span}
 use Rattle.wrp_calib.specs.declared.run.RunKind.{RunKind}

@@ -3,10 +3,16 @@
 //! interval that holds the truth (this project's profile).
 #![tactic(auto)]
 
+mod calibrating;
 mod calibration;
+mod laws;
+mod lines;
 mod run;
 mod span;
 
+pub use calibrating::calibrate;
 pub use calibration::{Calib, CalibFault, CalibOut, Unknown};
+pub use laws::{conflicts_are_real, each_input_has_answer, inputs_tell_truth, lines_tell_truth};
+pub use lines::CalibLines;
 pub use run::RunKind;
 pub use span::Span;

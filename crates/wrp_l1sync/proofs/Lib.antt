@@ -1,3 +1,11 @@
 mod PortLaws
 mod PairLaws
 mod TheoremLaws
+mod LineReadingLaws
+mod LineLists
+pub mod LineExact
+mod LineTakingLaws
+mod LineWords
+pub mod LineTheoremLaws
+pub mod LineAnswerLaws
+pub mod LineDecided

@@ -3,3 +3,11 @@ pub mod Inputs
 pub mod PortAt
 pub mod Pair
 pub mod Theorem
+pub mod LineKinds
+pub mod LineFields
+pub mod LineReading
+pub mod LineText
+pub mod LineRecords
+pub mod LineTaking
+pub mod LineTheorem
+pub mod LineAnswers

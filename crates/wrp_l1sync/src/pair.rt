@@ -81,6 +81,7 @@ impl L1Pair {
         requires fit { IsFit e.now }
         requires count { self.old.count < 2 ^ 32 - 1 }
         ensures limits { self.new.limits ≡ self.old.limits }
+        ensures count { IsOk result → self.new.count ≡ self.old.count + 1 }
         ensures broken { (events : List L1Event) → StandsFor self.old events →
             told_breach result
             ≡ breach_of self.old.limits (history self.old.limits.interval events) e.now }

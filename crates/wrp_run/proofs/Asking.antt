@@ -1,43 +1,55 @@
 -- What stands at the end of a run, told of the words and the whole input.
-use Rattle.std.proofs.Common.{◌≡◌, inl, inr, true, false, ℕ, ◌+◌, ◌<◌, ◌≤◌, Option, None, Some, IfSome, Err, List, [], ◌∷◌, ◌++◌, length, length-append, take, refl, sym, ap, ◌∙◌, subst, append_assoc, append-nil, arith}
+use Rattle.std.proofs.Common.{◌≡◌, ◌⊎◌, inl, inr, true, false, Bool, ℕ, ◌+◌, ◌<◌, ◌≤◌, Option, None, Some, IfSome, Err, List, [], ◌∷◌, ◌++◌, length, length-append, take, refl, sym, ap, ◌∙◌, subst, append_assoc, append-nil, option_map, arith}
 use Rattle.std.specs.List.{concat}
 use Rattle.std.specs.Io.KnownBytes.{Appends, Consumes, IsAtEnd}
 use Rattle.std.proofs.KnownBytes.{Appends-nil, Consumes-trans}
 use Rattle.wrp_base.specs.declared.fault.ConfFault.{ConfFault}
 use Rattle.wrp_base.specs.declared.fault.ConfFault.TheVariants.{Fault, Memory}
 use Rattle.wrp_config.specs.Reading.{IsReadingOf}
+use Rattle.wrp_io.specs.declared.link.LinkCall.{LinkCall}
 use Rattle.wrp_records.specs.declared.machine.Refusal.{Refusal}
 use Rattle.wrp_records.specs.declared.machine.Refusal.TheVariants as refusals
 use Rattle.wrp_records.specs.declared.status.Status.{Status}
-use Rattle.wrp_records.specs.declared.status.Status.TheVariants.{Done, Usage, BadNetwork, BadTrace, Broken, ReadFault, WriteFault, TooLarge, OutOfMemory}
-use Rattle.wrp_records.specs.LinesAfter.{After}
-use Rattle.wrp_run.specs.Answer.{Answer, AsksNone, IsCommand, FirstAnswer, PartAnswer, CutTask}
-use Rattle.wrp_run.specs.Ends.{Run, AsksEvents, Ends, EndsRefused, TakesPiece, ReadFailed, WriteFailed, Wrote}
+use Rattle.wrp_records.specs.declared.status.Status.TheVariants.{Done, Usage, BadNetwork, BadTrace, Broken, ReadFault, WriteFault, LinkFault, TooLarge, OutOfMemory, BadCapture, BadCalib}
+use Rattle.wrp_records.specs.After.{After, GoesOn, IsDue, IsFirst, StopsNear}
+use Rattle.wrp_records.specs.ByLines.{LastRefused, LastRefusedAs, of_lines}
 use Rattle.wrp_records.specs.Engine.{Finishes, RefusesNetwork}
-use Rattle.wrp_run.specs.Input.{network_text, behind_separator, network_limit, IsDivided, IsTooLong, IsUndivided}
-use Rattle.wrp_records.specs.Lines.{lines_of}
 use Rattle.wrp_records.specs.LineMeaning.{LineMeaning}
+use Rattle.wrp_records.specs.Meaning.{Meaning}
+use Rattle.wrp_records.specs.Lines.{lines_of}
+use Rattle.wrp_records.specs.Passages.{Failed, FailsBy, Passage, Passes, PassesAll}
 use Rattle.wrp_records.specs.Reader.{ReaderAt, piece_limit}
-use Rattle.wrp_records.specs.RecordsAnswer.{RecordsAnswer, StandsFirst}
-use Rattle.wrp_run.specs.Replays.{IsRefusedBy}
-use Rattle.wrp_records.specs.Statuses.{is_answer}
-use Rattle.wrp_records.specs.Stream.{RefusedAt, CutHandled}
-use Rattle.wrp_run.specs.Refusals.{usage_line}
+use Rattle.wrp_records.specs.RecordsAnswer.{RecordsAnswer, StandsFirst, BreaksOff, IsRefused}
 use Rattle.wrp_records.specs.Refusals.{bad_network_line, too_large_line}
+use Rattle.wrp_records.specs.Statuses.{is_answer}
+use Rattle.wrp_records.specs.Stream.{CutHandled}
+use Rattle.wrp_run.specs.declared.command_line.Alone.{Alone}
+use Rattle.wrp_run.specs.declared.command_line.Alone.TheVariants.{Migrate, L1Sync, Calibrate}
+use Rattle.wrp_run.specs.Alone.{IsAlone, MayAnswer, alone_meaning}
+use Rattle.wrp_run.specs.Answer.{Answer, AsksNone, IsCommand, IsNetworked, FirstAnswer, PartAnswer, CutTask}
+use Rattle.wrp_run.specs.Ends.{Run, AsksEvents, Called, Ends, EndsRefused, EndsRefusedAs, EndsUnlinked, TakesPiece, Wrote, begun_at}
+use Rattle.wrp_run.specs.Input.{network_text, behind_separator, network_limit, IsDivided, IsTooLong, IsUndivided}
+use Rattle.wrp_run.specs.Refusals.{usage_line}
+use Rattle.wrp_run.specs.Replays.{IsRefusedBy}
 use Rattle.wrp_run.specs.Tasks.{Task, Replay, Audit, Emit, Simulate, AsksFor, meaning_at}
-use Rattle.wrp_records.proofs.Feeds.{lines_of-open}
-use Rattle.wrp_records.proofs.NextLines.{next_line}
-use Rattle.wrp_records.proofs.Reaching.{lines_behind, next_some}
-use Rattle.wrp_records.proofs.Telling.{DueOf, due_told, answer_told, stands_told}
 
 -- what is due for the records is due for the words and the input
 answer_of : (words : List (List ℕ)) (input : List ℕ) (task : Task) (status : Status) (octets : List ℕ) → AsksFor words (network_text input) task
-    → RecordsAnswer (meaning_at task) (behind_separator (lines_of input)) status octets → Answer words input status octets
-answer_of words input task Done octets has due = (task, has, due)
-answer_of words input task BadTrace octets has due = (task, has, due)
-answer_of words input task Broken octets has due = (task, has, due)
-answer_of words input task TooLarge octets has due = inr (task, has, due)
+    → RecordsAnswer (meaning_at task) (behind_separator (lines_of input)) status octets → Answer words input [] status octets
+answer_of words input task Done octets has due = inl (task, has, due, refl)
+answer_of words input task BadTrace octets has due = inl (task, has, due, refl)
+answer_of words input task Broken octets has due = inl (task, has, due, refl)
+answer_of words input task TooLarge octets has due = inr (inl (task, has, due, refl))
+answer_of words input task BadCalib octets has due = inl (task, has, due, refl)
 answer_of words input task _ octets has due = absurd due
+
+-- no call leaves the calls that a link tells
+pub uncalled : (link : Passage (List LinkCall)) → link.now ≡ link.before → link.now ≡ option_map (λ told. told ++ []) link.before
+uncalled link same = same ∙ none link.before
+  where
+    none : (told : Option (List LinkCall)) → told ≡ option_map (λ told. told ++ []) told
+    none None = refl
+    none (Some calls) = ap Some (sym (append-nil calls))
 
 -- a fact of the whole input
 pub told_text : (first middle : Option (List ℕ)) (network text : List ℕ) (r : ReaderAt) → Consumes first middle network → IsDivided network text r → (r.ended ≡ true → IsAtEnd middle)
@@ -53,14 +65,14 @@ told_text (Some input) (Some middle) network text r one divided at_end =
     ]
 
 -- of an input that was taken in two parts the network text and the record lines
-both_parts : (P : List (List ℕ) → Type 0) (first middle last : Option (List ℕ)) (network given text : List ℕ) (r s : ReaderAt)
+both_parts : (P : List (List ℕ) → Type 0) (first middle last : Option (List ℕ)) (network given text : List ℕ) (r : ReaderAt) (ended : Bool)
     → Consumes first middle network → Consumes middle last given → IsDivided network text r
-    → (r.ended ≡ true → IsAtEnd middle) → (s.ended ≡ true → IsAtEnd last) → ((more : List ℕ) → (s.ended ≡ true → more ≡ []) → P (lines_of ((r.rest ++ given) ++ more)))
+    → (r.ended ≡ true → IsAtEnd middle) → (ended ≡ true → IsAtEnd last) → ((more : List ℕ) → GoesOn ended more → P (lines_of ((r.rest ++ given) ++ more)))
     → IfSome first (λ input. (network_text input ≡ text) × P (behind_separator (lines_of input)))
-both_parts P None middle last network given text r s one two divided rest_at_end at_end told = tt
-both_parts P (Some input) None last network given text r s one two divided rest_at_end at_end told = absurd one
-both_parts P (Some input) (Some middle) None network given text r s one two divided rest_at_end at_end told = absurd two
-both_parts P (Some input) (Some middle) (Some left) network given text r s one two divided rest_at_end at_end told =
+both_parts P None middle last network given text r ended one two divided rest_at_end at_end told = tt
+both_parts P (Some input) None last network given text r ended one two divided rest_at_end at_end told = absurd one
+both_parts P (Some input) (Some middle) None network given text r ended one two divided rest_at_end at_end told = absurd two
+both_parts P (Some input) (Some middle) (Some left) network given text r ended one two divided rest_at_end at_end told =
     elim divided [
       | inl (front, goes, divides) ↦
           let all : input ≡ front ++ ((r.rest ++ given) ++ left) =
@@ -85,133 +97,147 @@ pub record TookNetwork (words : List (List ℕ)) (first middle : Option (List �
   pub at_end : r.ended ≡ true → IsAtEnd middle
   pub asks : AsksFor words text task
 
--- what was taken of the records, and what stands
-pub record TookRecords (M : LineMeaning) (middle last held now : Option (List ℕ)) (r s : ReaderAt) (status : Status) : Type 0 where
-  pub given : List ℕ
-  pub octets : List ℕ
-  pub taken : Consumes middle last given
-  pub wrote : Appends held now octets
-  pub stands : After M (r.rest ++ given) s status octets
-  pub at_end : s.ended ≡ true → IsAtEnd last
-
 -- the node that is asked for, in the whole input
 asks_told : (words : List (List ℕ)) (text other : List ℕ) (task : Task) → other ≡ text → AsksFor words text task → AsksFor words other task
 asks_told words text other task same asks = subst (λ (t : List ℕ). AsksFor words t task) (sym same) asks
 
 -- a fact of all record lines, in the whole input
-lines_told : (P : List (List ℕ) → Type 0) (words : List (List ℕ)) (first middle last held now : Option (List ℕ)) (text : List ℕ) (r s : ReaderAt) (task : Task) (status : Status)
-    → TookNetwork words first middle text r task → (at : TookRecords (meaning_at task) middle last held now r s status)
-    → ((more : List ℕ) → (s.ended ≡ true → more ≡ []) → P (lines_of ((r.rest ++ at.given) ++ more)))
+lines_told : (P : List (List ℕ) → Type 0) (words : List (List ℕ)) (first : Option (List ℕ)) (source : Passage (List ℕ)) (text given : List ℕ) (r : ReaderAt) (ended : Bool) (task : Task)
+    → TookNetwork words first source.before text r task → Consumes source.before source.now given → (ended ≡ true → IsAtEnd source.now)
+    → ((more : List ℕ) → GoesOn ended more → P (lines_of ((r.rest ++ given) ++ more)))
     → IfSome first (λ input. AsksFor words (network_text input) task × P (behind_separator (lines_of input)))
-lines_told P words None middle last held now text r s task status net at told = tt
-lines_told P words (Some input) middle last held now text r s task status net at told =
-    let both = both_parts P (Some input) middle last net.network at.given text r s net.taken at.taken net.divided net.at_end at.at_end told in
+lines_told P words None source text given r ended task net taken at_end told = tt
+lines_told P words (Some input) source text given r ended task net taken at_end told =
+    let both = both_parts P (Some input) source.before source.now net.network given text r ended net.taken taken net.divided net.at_end at_end told in
     (asks_told words text (network_text input) task both.0 net.asks, both.1)
 
 -- an answer
-answered : (words : List (List ℕ)) (first middle last held now : Option (List ℕ)) (text : List ℕ) (r s : ReaderAt) (task : Task) (status : Status)
-    → TookNetwork words first middle text r task → (at : TookRecords (meaning_at task) middle last held now r s status) → is_answer status ≡ true
-    → IfSome first (λ input. Answer words input status at.octets)
-answered words None middle last held now text r s task status net at is = tt
-answered words (Some input) middle last held now text r s task status net at is =
-    let has = lines_told (λ (ls : List (List ℕ)). RecordsAnswer (meaning_at task) ls status at.octets) words (Some input) middle last held now text r s task status net at
-    (answer_told (meaning_at task) (r.rest ++ at.given) s status at.octets at.stands is) in
-    answer_of words input task status at.octets has.0 has.1
+answered : (words : List (List ℕ)) (first : Option (List ℕ)) (source : Passage (List ℕ)) (text given octets : List ℕ) (r : ReaderAt) (ended : Bool) (task : Task) (status : Status)
+    → TookNetwork words first source.before text r task → Consumes source.before source.now given → (ended ≡ true → IsAtEnd source.now)
+    → IsDue (of_lines (meaning_at task)) (r.rest ++ given) ended [] status octets → IfSome first (λ input. Answer words input [] status octets)
+answered words None source text given octets r ended task status net taken at_end due = tt
+answered words (Some input) source text given octets r ended task status net taken at_end due =
+    let has = lines_told (λ (ls : List (List ℕ)). RecordsAnswer (meaning_at task) ls status octets) words (Some input) source text given r ended task net taken at_end (λ more on. (due more on).1) in
+    answer_of words input task status octets has.0 has.1
 
 -- the first lines
-firsts : (words : List (List ℕ)) (first middle last held now : Option (List ℕ)) (text : List ℕ) (r s : ReaderAt) (task : Task)
-    → TookNetwork words first middle text r task → (at : TookRecords (meaning_at task) middle last held now r s OutOfMemory)
-    → IfSome first (λ input. FirstAnswer words input at.octets)
-firsts words None middle last held now text r s task net at = tt
-firsts words (Some input) middle last held now text r s task net at =
-    let has = lines_told (λ (ls : List (List ℕ)). StandsFirst (meaning_at task) ls at.octets) words (Some input) middle last held now text r s task OutOfMemory net at
-    (stands_told (meaning_at task) (r.rest ++ at.given) s at.octets at.stands) in
-    inr (task, has.0, has.1)
+firsts : (words : List (List ℕ)) (first : Option (List ℕ)) (source : Passage (List ℕ)) (text given octets : List ℕ) (r : ReaderAt) (ended : Bool) (task : Task)
+    → TookNetwork words first source.before text r task → Consumes source.before source.now given → (ended ≡ true → IsAtEnd source.now)
+    → IsFirst (of_lines (meaning_at task)) (r.rest ++ given) ended [] octets → IfSome first (λ input. FirstAnswer words input [] octets)
+firsts words None source text given octets r ended task net taken at_end due = tt
+firsts words (Some input) source text given octets r ended task net taken at_end due =
+    let has = lines_told (λ (ls : List (List ℕ)). StandsFirst (meaning_at task) ls octets) words (Some input) source text given r ended task net taken at_end (λ more on. (due more on).1) in
+    inr (inl (task, has.0, has.1, refl))
 
 -- a part of what is due
-parts : (words : List (List ℕ)) (first middle last held now : Option (List ℕ)) (text : List ℕ) (r s : ReaderAt) (task : Task)
-    → TookNetwork words first middle text r task → (at : TookRecords (meaning_at task) middle last held now r s WriteFault)
-    → IfSome first (λ input. PartAnswer words input at.octets)
-parts words None middle last held now text r s task net at = tt
-parts words (Some input) middle last held now text r s task net at =
-    let cut = at.stands in
-    let has = lines_told (λ (ls : List (List ℕ)). DueOf (meaning_at task) ls cut.0 cut.1) words (Some input) middle last held now text r s task WriteFault net at
-    (due_told (meaning_at task) (r.rest ++ at.given) s cut.0 cut.1 cut.3) in
-    (cut.1, cut.2, cut.4, elim has.1 [ inl answer ↦ inl (cut.0, answer_of words input task cut.0 cut.1 has.0 answer) | inr first ↦ inr (inr (task, has.0, first)) ])
+part_told : (words : List (List ℕ)) (first : Option (List ℕ)) (status : Status) (due : List ℕ) (count : ℕ)
+    → IfSome first (λ input. Answer words input [] status due) → IfSome first (λ input. PartAnswer words input [] (take count due))
+part_told words None status due count has = tt
+part_told words (Some input) status due count has = (due, count, refl, inl (status, has))
+
+part_first : (words : List (List ℕ)) (first : Option (List ℕ)) (due : List ℕ) (count : ℕ)
+    → IfSome first (λ input. FirstAnswer words input [] due) → IfSome first (λ input. PartAnswer words input [] (take count due))
+part_first words None due count has = tt
+part_first words (Some input) due count has = (due, count, refl, inr has)
+
+parts : (words : List (List ℕ)) (first : Option (List ℕ)) (source : Passage (List ℕ)) (text given octets : List ℕ) (r : ReaderAt) (ended : Bool) (task : Task)
+    → TookNetwork words first source.before text r task → Consumes source.before source.now given → (ended ≡ true → IsAtEnd source.now)
+    → After (of_lines (meaning_at task)) (r.rest ++ given) ended [] WriteFault octets → IfSome first (λ input. PartAnswer words input [] octets)
+parts words first source text given octets r ended task net taken at_end at =
+    subst (λ (o : List ℕ). IfSome first (λ input. PartAnswer words input [] o)) (sym at.2)
+    (elim at.3 [
+      | inl due ↦ part_told words first due.0 at.0 at.1 (answered words first source text given at.0 r ended task due.0 net taken at_end due.1)
+      | inr due ↦ part_first words first at.0 at.1 (firsts words first source text given at.0 r ended task net taken at_end due)
+    ])
 
 -- nothing in two parts
 none_of_two : (given left : List ℕ) → [] ≡ given ++ left → given ≡ []
 none_of_two [] left e = refl
 none_of_two (octet ∷ given) left e = absurd (cc)
 
+-- a line among those behind a network text is refused, where the octets behind the text are these
+refused_behind : (M : LineMeaning) (refusal : Refusal) (lines others : List (List ℕ)) (text : List ℕ) → others ≡ lines → (at : IsRefused M refusal lines text) → at.behind ≡ []
+    → (here : IsRefused M refusal others text) × (here.behind ≡ [])
+refused_behind M refusal lines others text same at last = (
+  record {
+    before = at.before;
+    line = at.line;
+    behind = at.behind;
+    written = at.written;
+    last = at.last;
+    divided = same ∙ at.divided;
+    handled = at.handled;
+    within = at.within;
+    number = at.number;
+    refused = at.refused;
+    is = at.is;
+  },
+  last,
+)
+
+ends_refused : (words : List (List ℕ)) (task : Task) (refusal : Refusal) (network text front : List ℕ) → ((more : List ℕ) → (network_text (network ++ more) ≡ text) × (behind_separator (lines_of (network ++ more)) ≡ lines_of more))
+    → AsksFor words text task → LastRefused (meaning_at task) refusal front → EndsRefused words (network ++ front) refusal
+ends_refused words task refusal network text front divides asks at =
+    let here = refused_behind (meaning_at task) refusal (lines_of front) (behind_separator (lines_of (network ++ front))) at.text (divides front).1 at.refused at.last in
+    record { task = task; octets = at.text; asks = asks_told words text (network_text (network ++ front)) task (divides front).0 asks; refused = here.0; last = here.1 }
+
+-- the refused one among these statuses
+ends_as : (words : List (List ℕ)) (task : Task) (status : Status) (network text front : List ℕ) → ((more : List ℕ) → (network_text (network ++ more) ≡ text) × (behind_separator (lines_of (network ++ more)) ≡ lines_of more))
+    → AsksFor words text task → LastRefusedAs (meaning_at task) status front → EndsRefusedAs words (network ++ front) status
+ends_as words task BadTrace network text front divides asks at = inl (ends_refused words task refusals.BadTrace network text front divides asks at)
+ends_as words task Broken network text front divides asks at = inl (ends_refused words task refusals.Broken network text front divides asks at)
+ends_as words task _ network text front divides asks at = absurd at
+
+-- no line of none is refused
+none_refused : (M : LineMeaning) (status : Status) (front : List ℕ) → front ≡ [] → LastRefusedAs M status front → ⊥
+none_refused M BadTrace front none at = nothing (lines_of front) at.refused.before at.refused.line at.refused.behind (ap lines_of none) at.refused.divided
+  where
+    nothing : (lines before : List (List ℕ)) (line : List ℕ) (behind : List (List ℕ)) → lines ≡ [] → lines ≡ before ++ line ∷ behind → ⊥
+    nothing lines [] line behind same is = let bad : [] ≡ line ∷ behind = sym same ∙ is in cc
+    nothing lines (b ∷ before) line behind same is = let bad : [] ≡ b ∷ (before ++ line ∷ behind) = sym same ∙ is in cc
+none_refused M Broken front none at = nothing (lines_of front) at.refused.before at.refused.line at.refused.behind (ap lines_of none) at.refused.divided
+  where
+    nothing : (lines before : List (List ℕ)) (line : List ℕ) (behind : List (List ℕ)) → lines ≡ [] → lines ≡ before ++ line ∷ behind → ⊥
+    nothing lines [] line behind same is = let bad : [] ≡ line ∷ behind = sym same ∙ is in cc
+    nothing lines (b ∷ before) line behind same is = let bad : [] ≡ b ∷ (before ++ line ∷ behind) = sym same ∙ is in cc
+none_refused M _ front none at = at
+
+-- the first of two lists of nothing
+first_of_none : (front past : List ℕ) → [] ≡ front ++ past → front ≡ []
+first_of_none [] past e = refl
+first_of_none (octet ∷ front) past e = absurd (cc)
+
 -- a refused line ends what was taken but for the rest of its piece
-refused_past : (words : List (List ℕ)) (task : Task) (refusal : Refusal) (network given text octets : List ℕ) (r s : ReaderAt) → IsDivided network text r
-    → AsksFor words text task → RefusedAt (meaning_at task).accepts (meaning_at task).refuses refusal (r.rest ++ given) s octets
-    → (r.ended ≡ true → r.rest ≡ [] → r.rest ++ given ≡ [])
-    → (front : List ℕ) × (past : List ℕ) × (network ++ given ≡ front ++ past) × (length past ≤ piece_limit) × EndsRefused words front refusal
-refused_past words task refusal network given text octets r s divided asks at empty =
+refused_past : (words : List (List ℕ)) (task : Task) (status : Status) (network given text : List ℕ) (r : ReaderAt) → IsDivided network text r
+    → AsksFor words text task → StopsNear (of_lines (meaning_at task)) status (r.rest ++ given) → (r.ended ≡ true → r.rest ≡ [] → r.rest ++ given ≡ [])
+    → (front : List ℕ) × (past : List ℕ) × (network ++ given ≡ front ++ past) × (length past ≤ piece_limit) × EndsRefusedAs words front status
+refused_past words task status network given text r divided asks at empty =
     elim divided [
       | inl (front, goes, divides) ↦
-          let record_octets : List ℕ = concat at.lines ++ at.line in
-          let all : network ++ given ≡ (front ++ record_octets) ++ s.rest =
-          ap (λ l. l ++ given) goes ∙ append_assoc front r.rest given ∙ ap (λ l. front ++ l) (at.stands.all ∙ sym (append_assoc (concat at.lines) at.line s.rest))
-          ∙ sym (append_assoc front record_octets s.rest) in
-          let parts = divides record_octets in
-          let one : lines_of at.line ≡ at.line ∷ [] = elim at.next [
-            | inl whole ↦ ap lines_of (sym (append-nil at.line)) ∙ next_line at.line [] (record { rest = []; ended = false }) (inl whole) (λ e. refl)
-            | inr end ↦ lines_of-open at.line end.some end.plain
-          ] in
-          let lines_are : behind_separator (lines_of (front ++ record_octets)) ≡ at.lines ++ at.line ∷ [] =
-          parts.1 ∙ lines_behind at.lines at.line at.stands.whole ∙ ap (λ ls. at.lines ++ ls) one in (
-            front ++ record_octets,
-            s.rest,
-            all,
-            at.stands.piece,
-            record {
-              task = task;
-              octets = octets;
-              asks = asks_told words text (network_text (front ++ record_octets)) task parts.0 asks;
-              refused = record {
-                before = at.lines;
-                line = at.line;
-                behind = [];
-                written = at.before;
-                last = at.last;
-                divided = lines_are;
-                handled = at.handled;
-                within = at.within;
-                number = at.number;
-                refused = at.refused;
-                is = at.is;
-              };
-              last = refl;
-            },
-          )
+          let all : network ++ given ≡ (front ++ at.front) ++ at.past =
+          ap (λ l. l ++ given) goes ∙ append_assoc front r.rest given ∙ ap (λ l. front ++ l) at.all ∙ sym (append_assoc front at.front at.past) in
+          (front ++ at.front, at.past, all, at.piece, ends_as words task status front text at.front divides asks at.refused)
       | inr (end, same, none) ↦
-          let nothing : [] ≡ concat at.lines ++ (at.line ++ s.rest) = sym (empty end.ended end.none) ∙ at.stands.all in
-          let some : 0 < length at.line = next_some at.line s at.next in
-          let size_is : 0 ≡ length (concat at.lines) + (length at.line + length s.rest) =
-          ap length nothing ∙ length-append (concat at.lines) (at.line ++ s.rest) ∙ ap (λ n. length (concat at.lines) + n) (length-append at.line s.rest) in
-          absurd (omega (arith, some, size_is))
+          let nothing : [] ≡ at.front ++ at.past = sym (empty end.ended end.none) ∙ at.all in
+          absurd (none_refused (meaning_at task) status at.front (first_of_none at.front at.past nothing) at.refused)
     ]
 
 -- where a record is refused
-past_told : (run : Run) (middle : Option (List ℕ)) (text : List ℕ) (r s : ReaderAt) (task : Task) (refusal : Refusal) (given octets : List ℕ)
-    → TookNetwork run.words run.input middle text r task → Consumes middle run.left given
-    → RefusedAt (meaning_at task).accepts (meaning_at task).refuses refusal (r.rest ++ given) s octets
-    → IfSome run.input (TakesPiece run refusal)
-past_told run middle text r s task refusal given octets net taken at =
-    go run.input middle run.left net.taken taken net.at_end refl refl
+past_told : (run : Run) (middle : Option (List ℕ)) (text given : List ℕ) (r : ReaderAt) (task : Task) (status : Status)
+    → TookNetwork run.words run.source.before middle text r task → Consumes middle run.source.now given
+    → StopsNear (of_lines (meaning_at task)) status (r.rest ++ given) → IfSome run.source.before (TakesPiece run status)
+past_told run middle text given r task status net taken at =
+    go run.source.before middle run.source.now net.taken taken net.at_end refl refl
   where
-    go : (first mid last : Option (List ℕ)) → Consumes first mid net.network → Consumes mid last given → (r.ended ≡ true → IsAtEnd mid) → first ≡ run.input → last ≡ run.left
-        → IfSome first (TakesPiece run refusal)
+    go : (first mid last : Option (List ℕ)) → Consumes first mid net.network → Consumes mid last given → (r.ended ≡ true → IsAtEnd mid) → first ≡ run.source.before → last ≡ run.source.now
+        → IfSome first (TakesPiece run status)
     go None mid last one two rest_at_end is ends = tt
     go (Some input) None last one two rest_at_end is ends = absurd one
     go (Some input) (Some mid) None one two rest_at_end is ends = absurd two
     go (Some input) (Some mid) (Some left) one two rest_at_end is ends =
         let empty : r.ended ≡ true → r.rest ≡ [] → r.rest ++ given ≡ [] =
         λ ended none. ap (λ l. l ++ given) none ∙ none_of_two given left (sym (rest_at_end ended) ∙ two) in
-        let found = refused_past run.words task refusal net.network given text octets r s net.divided net.asks at empty in
+        let found = refused_past run.words task status net.network given text r net.divided net.asks at empty in
         record {
           front = found.0;
           past = found.1;
@@ -241,82 +267,106 @@ cut_told words network given text octets r task divided asks goes cut =
     ]
 
 -- words that ask for a task are a command
+pub networked_of : (words : List (List ℕ)) (text : List ℕ) (task : Task) → AsksFor words text task → IsNetworked words
+networked_of words text (Replay site) asks = inr (inl (asks.1, inl asks.2))
+networked_of words text (Audit setting) asks = inl asks.1
+networked_of words text (Emit setting node) asks = inr (inl (asks.1, inr asks.2))
+networked_of words text (Simulate setting seed) asks = inr (inr (seed, asks.1))
+
 pub command_of : (words : List (List ℕ)) (text : List ℕ) (task : Task) → AsksFor words text task → IsCommand words
-command_of words text (Replay site) asks = inr (inl (asks.1, inl asks.2))
-command_of words text (Audit setting) asks = inl asks.1
-command_of words text (Emit setting node) asks = inr (inl (asks.1, inr asks.2))
-command_of words text (Simulate setting seed) asks = inr (inr (seed, asks.1))
+command_of words text task asks = inl (networked_of words text task asks)
 
 -- a premise is broken only where events are audited
-broken_asks : (words : List (List ℕ)) (text : List ℕ) (task : Task) (octets due : List ℕ) (s : ReaderAt) → AsksFor words text task
-    → RefusedAt (meaning_at task).accepts (meaning_at task).refuses refusals.Broken octets s due → AsksEvents words
-broken_asks words text (Replay site) octets due s asks at = absurd at.refused
-broken_asks words text (Audit setting) octets due s asks at = inl asks.1
-broken_asks words text (Emit setting node) octets due s asks at = inr (asks.1, asks.2)
-broken_asks words text (Simulate setting seed) octets due s asks at = absurd at.refused
+broken_asks : (words : List (List ℕ)) (text : List ℕ) (task : Task) (lines : List (List ℕ)) (due : List ℕ) → AsksFor words text task
+    → RecordsAnswer (meaning_at task) lines Broken due → AsksEvents words
+broken_asks words text (Replay site) lines due asks at = absurd at.refused
+broken_asks words text (Audit setting) lines due asks at = inl asks.1
+broken_asks words text (Emit setting node) lines due asks at = inr (asks.1, asks.2)
+broken_asks words text (Simulate setting seed) lines due asks at = absurd at.refused
+
+-- records on a network always give an answer
+never_barred : (task : Task) (lines : List (List ℕ)) (octets : List ℕ) → BreaksOff (meaning_at task) BadCalib lines octets → ⊥
+never_barred (Replay site) lines octets at = at.broken
+never_barred (Audit setting) lines octets at = at.broken
+never_barred (Emit setting node) lines octets at = at.broken
+never_barred (Simulate setting seed) lines octets at = at.broken
+
+-- what is due at the end is due however the input goes on
+due_at_end : (M : LineMeaning) (taken : List ℕ) (ended : Bool) (octets : List ℕ) → After (of_lines M) taken ended [] Done octets → IsDue (of_lines M) taken ended [] Done octets
+due_at_end M taken ended octets at more on =
+    (refl, subst (λ (l : List ℕ). RecordsAnswer M (lines_of l) Done octets) (sym (ap (λ l. taken ++ l) (on at.0) ∙ append-nil taken)) at.1.1)
 
 -- how a run ends that came to the records
-pub records_end : (run : Run) (middle : Option (List ℕ)) (text : List ℕ) (r s : ReaderAt) (task : Task) (status : Status)
-    → TookNetwork run.words run.input middle text r task → TookRecords (meaning_at task) middle run.left run.held run.now r s status
-    → (status ≡ Done → IsAtEnd run.left) → (status ≡ ReadFault → r.ended ≡ true → ⊥) → (status ≡ ReadFault → ReadFailed run) → (status ≡ WriteFault → WriteFailed run)
-    → Ends run status
-records_end run middle text r s task Done net at done goes reads writes =
-    ((command_of run.words text task net.asks, at.octets, at.wrote, answered run.words run.input middle run.left run.held run.now text r s task Done net at refl), done refl)
-records_end run middle text r s task BadTrace net at done goes reads writes = (
-  (command_of run.words text task net.asks, at.octets, at.wrote, answered run.words run.input middle run.left run.held run.now text r s task BadTrace net at refl),
-  past_told run middle text r s task refusals.BadTrace at.given at.octets net at.taken at.stands,
+pub records_end : (words : List (List ℕ)) (first : Option (List ℕ)) (source sink : Passage (List ℕ)) (text : List ℕ) (r : ReaderAt) (ended : Bool) (task : Task) (status : Status)
+    → TookNetwork words first source.before text r task → Passes (of_lines (meaning_at task)) source sink r.rest r.ended ended [] status
+    → EndsUnlinked words (begun_at first source) sink status
+records_end words first source sink text r ended task Done net at link same = (
+  (
+    command_of words text task net.asks,
+    at.octets,
+    [],
+    at.wrote,
+    uncalled link same,
+    answered words first source text at.given at.octets r ended task Done net at.taken at.at_end (due_at_end (meaning_at task) (r.rest ++ at.given) ended at.octets at.stands),
+  ),
+  at.at_end at.stands.0,
 )
-records_end run middle text r s task TooLarge net at done goes reads writes =
-    (command_of run.words text task net.asks, at.octets, at.wrote, answered run.words run.input middle run.left run.held run.now text r s task TooLarge net at refl)
-records_end run middle text r s task ReadFault net at done goes reads writes = (
-  reads refl,
-  net.network ++ at.given,
-  at.octets,
-  Consumes-trans run.input middle run.left net.network at.given net.taken at.taken,
-  at.wrote,
-  (command_of run.words text task net.asks, inr (cut_told run.words net.network at.given text at.octets r task net.divided net.asks (goes refl) at.stands)),
+records_end words first source sink text r ended task BadTrace net at link same = (
+  (command_of words text task net.asks, at.octets, [], at.wrote, uncalled link same, answered words first source text at.given at.octets r ended task BadTrace net at.taken at.at_end at.stands.0),
+  past_told (record { words = words; source = begun_at first source; sink = sink; link = link }) source.before text at.given r task BadTrace net at.taken at.stands.1,
 )
-records_end run middle text r s task WriteFault net at done goes reads writes =
-    (writes refl, at.octets, at.wrote, parts run.words run.input middle run.left run.held run.now text r s task net at)
-records_end run middle text r s task OutOfMemory net at done goes reads writes =
-    (at.octets, at.wrote, firsts run.words run.input middle run.left run.held run.now text r s task net at)
-records_end run middle text r s task Broken net at done goes reads writes = (
-  (command_of run.words text task net.asks, at.octets, at.wrote, answered run.words run.input middle run.left run.held run.now text r s task Broken net at refl),
-  past_told run middle text r s task refusals.Broken at.given at.octets net at.taken at.stands,
-  broken_asks run.words text task (r.rest ++ at.given) at.octets s net.asks at.stands,
+records_end words first source sink text r ended task Broken net at link same = (
+  (command_of words text task net.asks, at.octets, [], at.wrote, uncalled link same, answered words first source text at.given at.octets r ended task Broken net at.taken at.at_end at.stands.0),
+  past_told (record { words = words; source = begun_at first source; sink = sink; link = link }) source.before text at.given r task Broken net at.taken at.stands.1,
+  inl (broken_asks words text task (lines_of ((r.rest ++ at.given) ++ [])) at.octets net.asks (at.stands.0 [] (λ e. refl)).1),
 )
-records_end run middle text r s task _ net at done goes reads writes = absurd at.stands
-
--- a part of one line
-line_part : (words : List (List ℕ)) (first : Option (List ℕ)) (status : Status) (due : List ℕ) (count : ℕ)
-    → IfSome first (λ input. Answer words input status due) → IfSome first (λ input. PartAnswer words input (take count due))
-line_part words None status due count has = tt
-line_part words (Some input) status due count has = (due, count, refl, inl (status, has))
+records_end words first source sink text r ended task TooLarge net at link same =
+    (command_of words text task net.asks, at.octets, [], at.wrote, uncalled link same, answered words first source text at.given at.octets r ended task TooLarge net at.taken at.at_end at.stands)
+records_end words first source sink text r ended task ReadFault net at link same =
+    let open_ : r.ended ≡ true → ⊥ = λ is. let bad : true ≡ false = sym (at.stays is) ∙ at.stands.0 in cc in (
+      at.read.failed refl,
+      net.network ++ at.given,
+      at.octets,
+      Consumes-trans first source.before source.now net.network at.given net.taken at.taken,
+      at.wrote,
+      inl (networked_of words text task net.asks, inr (cut_told words net.network at.given text at.octets r task net.divided net.asks open_ at.stands.2)),
+      uncalled link same,
+    )
+records_end words first source sink text r ended task WriteFault net at link same =
+    (at.write.failed refl, at.octets, [], at.wrote, uncalled link same, parts words first source text at.given at.octets r ended task net at.taken at.at_end at.stands)
+records_end words first source sink text r ended task OutOfMemory net at link same =
+    (at.octets, [], at.wrote, uncalled link same, firsts words first source text at.given at.octets r ended task net at.taken at.at_end at.stands)
+records_end words first source sink text r ended task LinkFault net at link same = absurd at.stands.1
+records_end words first source sink text r ended task BadCapture net at link same = absurd (at.stands.0 [] (λ e. refl)).1
+records_end words first source sink text r ended task BadCalib net at link same =
+    absurd (never_barred task (lines_of ((r.rest ++ at.given) ++ [])) at.octets (at.stands [] (λ e. refl)).1)
+records_end words first source sink text r ended task Usage net at link same = absurd (at.stands [] (λ e. refl)).1
+records_end words first source sink text r ended task BadNetwork net at link same = absurd (at.stands [] (λ e. refl)).1
 
 -- how a run ends whose only line is a refusal
-pub line_ends : (run : Run) (due given : Status) (line : List ℕ) → Finishes due given run.held run.now line → (given ≡ WriteFault → WriteFailed run)
-    → IfSome run.input (λ input. Answer run.words input due line) → (Wrote run line → Ends run due) → Ends run given
-line_ends run due given line how writes told ends =
+pub line_ends : (run : Run) (due given : Status) (line : List ℕ) → Finishes due given run.sink.before run.sink.now line → (given ≡ WriteFault → Failed run.sink) → Called run []
+    → IfSome run.source.before (λ input. Answer run.words input [] due line) → (Wrote run line → Ends run due) → Ends run given
+line_ends run due given line how writes called told ends =
     elim how [
       | inl all ↦ subst (Ends run) (sym all.0) (ends all.1)
       | inr part ↦ subst (Ends run) (sym part.0)
-          (writes part.0, take part.1.0 line, part.1.1, line_part run.words run.input due line part.1.0 told)
+          (writes part.0, take part.1.0 line, [], part.1.1, called, part_told run.words run.source.before due line part.1.0 told)
     ]
 
 -- the network text is too long
-pub told_too_long : (words : List (List ℕ)) (first middle : Option (List ℕ)) (network : List ℕ) (r : ReaderAt) → IsCommand words → Consumes first middle network → IsTooLong network r
-    → (r.ended ≡ true → IsAtEnd middle) → IfSome first (λ input. Answer words input TooLarge too_large_line)
-told_too_long words None middle network r command one long at_end = tt
-told_too_long words (Some input) None network r command one long at_end = absurd one
-told_too_long words (Some input) (Some middle) network r command one long at_end =
-    inl (command, subst (λ (l : List ℕ). network_limit < length (network_text l)) (sym one) (long middle at_end), refl)
+pub told_too_long : (words : List (List ℕ)) (first middle : Option (List ℕ)) (network : List ℕ) (r : ReaderAt) → IsNetworked words → Consumes first middle network → IsTooLong network r
+    → (r.ended ≡ true → IsAtEnd middle) → IfSome first (λ input. Answer words input [] TooLarge too_large_line)
+told_too_long words None middle network r networked one long at_end = tt
+told_too_long words (Some input) None network r networked one long at_end = absurd one
+told_too_long words (Some input) (Some middle) network r networked one long at_end =
+    inl (networked, subst (λ (l : List ℕ). network_limit < length (network_text l)) (sym one) (long middle at_end), refl, refl)
 
 -- the network text is refused
 pub told_bad_network : (words : List (List ℕ)) (first : Option (List ℕ)) (text line : List ℕ) → IfSome first (λ input. network_text input ≡ text) → length text ≤ network_limit
-    → IsRefusedBy text line → IsCommand words → IfSome first (λ input. Answer words input BadNetwork line)
-told_bad_network words None text line told fits bad command = tt
-told_bad_network words (Some input) text line told fits bad command =
-    (command, subst (λ (t : List ℕ). length t ≤ network_limit) (sym told) fits, subst (λ (t : List ℕ). IsRefusedBy t line) (sym told) bad)
+    → IsRefusedBy text line → IsNetworked words → IfSome first (λ input. Answer words input [] BadNetwork line)
+told_bad_network words None text line told fits bad networked = tt
+told_bad_network words (Some input) text line told fits bad networked =
+    inl (networked, subst (λ (t : List ℕ). length t ≤ network_limit) (sym told) fits, subst (λ (t : List ℕ). IsRefusedBy t line) (sym told) bad, refl)
 
 -- the network has no node of this name
 pub told_no_node : (words : List (List ℕ)) (first : Option (List ℕ)) (text : List ℕ) → IfSome first (λ input. network_text input ≡ text)
@@ -325,62 +375,213 @@ told_no_node words None text told none = tt
 told_no_node words (Some input) text told none = subst (AsksNone words) (sym told) none
 
 pub told_no_usage : (words : List (List ℕ)) (first : Option (List ℕ)) → IfSome first (λ input. AsksNone words (network_text input))
-    → IfSome first (λ input. Answer words input Usage usage_line)
+    → IfSome first (λ input. Answer words input [] Usage usage_line)
 told_no_usage words None none = tt
-told_no_usage words (Some input) none = (inr none, refl)
+told_no_usage words (Some input) none = (inr none, refl, refl)
 
 -- where the words are no command
-pub told_usage : (words : List (List ℕ)) (first : Option (List ℕ)) → (IsCommand words → ⊥) → IfSome first (λ input. Answer words input Usage usage_line)
+pub told_usage : (words : List (List ℕ)) (first : Option (List ℕ)) → (IsCommand words → ⊥) → IfSome first (λ input. Answer words input [] Usage usage_line)
 told_usage words None none = tt
-told_usage words (Some input) none = (inl none, refl)
+told_usage words (Some input) none = (inl none, refl, refl)
 
 -- where nothing was written
-pub nothing_first : (words : List (List ℕ)) (first : Option (List ℕ)) → IfSome first (λ input. FirstAnswer words input [])
+pub nothing_first : (words : List (List ℕ)) (first : Option (List ℕ)) → IfSome first (λ input. FirstAnswer words input [] [])
 nothing_first words None = tt
-nothing_first words (Some input) = inl refl
+nothing_first words (Some input) = inl (refl, refl)
 
 -- how a run ends before its records
-pub size_ends : (run : Run) (given : Status) (middle : Option (List ℕ)) (network : List ℕ) (r : ReaderAt) → IsCommand run.words → Consumes run.input middle network → IsTooLong network r
-    → (r.ended ≡ true → IsAtEnd middle) → Finishes TooLarge given run.held run.now too_large_line → (given ≡ WriteFault → WriteFailed run) → Ends run given
-size_ends run given middle network r command one long at_end how writes =
-    let told = told_too_long run.words run.input middle network r command one long at_end in
-    line_ends run TooLarge given too_large_line how writes told (λ wrote. (command, too_large_line, wrote, told))
+pub size_ends : (run : Run) (given : Status) (network : List ℕ) (r : ReaderAt) → IsNetworked run.words → Consumes run.source.before run.source.now network → IsTooLong network r
+    → (r.ended ≡ true → IsAtEnd run.source.now) → Finishes TooLarge given run.sink.before run.sink.now too_large_line → (given ≡ WriteFault → Failed run.sink) → Called run [] → Ends run given
+size_ends run given network r networked one long at_end how writes called =
+    let told = told_too_long run.words run.source.before run.source.now network r networked one long at_end in
+    line_ends run TooLarge given too_large_line how writes called told (λ wrote. (inl networked, too_large_line, [], wrote, called, told))
 
-without_memory : (run : Run) (given : Status) → given ≡ OutOfMemory → run.now ≡ run.held → Ends run given
-without_memory run given memory same =
-    subst (Ends run) (sym memory)
-    ([], subst (λ (now : Option (List ℕ)). Appends run.held now []) (sym same) (Appends-nil run.held), nothing_first run.words run.input)
+pub memory_ends : (run : Run) → Wrote run [] → Called run [] → Ends run OutOfMemory
+memory_ends run wrote called = ([], [], wrote, called, nothing_first run.words run.source.before)
 
-pub bad_network_ends : (run : Run) (given : Status) (middle : Option (List ℕ)) (network text line : List ℕ) (r : ReaderAt) → IsCommand run.words → Consumes run.input middle network
-    → IsDivided network text r → length text ≤ network_limit → (r.ended ≡ true → IsAtEnd middle) → IsRefusedBy text line
-    → Finishes BadNetwork given run.held run.now line → (given ≡ WriteFault → WriteFailed run) → Ends run given
-bad_network_ends run given middle network text line r command one divided fits at_end bad how writes =
-    let told = told_bad_network run.words run.input text line (told_text run.input middle network text r one divided at_end) fits bad command in
-    line_ends run BadNetwork given line how writes told (λ wrote. (command, line, wrote, told))
+without_memory : (run : Run) (given : Status) → given ≡ OutOfMemory → run.sink.now ≡ run.sink.before → Called run [] → Ends run given
+without_memory run given memory same called =
+    subst (Ends run) (sym memory) (memory_ends run (subst (λ (now : Option (List ℕ)). Appends run.sink.before now []) (sym same) (Appends-nil run.sink.before)) called)
+
+pub bad_network_ends : (run : Run) (given : Status) (network text line : List ℕ) (r : ReaderAt) → IsNetworked run.words → Consumes run.source.before run.source.now network
+    → IsDivided network text r → length text ≤ network_limit → (r.ended ≡ true → IsAtEnd run.source.now) → IsRefusedBy text line
+    → Finishes BadNetwork given run.sink.before run.sink.now line → (given ≡ WriteFault → Failed run.sink) → Called run [] → Ends run given
+bad_network_ends run given network text line r networked one divided fits at_end bad how writes called =
+    let told = told_bad_network run.words run.source.before text line (told_text run.source.before run.source.now network text r one divided at_end) fits bad networked in
+    line_ends run BadNetwork given line how writes called told (λ wrote. (inl networked, line, [], wrote, called, told))
 
 -- the network is refused, or there was no memory for its line
-pub refused_ends : (run : Run) (given : Status) (middle : Option (List ℕ)) (network text : List ℕ) (fault : ConfFault) (r : ReaderAt) → IsCommand run.words → Consumes run.input middle network
-    → IsDivided network text r → length text ≤ network_limit → (r.ended ≡ true → IsAtEnd middle) → IsReadingOf text (Err fault)
-    → RefusesNetwork fault given run.held run.now → (given ≡ WriteFault → WriteFailed run) → Ends run given
-refused_ends run given middle network text (Fault code place) r command one divided fits at_end reads how writes =
+pub refused_ends : (run : Run) (given : Status) (network text : List ℕ) (fault : ConfFault) (r : ReaderAt) → IsNetworked run.words → Consumes run.source.before run.source.now network
+    → IsDivided network text r → length text ≤ network_limit → (r.ended ≡ true → IsAtEnd run.source.now) → IsReadingOf text (Err fault)
+    → RefusesNetwork fault given run.sink.before run.sink.now → (given ≡ WriteFault → Failed run.sink) → Called run [] → Ends run given
+refused_ends run given network text (Fault code place) r networked one divided fits at_end reads how writes called =
     elim how [
-      | inl (memory, same) ↦ without_memory run given memory same
-      | inr line ↦ bad_network_ends run given middle network text (bad_network_line code place.bytes) r command one divided fits at_end (code, place, reads, refl) line writes
+      | inl (memory, same) ↦ without_memory run given memory same called
+      | inr line ↦ bad_network_ends run given network text (bad_network_line code place.bytes) r networked one divided fits at_end (code, place, reads, refl) line writes called
     ]
-refused_ends run given middle network text (Memory e) r command one divided fits at_end reads how writes = without_memory run given how.0 how.1
+refused_ends run given network text (Memory e) r networked one divided fits at_end reads how writes called = without_memory run given how.0 how.1 called
 
-pub no_node_ends : (run : Run) (given : Status) (middle : Option (List ℕ)) (network text : List ℕ) (r : ReaderAt) → AsksNone run.words text → Consumes run.input middle network
-    → IsDivided network text r → (r.ended ≡ true → IsAtEnd middle) → Finishes Usage given run.held run.now usage_line → (given ≡ WriteFault → WriteFailed run) → Ends run given
-no_node_ends run given middle network text r none one divided at_end how writes =
-    let told = told_no_node run.words run.input text (told_text run.input middle network text r one divided at_end) none in
-    line_ends run Usage given usage_line how writes (told_no_usage run.words run.input told) (λ wrote. (wrote, inr (inr (inl (none.name, none.words_are)), told)))
+pub no_node_ends : (run : Run) (given : Status) (network text : List ℕ) (r : ReaderAt) → AsksNone run.words text → Consumes run.source.before run.source.now network
+    → IsDivided network text r → (r.ended ≡ true → IsAtEnd run.source.now) → Finishes Usage given run.sink.before run.sink.now usage_line → (given ≡ WriteFault → Failed run.sink)
+    → Called run [] → Ends run given
+no_node_ends run given network text r none one divided at_end how writes called =
+    let told = told_no_node run.words run.source.before text (told_text run.source.before run.source.now network text r one divided at_end) none in
+    line_ends run Usage given usage_line how writes called (told_no_usage run.words run.source.before told) (λ wrote. (wrote, inr ((none.name, none.words_are), told), called))
 
-pub usage_ends : (run : Run) (given : Status) → (IsCommand run.words → ⊥) → Finishes Usage given run.held run.now usage_line → (given ≡ WriteFault → WriteFailed run) → Ends run given
-usage_ends run given none how writes =
-    line_ends run Usage given usage_line how writes (told_usage run.words run.input none) (λ wrote. (wrote, inl none))
+pub usage_ends : (run : Run) (given : Status) → (IsCommand run.words → ⊥) → Finishes Usage given run.sink.before run.sink.now usage_line → (given ≡ WriteFault → Failed run.sink)
+    → Called run [] → Ends run given
+usage_ends run given none how writes called =
+    line_ends run Usage given usage_line how writes called (told_usage run.words run.source.before none) (λ wrote. (wrote, inl none, called))
 
-pub network_fails : (run : Run) (network : List ℕ) → IsCommand run.words → Consumes run.input run.left network → IsUndivided network → Wrote run [] → ReadFailed run → Ends run ReadFault
-network_fails run network command taken cut wrote rose = (rose, network, [], taken, wrote, (command, inl (cut, refl)))
+pub network_fails : (run : Run) (network : List ℕ) → IsNetworked run.words → Consumes run.source.before run.source.now network → IsUndivided network → Wrote run [] → Failed run.source
+    → Called run [] → Ends run ReadFault
+network_fails run network networked taken cut wrote rose called = (rose, network, [], taken, wrote, inl (networked, inl (cut, refl)), called)
 
-pub memory_ends : (run : Run) → Wrote run [] → Ends run OutOfMemory
-memory_ends run wrote = ([], wrote, nothing_first run.words run.input)
+-- Commands that stand alone
+
+-- a fact of the whole input
+whole_told : (P : List ℕ → Type 0) (source : Passage (List ℕ)) (given : List ℕ) (ended : Bool) → Consumes source.before source.now given → (ended ≡ true → IsAtEnd source.now)
+    → ((more : List ℕ) → GoesOn ended more → P (given ++ more)) → IfSome source.before P
+whole_told P source given ended taken at_end told = go source.before source.now taken at_end
+  where
+    go : (before now : Option (List ℕ)) → Consumes before now given → (ended ≡ true → IsAtEnd now) → IfSome before P
+    go None now taken at_end = tt
+    go (Some input) None taken at_end = absurd taken
+    go (Some input) (Some left) taken at_end = subst P (sym taken) (told left at_end)
+
+-- what a command that stands alone may answer
+
+may_answer : (alone : Alone) (input : List ℕ) (status : Status) (text : List ℕ) → (alone_meaning alone).answers input [] status text → MayAnswer alone status
+may_answer Migrate input Done text at = tt
+may_answer Migrate input TooLarge text at = tt
+may_answer Migrate input BadNetwork text at = tt
+may_answer Migrate input _ text at = absurd at.1
+may_answer L1Sync input Done text at = tt
+may_answer L1Sync input TooLarge text at = tt
+may_answer L1Sync input BadTrace text at = tt
+may_answer L1Sync input Broken text at = tt
+may_answer L1Sync input BadCalib text at = absurd at.1.broken
+may_answer L1Sync input _ text at = absurd at.1
+may_answer Calibrate input Done text at = tt
+may_answer Calibrate input TooLarge text at = tt
+may_answer Calibrate input BadTrace text at = tt
+may_answer Calibrate input BadCalib text at = tt
+may_answer Calibrate input Broken text at = absurd at.1.refused
+may_answer Calibrate input _ text at = absurd at.1
+
+never_linked : (alone : Alone) (input : List ℕ) (text : List ℕ) → (alone_meaning alone).unlinked input [] text → ⊥
+never_linked Migrate input text at = at
+never_linked L1Sync input text at = at
+never_linked Calibrate input text at = at
+
+-- so much is no answer of any
+not_usage : (alone : Alone) → MayAnswer alone Usage → ⊥
+not_usage Migrate may = may
+not_usage L1Sync may = may
+not_usage Calibrate may = may
+
+-- what it answers is due for its word
+alone_answers : (words : List (List ℕ)) (alone : Alone) (input : List ℕ) (status : Status) (due : List ℕ) → IsAlone words alone → (alone_meaning alone).answers input [] status due → Answer words input [] status due
+alone_answers words alone input Usage due is has = absurd (not_usage alone (may_answer alone input Usage due has))
+alone_answers words alone input BadNetwork due is has = inr (alone, is, has)
+alone_answers words alone input TooLarge due is has = inr (inr (alone, is, has))
+alone_answers words alone input Done due is has = inr (alone, is, has)
+alone_answers words alone input BadTrace due is has = inr (alone, is, has)
+alone_answers words alone input Broken due is has = inr (alone, is, has)
+alone_answers words alone input ReadFault due is has = inr (alone, is, has)
+alone_answers words alone input WriteFault due is has = inr (alone, is, has)
+alone_answers words alone input LinkFault due is has = inr (alone, is, has)
+alone_answers words alone input OutOfMemory due is has = inr (alone, is, has)
+alone_answers words alone input BadCapture due is has = inr (alone, is, has)
+alone_answers words alone input BadCalib due is has = inr (alone, is, has)
+
+-- of the whole input
+told_alone : (words : List (List ℕ)) (alone : Alone) (source : Passage (List ℕ)) (given octets : List ℕ) (ended : Bool) (status : Status) → IsAlone words alone → Consumes source.before source.now given
+    → (ended ≡ true → IsAtEnd source.now) → IsDue (alone_meaning alone) given ended [] status octets → IfSome source.before (λ input. Answer words input [] status octets)
+told_alone words alone source given octets ended status is taken at_end due =
+    whole_told (λ input. Answer words input [] status octets) source given ended taken at_end (λ more on. alone_answers words alone (given ++ more) status octets is (due more on))
+
+first_alone : (words : List (List ℕ)) (alone : Alone) (source : Passage (List ℕ)) (given octets : List ℕ) (ended : Bool) → IsAlone words alone → Consumes source.before source.now given
+    → (ended ≡ true → IsAtEnd source.now) → IsFirst (alone_meaning alone) given ended [] octets → IfSome source.before (λ input. FirstAnswer words input [] octets)
+first_alone words alone source given octets ended is taken at_end due =
+    whole_told (λ input. FirstAnswer words input [] octets) source given ended taken at_end (λ more on. inr (inr (alone, is, due more on)))
+
+-- a part of what is due
+part_alone : (words : List (List ℕ)) (alone : Alone) (source : Passage (List ℕ)) (given octets : List ℕ) (ended : Bool) → IsAlone words alone → Consumes source.before source.now given
+    → (ended ≡ true → IsAtEnd source.now) → After (alone_meaning alone) given ended [] WriteFault octets → IfSome source.before (λ input. PartAnswer words input [] octets)
+part_alone words alone source given octets ended is taken at_end at =
+    subst (λ (o : List ℕ). IfSome source.before (λ input. PartAnswer words input [] o)) (sym at.2)
+    (elim at.3 [
+      | inl due ↦ part_told words source.before due.0 at.0 at.1 (told_alone words alone source given at.0 ended due.0 is taken at_end due.1)
+      | inr due ↦ part_first words source.before at.0 at.1 (first_alone words alone source given at.0 ended is taken at_end due)
+    ])
+
+-- a refused record ends what was taken but for the rest of its piece
+past_alone : (run : Run) (alone : Alone) (given : List ℕ) (status : Status) → IsAlone run.words alone → Consumes run.source.before run.source.now given → StopsNear (alone_meaning alone) status given
+    → ((front : List ℕ) → (alone_meaning alone).refused status front → EndsRefusedAs run.words front status) → IfSome run.source.before (TakesPiece run status)
+past_alone run alone given status is taken at means = go run.source.before run.source.now taken refl
+  where
+    go : (before now : Option (List ℕ)) → Consumes before now given → now ≡ run.source.now → IfSome before (TakesPiece run status)
+    go None now taken ends = tt
+    go (Some input) None taken ends = absurd taken
+    go (Some input) (Some left) taken ends = record {
+      front = at.front;
+      past = at.past;
+      left = left;
+      all = taken ∙ ap (λ l. l ++ left) at.all ∙ append_assoc at.front at.past left;
+      now = sym ends;
+      piece = at.piece;
+      refused = means at.front at.refused;
+    }
+
+-- how a run of it ends
+alone_done : (M : Meaning) (taken : List ℕ) (ended : Bool) (octets : List ℕ) → After M taken ended [] Done octets → IsDue M taken ended [] Done octets
+alone_done M taken ended octets at more on = subst (λ (l : List ℕ). M.answers l [] Done octets) (sym (ap (λ l. taken ++ l) (on at.0) ∙ append-nil taken)) at.1
+
+ends_alone : (words : List (List ℕ)) (alone : Alone) (source sink : Passage (List ℕ)) (ended : Bool) (status : Status) → IsAlone words alone
+    → Passes (alone_meaning alone) source sink [] false ended [] status → EndsUnlinked words source sink status
+ends_alone words alone source sink ended Done is at link same = (
+  (
+    inr (alone, is),
+    at.octets,
+    [],
+    at.wrote,
+    uncalled link same,
+    told_alone words alone source at.given at.octets ended Done is at.taken at.at_end (alone_done (alone_meaning alone) at.given ended at.octets at.stands),
+  ),
+  at.at_end at.stands.0,
+)
+ends_alone words alone source sink ended BadNetwork is at link same =
+    (inr (alone, is), at.octets, [], at.wrote, uncalled link same, told_alone words alone source at.given at.octets ended BadNetwork is at.taken at.at_end at.stands)
+ends_alone words alone source sink ended TooLarge is at link same =
+    (inr (alone, is), at.octets, [], at.wrote, uncalled link same, told_alone words alone source at.given at.octets ended TooLarge is at.taken at.at_end at.stands)
+ends_alone words alone source sink ended BadCalib is at link same = (
+  (inr (alone, is), at.octets, [], at.wrote, uncalled link same, told_alone words alone source at.given at.octets ended BadCalib is at.taken at.at_end at.stands),
+  (alone, is, may_answer alone (at.given ++ []) BadCalib at.octets (at.stands [] (λ e. refl))),
+)
+ends_alone words alone source sink ended BadTrace is at link same = (
+  (inr (alone, is), at.octets, [], at.wrote, uncalled link same, told_alone words alone source at.given at.octets ended BadTrace is at.taken at.at_end at.stands.0),
+  past_alone (record { words = words; source = source; sink = sink; link = link }) alone at.given BadTrace is at.taken at.stands.1 (λ front has. inr (alone, is, has)),
+)
+ends_alone words alone source sink ended Broken is at link same = (
+  (inr (alone, is), at.octets, [], at.wrote, uncalled link same, told_alone words alone source at.given at.octets ended Broken is at.taken at.at_end at.stands.0),
+  past_alone (record { words = words; source = source; sink = sink; link = link }) alone at.given Broken is at.taken at.stands.1 (λ front has. inr (alone, is, has)),
+  inr (alone, is, may_answer alone (at.given ++ []) Broken at.octets (at.stands.0 [] (λ e. refl))),
+)
+ends_alone words alone source sink ended BadCapture is at link same = (
+  (inr (alone, is), at.octets, [], at.wrote, uncalled link same, told_alone words alone source at.given at.octets ended BadCapture is at.taken at.at_end at.stands.0),
+  past_alone (record { words = words; source = source; sink = sink; link = link }) alone at.given BadCapture is at.taken at.stands.1 (λ front has. (alone, is, has)),
+  (alone, is, may_answer alone (at.given ++ []) BadCapture at.octets (at.stands.0 [] (λ e. refl))),
+)
+ends_alone words alone source sink ended ReadFault is at link same =
+    (at.read.failed refl, at.given, at.octets, at.taken, at.wrote, inr (alone, is, at.stands.2), uncalled link same)
+ends_alone words alone source sink ended WriteFault is at link same =
+    (at.write.failed refl, at.octets, [], at.wrote, uncalled link same, part_alone words alone source at.given at.octets ended is at.taken at.at_end at.stands)
+ends_alone words alone source sink ended OutOfMemory is at link same =
+    (at.octets, [], at.wrote, uncalled link same, first_alone words alone source at.given at.octets ended is at.taken at.at_end at.stands)
+ends_alone words alone source sink ended Usage is at link same = absurd (not_usage alone (may_answer alone (at.given ++ []) Usage at.octets (at.stands [] (λ e. refl))))
+ends_alone words alone source sink ended LinkFault is at link same = absurd (never_linked alone at.given at.octets at.stands.1)
+
+pub alone_ends : (words : List (List ℕ)) (alone : Alone) (source sink : Passage (List ℕ)) (status : Status) → IsAlone words alone → PassesAll (alone_meaning alone) source sink status
+    → EndsUnlinked words source sink status
+alone_ends words alone source sink status is at = ends_alone words alone source sink at.0 status is at.1

@@ -36,6 +36,10 @@ use Rattle.wrp_course.specs.Setting.{Setting, node_setting_of}
 use Rattle.wrp_world.specs.StandsFor.{IsValid, StandsFor, WorldOf}
 use Rattle.wrp_world.specs.Step.{IsRefusal, StaysSo, Stepped, step_seen}
 use Rattle.wrp_course.specs.WorldAt.{WorldAt}
+use Rattle.wrp_records.specs.declared.status.Status.{Status}
+use Rattle.wrp_records.specs.ByLines.{of_lines}
+use Rattle.wrp_records.specs.LineMeaning.{bars_none, meaning_by}
+use Rattle.wrp_records.specs.Passages.{Passage, Passes}
 use Rattle.wrp_run.specs.declared.audit.AuditedNetwork.{AuditedNetwork}
 use Rattle.wrp_records.specs.declared.machine.Refusal.{Refusal}
 use Rattle.wrp_records.specs.declared.machine.Refusal.TheVariants as refusals
@@ -284,6 +288,13 @@ nothing_audited s = record { are = refl; run = record { accepted = tt; said = tt
 pub nothing_accepted : (emit : Option ℕ) (s : Setting) → (meaning_at (task_of emit s)).accepts [] []
 nothing_accepted None s = ([], nothing_audited s, refl)
 nothing_accepted (Some n) s = ([], nothing_audited s, refl)
+
+-- what passes by the meaning of the machine's lines passes by that of the task
+pub audit_passes : (emit : Option ℕ) (s : Setting) (source sink : Passage (List ℕ)) (rest : List ℕ) (had ended : Bool) (status : Status)
+    → Passes (of_lines (meaning_by (meaning_at (task_of emit s)).accepts (meaning_at (task_of emit s)).refuses (meaning_at (task_of emit s)).closes bars_none)) source sink rest had ended [] status
+    → Passes (of_lines (meaning_at (task_of emit s))) source sink rest had ended [] status
+audit_passes None s source sink rest had ended status at = at
+audit_passes (Some n) s source sink rest had ended status at = at
 
 -- The lines of a step
 

@@ -19,7 +19,7 @@ use Rattle.wrp_course.specs.WorldAt.{WorldAt}
 use Rattle.wrp_records.specs.declared.machine.Refusal.{Refusal}
 use Rattle.wrp_records.specs.declared.machine.Refusal.TheVariants as refusals
 use Rattle.wrp_records.specs.declared.status.Status.{Status}
-use Rattle.wrp_records.specs.declared.status.Status.TheVariants.{Done, BadTrace, Broken, TooLarge}
+use Rattle.wrp_records.specs.declared.status.Status.TheVariants.{Done, BadTrace, Broken, TooLarge, BadCalib}
 use Rattle.wrp_run.specs.Audited.{AllHeard, IsAudit, answers_in}
 use Rattle.wrp_run.specs.Audits.{AuditRefuses, audit_of, emission_of}
 use Rattle.wrp_run.specs.AuditText.{all_counts, audit_lines, given_line, given_lines, step_lines}
@@ -164,6 +164,13 @@ due_so M N leads lines TooLarge octets (inr h) = inr (record {
   broken = leads.breaks_off (map content_of lines) TooLarge h.last h.broken;
   is = h.is;
 })
+due_so M N leads lines BadCalib octets h = record {
+  written = h.written;
+  last = h.last;
+  handled = handles_so M N leads lines h.written h.handled;
+  broken = leads.breaks_off (map content_of lines) BadCalib h.last h.broken;
+  is = h.is;
+}
 due_so M N leads lines _ octets h = absurd h
 
 pub bare_answer : (s : Setting) (lines : List (List ℕ)) (status : Status) (octets : List ℕ) → RecordsAnswer (audit_of s) lines status octets → RecordsAnswer (audit_of (bare_setting s)) lines status octets

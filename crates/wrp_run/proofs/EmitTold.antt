@@ -5,6 +5,7 @@ use Rattle.wrp_course.specs.Setting.{Setting}
 use Rattle.wrp_run.specs.declared.command_line.Form.TheVariants as forms
 use Rattle.wrp_records.specs.declared.status.Status.{Status}
 use Rattle.wrp_records.specs.declared.status.Status.TheVariants.{ReadFault, OutOfMemory}
+use Rattle.wrp_io.specs.declared.link.LinkCall.{LinkCall}
 use Rattle.wrp_run.specs.Answer.{CutTask, TaskAnswer}
 use Rattle.wrp_run.specs.Audits.{emission_of}
 use Rattle.wrp_run.specs.EmitHeadline.{EmitHeadline, InputsOf, LacksNode}
@@ -46,8 +47,8 @@ inputs_of words input status octets s n asks told = record {
   is = told.is;
 }
 
-task_due : (words : List (List ℕ)) (name input : List ℕ) (status : Status) (octets : List ℕ) → IsEmission words name → TaskAnswer words input status octets → IsInputDue words input status octets
-task_due words name input status octets emits h =
+task_due : (words : List (List ℕ)) (name input : List ℕ) (status : Status) (octets : List ℕ) (calls : List LinkCall) → IsEmission words name → TaskAnswer words input calls status octets → IsInputDue words input status octets
+task_due words name input status octets calls emits h =
     inr (inr (only_inputs words name (network_text input) (λ task. RecordsAnswer (meaning_at task) (behind_separator (lines_of input)) status octets) (InputsOf words input status octets) emits
     (λ s n asks due. inputs_of words input status octets s n asks (records_due input status octets s (emission_of s n) (emission_writes s n) (emission_means s n) due)) h.0 h.1 h.2))
 
@@ -73,10 +74,10 @@ task_cut words name input taken left octets emits all h =
 
 inputs_so : (words : List (List ℕ)) (name : List ℕ) → IsEmission words name → IsDueSo words (IsInputDue words)
 inputs_so words name emits = record {
-  command = inr (inl (name, inr emits));
+  networked = inr (inl (name, inr emits));
   no_node = λ input none. inl (none, refl);
   none = λ input status octets none. inr (inl none);
-  task = λ input status octets answer. task_due words name input status octets emits answer;
+  task = λ input status octets calls answer. task_due words name input status octets calls emits answer;
   first = λ input octets task asks first. task_first words name input octets task emits asks first;
   cut = λ input taken left octets all cut. task_cut words name input taken left octets emits all cut;
 }
@@ -88,12 +89,12 @@ IsEmittedSo words held now status input = (octets : List ℕ) × Appends held no
 headline_of : EventsCarryParts → (words : List (List ℕ)) (input : List ℕ) (held now : Option (List ℕ)) (status : Status) → PrintsDue (IsInputDue words) held now input status → IsEmittedSo words held now status input
 headline_of parts words input held now status h = (h.0, h.1, record { prints = h.2; carries = λ s events came. parts words input s events came })
 
-pub emission_told : EventsCarryParts → (run : Run) (status : Status) (name : List ℕ) → Ends run status → IsEmission run.words name → IfSome run.input (IsEmittedSo run.words run.held run.now status)
-emission_told parts run status name ends emits = go run.input refl
+pub emission_told : EventsCarryParts → (run : Run) (status : Status) (name : List ℕ) → Ends run status → IsEmission run.words name → IfSome run.source.before (IsEmittedSo run.words run.sink.before run.sink.now status)
+emission_told parts run status name ends emits = go run.source.before refl
   where
-    go : (o : Option (List ℕ)) → run.input ≡ o → IfSome o (IsEmittedSo run.words run.held run.now status)
+    go : (o : Option (List ℕ)) → run.source.before ≡ o → IfSome o (IsEmittedSo run.words run.sink.before run.sink.now status)
     go None is = tt
-    go (Some input) is = headline_of parts run.words input run.held run.now status (prints run input status (IsInputDue run.words) (inputs_so run.words name emits) is ends)
+    go (Some input) is = headline_of parts run.words input run.sink.before run.sink.now status (prints run input status (IsInputDue run.words) (inputs_so run.words name emits) is ends)
 
 -- where nothing was read and nothing written
 pub nothing_emitted : EventsCarryParts → (words : List (List ℕ)) (input held : Option (List ℕ)) (name : List ℕ) → IsEmission words name → Appends held held [] → IfSome input (IsEmittedSo words held held OutOfMemory)

@@ -7,7 +7,7 @@ use Rattle.wrp_course.specs.Setting.{Setting}
 use Rattle.wrp_records.specs.declared.machine.Refusal.{Refusal}
 use Rattle.wrp_records.specs.declared.machine.Refusal.TheVariants as refusals
 use Rattle.wrp_records.specs.declared.status.Status.{Status}
-use Rattle.wrp_records.specs.declared.status.Status.TheVariants.{Done, BadTrace, Broken, ReadFault, TooLarge, OutOfMemory}
+use Rattle.wrp_records.specs.declared.status.Status.TheVariants.{Done, BadTrace, Broken, ReadFault, TooLarge, OutOfMemory, BadCalib}
 use Rattle.wrp_run.specs.Audited.{IsAudit}
 use Rattle.wrp_run.specs.AuditLaws.{OneAudit}
 use Rattle.wrp_run.specs.Audits.{AuditRefuses, audit_of, emission_of}
@@ -19,6 +19,7 @@ use Rattle.wrp_records.specs.LineMeaning.{LineMeaning}
 use Rattle.wrp_records.specs.RecordsAnswer.{AreFirst, IsLarge, IsRefused, IsWholly, RecordsAnswer, StandsFirst}
 use Rattle.wrp_records.specs.Stream.{CutHandled, large_line}
 use Rattle.wrp_records.proofs.Reaching.{lines_behind}
+use Rattle.wrp_records.proofs.Unique.{never_barred}
 
 -- What is written
 
@@ -46,7 +47,7 @@ audit_means one s = record {
   accepts = λ lines t h. h;
   refuses = λ lines line refusal last h. h;
   closes = λ lines events last audit h. h.2 ∙ (one s lines h.0 events h.1 audit).counts;
-  never = λ lines status t h. h;
+  never = never_barred;
 }
 
 pub emission_means : (s : Setting) (n : ℕ) → MeansEvents s (emission_of s n) (emission_writes s n)
@@ -54,7 +55,7 @@ emission_means s n = record {
   accepts = λ lines t h. h;
   refuses = λ lines line refusal last h. h;
   closes = λ lines events last audit h. h;
-  never = λ lines status t h. h;
+  never = never_barred;
 }
 
 -- Records
@@ -156,6 +157,7 @@ records_due input BadTrace octets s M w means h = refused input octets s M w mea
 records_due input Broken octets s M w means h = broken input octets s M w means h
 records_due input TooLarge octets s M w means (inl big) = large input octets s M w means big
 records_due input TooLarge octets s M w means (inr off) = absurd (means.never _ _ _ off.broken)
+records_due input BadCalib octets s M w means h = absurd (means.never _ _ _ h.broken)
 records_due input _ octets s M w means h = absurd h
 
 -- Where the source failed

@@ -21,7 +21,7 @@ use Rattle.wrp_run.specs.Refusals.{broken_line}
 use Rattle.wrp_records.specs.Refusals.{bad_trace_line}
 use Rattle.wrp_run.proofs.OneAudit.{read}
 use Rattle.wrp_run.proofs.OneWorld.{before_newest}
-use Rattle.wrp_records.proofs.Unique.{IsExact, ends_once}
+use Rattle.wrp_records.proofs.Unique.{IsExact, ends_once, never_barred}
 
 -- The newest event of a run
 
@@ -160,7 +160,7 @@ exact_audit one s = record {
   one_text = λ lines t u p q. p.2 ∙ (one s lines p.0 q.0 p.1 q.1).lines ∙ sym q.2;
   not_both = λ before behind line t last refusal p q. never_refused one s before behind line last p.0 refusal p.1 q;
   one_refusal = one_refused one s;
-  one_end = ends_once (audit_of s) (λ lines text never. never) (λ lines t u p q. p.2 ∙ (one s lines p.0 q.0 p.1 q.1).counts ∙ sym q.2);
+  one_end = ends_once (audit_of s) never_barred (λ lines t u p q. p.2 ∙ (one s lines p.0 q.0 p.1 q.1).counts ∙ sym q.2);
 }
 
 pub exact_emission : OneAudit → (s : Setting) (n : ℕ) → IsExact (emission_of s n)
@@ -168,5 +168,5 @@ exact_emission one s n = record {
   one_text = λ lines t u p q. p.2 ∙ (one s lines p.0 q.0 p.1 q.1).given n ∙ sym q.2;
   not_both = λ before behind line t last refusal p q. never_refused one s before behind line last p.0 refusal p.1 q;
   one_refusal = one_refused one s;
-  one_end = ends_once (emission_of s n) (λ lines text never. never) (λ lines t u p q. p ∙ sym q);
+  one_end = ends_once (emission_of s n) never_barred (λ lines t u p q. p ∙ sym q);
 }

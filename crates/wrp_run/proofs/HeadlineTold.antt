@@ -4,6 +4,7 @@ use Rattle.std.specs.Io.KnownBytes.{Appends}
 use Rattle.wrp_course.specs.Setting.{Setting}
 use Rattle.wrp_records.specs.declared.status.Status.{Status}
 use Rattle.wrp_records.specs.declared.status.Status.TheVariants.{ReadFault, OutOfMemory}
+use Rattle.wrp_io.specs.declared.link.LinkCall.{LinkCall}
 use Rattle.wrp_run.specs.Answer.{AsksNone, CutTask, TaskAnswer}
 use Rattle.wrp_run.specs.AuditLaws.{OneAudit}
 use Rattle.wrp_run.specs.Audits.{audit_of}
@@ -42,8 +43,8 @@ steps_of words input status octets s asks told = record {
   is = told.is;
 }
 
-task_due : OneAudit → (words : List (List ℕ)) (input : List ℕ) (status : Status) (octets : List ℕ) → IsAuditing words → TaskAnswer words input status octets → IsDue words input status octets
-task_due one words input status octets audits h =
+task_due : OneAudit → (words : List (List ℕ)) (input : List ℕ) (status : Status) (octets : List ℕ) (calls : List LinkCall) → IsAuditing words → TaskAnswer words input calls status octets → IsDue words input status octets
+task_due one words input status octets calls audits h =
     inr (only_audit words (network_text input) (λ task. RecordsAnswer (meaning_at task) (behind_separator (lines_of input)) status octets) (StepsOf words input status octets) audits
     (λ s asks due. steps_of words input status octets s asks (records_due input status octets s (audit_of s) (audit_writes s) (audit_means one s) due)) h.0 h.1 h.2)
 
@@ -72,10 +73,10 @@ asks_node words text audits none = elim none.words_are [ inl replay ↦ audit_al
 
 audit_so : OneAudit → (words : List (List ℕ)) → IsAuditing words → IsDueSo words (IsDue words)
 audit_so one words audits = record {
-  command = inl audits;
+  networked = inl audits;
   no_node = λ input none. absurd (asks_node words (network_text input) audits none);
   none = λ input status octets none. inl none;
-  task = λ input status octets answer. task_due one words input status octets audits answer;
+  task = λ input status octets calls answer. task_due one words input status octets calls audits answer;
   first = λ input octets task asks first. task_first one words input octets task audits asks first;
   cut = λ input taken left octets all cut. task_cut one words input taken left octets audits all cut;
 }
@@ -87,12 +88,12 @@ IsTold words held now status input = (octets : List ℕ) × Appends held now oct
 headline_of : EventsCarryParts → (words : List (List ℕ)) (input : List ℕ) (held now : Option (List ℕ)) (status : Status) → PrintsDue (IsDue words) held now input status → IsTold words held now status input
 headline_of parts words input held now status h = (h.0, h.1, record { prints = h.2; carries = λ s events came. parts words input s events came })
 
-pub headline_told : EventsCarryParts → OneAudit → (run : Run) (status : Status) → Ends run status → IsAuditing run.words → IfSome run.input (IsTold run.words run.held run.now status)
-headline_told parts one run status ends audits = go run.input refl
+pub headline_told : EventsCarryParts → OneAudit → (run : Run) (status : Status) → Ends run status → IsAuditing run.words → IfSome run.source.before (IsTold run.words run.sink.before run.sink.now status)
+headline_told parts one run status ends audits = go run.source.before refl
   where
-    go : (o : Option (List ℕ)) → run.input ≡ o → IfSome o (IsTold run.words run.held run.now status)
+    go : (o : Option (List ℕ)) → run.source.before ≡ o → IfSome o (IsTold run.words run.sink.before run.sink.now status)
     go None is = tt
-    go (Some input) is = headline_of parts run.words input run.held run.now status (prints run input status (IsDue run.words) (audit_so one run.words audits) is ends)
+    go (Some input) is = headline_of parts run.words input run.sink.before run.sink.now status (prints run input status (IsDue run.words) (audit_so one run.words audits) is ends)
 
 -- where nothing was read and nothing written
 pub nothing_told : EventsCarryParts → OneAudit → (words : List (List ℕ)) (input held : Option (List ℕ)) → IsAuditing words → Appends held held [] → IfSome input (IsTold words held held OutOfMemory)

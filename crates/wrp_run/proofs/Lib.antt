@@ -1,5 +1,5 @@
 pub mod Asking
-pub mod AskingAudit
+pub mod AskingWork
 pub mod AuditCounts
 pub mod AuditSteps
 pub mod BareAudit
@@ -50,3 +50,4 @@ pub mod TablesNear
 pub mod TrackTold
 pub mod TracksHold
 pub mod WordLemmas
+pub mod AloneTold

@@ -13,13 +13,23 @@ use Rattle.wrp_course.specs.Setting.{Setting}
 use Rattle.wrp_servo.specs.Told.{ToldLast}
 use Rattle.wrp_run.specs.declared.command_line.Form.TheVariants as forms
 use Rattle.wrp_records.specs.declared.status.Status.{Status}
-use Rattle.wrp_records.specs.declared.status.Status.TheVariants.{Done, Usage, BadNetwork, BadTrace, Broken, ReadFault, WriteFault, LinkFault, TooLarge, OutOfMemory}
-use Rattle.wrp_run.specs.Answer.{Answer, AsksNone, IsCommand, TaskAnswer}
+use Rattle.wrp_records.specs.declared.status.Status.TheVariants.{Done, Usage, BadNetwork, BadTrace, Broken, ReadFault, WriteFault, LinkFault, TooLarge, OutOfMemory, BadCapture, BadCalib}
+use Rattle.wrp_io.specs.declared.link.LinkCall.{LinkCall}
+use Rattle.wrp_migrate.proofs.Unique.{one_migration}
+use Rattle.wrp_l1sync.proofs.LineExact.{exact as exact_synchronisation}
+use Rattle.wrp_l1sync.specs.LineRecords.{meaning as synchronisation}
+use Rattle.wrp_calib.proofs.LinesExact.{exact as exact_calibration}
+use Rattle.wrp_calib.specs.LinesMeaning.{calibration}
+use Rattle.wrp_records.specs.Passages.{Failed}
+use Rattle.wrp_run.specs.declared.command_line.Alone.{Alone}
+use Rattle.wrp_run.specs.declared.command_line.Alone.TheVariants.{Migrate, L1Sync, Calibrate}
+use Rattle.wrp_run.specs.Alone.{IsAlone, alone_meaning}
+use Rattle.wrp_run.specs.Answer.{Answer, AloneAnswer, AsksNone, IsCommand, IsNetworked, RecordsDue, TaskAnswer}
 use Rattle.wrp_run.specs.Audited.{IsSettingOf, setting_at}
 use Rattle.wrp_run.specs.AuditLaws.{OneAudit}
 use Rattle.wrp_run.specs.Audits.{audit_of, emission_of}
 use Rattle.wrp_run.specs.Tasks.{Task, Replay, Audit, Emit, Simulate, AsksFor, IsEmission, IsReplay, meaning_at}
-use Rattle.wrp_run.specs.Ends.{Run, Ends, ReadFailed, WriteFailed, Wrote}
+use Rattle.wrp_run.specs.Ends.{Run, Called, Ends, IsToldOf, Wrote}
 use Rattle.wrp_records.specs.Statuses.{is_answer}
 use Rattle.wrp_run.specs.Input.{network_text, behind_separator, network_limit}
 use Rattle.wrp_records.specs.Lines.{lines_of}
@@ -28,7 +38,7 @@ use Rattle.wrp_run.specs.Refusals.{usage_line}
 use Rattle.wrp_records.specs.Refusals.{bad_network_line, too_large_line}
 use Rattle.wrp_run.specs.Replays.{IsAccepted, IsRefusedBy, meaning_of}
 use Rattle.wrp_run.specs.Simulates.{simulation_of}
-use Rattle.wrp_run.proofs.Asking.{command_of}
+use Rattle.wrp_run.proofs.Asking.{networked_of}
 use Rattle.wrp_run.proofs.BareAudit.{bare_is, bare_setting}
 use Rattle.wrp_run.proofs.BareRuns.{bare_answer, bare_emission}
 use Rattle.wrp_run.proofs.BareSim.{bare_simulation}
@@ -37,7 +47,7 @@ use Rattle.wrp_run.proofs.ExactAudit.{exact_audit, exact_emission}
 use Rattle.wrp_run.proofs.OneReplay.{exact_replay}
 use Rattle.wrp_run.proofs.OneSim.{exact_simulation}
 use Rattle.wrp_records.proofs.Unique.{one_records_answer}
-use Rattle.wrp_run.proofs.WordLemmas.{audit_alone, emission_alone, no_option, one_seed, one_value, simulation_alone}
+use Rattle.wrp_run.proofs.WordLemmas.{alone_unnetworked, audit_alone, emission_alone, no_option, one_alone, one_seed, one_value, simulation_alone}
 
 -- a setting of these parts
 abbrev site_with : NetCfg → Database → ℕ → LineSetting
@@ -119,37 +129,44 @@ abbrev IsUnknown : List (List ℕ) → Status → List ℕ → Type 0
 IsUnknown words s o = (s ≡ Usage) × (IsCommand words → ⊥) × (o ≡ usage_line)
 
 abbrev IsTooLong : List (List ℕ) → List ℕ → Status → List ℕ → Type 0
-IsTooLong words text s o = (s ≡ TooLarge) × IsCommand words × (network_limit < length text) × (o ≡ too_large_line)
+IsTooLong words text s o = (s ≡ TooLarge) × IsNetworked words × (network_limit < length text) × (o ≡ too_large_line)
 
 abbrev IsBadNetwork : List (List ℕ) → List ℕ → Status → List ℕ → Type 0
-IsBadNetwork words text s o = (s ≡ BadNetwork) × IsCommand words × (length text ≤ network_limit) × IsRefusedBy text o
+IsBadNetwork words text s o = (s ≡ BadNetwork) × IsNetworked words × (length text ≤ network_limit) × IsRefusedBy text o
 
 abbrev IsNoNode : List (List ℕ) → List ℕ → Status → List ℕ → Type 0
 IsNoNode words text s o = (s ≡ Usage) × AsksNone words text × (o ≡ usage_line)
 
-abbrev Cases : List (List ℕ) → List ℕ → Status → List ℕ → Type 0
-Cases words input s o =
+-- of words that are a command on a network, or none
+abbrev Cases : List (List ℕ) → List ℕ → List LinkCall → Status → List ℕ → Type 0
+Cases words input calls s o =
     IsUnknown words s o
     ⊎ (IsTooLong words (network_text input) s o
     ⊎ (IsBadNetwork words (network_text input) s o
     ⊎ (IsNoNode words (network_text input) s o
-    ⊎ TaskAnswer words input s o)))
+    ⊎ TaskAnswer words input calls s o)))
 
-cases_of : (words : List (List ℕ)) (input : List ℕ) (s : Status) (o : List ℕ) → Answer words input s o → Cases words input s o
-cases_of words input Usage o p = elim p.0 [ inl none ↦ inl (refl, none, p.1) | inr none ↦ inr (inr (inr (inl (refl, none, p.1)))) ]
-cases_of words input BadNetwork o p = inr (inr (inl (refl, p.0, p.1, p.2)))
-cases_of words input TooLarge o p = elim p [ inl long ↦ inr (inl (refl, long.0, long.1, long.2)) | inr due ↦ inr (inr (inr (inr due))) ]
-cases_of words input Done o p = inr (inr (inr (inr p)))
-cases_of words input BadTrace o p = inr (inr (inr (inr p)))
-cases_of words input Broken o p = inr (inr (inr (inr p)))
-cases_of words input ReadFault o p = inr (inr (inr (inr p)))
-cases_of words input WriteFault o p = inr (inr (inr (inr p)))
-cases_of words input LinkFault o p = inr (inr (inr (inr p)))
-cases_of words input OutOfMemory o p = inr (inr (inr (inr p)))
+due_cases : (words : List (List ℕ)) (input : List ℕ) (calls : List LinkCall) (s : Status) (o : List ℕ) → RecordsDue words input calls s o → Cases words input calls s o ⊎ AloneAnswer words input calls s o
+due_cases words input calls s o (inl task) = inl (inr (inr (inr (inr task))))
+due_cases words input calls s o (inr alone) = inr alone
+
+cases_of : (words : List (List ℕ)) (input : List ℕ) (calls : List LinkCall) (s : Status) (o : List ℕ) → Answer words input calls s o → Cases words input calls s o ⊎ AloneAnswer words input calls s o
+cases_of words input calls Usage o p = inl (elim p.0 [ inl none ↦ inl (refl, none, p.1) | inr none ↦ inr (inr (inr (inl (refl, none, p.1)))) ])
+cases_of words input calls BadNetwork o p = elim p [ inl bad ↦ inl (inr (inr (inl (refl, bad.0, bad.1, bad.2)))) | inr alone ↦ inr alone ]
+cases_of words input calls TooLarge o p = elim p [ inl long ↦ inl (inr (inl (refl, long.0, long.1, long.2))) | inr due ↦ due_cases words input calls TooLarge o due ]
+cases_of words input calls Done o p = due_cases words input calls Done o p
+cases_of words input calls BadTrace o p = due_cases words input calls BadTrace o p
+cases_of words input calls Broken o p = due_cases words input calls Broken o p
+cases_of words input calls ReadFault o p = due_cases words input calls ReadFault o p
+cases_of words input calls WriteFault o p = due_cases words input calls WriteFault o p
+cases_of words input calls LinkFault o p = due_cases words input calls LinkFault o p
+cases_of words input calls OutOfMemory o p = due_cases words input calls OutOfMemory o p
+cases_of words input calls BadCapture o p = due_cases words input calls BadCapture o p
+cases_of words input calls BadCalib o p = due_cases words input calls BadCalib o p
 
 -- the words of each case but the first are a command
-is_command : (words : List (List ℕ)) (input : List ℕ) (s : Status) (o : List ℕ) → TaskAnswer words input s o → IsCommand words
-is_command words input s o p = command_of words (network_text input) p.0 p.1
+is_networked : (words : List (List ℕ)) (input : List ℕ) (calls : List LinkCall) (s : Status) (o : List ℕ) → TaskAnswer words input calls s o → IsNetworked words
+is_networked words input calls s o p = networked_of words (network_text input) p.0 p.1
 
 -- two answers that came to the records
 both_replay : OneRun → OneNode → (words : List (List ℕ)) (text : List ℕ) (lines : List (List ℕ)) (a b : LineSetting) (s t : Status) (o u : List ℕ) → AsksFor words text (Replay a) → AsksFor words text (Replay b)
@@ -211,43 +228,96 @@ one_task runs nodes one last words text lines (Simulate a n) (Simulate b m) s t 
     both_simulations last text lines a b n m s t o u p.2 q.2 (one_seed words n m p.1 q.1) x y
 
 -- two answers, of cases in order
-one_of_cases : OneRun → OneNode → OneAudit → ToldLast → (words : List (List ℕ)) (input : List ℕ) (s t : Status) (o u : List ℕ) → Cases words input s o → Cases words input t u → AreOne s t o u
-one_of_cases runs nodes one last words input s t o u (inl p) (inl q) = (p.0 ∙ sym q.0, p.2 ∙ sym q.2)
-one_of_cases runs nodes one last words input s t o u (inl p) (inr (inl q)) = absurd (p.1 q.1)
-one_of_cases runs nodes one last words input s t o u (inl p) (inr (inr (inl q))) = absurd (p.1 q.1)
-one_of_cases runs nodes one last words input s t o u (inl p) (inr (inr (inr (inl q)))) = absurd (p.1 (inr (inl (q.1.name, q.1.words_are))))
-one_of_cases runs nodes one last words input s t o u (inl p) (inr (inr (inr (inr q)))) = absurd (p.1 (is_command words input t u q))
-one_of_cases runs nodes one last words input s t o u (inr (inl p)) (inr (inl q)) = (p.0 ∙ sym q.0, p.3 ∙ sym q.3)
-one_of_cases runs nodes one last words input s t o u (inr (inl p)) (inr (inr (inl q))) = absurd (omega (arith, p.2, q.2))
-one_of_cases runs nodes one last words input s t o u (inr (inl p)) (inr (inr (inr (inl q)))) = absurd (omega (arith, p.2, q.1.within))
-one_of_cases runs nodes one last words input s t o u (inr (inl p)) (inr (inr (inr (inr q)))) =
+one_of_cases : OneRun → OneNode → OneAudit → ToldLast → (words : List (List ℕ)) (input : List ℕ) (calls : List LinkCall) (s t : Status) (o u : List ℕ) → Cases words input calls s o → Cases words input calls t u → AreOne s t o u
+one_of_cases runs nodes one last words input calls s t o u (inl p) (inl q) = (p.0 ∙ sym q.0, p.2 ∙ sym q.2)
+one_of_cases runs nodes one last words input calls s t o u (inl p) (inr (inl q)) = absurd (p.1 (inl q.1))
+one_of_cases runs nodes one last words input calls s t o u (inl p) (inr (inr (inl q))) = absurd (p.1 (inl q.1))
+one_of_cases runs nodes one last words input calls s t o u (inl p) (inr (inr (inr (inl q)))) = absurd (p.1 (inl (inr (inl (q.1.name, q.1.words_are)))))
+one_of_cases runs nodes one last words input calls s t o u (inl p) (inr (inr (inr (inr q)))) = absurd (p.1 (inl (is_networked words input calls t u q)))
+one_of_cases runs nodes one last words input calls s t o u (inr (inl p)) (inr (inl q)) = (p.0 ∙ sym q.0, p.3 ∙ sym q.3)
+one_of_cases runs nodes one last words input calls s t o u (inr (inl p)) (inr (inr (inl q))) = absurd (omega (arith, p.2, q.2))
+one_of_cases runs nodes one last words input calls s t o u (inr (inl p)) (inr (inr (inr (inl q)))) = absurd (omega (arith, p.2, q.1.within))
+one_of_cases runs nodes one last words input calls s t o u (inr (inl p)) (inr (inr (inr (inr q)))) =
     let within : length (network_text input) ≤ network_limit = is_within words (network_text input) q.0 q.1 in
     absurd (omega (arith, p.2, within))
-one_of_cases runs nodes one last words input s t o u (inr (inr (inl p))) (inr (inr (inl q))) = (p.0 ∙ sym q.0, one_refused (network_text input) o u p.3 q.3)
-one_of_cases runs nodes one last words input s t o u (inr (inr (inl p))) (inr (inr (inr (inl q)))) = absurd (not_accepted (network_text input) o p.3 (q.1.net, q.1.reads))
-one_of_cases runs nodes one last words input s t o u (inr (inr (inl p))) (inr (inr (inr (inr q)))) = absurd (not_accepted (network_text input) o p.3 (is_accepted words (network_text input) q.0 q.1))
-one_of_cases runs nodes one last words input s t o u (inr (inr (inr (inl p)))) (inr (inr (inr (inl q)))) = (p.0 ∙ sym q.0, p.2 ∙ sym q.2)
-one_of_cases runs nodes one last words input s t o u (inr (inr (inr (inl p)))) (inr (inr (inr (inr q)))) =
+one_of_cases runs nodes one last words input calls s t o u (inr (inr (inl p))) (inr (inr (inl q))) = (p.0 ∙ sym q.0, one_refused (network_text input) o u p.3 q.3)
+one_of_cases runs nodes one last words input calls s t o u (inr (inr (inl p))) (inr (inr (inr (inl q)))) = absurd (not_accepted (network_text input) o p.3 (q.1.net, q.1.reads))
+one_of_cases runs nodes one last words input calls s t o u (inr (inr (inl p))) (inr (inr (inr (inr q)))) = absurd (not_accepted (network_text input) o p.3 (is_accepted words (network_text input) q.0 q.1))
+one_of_cases runs nodes one last words input calls s t o u (inr (inr (inr (inl p)))) (inr (inr (inr (inl q)))) = (p.0 ∙ sym q.0, p.2 ∙ sym q.2)
+one_of_cases runs nodes one last words input calls s t o u (inr (inr (inr (inl p)))) (inr (inr (inr (inr q)))) =
     absurd (not_missing words (network_text input) q.0 p.1 q.1)
-one_of_cases runs nodes one last words input s t o u (inr (inr (inr (inr p)))) (inr (inr (inr (inr q)))) =
+one_of_cases runs nodes one last words input calls s t o u (inr (inr (inr (inr p)))) (inr (inr (inr (inr q)))) =
     one_task runs nodes one last words (network_text input) (behind_separator (lines_of input)) p.0 q.0 s t o u p.1 q.1 p.2 q.2
-one_of_cases runs nodes one last words input s t o u (inr (inl p)) (inl q) = absurd (q.1 p.1)
-one_of_cases runs nodes one last words input s t o u (inr (inr (inl p))) (inl q) = absurd (q.1 p.1)
-one_of_cases runs nodes one last words input s t o u (inr (inr (inr (inl p)))) (inl q) = absurd (q.1 (inr (inl (p.1.name, p.1.words_are))))
-one_of_cases runs nodes one last words input s t o u (inr (inr (inr (inr p)))) (inl q) = absurd (q.1 (is_command words input s o p))
-one_of_cases runs nodes one last words input s t o u (inr (inr (inl p))) (inr (inl q)) = absurd (omega (arith, q.2, p.2))
-one_of_cases runs nodes one last words input s t o u (inr (inr (inr (inl p)))) (inr (inl q)) = absurd (omega (arith, q.2, p.1.within))
-one_of_cases runs nodes one last words input s t o u (inr (inr (inr (inr p)))) (inr (inl q)) =
+one_of_cases runs nodes one last words input calls s t o u (inr (inl p)) (inl q) = absurd (q.1 (inl p.1))
+one_of_cases runs nodes one last words input calls s t o u (inr (inr (inl p))) (inl q) = absurd (q.1 (inl p.1))
+one_of_cases runs nodes one last words input calls s t o u (inr (inr (inr (inl p)))) (inl q) = absurd (q.1 (inl (inr (inl (p.1.name, p.1.words_are)))))
+one_of_cases runs nodes one last words input calls s t o u (inr (inr (inr (inr p)))) (inl q) = absurd (q.1 (inl (is_networked words input calls s o p)))
+one_of_cases runs nodes one last words input calls s t o u (inr (inr (inl p))) (inr (inl q)) = absurd (omega (arith, q.2, p.2))
+one_of_cases runs nodes one last words input calls s t o u (inr (inr (inr (inl p)))) (inr (inl q)) = absurd (omega (arith, q.2, p.1.within))
+one_of_cases runs nodes one last words input calls s t o u (inr (inr (inr (inr p)))) (inr (inl q)) =
     let within : length (network_text input) ≤ network_limit = is_within words (network_text input) p.0 p.1 in
     absurd (omega (arith, q.2, within))
-one_of_cases runs nodes one last words input s t o u (inr (inr (inr (inl p)))) (inr (inr (inl q))) = absurd (not_accepted (network_text input) u q.3 (p.1.net, p.1.reads))
-one_of_cases runs nodes one last words input s t o u (inr (inr (inr (inr p)))) (inr (inr (inl q))) = absurd (not_accepted (network_text input) u q.3 (is_accepted words (network_text input) p.0 p.1))
-one_of_cases runs nodes one last words input s t o u (inr (inr (inr (inr p)))) (inr (inr (inr (inl q)))) =
+one_of_cases runs nodes one last words input calls s t o u (inr (inr (inr (inl p)))) (inr (inr (inl q))) = absurd (not_accepted (network_text input) u q.3 (p.1.net, p.1.reads))
+one_of_cases runs nodes one last words input calls s t o u (inr (inr (inr (inr p)))) (inr (inr (inl q))) = absurd (not_accepted (network_text input) u q.3 (is_accepted words (network_text input) p.0 p.1))
+one_of_cases runs nodes one last words input calls s t o u (inr (inr (inr (inr p)))) (inr (inr (inr (inl q)))) =
     absurd (not_missing words (network_text input) p.0 q.1 p.1)
 
--- for words and an input one status and one text are due
-pub one_answer : OneRun → OneNode → OneAudit → ToldLast → (words : List (List ℕ)) (input : List ℕ) (s t : Status) (o u : List ℕ) → Answer words input s o → Answer words input t u → AreOne s t o u
-one_answer runs nodes one last words input s t o u p q = one_of_cases runs nodes one last words input s t o u (cases_of words input s o p) (cases_of words input t u q)
+-- of a command that stands alone
+one_alone_answer : (words : List (List ℕ)) (input : List ℕ) (calls : List LinkCall) (s t : Status) (o u : List ℕ) → AloneAnswer words input calls s o → AloneAnswer words input calls t u → AreOne s t o u
+one_alone_answer words input calls s t o u p q =
+    go p.0 (subst (λ (a : Alone). (alone_meaning a).answers input calls t u) (one_alone words q.0 p.0 q.1 p.1) q.2) p.2
+  where
+    go : (a : Alone) → (alone_meaning a).answers input calls t u → (alone_meaning a).answers input calls s o → AreOne s t o u
+    go Migrate q p = one_migration input calls s t o u p q
+    go L1Sync q p = one_records_answer synchronisation exact_synchronisation (lines_of input) s t o u p.1 q.1
+    go Calibrate q p = one_records_answer calibration exact_calibration (lines_of input) s t o u p.1 q.1
+
+-- words on a network, and none, are no command that stands alone
+not_both : (words : List (List ℕ)) (input : List ℕ) (calls : List LinkCall) (s t : Status) (o u : List ℕ) → Cases words input calls s o → AloneAnswer words input calls t u → ⊥
+not_both words input calls s t o u (inl p) q = p.1 (inr (q.0, q.1))
+not_both words input calls s t o u (inr (inl p)) q = alone_unnetworked words q.0 q.1 p.1
+not_both words input calls s t o u (inr (inr (inl p))) q = alone_unnetworked words q.0 q.1 p.1
+not_both words input calls s t o u (inr (inr (inr (inl p)))) q = alone_unnetworked words q.0 q.1 (inr (inl (p.1.name, p.1.words_are)))
+not_both words input calls s t o u (inr (inr (inr (inr p)))) q = alone_unnetworked words q.0 q.1 (is_networked words input calls s o p)
+
+-- for words, an input and calls one status and one text are due
+pub one_answer : OneRun → OneNode → OneAudit → ToldLast → (words : List (List ℕ)) (input : List ℕ) (calls : List LinkCall) (s t : Status) (o u : List ℕ) → Answer words input calls s o → Answer words input calls t u → AreOne s t o u
+one_answer runs nodes one last words input calls s t o u p q =
+    elim (cases_of words input calls s o p) [
+      | inl a ↦ elim (cases_of words input calls t u q) [
+        | inl b ↦ one_of_cases runs nodes one last words input calls s t o u a b
+        | inr b ↦ absurd (not_both words input calls s t o u a b)
+      ]
+      | inr a ↦ elim (cases_of words input calls t u q) [
+        | inl b ↦ absurd (not_both words input calls t s u o b a)
+        | inr b ↦ one_alone_answer words input calls s t o u a b
+      ]
+    ]
+
+-- no command that is built calls a link
+
+alone_uncalled : (alone : Alone) (input : List ℕ) (calls : List LinkCall) (s : Status) (o : List ℕ) → (alone_meaning alone).answers input calls s o → calls ≡ []
+alone_uncalled Migrate input calls s o p = p.0
+alone_uncalled L1Sync input calls s o p = p.0
+alone_uncalled Calibrate input calls s o p = p.0
+
+due_uncalled : (words : List (List ℕ)) (input : List ℕ) (calls : List LinkCall) (s : Status) (o : List ℕ) → RecordsDue words input calls s o → calls ≡ []
+due_uncalled words input calls s o (inl task) = task.3
+due_uncalled words input calls s o (inr alone) = alone_uncalled alone.0 input calls s o alone.2
+
+pub answer_uncalled : (words : List (List ℕ)) (input : List ℕ) (calls : List LinkCall) (s : Status) (o : List ℕ) → Answer words input calls s o → calls ≡ []
+answer_uncalled words input calls Usage o p = p.2
+answer_uncalled words input calls BadNetwork o p = elim p [ inl bad ↦ bad.3 | inr alone ↦ alone_uncalled alone.0 input calls BadNetwork o alone.2 ]
+answer_uncalled words input calls TooLarge o p = elim p [ inl long ↦ long.3 | inr due ↦ due_uncalled words input calls TooLarge o due ]
+answer_uncalled words input calls Done o p = due_uncalled words input calls Done o p
+answer_uncalled words input calls BadTrace o p = due_uncalled words input calls BadTrace o p
+answer_uncalled words input calls Broken o p = due_uncalled words input calls Broken o p
+answer_uncalled words input calls ReadFault o p = due_uncalled words input calls ReadFault o p
+answer_uncalled words input calls WriteFault o p = due_uncalled words input calls WriteFault o p
+answer_uncalled words input calls LinkFault o p = due_uncalled words input calls LinkFault o p
+answer_uncalled words input calls OutOfMemory o p = due_uncalled words input calls OutOfMemory o p
+answer_uncalled words input calls BadCapture o p = due_uncalled words input calls BadCapture o p
+answer_uncalled words input calls BadCalib o p = due_uncalled words input calls BadCalib o p
 
 -- a status that is no other than an answer
 pub answered : (status : Status) → (is_answer status ≡ false → ⊥) → is_answer status ≡ true
@@ -258,43 +328,59 @@ answered OutOfMemory other = absurd (other refl)
 answered _ other = refl
 
 -- how a run ends gives what it answered, where the input is told
-abbrev Given : Run → Status → List ℕ → Type 0
-Given run status input = (octets : List ℕ) × Wrote run octets × Answer run.words input status octets
+abbrev pub Given : Run → Status → List ℕ → Type 0
+Given run status input = (octets : List ℕ) × Wrote run octets × Answer run.words input [] status octets
 
-given_of : (run : Run) (status : Status) (input : List ℕ) → run.input ≡ Some input → Ends run status → is_answer status ≡ true → Given run status input
-given_of run Done input told ends is = (ends.0.1, ends.0.2, subst (λ (i : Option (List ℕ)). IfSome i (λ input. Answer run.words input Done ends.0.1)) told ends.0.3)
+-- what was answered with some calls was so with none
+with_none : (words : List (List ℕ)) (input : List ℕ) (calls : List LinkCall) (s : Status) (o : List ℕ) → Answer words input calls s o → Answer words input [] s o
+with_none words input calls s o p = subst (λ (c : List LinkCall). Answer words input c s o) (answer_uncalled words input calls s o p) p
+
+given_by : (run : Run) (status : Status) (input octets : List ℕ) (calls : List LinkCall) → run.source.before ≡ Some input → Wrote run octets
+    → IfSome run.source.before (λ input. Answer run.words input calls status octets) → Given run status input
+given_by run status input octets calls told wrote has =
+    (octets, wrote, with_none run.words input calls status octets (subst (λ (i : Option (List ℕ)). IfSome i (λ input. Answer run.words input calls status octets)) told has))
+
+pub given_of : (run : Run) (status : Status) (input : List ℕ) → run.source.before ≡ Some input → Ends run status → is_answer status ≡ true → Given run status input
+given_of run Done input told ends is = given_by run Done input ends.0.1 ends.0.2 told ends.0.3 ends.0.5
 given_of run Usage input told ends is = (
   usage_line,
   ends.0,
   elim ends.1 [
-    | inl none ↦ (inl none, refl)
-    | inr some ↦ (inr (subst (λ (i : Option (List ℕ)). IfSome i (λ input. AsksNone run.words (network_text input))) told some.1), refl)
+    | inl none ↦ (inl none, refl, refl)
+    | inr some ↦ (inr (subst (λ (i : Option (List ℕ)). IfSome i (λ input. AsksNone run.words (network_text input))) told some.1), refl, refl)
   ],
 )
-given_of run BadNetwork input told ends is = (ends.1, ends.2, subst (λ (i : Option (List ℕ)). IfSome i (λ input. Answer run.words input BadNetwork ends.1)) told ends.3)
-given_of run BadTrace input told ends is = (ends.0.1, ends.0.2, subst (λ (i : Option (List ℕ)). IfSome i (λ input. Answer run.words input BadTrace ends.0.1)) told ends.0.3)
-given_of run TooLarge input told ends is = (ends.1, ends.2, subst (λ (i : Option (List ℕ)). IfSome i (λ input. Answer run.words input TooLarge ends.1)) told ends.3)
-given_of run Broken input told ends is = (ends.0.1, ends.0.2, subst (λ (i : Option (List ℕ)). IfSome i (λ input. Answer run.words input Broken ends.0.1)) told ends.0.3)
+given_of run BadNetwork input told ends is = given_by run BadNetwork input ends.1 ends.2 told ends.3 ends.5
+given_of run BadTrace input told ends is = given_by run BadTrace input ends.0.1 ends.0.2 told ends.0.3 ends.0.5
+given_of run TooLarge input told ends is = given_by run TooLarge input ends.1 ends.2 told ends.3 ends.5
+given_of run Broken input told ends is = given_by run Broken input ends.0.1 ends.0.2 told ends.0.3 ends.0.5
 given_of run LinkFault input told ends is = absurd ends
+given_of run BadCapture input told ends is = given_by run BadCapture input ends.0.1 ends.0.2 told ends.0.3 ends.0.5
+given_of run BadCalib input told ends is = given_by run BadCalib input ends.0.1 ends.0.2 told ends.0.3 ends.0.5
 given_of run ReadFault input told ends is = absurd (cc)
 given_of run WriteFault input told ends is = absurd (cc)
 given_of run OutOfMemory input told ends is = absurd (cc)
 
+-- what is due where the source tells the input
+abbrev pub DueIs : Run → Status → List LinkCall → Status → List ℕ → Type 0
+DueIs run answered calls status octets =
+    IfSome run.source.before (λ input. Answer run.words input calls status octets → (answered ≡ status) × Appends run.sink.before run.sink.now octets)
+
 -- where the source tells the input, what is due is what was answered and written
-pub told_one : OneRun → OneNode → OneAudit → ToldLast → (run : Run) (answered status : Status) (octets : List ℕ) → Ends run answered → is_answer answered ≡ true
-    → IfSome run.input (λ input. Answer run.words input status octets → (answered ≡ status) × Appends run.held run.now octets)
-told_one runs nodes one last run answered status octets ends is = go run.input refl
+pub told_one : OneRun → OneNode → OneAudit → ToldLast → (run : Run) (answered status : Status) (octets : List ℕ) (calls : List LinkCall) → Ends run answered → is_answer answered ≡ true
+    → DueIs run answered calls status octets
+told_one runs nodes one last run answered status octets calls ends is = go run.source.before refl
   where
-    go : (told : Option (List ℕ)) → run.input ≡ told → IfSome told (λ input. Answer run.words input status octets → (answered ≡ status) × Appends run.held run.now octets)
+    go : (told : Option (List ℕ)) → run.source.before ≡ told → IfSome told (λ input. Answer run.words input calls status octets → (answered ≡ status) × Appends run.sink.before run.sink.now octets)
     go None told = tt
     go (Some input) told =
         λ other.
         let given = given_of run answered input told ends is in
-        let same : AreOne answered status given.0 octets = one_answer runs nodes one last run.words input answered status given.0 octets given.2 other in
-        (same.0, subst (λ (o : List ℕ). Appends run.held run.now o) same.1 given.1)
+        let same : AreOne answered status given.0 octets = one_answer runs nodes one last run.words input [] answered status given.0 octets given.2 (with_none run.words input calls status octets other) in
+        (same.0, subst (λ (o : List ℕ). Appends run.sink.before run.sink.now o) same.1 given.1)
 
 -- without a fault and with memory a run ends with an answer
-pub ends_answered : (run : Run) (status : Status) → Ends run status → (status ≡ OutOfMemory → ⊥) → (ReadFailed run → ⊥) → (WriteFailed run → ⊥) → is_answer status ≡ true
+pub ends_answered : (run : Run) (status : Status) → Ends run status → (status ≡ OutOfMemory → ⊥) → (Failed run.source → ⊥) → (Failed run.sink → ⊥) → is_answer status ≡ true
 ends_answered run ReadFault ends memory reads writes = absurd (reads ends.0)
 ends_answered run WriteFault ends memory reads writes = absurd (writes ends.0)
 ends_answered run OutOfMemory ends memory reads writes = absurd (memory refl)

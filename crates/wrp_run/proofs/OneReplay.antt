@@ -17,7 +17,7 @@ use Rattle.wrp_run.specs.NodeText.{Writes, output_lines, port_counts, port_numbe
 use Rattle.wrp_records.specs.Refusals.{bad_trace_line}
 use Rattle.wrp_run.specs.Replays.{AreInputs, Accepts, Refuses, Closes, meaning_of}
 use Rattle.wrp_run.proofs.BareSetting.{flat_map_same}
-use Rattle.wrp_records.proofs.Unique.{IsExact, ends_once}
+use Rattle.wrp_records.proofs.Unique.{IsExact, ends_once, never_barred}
 
 -- an input as it is read
 abbrev ok : Taken → Result Input TraceFault
@@ -100,7 +100,7 @@ exact_replay runs nodes site = record {
   one_text = one_text runs nodes site;
   not_both = never_both;
   one_refusal = one_refused;
-  one_end = ends_once (meaning_of site) (λ lines text never. never) (one_end nodes site);
+  one_end = ends_once (meaning_of site) never_barred (one_end nodes site);
 }
   where
     never_both : (before behind : List (List ℕ)) (line t last : List ℕ) (refusal : Refusal) → Accepts site (before ++ line ∷ behind) t → Refuses site before line refusal last → ⊥

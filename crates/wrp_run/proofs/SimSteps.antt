@@ -31,8 +31,9 @@ use Rattle.wrp_run.specs.declared.simulation.Course.{Course}
 use Rattle.wrp_run.specs.declared.simulation.SimulatedNetwork.{SimulatedNetwork}
 use Rattle.wrp_records.specs.declared.status.Status.{Status}
 use Rattle.wrp_records.specs.declared.status.Status.TheVariants.{Done, WriteFault, TooLarge, OutOfMemory}
-use Rattle.wrp_run.specs.declared.worlds.Work.{Work}
-use Rattle.wrp_run.specs.declared.worlds.Work.TheVariants as works
+use Rattle.wrp_run.specs.declared.network.Work.{Work}
+use Rattle.wrp_run.specs.declared.network.Work.TheVariants as works
+use Rattle.wrp_records.specs.LineMeaning.{LineMeaning}
 use Rattle.wrp_records.specs.LinesAfter.{Closed}
 use Rattle.wrp_run.specs.Asked.{task_by}
 use Rattle.wrp_run.specs.Audited.{answers_in}
@@ -235,10 +236,15 @@ finishes_behind due given before mid now written text wrote (inl all) = inl (all
 finishes_behind due given before mid now written text wrote (inr part) =
     inr (part.0, (length written + part.1.0, subst (Appends before now) (take_two written text part.1.0) (Appends-trans before mid now written (take part.1.0 text) wrote part.1.1)))
 
+-- what closes the lines that say more closes those that say less
+pub closed_by : (L : LineMeaning) (T U : List (List ℕ) → Type 0) (status : Status) (before now : Option (List ℕ)) → ((lines : List (List ℕ)) → T lines → U lines) → Closed U L status before now → Closed T L status before now
+closed_by L T U status before now means (inl memory) = inl memory
+closed_by L T U status before now means (inr how) = inr (how.0, how.1, λ lines says. how.2 lines (means lines says), how.3)
+
 -- where there is no memory the lines of the first events stand
 pub without_memory : {F : Type 0} {post : F → ℤ → ℤ → Type 0} (seed : ℕ) (s : Setting) (scene : SceneAt) (network : SimulatedNetwork F) (course : Course) (before now : Option (List ℕ)) (waiting : List ℕ)
     → Running post seed s scene network course before now waiting → Closed (λ lines. IsScenario s lines scene) (simulation_of s seed) OutOfMemory before now
-without_memory seed s scene network course before now waiting r = (
+without_memory seed s scene network course before now waiting r = inr (
   OutOfMemory,
   r.written,
   λ lines said. (record { scene = scene; said = said; events = r.first; at = r.first_at; simulated = r.first_run }, r.are_first),
@@ -248,7 +254,7 @@ without_memory seed s scene network course before now waiting r = (
 -- where the sink failed a part of the lines of the events so far
 pub unwritten : {F : Type 0} {post : F → ℤ → ℤ → Type 0} (seed : ℕ) (s : Setting) (scene : SceneAt) (network : SimulatedNetwork F) (course : Course) (before mid now : Option (List ℕ)) (waiting : List ℕ)
     → Running post seed s scene network course before mid waiting → AppendsPart mid now waiting → Closed (λ lines. IsScenario s lines scene) (simulation_of s seed) WriteFault before now
-unwritten seed s scene network course before mid now waiting r part = (
+unwritten seed s scene network course before mid now waiting r part = inr (
   OutOfMemory,
   r.written ++ waiting,
   λ lines said. (record { scene = scene; said = said; events = r.events; at = r.at; simulated = r.run.simulated }, sym r.lines),
@@ -263,7 +269,7 @@ pub over_closed : {F : Type 0} {post : F → ℤ → ℤ → Type 0} (seed : ℕ
 over_closed {post = post} seed s scene network course before mid now waiting status r over (inl memory) =
     subst (λ (given : Status). Closed (λ lines. IsScenario s lines scene) (simulation_of s seed) given before now) (sym memory.0)
     (without_memory seed s scene network course before now waiting (subst (λ (k : Option (List ℕ)). Running post seed s scene network course before k waiting) (sym memory.1) r))
-over_closed seed s scene network course before mid now waiting status r over (inr ends) = (
+over_closed seed s scene network course before mid now waiting status r over (inr ends) = inr (
   Done,
   r.written ++ (waiting ++ sum_lines s r.events),
   λ lines said. (
@@ -282,7 +288,7 @@ pub large_closed : {F : Type 0} {post : F → ℤ → ℤ → Type 0} (seed : �
 large_closed {post = post} seed s scene network course before mid now waiting status r comes gives number (inl memory) =
     subst (λ (given : Status). Closed (λ lines. IsScenario s lines scene) (simulation_of s seed) given before now) (sym memory.0)
     (without_memory seed s scene network course before now waiting (subst (λ (k : Option (List ℕ)). Running post seed s scene network course before k waiting) (sym memory.1) r))
-large_closed seed s scene network course before mid now waiting status r comes gives number (inr ends) = (
+large_closed seed s scene network course before mid now waiting status r comes gives number (inr ends) = inr (
   TooLarge,
   r.written ++ (waiting ++ large_line event_limit),
   λ lines said. (
@@ -296,7 +302,7 @@ large_closed seed s scene network course before mid now waiting status r comes g
 
 -- before the first event there is no memory
 pub nothing_run : (s : Setting) (scene : SceneAt) (seed : ℕ) (held : Option (List ℕ)) → Closed (λ lines. IsScenario s lines scene) (simulation_of s seed) OutOfMemory held held
-nothing_run s scene seed held = (
+nothing_run s scene seed held = inr (
   OutOfMemory,
   [],
   λ lines said. (

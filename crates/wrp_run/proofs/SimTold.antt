@@ -5,7 +5,8 @@ use Rattle.wrp_course.specs.Setting.{Setting}
 use Rattle.wrp_run.specs.declared.command_line.Form.TheVariants as forms
 use Rattle.wrp_records.specs.declared.machine.Refusal.TheVariants as refusals
 use Rattle.wrp_records.specs.declared.status.Status.{Status}
-use Rattle.wrp_records.specs.declared.status.Status.TheVariants.{Done, BadTrace, Broken, ReadFault, TooLarge, OutOfMemory}
+use Rattle.wrp_records.specs.declared.status.Status.TheVariants.{Done, BadTrace, Broken, ReadFault, TooLarge, OutOfMemory, BadCalib}
+use Rattle.wrp_io.specs.declared.link.LinkCall.{LinkCall}
 use Rattle.wrp_run.specs.Answer.{AsksNone, CutTask, TaskAnswer}
 use Rattle.wrp_run.specs.Ends.{Ends, Run}
 use Rattle.wrp_run.specs.Headline.{ReachesNone}
@@ -123,10 +124,11 @@ records_due words input BadTrace octets s seed asks h = inr (inl (refused words 
 records_due words input Broken octets s seed asks h = absurd h.refused
 records_due words input TooLarge octets s seed asks (inl one) = inr (inl (large words input octets s seed asks one))
 records_due words input TooLarge octets s seed asks (inr off) = inr (inr (overruns words input octets s seed asks off))
+records_due words input BadCalib octets s seed asks h = absurd h.broken
 records_due words input _ octets s seed asks h = absurd h
 
-task_due : (words : List (List ℕ)) (seed : ℕ) (input : List ℕ) (status : Status) (octets : List ℕ) → IsSimulation words seed → TaskAnswer words input status octets → IsRunDue words input status octets
-task_due words seed input status octets simulates h =
+task_due : (words : List (List ℕ)) (seed : ℕ) (input : List ℕ) (status : Status) (octets : List ℕ) (calls : List LinkCall) → IsSimulation words seed → TaskAnswer words input calls status octets → IsRunDue words input status octets
+task_due words seed input status octets calls simulates h =
     only_simulation words (network_text input) seed (λ task. RecordsAnswer (meaning_at task) (behind_separator (lines_of input)) status octets) (IsRunDue words input status octets) simulates
     (λ s own asks due. records_due words input status octets s own asks due) h.0 h.1 h.2
 
@@ -146,10 +148,10 @@ cut_due words seed input taken octets simulates h =
 
 run_so : (words : List (List ℕ)) (seed : ℕ) → IsSimulation words seed → IsDueSo words (IsRunDue words)
 run_so words seed simulates = record {
-  command = inr (inr (seed, simulates));
+  networked = inr (inr (seed, simulates));
   no_node = λ input none. absurd (asks_node words (network_text input) seed simulates none);
   none = λ input status octets none. inl none;
-  task = λ input status octets answer. task_due words seed input status octets simulates answer;
+  task = λ input status octets calls answer. task_due words seed input status octets calls simulates answer;
   first = λ input octets task asks first. first_due words seed input octets task simulates asks first;
   cut = λ input taken left octets all cut. cut_due words seed input taken octets simulates cut;
 }
@@ -161,13 +163,13 @@ IsMadeSo words held now status input = (octets : List ℕ) × Appends held now o
 headline_of : MadeEventsCarryParts → (words : List (List ℕ)) (input : List ℕ) (held now : Option (List ℕ)) (status : Status) → PrintsDue (IsRunDue words) held now input status → IsMadeSo words held now status input
 headline_of parts words input held now status h = (h.0, h.1, record { prints = h.2; carries = λ s events made. parts words input s events made })
 
-run_told : MadeEventsCarryParts → (run : Run) (status : Status) (seed : ℕ) (o : Option (List ℕ)) → Ends run status → IsSimulation run.words seed → run.input ≡ o → IfSome o (IsMadeSo run.words run.held run.now status)
+run_told : MadeEventsCarryParts → (run : Run) (status : Status) (seed : ℕ) (o : Option (List ℕ)) → Ends run status → IsSimulation run.words seed → run.source.before ≡ o → IfSome o (IsMadeSo run.words run.sink.before run.sink.now status)
 run_told parts run status seed None ends simulates is = tt
 run_told parts run status seed (Some input) ends simulates is =
-    headline_of parts run.words input run.held run.now status (prints run input status (IsRunDue run.words) (run_so run.words seed simulates) is ends)
+    headline_of parts run.words input run.sink.before run.sink.now status (prints run input status (IsRunDue run.words) (run_so run.words seed simulates) is ends)
 
-pub simulation_told : MadeEventsCarryParts → (run : Run) (status : Status) (seed : ℕ) → Ends run status → IsSimulation run.words seed → IfSome run.input (IsMadeSo run.words run.held run.now status)
-simulation_told parts run status seed ends simulates = run_told parts run status seed run.input ends simulates refl
+pub simulation_told : MadeEventsCarryParts → (run : Run) (status : Status) (seed : ℕ) → Ends run status → IsSimulation run.words seed → IfSome run.source.before (IsMadeSo run.words run.sink.before run.sink.now status)
+simulation_told parts run status seed ends simulates = run_told parts run status seed run.source.before ends simulates refl
 
 -- where nothing was read and nothing written
 pub nothing_made : MadeEventsCarryParts → (words : List (List ℕ)) (input held : Option (List ℕ)) (seed : ℕ) → IsSimulation words seed → Appends held held [] → IfSome input (IsMadeSo words held held OutOfMemory)

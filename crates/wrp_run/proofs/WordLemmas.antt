@@ -1,13 +1,20 @@
 -- Words by their number, and the one value of an option.
-use Rattle.std.proofs.Common.{◌≡◌, inl, inr, ℕ, ◌<◌, ◌≤◌, List, [], ◌∷◌, ◌++◌, None, length, map, refl, sym, ap, ◌∙◌, subst, codes, arith}
+use Rattle.std.proofs.Common.{◌≡◌, inl, inr, ℕ, ◌<◌, ◌≤◌, List, [], ◌∷◌, ◌++◌, Option, None, Some, length, map, refl, sym, ap, ◌∙◌, subst, codes, arith}
 use Rattle.std.specs.List.{slice_index_or}
 use Rattle.std.proofs.lemmas.List.{append_cancel_left}
 use Rattle.std.proofs.lemmas.Option.{same_Some}
 use Rattle.wrp_run.specs.declared.command_line.Form.{Form}
 use Rattle.wrp_run.specs.declared.command_line.Form.TheVariants as forms
-use Rattle.wrp_run.specs.Answer.{IsCommand}
+use Rattle.wrp_run.specs.declared.command_line.Alone.{Alone}
+use Rattle.wrp_run.specs.declared.command_line.Alone.TheVariants.{Migrate, L1Sync, Calibrate}
+use Rattle.wrp_run.specs.Alone.{IsAlone, alone_word}
+use Rattle.wrp_run.specs.Answer.{IsCommand, IsNetworked}
 use Rattle.wrp_run.specs.Fields.{seed_of}
-use Rattle.wrp_run.specs.CommandLine.{HasOption, IsCommandWith, IsForm, IsNoCommand}
+use Rattle.wrp_run.specs.Asked.{AsksSo}
+use Rattle.wrp_run.specs.CommandLine.{HasOption, IsCommandOf, IsCommandWith, IsForm, IsNoCommand}
+use Rattle.wrp_run.specs.declared.parse.Asked.TheVariants as asked
+use Rattle.wrp_run.specs.declared.parse.Command.{Command}
+use Rattle.wrp_run.specs.declared.parse.Command.TheVariants as command
 use Rattle.wrp_run.specs.Tasks.{IsAuditing, IsEmission, IsReplay, IsSimulation}
 
 -- two words
@@ -46,6 +53,49 @@ letter forms.Emit = 97
 letter forms.Replay = 114
 letter forms.Simulate = 115
 letter forms.Loop = 108
+letter (forms.Alone Migrate) = 109
+letter (forms.Alone L1Sync) = 108
+letter (forms.Alone Calibrate) = 99
+
+-- of a command that stands alone
+abbrev alone_letter : Alone → ℕ
+alone_letter Migrate = 109
+alone_letter L1Sync = 108
+alone_letter Calibrate = 99
+
+alone_initial : (words : List (List ℕ)) (alone : Alone) → IsAlone words alone → initial words ≡ alone_letter alone
+alone_initial words Migrate is = ap initial is
+alone_initial words L1Sync is = ap initial is
+alone_initial words Calibrate is = ap initial is
+
+-- it has no option
+pub alone_bare : (command option : List ℕ) (words : List (List ℕ)) (value : List ℕ) (alone : Alone) → IsAlone words alone → IsCommandWith command option words value → ⊥
+alone_bare command option words value alone is with = (subst (λ (ws : List (List ℕ)). IsCommandWith command option ws value) is with).1
+
+-- it is no audit
+pub alone_no_audit : (words : List (List ℕ)) (alone : Alone) → IsAlone words alone → IsAuditing words → ⊥
+alone_no_audit words Migrate is audit = let bad : 109 ≡ 97 = sym (alone_initial words Migrate is) ∙ ap initial audit in absurd (omega (arith, bad))
+alone_no_audit words L1Sync is audit = let bad : 108 ≡ 97 = sym (alone_initial words L1Sync is) ∙ ap initial audit in absurd (omega (arith, bad))
+alone_no_audit words Calibrate is audit = let bad : 99 ≡ 97 = sym (alone_initial words Calibrate is) ∙ ap initial audit in absurd (omega (arith, bad))
+
+-- nor any other command on a network
+pub alone_unnetworked : (words : List (List ℕ)) (alone : Alone) → IsAlone words alone → IsNetworked words → ⊥
+alone_unnetworked words alone is (inl audit) = alone_no_audit words alone is audit
+alone_unnetworked words alone is (inr (inl (name, inl replay))) = alone_bare (codes "replay") (codes "--node") words name alone is replay
+alone_unnetworked words alone is (inr (inl (name, inr emission))) = alone_bare (codes "audit") (codes "--emit") words name alone is emission
+alone_unnetworked words alone is (inr (inr (seed, simulation))) = alone_bare (codes "simulate") (codes "--seed") words simulation.0 alone is simulation.1
+
+-- words are one such command
+pub one_alone : (words : List (List ℕ)) (a b : Alone) → IsAlone words a → IsAlone words b → a ≡ b
+one_alone words Migrate Migrate p q = refl
+one_alone words Migrate L1Sync p q = let bad : 109 ≡ 108 = sym (alone_initial words Migrate p) ∙ alone_initial words L1Sync q in absurd (omega (arith, bad))
+one_alone words Migrate Calibrate p q = let bad : 109 ≡ 99 = sym (alone_initial words Migrate p) ∙ alone_initial words Calibrate q in absurd (omega (arith, bad))
+one_alone words L1Sync Migrate p q = let bad : 108 ≡ 109 = sym (alone_initial words L1Sync p) ∙ alone_initial words Migrate q in absurd (omega (arith, bad))
+one_alone words L1Sync L1Sync p q = refl
+one_alone words L1Sync Calibrate p q = let bad : 108 ≡ 99 = sym (alone_initial words L1Sync p) ∙ alone_initial words Calibrate q in absurd (omega (arith, bad))
+one_alone words Calibrate Migrate p q = let bad : 99 ≡ 109 = sym (alone_initial words Calibrate p) ∙ alone_initial words Migrate q in absurd (omega (arith, bad))
+one_alone words Calibrate L1Sync p q = let bad : 99 ≡ 108 = sym (alone_initial words Calibrate p) ∙ alone_initial words L1Sync q in absurd (omega (arith, bad))
+one_alone words Calibrate Calibrate p q = refl
 
 initial_letter : (form : Form) (words : List (List ℕ)) (value : List ℕ) → IsForm form words value → initial words ≡ letter form
 initial_letter forms.Audit words value is = ap initial is.0
@@ -53,6 +103,9 @@ initial_letter forms.Emit words value is = initial_of 97 _ (codes "--emit") word
 initial_letter forms.Replay words value is = initial_of 114 _ (codes "--node") words value is
 initial_letter forms.Simulate words value is = initial_of 115 _ (codes "--seed") words value is
 initial_letter forms.Loop words value is = initial_of 108 _ (codes "--seed") words value is
+initial_letter (forms.Alone Migrate) words value is = alone_initial words Migrate is.0
+initial_letter (forms.Alone L1Sync) words value is = alone_initial words L1Sync is.0
+initial_letter (forms.Alone Calibrate) words value is = alone_initial words Calibrate is.0
 
 -- a seed that is none makes no command
 pub no_simulate : (words : List (List ℕ)) (text : List ℕ) → IsCommandWith (codes "simulate") (codes "--seed") words text → None ≡ seed_of text → IsNoCommand words
@@ -60,6 +113,7 @@ no_simulate words text has none forms.Simulate value is sound =
     let same : text ≡ value = one_value (codes "simulate") (codes "--seed") words text value has is in
     let never = none ∙ ap seed_of same ∙ sound.1 in
     cc
+no_simulate words text has none (forms.Alone alone) value is sound = alone_bare (codes "simulate") (codes "--seed") words text alone is.0 has
 no_simulate words text has none form value is sound =
     let bad : 115 ≡ letter form = sym (initial_of 115 _ (codes "--seed") words text has) ∙ initial_letter form words value is in
     absurd (omega (arith, bad))
@@ -69,6 +123,7 @@ no_loop words text has none forms.Loop value is sound =
     let same : text ≡ value = one_value (codes "loop") (codes "--seed") words text value has is in
     let never = none ∙ ap seed_of same ∙ sound.1 in
     cc
+no_loop words text has none (forms.Alone alone) value is sound = alone_bare (codes "loop") (codes "--seed") words text alone is.0 has
 no_loop words text has none form value is sound =
     let bad : 108 ≡ letter form = sym (initial_of 108 _ (codes "--seed") words text has) ∙ initial_letter form words value is in
     absurd (omega (arith, bad))
@@ -91,10 +146,11 @@ no_option words name audit emission = (subst (λ (ws : List (List ℕ)). IsEmiss
 
 -- words that are no command ask for nothing
 pub asks_nothing : (words : List (List ℕ)) → IsNoCommand words → IsCommand words → ⊥
-asks_nothing words never (inl audit) = never forms.Audit [] (audit, refl) tt
-asks_nothing words never (inr (inl (name, inl replay))) = never forms.Replay name replay tt
-asks_nothing words never (inr (inl (name, inr emission))) = never forms.Emit name emission tt
-asks_nothing words never (inr (inr (seed, simulation))) = never forms.Simulate simulation.0 simulation.1 (seed, simulation.2)
+asks_nothing words never (inl (inl audit)) = never forms.Audit [] (audit, refl) tt
+asks_nothing words never (inl (inr (inl (name, inl replay)))) = never forms.Replay name replay tt
+asks_nothing words never (inl (inr (inl (name, inr emission)))) = never forms.Emit name emission tt
+asks_nothing words never (inl (inr (inr (seed, simulation)))) = never forms.Simulate simulation.0 simulation.1 (seed, simulation.2)
+asks_nothing words never (inr (alone, is)) = never (forms.Alone alone) [] (is, refl) tt
 
 -- a simulation is nothing else, and has one seed
 pub simulation_alone : (form : Form) (words : List (List ℕ)) (value : List ℕ) (seed : ℕ) → IsForm form words value → (letter form ≡ 115 → ⊥) → IsSimulation words seed → ⊥
@@ -108,3 +164,22 @@ one_seed words a b p q =
 -- an audit is no simulation
 pub no_simulation : (words : List (List ℕ)) (seed : ℕ) → IsAuditing words → IsSimulation words seed → ⊥
 no_simulation words seed audit simulation = simulation_alone forms.Audit words [] seed (audit, refl) (λ e. omega (arith, e)) simulation
+
+-- a loop is no command that is built
+loop_alone : (words : List (List ℕ)) (text : List ℕ) → IsCommandWith (codes "loop") (codes "--seed") words text → IsCommand words → ⊥
+loop_alone words text is (inl (inl audit)) =
+    let bad : 97 ≡ 108 = sym (initial_letter forms.Audit words [] (audit, refl)) ∙ initial_letter forms.Loop words text is in absurd (omega (arith, bad))
+loop_alone words text is (inl (inr (inl (name, inl replay)))) =
+    let bad : 114 ≡ 108 = sym (initial_letter forms.Replay words name replay) ∙ initial_letter forms.Loop words text is in absurd (omega (arith, bad))
+loop_alone words text is (inl (inr (inl (name, inr emission)))) =
+    let bad : 97 ≡ 108 = sym (initial_letter forms.Emit words name emission) ∙ initial_letter forms.Loop words text is in absurd (omega (arith, bad))
+loop_alone words text is (inl (inr (inr (seed, simulation)))) =
+    let bad : 115 ≡ 108 = sym (initial_letter forms.Simulate words simulation.0 simulation.1) ∙ initial_letter forms.Loop words text is in absurd (omega (arith, bad))
+loop_alone words text is (inr (alone, only)) = alone_bare (codes "loop") (codes "--seed") words text alone only is
+
+-- what is asked for, by the command that the words are
+pub asks_so : (words : List (List ℕ)) (found : Option Command) → IsCommandOf words found → AsksSo words found
+asks_so words None never = asks_nothing words never
+asks_so words (Some (command.OnNetwork what)) is = is
+asks_so words (Some (command.Alone alone)) is = is
+asks_so words (Some (command.Loop seed)) is = loop_alone words is.0 is.1

@@ -3,8 +3,11 @@ use Rattle.std.specs.Prelude.{◌≡◌, ℕ, Some, Option, MatchOption, List, [
 use Rattle.std.specs.Borrow.{Bor}
 use Rattle.wrp_run.specs.declared.command_line.Form.{Form}
 use Rattle.wrp_run.specs.declared.command_line.Form.TheVariants as form
+use Rattle.wrp_run.specs.declared.parse.Asked.{Asked}
+use Rattle.wrp_run.specs.declared.parse.Asked.TheVariants.{Audit, Emit, Replay, Simulate}
 use Rattle.wrp_run.specs.declared.parse.Command.{Command}
-use Rattle.wrp_run.specs.declared.parse.Command.TheVariants.{Audit, Emit, Replay, Simulate, Loop}
+use Rattle.wrp_run.specs.declared.parse.Command.TheVariants as command
+use Rattle.wrp_run.specs.Alone.{IsAlone}
 use Rattle.wrp_run.specs.Fields.{seed_of}
 
 -- the text begins with a minus sign
@@ -31,6 +34,7 @@ IsForm form.Emit words value = IsCommandWith (codes "audit") (codes "--emit") wo
 IsForm form.Replay words value = IsCommandWith (codes "replay") (codes "--node") words value
 IsForm form.Simulate words value = IsCommandWith (codes "simulate") (codes "--seed") words value
 IsForm form.Loop words value = IsCommandWith (codes "loop") (codes "--seed") words value
+IsForm (form.Alone alone) words value = IsAlone words alone × (value ≡ [])
 
 -- the words have this form
 abbrev pub HasForm : List (List ℕ) → Form → Type 0
@@ -42,13 +46,18 @@ IsSeeded command words seed =
     (text : List ℕ) × IsCommandWith command (codes "--seed") words text
     × (seed_of text ≡ Some seed)
 
+-- the words ask for this of a network
+abbrev pub IsAsked : List (List ℕ) → Asked → Type 0
+IsAsked words Audit = words ≡ codes "audit" ∷ []
+IsAsked words (Emit name) = IsCommandWith (codes "audit") (codes "--emit") words name.now
+IsAsked words (Replay name) = IsCommandWith (codes "replay") (codes "--node") words name.now
+IsAsked words (Simulate seed) = IsSeeded (codes "simulate") words seed
+
 -- the words are this command
 abbrev pub IsWords : List (List ℕ) → Command → Type 0
-IsWords words Audit = words ≡ codes "audit" ∷ []
-IsWords words (Emit name) = IsCommandWith (codes "audit") (codes "--emit") words name.now
-IsWords words (Replay name) = IsCommandWith (codes "replay") (codes "--node") words name.now
-IsWords words (Simulate seed) = IsSeeded (codes "simulate") words seed
-IsWords words (Loop seed) = IsSeeded (codes "loop") words seed
+IsWords words (command.OnNetwork asked) = IsAsked words asked
+IsWords words (command.Alone alone) = IsAlone words alone
+IsWords words (command.Loop seed) = IsSeeded (codes "loop") words seed
 
 -- a value that the form takes: that of `--seed` is a seed
 abbrev pub IsValue : Form → List ℕ → Type 0

@@ -11,7 +11,7 @@ use Rattle.wrp_records.specs.Passages.{Failed, Passage}
 use Rattle.wrp_records.specs.Reader.{piece_limit}
 use Rattle.wrp_records.specs.RecordsAnswer.{IsRefused}
 use Rattle.wrp_run.specs.declared.command_line.Alone.{Alone}
-use Rattle.wrp_run.specs.Alone.{IsAlone, alone_meaning}
+use Rattle.wrp_run.specs.Alone.{IsAlone, MayAnswer, alone_meaning}
 use Rattle.wrp_run.specs.Answer.{IsCommand, IsOfNode, AsksNone, Answer, FirstAnswer, PartAnswer, CutAnswer}
 use Rattle.wrp_run.specs.Input.{network_text, behind_separator}
 use Rattle.wrp_run.specs.Refusals.{usage_line}
@@ -37,11 +37,11 @@ Took run octets = Consumes run.source.before run.source.now octets
 abbrev pub Called : Run → List LinkCall → Type 0
 Called run calls = run.link.now ≡ option_map (λ told. told ++ calls) run.link.before
 
--- these calls decide what is due: those that the run added, where the link tells them; or it made none
-abbrev pub IsToldOf : Run → List LinkCall → Type 0
-IsToldOf run calls =
+-- these calls decide what is due: those that the run added, where the link tells them; or none, where it made none
+abbrev pub IsToldOf : Passage (List LinkCall) → List LinkCall → Type 0
+IsToldOf link calls =
     (calls ≡ [])
-    ⊎ ((told : List LinkCall) × (run.link.before ≡ Some told) × (run.link.now ≡ Some (told ++ calls)))
+    ⊎ ((told : List LinkCall) × (link.before ≡ Some told) × (link.now ≡ Some (told ++ calls)))
 
 -- the words are a command, and what is due for this status was written
 abbrev pub Answered : Run → Status → Type 0
@@ -84,6 +84,10 @@ pub record TakesPiece (run : Run) (status : Status) (input : List ℕ) : Type 0 
 abbrev pub AsksEvents : List (List ℕ) → Type 0
 AsksEvents words = IsAuditing words ⊎ ((name : List ℕ) × IsEmission words name)
 
+-- the words ask for a command that stands alone, which may answer this
+abbrev pub AsksAlone : List (List ℕ) → Status → Type 0
+AsksAlone words status = (alone : Alone) × IsAlone words alone × MayAnswer alone status
+
 -- how a run ends
 abbrev pub Ends : Run → Status → Type 0
 -- the input was read to its end, and what is due is written
@@ -98,9 +102,16 @@ Ends run Usage =
 -- a record is refused: at most one piece behind its line was taken
 Ends run BadTrace =
     Answered run BadTrace × IfSome run.source.before (TakesPiece run BadTrace)
--- a record breaks a premise: the same, and only where events are audited
+-- a record breaks a premise: the same, and only of a command whose records have premises
 Ends run Broken =
-    Answered run Broken × IfSome run.source.before (TakesPiece run Broken) × AsksEvents run.words
+    Answered run Broken × IfSome run.source.before (TakesPiece run Broken)
+    × (AsksEvents run.words ⊎ AsksAlone run.words Broken)
+-- a capture is refused: the same, and only where one is read
+Ends run BadCapture =
+    Answered run BadCapture × IfSome run.source.before (TakesPiece run BadCapture)
+    × AsksAlone run.words BadCapture
+-- the records of a calibration as a whole give no answer
+Ends run BadCalib = Answered run BadCalib × AsksAlone run.words BadCalib
 -- the source failed: the lines of the whole records among what was taken stand, and no refusal
 -- stands in it
 Ends run ReadFault =
@@ -114,9 +125,17 @@ Ends run WriteFault =
 Ends run OutOfMemory =
     (octets : List ℕ) × (calls : List LinkCall) × Wrote run octets × Called run calls
     × IfSome run.source.before (λ input. FirstAnswer run.words input calls octets)
--- no command that is built calls a link, reads a capture or answers a calibration
+-- no command that is built calls a link
 Ends run LinkFault = ⊥
-Ends run BadCapture = ⊥
-Ends run BadCalib = ⊥
 -- the network or a size is refused, and its line is written behind those of the records before it
 Ends run status = Answered run status
+
+-- so it ends, over this source and this sink, where it calls no link
+abbrev pub EndsUnlinked : List (List ℕ) → Passage (List ℕ) → Passage (List ℕ) → Status → Type 0
+EndsUnlinked words source sink status =
+    (link : Passage (List LinkCall)) → link.now ≡ link.before
+    → Ends (record { words = words; source = source; sink = sink; link = link }) status
+
+-- the passage of an object that had more before some of it was taken
+abbrev pub begun_at : {A : Type 0} → Option A → Passage A → Passage A
+begun_at first p = record p { before = first }

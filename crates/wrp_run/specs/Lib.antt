@@ -1,3 +1,4 @@
+pub mod Alone
 pub mod Answer
 pub mod AnswerLaws
 pub mod Asked
@@ -28,3 +29,4 @@ pub mod StandsFor
 pub mod Tasks
 pub mod TrackLines
 pub mod Words
+pub mod AloneAims

@@ -35,7 +35,7 @@ use wrp_lines::append_line;
 use wrp_node::Output;
 use wrp_trace::{append_input_line, read_event_fields};
 use wrp_world::{Event, NodeOut, Refused, World};
-use wrp_records::{Machine, Refusal, Taken, append_bad_trace};
+use wrp_records::{Closing, Machine, Refusal, Taken, append_bad_trace};
 
 /// A network as far as it is audited: its world, the node whose inputs are asked for, if one is, and a
 /// place for the steps of an event.
@@ -71,8 +71,8 @@ impl<F: Fn(i64) -> i64> AuditedNetwork<F> {
         })
     }
 
-    /// Appends the lines that close the records.
-    pub fn close(&self, text: &mut Vec<u8>) -> Result<(), AllocError>
+    // Appends the lines that close the records.
+    fn append_last(&self, text: &mut Vec<u8>) -> Result<(), AllocError>
         requires ready { CanAudit F.pre F.post self.now }
         requires none { text.old.items ≡ [] }
         ensures { IfOk result (λ _. (lines : List (List ℕ)) → HasAudited F.post self.now lines
@@ -176,6 +176,7 @@ impl<F: Fn(i64) -> i64> AuditedNetwork<F> {
 }
 
 impl<F: Fn(i64) -> i64> Machine for AuditedNetwork<F> {
+    ghost use Rattle.wrp_records.specs.LineMeaning.{bars_none};
     ghost use Rattle.wrp_run.specs.AuditStands.{CanAudit, HasAudited, setting_in, task_of};
     ghost use Rattle.wrp_run.specs.Tasks.{meaning_at};
 
@@ -193,6 +194,10 @@ impl<F: Fn(i64) -> i64> Machine for AuditedNetwork<F> {
 
     ghost refuses = { λ setting. (meaning_at (task_of setting.1 (setting_in setting.0))).refuses };
 
+    ghost closes = { λ setting. (meaning_at (task_of setting.1 (setting_in setting.0))).closes };
+
+    ghost bars = { λ setting. bars_none };
+
     fn take(
         &mut self,
         alloc: Global,
@@ -204,6 +209,14 @@ impl<F: Fn(i64) -> i64> Machine for AuditedNetwork<F> {
         match self.handle(alloc, line, parts, number, text) {
             Ok(taken) => taken,
             Err(_) => Taken::Memory,
+        }
+    }
+
+    fn close(&self, alloc: Global, text: &mut Vec<u8>) -> Closing {
+        let _alloc = alloc;
+        match self.append_last(text) {
+            Ok(()) => Closing::Closed,
+            Err(_) => Closing::Memory,
         }
     }
 }

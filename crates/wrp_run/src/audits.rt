@@ -24,7 +24,7 @@ pub fn one_audit()
     told_last();
 }
 
-/// For words and an input one status and one text are due.
+/// For words, an input and the calls of a link one status and one text are due.
 pub fn one_answer()
     ensures { OneAnswer }
 {

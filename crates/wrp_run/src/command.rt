@@ -1,51 +1,63 @@
 //! The top call: which command the words name.
 ghost use Rattle.std.specs.Prelude.{◌≡◌, ℕ, List, true, IfOk, IfSome};
 ghost use Rattle.std.specs.Io.KnownBytes.{Appends};
+ghost use Rattle.wrp_io.specs.declared.link.LinkCall.{LinkCall};
 ghost use Rattle.wrp_io.specs.Faults.{Rose};
 ghost use Rattle.wrp_records.specs.declared.status.Status.{Status};
+ghost use Rattle.wrp_records.specs.Passages.{FailsBy, passage};
+ghost use Rattle.wrp_records.specs.Statuses.{is_answer};
+ghost use Rattle.wrp_run.specs.declared.command_line.Alone.{Alone};
+ghost use Rattle.wrp_run.specs.Alone.{IsAlone};
+ghost use Rattle.wrp_run.specs.AloneAims.{CalibratesSo, MigratesSo, SynchronisesSo};
 ghost use Rattle.wrp_run.specs.Answer.{Answer, IsCommand};
 ghost use Rattle.wrp_run.specs.Asked.{AsksSo};
 ghost use Rattle.wrp_run.specs.EmitHeadline.{EmitHeadline};
-ghost use Rattle.wrp_run.specs.Ends.{Ends};
+ghost use Rattle.wrp_run.specs.Ends.{Ends, EndsUnlinked, IsToldOf};
 ghost use Rattle.wrp_run.specs.Headline.{Headline};
 ghost use Rattle.wrp_run.specs.SimHeadline.{SimHeadline};
-ghost use Rattle.wrp_records.specs.Statuses.{is_answer};
 ghost use Rattle.wrp_run.specs.Tasks.{IsAuditing, IsEmission, IsSimulation};
 ghost use Rattle.wrp_run.specs.Words.{texts_of};
 
 use crate::audits::{events_carry_parts, made_events_carry_parts, one_audit};
+use crate::command_line::Alone;
+use crate::network::run_network;
 use crate::parse::{Command, read_words};
 use crate::refusals::USAGE_LINE;
-use crate::replaying::replay_named;
-use crate::worlds::{Asked, run_network};
 use std::alloc::{AllocError, Global};
+use wrp_calib::{calibrate, inputs_tell_truth};
 use wrp_io::{Link, Sink, Source};
+use wrp_l1sync::{answers_show_the_pair, l1sync};
+use wrp_migrate::{migrate, migration_keeps};
 use wrp_node::one_run;
-use wrp_servo::told_last;
 use wrp_records::{Status, answer};
+use wrp_servo::told_last;
 
-// What the words ask for, of what is built.
-#[derive(Clone, Copy, Debug, PartialEq, Eq)]
-enum Request<'a> {
-    // An audit or a simulation.
-    Work(Asked<'a>),
-    // The replay of the node of this name.
-    Replay(&'a str),
-    // Nothing that is built.
-    Nothing,
-}
-
-// What the words ask for.
-fn read_request<'a>(alloc: Global, words: &'a [&'a str]) -> Result<Request<'a>, AllocError>
+// The command that the words name, of those that are built, or None.
+fn read_command<'a>(alloc: Global, words: &'a [&'a str]) -> Result<Option<Command<'a>>, AllocError>
     ensures { IfOk result (AsksSo (texts_of words.now)) }
 {
-    match read_words(alloc, words)? {
-        Some(Command::Replay(name)) => Ok(Request::Replay(name)),
-        Some(Command::Audit) => Ok(Request::Work(Asked::Audit(None))),
-        Some(Command::Emit(name)) => Ok(Request::Work(Asked::Audit(Some(name)))),
-        Some(Command::Simulate(seed)) => Ok(Request::Work(Asked::Simulate(seed))),
-        Some(Command::Loop(_)) => Ok(Request::Nothing),
-        None => Ok(Request::Nothing),
+    read_words(alloc, words)
+}
+
+// Runs a command that stands alone.
+fn run_alone<S: Source, K: Sink>(
+    alloc: Global,
+    words: &[&str],
+    alone: Alone,
+    source: &mut S,
+    sink: &mut K,
+) -> Status
+    requires { IsAlone (texts_of words.now) alone }
+    ensures ends { EndsUnlinked (texts_of words.now) (passage S.left S.faults source.old source.new)
+        (passage K.held K.faults sink.old sink.new) result }
+    ensures read { FailsBy Status.ReadFault result (passage S.left S.faults source.old source.new) }
+    ensures write { FailsBy Status.WriteFault result (passage K.held K.faults sink.old sink.new) }
+{
+    let _words = words;
+    match alone {
+        Alone::Migrate => migrate(alloc, source, sink),
+        Alone::L1Sync => l1sync(alloc, source, sink),
+        Alone::Calibrate => calibrate(alloc, source, sink),
     }
 }
 
@@ -61,30 +73,31 @@ pub fn run<S: Source, K: Sink, N: Link>(
     // How it ends, for each status.
     ensures ends { Ends (record {
       words = texts_of words.now;
-      input = S.left source.old;
-      left = S.left source.new;
-      held = K.held sink.old;
-      now = K.held sink.new;
-      read_faults = S.faults source.old;
-      read_faults_now = S.faults source.new;
-      write_faults = K.faults sink.old;
-      write_faults_now = K.faults sink.new;
+      source = passage S.left S.faults source.old source.new;
+      sink = passage K.held K.faults sink.old sink.new;
+      link = passage N.told N.faults link.old link.new;
     }) result }
 
-    // A fault is told: where the source or the sink failed in this run, the status says so.
+    // A fault is told: where the source, the sink or the link failed in this run, the status says so.
     ensures read_kept { (result ≡ Status.ReadFault → ⊥)
         → S.faults source.new ≡ S.faults source.old }
     ensures write_kept { (result ≡ Status.WriteFault → ⊥)
         → K.faults sink.new ≡ K.faults sink.old }
+    ensures link_kept { (result ≡ Status.LinkFault → ⊥)
+        → N.faults link.new ≡ N.faults link.old }
 
     // What is due is what is answered and written, but for a fault and for want of memory.
-    ensures due { (status : Status) (octets : List ℕ) → is_answer result ≡ true
-        → IfSome (S.left source.old) (λ input. Answer (texts_of words.now) input status octets
+    ensures due { (status : Status) (octets : List ℕ) (calls : List LinkCall) → is_answer result ≡ true
+        → IsToldOf (passage N.told N.faults link.old link.new) calls
+        → IfSome (S.left source.old) (λ input. Answer (texts_of words.now) input calls status octets
         → (result ≡ status) × Appends (K.held sink.old) (K.held sink.new) octets) }
-    ensures complete { (status : Status) (octets : List ℕ) → (result ≡ Status.OutOfMemory → ⊥)
+    ensures complete { (status : Status) (octets : List ℕ) (calls : List LinkCall)
+        → (result ≡ Status.OutOfMemory → ⊥)
         → (Rose (S.faults source.old) (S.faults source.new) → ⊥)
         → (Rose (K.faults sink.old) (K.faults sink.new) → ⊥)
-        → IfSome (S.left source.old) (λ input. Answer (texts_of words.now) input status octets
+        → (Rose (N.faults link.old) (N.faults link.new) → ⊥)
+        → IsToldOf (passage N.told N.faults link.old link.new) calls
+        → IfSome (S.left source.old) (λ input. Answer (texts_of words.now) input calls status octets
         → (result ≡ status) × Appends (K.held sink.old) (K.held sink.new) octets) }
 
     // The aim of an audit, of what is written, for each status.
@@ -102,6 +115,19 @@ pub fn run<S: Source, K: Sink, N: Link>(
         (octets : List ℕ) × Appends (K.held sink.old) (K.held sink.new) octets
         × SimHeadline (texts_of words.now) input result octets) }
 
+    // The aims of the commands that stand alone: what a migration wrote is a text of the same database; what
+    // the synchronisation of two ends wrote shows both, record by record; what a calibration wrote holds
+    // the truth.
+    ensures migrated { IsAlone (texts_of words.now) Alone.Migrate → IfSome (S.left source.old) (λ input.
+        (octets : List ℕ) × Appends (K.held sink.old) (K.held sink.new) octets
+        × MigratesSo input result octets) }
+    ensures synchronised { IsAlone (texts_of words.now) Alone.L1Sync → IfSome (S.left source.old) (λ input.
+        (octets : List ℕ) × Appends (K.held sink.old) (K.held sink.new) octets
+        × SynchronisesSo input result octets) }
+    ensures calibrated { IsAlone (texts_of words.now) Alone.Calibrate → IfSome (S.left source.old) (λ input.
+        (octets : List ℕ) × Appends (K.held sink.old) (K.held sink.new) octets
+        × CalibratesSo input result octets) }
+
     // Words that are no command are refused with nothing read, and no link is used.
     ensures unread { (IsCommand (texts_of words.now) → ⊥) → source.new ≡ source.old }
     ensures link { link.new ≡ link.old }
@@ -111,10 +137,14 @@ pub fn run<S: Source, K: Sink, N: Link>(
     events_carry_parts();
     made_events_carry_parts();
     told_last();
-    match read_request(alloc, words) {
-        Ok(Request::Replay(name)) => replay_named(alloc, words, name, source, sink),
-        Ok(Request::Work(asked)) => run_network(alloc, words, asked, source, sink),
-        Ok(Request::Nothing) => answer(sink, Status::Usage, USAGE_LINE.as_bytes()),
+    migration_keeps();
+    answers_show_the_pair();
+    inputs_tell_truth();
+    match read_command(alloc, words) {
+        Ok(Some(Command::OnNetwork(asked))) => run_network(alloc, words, asked, source, sink),
+        Ok(Some(Command::Alone(alone))) => run_alone(alloc, words, alone, source, sink),
+        Ok(Some(Command::Loop(_))) => answer(sink, Status::Usage, USAGE_LINE.as_bytes()),
+        Ok(None) => answer(sink, Status::Usage, USAGE_LINE.as_bytes()),
         Err(_) => Status::OutOfMemory,
     }
 }

@@ -1,8 +1,21 @@
 //! The form of the command line: a scan of the words, which tells whether they have that of a command.
 ghost use Rattle.std.specs.Prelude.{◌≡◌, ◌↔◌, ◌++◌, ◌∷◌, [], ℕ, List, codes, IsTrue, MatchOption};
 ghost use Rattle.wrp_run.specs.declared.command_line.Form.{Form};
+ghost use Rattle.wrp_run.specs.Alone.{IsAlone};
+ghost use Rattle.wrp_run.specs.declared.command_line.Alone.{Alone};
 ghost use Rattle.wrp_run.specs.CommandLine.{IsDashed, IsForm, HasForm, GivesOption, GivesValue};
 ghost use Rattle.wrp_run.specs.Words.{texts_of};
+
+/// A command that stands alone: its word is its line, and no network text stands in front of its records.
+#[derive(Clone, Copy, Debug, PartialEq, Eq)]
+pub enum Alone {
+    /// `migrate`.
+    Migrate,
+    /// `l1sync`.
+    L1Sync,
+    /// `calibrate`.
+    Calibrate,
+}
 
 /// The form of a command line.
 #[derive(Clone, Copy, Debug, PartialEq, Eq)]
@@ -17,6 +30,8 @@ pub enum Form {
     Simulate,
     /// `loop --seed N`.
     Loop,
+    /// The word of a command that stands alone.
+    Alone(Alone),
 }
 
 // Whether a text begins with a minus sign.
@@ -110,6 +125,20 @@ fn is_audit(words: &[&str]) -> bool
     }
 }
 
+// The command that stands alone whose word the words are.
+fn alone_of(words: &[&str]) -> Option<Alone>
+    ensures { MatchOption result
+        ((alone : Alone) → IsAlone (texts_of words.now) alone → ⊥)
+        (IsAlone (texts_of words.now)) }
+{
+    match words {
+        ["migrate"] => Some(Alone::Migrate),
+        ["l1sync"] => Some(Alone::L1Sync),
+        ["calibrate"] => Some(Alone::Calibrate),
+        _ => None,
+    }
+}
+
 /// The form of the command line that the words are, or None where they have none.
 pub fn form_of(words: &[&str]) -> Option<Form>
     ensures { MatchOption result
@@ -118,6 +147,9 @@ pub fn form_of(words: &[&str]) -> Option<Form>
 {
     if is_audit(words) {
         return Some(Form::Audit);
+    }
+    if let Some(alone) = alone_of(words) {
+        return Some(Form::Alone(alone));
     }
     if let Some(_) = command_with("audit", "--emit", "--emit=", words) {
         return Some(Form::Emit);

@@ -11,7 +11,9 @@ mod command;
 mod command_line;
 mod counting;
 mod fields;
+mod front;
 mod law;
+mod network;
 mod network_text;
 mod parse;
 mod refusals;
@@ -22,7 +24,6 @@ mod scenario;
 mod simulating;
 mod simulation;
 mod totals;
-mod worlds;
 
 pub use audits::{
     audits_begin, events_carry_parts, made_events_carry_parts, one_answer, one_audit,

@@ -9,14 +9,14 @@ ghost use Rattle.wrp_run.specs.Fields.{seed_of};
 ghost use Rattle.wrp_run.specs.Parsing.{bare, option_rule, wrnet, value_of_option, IsRead};
 ghost use Rattle.wrp_run.specs.Words.{texts_of};
 
-use crate::command_line::{Form, form_of};
+use crate::command_line::{Alone, Form, form_of};
 use crate::fields;
 use clap::{Arg, ArgMatches, Command as Parser, Error};
 use std::alloc::{AllocError, Global};
 
-/// A command of the command line.
+/// What is asked of a network whose text stands in front of the records.
 #[derive(Clone, Copy, Debug, PartialEq, Eq)]
-pub enum Command<'a> {
+pub enum Asked<'a> {
     /// `audit`.
     Audit,
     /// `audit --emit NODE`.
@@ -25,7 +25,16 @@ pub enum Command<'a> {
     Replay(&'a str),
     /// `simulate --seed N`.
     Simulate(u64),
-    /// `loop --seed N`.
+}
+
+/// A command of the command line.
+#[derive(Clone, Copy, Debug, PartialEq, Eq)]
+pub enum Command<'a> {
+    /// One on a network.
+    OnNetwork(Asked<'a>),
+    /// One that stands alone.
+    Alone(Alone),
+    /// `loop --seed N`, which is still to come.
     Loop(u64),
 }
 
@@ -125,7 +134,7 @@ fn simulate_of<'a>(alloc: Global, words: &[&str]) -> Result<Option<Command<'a>>,
     ensures { IfOk result (IsCommandOf (texts_of words.now)) }
 {
     match given_seed(alloc, words)? {
-        Some(seed) => Ok(Some(Command::Simulate(seed))),
+        Some(seed) => Ok(Some(Command::OnNetwork(Asked::Simulate(seed)))),
         None => Ok(None),
     }
 }
@@ -151,11 +160,18 @@ fn command_of<'a>(
     ensures { IfOk result (IsCommandOf (texts_of words.now)) }
 {
     match form {
-        Form::Audit => Ok(Some(Command::Audit)),
-        Form::Emit => Ok(Some(Command::Emit(given(alloc, words, "emit")?))),
-        Form::Replay => Ok(Some(Command::Replay(given(alloc, words, "node")?))),
+        Form::Audit => Ok(Some(Command::OnNetwork(Asked::Audit))),
+        Form::Emit => {
+            let name = given(alloc, words, "emit")?;
+            Ok(Some(Command::OnNetwork(Asked::Emit(name))))
+        }
+        Form::Replay => {
+            let name = given(alloc, words, "node")?;
+            Ok(Some(Command::OnNetwork(Asked::Replay(name))))
+        }
         Form::Simulate => simulate_of(alloc, words),
         Form::Loop => loop_of(alloc, words),
+        Form::Alone(alone) => Ok(Some(Command::Alone(alone))),
     }
 }
 

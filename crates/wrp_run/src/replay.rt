@@ -27,7 +27,7 @@ use wrp_law::DelayLaw;
 use wrp_lines::append_line;
 use wrp_node::{Input, Node, Output, Outputs, node_set, one_run};
 use wrp_trace::read_input_fields;
-use wrp_records::{Machine, Refusal, Taken, append_bad_trace};
+use wrp_records::{Closing, Machine, Refusal, Taken, append_bad_trace};
 
 /// A node as far as it is replayed: the node, what its lines say of it, and a place for an input and
 /// one for its outputs, which serve record after record.
@@ -125,8 +125,8 @@ impl<'a, F: Fn(i64) -> i64> ReplayedNode<'a, F> {
         }
     }
 
-    /// Appends the lines that close the records.
-    pub fn close(&self, text: &mut Vec<u8>) -> Result<(), AllocError>
+    // Appends the lines that close the records.
+    fn append_last(&self, text: &mut Vec<u8>) -> Result<(), AllocError>
         requires ready { IsReady F.pre F.post self.now }
         requires none { text.old.items ≡ [] }
         ensures { IfOk result (λ _. (lines : List (List ℕ)) → HasTaken F.post self.now lines
@@ -137,7 +137,8 @@ impl<'a, F: Fn(i64) -> i64> ReplayedNode<'a, F> {
 }
 
 impl<'a, F: Fn(i64) -> i64> Machine for ReplayedNode<'a, F> {
-    ghost use Rattle.wrp_run.specs.Replays.{Accepts, Refuses};
+    ghost use Rattle.wrp_records.specs.LineMeaning.{bars_none};
+    ghost use Rattle.wrp_run.specs.Replays.{Accepts, Closes, Refuses};
     ghost use Rattle.wrp_run.specs.StandsFor.{HasTaken, IsReady, line_setting_at};
 
     type Setting = Replayed<'a>;
@@ -154,6 +155,10 @@ impl<'a, F: Fn(i64) -> i64> Machine for ReplayedNode<'a, F> {
 
     ghost refuses = { λ replayed. Refuses (line_setting_at replayed) };
 
+    ghost closes = { λ replayed. Closes (line_setting_at replayed) };
+
+    ghost bars = { λ replayed. bars_none };
+
     fn take(
         &mut self,
         alloc: Global,
@@ -165,6 +170,14 @@ impl<'a, F: Fn(i64) -> i64> Machine for ReplayedNode<'a, F> {
         match self.handle(alloc, line, parts, number, text) {
             Ok(taken) => taken,
             Err(_) => Taken::Memory,
+        }
+    }
+
+    fn close(&self, alloc: Global, text: &mut Vec<u8>) -> Closing {
+        let _alloc = alloc;
+        match self.append_last(text) {
+            Ok(()) => Closing::Closed,
+            Err(_) => Closing::Memory,
         }
     }
 }

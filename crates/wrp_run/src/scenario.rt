@@ -16,7 +16,7 @@ use std::alloc::{AllocError, Global};
 use wrp_base::TraceFault;
 use wrp_config::Network;
 use wrp_sim::Scene;
-use wrp_records::{Machine, Refusal, Taken, append_bad_trace};
+use wrp_records::{Closing, Machine, Refusal, Taken, append_bad_trace};
 
 /// The scenario of a network, as far as its lines were read.
 #[derive(Drop)]
@@ -65,6 +65,8 @@ impl<'a> ScenarioLines<'a> {
 }
 
 impl<'a> Machine for ScenarioLines<'a> {
+    ghost use Rattle.std.specs.Prelude.{◌≡◌, []};
+    ghost use Rattle.wrp_records.specs.LineMeaning.{bars_none};
     ghost use Rattle.wrp_run.specs.AuditStands.{setting_in};
     ghost use Rattle.wrp_run.specs.SimStands.{CanRead, SaysScenario};
     ghost use Rattle.wrp_run.specs.Simulates.{SimAccepts, SimRefuses};
@@ -83,6 +85,11 @@ impl<'a> Machine for ScenarioLines<'a> {
 
     ghost refuses = { λ net. SimRefuses (setting_in net.now) };
 
+    // The network runs behind the records, by whoever has them.
+    ghost closes = { λ _ _ text. text ≡ [] };
+
+    ghost bars = { λ _. bars_none };
+
     fn take(
         &mut self,
         alloc: Global,
@@ -95,6 +102,12 @@ impl<'a> Machine for ScenarioLines<'a> {
             Ok(()) => Taken::Accepted,
             Err(fault) => refuse(alloc, number, &fault, text),
         }
+    }
+
+    fn close(&self, alloc: Global, text: &mut Vec<u8>) -> Closing {
+        let _alloc = alloc;
+        let _text = text;
+        Closing::Closed
     }
 }
 

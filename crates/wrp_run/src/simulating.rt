@@ -10,7 +10,9 @@ ghost use Rattle.wrp_course.specs.Setting.{Setting};
 ghost use Rattle.wrp_world.specs.StandsFor.{StandsFor};
 ghost use Rattle.wrp_course.specs.WorldAt.{WorldAt};
 ghost use Rattle.wrp_records.specs.declared.status.Status.{Status};
-ghost use Rattle.wrp_records.specs.LinesAfter.{After, Closed};
+ghost use Rattle.wrp_records.specs.ByLines.{of_lines};
+ghost use Rattle.wrp_records.specs.LinesAfter.{Closed};
+ghost use Rattle.wrp_records.specs.Passages.{Passes, passage};
 ghost use Rattle.wrp_run.specs.AuditStands.{setting_in};
 ghost use Rattle.wrp_run.specs.LawsFit.{LawsFit};
 ghost use Rattle.wrp_run.specs.SimStands.{AreTotals, Begins, CanRun, ClosesLarge, ClosesRun, FitsCourse, HasRun, IsInRun, Steps};
@@ -207,22 +209,9 @@ pub fn simulate<F: Fn(i64) -> i64, S: Source, K: Sink>(
     requires at_end { reader.old.ended ≡ true → IsAtEnd (S.left source.old) }
     requires accepted { IsAccepted net.cfg net.db }
     requires laws { LawsFit F.pre F.post net laws.items }
-    ensures stands { (given : List ℕ) × (octets : List ℕ)
-        × Consumes (S.left source.old) (S.left source.new) given
-        × Appends (K.held sink.old) (K.held sink.new) octets
-        × After (meaning_at (Simulate (setting_in net) seed)) (reader.old.rest ++ given) reader.new
-        result octets }
-    ensures at_end { reader.new.ended ≡ true → IsAtEnd (S.left source.new) }
-    ensures done { result ≡ Status.Done → IsAtEnd (S.left source.new) }
-    ensures goes { result ≡ Status.ReadFault → reader.old.ended ≡ true → ⊥ }
-    ensures read_fault { result ≡ Status.ReadFault
-        → Rose (S.faults source.old) (S.faults source.new) }
-    ensures read_kept { (result ≡ Status.ReadFault → ⊥)
-        → S.faults source.new ≡ S.faults source.old }
-    ensures write_fault { result ≡ Status.WriteFault
-        → Rose (K.faults sink.old) (K.faults sink.new) }
-    ensures write_kept { (result ≡ Status.WriteFault → ⊥)
-        → K.faults sink.new ≡ K.faults sink.old }
+    ensures passes { Passes (of_lines (meaning_at (Simulate (setting_in net) seed)))
+        (passage S.left S.faults source.old source.new) (passage K.held K.faults sink.old sink.new)
+        reader.old.rest reader.old.ended reader.new.ended [] result }
 {
     let mut lines = ScenarioLines::new(&net);
     match handle_records(alloc, &mut lines, reader, source, sink) {

@@ -1,17 +1,33 @@
--- Where there is no memory for the world, nothing is written.
-use Rattle.std.proofs.Common.{[]}
+-- The machine begins with nothing taken; where there is no memory for the world, nothing is written.
+use Rattle.std.proofs.Common.{[], refl, subst, Option, List, ℕ}
 use Rattle.std.proofs.KnownBytes.{Appends-nil, Consumes-nil}
+use Rattle.wrp_config.specs.declared.network.Network.{Network}
+use Rattle.wrp_records.specs.ByLines.{of_lines}
+use Rattle.wrp_records.specs.Passages.{Passage, Passes, passage}
+use Rattle.wrp_records.proofs.Passed.{passes_nothing}
 use Rattle.wrp_run.specs.AuditStands.{setting_in, task_of}
 use Rattle.wrp_run.specs.Tasks.{meaning_at}
-use Rattle.wrp_run.proofs.AuditSteps.{nothing_accepted}
-use Rattle.wrp_records.proofs.Telling.{nothing_handled}
+use Rattle.wrp_run.proofs.AuditSteps.{audit_passes, nothing_accepted}
 use Rattle.wrp_run.proofs.auditing.audit_by.Goals as goal
 
-pub returns-in-Err-clause-stands : goal.returns-in-Err-clause-stands
-returns-in-Err-clause-stands g c = (
-  [],
-  [],
-  Consumes-nil _,
-  Appends-nil _,
-  nothing_handled (meaning_at (task_of c.args.emit (setting_in c.args.net))) _ c.args.reader.now (nothing_accepted c.args.emit (setting_in c.args.net)),
-)
+pub run_lines-requires-clause-fresh : goal.run_lines-requires-clause-fresh
+run_lines-requires-clause-fresh g c = (c.in-Ok.ensures.taken, nothing_accepted c.in-Ok.machine.emit (setting_in c.in-Ok.machine.world.plant.net))
+
+pub returns-in-Err : goal.returns-in-Err
+returns-in-Err g c = record {
+  passes = passes_nothing (meaning_at (task_of c.args.emit (setting_in c.args.net))) _ _ c.args.reader.now.rest c.args.reader.now.ended (nothing_accepted c.args.emit (setting_in c.args.net))
+      (Consumes-nil _) (Appends-nil _) c.requires.at_end refl refl;
+}
+
+pub returns-in-Ok : goal.returns-in-Ok
+returns-in-Ok g c =
+    let source : Passage (List ℕ) = passage g.S.Source.left g.S.Source.faults c.args.source.now c.run_lines.new.source in
+    let sink : Passage (List ℕ) = passage g.K.Sink.held g.K.Sink.faults c.args.sink.now c.run_lines.new.sink in
+    let machine = c.in-Ok.machine in
+    let own = audit_passes machine.emit (setting_in machine.world.plant.net) source sink c.args.reader.now.rest c.args.reader.now.ended c.run_lines.new.reader.ended c.run_lines.result c.run_lines.ensures.passes in
+    let net = subst (λ (k : Network). Passes (of_lines (meaning_at (task_of machine.emit (setting_in k)))) source sink c.args.reader.now.rest c.args.reader.now.ended c.run_lines.new.reader.ended [] c.run_lines.result)
+    c.in-Ok.ensures.net own in
+    record {
+      passes = subst (λ (k : Option ℕ). Passes (of_lines (meaning_at (task_of k (setting_in c.args.net)))) source sink c.args.reader.now.rest c.args.reader.now.ended c.run_lines.new.reader.ended [] c.run_lines.result)
+          c.in-Ok.ensures.emit net;
+    }

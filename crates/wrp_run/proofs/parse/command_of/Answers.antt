@@ -17,16 +17,16 @@ given-requires-in-Replay c =
     let has = subst (HasForm words) c.in-Replay.is c.requires in
     (has.0, node_read words has.0 has.1)
 
-pub returns-in_ok-given-in-Emit : goal.returns-in_ok-given-in-Emit
-returns-in_ok-given-in-Emit c =
+pub returns-in_ok-name-in-Emit : goal.returns-in_ok-name-in-Emit
+returns-in_ok-name-in-Emit c =
     let words = texts_of c.args.words.now in
     let has = subst (HasForm words) c.in-Emit.is c.requires in
-    let same = one_read words (codes "emit") has.0 _ (emit_read words has.0 has.1) c.in_ok-given-in-Emit.ensures in
+    let same = one_read words (codes "emit") has.0 _ (emit_read words has.0 has.1) c.in_ok-name-in-Emit.ensures in
     subst (IsCommandWith (codes "audit") (codes "--emit") words) same has.1
 
-pub returns-in_ok-given-in-Replay : goal.returns-in_ok-given-in-Replay
-returns-in_ok-given-in-Replay c =
+pub returns-in_ok-name-in-Replay : goal.returns-in_ok-name-in-Replay
+returns-in_ok-name-in-Replay c =
     let words = texts_of c.args.words.now in
     let has = subst (HasForm words) c.in-Replay.is c.requires in
-    let same = one_read words (codes "node") has.0 _ (node_read words has.0 has.1) c.in_ok-given-in-Replay.ensures in
+    let same = one_read words (codes "node") has.0 _ (node_read words has.0 has.1) c.in_ok-name-in-Replay.ensures in
     subst (IsCommandWith (codes "replay") (codes "--node") words) same has.1

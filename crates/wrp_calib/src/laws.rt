@@ -1,0 +1,27 @@
+//! What is true of every calibration that lines say. The functions here compute nothing: the contract of each is a law over
+//! all lines, and its proof shows that the law holds.
+ghost use Rattle.wrp_calib.specs.LinesAnswer.{EachInputHasAnswer};
+ghost use Rattle.wrp_calib.specs.LinesTold.{InputsTellTruth};
+ghost use Rattle.wrp_calib.specs.LinesTruth.{ConflictsAreReal, LinesTellTruth};
+
+/// Whenever runs of every kind came and some true delays keep the stated errors, the five lines of an
+/// answer are due, and each interval holds its true value; or that a strand may be too short.
+pub fn lines_tell_truth()
+    ensures { LinesTellTruth }
+{}
+
+/// A conflict is told only where no delays keep the stated errors.
+pub fn conflicts_are_real()
+    ensures { ConflictsAreReal }
+{}
+
+/// Whatever is due for an input whose records keep the stated errors tells the truth: no record is refused,
+/// and with status Done each printed interval holds its true value.
+pub fn inputs_tell_truth()
+    ensures { InputsTellTruth }
+{}
+
+/// For each input a status and a text are due.
+pub fn each_input_has_answer()
+    ensures { EachInputHasAnswer }
+{}

@@ -1,0 +1,43 @@
+-- What the answer to an input of `l1sync` shows of both ends, record by record (this project's profile).
+use Rattle.std.specs.Prelude.{◌≡◌, ℕ, ◌+◌, List, [], ◌++◌, length, map}
+use Rattle.wrp_base.specs.declared.fault.TraceFault.{TraceFault}
+use Rattle.wrp_l1sync.specs.declared.event.Breach.{Breach}
+use Rattle.wrp_l1sync.specs.LineRecords.{Accepts, meaning}
+use Rattle.wrp_l1sync.specs.LineText.{breach_line}
+use Rattle.wrp_l1sync.specs.LineTheorem.{ShowsAfterEach}
+use Rattle.wrp_records.specs.ByLines.{of_lines}
+use Rattle.wrp_records.specs.declared.status.Status.{Status}
+use Rattle.wrp_records.specs.declared.status.Status.TheVariants.{Done, BadTrace, Broken, TooLarge}
+use Rattle.wrp_records.specs.Lines.{content_of, lines_of}
+use Rattle.wrp_records.specs.Refusals.{bad_trace_line}
+use Rattle.wrp_records.specs.Stream.{large_line}
+
+-- the last line of an answer with this status names the record of this number
+abbrev pub Names : Status → ℕ → List ℕ → Type 0
+Names BadTrace number last = (fault : TraceFault) × (last ≡ bad_trace_line number fault)
+Names Broken number last = (breach : Breach) × (last ≡ breach_line number breach)
+Names TooLarge number last = last ≡ large_line number
+Names status number last = ⊥
+
+-- the first lines of an input are records, and what they write stands first, behind it a last line that
+-- names the next record; after each of them it shows how both ends stand
+pub record ShowsFirst (status : Status) (input text : List ℕ) : Type 0 where
+  pub front : List (List ℕ)
+  pub behind : List (List ℕ)
+  pub written : List ℕ
+  pub last : List ℕ
+  pub divided : lines_of input ≡ front ++ behind
+  pub is : text ≡ written ++ last
+  pub names : Names status (length front + 1) last
+  pub accepted : Accepts (map content_of front) written
+  pub shows : ShowsAfterEach (map content_of front) written
+
+-- what an answer shows: where it is Done, of all lines of the input
+abbrev pub ShowsBy : Status → (input text : List ℕ) → Type 0
+ShowsBy Done input text = Accepts (map content_of (lines_of input)) text × ShowsAfterEach (map content_of (lines_of input)) text
+ShowsBy status input text = ShowsFirst status input text
+
+-- each answer that is due for an input does
+abbrev pub AnswersShowThePair : Type 0
+AnswersShowThePair =
+    (input : List ℕ) (status : Status) (text : List ℕ) → (of_lines meaning).answers input [] status text → ShowsBy status input text

@@ -1,0 +1,74 @@
+-- What the text of `l1sync` shows of its ends: the state of each, and what an end that is up knows of its
+-- peer (this project's profile).
+use Rattle.std.specs.Prelude.{◌≡◌, ℕ, ◌==◌, if◌then◌else◌, Option, None, unwrap_or, List, [], ◌∷◌, ◌++◌}
+use Rattle.std.specs.List.{find, slice_split}
+use Rattle.std.specs.Option.{option_or}
+use Rattle.wrp_l1sync.specs.declared.event.L1Event.{L1Event}
+use Rattle.wrp_l1sync.specs.declared.event.Limits.{Limits}
+use Rattle.wrp_l1sync.specs.declared.event.Sent.{Sent}
+use Rattle.wrp_l1sync.specs.declared.event.Side.{Side}
+use Rattle.wrp_l1sync.specs.declared.interface.L1State.{L1State}
+use Rattle.wrp_l1sync.specs.declared.interface.L1State.TheVariants.{Disabled, Idle, LinkAlive, ConfigMatch, Up}
+use Rattle.wrp_l1sync.specs.Inputs.{state_of}
+use Rattle.wrp_l1sync.specs.LineKinds.{same_word}
+use Rattle.wrp_l1sync.specs.LineRecords.{Say, Accepts}
+use Rattle.wrp_l1sync.specs.LineText.{end_word, state_word}
+use Rattle.wrp_l1sync.specs.Pair.{handed, history, inputs_of}
+use Rattle.wrp_l1sync.specs.Theorem.{Carries}
+
+-- the lines of a text, which LF (octet 10) keeps apart
+abbrev pub lines_in : List ℕ → List (List ℕ)
+lines_in text = slice_split (λ octet. octet == 10) text
+
+-- the words of a line, which spaces (octet 32) keep apart
+abbrev pub words_in : List ℕ → List (List ℕ)
+words_in line = slice_split (λ octet. octet == 32) line
+
+-- all states
+abbrev pub all_states : List L1State
+all_states = Disabled ∷ Idle ∷ LinkAlive ∷ ConfigMatch ∷ Up ∷ []
+
+-- the state of a word
+abbrev pub state_named : List ℕ → Option L1State
+state_named word = find (λ state. same_word (state_word state) word) all_states
+
+-- the state that the words END TICK STATE tell of an end; no others tell one
+abbrev pub told_by : Side → List (List ℕ) → Option L1State
+told_by side (word ∷ tick ∷ state ∷ []) =
+    if same_word (end_word side) word then state_named state else None
+told_by side _ = None
+
+-- the last state that some lines tell of an end
+abbrev pub last_told : Side → List (List ℕ) → Option L1State
+last_told side [] = None
+last_told side (line ∷ later) = option_or (last_told side later) (told_by side (words_in line))
+
+-- the state that a text shows of an end: the last that it tells, and disabled where it tells none
+abbrev pub shown : Side → List ℕ → L1State
+shown side text = unwrap_or (last_told side (lines_in text)) Disabled
+
+-- a text shows how an end stands after these events, newest first: in the state that looking back over what
+-- it was handed finds, and where that is `up` its peer sent, at most timeout·dmax + life ago, a message with
+-- the same requirement, and each required bit holds at the end and in the message
+pub record Shows (limits : Limits) (events : List L1Event) (text : List ℕ) (side : Side) : Type 0 where
+  pub state : shown side text ≡ state_of limits.timeout (inputs_of (handed side (history limits.interval events)))
+  pub up : shown side text ≡ Up →
+      (message : Sent)
+      × Carries limits (history limits.interval events) side (inputs_of (handed side (history limits.interval events))) message
+
+-- it shows so of both ends after the events that some lines say
+abbrev pub ShowsBoth : List (List ℕ) → List ℕ → Type 0
+ShowsBoth lines text =
+    (limits : Limits) × (events : List L1Event) × Say lines limits events
+    × ((side : Side) → Shows limits events text side)
+
+-- after each of some records: what the first of them write stands first, and shows so of both ends
+abbrev pub ShowsAfterEach : List (List ℕ) → List ℕ → Type 0
+ShowsAfterEach lines text =
+    (first : List ℕ) (later behind : List (List ℕ)) → lines ≡ first ∷ (later ++ behind) →
+    (written : List ℕ) × (more : List ℕ) × (text ≡ written ++ more)
+    × Accepts (first ∷ later) written × ShowsBoth (first ∷ later) written
+
+-- lines that are records do
+abbrev pub TextShowsThePair : Type 0
+TextShowsThePair = (lines : List (List ℕ)) (text : List ℕ) → Accepts lines text → ShowsAfterEach lines text

@@ -1,0 +1,16 @@
+//! What is true of all lines. The functions here compute nothing: their contracts are laws over
+//! all records, and their proofs show that the laws hold.
+ghost use Rattle.wrp_l1sync.specs.LineAnswers.{AnswersShowThePair};
+ghost use Rattle.wrp_l1sync.specs.LineTheorem.{TextShowsThePair};
+
+/// After each record the last state that is printed for an end is the one that looking back over what
+/// it was handed finds; and where that is `up` its peer sent, at most timeout·dmax + life ago, a
+/// message with the same requirement, and each required bit holds at the end and in the message.
+pub fn text_shows_the_pair()
+    ensures { TextShowsThePair }
+{}
+
+/// So it is after each record of an input that was handled, whatever the answer to the input.
+pub fn answers_show_the_pair()
+    ensures { AnswersShowThePair }
+{}

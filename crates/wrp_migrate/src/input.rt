@@ -1,0 +1,49 @@
+//! A calibration text, taken from a source as a whole.
+ghost use Rattle.std.specs.Prelude.{◌≡◌, [], ℕ, List};
+ghost use Rattle.std.specs.Io.KnownBytes.{Consumes};
+ghost use Rattle.wrp_io.specs.Faults.{Rose};
+ghost use Rattle.wrp_migrate.specs.Input.{TextTaken};
+
+use wrp_io::Source;
+
+// How many octets a calibration text may have.
+const TEXT_LIMIT: usize = 262_144;
+
+// How many octets are asked for at a time.
+const PIECE: usize = 65_536;
+
+/// How the taking of a text ended.
+#[derive(Clone, Copy, Debug, PartialEq, Eq)]
+pub enum End {
+    /// At the end of the input.
+    Whole,
+    /// The input is over the limit.
+    TooLong,
+    /// The source failed.
+    Failed,
+    /// There was no memory.
+    Memory,
+}
+
+/// Takes all octets of a source. A source that gave more than a text may have is not asked again.
+pub fn take_text<S: Source>(source: &mut S, text: &mut Vec<u8>) -> End
+    requires none { text.old.items ≡ [] }
+    ensures taken { (given : List ℕ) × Consumes (S.left source.old) (S.left source.new) given
+        × TextTaken result (S.left source.new) given text.new.items }
+    ensures rose { result ≡ End.Failed → Rose (S.faults source.old) (S.faults source.new) }
+    ensures kept { (result ≡ End.Failed → ⊥) → S.faults source.new ≡ S.faults source.old }
+{
+    let mut piece = [0; PIECE];
+    while text.len() <= TEXT_LIMIT {
+        match source.read(&mut piece) {
+            Err(_) => return End::Failed,
+            Ok(0) => return End::Whole,
+            Ok(size) => {
+                if text.extend_from_slice(&piece[..size]).is_err() {
+                    return End::Memory;
+                }
+            }
+        }
+    }
+    End::TooLong
+}

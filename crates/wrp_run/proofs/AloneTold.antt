@@ -1,0 +1,126 @@
+-- What a command that stands alone wrote is what is due for its input, and so its aim holds of it.
+use Rattle.std.proofs.Common.{◌≡◌, inl, inr, refl, sym, subst, true, false, ℕ, Option, None, Some, IfSome, List, []}
+use Rattle.std.specs.Io.KnownBytes.{Appends}
+use Rattle.wrp_calib.specs.LinesTold.{InputsTellTruth}
+use Rattle.wrp_io.specs.declared.link.LinkCall.{LinkCall}
+use Rattle.wrp_l1sync.specs.LineAnswers.{AnswersShowThePair}
+use Rattle.wrp_migrate.specs.Laws.{MigrationKeeps}
+use Rattle.wrp_records.specs.declared.status.Status.{Status}
+use Rattle.wrp_records.specs.declared.status.Status.TheVariants.{Done, Usage, BadNetwork, BadTrace, Broken, ReadFault, WriteFault, LinkFault, TooLarge, OutOfMemory, BadCapture, BadCalib}
+use Rattle.wrp_records.specs.Statuses.{is_answer}
+use Rattle.wrp_run.specs.declared.command_line.Alone.{Alone}
+use Rattle.wrp_run.specs.declared.command_line.Alone.TheVariants.{Migrate, L1Sync, Calibrate}
+use Rattle.wrp_run.specs.Alone.{IsAlone, alone_meaning}
+use Rattle.wrp_run.specs.AloneAims.{CalibratesSo, MigratesSo, SynchronisesSo}
+use Rattle.wrp_run.specs.Answer.{Answer, RecordsDue}
+use Rattle.wrp_run.specs.Ends.{Run, Ends, Wrote}
+use Rattle.wrp_run.proofs.Asking.{networked_of}
+use Rattle.wrp_run.proofs.OneAnswer.{given_of}
+use Rattle.wrp_run.proofs.WordLemmas.{alone_unnetworked, one_alone}
+
+-- an answer for its word is its own
+due_alone : (words : List (List ℕ)) (alone : Alone) (input : List ℕ) (calls : List LinkCall) (status : Status) (octets : List ℕ) → IsAlone words alone → RecordsDue words input calls status octets
+    → (alone_meaning alone).answers input calls status octets
+due_alone words alone input calls status octets is (inl task) = absurd (alone_unnetworked words alone is (networked_of words _ task.0 task.1))
+due_alone words alone input calls status octets is (inr own) = subst (λ (a : Alone). (alone_meaning a).answers input calls status octets) (one_alone words own.0 alone own.1 is) own.2
+
+-- with the status of a refusal in front it is none
+abbrev pub OwnAnswer : Alone → List ℕ → Status → List ℕ → Type 0
+OwnAnswer alone input Usage octets = Unit {0}
+OwnAnswer alone input status octets = (alone_meaning alone).answers input [] status octets
+
+answer_alone : (words : List (List ℕ)) (alone : Alone) (input : List ℕ) (status : Status) (octets : List ℕ) → IsAlone words alone → Answer words input [] status octets → OwnAnswer alone input status octets
+answer_alone words alone input Usage octets is h = tt
+answer_alone words alone input BadNetwork octets is (inl bad) = absurd (alone_unnetworked words alone is bad.0)
+answer_alone words alone input BadNetwork octets is (inr own) = due_alone words alone input [] BadNetwork octets is (inr own)
+answer_alone words alone input TooLarge octets is (inl long) = absurd (alone_unnetworked words alone is long.0)
+answer_alone words alone input TooLarge octets is (inr due) = due_alone words alone input [] TooLarge octets is due
+answer_alone words alone input Done octets is h = due_alone words alone input [] Done octets is h
+answer_alone words alone input BadTrace octets is h = due_alone words alone input [] BadTrace octets is h
+answer_alone words alone input Broken octets is h = due_alone words alone input [] Broken octets is h
+answer_alone words alone input ReadFault octets is h = due_alone words alone input [] ReadFault octets is h
+answer_alone words alone input WriteFault octets is h = due_alone words alone input [] WriteFault octets is h
+answer_alone words alone input LinkFault octets is h = due_alone words alone input [] LinkFault octets is h
+answer_alone words alone input OutOfMemory octets is h = due_alone words alone input [] OutOfMemory octets is h
+answer_alone words alone input BadCapture octets is h = due_alone words alone input [] BadCapture octets is h
+answer_alone words alone input BadCalib octets is h = due_alone words alone input [] BadCalib octets is h
+
+-- what a run wrote, and its own answer where it is one
+record Told (run : Run) (alone : Alone) (input : List ℕ) (status : Status) : Type 0 where
+  octets : List ℕ
+  wrote : Wrote run octets
+  own : is_answer status ≡ true → OwnAnswer alone input status octets
+
+answered : (run : Run) (alone : Alone) (input : List ℕ) (status : Status) → IsAlone run.words alone → run.source.before ≡ Some input → Ends run status → is_answer status ≡ true → Told run alone input status
+answered run alone input status is told ends answer =
+    let given = given_of run status input told ends answer in
+    record { octets = given.0; wrote = given.1; own = λ e. answer_alone run.words alone input status given.0 is given.2 }
+
+told : (run : Run) (alone : Alone) (input : List ℕ) (status : Status) → IsAlone run.words alone → run.source.before ≡ Some input → Ends run status → Told run alone input status
+told run alone input ReadFault is known ends = record { octets = ends.2; wrote = ends.4; own = λ e. absurd (cc) }
+told run alone input WriteFault is known ends = record { octets = ends.1; wrote = ends.3; own = λ e. absurd (cc) }
+told run alone input OutOfMemory is known ends = record { octets = ends.0; wrote = ends.2; own = λ e. absurd (cc) }
+told run alone input LinkFault is known ends = absurd ends
+told run alone input Done is known ends = answered run alone input Done is known ends refl
+told run alone input Usage is known ends = answered run alone input Usage is known ends refl
+told run alone input BadNetwork is known ends = answered run alone input BadNetwork is known ends refl
+told run alone input BadTrace is known ends = answered run alone input BadTrace is known ends refl
+told run alone input Broken is known ends = answered run alone input Broken is known ends refl
+told run alone input TooLarge is known ends = answered run alone input TooLarge is known ends refl
+told run alone input BadCapture is known ends = answered run alone input BadCapture is known ends refl
+told run alone input BadCalib is known ends = answered run alone input BadCalib is known ends refl
+
+-- a run wrote something of which this holds
+abbrev pub WroteSo : (List ℕ → Status → List ℕ → Type 0) → Option (List ℕ) → Option (List ℕ) → Status → List ℕ → Type 0
+WroteSo Aim held now status input = (octets : List ℕ) × Appends held now octets × Aim input status octets
+
+aims : (run : Run) (alone : Alone) (status : Status) (Aim : List ℕ → Status → List ℕ → Type 0) → IsAlone run.words alone → Ends run status
+    → ((input octets : List ℕ) → (is_answer status ≡ true → OwnAnswer alone input status octets) → Aim input status octets)
+    → IfSome run.source.before (WroteSo Aim run.sink.before run.sink.now status)
+aims run alone status Aim is ends means = go run.source.before refl
+  where
+    go : (o : Option (List ℕ)) → run.source.before ≡ o → IfSome o (WroteSo Aim run.sink.before run.sink.now status)
+    go None known = tt
+    go (Some input) known =
+        let has = told run alone input status is known ends in
+        (has.octets, has.wrote, means input has.octets has.own)
+
+-- a migration keeps the database
+migrates : MigrationKeeps → (input : List ℕ) (status : Status) (octets : List ℕ) → (is_answer status ≡ true → OwnAnswer Migrate input status octets) → MigratesSo input status octets
+migrates keeps input Done octets own =
+    let has = own refl in
+    let db = has.1.1.db in
+    let both = keeps input octets [] db has has.1.1.read in
+    record { db = db; read = has.1.1.read; written = both.0; kept = both.1 }
+migrates keeps input _ octets own = tt
+
+pub migrated : MigrationKeeps → (run : Run) (status : Status) → IsAlone run.words Migrate → Ends run status → IfSome run.source.before (WroteSo MigratesSo run.sink.before run.sink.now status)
+migrated keeps run status is ends = aims run Migrate status MigratesSo is ends (λ input octets own. migrates keeps input status octets own)
+
+-- a calibration tells the truth
+calibrates : InputsTellTruth → (input : List ℕ) (status : Status) (octets : List ℕ) → (is_answer status ≡ true → OwnAnswer Calibrate input status octets) → CalibratesSo input status octets
+calibrates tells input Done octets own = λ true say. tells input true say Done octets (own refl).1
+calibrates tells input BadCalib octets own = λ true say. tells input true say BadCalib octets (own refl).1
+calibrates tells input BadTrace octets own = λ true say. tells input true say BadTrace octets (own refl).1
+calibrates tells input Broken octets own = λ true say. tells input true say Broken octets (own refl).1
+calibrates tells input _ octets own = λ true say. tt
+
+pub calibrated : InputsTellTruth → (run : Run) (status : Status) → IsAlone run.words Calibrate → Ends run status → IfSome run.source.before (WroteSo CalibratesSo run.sink.before run.sink.now status)
+calibrated tells run status is ends = aims run Calibrate status CalibratesSo is ends (λ input octets own. calibrates tells input status octets own)
+
+-- a pair of ends is shown
+synchronises : AnswersShowThePair → (input : List ℕ) (status : Status) (octets : List ℕ) → (is_answer status ≡ true → OwnAnswer L1Sync input status octets) → SynchronisesSo input status octets
+synchronises shows input Done octets own = shows input Done octets (own refl)
+synchronises shows input BadTrace octets own = shows input BadTrace octets (own refl)
+synchronises shows input Broken octets own = shows input Broken octets (own refl)
+synchronises shows input TooLarge octets own = shows input TooLarge octets (own refl)
+synchronises shows input _ octets own = tt
+
+pub synchronised : AnswersShowThePair → (run : Run) (status : Status) → IsAlone run.words L1Sync → Ends run status → IfSome run.source.before (WroteSo SynchronisesSo run.sink.before run.sink.now status)
+synchronised shows run status is ends = aims run L1Sync status SynchronisesSo is ends (λ input octets own. synchronises shows input status octets own)
+
+-- where nothing was read and nothing written
+pub wrote_nothing : (Aim : List ℕ → Status → List ℕ → Type 0) (held input : Option (List ℕ)) → ((given : List ℕ) → Aim given OutOfMemory []) → Appends held held []
+    → IfSome input (WroteSo Aim held held OutOfMemory)
+wrote_nothing Aim held None means same = tt
+wrote_nothing Aim held (Some given) means same = ([], same, means given)

@@ -1,0 +1,56 @@
+-- What the words of an audit and of a simulation ask for.
+use Rattle.std.proofs.Common.{◌≡◌, ◌∙◌, refl, sym, ap, subst, inl, inr, ℕ, ◌<◌, ◌≤◌, None, Some, IfSome, Ok, List, length}
+use Rattle.wrp_config.specs.declared.network.Network.{Network}
+use Rattle.wrp_base.specs.declared.configuration.NetCfg.{NetCfg}
+use Rattle.wrp_base.specs.Network.{node_count}
+use Rattle.wrp_config.proofs.Bare.{count_bare}
+use Rattle.wrp_config.specs.Names.{node_named}
+use Rattle.wrp_config.specs.Reading.{IsReadingOf}
+use Rattle.wrp_config.specs.Same.{IsSameNetwork, bare_cfg}
+use Rattle.wrp_run.specs.declared.network.Work.{Work}
+use Rattle.wrp_run.specs.declared.network.Work.TheVariants as works
+use Rattle.wrp_run.specs.declared.parse.Asked.{Asked}
+use Rattle.wrp_run.specs.declared.parse.Asked.TheVariants as asked
+use Rattle.wrp_run.specs.Answer.{IsNetworked}
+use Rattle.wrp_run.specs.Asked.{AsksWork, FitsWork, task_by}
+use Rattle.wrp_run.specs.AuditStands.{setting_in}
+use Rattle.wrp_run.specs.CommandLine.{IsAsked}
+use Rattle.wrp_run.specs.Input.{network_limit}
+use Rattle.wrp_run.specs.Tasks.{AsksFor}
+use Rattle.wrp_run.proofs.BareSetting.{named_bare}
+
+-- the work that the words ask for is their task
+pub work_task : (words : List (List ℕ)) (text : List ℕ) (work : Work) (net : Network) → AsksWork words net work → length text ≤ network_limit → IsReadingOf text (Ok net)
+    → AsksFor words text (task_by work (setting_in net))
+work_task words text (works.Audit None) net asks within reads = (within, asks, record { net = net; reads = reads; is = refl })
+work_task words text (works.Audit (Some n)) net asks within reads = (within, asks.0, asks.1, record { net = net; reads = reads; is = refl }, asks.2)
+work_task words text (works.Simulate seed) net asks within reads = (within, asks, record { net = net; reads = reads; is = refl })
+
+-- they are a command on a network
+pub work_networked : (words : List (List ℕ)) (net : Network) (work : Work) → AsksWork words net work → IsNetworked words
+work_networked words net (works.Audit None) asks = inl asks
+work_networked words net (works.Audit (Some n)) asks = inr (inl (asks.0, inr asks.1))
+work_networked words net (works.Simulate seed) asks = inr (inr (seed, asks))
+
+pub asked_networked : (words : List (List ℕ)) (what : Asked) → IsAsked words what → IsNetworked words
+asked_networked words asked.Audit asks = inl asks
+asked_networked words (asked.Emit name) asks = inr (inl (name.now, inr asks))
+asked_networked words (asked.Replay name) asks = inr (inl (name.now, inl asks))
+asked_networked words (asked.Simulate seed) asks = inr (inr (seed, asks))
+
+-- of two networks that are the same they ask for the same work
+
+named_same : (a b : NetCfg) (name : List ℕ) → bare_cfg a ≡ bare_cfg b → node_named b name ≡ node_named a name
+named_same a b name same = sym (named_bare b name) ∙ ap (λ (c : NetCfg). node_named c name) (sym same) ∙ named_bare a name
+
+pub asks_same : (words : List (List ℕ)) (net own : Network) (work : Work) → IsSameNetwork net own → AsksWork words net work → AsksWork words own work
+asks_same words net own (works.Audit None) same asks = asks
+asks_same words net own (works.Audit (Some n)) same asks = (asks.0, asks.1, named_same net.cfg own.cfg asks.0 same.0 ∙ asks.2)
+asks_same words net own (works.Simulate seed) same asks = asks
+
+pub fits_same : (net own : Network) (work : Work) → IsSameNetwork net own → FitsWork net work → FitsWork own work
+fits_same net own (works.Audit None) same fits = tt
+fits_same net own (works.Audit (Some n)) same fits =
+    let count : node_count net.cfg ≡ node_count own.cfg = sym (count_bare net.cfg) ∙ ap node_count same.0 ∙ count_bare own.cfg in
+    subst (λ (k : ℕ). n < k) count fits
+fits_same net own (works.Simulate seed) same fits = tt

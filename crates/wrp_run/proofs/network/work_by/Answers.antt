@@ -1,0 +1,16 @@
+-- The work is a simulation.
+use Rattle.std.proofs.Common.{[], subst, sym}
+use Rattle.wrp_records.specs.ByLines.{of_lines}
+use Rattle.wrp_records.specs.Passages.{Passes, passage}
+use Rattle.wrp_run.specs.declared.network.Work.{Work}
+use Rattle.wrp_run.specs.Asked.{task_by}
+use Rattle.wrp_run.specs.AuditStands.{setting_in}
+use Rattle.wrp_run.specs.Tasks.{meaning_at}
+use Rattle.wrp_run.proofs.network.work_by.Goals as goal
+
+pub returns-in-Simulate : goal.returns-in-Simulate
+returns-in-Simulate g c = record {
+  passes = subst (λ (work : Work). Passes (of_lines (meaning_at (task_by work (setting_in c.args.net)))) (passage g.S.Source.left g.S.Source.faults c.args.source.now c.simulate.new.source)
+  (passage g.K.Sink.held g.K.Sink.faults c.args.sink.now c.simulate.new.sink) c.args.reader.now.rest c.args.reader.now.ended c.simulate.new.reader.ended [] c.simulate.result)
+      (sym c.in-Simulate.is) c.simulate.ensures.passes;
+}

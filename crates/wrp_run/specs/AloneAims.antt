@@ -1,0 +1,38 @@
+-- The aims of the commands that stand alone, of what they wrote, for each status (this project's profile).
+use Rattle.std.specs.Prelude.{◌≡◌, ℕ, List, Ok, Result}
+use Rattle.wrp_base.specs.declared.fault.ConfFault.{ConfFault}
+use Rattle.wrp_calib.specs.LinesTold.{SayTruly, TellsSo}
+use Rattle.wrp_calib.specs.Truth.{Delays}
+use Rattle.wrp_caldb.specs.Database.{Database}
+use Rattle.wrp_caldb.specs.Reading.{IsReadingOf}
+use Rattle.wrp_l1sync.specs.LineAnswers.{ShowsBy}
+use Rattle.wrp_migrate.specs.Laws.{IsKept}
+use Rattle.wrp_records.specs.declared.status.Status.{Status}
+use Rattle.wrp_records.specs.declared.status.Status.TheVariants.{Done, BadTrace, Broken, TooLarge}
+
+-- the octets are a calibration text of the database that the input is a text of: read again, they give a database in
+-- which each name, and each pair of wavelengths, finds the same, and which is the same
+pub record KeepsDatabase (input octets : List ℕ) : Type 0 where
+  pub db : Database
+  pub read : IsReadingOf input (Ok db)
+  pub written : IsReadingOf octets (Ok db)
+  pub kept : (answer : Result Database ConfFault) → IsReadingOf octets answer → IsKept db answer
+
+-- so it is where a migration read its input to the end
+abbrev pub MigratesSo : List ℕ → Status → List ℕ → Type 0
+MigratesSo input Done octets = KeepsDatabase input octets
+MigratesSo input status octets = Unit {0}
+
+-- where records of every kind came and some true delays keep the stated errors, each printed interval holds its true
+-- value, or a strand may be too short; no record is refused, and no conflict is told
+abbrev pub CalibratesSo : List ℕ → Status → List ℕ → Type 0
+CalibratesSo input status octets = (true : Delays) → SayTruly input true → TellsSo status octets true
+
+-- after each record an end whose last printed state is up has a peer whose message of at most the timeout's ticks and a
+-- life ago asks the same and, with what the end tells of itself, holds each bit; each printed state is the look back's
+abbrev pub SynchronisesSo : List ℕ → Status → List ℕ → Type 0
+SynchronisesSo input Done octets = ShowsBy Done input octets
+SynchronisesSo input BadTrace octets = ShowsBy BadTrace input octets
+SynchronisesSo input Broken octets = ShowsBy Broken input octets
+SynchronisesSo input TooLarge octets = ShowsBy TooLarge input octets
+SynchronisesSo input status octets = Unit {0}

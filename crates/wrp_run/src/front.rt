@@ -1,0 +1,62 @@
+//! What stands in front of the records of a command on a network: the network text.
+ghost use Rattle.std.specs.Prelude.{◌≡◌, IfErr, IfOk, List, OnOk, [], false, ℕ};
+ghost use Rattle.std.specs.Io.KnownBytes.{IsAtEnd};
+ghost use Rattle.wrp_config.specs.Accepted.{IsAccepted};
+ghost use Rattle.wrp_records.specs.declared.status.Status.{Status};
+ghost use Rattle.wrp_records.specs.Passages.{FailsBy, passage};
+ghost use Rattle.wrp_run.specs.Answer.{IsNetworked};
+ghost use Rattle.wrp_run.specs.Asked.{IsFront};
+ghost use Rattle.wrp_run.specs.Ends.{EndsUnlinked};
+ghost use Rattle.wrp_run.specs.Words.{texts_of};
+
+use crate::network_text::{End, NetworkText, take_network};
+use std::alloc::Global;
+use wrp_config::Network;
+use wrp_io::{Sink, Source};
+use wrp_records::{Reader, Status, TOO_LARGE_LINE, answer, refuse_network};
+
+/// The network that stands in front of the records, and its text.
+#[derive(Drop)]
+pub struct Front {
+    /// The network.
+    pub net: Network,
+    /// Its text.
+    pub text: Vec<u8>,
+}
+
+/// Takes the network text from a source, and reads it. Where it is refused or cannot be taken, the run ends with
+/// this status.
+pub fn take_front<S: Source, K: Sink>(
+    alloc: Global,
+    words: &[&str],
+    reader: &mut Reader,
+    source: &mut S,
+    sink: &mut K,
+) -> Result<Front, Status>
+    requires fresh { (reader.old.rest ≡ []) × (reader.old.ended ≡ false) }
+    requires networked { IsNetworked (texts_of words.now) }
+    ensures front { IfOk result (λ front. IsFront (S.left source.old) (S.left source.new)
+        front.text.items reader.new front.net) }
+    ensures accepted { IfOk result (λ front. IsAccepted front.net.cfg front.net.db) }
+    ensures source { OnOk result (S.faults source.new ≡ S.faults source.old) }
+    ensures sink { OnOk result (sink.new ≡ sink.old) }
+    ensures ends { IfErr result (EndsUnlinked (texts_of words.now)
+        (passage S.left S.faults source.old source.new) (passage K.held K.faults sink.old sink.new)) }
+    ensures read { IfErr result (λ status. FailsBy Status.ReadFault status
+        (passage S.left S.faults source.old source.new)) }
+    ensures write { IfErr result (λ status. FailsBy Status.WriteFault status
+        (passage K.held K.faults sink.old sink.new)) }
+{
+    let _words = words;
+    let NetworkText { text, end } = take_network(alloc, reader, source);
+    match end {
+        End::TooLong => return Err(answer(sink, Status::TooLarge, TOO_LARGE_LINE.as_bytes())),
+        End::Failed => return Err(Status::ReadFault),
+        End::Memory => return Err(Status::OutOfMemory),
+        End::Whole => {}
+    }
+    match Network::read(alloc, &text) {
+        Ok(net) => Ok(Front { net, text }),
+        Err(fault) => Err(refuse_network(alloc, sink, &fault)),
+    }
+}
