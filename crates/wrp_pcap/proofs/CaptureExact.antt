@@ -8,11 +8,11 @@ use Rattle.wrp_pcap.specs.Capture.{order_of, number_at, HasHeader, HasHeaderFaul
 use Rattle.wrp_pcap.proofs.CaptureReading.{AreOne, readings_are_one}
 
 -- a header has one order
-one_order : (octets : List ℕ) (one other : Order) → order_of octets ≡ Some one → order_of octets ≡ Some other → one ≡ other
+pub one_order : (octets : List ℕ) (one other : Order) → order_of octets ≡ Some one → order_of octets ≡ Some other → one ≡ other
 one_order octets one other a b = cc
 
 -- what has a header has no fault of one
-header_has_no_fault : (octets : List ℕ) (order : Order) (fault : CaptureFault) → HasHeader order octets → HasHeaderFault fault octets → ⊥
+pub header_has_no_fault : (octets : List ℕ) (order : Order) (fault : CaptureFault) → HasHeader order octets → HasHeaderFault fault octets → ⊥
 header_has_no_fault octets order Magic header (inl few) = let whole = header.whole in omega arith
 header_has_no_fault octets order Magic header (inr none) = let magic = header.magic in cc
 header_has_no_fault octets order LinkType header has =
@@ -51,12 +51,12 @@ pub record Agree (packets others : List StoredPacket) (one other : Option Refusa
   pub refusals_are : one ≡ other
 
 -- a capture is not refused
-capture_not_refused : (packets others : List StoredPacket) (refusal : Refusal) (octets : List ℕ) → IsFile packets None octets → IsRefused others refusal octets → ⊥
+pub capture_not_refused : (packets others : List StoredPacket) (refusal : Refusal) (octets : List ℕ) → IsFile packets None octets → IsRefused others refusal octets → ⊥
 capture_not_refused packets others refusal octets a (inl (at, none, has)) = header_has_no_fault octets a.order refusal.fault a.header has
 capture_not_refused packets others refusal octets a (inr (at, b)) =
     let one = files_are_one packets others None (Some refusal.fault) octets a b in let is = one.faults_are in cc
 
-refusals_agree : (packets others : List StoredPacket) (one other : Refusal) (octets : List ℕ) → IsRefused packets one octets → IsRefused others other octets
+pub refusals_agree : (packets others : List StoredPacket) (one other : Refusal) (octets : List ℕ) → IsRefused packets one octets → IsRefused others other octets
     → Agree packets others (Some one) (Some other)
 refusals_agree packets others one other octets (inl (at, none, has)) (inl (same, empty, also)) = record {
   packets_are = none ∙ sym empty;

@@ -148,7 +148,7 @@ split_first order octets =
     sym (take-append-drop k (drop 16 octets)) ∙ ap (λ r. take k (drop 16 octets) ++ r) (drop-drop k 16 octets ∙ ap (λ i. drop i octets) all) in
     sym (take-append-drop 16 octets) ∙ ap (λ r. take 16 octets ++ r) own
 
-begins_stored : (order : Order) (packets : List StoredPacket) (rest octets : List ℕ) → Begins order packets rest octets → octets ≡ stored packets ++ rest
+pub begins_stored : (order : Order) (packets : List StoredPacket) (rest octets : List ℕ) → Begins order packets rest octets → octets ≡ stored packets ++ rest
 begins_stored order [] rest octets is = is
 begins_stored order (packet ∷ packets) rest octets (whole, is, begins) =
     let first = first_packet order octets in
@@ -166,13 +166,13 @@ are_their_packets packets octets file =
     sym (take-append-drop 24 octets) ∙ ap (λ r. take 24 octets ++ r) (behind ∙ none ∙ append-nil (stored packets))
 
 -- a number stays
-number_stays : (order : Order) (at : ℕ) (octets later : List ℕ) → at + 4 ≤ length octets → number_at order at (octets ++ later) ≡ number_at order at octets
+pub number_stays : (order : Order) (at : ℕ) (octets later : List ℕ) → at + 4 ≤ length octets → number_at order at (octets ++ later) ≡ number_at order at octets
 number_stays Big at octets later within =
     ap (big_number 4) (drop-append-le at octets later (omega arith)) ∙ big_from-append 4 (drop at octets) later (omega (arith, length-drop at octets))
 number_stays Little at octets later within =
     ap (little_number 4) (drop-append-le at octets later (omega arith)) ∙ little_from-append 4 (drop at octets) later (omega (arith, length-drop at octets))
 
-order_stays : (octets later : List ℕ) → 4 ≤ length octets → order_of (octets ++ later) ≡ order_of octets
+pub order_stays : (octets later : List ℕ) → 4 ≤ length octets → order_of (octets ++ later) ≡ order_of octets
 order_stays octets later within = ap order_by (big_from-append 4 octets later within)
 
 header_stays : (order : Order) (octets later : List ℕ) → HasHeader order octets → HasHeader order (octets ++ later)
@@ -184,7 +184,7 @@ header_stays order octets later header =
       link_type = number_stays order 20 octets later (omega arith) ∙ header.link_type;
     }
 
-header_fault_stays : (fault : CaptureFault) (octets later : List ℕ) → 24 ≤ length octets → HasHeaderFault fault octets → HasHeaderFault fault (octets ++ later)
+pub header_fault_stays : (fault : CaptureFault) (octets later : List ℕ) → 24 ≤ length octets → HasHeaderFault fault octets → HasHeaderFault fault (octets ++ later)
 header_fault_stays Magic octets later whole (inl few) = absurd (omega arith)
 header_fault_stays Magic octets later whole (inr none) = inr (order_stays octets later (omega arith) ∙ none)
 header_fault_stays LinkType octets later whole has = record {
@@ -209,7 +209,7 @@ whole_stays order octets later whole =
       own = omega (arith, length-append octets later);
     }
 
-first_stays : (order : Order) (octets later : List ℕ) → IsWhole order octets → first_packet order (octets ++ later) ≡ first_packet order octets
+pub first_stays : (order : Order) (octets later : List ℕ) → IsWhole order octets → first_packet order (octets ++ later) ≡ first_packet order octets
 first_stays order octets later whole =
     let numbers = whole.numbers in
     let own = whole.own in
@@ -221,7 +221,7 @@ first_stays order octets later whole =
     ∙ ap (λ ns. record { numbers = ns; octets = slice_range (octets ++ later) 16 (16 + n) }) (take-append-le 16 octets later numbers)
     ∙ ap (λ os. record { numbers = take 16 octets; octets = os }) octets_are
 
-behind_stays : (order : Order) (octets later : List ℕ) → IsWhole order octets → behind_first order (octets ++ later) ≡ behind_first order octets ++ later
+pub behind_stays : (order : Order) (octets later : List ℕ) → IsWhole order octets → behind_first order (octets ++ later) ≡ behind_first order octets ++ later
 behind_stays order octets later whole =
     let numbers = whole.numbers in
     ap (λ n. drop (16 + n) (octets ++ later)) (number_stays order 8 octets later (omega arith))

@@ -6,7 +6,7 @@ use Rattle.wrp_pcap.specs.declared.capture.Order.{Order}
 use Rattle.wrp_pcap.specs.Capture.{StoredPacket, IsWhole, first_packet, behind_first, Begins, HasPacketFault, IsEnd, HasReading}
 
 -- octets with a fault are no whole packet
-fault_not_whole : (order : Order) (fault : CaptureFault) (octets : List ℕ) → HasPacketFault fault order octets → IsWhole order octets → ⊥
+pub fault_not_whole : (order : Order) (fault : CaptureFault) (octets : List ℕ) → HasPacketFault fault order octets → IsWhole order octets → ⊥
 fault_not_whole order Magic octets has whole = has
 fault_not_whole order LinkType octets has whole = has
 fault_not_whole order Header octets (some, few) whole = let enough = whole.numbers in omega arith
@@ -35,7 +35,7 @@ one_fault order Long Header octets (enough, long) (some, few) = absurd (omega ar
 one_fault order Long Packet octets (all, long) (enough, short, cut) = absurd (omega arith)
 
 -- octets with a fault are some
-fault_is_some : (order : Order) (fault : CaptureFault) (octets : List ℕ) → HasPacketFault fault order octets → 1 ≤ length octets
+pub fault_is_some : (order : Order) (fault : CaptureFault) (octets : List ℕ) → HasPacketFault fault order octets → 1 ≤ length octets
 fault_is_some order Magic octets has = absurd has
 fault_is_some order LinkType octets has = absurd has
 fault_is_some order Header octets (some, few) = some

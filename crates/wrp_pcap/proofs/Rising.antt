@@ -32,7 +32,7 @@ rises_is number (step ∷ steps) (newest ∷ before) falls above =
       | false ↦ rises_is number (step ∷ steps) before falls.1 above.1
     ]
 
-complete_only : (restart : Option ℕ) (found numbers : List ℕ) → unless_restarted restart found ≡ Complete numbers → found ≡ numbers
+pub complete_only : (restart : Option ℕ) (found numbers : List ℕ) → unless_restarted restart found ≡ Complete numbers → found ≡ numbers
 complete_only None found numbers e = cc
 complete_only (Some n) found numbers e = absurd cc
 

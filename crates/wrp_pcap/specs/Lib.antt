@@ -9,3 +9,9 @@ pub mod Marks
 pub mod StandsFor
 pub mod Words
 pub mod Worked
+pub mod Content
+pub mod PacketLines
+pub mod InspectLaws
+pub mod Inspected
+pub mod InspectionAt
+pub mod Inspecting

@@ -1,10 +1,12 @@
 -- The words of PTP messages: of their kinds (IEEE 1588-2019), and of the White Rabbit messages that a Signaling
--- carries (White Rabbit Specification 2.0). The words are this project's profile.
+-- carries (White Rabbit Specification 2.0); and of frames that are no message. The words are this project's profile.
 use Rattle.std.specs.Prelude.{ℕ, List, Option, Some, None, codes}
 use Rattle.wrp_base.specs.declared.message.Body.{Body}
 use Rattle.wrp_base.specs.declared.message.Body.TheVariants.{Sync, DelayReq, FollowUp, DelayResp, Announce, Signal}
 use Rattle.wrp_base.specs.declared.message.WrMsg.{WrMsg}
 use Rattle.wrp_base.specs.declared.message.WrMsg.TheVariants.{Present, Lock, Locked, Calibrate, Calibrated, ModeOn}
+use Rattle.wrp_frame.specs.declared.fault.FrameFault.{FrameFault}
+use Rattle.wrp_frame.specs.declared.fault.FrameFault.TheVariants.{Short, Version, Kind, Length, Time, Tlv, BadWr, OneStep}
 
 -- the word of a kind
 abbrev pub kind_word : Body → List ℕ
@@ -37,3 +39,25 @@ message_word (FollowUp precise) = None
 message_word (DelayResp receive requesting) = None
 message_word (Announce origin utc p1 quality p2 gm steps source suffix) = None
 message_word (Signal target wr) = word_of wr
+
+-- the number of what is wrong with a PTP frame that is no message
+abbrev pub frame_fault_number : FrameFault → ℕ
+frame_fault_number Short = 1
+frame_fault_number Version = 2
+frame_fault_number Kind = 3
+frame_fault_number Length = 4
+frame_fault_number Time = 5
+frame_fault_number Tlv = 6
+frame_fault_number BadWr = 7
+frame_fault_number OneStep = 8
+
+-- its word
+abbrev pub frame_fault_word : FrameFault → List ℕ
+frame_fault_word Short = codes "short"
+frame_fault_word Version = codes "version"
+frame_fault_word Kind = codes "kind"
+frame_fault_word Length = codes "length"
+frame_fault_word Time = codes "time"
+frame_fault_word Tlv = codes "tlv"
+frame_fault_word BadWr = codes "badwr"
+frame_fault_word OneStep = codes "onestep"

@@ -7,10 +7,18 @@
 mod capture;
 mod capture_laws;
 mod chain;
+mod content;
+mod counts;
 mod ethernet;
 mod histories;
+mod inspect_laws;
+mod inspecting;
+mod inspection;
 mod laws;
+mod packet_lines;
 mod pairs;
+mod pieces;
+mod taking;
 mod verdict;
 mod words;
 
@@ -19,9 +27,13 @@ pub use capture_laws::{
     captures_are_their_packets, files_have_one_reading, packets_stay, readings_go_on,
     worked_captures,
 };
+pub use content::{Content, content_of};
 pub use ethernet::{frame_of, message_in};
 pub use histories::marks;
+pub use inspect_laws::{complete_is_judged, one_is_due, refusals_stay};
+pub use inspecting::inspect;
+pub use inspection::Inspection;
 pub use laws::{certificate_is_due, complete_rises, worked_certificates};
 pub use pairs::Pairs;
 pub use verdict::Verdict8;
-pub use words::{kind_word, message_word};
+pub use words::{frame_fault_number, frame_fault_word, kind_word, message_word};

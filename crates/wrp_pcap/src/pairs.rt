@@ -80,8 +80,8 @@ impl Pairs {
         Ok(told)
     }
 
-    // What is told of a message.
-    fn told(&self, n: u32, m: &PtpMsg) -> Option<Verdict8>
+    /// What is told of a message.
+    pub(crate) fn told(&self, n: u32, m: &PtpMsg) -> Option<Verdict8>
         ensures { result ≡ told_at self.now n m.now.head.source m.now.body }
     {
         match m.body {
@@ -93,8 +93,8 @@ impl Pairs {
         }
     }
 
-    // Keeps a message.
-    fn keep(&mut self, n: u32, m: &PtpMsg) -> Result<(), AllocError>
+    /// Keeps a message.
+    pub(crate) fn keep(&mut self, n: u32, m: &PtpMsg) -> Result<(), AllocError>
         ensures ok { IsOk result → Kept n m.now.head.source m.now.body self.old self.new }
         ensures err { IsErr result → Opened self.old self.new }
         ensures room { IsErr result → NeedsRoom m.now.body }

@@ -6,3 +6,13 @@ pub mod Judged
 pub mod Near
 pub mod Worth
 pub mod History
+pub mod LinesRead
+pub mod LinesOnce
+pub mod LinesMore
+pub mod LinesExact
+pub mod LineRanges
+pub mod LineWords
+pub mod LinesTrue
+pub mod OutputTrue
+pub mod EventFits
+pub mod LinesDecided

@@ -8,3 +8,9 @@ pub mod Event
 pub mod Seen
 pub mod Premises
 pub mod World
+pub mod LineKinds
+pub mod LineReading
+pub mod LineText
+pub mod LineCourse
+pub mod LinesHeld
+pub mod LineTruth

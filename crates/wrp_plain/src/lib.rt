@@ -6,6 +6,7 @@
 mod event;
 mod kept;
 mod law;
+pub mod lines;
 mod numbers;
 mod premises;
 mod servo;
@@ -13,7 +14,7 @@ mod settings;
 mod world;
 
 pub use event::{PlainBroken, PlainEvent, PlainSeen};
-pub use law::measured_within_bound;
+pub use law::{measured_within_bound, output_tells_truth, records_tell_truth};
 pub use servo::Plain;
-pub use settings::{PlainOut, PlainReport, PlainSet};
+pub use settings::{PlainOut, PlainReport, PlainSet, PlainStart};
 pub use world::PlainWorld;

@@ -19,6 +19,15 @@ pub struct PlainSet {
     pub step: i64,
 }
 
+/// How a world with a plain servo starts.
+#[derive(Clone, Copy, Debug, PartialEq, Eq)]
+pub struct PlainStart {
+    /// The settings of its servo.
+    pub set: PlainSet,
+    /// The true offset of the slave's clock, in tau: at most `2^62`, either way.
+    pub off: i64,
+}
+
 /// What a plain servo reports of its clock.
 #[derive(Clone, Copy, Debug, PartialEq, Eq)]
 pub struct PlainReport {

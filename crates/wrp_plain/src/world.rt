@@ -85,6 +85,7 @@ impl PlainWorld {
         ensures answer { (set : PlainSet) (off : ℤ) (events : List PlainEvent) → HadEvents set off self.old events → IsAnswer set off events e.now result }
         ensures stands { (set : PlainSet) (off : ℤ) (events : List PlainEvent) → HadEvents set off self.old events → IfOk result (λ _. HadEvents set off self.new (e.now ∷ events)) }
         ensures refused { IsErr result → self.new ≡ self.old }
+        ensures counted { IfOk result (λ _. self.new.events ≡ self.old.events + 1) }
         ensures truth { (set : PlainSet) (off : ℤ) (events : List PlainEvent) → HadEvents set off self.old events → IfOk result (TellsTruth set events e.now) }
     {
         judge(&self.servo.settings(), self.off, self.since, e)?;
@@ -97,6 +98,7 @@ impl PlainWorld {
         requires fields { HasFields event.now }
         requires kept { broken_by self.old.servo.set self.old.off self.old.since event.now ≡ None }
         ensures seen { (set : PlainSet) (off : ℤ) (events : List PlainEvent) → HadEvents set off self.old events → result ≡ seen_of set off events event.now }
+        ensures counted { self.new.events ≡ self.old.events + 1 }
         ensures stands { (set : PlainSet) (off : ℤ) (events : List PlainEvent) → HadEvents set off self.old events → HadEvents set off self.new (event.now ∷ events) }
     {
         match event {
@@ -112,6 +114,7 @@ impl PlainWorld {
         requires fields { HasFields (Pass dt drift) }
         requires kept { broken_by self.old.servo.set self.old.off self.old.since (Pass dt drift) ≡ None }
         ensures seen { (set : PlainSet) (off : ℤ) (events : List PlainEvent) → HadEvents set off self.old events → result ≡ seen_of set off events (Pass dt drift) }
+        ensures counted { self.new.events ≡ self.old.events + 1 }
         ensures stands { (set : PlainSet) (off : ℤ) (events : List PlainEvent) → HadEvents set off self.old events → HadEvents set off self.new (Pass dt drift ∷ events) }
     {
         let off = sum(self.off, drift.into());
@@ -129,6 +132,7 @@ impl PlainWorld {
     fn tick(&mut self) -> PlainSeen
         requires few { self.old.events < 2 ^ 32 - 1 }
         ensures seen { (set : PlainSet) (off : ℤ) (events : List PlainEvent) → HadEvents set off self.old events → result ≡ seen_of set off events Tick }
+        ensures counted { self.new.events ≡ self.old.events + 1 }
         ensures stands { (set : PlainSet) (off : ℤ) (events : List PlainEvent) → HadEvents set off self.old events → HadEvents set off self.new (Tick ∷ events) }
     {
         let report = self.servo.tick();
@@ -147,6 +151,7 @@ impl PlainWorld {
         requires stamps { AreStamps t.now }
         requires long { least_round self.old.servo.set ≤ℤ round_of (t1_of t.now) (t2_of t.now) (t3_of t.now) (t4_of t.now) }
         ensures seen { (set : PlainSet) (off : ℤ) (events : List PlainEvent) (span dms dsm o2 o3 : ℤ) → HadEvents set off self.old events → result ≡ seen_of set off events (Exch span dms dsm o2 o3 t.now) }
+        ensures counted { self.new.events ≡ self.old.events + 1 }
         ensures stands { (set : PlainSet) (off : ℤ) (events : List PlainEvent) (span dms dsm o2 o3 : ℤ) → HadEvents set off self.old events → HasFields (Exch span dms dsm o2 o3 t.now) → broken_after set off events (Exch span dms dsm o2 o3 t.now) ≡ None → HadEvents set off self.new (Exch span dms dsm o2 o3 t.now ∷ events) }
     {
         let (report, command) = taken(self.servo.measured(t[0], t[1], t[2], t[3]));

@@ -5,13 +5,15 @@ use Rattle.wrp_calib.specs.LinesTold.{InputsTellTruth}
 use Rattle.wrp_io.specs.declared.link.LinkCall.{LinkCall}
 use Rattle.wrp_l1sync.specs.LineAnswers.{AnswersShowThePair}
 use Rattle.wrp_migrate.specs.Laws.{MigrationKeeps}
+use Rattle.wrp_pcap.specs.InspectLaws.{CompleteIsJudged}
+use Rattle.wrp_plain.specs.LineTruth.{OutputTellsTruth, RecordsTellTruth}
 use Rattle.wrp_records.specs.declared.status.Status.{Status}
 use Rattle.wrp_records.specs.declared.status.Status.TheVariants.{Done, Usage, BadNetwork, BadTrace, Broken, ReadFault, WriteFault, LinkFault, TooLarge, OutOfMemory, BadCapture, BadCalib}
 use Rattle.wrp_records.specs.Statuses.{is_answer}
 use Rattle.wrp_run.specs.declared.command_line.Alone.{Alone}
-use Rattle.wrp_run.specs.declared.command_line.Alone.TheVariants.{Migrate, L1Sync, Calibrate}
+use Rattle.wrp_run.specs.declared.command_line.Alone.TheVariants.{Migrate, Inspect, L1Sync, Calibrate, Plain}
 use Rattle.wrp_run.specs.Alone.{IsAlone, alone_meaning}
-use Rattle.wrp_run.specs.AloneAims.{CalibratesSo, MigratesSo, SynchronisesSo}
+use Rattle.wrp_run.specs.AloneAims.{BoundsSo, CalibratesSo, InspectsSo, MigratesSo, SynchronisesSo, TellsTruly}
 use Rattle.wrp_run.specs.Answer.{Answer, RecordsDue}
 use Rattle.wrp_run.specs.Ends.{Run, Ends, Wrote}
 use Rattle.wrp_run.proofs.Asking.{networked_of}
@@ -118,6 +120,29 @@ synchronises shows input _ octets own = tt
 
 pub synchronised : AnswersShowThePair → (run : Run) (status : Status) → IsAlone run.words L1Sync → Ends run status → IfSome run.source.before (WroteSo SynchronisesSo run.sink.before run.sink.now status)
 synchronised shows run status is ends = aims run L1Sync status SynchronisesSo is ends (λ input octets own. synchronises shows input status octets own)
+
+-- an inspection shows handshakes
+inspects : CompleteIsJudged → (input : List ℕ) (status : Status) (octets : List ℕ) → (is_answer status ≡ true → OwnAnswer Inspect input status octets) → InspectsSo input status octets
+inspects judged input Done octets own =
+    record { inspected = (own refl).1; judged = λ newer before content numbers is told. judged content before numbers told }
+inspects judged input _ octets own = tt
+
+pub inspected : CompleteIsJudged → (run : Run) (status : Status) → IsAlone run.words Inspect → Ends run status → IfSome run.source.before (WroteSo InspectsSo run.sink.before run.sink.now status)
+inspected judged run status is ends = aims run Inspect status InspectsSo is ends (λ input octets own. inspects judged input status octets own)
+
+-- a plain servo tells the truth
+pub tells_truly : RecordsTellTruth → (input : List ℕ) → TellsTruly input
+tells_truly records input first lines rest divided start events course = records first lines start events course
+
+bounds : OutputTellsTruth → RecordsTellTruth → (input : List ℕ) (status : Status) (octets : List ℕ) → (is_answer status ≡ true → OwnAnswer Plain input status octets) → BoundsSo input status octets
+bounds output records input Done octets own = (output.0 input [] Done octets (own refl), tells_truly records input)
+bounds output records input BadTrace octets own = (output.0 input [] BadTrace octets (own refl), tells_truly records input)
+bounds output records input Broken octets own = (output.0 input [] Broken octets (own refl), tells_truly records input)
+bounds output records input TooLarge octets own = (output.0 input [] TooLarge octets (own refl), tells_truly records input)
+bounds output records input _ octets own = tells_truly records input
+
+pub bounded : OutputTellsTruth → RecordsTellTruth → (run : Run) (status : Status) → IsAlone run.words Plain → Ends run status → IfSome run.source.before (WroteSo BoundsSo run.sink.before run.sink.now status)
+bounded output records run status is ends = aims run Plain status BoundsSo is ends (λ input octets own. bounds output records input status octets own)
 
 -- where nothing was read and nothing written
 pub wrote_nothing : (Aim : List ℕ → Status → List ℕ → Type 0) (held input : Option (List ℕ)) → ((given : List ℕ) → Aim given OutOfMemory []) → Appends held held []

@@ -24,7 +24,7 @@ use Rattle.wrp_records.specs.Refusals.{bad_network_line, too_large_line}
 use Rattle.wrp_records.specs.Statuses.{is_answer}
 use Rattle.wrp_records.specs.Stream.{CutHandled}
 use Rattle.wrp_run.specs.declared.command_line.Alone.{Alone}
-use Rattle.wrp_run.specs.declared.command_line.Alone.TheVariants.{Migrate, L1Sync, Calibrate}
+use Rattle.wrp_run.specs.declared.command_line.Alone.TheVariants.{Migrate, Inspect, L1Sync, Calibrate, Plain}
 use Rattle.wrp_run.specs.Alone.{IsAlone, MayAnswer, alone_meaning}
 use Rattle.wrp_run.specs.Answer.{Answer, AsksNone, IsCommand, IsNetworked, FirstAnswer, PartAnswer, CutTask}
 use Rattle.wrp_run.specs.Ends.{Run, AsksEvents, Called, Ends, EndsRefused, EndsRefusedAs, EndsUnlinked, TakesPiece, Wrote, begun_at}
@@ -456,6 +456,10 @@ may_answer Migrate input Done text at = tt
 may_answer Migrate input TooLarge text at = tt
 may_answer Migrate input BadNetwork text at = tt
 may_answer Migrate input _ text at = absurd at.1
+may_answer Inspect input Done text at = tt
+may_answer Inspect input TooLarge text at = tt
+may_answer Inspect input BadCapture text at = tt
+may_answer Inspect input _ text at = absurd at.1
 may_answer L1Sync input Done text at = tt
 may_answer L1Sync input TooLarge text at = tt
 may_answer L1Sync input BadTrace text at = tt
@@ -468,17 +472,27 @@ may_answer Calibrate input BadTrace text at = tt
 may_answer Calibrate input BadCalib text at = tt
 may_answer Calibrate input Broken text at = absurd at.1.refused
 may_answer Calibrate input _ text at = absurd at.1
+may_answer Plain input Done text at = tt
+may_answer Plain input TooLarge text at = tt
+may_answer Plain input BadTrace text at = tt
+may_answer Plain input Broken text at = tt
+may_answer Plain input BadCalib text at = absurd at.1.broken
+may_answer Plain input _ text at = absurd at.1
 
 never_linked : (alone : Alone) (input : List ℕ) (text : List ℕ) → (alone_meaning alone).unlinked input [] text → ⊥
 never_linked Migrate input text at = at
+never_linked Inspect input text at = at
 never_linked L1Sync input text at = at
 never_linked Calibrate input text at = at
+never_linked Plain input text at = at
 
 -- so much is no answer of any
 not_usage : (alone : Alone) → MayAnswer alone Usage → ⊥
 not_usage Migrate may = may
+not_usage Inspect may = may
 not_usage L1Sync may = may
 not_usage Calibrate may = may
+not_usage Plain may = may
 
 -- what it answers is due for its word
 alone_answers : (words : List (List ℕ)) (alone : Alone) (input : List ℕ) (status : Status) (due : List ℕ) → IsAlone words alone → (alone_meaning alone).answers input [] status due → Answer words input [] status due

@@ -16,13 +16,16 @@ use Rattle.wrp_records.specs.declared.status.Status.{Status}
 use Rattle.wrp_records.specs.declared.status.Status.TheVariants.{Done, Usage, BadNetwork, BadTrace, Broken, ReadFault, WriteFault, LinkFault, TooLarge, OutOfMemory, BadCapture, BadCalib}
 use Rattle.wrp_io.specs.declared.link.LinkCall.{LinkCall}
 use Rattle.wrp_migrate.proofs.Unique.{one_migration}
+use Rattle.wrp_pcap.proofs.OneInspection.{one_answer as one_inspection}
 use Rattle.wrp_l1sync.proofs.LineExact.{exact as exact_synchronisation}
 use Rattle.wrp_l1sync.specs.LineRecords.{meaning as synchronisation}
 use Rattle.wrp_calib.proofs.LinesExact.{exact as exact_calibration}
 use Rattle.wrp_calib.specs.LinesMeaning.{calibration}
+use Rattle.wrp_plain.proofs.LinesExact.{exact as exact_plain}
+use Rattle.wrp_plain.specs.LineCourse.{plain_meaning}
 use Rattle.wrp_records.specs.Passages.{Failed}
 use Rattle.wrp_run.specs.declared.command_line.Alone.{Alone}
-use Rattle.wrp_run.specs.declared.command_line.Alone.TheVariants.{Migrate, L1Sync, Calibrate}
+use Rattle.wrp_run.specs.declared.command_line.Alone.TheVariants.{Migrate, Inspect, L1Sync, Calibrate, Plain}
 use Rattle.wrp_run.specs.Alone.{IsAlone, alone_meaning}
 use Rattle.wrp_run.specs.Answer.{Answer, AloneAnswer, AsksNone, IsCommand, IsNetworked, RecordsDue, TaskAnswer}
 use Rattle.wrp_run.specs.Audited.{IsSettingOf, setting_at}
@@ -269,8 +272,10 @@ one_alone_answer words input calls s t o u p q =
   where
     go : (a : Alone) → (alone_meaning a).answers input calls t u → (alone_meaning a).answers input calls s o → AreOne s t o u
     go Migrate q p = one_migration input calls s t o u p q
+    go Inspect q p = one_inspection input calls s t o u p q
     go L1Sync q p = one_records_answer synchronisation exact_synchronisation (lines_of input) s t o u p.1 q.1
     go Calibrate q p = one_records_answer calibration exact_calibration (lines_of input) s t o u p.1 q.1
+    go Plain q p = one_records_answer plain_meaning exact_plain (lines_of input) s t o u p.1 q.1
 
 -- words on a network, and none, are no command that stands alone
 not_both : (words : List (List ℕ)) (input : List ℕ) (calls : List LinkCall) (s t : Status) (o u : List ℕ) → Cases words input calls s o → AloneAnswer words input calls t u → ⊥
@@ -298,8 +303,10 @@ one_answer runs nodes one last words input calls s t o u p q =
 
 alone_uncalled : (alone : Alone) (input : List ℕ) (calls : List LinkCall) (s : Status) (o : List ℕ) → (alone_meaning alone).answers input calls s o → calls ≡ []
 alone_uncalled Migrate input calls s o p = p.0
+alone_uncalled Inspect input calls s o p = p.0
 alone_uncalled L1Sync input calls s o p = p.0
 alone_uncalled Calibrate input calls s o p = p.0
+alone_uncalled Plain input calls s o p = p.0
 
 due_uncalled : (words : List (List ℕ)) (input : List ℕ) (calls : List LinkCall) (s : Status) (o : List ℕ) → RecordsDue words input calls s o → calls ≡ []
 due_uncalled words input calls s o (inl task) = task.3

@@ -6,7 +6,7 @@ use Rattle.std.proofs.lemmas.Option.{same_Some}
 use Rattle.wrp_run.specs.declared.command_line.Form.{Form}
 use Rattle.wrp_run.specs.declared.command_line.Form.TheVariants as forms
 use Rattle.wrp_run.specs.declared.command_line.Alone.{Alone}
-use Rattle.wrp_run.specs.declared.command_line.Alone.TheVariants.{Migrate, L1Sync, Calibrate}
+use Rattle.wrp_run.specs.declared.command_line.Alone.TheVariants.{Migrate, Inspect, L1Sync, Calibrate, Plain}
 use Rattle.wrp_run.specs.Alone.{IsAlone, alone_word}
 use Rattle.wrp_run.specs.Answer.{IsCommand, IsNetworked}
 use Rattle.wrp_run.specs.Fields.{seed_of}
@@ -54,19 +54,25 @@ letter forms.Replay = 114
 letter forms.Simulate = 115
 letter forms.Loop = 108
 letter (forms.Alone Migrate) = 109
+letter (forms.Alone Inspect) = 105
 letter (forms.Alone L1Sync) = 108
 letter (forms.Alone Calibrate) = 99
+letter (forms.Alone Plain) = 112
 
 -- of a command that stands alone
 abbrev alone_letter : Alone → ℕ
 alone_letter Migrate = 109
+alone_letter Inspect = 105
 alone_letter L1Sync = 108
 alone_letter Calibrate = 99
+alone_letter Plain = 112
 
 alone_initial : (words : List (List ℕ)) (alone : Alone) → IsAlone words alone → initial words ≡ alone_letter alone
 alone_initial words Migrate is = ap initial is
+alone_initial words Inspect is = ap initial is
 alone_initial words L1Sync is = ap initial is
 alone_initial words Calibrate is = ap initial is
+alone_initial words Plain is = ap initial is
 
 -- it has no option
 pub alone_bare : (command option : List ℕ) (words : List (List ℕ)) (value : List ℕ) (alone : Alone) → IsAlone words alone → IsCommandWith command option words value → ⊥
@@ -75,8 +81,10 @@ alone_bare command option words value alone is with = (subst (λ (ws : List (Lis
 -- it is no audit
 pub alone_no_audit : (words : List (List ℕ)) (alone : Alone) → IsAlone words alone → IsAuditing words → ⊥
 alone_no_audit words Migrate is audit = let bad : 109 ≡ 97 = sym (alone_initial words Migrate is) ∙ ap initial audit in absurd (omega (arith, bad))
+alone_no_audit words Inspect is audit = let bad : 105 ≡ 97 = sym (alone_initial words Inspect is) ∙ ap initial audit in absurd (omega (arith, bad))
 alone_no_audit words L1Sync is audit = let bad : 108 ≡ 97 = sym (alone_initial words L1Sync is) ∙ ap initial audit in absurd (omega (arith, bad))
 alone_no_audit words Calibrate is audit = let bad : 99 ≡ 97 = sym (alone_initial words Calibrate is) ∙ ap initial audit in absurd (omega (arith, bad))
+alone_no_audit words Plain is audit = let bad : 112 ≡ 97 = sym (alone_initial words Plain is) ∙ ap initial audit in absurd (omega (arith, bad))
 
 -- nor any other command on a network
 pub alone_unnetworked : (words : List (List ℕ)) (alone : Alone) → IsAlone words alone → IsNetworked words → ⊥
@@ -88,14 +96,30 @@ alone_unnetworked words alone is (inr (inr (seed, simulation))) = alone_bare (co
 -- words are one such command
 pub one_alone : (words : List (List ℕ)) (a b : Alone) → IsAlone words a → IsAlone words b → a ≡ b
 one_alone words Migrate Migrate p q = refl
+one_alone words Migrate Inspect p q = let bad : 109 ≡ 105 = sym (alone_initial words Migrate p) ∙ alone_initial words Inspect q in absurd (omega (arith, bad))
 one_alone words Migrate L1Sync p q = let bad : 109 ≡ 108 = sym (alone_initial words Migrate p) ∙ alone_initial words L1Sync q in absurd (omega (arith, bad))
 one_alone words Migrate Calibrate p q = let bad : 109 ≡ 99 = sym (alone_initial words Migrate p) ∙ alone_initial words Calibrate q in absurd (omega (arith, bad))
+one_alone words Migrate Plain p q = let bad : 109 ≡ 112 = sym (alone_initial words Migrate p) ∙ alone_initial words Plain q in absurd (omega (arith, bad))
+one_alone words Inspect Migrate p q = let bad : 105 ≡ 109 = sym (alone_initial words Inspect p) ∙ alone_initial words Migrate q in absurd (omega (arith, bad))
+one_alone words Inspect Inspect p q = refl
+one_alone words Inspect L1Sync p q = let bad : 105 ≡ 108 = sym (alone_initial words Inspect p) ∙ alone_initial words L1Sync q in absurd (omega (arith, bad))
+one_alone words Inspect Calibrate p q = let bad : 105 ≡ 99 = sym (alone_initial words Inspect p) ∙ alone_initial words Calibrate q in absurd (omega (arith, bad))
+one_alone words Inspect Plain p q = let bad : 105 ≡ 112 = sym (alone_initial words Inspect p) ∙ alone_initial words Plain q in absurd (omega (arith, bad))
 one_alone words L1Sync Migrate p q = let bad : 108 ≡ 109 = sym (alone_initial words L1Sync p) ∙ alone_initial words Migrate q in absurd (omega (arith, bad))
+one_alone words L1Sync Inspect p q = let bad : 108 ≡ 105 = sym (alone_initial words L1Sync p) ∙ alone_initial words Inspect q in absurd (omega (arith, bad))
 one_alone words L1Sync L1Sync p q = refl
 one_alone words L1Sync Calibrate p q = let bad : 108 ≡ 99 = sym (alone_initial words L1Sync p) ∙ alone_initial words Calibrate q in absurd (omega (arith, bad))
+one_alone words L1Sync Plain p q = let bad : 108 ≡ 112 = sym (alone_initial words L1Sync p) ∙ alone_initial words Plain q in absurd (omega (arith, bad))
 one_alone words Calibrate Migrate p q = let bad : 99 ≡ 109 = sym (alone_initial words Calibrate p) ∙ alone_initial words Migrate q in absurd (omega (arith, bad))
+one_alone words Calibrate Inspect p q = let bad : 99 ≡ 105 = sym (alone_initial words Calibrate p) ∙ alone_initial words Inspect q in absurd (omega (arith, bad))
 one_alone words Calibrate L1Sync p q = let bad : 99 ≡ 108 = sym (alone_initial words Calibrate p) ∙ alone_initial words L1Sync q in absurd (omega (arith, bad))
 one_alone words Calibrate Calibrate p q = refl
+one_alone words Calibrate Plain p q = let bad : 99 ≡ 112 = sym (alone_initial words Calibrate p) ∙ alone_initial words Plain q in absurd (omega (arith, bad))
+one_alone words Plain Migrate p q = let bad : 112 ≡ 109 = sym (alone_initial words Plain p) ∙ alone_initial words Migrate q in absurd (omega (arith, bad))
+one_alone words Plain Inspect p q = let bad : 112 ≡ 105 = sym (alone_initial words Plain p) ∙ alone_initial words Inspect q in absurd (omega (arith, bad))
+one_alone words Plain L1Sync p q = let bad : 112 ≡ 108 = sym (alone_initial words Plain p) ∙ alone_initial words L1Sync q in absurd (omega (arith, bad))
+one_alone words Plain Calibrate p q = let bad : 112 ≡ 99 = sym (alone_initial words Plain p) ∙ alone_initial words Calibrate q in absurd (omega (arith, bad))
+one_alone words Plain Plain p q = refl
 
 initial_letter : (form : Form) (words : List (List ℕ)) (value : List ℕ) → IsForm form words value → initial words ≡ letter form
 initial_letter forms.Audit words value is = ap initial is.0
@@ -104,8 +128,10 @@ initial_letter forms.Replay words value is = initial_of 114 _ (codes "--node") w
 initial_letter forms.Simulate words value is = initial_of 115 _ (codes "--seed") words value is
 initial_letter forms.Loop words value is = initial_of 108 _ (codes "--seed") words value is
 initial_letter (forms.Alone Migrate) words value is = alone_initial words Migrate is.0
+initial_letter (forms.Alone Inspect) words value is = alone_initial words Inspect is.0
 initial_letter (forms.Alone L1Sync) words value is = alone_initial words L1Sync is.0
 initial_letter (forms.Alone Calibrate) words value is = alone_initial words Calibrate is.0
+initial_letter (forms.Alone Plain) words value is = alone_initial words Plain is.0
 
 -- a seed that is none makes no command
 pub no_simulate : (words : List (List ℕ)) (text : List ℕ) → IsCommandWith (codes "simulate") (codes "--seed") words text → None ≡ seed_of text → IsNoCommand words

@@ -1,12 +1,25 @@
 -- The aims of the commands that stand alone, of what they wrote, for each status (this project's profile).
-use Rattle.std.specs.Prelude.{◌≡◌, ℕ, List, Ok, Result}
+use Rattle.std.specs.Prelude.{◌≡◌, ℕ, ◌+◌, List, ◌∷◌, ◌++◌, length, reverse, Some, Ok, Result}
 use Rattle.wrp_base.specs.declared.fault.ConfFault.{ConfFault}
+use Rattle.wrp_base.specs.declared.link.Role.TheVariants.{Master, Slave}
 use Rattle.wrp_calib.specs.LinesTold.{SayTruly, TellsSo}
 use Rattle.wrp_calib.specs.Truth.{Delays}
 use Rattle.wrp_caldb.specs.Database.{Database}
 use Rattle.wrp_caldb.specs.Reading.{IsReadingOf}
+use Rattle.wrp_check.specs.Judged.{Judges}
 use Rattle.wrp_l1sync.specs.LineAnswers.{ShowsBy}
 use Rattle.wrp_migrate.specs.Laws.{IsKept}
+use Rattle.wrp_pcap.specs.declared.content.Content.{Content}
+use Rattle.wrp_pcap.specs.declared.verdict.Verdict8.TheVariants.{Complete}
+use Rattle.wrp_pcap.specs.Content.{messages_of}
+use Rattle.wrp_pcap.specs.Inspected.{IsInspected}
+use Rattle.wrp_pcap.specs.Marks.{Rises, slave_marks, master_marks}
+use Rattle.wrp_pcap.specs.PacketLines.{told_of}
+use Rattle.wrp_plain.specs.declared.event.PlainEvent.{PlainEvent}
+use Rattle.wrp_plain.specs.declared.settings.PlainStart.{PlainStart}
+use Rattle.wrp_plain.specs.LineCourse.{IsCourse}
+use Rattle.wrp_plain.specs.LineTruth.{AllAreWithin, AreTrue}
+use Rattle.wrp_records.specs.Lines.{lines_of}
 use Rattle.wrp_records.specs.declared.status.Status.{Status}
 use Rattle.wrp_records.specs.declared.status.Status.TheVariants.{Done, BadTrace, Broken, TooLarge}
 
@@ -36,3 +49,41 @@ SynchronisesSo input BadTrace octets = ShowsBy BadTrace input octets
 SynchronisesSo input Broken octets = ShowsBy Broken input octets
 SynchronisesSo input TooLarge octets = ShowsBy TooLarge input octets
 SynchronisesSo input status octets = Unit {0}
+
+-- the numbers of a certificate rise, and by the marks of these numbers both ends passed the same handshake
+abbrev pub AreJudged : List ℕ → Type 0
+AreJudged numbers =
+    Rises numbers
+    × Judges Slave (reverse (slave_marks numbers)) (reverse (master_marks numbers)) (Ok tt)
+    × Judges Master (reverse (master_marks numbers)) (reverse (slave_marks numbers)) (Ok tt)
+
+-- the octets are the lines of a capture's packets, by the certificate, and the counts; and each `complete` among them,
+-- of the packet behind those before it, names eight packets by which both ends passed the same handshake
+pub record ShowsHandshakes (input octets : List ℕ) : Type 0 where
+  pub inspected : IsInspected input octets
+  pub judged :
+      (newer before : List Content) (content : Content) (numbers : List ℕ) → inspected.contents ≡ newer ++ content ∷ before →
+      told_of (length before + 1) (messages_of before) content ≡ Some (Complete numbers) → AreJudged numbers
+
+-- so it is where a capture was read to its end
+abbrev pub InspectsSo : List ℕ → Status → List ℕ → Type 0
+InspectsSo input Done octets = ShowsHandshakes input octets
+InspectsSo input status octets = Unit {0}
+
+-- the first records of an input: what each event gives is true, and so is each line that is written of it: a report is
+-- within its bound of the true offset, the bound is the least that a kept measurement gives, and no exchange is too
+-- short to be measured
+abbrev pub TellsTruly : List ℕ → Type 0
+TellsTruly input =
+    (first : List ℕ) (lines rest : List (List ℕ)) → lines_of input ≡ first ∷ (lines ++ rest)
+    → (start : PlainStart) (events : List PlainEvent) → IsCourse first lines start events
+    → AreTrue start.set start.off events
+
+-- so it is whatever a plain servo is told; and in an answer each report, as it is printed, is within its printed bound
+-- of the printed true offset
+abbrev pub BoundsSo : List ℕ → Status → List ℕ → Type 0
+BoundsSo input Done octets = AllAreWithin octets × TellsTruly input
+BoundsSo input BadTrace octets = AllAreWithin octets × TellsTruly input
+BoundsSo input Broken octets = AllAreWithin octets × TellsTruly input
+BoundsSo input TooLarge octets = AllAreWithin octets × TellsTruly input
+BoundsSo input status octets = TellsTruly input

@@ -6,7 +6,7 @@ use Rattle.wrp_records.specs.Refusals.{broken_words}
 -- the only line where the words are no command
 abbrev pub usage_line : List ℕ
 usage_line =
-    codes "usage: wrnet audit [--emit NODE] | replay --node NODE | simulate --seed N | loop --seed N | migrate | l1sync | calibrate\n"
+    codes "usage: wrnet audit [--emit NODE] | replay --node NODE | simulate --seed N | loop --seed N | migrate | inspect | l1sync | calibrate | plain\n"
 
 -- the name of a premise, by its number
 unfoldable pub premise_name : ℕ → List ℕ

@@ -8,7 +8,7 @@ ghost use Rattle.wrp_records.specs.Passages.{FailsBy, passage};
 ghost use Rattle.wrp_records.specs.Statuses.{is_answer};
 ghost use Rattle.wrp_run.specs.declared.command_line.Alone.{Alone};
 ghost use Rattle.wrp_run.specs.Alone.{IsAlone};
-ghost use Rattle.wrp_run.specs.AloneAims.{CalibratesSo, MigratesSo, SynchronisesSo};
+ghost use Rattle.wrp_run.specs.AloneAims.{BoundsSo, CalibratesSo, InspectsSo, MigratesSo, SynchronisesSo};
 ghost use Rattle.wrp_run.specs.Answer.{Answer, IsCommand};
 ghost use Rattle.wrp_run.specs.Asked.{AsksSo};
 ghost use Rattle.wrp_run.specs.EmitHeadline.{EmitHeadline};
@@ -29,6 +29,9 @@ use wrp_io::{Link, Sink, Source};
 use wrp_l1sync::{answers_show_the_pair, l1sync};
 use wrp_migrate::{migrate, migration_keeps};
 use wrp_node::one_run;
+use wrp_pcap::{complete_is_judged, inspect};
+use wrp_plain::lines::plain;
+use wrp_plain::{output_tells_truth, records_tell_truth};
 use wrp_records::{Status, answer};
 use wrp_servo::told_last;
 
@@ -56,8 +59,10 @@ fn run_alone<S: Source, K: Sink>(
     let _words = words;
     match alone {
         Alone::Migrate => migrate(alloc, source, sink),
+        Alone::Inspect => inspect(alloc, source, sink),
         Alone::L1Sync => l1sync(alloc, source, sink),
         Alone::Calibrate => calibrate(alloc, source, sink),
+        Alone::Plain => plain(alloc, source, sink),
     }
 }
 
@@ -116,17 +121,24 @@ pub fn run<S: Source, K: Sink, N: Link>(
         × SimHeadline (texts_of words.now) input result octets) }
 
     // The aims of the commands that stand alone: what a migration wrote is a text of the same database; what
-    // the synchronisation of two ends wrote shows both, record by record; what a calibration wrote holds
-    // the truth.
+    // an inspection wrote shows the handshakes of the capture; what the synchronisation of two ends wrote
+    // shows both, record by record; what a calibration wrote holds the truth; and each report of a plain
+    // servo is within its bound.
     ensures migrated { IsAlone (texts_of words.now) Alone.Migrate → IfSome (S.left source.old) (λ input.
         (octets : List ℕ) × Appends (K.held sink.old) (K.held sink.new) octets
         × MigratesSo input result octets) }
+    ensures inspected { IsAlone (texts_of words.now) Alone.Inspect → IfSome (S.left source.old) (λ input.
+        (octets : List ℕ) × Appends (K.held sink.old) (K.held sink.new) octets
+        × InspectsSo input result octets) }
     ensures synchronised { IsAlone (texts_of words.now) Alone.L1Sync → IfSome (S.left source.old) (λ input.
         (octets : List ℕ) × Appends (K.held sink.old) (K.held sink.new) octets
         × SynchronisesSo input result octets) }
     ensures calibrated { IsAlone (texts_of words.now) Alone.Calibrate → IfSome (S.left source.old) (λ input.
         (octets : List ℕ) × Appends (K.held sink.old) (K.held sink.new) octets
         × CalibratesSo input result octets) }
+    ensures bounded { IsAlone (texts_of words.now) Alone.Plain → IfSome (S.left source.old) (λ input.
+        (octets : List ℕ) × Appends (K.held sink.old) (K.held sink.new) octets
+        × BoundsSo input result octets) }
 
     // Words that are no command are refused with nothing read, and no link is used.
     ensures unread { (IsCommand (texts_of words.now) → ⊥) → source.new ≡ source.old }
@@ -138,8 +150,11 @@ pub fn run<S: Source, K: Sink, N: Link>(
     made_events_carry_parts();
     told_last();
     migration_keeps();
+    complete_is_judged();
     answers_show_the_pair();
     inputs_tell_truth();
+    output_tells_truth();
+    records_tell_truth();
     match read_command(alloc, words) {
         Ok(Some(Command::OnNetwork(asked))) => run_network(alloc, words, asked, source, sink),
         Ok(Some(Command::Alone(alone))) => run_alone(alloc, words, alone, source, sink),

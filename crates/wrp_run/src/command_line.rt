@@ -11,10 +11,14 @@ ghost use Rattle.wrp_run.specs.Words.{texts_of};
 pub enum Alone {
     /// `migrate`.
     Migrate,
+    /// `inspect`.
+    Inspect,
     /// `l1sync`.
     L1Sync,
     /// `calibrate`.
     Calibrate,
+    /// `plain`.
+    Plain,
 }
 
 /// The form of a command line.
@@ -133,8 +137,10 @@ fn alone_of(words: &[&str]) -> Option<Alone>
 {
     match words {
         ["migrate"] => Some(Alone::Migrate),
+        ["inspect"] => Some(Alone::Inspect),
         ["l1sync"] => Some(Alone::L1Sync),
         ["calibrate"] => Some(Alone::Calibrate),
+        ["plain"] => Some(Alone::Plain),
         _ => None,
     }
 }

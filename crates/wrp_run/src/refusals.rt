@@ -8,7 +8,7 @@ use wrp_records::append_broken_words;
 
 /// The line where the words are no command.
 pub const USAGE_LINE: &str =
-    "usage: wrnet audit [--emit NODE] | replay --node NODE | simulate --seed N | loop --seed N | migrate | l1sync | calibrate\n";
+    "usage: wrnet audit [--emit NODE] | replay --node NODE | simulate --seed N | loop --seed N | migrate | inspect | l1sync | calibrate | plain\n";
 
 // The name of a premise, by its number.
 #[tactic(auto, unfolding(crate::specs::Refusals::premise_name))]

@@ -5,10 +5,10 @@ use Rattle.std.proofs.KnownBytes.{Appends-nil}
 use Rattle.wrp_io.specs.declared.link.LinkCall.{LinkCall}
 use Rattle.wrp_records.specs.Passages.{Passage, passage}
 use Rattle.wrp_run.specs.Asked.{AsksSo}
-use Rattle.wrp_run.specs.AloneAims.{CalibratesSo}
+use Rattle.wrp_run.specs.AloneAims.{BoundsSo, CalibratesSo}
 use Rattle.wrp_run.specs.Ends.{Run}
 use Rattle.wrp_run.specs.Words.{texts_of}
-use Rattle.wrp_run.proofs.AloneTold.{calibrated, migrated, synchronised, wrote_nothing}
+use Rattle.wrp_run.proofs.AloneTold.{bounded, calibrated, inspected, migrated, synchronised, tells_truly, wrote_nothing}
 use Rattle.wrp_run.proofs.Asking.{memory_ends, uncalled, usage_ends}
 use Rattle.wrp_run.proofs.AskingWork.{asked_networked}
 use Rattle.wrp_run.proofs.EmitTold.{emission_told, nothing_emitted}
@@ -88,6 +88,12 @@ returns-in-Ok-Some-Alone-clause-migrated g c =
     let ends = c.run_alone.ensures.ends (passage g.N.Link.told g.N.Link.faults c.args.link.now c.args.link.now) refl in
     λ is. migrated c.migration_keeps.ensures run c.run_alone.result is ends
 
+pub returns-in-Ok-Some-Alone-clause-inspected : goal.returns-in-Ok-Some-Alone-clause-inspected
+returns-in-Ok-Some-Alone-clause-inspected g c =
+    let run : Run = ran (texts_of c.args.words.now) (passage g.S.Source.left g.S.Source.faults c.args.source.now c.run_alone.new.source) (passage g.K.Sink.held g.K.Sink.faults c.args.sink.now c.run_alone.new.sink) (passage g.N.Link.told g.N.Link.faults c.args.link.now c.args.link.now) in
+    let ends = c.run_alone.ensures.ends (passage g.N.Link.told g.N.Link.faults c.args.link.now c.args.link.now) refl in
+    λ is. inspected c.complete_is_judged.ensures run c.run_alone.result is ends
+
 pub returns-in-Ok-Some-Alone-clause-synchronised : goal.returns-in-Ok-Some-Alone-clause-synchronised
 returns-in-Ok-Some-Alone-clause-synchronised g c =
     let run : Run = ran (texts_of c.args.words.now) (passage g.S.Source.left g.S.Source.faults c.args.source.now c.run_alone.new.source) (passage g.K.Sink.held g.K.Sink.faults c.args.sink.now c.run_alone.new.sink) (passage g.N.Link.told g.N.Link.faults c.args.link.now c.args.link.now) in
@@ -99,6 +105,12 @@ returns-in-Ok-Some-Alone-clause-calibrated g c =
     let run : Run = ran (texts_of c.args.words.now) (passage g.S.Source.left g.S.Source.faults c.args.source.now c.run_alone.new.source) (passage g.K.Sink.held g.K.Sink.faults c.args.sink.now c.run_alone.new.sink) (passage g.N.Link.told g.N.Link.faults c.args.link.now c.args.link.now) in
     let ends = c.run_alone.ensures.ends (passage g.N.Link.told g.N.Link.faults c.args.link.now c.args.link.now) refl in
     λ is. calibrated c.inputs_tell_truth.ensures run c.run_alone.result is ends
+
+pub returns-in-Ok-Some-Alone-clause-bounded : goal.returns-in-Ok-Some-Alone-clause-bounded
+returns-in-Ok-Some-Alone-clause-bounded g c =
+    let run : Run = ran (texts_of c.args.words.now) (passage g.S.Source.left g.S.Source.faults c.args.source.now c.run_alone.new.source) (passage g.K.Sink.held g.K.Sink.faults c.args.sink.now c.run_alone.new.sink) (passage g.N.Link.told g.N.Link.faults c.args.link.now c.args.link.now) in
+    let ends = c.run_alone.ensures.ends (passage g.N.Link.told g.N.Link.faults c.args.link.now c.args.link.now) refl in
+    λ is. bounded c.output_tells_truth.ensures c.records_tell_truth.ensures run c.run_alone.result is ends
 
 pub returns-in-Ok-Some-Loop-clause-ends : goal.returns-in-Ok-Some-Loop-clause-ends
 returns-in-Ok-Some-Loop-clause-ends g c =
@@ -174,3 +186,7 @@ returns-in-Err-clause-simulated g c = λ seed simulates.
 pub returns-in-Err-clause-calibrated : goal.returns-in-Err-clause-calibrated
 returns-in-Err-clause-calibrated g c = λ is.
     wrote_nothing CalibratesSo (g.K.Sink.held c.args.sink.now) (g.S.Source.left c.args.source.now) (λ input true say. tt) (Appends-nil (g.K.Sink.held c.args.sink.now))
+
+pub returns-in-Err-clause-bounded : goal.returns-in-Err-clause-bounded
+returns-in-Err-clause-bounded g c = λ is.
+    wrote_nothing BoundsSo (g.K.Sink.held c.args.sink.now) (g.S.Source.left c.args.source.now) (tells_truly c.records_tell_truth.ensures) (Appends-nil (g.K.Sink.held c.args.sink.now))

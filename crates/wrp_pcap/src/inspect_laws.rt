@@ -1,0 +1,20 @@
+//! What holds of every inspection. The functions here do nothing: their contracts are laws, and their
+//! proofs show that the laws hold.
+ghost use Rattle.wrp_pcap.specs.InspectLaws.{OneIsDue, RefusalsStay, CompleteIsJudged};
+
+/// Of each input one status and one text are due.
+pub fn one_is_due()
+    ensures { OneIsDue }
+{}
+
+/// What is due where a whole header is refused, or a packet that is too long or one too many, is due
+/// however the input goes on.
+pub fn refusals_stay()
+    ensures { RefusalsStay }
+{}
+
+/// The numbers of each `complete` that is printed rise, and by the marks of these numbers both ends are in
+/// the same handshake.
+pub fn complete_is_judged()
+    ensures { CompleteIsJudged }
+{}
