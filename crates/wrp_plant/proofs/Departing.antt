@@ -1,30 +1,33 @@
 -- A frame that departs: of a plant as of the state that it stands for, with numbers in their sizes.
-use Rattle.std.proofs.Common.{◌≡◌, ◌∙◌, refl, ap, ap₂, sym, subst, ℕ, zero, suc, ◌+◌, ◌*◌, ◌<◌, ◌≤◌, ◌^◌, ◌==◌, ◌&&◌, ℤ, pos, ◌+ℤ◌, unsigned_abs, Bool, true, false, if◌then◌else◌, List, [], ◌∷◌, ◌++◌, length, drop, option_to_list, slice_get, Option, None, Some, IfSome, OnOk, Result, Ok, Err, vec_len, vec_capacity, arith}
+use Rattle.std.proofs.Common.{◌≡◌, ◌∙◌, refl, ap, ap₂, sym, subst, ℕ, zero, suc, ◌+◌, ◌*◌, ◌<◌, ◌≤◌, ◌^◌, ◌==◌, ◌&&◌, ℤ, pos, ◌+ℤ◌, ◌-ℤ◌, unsigned_abs, Bool, true, false, if◌then◌else◌, List, [], ◌∷◌, ◌++◌, length, drop, slice_get, Option, None, Some, IfSome, OnOk, Result, Ok, Err, option_map, vec_len, vec_capacity, arith}
 use Rattle.std.proofs.lemmas.Int.{ints}
-use Rattle.std.proofs.lemmas.List.{append-nil}
 use Rattle.std.specs.List.{AllZip}
 use Rattle.std.proofs.lemmas.Bool.{true≢false}
-use Rattle.std.proofs.lemmas.Option.{none-some, same_Some}
+use Rattle.std.proofs.lemmas.Option.{same_Some}
 use Rattle.wrp_base.specs.declared.link.Role.{Role}
+use Rattle.wrp_bounds.specs.Times.{frame_life}
 use Rattle.wrp_base.specs.declared.link.Role.TheVariants.{Master, Slave}
 use Rattle.wrp_plant.specs.declared.ends.EndState.{EndState}
 use Rattle.wrp_plant.specs.declared.ends.PutOut.{PutOut}
 use Rattle.wrp_plant.specs.declared.ends.Span.{Span}
 use Rattle.wrp_course.specs.declared.event.Event.TheVariants.{Depart}
 use Rattle.wrp_course.specs.declared.fibres.FibreState.{FibreState}
-use Rattle.wrp_plant.specs.declared.frames.Departed.{Departed}
+use Rattle.wrp_flights.specs.declared.departed.Departed.{Departed}
+use Rattle.wrp_flights.specs.Departed.{is_on}
+use Rattle.wrp_flights.specs.Frames.{Departs, FramesAt, Puts, at, sent_at}
 use Rattle.wrp_course.specs.declared.place.Place.{Place}
 use Rattle.wrp_plant.specs.declared.plant.Plant.{Plant}
-use Rattle.wrp_plant.specs.Flights.{Grows, LosesOldest, TakesOldest, delay_in, departed_of, leaving}
+use Rattle.wrp_plant.specs.Flights.{LosesOldest, TakesOldest, delay_in, departed_of, leaving}
 use Rattle.wrp_course.specs.Moved.{behind_first, departing, is_place, moved, one_more, waiting_at}
-use Rattle.wrp_plant.specs.Moves.{At, Changed, Same, Turns, Where}
-use Rattle.wrp_plant.specs.Plant.{DepartedIs, Each, EndIs, FitsDeparted, FitsEnd, FitsPlant, FitsSpan, FramesAre, MaybeIs, PlantIs, PutOutIs, SpanIs, end_in, frame_numbered}
+use Rattle.wrp_plant.specs.Moves.{At, Changed, Same, SameFrames, Turns, Where}
+use Rattle.wrp_plant.specs.Plant.{DepartedIs, Each, EndIs, FitsDeparted, FitsEnd, FitsFrames, FitsPlant, FitsSpan, FramesAre, MaybeIs, PlantIs, PutOutIs, SpanIs, end_in, kept_since}
 use Rattle.wrp_plant.specs.Room.{HasEndRoom, HasRoom, HasSpanRoom}
 use Rattle.wrp_course.specs.Setting.{Setting, is_role, place_of}
-use Rattle.wrp_plant.specs.Sizes.{IsDelayBy, IsDueBy, IsTimeBy}
-use Rattle.wrp_course.specs.WorldAt.{EndAt, FrameAt, Sending, WorldAt, delay_from}
+use Rattle.wrp_plant.specs.Sizes.{IsDelayBy, IsDueBy, IsHorizonBy, IsTimeBy}
+use Rattle.wrp_course.specs.WorldAt.{EndAt, FrameAt, Sending, WorldAt, delay_from, is_on_fibre}
 use Rattle.wrp_plant.proofs.EachLists.{length_push}
-use Rattle.wrp_plant.proofs.Fitting.{FramesFit, frame_more, plant_fits, same_clocks, span_more, time_more, delay_more, end_more, where_fits}
+use Rattle.wrp_plant.proofs.FramesTurned.{frames_same, on_since, since_some}
+use Rattle.wrp_plant.proofs.Fitting.{frame_more, frames_more, plant_fits, same_clocks, span_more, time_more, delay_more, end_more, where_fits}
 use Rattle.wrp_plant.proofs.Moving.{plant_is}
 use Rattle.wrp_plant.proofs.Standing.{down_told, end_told}
 use Rattle.wrp_plant.proofs.Turned.{each_same, each_turned}
@@ -68,20 +71,15 @@ turned_about a b = grind arith
 
 -- Frames
 
-get_last : (xs : List Departed) (d : Departed) → slice_get (xs ++ (d ∷ [])) (length xs) ≡ Some d
-get_last [] d = refl
-get_last (x ∷ xs) d = get_last xs d
+get_last : (xs : List ℤ) (t : ℤ) → slice_get (xs ++ (t ∷ [])) (length xs) ≡ Some t
+get_last [] t = refl
+get_last (x ∷ xs) t = get_last xs t
 
-get_other : (xs : List Departed) (d : Departed) (i : ℕ) → (i ≡ length xs → ⊥) → slice_get (xs ++ (d ∷ [])) i ≡ slice_get xs i
-get_other [] d zero h = absurd (h refl)
-get_other [] d (suc i) h = refl
-get_other (x ∷ xs) d zero h = refl
-get_other (x ∷ xs) d (suc i) h = get_other xs d i (λ e. h (ap suc e))
-
-if_frame : (b : Bool) (f : FrameAt) (o : Option FrameAt) (q : Option Departed) → (b ≡ true → MaybeIs DepartedIs (Some f) q) → (b ≡ false → MaybeIs DepartedIs o q) →
-    MaybeIs DepartedIs (if b then Some f else o) q
-if_frame true f o q h k = h refl
-if_frame false f o q h k = k refl
+get_other : (xs : List ℤ) (t : ℤ) (i : ℕ) → (i ≡ length xs → ⊥) → slice_get (xs ++ (t ∷ [])) i ≡ slice_get xs i
+get_other [] t zero h = absurd (h refl)
+get_other [] t (suc i) h = refl
+get_other (x ∷ xs) t zero h = refl
+get_other (x ∷ xs) t (suc i) h = get_other xs t i (λ e. h (ap suc e))
 
 is_next : (i n : ℕ) → (suc i == (n + 1)) ≡ true → i ≡ n
 is_next i n e = grind (arith, e)
@@ -92,32 +90,61 @@ not_next i n e f = grind (arith, e, f)
 not_first : (n : ℕ) → (zero == (n + 1)) ≡ true → ⊥
 not_first n e = grind (arith, e)
 
-by_number : (w : WorldAt) (f : FrameAt) (xs : List Departed) (d : Departed) → FramesAre w xs → DepartedIs f d → (i : ℕ) →
-    MaybeIs DepartedIs (if i == (w.departed + 1) then Some f else w.frame i) (frame_numbered i (xs ++ (d ∷ [])))
-by_number w f xs d h k zero =
-    if_frame (zero == (w.departed + 1)) f (w.frame zero) None (λ e. absurd (not_first w.departed e)) (λ e. h.each zero)
-by_number w f xs d h k (suc i) =
-    if_frame (suc i == (w.departed + 1)) f (w.frame (suc i)) (slice_get (xs ++ (d ∷ [])) i)
-    (λ e. subst (MaybeIs DepartedIs (Some f)) (sym (ap (slice_get (xs ++ (d ∷ []))) (is_next i w.departed e ∙ sym h.count) ∙ get_last xs d)) k)
-    (λ e. subst (MaybeIs DepartedIs (w.frame (suc i))) (sym (get_other xs d i (λ l. not_next i w.departed e (l ∙ h.count)))) (h.each (suc i)))
+-- when the frame of a number was put out, once one more departed
+sent_more : (xs : List ℤ) (t : ℤ) (k : ℕ) (b : Bool) → (k == (length xs + 1)) ≡ b → sent_at k (xs ++ (t ∷ [])) ≡ (if b then Some t else sent_at k xs)
+sent_more xs t zero true e = absurd (not_first (length xs) e)
+sent_more xs t zero false e = refl
+sent_more xs t (suc i) true e = ap (slice_get (xs ++ (t ∷ []))) (is_next i (length xs) e) ∙ get_last xs t
+sent_more xs t (suc i) false e = get_other xs t i (not_next i (length xs) e)
 
-abbrev FramesNow : WorldAt → Place → ℤ → List Sending → List Departed → Type 0
-FramesNow w place stamp ws ys =
-    (length ys ≡ one_more ws w.departed) × ((i : ℕ) → MaybeIs DepartedIs (departing w (Some place) stamp ws i) (frame_numbered i ys))
+if_sent : (b : Bool) (f : FrameAt) (o : Option FrameAt) (t : ℤ) → t ≡ f.sending.at →
+    (if b then Some t else option_map (λ g. g.sending.at) o) ≡ option_map (λ g. g.sending.at) (if b then Some f else o)
+if_sent true f o t e = ap Some e
+if_sent false f o t e = refl
 
-frames_grow : (w : WorldAt) (place : Place) (stamp : ℤ) (ws : List Sending) (xs : List Departed) (d : Option Departed) → FramesAre w xs →
-    MaybeIs DepartedIs (leaving w place stamp ws) d → FramesNow w place stamp ws (xs ++ option_to_list d)
-frames_grow w place stamp [] xs None h k = subst (FramesNow w place stamp []) (sym (append-nil xs)) (h.count, h.each)
-frames_grow w place stamp [] xs (Some d) h k = absurd k
-frames_grow w place stamp (oldest ∷ rest) xs None h k = absurd k
-frames_grow w place stamp (oldest ∷ rest) xs (Some d) h k =
-    (length_push xs d ∙ ap (λ n. n + 1) h.count, by_number w _ xs d h k)
+if_kept : (h : ℤ) (b : Bool) (f : FrameAt) (d : Departed) (o : Option FrameAt) (q : Option Departed) → is_on_fibre (Some f) ≡ true → DepartedIs f d →
+    MaybeIs DepartedIs (kept_since h o) q → MaybeIs DepartedIs (kept_since h (if b then Some f else o)) (if b then Some d else q)
+if_kept h true f d o q on k m = subst (λ p. MaybeIs DepartedIs p (Some d)) (sym (since_some h f (on_since h f on))) k
+if_kept h false f d o q on k m = m
+
+abbrev FramesNow : Setting → WorldAt → Place → ℤ → List Sending → FramesAt → Type 0
+FramesNow s w place stamp ws frames =
+    (frames.horizon ≡ w.time -ℤ pos (frame_life s.cfg)) × (length frames.sent ≡ one_more ws w.departed)
+    × ((i : ℕ) → sent_at i frames.sent ≡ option_map (λ f. f.sending.at) (departing w (Some place) stamp ws i))
+    × ((i : ℕ) → MaybeIs DepartedIs (kept_since frames.horizon (departing w (Some place) stamp ws i)) (at i frames.kept))
+
+one_put : (s : Setting) (w : WorldAt) (f : FrameAt) (d : Departed) (old new : FramesAt) → FramesAre s w old → is_on_fibre (Some f) ≡ true → DepartedIs f d → Puts d old new →
+    (new.horizon ≡ w.time -ℤ pos (frame_life s.cfg)) × (length new.sent ≡ w.departed + 1)
+    × ((i : ℕ) → sent_at i new.sent ≡ option_map (λ g. g.sending.at) (if i == (w.departed + 1) then Some f else w.frame i))
+    × ((i : ℕ) → MaybeIs DepartedIs (kept_since new.horizon (if i == (w.departed + 1) then Some f else w.frame i)) (at i new.kept))
+one_put s w f d old new h on k p = (
+  p.horizon ∙ h.horizon,
+  ap length p.sent ∙ length_push old.sent d.sent ∙ ap (λ n. n + 1) h.count,
+  λ i.
+      ap (sent_at i) p.sent ∙ sent_more old.sent d.sent i (i == (length old.sent + 1)) refl
+      ∙ ap₂ (λ (b : Bool) (o : Option ℤ). if b then Some d.sent else o) (ap (λ n. i == (n + 1)) h.count) (h.sent i)
+      ∙ if_sent (i == (w.departed + 1)) f (w.frame i) d.sent k.sent,
+  λ i.
+      subst (λ x. MaybeIs DepartedIs (kept_since x (if i == (w.departed + 1) then Some f else w.frame i)) (at i new.kept)) (sym p.horizon)
+      (subst (λ q. MaybeIs DepartedIs (kept_since old.horizon (if i == (w.departed + 1) then Some f else w.frame i)) q)
+      (sym (p.kept i ∙ ap (λ n. if i == (n + 1) then Some d else at i old.kept) h.count))
+      (if_kept old.horizon (i == (w.departed + 1)) f d (w.frame i) (at i old.kept) on k (h.each i))),
+)
+
+frames_grow : (s : Setting) (w : WorldAt) (place : Place) (stamp : ℤ) (ws : List Sending) (old new : FramesAt) (d : Option Departed) → FramesAre s w old →
+    MaybeIs DepartedIs (leaving w place stamp ws) d → Departs d old new → FramesNow s w place stamp ws new
+frames_grow s w place stamp [] old new None h k p = subst (FramesNow s w place stamp []) (sym p) (h.horizon, h.count, h.sent, h.each)
+frames_grow s w place stamp [] old new (Some d) h k p = absurd k
+frames_grow s w place stamp (oldest ∷ rest) old new None h k p = absurd k
+frames_grow s w place stamp (oldest ∷ rest) old new (Some d) h k p = one_put s w _ d old new h refl k p
 
 -- All parts
 
-abbrev FramesOf : WorldAt → Option Place → ℤ → List Departed → Type 0
-FramesOf w o stamp ys =
-    (length ys ≡ one_more (waiting_at w o) w.departed) × ((i : ℕ) → MaybeIs DepartedIs (departing w o stamp (waiting_at w o) i) (frame_numbered i ys))
+abbrev FramesOf : Setting → WorldAt → Option Place → ℤ → FramesAt → Type 0
+FramesOf s w o stamp frames =
+    (frames.horizon ≡ w.time -ℤ pos (frame_life s.cfg)) × (length frames.sent ≡ one_more (waiting_at w o) w.departed)
+    × ((i : ℕ) → sent_at i frames.sent ≡ option_map (λ f. f.sending.at) (departing w o stamp (waiting_at w o) i))
+    × ((i : ℕ) → MaybeIs DepartedIs (kept_since frames.horizon (departing w o stamp (waiting_at w o) i)) (at i frames.kept))
 
 abbrev SpanOf : WorldAt → Option Place → ℕ → Span → Type 0
 SpanOf w o k y =
@@ -130,17 +157,17 @@ span_of w place k x y r h =
     (taken_span (k == place.link) place.role (w.fibre k) (w.end_at k Master) (w.end_at k Slave) x y r h.fibre h.master h.slave)
 
 pub depart_is : (s : Setting) (w : WorldAt) (n p : ℕ) (stamp : ℤ) (place : Place) (d : Option Departed) (old new : Plant) →
-    Changed Same (Turns (At place.link (TakesOldest place.role))) (Grows d) old.time old new → place_of s n p ≡ Some place →
+    Changed Same (Turns (At place.link (TakesOldest place.role))) (Departs d) old.time old new → place_of s n p ≡ Some place →
     MaybeIs DepartedIs (leaving w place stamp (w.end_at place.link place.role).waiting) d → PlantIs s w old → PlantIs s (moved s w (Depart n p stamp)) new
 depart_is s w n p stamp place d old new c e k h =
-    let frames : FramesOf w (place_of s n p) stamp new.frames =
-    subst (λ o. FramesOf w o stamp new.frames) (sym e)
-    (subst (FramesNow w place stamp (w.end_at place.link place.role).waiting) (sym c.of_frames) (frames_grow w place stamp (w.end_at place.link place.role).waiting old.frames d h.frames k)) in
+    let frames : FramesOf s w (place_of s n p) stamp new.frames =
+    subst (λ o. FramesOf s w o stamp new.frames) (sym e)
+    (frames_grow s w place stamp (w.end_at place.link place.role).waiting old.frames new.frames d h.frames k c.of_frames) in
     plant_is s w (moved s w (Depart n p stamp)) _ _ _ _ old new c h h.time refl
     (each_same (λ m clock. clock ≡ w.clock m) (λ m clock. clock ≡ (moved s w (Depart n p stamp)).clock m) old.clocks.items new.clocks.items c.of_clocks (λ m x q. q) h.clocks)
     (each_turned (At place.link (TakesOldest place.role)) (SpanIs w) (SpanIs (moved s w (Depart n p stamp))) old.spans.items new.spans.items c.of_spans
     (λ l x y r q. let j = subst (λ o. SpanOf w o l y) (sym e) (span_of w place l x y r q) in record { fibre = j.0; master = j.1; slave = j.2 }) h.spans)
-    (record { count = frames.0; each = frames.1 })
+    (record { horizon = frames.0; count = frames.1; sent = frames.2; each = frames.3 })
 
 -- a port that no link has
 abbrev NoneOf : Option Place → WorldAt → ℤ → Type 0
@@ -154,7 +181,7 @@ end_same : (b : Bool) (at : EndAt) (x : EndState) → b ≡ false → EndIs at x
 end_same true at x e h = absurd (true≢false e)
 end_same false at x e h = h
 
-pub none_departs_is : (s : Setting) (w : WorldAt) (n p : ℕ) (stamp : ℤ) (old new : Plant) → Changed Same Same Same old.time old new → place_of s n p ≡ None →
+pub none_departs_is : (s : Setting) (w : WorldAt) (n p : ℕ) (stamp : ℤ) (old new : Plant) → Changed Same Same SameFrames old.time old new → place_of s n p ≡ None →
     PlantIs s w old → PlantIs s (moved s w (Depart n p stamp)) new
 none_departs_is s w n p stamp old new c e h =
     let o : NoneOf (place_of s n p) w stamp = subst (λ q. NoneOf q w stamp) (sym e) (none_of w stamp) in
@@ -166,11 +193,7 @@ none_departs_is s w n p stamp old new c e h =
       master = end_same (is_place (place_of s n p) k Master) (w.end_at k Master) x.master (o.2 k Master) q.master;
       slave = end_same (is_place (place_of s n p) k Slave) (w.end_at k Slave) x.slave (o.2 k Slave) q.slave;
     }) h.spans)
-    (record {
-      count = ap length c.of_frames ∙ h.frames.count ∙ sym o.0;
-      each = λ i. subst (λ (l : List Departed). MaybeIs DepartedIs (departing w (place_of s n p) stamp (waiting_at w (place_of s n p)) i) (frame_numbered i l)) (sym c.of_frames)
-          (subst (λ q. MaybeIs DepartedIs q (frame_numbered i old.frames)) (sym (o.1 i)) (h.frames.each i));
-    })
+    (frames_same s w (moved s w (Depart n p stamp)) old.frames new.frames c.of_frames refl o.0 o.1 h.frames)
 
 -- The frame that departs
 
@@ -211,6 +234,14 @@ departed_fits : (links e : ℕ) (place : Place) (due : ℤ) (xs : List PutOut) �
 departed_fits links e place due [] l d h = tt
 departed_fits links e place due (x ∷ xs) l d h = record { link = l; sent = time_more e x.at (h zero x refl); due = d; raw = tt }
 
+departed_on : (place : Place) (due : ℤ) (xs : List PutOut) → IfSome (departed_of place due xs) (λ d. is_on d ≡ true)
+departed_on place due [] = tt
+departed_on place due (x ∷ xs) = refl
+
+-- a frame that departs is on a fibre
+pub leaving_on : (place : Place) (due : ℤ) (xs : List PutOut) (q : Option Departed) → q ≡ departed_of place due xs → IfSome q (λ d. is_on d ≡ true)
+leaving_on place due xs q f = subst (λ r. IfSome r (λ d. is_on d ≡ true)) (sym f) (departed_on place due xs)
+
 pub leaving_fits : (links e : ℕ) (place : Place) (due : ℤ) (span : Span) (q : Option Departed) → place.link < links → IsDueBy (e + 1) due → FitsSpan e span →
     q ≡ departed_of place due (end_in span place.role).waiting.items → IfSome q (FitsDeparted links (e + 1))
 leaving_fits links e place due span q l d h f =
@@ -237,31 +268,36 @@ span_fits e role x y r h = record {
   slave = where_fits (is_role role Slave) LosesOldest (FitsEnd e) (FitsEnd (e + 1)) x.slave y.slave r.slave (end_fits e x.slave y.slave) (end_more e x.slave) h.slave;
 }
 
-each_append : {A : Type 0} (P : A → Type 0) (xs : List A) (o : Option A) → Each (λ i. P) xs → IfSome o P → Each (λ i. P) (xs ++ option_to_list o)
-each_append P [] None h k i x e = absurd (none-some x e)
-each_append P [] (Some y) h k zero x e = subst P (same_Some y x e) k
-each_append P [] (Some y) h k (suc i) x e = absurd (none-some x e)
-each_append P (z ∷ xs) o h k zero x e = h zero x e
-each_append P (z ∷ xs) o h k (suc i) x e = each_append P xs o (λ j y f. h (suc j) y f) k i x e
+sent_fits : (e : ℕ) (xs : List ℤ) (t : ℤ) → IsTimeBy (e + 1) t → ((i : ℕ) (x : ℤ) → sent_at i xs ≡ Some x → IsTimeBy e x) →
+    (i : ℕ) (x : ℤ) → sent_at i (xs ++ (t ∷ [])) ≡ Some x → IsTimeBy (e + 1) x
+sent_fits e xs t a h i x g = by_test (i == (length xs + 1)) (sym (sent_more xs t i (i == (length xs + 1)) refl) ∙ g) where
+  by_test : (b : Bool) → (if b then Some t else sent_at i xs) ≡ Some x → IsTimeBy (e + 1) x
+  by_test true f = subst (IsTimeBy (e + 1)) (same_Some t x f) a
+  by_test false f = time_more e x (h i x f)
 
-grown : {A : Type 0} (xs : List A) (o : Option A) → length (xs ++ option_to_list o) ≤ length xs + 1
-grown [] None = omega arith
-grown [] (Some y) = omega arith
-grown (x ∷ xs) o = let h : length (xs ++ option_to_list o) ≤ length xs + 1 = grown xs o in omega (arith, h)
+one_fits : (links e : ℕ) (d : Departed) (old new : FramesAt) → Puts d old new → FitsDeparted links (e + 1) d → FitsFrames links e old → FitsFrames links (e + 1) new
+one_fits links e d old new p k f = record {
+  horizon = subst (IsHorizonBy (e + 1)) (sym p.horizon) (frames_more links e old f).horizon;
+  count = let same : length new.sent ≡ length old.sent + 1 = ap length p.sent ∙ length_push old.sent d.sent in omega (arith, same, f.count);
+  sent = λ i x g. sent_fits e old.sent d.sent k.sent f.sent i x (sym (ap (sent_at i) p.sent) ∙ g);
+  each = λ i x g. kept_at i x (i == (length old.sent + 1)) (sym (p.kept i) ∙ g);
+} where
+  kept_at : (i : ℕ) (x : Departed) (b : Bool) → (if b then Some d else at i old.kept) ≡ Some x → FitsDeparted links (e + 1) x
+  kept_at i x true g = subst (FitsDeparted links (e + 1)) (same_Some d x g) k
+  kept_at i x false g = frame_more links e x (f.each i x g)
 
-pub depart_fits : (place : Place) (d : Option Departed) (old new : Plant) → Changed Same (Turns (At place.link (TakesOldest place.role))) (Grows d) old.time old new →
+departs_fit : (links e : ℕ) (d : Option Departed) (old new : FramesAt) → Departs d old new → IfSome d (FitsDeparted links (e + 1)) → FitsFrames links e old → FitsFrames links (e + 1) new
+departs_fit links e None old new p k f = subst (FitsFrames links (e + 1)) (sym p) (frames_more links e old f)
+departs_fit links e (Some d) old new p k f = one_fits links e d old new p k f
+
+pub depart_fits : (place : Place) (d : Option Departed) (old new : Plant) → Changed Same (Turns (At place.link (TakesOldest place.role))) (Departs d) old.time old new →
     IfSome d (FitsDeparted (length old.net.cfg.links.items) (old.events + 1)) → old.events + 1 < 2 ^ 32 → FitsPlant old → FitsPlant new
 depart_fits place d old new c k few f =
-    let count : length old.frames ≤ old.events = f.frame_count in
-    let more : length (old.frames ++ option_to_list d) ≤ length old.frames + 1 = grown old.frames d in
-    let new_count : length new.frames ≡ length (old.frames ++ option_to_list d) = ap length c.of_frames in
     plant_fits _ _ _ _ old new c f few (time_more old.events old.time f.time) (ap length c.of_clocks) c.of_spans.0
-    (omega (arith, count, more, new_count))
     (same_clocks old.events old.clocks.items new.clocks.items c.of_clocks f.clocks)
     (each_turned (At place.link (TakesOldest place.role)) (λ n. FitsSpan old.events) (λ n. FitsSpan (old.events + 1)) old.spans.items new.spans.items c.of_spans
     (λ m x y r h. where_fits (m == place.link) (TakesOldest place.role) (FitsSpan old.events) (FitsSpan (old.events + 1)) x y r (span_fits old.events place.role x y) (span_more old.events x) h) f.spans)
-    (subst (FramesFit (length old.net.cfg.links.items) (old.events + 1)) (sym c.of_frames)
-    (each_append (FitsDeparted (length old.net.cfg.links.items) (old.events + 1)) old.frames d (λ i x e. frame_more (length old.net.cfg.links.items) old.events x (f.frames i x e)) k))
+    (departs_fit (length old.net.cfg.links.items) old.events d old.frames new.frames c.of_frames k f.frames)
 
 end_room : (k : ℕ) (x y : EndState) → LosesOldest x y → HasEndRoom k x → HasEndRoom k y
 end_room k x y r h = record {
@@ -275,7 +311,7 @@ span_room k role x y r h = record {
   slave = where_fits (is_role role Slave) LosesOldest (HasEndRoom k) (HasEndRoom k) x.slave y.slave r.slave (end_room k x.slave y.slave) (λ q. q) h.slave;
 }
 
-pub depart_room : (place : Place) (d : Option Departed) (old new : Plant) → Changed Same (Turns (At place.link (TakesOldest place.role))) (Grows d) old.time old new →
+pub depart_room : (place : Place) (d : Option Departed) (old new : Plant) → Changed Same (Turns (At place.link (TakesOldest place.role))) (Departs d) old.time old new →
     (k : ℕ) → HasRoom k old → HasRoom k new
 depart_room place d old new c k h =
     each_turned (At place.link (TakesOldest place.role)) (λ i. HasSpanRoom k) (λ i. HasSpanRoom k) old.spans.items new.spans.items c.of_spans

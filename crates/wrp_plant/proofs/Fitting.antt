@@ -1,5 +1,5 @@
 -- What an event changes by itself keeps the sizes of the numbers of a plant.
-use Rattle.std.proofs.Common.{◌≡◌, ◌∙◌, ap, sym, subst, ℕ, ◌+◌, ◌<◌, ◌≤◌, ◌^◌, ◌==◌, ℤ, ◌+ℤ◌, Bool, true, false, List, length, slice_get, Option, None, Some, unsigned_abs, arith}
+use Rattle.std.proofs.Common.{◌≡◌, ◌∙◌, refl, ap, sym, subst, ℕ, ◌+◌, ◌<◌, ◌≤◌, ◌^◌, ◌==◌, ℤ, ◌+ℤ◌, Bool, true, false, List, length, slice_get, Option, None, Some, unsigned_abs, arith}
 use Rattle.std.proofs.lemmas.Int.{ints}
 use Rattle.std.proofs.lemmas.Option.{none-some}
 use Rattle.wrp_base.specs.declared.configuration.NetCfg.{NetCfg}
@@ -12,12 +12,16 @@ use Rattle.wrp_plant.specs.declared.ends.Span.{Span}
 use Rattle.wrp_plant.specs.declared.ends.PutOut.{PutOut}
 use Rattle.wrp_course.specs.declared.event.Swap.{Swap}
 use Rattle.wrp_course.specs.declared.fibres.FibreState.{FibreState}
-use Rattle.wrp_plant.specs.declared.frames.Departed.{Departed}
+use Rattle.wrp_flights.specs.declared.departed.Departed.{Departed}
+use Rattle.wrp_flights.specs.Departed.{lost}
+use Rattle.wrp_flights.specs.Frames.{FramesAt, Passes, Turned, at, sent_at}
+use Rattle.wrp_flights.specs.Losing.{is_at_node, loses_link, loses_node}
+use Rattle.wrp_flights.proofs.Staying.{CameFrom, came_from, kept_is_it}
 use Rattle.wrp_plant.specs.declared.plant.Plant.{Plant}
 use Rattle.wrp_course.specs.Moved.{drift_of, move_of, swap_at}
-use Rattle.wrp_plant.specs.Moves.{Turns, Same, Where, At, Changed, Drifts, Samples, GoesDown, Moves, Joins, Empties, Cuts, Drops, DropsAt, touches_in, ComesUp, Swapped, SwapsIn, SwapsAt, lost, LosesLink, LosesNode}
-use Rattle.wrp_plant.specs.Plant.{Each, FitsClock, FitsDeparted, FitsEnd, FitsPlant, FitsSpan}
-use Rattle.wrp_plant.specs.Sizes.{IsTimeBy, IsOffBy, IsDelayBy, IsDueBy}
+use Rattle.wrp_plant.specs.Moves.{Turns, Same, SameFrames, Where, At, Changed, Drifts, Samples, GoesDown, Moves, Joins, Empties, Cuts, Drops, DropsAt, touches_in, ComesUp, Swapped, SwapsIn, SwapsAt}
+use Rattle.wrp_plant.specs.Plant.{Each, FitsClock, FitsDeparted, FitsEnd, FitsFrames, FitsPlant, FitsSpan}
+use Rattle.wrp_plant.specs.Sizes.{IsTimeBy, IsHorizonBy, IsOffBy, IsDelayBy, IsDueBy}
 use Rattle.wrp_plant.proofs.Turned.{each_turned, each_same}
 
 -- One event more
@@ -71,15 +75,49 @@ ClocksFit e xs = Each (λ n. FitsClock e) xs
 abbrev pub SpansFit : ℕ → List Span → Type 0
 SpansFit e xs = Each (λ k. FitsSpan e) xs
 
-abbrev pub FramesFit : ℕ → ℕ → List Departed → Type 0
-FramesFit links e xs = Each (λ i. FitsDeparted links e) xs
+-- Frames
 
-pub plant_fits : (C : List ClockState → List ClockState → Type 0) (S : List Span → List Span → Type 0) (F : List Departed → List Departed → Type 0)
+pub frames_more : (links e : ℕ) (frames : FramesAt) → FitsFrames links e frames → FitsFrames links (e + 1) frames
+frames_more links e frames h = record {
+  horizon = omega (arith, h.horizon);
+  count = omega (arith, h.count);
+  sent = λ i t g. time_more e t (h.sent i t g);
+  each = λ i d g. frame_more links e d (h.each i d g);
+}
+
+same_frames : (links e : ℕ) (old new : FramesAt) → new ≡ old → FitsFrames links e old → FitsFrames links (e + 1) new
+same_frames links e old new s h = subst (FitsFrames links (e + 1)) (sym s) (frames_more links e old h)
+
+-- frames that change, each by its number
+pub turned_fit : (links e : ℕ) (change : ℕ → Departed → Departed) (old new : FramesAt) → Turned change old new →
+    ((i : ℕ) (d : Departed) → FitsDeparted links e d → FitsDeparted links (e + 1) (change i d)) → FitsFrames links e old → FitsFrames links (e + 1) new
+turned_fit links e change old new t more h = record {
+  horizon = subst (IsHorizonBy (e + 1)) (sym t.horizon) (omega (arith, h.horizon));
+  count = let same : length new.sent ≡ length old.sent = ap length t.sent in omega (arith, same, h.count);
+  sent = λ i x g. time_more e x (h.sent i x (sym (ap (sent_at i) t.sent) ∙ g));
+  each = λ i d g.
+      let it : CameFrom old.horizon (change i) (at i old.kept) d = came_from old.horizon (change i) (at i old.kept) d (sym (t.kept i) ∙ g) in
+      subst (FitsDeparted links (e + 1)) it.same (more i it.from (h.each i it.from it.was));
+}
+
+horizon_later : (e : ℕ) (t d : ℤ) → IsHorizonBy e t → unsigned_abs d ≤ 2 ^ 63 → IsHorizonBy (e + 1) (t +ℤ d)
+horizon_later e t d h k = omega (arith, abs_sum t d)
+
+-- time passes
+passed_fit : (links e : ℕ) (dt : ℤ) (old new : FramesAt) → Passes (old.horizon +ℤ dt) old new → unsigned_abs dt ≤ 2 ^ 63 → FitsFrames links e old → FitsFrames links (e + 1) new
+passed_fit links e dt old new p l h = record {
+  horizon = subst (IsHorizonBy (e + 1)) (sym p.horizon_is) (horizon_later e old.horizon dt h.horizon l);
+  count = let same : length new.sent ≡ length old.sent = ap length p.sent in omega (arith, same, h.count);
+  sent = λ i x g. time_more e x (h.sent i x (sym (ap (sent_at i) p.sent) ∙ g));
+  each = λ i d g. frame_more links e d (h.each i d (kept_is_it (old.horizon +ℤ dt) (at i old.kept) d (sym (p.kept i) ∙ g)).0);
+}
+
+pub plant_fits : (C : List ClockState → List ClockState → Type 0) (S : List Span → List Span → Type 0) (F : FramesAt → FramesAt → Type 0)
     (t : ℤ) (old new : Plant) → Changed C S F t old new → FitsPlant old → old.events + 1 < 2 ^ 32 → IsTimeBy (old.events + 1) t →
-    length new.clocks.items ≡ length old.clocks.items → length new.spans.items ≡ length old.spans.items → length new.frames ≤ old.events + 1 →
+    length new.clocks.items ≡ length old.clocks.items → length new.spans.items ≡ length old.spans.items →
     ClocksFit (old.events + 1) new.clocks.items → SpansFit (old.events + 1) new.spans.items →
-    FramesFit (length old.net.cfg.links.items) (old.events + 1) new.frames → FitsPlant new
-plant_fits C S F t old new c f few ht hc hs hn clocks spans frames = record {
+    FitsFrames (length old.net.cfg.links.items) (old.events + 1) new.frames → FitsPlant new
+plant_fits C S F t old new c f few ht hc hs clocks spans frames = record {
   accepted = subst (λ (g : NetCfg). IsAccepted g new.net.db) (sym c.cfg) (subst (λ (d : Database). IsAccepted old.net.cfg d) (sym c.db) f.accepted);
   clock_count = hc ∙ f.clock_count ∙ ap (λ (g : NetCfg). length g.nodes.items) (sym c.cfg);
   span_count = hs ∙ f.span_count ∙ ap (λ (g : NetCfg). length g.links.items) (sym c.cfg);
@@ -87,8 +125,7 @@ plant_fits C S F t old new c f few ht hc hs hn clocks spans frames = record {
   time = subst (λ z. IsTimeBy new.events z) (sym c.time) (subst (λ n. IsTimeBy n t) (sym c.count) ht);
   clocks = subst (λ n. ClocksFit n new.clocks.items) (sym c.count) clocks;
   spans = subst (λ n. SpansFit n new.spans.items) (sym c.count) spans;
-  frame_count = subst (λ n. length new.frames ≤ n) (sym c.count) hn;
-  frames = subst (λ (g : NetCfg). FramesFit (length g.links.items) new.events new.frames) (sym c.cfg) (subst (λ n. FramesFit (length old.net.cfg.links.items) n new.frames) (sym c.count) frames);
+  frames = subst (λ (g : NetCfg). FitsFrames (length g.links.items) new.events new.frames) (sym c.cfg) (subst (λ n. FitsFrames (length old.net.cfg.links.items) n new.frames) (sym c.count) frames);
 }
 
 pub same_clocks : (e : ℕ) (xs ys : List ClockState) → ys ≡ xs → ClocksFit e xs → ClocksFit (e + 1) ys
@@ -96,12 +133,6 @@ same_clocks e xs ys s h = each_same (λ n. FitsClock e) (λ n. FitsClock (e + 1)
 
 pub same_spans : (e : ℕ) (xs ys : List Span) → ys ≡ xs → SpansFit e xs → SpansFit (e + 1) ys
 same_spans e xs ys s h = each_same (λ n. FitsSpan e) (λ n. FitsSpan (e + 1)) xs ys s (λ n x k. span_more e x k) h
-
-same_frames : (links e : ℕ) (xs ys : List Departed) → ys ≡ xs → FramesFit links e xs → FramesFit links (e + 1) ys
-same_frames links e xs ys s h = each_same (λ n. FitsDeparted links e) (λ n. FitsDeparted links (e + 1)) xs ys s (λ n x k. frame_more links e x k) h
-
-same_count : (e : ℕ) (xs ys : List Departed) → length ys ≡ length xs → length xs ≤ e → length ys ≤ e + 1
-same_count e xs ys s h = omega (arith, s, h)
 
 -- What changes
 
@@ -168,63 +199,57 @@ lost_fits links e b x y r h =
 
 -- Each event
 
-pub tick_fits : (old new : Plant) → Changed Same Same Same old.time old new → old.events + 1 < 2 ^ 32 → FitsPlant old → FitsPlant new
+pub tick_fits : (old new : Plant) → Changed Same Same SameFrames old.time old new → old.events + 1 < 2 ^ 32 → FitsPlant old → FitsPlant new
 tick_fits old new c few f =
     plant_fits _ _ _ _ old new c f few (time_more old.events old.time f.time) (ap length c.of_clocks) (ap length c.of_spans)
-    (same_count old.events old.frames new.frames (ap length c.of_frames) f.frame_count)
     (same_clocks old.events old.clocks.items new.clocks.items c.of_clocks f.clocks)
     (same_spans old.events old.spans.items new.spans.items c.of_spans f.spans)
     (same_frames (length old.net.cfg.links.items) old.events old.frames new.frames c.of_frames f.frames)
 
 pub pass_fits : (drifts : List ℤ) (moves : List (ℤ × ℤ)) (dt : ℤ) (old new : Plant) → unsigned_abs dt ≤ 2 ^ 63 →
-    Changed (Turns (Drifts drifts)) (Turns (Moves moves)) Same (old.time +ℤ dt) old new → old.events + 1 < 2 ^ 32 → FitsPlant old → FitsPlant new
+    Changed (Turns (Drifts drifts)) (Turns (Moves moves)) (Passes (old.frames.horizon +ℤ dt)) (old.time +ℤ dt) old new → old.events + 1 < 2 ^ 32 → FitsPlant old → FitsPlant new
 pass_fits drifts moves dt old new h c few f =
     plant_fits _ _ _ _ old new c f few (time_later old.events old.time dt f.time h) c.of_clocks.0 c.of_spans.0
-    (same_count old.events old.frames new.frames (ap length c.of_frames) f.frame_count)
     (each_turned (Drifts drifts) (λ n. FitsClock old.events) (λ n. FitsClock (old.events + 1)) old.clocks.items new.clocks.items c.of_clocks (λ n x y r k. drift_fits old.events drifts n x y r k) f.clocks)
     (each_turned (Moves moves) (λ n. FitsSpan old.events) (λ n. FitsSpan (old.events + 1)) old.spans.items new.spans.items c.of_spans (λ n x y r k. move_fits old.events moves n x y r k) f.spans)
-    (same_frames (length old.net.cfg.links.items) old.events old.frames new.frames c.of_frames f.frames)
+    (passed_fit (length old.net.cfg.links.items) old.events dt old.frames new.frames c.of_frames h f.frames)
 
-pub sampled_fits : (n : ℕ) (old new : Plant) → Changed (Turns (At n Samples)) Same Same old.time old new → old.events + 1 < 2 ^ 32 → FitsPlant old → FitsPlant new
+pub sampled_fits : (n : ℕ) (old new : Plant) → Changed (Turns (At n Samples)) Same SameFrames old.time old new → old.events + 1 < 2 ^ 32 → FitsPlant old → FitsPlant new
 sampled_fits n old new c few f =
     plant_fits _ _ _ _ old new c f few (time_more old.events old.time f.time) c.of_clocks.0 (ap length c.of_spans)
-    (same_count old.events old.frames new.frames (ap length c.of_frames) f.frame_count)
     (each_turned (At n Samples) (λ n. FitsClock old.events) (λ n. FitsClock (old.events + 1)) old.clocks.items new.clocks.items c.of_clocks
     (λ m x y r k. where_fits (m == n) Samples (FitsClock old.events) (FitsClock (old.events + 1)) x y r (sample_fits old.events x y) (clock_more old.events x) k) f.clocks)
     (same_spans old.events old.spans.items new.spans.items c.of_spans f.spans)
     (same_frames (length old.net.cfg.links.items) old.events old.frames new.frames c.of_frames f.frames)
 
 pub joined_fits : (l : ℕ) (ms sm : ℤ) (old new : Plant) → unsigned_abs ms ≤ 2 ^ 63 → unsigned_abs sm ≤ 2 ^ 63 →
-    Changed Same (Turns (At l (Joins ms sm))) Same old.time old new → old.events + 1 < 2 ^ 32 → FitsPlant old → FitsPlant new
+    Changed Same (Turns (At l (Joins ms sm))) SameFrames old.time old new → old.events + 1 < 2 ^ 32 → FitsPlant old → FitsPlant new
 joined_fits l ms sm old new a b c few f =
     plant_fits _ _ _ _ old new c f few (time_more old.events old.time f.time) (ap length c.of_clocks) c.of_spans.0
-    (same_count old.events old.frames new.frames (ap length c.of_frames) f.frame_count)
     (same_clocks old.events old.clocks.items new.clocks.items c.of_clocks f.clocks)
     (each_turned (At l (Joins ms sm)) (λ n. FitsSpan old.events) (λ n. FitsSpan (old.events + 1)) old.spans.items new.spans.items c.of_spans
     (λ m x y r k. where_fits (m == l) (Joins ms sm) (FitsSpan old.events) (FitsSpan (old.events + 1)) x y r (join_fits old.events ms sm x y a b) (span_more old.events x) k) f.spans)
     (same_frames (length old.net.cfg.links.items) old.events old.frames new.frames c.of_frames f.frames)
 
-pub cut_off_fits : (l : ℕ) (old new : Plant) → Changed Same (Turns (At l Cuts)) (Turns (LosesLink l)) old.time old new → old.events + 1 < 2 ^ 32 → FitsPlant old → FitsPlant new
+pub cut_off_fits : (l : ℕ) (old new : Plant) → Changed Same (Turns (At l Cuts)) (Turned (loses_link l)) old.time old new → old.events + 1 < 2 ^ 32 → FitsPlant old → FitsPlant new
 cut_off_fits l old new c few f =
     plant_fits _ _ _ _ old new c f few (time_more old.events old.time f.time) (ap length c.of_clocks) c.of_spans.0
-    (same_count old.events old.frames new.frames c.of_frames.0 f.frame_count)
     (same_clocks old.events old.clocks.items new.clocks.items c.of_clocks f.clocks)
     (each_turned (At l Cuts) (λ n. FitsSpan old.events) (λ n. FitsSpan (old.events + 1)) old.spans.items new.spans.items c.of_spans
     (λ m x y r k. where_fits (m == l) Cuts (FitsSpan old.events) (FitsSpan (old.events + 1)) x y r (cut_fits old.events x y) (span_more old.events x) k) f.spans)
-    (each_turned (LosesLink l) (λ n. FitsDeparted (length old.net.cfg.links.items) old.events) (λ n. FitsDeparted (length old.net.cfg.links.items) (old.events + 1)) old.frames new.frames c.of_frames
-    (λ m x y r k. lost_fits (length old.net.cfg.links.items) old.events (x.link == l) x y r k) f.frames)
+    (turned_fit (length old.net.cfg.links.items) old.events (loses_link l) old.frames new.frames c.of_frames
+    (λ i d k. lost_fits (length old.net.cfg.links.items) old.events (d.link == l) d (loses_link l i d) refl k) f.frames)
 
 pub gone_down_fits : (n : ℕ) (links : List LinkCfg) (old new : Plant) →
-    Changed (Turns (At n GoesDown)) (Turns (DropsAt n links)) (Turns (LosesNode n links)) old.time old new → old.events + 1 < 2 ^ 32 → FitsPlant old → FitsPlant new
+    Changed (Turns (At n GoesDown)) (Turns (DropsAt n links)) (Turned (loses_node n links)) old.time old new → old.events + 1 < 2 ^ 32 → FitsPlant old → FitsPlant new
 gone_down_fits n links old new c few f =
     plant_fits _ _ _ _ old new c f few (time_more old.events old.time f.time) c.of_clocks.0 c.of_spans.0
-    (same_count old.events old.frames new.frames c.of_frames.0 f.frame_count)
     (each_turned (At n GoesDown) (λ n. FitsClock old.events) (λ n. FitsClock (old.events + 1)) old.clocks.items new.clocks.items c.of_clocks
     (λ m x y r k. where_fits (m == n) GoesDown (FitsClock old.events) (FitsClock (old.events + 1)) x y r (down_fits old.events x y) (clock_more old.events x) k) f.clocks)
     (each_turned (DropsAt n links) (λ n. FitsSpan old.events) (λ n. FitsSpan (old.events + 1)) old.spans.items new.spans.items c.of_spans
     (λ m x y r k. where_fits (touches_in n (slice_get links m)) Drops (FitsSpan old.events) (FitsSpan (old.events + 1)) x y r (drop_fits old.events x y) (span_more old.events x) k) f.spans)
-    (each_turned (LosesNode n links) (λ n. FitsDeparted (length old.net.cfg.links.items) old.events) (λ n. FitsDeparted (length old.net.cfg.links.items) (old.events + 1)) old.frames new.frames c.of_frames
-    (λ m x y r k. lost_fits (length old.net.cfg.links.items) old.events (touches_in n (slice_get links x.link)) x y r k) f.frames)
+    (turned_fit (length old.net.cfg.links.items) old.events (loses_node n links) old.frames new.frames c.of_frames
+    (λ i d k. lost_fits (length old.net.cfg.links.items) old.events (is_at_node n links d.link) d (loses_node n links i d) refl k) f.frames)
 
 -- Modules that are put in place
 
@@ -253,10 +278,9 @@ up_fits e off now x y a b r =
     subst (FitsClock (e + 1)) (sym r) (record { off = off_first e off a; ticked = time_more e now b; samples = omega arith })
 
 pub come_up_fits : (n : ℕ) (off : ℤ) (swaps : List Swap) (links : List LinkCfg) (old new : Plant) → unsigned_abs off ≤ 2 ^ 90 →
-    Changed (Turns (At n (ComesUp off old.time))) (Turns (SwapsAt n swaps links)) Same old.time old new → old.events + 1 < 2 ^ 32 → FitsPlant old → FitsPlant new
+    Changed (Turns (At n (ComesUp off old.time))) (Turns (SwapsAt n swaps links)) SameFrames old.time old new → old.events + 1 < 2 ^ 32 → FitsPlant old → FitsPlant new
 come_up_fits n off swaps links old new a c few f =
     plant_fits _ _ _ _ old new c f few (time_more old.events old.time f.time) c.of_clocks.0 c.of_spans.0
-    (same_count old.events old.frames new.frames (ap length c.of_frames) f.frame_count)
     (each_turned (At n (ComesUp off old.time)) (λ n. FitsClock old.events) (λ n. FitsClock (old.events + 1)) old.clocks.items new.clocks.items c.of_clocks
     (λ m x y r k. where_fits (m == n) (ComesUp off old.time) (FitsClock old.events) (FitsClock (old.events + 1)) x y r
     (λ z l. up_fits old.events off old.time x y a f.time z) (clock_more old.events x) k) f.clocks)

@@ -25,8 +25,9 @@ use Rattle.wrp_port.specs.PortAt.{IsStamp}
 use Rattle.wrp_course.specs.declared.event.Event.{Event}
 use Rattle.wrp_course.specs.declared.event.Event.TheVariants.{Tick, Sample, Depart, Deliver, Noise}
 use Rattle.wrp_plant.specs.declared.ends.PutOut.{PutOut}
-use Rattle.wrp_plant.specs.declared.frames.Departed.{Departed}
-use Rattle.wrp_plant.specs.declared.frames.Reception.{Reception}
+use Rattle.wrp_flights.specs.declared.departed.Departed.{Departed}
+use Rattle.wrp_flights.specs.declared.departed.Reception.{Reception}
+use Rattle.wrp_flights.specs.Frames.{at, sent_at}
 use Rattle.wrp_course.specs.declared.place.Place.{Place}
 use Rattle.wrp_plant.specs.declared.plant.Plant.{Plant}
 use Rattle.wrp_plant.specs.declared.plant.giving.listing.Gift.{Gift}
@@ -38,11 +39,13 @@ use Rattle.wrp_plant.specs.Gifts.{GiftIs}
 use Rattle.wrp_course.specs.Given.{delivered, delivered_by, delivered_to, sent_oldest, told_sending}
 use Rattle.wrp_plant.specs.Giving.{Gives, entries_of, listed, put_of, sent_by, sent_first, sent_in}
 use Rattle.wrp_course.specs.Moved.{waiting_at}
-use Rattle.wrp_plant.specs.Plant.{DepartedIs, MaybeIs, PlantIs, PutOutIs, ReceptionIs, frame_numbered}
-use Rattle.wrp_course.specs.Premises.{Accepts, noise_checks}
+use Rattle.wrp_plant.specs.Plant.{DepartedIs, MaybeIs, PlantIs, PutOutIs, ReceptionIs}
+use Rattle.wrp_course.specs.Premises.{Accepts, deliver_by, deliver_checks, noise_checks}
 use Rattle.wrp_course.specs.Setting.{Setting, end_at, place_among, place_of}
 use Rattle.wrp_course.specs.WorldAt.{Arrival, FrameAt, Sending, WorldAt}
-use Rattle.wrp_plant.proofs.FoundFrames.{Found, found, missing, some_no}
+use Rattle.wrp_plant.proofs.FoundFrames.{Found, some_no}
+use Rattle.wrp_plant.proofs.FramesTurned.{found_kept}
+use Rattle.wrp_plant.proofs.Handing.{not_kept, young_since_holds}
 
 -- Ranges
 
@@ -165,23 +168,35 @@ few_entries : (gift : Option Gift) → length (entries_of gift) ≤ 37
 few_entries None = omega arith
 few_entries (Some gift) = omega arith
 
-pub frame_gives : (plant : Plant) (i : ℕ) (d : Departed) (gift : Option Gift) → frame_numbered i plant.frames ≡ Some d →
+pub frame_gives : (plant : Plant) (i : ℕ) (d : Departed) (gift : Option Gift) → at i plant.frames.kept ≡ Some d →
     ((s : Setting) (w : WorldAt) (f : FrameAt) → PlantIs s w plant → DepartedIs f d → AllZip (GiftIs d.sent) (delivered_by s f f.arrival) (entries_of gift)) →
     AllByRecursion (FitsGift plant.net.cfg) (entries_of gift) → Gives plant (Deliver i) (entries_of gift)
 frame_gives plant i d gift e is fits = record {
   gifts = λ s w says set stands said accepted.
-      let it : Found DepartedIs (w.frame i) d = found DepartedIs (w.frame i) (frame_numbered i plant.frames) d (stands.frames.each i) e in
+      let it : Found DepartedIs (w.frame i) d = found_kept plant.frames.horizon (w.frame i) (at i plant.frames.kept) d (stands.frames.each i) e in
+      let put : sent_at i plant.frames.sent ≡ Some d.sent = stands.frames.sent i ∙ ap (option_map (λ f. f.sending.at)) it.is ∙ ap Some (sym it.holds.sent) in
       subst (λ (o : Option FrameAt). AllZip (GiftIs (put_of plant (Deliver i))) (delivered s o) (entries_of gift)) (sym it.is)
-      (subst (λ (o : Option Departed). AllZip (GiftIs (option_map_or (λ x. x.sent) o (pos 0))) (delivered_by s it.one it.one.arrival) (entries_of gift)) (sym e)
+      (subst (λ (o : Option ℤ). AllZip (GiftIs (option_map_or (λ t. t) o (pos 0))) (delivered_by s it.one it.one.arrival) (entries_of gift)) (sym put)
       (is s w it.one stands it.holds));
   inputs = fits;
   few = few_entries gift;
 }
 
-pub no_frame_gives : (plant : Plant) (i : ℕ) → frame_numbered i plant.frames ≡ None → Gives plant (Deliver i) []
+-- none is kept: none is handed over that was put out long ago, and none that is not kept has arrived else
+not_delivered : (s : Setting) (w : WorldAt) (i : ℕ) (put : ℤ) (plant : Plant) (f : FrameAt) (a : Option Arrival) → PlantIs s w plant → at i plant.frames.kept ≡ None → w.frame i ≡ Some f →
+    AllHold (deliver_by s w i f a) → AllZip (GiftIs put) (delivered_by s f a) []
+not_delivered s w i put plant f None stands e k accepted = tt
+not_delivered s w i put plant f (Some a) stands e k accepted =
+    absurd (not_kept s w i plant.frames f stands.frames e k (young_since_holds s w plant.frames.horizon f stands.frames.horizon accepted.0))
+
+none_delivered : (s : Setting) (w : WorldAt) (i : ℕ) (put : ℤ) (plant : Plant) (o : Option FrameAt) → PlantIs s w plant → at i plant.frames.kept ≡ None → w.frame i ≡ o →
+    AllHold (deliver_checks s w i o) → AllZip (GiftIs put) (delivered s o) []
+none_delivered s w i put plant None stands e k accepted = tt
+none_delivered s w i put plant (Some f) stands e k accepted = not_delivered s w i put plant f f.arrival stands e k accepted
+
+pub no_frame_gives : (plant : Plant) (i : ℕ) → at i plant.frames.kept ≡ None → Gives plant (Deliver i) []
 no_frame_gives plant i e = record {
-  gifts = λ s w says set stands said accepted.
-      subst (λ (o : Option FrameAt). AllZip (GiftIs (put_of plant (Deliver i))) (delivered s o) []) (sym (missing DepartedIs (w.frame i) (frame_numbered i plant.frames) (stands.frames.each i) e)) tt;
+  gifts = λ s w says set stands said accepted. none_delivered s w i (put_of plant (Deliver i)) plant (w.frame i) stands e refl accepted;
   inputs = tt;
   few = omega arith;
 }

@@ -1,27 +1,19 @@
 -- What is told of a frame that is kept, and how many are, by the frames that the code has.
-use Rattle.std.proofs.Common.{◌≡◌, ◌∙◌, refl, ap, ap₂, sym, subst, ◌||◌, ℕ, suc, ◌+◌, ℤ, pos, ◌-ℤ◌, Bool, true, false, cond, if◌then◌else◌, List, [], ◌∷◌, length, Option, None, Some, option_map, option_and_then, slice_get, count_by, arith}
-use Rattle.std.specs.Int.Signed.{le_z}
+use Rattle.std.proofs.Common.{◌≡◌, ◌∙◌, refl, ap, ap₂, sym, subst, ◌||◌, ℕ, zero, suc, ◌+◌, ℤ, pos, ◌-ℤ◌, Bool, true, false, cond, if◌then◌else◌, List, [], ◌∷◌, length, Option, None, Some, option_map, option_and_then, count_by, arith}
+use Rattle.std.proofs.lemmas.Int.{ints}
 use Rattle.std.proofs.lemmas.List.Sums.{sum_by-cons}
+use Rattle.std.specs.Int.Signed.{le_z}
+use Rattle.std.specs.Option.{is_some}
 use Rattle.wrp_base.specs.Network.{End}
 use Rattle.wrp_bounds.specs.Times.{frame_life}
-use Rattle.wrp_plant.specs.declared.frames.Departed.{Departed}
-use Rattle.wrp_plant.specs.declared.plant.Plant.{Plant}
-use Rattle.wrp_plant.specs.Kept.{is_kept_at}
-use Rattle.wrp_plant.specs.Plant.{MaybeIs, DepartedIs, FramesAre, PlantIs, frame_numbered}
+use Rattle.wrp_flights.specs.declared.departed.Departed.{Departed}
+use Rattle.wrp_flights.specs.Frames.{FramesAt, at, numbers_from}
+use Rattle.wrp_plant.specs.Plant.{MaybeIs, DepartedIs, FramesAre, is_kept_since, kept_since}
 use Rattle.wrp_course.specs.Setting.{Setting, end_at, from_on}
 use Rattle.wrp_course.specs.Views.{is_kept, kept_count, kept_frame, sender_of}
 use Rattle.wrp_course.specs.WorldAt.{WorldAt, FrameAt, is_on_fibre}
-use Rattle.wrp_plant.proofs.FoundFrames.{Found, found, missing}
-use Rattle.wrp_plant.proofs.NextArrivals.{on_alike}
-
--- a frame is kept where the code says so
-kept_alike : (s : Setting) (w : WorldAt) (f : FrameAt) (d : Departed) → DepartedIs f d → is_kept s w (Some f) ≡ is_kept_at w.time (frame_life s.cfg) d
-kept_alike s w f d h = ap₂ (λ on at. on || le_z (w.time -ℤ at) (pos (frame_life s.cfg))) (on_alike f d h) (sym h.sent)
-
--- the code's time and life are those of the state
-pub same_age : (s : Setting) (w : WorldAt) (plant : Plant) (now : ℤ) (life : ℕ) (d : Departed) → PlantIs s w plant → now ≡ plant.time →
-    life ≡ frame_life plant.net.cfg → is_kept_at now life d ≡ is_kept_at w.time (frame_life s.cfg) d
-same_age s w plant now life d h e f = ap₂ (λ t l. is_kept_at t l d) (e ∙ h.time) (f ∙ ap frame_life h.cfg)
+use Rattle.wrp_plant.proofs.FoundFrames.{Found, found}
+use Rattle.wrp_plant.proofs.FramesTurned.{since_none, since_some}
 
 -- a frame on a fibre is kept
 on_kept : (s : Setting) (w : WorldAt) (o : Option FrameAt) → is_on_fibre o ≡ true → (if is_kept s w o then o else None) ≡ o
@@ -33,29 +25,23 @@ kept_on_fibre s w i e = on_kept s w (w.frame i) e
 
 -- The frame of a number
 
--- it is told exactly where the code says that it is kept
-kept_as : (s : Setting) (w : WorldAt) (o : Option FrameAt) (d : Departed) (b : Bool) → Found DepartedIs o d → is_kept_at w.time (frame_life s.cfg) d ≡ b →
-    (if is_kept s w o then o else None) ≡ (if b then o else None)
-kept_as s w o d b it e = ap (λ k. if k then o else None) (ap (is_kept s w) it.is ∙ kept_alike s w it.one d it.holds ∙ e)
+-- a frame was put out a life ago at most where it was put out at the horizon or later
+pub same_age : (now sent life h : ℤ) → h ≡ now -ℤ life → le_z (now -ℤ sent) life ≡ le_z h sent
+same_age now sent life h e = by_test (le_z (now -ℤ sent) life) (le_z h sent) refl refl where
+  by_test : (a b : Bool) → le_z (now -ℤ sent) life ≡ a → le_z h sent ≡ b → a ≡ b
+  by_test true true f g = refl
+  by_test false false f g = refl
+  by_test true false f g = absurd (omega (arith, ints, e, f, g))
+  by_test false true f g = absurd (omega (arith, ints, e, f, g))
 
-pub kept_found : (s : Setting) (w : WorldAt) (n : ℕ) (frames : List Departed) (d : Departed) → FramesAre w frames → frame_numbered n frames ≡ Some d →
-    is_kept_at w.time (frame_life s.cfg) d ≡ true → MaybeIs DepartedIs (kept_frame s w n) (Some d)
-kept_found s w n frames d h e young =
-    let it : Found DepartedIs (w.frame n) d = found DepartedIs (w.frame n) (frame_numbered n frames) d (h.each n) e in
-    subst (λ o. MaybeIs DepartedIs o (Some d)) (sym (kept_as s w (w.frame n) d true it young))
-    (subst (MaybeIs DepartedIs (w.frame n)) e (h.each n))
+-- the code keeps the frames that the state keeps
+pub kept_since_is : (s : Setting) (w : WorldAt) (h : ℤ) (o : Option FrameAt) → h ≡ w.time -ℤ pos (frame_life s.cfg) → is_kept s w o ≡ is_kept_since h o
+kept_since_is s w h None e = refl
+kept_since_is s w h (Some f) e = ap (λ b. is_on_fibre (Some f) || b) (same_age w.time f.sending.at (pos (frame_life s.cfg)) h e)
 
-pub old_found : (s : Setting) (w : WorldAt) (n : ℕ) (frames : List Departed) (d : Departed) → FramesAre w frames → frame_numbered n frames ≡ Some d →
-    is_kept_at w.time (frame_life s.cfg) d ≡ false → MaybeIs DepartedIs (kept_frame s w n) None
-old_found s w n frames d h e old =
-    let it : Found DepartedIs (w.frame n) d = found DepartedIs (w.frame n) (frame_numbered n frames) d (h.each n) e in
-    subst (λ o. MaybeIs DepartedIs o None) (sym (kept_as s w (w.frame n) d false it old)) tt
-
-pub none_found : (s : Setting) (w : WorldAt) (n : ℕ) (frames : List Departed) → FramesAre w frames → frame_numbered n frames ≡ None →
-    MaybeIs DepartedIs (kept_frame s w n) None
-none_found s w n frames h e =
-    let none : w.frame n ≡ None = missing DepartedIs (w.frame n) (frame_numbered n frames) (h.each n) e in
-    subst (λ o. MaybeIs DepartedIs (if is_kept s w o then o else None) None) (sym none) tt
+pub frame_told : (s : Setting) (w : WorldAt) (n : ℕ) (frames : FramesAt) → FramesAre s w frames → MaybeIs DepartedIs (kept_frame s w n) (at n frames.kept)
+frame_told s w n frames h =
+    subst (λ b. MaybeIs DepartedIs (if b then w.frame n else None) (at n frames.kept)) (sym (kept_since_is s w frames.horizon (w.frame n) h.horizon)) (h.each n)
 
 -- the node and the port at an end
 abbrev pub pair : End → ℕ × ℕ
@@ -71,31 +57,32 @@ sender_told s w n d r h f =
 
 -- How many are kept
 
--- numbers from one on are counted as the things that stand there
-counted : {A : Type 0} (p : ℕ → Bool) (q : A → Bool) (xs : List A) (k : ℕ) → ((i : ℕ) (x : A) → slice_get xs i ≡ Some x → p (k + i) ≡ q x) →
-    count_by p (from_on (length xs) k) ≡ count_by q xs
-counted p q [] k h = refl
-counted p q (x ∷ xs) k h =
-    let here : k + 0 ≡ k = omega arith in
-    sum_by-cons (λ n. cond (p n) 1 0) k (from_on (length xs) (k + 1))
-    ∙ ap₂ (λ b n. cond b 1 0 + n) (ap p (sym here) ∙ h 0 x refl)
-    (counted p q xs (k + 1) (λ i y e. let next : (k + 1) + i ≡ k + suc i = omega arith in ap p next ∙ h (suc i) y e))
-    ∙ sym (sum_by-cons (λ y. cond (q y) 1 0) x xs)
+numbers_are : (n k : ℕ) → numbers_from n k ≡ from_on n k
+numbers_are zero k = refl
+numbers_are (suc n) k = ap (λ (l : List ℕ). k ∷ l) (numbers_are n (k + 1))
 
-kept_numbered : (s : Setting) (w : WorldAt) (frames : List Departed) → FramesAre w frames → (i : ℕ) (d : Departed) → slice_get frames i ≡ Some d →
-    is_kept s w (w.frame (1 + i)) ≡ is_kept_at w.time (frame_life s.cfg) d
-kept_numbered s w frames h i d e =
-    let one_more : 1 + i ≡ suc i = omega arith in
-    let it : Found DepartedIs (w.frame (suc i)) d = found DepartedIs (w.frame (suc i)) (frame_numbered (suc i) frames) d (h.each (suc i)) e in
-    ap (λ n. is_kept s w (w.frame n)) one_more ∙ ap (is_kept s w) it.is ∙ kept_alike s w it.one d it.holds
+counted_alike : (p q : ℕ → Bool) (xs : List ℕ) → ((i : ℕ) → p i ≡ q i) → count_by p xs ≡ count_by q xs
+counted_alike p q [] h = refl
+counted_alike p q (x ∷ xs) h =
+    sum_by-cons (λ n. cond (p n) 1 0) x xs ∙ ap₂ (λ b n. cond b 1 0 + n) (h x) (counted_alike p q xs h) ∙ sym (sum_by-cons (λ n. cond (q n) 1 0) x xs)
 
-kept_counted : (s : Setting) (w : WorldAt) (frames : List Departed) → FramesAre w frames →
-    count_by (is_kept_at w.time (frame_life s.cfg)) frames ≡ kept_count s w
-kept_counted s w frames h =
-    sym (counted (λ i. is_kept s w (w.frame i)) (is_kept_at w.time (frame_life s.cfg)) frames 1 (kept_numbered s w frames h))
-    ∙ ap (λ n. count_by (λ i. is_kept s w (w.frame i)) (from_on n 1)) h.count
+some_alike : (o : Option FrameAt) (q : Option Departed) → MaybeIs DepartedIs o q → is_some q ≡ is_some o
+some_alike None None m = refl
+some_alike None (Some d) m = absurd m
+some_alike (Some f) None m = absurd m
+some_alike (Some f) (Some d) m = refl
 
-pub count_told : (s : Setting) (w : WorldAt) (plant : Plant) (now : ℤ) (life n : ℕ) → PlantIs s w plant → now ≡ plant.time → life ≡ frame_life plant.net.cfg →
-    n ≡ count_by (is_kept_at now life) plant.frames → n ≡ kept_count s w
-count_told s w plant now life n h e f g =
-    g ∙ ap₂ (λ t l. count_by (is_kept_at t l) plant.frames) (e ∙ h.time) (f ∙ ap frame_life h.cfg) ∙ kept_counted s w plant.frames h.frames
+since_told : (h : ℤ) (o : Option FrameAt) → is_some (kept_since h o) ≡ is_kept_since h o
+since_told h None = refl
+since_told h (Some f) = by_test (is_kept_since h (Some f)) refl where
+  by_test : (b : Bool) → is_kept_since h (Some f) ≡ b → is_some (kept_since h (Some f)) ≡ is_kept_since h (Some f)
+  by_test true k = ap is_some (since_some h f k) ∙ sym k
+  by_test false k = ap is_some (since_none h f k) ∙ sym k
+
+pub count_told : (s : Setting) (w : WorldAt) (frames : FramesAt) (n : ℕ) → FramesAre s w frames →
+    n ≡ count_by (λ k. is_some (at k frames.kept)) (numbers_from (length frames.sent) 1) → n ≡ kept_count s w
+count_told s w frames n h e =
+    e ∙ ap (count_by (λ k. is_some (at k frames.kept))) (numbers_are (length frames.sent) 1 ∙ ap (λ m. from_on m 1) h.count)
+    ∙ counted_alike (λ k. is_some (at k frames.kept)) (λ i. is_kept s w (w.frame i)) (from_on w.departed 1) (λ i.
+    some_alike (kept_since frames.horizon (w.frame i)) (at i frames.kept) (h.each i) ∙ since_told frames.horizon (w.frame i)
+    ∙ sym (kept_since_is s w frames.horizon (w.frame i) h.horizon))

@@ -6,6 +6,7 @@ pub mod Departing
 pub mod EachLists
 pub mod Fitting
 pub mod FoundFrames
+pub mod FramesTurned
 pub mod FrameGifts
 pub mod Handing
 pub mod JoinedLinks
@@ -14,9 +15,6 @@ pub mod Listing
 pub mod Moving
 pub mod NewPlants
 pub mod NextArrivals
-pub mod NextDue
-pub mod OnFibre
-pub mod Overtaken
 pub mod Refusals
 pub mod RoomKept
 pub mod Roomy

@@ -1,10 +1,13 @@
 -- A plant before any event stands for the first state of a world.
-use Rattle.std.proofs.Common.{◌≡◌, refl, ap, sym, subst, ℕ, zero, suc, ◌<◌, ℤ, List, [], ◌∷◌, length, Option, None, Some, slice_get, option_and_then, arith}
+use Rattle.std.proofs.Common.{◌≡◌, ◌∙◌, refl, ap, sym, subst, ℕ, zero, suc, ◌<◌, ℤ, pos, ◌-ℤ◌, List, [], ◌∷◌, length, Option, None, Some, slice_get, option_and_then, arith}
+use Rattle.std.proofs.lemmas.Option.{none-some}
 use Rattle.std.specs.Option.{option_map_or}
 use Rattle.wrp_base.specs.declared.link.Module.{Module}
 use Rattle.wrp_base.specs.declared.link.Role.TheVariants.{Master, Slave}
 use Rattle.wrp_base.specs.declared.network.LinkCfg.{LinkCfg}
+use Rattle.wrp_bounds.specs.Times.{frame_life}
 use Rattle.wrp_caldb.specs.Database.{Database, module_at}
+use Rattle.wrp_flights.specs.Frames.{FramesAt, sent_at}
 use Rattle.wrp_course.specs.declared.clocks.ClockState.{ClockState}
 use Rattle.wrp_plant.specs.declared.ends.EndState.{EndState}
 use Rattle.wrp_plant.specs.declared.ends.PutOut.{PutOut}
@@ -12,9 +15,9 @@ use Rattle.wrp_plant.specs.declared.ends.Span.{Span}
 use Rattle.wrp_course.specs.declared.fibres.FibreState.{FibreState}
 use Rattle.wrp_plant.specs.declared.plant.Plant.{Plant}
 use Rattle.wrp_plant.specs.New.{IsNewEnd, IsNewSpan, IsSpanOf, new_clock}
-use Rattle.wrp_plant.specs.Plant.{Each, EndIs, SpanIs, FitsClock, FitsSpan, PlantIs, MaybeIs, DepartedIs, frame_numbered}
+use Rattle.wrp_plant.specs.Plant.{Each, EndIs, SpanIs, FitsClock, FitsSpan, FitsFrames, FramesAre, PlantIs}
 use Rattle.wrp_course.specs.Setting.{Setting, start_of, entry_at}
-use Rattle.wrp_plant.specs.Sizes.{IsTimeBy, IsDelayBy}
+use Rattle.wrp_plant.specs.Sizes.{IsTimeBy, IsDelayBy, IsHorizonBy}
 use Rattle.wrp_course.specs.WorldAt.{new_world, new_end, named_at}
 use Rattle.wrp_plant.proofs.EachLists.{at_place, each_none}
 use Rattle.wrp_plant.proofs.Moving.{emptied_list}
@@ -28,7 +31,7 @@ pub record IsNewPlant (s : Setting) (plant : Plant) : Type 0 where
   pub clocks : Each (λ n clock. clock ≡ new_clock (start_of s)) plant.clocks.items
   pub span_count : length plant.spans.items ≡ length s.cfg.links.items
   pub spans : Each (IsSpanOf s.db s.cfg.links.items) plant.spans.items
-  pub frames : plant.frames ≡ []
+  pub frames : plant.frames ≡ record { horizon = start_of s -ℤ pos (frame_life s.cfg); sent = []; kept = [] }
 
 end_is : (name : List ℕ) (entry : Option Module) (end : EndState) → IsNewEnd name entry end → EndIs (new_end name entry) end
 end_is name entry end h = record {
@@ -62,9 +65,9 @@ span_is s k link span e h = record {
   slave = slave_is s k link span.slave e (subst (λ o. EndIs (new_end link.lower_module.bytes (option_and_then (λ (l : LinkCfg). module_at s.db link.lower_module.bytes l.up_nm l.down_nm) o)) span.slave) (sym e) (end_is link.lower_module.bytes (module_at s.db link.lower_module.bytes link.up_nm link.down_nm) span.slave h.slave));
 }
 
-no_frame : (i : ℕ) → MaybeIs DepartedIs None (frame_numbered i [])
-no_frame zero = tt
-no_frame (suc i) = tt
+none_sent : (i : ℕ) → sent_at i [] ≡ None
+none_sent zero = refl
+none_sent (suc i) = refl
 
 pub new_plant : (s : Setting) (plant : Plant) → IsNewPlant s plant → PlantIs s (new_world s) plant
 new_plant s plant h = record {
@@ -77,10 +80,7 @@ new_plant s plant h = record {
       let at : (link : LinkCfg) × (slice_get s.cfg.links.items k ≡ Some link) =
       place_at s.cfg.links.items k (subst (λ n. k < n) h.span_count (at_place plant.spans.items k span e)) in
       span_is s k at.0 span at.1 (h.spans k span e at.0 at.1);
-  frames = record {
-    count = ap length h.frames;
-    each = λ i. subst (λ fs. MaybeIs DepartedIs None (frame_numbered i fs)) (sym h.frames) (no_frame i);
-  };
+  frames = subst (FramesAre s (new_world s)) (sym h.frames) (record { horizon = refl; count = refl; sent = none_sent; each = λ i. tt });
 }
 
 -- and its numbers are in their ranges
@@ -104,3 +104,14 @@ spans_fit db links spans count each k span e =
     let at : (link : LinkCfg) × (slice_get links k ≡ Some link) =
     place_at links k (subst (λ n. k < n) count (at_place spans k span e)) in
     span_fits db at.0 span (each k span e at.0 at.1)
+
+no_time : (e i : ℕ) (t : ℤ) → sent_at i [] ≡ Some t → IsTimeBy e t
+no_time e i t g = absurd (none-some t (sym (none_sent i) ∙ g))
+
+pub frames_fit : (links : ℕ) (horizon : ℤ) (frames : FramesAt) → frames ≡ record { horizon = horizon; sent = []; kept = [] } → IsHorizonBy 0 horizon → FitsFrames links 0 frames
+frames_fit links horizon frames e h = subst (FitsFrames links 0) (sym e) (record {
+  horizon = h;
+  count = omega arith;
+  sent = λ i t g. no_time 0 i t g;
+  each = λ i d g. absurd (none-some d g);
+})

@@ -6,7 +6,7 @@ use Rattle.wrp_plant.specs.declared.ends.EndState.{EndState}
 use Rattle.wrp_plant.specs.declared.ends.Span.{Span}
 use Rattle.wrp_course.specs.declared.event.Swap.{Swap}
 use Rattle.wrp_course.specs.declared.fibres.FibreState.{FibreState}
-use Rattle.wrp_plant.specs.declared.frames.Departed.{Departed}
+use Rattle.wrp_flights.specs.Frames.{FramesAt}
 use Rattle.wrp_plant.specs.declared.plant.Plant.{Plant}
 use Rattle.wrp_course.specs.Moved.{swap_at}
 use Rattle.wrp_plant.specs.Moves.{Turns, Same, Where, At, Changed, HasFibre, Moves, Joins, Empties, Loses, Cuts, Drops, DropsAt, touches_in, Swapped, SwapsIn, SwapsAt}
@@ -52,7 +52,7 @@ abbrev Clocks : Type 1
 Clocks = List ClockState → List ClockState → Type 0
 
 abbrev Frames : Type 1
-Frames = List Departed → List Departed → Type 0
+Frames = FramesAt → FramesAt → Type 0
 
 pub same_room : (C : Clocks) (F : Frames) (t : ℤ) (old new : Plant) → Changed C Same F t old new → (k : ℕ) → HasRoom k old → HasRoom k new
 same_room C F t old new c k h = subst (Each (λ i. HasSpanRoom k)) (sym c.of_spans) h

@@ -83,7 +83,7 @@ same_is s w old new n t e c f r h = record {
   spans =
       each_turned SameSpan (SpanIs w) (SpanIs w) old.spans.items new.spans.items r
       (λ k x y q p. record { fibre = q.fibre ∙ p.fibre; master = end_is _ x.master y.master q.master p.master; slave = end_is _ x.slave y.slave q.slave p.slave }) h.spans;
-  frames = subst (FramesAre w) (sym f) h.frames;
+  frames = subst (FramesAre s w) (sym f) h.frames;
 }
 
 end_fits : (e : ℕ) (x y : EndState) → SameEnd x y → FitsEnd e x → FitsEnd e y
@@ -108,6 +108,5 @@ same_fits old ys same r f =
       time = f.time;
       clocks = f.clocks;
       spans = each_turned SameSpan (λ n. FitsSpan old.events) (λ n. FitsSpan old.events) old.spans.items ys.spans.items r (λ k x y q p. span_fits old.events k x y q p) f.spans;
-      frame_count = f.frame_count;
       frames = f.frames;
     })

@@ -1,6 +1,6 @@
 -- What a node's step makes of a plant: as of the state that the plant stands for, with numbers in their sizes and memory
 -- for the steps that are left.
-use Rattle.std.proofs.Common.{◌≡◌, ◌∙◌, refl, ap, sym, subst, ℕ, zero, suc, ◌+◌, ◌*◌, ◌==◌, ◌≤◌, ◌<◌, ◌^◌, ◌⊎◌, inl, inr, ℤ, pos, ◌+ℤ◌, ◌*ℤ◌, unsigned_abs, Bool, true, false, if◌then◌else◌, List, [], ◌∷◌, ◌++◌, length, map, Option, None, Some, slice_get, arith, lit<}
+use Rattle.std.proofs.Common.{◌≡◌, ◌∙◌, refl, ap, sym, subst, ℕ, zero, suc, ◌*◌, ◌==◌, ◌≤◌, ◌<◌, ◌^◌, ◌⊎◌, inl, inr, ℤ, pos, ◌+ℤ◌, ◌*ℤ◌, unsigned_abs, Bool, true, false, if◌then◌else◌, List, [], ◌∷◌, ◌++◌, length, map, Option, None, Some, slice_get, arith, lit<}
 use Rattle.std.proofs.Math.Nat.{mul-le-mul}
 use Rattle.std.proofs.lemmas.Int.{unsigned_abs-mul}
 use Rattle.std.proofs.lemmas.Option.{none-some, same_Some}
@@ -23,19 +23,18 @@ use Rattle.wrp_plant.specs.declared.ends.EndState.{EndState}
 use Rattle.wrp_plant.specs.declared.ends.PutOut.{PutOut}
 use Rattle.wrp_plant.specs.declared.ends.Span.{Span}
 use Rattle.wrp_course.specs.declared.fibres.FibreState.{FibreState}
-use Rattle.wrp_plant.specs.declared.frames.Departed.{Departed}
 use Rattle.wrp_plant.specs.declared.plant.Plant.{Plant}
 use Rattle.wrp_plant.specs.declared.plant.told.News.{News}
 use Rattle.wrp_course.proofs.DroppedFrames.{still}
 use Rattle.wrp_plant.proofs.RoomKept.{where_room}
 use Rattle.wrp_course.specs.Given.{Given, clock_told, stepped_by, ticked_by}
 use Rattle.wrp_plant.specs.Moves.{Where, At}
-use Rattle.wrp_plant.specs.Plant.{Each, FitsClock, FitsEnd, FitsPlant, FitsSpan, FramesAre, PlantIs, SpanIs}
+use Rattle.wrp_plant.specs.Plant.{Each, FitsClock, FitsEnd, FitsFrames, FitsPlant, FitsSpan, FramesAre, PlantIs, SpanIs}
 use Rattle.wrp_plant.specs.PlantTold.{IsStepOf, MayStep, Steps, Told, TellsIn, TellsPort, TellsAt, cycles_in, put_at}
 use Rattle.wrp_course.specs.Setting.{Setting}
 use Rattle.wrp_plant.specs.Sizes.{IsDelayBy, IsOffBy, IsTimeBy}
 use Rattle.wrp_course.specs.WorldAt.{WorldAt}
-use Rattle.wrp_plant.proofs.Fitting.{FramesFit, abs_sum}
+use Rattle.wrp_plant.proofs.Fitting.{abs_sum}
 use Rattle.wrp_plant.proofs.Turned.{each_turned}
 use Rattle.wrp_plant.proofs.TellingEnds.{span_is}
 
@@ -87,7 +86,7 @@ told_is s v g taken step news outs old new c h q = record {
       let j = span_is s v g step news outs old.time (slice_get s.cfg.links.items k) (v.fibre k) _ _ x y h.time q.node q.by (q.ports k)
       (subst (λ (n : NetCfg). TellsIn old.time news outs (slice_get n.links.items k) x y) h.cfg r) e.fibre e.master e.slave in
       record { fibre = j.0; master = j.1; slave = j.2 }) h.spans;
-  frames = subst (λ (l : List Departed). FramesAre (stepped_by s v g taken step) l) (sym c.of_frames) (record { count = h.frames.count; each = h.frames.each });
+  frames = subst (FramesAre s (stepped_by s v g taken step)) (sym c.of_frames) (record { horizon = h.frames.horizon; count = h.frames.count; sent = h.frames.sent; each = h.frames.each });
 }
 
 -- Sizes
@@ -175,8 +174,7 @@ told_fits news outs old new c m f = record {
       subst (λ e. Each (λ n. FitsSpan e) new.spans.items) (sym c.count)
       (each_turned (TellsAt old.time news outs old.net.cfg.links.items) (λ n. FitsSpan old.events) (λ n. FitsSpan old.events) old.spans.items new.spans.items c.of_spans
       (λ k x y r h. span_fits old.events old.time news outs (slice_get old.net.cfg.links.items k) x y f.time r h) f.spans);
-  frame_count = subst (λ n. length new.frames ≤ n) (sym c.count) (subst (λ (l : List Departed). length l ≤ old.events) (sym c.of_frames) f.frame_count);
   frames =
-      subst (λ (g : NetCfg). FramesFit (length g.links.items) new.events new.frames) (sym c.cfg)
-      (subst (λ n. FramesFit (length old.net.cfg.links.items) n new.frames) (sym c.count) (subst (FramesFit (length old.net.cfg.links.items) old.events) (sym c.of_frames) f.frames));
+      subst (λ (g : NetCfg). FitsFrames (length g.links.items) new.events new.frames) (sym c.cfg)
+      (subst (λ n. FitsFrames (length old.net.cfg.links.items) n new.frames) (sym c.count) (subst (FitsFrames (length old.net.cfg.links.items) old.events) (sym c.of_frames) f.frames));
 }

@@ -11,18 +11,20 @@ use Rattle.wrp_course.specs.Checks.{Check, told_of, at_most, not_sent, size_of, 
 use Rattle.wrp_course.specs.declared.breach.Breach.{Breach}
 use Rattle.wrp_plant.specs.declared.ends.PutOut.{PutOut}
 use Rattle.wrp_plant.specs.declared.ends.Span.{Span}
-use Rattle.wrp_plant.specs.declared.frames.Departed.{Departed}
+use Rattle.wrp_flights.specs.declared.departed.Departed.{Departed}
+use Rattle.wrp_flights.specs.Departed.{is_on}
+use Rattle.wrp_flights.specs.Frames.{FramesAt, at}
 use Rattle.wrp_course.specs.declared.place.Place.{Place}
 use Rattle.wrp_course.specs.Moved.{waiting_at}
-use Rattle.wrp_plant.specs.Plant.{DepartedIs, Each, EndIs, FitsEnd, FitsSpan, FramesAre, PutOutIs, SpanIs, end_in, frame_numbered, is_on}
+use Rattle.wrp_plant.specs.Plant.{DepartedIs, Each, EndIs, FitsEnd, FitsSpan, FramesAre, PutOutIs, SpanIs, end_in}
 use Rattle.wrp_course.specs.Premises.{arrive_checks, depart_checks, raw_checks, received, received_at, transition_of}
 use Rattle.wrp_course.specs.Setting.{Setting, end_at, entry_at, of_node, place_of}
 use Rattle.wrp_plant.specs.Sizes.{IsTime, IsTimeBy}
 use Rattle.wrp_plant.specs.Tried.{departs_by, received_to}
 use Rattle.wrp_course.specs.Views.{oldest_of}
 use Rattle.wrp_course.specs.WorldAt.{FrameAt, Sending, WorldAt, has_carrier, is_on_fibre, reading}
-use Rattle.wrp_plant.proofs.FoundFrames.{Found, found, missing}
-use Rattle.wrp_plant.proofs.NextArrivals.{on_alike}
+use Rattle.wrp_plant.proofs.FoundFrames.{Found}
+use Rattle.wrp_plant.proofs.FramesTurned.{found_kept, none_on, on_alike}
 use Rattle.wrp_plant.proofs.Sizing.{time_size}
 use Rattle.wrp_plant.proofs.Standing.{end_told}
 use Rattle.wrp_plant.proofs.Counting.{told_middle}
@@ -115,15 +117,15 @@ pub landed_told : (s : Setting) (w : WorldAt) (i : ℕ) (raw : Raw) (f : FrameAt
 landed_told s w i raw f d r h on e = e ∙ ap (λ b. told_of (arrive_checks s w i raw b (Some f))) (sym on ∙ sym (on_alike f d h))
 
 -- by the number of the frame
-pub arrival_told : (s : Setting) (w : WorldAt) (i : ℕ) (raw : Raw) (frames : List Departed) (d : Departed) (r : Option Breach) → FramesAre w frames →
-    frame_numbered i frames ≡ Some d → ((f : FrameAt) → DepartedIs f d → r ≡ told_of (arrive_checks s w i raw (is_on_fibre (Some f)) (Some f))) →
+pub arrival_told : (s : Setting) (w : WorldAt) (i : ℕ) (raw : Raw) (frames : FramesAt) (d : Departed) (r : Option Breach) → FramesAre s w frames →
+    at i frames.kept ≡ Some d → ((f : FrameAt) → DepartedIs f d → r ≡ told_of (arrive_checks s w i raw (is_on_fibre (Some f)) (Some f))) →
     r ≡ told_of (arrive_checks s w i raw (is_on_fibre (w.frame i)) (w.frame i))
 arrival_told s w i raw frames d r h e told =
-    let it : Found DepartedIs (w.frame i) d = found DepartedIs (w.frame i) (frame_numbered i frames) d (h.each i) e in
+    let it : Found DepartedIs (w.frame i) d = found_kept frames.horizon (w.frame i) (at i frames.kept) d (h.each i) e in
     told it.one it.holds ∙ sym (ap (λ o. told_of (arrive_checks s w i raw (is_on_fibre o) o)) it.is)
 
-pub no_arrival_told : (s : Setting) (w : WorldAt) (i : ℕ) (raw : Raw) (frames : List Departed) (r : Option Breach) → FramesAre w frames →
-    frame_numbered i frames ≡ None → r ≡ told_of (not_sent i w.departed ∷ []) →
+pub no_arrival_told : (s : Setting) (w : WorldAt) (i : ℕ) (raw : Raw) (frames : FramesAt) (r : Option Breach) → FramesAre s w frames →
+    at i frames.kept ≡ None → r ≡ told_of (not_sent i w.departed ∷ []) →
     r ≡ told_of (arrive_checks s w i raw (is_on_fibre (w.frame i)) (w.frame i))
 no_arrival_told s w i raw frames r h e told =
-    told ∙ sym (ap (λ o. told_of (arrive_checks s w i raw (is_on_fibre o) o)) (missing DepartedIs (w.frame i) (frame_numbered i frames) (h.each i) e))
+    told ∙ sym (ap (λ b. told_of (arrive_checks s w i raw b (w.frame i))) (none_on frames.horizon (w.frame i) (at i frames.kept) (h.each i) e))

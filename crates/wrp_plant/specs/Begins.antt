@@ -7,6 +7,7 @@ use Rattle.wrp_node.specs.Set.{set_of}
 use Rattle.wrp_course.specs.declared.event.Event.{Event}
 use Rattle.wrp_course.specs.declared.node_out.NodeOut.{NodeOut}
 use Rattle.wrp_plant.specs.declared.plant.Plant.{Plant}
+use Rattle.wrp_plant.specs.Changes.{MayMove}
 use Rattle.wrp_plant.specs.Gifts.{AreGifts}
 use Rattle.wrp_course.specs.Moved.{moved}
 use Rattle.wrp_plant.specs.Plant.{PlantIs}
@@ -23,7 +24,7 @@ ListsGifts plant e put outs =
     IsSaid e says → Accepts s w says e → AreGifts s w says e put outs
 
 abbrev pub MovesBy : Event → (old new : Plant) → Type 0
-MovesBy e old new = (s : Setting) (w : WorldAt) → PlantIs s w old → PlantIs s (moved s w e) new
+MovesBy e old new = (s : Setting) (w : WorldAt) → MayMove w e → PlantIs s w old → PlantIs s (moved s w e) new
 
 abbrev pub StaysAsWas : (old new : Plant) → Type 0
 StaysAsWas old new = (s : Setting) (w : WorldAt) → PlantIs s w old → PlantIs s w new

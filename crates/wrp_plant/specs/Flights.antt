@@ -1,15 +1,14 @@
 -- What a departure and an arrival do to the parts of a plant as the code keeps them (this project's profile).
-use Rattle.std.specs.Prelude.{◌≡◌, ◌≤◌, ◌==◌, ◌||◌, ◌&&◌, ◌+ℤ◌, ◌++◌, nat_lt, ℕ, ℤ, suc, if◌then◌else◌, List, [], ◌∷◌, Option, None, Some, false, drop, option_to_list, vec_len, vec_capacity}
+use Rattle.std.specs.Prelude.{◌≡◌, ◌≤◌, ◌+ℤ◌, ℤ, List, [], ◌∷◌, Option, None, Some, false, drop, vec_len, vec_capacity}
 use Rattle.wrp_base.specs.declared.link.Role.{Role}
 use Rattle.wrp_base.specs.declared.link.Role.TheVariants.{Master, Slave}
 use Rattle.wrp_plant.specs.declared.ends.EndState.{EndState}
 use Rattle.wrp_plant.specs.declared.ends.PutOut.{PutOut}
 use Rattle.wrp_plant.specs.declared.ends.Span.{Span}
-use Rattle.wrp_plant.specs.declared.frames.Departed.{Departed}
-use Rattle.wrp_plant.specs.declared.frames.Reception.{Reception}
+use Rattle.wrp_flights.specs.declared.departed.Departed.{Departed}
 use Rattle.wrp_course.specs.declared.place.Place.{Place}
 use Rattle.wrp_plant.specs.Moves.{Where}
-use Rattle.wrp_plant.specs.Plant.{is_on, down_in, up_in}
+use Rattle.wrp_plant.specs.Plant.{down_in, up_in}
 use Rattle.wrp_course.specs.Setting.{is_role}
 use Rattle.wrp_course.specs.WorldAt.{WorldAt, FrameAt, Sending, delay_from}
 
@@ -18,24 +17,6 @@ use Rattle.wrp_course.specs.WorldAt.{WorldAt, FrameAt, Sending, delay_from}
 -- the end that sent a frame
 abbrev pub from_of : Departed → Place
 from_of d = record { link = d.link; role = d.by }
-
--- frame i as frame j, which was sent from this end, arrives: the older ones that are on its fibre are lost
-abbrev pub overtaken : (j : ℕ) → Place → Reception → ℕ → Departed → Departed
-overtaken j from reception i d =
-    if i == j then record d { arrival = Some reception }
-    else record d { gone = d.gone || (is_on d && (nat_lt i j && ((d.link == from.link) && is_role d.by from.role))) }
-
-abbrev pub Arrives : (j : ℕ) → Place → Reception → ℕ → (old new : Departed) → Type 0
-Arrives j from reception k old new = new ≡ overtaken j from reception (suc k) old
-
--- a frame from this end with a lower number than j is lost where it is on the fibre
-abbrev pub Overtakes : (j : ℕ) → Place → ℕ → (old new : Departed) → Type 0
-Overtakes j from k old new =
-    new ≡ record old { gone = old.gone || (is_on old && (nat_lt (suc k) j && ((old.link == from.link) && is_role old.by from.role))) }
-
--- frame j has this arrival, and another is as it was
-abbrev pub Receives : (j : ℕ) → Reception → ℕ → (old new : Departed) → Type 0
-Receives j reception k old new = new ≡ (if suc k == j then record old { arrival = Some reception } else old)
 
 -- A departure
 
@@ -86,7 +67,3 @@ leaving w place stamp (oldest ∷ rest) = Some (record {
   arrival = None;
   gone = false;
 })
-
--- a frame more, if there is one
-abbrev pub Grows : Option Departed → (old new : List Departed) → Type 0
-Grows frame old new = new ≡ old ++ option_to_list frame

@@ -24,7 +24,8 @@ use Rattle.wrp_plant.specs.FitsGifts.{FitsGift}
 use Rattle.wrp_plant.specs.Gifts.{AreGifts, GiftIs}
 use Rattle.wrp_course.specs.Given.{Given, given_plain, if_carried}
 use Rattle.wrp_course.specs.Moved.{moved, swap_at}
-use Rattle.wrp_plant.specs.Plant.{PlantIs, frame_numbered}
+use Rattle.wrp_flights.specs.Frames.{sent_at}
+use Rattle.wrp_plant.specs.Plant.{PlantIs}
 use Rattle.wrp_course.specs.Premises.{Accepts}
 use Rattle.wrp_course.specs.Run.{IsSaid}
 use Rattle.wrp_course.specs.Setting.{Setting, end_at, entry_at, place_of}
@@ -32,7 +33,7 @@ use Rattle.wrp_course.specs.WorldAt.{Sending, WorldAt}
 
 -- when the frame that an event hands over was put out, in true time; 0 where it hands over none
 abbrev pub put_of : Plant → Event → ℤ
-put_of plant (Deliver i) = option_map_or (λ d. d.sent) (frame_numbered i plant.frames) (pos 0)
+put_of plant (Deliver i) = option_map_or (λ t. t) (sent_at i plant.frames.sent) (pos 0)
 put_of plant _ = pos 0
 
 -- Entries

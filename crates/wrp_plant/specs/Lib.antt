@@ -4,10 +4,8 @@ pub mod FitsGifts
 pub mod Flights
 pub mod Gifts
 pub mod Giving
-pub mod Kept
 pub mod Moves
 pub mod New
-pub mod OnFibre
 pub mod Plant
 pub mod PlantTold
 pub mod Room

@@ -1,5 +1,5 @@
 -- What an event does to the parts of a plant as the code keeps them (this project's profile).
-use Rattle.std.specs.Prelude.{◌≡◌, ◌+◌, ◌==◌, ◌||◌, ◌&&◌, ◌≤◌, ◌+ℤ◌, ◌^◌, ℕ, ℤ, Bool, true, false, unsigned_abs, List, [], length, Option, None, Some, option_map, slice_get, vec_len, vec_capacity}
+use Rattle.std.specs.Prelude.{◌≡◌, ◌+◌, ◌==◌, ◌||◌, ◌≤◌, ◌+ℤ◌, ◌^◌, ℕ, ℤ, Bool, true, false, unsigned_abs, List, [], length, Option, None, Some, option_map, slice_get, vec_len, vec_capacity}
 use Rattle.wrp_base.specs.declared.link.Role.TheVariants.{Master, Slave}
 use Rattle.wrp_base.specs.declared.network.LinkCfg.{LinkCfg}
 use Rattle.wrp_course.specs.declared.clocks.ClockState.{ClockState}
@@ -7,10 +7,9 @@ use Rattle.wrp_plant.specs.declared.ends.EndState.{EndState}
 use Rattle.wrp_plant.specs.declared.ends.Span.{Span}
 use Rattle.wrp_course.specs.declared.event.Swap.{Swap}
 use Rattle.wrp_course.specs.declared.fibres.FibreState.{FibreState}
-use Rattle.wrp_plant.specs.declared.frames.Departed.{Departed}
+use Rattle.wrp_flights.specs.Frames.{FramesAt}
 use Rattle.wrp_plant.specs.declared.plant.Plant.{Plant}
 use Rattle.wrp_course.specs.Moved.{drift_of, move_of, swap_at}
-use Rattle.wrp_plant.specs.Plant.{is_on}
 use Rattle.wrp_course.specs.Setting.{end_of, is_of}
 
 -- each of a list became what stands at its place: from what it was, by its number
@@ -117,25 +116,16 @@ SwapsIn n swaps (Some link) old new = SwapsSpan n link swaps old new
 abbrev pub SwapsAt : ℕ → List Swap → List LinkCfg → ℕ → (old new : Span) → Type 0
 SwapsAt n swaps links k old new = SwapsIn n swaps (slice_get links k) old new
 
--- Frames
-
--- a frame that is lost where it is on a fibre
-abbrev pub lost : Bool → Departed → Departed
-lost loses d = record d { gone = d.gone || (loses && is_on d) }
-
-abbrev pub LosesLink : ℕ → ℕ → (old new : Departed) → Type 0
-LosesLink k i old new = new ≡ lost (old.link == k) old
-
-abbrev pub LosesNode : ℕ → List LinkCfg → ℕ → (old new : Departed) → Type 0
-LosesNode n links i old new = new ≡ lost (touches_in n (slice_get links old.link)) old
-
 -- All parts
 
 abbrev pub Same : {A : Type 0} → (old new : List A) → Type 0
 Same old new = new ≡ old
 
+abbrev pub SameFrames : (old new : FramesAt) → Type 0
+SameFrames old new = new ≡ old
+
 -- an event changed the clocks, the links and the frames of a plant so, and made the time this one
-pub record Changed (clocks : List ClockState → List ClockState → Type 0) (spans : List Span → List Span → Type 0) (frames : List Departed → List Departed → Type 0) (now : ℤ) (old new : Plant) : Type 0 where
+pub record Changed (clocks : List ClockState → List ClockState → Type 0) (spans : List Span → List Span → Type 0) (frames : FramesAt → FramesAt → Type 0) (now : ℤ) (old new : Plant) : Type 0 where
   pub cfg : new.net.cfg ≡ old.net.cfg
   pub db : new.net.db ≡ old.net.db
   pub time : new.time ≡ now

@@ -1,24 +1,25 @@
 -- All of a world but its nodes, as the code keeps it, and the state that it stands for (this project's profile).
-use Rattle.std.specs.Prelude.{◌≡◌, ◌<◌, ◌≤◌, ◌+◌, ◌^◌, ◌+ℤ◌, ℕ, zero, suc, ℤ, pos, Bool, true, false, if◌then◌else◌, List, [], ◌∷◌, length, reverse, Option, None, Some, IfSome, slice_get}
-use Rattle.std.specs.Int.Signed.{lt_z}
+use Rattle.std.specs.Prelude.{◌≡◌, ◌<◌, ◌≤◌, ◌^◌, ◌||◌, ◌+ℤ◌, ◌-ℤ◌, ℕ, ℤ, pos, Bool, false, if◌then◌else◌, List, length, reverse, Option, None, Some, IfSome, option_map, slice_get}
+use Rattle.std.specs.Int.Signed.{le_z}
 use Rattle.std.specs.List.{AllZip}
-use Rattle.std.specs.Option.{is_some}
 use Rattle.wrp_base.specs.declared.link.Role.{Role}
 use Rattle.wrp_base.specs.declared.link.Role.TheVariants.{Master, Slave}
+use Rattle.wrp_bounds.specs.Times.{frame_life}
 use Rattle.wrp_config.specs.Accepted.{IsAccepted}
+use Rattle.wrp_flights.specs.declared.departed.Departed.{Departed}
+use Rattle.wrp_flights.specs.declared.departed.Reception.{Reception}
+use Rattle.wrp_flights.specs.Frames.{FramesAt, at, sent_at}
 use Rattle.wrp_frame.specs.Grammar.{Spells}
 use Rattle.wrp_frame.specs.SentOctets.{octets_of}
 use Rattle.wrp_course.specs.declared.clocks.ClockState.{ClockState}
 use Rattle.wrp_plant.specs.declared.ends.EndState.{EndState}
 use Rattle.wrp_plant.specs.declared.ends.PutOut.{PutOut}
 use Rattle.wrp_plant.specs.declared.ends.Span.{Span}
-use Rattle.wrp_plant.specs.declared.frames.Departed.{Departed}
-use Rattle.wrp_plant.specs.declared.frames.Reception.{Reception}
 use Rattle.wrp_plant.specs.declared.plant.Plant.{Plant}
 use Rattle.wrp_course.specs.EventAt.{IsRaw}
 use Rattle.wrp_course.specs.Setting.{Setting}
-use Rattle.wrp_plant.specs.Sizes.{IsTimeBy, IsOffBy, IsDelayBy, IsDueBy}
-use Rattle.wrp_course.specs.WorldAt.{WorldAt, EndAt, FrameAt, Arrival, Sending}
+use Rattle.wrp_plant.specs.Sizes.{IsTimeBy, IsHorizonBy, IsOffBy, IsDelayBy, IsDueBy}
+use Rattle.wrp_course.specs.WorldAt.{WorldAt, EndAt, FrameAt, Arrival, Sending, is_on_fibre}
 
 -- Lists that stand for functions of numbers
 
@@ -78,14 +79,21 @@ pub record DepartedIs (f : FrameAt) (d : Departed) : Type 0 where
   pub arrival : MaybeIs ReceptionIs f.arrival d.arrival
   pub gone : d.gone ≡ f.gone
 
--- the frame of a number: they are counted from 1
-abbrev pub frame_numbered : ℕ → List Departed → Option Departed
-frame_numbered zero frames = None
-frame_numbered (suc i) frames = slice_get frames i
+-- a frame of the state that is on a fibre, or was put out at this time or later
+abbrev pub is_kept_since : (horizon : ℤ) → Option FrameAt → Bool
+is_kept_since horizon None = false
+is_kept_since horizon (Some f) = is_on_fibre (Some f) || le_z horizon f.sending.at
 
-pub record FramesAre (w : WorldAt) (frames : List Departed) : Type 0 where
-  pub count : length frames ≡ w.departed
-  pub each : (i : ℕ) → MaybeIs DepartedIs (w.frame i) (frame_numbered i frames)
+abbrev pub kept_since : (horizon : ℤ) → Option FrameAt → Option FrameAt
+kept_since horizon o = if is_kept_since horizon o then o else None
+
+-- of all frames of the state it is known when they were put out, and those are kept that are on a fibre or were put out
+-- a life ago at most
+pub record FramesAre (s : Setting) (w : WorldAt) (frames : FramesAt) : Type 0 where
+  pub horizon : frames.horizon ≡ w.time -ℤ pos (frame_life s.cfg)
+  pub count : length frames.sent ≡ w.departed
+  pub sent : (i : ℕ) → sent_at i frames.sent ≡ option_map (λ f. f.sending.at) (w.frame i)
+  pub each : (i : ℕ) → MaybeIs DepartedIs (kept_since frames.horizon (w.frame i)) (at i frames.kept)
 
 -- all of a world but its nodes stands for this state of a world with this setting
 pub record PlantIs (s : Setting) (w : WorldAt) (plant : Plant) : Type 0 where
@@ -95,7 +103,7 @@ pub record PlantIs (s : Setting) (w : WorldAt) (plant : Plant) : Type 0 where
   pub count : plant.events ≡ w.count
   pub clocks : Each (λ n clock. clock ≡ w.clock n) plant.clocks.items
   pub spans : Each (SpanIs w) plant.spans.items
-  pub frames : FramesAre w plant.frames
+  pub frames : FramesAre s w plant.frames
 
 -- What a plant keeps
 
@@ -120,6 +128,12 @@ pub record FitsDeparted (links events : ℕ) (d : Departed) : Type 0 where
   pub due : IsDueBy events d.due
   pub raw : IfSome d.arrival (λ reception. IsRaw reception.raw)
 
+pub record FitsFrames (links events : ℕ) (frames : FramesAt) : Type 0 where
+  pub horizon : IsHorizonBy events frames.horizon
+  pub count : length frames.sent ≤ events
+  pub sent : (i : ℕ) (t : ℤ) → sent_at i frames.sent ≡ Some t → IsTimeBy events t
+  pub each : (i : ℕ) (d : Departed) → at i frames.kept ≡ Some d → FitsDeparted links events d
+
 -- an accepted network, a clock for each node, a state for each link, and numbers in their ranges
 pub record FitsPlant (plant : Plant) : Type 0 where
   pub accepted : IsAccepted plant.net.cfg plant.net.db
@@ -129,24 +143,4 @@ pub record FitsPlant (plant : Plant) : Type 0 where
   pub time : IsTimeBy plant.events plant.time
   pub clocks : Each (λ n. FitsClock plant.events) plant.clocks.items
   pub spans : Each (λ k. FitsSpan plant.events) plant.spans.items
-  pub frame_count : length plant.frames ≤ plant.events
-  pub frames : Each (λ i. FitsDeparted (length plant.net.cfg.links.items) plant.events) plant.frames
-
--- The frame that is due first
-
--- a frame is on a fibre
-abbrev pub is_on : Departed → Bool
-is_on d = if d.gone then false else (if is_some d.arrival then false else true)
-
--- the sooner one: of a frame that is due, and of the next one
-abbrev pub before : Option (ℕ × ℤ) → (i : ℕ) → ℤ → Option (ℕ × ℤ)
-before None i due = Some (i, due)
-before (Some next) i due = if lt_z due next.1 then Some (i, due) else Some next
-
-abbrev pub sooner : Option (ℕ × ℤ) → ℕ → Departed → Option (ℕ × ℤ)
-sooner next i d = if is_on d then before next i d.due else next
-
--- the first that is due among these frames, of which the first has this number
-abbrev pub next_from : ℕ → List Departed → Option (ℕ × ℤ) → Option (ℕ × ℤ)
-next_from i [] next = next
-next_from i (d ∷ frames) next = next_from (i + 1) frames (sooner next i d)
+  pub frames : FitsFrames (length plant.net.cfg.links.items) plant.events plant.frames

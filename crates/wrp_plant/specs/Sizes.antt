@@ -22,6 +22,10 @@ IsReading reading = unsigned_abs reading ≤ 2 ^ 125
 abbrev pub IsTimeBy : ℕ → ℤ → Type 0
 IsTimeBy events t = unsigned_abs t ≤ 2 ^ 92 + 2 ^ 63 * events
 
+-- a true time less the life of a frame
+abbrev pub IsHorizonBy : ℕ → ℤ → Type 0
+IsHorizonBy events t = unsigned_abs t ≤ 2 ^ 93 + 2 ^ 63 * events
+
 abbrev pub IsOffBy : ℕ → ℤ → Type 0
 IsOffBy events off = unsigned_abs off ≤ 2 ^ 92 * (events + 1)
 

@@ -111,13 +111,6 @@ pub fn frame_life(cfg: &NetCfg) -> Tau
     tau_of_ns(cfg.life_ns)
 }
 
-/// The life of a frame, without a sign: for every network, whatever its numbers are.
-pub fn life_of(cfg: &NetCfg) -> u128
-    ensures { result ≡ times.frame_life cfg.now }
-{
-    TAU_OF_NS * u128::from(cfg.life_ns.unsigned_abs())
-}
-
 /// The greatest one-way delay.
 pub fn reach(cfg: &NetCfg) -> Tau
     requires { HasRanges cfg.now }

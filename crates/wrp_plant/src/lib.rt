@@ -5,7 +5,6 @@
 
 mod checks;
 mod ends;
-mod frames;
 mod plant;
 mod premises;
 

@@ -12,10 +12,10 @@ mod tries;
 mod views;
 
 use crate::ends::Span;
-use crate::frames::Frames;
 use wrp_base::Tau;
 use wrp_config::Network;
 use wrp_course::ClockState;
+use wrp_flights::Frames;
 
 /// All of a world but its nodes.
 #[derive(Debug, Drop)]

@@ -1,5 +1,6 @@
 -- An event is taken: it keeps all premises, it changes the world by itself, and the nodes take what it gives.
 use Rattle.std.proofs.Common.{◌≡◌, ◌∙◌, refl, ap, sym, subst, ℕ, ◌+◌, ◌≤◌, ℤ, Bool, true, false, if◌then◌else◌, List, [], ◌∷◌, ◌++◌, flat_map, Option, None, Some, option_map, ◌≢◌, Result, Err, IfErr, arith}
+use Rattle.std.proofs.lemmas.Bool.{true≢false}
 use Rattle.std.specs.List.{AllByRecursion, AllZip}
 use Rattle.std.specs.Option.{option_map_or}
 use Rattle.std.specs.declared.alloc.AllocError.{AllocError}
@@ -9,6 +10,7 @@ use Rattle.wrp_base.specs.declared.link.Role.TheVariants.{Master}
 use Rattle.wrp_base.specs.declared.message.Body.{Body}
 use Rattle.wrp_base.specs.declared.message.Body.TheVariants.{Sync, DelayReq, FollowUp, DelayResp, Announce, Signal}
 use Rattle.wrp_base.specs.declared.message.PtpMsg.{PtpMsg}
+use Rattle.wrp_base.specs.declared.time.Raw.{Raw}
 use Rattle.wrp_base.specs.Network.{End, node_count, other_of}
 use Rattle.wrp_config.specs.declared.network.Network.{Network}
 use Rattle.wrp_frame.specs.declared.fault.FrameFault.{FrameFault}
@@ -16,8 +18,8 @@ use Rattle.wrp_node.specs.declared.interface.Input.TheVariants.{Carrier}
 use Rattle.wrp_node.specs.NodeAt.{numbers_of}
 use Rattle.wrp_node.specs.StandsFor.{NodeOf}
 use Rattle.wrp_plant.specs.Begins.{ListsGifts, MovesBy, StaysAsWas}
-use Rattle.wrp_plant.specs.Changes.{MayStepAfter}
-use Rattle.wrp_course.specs.Checks.{Check, breach_of, first_broken, told_of}
+use Rattle.wrp_plant.specs.Changes.{MayMove, MayStepAfter}
+use Rattle.wrp_course.specs.Checks.{AllHold, Check, breach_of, first_broken, told_of}
 use Rattle.wrp_course.specs.declared.breach.Breach.{Breach}
 use Rattle.wrp_course.specs.declared.event.Event.{Event}
 use Rattle.wrp_course.specs.declared.event.Event.TheVariants.{Pass, Tick, Sample, Depart, Arrive, Deliver, Noise, Down, Up, Cut, Join}
@@ -31,14 +33,14 @@ use Rattle.wrp_course.specs.Given.{Given, comes_at, comes_from, delivered, deliv
 use Rattle.wrp_course.specs.Moved.{moved, waiting_at}
 use Rattle.wrp_plant.specs.Plant.{Each, FitsPlant}
 use Rattle.wrp_plant.specs.PlantTold.{NoneStepped}
-use Rattle.wrp_course.specs.Premises.{Accepts, checks_of}
+use Rattle.wrp_course.specs.Premises.{Accepts, arrive_checks, checks_of}
 use Rattle.wrp_course.specs.Run.{IsSaid}
 use Rattle.wrp_course.specs.Setting.{Setting, end_at, entry_at, place_of}
 use Rattle.wrp_world.specs.StandsFor.{IsValid, NodeIs, StandsFor, WorldOf}
 use Rattle.wrp_world.specs.Step.{IsRefusal, StaysSo, Stepped}
 use Rattle.wrp_world.specs.Taking.{Asks, FirstAsks, GaveAll, HasTicks, is_plain}
 use Rattle.wrp_world.specs.Step.{TellsBreach}
-use Rattle.wrp_course.specs.WorldAt.{Arrival, FrameAt, Sending, WorldAt, has_carrier}
+use Rattle.wrp_course.specs.WorldAt.{Arrival, FrameAt, Sending, WorldAt, has_carrier, is_on_fibre}
 use Rattle.wrp_world.proofs.AllTake.{plain_asks}
 use Rattle.wrp_world.proofs.Inside.{world_of}
 use Rattle.wrp_course.proofs.Unbroken.{accepted_is_unbroken, none_is}
@@ -181,11 +183,31 @@ one_later t e f h k = omega (arith, h, k)
 no_sooner : (t e f : ℕ) → f ≡ e + 1 → t ≤ e → t ≤ f
 no_sooner t e f h k = omega (arith, h, k)
 
-pub begun_stands : {F : Type 0} (post : F → ℤ → ℤ → Type 0) (e : Event) (old : WorldOf F) (plant : Plant) → MovesBy e old.plant plant → (s : Setting) (w : WorldAt) → StandsFor post s w old →
+-- a frame of which all checks of its arrival hold is on a fibre
+arrives_on : (s : Setting) (w : WorldAt) (i : ℕ) (raw : Raw) (on : Bool) (o : Option FrameAt) → AllHold (arrive_checks s w i raw on o) → on ≡ true
+arrives_on s w i raw true o h = refl
+arrives_on s w i raw false o h = absurd (true≢false h.0)
+
+-- an accepted event may move the frames
+may_move : (s : Setting) (w : WorldAt) (says : Result PtpMsg FrameFault) (e : Event) → Accepts s w says e → MayMove w e
+may_move s w says (Pass dt drifts fibres) h = tt
+may_move s w says (Tick n) h = tt
+may_move s w says (Sample n base bits) h = tt
+may_move s w says (Depart n p stamp) h = tt
+may_move s w says (Arrive i raw) h = arrives_on s w i raw (is_on_fibre (w.frame i)) (w.frame i) h
+may_move s w says (Deliver i) h = tt
+may_move s w says (Noise n p octets raw) h = tt
+may_move s w says (Down n) h = tt
+may_move s w says (Up n off swaps) h = tt
+may_move s w says (Cut k) h = tt
+may_move s w says (Join k ms sm) h = tt
+
+pub begun_stands : {F : Type 0} (post : F → ℤ → ℤ → Type 0) (e : Event) (says : Result PtpMsg FrameFault) (old : WorldOf F) (plant : Plant) → MovesBy e old.plant plant →
+    ((s : Setting) (w : WorldAt) → StandsFor post s w old → Accepts s w says e) → (s : Setting) (w : WorldAt) → StandsFor post s w old →
     StandsFor post s (moved s w e) (world_of plant old.nodes)
-begun_stands post e old plant is s w st = record {
+begun_stands post e says old plant is accepted s w st = record {
   set = st.set;
-  plant = is s w st.plant;
+  plant = is s w (may_move s w says e (accepted s w st)) st.plant;
   nodes = λ n x at. let k : NodeIs post s w n x = st.nodes n x at in record { at = k.at; stands = k.stands };
 }
 
@@ -198,7 +220,7 @@ begun_valid pre post e put says old plant outs h = record {
   ticks = λ n x at. no_sooner x.parts.ticks old.plant.events plant.events h.events (h.valid.ticks n x at);
   setting = h.valid.setting;
   state = moved h.valid.setting h.valid.state e;
-  stands = begun_stands post e old plant h.is h.valid.setting h.valid.state h.valid.stands;
+  stands = begun_stands post e says old plant h.is h.accepted h.valid.setting h.valid.state h.valid.stands;
 }
 
 listed_at : {F : Type 0} (pre : F → ℤ → Type 0) (post : F → ℤ → ℤ → Type 0) (e : Event) (put : ℤ) (says : Result PtpMsg FrameFault) (old : WorldOf F) (plant : Plant) (outs : List NodeOut) →
@@ -224,9 +246,9 @@ event_taken pre post e put says old plant outs made new h g = (
     said = h.said;
     accepted = h.accepted;
     seen = λ s w st.
-        g.1.seen s (moved s w e) (given_by s w (moved s w e) says e) (begun_stands post e old plant h.is s w st) (listed_at pre post e put says old plant outs h s w st);
+        g.1.seen s (moved s w e) (given_by s w (moved s w e) says e) (begun_stands post e says old plant h.is h.accepted s w st) (listed_at pre post e put says old plant outs h s w st);
     stands = λ s w st.
-        g.1.stands s (moved s w e) (given_by s w (moved s w e) says e) (begun_stands post e old plant h.is s w st) (listed_at pre post e put says old plant outs h s w st);
+        g.1.stands s (moved s w e) (given_by s w (moved s w e) says e) (begun_stands post e says old plant h.is h.accepted s w st) (listed_at pre post e put says old plant outs h s w st);
   },
 )
 

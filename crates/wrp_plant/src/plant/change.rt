@@ -1,6 +1,6 @@
 //! What an event changes by itself, whatever it is.
 ghost use Rattle.std.specs.Prelude.{◌≡◌, ◌<◌, ◌+◌, ◌^◌, ℕ, OnOk, OnErr};
-ghost use Rattle.wrp_plant.specs.Changes.{Changes, MayStepAfter};
+ghost use Rattle.wrp_plant.specs.Changes.{Changes, MayMove, MayStepAfter};
 ghost use Rattle.wrp_course.specs.EventAt.{IsEventOf};
 ghost use Rattle.wrp_course.specs.Moved.{moved};
 ghost use Rattle.wrp_plant.specs.Plant.{FitsPlant, PlantIs};
@@ -72,7 +72,7 @@ impl Plant {
         requires fits { FitsPlant self.old }
         requires event { IsEventOf self.old.net.cfg event.now }
         requires few { self.old.events + 1 < 2 ^ 32 }
-        ensures is { OnOk result ((s : Setting) (w : WorldAt) → PlantIs s w self.old
+        ensures is { OnOk result ((s : Setting) (w : WorldAt) → MayMove w event.now → PlantIs s w self.old
             → PlantIs s (moved s w event.now) self.new) }
         ensures events { OnOk result (self.new.events ≡ self.old.events + 1) }
         ensures still { OnOk result (MayStepAfter event.now self.new) }

@@ -1,9 +1,10 @@
 //! Which premise a handing over breaks.
-ghost use Rattle.std.specs.Prelude.{◌≡◌, ◌<◌, ◌-ℤ◌, length, pos, [], ◌∷◌};
+ghost use Rattle.std.specs.Prelude.{◌≡◌, ◌<◌, ◌-ℤ◌, length, pos, [], ◌∷◌, None, Some};
 ghost use Rattle.std.specs.Option.{option_or};
 ghost use Rattle.wrp_bounds.specs.Times as times;
 ghost use Rattle.wrp_course.specs.Checks.{told_of};
 ghost use Rattle.wrp_course.specs.Checks as spec;
+ghost use Rattle.wrp_flights.specs.Frames.{sent_at};
 ghost use Rattle.wrp_plant.specs.Plant.{FitsPlant, PlantIs, DepartedIs};
 ghost use Rattle.wrp_course.specs.Premises as premise;
 ghost use Rattle.wrp_course.specs.Setting.{Setting};
@@ -12,10 +13,10 @@ ghost use Rattle.wrp_course.specs.WorldAt.{FrameAt, WorldAt, has_carrier};
 
 use super::Plant;
 use crate::checks::{frame_life, not_sent, stands};
-use crate::frames::Departed;
 use crate::premises::life::young_enough;
 use wrp_base::Tau;
 use wrp_course::Breach;
+use wrp_flights::Departed;
 
 impl Plant {
     /// A frame is handed over.
@@ -24,26 +25,52 @@ impl Plant {
         ensures { (s : Setting) (w : WorldAt) → PlantIs s w self.now
             → result ≡ told_of (premise.deliver_checks s w number (w.frame number)) }
     {
-        match self.frame(number) {
-            Some(frame) => self.handed_broken(number, frame),
+        match self.frames.sent_at(number) {
+            Some(sent) => self.handed_broken(number, sent),
             None => self.not_sent_broken(None, number),
         }
     }
 
-    // A frame that departed is handed over.
-    fn handed_broken(&self, number: u32, frame: &Departed) -> Option<Breach>
+    // A frame that was put out at the true time `sent` is handed over: its age is asked first, of those too
+    // that are kept no more.
+    fn handed_broken(&self, number: u32, sent: Tau) -> Option<Breach>
         requires fits { FitsPlant self.now }
-        requires link { frame.now.link < length self.now.net.cfg.links.items }
-        requires sent { IsTime frame.now.sent }
-        ensures { (s : Setting) (w : WorldAt) → PlantIs s w self.now → (f : FrameAt) → DepartedIs f frame.now
+        requires sent { sent_at number self.now.frames.sent ≡ Some sent }
+        ensures { (s : Setting) (w : WorldAt) → PlantIs s w self.now
+            → result ≡ told_of (premise.deliver_checks s w number (w.frame number)) }
+    {
+        match self.age_broken(sent) {
+            Some(breach) => Some(breach),
+            None => self.young_broken(number),
+        }
+    }
+
+    // A frame that is not too old is handed over.
+    fn young_broken(&self, number: u32) -> Option<Breach>
+        requires fits { FitsPlant self.now }
+        ensures { (s : Setting) (w : WorldAt) → PlantIs s w self.now → (f : FrameAt) → w.frame number ≡ Some f
+            → told_of (premise.too_old s.cfg w.time f.sending ∷ []) ≡ None
             → result ≡ told_of (premise.deliver_by s w number f f.arrival) }
     {
-        let old = self.age_broken(frame.sent);
+        match self.frame(number) {
+            Some(frame) => self.landed_broken(number, frame),
+            None => self.not_sent_broken(None, number),
+        }
+    }
+
+    // The same of a frame that is kept.
+    fn landed_broken(&self, number: u32, frame: &Departed) -> Option<Breach>
+        requires fits { FitsPlant self.now }
+        requires link { frame.now.link < length self.now.net.cfg.links.items }
+        ensures { (s : Setting) (w : WorldAt) → PlantIs s w self.now → (f : FrameAt) → DepartedIs f frame.now
+            → told_of (premise.too_old s.cfg w.time f.sending ∷ []) ≡ None
+            → result ≡ told_of (premise.deliver_by s w number f f.arrival) }
+    {
         let arrived = frame.arrival.is_some();
         if arrived {
-            self.carrier_broken(old, frame.link)
+            self.carrier_broken(None, frame.link)
         } else {
-            self.not_sent_broken(old, number)
+            self.not_sent_broken(None, number)
         }
     }
 

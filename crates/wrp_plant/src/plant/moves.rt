@@ -6,7 +6,7 @@ mod parts;
 pub mod spans;
 pub mod swaps;
 
-ghost use Rattle.std.specs.Prelude.{◌≡◌, ◌<◌, ◌≤◌, ◌+◌, ◌^◌, ℕ, length, unsigned_abs};
+ghost use Rattle.std.specs.Prelude.{◌≡◌, ◌<◌, ◌≤◌, ◌≤ℤ◌, ◌+◌, ◌^◌, ℕ, pos, length, unsigned_abs};
 ghost use Rattle.arrayvec.specs.ArrayVec.{ArrayVec as Items};
 ghost use Rattle.wrp_base.specs.declared.time.Raw.{Raw};
 ghost use Rattle.wrp_course.specs.declared.event.Event.TheVariants as event;
@@ -42,10 +42,11 @@ impl Plant {
         parts::stay(self);
     }
 
-    /// True time passes, and clocks and fibres move.
+    /// True time passes, and clocks and fibres move. It takes no memory.
     pub fn pass(&mut self, dt: i64, drifts: &ArrayVec<i64, 64>, moves: &ArrayVec<(i64, i64), 63>)
         requires fits { FitsPlant self.old }
         requires few { self.old.events + 1 < 2 ^ 32 }
+        requires later { pos 0 ≤ℤ dt }
         ensures is { (s : Setting) (w : WorldAt) → PlantIs s w self.old
             → PlantIs s (moved s w (event.Pass dt drifts.now moves.now)) self.new }
         ensures fits { FitsPlant self.new }

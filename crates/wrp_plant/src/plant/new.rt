@@ -1,23 +1,25 @@
 //! A plant before any event.
-ghost use Rattle.std.specs.Prelude.{◌≡◌, ◌*ℤ◌, IfOk, length};
+ghost use Rattle.std.specs.Prelude.{◌≡◌, ◌*ℤ◌, ◌-ℤ◌, IfOk, length, pos};
 ghost use Rattle.std.specs.Option.{option_map_or};
 ghost use Rattle.wrp_base.specs.Network.{HasRanges};
 ghost use Rattle.wrp_base.specs.Clock.{second};
+ghost use Rattle.wrp_bounds.specs.Times.{frame_life};
 ghost use Rattle.wrp_config.specs.Accepted.{IsAccepted};
 ghost use Rattle.wrp_plant.specs.New.{IsNewEnd, IsNewSpan, IsSpanOf, new_clock};
 ghost use Rattle.wrp_plant.specs.Plant.{Each, FitsPlant, PlantIs};
 ghost use Rattle.wrp_course.specs.Setting.{Setting};
-ghost use Rattle.wrp_plant.specs.Sizes.{IsTimeBy};
+ghost use Rattle.wrp_plant.specs.Sizes.{IsHorizonBy, IsTimeBy};
 ghost use Rattle.wrp_course.specs.WorldAt.{new_world};
 
 use super::Plant;
+use crate::checks::frame_life as life;
 use crate::ends::{EndState, Span};
-use crate::frames::Frames;
 use std::alloc::{AllocError, Global};
-use wrp_base::{LinkCfg, Module, Name, NetCfg, Tau, product};
+use wrp_base::{LinkCfg, Module, Name, NetCfg, Tau, difference, product};
 use wrp_caldb::CalDb;
 use wrp_config::Network;
 use wrp_course::{ClockState, FibreState};
+use wrp_flights::Frames;
 
 /// One second, in tau.
 const SECOND: i128 = 65_536_000_000_000_000;
@@ -32,6 +34,7 @@ impl Plant {
         ensures net { IfOk result (λ plant. plant.net ≡ net) }
     {
         let start = start_of(&net.cfg);
+        let horizon = horizon_of(&net.cfg, start);
         let clocks = new_clocks(alloc, net.cfg.nodes.len(), start)?;
         let spans = new_spans(alloc, &net.db, net.cfg.links.as_slice())?;
         Ok(Plant {
@@ -40,7 +43,7 @@ impl Plant {
             events: 0,
             clocks,
             spans,
-            frames: Frames::new(alloc),
+            frames: Frames::new(alloc, horizon),
         })
     }
 }
@@ -52,6 +55,16 @@ fn start_of(cfg: &NetCfg) -> Tau
     ensures size { IsTimeBy 0 result }
 {
     product(i128::from(cfg.epoch), SECOND)
+}
+
+// From when on a frame that was put out is young at the epoch.
+fn horizon_of(cfg: &NetCfg, start: Tau) -> Tau
+    requires ranges { HasRanges cfg.now }
+    requires start { IsTimeBy 0 start }
+    ensures value { result ≡ start -ℤ pos (frame_life cfg.now) }
+    ensures size { IsHorizonBy 0 result }
+{
+    difference(start, life(cfg))
 }
 
 // So many clocks.

@@ -1,16 +1,17 @@
 //! The parts of a plant, and the sizes of their numbers.
 ghost use Rattle.std.specs.Prelude.{◌≡◌, ◌<◌, ◌≤◌, length, slice_get, Some, IfSome, option_map};
 ghost use Rattle.wrp_base.specs.Network.{HasRanges, HasNodeRanges, HasLinkRanges, node_count};
-ghost use Rattle.wrp_plant.specs.Plant.{EndIs, FitsDeparted, FitsPlant, FitsSpan, PlantIs, frame_numbered};
+ghost use Rattle.wrp_plant.specs.Plant.{EndIs, FitsDeparted, FitsPlant, FitsSpan, PlantIs};
+ghost use Rattle.wrp_flights.specs.Frames.{at};
 ghost use Rattle.wrp_course.specs.Setting.{Setting, end_at};
 ghost use Rattle.wrp_plant.specs.Sizes.{IsTime, IsOff, IsDelay};
 ghost use Rattle.wrp_course.specs.WorldAt.{WorldAt};
 
 use super::Plant;
 use crate::ends::{EndState, Span};
-use crate::frames::Departed;
 use wrp_base::{LinkCfg, NetCfg, NodeCfg, Role, Tau};
 use wrp_course::{ClockState, Place};
+use wrp_flights::Departed;
 
 impl Plant {
     /// The numbers of the network.
@@ -132,10 +133,10 @@ impl Plant {
         }
     }
 
-    /// A frame that departed. `None` exactly where the number was not given.
+    /// A frame that departed. `None` exactly where the number was not given, or the frame is kept no more.
     pub fn frame(&self, number: u32) -> Option<&Departed>
         requires { FitsPlant self.now }
-        ensures value { option_map (λ f. f.now) result ≡ frame_numbered number self.now.frames }
+        ensures value { option_map (λ f. f.now) result ≡ at number self.now.frames.kept }
         ensures fits { IfSome result (λ f. FitsDeparted (length self.now.net.cfg.links.items) self.now.events f.now) }
     {
         self.frames.find(number)

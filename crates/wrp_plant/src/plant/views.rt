@@ -6,10 +6,10 @@ ghost use Rattle.wrp_course.specs.Views as view;
 ghost use Rattle.wrp_course.specs.WorldAt.{WorldAt};
 
 use super::Plant;
-use crate::checks::{life_of, longest_tick, shortest_tick};
-use crate::frames::Departed;
+use crate::checks::{longest_tick, shortest_tick};
 use wrp_base::{LinkCfg, Mark, Role, Tau, sum};
 use wrp_course::place_of;
+use wrp_flights::Departed;
 
 impl Plant {
     /// Whether a link is joined.
@@ -78,19 +78,14 @@ impl Plant {
         ensures { (s : Setting) (w : WorldAt) → PlantIs s w self.now
             → MaybeIs DepartedIs (view.kept_frame s w number) (option_map (λ f. f.now) result) }
     {
-        let life = life_of(&self.net.cfg);
-        match self.frames.find(number) {
-            Some(frame) if frame.is_kept(self.time, life) => Some(frame),
-            _ => None,
-        }
+        self.frames.find(number)
     }
 
     /// How many frames are kept.
     pub fn kept(&self) -> usize
         ensures { (s : Setting) (w : WorldAt) → PlantIs s w self.now → result ≡ view.kept_count s w }
     {
-        let life = life_of(&self.net.cfg);
-        self.frames.kept(self.time, life)
+        self.frames.kept()
     }
 
     /// The octets of a frame. `None` exactly where none of this number is kept.

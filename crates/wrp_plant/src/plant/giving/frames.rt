@@ -10,11 +10,12 @@ ghost use Rattle.wrp_port.specs.PortAt.{IsStamp};
 ghost use Rattle.wrp_course.specs.declared.event.Event.TheVariants as event;
 ghost use Rattle.wrp_course.specs.EventAt.{IsRaw, IsTime};
 ghost use Rattle.wrp_plant.specs.FitsGifts.{FitsGift, FitsNode};
+ghost use Rattle.wrp_flights.specs.Frames.{sent_at};
 ghost use Rattle.wrp_course.specs.Setting.{has_port};
 ghost use Rattle.wrp_plant.specs.Gifts.{GiftIs};
 ghost use Rattle.wrp_course.specs.Given.{delivered_by};
 ghost use Rattle.wrp_plant.specs.Giving.{Gives, entries_of, listed, sent_by, sent_first};
-ghost use Rattle.wrp_plant.specs.Plant.{DepartedIs, EndIs, FitsDeparted, FitsPlant, PlantIs, ReceptionIs, frame_numbered};
+ghost use Rattle.wrp_plant.specs.Plant.{DepartedIs, EndIs, FitsDeparted, FitsPlant, PlantIs, ReceptionIs};
 ghost use Rattle.wrp_course.specs.Setting.{Setting};
 ghost use Rattle.wrp_course.specs.WorldAt.{Arrival, EndAt, FrameAt, WorldAt};
 
@@ -22,10 +23,10 @@ use super::super::Plant;
 use super::ends::other_end;
 use super::listing::Gift;
 use crate::ends::EndState;
-use crate::frames::{Departed, Reception};
 use crate::plant::told::ends::copied;
 use wrp_base::{Body, PtpMsg, Stamp, Tau};
 use wrp_course::{Place, place_of};
+use wrp_flights::{Departed, Reception};
 use wrp_frame::decode;
 use wrp_node::Input;
 
@@ -107,7 +108,7 @@ impl Plant {
         }
     }
 
-    /// The input that a frame gives as it is handed over: none where it has not arrived.
+    /// The input that a frame gives as it is handed over: none where it has not arrived, or is kept no more.
     pub fn gift_of_frame(&self, number: u32) -> Option<Gift>
         requires fits { FitsPlant self.now }
         ensures { Gives self.now (event.Deliver number) (entries_of result) }
@@ -163,11 +164,10 @@ impl Plant {
     /// The true time at which a frame was put out, 0 where its number was not given.
     pub fn sent_at(&self, number: u32) -> Tau
         requires { FitsPlant self.now }
-        ensures { result ≡ option_map_or (λ d. d.sent)
-            (frame_numbered number self.now.frames) (pos 0) }
+        ensures { result ≡ option_map_or (λ t. t) (sent_at number self.now.frames.sent) (pos 0) }
     {
-        match self.frame(number) {
-            Some(frame) => frame.sent,
+        match self.frames.sent_at(number) {
+            Some(sent) => sent,
             None => 0,
         }
     }

@@ -1,22 +1,24 @@
 //! Frames that arrive.
-ghost use Rattle.std.specs.Prelude.{◌≡◌, ◌<◌, ◌+◌, ◌^◌, ℕ, length, option_map, IfSome};
+ghost use Rattle.std.specs.Prelude.{◌≡◌, ◌<◌, ◌+◌, ◌^◌, ℕ, length, true, option_map, IfSome};
 ghost use Rattle.std.specs.Option.{option_map_or};
 ghost use Rattle.wrp_base.specs.Network.{other_of};
 ghost use Rattle.wrp_course.specs.declared.event.Event.TheVariants as event;
 ghost use Rattle.wrp_course.specs.EventAt.{IsRaw};
-ghost use Rattle.wrp_plant.specs.Flights.{Arrives, from_of};
+ghost use Rattle.wrp_flights.specs.Frames.{Turned, at};
+ghost use Rattle.wrp_flights.specs.Losing.{arrives_by};
+ghost use Rattle.wrp_plant.specs.Flights.{from_of};
 ghost use Rattle.wrp_course.specs.Moved.{moved};
-ghost use Rattle.wrp_plant.specs.Moves.{Changed, Same, Turns};
-ghost use Rattle.wrp_plant.specs.Plant.{FitsPlant, PlantIs, frame_numbered};
+ghost use Rattle.wrp_plant.specs.Moves.{Changed, Same};
+ghost use Rattle.wrp_plant.specs.Plant.{FitsPlant, PlantIs};
 ghost use Rattle.wrp_plant.specs.Room.{HasRoom};
 ghost use Rattle.wrp_course.specs.Setting.{Setting, end_at};
-ghost use Rattle.wrp_course.specs.WorldAt.{WorldAt};
+ghost use Rattle.wrp_course.specs.WorldAt.{WorldAt, is_on_fibre};
 
 use super::super::Plant;
 use super::parts::stay;
-use crate::frames::Reception;
 use wrp_base::{Raw, Role};
 use wrp_course::Place;
+use wrp_flights::Reception;
 
 // The role at the other end.
 fn other_of(role: Role) -> Role
@@ -32,17 +34,18 @@ fn other_of(role: Role) -> Role
 fn arrive(plant: &mut Plant, number: u32, from: Place, reception: Reception)
     requires fits { FitsPlant plant.old }
     requires few { plant.old.events + 1 < 2 ^ 32 }
-    ensures { Changed Same Same (Turns (Arrives number from reception)) plant.old.time plant.old plant.new }
+    ensures { Changed Same Same (Turned (arrives_by number reception from.link from.role)) plant.old.time
+        plant.old plant.new }
 {
-    plant.frames.arrive(number, from, reception);
+    plant.frames.arrive(number, from.link, from.role, reception);
     plant.events += 1;
 }
 
 impl Plant {
-    // The end that sent a frame. `None` exactly where the number was not given.
+    // The end that sent a frame. `None` exactly where no frame of the number is kept.
     fn sent_from(&self, number: u32) -> Option<Place>
         requires { FitsPlant self.now }
-        ensures value { result ≡ option_map from_of (frame_numbered number self.now.frames) }
+        ensures value { result ≡ option_map from_of (at number self.now.frames.kept) }
         ensures within { IfSome result (λ from. from.link < length self.now.net.cfg.links.items) }
     {
         match self.frame(number) {
@@ -69,13 +72,13 @@ impl Plant {
         self.clock(n).samples
     }
 
-    /// A frame arrives with this stamp, and the older ones of its direction that are on its fibre are
-    /// lost.
+    /// A frame that is on a fibre arrives with this stamp, and the older ones of its direction that are on
+    /// its fibre are lost.
     pub fn arrive(&mut self, number: u32, raw: Raw)
         requires fits { FitsPlant self.old }
         requires raw { IsRaw raw }
         requires few { self.old.events + 1 < 2 ^ 32 }
-        ensures is { (s : Setting) (w : WorldAt) → PlantIs s w self.old
+        ensures is { (s : Setting) (w : WorldAt) → is_on_fibre (w.frame number) ≡ true → PlantIs s w self.old
             → PlantIs s (moved s w (event.Arrive number raw)) self.new }
         ensures fits { FitsPlant self.new }
         ensures net { self.new.net ≡ self.old.net }

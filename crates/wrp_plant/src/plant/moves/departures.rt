@@ -1,7 +1,9 @@
 //! Frames that depart.
-ghost use Rattle.std.specs.Prelude.{◌≡◌, ◌<◌, ◌≤◌, ◌+◌, ◌+ℤ◌, ◌^◌, ℕ, ℤ, length, IfSome, OnOk, OnErr, Some, unsigned_abs};
+ghost use Rattle.std.specs.Prelude.{◌≡◌, ◌<◌, ◌≤◌, ◌+◌, ◌+ℤ◌, ◌^◌, ℕ, ℤ, length, true, IfSome, OnOk, OnErr, Some, unsigned_abs};
 ghost use Rattle.wrp_course.specs.declared.event.Event.TheVariants as event;
-ghost use Rattle.wrp_plant.specs.Flights.{Grows, LosesOldest, TakesOldest, delay_in, departed_of, leaving};
+ghost use Rattle.wrp_flights.specs.Departed.{is_on};
+ghost use Rattle.wrp_flights.specs.Frames.{Departs};
+ghost use Rattle.wrp_plant.specs.Flights.{LosesOldest, TakesOldest, delay_in, departed_of, leaving};
 ghost use Rattle.wrp_course.specs.Moved.{moved};
 ghost use Rattle.wrp_plant.specs.Moves.{At, Changed, Same, Turns};
 ghost use Rattle.wrp_plant.specs.Plant.{FitsDeparted, FitsPlant, MaybeIs, DepartedIs, PlantIs};
@@ -13,11 +15,11 @@ ghost use Rattle.wrp_course.specs.WorldAt.{WorldAt, delay_from};
 use super::super::Plant;
 use super::parts::stay;
 use crate::ends::{EndState, Span};
-use crate::frames::Departed;
 use crate::plant::told::ends::copied;
 use std::alloc::AllocError;
 use wrp_base::{Role, Tau, sum};
 use wrp_course::{Place, place_of};
+use wrp_flights::Departed;
 
 // The oldest that waits at an end is taken away.
 fn lose_oldest(end: &mut EndState)
@@ -81,7 +83,9 @@ fn departed(end: &EndState, place: Place, due: Tau) -> Option<Departed>
 fn depart(plant: &mut Plant, place: Place, frame: Option<Departed>) -> Result<(), AllocError>
     requires link { place.link < length plant.old.spans.items }
     requires few { plant.old.events + 1 < 2 ^ 32 }
-    ensures ok { OnOk result (Changed Same (Turns (At place.link (TakesOldest place.role))) (Grows frame)
+    requires count { length plant.old.frames.sent ≤ plant.old.events }
+    requires on { IfSome frame (λ d. is_on d ≡ true) }
+    ensures ok { OnOk result (Changed Same (Turns (At place.link (TakesOldest place.role))) (Departs frame)
         plant.old.time plant.old plant.new) }
     ensures err { OnErr result (plant.new ≡ plant.old) }
 {
@@ -112,6 +116,7 @@ impl Plant {
         ensures is { (s : Setting) (w : WorldAt) (stamp : ℤ) → PlantIs s w self.now
             → MaybeIs DepartedIs (leaving w place stamp (w.end_at place.link place.role).waiting) result }
         ensures fits { IfSome result (FitsDeparted (length self.now.net.cfg.links.items) (self.now.events + 1)) }
+        ensures on { IfSome result (λ d. is_on d ≡ true) }
     {
         let due = self.due_from(place);
         departed(self.span(place.link).end(place.role), place, due)

@@ -18,10 +18,10 @@ ghost use Rattle.wrp_course.specs.WorldAt.{FrameAt, WorldAt, is_on_fibre, readin
 use super::super::Plant;
 use crate::checks::stands;
 use crate::ends::PutOut;
-use crate::frames::Departed;
 use crate::premises::stamps::{on_time, raw_kept, stamp_kept};
 use wrp_base::{Module, Raw, Tau, sum};
 use wrp_course::{Breach, Place, place_of};
+use wrp_flights::Departed;
 
 // The transition tag of a module, 0 where it is not listed.
 fn transition_of(entry: Option<Module>) -> u16

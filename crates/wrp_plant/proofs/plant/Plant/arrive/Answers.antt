@@ -5,7 +5,7 @@ use Rattle.wrp_plant.proofs.RoomKept.{same_room}
 use Rattle.wrp_plant.proofs.plant.Plant.arrive.Goals as goal
 
 pub returns-in-Some-clause-is : goal.returns-in-Some-clause-is
-returns-in-Some-clause-is c s w h =
+returns-in-Some-clause-is c s w on h =
     arrive_is s w c.args.number c.args.raw c.in-Some.from (record { raw = c.args.raw; sample = c.samples_past-sample.result }) c.args.self.now c.arrive.new.plant c.arrive.ensures refl
     (c.samples_past-sample.ensures s w h) (sym c.in-Some.is ∙ c.sent_from.ensures.value) h
 
@@ -17,8 +17,8 @@ pub returns-in-Some-clause-room : goal.returns-in-Some-clause-room
 returns-in-Some-clause-room c k h = same_room _ _ _ c.args.self.now c.arrive.new.plant c.arrive.ensures k h
 
 pub returns-in-None-clause-is : goal.returns-in-None-clause-is
-returns-in-None-clause-is c s w h =
-    none_arrives_is s w c.args.number c.args.raw c.args.self.now c.stay.new.plant c.stay.ensures (sym c.in-None.is ∙ c.sent_from.ensures.value) h
+returns-in-None-clause-is c s w on h =
+    none_arrives_is s w c.args.number c.args.raw c.args.self.now c.stay.new.plant on (sym c.in-None.is ∙ c.sent_from.ensures.value) h
 
 pub returns-in-None-clause-fits : goal.returns-in-None-clause-fits
 returns-in-None-clause-fits c = tick_fits c.args.self.now c.stay.new.plant c.stay.ensures c.requires.few c.requires.fits

@@ -12,4 +12,4 @@ returns-clause-room c =
     c.change.ensures.room (length c.give.new.outs.items) (subst (λ k. HasRoom k c.reserve.new.self) steps c.in_ok-reserve.ensures.room)
 
 pub returns-clause-is : goal.returns-clause-is
-returns-clause-is c s w p = c.in_ok-change.ensures.is s w (c.reserve.ensures.is s w p)
+returns-clause-is c s w m p = c.in_ok-change.ensures.is s w m (c.reserve.ensures.is s w p)

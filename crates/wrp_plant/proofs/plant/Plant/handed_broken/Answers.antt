@@ -1,20 +1,32 @@
-use Rattle.std.proofs.Common.{◌∙◌, sym, ap, ◌∷◌, [], ◌-ℤ◌, pos, arith}
+use Rattle.std.proofs.Common.{◌≡◌, ◌∙◌, sym, subst, ap, ◌∷◌, [], ◌-ℤ◌, pos, to_z, of_z, arith}
+use Rattle.std.specs.Int.{w128}
 use Rattle.wrp_bounds.specs.Times.{frame_life}
 use Rattle.wrp_course.specs.Checks.{told_of, at_most}
-use Rattle.wrp_plant.proofs.Handing.{arrived_told, waiting_told}
+use Rattle.wrp_plant.specs.Sizes.{IsTime}
+use Rattle.wrp_plant.proofs.Handing.{old_told, young_told}
 use Rattle.wrp_plant.proofs.SignedReads.{read}
+use Rattle.wrp_plant.proofs.Sizing.{time_size}
 use Rattle.wrp_plant.proofs.plant.Plant.handed_broken.Goals as goal
 
-pub returns-then-arrived : goal.returns-then-arrived
-returns-then-arrived c s w h f k =
-    arrived_told s w c.args.number f c.args.frame.now c.age_broken-old.result c.carrier_broken.result k
-    (sym c.is_some-arrived.ensures ∙ c.if-arrived.true)
-    (c.age_broken-old.ensures s w h ∙ ap (λ t. told_of (at_most 10 (w.time -ℤ t) (pos (frame_life s.cfg)) ∷ [])) (read c.args.frame.now.sent (omega (arith, c.requires.sent))))
-    (c.carrier_broken.ensures s w h)
+-- the time is in its range
+size : (c : goal.Start) → IsTime c.args.sent
+size c = time_size c.args.self.now.events c.args.sent c.requires.fits.events (c.requires.fits.frames.sent c.args.number c.args.sent c.requires.sent)
 
-pub returns-else-arrived : goal.returns-else-arrived
-returns-else-arrived c s w h f k =
-    waiting_told s w c.args.number f c.args.frame.now c.age_broken-old.result c.not_sent_broken.result k
-    (sym c.is_some-arrived.ensures ∙ c.if-arrived.false)
-    (c.age_broken-old.ensures s w h ∙ ap (λ t. told_of (at_most 10 (w.time -ℤ t) (pos (frame_life s.cfg)) ∷ [])) (read c.args.frame.now.sent (omega (arith, c.requires.sent))))
-    (c.not_sent_broken.ensures s w h)
+same : (c : goal.Start) → to_z w128 (of_z w128 c.args.sent) ≡ c.args.sent
+same c = let small = size c in read c.args.sent (omega (arith, small))
+
+pub age_broken-requires-clause-sent : goal.age_broken-requires-clause-sent
+age_broken-requires-clause-sent c = subst IsTime (sym (same c)) (size c)
+
+pub returns-in-Some : goal.returns-in-Some
+returns-in-Some c s w h =
+    let small = time_size c.args.self.now.events c.args.sent c.requires.fits.events (c.requires.fits.frames.sent c.args.number c.args.sent c.requires.sent) in
+    old_told s w c.args.number c.args.self.now.frames c.args.sent c.age_broken.result c.in-Some.breach h.frames c.requires.sent
+    (c.age_broken.ensures s w h ∙ ap (λ t. told_of (at_most 10 (w.time -ℤ t) (pos (frame_life s.cfg)) ∷ [])) (read c.args.sent (omega (arith, small)))) c.in-Some.is
+
+pub returns-in-None : goal.returns-in-None
+returns-in-None c s w h =
+    let small = time_size c.args.self.now.events c.args.sent c.requires.fits.events (c.requires.fits.frames.sent c.args.number c.args.sent c.requires.sent) in
+    young_told s w c.args.number c.args.self.now.frames c.args.sent c.age_broken.result c.young_broken.result h.frames c.requires.sent
+    (c.age_broken.ensures s w h ∙ ap (λ t. told_of (at_most 10 (w.time -ℤ t) (pos (frame_life s.cfg)) ∷ [])) (read c.args.sent (omega (arith, small)))) c.in-None.is
+    (λ f e told. c.young_broken.ensures s w h f e told)

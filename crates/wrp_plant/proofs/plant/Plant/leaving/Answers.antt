@@ -1,7 +1,7 @@
 use Rattle.std.proofs.Common.{◌≡◌, ◌∙◌, ap}
 use Rattle.wrp_plant.specs.Flights.{departed_of}
 use Rattle.wrp_plant.specs.Plant.{end_in}
-use Rattle.wrp_plant.proofs.Departing.{due_size, leaving_fits, leaving_is}
+use Rattle.wrp_plant.proofs.Departing.{due_size, leaving_fits, leaving_is, leaving_on}
 use Rattle.wrp_plant.proofs.SignedReads.{read}
 use Rattle.wrp_plant.proofs.plant.Plant.leaving.Goals as goal
 
@@ -19,3 +19,6 @@ returns-clause-is c s w stamp h =
 pub returns-clause-fits : goal.returns-clause-fits
 returns-clause-fits c =
     leaving_fits _ c.args.self.now.events c.args.place c.due_from-due.result c.span.result.now c.departed.result c.requires.link c.due_from-due.ensures.size c.span.ensures.fits (frame c)
+
+pub returns-clause-on : goal.returns-clause-on
+returns-clause-on c = leaving_on c.args.place c.due_from-due.result (end_in c.span.result.now c.args.place.role).waiting.items c.departed.result (frame c)

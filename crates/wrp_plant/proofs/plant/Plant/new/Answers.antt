@@ -1,14 +1,13 @@
-use Rattle.std.proofs.Common.{◌≡◌, ◌∙◌, refl, sym, ap, subst, ◌*ℤ◌, ◌≤◌, List, length, arith}
+use Rattle.std.proofs.Common.{◌≡◌, ◌∙◌, refl, sym, ap, ap₂, subst, ℤ, pos, ◌*ℤ◌, ◌-ℤ◌, List, [], length, arith}
 use Rattle.wrp_base.specs.declared.configuration.NetCfg.{NetCfg}
 use Rattle.wrp_base.specs.declared.network.LinkCfg.{LinkCfg}
 use Rattle.wrp_base.specs.Clock.{second}
+use Rattle.wrp_bounds.specs.Times.{frame_life}
 use Rattle.wrp_caldb.specs.Database.{Database}
-use Rattle.wrp_plant.specs.declared.frames.Departed.{Departed}
 use Rattle.wrp_plant.specs.New.{IsSpanOf, new_clock}
-use Rattle.wrp_plant.specs.Plant.{Each, FitsDeparted}
-use Rattle.wrp_plant.specs.Sizes.{IsTimeBy}
-use Rattle.wrp_plant.proofs.EachLists.{each_none}
-use Rattle.wrp_plant.proofs.NewPlants.{new_plant, clocks_fit, spans_fit}
+use Rattle.wrp_plant.specs.Plant.{Each}
+use Rattle.wrp_plant.specs.Sizes.{IsHorizonBy, IsTimeBy}
+use Rattle.wrp_plant.proofs.NewPlants.{new_plant, clocks_fit, spans_fit, frames_fit}
 use Rattle.wrp_plant.proofs.SignedReads.{read}
 use Rattle.wrp_plant.proofs.plant.Plant.new.Goals as goal
 
@@ -26,13 +25,18 @@ returns-clause-stands c s e f =
       span_count = c.in_ok-spans.ensures.count ∙ ap length links;
       spans = subst (λ (db : Database). Each (IsSpanOf db s.cfg.links.items) c.in_ok-spans.spans.items) f
           (subst (λ (xs : List LinkCfg). Each (IsSpanOf c.args.net.db xs) c.in_ok-spans.spans.items) links c.in_ok-spans.ensures.each);
-      frames = c.new.ensures;
+      frames =
+          c.new.ensures
+          ∙ ap (λ (z : ℤ). record { horizon = z; sent = []; kept = [] })
+          (read c.horizon_of-horizon.result (omega (arith, c.horizon_of-horizon.ensures.size)) ∙ c.horizon_of-horizon.ensures.value
+          ∙ ap₂ (λ (t : ℤ) (cfg : NetCfg). t -ℤ pos (frame_life cfg)) start e);
     })
 
 pub returns-clause-fits : goal.returns-clause-fits
 returns-clause-fits c =
     let start = read c.start_of-start.result (omega (arith, c.start_of-start.ensures.size)) in
     let time = subst (IsTimeBy 0) (sym start) c.start_of-start.ensures.size in
+    let horizon = read c.horizon_of-horizon.result (omega (arith, c.horizon_of-horizon.ensures.size)) in
     record {
       accepted = c.requires;
       clock_count = c.in_ok-clocks.ensures.count ∙ c.len.ensures.value;
@@ -41,6 +45,5 @@ returns-clause-fits c =
       time = time;
       clocks = clocks_fit _ c.in_ok-clocks.clocks.items time c.in_ok-clocks.ensures.each;
       spans = spans_fit c.args.net.db c.as_slice.result.now c.in_ok-spans.spans.items c.in_ok-spans.ensures.count c.in_ok-spans.ensures.each;
-      frame_count = subst (λ (fs : List Departed). length fs ≤ 0) (sym c.new.ensures) (omega arith);
-      frames = subst (Each (λ i. FitsDeparted (length c.args.net.cfg.links.items) 0)) (sym c.new.ensures) (each_none (λ i. FitsDeparted (length c.args.net.cfg.links.items) 0));
+      frames = frames_fit (length c.args.net.cfg.links.items) _ c.new.result c.new.ensures (subst (IsHorizonBy 0) (sym horizon) c.horizon_of-horizon.ensures.size);
     }

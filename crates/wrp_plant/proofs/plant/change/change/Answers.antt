@@ -35,11 +35,19 @@ Is e old new = (s : Setting) (w : WorldAt) → PlantIs s w old → PlantIs s (mo
 departs : {A E : Type 0} (r : Result A E) (n p : ℕ) (stamp : ℤ) (old new : Plant) →
     OnOk r ((s : Setting) (w : WorldAt) (at : ℤ) → PlantIs s w old → PlantIs s (moved s w (Depart n p at)) new) → OnOk r (FitsPlant new) →
     OnOk r ((k : ℕ) → HasRoom k old → HasRoom k new) → OnOk r (new.net ≡ old.net) → OnOk r (new.events ≡ old.events + 1) → OnOk r (Changes (Depart n p stamp) old new)
-departs (Ok x) n p stamp old new a b c d f = record { is = λ s w h. a s w stamp h; fits = b; room = c; net = d; events = f; steps = tt }
+departs (Ok x) n p stamp old new a b c d f = record { is = λ s w m h. a s w stamp h; fits = b; room = c; net = d; events = f; steps = tt }
 departs (Err x) n p stamp old new a b c d f = tt
 
 of_event : (e f : Event) (old new : Plant) → e ≡ f → Changes f old new → Changes e old new
 of_event e f old new is h = subst (λ x. Changes x old new) (sym is) h
+
+later : (a b : ℤ) → b ≡ a → pos 1 ≤ℤ a → pos 0 ≤ℤ b
+later a b e h = omega (arith, ints, e)
+
+pub pass-requires-clause-later : goal.pass-requires-clause-later
+pass-requires-clause-later c =
+    let event : IsEventOf c.args.plant.now.net.cfg (Pass c.in-Pass.dt c.in-Pass.drifts c.in-Pass.fibres) = subst (IsEventOf c.args.plant.now.net.cfg) c.in-Pass.is c.requires.event in
+    later c.in-Pass.dt _ (read_64 c.in-Pass.dt (small c.in-Pass.dt event.span.0 event.span.1)) event.span.0
 
 pub returns-in-Pass-clause-ok : goal.returns-in-Pass-clause-ok
 returns-in-Pass-clause-ok c =
@@ -47,7 +55,7 @@ returns-in-Pass-clause-ok c =
     let dt : to_z w64 (of_z w64 c.in-Pass.dt) ≡ c.in-Pass.dt = read_64 c.in-Pass.dt (small c.in-Pass.dt event.span.0 event.span.1) in
     of_event c.args.event.now _ c.args.plant.now c.pass.new.self c.in-Pass.is
     (record {
-      is = subst (λ d. Is (Pass d c.in-Pass.drifts c.in-Pass.fibres) c.args.plant.now c.pass.new.self) dt c.pass.ensures.is;
+      is = λ s w m h. subst (λ d. Is (Pass d c.in-Pass.drifts c.in-Pass.fibres) c.args.plant.now c.pass.new.self) dt c.pass.ensures.is s w h;
       fits = c.pass.ensures.fits;
       room = c.pass.ensures.room;
       net = c.pass.ensures.net;
@@ -58,12 +66,12 @@ returns-in-Pass-clause-ok c =
 pub returns-in-Tick-clause-ok : goal.returns-in-Tick-clause-ok
 returns-in-Tick-clause-ok c =
     of_event c.args.event.now _ c.args.plant.now c.stay.new.self c.in-Tick.is
-    (record { is = λ s w h. c.stay.ensures.tick s w c.in-Tick.node h; fits = c.stay.ensures.fits; room = c.stay.ensures.room; net = c.stay.ensures.net; events = c.stay.ensures.events; steps = tt })
+    (record { is = λ s w m h. c.stay.ensures.tick s w c.in-Tick.node h; fits = c.stay.ensures.fits; room = c.stay.ensures.room; net = c.stay.ensures.net; events = c.stay.ensures.events; steps = tt })
 
 pub returns-in-Sample-clause-ok : goal.returns-in-Sample-clause-ok
 returns-in-Sample-clause-ok c =
     of_event c.args.event.now _ c.args.plant.now c.sample.new.self c.in-Sample.is
-    (record { is = λ s w h. c.sample.ensures.is s w c.in-Sample.base c.in-Sample.bits h; fits = c.sample.ensures.fits; room = c.sample.ensures.room; net = c.sample.ensures.net; events = c.sample.ensures.events; steps = tt })
+    (record { is = λ s w m h. c.sample.ensures.is s w c.in-Sample.base c.in-Sample.bits h; fits = c.sample.ensures.fits; room = c.sample.ensures.room; net = c.sample.ensures.net; events = c.sample.ensures.events; steps = tt })
 
 pub returns-in-Depart-clause-ok : goal.returns-in-Depart-clause-ok
 returns-in-Depart-clause-ok c =
@@ -78,17 +86,17 @@ returns-in-Arrive-clause-ok c =
 pub returns-in-Deliver-clause-ok : goal.returns-in-Deliver-clause-ok
 returns-in-Deliver-clause-ok c =
     of_event c.args.event.now _ c.args.plant.now c.stay-in-Deliver.new.self c.in-Deliver.is
-    (record { is = λ s w h. c.stay-in-Deliver.ensures.deliver s w c.in-Deliver.frame h; fits = c.stay-in-Deliver.ensures.fits; room = c.stay-in-Deliver.ensures.room; net = c.stay-in-Deliver.ensures.net; events = c.stay-in-Deliver.ensures.events; steps = c.stay-in-Deliver.ensures.still })
+    (record { is = λ s w m h. c.stay-in-Deliver.ensures.deliver s w c.in-Deliver.frame h; fits = c.stay-in-Deliver.ensures.fits; room = c.stay-in-Deliver.ensures.room; net = c.stay-in-Deliver.ensures.net; events = c.stay-in-Deliver.ensures.events; steps = c.stay-in-Deliver.ensures.still })
 
 pub returns-in-Noise-clause-ok : goal.returns-in-Noise-clause-ok
 returns-in-Noise-clause-ok c =
     of_event c.args.event.now _ c.args.plant.now c.stay-in-Noise.new.self c.in-Noise.is
-    (record { is = λ s w h. c.stay-in-Noise.ensures.noise s w c.in-Noise.node c.in-Noise.port c.in-Noise.bytes c.in-Noise.raw h; fits = c.stay-in-Noise.ensures.fits; room = c.stay-in-Noise.ensures.room; net = c.stay-in-Noise.ensures.net; events = c.stay-in-Noise.ensures.events; steps = c.stay-in-Noise.ensures.still })
+    (record { is = λ s w m h. c.stay-in-Noise.ensures.noise s w c.in-Noise.node c.in-Noise.port c.in-Noise.bytes c.in-Noise.raw h; fits = c.stay-in-Noise.ensures.fits; room = c.stay-in-Noise.ensures.room; net = c.stay-in-Noise.ensures.net; events = c.stay-in-Noise.ensures.events; steps = c.stay-in-Noise.ensures.still })
 
 pub returns-in-Down-clause-ok : goal.returns-in-Down-clause-ok
 returns-in-Down-clause-ok c =
     of_event c.args.event.now _ c.args.plant.now c.go_down.new.self c.in-Down.is
-    (record { is = c.go_down.ensures.is; fits = c.go_down.ensures.fits; room = c.go_down.ensures.room; net = c.go_down.ensures.net; events = c.go_down.ensures.events; steps = tt })
+    (record { is = λ s w m h. c.go_down.ensures.is s w h; fits = c.go_down.ensures.fits; room = c.go_down.ensures.room; net = c.go_down.ensures.net; events = c.go_down.ensures.events; steps = tt })
 
 pub returns-in-Up-clause-ok : goal.returns-in-Up-clause-ok
 returns-in-Up-clause-ok c =
@@ -96,7 +104,7 @@ returns-in-Up-clause-ok c =
     let off : to_z w128 (of_z w128 c.in-Up.off) ≡ c.in-Up.off = read_128 c.in-Up.off (off_size c.in-Up.off event.1) in
     of_event c.args.event.now _ c.args.plant.now c.come_up.new.self c.in-Up.is
     (record {
-      is = subst (λ d. Is (Up c.in-Up.node d c.in-Up.swaps) c.args.plant.now c.come_up.new.self) off c.come_up.ensures.is;
+      is = λ s w m h. subst (λ d. Is (Up c.in-Up.node d c.in-Up.swaps) c.args.plant.now c.come_up.new.self) off c.come_up.ensures.is s w h;
       fits = c.come_up.ensures.fits;
       room = c.come_up.ensures.room;
       net = c.come_up.ensures.net;
@@ -107,7 +115,7 @@ returns-in-Up-clause-ok c =
 pub returns-in-Cut-clause-ok : goal.returns-in-Cut-clause-ok
 returns-in-Cut-clause-ok c =
     of_event c.args.event.now _ c.args.plant.now c.cut.new.self c.in-Cut.is
-    (record { is = c.cut.ensures.is; fits = c.cut.ensures.fits; room = c.cut.ensures.room; net = c.cut.ensures.net; events = c.cut.ensures.events; steps = tt })
+    (record { is = λ s w m h. c.cut.ensures.is s w h; fits = c.cut.ensures.fits; room = c.cut.ensures.room; net = c.cut.ensures.net; events = c.cut.ensures.events; steps = tt })
 
 pub returns-in-Join-clause-ok : goal.returns-in-Join-clause-ok
 returns-in-Join-clause-ok c =
@@ -116,9 +124,9 @@ returns-in-Join-clause-ok c =
     let sm : to_z w128 (of_z w128 c.in-Join.sm) ≡ c.in-Join.sm = read_128 c.in-Join.sm (delay_size c.in-Join.sm event.2.0 event.2.1) in
     of_event c.args.event.now _ c.args.plant.now c.join.new.self c.in-Join.is
     (record {
-      is =
+      is = λ s w m h.
           subst (λ d. Is (Join c.in-Join.link d c.in-Join.sm) c.args.plant.now c.join.new.self) ms
-          (subst (λ d. Is (Join c.in-Join.link (to_z w128 (of_z w128 c.in-Join.ms)) d) c.args.plant.now c.join.new.self) sm c.join.ensures.is);
+          (subst (λ d. Is (Join c.in-Join.link (to_z w128 (of_z w128 c.in-Join.ms)) d) c.args.plant.now c.join.new.self) sm c.join.ensures.is) s w h;
       fits = c.join.ensures.fits;
       room = c.join.ensures.room;
       net = c.join.ensures.net;

@@ -1,0 +1,7 @@
+mod Counting
+mod FirstDue
+mod Losses
+mod Oldest
+mod Passing
+mod Putting
+pub mod Staying

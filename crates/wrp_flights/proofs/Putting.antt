@@ -1,0 +1,151 @@
+-- What the window keeps as a frame departs.
+use Rattle.std.proofs.Common.{◌≡◌, ◌∙◌, refl, ap, sym, subst, ℕ, zero, suc, ◌+◌, ◌==◌, ◌||◌, ℤ, Bool, true, false, cond, if◌then◌else◌, List, [], ◌∷◌, ◌++◌, length, Option, Some, slice_get, arith}
+use Rattle.std.proofs.lemmas.Map.Lookups.{exact_pairs, exact_signed, exact_unsigned}
+use Rattle.std.proofs.lemmas.Option.{slice_get_within}
+use Rattle.std.specs.BTreeMap.{is_at}
+use Rattle.std.specs.Cmp.{unsigned_tied}
+use Rattle.std.specs.Ordering.{nat_cmp, int_cmp}
+use Rattle.wrp_flights.specs.declared.departed.Departed.{Departed}
+use Rattle.wrp_flights.specs.Ages.{Aged, age_cmp, has}
+use Rattle.wrp_flights.specs.Departed.{is_kept, is_on, is_young}
+use Rattle.wrp_flights.specs.Frames.{at, sent_at}
+use Rattle.wrp_flights.specs.Listing.{Holds, Lists, has_number}
+use Rattle.wrp_flights.proofs.Passing.{equal_is, same_number}
+
+some_is : (f g : Departed) → Some f ≡ Some g → f ≡ g
+some_is f g e = cc
+
+get_before : (sent : List ℤ) (t x : ℤ) (i : ℕ) → slice_get sent i ≡ Some x → slice_get (sent ++ t ∷ []) i ≡ Some x
+get_before [] t x i e = absurd cc
+get_before (s ∷ sent) t x zero e = e
+get_before (s ∷ sent) t x (suc i) e = get_before sent t x i e
+
+get_last : (sent : List ℤ) (t : ℤ) → slice_get (sent ++ t ∷ []) (length sent) ≡ Some t
+get_last [] t = refl
+get_last (s ∷ sent) t = get_last sent t
+
+sent_before : (sent : List ℤ) (t x : ℤ) (k : ℕ) → sent_at k sent ≡ Some x → sent_at k (sent ++ t ∷ []) ≡ Some x
+sent_before sent t x zero e = absurd cc
+sent_before sent t x (suc i) e = get_before sent t x i e
+
+sent_last : (sent : List ℤ) (t : ℤ) (n k : ℕ) → n ≡ length sent + 1 → n ≡ k → sent_at k (sent ++ t ∷ []) ≡ Some t
+sent_last sent t n k e g =
+    let same : suc (length sent) ≡ k = omega (arith, e, g) in subst (λ i. sent_at i (sent ++ t ∷ []) ≡ Some t) same (get_last sent t)
+
+same_age : (a b : ℤ × ℕ) → is_at (age_cmp a) b ≡ true → a ≡ b
+same_age a b e = exact_pairs int_cmp nat_cmp exact_signed exact_unsigned a b (equal_is (age_cmp a b) e)
+
+same_number_of : (a b : ℤ × ℕ) → is_at (age_cmp a) b ≡ true → a.1 ≡ b.1
+same_number_of a b e = ap (λ p. p.1) (same_age a b e)
+
+same_time_of : (a b : ℤ × ℕ) → is_at (age_cmp a) b ≡ true → a.0 ≡ b.0
+same_time_of a b e = ap (λ p. p.0) (same_age a b e)
+
+pub put_aged :
+    (h : ℤ) (sent : List ℤ) (kept after : List (ℕ × Departed)) (ages more : List (ℤ × ℕ)) (n : ℕ) (frame : Departed) → n ≡ length sent + 1 → is_on frame ≡ true → Aged h sent kept ages →
+    ((k : ℕ) → at k after ≡ cond (is_at (nat_cmp n) k) (Some frame) (at k kept)) →
+    ((t : ℤ) (k : ℕ) → has t k more ≡ cond (is_at (age_cmp (frame.sent, n)) (t, k)) true (has t k ages)) → has frame.sent n more ≡ true →
+    Aged h (sent ++ frame.sent ∷ []) after more
+put_aged h sent kept after ages more n frame e on a g m there = record {
+  told = λ k f i. told_at k f (is_at (nat_cmp n) k) refl (sym (g k) ∙ i);
+  kept_is = λ k f i. kept_at k f (is_at (nat_cmp n) k) (sym (g k) ∙ i);
+  young = λ k f i y. young_at k f (is_at (nat_cmp n) k) refl (sym (g k) ∙ i) y;
+  dated = λ t k i. dated_at t k (is_at (age_cmp (frame.sent, n)) (t, k)) refl (sym (m t k) ∙ i);
+} where
+  told_at : (k : ℕ) (f : Departed) (b : Bool) → is_at (nat_cmp n) k ≡ b → cond b (Some frame) (at k kept) ≡ Some f → sent_at k (sent ++ frame.sent ∷ []) ≡ Some f.sent
+  told_at k f true x i = sent_last sent frame.sent n k e (same_number n k x) ∙ ap (λ d. Some d.sent) (some_is frame f i)
+  told_at k f false x i = sent_before sent frame.sent f.sent k (a.told k f i)
+
+  kept_at : (k : ℕ) (f : Departed) (b : Bool) → cond b (Some frame) (at k kept) ≡ Some f → is_kept h f ≡ true
+  kept_at k f true i = subst (λ x. is_kept h x ≡ true) (some_is frame f i) (ap (λ x. if x then true else is_young h frame) on)
+  kept_at k f false i = a.kept_is k f i
+
+  or_had : (b c : Bool) → c ≡ true → cond b true c ≡ true
+  or_had true c i = refl
+  or_had false c i = i
+
+  young_at : (k : ℕ) (f : Departed) (b : Bool) → is_at (nat_cmp n) k ≡ b → cond b (Some frame) (at k kept) ≡ Some f → is_young h f ≡ true → has f.sent k more ≡ true
+  young_at k f true x i y = subst (λ d. has d.sent k more ≡ true) (some_is frame f i) (subst (λ q. has frame.sent q more ≡ true) (same_number n k x) there)
+  young_at k f false x i y = m f.sent k ∙ or_had (is_at (age_cmp (frame.sent, n)) (f.sent, k)) (has f.sent k ages) (a.young k f i y)
+
+  dated_at : (t : ℤ) (k : ℕ) (b : Bool) → is_at (age_cmp (frame.sent, n)) (t, k) ≡ b → cond b true (has t k ages) ≡ true → sent_at k (sent ++ frame.sent ∷ []) ≡ Some t
+  dated_at t k true x i = sent_last sent frame.sent n k e (same_number_of (frame.sent, n) (t, k) x) ∙ ap Some (same_time_of (frame.sent, n) (t, k) x)
+  dated_at t k false x i = sent_before sent frame.sent t k (a.dated t k i)
+
+past_last : (sent : List ℤ) (n k : ℕ) (x : ℤ) → n ≡ length sent + 1 → n ≡ k → sent_at k sent ≡ Some x → ⊥
+past_last sent n zero x e g i = absurd (omega (arith, e, g))
+past_last sent n (suc k) x e g i = let l = slice_get_within sent k x i in absurd (omega (arith, e, g, l))
+
+-- a frame that could not be put, since there was no memory
+pub not_put_aged :
+    (h : ℤ) (sent : List ℤ) (kept : List (ℕ × Departed)) (ages more : List (ℤ × ℕ)) (n : ℕ) (time : ℤ) → n ≡ length sent + 1 → Aged h sent kept ages →
+    ((t : ℤ) (k : ℕ) → is_at (age_cmp (time, n)) (t, k) ≡ false → has t k more ≡ has t k ages) →
+    ((t : ℤ) (k : ℕ) → has t k more ≡ true → has t k ages ≡ true) → Aged h sent kept more
+not_put_aged h sent kept ages more n time e a stays fewer = record {
+  told = a.told;
+  kept_is = a.kept_is;
+  young = λ k f i y. stays f.sent k (other k f i (is_at (age_cmp (time, n)) (f.sent, k)) refl) ∙ a.young k f i y;
+  dated = λ t k i. a.dated t k (fewer t k i);
+} where
+  other : (k : ℕ) (f : Departed) → at k kept ≡ Some f → (b : Bool) → is_at (age_cmp (time, n)) (f.sent, k) ≡ b → is_at (age_cmp (time, n)) (f.sent, k) ≡ false
+  other k f i true x = absurd (past_last sent n k f.sent e (same_number_of (time, n) (f.sent, k) x) (a.told k f i))
+  other k f i false x = x
+
+-- The numbers of those on a fibre
+
+listed_more : (k n : ℕ) (numbers : List ℕ) → has_number k numbers ≡ true → has_number k (numbers ++ n ∷ []) ≡ true
+listed_more k n [] e = absurd cc
+listed_more k n (m ∷ numbers) e = by_test (listed_more k n numbers) (m == k) refl where
+  by_test : (has_number k numbers ≡ true → has_number k (numbers ++ n ∷ []) ≡ true) → (b : Bool) → (m == k) ≡ b → has_number k (m ∷ (numbers ++ n ∷ [])) ≡ true
+  by_test more true f = ap (λ x. x || has_number k (numbers ++ n ∷ [])) f
+  by_test more false f =
+      ap (λ x. x || has_number k (numbers ++ n ∷ [])) f
+      ∙ more (sym (ap (λ x. x || has_number k numbers) f) ∙ e)
+
+listed_last : (k n : ℕ) (numbers : List ℕ) → (n == k) ≡ true → has_number k (numbers ++ n ∷ []) ≡ true
+listed_last k n [] e = ap (λ x. x || false) e
+listed_last k n (m ∷ numbers) e = by_test (listed_last k n numbers e) (m == k) where
+  by_test : has_number k (numbers ++ n ∷ []) ≡ true → (b : Bool) → (b || has_number k (numbers ++ n ∷ [])) ≡ true
+  by_test more true = refl
+  by_test more false = more
+
+put_lists : (n : ℕ) (frame : Departed) (kept after : List (ℕ × Departed)) (numbers : List ℕ) →
+    ((k : ℕ) → at k after ≡ cond (is_at (nat_cmp n) k) (Some frame) (at k kept)) → Lists kept numbers → Lists after (numbers ++ n ∷ [])
+put_lists n frame kept after numbers g l k d e on = by_test (is_at (nat_cmp n) k) refl (sym (g k) ∙ e) where
+  by_test : (b : Bool) → is_at (nat_cmp n) k ≡ b → cond b (Some frame) (at k kept) ≡ Some d → has_number k (numbers ++ n ∷ []) ≡ true
+  by_test true x i = listed_last k n numbers (sym (unsigned_tied n k) ∙ x)
+  by_test false x i = listed_more k n numbers (l k d i on)
+
+-- All that the window keeps
+
+pub put_holds :
+    (h : ℤ) (sent : List ℤ) (kept after : List (ℕ × Departed)) (ages more : List (ℤ × ℕ)) (numbers : List ℕ) (n : ℕ) (frame : Departed) → n ≡ length sent + 1 → is_on frame ≡ true →
+    Holds h sent kept ages numbers → ((k : ℕ) → at k after ≡ cond (is_at (nat_cmp n) k) (Some frame) (at k kept)) →
+    ((t : ℤ) (k : ℕ) → has t k more ≡ cond (is_at (age_cmp (frame.sent, n)) (t, k)) true (has t k ages)) → has frame.sent n more ≡ true →
+    (later : List ℤ) (listed : List ℕ) → later ≡ sent ++ frame.sent ∷ [] → listed ≡ numbers ++ n ∷ [] → Holds h later after more listed
+put_holds h sent kept after ages more numbers n frame e on s g m there later listed same also = record {
+  aged = subst (λ x. Aged h x after more) (sym same) (put_aged h sent kept after ages more n frame e on s.aged g m there);
+  lists = subst (Lists after) (sym also) (put_lists n frame kept after numbers g s.lists);
+}
+
+pub not_put_holds :
+    (h : ℤ) (sent : List ℤ) (kept after : List (ℕ × Departed)) (ages more : List (ℤ × ℕ)) (numbers : List ℕ) (n : ℕ) (time : ℤ) → n ≡ length sent + 1 →
+    Holds h sent kept ages numbers → ((t : ℤ) (k : ℕ) → is_at (age_cmp (time, n)) (t, k) ≡ false → has t k more ≡ has t k ages) →
+    ((t : ℤ) (k : ℕ) → has t k more ≡ true → has t k ages ≡ true) →
+    (later : List ℤ) (listed : List ℕ) → later ≡ sent → after ≡ kept → listed ≡ numbers → Holds h later after more listed
+not_put_holds h sent kept after ages more numbers n time e s stays fewer later listed same alike also = record {
+  aged = subst (λ x. Aged h x after more) (sym same) (subst (λ x. Aged h sent x more) (sym alike) (not_put_aged h sent kept ages more n time e s.aged stays fewer));
+  lists = subst (Lists after) (sym also) (subst (λ x. Lists x numbers) (sym alike) s.lists);
+}
+
+-- a number is told by its order as by itself
+pub equal_numbers : (n k : ℕ) → is_at (nat_cmp n) k ≡ (k == n)
+equal_numbers n k = unsigned_tied n k ∙ search arith
+
+pub put_at : (n m k : ℕ) (frame : Departed) (before o : Option Departed) → n ≡ m → o ≡ cond (is_at (nat_cmp n) k) (Some frame) before → o ≡ (if k == m then Some frame else before)
+put_at n m k frame before o e f = f ∙ by_test (is_at (nat_cmp n) k) (k == m) (equal_numbers n k ∙ ap (λ x. k == x) e) where
+  by_test : (a b : Bool) → a ≡ b → cond a (Some frame) before ≡ (if b then Some frame else before)
+  by_test true true e = refl
+  by_test true false e = absurd cc
+  by_test false true e = absurd cc
+  by_test false false e = refl

@@ -1,0 +1,93 @@
+-- What the window keeps as frames change, depart and pass out.
+use Rattle.std.proofs.Common.{◌≡◌, ◌∙◌, refl, ap, sym, subst, ℕ, ℤ, ◌≤ℤ◌, ◌⊎◌, inl, inr, Bool, true, false, if◌then◌else◌, List, Option, None, Some, arith}
+use Rattle.std.proofs.lemmas.Int.{ints}
+use Rattle.std.specs.Int.Signed.{le_z}
+use Rattle.wrp_flights.specs.declared.departed.Departed.{Departed}
+use Rattle.wrp_flights.specs.Ages.{Aged, Listed, has}
+use Rattle.wrp_flights.specs.Departed.{is_kept, is_on, is_young, kept_in, turn_in}
+use Rattle.wrp_flights.specs.Frames.{at}
+use Rattle.wrp_flights.specs.Listing.{Holds, Settled, has_number}
+use Rattle.wrp_flights.proofs.Passing.{is_late}
+
+none_is : (d : Departed) → None ≡ Some d → ⊥
+none_is d e = cc
+
+some_is : (d g : Departed) → Some d ≡ Some g → d ≡ g
+some_is d g e = cc
+
+-- what is kept of a frame is the frame
+pub kept_is_it : (h : ℤ) (o : Option Departed) (d : Departed) → kept_in h o ≡ Some d → (o ≡ Some d) × (is_kept h d ≡ true)
+kept_is_it h None d e = absurd (none_is d e)
+kept_is_it h (Some g) d e = by_test (is_kept h g) refl where
+  by_test : (b : Bool) → is_kept h g ≡ b → (Some g ≡ Some d) × (is_kept h d ≡ true)
+  by_test true k = let same : Some g ≡ Some d = sym (ap (λ x. if x then Some g else None) k) ∙ e in (same, subst (λ x. is_kept h x ≡ true) (some_is g d same) k)
+  by_test false k = absurd (none_is d (sym (ap (λ x. if x then Some g else None) k) ∙ e))
+
+pub kept_young : (h : ℤ) (d : Departed) → is_kept h d ≡ true → is_on d ≡ false → is_young h d ≡ true
+kept_young h d k off = sym (ap (λ x. if x then true else is_young h d) off) ∙ k
+
+-- Frames change
+
+-- what a frame that is kept was
+pub record CameFrom (h : ℤ) (change : Departed → Departed) (o : Option Departed) (d : Departed) : Type 0 where
+  pub from : Departed
+  pub was : o ≡ Some from
+  pub same : change from ≡ d
+  pub kept : is_kept h d ≡ true
+
+pub came_from : (h : ℤ) (change : Departed → Departed) (o : Option Departed) (d : Departed) → turn_in h change o ≡ Some d → CameFrom h change o d
+came_from h change None d e = absurd (none_is d e)
+came_from h change (Some g) d e =
+    let it : (Some (change g) ≡ Some d) × (is_kept h d ≡ true) = kept_is_it h (Some (change g)) d e in
+    record { from = g; was = refl; same = some_is (change g) d it.0; kept = it.1 }
+
+pub turned_aged :
+    (h : ℤ) (sent : List ℤ) (kept after : List (ℕ × Departed)) (ages : List (ℤ × ℕ)) (change : ℕ → Departed → Departed) →
+    ((q : ℕ) (d : Departed) → (change q d).sent ≡ d.sent) → Aged h sent kept ages →
+    ((q : ℕ) → at q after ≡ turn_in h (change q) (at q kept)) → Aged h sent after ages
+turned_aged h sent kept after ages change still a e = record {
+  told = λ q d i. let it = found q d i in a.told q it.from it.was ∙ ap Some (time q d it);
+  kept_is = λ q d i. (found q d i).kept;
+  young = λ q d i y.
+      let it = found q d i in
+      let same : is_young h it.from ≡ is_young h d = ap (le_z h) (time q d it) in
+      ap (λ t. has t q ages) (sym (time q d it)) ∙ a.young q it.from it.was (same ∙ y);
+  dated = a.dated;
+} where
+  found : (q : ℕ) (d : Departed) → at q after ≡ Some d → CameFrom h (change q) (at q kept) d
+  found q d i = came_from h (change q) (at q kept) d (sym (e q) ∙ i)
+
+  time : (q : ℕ) (d : Departed) → (it : CameFrom h (change q) (at q kept) d) → it.from.sent ≡ d.sent
+  time q d it = sym (still q it.from) ∙ ap (λ x. x.sent) it.same
+
+-- what the window keeps says of each frame that it is listed, or young and on no fibre
+pub settles : (h : ℤ) (sent : List ℤ) (kept : List (ℕ × Departed)) (ages : List (ℤ × ℕ)) (numbers : List ℕ) → Holds h sent kept ages numbers → Settled h kept numbers
+settles h sent kept ages numbers s k d e = by_test (is_on d) refl where
+  by_test : (b : Bool) → is_on d ≡ b → (has_number k numbers ≡ true) ⊎ ((is_on d ≡ false) × (is_young h d ≡ true))
+  by_test true on = inl (s.lists k d e on)
+  by_test false off = inr (off, kept_young h d (s.aged.kept_is k d e) off)
+
+-- Time passes
+
+young_before : (before h : ℤ) (d : Departed) → before ≤ℤ h → is_young h d ≡ true → is_young before d ≡ true
+young_before before h d l y = is_late before d.sent (omega (arith, ints, l, y))
+
+pub listed_later : (before h : ℤ) (sent : List ℤ) (kept : List (ℕ × Departed)) (ages : List (ℤ × ℕ)) → before ≤ℤ h → Aged before sent kept ages → Listed h kept ages
+listed_later before h sent kept ages l a k d i on = elim on [
+  | inl off ↦ a.young k d i (kept_young before d (a.kept_is k d i) off)
+  | inr y ↦ a.young k d i (young_before before h d l y)
+]
+
+pub passed_holds :
+    (before h : ℤ) (sent : List ℤ) (kept after : List (ℕ × Departed)) (ages left : List (ℤ × ℕ)) (numbers : List ℕ) → Holds before sent kept ages numbers →
+    ((k : ℕ) → at k after ≡ kept_in h (at k kept)) → ((k : ℕ) (d : Departed) → at k after ≡ Some d → is_young h d ≡ true → has d.sent k left ≡ true) →
+    ((t : ℤ) (k : ℕ) → has t k left ≡ true → has t k ages ≡ true) → Holds h sent after left numbers
+passed_holds before h sent kept after ages left numbers s e young fewer = record {
+  aged = record {
+    told = λ k d i. s.aged.told k d (kept_is_it h (at k kept) d (sym (e k) ∙ i)).0;
+    kept_is = λ k d i. (kept_is_it h (at k kept) d (sym (e k) ∙ i)).1;
+    young = young;
+    dated = λ t k i. s.aged.dated t k (fewer t k i);
+  };
+  lists = λ k d i on. s.lists k d (kept_is_it h (at k kept) d (sym (e k) ∙ i)).0 on;
+}

@@ -1,0 +1,148 @@
+//! Frames on fibres are lost.
+ghost use Rattle.std.specs.Prelude.{◌≡◌, ℕ, cond, filter, false, option_map, slice_get};
+ghost use Rattle.std.specs.BTreeMap.{is_at};
+ghost use Rattle.std.specs.Option.{option_map_or};
+ghost use Rattle.std.specs.Ordering.{nat_cmp};
+ghost use Rattle.wrp_flights.specs.Departed.{is_on, turn_in};
+ghost use Rattle.wrp_flights.specs.Frames.{at};
+ghost use Rattle.wrp_flights.specs.Listing.{Lists, Settled, on_at};
+ghost use Rattle.wrp_flights.specs.Losing as spec;
+
+use crate::departed::Departed;
+use crate::puts::forget_old;
+use std::collections::BTreeMap;
+use wrp_base::{LinkCfg, Role, Tau};
+
+/// Which frames on fibres are lost.
+#[derive(Clone, Copy, Debug, PartialEq, Eq)]
+pub enum Loss {
+    /// Those on the fibre of this link.
+    Link(u8),
+    /// Those on the fibres of this node's links.
+    Node(u8),
+    /// Those that departed before this number, over this link and from this end.
+    Older(u32, u8, Role),
+}
+
+fn is_role(a: Role, b: Role) -> bool
+    ensures { result ≡ spec.is_role a b }
+{
+    a == b
+}
+
+// An end of a link is this node's.
+fn is_end_of(link: &LinkCfg, node: u8) -> bool
+    ensures { result ≡ spec.touches node link.now }
+{
+    link.upper == node || link.lower == node
+}
+
+// The same of the link of a number.
+fn touches(links: &[LinkCfg], k: u8, node: u8) -> bool
+    ensures { result ≡ option_map_or (spec.touches node) (slice_get links.now k) false }
+{
+    match links.get(usize::from(k)) {
+        Some(link) => is_end_of(link, node),
+        None => false,
+    }
+}
+
+// Whether the frame of a number is one of those.
+fn meets(loss: Loss, links: &[LinkCfg], number: u32, frame: &Departed) -> bool
+    ensures { result ≡ spec.meets links.now loss number frame.now }
+{
+    match loss {
+        Loss::Link(link) => frame.link == link,
+        Loss::Node(node) => touches(links, frame.link, node),
+        Loss::Older(than, link, by) => {
+            number < than && (frame.link == link && is_role(frame.by, by))
+        }
+    }
+}
+
+// A frame is lost, where it is one of those and is on a fibre.
+fn lose_frame(frame: &mut Departed, number: u32, loss: Loss, links: &[LinkCfg])
+    ensures { frame.new ≡ spec.lost_by links.now loss number frame.old }
+{
+    let loses = meets(loss, links, number, frame);
+    frame.gone = frame.gone || (loses && frame.is_on());
+}
+
+// The same of the frame of a number.
+fn lose_at(kept: &mut BTreeMap<u32, Departed>, number: u32, loss: Loss, links: &[LinkCfg])
+    ensures { (k : ℕ) → at k kept.new.entries
+        ≡ cond (is_at (nat_cmp number) k) (option_map (spec.lost_by links.now loss number) (at k kept.old.entries))
+        (at k kept.old.entries) }
+{
+    if let Some(frame) = kept.get_mut(&number) {
+        lose_frame(frame, number, loss, links);
+    }
+}
+
+// It is forgotten, where it is then old.
+fn lose_one(
+    kept: &mut BTreeMap<u32, Departed>,
+    number: u32,
+    loss: Loss,
+    links: &[LinkCfg],
+    horizon: Tau,
+)
+    ensures { (k : ℕ) → at k kept.new.entries
+        ≡ cond (is_at (nat_cmp number) k) (turn_in horizon (spec.lost_by links.now loss number) (at k kept.old.entries))
+        (at k kept.old.entries) }
+{
+    lose_at(kept, number, loss, links);
+    forget_old(kept, number, horizon);
+}
+
+// All of them are lost, and those forgotten that are then old. The numbers list each frame that is on a
+// fibre, and each that is old.
+fn lose_all(
+    kept: &mut BTreeMap<u32, Departed>,
+    numbers: &[u32],
+    loss: Loss,
+    links: &[LinkCfg],
+    horizon: Tau,
+)
+    requires { Settled horizon kept.old.entries numbers.now }
+    ensures { (k : ℕ) → at k kept.new.entries ≡ turn_in horizon (spec.lost_by links.now loss k) (at k kept.old.entries) }
+{
+    for number in numbers {
+        lose_one(kept, *number, loss, links, horizon);
+    }
+}
+
+// Whether the frame of a number is on a fibre.
+fn is_on_at(kept: &BTreeMap<u32, Departed>, number: u32) -> bool
+    ensures { result ≡ on_at kept.now.entries number }
+{
+    match kept.get(&number) {
+        Some(frame) => frame.is_on(),
+        None => false,
+    }
+}
+
+// The numbers of frames that are on no fibre are left out.
+fn leave_out(kept: &BTreeMap<u32, Departed>, numbers: &mut Vec<u32>)
+    requires { Lists kept.now.entries numbers.old.items }
+    ensures kept { numbers.new.items ≡ filter (on_at kept.now.entries) numbers.old.items }
+    ensures lists { Lists kept.now.entries numbers.new.items }
+{
+    numbers.retain(|number| is_on_at(kept, *number));
+}
+
+/// These frames are lost, and those forgotten that are then old; the numbers are those on a fibre.
+pub fn lose(
+    kept: &mut BTreeMap<u32, Departed>,
+    numbers: &mut Vec<u32>,
+    loss: Loss,
+    links: &[LinkCfg],
+    horizon: Tau,
+)
+    requires { Settled horizon kept.old.entries numbers.old.items }
+    ensures kept { (k : ℕ) → at k kept.new.entries ≡ turn_in horizon (spec.lost_by links.now loss k) (at k kept.old.entries) }
+    ensures lists { Lists kept.new.entries numbers.new.items }
+{
+    lose_all(kept, numbers, loss, links, horizon);
+    leave_out(kept, numbers);
+}

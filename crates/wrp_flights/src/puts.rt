@@ -1,0 +1,66 @@
+//! A frame is put into the window, and frames that change there.
+ghost use Rattle.std.specs.Prelude.{◌≡◌, ℕ, ℤ, true, false, cond, Some, option_map, OnErr, OnOk};
+ghost use Rattle.std.specs.BTreeMap.{is_at};
+ghost use Rattle.std.specs.Ordering.{nat_cmp};
+ghost use Rattle.wrp_flights.specs.Ages.{age_cmp, has};
+ghost use Rattle.wrp_flights.specs.Departed.{kept_in, receive};
+ghost use Rattle.wrp_flights.specs.Frames.{at};
+
+use crate::departed::{Departed, Reception};
+use std::alloc::AllocError;
+use std::collections::{BTreeMap, BTreeSet};
+use wrp_base::Tau;
+
+/// A frame that was put out at this time is kept under a number, and listed by its age. Where memory for
+/// one of both could not be had, neither is so.
+pub fn keep(
+    kept: &mut BTreeMap<u32, Departed>,
+    ages: &mut BTreeSet<(Tau, u32)>,
+    time: Tau,
+    number: u32,
+    frame: Departed,
+) -> Result<(), AllocError>
+    ensures kept { OnOk result ((k : ℕ) → at k kept.new.entries
+        ≡ cond (is_at (nat_cmp number) k) (Some frame) (at k kept.old.entries)) }
+    ensures ages { OnOk result ((t : ℤ) (k : ℕ) → has t k ages.new.keys
+        ≡ cond (is_at (age_cmp (time, number)) (t, k)) true (has t k ages.old.keys)) }
+    ensures there { OnOk result (has time number ages.new.keys ≡ true) }
+    ensures err { OnErr result (kept.new.entries ≡ kept.old.entries) }
+    ensures stays { OnErr result ((t : ℤ) (k : ℕ) → is_at (age_cmp (time, number)) (t, k) ≡ false
+        → has t k ages.new.keys ≡ has t k ages.old.keys) }
+    ensures fewer { OnErr result ((t : ℤ) (k : ℕ) → has t k ages.new.keys ≡ true → has t k ages.old.keys ≡ true) }
+{
+    ages.insert((time, number))?;
+    match kept.insert(number, frame) {
+        Ok(_none) => Ok(()),
+        Err(_pair) => {
+            let _taken = ages.remove(&(time, number));
+            Err(AllocError)
+        }
+    }
+}
+
+/// A frame arrives.
+pub fn receive(kept: &mut BTreeMap<u32, Departed>, number: u32, reception: Reception)
+    ensures { (k : ℕ) → at k kept.new.entries
+        ≡ cond (is_at (nat_cmp number) k) (option_map (receive reception) (at k kept.old.entries))
+        (at k kept.old.entries) }
+{
+    if let Some(frame) = kept.get_mut(&number) {
+        frame.arrival = Some(reception);
+    }
+}
+
+/// A frame is forgotten, where it is on no fibre and was put out before this time.
+pub fn forget_old(kept: &mut BTreeMap<u32, Departed>, number: u32, horizon: Tau)
+    ensures { (k : ℕ) → at k kept.new.entries
+        ≡ cond (is_at (nat_cmp number) k) (kept_in horizon (at k kept.old.entries)) (at k kept.old.entries) }
+{
+    let stays = match kept.get(&number) {
+        Some(frame) => frame.is_kept(horizon),
+        None => true,
+    };
+    if !stays {
+        let _old = kept.remove(&number);
+    }
+}
