@@ -1,5 +1,5 @@
 -- An audit and the inputs that it gives a node are of one run, and the replay on these inputs is the node's part of it.
-use Rattle.std.proofs.Common.{◌≡◌, ◌∙◌, refl, ap, ap₂, sym, subst, append-nil, ℕ, ◌<◌, ◌≤◌, ◌^◌, ◌==◌, Some, Ok, List, [], ◌∷◌, ◌++◌, map, reverse, length, codes, arith}
+use Rattle.std.proofs.Common.{◌≡◌, ◌∙◌, inl, inr, refl, ap, ap₂, sym, subst, append-nil, ℕ, ◌<◌, ◌≤◌, ◌^◌, ◌==◌, Some, Ok, List, [], ◌∷◌, ◌++◌, map, reverse, length, codes, arith}
 use Rattle.std.specs.List.{AllByRecursion}
 use Rattle.std.proofs.lemmas.List.{length-map, length-reverse, reverse-reverse}
 use Rattle.wrp_base.specs.declared.configuration.NetCfg.{NetCfg}
@@ -45,7 +45,7 @@ use Rattle.wrp_run.proofs.BareSetting.{name_bare, named_bare, read_bare}
 use Rattle.wrp_run.proofs.OneAnswer.{one_setting}
 use Rattle.wrp_run.proofs.OneAudit.{read}
 use Rattle.wrp_records.proofs.Reaching.{lines_alone}
-use Rattle.wrp_run.proofs.WordLemmas.{audit_alone, emission_alone, no_option, no_simulation, one_value, simulation_alone}
+use Rattle.wrp_run.proofs.WordLemmas.{alone_no_audit, alone_unnetworked, audit_alone, emission_alone, no_option, no_simulation, one_value, simulation_alone}
 use Rattle.wrp_projection.specs.Law.{FrontWithRecords, HasRecords, ReplayOfEmittedInputs}
 use Rattle.wrp_projection.specs.Projection.{IsProjection, IsProjectionTo}
 use Rattle.wrp_projection.proofs.Own.{audit_is, given_are, own_lines, put_out_by}
@@ -65,8 +65,9 @@ record TheAudit (input audit : List ℕ) : Type 0 where
   run : IsAudit s (map content_of (behind_separator (lines_of input))) events
   is : audit ≡ audit_lines s events ++ all_counts s (world_after s events)
 
-audited : OneAudit → (words : List (List ℕ)) (input audit : List ℕ) → IsAuditing words → Answer words input Done audit → TheAudit input audit
-audited one words input audit asks p = go p.0 p.1 p.2
+audited : OneAudit → (words : List (List ℕ)) (input audit : List ℕ) → IsAuditing words → Answer words input [] Done audit → TheAudit input audit
+audited one words input audit asks (inr alone) = absurd (alone_no_audit words alone.0 alone.1 asks)
+audited one words input audit asks (inl p) = go p.0 p.1 p.2
   where
     go : (task : Task) → AsksFor words (network_text input) task → RecordsAnswer (meaning_at task) (behind_separator (lines_of input)) Done audit → TheAudit input audit
     go (Replay site) q h = absurd (audit_alone words q.1 asks q.2)
@@ -94,8 +95,9 @@ record TheEmission (input name records : List ℕ) : Type 0 where
   run : IsAudit s (map content_of (behind_separator (lines_of input))) events
   is : records ≡ given_lines s node events
 
-emitted : (words : List (List ℕ)) (input name records : List ℕ) → IsEmission words name → Answer words input Done records → TheEmission input name records
-emitted words input name records asks p = go p.0 p.1 p.2
+emitted : (words : List (List ℕ)) (input name records : List ℕ) → IsEmission words name → Answer words input [] Done records → TheEmission input name records
+emitted words input name records asks (inr alone) = absurd (alone_unnetworked words alone.0 alone.1 (inr (inl (name, inr asks))))
+emitted words input name records asks (inl p) = go p.0 p.1 p.2
   where
     go : (task : Task) → AsksFor words (network_text input) task → RecordsAnswer (meaning_at task) (behind_separator (lines_of input)) Done records → TheEmission input name records
     go (Replay site) q h = absurd (emission_alone words name q.1 asks q.2)
@@ -261,7 +263,7 @@ both_of inputs accepted one input name audit records a e =
 
 replay_is : (replaying : List (List ℕ)) (name input replayed audit records : List ℕ) → IsReplay replaying name → length (network_text input) ≤ network_limit
     → length (lines_of records) < 2 ^ 32 → HasRecords input records replayed → OneOfBoth input name audit records
-    → (text : List ℕ) × Answer replaying replayed Done text × IsProjectionTo (network_text input) name audit text
+    → (text : List ℕ) × Answer replaying replayed [] Done text × IsProjectionTo (network_text input) name audit text
 replay_is replaying name input replayed audit records asks within few has b =
     let s : Setting = setting_at b.cfg b.db in
     let n : ℕ = b.site.node in
@@ -284,7 +286,7 @@ replay_is replaying name input replayed audit records asks within few has b =
       of_one = ap (λ (l : List ℕ). l ++ node_counts site (w.node n)) (sym (own_lines b.cfg b.db n b.events));
     } in (
       written site taken ++ node_counts site (w.node n),
-      (
+      inl (
         Replay site,
         (
           subst (λ (t : List ℕ). length t ≤ network_limit) (sym has.network) within,
@@ -294,6 +296,7 @@ replay_is replaying name input replayed audit records asks within few has b =
           named,
         ),
         due,
+        refl,
       ),
       record {
         site = site;

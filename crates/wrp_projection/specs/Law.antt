@@ -1,6 +1,6 @@
 -- The law of projection: the replay of a node on the inputs that an audit gave it prints that node's
 -- lines of the audit again (this project's profile).
-use Rattle.std.specs.Prelude.{◌≡◌, ℕ, ◌<◌, ◌^◌, List, ◌++◌, length}
+use Rattle.std.specs.Prelude.{◌≡◌, ℕ, ◌<◌, ◌^◌, List, [], ◌++◌, length}
 use Rattle.wrp_records.specs.declared.status.Status.TheVariants.{Done}
 use Rattle.wrp_run.specs.Answer.{Answer}
 use Rattle.wrp_run.specs.Input.{Divides, network_text, behind_separator}
@@ -18,14 +18,14 @@ abbrev pub FrontWithRecords : Type 0
 FrontWithRecords =
     (front back text records : List ℕ) → Divides front text → HasRecords (front ++ back) records (front ++ records)
 
--- Where an audit is due to end with Done, and so are the inputs of a node in it, fewer than 2^32, the
+-- Where an audit, which calls no link, is due to end with Done, and so are the inputs of a node in it, fewer than 2^32, the
 -- replay of that node on these inputs in the same network is due to end with Done, and to write the
 -- node's lines of the audit
 abbrev pub ReplayOfEmittedInputs : Type 0
 ReplayOfEmittedInputs =
     (auditing emitting replaying : List (List ℕ)) (name input replayed audit records : List ℕ) →
     IsAuditing auditing → IsEmission emitting name → IsReplay replaying name →
-    Answer auditing input Done audit → Answer emitting input Done records →
+    Answer auditing input [] Done audit → Answer emitting input [] Done records →
     length (lines_of records) < 2 ^ 32 → HasRecords input records replayed →
-    (text : List ℕ) × Answer replaying replayed Done text
+    (text : List ℕ) × Answer replaying replayed [] Done text
     × IsProjectionTo (network_text input) name audit text
