@@ -16,6 +16,8 @@ fn status_of(name: &str) -> Option<Status> {
         "LinkFault" => Some(Status::LinkFault),
         "TooLarge" => Some(Status::TooLarge),
         "OutOfMemory" => Some(Status::OutOfMemory),
+        "BadCapture" => Some(Status::BadCapture),
+        "BadCalib" => Some(Status::BadCalib),
         _ => None,
     }
 }
