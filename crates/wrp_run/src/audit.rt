@@ -33,9 +33,9 @@ use wrp_config::Network;
 use wrp_law::DelayLaw;
 use wrp_lines::append_line;
 use wrp_node::Output;
+use wrp_records::{Closing, Machine, Refusal, Taken, append_bad_trace};
 use wrp_trace::{append_input_line, read_event_fields};
 use wrp_world::{Event, NodeOut, Refused, World};
-use wrp_records::{Closing, Machine, Refusal, Taken, append_bad_trace};
 
 /// A network as far as it is audited: its world, the node whose inputs are asked for, if one is, and a
 /// place for the steps of an event.

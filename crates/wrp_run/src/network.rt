@@ -225,11 +225,27 @@ fn run_behind<S: Source, K: Sink>(
     match asked {
         Asked::Audit => work_behind(alloc, words, front, Work::Audit(None), reader, source, sink),
         Asked::Simulate(seed) => {
-            work_behind(alloc, words, front, Work::Simulate(seed), reader, source, sink)
+            work_behind(
+                alloc,
+                words,
+                front,
+                Work::Simulate(seed),
+                reader,
+                source,
+                sink,
+            )
         }
         Asked::Emit(name) => match front.net.node_named(name) {
             Some(node) => {
-                work_behind(alloc, words, front, Work::Audit(Some(node)), reader, source, sink)
+                work_behind(
+                    alloc,
+                    words,
+                    front,
+                    Work::Audit(Some(node)),
+                    reader,
+                    source,
+                    sink,
+                )
             }
             None => lacks_node(words, name, front, reader, source, sink),
         },

@@ -46,5 +46,13 @@ pub fn append_broken(
     ensures { IfOk result (λ _. text.new.items ≡ text.old.items ++ broken_line number
         (record { premise = premise; shown = shown; bound = bound })) }
 {
-    append_broken_words(alloc, text, number, premise, premise_name(premise), shown, bound)
+    append_broken_words(
+        alloc,
+        text,
+        number,
+        premise,
+        premise_name(premise),
+        shown,
+        bound,
+    )
 }

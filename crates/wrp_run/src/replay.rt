@@ -26,8 +26,8 @@ use wrp_bounds::path;
 use wrp_law::DelayLaw;
 use wrp_lines::append_line;
 use wrp_node::{Input, Node, Output, Outputs, node_set, one_run};
-use wrp_trace::read_input_fields;
 use wrp_records::{Closing, Machine, Refusal, Taken, append_bad_trace};
+use wrp_trace::read_input_fields;
 
 /// A node as far as it is replayed: the node, what its lines say of it, and a place for an input and
 /// one for its outputs, which serve record after record.

@@ -84,4 +84,3 @@ pub fn replay<S: Source, K: Sink>(
     let has_law = above.is_some();
     replay_by(alloc, replayed, has_law, law, reader, source, sink)
 }
-

@@ -15,8 +15,8 @@ use csv::ByteRecord;
 use std::alloc::{AllocError, Global};
 use wrp_base::TraceFault;
 use wrp_config::Network;
-use wrp_sim::Scene;
 use wrp_records::{Closing, Machine, Refusal, Taken, append_bad_trace};
+use wrp_sim::Scene;
 
 /// The scenario of a network, as far as its lines were read.
 #[derive(Drop)]

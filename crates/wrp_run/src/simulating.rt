@@ -27,8 +27,8 @@ use std::alloc::{AllocError, Global};
 use wrp_config::Network;
 use wrp_io::{Sink, Source};
 use wrp_law::DelayLaw;
-use wrp_sim::{Scene, simulator_keeps_the_bounds};
 use wrp_records::{Reader, Status, answer, append_large, handle_records, write_all};
+use wrp_sim::{Scene, simulator_keeps_the_bounds};
 
 // From how many octets on those that wait are written, behind an event.
 const PIECE: usize = 65_536;

@@ -4,6 +4,7 @@ use Rattle.std.proofs.Common.{◌∙◌, Some, ap, inl, inr, refl, subst}
 use Rattle.std.proofs.KnownBytes.{Appends-nil}
 use Rattle.wrp_io.specs.declared.link.LinkCall.{LinkCall}
 use Rattle.wrp_records.specs.Passages.{Passage, passage}
+use Rattle.wrp_run.specs.declared.command_line.Alone.TheVariants.{Migrate, Inspect, L1Sync, Calibrate, Plain}
 use Rattle.wrp_run.specs.Asked.{AsksSo}
 use Rattle.wrp_run.specs.AloneAims.{BoundsSo, CalibratesSo}
 use Rattle.wrp_run.specs.Ends.{Run}
@@ -138,6 +139,31 @@ pub returns-in-Ok-Some-Loop-clause-simulated : goal.returns-in-Ok-Some-Loop-clau
 returns-in-Ok-Some-Loop-clause-simulated g c = λ seed simulates.
     let has = subst (AsksSo (texts_of c.args.words.now)) (c.in-Ok-Some-Loop.field-0-is ∙ ap Some c.in-Ok-Some-Loop.field-0-0-is) c.in-Ok-Some-Loop.ensures in
     absurd (has (inl (inr (inr (seed, simulates)))))
+
+pub returns-in-Ok-Some-Loop-clause-migrated : goal.returns-in-Ok-Some-Loop-clause-migrated
+returns-in-Ok-Some-Loop-clause-migrated g c = λ is.
+    let has = subst (AsksSo (texts_of c.args.words.now)) (c.in-Ok-Some-Loop.field-0-is ∙ ap Some c.in-Ok-Some-Loop.field-0-0-is) c.in-Ok-Some-Loop.ensures in
+    absurd (has (inr (Migrate, is)))
+
+pub returns-in-Ok-Some-Loop-clause-inspected : goal.returns-in-Ok-Some-Loop-clause-inspected
+returns-in-Ok-Some-Loop-clause-inspected g c = λ is.
+    let has = subst (AsksSo (texts_of c.args.words.now)) (c.in-Ok-Some-Loop.field-0-is ∙ ap Some c.in-Ok-Some-Loop.field-0-0-is) c.in-Ok-Some-Loop.ensures in
+    absurd (has (inr (Inspect, is)))
+
+pub returns-in-Ok-Some-Loop-clause-synchronised : goal.returns-in-Ok-Some-Loop-clause-synchronised
+returns-in-Ok-Some-Loop-clause-synchronised g c = λ is.
+    let has = subst (AsksSo (texts_of c.args.words.now)) (c.in-Ok-Some-Loop.field-0-is ∙ ap Some c.in-Ok-Some-Loop.field-0-0-is) c.in-Ok-Some-Loop.ensures in
+    absurd (has (inr (L1Sync, is)))
+
+pub returns-in-Ok-Some-Loop-clause-calibrated : goal.returns-in-Ok-Some-Loop-clause-calibrated
+returns-in-Ok-Some-Loop-clause-calibrated g c = λ is.
+    let has = subst (AsksSo (texts_of c.args.words.now)) (c.in-Ok-Some-Loop.field-0-is ∙ ap Some c.in-Ok-Some-Loop.field-0-0-is) c.in-Ok-Some-Loop.ensures in
+    absurd (has (inr (Calibrate, is)))
+
+pub returns-in-Ok-Some-Loop-clause-bounded : goal.returns-in-Ok-Some-Loop-clause-bounded
+returns-in-Ok-Some-Loop-clause-bounded g c = λ is.
+    let has = subst (AsksSo (texts_of c.args.words.now)) (c.in-Ok-Some-Loop.field-0-is ∙ ap Some c.in-Ok-Some-Loop.field-0-0-is) c.in-Ok-Some-Loop.ensures in
+    absurd (has (inr (Plain, is)))
 
 pub returns-in-Ok-None-clause-ends : goal.returns-in-Ok-None-clause-ends
 returns-in-Ok-None-clause-ends g c =
