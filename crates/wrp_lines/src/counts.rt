@@ -5,11 +5,11 @@ ghost use Rattle.wrp_lines.specs.Lines as lines;
 ghost use Rattle.wrp_lines.specs.Lines.{count_line_of, count_words};
 ghost use Rattle.wrp_records.specs.Words.{line_of};
 
-use wrp_records::append_words;
 use crate::words::{name_of_node, name_of_reason};
 use itoa::Buffer;
 use std::alloc::{AllocError, Global};
 use wrp_config::Network;
+use wrp_records::append_words;
 
 /// The line of a counter at a port of the node, with its LF. `reason` is the number of the reason,
 /// 1 to 15. The error is want of memory.

@@ -8,7 +8,6 @@ ghost use Rattle.wrp_lines.specs.Lines as lines;
 ghost use Rattle.wrp_lines.specs.Lines.{dac_words, link_words, output_line_of, report_words, send_words, servo_words, step_words, track_words};
 ghost use Rattle.wrp_records.specs.Words.{line_of};
 
-use wrp_records::append_words;
 use crate::words::{name_of_node, text_of_link, text_of_servo};
 use itoa::Buffer;
 use std::alloc::{AllocError, Global};
@@ -16,6 +15,7 @@ use wrp_base::{Frame, NetCfg, Tau};
 use wrp_bounds::path;
 use wrp_config::Network;
 use wrp_node::{Output, Report};
+use wrp_records::append_words;
 
 /// The line of an output that the node gave at this tick, with its LF. `truth` is the true offset in
 /// tau, where it is known. The error is want of memory.

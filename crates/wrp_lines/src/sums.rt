@@ -3,11 +3,11 @@ ghost use Rattle.std.specs.Prelude.{◌≡◌, ◌∷◌, ◌++◌, OnOk, OnErr}
 ghost use Rattle.wrp_lines.specs.Lines.{sum_line_of, sum_words};
 ghost use Rattle.wrp_records.specs.Words.{line_of};
 
-use wrp_records::append_words;
 use crate::words::text_of_servo;
 use itoa::Buffer;
 use std::alloc::AllocError;
 use wrp_base::{ServoState, Tau};
+use wrp_records::append_words;
 
 /// What sums up the run of a node.
 #[derive(Clone, Copy, Debug, PartialEq, Eq)]

@@ -266,15 +266,12 @@ cut_told words network given text octets r task divided asks goes cut =
       | inr (end, same, none) ↦ absurd (goes end.ended)
     ]
 
--- words that ask for a task are a command
+-- words that ask for a task are a command on a network
 pub networked_of : (words : List (List ℕ)) (text : List ℕ) (task : Task) → AsksFor words text task → IsNetworked words
 networked_of words text (Replay site) asks = inr (inl (asks.1, inl asks.2))
 networked_of words text (Audit setting) asks = inl asks.1
 networked_of words text (Emit setting node) asks = inr (inl (asks.1, inr asks.2))
 networked_of words text (Simulate setting seed) asks = inr (inr (seed, asks.1))
-
-pub command_of : (words : List (List ℕ)) (text : List ℕ) (task : Task) → AsksFor words text task → IsCommand words
-command_of words text task asks = inl (networked_of words text task asks)
 
 -- a premise is broken only where events are audited
 broken_asks : (words : List (List ℕ)) (text : List ℕ) (task : Task) (lines : List (List ℕ)) (due : List ℕ) → AsksFor words text task
@@ -302,7 +299,7 @@ pub records_end : (words : List (List ℕ)) (first : Option (List ℕ)) (source 
     → EndsUnlinked words (begun_at first source) sink status
 records_end words first source sink text r ended task Done net at link same = (
   (
-    command_of words text task net.asks,
+    inl (networked_of words text task net.asks),
     at.octets,
     [],
     at.wrote,
@@ -312,16 +309,16 @@ records_end words first source sink text r ended task Done net at link same = (
   at.at_end at.stands.0,
 )
 records_end words first source sink text r ended task BadTrace net at link same = (
-  (command_of words text task net.asks, at.octets, [], at.wrote, uncalled link same, answered words first source text at.given at.octets r ended task BadTrace net at.taken at.at_end at.stands.0),
+  (inl (networked_of words text task net.asks), at.octets, [], at.wrote, uncalled link same, answered words first source text at.given at.octets r ended task BadTrace net at.taken at.at_end at.stands.0),
   past_told (record { words = words; source = begun_at first source; sink = sink; link = link }) source.before text at.given r task BadTrace net at.taken at.stands.1,
 )
 records_end words first source sink text r ended task Broken net at link same = (
-  (command_of words text task net.asks, at.octets, [], at.wrote, uncalled link same, answered words first source text at.given at.octets r ended task Broken net at.taken at.at_end at.stands.0),
+  (inl (networked_of words text task net.asks), at.octets, [], at.wrote, uncalled link same, answered words first source text at.given at.octets r ended task Broken net at.taken at.at_end at.stands.0),
   past_told (record { words = words; source = begun_at first source; sink = sink; link = link }) source.before text at.given r task Broken net at.taken at.stands.1,
   inl (broken_asks words text task (lines_of ((r.rest ++ at.given) ++ [])) at.octets net.asks (at.stands.0 [] (λ e. refl)).1),
 )
 records_end words first source sink text r ended task TooLarge net at link same =
-    (command_of words text task net.asks, at.octets, [], at.wrote, uncalled link same, answered words first source text at.given at.octets r ended task TooLarge net at.taken at.at_end at.stands)
+    (inl (networked_of words text task net.asks), at.octets, [], at.wrote, uncalled link same, answered words first source text at.given at.octets r ended task TooLarge net at.taken at.at_end at.stands)
 records_end words first source sink text r ended task ReadFault net at link same =
     let open_ : r.ended ≡ true → ⊥ = λ is. let bad : true ≡ false = sym (at.stays is) ∙ at.stands.0 in cc in (
       at.read.failed refl,
@@ -552,11 +549,15 @@ past_alone run alone given status is taken at means = go run.source.before run.s
 alone_done : (M : Meaning) (taken : List ℕ) (ended : Bool) (octets : List ℕ) → After M taken ended [] Done octets → IsDue M taken ended [] Done octets
 alone_done M taken ended octets at more on = subst (λ (l : List ℕ). M.answers l [] Done octets) (sym (ap (λ l. taken ++ l) (on at.0) ∙ append-nil taken)) at.1
 
+-- a command that stands alone may answer what is due
+may_alone : (alone : Alone) (given octets : List ℕ) (ended : Bool) (status : Status) → IsDue (alone_meaning alone) given ended [] status octets → MayAnswer alone status
+may_alone alone given octets ended status due = may_answer alone (given ++ []) status octets (due [] (λ e. refl))
+
 ends_alone : (words : List (List ℕ)) (alone : Alone) (source sink : Passage (List ℕ)) (ended : Bool) (status : Status) → IsAlone words alone
     → Passes (alone_meaning alone) source sink [] false ended [] status → EndsUnlinked words source sink status
 ends_alone words alone source sink ended Done is at link same = (
   (
-    inr (alone, is),
+    inr (alone, is, may_alone alone at.given at.octets ended Done (alone_done (alone_meaning alone) at.given ended at.octets at.stands)),
     at.octets,
     [],
     at.wrote,
@@ -566,26 +567,26 @@ ends_alone words alone source sink ended Done is at link same = (
   at.at_end at.stands.0,
 )
 ends_alone words alone source sink ended BadNetwork is at link same =
-    (inr (alone, is), at.octets, [], at.wrote, uncalled link same, told_alone words alone source at.given at.octets ended BadNetwork is at.taken at.at_end at.stands)
+    (inr (alone, is, may_alone alone at.given at.octets ended BadNetwork at.stands), at.octets, [], at.wrote, uncalled link same, told_alone words alone source at.given at.octets ended BadNetwork is at.taken at.at_end at.stands)
 ends_alone words alone source sink ended TooLarge is at link same =
-    (inr (alone, is), at.octets, [], at.wrote, uncalled link same, told_alone words alone source at.given at.octets ended TooLarge is at.taken at.at_end at.stands)
+    (inr (alone, is, may_alone alone at.given at.octets ended TooLarge at.stands), at.octets, [], at.wrote, uncalled link same, told_alone words alone source at.given at.octets ended TooLarge is at.taken at.at_end at.stands)
 ends_alone words alone source sink ended BadCalib is at link same = (
-  (inr (alone, is), at.octets, [], at.wrote, uncalled link same, told_alone words alone source at.given at.octets ended BadCalib is at.taken at.at_end at.stands),
-  (alone, is, may_answer alone (at.given ++ []) BadCalib at.octets (at.stands [] (λ e. refl))),
+  (inr (alone, is, may_alone alone at.given at.octets ended BadCalib at.stands), at.octets, [], at.wrote, uncalled link same, told_alone words alone source at.given at.octets ended BadCalib is at.taken at.at_end at.stands),
+  (alone, is, may_alone alone at.given at.octets ended BadCalib at.stands),
 )
 ends_alone words alone source sink ended BadTrace is at link same = (
-  (inr (alone, is), at.octets, [], at.wrote, uncalled link same, told_alone words alone source at.given at.octets ended BadTrace is at.taken at.at_end at.stands.0),
+  (inr (alone, is, may_alone alone at.given at.octets ended BadTrace at.stands.0), at.octets, [], at.wrote, uncalled link same, told_alone words alone source at.given at.octets ended BadTrace is at.taken at.at_end at.stands.0),
   past_alone (record { words = words; source = source; sink = sink; link = link }) alone at.given BadTrace is at.taken at.stands.1 (λ front has. inr (alone, is, has)),
 )
 ends_alone words alone source sink ended Broken is at link same = (
-  (inr (alone, is), at.octets, [], at.wrote, uncalled link same, told_alone words alone source at.given at.octets ended Broken is at.taken at.at_end at.stands.0),
+  (inr (alone, is, may_alone alone at.given at.octets ended Broken at.stands.0), at.octets, [], at.wrote, uncalled link same, told_alone words alone source at.given at.octets ended Broken is at.taken at.at_end at.stands.0),
   past_alone (record { words = words; source = source; sink = sink; link = link }) alone at.given Broken is at.taken at.stands.1 (λ front has. inr (alone, is, has)),
-  inr (alone, is, may_answer alone (at.given ++ []) Broken at.octets (at.stands.0 [] (λ e. refl))),
+  inr (alone, is, may_alone alone at.given at.octets ended Broken at.stands.0),
 )
 ends_alone words alone source sink ended BadCapture is at link same = (
-  (inr (alone, is), at.octets, [], at.wrote, uncalled link same, told_alone words alone source at.given at.octets ended BadCapture is at.taken at.at_end at.stands.0),
+  (inr (alone, is, may_alone alone at.given at.octets ended BadCapture at.stands.0), at.octets, [], at.wrote, uncalled link same, told_alone words alone source at.given at.octets ended BadCapture is at.taken at.at_end at.stands.0),
   past_alone (record { words = words; source = source; sink = sink; link = link }) alone at.given BadCapture is at.taken at.stands.1 (λ front has. (alone, is, has)),
-  (alone, is, may_answer alone (at.given ++ []) BadCapture at.octets (at.stands.0 [] (λ e. refl))),
+  (alone, is, may_alone alone at.given at.octets ended BadCapture at.stands.0),
 )
 ends_alone words alone source sink ended ReadFault is at link same =
     (at.read.failed refl, at.given, at.octets, at.taken, at.wrote, inr (alone, is, at.stands.2), uncalled link same)
@@ -593,7 +594,7 @@ ends_alone words alone source sink ended WriteFault is at link same =
     (at.write.failed refl, at.octets, [], at.wrote, uncalled link same, part_alone words alone source at.given at.octets ended is at.taken at.at_end at.stands)
 ends_alone words alone source sink ended OutOfMemory is at link same =
     (at.octets, [], at.wrote, uncalled link same, first_alone words alone source at.given at.octets ended is at.taken at.at_end at.stands)
-ends_alone words alone source sink ended Usage is at link same = absurd (not_usage alone (may_answer alone (at.given ++ []) Usage at.octets (at.stands [] (λ e. refl))))
+ends_alone words alone source sink ended Usage is at link same = absurd (not_usage alone (may_alone alone at.given at.octets ended Usage at.stands))
 ends_alone words alone source sink ended LinkFault is at link same = absurd (never_linked alone at.given at.octets at.stands.1)
 
 pub alone_ends : (words : List (List ℕ)) (alone : Alone) (source sink : Passage (List ℕ)) (status : Status) → IsAlone words alone → PassesAll (alone_meaning alone) source sink status

@@ -1,5 +1,5 @@
 -- The aims of the commands that stand alone, of what they wrote, for each status (this project's profile).
-use Rattle.std.specs.Prelude.{◌≡◌, ℕ, ◌+◌, List, ◌∷◌, ◌++◌, length, reverse, Some, Ok, Result}
+use Rattle.std.specs.Prelude.{◌≡◌, ℕ, ◌+◌, List, ◌∷◌, ◌++◌, length, map, drop, reverse, Some, Ok, Result}
 use Rattle.wrp_base.specs.declared.fault.ConfFault.{ConfFault}
 use Rattle.wrp_base.specs.declared.link.Role.TheVariants.{Master, Slave}
 use Rattle.wrp_calib.specs.LinesTold.{SayTruly, TellsSo}
@@ -9,19 +9,21 @@ use Rattle.wrp_caldb.specs.Reading.{IsReadingOf}
 use Rattle.wrp_check.specs.Judged.{Judges}
 use Rattle.wrp_l1sync.specs.LineAnswers.{ShowsBy}
 use Rattle.wrp_migrate.specs.Laws.{IsKept}
+use Rattle.wrp_pcap.specs.declared.capture.Order.{Order}
 use Rattle.wrp_pcap.specs.declared.content.Content.{Content}
 use Rattle.wrp_pcap.specs.declared.verdict.Verdict8.TheVariants.{Complete}
+use Rattle.wrp_pcap.specs.Capture.{Begins, HasHeader, StoredPacket}
 use Rattle.wrp_pcap.specs.Content.{messages_of}
-use Rattle.wrp_pcap.specs.Inspected.{IsInspected}
+use Rattle.wrp_pcap.specs.Inspected.{Carry, IsBadCapture, IsInspected, IsTooMany}
 use Rattle.wrp_pcap.specs.Marks.{Rises, slave_marks, master_marks}
 use Rattle.wrp_pcap.specs.PacketLines.{told_of}
 use Rattle.wrp_plain.specs.declared.event.PlainEvent.{PlainEvent}
 use Rattle.wrp_plain.specs.declared.settings.PlainStart.{PlainStart}
 use Rattle.wrp_plain.specs.LineCourse.{IsCourse}
 use Rattle.wrp_plain.specs.LineTruth.{AllAreWithin, AreTrue}
-use Rattle.wrp_records.specs.Lines.{lines_of}
+use Rattle.wrp_records.specs.Lines.{content_of, lines_of}
 use Rattle.wrp_records.specs.declared.status.Status.{Status}
-use Rattle.wrp_records.specs.declared.status.Status.TheVariants.{Done, BadTrace, Broken, TooLarge}
+use Rattle.wrp_records.specs.declared.status.Status.TheVariants.{Done, BadTrace, Broken, ReadFault, TooLarge, OutOfMemory, BadCapture}
 
 -- the octets are a calibration text of the database that the input is a text of: read again, they give a database in
 -- which each name, and each pair of wavelengths, finds the same, and which is the same
@@ -57,33 +59,38 @@ AreJudged numbers =
     × Judges Slave (reverse (slave_marks numbers)) (reverse (master_marks numbers)) (Ok tt)
     × Judges Master (reverse (master_marks numbers)) (reverse (slave_marks numbers)) (Ok tt)
 
--- the octets are the lines of a capture's packets, by the certificate, and the counts; and each `complete` among them,
--- of the packet behind those before it, names eight packets by which both ends passed the same handshake
-pub record ShowsHandshakes (input octets : List ℕ) : Type 0 where
-  pub inspected : IsInspected input octets
-  pub judged :
-      (newer before : List Content) (content : Content) (numbers : List ℕ) → inspected.contents ≡ newer ++ content ∷ before →
-      told_of (length before + 1) (messages_of before) content ≡ Some (Complete numbers) → AreJudged numbers
+-- by each certificate that is complete behind one of the first packets of a capture both ends passed that handshake
+abbrev pub JudgesHandshakes : List ℕ → Type 0
+JudgesHandshakes input =
+    (order : Order) (packets : List StoredPacket) (rest : List ℕ) → HasHeader order input
+    → Begins order packets rest (drop 24 input)
+    → (newer before : List Content) (content : Content) (numbers : List ℕ) → Carry packets (newer ++ content ∷ before)
+    → told_of (length before + 1) (messages_of before) content ≡ Some (Complete numbers) → AreJudged numbers
 
--- so it is where a capture was read to its end
+-- so it is whatever a capture has; and where it was read to its end, or to what is refused, the octets are the lines of
+-- its packets, by the certificate, and then the counts, or the refusal
 abbrev pub InspectsSo : List ℕ → Status → List ℕ → Type 0
-InspectsSo input Done octets = ShowsHandshakes input octets
-InspectsSo input status octets = Unit {0}
+InspectsSo input Done octets = IsInspected input octets × JudgesHandshakes input
+InspectsSo input BadCapture octets = IsBadCapture input octets × JudgesHandshakes input
+InspectsSo input TooLarge octets = IsTooMany input octets × JudgesHandshakes input
+InspectsSo input status octets = JudgesHandshakes input
 
 -- the first records of an input: what each event gives is true, and so is each line that is written of it: a report is
 -- within its bound of the true offset, the bound is the least that a kept measurement gives, and no exchange is too
 -- short to be measured
 abbrev pub TellsTruly : List ℕ → Type 0
 TellsTruly input =
-    (first : List ℕ) (lines rest : List (List ℕ)) → lines_of input ≡ first ∷ (lines ++ rest)
+    (first : List ℕ) (lines rest : List (List ℕ)) → map content_of (lines_of input) ≡ first ∷ (lines ++ rest)
     → (start : PlainStart) (events : List PlainEvent) → IsCourse first lines start events
     → AreTrue start.set start.off events
 
--- so it is whatever a plain servo is told; and in an answer each report, as it is printed, is within its printed bound
--- of the printed true offset
+-- so it is whatever a plain servo is told; and each report, as it is printed, is within its printed bound of the printed
+-- true offset; where a write failed the last line may stand in part, and nothing is said of what stands
 abbrev pub BoundsSo : List ℕ → Status → List ℕ → Type 0
 BoundsSo input Done octets = AllAreWithin octets × TellsTruly input
 BoundsSo input BadTrace octets = AllAreWithin octets × TellsTruly input
 BoundsSo input Broken octets = AllAreWithin octets × TellsTruly input
 BoundsSo input TooLarge octets = AllAreWithin octets × TellsTruly input
+BoundsSo input ReadFault octets = AllAreWithin octets × TellsTruly input
+BoundsSo input OutOfMemory octets = AllAreWithin octets × TellsTruly input
 BoundsSo input status octets = TellsTruly input

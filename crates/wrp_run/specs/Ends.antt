@@ -12,7 +12,7 @@ use Rattle.wrp_records.specs.Reader.{piece_limit}
 use Rattle.wrp_records.specs.RecordsAnswer.{IsRefused}
 use Rattle.wrp_run.specs.declared.command_line.Alone.{Alone}
 use Rattle.wrp_run.specs.Alone.{IsAlone, MayAnswer, alone_meaning}
-use Rattle.wrp_run.specs.Answer.{IsCommand, IsOfNode, AsksNone, Answer, FirstAnswer, PartAnswer, CutAnswer}
+use Rattle.wrp_run.specs.Answer.{IsCommand, IsNetworked, IsOfNode, AsksNone, Answer, FirstAnswer, PartAnswer, CutAnswer}
 use Rattle.wrp_run.specs.Input.{network_text, behind_separator}
 use Rattle.wrp_run.specs.Refusals.{usage_line}
 use Rattle.wrp_run.specs.Tasks.{Task, AsksFor, IsAuditing, IsEmission, meaning_at}
@@ -43,10 +43,18 @@ IsToldOf link calls =
     (calls ≡ [])
     ⊎ ((told : List LinkCall) × (link.before ≡ Some told) × (link.now ≡ Some (told ++ calls)))
 
+-- the words ask for a command that stands alone, which may answer this
+abbrev pub AsksAlone : List (List ℕ) → Status → Type 0
+AsksAlone words status = (alone : Alone) × IsAlone words alone × MayAnswer alone status
+
+-- the words are a command: one on a network, or one that stands alone and may answer this
+abbrev pub AsksSome : List (List ℕ) → Status → Type 0
+AsksSome words status = IsNetworked words ⊎ AsksAlone words status
+
 -- the words are a command, and what is due for this status was written
 abbrev pub Answered : Run → Status → Type 0
 Answered run status =
-    IsCommand run.words × (octets : List ℕ) × (calls : List LinkCall) × Wrote run octets × Called run calls
+    AsksSome run.words status × (octets : List ℕ) × (calls : List LinkCall) × Wrote run octets × Called run calls
     × IfSome run.source.before (λ input. Answer run.words input calls status octets)
 
 -- behind a network text the line of a refused record ends these octets
@@ -83,10 +91,6 @@ pub record TakesPiece (run : Run) (status : Status) (input : List ℕ) : Type 0 
 -- the words ask for an audit, or for the inputs of a node in one
 abbrev pub AsksEvents : List (List ℕ) → Type 0
 AsksEvents words = IsAuditing words ⊎ ((name : List ℕ) × IsEmission words name)
-
--- the words ask for a command that stands alone, which may answer this
-abbrev pub AsksAlone : List (List ℕ) → Status → Type 0
-AsksAlone words status = (alone : Alone) × IsAlone words alone × MayAnswer alone status
 
 -- how a run ends
 abbrev pub Ends : Run → Status → Type 0

@@ -21,6 +21,7 @@ pub mod NodeText
 pub mod Parsing
 pub mod Refusals
 pub mod Replays
+pub mod Rows
 pub mod SimHeadline
 pub mod SimStands
 pub mod SimText

@@ -20,6 +20,7 @@ mod refusals;
 mod replay;
 mod replayed;
 mod replaying;
+mod rows;
 mod scenario;
 mod simulating;
 mod simulation;
@@ -29,4 +30,5 @@ pub use audits::{
     audits_begin, events_carry_parts, made_events_carry_parts, one_answer, one_audit,
 };
 pub use command::run;
+pub use rows::lines_are_of_rows;
 pub use wrp_records::Status;

@@ -6,10 +6,10 @@ use Rattle.wrp_io.specs.declared.link.LinkCall.{LinkCall}
 use Rattle.wrp_records.specs.Passages.{Passage, passage}
 use Rattle.wrp_run.specs.declared.command_line.Alone.TheVariants.{Migrate, Inspect, L1Sync, Calibrate, Plain}
 use Rattle.wrp_run.specs.Asked.{AsksSo}
-use Rattle.wrp_run.specs.AloneAims.{BoundsSo, CalibratesSo}
+use Rattle.wrp_run.specs.AloneAims.{BoundsSo, CalibratesSo, InspectsSo}
 use Rattle.wrp_run.specs.Ends.{Run}
 use Rattle.wrp_run.specs.Words.{texts_of}
-use Rattle.wrp_run.proofs.AloneTold.{bounded, calibrated, inspected, migrated, synchronised, tells_truly, wrote_nothing}
+use Rattle.wrp_run.proofs.AloneTold.{bounded, calibrated, inspected, migrated, synchronised, judges, tells_truly, wrote_nothing}
 use Rattle.wrp_run.proofs.Asking.{memory_ends, uncalled, usage_ends}
 use Rattle.wrp_run.proofs.AskingWork.{asked_networked}
 use Rattle.wrp_run.proofs.EmitTold.{emission_told, nothing_emitted}
@@ -192,6 +192,31 @@ returns-in-Ok-None-clause-simulated g c = λ seed simulates.
     let has = subst (AsksSo (texts_of c.args.words.now)) c.in-Ok-None.field-0-is c.in-Ok-None.ensures in
     absurd (has (inl (inr (inr (seed, simulates)))))
 
+pub returns-in-Ok-None-clause-migrated : goal.returns-in-Ok-None-clause-migrated
+returns-in-Ok-None-clause-migrated g c = λ is.
+    let has = subst (AsksSo (texts_of c.args.words.now)) c.in-Ok-None.field-0-is c.in-Ok-None.ensures in
+    absurd (has (inr (Migrate, is)))
+
+pub returns-in-Ok-None-clause-inspected : goal.returns-in-Ok-None-clause-inspected
+returns-in-Ok-None-clause-inspected g c = λ is.
+    let has = subst (AsksSo (texts_of c.args.words.now)) c.in-Ok-None.field-0-is c.in-Ok-None.ensures in
+    absurd (has (inr (Inspect, is)))
+
+pub returns-in-Ok-None-clause-synchronised : goal.returns-in-Ok-None-clause-synchronised
+returns-in-Ok-None-clause-synchronised g c = λ is.
+    let has = subst (AsksSo (texts_of c.args.words.now)) c.in-Ok-None.field-0-is c.in-Ok-None.ensures in
+    absurd (has (inr (L1Sync, is)))
+
+pub returns-in-Ok-None-clause-calibrated : goal.returns-in-Ok-None-clause-calibrated
+returns-in-Ok-None-clause-calibrated g c = λ is.
+    let has = subst (AsksSo (texts_of c.args.words.now)) c.in-Ok-None.field-0-is c.in-Ok-None.ensures in
+    absurd (has (inr (Calibrate, is)))
+
+pub returns-in-Ok-None-clause-bounded : goal.returns-in-Ok-None-clause-bounded
+returns-in-Ok-None-clause-bounded g c = λ is.
+    let has = subst (AsksSo (texts_of c.args.words.now)) c.in-Ok-None.field-0-is c.in-Ok-None.ensures in
+    absurd (has (inr (Plain, is)))
+
 pub returns-in-Err-clause-ends : goal.returns-in-Err-clause-ends
 returns-in-Err-clause-ends g c =
     let run : Run = ran (texts_of c.args.words.now) (passage g.S.Source.left g.S.Source.faults c.args.source.now c.args.source.now) (passage g.K.Sink.held g.K.Sink.faults c.args.sink.now c.args.sink.now) (passage g.N.Link.told g.N.Link.faults c.args.link.now c.args.link.now) in
@@ -209,10 +234,14 @@ pub returns-in-Err-clause-simulated : goal.returns-in-Err-clause-simulated
 returns-in-Err-clause-simulated g c = λ seed simulates.
     nothing_made c.made_events_carry_parts.ensures (texts_of c.args.words.now) (g.S.Source.left c.args.source.now) (g.K.Sink.held c.args.sink.now) seed simulates (Appends-nil (g.K.Sink.held c.args.sink.now))
 
+pub returns-in-Err-clause-inspected : goal.returns-in-Err-clause-inspected
+returns-in-Err-clause-inspected g c = λ is.
+    wrote_nothing InspectsSo (g.K.Sink.held c.args.sink.now) (g.S.Source.left c.args.source.now) (judges c.complete_is_judged.ensures) (Appends-nil (g.K.Sink.held c.args.sink.now))
+
 pub returns-in-Err-clause-calibrated : goal.returns-in-Err-clause-calibrated
 returns-in-Err-clause-calibrated g c = λ is.
     wrote_nothing CalibratesSo (g.K.Sink.held c.args.sink.now) (g.S.Source.left c.args.source.now) (λ input true say. tt) (Appends-nil (g.K.Sink.held c.args.sink.now))
 
 pub returns-in-Err-clause-bounded : goal.returns-in-Err-clause-bounded
 returns-in-Err-clause-bounded g c = λ is.
-    wrote_nothing BoundsSo (g.K.Sink.held c.args.sink.now) (g.S.Source.left c.args.source.now) (tells_truly c.records_tell_truth.ensures) (Appends-nil (g.K.Sink.held c.args.sink.now))
+    wrote_nothing BoundsSo (g.K.Sink.held c.args.sink.now) (g.S.Source.left c.args.source.now) (λ input. (tt, tells_truly c.records_tell_truth.ensures input)) (Appends-nil (g.K.Sink.held c.args.sink.now))
