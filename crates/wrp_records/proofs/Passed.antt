@@ -79,7 +79,7 @@ lines_passed L octets r BadTrace text at goes =
 lines_passed L octets r Broken text at goes =
     (λ more on. (refl, refused_told L refusals.Broken octets r text at more on), stops_near L refusals.Broken Broken octets r text at (λ last. last))
 lines_passed L octets r TooLarge text at goes = λ more on. (refl, large_told L octets r text at more on)
-lines_passed L octets r BadCalib text at goes = λ more on. (refl, broken_told L BadCalib octets r text at more on)
+lines_passed L octets r BadCalib text at goes = (at.end.ended, λ more on. (refl, broken_told L BadCalib octets r text at more on))
 lines_passed L octets r OutOfMemory text at goes = λ more on. (refl, stands_told L octets r text at more on)
 lines_passed L octets r ReadFault text at goes = (goes refl, refl, at)
 lines_passed L octets r WriteFault text at goes = (at.1, at.2, at.4, part_of L octets r at.0 at.1 at.3)

@@ -2,7 +2,7 @@
 use Rattle.std.specs.Prelude.{◌≡◌, ◌⊎◌, ℕ, ◌≤◌, Bool, true, false, List, [], ◌++◌, length, take}
 use Rattle.wrp_io.specs.declared.link.LinkCall.{LinkCall}
 use Rattle.wrp_records.specs.declared.status.Status.{Status}
-use Rattle.wrp_records.specs.declared.status.Status.TheVariants.{Done, BadTrace, Broken, ReadFault, WriteFault, LinkFault, OutOfMemory, BadCapture}
+use Rattle.wrp_records.specs.declared.status.Status.TheVariants.{Done, BadTrace, Broken, ReadFault, WriteFault, LinkFault, OutOfMemory, BadCapture, BadCalib}
 use Rattle.wrp_records.specs.Meaning.{Meaning}
 use Rattle.wrp_records.specs.Reader.{piece_limit}
 
@@ -31,6 +31,7 @@ pub record StopsNear (M : Meaning) (status : Status) (taken : List ℕ) : Type 0
 -- what stands where so much was taken, and the input ended with it or not
 abbrev pub After : Meaning → List ℕ → Bool → List LinkCall → Status → List ℕ → Type 0
 After M taken ended calls Done text = (ended ≡ true) × M.answers taken calls Done text
+After M taken ended calls BadCalib text = (ended ≡ true) × IsDue M taken ended calls BadCalib text
 After M taken ended calls BadTrace text =
     IsDue M taken ended calls BadTrace text × StopsNear M BadTrace taken
 After M taken ended calls Broken text =

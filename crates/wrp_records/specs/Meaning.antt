@@ -13,7 +13,8 @@ pub record Meaning : Type 1 where
   pub first : List ℕ → List LinkCall → List ℕ → Type 0
   -- what stands where the source failed behind these octets: no refusal stands in them
   pub cut : List ℕ → List ℕ → Type 0
-  -- a refusal with this status stands at the end of these octets, however the input goes on
+  -- a refusal with this status stands at the end of these octets: it is due for them, and what would come behind them is
+  -- not asked for
   pub refused : Status → List ℕ → Type 0
   -- what stands where the next call of the link failed behind these
   pub unlinked : List ℕ → List LinkCall → List ℕ → Type 0

@@ -7,9 +7,9 @@ ghost use Rattle.wrp_records.specs.Statuses.{number_of};
 pub enum Status {
     /// 0: the input was read to its end.
     Done,
-    /// 1: the words are no command.
+    /// 1: the words are no command, or name a node that the network has not.
     Usage,
-    /// 2: the network text is refused.
+    /// 2: the network text is refused, or the calibration text of a migration.
     BadNetwork,
     /// 3: a record is no line of its kind.
     BadTrace,

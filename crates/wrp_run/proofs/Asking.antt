@@ -336,7 +336,7 @@ records_end words first source sink text r ended task OutOfMemory net at link sa
 records_end words first source sink text r ended task LinkFault net at link same = absurd at.stands.1
 records_end words first source sink text r ended task BadCapture net at link same = absurd (at.stands.0 [] (λ e. refl)).1
 records_end words first source sink text r ended task BadCalib net at link same =
-    absurd (never_barred task (lines_of ((r.rest ++ at.given) ++ [])) at.octets (at.stands [] (λ e. refl)).1)
+    absurd (never_barred task (lines_of ((r.rest ++ at.given) ++ [])) at.octets (at.stands.1 [] (λ e. refl)).1)
 records_end words first source sink text r ended task Usage net at link same = absurd (at.stands [] (λ e. refl)).1
 records_end words first source sink text r ended task BadNetwork net at link same = absurd (at.stands [] (λ e. refl)).1
 
@@ -571,8 +571,9 @@ ends_alone words alone source sink ended BadNetwork is at link same =
 ends_alone words alone source sink ended TooLarge is at link same =
     (inr (alone, is, may_alone alone at.given at.octets ended TooLarge at.stands), at.octets, [], at.wrote, uncalled link same, told_alone words alone source at.given at.octets ended TooLarge is at.taken at.at_end at.stands)
 ends_alone words alone source sink ended BadCalib is at link same = (
-  (inr (alone, is, may_alone alone at.given at.octets ended BadCalib at.stands), at.octets, [], at.wrote, uncalled link same, told_alone words alone source at.given at.octets ended BadCalib is at.taken at.at_end at.stands),
-  (alone, is, may_alone alone at.given at.octets ended BadCalib at.stands),
+  (inr (alone, is, may_alone alone at.given at.octets ended BadCalib at.stands.1), at.octets, [], at.wrote, uncalled link same, told_alone words alone source at.given at.octets ended BadCalib is at.taken at.at_end at.stands.1),
+  (alone, is, may_alone alone at.given at.octets ended BadCalib at.stands.1),
+  at.at_end at.stands.0,
 )
 ends_alone words alone source sink ended BadTrace is at link same = (
   (inr (alone, is, may_alone alone at.given at.octets ended BadTrace at.stands.0), at.octets, [], at.wrote, uncalled link same, told_alone words alone source at.given at.octets ended BadTrace is at.taken at.at_end at.stands.0),

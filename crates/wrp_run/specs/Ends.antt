@@ -114,8 +114,9 @@ Ends run Broken =
 Ends run BadCapture =
     Answered run BadCapture × IfSome run.source.before (TakesPiece run BadCapture)
     × AsksAlone run.words BadCapture
--- the records of a calibration as a whole give no answer
-Ends run BadCalib = Answered run BadCalib × AsksAlone run.words BadCalib
+-- the records of a calibration as a whole give no answer: the input was read to its end
+Ends run BadCalib =
+    Answered run BadCalib × AsksAlone run.words BadCalib × IsAtEnd run.source.now
 -- the source failed: the lines of the whole records among what was taken stand, and no refusal
 -- stands in it
 Ends run ReadFault =
