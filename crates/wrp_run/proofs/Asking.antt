@@ -1,6 +1,5 @@
 -- What stands at the end of a run, told of the words and the whole input.
-use Rattle.std.proofs.Common.{◌≡◌, ◌⊎◌, inl, inr, true, false, Bool, ℕ, ◌+◌, ◌<◌, ◌≤◌, Option, None, Some, IfSome, Err, List, [], ◌∷◌, ◌++◌, length, length-append, take, refl, sym, ap, ◌∙◌, subst, append_assoc, append-nil, option_map, arith}
-use Rattle.std.specs.List.{concat}
+use Rattle.std.proofs.Common.{◌≡◌, inl, inr, true, false, Bool, ℕ, ◌<◌, ◌≤◌, Option, None, Some, IfSome, Err, List, [], ◌∷◌, ◌++◌, length, take, refl, sym, ap, ◌∙◌, subst, append_assoc, append-nil, option_map}
 use Rattle.std.specs.Io.KnownBytes.{Appends, Consumes, IsAtEnd}
 use Rattle.std.proofs.KnownBytes.{Appends-nil, Consumes-trans}
 use Rattle.wrp_base.specs.declared.fault.ConfFault.{ConfFault}
@@ -17,11 +16,10 @@ use Rattle.wrp_records.specs.Engine.{Finishes, RefusesNetwork}
 use Rattle.wrp_records.specs.LineMeaning.{LineMeaning}
 use Rattle.wrp_records.specs.Meaning.{Meaning}
 use Rattle.wrp_records.specs.Lines.{lines_of}
-use Rattle.wrp_records.specs.Passages.{Failed, FailsBy, Passage, Passes, PassesAll}
+use Rattle.wrp_records.specs.Passages.{Failed, Passage, Passes, PassesAll}
 use Rattle.wrp_records.specs.Reader.{ReaderAt, piece_limit}
 use Rattle.wrp_records.specs.RecordsAnswer.{RecordsAnswer, StandsFirst, BreaksOff, IsRefused}
 use Rattle.wrp_records.specs.Refusals.{bad_network_line, too_large_line}
-use Rattle.wrp_records.specs.Statuses.{is_answer}
 use Rattle.wrp_records.specs.Stream.{CutHandled}
 use Rattle.wrp_run.specs.declared.command_line.Alone.{Alone}
 use Rattle.wrp_run.specs.declared.command_line.Alone.TheVariants.{Migrate, Inspect, L1Sync, Calibrate, Plain}

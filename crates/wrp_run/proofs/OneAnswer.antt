@@ -26,13 +26,13 @@ use Rattle.wrp_plain.specs.LineCourse.{plain_meaning}
 use Rattle.wrp_records.specs.Passages.{Failed}
 use Rattle.wrp_run.specs.declared.command_line.Alone.{Alone}
 use Rattle.wrp_run.specs.declared.command_line.Alone.TheVariants.{Migrate, Inspect, L1Sync, Calibrate, Plain}
-use Rattle.wrp_run.specs.Alone.{IsAlone, alone_meaning}
+use Rattle.wrp_run.specs.Alone.{alone_meaning}
 use Rattle.wrp_run.specs.Answer.{Answer, AloneAnswer, AsksNone, IsCommand, IsNetworked, RecordsDue, TaskAnswer}
 use Rattle.wrp_run.specs.Audited.{IsSettingOf, setting_at}
 use Rattle.wrp_run.specs.AuditLaws.{OneAudit}
 use Rattle.wrp_run.specs.Audits.{audit_of, emission_of}
 use Rattle.wrp_run.specs.Tasks.{Task, Replay, Audit, Emit, Simulate, AsksFor, IsEmission, IsReplay, meaning_at}
-use Rattle.wrp_run.specs.Ends.{Run, Called, Ends, IsToldOf, Wrote}
+use Rattle.wrp_run.specs.Ends.{Run, Ends, Wrote}
 use Rattle.wrp_records.specs.Statuses.{is_answer}
 use Rattle.wrp_run.specs.Input.{network_text, behind_separator, network_limit}
 use Rattle.wrp_records.specs.Lines.{lines_of}

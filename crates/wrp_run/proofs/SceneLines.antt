@@ -1,5 +1,5 @@
 -- What a line says of a scenario, by its parts.
-use Rattle.std.proofs.Common.{◌≡◌, ◌∙◌, ◌+◌, refl, ap, sym, subst, ℕ, true, false, Result, Ok, Err, List, [], ◌∷◌, ◌++◌}
+use Rattle.std.proofs.Common.{◌≡◌, ◌∙◌, refl, ap, sym, subst, ℕ, true, false, Result, Ok, Err, List, [], ◌∷◌, ◌++◌}
 use Rattle.csv.specs.Records.{Row, fields_of}
 use Rattle.wrp_base.specs.declared.configuration.NetCfg.{NetCfg}
 use Rattle.wrp_base.specs.declared.fault.TraceFault.{TraceFault}

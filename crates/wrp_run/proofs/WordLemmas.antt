@@ -7,12 +7,11 @@ use Rattle.wrp_run.specs.declared.command_line.Form.{Form}
 use Rattle.wrp_run.specs.declared.command_line.Form.TheVariants as forms
 use Rattle.wrp_run.specs.declared.command_line.Alone.{Alone}
 use Rattle.wrp_run.specs.declared.command_line.Alone.TheVariants.{Migrate, Inspect, L1Sync, Calibrate, Plain}
-use Rattle.wrp_run.specs.Alone.{IsAlone, alone_word}
+use Rattle.wrp_run.specs.Alone.{IsAlone}
 use Rattle.wrp_run.specs.Answer.{IsCommand, IsNetworked}
 use Rattle.wrp_run.specs.Fields.{seed_of}
 use Rattle.wrp_run.specs.Asked.{AsksSo}
 use Rattle.wrp_run.specs.CommandLine.{HasOption, IsCommandOf, IsCommandWith, IsForm, IsNoCommand}
-use Rattle.wrp_run.specs.declared.parse.Asked.TheVariants as asked
 use Rattle.wrp_run.specs.declared.parse.Command.{Command}
 use Rattle.wrp_run.specs.declared.parse.Command.TheVariants as command
 use Rattle.wrp_run.specs.Tasks.{IsAuditing, IsEmission, IsReplay, IsSimulation}

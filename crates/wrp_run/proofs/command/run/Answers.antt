@@ -1,5 +1,5 @@
 -- What a run answers is what is due.
-use Rattle.std.specs.Prelude.{◌≡◌, List, ℕ}
+use Rattle.std.specs.Prelude.{List, ℕ}
 use Rattle.std.proofs.Common.{◌∙◌, Some, ap, inl, inr, refl, subst}
 use Rattle.std.proofs.KnownBytes.{Appends-nil}
 use Rattle.wrp_io.specs.declared.link.LinkCall.{LinkCall}

@@ -1,5 +1,5 @@
 -- How the run ends where what stands in front is refused, or cannot be taken.
-use Rattle.std.proofs.Common.{◌≡◌, ℕ, List, Ok, Err, subst}
+use Rattle.std.proofs.Common.{ℕ, List, Ok, Err, subst}
 use Rattle.std.proofs.KnownBytes.{Appends-nil}
 use Rattle.wrp_config.specs.Reading.{IsReadingOf}
 use Rattle.wrp_run.specs.declared.network_text.End.{End}

@@ -1,5 +1,5 @@
 -- The replay of a node that is named, told of the whole input.
-use Rattle.std.proofs.Common.{◌∙◌, sym, refl}
+use Rattle.std.proofs.Common.{◌∙◌, refl}
 use Rattle.wrp_config.proofs.Lists.{found_place}
 use Rattle.wrp_trace.specs.LineSetting.{LineSetting, line_setting_of}
 use Rattle.wrp_records.specs.Passages.{passage}

@@ -1,5 +1,5 @@
 -- The laws are those of the links.
-use Rattle.std.proofs.Common.{◌∙◌, ◌+◌, ℕ, Some, None, [], if◌then◌else◌, ap, subst, sym, arith, length, refl}
+use Rattle.std.proofs.Common.{◌∙◌, ◌+◌, ℕ, Some, None, if◌then◌else◌, ap, subst, sym, arith, length, refl}
 use Rattle.std.specs.Prelude.{slice_get}
 use Rattle.std.proofs.lemmas.Int.{to_z-of_z}
 use Rattle.std.specs.Int.{w64}

@@ -1,5 +1,5 @@
 -- Each form is a row's, and each row has its forms.
-use Rattle.std.proofs.Common.{◌≡◌, ◌↔◌, inl, inr, refl, ℕ, List, []}
+use Rattle.std.proofs.Common.{inl, inr, refl, ℕ, List, []}
 use Rattle.wrp_run.specs.declared.command_line.Alone.TheVariants.{Migrate, Inspect, L1Sync, Calibrate, Plain}
 use Rattle.wrp_run.specs.declared.command_line.Form.{Form}
 use Rattle.wrp_run.specs.declared.command_line.Form.TheVariants as forms

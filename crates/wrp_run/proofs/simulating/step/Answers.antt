@@ -1,8 +1,10 @@
 -- The next event is accepted, and makes the run longer by one.
-use Rattle.std.proofs.Common.{◌<◌, List, arith, refl, subst, sym}
+use Rattle.std.proofs.Common.{◌<◌, ◌+◌, ◌∙◌, ℕ, List, ap, arith, refl, subst, sym}
 use Rattle.std.specs.List.{AllByRecursion}
 use Rattle.wrp_base.specs.Network.{node_count}
+use Rattle.wrp_config.specs.declared.network.Network.{Network}
 use Rattle.wrp_course.specs.declared.node_out.NodeOut.{NodeOut}
+use Rattle.wrp_sim.specs.Sim.{FitsSim}
 use Rattle.wrp_run.proofs.SimSteps.{can_happen, event_comes, goes_on, may_come, none_comes, some_comes}
 use Rattle.wrp_run.proofs.simulating.step.Goals as goal
 
@@ -42,3 +44,11 @@ returns-clause-steps g c = λ seed s scene events at h.
     (event_comes c.simulator_keeps_the_bounds.ensures.runs seed s scene c.args.network.now c.args.course.now events at c.next.new.self c.in-Some.event h c.requires.ready c.requires.course c.in-Some.ensures.follows)
     c.next.ensures.stays.scene c.happen.ensures.ready c.happen.ensures.net c.in_ok-happen.ensures.steps c.in_ok-happen.ensures.wrote
     (rw c.deref.ensures.value at c.add_tracks.ensures.each) refl (let other = c.if-course.false in let below = c.requires.course.below in omega (arith, other, below))
+
+pub returns-clause-course : goal.returns-clause-course
+returns-clause-course g c = record {
+  sim = subst (λ (net : Network). FitsSim net.cfg c.next.new.self) (sym c.happen.ensures.net) c.next.ensures.stays.fits;
+  totals = c.add_tracks.ensures.count ∙ c.requires.course.totals ∙ ap (λ (net : Network). node_count net.cfg) (sym c.happen.ensures.net);
+  count = c.in_ok-happen.ensures.counted ∙ ap (λ (n : ℕ). n + 1) c.requires.course.count;
+  below = let other = c.if-course.false in let below = c.requires.course.below in omega (arith, other, below);
+}

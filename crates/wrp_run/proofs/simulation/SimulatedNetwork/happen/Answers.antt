@@ -1,8 +1,14 @@
 -- The event breaks no premise, and its steps are written.
-use Rattle.std.proofs.Common.{refl, subst}
+use Rattle.std.proofs.Common.{Ok, Err, Result, refl, subst}
+use Rattle.std.specs.Result.{OnOk}
 use Rattle.wrp_world.specs.Step.{IsRefusal}
 use Rattle.wrp_run.proofs.NewSim.{none_broken, run_stays}
 use Rattle.wrp_run.proofs.simulation.SimulatedNetwork.happen.Goals as goal
+
+-- what holds in any case holds where it went well
+in_any_case : {T E : Type 0} (P : Type 0) (r : Result T E) → P → OnOk r P
+in_any_case P (Ok value) holds = holds
+in_any_case P (Err error) holds = tt
 
 pub write-requires-clause-ready : goal.write-requires-clause-ready
 write-requires-clause-ready g c =
@@ -20,3 +26,12 @@ pub unreachable-requires : goal.unreachable-requires
 unreachable-requires g c =
     none_broken c.accepted_is_unbroken.ensures c.args.self.now.world c.args.event.now _ _ _ c.requires.accepted
     (subst (IsRefusal _ c.args.event.now c.args.self.now.world) c.in-Err-Broken.field-0-is c.in-Err-Broken.ensures.refusal)
+
+pub returns-in-Ok-clause-counted : goal.returns-in-Ok-clause-counted
+returns-in-Ok-clause-counted g c = in_any_case _ c.write.result c.in-Ok.ensures.counted
+
+pub returns-in-Ok-clause-nodes : goal.returns-in-Ok-clause-nodes
+returns-in-Ok-clause-nodes g c = in_any_case _ c.write.result c.in-Ok.ensures.nodes
+
+pub returns-in-Ok-clause-steps : goal.returns-in-Ok-clause-steps
+returns-in-Ok-clause-steps g c = in_any_case _ c.write.result c.in-Ok.ensures.steps
