@@ -1,17 +1,17 @@
 -- What an answer shows: the records before its last line write what stands before that line.
 use Rattle.std.proofs.Common.{◌≡◌, ◌∙◌, inl, inr, ap, sym, subst, refl, ℕ, List, [], ◌∷◌, ◌++◌, ◌+◌, length, map}
 use Rattle.std.proofs.lemmas.List.{append-nil, length-map}
-use Rattle.wrp_l1sync.specs.LineAnswers.{AnswersShowThePair, Names, ShowsBy, ShowsFirst}
+use Rattle.wrp_l1sync.specs.LineAnswers.{AnswersShowThePair, Names, ShowsBy, ShowsFirst, ShowsFront, ShowsWhole, WhatStandsShowsThePair}
 use Rattle.wrp_l1sync.specs.LineRecords.{Accepts, Refuses, meaning}
 use Rattle.wrp_l1sync.proofs.LineTheoremLaws.{text_shows_the_pair}
 use Rattle.wrp_records.proofs.Unique.{never_barred}
 use Rattle.wrp_records.specs.declared.machine.Refusal.{Refusal}
 use Rattle.wrp_records.specs.declared.machine.Refusal.TheVariants as refusals
 use Rattle.wrp_records.specs.declared.status.Status.{Status}
-use Rattle.wrp_records.specs.declared.status.Status.TheVariants.{Done, BadTrace, Broken, TooLarge, BadCalib}
+use Rattle.wrp_records.specs.declared.status.Status.TheVariants.{Done, BadTrace, Broken, TooLarge, OutOfMemory, BadCalib}
 use Rattle.wrp_records.specs.Lines.{content_of, lines_of}
-use Rattle.wrp_records.specs.RecordsAnswer.{IsLarge, IsRefused, IsWholly, RecordsAnswer}
-use Rattle.wrp_records.specs.Stream.{large_line}
+use Rattle.wrp_records.specs.RecordsAnswer.{IsLarge, IsRefused, IsWholly, RecordsAnswer, StandsFirst}
+use Rattle.wrp_records.specs.Stream.{CutHandled, large_line}
 
 -- a line that is no record is named
 bad_named : (lines : List (List ℕ)) (line last : List ℕ) → Refuses lines line refusals.BadTrace last → Names BadTrace (length lines + 1) last
@@ -75,3 +75,41 @@ by_answer input _ text p = absurd p
 -- each answer shows how both ends stand
 pub answers_show_the_pair : AnswersShowThePair
 answers_show_the_pair input status text answer = by_answer input status text answer.1
+
+-- what stands of an answer that broke off
+by_front : (input text : List ℕ) → StandsFirst meaning (lines_of input) text → ShowsFront input text
+by_front input text (inl p) = record {
+  front = p.front;
+  behind = p.behind;
+  divided = p.divided;
+  accepted = p.handled.accepted;
+  shows = text_shows_the_pair (map content_of p.front) text p.handled.accepted;
+}
+by_front input text (inr p) = absurd (never_barred (map content_of (lines_of input)) OutOfMemory p.last p.broken)
+
+by_whole : (taken text : List ℕ) → CutHandled Accepts taken text → ShowsWhole taken text
+by_whole taken text p = record {
+  lines = p.lines;
+  cut = p.cut;
+  all = p.all;
+  whole = p.whole;
+  rest = p.plain;
+  accepted = p.handled.accepted;
+  shows = text_shows_the_pair (map content_of p.lines) text p.handled.accepted;
+}
+
+by_none : (input : List ℕ) → ShowsFront input []
+by_none input = record {
+  front = [];
+  behind = lines_of input;
+  divided = refl;
+  accepted = refl;
+  shows = text_shows_the_pair [] [] refl;
+}
+
+pub what_stands_shows_the_pair : WhatStandsShowsThePair
+what_stands_shows_the_pair = record {
+  first = λ input calls text at. by_front input text at.1;
+  cut = λ taken text at. by_whole taken text at;
+  none = by_none;
+}

@@ -1,6 +1,8 @@
 -- What the answer to an input of `l1sync` shows of both ends, record by record (this project's profile).
 use Rattle.std.specs.Prelude.{◌≡◌, ℕ, ◌+◌, List, [], ◌++◌, length, map}
+use Rattle.std.specs.List.{AllByRecursion, concat}
 use Rattle.wrp_base.specs.declared.fault.TraceFault.{TraceFault}
+use Rattle.wrp_io.specs.declared.link.LinkCall.{LinkCall}
 use Rattle.wrp_l1sync.specs.declared.event.Breach.{Breach}
 use Rattle.wrp_l1sync.specs.LineRecords.{Accepts, meaning}
 use Rattle.wrp_l1sync.specs.LineText.{breach_line}
@@ -8,7 +10,7 @@ use Rattle.wrp_l1sync.specs.LineTheorem.{ShowsAfterEach}
 use Rattle.wrp_records.specs.ByLines.{of_lines}
 use Rattle.wrp_records.specs.declared.status.Status.{Status}
 use Rattle.wrp_records.specs.declared.status.Status.TheVariants.{Done, BadTrace, Broken, TooLarge}
-use Rattle.wrp_records.specs.Lines.{content_of, lines_of}
+use Rattle.wrp_records.specs.Lines.{HasNoFeed, IsWhole, content_of, lines_of}
 use Rattle.wrp_records.specs.Refusals.{bad_trace_line}
 use Rattle.wrp_records.specs.Stream.{large_line}
 
@@ -41,3 +43,27 @@ ShowsBy status input text = ShowsFirst status input text
 abbrev pub AnswersShowThePair : Type 0
 AnswersShowThePair =
     (input : List ℕ) (status : Status) (text : List ℕ) → (of_lines meaning).answers input [] status text → ShowsBy status input text
+
+-- what stands of an answer that broke off: the first lines of an input are records, and this is what they write
+pub record ShowsFront (input text : List ℕ) : Type 0 where
+  pub front : List (List ℕ)
+  pub behind : List (List ℕ)
+  pub divided : lines_of input ≡ front ++ behind
+  pub accepted : Accepts (map content_of front) text
+  pub shows : ShowsAfterEach (map content_of front) text
+
+-- what stands where the source failed behind these octets: their whole lines are records, and this is what they write
+pub record ShowsWhole (taken text : List ℕ) : Type 0 where
+  pub lines : List (List ℕ)
+  pub cut : List ℕ
+  pub all : taken ≡ concat lines ++ cut
+  pub whole : AllByRecursion IsWhole lines
+  pub rest : HasNoFeed cut
+  pub accepted : Accepts (map content_of lines) text
+  pub shows : ShowsAfterEach (map content_of lines) text
+
+-- what stands of any answer shows both ends so, and nothing does before the first record
+pub record WhatStandsShowsThePair : Type 0 where
+  pub first : (input : List ℕ) (calls : List LinkCall) (text : List ℕ) → (of_lines meaning).first input calls text → ShowsFront input text
+  pub cut : (taken text : List ℕ) → (of_lines meaning).cut taken text → ShowsWhole taken text
+  pub none : (input : List ℕ) → ShowsFront input []

@@ -1,6 +1,6 @@
 //! What is true of all lines. The functions here compute nothing: their contracts are laws over
 //! all records, and their proofs show that the laws hold.
-ghost use Rattle.wrp_l1sync.specs.LineAnswers.{AnswersShowThePair};
+ghost use Rattle.wrp_l1sync.specs.LineAnswers.{AnswersShowThePair, WhatStandsShowsThePair};
 ghost use Rattle.wrp_l1sync.specs.LineTheorem.{TextShowsThePair};
 
 /// After each record the last state that is printed for an end is the one that looking back over what
@@ -13,4 +13,10 @@ pub fn text_shows_the_pair()
 /// So it is after each record of an input that was handled, whatever the answer to the input.
 pub fn answers_show_the_pair()
     ensures { AnswersShowThePair }
+{}
+
+/// So it is after each record of what stands of an answer that broke off, where the source failed or there
+/// was no memory.
+pub fn what_stands_shows_the_pair()
+    ensures { WhatStandsShowsThePair }
 {}

@@ -1,9 +1,9 @@
 -- What a command that stands alone wrote is what is due for its input, and so its aim holds of it.
-use Rattle.std.proofs.Common.{◌≡◌, ◌∙◌, ◌⊎◌, ap, inl, inr, refl, sym, subst, true, false, ℕ, Option, None, Some, IfSome, List, []}
-use Rattle.std.specs.Io.KnownBytes.{Appends}
+use Rattle.std.proofs.Common.{◌≡◌, ◌∙◌, ◌⊎◌, ap, inl, inr, refl, sym, subst, true, false, ℕ, Option, None, Some, IfSome, List, [], ◌++◌}
+use Rattle.std.specs.Io.KnownBytes.{Appends, Consumes}
 use Rattle.wrp_calib.specs.LinesTold.{InputsTellTruth}
 use Rattle.wrp_io.specs.declared.link.LinkCall.{LinkCall}
-use Rattle.wrp_l1sync.specs.LineAnswers.{AnswersShowThePair}
+use Rattle.wrp_l1sync.specs.LineAnswers.{AnswersShowThePair, ShowsFront, WhatStandsShowsThePair}
 use Rattle.wrp_migrate.specs.Laws.{MigrationKeeps}
 use Rattle.wrp_pcap.specs.InspectLaws.{CompleteIsJudged}
 use Rattle.wrp_plain.specs.LineTruth.{AllAreWithin, OutputTellsTruth, RecordsTellTruth}
@@ -61,12 +61,17 @@ own_first words alone input octets calls is (inr (inl task)) = absurd (alone_unn
 own_first words alone input octets calls is (inr (inr own)) =
     inr (calls, subst (λ (a : Alone). (alone_meaning a).first input calls octets) (one_alone words own.0 alone own.1 is) own.2)
 
+-- what was taken stands first in the input
+taken_front : (before now : Option (List ℕ)) (input taken : List ℕ) → before ≡ Some input → Consumes before now taken → (left : List ℕ) × (input ≡ taken ++ left)
+taken_front before None input taken known took = absurd (subst (λ (o : Option (List ℕ)). Consumes o None taken) known took)
+taken_front before (Some left) input taken known took = (left, subst (λ (o : Option (List ℕ)). Consumes o (Some left) taken) known took)
+
 -- what a run wrote: its own answer where it is one, and what stands of it where it is none
 record Told (run : Run) (alone : Alone) (input : List ℕ) (status : Status) : Type 0 where
   octets : List ℕ
   wrote : Wrote run octets
   own : is_answer status ≡ true → OwnAnswer alone input status octets
-  cut : status ≡ ReadFault → (taken : List ℕ) × (alone_meaning alone).cut taken octets
+  cut : status ≡ ReadFault → (taken : List ℕ) × (left : List ℕ) × (input ≡ taken ++ left) × (alone_meaning alone).cut taken octets
   first : status ≡ OutOfMemory → OwnFirst alone input octets
 
 answered : (run : Run) (alone : Alone) (input : List ℕ) (status : Status) → IsAlone run.words alone → run.source.before ≡ Some input → Ends run status → is_answer status ≡ true → Told run alone input status
@@ -85,7 +90,9 @@ told run alone input ReadFault is known ends = record {
   octets = ends.2;
   wrote = ends.4;
   own = λ e. absurd (cc);
-  cut = λ e. (ends.1, own_cut run.words alone ends.1 ends.2 is ends.5);
+  cut = λ e.
+      let front = taken_front run.source.before run.source.now input ends.1 known ends.3 in
+      (ends.1, front.0, front.1, own_cut run.words alone ends.1 ends.2 is ends.5);
   first = λ e. absurd (cc);
 }
 told run alone input WriteFault is known ends = record {
@@ -151,15 +158,20 @@ pub calibrated : InputsTellTruth → (run : Run) (status : Status) → IsAlone r
 calibrated tells run status is ends = aims run Calibrate status CalibratesSo is ends (λ input has. calibrates tells input status has.octets has.own)
 
 -- a pair of ends is shown
-synchronises : AnswersShowThePair → (input : List ℕ) (status : Status) (octets : List ℕ) → (is_answer status ≡ true → OwnAnswer L1Sync input status octets) → SynchronisesSo input status octets
-synchronises shows input Done octets own = shows input Done octets (own refl)
-synchronises shows input BadTrace octets own = shows input BadTrace octets (own refl)
-synchronises shows input Broken octets own = shows input Broken octets (own refl)
-synchronises shows input TooLarge octets own = shows input TooLarge octets (own refl)
-synchronises shows input _ octets own = tt
+synchronises : AnswersShowThePair → WhatStandsShowsThePair → (run : Run) (input : List ℕ) (status : Status) (has : Told run L1Sync input status) → SynchronisesSo input status has.octets
+synchronises shows stands run input Done has = shows input Done has.octets (has.own refl)
+synchronises shows stands run input BadTrace has = shows input BadTrace has.octets (has.own refl)
+synchronises shows stands run input Broken has = shows input Broken has.octets (has.own refl)
+synchronises shows stands run input TooLarge has = shows input TooLarge has.octets (has.own refl)
+synchronises shows stands run input ReadFault has = let cut = has.cut refl in (cut.0, cut.1, cut.2, stands.cut cut.0 has.octets cut.3)
+synchronises shows stands run input OutOfMemory has = elim (has.first refl) [
+  | inl none ↦ subst (ShowsFront input) (sym none) (stands.none input)
+  | inr own ↦ stands.first input own.0 has.octets own.1
+]
+synchronises shows stands run input _ has = tt
 
-pub synchronised : AnswersShowThePair → (run : Run) (status : Status) → IsAlone run.words L1Sync → Ends run status → IfSome run.source.before (WroteSo SynchronisesSo run.sink.before run.sink.now status)
-synchronised shows run status is ends = aims run L1Sync status SynchronisesSo is ends (λ input has. synchronises shows input status has.octets has.own)
+pub synchronised : AnswersShowThePair → WhatStandsShowsThePair → (run : Run) (status : Status) → IsAlone run.words L1Sync → Ends run status → IfSome run.source.before (WroteSo SynchronisesSo run.sink.before run.sink.now status)
+synchronised shows stands run status is ends = aims run L1Sync status SynchronisesSo is ends (λ input has. synchronises shows stands run input status has)
 
 -- an inspection judges handshakes
 pub judges : CompleteIsJudged → (input : List ℕ) → JudgesHandshakes input
@@ -179,7 +191,7 @@ pub tells_truly : RecordsTellTruth → (input : List ℕ) → TellsTruly input
 tells_truly records input first lines rest divided start events course = records first lines start events course
 
 bounds : OutputTellsTruth → RecordsTellTruth → (run : Run) (input : List ℕ) (status : Status) (has : Told run Plain input status) → BoundsSo input status has.octets
-bounds output records run input ReadFault has = let cut = has.cut refl in (output.2 cut.0 has.octets cut.1, tells_truly records input)
+bounds output records run input ReadFault has = let cut = has.cut refl in (output.2 cut.0 has.octets cut.3, tells_truly records input)
 bounds output records run input OutOfMemory has = (
   elim (has.first refl) [
     | inl none ↦ subst AllAreWithin (sym none) tt

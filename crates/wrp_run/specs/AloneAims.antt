@@ -7,7 +7,7 @@ use Rattle.wrp_calib.specs.Truth.{Delays}
 use Rattle.wrp_caldb.specs.Database.{Database}
 use Rattle.wrp_caldb.specs.Reading.{IsReadingOf}
 use Rattle.wrp_check.specs.Judged.{Judges}
-use Rattle.wrp_l1sync.specs.LineAnswers.{ShowsBy}
+use Rattle.wrp_l1sync.specs.LineAnswers.{ShowsBy, ShowsFront, ShowsWhole}
 use Rattle.wrp_migrate.specs.Laws.{IsKept}
 use Rattle.wrp_pcap.specs.declared.capture.Order.{Order}
 use Rattle.wrp_pcap.specs.declared.content.Content.{Content}
@@ -50,6 +50,9 @@ SynchronisesSo input Done octets = ShowsBy Done input octets
 SynchronisesSo input BadTrace octets = ShowsBy BadTrace input octets
 SynchronisesSo input Broken octets = ShowsBy Broken input octets
 SynchronisesSo input TooLarge octets = ShowsBy TooLarge input octets
+SynchronisesSo input ReadFault octets =
+    (taken : List ℕ) × (left : List ℕ) × (input ≡ taken ++ left) × ShowsWhole taken octets
+SynchronisesSo input OutOfMemory octets = ShowsFront input octets
 SynchronisesSo input status octets = Unit {0}
 
 -- the numbers of a certificate rise, and by the marks of these numbers both ends passed the same handshake

@@ -26,7 +26,7 @@ use crate::refusals::USAGE_LINE;
 use std::alloc::{AllocError, Global};
 use wrp_calib::{calibrate, inputs_tell_truth};
 use wrp_io::{Link, Sink, Source};
-use wrp_l1sync::{answers_show_the_pair, l1sync};
+use wrp_l1sync::{answers_show_the_pair, l1sync, what_stands_shows_the_pair};
 use wrp_migrate::{migrate, migration_keeps};
 use wrp_node::one_run;
 use wrp_pcap::{complete_is_judged, inspect};
@@ -152,6 +152,7 @@ pub fn run<S: Source, K: Sink, N: Link>(
     migration_keeps();
     complete_is_judged();
     answers_show_the_pair();
+    what_stands_shows_the_pair();
     inputs_tell_truth();
     output_tells_truth();
     records_tell_truth();

@@ -6,7 +6,7 @@ use Rattle.wrp_io.specs.declared.link.LinkCall.{LinkCall}
 use Rattle.wrp_records.specs.Passages.{Passage, passage}
 use Rattle.wrp_run.specs.declared.command_line.Alone.TheVariants.{Migrate, Inspect, L1Sync, Calibrate, Plain}
 use Rattle.wrp_run.specs.Asked.{AsksSo}
-use Rattle.wrp_run.specs.AloneAims.{BoundsSo, CalibratesSo, InspectsSo}
+use Rattle.wrp_run.specs.AloneAims.{BoundsSo, CalibratesSo, InspectsSo, SynchronisesSo}
 use Rattle.wrp_run.specs.Ends.{Run}
 use Rattle.wrp_run.specs.Words.{texts_of}
 use Rattle.wrp_run.proofs.AloneTold.{bounded, calibrated, inspected, migrated, synchronised, judges, tells_truly, wrote_nothing}
@@ -99,7 +99,7 @@ pub returns-in-Ok-Some-Alone-clause-synchronised : goal.returns-in-Ok-Some-Alone
 returns-in-Ok-Some-Alone-clause-synchronised g c =
     let run : Run = ran (texts_of c.args.words.now) (passage g.S.Source.left g.S.Source.faults c.args.source.now c.run_alone.new.source) (passage g.K.Sink.held g.K.Sink.faults c.args.sink.now c.run_alone.new.sink) (passage g.N.Link.told g.N.Link.faults c.args.link.now c.args.link.now) in
     let ends = c.run_alone.ensures.ends (passage g.N.Link.told g.N.Link.faults c.args.link.now c.args.link.now) refl in
-    λ is. synchronised c.answers_show_the_pair.ensures run c.run_alone.result is ends
+    λ is. synchronised c.answers_show_the_pair.ensures c.what_stands_shows_the_pair.ensures run c.run_alone.result is ends
 
 pub returns-in-Ok-Some-Alone-clause-calibrated : goal.returns-in-Ok-Some-Alone-clause-calibrated
 returns-in-Ok-Some-Alone-clause-calibrated g c =
@@ -237,6 +237,10 @@ returns-in-Err-clause-simulated g c = λ seed simulates.
 pub returns-in-Err-clause-inspected : goal.returns-in-Err-clause-inspected
 returns-in-Err-clause-inspected g c = λ is.
     wrote_nothing InspectsSo (g.K.Sink.held c.args.sink.now) (g.S.Source.left c.args.source.now) (judges c.complete_is_judged.ensures) (Appends-nil (g.K.Sink.held c.args.sink.now))
+
+pub returns-in-Err-clause-synchronised : goal.returns-in-Err-clause-synchronised
+returns-in-Err-clause-synchronised g c = λ is.
+    wrote_nothing SynchronisesSo (g.K.Sink.held c.args.sink.now) (g.S.Source.left c.args.source.now) c.what_stands_shows_the_pair.ensures.none (Appends-nil (g.K.Sink.held c.args.sink.now))
 
 pub returns-in-Err-clause-calibrated : goal.returns-in-Err-clause-calibrated
 returns-in-Err-clause-calibrated g c = λ is.
