@@ -1,5 +1,5 @@
 -- Words by their number, and the one value of an option.
-use Rattle.std.proofs.Common.{◌≡◌, inl, inr, ℕ, ◌<◌, ◌≤◌, List, [], ◌∷◌, ◌++◌, Option, None, Some, length, map, refl, sym, ap, ◌∙◌, subst, codes, arith}
+use Rattle.std.proofs.Common.{◌≡◌, ◌==◌, if◌then◌else◌, inl, inr, ℕ, ◌<◌, ◌≤◌, List, [], ◌∷◌, ◌++◌, Option, None, Some, length, map, refl, sym, ap, ◌∙◌, subst, codes, arith}
 use Rattle.std.specs.List.{slice_index_or}
 use Rattle.std.proofs.lemmas.List.{append_cancel_left}
 use Rattle.std.proofs.lemmas.Option.{same_Some}
@@ -45,6 +45,14 @@ initial_of : (octet : ℕ) (command option : List ℕ) (words : List (List ℕ))
 initial_of octet command option [] value is = absurd is
 initial_of octet command option (first ∷ rest) value is = ap (λ word. initial (word ∷ rest)) is.0
 
+-- of a command that stands alone it is its word's
+abbrev pub alone_letter : Alone → ℕ
+alone_letter Migrate = 109
+alone_letter Inspect = 105
+alone_letter L1Sync = 108
+alone_letter Calibrate = 99
+alone_letter Plain = 112
+
 -- of a form it is the command's
 abbrev pub letter : Form → ℕ
 letter forms.Audit = 97
@@ -52,19 +60,23 @@ letter forms.Emit = 97
 letter forms.Replay = 114
 letter forms.Simulate = 115
 letter forms.Loop = 108
-letter (forms.Alone Migrate) = 109
-letter (forms.Alone Inspect) = 105
-letter (forms.Alone L1Sync) = 108
-letter (forms.Alone Calibrate) = 99
-letter (forms.Alone Plain) = 112
+letter (forms.Alone alone) = alone_letter alone
 
--- of a command that stands alone
-abbrev alone_letter : Alone → ℕ
-alone_letter Migrate = 109
-alone_letter Inspect = 105
-alone_letter L1Sync = 108
-alone_letter Calibrate = 99
-alone_letter Plain = 112
+-- the command that stands alone of a letter: no two begin with the same
+abbrev alone_at : ℕ → Alone
+alone_at letter =
+    if letter == 109 then Migrate
+    else if letter == 105 then Inspect
+    else if letter == 108 then L1Sync
+    else if letter == 99 then Calibrate
+    else Plain
+
+alone_at_letter : (alone : Alone) → alone_at (alone_letter alone) ≡ alone
+alone_at_letter Migrate = refl
+alone_at_letter Inspect = refl
+alone_at_letter L1Sync = refl
+alone_at_letter Calibrate = refl
+alone_at_letter Plain = refl
 
 alone_initial : (words : List (List ℕ)) (alone : Alone) → IsAlone words alone → initial words ≡ alone_letter alone
 alone_initial words Migrate is = ap initial is
@@ -94,31 +106,7 @@ alone_unnetworked words alone is (inr (inr (seed, simulation))) = alone_bare (co
 
 -- words are one such command
 pub one_alone : (words : List (List ℕ)) (a b : Alone) → IsAlone words a → IsAlone words b → a ≡ b
-one_alone words Migrate Migrate p q = refl
-one_alone words Migrate Inspect p q = let bad : 109 ≡ 105 = sym (alone_initial words Migrate p) ∙ alone_initial words Inspect q in absurd (omega (arith, bad))
-one_alone words Migrate L1Sync p q = let bad : 109 ≡ 108 = sym (alone_initial words Migrate p) ∙ alone_initial words L1Sync q in absurd (omega (arith, bad))
-one_alone words Migrate Calibrate p q = let bad : 109 ≡ 99 = sym (alone_initial words Migrate p) ∙ alone_initial words Calibrate q in absurd (omega (arith, bad))
-one_alone words Migrate Plain p q = let bad : 109 ≡ 112 = sym (alone_initial words Migrate p) ∙ alone_initial words Plain q in absurd (omega (arith, bad))
-one_alone words Inspect Migrate p q = let bad : 105 ≡ 109 = sym (alone_initial words Inspect p) ∙ alone_initial words Migrate q in absurd (omega (arith, bad))
-one_alone words Inspect Inspect p q = refl
-one_alone words Inspect L1Sync p q = let bad : 105 ≡ 108 = sym (alone_initial words Inspect p) ∙ alone_initial words L1Sync q in absurd (omega (arith, bad))
-one_alone words Inspect Calibrate p q = let bad : 105 ≡ 99 = sym (alone_initial words Inspect p) ∙ alone_initial words Calibrate q in absurd (omega (arith, bad))
-one_alone words Inspect Plain p q = let bad : 105 ≡ 112 = sym (alone_initial words Inspect p) ∙ alone_initial words Plain q in absurd (omega (arith, bad))
-one_alone words L1Sync Migrate p q = let bad : 108 ≡ 109 = sym (alone_initial words L1Sync p) ∙ alone_initial words Migrate q in absurd (omega (arith, bad))
-one_alone words L1Sync Inspect p q = let bad : 108 ≡ 105 = sym (alone_initial words L1Sync p) ∙ alone_initial words Inspect q in absurd (omega (arith, bad))
-one_alone words L1Sync L1Sync p q = refl
-one_alone words L1Sync Calibrate p q = let bad : 108 ≡ 99 = sym (alone_initial words L1Sync p) ∙ alone_initial words Calibrate q in absurd (omega (arith, bad))
-one_alone words L1Sync Plain p q = let bad : 108 ≡ 112 = sym (alone_initial words L1Sync p) ∙ alone_initial words Plain q in absurd (omega (arith, bad))
-one_alone words Calibrate Migrate p q = let bad : 99 ≡ 109 = sym (alone_initial words Calibrate p) ∙ alone_initial words Migrate q in absurd (omega (arith, bad))
-one_alone words Calibrate Inspect p q = let bad : 99 ≡ 105 = sym (alone_initial words Calibrate p) ∙ alone_initial words Inspect q in absurd (omega (arith, bad))
-one_alone words Calibrate L1Sync p q = let bad : 99 ≡ 108 = sym (alone_initial words Calibrate p) ∙ alone_initial words L1Sync q in absurd (omega (arith, bad))
-one_alone words Calibrate Calibrate p q = refl
-one_alone words Calibrate Plain p q = let bad : 99 ≡ 112 = sym (alone_initial words Calibrate p) ∙ alone_initial words Plain q in absurd (omega (arith, bad))
-one_alone words Plain Migrate p q = let bad : 112 ≡ 109 = sym (alone_initial words Plain p) ∙ alone_initial words Migrate q in absurd (omega (arith, bad))
-one_alone words Plain Inspect p q = let bad : 112 ≡ 105 = sym (alone_initial words Plain p) ∙ alone_initial words Inspect q in absurd (omega (arith, bad))
-one_alone words Plain L1Sync p q = let bad : 112 ≡ 108 = sym (alone_initial words Plain p) ∙ alone_initial words L1Sync q in absurd (omega (arith, bad))
-one_alone words Plain Calibrate p q = let bad : 112 ≡ 99 = sym (alone_initial words Plain p) ∙ alone_initial words Calibrate q in absurd (omega (arith, bad))
-one_alone words Plain Plain p q = refl
+one_alone words a b p q = sym (alone_at_letter a) ∙ ap alone_at (sym (alone_initial words a p) ∙ alone_initial words b q) ∙ alone_at_letter b
 
 initial_letter : (form : Form) (words : List (List ℕ)) (value : List ℕ) → IsForm form words value → initial words ≡ letter form
 initial_letter forms.Audit words value is = ap initial is.0
@@ -126,11 +114,7 @@ initial_letter forms.Emit words value is = initial_of 97 _ (codes "--emit") word
 initial_letter forms.Replay words value is = initial_of 114 _ (codes "--node") words value is
 initial_letter forms.Simulate words value is = initial_of 115 _ (codes "--seed") words value is
 initial_letter forms.Loop words value is = initial_of 108 _ (codes "--seed") words value is
-initial_letter (forms.Alone Migrate) words value is = alone_initial words Migrate is.0
-initial_letter (forms.Alone Inspect) words value is = alone_initial words Inspect is.0
-initial_letter (forms.Alone L1Sync) words value is = alone_initial words L1Sync is.0
-initial_letter (forms.Alone Calibrate) words value is = alone_initial words Calibrate is.0
-initial_letter (forms.Alone Plain) words value is = alone_initial words Plain is.0
+initial_letter (forms.Alone alone) words value is = alone_initial words alone is.0
 
 -- a seed that is none makes no command
 pub no_simulate : (words : List (List ℕ)) (text : List ℕ) → IsCommandWith (codes "simulate") (codes "--seed") words text → None ≡ seed_of text → IsNoCommand words

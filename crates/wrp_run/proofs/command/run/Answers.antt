@@ -23,41 +23,33 @@ abbrev ran : List (List ℕ) → Passage (List ℕ) → Passage (List ℕ) → P
 ran words source sink link = record { words = words; source = source; sink = sink; link = link }
 
 pub returns-in-Ok-Some-OnNetwork-clause-ends : goal.returns-in-Ok-Some-OnNetwork-clause-ends
-returns-in-Ok-Some-OnNetwork-clause-ends g c =
-    let run : Run = ran (texts_of c.args.words.now) (passage g.S.Source.left g.S.Source.faults c.args.source.now c.run_network.new.source) (passage g.K.Sink.held g.K.Sink.faults c.args.sink.now c.run_network.new.sink) (passage g.N.Link.told g.N.Link.faults c.args.link.now c.args.link.now) in
-    let ends = c.run_network.ensures.ends (passage g.N.Link.told g.N.Link.faults c.args.link.now c.args.link.now) refl in
-    ends
+returns-in-Ok-Some-OnNetwork-clause-ends g c = c.run_network.ensures.ends (passage g.N.Link.told g.N.Link.faults c.args.link.now c.args.link.now) refl
 
 pub returns-in-Ok-Some-OnNetwork-clause-due : goal.returns-in-Ok-Some-OnNetwork-clause-due
 returns-in-Ok-Some-OnNetwork-clause-due g c =
-    let run : Run = ran (texts_of c.args.words.now) (passage g.S.Source.left g.S.Source.faults c.args.source.now c.run_network.new.source) (passage g.K.Sink.held g.K.Sink.faults c.args.sink.now c.run_network.new.sink) (passage g.N.Link.told g.N.Link.faults c.args.link.now c.args.link.now) in
     let ends = c.run_network.ensures.ends (passage g.N.Link.told g.N.Link.faults c.args.link.now c.args.link.now) refl in
-    λ status octets calls is told. told_one c.one_run.ensures.run c.one_run.ensures.node c.one_audit.ensures c.told_last.ensures run c.run_network.result status octets calls ends is
+    λ status octets calls is told. told_one c.one_run.ensures.run c.one_run.ensures.node c.one_audit.ensures c.told_last.ensures _ c.run_network.result status octets calls ends is
 
 pub returns-in-Ok-Some-OnNetwork-clause-complete : goal.returns-in-Ok-Some-OnNetwork-clause-complete
 returns-in-Ok-Some-OnNetwork-clause-complete g c =
-    let run : Run = ran (texts_of c.args.words.now) (passage g.S.Source.left g.S.Source.faults c.args.source.now c.run_network.new.source) (passage g.K.Sink.held g.K.Sink.faults c.args.sink.now c.run_network.new.sink) (passage g.N.Link.told g.N.Link.faults c.args.link.now c.args.link.now) in
     let ends = c.run_network.ensures.ends (passage g.N.Link.told g.N.Link.faults c.args.link.now c.args.link.now) refl in
     λ status octets calls memory reads writes links told.
-    told_one c.one_run.ensures.run c.one_run.ensures.node c.one_audit.ensures c.told_last.ensures run c.run_network.result status octets calls ends (ends_answered run c.run_network.result ends memory reads writes)
+    told_one c.one_run.ensures.run c.one_run.ensures.node c.one_audit.ensures c.told_last.ensures _ c.run_network.result status octets calls ends (ends_answered _ c.run_network.result ends memory reads writes)
 
 pub returns-in-Ok-Some-OnNetwork-clause-headline : goal.returns-in-Ok-Some-OnNetwork-clause-headline
 returns-in-Ok-Some-OnNetwork-clause-headline g c =
-    let run : Run = ran (texts_of c.args.words.now) (passage g.S.Source.left g.S.Source.faults c.args.source.now c.run_network.new.source) (passage g.K.Sink.held g.K.Sink.faults c.args.sink.now c.run_network.new.sink) (passage g.N.Link.told g.N.Link.faults c.args.link.now c.args.link.now) in
     let ends = c.run_network.ensures.ends (passage g.N.Link.told g.N.Link.faults c.args.link.now c.args.link.now) refl in
-    λ audits. headline_told c.events_carry_parts.ensures c.one_audit.ensures run c.run_network.result ends audits
+    λ audits. headline_told c.events_carry_parts.ensures c.one_audit.ensures _ c.run_network.result ends audits
 
 pub returns-in-Ok-Some-OnNetwork-clause-emitted : goal.returns-in-Ok-Some-OnNetwork-clause-emitted
 returns-in-Ok-Some-OnNetwork-clause-emitted g c =
-    let run : Run = ran (texts_of c.args.words.now) (passage g.S.Source.left g.S.Source.faults c.args.source.now c.run_network.new.source) (passage g.K.Sink.held g.K.Sink.faults c.args.sink.now c.run_network.new.sink) (passage g.N.Link.told g.N.Link.faults c.args.link.now c.args.link.now) in
     let ends = c.run_network.ensures.ends (passage g.N.Link.told g.N.Link.faults c.args.link.now c.args.link.now) refl in
-    λ name emits. emission_told c.events_carry_parts.ensures run c.run_network.result name ends emits
+    λ name emits. emission_told c.events_carry_parts.ensures _ c.run_network.result name ends emits
 
 pub returns-in-Ok-Some-OnNetwork-clause-simulated : goal.returns-in-Ok-Some-OnNetwork-clause-simulated
 returns-in-Ok-Some-OnNetwork-clause-simulated g c =
-    let run : Run = ran (texts_of c.args.words.now) (passage g.S.Source.left g.S.Source.faults c.args.source.now c.run_network.new.source) (passage g.K.Sink.held g.K.Sink.faults c.args.sink.now c.run_network.new.sink) (passage g.N.Link.told g.N.Link.faults c.args.link.now c.args.link.now) in
     let ends = c.run_network.ensures.ends (passage g.N.Link.told g.N.Link.faults c.args.link.now c.args.link.now) refl in
-    λ seed simulates. simulation_told c.made_events_carry_parts.ensures run c.run_network.result seed ends simulates
+    λ seed simulates. simulation_told c.made_events_carry_parts.ensures _ c.run_network.result seed ends simulates
 
 pub returns-in-Ok-Some-OnNetwork-clause-unread : goal.returns-in-Ok-Some-OnNetwork-clause-unread
 returns-in-Ok-Some-OnNetwork-clause-unread g c = λ none.
@@ -65,53 +57,43 @@ returns-in-Ok-Some-OnNetwork-clause-unread g c = λ none.
     absurd (none (inl (asked_networked (texts_of c.args.words.now) c.in-Ok-Some-OnNetwork.asked has)))
 
 pub returns-in-Ok-Some-Alone-clause-ends : goal.returns-in-Ok-Some-Alone-clause-ends
-returns-in-Ok-Some-Alone-clause-ends g c =
-    let run : Run = ran (texts_of c.args.words.now) (passage g.S.Source.left g.S.Source.faults c.args.source.now c.run_alone.new.source) (passage g.K.Sink.held g.K.Sink.faults c.args.sink.now c.run_alone.new.sink) (passage g.N.Link.told g.N.Link.faults c.args.link.now c.args.link.now) in
-    let ends = c.run_alone.ensures.ends (passage g.N.Link.told g.N.Link.faults c.args.link.now c.args.link.now) refl in
-    ends
+returns-in-Ok-Some-Alone-clause-ends g c = c.run_alone.ensures.ends (passage g.N.Link.told g.N.Link.faults c.args.link.now c.args.link.now) refl
 
 pub returns-in-Ok-Some-Alone-clause-due : goal.returns-in-Ok-Some-Alone-clause-due
 returns-in-Ok-Some-Alone-clause-due g c =
-    let run : Run = ran (texts_of c.args.words.now) (passage g.S.Source.left g.S.Source.faults c.args.source.now c.run_alone.new.source) (passage g.K.Sink.held g.K.Sink.faults c.args.sink.now c.run_alone.new.sink) (passage g.N.Link.told g.N.Link.faults c.args.link.now c.args.link.now) in
     let ends = c.run_alone.ensures.ends (passage g.N.Link.told g.N.Link.faults c.args.link.now c.args.link.now) refl in
-    λ status octets calls is told. told_one c.one_run.ensures.run c.one_run.ensures.node c.one_audit.ensures c.told_last.ensures run c.run_alone.result status octets calls ends is
+    λ status octets calls is told. told_one c.one_run.ensures.run c.one_run.ensures.node c.one_audit.ensures c.told_last.ensures _ c.run_alone.result status octets calls ends is
 
 pub returns-in-Ok-Some-Alone-clause-complete : goal.returns-in-Ok-Some-Alone-clause-complete
 returns-in-Ok-Some-Alone-clause-complete g c =
-    let run : Run = ran (texts_of c.args.words.now) (passage g.S.Source.left g.S.Source.faults c.args.source.now c.run_alone.new.source) (passage g.K.Sink.held g.K.Sink.faults c.args.sink.now c.run_alone.new.sink) (passage g.N.Link.told g.N.Link.faults c.args.link.now c.args.link.now) in
     let ends = c.run_alone.ensures.ends (passage g.N.Link.told g.N.Link.faults c.args.link.now c.args.link.now) refl in
     λ status octets calls memory reads writes links told.
-    told_one c.one_run.ensures.run c.one_run.ensures.node c.one_audit.ensures c.told_last.ensures run c.run_alone.result status octets calls ends (ends_answered run c.run_alone.result ends memory reads writes)
+    told_one c.one_run.ensures.run c.one_run.ensures.node c.one_audit.ensures c.told_last.ensures _ c.run_alone.result status octets calls ends (ends_answered _ c.run_alone.result ends memory reads writes)
 
 pub returns-in-Ok-Some-Alone-clause-migrated : goal.returns-in-Ok-Some-Alone-clause-migrated
 returns-in-Ok-Some-Alone-clause-migrated g c =
-    let run : Run = ran (texts_of c.args.words.now) (passage g.S.Source.left g.S.Source.faults c.args.source.now c.run_alone.new.source) (passage g.K.Sink.held g.K.Sink.faults c.args.sink.now c.run_alone.new.sink) (passage g.N.Link.told g.N.Link.faults c.args.link.now c.args.link.now) in
     let ends = c.run_alone.ensures.ends (passage g.N.Link.told g.N.Link.faults c.args.link.now c.args.link.now) refl in
-    λ is. migrated c.migration_keeps.ensures run c.run_alone.result is ends
+    λ is. migrated c.migration_keeps.ensures _ c.run_alone.result is ends
 
 pub returns-in-Ok-Some-Alone-clause-inspected : goal.returns-in-Ok-Some-Alone-clause-inspected
 returns-in-Ok-Some-Alone-clause-inspected g c =
-    let run : Run = ran (texts_of c.args.words.now) (passage g.S.Source.left g.S.Source.faults c.args.source.now c.run_alone.new.source) (passage g.K.Sink.held g.K.Sink.faults c.args.sink.now c.run_alone.new.sink) (passage g.N.Link.told g.N.Link.faults c.args.link.now c.args.link.now) in
     let ends = c.run_alone.ensures.ends (passage g.N.Link.told g.N.Link.faults c.args.link.now c.args.link.now) refl in
-    λ is. inspected c.complete_is_judged.ensures run c.run_alone.result is ends
+    λ is. inspected c.complete_is_judged.ensures _ c.run_alone.result is ends
 
 pub returns-in-Ok-Some-Alone-clause-synchronised : goal.returns-in-Ok-Some-Alone-clause-synchronised
 returns-in-Ok-Some-Alone-clause-synchronised g c =
-    let run : Run = ran (texts_of c.args.words.now) (passage g.S.Source.left g.S.Source.faults c.args.source.now c.run_alone.new.source) (passage g.K.Sink.held g.K.Sink.faults c.args.sink.now c.run_alone.new.sink) (passage g.N.Link.told g.N.Link.faults c.args.link.now c.args.link.now) in
     let ends = c.run_alone.ensures.ends (passage g.N.Link.told g.N.Link.faults c.args.link.now c.args.link.now) refl in
-    λ is. synchronised c.answers_show_the_pair.ensures c.what_stands_shows_the_pair.ensures run c.run_alone.result is ends
+    λ is. synchronised c.answers_show_the_pair.ensures c.what_stands_shows_the_pair.ensures _ c.run_alone.result is ends
 
 pub returns-in-Ok-Some-Alone-clause-calibrated : goal.returns-in-Ok-Some-Alone-clause-calibrated
 returns-in-Ok-Some-Alone-clause-calibrated g c =
-    let run : Run = ran (texts_of c.args.words.now) (passage g.S.Source.left g.S.Source.faults c.args.source.now c.run_alone.new.source) (passage g.K.Sink.held g.K.Sink.faults c.args.sink.now c.run_alone.new.sink) (passage g.N.Link.told g.N.Link.faults c.args.link.now c.args.link.now) in
     let ends = c.run_alone.ensures.ends (passage g.N.Link.told g.N.Link.faults c.args.link.now c.args.link.now) refl in
-    λ is. calibrated c.inputs_tell_truth.ensures run c.run_alone.result is ends
+    λ is. calibrated c.inputs_tell_truth.ensures _ c.run_alone.result is ends
 
 pub returns-in-Ok-Some-Alone-clause-bounded : goal.returns-in-Ok-Some-Alone-clause-bounded
 returns-in-Ok-Some-Alone-clause-bounded g c =
-    let run : Run = ran (texts_of c.args.words.now) (passage g.S.Source.left g.S.Source.faults c.args.source.now c.run_alone.new.source) (passage g.K.Sink.held g.K.Sink.faults c.args.sink.now c.run_alone.new.sink) (passage g.N.Link.told g.N.Link.faults c.args.link.now c.args.link.now) in
     let ends = c.run_alone.ensures.ends (passage g.N.Link.told g.N.Link.faults c.args.link.now c.args.link.now) refl in
-    λ is. bounded c.output_tells_truth.ensures c.records_tell_truth.ensures run c.run_alone.result is ends
+    λ is. bounded c.output_tells_truth.ensures c.records_tell_truth.ensures _ c.run_alone.result is ends
 
 pub returns-in-Ok-Some-Loop-clause-ends : goal.returns-in-Ok-Some-Loop-clause-ends
 returns-in-Ok-Some-Loop-clause-ends g c =
