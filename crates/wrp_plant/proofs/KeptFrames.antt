@@ -4,15 +4,18 @@ use Rattle.std.proofs.lemmas.Int.{ints}
 use Rattle.std.proofs.lemmas.List.Sums.{sum_by-cons}
 use Rattle.std.specs.Int.Signed.{le_z}
 use Rattle.std.specs.Option.{is_some}
-use Rattle.wrp_base.specs.Network.{End}
+use Rattle.wrp_base.specs.declared.link.Role.{Role}
+use Rattle.wrp_base.specs.Network.{End, other_of}
 use Rattle.wrp_bounds.specs.Times.{frame_life}
+use Rattle.wrp_course.specs.declared.place.Place.{Place}
 use Rattle.wrp_flights.specs.declared.departed.Departed.{Departed}
 use Rattle.wrp_flights.specs.Frames.{FramesAt, at, numbers_from}
+use Rattle.wrp_plant.specs.Flights.{end_to}
 use Rattle.wrp_plant.specs.Plant.{MaybeIs, DepartedIs, FramesAre, is_kept_since, kept_since}
 use Rattle.wrp_course.specs.Setting.{Setting, end_at, from_on}
 use Rattle.wrp_course.specs.Views.{is_kept, kept_count, kept_frame, sender_of}
 use Rattle.wrp_course.specs.WorldAt.{WorldAt, FrameAt, is_on_fibre}
-use Rattle.wrp_plant.proofs.FoundFrames.{Found, found}
+use Rattle.wrp_plant.proofs.FoundFrames.{Found, found, missing}
 use Rattle.wrp_plant.proofs.FramesTurned.{since_none, since_some}
 
 -- a frame on a fibre is kept
@@ -54,6 +57,21 @@ sender_told s w n d r h f =
     let it : Found DepartedIs (kept_frame s w n) d = found DepartedIs (kept_frame s w n) (Some d) d h refl in
     f ∙ ap₂ (λ k b. option_map pair (end_at s k b)) it.holds.link it.holds.by
     ∙ sym (ap (λ (o : Option FrameAt). option_map pair (option_and_then (λ g. end_at s g.link g.by) o)) it.is)
+
+-- the end that a frame comes to
+abbrev way : ℕ → Role → Place
+way k by = record { link = k; role = other_of by }
+
+pub way_told : (s : Setting) (w : WorldAt) (n : ℕ) (frames : FramesAt) (d : Departed) (r : Place) → FramesAre s w frames → at n frames.kept ≡ Some d →
+    r ≡ way d.link d.by → Some r ≡ option_map end_to (kept_frame s w n)
+way_told s w n frames d r h e f =
+    let it : Found DepartedIs (kept_frame s w n) d = found DepartedIs (kept_frame s w n) (at n frames.kept) d (frame_told s w n frames h) e in
+    ap Some (f ∙ ap₂ way it.holds.link it.holds.by) ∙ sym (ap (option_map end_to) it.is)
+
+pub no_way : (s : Setting) (w : WorldAt) (n : ℕ) (frames : FramesAt) → FramesAre s w frames → at n frames.kept ≡ None →
+    None ≡ option_map end_to (kept_frame s w n)
+no_way s w n frames h e =
+    sym (ap (option_map end_to) (missing DepartedIs (kept_frame s w n) (at n frames.kept) (frame_told s w n frames h) e))
 
 -- How many are kept
 

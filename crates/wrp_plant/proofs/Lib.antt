@@ -5,6 +5,7 @@ pub mod Counting
 pub mod Departing
 pub mod EachLists
 pub mod Fitting
+pub mod FirstPorts
 pub mod FoundFrames
 pub mod FramesTurned
 pub mod FrameGifts
@@ -15,6 +16,7 @@ pub mod Listing
 pub mod Moving
 pub mod NewPlants
 pub mod NextArrivals
+pub mod PutOuts
 pub mod Refusals
 pub mod RoomKept
 pub mod Roomy
@@ -23,6 +25,7 @@ pub mod Sizing
 pub mod Standing
 pub mod TellingEnds
 pub mod TellingPlants
+pub mod ToldFrames
 pub mod TriedFibres
 pub mod TriedFrames
 pub mod TriedModules

@@ -1,5 +1,5 @@
 -- Memory that is taken changes nothing, and what an event changes by itself leaves the memory that was taken.
-use Rattle.std.proofs.Common.{◌≡◌, ◌∙◌, refl, ap, sym, subst, ℕ, ◌<◌, ◌≤◌, ◌⊎◌, inl, inr, List, Some, slice_get}
+use Rattle.std.proofs.Common.{◌≡◌, ◌∙◌, refl, ap, sym, subst, ℕ, ◌<◌, ◌≤◌, ◌⊎◌, inl, inr, List, Some, slice_get, arith}
 use Rattle.std.specs.List.{AllZip}
 use Rattle.std.proofs.lemmas.Bool.{cases_lt}
 use Rattle.wrp_plant.specs.declared.ends.EndState.{EndState}
@@ -9,7 +9,7 @@ use Rattle.wrp_course.specs.declared.fibres.FibreState.{FibreState}
 use Rattle.wrp_plant.specs.declared.plant.Plant.{Plant}
 use Rattle.wrp_plant.specs.Moves.{Turns}
 use Rattle.wrp_plant.specs.Plant.{Each, EndIs, FitsEnd, FitsPlant, FitsSpan, FramesAre, PlantIs, PutOutIs, SpanIs}
-use Rattle.wrp_plant.specs.Room.{HasSpanRoom, SameEnd, SameSpan}
+use Rattle.wrp_plant.specs.Room.{HasEndRoom, HasSpanRoom, SameEnd, SameSpan}
 use Rattle.wrp_course.specs.Setting.{Setting}
 use Rattle.wrp_plant.specs.Sizes.{IsDelayBy, IsTimeBy}
 use Rattle.wrp_course.specs.WorldAt.{WorldAt, EndAt}
@@ -60,6 +60,17 @@ same_of_kept xs ys t = (t.0, λ n y e. let it : Came Keeps xs n y = t.1 n y e in
 
 pub room_of_kept : (k : ℕ) (xs ys : List Span) → Turns Keeps xs ys → Each (λ i. HasSpanRoom k) xs → Each (λ i. HasSpanRoom k) ys
 room_of_kept k xs ys t h = each_turned Keeps (λ i. HasSpanRoom k) (λ i. HasSpanRoom k) xs ys t (λ i x y r p. r.kept k p) h
+
+-- Where there is no step, all has the memory that it needs, and is as it was
+
+end_room : (end : EndState) → HasEndRoom 0 end
+end_room end = record { waiting = omega (arith, end.waiting.ok.1); marks = omega (arith, end.marks.ok.1) }
+
+pub no_steps : (steps : ℕ) (spans : List Span) → steps ≡ 0 → Each (λ i. HasSpanRoom steps) spans
+no_steps steps spans e n span at = subst (λ k. HasSpanRoom k span) (sym e) (record { master = end_room span.master; slave = end_room span.slave })
+
+pub same_spans : (spans : List Span) → Turns SameSpan spans spans
+same_spans spans = (refl, λ n y e. (y, e, record { fibre = refl; master = same_end y.master; slave = same_end y.slave }))
 
 -- What the plant stands for, and its sizes
 

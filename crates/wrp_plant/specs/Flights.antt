@@ -2,6 +2,7 @@
 use Rattle.std.specs.Prelude.{◌≡◌, ◌≤◌, ◌+ℤ◌, ℤ, List, [], ◌∷◌, Option, None, Some, false, drop, vec_len, vec_capacity}
 use Rattle.wrp_base.specs.declared.link.Role.{Role}
 use Rattle.wrp_base.specs.declared.link.Role.TheVariants.{Master, Slave}
+use Rattle.wrp_base.specs.Network.{other_of}
 use Rattle.wrp_plant.specs.declared.ends.EndState.{EndState}
 use Rattle.wrp_plant.specs.declared.ends.PutOut.{PutOut}
 use Rattle.wrp_plant.specs.declared.ends.Span.{Span}
@@ -17,6 +18,10 @@ use Rattle.wrp_course.specs.WorldAt.{WorldAt, FrameAt, Sending, delay_from}
 -- the end that sent a frame
 abbrev pub from_of : Departed → Place
 from_of d = record { link = d.link; role = d.by }
+
+-- the end that a frame comes to
+abbrev pub end_to : FrameAt → Place
+end_to f = record { link = f.link; role = other_of f.by }
 
 -- A departure
 

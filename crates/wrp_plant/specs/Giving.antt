@@ -1,5 +1,5 @@
 -- What the code lists of an event, before the nodes take it: part by part, and all of it (this project's profile).
-use Rattle.std.specs.Prelude.{ℕ, ℤ, pos, ◌≡◌, ◌≤◌, ◌++◌, Bool, true, false, List, [], ◌∷◌, length, flat_map, Option, None, Some, Result}
+use Rattle.std.specs.Prelude.{ℕ, ℤ, pos, ◌≡◌, ◌≤◌, ◌%◌, ◌==◌, ◌||◌, ◌++◌, Bool, true, false, List, [], ◌∷◌, length, flat_map, Option, None, Some, Result}
 use Rattle.std.specs.List.{AllByRecursion, AllZip}
 use Rattle.std.specs.Option.{option_map_or}
 use Rattle.arrayvec.specs.ArrayVec.{ArrayVec}
@@ -56,6 +56,11 @@ IsListed None outs = outs ≡ []
 IsListed (Some gift) outs = IsListedAlone gift outs
 
 -- The sending of a frame
+
+-- octets whose messageType is that of a Sync or of a Delay_Req: no sending of others is told
+abbrev pub is_told : List ℕ → Bool
+is_told [] = false
+is_told (first ∷ rest) = (first % 16 == 0x0) || (first % 16 == 0x1)
 
 -- the input that tells it at a port, if it is told
 abbrev pub sent_in : (p seq : ℕ) → Stamp → Body → Option Input

@@ -1,5 +1,6 @@
 pub mod Begins
 pub mod Changes
+pub mod FirstPort
 pub mod FitsGifts
 pub mod Flights
 pub mod Gifts
@@ -8,6 +9,7 @@ pub mod Moves
 pub mod New
 pub mod Plant
 pub mod PlantTold
+pub mod PutOut
 pub mod Room
 pub mod Sizes
 pub mod Tried

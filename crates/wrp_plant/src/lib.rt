@@ -8,6 +8,8 @@ mod ends;
 mod plant;
 mod premises;
 
+pub use checks::{longest_tick, shortest_tick};
 pub use plant::Plant;
+pub use plant::new::start_of;
 pub use plant::told::News;
 pub use premises::rates::rate_kept;

@@ -1,5 +1,6 @@
 pub mod AllTake
 pub mod Breaches
+pub mod FirstNodes
 pub mod InRuns
 pub mod Inside
 pub mod Movers
@@ -8,6 +9,8 @@ pub mod NewWorlds
 pub mod NodeSteps
 pub mod NodesTake
 pub mod RunsOn
+pub mod Steering
 pub mod TakenLaws
+pub mod TakenRuns
 pub mod TrueRuns
 pub mod WorldSteps

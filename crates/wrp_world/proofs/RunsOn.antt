@@ -15,7 +15,7 @@ use Rattle.wrp_world.specs.StandsFor.{WorldOf}
 use Rattle.wrp_world.specs.Step.{MayCome, Stepped}
 use Rattle.wrp_world.proofs.InRuns.{step_adds_to_run}
 
-goes_on : {F : Type 0} (post : F → ℤ → ℤ → Type 0) (e : Event) (says : Result PtpMsg FrameFault) (answer : ℤ) (new : WorldOf F) (s : Setting) (events : List Happened) →
+pub goes_on : {F : Type 0} (post : F → ℤ → ℤ → Type 0) (e : Event) (says : Result PtpMsg FrameFault) (answer : ℤ) (new : WorldOf F) (s : Setting) (events : List Happened) →
     LinksHoldInRuns → InRun post s (record { event = e; says = says; answer = answer } ∷ events) new → GoesOn post s e events new
 goes_on post e says answer new s events law h = record {
   says = says;

@@ -37,7 +37,7 @@ length_laws : {F : Type 0} (world : WorldOf F) → length (laws_of world) ≡ le
 length_laws {F} world = length_map (λ (m : NodeOf F). law_in m.control) world.nodes
 
 -- they fit in each world that has the same
-laws_kept : {F : Type 0} (pre : F → ℤ → Type 0) (post : F → ℤ → ℤ → Type 0) (cfg : NetCfg) (old new : WorldOf F) →
+pub laws_kept : {F : Type 0} (pre : F → ℤ → Type 0) (post : F → ℤ → ℤ → Type 0) (cfg : NetCfg) (old new : WorldOf F) →
     laws_of new ≡ laws_of old → HasFittingLaws pre post cfg old → HasFittingLaws pre post cfg new
 laws_kept pre post cfg old new same fit = record {
   count = sym (length_laws new) ∙ (ap length same ∙ (length_laws old ∙ fit.count));
@@ -84,14 +84,14 @@ begins pre post cfg db laws world accepted stands count counted has fit = record
 -- A step
 
 -- what the laws of a run ask of it
-true_run : {F : Type 0} (pre : F → ℤ → Type 0) (post : F → ℤ → ℤ → Type 0) (s : Setting) (events : List Happened) (world : WorldOf F) → InTrueRun pre post s events world → TrueRun s events
+pub true_run : {F : Type 0} (pre : F → ℤ → Type 0) (post : F → ℤ → ℤ → Type 0) (s : Setting) (events : List Happened) (world : WorldOf F) → InTrueRun pre post s events world → TrueRun s events
 true_run pre post s events world h = record {
   run = h.run.run;
   fit = h.fit;
   answered = answers_near pre post s (world_after s events) world h.run.run.network h.laws h.run.stands;
 }
 
-event_in : {F : Type 0} (post : F → ℤ → ℤ → Type 0) (s : Setting) (events : List Happened) (e : Event) (old : WorldOf F) → InRun post s events old → MayCome old e → IsEventOf s.cfg e
+pub event_in : {F : Type 0} (post : F → ℤ → ℤ → Type 0) (s : Setting) (events : List Happened) (e : Event) (old : WorldOf F) → InRun post s events old → MayCome old e → IsEventOf s.cfg e
 event_in post s events e old h may = subst (λ (cfg : NetCfg). IsEventOf cfg e) h.stands.plant.cfg may.event
 
 pub links_go_on : {F : Type 0} (post : F → ℤ → ℤ → Type 0) (e : Event) (old new : WorldOf F) (outs : List NodeOut) →

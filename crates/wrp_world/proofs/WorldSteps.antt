@@ -38,6 +38,7 @@ use Rattle.wrp_course.specs.Run.{IsSaid}
 use Rattle.wrp_course.specs.Setting.{Setting, end_at, entry_at, place_of}
 use Rattle.wrp_world.specs.StandsFor.{IsValid, NodeIs, StandsFor, WorldOf}
 use Rattle.wrp_world.specs.Step.{IsRefusal, StaysSo, Stepped}
+use Rattle.wrp_world.specs.Take.{CanHappenSo, TakenSo, Takes}
 use Rattle.wrp_world.specs.Taking.{Asks, FirstAsks, GaveAll, HasTicks, is_plain}
 use Rattle.wrp_world.specs.Step.{TellsBreach}
 use Rattle.wrp_course.specs.WorldAt.{Arrival, FrameAt, Sending, WorldAt, has_carrier, is_on_fibre}
@@ -166,10 +167,9 @@ opens_listed world put (g ∷ gs) (o ∷ outs) z h = (subst (Asks world) (sym z.
 -- The event has begun
 
 -- what is known as the nodes are to take their inputs
-pub record Begun {F : Type 0} (pre : F → ℤ → Type 0) (post : F → ℤ → ℤ → Type 0) (e : Event) (put : ℤ) (says : Result PtpMsg FrameFault) (old : WorldOf F) (plant : Plant) (outs : List NodeOut) : Type 0 where
+pub record Begun {F : Type 0} (pre : F → ℤ → Type 0) (post : F → ℤ → ℤ → Type 0) (e : Event) (put : ℤ) (old : WorldOf F) (plant : Plant) (outs : List NodeOut) : Type 0 where
   pub valid : IsValid pre post old
-  pub said : IsSaid e says
-  pub accepted : (s : Setting) (w : WorldAt) → StandsFor post s w old → Accepts s w says e
+  pub can : CanHappenSo post old e
   pub gifts : ListsGifts old.plant e put outs
   pub is : MovesBy e old.plant plant
   pub events : plant.events ≡ old.plant.events + 1
@@ -203,53 +203,54 @@ may_move s w says (Cut k) h = tt
 may_move s w says (Join k ms sm) h = tt
 
 pub begun_stands : {F : Type 0} (post : F → ℤ → ℤ → Type 0) (e : Event) (says : Result PtpMsg FrameFault) (old : WorldOf F) (plant : Plant) → MovesBy e old.plant plant →
-    ((s : Setting) (w : WorldAt) → StandsFor post s w old → Accepts s w says e) → (s : Setting) (w : WorldAt) → StandsFor post s w old →
-    StandsFor post s (moved s w e) (world_of plant old.nodes)
-begun_stands post e says old plant is accepted s w st = record {
+    (s : Setting) (w : WorldAt) → Accepts s w says e → StandsFor post s w old → StandsFor post s (moved s w e) (world_of plant old.nodes)
+begun_stands post e says old plant is s w accepted st = record {
   set = st.set;
-  plant = is s w (may_move s w says e (accepted s w st)) st.plant;
+  plant = is s w (may_move s w says e accepted) st.plant;
   nodes = λ n x at. let k : NodeIs post s w n x = st.nodes n x at in record { at = k.at; stands = k.stands };
 }
 
-pub begun_valid : {F : Type 0} (pre : F → ℤ → Type 0) (post : F → ℤ → ℤ → Type 0) (e : Event) (put : ℤ) (says : Result PtpMsg FrameFault) (old : WorldOf F) (plant : Plant) (outs : List NodeOut) →
-    Begun pre post e put says old plant outs → IsValid pre post (world_of plant old.nodes)
-begun_valid pre post e put says old plant outs h = record {
+pub begun_valid : {F : Type 0} (pre : F → ℤ → Type 0) (post : F → ℤ → ℤ → Type 0) (e : Event) (put : ℤ) (old : WorldOf F) (plant : Plant) (outs : List NodeOut) →
+    Begun pre post e put old plant outs → IsValid pre post (world_of plant old.nodes)
+begun_valid pre post e put old plant outs h = record {
   plant = h.fits;
   node_count = h.valid.node_count ∙ ap (λ (n : Network). node_count n.cfg) (sym h.net);
   nodes = h.valid.nodes;
   ticks = λ n x at. no_sooner x.parts.ticks old.plant.events plant.events h.events (h.valid.ticks n x at);
-  setting = h.valid.setting;
-  state = moved h.valid.setting h.valid.state e;
-  stands = begun_stands post e says old plant h.is h.accepted h.valid.setting h.valid.state h.valid.stands;
+  setting = h.can.setting;
+  state = moved h.can.setting h.can.state e;
+  stands = begun_stands post e h.can.says old plant h.is h.can.setting h.can.state h.can.accepted h.can.stands;
 }
 
 listed_at : {F : Type 0} (pre : F → ℤ → Type 0) (post : F → ℤ → ℤ → Type 0) (e : Event) (put : ℤ) (says : Result PtpMsg FrameFault) (old : WorldOf F) (plant : Plant) (outs : List NodeOut) →
-    Begun pre post e put says old plant outs → (s : Setting) (w : WorldAt) → StandsFor post s w old → AreGifts s w says e put outs
-listed_at pre post e put says old plant outs h s w st = h.gifts s w says st.set st.plant h.said (h.accepted s w st)
+    Begun pre post e put old plant outs → IsSaid e says → (s : Setting) (w : WorldAt) → Accepts s w says e → StandsFor post s w old → AreGifts s w says e put outs
+listed_at pre post e put says old plant outs h said s w accepted st = h.gifts s w says st.set st.plant said accepted
 
-pub begun_asks : {F : Type 0} (pre : F → ℤ → Type 0) (post : F → ℤ → ℤ → Type 0) (e : Event) (put : ℤ) (says : Result PtpMsg FrameFault) (old : WorldOf F) (plant : Plant) (outs : List NodeOut) →
-    Begun pre post e put says old plant outs → FirstAsks (world_of plant old.nodes) outs
-begun_asks {F} pre post e put says old plant outs h =
-    let s : Setting = h.valid.setting in
-    let w : WorldAt = h.valid.state in
+pub begun_asks : {F : Type 0} (pre : F → ℤ → Type 0) (post : F → ℤ → ℤ → Type 0) (e : Event) (put : ℤ) (old : WorldOf F) (plant : Plant) (outs : List NodeOut) →
+    Begun pre post e put old plant outs → FirstAsks (world_of plant old.nodes) outs
+begun_asks {F} pre post e put old plant outs h =
+    let s : Setting = h.can.setting in
+    let w : WorldAt = h.can.state in
     let ticks : HasTicks (world_of plant old.nodes) = λ n (x : NodeOf F) at. one_later x.parts.ticks old.plant.events plant.events h.events (h.valid.ticks n x at) in
-    opens_listed (world_of plant old.nodes) put (given_by s w (moved s w e) says e) outs (listed_at pre post e put says old plant outs h s w h.valid.stands)
-    (given_opens (world_of plant old.nodes) s w (moved s w e) says e ticks h.still)
+    opens_listed (world_of plant old.nodes) put (given_by s w (moved s w e) h.can.says e) outs
+    (listed_at pre post e put h.can.says old plant outs h h.can.said s w h.can.accepted h.can.stands)
+    (given_opens (world_of plant old.nodes) s w (moved s w e) h.can.says e ticks h.still)
 
 -- the nodes have taken their inputs
-pub event_taken : {F : Type 0} (pre : F → ℤ → Type 0) (post : F → ℤ → ℤ → Type 0) (e : Event) (put : ℤ) (says : Result PtpMsg FrameFault) (old : WorldOf F) (plant : Plant) (outs made : List NodeOut) (new : WorldOf F) →
-    Begun pre post e put says old plant outs → GaveAll post put (world_of plant old.nodes) new outs made → Stepped post e old new made
-event_taken pre post e put says old plant outs made new h g = (
-  says,
+pub event_taken : {F : Type 0} (pre : F → ℤ → Type 0) (post : F → ℤ → ℤ → Type 0) (e : Event) (put : ℤ) (old : WorldOf F) (plant : Plant) (outs made : List NodeOut) (new : WorldOf F) →
+    Begun pre post e put old plant outs → GaveAll post put (world_of plant old.nodes) new outs made → TakenSo post e old new made
+event_taken pre post e put old plant outs made new h g = (
   g.0,
-  record {
-    said = h.said;
-    accepted = h.accepted;
-    seen = λ s w st.
-        g.1.seen s (moved s w e) (given_by s w (moved s w e) says e) (begun_stands post e says old plant h.is h.accepted s w st) (listed_at pre post e put says old plant outs h s w st);
-    stands = λ s w st.
-        g.1.stands s (moved s w e) (given_by s w (moved s w e) says e) (begun_stands post e says old plant h.is h.accepted s w st) (listed_at pre post e put says old plant outs h s w st);
-  },
+  λ says said.
+      record {
+        said = said;
+        seen = λ s w st accepted.
+            g.1.seen s (moved s w e) (given_by s w (moved s w e) says e) (begun_stands post e says old plant h.is s w accepted st)
+            (listed_at pre post e put says old plant outs h said s w accepted st);
+        stands = λ s w st accepted.
+            g.1.stands s (moved s w e) (given_by s w (moved s w e) says e) (begun_stands post e says old plant h.is s w accepted st)
+            (listed_at pre post e put says old plant outs h said s w accepted st);
+      },
 )
 
 -- Nothing was changed
@@ -285,13 +286,40 @@ memory_refused {F} {A} post e world o r y fault t h is memory =
     let refusal : IsRefusal post e world (Memory fault) = (t.0, t.1, λ s w st. accepted_of s w t.0 e (sym h ∙ t.2 s w st)) in
     subst (λ (k : Result A Refused). IfErr k (IsRefusal post e world)) (sym is) (subst (IsRefusal post e world) (sym memory) refusal)
 
-pub begun_of : {F : Type 0} (pre : F → ℤ → Type 0) (post : F → ℤ → ℤ → Type 0) (e : Event) (put : ℤ) (world : WorldOf F) (first plant : Plant) (nodes : List (NodeOf F)) (outs : List NodeOut) (o : Option Breach) (t : TellsBreach post e world o) →
-    o ≡ None → world_of first nodes ≡ world → IsValid pre post world → ListsGifts first e put outs → MovesBy e first plant → plant.events ≡ first.events + 1 → plant.net ≡ first.net → FitsPlant plant →
-    MayStepAfter e plant → Begun pre post e put t.0 (world_of first nodes) plant outs
-begun_of {F} pre post e put world first plant nodes outs o t none view v gifts is events net fits still = record {
-  valid = subst (λ (w : WorldOf F). IsValid pre post w) (sym view) v;
+-- where no premise is broken, all are kept
+pub kept_so : {F : Type 0} (pre : F → ℤ → Type 0) (post : F → ℤ → ℤ → Type 0) (e : Event) (world : WorldOf F) (o : Option Breach) →
+    TellsBreach post e world o → o ≡ None → IsValid pre post world → CanHappenSo post world e
+kept_so pre post e world o t none v = record {
+  says = t.0;
   said = t.1;
-  accepted = λ s w st. accepted_of s w t.0 e (sym none ∙ t.2 s w (subst (λ (k : WorldOf F). StandsFor post s w k) view st));
+  setting = v.setting;
+  state = v.state;
+  stands = v.stands;
+  accepted = accepted_of v.setting v.state t.0 e (sym none ∙ t.2 v.setting v.state v.stands);
+}
+
+-- and so it is in each state that the world stands for
+pub stepped_so : {F : Type 0} (post : F → ℤ → ℤ → Type 0) (e : Event) (old new : WorldOf F) (outs : List NodeOut) (o : Option Breach) →
+    TellsBreach post e old o → o ≡ None → TakenSo post e old new outs → Stepped post e old new outs
+stepped_so post e old new outs o t none taken =
+    let accepted : (s : Setting) (w : WorldAt) → StandsFor post s w old → Accepts s w t.0 e = λ s w st. accepted_of s w t.0 e (sym none ∙ t.2 s w st) in
+    let takes : Takes post e t.0 taken.0 old new outs = taken.1 t.0 t.1 in (
+      t.0,
+      taken.0,
+      record {
+        said = t.1;
+        accepted = accepted;
+        seen = λ s w st. takes.seen s w st (accepted s w st);
+        stands = λ s w st. takes.stands s w st (accepted s w st);
+      },
+    )
+
+pub begun_of : {F : Type 0} (pre : F → ℤ → Type 0) (post : F → ℤ → ℤ → Type 0) (e : Event) (put : ℤ) (world : WorldOf F) (first plant : Plant) (nodes : List (NodeOf F)) (outs : List NodeOut) →
+    world_of first nodes ≡ world → IsValid pre post world → CanHappenSo post world e → ListsGifts first e put outs → MovesBy e first plant → plant.events ≡ first.events + 1 → plant.net ≡ first.net → FitsPlant plant →
+    MayStepAfter e plant → Begun pre post e put (world_of first nodes) plant outs
+begun_of {F} pre post e put world first plant nodes outs view v can gifts is events net fits still = record {
+  valid = subst (λ (w : WorldOf F). IsValid pre post w) (sym view) v;
+  can = subst (λ (w : WorldOf F). CanHappenSo post w e) (sym view) can;
   gifts = gifts;
   is = is;
   events = events;

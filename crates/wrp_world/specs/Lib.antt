@@ -7,4 +7,5 @@ pub mod RunsOn
 pub mod StandsFor
 pub mod Step
 pub mod StepHolds
+pub mod Take
 pub mod Taking

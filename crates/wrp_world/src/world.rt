@@ -1,10 +1,12 @@
 //! The world itself: its calls.
+mod asked;
 mod broken;
 mod fitting;
 mod give;
 mod new;
 mod rates;
 mod step;
+mod taking;
 mod views;
 
 use std::marker::Model;

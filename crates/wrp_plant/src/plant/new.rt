@@ -48,8 +48,8 @@ impl Plant {
     }
 }
 
-// The epoch.
-fn start_of(cfg: &NetCfg) -> Tau
+/// The first moment of a world, in tau: the epoch of its network, which is in seconds.
+pub fn start_of(cfg: &NetCfg) -> Tau
     requires { HasRanges cfg.now }
     ensures value { result ≡ cfg.now.epoch *ℤ second }
     ensures size { IsTimeBy 0 result }

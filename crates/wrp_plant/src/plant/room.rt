@@ -47,7 +47,8 @@ fn reserve(spans: &mut Vec<Span>, steps: u8) -> Result<(), AllocError>
 
 impl Plant {
     /// Takes the memory that so many steps of nodes may need: at each end of each link, places for four
-    /// frames and a mark a step. Nothing else changes, also where memory could not be had.
+    /// frames and a mark a step; no end is looked at where there is no step. Nothing else changes, also where
+    /// memory could not be had.
     pub fn reserve(&mut self, steps: u8) -> Result<(), AllocError>
         requires fits { FitsPlant self.old }
         ensures room { OnOk result (HasRoom steps self.new) }
@@ -61,6 +62,9 @@ impl Plant {
         ensures spans { Turns SameSpan self.old.spans.items self.new.spans.items }
         ensures frames { self.new.frames ≡ self.old.frames }
     {
+        if steps == 0 {
+            return Ok(());
+        }
         reserve(&mut self.spans, steps)
     }
 }

@@ -98,8 +98,8 @@ impl Plant {
         stands(self.joined(k))
     }
 
-    // The link above a node. `None` exactly for the grandmaster.
-    fn above(&self, n: u8) -> Option<u8>
+    /// The link above a node. `None` exactly for the grandmaster.
+    pub fn above(&self, n: u8) -> Option<u8>
         requires { FitsPlant self.now }
         ensures value { (s : Setting) (w : WorldAt) → PlantIs s w self.now → result ≡ above s n }
         ensures within { IfSome result (λ k. k < length self.now.net.cfg.links.items) }
@@ -108,8 +108,8 @@ impl Plant {
         link_above(cfg, n)
     }
 
-    // How far the clocks of two nodes are apart.
-    fn apart(&self, lower: u8, upper: u8) -> Tau
+    /// How far the clock of the lower of two nodes is ahead of the upper one's.
+    pub fn apart(&self, lower: u8, upper: u8) -> Tau
         requires fits { FitsPlant self.now }
         requires lower { lower < length self.now.net.cfg.nodes.items }
         requires upper { upper < length self.now.net.cfg.nodes.items }

@@ -1,14 +1,17 @@
 //! What is asked of a plant.
-ghost use Rattle.std.specs.Prelude.{◌≡◌, ◌<◌, length, option_map};
+ghost use Rattle.std.specs.Prelude.{◌≡◌, ◌<◌, length, option_map, IfSome};
+ghost use Rattle.wrp_base.specs.Clock.{steps_of_period};
+ghost use Rattle.wrp_base.specs.Network.{other_of};
+ghost use Rattle.wrp_plant.specs.Flights.{end_to};
 ghost use Rattle.wrp_plant.specs.Plant.{DepartedIs, FitsPlant, MaybeIs, PlantIs};
-ghost use Rattle.wrp_course.specs.Setting.{Setting, end_at, end_of, place_of};
+ghost use Rattle.wrp_course.specs.Setting.{Setting, end_at, end_of, entry_at, place_of};
 ghost use Rattle.wrp_course.specs.Views as view;
-ghost use Rattle.wrp_course.specs.WorldAt.{WorldAt};
+ghost use Rattle.wrp_course.specs.WorldAt.{WorldAt, first_name, named_at};
 
 use super::Plant;
 use crate::checks::{longest_tick, shortest_tick};
-use wrp_base::{LinkCfg, Mark, Role, Tau, sum};
-use wrp_course::place_of;
+use wrp_base::{LinkCfg, Mark, Module, Role, Tau, sum};
+use wrp_course::{Place, place_of};
 use wrp_flights::Departed;
 
 impl Plant {
@@ -110,6 +113,32 @@ impl Plant {
         }
     }
 
+    /// The end that a frame comes to. `None` exactly where none of this number is kept.
+    pub fn comes_to(&self, number: u32) -> Option<Place>
+        requires { FitsPlant self.now }
+        ensures value { (s : Setting) (w : WorldAt) → PlantIs s w self.now
+            → result ≡ option_map end_to (view.kept_frame s w number) }
+        ensures within { IfSome result (λ place. place.link < length self.now.net.cfg.links.items) }
+    {
+        match self.frame(number) {
+            Some(frame) => Some(way_of(frame)),
+            None => None,
+        }
+    }
+
+    /// The numbers of the module that the network names at an end of a link. `None` exactly where it is not
+    /// listed there.
+    pub fn first_entry(&self, place: Place) -> Option<Module>
+        requires fits { FitsPlant self.now }
+        requires link { place.link < length self.now.net.cfg.links.items }
+        ensures value { (s : Setting) (w : WorldAt) → PlantIs s w self.now
+            → result ≡ entry_at s place.link place.role (first_name s place.link place.role) }
+        ensures transition { IfSome result (λ entry. entry.transition < steps_of_period) }
+    {
+        let link = self.link_cfg(place.link);
+        self.listed_at(place, named_at(link, place.role))
+    }
+
     // The node and the port at an end of a link.
     fn port_at(&self, link: u8, role: Role) -> Option<(u8, u16)>
         ensures { (s : Setting) (w : WorldAt) → PlantIs s w self.now
@@ -119,6 +148,27 @@ impl Plant {
             Some(link) => Some(port_of(link, role)),
             None => None,
         }
+    }
+}
+
+// The end that a frame comes to.
+fn way_of(frame: &Departed) -> Place
+    ensures { result ≡ record { link = frame.now.link; role = other_of frame.now.by } }
+{
+    let from = Place {
+        link: frame.link,
+        role: frame.by,
+    };
+    from.across()
+}
+
+// The name of the module that the network has at this end of a link.
+fn named_at(link: &LinkCfg, role: Role) -> &str
+    ensures { result.now ≡ named_at role link.now }
+{
+    match role {
+        Role::Master => link.upper_module.as_str(),
+        Role::Slave => link.lower_module.as_str(),
     }
 }
 

@@ -1,10 +1,13 @@
-//! Which numbers an event has.
+//! Which numbers an event has, and what its octets say.
 ghost use Rattle.std.specs.Prelude.{◌≤◌, length};
 ghost use Rattle.wrp_base.specs.Octets.{AreOctets};
 ghost use Rattle.wrp_course.specs.EventAt.{FitsEvent};
+ghost use Rattle.wrp_course.specs.Run.{IsSaid};
+ghost use Rattle.wrp_node.specs.NodeRun.{Says};
 
-use wrp_base::Frame;
+use wrp_base::{Frame, PtpMsg};
 use wrp_course::Event;
+use wrp_frame::{FrameFault, decode};
 
 // Octets are below 256.
 fn are_octets(octets: &[u8])
@@ -42,5 +45,22 @@ pub(super) fn event_fits(event: &Event)
             let _count = swaps.len();
         }
         _ => {}
+    }
+}
+
+// What octets say.
+fn read(bytes: &Frame) -> Result<PtpMsg, FrameFault>
+    ensures { Says bytes.now.items result }
+{
+    decode(bytes.as_slice())
+}
+
+/// What the octets say that an event brings and the peer did not send; a fault where it brings none.
+pub(super) fn said(event: &Event) -> Result<PtpMsg, FrameFault>
+    ensures { IsSaid event.now result }
+{
+    match event {
+        Event::Noise { bytes, .. } => read(bytes),
+        _ => Err(FrameFault::Short),
     }
 }

@@ -1,6 +1,8 @@
 //! Which premise a time breaks that passes: the rates of clocks are asked of the nodes.
-ghost use Rattle.std.specs.Prelude.{◌≡◌, ◌<◌, ◌≤◌, length, flat_map, IfSome, Result};
+ghost use Rattle.std.specs.Prelude.{◌≡◌, ◌<◌, ◌≤◌, length, flat_map, not, if◌then◌else◌, IfSome, None, Some, Result};
+ghost use Rattle.std.specs.Option.{is_some};
 ghost use Rattle.wrp_base.specs.declared.message.PtpMsg.{PtpMsg};
+ghost use Rattle.wrp_base.specs.Network.{link_above};
 ghost use Rattle.wrp_servo.specs.Sampling.{is_holdover};
 ghost use Rattle.wrp_frame.specs.declared.fault.FrameFault.{FrameFault};
 ghost use Rattle.wrp_course.specs.Checks.{told_of};
@@ -9,8 +11,8 @@ ghost use Rattle.wrp_course.specs.EventAt.{IsPass};
 ghost use Rattle.wrp_course.specs.Moved.{drift_of};
 ghost use Rattle.wrp_course.specs.Premises as premise;
 ghost use Rattle.wrp_course.specs.Setting.{Setting, nodes_of};
-ghost use Rattle.wrp_world.specs.StandsFor.{IsValid, StandsFor};
-ghost use Rattle.wrp_plant.specs.Tried.{kept_rate, steered_rate};
+ghost use Rattle.wrp_world.specs.StandsFor.{IsValid, StandsFor, Tells};
+ghost use Rattle.wrp_plant.specs.Tried.{steered_rate};
 ghost use Rattle.wrp_course.specs.WorldAt.{WorldAt};
 
 use super::World;
@@ -39,17 +41,11 @@ fn steered_rate(locked: bool, state: ServoState, cfg: &NodeCfg) -> Option<u64>
     }
 }
 
-// The rate that a clock keeps, if it keeps one: none at the grandmaster.
-fn kept_rate(is_top: bool, up: bool, steered: Option<u64>) -> Option<u64>
-    ensures { result ≡ kept_rate is_top up steered }
+// That of a clock whose node may be down.
+fn rate_where(up: bool, steered: Option<u64>) -> Option<u64>
+    ensures { result ≡ (if up then steered else None) }
 {
-    if is_top {
-        Some(0)
-    } else if up {
-        steered
-    } else {
-        None
-    }
+    if up { steered } else { None }
 }
 
 // How far a clock moves.
@@ -63,21 +59,33 @@ fn drift_at(drifts: &[i64], n: u8) -> i64
 }
 
 impl<F: Fn(i64) -> i64> World<F> {
-    // The rate that a node's clock keeps, if it keeps one.
-    fn rate(&self, n: u8) -> Option<u64>
+    /// The rate that a node's clock keeps, in `10^-12`: at most `10^9`. `None` where it keeps none.
+    pub fn rate(&self, n: u8) -> Option<u64>
         requires valid { IsValid F.pre F.post self.now }
         requires node { n < length self.now.nodes }
-        ensures value { (s : Setting) (w : WorldAt) → StandsFor F.post s w self.now
-            → result ≡ premise.rate_of s w n }
+        ensures value { Tells F.post (λ s w. premise.rate_of s w n) self.now result }
         ensures most { IfSome result (λ rate. rate ≤ 1_000_000_000) }
     {
-        let is_top = self.plant.is_top(n);
         let up = self.plant.is_up(n);
         let node = self.node(n);
         let locked = node.locked();
         let state = node.servo();
         let cfg = self.plant.node_cfg(n);
-        kept_rate(is_top, up, steered_rate(locked, state, cfg))
+        match rate_where(up, steered_rate(locked, state, cfg)) {
+            Some(rate) => Some(rate),
+            None => self.still_rate(n),
+        }
+    }
+
+    // The rate that a clock keeps that is not steered: the grandmaster's does not move. It is the last to be
+    // asked, since it looks for a link among all.
+    fn still_rate(&self, n: u8) -> Option<u64>
+        requires { IsValid F.pre F.post self.now }
+        ensures value { Tells F.post (λ s w. if not (is_some (link_above s.cfg n)) then Some 0 else None) self.now result }
+        ensures most { IfSome result (λ rate. rate ≤ 1_000_000_000) }
+    {
+        let is_top = self.plant.is_top(n);
+        if is_top { Some(0) } else { None }
     }
 
     // A clock keeps its rate.
@@ -89,14 +97,6 @@ impl<F: Fn(i64) -> i64> World<F> {
     {
         let rate = self.rate(n);
         rate_kept(drift_at(drifts.as_slice(), n), dt, rate)
-    }
-
-    // How many nodes there are.
-    fn node_count(&self) -> u8
-        requires { IsValid F.pre F.post self.now }
-        ensures { result ≡ length self.now.nodes }
-    {
-        self.plant.net.cfg.nodes.len() as u8
     }
 
     // All clocks keep their rates.

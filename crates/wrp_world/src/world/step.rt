@@ -54,9 +54,7 @@ impl<F: Fn(i64) -> i64> World<F> {
         if let Some(breach) = self.broken(event) {
             return Err(refused(breach));
         }
-        let put = self.plant.put_out_at(event);
-        self.plant.begin(event, outs, &mut self.aside)?;
-        self.give_all(put, outs);
+        self.take_so(event, outs)?;
         Ok(())
     }
 

@@ -1,5 +1,5 @@
 //! What a frame gives as it is handed over, and as it departs.
-ghost use Rattle.std.specs.Prelude.{◌≡◌, ◌<◌, ◌∷◌, [], ℕ, length, pos, true, option_map, IfSome};
+ghost use Rattle.std.specs.Prelude.{◌≡◌, ◌==◌, ◌||◌, ◌<◌, ◌∷◌, [], ℕ, length, pos, true, option_map, IfSome};
 ghost use Rattle.std.specs.List.{AllByRecursion, AllZip};
 ghost use Rattle.std.specs.Option.{option_map_or};
 ghost use Rattle.wrp_base.specs.declared.configuration.NetCfg.{NetCfg as Net};
@@ -14,7 +14,7 @@ ghost use Rattle.wrp_flights.specs.Frames.{sent_at};
 ghost use Rattle.wrp_course.specs.Setting.{has_port};
 ghost use Rattle.wrp_plant.specs.Gifts.{GiftIs};
 ghost use Rattle.wrp_course.specs.Given.{delivered_by};
-ghost use Rattle.wrp_plant.specs.Giving.{Gives, entries_of, listed, sent_by, sent_first};
+ghost use Rattle.wrp_plant.specs.Giving.{Gives, entries_of, is_told, listed, sent_by, sent_first};
 ghost use Rattle.wrp_plant.specs.Plant.{DepartedIs, EndIs, FitsDeparted, FitsPlant, PlantIs, ReceptionIs};
 ghost use Rattle.wrp_course.specs.Setting.{Setting};
 ghost use Rattle.wrp_course.specs.WorldAt.{Arrival, EndAt, FrameAt, WorldAt};
@@ -54,8 +54,39 @@ fn sending(message: &PtpMsg, port: u16, stamp: Stamp) -> Option<Input>
     }
 }
 
-// The same of octets.
+// Whether a messageType is that of a Sync or of a Delay_Req.
+fn is_told_kind(kind: u8) -> bool
+    ensures { result ≡ ((kind == 0x0) || (kind == 0x1)) }
+{
+    kind == 0x0 || kind == 0x1
+}
+
+// Whether that of these octets is.
+fn is_told(octets: &[u8]) -> bool
+    ensures { result ≡ is_told octets.now }
+{
+    match octets {
+        [] => false,
+        [first, ..] => is_told_kind(*first % 16),
+    }
+}
+
+// The same of octets. Those of another messageType are not read.
 fn sending_of(octets: &[u8], port: u16, stamp: Stamp) -> Option<Input>
+    ensures is { (message : Message) → Spells octets.now message
+        → result ≡ sent_by port stamp message }
+    ensures fits { (cfg : Net) (n : ℕ) → has_port cfg n port ≡ true → IsStamp stamp
+        → IfSome result (FitsNode cfg n) }
+{
+    if is_told(octets) {
+        sending_in(octets, port, stamp)
+    } else {
+        None
+    }
+}
+
+// The same of octets that are read.
+fn sending_in(octets: &[u8], port: u16, stamp: Stamp) -> Option<Input>
     ensures is { (message : Message) → Spells octets.now message
         → result ≡ sent_by port stamp message }
     ensures fits { (cfg : Net) (n : ℕ) → has_port cfg n port ≡ true → IsStamp stamp

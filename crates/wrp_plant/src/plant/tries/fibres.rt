@@ -25,8 +25,8 @@ use wrp_base::Tau;
 use wrp_course::{Breach, FibreState, Swap};
 
 impl Plant {
-    // How many links there are.
-    fn link_count(&self) -> u8
+    /// How many links there are.
+    pub fn link_count(&self) -> u8
         ensures { result ≡ length self.now.net.cfg.links.items }
     {
         self.net.cfg.links.len() as u8

@@ -46,8 +46,8 @@ fn first_put_out(waiting: &[PutOut]) -> Option<Tau>
 }
 
 impl Plant {
-    // What a node's clock reads.
-    fn reading(&self, n: u8) -> Tau
+    /// What a node's clock reads.
+    pub fn reading(&self, n: u8) -> Tau
         requires fits { FitsPlant self.now }
         requires node { n < length self.now.net.cfg.nodes.items }
         ensures value { (s : Setting) (w : WorldAt) → PlantIs s w self.now → result ≡ reading w n }
@@ -72,8 +72,8 @@ impl Plant {
         stamp_kept(stamp, reading, node.e_tx)
     }
 
-    // When the oldest frame that waits at an end was put out.
-    fn oldest_at(&self, place: Place) -> Option<Tau>
+    /// When the oldest frame that waits at an end was put out. `None` exactly where none waits.
+    pub fn oldest_at(&self, place: Place) -> Option<Tau>
         requires fits { FitsPlant self.now }
         requires link { place.link < length self.now.net.cfg.links.items }
         ensures value { (s : Setting) (w : WorldAt) → PlantIs s w self.now

@@ -15,7 +15,7 @@ returns-in-Some g c s w h =
     (range_more (rate_kept s w (to_z w64 (of_z w64 c.args.dt)) c.args.drifts.now.items) c.node_count-count.result c.loop-n.n c.loop-n-test.true)
     (sym (c.rate_broken.ensures s w h) ∙ c.in-Some.is)
     ∙ ap (λ n. told_of (flat_map (rate_kept s w (to_z w64 (of_z w64 c.args.dt)) c.args.drifts.now.items) (from_on n 0)))
-    (c.node_count-count.ensures ∙ c.requires.valid.node_count ∙ ap (λ (cfg : NetCfg). length cfg.nodes.items) h.plant.cfg)
+    (c.node_count-count.ensures.value ∙ c.requires.valid.node_count ∙ ap (λ (cfg : NetCfg). length cfg.nodes.items) h.plant.cfg)
     ∙ ap (λ t. told_of (flat_map (rate_kept s w t c.args.drifts.now.items) (nodes_of s))) (to_z-of_z w64 c.args.dt c.ranges.dt)
 
 pub loop-n-preserved : goal.loop-n-preserved
@@ -29,5 +29,5 @@ returns g c s w h =
     sym (range_end (rate_kept s w (to_z w64 (of_z w64 c.args.dt)) c.args.drifts.now.items) c.node_count-count.result c.loop-n.n c.loop-n-test.false)
     ∙ c.loop-n.invariant s w h
     ∙ ap (λ n. told_of (flat_map (rate_kept s w (to_z w64 (of_z w64 c.args.dt)) c.args.drifts.now.items) (from_on n 0)))
-    (c.node_count-count.ensures ∙ c.requires.valid.node_count ∙ ap (λ (cfg : NetCfg). length cfg.nodes.items) h.plant.cfg)
+    (c.node_count-count.ensures.value ∙ c.requires.valid.node_count ∙ ap (λ (cfg : NetCfg). length cfg.nodes.items) h.plant.cfg)
     ∙ ap (λ t. told_of (flat_map (rate_kept s w t c.args.drifts.now.items) (nodes_of s))) (to_z-of_z w64 c.args.dt c.ranges.dt)

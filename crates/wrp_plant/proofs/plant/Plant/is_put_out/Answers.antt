@@ -1,0 +1,11 @@
+use Rattle.std.proofs.Common.{◌∙◌, ap₂, false, Option, ℤ, arith}
+use Rattle.std.specs.Option.{option_map_or}
+use Rattle.std.specs.Ordering.{int_eq}
+use Rattle.wrp_plant.proofs.SignedReads.{read}
+use Rattle.wrp_plant.proofs.plant.Plant.is_put_out.Goals as goal
+
+pub returns : goal.returns
+returns c s w h =
+    c.is_one_at.ensures
+    ∙ ap₂ (λ (a : Option ℤ) (t : ℤ). option_map_or (λ x. int_eq x t) a false) (c.oldest_at-at.ensures.value s w h)
+    (read c.now-now.result (omega (arith, c.now-now.ensures.size)) ∙ c.now-now.ensures.value ∙ h.time)

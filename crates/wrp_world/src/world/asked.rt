@@ -1,0 +1,177 @@
+//! What one asks of a world who makes its events.
+ghost use Rattle.std.specs.Prelude.{◌≡◌, ◌<◌, ◌≤◌, ◌^◌, ◌-ℤ◌, length, false, option_map, slice_get, unsigned_abs, IfSome, Some};
+ghost use Rattle.wrp_base.specs.Clock.{steps_of_period};
+ghost use Rattle.wrp_base.specs.Network.{HasLinkRanges, HasNodeRanges};
+ghost use Rattle.wrp_node.specs.NodeAt.{dac_of};
+ghost use Rattle.wrp_plant.specs.Flights.{end_to};
+ghost use Rattle.wrp_plant.specs.PutOut.{NoneIsPutOut, first_put_out, puts_out};
+ghost use Rattle.wrp_course.specs.Setting.{Setting, above, end_at, entry_at, node_setting_of, place_of as place_in};
+ghost use Rattle.wrp_course.specs.Views as view;
+ghost use Rattle.wrp_course.specs.WorldAt.{WorldAt, first_name, has_carrier, reading};
+ghost use Rattle.wrp_world.specs.StandsFor.{IsValid, StandsFor, Tells, time_of};
+
+use super::World;
+use wrp_base::{LinkCfg, Module, NodeCfg, Tau};
+use wrp_course::{Place, place_of};
+
+impl<F: Fn(i64) -> i64> World<F> {
+    /// True time, in tau: within `2^100`.
+    pub fn time(&self) -> Tau
+        requires { IsValid F.pre F.post self.now }
+        ensures value { Tells F.post time_of self.now result }
+        ensures size { unsigned_abs result ≤ 2 ^ 100 }
+    {
+        self.plant.now()
+    }
+
+    /// How many nodes there are: at most 64.
+    pub fn node_count(&self) -> u8
+        requires { IsValid F.pre F.post self.now }
+        ensures value { result ≡ length self.now.nodes }
+        ensures few { result ≤ 64 }
+    {
+        self.plant.net.cfg.nodes.len() as u8
+    }
+
+    /// What the network has of a node.
+    pub fn node_cfg(&self, n: u8) -> &NodeCfg
+        requires valid { IsValid F.pre F.post self.now }
+        requires node { n < length self.now.nodes }
+        ensures value { slice_get self.now.plant.net.cfg.nodes.items n ≡ Some result.now }
+        ensures ranges { HasNodeRanges self.now.plant.net.cfg.clock result.now }
+    {
+        self.plant.node_cfg(n)
+    }
+
+    /// What the network has of a link.
+    pub fn link_cfg(&self, link: u8) -> &LinkCfg
+        requires valid { IsValid F.pre F.post self.now }
+        requires link { link < length self.now.plant.net.cfg.links.items }
+        ensures value { slice_get self.now.plant.net.cfg.links.items link ≡ Some result.now }
+        ensures ranges { HasLinkRanges result.now }
+        ensures upper { result.now.upper < length self.now.nodes }
+        ensures lower { result.now.lower < length self.now.nodes }
+    {
+        self.plant.link_cfg(link)
+    }
+
+    /// The link above a node. `None` exactly for the grandmaster.
+    pub fn above(&self, n: u8) -> Option<u8>
+        requires { IsValid F.pre F.post self.now }
+        ensures value { Tells F.post (λ s w. above s n) self.now result }
+        ensures within { IfSome result (λ k. k < length self.now.plant.net.cfg.links.items) }
+    {
+        self.plant.above(n)
+    }
+
+    /// The end of a link that a port of a node is. `None` exactly where no link has that port.
+    pub fn place(&self, n: u8, port: u16) -> Option<Place>
+        requires { IsValid F.pre F.post self.now }
+        ensures value { Tells F.post (λ s w. place_in s n port) self.now result }
+        ensures within { IfSome result (λ place. place.link < length self.now.plant.net.cfg.links.items) }
+    {
+        place_of(&self.plant.net.cfg, n, port)
+    }
+
+    /// The node at an end of a link.
+    pub fn node_at(&self, place: Place) -> u8
+        requires valid { IsValid F.pre F.post self.now }
+        requires link { place.link < length self.now.plant.net.cfg.links.items }
+        ensures value { (s : Setting) (w : WorldAt) → StandsFor F.post s w self.now
+            → option_map (λ end. end.node) (end_at s place.link place.role) ≡ Some result }
+        ensures within { result < length self.now.nodes }
+    {
+        self.plant.node_at(place)
+    }
+
+    /// The numbers of the module that the network names at an end of a link. `None` exactly where it is not
+    /// listed there.
+    pub fn first_entry(&self, place: Place) -> Option<Module>
+        requires valid { IsValid F.pre F.post self.now }
+        requires link { place.link < length self.now.plant.net.cfg.links.items }
+        ensures value { Tells F.post (λ s w. entry_at s place.link place.role (first_name s place.link place.role)) self.now result }
+        ensures transition { IfSome result (λ entry. entry.transition < steps_of_period) }
+    {
+        self.plant.first_entry(place)
+    }
+
+    /// What a node's clock reads, in tau: within `2^125`.
+    pub fn reading(&self, n: u8) -> Tau
+        requires valid { IsValid F.pre F.post self.now }
+        requires node { n < length self.now.nodes }
+        ensures value { Tells F.post (λ s w. reading w n) self.now result }
+        ensures size { unsigned_abs result ≤ 2 ^ 125 }
+    {
+        self.plant.reading(n)
+    }
+
+    /// How far the clock of the lower of two nodes is ahead of the upper one's, in tau: within `2^125`.
+    pub fn apart(&self, lower: u8, upper: u8) -> Tau
+        requires valid { IsValid F.pre F.post self.now }
+        requires lower { lower < length self.now.nodes }
+        requires upper { upper < length self.now.nodes }
+        ensures value { Tells F.post (λ s w. (w.clock lower).off -ℤ (w.clock upper).off) self.now result }
+        ensures size { unsigned_abs result ≤ 2 ^ 125 }
+    {
+        self.plant.apart(lower, upper)
+    }
+
+    /// Whether a link has its carrier: it is joined, and both its nodes are up.
+    pub fn has_carrier(&self, link: u8) -> bool
+        requires valid { IsValid F.pre F.post self.now }
+        requires link { link < length self.now.plant.net.cfg.links.items }
+        ensures { Tells F.post (λ s w. has_carrier s w link) self.now result }
+    {
+        self.plant.has_carrier(link)
+    }
+
+    /// The value of a node's DAC.
+    pub fn dac(&self, n: u8) -> u16
+        requires valid { IsValid F.pre F.post self.now }
+        requires node { n < length self.now.nodes }
+        ensures { Tells F.post (λ s w. dac_of (node_setting_of s n) (w.node n)) self.now result }
+    {
+        self.node(n).dac()
+    }
+
+    /// The end that a frame comes to. `None` exactly where the number was not given, or the frame is on no
+    /// fibre and was put out more than a frame's life ago, as `kept` has it.
+    pub fn comes_to(&self, k: u32) -> Option<Place>
+        requires { IsValid F.pre F.post self.now }
+        ensures value { Tells F.post (λ s w. option_map end_to (view.kept_frame s w k)) self.now result }
+        ensures within { IfSome result (λ place. place.link < length self.now.plant.net.cfg.links.items) }
+    {
+        self.plant.comes_to(k)
+    }
+
+    /// The true time at which the oldest frame that waits at an end of a link was put out. `None` exactly
+    /// where none waits.
+    pub fn oldest_at(&self, place: Place) -> Option<Tau>
+        requires valid { IsValid F.pre F.post self.now }
+        requires link { place.link < length self.now.plant.net.cfg.links.items }
+        ensures { Tells F.post (λ s w. view.oldest_of (w.end_at place.link place.role).waiting) self.now result }
+    {
+        self.plant.oldest_at(place)
+    }
+
+    /// Whether a frame that was put out now is the oldest that waits at an end of a link. Where none is, it is
+    /// so at no port of any node.
+    pub fn puts_out_now(&self) -> bool
+        requires { IsValid F.pre F.post self.now }
+        ensures value { Tells F.post puts_out self.now result }
+        ensures none { result ≡ false → (s : Setting) (w : WorldAt) → StandsFor F.post s w self.now
+            → NoneIsPutOut s w }
+    {
+        self.plant.puts_out_now()
+    }
+
+    /// The first port, by nodes in file order and then ascending, at which the oldest frame that waits was put
+    /// out now. `None` exactly where there is none.
+    pub fn first_put_out(&self) -> Option<(u8, u16)>
+        requires { IsValid F.pre F.post self.now }
+        ensures value { Tells F.post first_put_out self.now result }
+        ensures node { IfSome result (λ port. port.0 < length self.now.nodes) }
+    {
+        self.plant.first_put_out()
+    }
+}
