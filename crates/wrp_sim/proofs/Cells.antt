@@ -1,22 +1,20 @@
 -- Signed numbers as the code has them, and sizes of what the rules compute.
-use Rattle.std.proofs.Common.{◌≡◌, ◌∙◌, ap, ap₂, sym, ℕ, zero, suc, ◌*◌, ◌<◌, ◌≤◌, ◌^◌, ℤ, pos, ◌≤ℤ◌, unsigned_abs, Bool, true, false, if◌then◌else◌, List, [], ◌∷◌, length, Option, None, Some, option_map, option_and_then, slice_get, unwrap_or, arith}
+use Rattle.std.proofs.Common.{◌≡◌, ◌∙◌, refl, ap, ap₂, sym, ℕ, zero, suc, ◌*◌, ◌≤◌, ◌^◌, ℤ, pos, ◌≤ℤ◌, unsigned_abs, Bool, true, false, if◌then◌else◌, List, [], ◌∷◌, Option, None, Some, option_map, option_and_then, slice_get, unwrap_or, arith}
 use Rattle.std.proofs.lemmas.Int.{ints}
+use Rattle.std.proofs.lemmas.Option.{none-some, same_Some}
 use Rattle.std.specs.List.{AllByRecursion}
 use Rattle.wrp_base.specs.Clock.{period_of}
 use Rattle.wrp_base.specs.declared.link.Role.{Role}
-use Rattle.wrp_base.specs.declared.link.Role.TheVariants.{Master, Slave}
-use Rattle.wrp_base.specs.declared.network.LinkCfg.{LinkCfg}
+use Rattle.wrp_base.specs.Network.{End}
 use Rattle.wrp_base.specs.declared.time.Clock.{Clock}
 use Rattle.wrp_base.specs.declared.time.Clock.TheVariants.{Mhz125, Mhz62}
 use Rattle.wrp_base.specs.declared.time.Raw.{Raw}
 use Rattle.wrp_course.specs.Premises.{transition_of}
-use Rattle.wrp_course.specs.Setting.{Setting, end_of, link_of}
-use Rattle.wrp_world.specs.StandsFor.{IsValid, WorldOf}
+use Rattle.wrp_course.specs.Setting.{Setting, end_at}
 use Rattle.wrp_course.specs.WorldAt.{WorldAt, reading}
 use Rattle.wrp_sim.specs.Numbers.{is_within, raw_at}
 use Rattle.wrp_sim.specs.Rules.{first_entry, raw_by, raw_to}
 use Rattle.wrp_sim.specs.Scenario.{IsFree}
-use Rattle.wrp_sim.proofs.Seen.{ends_within}
 
 -- readings that a stamp can tell
 
@@ -28,35 +26,33 @@ pub within_most : (clock : Clock) (at : ℤ) → is_within clock at ≡ true →
 within_most Mhz125 at e = grind (arith, ints)
 within_most Mhz62 at e = grind (arith, ints)
 
--- the node at an end of a link is one of the world
-pub node_within : {F : Type 0} (pre : F → ℤ → Type 0) (post : F → ℤ → ℤ → Type 0) (world : WorldOf F) (k : ℕ) (link : LinkCfg) (r : Role) → IsValid pre post world →
-    slice_get world.plant.net.cfg.links.items k ≡ Some link → (end_of r link).node < length world.nodes
-node_within pre post world k link Master v e = (ends_within pre post world k link v e).0
-node_within pre post world k link Slave v e = (ends_within pre post world k link v e).1
-
 -- the raw stamp at an end of a link
 
-at_link : (s : Setting) (w : WorldAt) (k : ℕ) (r : Role) (link : LinkCfg) → link_of s k ≡ Some link → raw_to s w k r ≡ raw_by s w k r (end_of r link)
-at_link s w k r link e = ap (λ (l : Option LinkCfg). option_and_then (raw_by s w k r) (option_map (end_of r) l)) e
+there_is : (node : ℕ) (o : Option End) → option_map (λ end. end.node) o ≡ Some node → (end : End) × (o ≡ Some end) × (end.node ≡ node)
+there_is node None e = absurd (none-some node e)
+there_is node (Some end) e = (end, refl, same_Some end.node node e)
 
-if_told : (s : Setting) (w : WorldAt) (k : ℕ) (r : Role) (link : LinkCfg) (at : ℤ) (clock : Clock) → at ≡ reading w (end_of r link).node → clock ≡ s.cfg.clock →
-    raw_by s w k r (end_of r link) ≡ (if is_within clock at then Some (raw_at clock (transition_of (first_entry s k r)) at) else None)
-if_told s w k r link at clock e f =
-    sym (ap₂ (λ (x : Clock) (y : ℤ). if is_within x y then Some (raw_at x (transition_of (first_entry s k r)) y) else None) f e)
+at_end : (s : Setting) (w : WorldAt) (k : ℕ) (r : Role) (node : ℕ) (at : ℤ) (clock : Clock) → option_map (λ end. end.node) (end_at s k r) ≡ Some node →
+    at ≡ reading w node → clock ≡ s.cfg.clock →
+    raw_to s w k r ≡ (if is_within clock at then Some (raw_at clock (transition_of (first_entry s k r)) at) else None)
+at_end s w k r node at clock e f g =
+    let it : (end : End) × (end_at s k r ≡ Some end) × (end.node ≡ node) = there_is node (end_at s k r) e in
+    ap (option_and_then (raw_by s w k r)) it.1
+    ∙ sym (ap₂ (λ (x : Clock) (y : ℤ). if is_within x y then Some (raw_at x (transition_of (first_entry s k r)) y) else None) g (f ∙ ap (reading w) (sym it.2)))
 
-pub raw_there : (s : Setting) (w : WorldAt) (k : ℕ) (r : Role) (link : LinkCfg) (at : ℤ) (clock : Clock) (t : ℕ) (raw : Raw) → link_of s k ≡ Some link →
-    at ≡ reading w (end_of r link).node → clock ≡ s.cfg.clock → t ≡ transition_of (first_entry s k r) → is_within clock at ≡ true → raw ≡ raw_at clock t at →
+pub raw_there : (s : Setting) (w : WorldAt) (k : ℕ) (r : Role) (node : ℕ) (at : ℤ) (clock : Clock) (t : ℕ) (raw : Raw) → option_map (λ end. end.node) (end_at s k r) ≡ Some node →
+    at ≡ reading w node → clock ≡ s.cfg.clock → t ≡ transition_of (first_entry s k r) → is_within clock at ≡ true → raw ≡ raw_at clock t at →
     Some raw ≡ raw_to s w k r
-raw_there s w k r link at clock t raw e f g h told is =
+raw_there s w k r node at clock t raw e f g h told is =
     ap Some (is ∙ ap (λ n. raw_at clock n at) h)
     ∙ sym (ap (λ (b : Bool). if b then Some (raw_at clock (transition_of (first_entry s k r)) at) else None) told)
-    ∙ sym (if_told s w k r link at clock f g) ∙ sym (at_link s w k r link e)
+    ∙ sym (at_end s w k r node at clock e f g)
 
-pub raw_untold : (s : Setting) (w : WorldAt) (k : ℕ) (r : Role) (link : LinkCfg) (at : ℤ) (clock : Clock) → link_of s k ≡ Some link →
-    at ≡ reading w (end_of r link).node → clock ≡ s.cfg.clock → is_within clock at ≡ false → None ≡ raw_to s w k r
-raw_untold s w k r link at clock e f g told =
+pub raw_untold : (s : Setting) (w : WorldAt) (k : ℕ) (r : Role) (node : ℕ) (at : ℤ) (clock : Clock) → option_map (λ end. end.node) (end_at s k r) ≡ Some node →
+    at ≡ reading w node → clock ≡ s.cfg.clock → is_within clock at ≡ false → None ≡ raw_to s w k r
+raw_untold s w k r node at clock e f g told =
     sym (ap (λ (b : Bool). if b then Some (raw_at clock (transition_of (first_entry s k r)) at) else None) told)
-    ∙ sym (if_told s w k r link at clock f g) ∙ sym (at_link s w k r link e)
+    ∙ sym (at_end s w k r node at clock e f g)
 
 -- rates of scenarios are small
 pub small_free : (rates : List ℤ) (n : ℕ) → AllByRecursion IsFree rates → unsigned_abs (unwrap_or (slice_get rates n) (pos 0)) ≤ 100_000

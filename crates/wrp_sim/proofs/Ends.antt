@@ -1,4 +1,4 @@
--- The end of a link that a port is, and the other one.
+-- The end of a link that a port is, and the one that a frame comes to.
 use Rattle.std.proofs.Common.{◌≡◌, ◌∙◌, refl, ap, ap₂, sym, subst, ℕ, zero, suc, ◌+◌, ◌==◌, ◌&&◌, ℤ, Bool, true, false, if◌then◌else◌, List, [], ◌∷◌, Option, None, Some, option_map, option_and_then, slice_get, eq-eqb}
 use Rattle.std.proofs.lemmas.Option.{none-some, same_Some}
 use Rattle.wrp_base.specs.declared.configuration.NetCfg.{NetCfg}
@@ -11,15 +11,14 @@ use Rattle.wrp_config.specs.Accepted.{IsAccepted}
 use Rattle.wrp_config.specs.Names.{is_upper_end, is_lower_end}
 use Rattle.wrp_course.specs.declared.place.Place.{Place}
 use Rattle.wrp_course.specs.Runs.{IsNetwork}
-use Rattle.wrp_course.specs.Setting.{Setting, end_at, end_of, link_of, place_among, place_of}
+use Rattle.wrp_course.specs.Setting.{Setting, end_at, end_of, place_among, place_of}
 use Rattle.wrp_world.specs.StandsFor.{IsValid, StandsFor, WorldOf}
-use Rattle.wrp_course.specs.Views.{IsNextArrival, sender_of}
+use Rattle.wrp_course.specs.Views.{IsNextArrival, kept_frame}
 use Rattle.wrp_course.specs.WorldAt.{WorldAt, FrameAt, is_on_fibre}
+use Rattle.wrp_plant.specs.Flights.{end_to}
 use Rattle.wrp_plant.proofs.KeptFrames.{kept_on_fibre}
 use Rattle.wrp_course.proofs.RunNetwork.{LinkEnd as EndThere, are_apart, link_end, place_end}
-use Rattle.wrp_sim.specs.declared.sim.modules.LinkEnd.{LinkEnd}
-use Rattle.wrp_sim.specs.Departures.{across}
-use Rattle.wrp_sim.specs.Rules.{raw_by, raw_of, raw_to}
+use Rattle.wrp_sim.specs.Rules.{raw_of, raw_to}
 use Rattle.wrp_sim.specs.Sim.{IsDue}
 
 -- a world that is valid stands for states of an accepted network
@@ -29,14 +28,6 @@ network_of pre post s w world v h = record {
   accepted = subst (λ (cfg : NetCfg). IsAccepted cfg s.db) h.plant.cfg (subst (λ (db : Database). IsAccepted world.plant.net.cfg db) h.plant.db v.plant.accepted);
   set = h.set;
 }
-
--- the node and the port at an end
-abbrev port_in : End → ℕ × ℕ
-port_in end = (end.node, end.port)
-
-unmapped : (o : Option End) → option_map port_in o ≡ None → o ≡ None
-unmapped None e = refl
-unmapped (Some end) e = absurd (none-some (port_in end) (sym e))
 
 -- no end of these links is the port
 found_none : (a b : Bool) (x y : Place) (rest : Option Place) → (if a then Some x else (if b then Some y else rest)) ≡ None → (a ≡ false) × (b ≡ false) × (rest ≡ None)
@@ -82,7 +73,7 @@ found s net k r end e (Some place) f =
 pub end_found : (s : Setting) → IsNetwork s → (k : ℕ) (r : Role) (end : End) → end_at s k r ≡ Some end → place_of s end.node end.port ≡ Some (record { link = k; role = r })
 end_found s net k r end e = found s net k r end e (place_of s end.node end.port) refl
 
--- The raw stamp of a frame, over its sender
+-- The raw stamp of a frame
 
 -- what is due first is on a fibre
 pub due_on : {F : Type 0} (post : F → ℤ → ℤ → Type 0) (world : WorldOf F) (due : Option (ℕ × ℤ)) →
@@ -90,40 +81,14 @@ pub due_on : {F : Type 0} (post : F → ℤ → ℤ → Type 0) (world : WorldOf
 due_on post world None h = tt
 due_on post world (Some next) h = λ s w k. (h s w k).2
 
--- and its sender is told
-sent_from : (s : Setting) (w : WorldAt) (i : ℕ) → is_on_fibre (w.frame i) ≡ true →
-    option_map port_in (sender_of s w i) ≡ option_map port_in (option_and_then (λ f. end_at s f.link f.by) (w.frame i))
-sent_from s w i on = ap (λ (o : Option FrameAt). option_map port_in (option_and_then (λ f. end_at s f.link f.by) o)) (kept_on_fibre s w i on)
+-- the raw stamp of a frame is that at the end that it comes to
+to_end : (s : Setting) (w : WorldAt) (o : Option FrameAt) (to : Option Place) → to ≡ option_map end_to o →
+    option_and_then (λ (p : Place). raw_to s w p.link p.role) to ≡ option_and_then (λ f. raw_to s w f.link (other_of f.by)) o
+to_end s w None to e = ap (option_and_then (λ (p : Place). raw_to s w p.link p.role)) e
+to_end s w (Some f) to e = ap (option_and_then (λ (p : Place). raw_to s w p.link p.role)) e
 
-no_end : (s : Setting) (w : WorldAt) (k : ℕ) (r q : Role) (o : Option LinkCfg) → link_of s k ≡ o → end_at s k r ≡ None → raw_to s w k q ≡ None
-no_end s w k r q None e f = ap (λ (l : Option LinkCfg). option_and_then (raw_by s w k q) (option_map (end_of q) l)) e
-no_end s w k r q (Some link) e f = absurd (none-some (end_of r link) (sym f ∙ ap (option_map (end_of r)) e))
-
-no_sender : (s : Setting) (w : WorldAt) (o : Option FrameAt) → option_map port_in (option_and_then (λ f. end_at s f.link f.by) o) ≡ None →
-    option_and_then (λ f. raw_to s w f.link (other_of f.by)) o ≡ None
-no_sender s w None e = refl
-no_sender s w (Some f) e = no_end s w f.link f.by (other_of f.by) (link_of s f.link) refl (unmapped (end_at s f.link f.by) e)
-
--- no sender is told of it
-pub unsent : (s : Setting) (w : WorldAt) (i : ℕ) → is_on_fibre (w.frame i) ≡ true → None ≡ option_map port_in (sender_of s w i) → raw_of s w i ≡ None
-unsent s w i on e = no_sender s w (w.frame i) (sym (e ∙ sent_from s w i on))
-
--- its sender is this port
-by_end : (s : Setting) → IsNetwork s → (w : WorldAt) (n p k : ℕ) (r : Role) (o : Option End) → end_at s k r ≡ o → Some (n, p) ≡ option_map port_in o →
-    place_of s n p ≡ Some (record { link = k; role = r })
-by_end s net w n p k r None e f = absurd (none-some (n, p) (sym f))
-by_end s net w n p k r (Some end) e f =
-    let is : (n, p) ≡ (end.node, end.port) = same_Some (n, p) (end.node, end.port) f in
-    ap (λ (x : ℕ × ℕ). place_of s x.0 x.1) is ∙ end_found s net k r end e
-
-by_frame : (s : Setting) → IsNetwork s → (w : WorldAt) (n p : ℕ) (o : Option FrameAt) → Some (n, p) ≡ option_map port_in (option_and_then (λ f. end_at s f.link f.by) o) →
-    (to : Option LinkEnd) → to ≡ option_map across (place_of s n p) →
-    option_and_then (λ (x : LinkEnd). raw_to s w x.link x.role) to ≡ option_and_then (λ f. raw_to s w f.link (other_of f.by)) o
-by_frame s net w n p None e to g = absurd (none-some (n, p) (sym e))
-by_frame s net w n p (Some f) e to g =
-    ap (option_and_then (λ (x : LinkEnd). raw_to s w x.link x.role)) (g ∙ ap (option_map across) (by_end s net w n p f.link f.by (end_at s f.link f.by) refl e))
-
--- the raw stamp is that at the other end of the sender's link
-pub sent_by : (s : Setting) → IsNetwork s → (w : WorldAt) (i n p : ℕ) → is_on_fibre (w.frame i) ≡ true → Some (n, p) ≡ option_map port_in (sender_of s w i) → (to : Option LinkEnd) →
-    to ≡ option_map across (place_of s n p) → option_and_then (λ (x : LinkEnd). raw_to s w x.link x.role) to ≡ raw_of s w i
-sent_by s net w i n p on e to g = by_frame s net w n p (w.frame i) (e ∙ sent_from s w i on) to g
+pub comes_there : (s : Setting) (w : WorldAt) (i : ℕ) (to : Option Place) → is_on_fibre (w.frame i) ≡ true →
+    to ≡ option_map end_to (kept_frame s w i) → option_and_then (λ (p : Place). raw_to s w p.link p.role) to ≡ raw_of s w i
+comes_there s w i to on e =
+    to_end s w (w.frame i) to
+    (e ∙ ap (option_map end_to) (kept_on_fibre s w i on))

@@ -1,73 +1,60 @@
 -- The first port that has something to send.
-use Rattle.std.proofs.Common.{◌≡◌, ◌∙◌, refl, ap, ap₂, sym, ℕ, ◌≤◌, ◌^◌, ◌*◌, ◌&&◌, ℤ, unsigned_abs, Bool, true, false, cond, if◌then◌else◌, List, [], ◌∷◌, find, map, Option, None, Some, option_map, option_and_then, arith}
-use Rattle.std.specs.Option.{option_or}
+use Rattle.std.proofs.Common.{◌≡◌, ◌∙◌, refl, ap, ap₂, sym, subst, ℕ, ◌≤◌, ◌^◌, ◌*◌, nat_lt, ℤ, unsigned_abs, Bool, true, false, if◌then◌else◌, Option, None, Some, IfSome, option_map, option_and_then, arith}
 use Rattle.std.proofs.lemmas.Option.{none-some, same_Some}
 use Rattle.wrp_base.specs.Clock.{period_of}
+use Rattle.wrp_base.specs.declared.link.Role.{Role}
+use Rattle.wrp_base.specs.declared.network.LinkCfg.{LinkCfg}
 use Rattle.wrp_base.specs.declared.time.Clock.{Clock}
 use Rattle.wrp_base.specs.declared.time.Clock.TheVariants.{Mhz125, Mhz62}
 use Rattle.wrp_course.specs.declared.event.Event.TheVariants.{Depart}
-use Rattle.wrp_course.specs.Setting.{Setting, from_on}
-use Rattle.wrp_course.specs.Views.{waiting_of}
+use Rattle.wrp_course.specs.Setting.{Setting, end_of, link_of}
 use Rattle.wrp_course.specs.WorldAt.{WorldAt, reading}
 use Rattle.wrp_sim.specs.declared.sim.departing.Departure.{Departure}
-use Rattle.wrp_sim.specs.Departures.{IsReadable, departure_by, departure_from}
+use Rattle.wrp_sim.specs.Departures.{IsReadable, departure_by, departure_from, first_of_two, standing, told_at, told_end}
 use Rattle.wrp_sim.specs.Numbers.{drawn_stamp, is_within}
-use Rattle.wrp_sim.specs.Rules.{after_draw, comes, departs_from, departs_now, is_now, stamp_room}
+use Rattle.wrp_sim.specs.Rules.{after_draw, comes, departs_from, stamp_room}
 use Rattle.wrp_sim.specs.SimAt.{SimAt}
 use Rattle.wrp_sim.proofs.Cells.{within_least, within_most}
-use Rattle.wrp_sim.proofs.SimLists.{find_map}
 
 pub readable : (clock : Clock) (at : ℤ) → is_within clock at ≡ true → IsReadable at
 readable Mhz125 at e = let most : unsigned_abs at ≤ 2 ^ 62 * period_of Mhz125 = within_most Mhz125 at e in record { least = within_least Mhz125 at e; greatest = omega (arith, most) }
 readable Mhz62 at e = let most : unsigned_abs at ≤ 2 ^ 62 * period_of Mhz62 = within_most Mhz62 at e in record { least = within_least Mhz62 at e; greatest = omega (arith, most) }
 
--- a test that is the same for all
-find_and : (q : ℕ → Bool) (b : Bool) (ps : List ℕ) → find (λ p. q p && b) ps ≡ (if b then find q ps else None)
-find_and q true [] = refl
-find_and q false [] = refl
-find_and q true (p ∷ ps) =
-    elim (q p) as (λ v. cond (v && true) (Some p) (find (λ x. q x && true) ps) ≡ cond v (Some p) (find q ps)) [
-      | true ↦ refl
-      | false ↦ find_and q true ps
-    ]
-find_and q false (p ∷ ps) =
-    elim (q p) as (λ v. cond (v && false) (Some p) (find (λ x. q x && false) ps) ≡ None) [
-      | true ↦ find_and q false ps
-      | false ↦ find_and q false ps
-    ]
+-- the port at an end of a link, by the reading of its node's clock
 
-at_node : (s : Setting) (w : WorldAt) (n : ℕ) (clock : Clock) (at : ℤ) (b : Bool) → clock ≡ s.cfg.clock → at ≡ reading w n → is_within clock at ≡ b →
-    find (departs_now s w) (map (λ p. (n, p)) (from_on 18 1))
-    ≡ option_map (λ p. (n, p)) (if b then find (λ p. is_now w (waiting_of s w n p)) (from_on 18 1) else None)
-at_node s w n clock at b e f told =
-    find_map (departs_now s w) (λ p. (n, p)) (from_on 18 1)
-    ∙ ap (λ (v : Bool). option_map (λ p. (n, p)) (find (λ p. is_now w (waiting_of s w n p) && v) (from_on 18 1))) (sym (ap₂ is_within e f) ∙ told)
-    ∙ ap (option_map (λ p. (n, p))) (find_and (λ p. is_now w (waiting_of s w n p)) b (from_on 18 1))
+there_by : (s : Setting) (w : WorldAt) (k : ℕ) (r : Role) (link : LinkCfg) (clock : Clock) (at : ℤ) → link_of s k ≡ Some link → clock ≡ s.cfg.clock →
+    at ≡ reading w (end_of r link).node →
+    told_at s w k r ≡ (if is_within clock at then Some (departure_by (end_of r link).node at (end_of r link).port) else None)
+there_by s w k r link clock at e f g =
+    ap (λ (l : Option LinkCfg). option_and_then (told_end s w) (option_map (end_of r) l)) e
+    ∙ sym (ap₂ (λ (x : Clock) (y : ℤ). if is_within x y then Some (departure_by (end_of r link).node y (end_of r link).port) else None) f g)
 
-mapped_twice : (w : WorldAt) (n : ℕ) (at : ℤ) (o : Option ℕ) → at ≡ reading w n → option_map (departure_by n at) o ≡ option_map (departure_from w) (option_map (λ p. (n, p)) o)
-mapped_twice w n at None e = refl
-mapped_twice w n at (Some p) e = ap (λ (t : ℤ). Some (departure_by n t p)) e
+pub told_there : (s : Setting) (w : WorldAt) (k : ℕ) (r : Role) (link : LinkCfg) (clock : Clock) (at : ℤ) (port : ℕ × ℕ) → link_of s k ≡ Some link → clock ≡ s.cfg.clock →
+    port ≡ ((end_of r link).node, (end_of r link).port) → at ≡ reading w port.0 → is_within clock at ≡ true → Some (departure_by port.0 at port.1) ≡ told_at s w k r
+told_there s w k r link clock at port e f is g told =
+    ap (λ (x : ℕ × ℕ). Some (departure_by x.0 at x.1)) is
+    ∙ sym (there_by s w k r link clock at e f (g ∙ ap (λ (x : ℕ × ℕ). reading w x.0) is)
+    ∙ ap (λ (b : Bool). if b then Some (departure_by (end_of r link).node at (end_of r link).port) else None) told)
 
--- the clock of the node can be told
-pub told_node : (s : Setting) (w : WorldAt) (n : ℕ) (clock : Clock) (at : ℤ) → clock ≡ s.cfg.clock → at ≡ reading w n → is_within clock at ≡ true →
-    option_map (departure_by n at) (find (λ p. is_now w (waiting_of s w n p)) (from_on 18 1))
-    ≡ option_map (departure_from w) (find (departs_now s w) (map (λ p. (n, p)) (from_on 18 1)))
-told_node s w n clock at e f told =
-    mapped_twice w n at (find (λ p. is_now w (waiting_of s w n p)) (from_on 18 1)) f ∙ sym (ap (option_map (departure_from w)) (at_node s w n clock at true e f told))
+pub untold_there : (s : Setting) (w : WorldAt) (k : ℕ) (r : Role) (link : LinkCfg) (clock : Clock) (at : ℤ) (port : ℕ × ℕ) → link_of s k ≡ Some link → clock ≡ s.cfg.clock →
+    port ≡ ((end_of r link).node, (end_of r link).port) → at ≡ reading w port.0 → is_within clock at ≡ false → None ≡ told_at s w k r
+untold_there s w k r link clock at port e f is g told =
+    sym (there_by s w k r link clock at e f (g ∙ ap (λ (x : ℕ × ℕ). reading w x.0) is)
+    ∙ ap (λ (b : Bool). if b then Some (departure_by (end_of r link).node at (end_of r link).port) else None) told)
 
-pub untold_node : (s : Setting) (w : WorldAt) (n : ℕ) (clock : Clock) (at : ℤ) → clock ≡ s.cfg.clock → at ≡ reading w n → is_within clock at ≡ false →
-    None ≡ option_map (departure_from w) (find (departs_now s w) (map (λ p. (n, p)) (from_on 18 1)))
-untold_node s w n clock at e f told = sym (ap (option_map (departure_from w)) (at_node s w n clock at false e f told))
+-- what holds of two ports, where they are there, holds of the one that stands first
 
--- of several nodes, the first that has one
+one_of : (P : Departure → Type 0) (a b : Departure) (first : Bool) → P a → P b → IfSome (if first then Some b else Some a) P
+one_of P a b true h k = k
+one_of P a b false h k = h
 
-pub here_first : (w : WorldAt) (o rest : Option (ℕ × ℕ)) (from : Departure) → option_map (departure_from w) o ≡ Some from → option_map (departure_from w) (option_or o rest) ≡ Some from
-here_first w None rest from e = absurd (none-some from e)
-here_first w (Some port) rest from e = e
+both_of : (P : Departure → Type 0) (a b : Option Departure) → IfSome a P → IfSome b P → IfSome (first_of_two a b) P
+both_of P None b h k = k
+both_of P (Some a) None h k = h
+both_of P (Some a) (Some b) h k = one_of P a b (nat_lt (standing b) (standing a)) h k
 
-pub not_here : (w : WorldAt) (o rest : Option (ℕ × ℕ)) → option_map (departure_from w) o ≡ None → option_or o rest ≡ rest
-not_here w None rest e = refl
-not_here w (Some port) rest e = absurd (none-some (departure_from w port) (sym e))
+pub of_both : (P : Departure → Type 0) (a b first : Option Departure) → first ≡ first_of_two a b → IfSome a P → IfSome b P → IfSome first P
+of_both P a b first e h k = subst (λ o. IfSome o P) (sym e) (both_of P a b h k)
 
 -- its frame departs
 pub departs_then : (s : Setting) (w : WorldAt) (at : SimAt) (o : Option (ℕ × ℕ)) (from : Departure) → Some from ≡ option_map (departure_from w) o →

@@ -2,6 +2,8 @@ pub mod Cells
 pub mod Ends
 pub mod Faults
 pub mod FibreDelays
+pub mod FirstPorts
+pub mod Handing
 pub mod KeepsBasics
 pub mod KeepsBeat
 pub mod KeepsChecks

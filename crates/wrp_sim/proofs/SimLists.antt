@@ -1,5 +1,5 @@
 -- Lists by their places, and numbers one after another.
-use Rattle.std.proofs.Common.{◌≡◌, ◌∙◌, refl, ap, sym, subst, ℕ, zero, suc, ◌+◌, ◌-◌, ◌<◌, ◌≤◌, ℤ, Bool, true, false, cond, List, [], ◌∷◌, ◌++◌, map, find, fold, flat_map, take, drop, remove, slice_set, None, Some, option_map, slice_get, arith}
+use Rattle.std.proofs.Common.{◌≡◌, ◌∙◌, refl, ap, sym, subst, ℕ, zero, suc, ◌+◌, ◌-◌, ◌<◌, ◌≤◌, ℤ, Bool, true, false, cond, List, [], ◌∷◌, ◌++◌, map, find, fold, take, drop, remove, slice_set, None, Some, option_map, slice_get, arith}
 use Rattle.std.specs.Option.{option_or}
 use Rattle.std.proofs.lemmas.Option.{none-some, same_Some}
 use Rattle.wrp_base.proofs.Lists.{append_assoc}
@@ -50,17 +50,6 @@ find_append p (x ∷ xs) ys =
       | false ↦ find_append p xs ys
     ]
 
-pub flat_more : {A : Type 0} (p : A → Bool) (f : ℕ → List A) (count i : ℕ) → i < count →
-    find p (flat_map f (from_on (count - i) i)) ≡ option_or (find p (f i)) (find p (flat_map f (from_on (count - (i + 1)) (i + 1))))
-flat_more p f count i h =
-    let e : count - i ≡ suc (count - (i + 1)) = omega arith in
-    ap (λ k. find p (flat_map f (from_on k i))) e ∙ find_append p (f i) (flat_map f (from_on (count - (i + 1)) (i + 1)))
-
-pub flat_end : {A : Type 0} (p : A → Bool) (f : ℕ → List A) (count i : ℕ) → count ≤ i → find p (flat_map f (from_on (count - i) i)) ≡ None
-flat_end p f count i h =
-    let e : count - i ≡ 0 = omega arith in
-    ap (λ k. find p (flat_map f (from_on k i))) e
-
 pub find_map : {A B : Type 0} (p : B → Bool) (f : A → B) (xs : List A) → find p (map f xs) ≡ option_map f (find (λ x. p (f x)) xs)
 find_map p f [] = refl
 find_map p f (x ∷ xs) =
@@ -90,6 +79,17 @@ pub map_done : {A : Type 0} (f : ℕ → A) (xs : List A) (count i : ℕ) → co
 map_done f xs count i h =
     let e : count - i ≡ 0 = omega arith in
     ap (λ k. xs ++ map f (from_on k i)) e ∙ nothing_more xs
+
+pub fold_more : {A : Type 0} (g : A → ℕ → A) (best : A) (count i : ℕ) → i < count →
+    fold g best (from_on (count - i) i) ≡ fold g (g best i) (from_on (count - (i + 1)) (i + 1))
+fold_more g best count i h =
+    let e : count - i ≡ suc (count - (i + 1)) = omega arith in
+    ap (λ k. fold g best (from_on k i)) e
+
+pub fold_end : {A : Type 0} (g : A → ℕ → A) (best : A) (count i : ℕ) → count ≤ i → fold g best (from_on (count - i) i) ≡ best
+fold_end g best count i h =
+    let e : count - i ≡ 0 = omega arith in
+    ap (λ k. fold g best (from_on k i)) e
 
 pub fold_append : (g : ℤ → ℤ → ℤ) (best : ℤ) (xs ys : List ℤ) → fold g best (xs ++ ys) ≡ fold g (fold g best xs) ys
 fold_append g best [] ys = refl

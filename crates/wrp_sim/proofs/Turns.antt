@@ -1,9 +1,9 @@
 -- What a rule gave, and what the rules give one after another.
-use Rattle.std.proofs.Common.{◌≡◌, ◌∙◌, refl, sym, subst, List, [], ◌∷◌, Option, None, Some}
+use Rattle.std.proofs.Common.{◌≡◌, ◌∙◌, refl, ap, sym, subst, Bool, true, false, List, [], ◌∷◌, Option, None, Some}
 use Rattle.wrp_course.specs.declared.event.Event.{Event}
 use Rattle.wrp_sim.specs.Rules.{Next, comes, first_of}
 use Rattle.wrp_sim.specs.declared.sim.state.State.{State}
-use Rattle.wrp_sim.specs.Sim.{Gave, SimIs}
+use Rattle.wrp_sim.specs.Sim.{Gave, SimIs, put}
 use Rattle.wrp_sim.specs.SimAt.{SimAt}
 
 -- a rule that gave nothing does not apply
@@ -57,3 +57,11 @@ first_gave stays rule rules given event sim e h = by_first stays rule rules even
 -- an event is the one that it was made to be
 pub came : (stays at : SimAt) (made event given : Event) (sim : State) → made ≡ event → Gave stays (comes made at) (Some given) sim → Gave stays (comes event at) (Some given) sim
 came stays at made event given sim e h = (h.0 ∙ e, h.1)
+
+-- a place has an event where one was put into it, and else none
+
+pub put_one : (b : Bool) (e : Event) → b ≡ true → put b e ≡ Some e
+put_one b e h = ap (λ x. put x e) h
+
+pub put_none : (b : Bool) (e : Event) → b ≡ false → put b e ≡ None
+put_none b e h = ap (λ x. put x e) h

@@ -1,38 +1,19 @@
--- What the code of the simulator asks as it makes an event: modules by name, ends of links, and ports that have something to
--- send (this project's profile).
-use Rattle.std.specs.Prelude.{◌≤◌, ◌≤ℤ◌, ◌^◌, ℕ, ℤ, pos, Option, option_and_then, unsigned_abs}
-use Rattle.wrp_base.specs.declared.link.Module.{Module}
+-- Ports that have something to send, as the simulator finds them (this project's profile).
+use Rattle.std.specs.Prelude.{◌≤◌, ◌≤ℤ◌, ◌^◌, ◌+◌, ◌*◌, ℕ, ℤ, pos, nat_lt, if◌then◌else◌, Option, None, Some, option_and_then, unsigned_abs}
 use Rattle.wrp_base.specs.declared.link.Role.{Role}
 use Rattle.wrp_base.specs.declared.link.Role.TheVariants.{Master, Slave}
-use Rattle.wrp_base.specs.declared.network.LinkCfg.{LinkCfg}
-use Rattle.wrp_base.specs.declared.time.Raw.{Raw}
-use Rattle.wrp_base.specs.Network.{other_of}
-use Rattle.wrp_caldb.specs.Database.{Database, module_at}
+use Rattle.wrp_base.specs.Network.{End}
 use Rattle.wrp_course.specs.declared.event.Event.{Event}
 use Rattle.wrp_course.specs.declared.event.Event.TheVariants.{Depart}
-use Rattle.wrp_course.specs.declared.place.Place.{Place}
-use Rattle.wrp_course.specs.Setting.{Setting}
+use Rattle.wrp_course.specs.Setting.{Setting, end_at}
+use Rattle.wrp_course.specs.Views.{oldest_of}
 use Rattle.wrp_course.specs.WorldAt.{WorldAt, reading}
 use Rattle.wrp_sim.specs.declared.sim.departing.Departure.{Departure}
-use Rattle.wrp_sim.specs.declared.sim.modules.LinkEnd.{LinkEnd}
 use Rattle.wrp_sim.specs.Numbers.{drawn_stamp}
-use Rattle.wrp_sim.specs.Rules.{after_draw, comes, raw_to, stamp_room}
+use Rattle.wrp_sim.specs.Rules.{after_draw, comes, is_now, is_tellable, stamp_room}
 use Rattle.wrp_sim.specs.declared.sim.state.State.{State}
 use Rattle.wrp_sim.specs.Sim.{Gave}
 use Rattle.wrp_sim.specs.SimAt.{SimAt}
-
--- the entry of the module that the file names at an end of a link
-abbrev pub named_entry : Database → Role → LinkCfg → Option Module
-named_entry db Master link = module_at db link.upper_module.bytes link.down_nm link.up_nm
-named_entry db Slave link = module_at db link.lower_module.bytes link.up_nm link.down_nm
-
--- the other end of a link
-abbrev pub across : Place → LinkEnd
-across place = record { link = place.link; role = other_of place.role }
-
--- the raw stamp at such an end, if there is one
-abbrev pub raw_across : Setting → WorldAt → Option LinkEnd → Option Raw
-raw_across s w to = option_and_then (λ end. raw_to s w end.link end.role) to
 
 -- a port of a node whose clock reads this
 abbrev pub departure_by : (n : ℕ) (at : ℤ) (p : ℕ) → Departure
@@ -48,6 +29,32 @@ pub record IsReadable (at : ℤ) : Type 0 where
 
 abbrev pub IsDeparture : Departure → Type 0
 IsDeparture from = IsReadable from.at
+
+-- where a port stands: by its node in file order, then ascending, and the numbers of ports are below 32
+abbrev pub standing : Departure → ℕ
+standing d = d.node * 32 + d.port
+
+-- that of two which stands first
+abbrev pub first_of_two : (a b : Option Departure) → Option Departure
+first_of_two None b = b
+first_of_two (Some a) None = Some a
+first_of_two (Some a) (Some b) = if nat_lt (standing b) (standing a) then Some b else Some a
+
+-- the port at an end, where its node's clock can be told
+abbrev pub told_end : Setting → WorldAt → End → Option Departure
+told_end s w end =
+    if is_tellable s (reading w end.node) then Some (departure_by end.node (reading w end.node) end.port) else None
+
+abbrev pub told_at : Setting → WorldAt → ℕ → Role → Option Departure
+told_at s w k r = option_and_then (told_end s w) (end_at s k r)
+
+-- and where its oldest waiting frame was put out now
+abbrev pub departing_at : Setting → WorldAt → ℕ → Role → Option Departure
+departing_at s w k r = if is_now w (oldest_of (w.end_at k r).waiting) then told_at s w k r else None
+
+-- one more link has its ends tried
+abbrev pub departing_over : Setting → WorldAt → Option Departure → ℕ → Option Departure
+departing_over s w first k = first_of_two (first_of_two first (departing_at s w k Master)) (departing_at s w k Slave)
 
 -- the frame departs whose stamp is drawn at this reading
 abbrev pub departs_by : Setting → SimAt → Departure → Option Event → State → Type 0

@@ -1,5 +1,6 @@
 pub mod Departures
 pub mod Draws
+pub mod HandsOver
 pub mod Keeps
 pub mod Numbers
 pub mod Rules

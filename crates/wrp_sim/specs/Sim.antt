@@ -1,9 +1,10 @@
 -- What a simulator holds, and what has been drawn and done that it stands for (this project's profile).
-use Rattle.std.specs.Prelude.{◌≡◌, ◌<◌, ◌≤◌, ◌+◌, ℕ, ℤ, true, length, Option, None, Some, IfSome}
+use Rattle.std.specs.Prelude.{◌≡◌, ◌<◌, ◌≤◌, ◌+◌, ℕ, ℤ, Bool, true, false, List, length, Option, None, Some, IfSome}
 use Rattle.std.specs.List.{AllByRecursion}
 use Rattle.wrp_base.specs.declared.configuration.NetCfg.{NetCfg}
 use Rattle.wrp_base.specs.Network.{node_count}
 use Rattle.wrp_course.specs.declared.event.Event.{Event}
+use Rattle.wrp_course.specs.declared.event.Event.TheVariants.{Pass}
 use Rattle.wrp_plant.specs.Plant.{Each}
 use Rattle.wrp_course.specs.Setting.{Setting}
 use Rattle.wrp_world.specs.StandsFor.{StandsFor, WorldOf}
@@ -23,13 +24,30 @@ pub record SimIs (at : SimAt) (sim : State) : Type 0 where
   pub ticked : sim.ticked ≡ at.ticked
   pub arrived : sim.arrived ≡ at.arrived
 
--- a simulator of a network: its scenario is one of it, and so are the faults that are left and the node that ticked
+-- a simulator of a network: its scenario is one of it, and so are the faults that are left and the node that ticked; the frame
+-- that arrived last is still handed over twice at most
 pub record FitsSim (cfg : NetCfg) (sim : State) : Type 0 where
   pub scene : IsSceneOf cfg sim.scene
   pub faults : AllByRecursion (IsFault cfg) sim.faults.items
   pub ticks : length sim.tick_at.items ≡ node_count cfg
   pub ticked : IfSome sim.ticked (λ n. n < node_count cfg)
   pub begun : sim.begun ≤ length cfg.links.items + node_count cfg
+  pub arrived : sim.arrived.times ≤ 2
+
+-- the event that was put into its place, where one was
+abbrev pub put : Bool → Event → Option Event
+put true event = Some event
+put false event = None
+
+-- an event in which so much true time passes
+abbrev pub IsPassOf : ℤ → Event → Type 0
+IsPassOf dt (Pass passing drifts fibres) = passing ≡ dt
+IsPassOf dt _ = ⊥
+
+-- one in which, besides, clocks move so
+abbrev pub HasDrifts : ℤ → List ℤ → Event → Type 0
+HasDrifts dt moves (Pass passing drifts fibres) = (passing ≡ dt) × (drifts.items ≡ moves)
+HasDrifts dt moves _ = ⊥
 
 -- a rule gave this: an event, or, where it does not apply, none; and the simulator stands for what has been drawn and done then
 abbrev pub Gave : SimAt → Option Next → Option Event → State → Type 0

@@ -1,18 +1,17 @@
 //! The simulator: the events of a network, each by the first rule that applies.
-ghost use Rattle.std.specs.Prelude.{◌≡◌, IfOk, length, pos};
+ghost use Rattle.std.specs.Prelude.{◌≡◌, IfOk, IfSome, length, pos, true};
 ghost use Rattle.wrp_base.specs.declared.configuration.NetCfg.{NetCfg};
+ghost use Rattle.wrp_sim.specs.HandsOver.{HandsOver};
 ghost use Rattle.wrp_sim.specs.Scenario.{IsSceneOf};
-ghost use Rattle.wrp_sim.specs.Sim.{FitsSim, FollowsRules, SimIs, StaysFit};
+ghost use Rattle.wrp_sim.specs.Sim.{FitsSim, FollowsRules, SimIs, StaysFit, put};
 ghost use Rattle.wrp_sim.specs.SimAt.{new_sim};
 ghost use Rattle.wrp_sim.specs.TakesTurns.{TakesTurns};
 ghost use Rattle.wrp_plant.specs.Plant.{Each};
 ghost use Rattle.wrp_world.specs.StandsFor.{IsValid};
 
 mod arriving;
-mod asking;
 mod departing;
 mod failing;
-mod modules;
 mod passing;
 mod pure;
 mod rules;
@@ -91,8 +90,28 @@ impl Sim {
         ensures follows { FollowsRules F.post world.now self.old self.new result }
         ensures stays { StaysFit world.now.plant.net.cfg self.old self.new }
         ensures turns { TakesTurns F.post world.now self.old self.new result }
+        ensures hands { IfSome result (HandsOver self.old self.new) }
+    {
+        let mut event = Event::Tick { node: 0 };
+        if self.next_into(world, &mut event) {
+            Some(event)
+        } else {
+            None
+        }
+    }
+
+    /// The same, put into the place of another event, which is gone then: a place that is used again and
+    /// again spares making one for each event. Answers whether there is an event; where there is none, the
+    /// place holds nothing of use.
+    pub fn next_into<F: Fn(i64) -> i64>(&mut self, world: &World<F>, event: &mut Event) -> bool
+        requires valid { IsValid F.pre F.post world.now }
+        requires fits { FitsSim world.now.plant.net.cfg self.old }
+        ensures follows { FollowsRules F.post world.now self.old self.new (put result event.new) }
+        ensures stays { StaysFit world.now.plant.net.cfg self.old self.new }
+        ensures turns { TakesTurns F.post world.now self.old self.new (put result event.new) }
+        ensures hands { result ≡ true → HandsOver self.old self.new event.new }
     {
         simulator_keeps_the_bounds();
-        self.state.next(world)
+        self.state.next_into(world, event)
     }
 }

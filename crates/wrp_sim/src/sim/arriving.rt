@@ -1,23 +1,21 @@
 //! Frames that arrive.
-ghost use Rattle.std.specs.Prelude.{◌≡◌, ◌<◌, length, option_map, Some};
+ghost use Rattle.std.specs.Prelude.{◌≡◌, ◌<◌, length, Some};
 ghost use Rattle.wrp_base.specs.declared.configuration.NetCfg.{NetCfg};
-ghost use Rattle.wrp_sim.specs.Departures.{across, raw_across};
 ghost use Rattle.wrp_sim.specs.Draws.{next_state};
-ghost use Rattle.wrp_course.specs.Setting.{place_of};
+ghost use Rattle.wrp_course.specs.Premises.{transition_of};
 ghost use Rattle.wrp_sim.specs.Numbers as number;
 ghost use Rattle.wrp_sim.specs.Rules as rule;
-ghost use Rattle.wrp_sim.specs.Sim.{FitsSim, Follows, Gave, IsDue, IsOnFibre, SimIs, StaysFit, as_is};
+ghost use Rattle.wrp_sim.specs.Sim.{FitsSim, Follows, Gave, IsDue, IsOnFibre, SimIs, StaysFit, as_is, put};
 ghost use Rattle.wrp_sim.specs.SimAt.{SimAt};
 ghost use Rattle.wrp_course.specs.Setting.{Setting};
 ghost use Rattle.wrp_world.specs.StandsFor.{IsValid, StandsFor, Tells};
 ghost use Rattle.wrp_course.specs.WorldAt.{WorldAt};
 
-use super::asking::{link_cfg, reading, time};
-use super::modules::{LinkEnd, end_across, entry, node_of, transition_of};
 use super::pure::{is_at, is_within, raw_at};
 use super::state::{Handed, State};
 use crate::draws::Draws;
-use wrp_base::{Raw, Tau};
+use wrp_base::{Module, Raw, Tau};
+use wrp_course::Place;
 use wrp_world::{Event, World};
 
 // Draws whether something happens that does so often of 1000 times.
@@ -41,18 +39,28 @@ fn times(lost: bool, repeated: bool) -> u8
     }
 }
 
+// The transition tag of a module, 0 where it is not listed.
+fn transition_of(entry: Option<Module>) -> u16
+    ensures { result ≡ transition_of entry }
+{
+    match entry {
+        Some(entry) => entry.transition,
+        None => 0,
+    }
+}
+
 // The raw stamp at an end of a link. `None` where the clock there cannot be told.
-fn raw_to<F: Fn(i64) -> i64>(world: &World<F>, to: LinkEnd) -> Option<Raw>
+fn raw_to<F: Fn(i64) -> i64>(world: &World<F>, to: Place) -> Option<Raw>
     requires valid { IsValid F.pre F.post world.now }
     requires link { to.link < length world.now.plant.net.cfg.links.items }
     ensures { Tells F.post (λ s w. rule.raw_to s w to.link to.role) world.now result }
 {
-    let cfg = &world.net().cfg;
-    let node = node_of(link_cfg(cfg, to.link), to.role);
-    let at = reading(world, node);
-    if is_within(cfg.clock, at) {
-        let transition = transition_of(entry(world, to.link, to.role));
-        Some(raw_at(cfg.clock, transition, at))
+    let clock = world.net().cfg.clock;
+    let node = world.node_at(to);
+    let at = world.reading(node);
+    if is_within(clock, at) {
+        let transition = transition_of(world.first_entry(to));
+        Some(raw_at(clock, transition, at))
     } else {
         None
     }
@@ -64,18 +72,7 @@ fn raw_of<F: Fn(i64) -> i64>(world: &World<F>, frame: u32) -> Option<Raw>
     requires on { IsOnFibre F.post world.now frame }
     ensures { Tells F.post (λ s w. rule.raw_of s w frame) world.now result }
 {
-    match world.sender(frame) {
-        Some((node, port)) => raw_from(world, node, port),
-        None => None,
-    }
-}
-
-// The raw stamp at the other end of the link of a port.
-fn raw_from<F: Fn(i64) -> i64>(world: &World<F>, n: u8, port: u16) -> Option<Raw>
-    requires { IsValid F.pre F.post world.now }
-    ensures { Tells F.post (λ s w. raw_across s w (option_map across (place_of s n port))) world.now result }
-{
-    match end_across(&world.net().cfg, n, port) {
+    match world.comes_to(frame) {
         Some(to) => raw_to(world, to),
         None => None,
     }
@@ -96,19 +93,26 @@ impl State {
     }
 
     // A frame that is due arrives.
-    fn arrive_now<F: Fn(i64) -> i64>(&mut self, world: &World<F>, frame: u32) -> Option<Event>
+    fn arrive_now<F: Fn(i64) -> i64>(
+        &mut self,
+        world: &World<F>,
+        frame: u32,
+        event: &mut Event,
+    ) -> bool
         requires valid { IsValid F.pre F.post world.now }
         requires fits { FitsSim world.now.plant.net.cfg self.old }
         requires on { IsOnFibre F.post world.now frame }
-        ensures follows { Follows F.post (λ scene s w at. rule.arrives_by scene s w at frame) as_is world.now self.old self.new result }
+        ensures follows { Follows F.post (λ scene s w at. rule.arrives_by scene s w at frame) as_is world.now self.old self.new (put result event.new) }
         ensures stays { StaysFit world.now.plant.net.cfg self.old self.new }
     {
         match raw_of(world, frame) {
             Some(raw) => {
                 self.take_arrival(frame);
-                Some(self.comes(Event::Arrive { frame, raw }))
+                *event = Event::Arrive { frame, raw };
+                self.comes();
+                true
             }
-            None => None,
+            None => false,
         }
     }
 
@@ -117,16 +121,17 @@ impl State {
         &mut self,
         world: &World<F>,
         due: Option<(u32, Tau)>,
-    ) -> Option<Event>
+        event: &mut Event,
+    ) -> bool
         requires valid { IsValid F.pre F.post world.now }
         requires fits { FitsSim world.now.plant.net.cfg self.old }
         requires due { IsDue F.post world.now due }
-        ensures follows { Follows F.post (λ scene s w at. rule.arrives scene s w due at) as_is world.now self.old self.new result }
+        ensures follows { Follows F.post (λ scene s w at. rule.arrives scene s w due at) as_is world.now self.old self.new (put result event.new) }
         ensures stays { StaysFit world.now.plant.net.cfg self.old self.new }
     {
         match due {
-            Some((frame, at)) => self.arrive_at(world, frame, at),
-            None => None,
+            Some((frame, at)) => self.arrive_at(world, frame, at, event),
+            None => false,
         }
     }
 
@@ -136,18 +141,19 @@ impl State {
         world: &World<F>,
         frame: u32,
         due: Tau,
-    ) -> Option<Event>
+        event: &mut Event,
+    ) -> bool
         requires valid { IsValid F.pre F.post world.now }
         requires fits { FitsSim world.now.plant.net.cfg self.old }
         requires on { IsOnFibre F.post world.now frame }
-        ensures follows { Follows F.post (λ scene s w at. rule.arrives scene s w (Some (frame, due)) at) as_is world.now self.old self.new result }
+        ensures follows { Follows F.post (λ scene s w at. rule.arrives scene s w (Some (frame, due)) at) as_is world.now self.old self.new (put result event.new) }
         ensures stays { StaysFit world.now.plant.net.cfg self.old self.new }
     {
-        let now = time(world);
+        let now = world.time();
         if is_at(due, now) {
-            self.arrive_now(world, frame)
+            self.arrive_now(world, frame, event)
         } else {
-            None
+            false
         }
     }
 }

@@ -2,20 +2,20 @@
 ghost use Rattle.std.specs.Prelude.{◌≡◌, ◌<◌, option_map, length, slice_get, IfSome, Some};
 ghost use Rattle.std.specs.List as list;
 ghost use Rattle.std.specs.List.{AllByRecursion};
+ghost use Rattle.wrp_base.specs.declared.configuration.NetCfg.{NetCfg};
 ghost use Rattle.wrp_sim.specs.Rules as rule;
 ghost use Rattle.wrp_sim.specs.Scenario.{IsFault, IsFaultKind};
-ghost use Rattle.wrp_sim.specs.Sim.{FitsSim, Follows, Gave, SimIs, StaysFit};
+ghost use Rattle.wrp_sim.specs.Sim.{FitsSim, Follows, Gave, SimIs, StaysFit, put};
 ghost use Rattle.wrp_sim.specs.SimAt.{SimAt};
 ghost use Rattle.wrp_course.specs.Setting.{Setting};
 ghost use Rattle.wrp_world.specs.StandsFor.{IsValid, StandsFor, Tells};
 ghost use Rattle.wrp_course.specs.WorldAt.{WorldAt};
 
-use super::asking::time;
-use super::pure::{is_by, start};
+use super::pure::is_by;
 use super::state::State;
 use crate::scene::{Fault, FaultKind};
 use wrp_base::sum;
-use wrp_world::{Event, World};
+use wrp_world::{Event, World, start_of};
 
 // Whether a fault applies: what it does has not been done yet.
 fn applies<F: Fn(i64) -> i64>(world: &World<F>, kind: FaultKind) -> bool
@@ -37,9 +37,9 @@ fn has_come<F: Fn(i64) -> i64>(world: &World<F>, fault: &Fault) -> bool
     requires fault { IsFault world.now.plant.net.cfg fault.now }
     ensures { Tells F.post (λ s w. rule.has_come s w fault.now) world.now result }
 {
-    let start = start(&world.net().cfg);
+    let start = start_of(&world.net().cfg);
     let due = sum(start, fault.at);
-    let now = time(world);
+    let now = world.time();
     is_by(due, now)
 }
 
@@ -86,46 +86,69 @@ fn take_fault<F: Fn(i64) -> i64>(faults: &mut Vec<Fault>, world: &World<F>) -> O
 
 impl State {
     // A link is joined by a fault.
-    fn rejoin<F: Fn(i64) -> i64>(&mut self, world: &World<F>, k: u8) -> Event
+    fn rejoin<F: Fn(i64) -> i64>(&mut self, world: &World<F>, k: u8, event: &mut Event)
         requires valid { IsValid F.pre F.post world.now }
         requires fits { FitsSim world.now.plant.net.cfg self.old }
         requires link { k < length world.now.plant.net.cfg.links.items }
         ensures follows { (s : Setting) (w : WorldAt) (at stays : SimAt) → StandsFor F.post s w world.now → SimIs at self.old
-            → Gave stays (rule.comes (rule.join_event self.old.scene s k) at) (Some result) self.new }
+            → Gave stays (rule.comes (rule.join_event self.old.scene s k) at) (Some event.new) self.new }
         ensures stays { StaysFit world.now.plant.net.cfg self.old self.new }
     {
-        let event = self.join_event(world, k);
-        self.comes(event)
+        self.join_event(world, k, event);
+        self.comes();
+    }
+
+    // A node goes down by a fault.
+    fn takes_down(&mut self, node: u8, event: &mut Event)
+        ensures follows { (at stays : SimAt) → SimIs at self.old
+            → Gave stays (rule.comes (Event.Down node) at) (Some event.new) self.new }
+        ensures stays { (cfg : NetCfg) → FitsSim cfg self.old → StaysFit cfg self.old self.new }
+    {
+        *event = Event::Down { node };
+        self.comes();
+    }
+
+    // A link is cut by a fault.
+    fn cuts(&mut self, link: u8, event: &mut Event)
+        ensures follows { (at stays : SimAt) → SimIs at self.old
+            → Gave stays (rule.comes (Event.Cut link) at) (Some event.new) self.new }
+        ensures stays { (cfg : NetCfg) → FitsSim cfg self.old → StaysFit cfg self.old self.new }
+    {
+        *event = Event::Cut { link };
+        self.comes();
     }
 
     // What a fault does.
-    fn fault<F: Fn(i64) -> i64>(&mut self, world: &World<F>, kind: FaultKind) -> Event
+    fn fault<F: Fn(i64) -> i64>(&mut self, world: &World<F>, kind: FaultKind, event: &mut Event)
         requires valid { IsValid F.pre F.post world.now }
         requires fits { FitsSim world.now.plant.net.cfg self.old }
         requires kind { IsFaultKind world.now.plant.net.cfg kind }
         ensures follows { (s : Setting) (w : WorldAt) (at stays : SimAt) → StandsFor F.post s w world.now → SimIs at self.old
-            → Gave stays (rule.fault_of self.old.scene s w at kind) (Some result) self.new }
+            → Gave stays (rule.fault_of self.old.scene s w at kind) (Some event.new) self.new }
         ensures stays { StaysFit world.now.plant.net.cfg self.old self.new }
     {
         match kind {
-            FaultKind::Down { node } => self.comes(Event::Down { node }),
-            FaultKind::Up { node } => self.wake(world, node),
-            FaultKind::Cut { link } => self.comes(Event::Cut { link }),
-            FaultKind::Join { link } => self.rejoin(world, link),
+            FaultKind::Down { node } => self.takes_down(node, event),
+            FaultKind::Up { node } => self.wake(world, node, event),
+            FaultKind::Cut { link } => self.cuts(link, event),
+            FaultKind::Join { link } => self.rejoin(world, link, event),
         }
     }
 
     /// A fault whose time has come and that applies; one that does not apply in its turn is dropped for
     /// good.
-    pub(super) fn fail<F: Fn(i64) -> i64>(&mut self, world: &World<F>) -> Option<Event>
+    pub(super) fn fail<F: Fn(i64) -> i64>(&mut self, world: &World<F>, event: &mut Event) -> bool
         requires valid { IsValid F.pre F.post world.now }
         requires fits { FitsSim world.now.plant.net.cfg self.old }
-        ensures follows { Follows F.post rule.fails rule.rest_of world.now self.old self.new result }
+        ensures follows { Follows F.post rule.fails rule.rest_of world.now self.old self.new (put result event.new) }
         ensures stays { StaysFit world.now.plant.net.cfg self.old self.new }
     {
         match take_fault(&mut self.faults, world) {
-            Some(kind) => Some(self.fault(world, kind)),
-            None => None,
+            Some(kind) => {
+                self.fault(world, kind, event);
+                true
+            }
+            None => false,
         }
     }
 }

@@ -1,21 +1,20 @@
 //! True time that passes.
-ghost use Rattle.std.specs.Prelude.{◌≡◌, ◌<◌, ◌≤◌, ◌++◌, ◌^◌, ◌+ℤ◌, ◌-ℤ◌, ◌≤ℤ◌, ◌<ℤ◌, pos, fold, map, if◌then◌else◌, length, unsigned_abs};
+ghost use Rattle.std.specs.Prelude.{◌≡◌, ◌<◌, ◌≤◌, ◌++◌, ◌^◌, ◌+ℤ◌, ◌-ℤ◌, ◌≤ℤ◌, ◌<ℤ◌, ℤ, List, pos, fold, map, if◌then◌else◌, length, unsigned_abs};
 ghost use Rattle.std.specs.List.{AllByRecursion};
 ghost use Rattle.wrp_sim.specs.Numbers.{drift_at};
 ghost use Rattle.wrp_sim.specs.Rules as rule;
 ghost use Rattle.wrp_sim.specs.Scenario.{IsFree, free_of};
-ghost use Rattle.wrp_sim.specs.Sim.{FitsSim, Follows, SimIs, StaysFit, as_is};
+ghost use Rattle.wrp_sim.specs.Sim.{FitsSim, Follows, HasDrifts, IsPassOf, SimIs, StaysFit, as_is, put};
 ghost use Rattle.wrp_sim.specs.SimAt.{SimAt};
 ghost use Rattle.wrp_course.specs.Setting.{Setting, from_on, nodes_of};
 ghost use Rattle.wrp_world.specs.StandsFor.{IsValid, StandsFor, Tells};
 ghost use Rattle.wrp_course.specs.WorldAt.{WorldAt};
 
-use super::asking::{dac, node_count, rate, time};
-use super::pure::{drift_at, held_to, is_by, own_rate, start};
+use super::pure::{drift_at, held_to, is_by, own_rate};
 use super::state::State;
 use arrayvec::ArrayVec;
 use wrp_base::{Tau, difference, narrow, sum};
-use wrp_world::{Event, World};
+use wrp_world::{Event, World, start_of};
 
 /// The longest time that passes at once, in tau.
 const LONGEST: i128 = 1 << 62;
@@ -64,15 +63,42 @@ fn between(now: Tau, next: Tau) -> i64
 }
 
 // No fibre moves.
-fn no_moves(count: usize) -> ArrayVec<(i64, i64), 63>
+fn put_moves(count: usize, moves: &mut ArrayVec<(i64, i64), 63>)
     requires { count ≤ 63 }
-    ensures { result.items ≡ map (λ k. (pos 0, pos 0)) (from_on count 0) }
+    ensures { moves.new.items ≡ map (λ k. (pos 0, pos 0)) (from_on count 0) }
 {
-    let mut moves = ArrayVec::new();
+    moves.clear();
     for _link in 0..count {
         moves.push((0, 0));
     }
-    moves
+}
+
+// A time that passes, in place of another event; where one passed before, its lists stay where they are.
+fn make_pass(dt: i64, event: &mut Event)
+    ensures { IsPassOf dt event.new }
+{
+    match event {
+        Event::Pass { dt: passing, .. } => *passing = dt,
+        _ => {
+            *event = Event::Pass {
+                dt,
+                drifts: ArrayVec::new(),
+                fibres: ArrayVec::new(),
+            };
+        }
+    }
+}
+
+// No fibre moves as a time passes.
+fn put_all_moves(count: usize, event: &mut Event)
+    requires { count ≤ 63 }
+    ensures { (dt : ℤ) (moves : List ℤ) → HasDrifts dt moves event.old
+        → event.new ≡ Event.Pass dt (record { items = moves }) (record { items = map (λ k. (pos 0, pos 0)) (from_on count 0) }) }
+{
+    match event {
+        Event::Pass { fibres, .. } => put_moves(count, fibres),
+        _ => {}
+    }
 }
 
 // The value of the DAC at which a clock has its own rate.
@@ -92,7 +118,7 @@ impl State {
         ensures value { Tells F.post (λ s w. rule.end_time self.now.scene s) world.now result }
         ensures size { unsigned_abs result ≤ 2 ^ 126 }
     {
-        let start = start(&world.net().cfg);
+        let start = start_of(&world.net().cfg);
         let duration = self.scene.duration();
         sum(start, duration)
     }
@@ -104,7 +130,7 @@ impl State {
         ensures { Tells F.post (λ s w. rule.is_over self.now.scene s w) world.now result }
     {
         let end = self.end_time(world);
-        let now = time(world);
+        let now = world.time();
         is_by(end, now)
     }
 
@@ -141,7 +167,7 @@ impl State {
         ensures size { unsigned_abs result ≤ 2 ^ 101 }
     {
         let mut best = other;
-        let count = node_count(world);
+        let count = world.node_count();
         for n in 0..count {
             best = self.sooner_tick(world, now, best, n);
         }
@@ -160,7 +186,7 @@ impl State {
         ensures most { result ≤ℤ other }
         ensures size { unsigned_abs result ≤ 2 ^ 101 }
     {
-        let start = start(&world.net().cfg);
+        let start = start_of(&world.net().cfg);
         let mut best = other;
         for fault in &self.faults {
             let at = sum(start, fault.at);
@@ -176,7 +202,7 @@ impl State {
         ensures { (s : Setting) (w : WorldAt) (at : SimAt) → StandsFor F.post s w world.now → SimIs at self.now
             → result ≡ rule.next_moment w.time (rule.moments self.now.scene s w due at) -ℤ w.time }
     {
-        let now = time(world);
+        let now = world.time();
         let last = sum(now, LONGEST);
         let ticks = self.soonest_tick(world, now, last);
         let arrives = soonest_due(now, ticks, due);
@@ -194,9 +220,9 @@ impl State {
         ensures { Tells F.post (λ s w. drift_at dt (rule.clock_rate self.now.scene s w n)) world.now result }
     {
         let free = self.free(n);
-        let dac = dac(world, n);
+        let dac = world.dac(n);
         let own = own_rate(free, dac, bias(world));
-        let kept = rate(world, n);
+        let kept = world.rate(n);
         let rate = held_to(kept, own);
         drift_at(dt, rate)
     }
@@ -226,17 +252,46 @@ impl State {
     }
 
     // How far all clocks move in a time.
-    fn drifts<F: Fn(i64) -> i64>(&self, world: &World<F>, dt: i64) -> ArrayVec<i64, 64>
+    fn put_drifts<F: Fn(i64) -> i64>(
+        &self,
+        world: &World<F>,
+        dt: i64,
+        drifts: &mut ArrayVec<i64, 64>,
+    )
         requires valid { IsValid F.pre F.post world.now }
         requires fits { FitsSim world.now.plant.net.cfg self.now }
-        ensures { Tells F.post (λ s w. map (rule.drift_over self.now.scene s w dt) (nodes_of s)) world.now result.items }
+        ensures { Tells F.post (λ s w. map (rule.drift_over self.now.scene s w dt) (nodes_of s)) world.now drifts.new.items }
     {
-        let mut drifts = ArrayVec::new();
-        let count = node_count(world);
+        drifts.clear();
+        let count = world.node_count();
         for n in 0..count {
             drifts.push(self.drift(world, dt, n));
         }
-        drifts
+    }
+
+    // The clocks move so as a time passes.
+    fn put_all_drifts<F: Fn(i64) -> i64>(&self, world: &World<F>, dt: i64, event: &mut Event)
+        requires valid { IsValid F.pre F.post world.now }
+        requires fits { FitsSim world.now.plant.net.cfg self.now }
+        requires pass { IsPassOf dt event.old }
+        ensures { (s : Setting) (w : WorldAt) → StandsFor F.post s w world.now
+            → HasDrifts dt (map (rule.drift_over self.now.scene s w dt) (nodes_of s)) event.new }
+    {
+        match event {
+            Event::Pass { drifts, .. } => self.put_drifts(world, dt, drifts),
+            _ => {}
+        }
+    }
+
+    // A time passes, in which the clocks move at their rates and no fibre moves.
+    fn put_pass<F: Fn(i64) -> i64>(&self, world: &World<F>, dt: i64, event: &mut Event)
+        requires valid { IsValid F.pre F.post world.now }
+        requires fits { FitsSim world.now.plant.net.cfg self.now }
+        ensures { Tells F.post (λ s w. rule.pass_of self.now.scene s w dt) world.now event.new }
+    {
+        make_pass(dt, event);
+        self.put_all_drifts(world, dt, event);
+        put_all_moves(world.net().cfg.links.len(), event);
     }
 
     /// Time passes to the next moment, where the end has not come.
@@ -244,18 +299,19 @@ impl State {
         &mut self,
         world: &World<F>,
         due: Option<(u32, Tau)>,
-    ) -> Option<Event>
+        event: &mut Event,
+    ) -> bool
         requires valid { IsValid F.pre F.post world.now }
         requires fits { FitsSim world.now.plant.net.cfg self.old }
-        ensures follows { Follows F.post (λ scene s w at. rule.passes scene s w due at) as_is world.now self.old self.new result }
+        ensures follows { Follows F.post (λ scene s w at. rule.passes scene s w due at) as_is world.now self.old self.new (put result event.new) }
         ensures stays { StaysFit world.now.plant.net.cfg self.old self.new }
     {
         if self.is_over(world) {
-            return None;
+            return false;
         }
         let dt = self.wait(world, due);
-        let drifts = self.drifts(world, dt);
-        let fibres = no_moves(world.net().cfg.links.len());
-        Some(self.comes(Event::Pass { dt, drifts, fibres }))
+        self.put_pass(world, dt, event);
+        self.comes();
+        true
     }
 }

@@ -2,61 +2,17 @@
 ghost use Rattle.std.specs.Prelude.{◌≡◌, ◌<◌, ◌≤◌, ◌≤ℤ◌, ◌^◌, ◌*ℤ◌, ◌*◌, pos, unsigned_abs, IfSome};
 ghost use Rattle.std.specs.Int.Signed.{le_z};
 ghost use Rattle.std.specs.Ordering.{int_eq};
-ghost use Rattle.wrp_base.specs.Clock.{period_of, second, steps_of_period};
-ghost use Rattle.wrp_base.specs.Network.{HasRanges};
-ghost use Rattle.wrp_bounds.specs.Times as times;
+ghost use Rattle.wrp_base.specs.Clock.{period_of, steps_of_period};
 ghost use Rattle.wrp_phase.specs.BeatPattern as beat;
 ghost use Rattle.wrp_sim.specs.Numbers as number;
 
-use wrp_base::{Clock, NetCfg, Raw, Tau, difference, hold, product, sum, trunc_div};
-
-/// One ns, in tau.
-const TAU_OF_NS: u128 = 65_536_000;
-
-/// One second, in tau.
-const SECOND: i128 = 65_536_000_000_000_000;
+use wrp_base::{Clock, Raw, Tau, difference, hold, product, sum, trunc_div};
 
 /// Rates are in `10^-12`.
 const PARTS: i128 = 1_000_000_000_000;
 
 /// How much one step of the DAC slows a clock, in `10^-12`.
 const DAC_RATE: i128 = 10;
-
-// A time in ns, in tau.
-fn tau_of_ns(ns: i64) -> Tau
-    requires { unsigned_abs ns ≤ 1_000_000_000 }
-    ensures value { result ≡ pos (times.tau_of_ns ns) }
-    ensures size { unsigned_abs result ≤ 2 ^ 60 }
-{
-    (TAU_OF_NS * u128::from(ns.unsigned_abs())) as i128
-}
-
-/// The shortest time from one tick of a node to the next.
-pub fn shortest_tick(cfg: &NetCfg) -> Tau
-    requires { HasRanges cfg.now }
-    ensures value { result ≡ pos (times.shortest_tick cfg.now) }
-    ensures size { unsigned_abs result ≤ 2 ^ 60 }
-{
-    tau_of_ns(cfg.dmin_ns)
-}
-
-/// The longest time from one tick of a node to the next.
-pub fn longest_tick(cfg: &NetCfg) -> Tau
-    requires { HasRanges cfg.now }
-    ensures value { result ≡ pos (times.longest_tick cfg.now) }
-    ensures size { unsigned_abs result ≤ 2 ^ 60 }
-{
-    tau_of_ns(cfg.dmax_ns)
-}
-
-/// The first moment of a world.
-pub fn start(cfg: &NetCfg) -> Tau
-    requires { HasRanges cfg.now }
-    ensures value { result ≡ cfg.now.epoch *ℤ second }
-    ensures size { unsigned_abs result ≤ 2 ^ 125 }
-{
-    product(i128::from(cfg.epoch), SECOND)
-}
 
 /// The detector's step in which a true phase lies.
 pub fn true_step(clock: Clock, phase: Tau) -> u16

@@ -1,6 +1,6 @@
 //! The rules, one after the other.
 ghost use Rattle.wrp_sim.specs.Rules as rule;
-ghost use Rattle.wrp_sim.specs.Sim.{FitsSim, Follows, FollowsRules, IsDue, StaysFit, as_is};
+ghost use Rattle.wrp_sim.specs.Sim.{FitsSim, Follows, FollowsRules, IsDue, StaysFit, as_is, put};
 ghost use Rattle.wrp_world.specs.StandsFor.{IsValid};
 
 use super::state::State;
@@ -13,45 +13,50 @@ impl State {
         &mut self,
         world: &World<F>,
         due: Option<(u32, Tau)>,
-    ) -> Option<Event>
+        event: &mut Event,
+    ) -> bool
         requires valid { IsValid F.pre F.post world.now }
         requires fits { FitsSim world.now.plant.net.cfg self.old }
         requires due { IsDue F.post world.now due }
-        ensures follows { Follows F.post (λ scene s w at. rule.first_of (rule.later_rules scene s w due at)) as_is world.now self.old self.new result }
+        ensures follows { Follows F.post (λ scene s w at. rule.first_of (rule.later_rules scene s w due at)) as_is world.now self.old self.new (put result event.new) }
         ensures stays { StaysFit world.now.plant.net.cfg self.old self.new }
     {
-        if let Some(event) = self.sample(world) {
-            return Some(event);
+        if self.sample(world, event) {
+            return true;
         }
-        if let Some(event) = self.depart(world) {
-            return Some(event);
+        if self.depart(world, event) {
+            return true;
         }
-        if let Some(event) = self.deliver() {
-            return Some(event);
+        if self.deliver(event) {
+            return true;
         }
-        if let Some(event) = self.arrive(world, due) {
-            return Some(event);
+        if self.arrive(world, due, event) {
+            return true;
         }
-        if let Some(event) = self.tick(world) {
-            return Some(event);
+        if self.tick(world, event) {
+            return true;
         }
-        self.pass(world, due)
+        self.pass(world, due, event)
     }
 
-    /// The next event: the first rule that applies.
-    pub(super) fn next<F: Fn(i64) -> i64>(&mut self, world: &World<F>) -> Option<Event>
+    /// The next event, by the first rule that applies, is put into this place. Answers whether one applies.
+    pub(super) fn next_into<F: Fn(i64) -> i64>(
+        &mut self,
+        world: &World<F>,
+        event: &mut Event,
+    ) -> bool
         requires valid { IsValid F.pre F.post world.now }
         requires fits { FitsSim world.now.plant.net.cfg self.old }
-        ensures follows { FollowsRules F.post world.now self.old self.new result }
+        ensures follows { FollowsRules F.post world.now self.old self.new (put result event.new) }
         ensures stays { StaysFit world.now.plant.net.cfg self.old self.new }
     {
         let due = world.next_arrival();
-        if let Some(event) = self.begin(world) {
-            return Some(event);
+        if self.begin(world, event) {
+            return true;
         }
-        if let Some(event) = self.fail(world) {
-            return Some(event);
+        if self.fail(world, event) {
+            return true;
         }
-        self.later(world, due)
+        self.later(world, due, event)
     }
 }

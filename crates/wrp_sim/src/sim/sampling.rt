@@ -5,18 +5,17 @@ ghost use Rattle.wrp_base.specs.Clock.{steps_of_period};
 ghost use Rattle.wrp_sim.specs.Numbers as number;
 ghost use Rattle.wrp_sim.specs.Draws as draw;
 ghost use Rattle.wrp_sim.specs.Rules as rule;
-ghost use Rattle.wrp_sim.specs.Sim.{FitsSim, Follows, Gave, SimIs, StaysFit, as_is};
+ghost use Rattle.wrp_sim.specs.Sim.{FitsSim, Follows, Gave, SimIs, StaysFit, as_is, put};
 ghost use Rattle.wrp_sim.specs.SimAt.{SimAt};
 ghost use Rattle.wrp_course.specs.Setting.{Setting, link_of};
 ghost use Rattle.wrp_world.specs.StandsFor.{IsValid, StandsFor, Tells};
 ghost use Rattle.wrp_course.specs.WorldAt.{WorldAt};
 
-use super::asking::{above, apart, has_carrier, link_cfg, node_cfg};
-use super::modules::entry;
 use super::pure::{base_before, bits_behind, true_step};
 use super::state::State;
 use crate::draws::Draws;
 use wrp_base::{Module, Role, Tau, sum};
+use wrp_course::Place;
 use wrp_world::{Event, World};
 
 // Draws how many bits are 0 at the front of a sample.
@@ -42,9 +41,17 @@ impl State {
         ensures value { Tells F.post (λ s w. rule.delay_down self.now.scene s k) world.now result }
         ensures size { unsigned_abs result ≤ 2 ^ 100 }
     {
+        let upper = Place {
+            link: k,
+            role: Role::Master,
+        };
+        let lower = Place {
+            link: k,
+            role: Role::Slave,
+        };
         let ms = self.scene.delay_down(k, &world.net().cfg);
-        let sent = tx_of(entry(world, k, Role::Master));
-        let received = rx_of(entry(world, k, Role::Slave));
+        let sent = tx_of(world.first_entry(upper));
+        let received = rx_of(world.first_entry(lower));
         sum(sum(i128::from(sent), ms), i128::from(received))
     }
 
@@ -56,78 +63,85 @@ impl State {
         ensures value { Tells F.post (λ s w. option_map (λ link. rule.step_below self.now.scene s w k link) (link_of s k)) world.now (Some result) }
         ensures most { result < steps_of_period }
     {
-        let cfg = &world.net().cfg;
-        let link = link_cfg(cfg, k);
-        let ahead = apart(world, link);
+        let link = world.link_cfg(k);
+        let ahead = world.apart(link.lower, link.upper);
         let down = self.delay_down(world, k);
         let phase = sum(ahead, down);
-        true_step(cfg.clock, phase)
+        true_step(world.net().cfg.clock, phase)
     }
 
     // The sample of the node below a link.
-    fn sample_below<F: Fn(i64) -> i64>(&mut self, world: &World<F>, n: u8, k: u8) -> Event
+    fn sample_below<F: Fn(i64) -> i64>(&mut self, world: &World<F>, n: u8, k: u8, event: &mut Event)
         requires valid { IsValid F.pre F.post world.now }
         requires fits { FitsSim world.now.plant.net.cfg self.old }
         requires node { n < length world.now.nodes }
         requires link { k < length world.now.plant.net.cfg.links.items }
         ensures follows { (s : Setting) (w : WorldAt) (at : SimAt) → StandsFor F.post s w world.now → SimIs at self.old
-            → Gave at (option_and_then (λ link. rule.comes (rule.sample_of self.old.scene s w n k link at.state) (rule.after_draw at)) (link_of s k)) (Some result) self.new }
+            → Gave at (option_and_then (λ link. rule.comes (rule.sample_of self.old.scene s w n k link at.state) (rule.after_draw at)) (link_of s k)) (Some event.new) self.new }
         ensures stays { StaysFit world.now.plant.net.cfg self.old self.new }
     {
         let step = self.step_below(world, k);
-        let node = node_cfg(&world.net().cfg, n);
+        let node = world.node_cfg(n);
         let zeros = draw_zeros(&mut self.draws, node.beat);
         let base = base_before(step);
         let bits = bits_behind(zeros);
-        self.comes(Event::Sample {
+        *event = Event::Sample {
             node: n,
             base,
             bits,
-        })
+        };
+        self.comes();
     }
 
     /// After a tick of a node whose slave port has its carrier, its sample.
-    pub(super) fn sample<F: Fn(i64) -> i64>(&mut self, world: &World<F>) -> Option<Event>
+    pub(super) fn sample<F: Fn(i64) -> i64>(&mut self, world: &World<F>, event: &mut Event) -> bool
         requires valid { IsValid F.pre F.post world.now }
         requires fits { FitsSim world.now.plant.net.cfg self.old }
-        ensures follows { Follows F.post rule.samples as_is world.now self.old self.new result }
+        ensures follows { Follows F.post rule.samples as_is world.now self.old self.new (put result event.new) }
         ensures stays { StaysFit world.now.plant.net.cfg self.old self.new }
     {
         match self.ticked {
-            Some(node) => self.sample_at(world, node),
-            None => None,
+            Some(node) => self.sample_at(world, node, event),
+            None => false,
         }
     }
 
     // The sample of a node that ticked last.
-    fn sample_at<F: Fn(i64) -> i64>(&mut self, world: &World<F>, n: u8) -> Option<Event>
+    fn sample_at<F: Fn(i64) -> i64>(&mut self, world: &World<F>, n: u8, event: &mut Event) -> bool
         requires valid { IsValid F.pre F.post world.now }
         requires fits { FitsSim world.now.plant.net.cfg self.old }
         requires node { n < length world.now.nodes }
         ensures follows { (s : Setting) (w : WorldAt) (at : SimAt) → StandsFor F.post s w world.now → SimIs at self.old
-            → at.ticked ≡ Some n → Gave at (rule.samples self.old.scene s w at) result self.new }
+            → at.ticked ≡ Some n → Gave at (rule.samples self.old.scene s w at) (put result event.new) self.new }
         ensures stays { StaysFit world.now.plant.net.cfg self.old self.new }
     {
-        match above(world, n) {
-            Some(link) => self.sample_over(world, n, link),
-            None => None,
+        match world.above(n) {
+            Some(link) => self.sample_over(world, n, link, event),
+            None => false,
         }
     }
 
     // The sample of a node, where the link above it has its carrier.
-    fn sample_over<F: Fn(i64) -> i64>(&mut self, world: &World<F>, n: u8, k: u8) -> Option<Event>
+    fn sample_over<F: Fn(i64) -> i64>(
+        &mut self,
+        world: &World<F>,
+        n: u8,
+        k: u8,
+        event: &mut Event,
+    ) -> bool
         requires valid { IsValid F.pre F.post world.now }
         requires fits { FitsSim world.now.plant.net.cfg self.old }
         requires node { n < length world.now.nodes }
         requires link { k < length world.now.plant.net.cfg.links.items }
         ensures follows { (s : Setting) (w : WorldAt) (at : SimAt) → StandsFor F.post s w world.now → SimIs at self.old
-            → Gave at (rule.sample_below self.old.scene s w at n k) result self.new }
+            → Gave at (rule.sample_below self.old.scene s w at n k) (put result event.new) self.new }
         ensures stays { StaysFit world.now.plant.net.cfg self.old self.new }
     {
-        if has_carrier(world, k) {
-            Some(self.sample_below(world, n, k))
+        if world.has_carrier(k) {
+            self.sample_below(world, n, k, event);
+            true
         } else {
-            None
+            false
         }
     }
 }

@@ -3,13 +3,12 @@ ghost use Rattle.std.specs.Prelude.{◌≡◌, ◌<◌, ◌&&◌, length, slice_
 ghost use Rattle.std.specs.List.{find};
 ghost use Rattle.std.specs.Ordering.{int_eq};
 ghost use Rattle.wrp_sim.specs.Rules as rule;
-ghost use Rattle.wrp_sim.specs.Sim.{FitsSim, Follows, SimIs, StaysFit, as_is};
+ghost use Rattle.wrp_sim.specs.Sim.{FitsSim, Follows, SimIs, StaysFit, as_is, put};
 ghost use Rattle.wrp_sim.specs.SimAt.{SimAt};
 ghost use Rattle.wrp_course.specs.Setting.{Setting, nodes_of};
 ghost use Rattle.wrp_world.specs.StandsFor.{IsValid, StandsFor};
 ghost use Rattle.wrp_course.specs.WorldAt.{WorldAt};
 
-use super::asking::{node_count, time};
 use super::pure::is_at;
 use super::state::State;
 use wrp_base::Tau;
@@ -41,7 +40,7 @@ impl State {
     {
         let up = world.is_up(n);
         let at = self.tick_of(n);
-        let now = time(world);
+        let now = world.time();
         ticks_by(up, at, now)
     }
 
@@ -53,7 +52,7 @@ impl State {
             → result ≡ find (rule.ticks_now w at) (nodes_of s) }
         ensures within { IfSome result (λ n. n < length world.now.nodes) }
     {
-        let count = node_count(world);
+        let count = world.node_count();
         for n in 0..count {
             if self.ticks_now(world, n) {
                 return Some(n);
@@ -63,19 +62,20 @@ impl State {
     }
 
     /// A node ticks whose tick time is now.
-    pub(super) fn tick<F: Fn(i64) -> i64>(&mut self, world: &World<F>) -> Option<Event>
+    pub(super) fn tick<F: Fn(i64) -> i64>(&mut self, world: &World<F>, event: &mut Event) -> bool
         requires valid { IsValid F.pre F.post world.now }
         requires fits { FitsSim world.now.plant.net.cfg self.old }
-        ensures follows { Follows F.post (λ scene s w at. rule.ticks s w at) as_is world.now self.old self.new result }
+        ensures follows { Follows F.post (λ scene s w at. rule.ticks s w at) as_is world.now self.old self.new (put result event.new) }
         ensures stays { StaysFit world.now.plant.net.cfg self.old self.new }
     {
         match self.first_tick(world) {
             Some(n) => {
                 self.set_tick(world, n);
                 self.ticked = Some(n);
-                Some(Event::Tick { node: n })
+                *event = Event::Tick { node: n };
+                true
             }
-            None => None,
+            None => false,
         }
     }
 }

@@ -7,4 +7,4 @@ use Rattle.wrp_sim.proofs.sim.departing.is_put_out_now.Goals as goal
 pub returns : goal.returns
 returns g c s w h =
     c.is_one_at.ensures
-    ∙ ap₂ (λ (a : Option ℤ) (t : ℤ). option_map_or (λ x. int_eq x t) a false) (c.waiting-at.ensures s w h) (read c.time-now.result (omega (arith, c.time-now.ensures.size)) ∙ c.time-now.ensures.value s w h)
+    ∙ ap₂ (λ (a : Option ℤ) (t : ℤ). option_map_or (λ x. int_eq x t) a false) (c.oldest_at-at.ensures s w h) (read c.time-now.result (omega (arith, c.time-now.ensures.size)) ∙ c.time-now.ensures.value s w h)

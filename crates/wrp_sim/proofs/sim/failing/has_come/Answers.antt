@@ -16,6 +16,6 @@ returns g c s w h =
     ∙ ap₂ le_z
     (read c.sum-due.result (omega (arith, c.sum-due.ensures.size)) ∙ c.sum-due.ensures.value
     ∙ ap₂ (λ a b. a +ℤ b)
-    (read c.start-start.result (omega (arith, c.start-start.ensures.size)) ∙ c.start-start.ensures.value ∙ ap (λ (x : NetCfg). x.epoch *ℤ second) cfg)
+    (read c.start_of-start.result (omega (arith, c.start_of-start.ensures.size)) ∙ c.start_of-start.ensures.value ∙ ap (λ (x : NetCfg). x.epoch *ℤ second) cfg)
     (read c.args.fault.now.at (omega (arith, ints, low, high))))
     (read c.time-now.result (omega (arith, c.time-now.ensures.size)) ∙ c.time-now.ensures.value s w h)

@@ -1,4 +1,4 @@
-use Rattle.std.proofs.Common.{◌≡◌, ◌∙◌, ap, pos, ◌≤ℤ◌, ◌≤◌, FitsSigned, arith}
+use Rattle.std.proofs.Common.{◌≡◌, ◌∙◌, ap, pos, ◌≤ℤ◌, FitsSigned, arith}
 use Rattle.std.proofs.lemmas.Int.{ints, to_z-of_z}
 use Rattle.std.specs.Int.{w64}
 use Rattle.wrp_base.specs.declared.configuration.NetCfg.{NetCfg}

@@ -1,4 +1,4 @@
-use Rattle.std.proofs.Common.{◌∙◌, sym}
+use Rattle.std.proofs.Common.{◌∙◌, refl, sym}
 use Rattle.wrp_course.specs.declared.event.Event.TheVariants.{Arrive}
 use Rattle.wrp_sim.specs.Rules.{after_arrival, arrives_by, comes}
 use Rattle.wrp_sim.proofs.RuleCases.{raw_known, raw_unknown}
@@ -9,7 +9,7 @@ pub returns-in-Some-clause-follows : goal.returns-in-Some-clause-follows
 returns-in-Some-clause-follows g c s w at h i =
     gives_same at (comes (Arrive c.args.frame c.in-Some.raw) (after_arrival c.args.self.now.scene c.args.frame at)) (arrives_by c.args.self.now.scene s w at c.args.frame) _ c.comes.new.self
     (sym (raw_known c.args.self.now.scene s w at c.args.frame c.in-Some.raw (sym (c.raw_of.ensures s w h) ∙ c.in-Some.is)))
-    (c.comes.ensures.follows (after_arrival c.args.self.now.scene c.args.frame at) at (c.take_arrival.ensures.at at i))
+    (refl, c.comes.ensures.follows (after_arrival c.args.self.now.scene c.args.frame at) (c.take_arrival.ensures.at at i))
 
 pub returns-in-Some-clause-stays : goal.returns-in-Some-clause-stays
 returns-in-Some-clause-stays g c =

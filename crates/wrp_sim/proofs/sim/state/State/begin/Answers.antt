@@ -16,9 +16,9 @@ returns-then-begun-links-clause-follows g c s w at h i =
     let count : c.len-links.result ≡ link_count s.cfg =
     c.len-links.ensures.value ∙ ap (λ (x : Network). length x.cfg.links.items) c.net.ensures ∙ ap (λ (x : NetCfg). length x.links.items) h.plant.cfg in
     let less : nat_lt at.begun (link_count s.cfg) ≡ true = lt_true at.begun (link_count s.cfg) (omega (arith, c.if-begun-links.true, count, i.begun)) in
-    gives_same at (comes (join_event c.args.self.now.scene s at.begun) (one_begun at)) (begins c.args.self.now.scene s w at) (Some c.join_first.result) c.join_first.new.self
+    gives_same at (comes (join_event c.args.self.now.scene s at.begun) (one_begun at)) (begins c.args.self.now.scene s w at) (Some c.join_first.new.event) c.join_first.new.self
     (sym (joins_first c.args.self.now.scene s w at less))
-    (came at (one_begun at) (join_event c.args.self.now.scene s c.args.self.now.begun) (join_event c.args.self.now.scene s at.begun) c.join_first.result c.join_first.new.self
+    (came at (one_begun at) (join_event c.args.self.now.scene s c.args.self.now.begun) (join_event c.args.self.now.scene s at.begun) c.join_first.new.event c.join_first.new.self
     (ap (join_event c.args.self.now.scene s) i.begun) (c.join_first.ensures.follows s w at h i))
 
 pub returns-then-begun-links-2-clause-follows : goal.returns-then-begun-links-2-clause-follows
@@ -34,7 +34,7 @@ returns-then-begun-links-2-clause-follows g c s w at h i =
     let given : begins c.args.self.now.scene s w at ≡ comes (up_event c.args.self.now.scene node) (with_tick s w.time node (one_begun at)) =
     joined_all c.args.self.now.scene s w at more
     ∙ ap (λ (b : Bool). if b then comes (up_event c.args.self.now.scene node) (with_tick s w.time node (one_begun at)) else None) less in
-    gives_same at (comes (up_event c.args.self.now.scene node) (with_tick s w.time node (one_begun at))) (begins c.args.self.now.scene s w at) (Some c.wake_first.result) c.wake_first.new.self
+    gives_same at (comes (up_event c.args.self.now.scene node) (with_tick s w.time node (one_begun at))) (begins c.args.self.now.scene s w at) (Some c.wake_first.new.event) c.wake_first.new.self
     (sym given)
-    (subst (λ n. Gave at (comes (up_event c.args.self.now.scene n) (with_tick s w.time n (one_begun at))) (Some c.wake_first.result) c.wake_first.new.self) same
+    (subst (λ n. Gave at (comes (up_event c.args.self.now.scene n) (with_tick s w.time n (one_begun at))) (Some c.wake_first.new.event) c.wake_first.new.self) same
     (c.wake_first.ensures.follows s w at h i))

@@ -20,6 +20,6 @@ returns-clause-value g c s w h =
     ∙ ap₂ (λ a b. a +ℤ b)
     (read c.sum.result (omega (arith, c.sum.ensures.size)) ∙ c.sum.ensures.value
     ∙ ap₂ (λ a b. a +ℤ b)
-    (sent ∙ ap pos (c.tx_of-sent.ensures ∙ ap (λ (e : Option Module). option_map_or (λ m. m.tx) e 0) (c.entry.ensures s w h)))
+    (sent ∙ ap pos (c.tx_of-sent.ensures ∙ ap (λ (e : Option Module). option_map_or (λ m. m.tx) e 0) (c.first_entry.ensures.value s w h)))
     (read c.delay_down-ms.result (omega (arith, ints, low, high)) ∙ c.delay_down-ms.ensures.value ∙ ap (λ (x : NetCfg). ms_of x c.args.self.now.scene c.args.k) cfg))
-    (received ∙ ap pos (c.rx_of-received.ensures ∙ ap (λ (e : Option Module). option_map_or (λ m. m.rx) e 0) (c.entry-2.ensures s w h)))
+    (received ∙ ap pos (c.rx_of-received.ensures ∙ ap (λ (e : Option Module). option_map_or (λ m. m.rx) e 0) (c.first_entry-2.ensures.value s w h)))

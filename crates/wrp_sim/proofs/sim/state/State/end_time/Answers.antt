@@ -14,5 +14,5 @@ returns-clause-value g c s w h =
     let high : c.args.self.now.scene.duration ≤ℤ pos 655_360_000_000_000_000_000 = c.requires.fits.scene.duration.1 in
     read c.sum.result (omega (arith, c.sum.ensures.size)) ∙ c.sum.ensures.value
     ∙ ap₂ (λ a b. a +ℤ b)
-    (read c.start-start.result (omega (arith, c.start-start.ensures.size)) ∙ c.start-start.ensures.value ∙ ap (λ (x : NetCfg). x.epoch *ℤ second) cfg)
+    (read c.start_of-start.result (omega (arith, c.start_of-start.ensures.size)) ∙ c.start_of-start.ensures.value ∙ ap (λ (x : NetCfg). x.epoch *ℤ second) cfg)
     (read c.duration-duration.result (omega (arith, ints, is, low, high)) ∙ is)

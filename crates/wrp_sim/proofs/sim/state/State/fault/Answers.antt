@@ -6,17 +6,17 @@ use Rattle.wrp_sim.proofs.sim.state.State.fault.Goals as goal
 
 pub returns-in-Down-clause-follows : goal.returns-in-Down-clause-follows
 returns-in-Down-clause-follows g c s w at stays h i =
-    gives_same stays (comes (Down c.in-Down.node) at) (fault_of c.args.self.now.scene s w at c.args.kind) _ c.comes.new.self (sym (ap (fault_of c.args.self.now.scene s w at) c.in-Down.is)) (c.comes.ensures.follows at stays i)
+    gives_same stays (comes (Down c.in-Down.node) at) (fault_of c.args.self.now.scene s w at c.args.kind) _ c.takes_down.new.self (sym (ap (fault_of c.args.self.now.scene s w at) c.in-Down.is)) (c.takes_down.ensures.follows at stays i)
 
 pub returns-in-Down-clause-stays : goal.returns-in-Down-clause-stays
-returns-in-Down-clause-stays g c = c.comes.ensures.stays c.args.world.now.plant.net.cfg c.requires.fits
+returns-in-Down-clause-stays g c = c.takes_down.ensures.stays c.args.world.now.plant.net.cfg c.requires.fits
 
 pub returns-in-Cut-clause-follows : goal.returns-in-Cut-clause-follows
 returns-in-Cut-clause-follows g c s w at stays h i =
-    gives_same stays (comes (Cut c.in-Cut.link) at) (fault_of c.args.self.now.scene s w at c.args.kind) _ c.comes-in-Cut.new.self (sym (ap (fault_of c.args.self.now.scene s w at) c.in-Cut.is)) (c.comes-in-Cut.ensures.follows at stays i)
+    gives_same stays (comes (Cut c.in-Cut.link) at) (fault_of c.args.self.now.scene s w at c.args.kind) _ c.cuts.new.self (sym (ap (fault_of c.args.self.now.scene s w at) c.in-Cut.is)) (c.cuts.ensures.follows at stays i)
 
 pub returns-in-Cut-clause-stays : goal.returns-in-Cut-clause-stays
-returns-in-Cut-clause-stays g c = c.comes-in-Cut.ensures.stays c.args.world.now.plant.net.cfg c.requires.fits
+returns-in-Cut-clause-stays g c = c.cuts.ensures.stays c.args.world.now.plant.net.cfg c.requires.fits
 
 pub returns-in-Up-clause-follows : goal.returns-in-Up-clause-follows
 returns-in-Up-clause-follows g c s w at stays h i =

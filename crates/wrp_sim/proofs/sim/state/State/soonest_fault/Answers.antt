@@ -38,7 +38,7 @@ loop-fault-preserved g c =
           let cfg = ap (λ (net : Network). net.cfg) c.net.ensures ∙ h.plant.cfg in
           let at = read c.sum-at.result (omega (arith, c.sum-at.ensures.size)) ∙ c.sum-at.ensures.value
           ∙ ap₂ (λ (a b : ℤ). a +ℤ b)
-          (read c.start-start.result (omega (arith, c.start-start.ensures.size)) ∙ c.start-start.ensures.value ∙ ap (λ (x : NetCfg). x.epoch *ℤ second) cfg)
+          (read c.start_of-start.result (omega (arith, c.start_of-start.ensures.size)) ∙ c.start_of-start.ensures.value ∙ ap (λ (x : NetCfg). x.epoch *ℤ second) cfg)
           (read (get_or c.deref-fault-items.result.now c.loop-fault.fault-index none).at (omega (arith, small))) in
           tried_one _ (fault_time s) c.deref-fault-items.result.now c.args.self.now.faults.items c.loop-fault.fault-index none _ _
           c.deref-fault-items.ensures.value c.loop-fault-test.true (best ∙ c.sooner-best.ensures.value ∙ ap (sooner _ _) at)

@@ -1,18 +1,12 @@
-use Rattle.std.proofs.Common.{◌∙◌, ap, ap₂, sym, Some, option_map, slice_get, ◌+ℤ◌, arith}
+use Rattle.std.proofs.Common.{◌∙◌, ap, ap₂, sym, Some, option_map, ◌+ℤ◌, arith}
 use Rattle.wrp_base.specs.declared.configuration.NetCfg.{NetCfg}
 use Rattle.wrp_base.specs.declared.network.LinkCfg.{LinkCfg}
 use Rattle.wrp_config.specs.declared.network.Network.{Network}
 use Rattle.wrp_phase.specs.BeatPattern.{true_step}
 use Rattle.wrp_sim.specs.Rules.{step_below}
-use Rattle.wrp_sim.proofs.Seen.{ends_within, link_is}
+use Rattle.wrp_sim.proofs.Seen.{link_is}
 use Rattle.wrp_plant.proofs.SignedReads.{read}
 use Rattle.wrp_sim.proofs.sim.state.State.step_below.Goals as goal
-
-pub apart-ahead-requires-clause-upper : goal.apart-ahead-requires-clause-upper
-apart-ahead-requires-clause-upper g c = (ends_within _ _ c.args.world.now c.args.k c.link_cfg-link.result.now c.requires.valid (ap (λ (net : Network). slice_get net.cfg.links.items c.args.k) (sym c.net.ensures) ∙ c.link_cfg-link.ensures)).0
-
-pub apart-ahead-requires-clause-lower : goal.apart-ahead-requires-clause-lower
-apart-ahead-requires-clause-lower g c = (ends_within _ _ c.args.world.now c.args.k c.link_cfg-link.result.now c.requires.valid (ap (λ (net : Network). slice_get net.cfg.links.items c.args.k) (sym c.net.ensures) ∙ c.link_cfg-link.ensures)).1
 
 pub returns-clause-value : goal.returns-clause-value
 returns-clause-value g c s w h =
@@ -21,4 +15,4 @@ returns-clause-value g c s w h =
     ∙ ap₂ true_step (ap (λ (x : NetCfg). x.clock) cfg)
     (read c.sum-phase.result (omega (arith, c.sum-phase.ensures.size)) ∙ c.sum-phase.ensures.value
     ∙ ap₂ (λ a b. a +ℤ b) (read c.apart-ahead.result (omega (arith, c.apart-ahead.ensures.size)) ∙ c.apart-ahead.ensures.value s w h) (read c.delay_down-down.result (omega (arith, c.delay_down-down.ensures.size)) ∙ c.delay_down-down.ensures.value s w h)))
-    ∙ sym (ap (option_map (λ (link : LinkCfg). step_below c.args.self.now.scene s w c.args.k link)) (link_is _ s w c.args.world.now c.args.k c.link_cfg-link.result.now h (ap (λ (net : Network). slice_get net.cfg.links.items c.args.k) (sym c.net.ensures) ∙ c.link_cfg-link.ensures)))
+    ∙ sym (ap (option_map (λ (link : LinkCfg). step_below c.args.self.now.scene s w c.args.k link)) (link_is _ s w c.args.world.now c.args.k c.link_cfg-link.result.now h c.link_cfg-link.ensures.value))

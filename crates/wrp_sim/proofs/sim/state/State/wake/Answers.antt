@@ -1,12 +1,10 @@
 use Rattle.std.proofs.Common.{◌∙◌}
-use Rattle.wrp_sim.specs.Rules.{up_event, with_tick}
-use Rattle.wrp_sim.proofs.Turns.{came}
+use Rattle.wrp_sim.specs.Rules.{with_tick}
 use Rattle.wrp_sim.proofs.sim.state.State.wake.Goals as goal
 
 pub returns-clause-follows : goal.returns-clause-follows
 returns-clause-follows g c s w at stays h i =
-    came stays (with_tick s w.time c.args.n at) c.up_event-event.result (up_event c.args.self.now.scene c.args.n) c.comes.result c.comes.new.self c.up_event-event.ensures
-    (c.comes.ensures.follows (with_tick s w.time c.args.n at) stays (c.set_tick.ensures.ticks s w at h i))
+    (c.up_event.ensures, c.comes.ensures.follows (with_tick s w.time c.args.n at) (c.set_tick.ensures.ticks s w at h i))
 
 pub returns-clause-stays : goal.returns-clause-stays
 returns-clause-stays g c =

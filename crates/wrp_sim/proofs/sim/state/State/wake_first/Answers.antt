@@ -9,6 +9,7 @@ wake-requires-clause-fits g c = record {
   ticks = c.requires.fits.ticks;
   ticked = c.requires.fits.ticked;
   begun = omega (arith, c.requires.next, c.requires.node, c.requires.valid.node_count);
+  arrived = c.requires.fits.arrived;
 }
 
 pub returns-clause-follows : goal.returns-clause-follows
