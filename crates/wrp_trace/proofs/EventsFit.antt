@@ -43,7 +43,7 @@ use Rattle.wrp_trace.proofs.SwapLemmas.{more_swaps}
 abbrev pub read_as : {A : Type 0} → A → Result A TraceFault
 read_as x = Ok x
 
-ok_same : {A : Type 0} (x y : A) → read_as x ≡ read_as y → x ≡ y
+pub ok_same : {A : Type 0} (x y : A) → read_as x ≡ read_as y → x ≡ y
 ok_same x y e = cc
 
 -- a reading in two parts gave a value in each
@@ -52,7 +52,7 @@ pub record Both {A B : Type 0} (read : Result A TraceFault) (next : A → Result
   pub is : read ≡ Ok first
   pub rest : next first ≡ Ok value
 
-both : {A B : Type 0} (read : Result A TraceFault) (next : A → Result B TraceFault) (value : B) → (read >>= next) ≡ Ok value → Both read next value
+pub both : {A B : Type 0} (read : Result A TraceFault) (next : A → Result B TraceFault) (value : B) → (read >>= next) ≡ Ok value → Both read next value
 both (Ok x) next value e = record { first = x; is = refl; rest = e }
 both (Err fault) next value e = absurd (cc)
 
@@ -255,7 +255,7 @@ swaps_fit place swaps all (text ∷ texts) e h =
 
 -- Each kind
 
-pass_fits : (cfg : NetCfg) (fields : List (List ℕ)) (e : Event) → pass_of cfg fields ≡ Ok e → IsEventOf cfg e
+pub pass_fits : (cfg : NetCfg) (fields : List (List ℕ)) (e : Event) → pass_of cfg fields ≡ Ok e → IsEventOf cfg e
 pass_fits cfg fields e h =
     let a = both (span_at 2 fields) (λ dt. changes_said cfg 3 (nothing_said cfg) (drop 2 fields) >>= (λ said. Ok (pass_with dt said))) e h in
     let b = both (changes_said cfg 3 (nothing_said cfg) (drop 2 fields)) (λ said. Ok (pass_with a.first said)) e a.rest in

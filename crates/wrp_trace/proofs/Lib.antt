@@ -18,3 +18,6 @@ pub mod PassReadsBack
 pub mod UpReadsBack
 pub mod EventsReadBack
 pub mod EventsFit
+pub mod PlaceLemmas
+pub mod PlaceNames
+pub mod PlaceParts

@@ -140,6 +140,11 @@ abbrev pub told : Result Event TraceFault → Result Event TraceFault
 told (Ok e) = Ok (plain e)
 told (Err fault) = Err fault
 
+-- the same of a reading into a place, which has this event then
+abbrev pub told_in : Result (Unit {0}) TraceFault → Event → Result Event TraceFault
+told_in (Ok done) e = Ok (plain e)
+told_in (Err fault) e = Err fault
+
 -- an event that a line says can come to the network
 abbrev pub EventsCanCome : Type 0
 EventsCanCome = (cfg : NetCfg) (line : List ℕ) (e : Event) → event_read cfg line ≡ Ok e → IsEventOf cfg e

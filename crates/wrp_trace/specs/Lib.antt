@@ -9,6 +9,7 @@ pub mod Fields
 pub mod InputAt
 pub mod Inputs
 pub mod Kinds
+pub mod Places
 pub mod Printing
 pub mod Reading
 pub mod LineSetting

@@ -1,18 +1,20 @@
 //! Event lines: what happens in a world, read from a line.
-ghost use Rattle.std.specs.Prelude.{◌≡◌, ◌≤◌, IfOk, true, length};
+ghost use Rattle.std.specs.Prelude.{◌≡◌, ◌≤◌, IfOk, OnOk, true, length};
 ghost use Rattle.csv.specs.Records.{fields_of};
 ghost use Rattle.wrp_base.specs.Network.{IsFromTo};
 ghost use Rattle.wrp_trace.specs.Changes.{said_of};
 ghost use Rattle.wrp_trace.specs.EventAt.{IsSaid};
 ghost use Rattle.wrp_trace.specs.EventKinds.{may_have};
-ghost use Rattle.wrp_trace.specs.Events.{pass_with, pass_of, tick_of, sample_of, depart_of, arrive_of, deliver_of, noise_of, down_of, up_of, cut_of, join_of, fields_of_kind, event_of, event_read, told};
+ghost use Rattle.wrp_trace.specs.Events.{pass_with, pass_of, tick_of, sample_of, depart_of, arrive_of, deliver_of, noise_of, down_of, up_of, cut_of, join_of, fields_of_kind, event_of, event_read, told, told_in};
 ghost use Rattle.wrp_fields.specs.Reading.{IsReading};
 ghost use Rattle.wrp_course.specs.EventAt.{IsEventOf};
 
 mod changes;
 mod fields;
 mod kinds;
+mod marks;
 mod names;
+mod place;
 mod printing;
 mod swaps;
 
@@ -22,6 +24,7 @@ use csv::ByteRecord;
 use fields::{delay_at, offset_at, span_at};
 pub use kinds::EventKind;
 use kinds::kind_of;
+pub use place::{EventPlace, read_event_into};
 pub use printing::event_line;
 use std::alloc::Global;
 use swaps::swaps_at;
@@ -67,18 +70,50 @@ fn read_kind(kind: EventKind, row: &ByteRecord, cfg: &NetCfg) -> Result<Event, T
     ensures value { told result ≡ fields_of_kind cfg.now kind (fields_of row.now) }
     ensures event { IfOk result (IsEventOf cfg.now) }
 {
+    let mut event = Event::Tick { node: 0 };
+    match kind_into(kind, row, cfg, &mut event) {
+        Ok(()) => Ok(event),
+        Err(fault) => Err(fault),
+    }
+}
+
+// Puts what the fields of a line of a kind say into `event`.
+fn kind_into(
+    kind: EventKind,
+    row: &ByteRecord,
+    cfg: &NetCfg,
+    event: &mut Event,
+) -> Result<(), TraceFault>
+    requires { may_have kind (length (fields_of row.now)) ≡ true }
+    ensures value { told_in result event.new ≡ fields_of_kind cfg.now kind (fields_of row.now) }
+    ensures event { OnOk result (IsEventOf cfg.now event.new) }
+{
     match kind {
-        EventKind::Pass => pass(row, cfg),
-        EventKind::Tick => tick(row, cfg),
-        EventKind::Sample => sample(row, cfg),
-        EventKind::Depart => depart(row, cfg),
-        EventKind::Arrive => arrive(row, cfg),
-        EventKind::Deliver => deliver(row, cfg),
-        EventKind::Noise => noise(row, cfg),
-        EventKind::Down => down(row, cfg),
-        EventKind::Up => up(row, cfg),
-        EventKind::Cut => cut(row, cfg),
-        EventKind::Join => join(row, cfg),
+        EventKind::Pass => pass_anew(row, cfg, event),
+        EventKind::Tick => tick(row, cfg, event),
+        EventKind::Sample => sample(row, cfg, event),
+        EventKind::Depart => depart(row, cfg, event),
+        EventKind::Arrive => arrive(row, cfg, event),
+        EventKind::Deliver => deliver(row, cfg, event),
+        EventKind::Noise => noise(row, cfg, event),
+        EventKind::Down => down(row, cfg, event),
+        EventKind::Up => up(row, cfg, event),
+        EventKind::Cut => cut(row, cfg, event),
+        EventKind::Join => join(row, cfg, event),
+    }
+}
+
+// A `pass` in place of another event.
+fn pass_anew(row: &ByteRecord, cfg: &NetCfg, event: &mut Event) -> Result<(), TraceFault>
+    ensures value { told_in result event.new ≡ pass_of cfg.now (fields_of row.now) }
+    ensures event { OnOk result (IsEventOf cfg.now event.new) }
+{
+    match pass(row, cfg) {
+        Ok(pass) => {
+            *event = pass;
+            Ok(())
+        }
+        Err(fault) => Err(fault),
     }
 }
 
@@ -105,111 +140,121 @@ fn passing(dt: i64, said: &Said, cfg: &NetCfg) -> Event
 }
 
 // `tick,NODE`.
-fn tick(row: &ByteRecord, cfg: &NetCfg) -> Result<Event, TraceFault>
-    ensures value { told result ≡ tick_of cfg.now (fields_of row.now) }
-    ensures event { IfOk result (IsEventOf cfg.now) }
+fn tick(row: &ByteRecord, cfg: &NetCfg, event: &mut Event) -> Result<(), TraceFault>
+    ensures value { told_in result event.new ≡ tick_of cfg.now (fields_of row.now) }
+    ensures event { OnOk result (IsEventOf cfg.now event.new) }
 {
     let node = node_at(row, 2, cfg)?;
-    Ok(Event::Tick { node })
+    *event = Event::Tick { node };
+    Ok(())
 }
 
 // `sample,NODE,BASE,BITS`.
-fn sample(row: &ByteRecord, cfg: &NetCfg) -> Result<Event, TraceFault>
-    ensures value { told result ≡ sample_of cfg.now (fields_of row.now) }
-    ensures event { IfOk result (IsEventOf cfg.now) }
+fn sample(row: &ByteRecord, cfg: &NetCfg, event: &mut Event) -> Result<(), TraceFault>
+    ensures value { told_in result event.new ≡ sample_of cfg.now (fields_of row.now) }
+    ensures event { OnOk result (IsEventOf cfg.now event.new) }
 {
     let node = node_at(row, 2, cfg)?;
     let base = step_at(row, 3)?;
     let bits = bits_at(row, 4)?;
-    Ok(Event::Sample { node, base, bits })
+    *event = Event::Sample { node, base, bits };
+    Ok(())
 }
 
 // `depart,NODE,PORT,STAMP`.
-fn depart(row: &ByteRecord, cfg: &NetCfg) -> Result<Event, TraceFault>
-    ensures value { told result ≡ depart_of cfg.now (fields_of row.now) }
-    ensures event { IfOk result (IsEventOf cfg.now) }
+fn depart(row: &ByteRecord, cfg: &NetCfg, event: &mut Event) -> Result<(), TraceFault>
+    ensures value { told_in result event.new ≡ depart_of cfg.now (fields_of row.now) }
+    ensures event { OnOk result (IsEventOf cfg.now event.new) }
 {
     let node = node_at(row, 2, cfg)?;
     let port = short_at(row, 3)?;
     let stamp = time_at(row, 4)?;
-    Ok(Event::Depart { node, port, stamp })
+    *event = Event::Depart { node, port, stamp };
+    Ok(())
 }
 
 // `arrive,K,RISING,FALLING,TAG`.
-fn arrive(row: &ByteRecord, cfg: &NetCfg) -> Result<Event, TraceFault>
-    ensures value { told result ≡ arrive_of (fields_of row.now) }
-    ensures event { IfOk result (IsEventOf cfg.now) }
+fn arrive(row: &ByteRecord, cfg: &NetCfg, event: &mut Event) -> Result<(), TraceFault>
+    ensures value { told_in result event.new ≡ arrive_of (fields_of row.now) }
+    ensures event { OnOk result (IsEventOf cfg.now event.new) }
 {
     let _any = cfg;
     let frame = long_at(row, 2)?;
     let raw = raw_from(row, 3)?;
-    Ok(Event::Arrive { frame, raw })
+    *event = Event::Arrive { frame, raw };
+    Ok(())
 }
 
 // `deliver,K`.
-fn deliver(row: &ByteRecord, cfg: &NetCfg) -> Result<Event, TraceFault>
-    ensures value { told result ≡ deliver_of (fields_of row.now) }
-    ensures event { IfOk result (IsEventOf cfg.now) }
+fn deliver(row: &ByteRecord, cfg: &NetCfg, event: &mut Event) -> Result<(), TraceFault>
+    ensures value { told_in result event.new ≡ deliver_of (fields_of row.now) }
+    ensures event { OnOk result (IsEventOf cfg.now event.new) }
 {
     let _any = cfg;
     let frame = long_at(row, 2)?;
-    Ok(Event::Deliver { frame })
+    *event = Event::Deliver { frame };
+    Ok(())
 }
 
 // `noise,NODE,PORT,HEX,RISING,FALLING,TAG`.
-fn noise(row: &ByteRecord, cfg: &NetCfg) -> Result<Event, TraceFault>
-    ensures value { told result ≡ noise_of cfg.now (fields_of row.now) }
-    ensures event { IfOk result (IsEventOf cfg.now) }
+fn noise(row: &ByteRecord, cfg: &NetCfg, event: &mut Event) -> Result<(), TraceFault>
+    ensures value { told_in result event.new ≡ noise_of cfg.now (fields_of row.now) }
+    ensures event { OnOk result (IsEventOf cfg.now event.new) }
 {
     let node = node_at(row, 2, cfg)?;
     let port = short_at(row, 3)?;
     let bytes = octets_at(row, 4)?;
     let raw = raw_from(row, 5)?;
-    Ok(Event::Noise {
+    *event = Event::Noise {
         node,
         port,
         bytes,
         raw,
-    })
+    };
+    Ok(())
 }
 
 // `down,NODE`.
-fn down(row: &ByteRecord, cfg: &NetCfg) -> Result<Event, TraceFault>
-    ensures value { told result ≡ down_of cfg.now (fields_of row.now) }
-    ensures event { IfOk result (IsEventOf cfg.now) }
+fn down(row: &ByteRecord, cfg: &NetCfg, event: &mut Event) -> Result<(), TraceFault>
+    ensures value { told_in result event.new ≡ down_of cfg.now (fields_of row.now) }
+    ensures event { OnOk result (IsEventOf cfg.now event.new) }
 {
     let node = node_at(row, 2, cfg)?;
-    Ok(Event::Down { node })
+    *event = Event::Down { node };
+    Ok(())
 }
 
 // `up,NODE,OFF[,PORT:MODULE:TX:RX]`.
-fn up(row: &ByteRecord, cfg: &NetCfg) -> Result<Event, TraceFault>
+fn up(row: &ByteRecord, cfg: &NetCfg, event: &mut Event) -> Result<(), TraceFault>
     requires { length (fields_of row.now) ≤ 21 }
-    ensures value { told result ≡ up_of cfg.now (fields_of row.now) }
-    ensures event { IfOk result (IsEventOf cfg.now) }
+    ensures value { told_in result event.new ≡ up_of cfg.now (fields_of row.now) }
+    ensures event { OnOk result (IsEventOf cfg.now event.new) }
 {
     let node = node_at(row, 2, cfg)?;
     let off = offset_at(row, 3)?;
     let swaps = swaps_at(row)?;
-    Ok(Event::Up { node, off, swaps })
+    *event = Event::Up { node, off, swaps };
+    Ok(())
 }
 
 // `cut,LINK`.
-fn cut(row: &ByteRecord, cfg: &NetCfg) -> Result<Event, TraceFault>
-    ensures value { told result ≡ cut_of cfg.now (fields_of row.now) }
-    ensures event { IfOk result (IsEventOf cfg.now) }
+fn cut(row: &ByteRecord, cfg: &NetCfg, event: &mut Event) -> Result<(), TraceFault>
+    ensures value { told_in result event.new ≡ cut_of cfg.now (fields_of row.now) }
+    ensures event { OnOk result (IsEventOf cfg.now event.new) }
 {
     let link = link_at(row, 2, cfg)?;
-    Ok(Event::Cut { link })
+    *event = Event::Cut { link };
+    Ok(())
 }
 
 // `join,LINK,MS,SM`.
-fn join(row: &ByteRecord, cfg: &NetCfg) -> Result<Event, TraceFault>
-    ensures value { told result ≡ join_of cfg.now (fields_of row.now) }
-    ensures event { IfOk result (IsEventOf cfg.now) }
+fn join(row: &ByteRecord, cfg: &NetCfg, event: &mut Event) -> Result<(), TraceFault>
+    ensures value { told_in result event.new ≡ join_of cfg.now (fields_of row.now) }
+    ensures event { OnOk result (IsEventOf cfg.now event.new) }
 {
     let link = link_at(row, 2, cfg)?;
     let ms = delay_at(row, 3)?;
     let sm = delay_at(row, 4)?;
-    Ok(Event::Join { link, ms, sm })
+    *event = Event::Join { link, ms, sm };
+    Ok(())
 }

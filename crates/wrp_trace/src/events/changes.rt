@@ -25,8 +25,8 @@ pub struct Said {
     moves: ArrayVec<Option<(i64, i64)>, 63>,
 }
 
-// A change, in tau: within 2^63 - 1.
-fn change_in(text: &[u8]) -> Option<i64>
+/// A change, in tau: within 2^63 - 1.
+pub fn change_in(text: &[u8]) -> Option<i64>
     ensures value { result ≡ change_in text.now }
     ensures range { IfSome result IsChange }
 {
@@ -36,8 +36,8 @@ fn change_in(text: &[u8]) -> Option<i64>
     }
 }
 
-// MS/SM.
-fn move_in(text: &[u8]) -> Option<(i64, i64)>
+/// MS/SM.
+pub fn move_in(text: &[u8]) -> Option<(i64, i64)>
     ensures value { result ≡ move_in text.now }
     ensures range { IfSome result IsMove }
 {
@@ -227,8 +227,8 @@ impl Said {
     }
 }
 
-// The place of a field, which is one more than the number of those before it.
-fn place_of(at: usize) -> u32
+/// The place of a field, which is one more than the number of those before it.
+pub fn place_of(at: usize) -> u32
     requires { at < 1_000 }
     ensures { result ≡ at + 1 }
 {

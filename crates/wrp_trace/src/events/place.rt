@@ -1,0 +1,154 @@
+//! A place that event lines are read into, one after another.
+ghost use Rattle.std.specs.Prelude.{◌≡◌, OnOk, true, false, length, map};
+ghost use Rattle.csv.specs.Records.{fields_of};
+ghost use Rattle.wrp_config.specs.Accepted.{HasNames};
+ghost use Rattle.wrp_course.specs.EventAt.{IsEventOf};
+ghost use Rattle.wrp_trace.specs.EventKinds.{may_have};
+ghost use Rattle.wrp_trace.specs.Events.{event_of, fields_of_kind, pass_of, told_in};
+ghost use Rattle.wrp_trace.specs.Places.{AsPass, IsPassing, IsPlaceOf, drifts_in, event_in, moves_in, span_in};
+
+use super::fields::span_at;
+use super::kinds::{EventKind, kind_of};
+use super::marks::{Marks, changes_into, still_clocks, still_fibres};
+use super::{KIND, kind_into};
+use csv::ByteRecord;
+use wrp_base::{NetCfg, TraceFault};
+use wrp_config::Network;
+use wrp_course::Event;
+use wrp_fields::field;
+
+/// A place for the events of a network's lines, which serves line after line: an event has room for the changes
+/// of 64 nodes and 63 links. Of a `pass` only what it names is written, and what the one before it named.
+#[derive(Debug, Drop)]
+pub struct EventPlace {
+    // The last `pass`.
+    passing: Event,
+    // The last event that is none.
+    other: Event,
+    // Which of the two was read last.
+    is_pass: bool,
+    // What the last `pass` names.
+    marks: Marks,
+}
+
+// Time passes, and nothing moves.
+fn still(cfg: &NetCfg, marks: &Marks) -> Event
+    requires nodes { marks.now.nodes.items ≡ map (λ node. false) cfg.now.nodes.items }
+    requires links { marks.now.links.items ≡ map (λ link. false) cfg.now.links.items }
+    ensures { IsPassing cfg.now marks.now result }
+{
+    let _none = marks;
+    let drifts = still_clocks(&cfg.nodes);
+    let fibres = still_fibres(&cfg.links);
+    Event::Pass {
+        dt: 1,
+        drifts,
+        fibres,
+    }
+}
+
+impl EventPlace {
+    /// A place for the events of a network, before the first is read.
+    pub fn new(cfg: &NetCfg) -> EventPlace
+        ensures { IsPlaceOf cfg.now result }
+    {
+        let marks = Marks::new(cfg);
+        let passing = still(cfg, &marks);
+        EventPlace {
+            passing,
+            other: Event::Tick { node: 0 },
+            is_pass: false,
+            marks,
+        }
+    }
+
+    /// The event that was read last.
+    pub fn event(&self) -> &Event
+        ensures { result.now ≡ event_in self.now }
+    {
+        if self.is_pass {
+            &self.passing
+        } else {
+            &self.other
+        }
+    }
+}
+
+// So much time passes.
+#[tactic(auto, using(crate::proofs::PlaceParts::no_pass_there))]
+fn write_span(event: &mut Event, span: i64)
+    requires pass { AsPass event.old }
+    ensures pass { AsPass event.new }
+    ensures span { span_in event.new ≡ span }
+    ensures drifts { drifts_in event.new ≡ drifts_in event.old }
+    ensures moves { moves_in event.new ≡ moves_in event.old }
+{
+    match event {
+        Event::Pass { dt, .. } => *dt = span,
+        _ => {}
+    }
+}
+
+// `pass,DT[,NODE=DRIFT][,LINK=MS/SM]`, into a `pass` whose marks are these.
+fn pass_into(
+    row: &ByteRecord,
+    cfg: &NetCfg,
+    event: &mut Event,
+    marks: &mut Marks,
+) -> Result<(), TraceFault>
+    requires names { HasNames cfg.now }
+    requires passing { IsPassing cfg.now marks.old event.old }
+    ensures value { told_in result event.new ≡ pass_of cfg.now (fields_of row.now) }
+    ensures event { OnOk result (IsEventOf cfg.now event.new) }
+    ensures passing { IsPassing cfg.now marks.new event.new }
+{
+    let span = span_at(row, 2)?;
+    write_span(event, span);
+    changes_into(row, cfg, marks, event)
+}
+
+// Puts what the fields of a line of a kind say into a place.
+fn read_kind_into(
+    kind: EventKind,
+    row: &ByteRecord,
+    cfg: &NetCfg,
+    place: &mut EventPlace,
+) -> Result<(), TraceFault>
+    requires count { may_have kind (length (fields_of row.now)) ≡ true }
+    requires names { HasNames cfg.now }
+    requires place { IsPlaceOf cfg.now place.old }
+    ensures value { told_in result (event_in place.new) ≡ fields_of_kind cfg.now kind (fields_of row.now) }
+    ensures event { OnOk result (IsEventOf cfg.now (event_in place.new)) }
+    ensures place { IsPlaceOf cfg.now place.new }
+{
+    match kind {
+        EventKind::Pass => {
+            place.is_pass = true;
+            pass_into(row, cfg, &mut place.passing, &mut place.marks)
+        }
+        _ => {
+            place.is_pass = false;
+            kind_into(kind, row, cfg, &mut place.other)
+        }
+    }
+}
+
+/// Puts what the fields of a line say into a place, of whose event nothing is said where they say none. The
+/// network is one whose names are all different, as those of an accepted network are.
+pub fn read_event_into(
+    row: &ByteRecord,
+    net: &Network,
+    place: &mut EventPlace,
+) -> Result<(), TraceFault>
+    requires names { HasNames net.now.cfg }
+    requires place { IsPlaceOf net.now.cfg place.old }
+    ensures value { told_in result (event_in place.new) ≡ event_of net.now.cfg (fields_of row.now) }
+    ensures event { OnOk result (IsEventOf net.now.cfg (event_in place.new)) }
+    ensures place { IsPlaceOf net.now.cfg place.new }
+{
+    match kind_of(field(row, KIND)) {
+        Some(kind) if kind.may_have(row.len()) => read_kind_into(kind, row, &net.cfg, place),
+        Some(_) => Err(TraceFault::Fields),
+        None => Err(TraceFault::Kind),
+    }
+}
