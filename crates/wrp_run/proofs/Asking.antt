@@ -21,8 +21,7 @@ use Rattle.wrp_records.specs.Reader.{ReaderAt, piece_limit}
 use Rattle.wrp_records.specs.RecordsAnswer.{RecordsAnswer, StandsFirst, BreaksOff, IsRefused}
 use Rattle.wrp_records.specs.Refusals.{bad_network_line, too_large_line}
 use Rattle.wrp_records.specs.Stream.{CutHandled}
-use Rattle.wrp_run.specs.declared.command_line.Alone.{Alone}
-use Rattle.wrp_run.specs.declared.command_line.Alone.TheVariants.{Migrate, Inspect, L1Sync, Calibrate, Plain}
+use Rattle.wrp_run.specs.declared.alone.Alone.{Alone}
 use Rattle.wrp_run.specs.Alone.{IsAlone, MayAnswer, alone_meaning}
 use Rattle.wrp_run.specs.Answer.{Answer, AsksNone, IsCommand, IsNetworked, FirstAnswer, PartAnswer, CutTask}
 use Rattle.wrp_run.specs.Ends.{Run, AsksEvents, Called, Ends, EndsRefused, EndsRefusedAs, EndsUnlinked, TakesPiece, Wrote, begun_at}
@@ -30,6 +29,7 @@ use Rattle.wrp_run.specs.Input.{network_text, behind_separator, network_limit, I
 use Rattle.wrp_run.specs.Refusals.{usage_line}
 use Rattle.wrp_run.specs.Replays.{IsRefusedBy}
 use Rattle.wrp_run.specs.Tasks.{Task, Replay, Audit, Emit, Simulate, AsksFor, meaning_at}
+use Rattle.wrp_run.proofs.AloneTable.{facts_of}
 
 -- what is due for the records is due for the words and the input
 answer_of : (words : List (List ℕ)) (input : List ℕ) (task : Task) (status : Status) (octets : List ℕ) → AsksFor words (network_text input) task
@@ -444,65 +444,12 @@ whole_told P source given ended taken at_end told = go source.before source.now 
     go (Some input) None taken at_end = absurd taken
     go (Some input) (Some left) taken at_end = subst P (sym taken) (told left at_end)
 
--- what a command that stands alone may answer
-
-may_answer : (alone : Alone) (input : List ℕ) (status : Status) (text : List ℕ) → (alone_meaning alone).answers input [] status text → MayAnswer alone status
-may_answer Migrate input Done text at = tt
-may_answer Migrate input TooLarge text at = tt
-may_answer Migrate input BadNetwork text at = tt
-may_answer Migrate input _ text at = absurd at.1
-may_answer Inspect input Done text at = tt
-may_answer Inspect input TooLarge text at = tt
-may_answer Inspect input BadCapture text at = tt
-may_answer Inspect input _ text at = absurd at.1
-may_answer L1Sync input Done text at = tt
-may_answer L1Sync input TooLarge text at = tt
-may_answer L1Sync input BadTrace text at = tt
-may_answer L1Sync input Broken text at = tt
-may_answer L1Sync input BadCalib text at = absurd at.1.broken
-may_answer L1Sync input _ text at = absurd at.1
-may_answer Calibrate input Done text at = tt
-may_answer Calibrate input TooLarge text at = tt
-may_answer Calibrate input BadTrace text at = tt
-may_answer Calibrate input BadCalib text at = tt
-may_answer Calibrate input Broken text at = absurd at.1.refused
-may_answer Calibrate input _ text at = absurd at.1
-may_answer Plain input Done text at = tt
-may_answer Plain input TooLarge text at = tt
-may_answer Plain input BadTrace text at = tt
-may_answer Plain input Broken text at = tt
-may_answer Plain input BadCalib text at = absurd at.1.broken
-may_answer Plain input _ text at = absurd at.1
-
-never_linked : (alone : Alone) (input : List ℕ) (text : List ℕ) → (alone_meaning alone).unlinked input [] text → ⊥
-never_linked Migrate input text at = at
-never_linked Inspect input text at = at
-never_linked L1Sync input text at = at
-never_linked Calibrate input text at = at
-never_linked Plain input text at = at
-
--- so much is no answer of any
-not_usage : (alone : Alone) → MayAnswer alone Usage → ⊥
-not_usage Migrate may = may
-not_usage Inspect may = may
-not_usage L1Sync may = may
-not_usage Calibrate may = may
-not_usage Plain may = may
-
 -- what it answers is due for its word
 alone_answers : (words : List (List ℕ)) (alone : Alone) (input : List ℕ) (status : Status) (due : List ℕ) → IsAlone words alone → (alone_meaning alone).answers input [] status due → Answer words input [] status due
-alone_answers words alone input Usage due is has = absurd (not_usage alone (may_answer alone input Usage due has))
+alone_answers words alone input Usage due is has = absurd ((facts_of alone).no_usage input due has)
 alone_answers words alone input BadNetwork due is has = inr (alone, is, has)
 alone_answers words alone input TooLarge due is has = inr (inr (alone, is, has))
-alone_answers words alone input Done due is has = inr (alone, is, has)
-alone_answers words alone input BadTrace due is has = inr (alone, is, has)
-alone_answers words alone input Broken due is has = inr (alone, is, has)
-alone_answers words alone input ReadFault due is has = inr (alone, is, has)
-alone_answers words alone input WriteFault due is has = inr (alone, is, has)
-alone_answers words alone input LinkFault due is has = inr (alone, is, has)
-alone_answers words alone input OutOfMemory due is has = inr (alone, is, has)
-alone_answers words alone input BadCapture due is has = inr (alone, is, has)
-alone_answers words alone input BadCalib due is has = inr (alone, is, has)
+alone_answers words alone input status due is has = inr (alone, is, has)
 
 -- of the whole input
 told_alone : (words : List (List ℕ)) (alone : Alone) (source : Passage (List ℕ)) (given octets : List ℕ) (ended : Bool) (status : Status) → IsAlone words alone → Consumes source.before source.now given
@@ -549,7 +496,7 @@ alone_done M taken ended octets at more on = subst (λ (l : List ℕ). M.answers
 
 -- a command that stands alone may answer what is due
 may_alone : (alone : Alone) (given octets : List ℕ) (ended : Bool) (status : Status) → IsDue (alone_meaning alone) given ended [] status octets → MayAnswer alone status
-may_alone alone given octets ended status due = may_answer alone (given ++ []) status octets (due [] (λ e. refl))
+may_alone alone given octets ended status due = (facts_of alone).may (given ++ []) status octets (due [] (λ e. refl))
 
 ends_alone : (words : List (List ℕ)) (alone : Alone) (source sink : Passage (List ℕ)) (ended : Bool) (status : Status) → IsAlone words alone
     → Passes (alone_meaning alone) source sink [] false ended [] status → EndsUnlinked words source sink status
@@ -593,8 +540,8 @@ ends_alone words alone source sink ended WriteFault is at link same =
     (at.write.failed refl, at.octets, [], at.wrote, uncalled link same, part_alone words alone source at.given at.octets ended is at.taken at.at_end at.stands)
 ends_alone words alone source sink ended OutOfMemory is at link same =
     (at.octets, [], at.wrote, uncalled link same, first_alone words alone source at.given at.octets ended is at.taken at.at_end at.stands)
-ends_alone words alone source sink ended Usage is at link same = absurd (not_usage alone (may_alone alone at.given at.octets ended Usage at.stands))
-ends_alone words alone source sink ended LinkFault is at link same = absurd (never_linked alone at.given at.octets at.stands.1)
+ends_alone words alone source sink ended Usage is at link same = absurd ((facts_of alone).no_usage (at.given ++ []) at.octets (at.stands [] (λ e. refl)))
+ends_alone words alone source sink ended LinkFault is at link same = absurd ((facts_of alone).unlinked at.given at.octets at.stands.1)
 
 pub alone_ends : (words : List (List ℕ)) (alone : Alone) (source sink : Passage (List ℕ)) (status : Status) → IsAlone words alone → PassesAll (alone_meaning alone) source sink status
     → EndsUnlinked words source sink status

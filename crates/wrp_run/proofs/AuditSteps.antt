@@ -50,6 +50,7 @@ use Rattle.wrp_run.specs.AuditLaws.{OneAudit}
 use Rattle.wrp_run.specs.Audits.{Breaks}
 use Rattle.wrp_run.specs.AuditStands.{Broke, CanAudit, Happens, HasAudited, HasLawOf, TellsFault, Took, line_by, lines_by, setting_in, task_of}
 use Rattle.wrp_run.specs.AuditText.{all_counts, step_lines}
+use Rattle.wrp_run.specs.Bounds.{AreBounds}
 use Rattle.wrp_run.specs.DownLaw.{AnswersBy, law_at}
 use Rattle.wrp_run.specs.Refusals.{broken_line}
 use Rattle.wrp_records.specs.Refusals.{bad_trace_line}
@@ -309,15 +310,17 @@ step_text post s w world out node ticks off name bound lent text old stands is t
     let bound_is : bound ≡ pos (path_of s.cfg out.node) = bounded ∙ ap (λ (cfg : NetCfg). pos (path_of cfg out.node)) stands.plant.cfg in
     wrote ∙ (λ i. old ++ flat_map (λ o. output_line_of (name_is i) (ticks_are i) o (bound_is i) (Some (offs s w stands i))) (lends i))
 
--- What can take a line still can behind an event
+-- What can take an event still can behind one
 
-pub can_stay : {F : Type 0} {pre : F → ℤ → Type 0} {post : F → ℤ → ℤ → Type 0} (held now : AuditedNetwork F) → CanAudit pre post held → IsValid pre post now.world → now.world.plant.net ≡ held.world.plant.net → now.emit ≡ held.emit
+pub can_stay : {F : Type 0} {pre : F → ℤ → Type 0} {post : F → ℤ → ℤ → Type 0} (held now : AuditedNetwork F) → CanAudit pre post held → IsValid pre post now.world → now.world.plant.net ≡ held.world.plant.net → now.emit ≡ held.emit → now.bounds.items ≡ held.bounds.items
     → map (λ (node : NodeOf F). law_in node.control) now.world.nodes ≡ map (λ (node : NodeOf F). law_in node.control) held.world.nodes → CanAudit pre post now
-can_stay {F} {pre} {post} held now can valid net emit laws = record {
+can_stay {F} {pre} {post} held now can valid net emit bounds laws = record {
   valid = valid;
   laws = subst (λ (k : Network). HasLawOf post (setting_in k) now.world) (sym net) (laws_stay post (setting_in held.world.plant.net) held.world now.world laws can.laws);
   emit = subst (λ (o : Option ℕ). IfSome o (λ n. n < node_count now.world.plant.net.cfg)) (sym emit)
       (subst (λ (k : Network). IfSome held.emit (λ n. n < node_count k.cfg)) (sym net) can.emit);
+  bounds = subst (λ (items : List ℤ). AreBounds now.world.plant.net.cfg items) (sym bounds)
+      (subst (λ (k : Network). AreBounds k.cfg held.bounds.items) (sym net) can.bounds);
 }
 
 -- and an event more is counted, or none

@@ -1,6 +1,6 @@
 -- What a run wrote is what is due for its words, its input and its status, whichever command they are; where the sink failed, the
 -- first octets of what is due for another status.
-use Rattle.std.proofs.Common.{◌≡◌, ◌⊎◌, inl, inr, refl, sym, subst, ℕ, Option, None, Some, IfSome, List, [], ◌++◌}
+use Rattle.std.proofs.Common.{◌≡◌, ◌⊎◌, inl, inr, sym, subst, ℕ, Option, None, Some, IfSome, List, ◌++◌}
 use Rattle.std.specs.Io.KnownBytes.{Appends, Consumes}
 use Rattle.wrp_records.specs.declared.status.Status.{Status}
 use Rattle.wrp_records.specs.declared.status.Status.TheVariants.{Done, Usage, BadNetwork, BadTrace, Broken, ReadFault, WriteFault, LinkFault, TooLarge, OutOfMemory, BadCapture, BadCalib}
@@ -101,7 +101,3 @@ prints run input OutOfMemory Due so is h =
 prints run input LinkFault Due so is h = absurd h
 prints run input BadCapture Due so is h = absurd (alone_unnetworked run.words h.2.0 h.2.1 so.networked)
 prints run input BadCalib Due so is h = absurd (alone_unnetworked run.words h.1.0 h.1.1 so.networked)
-
--- where nothing was written
-pub prints_nothing : (words : List (List ℕ)) (held : Option (List ℕ)) (input : List ℕ) (Due : DueFor) → IsDueSo words Due → Appends held held [] → PrintsDue Due held held input OutOfMemory
-prints_nothing words held input Due so same = ([], same, so.none input OutOfMemory [] refl)

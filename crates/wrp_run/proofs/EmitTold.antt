@@ -1,5 +1,5 @@
 -- What an audit that was asked for the inputs of a node wrote are these, and what stands behind them, by its status.
-use Rattle.std.proofs.Common.{◌≡◌, ◌⊎◌, inl, inr, refl, sym, subst, ℕ, Option, None, Some, IfSome, List, [], ◌++◌, arith}
+use Rattle.std.proofs.Common.{◌≡◌, ◌⊎◌, inl, inr, refl, sym, subst, ℕ, Option, None, Some, IfSome, List, ◌++◌, arith}
 use Rattle.std.specs.Io.KnownBytes.{Appends}
 use Rattle.wrp_course.specs.Setting.{Setting}
 use Rattle.wrp_run.specs.declared.command_line.Form.TheVariants as forms
@@ -16,7 +16,7 @@ use Rattle.wrp_records.specs.Lines.{lines_of}
 use Rattle.wrp_records.specs.RecordsAnswer.{RecordsAnswer, StandsFirst}
 use Rattle.wrp_records.specs.Stream.{CutHandled}
 use Rattle.wrp_run.specs.Tasks.{Task, Replay, Audit, Emit, Simulate, AsksFor, IsEmission, meaning_at}
-use Rattle.wrp_run.proofs.DueTold.{IsDueSo, PrintsDue, prints, prints_nothing}
+use Rattle.wrp_run.proofs.DueTold.{IsDueSo, PrintsDue, prints}
 use Rattle.wrp_run.proofs.EventsTold.{AreTold, cut_due, emission_means, emission_writes, records_due, stand_first}
 use Rattle.wrp_run.proofs.WordLemmas.{emission_alone, no_option, simulation_alone}
 
@@ -95,8 +95,3 @@ emission_told parts run status name ends emits = go run.source.before refl
     go : (o : Option (List ℕ)) → run.source.before ≡ o → IfSome o (IsEmittedSo run.words run.sink.before run.sink.now status)
     go None is = tt
     go (Some input) is = headline_of parts run.words input run.sink.before run.sink.now status (prints run input status (IsInputDue run.words) (inputs_so run.words name emits) is ends)
-
--- where nothing was read and nothing written
-pub nothing_emitted : EventsCarryParts → (words : List (List ℕ)) (input held : Option (List ℕ)) (name : List ℕ) → IsEmission words name → Appends held held [] → IfSome input (IsEmittedSo words held held OutOfMemory)
-nothing_emitted parts words None held name emits same = tt
-nothing_emitted parts words (Some i) held name emits same = headline_of parts words i held held OutOfMemory (prints_nothing words held i (IsInputDue words) (inputs_so words name emits) same)

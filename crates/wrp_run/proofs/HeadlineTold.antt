@@ -1,5 +1,5 @@
 -- What an audit wrote are the lines of the nodes' steps, and what stands behind them, by its status.
-use Rattle.std.proofs.Common.{◌≡◌, ◌⊎◌, inl, inr, refl, sym, subst, ℕ, Option, None, Some, IfSome, List, [], ◌++◌}
+use Rattle.std.proofs.Common.{◌≡◌, ◌⊎◌, inl, inr, refl, sym, subst, ℕ, Option, None, Some, IfSome, List, ◌++◌}
 use Rattle.std.specs.Io.KnownBytes.{Appends}
 use Rattle.wrp_course.specs.Setting.{Setting}
 use Rattle.wrp_records.specs.declared.status.Status.{Status}
@@ -15,7 +15,7 @@ use Rattle.wrp_records.specs.Lines.{lines_of}
 use Rattle.wrp_records.specs.RecordsAnswer.{RecordsAnswer, StandsFirst}
 use Rattle.wrp_records.specs.Stream.{CutHandled}
 use Rattle.wrp_run.specs.Tasks.{Task, Replay, Audit, Emit, Simulate, AsksFor, IsAuditing, meaning_at}
-use Rattle.wrp_run.proofs.DueTold.{IsDueSo, PrintsDue, prints, prints_nothing}
+use Rattle.wrp_run.proofs.DueTold.{IsDueSo, PrintsDue, prints}
 use Rattle.wrp_run.proofs.EventsTold.{AreTold, audit_means, audit_writes, cut_due, records_due, stand_first}
 use Rattle.wrp_run.proofs.WordLemmas.{audit_alone, no_option, no_simulation}
 
@@ -94,8 +94,3 @@ headline_told parts one run status ends audits = go run.source.before refl
     go : (o : Option (List ℕ)) → run.source.before ≡ o → IfSome o (IsTold run.words run.sink.before run.sink.now status)
     go None is = tt
     go (Some input) is = headline_of parts run.words input run.sink.before run.sink.now status (prints run input status (IsDue run.words) (audit_so one run.words audits) is ends)
-
--- where nothing was read and nothing written
-pub nothing_told : EventsCarryParts → OneAudit → (words : List (List ℕ)) (input held : Option (List ℕ)) → IsAuditing words → Appends held held [] → IfSome input (IsTold words held held OutOfMemory)
-nothing_told parts one words None held audits same = tt
-nothing_told parts one words (Some i) held audits same = headline_of parts words i held held OutOfMemory (prints_nothing words held i (IsDue words) (audit_so one words audits) same)

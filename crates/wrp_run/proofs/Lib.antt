@@ -1,6 +1,10 @@
+pub mod AloneCommand
+pub mod AloneTable
+pub mod AloneTold
 pub mod Asking
 pub mod AskingWork
 pub mod AuditCounts
+pub mod AuditPlaces
 pub mod AuditSteps
 pub mod BareAudit
 pub mod BareEvents
@@ -8,6 +12,7 @@ pub mod BareRuns
 pub mod BareScene
 pub mod BareSim
 pub mod BareSetting
+pub mod BoundLemmas
 pub mod CountLemmas
 pub mod DueTold
 pub mod EmitTold
@@ -50,4 +55,3 @@ pub mod TablesNear
 pub mod TrackTold
 pub mod TracksHold
 pub mod WordLemmas
-pub mod AloneTold

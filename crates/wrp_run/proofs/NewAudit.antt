@@ -18,6 +18,7 @@ use Rattle.wrp_course.specs.WorldAt.{new_world}
 use Rattle.wrp_trace.specs.LineSetting.{line_setting_in}
 use Rattle.wrp_run.specs.declared.audit.AuditedNetwork.{AuditedNetwork}
 use Rattle.wrp_run.specs.AuditStands.{CanAudit, HasAudited, HasLawOf, setting_in}
+use Rattle.wrp_run.specs.Bounds.{AreBounds}
 use Rattle.wrp_run.specs.DownLaw.{AnswersBy, greatest_over, least_over}
 use Rattle.wrp_run.specs.DownLaw as down
 use Rattle.wrp_run.specs.LawsFit.{LawsFit}
@@ -76,12 +77,14 @@ laws_are {F} {post = post} net laws world fit has counted n node is =
 -- Before the first record
 
 pub new_can : {F : Type 0} {pre : F → ℤ → Type 0} {post : F → ℤ → ℤ → Type 0} (net : Network) (laws : List (Option (LawOf F))) (held : AuditedNetwork F) → LawsFit pre post net laws → IsValid pre post held.world → HasLaws laws held.world
-    → held.world.plant.net ≡ net → IfSome held.emit (λ n. n < node_count net.cfg) → CanAudit pre post held
-new_can {pre = pre} {post = post} net laws held fit valid has is emit = record {
+    → held.world.plant.net ≡ net → IfSome held.emit (λ n. n < node_count net.cfg) → AreBounds net.cfg held.bounds.items
+    → CanAudit pre post held
+new_can {pre = pre} {post = post} net laws held fit valid has is emit bounds = record {
   valid = valid;
   laws = subst (λ (k : Network). HasLawOf post (setting_in k) held.world) (sym is)
       (laws_are {pre = pre} {post = post} net laws held.world fit has (valid.node_count ∙ ap (λ (k : Network). node_count k.cfg) is));
   emit = subst (λ (k : Network). IfSome held.emit (λ n. n < node_count k.cfg)) (sym is) emit;
+  bounds = subst (λ (k : Network). AreBounds k.cfg held.bounds.items) (sym is) bounds;
 }
 
 pub new_has : {F : Type 0} {pre : F → ℤ → Type 0} {post : F → ℤ → ℤ → Type 0} (net : Network) (laws : List (Option (LawOf F))) (held : AuditedNetwork F) → LawsFit pre post net laws → IsTree net.cfg

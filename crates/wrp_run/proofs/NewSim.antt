@@ -1,24 +1,18 @@
 -- A network that is simulated: before its first event, and behind each that it took.
-use Rattle.std.proofs.Common.{◌≡◌, ◌∙◌, ap, sym, subst, ℕ, ℤ, List, Option, map}
+use Rattle.std.proofs.Common.{◌≡◌, ◌∙◌, ap, sym, subst, ℤ, List, Option, map}
 use Rattle.wrp_base.specs.Network.{IsTree, node_count}
 use Rattle.wrp_config.specs.declared.network.Network.{Network}
 use Rattle.wrp_law.specs.Law.{LawOf}
 use Rattle.wrp_node.specs.Control.{law_in}
 use Rattle.wrp_node.specs.StandsFor.{NodeOf}
-use Rattle.wrp_course.specs.Checks.{Check, breach_of}
-use Rattle.wrp_course.specs.declared.event.Event.{Event}
-use Rattle.wrp_world.specs.declared.outcome.Refused.TheVariants.{Broken}
 use Rattle.wrp_world.specs.HasLaws.{HasLaws}
-use Rattle.wrp_course.specs.Laws.{AcceptedIsUnbroken}
 use Rattle.wrp_world.specs.New.{setting_of}
 use Rattle.wrp_world.specs.StandsFor.{IsValid, StandsFor, WorldOf}
-use Rattle.wrp_world.specs.Step.{IsRefusal}
 use Rattle.wrp_course.specs.WorldAt.{new_world}
-use Rattle.std.specs.Prelude.{option_map}
 use Rattle.wrp_run.specs.declared.simulation.SimulatedNetwork.{SimulatedNetwork}
 use Rattle.wrp_run.specs.AuditStands.{HasLawOf, setting_in}
 use Rattle.wrp_run.specs.LawsFit.{LawsFit}
-use Rattle.wrp_run.specs.SimStands.{AreBounds, CanHappen, CanRun}
+use Rattle.wrp_run.specs.SimStands.{AreBounds, CanRun}
 use Rattle.wrp_run.proofs.AuditSteps.{laws_stay}
 use Rattle.wrp_run.proofs.NewAudit.{laws_are, setting_is}
 
@@ -45,11 +39,3 @@ run_stays {F} {pre} {post} held now can valid net bounds laws = record {
   bounds = subst (λ (items : List ℤ). AreBounds now.world.plant.net.cfg items) (sym bounds)
       (subst (λ (k : Network). AreBounds k.cfg held.bounds.items) (sym net) can.bounds);
 }
-
--- an event that keeps all premises breaks none
-pub none_broken : {F : Type 0} {post : F → ℤ → ℤ → Type 0} → AcceptedIsUnbroken → (world : WorldOf F) (e : Event) (premise : ℕ) (shown bound : ℤ) → CanHappen post world e → IsRefusal post e world (Broken premise shown bound) → ⊥
-none_broken unbroken world e premise shown bound can refusal =
-    let kept = (unbroken can.setting can.state refusal.0 e).0 (can.accepted refusal.0 refusal.1) in
-    let told = refusal.2 can.setting can.state can.stands in
-    let both = sym (ap (λ (o : Option Check). option_map breach_of o) kept) ∙ told in
-    absurd (cc)

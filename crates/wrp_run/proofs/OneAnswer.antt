@@ -15,17 +15,8 @@ use Rattle.wrp_run.specs.declared.command_line.Form.TheVariants as forms
 use Rattle.wrp_records.specs.declared.status.Status.{Status}
 use Rattle.wrp_records.specs.declared.status.Status.TheVariants.{Done, Usage, BadNetwork, BadTrace, Broken, ReadFault, WriteFault, LinkFault, TooLarge, OutOfMemory, BadCapture, BadCalib}
 use Rattle.wrp_io.specs.declared.link.LinkCall.{LinkCall}
-use Rattle.wrp_migrate.proofs.Unique.{one_migration}
-use Rattle.wrp_pcap.proofs.OneInspection.{one_answer as one_inspection}
-use Rattle.wrp_l1sync.proofs.LineExact.{exact as exact_synchronisation}
-use Rattle.wrp_l1sync.specs.LineRecords.{meaning as synchronisation}
-use Rattle.wrp_calib.proofs.LinesExact.{exact as exact_calibration}
-use Rattle.wrp_calib.specs.LinesMeaning.{calibration}
-use Rattle.wrp_plain.proofs.LinesExact.{exact as exact_plain}
-use Rattle.wrp_plain.specs.LineCourse.{plain_meaning}
 use Rattle.wrp_records.specs.Passages.{Failed}
-use Rattle.wrp_run.specs.declared.command_line.Alone.{Alone}
-use Rattle.wrp_run.specs.declared.command_line.Alone.TheVariants.{Migrate, Inspect, L1Sync, Calibrate, Plain}
+use Rattle.wrp_run.specs.declared.alone.Alone.{Alone}
 use Rattle.wrp_run.specs.Alone.{alone_meaning}
 use Rattle.wrp_run.specs.Answer.{Answer, AloneAnswer, AsksNone, IsCommand, IsNetworked, RecordsDue, TaskAnswer}
 use Rattle.wrp_run.specs.Audited.{IsSettingOf, setting_at}
@@ -41,6 +32,7 @@ use Rattle.wrp_run.specs.Refusals.{usage_line}
 use Rattle.wrp_records.specs.Refusals.{bad_network_line, too_large_line}
 use Rattle.wrp_run.specs.Replays.{IsAccepted, IsRefusedBy, meaning_of}
 use Rattle.wrp_run.specs.Simulates.{simulation_of}
+use Rattle.wrp_run.proofs.AloneTable.{facts_of}
 use Rattle.wrp_run.proofs.Asking.{networked_of}
 use Rattle.wrp_run.proofs.BareAudit.{bare_is, bare_setting}
 use Rattle.wrp_run.proofs.BareRuns.{bare_answer, bare_emission}
@@ -157,15 +149,7 @@ cases_of : (words : List (List ℕ)) (input : List ℕ) (calls : List LinkCall) 
 cases_of words input calls Usage o p = inl (elim p.0 [ inl none ↦ inl (refl, none, p.1) | inr none ↦ inr (inr (inr (inl (refl, none, p.1)))) ])
 cases_of words input calls BadNetwork o p = elim p [ inl bad ↦ inl (inr (inr (inl (refl, bad.0, bad.1, bad.2)))) | inr alone ↦ inr alone ]
 cases_of words input calls TooLarge o p = elim p [ inl long ↦ inl (inr (inl (refl, long.0, long.1, long.2))) | inr due ↦ due_cases words input calls TooLarge o due ]
-cases_of words input calls Done o p = due_cases words input calls Done o p
-cases_of words input calls BadTrace o p = due_cases words input calls BadTrace o p
-cases_of words input calls Broken o p = due_cases words input calls Broken o p
-cases_of words input calls ReadFault o p = due_cases words input calls ReadFault o p
-cases_of words input calls WriteFault o p = due_cases words input calls WriteFault o p
-cases_of words input calls LinkFault o p = due_cases words input calls LinkFault o p
-cases_of words input calls OutOfMemory o p = due_cases words input calls OutOfMemory o p
-cases_of words input calls BadCapture o p = due_cases words input calls BadCapture o p
-cases_of words input calls BadCalib o p = due_cases words input calls BadCalib o p
+cases_of words input calls s o p = due_cases words input calls s o p
 
 -- the words of each case but the first are a command
 is_networked : (words : List (List ℕ)) (input : List ℕ) (calls : List LinkCall) (s : Status) (o : List ℕ) → TaskAnswer words input calls s o → IsNetworked words
@@ -268,14 +252,7 @@ one_of_cases runs nodes one last words input calls s t o u (inr (inr (inr (inr p
 -- of a command that stands alone
 one_alone_answer : (words : List (List ℕ)) (input : List ℕ) (calls : List LinkCall) (s t : Status) (o u : List ℕ) → AloneAnswer words input calls s o → AloneAnswer words input calls t u → AreOne s t o u
 one_alone_answer words input calls s t o u p q =
-    go p.0 (subst (λ (a : Alone). (alone_meaning a).answers input calls t u) (one_alone words q.0 p.0 q.1 p.1) q.2) p.2
-  where
-    go : (a : Alone) → (alone_meaning a).answers input calls t u → (alone_meaning a).answers input calls s o → AreOne s t o u
-    go Migrate q p = one_migration input calls s t o u p q
-    go Inspect q p = one_inspection input calls s t o u p q
-    go L1Sync q p = one_records_answer synchronisation exact_synchronisation (lines_of input) s t o u p.1 q.1
-    go Calibrate q p = one_records_answer calibration exact_calibration (lines_of input) s t o u p.1 q.1
-    go Plain q p = one_records_answer plain_meaning exact_plain (lines_of input) s t o u p.1 q.1
+    (facts_of p.0).one input calls s t o u p.2 (subst (λ (a : Alone). (alone_meaning a).answers input calls t u) (one_alone words q.0 p.0 q.1 p.1) q.2)
 
 -- words on a network, and none, are no command that stands alone
 not_both : (words : List (List ℕ)) (input : List ℕ) (calls : List LinkCall) (s t : Status) (o u : List ℕ) → Cases words input calls s o → AloneAnswer words input calls t u → ⊥
@@ -301,30 +278,15 @@ one_answer runs nodes one last words input calls s t o u p q =
 
 -- no command that is built calls a link
 
-alone_uncalled : (alone : Alone) (input : List ℕ) (calls : List LinkCall) (s : Status) (o : List ℕ) → (alone_meaning alone).answers input calls s o → calls ≡ []
-alone_uncalled Migrate input calls s o p = p.0
-alone_uncalled Inspect input calls s o p = p.0
-alone_uncalled L1Sync input calls s o p = p.0
-alone_uncalled Calibrate input calls s o p = p.0
-alone_uncalled Plain input calls s o p = p.0
-
 due_uncalled : (words : List (List ℕ)) (input : List ℕ) (calls : List LinkCall) (s : Status) (o : List ℕ) → RecordsDue words input calls s o → calls ≡ []
 due_uncalled words input calls s o (inl task) = task.3
-due_uncalled words input calls s o (inr alone) = alone_uncalled alone.0 input calls s o alone.2
+due_uncalled words input calls s o (inr alone) = (facts_of alone.0).uncalled input calls s o alone.2
 
 pub answer_uncalled : (words : List (List ℕ)) (input : List ℕ) (calls : List LinkCall) (s : Status) (o : List ℕ) → Answer words input calls s o → calls ≡ []
 answer_uncalled words input calls Usage o p = p.2
-answer_uncalled words input calls BadNetwork o p = elim p [ inl bad ↦ bad.3 | inr alone ↦ alone_uncalled alone.0 input calls BadNetwork o alone.2 ]
+answer_uncalled words input calls BadNetwork o p = elim p [ inl bad ↦ bad.3 | inr alone ↦ (facts_of alone.0).uncalled input calls BadNetwork o alone.2 ]
 answer_uncalled words input calls TooLarge o p = elim p [ inl long ↦ long.3 | inr due ↦ due_uncalled words input calls TooLarge o due ]
-answer_uncalled words input calls Done o p = due_uncalled words input calls Done o p
-answer_uncalled words input calls BadTrace o p = due_uncalled words input calls BadTrace o p
-answer_uncalled words input calls Broken o p = due_uncalled words input calls Broken o p
-answer_uncalled words input calls ReadFault o p = due_uncalled words input calls ReadFault o p
-answer_uncalled words input calls WriteFault o p = due_uncalled words input calls WriteFault o p
-answer_uncalled words input calls LinkFault o p = due_uncalled words input calls LinkFault o p
-answer_uncalled words input calls OutOfMemory o p = due_uncalled words input calls OutOfMemory o p
-answer_uncalled words input calls BadCapture o p = due_uncalled words input calls BadCapture o p
-answer_uncalled words input calls BadCalib o p = due_uncalled words input calls BadCalib o p
+answer_uncalled words input calls s o p = due_uncalled words input calls s o p
 
 -- a status that is no other than an answer
 pub answered : (status : Status) → (is_answer status ≡ false → ⊥) → is_answer status ≡ true

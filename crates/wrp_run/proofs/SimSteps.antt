@@ -1,6 +1,6 @@
 -- A simulation as it goes on: each event that comes is accepted, and makes the run longer by one; and what stands where it
 -- ends.
-use Rattle.std.proofs.Common.{◌≡◌, ◌⊎◌, ◌∙◌, inl, inr, refl, ap, ap₂, sym, subst, append_assoc, append-nil, ℕ, ℤ, pos, ◌+◌, ◌<◌, Option, None, Some, Result, Err, List, [], ◌∷◌, ◌++◌, length, map, flat_map, take, arith}
+use Rattle.std.proofs.Common.{◌≡◌, ◌⊎◌, ◌∙◌, inl, inr, refl, ap, ap₂, sym, subst, append_assoc, append-nil, ℕ, ℤ, pos, ◌+◌, ◌<◌, Bool, true, false, Option, None, Some, Result, Err, List, [], ◌∷◌, ◌++◌, length, map, flat_map, take, arith}
 use Rattle.std.specs.Io.KnownBytes.{Appends}
 use Rattle.std.proofs.KnownBytes.{Appends-nil, Appends-trans}
 use Rattle.wrp_base.specs.declared.configuration.NetCfg.{NetCfg}
@@ -14,7 +14,7 @@ use Rattle.wrp_sim.specs.declared.sim.state.State.{State}
 use Rattle.wrp_sim.specs.Keeps.{SimRunsAreRuns}
 use Rattle.wrp_sim.specs.Rules.{Next, rest_of}
 use Rattle.wrp_sim.specs.Scenario.{IsSceneOf, SceneAt, new_scene}
-use Rattle.wrp_sim.specs.Sim.{FitsSim, FollowsRules, Gave, GaveNext, SimIs}
+use Rattle.wrp_sim.specs.Sim.{FitsSim, FollowsRules, Gave, GaveNext, SimIs, put}
 use Rattle.wrp_sim.specs.SimAt.{SimAt, new_sim}
 use Rattle.wrp_sim.specs.SimRun.{Gives, IsSimRun}
 use Rattle.wrp_course.specs.declared.event.Event.{Event}
@@ -24,9 +24,10 @@ use Rattle.wrp_course.specs.Run.{Happened, IsAnswered, steps_at, world_after}
 use Rattle.wrp_course.specs.Runs.{IsNetwork, IsRun}
 use Rattle.wrp_course.specs.Setting.{Setting}
 use Rattle.wrp_world.specs.StandsFor.{IsValid, StandsFor, WorldOf}
-use Rattle.wrp_world.specs.Step.{MayCome, Stepped, step_seen}
+use Rattle.wrp_world.specs.Step.{MayCome, step_seen}
+use Rattle.wrp_world.specs.Take.{CanHappen, Taken}
 use Rattle.wrp_course.specs.WorldAt.{WorldAt, new_world}
-use Rattle.wrp_sim.proofs.Turns.{no_rule}
+use Rattle.wrp_sim.proofs.Turns.{no_rule, put_none, put_one}
 use Rattle.wrp_run.specs.declared.simulation.Course.{Course}
 use Rattle.wrp_run.specs.declared.simulation.SimulatedNetwork.{SimulatedNetwork}
 use Rattle.wrp_records.specs.declared.status.Status.{Status}
@@ -39,7 +40,7 @@ use Rattle.wrp_run.specs.Asked.{task_by}
 use Rattle.wrp_run.specs.Audited.{answers_in}
 use Rattle.wrp_run.specs.AuditStands.{setting_in}
 use Rattle.wrp_records.specs.Engine.{Finishes}
-use Rattle.wrp_run.specs.SimStands.{AreTotals, Begins, CanHappen, CanRun, ClosesLarge, ClosesRun, FitsCourse, HasRun, Running, RunsOn}
+use Rattle.wrp_run.specs.SimStands.{AreTotals, Begins, CanRun, ClosesLarge, ClosesRun, FitsCourse, HasRun, Running, RunsOn}
 use Rattle.wrp_run.specs.SimText.{offsets_in, printed_lines, sum_lines, tracked}
 use Rattle.wrp_run.specs.Simulates.{IsScenario, event_limit, simulation_of}
 use Rattle.wrp_records.specs.Stream.{large_line}
@@ -104,6 +105,13 @@ gave_of seed s scene network course events at sim event h follows =
     let g : GaveNext s (world_after s events) at course.sim sim event = follows s (world_after s events) at h.stands h.sim in
     (g.next, subst (λ (k : SceneAt). Gives k s (world_after s events) at g.next) h.is_scene g.gives, g.gave)
 
+-- an event was put into its place, or none
+pub one_put : {F : Type 0} {post : F → ℤ → ℤ → Type 0} (world : WorldOf F) (old new : State) (b : Bool) (event : Event) → FollowsRules post world old new (put b event) → b ≡ true → FollowsRules post world old new (Some event)
+one_put {post = post} world old new b event h is = subst (FollowsRules post world old new) (put_one b event is) h
+
+pub none_put : {F : Type 0} {post : F → ℤ → ℤ → Type 0} (world : WorldOf F) (old new : State) (b : Bool) (event : Event) → FollowsRules post world old new (put b event) → b ≡ false → FollowsRules post world old new None
+none_put {post = post} world old new b event h is = subst (FollowsRules post world old new) (put_none b event is) h
+
 pub event_comes : {F : Type 0} {pre : F → ℤ → Type 0} {post : F → ℤ → ℤ → Type 0} → SimRunsAreRuns → (seed : ℕ) (s : Setting) (scene : SceneAt) (network : SimulatedNetwork F) (course : Course) (events : List Happened) (at : SimAt) (sim : State) (event : Event)
     → HasRun post seed s scene network course events at → CanRun pre post network → FitsCourse network course → FollowsRules post network.world course.sim sim (Some event) → NextComes s scene seed events at event sim
 event_comes {pre = pre} {post = post} keeps seed s scene network course events at sim event h can fits follows =
@@ -141,7 +149,7 @@ may_come seed s scene network course events at sim event h fits c =
 -- the run with it
 pub goes_on : {F : Type 0} {pre : F → ℤ → Type 0} {post : F → ℤ → ℤ → Type 0} (seed : ℕ) (s : Setting) (scene : SceneAt) (old new : SimulatedNetwork F) (course next : Course) (events : List Happened) (at : SimAt) (event : Event) (before text : List ℕ)
     → HasRun post seed s scene old course events at → NextComes s scene seed events at event next.sim → next.sim.scene ≡ course.sim.scene → CanRun pre post new → new.world.plant.net ≡ old.world.plant.net
-    → Stepped post event old.world new.world new.outs.items
+    → Taken post event old.world new.world new.outs.items
     → ((t : Setting) (w : WorldAt) → StandsFor post t w new.world → text ≡ before ++ flat_map (printed_lines t w) (map step_seen new.outs.items))
     → ((t : Setting) (w : WorldAt) → StandsFor post t w new.world → (offs : ℕ → List ℤ) → AreTotals offs course.totals.items → AreTotals (λ n. offsets_in w n (map step_seen new.outs.items) ++ offs n) next.totals.items)
     → next.events ≡ course.events + 1 → course.events + 1 < event_limit → RunsOn post seed s scene new next events before text
@@ -149,8 +157,8 @@ goes_on {F} {pre} {post} seed s scene old new course next events at event before
     let k : Network = new.world.plant.net in
     let newest : Happened = record { event = event; says = stepped.0; answer = stepped.1 } in
     let w : WorldAt = world_after s (newest ∷ events) in
-    let stands : StandsFor post s w new.world = stepped.2.stands s (world_after s events) h.stands in
-    let seen : map step_seen new.outs.items ≡ steps_at s events newest = stepped.2.seen s (world_after s events) h.stands in
+    let stands : StandsFor post s w new.world = stepped.2.stands s (world_after s events) h.stands (c.accepted stepped.0) in
+    let seen : map step_seen new.outs.items ≡ steps_at s events newest = stepped.2.seen s (world_after s events) h.stands (c.accepted stepped.0) in
     let setting : s ≡ setting_in k = h.is_setting ∙ ap setting_in (sym net) in
     let numbered = h.count in
     record {

@@ -18,7 +18,7 @@ use Rattle.wrp_run.specs.SimText.{sim_lines, sum_lines}
 use Rattle.wrp_run.specs.Simulates.{SimRefuses, Simulates, simulation_of}
 use Rattle.wrp_records.specs.Stream.{CutHandled, large_line}
 use Rattle.wrp_run.specs.Tasks.{Task, Replay, Audit, Emit, Simulate, AsksFor, IsSimulation, meaning_at}
-use Rattle.wrp_run.proofs.DueTold.{IsDueSo, PrintsDue, prints, prints_nothing}
+use Rattle.wrp_run.proofs.DueTold.{IsDueSo, PrintsDue, prints}
 use Rattle.wrp_run.proofs.WordLemmas.{no_simulation, simulation_alone}
 
 -- The task of a simulation
@@ -170,8 +170,3 @@ run_told parts run status seed (Some input) ends simulates is =
 
 pub simulation_told : MadeEventsCarryParts → (run : Run) (status : Status) (seed : ℕ) → Ends run status → IsSimulation run.words seed → IfSome run.source.before (IsMadeSo run.words run.sink.before run.sink.now status)
 simulation_told parts run status seed ends simulates = run_told parts run status seed run.source.before ends simulates refl
-
--- where nothing was read and nothing written
-pub nothing_made : MadeEventsCarryParts → (words : List (List ℕ)) (input held : Option (List ℕ)) (seed : ℕ) → IsSimulation words seed → Appends held held [] → IfSome input (IsMadeSo words held held OutOfMemory)
-nothing_made parts words None held seed simulates same = tt
-nothing_made parts words (Some i) held seed simulates same = headline_of parts words i held held OutOfMemory (prints_nothing words held i (IsRunDue words) (run_so words seed simulates) same)

@@ -1,13 +1,12 @@
 -- Words by their number, and the one value of an option.
-use Rattle.std.proofs.Common.{◌≡◌, ◌==◌, if◌then◌else◌, inl, inr, ℕ, ◌<◌, ◌≤◌, List, [], ◌∷◌, ◌++◌, Option, None, Some, length, map, refl, sym, ap, ◌∙◌, subst, codes, arith}
+use Rattle.std.proofs.Common.{◌≡◌, inl, inr, ℕ, ◌<◌, ◌≤◌, List, [], ◌∷◌, ◌++◌, Option, None, Some, length, map, refl, sym, ap, ◌∙◌, subst, codes, arith}
 use Rattle.std.specs.List.{slice_index_or}
 use Rattle.std.proofs.lemmas.List.{append_cancel_left}
 use Rattle.std.proofs.lemmas.Option.{same_Some}
 use Rattle.wrp_run.specs.declared.command_line.Form.{Form}
 use Rattle.wrp_run.specs.declared.command_line.Form.TheVariants as forms
-use Rattle.wrp_run.specs.declared.command_line.Alone.{Alone}
-use Rattle.wrp_run.specs.declared.command_line.Alone.TheVariants.{Migrate, Inspect, L1Sync, Calibrate, Plain}
-use Rattle.wrp_run.specs.Alone.{IsAlone}
+use Rattle.wrp_run.specs.declared.alone.Alone.{Alone}
+use Rattle.wrp_run.specs.Alone.{IsAlone, alone_commands, alone_row}
 use Rattle.wrp_run.specs.Answer.{IsCommand, IsNetworked}
 use Rattle.wrp_run.specs.Fields.{seed_of}
 use Rattle.wrp_run.specs.Asked.{AsksSo}
@@ -15,6 +14,8 @@ use Rattle.wrp_run.specs.CommandLine.{HasOption, IsCommandOf, IsCommandWith, IsF
 use Rattle.wrp_run.specs.declared.parse.Command.{Command}
 use Rattle.wrp_run.specs.declared.parse.Command.TheVariants as command
 use Rattle.wrp_run.specs.Tasks.{IsAuditing, IsEmission, IsReplay, IsSimulation}
+use Rattle.wrp_run.proofs.AloneCommand.{first_with}
+use Rattle.wrp_run.proofs.AloneTable.{facts_of}
 
 -- two words
 pub two_texts : {X : Type 0} (f : X → List ℕ) (ws : List X) (d e : X) → 2 ≤ length ws → length ws < 3 → map f ws ≡ f (slice_index_or ws 0 d) ∷ f (slice_index_or ws 1 e) ∷ []
@@ -45,14 +46,6 @@ initial_of : (octet : ℕ) (command option : List ℕ) (words : List (List ℕ))
 initial_of octet command option [] value is = absurd is
 initial_of octet command option (first ∷ rest) value is = ap (λ word. initial (word ∷ rest)) is.0
 
--- of a command that stands alone it is its word's
-abbrev pub alone_letter : Alone → ℕ
-alone_letter Migrate = 109
-alone_letter Inspect = 105
-alone_letter L1Sync = 108
-alone_letter Calibrate = 99
-alone_letter Plain = 112
-
 -- of a form it is the command's
 abbrev pub letter : Form → ℕ
 letter forms.Audit = 97
@@ -60,42 +53,28 @@ letter forms.Emit = 97
 letter forms.Replay = 114
 letter forms.Simulate = 115
 letter forms.Loop = 108
-letter (forms.Alone alone) = alone_letter alone
+letter (forms.Alone alone) = initial ((alone_row alone).word ∷ [])
 
--- the command that stands alone of a letter: no two begin with the same
-abbrev alone_at : ℕ → Alone
-alone_at letter =
-    if letter == 109 then Migrate
-    else if letter == 105 then Inspect
-    else if letter == 108 then L1Sync
-    else if letter == 99 then Calibrate
-    else Plain
+-- A command that stands alone
 
-alone_at_letter : (alone : Alone) → alone_at (alone_letter alone) ≡ alone
-alone_at_letter Migrate = refl
-alone_at_letter Inspect = refl
-alone_at_letter L1Sync = refl
-alone_at_letter Calibrate = refl
-alone_at_letter Plain = refl
+-- the only word of its line
+abbrev first_word : List (List ℕ) → List ℕ
+first_word (word ∷ words) = word
+first_word [] = []
 
-alone_initial : (words : List (List ℕ)) (alone : Alone) → IsAlone words alone → initial words ≡ alone_letter alone
-alone_initial words Migrate is = ap initial is
-alone_initial words Inspect is = ap initial is
-alone_initial words L1Sync is = ap initial is
-alone_initial words Calibrate is = ap initial is
-alone_initial words Plain is = ap initial is
+its_word : (words : List (List ℕ)) (alone : Alone) → IsAlone words alone → first_word words ≡ (alone_row alone).word
+its_word words alone is = ap first_word is
 
 -- it has no option
 pub alone_bare : (command option : List ℕ) (words : List (List ℕ)) (value : List ℕ) (alone : Alone) → IsAlone words alone → IsCommandWith command option words value → ⊥
 alone_bare command option words value alone is with = (subst (λ (ws : List (List ℕ)). IsCommandWith command option ws value) is with).1
 
--- it is no audit
+-- it is no audit: no command of the table has that word
 pub alone_no_audit : (words : List (List ℕ)) (alone : Alone) → IsAlone words alone → IsAuditing words → ⊥
-alone_no_audit words Migrate is audit = let bad : 109 ≡ 97 = sym (alone_initial words Migrate is) ∙ ap initial audit in absurd (omega (arith, bad))
-alone_no_audit words Inspect is audit = let bad : 105 ≡ 97 = sym (alone_initial words Inspect is) ∙ ap initial audit in absurd (omega (arith, bad))
-alone_no_audit words L1Sync is audit = let bad : 108 ≡ 97 = sym (alone_initial words L1Sync is) ∙ ap initial audit in absurd (omega (arith, bad))
-alone_no_audit words Calibrate is audit = let bad : 99 ≡ 97 = sym (alone_initial words Calibrate is) ∙ ap initial audit in absurd (omega (arith, bad))
-alone_no_audit words Plain is audit = let bad : 112 ≡ 97 = sym (alone_initial words Plain is) ∙ ap initial audit in absurd (omega (arith, bad))
+alone_no_audit words alone is audit =
+    let same : (alone_row alone).word ≡ codes "audit" = sym (its_word words alone is) ∙ ap first_word audit in
+    let bad : Some alone ≡ None = sym (facts_of alone).found ∙ ap (λ (word : List ℕ). first_with word alone_commands) same in
+    absurd (cc)
 
 -- nor any other command on a network
 pub alone_unnetworked : (words : List (List ℕ)) (alone : Alone) → IsAlone words alone → IsNetworked words → ⊥
@@ -106,7 +85,11 @@ alone_unnetworked words alone is (inr (inr (seed, simulation))) = alone_bare (co
 
 -- words are one such command
 pub one_alone : (words : List (List ℕ)) (a b : Alone) → IsAlone words a → IsAlone words b → a ≡ b
-one_alone words a b p q = sym (alone_at_letter a) ∙ ap alone_at (sym (alone_initial words a p) ∙ alone_initial words b q) ∙ alone_at_letter b
+one_alone words a b p q =
+    let same : (alone_row a).word ≡ (alone_row b).word = sym (its_word words a p) ∙ its_word words b q in
+    same_Some a b (sym (facts_of a).found ∙ ap (λ (word : List ℕ). first_with word alone_commands) same ∙ (facts_of b).found)
+
+-- Forms
 
 initial_letter : (form : Form) (words : List (List ℕ)) (value : List ℕ) → IsForm form words value → initial words ≡ letter form
 initial_letter forms.Audit words value is = ap initial is.0
@@ -114,7 +97,7 @@ initial_letter forms.Emit words value is = initial_of 97 _ (codes "--emit") word
 initial_letter forms.Replay words value is = initial_of 114 _ (codes "--node") words value is
 initial_letter forms.Simulate words value is = initial_of 115 _ (codes "--seed") words value is
 initial_letter forms.Loop words value is = initial_of 108 _ (codes "--seed") words value is
-initial_letter (forms.Alone alone) words value is = alone_initial words alone is.0
+initial_letter (forms.Alone alone) words value is = ap initial is.0
 
 -- a seed that is none makes no command
 pub no_simulate : (words : List (List ℕ)) (text : List ℕ) → IsCommandWith (codes "simulate") (codes "--seed") words text → None ≡ seed_of text → IsNoCommand words

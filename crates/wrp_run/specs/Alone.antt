@@ -1,5 +1,6 @@
--- Commands that stand alone: no network text stands in front of their records (this project's profile).
-use Rattle.std.specs.Prelude.{◌≡◌, List, [], ◌∷◌, ℕ, codes}
+-- Commands that stand alone: no network text stands in front of their records (this project's profile). Each has one row
+-- of a table.
+use Rattle.std.specs.Prelude.{◌≡◌, List, [], ◌∷◌, ℕ, Contains, codes}
 use Rattle.wrp_calib.specs.LinesMeaning.{calibration}
 use Rattle.wrp_l1sync.specs.LineRecords.{meaning as synchronisation}
 use Rattle.wrp_migrate.specs.Migration.{migration}
@@ -9,39 +10,67 @@ use Rattle.wrp_records.specs.ByLines.{of_lines}
 use Rattle.wrp_records.specs.Meaning.{Meaning}
 use Rattle.wrp_records.specs.declared.status.Status.{Status}
 use Rattle.wrp_records.specs.declared.status.Status.TheVariants.{Done, BadNetwork, BadTrace, Broken, TooLarge, BadCapture, BadCalib}
-use Rattle.wrp_run.specs.declared.command_line.Alone.{Alone}
-use Rattle.wrp_run.specs.declared.command_line.Alone.TheVariants.{Migrate, Inspect, L1Sync, Calibrate, Plain}
+use Rattle.wrp_run.specs.declared.alone.Alone.{Alone}
+use Rattle.wrp_run.specs.declared.alone.Alone.TheVariants.{Migrate, Inspect, L1Sync, Calibrate, Plain}
+use Rattle.wrp_run.specs.AloneAims.{BoundsSo, CalibratesSo, InspectsSo, MigratesSo, SynchronisesSo}
 
--- the only word of a command's line
-abbrev pub alone_word : Alone → List ℕ
-alone_word Migrate = codes "migrate"
-alone_word Inspect = codes "inspect"
-alone_word L1Sync = codes "l1sync"
-alone_word Calibrate = codes "calibrate"
-alone_word Plain = codes "plain"
+-- What a command is: the only word of its line; what the octets of its input mean; the statuses with which it may
+-- answer, but for faults of the outside and want of memory; and its aim, of an input, the status and what was written.
+pub record AloneRow : Type 1 where
+  pub word : List ℕ
+  pub meaning : Meaning
+  pub statuses : List Status
+  pub aim : List ℕ → Status → List ℕ → Type 0
+
+-- the table
+abbrev pub alone_row : Alone → AloneRow
+alone_row Migrate = record {
+  word = codes "migrate";
+  meaning = migration;
+  statuses = Done ∷ BadNetwork ∷ TooLarge ∷ [];
+  aim = MigratesSo;
+}
+alone_row Inspect = record {
+  word = codes "inspect";
+  meaning = capture;
+  statuses = Done ∷ BadCapture ∷ TooLarge ∷ [];
+  aim = InspectsSo;
+}
+alone_row L1Sync = record {
+  word = codes "l1sync";
+  meaning = of_lines synchronisation;
+  statuses = Done ∷ BadTrace ∷ Broken ∷ TooLarge ∷ [];
+  aim = SynchronisesSo;
+}
+alone_row Calibrate = record {
+  word = codes "calibrate";
+  meaning = of_lines calibration;
+  statuses = Done ∷ BadTrace ∷ BadCalib ∷ TooLarge ∷ [];
+  aim = CalibratesSo;
+}
+alone_row Plain = record {
+  word = codes "plain";
+  meaning = of_lines plain_meaning;
+  statuses = Done ∷ BadTrace ∷ Broken ∷ TooLarge ∷ [];
+  aim = BoundsSo;
+}
+
+-- all of them, in the order of the usage line
+abbrev pub alone_commands : List Alone
+alone_commands = Migrate ∷ Inspect ∷ L1Sync ∷ Calibrate ∷ Plain ∷ []
 
 -- the words ask for a command
 abbrev pub IsAlone : List (List ℕ) → Alone → Type 0
-IsAlone words alone = words ≡ alone_word alone ∷ []
+IsAlone words alone = words ≡ (alone_row alone).word ∷ []
 
 -- what the octets of its input mean
 abbrev pub alone_meaning : Alone → Meaning
-alone_meaning Migrate = migration
-alone_meaning Inspect = capture
-alone_meaning L1Sync = of_lines synchronisation
-alone_meaning Calibrate = of_lines calibration
-alone_meaning Plain = of_lines plain_meaning
+alone_meaning alone = (alone_row alone).meaning
 
--- the statuses with which it may answer, but for faults of the outside and want of memory
+-- it may answer this status
 abbrev pub MayAnswer : Alone → Status → Type 0
-MayAnswer alone Done = Unit {0}
-MayAnswer alone TooLarge = Unit {0}
-MayAnswer Migrate BadNetwork = Unit {0}
-MayAnswer Inspect BadCapture = Unit {0}
-MayAnswer L1Sync BadTrace = Unit {0}
-MayAnswer L1Sync Broken = Unit {0}
-MayAnswer Calibrate BadTrace = Unit {0}
-MayAnswer Calibrate BadCalib = Unit {0}
-MayAnswer Plain BadTrace = Unit {0}
-MayAnswer Plain Broken = Unit {0}
-MayAnswer alone status = ⊥
+MayAnswer alone status = Contains (alone_row alone).statuses status
+
+-- its aim holds of an input, a status and what was written
+abbrev pub HasAim : Alone → List ℕ → Status → List ℕ → Type 0
+HasAim alone input status octets = (alone_row alone).aim input status octets

@@ -13,7 +13,7 @@ use Rattle.wrp_records.specs.Lines.{lines_of}
 use Rattle.wrp_records.specs.RecordsAnswer.{RecordsAnswer, StandsFirst}
 use Rattle.wrp_records.specs.Refusals.{too_large_line}
 use Rattle.wrp_records.specs.Stream.{CutHandled}
-use Rattle.wrp_run.specs.declared.command_line.Alone.{Alone}
+use Rattle.wrp_run.specs.declared.alone.Alone.{Alone}
 use Rattle.wrp_run.specs.Alone.{IsAlone, alone_meaning}
 use Rattle.wrp_run.specs.Input.{network_text, behind_separator, network_limit, Divides, IsUndivided}
 use Rattle.wrp_run.specs.Refusals.{usage_line}

@@ -25,6 +25,7 @@ use Rattle.wrp_records.specs.declared.machine.Taken.{Taken}
 use Rattle.wrp_records.specs.declared.machine.Taken.TheVariants as taken
 use Rattle.wrp_run.specs.Audited.{IsAudit, setting_at}
 use Rattle.wrp_run.specs.AuditText.{audit_lines, given_line, given_lines, step_lines}
+use Rattle.wrp_run.specs.Bounds.{AreBounds}
 use Rattle.wrp_run.specs.DownLaw.{AnswersBy, law_at}
 use Rattle.wrp_run.specs.Refusals.{broken_line}
 use Rattle.wrp_records.specs.Refusals.{bad_trace_line}
@@ -64,13 +65,14 @@ abbrev pub HasLawOf : {F : Type 0} → (F → ℤ → ℤ → Type 0) → Settin
 HasLawOf post s world =
     Each (λ n node. IfSome (law_in node.control) (AnswersBy post (law_at (line_setting_in s n)))) world.nodes
 
--- it can take a line: its world is one that its calls made, the law of each node is that of the link
--- above it, and the node whose inputs are asked for is one of the network
+-- it can take an event: its world is one that its calls made, the law of each node is that of the link
+-- above it, the node whose inputs are asked for is one of the network, and the nodes' bounds are at hand
 pub record CanAudit {F : Type 0} (pre : F → ℤ → Type 0) (post : F → ℤ → ℤ → Type 0)
     (held : AuditedNetwork F) : Type 0 where
   pub valid : IsValid pre post held.world
   pub laws : HasLawOf post (setting_in held.world.plant.net) held.world
   pub emit : IfSome held.emit (λ n. n < node_count held.world.plant.net.cfg)
+  pub bounds : AreBounds held.world.plant.net.cfg held.bounds.items
 
 -- an event was taken in a world: it kept all premises, and what its steps write is written
 pub record Took {F : Type 0} (post : F → ℤ → ℤ → Type 0) (emit : Option ℕ) (s : Setting) (w : WorldAt)

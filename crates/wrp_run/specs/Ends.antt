@@ -10,7 +10,7 @@ use Rattle.wrp_records.specs.Lines.{lines_of}
 use Rattle.wrp_records.specs.Passages.{Failed, Passage}
 use Rattle.wrp_records.specs.Reader.{piece_limit}
 use Rattle.wrp_records.specs.RecordsAnswer.{IsRefused}
-use Rattle.wrp_run.specs.declared.command_line.Alone.{Alone}
+use Rattle.wrp_run.specs.declared.alone.Alone.{Alone}
 use Rattle.wrp_run.specs.Alone.{IsAlone, MayAnswer, alone_meaning}
 use Rattle.wrp_run.specs.Answer.{IsCommand, IsNetworked, IsOfNode, AsksNone, Answer, FirstAnswer, PartAnswer, CutAnswer}
 use Rattle.wrp_run.specs.Input.{network_text, behind_separator}

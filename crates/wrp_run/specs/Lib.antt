@@ -4,9 +4,11 @@ pub mod AnswerLaws
 pub mod Asked
 pub mod Audited
 pub mod AuditLaws
+pub mod AuditLines
 pub mod Audits
 pub mod AuditStands
 pub mod AuditText
+pub mod Bounds
 pub mod CommandLine
 pub mod DownLaw
 pub mod EmitHeadline

@@ -1,7 +1,9 @@
 -- The table of commands: a row each, in the order of the usage line (this project's profile).
-use Rattle.std.specs.Prelude.{◌≡◌, ◌⊎◌, ◌↔◌, ℕ, true, false, List, [], ◌∷◌, ◌++◌, codes}
+use Rattle.std.specs.Prelude.{◌≡◌, ◌⊎◌, ◌↔◌, ℕ, true, false, List, [], ◌∷◌, ◌++◌, map, codes}
 use Rattle.clap.specs.Words.{App, with_subcommand}
+use Rattle.wrp_run.specs.declared.alone.Alone.{Alone}
 use Rattle.wrp_run.specs.declared.command_line.Form.{Form}
+use Rattle.wrp_run.specs.Alone.{alone_commands, alone_row}
 use Rattle.wrp_run.specs.CommandLine.{HasForm, IsCommandWith}
 use Rattle.wrp_run.specs.Parsing.{bare, with_option, wrnet}
 use Rattle.wrp_run.specs.Refusals.{usage_line}
@@ -17,19 +19,18 @@ pub record Row : Type 0 where
   pub name : List ℕ
   pub behind : Behind
 
--- the commands
+-- a command that stands alone: its word is its line
+abbrev pub bare_row : Alone → Row
+bare_row alone = record { name = (alone_row alone).word; behind = Bare }
+
+-- the commands: those with an option, and those that stand alone
 abbrev pub rows : List Row
 rows =
     record { name = codes "audit"; behind = May (codes "emit") (codes "NODE") }
     ∷ record { name = codes "replay"; behind = Must (codes "node") (codes "NODE") }
     ∷ record { name = codes "simulate"; behind = Must (codes "seed") (codes "N") }
     ∷ record { name = codes "loop"; behind = Must (codes "seed") (codes "N") }
-    ∷ record { name = codes "migrate"; behind = Bare }
-    ∷ record { name = codes "inspect"; behind = Bare }
-    ∷ record { name = codes "l1sync"; behind = Bare }
-    ∷ record { name = codes "calibrate"; behind = Bare }
-    ∷ record { name = codes "plain"; behind = Bare }
-    ∷ []
+    ∷ map bare_row alone_commands
 
 -- what stands behind a name in the usage line
 abbrev pub behind_text : Behind → List ℕ

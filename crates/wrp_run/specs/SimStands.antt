@@ -1,14 +1,12 @@
 -- What a simulation stands for as it goes on: the scenario that its lines said, and the run of its events
 -- (this project's profile).
-use Rattle.std.specs.Prelude.{◌≡◌, ◌<◌, ◌+◌, ◌^◌, ◌⊎◌, ℕ, ℤ, pos, if◌then◌else◌, None, Some, Option, List, [], ◌∷◌, ◌++◌, length, Result}
+use Rattle.std.specs.Prelude.{◌≡◌, ◌<◌, ◌+◌, ◌^◌, ◌⊎◌, ℕ, ℤ, pos, if◌then◌else◌, None, Some, Option, List, [], ◌∷◌, ◌++◌, length}
 use Rattle.std.specs.Io.KnownBytes.{Appends}
 use Rattle.std.specs.List.{flat_map}
 use Rattle.wrp_base.specs.declared.configuration.NetCfg.{NetCfg}
 use Rattle.wrp_base.specs.declared.fault.TraceFault.{TraceFault}
 use Rattle.wrp_base.specs.Network.{HasRanges, node_count}
-use Rattle.wrp_base.specs.declared.message.PtpMsg.{PtpMsg}
 use Rattle.wrp_bounds.specs.Bounds.{path_of}
-use Rattle.wrp_frame.specs.declared.fault.FrameFault.{FrameFault}
 use Rattle.wrp_lines.specs.Lines.{output_line_of}
 use Rattle.wrp_node.specs.declared.interface.Output.{Output}
 use Rattle.wrp_sim.specs.Rules.{Next}
@@ -17,11 +15,9 @@ use Rattle.wrp_sim.specs.Sim.{FitsSim, SimIs}
 use Rattle.wrp_sim.specs.SimAt.{SimAt}
 use Rattle.wrp_sim.specs.SimRun.{Gives}
 use Rattle.wrp_plant.specs.Plant.{Each}
-use Rattle.wrp_course.specs.declared.event.Event.{Event}
-use Rattle.wrp_course.specs.Premises.{Accepts}
-use Rattle.wrp_course.specs.Run.{Happened, IsSaid, steps_at, world_after}
+use Rattle.wrp_course.specs.Run.{Happened, steps_at, world_after}
 use Rattle.wrp_course.specs.Setting.{Setting, nodes_of}
-use Rattle.wrp_world.specs.StandsFor.{IsValid, StandsFor, WorldOf}
+use Rattle.wrp_world.specs.StandsFor.{IsValid, StandsFor}
 use Rattle.wrp_course.specs.WorldAt.{WorldAt}
 use Rattle.wrp_records.specs.declared.machine.Refusal.TheVariants as refusal
 use Rattle.wrp_records.specs.declared.machine.Taken.{Taken}
@@ -78,13 +74,6 @@ sums_by s w offs = flat_map (λ n. sum_by s w n (offs n)) (nodes_of s)
 abbrev pub printed_by : List ℕ → ℕ → ℤ → ℤ → Output → List ℕ
 printed_by name ticks bound off o =
     if is_printed o then output_line_of name ticks o bound (Some off) else []
-
--- an event that the world can take: in some state that it stands for the event keeps all premises
-pub record CanHappen {F : Type 0} (post : F → ℤ → ℤ → Type 0) (world : WorldOf F) (e : Event) : Type 0 where
-  pub setting : Setting
-  pub state : WorldAt
-  pub stands : StandsFor post setting state world
-  pub accepted : (says : Result PtpMsg FrameFault) → IsSaid e says → Accepts setting state says e
 
 -- each node's bound in TRACK, of which none is too great
 pub record AreBounds (cfg : NetCfg) (bounds : List ℤ) : Type 0 where

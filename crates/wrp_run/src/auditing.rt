@@ -9,7 +9,7 @@ ghost use Rattle.wrp_run.specs.AuditStands.{setting_in, task_of};
 ghost use Rattle.wrp_run.specs.LawsFit.{LawsFit};
 ghost use Rattle.wrp_run.specs.Tasks.{meaning_at};
 
-use crate::audit::AuditedNetwork;
+use crate::audit_lines::AuditLines;
 use std::alloc::Global;
 use wrp_config::Network;
 use wrp_io::{Sink, Source};
@@ -34,7 +34,7 @@ pub fn audit_by<F: Fn(i64) -> i64, S: Source, K: Sink>(
         (passage S.left S.faults source.old source.new) (passage K.held K.faults sink.old sink.new)
         reader.old.rest reader.old.ended reader.new.ended [] result }
 {
-    match AuditedNetwork::new(alloc, net, laws, emit) {
+    match AuditLines::new(alloc, net, laws, emit) {
         Ok(mut machine) => run_lines(alloc, &mut machine, reader, source, sink),
         Err(_) => Status::OutOfMemory,
     }

@@ -6,9 +6,8 @@ ghost use Rattle.wrp_io.specs.Faults.{Rose};
 ghost use Rattle.wrp_records.specs.declared.status.Status.{Status};
 ghost use Rattle.wrp_records.specs.Passages.{FailsBy, passage};
 ghost use Rattle.wrp_records.specs.Statuses.{is_answer};
-ghost use Rattle.wrp_run.specs.declared.command_line.Alone.{Alone};
-ghost use Rattle.wrp_run.specs.Alone.{IsAlone};
-ghost use Rattle.wrp_run.specs.AloneAims.{BoundsSo, CalibratesSo, InspectsSo, MigratesSo, SynchronisesSo};
+ghost use Rattle.wrp_run.specs.declared.alone.Alone.{Alone};
+ghost use Rattle.wrp_run.specs.Alone.{HasAim, IsAlone};
 ghost use Rattle.wrp_run.specs.Answer.{Answer, IsCommand};
 ghost use Rattle.wrp_run.specs.Asked.{AsksSo};
 ghost use Rattle.wrp_run.specs.EmitHeadline.{EmitHeadline};
@@ -18,20 +17,14 @@ ghost use Rattle.wrp_run.specs.SimHeadline.{SimHeadline};
 ghost use Rattle.wrp_run.specs.Tasks.{IsAuditing, IsEmission, IsSimulation};
 ghost use Rattle.wrp_run.specs.Words.{texts_of};
 
+use crate::alone::run_alone;
 use crate::audits::{events_carry_parts, made_events_carry_parts, one_audit};
-use crate::command_line::Alone;
 use crate::network::run_network;
 use crate::parse::{Command, read_words};
 use crate::refusals::USAGE_LINE;
 use std::alloc::{AllocError, Global};
-use wrp_calib::{calibrate, inputs_tell_truth};
 use wrp_io::{Link, Sink, Source};
-use wrp_l1sync::{answers_show_the_pair, l1sync, what_stands_shows_the_pair};
-use wrp_migrate::{migrate, migration_keeps};
 use wrp_node::one_run;
-use wrp_pcap::{complete_is_judged, inspect};
-use wrp_plain::lines::plain;
-use wrp_plain::{output_tells_truth, records_tell_truth};
 use wrp_records::{Status, answer};
 use wrp_servo::told_last;
 
@@ -42,27 +35,25 @@ fn read_command<'a>(alloc: Global, words: &'a [&'a str]) -> Result<Option<Comman
     read_words(alloc, words)
 }
 
-// Runs a command that stands alone.
-fn run_alone<S: Source, K: Sink>(
+// Runs the command that the words name, which calls no link.
+fn run_command<S: Source, K: Sink>(
     alloc: Global,
     words: &[&str],
-    alone: Alone,
     source: &mut S,
     sink: &mut K,
 ) -> Status
-    requires { IsAlone (texts_of words.now) alone }
     ensures ends { EndsUnlinked (texts_of words.now) (passage S.left S.faults source.old source.new)
         (passage K.held K.faults sink.old sink.new) result }
     ensures read { FailsBy Status.ReadFault result (passage S.left S.faults source.old source.new) }
     ensures write { FailsBy Status.WriteFault result (passage K.held K.faults sink.old sink.new) }
+    ensures unread { (IsCommand (texts_of words.now) → ⊥) → source.new ≡ source.old }
 {
-    let _words = words;
-    match alone {
-        Alone::Migrate => migrate(alloc, source, sink),
-        Alone::Inspect => inspect(alloc, source, sink),
-        Alone::L1Sync => l1sync(alloc, source, sink),
-        Alone::Calibrate => calibrate(alloc, source, sink),
-        Alone::Plain => plain(alloc, source, sink),
+    match read_command(alloc, words) {
+        Ok(Some(Command::OnNetwork(asked))) => run_network(alloc, words, asked, source, sink),
+        Ok(Some(Command::Alone(alone))) => run_alone(alloc, words, alone, source, sink),
+        Ok(Some(Command::Loop(_))) => answer(sink, Status::Usage, USAGE_LINE.as_bytes()),
+        Ok(None) => answer(sink, Status::Usage, USAGE_LINE.as_bytes()),
+        Err(_) => Status::OutOfMemory,
     }
 }
 
@@ -120,25 +111,13 @@ pub fn run<S: Source, K: Sink, N: Link>(
         (octets : List ℕ) × Appends (K.held sink.old) (K.held sink.new) octets
         × SimHeadline (texts_of words.now) input result octets) }
 
-    // The aims of the commands that stand alone: what a migration wrote is a text of the same database; what
-    // an inspection wrote shows the handshakes of the capture; what the synchronisation of two ends wrote
-    // shows both, record by record; what a calibration wrote holds the truth; and each report of a plain
-    // servo is within its bound.
-    ensures migrated { IsAlone (texts_of words.now) Alone.Migrate → IfSome (S.left source.old) (λ input.
+    // The aim of a command that stands alone, as its row of the table has it: what a migration wrote is a text
+    // of the same database; what an inspection wrote shows the handshakes of the capture; what the
+    // synchronisation of two ends wrote shows both, record by record; what a calibration wrote holds the
+    // truth; and each report of a plain servo is within its bound.
+    ensures aimed { (alone : Alone) → IsAlone (texts_of words.now) alone → IfSome (S.left source.old) (λ input.
         (octets : List ℕ) × Appends (K.held sink.old) (K.held sink.new) octets
-        × MigratesSo input result octets) }
-    ensures inspected { IsAlone (texts_of words.now) Alone.Inspect → IfSome (S.left source.old) (λ input.
-        (octets : List ℕ) × Appends (K.held sink.old) (K.held sink.new) octets
-        × InspectsSo input result octets) }
-    ensures synchronised { IsAlone (texts_of words.now) Alone.L1Sync → IfSome (S.left source.old) (λ input.
-        (octets : List ℕ) × Appends (K.held sink.old) (K.held sink.new) octets
-        × SynchronisesSo input result octets) }
-    ensures calibrated { IsAlone (texts_of words.now) Alone.Calibrate → IfSome (S.left source.old) (λ input.
-        (octets : List ℕ) × Appends (K.held sink.old) (K.held sink.new) octets
-        × CalibratesSo input result octets) }
-    ensures bounded { IsAlone (texts_of words.now) Alone.Plain → IfSome (S.left source.old) (λ input.
-        (octets : List ℕ) × Appends (K.held sink.old) (K.held sink.new) octets
-        × BoundsSo input result octets) }
+        × HasAim alone input result octets) }
 
     // Words that are no command are refused with nothing read, and no link is used.
     ensures unread { (IsCommand (texts_of words.now) → ⊥) → source.new ≡ source.old }
@@ -149,18 +128,5 @@ pub fn run<S: Source, K: Sink, N: Link>(
     events_carry_parts();
     made_events_carry_parts();
     told_last();
-    migration_keeps();
-    complete_is_judged();
-    answers_show_the_pair();
-    what_stands_shows_the_pair();
-    inputs_tell_truth();
-    output_tells_truth();
-    records_tell_truth();
-    match read_command(alloc, words) {
-        Ok(Some(Command::OnNetwork(asked))) => run_network(alloc, words, asked, source, sink),
-        Ok(Some(Command::Alone(alone))) => run_alone(alloc, words, alone, source, sink),
-        Ok(Some(Command::Loop(_))) => answer(sink, Status::Usage, USAGE_LINE.as_bytes()),
-        Ok(None) => answer(sink, Status::Usage, USAGE_LINE.as_bytes()),
-        Err(_) => Status::OutOfMemory,
-    }
+    run_command(alloc, words, source, sink)
 }

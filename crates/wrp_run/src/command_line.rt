@@ -1,25 +1,10 @@
 //! The form of the command line: a scan of the words, which tells whether they have that of a command.
 ghost use Rattle.std.specs.Prelude.{◌≡◌, ◌↔◌, ◌++◌, ◌∷◌, [], ℕ, List, codes, IsTrue, MatchOption};
 ghost use Rattle.wrp_run.specs.declared.command_line.Form.{Form};
-ghost use Rattle.wrp_run.specs.Alone.{IsAlone};
-ghost use Rattle.wrp_run.specs.declared.command_line.Alone.{Alone};
 ghost use Rattle.wrp_run.specs.CommandLine.{IsDashed, IsForm, HasForm, GivesOption, GivesValue};
 ghost use Rattle.wrp_run.specs.Words.{texts_of};
 
-/// A command that stands alone: its word is its line, and no network text stands in front of its records.
-#[derive(Clone, Copy, Debug, PartialEq, Eq)]
-pub enum Alone {
-    /// `migrate`.
-    Migrate,
-    /// `inspect`.
-    Inspect,
-    /// `l1sync`.
-    L1Sync,
-    /// `calibrate`.
-    Calibrate,
-    /// `plain`.
-    Plain,
-}
+use crate::alone::{Alone, alone_of};
 
 /// The form of a command line.
 #[derive(Clone, Copy, Debug, PartialEq, Eq)]
@@ -126,22 +111,6 @@ fn is_audit(words: &[&str]) -> bool
     match words {
         ["audit"] => true,
         _ => false,
-    }
-}
-
-// The command that stands alone whose word the words are.
-fn alone_of(words: &[&str]) -> Option<Alone>
-    ensures { MatchOption result
-        ((alone : Alone) → IsAlone (texts_of words.now) alone → ⊥)
-        (IsAlone (texts_of words.now)) }
-{
-    match words {
-        ["migrate"] => Some(Alone::Migrate),
-        ["inspect"] => Some(Alone::Inspect),
-        ["l1sync"] => Some(Alone::L1Sync),
-        ["calibrate"] => Some(Alone::Calibrate),
-        ["plain"] => Some(Alone::Plain),
-        _ => None,
     }
 }
 

@@ -3,10 +3,13 @@
 //! in both directions. Words, inputs, lines and statuses are this project's profile.
 #![tactic(auto)]
 
+mod alone;
 mod audit;
 mod audit_counts;
+mod audit_lines;
 mod auditing;
 mod audits;
+mod bounds;
 mod command;
 mod command_line;
 mod counting;

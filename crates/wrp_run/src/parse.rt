@@ -9,7 +9,8 @@ ghost use Rattle.wrp_run.specs.Fields.{seed_of};
 ghost use Rattle.wrp_run.specs.Parsing.{bare, option_rule, wrnet, value_of_option, IsRead};
 ghost use Rattle.wrp_run.specs.Words.{texts_of};
 
-use crate::command_line::{Alone, Form, form_of};
+use crate::alone::Alone;
+use crate::command_line::{Form, form_of};
 use crate::fields;
 use clap::{Arg, ArgMatches, Command as Parser, Error};
 use std::alloc::{AllocError, Global};

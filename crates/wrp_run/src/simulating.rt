@@ -68,13 +68,13 @@ fn step<F: Fn(i64) -> i64>(
         stepped) }
 {
     simulator_keeps_the_bounds();
-    let Some(event) = course.sim.next(&network.world) else {
+    if !course.sim.next_into(&network.world, &mut course.event) {
         return Ok(Stepped::Over);
-    };
+    }
     if course.events == LAST_EVENT {
         return Ok(Stepped::TooLarge);
     }
-    network.happen(alloc, &event, text)?;
+    network.happen(alloc, &course.event, text)?;
     course.events += 1;
     add_tracks(&network.world, &network.outs, &mut course.totals);
     Ok(Stepped::Event)

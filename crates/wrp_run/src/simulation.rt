@@ -9,12 +9,13 @@ ghost use Rattle.wrp_sim.specs.Sim.{FitsSim, SimIs};
 ghost use Rattle.wrp_sim.specs.SimAt.{new_sim};
 ghost use Rattle.wrp_course.specs.Setting.{Setting};
 ghost use Rattle.wrp_world.specs.StandsFor.{IsValid, StandsFor};
-ghost use Rattle.wrp_world.specs.Step.{MayCome, Stepped, step_seen};
+ghost use Rattle.wrp_world.specs.Step.{MayCome, step_seen};
+ghost use Rattle.wrp_world.specs.Take.{CanHappen, Taken};
 ghost use Rattle.wrp_world.specs.Taking.{AreOfNodes};
 ghost use Rattle.wrp_course.specs.WorldAt.{WorldAt, new_world};
 ghost use Rattle.wrp_run.specs.AuditStands.{setting_in};
 ghost use Rattle.wrp_run.specs.LawsFit.{LawsFit};
-ghost use Rattle.wrp_run.specs.SimStands.{AreBounds, AreTotals, CanHappen, CanRun, IsTotal, printed_by, sums_by};
+ghost use Rattle.wrp_run.specs.SimStands.{AreBounds, AreTotals, CanRun, IsTotal, printed_by, sums_by};
 ghost use Rattle.wrp_run.specs.SimText.{is_printed, printed_lines, sum_by};
 
 use crate::audit_counts::count_of;
@@ -23,12 +24,11 @@ use std::alloc::{AllocError, Global};
 use wrp_base::Tau;
 use wrp_bounds::path;
 use wrp_config::Network;
-use wrp_course::accepted_is_unbroken;
 use wrp_law::DelayLaw;
 use wrp_lines::{Sum, append_line, append_sum_line};
 use wrp_node::Output;
 use wrp_sim::{Scene, Sim};
-use wrp_world::{Event, NodeOut, Refused, World};
+use wrp_world::{Event, NodeOut, World};
 
 /// A network that is simulated: its world, the bounds of its nodes in TRACK, and a place for the steps of
 /// an event.
@@ -39,10 +39,12 @@ pub struct SimulatedNetwork<F> {
     pub outs: Vec<NodeOut>,
 }
 
-/// What makes the events of a network, how many came, and what its track lines tell so far.
+/// What makes the events of a network, the place where the newest is, how many came, and what its track
+/// lines tell so far.
 #[derive(Drop)]
 pub struct Course {
     pub sim: Sim,
+    pub event: Event,
     pub events: u32,
     pub totals: Vec<Total>,
 }
@@ -62,6 +64,7 @@ impl Course {
         let totals = no_totals(alloc, count_of(net))?;
         Ok(Course {
             sim,
+            event: Event::Tick { node: 0 },
             events: 0,
             totals,
         })
@@ -106,17 +109,15 @@ impl<F: Fn(i64) -> i64> SimulatedNetwork<F> {
         ensures net { self.new.world.plant.net ≡ self.old.world.plant.net }
         ensures counted { OnOk result (self.new.world.plant.events ≡ self.old.world.plant.events + 1) }
         ensures nodes { OnOk result (AreOfNodes self.new.world.plant.net.cfg self.new.outs.items) }
-        ensures steps { OnOk result (Stepped F.post event.now self.old.world self.new.world
+        ensures steps { OnOk result (Taken F.post event.now self.old.world self.new.world
             self.new.outs.items) }
         ensures wrote { IfOk result (λ _. (s : Setting) (w : WorldAt)
             → StandsFor F.post s w self.new.world → text.new.items ≡ text.old.items
             ++ flat_map (printed_lines s w) (map step_seen self.new.outs.items)) }
     {
-        accepted_is_unbroken();
-        match self.world.step_into(event, &mut self.outs) {
+        match self.world.take(event, &mut self.outs) {
             Ok(()) => self.write(alloc, text),
-            Err(Refused::Broken { .. }) => unreachable!(),
-            Err(Refused::Memory(fault)) => Err(fault),
+            Err(fault) => Err(fault),
         }
     }
 

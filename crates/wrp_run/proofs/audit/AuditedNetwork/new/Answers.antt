@@ -4,7 +4,7 @@ use Rattle.wrp_run.proofs.audit.AuditedNetwork.new.Goals as goal
 
 pub returns-clause-ready : goal.returns-clause-ready
 returns-clause-ready g c =
-    new_can c.args.net c.args.laws.items _ c.requires.laws c.in_ok-world.ensures.valid c.in_ok-world.ensures.laws c.in_ok-world.ensures.net c.requires.emit
+    new_can c.args.net c.args.laws.items _ c.requires.laws c.in_ok-world.ensures.valid c.in_ok-world.ensures.laws c.in_ok-world.ensures.net c.requires.emit c.in_ok-bounds.ensures
 
 pub returns-clause-taken : goal.returns-clause-taken
 returns-clause-taken g c =

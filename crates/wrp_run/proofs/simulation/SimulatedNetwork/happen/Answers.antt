@@ -1,8 +1,7 @@
--- The event breaks no premise, and its steps are written.
-use Rattle.std.proofs.Common.{Ok, Err, Result, refl, subst}
+-- The event is taken, and its steps are written.
+use Rattle.std.proofs.Common.{Ok, Err, Result, refl}
 use Rattle.std.specs.Result.{OnOk}
-use Rattle.wrp_world.specs.Step.{IsRefusal}
-use Rattle.wrp_run.proofs.NewSim.{none_broken, run_stays}
+use Rattle.wrp_run.proofs.NewSim.{run_stays}
 use Rattle.wrp_run.proofs.simulation.SimulatedNetwork.happen.Goals as goal
 
 -- what holds in any case holds where it went well
@@ -12,20 +11,15 @@ in_any_case P (Err error) holds = tt
 
 pub write-requires-clause-ready : goal.write-requires-clause-ready
 write-requires-clause-ready g c =
-    run_stays c.args.self.now _ c.requires.ready c.step_into.ensures.valid c.step_into.ensures.net refl c.step_into.ensures.laws
+    run_stays c.args.self.now _ c.requires.ready c.take.ensures.valid c.take.ensures.net refl c.take.ensures.laws
 
 pub returns-in-Ok-clause-ready : goal.returns-in-Ok-clause-ready
 returns-in-Ok-clause-ready g c =
-    run_stays c.args.self.now _ c.requires.ready c.step_into.ensures.valid c.step_into.ensures.net refl c.step_into.ensures.laws
+    run_stays c.args.self.now _ c.requires.ready c.take.ensures.valid c.take.ensures.net refl c.take.ensures.laws
 
-pub returns-in-Err-Memory-clause-ready : goal.returns-in-Err-Memory-clause-ready
-returns-in-Err-Memory-clause-ready g c =
-    run_stays c.args.self.now _ c.requires.ready c.step_into.ensures.valid c.step_into.ensures.net refl c.step_into.ensures.laws
-
-pub unreachable-requires : goal.unreachable-requires
-unreachable-requires g c =
-    none_broken c.accepted_is_unbroken.ensures c.args.self.now.world c.args.event.now _ _ _ c.requires.accepted
-    (subst (IsRefusal _ c.args.event.now c.args.self.now.world) c.in-Err-Broken.field-0-is c.in-Err-Broken.ensures.refusal)
+pub returns-in-Err-clause-ready : goal.returns-in-Err-clause-ready
+returns-in-Err-clause-ready g c =
+    run_stays c.args.self.now _ c.requires.ready c.take.ensures.valid c.take.ensures.net refl c.take.ensures.laws
 
 pub returns-in-Ok-clause-counted : goal.returns-in-Ok-clause-counted
 returns-in-Ok-clause-counted g c = in_any_case _ c.write.result c.in-Ok.ensures.counted

@@ -1,0 +1,19 @@
+-- The bound of a node among those that are at hand.
+use Rattle.std.proofs.Common.{◌≡◌, ◌∙◌, ap, ℕ, ℤ, pos, ◌^◌, ◌<◌, of_z, to_z, List, length, get_or, arith}
+use Rattle.std.proofs.lemmas.Int.{fits_signed_from_abs, to_z-of_z}
+use Rattle.std.specs.Int.{w128}
+use Rattle.wrp_base.specs.Network.{node_count}
+use Rattle.wrp_base.specs.declared.configuration.NetCfg.{NetCfg}
+use Rattle.wrp_bounds.specs.Bounds.{path_of}
+use Rattle.wrp_run.specs.Bounds.{AreBounds}
+use Rattle.wrp_run.proofs.SimLines.{each_at}
+
+-- it stands at the node's place
+pub bound_at : (cfg : NetCfg) (bounds : List ℤ) (i n : ℕ) → AreBounds cfg bounds → n < node_count cfg → i ≡ n → to_z w128 (of_z w128 (get_or bounds i (pos 0))) ≡ pos (path_of cfg n)
+bound_at cfg bounds i n all is same =
+    let count = all.count in
+    let within : i < length bounds = omega (arith, count, is, same) in
+    let small : path_of cfg n < 2 ^ 100 = each_at (λ k bound. path_of cfg k < 2 ^ 100) bounds i n (pos 0) all.small within same in
+    let fits : path_of cfg n < 2 ^ 127 = omega (arith, small) in
+    ap (λ (z : ℤ). to_z w128 (of_z w128 z)) (each_at (λ k bound. bound ≡ pos (path_of cfg k)) bounds i n (pos 0) all.each within same)
+    ∙ to_z-of_z w128 (pos (path_of cfg n)) (fits_signed_from_abs w128 (pos (path_of cfg n)) fits)

@@ -1,0 +1,13 @@
+-- A run of a command that stands alone ends as its records do.
+use Rattle.wrp_run.specs.Words.{texts_of}
+use Rattle.wrp_run.proofs.Asking.{alone_ends}
+use Rattle.wrp_run.proofs.alone.run_alone.Goals as goal
+
+pub returns-clause-ends : goal.returns-clause-ends
+returns-clause-ends g c = alone_ends (texts_of c.args.words.now) c.args.alone _ _ c.handle.result c.requires c.handle.ensures
+
+pub returns-clause-read : goal.returns-clause-read
+returns-clause-read g c = c.handle.ensures.1.read
+
+pub returns-clause-write : goal.returns-clause-write
+returns-clause-write g c = c.handle.ensures.1.write
