@@ -1,0 +1,12 @@
+pub mod AcceptedLines
+pub mod Auditing
+pub mod Commands
+pub mod EachAnswered
+pub mod Listed
+pub mod Moments
+pub mod NoOutput
+pub mod NoTrack
+pub mod Replaying
+pub mod SimulatedHeard
+pub mod Simulating
+pub mod StandingAlone

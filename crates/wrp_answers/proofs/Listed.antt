@@ -1,0 +1,75 @@
+-- Where an audit is due to end with Done, the inputs of a listed node in it are too, and so is their replay.
+use Rattle.std.proofs.Common.{◌≡◌, ◌∙◌, inl, inr, refl, sym, ap, ℕ, ◌<◌, ◌≤◌, Some, Ok, List, [], append-nil, length, map}
+use Rattle.std.specs.List.{AllByRecursion}
+use Rattle.wrp_base.specs.declared.configuration.NetCfg.{NetCfg}
+use Rattle.wrp_config.proofs.OneReading.{one_reading}
+use Rattle.wrp_config.specs.Names.{node_named}
+use Rattle.wrp_course.specs.Run.{Happened}
+use Rattle.wrp_course.specs.Setting.{Setting}
+use Rattle.wrp_projection.specs.Law.{ReplayOfEmittedInputs}
+use Rattle.wrp_records.specs.declared.status.Status.TheVariants.{Done}
+use Rattle.wrp_records.specs.Lines.{content_of, lines_of}
+use Rattle.wrp_records.specs.RecordsAnswer.{RecordsAnswer}
+use Rattle.wrp_records.specs.Stream.{IsWithin, number_limit}
+use Rattle.wrp_run.specs.Answer.{Answer}
+use Rattle.wrp_run.specs.Audited.{IsAudit, IsSettingOf}
+use Rattle.wrp_run.specs.AuditText.{given_lines}
+use Rattle.wrp_run.specs.Input.{behind_separator, network_limit, network_text}
+use Rattle.wrp_run.specs.Tasks.{AsksFor, Audit, Emit, IsAuditing, IsEmission, Replay, Simulate, Task, meaning_at}
+use Rattle.wrp_run.proofs.BareSetting.{named_bare}
+use Rattle.wrp_run.proofs.WordLemmas.{alone_no_audit, audit_alone, no_option, no_simulation}
+use Rattle.wrp_answers.specs.Listed.{IsListed, ReplayOfListedInputs}
+
+-- an audit that ends with Done
+record DoneAudit (input : List ℕ) : Type 0 where
+  s : Setting
+  setting : IsSettingOf (network_text input) s
+  within : length (network_text input) ≤ network_limit
+  sizes : AllByRecursion IsWithin (behind_separator (lines_of input))
+  count : length (behind_separator (lines_of input)) < number_limit
+  events : List Happened
+  audit : IsAudit s (map content_of (behind_separator (lines_of input))) events
+
+audited : (words : List (List ℕ)) (input audit : List ℕ) → IsAuditing words → Answer words input [] Done audit → DoneAudit input
+audited words input audit asks (inr alone) = absurd (alone_no_audit words alone.0 alone.1 asks)
+audited words input audit asks (inl p) = go p.0 p.1 p.2
+  where
+    go : (task : Task) → AsksFor words (network_text input) task → RecordsAnswer (meaning_at task) (behind_separator (lines_of input)) Done audit → DoneAudit input
+    go (Replay site) q h = absurd (audit_alone words q.1 asks q.2)
+    go (Emit s n) q h = absurd (no_option words q.1 asks q.2)
+    go (Simulate s seed) q h = absurd (no_simulation words seed asks q.1)
+    go (Audit s) q h =
+        record { s = s; setting = q.2; within = q.0; sizes = h.handled.sizes; count = h.handled.count; events = h.handled.accepted.0; audit = h.handled.accepted.1 }
+
+-- the node that is listed is that of the audit's network
+named_there : (input name : List ℕ) (a : DoneAudit input) (listed : IsListed (network_text input) name) → node_named a.s.cfg name ≡ Some listed.node
+named_there input name a listed =
+    let nets = one_reading (network_text input) (Ok a.setting.net) (Ok listed.net) a.setting.reads listed.reads in
+    ap (λ (s : Setting). node_named s.cfg name) a.setting.is ∙ sym (named_bare a.setting.net.cfg name) ∙ ap (λ (cfg : NetCfg). node_named cfg name) nets.0
+    ∙ named_bare listed.net.cfg name ∙ listed.named
+
+-- the inputs of the node
+emitted : (words : List (List ℕ)) (input name : List ℕ) (a : DoneAudit input) (n : ℕ) → IsEmission words name → node_named a.s.cfg name ≡ Some n
+    → Answer words input [] Done (given_lines a.s n a.events)
+emitted words input name a n asks named =
+    inl (
+      Emit a.s n,
+      (a.within, name, asks, a.setting, named),
+      record {
+        written = given_lines a.s n a.events;
+        last = [];
+        handled = record { sizes = a.sizes; count = a.count; accepted = (a.events, a.audit, refl) };
+        closed = refl;
+        is = sym (append-nil (given_lines a.s n a.events));
+      },
+      refl,
+    )
+
+pub replay_of_listed : ReplayOfEmittedInputs → ReplayOfListedInputs
+replay_of_listed law auditing emitting replaying name input audit audits emits replays due listed =
+    let a : DoneAudit input = audited auditing input audit audits due in
+    let emission = emitted emitting input name a listed.node emits (named_there input name a listed) in (
+      given_lines a.s listed.node a.events,
+      emission,
+      λ replayed few has. law auditing emitting replaying name input replayed audit (given_lines a.s listed.node a.events) audits emits replays due emission few has,
+    )

@@ -1,0 +1,5 @@
+pub mod Accepted
+pub mod EachAnswer
+pub mod Listed
+pub mod Moments
+pub mod NoOutput

@@ -1,0 +1,11 @@
+//! That an answer is due: for words and an input of every kind some status and some octets are, and lines that say
+//! events, each accepted in its turn, are an audit. Words, inputs and lines are this project's profile.
+#![tactic(auto)]
+
+mod laws;
+
+pub use laws::{
+    accepted_is_audit, accepted_is_done, each_has_answer, each_replay_has_answer,
+    each_stands_alone_with_answer, emission_tells_no_output, emission_tells_no_track,
+    next_moment_is_least, replay_of_listed_inputs, run_of_lines_is_audit, simulated_is_heard,
+};

@@ -1,0 +1,21 @@
+//! A network over a link: the simulator makes its events, the frames that arrive go over the link as
+//! datagrams, and what the link gives is handled as frames that are handed over, as forged ones, or as noise.
+//! Whatever the link does, no premise of the world is broken, and all that is written is told by the calls of
+//! the link and what they answered (this project's profile).
+#![tactic(auto)]
+
+mod arrival;
+mod fate;
+mod index;
+mod laws;
+mod lines;
+mod network;
+mod routes;
+
+pub use arrival::{Taken, exchange};
+pub use fate::Fate;
+pub use index::{Came, Index};
+pub use laws::{index_chooses, loop_is_audited, loop_keeps_the_bounds, one_frame, one_loop};
+pub use lines::append_forged;
+pub use network::{LoopCourse, LoopedNetwork};
+pub use routes::{Route, route_of};
