@@ -1,0 +1,16 @@
+mod Rows
+mod Calls
+mod HeardLaws
+mod DetectorLaws
+mod SeenHere
+mod ServoSteps
+mod Causes
+mod ChainLaws
+mod FirstLaws
+mod FourLaws
+mod OnTicksLaws
+mod NodeDrops
+mod FibreLaws
+mod TrackCauses
+mod TrackLaws
+mod HoldoverLaws

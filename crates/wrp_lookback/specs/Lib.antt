@@ -1,0 +1,9 @@
+pub mod Heard
+pub mod Detector
+pub mod Chains
+pub mod Fours
+pub mod Tracks
+pub mod Holdovers
+pub mod OnTicks
+pub mod Drops
+pub mod Fibres
