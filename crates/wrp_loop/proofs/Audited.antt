@@ -80,7 +80,7 @@ space_plain : (rest : List ℕ) → is_marked (32 ∷ rest) ≡ false
 space_plain [] = refl
 space_plain (b ∷ rest) = refl
 
-at_name : (o : Option NodeCfg) (rest : List ℕ) → ((node : NodeCfg) → o ≡ Some node → is_name node.name.bytes ≡ true) →
+pub at_name : (o : Option NodeCfg) (rest : List ℕ) → ((node : NodeCfg) → o ≡ Some node → is_name node.name.bytes ≡ true) →
     is_marked (option_map_or (λ (node : NodeCfg). node.name.bytes) o [] ++ 32 ∷ rest) ≡ false
 at_name None rest h = space_plain rest
 at_name (Some node) rest h = named_plain node.name.bytes rest (h node refl)

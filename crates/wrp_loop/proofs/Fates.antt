@@ -113,6 +113,10 @@ more_first post x network after course next l way route got i frame old mid new 
   grows = grows_more x l h.now one.now old mid new h.grows one.grows;
 }
 
+pub first_at : {F : Type 0} (post : F → ℤ → ℤ → Type 0) (x : Plan) (network : LoopedNetwork F) (course : LoopCourse) (l : LoopAt) (way : Way) (route : Route) (got : List (ArrayVec ℕ)) (i j : ℕ) (old new : List ℕ) → i ≡ j →
+    HandledFirst post x network course l way route got i old new → HandledFirst post x network course l way route got j old new
+first_at post x network course l way route got i j old new same h = subst (λ (n : ℕ). HandledFirst post x network course l way route got n old new) same h
+
 -- the loop is over at this one
 pub full_first : {F : Type 0} (post : F → ℤ → ℤ → Type 0) (x : Plan) (network after : LoopedNetwork F) (course next : LoopCourse) (l : LoopAt) (way : Way) (route : Route) (got : List (ArrayVec ℕ)) (i : ℕ) (frame : ArrayVec ℕ) (old mid new : List ℕ) → i < length got →
     frame ≡ get_or got i frame → (h : HandledFirst post x network course l way route got i old mid) → HandledOne post x after next h.now way route frame false mid new → HandledAll post x after next l way route got false old new

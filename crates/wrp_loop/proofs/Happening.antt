@@ -1,5 +1,5 @@
 -- An event that comes, and its lines.
-use Rattle.std.proofs.Common.{◌≡◌, ◌∙◌, ap, ap₂, sym, ℕ, ℤ, List, ◌++◌, map, flat_map, append_assoc, Option, Some, option_map, slice_get, Result, Ok, Err, IfOk, OnOk}
+use Rattle.std.proofs.Common.{◌≡◌, ◌∙◌, ap, ap₂, sym, ℕ, ℤ, List, ◌++◌, map, flat_map, append_assoc, Option, Some, option_map, slice_get, Result, Ok, Err, IfOk, OnErr, OnOk}
 use Rattle.std.specs.List.{concat}
 use Rattle.wrp_base.specs.declared.configuration.NetCfg.{NetCfg}
 use Rattle.wrp_lines.specs.Lines.{output_line}
@@ -25,6 +25,11 @@ use Rattle.wrp_loop.proofs.Growing.{concat_flat, concat_map}
 pub in_any_case : {T E : Type 0} (P : Type 0) (r : Result T E) → P → OnOk r P
 in_any_case P (Ok value) holds = holds
 in_any_case P (Err error) holds = tt
+
+-- what holds in any case holds where it went wrong
+pub in_any_fault : {T E : Type 0} (P : Type 0) (r : Result T E) → P → OnErr r P
+in_any_fault P (Ok value) holds = tt
+in_any_fault P (Err error) holds = holds
 
 -- an event that keeps all premises breaks none
 pub none_broken : {F : Type 0} {post : F → ℤ → ℤ → Type 0} → AcceptedIsUnbroken → (world : WorldOf F) (e : Event) (premise : ℕ) (shown bound : ℤ) → CanHappen post world e → IsRefusal post e world (Broken premise shown bound) → ⊥

@@ -1,7 +1,12 @@
 pub mod Accepting
 pub mod Adding
+pub mod Arrivals
 pub mod Audited
+pub mod Betweens
+pub mod Carryings
 pub mod Choices
+pub mod Coming
+pub mod Crossings
 pub mod Fates
 pub mod Forgetting
 pub mod Frames
@@ -9,10 +14,11 @@ pub mod Growing
 pub mod Happening
 pub mod Keeping
 pub mod Lacking
+pub mod Leading
 pub mod Listing
 pub mod OneRule
 pub mod Receptions
-pub mod Rounds
+pub mod Saying
 pub mod Searching
 pub mod Standing
 pub mod Told

@@ -1,10 +1,20 @@
 -- The calls of a link that a loop makes, as a link tells them (this project's profile).
-use Rattle.std.specs.Prelude.{◌≡◌, ◌<◌, ◌⊎◌, ℕ, zero, suc, List, [], ◌∷◌, ◌++◌, length, map, Option, None, Some}
+use Rattle.std.specs.Prelude.{◌≡◌, ◌<◌, ◌≤◌, ◌⊎◌, ℕ, zero, suc, List, [], ◌∷◌, ◌++◌, length, map, Option, None, Some}
 use Rattle.std.specs.Option.{option_map}
 use Rattle.arrayvec.specs.ArrayVec.{ArrayVec}
+use Rattle.wrp_base.specs.Octets.{AreOctets}
 use Rattle.wrp_io.specs.declared.link.LinkCall.{LinkCall}
 use Rattle.wrp_io.specs.declared.link.LinkCall.TheVariants.{Send, Receive}
 use Rattle.wrp_io.specs.Link.{frame_of}
+
+-- octets that a frame has room for
+abbrev pub IsFrame : ArrayVec ℕ → Type 0
+IsFrame frame = AreOctets frame.items × (length frame.items ≤ 256)
+
+-- where a call gave a datagram, it is a frame
+abbrev pub IsFrameCall : LinkCall → Type 0
+IsFrameCall (Receive end (Some frame)) = IsFrame frame
+IsFrameCall _ = Unit {0}
 
 -- a link that told the first of these tells the second now: these calls came
 abbrev pub Adds : Option (List LinkCall) → Option (List LinkCall) → List LinkCall → Type 0

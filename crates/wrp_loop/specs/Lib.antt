@@ -6,3 +6,4 @@ pub mod LoopEnds
 pub mod LoopRun
 pub mod LoopStands
 pub mod LoopText
+pub mod SoFar

@@ -1,6 +1,6 @@
 -- What the code of a loop stands for as it goes on (this project's profile).
 use Rattle.std.specs.Prelude.{◌≡◌, ◌<◌, ◌≤◌, ℕ, ℤ, Bool, true, false, Option, None, Some, List, ◌∷◌, ◌++◌, length, Result}
-use Rattle.std.specs.List.{concat, flat_map}
+use Rattle.std.specs.List.{AllByRecursion, concat, flat_map}
 use Rattle.arrayvec.specs.ArrayVec.{ArrayVec}
 use Rattle.wrp_base.specs.declared.message.PtpMsg.{PtpMsg}
 use Rattle.wrp_base.specs.declared.time.Raw.{Raw}
@@ -25,7 +25,7 @@ use Rattle.wrp_world.specs.StandsFor.{IsValid, StandsFor, WorldOf}
 use Rattle.wrp_loop.specs.declared.network.LoopCourse.{LoopCourse}
 use Rattle.wrp_loop.specs.declared.network.LoopedNetwork.{LoopedNetwork}
 use Rattle.wrp_loop.specs.declared.routes.Route.{Route}
-use Rattle.wrp_loop.specs.Calls.{Adds, AreCutCalls, arrival_calls}
+use Rattle.wrp_loop.specs.Calls.{Adds, AreCutCalls, IsFrame, IsFrameCall, arrival_calls}
 use Rattle.wrp_loop.specs.Datagrams.{IsOfPeer, IsSuch, Way, end_number, receiving_end, sending_end}
 use Rattle.wrp_loop.specs.Index.{IsIndex}
 use Rattle.wrp_loop.specs.LoopRun.{ComesBetween, FrameArrives, GivesNext, Going, On, Full, Handles, HandlesAll, IsRound, LoopAt, Plan, PlainComes, Round, events_at, happened, number_limit, with_event, world_at}
@@ -147,6 +147,7 @@ pub record Exchanged (s : Setting) (f : FrameAt) (route : Route) (got : List (Ar
   pub calls :
       Adds before told
       (arrival_calls (end_number f.link f.by) (end_number f.link (other_of f.by)) (octets_of f.sending.message) got)
+  pub frames : AllByRecursion IsFrame got
 
 -- and those that were cut off by one that failed
 pub record CutOff (f : FrameAt) (before told : Option (List LinkCall)) : Type 0 where
@@ -154,6 +155,19 @@ pub record CutOff (f : FrameAt) (before told : Option (List LinkCall)) : Type 0 
   pub adds : Adds before told calls
   pub cut :
       AreCutCalls (end_number f.link f.by) (end_number f.link (other_of f.by)) (octets_of f.sending.message) calls
+  pub frames : AllByRecursion IsFrameCall calls
+
+-- whichever frame it is that a world has on its fibre under this number
+abbrev pub ExchangedBy : {F : Type 0} → (F → ℤ → ℤ → Type 0) → WorldOf F → ℕ → Route → List (ArrayVec ℕ)
+    → (before told : Option (List LinkCall)) → Type 0
+ExchangedBy post world number route got before told =
+    (s : Setting) (w : WorldAt) (f : FrameAt) → StandsFor post s w world → IsNetwork s → Flies w s number f →
+    Exchanged s f route got before told
+
+abbrev pub CutOffBy : {F : Type 0} → (F → ℤ → ℤ → Type 0) → WorldOf F → ℕ → (before told : Option (List LinkCall)) → Type 0
+CutOffBy post world number before told =
+    (s : Setting) (w : WorldAt) (f : FrameAt) → StandsFor post s w world → IsNetwork s → Flies w s number f →
+    CutOff f before told
 
 -- Datagrams
 
@@ -247,6 +261,7 @@ pub record RoundCame {F : Type 0} (post : F → ℤ → ℤ → Type 0) (x : Pla
   pub calls : List LinkCall
   pub is : IsRound x l round calls (going goes now)
   pub adds : Adds before told calls
+  pub frames : AllByRecursion IsFrameCall calls
   pub grows : Grows x l now old new
 
 -- the calls of an arrival
@@ -268,6 +283,7 @@ pub record ArrivalFails (x : Plan) (l : LoopAt) (before told : Option (List Link
   pub calls : List LinkCall
   pub adds : Adds before told calls
   pub cut : AreCutCalls (sending_end way) (receiving_end way) octets calls
+  pub frames : AllByRecursion IsFrameCall calls
 
 -- an event that is no arrival came
 pub record CamePlain {F : Type 0} (post : F → ℤ → ℤ → Type 0) (x : Plan) (network : LoopedNetwork F) (course : LoopCourse)

@@ -2,7 +2,9 @@
 ghost use Rattle.std.specs.Prelude.{◌≡◌, ◌≤◌, ℕ, List, IfOk, OnOk, OnErr, length};
 ghost use Rattle.wrp_io.specs.declared.link.LinkCall.{LinkCall};
 ghost use Rattle.wrp_io.specs.Faults.{Rose};
-ghost use Rattle.wrp_loop.specs.Calls.{Adds, AreCutCalls, AreCutTaken, arrival_calls, receptions};
+ghost use Rattle.std.specs.List.{AllByRecursion};
+ghost use Rattle.wrp_base.specs.Octets.{AreOctets};
+ghost use Rattle.wrp_loop.specs.Calls.{Adds, AreCutCalls, AreCutTaken, IsFrame, IsFrameCall, arrival_calls, receptions};
 
 use arrayvec::ArrayVec;
 use wrp_base::Frame;
@@ -14,13 +16,29 @@ const MOST_TAKEN: usize = 16;
 /// The datagrams that were taken at one arrival.
 pub type Taken = ArrayVec<Frame, 16>;
 
+// Octets are below 256.
+fn are_octets(octets: &[u8])
+    ensures { AreOctets octets.now }
+{
+    let _count = octets.len();
+}
+
+// Those of a frame are, and a frame has room for 256.
+fn frame_fits(frame: &Frame)
+    ensures { IsFrame frame.now }
+{
+    are_octets(frame.as_slice());
+}
+
 // Takes what waits at an end, up to the first reception that gives nothing.
 fn take_all<N: Link>(link: &mut N, to: u32) -> Result<Taken, Failed>
     ensures most { IfOk result (λ got. length got.items ≤ 16) }
+    ensures frames { IfOk result (λ got. AllByRecursion IsFrame got.items) }
     ensures calls { IfOk result (λ got.
         Adds (N.told link.old) (N.told link.new) (receptions to 16 got.items)) }
     ensures cut { OnErr result ((calls : List LinkCall)
-        × Adds (N.told link.old) (N.told link.new) calls × AreCutTaken to calls) }
+        × Adds (N.told link.old) (N.told link.new) calls × AreCutTaken to calls
+        × AllByRecursion IsFrameCall calls) }
     ensures rose { OnErr result (Rose (N.faults link.old) (N.faults link.new)) }
     ensures kept { OnOk result (N.faults link.new ≡ N.faults link.old) }
 {
@@ -30,6 +48,7 @@ fn take_all<N: Link>(link: &mut N, to: u32) -> Result<Taken, Failed>
         if !link.recv(to, &mut frame)? {
             return Ok(got);
         }
+        frame_fits(&frame);
         got.push(frame);
     }
     Ok(got)
@@ -39,10 +58,12 @@ fn take_all<N: Link>(link: &mut N, to: u32) -> Result<Taken, Failed>
 pub fn exchange<N: Link>(link: &mut N, from: u32, to: u32, octets: &[u8]) -> Result<Taken, Failed>
     requires { length octets.now ≤ 256 }
     ensures most { IfOk result (λ got. length got.items ≤ 16) }
+    ensures frames { IfOk result (λ got. AllByRecursion IsFrame got.items) }
     ensures calls { IfOk result (λ got.
         Adds (N.told link.old) (N.told link.new) (arrival_calls from to octets.now got.items)) }
     ensures cut { OnErr result ((calls : List LinkCall)
-        × Adds (N.told link.old) (N.told link.new) calls × AreCutCalls from to octets.now calls) }
+        × Adds (N.told link.old) (N.told link.new) calls × AreCutCalls from to octets.now calls
+        × AllByRecursion IsFrameCall calls) }
     ensures rose { OnErr result (Rose (N.faults link.old) (N.faults link.new)) }
     ensures kept { OnOk result (N.faults link.new ≡ N.faults link.old) }
 {

@@ -1,4 +1,14 @@
 //! What becomes of a datagram that a link gave.
+ghost use Rattle.std.specs.Prelude.{◌≡◌, ◌↔◌, true};
+ghost use Rattle.wrp_base.specs.Message.{is_port};
+ghost use Rattle.wrp_loop.specs.Datagrams.{IsBy, IsFate, Way};
+ghost use Rattle.wrp_loop.specs.LoopRun.{LoopAt, Plan, events_at};
+ghost use Rattle.wrp_loop.specs.LoopStands.{Carries};
+
+use crate::network::{LoopCourse, LoopedNetwork};
+use crate::routes::Route;
+use wrp_base::PortIdentity;
+use wrp_frame::decode;
 
 /// What becomes of a datagram.
 #[derive(Clone, Copy, Debug, PartialEq, Eq)]
@@ -9,4 +19,46 @@ pub enum Fate {
     Forged,
     /// It is neither.
     Noisy,
+}
+
+// Whether two ports are one.
+fn is_same_port(a: PortIdentity, b: PortIdentity) -> bool
+    ensures { result ≡ is_port a b }
+{
+    a.clock == b.clock && a.port == b.port
+}
+
+// Whether octets say a message of a port.
+fn is_by(port: PortIdentity, octets: &[u8]) -> bool
+    ensures { (result ≡ true) ↔ IsBy port octets.now }
+{
+    match decode(octets) {
+        Ok(message) => is_same_port(message.head.source, port),
+        Err(_) => false,
+    }
+}
+
+/// What becomes of a datagram with these octets that came by this route: it is the least numbered frame of
+/// that way with these octets that has arrived, is young and was not handed over yet, or else the greatest;
+/// or it is forged, where it says a message of the peer; or it is noise.
+pub fn fate_of<F: Fn(i64) -> i64>(
+    network: &LoopedNetwork<F>,
+    course: &LoopCourse,
+    route: Route,
+    octets: &[u8],
+) -> Fate
+    ensures { (x : Plan) (l : LoopAt) (way : Way)
+        → Carries F.post x network.now course.now l way route
+        → IsFate x.setting (events_at l) way octets.now result }
+{
+    match course.index.find(&network.world, route.from, octets) {
+        Some(number) => Fate::Handed(number),
+        None => {
+            if is_by(route.peer, octets) {
+                Fate::Forged
+            } else {
+                Fate::Noisy
+            }
+        }
+    }
 }

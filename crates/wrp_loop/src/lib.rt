@@ -5,11 +5,19 @@
 #![tactic(auto)]
 
 mod arrival;
+mod between;
+mod carrying;
+mod crossing;
+mod datagrams;
 mod fate;
 mod index;
 mod laws;
 mod lines;
+mod looping;
 mod network;
+mod outcome;
+mod plain;
+mod rounds;
 mod routes;
 
 pub use arrival::{Taken, exchange};
@@ -17,5 +25,7 @@ pub use fate::Fate;
 pub use index::{Came, Index};
 pub use laws::{index_chooses, loop_is_audited, loop_keeps_the_bounds, one_frame, one_loop};
 pub use lines::append_forged;
+pub use looping::{start_loop, take_round};
 pub use network::{LoopCourse, LoopedNetwork};
+pub use outcome::{LoopFault, Rounded};
 pub use routes::{Route, route_of};

@@ -26,6 +26,9 @@ use wrp_law::DelayLaw;
 use wrp_sim::{Scene, Sim};
 use wrp_world::{Event, NodeOut, Refused, World};
 
+/// The greatest number of an event.
+pub const LAST_EVENT: u32 = u32::MAX - 1;
+
 /// A network that runs over a link: its world, and a place for the steps of an event.
 #[derive(Drop)]
 pub struct LoopedNetwork<F> {
@@ -35,12 +38,14 @@ pub struct LoopedNetwork<F> {
     pub outs: Vec<NodeOut>,
 }
 
-/// What makes the events of a network, how many came, how many datagrams were forged, and the frames that
-/// arrived.
+/// What makes the events of a network, the place where the newest of its own is, how many came, how many
+/// datagrams were forged, and the frames that arrived.
 #[derive(Drop)]
 pub struct LoopCourse {
     /// The simulator.
     pub sim: Sim,
+    /// The newest event that it gave.
+    pub event: Event,
     /// How many events came.
     pub events: u32,
     /// How many datagrams were forged.
@@ -70,6 +75,7 @@ impl LoopCourse {
         let sim = Sim::new(alloc, scene, seed)?;
         Ok(LoopCourse {
             sim,
+            event: Event::Tick { node: 0 },
             events: 0,
             forged: 0,
             index: Index::new(alloc),

@@ -1,5 +1,6 @@
 -- One arrival: the frame is on its fibre, its octets go over the link, it arrives, and the datagrams are handled.
 use Rattle.std.proofs.Common.{◌≡◌, ◌∙◌, refl, ap, sym, subst, ℕ, ℤ, ◌+◌, ◌<◌, ◌≤◌, Bool, List, [], ◌∷◌, ◌++◌, length, Option, option_map, Err}
+use Rattle.std.specs.List.{AllByRecursion}
 use Rattle.arrayvec.specs.ArrayVec.{ArrayVec}
 use Rattle.wrp_base.specs.declared.time.Raw.{Raw}
 use Rattle.wrp_base.specs.Network.{other_of}
@@ -9,19 +10,18 @@ use Rattle.wrp_io.specs.declared.link.LinkCall.{LinkCall}
 use Rattle.wrp_course.specs.declared.event.Event.{Event}
 use Rattle.wrp_course.specs.declared.event.Event.TheVariants.{Arrive}
 use Rattle.wrp_course.specs.Setting.{Setting, end_of}
-use Rattle.wrp_course.specs.WorldAt.{FrameAt, WorldAt}
+use Rattle.wrp_course.specs.WorldAt.{FrameAt}
 use Rattle.wrp_sim.specs.Keeps.{EventsAreAccepted}
 use Rattle.wrp_sim.specs.Sim.{FitsSim, SimIs}
-use Rattle.wrp_course.specs.Runs.{IsNetwork}
-use Rattle.wrp_world.specs.StandsFor.{StandsFor, WorldOf}
 use Rattle.wrp_loop.specs.declared.network.LoopCourse.{LoopCourse}
 use Rattle.wrp_loop.specs.declared.network.LoopedNetwork.{LoopedNetwork}
 use Rattle.wrp_loop.specs.declared.routes.Route.{Route}
-use Rattle.wrp_loop.specs.Calls.{Adds, AreCutCalls, arrival_calls}
+use Rattle.wrp_loop.specs.Calls.{Adds, AreCutCalls, IsFrame, IsFrameCall, arrival_calls}
 use Rattle.wrp_loop.specs.Datagrams.{IsWayOf, Way, end_number, receiving_end, sending_end}
 use Rattle.wrp_loop.specs.Index.{Forgets, IsIndex, came_at}
 use Rattle.wrp_loop.specs.LoopRun.{Carried, FrameArrives, GivesNext, HandlesAll, LoopAt, On, Plan, events_at, happened, number_limit, with_event, world_at}
-use Rattle.wrp_loop.specs.LoopStands.{ArrivalCalls, ArrivalFails, Carries, CarriedOn, CutOff, Exchanged, FitsCourse, Flies, HandledAll, Happens, HasNext, IsRouteOf, NextArrives, RoundCame, RoutesNext, SomeFlies, going, way_by}
+use Rattle.wrp_loop.specs.LoopStands.{ArrivalCalls, ArrivalFails, Carries, CarriedOn, CutOff, CutOffBy, Exchanged, ExchangedBy, FitsCourse, Flies, HandledAll, Happens, HasNext, IsRouteOf, NextArrives, RoundCame, RoutesNext, SomeFlies, going, way_by}
+use Rattle.wrp_loop.proofs.Adding.{all_received}
 use Rattle.wrp_loop.proofs.Accepting.{IsStill, arriving, still_carrier}
 use Rattle.wrp_loop.proofs.Growing.{grows_more}
 use Rattle.wrp_loop.proofs.Listing.{forgotten}
@@ -137,13 +137,14 @@ round_came post x old new course next l e number raw f route got goes before tol
     handled = subst (λ k. HandlesAll x (way_by f route) got (On (with_event (happened k on.says on.answer) n.new l)) (going goes on.now)) same on.handled;
   };
   adds = ex.calls;
+  frames = (tt, all_received (receiving_end (way_by f route)) 16 got ex.frames);
   grows = on.grows;
 }
 
 -- where there was no memory
 pub calls_made : {F : Type 0} (post : F → ℤ → ℤ → Type 0) (x : Plan) (old : LoopedNetwork F) (course : LoopCourse) (l : LoopAt) (e : Event) (number : ℕ) (raw : Raw) (f : FrameAt) (route : Route) (got : List (ArrayVec ℕ)) (before told : Option (List LinkCall)) →
     e ≡ Arrive number raw → course.events + 1 < number_limit → length got ≤ 16 → HasNext post x old course l e → Flies (world_at x l) x.setting number f → Exchanged x.setting f route got before told →
-    (calls : List LinkCall) × Adds before told calls × ArrivalCalls x l calls
+    (calls : List LinkCall) × Adds before told calls × ArrivalCalls x l calls × AllByRecursion IsFrameCall calls
 calls_made post x old course l e number raw f route got before told same room few n flies ex = (
   arrival_calls (sending_end (way_by f route)) (receiving_end (way_by f route)) (octets_of f.sending.message) got,
   ex.calls,
@@ -156,6 +157,7 @@ calls_made post x old course l e number raw f route got before told same room fe
     few = few;
     are = refl;
   },
+  (tt, all_received (receiving_end (way_by f route)) 16 got ex.frames),
 )
 
 -- a call failed
@@ -173,22 +175,25 @@ call_failed post x old course l e number raw f before told same room n flies cut
       calls = cut.calls;
       adds = cut.adds;
       cut = cut.cut;
+      frames = cut.frames;
     }
 
 -- The calls of an arrival, of what the code has of its way
 
 pub exchanged_so : (s : Setting) (f : FrameAt) (route : Route) (octets : List ℕ) (got : List (ArrayVec ℕ)) (before told : Option (List LinkCall)) → IsRouteOf s f route → octets ≡ octets_of f.sending.message → Adds before told (arrival_calls route.from route.to octets got) →
-    Exchanged s f route got before told
-exchanged_so s f route octets got before told routes same adds = record {
+    AllByRecursion IsFrame got → Exchanged s f route got before told
+exchanged_so s f route octets got before told routes same adds frames = record {
   routes = routes;
+  frames = frames;
   calls = subst (Adds before told) (λ i. arrival_calls (routes.from_is i) (routes.to_is i) (same i) got) adds;
 }
 
 pub cut_off_so : (s : Setting) (f : FrameAt) (route : Route) (octets : List ℕ) (before told : Option (List LinkCall)) → IsRouteOf s f route → octets ≡ octets_of f.sending.message →
-    (calls : List LinkCall) × Adds before told calls × AreCutCalls route.from route.to octets calls → CutOff f before told
+    (calls : List LinkCall) × Adds before told calls × AreCutCalls route.from route.to octets calls × AllByRecursion IsFrameCall calls → CutOff f before told
 cut_off_so s f route octets before told routes same it = record {
   calls = it.0;
   adds = it.1;
+  frames = it.3;
   cut = subst (λ (o : List ℕ). AreCutCalls (end_number f.link f.by) (end_number f.link (other_of f.by)) o it.0) same
       (subst (λ (k : ℕ). AreCutCalls (end_number f.link f.by) k octets it.0) routes.to_is (subst (λ (k : ℕ). AreCutCalls k route.to octets it.0) routes.from_is it.2));
 }
@@ -201,12 +206,6 @@ fits_same network course next h sim events = record {
   count = h.count ∙ sym events;
   below = subst (λ k. k < number_limit) (sym events) h.below;
 }
-
-abbrev pub ExchangedBy : {F : Type 0} → (F → ℤ → ℤ → Type 0) → WorldOf F → ℕ → Route → List (ArrayVec ℕ) → (before told : Option (List LinkCall)) → Type 0
-ExchangedBy post world number route got before told = (s : Setting) (w : WorldAt) (f : FrameAt) → StandsFor post s w world → IsNetwork s → Flies w s number f → Exchanged s f route got before told
-
-abbrev pub CutOffBy : {F : Type 0} → (F → ℤ → ℤ → Type 0) → WorldOf F → ℕ → (before told : Option (List LinkCall)) → Type 0
-CutOffBy post world number before told = (s : Setting) (w : WorldAt) (f : FrameAt) → StandsFor post s w world → IsNetwork s → Flies w s number f → CutOff f before told
 
 pub routes_next : {F : Type 0} (post : F → ℤ → ℤ → Type 0) → EventsAreAccepted → (x : Plan) (network : LoopedNetwork F) (course : LoopCourse) (l : LoopAt) (e : Event) (number : ℕ) (raw : Raw) (route : Route) (got : List (ArrayVec ℕ)) (before told : Option (List LinkCall)) →
     e ≡ Arrive number raw → HasNext post x network course l e → ExchangedBy post network.world number route got before told → RoutesNext post network course e number route
@@ -225,7 +224,7 @@ carried_round post sim x old new kept next l e number raw route got goes before 
 
 pub lacking_round : {F : Type 0} (post : F → ℤ → ℤ → Type 0) → EventsAreAccepted → (x : Plan) (old : LoopedNetwork F) (kept : LoopCourse) (l : LoopAt) (e : Event) (number : ℕ) (raw : Raw) (route : Route) (got : List (ArrayVec ℕ)) (before told : Option (List LinkCall)) →
     e ≡ Arrive number raw → kept.events + 1 < number_limit → length got ≤ 16 → HasNext post x old kept l e → ExchangedBy post old.world number route got before told →
-    (calls : List LinkCall) × Adds before told calls × ArrivalCalls x l calls
+    (calls : List LinkCall) × Adds before told calls × ArrivalCalls x l calls × AllByRecursion IsFrameCall calls
 lacking_round post sim x old kept l e number raw route got before told same room few n exchanged =
     let it : NextFlies x l number = next_flies post sim x old kept l e number raw same n in
     calls_made post x old kept l e number raw it.frame route got before told same room few n it.flies (exchanged x.setting (world_at x l) it.frame n.has.stands n.has.net it.flies)

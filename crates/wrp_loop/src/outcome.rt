@@ -1,0 +1,21 @@
+//! What becomes of a round of a loop.
+
+/// What became of a round.
+#[derive(Clone, Copy, Debug, PartialEq, Eq)]
+pub enum Rounded {
+    /// An event of the simulator came, or was left out.
+    GoesOn,
+    /// None comes any more.
+    Over,
+    /// The next event, of the simulator or of a datagram, has a number that reaches `2^32 - 1`.
+    TooLarge,
+}
+
+/// Why a loop goes no further.
+#[derive(Clone, Copy, Debug, PartialEq, Eq)]
+pub enum LoopFault {
+    /// A call of the link failed, and its count of faults rose.
+    Failed,
+    /// There was no memory.
+    Memory,
+}
