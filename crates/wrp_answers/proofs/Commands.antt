@@ -5,9 +5,9 @@ use Rattle.wrp_base.proofs.Lists.{heads, tails}
 use Rattle.wrp_run.specs.declared.alone.Alone.{Alone}
 use Rattle.wrp_run.specs.declared.alone.Alone.TheVariants.{Migrate, Inspect, L1Sync, Calibrate, Plain}
 use Rattle.wrp_run.specs.Alone.{IsAlone, alone_row}
-use Rattle.wrp_run.specs.CommandLine.{HasOption, IsCommandWith, IsDashed}
+use Rattle.wrp_run.specs.CommandLine.{HasOption, IsCommandWith, IsDashed, IsSeeded}
 use Rattle.wrp_run.specs.Fields.{seed_of}
-use Rattle.wrp_run.specs.Tasks.{IsAuditing, IsEmission, IsReplay, IsSimulation}
+use Rattle.wrp_run.specs.Tasks.{IsAuditing, IsEmission, IsLooping, IsReplay, IsSimulation}
 use Rattle.wrp_run.proofs.WordLemmas.{one_value}
 
 -- it holds, or it does not
@@ -128,23 +128,26 @@ replay_decided words = value_decided (codes "replay") (codes "--node") words
 pub emission_decided : (words : List (List ℕ)) → IsDecided ((name : List ℕ) × IsEmission words name)
 emission_decided words = value_decided (codes "audit") (codes "--emit") words
 
-abbrev Seeded : List (List ℕ) → Type 0
-Seeded words = (seed : ℕ) × IsSimulation words seed
+abbrev Seeded : List ℕ → List (List ℕ) → Type 0
+Seeded command words = (seed : ℕ) × IsSeeded command words seed
 
-seed_by : (words : List (List ℕ)) (text : List ℕ) → IsCommandWith (codes "simulate") (codes "--seed") words text → (o : Option ℕ) → seed_of text ≡ o → IsDecided (Seeded words)
-seed_by words text has (Some seed) is = inl (seed, (text, has, is))
-seed_by words text has None is =
+seed_by : (command : List ℕ) (words : List (List ℕ)) (text : List ℕ) → IsCommandWith command (codes "--seed") words text → (o : Option ℕ) → seed_of text ≡ o → IsDecided (Seeded command words)
+seed_by command words text has (Some seed) is = inl (seed, (text, has, is))
+seed_by command words text has None is =
     inr (λ s.
-    let same : text ≡ s.1.0 = one_value (codes "simulate") (codes "--seed") words text s.1.0 has s.1.1 in
+    let same : text ≡ s.1.0 = one_value command (codes "--seed") words text s.1.0 has s.1.1 in
     let both : None ≡ Some s.0 = sym is ∙ ap seed_of same ∙ s.1.2 in
     cc)
 
-seeded_by : (words : List (List ℕ)) → IsDecided (HasValue (codes "simulate") (codes "--seed") words) → IsDecided (Seeded words)
-seeded_by words (inl has) = seed_by words has.0 has.1 (seed_of has.0) refl
-seeded_by words (inr none) = inr (λ s. none (s.1.0, s.1.1))
+seeded_by : (command : List ℕ) (words : List (List ℕ)) → IsDecided (HasValue command (codes "--seed") words) → IsDecided (Seeded command words)
+seeded_by command words (inl has) = seed_by command words has.0 has.1 (seed_of has.0) refl
+seeded_by command words (inr none) = inr (λ s. none (s.1.0, s.1.1))
 
 pub simulation_decided : (words : List (List ℕ)) → IsDecided ((seed : ℕ) × IsSimulation words seed)
-simulation_decided words = seeded_by words (value_decided (codes "simulate") (codes "--seed") words)
+simulation_decided words = seeded_by (codes "simulate") words (value_decided (codes "simulate") (codes "--seed") words)
+
+pub looping_decided : (words : List (List ℕ)) → IsDecided ((seed : ℕ) × IsLooping words seed)
+looping_decided words = seeded_by (codes "loop") words (value_decided (codes "loop") (codes "--seed") words)
 
 abbrev StandsAlone : List (List ℕ) → Type 0
 StandsAlone words = (alone : Alone) × IsAlone words alone

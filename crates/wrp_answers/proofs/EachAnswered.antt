@@ -1,5 +1,5 @@
 -- For words and an input an answer is due.
-use Rattle.std.proofs.Common.{◌≡◌, ◌∙◌, inl, inr, refl, ℕ, ◌≤◌, List, [], length, Option, None, Some, Result, Ok, Err}
+use Rattle.std.proofs.Common.{◌≡◌, ◌⊎◌, ◌∙◌, inl, inr, refl, ℕ, ◌≤◌, List, [], length, Option, None, Some, Result, Ok, Err}
 use Rattle.std.proofs.lemmas.Bool.{cases_lt}
 use Rattle.wrp_base.specs.declared.fault.ConfFault.{ConfFault}
 use Rattle.wrp_base.specs.declared.fault.ConfFault.TheVariants.{Fault, Memory}
@@ -11,7 +11,10 @@ use Rattle.wrp_config.specs.Same.{IsSettled, ReadingIsAccepted, bare_cfg}
 use Rattle.wrp_records.specs.declared.status.Status.{Status}
 use Rattle.wrp_records.specs.declared.status.Status.TheVariants.{Done, Usage, BadNetwork, BadTrace, Broken, ReadFault, WriteFault, LinkFault, TooLarge, OutOfMemory, BadCapture, BadCalib}
 use Rattle.wrp_records.specs.Lines.{lines_of}
+use Rattle.wrp_records.specs.declared.machine.Refusal.TheVariants as refusals
+use Rattle.wrp_records.specs.RecordsAnswer.{IsLarge, IsRefused, RecordsAnswer}
 use Rattle.wrp_records.specs.Refusals.{bad_network_line, too_large_line}
+use Rattle.wrp_run.specs.Simulates.{scenario_of, simulation_of}
 use Rattle.wrp_course.specs.Setting.{Setting}
 use Rattle.wrp_trace.specs.LineSetting.{LineSetting}
 use Rattle.wrp_run.specs.declared.alone.Alone.{Alone}
@@ -21,18 +24,22 @@ use Rattle.wrp_run.specs.Answer.{AloneAnswer, Answer, IsCommand, IsNetworked, Is
 use Rattle.wrp_run.specs.Audited.{setting_at}
 use Rattle.wrp_run.specs.Input.{behind_separator, network_limit, network_text}
 use Rattle.wrp_run.specs.Refusals.{usage_line}
-use Rattle.wrp_run.specs.Tasks.{AsksFor, Audit, Emit, IsAuditing, IsEmission, IsReplay, IsSimulation, Replay, Simulate, Task, meaning_at}
+use Rattle.wrp_run.specs.Tasks.{AsksFor, Audit, Emit, IsAuditing, IsEmission, IsLooping, IsReplay, IsSimulation, Loop, Replay, Simulate, Task, meaning_at}
 use Rattle.wrp_run.proofs.BareSetting.{named_bare}
 use Rattle.wrp_answers.proofs.Auditing.{IsOfNetwork, audit_answered, emission_answered}
-use Rattle.wrp_answers.proofs.Commands.{alone_decided, auditing_decided, emission_decided, replay_decided, simulation_decided}
+use Rattle.wrp_answers.proofs.Commands.{alone_decided, auditing_decided, emission_decided, looping_decided, replay_decided, simulation_decided}
 use Rattle.wrp_answers.proofs.Replaying.{each_replay_has_answer}
 use Rattle.wrp_answers.proofs.Simulating.{simulation_answered}
 use Rattle.wrp_answers.proofs.StandingAlone.{each_stands_alone_with_answer}
 use Rattle.wrp_due.specs.Due.{HasAnswer}
-use Rattle.wrp_answers.specs.EachAnswer.{EachHasAnswer}
+use Rattle.wrp_answers.specs.EachAnswer.{EachHasAnswer, NeedsCalls}
 
 abbrev Answered : List (List ℕ) → List ℕ → Type 0
 Answered words input = (status : Status) × (octets : List ℕ) × Answer words input [] status octets
+
+-- or calls of a link tell it
+abbrev Settled : List (List ℕ) → List ℕ → Type 0
+Settled words input = Answered words input ⊎ NeedsCalls words input
 
 -- what is due of a task, or of a command that stands alone, is due
 due_of_task : (words : List (List ℕ)) (input : List ℕ) (status : Status) (octets : List ℕ) → TaskAnswer words input [] status octets → Answer words input [] status octets
@@ -59,16 +66,16 @@ no_usage Plain input octets due = due.1
 due_alone : (words : List (List ℕ)) (input : List ℕ) (status : Status) (octets : List ℕ) → AloneAnswer words input [] status octets → Answer words input [] status octets
 due_alone words input Usage octets due = absurd (no_usage due.0 input octets due.2)
 due_alone words input BadNetwork octets due = inr due
-due_alone words input TooLarge octets due = inr (inr due)
-due_alone words input Done octets due = inr due
-due_alone words input BadTrace octets due = inr due
-due_alone words input Broken octets due = inr due
-due_alone words input ReadFault octets due = inr due
-due_alone words input WriteFault octets due = inr due
-due_alone words input LinkFault octets due = inr due
-due_alone words input OutOfMemory octets due = inr due
-due_alone words input BadCapture octets due = inr due
-due_alone words input BadCalib octets due = inr due
+due_alone words input TooLarge octets due = inr (inr (inl due))
+due_alone words input Done octets due = inr (inl due)
+due_alone words input BadTrace octets due = inr (inl due)
+due_alone words input Broken octets due = inr (inl due)
+due_alone words input ReadFault octets due = inr (inl due)
+due_alone words input WriteFault octets due = inr (inl due)
+due_alone words input LinkFault octets due = inr (inl due)
+due_alone words input OutOfMemory octets due = inr (inl due)
+due_alone words input BadCapture octets due = inr (inl due)
+due_alone words input BadCalib octets due = inr (inl due)
 
 -- a task whose record lines are answered
 of_task : (words : List (List ℕ)) (input : List ℕ) (task : Task) → AsksFor words (network_text input) task → HasAnswer (meaning_at task) (behind_separator (lines_of input)) → Answered words input
@@ -112,23 +119,69 @@ simulation_in words input seed net asks within reads =
     let s : Setting = setting_at net.cfg net.db in
     of_task words input (Simulate s seed) (within, asks, record { net = net; reads = reads; is = refl }) (simulation_answered s seed (behind_separator (lines_of input)))
 
+-- a run over a link is answered by its records, or needs calls
+refused_scene : (s : Setting) (seed : ℕ) (lines : List (List ℕ)) (octets : List ℕ) → IsRefused (simulation_of s seed) refusals.BadTrace lines octets → IsRefused (scenario_of s) refusals.BadTrace lines octets
+refused_scene s seed lines octets h = record {
+  before = h.before;
+  line = h.line;
+  behind = h.behind;
+  written = h.written;
+  last = h.last;
+  divided = h.divided;
+  handled = record { sizes = h.handled.sizes; count = h.handled.count; accepted = h.handled.accepted };
+  within = h.within;
+  number = h.number;
+  refused = h.refused;
+  is = h.is;
+}
+
+large_scene : (s : Setting) (seed : ℕ) (lines : List (List ℕ)) (octets : List ℕ) → IsLarge (simulation_of s seed) lines octets → IsLarge (scenario_of s) lines octets
+large_scene s seed lines octets h = record {
+  before = h.before;
+  line = h.line;
+  behind = h.behind;
+  written = h.written;
+  divided = h.divided;
+  handled = record { sizes = h.handled.sizes; count = h.handled.count; accepted = h.handled.accepted };
+  large = h.large;
+  is = h.is;
+}
+
+loop_by : (words : List (List ℕ)) (input : List ℕ) (s : Setting) (seed : ℕ) (status : Status) (octets : List ℕ) → AsksFor words (network_text input) (Loop s seed)
+    → RecordsAnswer (simulation_of s seed) (behind_separator (lines_of input)) status octets → Settled words input
+loop_by words input s seed Done octets asks h = inr (s, seed, h.handled.accepted.0, asks, h.handled.accepted.1)
+loop_by words input s seed BadTrace octets asks h =
+    inl (BadTrace, octets, inl (Loop s seed, asks, refused_scene s seed (behind_separator (lines_of input)) octets h, refl))
+loop_by words input s seed TooLarge octets asks (inl h) =
+    inl (TooLarge, octets, inr (inl (Loop s seed, asks, inl (large_scene s seed (behind_separator (lines_of input)) octets h), refl)))
+loop_by words input s seed TooLarge octets asks (inr h) = inr (s, seed, h.handled.accepted.0, asks, h.handled.accepted.1)
+loop_by words input s seed Broken octets asks h = absurd h.refused
+loop_by words input s seed BadCalib octets asks h = absurd h.broken
+loop_by words input s seed _ octets asks h = absurd h
+
+loop_in : (words : List (List ℕ)) (input : List ℕ) (seed : ℕ) (net : Network) → IsLooping words seed → length (network_text input) ≤ network_limit → IsReadingOf (network_text input) (Ok net) → Settled words input
+loop_in words input seed net asks within reads =
+    let s : Setting = setting_at net.cfg net.db in
+    let due = simulation_answered s seed (behind_separator (lines_of input)) in
+    loop_by words input s seed due.0 due.1 (within, asks, record { net = net; reads = reads; is = refl }) due.2
+
 -- The network text in front
 
 -- what is due in the network that it describes
 abbrev InNetwork : List (List ℕ) → List ℕ → Type 0
-InNetwork words input = (net : Network) → length (network_text input) ≤ network_limit → IsReadingOf (network_text input) (Ok net) → Answered words input
+InNetwork words input = (net : Network) → length (network_text input) ≤ network_limit → IsReadingOf (network_text input) (Ok net) → Settled words input
 
 read_as : (words : List (List ℕ)) (input : List ℕ) → IsNetworked words → InNetwork words input → length (network_text input) ≤ network_limit
-    → (due : Result Network ConfFault) → IsSettled due → IsReadingOf (network_text input) due → Answered words input
+    → (due : Result Network ConfFault) → IsSettled due → IsReadingOf (network_text input) due → Settled words input
 read_as words input asks inside within (Ok net) settled reads = inside net within reads
 read_as words input asks inside within (Err (Fault code place)) settled reads =
-    (BadNetwork, bad_network_line code place.bytes, inl (asks, within, (code, place, reads, refl), refl))
+    inl (BadNetwork, bad_network_line code place.bytes, inl (asks, within, (code, place, reads, refl), refl))
 read_as words input asks inside within (Err (Memory e)) settled reads = absurd settled
 
-networked : (words : List (List ℕ)) (input : List ℕ) → IsNetworked words → InNetwork words input → Answered words input
+networked : (words : List (List ℕ)) (input : List ℕ) → IsNetworked words → InNetwork words input → Settled words input
 networked words input asks inside =
     elim (cases_lt network_limit (length (network_text input))) [
-      | inl long ↦ (TooLarge, too_large_line, inl (asks, long, refl, refl))
+      | inl long ↦ inl (TooLarge, too_large_line, inl (asks, long, refl, refl))
       | inr within ↦
           let due = each_is_read (network_text input) in
           read_as words input asks inside within due.0 due.1 due.2
@@ -137,30 +190,34 @@ networked words input asks inside =
 -- Words
 
 no_command : (words : List (List ℕ)) → (IsAuditing words → ⊥) → ((name : List ℕ) × IsReplay words name → ⊥) → ((name : List ℕ) × IsEmission words name → ⊥) → ((seed : ℕ) × IsSimulation words seed → ⊥)
-    → ((alone : Alone) × IsAlone words alone → ⊥) → IsCommand words → ⊥
-no_command words audit replay emission simulation alone (inl (inl is)) = audit is
-no_command words audit replay emission simulation alone (inl (inr (inl (name, inl is)))) = replay (name, is)
-no_command words audit replay emission simulation alone (inl (inr (inl (name, inr is)))) = emission (name, is)
-no_command words audit replay emission simulation alone (inl (inr (inr is))) = simulation is
-no_command words audit replay emission simulation alone (inr is) = alone is
+    → ((alone : Alone) × IsAlone words alone → ⊥) → ((seed : ℕ) × IsLooping words seed → ⊥) → IsCommand words → ⊥
+no_command words audit replay emission simulation alone unlooped (inl (inl is)) = audit is
+no_command words audit replay emission simulation alone unlooped (inl (inr (inl (name, inl is)))) = replay (name, is)
+no_command words audit replay emission simulation alone unlooped (inl (inr (inl (name, inr is)))) = emission (name, is)
+no_command words audit replay emission simulation alone unlooped (inl (inr (inr (inl is)))) = simulation is
+no_command words audit replay emission simulation alone unlooped (inl (inr (inr (inr is)))) = unlooped is
+no_command words audit replay emission simulation alone unlooped (inr is) = alone is
 
 pub each_has_answer : ReadingIsAccepted → EachHasAnswer
 each_has_answer accepted words input =
     elim (auditing_decided words) [
-      | inl is ↦ networked words input (inl is) (λ net within reads. audit_in accepted words input net is within reads)
+      | inl is ↦ networked words input (inl is) (λ net within reads. inl (audit_in accepted words input net is within reads))
       | inr audit ↦ elim (replay_decided words) [
         | inl is ↦ networked words input (inr (inl (is.0, inl is.1)))
-            (λ net within reads. replay_in words input is.0 net is.1 within reads (node_named net.cfg is.0) refl)
+            (λ net within reads. inl (replay_in words input is.0 net is.1 within reads (node_named net.cfg is.0) refl))
         | inr replay ↦ elim (emission_decided words) [
           | inl is ↦ networked words input (inr (inl (is.0, inr is.1)))
-              (λ net within reads. emission_in accepted words input is.0 net is.1 within reads (node_named net.cfg is.0) refl)
+              (λ net within reads. inl (emission_in accepted words input is.0 net is.1 within reads (node_named net.cfg is.0) refl))
           | inr emission ↦ elim (simulation_decided words) [
-            | inl is ↦ networked words input (inr (inr is)) (λ net within reads. simulation_in words input is.0 net is.1 within reads)
-            | inr simulation ↦ elim (alone_decided words) [
-              | inl is ↦
-                  let due = each_stands_alone_with_answer is.0 input in
-                  (due.0, due.1, due_alone words input due.0 due.1 (is.0, is.1, due.2))
-              | inr alone ↦ (Usage, usage_line, (inl (no_command words audit replay emission simulation alone), refl, refl))
+            | inl is ↦ networked words input (inr (inr (inl is))) (λ net within reads. inl (simulation_in words input is.0 net is.1 within reads))
+            | inr simulation ↦ elim (looping_decided words) [
+              | inl is ↦ networked words input (inr (inr (inr is))) (λ net within reads. loop_in words input is.0 net is.1 within reads)
+              | inr looping ↦ elim (alone_decided words) [
+                | inl is ↦
+                    let due = each_stands_alone_with_answer is.0 input in
+                    inl (due.0, due.1, due_alone words input due.0 due.1 (is.0, is.1, due.2))
+                | inr alone ↦ inl (Usage, usage_line, (inl (no_command words audit replay emission simulation alone looping), refl, refl))
+              ]
             ]
           ]
         ]

@@ -15,9 +15,9 @@ use Rattle.wrp_run.specs.Answer.{Answer}
 use Rattle.wrp_run.specs.Audited.{IsAudit, IsSettingOf}
 use Rattle.wrp_run.specs.AuditText.{given_lines}
 use Rattle.wrp_run.specs.Input.{behind_separator, network_limit, network_text}
-use Rattle.wrp_run.specs.Tasks.{AsksFor, Audit, Emit, IsAuditing, IsEmission, Replay, Simulate, Task, meaning_at}
+use Rattle.wrp_run.specs.Tasks.{AsksFor, Audit, Emit, IsAuditing, IsEmission, Loop, Replay, Simulate, Task, meaning_at}
 use Rattle.wrp_run.proofs.BareSetting.{named_bare}
-use Rattle.wrp_run.proofs.WordLemmas.{alone_no_audit, audit_alone, no_option, no_simulation}
+use Rattle.wrp_run.proofs.WordLemmas.{alone_no_audit, audit_alone, audit_unlooped, no_option, no_simulation}
 use Rattle.wrp_answers.specs.Listed.{IsListed, ReplayOfListedInputs}
 
 -- an audit that ends with Done
@@ -31,13 +31,15 @@ record DoneAudit (input : List ℕ) : Type 0 where
   audit : IsAudit s (map content_of (behind_separator (lines_of input))) events
 
 audited : (words : List (List ℕ)) (input audit : List ℕ) → IsAuditing words → Answer words input [] Done audit → DoneAudit input
-audited words input audit asks (inr alone) = absurd (alone_no_audit words alone.0 alone.1 asks)
+audited words input audit asks (inr (inl alone)) = absurd (alone_no_audit words alone.0 alone.1 asks)
+audited words input audit asks (inr (inr looped)) = absurd (audit_unlooped words asks looped.1 looped.2.1)
 audited words input audit asks (inl p) = go p.0 p.1 p.2
   where
     go : (task : Task) → AsksFor words (network_text input) task → RecordsAnswer (meaning_at task) (behind_separator (lines_of input)) Done audit → DoneAudit input
     go (Replay site) q h = absurd (audit_alone words q.1 asks q.2)
     go (Emit s n) q h = absurd (no_option words q.1 asks q.2)
     go (Simulate s seed) q h = absurd (no_simulation words seed asks q.1)
+    go (Loop s seed) q h = absurd (audit_unlooped words asks seed q.1)
     go (Audit s) q h =
         record { s = s; setting = q.2; within = q.0; sizes = h.handled.sizes; count = h.handled.count; events = h.handled.accepted.0; audit = h.handled.accepted.1 }
 

@@ -1,11 +1,17 @@
 -- That an answer is due (this project's profile).
-use Rattle.std.specs.Prelude.{ℕ, List, []}
+use Rattle.std.specs.Prelude.{◌⊎◌, ℕ, List, [], map}
+use Rattle.wrp_course.specs.Setting.{Setting}
+use Rattle.wrp_records.specs.Lines.{content_of, lines_of}
 use Rattle.wrp_records.specs.declared.status.Status.{Status}
 use Rattle.wrp_due.specs.Due.{HasAnswer}
 use Rattle.wrp_run.specs.declared.alone.Alone.{Alone}
 use Rattle.wrp_run.specs.Alone.{alone_meaning}
 use Rattle.wrp_run.specs.Answer.{Answer}
+use Rattle.wrp_run.specs.Input.{behind_separator, network_text}
 use Rattle.wrp_run.specs.Replays.{meaning_of}
+use Rattle.wrp_run.specs.Simulates.{IsScenario}
+use Rattle.wrp_run.specs.Tasks.{AsksFor, Loop}
+use Rattle.wrp_sim.specs.Scenario.{SceneAt}
 use Rattle.wrp_trace.specs.LineSetting.{LineSetting}
 
 -- for the record lines of each replay
@@ -18,8 +24,16 @@ EachStandsAloneWithAnswer =
     (alone : Alone) (input : List ℕ) → (status : Status) × (octets : List ℕ)
     × (alone_meaning alone).answers input [] status octets
 
--- for words and an input, where no link is called, some status and octets are due
+-- the words ask for a run over a link, of an accepted network, by records that are all those of a scenario: the calls of the link
+-- tell what is due
+abbrev pub NeedsCalls : List (List ℕ) → List ℕ → Type 0
+NeedsCalls words input =
+    (s : Setting) × (seed : ℕ) × (scene : SceneAt) × AsksFor words (network_text input) (Loop s seed)
+    × IsScenario s (map content_of (behind_separator (lines_of input))) scene
+
+-- for words and an input some status and octets are due without a call of a link, unless they need such calls; whether an answer
+-- is due for the calls that a link may tell is not said here
 abbrev pub EachHasAnswer : Type 0
 EachHasAnswer =
-    (words : List (List ℕ)) (input : List ℕ) → (status : Status) × (octets : List ℕ)
-    × Answer words input [] status octets
+    (words : List (List ℕ)) (input : List ℕ) →
+    ((status : Status) × (octets : List ℕ) × Answer words input [] status octets) ⊎ NeedsCalls words input

@@ -36,7 +36,7 @@ use Rattle.wrp_run.specs.NodeText.{node_counts}
 use Rattle.wrp_records.specs.RecordsAnswer.{IsWholly, RecordsAnswer}
 use Rattle.wrp_run.specs.Replays.{Accepts, AreInputs, Closes, IsNetworkOf, meaning_of}
 use Rattle.wrp_run.specs.declared.command_line.Form.TheVariants as forms
-use Rattle.wrp_run.specs.Tasks.{AsksFor, Audit, Emit, IsAuditing, IsEmission, IsReplay, Replay, Simulate, Task, meaning_at}
+use Rattle.wrp_run.specs.Tasks.{AsksFor, Audit, Emit, IsAuditing, IsEmission, IsReplay, Loop, Replay, Simulate, Task, meaning_at}
 use Rattle.wrp_run.proofs.AuditSteps.{made_after}
 use Rattle.wrp_run.proofs.BareAudit.{after_bare, bare_is, bare_setting}
 use Rattle.wrp_run.proofs.BareEvents.{line_bare}
@@ -45,7 +45,7 @@ use Rattle.wrp_run.proofs.BareSetting.{name_bare, named_bare, read_bare}
 use Rattle.wrp_run.proofs.OneAnswer.{one_setting}
 use Rattle.wrp_run.proofs.OneAudit.{read}
 use Rattle.wrp_records.proofs.Reaching.{lines_alone}
-use Rattle.wrp_run.proofs.WordLemmas.{alone_no_audit, alone_unnetworked, audit_alone, emission_alone, no_option, no_simulation, one_value, simulation_alone}
+use Rattle.wrp_run.proofs.WordLemmas.{alone_no_audit, alone_unnetworked, audit_alone, audit_unlooped, emission_alone, emission_unlooped, no_option, no_simulation, one_value, simulation_alone}
 use Rattle.wrp_projection.specs.Law.{FrontWithRecords, HasRecords, ReplayOfEmittedInputs}
 use Rattle.wrp_projection.specs.Projection.{IsProjection, IsProjectionTo}
 use Rattle.wrp_projection.proofs.Own.{audit_is, given_are, own_lines, put_out_by}
@@ -66,13 +66,15 @@ record TheAudit (input audit : List ℕ) : Type 0 where
   is : audit ≡ audit_lines s events ++ all_counts s (world_after s events)
 
 audited : OneAudit → (words : List (List ℕ)) (input audit : List ℕ) → IsAuditing words → Answer words input [] Done audit → TheAudit input audit
-audited one words input audit asks (inr alone) = absurd (alone_no_audit words alone.0 alone.1 asks)
+audited one words input audit asks (inr (inl alone)) = absurd (alone_no_audit words alone.0 alone.1 asks)
+audited one words input audit asks (inr (inr looped)) = absurd (audit_unlooped words asks looped.1 looped.2.1)
 audited one words input audit asks (inl p) = go p.0 p.1 p.2
   where
     go : (task : Task) → AsksFor words (network_text input) task → RecordsAnswer (meaning_at task) (behind_separator (lines_of input)) Done audit → TheAudit input audit
     go (Replay site) q h = absurd (audit_alone words q.1 asks q.2)
     go (Emit s n) q h = absurd (no_option words q.1 asks q.2)
     go (Simulate s seed) q h = absurd (no_simulation words seed asks q.1)
+    go (Loop s seed) q h = absurd (audit_unlooped words asks seed q.1)
     go (Audit s) q h = record {
       s = s;
       setting = q.2;
@@ -96,13 +98,15 @@ record TheEmission (input name records : List ℕ) : Type 0 where
   is : records ≡ given_lines s node events
 
 emitted : (words : List (List ℕ)) (input name records : List ℕ) → IsEmission words name → Answer words input [] Done records → TheEmission input name records
-emitted words input name records asks (inr alone) = absurd (alone_unnetworked words alone.0 alone.1 (inr (inl (name, inr asks))))
+emitted words input name records asks (inr (inl alone)) = absurd (alone_unnetworked words alone.0 alone.1 (inr (inl (name, inr asks))))
+emitted words input name records asks (inr (inr looped)) = absurd (emission_unlooped words name asks looped.1 looped.2.1)
 emitted words input name records asks (inl p) = go p.0 p.1 p.2
   where
     go : (task : Task) → AsksFor words (network_text input) task → RecordsAnswer (meaning_at task) (behind_separator (lines_of input)) Done records → TheEmission input name records
     go (Replay site) q h = absurd (emission_alone words name q.1 asks q.2)
     go (Audit s) q h = absurd (no_option words name q.1 asks)
     go (Simulate s seed) q h = absurd (simulation_alone forms.Emit words name seed asks (λ e. omega (arith, e)) q.1)
+    go (Loop s seed) q h = absurd (emission_unlooped words name asks seed q.1)
     go (Emit s n) q h =
         let same : q.1 ≡ name = one_value (codes "audit") (codes "--emit") words q.1 name q.2 asks in
         record {

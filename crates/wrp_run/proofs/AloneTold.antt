@@ -19,24 +19,25 @@ use Rattle.wrp_run.proofs.WordLemmas.{alone_unnetworked, one_alone}
 due_alone : (words : List (List ℕ)) (alone : Alone) (input : List ℕ) (calls : List LinkCall) (status : Status) (octets : List ℕ) → IsAlone words alone → RecordsDue words input calls status octets
     → (alone_meaning alone).answers input calls status octets
 due_alone words alone input calls status octets is (inl task) = absurd (alone_unnetworked words alone is (networked_of words _ task.0 task.1))
-due_alone words alone input calls status octets is (inr own) = subst (λ (a : Alone). (alone_meaning a).answers input calls status octets) (one_alone words own.0 alone own.1 is) own.2
+due_alone words alone input calls status octets is (inr (inr looped)) = absurd (alone_unnetworked words alone is (inr (inr (inr (looped.1, looped.2.1)))))
+due_alone words alone input calls status octets is (inr (inl own)) = subst (λ (a : Alone). (alone_meaning a).answers input calls status octets) (one_alone words own.0 alone own.1 is) own.2
 
 -- and no refusal stands in front of it
-answer_alone : (words : List (List ℕ)) (alone : Alone) (input : List ℕ) (status : Status) (octets : List ℕ) → IsAlone words alone → Answer words input [] status octets
-    → (alone_meaning alone).answers input [] status octets
-answer_alone words alone input Usage octets is h = elim h.0 [
+answer_alone : (words : List (List ℕ)) (alone : Alone) (input : List ℕ) (calls : List LinkCall) (status : Status) (octets : List ℕ) → IsAlone words alone → Answer words input calls status octets
+    → (alone_meaning alone).answers input calls status octets
+answer_alone words alone input calls Usage octets is h = elim h.0 [
   | inl none ↦ absurd (none (inr (alone, is)))
   | inr node ↦ absurd (alone_unnetworked words alone is (inr (inl (node.name, node.words_are))))
 ]
-answer_alone words alone input BadNetwork octets is h = elim h [
+answer_alone words alone input calls BadNetwork octets is h = elim h [
   | inl bad ↦ absurd (alone_unnetworked words alone is bad.0)
-  | inr own ↦ due_alone words alone input [] BadNetwork octets is (inr own)
+  | inr own ↦ due_alone words alone input calls BadNetwork octets is (inr (inl own))
 ]
-answer_alone words alone input TooLarge octets is h = elim h [
+answer_alone words alone input calls TooLarge octets is h = elim h [
   | inl long ↦ absurd (alone_unnetworked words alone is long.0)
-  | inr due ↦ due_alone words alone input [] TooLarge octets is due
+  | inr due ↦ due_alone words alone input calls TooLarge octets is due
 ]
-answer_alone words alone input status octets is h = due_alone words alone input [] status octets is h
+answer_alone words alone input calls status octets is h = due_alone words alone input calls status octets is h
 
 -- what stands behind a failed read is its own, and so is what stands where there was no memory
 own_cut : (words : List (List ℕ)) (alone : Alone) (taken octets : List ℕ) → IsAlone words alone → CutAnswer words taken octets → (alone_meaning alone).cut taken octets
@@ -47,7 +48,8 @@ own_first : (words : List (List ℕ)) (alone : Alone) (input octets : List ℕ) 
     → (octets ≡ []) ⊎ ((calls : List LinkCall) × (alone_meaning alone).first input calls octets)
 own_first words alone input octets calls is (inl none) = inl none.0
 own_first words alone input octets calls is (inr (inl task)) = absurd (alone_unnetworked words alone is (networked_of words _ task.0 task.1))
-own_first words alone input octets calls is (inr (inr own)) =
+own_first words alone input octets calls is (inr (inr (inr looped))) = absurd (alone_unnetworked words alone is (inr (inr (inr (looped.1, looped.2.1)))))
+own_first words alone input octets calls is (inr (inr (inl own))) =
     inr (calls, subst (λ (a : Alone). (alone_meaning a).first input calls octets) (one_alone words own.0 alone own.1 is) own.2)
 
 -- what was taken stands first in the input
@@ -61,11 +63,14 @@ Told run alone input status = (octets : List ℕ) × Wrote run octets × Leaves 
 
 answered : (run : Run) (alone : Alone) (input : List ℕ) (status : Status) → IsAlone run.words alone → run.source.before ≡ Some input → Ends run status → is_answer status ≡ true → Told run alone input status
 answered run alone input status is told ends answer =
-    let given = given_of run status input told ends answer in (
+    let given = given_of run status input told ends answer in
+    let own = answer_alone run.words alone input given.1 status given.0 is given.4 in (
       given.0,
-      given.1,
+      given.2,
       record {
-        answer = λ e. answer_alone run.words alone input status given.0 is given.2;
+        answer = λ e.
+            subst (λ (calls : List LinkCall). (alone_meaning alone).answers input calls status given.0)
+            ((facts_of alone).uncalled input given.1 status given.0 own) own;
         cut = λ e. let bad : false ≡ true = sym (ap is_answer e) ∙ answer in absurd (cc);
         first = λ e. let bad : false ≡ true = sym (ap is_answer e) ∙ answer in absurd (cc);
       },
@@ -96,7 +101,7 @@ told run alone input OutOfMemory is known ends = (
     first = λ e. own_first run.words alone input ends.0 ends.1 is (subst (λ (o : Option (List ℕ)). IfSome o (λ (i : List ℕ). FirstAnswer run.words i ends.1 ends.0)) known ends.4);
   },
 )
-told run alone input LinkFault is known ends = absurd ends
+told run alone input LinkFault is known ends = absurd (alone_unnetworked run.words alone is (inr (inr (inr ends.1))))
 told run alone input Done is known ends = answered run alone input Done is known ends refl
 told run alone input Usage is known ends = answered run alone input Usage is known ends refl
 told run alone input BadNetwork is known ends = answered run alone input BadNetwork is known ends refl

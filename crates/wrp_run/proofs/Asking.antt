@@ -28,7 +28,7 @@ use Rattle.wrp_run.specs.Ends.{Run, AsksEvents, Called, Ends, EndsRefused, EndsR
 use Rattle.wrp_run.specs.Input.{network_text, behind_separator, network_limit, IsDivided, IsTooLong, IsUndivided}
 use Rattle.wrp_run.specs.Refusals.{usage_line}
 use Rattle.wrp_run.specs.Replays.{IsRefusedBy}
-use Rattle.wrp_run.specs.Tasks.{Task, Replay, Audit, Emit, Simulate, AsksFor, meaning_at}
+use Rattle.wrp_run.specs.Tasks.{Task, Replay, Audit, Emit, Simulate, Loop, AsksFor, meaning_at}
 use Rattle.wrp_run.proofs.AloneTable.{facts_of}
 
 -- what is due for the records is due for the words and the input
@@ -100,7 +100,7 @@ asks_told : (words : List (List ℕ)) (text other : List ℕ) (task : Task) → 
 asks_told words text other task same asks = subst (λ (t : List ℕ). AsksFor words t task) (sym same) asks
 
 -- a fact of all record lines, in the whole input
-lines_told : (P : List (List ℕ) → Type 0) (words : List (List ℕ)) (first : Option (List ℕ)) (source : Passage (List ℕ)) (text given : List ℕ) (r : ReaderAt) (ended : Bool) (task : Task)
+pub lines_told : (P : List (List ℕ) → Type 0) (words : List (List ℕ)) (first : Option (List ℕ)) (source : Passage (List ℕ)) (text given : List ℕ) (r : ReaderAt) (ended : Bool) (task : Task)
     → TookNetwork words first source.before text r task → Consumes source.before source.now given → (ended ≡ true → IsAtEnd source.now)
     → ((more : List ℕ) → GoesOn ended more → P (lines_of ((r.rest ++ given) ++ more)))
     → IfSome first (λ input. AsksFor words (network_text input) task × P (behind_separator (lines_of input)))
@@ -269,7 +269,8 @@ pub networked_of : (words : List (List ℕ)) (text : List ℕ) (task : Task) →
 networked_of words text (Replay site) asks = inr (inl (asks.1, inl asks.2))
 networked_of words text (Audit setting) asks = inl asks.1
 networked_of words text (Emit setting node) asks = inr (inl (asks.1, inr asks.2))
-networked_of words text (Simulate setting seed) asks = inr (inr (seed, asks.1))
+networked_of words text (Simulate setting seed) asks = inr (inr (inl (seed, asks.1)))
+networked_of words text (Loop setting seed) asks = inr (inr (inr (seed, asks.1)))
 
 -- a premise is broken only where events are audited
 broken_asks : (words : List (List ℕ)) (text : List ℕ) (task : Task) (lines : List (List ℕ)) (due : List ℕ) → AsksFor words text task
@@ -278,6 +279,7 @@ broken_asks words text (Replay site) lines due asks at = absurd at.refused
 broken_asks words text (Audit setting) lines due asks at = inl asks.1
 broken_asks words text (Emit setting node) lines due asks at = inr (asks.1, asks.2)
 broken_asks words text (Simulate setting seed) lines due asks at = absurd at.refused
+broken_asks words text (Loop setting seed) lines due asks at = absurd at.refused
 
 -- records on a network always give an answer
 never_barred : (task : Task) (lines : List (List ℕ)) (octets : List ℕ) → BreaksOff (meaning_at task) BadCalib lines octets → ⊥
@@ -285,6 +287,7 @@ never_barred (Replay site) lines octets at = at.broken
 never_barred (Audit setting) lines octets at = at.broken
 never_barred (Emit setting node) lines octets at = at.broken
 never_barred (Simulate setting seed) lines octets at = at.broken
+never_barred (Loop setting seed) lines octets at = at.broken
 
 -- what is due at the end is due however the input goes on
 due_at_end : (M : LineMeaning) (taken : List ℕ) (ended : Bool) (octets : List ℕ) → After (of_lines M) taken ended [] Done octets → IsDue (of_lines M) taken ended [] Done octets
@@ -448,8 +451,8 @@ whole_told P source given ended taken at_end told = go source.before source.now 
 alone_answers : (words : List (List ℕ)) (alone : Alone) (input : List ℕ) (status : Status) (due : List ℕ) → IsAlone words alone → (alone_meaning alone).answers input [] status due → Answer words input [] status due
 alone_answers words alone input Usage due is has = absurd ((facts_of alone).no_usage input due has)
 alone_answers words alone input BadNetwork due is has = inr (alone, is, has)
-alone_answers words alone input TooLarge due is has = inr (inr (alone, is, has))
-alone_answers words alone input status due is has = inr (alone, is, has)
+alone_answers words alone input TooLarge due is has = inr (inr (inl (alone, is, has)))
+alone_answers words alone input status due is has = inr (inl (alone, is, has))
 
 -- of the whole input
 told_alone : (words : List (List ℕ)) (alone : Alone) (source : Passage (List ℕ)) (given octets : List ℕ) (ended : Bool) (status : Status) → IsAlone words alone → Consumes source.before source.now given
@@ -460,7 +463,7 @@ told_alone words alone source given octets ended status is taken at_end due =
 first_alone : (words : List (List ℕ)) (alone : Alone) (source : Passage (List ℕ)) (given octets : List ℕ) (ended : Bool) → IsAlone words alone → Consumes source.before source.now given
     → (ended ≡ true → IsAtEnd source.now) → IsFirst (alone_meaning alone) given ended [] octets → IfSome source.before (λ input. FirstAnswer words input [] octets)
 first_alone words alone source given octets ended is taken at_end due =
-    whole_told (λ input. FirstAnswer words input [] octets) source given ended taken at_end (λ more on. inr (inr (alone, is, due more on)))
+    whole_told (λ input. FirstAnswer words input [] octets) source given ended taken at_end (λ more on. inr (inr (inl (alone, is, due more on))))
 
 -- a part of what is due
 part_alone : (words : List (List ℕ)) (alone : Alone) (source : Passage (List ℕ)) (given octets : List ℕ) (ended : Bool) → IsAlone words alone → Consumes source.before source.now given

@@ -30,13 +30,13 @@ work_task words text (works.Simulate seed) net asks within reads = (within, asks
 pub work_networked : (words : List (List ℕ)) (net : Network) (work : Work) → AsksWork words net work → IsNetworked words
 work_networked words net (works.Audit None) asks = inl asks
 work_networked words net (works.Audit (Some n)) asks = inr (inl (asks.0, inr asks.1))
-work_networked words net (works.Simulate seed) asks = inr (inr (seed, asks))
+work_networked words net (works.Simulate seed) asks = inr (inr (inl (seed, asks)))
 
 pub asked_networked : (words : List (List ℕ)) (what : Asked) → IsAsked words what → IsNetworked words
 asked_networked words asked.Audit asks = inl asks
 asked_networked words (asked.Emit name) asks = inr (inl (name.now, inr asks))
 asked_networked words (asked.Replay name) asks = inr (inl (name.now, inl asks))
-asked_networked words (asked.Simulate seed) asks = inr (inr (seed, asks))
+asked_networked words (asked.Simulate seed) asks = inr (inr (inl (seed, asks)))
 
 -- of two networks that are the same they ask for the same work
 

@@ -67,7 +67,7 @@ run_bare s lines events audit = record {
 
 -- What is written
 
-steps_text : (s : Setting) → step_lines (bare_setting s) ≡ step_lines s
+pub steps_text : (s : Setting) → step_lines (bare_setting s) ≡ step_lines s
 steps_text s = λ i w step.
     flat_map (λ o. output_line_of (name_bare s.cfg step.node i) (w.node step.node).ticks o (pos (path_bare s.cfg step.node i)) (Some (w.clock step.node).off)) step.outs
 

@@ -48,7 +48,7 @@ use Rattle.wrp_run.proofs.BareSetting.{name_bare, path_bare}
 nodes_count : (s : Setting) → node_count (bare_cfg s.cfg) ≡ node_count s.cfg
 nodes_count s = length-map s.cfg.nodes.items bare_node
 
-links_count : (s : Setting) → link_count (bare_cfg s.cfg) ≡ link_count s.cfg
+pub links_count : (s : Setting) → link_count (bare_cfg s.cfg) ≡ link_count s.cfg
 links_count s = length-map s.cfg.links.items bare_link
 
 kappa_over : (o : Option LinkCfg) → option_map_or (λ (link : LinkCfg). link.kappa) (option_map bare_link o) (pos 0) ≡ option_map_or (λ (link : LinkCfg). link.kappa) o (pos 0)
@@ -175,7 +175,7 @@ gives_bare scene s w at next g = record { due = g.due; first = g.first; next = g
 
 -- Runs
 
-gives_after : (scene : SceneAt) (s : Setting) (events : List Happened) (at : SimAt) (next : Option Next) → Gives scene s (world_after s events) at next →
+pub gives_after : (scene : SceneAt) (s : Setting) (events : List Happened) (at : SimAt) (next : Option Next) → Gives scene s (world_after s events) at next →
     Gives scene (bare_setting s) (world_after (bare_setting s) events) at next
 gives_after scene s events at next g =
     subst (λ (w : WorldAt). Gives scene (bare_setting s) w at next) (sym (after_bare s events)) (gives_bare scene s (world_after s events) at next g)
@@ -189,7 +189,7 @@ changes_bare : (s : Setting) (scene : SceneAt) (lines : List (List ℕ)) (last :
 changes_bare s scene [] last p = p
 changes_bare s scene (line ∷ lines) last p = (p.0, scene_bare s.cfg scene line ∙ p.1, changes_bare s p.0 lines last p.2)
 
-said_bare : (s : Setting) (lines : List (List ℕ)) (scene : SceneAt) → IsScenario s lines scene → IsScenario (bare_setting s) lines scene
+pub said_bare : (s : Setting) (lines : List (List ℕ)) (scene : SceneAt) → IsScenario s lines scene → IsScenario (bare_setting s) lines scene
 said_bare s lines scene p =
     subst (λ (first : SceneAt). Changes (bare_setting s) first lines scene) (sym (new_scene_bare s.cfg)) (changes_bare s (new_scene s.cfg) lines scene p)
 
@@ -239,7 +239,7 @@ sums_bare s events = λ i. flat_map (sum_bare s events i) (nodes_bare s i)
 
 -- What is due
 
-refuses_bare : (s : Setting) (lines : List (List ℕ)) (line last : List ℕ) (refusal : Refusal) → SimRefuses s lines line refusal last → SimRefuses (bare_setting s) lines line refusal last
+pub refuses_bare : (s : Setting) (lines : List (List ℕ)) (line last : List ℕ) (refusal : Refusal) → SimRefuses s lines line refusal last → SimRefuses (bare_setting s) lines line refusal last
 refuses_bare s lines line last refusals.BadTrace h = (h.0, said_bare s lines h.0 h.1, h.2, scene_bare s.cfg h.0 line ∙ h.3, h.4)
 refuses_bare s lines line last refusals.Broken h = h
 

@@ -12,16 +12,17 @@ use Rattle.wrp_run.specs.Input.{behind_separator, network_text}
 use Rattle.wrp_records.specs.Lines.{lines_of}
 use Rattle.wrp_records.specs.RecordsAnswer.{StandsFirst}
 use Rattle.wrp_run.specs.Refusals.{usage_line}
-use Rattle.wrp_run.specs.Tasks.{Task, AsksFor, meaning_at}
+use Rattle.wrp_run.specs.Tasks.{Task, AsksFor, IsLooping, meaning_at}
 use Rattle.wrp_run.proofs.WordLemmas.{alone_unnetworked}
 
 -- what is due for an input and a status
 abbrev pub DueFor : Type 1
 DueFor = List ℕ → Status → List ℕ → Type 0
 
--- so it is where the words are a command on a network, by the ways in which it may end
+-- so it is where the words are a command on a network that calls no link, by the ways in which it may end
 pub record IsDueSo (words : List (List ℕ)) (Due : DueFor) : Type 0 where
   pub networked : IsNetworked words
+  pub unlooped : (seed : ℕ) → IsLooping words seed → ⊥
   pub no_node : (input : List ℕ) → AsksNone words (network_text input) → Due input Usage usage_line
   pub none : (input : List ℕ) (status : Status) (octets : List ℕ) → ReachesNone input status octets → Due input status octets
   pub task : (input : List ℕ) (status : Status) (octets : List ℕ) (calls : List LinkCall) → TaskAnswer words input calls status octets → Due input status octets
@@ -36,7 +37,8 @@ usage_due words input Due so (inr none) = so.no_node input none
 
 records_due : (words : List (List ℕ)) (input : List ℕ) (calls : List LinkCall) (status : Status) (octets : List ℕ) (Due : DueFor) → IsDueSo words Due → RecordsDue words input calls status octets → Due input status octets
 records_due words input calls status octets Due so (inl task) = so.task input status octets calls task
-records_due words input calls status octets Due so (inr alone) = absurd (alone_unnetworked words alone.0 alone.1 so.networked)
+records_due words input calls status octets Due so (inr (inl alone)) = absurd (alone_unnetworked words alone.0 alone.1 so.networked)
+records_due words input calls status octets Due so (inr (inr looped)) = absurd (so.unlooped looped.1 looped.2.1)
 
 answer_due : (words : List (List ℕ)) (input : List ℕ) (calls : List LinkCall) (status : Status) (octets : List ℕ) (Due : DueFor) → IsDueSo words Due → Answer words input calls status octets → Due input status octets
 answer_due words input calls Usage octets Due so h = subst (Due input Usage) (sym h.1) (usage_due words input Due so h.0)
@@ -53,7 +55,8 @@ answer_due words input calls status octets Due so h = records_due words input ca
 first_due : (words : List (List ℕ)) (input : List ℕ) (calls : List LinkCall) (octets : List ℕ) (Due : DueFor) → IsDueSo words Due → FirstAnswer words input calls octets → Due input OutOfMemory octets
 first_due words input calls octets Due so (inl none) = so.none input OutOfMemory octets none.0
 first_due words input calls octets Due so (inr (inl h)) = so.first input octets h.0 h.1 h.2
-first_due words input calls octets Due so (inr (inr alone)) = absurd (alone_unnetworked words alone.0 alone.1 so.networked)
+first_due words input calls octets Due so (inr (inr (inl alone))) = absurd (alone_unnetworked words alone.0 alone.1 so.networked)
+first_due words input calls octets Due so (inr (inr (inr looped))) = absurd (so.unlooped looped.1 looped.2.1)
 
 part : (words : List (List ℕ)) (input : List ℕ) (calls : List LinkCall) (octets : List ℕ) (Due : DueFor) → IsDueSo words Due → PartAnswer words input calls octets → Prints (Due input) WriteFault octets
 part words input calls octets Due so h = elim h.3 [
@@ -98,6 +101,6 @@ prints run input WriteFault Due so is h =
     (h.1, h.3, part run.words input h.2 h.1 Due so (subst (λ (o : Option (List ℕ)). IfSome o (λ (i : List ℕ). PartAnswer run.words i h.2 h.1)) is h.5))
 prints run input OutOfMemory Due so is h =
     (h.0, h.2, first_due run.words input h.1 h.0 Due so (subst (λ (o : Option (List ℕ)). IfSome o (λ (i : List ℕ). FirstAnswer run.words i h.1 h.0)) is h.4))
-prints run input LinkFault Due so is h = absurd h
+prints run input LinkFault Due so is h = absurd (so.unlooped h.1.0 h.1.1)
 prints run input BadCapture Due so is h = absurd (alone_unnetworked run.words h.2.0 h.2.1 so.networked)
 prints run input BadCalib Due so is h = absurd (alone_unnetworked run.words h.1.0 h.1.1 so.networked)

@@ -15,10 +15,10 @@ use Rattle.wrp_run.specs.Input.{behind_separator, network_text}
 use Rattle.wrp_records.specs.Lines.{lines_of}
 use Rattle.wrp_records.specs.RecordsAnswer.{RecordsAnswer, StandsFirst}
 use Rattle.wrp_records.specs.Stream.{CutHandled}
-use Rattle.wrp_run.specs.Tasks.{Task, Replay, Audit, Emit, Simulate, AsksFor, IsEmission, meaning_at}
+use Rattle.wrp_run.specs.Tasks.{Task, Replay, Audit, Emit, Simulate, Loop, AsksFor, IsEmission, meaning_at}
 use Rattle.wrp_run.proofs.DueTold.{IsDueSo, PrintsDue, prints}
 use Rattle.wrp_run.proofs.EventsTold.{AreTold, cut_due, emission_means, emission_writes, records_due, stand_first}
-use Rattle.wrp_run.proofs.WordLemmas.{emission_alone, no_option, simulation_alone}
+use Rattle.wrp_run.proofs.WordLemmas.{emission_alone, emission_unlooped, no_option, simulation_alone}
 
 -- The task
 
@@ -31,6 +31,7 @@ only_inputs words name text P Q emits f (Replay site) asks h = absurd (emission_
 only_inputs words name text P Q emits f (Audit s) asks h = absurd (no_option words name asks.1 emits)
 only_inputs words name text P Q emits f (Emit s n) asks h = f s n asks h
 only_inputs words name text P Q emits f (Simulate s seed) asks h = absurd (simulation_alone forms.Emit words name seed emits (λ e. omega (arith, e)) asks.1)
+only_inputs words name text P Q emits f (Loop s seed) asks h = absurd (emission_unlooped words name emits seed asks.1)
 
 -- Records
 
@@ -75,6 +76,7 @@ task_cut words name input taken left octets emits all h =
 inputs_so : (words : List (List ℕ)) (name : List ℕ) → IsEmission words name → IsDueSo words (IsInputDue words)
 inputs_so words name emits = record {
   networked = inr (inl (name, inr emits));
+  unlooped = emission_unlooped words name emits;
   no_node = λ input none. inl (none, refl);
   none = λ input status octets none. inr (inl none);
   task = λ input status octets calls answer. task_due words name input status octets calls emits answer;

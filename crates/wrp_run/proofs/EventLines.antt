@@ -116,7 +116,7 @@ word_plain (c ∷ cs) h =
     let both = and_parts (is_word_octet c) (list_all is_word_octet cs) h in
     (not-true (c == 10) (and_parts (not (c == 32)) (not (c == 10)) both.0).1, word_plain cs both.1)
 
-line_whole : (words : List (List ℕ)) → AreWords words → IsWhole (line_of words)
+pub line_whole : (words : List (List ℕ)) → AreWords words → IsWhole (line_of words)
 line_whole [] h = record { front = []; is = refl; plain = tt }
 line_whole (word ∷ []) h = record { front = word; is = refl; plain = word_plain word h.0 }
 line_whole (word ∷ other ∷ words) h =
@@ -221,7 +221,7 @@ line_if : (P : List ℕ → Type 0) (b : Bool) (line rest : List ℕ) → IsWhol
 line_if P true line rest whole h k = line_in_front P line rest whole h k
 line_if P false line rest whole h k = k
 
-whole_line : (s : Setting) (n tick : ℕ) (o : Output) (truth : Option ℤ) → HasNames s.cfg → IsWhole (output_line s.cfg n tick o truth)
+pub whole_line : (s : Setting) (n tick : ℕ) (o : Output) (truth : Option ℤ) → HasNames s.cfg → IsWhole (output_line s.cfg n tick o truth)
 whole_line s n tick o truth names =
     line_whole (name_at s.cfg n ∷ decimal tick ∷ output_words o (pos (path_of s.cfg n)) truth) (at_word s.cfg names n, (decimal_word tick, output_are o (pos (path_of s.cfg n)) truth))
 

@@ -14,10 +14,10 @@ use Rattle.wrp_run.specs.Input.{behind_separator, network_text}
 use Rattle.wrp_records.specs.Lines.{lines_of}
 use Rattle.wrp_records.specs.RecordsAnswer.{RecordsAnswer, StandsFirst}
 use Rattle.wrp_records.specs.Stream.{CutHandled}
-use Rattle.wrp_run.specs.Tasks.{Task, Replay, Audit, Emit, Simulate, AsksFor, IsAuditing, meaning_at}
+use Rattle.wrp_run.specs.Tasks.{Task, Replay, Audit, Emit, Simulate, Loop, AsksFor, IsAuditing, meaning_at}
 use Rattle.wrp_run.proofs.DueTold.{IsDueSo, PrintsDue, prints}
 use Rattle.wrp_run.proofs.EventsTold.{AreTold, audit_means, audit_writes, cut_due, records_due, stand_first}
-use Rattle.wrp_run.proofs.WordLemmas.{audit_alone, no_option, no_simulation}
+use Rattle.wrp_run.proofs.WordLemmas.{audit_alone, audit_unlooped, no_option, no_simulation}
 
 -- The task of an audit
 
@@ -30,6 +30,7 @@ only_audit words text P Q audits f (Replay site) asks h = absurd (audit_alone wo
 only_audit words text P Q audits f (Audit s) asks h = f s asks h
 only_audit words text P Q audits f (Emit s n) asks h = absurd (no_option words asks.1 audits asks.2)
 only_audit words text P Q audits f (Simulate s seed) asks h = absurd (no_simulation words seed audits asks.1)
+only_audit words text P Q audits f (Loop s seed) asks h = absurd (audit_unlooped words audits seed asks.1)
 
 -- Records
 
@@ -74,6 +75,7 @@ asks_node words text audits none = elim none.words_are [ inl replay ↦ audit_al
 audit_so : OneAudit → (words : List (List ℕ)) → IsAuditing words → IsDueSo words (IsDue words)
 audit_so one words audits = record {
   networked = inl audits;
+  unlooped = audit_unlooped words audits;
   no_node = λ input none. absurd (asks_node words (network_text input) audits none);
   none = λ input status octets none. inl none;
   task = λ input status octets calls answer. task_due one words input status octets calls audits answer;

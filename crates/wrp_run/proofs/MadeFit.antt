@@ -35,7 +35,7 @@ use Rattle.wrp_course.specs.WorldAt.{FrameAt, Sending, WorldAt, has_carrier, is_
 -- What each rule gives
 
 -- but for the number of a frame
-abbrev FitsSave : Event → Type 0
+abbrev pub FitsSave : Event → Type 0
 FitsSave (Arrive i raw) = Unit {0}
 FitsSave (Deliver i) = Unit {0}
 FitsSave e = FitsEvent e
@@ -145,15 +145,15 @@ next_fits scene s w due at =
     first_fits (rules scene s w due at)
     (begins_fit scene s w at, (fails_fit scene s w at, (samples_fit scene s w left, (departs_fit s w left, (delivers_fit left, (arrives_fit scene s w due left, (ticks_fit s w left, (passes_fit scene s w due left, tt))))))))
 
-given_fits : (scene : SceneAt) (s : Setting) (w : WorldAt) (old new : SimAt) (e : Event) → GivesEvent scene s w old e new → FitsSave e
+pub given_fits : (scene : SceneAt) (s : Setting) (w : WorldAt) (old new : SimAt) (e : Event) → GivesEvent scene s w old e new → FitsSave e
 given_fits scene s w old new e g = subst FitsIf (sym g.next) (next_fits scene s w g.due old)
 
 -- The numbers of frames
 
 -- at most so many frames departed, and none has a greater number
-record AreNumbered (n : ℕ) (w : WorldAt) : Type 0 where
-  departed : w.departed ≤ n
-  frames : (i : ℕ) → IfSome (w.frame i) (λ (f : FrameAt). i ≤ n)
+pub record AreNumbered (n : ℕ) (w : WorldAt) : Type 0 where
+  pub departed : w.departed ≤ n
+  pub frames : (i : ℕ) → IfSome (w.frame i) (λ (f : FrameAt). i ≤ n)
 
 given_numbered : (s : Setting) (y : ℤ) (n : ℕ) (gs : List Given) (v : WorldAt) → AreNumbered n v → AreNumbered n (gives_all s y v gs)
 given_numbered s y n [] v h = h
@@ -212,7 +212,7 @@ moved_numbered s w e n h = record { departed = departed_numbered s w e n h.depar
 count_more : (h : Happened) (before : List Happened) → length before + 1 ≡ length (h ∷ before)
 count_more h before = omega arith
 
-numbered : (s : Setting) (events : List Happened) → AreNumbered (length events) (world_after s events)
+pub numbered : (s : Setting) (events : List Happened) → AreNumbered (length events) (world_after s events)
 numbered s [] = record { departed = omega arith; frames = λ i. tt }
 numbered s (h ∷ before) =
     let w : WorldAt = world_after s before in
@@ -232,7 +232,7 @@ delivers_there s w i n None holds h = absurd (let f : true ≡ false = holds.0 i
 
 -- All events
 
-event_fits : (s : Setting) (w : WorldAt) (says : Result PtpMsg FrameFault) (e : Event) (n : ℕ) → AreNumbered n w → n < 2 ^ 32 → Accepts s w says e → FitsSave e → FitsEvent e
+pub event_fits : (s : Setting) (w : WorldAt) (says : Result PtpMsg FrameFault) (e : Event) (n : ℕ) → AreNumbered n w → n < 2 ^ 32 → Accepts s w says e → FitsSave e → FitsEvent e
 event_fits s w says (Arrive i raw) n h few accepted fits = below_word i n (arrives_there s w i raw n (is_on_fibre (w.frame i)) (w.frame i) accepted (h.frames i)) few
 event_fits s w says (Deliver i) n h few accepted fits = below_word i n (delivers_there s w i n (w.frame i) accepted (h.frames i)) few
 event_fits s w says (Pass dt drifts fibres) n h few accepted fits = fits
@@ -245,7 +245,7 @@ event_fits s w says (Up m off swaps) n h few accepted fits = fits
 event_fits s w says (Cut l) n h few accepted fits = fits
 event_fits s w says (Join l ms sm) n h few accepted fits = fits
 
-fewer : (h : Happened) (before : List Happened) → length (h ∷ before) < 2 ^ 32 → length before < 2 ^ 32
+pub fewer : (h : Happened) (before : List Happened) → length (h ∷ before) < 2 ^ 32 → length before < 2 ^ 32
 fewer h before few = omega (arith, few)
 
 -- so it is with each event that is made

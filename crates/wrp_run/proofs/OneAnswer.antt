@@ -1,6 +1,7 @@
 -- For words and an input one status and one text are due, and no others.
-use Rattle.std.proofs.Common.{true, false, ◌≡◌, ◌⊎◌, inl, inr, ℕ, ◌<◌, ◌≤◌, Option, None, Some, IfSome, Ok, Err, List, [], length, refl, sym, ap, ap₂, ◌∙◌, subst, arith, codes}
+use Rattle.std.proofs.Common.{true, false, ◌≡◌, ◌⊎◌, inl, inr, ℕ, ◌<◌, ◌≤◌, Option, None, Some, IfSome, option_map, Ok, Err, List, [], ◌++◌, length, refl, sym, ap, ap₂, ◌∙◌, subst, arith, codes}
 use Rattle.std.specs.Io.KnownBytes.{Appends}
+use Rattle.std.proofs.lemmas.List.{append_cancel_left}
 use Rattle.std.proofs.lemmas.Option.{same_Some}
 use Rattle.wrp_base.specs.declared.configuration.NetCfg.{NetCfg}
 use Rattle.wrp_base.specs.declared.fault.ConfFault.TheVariants.{Fault}
@@ -17,13 +18,14 @@ use Rattle.wrp_records.specs.declared.status.Status.TheVariants.{Done, Usage, Ba
 use Rattle.wrp_io.specs.declared.link.LinkCall.{LinkCall}
 use Rattle.wrp_records.specs.Passages.{Failed}
 use Rattle.wrp_run.specs.declared.alone.Alone.{Alone}
-use Rattle.wrp_run.specs.Alone.{alone_meaning}
-use Rattle.wrp_run.specs.Answer.{Answer, AloneAnswer, AsksNone, IsCommand, IsNetworked, RecordsDue, TaskAnswer}
+use Rattle.wrp_run.specs.Alone.{IsAlone, alone_meaning}
+use Rattle.wrp_run.specs.Answer.{Answer, AloneAnswer, AsksNone, IsCommand, IsNetworked, LoopAnswer, LoopDue, RecordsDue}
 use Rattle.wrp_run.specs.Audited.{IsSettingOf, setting_at}
 use Rattle.wrp_run.specs.AuditLaws.{OneAudit}
 use Rattle.wrp_run.specs.Audits.{audit_of, emission_of}
-use Rattle.wrp_run.specs.Tasks.{Task, Replay, Audit, Emit, Simulate, AsksFor, IsEmission, IsReplay, meaning_at}
-use Rattle.wrp_run.specs.Ends.{Run, Ends, Wrote}
+use Rattle.wrp_run.specs.Tasks.{Task, Replay, Audit, Emit, Simulate, Loop, AsksFor, IsEmission, IsReplay, meaning_at}
+use Rattle.wrp_run.specs.Ends.{Run, Called, Ends, IsToldOf, Wrote}
+use Rattle.wrp_run.specs.Loops.{loop_of}
 use Rattle.wrp_records.specs.Statuses.{is_answer}
 use Rattle.wrp_run.specs.Input.{network_text, behind_separator, network_limit}
 use Rattle.wrp_records.specs.Lines.{lines_of}
@@ -36,13 +38,15 @@ use Rattle.wrp_run.proofs.AloneTable.{facts_of}
 use Rattle.wrp_run.proofs.Asking.{networked_of}
 use Rattle.wrp_run.proofs.BareAudit.{bare_is, bare_setting}
 use Rattle.wrp_run.proofs.BareRuns.{bare_answer, bare_emission}
+use Rattle.wrp_run.proofs.BareLoop.{bare_loop}
 use Rattle.wrp_run.proofs.BareSim.{bare_simulation}
 use Rattle.wrp_run.proofs.BareSetting.{named_bare}
 use Rattle.wrp_run.proofs.ExactAudit.{exact_audit, exact_emission}
+use Rattle.wrp_run.proofs.OneLoop.{exact_loop, loop_records, scene_records, told_calls}
 use Rattle.wrp_run.proofs.OneReplay.{exact_replay}
 use Rattle.wrp_run.proofs.OneSim.{exact_simulation}
 use Rattle.wrp_records.proofs.Unique.{one_records_answer}
-use Rattle.wrp_run.proofs.WordLemmas.{alone_unnetworked, audit_alone, emission_alone, no_option, one_alone, one_seed, one_value, simulation_alone}
+use Rattle.wrp_run.proofs.WordLemmas.{alone_unnetworked, audit_alone, audit_unlooped, emission_alone, emission_unlooped, no_option, one_alone, one_loop_seed, one_seed, one_value, replay_unlooped, simulation_alone, simulation_unlooped}
 
 -- a setting of these parts
 abbrev site_with : NetCfg → Database → ℕ → LineSetting
@@ -97,6 +101,11 @@ not_missing words text (Simulate s seed) p q =
       | inl replay ↦ simulation_alone forms.Replay words p.name seed replay (λ e. omega (arith, e)) q.1
       | inr emission ↦ simulation_alone forms.Emit words p.name seed emission (λ e. omega (arith, e)) q.1
     ]
+not_missing words text (Loop s seed) p q =
+    elim p.words_are [
+      | inl replay ↦ replay_unlooped words p.name replay seed q.1
+      | inr emission ↦ emission_unlooped words p.name emission seed q.1
+    ]
 
 -- a text that is refused is refused by one line, and is not accepted
 one_refused : (text o u : List ℕ) → IsRefusedBy text o → IsRefusedBy text u → o ≡ u
@@ -112,12 +121,14 @@ is_accepted words text (Replay site) asks = (asks.3.net, asks.3.reads)
 is_accepted words text (Audit s) asks = (asks.2.net, asks.2.reads)
 is_accepted words text (Emit s n) asks = (asks.3.net, asks.3.reads)
 is_accepted words text (Simulate s seed) asks = (asks.2.net, asks.2.reads)
+is_accepted words text (Loop s seed) asks = (asks.2.net, asks.2.reads)
 
 is_within : (words : List (List ℕ)) (text : List ℕ) (task : Task) → AsksFor words text task → length text ≤ network_limit
 is_within words text (Replay site) asks = asks.0
 is_within words text (Audit s) asks = asks.0
 is_within words text (Emit s n) asks = asks.0
 is_within words text (Simulate s seed) asks = asks.0
+is_within words text (Loop s seed) asks = asks.0
 
 -- the cases of an answer
 abbrev IsUnknown : List (List ℕ) → Status → List ℕ → Type 0
@@ -132,6 +143,14 @@ IsBadNetwork words text s o = (s ≡ BadNetwork) × IsNetworked words × (length
 abbrev IsNoNode : List (List ℕ) → List ℕ → Status → List ℕ → Type 0
 IsNoNode words text s o = (s ≡ Usage) × AsksNone words text × (o ≡ usage_line)
 
+-- what is due for the records: by themselves, or by the calls of a link too
+abbrev TaskCase : List (List ℕ) → List ℕ → Status → List ℕ → Type 0
+TaskCase words input s o =
+    (task : Task) × AsksFor words (network_text input) task × RecordsAnswer (meaning_at task) (behind_separator (lines_of input)) s o
+
+abbrev RecordsCase : List (List ℕ) → List ℕ → List LinkCall → Status → List ℕ → Type 0
+RecordsCase words input calls s o = TaskCase words input s o ⊎ LoopAnswer words input calls s o
+
 -- of words that are a command on a network, or none
 abbrev Cases : List (List ℕ) → List ℕ → List LinkCall → Status → List ℕ → Type 0
 Cases words input calls s o =
@@ -139,11 +158,12 @@ Cases words input calls s o =
     ⊎ (IsTooLong words (network_text input) s o
     ⊎ (IsBadNetwork words (network_text input) s o
     ⊎ (IsNoNode words (network_text input) s o
-    ⊎ TaskAnswer words input calls s o)))
+    ⊎ RecordsCase words input calls s o)))
 
 due_cases : (words : List (List ℕ)) (input : List ℕ) (calls : List LinkCall) (s : Status) (o : List ℕ) → RecordsDue words input calls s o → Cases words input calls s o ⊎ AloneAnswer words input calls s o
-due_cases words input calls s o (inl task) = inl (inr (inr (inr (inr task))))
-due_cases words input calls s o (inr alone) = inr alone
+due_cases words input calls s o (inl task) = inl (inr (inr (inr (inr (inl (task.0, task.1, task.2))))))
+due_cases words input calls s o (inr (inl alone)) = inr alone
+due_cases words input calls s o (inr (inr looped)) = inl (inr (inr (inr (inr (inr looped)))))
 
 cases_of : (words : List (List ℕ)) (input : List ℕ) (calls : List LinkCall) (s : Status) (o : List ℕ) → Answer words input calls s o → Cases words input calls s o ⊎ AloneAnswer words input calls s o
 cases_of words input calls Usage o p = inl (elim p.0 [ inl none ↦ inl (refl, none, p.1) | inr none ↦ inr (inr (inr (inl (refl, none, p.1)))) ])
@@ -151,9 +171,22 @@ cases_of words input calls BadNetwork o p = elim p [ inl bad ↦ inl (inr (inr (
 cases_of words input calls TooLarge o p = elim p [ inl long ↦ inl (inr (inl (refl, long.0, long.1, long.2))) | inr due ↦ due_cases words input calls TooLarge o due ]
 cases_of words input calls s o p = due_cases words input calls s o p
 
--- the words of each case but the first are a command
-is_networked : (words : List (List ℕ)) (input : List ℕ) (calls : List LinkCall) (s : Status) (o : List ℕ) → TaskAnswer words input calls s o → IsNetworked words
-is_networked words input calls s o p = networked_of words (network_text input) p.0 p.1
+-- the words of each case but the first are a command, and the network text is one that is accepted
+task_of : (words : List (List ℕ)) (input : List ℕ) (calls : List LinkCall) (s : Status) (o : List ℕ) → RecordsCase words input calls s o → (task : Task) × AsksFor words (network_text input) task
+task_of words input calls s o (inl p) = (p.0, p.1)
+task_of words input calls s o (inr p) = (Loop p.0 p.1, p.2)
+
+is_networked : (words : List (List ℕ)) (input : List ℕ) (calls : List LinkCall) (s : Status) (o : List ℕ) → RecordsCase words input calls s o → IsNetworked words
+is_networked words input calls s o p = let task = task_of words input calls s o p in networked_of words (network_text input) task.0 task.1
+
+accepted_case : (words : List (List ℕ)) (input : List ℕ) (calls : List LinkCall) (s : Status) (o : List ℕ) → RecordsCase words input calls s o → IsAccepted (network_text input)
+accepted_case words input calls s o p = let task = task_of words input calls s o p in is_accepted words (network_text input) task.0 task.1
+
+within_case : (words : List (List ℕ)) (input : List ℕ) (calls : List LinkCall) (s : Status) (o : List ℕ) → RecordsCase words input calls s o → length (network_text input) ≤ network_limit
+within_case words input calls s o p = let task = task_of words input calls s o p in is_within words (network_text input) task.0 task.1
+
+missing_case : (words : List (List ℕ)) (input : List ℕ) (calls : List LinkCall) (s : Status) (o : List ℕ) → AsksNone words (network_text input) → RecordsCase words input calls s o → ⊥
+missing_case words input calls s o none p = let task = task_of words input calls s o p in not_missing words (network_text input) task.0 none task.1
 
 -- two answers that came to the records
 both_replay : OneRun → OneNode → (words : List (List ℕ)) (text : List ℕ) (lines : List (List ℕ)) (a b : LineSetting) (s t : Status) (o u : List ℕ) → AsksFor words text (Replay a) → AsksFor words text (Replay b)
@@ -185,6 +218,14 @@ both_simulations last text lines a b m n s t o u p q is x y =
     (subst (λ (k : Setting). RecordsAnswer (simulation_of k m) lines t u) same
     (subst (λ (k : ℕ). RecordsAnswer (simulation_of (bare_setting b) k) lines t u) (sym is) (bare_simulation b n lines t u y)))
 
+both_loops : ToldLast → (text : List ℕ) (lines : List (List ℕ)) (calls : List LinkCall) (a b : Setting) (m n : ℕ) (s t : Status) (o u : List ℕ) → IsSettingOf text a → IsSettingOf text b → m ≡ n
+    → RecordsAnswer (loop_of a m calls) lines s o → RecordsAnswer (loop_of b n calls) lines t u → AreOne s t o u
+both_loops last text lines calls a b m n s t o u p q is x y =
+    let same : bare_setting b ≡ bare_setting a = one_setting text b a q p in
+    one_records_answer (loop_of (bare_setting a) m calls) (exact_loop last (bare_setting a) m calls) lines s t o u (bare_loop a m calls lines s o x)
+    (subst (λ (k : Setting). RecordsAnswer (loop_of k m calls) lines t u) same
+    (subst (λ (k : ℕ). RecordsAnswer (loop_of (bare_setting b) k calls) lines t u) (sym is) (bare_loop b n calls lines t u y)))
+
 -- the node of one name in one network
 one_emitter : (words : List (List ℕ)) (text : List ℕ) (a b : Setting) (n m : ℕ) → AsksFor words text (Emit a n) → AsksFor words text (Emit b m) → n ≡ m
 one_emitter words text a b n m p q =
@@ -213,6 +254,40 @@ one_task runs nodes one last words text lines (Simulate a n) (Audit b) s t o u p
 one_task runs nodes one last words text lines (Simulate a n) (Emit b m) s t o u p q x y = absurd (simulation_alone forms.Emit words q.1 n q.2 (λ e. omega (arith, e)) p.1)
 one_task runs nodes one last words text lines (Simulate a n) (Simulate b m) s t o u p q x y =
     both_simulations last text lines a b n m s t o u p.2 q.2 (one_seed words n m p.1 q.1) x y
+one_task runs nodes one last words text lines (Replay a) (Loop b m) s t o u p q x y = absurd (replay_unlooped words p.1 p.2 m q.1)
+one_task runs nodes one last words text lines (Audit a) (Loop b m) s t o u p q x y = absurd (audit_unlooped words p.1 m q.1)
+one_task runs nodes one last words text lines (Emit a n) (Loop b m) s t o u p q x y = absurd (emission_unlooped words p.1 p.2 m q.1)
+one_task runs nodes one last words text lines (Simulate a n) (Loop b m) s t o u p q x y = absurd (simulation_unlooped words n p.1 m q.1)
+one_task runs nodes one last words text lines (Loop a n) (Replay b) s t o u p q x y = absurd (replay_unlooped words q.1 q.2 n p.1)
+one_task runs nodes one last words text lines (Loop a n) (Audit b) s t o u p q x y = absurd (audit_unlooped words q.1 n p.1)
+one_task runs nodes one last words text lines (Loop a n) (Emit b m) s t o u p q x y = absurd (emission_unlooped words q.1 q.2 n p.1)
+one_task runs nodes one last words text lines (Loop a n) (Simulate b m) s t o u p q x y = absurd (simulation_unlooped words m q.1 n p.1)
+one_task runs nodes one last words text lines (Loop a n) (Loop b m) s t o u p q x y =
+    both_loops last text lines [] a b n m s t o u p.2 q.2 (one_loop_seed words n m p.1 q.1) (scene_records a n [] lines s o x) (scene_records b m [] lines t u y)
+
+-- a task by its records, and a loop by its calls
+task_looped : ToldLast → (words : List (List ℕ)) (text : List ℕ) (lines : List (List ℕ)) (calls : List LinkCall) (task : Task) (b : Setting) (m : ℕ) (s t : Status) (o u : List ℕ) → AsksFor words text task → AsksFor words text (Loop b m)
+    → RecordsAnswer (meaning_at task) lines s o → LoopDue b m lines calls t u → AreOne s t o u
+task_looped last words text lines calls (Replay a) b m s t o u p q x y = absurd (replay_unlooped words p.1 p.2 m q.1)
+task_looped last words text lines calls (Audit a) b m s t o u p q x y = absurd (audit_unlooped words p.1 m q.1)
+task_looped last words text lines calls (Emit a n) b m s t o u p q x y = absurd (emission_unlooped words p.1 p.2 m q.1)
+task_looped last words text lines calls (Simulate a n) b m s t o u p q x y = absurd (simulation_unlooped words n p.1 m q.1)
+task_looped last words text lines calls (Loop a n) b m s t o u p q x y =
+    both_loops last text lines calls a b n m s t o u p.2 q.2 (one_loop_seed words n m p.1 q.1) (scene_records a n calls lines s o x) (loop_records b m calls lines t u y)
+
+-- two answers that came to the records, and a loop's
+one_records : OneRun → OneNode → OneAudit → ToldLast → (words : List (List ℕ)) (input : List ℕ) (calls : List LinkCall) (s t : Status) (o u : List ℕ) → RecordsCase words input calls s o → RecordsCase words input calls t u
+    → AreOne s t o u
+one_records runs nodes one last words input calls s t o u (inl p) (inl q) =
+    one_task runs nodes one last words (network_text input) (behind_separator (lines_of input)) p.0 q.0 s t o u p.1 q.1 p.2 q.2
+one_records runs nodes one last words input calls s t o u (inl p) (inr q) =
+    task_looped last words (network_text input) (behind_separator (lines_of input)) calls p.0 q.0 q.1 s t o u p.1 q.2 p.2 q.3
+one_records runs nodes one last words input calls s t o u (inr p) (inl q) =
+    let same = task_looped last words (network_text input) (behind_separator (lines_of input)) calls q.0 p.0 p.1 t s u o q.1 p.2 q.2 p.3 in
+    (sym same.0, sym same.1)
+one_records runs nodes one last words input calls s t o u (inr p) (inr q) =
+    both_loops last (network_text input) (behind_separator (lines_of input)) calls p.0 q.0 p.1 q.1 s t o u p.2.2 q.2.2 (one_loop_seed words p.1 q.1 p.2.1 q.2.1)
+    (loop_records p.0 p.1 calls (behind_separator (lines_of input)) s o p.3) (loop_records q.0 q.1 calls (behind_separator (lines_of input)) t u q.3)
 
 -- two answers, of cases in order
 one_of_cases : OneRun → OneNode → OneAudit → ToldLast → (words : List (List ℕ)) (input : List ℕ) (calls : List LinkCall) (s t : Status) (o u : List ℕ) → Cases words input calls s o → Cases words input calls t u → AreOne s t o u
@@ -225,16 +300,16 @@ one_of_cases runs nodes one last words input calls s t o u (inr (inl p)) (inr (i
 one_of_cases runs nodes one last words input calls s t o u (inr (inl p)) (inr (inr (inl q))) = absurd (omega (arith, p.2, q.2))
 one_of_cases runs nodes one last words input calls s t o u (inr (inl p)) (inr (inr (inr (inl q)))) = absurd (omega (arith, p.2, q.1.within))
 one_of_cases runs nodes one last words input calls s t o u (inr (inl p)) (inr (inr (inr (inr q)))) =
-    let within : length (network_text input) ≤ network_limit = is_within words (network_text input) q.0 q.1 in
+    let within : length (network_text input) ≤ network_limit = within_case words input calls t u q in
     absurd (omega (arith, p.2, within))
 one_of_cases runs nodes one last words input calls s t o u (inr (inr (inl p))) (inr (inr (inl q))) = (p.0 ∙ sym q.0, one_refused (network_text input) o u p.3 q.3)
 one_of_cases runs nodes one last words input calls s t o u (inr (inr (inl p))) (inr (inr (inr (inl q)))) = absurd (not_accepted (network_text input) o p.3 (q.1.net, q.1.reads))
-one_of_cases runs nodes one last words input calls s t o u (inr (inr (inl p))) (inr (inr (inr (inr q)))) = absurd (not_accepted (network_text input) o p.3 (is_accepted words (network_text input) q.0 q.1))
+one_of_cases runs nodes one last words input calls s t o u (inr (inr (inl p))) (inr (inr (inr (inr q)))) = absurd (not_accepted (network_text input) o p.3 (accepted_case words input calls t u q))
 one_of_cases runs nodes one last words input calls s t o u (inr (inr (inr (inl p)))) (inr (inr (inr (inl q)))) = (p.0 ∙ sym q.0, p.2 ∙ sym q.2)
 one_of_cases runs nodes one last words input calls s t o u (inr (inr (inr (inl p)))) (inr (inr (inr (inr q)))) =
-    absurd (not_missing words (network_text input) q.0 p.1 q.1)
+    absurd (missing_case words input calls t u p.1 q)
 one_of_cases runs nodes one last words input calls s t o u (inr (inr (inr (inr p)))) (inr (inr (inr (inr q)))) =
-    one_task runs nodes one last words (network_text input) (behind_separator (lines_of input)) p.0 q.0 s t o u p.1 q.1 p.2 q.2
+    one_records runs nodes one last words input calls s t o u p q
 one_of_cases runs nodes one last words input calls s t o u (inr (inl p)) (inl q) = absurd (q.1 (inl p.1))
 one_of_cases runs nodes one last words input calls s t o u (inr (inr (inl p))) (inl q) = absurd (q.1 (inl p.1))
 one_of_cases runs nodes one last words input calls s t o u (inr (inr (inr (inl p)))) (inl q) = absurd (q.1 (inl (inr (inl (p.1.name, p.1.words_are)))))
@@ -242,12 +317,12 @@ one_of_cases runs nodes one last words input calls s t o u (inr (inr (inr (inr p
 one_of_cases runs nodes one last words input calls s t o u (inr (inr (inl p))) (inr (inl q)) = absurd (omega (arith, q.2, p.2))
 one_of_cases runs nodes one last words input calls s t o u (inr (inr (inr (inl p)))) (inr (inl q)) = absurd (omega (arith, q.2, p.1.within))
 one_of_cases runs nodes one last words input calls s t o u (inr (inr (inr (inr p)))) (inr (inl q)) =
-    let within : length (network_text input) ≤ network_limit = is_within words (network_text input) p.0 p.1 in
+    let within : length (network_text input) ≤ network_limit = within_case words input calls s o p in
     absurd (omega (arith, q.2, within))
 one_of_cases runs nodes one last words input calls s t o u (inr (inr (inr (inl p)))) (inr (inr (inl q))) = absurd (not_accepted (network_text input) u q.3 (p.1.net, p.1.reads))
-one_of_cases runs nodes one last words input calls s t o u (inr (inr (inr (inr p)))) (inr (inr (inl q))) = absurd (not_accepted (network_text input) u q.3 (is_accepted words (network_text input) p.0 p.1))
+one_of_cases runs nodes one last words input calls s t o u (inr (inr (inr (inr p)))) (inr (inr (inl q))) = absurd (not_accepted (network_text input) u q.3 (accepted_case words input calls s o p))
 one_of_cases runs nodes one last words input calls s t o u (inr (inr (inr (inr p)))) (inr (inr (inr (inl q)))) =
-    absurd (not_missing words (network_text input) p.0 q.1 p.1)
+    absurd (missing_case words input calls s o q.1 p)
 
 -- of a command that stands alone
 one_alone_answer : (words : List (List ℕ)) (input : List ℕ) (calls : List LinkCall) (s t : Status) (o u : List ℕ) → AloneAnswer words input calls s o → AloneAnswer words input calls t u → AreOne s t o u
@@ -255,12 +330,12 @@ one_alone_answer words input calls s t o u p q =
     (facts_of p.0).one input calls s t o u p.2 (subst (λ (a : Alone). (alone_meaning a).answers input calls t u) (one_alone words q.0 p.0 q.1 p.1) q.2)
 
 -- words on a network, and none, are no command that stands alone
-not_both : (words : List (List ℕ)) (input : List ℕ) (calls : List LinkCall) (s t : Status) (o u : List ℕ) → Cases words input calls s o → AloneAnswer words input calls t u → ⊥
-not_both words input calls s t o u (inl p) q = p.1 (inr (q.0, q.1))
-not_both words input calls s t o u (inr (inl p)) q = alone_unnetworked words q.0 q.1 p.1
-not_both words input calls s t o u (inr (inr (inl p))) q = alone_unnetworked words q.0 q.1 p.1
-not_both words input calls s t o u (inr (inr (inr (inl p)))) q = alone_unnetworked words q.0 q.1 (inr (inl (p.1.name, p.1.words_are)))
-not_both words input calls s t o u (inr (inr (inr (inr p)))) q = alone_unnetworked words q.0 q.1 (is_networked words input calls s o p)
+not_both : (words : List (List ℕ)) (input : List ℕ) (calls : List LinkCall) (s : Status) (o : List ℕ) (alone : Alone) → Cases words input calls s o → IsAlone words alone → ⊥
+not_both words input calls s o alone (inl p) is = p.1 (inr (alone, is))
+not_both words input calls s o alone (inr (inl p)) is = alone_unnetworked words alone is p.1
+not_both words input calls s o alone (inr (inr (inl p))) is = alone_unnetworked words alone is p.1
+not_both words input calls s o alone (inr (inr (inr (inl p)))) is = alone_unnetworked words alone is (inr (inl (p.1.name, p.1.words_are)))
+not_both words input calls s o alone (inr (inr (inr (inr p)))) is = alone_unnetworked words alone is (is_networked words input calls s o p)
 
 -- for words, an input and calls one status and one text are due
 pub one_answer : OneRun → OneNode → OneAudit → ToldLast → (words : List (List ℕ)) (input : List ℕ) (calls : List LinkCall) (s t : Status) (o u : List ℕ) → Answer words input calls s o → Answer words input calls t u → AreOne s t o u
@@ -268,25 +343,37 @@ one_answer runs nodes one last words input calls s t o u p q =
     elim (cases_of words input calls s o p) [
       | inl a ↦ elim (cases_of words input calls t u q) [
         | inl b ↦ one_of_cases runs nodes one last words input calls s t o u a b
-        | inr b ↦ absurd (not_both words input calls s t o u a b)
+        | inr b ↦ absurd (not_both words input calls s o b.0 a b.1)
       ]
       | inr a ↦ elim (cases_of words input calls t u q) [
-        | inl b ↦ absurd (not_both words input calls t s u o b a)
+        | inl b ↦ absurd (not_both words input calls t u a.0 b a.1)
         | inr b ↦ one_alone_answer words input calls s t o u a b
       ]
     ]
 
--- no command that is built calls a link
+-- What is due for no call is due for any, but of a command that stands alone
 
-due_uncalled : (words : List (List ℕ)) (input : List ℕ) (calls : List LinkCall) (s : Status) (o : List ℕ) → RecordsDue words input calls s o → calls ≡ []
-due_uncalled words input calls s o (inl task) = task.3
-due_uncalled words input calls s o (inr alone) = (facts_of alone.0).uncalled input calls s o alone.2
+uncalled_case : (words : List (List ℕ)) (input : List ℕ) (calls : List LinkCall) (s : Status) (o : List ℕ) → Cases words input [] s o → Cases words input calls s o
+uncalled_case words input calls s o (inl p) = inl p
+uncalled_case words input calls s o (inr (inl p)) = inr (inl p)
+uncalled_case words input calls s o (inr (inr (inl p))) = inr (inr (inl p))
+uncalled_case words input calls s o (inr (inr (inr (inl p)))) = inr (inr (inr (inl p)))
+uncalled_case words input calls s o (inr (inr (inr (inr (inl p))))) = inr (inr (inr (inr (inl p))))
+uncalled_case words input calls s o (inr (inr (inr (inr (inr p))))) =
+    absurd (told_calls p.0 p.1 (behind_separator (lines_of input)) s o p.3)
 
-pub answer_uncalled : (words : List (List ℕ)) (input : List ℕ) (calls : List LinkCall) (s : Status) (o : List ℕ) → Answer words input calls s o → calls ≡ []
-answer_uncalled words input calls Usage o p = p.2
-answer_uncalled words input calls BadNetwork o p = elim p [ inl bad ↦ bad.3 | inr alone ↦ (facts_of alone.0).uncalled input calls BadNetwork o alone.2 ]
-answer_uncalled words input calls TooLarge o p = elim p [ inl long ↦ long.3 | inr due ↦ due_uncalled words input calls TooLarge o due ]
-answer_uncalled words input calls s o p = due_uncalled words input calls s o p
+-- one status and one text are due for some calls, and for none
+one_uncalled : OneRun → OneNode → OneAudit → ToldLast → (words : List (List ℕ)) (input : List ℕ) (calls : List LinkCall) (s t : Status) (o u : List ℕ) → Answer words input calls s o → Answer words input [] t u → AreOne s t o u
+one_uncalled runs nodes one last words input calls s t o u p q =
+    elim (cases_of words input calls s o p) [
+      | inl a ↦ elim (cases_of words input [] t u q) [
+        | inl b ↦ one_of_cases runs nodes one last words input calls s t o u a (uncalled_case words input calls t u b)
+        | inr b ↦ absurd (not_both words input calls s o b.0 a b.1)
+      ]
+      | inr a ↦
+          let none : calls ≡ [] = (facts_of a.0).uncalled input calls s o a.2 in
+          one_answer runs nodes one last words input [] s t o u (subst (λ (c : List LinkCall). Answer words input c s o) none p) q
+    ]
 
 -- a status that is no other than an answer
 pub answered : (status : Status) → (is_answer status ≡ false → ⊥) → is_answer status ≡ true
@@ -298,34 +385,32 @@ answered _ other = refl
 
 -- how a run ends gives what it answered, where the input is told
 abbrev pub Given : Run → Status → List ℕ → Type 0
-Given run status input = (octets : List ℕ) × Wrote run octets × Answer run.words input [] status octets
+Given run status input = (octets : List ℕ) × (calls : List LinkCall) × Wrote run octets × Called run calls × Answer run.words input calls status octets
 
--- what was answered with some calls was so with none
-with_none : (words : List (List ℕ)) (input : List ℕ) (calls : List LinkCall) (s : Status) (o : List ℕ) → Answer words input calls s o → Answer words input [] s o
-with_none words input calls s o p = subst (λ (c : List LinkCall). Answer words input c s o) (answer_uncalled words input calls s o p) p
-
-given_by : (run : Run) (status : Status) (input octets : List ℕ) (calls : List LinkCall) → run.source.before ≡ Some input → Wrote run octets
+given_by : (run : Run) (status : Status) (input octets : List ℕ) (calls : List LinkCall) → run.source.before ≡ Some input → Wrote run octets → Called run calls
     → IfSome run.source.before (λ input. Answer run.words input calls status octets) → Given run status input
-given_by run status input octets calls told wrote has =
-    (octets, wrote, with_none run.words input calls status octets (subst (λ (i : Option (List ℕ)). IfSome i (λ input. Answer run.words input calls status octets)) told has))
+given_by run status input octets calls told wrote called has =
+    (octets, calls, wrote, called, subst (λ (i : Option (List ℕ)). IfSome i (λ input. Answer run.words input calls status octets)) told has)
 
 pub given_of : (run : Run) (status : Status) (input : List ℕ) → run.source.before ≡ Some input → Ends run status → is_answer status ≡ true → Given run status input
-given_of run Done input told ends is = given_by run Done input ends.0.1 ends.0.2 told ends.0.3 ends.0.5
+given_of run Done input told ends is = given_by run Done input ends.0.1 ends.0.2 told ends.0.3 ends.0.4 ends.0.5
 given_of run Usage input told ends is = (
   usage_line,
+  [],
   ends.0,
+  ends.2,
   elim ends.1 [
     | inl none ↦ (inl none, refl, refl)
     | inr some ↦ (inr (subst (λ (i : Option (List ℕ)). IfSome i (λ input. AsksNone run.words (network_text input))) told some.1), refl, refl)
   ],
 )
-given_of run BadNetwork input told ends is = given_by run BadNetwork input ends.1 ends.2 told ends.3 ends.5
-given_of run BadTrace input told ends is = given_by run BadTrace input ends.0.1 ends.0.2 told ends.0.3 ends.0.5
-given_of run TooLarge input told ends is = given_by run TooLarge input ends.1 ends.2 told ends.3 ends.5
-given_of run Broken input told ends is = given_by run Broken input ends.0.1 ends.0.2 told ends.0.3 ends.0.5
-given_of run LinkFault input told ends is = absurd ends
-given_of run BadCapture input told ends is = given_by run BadCapture input ends.0.1 ends.0.2 told ends.0.3 ends.0.5
-given_of run BadCalib input told ends is = given_by run BadCalib input ends.0.1 ends.0.2 told ends.0.3 ends.0.5
+given_of run BadNetwork input told ends is = given_by run BadNetwork input ends.1 ends.2 told ends.3 ends.4 ends.5
+given_of run BadTrace input told ends is = given_by run BadTrace input ends.0.1 ends.0.2 told ends.0.3 ends.0.4 ends.0.5
+given_of run TooLarge input told ends is = given_by run TooLarge input ends.1 ends.2 told ends.3 ends.4 ends.5
+given_of run Broken input told ends is = given_by run Broken input ends.0.1 ends.0.2 told ends.0.3 ends.0.4 ends.0.5
+given_of run BadCapture input told ends is = given_by run BadCapture input ends.0.1 ends.0.2 told ends.0.3 ends.0.4 ends.0.5
+given_of run BadCalib input told ends is = given_by run BadCalib input ends.0.1 ends.0.2 told ends.0.3 ends.0.4 ends.0.5
+given_of run LinkFault input told ends is = absurd (cc)
 given_of run ReadFault input told ends is = absurd (cc)
 given_of run WriteFault input told ends is = absurd (cc)
 given_of run OutOfMemory input told ends is = absurd (cc)
@@ -335,23 +420,33 @@ abbrev pub DueIs : Run → Status → List LinkCall → Status → List ℕ → 
 DueIs run answered calls status octets =
     IfSome run.source.before (λ input. Answer run.words input calls status octets → (answered ≡ status) × Appends run.sink.before run.sink.now octets)
 
+-- calls that a link tells are those that were made
+own_calls : (run : Run) (calls made : List LinkCall) → Called run made → IsToldOf run.link calls → (calls ≡ made) ⊎ (calls ≡ [])
+own_calls run calls made called (inl none) = inr none
+own_calls run calls made called (inr (told, before, now)) =
+    let all : Some (told ++ calls) ≡ Some (told ++ made) = sym now ∙ called ∙ ap (option_map (λ (own : List LinkCall). own ++ made)) before in
+    inl (append_cancel_left told calls made (same_Some (told ++ calls) (told ++ made) all))
+
 -- where the source tells the input, what is due is what was answered and written
 pub told_one : OneRun → OneNode → OneAudit → ToldLast → (run : Run) (answered status : Status) (octets : List ℕ) (calls : List LinkCall) → Ends run answered → is_answer answered ≡ true
-    → DueIs run answered calls status octets
-told_one runs nodes one last run answered status octets calls ends is = go run.source.before refl
+    → IsToldOf run.link calls → DueIs run answered calls status octets
+told_one runs nodes one last run answered status octets calls ends is tells = go run.source.before refl
   where
     go : (told : Option (List ℕ)) → run.source.before ≡ told → IfSome told (λ input. Answer run.words input calls status octets → (answered ≡ status) × Appends run.sink.before run.sink.now octets)
     go None told = tt
     go (Some input) told =
         λ other.
         let given = given_of run answered input told ends is in
-        let same : AreOne answered status given.0 octets = one_answer runs nodes one last run.words input [] answered status given.0 octets given.2 (with_none run.words input calls status octets other) in
-        (same.0, subst (λ (o : List ℕ). Appends run.sink.before run.sink.now o) same.1 given.1)
+        let same : AreOne answered status given.0 octets = elim (own_calls run calls given.1 given.3 tells) [
+          | inl own ↦ one_answer runs nodes one last run.words input given.1 answered status given.0 octets given.4 (subst (λ (c : List LinkCall). Answer run.words input c status octets) own other)
+          | inr none ↦ one_uncalled runs nodes one last run.words input given.1 answered status given.0 octets given.4 (subst (λ (c : List LinkCall). Answer run.words input c status octets) none other)
+        ] in
+        (same.0, subst (λ (o : List ℕ). Appends run.sink.before run.sink.now o) same.1 given.2)
 
 -- without a fault and with memory a run ends with an answer
-pub ends_answered : (run : Run) (status : Status) → Ends run status → (status ≡ OutOfMemory → ⊥) → (Failed run.source → ⊥) → (Failed run.sink → ⊥) → is_answer status ≡ true
-ends_answered run ReadFault ends memory reads writes = absurd (reads ends.0)
-ends_answered run WriteFault ends memory reads writes = absurd (writes ends.0)
-ends_answered run OutOfMemory ends memory reads writes = absurd (memory refl)
-ends_answered run LinkFault ends memory reads writes = absurd ends
-ends_answered run _ ends memory reads writes = refl
+pub ends_answered : (run : Run) (status : Status) → Ends run status → (status ≡ OutOfMemory → ⊥) → (Failed run.source → ⊥) → (Failed run.sink → ⊥) → (Failed run.link → ⊥) → is_answer status ≡ true
+ends_answered run ReadFault ends memory reads writes links = absurd (reads ends.0)
+ends_answered run WriteFault ends memory reads writes links = absurd (writes ends.0)
+ends_answered run OutOfMemory ends memory reads writes links = absurd (memory refl)
+ends_answered run LinkFault ends memory reads writes links = absurd (links ends.0)
+ends_answered run _ ends memory reads writes links = refl

@@ -240,7 +240,7 @@ same_size m n p q = go (nat_lt m n) (nat_lt n m) refl refl
 ok_scene : (a b : SceneAt) → (read : Result SceneAt TraceFault) → read ≡ Ok a → read ≡ Ok b → a ≡ b
 ok_scene a b read p q = let both : Ok a ≡ Ok b = sym p ∙ q in cc
 
-scenes_one : (s : Setting) (scene : SceneAt) (lines : List (List ℕ)) (a b : SceneAt) → Changes s scene lines a → Changes s scene lines b → a ≡ b
+pub scenes_one : (s : Setting) (scene : SceneAt) (lines : List (List ℕ)) (a b : SceneAt) → Changes s scene lines a → Changes s scene lines b → a ≡ b
 scenes_one s scene [] a b p q = p ∙ sym q
 scenes_one s scene (line ∷ lines) a b p q =
     let same : p.0 ≡ q.0 = ok_scene p.0 q.0 (scene_read s.cfg scene line) p.1 q.1 in
@@ -260,7 +260,7 @@ joined s scene (line ∷ front) back mid last p q = (p.0, p.1, joined s p.0 fron
 err_ok : (fault : TraceFault) (scene : SceneAt) → Err fault ≡ Ok scene → ⊥
 err_ok fault scene e = cc
 
-never_refused : (s : Setting) (before behind : List (List ℕ)) (line text last : List ℕ) (refusal : Refusal) → SimAccepts s (before ++ line ∷ behind) text → SimRefuses s before line refusal last → ⊥
+pub never_refused : (s : Setting) (before behind : List (List ℕ)) (line text last : List ℕ) (refusal : Refusal) → SimAccepts s (before ++ line ∷ behind) text → SimRefuses s before line refusal last → ⊥
 never_refused s before behind line text last refusals.BadTrace p q =
     let parts = parted s (new_scene s.cfg) before (line ∷ behind) p.0 p.1 in
     let same : parts.0 ≡ q.0 = scenes_one s (new_scene s.cfg) before parts.0 q.0 parts.1 q.1 in
@@ -270,7 +270,7 @@ never_refused s before behind line text last refusals.Broken p q = q
 one_fault : (a b : TraceFault) (read : Result SceneAt TraceFault) → read ≡ Err a → read ≡ Err b → a ≡ b
 one_fault a b read p q = let both : Err a ≡ Err b = sym p ∙ q in cc
 
-one_refused : (s : Setting) (before : List (List ℕ)) (line t u : List ℕ) (a b : Refusal) → SimRefuses s before line a t → SimRefuses s before line b u → (a ≡ b) × (t ≡ u)
+pub one_refused : (s : Setting) (before : List (List ℕ)) (line t u : List ℕ) (a b : Refusal) → SimRefuses s before line a t → SimRefuses s before line b u → (a ≡ b) × (t ≡ u)
 one_refused s before line t u refusals.BadTrace refusals.BadTrace p q =
     let scene : p.0 ≡ q.0 = scenes_one s (new_scene s.cfg) before p.0 q.0 p.1 q.1 in
     let fault : p.2 ≡ q.2 = one_fault p.2 q.2 (scene_read s.cfg q.0 line) (ap (λ (n : SceneAt). scene_read s.cfg n line) (sym scene) ∙ p.3) q.3 in

@@ -57,7 +57,7 @@ nothing_done (works.Simulate seed) s = (new_scene s.cfg, refl, refl)
 -- The event that comes
 
 -- the network of a run is one that its reader accepts
-network_of : {F : Type 0} {pre : F → ℤ → Type 0} {post : F → ℤ → ℤ → Type 0} (s : Setting) (w : WorldAt) (world : WorldOf F) → IsValid pre post world → StandsFor post s w world → IsNetwork s
+pub network_of : {F : Type 0} {pre : F → ℤ → Type 0} {post : F → ℤ → ℤ → Type 0} (s : Setting) (w : WorldAt) (world : WorldOf F) → IsValid pre post world → StandsFor post s w world → IsNetwork s
 network_of s w world valid stands = record {
   accepted = subst (λ (d : Database). IsAccepted s.cfg d) stands.plant.db (subst (λ (c : NetCfg). IsAccepted c world.plant.net.db) stands.plant.cfg valid.plant.accepted);
   set = stands.set;
@@ -239,7 +239,7 @@ writes_on seed s scene network course before mid now waiting left so_far (inr al
 -- Ends
 
 -- a text that is written behind another
-finishes_behind : (due given : Status) (before mid now : Option (List ℕ)) (written text : List ℕ) → Appends before mid written → Finishes due given mid now text → Finishes due given before now (written ++ text)
+pub finishes_behind : (due given : Status) (before mid now : Option (List ℕ)) (written text : List ℕ) → Appends before mid written → Finishes due given mid now text → Finishes due given before now (written ++ text)
 finishes_behind due given before mid now written text wrote (inl all) = inl (all.0, Appends-trans before mid now written text wrote all.1)
 finishes_behind due given before mid now written text wrote (inr part) =
     inr (part.0, (length written + part.1.0, subst (Appends before now) (take_two written text part.1.0) (Appends-trans before mid now written (take part.1.0 text) wrote part.1.1)))

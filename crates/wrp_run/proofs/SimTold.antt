@@ -17,9 +17,9 @@ use Rattle.wrp_run.specs.SimHeadline.{LacksScenario, Made, MadeEventsCarryParts,
 use Rattle.wrp_run.specs.SimText.{sim_lines, sum_lines}
 use Rattle.wrp_run.specs.Simulates.{SimRefuses, Simulates, simulation_of}
 use Rattle.wrp_records.specs.Stream.{CutHandled, large_line}
-use Rattle.wrp_run.specs.Tasks.{Task, Replay, Audit, Emit, Simulate, AsksFor, IsSimulation, meaning_at}
+use Rattle.wrp_run.specs.Tasks.{Task, Replay, Audit, Emit, Simulate, Loop, AsksFor, IsSimulation, meaning_at}
 use Rattle.wrp_run.proofs.DueTold.{IsDueSo, PrintsDue, prints}
-use Rattle.wrp_run.proofs.WordLemmas.{no_simulation, simulation_alone}
+use Rattle.wrp_run.proofs.WordLemmas.{no_simulation, simulation_alone, simulation_unlooped}
 
 -- The task of a simulation
 
@@ -33,6 +33,7 @@ only_simulation words text seed P Q simulates f (Replay site) asks h = absurd (s
 only_simulation words text seed P Q simulates f (Audit s) asks h = absurd (no_simulation words seed asks.1 simulates)
 only_simulation words text seed P Q simulates f (Emit s n) asks h = absurd (simulation_alone forms.Emit words asks.1 seed asks.2 (λ e. omega (arith, e)) simulates)
 only_simulation words text seed P Q simulates f (Simulate s own) asks h = f s own asks h
+only_simulation words text seed P Q simulates f (Loop s own) asks h = absurd (simulation_unlooped words seed simulates own asks.1)
 
 asks_node : (words : List (List ℕ)) (text : List ℕ) (seed : ℕ) → IsSimulation words seed → AsksNone words text → ⊥
 asks_node words text seed simulates none = elim none.words_are [
@@ -148,7 +149,8 @@ cut_due words seed input taken octets simulates h =
 
 run_so : (words : List (List ℕ)) (seed : ℕ) → IsSimulation words seed → IsDueSo words (IsRunDue words)
 run_so words seed simulates = record {
-  networked = inr (inr (seed, simulates));
+  networked = inr (inr (inl (seed, simulates)));
+  unlooped = simulation_unlooped words seed simulates;
   no_node = λ input none. absurd (asks_node words (network_text input) seed simulates none);
   none = λ input status octets none. inl none;
   task = λ input status octets calls answer. task_due words seed input status octets calls simulates answer;

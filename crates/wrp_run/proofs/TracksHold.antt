@@ -64,7 +64,7 @@ tracks_hold tracks has_line s (h ∷ before) runs = (true_at tracks has_line s h
 
 -- Audits
 
-laws_of : ReadingIsAccepted → (text : List ℕ) (s : Setting) → IsSettingOf text s → LawsAreNear s
+pub laws_of : ReadingIsAccepted → (text : List ℕ) (s : Setting) → IsSettingOf text s → LawsAreNear s
 laws_of accepted text s h = laws_near s h.net.cfg h.net.db (accepted text h.net h.reads) h.is
 
 all_fit : (events : List Happened) → AllByRecursion (λ (h : Happened). FitsEvent h.event) events → AllFit events
@@ -81,7 +81,7 @@ audit_runs can accepted words input s events came = record {
 
 -- Simulations
 
-few_events : (events : List Happened) → length events < event_limit → length events < 2 ^ 32
+pub few_events : (events : List Happened) → length events < event_limit → length events < 2 ^ 32
 few_events events few = omega (arith, few)
 
 pub simulation_runs : SimRunsAreRuns → ReadingIsAccepted → (words : List (List ℕ)) (input : List ℕ) (s : Setting) (events : List Happened) → Made words input s events → RunsNear s events

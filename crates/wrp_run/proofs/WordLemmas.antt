@@ -13,7 +13,7 @@ use Rattle.wrp_run.specs.Asked.{AsksSo}
 use Rattle.wrp_run.specs.CommandLine.{HasOption, IsCommandOf, IsCommandWith, IsForm, IsNoCommand}
 use Rattle.wrp_run.specs.declared.parse.Command.{Command}
 use Rattle.wrp_run.specs.declared.parse.Command.TheVariants as command
-use Rattle.wrp_run.specs.Tasks.{IsAuditing, IsEmission, IsReplay, IsSimulation}
+use Rattle.wrp_run.specs.Tasks.{IsAuditing, IsEmission, IsLooping, IsReplay, IsSimulation}
 use Rattle.wrp_run.proofs.AloneCommand.{first_with}
 use Rattle.wrp_run.proofs.AloneTable.{facts_of}
 
@@ -81,7 +81,8 @@ pub alone_unnetworked : (words : List (List ℕ)) (alone : Alone) → IsAlone wo
 alone_unnetworked words alone is (inl audit) = alone_no_audit words alone is audit
 alone_unnetworked words alone is (inr (inl (name, inl replay))) = alone_bare (codes "replay") (codes "--node") words name alone is replay
 alone_unnetworked words alone is (inr (inl (name, inr emission))) = alone_bare (codes "audit") (codes "--emit") words name alone is emission
-alone_unnetworked words alone is (inr (inr (seed, simulation))) = alone_bare (codes "simulate") (codes "--seed") words simulation.0 alone is simulation.1
+alone_unnetworked words alone is (inr (inr (inl (seed, simulation)))) = alone_bare (codes "simulate") (codes "--seed") words simulation.0 alone is simulation.1
+alone_unnetworked words alone is (inr (inr (inr (seed, looping)))) = alone_bare (codes "loop") (codes "--seed") words looping.0 alone is looping.1
 
 -- words are one such command
 pub one_alone : (words : List (List ℕ)) (a b : Alone) → IsAlone words a → IsAlone words b → a ≡ b
@@ -141,7 +142,8 @@ pub asks_nothing : (words : List (List ℕ)) → IsNoCommand words → IsCommand
 asks_nothing words never (inl (inl audit)) = never forms.Audit [] (audit, refl) tt
 asks_nothing words never (inl (inr (inl (name, inl replay)))) = never forms.Replay name replay tt
 asks_nothing words never (inl (inr (inl (name, inr emission)))) = never forms.Emit name emission tt
-asks_nothing words never (inl (inr (inr (seed, simulation)))) = never forms.Simulate simulation.0 simulation.1 (seed, simulation.2)
+asks_nothing words never (inl (inr (inr (inl (seed, simulation))))) = never forms.Simulate simulation.0 simulation.1 (seed, simulation.2)
+asks_nothing words never (inl (inr (inr (inr (seed, looping))))) = never forms.Loop looping.0 looping.1 (seed, looping.2)
 asks_nothing words never (inr (alone, is)) = never (forms.Alone alone) [] (is, refl) tt
 
 -- a simulation is nothing else, and has one seed
@@ -157,21 +159,31 @@ one_seed words a b p q =
 pub no_simulation : (words : List (List ℕ)) (seed : ℕ) → IsAuditing words → IsSimulation words seed → ⊥
 no_simulation words seed audit simulation = simulation_alone forms.Audit words [] seed (audit, refl) (λ e. omega (arith, e)) simulation
 
--- a loop is no command that is built
-loop_alone : (words : List (List ℕ)) (text : List ℕ) → IsCommandWith (codes "loop") (codes "--seed") words text → IsCommand words → ⊥
-loop_alone words text is (inl (inl audit)) =
-    let bad : 97 ≡ 108 = sym (initial_letter forms.Audit words [] (audit, refl)) ∙ initial_letter forms.Loop words text is in absurd (omega (arith, bad))
-loop_alone words text is (inl (inr (inl (name, inl replay)))) =
-    let bad : 114 ≡ 108 = sym (initial_letter forms.Replay words name replay) ∙ initial_letter forms.Loop words text is in absurd (omega (arith, bad))
-loop_alone words text is (inl (inr (inl (name, inr emission)))) =
-    let bad : 97 ≡ 108 = sym (initial_letter forms.Emit words name emission) ∙ initial_letter forms.Loop words text is in absurd (omega (arith, bad))
-loop_alone words text is (inl (inr (inr (seed, simulation)))) =
-    let bad : 115 ≡ 108 = sym (initial_letter forms.Simulate words simulation.0 simulation.1) ∙ initial_letter forms.Loop words text is in absurd (omega (arith, bad))
-loop_alone words text is (inr (alone, only)) = alone_bare (codes "loop") (codes "--seed") words text alone only is
+-- a loop is nothing else, and has one seed
+pub looping_alone : (form : Form) (words : List (List ℕ)) (value : List ℕ) (seed : ℕ) → IsForm form words value → (letter form ≡ 108 → ⊥) → IsLooping words seed → ⊥
+looping_alone form words value seed is other looping = other (sym (initial_letter form words value is) ∙ initial_letter forms.Loop words looping.0 looping.1)
+
+pub one_loop_seed : (words : List (List ℕ)) (a b : ℕ) → IsLooping words a → IsLooping words b → a ≡ b
+one_loop_seed words a b p q =
+    let text : p.0 ≡ q.0 = one_value (codes "loop") (codes "--seed") words p.0 q.0 p.1 q.1 in
+    same_Some a b (sym p.2 ∙ ap seed_of text ∙ q.2)
+
+-- an audit, the inputs of a node in one, and a simulation are no loop
+pub audit_unlooped : (words : List (List ℕ)) → IsAuditing words → (seed : ℕ) → IsLooping words seed → ⊥
+audit_unlooped words audit seed looping = looping_alone forms.Audit words [] seed (audit, refl) (λ e. omega (arith, e)) looping
+
+pub emission_unlooped : (words : List (List ℕ)) (name : List ℕ) → IsEmission words name → (seed : ℕ) → IsLooping words seed → ⊥
+emission_unlooped words name emission seed looping = looping_alone forms.Emit words name seed emission (λ e. omega (arith, e)) looping
+
+pub replay_unlooped : (words : List (List ℕ)) (name : List ℕ) → IsReplay words name → (seed : ℕ) → IsLooping words seed → ⊥
+replay_unlooped words name replay seed looping = looping_alone forms.Replay words name seed replay (λ e. omega (arith, e)) looping
+
+pub simulation_unlooped : (words : List (List ℕ)) (own : ℕ) → IsSimulation words own → (seed : ℕ) → IsLooping words seed → ⊥
+simulation_unlooped words own simulation seed looping = looping_alone forms.Simulate words simulation.0 seed simulation.1 (λ e. omega (arith, e)) looping
 
 -- what is asked for, by the command that the words are
 pub asks_so : (words : List (List ℕ)) (found : Option Command) → IsCommandOf words found → AsksSo words found
 asks_so words None never = asks_nothing words never
 asks_so words (Some (command.OnNetwork what)) is = is
 asks_so words (Some (command.Alone alone)) is = is
-asks_so words (Some (command.Loop seed)) is = loop_alone words is.0 is.1
+asks_so words (Some (command.Loop seed)) is = is

@@ -1,4 +1,4 @@
--- What the words of the command line ask for, of what is built (this project's profile).
+-- What the words of the command line ask for (this project's profile).
 use Rattle.std.specs.Prelude.{◌≡◌, ◌<◌, ◌≤◌, true, ℕ, Option, None, Some, IfSome, Ok, List, length}
 use Rattle.std.specs.Io.KnownBytes.{Consumes, IsAtEnd}
 use Rattle.wrp_base.specs.Network.{node_count}
@@ -16,13 +16,13 @@ use Rattle.wrp_run.specs.Answer.{IsCommand}
 use Rattle.wrp_run.specs.AuditStands.{task_of}
 use Rattle.wrp_run.specs.CommandLine.{IsAsked}
 use Rattle.wrp_run.specs.Input.{IsDivided, network_limit}
-use Rattle.wrp_run.specs.Tasks.{Task, Simulate, IsAuditing, IsEmission, IsSimulation}
+use Rattle.wrp_run.specs.Tasks.{Task, Simulate, IsAuditing, IsEmission, IsLooping, IsSimulation}
 
--- the words are this command, or none that is built
+-- the words are this command, or none
 abbrev pub AsksSo : List (List ℕ) → Option Command → Type 0
 AsksSo words (Some (command.OnNetwork asked)) = IsAsked words asked
 AsksSo words (Some (command.Alone alone)) = IsAlone words alone
-AsksSo words (Some (command.Loop seed)) = IsCommand words → ⊥
+AsksSo words (Some (command.Loop seed)) = IsLooping words seed
 AsksSo words None = IsCommand words → ⊥
 
 -- the words ask for this work on a whole network; a node whose inputs are asked for is the first of its name

@@ -5,17 +5,17 @@ use Rattle.wrp_io.specs.declared.link.LinkCall.{LinkCall}
 use Rattle.wrp_records.specs.declared.machine.Refusal.{Refusal}
 use Rattle.wrp_records.specs.declared.machine.Refusal.TheVariants as refusals
 use Rattle.wrp_records.specs.declared.status.Status.{Status}
-use Rattle.wrp_records.specs.declared.status.Status.TheVariants.{Done, Usage, BadTrace, Broken, ReadFault, WriteFault, LinkFault, OutOfMemory, BadCapture, BadCalib}
+use Rattle.wrp_records.specs.declared.status.Status.TheVariants.{Done, Usage, BadTrace, Broken, ReadFault, WriteFault, LinkFault, TooLarge, OutOfMemory, BadCapture, BadCalib}
 use Rattle.wrp_records.specs.Lines.{lines_of}
 use Rattle.wrp_records.specs.Passages.{Failed, Passage}
 use Rattle.wrp_records.specs.Reader.{piece_limit}
 use Rattle.wrp_records.specs.RecordsAnswer.{IsRefused}
 use Rattle.wrp_run.specs.declared.alone.Alone.{Alone}
 use Rattle.wrp_run.specs.Alone.{IsAlone, MayAnswer, alone_meaning}
-use Rattle.wrp_run.specs.Answer.{IsCommand, IsNetworked, IsOfNode, AsksNone, Answer, FirstAnswer, PartAnswer, CutAnswer}
+use Rattle.wrp_run.specs.Answer.{IsCommand, IsNetworked, IsOfNode, AsksNone, Answer, FirstAnswer, LoopBroken, PartAnswer, CutAnswer}
 use Rattle.wrp_run.specs.Input.{network_text, behind_separator}
 use Rattle.wrp_run.specs.Refusals.{usage_line}
-use Rattle.wrp_run.specs.Tasks.{Task, AsksFor, IsAuditing, IsEmission, meaning_at}
+use Rattle.wrp_run.specs.Tasks.{Task, AsksFor, IsAuditing, IsEmission, IsLooping, meaning_at}
 
 -- what a run was given and what passed in it between it and the outside: the words; what the source has left;
 -- what the sink holds; the calls of the link; and how often each of the three had failed, before and after
@@ -37,11 +37,21 @@ Took run octets = Consumes run.source.before run.source.now octets
 abbrev pub Called : Run → List LinkCall → Type 0
 Called run calls = run.link.now ≡ option_map (λ told. told ++ calls) run.link.before
 
--- these calls decide what is due: those that the run added, where the link tells them; or none, where it made none
+-- these calls decide what is due: those that the run added, where the link tells them; or none, since what is due without a call
+-- is due whatever was called
 abbrev pub IsToldOf : Passage (List LinkCall) → List LinkCall → Type 0
 IsToldOf link calls =
     (calls ≡ [])
     ⊎ ((told : List LinkCall) × (link.before ≡ Some told) × (link.now ≡ Some (told ++ calls)))
+
+-- a status that tells of words, of a network text, of a record or of the source: no link was called before it
+abbrev pub IsUncalled : Status → Type 0
+IsUncalled Done = ⊥
+IsUncalled TooLarge = ⊥
+IsUncalled WriteFault = ⊥
+IsUncalled LinkFault = ⊥
+IsUncalled OutOfMemory = ⊥
+IsUncalled status = Unit {0}
 
 -- the words ask for a command that stands alone, which may answer this
 abbrev pub AsksAlone : List (List ℕ) → Status → Type 0
@@ -130,8 +140,12 @@ Ends run WriteFault =
 Ends run OutOfMemory =
     (octets : List ℕ) × (calls : List LinkCall) × Wrote run octets × Called run calls
     × IfSome run.source.before (λ input. FirstAnswer run.words input calls octets)
--- no command that is built calls a link
-Ends run LinkFault = ⊥
+-- the link failed, which only a loop calls: the input was read to its end, and the lines of all events before the one
+-- whose call failed stand
+Ends run LinkFault =
+    Failed run.link × ((seed : ℕ) × IsLooping run.words seed) × IsAtEnd run.source.now
+    × (octets : List ℕ) × (calls : List LinkCall) × Wrote run octets × Called run calls
+    × IfSome run.source.before (λ input. LoopBroken run.words input calls LinkFault octets)
 -- the network or a size is refused, and its line is written behind those of the records before it
 Ends run status = Answered run status
 

@@ -19,6 +19,9 @@ pub mod Headline
 pub mod Input
 pub mod LawsFit
 pub mod LinkLaw
+pub mod LoopHeadline
+pub mod LoopPasses
+pub mod Loops
 pub mod NodeText
 pub mod Parsing
 pub mod Refusals

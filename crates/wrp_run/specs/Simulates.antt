@@ -14,7 +14,7 @@ use Rattle.wrp_records.specs.declared.machine.Refusal.TheVariants.{BadTrace, Bro
 use Rattle.wrp_records.specs.declared.status.Status.{Status}
 use Rattle.wrp_records.specs.declared.status.Status.TheVariants.{TooLarge, OutOfMemory}
 use Rattle.wrp_run.specs.Audited.{answers_in}
-use Rattle.wrp_records.specs.LineMeaning.{LineMeaning}
+use Rattle.wrp_records.specs.LineMeaning.{LineMeaning, bars_none, meaning_by}
 use Rattle.wrp_records.specs.Refusals.{bad_trace_line}
 use Rattle.wrp_run.specs.SimText.{sim_lines, sum_lines}
 use Rattle.wrp_records.specs.Stream.{large_line}
@@ -103,3 +103,8 @@ simulation_of s seed = record {
   closes = SimCloses s seed;
   breaks_off = SimBreaks s seed;
 }
+
+-- what they mean where the network runs over a link: a scenario. What is written behind it is told by the calls of the
+-- link too (Loops.antt).
+abbrev pub scenario_of : Setting → LineMeaning
+scenario_of s = meaning_by (SimAccepts s) (SimRefuses s) bars_none bars_none

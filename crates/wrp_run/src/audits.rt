@@ -2,9 +2,11 @@
 ghost use Rattle.wrp_run.specs.AnswerLaws.{OneAnswer};
 ghost use Rattle.wrp_run.specs.AuditLaws.{AuditsBegin, OneAudit};
 ghost use Rattle.wrp_run.specs.Headline.{EventsCarryParts};
+ghost use Rattle.wrp_run.specs.LoopHeadline.{LoopedEventsCarryParts};
 ghost use Rattle.wrp_run.specs.SimHeadline.{MadeEventsCarryParts};
 
 use wrp_config::reading_is_accepted;
+use wrp_loop::loop_keeps_the_bounds;
 use wrp_node::one_run;
 use wrp_servo::told_last;
 use wrp_sim::simulator_keeps_the_bounds;
@@ -52,5 +54,14 @@ pub fn made_events_carry_parts()
 {
     reading_is_accepted();
     simulator_keeps_the_bounds();
+    events_hold();
+}
+
+/// So it is in each event of a run over a link, whatever the link does: they are a run of the network.
+pub fn looped_events_carry_parts()
+    ensures { LoopedEventsCarryParts }
+{
+    reading_is_accepted();
+    loop_keeps_the_bounds();
     events_hold();
 }

@@ -3,6 +3,7 @@ ghost use Rattle.std.specs.Prelude.{◌≡◌, ℕ, List, true, IfOk, IfSome};
 ghost use Rattle.std.specs.Io.KnownBytes.{Appends};
 ghost use Rattle.wrp_io.specs.declared.link.LinkCall.{LinkCall};
 ghost use Rattle.wrp_io.specs.Faults.{Rose};
+ghost use Rattle.wrp_loop.specs.Calls.{Adds};
 ghost use Rattle.wrp_records.specs.declared.status.Status.{Status};
 ghost use Rattle.wrp_records.specs.Passages.{FailsBy, passage};
 ghost use Rattle.wrp_records.specs.Statuses.{is_answer};
@@ -11,47 +12,61 @@ ghost use Rattle.wrp_run.specs.Alone.{HasAim, IsAlone};
 ghost use Rattle.wrp_run.specs.Answer.{Answer, IsCommand};
 ghost use Rattle.wrp_run.specs.Asked.{AsksSo};
 ghost use Rattle.wrp_run.specs.EmitHeadline.{EmitHeadline};
-ghost use Rattle.wrp_run.specs.Ends.{Ends, EndsUnlinked, IsToldOf};
+ghost use Rattle.wrp_run.specs.Ends.{Ends, IsToldOf, IsUncalled};
 ghost use Rattle.wrp_run.specs.Headline.{Headline};
+ghost use Rattle.wrp_run.specs.LoopHeadline.{LoopHeadline};
 ghost use Rattle.wrp_run.specs.SimHeadline.{SimHeadline};
-ghost use Rattle.wrp_run.specs.Tasks.{IsAuditing, IsEmission, IsSimulation};
+ghost use Rattle.wrp_run.specs.Tasks.{IsAuditing, IsEmission, IsLooping, IsSimulation};
 ghost use Rattle.wrp_run.specs.Words.{texts_of};
 
 use crate::alone::run_alone;
-use crate::audits::{events_carry_parts, made_events_carry_parts, one_audit};
+use crate::audits::{
+    events_carry_parts, looped_events_carry_parts, made_events_carry_parts, one_audit,
+};
+use crate::looped::run_loop;
 use crate::network::run_network;
 use crate::parse::{Command, read_words};
 use crate::refusals::USAGE_LINE;
 use std::alloc::{AllocError, Global};
 use wrp_io::{Link, Sink, Source};
+use wrp_loop::loop_is_audited;
 use wrp_node::one_run;
 use wrp_records::{Status, answer};
 use wrp_servo::told_last;
 
-// The command that the words name, of those that are built, or None.
+// The command that the words name, or None.
 fn read_command<'a>(alloc: Global, words: &'a [&'a str]) -> Result<Option<Command<'a>>, AllocError>
     ensures { IfOk result (AsksSo (texts_of words.now)) }
 {
     read_words(alloc, words)
 }
 
-// Runs the command that the words name, which calls no link.
-fn run_command<S: Source, K: Sink>(
+// Runs the command that the words name. A loop alone calls the link.
+fn run_command<S: Source, K: Sink, N: Link>(
     alloc: Global,
     words: &[&str],
     source: &mut S,
     sink: &mut K,
+    link: &mut N,
 ) -> Status
-    ensures ends { EndsUnlinked (texts_of words.now) (passage S.left S.faults source.old source.new)
-        (passage K.held K.faults sink.old sink.new) result }
+    ensures ends { Ends (record {
+      words = texts_of words.now;
+      source = passage S.left S.faults source.old source.new;
+      sink = passage K.held K.faults sink.old sink.new;
+      link = passage N.told N.faults link.old link.new;
+    }) result }
     ensures read { FailsBy Status.ReadFault result (passage S.left S.faults source.old source.new) }
     ensures write { FailsBy Status.WriteFault result (passage K.held K.faults sink.old sink.new) }
+    ensures linked { FailsBy Status.LinkFault result
+        (passage N.told N.faults link.old link.new) }
     ensures unread { (IsCommand (texts_of words.now) → ⊥) → source.new ≡ source.old }
+    ensures unlinked { ((seed : ℕ) → IsLooping (texts_of words.now) seed → ⊥) → link.new ≡ link.old }
+    ensures unstarted { IsUncalled result → link.new ≡ link.old }
 {
     match read_command(alloc, words) {
         Ok(Some(Command::OnNetwork(asked))) => run_network(alloc, words, asked, source, sink),
         Ok(Some(Command::Alone(alone))) => run_alone(alloc, words, alone, source, sink),
-        Ok(Some(Command::Loop(_))) => answer(sink, Status::Usage, USAGE_LINE.as_bytes()),
+        Ok(Some(Command::Loop(seed))) => run_loop(alloc, words, seed, source, sink, link),
         Ok(None) => answer(sink, Status::Usage, USAGE_LINE.as_bytes()),
         Err(_) => Status::OutOfMemory,
     }
@@ -119,14 +134,24 @@ pub fn run<S: Source, K: Sink, N: Link>(
         (octets : List ℕ) × Appends (K.held sink.old) (K.held sink.new) octets
         × HasAim alone input result octets) }
 
-    // Words that are no command are refused with nothing read, and no link is used.
+    // The same of a run over a link: what it wrote is told by some calls that the link told more.
+    ensures looped { (seed : ℕ) → IsLooping (texts_of words.now) seed → IfSome (S.left source.old) (λ input.
+        (octets : List ℕ) × (calls : List LinkCall) × Appends (K.held sink.old) (K.held sink.new) octets
+        × Adds (N.told link.old) (N.told link.new) calls
+        × LoopHeadline (texts_of words.now) input calls result octets) }
+
+    // Words that are no command are refused with nothing read. No link is used but by a loop, and by a loop only
+    // behind its whole scenario.
     ensures unread { (IsCommand (texts_of words.now) → ⊥) → source.new ≡ source.old }
-    ensures link { link.new ≡ link.old }
+    ensures link { ((seed : ℕ) → IsLooping (texts_of words.now) seed → ⊥) → link.new ≡ link.old }
+    ensures unstarted { IsUncalled result → link.new ≡ link.old }
 {
     one_run();
     one_audit();
     events_carry_parts();
     made_events_carry_parts();
+    looped_events_carry_parts();
+    loop_is_audited();
     told_last();
-    run_command(alloc, words, source, sink)
+    run_command(alloc, words, source, sink, link)
 }

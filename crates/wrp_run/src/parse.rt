@@ -35,7 +35,7 @@ pub enum Command<'a> {
     OnNetwork(Asked<'a>),
     /// One that stands alone.
     Alone(Alone),
-    /// `loop --seed N`, which is still to come.
+    /// `loop --seed N`.
     Loop(u64),
 }
 

@@ -122,8 +122,8 @@ fn close<F: Fn(i64) -> i64, K: Sink>(
     }
 }
 
-// Writes what waits, and the line that names the event whose number is too great.
-fn overrun<K: Sink>(alloc: Global, text: &mut Vec<u8>, sink: &mut K) -> Status
+/// Writes what waits, and the line that names the event whose number is too great.
+pub fn overrun<K: Sink>(alloc: Global, text: &mut Vec<u8>, sink: &mut K) -> Status
     ensures closes { ClosesLarge result (K.held sink.old) (K.held sink.new) text.old.items }
     ensures rose { result ≡ Status.WriteFault → Rose (K.faults sink.old) (K.faults sink.new) }
     ensures kept { (result ≡ Status.WriteFault → ⊥) → K.faults sink.new ≡ K.faults sink.old }
