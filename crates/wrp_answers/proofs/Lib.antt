@@ -2,10 +2,15 @@ pub mod AcceptedLines
 pub mod Auditing
 pub mod Commands
 pub mod EachAnswered
+pub mod EventRecords
+pub mod EventSizes
 pub mod Listed
+pub mod LoopAgain
+pub mod LoopCounts
 pub mod Moments
 pub mod NoOutput
 pub mod NoTrack
+pub mod PlainRuns
 pub mod Replaying
 pub mod SimulatedHeard
 pub mod Simulating
