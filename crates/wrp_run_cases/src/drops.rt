@@ -3,23 +3,26 @@ ghost use Rattle.std.specs.Prelude.{◌≤◌, length};
 
 use wrp_io::{Failed, Source};
 
-/// A source of octets, that gives at most so many a call, and whose call of one number, counted from 1, fails.
+/// A source of octets, that gives at most so many a call, and whose call of one number, counted from 1, fails. Where it
+/// breaks off, each call fails that comes when all octets were given.
 #[derive(Drop)]
 pub struct Drops<'a> {
     octets: &'a [u8],
     most: usize,
     fails: u32,
+    breaks: bool,
     calls: u32,
     faults: u64,
 }
 
 impl<'a> Drops<'a> {
     /// A source of these octets.
-    pub fn new(octets: &'a [u8], most: usize, fails: u32) -> Drops<'a> {
+    pub fn new(octets: &'a [u8], most: usize, fails: u32, breaks: bool) -> Drops<'a> {
         Drops {
             octets,
             most,
             fails,
+            breaks,
             calls: 0,
             faults: 0,
         }
@@ -28,6 +31,11 @@ impl<'a> Drops<'a> {
     /// How many octets are left.
     pub fn left(&self) -> usize {
         self.octets.len()
+    }
+
+    /// How many calls came.
+    pub fn calls(&self) -> u32 {
+        self.calls
     }
 }
 
@@ -47,7 +55,7 @@ impl<'a> Source for Drops<'a> {
     fn read(&mut self, buf: &mut [u8]) -> Result<usize, Failed> {
         let faults = self.faults;
         self.calls = self.calls.saturating_add(1);
-        if self.calls == self.fails {
+        if self.calls == self.fails || self.breaks && self.octets.is_empty() {
             self.faults = faults.saturating_add(1);
             return Err(Failed);
         }

@@ -1,10 +1,13 @@
-//! `wrp_run_cases`: cases on the top call, of five kinds. A case `run` hands its words and its input to `run`, and what
-//! the sink takes and the number of the status are due; `migrated` tells what the calibration text says that a run writes;
-//! `tracks` tells the bounds of a run's `track` lines; a `projection` replays what an audit gives each of its nodes; and
-//! `number` tells the number of a status. Each case that differs is told on standard error, and `N passed, M failed` is
-//! printed; the process ends with 1 where one failed.
+//! `wrp_run_cases`: cases on the top call, of eight kinds. A case `run` hands its words and its input to `run`, and what
+//! the sink takes and the number of the status are due; `reads` and `writes` do so with each call of the source and of the
+//! sink failing in its turn; `cuts` audits the first octets of an input, however many they are; `migrated` tells what the
+//! calibration text says that a run writes; `tracks` tells the bounds of a run's `track` lines; a `projection` replays what
+//! an audit gives each of its nodes; and `number` tells the number of a status. Each case that differs is told on standard
+//! error, and `N passed, M failed` is printed; the process ends with 1 where one failed.
 #![tactic(auto)]
 
+mod calls;
+mod cuts;
 mod drops;
 mod migrated;
 mod projections;
@@ -26,13 +29,16 @@ impl Kinds for TopCall {
     fn has(kind: &str) -> bool {
         matches!(
             kind,
-            "run" | "migrated" | "tracks" | "projection" | "number"
+            "run" | "reads" | "writes" | "cuts" | "migrated" | "tracks" | "projection" | "number"
         )
     }
 
     fn answer(alloc: Global, case: &Case) -> Result<Answer, Fault> {
         match case.kind.as_str() {
             "run" => Ok(runs::answer(alloc, case)?),
+            "reads" => Ok(calls::reads(alloc, case)?),
+            "writes" => Ok(calls::writes(alloc, case)?),
+            "cuts" => cuts::answer(alloc, case),
             "migrated" => migrated::answer(alloc, case),
             "tracks" => Ok(tracks::answer(alloc, case)?),
             "projection" => projections::answer(alloc, case),

@@ -12,6 +12,8 @@ pub struct Way {
     pub gives: usize,
     /// The call of the source that fails, counted from 1.
     pub source: u32,
+    /// Whether the source fails where it is at its end.
+    pub breaks: bool,
     /// How many octets the sink takes at most at a call.
     pub takes: usize,
     /// The call of the sink that fails, counted from 1.
@@ -24,6 +26,7 @@ pub struct Way {
 pub const AT_ONCE: Way = Way {
     gives: usize::MAX,
     source: 0,
+    breaks: false,
     takes: usize::MAX,
     sink: 0,
     room: usize::MAX,
@@ -38,6 +41,10 @@ pub struct Ended {
     pub octets: Vec<u8>,
     /// How many octets are left in the source.
     pub left: usize,
+    /// How many calls of the source it made.
+    pub reads: u32,
+    /// How many octets the sink held before each of its calls that did not fail.
+    pub before: Vec<usize>,
 }
 
 /// Words by reference.
@@ -62,12 +69,15 @@ fn status_of(
 
 /// A run of these words over an input.
 pub fn ran(alloc: Global, words: &[&str], input: &[u8], way: Way) -> Result<Ended, AllocError> {
-    let mut source = Drops::new(input, way.gives, way.source);
+    let mut source = Drops::new(input, way.gives, way.source, way.breaks);
     let mut sink = Sips::new(alloc, way.room, way.takes, way.sink);
     let status = status_of(alloc, words, &mut source, &mut sink)?;
+    let (octets, before) = sink.into_parts();
     Ok(Ended {
         status,
-        octets: sink.into_taken(),
+        octets,
         left: source.left(),
+        reads: source.calls(),
+        before,
     })
 }

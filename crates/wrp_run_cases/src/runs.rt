@@ -17,11 +17,12 @@ fn number_or(case: &Case, name: &str, other: usize) -> usize {
     }
 }
 
-// How the octets of a case come and go.
-fn way_of(case: &Case) -> Way {
+/// How the octets of a case come and go.
+pub fn way_of(case: &Case) -> Way {
     Way {
         gives: number_or(case, "gives", AT_ONCE.gives),
         source: case.setting("source").unwrap_or(AT_ONCE.source),
+        breaks: AT_ONCE.breaks,
         takes: number_or(case, "takes", AT_ONCE.takes),
         sink: case.setting("sink").unwrap_or(AT_ONCE.sink),
         room: number_or(case, "room", case.due.len().saturating_add(BEYOND)),
@@ -62,6 +63,8 @@ pub fn answer(alloc: Global, case: &Case) -> Result<Answer, AllocError> {
         status,
         mut octets,
         left,
+        reads: _reads,
+        before: _before,
     } = ran(alloc, &words, &case.input, way_of(case))?;
     if status == Status::Usage && goes_on(&octets, &case.due) {
         octets = case.due.as_slice().to_vec(alloc)?;

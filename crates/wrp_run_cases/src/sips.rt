@@ -1,5 +1,5 @@
 //! A sink that takes a few octets a call.
-ghost use Rattle.std.specs.Prelude.{◌≤◌, length};
+ghost use Rattle.std.specs.Prelude.{◌≡◌, ◌≤◌, length};
 
 use std::alloc::Global;
 use wrp_io::{Failed, Sink};
@@ -9,6 +9,8 @@ use wrp_io::{Failed, Sink};
 #[derive(Drop)]
 pub struct Sips {
     taken: Vec<u8>,
+    // How many octets it held before each call that did not fail.
+    before: Vec<usize>,
     room: usize,
     most: usize,
     fails: u32,
@@ -21,6 +23,7 @@ impl Sips {
     pub fn new(alloc: Global, room: usize, most: usize, fails: u32) -> Sips {
         Sips {
             taken: Vec::new(alloc),
+            before: Vec::new(alloc),
             room,
             most,
             fails,
@@ -29,9 +32,18 @@ impl Sips {
         }
     }
 
-    /// What it took.
-    pub fn into_taken(self) -> Vec<u8> {
-        self.taken
+    /// What it took, and how many octets it held before each call that did not fail.
+    pub fn into_parts(self) -> (Vec<u8>, Vec<usize>) {
+        let Sips { taken, before, .. } = self;
+        (taken, before)
+    }
+
+    // Takes octets, where there is memory for them. Answers whether there is.
+    fn keep(&mut self, octets: &[u8]) -> bool
+        ensures { self.new.faults ≡ self.old.faults }
+    {
+        let held = self.taken.len();
+        self.before.push(held).is_ok() && self.taken.extend_from_slice(octets).is_ok()
     }
 
     // How many octets of a piece it can take.
@@ -51,7 +63,7 @@ impl Sink for Sips {
         self.calls = self.calls.saturating_add(1);
         let count = self.count_of(piece);
         let fails = self.calls == self.fails || count == 0 && !piece.is_empty();
-        if fails || self.taken.extend_from_slice(&piece[..count]).is_err() {
+        if fails || !self.keep(&piece[..count]) {
             self.faults = faults.saturating_add(1);
             return Err(Failed);
         }

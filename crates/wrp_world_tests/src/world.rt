@@ -3,28 +3,26 @@
 //! and in HOLDOVER. An allocation that fails (`rt try --test --fail-alloc N`) is an event that comes once more.
 mod course;
 mod dice;
-mod fitting;
 mod life;
 mod networks;
 mod plan;
 mod readings;
 mod seen;
-mod trial;
 
 ghost use Rattle.std.specs.Prelude.{◌≡◌, ◌≤◌, ◌^◌, unsigned_abs};
 ghost use Rattle.wrp_world.specs.StandsFor.{IsValid};
 
 use course::Ends;
-use networks::{KAPPA, SOON_IN_TRACK, SOON_ON};
+use networks::{SOON_IN_TRACK, SOON_ON};
 use plan::Plan;
 use seen::{ENDS, End, Seen, see};
 use std::alloc::Global;
 use std::process::Abort;
 use std::test::Fail;
-use trial::{Told, Trial, takes, trial_of};
 use wrp_base::Role;
 use wrp_check::judge;
 use wrp_law::{DelayLaw, LawKind, floor_of};
+use wrp_trial::{KAPPA, Told, Trial, takes, trial_of};
 use wrp_world::World;
 
 // A port in WR_LINK_ON is in the same handshake as its peer, by the histories of both.

@@ -2,14 +2,13 @@
 ghost use Rattle.std.specs.Prelude.{◌≤◌, ◌^◌, unsigned_abs};
 ghost use Rattle.wrp_world.specs.StandsFor.{IsValid};
 
-use super::networks::KAPPA;
-use super::trial::{Told, Trial, takes, trial_of};
 use arrayvec::ArrayVec;
 use std::alloc::Global;
 use std::process::Abort;
 use std::test::Fail;
 use wrp_base::Raw;
 use wrp_law::{DelayLaw, LawKind, floor_of};
+use wrp_trial::{KAPPA, Told, Trial, takes, trial_of};
 use wrp_world::Event;
 
 // So much time passes, and nothing moves.

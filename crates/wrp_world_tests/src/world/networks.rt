@@ -1,49 +1,7 @@
-//! The network of the runs, and its numbers.
+//! The keys of the runs, ahead of the network of three nodes, and its numbers.
 use wrp_base::Tau;
 
-/// A grandmaster `gm`, a switch `sw1` below it and a node `leaf` below that.
-pub const THREE_NODES: &str = "\
-    [[node]]\n\
-    name = \"gm\"\n\
-    identity = \"001bc5fffe000001\"\n\
-    [[node]]\n\
-    name = \"sw1\"\n\
-    identity = \"001bc5fffe000002\"\n\
-    [[node]]\n\
-    name = \"leaf\"\n\
-    identity = \"001bc5fffe000003\"\n\
-    [[link]]\n\
-    name = \"f1\"\n\
-    upper = \"gm:1\"\n\
-    lower = \"sw1:1\"\n\
-    fibre = \"smf\"\n\
-    upper_module = \"blue\"\n\
-    lower_module = \"violet\"\n\
-    [[link]]\n\
-    name = \"f2\"\n\
-    upper = \"sw1:2\"\n\
-    lower = \"leaf:1\"\n\
-    fibre = \"smf\"\n\
-    upper_module = \"blue\"\n\
-    lower_module = \"violet\"\n\
-    [[module]]\n\
-    name = \"blue\"\n\
-    tx = 14745600000\n\
-    rx = 14745600000\n\
-    transition = 0\n\
-    err = 1310720\n\
-    [[module]]\n\
-    name = \"violet\"\n\
-    tx = 14811136000\n\
-    rx = 14876672000\n\
-    transition = 0\n\
-    err = 1310720\n\
-    [[fibre]]\n\
-    name = \"smf\"\n\
-    kappa = 73622176\n\
-    err = 1310720\n";
-
-/// The keys ahead of it with which links are soon on: a frame lives 20 ms, quiet time is 6 ticks, an
+/// The keys with which links are soon on: a frame lives 20 ms, quiet time is 6 ticks, an
 /// Announce is sent each 5 ticks, and 5 good samples lock.
 pub const SOON_ON: &str = "\
     [network]\n\
@@ -70,9 +28,6 @@ pub const SOON_IN_TRACK: &str = "\
     lease = 12\n\
     age = 30\n\
     holdover = 20\n";
-
-/// The asymmetry of each fibre.
-pub const KAPPA: i64 = 73_622_176;
 
 /// The delays of each fibre: both ways are 100 us, of which the way down has its share.
 pub const MS: Tau = 3_277_238_822_364;

@@ -8,14 +8,34 @@ ghost use Rattle.wrp_world.specs.New.{FitsLaw};
 ghost use Rattle.wrp_plant.specs.Plant.{Each};
 ghost use Rattle.wrp_world.specs.StandsFor.{IsValid};
 
-use super::fitting::can_come;
-use super::networks::THREE_NODES;
-use std::alloc::Global;
-use std::test::Fail;
-use wrp_base::{LinkCfg, NetCfg, Tau};
+use crate::fitting::can_come;
+use crate::network::THREE_NODES;
+use std::alloc::{AllocError, AllocFailed, Global};
+use wrp_base::{ConfFault, LinkCfg, NetCfg, Tau};
 use wrp_config::{Network, link_above};
 use wrp_law::{DelayLaw, LawKind};
 use wrp_world::{Event, NodeOut, Refused, World};
+
+/// Why there is no world under test.
+#[derive(Clone, Copy, Debug, PartialEq, Eq)]
+pub enum Lack {
+    /// There was no memory.
+    Memory,
+    /// The network is not accepted, or not one of three nodes below each other with the two laws.
+    Network,
+}
+
+impl From<AllocError> for Lack {
+    fn from(_e: AllocError) -> Lack {
+        Lack::Memory
+    }
+}
+
+impl<T: Drop> From<AllocFailed<T>> for Lack {
+    fn from(_e: AllocFailed<T>) -> Lack {
+        Lack::Memory
+    }
+}
 
 /// What comes of an event.
 #[derive(Clone, Copy, Debug, PartialEq, Eq)]
@@ -30,12 +50,13 @@ pub enum Told {
     Foreign,
 }
 
-/// A world, how many events it took, and a place for the steps of an event.
+/// A world, how many events it took, how often it had no memory for one, and the steps of the last event.
 #[derive(Drop)]
 pub struct Trial<F> {
     pub world: World<F>,
     pub came: u32,
-    outs: Vec<NodeOut>,
+    pub refused: u32,
+    pub outs: Vec<NodeOut>,
 }
 
 // Whether a law has the kind of a link, and at most its error.
@@ -54,7 +75,7 @@ fn laws_of<F: Fn(i64) -> i64>(
     cfg: &NetCfg,
     law: DelayLaw<F>,
     other: DelayLaw<F>,
-) -> Result<Vec<Option<DelayLaw<F>>>, Fail>
+) -> Result<Vec<Option<DelayLaw<F>>>, Lack>
     requires law { KeepsFact F.pre F.post law }
     requires other { KeepsFact F.pre F.post other }
     ensures count { IfOk result (λ laws. length laws.items ≡ node_count cfg.now) }
@@ -65,10 +86,10 @@ fn laws_of<F: Fn(i64) -> i64>(
         link_above(cfg, 1),
         link_above(cfg, 2),
     ) else {
-        return Err(Fail::from("three nodes below each other"));
+        return Err(Lack::Network);
     };
     if cfg.nodes.len() != 3 || !is_law_of(first, &law) || !is_law_of(second, &other) {
-        return Err(Fail::from("the laws of three nodes"));
+        return Err(Lack::Network);
     }
     let mut laws = Vec::new(alloc);
     laws.push(None)?;
@@ -77,15 +98,23 @@ fn laws_of<F: Fn(i64) -> i64>(
     Ok(laws)
 }
 
+// Why a text gives no network.
+fn lack_of(fault: &ConfFault) -> Lack {
+    match fault {
+        ConfFault::Memory(_) => Lack::Memory,
+        ConfFault::Fault { .. } => Lack::Network,
+    }
+}
+
 // The network of three nodes, with these keys.
-fn network(alloc: Global, keys: &str) -> Result<Network, Fail>
+fn network(alloc: Global, keys: &str) -> Result<Network, Lack>
     ensures { IfOk result (λ net. IsAccepted net.cfg net.db) }
 {
     let mut text = keys.to_string(alloc)?;
     text.push_str(THREE_NODES)?;
     match Network::read(alloc, text.as_bytes()) {
         Ok(net) => Ok(net),
-        Err(_) => Err(Fail::from("a network")),
+        Err(fault) => Err(lack_of(&fault)),
     }
 }
 
@@ -95,7 +124,7 @@ pub fn trial_of<F: Fn(i64) -> i64>(
     keys: &str,
     law: DelayLaw<F>,
     other: DelayLaw<F>,
-) -> Result<Trial<F>, Fail>
+) -> Result<Trial<F>, Lack>
     requires law { KeepsFact F.pre F.post law }
     requires other { KeepsFact F.pre F.post other }
     ensures valid { IfOk result (λ trial. IsValid F.pre F.post trial.world) }
@@ -106,6 +135,7 @@ pub fn trial_of<F: Fn(i64) -> i64>(
     Ok(Trial {
         world: World::new(alloc, net, laws)?,
         came: 0,
+        refused: 0,
         outs: Vec::new(alloc),
     })
 }
@@ -116,6 +146,7 @@ fn give<F: Fn(i64) -> i64>(trial: &mut Trial<F>, event: &Event) -> Told
     requires came { trial.old.world.plant.events ≤ trial.old.came }
     ensures valid { IsValid F.pre F.post trial.new.world }
     ensures came { trial.new.world.plant.events ≤ trial.new.came }
+    ensures net { trial.new.world.plant.net ≡ trial.old.world.plant.net }
 {
     if trial.came == u32::MAX || !can_come(&trial.world.net().cfg, event) {
         return Told::Foreign;
@@ -132,7 +163,10 @@ fn give<F: Fn(i64) -> i64>(trial: &mut Trial<F>, event: &Event) -> Told
                 bound,
             },
         ) => Told::Broken(premise, shown, bound),
-        Err(Refused::Memory(_)) => Told::Memory,
+        Err(Refused::Memory(_)) => {
+            trial.refused = trial.refused.saturating_add(1);
+            Told::Memory
+        }
     }
 }
 
@@ -142,6 +176,7 @@ pub fn takes<F: Fn(i64) -> i64>(trial: &mut Trial<F>, event: &Event) -> Told
     requires came { trial.old.world.plant.events ≤ trial.old.came }
     ensures valid { IsValid F.pre F.post trial.new.world }
     ensures came { trial.new.world.plant.events ≤ trial.new.came }
+    ensures net { trial.new.world.plant.net ≡ trial.old.world.plant.net }
 {
     match give(trial, event) {
         Told::Memory => give(trial, event),
