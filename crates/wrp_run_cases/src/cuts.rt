@@ -32,6 +32,8 @@ const BROKEN_OFF: Way = Way {
     takes: usize::MAX,
     sink: 0,
     room: usize::MAX,
+    calls: 0,
+    link: 0,
 };
 
 // How many cuts there were, and how the audits ended.

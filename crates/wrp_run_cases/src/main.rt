@@ -1,20 +1,24 @@
-//! `wrp_run_cases`: cases on the top call, of eight kinds. A case `run` hands its words and its input to `run`, and what
+//! `wrp_run_cases`: cases on the top call, of nine kinds. A case `run` hands its words and its input to `run`, and what
 //! the sink takes and the number of the status are due; `reads` and `writes` do so with each call of the source and of the
 //! sink failing in its turn; `cuts` audits the first octets of an input, however many they are; `migrated` tells what the
 //! calibration text says that a run writes; `tracks` tells the bounds of a run's `track` lines; a `projection` replays what
-//! an audit gives each of its nodes; and `number` tells the number of a status. Each case that differs is told on standard
-//! error, and `N passed, M failed` is printed; the process ends with 1 where one failed.
+//! an audit gives each of its nodes; `carried` is a loop over a link that carries what the case says; and `number` tells the
+//! number of a status. Each case that differs is told on standard error, and `N passed, M failed` is printed; the process
+//! ends with 1 where one failed.
 #![tactic(auto)]
 
 mod calls;
+mod carried;
 mod cuts;
 mod drops;
 mod migrated;
 mod projections;
 mod running;
 mod runs;
+mod scripted;
 mod sips;
 mod statuses;
+mod texts;
 mod tracks;
 
 use std::alloc::Global;
@@ -29,7 +33,15 @@ impl Kinds for TopCall {
     fn has(kind: &str) -> bool {
         matches!(
             kind,
-            "run" | "reads" | "writes" | "cuts" | "migrated" | "tracks" | "projection" | "number"
+            "run"
+                | "reads"
+                | "writes"
+                | "cuts"
+                | "migrated"
+                | "tracks"
+                | "projection"
+                | "carried"
+                | "number"
         )
     }
 
@@ -42,6 +54,7 @@ impl Kinds for TopCall {
             "migrated" => migrated::answer(alloc, case),
             "tracks" => Ok(tracks::answer(alloc, case)?),
             "projection" => projections::answer(alloc, case),
+            "carried" => carried::answer(alloc, case),
             _ => statuses::answer(alloc, case),
         }
     }

@@ -2,39 +2,17 @@
 //! `NODE again` is due where the replay prints the node's lines of the audit without their true offsets; else what the
 //! replay prints stands in its place. The status is that of the audit, which has to print something.
 use crate::running::{AT_ONCE, Ended, ran};
+use crate::texts::{push_line, text_of, with_records};
 use std::alloc::{AllocError, Global};
 use wrp_run::Status;
 use wrp_suite::{Answer, Case, Fault};
-
-// The line that stands between a network and its records.
-const BETWEEN: &str = "---\n";
-
-// What a run wrote, as a text.
-fn text_of(ended: &Ended) -> Result<&str, Fault> {
-    match str::from_utf8(&ended.octets) {
-        Ok(text) => Ok(text),
-        Err(_) => Err(Fault::Input),
-    }
-}
-
-// The network text of an input.
-fn network_of(input: &[u8]) -> Result<&str, Fault> {
-    let Ok(text) = str::from_utf8(input) else {
-        return Err(Fault::Input);
-    };
-    match text.split_once(BETWEEN) {
-        Some((network, _records)) => Ok(network),
-        None => Err(Fault::Input),
-    }
-}
 
 // The lines of a node in the text of an audit, without the true offsets.
 fn lines_of(alloc: Global, text: &str, node: &str) -> Result<String, AllocError> {
     let mut lines = String::new(alloc);
     for line in text.lines() {
         if line.split(' ').next() == Some(node) {
-            lines.push_str(line.split(" true ").next().unwrap_or(line))?;
-            lines.push('\n')?;
+            push_line(&mut lines, line.split(" true ").next().unwrap_or(line))?;
         }
     }
     Ok(lines)
@@ -43,10 +21,7 @@ fn lines_of(alloc: Global, text: &str, node: &str) -> Result<String, AllocError>
 // The replay of what an audit gives a node.
 fn replayed(alloc: Global, input: &[u8], node: &str) -> Result<Ended, Fault> {
     let emitted = ran(alloc, &["audit", "--emit", node], input, AT_ONCE)?;
-    let mut records = String::new(alloc);
-    records.push_str(network_of(input)?)?;
-    records.push_str(BETWEEN)?;
-    records.push_str(text_of(&emitted)?)?;
+    let records = with_records(alloc, input, text_of(&emitted)?)?;
     Ok(ran(
         alloc,
         &["replay", "--node", node],

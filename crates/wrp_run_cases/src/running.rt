@@ -2,10 +2,10 @@
 use crate::drops::Drops;
 use crate::sips::Sips;
 use std::alloc::{AllocError, Global};
-use wrp_io::MemLink;
+use wrp_io::{Link, MemLink};
 use wrp_run::{Status, run};
 
-/// How octets come and go in a run. A call of number 0 is none.
+/// How octets and datagrams come and go in a run. A call of number 0 is none.
 #[derive(Clone, Copy)]
 pub struct Way {
     /// How many octets the source gives at most at a call.
@@ -20,9 +20,13 @@ pub struct Way {
     pub sink: u32,
     /// For how many octets the sink has room.
     pub room: usize,
+    /// How many calls the link takes.
+    pub calls: u32,
+    /// The call of the link that fails, counted from 1.
+    pub link: u32,
 }
 
-/// Whatever is asked for comes and goes at once.
+/// Whatever is asked for comes and goes at once, and the link takes no call.
 pub const AT_ONCE: Way = Way {
     gives: usize::MAX,
     source: 0,
@@ -30,6 +34,8 @@ pub const AT_ONCE: Way = Way {
     takes: usize::MAX,
     sink: 0,
     room: usize::MAX,
+    calls: 0,
+    link: 0,
 };
 
 /// A run that has ended.
@@ -57,21 +63,27 @@ pub fn borrowed<'a>(alloc: Global, words: &'a [String]) -> Result<Vec<&'a str>, 
 }
 
 // What a run answers. It stands alone, since the contract of `run` is long: what calls it is proved beside all of it.
-fn status_of(
+fn status_of<N: Link>(
     alloc: Global,
     words: &[&str],
     source: &mut Drops<'_>,
     sink: &mut Sips,
-) -> Result<Status, AllocError> {
-    let mut link = MemLink::new(alloc, 0, Vec::new(alloc))?;
-    Ok(run(alloc, words, source, sink, &mut link))
+    link: &mut N,
+) -> Status {
+    run(alloc, words, source, sink, link)
 }
 
-/// A run of these words over an input.
-pub fn ran(alloc: Global, words: &[&str], input: &[u8], way: Way) -> Result<Ended, AllocError> {
+/// A run of these words over an input and a link.
+pub fn ran_over<N: Link>(
+    alloc: Global,
+    words: &[&str],
+    input: &[u8],
+    way: Way,
+    link: &mut N,
+) -> Result<Ended, AllocError> {
     let mut source = Drops::new(input, way.gives, way.source, way.breaks);
     let mut sink = Sips::new(alloc, way.room, way.takes, way.sink);
-    let status = status_of(alloc, words, &mut source, &mut sink)?;
+    let status = status_of(alloc, words, &mut source, &mut sink, link);
     let (octets, before) = sink.into_parts();
     Ok(Ended {
         status,
@@ -80,4 +92,10 @@ pub fn ran(alloc: Global, words: &[&str], input: &[u8], way: Way) -> Result<Ende
         reads: source.calls(),
         before,
     })
+}
+
+/// A run of these words over an input, and a link in memory.
+pub fn ran(alloc: Global, words: &[&str], input: &[u8], way: Way) -> Result<Ended, AllocError> {
+    let mut link = MemLink::new(alloc, way.calls, vec![in alloc; way.link]?)?;
+    ran_over(alloc, words, input, way, &mut link)
 }

@@ -7,7 +7,7 @@
 //!     < LINE          a line of its input (`pieces` has the other forms)
 //!     - PART          a part of its input, the first time it stands there, which is replaced by
 //!     + OTHER         this
-//!     room N          a number that it sets: `room`, `source`, `sink`, `gives`, `takes` or `left`
+//!     room N          a number that it sets: `room`, `source`, `sink`, `gives`, `takes`, `left`, `calls` or `link`
 //!     status N        the number that is due, 0 where it is left out
 //!     > LINE          a line that is due
 //!     end N           the end of the file, behind so many cases
@@ -72,6 +72,14 @@ fn set(alloc: Global, case: &mut Case, name: &str, text: &str) -> Result<(), Fau
     Ok(())
 }
 
+// Whether a word sets a number.
+fn is_setting(head: &str) -> bool {
+    matches!(
+        head,
+        "room" | "source" | "sink" | "gives" | "takes" | "left" | "calls" | "link"
+    )
+}
+
 // Takes a line of a case.
 fn take_part(
     alloc: Global,
@@ -85,11 +93,11 @@ fn take_part(
         "word" => Ok(case.words.push(rest.to_string(alloc)?)?),
         "-" => Ok(push_part(&mut case.cut, rest)?),
         "+" => Ok(push_part(&mut case.put, rest)?),
-        "room" | "source" | "sink" | "gives" | "takes" | "left" => set(alloc, case, head, rest),
         "status" => {
             case.status = rest.parse::<u8>().ok().ok_or(Fault::Number)?;
             Ok(())
         }
+        _ if is_setting(head) => set(alloc, case, head, rest),
         _ => push_octets(alloc, case, texts, head, rest),
     }
 }
@@ -97,10 +105,8 @@ fn take_part(
 // Whether a word begins a line of a case.
 fn is_part(head: &str) -> bool {
     head.starts_with(['<', '>', '-', '+'])
-        || matches!(
-            head,
-            "words" | "word" | "room" | "source" | "sink" | "gives" | "takes" | "left" | "status"
-        )
+        || is_setting(head)
+        || matches!(head, "words" | "word" | "status")
 }
 
 impl Suite {

@@ -1,0 +1,116 @@
+//! A loop over a link, and the audit of its events.
+use std::alloc::{AllocError, Global};
+use wrp_io::{Link, MemLink, MemSink, MemSource};
+use wrp_run::{Status, run};
+
+// Three nodes in a row, and the line that ends their network.
+const NETWORK: &str = "\
+    [[node]]\n\
+    name = \"gm\"\n\
+    identity = \"001bc5fffe000001\"\n\
+    [[node]]\n\
+    name = \"sw1\"\n\
+    identity = \"001bc5fffe000002\"\n\
+    [[node]]\n\
+    name = \"leaf\"\n\
+    identity = \"001bc5fffe000003\"\n\
+    [[link]]\n\
+    name = \"f1\"\n\
+    upper = \"gm:1\"\n\
+    lower = \"sw1:1\"\n\
+    fibre = \"smf\"\n\
+    upper_module = \"blue\"\n\
+    lower_module = \"violet\"\n\
+    [[link]]\n\
+    name = \"f2\"\n\
+    upper = \"sw1:2\"\n\
+    lower = \"leaf:1\"\n\
+    fibre = \"smf\"\n\
+    upper_module = \"blue\"\n\
+    lower_module = \"violet\"\n\
+    [[module]]\n\
+    name = \"blue\"\n\
+    tx = 14745600000\n\
+    rx = 14745600000\n\
+    transition = 0\n\
+    err = 1310720\n\
+    [[module]]\n\
+    name = \"violet\"\n\
+    tx = 14811136000\n\
+    rx = 14876672000\n\
+    transition = 0\n\
+    err = 1310720\n\
+    [[fibre]]\n\
+    name = \"smf\"\n\
+    kappa = 73622176\n\
+    err = 1310720\n\
+    ---\n";
+
+// A run of 2 s.
+const SCENARIO: &str = "\
+    length,2000\n\
+    fibre,f1,6553600000000\n\
+    fibre,f2,3276800000000\n\
+    offset,sw1,1234567890\n\
+    offset,leaf,-5000\n\
+    free,sw1,20000\n\
+    free,leaf,-20000\n";
+
+// Room for all that such a run writes.
+const ROOM: usize = 1_048_576;
+
+/// A run that has ended.
+#[derive(Drop)]
+pub struct Ended {
+    /// Its status.
+    pub status: Status,
+    /// What it wrote.
+    pub text: String,
+}
+
+// A run of these words over the network, records and a link.
+fn ran<N: Link>(
+    alloc: Global,
+    words: &[&str],
+    records: &str,
+    link: &mut N,
+) -> Result<Ended, AllocError> {
+    let input = format!(in alloc; "{NETWORK}{records}")?;
+    let mut source = MemSource::new(input.into_bytes(), Vec::new(alloc));
+    let mut sink = MemSink::new(alloc, ROOM, Vec::new(alloc))?;
+    let status = run(alloc, words, &mut source, &mut sink, link);
+    let text = str::from_utf8(sink.octets())
+        .unwrap_or("")
+        .to_string(alloc)?;
+    Ok(Ended { status, text })
+}
+
+/// A loop of 2 s over a link.
+pub fn looped<N: Link>(alloc: Global, link: &mut N) -> Result<Ended, AllocError> {
+    ran(alloc, &["loop", "--seed", "1"], SCENARIO, link)
+}
+
+/// The audit of the events of a loop.
+pub fn audited(alloc: Global, text: &str) -> Result<Ended, AllocError> {
+    let mut events = String::new(alloc);
+    for line in text.lines() {
+        if let Some(event) = line.strip_prefix("= ") {
+            events.push_str(event)?;
+            events.push('\n')?;
+        }
+    }
+    let mut link = MemLink::new(alloc, 0, Vec::new(alloc))?;
+    ran(alloc, &["audit"], events.as_str(), &mut link)
+}
+
+/// The lines of a loop that are none of its events, but for that of forged datagrams: no node of the network has that name.
+pub fn others(alloc: Global, text: &str) -> Result<String, AllocError> {
+    let mut lines = String::new(alloc);
+    for line in text.lines() {
+        if !line.starts_with("= ") && !line.starts_with("forged ") {
+            lines.push_str(line)?;
+            lines.push('\n')?;
+        }
+    }
+    Ok(lines)
+}
