@@ -1,5 +1,5 @@
 -- The line of an event of a network is no longer than a record's line may be.
-use Rattle.std.proofs.Common.{◌≡◌, ◌∙◌, ap, sym, subst, ℕ, ℤ, pos, negsuc, zero, suc, ◌+◌, ◌*◌, ◌<◌, ◌≤◌, ◌^◌, ◌==◌, ◌&&◌, Bool, true, false, if◌then◌else◌, List, [], ◌∷◌, ◌++◌, map, length, length-append, unsigned_abs, slice_get, Option, None, Some, Ok, option_map, refl, codes, arith, lit<}
+use Rattle.std.proofs.Common.{◌≡◌, ◌∙◌, ap, sym, subst, ℕ, ℤ, pos, negsuc, suc, ◌+◌, ◌*◌, ◌<◌, ◌≤◌, ◌^◌, ◌==◌, ◌&&◌, Bool, true, false, if◌then◌else◌, List, [], ◌∷◌, ◌++◌, map, length, length-append, unsigned_abs, slice_get, Option, None, Some, option_map, refl, codes, arith, lit<}
 use Rattle.std.specs.Prelude.{nat_le}
 use Rattle.std.specs.Fmt.{decimal, signed_decimal}
 use Rattle.std.specs.List.{AllByRecursion, cons_option, join_with_byte, list_all}
@@ -26,7 +26,7 @@ use Rattle.wrp_config.specs.Keys.{clock_in}
 use Rattle.wrp_course.specs.declared.event.Event.{Event}
 use Rattle.wrp_course.specs.declared.event.Event.TheVariants.{Pass, Tick, Sample, Depart, Arrive, Deliver, Noise, Down, Up, Cut, Join}
 use Rattle.wrp_course.specs.declared.event.Swap.{Swap}
-use Rattle.wrp_course.specs.EventAt.{FitsEvent, IsChange, IsEventOf, IsMove, IsSwap, IsTime, link_count}
+use Rattle.wrp_course.specs.EventAt.{FitsEvent, IsChange, IsEventOf, IsMove, IsSwap, link_count}
 use Rattle.wrp_course.specs.Setting.{Setting}
 use Rattle.wrp_trace.proofs.PassReadsBack.{AreLinksFrom, AreNodesFrom, all_links, all_nodes}
 use Rattle.wrp_trace.specs.EventPrinting.{drift_texts, drift_words, event_text, event_texts, link_text, move_texts, move_words, swap_text}

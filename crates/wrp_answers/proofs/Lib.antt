@@ -15,3 +15,4 @@ pub mod Replaying
 pub mod SimulatedHeard
 pub mod Simulating
 pub mod StandingAlone
+pub mod TextRecords

@@ -1,5 +1,5 @@
 -- The events of a run over a link are fewer than 2^32.
-use Rattle.std.proofs.Common.{◌≡◌, inl, inr, sym, subst, ℕ, ◌<◌, ◌^◌, List, [], ◌∷◌, length, arith}
+use Rattle.std.proofs.Common.{inl, inr, sym, subst, ℕ, ◌<◌, ◌^◌, List, [], ◌∷◌, length, arith}
 use Rattle.arrayvec.specs.ArrayVec.{ArrayVec}
 use Rattle.wrp_course.specs.declared.event.Event.{Event}
 use Rattle.wrp_course.specs.declared.event.Event.TheVariants.{Deliver}
@@ -7,7 +7,7 @@ use Rattle.wrp_io.specs.declared.link.LinkCall.{LinkCall}
 use Rattle.wrp_loop.specs.Datagrams.{Way}
 use Rattle.wrp_loop.specs.declared.fate.Fate.{Fate}
 use Rattle.wrp_loop.specs.declared.fate.Fate.TheVariants.{Handed, Forged, Noisy}
-use Rattle.wrp_loop.specs.LoopRun.{Carried, ComesBetween, Dropped, FollowsFate, Full, Goes, Going, HandlesAll, IsFull, IsRound, LoopAt, Loops, On, Plain, Plan, Round, events_at, place}
+use Rattle.wrp_loop.specs.LoopRun.{Carried, ComesBetween, Dropped, FollowsFate, Full, Goes, Going, HandlesAll, IsRound, LoopAt, Loops, On, Plain, Plan, Round, events_at, place}
 
 abbrev pub FewAt : Going → Type 0
 FewAt now = length (events_at (place now)) < 2 ^ 32

@@ -1,5 +1,5 @@
 -- Events as their lines say them, without the unused room of their names, are the same run, and are told in the same lines.
-use Rattle.std.proofs.Common.{◌≡◌, ◌∙◌, refl, ap, ap₂, sym, subst, ℕ, List, [], ◌∷◌, ◌++◌, flat_map, Ok}
+use Rattle.std.proofs.Common.{◌≡◌, ◌∙◌, refl, ap, ap₂, sym, subst, ℕ, List, [], ◌∷◌, ◌++◌, flat_map}
 use Rattle.wrp_config.specs.Accepted.{HasNames}
 use Rattle.wrp_course.specs.Checks.{AllHold}
 use Rattle.wrp_course.specs.Given.{NodeStepAt, event_steps, world_step}

@@ -1,5 +1,5 @@
 -- The event lines that a run over a link printed, given to an audit, print its other lines again (this project's profile).
-use Rattle.std.specs.Prelude.{◌≡◌, ℕ, List, [], ◌++◌}
+use Rattle.std.specs.Prelude.{◌≡◌, ℕ, List, [], ◌∷◌, ◌++◌, codes}
 use Rattle.std.specs.List.{concat}
 use Rattle.wrp_io.specs.declared.link.LinkCall.{LinkCall}
 use Rattle.wrp_loop.specs.LoopRun.{place}
@@ -8,6 +8,7 @@ use Rattle.wrp_projection.specs.Law.{HasRecords}
 use Rattle.wrp_records.specs.declared.status.Status.TheVariants.{Done}
 use Rattle.wrp_records.specs.Lines.{lines_of}
 use Rattle.wrp_run.specs.Answer.{Answer}
+use Rattle.wrp_run.specs.Input.{network_text}
 use Rattle.wrp_run.specs.LoopHeadline.{LoopOf}
 use Rattle.wrp_run.specs.Tasks.{IsAuditing, IsLooping}
 
@@ -29,3 +30,18 @@ LoopIsAuditedAgain =
     IsLooping looping seed → IsAuditing auditing → Answer looping input calls Done octets →
     HasRecords input (event_records octets) again →
     (loop : LoopOf looping input calls Done octets) × IsAuditedAgain auditing again octets (place loop.last).forged
+
+-- octets that end with LF, which is octet 10, or none
+abbrev pub EndsLine : List ℕ → Type 0
+EndsLine [] = Unit {0}
+EndsLine (octet ∷ []) = octet ≡ 10
+EndsLine (octet ∷ next ∷ octets) = EndsLine (next ∷ octets)
+
+-- a network text, the line `---`, and records
+abbrev pub with_records : (text records : List ℕ) → List ℕ
+with_records text records = text ++ (codes "---" ++ 10 ∷ records)
+
+-- such an input is that of another with the same network text, where this ends with LF, as it does in front of a line `---`
+abbrev pub TextWithRecords : Type 0
+TextWithRecords =
+    (input records : List ℕ) → EndsLine (network_text input) → HasRecords input records (with_records (network_text input) records)

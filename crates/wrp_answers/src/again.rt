@@ -1,5 +1,5 @@
 //! The law of loops and audits: what a run over a link printed of its events is a trace of them.
-ghost use Rattle.wrp_answers.specs.LoopAgain.{LoopIsAuditedAgain};
+ghost use Rattle.wrp_answers.specs.LoopAgain.{LoopIsAuditedAgain, TextWithRecords};
 
 use wrp_config::reading_is_accepted;
 use wrp_loop::loop_is_audited;
@@ -15,3 +15,8 @@ pub fn loop_is_audited_again()
     loop_is_audited();
     looped_events_carry_parts();
 }
+
+/// An input for that audit is the network text of the run's, where it ends with LF, the line `---`, and these records.
+pub fn text_with_records()
+    ensures { TextWithRecords }
+{}

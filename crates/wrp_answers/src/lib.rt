@@ -5,7 +5,7 @@
 mod again;
 mod laws;
 
-pub use again::loop_is_audited_again;
+pub use again::{loop_is_audited_again, text_with_records};
 pub use laws::{
     accepted_is_audit, accepted_is_done, each_has_answer, each_replay_has_answer,
     each_stands_alone_with_answer, emission_tells_no_output, emission_tells_no_track,
