@@ -5,7 +5,7 @@ import re
 TOP = os.path.dirname(os.path.dirname(os.path.dirname(os.path.realpath(__file__))))
 DATA = f"{TOP}/crates/wrp_run_cases/data"
 PROGRAM = os.environ.get("WRNET", f"{TOP}/crates/wrnet/out/wrnet")
-PARTS = ("words", "word", "room", "source", "sink", "gives", "takes", "left", "calls", "link", "status")
+PARTS = ("words", "word", "room", "source", "sink", "gives", "takes", "left", "calls", "link_call", "status")
 
 
 class Case:

@@ -1,6 +1,6 @@
 //! Cases on `run`: the status, and the octets that the sink takes. A case may set for how many octets the sink has
-//! `room`; which call of the `source`, of the `sink` and of the `link` fails, counted from 1; how many octets the source
-//! `gives` and the sink `takes` at most at a call; how many `calls` the link takes, 0 where it is left out; and how many
+//! `room`; which call of the `source` and of the `sink` fails, counted from 1, and which of the link, as `link_call`; how
+//! many octets the source `gives` and the sink `takes` at most at a call; how many `calls` the link takes, 0 where it is left out; and how many
 //! octets are `left` in the source at least, behind the run.
 use crate::running::{AT_ONCE, Ended, Way, borrowed, ran};
 use std::alloc::{AllocError, Global};
@@ -28,7 +28,7 @@ pub fn way_of(case: &Case) -> Way {
         sink: case.setting("sink").unwrap_or(AT_ONCE.sink),
         room: number_or(case, "room", case.due.len().saturating_add(BEYOND)),
         calls: case.setting("calls").unwrap_or(AT_ONCE.calls),
-        link: case.setting("link").unwrap_or(AT_ONCE.link),
+        link: case.setting("link_call").unwrap_or(AT_ONCE.link),
     }
 }
 

@@ -7,7 +7,7 @@
 //!     < LINE          a line of its input (`pieces` has the other forms)
 //!     - PART          a part of its input, the first time it stands there, which is replaced by
 //!     + OTHER         this
-//!     room N          a number that it sets: `room`, `source`, `sink`, `gives`, `takes`, `left`, `calls` or `link`
+//!     room N          a number that it sets: `room`, `source`, `sink`, `gives`, `takes`, `left`, `calls` or `link_call`
 //!     status N        the number that is due, 0 where it is left out
 //!     > LINE          a line that is due
 //!     end N           the end of the file, behind so many cases
@@ -76,7 +76,7 @@ fn set(alloc: Global, case: &mut Case, name: &str, text: &str) -> Result<(), Fau
 fn is_setting(head: &str) -> bool {
     matches!(
         head,
-        "room" | "source" | "sink" | "gives" | "takes" | "left" | "calls" | "link"
+        "room" | "source" | "sink" | "gives" | "takes" | "left" | "calls" | "link_call"
     )
 }
 
