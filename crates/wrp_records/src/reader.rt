@@ -63,7 +63,8 @@ impl Reader {
 
     /// What is held.
     pub fn held(&self) -> &[u8]
-        ensures { result.now ≡ self.now.rest }
+        ensures value { result.now ≡ self.now.rest }
+        ensures past { length result.now ≤ piece_limit }
     {
         &self.piece[self.at..self.end]
     }

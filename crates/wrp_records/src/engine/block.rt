@@ -1,9 +1,10 @@
 //! The lines that a reader holds, handled one after the other: one reader of `csv` serves them all.
-ghost use Rattle.std.specs.Prelude.{◌≡◌, true, ◌+◌, ◌<◌, ◌≤◌, ◌++◌, ℕ, List, Option, IfSome, length, drop};
+ghost use Rattle.std.specs.Prelude.{◌≡◌, true, ◌+◌, ◌<◌, ◌≤◌, ◌++◌, ℕ, Bool, List, Option, IfSome, length, drop};
 ghost use Rattle.wrp_fields.specs.Block.{StartsPlain};
 ghost use Rattle.wrp_fields.specs.Lines.{IsLine};
 ghost use Rattle.wrp_records.specs.Lines.{content_of, IsPlainText, IsWhole};
 ghost use Rattle.wrp_records.specs.Reached.{Reached, Comes};
+ghost use Rattle.wrp_records.specs.Reader.{piece_limit};
 ghost use Rattle.wrp_records.specs.Stream.{Handles, IsWithin, number_limit};
 
 use super::splitting::split_next;
@@ -64,32 +65,38 @@ fn behind(octets: &[u8], at: usize) -> &[u8]
     &octets[at..]
 }
 
+// How many octets were handled of those that a reader holds, and what ended the handling, if it did.
+#[derive(Clone, Copy, Debug, PartialEq, Eq)]
+struct Handled {
+    size: usize,
+    ended: Option<Ended>,
+}
+
 // Handles the lines that a reader holds, which are those of these octets, up to the first that is not
-// whole or not plain.
+// whole or not plain. The reader passes them afterwards, so that none has to be copied.
 fn handle_block<M: Machine>(
     alloc: Global,
     machine: &mut M,
     octets: &[u8],
-    reader: &mut Reader,
     number: &mut u32,
     text: &mut Vec<u8>,
     waiting: &mut Vec<u8>,
-) -> Option<Ended>
+) -> Handled
     requires starts { StartsPlain octets.now }
-    requires held { reader.old.rest ≡ octets.now }
+    requires piece { length octets.now ≤ piece_limit }
     requires ready { M.is_ready machine.old }
     requires count { M.count machine.old ≤ number.old }
     ensures ready { M.is_ready machine.new }
     ensures count { M.count machine.new ≤ number.new }
     ensures setting { M.setting machine.new ≡ M.setting machine.old }
-    ensures ended { reader.new.ended ≡ reader.old.ended }
     ensures more { number.old ≤ number.new }
-    ensures stands { (start : List ℕ) (left rest held now : Option (List ℕ))
+    ensures size { result.size ≤ length octets.now }
+    ensures stands { (ended : Bool) (start : List ℕ) (left rest held now : Option (List ℕ))
         → Reached (Handles (M.accepts (M.setting machine.old))) (M.has_taken machine.old) start
-        reader.old left rest held now waiting.old.items number.old
+        (record { rest = octets.now; ended = ended }) left rest held now waiting.old.items number.old
         → Comes (M.accepts (M.setting machine.old)) (M.refuses (M.setting machine.old))
-        (M.has_taken machine.new) start reader.new left rest held now waiting.new.items
-        number.new result }
+        (M.has_taken machine.new) start (record { rest = drop result.size octets.now; ended = ended })
+        left rest held now waiting.new.items number.new result.ended }
 {
     let mut row = ByteRecord::new(alloc);
     let mut block = Block::new(alloc, octets);
@@ -98,19 +105,26 @@ fn handle_block<M: Machine>(
     'lines: loop {
         let left = behind(octets, at);
         let Some(line) = plain_line(left, text_is_plain, *number) else {
-            return None;
+            return Handled {
+                size: at,
+                ended: None,
+            };
         };
         match split_next(&mut block, line, &mut row) {
             Ok(()) => {}
-            Err(_) => return Some(Ended::Memory),
+            Err(_) => return Handled {
+                size: at,
+                ended: Some(Ended::Memory),
+            },
         }
-        let size = line.len();
-        at += size;
-        reader.pass(size);
+        at += line.len();
         *number += 1;
         let said = content(line);
         match handle_line(alloc, machine, said, Some(&row), *number, text, waiting) {
-            Some(ended) => return Some(ended),
+            Some(ended) => return Handled {
+                size: at,
+                ended: Some(ended),
+            },
             None => {}
         }
     }
@@ -143,8 +157,7 @@ pub fn handle_held<M: Machine>(
         return None;
     };
     let _line = line;
-    match reader.held().to_vec(alloc) {
-        Ok(octets) => handle_block(alloc, machine, &octets, reader, number, text, waiting),
-        Err(_) => Some(Ended::Memory),
-    }
+    let handled = handle_block(alloc, machine, reader.held(), number, text, waiting);
+    reader.pass(handled.size);
+    handled.ended
 }
