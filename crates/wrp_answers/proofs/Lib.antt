@@ -9,7 +9,6 @@ pub mod LoopAgain
 pub mod LoopCounts
 pub mod Moments
 pub mod NoOutput
-pub mod NoTrack
 pub mod PlainRuns
 pub mod Replaying
 pub mod SimulatedHeard

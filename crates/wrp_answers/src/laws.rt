@@ -5,7 +5,7 @@ ghost use Rattle.wrp_answers.specs.EachAnswer.{EachHasAnswer, EachReplayHasAnswe
 ghost use Rattle.wrp_answers.specs.EachAnswer.{EachStandsAloneWithAnswer};
 ghost use Rattle.wrp_answers.specs.Listed.{ReplayOfListedInputs};
 ghost use Rattle.wrp_answers.specs.Moments.{NextIsLeast};
-ghost use Rattle.wrp_answers.specs.NoOutput.{EmissionTellsNoOutput, EmissionTellsNoTrack};
+ghost use Rattle.wrp_answers.specs.NoOutput.{EmissionTellsNoOutput};
 
 use wrp_config::reading_is_accepted;
 use wrp_projection::replay_of_emitted_inputs;
@@ -74,14 +74,6 @@ pub fn replay_of_listed_inputs()
 /// input, in which no space stands.
 pub fn emission_tells_no_output()
     ensures { EmissionTellsNoOutput }
-{
-    reading_is_accepted();
-}
-
-/// Of the lines that `audit --emit NODE` prints none is a `track` line, the line behind the inputs that names what is
-/// refused included.
-pub fn emission_tells_no_track()
-    ensures { EmissionTellsNoTrack }
 {
     reading_is_accepted();
 }

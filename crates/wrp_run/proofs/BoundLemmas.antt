@@ -1,12 +1,18 @@
 -- The bound of a node among those that are at hand.
-use Rattle.std.proofs.Common.{◌≡◌, ◌∙◌, ap, ℕ, ℤ, pos, ◌^◌, ◌<◌, of_z, to_z, List, length, get_or, arith}
-use Rattle.std.proofs.lemmas.Int.{fits_signed_from_abs, to_z-of_z}
+use Rattle.std.proofs.Common.{◌≡◌, ◌∙◌, ap, ℕ, ℤ, pos, ◌^◌, ◌<◌, ◌<ℤ◌, of_z, subst, to_z, List, length, get_or, arith}
+use Rattle.std.proofs.lemmas.Int.{fits_signed_from_abs, ints, to_z-of_z}
 use Rattle.std.specs.Int.{w128}
 use Rattle.wrp_base.specs.Network.{node_count}
 use Rattle.wrp_base.specs.declared.configuration.NetCfg.{NetCfg}
 use Rattle.wrp_bounds.specs.Bounds.{path_of}
 use Rattle.wrp_run.specs.Bounds.{AreBounds}
 use Rattle.wrp_run.proofs.SimLines.{each_at}
+
+-- a path that is worked out is none too great
+pub small_path : (bound : ℤ) (path : ℕ) → bound ≡ pos path → bound <ℤ pos (2 ^ 100) → path < 2 ^ 100
+small_path bound path is less =
+    let own = subst (λ (z : ℤ). z <ℤ pos (2 ^ 100)) is less in
+    omega (arith, ints, own)
 
 -- it stands at the node's place
 pub bound_at : (cfg : NetCfg) (bounds : List ℤ) (i n : ℕ) → AreBounds cfg bounds → n < node_count cfg → i ≡ n → to_z w128 (of_z w128 (get_or bounds i (pos 0))) ≡ pos (path_of cfg n)

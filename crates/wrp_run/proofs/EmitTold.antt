@@ -8,7 +8,7 @@ use Rattle.wrp_records.specs.declared.status.Status.TheVariants.{ReadFault, OutO
 use Rattle.wrp_io.specs.declared.link.LinkCall.{LinkCall}
 use Rattle.wrp_run.specs.Answer.{CutTask, TaskAnswer}
 use Rattle.wrp_run.specs.Audits.{emission_of}
-use Rattle.wrp_run.specs.EmitHeadline.{EmitHeadline, InputsOf, LacksNode}
+use Rattle.wrp_run.specs.EmitHeadline.{EmissionsTellNoTrack, EmitHeadline, InputsOf, LacksNode}
 use Rattle.wrp_run.specs.Ends.{Ends, Run}
 use Rattle.wrp_run.specs.Headline.{EventsCarryParts, ReachesNone}
 use Rattle.wrp_run.specs.Input.{behind_separator, network_text}
@@ -88,12 +88,13 @@ inputs_so words name emits = record {
 abbrev pub IsEmittedSo : List (List ℕ) → (held now : Option (List ℕ)) → Status → List ℕ → Type 0
 IsEmittedSo words held now status input = (octets : List ℕ) × Appends held now octets × EmitHeadline words input status octets
 
-headline_of : EventsCarryParts → (words : List (List ℕ)) (input : List ℕ) (held now : Option (List ℕ)) (status : Status) → PrintsDue (IsInputDue words) held now input status → IsEmittedSo words held now status input
-headline_of parts words input held now status h = (h.0, h.1, record { prints = h.2; carries = λ s events came. parts words input s events came })
+headline_of : EventsCarryParts → EmissionsTellNoTrack → (words : List (List ℕ)) (input : List ℕ) (held now : Option (List ℕ)) (status : Status) → PrintsDue (IsInputDue words) held now input status → IsEmittedSo words held now status input
+headline_of parts untracked words input held now status h =
+    (h.0, h.1, record { prints = h.2; untracked = untracked words input status h.0 h.2; carries = λ s events came. parts words input s events came })
 
-pub emission_told : EventsCarryParts → (run : Run) (status : Status) (name : List ℕ) → Ends run status → IsEmission run.words name → IfSome run.source.before (IsEmittedSo run.words run.sink.before run.sink.now status)
-emission_told parts run status name ends emits = go run.source.before refl
+pub emission_told : EventsCarryParts → EmissionsTellNoTrack → (run : Run) (status : Status) (name : List ℕ) → Ends run status → IsEmission run.words name → IfSome run.source.before (IsEmittedSo run.words run.sink.before run.sink.now status)
+emission_told parts untracked run status name ends emits = go run.source.before refl
   where
     go : (o : Option (List ℕ)) → run.source.before ≡ o → IfSome o (IsEmittedSo run.words run.sink.before run.sink.now status)
     go None is = tt
-    go (Some input) is = headline_of parts run.words input run.sink.before run.sink.now status (prints run input status (IsInputDue run.words) (inputs_so run.words name emits) is ends)
+    go (Some input) is = headline_of parts untracked run.words input run.sink.before run.sink.now status (prints run input status (IsInputDue run.words) (inputs_so run.words name emits) is ends)

@@ -35,10 +35,10 @@ use Rattle.wrp_records.proofs.Feeds.{lines_of-whole, no_feed-append}
 word_octet : (c : ℕ) → 33 ≤ c → is_word_octet c ≡ true
 word_octet c least = rw (ne_eqb c 32 (λ e. omega (arith, least, e)), ne_eqb c 10 (λ e. omega (arith, least, e))) refl
 
-onto_word : (c : ℕ) (cs : List ℕ) → is_word_octet c ≡ true → IsWord cs → IsWord (c ∷ cs)
+pub onto_word : (c : ℕ) (cs : List ℕ) → is_word_octet c ≡ true → IsWord cs → IsWord (c ∷ cs)
 onto_word c cs h k = and_from (is_word_octet c) (list_all is_word_octet cs) h k
 
-either_word : (b : Bool) (one other : List ℕ) → IsWord one → IsWord other → IsWord (if b then one else other)
+pub either_word : (b : Bool) (one other : List ℕ) → IsWord one → IsWord other → IsWord (if b then one else other)
 either_word true one other h k = h
 either_word false one other h k = k
 
@@ -66,7 +66,7 @@ got_word [] k h = refl
 got_word (c ∷ cs) zero h = (and_parts (is_word_octet c) (list_all is_word_octet cs) h).0
 got_word (c ∷ cs) (suc k) h = got_word cs k (and_parts (is_word_octet c) (list_all is_word_octet cs) h).1
 
-hex_word : (octets : List ℕ) → IsWord (encode_lower octets)
+pub hex_word : (octets : List ℕ) → IsWord (encode_lower octets)
 unfolding encode_with
 hex_word [] = refl
 hex_word (c ∷ cs) =
@@ -92,7 +92,7 @@ names_word (c ∷ cs) are =
     let both = and_parts (is_name_octet c) (list_all is_name_octet cs) are in
     onto_word c cs (word_octet c (name_least c (or_cases (is_letter c) ((nat_le 48 c && nat_le c 57) || (c == 95)) both.0))) (names_word cs both.1)
 
-name_word : (name : List ℕ) → is_name name ≡ true → IsWord name
+pub name_word : (name : List ℕ) → is_name name ≡ true → IsWord name
 name_word [] is = refl
 name_word (c ∷ cs) is =
     let both = and_parts (is_letter c) (list_all is_name_octet cs && nat_le (length cs) 15) is in
@@ -107,10 +107,10 @@ at_word cfg names n = node_word (slice_get cfg.nodes.items n) (λ node e. names.
 
 -- Lines
 
-abbrev AreWords : List (List ℕ) → Type 0
+abbrev pub AreWords : List (List ℕ) → Type 0
 AreWords words = AllByRecursion (λ (word : List ℕ). IsWord word) words
 
-word_plain : (octets : List ℕ) → IsWord octets → HasNoFeed octets
+pub word_plain : (octets : List ℕ) → IsWord octets → HasNoFeed octets
 word_plain [] h = tt
 word_plain (c ∷ cs) h =
     let both = and_parts (is_word_octet c) (list_all is_word_octet cs) h in

@@ -24,6 +24,7 @@ pub mod FieldsRead
 pub mod GoingOn
 pub mod HeadlineParts
 pub mod HeadlineTold
+pub mod InputLines
 pub mod LawsMade
 pub mod LawsNear
 pub mod LineLemmas
@@ -40,6 +41,7 @@ pub mod Networking
 pub mod NewAudit
 pub mod NewSim
 pub mod NodesWithin
+pub mod NoTrack
 pub mod OneAnswer
 pub mod OneAudit
 pub mod OneLoop
@@ -49,6 +51,7 @@ pub mod OneWorld
 pub mod OwnPorts
 pub mod ParsingLemmas
 pub mod PartsCarried
+pub mod PlaceWords
 pub mod PlainEvents
 pub mod PlainLines
 pub mod Runs
@@ -58,6 +61,7 @@ pub mod SimLines
 pub mod SimSteps
 pub mod SimTold
 pub mod TablesNear
+pub mod TakenLines
 pub mod ToldApart
 pub mod ToldWhole
 pub mod TracksHold

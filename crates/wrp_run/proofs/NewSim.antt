@@ -12,7 +12,8 @@ use Rattle.wrp_course.specs.WorldAt.{new_world}
 use Rattle.wrp_run.specs.declared.simulation.SimulatedNetwork.{SimulatedNetwork}
 use Rattle.wrp_run.specs.AuditStands.{HasLawOf, setting_in}
 use Rattle.wrp_run.specs.LawsFit.{LawsFit}
-use Rattle.wrp_run.specs.SimStands.{AreBounds, CanRun}
+use Rattle.wrp_run.specs.Bounds.{AreBounds}
+use Rattle.wrp_run.specs.SimStands.{CanRun}
 use Rattle.wrp_run.proofs.AuditSteps.{laws_stay}
 use Rattle.wrp_run.proofs.NewAudit.{laws_are, setting_is}
 

@@ -26,7 +26,7 @@ use Rattle.wrp_world.specs.StandsFor.{StandsFor, WorldOf}
 use Rattle.wrp_world.specs.Step.{step_seen}
 use Rattle.wrp_course.specs.WorldAt.{WorldAt}
 use Rattle.wrp_run.specs.declared.totals.Total.{Total}
-use Rattle.wrp_run.specs.SimStands.{AreBounds, AreTotals, IsTotal, printed_by, sums_by}
+use Rattle.wrp_run.specs.SimStands.{AreTotals, IsTotal, printed_by, sums_by}
 use Rattle.wrp_run.specs.SimText.{is_track, offsets_in, outs_of, printed_lines, sum_by}
 
 -- Lines
@@ -249,19 +249,3 @@ node_within count (x ∷ xs) (suc i) out all is got = node_within count xs i out
 -- each of some numbers has its place
 pub each_at : {A : Type 0} (P : ℕ → A → Type 0) (xs : List A) (i n : ℕ) (d : A) → Each P xs → i < length xs → i ≡ n → P n (get_or xs i d)
 each_at P xs i n d all is same = subst (λ (k : ℕ). P k (get_or xs i d)) same (all i (get_or xs i d) (slice_get-get_or xs i d is))
-
--- The bounds at hand
-
-pub small_path : (bound : ℤ) (path : ℕ) → bound ≡ pos path → bound <ℤ pos (2 ^ 100) → path < 2 ^ 100
-small_path bound path is less =
-    let own = subst (λ (z : ℤ). z <ℤ pos (2 ^ 100)) is less in
-    omega (arith, ints, own)
-
-pub bound_at : (cfg : NetCfg) (bounds : List ℤ) (i n : ℕ) → AreBounds cfg bounds → n < node_count cfg → i ≡ n → to_z w128 (of_z w128 (get_or bounds i (pos 0))) ≡ pos (path_of cfg n)
-bound_at cfg bounds i n all is same =
-    let count = all.count in
-    let within : i < length bounds = omega (arith, count, is, same) in
-    let small : path_of cfg n < 2 ^ 100 = each_at (λ k bound. path_of cfg k < 2 ^ 100) bounds i n (pos 0) all.small within same in
-    let fits : path_of cfg n < 2 ^ 127 = omega (arith, small) in
-    ap (λ (z : ℤ). to_z w128 (of_z w128 z)) (each_at (λ k bound. bound ≡ pos (path_of cfg k)) bounds i n (pos 0) all.each within same)
-    ∙ to_z-of_z w128 (pos (path_of cfg n)) (fits_signed_from_abs w128 (pos (path_of cfg n)) fits)

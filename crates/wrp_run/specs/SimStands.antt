@@ -22,6 +22,7 @@ use Rattle.wrp_course.specs.WorldAt.{WorldAt}
 use Rattle.wrp_records.specs.declared.machine.Refusal.TheVariants as refusal
 use Rattle.wrp_records.specs.declared.machine.Taken.{Taken}
 use Rattle.wrp_records.specs.declared.machine.Taken.TheVariants as taken
+use Rattle.wrp_run.specs.Bounds.{AreBounds}
 use Rattle.wrp_run.specs.declared.scenario.ScenarioLines.{ScenarioLines}
 use Rattle.wrp_run.specs.declared.simulating.Stepped.{Stepped}
 use Rattle.wrp_run.specs.declared.simulating.Stepped.TheVariants as stepped
@@ -74,12 +75,6 @@ sums_by s w offs = flat_map (λ n. sum_by s w n (offs n)) (nodes_of s)
 abbrev pub printed_by : List ℕ → ℕ → ℤ → ℤ → Output → List ℕ
 printed_by name ticks bound off o =
     if is_printed o then output_line_of name ticks o bound (Some off) else []
-
--- each node's bound in TRACK, of which none is too great
-pub record AreBounds (cfg : NetCfg) (bounds : List ℤ) : Type 0 where
-  pub count : length bounds ≡ node_count cfg
-  pub each : Each (λ n bound. bound ≡ pos (path_of cfg n)) bounds
-  pub small : Each (λ n bound. path_of cfg n < 2 ^ 100) bounds
 
 -- it can take an event: its world is one that its calls made, the law of each node is that of the link
 -- above it, and the nodes' bounds are at hand

@@ -62,6 +62,7 @@ fn handle<S: Source, K: Sink>(alloc: Global, alone: Alone, source: &mut S, sink:
 }
 
 /// Runs a command that stands alone.
+#[inline(never)]
 pub fn run_alone<S: Source, K: Sink>(
     alloc: Global,
     words: &[&str],

@@ -219,8 +219,8 @@ fn append_step<F: Fn(i64) -> i64>(
     append_outputs(alloc, name, ticks, bound, Some(off), &out.outs, text)
 }
 
-// The name of a node.
-fn name_of(net: &Network, node: u8) -> &str
+/// The name of a node.
+pub fn name_of(net: &Network, node: u8) -> &str
     requires { node < node_count net.now.cfg }
     ensures { result.now ≡ name_at net.now.cfg node }
 {

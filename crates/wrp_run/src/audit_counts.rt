@@ -1,30 +1,19 @@
 //! The lines that close an audit: the counters of all nodes that are not 0, by node, port and reason.
 ghost use Rattle.std.specs.Prelude.{◌≡◌, ◌<◌, ◌++◌, IfOk};
-ghost use Rattle.wrp_base.specs.Network.{name_at, node_count};
+ghost use Rattle.wrp_base.specs.Network.{node_count};
 ghost use Rattle.wrp_course.specs.Setting.{Setting};
 ghost use Rattle.wrp_world.specs.StandsFor.{IsValid, StandsFor};
 ghost use Rattle.wrp_course.specs.WorldAt.{WorldAt};
 ghost use Rattle.wrp_trace.specs.LineSetting.{line_setting_in};
 ghost use Rattle.wrp_run.specs.AuditText.{all_counts};
 ghost use Rattle.wrp_run.specs.NodeText.{node_counts};
-ghost use Rattle.wrp_run.specs.StandsFor.{line_setting_at};
 
 use crate::counting::append_counts;
+use crate::replay::name_of;
 use crate::replayed::Replayed;
 use std::alloc::AllocError;
 use wrp_config::Network;
 use wrp_world::World;
-
-// The name of a node.
-#[tactic(auto, using(crate::proofs::BareSetting::name_bare))]
-fn name_of<'a>(replayed: Replayed<'a>) -> &'a str
-    requires { replayed.node < node_count replayed.net.now.cfg }
-    ensures { result.now ≡ name_at (line_setting_at replayed.entry).cfg replayed.entry.node }
-{
-    replayed.net.cfg.nodes[usize::from(replayed.node)]
-        .name
-        .as_str()
-}
 
 // Appends those of a node.
 fn append_node<F: Fn(i64) -> i64>(

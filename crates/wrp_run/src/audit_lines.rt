@@ -34,23 +34,24 @@ pub struct AuditLines<F> {
 
 impl<F: Fn(i64) -> i64> AuditLines<F> {
     /// Before the first line.
+    #[inline(never)]
     pub fn new(
         alloc: Global,
-        net: Network,
+        net: Box<Network>,
         laws: Vec<Option<DelayLaw<F>>>,
         emit: Option<u8>,
     ) -> Result<AuditLines<F>, AllocError>
-        requires accepted { IsAccepted net.cfg net.db }
-        requires laws { LawsFit F.pre F.post net laws.items }
-        requires emit { IfSome emit (λ n. n < node_count net.cfg) }
+        requires accepted { IsAccepted net.value.cfg net.value.db }
+        requires laws { LawsFit F.pre F.post net.value laws.items }
+        requires emit { IfSome emit (λ n. n < node_count net.value.cfg) }
         ensures ready { IfOk result (CanRead F.pre F.post) }
         ensures taken { IfOk result (λ held. HasAudited F.post held.network []) }
-        ensures net { IfOk result (λ held. held.network.world.plant.net ≡ net) }
+        ensures net { IfOk result (λ held. held.network.world.plant.net ≡ net.value) }
         ensures emit { IfOk result (λ held. held.network.emit ≡ emit) }
         ensures none { IfOk result (λ held. held.network.world.plant.events ≡ 0) }
     {
         let place = EventPlace::new(&net.cfg);
-        let network = AuditedNetwork::new(alloc, net, laws, emit)?;
+        let network = AuditedNetwork::new(alloc, Box::into_inner(net), laws, emit)?;
         Ok(AuditLines { network, place })
     }
 

@@ -17,9 +17,10 @@ use wrp_law::DelayLaw;
 use wrp_records::{Reader, Status, run_lines};
 
 /// Audits the records that a reader gives with these laws.
+#[inline(never)]
 pub fn audit_by<F: Fn(i64) -> i64, S: Source, K: Sink>(
     alloc: Global,
-    net: Network,
+    net: Box<Network>,
     laws: Vec<Option<DelayLaw<F>>>,
     emit: Option<u8>,
     reader: &mut Reader,
@@ -27,10 +28,10 @@ pub fn audit_by<F: Fn(i64) -> i64, S: Source, K: Sink>(
     sink: &mut K,
 ) -> Status
     requires at_end { reader.old.ended ≡ true → IsAtEnd (S.left source.old) }
-    requires accepted { IsAccepted net.cfg net.db }
-    requires laws { LawsFit F.pre F.post net laws.items }
-    requires emit { IfSome emit (λ n. n < node_count net.cfg) }
-    ensures passes { Passes (of_lines (meaning_at (task_of emit (setting_in net))))
+    requires accepted { IsAccepted net.value.cfg net.value.db }
+    requires laws { LawsFit F.pre F.post net.value laws.items }
+    requires emit { IfSome emit (λ n. n < node_count net.value.cfg) }
+    ensures passes { Passes (of_lines (meaning_at (task_of emit (setting_in net.value))))
         (passage S.left S.faults source.old source.new) (passage K.held K.faults sink.old sink.new)
         reader.old.rest reader.old.ended reader.new.ended [] result }
 {

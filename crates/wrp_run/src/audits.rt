@@ -1,6 +1,7 @@
 //! Laws of audits and simulations: functions that do nothing, whose contracts are the laws.
 ghost use Rattle.wrp_run.specs.AnswerLaws.{OneAnswer};
 ghost use Rattle.wrp_run.specs.AuditLaws.{AuditsBegin, OneAudit};
+ghost use Rattle.wrp_run.specs.EmitHeadline.{EmissionsTellNoTrack};
 ghost use Rattle.wrp_run.specs.Headline.{EventsCarryParts};
 ghost use Rattle.wrp_run.specs.LoopHeadline.{LoopedEventsCarryParts};
 ghost use Rattle.wrp_run.specs.SimHeadline.{MadeEventsCarryParts};
@@ -45,6 +46,14 @@ pub fn events_carry_parts()
     reading_is_accepted();
     events_can_come();
     events_hold();
+}
+
+/// No line that an audit prints which is asked for the inputs of a node begins as a `track` line does, whatever its
+/// status is: not the line that names what is refused, and no line that is cut.
+pub fn emissions_tell_no_track()
+    ensures { EmissionsTellNoTrack }
+{
+    reading_is_accepted();
 }
 
 /// So it is in each event that a simulation makes, whatever its scenario and its seed: none can break a

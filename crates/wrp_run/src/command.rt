@@ -21,7 +21,8 @@ ghost use Rattle.wrp_run.specs.Words.{texts_of};
 
 use crate::alone::run_alone;
 use crate::audits::{
-    events_carry_parts, looped_events_carry_parts, made_events_carry_parts, one_audit,
+    emissions_tell_no_track, events_carry_parts, looped_events_carry_parts,
+    made_events_carry_parts, one_audit,
 };
 use crate::looped::run_loop;
 use crate::network::run_network;
@@ -116,7 +117,7 @@ pub fn run<S: Source, K: Sink, N: Link>(
         (octets : List ℕ) × Appends (K.held sink.old) (K.held sink.new) octets
         × Headline (texts_of words.now) input result octets) }
 
-    // The same of an audit that is asked for the inputs of a node.
+    // The same of an audit that is asked for the inputs of a node, which prints no track line.
     ensures emitted { (name : List ℕ) → IsEmission (texts_of words.now) name → IfSome (S.left source.old) (λ input.
         (octets : List ℕ) × Appends (K.held sink.old) (K.held sink.new) octets
         × EmitHeadline (texts_of words.now) input result octets) }
@@ -149,6 +150,7 @@ pub fn run<S: Source, K: Sink, N: Link>(
     one_run();
     one_audit();
     events_carry_parts();
+    emissions_tell_no_track();
     made_events_carry_parts();
     looped_events_carry_parts();
     loop_is_audited();

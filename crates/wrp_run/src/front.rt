@@ -1,7 +1,8 @@
 //! What stands in front of the records of a command on a network: the network text.
-ghost use Rattle.std.specs.Prelude.{◌≡◌, IfErr, IfOk, List, OnOk, [], false, ℕ};
+ghost use Rattle.std.specs.Prelude.{◌≡◌, Err, IfErr, IfOk, List, Ok, OnOk, [], false, ℕ};
 ghost use Rattle.std.specs.Io.KnownBytes.{IsAtEnd};
 ghost use Rattle.wrp_config.specs.Accepted.{IsAccepted};
+ghost use Rattle.wrp_config.specs.Reading.{IsReadingOf};
 ghost use Rattle.wrp_records.specs.declared.status.Status.{Status};
 ghost use Rattle.wrp_records.specs.Passages.{FailsBy, passage};
 ghost use Rattle.wrp_run.specs.Answer.{IsNetworked};
@@ -10,7 +11,8 @@ ghost use Rattle.wrp_run.specs.Ends.{EndsUnlinked};
 ghost use Rattle.wrp_run.specs.Words.{texts_of};
 
 use crate::network_text::{End, NetworkText, take_network};
-use std::alloc::Global;
+use std::alloc::{AllocError, Global};
+use wrp_base::ConfFault;
 use wrp_config::Network;
 use wrp_io::{Sink, Source};
 use wrp_records::{Reader, Status, TOO_LARGE_LINE, answer, refuse_network};
@@ -18,10 +20,34 @@ use wrp_records::{Reader, Status, TOO_LARGE_LINE, answer, refuse_network};
 /// The network that stands in front of the records, and its text.
 #[derive(Drop)]
 pub struct Front {
-    /// The network.
-    pub net: Network,
+    /// The network, on the heap, since it is large.
+    pub net: Box<Network>,
     /// Its text.
     pub text: Vec<u8>,
+}
+
+/// A reader that has taken nothing, on the heap: no frame of a caller has room for its piece.
+#[inline(never)]
+pub fn new_reader(alloc: Global) -> Result<Box<Reader>, AllocError>
+    ensures { IfOk result (λ reader. (reader.value.rest ≡ []) × (reader.value.ended ≡ false)) }
+{
+    Ok(Box::new(alloc, Reader::new())?)
+}
+
+/// Reads a network, and keeps it on the heap. No frame of a caller has room for one.
+#[inline(never)]
+pub fn read_network(alloc: Global, text: &[u8]) -> Result<Box<Network>, ConfFault>
+    ensures reads { IfOk result (λ net. IsReadingOf text.now (Ok net.value)) }
+    ensures refused { IfErr result (λ fault. IsReadingOf text.now (Err fault)) }
+    ensures accepted { IfOk result (λ net. IsAccepted net.value.cfg net.value.db) }
+{
+    match Network::read(alloc, text) {
+        Ok(net) => match Box::new(alloc, net) {
+            Ok(net) => Ok(net),
+            Err(_) => Err(ConfFault::Memory(AllocError)),
+        },
+        Err(fault) => Err(fault),
+    }
 }
 
 /// Takes the network text from a source, and reads it. Where it is refused or cannot be taken, the run ends with
@@ -36,8 +62,8 @@ pub fn take_front<S: Source, K: Sink>(
     requires fresh { (reader.old.rest ≡ []) × (reader.old.ended ≡ false) }
     requires networked { IsNetworked (texts_of words.now) }
     ensures front { IfOk result (λ front. IsFront (S.left source.old) (S.left source.new)
-        front.text.items reader.new front.net) }
-    ensures accepted { IfOk result (λ front. IsAccepted front.net.cfg front.net.db) }
+        front.text.items reader.new front.net.value) }
+    ensures accepted { IfOk result (λ front. IsAccepted front.net.value.cfg front.net.value.db) }
     ensures source { OnOk result (S.faults source.new ≡ S.faults source.old) }
     ensures sink { OnOk result (sink.new ≡ sink.old) }
     ensures ends { IfErr result (EndsUnlinked (texts_of words.now)
@@ -55,7 +81,7 @@ pub fn take_front<S: Source, K: Sink>(
         End::Memory => return Err(Status::OutOfMemory),
         End::Whole => {}
     }
-    match Network::read(alloc, &text) {
+    match read_network(alloc, &text) {
         Ok(net) => Ok(Front { net, text }),
         Err(fault) => Err(refuse_network(alloc, sink, &fault)),
     }

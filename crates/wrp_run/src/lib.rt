@@ -32,8 +32,8 @@ mod simulation;
 mod totals;
 
 pub use audits::{
-    audits_begin, events_carry_parts, looped_events_carry_parts, made_events_carry_parts,
-    one_answer, one_audit,
+    audits_begin, emissions_tell_no_track, events_carry_parts, looped_events_carry_parts,
+    made_events_carry_parts, one_answer, one_audit,
 };
 pub use command::run;
 pub use rows::lines_are_of_rows;

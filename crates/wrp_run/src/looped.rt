@@ -1,5 +1,5 @@
 //! The command `loop`: the network in front of its records gets its delay laws, and is run over a link.
-ghost use Rattle.std.specs.Prelude.{◌≡◌, ◌≤ℤ◌, ℕ, Ok, Option, List, true};
+ghost use Rattle.std.specs.Prelude.{◌≡◌, ◌≤ℤ◌, [], ℕ, Ok, Option, List, false, true};
 ghost use Rattle.std.specs.Io.KnownBytes.{IsAtEnd};
 ghost use Rattle.wrp_config.specs.Accepted.{IsAccepted};
 ghost use Rattle.wrp_config.specs.Reading.{IsReadingOf};
@@ -16,7 +16,7 @@ ghost use Rattle.wrp_run.specs.Tasks.{IsLooping};
 ghost use Rattle.wrp_run.specs.Words.{texts_of};
 
 use crate::audit_counts::count_of;
-use crate::front::{Front, take_front};
+use crate::front::{Front, new_reader, read_network, take_front};
 use crate::law::{asked, kept_if, law_above};
 use crate::looping::run_over;
 use crate::replayed::Replayed;
@@ -31,7 +31,7 @@ use wrp_records::{Reader, Status, refuse_network};
 fn run_on<S: Source, K: Sink, N: Link>(
     alloc: Global,
     net: &Network,
-    own: Network,
+    own: Box<Network>,
     seed: u64,
     reader: &mut Reader,
     source: &mut S,
@@ -40,9 +40,9 @@ fn run_on<S: Source, K: Sink, N: Link>(
 ) -> Status
     requires at_end { reader.old.ended ≡ true → IsAtEnd (S.left source.old) }
     requires accepted { IsAccepted net.now.cfg net.now.db }
-    requires own { IsAccepted own.cfg own.db }
-    requires same { IsSameNetwork net.now own }
-    ensures passes { LoopPasses (setting_in own) seed
+    requires own { IsAccepted own.value.cfg own.value.db }
+    requires same { IsSameNetwork net.now own.value }
+    ensures passes { LoopPasses (setting_in own.value) seed
         (passage S.left S.faults source.old source.new) (passage K.held K.faults sink.old sink.new)
         (passage N.told N.faults link.old link.new)
         reader.old.rest reader.old.ended reader.new.ended result }
@@ -88,11 +88,11 @@ fn run_behind<S: Source, K: Sink, N: Link>(
     link: &mut N,
 ) -> Status
     requires at_end { reader.old.ended ≡ true → IsAtEnd (S.left source.old) }
-    requires reads { IsReadingOf front.text.items (Ok front.net) }
-    requires accepted { IsAccepted front.net.cfg front.net.db }
+    requires reads { IsReadingOf front.text.items (Ok front.net.value) }
+    requires accepted { IsAccepted front.net.value.cfg front.net.value.db }
     requires asks { IsLooping (texts_of words.now) seed }
     ensures ends { (first : Option (List ℕ))
-        → IsFront first (S.left source.old) front.text.items reader.old front.net
+        → IsFront first (S.left source.old) front.text.items reader.old front.net.value
         → Ends (record {
           words = texts_of words.now;
           source = begun_at first (passage S.left S.faults source.old source.new);
@@ -105,14 +105,44 @@ fn run_behind<S: Source, K: Sink, N: Link>(
     ensures unstarted { IsUncalled result → link.new ≡ link.old }
 {
     let _words = words;
-    let own = match Network::read(alloc, &front.text) {
+    let own = match read_network(alloc, &front.text) {
         Ok(own) => own,
         Err(fault) => return refuse_network(alloc, sink, &fault),
     };
-    run_on(alloc, &front.net, own, seed, reader, source, sink, link)
+    run_on(alloc, &*front.net, own, seed, reader, source, sink, link)
+}
+
+// Runs the network that stands in front of the records over a link, with a reader that has taken nothing.
+fn run_read<S: Source, K: Sink, N: Link>(
+    alloc: Global,
+    words: &[&str],
+    seed: u64,
+    reader: &mut Reader,
+    source: &mut S,
+    sink: &mut K,
+    link: &mut N,
+) -> Status
+    requires asks { IsLooping (texts_of words.now) seed }
+    requires fresh { (reader.old.rest ≡ []) × (reader.old.ended ≡ false) }
+    ensures ends { Ends (record {
+      words = texts_of words.now;
+      source = passage S.left S.faults source.old source.new;
+      sink = passage K.held K.faults sink.old sink.new;
+      link = passage N.told N.faults link.old link.new;
+    }) result }
+    ensures read { FailsBy Status.ReadFault result (passage S.left S.faults source.old source.new) }
+    ensures write { FailsBy Status.WriteFault result (passage K.held K.faults sink.old sink.new) }
+    ensures linked { FailsBy Status.LinkFault result (passage N.told N.faults link.old link.new) }
+    ensures unstarted { IsUncalled result → link.new ≡ link.old }
+{
+    match take_front(alloc, words, reader, source, sink) {
+        Ok(front) => run_behind(alloc, words, front, seed, reader, source, sink, link),
+        Err(status) => status,
+    }
 }
 
 /// Runs the network that stands in front of the records over a link, from a seed.
+#[inline(never)]
 pub fn run_loop<S: Source, K: Sink, N: Link>(
     alloc: Global,
     words: &[&str],
@@ -133,9 +163,8 @@ pub fn run_loop<S: Source, K: Sink, N: Link>(
     ensures linked { FailsBy Status.LinkFault result (passage N.told N.faults link.old link.new) }
     ensures unstarted { IsUncalled result → link.new ≡ link.old }
 {
-    let mut reader = Reader::new();
-    match take_front(alloc, words, &mut reader, source, sink) {
-        Ok(front) => run_behind(alloc, words, front, seed, &mut reader, source, sink, link),
-        Err(status) => status,
+    match new_reader(alloc) {
+        Ok(mut reader) => run_read(alloc, words, seed, &mut *reader, source, sink, link),
+        Err(_) => Status::OutOfMemory,
     }
 }

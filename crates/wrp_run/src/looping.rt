@@ -132,6 +132,7 @@ fn run_rounds<F: Fn(i64) -> i64, K: Sink, N: Link>(
 }
 
 // Runs a network by a scenario over a link, which is started first.
+#[inline(never)]
 fn run_scene<F: Fn(i64) -> i64, K: Sink, N: Link>(
     alloc: Global,
     net: Network,
@@ -169,9 +170,10 @@ fn run_scene<F: Fn(i64) -> i64, K: Sink, N: Link>(
 
 /// Runs a network with these laws by the scenario that a reader's lines say, from a seed, over a link. No
 /// call of the link is made before all of them were read.
+#[inline(never)]
 pub fn run_over<F: Fn(i64) -> i64, S: Source, K: Sink, N: Link>(
     alloc: Global,
-    net: Network,
+    net: Box<Network>,
     laws: Vec<Option<DelayLaw<F>>>,
     seed: u64,
     reader: &mut Reader,
@@ -180,19 +182,19 @@ pub fn run_over<F: Fn(i64) -> i64, S: Source, K: Sink, N: Link>(
     link: &mut N,
 ) -> Status
     requires at_end { reader.old.ended ≡ true → IsAtEnd (S.left source.old) }
-    requires accepted { IsAccepted net.cfg net.db }
-    requires laws { LawsFit F.pre F.post net laws.items }
-    ensures passes { LoopPasses (setting_in net) seed
+    requires accepted { IsAccepted net.value.cfg net.value.db }
+    requires laws { LawsFit F.pre F.post net.value laws.items }
+    ensures passes { LoopPasses (setting_in net.value) seed
         (passage S.left S.faults source.old source.new) (passage K.held K.faults sink.old sink.new)
         (passage N.told N.faults link.old link.new)
         reader.old.rest reader.old.ended reader.new.ended result }
     ensures unstarted { IsUncalled result → link.new ≡ link.old }
 {
-    let mut lines = ScenarioLines::new(&net);
+    let mut lines = ScenarioLines::new(&*net);
     match handle_records(alloc, &mut lines, reader, source, sink) {
         Status::Done => {}
         status => return status,
     }
     let scene = lines.into_scene();
-    run_scene(alloc, net, laws, scene, seed, sink, link)
+    run_scene(alloc, Box::into_inner(net), laws, scene, seed, sink, link)
 }

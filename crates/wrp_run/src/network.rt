@@ -1,6 +1,6 @@
 //! The commands on a network: behind its text the records are handed to a node, or to all of its nodes in a
 //! world.
-ghost use Rattle.std.specs.Prelude.{◌≡◌, ◌≤ℤ◌, ◌<◌, ◌∷◌, [], ℕ, None, Ok, Option, List, true};
+ghost use Rattle.std.specs.Prelude.{◌≡◌, ◌≤ℤ◌, ◌<◌, ◌∷◌, [], ℕ, None, Ok, Option, List, false, true};
 ghost use Rattle.std.specs.Io.KnownBytes.{IsAtEnd};
 ghost use Rattle.wrp_config.specs.Accepted.{IsAccepted};
 ghost use Rattle.wrp_config.specs.Names.{node_named};
@@ -22,7 +22,7 @@ ghost use Rattle.wrp_run.specs.Words.{texts_of};
 
 use crate::audit_counts::count_of;
 use crate::auditing::audit_by;
-use crate::front::{Front, take_front};
+use crate::front::{Front, new_reader, read_network, take_front};
 use crate::law::{asked, kept_if, law_above};
 use crate::parse::Asked;
 use crate::refusals::USAGE_LINE;
@@ -47,7 +47,7 @@ pub enum Work {
 // Does work on a network over the records that a reader gives, with these laws.
 fn work_by<F: Fn(i64) -> i64, S: Source, K: Sink>(
     alloc: Global,
-    net: Network,
+    net: Box<Network>,
     laws: Vec<Option<DelayLaw<F>>>,
     work: Work,
     reader: &mut Reader,
@@ -55,10 +55,10 @@ fn work_by<F: Fn(i64) -> i64, S: Source, K: Sink>(
     sink: &mut K,
 ) -> Status
     requires at_end { reader.old.ended ≡ true → IsAtEnd (S.left source.old) }
-    requires accepted { IsAccepted net.cfg net.db }
-    requires laws { LawsFit F.pre F.post net laws.items }
-    requires work { FitsWork net work }
-    ensures passes { Passes (of_lines (meaning_at (task_by work (setting_in net))))
+    requires accepted { IsAccepted net.value.cfg net.value.db }
+    requires laws { LawsFit F.pre F.post net.value laws.items }
+    requires work { FitsWork net.value work }
+    ensures passes { Passes (of_lines (meaning_at (task_by work (setting_in net.value))))
         (passage S.left S.faults source.old source.new) (passage K.held K.faults sink.old sink.new)
         reader.old.rest reader.old.ended reader.new.ended [] result }
 {
@@ -73,7 +73,7 @@ fn work_by<F: Fn(i64) -> i64, S: Source, K: Sink>(
 fn work_on<S: Source, K: Sink>(
     alloc: Global,
     net: &Network,
-    own: Network,
+    own: Box<Network>,
     work: Work,
     reader: &mut Reader,
     source: &mut S,
@@ -81,10 +81,10 @@ fn work_on<S: Source, K: Sink>(
 ) -> Status
     requires at_end { reader.old.ended ≡ true → IsAtEnd (S.left source.old) }
     requires accepted { IsAccepted net.now.cfg net.now.db }
-    requires own { IsAccepted own.cfg own.db }
-    requires same { IsSameNetwork net.now own }
-    requires work { FitsWork own work }
-    ensures passes { Passes (of_lines (meaning_at (task_by work (setting_in own))))
+    requires own { IsAccepted own.value.cfg own.value.db }
+    requires same { IsSameNetwork net.now own.value }
+    requires work { FitsWork own.value work }
+    ensures passes { Passes (of_lines (meaning_at (task_by work (setting_in own.value))))
         (passage S.left S.faults source.old source.new) (passage K.held K.faults sink.old sink.new)
         reader.old.rest reader.old.ended reader.new.ended [] result }
 {
@@ -117,6 +117,7 @@ fn work_on<S: Source, K: Sink>(
 }
 
 // Does work on a whole network, which stands in front of the records. The world gets a network of its own.
+#[inline(never)]
 fn work_behind<S: Source, K: Sink>(
     alloc: Global,
     words: &[&str],
@@ -127,26 +128,27 @@ fn work_behind<S: Source, K: Sink>(
     sink: &mut K,
 ) -> Status
     requires at_end { reader.old.ended ≡ true → IsAtEnd (S.left source.old) }
-    requires reads { IsReadingOf front.text.items (Ok front.net) }
-    requires accepted { IsAccepted front.net.cfg front.net.db }
-    requires asks { AsksWork (texts_of words.now) front.net work }
-    requires fits { FitsWork front.net work }
+    requires reads { IsReadingOf front.text.items (Ok front.net.value) }
+    requires accepted { IsAccepted front.net.value.cfg front.net.value.db }
+    requires asks { AsksWork (texts_of words.now) front.net.value work }
+    requires fits { FitsWork front.net.value work }
     ensures ends { (first : Option (List ℕ))
-        → IsFront first (S.left source.old) front.text.items reader.old front.net
+        → IsFront first (S.left source.old) front.text.items reader.old front.net.value
         → EndsUnlinked (texts_of words.now) (begun_at first (passage S.left S.faults source.old source.new))
         (passage K.held K.faults sink.old sink.new) result }
     ensures read { FailsBy Status.ReadFault result (passage S.left S.faults source.old source.new) }
     ensures write { FailsBy Status.WriteFault result (passage K.held K.faults sink.old sink.new) }
 {
     let _words = words;
-    let own = match Network::read(alloc, &front.text) {
+    let own = match read_network(alloc, &front.text) {
         Ok(own) => own,
         Err(fault) => return refuse_network(alloc, sink, &fault),
     };
-    work_on(alloc, &front.net, own, work, reader, source, sink)
+    work_on(alloc, &*front.net, own, work, reader, source, sink)
 }
 
 // Replays a node of the network that stands in front of the records.
+#[inline(never)]
 fn replay_behind<S: Source, K: Sink>(
     alloc: Global,
     words: &[&str],
@@ -158,12 +160,12 @@ fn replay_behind<S: Source, K: Sink>(
     sink: &mut K,
 ) -> Status
     requires at_end { reader.old.ended ≡ true → IsAtEnd (S.left source.old) }
-    requires reads { IsReadingOf front.text.items (Ok front.net) }
-    requires accepted { IsAccepted front.net.cfg front.net.db }
+    requires reads { IsReadingOf front.text.items (Ok front.net.value) }
+    requires accepted { IsAccepted front.net.value.cfg front.net.value.db }
     requires asks { IsReplay (texts_of words.now) name.now }
-    requires named { node_named front.net.cfg name.now ≡ Some node }
+    requires named { node_named front.net.value.cfg name.now ≡ Some node }
     ensures ends { (first : Option (List ℕ))
-        → IsFront first (S.left source.old) front.text.items reader.old front.net
+        → IsFront first (S.left source.old) front.text.items reader.old front.net.value
         → EndsUnlinked (texts_of words.now) (begun_at first (passage S.left S.faults source.old source.new))
         (passage K.held K.faults sink.old sink.new) result }
     ensures read { FailsBy Status.ReadFault result (passage S.left S.faults source.old source.new) }
@@ -171,7 +173,7 @@ fn replay_behind<S: Source, K: Sink>(
 {
     let _words = words;
     let _name = name;
-    let net = &front.net;
+    let net = &*front.net;
     replay(alloc, Replayed { net, node }, reader, source, sink)
 }
 
@@ -185,9 +187,9 @@ fn lacks_node<S: Source, K: Sink>(
     sink: &mut K,
 ) -> Status
     requires asks { IsOfNode (texts_of words.now) name.now }
-    requires none { node_named front.net.cfg name.now ≡ None }
+    requires none { node_named front.net.value.cfg name.now ≡ None }
     ensures ends { (first : Option (List ℕ))
-        → IsFront first (S.left source.old) front.text.items reader.old front.net
+        → IsFront first (S.left source.old) front.text.items reader.old front.net.value
         → EndsUnlinked (texts_of words.now) (begun_at first (passage S.left S.faults source.old source.new))
         (passage K.held K.faults sink.old sink.new) result }
     ensures read { FailsBy Status.ReadFault result (passage S.left S.faults source.old source.new) }
@@ -212,11 +214,11 @@ fn run_behind<S: Source, K: Sink>(
     sink: &mut K,
 ) -> Status
     requires at_end { reader.old.ended ≡ true → IsAtEnd (S.left source.old) }
-    requires reads { IsReadingOf front.text.items (Ok front.net) }
-    requires accepted { IsAccepted front.net.cfg front.net.db }
+    requires reads { IsReadingOf front.text.items (Ok front.net.value) }
+    requires accepted { IsAccepted front.net.value.cfg front.net.value.db }
     requires asks { IsAsked (texts_of words.now) asked }
     ensures ends { (first : Option (List ℕ))
-        → IsFront first (S.left source.old) front.text.items reader.old front.net
+        → IsFront first (S.left source.old) front.text.items reader.old front.net.value
         → EndsUnlinked (texts_of words.now) (begun_at first (passage S.left S.faults source.old source.new))
         (passage K.held K.faults sink.old sink.new) result }
     ensures read { FailsBy Status.ReadFault result (passage S.left S.faults source.old source.new) }
@@ -256,7 +258,30 @@ fn run_behind<S: Source, K: Sink>(
     }
 }
 
+// Does what is asked of the network that stands in front of the records, with a reader that has taken nothing.
+fn run_read<S: Source, K: Sink>(
+    alloc: Global,
+    words: &[&str],
+    asked: Asked<'_>,
+    reader: &mut Reader,
+    source: &mut S,
+    sink: &mut K,
+) -> Status
+    requires asked { IsAsked (texts_of words.now) asked }
+    requires fresh { (reader.old.rest ≡ []) × (reader.old.ended ≡ false) }
+    ensures ends { EndsUnlinked (texts_of words.now) (passage S.left S.faults source.old source.new)
+        (passage K.held K.faults sink.old sink.new) result }
+    ensures read { FailsBy Status.ReadFault result (passage S.left S.faults source.old source.new) }
+    ensures write { FailsBy Status.WriteFault result (passage K.held K.faults sink.old sink.new) }
+{
+    match take_front(alloc, words, reader, source, sink) {
+        Ok(front) => run_behind(alloc, words, asked, front, reader, source, sink),
+        Err(status) => status,
+    }
+}
+
 /// Does what is asked of the network that stands in front of the records.
+#[inline(never)]
 pub fn run_network<S: Source, K: Sink>(
     alloc: Global,
     words: &[&str],
@@ -270,9 +295,8 @@ pub fn run_network<S: Source, K: Sink>(
     ensures read { FailsBy Status.ReadFault result (passage S.left S.faults source.old source.new) }
     ensures write { FailsBy Status.WriteFault result (passage K.held K.faults sink.old sink.new) }
 {
-    let mut reader = Reader::new();
-    match take_front(alloc, words, &mut reader, source, sink) {
-        Ok(front) => run_behind(alloc, words, asked, front, &mut reader, source, sink),
-        Err(status) => status,
+    match new_reader(alloc) {
+        Ok(mut reader) => run_read(alloc, words, asked, &mut *reader, source, sink),
+        Err(_) => Status::OutOfMemory,
     }
 }

@@ -220,9 +220,9 @@ fn refuse(
     Ok(Taken::Refused(Refusal::BadTrace))
 }
 
-// The name of the node.
+/// The name of the node.
 #[tactic(auto, using(crate::proofs::BareSetting::name_bare))]
-fn name_of<'a>(replayed: Replayed<'a>) -> &'a str
+pub fn name_of<'a>(replayed: Replayed<'a>) -> &'a str
     requires { replayed.node < node_count replayed.net.now.cfg }
     ensures { result.now ≡ name_at (line_setting_at replayed.entry).cfg replayed.entry.node }
 {

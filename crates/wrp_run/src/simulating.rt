@@ -168,6 +168,7 @@ fn run_events<F: Fn(i64) -> i64, K: Sink>(
 }
 
 // Runs a network by a scenario.
+#[inline(never)]
 fn run_scene<F: Fn(i64) -> i64, K: Sink>(
     alloc: Global,
     net: Network,
@@ -197,9 +198,10 @@ fn run_scene<F: Fn(i64) -> i64, K: Sink>(
 }
 
 /// Runs a network with these laws by the scenario that a reader's lines say, from a seed.
+#[inline(never)]
 pub fn simulate<F: Fn(i64) -> i64, S: Source, K: Sink>(
     alloc: Global,
-    net: Network,
+    net: Box<Network>,
     laws: Vec<Option<DelayLaw<F>>>,
     seed: u64,
     reader: &mut Reader,
@@ -207,17 +209,17 @@ pub fn simulate<F: Fn(i64) -> i64, S: Source, K: Sink>(
     sink: &mut K,
 ) -> Status
     requires at_end { reader.old.ended ≡ true → IsAtEnd (S.left source.old) }
-    requires accepted { IsAccepted net.cfg net.db }
-    requires laws { LawsFit F.pre F.post net laws.items }
-    ensures passes { Passes (of_lines (meaning_at (Simulate (setting_in net) seed)))
+    requires accepted { IsAccepted net.value.cfg net.value.db }
+    requires laws { LawsFit F.pre F.post net.value laws.items }
+    ensures passes { Passes (of_lines (meaning_at (Simulate (setting_in net.value) seed)))
         (passage S.left S.faults source.old source.new) (passage K.held K.faults sink.old sink.new)
         reader.old.rest reader.old.ended reader.new.ended [] result }
 {
-    let mut lines = ScenarioLines::new(&net);
+    let mut lines = ScenarioLines::new(&*net);
     match handle_records(alloc, &mut lines, reader, source, sink) {
         Status::Done => {}
         status => return status,
     }
     let scene = lines.into_scene();
-    run_scene(alloc, net, laws, scene, seed, sink)
+    run_scene(alloc, Box::into_inner(net), laws, scene, seed, sink)
 }

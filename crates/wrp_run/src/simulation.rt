@@ -1,7 +1,7 @@
 //! A network that is simulated: its world, and what makes its events.
 ghost use Rattle.std.specs.Prelude.{◌≡◌, ◌<◌, ◌+◌, ◌++◌, [], ℕ, ℤ, List, IfOk, OnOk, length, map, pos};
 ghost use Rattle.std.specs.List.{flat_map};
-ghost use Rattle.wrp_base.specs.Network.{HasRanges, IsTree, name_at, node_count};
+ghost use Rattle.wrp_base.specs.Network.{node_count};
 ghost use Rattle.wrp_bounds.specs.Bounds.{path_of};
 ghost use Rattle.wrp_config.specs.Accepted.{IsAccepted};
 ghost use Rattle.wrp_sim.specs.Scenario.{IsSceneOf};
@@ -14,15 +14,17 @@ ghost use Rattle.wrp_world.specs.Take.{CanHappen, Taken};
 ghost use Rattle.wrp_world.specs.Taking.{AreOfNodes};
 ghost use Rattle.wrp_course.specs.WorldAt.{WorldAt, new_world};
 ghost use Rattle.wrp_run.specs.AuditStands.{setting_in};
+ghost use Rattle.wrp_run.specs.Bounds.{AreBounds};
 ghost use Rattle.wrp_run.specs.LawsFit.{LawsFit};
-ghost use Rattle.wrp_run.specs.SimStands.{AreBounds, AreTotals, CanRun, IsTotal, printed_by, sums_by};
+ghost use Rattle.wrp_run.specs.SimStands.{AreTotals, CanRun, IsTotal, printed_by, sums_by};
 ghost use Rattle.wrp_run.specs.SimText.{is_printed, printed_lines, sum_by};
 
+use crate::audit::name_of;
 use crate::audit_counts::count_of;
+use crate::bounds::bounds_of;
 use crate::totals::{Total, no_totals};
 use std::alloc::{AllocError, Global};
 use wrp_base::Tau;
-use wrp_bounds::path;
 use wrp_config::Network;
 use wrp_law::DelayLaw;
 use wrp_lines::{Sum, append_line, append_sum_line};
@@ -144,22 +146,6 @@ impl<F: Fn(i64) -> i64> SimulatedNetwork<F> {
     }
 }
 
-// The bounds of all nodes in TRACK, in tau.
-fn bounds_of(alloc: Global, net: &Network) -> Result<Vec<Tau>, AllocError>
-    requires ranges { HasRanges net.now.cfg }
-    requires tree { IsTree net.now.cfg }
-    ensures { IfOk result (λ bounds. AreBounds net.now.cfg bounds.items) }
-{
-    let count = count_of(net);
-    let mut bounds = Vec::with_capacity(alloc, usize::from(count))?;
-    let mut node: u8 = 0;
-    while node < count {
-        bounds.push(path(&net.cfg, node))?;
-        node += 1;
-    }
-    Ok(bounds)
-}
-
 // Appends what these steps write in an event that left this world.
 fn append_steps<F: Fn(i64) -> i64>(
     alloc: Global,
@@ -201,14 +187,6 @@ fn append_printed<F: Fn(i64) -> i64>(
     let name = name_of(world.net(), out.node);
     let bound = bounds[usize::from(out.node)];
     append_outputs(alloc, name, ticks, bound, off, &out.outs, text)
-}
-
-// The name of a node.
-fn name_of(net: &Network, node: u8) -> &str
-    requires { node < node_count net.now.cfg }
-    ensures { result.now ≡ name_at net.now.cfg node }
-{
-    net.cfg.nodes[usize::from(node)].name.as_str()
 }
 
 // Whether an output has a line.

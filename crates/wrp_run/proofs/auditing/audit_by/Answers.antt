@@ -15,7 +15,7 @@ run_lines-requires-clause-fresh g c = (c.in-Ok.ensures.taken, nothing_accepted c
 
 pub returns-in-Err : goal.returns-in-Err
 returns-in-Err g c = record {
-  passes = passes_nothing (meaning_at (task_of c.args.emit (setting_in c.args.net))) _ _ c.args.reader.now.rest c.args.reader.now.ended (nothing_accepted c.args.emit (setting_in c.args.net))
+  passes = passes_nothing (meaning_at (task_of c.args.emit (setting_in c.args.net.value))) _ _ c.args.reader.now.rest c.args.reader.now.ended (nothing_accepted c.args.emit (setting_in c.args.net.value))
       (Consumes-nil _) (Appends-nil _) c.requires.at_end refl refl;
 }
 
@@ -28,6 +28,6 @@ returns-in-Ok g c =
     let net = subst (λ (k : Network). Passes (of_lines (meaning_at (task_of machine.emit (setting_in k)))) source sink c.args.reader.now.rest c.args.reader.now.ended c.run_lines.new.reader.ended [] c.run_lines.result)
     c.in-Ok.ensures.net own in
     record {
-      passes = subst (λ (k : Option ℕ). Passes (of_lines (meaning_at (task_of k (setting_in c.args.net)))) source sink c.args.reader.now.rest c.args.reader.now.ended c.run_lines.new.reader.ended [] c.run_lines.result)
+      passes = subst (λ (k : Option ℕ). Passes (of_lines (meaning_at (task_of k (setting_in c.args.net.value)))) source sink c.args.reader.now.rest c.args.reader.now.ended c.run_lines.new.reader.ended [] c.run_lines.result)
           c.in-Ok.ensures.emit net;
     }

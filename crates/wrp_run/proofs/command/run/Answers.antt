@@ -20,7 +20,7 @@ pub returns-clause-headline : goal.returns-clause-headline
 returns-clause-headline g c = λ audits. headline_told c.events_carry_parts.ensures c.one_audit.ensures _ c.run_command.result c.run_command.ensures.ends audits
 
 pub returns-clause-emitted : goal.returns-clause-emitted
-returns-clause-emitted g c = λ name emits. emission_told c.events_carry_parts.ensures _ c.run_command.result name c.run_command.ensures.ends emits
+returns-clause-emitted g c = λ name emits. emission_told c.events_carry_parts.ensures c.emissions_tell_no_track.ensures _ c.run_command.result name c.run_command.ensures.ends emits
 
 pub returns-clause-simulated : goal.returns-clause-simulated
 returns-clause-simulated g c = λ seed simulates. simulation_told c.made_events_carry_parts.ensures _ c.run_command.result seed c.run_command.ensures.ends simulates

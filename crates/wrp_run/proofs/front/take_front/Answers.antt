@@ -45,7 +45,7 @@ returns-in-Ok-clause-front g c =
       divided = whole.0;
       within = whole.1;
       at_end = c.take_network-text.ensures.at_end;
-      reads = subst (λ (t : List ℕ). IsReadingOf t (Ok c.in-Ok.net)) c.deref.ensures.value c.in-Ok.ensures.value;
+      reads = subst (λ (t : List ℕ). IsReadingOf t (Ok c.in-Ok.net.value)) c.deref.ensures.value c.in-Ok.ensures.reads;
     }
 
 pub returns-in-Err-clause-ends : goal.returns-in-Err-clause-ends
@@ -58,6 +58,6 @@ returns-in-Err-clause-ends g c = λ link same.
     } in
     let taken = c.take_network-text.ensures.taken in
     let whole = subst (λ (e : End). NetworkOutcome e taken.0 c.take_network-text.result.text.items c.take_network-text.new.reader) c.in-Whole.is taken.2 in
-    let reads = subst (λ (t : List ℕ). IsReadingOf t (Err c.in-Err.fault)) c.deref.ensures.value c.in-Err.ensures.value in
+    let reads = subst (λ (t : List ℕ). IsReadingOf t (Err c.in-Err.fault)) c.deref.ensures.value c.in-Err.ensures.refused in
     refused_ends run c.refuse_network.result taken.0 c.take_network-text.result.text.items c.in-Err.fault c.take_network-text.new.reader c.requires.networked taken.1 whole.0 whole.1
     c.take_network-text.ensures.at_end reads c.refuse_network.ensures.how c.refuse_network.ensures.rose (uncalled link same)

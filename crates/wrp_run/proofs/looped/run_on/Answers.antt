@@ -40,14 +40,14 @@ loop-n-preserved g c =
 
 pub run_over-requires-clause-laws : goal.run_over-requires-clause-laws
 run_over-requires-clause-laws g c =
-    let same = sym (count_bare c.args.net.now.cfg) ∙ ap node_count c.requires.same.0 ∙ count_bare c.args.own.cfg in
+    let same = sym (count_bare c.args.net.now.cfg) ∙ ap node_count c.requires.same.0 ∙ count_bare c.args.own.value.cfg in
     let count = c.count_of-count.ensures in
     let laws = c.loop-n.invariant.count in
     let within = c.loop-n.invariant.within in
     let test = c.loop-n-test.false in
-    fits_all (λ f. f.0) c.args.net.now c.args.own c.loop-n.laws.items
+    fits_all (λ f. f.0) c.args.net.now c.args.own.value c.loop-n.laws.items
     (record { callable = λ f x sound low high. (sound, (low, high)); down = λ f x y is. is.0; near = λ f x y is. is.1 })
     c.requires.own c.requires.same (omega (arith, same, count, laws, within, test)) c.loop-n.invariant.made
 
 pub returns-in-Err-clause-passes : goal.returns-in-Err-clause-passes
-returns-in-Err-clause-passes g c = passes_none (setting_in c.args.own) c.args.seed _ _ _ c.args.reader.now.rest c.args.reader.now.ended (Consumes-nil _) (Appends-nil _) refl c.requires.at_end refl refl refl
+returns-in-Err-clause-passes g c = passes_none (setting_in c.args.own.value) c.args.seed _ _ _ c.args.reader.now.rest c.args.reader.now.ended (Consumes-nil _) (Appends-nil _) refl c.requires.at_end refl refl refl

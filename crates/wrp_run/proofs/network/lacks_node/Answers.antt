@@ -18,7 +18,7 @@ returns-clause-ends g c = λ first front link same.
       name = c.args.name.now;
       words_are = c.requires.asks;
       within = front.within;
-      net = c.args.front.net;
+      net = c.args.front.net.value;
       reads = front.reads;
       none = c.requires.none;
     } in

@@ -1,8 +1,12 @@
 -- The replay of a node that is named, told of the whole input.
-use Rattle.std.proofs.Common.{◌∙◌, refl}
+use Rattle.std.proofs.Common.{◌∙◌, ◌<◌, [], refl, subst, sym}
+use Rattle.wrp_base.specs.Network.{node_count}
 use Rattle.wrp_config.proofs.Lists.{found_place}
 use Rattle.wrp_trace.specs.LineSetting.{LineSetting, line_setting_of}
-use Rattle.wrp_records.specs.Passages.{passage}
+use Rattle.wrp_config.specs.declared.network.Network.{Network}
+use Rattle.wrp_records.specs.ByLines.{of_lines}
+use Rattle.wrp_records.specs.Passages.{Passes, passage}
+use Rattle.wrp_run.specs.Replays.{meaning_of}
 use Rattle.wrp_run.specs.Tasks.{Replay, AsksFor}
 use Rattle.wrp_run.specs.Words.{texts_of}
 use Rattle.wrp_run.proofs.Asking.{TookNetwork, records_end}
@@ -10,21 +14,26 @@ use Rattle.wrp_run.proofs.BareSetting.{bare_setting, named_bare}
 use Rattle.wrp_run.proofs.network.replay_behind.Goals as goal
 
 pub replay-requires-clause-node : goal.replay-requires-clause-node
-replay-requires-clause-node g c = (found_place _ c.args.front.net.cfg.nodes.items c.args.node c.requires.named).within
+replay-requires-clause-node g c =
+    subst (λ (net : Network). c.args.node < node_count net.cfg) (sym c.deref-net.ensures) (found_place _ c.args.front.net.value.cfg.nodes.items c.args.node c.requires.named).within
 
 pub returns-clause-ends : goal.returns-clause-ends
 returns-clause-ends g c = λ first front.
     let words = texts_of c.args.words.now in
     let text = c.args.front.text.items in
-    let site : LineSetting = bare_setting (line_setting_of c.args.front.net c.args.node) in
+    let site : LineSetting = bare_setting (line_setting_of c.args.front.net.value c.args.node) in
     let asks : AsksFor words text (Replay site) = (
       front.within,
       c.args.name.now,
       c.requires.asks,
-      record { net = c.args.front.net; reads = front.reads; cfg = refl; db = refl },
-      named_bare c.args.front.net.cfg c.args.name.now ∙ c.requires.named,
+      record { net = c.args.front.net.value; reads = front.reads; cfg = refl; db = refl },
+      named_bare c.args.front.net.value.cfg c.args.name.now ∙ c.requires.named,
     ) in
     let network : TookNetwork words first (g.S.Source.left c.args.source.now) text c.args.reader.now (Replay site) =
     record { network = front.network; taken = front.taken; divided = front.divided; at_end = front.at_end; asks = asks } in
+    let passes = subst
+    (λ (net : Network). Passes (of_lines (meaning_of (bare_setting (line_setting_of net c.args.node)))) (passage g.S.Source.left g.S.Source.faults c.args.source.now c.replay.new.source)
+    (passage g.K.Sink.held g.K.Sink.faults c.args.sink.now c.replay.new.sink) c.args.reader.now.rest c.args.reader.now.ended c.replay.new.reader.ended [] c.replay.result)
+    c.deref-net.ensures c.replay.ensures.passes in
     records_end words first (passage g.S.Source.left g.S.Source.faults c.args.source.now c.replay.new.source) (passage g.K.Sink.held g.K.Sink.faults c.args.sink.now c.replay.new.sink)
-    text c.args.reader.now c.replay.new.reader.ended (Replay site) c.replay.result network c.replay.ensures.passes
+    text c.args.reader.now c.replay.new.reader.ended (Replay site) c.replay.result network passes

@@ -1,7 +1,9 @@
 -- The work on a network, told of the whole input; or its text cannot be read once more.
-use Rattle.std.proofs.Common.{ℕ, List, Ok, Err, subst}
+use Rattle.std.proofs.Common.{ℕ, List, Ok, Err, subst, sym}
 use Rattle.wrp_config.proofs.OneReading.{one_reading}
+use Rattle.wrp_config.specs.declared.network.Network.{Network}
 use Rattle.wrp_config.specs.Reading.{IsReadingOf}
+use Rattle.wrp_config.specs.Same.{IsSameNetwork}
 use Rattle.wrp_records.specs.Passages.{passage}
 use Rattle.wrp_run.specs.Asked.{task_by}
 use Rattle.wrp_run.specs.AuditStands.{setting_in}
@@ -22,33 +24,33 @@ returns-in-Err-clause-ends g c = λ first front link same.
       sink = passage g.K.Sink.held g.K.Sink.faults c.args.sink.now c.refuse_network.new.sink;
       link = link;
     } in
-    let reads = subst (λ (t : List ℕ). IsReadingOf t (Err c.in-Err.fault)) c.deref.ensures.value c.in-Err.ensures.value in
-    refused_ends run c.refuse_network.result front.network text c.in-Err.fault c.args.reader.now (work_networked words c.args.front.net c.args.work c.requires.asks) front.taken front.divided front.within
+    let reads = subst (λ (t : List ℕ). IsReadingOf t (Err c.in-Err.fault)) c.deref.ensures.value c.in-Err.ensures.refused in
+    refused_ends run c.refuse_network.result front.network text c.in-Err.fault c.args.reader.now (work_networked words c.args.front.net.value c.args.work c.requires.asks) front.taken front.divided front.within
     front.at_end reads c.refuse_network.ensures.how c.refuse_network.ensures.rose (uncalled link same)
 
 pub work_on-requires-clause-same : goal.work_on-requires-clause-same
 work_on-requires-clause-same g c =
-    let own = subst (λ (t : List ℕ). IsReadingOf t (Ok c.in-Ok.own)) c.deref.ensures.value c.in-Ok.ensures.value in
-    one_reading c.args.front.text.items (Ok c.args.front.net) (Ok c.in-Ok.own) c.requires.reads own
+    let own = subst (λ (t : List ℕ). IsReadingOf t (Ok c.in-Ok.own.value)) c.deref.ensures.value c.in-Ok.ensures.reads in
+    subst (λ (net : Network). IsSameNetwork net c.in-Ok.own.value) (sym c.deref-2.ensures) (one_reading c.args.front.text.items (Ok c.args.front.net.value) (Ok c.in-Ok.own.value) c.requires.reads own)
 
 pub work_on-requires-clause-work : goal.work_on-requires-clause-work
 work_on-requires-clause-work g c =
-    let own = subst (λ (t : List ℕ). IsReadingOf t (Ok c.in-Ok.own)) c.deref.ensures.value c.in-Ok.ensures.value in
-    fits_same c.args.front.net c.in-Ok.own c.args.work (one_reading c.args.front.text.items (Ok c.args.front.net) (Ok c.in-Ok.own) c.requires.reads own) c.requires.fits
+    let own = subst (λ (t : List ℕ). IsReadingOf t (Ok c.in-Ok.own.value)) c.deref.ensures.value c.in-Ok.ensures.reads in
+    fits_same c.args.front.net.value c.in-Ok.own.value c.args.work (one_reading c.args.front.text.items (Ok c.args.front.net.value) (Ok c.in-Ok.own.value) c.requires.reads own) c.requires.fits
 
 pub returns-clause-ends : goal.returns-clause-ends
 returns-clause-ends g c = λ first front.
     let words = texts_of c.args.words.now in
     let text = c.args.front.text.items in
-    let own = subst (λ (t : List ℕ). IsReadingOf t (Ok c.in-Ok.own)) c.deref.ensures.value c.in-Ok.ensures.value in
-    let same = one_reading text (Ok c.args.front.net) (Ok c.in-Ok.own) c.requires.reads own in
-    let task : Task = task_by c.args.work (setting_in c.in-Ok.own) in
+    let own = subst (λ (t : List ℕ). IsReadingOf t (Ok c.in-Ok.own.value)) c.deref.ensures.value c.in-Ok.ensures.reads in
+    let same = one_reading text (Ok c.args.front.net.value) (Ok c.in-Ok.own.value) c.requires.reads own in
+    let task : Task = task_by c.args.work (setting_in c.in-Ok.own.value) in
     let network : TookNetwork words first (g.S.Source.left c.args.source.now) text c.args.reader.now task = record {
       network = front.network;
       taken = front.taken;
       divided = front.divided;
       at_end = front.at_end;
-      asks = work_task words text c.args.work c.in-Ok.own (asks_same words c.args.front.net c.in-Ok.own c.args.work same c.requires.asks) front.within own;
+      asks = work_task words text c.args.work c.in-Ok.own.value (asks_same words c.args.front.net.value c.in-Ok.own.value c.args.work same c.requires.asks) front.within own;
     } in
     records_end words first (passage g.S.Source.left g.S.Source.faults c.args.source.now c.work_on.new.source) (passage g.K.Sink.held g.K.Sink.faults c.args.sink.now c.work_on.new.sink)
     text c.args.reader.now c.work_on.new.reader.ended task c.work_on.result network c.work_on.ensures.passes

@@ -10,7 +10,7 @@ use Rattle.wrp_run.proofs.network.work_by.Goals as goal
 
 pub returns-in-Simulate : goal.returns-in-Simulate
 returns-in-Simulate g c = record {
-  passes = subst (λ (work : Work). Passes (of_lines (meaning_at (task_by work (setting_in c.args.net)))) (passage g.S.Source.left g.S.Source.faults c.args.source.now c.simulate.new.source)
+  passes = subst (λ (work : Work). Passes (of_lines (meaning_at (task_by work (setting_in c.args.net.value)))) (passage g.S.Source.left g.S.Source.faults c.args.source.now c.simulate.new.source)
       (passage g.K.Sink.held g.K.Sink.faults c.args.sink.now c.simulate.new.sink) c.args.reader.now.rest c.args.reader.now.ended c.simulate.new.reader.ended [] c.simulate.result)
       (sym c.in-Simulate.is) c.simulate.ensures.passes;
 }

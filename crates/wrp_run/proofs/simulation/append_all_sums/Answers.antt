@@ -3,7 +3,8 @@ use Rattle.std.proofs.Common.{◌∙◌, ◌<◌, ap, arith}
 use Rattle.wrp_base.specs.Network.{node_count}
 use Rattle.wrp_config.specs.declared.network.Network.{Network}
 use Rattle.wrp_run.specs.SimStands.{IsTotal}
-use Rattle.wrp_run.proofs.SimLines.{all_sums, bound_at, each_at, no_sum_less, sum_less}
+use Rattle.wrp_run.proofs.BoundLemmas.{bound_at}
+use Rattle.wrp_run.proofs.SimLines.{all_sums, each_at, no_sum_less, sum_less}
 use Rattle.wrp_run.proofs.simulation.append_all_sums.Goals as goal
 
 pub loop-node-init : goal.loop-node-init

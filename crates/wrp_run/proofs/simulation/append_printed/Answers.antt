@@ -3,7 +3,8 @@ use Rattle.std.proofs.Common.{◌∙◌, ap, rules}
 use Rattle.std.proofs.lemmas.Result.{IfOk-weaker}
 use Rattle.wrp_base.specs.Network.{name_at}
 use Rattle.wrp_config.specs.declared.network.Network.{Network}
-use Rattle.wrp_run.proofs.SimLines.{bound_at, printed_text}
+use Rattle.wrp_run.proofs.BoundLemmas.{bound_at}
+use Rattle.wrp_run.proofs.SimLines.{printed_text}
 use Rattle.wrp_run.proofs.simulation.append_printed.Goals as goal
 
 pub returns : goal.returns
