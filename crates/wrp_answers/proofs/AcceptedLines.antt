@@ -9,10 +9,10 @@ use Rattle.wrp_due.proofs.Happening.{event_answered, event_said}
 use Rattle.wrp_due.proofs.Heard.{all_heard, lines_hand_on}
 use Rattle.wrp_records.specs.Lines.{content_of, lines_of}
 use Rattle.wrp_trace.specs.LineSetting.{line_setting_in}
-use Rattle.wrp_run.specs.Audited.{IsAudit, IsSettingOf}
-use Rattle.wrp_run.specs.DownLaw.{law_at}
-use Rattle.wrp_run.specs.Input.{behind_separator}
-use Rattle.wrp_run.specs.Tasks.{Audit}
+use Rattle.wrp_audit.specs.Audited.{IsAudit, IsSettingOf}
+use Rattle.wrp_replay.specs.DownLaw.{law_at}
+use Rattle.wrp_asked.specs.Input.{behind_separator}
+use Rattle.wrp_asked.specs.Tasks.{Audit}
 use Rattle.wrp_answers.proofs.Auditing.{IsOfNetwork, all_said, no_events, one_more}
 use Rattle.wrp_answers.specs.Accepted.{AcceptedIsAudit, AcceptedIsDone, EachIsAccepted, IsAccepted, RunOfLinesIsAudit}
 

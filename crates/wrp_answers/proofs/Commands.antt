@@ -2,13 +2,13 @@
 use Rattle.std.proofs.Common.{◌≡◌, ◌∙◌, ◌⊎◌, inl, inr, refl, sym, ap, ap₂, subst, ℕ, ◌==◌, Bool, true, false, List, [], ◌∷◌, ◌++◌, Option, None, Some, codes}
 use Rattle.std.proofs.lemmas.Bool.{cases_Bool, eqb-false, eqb-true}
 use Rattle.wrp_base.proofs.Lists.{heads, tails}
-use Rattle.wrp_run.specs.declared.alone.Alone.{Alone}
-use Rattle.wrp_run.specs.declared.alone.Alone.TheVariants.{Migrate, Inspect, L1Sync, Calibrate, Plain}
-use Rattle.wrp_run.specs.Alone.{IsAlone, alone_row}
-use Rattle.wrp_run.specs.CommandLine.{HasOption, IsCommandWith, IsDashed, IsSeeded}
-use Rattle.wrp_run.specs.Fields.{seed_of}
-use Rattle.wrp_run.specs.Tasks.{IsAuditing, IsEmission, IsLooping, IsReplay, IsSimulation}
-use Rattle.wrp_run.proofs.WordLemmas.{one_value}
+use Rattle.wrp_asked.specs.declared.alone.Alone.{Alone}
+use Rattle.wrp_asked.specs.declared.alone.Alone.TheVariants.{Migrate, Inspect, L1Sync, Calibrate, Plain}
+use Rattle.wrp_asked.specs.Alone.{IsAlone, alone_row}
+use Rattle.wrp_asked.specs.CommandLine.{HasOption, IsCommandWith, IsDashed, IsSeeded}
+use Rattle.wrp_asked.specs.Fields.{seed_of}
+use Rattle.wrp_asked.specs.Tasks.{IsAuditing, IsEmission, IsLooping, IsReplay, IsSimulation}
+use Rattle.wrp_asked.proofs.WordLemmas.{one_value}
 
 -- it holds, or it does not
 abbrev pub IsDecided : Type 0 → Type 0

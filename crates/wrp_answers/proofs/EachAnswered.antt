@@ -14,18 +14,18 @@ use Rattle.wrp_records.specs.Lines.{lines_of}
 use Rattle.wrp_records.specs.declared.machine.Refusal.TheVariants as refusals
 use Rattle.wrp_records.specs.RecordsAnswer.{IsLarge, IsRefused, RecordsAnswer}
 use Rattle.wrp_records.specs.Refusals.{bad_network_line, too_large_line}
-use Rattle.wrp_run.specs.Simulates.{scenario_of, simulation_of}
+use Rattle.wrp_simulate.specs.Simulates.{scenario_of, simulation_of}
 use Rattle.wrp_course.specs.Setting.{Setting}
 use Rattle.wrp_trace.specs.LineSetting.{LineSetting}
-use Rattle.wrp_run.specs.declared.alone.Alone.{Alone}
-use Rattle.wrp_run.specs.declared.alone.Alone.TheVariants.{Migrate, Inspect, L1Sync, Calibrate, Plain}
-use Rattle.wrp_run.specs.Alone.{IsAlone, alone_meaning}
-use Rattle.wrp_run.specs.Answer.{AloneAnswer, Answer, IsCommand, IsNetworked, IsOfNode, TaskAnswer}
-use Rattle.wrp_run.specs.Audited.{setting_at}
-use Rattle.wrp_run.specs.Input.{behind_separator, network_limit, network_text}
-use Rattle.wrp_run.specs.Refusals.{usage_line}
-use Rattle.wrp_run.specs.Tasks.{AsksFor, Audit, Emit, IsAuditing, IsEmission, IsLooping, IsReplay, IsSimulation, Loop, Replay, Simulate, Task, meaning_at}
-use Rattle.wrp_run.proofs.BareSetting.{named_bare}
+use Rattle.wrp_asked.specs.declared.alone.Alone.{Alone}
+use Rattle.wrp_asked.specs.declared.alone.Alone.TheVariants.{Migrate, Inspect, L1Sync, Calibrate, Plain}
+use Rattle.wrp_asked.specs.Alone.{IsAlone, alone_meaning}
+use Rattle.wrp_asked.specs.Answer.{AloneAnswer, Answer, IsCommand, IsNetworked, IsOfNode, TaskAnswer}
+use Rattle.wrp_audit.specs.Audited.{setting_at}
+use Rattle.wrp_asked.specs.Input.{behind_separator, network_limit, network_text}
+use Rattle.wrp_asked.specs.Refusals.{usage_line}
+use Rattle.wrp_asked.specs.Tasks.{AsksFor, Audit, Emit, IsAuditing, IsEmission, IsLooping, IsReplay, IsSimulation, Loop, Replay, Simulate, Task, meaning_at}
+use Rattle.wrp_replay.proofs.BareSetting.{named_bare}
 use Rattle.wrp_answers.proofs.Auditing.{IsOfNetwork, audit_answered, emission_answered}
 use Rattle.wrp_answers.proofs.Commands.{alone_decided, auditing_decided, emission_decided, looping_decided, replay_decided, simulation_decided}
 use Rattle.wrp_answers.proofs.Replaying.{each_replay_has_answer}

@@ -6,7 +6,6 @@ pub mod EventRecords
 pub mod EventSizes
 pub mod Listed
 pub mod LoopAgain
-pub mod LoopCounts
 pub mod Moments
 pub mod NoOutput
 pub mod PlainRuns

@@ -11,13 +11,13 @@ use Rattle.wrp_records.specs.declared.status.Status.TheVariants.{Done}
 use Rattle.wrp_records.specs.Lines.{content_of, lines_of}
 use Rattle.wrp_records.specs.RecordsAnswer.{RecordsAnswer}
 use Rattle.wrp_records.specs.Stream.{IsWithin, number_limit}
-use Rattle.wrp_run.specs.Answer.{Answer}
-use Rattle.wrp_run.specs.Audited.{IsAudit, IsSettingOf}
-use Rattle.wrp_run.specs.AuditText.{given_lines}
-use Rattle.wrp_run.specs.Input.{behind_separator, network_limit, network_text}
-use Rattle.wrp_run.specs.Tasks.{AsksFor, Audit, Emit, IsAuditing, IsEmission, Loop, Replay, Simulate, Task, meaning_at}
-use Rattle.wrp_run.proofs.BareSetting.{named_bare}
-use Rattle.wrp_run.proofs.WordLemmas.{alone_no_audit, audit_alone, audit_unlooped, no_option, no_simulation}
+use Rattle.wrp_asked.specs.Answer.{Answer}
+use Rattle.wrp_audit.specs.Audited.{IsAudit, IsSettingOf}
+use Rattle.wrp_audit.specs.AuditText.{given_lines}
+use Rattle.wrp_asked.specs.Input.{behind_separator, network_limit, network_text}
+use Rattle.wrp_asked.specs.Tasks.{AsksFor, Audit, Emit, IsAuditing, IsEmission, Loop, Replay, Simulate, Task, meaning_at}
+use Rattle.wrp_replay.proofs.BareSetting.{named_bare}
+use Rattle.wrp_asked.proofs.WordLemmas.{alone_no_audit, audit_alone, audit_unlooped, no_option, no_simulation}
 use Rattle.wrp_answers.specs.Listed.{IsListed, ReplayOfListedInputs}
 
 -- an audit that ends with Done

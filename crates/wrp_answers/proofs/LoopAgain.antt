@@ -1,108 +1,47 @@
 -- The event lines of a run over a link are records of an audit, which writes its other lines.
-use Rattle.std.proofs.Common.{◌≡◌, ◌∙◌, inl, inr, refl, ap, ap₂, sym, subst, append-nil, ℕ, ◌<◌, ◌≤◌, ◌^◌, List, [], ◌++◌, length, map}
-use Rattle.std.proofs.lemmas.List.Folds.{concat-append}
+use Rattle.std.proofs.Common.{◌≡◌, ◌∙◌, inl, inr, refl, ap, ap₂, sym, subst, ℕ, ◌<◌, ◌≤◌, ◌^◌, List, ◌++◌, length, map}
 use Rattle.std.specs.List.{AllByRecursion, concat}
-use Rattle.wrp_base.proofs.Lists.{all_append}
 use Rattle.wrp_config.specs.Accepted.{HasNames}
 use Rattle.wrp_config.specs.Same.{ReadingIsAccepted}
 use Rattle.wrp_course.specs.Run.{Happened, IsAnswered, world_after}
 use Rattle.wrp_course.specs.Setting.{Setting}
 use Rattle.wrp_course.specs.WorldAt.{WorldAt}
 use Rattle.wrp_io.specs.declared.link.LinkCall.{LinkCall}
-use Rattle.wrp_loop.specs.Laws.{LoopIsAudited, Over}
-use Rattle.wrp_loop.specs.LoopRun.{Going, events_at, place}
-use Rattle.wrp_loop.specs.LoopText as texts
-use Rattle.wrp_loop.specs.LoopText.{forged_lines, marked_in, others_in, told_lines}
+use Rattle.wrp_loop.specs.Laws.{LoopIsAudited}
+use Rattle.wrp_loop.specs.LoopRun.{events_at, place}
+use Rattle.wrp_loop.specs.LoopText.{told_lines}
 use Rattle.wrp_projection.specs.Law.{HasRecords}
 use Rattle.wrp_records.proofs.Reaching.{lines_alone}
 use Rattle.wrp_records.specs.declared.status.Status.TheVariants.{Done}
-use Rattle.wrp_records.specs.Lines.{IsWhole, content_of, lines_of}
-use Rattle.wrp_records.specs.RecordsAnswer.{IsWholly, RecordsAnswer}
+use Rattle.wrp_records.specs.Lines.{content_of, lines_of}
+use Rattle.wrp_records.specs.RecordsAnswer.{IsWholly}
 use Rattle.wrp_records.specs.Stream.{IsWithin}
-use Rattle.wrp_run.specs.Answer.{Answer}
-use Rattle.wrp_run.specs.Audited.{IsAudit, IsSettingOf, answers_in}
-use Rattle.wrp_run.specs.Audits.{audit_of}
-use Rattle.wrp_run.specs.AuditText.{all_counts, audit_lines}
-use Rattle.wrp_run.specs.Input.{behind_separator, network_limit, network_text}
-use Rattle.wrp_run.specs.LoopHeadline.{CarriesRun, IsToldApart, LoopOf, LoopedEventsCarryParts, came_lines}
-use Rattle.wrp_run.specs.Loops.{LoopEnded, closing_lines, loop_of, plan_of}
-use Rattle.wrp_run.specs.Tasks.{AsksFor, Audit, Emit, IsAuditing, IsLooping, Loop, Replay, Simulate, Task, meaning_at}
-use Rattle.wrp_run.proofs.ToldApart.{all_text, came_text, count_lines, counts_plain, counts_text, steps_text}
-use Rattle.wrp_run.proofs.ToldWhole.{all_whole, audit_whole, counts_whole}
-use Rattle.wrp_run.proofs.WordLemmas.{alone_unnetworked, audit_unlooped, emission_unlooped, replay_unlooped, simulation_unlooped}
+use Rattle.wrp_asked.specs.Answer.{Answer}
+use Rattle.wrp_audit.specs.Audited.{IsAudit, IsSettingOf, answers_in}
+use Rattle.wrp_audit.specs.Audits.{audit_of}
+use Rattle.wrp_audit.specs.AuditText.{all_counts, audit_lines}
+use Rattle.wrp_asked.specs.Input.{behind_separator, network_limit, network_text}
+use Rattle.wrp_asked.specs.LoopHeadline.{CarriesRun, IsLoopDue, IsToldApart, LoopOf, LoopedEventsCarryParts, came_lines}
+use Rattle.wrp_simulate.specs.Loops.{plan_of}
+use Rattle.wrp_asked.specs.Tasks.{Audit, IsAuditing, IsLooping}
+use Rattle.wrp_asked.proofs.LoopedParts.{loops_few}
+use Rattle.wrp_asked.proofs.LoopTold.{answer_due, told_apart}
 use Rattle.wrp_answers.proofs.AcceptedLines.{run_of_lines_is_audit}
 use Rattle.wrp_answers.proofs.EventRecords.{told_count, told_says, told_whole, told_within}
 use Rattle.wrp_answers.proofs.EventSizes.{small_network}
-use Rattle.wrp_answers.proofs.LoopCounts.{loops_few}
 use Rattle.wrp_answers.proofs.PlainRuns.{plain_accepted, plain_are, plain_events, plain_lines, plain_said, plain_world}
 use Rattle.wrp_answers.specs.LoopAgain.{IsAuditedAgain, LoopIsAuditedAgain, event_records}
 
 -- What is due for the run
 
--- nothing stands in front of the lines of a loop
-only_last : (written last octets : List ℕ) → written ≡ [] → octets ≡ written ++ last → octets ≡ last
-only_last written last octets none is = is ∙ ap (λ (l : List ℕ). l ++ last) none
-
-over : (words : List (List ℕ)) (input octets : List ℕ) (calls : List LinkCall) (s : Setting) (seed : ℕ) → AsksFor words (network_text input) (Loop s seed) → IsWholly (loop_of s seed calls) (behind_separator (lines_of input)) octets →
-    LoopOf words input calls Done octets
-over words input octets calls s seed asks h =
-    let loop : LoopEnded s seed (map content_of (behind_separator (lines_of input))) calls Over = h.closed.0 in
-    record {
-      setting = s;
-      last = loop.last;
-      came = record {
-        seed = seed;
-        asks = asks;
-        scene = loop.scene;
-        said = loop.said;
-        first = calls;
-        later = [];
-        all = sym (append-nil calls);
-        loops = loop.ends.0;
-        frames = loop.frames;
-        answered = loop.answered;
-      };
-      behind = closing_lines s (place loop.last);
-      ends = (loop.ends.1, refl, refl);
-      is = only_last h.written h.last octets h.handled.accepted.2 h.is ∙ h.closed.1
-          ∙ ap (λ (l : List ℕ). l ++ closing_lines s (place loop.last)) (came_text s (events_at (place loop.last)));
-    }
+the_loop : (words : List (List ℕ)) (input octets : List ℕ) (calls : List LinkCall) → IsLoopDue words input calls Done octets → LoopOf words input calls Done octets
+the_loop words input octets calls (inl none) = absurd none.0
+the_loop words input octets calls (inr (inl scene)) = absurd scene.is
+the_loop words input octets calls (inr (inr (inl link))) = absurd link
+the_loop words input octets calls (inr (inr (inr loop))) = loop
 
 loop_due : (words : List (List ℕ)) (seed : ℕ) (input octets : List ℕ) (calls : List LinkCall) → IsLooping words seed → Answer words input calls Done octets → LoopOf words input calls Done octets
-loop_due words seed input octets calls looping (inr (inl alone)) = absurd (alone_unnetworked words alone.0 alone.1 (inr (inr (inr (seed, looping)))))
-loop_due words seed input octets calls looping (inr (inr looped)) = over words input octets calls looped.0 looped.1 looped.2 looped.3
-loop_due words seed input octets calls looping (inl p) = go p.0 p.1 p.2
-  where
-    go : (task : Task) → AsksFor words (network_text input) task → RecordsAnswer (meaning_at task) (behind_separator (lines_of input)) Done octets → LoopOf words input calls Done octets
-    go (Replay site) q h = absurd (replay_unlooped words q.1 q.2 seed looping)
-    go (Audit s) q h = absurd (audit_unlooped words q.1 seed looping)
-    go (Emit s n) q h = absurd (emission_unlooped words q.1 q.2 seed looping)
-    go (Simulate s own) q h = absurd (simulation_unlooped words own q.1 seed looping)
-    go (Loop s own) q h = absurd h.closed
-
--- Its lines
-
-told_apart : LoopIsAudited → (s : Setting) (last : Going) (octets : List ℕ) → CarriesRun s (events_at (place last)) →
-    octets ≡ came_lines s (events_at (place last)) ++ closing_lines s (place last) → IsToldApart s last octets
-told_apart audited s last octets carried is =
-    let events = events_at (place last) in
-    let w = world_after s events in
-    let net = carried.run.network in
-    let steps = texts.audit_lines s events in
-    let counts = count_lines s w in
-    let forged = (place last).forged in
-    let law = audited s events counts forged net (counts_plain s net w) in
-    let told : octets ≡ concat (texts.all_lines s events counts forged) =
-    is ∙ ap (λ (l : List ℕ). l ++ closing_lines s (place last)) (sym (came_text s events)) ∙ all_text s events forged in
-    let lines : lines_of octets ≡ texts.all_lines s events counts forged =
-    ap lines_of told ∙ lines_alone (texts.all_lines s events counts forged) (all_whole s net events carried.run.each carried.fit forged) in
-    let rest : lines_of (audit_lines s events ++ all_counts s w) ≡ steps ++ counts =
-    ap lines_of (sym (concat-append steps counts ∙ ap₂ (λ (a b : List ℕ). a ++ b) (steps_text s events) (counts_text s w)))
-    ∙ lines_alone (steps ++ counts) (all_append IsWhole steps counts (audit_whole s net events) (counts_whole s net w)) in
-    record {
-      marked = ap marked_in lines ∙ law.0;
-      others = ap others_in lines ∙ law.1 ∙ ap (λ (l : List (List ℕ)). l ++ forged_lines forged) (sym rest);
-    }
+loop_due words seed input octets calls looping answer = the_loop words input octets calls (answer_due words seed input calls Done octets looping answer)
 
 -- The audit
 

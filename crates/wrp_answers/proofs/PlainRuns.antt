@@ -13,10 +13,10 @@ use Rattle.wrp_trace.proofs.EventsReadBack.{events_back}
 use Rattle.wrp_trace.specs.EventPrinting.{event_text}
 use Rattle.wrp_trace.specs.Events.{plain}
 use Rattle.wrp_truth.specs.Chains.{AllFit}
-use Rattle.wrp_run.specs.Audited.{AreEvents}
-use Rattle.wrp_run.specs.AuditText.{audit_lines, event_lines, step_lines}
-use Rattle.wrp_run.proofs.OneAudit.{one_line}
-use Rattle.wrp_run.proofs.PlainEvents.{same_checks, same_said, same_steps, same_world}
+use Rattle.wrp_audit.specs.Audited.{AreEvents}
+use Rattle.wrp_audit.specs.AuditText.{audit_lines, event_lines, step_lines}
+use Rattle.wrp_audit.proofs.OneAudit.{one_line}
+use Rattle.wrp_audit.proofs.PlainEvents.{same_checks, same_said, same_steps, same_world}
 
 -- an event as its line says it
 abbrev pub plain_of : Happened → Happened

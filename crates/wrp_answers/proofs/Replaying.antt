@@ -15,10 +15,10 @@ use Rattle.wrp_records.specs.declared.status.Status.TheVariants.{Done}
 use Rattle.wrp_records.specs.Refusals.{bad_trace_line}
 use Rattle.wrp_trace.specs.Inputs.{read_of}
 use Rattle.wrp_trace.specs.LineSetting.{LineSetting}
-use Rattle.wrp_run.specs.DownLaw.{law_at, node_setting_at}
-use Rattle.wrp_run.specs.NodeText.{Writes, node_counts, output_lines}
-use Rattle.wrp_run.specs.Replays.{Accepts, meaning_of}
-use Rattle.wrp_run.proofs.OneReplay.{one_more}
+use Rattle.wrp_replay.specs.DownLaw.{law_at, node_setting_at}
+use Rattle.wrp_replay.specs.NodeText.{Writes, node_counts, output_lines}
+use Rattle.wrp_replay.specs.Replays.{Accepts, meaning_of}
+use Rattle.wrp_replay.proofs.OneReplay.{one_more}
 use Rattle.wrp_due.proofs.LinesAnswered.{Ends, GoesOn, IsTotal, Refused, lines_answered}
 use Rattle.wrp_due.proofs.Measuring.{step_answered}
 use Rattle.wrp_due.proofs.Saying.{each_says}

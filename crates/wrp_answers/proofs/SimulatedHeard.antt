@@ -21,7 +21,7 @@ use Rattle.wrp_sim.specs.Rules.{Next, arrives, begins, delivers, departs, depart
 use Rattle.wrp_sim.specs.Scenario.{SceneAt}
 use Rattle.wrp_sim.specs.SimAt.{SimAt}
 use Rattle.wrp_sim.specs.SimRun.{IsSimRun}
-use Rattle.wrp_run.proofs.ScenesFit.{scenario_fits}
+use Rattle.wrp_simulate.proofs.ScenesFit.{scenario_fits}
 use Rattle.wrp_answers.proofs.AcceptedLines.{of_text}
 use Rattle.wrp_answers.proofs.Auditing.{IsOfNetwork}
 use Rattle.wrp_answers.specs.Accepted.{SimulatedIsHeard}

@@ -12,10 +12,10 @@ use Rattle.wrp_sim.specs.Scenario.{SceneAt, new_scene}
 use Rattle.wrp_sim.specs.ScenarioLines.{scene_read}
 use Rattle.wrp_sim.specs.SimAt.{SimAt, new_sim}
 use Rattle.wrp_sim.specs.SimRun.{Gives}
-use Rattle.wrp_run.specs.Simulates.{Changes, IsScenario, IsSimulated, SimAccepts, Simulates, event_limit, simulation_of}
+use Rattle.wrp_simulate.specs.Simulates.{Changes, IsScenario, IsSimulated, SimAccepts, Simulates, event_limit, simulation_of}
 use Rattle.wrp_trace.specs.LineSetting.{line_setting_in}
-use Rattle.wrp_run.specs.DownLaw.{law_at}
-use Rattle.wrp_run.specs.SimText.{sim_lines, sum_lines}
+use Rattle.wrp_replay.specs.DownLaw.{law_at}
+use Rattle.wrp_simulate.specs.SimText.{sim_lines, sum_lines}
 use Rattle.wrp_due.proofs.Arriving.{next_arrival}
 use Rattle.wrp_due.proofs.Happening.{event_answered, event_said}
 use Rattle.wrp_due.proofs.LinesAnswered.{Ends, GoesOn, IsTotal, Refused, lines_answered}

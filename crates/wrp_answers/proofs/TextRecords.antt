@@ -5,7 +5,7 @@ use Rattle.std.proofs.lemmas.Bool.{cases_Bool, eqb-true, true≢false}
 use Rattle.wrp_records.proofs.Feeds.{lines_of-whole}
 use Rattle.wrp_records.proofs.Reaching.{lines_behind}
 use Rattle.wrp_records.specs.Lines.{HasNoFeed, IsWhole, lines_of, onto}
-use Rattle.wrp_run.specs.Input.{before_separator, behind_separator, is_separator, network_text}
+use Rattle.wrp_asked.specs.Input.{before_separator, behind_separator, is_separator, network_text}
 use Rattle.wrp_answers.specs.LoopAgain.{EndsLine, TextWithRecords, with_records}
 
 -- Lines of octets: each is whole, but that the last may lack its LF

@@ -13,12 +13,12 @@ use Rattle.wrp_records.specs.Stream.{IsWithin, number_limit}
 use Rattle.wrp_sim.specs.Scenario.{SceneAt}
 use Rattle.wrp_sim.specs.SimAt.{SimAt}
 use Rattle.wrp_trace.specs.Events.{event_read}
-use Rattle.wrp_run.specs.Answer.{Answer}
-use Rattle.wrp_run.specs.Audited.{AllHeard, AreEvents, IsAudit, IsSettingOf, answers_in}
-use Rattle.wrp_run.specs.AuditText.{all_counts, audit_lines}
-use Rattle.wrp_run.specs.Input.{behind_separator, network_text}
-use Rattle.wrp_run.specs.Simulates.{IsScenario, IsSimulated}
-use Rattle.wrp_run.specs.Tasks.{AsksFor, Audit}
+use Rattle.wrp_asked.specs.Answer.{Answer}
+use Rattle.wrp_audit.specs.Audited.{AllHeard, AreEvents, IsAudit, IsSettingOf, answers_in}
+use Rattle.wrp_audit.specs.AuditText.{all_counts, audit_lines}
+use Rattle.wrp_asked.specs.Input.{behind_separator, network_text}
+use Rattle.wrp_simulate.specs.Simulates.{IsScenario, IsSimulated}
+use Rattle.wrp_asked.specs.Tasks.{AsksFor, Audit}
 
 -- the line says an event that keeps all premises behind those that the lines before it say
 abbrev pub IsAccepted : Setting → List (List ℕ) → List ℕ → Type 0

@@ -4,13 +4,13 @@ use Rattle.wrp_course.specs.Setting.{Setting}
 use Rattle.wrp_records.specs.Lines.{content_of, lines_of}
 use Rattle.wrp_records.specs.declared.status.Status.{Status}
 use Rattle.wrp_due.specs.Due.{HasAnswer}
-use Rattle.wrp_run.specs.declared.alone.Alone.{Alone}
-use Rattle.wrp_run.specs.Alone.{alone_meaning}
-use Rattle.wrp_run.specs.Answer.{Answer}
-use Rattle.wrp_run.specs.Input.{behind_separator, network_text}
-use Rattle.wrp_run.specs.Replays.{meaning_of}
-use Rattle.wrp_run.specs.Simulates.{IsScenario}
-use Rattle.wrp_run.specs.Tasks.{AsksFor, Loop}
+use Rattle.wrp_asked.specs.declared.alone.Alone.{Alone}
+use Rattle.wrp_asked.specs.Alone.{alone_meaning}
+use Rattle.wrp_asked.specs.Answer.{Answer}
+use Rattle.wrp_asked.specs.Input.{behind_separator, network_text}
+use Rattle.wrp_replay.specs.Replays.{meaning_of}
+use Rattle.wrp_simulate.specs.Simulates.{IsScenario}
+use Rattle.wrp_asked.specs.Tasks.{AsksFor, Loop}
 use Rattle.wrp_sim.specs.Scenario.{SceneAt}
 use Rattle.wrp_trace.specs.LineSetting.{LineSetting}
 

@@ -7,9 +7,9 @@ use Rattle.wrp_projection.specs.Law.{HasRecords}
 use Rattle.wrp_projection.specs.Projection.{IsProjectionTo}
 use Rattle.wrp_records.specs.declared.status.Status.TheVariants.{Done}
 use Rattle.wrp_records.specs.Lines.{lines_of}
-use Rattle.wrp_run.specs.Answer.{Answer}
-use Rattle.wrp_run.specs.Input.{network_text}
-use Rattle.wrp_run.specs.Tasks.{IsAuditing, IsEmission, IsReplay}
+use Rattle.wrp_asked.specs.Answer.{Answer}
+use Rattle.wrp_asked.specs.Input.{network_text}
+use Rattle.wrp_asked.specs.Tasks.{IsAuditing, IsEmission, IsReplay}
 
 -- the text describes a network with a node of this name
 pub record IsListed (text name : List ℕ) : Type 0 where

@@ -7,10 +7,10 @@ use Rattle.wrp_loop.specs.LoopText.{forged_lines, marked_in, others_in}
 use Rattle.wrp_projection.specs.Law.{HasRecords}
 use Rattle.wrp_records.specs.declared.status.Status.TheVariants.{Done}
 use Rattle.wrp_records.specs.Lines.{lines_of}
-use Rattle.wrp_run.specs.Answer.{Answer}
-use Rattle.wrp_run.specs.Input.{network_text}
-use Rattle.wrp_run.specs.LoopHeadline.{LoopOf}
-use Rattle.wrp_run.specs.Tasks.{IsAuditing, IsLooping}
+use Rattle.wrp_asked.specs.Answer.{Answer}
+use Rattle.wrp_asked.specs.Input.{network_text}
+use Rattle.wrp_asked.specs.LoopHeadline.{LoopOf}
+use Rattle.wrp_asked.specs.Tasks.{IsAuditing, IsLooping}
 
 -- the lines of these octets that begin with `= `, without these two octets, each with its LF
 abbrev pub event_records : List ℕ → List ℕ

@@ -4,8 +4,8 @@ use Rattle.std.specs.List.{AllByRecursion}
 use Rattle.wrp_records.specs.declared.status.Status.{Status}
 use Rattle.wrp_records.specs.Lines.{lines_of}
 use Rattle.wrp_records.specs.Words.{line_of}
-use Rattle.wrp_run.specs.AuditText.{given_lines}
-use Rattle.wrp_run.specs.EmitHeadline.{InputsOf}
+use Rattle.wrp_audit.specs.AuditText.{given_lines}
+use Rattle.wrp_asked.specs.EmitHeadline.{InputsOf}
 
 -- the line is not NODE TICK KIND and more, as that of each output of a node is
 abbrev pub TellsNoOutput : List ℕ → Type 0

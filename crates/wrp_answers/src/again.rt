@@ -1,9 +1,9 @@
 //! The law of loops and audits: what a run over a link printed of its events is a trace of them.
 ghost use Rattle.wrp_answers.specs.LoopAgain.{LoopIsAuditedAgain, TextWithRecords};
 
+use wrp_asked::looped_events_carry_parts;
 use wrp_config::reading_is_accepted;
 use wrp_loop::loop_is_audited;
-use wrp_run::looped_events_carry_parts;
 
 /// Where a run over a link is due to end with Done, the lines that it printed of its events, without `= `, behind
 /// its network text and `---`, are the records of an audit that is due to end with Done too, and to write the other

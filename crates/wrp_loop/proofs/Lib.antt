@@ -23,4 +23,3 @@ pub mod Searching
 pub mod Standing
 pub mod Told
 pub mod Ways
-pub mod Worlds

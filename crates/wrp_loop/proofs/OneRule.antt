@@ -14,7 +14,7 @@ use Rattle.wrp_course.specs.declared.event.Event.TheVariants.{Pass}
 use Rattle.wrp_course.specs.Setting.{Setting, node_setting_of, links_of, nodes_of}
 use Rattle.wrp_course.specs.Views.{IsNextArrival, IsNoSooner}
 use Rattle.wrp_course.specs.WorldAt.{WorldAt}
-use Rattle.wrp_loop.proofs.Worlds.{Alike, locked_same, state_same, with_all}
+use Rattle.wrp_audit.proofs.OneWorld.{Alike, locked_same, state_same, with_all}
 
 -- The frame that is due first
 

@@ -28,7 +28,7 @@ use Rattle.wrp_loop.specs.LoopText.{loop_lines, marked_line, step_lines, steps_l
 use Rattle.wrp_loop.proofs.Choices.{choice_of, choice_same, one_chosen}
 use Rattle.wrp_loop.proofs.OneRule.{gives_one}
 use Rattle.wrp_loop.proofs.Receptions.{same_taken, tails}
-use Rattle.wrp_loop.proofs.Worlds.{Alike, SameEvents, alike_after, answers_of, before_newest, steps_after}
+use Rattle.wrp_audit.proofs.OneWorld.{Alike, SameEvents, alike_after, answers_of, before_newest, steps_after}
 
 -- What is told of events
 

@@ -25,27 +25,27 @@ use Rattle.wrp_course.specs.Run.{Happened, world_after}
 use Rattle.wrp_course.specs.Setting.{Setting}
 use Rattle.wrp_course.specs.WorldAt.{WorldAt}
 use Rattle.wrp_records.specs.declared.status.Status.TheVariants.{Done}
-use Rattle.wrp_run.specs.Answer.{Answer}
-use Rattle.wrp_run.specs.Audited.{AreEvents, IsAudit, IsSettingOf, setting_at}
-use Rattle.wrp_run.specs.AuditLaws.{OneAudit}
-use Rattle.wrp_run.specs.AuditText.{all_counts, audit_lines, given_lines}
-use Rattle.wrp_run.specs.DownLaw.{node_setting_at, law_at}
-use Rattle.wrp_run.specs.Input.{behind_separator, network_limit, network_text}
+use Rattle.wrp_asked.specs.Answer.{Answer}
+use Rattle.wrp_audit.specs.Audited.{AreEvents, IsAudit, IsSettingOf, setting_at}
+use Rattle.wrp_audit.specs.AuditLaws.{OneAudit}
+use Rattle.wrp_audit.specs.AuditText.{all_counts, audit_lines, given_lines}
+use Rattle.wrp_replay.specs.DownLaw.{node_setting_at, law_at}
+use Rattle.wrp_asked.specs.Input.{behind_separator, network_limit, network_text}
 use Rattle.wrp_records.specs.Lines.{content_of, lines_of}
-use Rattle.wrp_run.specs.NodeText.{node_counts}
+use Rattle.wrp_replay.specs.NodeText.{node_counts}
 use Rattle.wrp_records.specs.RecordsAnswer.{IsWholly, RecordsAnswer}
-use Rattle.wrp_run.specs.Replays.{Accepts, AreInputs, Closes, IsNetworkOf, meaning_of}
-use Rattle.wrp_run.specs.declared.command_line.Form.TheVariants as forms
-use Rattle.wrp_run.specs.Tasks.{AsksFor, Audit, Emit, IsAuditing, IsEmission, IsReplay, Loop, Replay, Simulate, Task, meaning_at}
-use Rattle.wrp_run.proofs.AuditSteps.{made_after}
-use Rattle.wrp_run.proofs.BareAudit.{after_bare, bare_is, bare_setting}
-use Rattle.wrp_run.proofs.BareEvents.{line_bare}
-use Rattle.wrp_run.proofs.BareRuns.{counts_text, inputs_text, lines_text, run_bare}
-use Rattle.wrp_run.proofs.BareSetting.{name_bare, named_bare, read_bare}
-use Rattle.wrp_run.proofs.OneAnswer.{one_setting}
-use Rattle.wrp_run.proofs.OneAudit.{read}
+use Rattle.wrp_replay.specs.Replays.{Accepts, AreInputs, Closes, IsNetworkOf, meaning_of}
+use Rattle.wrp_asked.specs.declared.command_line.Form.TheVariants as forms
+use Rattle.wrp_asked.specs.Tasks.{AsksFor, Audit, Emit, IsAuditing, IsEmission, IsReplay, Loop, Replay, Simulate, Task, meaning_at}
+use Rattle.wrp_audit.proofs.AuditSteps.{made_after}
+use Rattle.wrp_audit.proofs.BareAudit.{after_bare, bare_is, bare_setting}
+use Rattle.wrp_simulate.proofs.BareEvents.{line_bare}
+use Rattle.wrp_simulate.proofs.BareRuns.{counts_text, inputs_text, lines_text, run_bare}
+use Rattle.wrp_replay.proofs.BareSetting.{name_bare, named_bare, read_bare}
+use Rattle.wrp_asked.proofs.OneAnswer.{one_setting}
+use Rattle.wrp_audit.proofs.OneAudit.{read}
 use Rattle.wrp_records.proofs.Reaching.{lines_alone}
-use Rattle.wrp_run.proofs.WordLemmas.{alone_no_audit, alone_unnetworked, audit_alone, audit_unlooped, emission_alone, emission_unlooped, no_option, no_simulation, one_value, simulation_alone}
+use Rattle.wrp_asked.proofs.WordLemmas.{alone_no_audit, alone_unnetworked, audit_alone, audit_unlooped, emission_alone, emission_unlooped, no_option, no_simulation, one_value, simulation_alone}
 use Rattle.wrp_projection.specs.Law.{FrontWithRecords, HasRecords, ReplayOfEmittedInputs}
 use Rattle.wrp_projection.specs.Projection.{IsProjection, IsProjectionTo}
 use Rattle.wrp_projection.proofs.Own.{audit_is, given_are, own_lines, put_out_by}

@@ -30,7 +30,7 @@ use Rattle.wrp_node.specs.NodeAt.{NodeAt}
 use Rattle.wrp_trace.specs.LineSetting.{LineSetting, has_port}
 use Rattle.wrp_course.specs.Setting.{from_on}
 use Rattle.wrp_records.specs.Lines.{IsWhole, lines_of}
-use Rattle.wrp_run.specs.NodeText.{node_counts, nonzero_line, port_counts, port_numbers}
+use Rattle.wrp_replay.specs.NodeText.{node_counts, nonzero_line, port_counts, port_numbers}
 use Rattle.wrp_records.proofs.Reaching.{lines_alone}
 use Rattle.wrp_projection.specs.Projection.{IsProjection, PutOut, audit_line, begins_with, lines_of_node, node_of, of_node, replay_line, without_truth, words_of}
 use Rattle.wrp_projection.proofs.Texts.{AreWords, IsWord, cut_back, decimal_word, hex_word, line_whole, link_is_word, name_word, reason_is_word, servo_is_word, signed_word, words_back}

@@ -19,13 +19,13 @@ use Rattle.wrp_trace.specs.Inputs.{input_of, read_of}
 use Rattle.wrp_trace.specs.Printing.{line_of}
 use Rattle.wrp_fields.specs.Reading.{is_plain, is_plain_octet}
 use Rattle.wrp_trace.specs.LineSetting.{LineSetting}
-use Rattle.wrp_run.specs.DownLaw.{law_at, node_setting_at}
+use Rattle.wrp_replay.specs.DownLaw.{law_at, node_setting_at}
 use Rattle.wrp_records.specs.Lines.{HasNoFeed, IsWhole, content_of, without_return}
-use Rattle.wrp_run.specs.NodeText.{Writes, output_lines}
-use Rattle.wrp_run.specs.Replays.{AreInputs}
+use Rattle.wrp_replay.specs.NodeText.{Writes, output_lines}
+use Rattle.wrp_replay.specs.Replays.{AreInputs}
 use Rattle.wrp_records.specs.Stream.{IsWithin}
 use Rattle.wrp_records.proofs.LineEnds.{content_whole, whole_within}
-use Rattle.wrp_run.proofs.OneReplay.{one_more}
+use Rattle.wrp_replay.proofs.OneReplay.{one_more}
 
 -- the record lines of these inputs, which stand newest first, and what they say
 abbrev pub record_of : LineSetting → Taken → List ℕ

@@ -2,10 +2,10 @@
 -- lines of the audit again (this project's profile).
 use Rattle.std.specs.Prelude.{◌≡◌, ℕ, ◌<◌, ◌^◌, List, [], ◌++◌, length}
 use Rattle.wrp_records.specs.declared.status.Status.TheVariants.{Done}
-use Rattle.wrp_run.specs.Answer.{Answer}
-use Rattle.wrp_run.specs.Input.{Divides, network_text, behind_separator}
+use Rattle.wrp_asked.specs.Answer.{Answer}
+use Rattle.wrp_asked.specs.Input.{Divides, network_text, behind_separator}
 use Rattle.wrp_records.specs.Lines.{lines_of}
-use Rattle.wrp_run.specs.Tasks.{IsAuditing, IsEmission, IsReplay}
+use Rattle.wrp_asked.specs.Tasks.{IsAuditing, IsEmission, IsReplay}
 use Rattle.wrp_projection.specs.Projection.{IsProjectionTo}
 
 -- an input with the network text of another, and with these records

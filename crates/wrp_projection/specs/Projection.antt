@@ -12,8 +12,8 @@ use Rattle.wrp_node.specs.NodeAt.{NodeAt}
 use Rattle.wrp_trace.specs.LineSetting.{LineSetting}
 use Rattle.wrp_course.specs.Setting.{from_on}
 use Rattle.wrp_records.specs.Lines.{content_of, lines_of}
-use Rattle.wrp_run.specs.NodeText.{node_counts}
-use Rattle.wrp_run.specs.Replays.{IsNetworkOf}
+use Rattle.wrp_replay.specs.NodeText.{node_counts}
+use Rattle.wrp_replay.specs.Replays.{IsNetworkOf}
 
 -- By the octets alone
 

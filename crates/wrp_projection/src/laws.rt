@@ -2,9 +2,9 @@
 //! they stand on.
 ghost use Rattle.wrp_projection.specs.Law.{FrontWithRecords, ReplayOfEmittedInputs};
 
+use wrp_audit::one_audit;
 use wrp_config::reading_is_accepted;
 use wrp_recorded::inputs_are_recorded;
-use wrp_run::one_audit;
 
 /// Where an audit of an input is due to end with Done, and so is `audit --emit NODE` with fewer than
 /// 2^32 records, then `replay --node NODE` of the same network text, `---` and these records is due to

@@ -1,23 +1,38 @@
--- What the words of an audit and of a simulation ask for.
-use Rattle.std.proofs.Common.{◌≡◌, ◌∙◌, refl, sym, ap, subst, inl, inr, ℕ, ◌<◌, ◌≤◌, None, Some, Ok, List, length}
+-- What the words ask for, and the words of an audit and of a simulation.
+use Rattle.std.proofs.Common.{◌≡◌, ◌∙◌, refl, sym, ap, subst, inl, inr, ℕ, ◌<◌, ◌≤◌, Option, None, Some, Ok, List, [], length}
 use Rattle.wrp_config.specs.declared.network.Network.{Network}
 use Rattle.wrp_base.specs.declared.configuration.NetCfg.{NetCfg}
 use Rattle.wrp_base.specs.Network.{node_count}
 use Rattle.wrp_config.proofs.Bare.{count_bare}
 use Rattle.wrp_config.specs.Names.{node_named}
+use Rattle.wrp_audit.specs.Audits.{meaning_for}
 use Rattle.wrp_config.specs.Reading.{IsReadingOf}
 use Rattle.wrp_config.specs.Same.{IsSameNetwork, bare_cfg}
+use Rattle.wrp_course.specs.Setting.{Setting}
+use Rattle.wrp_records.specs.LineMeaning.{LineMeaning}
+use Rattle.wrp_sim.specs.Scenario.{new_scene}
 use Rattle.wrp_run.specs.declared.network.Work.{Work}
 use Rattle.wrp_run.specs.declared.network.Work.TheVariants as works
-use Rattle.wrp_run.specs.declared.parse.Asked.{Asked}
-use Rattle.wrp_run.specs.declared.parse.Asked.TheVariants as asked
-use Rattle.wrp_run.specs.Answer.{IsNetworked}
-use Rattle.wrp_run.specs.Asked.{AsksWork, FitsWork, task_by}
-use Rattle.wrp_run.specs.AuditStands.{setting_in}
-use Rattle.wrp_run.specs.CommandLine.{IsAsked}
-use Rattle.wrp_run.specs.Input.{network_limit}
-use Rattle.wrp_run.specs.Tasks.{AsksFor}
-use Rattle.wrp_run.proofs.BareSetting.{named_bare}
+use Rattle.wrp_asked.specs.declared.parse.Asked.{Asked}
+use Rattle.wrp_asked.specs.declared.parse.Asked.TheVariants as asked
+use Rattle.wrp_asked.specs.declared.parse.Command.{Command}
+use Rattle.wrp_asked.specs.declared.parse.Command.TheVariants as command
+use Rattle.wrp_asked.specs.Answer.{IsNetworked}
+use Rattle.wrp_run.specs.Asked.{AsksSo, AsksWork, FitsWork, task_by, task_of}
+use Rattle.wrp_audit.specs.AuditStands.{setting_in}
+use Rattle.wrp_asked.specs.CommandLine.{IsAsked, IsCommandOf}
+use Rattle.wrp_asked.specs.Input.{network_limit}
+use Rattle.wrp_asked.specs.Tasks.{AsksFor, meaning_at}
+use Rattle.wrp_asked.proofs.WordLemmas.{asks_nothing}
+use Rattle.wrp_audit.proofs.AuditSteps.{nothing_accepted}
+use Rattle.wrp_replay.proofs.BareSetting.{named_bare}
+
+-- what is asked for, by the command that the words are
+pub asks_so : (words : List (List ℕ)) (found : Option Command) → IsCommandOf words found → AsksSo words found
+asks_so words None never = asks_nothing words never
+asks_so words (Some (command.OnNetwork what)) is = is
+asks_so words (Some (command.Alone alone)) is = is
+asks_so words (Some (command.Loop seed)) is = is
 
 -- the work that the words ask for is their task
 pub work_task : (words : List (List ℕ)) (text : List ℕ) (work : Work) (net : Network) → AsksWork words net work → length text ≤ network_limit → IsReadingOf text (Ok net)
@@ -54,3 +69,14 @@ fits_same net own (works.Audit (Some n)) same fits =
     let count : node_count net.cfg ≡ node_count own.cfg = sym (count_bare net.cfg) ∙ ap node_count same.0 ∙ count_bare own.cfg in
     subst (λ (k : ℕ). n < k) count fits
 fits_same net own (works.Simulate seed) same fits = tt
+
+-- what its lines mean
+
+pub means_events : (emit : Option ℕ) (s : Setting) → meaning_at (task_of emit s) ≡ meaning_for emit s
+means_events None s = refl
+means_events (Some n) s = refl
+
+-- behind no record lines nothing is written
+pub nothing_done : (work : Work) (s : Setting) → (meaning_at (task_by work s)).accepts [] []
+nothing_done (works.Audit emit) s = subst (λ (m : LineMeaning). m.accepts [] []) (sym (means_events emit s)) (nothing_accepted emit s)
+nothing_done (works.Simulate seed) s = (new_scene s.cfg, refl, refl)

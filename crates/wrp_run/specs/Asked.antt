@@ -7,16 +7,15 @@ use Rattle.wrp_config.specs.Names.{node_named}
 use Rattle.wrp_config.specs.Reading.{IsReadingOf}
 use Rattle.wrp_course.specs.Setting.{Setting}
 use Rattle.wrp_records.specs.Reader.{ReaderAt}
-use Rattle.wrp_run.specs.declared.parse.Command.{Command}
-use Rattle.wrp_run.specs.declared.parse.Command.TheVariants as command
+use Rattle.wrp_asked.specs.declared.parse.Command.{Command}
+use Rattle.wrp_asked.specs.declared.parse.Command.TheVariants as command
 use Rattle.wrp_run.specs.declared.network.Work as work
 use Rattle.wrp_run.specs.declared.network.Work.TheVariants as works
-use Rattle.wrp_run.specs.Alone.{IsAlone}
-use Rattle.wrp_run.specs.Answer.{IsCommand}
-use Rattle.wrp_run.specs.AuditStands.{task_of}
-use Rattle.wrp_run.specs.CommandLine.{IsAsked}
-use Rattle.wrp_run.specs.Input.{IsDivided, network_limit}
-use Rattle.wrp_run.specs.Tasks.{Task, Simulate, IsAuditing, IsEmission, IsLooping, IsSimulation}
+use Rattle.wrp_asked.specs.Alone.{IsAlone}
+use Rattle.wrp_asked.specs.Answer.{IsCommand}
+use Rattle.wrp_asked.specs.CommandLine.{IsAsked}
+use Rattle.wrp_asked.specs.Input.{IsDivided, network_limit}
+use Rattle.wrp_asked.specs.Tasks.{Task, Audit, Emit, Simulate, IsAuditing, IsEmission, IsLooping, IsSimulation}
 
 -- the words are this command, or none
 abbrev pub AsksSo : List (List ℕ) → Option Command → Type 0
@@ -37,7 +36,11 @@ abbrev pub FitsWork : Network → work.Work → Type 0
 FitsWork net (works.Audit emit) = IfSome emit (λ n. n < node_count net.cfg)
 FitsWork net (works.Simulate seed) = Unit {0}
 
--- the task of a work
+-- the task of a work: the inputs of a node, where they are asked for, or else the lines of all; or a simulation
+abbrev pub task_of : Option ℕ → Setting → Task
+task_of None s = Audit s
+task_of (Some n) s = Emit s n
+
 abbrev pub task_by : work.Work → Setting → Task
 task_by (works.Audit emit) s = task_of emit s
 task_by (works.Simulate seed) s = Simulate s seed

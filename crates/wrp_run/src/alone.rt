@@ -1,13 +1,13 @@
-//! Commands that stand alone: each has its word and its machine here, and its row in `specs/Alone.antt`.
-ghost use Rattle.std.specs.Prelude.{MatchOption};
+//! Commands that stand alone: each is handed to its machine.
 ghost use Rattle.wrp_records.specs.declared.status.Status.{Status};
 ghost use Rattle.wrp_records.specs.Passages.{FailsBy, PassesAll, passage};
-ghost use Rattle.wrp_run.specs.declared.alone.Alone.{Alone};
-ghost use Rattle.wrp_run.specs.Alone.{IsAlone, alone_meaning};
-ghost use Rattle.wrp_run.specs.Ends.{EndsUnlinked};
-ghost use Rattle.wrp_run.specs.Words.{texts_of};
+ghost use Rattle.wrp_asked.specs.declared.alone.Alone.{Alone};
+ghost use Rattle.wrp_asked.specs.Alone.{IsAlone, alone_meaning};
+ghost use Rattle.wrp_asked.specs.Ends.{EndsUnlinked};
+ghost use Rattle.wrp_asked.specs.Words.{texts_of};
 
 use std::alloc::Global;
+use wrp_asked::Alone;
 use wrp_calib::calibrate;
 use wrp_io::{Sink, Source};
 use wrp_l1sync::l1sync;
@@ -15,37 +15,6 @@ use wrp_migrate::migrate;
 use wrp_pcap::inspect;
 use wrp_plain::lines::plain;
 use wrp_records::Status;
-
-/// A command that stands alone: its word is its line, and no network text stands in front of its records.
-#[derive(Clone, Copy, Debug, PartialEq, Eq)]
-pub enum Alone {
-    /// `migrate`.
-    Migrate,
-    /// `inspect`.
-    Inspect,
-    /// `l1sync`.
-    L1Sync,
-    /// `calibrate`.
-    Calibrate,
-    /// `plain`.
-    Plain,
-}
-
-/// The command that stands alone whose word the words are, or None where they are none of these.
-pub fn alone_of(words: &[&str]) -> Option<Alone>
-    ensures { MatchOption result
-        ((alone : Alone) → IsAlone (texts_of words.now) alone → ⊥)
-        (IsAlone (texts_of words.now)) }
-{
-    match words {
-        ["migrate"] => Some(Alone::Migrate),
-        ["inspect"] => Some(Alone::Inspect),
-        ["l1sync"] => Some(Alone::L1Sync),
-        ["calibrate"] => Some(Alone::Calibrate),
-        ["plain"] => Some(Alone::Plain),
-        _ => None,
-    }
-}
 
 // Hands the source and the sink to the command's machine.
 fn handle<S: Source, K: Sink>(alloc: Global, alone: Alone, source: &mut S, sink: &mut K) -> Status

@@ -7,28 +7,28 @@ ghost use Rattle.wrp_loop.specs.Calls.{Adds};
 ghost use Rattle.wrp_records.specs.declared.status.Status.{Status};
 ghost use Rattle.wrp_records.specs.Passages.{FailsBy, passage};
 ghost use Rattle.wrp_records.specs.Statuses.{is_answer};
-ghost use Rattle.wrp_run.specs.declared.alone.Alone.{Alone};
-ghost use Rattle.wrp_run.specs.Alone.{HasAim, IsAlone};
-ghost use Rattle.wrp_run.specs.Answer.{Answer, IsCommand};
+ghost use Rattle.wrp_asked.specs.declared.alone.Alone.{Alone};
+ghost use Rattle.wrp_asked.specs.Alone.{HasAim, IsAlone};
+ghost use Rattle.wrp_asked.specs.Answer.{Answer, IsCommand};
 ghost use Rattle.wrp_run.specs.Asked.{AsksSo};
-ghost use Rattle.wrp_run.specs.EmitHeadline.{EmitHeadline};
-ghost use Rattle.wrp_run.specs.Ends.{Ends, IsToldOf, IsUncalled};
-ghost use Rattle.wrp_run.specs.Headline.{Headline};
-ghost use Rattle.wrp_run.specs.LoopHeadline.{LoopHeadline};
-ghost use Rattle.wrp_run.specs.SimHeadline.{SimHeadline};
-ghost use Rattle.wrp_run.specs.Tasks.{IsAuditing, IsEmission, IsLooping, IsSimulation};
-ghost use Rattle.wrp_run.specs.Words.{texts_of};
+ghost use Rattle.wrp_asked.specs.EmitHeadline.{EmitHeadline};
+ghost use Rattle.wrp_asked.specs.Ends.{Ends, IsToldOf};
+ghost use Rattle.wrp_simulate.specs.LoopPasses.{IsUncalled};
+ghost use Rattle.wrp_asked.specs.Headline.{Headline};
+ghost use Rattle.wrp_asked.specs.LoopHeadline.{LoopHeadline};
+ghost use Rattle.wrp_asked.specs.SimHeadline.{SimHeadline};
+ghost use Rattle.wrp_asked.specs.Tasks.{IsAuditing, IsEmission, IsLooping, IsSimulation};
+ghost use Rattle.wrp_asked.specs.Words.{texts_of};
 
 use crate::alone::run_alone;
-use crate::audits::{
-    emissions_tell_no_track, events_carry_parts, looped_events_carry_parts,
-    made_events_carry_parts, one_audit,
-};
 use crate::looped::run_loop;
 use crate::network::run_network;
-use crate::parse::{Command, read_words};
-use crate::refusals::USAGE_LINE;
 use std::alloc::{AllocError, Global};
+use wrp_asked::{
+    Command, USAGE_LINE, emissions_tell_no_track, events_carry_parts, looped_events_carry_parts,
+    made_events_carry_parts, read_words,
+};
+use wrp_audit::one_audit;
 use wrp_io::{Link, Sink, Source};
 use wrp_loop::loop_is_audited;
 use wrp_node::one_run;

@@ -5,13 +5,13 @@ ghost use Rattle.wrp_config.specs.Accepted.{IsAccepted};
 ghost use Rattle.wrp_config.specs.Reading.{IsReadingOf};
 ghost use Rattle.wrp_records.specs.declared.status.Status.{Status};
 ghost use Rattle.wrp_records.specs.Passages.{FailsBy, passage};
-ghost use Rattle.wrp_run.specs.Answer.{IsNetworked};
+ghost use Rattle.wrp_asked.specs.Answer.{IsNetworked};
 ghost use Rattle.wrp_run.specs.Asked.{IsFront};
-ghost use Rattle.wrp_run.specs.Ends.{EndsUnlinked};
-ghost use Rattle.wrp_run.specs.Words.{texts_of};
+ghost use Rattle.wrp_asked.specs.Ends.{EndsUnlinked};
+ghost use Rattle.wrp_asked.specs.Words.{texts_of};
 
-use crate::network_text::{End, NetworkText, take_network};
 use std::alloc::{AllocError, Global};
+use wrp_asked::{End, NetworkText, take_network};
 use wrp_base::ConfFault;
 use wrp_config::Network;
 use wrp_io::{Sink, Source};

@@ -11,29 +11,25 @@ ghost use Rattle.wrp_law.specs.LinkLaw.{IsSound, down_of, error_of, kind_of, lea
 ghost use Rattle.wrp_records.specs.declared.status.Status.{Status};
 ghost use Rattle.wrp_records.specs.ByLines.{of_lines};
 ghost use Rattle.wrp_records.specs.Passages.{FailsBy, Passes, passage};
-ghost use Rattle.wrp_run.specs.Answer.{IsOfNode};
+ghost use Rattle.wrp_asked.specs.Answer.{IsOfNode};
 ghost use Rattle.wrp_run.specs.Asked.{AsksWork, FitsWork, IsFront, task_by};
-ghost use Rattle.wrp_run.specs.AuditStands.{setting_in};
-ghost use Rattle.wrp_run.specs.CommandLine.{IsAsked};
-ghost use Rattle.wrp_run.specs.Ends.{EndsUnlinked, begun_at};
-ghost use Rattle.wrp_run.specs.LawsFit.{LawsFit};
-ghost use Rattle.wrp_run.specs.Tasks.{IsReplay, meaning_at};
-ghost use Rattle.wrp_run.specs.Words.{texts_of};
+ghost use Rattle.wrp_audit.specs.AuditStands.{setting_in};
+ghost use Rattle.wrp_asked.specs.CommandLine.{IsAsked};
+ghost use Rattle.wrp_asked.specs.Ends.{EndsUnlinked, begun_at};
+ghost use Rattle.wrp_audit.specs.LawsFit.{LawsFit};
+ghost use Rattle.wrp_asked.specs.Tasks.{IsReplay, meaning_at};
+ghost use Rattle.wrp_asked.specs.Words.{texts_of};
 
-use crate::audit_counts::count_of;
-use crate::auditing::audit_by;
 use crate::front::{Front, new_reader, read_network, take_front};
-use crate::law::{asked, kept_if, law_above};
-use crate::parse::Asked;
-use crate::refusals::USAGE_LINE;
-use crate::replayed::Replayed;
-use crate::replaying::replay;
-use crate::simulating::simulate;
 use std::alloc::Global;
+use wrp_asked::{Asked, USAGE_LINE};
+use wrp_audit::{audit_by, count_of};
 use wrp_config::Network;
 use wrp_io::{Sink, Source};
 use wrp_law::DelayLaw;
 use wrp_records::{Reader, Status, answer, refuse_network};
+use wrp_replay::{Replayed, asked, kept_if, law_above, replay};
+use wrp_simulate::simulate;
 
 /// What is done on a whole network.
 #[derive(Clone, Copy, Debug, PartialEq, Eq)]

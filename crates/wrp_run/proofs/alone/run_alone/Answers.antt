@@ -1,6 +1,6 @@
 -- A run of a command that stands alone ends as its records do.
-use Rattle.wrp_run.specs.Words.{texts_of}
-use Rattle.wrp_run.proofs.Asking.{alone_ends}
+use Rattle.wrp_asked.specs.Words.{texts_of}
+use Rattle.wrp_asked.proofs.Asking.{alone_ends}
 use Rattle.wrp_run.proofs.alone.run_alone.Goals as goal
 
 pub returns-clause-ends : goal.returns-clause-ends

@@ -1,9 +1,9 @@
 -- Words that are no command that is built ask for nothing.
 use Rattle.std.proofs.lemmas.Result.{IfOk-weaker}
 use Rattle.wrp_run.specs.Asked.{AsksSo}
-use Rattle.wrp_run.specs.CommandLine.{IsCommandOf}
-use Rattle.wrp_run.specs.Words.{texts_of}
-use Rattle.wrp_run.proofs.WordLemmas.{asks_so}
+use Rattle.wrp_asked.specs.CommandLine.{IsCommandOf}
+use Rattle.wrp_asked.specs.Words.{texts_of}
+use Rattle.wrp_run.proofs.AskingWork.{asks_so}
 use Rattle.wrp_run.proofs.command.read_command.Goals as goal
 
 pub returns : goal.returns

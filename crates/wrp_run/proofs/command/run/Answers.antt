@@ -1,10 +1,10 @@
 -- What a run answers is what is due.
-use Rattle.wrp_run.proofs.AloneTold.{aimed}
-use Rattle.wrp_run.proofs.EmitTold.{emission_told}
-use Rattle.wrp_run.proofs.HeadlineTold.{headline_told}
-use Rattle.wrp_run.proofs.LoopTold.{looped_told}
-use Rattle.wrp_run.proofs.OneAnswer.{told_one, ends_answered}
-use Rattle.wrp_run.proofs.SimTold.{simulation_told}
+use Rattle.wrp_asked.proofs.AloneTold.{aimed}
+use Rattle.wrp_asked.proofs.EmitTold.{emission_told}
+use Rattle.wrp_asked.proofs.HeadlineTold.{headline_told}
+use Rattle.wrp_asked.proofs.LoopTold.{looped_told}
+use Rattle.wrp_asked.proofs.OneAnswer.{told_one, ends_answered}
+use Rattle.wrp_asked.proofs.SimTold.{simulation_told}
 use Rattle.wrp_run.proofs.command.run.Goals as goal
 
 pub returns-clause-due : goal.returns-clause-due

@@ -4,11 +4,11 @@ use Rattle.std.proofs.KnownBytes.{Appends-nil}
 use Rattle.wrp_records.specs.declared.status.Status.TheVariants.{LinkFault, Usage, WriteFault}
 use Rattle.wrp_records.specs.Passages.{passage}
 use Rattle.wrp_run.specs.Asked.{AsksSo}
-use Rattle.wrp_run.specs.Ends.{Run}
-use Rattle.wrp_run.specs.Words.{texts_of}
-use Rattle.wrp_run.proofs.Asking.{memory_ends, uncalled, usage_ends}
+use Rattle.wrp_asked.specs.Ends.{Run}
+use Rattle.wrp_asked.specs.Words.{texts_of}
+use Rattle.wrp_asked.proofs.Asking.{memory_ends, uncalled, usage_ends}
 use Rattle.wrp_run.proofs.AskingWork.{asked_networked}
-use Rattle.wrp_run.proofs.LoopEnding.{unlinked}
+use Rattle.wrp_asked.proofs.LoopEnding.{unlinked}
 use Rattle.wrp_run.proofs.command.run_command.Goals as goal
 
 pub returns-in-Ok-Some-OnNetwork-clause-ends : goal.returns-in-Ok-Some-OnNetwork-clause-ends

@@ -2,12 +2,12 @@
 use Rattle.std.proofs.Common.{ℕ, List, Ok, Err, subst}
 use Rattle.std.proofs.KnownBytes.{Appends-nil}
 use Rattle.wrp_config.specs.Reading.{IsReadingOf}
-use Rattle.wrp_run.specs.declared.network_text.End.{End}
-use Rattle.wrp_run.specs.Ends.{Run}
-use Rattle.wrp_run.specs.Input.{NetworkOutcome}
+use Rattle.wrp_asked.specs.declared.network_text.End.{End}
+use Rattle.wrp_asked.specs.Ends.{Run}
+use Rattle.wrp_asked.specs.Input.{NetworkOutcome}
 use Rattle.wrp_records.specs.Passages.{passage}
-use Rattle.wrp_run.specs.Words.{texts_of}
-use Rattle.wrp_run.proofs.Asking.{size_ends, refused_ends, network_fails, uncalled}
+use Rattle.wrp_asked.specs.Words.{texts_of}
+use Rattle.wrp_asked.proofs.Asking.{size_ends, refused_ends, network_fails, uncalled}
 use Rattle.wrp_run.proofs.front.take_front.Goals as goal
 
 pub returns-in-TooLong-clause-ends : goal.returns-in-TooLong-clause-ends

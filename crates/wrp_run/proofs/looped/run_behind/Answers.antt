@@ -5,12 +5,12 @@ use Rattle.wrp_config.specs.declared.network.Network.{Network}
 use Rattle.wrp_config.specs.Reading.{IsReadingOf}
 use Rattle.wrp_config.specs.Same.{IsSameNetwork}
 use Rattle.wrp_records.specs.Passages.{passage}
-use Rattle.wrp_run.specs.AuditStands.{setting_in}
-use Rattle.wrp_run.specs.Ends.{Run, begun_at}
-use Rattle.wrp_run.specs.Tasks.{Loop}
-use Rattle.wrp_run.specs.Words.{texts_of}
-use Rattle.wrp_run.proofs.Asking.{TookNetwork, refused_ends, uncalled}
-use Rattle.wrp_run.proofs.LoopEnding.{loop_ends, refused_unlinked, refused_unread}
+use Rattle.wrp_audit.specs.AuditStands.{setting_in}
+use Rattle.wrp_asked.specs.Ends.{Run, begun_at}
+use Rattle.wrp_asked.specs.Tasks.{Loop}
+use Rattle.wrp_asked.specs.Words.{texts_of}
+use Rattle.wrp_asked.proofs.Asking.{TookNetwork, refused_ends, uncalled}
+use Rattle.wrp_asked.proofs.LoopEnding.{loop_ends, refused_unlinked, refused_unread}
 use Rattle.wrp_run.proofs.looped.run_behind.Goals as goal
 
 pub returns-in-Err-clause-ends : goal.returns-in-Err-clause-ends

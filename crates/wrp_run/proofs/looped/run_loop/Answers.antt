@@ -2,9 +2,9 @@
 use Rattle.std.proofs.Common.{refl}
 use Rattle.std.proofs.KnownBytes.{Appends-nil}
 use Rattle.wrp_records.specs.Passages.{passage}
-use Rattle.wrp_run.specs.Ends.{Run}
-use Rattle.wrp_run.specs.Words.{texts_of}
-use Rattle.wrp_run.proofs.Asking.{memory_ends, uncalled}
+use Rattle.wrp_asked.specs.Ends.{Run}
+use Rattle.wrp_asked.specs.Words.{texts_of}
+use Rattle.wrp_asked.proofs.Asking.{memory_ends, uncalled}
 use Rattle.wrp_run.proofs.looped.run_loop.Goals as goal
 
 pub returns-in-Err-clause-ends : goal.returns-in-Err-clause-ends

@@ -2,9 +2,9 @@
 use Rattle.std.proofs.Common.{◌∙◌, inr, refl, ℕ, subst}
 use Rattle.wrp_io.specs.Faults.{Rose}
 use Rattle.wrp_records.specs.Passages.{passage}
-use Rattle.wrp_run.specs.Ends.{Ends}
-use Rattle.wrp_run.specs.Words.{texts_of}
-use Rattle.wrp_run.proofs.LoopEnding.{unlinked}
+use Rattle.wrp_asked.specs.Ends.{Ends}
+use Rattle.wrp_asked.specs.Words.{texts_of}
+use Rattle.wrp_asked.proofs.LoopEnding.{unlinked}
 use Rattle.wrp_run.proofs.looped.run_read.Goals as goal
 
 pub take_front-requires-clause-networked : goal.take_front-requires-clause-networked

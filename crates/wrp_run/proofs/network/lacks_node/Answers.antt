@@ -1,9 +1,9 @@
 -- The network has no node of the name.
 use Rattle.wrp_records.specs.Passages.{passage}
-use Rattle.wrp_run.specs.Answer.{AsksNone}
-use Rattle.wrp_run.specs.Ends.{Run, begun_at}
-use Rattle.wrp_run.specs.Words.{texts_of}
-use Rattle.wrp_run.proofs.Asking.{no_node_ends, uncalled}
+use Rattle.wrp_asked.specs.Answer.{AsksNone}
+use Rattle.wrp_asked.specs.Ends.{Run, begun_at}
+use Rattle.wrp_asked.specs.Words.{texts_of}
+use Rattle.wrp_asked.proofs.Asking.{no_node_ends, uncalled}
 use Rattle.wrp_run.proofs.network.lacks_node.Goals as goal
 
 pub returns-clause-ends : goal.returns-clause-ends

@@ -6,11 +6,11 @@ use Rattle.wrp_trace.specs.LineSetting.{LineSetting, line_setting_of}
 use Rattle.wrp_config.specs.declared.network.Network.{Network}
 use Rattle.wrp_records.specs.ByLines.{of_lines}
 use Rattle.wrp_records.specs.Passages.{Passes, passage}
-use Rattle.wrp_run.specs.Replays.{meaning_of}
-use Rattle.wrp_run.specs.Tasks.{Replay, AsksFor}
-use Rattle.wrp_run.specs.Words.{texts_of}
-use Rattle.wrp_run.proofs.Asking.{TookNetwork, records_end}
-use Rattle.wrp_run.proofs.BareSetting.{bare_setting, named_bare}
+use Rattle.wrp_replay.specs.Replays.{meaning_of}
+use Rattle.wrp_asked.specs.Tasks.{Replay, AsksFor}
+use Rattle.wrp_asked.specs.Words.{texts_of}
+use Rattle.wrp_asked.proofs.Asking.{TookNetwork, records_end}
+use Rattle.wrp_replay.proofs.BareSetting.{bare_setting, named_bare}
 use Rattle.wrp_run.proofs.network.replay_behind.Goals as goal
 
 pub replay-requires-clause-node : goal.replay-requires-clause-node

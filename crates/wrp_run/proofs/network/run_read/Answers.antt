@@ -2,8 +2,8 @@
 use Rattle.std.proofs.Common.{◌∙◌, ℕ, subst}
 use Rattle.wrp_io.specs.Faults.{Rose}
 use Rattle.wrp_records.specs.Passages.{passage}
-use Rattle.wrp_run.specs.Ends.{EndsUnlinked}
-use Rattle.wrp_run.specs.Words.{texts_of}
+use Rattle.wrp_asked.specs.Ends.{EndsUnlinked}
+use Rattle.wrp_asked.specs.Words.{texts_of}
 use Rattle.wrp_run.proofs.AskingWork.{asked_networked}
 use Rattle.wrp_run.proofs.network.run_read.Goals as goal
 

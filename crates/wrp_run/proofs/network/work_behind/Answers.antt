@@ -6,11 +6,11 @@ use Rattle.wrp_config.specs.Reading.{IsReadingOf}
 use Rattle.wrp_config.specs.Same.{IsSameNetwork}
 use Rattle.wrp_records.specs.Passages.{passage}
 use Rattle.wrp_run.specs.Asked.{task_by}
-use Rattle.wrp_run.specs.AuditStands.{setting_in}
-use Rattle.wrp_run.specs.Ends.{Run, begun_at}
-use Rattle.wrp_run.specs.Tasks.{Task}
-use Rattle.wrp_run.specs.Words.{texts_of}
-use Rattle.wrp_run.proofs.Asking.{TookNetwork, records_end, refused_ends, uncalled}
+use Rattle.wrp_audit.specs.AuditStands.{setting_in}
+use Rattle.wrp_asked.specs.Ends.{Run, begun_at}
+use Rattle.wrp_asked.specs.Tasks.{Task}
+use Rattle.wrp_asked.specs.Words.{texts_of}
+use Rattle.wrp_asked.proofs.Asking.{TookNetwork, records_end, refused_ends, uncalled}
 use Rattle.wrp_run.proofs.AskingWork.{asks_same, fits_same, work_networked, work_task}
 use Rattle.wrp_run.proofs.network.work_behind.Goals as goal
 

@@ -1,0 +1,54 @@
+-- The command `plain`.
+use Rattle.std.proofs.Common.{refl, sym, subst, inl, inr, ℕ, List, [], arith}
+use Rattle.wrp_plain.proofs.LinesExact.{exact}
+use Rattle.wrp_plain.proofs.LinesTrue.{records_tell_truth_holds}
+use Rattle.wrp_plain.proofs.OutputTrue.{output_tells_truth_holds}
+use Rattle.wrp_plain.specs.LineCourse.{plain_meaning}
+use Rattle.wrp_plain.specs.LineTruth.{AllAreWithin}
+use Rattle.wrp_records.proofs.Unique.{one_records_answer}
+use Rattle.wrp_records.specs.ByLines.{of_lines}
+use Rattle.wrp_records.specs.Lines.{lines_of}
+use Rattle.wrp_records.specs.declared.status.Status.{Status}
+use Rattle.wrp_records.specs.declared.status.Status.TheVariants.{Done, BadTrace, Broken, TooLarge, ReadFault, OutOfMemory, BadCalib}
+use Rattle.wrp_asked.specs.declared.alone.Alone.TheVariants.{Plain}
+use Rattle.wrp_asked.specs.Alone.{MayAnswer}
+use Rattle.wrp_asked.specs.AloneAims.{BoundsSo, TellsTruly}
+use Rattle.wrp_asked.proofs.AloneCommand.{IsAloneCommand, Leaves}
+
+may : (input : List ℕ) (status : Status) (octets : List ℕ) → (of_lines plain_meaning).answers input [] status octets → MayAnswer Plain status
+may input Done octets at = (0, omega arith, refl)
+may input BadTrace octets at = (1, omega arith, refl)
+may input Broken octets at = (2, omega arith, refl)
+may input TooLarge octets at = (3, omega arith, refl)
+may input BadCalib octets at = absurd at.1.broken
+may input _ octets at = absurd at.1
+
+-- whatever an input has, a plain servo tells the truth
+tells_truly : (input : List ℕ) → TellsTruly input
+tells_truly input first lines rest divided start events course = records_tell_truth_holds first lines start events course
+
+aim : (input : List ℕ) (status : Status) (octets : List ℕ) → Leaves (of_lines plain_meaning) input status octets → BoundsSo input status octets
+aim input ReadFault octets at = let cut = at.cut refl in (output_tells_truth_holds.2 cut.0 octets cut.3, tells_truly input)
+aim input OutOfMemory octets at = (
+  elim (at.first refl) [
+    | inl none ↦ subst AllAreWithin (sym none) tt
+    | inr own ↦ output_tells_truth_holds.1 input own.0 octets own.1
+  ],
+  tells_truly input,
+)
+aim input Done octets at = (output_tells_truth_holds.0 input [] Done octets (at.answer refl), tells_truly input)
+aim input BadTrace octets at = (output_tells_truth_holds.0 input [] BadTrace octets (at.answer refl), tells_truly input)
+aim input Broken octets at = (output_tells_truth_holds.0 input [] Broken octets (at.answer refl), tells_truly input)
+aim input TooLarge octets at = (output_tells_truth_holds.0 input [] TooLarge octets (at.answer refl), tells_truly input)
+aim input _ octets at = tells_truly input
+
+pub facts : IsAloneCommand Plain
+facts = record {
+  found = refl;
+  one = λ input calls s t o u p q. one_records_answer plain_meaning exact (lines_of input) s t o u p.1 q.1;
+  uncalled = λ input calls status octets at. at.0;
+  unlinked = λ input octets at. at;
+  no_usage = λ input octets at. at.1;
+  may = may;
+  aim = aim;
+}

@@ -1,0 +1,242 @@
+-- No line that an emission prints begins as that of an estimate in TRACK does: the lines of inputs are one word, and the third
+-- word of each other line begins with a digit, a capital or an `a`.
+use Rattle.std.proofs.Common.{◌≡◌, ◌⊎◌, inl, inr, refl, sym, ap, ◌∙◌, subst, append-nil, append_assoc, ℕ, zero, suc, ◌+◌, ◌/◌, ◌%◌, ◌<◌, ◌≤◌, ◌==◌, nat_lt, Bool, true, false, if◌then◌else◌, List, [], ◌∷◌, ◌++◌, drop, length, codes, arith}
+use Rattle.std.specs.Prelude.{nat_le}
+use Rattle.std.specs.Fmt.{decimal, digit_glyph, digits, digits_onto, signed_decimal}
+use Rattle.std.specs.List.{AllByRecursion}
+use Rattle.std.proofs.lemmas.Bool.{leb-true}
+use Rattle.wrp_base.specs.declared.fault.TraceFault.{TraceFault}
+use Rattle.wrp_base.specs.declared.fault.TraceFault.TheVariants.{Fields, Kind, Number, Name, Memory}
+use Rattle.wrp_config.specs.Accepted.{IsSoundDatabase}
+use Rattle.wrp_config.specs.Same.{ReadingIsAccepted}
+use Rattle.wrp_course.specs.declared.breach.Breach.{Breach}
+use Rattle.wrp_course.specs.Setting.{Setting}
+use Rattle.wrp_records.specs.declared.status.Status.{Status}
+use Rattle.wrp_records.specs.declared.status.Status.TheVariants.{Done, Usage, BadNetwork, BadTrace, Broken, ReadFault, WriteFault, LinkFault, TooLarge, OutOfMemory, BadCapture, BadCalib}
+use Rattle.wrp_records.specs.Lines.{IsWhole, lines_of}
+use Rattle.wrp_records.specs.Refusals.{bad_network_line, bad_trace_line, code_name, code_of, field_of, name_of, too_large_line}
+use Rattle.wrp_records.specs.Stream.{large_line}
+use Rattle.wrp_records.specs.Words.{line_of}
+use Rattle.wrp_records.proofs.Feeds.{lines_of-whole}
+use Rattle.wrp_audit.specs.Audited.{IsSettingOf}
+use Rattle.wrp_asked.specs.EmitHeadline.{EmissionsTellNoTrack, InputsOf, LacksNode, PrintsTheInputs, TellsNoTrack}
+use Rattle.wrp_asked.specs.EventLines.{IsWord}
+use Rattle.wrp_asked.specs.Headline.{EndsEvents, ReachesNone}
+use Rattle.wrp_asked.specs.Input.{network_text}
+use Rattle.wrp_audit.specs.Broken.{broken_line, premise_name}
+use Rattle.wrp_asked.specs.Refusals.{usage_line}
+use Rattle.wrp_replay.specs.Replays.{IsRefusedBy}
+use Rattle.wrp_asked.proofs.EventLines.{decimal_word, either_word, first_word, head_of, line_whole, signed_word}
+use Rattle.wrp_asked.proofs.InputLines.{pass_events}
+use Rattle.wrp_asked.proofs.PlaceWords.{place_word}
+use Rattle.wrp_asked.proofs.TakenLines.{HoldsInFront, taken_lines}
+
+-- Texts that do not begin as `track` does
+
+abbrev IsLow : List ℕ → Type 0
+IsLow text = head_of text ≤ 115
+
+glyph_by : (d : ℕ) (b : Bool) → d < 10 → (if b then 48 + d else (if false then 55 + d else 87 + d)) ≤ 115
+glyph_by d true small = omega (arith, small)
+glyph_by d false small = omega (arith, small)
+
+glyph_low : (d : ℕ) → d < 10 → digit_glyph false d ≤ 115
+glyph_low d small = glyph_by d (nat_lt d 10) small
+
+either_low : (b : Bool) (x y : List ℕ) → IsLow x → IsLow y → IsLow (if b then x else y)
+either_low true x y h k = h
+either_low false x y h k = k
+
+digits_low : (k n : ℕ) (acc : List ℕ) → IsLow acc → IsLow (digits_onto k 10 false n acc)
+digits_low zero n acc h = h
+digits_low (suc k) n acc h =
+    let small : n % 10 < 10 = omega arith in
+    let first : IsLow (digit_glyph false (n % 10) ∷ acc) = glyph_low (n % 10) small in
+    either_low (n / 10 == 0) (digit_glyph false (n % 10) ∷ acc) (digits_onto k 10 false (n / 10) (digit_glyph false (n % 10) ∷ acc)) first
+    (digits_low k (n / 10) (digit_glyph false (n % 10) ∷ acc) first)
+
+decimal_low : (n : ℕ) → IsLow (decimal n)
+unfolding digits
+decimal_low n = let none : 0 ≤ 115 = omega arith in digits_low 64 n [] none
+
+before_low : (text more : List ℕ) → IsLow text → IsLow more → IsLow (text ++ more)
+before_low [] more h k = k
+before_low (c ∷ cs) more h k = h
+
+low_by : (text : List ℕ) → nat_le (head_of text) 115 ≡ true → IsLow text
+low_by text is = leb-true (head_of text) 115 is
+
+-- Lines of one, two and more words
+
+one_word : (w : List ℕ) → IsWord w → TellsNoTrack (w ++ 10 ∷ [])
+one_word w h node tick rest p q e =
+    let one = first_word w node 10 32 [] (tick ++ 32 ∷ (codes "track" ++ rest)) h p refl refl e in
+    let same : 10 ≡ 32 = one.gap in
+    omega (arith, same)
+
+two_words : (a b : List ℕ) → IsWord a → IsWord b → TellsNoTrack (a ++ 32 ∷ (b ++ 10 ∷ []))
+two_words a b h k node tick rest p q e =
+    let one = first_word a node 32 32 (b ++ 10 ∷ []) (tick ++ 32 ∷ (codes "track" ++ rest)) h p refl refl e in
+    let two = first_word b tick 10 32 [] (codes "track" ++ rest) k q refl refl one.rest in
+    let same : 10 ≡ 32 = two.gap in
+    omega (arith, same)
+
+third_low : (a b third : List ℕ) → IsWord a → IsWord b → IsLow third → TellsNoTrack (a ++ 32 ∷ (b ++ 32 ∷ third))
+third_low a b third h k low node tick rest p q e =
+    let one = first_word a node 32 32 (b ++ 32 ∷ third) (tick ++ 32 ∷ (codes "track" ++ rest)) h p refl refl e in
+    let two = first_word b tick 32 32 third (codes "track" ++ rest) k q refl refl one.rest in
+    let high : 116 ≤ 115 = subst IsLow two.rest low in
+    omega (arith, high)
+
+-- a third word, and more words
+fourth : (a b c d : List ℕ) (more : List (List ℕ)) → IsWord a → IsWord b → IsLow c → TellsNoTrack (line_of (a ∷ b ∷ c ∷ d ∷ more))
+fourth a b c d more h k low =
+    let space : 32 ≤ 115 = omega arith in
+    third_low a b (c ++ 32 ∷ line_of (d ∷ more)) h k (before_low c (32 ∷ line_of (d ∷ more)) low space)
+
+one_line : (line : List ℕ) → IsWhole line → TellsNoTrack line → AllByRecursion TellsNoTrack (lines_of line)
+one_line line whole told =
+    subst (λ (l : List ℕ). AllByRecursion TellsNoTrack (lines_of l)) (append-nil line)
+    (subst (λ (l : List ℕ). AllByRecursion TellsNoTrack (lines_of (l ++ []))) (sym whole.is)
+    (subst (AllByRecursion TellsNoTrack) (sym (lines_of-whole whole.front [] whole.plain)) (subst TellsNoTrack whole.is told, tt)))
+
+no_line : (last : List ℕ) → last ≡ [] → AllByRecursion TellsNoTrack (lines_of last)
+no_line last e = subst (λ (l : List ℕ). AllByRecursion TellsNoTrack (lines_of l)) (sym e) tt
+
+told_as : (last line : List ℕ) → last ≡ line → AllByRecursion TellsNoTrack (lines_of line) → AllByRecursion TellsNoTrack (lines_of last)
+told_as last line is told = subst (λ (l : List ℕ). AllByRecursion TellsNoTrack (lines_of l)) (sym is) told
+
+-- Lines that name what is refused
+
+usage : AllByRecursion TellsNoTrack (lines_of usage_line)
+usage =
+    let low : 97 ≤ 115 = omega arith in
+    (third_low (codes "usage:") (codes "wrnet") (drop 13 usage_line) refl refl low, tt)
+
+too_large : AllByRecursion TellsNoTrack (lines_of too_large_line)
+too_large = (two_words (codes "too-large") (codes "0") refl refl, tt)
+
+large : (n : ℕ) → AllByRecursion TellsNoTrack (lines_of (large_line n))
+large n =
+    one_line (line_of (codes "too-large" ∷ decimal n ∷ [])) (line_whole (codes "too-large" ∷ decimal n ∷ []) (refl, (decimal_word n, tt)))
+    (two_words (codes "too-large") (decimal n) refl (decimal_word n))
+
+premise_word : (p : ℕ) → IsWord (premise_name p)
+unfolding premise_name
+premise_word p =
+    either_word (p == 1) (codes "TickEarly") _ refl (either_word (p == 2) (codes "TickLate") _ refl
+    (either_word (p == 3) (codes "Rate") _ refl (either_word (p == 4) (codes "FibreRate") _ refl
+    (either_word (p == 5) (codes "Fibre") _ refl (either_word (p == 6) (codes "Module") _ refl
+    (either_word (p == 7) (codes "TxStamp") _ refl (either_word (p == 8) (codes "RxRaw") _ refl
+    (either_word (p == 9) (codes "Beat") _ refl (either_word (p == 10) (codes "TooOld") _ refl
+    (either_word (p == 11) (codes "NotSent") _ refl (either_word (p == 12) (codes "Forged") _ refl
+    (either_word (p == 13) (codes "NotUp") [] refl refl))))))))))))
+
+fault_word : (fault : TraceFault) → IsWord (name_of fault)
+fault_word Fields = refl
+fault_word Kind = refl
+fault_word (Number field) = refl
+fault_word (Name field) = refl
+fault_word (Memory e) = refl
+
+bad_trace : (n : ℕ) (fault : TraceFault) → AllByRecursion TellsNoTrack (lines_of (bad_trace_line n fault))
+bad_trace n fault =
+    one_line (bad_trace_line n fault)
+    (line_whole (codes "bad-trace" ∷ decimal n ∷ decimal (code_of fault) ∷ name_of fault ∷ decimal (field_of fault) ∷ [])
+    (refl, (decimal_word n, (decimal_word (code_of fault), (fault_word fault, (decimal_word (field_of fault), tt))))))
+    (fourth (codes "bad-trace") (decimal n) (decimal (code_of fault)) (name_of fault) (decimal (field_of fault) ∷ []) refl (decimal_word n) (decimal_low (code_of fault)))
+
+broken : (n : ℕ) (breach : Breach) → AllByRecursion TellsNoTrack (lines_of (broken_line n breach))
+broken n breach =
+    one_line (broken_line n breach)
+    (line_whole (codes "broken" ∷ decimal n ∷ decimal breach.premise ∷ premise_name breach.premise ∷ signed_decimal breach.shown ∷ signed_decimal breach.bound ∷ []) (
+      refl,
+      (
+        decimal_word n,
+        (decimal_word breach.premise, (premise_word breach.premise, (signed_word breach.shown, (signed_word breach.bound, tt)))),
+      ),
+    ))
+    (fourth (codes "broken") (decimal n) (decimal breach.premise) (premise_name breach.premise) (signed_decimal breach.shown ∷ signed_decimal breach.bound ∷ []) refl (decimal_word n)
+    (decimal_low breach.premise))
+
+code_word : (code : ℕ) → IsWord (code_name code)
+unfolding code_name
+code_word code =
+    either_word (code == 1) (codes "Syntax") _ refl (either_word (code == 2) (codes "UnknownKey") _ refl
+    (either_word (code == 3) (codes "Missing") _ refl (either_word (code == 4) (codes "Range") _ refl
+    (either_word (code == 5) (codes "Twice") _ refl (either_word (code == 7) (codes "NotATree") _ refl
+    (either_word (code == 8) (codes "TwoSlaves") _ refl (either_word (code == 9) (codes "TooDeep") _ refl
+    (either_word (code == 10) (codes "Clash") [] refl refl))))))))
+
+code_low : (code : ℕ) → IsLow (code_name code)
+unfolding code_name
+code_low code =
+    let none : 0 ≤ 115 = omega arith in
+    either_low (code == 1) (codes "Syntax") _ (low_by (codes "Syntax") refl) (either_low (code == 2) (codes "UnknownKey") _ (low_by (codes "UnknownKey") refl)
+    (either_low (code == 3) (codes "Missing") _ (low_by (codes "Missing") refl) (either_low (code == 4) (codes "Range") _ (low_by (codes "Range") refl)
+    (either_low (code == 5) (codes "Twice") _ (low_by (codes "Twice") refl) (either_low (code == 7) (codes "NotATree") _ (low_by (codes "NotATree") refl)
+    (either_low (code == 8) (codes "TwoSlaves") _ (low_by (codes "TwoSlaves") refl) (either_low (code == 9) (codes "TooDeep") _ (low_by (codes "TooDeep") refl)
+    (either_low (code == 10) (codes "Clash") [] (low_by (codes "Clash") refl) none))))))))
+
+bad_network : (code : ℕ) (place : List ℕ) → IsWord place → AllByRecursion TellsNoTrack (lines_of (bad_network_line code place))
+bad_network code place h =
+    one_line (bad_network_line code place)
+    (line_whole (codes "bad-network" ∷ decimal code ∷ code_name code ∷ place ∷ []) (refl, (decimal_word code, (code_word code, (h, tt)))))
+    (fourth (codes "bad-network") (decimal code) (code_name code) place [] refl (decimal_word code) (code_low code))
+
+refused : (text line : List ℕ) → IsRefusedBy text line → AllByRecursion TellsNoTrack (lines_of line)
+refused text line (code, place, reads, is) = told_as line (bad_network_line code place.bytes) is (bad_network code place.bytes (place_word text code place reads))
+
+-- What is due
+
+last_tells : (status : Status) (s : Setting) (front behind : List (List ℕ)) (last : List ℕ) → EndsEvents status s front behind [] last → AllByRecursion TellsNoTrack (lines_of last)
+last_tells Done s front behind last ends = no_line last ends.1
+last_tells BadTrace s front behind last ends = told_as last _ ends.3.2 (bad_trace _ ends.3.0)
+last_tells Broken s front behind last ends = told_as last _ ends.3.is (broken _ ends.3.breach)
+last_tells TooLarge s front behind last ends = told_as last (large_line (length front + 1)) ends.3.1 (large (length front + 1))
+last_tells ReadFault s front behind last ends = no_line last ends
+last_tells OutOfMemory s front behind last ends = no_line last ends
+last_tells status s front behind last ends = absurd ends
+
+sound_in : ReadingIsAccepted → (text : List ℕ) (s : Setting) → IsSettingOf text s → IsSoundDatabase s.db
+sound_in accepted text s setting = subst (λ (t : Setting). IsSoundDatabase t.db) (sym setting.is) (accepted text setting.net setting.reads).database
+
+inputs_tell : ReadingIsAccepted → (words : List (List ℕ)) (input : List ℕ) (status : Status) (octets : List ℕ) → InputsOf words input status octets → AllByRecursion TellsNoTrack (lines_of octets)
+inputs_tell accepted words input status octets inputs =
+    let sound = sound_in accepted (network_text input) inputs.setting inputs.asks.3 in
+    let last = last_tells status inputs.setting inputs.came.front inputs.came.behind inputs.last inputs.ends in
+    told_as octets _ inputs.is (pass_events TellsNoTrack one_word inputs.setting inputs.node inputs.events sound inputs.last last)
+
+lacks_tells : (words : List (List ℕ)) (input : List ℕ) (status : Status) (octets : List ℕ) → LacksNode words input status octets → AllByRecursion TellsNoTrack (lines_of octets)
+lacks_tells words input Usage octets lacks = told_as octets usage_line lacks.1 usage
+lacks_tells words input status octets lacks = absurd lacks
+
+none_tells : (input : List ℕ) (status : Status) (octets : List ℕ) → ReachesNone input status octets → AllByRecursion TellsNoTrack (lines_of octets)
+none_tells input BadNetwork octets none = refused (network_text input) octets none.1
+none_tells input TooLarge octets none = told_as octets too_large_line none.1 too_large
+none_tells input ReadFault octets none = no_line octets none
+none_tells input OutOfMemory octets none = no_line octets none
+none_tells input status octets none = absurd none
+
+abbrev IsInputDue : List (List ℕ) → List ℕ → Status → List ℕ → Type 0
+IsInputDue words input status due = LacksNode words input status due ⊎ (ReachesNone input status due ⊎ InputsOf words input status due)
+
+due_tells : ReadingIsAccepted → (words : List (List ℕ)) (input : List ℕ) (status : Status) (octets : List ℕ) → IsInputDue words input status octets → AllByRecursion TellsNoTrack (lines_of octets)
+due_tells accepted words input status octets (inl lacks) = lacks_tells words input status octets lacks
+due_tells accepted words input status octets (inr (inl none)) = none_tells input status octets none
+due_tells accepted words input status octets (inr (inr inputs)) = inputs_tell accepted words input status octets inputs
+
+-- a line that is cut begins as the whole one
+longer : (node tick rest more : List ℕ) → (node ++ 32 ∷ (tick ++ 32 ∷ (codes "track" ++ rest))) ++ more ≡ node ++ 32 ∷ (tick ++ 32 ∷ (codes "track" ++ (rest ++ more)))
+longer node tick rest more =
+    append_assoc node (32 ∷ (tick ++ 32 ∷ (codes "track" ++ rest))) more
+    ∙ ap (λ (l : List ℕ). node ++ 32 ∷ l) (append_assoc tick (32 ∷ (codes "track" ++ rest)) more)
+
+in_front : HoldsInFront TellsNoTrack
+in_front line more told node tick rest p q e =
+    told node tick (rest ++ more) p q (ap (λ (l : List ℕ). l ++ more) e ∙ longer node tick rest more)
+
+pub emissions_tell_no_track : ReadingIsAccepted → EmissionsTellNoTrack
+emissions_tell_no_track accepted words input WriteFault octets (status, due, count, is, so) =
+    told_as octets _ is (taken_lines TellsNoTrack in_front due count (due_tells accepted words input status due so))
+emissions_tell_no_track accepted words input status octets prints = due_tells accepted words input status octets prints

@@ -1,0 +1,151 @@
+-- How a run ends, for each status: what is then written, and what was taken (this project's profile).
+use Rattle.std.specs.Prelude.{◌≡◌, ◌⊎◌, ℕ, ◌≤◌, Option, Some, IfSome, List, [], ◌++◌, length, option_map}
+use Rattle.std.specs.Io.KnownBytes.{Appends, Consumes, IsAtEnd}
+use Rattle.wrp_io.specs.declared.link.LinkCall.{LinkCall}
+use Rattle.wrp_records.specs.declared.machine.Refusal.{Refusal}
+use Rattle.wrp_records.specs.declared.machine.Refusal.TheVariants as refusals
+use Rattle.wrp_records.specs.declared.status.Status.{Status}
+use Rattle.wrp_records.specs.declared.status.Status.TheVariants.{Done, Usage, BadTrace, Broken, ReadFault, WriteFault, LinkFault, OutOfMemory, BadCapture, BadCalib}
+use Rattle.wrp_records.specs.Lines.{lines_of}
+use Rattle.wrp_records.specs.Passages.{Failed, Passage}
+use Rattle.wrp_records.specs.Reader.{piece_limit}
+use Rattle.wrp_records.specs.RecordsAnswer.{IsRefused}
+use Rattle.wrp_asked.specs.declared.alone.Alone.{Alone}
+use Rattle.wrp_asked.specs.Alone.{IsAlone, MayAnswer, alone_meaning}
+use Rattle.wrp_asked.specs.Answer.{IsCommand, IsNetworked, IsOfNode, AsksNone, Answer, FirstAnswer, LoopBroken, PartAnswer, CutAnswer}
+use Rattle.wrp_asked.specs.Input.{network_text, behind_separator}
+use Rattle.wrp_asked.specs.Refusals.{usage_line}
+use Rattle.wrp_asked.specs.Tasks.{Task, AsksFor, IsAuditing, IsEmission, IsLooping, meaning_at}
+
+-- what a run was given and what passed in it between it and the outside: the words; what the source has left;
+-- what the sink holds; the calls of the link; and how often each of the three had failed, before and after
+pub record Run : Type 0 where
+  pub words : List (List ℕ)
+  pub source : Passage (List ℕ)
+  pub sink : Passage (List ℕ)
+  pub link : Passage (List LinkCall)
+
+-- the run wrote these octets
+abbrev pub Wrote : Run → List ℕ → Type 0
+Wrote run octets = Appends run.sink.before run.sink.now octets
+
+-- the run took these octets
+abbrev pub Took : Run → List ℕ → Type 0
+Took run octets = Consumes run.source.before run.source.now octets
+
+-- the run added these calls, as they were answered, to those that the link tells
+abbrev pub Called : Run → List LinkCall → Type 0
+Called run calls = run.link.now ≡ option_map (λ told. told ++ calls) run.link.before
+
+-- these calls decide what is due: those that the run added, where the link tells them; or none, since what is due without a call
+-- is due whatever was called
+abbrev pub IsToldOf : Passage (List LinkCall) → List LinkCall → Type 0
+IsToldOf link calls =
+    (calls ≡ [])
+    ⊎ ((told : List LinkCall) × (link.before ≡ Some told) × (link.now ≡ Some (told ++ calls)))
+
+-- the words ask for a command that stands alone, which may answer this
+abbrev pub AsksAlone : List (List ℕ) → Status → Type 0
+AsksAlone words status = (alone : Alone) × IsAlone words alone × MayAnswer alone status
+
+-- the words are a command: one on a network, or one that stands alone and may answer this
+abbrev pub AsksSome : List (List ℕ) → Status → Type 0
+AsksSome words status = IsNetworked words ⊎ AsksAlone words status
+
+-- the words are a command, and what is due for this status was written
+abbrev pub Answered : Run → Status → Type 0
+Answered run status =
+    AsksSome run.words status × (octets : List ℕ) × (calls : List LinkCall) × Wrote run octets × Called run calls
+    × IfSome run.source.before (λ input. Answer run.words input calls status octets)
+
+-- behind a network text the line of a refused record ends these octets
+pub record EndsRefused (words : List (List ℕ)) (front : List ℕ) (refusal : Refusal) : Type 0 where
+  pub task : Task
+  pub octets : List ℕ
+  pub asks : AsksFor words (network_text front) task
+  pub refused : IsRefused (meaning_at task) refusal (behind_separator (lines_of front)) octets
+  pub last : refused.behind ≡ []
+
+-- a refused record of a command that stands alone ends these octets
+abbrev pub EndsRefusedAlone : List (List ℕ) → List ℕ → Status → Type 0
+EndsRefusedAlone words front status =
+    (alone : Alone) × IsAlone words alone × (alone_meaning alone).refused status front
+
+-- a record that is refused with this status ends these octets
+abbrev pub EndsRefusedAs : List (List ℕ) → List ℕ → Status → Type 0
+EndsRefusedAs words front BadTrace =
+    EndsRefused words front refusals.BadTrace ⊎ EndsRefusedAlone words front BadTrace
+EndsRefusedAs words front Broken =
+    EndsRefused words front refusals.Broken ⊎ EndsRefusedAlone words front Broken
+EndsRefusedAs words front status = EndsRefusedAlone words front status
+
+-- of an input the octets up to the end of a refused record were taken, and at most one piece behind them
+pub record TakesPiece (run : Run) (status : Status) (input : List ℕ) : Type 0 where
+  pub front : List ℕ
+  pub past : List ℕ
+  pub left : List ℕ
+  pub all : input ≡ front ++ (past ++ left)
+  pub now : run.source.now ≡ Some left
+  pub piece : length past ≤ piece_limit
+  pub refused : EndsRefusedAs run.words front status
+
+-- the words ask for an audit, or for the inputs of a node in one
+abbrev pub AsksEvents : List (List ℕ) → Type 0
+AsksEvents words = IsAuditing words ⊎ ((name : List ℕ) × IsEmission words name)
+
+-- how a run ends
+abbrev pub Ends : Run → Status → Type 0
+-- the input was read to its end, and what is due is written
+Ends run Done = Answered run Done × IsAtEnd run.source.now
+-- the usage line stands alone: the words are no command, or they name a node and no node of the network has the name
+Ends run Usage =
+    Wrote run usage_line
+    × ((IsCommand run.words → ⊥)
+    ⊎ (((name : List ℕ) × IsOfNode run.words name)
+    × IfSome run.source.before (λ input. AsksNone run.words (network_text input))))
+    × Called run []
+-- a record is refused: at most one piece behind its line was taken
+Ends run BadTrace =
+    Answered run BadTrace × IfSome run.source.before (TakesPiece run BadTrace)
+-- a record breaks a premise: the same, and only of a command whose records have premises
+Ends run Broken =
+    Answered run Broken × IfSome run.source.before (TakesPiece run Broken)
+    × (AsksEvents run.words ⊎ AsksAlone run.words Broken)
+-- a capture is refused: the same, and only where one is read
+Ends run BadCapture =
+    Answered run BadCapture × IfSome run.source.before (TakesPiece run BadCapture)
+    × AsksAlone run.words BadCapture
+-- the records of a calibration as a whole give no answer: the input was read to its end
+Ends run BadCalib =
+    Answered run BadCalib × AsksAlone run.words BadCalib × IsAtEnd run.source.now
+-- the source failed: the lines of the whole records among what was taken stand, and no refusal
+-- stands in it
+Ends run ReadFault =
+    Failed run.source × (taken : List ℕ) × (octets : List ℕ)
+    × Took run taken × Wrote run octets × CutAnswer run.words taken octets × Called run []
+-- the sink failed: the first octets of what is due stand
+Ends run WriteFault =
+    Failed run.sink × (octets : List ℕ) × (calls : List LinkCall) × Wrote run octets × Called run calls
+    × IfSome run.source.before (λ input. PartAnswer run.words input calls octets)
+-- there was no memory: the lines of the first records stand
+Ends run OutOfMemory =
+    (octets : List ℕ) × (calls : List LinkCall) × Wrote run octets × Called run calls
+    × IfSome run.source.before (λ input. FirstAnswer run.words input calls octets)
+-- the link failed, which only a loop calls: the input was read to its end, and the lines of all events before the one
+-- whose call failed stand
+Ends run LinkFault =
+    Failed run.link × ((seed : ℕ) × IsLooping run.words seed) × IsAtEnd run.source.now
+    × (octets : List ℕ) × (calls : List LinkCall) × Wrote run octets × Called run calls
+    × IfSome run.source.before (λ input. LoopBroken run.words input calls LinkFault octets)
+-- the network or a size is refused, and its line is written behind those of the records before it
+Ends run status = Answered run status
+
+-- so it ends, over this source and this sink, where it calls no link
+abbrev pub EndsUnlinked : List (List ℕ) → Passage (List ℕ) → Passage (List ℕ) → Status → Type 0
+EndsUnlinked words source sink status =
+    (link : Passage (List LinkCall)) → link.now ≡ link.before
+    → Ends (record { words = words; source = source; sink = sink; link = link }) status
+
+-- the passage of an object that had more before some of it was taken
+abbrev pub begun_at : {A : Type 0} → Option A → Passage A → Passage A
+begun_at first p = record p { before = first }

@@ -1,0 +1,152 @@
+-- The aim of the project, part by part, of what a run over a link wrote, for each status: it printed the events that came, each
+-- behind `= `, and the lines of the nodes' steps in them (`PrintsTheLoop`); and of all events that came, with no premise, since
+-- none can break one whatever the link does: no port was in WR_LINK_ON unless its peer had passed the required steps of that same
+-- handshake (`LinkOnIsEarned`); every track line's true offset is at most its printed bound (`TracksAreWithin`); and a malformed
+-- or foreign frame changed only a counter (`DropsOnlyCount`). Where it was done, its lines are told apart again: those of the
+-- events, and what an audit of these events writes (`IsToldApart`). This project's profile.
+use Rattle.std.specs.Prelude.{◌≡◌, ◌⊎◌, ℕ, List, [], ◌∷◌, ◌++◌, map}
+use Rattle.std.specs.List.{AllByRecursion}
+use Rattle.wrp_course.specs.Run.{Happened, world_after}
+use Rattle.wrp_course.specs.Runs.{IsRun}
+use Rattle.wrp_course.specs.Setting.{Setting}
+use Rattle.wrp_io.specs.declared.link.LinkCall.{LinkCall}
+use Rattle.wrp_loop.specs.Calls.{IsFrameCall}
+use Rattle.wrp_loop.specs.LoopEnds.{CallFails, IsOver, IsOverrun}
+use Rattle.wrp_loop.specs.LoopRun.{Going, Loops, Plan, events_at, place}
+use Rattle.wrp_loop.specs.LoopText.{forged_lines, marked_in, marked_line, others_in, told_lines}
+use Rattle.wrp_records.specs.declared.status.Status.{Status}
+use Rattle.wrp_records.specs.declared.status.Status.TheVariants.{Done, LinkFault, TooLarge, OutOfMemory}
+use Rattle.wrp_records.specs.Lines.{content_of, lines_of}
+use Rattle.wrp_records.specs.Stream.{large_line}
+use Rattle.wrp_audit.specs.AuditText.{all_counts, audit_lines, event_lines}
+use Rattle.wrp_asked.specs.Headline.{CarriesParts, Prints, ReachesNone}
+use Rattle.wrp_asked.specs.Input.{behind_separator, network_text}
+use Rattle.wrp_simulate.specs.Loops.{IsLawful, IsShort, closing_lines, plan_of}
+use Rattle.wrp_asked.specs.SimHeadline.{NamesLine}
+use Rattle.wrp_simulate.specs.Simulates.{IsScenario, event_limit}
+use Rattle.wrp_asked.specs.Tasks.{Loop, AsksFor}
+use Rattle.wrp_sim.specs.Scenario.{SceneAt}
+use Rattle.wrp_truth.specs.Chains.{AllFit}
+
+-- Which events came
+
+-- the words name this seed, the records say this scenario of the network that the text before them describes, and a loop by both
+-- came to here, of which the link told the first of these calls
+pub record Looped (words : List (List ℕ)) (input : List ℕ) (calls : List LinkCall) (s : Setting) (last : Going)
+    : Type 0 where
+  pub seed : ℕ
+  pub asks : AsksFor words (network_text input) (Loop s seed)
+  pub scene : SceneAt
+  pub said : IsScenario s (map content_of (behind_separator (lines_of input))) scene
+  pub first : List LinkCall
+  pub later : List LinkCall
+  pub all : calls ≡ first ++ later
+  pub loops : Loops (plan_of s scene seed) first last
+  pub frames : AllByRecursion IsFrameCall first
+  pub answered : IsLawful s (place last)
+
+-- The first part
+
+-- the lines that are written of events: each event behind `= `, and then the lines of its nodes' steps, as an audit writes them
+abbrev pub came_lines : Setting → List Happened → List ℕ
+came_lines s [] = []
+came_lines s (h ∷ before) = came_lines s before ++ (marked_line s.cfg h.event ++ event_lines s before h)
+
+-- what stands behind them, by the status: the counters and the number of forged datagrams, and no event comes any more; the line
+-- that names the number of the next event as too great; nothing, where a call at the next arrival failed, or there was no memory
+abbrev pub StandsBehind : Status → Plan → (calls later : List LinkCall) → Going → List ℕ → Type 0
+StandsBehind Done x calls later last text =
+    IsOver x last × (later ≡ []) × (text ≡ closing_lines x.setting (place last))
+StandsBehind TooLarge x calls later last text =
+    IsOverrun x last × (later ≡ []) × (text ≡ large_line event_limit)
+StandsBehind LinkFault x calls later last text = CallFails x calls (place last) × (text ≡ [])
+StandsBehind OutOfMemory x calls later last text = IsShort x calls last × (text ≡ [])
+StandsBehind _ x calls later last text = ⊥
+
+-- the lines of the events that came, and what stands behind them
+pub record LoopOf (words : List (List ℕ)) (input : List ℕ) (calls : List LinkCall) (status : Status) (octets : List ℕ)
+    : Type 0 where
+  pub setting : Setting
+  pub last : Going
+  pub came : Looped words input calls setting last
+  pub behind : List ℕ
+  pub ends : StandsBehind status (plan_of setting came.scene came.seed) calls came.later last behind
+  pub is : octets ≡ came_lines setting (events_at (place last)) ++ behind
+
+-- a line of its records is refused, or too large: its line stands alone behind lines of a scenario, and no call is made
+pub record LacksScene (words : List (List ℕ)) (input : List ℕ) (calls : List LinkCall) (status : Status) (octets : List ℕ)
+    : Type 0 where
+  pub setting : Setting
+  pub seed : ℕ
+  pub asks : AsksFor words (network_text input) (Loop setting seed)
+  pub front : List (List ℕ)
+  pub line : List ℕ
+  pub behind : List (List ℕ)
+  pub divided : behind_separator (lines_of input) ≡ front ++ line ∷ behind
+  pub scene : SceneAt
+  pub said : IsScenario setting (map content_of front) scene
+  pub is : NamesLine status setting front line octets
+  pub uncalled : calls ≡ []
+
+-- behind a whole scenario the link did not start, and nothing is written
+pub record NotStarted (words : List (List ℕ)) (input : List ℕ) (calls : List LinkCall) (octets : List ℕ) : Type 0 where
+  pub setting : Setting
+  pub seed : ℕ
+  pub asks : AsksFor words (network_text input) (Loop setting seed)
+  pub scene : SceneAt
+  pub said : IsScenario setting (map content_of (behind_separator (lines_of input))) scene
+  pub uncalled : calls ≡ []
+  pub none : octets ≡ []
+
+abbrev pub LacksLink : List (List ℕ) → List ℕ → List LinkCall → Status → List ℕ → Type 0
+LacksLink words input calls LinkFault octets = NotStarted words input calls octets
+LacksLink words input calls _ octets = ⊥
+
+-- what is due for a status; where no record was reached, no call was made
+abbrev pub IsLoopDue : List (List ℕ) → List ℕ → List LinkCall → Status → List ℕ → Type 0
+IsLoopDue words input calls status octets =
+    (ReachesNone input status octets × (calls ≡ []))
+    ⊎ (LacksScene words input calls status octets
+    ⊎ (LacksLink words input calls status octets ⊎ LoopOf words input calls status octets))
+
+-- a run over a link prints exactly its events and the nodes' steps in them, and never tells of a broken premise
+abbrev pub PrintsTheLoop : List (List ℕ) → List ℕ → List LinkCall → Status → List ℕ → Type 0
+PrintsTheLoop words input calls status octets = Prints (λ due text. IsLoopDue words input calls due text) status octets
+
+-- The audit of its events
+
+-- of the lines of the octets, those behind `= ` are the events, and the others are the lines that an audit of these events writes
+-- of the nodes' steps and of their counters, and then the line of forged datagrams, where any was
+pub record IsToldApart (s : Setting) (last : Going) (octets : List ℕ) : Type 0 where
+  pub marked : marked_in (lines_of octets) ≡ told_lines s (events_at (place last))
+  pub others : others_in (lines_of octets)
+      ≡ lines_of (audit_lines s (events_at (place last)) ++ all_counts s (world_after s (events_at (place last))))
+      ++ forged_lines (place last).forged
+
+-- so it is of what was written where the run was done
+abbrev pub TellsApart : List (List ℕ) → List ℕ → List LinkCall → Status → List ℕ → Type 0
+TellsApart words input calls Done octets =
+    (loop : LoopOf words input calls Done octets) × IsToldApart loop.setting loop.last octets
+TellsApart words input calls status octets = Unit {0}
+
+-- All parts
+
+-- the events that came are a run of their network, whatever the link did, their numbers are such as a line says, and they carry
+-- the other parts
+pub record CarriesRun (s : Setting) (events : List Happened) : Type 0 where
+  pub run : IsRun s events
+  pub fit : AllFit events
+  pub parts : CarriesParts event_lines s events
+
+-- whatever events came
+abbrev pub LoopedEventsCarryParts : Type 0
+LoopedEventsCarryParts =
+    (words : List (List ℕ)) (input : List ℕ) (calls : List LinkCall) (s : Setting) (last : Going) →
+    Looped words input calls s last → CarriesRun s (events_at (place last))
+
+-- of a run over a link that ended with this status and wrote these octets, where the link told these calls
+pub record LoopHeadline (words : List (List ℕ)) (input : List ℕ) (calls : List LinkCall) (status : Status) (octets : List ℕ)
+    : Type 0 where
+  pub prints : PrintsTheLoop words input calls status octets
+  pub carries : (s : Setting) (last : Going) → Looped words input calls s last → CarriesRun s (events_at (place last))
+  pub apart : TellsApart words input calls status octets

@@ -1,0 +1,15 @@
+pub mod AuditCounts
+pub mod AuditPlaces
+pub mod AuditSteps
+pub mod BareAudit
+pub mod BoundLemmas
+pub mod ExactAudit
+pub mod FieldsRead
+pub mod LawsMade
+pub mod LawsNear
+pub mod LinesFit
+pub mod NewAudit
+pub mod NodesWithin
+pub mod OneAudit
+pub mod OneWorld
+pub mod PlainEvents

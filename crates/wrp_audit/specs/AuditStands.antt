@@ -1,0 +1,102 @@
+-- What an audited network stands for: the lines that it has taken (this project's profile).
+use Rattle.std.specs.Prelude.{◌≡◌, ◌<◌, ℕ, ℤ, Option, None, Some, IfSome, List, ◌++◌, Result, Err}
+use Rattle.std.specs.List.{flat_map}
+use Rattle.wrp_base.specs.declared.fault.TraceFault.{TraceFault}
+use Rattle.wrp_base.specs.declared.message.PtpMsg.{PtpMsg}
+use Rattle.wrp_base.specs.Network.{node_count}
+use Rattle.wrp_config.specs.declared.network.Network.{Network}
+use Rattle.wrp_frame.specs.declared.fault.FrameFault.{FrameFault}
+use Rattle.wrp_node.specs.Control.{law_in}
+use Rattle.wrp_fields.specs.Reading.{IsReading}
+use Rattle.wrp_course.specs.Checks.{told_of}
+use Rattle.wrp_course.specs.declared.breach.Breach.{Breach}
+use Rattle.wrp_course.specs.declared.event.Event.{Event}
+use Rattle.wrp_course.specs.Given.{NodeStepAt, event_steps, world_step}
+use Rattle.wrp_plant.specs.Plant.{Each}
+use Rattle.wrp_course.specs.Premises.{Accepts, checks_of}
+use Rattle.wrp_course.specs.Run.{Happened, IsSaid, world_after}
+use Rattle.wrp_course.specs.Setting.{Setting}
+use Rattle.wrp_world.specs.StandsFor.{IsValid, StandsFor, WorldOf}
+use Rattle.wrp_course.specs.WorldAt.{WorldAt}
+use Rattle.wrp_trace.specs.LineSetting.{line_setting_in}
+use Rattle.wrp_audit.specs.declared.audit.AuditedNetwork.{AuditedNetwork}
+use Rattle.wrp_records.specs.declared.machine.Refusal.TheVariants as refusal
+use Rattle.wrp_records.specs.declared.machine.Taken.{Taken}
+use Rattle.wrp_records.specs.declared.machine.Taken.TheVariants as taken
+use Rattle.wrp_audit.specs.Audited.{IsAudit, setting_at}
+use Rattle.wrp_audit.specs.AuditText.{audit_lines, given_line, given_lines, step_lines}
+use Rattle.wrp_audit.specs.Bounds.{AreBounds}
+use Rattle.wrp_replay.specs.DownLaw.{AnswersBy, law_at}
+use Rattle.wrp_audit.specs.Broken.{broken_line}
+use Rattle.wrp_records.specs.Refusals.{bad_trace_line}
+
+-- the setting of a network
+abbrev pub setting_in : Network → Setting
+setting_in net = setting_at net.cfg net.db
+
+-- what is written of a node's step in an event that left this world, and of all events: the input that it gave the node whose
+-- inputs are asked for, or else its lines
+abbrev pub line_by : Option ℕ → Setting → WorldAt → NodeStepAt → List ℕ
+line_by None s w step = step_lines s w step
+line_by (Some n) s w step = given_line s n step
+
+abbrev pub lines_by : Option ℕ → Setting → List Happened → List ℕ
+lines_by None s events = audit_lines s events
+lines_by (Some n) s events = given_lines s n events
+
+-- the world holds what these events made of it, which the lines say
+pub record AuditedSo {F : Type 0} (post : F → ℤ → ℤ → Type 0) (held : AuditedNetwork F)
+    (lines : List (List ℕ)) (events : List Happened) : Type 0 where
+  pub audit : IsAudit (setting_in held.world.plant.net) lines events
+  pub stands :
+      StandsFor post (setting_in held.world.plant.net)
+      (world_after (setting_in held.world.plant.net) events) held.world
+
+abbrev pub HasAudited : {F : Type 0} → (F → ℤ → ℤ → Type 0) → AuditedNetwork F → List (List ℕ) → Type 0
+HasAudited post held lines = (events : List Happened) × AuditedSo post held lines events
+
+-- the law of a node is that of the link above it
+abbrev pub HasLawOf : {F : Type 0} → (F → ℤ → ℤ → Type 0) → Setting → WorldOf F → Type 0
+HasLawOf post s world =
+    Each (λ n node. IfSome (law_in node.control) (AnswersBy post (law_at (line_setting_in s n)))) world.nodes
+
+-- it can take an event: its world is one that its calls made, the law of each node is that of the link
+-- above it, the node whose inputs are asked for is one of the network, and the nodes' bounds are at hand
+pub record CanAudit {F : Type 0} (pre : F → ℤ → Type 0) (post : F → ℤ → ℤ → Type 0)
+    (held : AuditedNetwork F) : Type 0 where
+  pub valid : IsValid pre post held.world
+  pub laws : HasLawOf post (setting_in held.world.plant.net) held.world
+  pub emit : IfSome held.emit (λ n. n < node_count held.world.plant.net.cfg)
+  pub bounds : AreBounds held.world.plant.net.cfg held.bounds.items
+
+-- an event was taken in a world: it kept all premises, and what its steps write is written
+pub record Took {F : Type 0} (post : F → ℤ → ℤ → Type 0) (emit : Option ℕ) (s : Setting) (w : WorldAt)
+    (e : Event) (new : WorldOf F) (text : List ℕ) : Type 0 where
+  pub says : Result PtpMsg FrameFault
+  pub answer : ℤ
+  pub said : IsSaid e says
+  pub accepted : Accepts s w says e
+  pub stands : StandsFor post s (world_step s says answer w e) new
+  pub wrote :
+      text ≡ flat_map (line_by emit s (world_step s says answer w e)) (event_steps s says answer w e)
+
+-- an event breaks a premise in a world, and the line that tells both sides is written
+pub record Broke (s : Setting) (w : WorldAt) (e : Event) (number : ℕ) (text : List ℕ) : Type 0 where
+  pub says : Result PtpMsg FrameFault
+  pub said : IsSaid e says
+  pub breach : Breach
+  pub told : told_of (checks_of s w says e) ≡ Some breach
+  pub wrote : text ≡ broken_line number breach
+
+-- what became of an event, by what is answered
+abbrev pub Happens : {F : Type 0} → (F → ℤ → ℤ → Type 0) → Option ℕ → Setting → WorldAt → Event → ℕ → WorldOf F
+    → List ℕ → Taken → Type 0
+Happens post emit s w e number new text taken.Accepted = Took post emit s w e new text
+Happens post emit s w e number new text (taken.Refused refusal.Broken) = Broke s w e number text
+Happens post emit s w e number new text _ = ⊥
+
+-- a fault that is no want of memory is told: a line that is read with it has it
+pub record TellsFault (fault : TraceFault) (number : ℕ) (old new : List ℕ) (answer : Taken) : Type 0 where
+  pub refused : answer ≡ taken.Refused refusal.BadTrace
+  pub only : (read : Result Event TraceFault) → IsReading read (Err fault) → read ≡ Err fault
+  pub line : new ≡ old ++ bad_trace_line number fault

@@ -1,0 +1,9 @@
+pub mod AuditLaws
+pub mod AuditLines
+pub mod AuditStands
+pub mod AuditText
+pub mod Audited
+pub mod Audits
+pub mod Bounds
+pub mod Broken
+pub mod LawsFit

@@ -1,0 +1,17 @@
+//! The audit of a network: its record lines are events, each is tried against the premises of the world, and what the steps of
+//! its nodes put out is written with their true offsets, or the inputs that a node was given. Lines are this project's profile.
+#![tactic(auto)]
+
+mod audit;
+mod audit_counts;
+mod audit_lines;
+mod auditing;
+mod bounds;
+mod broken;
+mod laws;
+
+pub use audit::name_of;
+pub use audit_counts::{append_all_counts, count_of};
+pub use auditing::audit_by;
+pub use bounds::bounds_of;
+pub use laws::one_audit;

@@ -1,7 +1,0 @@
--- By the laws of every run.
-use Rattle.wrp_run.proofs.PartsCarried.{events_carry_parts}
-use Rattle.wrp_run.proofs.audits.events_carry_parts.Goals as goal
-
-pub returns : goal.returns
-returns c =
-    events_carry_parts c.events_can_come.ensures c.reading_is_accepted.ensures c.events_hold.ensures.links c.events_hold.ensures.tracks

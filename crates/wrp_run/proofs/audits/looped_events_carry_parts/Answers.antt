@@ -1,7 +1,0 @@
--- By the laws of every run, of which each run over a link is one.
-use Rattle.wrp_run.proofs.LoopedParts.{looped_events_carry_parts}
-use Rattle.wrp_run.proofs.audits.looped_events_carry_parts.Goals as goal
-
-pub returns : goal.returns
-returns c =
-    looped_events_carry_parts c.loop_keeps_the_bounds.ensures c.reading_is_accepted.ensures c.events_hold.ensures.links c.events_hold.ensures.tracks

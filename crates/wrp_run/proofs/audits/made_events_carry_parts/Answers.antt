@@ -1,7 +1,0 @@
--- By the laws of every run, of which each simulation is one.
-use Rattle.wrp_run.proofs.PartsCarried.{made_events_carry_parts}
-use Rattle.wrp_run.proofs.audits.made_events_carry_parts.Goals as goal
-
-pub returns : goal.returns
-returns c =
-    made_events_carry_parts c.simulator_keeps_the_bounds.ensures.runs c.reading_is_accepted.ensures c.events_hold.ensures.links c.events_hold.ensures.tracks

@@ -1,0 +1,20 @@
+-- The sums of the nodes from this one on are lacking.
+use Rattle.std.proofs.Common.{◌≤◌, ◌-◌, ℕ, ℤ, List}
+use Rattle.wrp_base.specs.Network.{node_count}
+use Rattle.wrp_course.specs.Setting.{Setting}
+use Rattle.wrp_world.specs.StandsFor.{StandsFor}
+use Rattle.wrp_course.specs.WorldAt.{WorldAt}
+use Rattle.wrp_simulate.specs.SimStands.{AreTotals}
+use Rattle.wrp_simulate.proofs.SimLines.{LacksSums}
+use Rattle.wrp_simulate.proofs.simulation.append_all_sums.Given as goal
+
+abbrev pub invariant-loop-node : goal.invariant-loop-node
+invariant-loop-node g l =
+    record {
+      within : l.node ≤ node_count l.fn.world.plant.net.cfg;
+      lacks : (s : Setting) (w : WorldAt) (offs : ℕ → List ℤ) → StandsFor (λ f x y. g.F.Fn.post f (x, tt) y) s w l.fn.world → AreTotals offs l.fn.totals
+          → LacksSums s w offs (node_count l.fn.world.plant.net.cfg) l.node l.text.items l.fn.text.items;
+    }
+
+abbrev pub decreases-loop-node : goal.decreases-loop-node
+decreases-loop-node g l = node_count l.fn.world.plant.net.cfg - l.node

@@ -1,0 +1,16 @@
+-- The lines of the steps from this one on are lacking.
+use Rattle.std.proofs.Common.{◌++◌, map}
+use Rattle.std.specs.List.{flat_map}
+use Rattle.wrp_course.specs.Setting.{Setting}
+use Rattle.wrp_world.specs.StandsFor.{StandsFor}
+use Rattle.wrp_world.specs.Step.{step_seen}
+use Rattle.wrp_course.specs.WorldAt.{WorldAt}
+use Rattle.wrp_simulate.specs.SimText.{printed_lines}
+use Rattle.wrp_replay.proofs.CountLemmas.{Lacks}
+use Rattle.wrp_simulate.proofs.simulation.append_steps.Given as goal
+
+abbrev pub invariant-loop-out : goal.invariant-loop-out
+invariant-loop-out g l =
+    (s : Setting) (w : WorldAt) → StandsFor (λ f x y. g.F.Fn.post f (x, tt) y) s w l.world
+    → Lacks (λ out. printed_lines s w (step_seen out)) l.outs l.out-index l.text.items
+    (l.fn.text.items ++ flat_map (printed_lines s w) (map step_seen l.outs))
