@@ -1,11 +1,10 @@
-"""The events of a simulated run, as the lines that `audit` takes. `simulate` writes what nodes do and not the events, so a
-copy of the program in a folder of its own is made to write each event's line too, and is built without any proof by
-`rt try`. That program is used for nothing else."""
+"""The events of a run, as the lines that `audit` takes: those that `loop` writes. `simulate` writes what nodes do and not the events; where
+those of a simulation itself are wanted (hostile/carriers), a copy of the program in a folder of its own is made to write each event's
+line too, and is built without any proof by `rt try`. That program is used for nothing else."""
 import os
 import re
 import shutil
 import subprocess
-import tempfile
 
 # Behind this head, in the function by which an event happens in a simulation, its line is written.
 HEAD = re.compile(r"( {4}pub fn happen\(.*?\n {4}\{\n)", re.S)
@@ -43,21 +42,17 @@ def copy(top, folder):
     shutil.copy(f"{top}/HANDLES", folder)
     for name in found:
         shutil.copytree(f"{top}/crates/{name}", f"{folder}/crates/{name}", ignore=shutil.ignore_patterns("out", "must-fail"))
-    source = f"{folder}/crates/wrp_run/src/simulation.rt"
+    source = f"{folder}/crates/wrp_simulate/src/simulation.rt"
     text, count = HEAD.subn(lambda it: it[1] + LINE, open(source).read(), count=1)
     if not count:
-        raise SystemExit("bench: no function `happen` in wrp_run/src/simulation.rt, whose events are to be written")
+        raise SystemExit("bench: no function `happen` in wrp_simulate/src/simulation.rt, whose events are to be written")
     open(source, "w").write(text)
 
 
-def of_run(top, run):
-    """The event lines of a run, which an input of `simulate` describes."""
-    with tempfile.TemporaryDirectory() as folder:
-        copy(top, folder)
-        os.makedirs(f"{folder}/.git", exist_ok=True)
-        words = ["rt", "try", "--seconds", "36000", "--", "simulate", "--seed", "1"]
-        ran = subprocess.run(words, cwd=f"{folder}/crates/wrnet", input=run, stdout=subprocess.PIPE, text=True)
+def of_run(program, run):
+    """The event lines of a run, which an input of `simulate` describes, as `loop` tells them: it has the same rules, and writes each event behind `= `."""
+    ran = subprocess.run([program, "loop", "--seed", "1"], input=run, stdout=subprocess.PIPE, text=True)
     lines = [line[2:] for line in ran.stdout.splitlines() if line.startswith("= ")]
-    if not lines:
-        raise SystemExit(f"bench: no events came, and the status {ran.returncode}: {ran.stdout[-500:]}")
+    if ran.returncode or not lines:
+        raise SystemExit(f"bench: {len(lines)} events came, and the status {ran.returncode}: {ran.stdout[-500:]}")
     return "\n".join(lines) + "\n"

@@ -157,7 +157,7 @@ def new_pairs():
 def audited(run):
     """The audit of a run's events."""
     network = run.partition("---\n")[0]
-    return network + "---\n" + events.of_run(TOP, run)
+    return network + "---\n" + events.of_run(PROGRAM, run)
 
 
 REPLAY = ["replay", "--node", "sw1"]
