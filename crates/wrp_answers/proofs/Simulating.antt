@@ -12,7 +12,8 @@ use Rattle.wrp_sim.specs.Scenario.{SceneAt, new_scene}
 use Rattle.wrp_sim.specs.ScenarioLines.{scene_read}
 use Rattle.wrp_sim.specs.SimAt.{SimAt, new_sim}
 use Rattle.wrp_sim.specs.SimRun.{Gives}
-use Rattle.wrp_simulate.specs.Simulates.{Changes, IsScenario, IsSimulated, SimAccepts, Simulates, event_limit, simulation_of}
+use Rattle.wrp_loop.specs.LoopRun.{event_limit}
+use Rattle.wrp_simulate.specs.Simulates.{Changes, IsScenario, IsSimulated, SimAccepts, Simulates, simulation_of}
 use Rattle.wrp_trace.specs.LineSetting.{line_setting_in}
 use Rattle.wrp_replay.specs.DownLaw.{law_at}
 use Rattle.wrp_simulate.specs.SimText.{sim_lines, sum_lines}

@@ -8,7 +8,7 @@ use Rattle.wrp_course.specs.WorldAt.{WorldAt}
 use Rattle.wrp_io.specs.declared.link.LinkCall.{LinkCall}
 use Rattle.wrp_io.specs.declared.link.LinkCall.TheVariants.{Start}
 use Rattle.wrp_loop.specs.Laws.{Ending, EndsAs, Large, Over}
-use Rattle.wrp_loop.specs.LoopRun.{LoopAt, events_at, place}
+use Rattle.wrp_loop.specs.LoopRun.{LoopAt, event_limit, events_at, place}
 use Rattle.wrp_loop.specs.LoopText.{forged_lines, loop_text}
 use Rattle.wrp_loop.proofs.Told.{one_loop}
 use Rattle.wrp_records.specs.declared.status.Status.{Status}
@@ -21,7 +21,7 @@ use Rattle.wrp_audit.specs.AuditText.{all_counts}
 use Rattle.wrp_audit.proofs.OneWorld.{laws_in}
 use Rattle.wrp_simulate.specs.Loops.{LoopEnded, closing_lines, loop_of, plan_of}
 use Rattle.wrp_replay.specs.NodeText.{port_counts, port_numbers}
-use Rattle.wrp_simulate.specs.Simulates.{event_limit, scenario_of}
+use Rattle.wrp_simulate.specs.Simulates.{scenario_of}
 use Rattle.wrp_simulate.proofs.BareRuns.{due_so}
 use Rattle.wrp_simulate.proofs.OneSim.{never_refused, one_refused, scenes_one}
 use Rattle.wrp_servo.specs.Told.{ToldLast}

@@ -17,7 +17,7 @@ use Rattle.wrp_audit.specs.Audited.{IsSettingOf, answers_in}
 use Rattle.wrp_asked.specs.Headline.{Came}
 use Rattle.wrp_asked.specs.Input.{network_text}
 use Rattle.wrp_asked.specs.SimHeadline.{Made}
-use Rattle.wrp_simulate.specs.Simulates.{event_limit}
+use Rattle.wrp_loop.specs.LoopRun.{event_limit}
 use Rattle.wrp_asked.specs.TrackLines.{IsTrueAt, TracksAreWithin}
 use Rattle.wrp_asked.proofs.HeadlineParts.{events_said, run_of, setting_asked, writes}
 use Rattle.wrp_audit.proofs.LawsNear.{LawsAreNear, answers_near, laws_near}

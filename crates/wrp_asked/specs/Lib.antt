@@ -2,7 +2,6 @@ pub mod Alone
 pub mod AloneAims
 pub mod Answer
 pub mod AnswerLaws
-pub mod AuditsBegin
 pub mod CommandLine
 pub mod EmitHeadline
 pub mod Ends

@@ -17,7 +17,8 @@ use Rattle.wrp_records.specs.declared.status.Status.TheVariants.{Done, BadTrace,
 use Rattle.wrp_asked.specs.Headline.{CarriesParts, Prints, ReachesNone}
 use Rattle.wrp_asked.specs.Input.{behind_separator, network_text}
 use Rattle.wrp_records.specs.Lines.{content_of, lines_of}
-use Rattle.wrp_simulate.specs.Simulates.{IsScenario, IsSimulated, SimRefuses, event_limit}
+use Rattle.wrp_loop.specs.LoopRun.{event_limit}
+use Rattle.wrp_simulate.specs.Simulates.{IsScenario, IsSimulated, SimRefuses}
 use Rattle.wrp_simulate.specs.SimText.{printed_lines, sim_lines, sum_lines}
 use Rattle.wrp_records.specs.Stream.{IsTooLarge, large_line}
 use Rattle.wrp_asked.specs.Tasks.{Simulate, AsksFor}

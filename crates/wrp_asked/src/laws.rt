@@ -1,6 +1,5 @@
-//! Laws of audits and simulations: functions that do nothing, whose contracts are the laws.
+//! Laws of what is due, and of audits, simulations and runs over a link: functions that do nothing, whose contracts are the laws.
 ghost use Rattle.wrp_asked.specs.AnswerLaws.{OneAnswer};
-ghost use Rattle.wrp_asked.specs.AuditsBegin.{AuditsBegin};
 ghost use Rattle.wrp_asked.specs.EmitHeadline.{EmissionsTellNoTrack};
 ghost use Rattle.wrp_asked.specs.Headline.{EventsCarryParts};
 ghost use Rattle.wrp_asked.specs.LoopHeadline.{LoopedEventsCarryParts};
@@ -14,11 +13,6 @@ use wrp_servo::told_last;
 use wrp_sim::simulator_keeps_the_bounds;
 use wrp_trace::events_can_come;
 use wrp_world::events_hold;
-
-/// Before any record an audit has written nothing.
-pub fn audits_begin()
-    ensures { AuditsBegin }
-{}
 
 /// For words, an input and the calls of a link one status and one text are due.
 pub fn one_answer()
@@ -41,15 +35,7 @@ pub fn events_carry_parts()
     events_hold();
 }
 
-/// No line that an audit prints which is asked for the inputs of a node begins as a `track` line does, whatever its
-/// status is: not the line that names what is refused, and no line that is cut.
-pub fn emissions_tell_no_track()
-    ensures { EmissionsTellNoTrack }
-{
-    reading_is_accepted();
-}
-
-/// So it is in each event that a simulation makes, whatever its scenario and its seed: none can break a
+/// The same holds in each event that a simulation makes, whatever its scenario and its seed: none can break a
 /// premise.
 pub fn made_events_carry_parts()
     ensures { MadeEventsCarryParts }
@@ -59,11 +45,19 @@ pub fn made_events_carry_parts()
     events_hold();
 }
 
-/// So it is in each event of a run over a link, whatever the link does: they are a run of the network.
+/// The same holds in each event of a run over a link, whatever the link does: they are a run of the network.
 pub fn looped_events_carry_parts()
     ensures { LoopedEventsCarryParts }
 {
     reading_is_accepted();
     loop_keeps_the_bounds();
     events_hold();
+}
+
+/// No line that an audit prints which is asked for the inputs of a node begins as a `track` line does, whatever its
+/// status is: not the line that names what is refused, and no line that is cut.
+pub fn emissions_tell_no_track()
+    ensures { EmissionsTellNoTrack }
+{
+    reading_is_accepted();
 }

@@ -15,7 +15,7 @@ mod rows;
 
 pub use alone::Alone;
 pub use laws::{
-    audits_begin, emissions_tell_no_track, events_carry_parts, looped_events_carry_parts,
+    emissions_tell_no_track, events_carry_parts, looped_events_carry_parts,
     made_events_carry_parts, one_answer,
 };
 pub use network_text::{End, NetworkText, take_network};

@@ -1,5 +1,5 @@
-//! The line that names what is refused, of what this crate alone refuses.
+//! The line of words that are no command, or name a node that the network lacks.
 
-/// The line where the words are no command.
+/// The only line of Usage.
 pub const USAGE_LINE: &str =
     "usage: wrnet audit [--emit NODE] | replay --node NODE | simulate --seed N | loop --seed N | migrate | inspect | l1sync | calibrate | plain\n";

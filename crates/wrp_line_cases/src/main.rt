@@ -22,10 +22,6 @@ use wrp_suite::{Answer, Case, Fault, Kinds, run_files};
 struct Lines;
 
 impl Kinds for Lines {
-    fn has(kind: &str) -> bool {
-        matches!(kind, "input" | "event" | "output" | "object")
-    }
-
     fn answer(alloc: Global, case: &Case) -> Result<Answer, Fault> {
         match case.kind.as_str() {
             "input" => inputs::answer(alloc, case),

@@ -19,7 +19,7 @@ use Rattle.wrp_loop.specs.declared.routes.Route.{Route}
 use Rattle.wrp_loop.specs.Calls.{Adds, AreCutCalls, IsFrame, IsFrameCall, arrival_calls}
 use Rattle.wrp_loop.specs.Datagrams.{IsWayOf, Way, end_number, receiving_end, sending_end}
 use Rattle.wrp_loop.specs.Index.{Forgets, IsIndex, came_at}
-use Rattle.wrp_loop.specs.LoopRun.{Carried, FrameArrives, GivesNext, HandlesAll, LoopAt, On, Plan, events_at, happened, number_limit, with_event, world_at}
+use Rattle.wrp_loop.specs.LoopRun.{Carried, FrameArrives, GivesNext, HandlesAll, LoopAt, On, Plan, event_limit, events_at, happened, with_event, world_at}
 use Rattle.wrp_loop.specs.LoopStands.{ArrivalCalls, ArrivalFails, Carries, CarriedOn, CutOff, CutOffBy, Exchanged, ExchangedBy, FitsCourse, Flies, HandledAll, Happens, HasNext, IsRouteOf, NextArrives, RoundCame, RoutesNext, SomeFlies, going, way_by}
 use Rattle.wrp_loop.proofs.Adding.{all_received}
 use Rattle.wrp_loop.proofs.Accepting.{IsStill, arriving, still_carrier}
@@ -103,7 +103,7 @@ carried_on post x old mid new course next l e number f route got goes before bet
 
 -- The round
 
-arrives : {F : Type 0} (post : F → ℤ → ℤ → Type 0) (x : Plan) (network : LoopedNetwork F) (course : LoopCourse) (l : LoopAt) (e : Event) (number : ℕ) (raw : Raw) (f : FrameAt) (way : Way) (octets : List ℕ) → e ≡ Arrive number raw → course.events + 1 < number_limit →
+arrives : {F : Type 0} (post : F → ℤ → ℤ → Type 0) (x : Plan) (network : LoopedNetwork F) (course : LoopCourse) (l : LoopAt) (e : Event) (number : ℕ) (raw : Raw) (f : FrameAt) (way : Way) (octets : List ℕ) → e ≡ Arrive number raw → course.events + 1 < event_limit →
     HasNext post x network course l e → Flies (world_at x l) x.setting number f → IsWayOf x.setting f way octets → FrameArrives x l number way octets
 arrives post x network course l e number raw f way octets same room n flies way_is = record {
   raw = raw;
@@ -116,7 +116,7 @@ arrives post x network course l e number raw f way octets same room n flies way_
 }
 
 pub round_came : {F : Type 0} (post : F → ℤ → ℤ → Type 0) (x : Plan) (old new : LoopedNetwork F) (course next : LoopCourse) (l : LoopAt) (e : Event) (number : ℕ) (raw : Raw) (f : FrameAt) (route : Route) (got : List (ArrayVec ℕ)) (goes : Bool) (before told : Option (List LinkCall)) (start text : List ℕ) →
-    e ≡ Arrive number raw → course.events + 1 < number_limit → length got ≤ 16 → (n : HasNext post x old course l e) → Flies (world_at x l) x.setting number f → Exchanged x.setting f route got before told →
+    e ≡ Arrive number raw → course.events + 1 < event_limit → length got ≤ 16 → (n : HasNext post x old course l e) → Flies (world_at x l) x.setting number f → Exchanged x.setting f route got before told →
     CarriedOn post x new next l (way_by f route) e n.new got goes start text → RoundCame post x new next l goes before told start text
 unfolding arrives
 round_came post x old new course next l e number raw f route got goes before told start text same room few n flies ex on = record {
@@ -143,7 +143,7 @@ round_came post x old new course next l e number raw f route got goes before tol
 
 -- where there was no memory
 pub calls_made : {F : Type 0} (post : F → ℤ → ℤ → Type 0) (x : Plan) (old : LoopedNetwork F) (course : LoopCourse) (l : LoopAt) (e : Event) (number : ℕ) (raw : Raw) (f : FrameAt) (route : Route) (got : List (ArrayVec ℕ)) (before told : Option (List LinkCall)) →
-    e ≡ Arrive number raw → course.events + 1 < number_limit → length got ≤ 16 → HasNext post x old course l e → Flies (world_at x l) x.setting number f → Exchanged x.setting f route got before told →
+    e ≡ Arrive number raw → course.events + 1 < event_limit → length got ≤ 16 → HasNext post x old course l e → Flies (world_at x l) x.setting number f → Exchanged x.setting f route got before told →
     (calls : List LinkCall) × Adds before told calls × ArrivalCalls x l calls × AllByRecursion IsFrameCall calls
 calls_made post x old course l e number raw f route got before told same room few n flies ex = (
   arrival_calls (sending_end (way_by f route)) (receiving_end (way_by f route)) (octets_of f.sending.message) got,
@@ -162,7 +162,7 @@ calls_made post x old course l e number raw f route got before told same room fe
 
 -- a call failed
 pub call_failed : {F : Type 0} (post : F → ℤ → ℤ → Type 0) (x : Plan) (old : LoopedNetwork F) (course : LoopCourse) (l : LoopAt) (e : Event) (number : ℕ) (raw : Raw) (f : FrameAt) (before told : Option (List LinkCall)) →
-    e ≡ Arrive number raw → course.events + 1 < number_limit → HasNext post x old course l e → Flies (world_at x l) x.setting number f → CutOff f before told → ArrivalFails x l before told
+    e ≡ Arrive number raw → course.events + 1 < event_limit → HasNext post x old course l e → Flies (world_at x l) x.setting number f → CutOff f before told → ArrivalFails x l before told
 call_failed post x old course l e number raw f before told same room n flies cut =
     let link = lit_link x.setting (world_at x l) f.link flies.lit in
     let way : Way = record { link = f.link; by = f.by; to = end_of (other_of f.by) link.0 } in
@@ -204,7 +204,7 @@ pub fits_same : {F : Type 0} (network : LoopedNetwork F) (course next : LoopCour
 fits_same network course next h sim events = record {
   sim = subst (FitsSim network.world.plant.net.cfg) (sym sim) h.sim;
   count = h.count ∙ sym events;
-  below = subst (λ k. k < number_limit) (sym events) h.below;
+  below = subst (λ k. k < event_limit) (sym events) h.below;
 }
 
 pub routes_next : {F : Type 0} (post : F → ℤ → ℤ → Type 0) → EventsAreAccepted → (x : Plan) (network : LoopedNetwork F) (course : LoopCourse) (l : LoopAt) (e : Event) (number : ℕ) (raw : Raw) (route : Route) (got : List (ArrayVec ℕ)) (before told : Option (List LinkCall)) →
@@ -215,7 +215,7 @@ routes_next post sim x network course l e number raw route got before told same 
     (x, l, it.frame, record { next = n; flies = it.flies; routes = ex.routes })
 
 pub carried_round : {F : Type 0} (post : F → ℤ → ℤ → Type 0) → EventsAreAccepted → (x : Plan) (old new : LoopedNetwork F) (kept next : LoopCourse) (l : LoopAt) (e : Event) (number : ℕ) (raw : Raw) (route : Route) (got : List (ArrayVec ℕ)) (goes : Bool) (before told : Option (List LinkCall)) (start text : List ℕ) →
-    e ≡ Arrive number raw → kept.events + 1 < number_limit → length got ≤ 16 → HasNext post x old kept l e → ExchangedBy post old.world number route got before told →
+    e ≡ Arrive number raw → kept.events + 1 < event_limit → length got ≤ 16 → HasNext post x old kept l e → ExchangedBy post old.world number route got before told →
     ((x : Plan) (l : LoopAt) (f : FrameAt) → (n : NextArrives post x old kept l e number f route) → CarriedOn post x new next l (way_by f route) e n.next.new got goes start text) → RoundCame post x new next l goes before told start text
 carried_round post sim x old new kept next l e number raw route got goes before told start text same room few n exchanged on =
     let it : NextFlies x l number = next_flies post sim x old kept l e number raw same n in
@@ -223,14 +223,14 @@ carried_round post sim x old new kept next l e number raw route got goes before 
     round_came post x old new kept next l e number raw it.frame route got goes before told start text same room few n it.flies ex (on x l it.frame (record { next = n; flies = it.flies; routes = ex.routes }))
 
 pub lacking_round : {F : Type 0} (post : F → ℤ → ℤ → Type 0) → EventsAreAccepted → (x : Plan) (old : LoopedNetwork F) (kept : LoopCourse) (l : LoopAt) (e : Event) (number : ℕ) (raw : Raw) (route : Route) (got : List (ArrayVec ℕ)) (before told : Option (List LinkCall)) →
-    e ≡ Arrive number raw → kept.events + 1 < number_limit → length got ≤ 16 → HasNext post x old kept l e → ExchangedBy post old.world number route got before told →
+    e ≡ Arrive number raw → kept.events + 1 < event_limit → length got ≤ 16 → HasNext post x old kept l e → ExchangedBy post old.world number route got before told →
     (calls : List LinkCall) × Adds before told calls × ArrivalCalls x l calls × AllByRecursion IsFrameCall calls
 lacking_round post sim x old kept l e number raw route got before told same room few n exchanged =
     let it : NextFlies x l number = next_flies post sim x old kept l e number raw same n in
     calls_made post x old kept l e number raw it.frame route got before told same room few n it.flies (exchanged x.setting (world_at x l) it.frame n.has.stands n.has.net it.flies)
 
 pub failing_round : {F : Type 0} (post : F → ℤ → ℤ → Type 0) → EventsAreAccepted → (x : Plan) (old : LoopedNetwork F) (kept : LoopCourse) (l : LoopAt) (e : Event) (number : ℕ) (raw : Raw) (before told : Option (List LinkCall)) →
-    e ≡ Arrive number raw → kept.events + 1 < number_limit → HasNext post x old kept l e → CutOffBy post old.world number before told → ArrivalFails x l before told
+    e ≡ Arrive number raw → kept.events + 1 < event_limit → HasNext post x old kept l e → CutOffBy post old.world number before told → ArrivalFails x l before told
 failing_round post sim x old kept l e number raw before told same room n cut =
     let it : NextFlies x l number = next_flies post sim x old kept l e number raw same n in
     call_failed post x old kept l e number raw it.frame before told same room n it.flies (cut x.setting (world_at x l) it.frame n.has.stands n.has.net it.flies)

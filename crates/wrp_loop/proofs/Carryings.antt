@@ -10,7 +10,7 @@ use Rattle.wrp_loop.specs.declared.network.LoopedNetwork.{LoopedNetwork}
 use Rattle.wrp_loop.specs.declared.routes.Route.{Route}
 use Rattle.wrp_loop.specs.Datagrams.{Way}
 use Rattle.wrp_loop.specs.Index.{Forgets, came_at}
-use Rattle.wrp_loop.specs.LoopRun.{LoopAt, Plan, happened, number_limit, with_event}
+use Rattle.wrp_loop.specs.LoopRun.{LoopAt, Plan, event_limit, happened, with_event}
 use Rattle.wrp_loop.specs.LoopStands.{ArrivalFails, Carries, CarriedOn, CutOffBy, ExchangedBy, HandledAll, Happens, HasNext, IsArrivalOf, IsCarried, IsNext, NextArrives, RoundCame, RoutesNext, SomeFlies, way_by}
 use Rattle.wrp_loop.specs.SoFar.{RoundLacks}
 use Rattle.wrp_loop.proofs.Arrivals.{carried_on, carried_round, carried_start, failing_round, forgets_next, lacking_round, routes_next, some_flies}
@@ -55,7 +55,7 @@ pub routes_so : {F : Type 0} (post : F → ℤ → ℤ → Type 0) → EventsAre
 routes_so post sim network course next e number route got before told same h keeps exchanged = routes_next post sim h.0 network next h.1 e number same.0 route got before told same.1 (keeps h.0 h.1 h.2) exchanged
 
 pub lacks_so : {F : Type 0} (post : F → ℤ → ℤ → Type 0) → EventsAreAccepted → (x : Plan) (old : LoopedNetwork F) (kept : LoopCourse) (l : LoopAt) (e : Event) (number : ℕ) (route : Route) (got : List (ArrayVec ℕ)) (before told : Option (List LinkCall)) → IsArrivalOf number e →
-    kept.events + 1 < number_limit → length got ≤ 16 → HasNext post x old kept l e → ExchangedBy post old.world number route got before told → RoundLacks x l before told
+    kept.events + 1 < event_limit → length got ≤ 16 → HasNext post x old kept l e → ExchangedBy post old.world number route got before told → RoundLacks x l before told
 lacks_so post sim x old kept l e number route got before told same room few n exchanged =
     let it = lacking_round post sim x old kept l e number same.0 route got before told same.1 room few n exchanged in
     record { calls = it.0; adds = it.1; which = inr it.2; frames = it.3 }
@@ -63,12 +63,12 @@ lacks_so post sim x old kept l e number route got before told same room few n ex
 -- What becomes of the round
 
 pub round_so : {F : Type 0} (post : F → ℤ → ℤ → Type 0) → EventsAreAccepted → (x : Plan) (old new : LoopedNetwork F) (kept next : LoopCourse) (l : LoopAt) (e : Event) (number : ℕ) (route : Route) (lent got : List (ArrayVec ℕ)) (goes : Bool) (before told : Option (List LinkCall)) (start text : List ℕ) →
-    IsArrivalOf number e → kept.events + 1 < number_limit → length got ≤ 16 → lent ≡ got → HasNext post x old kept l e → ExchangedBy post old.world number route got before told →
+    IsArrivalOf number e → kept.events + 1 < event_limit → length got ≤ 16 → lent ≡ got → HasNext post x old kept l e → ExchangedBy post old.world number route got before told →
     ((x : Plan) (l : LoopAt) (f : FrameAt) (n : NextArrives post x old kept l e number f route) → CarriedOn post x new next l (way_by f route) e n.next.new lent goes start text) → RoundCame post x new next l goes before told start text
 round_so post sim x old new kept next l e number route lent got goes before told start text same room few is n exchanged on =
     carried_round post sim x old new kept next l e number same.0 route got goes before told start text same.1 room few n exchanged
     (λ y k f m. subst (λ (taken : List (ArrayVec ℕ)). CarriedOn post y new next k (way_by f route) e m.next.new taken goes start text) is (on y k f m))
 
-pub fails_so : {F : Type 0} (post : F → ℤ → ℤ → Type 0) → EventsAreAccepted → (x : Plan) (network : LoopedNetwork F) (course : LoopCourse) (l : LoopAt) (e : Event) (number : ℕ) (before told : Option (List LinkCall)) → IsArrivalOf number e → course.events + 1 < number_limit → HasNext post x network course l e →
+pub fails_so : {F : Type 0} (post : F → ℤ → ℤ → Type 0) → EventsAreAccepted → (x : Plan) (network : LoopedNetwork F) (course : LoopCourse) (l : LoopAt) (e : Event) (number : ℕ) (before told : Option (List LinkCall)) → IsArrivalOf number e → course.events + 1 < event_limit → HasNext post x network course l e →
     CutOffBy post network.world number before told → ArrivalFails x l before told
 fails_so post sim x network course l e number before told same room n cut = failing_round post sim x network course l e number same.0 before told same.1 room n cut

@@ -23,7 +23,7 @@ use Rattle.wrp_loop.specs.declared.outcome.LoopFault.TheVariants as faults
 use Rattle.wrp_loop.specs.Calls.{Adds}
 use Rattle.wrp_loop.specs.Index.{IsIndex}
 use Rattle.wrp_loop.specs.LoopEnds.{NextIsTooMany}
-use Rattle.wrp_loop.specs.LoopRun.{Dropped, GivesNext, IsCounted, IsPlain, LoopAt, Plain, Plan, events_at, number_limit, without_frame, world_at}
+use Rattle.wrp_loop.specs.LoopRun.{Dropped, GivesNext, IsCounted, IsPlain, LoopAt, Plain, Plan, event_limit, events_at, without_frame, world_at}
 use Rattle.wrp_loop.specs.LoopStands.{CamePlain, CanHappen, FitsCourse, HasNext, IsArrivalOf, IsInLoop, IsNext, RoundCame, StandsAt}
 use Rattle.wrp_loop.specs.SoFar.{Arrivals, MovesOn, RoundLacks, RoundStays, Rounds, rounds_left}
 use Rattle.wrp_loop.proofs.Growing.{grows_none}
@@ -139,13 +139,13 @@ handing_moves i e now same = subst (λ (k : Event). MovesOn k now now) (sym same
 
 -- How many rounds are left
 
-less_left : (before now times others : ℕ) → before < now → now < number_limit → times ≤ 2 → 3 * (2 ^ 32 - now) + times < 3 * (2 ^ 32 - before) + others
+less_left : (before now times others : ℕ) → before < now → now < event_limit → times ≤ 2 → 3 * (2 ^ 32 - now) + times < 3 * (2 ^ 32 - before) + others
 less_left before now times others less below few = omega (arith, less, below, few)
 
 once_less : (before now events times others : ℕ) → before ≡ events → now ≡ events → others ≡ times + 1 → 3 * (2 ^ 32 - now) + times < 3 * (2 ^ 32 - before) + others
 once_less before now events times others same also once = omega (arith, same, also, once)
 
-fewer : (e : Event) (old mid : State) (before now times : ℕ) → HandsOver old mid e → MovesOn e before now → times ≡ mid.arrived.times → times ≤ 2 → now < number_limit → 3 * (2 ^ 32 - now) + times < 3 * (2 ^ 32 - before) + old.arrived.times
+fewer : (e : Event) (old mid : State) (before now times : ℕ) → HandsOver old mid e → MovesOn e before now → times ≡ mid.arrived.times → times ≤ 2 → now < event_limit → 3 * (2 ^ 32 - now) + times < 3 * (2 ^ 32 - before) + old.arrived.times
 fewer (Deliver j) old mid before now times hands moves same few below = once_less before now before times old.arrived.times refl moves (hands.once ∙ ap (λ n. n + 1) (sym same))
 fewer (Arrive j raw) old mid before now times hands moves same few below = less_left before now times old.arrived.times moves below few
 fewer (Pass dt drifts fibres) old mid before now times hands moves same few below = less_left before now times old.arrived.times moves below few
@@ -169,7 +169,7 @@ adds_none None = refl
 adds_none (Some calls) = ap Some (sym (append-nil calls))
 
 -- an event with too great a number
-pub too_many : {F : Type 0} (post : F → ℤ → ℤ → Type 0) (x : Plan) (network : LoopedNetwork F) (course : LoopCourse) (l : LoopAt) (e : Event) (told : Option (List LinkCall)) (text : List ℕ) → course.events + 1 ≡ number_limit → IsCounted e → HasNext post x network course l e →
+pub too_many : {F : Type 0} (post : F → ℤ → ℤ → Type 0) (x : Plan) (network : LoopedNetwork F) (course : LoopCourse) (l : LoopAt) (e : Event) (told : Option (List LinkCall)) (text : List ℕ) → course.events + 1 ≡ event_limit → IsCounted e → HasNext post x network course l e →
     RoundStays post x network course l told told text text × NextIsTooMany x l
 too_many post x network course l e told text full counted n = (
   record { stands = n.has.stands; count = n.has.count; forged = n.has.forged; calls = refl; text = refl },

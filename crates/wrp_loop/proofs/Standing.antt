@@ -28,7 +28,7 @@ use Rattle.wrp_loop.specs.declared.network.LoopedNetwork.{LoopedNetwork}
 use Rattle.wrp_loop.specs.declared.routes.Route.{Route}
 use Rattle.wrp_loop.specs.Datagrams.{IsOfPeer, IsSuch, Way, end_number, hands}
 use Rattle.wrp_loop.specs.Index.{HasArrived, IsIndex, came_at}
-use Rattle.wrp_loop.specs.LoopRun.{HasRoom, IsPlain, LoopAt, Plan, events_at, happened, noise_stamp, number_limit, with_between, with_event, world_at}
+use Rattle.wrp_loop.specs.LoopRun.{HasRoom, IsPlain, LoopAt, Plan, event_limit, events_at, happened, noise_stamp, with_between, with_event, world_at}
 use Rattle.wrp_loop.specs.LoopStands.{CameOne, CamePlain, CanHappen, Carries, FitsCourse, Grows, Happens, HasLooped, HasNext, StandsAt, port_of_route}
 use Rattle.wrp_loop.proofs.Accepting.{IsStill, deliver_accepted, noise_accepted, noise_is_event, still_carrier}
 use Rattle.wrp_loop.proofs.Frames.{IsArrivalAt}
@@ -51,7 +51,7 @@ numbered post s w world i f stands is =
 -- The course
 
 pub counted_on : {F : Type 0} (old new : LoopedNetwork F) (course next : LoopCourse) → FitsCourse old course → new.world.plant.net ≡ old.world.plant.net → new.world.plant.events ≡ old.world.plant.events + 1 → next.events ≡ course.events + 1 →
-    course.events + 1 < number_limit → next.sim ≡ course.sim → FitsCourse new next
+    course.events + 1 < event_limit → next.sim ≡ course.sim → FitsCourse new next
 counted_on old new course next fits net events count room sim = record {
   sim = subst (λ k. FitsSim new.world.plant.net.cfg k) (sym sim) (subst (λ k. FitsSim k.cfg course.sim) (sym net) fits.sim);
   count = let own = fits.count in omega (arith, events, count, own);
@@ -131,11 +131,11 @@ plain_hands (Up n off swaps) plain i = refl
 plain_hands (Cut k) plain i = refl
 plain_hands (Join k ms sm) plain i = refl
 
-pub has_room : {F : Type 0} (post : F → ℤ → ℤ → Type 0) (x : Plan) (network : LoopedNetwork F) (course : LoopCourse) (l : LoopAt) → HasLooped post x network course l → course.events + 1 < number_limit → HasRoom l
+pub has_room : {F : Type 0} (post : F → ℤ → ℤ → Type 0) (x : Plan) (network : LoopedNetwork F) (course : LoopCourse) (l : LoopAt) → HasLooped post x network course l → course.events + 1 < event_limit → HasRoom l
 has_room post x network course l has room = let own = has.count in omega (arith, own, room)
 
 -- an event that is no arrival and hands nothing over
-pub plain_came : {F : Type 0} (post : F → ℤ → ℤ → Type 0) → EventsAreAccepted → (x : Plan) (old new : LoopedNetwork F) (course next : LoopCourse) (l : LoopAt) (e : Event) (before text : List ℕ) → IsPlain e → course.events + 1 < number_limit →
+pub plain_came : {F : Type 0} (post : F → ℤ → ℤ → Type 0) → EventsAreAccepted → (x : Plan) (old new : LoopedNetwork F) (course next : LoopCourse) (l : LoopAt) (e : Event) (before text : List ℕ) → IsPlain e → course.events + 1 < event_limit →
     HasNext post x old course l e → Happens post e old.world new.world before text → next.events ≡ course.events + 1 → next.forged ≡ course.forged → next.sim ≡ course.sim → next.index ≡ course.index → CamePlain post x new next l before text
 plain_came post sim x old new course next l e before text plain room n h count forged same index =
     let it : NextIs x l e = next_is post sim x old course l e n in
@@ -169,7 +169,7 @@ arrival_listed post sim x old course l j from raw says answer f n is on sent =
 
 -- one came
 pub between_came : {F : Type 0} (post : F → ℤ → ℤ → Type 0) (x : Plan) (old new : LoopedNetwork F) (course next : LoopCourse) (l : LoopAt) (way : Way) (route : Route) (e : Event) (before text : List ℕ) → MayBeBetween e → IsStill e →
-    IsEventOf x.setting.cfg e → ((says : Result PtpMsg FrameFault) → IsSaid e says → Accepts x.setting (world_at x l) says e) → course.events + 1 < number_limit →
+    IsEventOf x.setting.cfg e → ((says : Result PtpMsg FrameFault) → IsSaid e says → Accepts x.setting (world_at x l) says e) → course.events + 1 < event_limit →
     Carries post x old course l way route → (h : Happens post e old.world new.world before text) →
     next.events ≡ course.events + 1 → next.forged ≡ course.forged → next.sim ≡ course.sim → IsIndex x.setting (happened e h.says h.answer ∷ events_at l) next.index.came.items next.index.handed.items →
     CameOne post x new next l way route e true before text
@@ -202,7 +202,7 @@ between_came post x old new course next l way route e before text may still even
     }
 
 -- its number is too great
-pub between_full : {F : Type 0} (post : F → ℤ → ℤ → Type 0) (x : Plan) (network : LoopedNetwork F) (course : LoopCourse) (l : LoopAt) (way : Way) (route : Route) (e : Event) (text : List ℕ) → course.events + 1 ≡ number_limit →
+pub between_full : {F : Type 0} (post : F → ℤ → ℤ → Type 0) (x : Plan) (network : LoopedNetwork F) (course : LoopCourse) (l : LoopAt) (way : Way) (route : Route) (e : Event) (text : List ℕ) → course.events + 1 ≡ event_limit →
     Carries post x network course l way route → CameOne post x network course l way route e false text text
 between_full post x network course l way route e text full c = record {
   now = l;
@@ -219,7 +219,7 @@ such_arrived post x network course l way route octets i c such = record {
 }
 
 -- a frame is handed over
-pub delivery_came : {F : Type 0} (post : F → ℤ → ℤ → Type 0) (x : Plan) (old new : LoopedNetwork F) (course next : LoopCourse) (l : LoopAt) (way : Way) (route : Route) (octets : List ℕ) (i from : ℕ) (before text : List ℕ) → course.events + 1 < number_limit →
+pub delivery_came : {F : Type 0} (post : F → ℤ → ℤ → Type 0) (x : Plan) (old new : LoopedNetwork F) (course next : LoopCourse) (l : LoopAt) (way : Way) (route : Route) (octets : List ℕ) (i from : ℕ) (before text : List ℕ) → course.events + 1 < event_limit →
     Carries post x old course l way route → IsSuch x.setting (world_at x l) way octets i → Happens post (Deliver i) old.world new.world before text →
     next.events ≡ course.events + 1 → next.forged ≡ course.forged → next.sim ≡ course.sim → next.index.came ≡ course.index.came → next.index.handed.items ≡ course.index.handed.items ++ came_at i from ∷ [] →
     CameOne post x new next l way route (Deliver i) true before text
@@ -242,7 +242,7 @@ noise_keeps x l way route frame net port to never lit says said =
     subst (λ (end : End). Accepts x.setting (world_at x l) says (Noise end.node end.port frame noise_stamp)) port
     (noise_accepted x.setting net (world_at x l) way.link (other_of way.by) way.to frame noise_stamp says to said never lit)
 
-pub noise_came : {F : Type 0} (post : F → ℤ → ℤ → Type 0) (x : Plan) (old new : LoopedNetwork F) (course next : LoopCourse) (l : LoopAt) (way : Way) (route : Route) (frame : ArrayVec ℕ) (before text : List ℕ) → course.events + 1 < number_limit →
+pub noise_came : {F : Type 0} (post : F → ℤ → ℤ → Type 0) (x : Plan) (old new : LoopedNetwork F) (course next : LoopCourse) (l : LoopAt) (way : Way) (route : Route) (frame : ArrayVec ℕ) (before text : List ℕ) → course.events + 1 < event_limit →
     Carries post x old course l way route → (IsOfPeer x.setting way.to frame.items → ⊥) → Happens post (Noise route.node route.port frame noise_stamp) old.world new.world before text →
     next.events ≡ course.events + 1 → next.forged ≡ course.forged → next.sim ≡ course.sim → next.index ≡ course.index →
     CameOne post x new next l way route (Noise route.node route.port frame noise_stamp) true before text

@@ -48,15 +48,15 @@ world_at x l = world_after x.setting (events_at l)
 -- Numbers of events
 
 -- the number that no event may reach; events are counted from 1
-abbrev pub number_limit : ℕ
-number_limit = 2 ^ 32 - 1
+abbrev pub event_limit : ℕ
+event_limit = 2 ^ 32 - 1
 
 -- the next event has a number that it may have, or it has not
 abbrev pub HasRoom : LoopAt → Type 0
-HasRoom l = length (events_at l) + 1 < number_limit
+HasRoom l = length (events_at l) + 1 < event_limit
 
 abbrev pub IsFull : LoopAt → Type 0
-IsFull l = length (events_at l) + 1 ≡ number_limit
+IsFull l = length (events_at l) + 1 ≡ event_limit
 
 -- a loop goes on from here, or is over since the number of its next event is too great
 pub data Going : Type 0 where

@@ -28,7 +28,7 @@ use Rattle.wrp_loop.specs.declared.routes.Route.{Route}
 use Rattle.wrp_loop.specs.Calls.{Adds, AreCutCalls, IsFrame, IsFrameCall, arrival_calls}
 use Rattle.wrp_loop.specs.Datagrams.{IsOfPeer, IsSuch, Way, end_number, receiving_end, sending_end}
 use Rattle.wrp_loop.specs.Index.{IsIndex}
-use Rattle.wrp_loop.specs.LoopRun.{ComesBetween, FrameArrives, GivesNext, Going, On, Full, Handles, HandlesAll, IsRound, LoopAt, Plan, PlainComes, Round, events_at, happened, number_limit, with_event, world_at}
+use Rattle.wrp_loop.specs.LoopRun.{ComesBetween, FrameArrives, GivesNext, Going, On, Full, Handles, HandlesAll, IsRound, LoopAt, Plan, PlainComes, Round, event_limit, events_at, happened, with_event, world_at}
 use Rattle.wrp_loop.specs.LoopText.{loop_text, marked_line, step_lines}
 
 -- Events
@@ -66,7 +66,7 @@ CanLoop pre post network = IsValid pre post network.world
 pub record FitsCourse {F : Type 0} (network : LoopedNetwork F) (course : LoopCourse) : Type 0 where
   pub sim : FitsSim network.world.plant.net.cfg course.sim
   pub count : network.world.plant.events ≡ course.events
-  pub below : course.events < number_limit
+  pub below : course.events < event_limit
 
 -- a loop has come so far, but for what makes its next events
 pub record HasLooped {F : Type 0} (post : F → ℤ → ℤ → Type 0) (x : Plan) (network : LoopedNetwork F)

@@ -18,10 +18,6 @@ use wrp_suite::{Answer, Case, Fault, Kinds, run_files};
 struct NodeParts;
 
 impl Kinds for NodeParts {
-    fn has(kind: &str) -> bool {
-        matches!(kind, "node" | "port" | "servo")
-    }
-
     fn answer(alloc: Global, case: &Case) -> Result<Answer, Fault> {
         match case.kind.as_str() {
             "node" => node::answer(alloc, case),

@@ -25,13 +25,6 @@ use wrp_suite::{Answer, Case, Fault, Kinds, run_files};
 struct Parts;
 
 impl Kinds for Parts {
-    fn has(kind: &str) -> bool {
-        matches!(
-            kind,
-            "frame" | "tlv" | "numbers" | "table" | "unwrap" | "link" | "verdict" | "exchange"
-        )
-    }
-
     fn answer(alloc: Global, case: &Case) -> Result<Answer, Fault> {
         match case.kind.as_str() {
             "frame" => frames::answer(alloc, case),

@@ -50,7 +50,7 @@ fn replay_by<F: Fn(i64) -> i64, S: Source, K: Sink>(
     }
 }
 
-/// Replays the node over the records that a reader gives. All laws are one closure, which is made here.
+/// Replays the node over the records that a reader gives. The law of the link above it is a closure, which is made here.
 pub fn replay<S: Source, K: Sink>(
     alloc: Global,
     replayed: Replayed<'_>,

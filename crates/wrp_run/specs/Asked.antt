@@ -1,4 +1,5 @@
--- What the words of the command line ask for (this project's profile).
+-- What the words ask of the top call: a command, and work on a whole network; and what stands in front of its records
+-- (this project's profile).
 use Rattle.std.specs.Prelude.{◌≡◌, ◌<◌, ◌≤◌, true, ℕ, Option, None, Some, IfSome, Ok, List, length}
 use Rattle.std.specs.Io.KnownBytes.{Consumes, IsAtEnd}
 use Rattle.wrp_base.specs.Network.{node_count}

@@ -141,8 +141,9 @@ pub fn run<S: Source, K: Sink, N: Link>(
         × Adds (N.told link.old) (N.told link.new) calls
         × LoopHeadline (texts_of words.now) input calls result octets) }
 
-    // Words that are no command are refused with nothing read. No link is used but by a loop, and by a loop only
-    // behind its whole scenario.
+    // Words that are no command are refused with nothing read. No link is used but by a loop, and by a loop not where
+    // the status tells of its words, its network, a record or the source. That it is used only behind the whole scenario,
+    // also where memory lacked, a line was too large or a write failed, stands in `ends`, of a link that tells its calls.
     ensures unread { (IsCommand (texts_of words.now) → ⊥) → source.new ≡ source.old }
     ensures link { ((seed : ℕ) → IsLooping (texts_of words.now) seed → ⊥) → link.new ≡ link.old }
     ensures unstarted { IsUncalled result → link.new ≡ link.old }

@@ -30,21 +30,6 @@ use wrp_suite::{Answer, Case, Fault, Kinds, run_files};
 struct TopCall;
 
 impl Kinds for TopCall {
-    fn has(kind: &str) -> bool {
-        matches!(
-            kind,
-            "run"
-                | "reads"
-                | "writes"
-                | "cuts"
-                | "migrated"
-                | "tracks"
-                | "projection"
-                | "carried"
-                | "number"
-        )
-    }
-
     fn answer(alloc: Global, case: &Case) -> Result<Answer, Fault> {
         match case.kind.as_str() {
             "run" => Ok(runs::answer(alloc, case)?),
@@ -55,7 +40,8 @@ impl Kinds for TopCall {
             "tracks" => Ok(tracks::answer(alloc, case)?),
             "projection" => projections::answer(alloc, case),
             "carried" => carried::answer(alloc, case),
-            _ => statuses::answer(alloc, case),
+            "number" => statuses::answer(alloc, case),
+            _ => Err(Fault::Word),
         }
     }
 }

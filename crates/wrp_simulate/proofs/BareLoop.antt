@@ -24,7 +24,7 @@ use Rattle.wrp_loop.specs.declared.fate.Fate.TheVariants.{Handed, Forged, Noisy}
 use Rattle.wrp_loop.specs.Datagrams.{IsFate, IsFrameOf, IsSuch, IsWayOf, Way, handed_in}
 use Rattle.wrp_loop.specs.Laws.{Ending, EndsAs, Large, Over}
 use Rattle.wrp_loop.specs.LoopEnds.{IsOver, IsOverrun}
-use Rattle.wrp_loop.specs.LoopRun.{Carried, Dropped, FrameArrives, FrameCarried, Full, Goes, Going, Handles, HandlesAll, IsRound, LoopAt, Loops, On, Plain, Round, events_at, place}
+use Rattle.wrp_loop.specs.LoopRun.{Carried, Dropped, FrameArrives, FrameCarried, Full, Goes, Going, Handles, HandlesAll, IsRound, LoopAt, Loops, On, Plain, Round, event_limit, events_at, place}
 use Rattle.wrp_loop.specs.LoopText.{forged_lines, loop_lines, loop_text, marked_line, step_lines}
 use Rattle.wrp_loop.specs.LoopStands.{ArrivalCalls}
 use Rattle.wrp_loop.proofs.Choices.{choice_of}
@@ -33,7 +33,6 @@ use Rattle.wrp_records.specs.declared.status.Status.TheVariants.{LinkFault, OutO
 use Rattle.wrp_records.specs.RecordsAnswer.{RecordsAnswer}
 use Rattle.wrp_records.specs.Stream.{large_line}
 use Rattle.wrp_simulate.specs.Loops.{IsShort, LoopBreaks, LoopCloses, LoopEnded, LoopFailed, LoopShort, closing_lines, loop_of, plan_of}
-use Rattle.wrp_simulate.specs.Simulates.{event_limit}
 use Rattle.wrp_audit.proofs.BareAudit.{after_bare, bare_setting, ends_bare, steps_at_bare}
 use Rattle.wrp_simulate.proofs.BareRuns.{answered_bare, counts_text, due_so}
 use Rattle.wrp_replay.proofs.BareSetting.{name_bare, path_bare}

@@ -19,7 +19,7 @@ use Rattle.wrp_base.proofs.Lists.{all_append}
 use Rattle.wrp_loop.specs.Calls.{Adds, IsFrameCall}
 use Rattle.wrp_loop.specs.Laws.{Ending, EndsAs, Large, Over}
 use Rattle.wrp_loop.specs.LoopEnds.{CallFails, EndsLarge, EndsOver}
-use Rattle.wrp_loop.specs.LoopRun.{Full, Going, LoopAt, Loops, On, Plan, events_at, place, world_at}
+use Rattle.wrp_loop.specs.LoopRun.{Full, Going, LoopAt, Loops, On, Plan, event_limit, events_at, place, world_at}
 use Rattle.wrp_loop.specs.LoopText.{loop_text}
 use Rattle.wrp_loop.specs.LoopStands.{ArrivalFails}
 use Rattle.wrp_loop.specs.SoFar.{Begins, CameSoFar, ComesShort, EndedSo, Leads, RoundLacks}
@@ -37,7 +37,7 @@ use Rattle.wrp_audit.specs.AuditStands.{HasLawOf, setting_in}
 use Rattle.wrp_simulate.specs.LoopPasses.{ClosesLoop, IsUncalled, LoopPasses, Ran, RanDue, RanSo, Rounding}
 use Rattle.wrp_simulate.specs.Loops.{IsLawful, IsShort, closing_lines, plan_of}
 use Rattle.wrp_simulate.specs.SimStands.{ClosesLarge}
-use Rattle.wrp_simulate.specs.Simulates.{IsScenario, SimAccepts, SimRefuses, event_limit, scenario_of}
+use Rattle.wrp_simulate.specs.Simulates.{IsScenario, SimAccepts, SimRefuses, scenario_of}
 use Rattle.wrp_audit.specs.LawsFit.{LawsFit}
 use Rattle.wrp_audit.proofs.AuditSteps.{answered, made_after}
 use Rattle.wrp_audit.proofs.NewAudit.{laws_are}

@@ -39,7 +39,8 @@ use Rattle.wrp_audit.specs.AuditStands.{setting_in}
 use Rattle.wrp_records.specs.Engine.{Finishes}
 use Rattle.wrp_simulate.specs.SimStands.{AreTotals, Begins, CanRun, ClosesLarge, ClosesRun, FitsCourse, HasRun, Running, RunsOn}
 use Rattle.wrp_simulate.specs.SimText.{offsets_in, printed_lines, sum_lines, tracked}
-use Rattle.wrp_simulate.specs.Simulates.{IsScenario, event_limit, simulation_of}
+use Rattle.wrp_loop.specs.LoopRun.{event_limit}
+use Rattle.wrp_simulate.specs.Simulates.{IsScenario, simulation_of}
 use Rattle.wrp_records.specs.Stream.{large_line}
 use Rattle.wrp_records.specs.Taking.{AppendsPart}
 use Rattle.wrp_audit.proofs.AuditSteps.{answered, made_after}

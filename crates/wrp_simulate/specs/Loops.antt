@@ -9,7 +9,7 @@ use Rattle.wrp_io.specs.declared.link.LinkCall.{LinkCall}
 use Rattle.wrp_loop.specs.Calls.{IsFrameCall}
 use Rattle.wrp_loop.specs.Laws.{Ending, EndsAs, Large, Over}
 use Rattle.wrp_loop.specs.LoopEnds.{CallFails}
-use Rattle.wrp_loop.specs.LoopRun.{Full, Going, LoopAt, Loops, On, Plan, events_at, place}
+use Rattle.wrp_loop.specs.LoopRun.{Full, Going, LoopAt, Loops, On, Plan, event_limit, events_at, place}
 use Rattle.wrp_loop.specs.LoopText.{forged_lines, loop_text}
 use Rattle.wrp_loop.specs.SoFar.{ComesShort}
 use Rattle.wrp_records.specs.declared.status.Status.{Status}
@@ -18,7 +18,7 @@ use Rattle.wrp_records.specs.LineMeaning.{LineMeaning}
 use Rattle.wrp_records.specs.Stream.{large_line}
 use Rattle.wrp_audit.specs.Audited.{answers_in}
 use Rattle.wrp_audit.specs.AuditText.{all_counts}
-use Rattle.wrp_simulate.specs.Simulates.{IsScenario, SimAccepts, SimRefuses, event_limit}
+use Rattle.wrp_simulate.specs.Simulates.{IsScenario, SimAccepts, SimRefuses}
 use Rattle.wrp_sim.specs.Scenario.{SceneAt}
 
 -- Loops by a scenario

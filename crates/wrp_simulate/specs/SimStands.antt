@@ -34,7 +34,8 @@ use Rattle.wrp_records.specs.declared.status.Status.TheVariants.{Done, TooLarge,
 use Rattle.wrp_audit.specs.AuditStands.{HasLawOf, setting_in}
 use Rattle.wrp_records.specs.Engine.{Finishes}
 use Rattle.wrp_records.specs.Refusals.{bad_trace_line}
-use Rattle.wrp_simulate.specs.Simulates.{IsScenario, IsSimulated, event_limit}
+use Rattle.wrp_loop.specs.LoopRun.{event_limit}
+use Rattle.wrp_simulate.specs.Simulates.{IsScenario, IsSimulated}
 use Rattle.wrp_simulate.specs.SimText.{count_of, is_printed, printed_lines, sim_lines, sum_by, tracked, worst_of}
 use Rattle.wrp_records.specs.Stream.{large_line}
 

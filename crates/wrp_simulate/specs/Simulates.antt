@@ -1,6 +1,6 @@
 -- What the record lines of a simulation mean: the scenario that they say, and behind them what the network
 -- writes as it runs by it from a seed (this project's profile).
-use Rattle.std.specs.Prelude.{◌≡◌, ℕ, ◌+◌, ◌-◌, ◌^◌, ◌<◌, None, Some, Ok, Err, List, [], ◌∷◌, ◌++◌, length}
+use Rattle.std.specs.Prelude.{◌≡◌, ℕ, ◌+◌, ◌<◌, None, Some, Ok, Err, List, [], ◌∷◌, ◌++◌, length}
 use Rattle.wrp_base.specs.declared.fault.TraceFault.{TraceFault}
 use Rattle.wrp_sim.specs.Rules.{Next}
 use Rattle.wrp_sim.specs.Scenario.{SceneAt, new_scene}
@@ -9,6 +9,7 @@ use Rattle.wrp_sim.specs.SimAt.{SimAt}
 use Rattle.wrp_sim.specs.SimRun.{Gives, IsSimRun}
 use Rattle.wrp_course.specs.Run.{AllSaid, Happened, IsAnswered, world_after}
 use Rattle.wrp_course.specs.Setting.{Setting}
+use Rattle.wrp_loop.specs.LoopRun.{event_limit}
 use Rattle.wrp_records.specs.declared.machine.Refusal.{Refusal}
 use Rattle.wrp_records.specs.declared.machine.Refusal.TheVariants.{BadTrace, Broken}
 use Rattle.wrp_records.specs.declared.status.Status.{Status}
@@ -32,10 +33,6 @@ abbrev pub IsScenario : Setting → List (List ℕ) → SceneAt → Type 0
 IsScenario s lines scene = Changes s (new_scene s.cfg) lines scene
 
 -- Runs
-
--- the number that no event may reach
-abbrev pub event_limit : ℕ
-event_limit = 2 ^ 32 - 1
 
 -- the network ran through these events by its scenario, the newest first, and so much has been drawn and
 -- done; each measurement has the answer of its link's law

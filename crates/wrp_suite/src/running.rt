@@ -10,10 +10,8 @@ use std::{env, fs, io};
 
 /// The calls that a program of cases can make.
 pub trait Kinds {
-    /// Whether a word names one of them.
-    fn has(kind: &str) -> bool;
-    /// Makes the call of a case whose word is one of them. A case that is none of the call's, or whose condition does
-    /// not hold, is refused.
+    /// Makes the call of a case. A word that names none of them is refused with `Fault::Word`; so is a case that is none
+    /// of the call's, or whose condition does not hold, with its own fault.
     fn answer(alloc: Global, case: &Case) -> Result<Answer, Fault>;
 }
 
@@ -38,9 +36,6 @@ impl Counts {
 
 // What is told of a case: nothing where its answer is what is due.
 fn told_of<K: Kinds>(alloc: Global, case: &Case) -> Result<Option<String>, Fault> {
-    if !K::has(case.kind.as_str()) {
-        return Err(Fault::Word);
-    }
     let came = K::answer(alloc, case)?;
     if agrees(case, &came) {
         return Ok(None);

@@ -26,23 +26,6 @@ use wrp_suite::{Answer, Case, Fault, Kinds, run_files};
 struct Texts;
 
 impl Kinds for Texts {
-    fn has(kind: &str) -> bool {
-        matches!(
-            kind,
-            "network"
-                | "database"
-                | "database_in"
-                | "calibration"
-                | "plain"
-                | "plain_world"
-                | "l1_message"
-                | "l1_port"
-                | "l1_pair"
-                | "block"
-                | "line"
-        )
-    }
-
     fn answer(alloc: Global, case: &Case) -> Result<Answer, Fault> {
         match case.kind.as_str() {
             "network" => network::answer(alloc, case),
