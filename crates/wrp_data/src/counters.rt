@@ -77,26 +77,3 @@ impl Default for Counters {
         Counters::new()
     }
 }
-
-#[cfg(test)]
-mod tests {
-    use super::*;
-
-    #[test]
-    fn counts_up_to_the_greatest(rt: HostRuntime) {
-        let mut counters = Counters::new();
-        assert!(rt; counters.nonzero().is_empty());
-        for reason in [12, 4, 12] {
-            counters.count(reason);
-        }
-        let counts = [(Reason::Length, 1), (Reason::Quiet, 2)];
-        assert_eq!(rt; counters.nonzero().as_slice(), counts.as_slice());
-
-        counters.numbers[14] = 4_294_967_294;
-        for times in [4_294_967_295, 4_294_967_295] {
-            counters.count(15);
-            assert_eq!(rt; counters.get(15), times);
-        }
-        assert_eq!(rt; (counters.get(1), counters.get(14)), (0, 0));
-    }
-}

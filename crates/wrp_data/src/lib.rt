@@ -8,8 +8,6 @@ mod announcing;
 mod counters;
 mod datasets;
 mod reason;
-#[cfg(test)]
-mod tests;
 
 pub use announcing::{announce_of, suffix_of};
 pub use counters::Counters;

@@ -1,11 +1,13 @@
-//! `wrp_part_cases`: cases on the calls of the crates below a port: frames, TLVs, numbers, laws, phases, a link,
-//! verdicts on handshakes and exchanges. Each module tells what a case of its kind says.
+//! `wrp_part_cases`: cases on the calls of the crates below a port: frames, TLVs, numbers, laws, phases, a loop and
+//! its lock detector, a link, verdicts on handshakes and exchanges. Each module tells what a case of its kind says.
 #![tactic(auto)]
 
 mod arithmetic;
+mod controls;
 mod exchanges;
 mod frames;
 mod links;
+mod machines;
 mod messages;
 mod numbers;
 mod printing;
@@ -32,6 +34,8 @@ impl Kinds for Parts {
             "numbers" => numbers::answer(alloc, case),
             "table" => tables::answer(alloc, case),
             "unwrap" => unwrapping::answer(alloc, case),
+            "pi" => controls::answer_of_loop(alloc, case),
+            "lock" => controls::answer_of_lock(alloc, case),
             "link" => links::answer(alloc, case),
             "verdict" => verdicts::answer(alloc, case),
             "exchange" => exchanges::answer(alloc, case),

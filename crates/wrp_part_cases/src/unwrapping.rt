@@ -1,8 +1,9 @@
-//! `unwrap`: the word is the period of the clock in ps, and each line of the input is `push TAG` or `restart`. The
-//! unwrapped phase after each tag is due.
+//! `unwrap`: the word is the period of the clock in ps, and the numbers are tags (`machines`). The unwrapped phase after each
+//! is due.
 ghost use Rattle.std.specs.Prelude.{◌≡◌};
 
-use crate::words::{Words, clock_of, input_of, only_word};
+use crate::machines::{Machine, answer_of};
+use crate::words::{clock_of, only_word};
 use std::alloc::Global;
 use wrp_base::Clock;
 use wrp_phase::Unwrap;
@@ -24,15 +25,12 @@ impl Phase {
             answer: 0,
         }
     }
+}
 
-    // Forgets the tags.
-    fn restart(&mut self) {
-        self.unwrap.restart();
-        self.answer = 0;
-    }
-
+impl Machine for Phase {
     // Takes a tag, where the phase is below `2^60` tau on either side.
-    fn push(&mut self, tag: u16) -> Result<i64, Fault> {
+    fn push(&mut self, number: i64) -> Result<i64, Fault> {
+        let tag = u16::try_from(number).ok().ok_or(Fault::Number)?;
         if self.answer.unsigned_abs() >= 1 << 60 {
             return Err(Fault::Condition);
         }
@@ -40,31 +38,13 @@ impl Phase {
         Ok(self.answer)
     }
 
-    // What a line gives.
-    fn told(&mut self, alloc: Global, line: &str) -> Result<String, Fault> {
-        let mut words = Words::of(line);
-        match words.word()? {
-            "push" => {
-                let answer = self.push(words.number::<u16>()?)?;
-                words.end()?;
-                Ok(format!(in alloc; "{answer}\n")?)
-            }
-            "restart" => {
-                words.end()?;
-                self.restart();
-                Ok(String::new(alloc))
-            }
-            _ => Err(Fault::Input),
-        }
+    fn restart(&mut self) {
+        self.unwrap.restart();
+        self.answer = 0;
     }
 }
 
 /// What an `Unwrap` answers.
 pub fn answer(alloc: Global, case: &Case) -> Result<Answer, Fault> {
-    let mut phase = Phase::new(clock_of(only_word(case)?)?);
-    let mut text = String::new(alloc);
-    for line in input_of(case)?.split_terminator('\n') {
-        text.push_str(phase.told(alloc, line)?.as_str())?;
-    }
-    Ok(Answer::of(0, text))
+    answer_of(alloc, &mut Phase::new(clock_of(only_word(case)?)?), case)
 }

@@ -1,8 +1,15 @@
-//! Tests of the crates below a port that have to be code: a law with its closure, and the exchange beside a plain
-//! program. All else is cases, in `wrp_part_cases`.
+//! Tests that have to be code: a law with its closure, the exchange beside a plain program, a port's schedule over so many
+//! ticks that each sequenceId goes round, the calls of a servo that numbers draw, beside a plain program, and the link over
+//! sockets: no clause says what it carries. All else is cases, and a loop over sockets is what the gate runs `wrnet` on.
 #![tactic(auto)]
 
 #[cfg(test)]
 mod exch;
 #[cfg(test)]
 mod law;
+#[cfg(test)]
+mod port;
+#[cfg(test)]
+mod servo;
+#[cfg(test)]
+mod udp_link;

@@ -1,8 +1,8 @@
 -- Each call brings one tick at the most.
 use Rattle.std.proofs.Common.{◌%◌}
 use Rattle.wrp_servo.specs.Call.{CallSample, CallMeasured}
-use Rattle.wrp_node_tests.proofs.Ticks.{ticks-grow}
-use Rattle.wrp_node_tests.proofs.servo.call.Goals as goal
+use Rattle.wrp_tests.proofs.Ticks.{ticks-grow}
+use Rattle.wrp_tests.proofs.servo.call.Goals as goal
 
 pub returns-in-Sample-clause-ticks : goal.returns-in-Sample-clause-ticks
 returns-in-Sample-clause-ticks g c =

@@ -1,12 +1,10 @@
 //! A link over sockets of this machine: what goes in at one end comes out at the other.
-use crate::looping::{audited, looped, others};
 use std::alloc::Global;
 use std::io;
 use std::net::{Net, SocketAddr, TcpListener, TcpStream, UdpSocket};
 use std::test::Fail;
 use wrp_base::Frame;
 use wrp_io::{Link, StartFault, UdpLink};
-use wrp_run::Status;
 
 // The Signaling message of a slave with SLAVE_PRESENT.
 const FRAME: [u8; 56] = [
@@ -31,16 +29,6 @@ fn carries<L: Link>(link: &mut L, from: u32, to: u32) -> Result<bool, Fail> {
     Ok(false)
 }
 
-// Whether a loop over a link comes to its end and hands frames over, and an audit of its events prints its other lines.
-fn loops<L: Link>(alloc: Global, link: &mut L) -> Result<bool, Fail> {
-    let run = looped(alloc, link)?;
-    let audit = audited(alloc, run.text.as_str())?;
-    let other_lines = others(alloc, run.text.as_str())?;
-    let hands_over = run.text.lines().any(|line| line.starts_with("= deliver"));
-    let are_done = run.status == Status::Done && audit.status == Status::Done;
-    Ok(are_done && hands_over && audit.text.as_str() == other_lines.as_str())
-}
-
 #[test]
 fn udp_carries(rt: HostRuntime) -> Result<(), Fail> {
     let mut link = UdpLink::new(&rt, rt.alloc());
@@ -48,8 +36,6 @@ fn udp_carries(rt: HostRuntime) -> Result<(), Fail> {
     for (from, to) in [(0, 1), (1, 0)] {
         assert!(rt; carries(&mut link, from, to)?);
     }
-    let mut new_link = UdpLink::new(&rt, rt.alloc());
-    assert!(rt; loops(rt.alloc(), &mut new_link)?);
     Ok(())
 }
 

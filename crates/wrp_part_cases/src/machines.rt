@@ -1,0 +1,41 @@
+//! A machine that takes numbers, one after the other, and forgets them at a restart. Each line of a case's input is `push N`
+//! or `restart`, and what the machine answers to each number is due.
+use crate::words::{Words, input_of};
+use std::alloc::Global;
+use wrp_suite::{Answer, Case, Fault};
+
+/// A machine that takes numbers.
+pub trait Machine {
+    /// Takes a number.
+    fn push(&mut self, number: i64) -> Result<i64, Fault>;
+
+    /// Forgets the numbers.
+    fn restart(&mut self);
+}
+
+// What a line gives.
+fn told<M: Machine>(alloc: Global, machine: &mut M, line: &str) -> Result<String, Fault> {
+    let mut words = Words::of(line);
+    match words.word()? {
+        "push" => {
+            let answer = machine.push(words.number::<i64>()?)?;
+            words.end()?;
+            Ok(format!(in alloc; "{answer}\n")?)
+        }
+        "restart" => {
+            words.end()?;
+            machine.restart();
+            Ok(String::new(alloc))
+        }
+        _ => Err(Fault::Input),
+    }
+}
+
+/// What a machine answers.
+pub fn answer_of<M: Machine>(alloc: Global, machine: &mut M, case: &Case) -> Result<Answer, Fault> {
+    let mut text = String::new(alloc);
+    for line in input_of(case)?.split_terminator('\n') {
+        text.push_str(told(alloc, machine, line)?.as_str())?;
+    }
+    Ok(Answer::of(0, text))
+}
