@@ -1,10 +1,17 @@
 -- The value of a table: where it begins, that it does not fall, and how near it is to the exact fraction.
-use Rattle.std.proofs.Common.{◌≡◌, ℕ, suc, ℤ, ◌^◌, ◌+◌, ◌-◌, ◌≤◌, ◌≤ℤ◌, ◌<ℤ◌, true, false, cond, int_le, pos, ◌*◌, unsigned_abs, length, get_or, List, [], ◌∷◌, refl, subst, arith}
+use Rattle.std.proofs.Common.{◌≡◌, ℕ, suc, ℤ, ◌^◌, ◌+◌, ◌-◌, ◌≤◌, ◌≤ℤ◌, ◌<ℤ◌, true, false, cond, int_le, pos, ◌*◌, unsigned_abs, length, get_or, List, [], ◌∷◌, SFits, w64, refl, subst, arith}
 use Rattle.std.proofs.lemmas.Int.{ints}
 use Rattle.wrp_law.specs.Law.{IsNear}
-use Rattle.wrp_law.specs.Table.{Rises, IsWithin, TableNeverFalls, first_x, last_x, segment_value, table_value}
+use Rattle.wrp_law.specs.Table.{FitsPoint, Rises, IsWithin, TableNeverFalls, first_x, last_x, segment_value, table_value}
 use Rattle.wrp_law.specs.declared.delay.LawKind.TheVariants.{Linear}
 use Rattle.wrp_law.proofs.Segments.{segment_value-from, segment_value-to, segment_value-rises, segment_value-near}
+
+-- the numbers of a point in its range fit 64 bits
+pub fits_x : (point : ℤ × ℤ) → FitsPoint point → SFits w64 point.0
+fits_x point fits = omega (arith, ints, fits.least, fits.most)
+
+pub fits_y : (point : ℤ × ℤ) → FitsPoint point → SFits w64 point.1
+fits_y point fits = omega (arith, ints, fits.value)
 
 -- what a test of an order says
 pub is_before : (x z : ℤ) → int_le x z ≡ true → x ≤ℤ z

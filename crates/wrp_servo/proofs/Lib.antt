@@ -22,3 +22,4 @@ pub mod HoldoverLaws
 pub mod Gone
 mod LastLaws
 mod SeenLaws
+mod Passed
