@@ -1,14 +1,15 @@
 -- The lines that a reader holds, passed one after the other.
-use Rattle.std.proofs.Common.{◌≡◌, inl, ℕ, ◌+◌, ◌<◌, ◌≤◌, Option, None, Some, List, [], ◌++◌, length, map, refl, sym, ◌∙◌, append-nil, arith}
+use Rattle.std.proofs.Common.{◌≡◌, inl, ℕ, ◌+◌, ◌<◌, ◌≤◌, Option, None, Some, MatchOption, List, [], ◌++◌, length, map, refl, sym, ◌∙◌, append-nil, arith}
 use Rattle.std.proofs.KnownBytes.{Consumes-nil}
 use Rattle.std.proofs.lemmas.List.{length-map}
 use Rattle.wrp_records.specs.declared.engine.Ended.{Ended}
+use Rattle.wrp_records.specs.declared.status.Status.{Status}
 use Rattle.wrp_records.specs.declared.status.Status.TheVariants.{OutOfMemory}
 use Rattle.wrp_records.specs.Engine.{LineOutcome}
 use Rattle.wrp_records.specs.Lines.{content_of, IsWhole}
 use Rattle.wrp_records.specs.Reached.{Reached, Stopped, Comes}
 use Rattle.wrp_records.specs.Reader.{ReaderAt, piece_limit}
-use Rattle.wrp_records.specs.Stream.{Accepting, Refusing, Handles, IsWithin, number_limit}
+use Rattle.wrp_records.specs.Stream.{Accepting, Refusing, Handles, Handling, IsWithin, number_limit}
 use Rattle.wrp_records.proofs.Reaching.{Coming, comes, goes_on, stopped}
 
 -- a line that was held is passed
@@ -61,3 +62,9 @@ short A R T start r left rest held now waiting number so_far = record {
 abbrev pub Leads : Accepting → Refusing → (List (List ℕ) → Type 0) → (List (List ℕ) → Type 0) → ReaderAt → ReaderAt → List ℕ → List ℕ → ℕ → ℕ → Option Ended → Type 0
 Leads A R T U r s was waiting number more e = (start : List ℕ) (left rest held now : Option (List ℕ))
     → Reached (Handles A) T start r left rest held now was number → Comes A R U start s left rest held now waiting more e
+
+-- what the handling of the next record leads to
+abbrev pub Ends : Accepting → Refusing → (List (List ℕ) → Type 0) → (List (List ℕ) → Type 0) → ReaderAt → ReaderAt → Option (List ℕ) → Option (List ℕ) → Option (List ℕ) → Option (List ℕ) → List ℕ → List ℕ → ℕ → ℕ → Option Status → Type 0
+Ends A R T U r s rest further now then_ was waiting number more e = (start : List ℕ) (left held : Option (List ℕ))
+    → Reached (Handles A) T start r left rest held now was number
+    → MatchOption e (Reached (Handles A) U start s left further held then_ waiting more) (λ status. Handling A R U start s left further held then_ status)

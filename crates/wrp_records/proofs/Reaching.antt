@@ -1,5 +1,5 @@
 -- How far the handling of records has come, and what stands where it stops.
-use Rattle.std.proofs.Common.{◌≡◌, ◌⊎◌, inl, inr, true, ℕ, ◌+◌, ◌<◌, ◌≤◌, Option, None, Some, List, [], ◌∷◌, ◌++◌, length, map, take, refl, sym, ap, ◌∙◌, subst, append_assoc, append-nil, length-append, arith}
+use Rattle.std.proofs.Common.{◌≡◌, ◌⊎◌, inl, inr, true, false, ℕ, ◌+◌, ◌<◌, ◌≤◌, Bool, Option, None, Some, List, [], ◌∷◌, ◌++◌, length, map, take, refl, sym, ap, ◌∙◌, subst, append_assoc, append-nil, length-append, arith}
 use Rattle.std.specs.List.{concat, AllByRecursion}
 use Rattle.std.specs.Io.KnownBytes.{Appends, Consumes}
 use Rattle.std.proofs.KnownBytes.{Appends-trans, Consumes-trans}
@@ -7,13 +7,14 @@ use Rattle.std.proofs.lemmas.List.{map-append}
 use Rattle.std.proofs.Math.Seq.{take-add, take-append_seam, drop-append_seam}
 use Rattle.std.proofs.lemmas.List.Folds.{concat-append}
 use Rattle.wrp_base.proofs.Lists.{all_append}
+use Rattle.wrp_io.specs.Faults.{Rose}
 use Rattle.wrp_records.specs.declared.engine.Ended.{Ended}
 use Rattle.wrp_records.specs.declared.engine.Ended.TheVariants as ended
 use Rattle.wrp_records.specs.declared.machine.Refusal.{Refusal}
 use Rattle.wrp_records.specs.declared.machine.Refusal.TheVariants as refusals
 use Rattle.wrp_records.specs.declared.status.Status.{Status}
 use Rattle.wrp_records.specs.declared.status.Status.TheVariants.{Done, Usage, BadNetwork, BadTrace, Broken, ReadFault, WriteFault, LinkFault, TooLarge, OutOfMemory, BadCapture, BadCalib}
-use Rattle.wrp_records.specs.Engine.{Waits, LineOutcome, TellsLarge, Finishes, MostAt, status_by}
+use Rattle.wrp_records.specs.Engine.{Waits, LineOutcome, TellsFaults, TellsLarge, Finishes, MostAt, status_by}
 use Rattle.wrp_records.specs.Lines.{lines_of, content_of, IsWhole}
 use Rattle.wrp_records.specs.Reached.{Reached, Stopped}
 use Rattle.wrp_records.specs.Reader.{ReaderAt, Takes, IsNext, IsCut, IsLast, piece_limit}
@@ -57,6 +58,14 @@ large_cut line r number most cut at past = (
         inl (subst (λ n. line_limit < n) (sym (size_plain line cut.plain)) long)
   ],
 )
+
+-- a line that is cut and does not pass it
+pub cut_within : (line : List ℕ) (r : ReaderAt) (number most : ℕ) → IsCut line r → MostAt number most → length line ≤ most → r.ended ≡ false → IsCutWithin line r number
+cut_within line r number most cut at within goes =
+    elim at [
+      | inl none ↦ (cut, omega (arith, within, none), λ some. absurd (omega (arith, within, none, some)), goes)
+      | inr more ↦ (cut, omega (arith, within, more), λ some. more.0, goes)
+    ]
 
 -- a line that came and is too large
 pub large_whole : (line : List ℕ) (r : ReaderAt) (number : ℕ) → IsNext line r → IsTooLarge line number → IsLargeNext line r number
@@ -457,3 +466,11 @@ goes_on A R T U start line said r left rest held now was waiting number so_far n
 -- a fact of equal things
 pub moved : {X : Type 0} (P : X → Type 0) (s t : X) → s ≡ t → P s → P t
 moved {X} P s t e p = subst (λ (x : X). P x) e p
+
+-- what a status tells of the faults, where the last of a text was written behind other writes
+pub told_by_finish : (status : Status) (read read_now write mid write_now : ℕ) (ended : Bool) → read_now ≡ read → mid ≡ write
+    → (status ≡ WriteFault → Rose mid write_now) → ((status ≡ WriteFault → ⊥) → write_now ≡ mid)
+    → ((status ≡ Done → ⊥) × (status ≡ ReadFault → ⊥) × (status ≡ Usage → ⊥) × (status ≡ BadNetwork → ⊥) × (status ≡ LinkFault → ⊥) × (status ≡ BadCapture → ⊥) × (status ≡ BadCalib → ⊥))
+    → TellsFaults status read read_now write write_now ended
+told_by_finish status read read_now write mid write_now ended same before rose kept never =
+    (λ is. absurd (never.1 is), λ other. same, λ is. moved (λ n. Rose n write_now) _ _ before (rose is), λ other. kept other ∙ before, never.2, never.3, never.4, never.5, never.6)

@@ -1,9 +1,10 @@
 -- What a reader gives and holds.
-use Rattle.std.proofs.Common.{◌≡◌, ℕ, ◌+◌, ◌-◌, ◌≤◌, min, Option, List, [], Bool, true, false, ◌++◌, append_assoc, append-nil, length, take, drop, sym, ap, ◌∙◌, arith, length-take}
+use Rattle.std.proofs.Common.{◌≡◌, ℕ, ◌+◌, ◌-◌, ◌≤◌, min, Option, List, [], Bool, true, false, ◌++◌, append_assoc, append-nil, length, take, drop, sym, ap, ◌∙◌, arith, length-take, subst}
 use Rattle.std.proofs.lemmas.List.{drop-take, drop-drop, take-append-drop}
 use Rattle.std.proofs.KnownBytes.{Consumes-trans}
 use Rattle.std.specs.Io.KnownBytes.{Consumes}
-use Rattle.wrp_records.specs.Reader.{ReaderAt, Takes}
+use Rattle.wrp_records.specs.declared.reader.Next.{Next}
+use Rattle.wrp_records.specs.Reader.{GivesOn, ReaderAt, Takes}
 
 -- what was given behind some octets, and what is held behind it, are what was held
 pub held_on : (piece before after : List ℕ) (at size end : ℕ) → size ≤ length (take (end - at) (drop at piece))
@@ -55,3 +56,7 @@ takes_on first mid now held line after ended r s so_far more = (
       let further = more.3 none.1 in
       (ap (λ l. l ++ more.0) none.0 ∙ further.0, further.1),
 )
+
+-- what ends the reading, at this answer
+pub given_on : (n m : Next) (line : List ℕ) (r : ReaderAt) (most : ℕ) → GivesOn n line r most → n ≡ m → GivesOn m line r most
+given_on n m line r most how is = subst (λ (x : Next). GivesOn x line r most) is how

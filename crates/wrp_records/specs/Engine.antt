@@ -1,6 +1,6 @@
 -- The steps of the engine that handles records: what waits to be written, and how a step ends (this
 -- project's profile).
-use Rattle.std.specs.Prelude.{◌≡◌, ◌⊎◌, ℕ, ◌+◌, ◌<◌, Option, None, Some, List, [], ◌∷◌, ◌++◌}
+use Rattle.std.specs.Prelude.{◌≡◌, ◌⊎◌, false, ℕ, ◌+◌, ◌<◌, Bool, Option, None, Some, List, [], ◌∷◌, ◌++◌}
 use Rattle.std.specs.Io.KnownBytes.{Appends}
 use Rattle.wrp_records.specs.declared.engine.Ended.{Ended}
 use Rattle.wrp_records.specs.declared.engine.Ended.TheVariants as ended
@@ -8,10 +8,11 @@ use Rattle.wrp_records.specs.declared.engine.NextRecord.{NextRecord}
 use Rattle.wrp_records.specs.declared.engine.NextRecord.TheVariants.{End, Failed, Unwritten}
 use Rattle.wrp_records.specs.declared.machine.Refusal.TheVariants as refusals
 use Rattle.wrp_records.specs.declared.status.Status.{Status}
-use Rattle.wrp_records.specs.declared.status.Status.TheVariants.{BadNetwork, BadTrace, Broken, WriteFault, TooLarge, OutOfMemory}
+use Rattle.wrp_records.specs.declared.status.Status.TheVariants.{Usage, BadNetwork, BadTrace, Broken, ReadFault, WriteFault, LinkFault, TooLarge, OutOfMemory, BadCapture, BadCalib}
 use Rattle.wrp_base.specs.declared.fault.ConfFault.{ConfFault}
 use Rattle.wrp_base.specs.declared.fault.ConfFault.TheVariants as ConfFaults
 use Rattle.wrp_base.specs.declared.fault.ConfFault.TheVariants.{Fault}
+use Rattle.wrp_io.specs.Faults.{Rose}
 use Rattle.wrp_records.specs.Refusals.{bad_network_line}
 use Rattle.wrp_records.specs.Stream.{Accepting, Refusing, large_line, line_limit, number_limit}
 use Rattle.wrp_records.specs.Taking.{AppendsPart}
@@ -57,6 +58,17 @@ abbrev pub Finishes : Status → Status → Option (List ℕ) → Option (List �
 Finishes due given before now text =
     ((given ≡ due) × Appends before now text)
     ⊎ ((given ≡ WriteFault) × AppendsPart before now text)
+
+-- what a status tells: the source failed exactly where it is ReadFault, and then its end did not come, and the
+-- sink exactly where it is WriteFault; and it is one with which records end
+abbrev pub TellsFaults : Status → ℕ → ℕ → ℕ → ℕ → Bool → Type 0
+TellsFaults status read read_now write write_now ended =
+    (status ≡ ReadFault → Rose read read_now × (ended ≡ false))
+    × ((status ≡ ReadFault → ⊥) → read_now ≡ read)
+    × (status ≡ WriteFault → Rose write write_now)
+    × ((status ≡ WriteFault → ⊥) → write_now ≡ write)
+    × (status ≡ Usage → ⊥) × (status ≡ BadNetwork → ⊥) × (status ≡ LinkFault → ⊥)
+    × (status ≡ BadCapture → ⊥) × (status ≡ BadCalib → ⊥)
 
 -- how many octets of a line without its LF are taken behind so many records: none where the next
 -- record's number is too great

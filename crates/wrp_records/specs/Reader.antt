@@ -1,8 +1,10 @@
 -- A reader of lines: what it holds of what it took, and whether the input ended (this project's
 -- profile).
-use Rattle.std.specs.Prelude.{◌≡◌, true, ℕ, ◌<◌, ◌⊎◌, Bool, Option, List, [], ◌++◌, length}
+use Rattle.std.specs.Prelude.{◌≡◌, true, ℕ, ◌<◌, ◌≤◌, ◌⊎◌, Bool, Option, List, [], ◌++◌, length}
 use Rattle.std.specs.Io.KnownBytes.{Consumes}
 use Rattle.wrp_records.specs.Lines.{HasNoFeed, IsWhole}
+use Rattle.wrp_records.specs.declared.reader.Next.{Next}
+use Rattle.wrp_records.specs.declared.reader.Next.TheVariants.{Line, TooLong, Memory}
 
 -- how many octets are asked for at a time
 abbrev pub piece_limit : ℕ
@@ -39,3 +41,10 @@ abbrev pub Takes : Option (List ℕ) → Option (List ℕ) → List ℕ → Bool
 Takes before now held ended r line =
     (given : List ℕ) × Consumes before now given × (line ++ r.rest ≡ held ++ given)
     × (ended ≡ true → (given ≡ []) × (r.ended ≡ true))
+
+-- what ends the reading of a line before the source is asked
+abbrev pub GivesOn : Next → List ℕ → ReaderAt → ℕ → Type 0
+GivesOn Line line r most = IsWhole line × (length r.rest ≤ piece_limit)
+GivesOn TooLong line r most = IsCut line r × (most < length line)
+GivesOn Memory line r most = Unit {0}
+GivesOn _ line r most = ⊥

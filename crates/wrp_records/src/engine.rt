@@ -1,13 +1,14 @@
 //! The records of an input, handled as they come: each line is taken as it is read, and what it
 //! writes is written, all at once, before the source is asked for more.
-ghost use Rattle.std.specs.Prelude.{◌≡◌, ◌⊎◌, ℕ, List, ◌+◌, ◌^◌, ◌<◌, ◌≤◌, ◌++◌, ◌∷◌, [], length, true, false, OnOk, OnErr};
+ghost use Rattle.std.specs.Prelude.{◌≡◌, ◌⊎◌, ℕ, Option, None, MatchOption, List, ◌+◌, ◌^◌, ◌<◌, ◌≤◌, ◌++◌, ◌∷◌, [], length, true, false, OnOk, OnErr};
 ghost use Rattle.std.specs.Io.KnownBytes.{IsAtEnd};
 ghost use Rattle.wrp_io.specs.Faults.{Rose};
 ghost use Rattle.wrp_records.specs.Lines.{content_of};
 ghost use Rattle.wrp_records.specs.Reader.{Takes, IsNext, IsCut, IsLast, piece_limit};
+ghost use Rattle.wrp_records.specs.Reached.{Reached};
 ghost use Rattle.wrp_records.specs.Split.{IsSplit};
-ghost use Rattle.wrp_records.specs.Stream.{size_of, IsWithin, IsTooLarge, IsLargeNext, IsCutWithin, number_limit, large_line, Handling};
-ghost use Rattle.wrp_records.specs.Engine.{Writes, LineOutcome, Finishes, TellsLarge, MostAt, status_by};
+ghost use Rattle.wrp_records.specs.Stream.{size_of, IsWithin, IsTooLarge, IsLargeNext, IsCutWithin, number_limit, large_line, Handles, Handling};
+ghost use Rattle.wrp_records.specs.Engine.{Writes, LineOutcome, Finishes, TellsLarge, TellsFaults, MostAt, status_by};
 
 mod block;
 mod splitting;
@@ -155,14 +156,10 @@ fn next_record<S: Source, K: Sink>(
         → K.faults sink.new ≡ K.faults sink.old }
 {
     line.clear();
-    match reader.give(line) {
-        Err(_) => return NextRecord::Memory,
-        Ok(true) => return came(line, number),
-        Ok(false) => {}
-    }
     let most = most_at(number);
-    if line.len() > most {
-        return NextRecord::TooLarge;
+    match reader.give_on(line, most) {
+        Some(next) => return answered(next, line, number),
+        None => {}
     }
     if !write_all(sink, waiting) {
         return NextRecord::Unwritten;
@@ -226,6 +223,35 @@ fn handle_line<M: Machine>(
     }
 }
 
+// Handles what a line says that stands alone, the record of this number, by this record of `csv`.
+fn handle_by<M: Machine>(
+    alloc: Global,
+    machine: &mut M,
+    said: &[u8],
+    row: &mut ByteRecord,
+    number: u32,
+    text: &mut Vec<u8>,
+    waiting: &mut Vec<u8>,
+) -> Option<Ended>
+    requires ready { M.is_ready machine.old }
+    requires room { M.count machine.old + 1 < 2 ^ 32 }
+    ensures ready { M.is_ready machine.new }
+    ensures count { M.count machine.new ≤ M.count machine.old + 1 }
+    ensures setting { M.setting machine.new ≡ M.setting machine.old }
+    ensures stands { (lines : List (List ℕ)) (before : List ℕ)
+        → M.has_taken machine.old lines → M.accepts (M.setting machine.old) lines before
+        → number ≡ length lines + 1
+        → LineOutcome (M.accepts (M.setting machine.old)) (M.refuses (M.setting machine.old))
+        (M.has_taken machine.new) lines said.now before waiting.old.items waiting.new.items
+        result }
+{
+    match split(alloc, said, row) {
+        Ok(true) => handle_line(alloc, machine, said, Some(&*row), number, text, waiting),
+        Ok(false) => handle_line(alloc, machine, said, None, number, text, waiting),
+        Err(_) => Some(Ended::Memory),
+    }
+}
+
 // Handles what a line says that stands alone, the record of this number.
 fn handle_alone<M: Machine>(
     alloc: Global,
@@ -248,11 +274,7 @@ fn handle_alone<M: Machine>(
         result }
 {
     let mut row = ByteRecord::new(alloc);
-    match split(alloc, said, &mut row) {
-        Ok(true) => handle_line(alloc, machine, said, Some(&row), number, text, waiting),
-        Ok(false) => handle_line(alloc, machine, said, None, number, text, waiting),
-        Err(_) => Some(Ended::Memory),
-    }
+    handle_by(alloc, machine, said, &mut row, number, text, waiting)
 }
 
 // Writes what waits, and answers the status that a run ends with.
@@ -270,6 +292,61 @@ fn finish<K: Sink>(sink: &mut K, waiting: &[u8], ended: Ended) -> Status
         ended.status()
     } else {
         Status::WriteFault
+    }
+}
+
+// Handles the next record, which the reader does not hold as a whole and plain line. Answers the status that
+// the handling ends with, where it ends here.
+fn handle_next<M: Machine, S: Source, K: Sink>(
+    alloc: Global,
+    machine: &mut M,
+    reader: &mut Reader,
+    source: &mut S,
+    sink: &mut K,
+    number: &mut u32,
+    line: &mut Vec<u8>,
+    text: &mut Vec<u8>,
+    waiting: &mut Vec<u8>,
+) -> Option<Status>
+    requires ready { M.is_ready machine.old }
+    requires count { M.count machine.old ≤ number.old }
+    requires at_end { reader.old.ended ≡ true → IsAtEnd (S.left source.old) }
+    ensures machine { M.is_ready machine.new × (M.setting machine.new ≡ M.setting machine.old) }
+    ensures count { result ≡ None
+        → (M.count machine.new ≤ number.new) × (number.new ≡ number.old + 1) }
+    ensures stands { (start : List ℕ) (left held : Option (List ℕ))
+        → Reached (Handles (M.accepts (M.setting machine.old))) (M.has_taken machine.old) start
+        reader.old left (S.left source.old) held (K.held sink.old) waiting.old.items number.old
+        → MatchOption result
+        (Reached (Handles (M.accepts (M.setting machine.old))) (M.has_taken machine.new) start
+        reader.new left (S.left source.new) held (K.held sink.new) waiting.new.items number.new)
+        (λ status. Handling
+        (M.accepts (M.setting machine.old)) (M.refuses (M.setting machine.old))
+        (M.has_taken machine.new) start reader.new
+        left (S.left source.new) held (K.held sink.new) status) }
+    ensures at_end { reader.new.ended ≡ true → IsAtEnd (S.left source.new) }
+    ensures ended { reader.old.ended ≡ true → reader.new.ended ≡ true }
+    ensures faults { MatchOption result
+        ((S.faults source.new ≡ S.faults source.old) × (K.faults sink.new ≡ K.faults sink.old))
+        (λ status. TellsFaults status (S.faults source.old) (S.faults source.new)
+        (K.faults sink.old) (K.faults sink.new) reader.new.ended) }
+{
+    match next_record(reader, source, sink, waiting, line, *number) {
+        NextRecord::End => return Some(Status::Done),
+        NextRecord::Failed => return Some(Status::ReadFault),
+        NextRecord::Unwritten => return Some(Status::WriteFault),
+        NextRecord::Memory => return Some(finish(sink, waiting, Ended::Memory)),
+        NextRecord::TooLarge => {
+            let ended = tell_large(alloc, waiting, *number);
+            return Some(finish(sink, waiting, ended));
+        }
+        NextRecord::Line => {}
+    }
+    *number += 1;
+    let said = content(line);
+    match handle_alone(alloc, machine, said, *number, text, waiting) {
+        Some(ended) => Some(finish(sink, waiting, ended)),
+        None => None,
     }
 }
 
@@ -321,21 +398,18 @@ pub fn handle_records<M: Machine, S: Source, K: Sink>(
             Some(ended) => return finish(sink, &waiting, ended),
             None => {}
         }
-        match next_record(reader, source, sink, &mut waiting, &mut line, number) {
-            NextRecord::End => return Status::Done,
-            NextRecord::Failed => return Status::ReadFault,
-            NextRecord::Unwritten => return Status::WriteFault,
-            NextRecord::Memory => return finish(sink, &waiting, Ended::Memory),
-            NextRecord::TooLarge => {
-                let ended = tell_large(alloc, &mut waiting, number);
-                return finish(sink, &waiting, ended);
-            }
-            NextRecord::Line => {}
-        }
-        number += 1;
-        let said = content(&line);
-        match handle_alone(alloc, machine, said, number, &mut text, &mut waiting) {
-            Some(ended) => return finish(sink, &waiting, ended),
+        match handle_next(
+            alloc,
+            machine,
+            reader,
+            source,
+            sink,
+            &mut number,
+            &mut line,
+            &mut text,
+            &mut waiting,
+        ) {
+            Some(status) => return status,
             None => {}
         }
     }

@@ -1,9 +1,9 @@
 //! A reader of lines, which takes pieces from a source and hands out one line at a time.
-ghost use Rattle.std.specs.Prelude.{◌≡◌, ◌^◌, ◌<◌, ◌≤◌, ◌++◌, [], length, drop, true, false, IfOk, OnOk, IsErr};
+ghost use Rattle.std.specs.Prelude.{◌≡◌, ◌⊎◌, ◌^◌, ◌<◌, ◌≤◌, ◌++◌, [], length, drop, true, false, MatchOption, IfOk, OnOk, IsErr};
 ghost use Rattle.std.specs.Io.KnownBytes.{Consumes, IsAtEnd};
 ghost use Rattle.wrp_io.specs.Faults.{Rose};
 ghost use Rattle.wrp_records.specs.Lines.{HasNoFeed, IsWhole};
-ghost use Rattle.wrp_records.specs.Reader.{Takes, IsNext, IsCut, IsLast, piece_limit};
+ghost use Rattle.wrp_records.specs.Reader.{Takes, GivesOn, IsNext, IsCut, IsLast, piece_limit};
 
 use crate::feed::append_front;
 use std::alloc::AllocError;
@@ -26,6 +26,19 @@ pub enum Next {
     Failed,
     /// There was no memory.
     Memory,
+}
+
+// What the end of the input makes of a line without an LF.
+fn last(line: &[u8]) -> Next
+    ensures line { result ≡ Next.Line → 0 < length line.now }
+    ensures end { result ≡ Next.End → line.now ≡ [] }
+    ensures either { (result ≡ Next.Line) ⊎ (result ≡ Next.End) }
+{
+    if line.is_empty() {
+        Next::End
+    } else {
+        Next::Line
+    }
 }
 
 /// What was taken from a source and not given yet.
@@ -127,6 +140,27 @@ impl Reader {
         Ok(!self.ended)
     }
 
+    // Appends to a line what is held, up to the first LF and with it. Answers what ends the reading, or None
+    // where the line has no LF yet and no more than `most` octets.
+    pub(crate) fn give_on(&mut self, line: &mut Vec<u8>, most: usize) -> Option<Next>
+        requires { HasNoFeed line.old.items }
+        ensures same { line.new.items ++ self.new.rest ≡ line.old.items ++ self.old.rest }
+        ensures ended { self.new.ended ≡ self.old.ended }
+        ensures how { MatchOption result
+            (IsCut line.new.items self.new × (length line.new.items ≤ most))
+            (λ next. GivesOn next line.new.items self.new most) }
+    {
+        match self.give(line) {
+            Err(_) => return Some(Next::Memory),
+            Ok(true) => return Some(Next::Line),
+            Ok(false) => {}
+        }
+        if line.len() > most {
+            return Some(Next::TooLong);
+        }
+        None
+    }
+
     /// Reads on in a line that has no LF yet, where nothing waits to be written, until it has one or
     /// more than `most` octets.
     pub fn read_on<S: Source>(
@@ -159,22 +193,14 @@ impl Reader {
         ensures kept { (result ≡ Next.Failed → ⊥) → S.faults source.new ≡ S.faults source.old }
     {
         'pieces: loop {
-            match self.give(line) {
-                Err(_) => return Next::Memory,
-                Ok(true) => return Next::Line,
-                Ok(false) => {}
-            }
-            if line.len() > most {
-                return Next::TooLong;
+            match self.give_on(line, most) {
+                Some(next) => return next,
+                None => {}
             }
             match self.refill(source, waiting) {
                 Err(_) => return Next::Failed,
                 Ok(true) => {}
-                Ok(false) => return if line.is_empty() {
-                    Next::End
-                } else {
-                    Next::Line
-                },
+                Ok(false) => return last(line),
             }
         }
     }

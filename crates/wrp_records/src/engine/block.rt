@@ -1,5 +1,5 @@
 //! The lines that a reader holds, handled one after the other: one reader of `csv` serves them all.
-ghost use Rattle.std.specs.Prelude.{◌≡◌, true, ◌+◌, ◌<◌, ◌≤◌, ◌++◌, ℕ, Bool, List, Option, IfSome, length, drop};
+ghost use Rattle.std.specs.Prelude.{◌≡◌, true, ◌+◌, ◌<◌, ◌≤◌, ◌++◌, ℕ, Bool, List, Option, Some, IfSome, length, drop};
 ghost use Rattle.wrp_fields.specs.Block.{StartsPlain};
 ghost use Rattle.wrp_fields.specs.Lines.{IsLine};
 ghost use Rattle.wrp_records.specs.Lines.{content_of, IsPlainText, IsWhole};
@@ -72,9 +72,67 @@ struct Handled {
     ended: Option<Ended>,
 }
 
+// Handles the lines of a block, which is these octets, up to the first that is not whole or not plain, by
+// this record of `csv`.
+fn handle_block<M: Machine>(
+    alloc: Global,
+    machine: &mut M,
+    octets: &[u8],
+    block: &mut Block<'_>,
+    row: &mut ByteRecord,
+    number: &mut u32,
+    text: &mut Vec<u8>,
+    waiting: &mut Vec<u8>,
+) -> Handled
+    requires block { block.old ≡ Some octets.now }
+    requires piece { length octets.now ≤ piece_limit }
+    requires ready { M.is_ready machine.old }
+    requires count { M.count machine.old ≤ number.old }
+    ensures ready { M.is_ready machine.new }
+    ensures count { M.count machine.new ≤ number.new }
+    ensures setting { M.setting machine.new ≡ M.setting machine.old }
+    ensures more { number.old ≤ number.new }
+    ensures size { result.size ≤ length octets.now }
+    ensures stands { (ended : Bool) (start : List ℕ) (left rest held now : Option (List ℕ))
+        → Reached (Handles (M.accepts (M.setting machine.old))) (M.has_taken machine.old) start
+        (record { rest = octets.now; ended = ended }) left rest held now waiting.old.items number.old
+        → Comes (M.accepts (M.setting machine.old)) (M.refuses (M.setting machine.old))
+        (M.has_taken machine.new) start (record { rest = drop result.size octets.now; ended = ended })
+        left rest held now waiting.new.items number.new result.ended }
+{
+    let text_is_plain = is_plain_text(octets);
+    let mut at = 0;
+    'lines: loop {
+        let left = behind(octets, at);
+        let Some(line) = plain_line(left, text_is_plain, *number) else {
+            return Handled {
+                size: at,
+                ended: None,
+            };
+        };
+        match split_next(block, line, row) {
+            Ok(()) => {}
+            Err(_) => return Handled {
+                size: at,
+                ended: Some(Ended::Memory),
+            },
+        }
+        at += line.len();
+        *number += 1;
+        let said = content(line);
+        match handle_line(alloc, machine, said, Some(&*row), *number, text, waiting) {
+            Some(ended) => return Handled {
+                size: at,
+                ended: Some(ended),
+            },
+            None => {}
+        }
+    }
+}
+
 // Handles the lines that a reader holds, which are those of these octets, up to the first that is not
 // whole or not plain. The reader passes them afterwards, so that none has to be copied.
-fn handle_block<M: Machine>(
+fn handle_plain<M: Machine>(
     alloc: Global,
     machine: &mut M,
     octets: &[u8],
@@ -100,34 +158,9 @@ fn handle_block<M: Machine>(
 {
     let mut row = ByteRecord::new(alloc);
     let mut block = Block::new(alloc, octets);
-    let text_is_plain = is_plain_text(octets);
-    let mut at = 0;
-    'lines: loop {
-        let left = behind(octets, at);
-        let Some(line) = plain_line(left, text_is_plain, *number) else {
-            return Handled {
-                size: at,
-                ended: None,
-            };
-        };
-        match split_next(&mut block, line, &mut row) {
-            Ok(()) => {}
-            Err(_) => return Handled {
-                size: at,
-                ended: Some(Ended::Memory),
-            },
-        }
-        at += line.len();
-        *number += 1;
-        let said = content(line);
-        match handle_line(alloc, machine, said, Some(&row), *number, text, waiting) {
-            Some(ended) => return Handled {
-                size: at,
-                ended: Some(ended),
-            },
-            None => {}
-        }
-    }
+    handle_block(
+        alloc, machine, octets, &mut block, &mut row, number, text, waiting,
+    )
 }
 
 /// Handles the lines that a reader holds, up to the first that is not whole or not plain.
@@ -157,7 +190,7 @@ pub fn handle_held<M: Machine>(
         return None;
     };
     let _line = line;
-    let handled = handle_block(alloc, machine, reader.held(), number, text, waiting);
+    let handled = handle_plain(alloc, machine, reader.held(), number, text, waiting);
     reader.pass(handled.size);
     handled.ended
 }

@@ -1,6 +1,6 @@
 -- Each line of the block is handled, or ends the handling.
 use Rattle.std.proofs.Common.{◌≡◌, ◌∙◌, ◌+◌, ◌++◌, ◌<◌, ◌≤◌, ℕ, List, None, Some, drop, length, refl, sym, ap, rules, arith}
-use Rattle.std.proofs.lemmas.List.{drop-drop, length-drop}
+use Rattle.std.proofs.lemmas.List.{length-drop}
 use Rattle.wrp_records.specs.Reader.{ReaderAt, piece_limit}
 use Rattle.wrp_records.specs.Split.{HasParts}
 use Rattle.wrp_records.proofs.LineEnds.{left_behind, place_behind, whole_size}
@@ -21,7 +21,7 @@ pub lines-init : goal.lines-init
 lines-init g c = record {
   at = search rules;
   text = c.is_plain_text-text_is_plain.ensures;
-  block = c.new-block.ensures c.requires.starts;
+  block = c.requires.block;
   reached = λ ended start left rest held now so_far. so_far;
   setting = refl;
   ready = c.requires.ready;
