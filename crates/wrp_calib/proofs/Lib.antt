@@ -9,3 +9,4 @@ pub mod LinesExact
 pub mod LinesTelling
 pub mod InputsTelling
 pub mod InputsAnswered
+pub mod Reading

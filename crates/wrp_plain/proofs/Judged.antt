@@ -129,6 +129,15 @@ kept found value o was e = sym e ∙ ap found_broken was
 pub broke : (found : Result (Unit {0}) PlainBroken) (broken : PlainBroken) (o : Option PlainBroken) → found ≡ Err broken → found_broken found ≡ o → o ≡ Some broken
 broke found broken o was e = sym e ∙ ap found_broken was
 
+-- an exchange that breaks the first, the second, the third or the last kind
+pub breaks_span : (set : PlainSet) (off : ℤ) (since : ℕ) (span dms dsm o2 o3 : ℤ) (t : List ℤ) (event : PlainEvent) (found : Option PlainBroken) (broken : PlainBroken) →
+    event ≡ Exch span dms dsm o2 o3 t → span_broken set span ≡ Some broken → found ≡ span_broken set span → found ≡ broken_by set off since event
+breaks_span set off since span dms dsm o2 o3 t event found broken is e1 same =
+    let least : Option PlainBroken = least_broken set dms dsm in
+    let moves : Option PlainBroken = moves_broken set off span o2 o3 in
+    let stamps : Option PlainBroken = stamps_broken set (down_error t dms o2) (up_error t dsm o3) in
+    same ∙ sym (stops (span_broken set span) (least ∷ moves ∷ stamps ∷ []) broken e1) ∙ ap (broken_by set off since) (sym is)
+
 pub breaks_least : (set : PlainSet) (off : ℤ) (since : ℕ) (span dms dsm o2 o3 : ℤ) (t : List ℤ) (event : PlainEvent) (found : Option PlainBroken) (broken : PlainBroken) →
     event ≡ Exch span dms dsm o2 o3 t → span_broken set span ≡ None → least_broken set dms dsm ≡ Some broken → found ≡ least_broken set dms dsm →
     found ≡ broken_by set off since event

@@ -16,3 +16,4 @@ pub mod LinesTrue
 pub mod OutputTrue
 pub mod EventFits
 pub mod LinesDecided
+pub mod Reading

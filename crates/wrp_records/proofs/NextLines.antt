@@ -1,5 +1,5 @@
 -- The next line of octets that go on, whole or cut.
-use Rattle.std.proofs.Common.{◌≡◌, ◌⊎◌, inl, inr, true, false, ℕ, ◌<◌, ◌==◌, List, [], ◌∷◌, ◌++◌, length, refl, sym, ap, ◌∙◌, subst, append-nil, arith}
+use Rattle.std.proofs.Common.{◌≡◌, inl, inr, true, false, ℕ, ◌<◌, ◌==◌, List, [], ◌∷◌, ◌++◌, length, refl, sym, ap, ◌∙◌, subst, append-nil, arith}
 use Rattle.wrp_records.specs.Lines.{lines_of, HasNoFeed}
 use Rattle.wrp_records.specs.Reader.{ReaderAt, IsNext}
 use Rattle.wrp_records.proofs.Feeds.{lines_of-whole, lines_of-open}

@@ -1,18 +1,18 @@
 -- What stands where the handling of lines ends, told of all octets that come.
-use Rattle.std.proofs.Common.{◌≡◌, ◌⊎◌, inl, inr, true, false, ℕ, ◌≤◌, Bool, Option, List, [], ◌∷◌, ◌++◌, length, take, refl, sym, subst, ap, ◌∙◌, append_assoc, append-nil}
+use Rattle.std.proofs.Common.{◌≡◌, ◌⊎◌, inl, inr, true, false, ℕ, Bool, Option, List, [], ◌∷◌, ◌++◌, refl, sym, subst, ap, ◌∙◌, append_assoc, append-nil}
 use Rattle.std.specs.List.{concat}
 use Rattle.std.specs.Io.KnownBytes.{Appends, Consumes, IsAtEnd}
 use Rattle.wrp_records.specs.declared.machine.Refusal.{Refusal}
 use Rattle.wrp_records.specs.declared.machine.Refusal.TheVariants as refusals
 use Rattle.wrp_records.specs.declared.status.Status.{Status}
 use Rattle.wrp_records.specs.declared.status.Status.TheVariants.{Done, BadTrace, Broken, ReadFault, WriteFault, TooLarge, OutOfMemory, BadCalib}
-use Rattle.wrp_records.specs.After.{After, GoesOn, IsDue, IsFirst, StopsNear}
+use Rattle.wrp_records.specs.After.{After, IsDue, IsFirst, StopsNear}
 use Rattle.wrp_records.specs.ByLines.{LastRefused, LastRefusedAs, of_lines}
 use Rattle.wrp_records.specs.LineMeaning.{LineMeaning}
 use Rattle.wrp_records.specs.LinesAfter.{Closed, DueAt, LinesAfter}
 use Rattle.wrp_records.specs.Passages.{FailsBy, IsSound, Passage, Passes}
 use Rattle.wrp_records.specs.Lines.{lines_of}
-use Rattle.wrp_records.specs.Reader.{ReaderAt, piece_limit}
+use Rattle.wrp_records.specs.Reader.{ReaderAt}
 use Rattle.wrp_io.specs.Faults.{Rose}
 use Rattle.wrp_records.specs.Stream.{Handling, RefusedAt}
 use Rattle.wrp_records.proofs.Feeds.{lines_of-open}

@@ -1,14 +1,13 @@
 -- The meaning of octets whose records are lines (this project's profile).
 use Rattle.std.specs.Prelude.{◌≡◌, ℕ, List, []}
-use Rattle.wrp_io.specs.declared.link.LinkCall.{LinkCall}
 use Rattle.wrp_records.specs.declared.machine.Refusal.{Refusal}
 use Rattle.wrp_records.specs.declared.machine.Refusal.TheVariants as refusals
 use Rattle.wrp_records.specs.declared.status.Status.{Status}
-use Rattle.wrp_records.specs.declared.status.Status.TheVariants.{BadTrace, Broken, LinkFault}
+use Rattle.wrp_records.specs.declared.status.Status.TheVariants.{BadTrace, Broken}
 use Rattle.wrp_records.specs.LineMeaning.{LineMeaning}
 use Rattle.wrp_records.specs.Lines.{lines_of}
 use Rattle.wrp_records.specs.Meaning.{Meaning}
-use Rattle.wrp_records.specs.RecordsAnswer.{RecordsAnswer, StandsFirst, IsRefused, BreaksOff}
+use Rattle.wrp_records.specs.RecordsAnswer.{RecordsAnswer, StandsFirst, IsRefused}
 use Rattle.wrp_records.specs.Stream.{CutHandled}
 
 -- the last of these lines is refused

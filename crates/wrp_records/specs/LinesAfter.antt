@@ -8,7 +8,7 @@ use Rattle.wrp_records.specs.Lines.{lines_of}
 use Rattle.wrp_records.specs.LineMeaning.{LineMeaning}
 use Rattle.wrp_records.specs.Reader.{ReaderAt, IsLast}
 use Rattle.wrp_records.specs.RecordsAnswer.{BreaksOff, IsWholly}
-use Rattle.wrp_records.specs.Stream.{Accepting, CutHandled, Due}
+use Rattle.wrp_records.specs.Stream.{CutHandled, Due}
 
 -- the input ended, and all its lines are handled
 pub record DoneAt (M : LineMeaning) (octets : List ℕ) (r : ReaderAt) (text : List ℕ) : Type 0 where

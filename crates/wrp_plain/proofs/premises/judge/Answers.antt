@@ -1,10 +1,10 @@
--- The first premise that an exchange breaks is told.
-use Rattle.std.proofs.Common.{◌≡◌, ℤ, pos, ◌^◌, ◌≤◌, ◌≤ℤ◌, unsigned_abs, to_z, of_z, rules, ap₂, ◌∙◌, subst, arith}
+-- The first premise that an event breaks is told.
+use Rattle.std.proofs.Common.{◌≡◌, ℤ, pos, ◌^◌, ◌≤◌, ◌≤ℤ◌, unsigned_abs, to_z, of_z, rules, ap₂, ◌∙◌, subst, ap, sym, arith}
 use Rattle.std.specs.Int.{w64, w128}
 use Rattle.std.proofs.lemmas.Int.{ints, to_z-of_z, fits_signed_from_abs}
 use Rattle.wrp_plain.specs.Event.{HasFields, IsShort}
-use Rattle.wrp_plain.specs.Premises.{stamps_broken, found_broken}
-use Rattle.wrp_plain.proofs.Judged.{kept, broke, breaks_least, breaks_moves, breaks_stamps}
+use Rattle.wrp_plain.specs.Premises.{stamps_broken, broken_by, found_broken}
+use Rattle.wrp_plain.proofs.Judged.{kept, broke, breaks_span, breaks_least, breaks_moves, breaks_stamps}
 use Rattle.wrp_plain.proofs.premises.judge.Goals as goal
 
 small_time : (a : ℤ) → pos 0 ≤ℤ a → a ≤ℤ pos (2 ^ 60) → unsigned_abs a ≤ 2 ^ 60
@@ -20,6 +20,29 @@ same_offset a h = to_z-of_z w128 a (fits_signed_from_abs w128 a (omega arith))
 
 same_error : (a : ℤ) → unsigned_abs a ≤ 2 ^ 125 → to_z w128 (of_z w128 a) ≡ a
 same_error a h = to_z-of_z w128 a (fits_signed_from_abs w128 a (omega arith))
+
+-- a drift, and a time that passes, are read as they are
+same_drift : (a : ℤ) → unsigned_abs a ≤ 2 ^ 60 → to_z w64 (of_z w64 a) ≡ a
+same_drift a h = to_z-of_z w64 a (fits_signed_from_abs w64 a (omega arith))
+
+same_pass : (a : ℤ) → pos 1 ≤ℤ a → a ≤ℤ pos (10 ^ 18) → to_z w64 (of_z w64 a) ≡ a
+same_pass a h k = same_time a (omega (arith, ints), omega (arith, ints))
+
+pub returns-in-Pass : goal.returns-in-Pass
+returns-in-Pass c =
+    let fields = subst HasFields c.in-Pass.is c.requires.event in
+    let dt : to_z w64 (of_z w64 c.in-Pass.dt) ≡ c.in-Pass.dt = same_pass c.in-Pass.dt fields.0 fields.1 in
+    let drift : to_z w64 (of_z w64 c.in-Pass.drift) ≡ c.in-Pass.drift = same_drift c.in-Pass.drift fields.2 in
+    simp (dt, drift) at c.judge_pass.ensures ∙ ap (broken_by c.args.set.now c.args.off c.args.since) (sym c.in-Pass.is)
+
+pub returns-in_err-judge_span-in-Exch : goal.returns-in_err-judge_span-in-Exch
+returns-in_err-judge_span-in-Exch c =
+    let fields = subst HasFields c.in-Exch.is c.requires.event in
+    let span : to_z w64 (of_z w64 c.in-Exch.span) ≡ c.in-Exch.span = same_time c.in-Exch.span fields.0 in
+    let told : found_broken c.from_residual.result ≡ found_broken c.judge_span.result = search rules in
+    let over = simp span at c.judge_span.ensures in
+    breaks_span c.args.set.now c.args.off c.args.since c.in-Exch.span c.in-Exch.dms c.in-Exch.dsm c.in-Exch.o2 c.in-Exch.o3 c.in-Exch.t c.args.event.now _ _
+    c.in-Exch.is (broke _ _ _ c.in_err-judge_span-in-Exch.was over) (told ∙ over)
 
 pub returns-in_err-judge_least-in-Exch : goal.returns-in_err-judge_least-in-Exch
 returns-in_err-judge_least-in-Exch c =

@@ -1,7 +1,6 @@
 use Rattle.std.proofs.Common.{◌≡◌, ◌-◌, ◌≤◌, ℕ, Bool, List, Option, Some, true, length, drop}
 use Rattle.wrp_records.specs.Lines.{IsPlainText}
 use Rattle.wrp_records.specs.Reached.{Reached}
-use Rattle.wrp_records.specs.Reader.{ReaderAt}
 use Rattle.wrp_records.specs.Stream.{Handles}
 use Rattle.wrp_records.proofs.engine.block.handle_block.Given as goal
 
