@@ -1,5 +1,5 @@
 //! The exact arithmetic on tau, by the names of its calls.
-use crate::words::{Words, clock_of};
+use crate::words::Words;
 use wrp_base::{Tau, ceil_div, circ, difference, floor_div, hold, narrow, product, sum, trunc_div};
 use wrp_suite::Fault;
 
@@ -44,8 +44,7 @@ fn held(limit: i128, x: i128) -> Result<i128, Fault> {
 
 /// The answer of a call that takes two numbers.
 pub fn of_two(name: &str, words: &mut Words<'_>) -> Result<i128, Fault> {
-    let a = words.number::<i128>()?;
-    let b = words.number::<i128>()?;
+    let (a, b) = words.pair::<i128, i128>()?;
     match name {
         "floor_div" | "ceil_div" | "trunc_div" => quotient(name, a, b),
         "sum" | "difference" => sum_or_difference(name, a, b),
@@ -66,9 +65,8 @@ pub fn narrowed(words: &mut Words<'_>) -> Result<i64, Fault> {
 
 /// The distance of two times round a period.
 pub fn apart(words: &mut Words<'_>) -> Result<Tau, Fault> {
-    let a = words.number::<i128>()?;
-    let b = words.number::<i128>()?;
-    let clock = clock_of(words.word()?)?;
+    let (a, b) = words.pair::<i128, i128>()?;
+    let clock = words.clock()?;
     if a.unsigned_abs() > 1 << 100 || b.unsigned_abs() > 1 << 100 {
         return Err(Fault::Condition);
     }

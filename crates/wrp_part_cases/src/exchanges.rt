@@ -50,8 +50,7 @@ fn stamp_of(words: &mut Words<'_>) -> Result<Stamp, Fault>
 
 // A Sync.
 fn sync(exchange: &mut Exchange, words: &mut Words<'_>) -> Result<bool, Fault> {
-    let seq = words.number::<u16>()?;
-    let correction = words.number::<i64>()?;
+    let (seq, correction) = words.pair::<u16, i64>()?;
     let stamp = stamp_of(words)?;
     let tick = words.number::<u32>()?;
     Ok(exchange.sync(seq, correction, stamp, tick))
@@ -92,8 +91,7 @@ fn piece(exchange: &mut Exchange, name: &str, words: &mut Words<'_>) -> Result<b
 
 // A good sample.
 fn sample(exchange: &mut Exchange, words: &mut Words<'_>) -> Result<(), Fault> {
-    let number = words.number::<u32>()?;
-    let phase = words.number::<i64>()?;
+    let (number, phase) = words.pair::<u32, i64>()?;
     exchange.sample(number, phase);
     Ok(())
 }
@@ -114,10 +112,19 @@ fn make(exchange: &mut Exchange, line: &str) -> Result<Option<bool>, Fault> {
     Ok(kept)
 }
 
-// A line with the matched four.
-fn four_line(alloc: Global, four: Option<Four>) -> Result<String, AllocError> {
+// What is told of a call: whether its piece was kept, where it is one.
+fn kept_text(kept: Option<bool>) -> &'static str {
+    match kept {
+        Some(true) => "kept\n",
+        Some(false) => "not kept\n",
+        None => "",
+    }
+}
+
+// Appends the line of the matched four, or of their absence.
+fn push_four(text: &mut String, four: Option<Four>) -> Result<(), AllocError> {
     let Some(four) = four else {
-        return "four none\n".to_string(alloc);
+        return text.push_str("four none\n");
     };
     let Four {
         t1,
@@ -128,30 +135,27 @@ fn four_line(alloc: Global, four: Option<Four>) -> Result<String, AllocError> {
         u3,
         tick,
     } = four;
-    format!(in alloc; "four {t1} {t2} {t3} {t4} {u2} {u3} {tick}\n")
+    write!(text, "four {t1} {t2} {t3} {t4} {u2} {u3} {tick}\n")
 }
 
-// What a call did.
-fn told(alloc: Global, exchange: &mut Exchange, line: &str) -> Result<String, Fault> {
+// Makes the call of a line, and appends what it did.
+fn tell(text: &mut String, exchange: &mut Exchange, line: &str) -> Result<(), Fault> {
     let before = exchange.four();
-    let mut text = match make(exchange, line)? {
-        Some(true) => "kept\n".to_string(alloc)?,
-        Some(false) => "not kept\n".to_string(alloc)?,
-        None => String::new(alloc),
-    };
+    text.push_str(kept_text(make(exchange, line)?))?;
     let after = exchange.four();
     if before != after {
-        text.push_str(four_line(alloc, after)?.as_str())?;
+        push_four(text, after)?;
     }
-    Ok(text)
+    Ok(())
 }
 
 /// What an `Exchange` answers.
 pub fn answer(alloc: Global, case: &Case) -> Result<Answer, Fault> {
     let mut exchange = exchange_of(alloc, only_word(case)?)?;
+    let input = input_of(case)?;
     let mut text = String::new(alloc);
-    for line in input_of(case)?.split_terminator('\n') {
-        text.push_str(told(alloc, &mut exchange, line)?.as_str())?;
+    for line in input.split_terminator('\n') {
+        tell(&mut text, &mut exchange, line)?;
     }
     Ok(Answer::of(0, text))
 }

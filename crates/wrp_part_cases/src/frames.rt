@@ -2,7 +2,7 @@
 //! octets that it is sent as.
 ghost use Rattle.wrp_base.specs.Message.{IsSound};
 
-use crate::printing::{body_text, head_text};
+use crate::printing::{push_body, push_head, push_octets};
 use std::alloc::{AllocError, Global};
 use wrp_base::PtpMsg;
 use wrp_frame::{FrameFault, decode, encode};
@@ -22,23 +22,23 @@ fn number(fault: FrameFault) -> u8 {
     }
 }
 
-// A message, and the octets that it is sent as.
-fn told_of(alloc: Global, message: &PtpMsg) -> Result<String, AllocError>
+// Appends a message, and the octets that it is sent as.
+fn tell(alloc: Global, text: &mut String, message: &PtpMsg) -> Result<(), AllocError>
     requires { IsSound message.now }
 {
-    let mut text = head_text(alloc, message)?;
-    text.push_str(body_text(alloc, &message.body)?.as_str())?;
-    let octets = hex::encode(alloc, encode(message).as_slice())?;
-    text.push_str("octets ")?;
-    text.push_str(octets.as_str())?;
-    text.push('\n')?;
-    Ok(text)
+    push_head(text, message)?;
+    push_body(text, &message.body)?;
+    push_octets(alloc, text, encode(message).as_slice())
 }
 
 /// What `decode` answers, and `encode` of it.
 pub fn answer(alloc: Global, case: &Case) -> Result<Answer, Fault> {
+    let mut text = String::new(alloc);
     match decode(&case.input) {
-        Ok(message) => Ok(Answer::of(0, told_of(alloc, &message)?)),
-        Err(fault) => Ok(Answer::of(number(fault), String::new(alloc))),
+        Ok(message) => {
+            tell(alloc, &mut text, &message)?;
+            Ok(Answer::of(0, text))
+        }
+        Err(fault) => Ok(Answer::of(number(fault), text)),
     }
 }

@@ -10,7 +10,7 @@
 //! For each is due a line with the word of the port after it, then `unused` where it was of no use, `to STATE` where
 //! the state changed, and `sends MESSAGE` for each message that it sends. Behind them is due a line with the state, the
 //! deltas of the peer and the own module.
-use crate::messages::{message_of, message_text};
+use crate::messages::{message_of, push_message};
 use crate::states::{state_text, word_text};
 use crate::words::{Words, input_of, number_of, role_of};
 use std::alloc::{AllocError, Global};
@@ -33,17 +33,28 @@ fn link_of(words: &[String]) -> Result<Link, Fault> {
         return Err(Fault::Input);
     };
     let role = role_of(role.as_str())?;
-    let set = LinkSet {
-        quiet: number_of::<u32>(quiet.as_str())?,
-        wait: number_of::<u32>(wait.as_str())?,
-        lock_wait: number_of::<u32>(lock_wait.as_str())?,
-        retries: number_of::<u32>(retries.as_str())?,
-        holdoff: number_of::<u32>(holdoff.as_str())?,
-        wr: wr_of(wr.as_str())?,
+    let counts = (
+        number_of::<u32>(quiet.as_str()),
+        number_of::<u32>(wait.as_str()),
+        number_of::<u32>(lock_wait.as_str()),
+        number_of::<u32>(retries.as_str()),
+        number_of::<u32>(holdoff.as_str()),
+    );
+    let (Ok(quiet), Ok(wait), Ok(lock_wait), Ok(retries), Ok(holdoff)) = counts else {
+        return Err(Fault::Number);
     };
-    if set.quiet < 1 || set.wait < 1 || set.lock_wait < 1 {
+    let wr = wr_of(wr.as_str())?;
+    if quiet < 1 || wait < 1 || lock_wait < 1 {
         return Err(Fault::Condition);
     }
+    let set = LinkSet {
+        quiet,
+        wait,
+        lock_wait,
+        retries,
+        holdoff,
+        wr,
+    };
     Ok(Link::new(role, set))
 }
 
@@ -55,8 +66,7 @@ fn module_of(words: &mut Words<'_>) -> Result<Option<Module>, Fault> {
     }
     let tx = number_of::<u64>(first)?;
     let rx = words.number::<u64>()?;
-    let transition = words.number::<u16>()?;
-    let err = words.number::<u64>()?;
+    let (transition, err) = words.pair::<u16, u64>()?;
     Ok(Some(Module {
         tx,
         rx,
@@ -87,23 +97,28 @@ fn suffix_of(word: &str) -> Result<Option<u16>, Fault> {
     }
 }
 
+// The input that words tell.
+fn input_told(words: &mut Words<'_>) -> Result<LinkIn, Fault> {
+    match words.word()? {
+        "up" => module_of(words).map(LinkIn::CarrierUp),
+        "down" => Ok(LinkIn::CarrierDown),
+        "tick" => locked_of(words).map(LinkIn::Tick),
+        "announce" => words.word().and_then(suffix_of).map(LinkIn::Announce),
+        name => message_of(name, words).map(LinkIn::Msg),
+    }
+}
+
 // The input that a line tells.
 fn link_input(line: &str) -> Result<LinkIn, Fault> {
     let mut words = Words::of(line);
-    let input = match words.word()? {
-        "up" => LinkIn::CarrierUp(module_of(&mut words)?),
-        "down" => LinkIn::CarrierDown,
-        "tick" => LinkIn::Tick(locked_of(&mut words)?),
-        "announce" => LinkIn::Announce(suffix_of(words.word()?)?),
-        name => LinkIn::Msg(message_of(name, &mut words)?),
-    };
+    let input = input_told(&mut words)?;
     words.end()?;
     Ok(input)
 }
 
-// What an input did.
-fn told(alloc: Global, link: &Link, out: &LinkOut) -> Result<String, AllocError> {
-    let mut text = word_text(link.word()).to_string(alloc)?;
+// Appends what an input did.
+fn tell(text: &mut String, link: &Link, out: &LinkOut) -> Result<(), AllocError> {
+    text.push_str(word_text(link.word()))?;
     if !out.used {
         text.push_str(", unused")?;
     }
@@ -113,22 +128,21 @@ fn told(alloc: Global, link: &Link, out: &LinkOut) -> Result<String, AllocError>
     }
     for message in out.sends.iter() {
         text.push_str(", sends ")?;
-        text.push_str(message_text(alloc, message)?.as_str())?;
+        push_message(text, message)?;
     }
-    text.push('\n')?;
-    Ok(text)
+    text.push('\n')
 }
 
-// The deltas of the peer.
-fn deltas_text(alloc: Global, link: &Link) -> Result<String, AllocError> {
+// Appends the deltas of the peer.
+fn push_deltas(text: &mut String, link: &Link) -> Result<(), AllocError> {
     match link.peer_deltas() {
-        Some((tx, rx)) => format!(in alloc; "deltas {tx} {rx}"),
-        None => "deltas none".to_string(alloc),
+        Some((tx, rx)) => write!(text, ", deltas {tx} {rx}"),
+        None => text.push_str(", deltas none"),
     }
 }
 
-// The own module.
-fn module_text(alloc: Global, link: &Link) -> Result<String, AllocError> {
+// Appends the own module.
+fn push_module(text: &mut String, link: &Link) -> Result<(), AllocError> {
     match link.own_module() {
         Some(
             Module {
@@ -137,27 +151,35 @@ fn module_text(alloc: Global, link: &Link) -> Result<String, AllocError> {
                 transition,
                 err,
             },
-        ) => format!(in alloc; "module {tx} {rx} {transition} {err}"),
-        None => "module none".to_string(alloc),
+        ) => write!(text, ", module {tx} {rx} {transition} {err}"),
+        None => text.push_str(", module none"),
     }
 }
 
-// What a link is at the end.
-fn end_of(alloc: Global, link: &Link) -> Result<String, AllocError> {
-    let state = state_text(link.state());
-    let deltas = deltas_text(alloc, link)?;
-    let module = module_text(alloc, link)?;
-    format!(in alloc; "state {state}, {deltas}, {module}\n")
+// Appends what a link is at the end.
+fn tell_end(text: &mut String, link: &Link) -> Result<(), AllocError> {
+    text.push_str("state ")?;
+    text.push_str(state_text(link.state()))?;
+    push_deltas(text, link)?;
+    push_module(text, link)?;
+    text.push('\n')
+}
+
+// Gives the lines of an input to a link, and appends what each did.
+fn tell_all(text: &mut String, link: &mut Link, input: &str) -> Result<(), Fault> {
+    for line in input.split_terminator('\n') {
+        let out = link.step(link_input(line)?);
+        tell(text, link, &out)?;
+    }
+    Ok(())
 }
 
 /// What a `Link` answers.
 pub fn answer(alloc: Global, case: &Case) -> Result<Answer, Fault> {
     let mut link = link_of(&case.words)?;
+    let input = input_of(case)?;
     let mut text = String::new(alloc);
-    for line in input_of(case)?.split_terminator('\n') {
-        let out = link.step(link_input(line)?);
-        text.push_str(told(alloc, &link, &out)?.as_str())?;
-    }
-    text.push_str(end_of(alloc, &link)?.as_str())?;
+    tell_all(&mut text, &mut link, input)?;
+    tell_end(&mut text, &link)?;
     Ok(Answer::of(0, text))
 }

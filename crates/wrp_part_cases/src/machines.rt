@@ -13,19 +13,19 @@ pub trait Machine {
     fn restart(&mut self);
 }
 
-// What a line gives.
-fn told<M: Machine>(alloc: Global, machine: &mut M, line: &str) -> Result<String, Fault> {
+// Appends what a line gives.
+fn tell<M: Machine>(text: &mut String, machine: &mut M, line: &str) -> Result<(), Fault> {
     let mut words = Words::of(line);
     match words.word()? {
         "push" => {
             let answer = machine.push(words.number::<i64>()?)?;
             words.end()?;
-            Ok(format!(in alloc; "{answer}\n")?)
+            write!(text, "{answer}\n").map_err(Fault::from)
         }
         "restart" => {
             words.end()?;
             machine.restart();
-            Ok(String::new(alloc))
+            Ok(())
         }
         _ => Err(Fault::Input),
     }
@@ -33,9 +33,10 @@ fn told<M: Machine>(alloc: Global, machine: &mut M, line: &str) -> Result<String
 
 /// What a machine answers.
 pub fn answer_of<M: Machine>(alloc: Global, machine: &mut M, case: &Case) -> Result<Answer, Fault> {
+    let input = input_of(case)?;
     let mut text = String::new(alloc);
-    for line in input_of(case)?.split_terminator('\n') {
-        text.push_str(told(alloc, machine, line)?.as_str())?;
+    for line in input.split_terminator('\n') {
+        tell(&mut text, machine, line)?;
     }
     Ok(Answer::of(0, text))
 }

@@ -1,7 +1,7 @@
 //! White Rabbit messages in words: the name; behind it calSendPattern, calRetry and calPeriod of a CALIBRATE, and
 //! deltaTx and deltaRx of a CALIBRATED.
 use crate::words::Words;
-use std::alloc::{AllocError, Global};
+use std::alloc::AllocError;
 use wrp_base::WrMsg;
 use wrp_suite::Fault;
 
@@ -20,8 +20,7 @@ pub fn message_of(name: &str, words: &mut Words<'_>) -> Result<WrMsg, Fault> {
 
 // A CALIBRATE of these numbers.
 fn calibrate(words: &mut Words<'_>) -> Result<WrMsg, Fault> {
-    let pattern = words.number::<u8>()?;
-    let retry = words.number::<u8>()?;
+    let (pattern, retry) = words.pair::<u8, u8>()?;
     let period = words.number::<u32>()?;
     Ok(WrMsg::Calibrate {
         pattern,
@@ -32,23 +31,22 @@ fn calibrate(words: &mut Words<'_>) -> Result<WrMsg, Fault> {
 
 // A CALIBRATED of these numbers.
 fn calibrated(words: &mut Words<'_>) -> Result<WrMsg, Fault> {
-    let tx = words.number::<u64>()?;
-    let rx = words.number::<u64>()?;
+    let (tx, rx) = words.pair::<u64, u64>()?;
     Ok(WrMsg::Calibrated { tx, rx })
 }
 
-/// A message in words.
-pub fn message_text(alloc: Global, message: &WrMsg) -> Result<String, AllocError> {
+/// Appends a message in words.
+pub fn push_message(text: &mut String, message: &WrMsg) -> Result<(), AllocError> {
     match message {
-        WrMsg::Present => "SLAVE_PRESENT".to_string(alloc),
-        WrMsg::Lock => "LOCK".to_string(alloc),
-        WrMsg::Locked => "LOCKED".to_string(alloc),
+        WrMsg::Present => text.push_str("SLAVE_PRESENT"),
+        WrMsg::Lock => text.push_str("LOCK"),
+        WrMsg::Locked => text.push_str("LOCKED"),
         WrMsg::Calibrate {
             pattern,
             retry,
             period,
-        } => format!(in alloc; "CALIBRATE {pattern} {retry} {period}"),
-        WrMsg::Calibrated { tx, rx } => format!(in alloc; "CALIBRATED {tx} {rx}"),
-        WrMsg::ModeOn => "WR_MODE_ON".to_string(alloc),
+        } => write!(text, "CALIBRATE {pattern} {retry} {period}"),
+        WrMsg::Calibrated { tx, rx } => write!(text, "CALIBRATED {tx} {rx}"),
+        WrMsg::ModeOn => text.push_str("WR_MODE_ON"),
     }
 }

@@ -8,8 +8,8 @@
 ghost use Rattle.std.specs.Prelude.{◌<◌, ◌^◌, ◌↔◌, IsTrue};
 
 use crate::arithmetic::{apart, narrowed, of_two};
-use crate::words::{Words, clock_of, input_of};
-use std::alloc::{AllocError, Global};
+use crate::words::{Words, input_of};
+use std::alloc::Global;
 use wrp_base::{Raw, STEPS_OF_PERIOD, Tau};
 use wrp_law::floor_of;
 use wrp_phase::deglitch;
@@ -25,11 +25,9 @@ fn counts(counter: u64) -> bool
 
 // A merged reading.
 fn merged(words: &mut Words<'_>) -> Result<Tau, Fault> {
-    let clock = clock_of(words.word()?)?;
-    let transition = words.number::<u16>()?;
-    let tag = words.number::<u16>()?;
-    let rising = words.number::<u64>()?;
-    let falling = words.number::<u64>()?;
+    let clock = words.clock()?;
+    let (transition, tag) = words.pair::<u16, u16>()?;
+    let (rising, falling) = words.pair::<u64, u64>()?;
     if STEPS_OF_PERIOD <= transition || STEPS_OF_PERIOD <= tag {
         return Err(Fault::Condition);
     }
@@ -45,7 +43,7 @@ fn merged(words: &mut Words<'_>) -> Result<Tau, Fault> {
 }
 
 // A deglitched tag.
-fn deglitched(words: &mut Words<'_>) -> Result<Option<u16>, Fault> {
+fn deglitched(words: &mut Words<'_>) -> Result<Option<i128>, Fault> {
     let base = words.number::<u16>()?;
     let Ok(bits) = u64::from_str_radix(words.word()?, 16) else {
         return Err(Fault::Number);
@@ -53,13 +51,12 @@ fn deglitched(words: &mut Words<'_>) -> Result<Option<u16>, Fault> {
     if STEPS_OF_PERIOD <= base {
         return Err(Fault::Condition);
     }
-    Ok(deglitch(base, bits))
+    Ok(deglitch(base, bits).map(i128::from))
 }
 
 // The fraction of a law.
 fn fraction(words: &mut Words<'_>) -> Result<i64, Fault> {
-    let kappa = words.number::<i64>()?;
-    let x = words.number::<i64>()?;
+    let (kappa, x) = words.pair::<i64, i64>()?;
     if kappa.unsigned_abs() > 1 << 38 || x.unsigned_abs() > 1 << 53 {
         return Err(Fault::Condition);
     }
@@ -69,32 +66,34 @@ fn fraction(words: &mut Words<'_>) -> Result<i64, Fault> {
 // The answer of a call.
 fn called(name: &str, words: &mut Words<'_>) -> Result<Option<i128>, Fault> {
     match name {
-        "narrow" => Ok(Some(i128::from(narrowed(words)?))),
-        "circ" => Ok(Some(apart(words)?)),
-        "merge" => Ok(Some(merged(words)?)),
-        "deglitch" => Ok(deglitched(words)?.map(i128::from)),
-        "floor_of" => Ok(Some(i128::from(fraction(words)?))),
-        _ => Ok(Some(of_two(name, words)?)),
+        "narrow" => narrowed(words).map(i128::from).map(Some),
+        "circ" => apart(words).map(Some),
+        "merge" => merged(words).map(Some),
+        "deglitch" => deglitched(words),
+        "floor_of" => fraction(words).map(i128::from).map(Some),
+        _ => of_two(name, words).map(Some),
     }
 }
 
-// The answer of a line.
-fn told(alloc: Global, line: &str) -> Result<String, Fault> {
+// Appends the answer of a line.
+fn tell(text: &mut String, line: &str) -> Result<(), Fault> {
     let mut words = Words::of(line);
     let name = words.word()?;
     let found = called(name, &mut words)?;
     words.end()?;
-    match found {
-        Some(number) => Ok(format!(in alloc; "{number}\n")?),
-        None => Ok("none\n".to_string(alloc)?),
-    }
+    let pushed = match found {
+        Some(number) => write!(text, "{number}\n"),
+        None => text.push_str("none\n"),
+    };
+    pushed.map_err(Fault::from)
 }
 
 /// What the calls answer.
 pub fn answer(alloc: Global, case: &Case) -> Result<Answer, Fault> {
+    let input = input_of(case)?;
     let mut text = String::new(alloc);
-    for line in input_of(case)?.split_terminator('\n') {
-        text.push_str(told(alloc, line)?.as_str())?;
+    for line in input.split_terminator('\n') {
+        tell(&mut text, line)?;
     }
     Ok(Answer::of(0, text))
 }

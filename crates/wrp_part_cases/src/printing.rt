@@ -1,6 +1,6 @@
 //! A message in lines: its kind, and a line for each field, which has the standard's name. Flags, qualities, octets and
-//! identities stand in hex.
-use crate::messages::message_text;
+//! identities stand in hex. Each call appends its lines to a text.
+use crate::messages::push_message;
 use std::alloc::{AllocError, Global};
 use wrp_base::{Body, PortIdentity, PtpMsg, Ts, WrMsg};
 
@@ -17,74 +17,66 @@ fn kind_text(body: &Body) -> &'static str {
 }
 
 // A line with the name of a field, and a number of seconds and one of nanoseconds.
-fn time_line(alloc: Global, field: &str, time: &Ts) -> Result<String, AllocError> {
+fn push_time(text: &mut String, field: &str, time: &Ts) -> Result<(), AllocError> {
     let Ts { seconds, nanos } = *time;
-    format!(in alloc; "{field} {seconds} {nanos}\n")
+    write!(text, "{field} {seconds} {nanos}\n")
 }
 
 // A line with the name of a field, a clockIdentity and a portNumber.
-fn identity_line(
-    alloc: Global,
+fn push_identity(
+    text: &mut String,
     field: &str,
     identity: &PortIdentity,
-) -> Result<String, AllocError> {
+) -> Result<(), AllocError> {
     let PortIdentity { clock, port } = *identity;
-    format!(in alloc; "{field} {clock:016x} {port}\n")
+    write!(text, "{field} {clock:016x} {port}\n")
 }
 
-// The lines of the White Rabbit message, or of its absence.
-fn message_line(alloc: Global, message: Option<WrMsg>) -> Result<String, AllocError> {
+/// The line of the White Rabbit message, or of its absence.
+pub fn push_wr(text: &mut String, message: Option<&WrMsg>) -> Result<(), AllocError> {
     let Some(message) = message else {
-        return "message none\n".to_string(alloc);
+        return text.push_str("message none\n");
     };
-    let text = message_text(alloc, &message)?;
-    format!(in alloc; "message {text}\n")
+    text.push_str("message ")?;
+    push_message(text, message)?;
+    text.push('\n')
 }
 
-/// The lines of a suffix, or of its absence.
-pub fn suffix_line(alloc: Global, suffix: Option<u16>) -> Result<String, AllocError> {
+/// The line of a suffix, or of its absence.
+pub fn push_suffix(text: &mut String, suffix: Option<u16>) -> Result<(), AllocError> {
     match suffix {
-        Some(flags) => format!(in alloc; "wrFlags {flags:04x}\n"),
-        None => "wrFlags none\n".to_string(alloc),
+        Some(flags) => write!(text, "wrFlags {flags:04x}\n"),
+        None => text.push_str("wrFlags none\n"),
     }
 }
 
+/// The line of the octets that something is sent as.
+pub fn push_octets(alloc: Global, text: &mut String, octets: &[u8]) -> Result<(), AllocError> {
+    let digits = hex::encode(alloc, octets)?;
+    write!(text, "octets {digits}\n")
+}
+
 /// The kind of a message, and the lines of its header.
-pub fn head_text(alloc: Global, message: &PtpMsg) -> Result<String, AllocError> {
+pub fn push_head(text: &mut String, message: &PtpMsg) -> Result<(), AllocError> {
     let kind = kind_text(&message.body);
     let head = &message.head;
     let (domain, flags, correction) = (head.domain, head.flags, head.correction);
-    let mut text = format!(in alloc;
-        "{kind}\ndomainNumber {domain}\nflagField {flags:04x}\ncorrectionField {correction}\n"
-    )?;
-    text.push_str(identity_line(alloc, "sourcePortIdentity", &head.source)?.as_str())?;
     let (seq, interval) = (head.seq, head.interval);
-    let rest = format!(in alloc; "sequenceId {seq}\nlogMessageInterval {interval:02x}\n")?;
-    text.push_str(rest.as_str())?;
-    Ok(text)
-}
-
-// The lines of currentUtcOffset to grandmasterPriority2.
-fn quality_text(
-    alloc: Global,
-    utc: i16,
-    p1: u8,
-    quality: u32,
-    p2: u8,
-) -> Result<String, AllocError> {
-    let first = format!(in alloc; "currentUtcOffset {utc}\ngrandmasterPriority1 {p1}\n")?;
-    format!(in alloc; "{first}grandmasterClockQuality {quality:08x}\ngrandmasterPriority2 {p2}\n")
-}
-
-// The lines of grandmasterIdentity to timeSource.
-fn grandmaster_text(alloc: Global, gm: u64, steps: u16, source: u8) -> Result<String, AllocError> {
-    format!(in alloc;
-        "grandmasterIdentity {gm:016x}\nstepsRemoved {steps}\ntimeSource {source:02x}\n"
+    let PortIdentity { clock, port } = head.source;
+    write!(
+        text,
+        "{kind}\n\
+         domainNumber {domain}\n\
+         flagField {flags:04x}\n\
+         correctionField {correction}\n\
+         sourcePortIdentity {clock:016x} {port}\n\
+         sequenceId {seq}\n\
+         logMessageInterval {interval:02x}\n"
     )
 }
 
 // The lines of an Announce, and nothing of any other kind.
-fn announce_text(alloc: Global, body: &Body) -> Result<String, AllocError> {
+fn push_announce(text: &mut String, body: &Body) -> Result<(), AllocError> {
     let Body::Announce {
         origin,
         utc,
@@ -97,36 +89,40 @@ fn announce_text(alloc: Global, body: &Body) -> Result<String, AllocError> {
         suffix,
     } = body
     else {
-        return Ok(String::new(alloc));
+        return Ok(());
     };
-    let mut text = time_line(alloc, "originTimestamp", origin)?;
-    text.push_str(quality_text(alloc, *utc, *p1, *quality, *p2)?.as_str())?;
-    text.push_str(grandmaster_text(alloc, *gm, *steps, *source)?.as_str())?;
-    text.push_str(suffix_line(alloc, *suffix)?.as_str())?;
-    Ok(text)
+    push_time(text, "originTimestamp", origin)?;
+    write!(
+        text,
+        "currentUtcOffset {utc}\n\
+         grandmasterPriority1 {p1}\n\
+         grandmasterClockQuality {quality:08x}\n\
+         grandmasterPriority2 {p2}\n\
+         grandmasterIdentity {gm:016x}\n\
+         stepsRemoved {steps}\n\
+         timeSource {source:02x}\n"
+    )?;
+    push_suffix(text, *suffix)
 }
 
 /// The lines of a body.
-pub fn body_text(alloc: Global, body: &Body) -> Result<String, AllocError> {
+pub fn push_body(text: &mut String, body: &Body) -> Result<(), AllocError> {
     match body {
         Body::Sync { origin } | Body::DelayReq { origin } => {
-            time_line(alloc, "originTimestamp", origin)
+            push_time(text, "originTimestamp", origin)
         }
-        Body::FollowUp { precise } => time_line(alloc, "preciseOriginTimestamp", precise),
+        Body::FollowUp { precise } => push_time(text, "preciseOriginTimestamp", precise),
         Body::DelayResp {
             receive,
             requesting,
         } => {
-            let mut text = time_line(alloc, "receiveTimestamp", receive)?;
-            let port = identity_line(alloc, "requestingPortIdentity", requesting)?;
-            text.push_str(port.as_str())?;
-            Ok(text)
+            push_time(text, "receiveTimestamp", receive)?;
+            push_identity(text, "requestingPortIdentity", requesting)
         }
-        Body::Announce { .. } => announce_text(alloc, body),
+        Body::Announce { .. } => push_announce(text, body),
         Body::Signal { target, wr } => {
-            let mut text = identity_line(alloc, "targetPortIdentity", target)?;
-            text.push_str(message_line(alloc, *wr)?.as_str())?;
-            Ok(text)
+            push_identity(text, "targetPortIdentity", target)?;
+            push_wr(text, wr.as_ref())
         }
     }
 }

@@ -3,7 +3,7 @@ ghost use Rattle.std.specs.Prelude.{◌≤ℤ◌, IsTrue};
 ghost use Rattle.std.specs.List.{AllByRecursion};
 ghost use Rattle.wrp_law.specs.Table.{FitsPoint, Rises, last_x};
 
-use crate::words::{Words, input_of, number_of};
+use crate::words::{Words, halves_of, number_of};
 use std::alloc::Global;
 use wrp_law::on_table;
 use wrp_suite::{Answer, Case, Fault};
@@ -36,16 +36,16 @@ fn points_of(alloc: Global, lines: &str) -> Result<Vec<(i64, i64)>, Fault> {
     let mut points = Vec::new(alloc);
     for line in lines.split_terminator('\n') {
         let mut words = Words::of(line);
-        let x = words.number::<i64>()?;
-        let y = words.number::<i64>()?;
+        let point = words.pair::<i64, i64>()?;
         words.end()?;
-        points.push((x, y))?;
+        points.push(point)?;
     }
     Ok(points)
 }
 
-// The value at a place.
-fn value_at(points: &[(i64, i64)], x: i64) -> Result<i64, Fault> {
+// The value at the place that a line tells.
+fn value_at(points: &[(i64, i64)], line: &str) -> Result<i64, Fault> {
+    let x = number_of::<i64>(line)?;
     if points.len() < 2 || 32 < points.len() {
         return Err(Fault::Condition);
     }
@@ -55,16 +55,20 @@ fn value_at(points: &[(i64, i64)], x: i64) -> Result<i64, Fault> {
     Ok(on_table(points, x))
 }
 
+// Appends the values at the places of lines.
+fn tell(text: &mut String, points: &[(i64, i64)], places: &str) -> Result<(), Fault> {
+    for line in places.split_terminator('\n') {
+        let value = value_at(points, line)?;
+        write!(text, "{value}\n")?;
+    }
+    Ok(())
+}
+
 /// What `on_table` answers.
 pub fn answer(alloc: Global, case: &Case) -> Result<Answer, Fault> {
-    let Some((lines, places)) = input_of(case)?.split_once("---\n") else {
-        return Err(Fault::Input);
-    };
+    let (lines, places) = halves_of(case)?;
     let points = points_of(alloc, lines)?;
     let mut text = String::new(alloc);
-    for line in places.split_terminator('\n') {
-        let value = value_at(&points, number_of::<i64>(line)?)?;
-        text.push_str(format!(in alloc; "{value}\n")?.as_str())?;
-    }
+    tell(&mut text, &points, places)?;
     Ok(Answer::of(0, text))
 }

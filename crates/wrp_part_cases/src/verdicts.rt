@@ -3,9 +3,9 @@
 //! stand the sending time and the words of the message that moved the port. The verdict on the port is due.
 use crate::messages::message_of;
 use crate::states::{state_of, state_text};
-use crate::words::{Words, input_of, only_word, role_of};
+use crate::words::{Words, halves_of, only_word, role_of};
 use std::alloc::{AllocError, Global};
-use wrp_base::{Mark, Tau, WrMsg};
+use wrp_base::{LinkState, Mark, Tau, WrMsg};
 use wrp_check::{Verdict, judge};
 use wrp_suite::{Answer, Case, Fault};
 
@@ -19,12 +19,17 @@ fn mover_of(words: &mut Words<'_>) -> Result<Option<(WrMsg, Tau)>, Fault> {
     Ok(Some((message_of(name, words)?, sent)))
 }
 
+// The state of the next word.
+fn next_state(words: &mut Words<'_>) -> Result<LinkState, Fault> {
+    state_of(words.word()?)
+}
+
 // The change that a line tells.
 fn mark_of(line: &str) -> Result<Mark, Fault> {
     let mut words = Words::of(line);
     let at = words.number::<i128>()?;
-    let from = state_of(words.word()?)?;
-    let to = state_of(words.word()?)?;
+    let from = next_state(&mut words)?;
+    let to = next_state(&mut words)?;
     let by = mover_of(&mut words)?;
     words.end()?;
     Ok(Mark { at, from, to, by })
@@ -55,9 +60,7 @@ fn told(alloc: Global, verdict: Result<(), Verdict>) -> Result<String, AllocErro
 /// What `judge` answers.
 pub fn answer(alloc: Global, case: &Case) -> Result<Answer, Fault> {
     let role = role_of(only_word(case)?)?;
-    let Some((own, peer)) = input_of(case)?.split_once("---\n") else {
-        return Err(Fault::Input);
-    };
+    let (own, peer) = halves_of(case)?;
     let own = history_of(alloc, own)?;
     let peer = history_of(alloc, peer)?;
     Ok(Answer::of(0, told(alloc, judge(&own, &peer, role))?))

@@ -8,6 +8,11 @@ pub fn input_of(case: &Case) -> Result<&str, Fault> {
     str::from_utf8(&case.input).ok().ok_or(Fault::Input)
 }
 
+/// The parts of the input of a case before and behind its line `---`.
+pub fn halves_of(case: &Case) -> Result<(&str, &str), Fault> {
+    input_of(case)?.split_once("---\n").ok_or(Fault::Input)
+}
+
 /// The words of a case, where it has one alone.
 pub fn only_word(case: &Case) -> Result<&str, Fault> {
     match case.words.as_slice() {
@@ -82,6 +87,21 @@ impl<'a> Words<'a> {
         N::Err: Drop,
     {
         number_of::<N>(self.word()?)
+    }
+
+    /// Takes the next two words, which are numbers.
+    pub fn pair<M: FromStr + Drop, N: FromStr>(&mut self) -> Result<(M, N), Fault>
+    where
+        M::Err: Drop,
+        N::Err: Drop,
+    {
+        let first = self.number::<M>()?;
+        Ok((first, self.number::<N>()?))
+    }
+
+    /// Takes the next word, which is the period of a clock.
+    pub fn clock(&mut self) -> Result<Clock, Fault> {
+        clock_of(self.word()?)
     }
 
     /// Refuses a word that is left.
