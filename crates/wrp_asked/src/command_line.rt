@@ -7,7 +7,7 @@ ghost use Rattle.wrp_asked.specs.Words.{texts_of};
 use crate::alone::{Alone, alone_of};
 
 /// The form of a command line.
-#[derive(Clone, Copy, Debug, PartialEq, Eq)]
+#[derive(Clone, Copy)]
 pub enum Form {
     /// `audit`.
     Audit,

@@ -16,7 +16,7 @@ pub struct Clash {
 }
 
 /// How the left side of an inequality has to lie to the right one.
-#[derive(Clone, Copy, Debug, PartialEq, Eq)]
+#[derive(Clone, Copy)]
 pub enum Order {
     /// Below it.
     Less,
@@ -27,7 +27,7 @@ pub enum Order {
 }
 
 /// One inequality.
-#[derive(Clone, Copy, Debug, PartialEq, Eq)]
+#[derive(Clone, Copy)]
 pub struct Inequality {
     /// Its number: 1 to 9.
     pub number: u8,

@@ -2,7 +2,7 @@
 use std::fmt;
 
 /// How many runs there were, and how much was tested in them. Each count stays at its greatest value.
-#[derive(Clone, Copy, Debug, PartialEq, Eq)]
+#[derive(Clone, Copy)]
 pub struct Counts {
     runs: u64,
     failed: u64,

@@ -6,7 +6,7 @@ use wrp_check::Verdict;
 use wrp_trial::{Lack, Told};
 
 /// Why a run failed.
-#[derive(Clone, Copy, Debug, PartialEq, Eq)]
+#[derive(Clone, Copy)]
 pub enum Failure {
     /// There was no memory.
     Memory,

@@ -6,7 +6,7 @@ use std::fmt;
 const LAST: u32 = 5_000_000;
 
 /// What is lost and comes back.
-#[derive(Clone, Copy, Debug, PartialEq, Eq)]
+#[derive(Clone, Copy)]
 pub enum Loss {
     /// The fibre between the grandmaster and the switch is cut, and joined again.
     Fibre,
@@ -18,7 +18,7 @@ pub enum Loss {
 pub const LOSSES: [Loss; 2] = [Loss::Fibre, Loss::Switch];
 
 /// The plan of a run.
-#[derive(Clone, Copy, Debug, PartialEq, Eq)]
+#[derive(Clone, Copy)]
 pub struct Plan {
     /// When something is lost, in ms: half a second later it comes back, and another half a second later the run ends.
     pub moment: u32,
@@ -59,7 +59,7 @@ impl fmt::Display for Plan {
 }
 
 /// Moments that are equally far from each other, in ms.
-#[derive(Clone, Copy, Debug, PartialEq, Eq)]
+#[derive(Clone, Copy)]
 pub struct Span {
     from: u32,
     to: u32,

@@ -7,7 +7,7 @@ use wrp_base::Module;
 use wrp_caldb::{Entry, ListedModule, Lists};
 
 /// The greatest `err`, `tx` and `rx` of some entries, in tau; 0 where there is none.
-#[derive(Clone, Copy, Debug, Default, PartialEq, Eq)]
+#[derive(Clone, Copy, Default)]
 pub struct Greatest {
     pub err: u64,
     pub tx: u64,

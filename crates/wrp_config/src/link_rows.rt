@@ -14,7 +14,7 @@ use wrp_caldb::{
 };
 
 /// What a value has to name, beside its sort.
-#[derive(Clone, Copy, Debug, PartialEq, Eq)]
+#[derive(Clone, Copy)]
 pub enum Names {
     /// Nothing.
     Nothing,
@@ -31,7 +31,7 @@ pub enum Names {
 }
 
 /// A row of a link.
-#[derive(Debug, Drop)]
+#[derive(Drop)]
 pub struct LinkRow {
     row: Row,
     names: Names,

@@ -5,7 +5,7 @@ ghost use Rattle.wrp_config.specs.Keys.{key_of, network_keys, period_key};
 use wrp_caldb::{Row, Sort};
 
 /// A number of `network`.
-#[derive(Clone, Copy, Debug, PartialEq, Eq)]
+#[derive(Clone, Copy)]
 pub enum Setting {
     Epoch,
     Domain,

@@ -6,7 +6,7 @@ ghost use Rattle.wrp_config.specs.Tree.{is_root, some_below, depth_within, depth
 use wrp_base::{LinkCfg, NetCfg};
 
 /// Why the links make no such tree, by the number that a refusal's line has.
-#[derive(Clone, Copy, Debug, PartialEq, Eq)]
+#[derive(Clone, Copy)]
 pub enum TreeFault {
     /// A node has no parent and is not the first such node, or the walk up from it does not end.
     NotATree = 7,

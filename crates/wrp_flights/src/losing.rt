@@ -14,7 +14,7 @@ use std::collections::BTreeMap;
 use wrp_base::{LinkCfg, Role, Tau};
 
 /// Which frames on fibres are lost.
-#[derive(Clone, Copy, Debug, PartialEq, Eq)]
+#[derive(Clone, Copy)]
 pub enum Loss {
     /// Those on the fibre of this link.
     Link(u8),

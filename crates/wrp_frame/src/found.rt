@@ -10,7 +10,7 @@ use wrp_base::WrMsg;
 use wrp_tlv::{ORGANIZATION_EXTENSION, Tlv, WrRead, tlv_at, wr_of};
 
 /// What a list of TLVs says of White Rabbit.
-#[derive(Clone, Copy, Debug, Default, PartialEq, Eq)]
+#[derive(Clone, Copy, Default)]
 pub struct Found {
     /// The first White Rabbit message.
     pub message: Option<WrMsg>,

@@ -6,7 +6,7 @@ ghost use Rattle.wrp_frame.specs.MessageTypes.{least_length, has_timestamp, read
 use wrp_base::Body;
 
 /// The kind of a message.
-#[derive(Clone, Copy, Debug, PartialEq, Eq)]
+#[derive(Clone, Copy, PartialEq, Eq)]
 pub enum MessageType {
     /// messageType 0x0.
     Sync,

@@ -109,7 +109,7 @@ pub struct Sent {
 }
 
 /// What an event hands over, and to which end.
-#[derive(Clone, Copy, Debug)]
+#[derive(Clone, Copy)]
 pub struct Handing {
     /// The end.
     pub to: Side,
@@ -118,7 +118,7 @@ pub struct Handing {
 }
 
 /// A premise that an event breaks.
-#[derive(Clone, Copy, Debug)]
+#[derive(Clone, Copy)]
 pub struct Breach {
     /// Its number.
     pub premise: u8,

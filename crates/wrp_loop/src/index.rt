@@ -28,7 +28,7 @@ pub struct Index {
 }
 
 // What was found so far: the least that was not handed over, and the greatest.
-#[derive(Clone, Copy, Debug, PartialEq, Eq)]
+#[derive(Clone, Copy)]
 pub struct Choice {
     least: Option<u32>,
     greatest: Option<u32>,

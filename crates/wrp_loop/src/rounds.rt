@@ -15,7 +15,7 @@ use wrp_io::Link;
 use wrp_world::Event;
 
 /// What the simulator's next event is.
-#[derive(Clone, Copy, Debug, PartialEq, Eq)]
+#[derive(Clone, Copy)]
 pub enum Coming {
     /// The arrival of the frame with this number.
     Arrival(u32),

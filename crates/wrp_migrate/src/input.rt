@@ -13,7 +13,7 @@ const TEXT_LIMIT: usize = 262_144;
 const PIECE: usize = 65_536;
 
 /// How the taking of a text ended.
-#[derive(Clone, Copy, Debug, PartialEq, Eq)]
+#[derive(Clone, Copy)]
 pub enum End {
     /// At the end of the input.
     Whole,

@@ -13,7 +13,7 @@ use wrp_port::PortIn;
 use wrp_servo::ServoOut;
 
 /// A node but its servo.
-#[derive(Debug, Drop)]
+#[derive(Drop)]
 pub struct Parts {
     /// Its ports.
     pub ports: Ports,

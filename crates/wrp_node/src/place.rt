@@ -21,7 +21,7 @@ use wrp_port::{Port, PortIn, PortOut};
 use wrp_stamp::merge;
 
 /// A port of a node.
-#[derive(Debug, Drop)]
+#[derive(Drop)]
 pub struct Place {
     /// Its number.
     pub number: u16,

@@ -24,7 +24,7 @@ use wrp_base::{Clock, Four, PtpMsg, Raw};
 use wrp_port::PortIn;
 
 /// Whom an input is for.
-#[derive(Clone, Copy, Debug)]
+#[derive(Clone, Copy)]
 pub enum To {
     /// Every port.
     Every,
@@ -33,7 +33,7 @@ pub enum To {
 }
 
 /// The ports of a node.
-#[derive(Debug, Drop)]
+#[derive(Drop)]
 pub struct Ports {
     places: Vec<Place>,
     index: Index,

@@ -11,7 +11,7 @@ use wrp_io::Source;
 const PIECE: usize = 65_536;
 
 /// What asking for a piece gives.
-#[derive(Clone, Copy, Debug, PartialEq, Eq)]
+#[derive(Clone, Copy)]
 pub(crate) enum Refilled {
     /// A piece is held behind what was held.
     Piece,

@@ -10,7 +10,7 @@ use crate::pieces::Pieces;
 use std::alloc::AllocError;
 
 // What comes next of the octets that are held.
-#[derive(Clone, Copy, Debug, PartialEq, Eq)]
+#[derive(Clone, Copy)]
 enum Step {
     // A whole packet.
     Packet,
@@ -23,7 +23,7 @@ enum Step {
 }
 
 /// Why no more of the octets that are held is taken.
-#[derive(Clone, Copy, Debug, PartialEq, Eq)]
+#[derive(Clone, Copy)]
 pub(crate) enum Stop {
     /// Less than a packet is left.
     More,

@@ -45,7 +45,7 @@ pub struct Span {
 }
 
 /// The true delays of the module in place at an end of a link, in tau.
-#[derive(Clone, Copy, Debug, PartialEq, Eq)]
+#[derive(Clone, Copy)]
 pub struct Delays {
     /// That of what it sends.
     pub tx: u64,

@@ -29,7 +29,7 @@ use wrp_io::{Sink, Source};
 const LINE_LIMIT: usize = 8_192;
 
 // What ends the handling before the end of the input.
-#[derive(Clone, Copy, Debug, PartialEq, Eq)]
+#[derive(Clone, Copy)]
 enum Ended {
     // A record is too large, or has too great a number.
     TooLarge,
@@ -54,7 +54,7 @@ impl Ended {
 }
 
 // What comes next of the records.
-#[derive(Clone, Copy, Debug, PartialEq, Eq)]
+#[derive(Clone, Copy)]
 enum NextRecord {
     // A record's line.
     Line,

@@ -32,7 +32,7 @@ use wrp_replay::{Replayed, asked, kept_if, law_above, replay};
 use wrp_simulate::simulate;
 
 /// What is done on a whole network.
-#[derive(Clone, Copy, Debug, PartialEq, Eq)]
+#[derive(Clone, Copy)]
 pub enum Work {
     /// Its audit, or the inputs of this node.
     Audit(Option<u8>),

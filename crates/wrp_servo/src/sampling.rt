@@ -10,7 +10,7 @@ use wrp_base::{ServoState, Tau, difference, sum};
 use wrp_phase::deglitch;
 
 /// What became of a sample.
-#[derive(Clone, Copy, Debug, PartialEq, Eq)]
+#[derive(Clone, Copy)]
 pub enum Heard {
     /// It was ignored.
     Ignored,

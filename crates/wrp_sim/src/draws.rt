@@ -9,7 +9,7 @@ use wrp_base::{difference, sum};
 const STEP: u64 = 0x9e37_79b9_7f4a_7c15;
 
 /// A generator of numbers: each call draws the next one.
-#[derive(Debug, Drop)]
+#[derive(Drop)]
 pub struct Draws {
     state: u64,
 }

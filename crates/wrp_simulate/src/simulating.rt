@@ -36,7 +36,7 @@ const PIECE: usize = 65_536;
 const LAST_EVENT: u32 = u32::MAX - 1;
 
 /// What became of a step of a run.
-#[derive(Clone, Copy, Debug, PartialEq, Eq)]
+#[derive(Clone, Copy)]
 pub enum Stepped {
     /// An event came.
     Event,

@@ -16,7 +16,7 @@ use wrp_node::{Output, Report};
 use wrp_world::{NodeOut, World};
 
 /// What the track lines of a node tell.
-#[derive(Clone, Copy, Debug, PartialEq, Eq)]
+#[derive(Clone, Copy)]
 pub struct Total {
     /// How many there are.
     pub tracks: u64,

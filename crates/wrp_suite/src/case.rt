@@ -1,5 +1,5 @@
 //! A case: a call, and what is due.
-use std::alloc::Global;
+use std::alloc::{AllocError, Global};
 
 /// A number that a case sets, by its name.
 #[derive(Drop)]
@@ -34,11 +34,13 @@ pub struct Case {
 }
 
 impl Case {
-    /// A case of which nothing is said yet.
-    pub fn new(alloc: Global) -> Case {
-        Case {
-            kind: String::new(alloc),
-            name: String::new(alloc),
+    /// A case of which its kind and its name are said, and nothing else yet.
+    pub fn new(alloc: Global, kind: &str, name: &str) -> Result<Case, AllocError> {
+        let kind = kind.to_string(alloc)?;
+        let name = name.to_string(alloc)?;
+        Ok(Case {
+            kind,
+            name,
             words: Vec::new(alloc),
             input: Vec::new(alloc),
             cut: String::new(alloc),
@@ -46,7 +48,7 @@ impl Case {
             settings: Vec::new(alloc),
             status: 0,
             due: Vec::new(alloc),
-        }
+        })
     }
 
     /// The number that the case sets under a name; the last one counts.

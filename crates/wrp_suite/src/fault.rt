@@ -27,17 +27,18 @@ pub enum Fault {
 
 impl fmt::Display for Fault {
     fn fmt<W: fmt::Write>(&self, f: &mut fmt::Formatter<W>) -> fmt::Result {
-        match self {
-            Fault::Memory => write!(f, "out of memory"),
-            Fault::Word => write!(f, "no line of a case file"),
-            Fault::Number => write!(f, "no number"),
-            Fault::Hex => write!(f, "no hex"),
-            Fault::NoText => write!(f, "no such text"),
-            Fault::Twice => write!(f, "a text of this name stands before"),
-            Fault::NoPart => write!(f, "the part to be replaced is not in the input"),
-            Fault::Input => write!(f, "no words or input of such a case"),
-            Fault::Condition => write!(f, "the condition of the call does not hold"),
-        }
+        let text = match self {
+            Fault::Memory => "out of memory",
+            Fault::Word => "no line of a case file",
+            Fault::Number => "no number",
+            Fault::Hex => "no hex",
+            Fault::NoText => "no such text",
+            Fault::Twice => "a text of this name stands before",
+            Fault::NoPart => "the part to be replaced is not in the input",
+            Fault::Input => "no words or input of such a case",
+            Fault::Condition => "the condition of the call does not hold",
+        };
+        f.write_str(text)
     }
 }
 

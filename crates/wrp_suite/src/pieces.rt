@@ -96,5 +96,6 @@ pub fn replaced(alloc: Global, input: &[u8], part: &str, other: &str) -> Result<
     if !text.contains(part) {
         return Err(Fault::NoPart);
     }
-    Ok(text.replacen(alloc, part, other, 1)?.into_bytes())
+    let replaced = text.replacen(alloc, part, other, 1)?;
+    Ok(replaced.into_bytes())
 }

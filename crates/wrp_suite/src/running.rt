@@ -1,7 +1,7 @@
 //! The run of a program of cases.
 use crate::answer::Answer;
 use crate::case::Case;
-use crate::difference::{agrees, difference};
+use crate::difference::told;
 use crate::fault::Fault;
 use crate::suite::Suite;
 use std::alloc::Global;
@@ -16,7 +16,7 @@ pub trait Kinds {
 }
 
 /// How many cases passed, and how many failed.
-#[derive(Clone, Copy, Debug, PartialEq, Eq)]
+#[derive(Clone, Copy)]
 struct Counts {
     passed: u32,
     failed: u32,
@@ -37,10 +37,7 @@ impl Counts {
 // What is told of a case: nothing where its answer is what is due.
 fn told_of<K: Kinds>(alloc: Global, case: &Case) -> Result<Option<String>, Fault> {
     let came = K::answer(alloc, case)?;
-    if agrees(case, &came) {
-        return Ok(None);
-    }
-    Ok(Some(difference(alloc, case, &came)?))
+    told(alloc, case, &came).map_err(Fault::from)
 }
 
 // Runs a case, and prints how it differs.
@@ -54,36 +51,57 @@ fn run_case<K: Kinds, R: AllocGlobal + Eprint>(
     match told_of::<K>(rt.alloc(), case) {
         Ok(None) => {
             counts.pass();
-            return Ok(());
+            Ok(())
         }
-        Ok(Some(told)) => eprintln!(rt; "{file}: {told}")?,
-        Err(fault) => eprintln!(rt; "{file}: {name}: {fault}")?,
+        Ok(Some(told)) => {
+            counts.fail();
+            eprintln!(rt; "{file}: {told}")
+        }
+        Err(fault) => {
+            counts.fail();
+            eprintln!(rt; "{file}: {name}: {fault}")
+        }
     }
-    counts.fail();
-    Ok(())
+}
+
+// Takes a line of a file, and runs the case that ends with it.
+fn take_line<K: Kinds, R: AllocGlobal + Eprint>(
+    rt: &R,
+    suite: &mut Suite,
+    counts: &mut Counts,
+    file: &str,
+    number: u64,
+    line: &str,
+) -> io::Result<()> {
+    match suite.take(rt.alloc(), line) {
+        Ok(None) => Ok(()),
+        Ok(Some(case)) => run_case::<K, R>(rt, counts, file, &case),
+        Err(fault) => {
+            counts.fail();
+            eprintln!(rt; "{file}:{number}: {fault}")
+        }
+    }
 }
 
 // Takes the lines of one file, and runs each case as it ends.
-fn take_lines<K: Kinds, R: AllocGlobal + Eprint>(
+fn take_file<K: Kinds, R: AllocGlobal + Eprint>(
     rt: &R,
     suite: &mut Suite,
     counts: &mut Counts,
     file: &str,
     text: &str,
 ) -> io::Result<()> {
+    suite.open();
     let mut number = 0u64;
     for line in text.split('\n') {
         number = number.saturating_add(1);
-        match suite.take(rt.alloc(), line) {
-            Ok(None) => {}
-            Ok(Some(case)) => run_case::<K, R>(rt, counts, file, &case)?,
-            Err(fault) => {
-                counts.fail();
-                eprintln!(rt; "{file}:{number}: {fault}")?;
-            }
-        }
+        take_line::<K, R>(rt, suite, counts, file, number, line)?;
     }
-    Ok(())
+    if suite.is_closed() {
+        return Ok(());
+    }
+    counts.fail();
+    eprintln!(rt; "{file}: its closing count is missing, or another")
 }
 
 // Runs the cases of one file.
@@ -94,13 +112,29 @@ fn run_file<K: Kinds, R: AllocGlobal + Eprint + Files>(
     file: &str,
 ) -> io::Result<()> {
     let text = fs::read_to_string(rt, file)?;
-    suite.open();
-    take_lines::<K, R>(rt, suite, counts, file, text.as_str())?;
-    if !suite.is_closed() {
-        counts.fail();
-        eprintln!(rt; "{file}: its closing count is missing, or another")?;
+    take_file::<K, R>(rt, suite, counts, file, text.as_str())
+}
+
+// Runs the cases of the files that the words after the program's name name, in their order.
+fn run_named<K: Kinds, R: AllocGlobal + Env + Eprint + Files>(
+    rt: &R,
+    suite: &mut Suite,
+    counts: &mut Counts,
+) -> io::Result<()> {
+    for file in env::args(rt)?.skip(1) {
+        run_file::<K, R>(rt, suite, counts, file.as_str())?;
     }
     Ok(())
+}
+
+// How many cases of these files passed, and how many failed.
+fn counts_of<K: Kinds, R: AllocGlobal + Env + Eprint + Files>(rt: &R) -> io::Result<Counts> {
+    let mut suite = Suite::new(rt.alloc());
+    let mut counts = Counts {
+        passed: 0,
+        failed: 0,
+    };
+    run_named::<K, R>(rt, &mut suite, &mut counts).map(|()| counts)
 }
 
 /// Runs the cases of the files that the words after the program's name name, in their order. It tells of each that
@@ -108,15 +142,7 @@ fn run_file<K: Kinds, R: AllocGlobal + Eprint + Files>(
 pub fn run_files<K: Kinds, R: AllocGlobal + Env + Eprint + Files + Print>(
     rt: &R,
 ) -> io::Result<bool> {
-    let mut suite = Suite::new(rt.alloc());
-    let mut counts = Counts {
-        passed: 0,
-        failed: 0,
-    };
-    for file in env::args(rt)?.skip(1) {
-        run_file::<K, R>(rt, &mut suite, &mut counts, file.as_str())?;
-    }
-    let Counts { passed, failed } = counts;
+    let Counts { passed, failed } = counts_of::<K, R>(rt)?;
     println!(rt; "{passed} passed, {failed} failed")?;
     Ok(failed == 0 && passed > 0)
 }

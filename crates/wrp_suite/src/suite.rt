@@ -134,23 +134,32 @@ impl Suite {
 
     // Begins a case, or a text.
     fn begin(&mut self, alloc: Global, kind: &str, name: &str) -> Result<(), Fault> {
-        let mut case = Case::new(alloc);
-        case.kind.push_str(kind)?;
-        case.name.push_str(name)?;
-        self.case = Some(case);
+        self.case = Some(Case::new(alloc, kind, name)?);
         self.closed = false;
         Ok(())
     }
 
-    // Keeps a text, of a name that no other has.
-    fn keep(&mut self, alloc: Global, mut case: Case) -> Result<(), Fault> {
-        if text_named(&self.texts, case.name.as_str()).is_some() {
+    // Keeps what a text says, of a name that no other has.
+    fn keep(&mut self, alloc: Global, text: &mut Case) -> Result<(), Fault> {
+        if text_named(&self.texts, text.name.as_str()).is_some() {
             return Err(Fault::Twice);
         }
-        let name = mem::replace(&mut case.name, String::new(alloc));
-        let octets = mem::replace(&mut case.input, Vec::new(alloc));
-        self.texts.push(Text { name, octets })?;
-        Ok(())
+        let name = mem::replace(&mut text.name, String::new(alloc));
+        let octets = mem::replace(&mut text.input, Vec::new(alloc));
+        self.texts.push(Text { name, octets }).map_err(Fault::from)
+    }
+
+    // Takes a case that ended: counts it, or keeps its text. Answers whether it makes a call.
+    fn finish(&mut self, alloc: Global, case: &mut Case) -> Result<bool, Fault> {
+        let calls = case.kind.as_str() != "text";
+        if calls {
+            self.ended = self.ended.saturating_add(1);
+        }
+        mend(alloc, case)?;
+        if !calls {
+            self.keep(alloc, case)?;
+        }
+        Ok(calls)
     }
 
     // Ends the case that has begun: keeps a text, and gives any other.
@@ -158,15 +167,11 @@ impl Suite {
         let Some(mut case) = self.case.take() else {
             return Ok(None);
         };
-        if case.kind.as_str() != "text" {
-            self.ended = self.ended.saturating_add(1);
+        match self.finish(alloc, &mut case) {
+            Ok(true) => Ok(Some(case)),
+            Ok(false) => Ok(None),
+            Err(fault) => Err(fault),
         }
-        mend(alloc, &mut case)?;
-        if case.kind.as_str() != "text" {
-            return Ok(Some(case));
-        }
-        self.keep(alloc, case)?;
-        Ok(None)
     }
 
     // Takes the closing count: the file is at its end where so many cases have ended.

@@ -21,7 +21,7 @@ const MOST_DELAY: u64 = 1_000_000_000_000_000;
 const MOST_TIME: i128 = 1 << 60;
 
 /// What a line says of the patch cord, in tau.
-#[derive(Clone, Copy, Debug)]
+#[derive(Clone, Copy)]
 pub struct Cord {
     /// What it takes, either way.
     pub d: u64,
@@ -30,7 +30,7 @@ pub struct Cord {
 }
 
 /// What a line says of a run.
-#[derive(Clone, Copy, Debug)]
+#[derive(Clone, Copy)]
 pub struct RunLine {
     /// How it was wired.
     pub kind: RunKind,

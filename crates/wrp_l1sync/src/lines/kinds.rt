@@ -4,7 +4,7 @@ ghost use Rattle.std.specs.List.{find};
 ghost use Rattle.wrp_l1sync.specs.LineKinds.{same_word, word_of, field_count, all_kinds, kind_of};
 
 /// A kind of event.
-#[derive(Clone, Copy, Debug, Default, PartialEq, Eq)]
+#[derive(Clone, Copy, Default)]
 pub enum EventKind {
     /// Time passes.
     #[default]

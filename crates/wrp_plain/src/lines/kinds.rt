@@ -4,7 +4,7 @@ ghost use Rattle.std.specs.List.{find};
 ghost use Rattle.wrp_plain.specs.LineKinds.{word_of, field_count, kind_of, all_kinds, same_word};
 
 /// A kind of line behind the first.
-#[derive(Clone, Copy, Debug, Default, PartialEq, Eq)]
+#[derive(Clone, Copy, Default)]
 pub enum LineKind {
     /// Time passes.
     Pass,

@@ -66,7 +66,7 @@ fn behind(octets: &[u8], at: usize) -> &[u8]
 }
 
 // How many octets were handled of those that a reader holds, and what ended the handling, if it did.
-#[derive(Clone, Copy, Debug, PartialEq, Eq)]
+#[derive(Clone, Copy)]
 struct Handled {
     size: usize,
     ended: Option<Ended>,

@@ -4,7 +4,7 @@ use crate::scene::{Fault, Scene};
 use wrp_base::Tau;
 
 /// The frame that arrived last.
-#[derive(Clone, Copy, Debug, PartialEq, Eq)]
+#[derive(Clone, Copy)]
 pub struct Handed {
     /// Its number; 0 before any.
     pub frame: u32,

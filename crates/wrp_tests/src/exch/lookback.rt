@@ -3,7 +3,7 @@
 use wrp_base::Four;
 
 // One call of an exchange. Times and phases are in tau.
-#[derive(Clone, Copy, Debug)]
+#[derive(Clone, Copy)]
 pub enum Call {
     // `start`: the chain's first sample.
     Start(u32),

@@ -19,7 +19,7 @@ const MOST_CHANGE: i128 = (1 << 63) - 1;
 
 /// What a line says so far: a node's drift, and how far the delays of a link's fibre move, down and
 /// up. `None` where nothing is said of it.
-#[derive(Debug, Drop)]
+#[derive(Drop)]
 pub struct Said {
     drifts: ArrayVec<Option<i64>, 64>,
     moves: ArrayVec<Option<(i64, i64)>, 63>,

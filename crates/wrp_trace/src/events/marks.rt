@@ -35,7 +35,7 @@ pub struct Marks {
 }
 
 /// What a name stands for.
-#[derive(Clone, Copy, Debug, PartialEq, Eq)]
+#[derive(Clone, Copy)]
 pub enum Named {
     /// A node.
     Node(u8),

@@ -8,7 +8,7 @@ use wrp_course::NodeOut;
 use wrp_node::{Input, Outputs};
 
 /// An input of a node.
-#[derive(Debug, Drop)]
+#[derive(Drop)]
 pub struct Gift {
     /// The node.
     pub node: u8,
