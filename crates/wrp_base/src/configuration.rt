@@ -5,7 +5,7 @@ use crate::network::{Links, Nodes};
 /// A network: one number for each key of `[network]`, then the nodes and the links, and what the
 /// inequalities read of the listed modules. The ranges are this project's profile. `NetCfg::default()`
 /// has zeros and no node: it is an empty place, and not what a network file without keys says.
-#[derive(Clone, Debug, Default, Drop, PartialEq, Eq)]
+#[derive(Debug, Default, Drop, PartialEq, Eq)]
 pub struct NetCfg {
     /// The true time at which a world starts, in s: 1,000,000 to `2^35`.
     pub epoch: i64,

@@ -11,7 +11,7 @@ pub type Nodes = ArrayVec<NodeCfg, 64>;
 pub type Links = ArrayVec<LinkCfg, 63>;
 
 /// One node.
-#[derive(Clone, Debug, Default, Drop, PartialEq, Eq)]
+#[derive(Debug, Default, Drop, PartialEq, Eq)]
 pub struct NodeCfg {
     /// `name`.
     pub name: Name,
@@ -31,7 +31,7 @@ pub struct NodeCfg {
 }
 
 /// One link.
-#[derive(Clone, Debug, Default, Drop, PartialEq, Eq)]
+#[derive(Debug, Default, Drop, PartialEq, Eq)]
 pub struct LinkCfg {
     /// `name`.
     pub name: Name,

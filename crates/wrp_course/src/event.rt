@@ -3,7 +3,7 @@ use arrayvec::ArrayVec;
 use wrp_base::{Frame, Name, Raw, Tau};
 
 /// A module that is put in place at a port while its node is down.
-#[derive(Clone, Debug, Default, Drop, PartialEq, Eq)]
+#[derive(Debug, Default, Drop, PartialEq, Eq)]
 pub struct Swap {
     /// The port.
     pub port: u16,
@@ -16,7 +16,7 @@ pub struct Swap {
 }
 
 /// One event of a world: the atomic step of a network.
-#[derive(Clone, Debug, Drop, PartialEq, Eq)]
+#[derive(Debug, Drop, PartialEq, Eq)]
 pub enum Event {
     /// True time passes.
     Pass {

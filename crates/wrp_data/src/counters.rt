@@ -8,7 +8,7 @@ use arrayvec::ArrayVec;
 use std::marker::Model;
 
 /// One counter for each of the 15 reasons. A counter that has come to the greatest u32 stays there.
-#[derive(Clone, Debug, Drop, PartialEq, Eq)]
+#[derive(Debug, Drop, PartialEq, Eq)]
 pub struct Counters {
     numbers: [u32; 15],
 }

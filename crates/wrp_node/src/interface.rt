@@ -7,7 +7,7 @@ use wrp_port::Sched;
 use wrp_servo::ServoSet;
 
 /// What a node is set to, for as long as it runs.
-#[derive(Clone, Debug, Drop)]
+#[derive(Debug, Drop)]
 pub struct NodeSet {
     /// What it knows of itself.
     pub own: DefaultDs,
@@ -26,7 +26,7 @@ pub struct NodeSet {
 }
 
 /// What happens at a node.
-#[derive(Clone, Debug, Drop, PartialEq, Eq)]
+#[derive(Debug, Drop, PartialEq, Eq)]
 pub enum Input {
     /// A tick of the node's clock.
     Tick,
@@ -94,7 +94,7 @@ pub enum Report {
 }
 
 /// What a node gives.
-#[derive(Clone, Debug, Drop, PartialEq, Eq)]
+#[derive(Debug, Drop, PartialEq, Eq)]
 pub enum Output {
     /// A frame to send.
     Send {
