@@ -3,7 +3,7 @@
 //! `missing KIND`, `conflict NAME LO HI` or `short NAME LO`.
 ghost use Rattle.std.specs.Prelude.{◌≤◌, ◌^◌};
 
-use crate::telling::{line_of_names, line_of_numbers};
+use crate::machines::{Machine, take_all};
 use crate::words::{first_line, from_to, natural, text_of, words_of};
 use std::alloc::{AllocError, Global};
 use wrp_calib::{Calib, CalibFault, CalibOut, RunKind, Span, Unknown};
@@ -48,7 +48,7 @@ fn numbers_of(words: [&str; 5]) -> Result<[i64; 5], Fault> {
     ])
 }
 
-// Adds the run of a line.
+// Adds the run that words tell.
 fn add(calib: &mut Calib, words: &[&str]) -> Result<(), Fault> {
     let [kind, t1, t2, t3, t4, skew] = *words else {
         return Err(Fault::Input);
@@ -61,6 +61,13 @@ fn add(calib: &mut Calib, words: &[&str]) -> Result<(), Fault> {
     Ok(())
 }
 
+impl Machine for Calib {
+    // Adds a run. Nothing is told of it.
+    fn take(&mut self, _text: &mut String, words: &[&str]) -> Result<(), Fault> {
+        add(self, words)
+    }
+}
+
 // The word of a kind of runs.
 fn word_of_kind(kind: RunKind) -> &'static str {
     match kind {
@@ -70,56 +77,63 @@ fn word_of_kind(kind: RunKind) -> &'static str {
     }
 }
 
-// The words of an interval that is empty.
-fn word_of_conflict(name: Unknown) -> &'static str {
+// The word of a delay.
+fn word_of_name(name: Unknown) -> &'static str {
     match name {
-        Unknown::P => "conflict p",
-        Unknown::Q => "conflict q",
-        Unknown::X => "conflict x",
-        Unknown::Y => "conflict y",
+        Unknown::P => "p",
+        Unknown::Q => "q",
+        Unknown::X => "x",
+        Unknown::Y => "y",
     }
 }
 
-// The words of a delay that is too short.
-fn word_of_short(name: Unknown) -> &'static str {
-    match name {
-        Unknown::P => "short p",
-        Unknown::Q => "short q",
-        Unknown::X => "short x",
-        Unknown::Y => "short y",
-    }
+// Appends the line of an interval.
+fn push_span(text: &mut String, name: &str, span: Span) -> Result<(), AllocError> {
+    let Span { lo, hi } = span;
+    write!(text, "{name} {lo} {hi}\n")
 }
 
-// The line of an interval.
-fn line_of(alloc: Global, name: &str, span: Span) -> Result<String, AllocError> {
-    line_of_numbers(alloc, name, &[span.lo, span.hi])
+// Appends the lines of an answer.
+fn tell_spans(text: &mut String, out: &CalibOut) -> Result<(), AllocError> {
+    push_span(text, "p", out.p)?;
+    push_span(text, "q", out.q)?;
+    push_span(text, "x", out.x)?;
+    push_span(text, "y", out.y)?;
+    push_span(text, "kappa", out.kappa)
 }
 
-// The lines of an answer.
-fn lines_of(alloc: Global, out: &CalibOut) -> Result<String, AllocError> {
-    let mut text = line_of(alloc, "p", out.p)?;
-    text.push_str(line_of(alloc, "q", out.q)?.as_str())?;
-    text.push_str(line_of(alloc, "x", out.x)?.as_str())?;
-    text.push_str(line_of(alloc, "y", out.y)?.as_str())?;
-    text.push_str(line_of(alloc, "kappa", out.kappa)?.as_str())?;
-    Ok(text)
-}
-
-// What is told of a refusal.
-fn answer_of_fault(alloc: Global, fault: CalibFault) -> Result<Answer, AllocError> {
+// Appends the line of a refusal.
+fn tell_fault(text: &mut String, fault: CalibFault) -> Result<(), AllocError> {
     match fault {
         CalibFault::Missing { kind } => {
-            let line = line_of_names(alloc, "missing", &[word_of_kind(kind)])?;
-            Ok(Answer::of(1, line))
+            let kind = word_of_kind(kind);
+            write!(text, "missing {kind}\n")
         }
         CalibFault::Conflict { name, lo, hi } => {
-            let line = line_of_numbers(alloc, word_of_conflict(name), &[lo, hi])?;
-            Ok(Answer::of(2, line))
+            let name = word_of_name(name);
+            write!(text, "conflict {name} {lo} {hi}\n")
         }
         CalibFault::Short { name, lo } => {
-            let line = line_of_numbers(alloc, word_of_short(name), &[lo])?;
-            Ok(Answer::of(3, line))
+            let name = word_of_name(name);
+            write!(text, "short {name} {lo}\n")
         }
+    }
+}
+
+// The number of a refusal.
+fn number_of_fault(fault: CalibFault) -> u8 {
+    match fault {
+        CalibFault::Missing { .. } => 1,
+        CalibFault::Conflict { .. } => 2,
+        CalibFault::Short { .. } => 3,
+    }
+}
+
+// Appends what a calibration answers, and answers its number.
+fn tell(text: &mut String, told: Result<CalibOut, CalibFault>) -> Result<u8, AllocError> {
+    match told {
+        Ok(out) => tell_spans(text, &out).map(|()| 0),
+        Err(fault) => tell_fault(text, fault).map(|()| number_of_fault(fault)),
     }
 }
 
@@ -127,11 +141,8 @@ fn answer_of_fault(alloc: Global, fault: CalibFault) -> Result<Answer, AllocErro
 pub fn answer(alloc: Global, case: &Case) -> Result<Answer, Fault> {
     let (first, runs) = first_line(text_of(case)?);
     let mut calib = calibration_of(&words_of(alloc, first)?)?;
-    for line in runs.split_terminator('\n') {
-        add(&mut calib, &words_of(alloc, line)?)?;
-    }
-    match calib.answer() {
-        Ok(out) => Ok(Answer::of(0, lines_of(alloc, &out)?)),
-        Err(fault) => Ok(answer_of_fault(alloc, fault)?),
-    }
+    let mut text = String::new(alloc);
+    take_all(alloc, &mut text, &mut calib, runs)?;
+    let status = tell(&mut text, calib.answer())?;
+    Ok(Answer::of(status, text))
 }

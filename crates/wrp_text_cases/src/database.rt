@@ -9,12 +9,12 @@
 //!
 //! `none` stands where nothing is found. The last line says whether the database of the text that `CalDb::text` makes of it tells
 //! the same. Otherwise the code of the fault is due, and a line with its place.
-use crate::modules;
+use crate::modules::push_module;
 use crate::refusal::answer_of;
-use crate::telling::{line_of_names, line_of_pairs, push_names, push_pairs, push_points};
+use crate::telling::{push_name, push_none, push_points};
 use crate::words::{natural, text_of};
 use std::alloc::{AllocError, Global};
-use wrp_base::{Fibre, Module};
+use wrp_base::{ConfFault, Fibre, Module};
 use wrp_caldb::CalDb;
 use wrp_suite::{Answer, Case, Fault};
 
@@ -35,108 +35,111 @@ fn module_of(db: &CalDb, name: &str) -> Option<Module> {
     db.module_at(name, wavelength_of(tx_nm)?, wavelength_of(rx_nm)?)
 }
 
-// The line of a fibre.
-fn line_of_fibre(alloc: Global, word: &str, found: Option<Fibre>) -> Result<String, AllocError> {
+// Appends the line of a fibre.
+fn tell_fibre(text: &mut String, word: &str, found: Option<Fibre>) -> Result<(), AllocError> {
     match found {
-        Some(fibre) => {
-            let kappa = ("kappa", i128::from(fibre.kappa));
-            let err = ("err", i128::from(fibre.err));
-            line_of_pairs(alloc, word, &[kappa, err])
-        }
-        None => line_of_names(alloc, word, &["none"]),
+        Some(Fibre { kappa, err }) => write!(text, "{word} kappa {kappa} err {err}\n"),
+        None => push_none(text, word),
     }
 }
 
-// The line of a stored law.
-fn line_of_table(alloc: Global, db: &CalDb, word: &str, name: &str) -> Result<String, AllocError> {
-    let mut text = word.to_string(alloc)?;
-    match db.table(name) {
-        Some((points, err)) => {
-            push_pairs(alloc, &mut text, &[("err", i128::from(err))])?;
-            push_names(&mut text, &["points"])?;
-            push_points(alloc, &mut text, points)?;
-        }
-        None => push_names(&mut text, &["none"])?,
-    }
-    text.push('\n')?;
-    Ok(text)
+// Appends the line of a stored law.
+fn tell_table(text: &mut String, db: &CalDb, word: &str, name: &str) -> Result<(), AllocError> {
+    let Some((points, err)) = db.table(name) else {
+        return push_none(text, word);
+    };
+    write!(text, "{word} err {err} points")?;
+    push_points(text, points)
 }
 
-// The line of the names of all modules.
-fn line_of_modules(alloc: Global, db: &CalDb) -> Result<String, AllocError> {
-    let mut text = "modules".to_string(alloc)?;
+// Appends the line of the names of all modules.
+fn tell_modules(text: &mut String, db: &CalDb) -> Result<(), AllocError> {
+    text.push_str("modules")?;
     for module in db.modules() {
-        push_names(&mut text, &[module.name()])?;
+        push_name(text, module.name())?;
     }
-    text.push('\n')?;
-    Ok(text)
+    text.push('\n')
 }
 
-// The line of the names of all fibres.
-fn line_of_fibres(alloc: Global, db: &CalDb) -> Result<String, AllocError> {
-    let mut text = "fibres".to_string(alloc)?;
+// Appends the line of the names of all fibres.
+fn tell_fibres(text: &mut String, db: &CalDb) -> Result<(), AllocError> {
+    text.push_str("fibres")?;
     for fibre in db.fibres() {
-        push_names(&mut text, &[fibre.name()])?;
+        push_name(text, fibre.name())?;
     }
-    text.push('\n')?;
-    Ok(text)
+    text.push('\n')
 }
 
-// The line of the names of all modules, or of all fibres.
-fn line_of_list(alloc: Global, db: &CalDb, word: &str) -> Result<String, AllocError> {
+// Appends the line of the names of all modules, or of all fibres.
+fn tell_list(text: &mut String, db: &CalDb, word: &str) -> Result<(), AllocError> {
     match word {
-        "modules" => line_of_modules(alloc, db),
-        "fibres" => line_of_fibres(alloc, db),
-        _ => line_of_names(alloc, word, &["none"]),
+        "modules" => tell_modules(text, db),
+        "fibres" => tell_fibres(text, db),
+        _ => push_none(text, word),
     }
 }
 
-// The line of a word.
-fn line_of(alloc: Global, db: &CalDb, word: &str) -> Result<String, AllocError> {
+// Appends the line of a word.
+fn tell(text: &mut String, db: &CalDb, word: &str) -> Result<(), AllocError> {
     match word.split_once('.') {
-        Some(("module", name)) => modules::line_of(alloc, word, module_of(db, name)),
-        Some(("fibre", name)) => line_of_fibre(alloc, word, db.fibre(name)),
-        Some(("table", name)) => line_of_table(alloc, db, word, name),
-        Some(_) => line_of_names(alloc, word, &["none"]),
-        None => line_of_list(alloc, db, word),
+        Some(("module", name)) => push_module(text, word, module_of(db, name)),
+        Some(("fibre", name)) => tell_fibre(text, word, db.fibre(name)),
+        Some(("table", name)) => tell_table(text, db, word, name),
+        Some(_) => push_none(text, word),
+        None => tell_list(text, db, word),
     }
 }
 
-// The lines of the words.
-fn lines_of(alloc: Global, db: &CalDb, words: &[String]) -> Result<String, AllocError> {
-    let mut text = String::new(alloc);
+// Appends the lines of the words.
+fn tell_all(text: &mut String, db: &CalDb, words: &[String]) -> Result<(), AllocError> {
     for word in words {
-        let line = line_of(alloc, db, word.as_str())?;
-        text.push_str(line.as_str())?;
+        tell(text, db, word.as_str())?;
     }
-    Ok(text)
+    Ok(())
+}
+
+// Whether the lines of the words are these.
+fn tells(alloc: Global, db: &CalDb, words: &[String], told: &str) -> Result<bool, AllocError> {
+    let mut text = String::new(alloc);
+    tell_all(&mut text, db, words)?;
+    Ok(text.as_str() == told)
+}
+
+// Whether the database that the text of another gives tells these lines.
+fn reads_back(alloc: Global, db: &CalDb, words: &[String], told: &str) -> Result<bool, ConfFault> {
+    let written = db.text(alloc).map_err(ConfFault::Memory)?;
+    let again = CalDb::read(alloc, &written)?;
+    tells(alloc, &again, words, told).map_err(ConfFault::Memory)
 }
 
 // What is told of a database that was read, and of the one that its own text gives.
 fn answer_of_database(alloc: Global, db: &CalDb, words: &[String]) -> Result<Answer, Fault> {
-    let mut text = lines_of(alloc, db, words)?;
-    let written = db.text(alloc)?;
-    match CalDb::read(alloc, &written) {
-        Ok(again) => {
-            let told = lines_of(alloc, &again, words)?;
-            let same = told.as_str() == text.as_str();
-            text.push_str(if same {
-                "reads back\n"
-            } else {
-                "reads back otherwise\n"
-            })?;
-            Ok(Answer::of(0, text))
-        }
+    let mut text = String::new(alloc);
+    tell_all(&mut text, db, words)?;
+    let told = match reads_back(alloc, db, words, text.as_str()) {
+        Ok(true) => "reads back\n",
+        Ok(false) => "reads back otherwise\n",
+        Err(fault) => return answer_of(alloc, &fault),
+    };
+    text.push_str(told)?;
+    Ok(Answer::of(0, text))
+}
+
+// What is told of a database, or of the fault of its text.
+fn answer_to(
+    alloc: Global,
+    read: Result<CalDb, ConfFault>,
+    words: &[String],
+) -> Result<Answer, Fault> {
+    match read {
+        Ok(db) => answer_of_database(alloc, &db, words),
         Err(fault) => answer_of(alloc, &fault),
     }
 }
 
 /// What `CalDb::read` answers.
 pub fn answer(alloc: Global, case: &Case) -> Result<Answer, Fault> {
-    match CalDb::read(alloc, &case.input) {
-        Ok(db) => answer_of_database(alloc, &db, &case.words),
-        Err(fault) => answer_of(alloc, &fault),
-    }
+    answer_to(alloc, CalDb::read(alloc, &case.input), &case.words)
 }
 
 /// What `CalDb::from_table` answers.
@@ -144,8 +147,5 @@ pub fn answer_in(alloc: Global, case: &Case) -> Result<Answer, Fault> {
     let Ok(doc) = toml::table_from_str(alloc, text_of(case)?) else {
         return Err(Fault::Input);
     };
-    match CalDb::from_table(alloc, &doc) {
-        Ok(db) => answer_of_database(alloc, &db, &case.words),
-        Err(fault) => answer_of(alloc, &fault),
-    }
+    answer_to(alloc, CalDb::from_table(alloc, &doc), &case.words)
 }

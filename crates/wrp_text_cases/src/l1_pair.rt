@@ -5,11 +5,11 @@
 ghost use Rattle.std.specs.Prelude.{◌≤◌, IfOk};
 ghost use Rattle.wrp_l1sync.specs.Pair.{IsFit};
 
-use crate::l1_port::{message_of, ticks_of, told_of, word_of};
-use crate::telling::{line_of_numbers, push_names, push_pairs};
+use crate::l1_port::{message_of, push_out, ticks_of, word_of};
+use crate::machines::{Machine, take_all};
 use crate::words::{first_line, from_to, natural, text_of, words_of};
 use std::alloc::{AllocError, Global};
-use wrp_l1sync::{L1Event, L1Pair, L1Refused, L1State};
+use wrp_l1sync::{L1Event, L1Out, L1Pair, L1Refused};
 use wrp_suite::{Answer, Case, Fault};
 
 // A pair with the times of a line.
@@ -63,62 +63,65 @@ fn event_of(words: &[&str]) -> Result<L1Event, Fault>
     }
 }
 
-// Gives the pair an event.
-fn step(alloc: Global, pair: &mut L1Pair, event: &L1Event) -> Result<String, Fault>
+// Appends the line of what an end answers.
+fn tell_out(text: &mut String, out: &L1Out) -> Result<(), AllocError> {
+    push_out(text, out)?;
+    text.push('\n')
+}
+
+// Appends the lines of a refused event: its numbers, and its text.
+fn tell_refused(text: &mut String, refused: &L1Refused) -> Result<(), Fault> {
+    match refused {
+        L1Refused::Broken {
+            premise,
+            shown,
+            bound,
+        } => write!(text, "broken {premise} {shown} {bound}\ntext {refused}\n").map_err(
+            Fault::from,
+        ),
+        L1Refused::Memory(_) => Err(Fault::Memory),
+    }
+}
+
+// Gives the pair an event, and appends the lines of that.
+fn step(text: &mut String, pair: &mut L1Pair, event: &L1Event) -> Result<(), Fault>
     requires { IsFit event.now }
 {
     if pair.events() == u32::MAX {
         return Err(Fault::Condition);
     }
     match pair.step(event) {
-        Ok(out) => {
-            let mut text = told_of(alloc, &out)?;
-            text.push('\n')?;
-            Ok(text)
-        }
-        Err(refused) => lines_of_refused(alloc, &refused),
+        Ok(out) => tell_out(text, &out).map_err(Fault::from),
+        Err(refused) => tell_refused(text, &refused),
     }
 }
 
-// The lines of a refused event: its numbers, and its text.
-fn lines_of_refused(alloc: Global, refused: &L1Refused) -> Result<String, Fault> {
-    match refused {
-        L1Refused::Broken {
-            premise,
-            shown,
-            bound,
-        } => {
-            let numbers = [i128::from(*premise), *shown, *bound];
-            let mut text = line_of_numbers(alloc, "broken", &numbers)?;
-            text.push_str(format!(in alloc; "text {refused}\n")?.as_str())?;
-            Ok(text)
-        }
-        L1Refused::Memory(_) => Err(Fault::Memory),
+// Appends the lines of both ends, and of the newest message.
+fn tell_ends(text: &mut String, pair: &L1Pair) -> Result<(), AllocError> {
+    let (a, b) = (word_of(pair.state(0)), word_of(pair.state(1)));
+    let (a_ticks, b_ticks, last) = (pair.ticks(0), pair.ticks(1), pair.last());
+    write!(
+        text,
+        "a {a} ticks {a_ticks}\nb {b} ticks {b_ticks}\nlast {last}\n"
+    )
+}
+
+impl Machine for L1Pair {
+    // Takes the event of a line.
+    fn take(&mut self, text: &mut String, words: &[&str]) -> Result<(), Fault> {
+        step(text, self, &event_of(words)?)
     }
 }
 
-// The line of an end.
-fn line_of_end(
+// Gives the pair events, and appends what it answers to them, and at the end.
+fn tell_all(
     alloc: Global,
-    name: &str,
-    state: L1State,
-    ticks: u32,
-) -> Result<String, AllocError> {
-    let mut text = name.to_string(alloc)?;
-    push_names(&mut text, &[word_of(state)])?;
-    push_pairs(alloc, &mut text, &[("ticks", i128::from(ticks))])?;
-    text.push('\n')?;
-    Ok(text)
-}
-
-// The lines of both ends, and of the newest message.
-fn ends_of(alloc: Global, pair: &L1Pair) -> Result<String, AllocError> {
-    let mut text = line_of_end(alloc, "a", pair.state(0), pair.ticks(0))?;
-    let other = line_of_end(alloc, "b", pair.state(1), pair.ticks(1))?;
-    let last = line_of_numbers(alloc, "last", &[i128::from(pair.last())])?;
-    text.push_str(other.as_str())?;
-    text.push_str(last.as_str())?;
-    Ok(text)
+    text: &mut String,
+    pair: &mut L1Pair,
+    events: &str,
+) -> Result<(), Fault> {
+    take_all(alloc, text, pair, events)?;
+    tell_ends(text, pair).map_err(Fault::from)
 }
 
 /// What a pair answers, event by event.
@@ -126,11 +129,6 @@ pub fn answer(alloc: Global, case: &Case) -> Result<Answer, Fault> {
     let (first, events) = first_line(text_of(case)?);
     let mut pair = pair_of(alloc, &words_of(alloc, first)?)?;
     let mut text = String::new(alloc);
-    for line in events.split_terminator('\n') {
-        let event = event_of(&words_of(alloc, line)?)?;
-        let told = step(alloc, &mut pair, &event)?;
-        text.push_str(told.as_str())?;
-    }
-    text.push_str(ends_of(alloc, &pair)?.as_str())?;
+    tell_all(alloc, &mut text, &mut pair, events)?;
     Ok(Answer::of(0, text))
 }

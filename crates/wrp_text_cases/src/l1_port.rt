@@ -3,7 +3,7 @@
 //! sent; and `state STATE`.
 ghost use Rattle.std.specs.Prelude.{◌≤◌, IfOk};
 
-use crate::telling::{push_names, push_pairs};
+use crate::machines::{Machine, answer_of};
 use crate::words::{first_line, natural, text_of, words_of};
 use std::alloc::{AllocError, Global};
 use wrp_l1sync::{L1In, L1Msg, L1Out, L1Port, L1State};
@@ -20,19 +20,16 @@ pub fn word_of(state: L1State) -> &'static str {
     }
 }
 
-/// What an end answers, without the end of the line.
-pub fn told_of(alloc: Global, out: &L1Out) -> Result<String, AllocError> {
+/// Appends what an end answers, without the end of the line.
+pub fn push_out(text: &mut String, out: &L1Out) -> Result<(), AllocError> {
     let moved = match out.moved {
         Some(state) => word_of(state),
         None => "-",
     };
-    let mut text = moved.to_string(alloc)?;
-    if let Some(L1Msg { req, is }) = out.send {
-        push_names(&mut text, &["send"])?;
-        let pairs = [("req", i128::from(req)), ("is", i128::from(is))];
-        push_pairs(alloc, &mut text, &pairs)?;
+    match out.send {
+        Some(L1Msg { req, is }) => write!(text, "{moved} send req {req} is {is}"),
+        None => text.push_str(moved),
     }
-    Ok(text)
 }
 
 /// The ticks of a timeout, or of an interval.
@@ -63,30 +60,31 @@ fn input_of(words: &[&str]) -> Result<L1In, Fault> {
     match *words {
         ["enable"] => Ok(L1In::Enable),
         ["disable"] => Ok(L1In::Disable),
-        ["own", req, is] => Ok(L1In::Own(message_of(req, is)?)),
-        ["msg", req, is] => Ok(L1In::Msg(message_of(req, is)?)),
+        ["own", req, is] => message_of(req, is).map(L1In::Own),
+        ["msg", req, is] => message_of(req, is).map(L1In::Msg),
         ["tick"] => Ok(L1In::Tick),
         _ => Err(Fault::Input),
     }
 }
 
-// The line of an input.
-fn step(alloc: Global, port: &mut L1Port, input: L1In) -> Result<String, AllocError> {
-    let out = port.step(input);
-    let mut text = told_of(alloc, &out)?;
-    push_names(&mut text, &["state", word_of(port.state())])?;
-    text.push('\n')?;
-    Ok(text)
+// Gives a port an input, and appends the line of that.
+fn step(text: &mut String, port: &mut L1Port, input: L1In) -> Result<(), AllocError> {
+    push_out(text, &port.step(input))?;
+    let state = word_of(port.state());
+    write!(text, " state {state}\n")
+}
+
+impl Machine for L1Port {
+    // Takes the input of a line.
+    fn take(&mut self, text: &mut String, words: &[&str]) -> Result<(), Fault> {
+        let input = input_of(words)?;
+        step(text, self, input).map_err(Fault::from)
+    }
 }
 
 /// What one end answers, input by input.
 pub fn answer(alloc: Global, case: &Case) -> Result<Answer, Fault> {
     let (first, inputs) = first_line(text_of(case)?);
     let mut port = port_of(&words_of(alloc, first)?)?;
-    let mut text = String::new(alloc);
-    for line in inputs.split_terminator('\n') {
-        let input = input_of(&words_of(alloc, line)?)?;
-        text.push_str(step(alloc, &mut port, input)?.as_str())?;
-    }
-    Ok(Answer::of(0, text))
+    answer_of(alloc, &mut port, inputs)
 }

@@ -6,35 +6,43 @@ use std::alloc::{AllocError, Global};
 use wrp_fields::{Block, is_plain};
 use wrp_suite::{Answer, Case, Fault};
 
-// The line of the parts of a line.
-fn line_of(alloc: Global, row: &ByteRecord) -> Result<String, AllocError> {
-    let mut text = String::new(alloc);
+// Appends the parts of a line.
+fn push_row(text: &mut String, row: &ByteRecord) -> Result<(), AllocError> {
     for place in 0..row.len() {
         let part = row.get(place).unwrap_or(b"");
         text.push_str(str::from_utf8(part).unwrap_or("(no text)"))?;
         text.push('|')?;
     }
-    text.push('\n')?;
-    Ok(text)
+    text.push('\n')
+}
+
+// Appends the lines that are left of a block, and that it ended.
+fn tell_rest(
+    text: &mut String,
+    block: &mut Block<'_>,
+    row: &mut ByteRecord,
+) -> Result<(), AllocError> {
+    for _ in 0..u64::MAX {
+        if !block.next(row)? {
+            break;
+        }
+        push_row(text, row)?;
+    }
+    text.push_str("end\n")
+}
+
+// Appends the lines of a block, and twice that it ended.
+fn tell_block(alloc: Global, text: &mut String, octets: &[u8]) -> Result<(), AllocError> {
+    let mut block = Block::new(alloc, octets);
+    let mut row = ByteRecord::new(alloc);
+    tell_rest(text, &mut block, &mut row)?;
+    tell_rest(text, &mut block, &mut row)
 }
 
 /// The lines of a block.
 pub fn answer_of_block(alloc: Global, case: &Case) -> Result<Answer, Fault> {
-    let mut block = Block::new(alloc, &case.input);
-    let mut row = ByteRecord::new(alloc);
     let mut text = String::new(alloc);
-    let mut has_ended = false;
-    for _ in 0..u64::MAX {
-        if block.next(&mut row)? {
-            text.push_str(line_of(alloc, &row)?.as_str())?;
-            continue;
-        }
-        text.push_str("end\n")?;
-        if has_ended {
-            break;
-        }
-        has_ended = true;
-    }
+    tell_block(alloc, &mut text, &case.input)?;
     Ok(Answer::of(0, text))
 }
 

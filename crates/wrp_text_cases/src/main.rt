@@ -8,6 +8,7 @@ mod l1_message;
 mod l1_pair;
 mod l1_port;
 mod lines;
+mod machines;
 mod modules;
 mod network;
 mod plain;

@@ -14,9 +14,9 @@ mod links;
 mod nodes;
 mod settings;
 
-use crate::modules;
+use crate::modules::push_module;
 use crate::refusal::answer_of;
-use crate::telling::{line_of_names, line_of_numbers};
+use crate::telling::push_none;
 use crate::words::natural;
 use std::alloc::{AllocError, Global};
 use wrp_config::Network;
@@ -35,81 +35,88 @@ fn number_of(net: &Network, name: &str, key: &str) -> Option<i128>
     }
 }
 
-// The line of a key.
-fn line_of_key(
-    alloc: Global,
+// Appends the line of a key.
+fn tell_key(
+    text: &mut String,
     net: &Network,
     word: &str,
     name: &str,
     key: &str,
-) -> Result<String, AllocError>
+) -> Result<(), AllocError>
     requires { IsAccepted net.now.cfg net.now.db }
 {
     if key == "table" {
-        return links::line_of_table(alloc, net, word, name);
+        return links::tell_table(text, net, word, name);
     }
     match number_of(net, name, key) {
-        Some(number) => line_of_numbers(alloc, word, &[number]),
-        None => line_of_names(alloc, word, &["none"]),
+        Some(number) => write!(text, "{word} {number}\n"),
+        None => push_none(text, word),
     }
 }
 
-// The line of a module at a port, which is behind the name of the node.
-fn line_at_port(
-    alloc: Global,
+// Appends the line of a module at a port, which is behind the name of the node.
+fn tell_port(
+    text: &mut String,
     net: &Network,
     word: &str,
     name: &str,
     rest: &str,
-) -> Result<String, AllocError> {
+) -> Result<(), AllocError> {
     let (port, module) = rest.split_once(':').unwrap_or((rest, ""));
     let found = match (net.node_named(name), natural(port, 0, 65_535)) {
         (Some(n), Ok(port)) => net.module_at_port(n, port as u16, module),
         _ => None,
     };
-    modules::line_of(alloc, word, found)
+    push_module(text, word, found)
 }
 
-// The line of all that is kept under a name.
-fn line_of_name(alloc: Global, net: &Network, name: &str) -> Result<String, AllocError> {
+// Appends the line of all that is kept under a name.
+fn tell_name(text: &mut String, net: &Network, name: &str) -> Result<(), AllocError> {
     if let Some(n) = net.node_named(name) {
-        return nodes::line_of(alloc, net, n);
+        return nodes::tell(text, net, n);
     }
     match net.link_named(name) {
-        Some(l) => links::line_of(alloc, net, l),
-        None => line_of_names(alloc, name, &["none"]),
+        Some(l) => links::tell(text, net, l),
+        None => push_none(text, name),
     }
 }
 
-// The line of a word.
-fn line_of(alloc: Global, net: &Network, word: &str) -> Result<String, AllocError>
+// Appends the line of a word.
+fn tell(text: &mut String, net: &Network, word: &str) -> Result<(), AllocError>
     requires { IsAccepted net.now.cfg net.now.db }
 {
     if let Some((name, key)) = word.split_once('.') {
-        return line_of_key(alloc, net, word, name, key);
+        return tell_key(text, net, word, name, key);
     }
     match word.split_once(':') {
-        Some((name, rest)) => line_at_port(alloc, net, word, name, rest),
-        None => line_of_name(alloc, net, word),
+        Some((name, rest)) => tell_port(text, net, word, name, rest),
+        None => tell_name(text, net, word),
     }
 }
 
-// The lines of the words.
-fn lines_of(alloc: Global, net: &Network, words: &[String]) -> Result<String, AllocError>
+// Appends the lines of the words.
+fn tell_all(text: &mut String, net: &Network, words: &[String]) -> Result<(), AllocError>
+    requires { IsAccepted net.now.cfg net.now.db }
+{
+    for word in words {
+        tell(text, net, word.as_str())?;
+    }
+    Ok(())
+}
+
+// What is told of a network that was read.
+fn answer_of_network(alloc: Global, net: &Network, words: &[String]) -> Result<Answer, Fault>
     requires { IsAccepted net.now.cfg net.now.db }
 {
     let mut text = String::new(alloc);
-    for word in words {
-        let line = line_of(alloc, net, word.as_str())?;
-        text.push_str(line.as_str())?;
-    }
-    Ok(text)
+    tell_all(&mut text, net, words)?;
+    Ok(Answer::of(0, text))
 }
 
 /// What `Network::read` answers.
 pub fn answer(alloc: Global, case: &Case) -> Result<Answer, Fault> {
     match Network::read(alloc, &case.input) {
-        Ok(net) => Ok(Answer::of(0, lines_of(alloc, &net, &case.words)?)),
+        Ok(net) => answer_of_network(alloc, &net, &case.words),
         Err(fault) => answer_of(alloc, &fault),
     }
 }

@@ -5,8 +5,8 @@
 ghost use Rattle.std.specs.Prelude.{◌≤◌, ◌^◌, IfOk, unsigned_abs};
 ghost use Rattle.wrp_plain.specs.Event.{HasFields, IsShort};
 
+use crate::machines::{Machine, answer_of};
 use crate::plain_settings::{servo_setting_of, stamp_of};
-use crate::telling::{line_of_numbers, line_of_pairs};
 use crate::words::{first_line, from_to, sized, text_of, wide, words_of};
 use std::alloc::{AllocError, Global};
 use wrp_plain::{PlainBroken, PlainEvent, PlainReport, PlainSeen, PlainWorld};
@@ -83,53 +83,65 @@ fn event_of(words: &[&str]) -> Result<PlainEvent, Fault>
     }
 }
 
-// The line of what an event gives.
-fn line_of(alloc: Global, seen: &PlainSeen) -> Result<String, AllocError> {
-    let command = ("command", i128::from(seen.command));
-    let off = ("true", seen.off);
-    match seen.report {
+// Appends the line of what an event gives.
+fn tell(text: &mut String, seen: PlainSeen) -> Result<(), AllocError> {
+    let PlainSeen {
+        report,
+        command,
+        off,
+    } = seen;
+    match report {
         Some(PlainReport { est, bound }) => {
-            let pairs = [("est", est), ("bound", bound), command, off];
-            line_of_pairs(alloc, "report", &pairs)
+            write!(
+                text,
+                "report est {est} bound {bound} command {command} true {off}\n"
+            )
         }
-        None => line_of_pairs(alloc, "nothing", &[command, off]),
+        None => write!(text, "nothing command {command} true {off}\n"),
     }
 }
 
-// Gives the world an event.
-fn step(alloc: Global, world: &mut PlainWorld, event: &PlainEvent) -> Result<String, Fault>
+// Appends the line of a premise that is broken.
+fn tell_broken(text: &mut String, broken: PlainBroken) -> Result<(), AllocError> {
+    let PlainBroken {
+        premise,
+        shown,
+        bound,
+    } = broken;
+    write!(text, "broken {premise} {shown} {bound}\n")
+}
+
+// Gives the world an event, and appends its line.
+fn step(text: &mut String, world: &mut PlainWorld, event: &PlainEvent) -> Result<(), Fault>
     requires { HasFields event.now }
 {
     if world.events() == u32::MAX {
         return Err(Fault::Condition);
     }
-    match world.step(event) {
-        Ok(seen) => Ok(line_of(alloc, &seen)?),
-        Err(
-            PlainBroken {
-                premise,
-                shown,
-                bound,
-            },
-        ) => {
-            let numbers = [i128::from(premise), shown, bound];
-            Ok(line_of_numbers(alloc, "broken", &numbers)?)
-        },
+    let told = match world.step(event) {
+        Ok(seen) => tell(text, seen),
+        Err(broken) => tell_broken(text, broken),
+    };
+    told.map_err(Fault::from)
+}
+
+impl Machine for PlainWorld {
+    // Takes the event of a line.
+    fn take(&mut self, text: &mut String, words: &[&str]) -> Result<(), Fault> {
+        step(text, self, &event_of(words)?)
     }
+}
+
+// A world with the settings of a line and the true offset of another.
+fn world_of(alloc: Global, first: &str, second: &str) -> Result<PlainWorld, Fault> {
+    let set = servo_setting_of(&words_of(alloc, first)?)?;
+    let off = offset_of(&words_of(alloc, second)?)?;
+    PlainWorld::new(alloc, set, off).map_err(Fault::from)
 }
 
 /// What a world with a plain servo answers, event by event.
 pub fn answer(alloc: Global, case: &Case) -> Result<Answer, Fault> {
     let (first, rest) = first_line(text_of(case)?);
     let (second, events) = first_line(rest);
-    let set = servo_setting_of(&words_of(alloc, first)?)?;
-    let off = offset_of(&words_of(alloc, second)?)?;
-    let mut world = PlainWorld::new(alloc, set, off)?;
-    let mut text = String::new(alloc);
-    for line in events.split_terminator('\n') {
-        let event = event_of(&words_of(alloc, line)?)?;
-        let told = step(alloc, &mut world, &event)?;
-        text.push_str(told.as_str())?;
-    }
-    Ok(Answer::of(0, text))
+    answer_of(alloc, &mut world_of(alloc, first, second)?, events)
 }

@@ -1,5 +1,4 @@
 //! What is told of a text that is refused: the number is its code, and the line its place.
-use crate::telling::line_of_names;
 use std::alloc::Global;
 use wrp_base::ConfFault;
 use wrp_suite::{Answer, Fault};
@@ -8,8 +7,8 @@ use wrp_suite::{Answer, Fault};
 pub fn answer_of(alloc: Global, fault: &ConfFault) -> Result<Answer, Fault> {
     match fault {
         ConfFault::Fault { code, place } => {
-            let line = line_of_names(alloc, place.as_str(), &[])?;
-            Ok(Answer::of(*code, line))
+            let place = place.as_str();
+            Ok(Answer::of(*code, format!(in alloc; "{place}\n")?))
         }
         ConfFault::Memory(_) => Err(Fault::Memory),
     }

@@ -6,8 +6,7 @@ ghost use Rattle.wrp_base.specs.Network.{HasRanges, IsTree, node_count};
 ghost use Rattle.wrp_bounds.specs.Hop.{IsInRange};
 ghost use Rattle.std.specs.Prelude.{◌<◌, length};
 
-use crate::telling::{push_names, push_pairs};
-use std::alloc::{AllocError, Global};
+use std::alloc::AllocError;
 use wrp_base::{NetCfg, NodeCfg};
 use wrp_bounds::{HopNumbers, held_motion, holdover, hop, link_above, numbers_over, path};
 use wrp_config::Network;
@@ -78,21 +77,22 @@ pub fn number_of(net: &Network, n: u8, key: &str) -> Option<i128>
     }
 }
 
-/// The line of all that is kept of a node.
-pub fn line_of(alloc: Global, net: &Network, n: u8) -> Result<String, AllocError> {
-    let Some(node) = net.cfg.nodes.as_slice().get(usize::from(n)) else {
-        return Ok(String::new(alloc));
-    };
-    let identity = hex::encode(alloc, &node.identity.to_be_bytes())?;
-    let e_tx = ("e_tx", i128::from(node.e_tx));
-    let e_tag = ("e_tag", i128::from(node.e_tag));
-    let beat = ("beat", i128::from(node.beat));
-    let slew = ("slew", i128::from(node.slew));
-    let held = ("held", i128::from(node.held));
-    let mut text = node.name.as_str().to_string(alloc)?;
-    push_pairs(alloc, &mut text, &[("node", i128::from(n))])?;
-    push_names(&mut text, &["identity", identity.as_str()])?;
-    push_pairs(alloc, &mut text, &[e_tx, e_tag, beat, slew, held])?;
-    text.push('\n')?;
-    Ok(text)
+// Appends the line of a node, with its place.
+fn tell_node(text: &mut String, n: u8, node: &NodeCfg) -> Result<(), AllocError> {
+    let (name, identity) = (node.name.as_str(), node.identity);
+    let (e_tx, e_tag) = (node.e_tx, node.e_tag);
+    let (beat, slew, held) = (node.beat, node.slew, node.held);
+    write!(
+        text,
+        "{name} node {n} identity {identity:016x} \
+         e_tx {e_tx} e_tag {e_tag} beat {beat} slew {slew} held {held}\n"
+    )
+}
+
+/// Appends the line of all that is kept of a node.
+pub fn tell(text: &mut String, net: &Network, n: u8) -> Result<(), AllocError> {
+    match net.cfg.nodes.as_slice().get(usize::from(n)) {
+        Some(node) => tell_node(text, n, node),
+        None => Ok(()),
+    }
 }
