@@ -3,6 +3,7 @@ pub mod Adding
 pub mod Telling
 pub mod Shares
 pub mod Holding
+pub mod Tightness
 pub mod LineLemmas
 pub mod Saying
 pub mod LinesExact

@@ -4,6 +4,7 @@ pub mod Estimate
 pub mod Answer
 pub mod StandsFor
 pub mod Truth
+pub mod Tightness
 pub mod Kept
 pub mod Lines
 pub mod Said

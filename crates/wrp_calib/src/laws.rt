@@ -3,6 +3,7 @@
 ghost use Rattle.wrp_calib.specs.LinesAnswer.{EachInputHasAnswer};
 ghost use Rattle.wrp_calib.specs.LinesTold.{InputsTellTruth};
 ghost use Rattle.wrp_calib.specs.LinesTruth.{ConflictsAreReal, LinesTellTruth};
+ghost use Rattle.wrp_calib.specs.Tightness.{IntervalsAreTight};
 
 /// Whenever runs of every kind came and some true delays keep the stated errors, the five lines of an
 /// answer are due, and each interval holds its true value; or that a strand may be too short.
@@ -24,4 +25,12 @@ pub fn inputs_tell_truth()
 /// For each input a status and a text are due.
 pub fn each_input_has_answer()
     ensures { EachInputHasAnswer }
+{}
+
+/// The runs allow each delay of an answer's intervals: it keeps the stated errors in each run that measured
+/// it. No whole numbers closer together than kappa's ends hold the asymmetry of all strands with delays in
+/// these intervals. Short is answered only where the runs allow the least end of the strand's interval, and
+/// it is below 1.
+pub fn intervals_are_tight()
+    ensures { IntervalsAreTight }
 {}

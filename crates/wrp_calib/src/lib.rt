@@ -12,7 +12,10 @@ mod span;
 
 pub use calibrating::calibrate;
 pub use calibration::{Calib, CalibFault, CalibOut, Unknown};
-pub use laws::{conflicts_are_real, each_input_has_answer, inputs_tell_truth, lines_tell_truth};
+pub use laws::{
+    conflicts_are_real, each_input_has_answer, inputs_tell_truth, intervals_are_tight,
+    lines_tell_truth,
+};
 pub use lines::CalibLines;
 pub use run::RunKind;
 pub use span::Span;
