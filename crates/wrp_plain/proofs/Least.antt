@@ -51,7 +51,7 @@ find_agree p q agree [] = refl
 find_agree p q agree (x ∷ xs) = ap₂ (λ (b : Bool) (rest : Option _). cond b (Some x) rest) (agree x) (find_agree p q agree xs)
 
 -- what is least to x among these is to b, where x is not below b
-least_chain : (b x : ℤ) → int_lt x b ≡ false → (rs : List PlainReport) →
+pub least_chain : (b x : ℤ) → int_lt x b ≡ false → (rs : List PlainReport) →
     list_all (λ s. not (int_lt s.bound x)) rs ≡ true → list_all (λ s. not (int_lt s.bound b)) rs ≡ true
 least_chain b x h [] all = refl
 least_chain b x h (r ∷ rs) all =

@@ -6,6 +6,7 @@ pub mod Judged
 pub mod Near
 pub mod Worth
 pub mod History
+pub mod Exact
 pub mod LinesRead
 pub mod LinesOnce
 pub mod LinesMore

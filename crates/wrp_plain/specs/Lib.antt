@@ -8,6 +8,7 @@ pub mod Event
 pub mod Seen
 pub mod Premises
 pub mod World
+pub mod Exact
 pub mod LineKinds
 pub mod LineReading
 pub mod LineText

@@ -1,4 +1,5 @@
-//! What a measurement is worth, and what the lines of the command are, as laws.
+//! What a measurement is worth, which events are taken, and what the lines of the command are, as laws.
+ghost use Rattle.wrp_plain.specs.Exact.{EventsAreTakenExactly, MeasurementsAreExact};
 ghost use Rattle.wrp_plain.specs.LineTruth.{OutputTellsTruth, RecordsTellTruth};
 ghost use Rattle.wrp_plain.specs.Truth.{MeasuredWithinBound};
 
@@ -7,6 +8,20 @@ ghost use Rattle.wrp_plain.specs.Truth.{MeasuredWithinBound};
 /// measured one. It does nothing when it runs.
 pub fn measured_within_bound()
     ensures { MeasuredWithinBound }
+{}
+
+/// A measurement's offset is half of the difference of its two ways, rounded down; its bound has half of the
+/// round trip, rounded up; a move is rounded up to a whole tau. Of the kept measurements the one with the
+/// least bound is reported, and of several the newest. It does nothing when it runs.
+pub fn measurements_are_exact()
+    ensures { MeasurementsAreExact }
+{}
+
+/// An event breaks no premise exactly where it keeps all six. At its limit each is kept: with exactly DMAX
+/// since the last tick, a delay of exactly LEAST, a stamp off by exactly twice ERR. It does nothing when it
+/// runs.
+pub fn events_are_taken_exactly()
+    ensures { EventsAreTakenExactly }
 {}
 
 /// What the records of the command are worth, whatever they say: each report that is printed is within

@@ -14,7 +14,10 @@ mod settings;
 mod world;
 
 pub use event::{PlainBroken, PlainEvent, PlainSeen};
-pub use law::{measured_within_bound, output_tells_truth, records_tell_truth};
+pub use law::{
+    events_are_taken_exactly, measured_within_bound, measurements_are_exact, output_tells_truth,
+    records_tell_truth,
+};
 pub use servo::Plain;
 pub use settings::{PlainOut, PlainReport, PlainSet, PlainStart};
 pub use world::PlainWorld;
