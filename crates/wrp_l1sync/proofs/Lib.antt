@@ -1,6 +1,7 @@
 mod PortLaws
 mod PairLaws
 mod TheoremLaws
+mod PremiseLaws
 mod LineReadingLaws
 mod LineLists
 pub mod LineExact

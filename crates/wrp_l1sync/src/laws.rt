@@ -1,7 +1,8 @@
-//! What is true of all lines. The functions here compute nothing: their contracts are laws over
-//! all records, and their proofs show that the laws hold.
+//! What is true of all events and of all lines. The functions here compute nothing: their contracts are
+//! laws over all events or records, and their proofs show that the laws hold.
 ghost use Rattle.wrp_l1sync.specs.LineAnswers.{AnswersShowThePair, WhatStandsShowsThePair};
 ghost use Rattle.wrp_l1sync.specs.LineTheorem.{TextShowsThePair};
+ghost use Rattle.wrp_l1sync.specs.Premises.{EventsAreTakenExactly};
 
 /// After each record the last state that is printed for an end is the one that looking back over what
 /// it was handed finds; and where that is `up` its peer sent, at most timeout·dmax + life ago, a
@@ -19,4 +20,10 @@ pub fn answers_show_the_pair()
 /// was no memory.
 pub fn what_stands_shows_the_pair()
     ensures { WhatStandsShowsThePair }
+{}
+
+/// An event breaks no premise exactly where it keeps all three. At its limit each is kept: a tick with
+/// exactly DMAX since the last one is not late, and a message sent exactly LIFE ago is not too old.
+pub fn events_are_taken_exactly()
+    ensures { EventsAreTakenExactly }
 {}

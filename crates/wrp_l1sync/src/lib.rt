@@ -16,7 +16,10 @@ mod port;
 
 pub use event::{L1Event, L1Refused};
 pub use interface::{L1In, L1Out, L1State};
-pub use laws::{answers_show_the_pair, text_shows_the_pair, what_stands_shows_the_pair};
+pub use laws::{
+    answers_show_the_pair, events_are_taken_exactly, text_shows_the_pair,
+    what_stands_shows_the_pair,
+};
 pub use lines::{L1Lines, l1sync};
 pub use message::{L1Msg, l1_of, put_l1};
 pub use pair::L1Pair;
