@@ -1,6 +1,7 @@
 """The keys of a network file: their units, defaults and ranges, as docs/FILES.md has them, and how a tool changes one."""
 import copy
 import fractions
+import json
 import re
 
 from network import NETWORK, NODE, Fault
@@ -225,7 +226,9 @@ def value(it):
         return str(it).lower()
     if isinstance(it, list):
         return f"[{', '.join(map(value, it))}]"
-    return f'"{it}"' if isinstance(it, str) else str(it)
+    if isinstance(it, dict):
+        return f"{{ {', '.join(f'{key} = {value(part)}' for key, part in it.items())} }}"
+    return json.dumps(it, ensure_ascii=False) if isinstance(it, str) else str(it)
 
 
 def text(file):

@@ -92,9 +92,11 @@ class Greatest:
 
     def first(self, choices, now):
         """The least value that the program accepts, where it accepts the one that stands now."""
+        if self.asked.accepts(self.number, choices[0]):
+            return choices[0]
         below = choices[: choices.index(now) + 1]
         refused = self.last(below, lambda it: not self.asked.accepts(self.number, it))
-        return below[0] if refused is None else below[below.index(refused) + 1]
+        return below[below.index(refused) + 1]
 
     def over(self, answer):
         return isinstance(answer, str) or answer[self.name] > self.target
