@@ -21,3 +21,4 @@ pub mod EventsFit
 pub mod PlaceLemmas
 pub mod PlaceNames
 pub mod PlaceParts
+pub mod FirstOfName

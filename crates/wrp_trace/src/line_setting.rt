@@ -1,8 +1,8 @@
 //! A node of a network: its ports, and the modules that are listed at them.
-ghost use Rattle.std.specs.Prelude.{◌≡◌, option_map, IfSome};
+ghost use Rattle.std.specs.Prelude.{◌≡◌, ◌&&◌, option_map, IfSome};
 ghost use Rattle.std.specs.List.{find};
 ghost use Rattle.wrp_caldb.specs.Name.{same_name};
-ghost use Rattle.wrp_caldb.specs.Database.{module_at};
+ghost use Rattle.wrp_caldb.specs.Database.{delays_at, module_at};
 ghost use Rattle.wrp_trace.specs.LineSetting.{line_setting_of, is_grandmaster, has_port, module_of, named_at, same_module, has_values, name_of};
 ghost use Rattle.wrp_trace.specs.InputAt.{IsListed};
 ghost use Rattle.wrp_trace.specs.Printing.{module_text};
@@ -85,14 +85,35 @@ fn same_module(a: Module, b: Module) -> bool
     a.tx == b.tx && (a.rx == b.rx && (a.transition == b.transition && a.err == b.err))
 }
 
-// Whether a name is listed at a port of a node with these values.
-fn has_values(net: &Network, node: u8, port: u16, name: &str, values: Module) -> bool
-    ensures { result ≡ has_values values (module_of (line_setting_of net.now node) port name.now) }
+// Whether these are the numbers of a module of these values.
+fn has_values(entry: Option<Module>, values: Module) -> bool
+    ensures { result ≡ has_values values entry }
 {
-    match module_of(net, node, port, name.as_bytes()) {
+    match entry {
         Some(entry) => same_module(entry, values),
         None => false,
     }
+}
+
+// The first listed module, in file order, whose name has these values for a pair of wavelengths. Such a
+// module has them by its own entries, so that few names are looked up: where no name is listed twice, one.
+fn valued_for<'a>(
+    net: &'a Network,
+    tx_nm: u16,
+    rx_nm: u16,
+    values: Module,
+) -> Option<&'a ListedModule>
+    ensures { option_map (λ m. m.now) result
+        ≡ find (λ m. has_values values (delays_at m.entries tx_nm rx_nm)
+        && has_values values (module_at net.now.db m.name tx_nm rx_nm)) net.now.db.modules }
+{
+    net.db.modules().iter().find(|module| {
+        has_values(module.at(tx_nm, rx_nm), values)
+            && has_values(
+                entry_of(net, module.name().as_bytes(), tx_nm, rx_nm),
+                values,
+            )
+    })
 }
 
 // The first listed module, in file order, whose name has these values at a port of a node.
@@ -100,7 +121,10 @@ fn valued<'a>(net: &'a Network, node: u8, port: u16, values: Module) -> Option<&
     ensures { option_map (λ m. m.now) result
         ≡ find (λ m. has_values values (module_of (line_setting_of net.now node) port m.name)) net.now.db.modules }
 {
-    net.db.modules().iter().find(|module| has_values(net, node, port, module.name(), values))
+    match pair_at(&net.cfg, node, port) {
+        Some((tx_nm, rx_nm)) => valued_for(net, tx_nm, rx_nm, values),
+        None => None,
+    }
 }
 
 // The first listed name, in file order, whose module at a port of a node has these values.
