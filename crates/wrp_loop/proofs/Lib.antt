@@ -6,6 +6,7 @@ pub mod Betweens
 pub mod Carryings
 pub mod Choices
 pub mod Coming
+pub mod Counting
 pub mod Crossings
 pub mod Fates
 pub mod Forgetting

@@ -1,5 +1,5 @@
 -- Laws of loops (this project's profile).
-use Rattle.std.specs.Prelude.{◌≡◌, ℕ, ℤ, List, ◌++◌, Option}
+use Rattle.std.specs.Prelude.{◌≡◌, ◌<◌, ℕ, ℤ, List, ◌++◌, Option, length}
 use Rattle.wrp_io.specs.declared.link.LinkCall.{LinkCall}
 use Rattle.wrp_node.specs.OneRun.{answers_by}
 use Rattle.wrp_course.specs.Run.{Happened, IsAnswered, world_after}
@@ -10,7 +10,7 @@ use Rattle.wrp_sim.specs.Scenario.{IsSceneOf}
 use Rattle.wrp_loop.specs.declared.index.Came.{Came}
 use Rattle.wrp_loop.specs.Datagrams.{IsFrameOf, Way, sending_end}
 use Rattle.wrp_loop.specs.Index.{IsIndex, chosen, fits, has_number, no_choice, with_all}
-use Rattle.wrp_loop.specs.LoopEnds.{EndsLarge, EndsOver}
+use Rattle.wrp_loop.specs.LoopEnds.{EndsLarge, EndsOver, IsOverrun}
 use Rattle.wrp_loop.specs.LoopRun.{Going, Loops, Plan, events_at, place, world_at}
 use Rattle.wrp_loop.specs.LoopText.{NoneIsMarked, all_lines, audit_lines, forged_lines, loop_text, marked_in, others_in, told_lines}
 
@@ -71,3 +71,11 @@ LoopKeepsTheBounds =
     Loops x calls last →
     IsRun x.setting (events_at (place last))
     × IsDriven x.scene x.setting x.seed (place last).turns (place last).at
+
+-- no event of a loop has the number 4,294,967,295; and where the number of the next event is too great, an event came for each
+-- number below it
+abbrev pub EventsAreNumbered : Type 0
+EventsAreNumbered =
+    (x : Plan) (calls : List LinkCall) (last : Going) → Loops x calls last →
+    (length (events_at (place last)) < 4_294_967_295)
+    × (IsOverrun x last → length (events_at (place last)) ≡ 4_294_967_294)

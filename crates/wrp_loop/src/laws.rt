@@ -1,5 +1,5 @@
 //! Laws of loops: functions whose contracts are the laws, and whose bodies call the laws that they stand on.
-ghost use Rattle.wrp_loop.specs.Laws.{IndexChooses, LoopIsAudited, LoopKeepsTheBounds, OneFrame, OneLoop};
+ghost use Rattle.wrp_loop.specs.Laws.{EventsAreNumbered, IndexChooses, LoopIsAudited, LoopKeepsTheBounds, OneFrame, OneLoop};
 
 use wrp_servo::told_last;
 use wrp_sim::simulator_keeps_the_bounds;
@@ -34,3 +34,9 @@ pub fn loop_keeps_the_bounds()
 {
     simulator_keeps_the_bounds();
 }
+
+/// No event of a loop has the number 4,294,967,295, and a loop whose next event would have it has had an event
+/// of each number below.
+pub fn events_are_numbered()
+    ensures { EventsAreNumbered }
+{}

@@ -23,7 +23,9 @@ mod routes;
 pub use arrival::{Taken, exchange};
 pub use fate::Fate;
 pub use index::{Came, Index};
-pub use laws::{index_chooses, loop_is_audited, loop_keeps_the_bounds, one_frame, one_loop};
+pub use laws::{
+    events_are_numbered, index_chooses, loop_is_audited, loop_keeps_the_bounds, one_frame, one_loop,
+};
 pub use lines::append_forged;
 pub use looping::{start_loop, take_round};
 pub use network::{LoopCourse, LoopedNetwork};
