@@ -115,6 +115,15 @@ first_at words input s seed calls text asks (handled, inl none) = inl (none.1, n
 first_at words input s seed calls text asks (handled, inr broken) =
     inr (inr (inr (s, seed, asks, broken_at s seed calls OutOfMemory text (behind_separator (lines_of input)) handled broken)))
 
+-- all lines are those of a scenario, and the sink failed behind them
+abbrev WroteAt : Setting → ℕ → List LinkCall → List ℕ → List (List ℕ) → Type 0
+WroteAt s seed calls text lines = Handles (SimAccepts s) lines [] × RanSo s seed (map content_of lines) calls WriteFault text
+
+part_at : (words : List (List ℕ)) (input : List ℕ) (s : Setting) (seed : ℕ) (calls : List LinkCall) (text : List ℕ) → AsksFor words (network_text input) (Loop s seed)
+    → WroteAt s seed calls text (behind_separator (lines_of input)) → PartAnswer words input calls text
+part_at words input s seed calls text asks (handled, inl none) = ([], 0, none.1, inr (inl (refl, none.0)))
+part_at words input s seed calls text asks (handled, inr so) = (so.1, so.2, so.3, answer_at words input s seed calls so.0 so.1 asks (handled, so.4))
+
 -- How it ends
 
 -- no call leaves what a link tells
@@ -177,8 +186,8 @@ ran_ends words first source sink link text r ended s seed WriteFault net at is h
   at.calls,
   at.wrote,
   at.called,
-  both_told (RanAt s seed at.calls so.0 so.1) (λ input. PartAnswer words input at.calls at.octets) words first source text at.given r ended (Loop s seed) net at.taken at.at_end is (handled, so.4)
-      (λ input asks h. (so.1, so.2, so.3, answer_at words input s seed at.calls so.0 so.1 asks h)),
+  both_told (WroteAt s seed at.calls at.octets) (λ input. PartAnswer words input at.calls at.octets) words first source text at.given r ended (Loop s seed) net at.taken at.at_end is (handled, so)
+      (λ input asks h. part_at words input s seed at.calls at.octets asks h),
 )
 ran_ends words first source sink link text r ended s seed _ net at is handled so = absurd so
 

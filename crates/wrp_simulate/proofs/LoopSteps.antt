@@ -198,7 +198,7 @@ unwritten s scene seed network before told held mid now written text came law wr
       text = take cut.1.0 due;
       called = came.adds;
       wrote = cut.1.1;
-      so = λ lines said. (
+      so = λ lines said. inr (
         OutOfMemory,
         due,
         cut.1.0,
@@ -219,7 +219,7 @@ ends_with s scene seed before told held mid now due status written last calls ad
     text = take cut.1.0 (written ++ last);
     called = adds;
     wrote = cut.1.1;
-    so = λ lines said. (due, written ++ last, cut.1.0, refl, part lines said);
+    so = λ lines said. inr (due, written ++ last, cut.1.0, refl, part lines said);
   })
 ]
 
@@ -262,12 +262,22 @@ large_unlinked status before now waiting (inr (inr cut)) is = let both : WriteFa
 -- Before the first round
 
 -- there was no memory
-pub nothing_ran : (s : Setting) (scene : SceneAt) (seed : ℕ) (before told : Option (List LinkCall)) (held : Option (List ℕ)) → Adds before told [] → Ran s scene seed before told held held OutOfMemory
-nothing_ran s scene seed before told held adds = record { calls = []; text = []; called = adds; wrote = Appends-nil held; so = λ lines said. inl (refl, refl) }
+pub nothing_ran : (s : Setting) (scene : SceneAt) (seed : ℕ) (before told : Option (List LinkCall)) (held now : Option (List ℕ)) → Adds before told [] → Appends held now [] → Ran s scene seed before told held now OutOfMemory
+nothing_ran s scene seed before told held now adds wrote = record { calls = []; text = []; called = adds; wrote = wrote; so = λ lines said. inl (refl, refl) }
+
+-- the sink failed at the empty piece
+pub not_open : (s : Setting) (scene : SceneAt) (seed : ℕ) (before told : Option (List LinkCall)) (held now : Option (List ℕ)) → Adds before told [] → Appends held now [] → Ran s scene seed before told held now WriteFault
+not_open s scene seed before told held now adds wrote = record { calls = []; text = []; called = adds; wrote = wrote; so = λ lines said. inl (refl, refl) }
 
 -- the link did not start
-pub not_started : (s : Setting) (scene : SceneAt) (seed : ℕ) (before told : Option (List LinkCall)) (held : Option (List ℕ)) → Adds before told [] → Ran s scene seed before told held held LinkFault
-not_started s scene seed before told held adds = record { calls = []; text = []; called = adds; wrote = Appends-nil held; so = λ lines said. inl (refl, refl) }
+pub not_started : (s : Setting) (scene : SceneAt) (seed : ℕ) (before told : Option (List LinkCall)) (held now : Option (List ℕ)) → Adds before told [] → Appends held now [] → Ran s scene seed before told held now LinkFault
+not_started s scene seed before told held now adds wrote = record { calls = []; text = []; called = adds; wrote = wrote; so = λ lines said. inl (refl, refl) }
+
+-- the sink took the empty piece, and the network ran
+pub ran_open : (s : Setting) (scene : SceneAt) (seed : ℕ) (before told : Option (List LinkCall)) (held mid now : Option (List ℕ)) (status : Status) → Appends held mid [] → Ran s scene seed before told mid now status
+    → Ran s scene seed before told held now status
+ran_open s scene seed before told held mid now status none ran =
+    record { calls = ran.calls; text = ran.text; called = ran.called; wrote = Appends-trans held mid now [] ran.text none ran.wrote; so = ran.so }
 
 -- With the records
 

@@ -42,10 +42,12 @@ RanDue s seed lines calls OutOfMemory text =
     ((calls ≡ []) × (text ≡ [])) ⊎ LoopBreaks s seed calls lines OutOfMemory text
 RanDue s seed lines calls _ text = ⊥
 
--- what stands: where the sink failed, the first octets of what is due
+-- what was written: right before its link starts a loop hands its sink an empty piece, and where the sink failed there, no call was
+-- made and nothing is written; where it failed later, these are the first octets of what is due
 abbrev pub RanSo : Setting → ℕ → List (List ℕ) → List LinkCall → Status → List ℕ → Type 0
 RanSo s seed lines calls WriteFault text =
-    (status : Status) × (due : List ℕ) × (count : ℕ) × (text ≡ take count due) × RanDue s seed lines calls status due
+    ((calls ≡ []) × (text ≡ []))
+    ⊎ ((status : Status) × (due : List ℕ) × (count : ℕ) × (text ≡ take count due) × RanDue s seed lines calls status due)
 RanSo s seed lines calls LinkFault text = LoopBreaks s seed calls lines LinkFault text
 RanSo s seed lines calls status text = RanDue s seed lines calls status text
 

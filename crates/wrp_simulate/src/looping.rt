@@ -36,6 +36,19 @@ use wrp_loop::{
 use wrp_records::{Reader, Status, answer, handle_records, write_all};
 use wrp_sim::Scene;
 
+// Hands the sink an empty piece: a call like any other, which fails where the sink cannot be written to.
+// Answers whether it did not fail.
+fn is_open<K: Sink>(sink: &mut K) -> bool
+    ensures none { Appends (K.held sink.old) (K.held sink.new) [] }
+    ensures rose { result ≡ false → Rose (K.faults sink.old) (K.faults sink.new) }
+    ensures kept { result ≡ true → K.faults sink.new ≡ K.faults sink.old }
+{
+    match sink.write(&[]) {
+        Ok(_) => true,
+        Err(_) => false,
+    }
+}
+
 // Writes what waits. Answers whether all of it was taken.
 fn flush<K: Sink>(sink: &mut K, text: &mut Vec<u8>) -> bool
     ensures none { result ≡ true → text.new.items ≡ [] }
@@ -130,7 +143,8 @@ fn run_rounds<F: Fn(i64) -> i64, K: Sink, N: Link>(
     }
 }
 
-// Runs a network by a scenario over a link, which is started first.
+// Runs a network by a scenario over a link, which is started first. Right before that the sink is handed an
+// empty piece, so that the link is not started where nothing can be written.
 #[inline(never)]
 fn run_scene<F: Fn(i64) -> i64, K: Sink, N: Link>(
     alloc: Global,
@@ -160,6 +174,9 @@ fn run_scene<F: Fn(i64) -> i64, K: Sink, N: Link>(
         Ok(network) => network,
         Err(_) => return Status::OutOfMemory,
     };
+    if !is_open(sink) {
+        return Status::WriteFault;
+    }
     match start_loop(&network, &course, link) {
         Ok(()) => run_rounds(alloc, &mut network, &mut course, sink, link),
         Err(LoopFault::Failed) => Status::LinkFault,
@@ -168,7 +185,7 @@ fn run_scene<F: Fn(i64) -> i64, K: Sink, N: Link>(
 }
 
 /// Runs a network with these laws by the scenario that a reader's lines say, from a seed, over a link. No
-/// call of the link is made before all of them were read.
+/// call of the link is made before all of them were read and the sink has taken an empty piece.
 #[inline(never)]
 pub fn run_over<F: Fn(i64) -> i64, S: Source, K: Sink, N: Link>(
     alloc: Global,

@@ -1,5 +1,6 @@
--- The network and its simulator are new, and the link is started.
+-- The network and its simulator are new, the sink takes an empty piece, and the link is started.
 use Rattle.std.proofs.Common.{◌≡◌, ◌∙◌, ap, refl, subst, sym, ℕ, Ok, Err, Result}
+use Rattle.std.proofs.KnownBytes.{Appends-nil}
 use Rattle.std.specs.Result.{OnErr}
 use Rattle.wrp_config.specs.declared.network.Network.{Network}
 use Rattle.wrp_io.specs.Faults.{Rose}
@@ -10,14 +11,14 @@ use Rattle.wrp_records.specs.declared.status.Status.TheVariants.{LinkFault, OutO
 use Rattle.wrp_audit.specs.AuditStands.{setting_in}
 use Rattle.wrp_simulate.specs.LoopPasses.{Ran}
 use Rattle.wrp_simulate.specs.Loops.{plan_of}
-use Rattle.wrp_simulate.proofs.LoopSteps.{first_loop, no_calls, not_started, nothing_ran, own_laws}
+use Rattle.wrp_simulate.proofs.LoopSteps.{first_loop, no_calls, not_open, not_started, nothing_ran, own_laws, ran_open}
 use Rattle.wrp_simulate.proofs.looping.run_scene.Goals as goal
 
 pub returns-in-Err-clause-ran : goal.returns-in-Err-clause-ran
-returns-in-Err-clause-ran g c = nothing_ran (setting_in c.args.net) c.args.scene c.args.seed _ _ _ (no_calls _)
+returns-in-Err-clause-ran g c = nothing_ran (setting_in c.args.net) c.args.scene c.args.seed _ _ _ _ (no_calls _) (Appends-nil _)
 
 pub returns-in-Err-new-clause-ran : goal.returns-in-Err-new-clause-ran
-returns-in-Err-new-clause-ran g c = nothing_ran (setting_in c.args.net) c.args.scene c.args.seed _ _ _ (no_calls _)
+returns-in-Err-new-clause-ran g c = nothing_ran (setting_in c.args.net) c.args.scene c.args.seed _ _ _ _ (no_calls _) (Appends-nil _)
 
 pub new-requires-2-clause-laws : goal.new-requires-2-clause-laws
 new-requires-2-clause-laws g c = λ n law is. (c.requires.laws.each n law is).fits
@@ -32,6 +33,11 @@ start_loop-requires-clause-begins g c = (
 pub run_rounds-requires-clause-laws : goal.run_rounds-requires-clause-laws
 run_rounds-requires-clause-laws g c = own_laws c.args.net c.args.laws.items c.in-Ok-new.network.world c.requires.laws c.in-Ok-new.ensures.laws c.in-Ok-new.ensures.ready c.in-Ok-new.ensures.net
 
+-- Where the sink failed
+
+pub returns-then-not-is_open-clause-ran : goal.returns-then-not-is_open-clause-ran
+returns-then-not-is_open-clause-ran g c = not_open (setting_in c.args.net) c.args.scene c.args.seed _ _ _ _ (no_calls _) c.is_open.ensures.none
+
 -- Where it was started
 
 started : (r : Result (Unit {0}) LoopFault) → (done : Unit {0}) → r ≡ Ok done → r ≡ Err faults.Failed → ⊥
@@ -43,9 +49,11 @@ returns-in-Ok-start_loop-clause-ran g c =
     let begins = first_loop c.args.net c.args.laws.items c.args.scene c.args.seed c.in-Ok-new.network c.in-Ok.course c.requires.laws c.requires.accepted.tree c.in-Ok-new.ensures.net c.in-Ok-new.ensures.stands c.requires.scene
     c.in-Ok.ensures.begins c.in-Ok.ensures.scene c.in-Ok.ensures.none c.in-Ok.ensures.forged c.in-Ok.ensures.came c.in-Ok.ensures.handed in
     let came = subst (Starts _ x c.in-Ok-new.network c.in-Ok.course (g.N.Link.told c.args.link.now) (g.N.Link.told c.start_loop.new.link)) c.in-Ok-start_loop.is (c.start_loop.ensures.starts x begins) in
-    subst
-    (λ (k : Network). Ran (setting_in k) c.args.scene c.args.seed (g.N.Link.told c.args.link.now) (g.N.Link.told c.run_rounds.new.link) (g.K.Sink.held c.args.sink.now) (g.K.Sink.held c.run_rounds.new.sink) c.run_rounds.result)
-    c.in-Ok-new.ensures.net (c.run_rounds.ensures.ran c.args.scene c.args.seed (g.N.Link.told c.args.link.now) came)
+    ran_open (setting_in c.args.net) c.args.scene c.args.seed (g.N.Link.told c.args.link.now) (g.N.Link.told c.run_rounds.new.link) (g.K.Sink.held c.args.sink.now) (g.K.Sink.held c.is_open.new.sink)
+    (g.K.Sink.held c.run_rounds.new.sink) c.run_rounds.result c.is_open.ensures.none
+    (subst
+    (λ (k : Network). Ran (setting_in k) c.args.scene c.args.seed (g.N.Link.told c.args.link.now) (g.N.Link.told c.run_rounds.new.link) (g.K.Sink.held c.is_open.new.sink) (g.K.Sink.held c.run_rounds.new.sink) c.run_rounds.result)
+    c.in-Ok-new.ensures.net (c.run_rounds.ensures.ran c.args.scene c.args.seed (g.N.Link.told c.args.link.now) came))
 
 pub returns-in-Ok-start_loop-clause-linked : goal.returns-in-Ok-start_loop-clause-linked
 returns-in-Ok-start_loop-clause-linked g c =
@@ -69,7 +77,7 @@ memory_failed r is bad = let both : Err faults.Memory ≡ Err faults.Failed = sy
 pub returns-in-Err-Failed-clause-ran : goal.returns-in-Err-Failed-clause-ran
 returns-in-Err-Failed-clause-ran g c =
     let same = err_told c.start_loop.result _ _ (c.in-Err-Failed.is ∙ ap Err c.in-Err-Failed.field-0-is) c.start_loop.ensures.told in
-    not_started (setting_in c.args.net) c.args.scene c.args.seed _ _ _ (same ∙ no_calls _)
+    not_started (setting_in c.args.net) c.args.scene c.args.seed _ _ _ _ (same ∙ no_calls _) c.is_open.ensures.none
 
 pub returns-in-Err-Failed-clause-linked : goal.returns-in-Err-Failed-clause-linked
 returns-in-Err-Failed-clause-linked g c = record {
@@ -80,7 +88,7 @@ returns-in-Err-Failed-clause-linked g c = record {
 pub returns-clause-ran : goal.returns-clause-ran
 returns-clause-ran g c =
     let same = err_told c.start_loop.result _ _ (c.in-Err-Memory.is ∙ ap Err c.in-Err-Memory.field-0-is) c.start_loop.ensures.told in
-    nothing_ran (setting_in c.args.net) c.args.scene c.args.seed _ _ _ (same ∙ no_calls _)
+    nothing_ran (setting_in c.args.net) c.args.scene c.args.seed _ _ _ _ (same ∙ no_calls _) c.is_open.ensures.none
 
 pub returns-clause-linked : goal.returns-clause-linked
 returns-clause-linked g c = record {
