@@ -121,12 +121,10 @@ class Number:
             it[self.key] = value
         return other
 
-    def said(self, value):
-        """A value in words."""
+    def shown(self, value):
+        """A value as the file has it, with its unit, or if it is a time with that time in words."""
         unit = self.about.unit
-        if unit in UNITS:
-            return spelled(value * UNITS[unit])
-        return f"{value} {unit}".strip()
+        return f"{value}, {spelled(value * UNITS[unit])}" if unit in UNITS else f"{value} {unit}".strip()
 
     def choices(self):
         """The values that it may have, the least first."""
