@@ -1,3 +1,4 @@
+pub mod Alone
 pub mod Changes
 pub mod Exchanges
 pub mod Ports
@@ -6,3 +7,5 @@ pub mod Stages
 pub mod Steps
 pub mod Sums
 pub mod Tells
+pub mod Tests
+pub mod Worked

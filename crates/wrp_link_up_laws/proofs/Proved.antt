@@ -14,7 +14,7 @@ use Rattle.wrp_link.proofs.Runs.{by_row_role, by_row_set}
 use Rattle.wrp_handshake.specs.Ends.{Sending, Port, Ends, Change, Passes, Hears, Starts, Lights, IsAmong, MayCome, AllMayCome, CanBe, changed, ends_after}
 use Rattle.wrp_handshake.proofs.Changes.{EndsKeep, all_keep, start_keeps}
 use Rattle.wrp_handshake.proofs.Proved as handshake
-use Rattle.wrp_link_up_laws.specs.Laws.{Run, lights, new, changes, dark, lit, last, IsServed, BothOutlast, BothInTurn, IsPast, IsUp, ComesUp, ComesUpInTurn}
+use Rattle.wrp_link_up_laws.specs.Laws.{LinkRun, lights, new, changes, dark, lit, last, IsServed, BothOutlast, BothInTurn, IsPast, IsUp, ComesUp, ComesUpInTurn}
 use Rattle.wrp_link_up_laws.specs.Pace.{AllInTurn, InTurn, patience, Pace, IsPrompt, IsSteady, IsGood}
 use Rattle.wrp_link_up_laws.proofs.Changes.{Standing, coming, is_on, prompt_of, passes_up, passes_stage, on_stays, carrier_by, master_hears, slave_hears}
 use Rattle.wrp_link_up_laws.proofs.Ports.{Given, BothHold, PortUp, not_timed_idle}
@@ -162,11 +162,11 @@ up_by g first since lit h good (coming me se um us s) late =
     absurd (clash ends.time (lit +ℤ pos (by_four g + g.pace.delay)) soon late)
 
 -- both laws in one form: the counts of both ends, and whether no CALIBRATED overtakes a CALIBRATE
-abbrev set_by : Run → Role → LinkSet
+abbrev set_by : LinkRun → Role → LinkSet
 set_by run Master = run.of_master
 set_by run Slave = run.of_slave
 
-abbrev given_by : (life dmin : ℕ) → Pace → Run → Bool → (Role → ℕ) → ℕ → Given
+abbrev given_by : (life dmin : ℕ) → Pace → LinkRun → Bool → (Role → ℕ) → ℕ → Given
 given_by life dmin pace run in_turn slow slowest =
     record {
       life = life;
@@ -180,7 +180,7 @@ given_by life dmin pace run in_turn slow slowest =
     }
 
 is_up :
-    (life dmin : ℕ) (pace : Pace) (run : Run) (turns : Bool) (slow : Role → ℕ) (slowest : ℕ) → BothHold (given_by life dmin pace run turns slow slowest) →
+    (life dmin : ℕ) (pace : Pace) (run : LinkRun) (turns : Bool) (slow : Role → ℕ) (slowest : ℕ) → BothHold (given_by life dmin pace run turns slow slowest) →
     IsServed life dmin pace run → (turns ≡ true → AllInTurn (lit run) run.since) →
     IsPast run (by_four (given_by life dmin pace run turns slow slowest) + pace.delay) → IsUp (last run)
 is_up life dmin pace run turns slow slowest h served turn late =
@@ -212,7 +212,7 @@ is_up life dmin pace run turns slow slowest h served turn late =
     record { master = handshake.slave_on_with_its_master life dmin (last run) can on carrier; slave = on }
 
 -- the first waits of both ends, as times
-abbrev slow_by : Pace → Run → Role → ℕ
+abbrev slow_by : Pace → LinkRun → Role → ℕ
 slow_by pace run Master = run.of_master.wait * pace.dmax
 slow_by pace run Slave = run.of_slave.wait * pace.dmax
 
@@ -226,7 +226,7 @@ waits_by a b pace dmin all e h =
 
 -- what the first law asks of both ends
 both_hold :
-    (life dmin : ℕ) (pace : Pace) (run : Run) → IsServed life dmin pace run → BothOutlast dmin pace run →
+    (life dmin : ℕ) (pace : Pace) (run : LinkRun) → IsServed life dmin pace run → BothOutlast dmin pace run →
     BothHold (given_by life dmin pace run false (slow_by pace run) (max run.of_master.wait run.of_slave.wait * pace.dmax))
 both_hold life dmin pace run served both Master =
     record {
@@ -255,7 +255,7 @@ both_hold life dmin pace run served both Slave =
 
 -- what the second law asks of them
 both_hold_in_turn :
-    (life dmin : ℕ) (pace : Pace) (run : Run) → IsServed life dmin pace run → BothInTurn dmin pace run →
+    (life dmin : ℕ) (pace : Pace) (run : LinkRun) → IsServed life dmin pace run → BothInTurn dmin pace run →
     BothHold (given_by life dmin pace run true no_wait 0)
 both_hold_in_turn life dmin pace run served both Master =
     record {

@@ -7,7 +7,7 @@ use Rattle.wrp_handshake.specs.Ends.{Ends, Change, Lights, AllMayCome, OutlivesF
 use Rattle.wrp_link_up_laws.specs.Pace.{Pace, Outlasts, OutlastsInTurn, IsGood, AllInTurn, time_to_up, time_in_turn}
 
 -- a link from its first change on, with all that happens before its carriers come and since, the newest first
-pub record Run : Type 0 where
+pub record LinkRun : Type 0 where
   -- the counts of either end, and the modules in place there, both listed
   pub of_master : LinkSet
   pub of_slave : LinkSet
@@ -18,30 +18,30 @@ pub record Run : Type 0 where
   pub since : List Change
 
 -- the carriers come at both ends
-abbrev pub lights : Run → Change
+abbrev pub lights : LinkRun → Change
 lights run = Lights (Some run.at_master) (Some run.at_slave)
 
 -- the ends before anything happened
-abbrev pub new : Run → Ends
+abbrev pub new : LinkRun → Ends
 new run = new_ends run.of_master run.of_slave run.start
 
 -- all that happens, the newest first
-abbrev pub changes : Run → List Change
+abbrev pub changes : LinkRun → List Change
 changes run = run.since ++ lights run ∷ run.before
 
 -- the ends before the carriers come, as they came, and after all
-abbrev pub dark : Run → Ends
+abbrev pub dark : LinkRun → Ends
 dark run = ends_after (new run) run.before
 
-abbrev pub lit : Run → Ends
+abbrev pub lit : LinkRun → Ends
 lit run = ends_after (new run) (lights run ∷ run.before)
 
-abbrev pub last : Run → Ends
+abbrev pub last : LinkRun → Ends
 last run = ends_after (new run) (changes run)
 
 -- what both laws ask: White Rabbit at both ends, quiet times that outlive two frames, changes that may come,
 -- and good delivery since the carriers came
-pub record IsServed (life dmin : ℕ) (pace : Pace) (run : Run) : Type 0 where
+pub record IsServed (life dmin : ℕ) (pace : Pace) (run : LinkRun) : Type 0 where
   pub master_wr : run.of_master.wr ≡ true
   pub slave_wr : run.of_slave.wr ≡ true
   pub master_quiet : OutlivesFrames life dmin run.of_master
@@ -50,18 +50,18 @@ pub record IsServed (life dmin : ℕ) (pace : Pace) (run : Run) : Type 0 where
   pub good : IsGood pace (lit run) run.since
 
 -- the timers of both ends outlast what they wait for
-pub record BothOutlast (dmin : ℕ) (pace : Pace) (run : Run) : Type 0 where
+pub record BothOutlast (dmin : ℕ) (pace : Pace) (run : LinkRun) : Type 0 where
   pub master : Outlasts dmin pace run.of_master run.of_slave
   pub slave : Outlasts dmin pace run.of_slave run.of_master
 
 -- the same where no CALIBRATED overtakes a CALIBRATE, as it is since the carriers came
-pub record BothInTurn (dmin : ℕ) (pace : Pace) (run : Run) : Type 0 where
+pub record BothInTurn (dmin : ℕ) (pace : Pace) (run : LinkRun) : Type 0 where
   pub master : OutlastsInTurn dmin pace run.of_master
   pub slave : OutlastsInTurn dmin pace run.of_slave
   pub in_turn : AllInTurn (lit run) run.since
 
 -- more than so long a time passed since the carriers came
-abbrev pub IsPast : Run → ℕ → Type 0
+abbrev pub IsPast : LinkRun → ℕ → Type 0
 IsPast run time = ((dark run).time +ℤ pos time) <ℤ (last run).time
 
 -- both ends of a link are in WR_LINK_ON
@@ -73,7 +73,7 @@ pub record IsUp (ends : Ends) : Type 0 where
 -- this lasts
 abbrev pub ComesUp : Type 0
 ComesUp =
-    (life dmin : ℕ) (pace : Pace) (run : Run) →
+    (life dmin : ℕ) (pace : Pace) (run : LinkRun) →
     IsServed life dmin pace run →
     BothOutlast dmin pace run →
     IsPast run (time_to_up pace run.of_master run.of_slave) →
@@ -82,7 +82,7 @@ ComesUp =
 -- where no CALIBRATED overtakes a CALIBRATE it is up sooner, and needs no retries
 abbrev pub ComesUpInTurn : Type 0
 ComesUpInTurn =
-    (life dmin : ℕ) (pace : Pace) (run : Run) →
+    (life dmin : ℕ) (pace : Pace) (run : LinkRun) →
     IsServed life dmin pace run →
     BothInTurn dmin pace run →
     IsPast run (time_in_turn pace run.of_master run.of_slave) →

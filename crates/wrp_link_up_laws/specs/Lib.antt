@@ -1,2 +1,5 @@
+pub mod Alone
 pub mod Laws
 pub mod Pace
+pub mod Slow
+pub mod Worked

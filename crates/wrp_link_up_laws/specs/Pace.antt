@@ -49,11 +49,13 @@ pub record OutlastsInTurn (dmin : ℕ) (pace : Pace) (own : LinkSet) : Type 0 wh
 -- change since has met it
 abbrev pub IsOwed : (List Change → ℤ → Type 0) → (Change → Type 0) → List Change → ℤ → Type 0
 IsOwed Begins Meets [] at = ⊥
-IsOwed Begins Meets (change ∷ older) at = Begins (change ∷ older) at ⊎ (IsOwed Begins Meets older at × (Meets change → ⊥))
+IsOwed Begins Meets (change ∷ older) at =
+    Begins (change ∷ older) at ⊎ (IsOwed Begins Meets older at × (Meets change → ⊥))
 
 -- the port of a role sends a message by a change
 abbrev pub IsSentBy : Ends → Role → Change → Sending → Type 0
-IsSentBy ends role (Hears hearer input at) f = (hearer ≡ role) × IsAmong f (stamped ends.time (sent_by (row_of (end_of ends hearer).link input)) [])
+IsSentBy ends role (Hears hearer input at) f =
+    (hearer ≡ role) × IsAmong f (stamped ends.time (sent_by (row_of (end_of ends hearer).link input)) [])
 IsSentBy ends role _ f = ⊥
 
 -- it sends it by the newest of a list of changes
@@ -80,7 +82,8 @@ pub record AreAwake (first : Ends) (changes : List Change) (at : ℤ) : Type 0 w
 
 -- the slave is given an Announce that offers White Rabbit
 abbrev pub IsOffered : Change → Type 0
-IsOffered (Hears hearer input at) = (hearer ≡ Slave) × ((suffix : Option ℕ) × ((input ≡ Announce suffix) × (offers suffix ≡ true)))
+IsOffered (Hears hearer input at) =
+    (hearer ≡ Slave) × ((suffix : Option ℕ) × ((input ≡ Announce suffix) × (offers suffix ≡ true)))
 IsOffered _ = ⊥
 
 -- both ends were awake at a time, with the slave in IDLE, and no Announce has offered White Rabbit since
@@ -101,12 +104,16 @@ IsLockedTick _ = ⊥
 abbrev pub IsUnlocked : Ends → List Change → ℤ → Type 0
 IsUnlocked first changes at = IsOwed (IsLocking first) IsLockedTick changes at
 
+-- the time after a list of changes, the newest first
+abbrev pub time_after : Ends → List Change → ℤ
+time_after first changes = (ends_after first changes).time
+
 -- at this moment nothing is owed for longer than the pace allows
 pub record IsPrompt (pace : Pace) (first : Ends) (changes : List Change) : Type 0 where
-  pub ticks : (role : Role) → (ends_after first changes).time ≤ℤ ((end_of (ends_after first changes) role).ticked +ℤ pos pace.dmax)
-  pub hears : (role : Role) (m : WrMsg) (at : ℤ) → IsUnheard first role m changes at → (ends_after first changes).time ≤ℤ (at +ℤ pos pace.delay)
-  pub offered : (at : ℤ) → IsUnoffered first changes at → (ends_after first changes).time ≤ℤ (at +ℤ pos pace.announce)
-  pub locks : (at : ℤ) → IsUnlocked first changes at → (ends_after first changes).time ≤ℤ (at +ℤ pos pace.lock)
+  pub ticks : (role : Role) → time_after first changes ≤ℤ ((end_of (ends_after first changes) role).ticked +ℤ pos pace.dmax)
+  pub hears : (role : Role) (m : WrMsg) (at : ℤ) → IsUnheard first role m changes at → time_after first changes ≤ℤ (at +ℤ pos pace.delay)
+  pub offered : (at : ℤ) → IsUnoffered first changes at → time_after first changes ≤ℤ (at +ℤ pos pace.announce)
+  pub locks : (at : ℤ) → IsUnlocked first changes at → time_after first changes ≤ℤ (at +ℤ pos pace.lock)
 
 -- an input by which the carrier neither comes nor goes
 abbrev pub LeavesCarrier : LinkIn → Type 0
@@ -118,7 +125,10 @@ LeavesCarrier _ = Unit {0}
 -- and what it sent before that is too old by then; in its own quiet time a slave may hear any
 abbrev pub OffersAwake : Ends → Role → LinkIn → Type 0
 OffersAwake ends hearer input =
-    hearer ≡ Slave → (suffix : Option ℕ) → input ≡ Announce suffix → offers suffix ≡ true → IsAwake ends.slave → IsAwake ends.master
+    hearer ≡ Slave →
+    (suffix : Option ℕ) → input ≡ Announce suffix → offers suffix ≡ true →
+    IsAwake ends.slave →
+    IsAwake ends.master
 
 -- a change that leaves both carriers alone, starts no node, and brings no offer of a master that is not awake
 abbrev pub IsSteady : Ends → Change → Type 0
@@ -151,7 +161,8 @@ AllInTurn first (change ∷ older) = InTurn first older change × AllInTurn firs
 -- CALIBRATED may overtake its CALIBRATE and is then sent again
 abbrev pub time_to_up : Pace → (of_master of_slave : LinkSet) → ℕ
 time_to_up pace of_master of_slave =
-    (max of_master.quiet of_slave.quiet + of_master.wait + of_slave.wait + 2) * pace.dmax + pace.announce + pace.lock + 6 * pace.delay
+    (max of_master.quiet of_slave.quiet + of_master.wait + of_slave.wait + 2) * pace.dmax
+    + pace.announce + pace.lock + 6 * pace.delay
 
 -- the same where no CALIBRATED overtakes a CALIBRATE
 abbrev pub time_in_turn : Pace → (of_master of_slave : LinkSet) → ℕ

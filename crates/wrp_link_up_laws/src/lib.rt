@@ -1,11 +1,16 @@
-//! A link with good delivery comes up within a stated time: laws over one link, its two ports and the messages between
-//! them. The functions do nothing; their contracts are the laws. The names of messages and states are those of the White
-//! Rabbit Specification 2.0; the handshake table, its timers and its retries are this project's profile.
+//! A link with good delivery comes up within a stated time: laws over one link, its two ports and the
+//! messages between them. The functions do nothing; their contracts are the laws. The names of messages
+//! and states are those of the White Rabbit Specification 2.0; the handshake table, its timers and its
+//! retries are this project's profile.
 #![tactic(auto)]
 
+ghost use Rattle.wrp_link_up_laws.specs.Alone.{NeedsOrder, NeedsRetries};
 ghost use Rattle.wrp_link_up_laws.specs.Laws.{ComesUp, ComesUpInTurn};
+ghost use Rattle.wrp_link_up_laws.specs.Slow.{NoSooner};
+ghost use Rattle.wrp_link_up_laws.specs.Worked.{NoSoonerInTurn, WorkedUp};
 
-/// A link with good delivery is in WR_LINK_ON at both ends within a stated time of its carriers.
+/// A link with good delivery is in WR_LINK_ON at both ends within a stated time of its carriers. All times
+/// are in tau, all counts in ticks.
 pub fn comes_up()
     ensures { ComesUp }
 {}
@@ -13,4 +18,33 @@ pub fn comes_up()
 /// The same where no CALIBRATED overtakes a CALIBRATE: the link is up sooner, and needs no retries.
 pub fn comes_up_in_turn()
     ensures { ComesUpInTurn }
+{}
+
+/// The laws are not empty: a link worked out from its carriers to past both stated times, of which all holds
+/// that the laws ask.
+pub fn worked_up()
+    ensures { WorkedUp }
+{}
+
+/// The time of the first law cannot be lowered: a link of which all holds that the law asks is not up yet
+/// when that time has just passed.
+pub fn no_sooner()
+    ensures { NoSooner }
+{}
+
+/// Nor can the time of the second.
+pub fn no_sooner_in_turn()
+    ensures { NoSoonerInTurn }
+{}
+
+/// The first law needs its retries: a link without them, of which all else holds that the law asks, is not up
+/// past the stated time.
+pub fn needs_retries()
+    ensures { NeedsRetries }
+{}
+
+/// The second law needs its order: a link in which a CALIBRATED overtakes a CALIBRATE, and of which all else
+/// holds that the law asks, is not up past the stated time.
+pub fn needs_order()
+    ensures { NeedsOrder }
 {}
