@@ -98,7 +98,7 @@ class Number:
         self.kind, self.key, self.name = kind, key, name
         self.about = KEYS[kind][key]
         self.label = key if kind == "network" else f"{name or kind}.{key}"
-        if name and len(kinds_of(file, name, key)) > 1:
+        if name and (name in KEYS or len(kinds_of(file, name, key)) > 1):
             self.label = f"{kind}.{name}.{key}"
 
     def tables(self, file):
