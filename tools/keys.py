@@ -191,7 +191,7 @@ def value_of(number, word):
 
 def with_settings(file, settings):
     """The file with each setting KEY=VALUE, and what was set: the number, the values that it had, and its new one."""
-    told = []
+    changes = []
     for it in settings:
         word, equals, value = it.partition("=")
         if not equals:
@@ -199,8 +199,8 @@ def with_settings(file, settings):
         number = number_named(file, word.strip())
         had, new = number.values(file), value_of(number, value.strip())
         file = number.changed(file, new)
-        told.append((number, had, new))
-    return file, told
+        changes.append((number, had, new))
+    return file, changes
 
 
 def numbers_of(network, name):

@@ -16,7 +16,7 @@ class Asked:
         if isinstance(first, str) and not (settings and first.startswith("bad-network 10 ")):
             raise Fault(f"the program refuses this network: {asking.explained(first, octets)}")
         given = sound(parsed(decoded(octets)))
-        changed, self.told = with_settings(given, settings)
+        changed, self.changes = with_settings(given, settings)
         self.file = sound(changed)
         self.network = Network(self.file)
         self.bounds = self.of(self.file) if settings or not program else first
