@@ -8,6 +8,7 @@ pub mod FlightOrder
 pub mod Fours
 pub mod Holding
 pub mod Holdovers
+pub mod Hops
 pub mod Leases
 pub mod Limits
 pub mod Moments

@@ -1,6 +1,7 @@
 //! How far the nodes of a network are from true time. Each function here computes nothing: its contract is
 //! the law.
 ghost use Rattle.wrp_truth.specs.Bounds.{EstimatesAreNear, OffsetsKeepBounds, TrackReportsAreTrue};
+ghost use Rattle.wrp_truth.specs.Hops.{SiblingsAgree, TracksAddUp, TracksFollow};
 
 use crate::chains::chain_has_constant;
 use crate::clocks::clocks_move_slowly;
@@ -52,4 +53,23 @@ pub fn reports_are_within()
     estimates_are_near();
     lease_has_source();
     track_is_near();
+}
+
+/// A node in TRACK is within its hop of its parent, which is up, and is the grandmaster, or in TRACK or HOLDOVER. Two
+/// nodes in TRACK below one parent are within the sum of their hops of each other. Where all nodes on the way to the
+/// grandmaster are in TRACK, the offset is within the sum of their hops, with no motion of HOLDOVER. All in tau.
+pub fn hops_are_kept()
+    ensures follows { TracksFollow }
+    ensures siblings { SiblingsAgree }
+    ensures way { TracksAddUp }
+{
+    chain_has_constant();
+    four_holds_in_track();
+    kept_is_reckoned();
+    fibre_holds_while_on();
+    track_is_near();
+    track_gives();
+    hop_holds();
+    lease_has_source();
+    clocks_move_slowly();
 }

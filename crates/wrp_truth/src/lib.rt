@@ -17,7 +17,7 @@ mod requests;
 mod safety;
 mod sequence_ids;
 
-pub use bounds::{estimates_are_near, offsets_keep_bounds, reports_are_within};
+pub use bounds::{estimates_are_near, hops_are_kept, offsets_keep_bounds, reports_are_within};
 pub use chains::{chain_has_constant, chain_passes_slowly};
 pub use clocks::{clocks_move_slowly, fibres_keep_their_share, ticks_are_on_time};
 pub use exchanges::syncs_tell;

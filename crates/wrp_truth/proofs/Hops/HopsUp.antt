@@ -1,5 +1,6 @@
 -- What each hop of a run keeps, where a node that is down shows no state: so the bounds of its nodes that are up.
-use Rattle.std.proofs.Common.{◌≡◌, inl, inr, ◌∙◌, refl, ap, sym, subst, ℕ, zero, suc, ◌+◌, ◌<◌, ◌≤◌, unsigned_abs, Bool, true, false, if◌then◌else◌, is_some, List, [], ◌∷◌, ◌++◌, length, Option, None, Some, option_map, arith}
+use Rattle.std.proofs.Common.{◌≡◌, inl, inr, ◌∙◌, ℤ, pos, ◌-ℤ◌, refl, ap, sym, subst, ℕ, zero, suc, ◌+◌, ◌<◌, ◌≤◌, unsigned_abs, Bool, true, false, if◌then◌else◌, is_some, List, [], ◌∷◌, ◌++◌, length, Option, None, Some, option_map, arith}
+use Rattle.std.proofs.lemmas.Int.{ints}
 use Rattle.std.specs.Option.{option_map_or}
 use Rattle.std.specs.Prelude.{slice_get}
 use Rattle.wrp_base.specs.declared.link.ServoState.{ServoState}
@@ -26,6 +27,7 @@ use Rattle.wrp_course.specs.Runs.{IsNetwork, IsRun}
 use Rattle.wrp_course.specs.Setting.{Setting, node_setting_of, link_of, of_node}
 use Rattle.wrp_course.specs.WorldAt.{WorldAt}
 use Rattle.wrp_truth.specs.Bounds.{OffsetsKeepBounds, TrueRun}
+use Rattle.wrp_truth.specs.Hops.{FollowsWithin, SiblingsAgree, TracksAddUp, TracksFollow, hops_on}
 use Rattle.wrp_truth.specs.Holdovers.{HeldSince, HoldoverIsFromTrack, HoldoverIsShort, IsHeld, LeavesTrack}
 use Rattle.wrp_truth.specs.Leases.{ChainHasSource, FollowsSource, HasSource, IsCarried}
 use Rattle.wrp_truth.specs.Rates.{TopIsTrue}
@@ -37,11 +39,15 @@ use Rattle.wrp_truth.proofs.Runs.LinksAbove.{above_at}
 use Rattle.wrp_truth.proofs.Runs.Suffixes.{at_newest}
 use Rattle.wrp_truth.proofs.Hops.TrackedHops.{TrackLaws, has_hop, node_at, track_chain, track_core, tracked_hop, new_state}
 
--- the laws that this stands on
-pub record HopLaws : Type 0 where
+-- the laws of the nodes in TRACK
+pub record FollowLaws : Type 0 where
   pub track : TrackLaws
   pub source : ChainHasSource
   pub top : TopIsTrue
+
+-- the laws that this stands on
+pub record HopLaws : Type 0 where
+  pub follow : FollowLaws
   pub short : HoldoverIsShort
   pub leaves : HoldoverIsFromTrack
   pub tree : TreeSum
@@ -95,15 +101,12 @@ source_up s w n up (inl top) = inl top
 source_up s w n up (inr (inl track)) = inr (inl (state_up s w n up ∙ track))
 source_up s w n up (inr (inr held)) = inr (inr (state_up s w n up ∙ held))
 
--- the same by the link above a node
-record TracksBelow (s : Setting) (events : List Happened) (n : ℕ) (link : LinkCfg) : Type 0 where
-  hop : IsWithin (hop_of s.cfg n) ((world_after s events).clock n).off ((world_after s events).clock link.upper).off
-  source : IsSource s.cfg (offsets_up s (world_after s events)) link.upper
-
+-- its bound is the hop's
 hop_is : (s : Setting) (n : ℕ) (hop : HopNumbers) → numbers_of s.cfg n ≡ Some hop → hop_of s.cfg n ≡ hop_bound hop
 hop_is s n hop is = ap (λ (o : Option HopNumbers). option_map_or hop_bound o 0) is
 
-lower_tracks : HopLaws → (s : Setting) (events : List Happened) (k : ℕ) (link : LinkCfg) → TrueRun s events → link_of s k ≡ Some link → link_above s.cfg link.lower ≡ Some link → (core_at s events link.lower).state ≡ Track → TracksBelow s events link.lower link
+-- so it is within its hop of its parent
+lower_tracks : FollowLaws → (s : Setting) (events : List Happened) (k : ℕ) (link : LinkCfg) → TrueRun s events → link_of s k ≡ Some link → link_above s.cfg link.lower ≡ Some link → (core_at s events link.lower).state ≡ Track → FollowsWithin s events link.lower link
 lower_tracks laws s events k link runs is above e =
     let w : WorldAt = world_after s events in
     let n : ℕ = link.lower in
@@ -111,13 +114,15 @@ lower_tracks laws s events k link runs is above e =
     let hop : (hop : HopNumbers) × (numbers_of s.cfg n ≡ Some hop) = has_hop s runs.run.network n link above in
     record {
       hop = subst (λ h. IsWithin h (w.clock n).off (w.clock link.upper).off) (sym (hop_is s n hop.0 hop.1)) (tracked_hop laws.track s events k link hop.0 runs is hop.1 e);
-      source = source_up s w link.upper it.parent it.source;
+      up = it.parent;
+      source = it.source;
     }
 
-node_tracks : HopLaws → (s : Setting) (events : List Happened) (n : ℕ) (link : LinkCfg) → TrueRun s events → link_above s.cfg n ≡ Some link → state_of (node_setting_of s n) ((world_after s events).node n) ≡ Track → TracksBelow s events n link
+-- the same by the link above a node
+node_tracks : FollowLaws → (s : Setting) (events : List Happened) (n : ℕ) (link : LinkCfg) → TrueRun s events → link_above s.cfg n ≡ Some link → state_of (node_setting_of s n) ((world_after s events).node n) ≡ Track → FollowsWithin s events n link
 node_tracks laws s events n link runs above e =
     let at : (k : ℕ) × (link_of s k ≡ Some link) × (link.lower ≡ n) = above_at s n link above in
-    subst (λ i. link_above s.cfg i ≡ Some link → (core_at s events i).state ≡ Track → TracksBelow s events i link) at.2
+    subst (λ i. link_above s.cfg i ≡ Some link → (core_at s events i).state ≡ Track → FollowsWithin s events i link) at.2
     (λ a t. lower_tracks laws s events at.0 link runs at.1 a t) above (track_core s events n link runs.run.network above e)
 
 -- A node in HOLDOVER
@@ -180,9 +185,11 @@ hops_by : HopLaws → (s : Setting) (events : List Happened) → TrueRun s event
 hops_by laws s events runs older =
     let w : WorldAt = world_after s events in
     record {
-      top = λ n above. laws.top s events n runs.run above;
-      hop = λ n link above e. (node_tracks laws s events n link runs above (shown (w.clock n).up (state_of (node_setting_of s n) (w.node n)) Track e new_state).1).hop;
-      source = λ n link above e. (node_tracks laws s events n link runs above (shown (w.clock n).up (state_of (node_setting_of s n) (w.node n)) Track e new_state).1).source;
+      top = λ n above. laws.follow.top s events n runs.run above;
+      hop = λ n link above e. (node_tracks laws.follow s events n link runs above (shown (w.clock n).up (state_of (node_setting_of s n) (w.node n)) Track e new_state).1).hop;
+      source = λ n link above e.
+          let it : FollowsWithin s events n link = node_tracks laws.follow s events n link runs above (shown (w.clock n).up (state_of (node_setting_of s n) (w.node n)) Track e new_state).1 in
+          source_up s w link.upper it.up it.source;
       held = λ n e. let it : _ = shown (w.clock n).up (state_of (node_setting_of s n) (w.node n)) Holdover e not_held in held_any laws s events n (link_above s.cfg n) runs older refl it.0 it.1;
     }
 
@@ -208,3 +215,36 @@ offsets_keep_bounds laws s events n runs inside up =
     let w : WorldAt = world_after s events in
     let b : IsBounded s.cfg (offsets_up s w) n = laws.tree s.cfg (offsets_up s w) n runs.run.network.accepted.tree inside (hops_hold laws s events runs) in
     record { track = λ e. b.track (state_up s w n up ∙ e); held = λ e. b.held (state_up s w n up ∙ e) }
+
+-- The hops of nodes in TRACK
+
+pub tracks_follow : FollowLaws → TracksFollow
+tracks_follow laws s events n link runs above e = node_tracks laws s events n link runs above e
+
+near_both : (h k : ℕ) (a b p : ℤ) → unsigned_abs (a -ℤ p) ≤ h → unsigned_abs (b -ℤ p) ≤ k → unsigned_abs (a -ℤ b) ≤ h + k
+near_both h k a b p one other = omega (arith, ints)
+
+pub siblings_agree : FollowLaws → SiblingsAgree
+siblings_agree laws s events m n one other runs above below same e f =
+    let w : WorldAt = world_after s events in
+    let x : FollowsWithin s events m one = node_tracks laws s events m one runs above e in
+    let y : FollowsWithin s events n other = node_tracks laws s events n other runs below f in
+    near_both (hop_of s.cfg m) (hop_of s.cfg n) (w.clock m).off (w.clock n).off (w.clock one.upper).off x.hop
+    (subst (λ i. IsWithin (hop_of s.cfg n) (w.clock n).off (w.clock i).off) (sym same) y.hop)
+
+-- one hop more from true time
+add_hop : (h k : ℕ) (a p : ℤ) → unsigned_abs (a -ℤ p) ≤ h → unsigned_abs p ≤ k → unsigned_abs a ≤ h + k
+add_hop h k a p one rest = omega (arith, ints)
+
+no_offset : (a : ℤ) → a ≡ pos 0 → unsigned_abs a ≤ 0
+no_offset a e = omega (arith, ints)
+
+pub tracks_add_up : FollowLaws → TracksAddUp
+tracks_add_up laws s events n [] runs above = no_offset ((world_after s events).clock n).off (laws.top s events n runs.run above)
+tracks_add_up laws s events n (link ∷ links) runs way =
+    let w : WorldAt = world_after s events in
+    let it : FollowsWithin s events n link = node_tracks laws s events n link runs way.0 way.1 in
+    let lower : link.lower ≡ n = (above_at s n link way.0).2 in
+    add_hop (hop_of s.cfg link.lower) (hops_on s.cfg links) (w.clock n).off (w.clock link.upper).off
+    (subst (λ i. IsWithin (hop_of s.cfg i) (w.clock n).off (w.clock link.upper).off) (sym lower) it.hop)
+    (tracks_add_up laws s events link.upper links runs way.2)
