@@ -6,7 +6,7 @@ use Rattle.wrp_pcap.specs.declared.capture.CaptureFault.{CaptureFault}
 use Rattle.wrp_pcap.specs.declared.capture.Order.TheVariants.{Big, Little}
 use Rattle.wrp_pcap.specs.Capture.{HasHeader, HasPacketFault, IsFile}
 use Rattle.wrp_pcap.specs.Ethernet.{type_at, Carries}
-use Rattle.wrp_pcap.specs.CaptureRows.{worked_header, worked_numbers, worked_packet, worked_capture, long_numbers, IsFirstRefused, CapturesAreRows}
+use Rattle.wrp_pcap.specs.CaptureRows.{worked_header, worked_numbers, worked_packet, worked_capture, long_numbers, longest_numbers, IsFirstRefused, CapturesAreRows}
 
 low : HasHeader Little worked_header
 low = record { whole = omega arith; magic = refl; link_type = refl }
@@ -43,6 +43,24 @@ one frame long =
       };
     }
 
+longest : (octets : List ℕ) → length octets ≡ 262144
+    → IsFile (record { numbers = longest_numbers; octets = octets } ∷ []) None (worked_header ++ (longest_numbers ++ octets))
+longest octets all =
+    let kept : take 262144 octets ≡ octets = take_all 262144 octets (omega (arith, all)) in
+    record {
+      order = Little;
+      header = record { whole = omega (arith, length-append worked_header (longest_numbers ++ octets)); magic = refl; link_type = refl };
+      reading = record {
+        rest = [];
+        begins = (
+          record { numbers = omega (arith, length-append longest_numbers octets); short = omega arith; own = omega (arith, all, length-append longest_numbers octets) },
+          ap (λ o. record { numbers = longest_numbers; octets = o }) (sym kept),
+          drop_all 262144 octets (omega (arith, all)),
+        );
+        ends = refl;
+      };
+    }
+
 -- an EtherType stands at place 12, or behind it
 least_place : (b : Bool) → 12 ≤ (if b then 16 else 12)
 least_place true = omega arith
@@ -57,6 +75,7 @@ pub rows : CapturesAreRows
 rows = record {
   none = record { order = Little; header = low; reading = record { rest = []; begins = refl; ends = refl } };
   one = one;
+  longest = longest;
   cut = λ frame long. refused Packet (worked_numbers ++ worked_packet frame)
       (omega (arith, length-append worked_numbers (worked_packet frame)), omega arith, omega (arith, long, length-append worked_numbers (worked_packet frame)));
   long = refused Long long_numbers (omega arith, omega arith);

@@ -44,6 +44,10 @@ worked_capture frame = worked_header ++ (worked_numbers ++ worked_packet frame)
 abbrev pub long_numbers : List ℕ
 long_numbers = 0 ∷ 0 ∷ 0 ∷ 0 ∷ 0 ∷ 0 ∷ 0 ∷ 0 ∷ 1 ∷ 0 ∷ 4 ∷ 0 ∷ 70 ∷ 0 ∷ 0 ∷ 0 ∷ []
 
+-- the same with a captured length of 262,144, the greatest
+abbrev pub longest_numbers : List ℕ
+longest_numbers = 0 ∷ 0 ∷ 0 ∷ 0 ∷ 0 ∷ 0 ∷ 0 ∷ 0 ∷ 0 ∷ 0 ∷ 4 ∷ 0 ∷ 70 ∷ 0 ∷ 0 ∷ 0 ∷ []
+
 -- the first packet is refused
 abbrev pub IsFirstRefused : CaptureFault → List ℕ → Type 0
 IsFirstRefused fault octets = IsReadAs [] (Some (record { packet = 1; fault = fault })) octets
@@ -56,6 +60,10 @@ pub record CapturesAreRows : Type 0 where
   pub one : (frame : List ℕ) → length frame ≡ 56
       → IsReadAs (record { numbers = worked_numbers; octets = worked_packet frame } ∷ []) None
       (worked_capture frame)
+  -- so it is with a packet of 262,144 octets, the most that a packet may have
+  pub longest : (octets : List ℕ) → length octets ≡ 262_144
+      → IsReadAs (record { numbers = longest_numbers; octets = octets } ∷ []) None
+      (worked_header ++ (longest_numbers ++ octets))
   -- without the last octet the first packet is refused; so it is where the captured length is one more than the
   -- most, and nothing stands behind the numbers; and where the numbers are cut
   pub cut : (frame : List ℕ) → length frame ≡ 55 → IsFirstRefused Packet (worked_capture frame)

@@ -9,6 +9,7 @@ pub mod Marks
 pub mod StandsFor
 pub mod Words
 pub mod Worked
+pub mod WorkedMarks
 pub mod Content
 pub mod PacketLines
 pub mod InspectLaws

@@ -2,6 +2,7 @@
 //! that the law holds.
 ghost use Rattle.wrp_pcap.specs.Laws.{CertificateIsDue, CompleteRises};
 ghost use Rattle.wrp_pcap.specs.Worked.{WorkedCertificates};
+ghost use Rattle.wrp_pcap.specs.WorkedMarks.{MarksOfEight};
 
 /// The verdict on a WR_MODE_ON, without the recursion that finds it: each message is the last of its kind
 /// before the next one of the handshake; the greatest place of which there is none is missing; and the
@@ -18,4 +19,9 @@ pub fn complete_rises()
 /// What is told in certain captures.
 pub fn worked_certificates()
     ensures { WorkedCertificates }
+{}
+
+/// The marks that a handshake in the packets 1 to 8 leaves at the slave and at the master, written out.
+pub fn marks_of_eight()
+    ensures { MarksOfEight }
 {}

@@ -33,7 +33,7 @@ pub use histories::marks;
 pub use inspect_laws::{complete_is_judged, one_is_due, refusals_stay};
 pub use inspecting::inspect;
 pub use inspection::Inspection;
-pub use laws::{certificate_is_due, complete_rises, worked_certificates};
+pub use laws::{certificate_is_due, complete_rises, marks_of_eight, worked_certificates};
 pub use pairs::Pairs;
 pub use verdict::Verdict8;
 pub use words::{frame_fault_number, frame_fault_word, kind_word, message_word};
