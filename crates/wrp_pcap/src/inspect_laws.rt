@@ -1,6 +1,7 @@
 //! What holds of every inspection. The functions here do nothing: their contracts are laws, and their
 //! proofs show that the laws hold.
 ghost use Rattle.wrp_pcap.specs.InspectLaws.{OneIsDue, RefusalsStay, CompleteIsJudged};
+ghost use Rattle.wrp_pcap.specs.InspectLaws.{PacketsAreLimited};
 
 /// Of each input one status and one text are due.
 pub fn one_is_due()
@@ -11,6 +12,12 @@ pub fn one_is_due()
 /// however the input goes on.
 pub fn refusals_stay()
     ensures { RefusalsStay }
+{}
+
+/// A capture of up to 4,294,967,295 packets is inspected to its end. If a byte follows so many, the lines
+/// of these packets are expected, and then `too-large 4294967296`.
+pub fn packets_are_limited()
+    ensures { PacketsAreLimited }
 {}
 
 /// The numbers of each `complete` that is printed rise, and by the marks of these numbers both ends are in
