@@ -1,161 +1,111 @@
--- The frame on a fibre that is due first, sought through the numbers of those on a fibre.
-use Rattle.std.proofs.Common.{◌≡◌, ◌∙◌, refl, ap, sym, subst, ℕ, ◌+◌, ◌<◌, ◌≤◌, ◌==◌, ◌||◌, ◌&&◌, ◌⊎◌, inl, inr, ℤ, ◌<ℤ◌, nat_lt, Bool, true, false, if◌then◌else◌, List, [], ◌∷◌, length, drop, Option, None, Some, slice_index_or, arith}
-use Rattle.std.proofs.Math.ListN.{drop_of_length-le}
+-- The frame on a fibre that is due first: the first one of those that are ordered by the times at which they are due.
+use Rattle.std.proofs.Common.{◌≡◌, ◌∙◌, refl, ap, sym, subst, ℕ, ◌<◌, ◌≤◌, ◌⊎◌, inl, inr, ℤ, ◌<ℤ◌, Bool, true, false, cond, List, [], ◌∷◌, length, Option, None, Some, arith}
 use Rattle.std.proofs.lemmas.Bool.{false_from_ne_true}
 use Rattle.std.proofs.lemmas.Int.{ints}
-use Rattle.std.proofs.lemmas.List.{drop_more}
-use Rattle.std.specs.Int.Signed.{le_z, lt_z}
+use Rattle.std.specs.BTreeMap.{is_at}
+use Rattle.std.specs.Cmp.{int_ranks, ranks}
+use Rattle.std.specs.Option.{option_map_or}
+use Rattle.std.specs.Ordering.{int_cmp, nat_cmp, ordering_then, is_gt, MatchOrdering}
+use Rattle.std.specs.declared.cmp.Ordering.{Ordering}
+use Rattle.std.specs.declared.cmp.Ordering.TheVariants.{Less, Equal, Greater}
 use Rattle.wrp_flights.specs.declared.departed.Departed.{Departed}
+use Rattle.wrp_flights.specs.Ages.{age_cmp, has}
 use Rattle.wrp_flights.specs.Departed.{is_on}
-use Rattle.wrp_flights.specs.Frames.{at}
-use Rattle.wrp_flights.specs.Listing.{has_number}
-use Rattle.wrp_flights.specs.Next.{IsFirst, before, sooner}
-use Rattle.wrp_flights.proofs.Losses.{same_numbers}
+use Rattle.wrp_flights.specs.Frames.{at, on_at}
+use Rattle.wrp_flights.specs.Next.{Dues, FirstIs, IsFirst, IsLeast, IsSoonest, Orders, TookLanded}
+use Rattle.wrp_flights.proofs.Putting.{same_number_of}
 
--- due no sooner
-abbrev pub NoSooner : (due : ℤ) (number : ℕ) → ℕ → Departed → Type 0
-NoSooner due number k d = (due <ℤ d.due) ⊎ ((due ≡ d.due) × (number ≤ k))
+no : false ≡ true → ⊥
+no e = cc
 
--- the first so far: each frame on a fibre is due no sooner, or its number is still to come
-pub record SoonestOf (kept : List (ℕ × Departed)) (left : List ℕ) (number : ℕ) (due : ℤ) : Type 0 where
-  pub frame : Departed
-  pub is : at number kept ≡ Some frame
-  pub on : is_on frame ≡ true
-  pub when : frame.due ≡ due
-  pub least : (k : ℕ) (d : Departed) → at k kept ≡ Some d → is_on d ≡ true → (has_number k left ≡ true) ⊎ NoSooner due number k d
+-- Which of two comes first
 
-abbrev pub FirstOf : List (ℕ × Departed) → List ℕ → Option (ℕ × ℤ) → Type 0
-FirstOf kept left None = (k : ℕ) (d : Departed) → at k kept ≡ Some d → is_on d ≡ true → has_number k left ≡ true
-FirstOf kept left (Some first) = SoonestOf kept left first.0 first.1
+no_later : (a b : ℤ × ℕ) → is_gt (age_cmp a b) ≡ false → (a.0 <ℤ b.0) ⊎ ((a.0 ≡ b.0) × (a.1 ≤ b.1))
+no_later a b e = by_ranks (int_cmp a.0 b.0) (nat_cmp a.1 b.1) (int_ranks a.0 b.0) (ranks a.1 b.1) e where
+  by_ranks : (r s : Ordering) → MatchOrdering r (a.0 <ℤ b.0) (a.0 ≡ b.0) (b.0 <ℤ a.0) → MatchOrdering s (a.1 < b.1) (a.1 ≡ b.1) (b.1 < a.1) →
+      is_gt (ordering_then r s) ≡ false → (a.0 <ℤ b.0) ⊎ ((a.0 ≡ b.0) × (a.1 ≤ b.1))
+  by_ranks Less s m n e = inl m
+  by_ranks Equal Less m n e = inr (m, omega (arith, n))
+  by_ranks Equal Equal m n e = inr (m, omega (arith, n))
+  by_ranks Equal Greater m n e = absurd cc
+  by_ranks Greater s m n e = absurd cc
 
-some_is : (d g : Departed) → Some d ≡ Some g → d ≡ g
-some_is d g e = cc
-
--- a number that was to come is this one, or still to come
-this_or_left : (n k : ℕ) (left : List ℕ) → has_number k (n ∷ left) ≡ true → (n ≡ k) ⊎ (has_number k left ≡ true)
-this_or_left n k left e = by_test (n == k) refl where
-  by_test : (b : Bool) → (n == k) ≡ b → (n ≡ k) ⊎ (has_number k left ≡ true)
-  by_test true f = inl (same_numbers n k f)
-  by_test false f = inr (sym (ap (λ x. x || has_number k left) f) ∙ e)
-
--- no frame on a fibre stands at this number
-passed_over : (kept : List (ℕ × Departed)) (left : List ℕ) (n : ℕ) → ((d : Departed) → at n kept ≡ Some d → is_on d ≡ true → ⊥) →
-    (next : Option (ℕ × ℤ)) → FirstOf kept (n ∷ left) next → FirstOf kept left next
-passed_over kept left n off None f = λ k d e on. elim (this_or_left n k left (f k d e on)) [
-  | inl same ↦ absurd (off d (subst (λ m. at m kept ≡ Some d) (sym same) e) on)
-  | inr more ↦ more
-]
-passed_over kept left n off (Some first) f = record {
-  frame = f.frame;
-  is = f.is;
-  on = f.on;
-  when = f.when;
-  least = λ k d e on. elim (f.least k d e on) [
-    | inl listed ↦ elim (this_or_left n k left listed) [
-      | inl same ↦ absurd (off d (subst (λ m. at m kept ≡ Some d) (sym same) e) on)
-      | inr more ↦ inl more
-    ]
-    | inr later ↦ inr later
-  ];
-}
-
--- the frame of this number is on a fibre
-
-not_before : (due other : ℤ) (n m : ℕ) → lt_z due other || (le_z due other && nat_lt n m) ≡ false → (other <ℤ due) ⊎ ((other ≡ due) × (m ≤ n))
-not_before due other n m e = search (arith, ints, e)
-
-is_before : (due other : ℤ) (n m : ℕ) → lt_z due other || (le_z due other && nat_lt n m) ≡ true → (due <ℤ other) ⊎ ((due ≡ other) × (n ≤ m))
-is_before due other n m e = search (arith, ints, e)
-
-later_on : (a b c : ℤ) (n m k : ℕ) → (a <ℤ b) ⊎ ((a ≡ b) × (n ≤ m)) → (b <ℤ c) ⊎ ((b ≡ c) × (m ≤ k)) → (a <ℤ c) ⊎ ((a ≡ c) × (n ≤ k))
-later_on a b c n m k p q = elim p [
-  | inl less ↦ elim q [
-    | inl more ↦ inl (omega (arith, ints, less, more))
-    | inr same ↦ inl (omega (arith, ints, less, same.0))
+-- two that both come first have one number
+one_first : (a b : ℤ × ℕ) → is_gt (age_cmp a b) ≡ false → is_gt (age_cmp b a) ≡ false → a.1 ≡ b.1
+one_first a b e f = elim (no_later a b e) [
+  | inl less ↦ elim (no_later b a f) [
+    | inl more ↦ absurd (omega (arith, ints, less, more))
+    | inr same ↦ absurd (omega (arith, ints, less, same.0))
   ]
-  | inr alike ↦ elim q [
-    | inl more ↦ inl (omega (arith, ints, alike.0, more))
-    | inr same ↦ inr (alike.0 ∙ same.0, omega (arith, alike.1, same.1))
+  | inr alike ↦ elim (no_later b a f) [
+    | inl more ↦ absurd (omega (arith, ints, alike.0, more))
+    | inr same ↦ omega (arith, alike.1, same.1)
   ]
 ]
 
-taken : (kept : List (ℕ × Departed)) (left : List ℕ) (n : ℕ) (x : Departed) → at n kept ≡ Some x → is_on x ≡ true →
-    (next : Option (ℕ × ℤ)) → FirstOf kept (n ∷ left) next → FirstOf kept left (before next n x.due)
-taken kept left n x is on None f = record {
-  frame = x;
-  is = is;
-  on = on;
-  when = refl;
-  least = λ k d e o. elim (this_or_left n k left (f k d e o)) [
-    | inl same ↦ inr (inr (ap (λ (y : Departed). y.due) (some_is x d (sym is ∙ ap (λ m. at m kept) same ∙ e)), omega (arith, same)))
-    | inr more ↦ inl more
-  ];
-}
-taken kept left n x is on (Some first) f = by_test (lt_z x.due first.1 || (le_z x.due first.1 && nat_lt n first.0)) refl where
-  -- the frame of this number itself
-  itself : (k : ℕ) (d : Departed) → at k kept ≡ Some d → n ≡ k → x.due ≡ d.due
-  itself k d e same = ap (λ (y : Departed). y.due) (some_is x d (sym is ∙ ap (λ m. at m kept) same ∙ e))
+-- Whether the first one's frame is on a fibre
 
-  by_test : (b : Bool) → lt_z x.due first.1 || (le_z x.due first.1 && nat_lt n first.0) ≡ b → FirstOf kept left (if b then Some (n, x.due) else Some first)
-  by_test true t = record {
-    frame = x;
-    is = is;
-    on = on;
-    when = refl;
-    least = λ k d e o. elim (f.least k d e o) [
-      | inl listed ↦ elim (this_or_left n k left listed) [
-        | inl same ↦ inr (inr (itself k d e same, omega (arith, same)))
-        | inr more ↦ inl more
-      ]
-      | inr later ↦ inr (later_on x.due first.1 d.due n first.0 k (is_before x.due first.1 n first.0 t) later)
-    ];
-  }
-  by_test false t = record {
-    frame = f.frame;
-    is = f.is;
-    on = f.on;
-    when = f.when;
-    least = λ k d e o. elim (f.least k d e o) [
-      | inl listed ↦ elim (this_or_left n k left listed) [
-        | inl same ↦ inr (later_on first.1 x.due d.due first.0 n k (not_before x.due first.1 n first.0 t) (inr (itself k d e same, omega (arith, same))))
-        | inr more ↦ inl more
-      ]
-      | inr later ↦ inr later
-    ];
-  }
+pub first_told : (kept : List (ℕ × Departed)) (dues : List (ℤ × ℕ)) (o : ℤ × ℕ) (b : Bool) → has o.0 o.1 dues ≡ true →
+    ((q : ℤ × ℕ) → has q.0 q.1 dues ≡ true → is_gt (age_cmp o q) ≡ false) → on_at kept o.1 ≡ b → FirstIs b kept dues
+first_told kept dues o b there least on t k e l = subst (λ q. on_at kept q ≡ b) (one_first o (t, k) (least (t, k) e) (l o.0 o.1 there)) on
 
-step : (kept : List (ℕ × Departed)) (left : List ℕ) (n : ℕ) (next : Option (ℕ × ℤ)) (o : Option Departed) → at n kept ≡ o → FirstOf kept (n ∷ left) next → FirstOf kept left (sooner next n o)
-step kept left n next None e f = passed_over kept left n (λ d i on. no d (sym e ∙ i)) next f where
-  no : (d : Departed) → None ≡ Some d → ⊥
-  no d e = cc
-step kept left n next (Some x) e f = by_test (is_on x) refl where
-  by_test : (b : Bool) → is_on x ≡ b → FirstOf kept left (if b then before next n x.due else next)
-  by_test true on = taken kept left n x e on next f
-  by_test false off = passed_over kept left n (λ d i on. no (sym off ∙ ap is_on (some_is x d (sym e ∙ i)) ∙ on)) next f where
-    no : false ≡ true → ⊥
-    no e = cc
+pub none_first : (kept : List (ℕ × Departed)) (dues : List (ℤ × ℕ)) (b : Bool) → (0 < length dues → ⊥) → FirstIs b kept dues
+none_first kept [] b n t k e l = absurd (no e)
+none_first kept (x ∷ dues) b n t k e l = absurd (n (omega arith))
 
-pub first_next : (kept : List (ℕ × Departed)) (numbers : List ℕ) (i : ℕ) (next : Option (ℕ × ℤ)) → i < length numbers → FirstOf kept (drop i numbers) next →
-    FirstOf kept (drop (i + 1) numbers) (sooner next (slice_index_or numbers i 0) (at (slice_index_or numbers i 0) kept))
-first_next kept numbers i next l f =
-    step kept (drop (i + 1) numbers) (slice_index_or numbers i 0) next (at (slice_index_or numbers i 0) kept) refl
-    (subst (λ left. FirstOf kept left next) (drop_more numbers i 0 l) f)
+-- The first one is taken out
 
--- no number is left
-
-first_is : (kept : List (ℕ × Departed)) (next : Option (ℕ × ℤ)) → FirstOf kept [] next → IsFirst kept next
-first_is kept None f = λ k d e. false_from_ne_true (is_on d) (λ on. no (f k d e on)) where
-  no : false ≡ true → ⊥
-  no e = cc
-first_is kept (Some first) f = record {
-  frame = f.frame;
-  is = f.is;
-  on = f.on;
-  when = f.when;
-  least = λ k d e on. elim (f.least k d e on) [ inl listed ↦ absurd (no listed) | inr later ↦ later ];
+pub took : (kept : List (ℕ × Departed)) (old new : List (ℤ × ℕ)) (o : ℤ × ℕ) → FirstIs false kept old → has o.0 o.1 old ≡ true →
+    ((q : ℤ × ℕ) → has q.0 q.1 old ≡ true → is_gt (age_cmp o q) ≡ false) →
+    ((q : ℤ × ℕ) → has q.0 q.1 new ≡ cond (is_at (age_cmp o) q) false (has q.0 q.1 old)) → old ≡ o ∷ new → TookLanded kept old new
+took kept old new o f there least u taken_off = record {
+  others = λ t k e on. u (t, k) ∙ other t k on (is_at (age_cmp o) (t, k)) refl e;
+  fewer = λ t k e. taken (is_at (age_cmp o) (t, k)) (has t k old) (sym (u (t, k)) ∙ e);
+  less = subst (λ l. length new < length l) (sym taken_off) (omega arith);
 } where
-  no : false ≡ true → ⊥
-  no e = cc
+  other : (t : ℤ) (k : ℕ) → on_at kept k ≡ true → (b : Bool) → is_at (age_cmp o) (t, k) ≡ b → has t k old ≡ true → cond b false (has t k old) ≡ true
+  other t k on true x e =
+      let off : on_at kept o.1 ≡ false = f o.0 o.1 there (λ u q. least (u, q)) in
+      absurd (no (sym off ∙ subst (λ q. on_at kept q ≡ true) (sym (same_number_of o (t, k) x)) on))
+  other t k on false x e = e
 
-pub first_all : (kept : List (ℕ × Departed)) (numbers : List ℕ) (i : ℕ) (next : Option (ℕ × ℤ)) → length numbers ≤ i → FirstOf kept (drop i numbers) next → IsFirst kept next
-first_all kept numbers i next l f = first_is kept next (subst (λ left. FirstOf kept left next) (drop_of_length-le numbers l) f)
+  taken : (b m : Bool) → cond b false m ≡ true → m ≡ true
+  taken true m e = absurd (no e)
+  taken false m e = e
+
+-- All are taken out before the first one whose frame is on a fibre
+
+pub record Settling (kept : List (ℕ × Departed)) (before now : List (ℤ × ℕ)) : Type 0 where
+  pub listed : Dues kept now
+  pub fewer : (t : ℤ) (k : ℕ) → has t k now ≡ true → has t k before ≡ true
+
+is_on_at : (kept : List (ℕ × Departed)) (k : ℕ) (d : Departed) → at k kept ≡ Some d → is_on d ≡ true → on_at kept k ≡ true
+is_on_at kept k d i on = ap (λ o. option_map_or is_on o false) i ∙ on
+
+pub starts : (kept : List (ℕ × Departed)) (dues : List (ℤ × ℕ)) → Dues kept dues → Settling kept dues dues
+starts kept dues l = record { listed = l; fewer = λ t k e. e }
+
+pub settling : (kept : List (ℕ × Departed)) (before now next : List (ℤ × ℕ)) → Settling kept before now → TookLanded kept now next → Settling kept before next
+settling kept before now next s t = record {
+  listed = λ k d i on. t.others d.due k (s.listed k d i on) (is_on_at kept k d i on);
+  fewer = λ u k e. s.fewer u k (t.fewer u k e);
+}
+
+-- The first one is due first
+
+pub first_due : (sent : List ℤ) (kept : List (ℕ × Departed)) (dues : List (ℤ × ℕ)) (o : ℤ × ℕ) → Orders sent kept dues → has o.0 o.1 dues ≡ true →
+    ((q : ℤ × ℕ) → has q.0 q.1 dues ≡ true → is_gt (age_cmp o q) ≡ false) → IsFirst kept (Some (o.1, o.0))
+first_due sent kept dues o s there least = by_frame (at o.1 kept) refl (s.first o.0 o.1 there (λ u q. least (u, q))) where
+  by_frame : (p : Option Departed) → at o.1 kept ≡ p → on_at kept o.1 ≡ true → IsSoonest kept o.1 o.0
+  by_frame None i on = absurd (no (sym (ap (λ p. option_map_or is_on p false) i) ∙ on))
+  by_frame (Some d) i on = record {
+    frame = d;
+    is = i;
+    on = sym (ap (λ p. option_map_or is_on p false) i) ∙ on;
+    when = s.dated.due o.0 o.1 d there i;
+    least = λ k g j at_k. no_later o (g.due, k) (least (g.due, k) (s.listed k g j at_k));
+  }
+
+pub none_due : (sent : List ℤ) (kept : List (ℕ × Departed)) (dues : List (ℤ × ℕ)) → Orders sent kept dues → (0 < length dues → ⊥) → IsFirst kept None
+none_due sent kept [] s n = λ k d i. false_from_ne_true (is_on d) (λ on. no (s.listed k d i on))
+none_due sent kept (x ∷ dues) s n = absurd (n (omega arith))

@@ -13,12 +13,12 @@ use Rattle.wrp_flights.specs.declared.departed.Reception.{Reception}
 use Rattle.wrp_flights.specs.declared.losing.Loss.{Loss}
 use Rattle.wrp_flights.specs.declared.losing.Loss.TheVariants.{Link, Node, Older}
 use Rattle.wrp_flights.specs.Departed.{is_kept, is_on, is_young, kept_in, lost, receive, turn_in}
-use Rattle.wrp_flights.specs.Frames.{at}
-use Rattle.wrp_flights.specs.Listing.{Lists, Settled, has_number, on_at}
+use Rattle.wrp_flights.specs.Frames.{at, on_at}
+use Rattle.wrp_flights.specs.Listing.{Lists, Settled, has_number}
 use Rattle.wrp_flights.specs.Losing.{arrives_by, is_older, lost_by, meets}
 use Rattle.wrp_flights.proofs.Passing.{same_number}
 use Rattle.wrp_flights.proofs.Putting.{equal_numbers}
-use Rattle.wrp_flights.proofs.Staying.{CameFrom, came_from}
+use Rattle.wrp_flights.proofs.Staying.{CameFrom, Stills, came_from}
 
 -- each frame is lost already, or is as it was, and its number still to come
 pub record Losing (h : ℤ) (change : ℕ → Departed → Departed) (before now : List (ℕ × Departed)) (left : List ℕ) : Type 0 where
@@ -223,6 +223,24 @@ pub arrives_kept : (h : ℤ) (reception : Reception) (j link : ℕ) (by : Role) 
 arrives_kept h reception j link by links kept between after e f q =
     f q ∙ ap (turn_in h (lost_by links (Older j link by) q)) (e q)
     ∙ arrives_one h reception j link by q (at q kept) (is_at (nat_cmp j) q) (q == j) (equal_numbers j q)
+
+-- frames that are lost are due when they were, and none comes to be on a fibre
+pub lost_stills : (links : List LinkCfg) (loss : Loss) → Stills (lost_by links loss)
+lost_stills links loss = record { due = λ q d. refl; on = λ q d e. on_was d.gone (is_some d.arrival) (meets links loss q d) e }
+
+pub arrives_stills : (j : ℕ) (reception : Reception) (link : ℕ) (by : Role) → Stills (arrives_by j reception link by)
+arrives_stills j reception link by = record { due = λ q d. due_at (q == j) d; on = λ q d e. on_at_test (q == j) d (on_was _ _ (is_older j link by q d) e) } where
+  due_at : (b : Bool) (d : Departed) → (if b then receive reception d else d).due ≡ d.due
+  due_at true d = refl
+  due_at false d = refl
+
+  never_on : (g : Bool) → (if g then false else false) ≡ true → ⊥
+  never_on true e = cc
+  never_on false e = cc
+
+  on_at_test : (b : Bool) (d : Departed) → is_on (if b then receive reception d else d) ≡ true → is_on d ≡ true
+  on_at_test true d e = absurd (never_on d.gone e)
+  on_at_test false d e = e
 
 -- the time at which it was put out stays
 pub arrives_sent : (j : ℕ) (reception : Reception) (link : ℕ) (by : Role) (q : ℕ) (d : Departed) → (arrives_by j reception link by q d).sent ≡ d.sent

@@ -1,15 +1,17 @@
 -- What the window keeps as a frame departs.
-use Rattle.std.proofs.Common.{◌≡◌, ◌∙◌, refl, ap, sym, subst, ℕ, zero, suc, ◌+◌, ◌==◌, ◌||◌, ℤ, Bool, true, false, cond, if◌then◌else◌, List, [], ◌∷◌, ◌++◌, length, Option, Some, slice_get, arith}
+use Rattle.std.proofs.Common.{◌≡◌, ◌∙◌, refl, ap, sym, subst, ℕ, zero, suc, ◌+◌, ◌≤◌, ◌==◌, ◌||◌, ℤ, Bool, true, false, cond, if◌then◌else◌, List, [], ◌∷◌, ◌++◌, length, Option, Some, slice_get, arith}
 use Rattle.std.proofs.lemmas.Map.Lookups.{exact_pairs, exact_signed, exact_unsigned}
 use Rattle.std.proofs.lemmas.Option.{slice_get_within}
 use Rattle.std.specs.BTreeMap.{is_at}
 use Rattle.std.specs.Cmp.{unsigned_tied}
+use Rattle.std.specs.Option.{option_map_or}
 use Rattle.std.specs.Ordering.{nat_cmp, int_cmp}
 use Rattle.wrp_flights.specs.declared.departed.Departed.{Departed}
-use Rattle.wrp_flights.specs.Ages.{Aged, age_cmp, has}
+use Rattle.wrp_flights.specs.Ages.{Adds, AddsNone, Aged, age_cmp, has}
 use Rattle.wrp_flights.specs.Departed.{is_kept, is_on, is_young}
-use Rattle.wrp_flights.specs.Frames.{at, sent_at}
+use Rattle.wrp_flights.specs.Frames.{at, on_at, sent_at}
 use Rattle.wrp_flights.specs.Listing.{Holds, Lists, has_number}
+use Rattle.wrp_flights.specs.Next.{IsLeast, Orders}
 use Rattle.wrp_flights.proofs.Passing.{equal_is, same_number}
 
 some_is : (f g : Departed) → Some f ≡ Some g → f ≡ g
@@ -35,11 +37,15 @@ sent_last sent t n k e g =
 same_age : (a b : ℤ × ℕ) → is_at (age_cmp a) b ≡ true → a ≡ b
 same_age a b e = exact_pairs int_cmp nat_cmp exact_signed exact_unsigned a b (equal_is (age_cmp a b) e)
 
-same_number_of : (a b : ℤ × ℕ) → is_at (age_cmp a) b ≡ true → a.1 ≡ b.1
+pub same_number_of : (a b : ℤ × ℕ) → is_at (age_cmp a) b ≡ true → a.1 ≡ b.1
 same_number_of a b e = ap (λ p. p.1) (same_age a b e)
 
 same_time_of : (a b : ℤ × ℕ) → is_at (age_cmp a) b ≡ true → a.0 ≡ b.0
 same_time_of a b e = ap (λ p. p.0) (same_age a b e)
+
+or_had : (b c : Bool) → c ≡ true → cond b true c ≡ true
+or_had true c i = refl
+or_had false c i = i
 
 pub put_aged :
     (h : ℤ) (sent : List ℤ) (kept after : List (ℕ × Departed)) (ages more : List (ℤ × ℕ)) (n : ℕ) (frame : Departed) → n ≡ length sent + 1 → is_on frame ≡ true → Aged h sent kept ages →
@@ -59,10 +65,6 @@ put_aged h sent kept after ages more n frame e on a g m there = record {
   kept_at : (k : ℕ) (f : Departed) (b : Bool) → cond b (Some frame) (at k kept) ≡ Some f → is_kept h f ≡ true
   kept_at k f true i = subst (λ x. is_kept h x ≡ true) (some_is frame f i) (ap (λ x. if x then true else is_young h frame) on)
   kept_at k f false i = a.kept_is k f i
-
-  or_had : (b c : Bool) → c ≡ true → cond b true c ≡ true
-  or_had true c i = refl
-  or_had false c i = i
 
   young_at : (k : ℕ) (f : Departed) (b : Bool) → is_at (nat_cmp n) k ≡ b → cond b (Some frame) (at k kept) ≡ Some f → is_young h f ≡ true → has f.sent k more ≡ true
   young_at k f true x i y = subst (λ d. has d.sent k more ≡ true) (some_is frame f i) (subst (λ q. has frame.sent q more ≡ true) (same_number n k x) there)
@@ -116,26 +118,107 @@ put_lists n frame kept after numbers g l k d e on = by_test (is_at (nat_cmp n) k
   by_test true x i = listed_last k n numbers (sym (unsigned_tied n k) ∙ x)
   by_test false x i = listed_more k n numbers (l k d i on)
 
+-- The order in which frames on fibres are due
+
+length_last : (sent : List ℤ) (t : ℤ) → length (sent ++ t ∷ []) ≡ length sent + 1
+length_last [] t = refl
+length_last (s ∷ sent) t = let more = length_last sent t in omega (arith, more)
+
+no : false ≡ true → ⊥
+no e = cc
+
+at_itself : (n k : ℕ) → n ≡ k → is_at (nat_cmp n) k ≡ true
+at_itself n k e = unsigned_tied n k ∙ search (arith, e)
+
+put_orders :
+    (sent : List ℤ) (kept after : List (ℕ × Departed)) (dues more : List (ℤ × ℕ)) (n : ℕ) (frame : Departed) → n ≡ length sent + 1 → is_on frame ≡ true → Orders sent kept dues →
+    ((k : ℕ) → at k after ≡ cond (is_at (nat_cmp n) k) (Some frame) (at k kept)) → Adds frame.due n dues more → Orders (sent ++ frame.sent ∷ []) after more
+put_orders sent kept after dues more n frame e on s g m = record {
+  listed = λ k d i o. listed_at k d (is_at (nat_cmp n) k) refl (sym (g k) ∙ i) o;
+  dated = record {
+    due = λ t k d h i. due_at t k d (is_at (age_cmp (frame.due, n)) (t, k)) (is_at (nat_cmp n) k) refl refl (sym (m.each t k) ∙ h) (sym (g k) ∙ i);
+    given = λ t k h. given_at t k (is_at (age_cmp (frame.due, n)) (t, k)) refl (sym (m.each t k) ∙ h);
+  };
+  first = λ t k h l. first_at t k l (is_at (age_cmp (frame.due, n)) (t, k)) (is_at (nat_cmp n) k) refl refl (sym (m.each t k) ∙ h);
+} where
+  listed_at : (k : ℕ) (d : Departed) (b : Bool) → is_at (nat_cmp n) k ≡ b → cond b (Some frame) (at k kept) ≡ Some d → is_on d ≡ true → has d.due k more ≡ true
+  listed_at k d true x i o = subst (λ f. has f.due k more ≡ true) (some_is frame d i) (subst (λ q. has frame.due q more ≡ true) (same_number n k x) m.there)
+  listed_at k d false x i o = m.each d.due k ∙ or_had (is_at (age_cmp (frame.due, n)) (d.due, k)) (has d.due k dues) (s.listed k d i o)
+
+  -- no number after the last was given
+  not_given : (t : ℤ) (k : ℕ) → n ≡ k → has t k dues ≡ true → ⊥
+  not_given t k same h = let most = s.dated.given t k h in absurd (omega (arith, e, same, most))
+
+  due_at : (t : ℤ) (k : ℕ) (d : Departed) (b c : Bool) → is_at (age_cmp (frame.due, n)) (t, k) ≡ b → is_at (nat_cmp n) k ≡ c → cond b true (has t k dues) ≡ true →
+      cond c (Some frame) (at k kept) ≡ Some d → d.due ≡ t
+  due_at t k d true true x y h i = ap (λ (f : Departed). f.due) (sym (some_is frame d i)) ∙ same_time_of (frame.due, n) (t, k) x
+  due_at t k d true false x y h i = absurd (no (sym y ∙ at_itself n k (same_number_of (frame.due, n) (t, k) x)))
+  due_at t k d false true x y h i = absurd (not_given t k (same_number n k y) h)
+  due_at t k d false false x y h i = s.dated.due t k d h i
+
+  given_at : (t : ℤ) (k : ℕ) (b : Bool) → is_at (age_cmp (frame.due, n)) (t, k) ≡ b → cond b true (has t k dues) ≡ true → k ≤ length (sent ++ frame.sent ∷ [])
+  given_at t k true x h = let same = same_number_of (frame.due, n) (t, k) x in let size = length_last sent frame.sent in omega (arith, e, same, size)
+  given_at t k false x h = let most = s.dated.given t k h in let size = length_last sent frame.sent in omega (arith, most, size)
+
+  still_on : (k : ℕ) (c : Bool) → is_at (nat_cmp n) k ≡ c → (c ≡ false → on_at kept k ≡ true) → on_at after k ≡ true
+  still_on k true y o = ap (λ p. option_map_or is_on p false) (g k ∙ ap (λ c. cond c (Some frame) (at k kept)) y) ∙ on
+  still_on k false y o = ap (λ p. option_map_or is_on p false) (g k ∙ ap (λ c. cond c (Some frame) (at k kept)) y) ∙ o refl
+
+  first_at : (t : ℤ) (k : ℕ) → IsLeast t k more → (b c : Bool) → is_at (age_cmp (frame.due, n)) (t, k) ≡ b → is_at (nat_cmp n) k ≡ c → cond b true (has t k dues) ≡ true →
+      on_at after k ≡ true
+  first_at t k l true c x y h = still_on k c y (λ off. absurd (no (sym (y ∙ off) ∙ at_itself n k (same_number_of (frame.due, n) (t, k) x))))
+  first_at t k l false c x y h =
+      still_on k c y (λ off. s.first t k h (λ u q i. l u q (m.each u q ∙ or_had (is_at (age_cmp (frame.due, n)) (u, q)) (has u q dues) i)))
+
+not_put_orders :
+    (sent : List ℤ) (kept : List (ℕ × Departed)) (dues more : List (ℤ × ℕ)) (n : ℕ) (due : ℤ) → n ≡ length sent + 1 → Orders sent kept dues → AddsNone due n dues more →
+    Orders sent kept more
+not_put_orders sent kept dues more n due e s a = record {
+  listed = λ k d i on. same d.due k ∙ s.listed k d i on;
+  dated = record {
+    due = λ t k d h i. s.dated.due t k d (sym (same t k) ∙ h) i;
+    given = λ t k h. s.dated.given t k (sym (same t k) ∙ h);
+  };
+  first = λ t k h l. s.first t k (sym (same t k) ∙ h) (λ u q i. l u q (same u q ∙ i));
+} where
+  not_given : (t : ℤ) (k : ℕ) → n ≡ k → has t k dues ≡ true → ⊥
+  not_given t k alike h = let most = s.dated.given t k h in absurd (omega (arith, e, alike, most))
+
+  both : (m o : Bool) → (m ≡ true → o ≡ true) → (o ≡ true → ⊥) → m ≡ o
+  both true true f n = refl
+  both true false f n = absurd (no (f refl))
+  both false true f n = absurd (n refl)
+  both false false f n = refl
+
+  same_at : (t : ℤ) (k : ℕ) (b : Bool) → is_at (age_cmp (due, n)) (t, k) ≡ b → has t k more ≡ has t k dues
+  same_at t k true x = both (has t k more) (has t k dues) (a.fewer t k) (not_given t k (same_number_of (due, n) (t, k) x))
+  same_at t k false x = a.stays t k x
+
+  same : (t : ℤ) (k : ℕ) → has t k more ≡ has t k dues
+  same t k = same_at t k (is_at (age_cmp (due, n)) (t, k)) refl
+
 -- All that the window keeps
 
 pub put_holds :
-    (h : ℤ) (sent : List ℤ) (kept after : List (ℕ × Departed)) (ages more : List (ℤ × ℕ)) (numbers : List ℕ) (n : ℕ) (frame : Departed) → n ≡ length sent + 1 → is_on frame ≡ true →
-    Holds h sent kept ages numbers → ((k : ℕ) → at k after ≡ cond (is_at (nat_cmp n) k) (Some frame) (at k kept)) →
-    ((t : ℤ) (k : ℕ) → has t k more ≡ cond (is_at (age_cmp (frame.sent, n)) (t, k)) true (has t k ages)) → has frame.sent n more ≡ true →
-    (later : List ℤ) (listed : List ℕ) → later ≡ sent ++ frame.sent ∷ [] → listed ≡ numbers ++ n ∷ [] → Holds h later after more listed
-put_holds h sent kept after ages more numbers n frame e on s g m there later listed same also = record {
-  aged = subst (λ x. Aged h x after more) (sym same) (put_aged h sent kept after ages more n frame e on s.aged g m there);
+    (h : ℤ) (sent : List ℤ) (kept after : List (ℕ × Departed)) (ages more : List (ℤ × ℕ)) (numbers : List ℕ) (dues ordered : List (ℤ × ℕ)) (n : ℕ) (frame : Departed) →
+    n ≡ length sent + 1 → is_on frame ≡ true →
+    Holds h sent kept ages numbers dues → ((k : ℕ) → at k after ≡ cond (is_at (nat_cmp n) k) (Some frame) (at k kept)) →
+    Adds frame.sent n ages more → Adds frame.due n dues ordered →
+    (later : List ℤ) (listed : List ℕ) → later ≡ sent ++ frame.sent ∷ [] → listed ≡ numbers ++ n ∷ [] → Holds h later after more listed ordered
+put_holds h sent kept after ages more numbers dues ordered n frame e on s g m o later listed same also = record {
+  aged = subst (λ x. Aged h x after more) (sym same) (put_aged h sent kept after ages more n frame e on s.aged g m.each m.there);
   lists = subst (Lists after) (sym also) (put_lists n frame kept after numbers g s.lists);
+  orders = subst (λ x. Orders x after ordered) (sym same) (put_orders sent kept after dues ordered n frame e on s.orders g o);
 }
 
 pub not_put_holds :
-    (h : ℤ) (sent : List ℤ) (kept after : List (ℕ × Departed)) (ages more : List (ℤ × ℕ)) (numbers : List ℕ) (n : ℕ) (time : ℤ) → n ≡ length sent + 1 →
-    Holds h sent kept ages numbers → ((t : ℤ) (k : ℕ) → is_at (age_cmp (time, n)) (t, k) ≡ false → has t k more ≡ has t k ages) →
-    ((t : ℤ) (k : ℕ) → has t k more ≡ true → has t k ages ≡ true) →
-    (later : List ℤ) (listed : List ℕ) → later ≡ sent → after ≡ kept → listed ≡ numbers → Holds h later after more listed
-not_put_holds h sent kept after ages more numbers n time e s stays fewer later listed same alike also = record {
-  aged = subst (λ x. Aged h x after more) (sym same) (subst (λ x. Aged h sent x more) (sym alike) (not_put_aged h sent kept ages more n time e s.aged stays fewer));
+    (h : ℤ) (sent : List ℤ) (kept after : List (ℕ × Departed)) (ages more : List (ℤ × ℕ)) (numbers : List ℕ) (dues ordered : List (ℤ × ℕ)) (n : ℕ) (time due : ℤ) →
+    n ≡ length sent + 1 → Holds h sent kept ages numbers dues → AddsNone time n ages more → AddsNone due n dues ordered →
+    (later : List ℤ) (listed : List ℕ) → later ≡ sent → after ≡ kept → listed ≡ numbers → Holds h later after more listed ordered
+not_put_holds h sent kept after ages more numbers dues ordered n time due e s a o later listed same alike also = record {
+  aged = subst (λ x. Aged h x after more) (sym same) (subst (λ x. Aged h sent x more) (sym alike) (not_put_aged h sent kept ages more n time e s.aged a.stays a.fewer));
   lists = subst (Lists after) (sym also) (subst (λ x. Lists x numbers) (sym alike) s.lists);
+  orders = subst (λ x. Orders x after ordered) (sym same) (subst (λ x. Orders sent x ordered) (sym alike) (not_put_orders sent kept dues ordered n due e s.orders o));
 }
 
 -- a number is told by its order as by itself

@@ -2,12 +2,14 @@
 use Rattle.std.proofs.Common.{◌≡◌, ◌∙◌, refl, ap, sym, subst, ℕ, ℤ, ◌≤ℤ◌, ◌⊎◌, inl, inr, Bool, true, false, if◌then◌else◌, List, Option, None, Some, arith}
 use Rattle.std.proofs.lemmas.Int.{ints}
 use Rattle.std.specs.Int.Signed.{le_z}
+use Rattle.std.specs.Option.{option_map_or}
 use Rattle.wrp_flights.specs.declared.departed.Departed.{Departed}
 use Rattle.wrp_flights.specs.Ages.{Aged, Listed, has}
 use Rattle.wrp_flights.specs.Departed.{is_kept, is_on, is_young, kept_in, turn_in}
-use Rattle.wrp_flights.specs.Frames.{at}
+use Rattle.wrp_flights.specs.Frames.{at, on_at}
 use Rattle.wrp_flights.specs.Listing.{Holds, Settled, has_number}
-use Rattle.wrp_flights.proofs.Passing.{is_late}
+use Rattle.wrp_flights.specs.Next.{Dated, Dues, FirstIs, Orders}
+use Rattle.wrp_flights.proofs.Passing.{is_late, kept_on}
 
 none_is : (d : Departed) → None ≡ Some d → ⊥
 none_is d e = cc
@@ -61,11 +63,47 @@ turned_aged h sent kept after ages change still a e = record {
   time q d it = sym (still q it.from) ∙ ap (λ x. x.sent) it.same
 
 -- what the window keeps says of each frame that it is listed, or young and on no fibre
-pub settles : (h : ℤ) (sent : List ℤ) (kept : List (ℕ × Departed)) (ages : List (ℤ × ℕ)) (numbers : List ℕ) → Holds h sent kept ages numbers → Settled h kept numbers
-settles h sent kept ages numbers s k d e = by_test (is_on d) refl where
+pub settles : (h : ℤ) (sent : List ℤ) (kept : List (ℕ × Departed)) (ages : List (ℤ × ℕ)) (numbers : List ℕ) (dues : List (ℤ × ℕ)) → Holds h sent kept ages numbers dues → Settled h kept numbers
+settles h sent kept ages numbers dues s k d e = by_test (is_on d) refl where
   by_test : (b : Bool) → is_on d ≡ b → (has_number k numbers ≡ true) ⊎ ((is_on d ≡ false) × (is_young h d ≡ true))
   by_test true on = inl (s.lists k d e on)
   by_test false off = inr (off, kept_young h d (s.aged.kept_is k d e) off)
+
+-- the due times stay, and no frame comes to be on a fibre
+pub record Stills (change : ℕ → Departed → Departed) : Type 0 where
+  pub due : (q : ℕ) (d : Departed) → (change q d).due ≡ d.due
+  pub on : (q : ℕ) (d : Departed) → is_on (change q d) ≡ true → is_on d ≡ true
+
+pub turned_dated :
+    (h : ℤ) (sent : List ℤ) (kept after : List (ℕ × Departed)) (dues : List (ℤ × ℕ)) (change : ℕ → Departed → Departed) → Stills change → Dated sent kept dues →
+    ((q : ℕ) → at q after ≡ turn_in h (change q) (at q kept)) → Dated sent after dues
+turned_dated h sent kept after dues change still a e = record {
+  due = λ t k d m i.
+      let it = came_from h (change k) (at k kept) d (sym (e k) ∙ i) in
+      ap (λ (x : Departed). x.due) (sym it.same) ∙ still.due k it.from ∙ a.due t k it.from m it.was;
+  given = a.given;
+}
+
+pub turned_dues :
+    (h : ℤ) (kept after : List (ℕ × Departed)) (dues : List (ℤ × ℕ)) (change : ℕ → Departed → Departed) → Stills change → Dues kept dues →
+    ((q : ℕ) → at q after ≡ turn_in h (change q) (at q kept)) → Dues after dues
+turned_dues h kept after dues change still l e k d i on =
+    let it = came_from h (change k) (at k kept) d (sym (e k) ∙ i) in
+    let due : d.due ≡ it.from.due = ap (λ (x : Departed). x.due) (sym it.same) ∙ still.due k it.from in
+    ap (λ t. has t k dues) due ∙ l k it.from it.was (still.on k it.from (ap is_on it.same ∙ on))
+
+-- after that, those before the first that is on a fibre were taken out
+pub settled_orders :
+    (h : ℤ) (sent : List ℤ) (kept after : List (ℕ × Departed)) (dues left : List (ℤ × ℕ)) (change : ℕ → Departed → Departed) → Stills change → Orders sent kept dues →
+    ((q : ℕ) → at q after ≡ turn_in h (change q) (at q kept)) → Dues after left → FirstIs true after left → ((t : ℤ) (k : ℕ) → has t k left ≡ true → has t k dues ≡ true) →
+    Orders sent after left
+settled_orders h sent kept after dues left change still s e listed first fewer =
+    let dated = turned_dated h sent kept after dues change still s.dated e in
+    record {
+      listed = listed;
+      dated = record { due = λ t k d m i. dated.due t k d (fewer t k m) i; given = λ t k m. dated.given t k (fewer t k m) };
+      first = first;
+    }
 
 -- Time passes
 
@@ -78,11 +116,30 @@ listed_later before h sent kept ages l a k d i on = elim on [
   | inr y ↦ a.young k d i (young_before before h d l y)
 ]
 
+passed_orders :
+    (h : ℤ) (sent : List ℤ) (kept after : List (ℕ × Departed)) (dues : List (ℤ × ℕ)) → Orders sent kept dues → ((k : ℕ) → at k after ≡ kept_in h (at k kept)) → Orders sent after dues
+passed_orders h sent kept after dues s e = record {
+  listed = λ k d i on. s.listed k d (kept_is_it h (at k kept) d (sym (e k) ∙ i)).0 on;
+  dated = record {
+    due = λ t k d m i. s.dated.due t k d m (kept_is_it h (at k kept) d (sym (e k) ∙ i)).0;
+    given = s.dated.given;
+  };
+  first = λ t k m l. still_on k (at k kept) refl (s.first t k m l);
+} where
+  no : false ≡ true → ⊥
+  no e = cc
+
+  still_on : (k : ℕ) (o : Option Departed) → at k kept ≡ o → on_at kept k ≡ true → on_at after k ≡ true
+  still_on k None i on = absurd (no (sym (ap (λ p. option_map_or is_on p false) i) ∙ on))
+  still_on k (Some d) i on =
+      let is : is_on d ≡ true = sym (ap (λ p. option_map_or is_on p false) i) ∙ on in
+      ap (λ p. option_map_or is_on p false) (e k ∙ ap (kept_in h) i ∙ kept_on h d is) ∙ is
+
 pub passed_holds :
-    (before h : ℤ) (sent : List ℤ) (kept after : List (ℕ × Departed)) (ages left : List (ℤ × ℕ)) (numbers : List ℕ) → Holds before sent kept ages numbers →
+    (before h : ℤ) (sent : List ℤ) (kept after : List (ℕ × Departed)) (ages left : List (ℤ × ℕ)) (numbers : List ℕ) (dues : List (ℤ × ℕ)) → Holds before sent kept ages numbers dues →
     ((k : ℕ) → at k after ≡ kept_in h (at k kept)) → ((k : ℕ) (d : Departed) → at k after ≡ Some d → is_young h d ≡ true → has d.sent k left ≡ true) →
-    ((t : ℤ) (k : ℕ) → has t k left ≡ true → has t k ages ≡ true) → Holds h sent after left numbers
-passed_holds before h sent kept after ages left numbers s e young fewer = record {
+    ((t : ℤ) (k : ℕ) → has t k left ≡ true → has t k ages ≡ true) → Holds h sent after left numbers dues
+passed_holds before h sent kept after ages left numbers dues s e young fewer = record {
   aged = record {
     told = λ k d i. s.aged.told k d (kept_is_it h (at k kept) d (sym (e k) ∙ i)).0;
     kept_is = λ k d i. (kept_is_it h (at k kept) d (sym (e k) ∙ i)).1;
@@ -90,4 +147,5 @@ passed_holds before h sent kept after ages left numbers s e young fewer = record
     dated = λ t k i. s.aged.dated t k (fewer t k i);
   };
   lists = λ k d i on. s.lists k d (kept_is_it h (at k kept) d (sym (e k) ∙ i)).0 on;
+  orders = passed_orders h sent kept after dues s.orders e;
 }

@@ -1,6 +1,6 @@
 -- The ages of frames that are kept: when they were put out, each with its number, and how frames pass out by them (this
 -- project's profile).
-use Rattle.std.specs.Prelude.{◌≡◌, ◌<◌, ◌<ℤ◌, ◌≤ℤ◌, ◌⊎◌, ℕ, ℤ, Bool, true, false, if◌then◌else◌, List, length, Option, None, Some}
+use Rattle.std.specs.Prelude.{◌≡◌, ◌<◌, ◌<ℤ◌, ◌≤ℤ◌, ◌⊎◌, ℕ, ℤ, Bool, true, false, cond, if◌then◌else◌, List, length, Option, None, Some}
 use Rattle.std.specs.BTreeMap.{is_at}
 use Rattle.std.specs.List.{list_any}
 use Rattle.std.specs.Ordering.{nat_cmp, int_cmp, ordering_then}
@@ -15,6 +15,16 @@ age_cmp a b = ordering_then (int_cmp a.0 b.0) (nat_cmp a.1 b.1)
 
 abbrev pub has : ℤ → ℕ → List (ℤ × ℕ) → Bool
 has t k ages = list_any (is_at (age_cmp (t, k))) ages
+
+-- a time came to them, with a number
+pub record Adds (time : ℤ) (number : ℕ) (old new : List (ℤ × ℕ)) : Type 0 where
+  pub each : (t : ℤ) (k : ℕ) → has t k new ≡ cond (is_at (age_cmp (time, number)) (t, k)) true (has t k old)
+  pub there : has time number new ≡ true
+
+-- they are as they were, but that this time with this number may be gone
+pub record AddsNone (time : ℤ) (number : ℕ) (old new : List (ℤ × ℕ)) : Type 0 where
+  pub stays : (t : ℤ) (k : ℕ) → is_at (age_cmp (time, number)) (t, k) ≡ false → has t k new ≡ has t k old
+  pub fewer : (t : ℤ) (k : ℕ) → has t k new ≡ true → has t k old ≡ true
 
 -- a frame that is kept is on a fibre or young, and was put out when it is told; the ages list each young one
 pub record Aged (horizon : ℤ) (sent : List ℤ) (kept : List (ℕ × Departed)) (ages : List (ℤ × ℕ)) : Type 0 where

@@ -1,11 +1,12 @@
 -- The frames that departed, as they are seen: of all of them when they were put out, and those that are kept (this
 -- project's profile).
-use Rattle.std.specs.Prelude.{◌≡◌, ◌+◌, ◌==◌, ◌++◌, ℕ, zero, suc, ℤ, if◌then◌else◌, List, [], ◌∷◌, length, Option, None, Some, slice_get}
+use Rattle.std.specs.Prelude.{◌≡◌, ◌+◌, ◌==◌, ◌++◌, ℕ, zero, suc, ℤ, Bool, false, if◌then◌else◌, List, [], ◌∷◌, length, Option, None, Some, slice_get}
 use Rattle.std.specs.BTreeMap.{is_at}
 use Rattle.std.specs.Map.{lookup}
+use Rattle.std.specs.Option.{option_map_or}
 use Rattle.std.specs.Ordering.{nat_cmp}
 use Rattle.wrp_flights.specs.declared.departed.Departed.{Departed}
-use Rattle.wrp_flights.specs.Departed.{kept_in, turn_in}
+use Rattle.wrp_flights.specs.Departed.{is_on, kept_in, turn_in}
 
 -- the true time from which on a frame that was put out is young, when each was put out, by number from 1 on, and the
 -- frames that are kept, by their numbers
@@ -22,6 +23,10 @@ sent_at (suc i) sent = slice_get sent i
 -- the frame of a number that is kept
 abbrev pub at : ℕ → List (ℕ × Departed) → Option Departed
 at k kept = lookup (is_at (nat_cmp k)) kept
+
+-- whether the frame of a number is on a fibre
+abbrev pub on_at : List (ℕ × Departed) → ℕ → Bool
+on_at kept k = option_map_or is_on (at k kept) false
 
 -- so many numbers, ascending from the first of them
 abbrev pub numbers_from : (count first : ℕ) → List ℕ

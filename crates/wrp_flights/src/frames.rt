@@ -10,8 +10,8 @@ ghost use Rattle.wrp_flights.specs.Next.{IsFirst};
 use crate::ages::expire;
 use crate::departed::{Departed, Reception};
 use crate::losing::{Loss, lose};
-use crate::next::next_due;
-use crate::puts::{keep, receive};
+use crate::next::{next_due, settle};
+use crate::puts::{keep_due, receive};
 use std::alloc::{AllocError, Global};
 use std::collections::{BTreeMap, BTreeSet};
 use std::marker::Model;
@@ -30,6 +30,8 @@ pub struct Frames {
     ages: BTreeSet<(Tau, u32)>,
     // The numbers of those on a fibre.
     on_fibre: Vec<u32>,
+    // When they are due, with their numbers; one that is on no fibre any more stays until it is the first.
+    dues: BTreeSet<(Tau, u32)>,
 }
 
 impl Model for Frames {
@@ -41,7 +43,7 @@ impl Model for Frames {
 
     ghost view = { λ f. record { horizon = f.horizon; sent = f.sent.items; kept = f.kept.entries } };
 
-    ghost invariant = { λ f. Holds f.horizon f.sent.items f.kept.entries f.ages.keys f.on_fibre.items };
+    ghost invariant = { λ f. Holds f.horizon f.sent.items f.kept.entries f.ages.keys f.on_fibre.items f.dues.keys };
 }
 
 impl Frames {
@@ -55,6 +57,7 @@ impl Frames {
             kept: BTreeMap::new(alloc),
             ages: BTreeSet::new(alloc),
             on_fibre: Vec::new(alloc),
+            dues: BTreeSet::new(alloc),
         }
     }
 
@@ -96,7 +99,7 @@ impl Frames {
     pub fn next_due(&self) -> Option<(u32, Tau)>
         ensures { IsFirst self.now.kept result }
     {
-        next_due(&self.kept, &self.on_fibre)
+        next_due(&self.dues)
     }
 
     /// Time passes, and the horizon with it: the frames that are on no fibre and were put out before it
@@ -143,6 +146,7 @@ impl Frames {
             links,
             self.horizon,
         );
+        settle(&self.kept, &mut self.dues);
     }
 
     /// A frame that this end of a link sent arrives, and the older ones from there that are on the fibre
@@ -158,6 +162,7 @@ impl Frames {
             reception,
             self.horizon,
         );
+        settle(&self.kept, &mut self.dues);
     }
 
     /// A frame that departs gets the next number, if there is one. All memory is taken before anything
@@ -185,6 +190,7 @@ impl Frames {
             &mut self.kept,
             &mut self.ages,
             &mut self.on_fibre,
+            &mut self.dues,
             frame,
         )
     }
@@ -220,12 +226,14 @@ fn put(
     kept: &mut BTreeMap<u32, Departed>,
     ages: &mut BTreeSet<(Tau, u32)>,
     numbers: &mut Vec<u32>,
+    dues: &mut BTreeSet<(Tau, u32)>,
     frame: Departed,
 ) -> Result<(), AllocError>
     requires few { length sent.old.items + 1 < 2 ^ 32 }
     requires on { is_on frame ≡ true }
-    ensures holds { (h : ℤ) → Holds h sent.old.items kept.old.entries ages.old.keys numbers.old.items
-        → Holds h sent.new.items kept.new.entries ages.new.keys numbers.new.items }
+    ensures holds { (h : ℤ)
+        → Holds h sent.old.items kept.old.entries ages.old.keys numbers.old.items dues.old.keys
+        → Holds h sent.new.items kept.new.entries ages.new.keys numbers.new.items dues.new.keys }
     ensures sent { OnOk result (sent.new.items ≡ sent.old.items ++ frame.sent ∷ []) }
     ensures kept { OnOk result ((k : ℕ) → at k kept.new.entries
         ≡ (if k == (length sent.old.items + 1) then Some frame else at k kept.old.entries)) }
@@ -235,7 +243,7 @@ fn put(
     let time = frame.sent;
     sent.reserve(1)?;
     numbers.reserve(1)?;
-    keep(kept, ages, time, number, frame)?;
+    keep_due(kept, ages, dues, number, frame)?;
     sent.push_reserved(time);
     numbers.push_reserved(number);
     Ok(())

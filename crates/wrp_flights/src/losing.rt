@@ -4,8 +4,8 @@ ghost use Rattle.std.specs.BTreeMap.{is_at};
 ghost use Rattle.std.specs.Option.{option_map_or};
 ghost use Rattle.std.specs.Ordering.{nat_cmp};
 ghost use Rattle.wrp_flights.specs.Departed.{is_on, turn_in};
-ghost use Rattle.wrp_flights.specs.Frames.{at};
-ghost use Rattle.wrp_flights.specs.Listing.{Lists, Settled, on_at};
+ghost use Rattle.wrp_flights.specs.Frames.{at, on_at};
+ghost use Rattle.wrp_flights.specs.Listing.{Lists, Settled};
 ghost use Rattle.wrp_flights.specs.Losing as spec;
 
 use crate::departed::Departed;
@@ -112,8 +112,8 @@ fn lose_all(
     }
 }
 
-// Whether the frame of a number is on a fibre.
-fn is_on_at(kept: &BTreeMap<u32, Departed>, number: u32) -> bool
+/// Whether the frame of a number is on a fibre.
+pub fn is_on_at(kept: &BTreeMap<u32, Departed>, number: u32) -> bool
     ensures { result ≡ on_at kept.now.entries number }
 {
     match kept.get(&number) {

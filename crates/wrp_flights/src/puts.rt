@@ -1,8 +1,8 @@
 //! A frame is put into the window, and frames that change there.
-ghost use Rattle.std.specs.Prelude.{◌≡◌, ℕ, ℤ, true, false, cond, Some, option_map, OnErr, OnOk};
+ghost use Rattle.std.specs.Prelude.{◌≡◌, ℕ, cond, Some, option_map, OnErr, OnOk};
 ghost use Rattle.std.specs.BTreeMap.{is_at};
 ghost use Rattle.std.specs.Ordering.{nat_cmp};
-ghost use Rattle.wrp_flights.specs.Ages.{age_cmp, has};
+ghost use Rattle.wrp_flights.specs.Ages.{Adds, AddsNone};
 ghost use Rattle.wrp_flights.specs.Departed.{kept_in, receive};
 ghost use Rattle.wrp_flights.specs.Frames.{at};
 
@@ -22,13 +22,9 @@ pub fn keep(
 ) -> Result<(), AllocError>
     ensures kept { OnOk result ((k : ℕ) → at k kept.new.entries
         ≡ cond (is_at (nat_cmp number) k) (Some frame) (at k kept.old.entries)) }
-    ensures ages { OnOk result ((t : ℤ) (k : ℕ) → has t k ages.new.keys
-        ≡ cond (is_at (age_cmp (time, number)) (t, k)) true (has t k ages.old.keys)) }
-    ensures there { OnOk result (has time number ages.new.keys ≡ true) }
+    ensures ages { OnOk result (Adds time number ages.old.keys ages.new.keys) }
     ensures err { OnErr result (kept.new.entries ≡ kept.old.entries) }
-    ensures stays { OnErr result ((t : ℤ) (k : ℕ) → is_at (age_cmp (time, number)) (t, k) ≡ false
-        → has t k ages.new.keys ≡ has t k ages.old.keys) }
-    ensures fewer { OnErr result ((t : ℤ) (k : ℕ) → has t k ages.new.keys ≡ true → has t k ages.old.keys ≡ true) }
+    ensures old_ages { OnErr result (AddsNone time number ages.old.keys ages.new.keys) }
 {
     ages.insert((time, number))?;
     match kept.insert(number, frame) {
@@ -36,6 +32,35 @@ pub fn keep(
         Err(_pair) => {
             let _taken = ages.remove(&(time, number));
             Err(AllocError)
+        }
+    }
+}
+
+/// The same of a frame, which is listed by the time at which it is due, too. Where memory for one of the three
+/// could not be had, none of them is so.
+pub fn keep_due(
+    kept: &mut BTreeMap<u32, Departed>,
+    ages: &mut BTreeSet<(Tau, u32)>,
+    dues: &mut BTreeSet<(Tau, u32)>,
+    number: u32,
+    frame: Departed,
+) -> Result<(), AllocError>
+    ensures kept { OnOk result ((k : ℕ) → at k kept.new.entries
+        ≡ cond (is_at (nat_cmp number) k) (Some frame) (at k kept.old.entries)) }
+    ensures ages { OnOk result (Adds frame.sent number ages.old.keys ages.new.keys) }
+    ensures dues { OnOk result (Adds frame.due number dues.old.keys dues.new.keys) }
+    ensures err { OnErr result (kept.new.entries ≡ kept.old.entries) }
+    ensures old_ages { OnErr result (AddsNone frame.sent number ages.old.keys ages.new.keys) }
+    ensures old_dues { OnErr result (AddsNone frame.due number dues.old.keys dues.new.keys) }
+{
+    let time = frame.sent;
+    let due = frame.due;
+    dues.insert((due, number))?;
+    match keep(kept, ages, time, number, frame) {
+        Ok(()) => Ok(()),
+        Err(fault) => {
+            let _taken = dues.remove(&(due, number));
+            Err(fault)
         }
     }
 }

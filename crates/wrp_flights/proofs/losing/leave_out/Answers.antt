@@ -1,6 +1,6 @@
 use Rattle.std.proofs.Common.{rules}
 use Rattle.std.proofs.lemmas.Fn.{filter_same}
-use Rattle.wrp_flights.specs.Listing.{on_at}
+use Rattle.wrp_flights.specs.Frames.{on_at}
 use Rattle.wrp_flights.proofs.Losses.{lists_left}
 use Rattle.wrp_flights.proofs.losing.leave_out.Goals as goal
 

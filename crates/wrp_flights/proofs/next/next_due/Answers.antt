@@ -1,11 +1,14 @@
-use Rattle.std.proofs.Common.{drop, ◌+◌, subst, sym}
-use Rattle.wrp_flights.proofs.FirstDue.{FirstOf, first_all, first_next}
+use Rattle.std.proofs.Common.{◌≡◌, rules, subst, to_z, of_z, Some, IsSome}
+use Rattle.std.specs.Int.{w128}
+use Rattle.wrp_flights.specs.Next.{IsFirst}
+use Rattle.wrp_flights.proofs.FirstDue.{first_due, none_due}
 use Rattle.wrp_flights.proofs.next.next_due.Goals as goal
 
-pub loop-number-preserved : goal.loop-number-preserved
-loop-number-preserved c =
-    subst (FirstOf c.args.kept.now.entries (drop (c.loop-number.number-index + 1) c.args.numbers.now)) (sym c.sooner-next.ensures)
-    (first_next c.args.kept.now.entries c.args.numbers.now c.loop-number.number-index c.loop-number.next c.loop-number-test.true c.loop-number.invariant)
+pub returns-in-Some : goal.returns-in-Some
+returns-in-Some c = λ sent kept s.
+    let h : c.in-Some.first.now.0 ≡ to_z w128 (of_z w128 c.in-Some.first.now.0) = search rules in
+    subst (λ t. IsFirst kept (Some (c.in-Some.first.now.1, t))) h (first_due sent kept c.args.dues.now.keys c.in-Some.first.now s (search rules) (search rules))
 
-pub returns : goal.returns
-returns c = first_all c.args.kept.now.entries c.args.numbers.now c.loop-number.number-index c.loop-number.next c.loop-number-test.false c.loop-number.invariant
+pub returns-in-None : goal.returns-in-None
+returns-in-None c = λ sent kept s.
+    none_due sent kept c.args.dues.now.keys s (λ p. let no = subst IsSome c.in-None.is (c.first.ensures.variant.1 p) in absurd cc)

@@ -6,23 +6,22 @@ use Rattle.wrp_flights.proofs.Oldest.{taken_back}
 use Rattle.wrp_flights.proofs.puts.keep.Goals as goal
 
 pub returns-in-Ok-clause-ages : goal.returns-in-Ok-clause-ages
-returns-in-Ok-clause-ages c = λ t k.
-    let h : to_z w128 (of_z w128 c.args.time) ≡ c.args.time = search rules in
-    subst (λ x. has t k c.insert.new.self.keys ≡ cond (is_at (age_cmp (x, c.args.number)) (t, k)) true (has t k c.args.ages.now.keys)) h
-    (c.in_ok-insert.ensures.updates.0 (t, k))
+returns-in-Ok-clause-ages c = record {
+  each = λ t k. subst (λ x. has t k c.insert.new.self.keys ≡ cond (is_at (age_cmp (x, c.args.number)) (t, k)) true (has t k c.args.ages.now.keys)) h
+      (c.in_ok-insert.ensures.updates.0 (t, k));
+  there = subst (λ x. has x c.args.number c.insert.new.self.keys ≡ true) h c.in_ok-insert.ensures.updates.1;
+} where
+  h : to_z w128 (of_z w128 c.args.time) ≡ c.args.time
+  h = search rules
 
-pub returns-in-Err-clause-stays : goal.returns-in-Err-clause-stays
-returns-in-Err-clause-stays c = λ t k e.
-    let h : to_z w128 (of_z w128 c.args.time) ≡ c.args.time = search rules in
-    let f = subst (λ x. is_at (age_cmp (x, c.args.number)) (t, k) ≡ false) (sym h) e in
-    c.remove-taken.ensures.updates.2 (t, k) f ∙ c.in_ok-insert.ensures.updates.2 (t, k) f
-
-pub returns-in-Err-clause-fewer : goal.returns-in-Err-clause-fewer
-returns-in-Err-clause-fewer c = λ t k e.
-    taken_back (is_at (age_cmp (to_z w128 (of_z w128 c.args.time), c.args.number)) (t, k)) (has t k c.remove-taken.new.self.keys) (has t k c.insert.new.self.keys)
-    (has t k c.args.ages.now.keys) (c.remove-taken.ensures.updates.0 (t, k)) (c.in_ok-insert.ensures.updates.0 (t, k)) e
-
-pub returns-in-Ok-clause-there : goal.returns-in-Ok-clause-there
-returns-in-Ok-clause-there c =
-    let h : to_z w128 (of_z w128 c.args.time) ≡ c.args.time = search rules in
-    subst (λ x. has x c.args.number c.insert.new.self.keys ≡ true) h c.in_ok-insert.ensures.updates.1
+pub returns-in-Err-clause-old_ages : goal.returns-in-Err-clause-old_ages
+returns-in-Err-clause-old_ages c = record {
+  stays = λ t k e.
+      let f = subst (λ x. is_at (age_cmp (x, c.args.number)) (t, k) ≡ false) (sym h) e in
+      c.remove-taken.ensures.updates.2 (t, k) f ∙ c.in_ok-insert.ensures.updates.2 (t, k) f;
+  fewer = λ t k e.
+      taken_back (is_at (age_cmp (to_z w128 (of_z w128 c.args.time), c.args.number)) (t, k)) (has t k c.remove-taken.new.self.keys) (has t k c.insert.new.self.keys)
+      (has t k c.args.ages.now.keys) (c.remove-taken.ensures.updates.0 (t, k)) (c.in_ok-insert.ensures.updates.0 (t, k)) e;
+} where
+  h : to_z w128 (of_z w128 c.args.time) ≡ c.args.time
+  h = search rules

@@ -10,4 +10,4 @@ expire-requires-clause-listed c =
 pub invariant_of-self : goal.invariant_of-self
 invariant_of-self c =
     passed_holds c.self.inside.horizon (to_z w128 (of_z w128 c.args.horizon)) c.self.inside.sent.items c.self.inside.kept.entries c.expire.new.kept.entries c.self.inside.ages.keys c.expire.new.ages.keys
-    c.self.inside.on_fibre.items c.self.invariant c.expire.ensures.kept c.expire.ensures.young c.expire.ensures.fewer
+    c.self.inside.on_fibre.items c.self.inside.dues.keys c.self.invariant c.expire.ensures.kept c.expire.ensures.young c.expire.ensures.fewer
