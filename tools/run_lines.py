@@ -22,7 +22,7 @@ FORMS = {kind: re.compile(form, re.A) for kind, form in KINDS.items()}
 HEAD = re.compile(rf"({NAME}) ({NUMBER}) ({'|'.join(KINDS)}) (.*)", re.A)
 SUM = re.compile(rf"({NAME}) sum ({NUMBER}) {NUMBER} {NUMBER} ({NUMBER}) ({'|'.join(SERVO)})", re.A)
 PASSED_OVER = re.compile(rf"{NAME} count {NUMBER} [a-z]+ {NUMBER}|forged {NUMBER}", re.A)
-REFUSAL = re.compile(r"(usage:|(bad-network|bad-trace|broken|too-large|bad-capture|bad-calib) ).*")
+REFUSAL = re.compile(r"(usage:|(bad-network|bad-trace|broken|too-large|bad-capture|bad-calib) )[ -~]*")
 EVENTS = ("pass", "tick", "sample", "depart", "arrive", "deliver", "noise", "down", "up", "cut", "join")
 SLOTS = 1060
 
@@ -257,6 +257,6 @@ def take(run, line, at, what):
     elif end := SUM.fullmatch(line):
         run.ends(end[1], int(end[2]), end[3])
     elif REFUSAL.fullmatch(line):
-        raise Refused(f"{what} ends with a refusal of the program, so there is no picture:\n{line}")
+        raise Refused(f"{what} ends with a refusal of the program, so there is no picture: {line}")
     elif not PASSED_OVER.fullmatch(line):
         raise ValueError(line)
