@@ -1,10 +1,10 @@
 -- The runs of which one thing fails alone are what they are said to be.
-use Rattle.std.proofs.Common.{◌≡◌, refl, pos, true, arith}
+use Rattle.std.proofs.Common.{◌≡◌, refl, arith}
 use Rattle.std.proofs.lemmas.Int.{ints}
-use Rattle.wrp_base.specs.declared.link.LinkState.TheVariants.{Idle, Calibrated, LinkOn}
-use Rattle.wrp_link_up_laws.specs.Laws.{new, changes, lit, IsServed}
+use Rattle.wrp_base.specs.declared.link.LinkState.TheVariants.{Idle, LinkOn}
+use Rattle.wrp_link_up_laws.specs.Laws.{new, changes, lit}
 use Rattle.wrp_link_up_laws.specs.Alone.{hasty_pace, hasty_changes, hasty_run, NeedsRetries, NeedsOrder}
-use Rattle.wrp_link_up_laws.proofs.Tests.{come, good, all_come, is_good}
+use Rattle.wrp_link_up_laws.proofs.Tests.{all_come, is_good}
 use Rattle.wrp_link_up_laws.proofs.Worked.{no_sooner}
 
 pub needs_retries : NeedsRetries

@@ -1,24 +1,22 @@
 -- Tests that decide of a run which is written out whether it is served: what is owed after each change, as lists.
-use Rattle.std.proofs.Common.{◌≡◌, ◌≢◌, ◌⊎◌, inl, inr, refl, sym, ap, ap₂, subst, ℤ, ℕ, pos, Bool, true, false, not, cond, ◌&&◌, ◌==◌, int_le, List, [], ◌∷◌, ◌++◌, Option, Some, ◌+ℤ◌, ◌≤ℤ◌}
+use Rattle.std.proofs.Common.{◌≡◌, ◌≢◌, ◌⊎◌, inl, inr, refl, sym, ap, ap₂, subst, ℤ, ℕ, pos, Bool, true, false, not, cond, ◌&&◌, ◌==◌, int_le, List, [], ◌∷◌, ◌++◌, ◌+ℤ◌, ◌≤ℤ◌}
 use Rattle.std.specs.Ordering.{int_eq}
 use Rattle.std.proofs.lemmas.Bool.{eqb-true}
 use Rattle.std.proofs.lemmas.Bool.Decides.{Decides-int_eq}
 use lib.Signed.{le_z_yes}
 use lib.Dec.{T}
 use Rattle.wrp_base.specs.declared.link.LinkState.{LinkState}
-use Rattle.wrp_base.specs.declared.link.LinkState.TheVariants.{Idle, Present, SLock, MLock, Locked, Calibration, Calibrated, RespCalib, LinkOn}
+use Rattle.wrp_base.specs.declared.link.LinkState.TheVariants.{Idle, SLock}
 use Rattle.wrp_base.specs.declared.link.Role.{Role}
 use Rattle.wrp_base.specs.declared.link.Role.TheVariants.{Master, Slave}
 use Rattle.wrp_base.specs.declared.message.WrMsg.{WrMsg}
 use Rattle.wrp_base.specs.declared.message.WrMsg.TheVariants.{Present as SLAVE_PRESENT, Lock as LOCK, Locked as LOCKED, Calibrate as CALIBRATE, Calibrated as CALIBRATED, ModeOn as WR_MODE_ON}
 use Rattle.wrp_base.specs.Network.{other_of}
-use Rattle.wrp_link.specs.declared.interface.LinkIn.{LinkIn}
 use Rattle.wrp_link.specs.declared.interface.LinkIn.TheVariants.{Msg, Announce, Tick, CarrierDown, CarrierUp}
 use Rattle.wrp_link.specs.Rows.{offers, row_of}
 use Rattle.wrp_link.specs.Table.{sent_by, is_same}
-use Rattle.wrp_handshake.specs.Ends.{Sending, Port, Ends, Change, Passes, Hears, Starts, Lights, end_of, IsAmong, stamped, MayHear, MayCome, AllMayCome, changed, ends_after}
-use Rattle.wrp_handshake.specs.Laws.{IsAwake}
-use Rattle.wrp_link_up_laws.specs.Pace.{Pace, IsOwed, IsSentBy, SendsNow, IsHeard, IsUnheard, AreAwake, IsOffered, IsUnoffered, IsLocking, IsLockedTick, IsUnlocked, IsPrompt, LeavesCarrier, OffersAwake, IsSteady, IsGood, InTurn, AllInTurn}
+use Rattle.wrp_handshake.specs.Ends.{Sending, Ends, Change, Passes, Hears, Starts, Lights, end_of, IsAmong, stamped, MayCome, AllMayCome, changed, ends_after}
+use Rattle.wrp_link_up_laws.specs.Pace.{Pace, IsOwed, IsSentBy, IsHeard, IsUnheard, AreAwake, IsOffered, IsLocking, IsLockedTick, IsPrompt, IsSteady, IsGood, InTurn, AllInTurn}
 
 -- parts of a test
 both : (a b : Bool) → a && b ≡ true → (a ≡ true) × (b ≡ true)

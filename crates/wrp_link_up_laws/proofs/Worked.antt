@@ -1,12 +1,11 @@
 -- The worked runs are what they are said to be.
-use Rattle.std.proofs.Common.{◌≡◌, refl, pos, true, List, arith}
+use Rattle.std.proofs.Common.{◌≡◌, refl, true, List, arith}
 use Rattle.std.proofs.lemmas.Int.{ints}
 use Rattle.wrp_base.specs.declared.link.LinkState.TheVariants.{Calibration, Calibrated, LinkOn}
 use Rattle.wrp_handshake.specs.Ends.{Change}
-use Rattle.wrp_link_up_laws.specs.Laws.{new, changes, lit, last, IsServed, BothOutlast, BothInTurn}
-use Rattle.wrp_link_up_laws.specs.Pace.{Pace}
+use Rattle.wrp_link_up_laws.specs.Laws.{new, changes, lit, IsServed, BothOutlast, BothInTurn}
 use Rattle.wrp_link_up_laws.specs.Slow.{slow_pace, slow_changes, slow_run, NoSooner}
-use Rattle.wrp_link_up_laws.specs.Worked.{pace, upper, lower, on_time, stays_on, run_of, WorkedUp, NoSoonerInTurn}
+use Rattle.wrp_link_up_laws.specs.Worked.{pace, on_time, stays_on, run_of, WorkedUp, NoSoonerInTurn}
 use Rattle.wrp_link_up_laws.proofs.Tests.{come, good, turns, all_come, is_good, are_turns}
 
 served_by : (since : List Change) → come 1 10 (new (run_of since)) (changes (run_of since)) ≡ true → good pace (lit (run_of since)) since ≡ true → IsServed 1 10 pace (run_of since)

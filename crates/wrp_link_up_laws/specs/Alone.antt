@@ -1,6 +1,6 @@
 -- What the laws ask is needed: runs of which all holds but one thing, and which are not up past the stated time.
-use Rattle.std.specs.Prelude.{ℕ, ◌+◌, ◌*◌, ◌<◌, pos, true, false, List, [], ◌∷◌, Some}
-use Rattle.wrp_base.specs.declared.link.Role.TheVariants.{Master, Slave}
+use Rattle.std.specs.Prelude.{◌+◌, ◌*◌, ◌<◌, pos, true, List, [], ◌∷◌, Some}
+use Rattle.wrp_base.specs.declared.link.Role.TheVariants.{Slave}
 use Rattle.wrp_link.specs.declared.interface.LinkIn.TheVariants.{Announce}
 use Rattle.wrp_link.specs.declared.interface.LinkSet.{LinkSet}
 use Rattle.wrp_handshake.specs.Ends.{Change, Passes, Hears}
