@@ -12,6 +12,7 @@ pub mod Chains
 pub mod CompleteJudged
 pub mod ContentExact
 pub mod Due
+pub mod Handshakes
 pub mod Judging
 pub mod LookingBack
 pub mod OneInspection

@@ -13,6 +13,7 @@ pub mod WorkedMarks
 pub mod Content
 pub mod PacketLines
 pub mod InspectLaws
+pub mod Handshakes
 pub mod Inspected
 pub mod InspectionAt
 pub mod Inspecting

@@ -1,5 +1,6 @@
 //! What holds of every inspection. The functions here do nothing: their contracts are laws, and their
 //! proofs show that the laws hold.
+ghost use Rattle.wrp_pcap.specs.Handshakes.{CompleteNamesHandshake};
 ghost use Rattle.wrp_pcap.specs.InspectLaws.{OneIsDue, RefusalsStay, CompleteIsJudged};
 ghost use Rattle.wrp_pcap.specs.InspectLaws.{PacketsAreLimited};
 
@@ -24,4 +25,10 @@ pub fn packets_are_limited()
 /// the same handshake.
 pub fn complete_is_judged()
     ensures { CompleteIsJudged }
+{}
+
+/// The eight numbers of each `complete` that is printed rise, and the packets with these numbers carry the
+/// eight messages of a handshake of one master and its slave, each from the port that sends it to the other.
+pub fn complete_names_handshake()
+    ensures { CompleteNamesHandshake }
 {}

@@ -30,7 +30,9 @@ pub use capture_laws::{
 pub use content::{Content, content_of};
 pub use ethernet::{frame_of, message_in};
 pub use histories::marks;
-pub use inspect_laws::{complete_is_judged, one_is_due, packets_are_limited, refusals_stay};
+pub use inspect_laws::{
+    complete_is_judged, complete_names_handshake, one_is_due, packets_are_limited, refusals_stay,
+};
 pub use inspecting::inspect;
 pub use inspection::Inspection;
 pub use laws::{certificate_is_due, complete_rises, marks_of_eight, worked_certificates};
