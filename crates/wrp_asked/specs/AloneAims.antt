@@ -14,6 +14,7 @@ use Rattle.wrp_pcap.specs.declared.content.Content.{Content}
 use Rattle.wrp_pcap.specs.declared.verdict.Verdict8.TheVariants.{Complete}
 use Rattle.wrp_pcap.specs.Capture.{Begins, HasHeader, StoredPacket}
 use Rattle.wrp_pcap.specs.Content.{messages_of}
+use Rattle.wrp_pcap.specs.Handshakes.{AreHandshake}
 use Rattle.wrp_pcap.specs.Inspected.{Carry, IsBadCapture, IsInspected, IsTooMany}
 use Rattle.wrp_pcap.specs.Marks.{Rises, slave_marks, master_marks}
 use Rattle.wrp_pcap.specs.PacketLines.{told_of}
@@ -62,13 +63,15 @@ AreJudged numbers =
     × Judges Slave (reverse (slave_marks numbers)) (reverse (master_marks numbers)) (Ok tt)
     × Judges Master (reverse (master_marks numbers)) (reverse (slave_marks numbers)) (Ok tt)
 
--- by each certificate that is complete behind one of the first packets of a capture both ends passed that handshake
+-- each `complete` that follows one of the first packets of a capture names eight packets of that capture which carry the
+-- messages of one handshake, and by their marks both ends passed it
 abbrev pub JudgesHandshakes : List ℕ → Type 0
 JudgesHandshakes input =
     (order : Order) (packets : List StoredPacket) (rest : List ℕ) → HasHeader order input
     → Begins order packets rest (drop 24 input)
     → (newer before : List Content) (content : Content) (numbers : List ℕ) → Carry packets (newer ++ content ∷ before)
-    → told_of (length before + 1) (messages_of before) content ≡ Some (Complete numbers) → AreJudged numbers
+    → told_of (length before + 1) (messages_of before) content ≡ Some (Complete numbers)
+    → AreJudged numbers × AreHandshake packets numbers
 
 -- so it is whatever a capture has; and where it was read to its end, or to what is refused, the octets are the lines of
 -- its packets, by the certificate, and then the counts, or the refusal

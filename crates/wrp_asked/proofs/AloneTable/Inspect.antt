@@ -1,6 +1,7 @@
 -- The command `inspect`.
 use Rattle.std.proofs.Common.{refl, ℕ, List, [], arith}
 use Rattle.wrp_pcap.proofs.CompleteJudged.{complete_is_judged}
+use Rattle.wrp_pcap.proofs.Handshakes.{complete_names_handshake}
 use Rattle.wrp_pcap.proofs.OneInspection.{one_answer}
 use Rattle.wrp_pcap.specs.Inspected.{capture}
 use Rattle.wrp_records.specs.declared.status.Status.{Status}
@@ -18,7 +19,10 @@ may input _ octets at = absurd at.1
 
 -- whatever an input has, an inspection judges its handshakes
 judges : (input : List ℕ) → JudgesHandshakes input
-judges input order packets rest header begins newer before content numbers carry told = complete_is_judged content before numbers told
+judges input order packets rest header begins newer before content numbers carry told = (
+  complete_is_judged content before numbers told,
+  complete_names_handshake packets newer before content numbers carry told
+)
 
 aim : (input : List ℕ) (status : Status) (octets : List ℕ) → Leaves capture input status octets → InspectsSo input status octets
 aim input Done octets at = ((at.answer refl).1, judges input)
