@@ -21,7 +21,7 @@ may input _ octets at = absurd at.1
 judges : (input : List ℕ) → JudgesHandshakes input
 judges input order packets rest header begins newer before content numbers carry told = (
   complete_is_judged content before numbers told,
-  complete_names_handshake packets newer before content numbers carry told
+  complete_names_handshake packets newer before content numbers carry told,
 )
 
 aim : (input : List ℕ) (status : Status) (octets : List ℕ) → Leaves capture input status octets → InspectsSo input status octets
