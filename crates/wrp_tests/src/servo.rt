@@ -1,4 +1,5 @@
-//! Lists of calls that numbers draw: whether TRACK stands, beside a plain program that looks back over all calls.
+//! Lists of calls that numbers draw: whether TRACK stands, beside a plain program that looks back over all calls. And a
+//! servo whose law has a short range.
 ghost use Rattle.std.specs.Prelude.{◌≡◌, ◌≤◌, ◌+◌, ◌<◌, ◌^◌, unsigned_abs};
 ghost use Rattle.wrp_law.specs.Law.{KeepsFact};
 ghost use Rattle.wrp_servo.specs.Sizes.{FitsTimes};
@@ -7,7 +8,7 @@ mod plain;
 
 use plain::{Call, drawn, tracking};
 use std::process::Abort;
-use wrp_base::{Clock, Deltas, Four};
+use wrp_base::{ChainNews, Clock, Deltas, Four};
 use wrp_law::{DelayLaw, LawKind, floor_of};
 use wrp_servo::{Servo, ServoOut, ServoSet, counts_one_tick};
 
@@ -25,6 +26,24 @@ const SMALL: ServoSet = ServoSet {
     phase_step: 100_000,
     kp: 0,
     ki: 0,
+    bias: 32768,
+    clock: Clock::Mhz125,
+};
+
+// The numbers of a network file without keys.
+const USUAL: ServoSet = ServoSet {
+    holdover: 320,
+    age: 300,
+    stable: 50,
+    gap: 2,
+    lock_samples: 100,
+    delock_samples: 50,
+    threshold: 6400,
+    track_tau: 3_276_800,
+    loop_tau: 3_276_800,
+    phase_step: 100_000,
+    kp: 125,
+    ki: 5,
     bias: 32768,
     clock: Clock::Mhz125,
 };
@@ -144,4 +163,39 @@ fn tracking_looks_back(rt: HostRuntime) {
         tracked = tracked.saturating_add(stood);
     }
     assert!(rt; tracked > 100, "{tracked}");
+}
+
+// A delay both ways in tau, and whether a law from 0 to 10 tau refuses it.
+const SHORT: [(i64, bool); 4] = [(-1, true), (0, false), (10, false), (11, true)];
+
+// A chain of a hundred samples, and then a measurement.
+#[test]
+fn delays_out_of_range_end_the_chain(rt: HostRuntime) {
+    for (delay, is_refused) in SHORT {
+        let law = DelayLaw::new(
+            |x: i64|
+                requires { unsigned_abs x ≤ 2 ^ 53 }
+            { floor_of(0, x) },
+            LawKind::Linear { kappa: 0 },
+            0,
+            10,
+            1,
+        );
+        let mut servo = Servo::new(USUAL, law);
+        let _lease = servo.lease(true);
+        let _up = servo.carrier(true);
+        let _on = servo.link(Some(DELTAS));
+        let mut chain = ChainNews::Same;
+        for n in 1..=100 {
+            chain = servo.sample(n, 0, BITS).chain;
+        }
+        assert_eq!(rt; chain, ChainNews::Started(100), "{delay}");
+        let out = servo.measured(&four(delay, 0, 0));
+        let due = if is_refused {
+            (Some(14), ChainNews::Ended)
+        } else {
+            (None, ChainNews::Same)
+        };
+        assert!(rt; (out.refused, out.chain) == due, "{delay}");
+    }
 }
