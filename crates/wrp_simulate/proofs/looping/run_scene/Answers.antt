@@ -1,5 +1,5 @@
 -- The network and its simulator are new, the sink takes an empty piece, and the link is started.
-use Rattle.std.proofs.Common.{◌≡◌, ◌∙◌, ap, refl, subst, sym, ℕ, Ok, Err, Result}
+use Rattle.std.proofs.Common.{◌≡◌, ◌∙◌, ap, true, false, refl, rules, subst, sym, ℕ, Ok, Err, Result}
 use Rattle.std.proofs.KnownBytes.{Appends-nil}
 use Rattle.std.specs.Result.{OnErr}
 use Rattle.wrp_config.specs.declared.network.Network.{Network}
@@ -95,3 +95,22 @@ returns-clause-linked g c = record {
   failed = λ is. absurd (memory_linked is);
   sound = λ other. c.start_loop.ensures.kept (memory_failed c.start_loop.result (c.in-Err-Memory.is ∙ ap Err c.in-Err-Memory.field-0-is));
 }
+
+-- The faults of the sink
+
+pub returns-then-not-is_open-clause-rose : goal.returns-then-not-is_open-clause-rose
+returns-then-not-is_open-clause-rose g c = λ is. let closed : c.is_open.result ≡ false = search rules in c.is_open.ensures.rose closed
+
+pub returns-in-Ok-start_loop-clause-rose : goal.returns-in-Ok-start_loop-clause-rose
+returns-in-Ok-start_loop-clause-rose g c = λ is.
+    let taken : c.is_open.result ≡ true = search rules in
+    subst (λ (n : ℕ). Rose n (g.K.Sink.faults c.run_rounds.new.sink)) (c.is_open.ensures.kept taken) (c.run_rounds.ensures.rose is)
+
+pub returns-in-Ok-start_loop-clause-kept : goal.returns-in-Ok-start_loop-clause-kept
+returns-in-Ok-start_loop-clause-kept g c = λ other. let taken : c.is_open.result ≡ true = search rules in c.run_rounds.ensures.kept other ∙ c.is_open.ensures.kept taken
+
+pub returns-in-Err-Failed-clause-kept : goal.returns-in-Err-Failed-clause-kept
+returns-in-Err-Failed-clause-kept g c = λ other. let taken : c.is_open.result ≡ true = search rules in c.is_open.ensures.kept taken
+
+pub returns-clause-kept : goal.returns-clause-kept
+returns-clause-kept g c = λ other. let taken : c.is_open.result ≡ true = search rules in c.is_open.ensures.kept taken
