@@ -1,7 +1,8 @@
-"""The lines that `simulate`, `audit`, `replay` and `loop` print, as tools/plot reads them: what each node said, and when.
+"""The lines that `simulate`, `audit`, `replay` and `loop` print, as tools/plot and tools/stability read them: what each node said, and when.
 
 True time comes from the `= pass` events of `loop`. Without them the time of a line is its node's ticks times a nominal tick,
 and never before the time of the line above it: lines come in the order of what happened."""
+import collections
 import math
 import re
 
@@ -68,6 +69,10 @@ class Curve:
         return [(time, value) for _, points in self.slots for _, time, value in sorted(set(points))]
 
 
+# A `track` line: when it came, the chain of samples that it is in, the estimate, the true offset or None, and the tick.
+Track = collections.namedtuple("Track", "time chain est true tick")
+
+
 class Node:
     """What the lines say of a node. Times are in s from the start of the run, offsets and bounds in tau."""
 
@@ -76,12 +81,12 @@ class Node:
         self.bound, self.chain = None, 0
         self.off, self.curves = None, []
 
-    def take(self, time, kind, words):
+    def take(self, time, tick, kind, words):
         """Takes a line of this node."""
         self.lives[-1][1] = time
         if kind == "track":
             self.bound = int(words[1])
-            self.tracks.append((time, self.chain, int(words[0]), int(words[3]) if len(words) == 4 else None))
+            self.tracks.append(Track(time, self.chain, int(words[0]), int(words[3]) if len(words) == 4 else None, tick))
         elif kind == "servo":
             self.chain += words[0] != "track"
             self.servo.append((time, words[0]))
@@ -173,7 +178,7 @@ class Run:
             self.said.append((name, tick, kind, words))
             return
         node = self.up(name) if kind in ("step", "track") or name not in self.nodes else self.nodes[name]
-        node.take(self.time, kind, words)
+        node.take(self.time, tick, kind, words)
         if kind == "step":
             node.off += int(words[0]) * self.period
             node.curves[-1].add(self.time, node.off)
@@ -203,7 +208,7 @@ class Run:
                 node.lives[-1][1] = max(node.lives[-1][1], bases[name] + tick * self.tick)
                 node.bound = int(words[0]) or node.bound
             else:
-                node.take(self.time, kind, words)
+                node.take(self.time, tick, kind, words)
 
     def began(self, at, ticks, bases):
         """When a node began again: with the next line of a port that hears its carrier come, or else with the line above."""
@@ -241,7 +246,7 @@ def read_run(lines, what, tick, period, window=(0.0, math.inf)):
     if not run.has_true_time:
         run.give_times()
     if not run.nodes:
-        raise Refused(f"{what} has no line of a node with a tick, so there is nothing to draw")
+        raise Refused(f"{what} has no line of a node with a tick")
     return run
 
 
@@ -257,6 +262,6 @@ def take(run, line, at, what):
     elif end := SUM.fullmatch(line):
         run.ends(end[1], int(end[2]), end[3])
     elif REFUSAL.fullmatch(line):
-        raise Refused(f"{what} ends with a refusal of the program, so there is no picture: {line}")
+        raise Refused(f"{what} ends with a refusal of the program: {line}")
     elif not PASSED_OVER.fullmatch(line):
         raise ValueError(line)
