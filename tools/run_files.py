@@ -1,6 +1,7 @@
 """What the tools that read the lines of a run take and write: the words of the command, the lines, the network file, the output."""
 import argparse
 import contextlib
+import math
 import os
 import sys
 
@@ -13,6 +14,13 @@ class Words(argparse.ArgumentParser):
 
     def error(self, message):
         raise Refused(f"{message}; {self.prog} -h says what there is")
+
+
+def seconds(word):
+    """A time of the command line."""
+    if not math.isfinite(float(word)):
+        raise ValueError(word)
+    return float(word)
 
 
 def text_of(path):
