@@ -38,19 +38,32 @@ class Network:
         node = self.nodes[name]
         return max(node["slew"], node["held"]) if name in self.above else 0
 
-    def listed(self, module, sent, received):
-        """The error of a module's entry for two wavelengths, or None where it has none."""
+    def entry(self, module, sent, received):
+        """A module's entry for two wavelengths, or None where it has none."""
         if self.file.get("version", 1) == 1:
-            return module["err"]
-        pairs = {(it["tx_nm"], it["rx_nm"]): it["err"] for it in module["pair"]}
+            return module
+        pairs = {(it["tx_nm"], it["rx_nm"]): it for it in module["pair"]}
         return pairs.get((sent, received), pairs.get((0, 0)))
 
-    def e_db(self, link):
-        """The greatest error of all modules that are listed at either end of a link."""
+    def errors(self, link):
+        """Of each module of the file that is listed for a link's wavelengths at either end, fitted there or not: its greater
+        error and its name."""
         down, upwards = link.get("down_nm", 0), link.get("up_nm", 0)
-        ends = [(down, upwards), (upwards, down)]
-        found = [self.listed(module, *end) for module in self.file.get("module", []) for end in ends]
-        return max((it for it in found if it is not None), default=0)
+        for module in self.file.get("module", []):
+            found = [self.entry(module, *end) for end in ((down, upwards), (upwards, down))]
+            if any(found):
+                yield max(it["err"] for it in found if it), module["name"]
+
+    def e_db(self, link):
+        """The greatest error of all modules of the file that are listed for a link's wavelengths at either end."""
+        return max((error for error, _ in self.errors(link)), default=0)
+
+    def longest_sum(self):
+        """The greatest sum of both ways that a scenario may give a fibre: three of it are at most four times what the
+        ninth inequality leaves of the reach. All entries of all modules count."""
+        entries = [it for module in self.file.get("module", []) for it in module.get("pair", [module])]
+        tx, rx, err = (max((it.get(key, 0) for it in entries), default=0) for key in ("tx", "rx", "err"))
+        return max(0, 4 * (self.numbers["reach_ns"] * TAU_IN_NS - (tx + rx + 2 * err)) // 3)
 
     def hop(self, name):
         """The parts of a node's hop."""
