@@ -19,9 +19,10 @@ use Rattle.wrp_records.specs.Stream.{IsWithin}
 use Rattle.wrp_asked.specs.Answer.{Answer}
 use Rattle.wrp_audit.specs.Audited.{IsAudit, IsSettingOf, answers_in}
 use Rattle.wrp_audit.specs.Audits.{audit_of}
-use Rattle.wrp_audit.specs.AuditText.{all_counts, audit_lines}
+use Rattle.wrp_audit.specs.AuditText.{all_counts, audit_lines, event_lines}
+use Rattle.wrp_asked.specs.Headline.{CarriesRun}
 use Rattle.wrp_asked.specs.Input.{behind_separator, network_limit, network_text}
-use Rattle.wrp_asked.specs.LoopHeadline.{CarriesRun, IsLoopDue, IsToldApart, LoopOf, LoopedEventsCarryParts, came_lines}
+use Rattle.wrp_asked.specs.LoopHeadline.{IsLoopDue, IsToldApart, LoopOf, LoopedEventsCarryParts, came_lines}
 use Rattle.wrp_simulate.specs.Loops.{plan_of}
 use Rattle.wrp_asked.specs.Tasks.{Audit, IsAuditing, IsLooping}
 use Rattle.wrp_asked.proofs.LoopedParts.{loops_few}
@@ -46,7 +47,7 @@ loop_due words seed input octets calls looping answer = the_loop words input oct
 -- The audit
 
 -- the events that came, as their lines say them, are an audit
-audit_is : ReadingIsAccepted → (words : List (List ℕ)) (input octets : List ℕ) (calls : List LinkCall) (loop : LoopOf words input calls Done octets) → CarriesRun loop.setting (events_at (place loop.last)) →
+audit_is : ReadingIsAccepted → (words : List (List ℕ)) (input octets : List ℕ) (calls : List LinkCall) (loop : LoopOf words input calls Done octets) → CarriesRun event_lines loop.setting (events_at (place loop.last)) →
     IsAudit loop.setting (map content_of (told_lines loop.setting (events_at (place loop.last)))) (plain_events (events_at (place loop.last)))
 audit_is accepted words input octets calls loop carried =
     let s : Setting = loop.setting in
@@ -72,7 +73,7 @@ wholly s lines events text audit sizes count is = record {
 }
 
 again_due : ReadingIsAccepted → (words auditing : List (List ℕ)) (input again octets : List ℕ) (calls : List LinkCall) (loop : LoopOf words input calls Done octets) → IsAuditing auditing →
-    CarriesRun loop.setting (events_at (place loop.last)) → IsToldApart loop.setting loop.last octets → HasRecords input (event_records octets) again → IsAuditedAgain auditing again octets (place loop.last).forged
+    CarriesRun event_lines loop.setting (events_at (place loop.last)) → IsToldApart loop.setting loop.last octets → HasRecords input (event_records octets) again → IsAuditedAgain auditing again octets (place loop.last).forged
 again_due accepted words auditing input again octets calls loop audits carried apart has =
     let s : Setting = loop.setting in
     let events : List Happened = events_at (place loop.last) in
@@ -107,6 +108,6 @@ again_due accepted words auditing input again octets calls loop audits carried a
 pub loop_audited_again : ReadingIsAccepted → LoopIsAudited → LoopedEventsCarryParts → LoopIsAuditedAgain
 loop_audited_again accepted audited parts looping auditing seed input again octets calls loops audits answer has =
     let loop : LoopOf looping input calls Done octets = loop_due looping seed input octets calls loops answer in
-    let carried : CarriesRun loop.setting (events_at (place loop.last)) = parts looping input calls loop.setting loop.last loop.came in
+    let carried : CarriesRun event_lines loop.setting (events_at (place loop.last)) = parts looping input calls loop.setting loop.last loop.came in
     let is = loop.is ∙ ap (λ (l : List ℕ). came_lines loop.setting (events_at (place loop.last)) ++ l) loop.ends.2 in
     (loop, again_due accepted looping auditing input again octets calls loop audits carried (told_apart audited loop.setting loop.last octets carried is) has)

@@ -19,11 +19,12 @@ use Rattle.wrp_records.specs.Lines.{IsWhole, content_of, lines_of}
 use Rattle.wrp_records.proofs.Reaching.{lines_alone}
 use Rattle.wrp_records.specs.RecordsAnswer.{BreaksOff, IsLarge, IsRefused, IsWholly, RecordsAnswer, StandsFirst}
 use Rattle.wrp_records.specs.Stream.{CutHandled, large_line}
-use Rattle.wrp_audit.specs.AuditText.{all_counts, audit_lines}
+use Rattle.wrp_audit.specs.AuditText.{all_counts, audit_lines, event_lines}
 use Rattle.wrp_asked.specs.Answer.{Answer, AsksNone, CutAnswer, FirstAnswer, LoopAnswer, LoopBroken, PartAnswer, RecordsDue, TaskAnswer}
 use Rattle.wrp_asked.specs.Ends.{Called, Ends, Run}
 use Rattle.wrp_asked.specs.Input.{behind_separator, network_text}
-use Rattle.wrp_asked.specs.LoopHeadline.{CarriesRun, IsLoopDue, IsToldApart, LacksScene, LoopHeadline, LoopOf, LoopedEventsCarryParts, PrintsTheLoop, TellsApart, came_lines}
+use Rattle.wrp_asked.specs.Headline.{CarriesRun}
+use Rattle.wrp_asked.specs.LoopHeadline.{IsLoopDue, IsToldApart, LacksScene, LoopHeadline, LoopOf, LoopedEventsCarryParts, PrintsTheLoop, TellsApart, came_lines}
 use Rattle.wrp_simulate.specs.Loops.{LoopEnded, LoopFailed, LoopShort, IsShort, closing_lines, loop_of, plan_of}
 use Rattle.wrp_simulate.specs.Simulates.{SimRefuses, scenario_of}
 use Rattle.wrp_asked.specs.Tasks.{Task, Replay, Audit, Emit, Simulate, Loop, AsksFor, IsLooping, meaning_at}
@@ -314,7 +315,7 @@ prints run seed input BadCalib looping is h = absurd (alone_unnetworked run.word
 
 -- The audit of its events
 
-pub told_apart : LoopIsAudited → (s : Setting) (last : Going) (octets : List ℕ) → CarriesRun s (events_at (place last)) →
+pub told_apart : LoopIsAudited → (s : Setting) (last : Going) (octets : List ℕ) → CarriesRun event_lines s (events_at (place last)) →
     octets ≡ came_lines s (events_at (place last)) ++ closing_lines s (place last) → IsToldApart s last octets
 told_apart audited s last octets carried is =
     let events = events_at (place last) in

@@ -20,4 +20,4 @@ events_carry_parts can accepted links tracks words input s events came =
 pub made_events_carry_parts : SimRunsAreRuns → ReadingIsAccepted → LinksHoldInRuns → TracksHoldInRuns → MadeEventsCarryParts
 made_events_carry_parts runs accepted links tracks words input s events made =
     let near : RunsNear s events = simulation_runs runs accepted words input s events made in
-    parts_of is_printed links s events near.run (tracks_hold tracks is_printed s events near)
+    record { run = near.run; fit = near.fit; parts = parts_of is_printed links s events near.run (tracks_hold tracks is_printed s events near) }

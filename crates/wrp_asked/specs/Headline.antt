@@ -14,6 +14,7 @@ use Rattle.wrp_course.specs.Dropped.{LeavesACount, given_at}
 use Rattle.wrp_course.specs.Earned.{AllHaveEarned, IsOn}
 use Rattle.wrp_course.specs.Given.{Given}
 use Rattle.wrp_course.specs.Run.{Happened, world_after}
+use Rattle.wrp_course.specs.Runs.{IsRun}
 use Rattle.wrp_course.specs.Setting.{Setting, node_setting_of}
 use Rattle.wrp_course.specs.WorldAt.{WorldAt}
 use Rattle.wrp_records.specs.declared.machine.Refusal.TheVariants as refusals
@@ -30,6 +31,7 @@ use Rattle.wrp_replay.specs.Replays.{IsRefusedBy}
 use Rattle.wrp_records.specs.Stream.{IsTooLarge, large_line}
 use Rattle.wrp_asked.specs.Tasks.{Audit, Emit, AsksFor}
 use Rattle.wrp_asked.specs.TrackLines.{TracksAreWithin}
+use Rattle.wrp_truth.specs.Chains.{AllFit}
 
 -- Which events came
 
@@ -143,6 +145,13 @@ pub record CarriesParts (write : Writing) (s : Setting) (events : List Happened)
   pub link_on : LinkOnIsEarned write s events
   pub tracks : TracksAreWithin write s events
   pub drops : DropsOnlyCount write s events
+
+-- these events are a run of their network, so they kept all premises, their numbers are such as a line says, and they carry the
+-- other parts
+pub record CarriesRun (write : Writing) (s : Setting) (events : List Happened) : Type 0 where
+  pub run : IsRun s events
+  pub fit : AllFit events
+  pub parts : CarriesParts write s events
 
 -- whatever events came
 abbrev pub EventsCarryParts : Type 0

@@ -7,7 +7,6 @@
 use Rattle.std.specs.Prelude.{◌≡◌, ◌⊎◌, ℕ, List, [], ◌∷◌, ◌++◌, map}
 use Rattle.std.specs.List.{AllByRecursion}
 use Rattle.wrp_course.specs.Run.{Happened, world_after}
-use Rattle.wrp_course.specs.Runs.{IsRun}
 use Rattle.wrp_course.specs.Setting.{Setting}
 use Rattle.wrp_io.specs.declared.link.LinkCall.{LinkCall}
 use Rattle.wrp_loop.specs.Calls.{IsFrameCall}
@@ -19,14 +18,13 @@ use Rattle.wrp_records.specs.declared.status.Status.TheVariants.{Done, LinkFault
 use Rattle.wrp_records.specs.Lines.{content_of, lines_of}
 use Rattle.wrp_records.specs.Stream.{large_line}
 use Rattle.wrp_audit.specs.AuditText.{all_counts, audit_lines, event_lines}
-use Rattle.wrp_asked.specs.Headline.{CarriesParts, Prints, ReachesNone}
+use Rattle.wrp_asked.specs.Headline.{CarriesRun, Prints, ReachesNone}
 use Rattle.wrp_asked.specs.Input.{behind_separator, network_text}
 use Rattle.wrp_simulate.specs.Loops.{IsLawful, IsShort, closing_lines, plan_of}
 use Rattle.wrp_asked.specs.SimHeadline.{NamesLine}
 use Rattle.wrp_simulate.specs.Simulates.{IsScenario}
 use Rattle.wrp_asked.specs.Tasks.{Loop, AsksFor}
 use Rattle.wrp_sim.specs.Scenario.{SceneAt}
-use Rattle.wrp_truth.specs.Chains.{AllFit}
 
 -- Which events came
 
@@ -131,22 +129,15 @@ TellsApart words input calls status octets = Unit {0}
 
 -- All parts
 
--- the events that came are a run of their network, whatever the link did, their numbers are such as a line says, and they carry
--- the other parts
-pub record CarriesRun (s : Setting) (events : List Happened) : Type 0 where
-  pub run : IsRun s events
-  pub fit : AllFit events
-  pub parts : CarriesParts event_lines s events
-
 -- whatever events came
 abbrev pub LoopedEventsCarryParts : Type 0
 LoopedEventsCarryParts =
     (words : List (List ℕ)) (input : List ℕ) (calls : List LinkCall) (s : Setting) (last : Going) →
-    Looped words input calls s last → CarriesRun s (events_at (place last))
+    Looped words input calls s last → CarriesRun event_lines s (events_at (place last))
 
 -- of a run over a link that ended with this status and wrote these octets, where the link told these calls
 pub record LoopHeadline (words : List (List ℕ)) (input : List ℕ) (calls : List LinkCall) (status : Status) (octets : List ℕ)
     : Type 0 where
   pub prints : PrintsTheLoop words input calls status octets
-  pub carries : (s : Setting) (last : Going) → Looped words input calls s last → CarriesRun s (events_at (place last))
+  pub carries : (s : Setting) (last : Going) → Looped words input calls s last → CarriesRun event_lines s (events_at (place last))
   pub apart : TellsApart words input calls status octets

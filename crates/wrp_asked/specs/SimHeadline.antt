@@ -1,6 +1,6 @@
 -- The aim of the project, part by part, of what a simulation wrote, for each status: it printed the lines of the nodes'
--- steps in the events that its rules make (`PrintsTheRun`); and of all events that they make, with no premise, since none can
--- break one: no port was in WR_LINK_ON unless its peer had passed the required steps of that same handshake
+-- steps in the events that its rules make (`PrintsTheRun`); and of all events that they make, with no premise: they are a run of
+-- their network, so none breaks a premise (`CarriesRun`); no port was in WR_LINK_ON unless its peer had passed the required steps of that same handshake
 -- (`LinkOnIsEarned`); every track line's true offset is at most its printed bound (`TracksAreWithin`); and a malformed or
 -- foreign frame changed only a counter (`DropsOnlyCount`). This project's profile.
 use Rattle.std.specs.Prelude.{◌≡◌, ◌⊎◌, ℕ, ◌+◌, None, Some, List, [], ◌∷◌, ◌++◌, length, map}
@@ -14,7 +14,7 @@ use Rattle.wrp_course.specs.Setting.{Setting}
 use Rattle.wrp_records.specs.declared.machine.Refusal.TheVariants as refusals
 use Rattle.wrp_records.specs.declared.status.Status.{Status}
 use Rattle.wrp_records.specs.declared.status.Status.TheVariants.{Done, BadTrace, TooLarge, OutOfMemory}
-use Rattle.wrp_asked.specs.Headline.{CarriesParts, Prints, ReachesNone}
+use Rattle.wrp_asked.specs.Headline.{CarriesRun, Prints, ReachesNone}
 use Rattle.wrp_asked.specs.Input.{behind_separator, network_text}
 use Rattle.wrp_records.specs.Lines.{content_of, lines_of}
 use Rattle.wrp_loop.specs.LoopRun.{event_limit}
@@ -93,9 +93,9 @@ PrintsTheRun words input status octets =
 abbrev pub MadeEventsCarryParts : Type 0
 MadeEventsCarryParts =
     (words : List (List ℕ)) (input : List ℕ) (s : Setting) (events : List Happened) → Made words input s events →
-    CarriesParts run_lines s events
+    CarriesRun run_lines s events
 
 -- of a simulation that ended with this status and wrote these octets
 pub record SimHeadline (words : List (List ℕ)) (input : List ℕ) (status : Status) (octets : List ℕ) : Type 0 where
   pub prints : PrintsTheRun words input status octets
-  pub carries : (s : Setting) (events : List Happened) → Made words input s events → CarriesParts run_lines s events
+  pub carries : (s : Setting) (events : List Happened) → Made words input s events → CarriesRun run_lines s events
