@@ -3,6 +3,7 @@
 //! and in HOLDOVER. An allocation that fails (`rt try --test --fail-alloc N`) is an event that comes once more.
 mod course;
 mod dice;
+mod handshake;
 mod life;
 mod networks;
 mod plan;
@@ -91,6 +92,16 @@ fn tries(rt: &impl Abort, alloc: Global, keys: &str, mut plan: Plan) -> Result<(
     let other = DelayLaw::new(down, kind, -(1 << 30), 1 << 53, 1);
     let mut trial = trial_of(alloc, keys, law, other)?;
     runs(rt, &mut trial, &mut plan)
+}
+
+// Undisturbed; and the slave's first CALIBRATE is lost, and its LOCKED comes again. Both ports have the same words either way,
+// and are judged at the end, as after each event.
+#[test]
+fn handshakes_of_two_nodes_are_judged(rt: HostRuntime) -> Result<(), Fail> {
+    for is_disturbed in [false, true] {
+        tries(&rt, rt.alloc(), "", Plan::handshake(is_disturbed))?;
+    }
+    Ok(())
 }
 
 #[test]

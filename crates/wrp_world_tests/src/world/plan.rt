@@ -1,6 +1,7 @@
 //! The plan of a run: how it begins, how long it goes on, what goes wrong in it, and how near the slaves have
 //! to be to the grandmaster.
 use super::course::{Course, Ends};
+use super::handshake::Handshake;
 use super::networks::{DOWN, ERROR, MS, SM};
 use super::seen::{NodeSeen, Seen};
 use arrayvec::ArrayVec;
@@ -10,6 +11,8 @@ use wrp_world::{Event, Swap};
 /// What a run is for.
 #[derive(Clone, Copy, PartialEq, Eq)]
 enum Aim {
+    // gm and sw1 come to WR_LINK_ON; leaf stays down.
+    Handshake,
     // sw1 comes to TRACK and stays there; leaf stays down.
     Track,
     // Links are on, while frames are lost, links are cut and nodes go down.
@@ -37,6 +40,7 @@ pub struct Plan {
     aim: Aim,
     stage: Stage,
     course: Course,
+    handshake: Handshake,
     // How many of the first events have come.
     begun: u32,
     // The offsets with which sw1 and leaf come up.
@@ -83,12 +87,20 @@ impl Plan {
             aim,
             stage: Stage::Before,
             course,
+            handshake: Handshake::new(false),
             begun: 0,
             offs,
             ends: None,
             went_wrong: false,
             near: None,
         }
+    }
+
+    /// The handshake of gm and sw1, undisturbed or disturbed.
+    pub fn handshake(is_disturbed: bool) -> Plan {
+        let mut plan = Plan::new(Aim::Handshake, Course::new(0), (196_608_000_000, 0));
+        plan.handshake = Handshake::new(is_disturbed);
+        plan
     }
 
     /// sw1 comes to TRACK with a clock of this rate, up with this offset, and is there for 5000 events, in
@@ -174,6 +186,11 @@ impl Plan {
         }
     }
 
+    // Whether leaf comes up.
+    fn has_leaf(&self) -> bool {
+        matches!(self.aim, Aim::Faults | Aim::Bounds)
+    }
+
     // The first events: links are joined and nodes come up.
     fn begins(&mut self) -> Option<Event> {
         let number = self.begun;
@@ -182,8 +199,8 @@ impl Plan {
             0 => Some(self.join(0, 16)),
             1 => Some(self.up(0, 0, 20)),
             2 => Some(self.up(1, self.offs.0, 22)),
-            3 if self.aim != Aim::Track => Some(self.join(1, 17)),
-            4 if self.aim != Aim::Track => Some(self.up(2, self.offs.1, 24)),
+            3 if self.has_leaf() => Some(self.join(1, 17)),
+            4 if self.has_leaf() => Some(self.up(2, self.offs.1, 24)),
             _ => None,
         }
     }
@@ -213,6 +230,9 @@ impl Plan {
         if let Some(event) = self.begins() {
             return (event, false);
         }
+        if self.aim == Aim::Handshake {
+            return (self.handshake.next(seen, &mut self.course), false);
+        }
         if self.aim == Aim::Bounds && self.stage == Stage::In(0) {
             self.stage = Stage::Behind;
             self.course.arrived = None;
@@ -237,6 +257,7 @@ impl Plan {
     fn is_there(&self, seen: &Seen) -> bool {
         let tracks = seen.sw1.servo == ServoState::Track;
         match self.aim {
+            Aim::Handshake => self.handshake.is_over(),
             Aim::Track => tracks,
             Aim::Faults => seen.ends[1].on,
             Aim::Bounds => tracks && seen.leaf.servo == ServoState::Track,
@@ -246,6 +267,7 @@ impl Plan {
     // How many events more a run has that has come to what it is for.
     fn more(&self) -> u32 {
         match self.aim {
+            Aim::Handshake => 0,
             Aim::Track => 5000,
             Aim::Faults | Aim::Bounds => 600,
         }
@@ -253,6 +275,10 @@ impl Plan {
 
     /// Sees how far the run has come, and answers whether it is over.
     pub fn is_over(&mut self, seen: &Seen) -> bool {
+        if self.aim == Aim::Handshake {
+            self.handshake.sees(seen);
+            return self.handshake.is_over();
+        }
         match self.stage {
             Stage::Before => {
                 if self.is_there(seen) {
@@ -287,9 +313,14 @@ impl Plan {
         }
     }
 
-    /// Whether a run that is over ends as it has to: one that is to stay in TRACK is there, and both ends of the
-    /// upper link are in WR_LINK_ON.
+    /// Whether a run that is over ends as it has to: a handshake is done, and a run that is to stay in TRACK is there; of
+    /// both, the ends of the upper link are in WR_LINK_ON.
     pub fn ends_well(&self, seen: &Seen) -> bool {
-        self.aim != Aim::Track || (self.is_there(seen) && seen.ends[0].on && seen.ends[1].on)
+        let are_on = seen.ends[0].on && seen.ends[1].on;
+        match self.aim {
+            Aim::Handshake => self.handshake.is_done() && are_on,
+            Aim::Track => self.is_there(seen) && are_on,
+            Aim::Faults | Aim::Bounds => true,
+        }
     }
 }

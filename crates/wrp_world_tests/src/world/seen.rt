@@ -32,16 +32,18 @@ pub struct NodeSeen {
 pub struct EndSeen {
     /// Whether a frame waits at it.
     pub waits: bool,
-    /// Whether it is in WR_LINK_ON.
+    /// Its word, and whether that is WR_LINK_ON.
+    pub word: LinkWord,
     pub on: bool,
 }
 
-/// The frame that arrives next: its number, when, and at which node.
+/// The frame that arrives next: its number, when, at which node, and its wrMessageID where it is a White Rabbit message.
 #[derive(Clone, Copy)]
 pub struct Arrival {
     pub frame: u32,
     pub due: Tau,
     pub to: u8,
+    pub message: Option<u16>,
 }
 
 /// What is seen of a world.
@@ -123,9 +125,14 @@ fn end_seen<F: Fn(i64) -> i64>(world: &World<F>, end: End) -> Option<EndSeen>
         return None;
     }
     let node = world.node(n);
+    if !has_port(node, port) {
+        return None;
+    }
+    let word = node.word(port);
     Some(EndSeen {
         waits: world.waiting(n, port).is_some(),
-        on: has_port(node, port) && node.word(port) == LinkWord::In(LinkState::LinkOn),
+        word,
+        on: word == LinkWord::In(LinkState::LinkOn),
     })
 }
 
@@ -145,6 +152,14 @@ fn receiver(sender: End) -> u8 {
     }
 }
 
+// The wrMessageID of a frame: in a Signaling it stands behind the header, the target, and the head of the first TLV.
+fn message_of(frame: &[u8]) -> Option<u16> {
+    let (Some(0x0c), Some(high), Some(low)) = (frame.first(), frame.get(54), frame.get(55)) else {
+        return None;
+    };
+    Some(u16::from_be_bytes([*high, *low]))
+}
+
 // The frame that arrives next.
 fn next_arrival<F: Fn(i64) -> i64>(world: &World<F>) -> Option<Arrival>
     requires { IsValid F.pre F.post world.now }
@@ -154,6 +169,7 @@ fn next_arrival<F: Fn(i64) -> i64>(world: &World<F>) -> Option<Arrival>
         frame,
         due,
         to: receiver(world.sender(frame)?),
+        message: message_of(world.frame(frame)?),
     })
 }
 
