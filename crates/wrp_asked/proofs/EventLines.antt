@@ -145,7 +145,7 @@ link_are (In Calibrated) = refl
 link_are (In RespCalib) = refl
 link_are (In LinkOn) = refl
 
-servo_are : (state : ServoState) → IsWord (servo_word state)
+pub servo_are : (state : ServoState) → IsWord (servo_word state)
 servo_are Uninit = refl
 servo_are SyncTai = refl
 servo_are SyncNsec = refl
@@ -212,7 +212,7 @@ behind_two name tick (Report (Track est)) bound truth = refl
 
 -- All lines of an event
 
-line_in_front : (P : List ℕ → Type 0) (line rest : List ℕ) → IsWhole line → P line → AllByRecursion P (lines_of rest) → AllByRecursion P (lines_of (line ++ rest))
+pub line_in_front : (P : List ℕ → Type 0) (line rest : List ℕ) → IsWhole line → P line → AllByRecursion P (lines_of rest) → AllByRecursion P (lines_of (line ++ rest))
 line_in_front P line rest whole h k =
     subst (AllByRecursion P) (sym (ap (λ (l : List ℕ). lines_of (l ++ rest)) whole.is ∙ lines_of-whole whole.front rest whole.plain))
     (subst P whole.is h, k)
@@ -233,7 +233,7 @@ line_at s w n o = output_line s.cfg n (w.node n).ticks o (Some (w.clock n).off)
 abbrev pub lines_by : (Output → Bool) → Setting → WorldAt → NodeStepAt → List ℕ
 lines_by has_line s w step = flat_map (λ o. if has_line o then line_at s w step.node o else []) step.outs
 
-outs_lines : (P : List ℕ → Type 0) (has_line : Output → Bool) (s : Setting) (w : WorldAt) (n : ℕ) (outs : List Output) (rest : List ℕ) → HasNames s.cfg → AllByRecursion (λ (o : Output). P (line_at s w n o)) outs →
+pub outs_lines : (P : List ℕ → Type 0) (has_line : Output → Bool) (s : Setting) (w : WorldAt) (n : ℕ) (outs : List Output) (rest : List ℕ) → HasNames s.cfg → AllByRecursion (λ (o : Output). P (line_at s w n o)) outs →
     AllByRecursion P (lines_of rest) → AllByRecursion P (lines_of (flat_map (λ o. if has_line o then line_at s w n o else []) outs ++ rest))
 outs_lines P has_line s w n [] rest names are k = k
 outs_lines P has_line s w n (o ∷ outs) rest names are k =

@@ -29,7 +29,7 @@ use Rattle.wrp_asked.proofs.EventLines.{AreWords, decimal_word, hex_word, name_w
 pub word_append : (a b : List ℕ) → IsWord a → IsWord b → IsWord (a ++ b)
 word_append a b h k = list_all-append is_word_octet a b ∙ and_from (list_all is_word_octet a) (list_all is_word_octet b) h k
 
-joined_word : (texts : List (List ℕ)) → AreWords texts → IsWord (join_with_byte 44 texts)
+pub joined_word : (texts : List (List ℕ)) → AreWords texts → IsWord (join_with_byte 44 texts)
 joined_word [] h = refl
 joined_word (text ∷ []) h = h.0
 joined_word (text ∷ next ∷ texts) h = word_append text (44 ∷ join_with_byte 44 (next ∷ texts)) h.0 (joined_word (next ∷ texts) h.1)
@@ -83,10 +83,10 @@ Passes P octets = (rest : List ℕ) → AllByRecursion P (lines_of rest) → All
 abbrev pub HoldsOfWords : (List ℕ → Type 0) → Type 0
 HoldsOfWords P = (w : List ℕ) → IsWord w → P (w ++ 10 ∷ [])
 
-pass_both : (P : List ℕ → Type 0) (a b : List ℕ) → Passes P a → Passes P b → Passes P (a ++ b)
+pub pass_both : (P : List ℕ → Type 0) (a b : List ℕ) → Passes P a → Passes P b → Passes P (a ++ b)
 pass_both P a b p q rest h = subst (λ (l : List ℕ). AllByRecursion P (lines_of l)) (sym (append_assoc a b rest)) (p (b ++ rest) (q rest h))
 
-pass_line : (P : List ℕ → Type 0) → HoldsOfWords P → (w : List ℕ) → IsWord w → Passes P (w ++ 10 ∷ [])
+pub pass_line : (P : List ℕ → Type 0) → HoldsOfWords P → (w : List ℕ) → IsWord w → Passes P (w ++ 10 ∷ [])
 pass_line P of_word w h rest k = subst (AllByRecursion P) (sym (lines_of-whole w rest (word_plain w h))) (of_word w h, k)
 
 pass_where : (P : List ℕ → Type 0) (b : Bool) (text : List ℕ) → Passes P text → Passes P (if b then text else [])

@@ -5,6 +5,7 @@ pub mod Asking
 pub mod DueTold
 pub mod EmitTold
 pub mod EventLines
+pub mod EventWords
 pub mod EventsTold
 pub mod HeadlineParts
 pub mod HeadlineTold
@@ -21,6 +22,9 @@ pub mod OneLoop
 pub mod ParsingLemmas
 pub mod PartsCarried
 pub mod PlaceWords
+pub mod PrintedRuns
+pub mod PrintedTracks
+pub mod ReportLines
 pub mod SimTold
 pub mod TakenLines
 pub mod ToldApart

@@ -55,7 +55,7 @@ digits_low (suc k) n acc h =
     either_low (n / 10 == 0) (digit_glyph false (n % 10) ∷ acc) (digits_onto k 10 false (n / 10) (digit_glyph false (n % 10) ∷ acc)) first
     (digits_low k (n / 10) (digit_glyph false (n % 10) ∷ acc) first)
 
-decimal_low : (n : ℕ) → IsLow (decimal n)
+pub decimal_low : (n : ℕ) → IsLow (decimal n)
 unfolding digits
 decimal_low n = let none : 0 ≤ 115 = omega arith in digits_low 64 n [] none
 
@@ -74,7 +74,7 @@ one_word w h node tick rest p q e =
     let same : 10 ≡ 32 = one.gap in
     omega (arith, same)
 
-two_words : (a b : List ℕ) → IsWord a → IsWord b → TellsNoTrack (a ++ 32 ∷ (b ++ 10 ∷ []))
+pub two_words : (a b : List ℕ) → IsWord a → IsWord b → TellsNoTrack (a ++ 32 ∷ (b ++ 10 ∷ []))
 two_words a b h k node tick rest p q e =
     let one = first_word a node 32 32 (b ++ 10 ∷ []) (tick ++ 32 ∷ (codes "track" ++ rest)) h p refl refl e in
     let two = first_word b tick 10 32 [] (codes "track" ++ rest) k q refl refl one.rest in
@@ -89,7 +89,7 @@ third_low a b third h k low node tick rest p q e =
     omega (arith, high)
 
 -- a third word, and more words
-fourth : (a b c d : List ℕ) (more : List (List ℕ)) → IsWord a → IsWord b → IsLow c → TellsNoTrack (line_of (a ∷ b ∷ c ∷ d ∷ more))
+pub fourth : (a b c d : List ℕ) (more : List (List ℕ)) → IsWord a → IsWord b → IsLow c → TellsNoTrack (line_of (a ∷ b ∷ c ∷ d ∷ more))
 fourth a b c d more h k low =
     let space : 32 ≤ 115 = omega arith in
     third_low a b (c ++ 32 ∷ line_of (d ∷ more)) h k (before_low c (32 ∷ line_of (d ∷ more)) low space)
@@ -100,15 +100,15 @@ one_line line whole told =
     (subst (λ (l : List ℕ). AllByRecursion TellsNoTrack (lines_of (l ++ []))) (sym whole.is)
     (subst (AllByRecursion TellsNoTrack) (sym (lines_of-whole whole.front [] whole.plain)) (subst TellsNoTrack whole.is told, tt)))
 
-no_line : (last : List ℕ) → last ≡ [] → AllByRecursion TellsNoTrack (lines_of last)
+pub no_line : (last : List ℕ) → last ≡ [] → AllByRecursion TellsNoTrack (lines_of last)
 no_line last e = subst (λ (l : List ℕ). AllByRecursion TellsNoTrack (lines_of l)) (sym e) tt
 
-told_as : (last line : List ℕ) → last ≡ line → AllByRecursion TellsNoTrack (lines_of line) → AllByRecursion TellsNoTrack (lines_of last)
+pub told_as : (last line : List ℕ) → last ≡ line → AllByRecursion TellsNoTrack (lines_of line) → AllByRecursion TellsNoTrack (lines_of last)
 told_as last line is told = subst (λ (l : List ℕ). AllByRecursion TellsNoTrack (lines_of l)) (sym is) told
 
 -- Lines that name what is refused
 
-usage : AllByRecursion TellsNoTrack (lines_of usage_line)
+pub usage : AllByRecursion TellsNoTrack (lines_of usage_line)
 usage =
     let low : 97 ≤ 115 = omega arith in
     (third_low (codes "usage:") (codes "wrnet") (drop 13 usage_line) refl refl low, tt)
@@ -116,7 +116,7 @@ usage =
 too_large : AllByRecursion TellsNoTrack (lines_of too_large_line)
 too_large = (two_words (codes "too-large") (codes "0") refl refl, tt)
 
-large : (n : ℕ) → AllByRecursion TellsNoTrack (lines_of (large_line n))
+pub large : (n : ℕ) → AllByRecursion TellsNoTrack (lines_of (large_line n))
 large n =
     one_line (line_of (codes "too-large" ∷ decimal n ∷ [])) (line_whole (codes "too-large" ∷ decimal n ∷ []) (refl, (decimal_word n, tt)))
     (two_words (codes "too-large") (decimal n) refl (decimal_word n))
@@ -139,7 +139,7 @@ fault_word (Number field) = refl
 fault_word (Name field) = refl
 fault_word (Memory e) = refl
 
-bad_trace : (n : ℕ) (fault : TraceFault) → AllByRecursion TellsNoTrack (lines_of (bad_trace_line n fault))
+pub bad_trace : (n : ℕ) (fault : TraceFault) → AllByRecursion TellsNoTrack (lines_of (bad_trace_line n fault))
 bad_trace n fault =
     one_line (bad_trace_line n fault)
     (line_whole (codes "bad-trace" ∷ decimal n ∷ decimal (code_of fault) ∷ name_of fault ∷ decimal (field_of fault) ∷ [])
@@ -189,14 +189,15 @@ refused text line (code, place, reads, is) = told_as line (bad_network_line code
 
 -- What is due
 
-last_tells : (status : Status) (s : Setting) (front behind : List (List ℕ)) (last : List ℕ) → EndsEvents status s front behind [] last → AllByRecursion TellsNoTrack (lines_of last)
-last_tells Done s front behind last ends = no_line last ends.1
-last_tells BadTrace s front behind last ends = told_as last _ ends.3.2 (bad_trace _ ends.3.0)
-last_tells Broken s front behind last ends = told_as last _ ends.3.is (broken _ ends.3.breach)
-last_tells TooLarge s front behind last ends = told_as last (large_line (length front + 1)) ends.3.1 (large (length front + 1))
-last_tells ReadFault s front behind last ends = no_line last ends
-last_tells OutOfMemory s front behind last ends = no_line last ends
-last_tells status s front behind last ends = absurd ends
+-- behind the counters that are due, where they have such lines alone
+pub last_tells : (status : Status) (s : Setting) (front behind : List (List ℕ)) (counts last : List ℕ) → AllByRecursion TellsNoTrack (lines_of counts) → EndsEvents status s front behind counts last → AllByRecursion TellsNoTrack (lines_of last)
+last_tells Done s front behind counts last none ends = told_as last counts ends.1 none
+last_tells BadTrace s front behind counts last none ends = told_as last _ ends.3.2 (bad_trace _ ends.3.0)
+last_tells Broken s front behind counts last none ends = told_as last _ ends.3.is (broken _ ends.3.breach)
+last_tells TooLarge s front behind counts last none ends = told_as last (large_line (length front + 1)) ends.3.1 (large (length front + 1))
+last_tells ReadFault s front behind counts last none ends = no_line last ends
+last_tells OutOfMemory s front behind counts last none ends = no_line last ends
+last_tells status s front behind counts last none ends = absurd ends
 
 sound_in : ReadingIsAccepted → (text : List ℕ) (s : Setting) → IsSettingOf text s → IsSoundDatabase s.db
 sound_in accepted text s setting = subst (λ (t : Setting). IsSoundDatabase t.db) (sym setting.is) (accepted text setting.net setting.reads).database
@@ -204,14 +205,14 @@ sound_in accepted text s setting = subst (λ (t : Setting). IsSoundDatabase t.db
 inputs_tell : ReadingIsAccepted → (words : List (List ℕ)) (input : List ℕ) (status : Status) (octets : List ℕ) → InputsOf words input status octets → AllByRecursion TellsNoTrack (lines_of octets)
 inputs_tell accepted words input status octets inputs =
     let sound = sound_in accepted (network_text input) inputs.setting inputs.asks.3 in
-    let last = last_tells status inputs.setting inputs.came.front inputs.came.behind inputs.last inputs.ends in
+    let last = last_tells status inputs.setting inputs.came.front inputs.came.behind [] inputs.last tt inputs.ends in
     told_as octets _ inputs.is (pass_events TellsNoTrack one_word inputs.setting inputs.node inputs.events sound inputs.last last)
 
 lacks_tells : (words : List (List ℕ)) (input : List ℕ) (status : Status) (octets : List ℕ) → LacksNode words input status octets → AllByRecursion TellsNoTrack (lines_of octets)
 lacks_tells words input Usage octets lacks = told_as octets usage_line lacks.1 usage
 lacks_tells words input status octets lacks = absurd lacks
 
-none_tells : (input : List ℕ) (status : Status) (octets : List ℕ) → ReachesNone input status octets → AllByRecursion TellsNoTrack (lines_of octets)
+pub none_tells : (input : List ℕ) (status : Status) (octets : List ℕ) → ReachesNone input status octets → AllByRecursion TellsNoTrack (lines_of octets)
 none_tells input BadNetwork octets none = refused (network_text input) octets none.1
 none_tells input TooLarge octets none = told_as octets too_large_line none.1 too_large
 none_tells input ReadFault octets none = no_line octets none
@@ -227,12 +228,12 @@ due_tells accepted words input status octets (inr (inl none)) = none_tells input
 due_tells accepted words input status octets (inr (inr inputs)) = inputs_tell accepted words input status octets inputs
 
 -- a line that is cut begins as the whole one
-longer : (node tick rest more : List ℕ) → (node ++ 32 ∷ (tick ++ 32 ∷ (codes "track" ++ rest))) ++ more ≡ node ++ 32 ∷ (tick ++ 32 ∷ (codes "track" ++ (rest ++ more)))
+pub longer : (node tick rest more : List ℕ) → (node ++ 32 ∷ (tick ++ 32 ∷ (codes "track" ++ rest))) ++ more ≡ node ++ 32 ∷ (tick ++ 32 ∷ (codes "track" ++ (rest ++ more)))
 longer node tick rest more =
     append_assoc node (32 ∷ (tick ++ 32 ∷ (codes "track" ++ rest))) more
     ∙ ap (λ (l : List ℕ). node ++ 32 ∷ l) (append_assoc tick (32 ∷ (codes "track" ++ rest)) more)
 
-in_front : HoldsInFront TellsNoTrack
+pub in_front : HoldsInFront TellsNoTrack
 in_front line more told node tick rest p q e =
     told node tick (rest ++ more) p q (ap (λ (l : List ℕ). l ++ more) e ∙ longer node tick rest more)
 

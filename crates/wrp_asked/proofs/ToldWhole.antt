@@ -131,7 +131,7 @@ counts_whole s net w =
 
 -- All lines
 
-forged_whole : (count : ℕ) (none : Bool) → AllByRecursion IsWhole (if none then [] else line_of (codes "forged" ∷ decimal count ∷ []) ∷ [])
+pub forged_whole : (count : ℕ) (none : Bool) → AllByRecursion IsWhole (if none then [] else line_of (codes "forged" ∷ decimal count ∷ []) ∷ [])
 forged_whole count true = tt
 forged_whole count false = (line_whole (codes "forged" ∷ decimal count ∷ []) (refl, (decimal_word count, tt)), tt)
 

@@ -60,7 +60,7 @@ says (Report (Track estimate)) most truth est bound off h k l e = track_says est
 true_there : (s : Setting) (w : WorldAt) (n : ℕ) (o : Output) (estimate : ℤ) → IsTrueOutput s w n o → o ≡ Report (Track estimate) → IsTrueReport s w n estimate
 true_there s w n o estimate true_ is = subst (IsTrueOutput s w n) is true_
 
-line_true : (s : Setting) (w : WorldAt) (n : ℕ) (o : Output) → HasNames s.cfg → IsTrueOutput s w n o → IsTrueLine s w (line_at s w n o)
+pub line_true : (s : Setting) (w : WorldAt) (n : ℕ) (o : Output) → HasNames s.cfg → IsTrueOutput s w n o → IsTrueLine s w (line_at s w n o)
 line_true s w n o names true_ = λ node tick est bound off a b c d f e.
     let most : ℤ = pos (path_of s.cfg n) in
     let truth : ℤ = (w.clock n).off in

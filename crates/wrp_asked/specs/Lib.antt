@@ -11,7 +11,9 @@ pub mod Headline
 pub mod Input
 pub mod LoopHeadline
 pub mod Parsing
+pub mod PrintedTracks
 pub mod Refusals
+pub mod ReportLines
 pub mod Rows
 pub mod SimHeadline
 pub mod Tasks

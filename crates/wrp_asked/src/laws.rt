@@ -1,13 +1,14 @@
 //! Laws of what is due, and of audits, simulations and runs over a link: functions that do nothing, whose contracts are the laws.
-ghost use Rattle.wrp_asked.specs.AnswerLaws.{OneAnswer};
+ghost use Rattle.wrp_asked.specs.AnswerLaws.{OneAnswer, RunsPrintWithinBounds};
 ghost use Rattle.wrp_asked.specs.EmitHeadline.{EmissionsTellNoTrack};
 ghost use Rattle.wrp_asked.specs.Headline.{EventsCarryParts};
 ghost use Rattle.wrp_asked.specs.LoopHeadline.{LoopedEventsCarryParts};
+ghost use Rattle.wrp_asked.specs.ReportLines.{TrackReportsHaveLines};
 ghost use Rattle.wrp_asked.specs.SimHeadline.{MadeEventsCarryParts};
 
 use wrp_audit::one_audit;
 use wrp_config::reading_is_accepted;
-use wrp_loop::loop_keeps_the_bounds;
+use wrp_loop::{loop_is_audited, loop_keeps_the_bounds};
 use wrp_node::one_run;
 use wrp_servo::told_last;
 use wrp_sim::simulator_keeps_the_bounds;
@@ -61,3 +62,25 @@ pub fn emissions_tell_no_track()
 {
     reading_is_accepted();
 }
+
+/// In each line NODE TICK track EST BOUND true OFF that a run wrote whose words begin with `audit`, `simulate` or
+/// `loop`, the size of OFF is at most BOUND, whatever its status is. A line that was cut off before its LF is no such
+/// line.
+pub fn runs_print_within_bounds()
+    ensures { RunsPrintWithinBounds }
+{
+    reading_is_accepted();
+    events_carry_parts();
+    emissions_tell_no_track();
+    made_events_carry_parts();
+    looped_events_carry_parts();
+    one_audit();
+    loop_is_audited();
+}
+
+/// Each report of TRACK in an event has its line among those that an audit and a run over a link write of the event,
+/// and among those of a simulation: the name and the tick count of the node, the estimate, the node's path, and its
+/// offset from true time. So the law above speaks of some line wherever a node reports TRACK.
+pub fn track_reports_have_lines()
+    ensures { TrackReportsHaveLines }
+{}

@@ -16,6 +16,7 @@ ghost use Rattle.wrp_asked.specs.Ends.{Ends, IsToldOf};
 ghost use Rattle.wrp_simulate.specs.LoopPasses.{IsUncalled};
 ghost use Rattle.wrp_asked.specs.Headline.{Headline};
 ghost use Rattle.wrp_asked.specs.LoopHeadline.{LoopHeadline};
+ghost use Rattle.wrp_asked.specs.PrintedTracks.{ReportsTrueOffsets, TracksAreWithinBounds};
 ghost use Rattle.wrp_asked.specs.SimHeadline.{SimHeadline};
 ghost use Rattle.wrp_asked.specs.Tasks.{IsAuditing, IsEmission, IsLooping, IsSimulation};
 ghost use Rattle.wrp_asked.specs.Words.{texts_of};
@@ -26,7 +27,7 @@ use crate::network::run_network;
 use std::alloc::{AllocError, Global};
 use wrp_asked::{
     Command, USAGE_LINE, emissions_tell_no_track, events_carry_parts, looped_events_carry_parts,
-    made_events_carry_parts, read_words,
+    made_events_carry_parts, read_words, runs_print_within_bounds,
 };
 use wrp_audit::one_audit;
 use wrp_io::{Link, Sink, Source};
@@ -122,7 +123,7 @@ pub fn run<S: Source, K: Sink, N: Link>(
         (octets : List ℕ) × Appends (K.held sink.old) (K.held sink.new) octets
         × EmitHeadline (texts_of words.now) input result octets) }
 
-    // The same of a simulation.
+    // The same of a simulation, whose events keep all premises: they are a run of the network.
     ensures simulated { (seed : ℕ) → IsSimulation (texts_of words.now) seed → IfSome (S.left source.old) (λ input.
         (octets : List ℕ) × Appends (K.held sink.old) (K.held sink.new) octets
         × SimHeadline (texts_of words.now) input result octets) }
@@ -141,6 +142,11 @@ pub fn run<S: Source, K: Sink, N: Link>(
         × Adds (N.told link.old) (N.told link.new) calls
         × LoopHeadline (texts_of words.now) input calls result octets) }
 
+    // Of an audit, a simulation and a run over a link, for each status: in each line NODE TICK track EST BOUND true OFF that
+    // is written, with its LF, the size of OFF is at most BOUND.
+    ensures tracks { ReportsTrueOffsets (texts_of words.now) → IfSome (S.left source.old) (λ input.
+        (octets : List ℕ) × Appends (K.held sink.old) (K.held sink.new) octets × TracksAreWithinBounds octets) }
+
     // Words that are no command are refused with nothing read. No link is used but by a loop, and by a loop not where
     // the status tells of its words, its network, a record or the source. That it is used only behind the whole scenario,
     // also where memory lacked, a line was too large or a write failed, stands in `ends`, of a link that tells its calls.
@@ -154,6 +160,7 @@ pub fn run<S: Source, K: Sink, N: Link>(
     emissions_tell_no_track();
     made_events_carry_parts();
     looped_events_carry_parts();
+    runs_print_within_bounds();
     loop_is_audited();
     told_last();
     run_command(alloc, words, source, sink, link)

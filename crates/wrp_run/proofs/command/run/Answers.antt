@@ -30,3 +30,6 @@ returns-clause-looped g c = λ seed looping. looped_told c.looped_events_carry_p
 
 pub returns-clause-aimed : goal.returns-clause-aimed
 returns-clause-aimed g c = aimed _ c.run_command.result c.run_command.ensures.ends
+
+pub returns-clause-tracks : goal.returns-clause-tracks
+returns-clause-tracks g c = λ reports. c.runs_print_within_bounds.ensures _ c.run_command.result c.run_command.ensures.ends reports
