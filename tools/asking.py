@@ -33,14 +33,14 @@ def program():
     return named or (BUILT if os.access(BUILT, os.X_OK) else None)
 
 
-def run(path, words, octets):
+def run(path, words, octets, seconds=60):
     """Runs the program: its status and its output."""
     try:
-        ran = subprocess.run([path, *words], input=octets, stdout=subprocess.PIPE, stderr=subprocess.DEVNULL, timeout=60)
+        ran = subprocess.run([path, *words], input=octets, stdout=subprocess.PIPE, stderr=subprocess.DEVNULL, timeout=seconds)
     except OSError as it:
         raise Fault(f"the program {path} does not start: {it.strerror}") from None
     except subprocess.TimeoutExpired:
-        raise Fault(f"the program {path} did not answer within 60 s") from None
+        raise Fault(f"the program {path} did not answer within {seconds} s") from None
     return ran.returncode, ran.stdout.decode("ascii", "replace").splitlines()
 
 

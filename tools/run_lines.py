@@ -114,7 +114,7 @@ class Run:
 
     def __init__(self, tick, period, window):
         self.tick, self.period, self.window = tick, period, window
-        self.nodes, self.said, self.marks = {}, [], []
+        self.nodes, self.said, self.marks, self.changes = {}, [], [], []
         self.tau, self.time, self.has_true_time, self.agrees = 0, 0.0, False, 0
 
     def node(self, name):
@@ -179,6 +179,7 @@ class Run:
             return
         node = self.up(name) if kind in ("step", "track") or name not in self.nodes else self.nodes[name]
         node.take(self.time, tick, kind, words)
+        self.changed(name, tick, kind, words)
         if kind == "step":
             node.off += int(words[0]) * self.period
             node.curves[-1].add(self.time, node.off)
@@ -187,6 +188,11 @@ class Run:
                 raise Refused(f"at {self.time:.3f} s {name} is {words[-1]} tau off by its track line, and {node.off} by its events: "
                               "lines are missing, or the network file is of another run")
             self.agrees += 1
+
+    def changed(self, name, tick, kind, words):
+        """Notes a change of a node's servo or of a port, or a step of its clock, in the order of the lines."""
+        if kind in ("link", "servo", "step"):
+            self.changes.append((self.time, name, tick, kind, words))
 
     def ends(self, name, tick, bound):
         """Takes the line that closes a node."""
@@ -209,6 +215,7 @@ class Run:
                 node.bound = int(words[0]) or node.bound
             else:
                 node.take(self.time, tick, kind, words)
+                self.changed(name, tick, kind, words)
 
     def began(self, at, ticks, bases):
         """When a node began again: with the next line of a port that hears its carrier come, or else with the line above."""

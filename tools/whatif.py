@@ -11,7 +11,7 @@ class Asked:
     the tool are the answers, and no file is refused."""
 
     def __init__(self, program, octets, settings):
-        self.program, self.known = program, {}
+        self.program, self.known, self.is_halved = program, {}, True
         first = asking.bounds(program, octets) if program else None
         if isinstance(first, str) and not (settings and first.startswith("bad-network 10 ")):
             raise Fault(f"the program refuses this network: {asking.explained(first, octets)}")
