@@ -7,7 +7,6 @@ pub mod EachLists
 pub mod Fitting
 pub mod FirstPorts
 pub mod FoundFrames
-mod FoundLinks
 pub mod FramesTurned
 pub mod FrameGifts
 pub mod Handing

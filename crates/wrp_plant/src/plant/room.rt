@@ -1,5 +1,5 @@
 //! Memory that is taken before it is used.
-ghost use Rattle.std.specs.Prelude.{◌≡◌, ◌≤◌, ◌+◌, ℕ, true, OnOk, vec_len, vec_capacity};
+ghost use Rattle.std.specs.Prelude.{◌≡◌, ◌≤◌, ◌+◌, ℕ, OnOk};
 ghost use Rattle.wrp_plant.specs.Moves.{Turns};
 ghost use Rattle.wrp_plant.specs.Plant.{Each, FitsPlant, PlantIs};
 ghost use Rattle.wrp_plant.specs.Room.{HasEndRoom, HasRoom, HasSpanRoom, SameEnd, SameSpan};
@@ -10,24 +10,8 @@ use super::Plant;
 use crate::ends::{EndState, Span};
 use std::alloc::AllocError;
 
-// Whether a list has so many places.
-fn has_places<T>(list: &Vec<T>, count: usize) -> bool
-    ensures { result ≡ true → vec_len list.now + count ≤ vec_capacity list.now }
-{
-    count <= list.capacity() - list.len()
-}
-
-// Whether an end has places for so many steps.
-fn is_roomy(end: &EndState, steps: u8) -> bool
-    ensures { result ≡ true → HasEndRoom steps end.now }
-{
-    let steps = usize::from(steps);
-    has_places(&end.waiting, 4 * steps) && has_places(&end.marks, steps)
-}
-
-// Places for so many steps at an end that may have too few.
-#[inline(never)]
-fn enlarge(end: &mut EndState, steps: u8) -> Result<(), AllocError>
+// Places for so many steps at an end.
+fn reserve_end(end: &mut EndState, steps: u8) -> Result<(), AllocError>
     ensures same { SameEnd end.old end.new }
     ensures room { OnOk result (HasEndRoom steps end.new) }
     ensures kept { (k : ℕ) → HasEndRoom k end.old → HasEndRoom k end.new }
@@ -35,18 +19,6 @@ fn enlarge(end: &mut EndState, steps: u8) -> Result<(), AllocError>
     end.waiting.reserve(4 * usize::from(steps))?;
     end.marks.reserve(usize::from(steps))?;
     Ok(())
-}
-
-// Places for so many steps at an end, which mostly has them: that is tested first.
-fn reserve_end(end: &mut EndState, steps: u8) -> Result<(), AllocError>
-    ensures same { SameEnd end.old end.new }
-    ensures room { OnOk result (HasEndRoom steps end.new) }
-    ensures kept { (k : ℕ) → HasEndRoom k end.old → HasEndRoom k end.new }
-{
-    if is_roomy(end, steps) {
-        return Ok(());
-    }
-    enlarge(end, steps)
 }
 
 // Places for so many steps at both ends of a link.

@@ -80,9 +80,7 @@ fn mark(marks: &mut Vec<Mark>, now: Tau, from: LinkState, to: LinkState, by: Opt
     }
 }
 
-// A node's step is told to the end that one of its ports is. It is kept out of the loop over all ends, most of which
-// are another node's.
-#[inline(never)]
+// A node's step is told to the end that one of its ports is.
 fn tell_end(end: &mut EndState, port: u16, now: Tau, news: &News, outs: &[Output])
     requires few { length (frames_at port outs.now) ≤ 4 }
     requires room { HasEndRoom 1 end.old }

@@ -1,5 +1,5 @@
 //! Which premise the modules break with which a node comes up, and what the network has of one.
-ghost use Rattle.std.specs.Prelude.{◌≡◌, ◌==◌, ◌<◌, ◌≤◌, ◌^◌, ◌∷◌, [], length, map, find, flat_map, not, true, unsigned_abs, IfSome, Result};
+ghost use Rattle.std.specs.Prelude.{◌≡◌, ◌<◌, ◌≤◌, ◌^◌, ◌∷◌, [], length, map, flat_map, not, unsigned_abs, IfSome, Result};
 ghost use Rattle.std.specs.Option.{is_some};
 ghost use Rattle.wrp_base.specs.Clock.{steps_of_period};
 ghost use Rattle.wrp_base.specs.declared.message.PtpMsg.{PtpMsg};
@@ -32,17 +32,6 @@ fn sends_nm(role: Role, link: &LinkCfg) -> u16
     }
 }
 
-// Whether link n - 1 leads down to node n. Where links are in the order of the nodes below them it does, and no
-// other link has to be looked at.
-fn is_led_to(links: &[LinkCfg], n: u8) -> bool
-    ensures { result ≡ true → is_some (find (λ link. link.lower == n) links.now) ≡ true }
-{
-    match links.get(usize::from(n.wrapping_sub(1))) {
-        Some(link) => link.lower == n,
-        None => false,
-    }
-}
-
 impl Plant {
     /// The numbers of a module at an end of a link. `None` exactly where it is not listed there.
     pub fn listed_at(&self, place: Place, name: &str) -> Option<Module>
@@ -65,9 +54,6 @@ impl Plant {
             → result ≡ not (is_some (link_over s.cfg n)) }
     {
         let cfg = self.cfg();
-        if is_led_to(&cfg.links, n) {
-            return false;
-        }
         link_above(cfg, n).is_none()
     }
 
