@@ -22,7 +22,7 @@ SERVOS = {
     "sync-phase": "servo sync-phase: it moves the phase",
     "wait-stable": "servo wait-stable: it waits until the loop is steady",
     "track": "TRACK: from here on its bound holds",
-    "holdover": "HOLDOVER: it runs on without its parent",
+    "holdover": "HOLDOVER: it runs on without its parent, within its bound in HOLDOVER",
 }
 # Of a counter, whether it is normal, and what it points to. docs/OPERATING.md, "Counters", has the same in full.
 COUNTERS = {
