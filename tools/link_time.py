@@ -36,7 +36,8 @@ class Broken:
 
     def __str__(self):
         fixes = " or ".join(f"{key} is {now} and has to be at least {least}" for key, now, least in self.causes)
-        return f"`{self.what}` does not hold, with {seconds(self.left)} on its left and {seconds(self.right)} on its right" + (f": {fixes}" if fixes else "")
+        sides = f"with {seconds(self.left)} on its left and {seconds(self.right)} on its right"
+        return f"`{self.what}` does not hold, {sides}" + (f": {fixes}" if fixes else "")
 
 
 class LinkTime:
