@@ -125,8 +125,7 @@ def show(network, names, path, lock):
             print(f"  {'no time stated' if broken else times.said(order)}, where {order}: {broken or formula}")
         if lock is None and times.longest_lock() > 0:
             print(f"  K has to be below {seconds(times.longest_lock())}")
-        parent = network.parent(name)
-        print(f"  after its carriers came{f', or after {parent} came to TRACK where that is later' if network.parent(parent) else ''}")
+        print("  after its carriers came")
 
 
 def records(network, names, lock):
