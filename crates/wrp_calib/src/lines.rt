@@ -1,9 +1,9 @@
 //! The lines of a calibration: each is taken as it comes, and what they tell is written behind the last.
-ghost use Rattle.std.specs.Prelude.{◌≡◌, ◌+◌, ◌++◌, ◌∷◌, [], ℕ, List, IfErr, IfOk, IsErr, OnOk, length};
+ghost use Rattle.std.specs.Prelude.{◌≡◌, ◌+◌, ◌++◌, ◌∷◌, [], ℕ, List, IfErr, IfOk, OnOk};
 ghost use Rattle.csv.specs.Records.{fields_of};
 ghost use Rattle.wrp_calib.specs.declared.lines.Held.TheVariants as held;
 ghost use Rattle.wrp_calib.specs.LinesMeaning.{IsFaulty};
-ghost use Rattle.wrp_calib.specs.LinesStand.{HasTaken, IsReady, TakesNext, TakesRun, Ends, IsTold};
+ghost use Rattle.wrp_calib.specs.LinesStand.{HasTaken, IsReady, TakesNext, TakesRun, IsTold};
 ghost use Rattle.wrp_calib.specs.Printing.{missing_line};
 ghost use Rattle.wrp_calib.specs.Recorded.{Barred};
 ghost use Rattle.wrp_records.specs.Split.{IsSplit};

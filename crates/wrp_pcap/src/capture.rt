@@ -1,6 +1,6 @@
 //! The octets of a classic libpcap capture file: its header, and what stands in front of the octets
 //! that are left.
-ghost use Rattle.std.specs.Prelude.{◌≡◌, ◌↔◌, ◌≤◌, ◌+◌, ℕ, length, IfOk, IfErr};
+ghost use Rattle.std.specs.Prelude.{◌≡◌, ◌↔◌, ◌≤◌, ◌+◌, length, IfOk, IfErr};
 ghost use Rattle.wrp_pcap.specs.Capture.{order_by, number_at, captured, number_of, name_of};
 ghost use Rattle.wrp_pcap.specs.Capture.{HasHeader, HasHeaderFault, IsFront};
 

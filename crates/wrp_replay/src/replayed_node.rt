@@ -1,5 +1,5 @@
 //! The replay of one node's recorded inputs.
-ghost use Rattle.std.specs.Prelude.{pos, ◌≡◌, ◌<◌, ◌≤◌, ◌+◌, ◌++◌, ◌∷◌, [], ◌^◌, ℕ, List, None, IfOk, OnOk, length};
+ghost use Rattle.std.specs.Prelude.{pos, ◌≡◌, ◌<◌, ◌≤◌, ◌+◌, ◌++◌, [], ◌^◌, List, None, IfOk, OnOk};
 ghost use Rattle.std.specs.List.{flat_map};
 ghost use Rattle.wrp_base.specs.Network.{name_at, node_count};
 ghost use Rattle.wrp_bounds.specs.Bounds.{path_of};

@@ -1,7 +1,6 @@
 //! The scenario that the record lines of a simulation say.
 ghost use Rattle.std.specs.Prelude.{◌≡◌, []};
 ghost use Rattle.wrp_base.specs.Network.{HasRanges};
-ghost use Rattle.wrp_sim.specs.Scenario.{IsSceneOf};
 ghost use Rattle.wrp_sim.specs.ScenarioLines.{outcome, scene_read};
 ghost use Rattle.wrp_simulate.specs.SimStands.{CanRead, SaysScenario};
 ghost use Rattle.wrp_records.specs.Split.{IsSplit};
