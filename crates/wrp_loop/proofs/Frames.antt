@@ -16,12 +16,11 @@ use Rattle.wrp_course.specs.declared.event.Event.{Event}
 use Rattle.wrp_course.specs.declared.event.Event.TheVariants.{Pass, Tick, Sample, Depart, Arrive, Deliver, Noise, Down, Up, Cut, Join}
 use Rattle.wrp_course.specs.declared.place.Place.{Place}
 use Rattle.wrp_course.specs.Given.{Given, given_by, gives, gives_all, world_step}
-use Rattle.wrp_course.specs.Moved.{arrived, departed_after, departing, moved, removed, waiting_at}
+use Rattle.wrp_course.specs.Moved.{arrived, departed_after, departing, moved, one_more, removed, waiting_at}
 use Rattle.wrp_course.specs.Setting.{Setting, place_of}
 use Rattle.wrp_course.specs.Views.{is_kept, octets_at}
 use Rattle.wrp_course.specs.WorldAt.{Arrival, FrameAt, Sending, WorldAt, is_on_fibre}
 use Rattle.wrp_course.proofs.RunStamps.{all_given_frame}
-use Rattle.wrp_sim.proofs.KeepsMoves.{few_more}
 use Rattle.wrp_loop.specs.Index.{IsYoung}
 
 -- the event is the arrival of this frame
@@ -113,6 +112,10 @@ arrival_here s says y w i raw f g is h =
 given_departed : (s : Setting) (y : ℤ) (gs : List Given) (v : WorldAt) → (gives_all s y v gs).departed ≡ v.departed
 given_departed s y [] v = refl
 given_departed s y (g ∷ gs) v = given_departed s y gs (gives s y v g)
+
+few_more : (d : ℕ) (queue : List Sending) → d ≤ one_more queue d
+few_more d [] = omega arith
+few_more d (x ∷ queue) = omega arith
 
 more_departed : (s : Setting) (w : WorldAt) (e : Event) → w.departed ≤ departed_after s w e
 more_departed s w (Depart n p stamp) = few_more w.departed (waiting_at w (place_of s n p))

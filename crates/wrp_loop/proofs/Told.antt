@@ -29,7 +29,6 @@ use Rattle.wrp_loop.proofs.Choices.{choice_of, choice_same, one_chosen}
 use Rattle.wrp_loop.proofs.OneRule.{gives_one}
 use Rattle.wrp_loop.proofs.Receptions.{same_taken, tails}
 use Rattle.wrp_audit.proofs.OneWorld.{Alike, SameEvents, alike_after, answers_of, before_newest, steps_after}
-use Rattle.wrp_sim.proofs.KeepsRun.{next_with}
 
 -- What is told of events
 
@@ -195,6 +194,9 @@ next_one : (law : ℕ → ℤ → ℤ) → ToldLast → (x : Plan) (l m : LoopAt
 next_one law last x l m p q same t u f g =
     gives_one x.scene x.setting (world_at x l) (world_at x m) l.at p q (alike_at law last x l m same t u) f
     (subst (λ (k : SimAt). Gives x.scene x.setting (world_at x m) k q) (sym same.drawn) g)
+
+abbrev next_with : Event → SimAt → Next
+next_with e new = record { event = e; at = new }
 
 given_one : (law : ℕ → ℤ → ℤ) → ToldLast → (x : Plan) (l m : LoopAt) (d e : Event) (new other : SimAt) → SameAt l m → ToldAt law x (On l) → ToldAt law x (On m) →
     GivesNext x l d new → GivesNext x m e other → next_with d new ≡ next_with e other

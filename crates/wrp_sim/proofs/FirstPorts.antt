@@ -25,7 +25,7 @@ use Rattle.wrp_sim.proofs.SimLists.{find_map}
 
 -- Numbers one after another
 
-pub first_or : (first k : ℕ) → first ≤ k → (k ≡ first) ⊎ (first + 1 ≤ k)
+first_or : (first k : ℕ) → first ≤ k → (k ≡ first) ⊎ (first + 1 ≤ k)
 first_or first k h = elim (eqb_tells k first) [ inl x ↦ inl x.1 | inr x ↦ inr (let out : k ≡ first → ⊥ = x.1 in omega (arith, h, out)) ]
 
 none_in : (q : ℕ → Bool) (count first : ℕ) → ((p : ℕ) → first ≤ p → p < first + count → q p ≡ false) → find q (from_on count first) ≡ None

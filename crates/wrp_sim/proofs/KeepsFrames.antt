@@ -181,7 +181,7 @@ delivers_good scene s w at m h =
 
 -- Rule 6: arrivals
 
-pub by_role : (n : ℕ) (r : Role) (link : LinkCfg) → (link.upper < n) × (link.lower < n) → (end_of r link).node < n
+by_role : (n : ℕ) (r : Role) (link : LinkCfg) → (link.upper < n) × (link.lower < n) → (end_of r link).node < n
 by_role n Master link h = h.0
 by_role n Slave link h = h.1
 

@@ -1,6 +1,6 @@
 -- What is shown of each rule: its event is one of the network, the world accepts it, and all that holds is kept.
-use Rattle.std.proofs.Common.{◌≡◌, inl, inr, ◌∙◌, refl, ap, sym, subst, ℕ, zero, suc, ◌+◌, ◌≤◌, ◌<◌, ℤ, pos, ◌+ℤ◌, ◌≤ℤ◌, nat_lt, Bool, true, false, if◌then◌else◌, cond, List, [], ◌∷◌, Option, None, Some, option_map, slice_get, Result, arith}
-use Rattle.std.proofs.lemmas.Bool.Decides.{Decides-int_eq, nat_tests}
+use Rattle.std.proofs.Common.{◌≡◌, ◌⊎◌, inl, inr, ◌∙◌, refl, ap, sym, subst, ℕ, zero, suc, ◌+◌, ◌≤◌, ◌<◌, ℤ, pos, ◌+ℤ◌, ◌≤ℤ◌, nat_lt, Bool, true, false, if◌then◌else◌, cond, List, [], ◌∷◌, Option, None, Some, option_map, slice_get, Result, arith}
+use Rattle.std.proofs.lemmas.Bool.Decides.{Decides-int_eq, eqb_tells, nat_tests}
 use Rattle.std.proofs.lemmas.Int.{ints}
 use Rattle.std.specs.List.{AllByRecursion, find}
 use Rattle.std.specs.Option.{option_and_then, option_map_or}
@@ -32,7 +32,6 @@ use Rattle.wrp_sim.specs.SimAt.{SimAt}
 use Rattle.wrp_sim.proofs.KeepsLit.{IsLit}
 use Rattle.wrp_sim.proofs.KeepsNumbers.{drawn_most}
 use Rattle.wrp_sim.proofs.KeepsState.{Keeps, StepKeeps, TicksBy, step_keeps}
-use Rattle.wrp_sim.proofs.FirstPorts.{first_or}
 
 -- a moment of a run: what is known of it
 pub record Moment (scene : SceneAt) (s : Setting) (w : WorldAt) : Type 0 where
@@ -91,6 +90,9 @@ found P test (y ∷ xs) x h e = found_case P test (test y) y x (find test xs) re
 pub all_from : (P : ℕ → Type 0) (count first : ℕ) → ((k : ℕ) → first ≤ k → k < first + count → P k) → AllByRecursion P (from_on count first)
 all_from P zero first h = tt
 all_from P (suc count) first h = (h first (omega arith) (omega arith), all_from P count (first + 1) (λ k a b. h k (omega (arith, a)) (omega (arith, b))))
+
+first_or : (first k : ℕ) → first ≤ k → (k ≡ first) ⊎ (first + 1 ≤ k)
+first_or first k h = elim (eqb_tells k first) [ inl x ↦ inl x.1 | inr x ↦ inr (let out : k ≡ first → ⊥ = x.1 in omega (arith, h, out)) ]
 
 pub from_all : (P : ℕ → Type 0) (count first : ℕ) → AllByRecursion P (from_on count first) → (k : ℕ) → first ≤ k → k < first + count → P k
 from_all P zero first h k a b = absurd (omega (arith, a, b))

@@ -237,7 +237,7 @@ more_frames : (s : Setting) (d e i : ℕ) (o : Option FrameAt) → d ≤ e → F
 more_frames s d e i None h k = tt
 more_frames s d e i (Some f) h k = (omega (arith, h, k.0), k.1, k.2)
 
-pub few_more : (d : ℕ) (queue : List Sending) → d ≤ one_more queue d
+few_more : (d : ℕ) (queue : List Sending) → d ≤ one_more queue d
 few_more d [] = omega arith
 few_more d (x ∷ queue) = omega arith
 

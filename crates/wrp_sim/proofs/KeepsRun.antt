@@ -61,7 +61,7 @@ next_good scene s w due at m h first =
     (λ none1. first_good scene s w (fails scene s w at) (later_rules scene s w due (rest_of s w at)) (fails_good scene s w at m h none1)
     (λ none2. later_good scene s w due (rest_of s w at) m (rest_keeps scene s w at h) (quiet_rest scene s w at none2) first))
 
-abbrev pub next_with : Event → SimAt → Next
+abbrev next_with : Event → SimAt → Next
 next_with e new = record { event = e; at = new }
 
 given_good : (scene : SceneAt) (s : Setting) (w : WorldAt) (at new : SimAt) (e : Event) → Moment scene s w → Keeps scene s w at → GivesEvent scene s w at e new → Good scene s w (next_with e new)

@@ -4,6 +4,7 @@ pub mod Faults
 pub mod FibreDelays
 pub mod FirstPorts
 pub mod Handing
+pub mod KeepsBasics
 pub mod KeepsBeat
 pub mod KeepsChecks
 pub mod KeepsDac

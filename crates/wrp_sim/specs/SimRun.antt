@@ -1,5 +1,5 @@
 -- Runs of a world that a simulator makes (this project's profile).
-use Rattle.std.specs.Prelude.{◌≡◌, ℕ, ℤ, List, [], ◌∷◌, Option, Some}
+use Rattle.std.specs.Prelude.{◌≡◌, ℕ, ℤ, List, [], ◌∷◌, Option, None, Some}
 use Rattle.wrp_course.specs.declared.event.Event.{Event}
 use Rattle.wrp_course.specs.Run.{Happened, world_after}
 use Rattle.wrp_course.specs.Setting.{Setting}
@@ -24,3 +24,9 @@ abbrev pub IsSimRun : SceneAt → Setting → (seed : ℕ) → List Happened →
 IsSimRun scene s seed [] at = at ≡ new_sim scene seed
 IsSimRun scene s seed (h ∷ before) at =
     (old : SimAt) × IsSimRun scene s seed before old × GivesEvent scene s (world_after s before) old h.event at
+
+-- the same to the end, where the rules give nothing
+pub record IsWholeRun (scene : SceneAt) (s : Setting) (seed : ℕ) (events : List Happened) : Type 0 where
+  pub at : SimAt
+  pub run : IsSimRun scene s seed events at
+  pub ends : Gives scene s (world_after s events) at None

@@ -1,0 +1,1 @@
+-- Booleans, options and numbers, for the other files.
