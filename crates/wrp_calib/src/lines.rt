@@ -3,7 +3,7 @@ ghost use Rattle.std.specs.Prelude.{◌≡◌, ◌+◌, ◌++◌, ◌∷◌, [],
 ghost use Rattle.csv.specs.Records.{fields_of};
 ghost use Rattle.wrp_calib.specs.declared.lines.Held.TheVariants as held;
 ghost use Rattle.wrp_calib.specs.LinesMeaning.{IsFaulty};
-ghost use Rattle.wrp_calib.specs.LinesStand.{HasTaken, IsReady, TakesNext, TakesRun, IsTold};
+ghost use Rattle.wrp_calib.specs.LinesStand.{HasTaken, IsReady, TakesNext, TakesRun, Ends, IsTold};
 ghost use Rattle.wrp_calib.specs.Printing.{missing_line};
 ghost use Rattle.wrp_calib.specs.Recorded.{Barred};
 ghost use Rattle.wrp_records.specs.Split.{IsSplit};
@@ -105,6 +105,19 @@ impl CalibLines {
             None => Err(TraceFault::Fields),
         }
     }
+
+    // Appends what is due after the last line.
+    fn end(&self, alloc: Global, text: &mut Vec<u8>) -> Result<Closing, AllocError>
+        requires { text.old.items ≡ [] }
+        ensures { IfOk result (λ closing. (lines : List (List ℕ))
+            → HasTaken self.now lines → Ends lines closing text.new.items) }
+    {
+        match &self.held {
+            Held::Nothing => bar_missing(alloc, "err", text),
+            Held::Error { .. } => bar_missing(alloc, "patch", text),
+            Held::Runs { calib } => append_told(alloc, calib.answer(), text),
+        }
+    }
 }
 
 impl Machine for CalibLines {
@@ -144,11 +157,7 @@ impl Machine for CalibLines {
     }
 
     fn close(&self, alloc: Global, text: &mut Vec<u8>) -> Result<Closing, AllocError> {
-        match &self.held {
-            Held::Nothing => bar_missing(alloc, "err", text),
-            Held::Error { .. } => bar_missing(alloc, "patch", text),
-            Held::Runs { calib } => append_told(alloc, calib.answer(), text),
-        }
+        self.end(alloc, text)
     }
 }
 

@@ -63,7 +63,8 @@ impl<'a> Machine for ScenarioLines<'a> {
     ghost use Rattle.wrp_records.specs.LineMeaning.{bars_none};
     ghost use Rattle.wrp_audit.specs.AuditStands.{setting_in};
     ghost use Rattle.wrp_simulate.specs.SimStands.{CanRead, SaysScenario};
-    
+    ghost use Rattle.wrp_simulate.specs.Simulates.{SimAccepts, SimRefuses};
+
     type Setting = &'a Network;
 
     ghost setting = { λ s. s.net };
