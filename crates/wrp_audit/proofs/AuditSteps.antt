@@ -48,12 +48,13 @@ use Rattle.wrp_records.specs.declared.machine.Taken.TheVariants as taken
 use Rattle.wrp_audit.specs.Audited.{AllHeard, IsAudit, answers_in}
 use Rattle.wrp_audit.specs.AuditLaws.{OneAudit}
 use Rattle.wrp_audit.specs.Audits.{Breaks}
-use Rattle.wrp_audit.specs.AuditStands.{Broke, CanAudit, Happens, HasAudited, HasLawOf, TellsFault, Took, line_by, lines_by, setting_in}
+use Rattle.wrp_audit.specs.AuditStands.{Broke, CanAudit, Happens, HasAudited, HasLawOf, Took, line_by, lines_by, setting_in}
 use Rattle.wrp_audit.specs.AuditText.{all_counts, step_lines}
 use Rattle.wrp_audit.specs.Bounds.{AreBounds}
 use Rattle.wrp_replay.specs.DownLaw.{AnswersBy, law_at}
 use Rattle.wrp_audit.specs.Broken.{broken_line}
-use Rattle.wrp_records.specs.Refusals.{bad_trace_line}
+use Rattle.wrp_records.specs.Refusals.{RefusesLine, bad_trace_line}
+use Rattle.wrp_records.proofs.LineParts.{read_fault, refused_line}
 use Rattle.wrp_audit.specs.Audits.{meaning_for}
 use Rattle.wrp_audit.proofs.OneAudit.{one_line}
 use Rattle.wrp_audit.proofs.PlainEvents.{same_checks, same_said, same_steps, same_world}
@@ -247,10 +248,10 @@ refuses_broken held lines line text e number reads counts breaks taken =
     by_emit None h = h
     by_emit (Some n) h = h
 
-pub refuses_trace : (emit : Option ℕ) (net : Network) (lines : List (List ℕ)) (line text : List ℕ) (fault : TraceFault) (number : ℕ) → event_read net.cfg line ≡ Err fault → number ≡ length lines + 1
-    → text ≡ bad_trace_line number fault → (meaning_for emit (setting_in net)).refuses lines line refusals.BadTrace text
-refuses_trace None net lines line text fault number reads counts is = (fault, reads, is ∙ ap (λ (k : ℕ). bad_trace_line k fault) counts)
-refuses_trace (Some n) net lines line text fault number reads counts is = (fault, reads, is ∙ ap (λ (k : ℕ). bad_trace_line k fault) counts)
+pub refuses_trace : (emit : Option ℕ) (net : Network) (lines : List (List ℕ)) (line text : List ℕ) (fault : TraceFault) → event_read net.cfg line ≡ Err fault → text ≡ bad_trace_line (length lines + 1) fault
+    → (meaning_for emit (setting_in net)).refuses lines line refusals.BadTrace text
+refuses_trace None net lines line text fault reads is = (fault, reads, is)
+refuses_trace (Some n) net lines line text fault reads is = (fault, reads, is)
 
 -- What a step keeps
 
@@ -359,13 +360,12 @@ refused_so {post = post} held new lines line text e number answer refusals.Broke
     refuses_broken {post = post} held lines line text e number reads counts
     (λ w stood. subst (Happens post held.emit (setting_in held.world.plant.net) w e number new text) is (happens w stood)) has
 
-pub trace_so : (emit : Option ℕ) (net : Network) (lines : List (List ℕ)) (line old text : List ℕ) (fault : TraceFault) (number : ℕ) (answer : Taken) (refusal : Refusal) → TellsFault fault number old text answer → old ≡ []
+pub trace_so : (emit : Option ℕ) (net : Network) (lines : List (List ℕ)) (line old text : List ℕ) (fault : TraceFault) (number : ℕ) (answer : Taken) (refusal : Refusal) → RefusesLine fault number old text answer → old ≡ []
     → IsReading (event_read net.cfg line) (Err fault) → answer ≡ taken.Refused refusal → number ≡ length lines + 1 → (meaning_for emit (setting_in net)).refuses lines line refusal text
-trace_so emit net lines line old text fault number answer refusals.BadTrace tells none reads is counts =
-    refuses_trace emit net lines line text fault number (tells.only (event_read net.cfg line) reads) counts (behind_none tells.line none)
-trace_so emit net lines line old text fault number answer refusals.Broken tells none reads is counts =
-    let both : taken.Refused refusals.BadTrace ≡ taken.Refused refusals.Broken = sym tells.refused ∙ is in
-    absurd (cc)
+trace_so emit net lines line old text fault number answer refusal refuses none reads is counts =
+    let told = refused_line fault number (length lines + 1) old text answer refusal refuses is none counts in
+    subst (λ (r : Refusal). (meaning_for emit (setting_in net)).refuses lines line r text) told.0
+    (refuses_trace emit net lines line text fault (read_fault (event_read net.cfg line) fault refuses.cause reads) told.1)
 
 -- At the end
 

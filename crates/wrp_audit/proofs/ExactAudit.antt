@@ -1,6 +1,6 @@
 -- What the relations of an audit keep: record lines have one text, one refusal and one end.
-use Rattle.std.proofs.Common.{◌≡◌, ◌∙◌, refl, ap, ap₂, sym, subst, append_assoc, append-nil, ℕ, ℤ, ◌+◌, ◌==◌, Bool, true, false, cond, if◌then◌else◌, None, Some, option_map, Ok, Err, List, [], ◌∷◌, ◌++◌, length, map, reverse}
-use Rattle.std.proofs.lemmas.List.{map-append, reverse-append, reverse-reverse}
+use Rattle.std.proofs.Common.{◌≡◌, ◌∙◌, refl, ap, sym, subst, append_assoc, append-nil, ℕ, ℤ, ◌+◌, ◌==◌, Bool, true, false, cond, if◌then◌else◌, None, Some, option_map, Ok, Err, List, [], ◌∷◌, ◌++◌, length, map, reverse}
+use Rattle.std.proofs.lemmas.List.{map-append, reverse-append, reverse-reverse, same_from_push}
 use Rattle.wrp_node.specs.NodeAt.{Taken}
 use Rattle.wrp_node.specs.NodeRun.{AllSaid}
 use Rattle.wrp_trace.specs.Events.{event_read}
@@ -24,19 +24,6 @@ use Rattle.wrp_audit.proofs.OneWorld.{before_newest, laws_in}
 use Rattle.wrp_records.proofs.Unique.{IsExact, ends_once, never_barred}
 
 -- The newest event of a run
-
--- two lists that end alike
-same_ends : {X : Type 0} (xs ys : List X) (x y : X) → xs ++ x ∷ [] ≡ ys ++ y ∷ [] → (xs ≡ ys) × (x ≡ y)
-same_ends [] [] x y e = (refl, cc)
-same_ends [] (b ∷ []) x y e = absurd (cc)
-same_ends [] (b ∷ c ∷ ys) x y e = absurd (cc)
-same_ends (a ∷ []) [] x y e = absurd (cc)
-same_ends (a ∷ b ∷ xs) [] x y e = absurd (cc)
-same_ends (a ∷ xs) (b ∷ ys) x y e =
-    let head : a ≡ b = cc in
-    let tail : xs ++ x ∷ [] ≡ ys ++ y ∷ [] = cc in
-    let rest = same_ends xs ys x y tail in
-    (ap₂ (λ h t. h ∷ t) head rest.0, rest.1)
 
 none_ends : {X : Type 0} (xs : List X) (x : X) → xs ++ x ∷ [] ≡ [] → ⊥
 none_ends [] x e = cc
@@ -72,7 +59,7 @@ record Newest (s : Setting) (lines : List (List ℕ)) (line : List ℕ) (events 
 newest_of : (s : Setting) (lines : List (List ℕ)) (line : List ℕ) (events : List Happened) → IsAudit s (lines ++ line ∷ []) events → Newest s lines line events
 newest_of s lines line [] audit = absurd (none_ends (map (event_read s.cfg) lines) (event_read s.cfg line) (sym (map-append (event_read s.cfg) lines (line ∷ [])) ∙ audit.are))
 newest_of s lines line (h ∷ before) audit =
-    let ends = same_ends (map (event_read s.cfg) lines) (map read (reverse before)) (event_read s.cfg line) (read h)
+    let ends = same_from_push (map (event_read s.cfg) lines) (map read (reverse before)) (event_read s.cfg line) (read h)
     (sym (map-append (event_read s.cfg) lines (line ∷ [])) ∙ audit.are ∙ turned h before) in
     record {
       newest = h;

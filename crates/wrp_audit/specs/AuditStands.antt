@@ -1,13 +1,11 @@
 -- What an audited network stands for: the lines that it has taken (this project's profile).
-use Rattle.std.specs.Prelude.{◌≡◌, ◌<◌, ℕ, ℤ, Option, None, Some, IfSome, List, ◌++◌, Result, Err}
+use Rattle.std.specs.Prelude.{◌≡◌, ◌<◌, ℕ, ℤ, Option, None, Some, IfSome, List, Result}
 use Rattle.std.specs.List.{flat_map}
-use Rattle.wrp_base.specs.declared.fault.TraceFault.{TraceFault}
 use Rattle.wrp_base.specs.declared.message.PtpMsg.{PtpMsg}
 use Rattle.wrp_base.specs.Network.{node_count}
 use Rattle.wrp_config.specs.declared.network.Network.{Network}
 use Rattle.wrp_frame.specs.declared.fault.FrameFault.{FrameFault}
 use Rattle.wrp_node.specs.Control.{law_in}
-use Rattle.wrp_fields.specs.Reading.{IsReading}
 use Rattle.wrp_course.specs.Checks.{told_of}
 use Rattle.wrp_course.specs.declared.breach.Breach.{Breach}
 use Rattle.wrp_course.specs.declared.event.Event.{Event}
@@ -28,7 +26,6 @@ use Rattle.wrp_audit.specs.AuditText.{audit_lines, given_line, given_lines, step
 use Rattle.wrp_audit.specs.Bounds.{AreBounds}
 use Rattle.wrp_replay.specs.DownLaw.{AnswersBy, law_at}
 use Rattle.wrp_audit.specs.Broken.{broken_line}
-use Rattle.wrp_records.specs.Refusals.{bad_trace_line}
 
 -- the setting of a network
 abbrev pub setting_in : Network → Setting
@@ -95,8 +92,3 @@ Happens post emit s w e number new text taken.Accepted = Took post emit s w e ne
 Happens post emit s w e number new text (taken.Refused refusal.Broken) = Broke s w e number text
 Happens post emit s w e number new text _ = ⊥
 
--- a fault that is no want of memory is told: a line that is read with it has it
-pub record TellsFault (fault : TraceFault) (number : ℕ) (old new : List ℕ) (answer : Taken) : Type 0 where
-  pub refused : answer ≡ taken.Refused refusal.BadTrace
-  pub only : (read : Result Event TraceFault) → IsReading read (Err fault) → read ≡ Err fault
-  pub line : new ≡ old ++ bad_trace_line number fault

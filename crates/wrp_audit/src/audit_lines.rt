@@ -1,18 +1,15 @@
 //! The lines of an audit, of which each says an event.
-ghost use Rattle.std.specs.Prelude.{◌≡◌, ◌<◌, ◌≤◌, ◌+◌, ◌++◌, ◌∷◌, [], ◌^◌, ℕ, List, IfOk, IfSome, OnOk, length};
+ghost use Rattle.std.specs.Prelude.{◌≡◌, ◌<◌, [], IfOk, IfSome, OnOk};
 ghost use Rattle.wrp_base.specs.Network.{node_count};
 ghost use Rattle.wrp_config.specs.Accepted.{HasNames, IsAccepted};
 ghost use Rattle.wrp_course.specs.EventAt.{IsEventOf};
 ghost use Rattle.wrp_fields.specs.Reading.{IsReading};
 ghost use Rattle.wrp_records.specs.Split.{IsSplit};
-ghost use Rattle.wrp_records.specs.declared.machine.Refusal.{Refusal};
-ghost use Rattle.wrp_records.specs.declared.machine.Taken.{Taken};
 ghost use Rattle.wrp_trace.specs.Events.{event_read, told_in};
 ghost use Rattle.wrp_trace.specs.Places.{IsPlaceOf, event_in};
 ghost use Rattle.wrp_audit.specs.AuditLines.{CanRead};
-ghost use Rattle.wrp_audit.specs.AuditStands.{HasAudited, TellsFault, setting_in};
+ghost use Rattle.wrp_audit.specs.AuditStands.{HasAudited};
 ghost use Rattle.wrp_audit.specs.LawsFit.{LawsFit};
-ghost use Rattle.wrp_audit.specs.Audits.{meaning_for};
 
 use crate::audit::AuditedNetwork;
 use crate::laws::one_audit;
@@ -21,7 +18,7 @@ use std::alloc::{AllocError, Global};
 use wrp_base::TraceFault;
 use wrp_config::Network;
 use wrp_law::DelayLaw;
-use wrp_records::{Closing, Machine, Refusal, Taken, append_bad_trace};
+use wrp_records::{Closing, Machine, Taken, refuse};
 use wrp_trace::{EventPlace, read_event_into};
 
 /// What takes the lines of an audit: the network as far as it is audited, and the place that each line's event is
@@ -53,42 +50,6 @@ impl<F: Fn(i64) -> i64> AuditLines<F> {
         let place = EventPlace::new(&net.cfg);
         let network = AuditedNetwork::new(alloc, Box::into_inner(net), laws, emit)?;
         Ok(AuditLines { network, place })
-    }
-
-    // Takes what a line says, and appends what it writes, or the line that names it.
-    fn handle(
-        &mut self,
-        alloc: Global,
-        line: &[u8],
-        parts: Option<&ByteRecord>,
-        number: u32,
-        text: &mut Vec<u8>,
-    ) -> Result<Taken, AllocError>
-        requires split { IsSplit line.now parts }
-        requires ready { CanRead F.pre F.post self.old }
-        requires none { text.old.items ≡ [] }
-        requires room { self.old.network.world.plant.events + 1 < 2 ^ 32 }
-        ensures ready { CanRead F.pre F.post self.new }
-        ensures net { self.new.network.world.plant.net ≡ self.old.network.world.plant.net }
-        ensures emit { self.new.network.emit ≡ self.old.network.emit }
-        ensures count { self.new.network.world.plant.events ≤ self.old.network.world.plant.events + 1 }
-        ensures accepted { (lines : List (List ℕ)) (before : List ℕ)
-            → IfOk result (λ taken. taken ≡ Taken.Accepted → HasAudited F.post self.old.network lines
-            → (meaning_for self.old.network.emit (setting_in self.old.network.world.plant.net)).accepts
-            lines before → HasAudited F.post self.new.network (lines ++ line.now ∷ [])
-            × (meaning_for self.old.network.emit (setting_in self.old.network.world.plant.net)).accepts
-            (lines ++ line.now ∷ []) (before ++ text.new.items)) }
-        ensures refused { (lines : List (List ℕ)) (refusal : Refusal)
-            → IfOk result (λ taken. taken ≡ Taken.Refused refusal
-            → HasAudited F.post self.old.network lines → number ≡ length lines + 1
-            → (meaning_for self.old.network.emit (setting_in self.old.network.world.plant.net)).refuses
-            lines line.now refusal text.new.items) }
-    {
-        one_audit();
-        match read_parts(&self.network, line, parts, &mut self.place) {
-            Ok(()) => self.network.happen(alloc, &self.place, number, text),
-            Err(fault) => refuse(alloc, number, &fault, text),
-        }
     }
 }
 
@@ -123,19 +84,17 @@ impl<F: Fn(i64) -> i64> Machine for AuditLines<F> {
         parts: Option<&ByteRecord>,
         number: u32,
         text: &mut Vec<u8>,
-    ) -> Taken {
-        match self.handle(alloc, line, parts, number, text) {
-            Ok(taken) => taken,
-            Err(_) => Taken::Memory,
+    ) -> Result<Taken, AllocError> {
+        one_audit();
+        match read_parts(&self.network, line, parts, &mut self.place) {
+            Ok(()) => self.network.happen(alloc, &self.place, number, text),
+            Err(fault) => refuse(alloc, number, &fault, text),
         }
     }
 
-    fn close(&self, alloc: Global, text: &mut Vec<u8>) -> Closing {
-        let _alloc = alloc;
-        match self.network.append_last(text) {
-            Ok(()) => Closing::Closed,
-            Err(_) => Closing::Memory,
-        }
+    fn close(&self, _alloc: Global, text: &mut Vec<u8>) -> Result<Closing, AllocError> {
+        self.network.append_last(text)?;
+        Ok(Closing::Closed)
     }
 }
 
@@ -159,22 +118,4 @@ fn read_parts<F: Fn(i64) -> i64>(
         Some(row) => read_event_into(row, network.net(), place),
         None => Err(TraceFault::Fields),
     }
-}
-
-// Appends the line of a record that is no event. Want of memory is no refusal.
-fn refuse(
-    alloc: Global,
-    number: u32,
-    fault: &TraceFault,
-    text: &mut Vec<u8>,
-) -> Result<Taken, AllocError>
-    ensures { IfOk result (λ taken.
-        TellsFault fault.now number text.old.items text.new.items taken) }
-{
-    match fault {
-        TraceFault::Memory(_) => return Err(AllocError),
-        _ => {}
-    }
-    append_bad_trace(alloc, text, number, fault)?;
-    Ok(Taken::Refused(Refusal::BadTrace))
 }

@@ -1,8 +1,7 @@
 -- Each next line of a calibration says its record, and it is held.
-use Rattle.std.proofs.Common.{◌≡◌, ℕ, suc, ◌+◌, ◌==◌, true, false, List, [], ◌∷◌, ◌++◌, length, reverse, Result, Ok, Err, refl, sym, ap, ap₂, ◌∙◌, subst, arith}
+use Rattle.std.proofs.Common.{◌≡◌, ℕ, suc, ◌+◌, ◌==◌, false, List, [], ◌∷◌, ◌++◌, length, reverse, Result, Ok, Err, sym, ap, ◌∙◌, subst, arith}
 use Rattle.std.specs.Prelude.{OnOk, IfErr}
 use Rattle.std.specs.List.{filter_map}
-use Rattle.std.proofs.lemmas.Bool.{false_from_ne_true}
 use Rattle.std.proofs.lemmas.List.{reverse-append}
 use Rattle.std.proofs.lemmas.List.Elements.{filter_map-append}
 use Rattle.wrp_base.specs.Calls.{Adds}
@@ -10,13 +9,10 @@ use Rattle.csv.specs.Records.{Row, fields_of}
 use Rattle.wrp_base.specs.declared.fault.TraceFault.{TraceFault}
 use Rattle.wrp_base.specs.declared.fault.TraceFault.TheVariants.{Fields}
 use Rattle.wrp_records.specs.declared.machine.Refusal.{Refusal}
-use Rattle.wrp_records.specs.declared.machine.Refusal.TheVariants.{BadTrace, Broken}
 use Rattle.wrp_records.specs.declared.machine.Taken.{Taken}
-use Rattle.wrp_records.specs.declared.machine.Taken.TheVariants as taken
-use Rattle.wrp_records.specs.Refusals.{bad_trace_line}
+use Rattle.wrp_records.specs.declared.machine.Taken.TheVariants.{Refused}
+use Rattle.wrp_records.specs.Refusals.{RefusesLine}
 use Rattle.wrp_fields.specs.Lines.{IsLine}
-use Rattle.wrp_fields.specs.Reading.{is_plain}
-use Rattle.wrp_fields.proofs.PlainLemmas.{line_passes, line_is}
 use Rattle.wrp_calib.specs.declared.lines.CalibLines.{CalibLines}
 use Rattle.wrp_calib.specs.declared.lines.Held.{Held}
 use Rattle.wrp_calib.specs.declared.lines.Held.TheVariants.{Nothing, Error}
@@ -25,9 +21,10 @@ use Rattle.wrp_calib.specs.Estimate.{Errors}
 use Rattle.wrp_calib.specs.StandsFor.{CalibAt, StandsFor}
 use Rattle.wrp_calib.specs.Lines.{CalibRecord, SaysError, SaysCord, SaysRun, record_of, error_line, cord_line, run_line, record_read}
 use Rattle.wrp_calib.specs.LinesMeaning.{IsFaulty, Refuses}
-use Rattle.wrp_calib.specs.LinesStand.{Holds, HoldsRuns, HasTaken, TakesNext, TellsLine}
+use Rattle.wrp_calib.specs.LinesStand.{Holds, HoldsRuns, HasTaken, TakesNext}
 use Rattle.wrp_calib.specs.Recorded.{run_in, runs_in}
 use Rattle.wrp_records.specs.Split.{HasParts}
+use Rattle.wrp_records.proofs.LineParts.{read_none, read_parts, refused_line}
 use Rattle.wrp_calib.proofs.Saying.{as_many, say_more}
 
 -- record 1
@@ -94,18 +91,6 @@ pub held_as : (old new : CalibLines) (held : Held) (fields : List (List ℕ)) (r
 held_as old new held fields result is takes =
     subst (λ (h : Held). TakesNext (record { held = h }) new fields result) (sym is) takes
 
--- a line with parts says what they do
-said_by : (number : ℕ) (line : List ℕ) (row : Row) → HasParts line row → record_read number line ≡ record_of number (fields_of row)
-said_by number line row parts =
-    let plain : is_plain line ≡ true = line_passes line parts.0 in
-    rw plain (ap (record_of number) (sym parts.1))
-
--- one without parts has no fields
-pub said_none : (number : ℕ) (line : List ℕ) → (IsLine line → ⊥) → record_read number line ≡ Err Fields
-said_none number line other =
-    let plain : is_plain line ≡ false = false_from_ne_true (is_plain line) (λ is. other (line_is line is)) in
-    rw plain refl
-
 -- the next line is taken
 pub takes_line : (old new : CalibLines) (line : List ℕ) (row : Row) (result : Result (Unit {0}) TraceFault) → HasParts line row
     → TakesNext old new (fields_of row) result
@@ -114,7 +99,7 @@ takes_line old new line row (Ok done) parts takes = λ lines has.
     let next = takes has.0 has.2 in
     let count : length has.0 + 1 ≡ length lines + 1 = ap (λ (n : ℕ). n + 1) (as_many lines has.0 has.1) in
     let reads : record_read (length lines + 1) line ≡ Ok next.0 =
-    said_by (length lines + 1) line row parts ∙ ap (λ (n : ℕ). record_of n (fields_of row)) (sym count) ∙ next.1 in
+    read_parts (record_of (length lines + 1)) line row parts ∙ ap (λ (n : ℕ). record_of n (fields_of row)) (sym count) ∙ next.1 in
     (has.0 ++ next.0 ∷ [], say_more lines has.0 line next.0 has.1 reads, next.2)
 takes_line old new line row (Err fault) parts takes = tt
 
@@ -125,21 +110,16 @@ pub refuses_line : (old new : CalibLines) (line : List ℕ) (row : Row) (result 
 refuses_line old new line row (Ok done) parts takes = tt
 refuses_line old new line row (Err fault) parts takes = λ lines has.
     let count : length has.0 + 1 ≡ length lines + 1 = ap (λ (n : ℕ). n + 1) (as_many lines has.0 has.1) in
-    (has.0, has.1, said_by (length lines + 1) line row parts ∙ ap (λ (n : ℕ). record_of n (fields_of row)) (sym count) ∙ takes.1 has.0 has.2)
+    (has.0, has.1, read_parts (record_of (length lines + 1)) line row parts ∙ ap (λ (n : ℕ). record_of n (fields_of row)) (sym count) ∙ takes.1 has.0 has.2)
 
 -- one without parts is refused
 pub refuses_other : (old : CalibLines) (line : List ℕ) → (IsLine line → ⊥) → (lines : List (List ℕ)) → HasTaken old lines → IsFaulty lines line Fields
-refuses_other old line other lines has = (has.0, has.1, said_none (length lines + 1) line other)
+refuses_other old line other lines has = (has.0, has.1, read_none (record_of (length lines + 1)) line other)
 
--- the line of a fault that is told refuses its line
-pub refuses_so : (lines : List (List ℕ)) (line : List ℕ) (fault : TraceFault) (number : ℕ) (old new : List ℕ) (told : Taken) (refusal : Refusal)
-    → TellsLine fault number old new told → told ≡ taken.Refused refusal → old ≡ [] → number ≡ length lines + 1 → IsFaulty lines line fault
+-- a refusal for a fault refuses its line
+pub refuses_so : (lines : List (List ℕ)) (line : List ℕ) (fault : TraceFault) (number : ℕ) (old new : List ℕ) (answer : Taken) (refusal : Refusal)
+    → RefusesLine fault number old new answer → answer ≡ Refused refusal → old ≡ [] → number ≡ length lines + 1 → IsFaulty lines line fault
     → Refuses lines line refusal new
-refuses_so lines line fault number old new taken.Accepted refusal tells is none count faulty = absurd tells
-refuses_so lines line fault number old new taken.Memory refusal tells is none count faulty = absurd (cc)
-refuses_so lines line fault number old new (taken.Refused Broken) refusal tells is none count faulty = absurd tells
-refuses_so lines line fault number old new (taken.Refused BadTrace) refusal tells is none count faulty =
-    let same : BadTrace ≡ refusal = cc in
-    let told : new ≡ bad_trace_line (length lines + 1) fault =
-    tells ∙ ap₂ (λ (octets : List ℕ) (n : ℕ). octets ++ bad_trace_line n fault) none count in
-    subst (λ (r : Refusal). Refuses lines line r new) same (fault, faulty, told)
+refuses_so lines line fault number old new answer refusal refuses is none count faulty =
+    let told = refused_line fault number (length lines + 1) old new answer refusal refuses is none count in
+    subst (λ (r : Refusal). Refuses lines line r new) told.0 (fault, faulty, told.1)

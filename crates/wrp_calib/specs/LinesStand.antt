@@ -3,10 +3,6 @@ use Rattle.std.specs.Prelude.{◌≡◌, ℕ, ◌+◌, ◌^◌, ◌≤◌, Resul
 use Rattle.wrp_base.specs.declared.fault.TraceFault.{TraceFault}
 use Rattle.wrp_records.specs.declared.machine.Closing.{Closing}
 use Rattle.wrp_records.specs.declared.machine.Closing.TheVariants as closing
-use Rattle.wrp_records.specs.declared.machine.Refusal.TheVariants as refusal
-use Rattle.wrp_records.specs.declared.machine.Taken.{Taken}
-use Rattle.wrp_records.specs.declared.machine.Taken.TheVariants as taken
-use Rattle.wrp_records.specs.Refusals.{bad_trace_line}
 use Rattle.wrp_calib.specs.declared.lines.CalibLines.{CalibLines}
 use Rattle.wrp_calib.specs.declared.lines.Held.{Held}
 use Rattle.wrp_calib.specs.declared.lines.Held.TheVariants.{Nothing, Error, Runs}
@@ -62,20 +58,12 @@ TakesRun old new fields (Err fault) =
     (new ≡ old) × ((records : List CalibRecord) → HoldsRuns old records
     → record_of (length records + 1) fields ≡ Err fault)
 
--- the line of a fault is told, or there is no memory for it
-abbrev pub TellsLine : TraceFault → ℕ → List ℕ → List ℕ → Taken → Type 0
-TellsLine fault number old new (taken.Refused refusal.BadTrace) = new ≡ old ++ bad_trace_line number fault
-TellsLine fault number old new taken.Memory = Unit {0}
-TellsLine fault number old new _ = ⊥
-
 -- this is what is due at the end, and it is told so
 abbrev pub IsTold : Ending → Closing → List ℕ → Type 0
 IsTold ending closing.Closed text = ending ≡ Answered text
 IsTold ending closing.BadCalib text = ending ≡ Barred text
-IsTold ending closing.Memory text = ⊥
 
 -- the lines end so
 abbrev pub Ends : List (List ℕ) → Closing → List ℕ → Type 0
 Ends lines closing.Closed text = Closes lines text
 Ends lines closing.BadCalib text = Bars lines text
-Ends lines closing.Memory text = ⊥

@@ -1,5 +1,5 @@
 //! The calibration: its runs one by one, and its answer.
-ghost use Rattle.std.specs.Prelude.{◌≡◌, ℤ, pos, ◌^◌, ◌≤◌, ◌<ℤ◌, ◌≤ℤ◌, ◌+ℤ◌, ◌*ℤ◌, unsigned_abs};
+ghost use Rattle.std.specs.Prelude.{◌≡◌, ℤ, pos, ◌^◌, ◌≤◌, ◌<ℤ◌, ◌≤ℤ◌, ◌*ℤ◌, unsigned_abs};
 ghost use Rattle.wrp_base.specs.Division.{floor_quotient, ceil_quotient};
 ghost use Rattle.wrp_calib.specs.Span.{IsSmall};
 ghost use Rattle.wrp_calib.specs.Estimate.{kappa_span};

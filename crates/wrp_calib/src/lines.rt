@@ -1,9 +1,9 @@
 //! The lines of a calibration: each is taken as it comes, and what they tell is written behind the last.
-ghost use Rattle.std.specs.Prelude.{◌≡◌, ◌+◌, ◌++◌, ◌∷◌, [], ℕ, List, IfErr, IfOk, IsErr, OnOk, length};
+ghost use Rattle.std.specs.Prelude.{◌≡◌, ◌+◌, ◌++◌, ◌∷◌, [], ℕ, List, IfErr, IfOk, OnOk};
 ghost use Rattle.csv.specs.Records.{fields_of};
 ghost use Rattle.wrp_calib.specs.declared.lines.Held.TheVariants as held;
 ghost use Rattle.wrp_calib.specs.LinesMeaning.{IsFaulty};
-ghost use Rattle.wrp_calib.specs.LinesStand.{HasTaken, IsReady, TakesNext, TakesRun, TellsLine, Ends, IsTold};
+ghost use Rattle.wrp_calib.specs.LinesStand.{HasTaken, IsReady, TakesNext, TakesRun, Ends, IsTold};
 ghost use Rattle.wrp_calib.specs.Printing.{missing_line};
 ghost use Rattle.wrp_calib.specs.Recorded.{Barred};
 ghost use Rattle.wrp_records.specs.Split.{IsSplit};
@@ -18,7 +18,7 @@ use fields::{cord_line, error_line, run_line};
 use printing::{append_missing, append_told};
 use std::alloc::{AllocError, Global};
 use wrp_base::TraceFault;
-use wrp_records::{Closing, Machine, Refusal, Taken, append_bad_trace};
+use wrp_records::{Closing, Machine, Taken, refuse};
 
 /// The lines of a calibration, as far as they were taken: `err,E` and `patch,D,EP` are the first two, and
 /// each further one is `ref,T1,T2,T3,T4,SKEW`, or the same with `straight` or `swapped`.
@@ -106,7 +106,7 @@ impl CalibLines {
         }
     }
 
-    // Appends what is due behind the last line.
+    // Appends what is due after the last line.
     fn end(&self, alloc: Global, text: &mut Vec<u8>) -> Result<Closing, AllocError>
         requires { text.old.items ≡ [] }
         ensures { IfOk result (λ closing. (lines : List (List ℕ))
@@ -149,18 +149,15 @@ impl Machine for CalibLines {
         parts: Option<&ByteRecord>,
         number: u32,
         text: &mut Vec<u8>,
-    ) -> Taken {
+    ) -> Result<Taken, AllocError> {
         match self.take_line(line, parts) {
-            Ok(()) => Taken::Accepted,
+            Ok(()) => Ok(Taken::Accepted),
             Err(fault) => refuse(alloc, number, &fault, text),
         }
     }
 
-    fn close(&self, alloc: Global, text: &mut Vec<u8>) -> Closing {
-        match self.end(alloc, text) {
-            Ok(closing) => closing,
-            Err(_) => Closing::Memory,
-        }
+    fn close(&self, alloc: Global, text: &mut Vec<u8>) -> Result<Closing, AllocError> {
+        self.end(alloc, text)
     }
 }
 
@@ -171,16 +168,6 @@ fn take_run(calib: &mut Calib, row: &ByteRecord) -> Result<(), TraceFault>
     let run = run_line(row)?;
     calib.add(run.kind, &run.times);
     Ok(())
-}
-
-// Appends the line of a record that says nothing of a calibration.
-fn refuse(alloc: Global, number: u32, fault: &TraceFault, text: &mut Vec<u8>) -> Taken
-    ensures { TellsLine fault.now number text.old.items text.new.items result }
-{
-    match append_bad_trace(alloc, text, number, fault) {
-        Ok(()) => Taken::Refused(Refusal::BadTrace),
-        Err(_) => Taken::Memory,
-    }
 }
 
 // Appends the line of a record that did not come, by its word.

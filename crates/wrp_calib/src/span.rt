@@ -1,5 +1,5 @@
 //! Intervals of whole numbers.
-ghost use Rattle.std.specs.Prelude.{◌≡◌, ℕ, unsigned_abs};
+ghost use Rattle.std.specs.Prelude.{◌≡◌, ℕ};
 ghost use Rattle.wrp_calib.specs.Span.{point, meet, is_empty, IsSmall};
 
 /// An interval of whole numbers with both its ends. It is empty where `lo` is above `hi`.

@@ -2,7 +2,6 @@ mod PortLaws
 mod PairLaws
 mod TheoremLaws
 mod PremiseLaws
-mod LineReadingLaws
 mod LineLists
 pub mod LineExact
 mod LineTakingLaws

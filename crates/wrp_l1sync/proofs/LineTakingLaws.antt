@@ -7,7 +7,7 @@ use Rattle.wrp_l1sync.specs.declared.lines.L1Lines.{L1Lines}
 use Rattle.wrp_records.specs.declared.machine.Refusal.{Refusal}
 use Rattle.wrp_records.specs.declared.machine.Refusal.TheVariants as refusal
 use Rattle.wrp_records.specs.declared.machine.Taken.{Taken}
-use Rattle.wrp_records.specs.declared.machine.Taken.TheVariants.{Accepted, Refused, Memory}
+use Rattle.wrp_records.specs.declared.machine.Taken.TheVariants.{Accepted, Refused}
 use Rattle.wrp_l1sync.specs.LineReading.{limits_read, event_read}
 use Rattle.wrp_l1sync.specs.LineRecords.{Say, Happen, Accepts, IsBad, Breaks, Refuses}
 use Rattle.wrp_l1sync.specs.LineTaking.{IsPairOf, HasTaken, TookEvent, GoesOn, BeginsWith}
@@ -74,7 +74,6 @@ goes_on held old new number line text (Ok Accepted) is goes (first ∷ later) be
     let is_pair = is_held held old first later is has in
     took_line old new first later is_pair.0 line before text is_pair.1 (goes is_pair.0 is_pair.1.stands) accepted
 goes_on held old new number line text (Ok (Refused why)) is goes lines before = λ taken. absurd cc
-goes_on held old new number line text (Ok Memory) is goes lines before = λ taken. absurd cc
 
 -- a line that a pair refuses
 refuses_line : (old new : PairAt) (first : List ℕ) (later : List (List ℕ)) (number : ℕ) (line text : List ℕ) (events : List L1Event) (why : Refusal) →
@@ -98,7 +97,6 @@ goes_wrong held old new number line text (Ok (Refused other)) is goes (first ∷
     let same : other ≡ why = cc in
     subst (λ (w : Refusal). Refuses (first ∷ later) line w text) same
     (refuses_line old new first later number line text is_pair.0 other is_pair.1 (goes is_pair.0 is_pair.1.stands) counts)
-goes_wrong held old new number line text (Ok Memory) is goes lines why = λ taken. absurd cc
 
 -- the first line is taken
 begun : (held : L1Lines) (number : ℕ) (line before text : List ℕ) → BeginsWith held.pair number line text Accepted → before ≡ [] →
@@ -118,7 +116,6 @@ begins_on held new number line text (Err e) is begins lines before = tt
 begins_on held new number line text (Ok Accepted) is begins [] before = λ taken has accepted. begun new number line before text begins accepted
 begins_on held new number line text (Ok Accepted) is begins (first ∷ later) before = λ taken has accepted. let both : Some has.0 ≡ None = sym has.2 ∙ is in absurd cc
 begins_on held new number line text (Ok (Refused why)) is begins lines before = λ taken. absurd cc
-begins_on held new number line text (Ok Memory) is begins lines before = λ taken. absurd cc
 
 first_refused : (new : Option PairAt) (number : ℕ) (line text : List ℕ) (why : Refusal) → BeginsWith new number line text (Refused why) → number ≡ 1 →
     Refuses [] line why text
@@ -137,4 +134,3 @@ begins_wrong held new number line text (Ok (Refused other)) is begins [] why = �
     subst (λ (w : Refusal). Refuses [] line w text) same (first_refused new.pair number line text other begins (omega (arith, counts)))
 begins_wrong held new number line text (Ok (Refused other)) is begins (first ∷ later) why = λ taken has counts.
     let both : Some has.0 ≡ None = sym has.2 ∙ is in absurd cc
-begins_wrong held new number line text (Ok Memory) is begins lines why = λ taken. absurd cc

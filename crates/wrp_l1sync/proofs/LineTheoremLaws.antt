@@ -22,7 +22,9 @@ use Rattle.wrp_l1sync.specs.LineTheorem.{Shows, ShowsBoth, TextShowsThePair, las
 use Rattle.wrp_l1sync.specs.Pair.{History, Timed, answer_of, delivery_to, grown, handed, handing_of, history, input_to, inputs_of, is_side, out_for, sent_at, side_of, with_input}
 use Rattle.wrp_records.specs.Words.{line_of}
 use Rattle.wrp_l1sync.proofs.LineExact.{accepts_front}
-use Rattle.wrp_l1sync.proofs.LineWords.{AreWords, IsWord, decimal_word, line_first, words_joined}
+use Rattle.wrp_records.specs.Words.{IsWord}
+use Rattle.wrp_records.proofs.WordLemmas.{AreWords, decimal_word}
+use Rattle.wrp_l1sync.proofs.LineWords.{line_first, words_joined}
 use Rattle.wrp_l1sync.proofs.TheoremLaws.{up_is_carried}
 
 -- ---- what a text tells of an end

@@ -4,7 +4,7 @@ use Rattle.wrp_l1sync.specs.declared.event.L1Event.{L1Event}
 use Rattle.wrp_l1sync.specs.declared.lines.L1Lines.{L1Lines}
 use Rattle.wrp_records.specs.declared.machine.Refusal.TheVariants as refusal
 use Rattle.wrp_records.specs.declared.machine.Taken.{Taken}
-use Rattle.wrp_records.specs.declared.machine.Taken.TheVariants.{Accepted, Refused, Memory}
+use Rattle.wrp_records.specs.declared.machine.Taken.TheVariants.{Accepted, Refused}
 use Rattle.wrp_l1sync.specs.LineReading.{limits_read, event_read}
 use Rattle.wrp_l1sync.specs.LineRecords.{Say, IsBad, Breaks}
 use Rattle.wrp_l1sync.specs.LineText.{event_text}
@@ -40,7 +40,6 @@ abbrev pub GoesOn : (old new : PairAt) → List L1Event → ℕ → (line text :
 GoesOn old new events number line text Accepted = TookEvent old new events line text
 GoesOn old new events number line text (Refused refusal.BadTrace) = IsBad event_read number line text
 GoesOn old new events number line text (Refused refusal.Broken) = Breaks old.limits events number line text
-GoesOn old new events number line text Memory = Unit {0}
 
 -- what the first record makes: a pair that stands for no events, or the record is refused
 abbrev pub BeginsWith : Option PairAt → ℕ → (line text : List ℕ) → Taken → Type 0
@@ -48,4 +47,3 @@ BeginsWith new number line text Accepted =
     (pair : PairAt) × (new ≡ Some pair) × (limits_read line ≡ Ok pair.limits) × StandsFor pair [] × (text ≡ [])
 BeginsWith new number line text (Refused refusal.BadTrace) = IsBad limits_read number line text
 BeginsWith new number line text (Refused refusal.Broken) = ⊥
-BeginsWith new number line text Memory = Unit {0}

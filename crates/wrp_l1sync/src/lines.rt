@@ -1,15 +1,12 @@
 //! The lines of the command `l1sync`: a pair of ends, as its record lines make it.
 ghost use Rattle.std.specs.Prelude.{◌≡◌, ◌<◌, ◌≤◌, ◌+◌, ◌-◌, ◌++◌, ◌∷◌, ◌^◌, [], ℕ, List, None, Some, Ok, IfOk, length};
 ghost use Rattle.wrp_l1sync.specs.declared.event.L1Event.{L1Event};
-ghost use Rattle.wrp_records.specs.declared.machine.Refusal.{Refusal};
-ghost use Rattle.wrp_records.specs.declared.machine.Taken.{Taken};
 ghost use Rattle.wrp_l1sync.specs.LineReading.{AreLimits, limits_read, event_read};
 ghost use Rattle.wrp_l1sync.specs.LineRecords.{Accepts, Refuses, meaning};
 ghost use Rattle.wrp_l1sync.specs.LineTaking.{HasTaken, GoesOn, BeginsWith, count_of};
 ghost use Rattle.wrp_l1sync.specs.Pair.{IsFit, StandsFor};
 ghost use Rattle.wrp_records.specs.ByLines.{of_lines};
 ghost use Rattle.wrp_records.specs.Passages.{PassesAll, passage};
-ghost use Rattle.wrp_records.specs.Refusals.{bad_trace_line};
 ghost use Rattle.wrp_records.specs.Split.{IsSplit};
 
 mod fields;
@@ -23,9 +20,8 @@ use csv::ByteRecord;
 use printing::{append_breach, append_event};
 use reading::{read_event, read_limits};
 use std::alloc::{AllocError, Global};
-use wrp_base::TraceFault;
 use wrp_io::{Sink, Source};
-use wrp_records::{Closing, Machine, Refusal, Status, Taken, append_bad_trace, run_all_lines};
+use wrp_records::{Closing, Machine, Refusal, Status, Taken, refuse, run_all_lines};
 
 /// A pair of ends as far as its record lines were taken: the first line says its limits, and each
 /// later one an event.
@@ -41,36 +37,6 @@ impl L1Lines {
         ensures taken { HasTaken result [] }
     {
         L1Lines { pair: None }
-    }
-
-    // Takes what a line says, the record of this number, and appends what it writes to `text`, or the
-    // line that names it. The error is want of memory.
-    fn handle(
-        &mut self,
-        alloc: Global,
-        line: &[u8],
-        parts: Option<&ByteRecord>,
-        number: u32,
-        text: &mut Vec<u8>,
-    ) -> Result<Taken, AllocError>
-        requires split { IsSplit line.now parts }
-        requires none { text.old.items ≡ [] }
-        requires room { count_of self.old.pair + 1 < 2 ^ 32 }
-        ensures count { count_of self.new.pair ≤ count_of self.old.pair + 1 }
-        ensures accepted { (lines : List (List ℕ)) (before : List ℕ) → IfOk result (λ taken.
-            taken ≡ Taken.Accepted
-            → HasTaken self.old lines → Accepts lines before
-            → HasTaken self.new (lines ++ line.now ∷ [])
-            × Accepts (lines ++ line.now ∷ []) (before ++ text.new.items)) }
-        ensures refused { (lines : List (List ℕ)) (refusal : Refusal) → IfOk result (λ taken.
-            taken ≡ Taken.Refused refusal
-            → HasTaken self.old lines → number ≡ length lines + 1
-            → Refuses lines line.now refusal text.new.items) }
-    {
-        match &mut self.pair {
-            Some(pair) => go_on(alloc, pair, line, parts, number, text),
-            None => self.begin(alloc, line, parts, number, text),
-        }
     }
 
     // Takes what the first line says.
@@ -127,15 +93,15 @@ impl Machine for L1Lines {
         parts: Option<&ByteRecord>,
         number: u32,
         text: &mut Vec<u8>,
-    ) -> Taken {
-        match self.handle(alloc, line, parts, number, text) {
-            Ok(taken) => taken,
-            Err(_) => Taken::Memory,
+    ) -> Result<Taken, AllocError> {
+        match &mut self.pair {
+            Some(pair) => go_on(alloc, pair, line, parts, number, text),
+            None => self.begin(alloc, line, parts, number, text),
         }
     }
 
-    fn close(&self, alloc: Global, text: &mut Vec<u8>) -> Closing {
-        Closing::Closed
+    fn close(&self, alloc: Global, text: &mut Vec<u8>) -> Result<Closing, AllocError> {
+        Ok(Closing::Closed)
     }
 }
 
@@ -222,18 +188,4 @@ fn happen(
         }
         Err(L1Refused::Memory(error)) => Err(error),
     }
-}
-
-// Appends the line of a record that says nothing.
-fn refuse(
-    alloc: Global,
-    number: u32,
-    fault: &TraceFault,
-    text: &mut Vec<u8>,
-) -> Result<Taken, AllocError>
-    ensures { IfOk result (λ taken. (taken ≡ Taken.Refused Refusal.BadTrace)
-        × (text.new.items ≡ text.old.items ++ bad_trace_line number fault.now)) }
-{
-    append_bad_trace(alloc, text, number, fault)?;
-    Ok(Taken::Refused(Refusal::BadTrace))
 }

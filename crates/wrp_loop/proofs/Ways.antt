@@ -31,7 +31,7 @@ use Rattle.wrp_course.proofs.RunNetwork.{LinkEnd, end_with, place_end}
 use Rattle.wrp_loop.specs.declared.routes.Route.{Route}
 use Rattle.wrp_loop.specs.Datagrams.{IsWayOf, end_number}
 use Rattle.wrp_loop.specs.LoopStands.{Flies, IsRouteOf, way_by}
-use Rattle.wrp_loop.proofs.Accepting.{end_found}
+use Rattle.wrp_sim.proofs.Ends.{end_found}
 
 -- Octets of frames are few
 
@@ -79,11 +79,6 @@ sender_is : (s : Setting) (w : WorldAt) (i : ℕ) (f : FrameAt) (link : LinkCfg)
 sender_is s w i f link flies there =
     ap (option_and_then (λ (g : FrameAt). end_at s g.link g.by)) (kept_on_fibre s w i (ap is_on_fibre flies.is ∙ flies.on) ∙ flies.is)
     ∙ ap (option_map (end_of f.by)) there
-
-pub sender_there : (s : Setting) (w : WorldAt) (i : ℕ) (f : FrameAt) → Flies w s i f → None ≡ option_map port_in (sender_of s w i) → ⊥
-sender_there s w i f flies told =
-    let it = lit_link s w f.link flies.lit in
-    none-some (port_in (end_of f.by it.0)) (told ∙ ap (option_map port_in) (sender_is s w i f it.0 flies it.1))
 
 -- the place of the sender
 pub sender_place : (s : Setting) → IsNetwork s → (w : WorldAt) (i n p : ℕ) (f : FrameAt) → Flies w s i f → Some (n, p) ≡ option_map port_in (sender_of s w i) → place_of s n p ≡ Some (record { link = f.link; role = f.by })

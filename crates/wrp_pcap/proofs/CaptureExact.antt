@@ -1,10 +1,10 @@
 -- A file is a capture of one number of packets, or is refused in one way, and never both.
-use Rattle.std.proofs.Common.{◌≡◌, ◌+◌, ◌↔◌, ℕ, List, length, drop, Option, Some, None, Result, Ok, Err, IfOk, IfErr, inl, inr, refl, sym, ap, ap₂, ◌∙◌, subst, arith}
+use Rattle.std.proofs.Common.{◌≡◌, ◌+◌, ℕ, List, length, drop, Option, Some, None, inl, inr, refl, sym, ap, ap₂, ◌∙◌, subst, arith}
 use Rattle.wrp_pcap.specs.declared.capture.CaptureFault.{CaptureFault}
 use Rattle.wrp_pcap.specs.declared.capture.CaptureFault.TheVariants.{Magic, LinkType, Header, Packet, Long}
 use Rattle.wrp_pcap.specs.declared.capture.Order.{Order}
 use Rattle.wrp_pcap.specs.declared.capture.Refusal.{Refusal}
-use Rattle.wrp_pcap.specs.Capture.{order_of, number_at, HasHeader, HasHeaderFault, StoredPacket, HasReading, IsFile, IsRefused, IsReadAs, IsCaptureOf, IsRefusedAs}
+use Rattle.wrp_pcap.specs.Capture.{order_of, number_at, HasHeader, HasHeaderFault, StoredPacket, HasReading, IsFile, IsRefused, IsReadAs}
 use Rattle.wrp_pcap.proofs.CaptureReading.{AreOne, readings_are_one}
 
 -- a header has one order
@@ -85,28 +85,3 @@ read_once packets others None None octets a b =
 read_once packets others None (Some other) octets a b = absurd (capture_not_refused packets others other octets a b)
 read_once packets others (Some one) None octets a b = absurd (capture_not_refused others packets one octets b a)
 read_once packets others (Some one) (Some other) octets a b = refusals_agree packets others one other octets a b
-
-ok_exactly : (octets : List ℕ) (result : Result ℕ Refusal) → IfOk result (λ count. IsCaptureOf count octets) → IfErr result (λ refusal. IsRefusedAs refusal octets)
-    → (count : ℕ) → IsCaptureOf count octets → result ≡ Ok count
-ok_exactly octets (Ok read) ok err count is =
-    let agree = read_once ok.packets is.packets None None octets ok.is is.is in
-    ap Ok (ok.counted ∙ ap length agree.packets_are ∙ sym is.counted)
-ok_exactly octets (Err refusal) ok err count is = absurd (capture_not_refused is.packets err.packets refusal octets is.is err.is)
-
-err_exactly : (octets : List ℕ) (result : Result ℕ Refusal) → IfOk result (λ count. IsCaptureOf count octets) → IfErr result (λ refusal. IsRefusedAs refusal octets)
-    → (refusal : Refusal) → IsRefusedAs refusal octets → result ≡ Err refusal
-err_exactly octets (Ok read) ok err refusal is = absurd (capture_not_refused ok.packets is.packets refusal octets ok.is is.is)
-err_exactly octets (Err told) ok err refusal is =
-    let agree = read_once err.packets is.packets (Some told) (Some refusal) octets err.is is.is in
-    let same = agree.refusals_are in cc
-
--- from what the reader ensures of each answer, when each comes
-pub exactly_counted : (octets : List ℕ) (result : Result ℕ Refusal) → IfOk result (λ count. IsCaptureOf count octets) → IfErr result (λ refusal. IsRefusedAs refusal octets)
-    → (count : ℕ) → (result ≡ Ok count) ↔ IsCaptureOf count octets
-exactly_counted octets result ok err count =
-    (λ is. subst (λ r. IfOk r (λ n. IsCaptureOf n octets)) is ok, ok_exactly octets result ok err count)
-
-pub exactly_refused : (octets : List ℕ) (result : Result ℕ Refusal) → IfOk result (λ count. IsCaptureOf count octets) → IfErr result (λ refusal. IsRefusedAs refusal octets)
-    → (refusal : Refusal) → (result ≡ Err refusal) ↔ IsRefusedAs refusal octets
-exactly_refused octets result ok err refusal =
-    (λ is. subst (λ r. IfErr r (λ f. IsRefusedAs f octets)) is err, err_exactly octets result ok err refusal)

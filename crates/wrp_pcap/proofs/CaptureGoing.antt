@@ -116,22 +116,6 @@ reached_more order taken out rest octets waiting now old new whole same room too
       waits = ap (λ l. l ++ lines) reached.waits ∙ append_assoc out waiting lines ∙ ap (λ l. out ++ l) (sym (took.written reached.contents reached.has));
     }
 
--- where there was no memory for it
-pub reached_same : (order : Order) (taken out rest waiting now : List ℕ) (old new : Inspection) → now ≡ waiting
-    → ((before : List Content) → HasTaken old before → HasTaken new before)
-    → Reached order taken out old rest waiting → Reached order taken out new rest now
-reached_same order taken out rest waiting now old new same kept reached = record {
-  packets = reached.packets;
-  contents = reached.contents;
-  header = reached.header;
-  begins = reached.begins;
-  few = reached.few;
-  near = reached.near;
-  carry = reached.carry;
-  has = kept reached.contents reached.has;
-  waits = reached.waits ∙ ap (λ l. out ++ l) (sym same);
-}
-
 -- a piece more
 pub reached_refilled : (order : Order) (taken out rest given waiting : List ℕ) (inspection : Inspection) → IsCut order rest → length given ≤ piece_limit
     → Reached order taken out inspection rest waiting → Reached order (taken ++ given) out inspection (rest ++ given) waiting

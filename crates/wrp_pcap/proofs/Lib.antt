@@ -6,7 +6,6 @@ pub mod CaptureLaws
 pub mod CaptureReading
 pub mod CaptureRows
 pub mod CaptureStands
-pub mod CaptureWalk
 pub mod Carried
 pub mod Chains
 pub mod CompleteJudged

@@ -1,17 +1,16 @@
 -- The table of pairs: what an entry that is put or written makes of the chains.
-use Rattle.std.proofs.Common.{◌≡◌, refl, sym, ap, ◌∙◌, ap₂, subst, ℕ, Bool, true, false, ◌&&◌, ◌==◌, cond, if◌then◌else◌, Option, None, Some, IsSome, is_some, unwrap_or, []}
+use Rattle.std.proofs.Common.{◌≡◌, refl, sym, ap, ◌∙◌, ap₂, subst, Bool, true, false, ◌==◌, cond, if◌then◌else◌, Option, None, Some, IsSome, is_some, unwrap_or, []}
 use Rattle.std.proofs.lemmas.Bool.{eqb-true}
 use Rattle.std.specs.BTreeMap as tree
 use Rattle.std.specs.Cmp.{both_tied, unsigned_tied}
 use Rattle.std.specs.Ordering.{is_eq}
 use Rattle.wrp_base.proofs.Booleans.{and_first, and_second}
 use Rattle.wrp_base.specs.declared.message.PortIdentity.{PortIdentity}
-use Rattle.wrp_base.specs.declared.message.WrMsg.{WrMsg}
 use Rattle.wrp_pcap.specs.declared.chain.Chain.{Chain}
 use Rattle.wrp_pcap.specs.declared.pairs.Pairs.{Pairs}
 use Rattle.wrp_pcap.specs.Certificate.{same_port, goes}
-use Rattle.wrp_pcap.specs.Chain.{chain_of, after_master, after_slave}
-use Rattle.wrp_pcap.specs.StandsFor.{Key, key, port_cmp, key_cmp, chain_at, HasRoom, KeepsRoom, Opened, Written, HeardAsMaster, HeardAsSlave}
+use Rattle.wrp_pcap.specs.Chain.{chain_of}
+use Rattle.wrp_pcap.specs.StandsFor.{Key, key, port_cmp, key_cmp, chain_at, HasRoom, KeepsRoom, Opened, Written}
 
 -- ---- keys
 
@@ -103,30 +102,3 @@ put_empty master slave chain old new puts none empty =
           ∙ same_if (goes master slave m s) chain (chain_at old m s) (λ is. old_chain ∙ chain_same old master slave m s is);
       room = put_room master slave chain old new puts;
     }
-
--- ---- a message
-
-if_at : (b : Bool) (x y z : Chain) → (b ≡ true → x ≡ y) → (if b then x else z) ≡ (if b then y else z)
-if_at true x y z h = h refl
-if_at false x y z h = refl
-
-pub written_master : (source target : PortIdentity) (message : WrMsg) (n : ℕ) (chain : Chain) (old new : Pairs) →
-    chain ≡ after_master message n (chain_at old source target) → Written source target chain old new → HeardAsMaster source target message n old new
-written_master source target message n chain old new is written m s =
-    written m s
-    ∙ if_at (goes source target m s) chain (after_master message n (chain_at old m s)) (chain_at old m s)
-    (λ same. is ∙ ap (after_master message n) (chain_same old source target m s same))
-
-and_turned : (a b : Bool) → (a && b) ≡ (b && a)
-and_turned true true = refl
-and_turned true false = refl
-and_turned false true = refl
-and_turned false false = refl
-
-pub written_slave : (source target : PortIdentity) (message : WrMsg) (n : ℕ) (chain : Chain) (old new : Pairs) →
-    chain ≡ after_slave message n (chain_at old target source) → Written target source chain old new → HeardAsSlave source target message n old new
-written_slave source target message n chain old new is written m s =
-    written m s
-    ∙ if_at (goes target source m s) chain (after_slave message n (chain_at old m s)) (chain_at old m s)
-    (λ same. is ∙ ap (after_slave message n) (chain_same old target source m s same))
-    ∙ ap (λ b. if b then after_slave message n (chain_at old m s) else chain_at old m s) (and_turned (same_port target m) (same_port source s))

@@ -145,17 +145,6 @@ abbrev pub IsReadAs : List StoredPacket → Option Refusal → List ℕ → Type
 IsReadAs packets None octets = IsFile packets None octets
 IsReadAs packets (Some refusal) octets = IsRefused packets refusal octets
 
--- the octets are a capture of so many packets
-pub record IsCaptureOf (count : ℕ) (octets : List ℕ) : Type 0 where
-  pub packets : List StoredPacket
-  pub counted : count ≡ length packets
-  pub is : IsReadAs packets None octets
-
--- the octets are refused so
-pub record IsRefusedAs (refusal : Refusal) (octets : List ℕ) : Type 0 where
-  pub packets : List StoredPacket
-  pub is : IsReadAs packets (Some refusal) octets
-
 -- octets of a packet are left, and it is not whole yet, nor too long
 abbrev pub IsCut : Order → List ℕ → Type 0
 IsCut order octets =

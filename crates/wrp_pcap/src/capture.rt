@@ -1,9 +1,8 @@
 //! The octets of a classic libpcap capture file: its header, and what stands in front of the octets
 //! that are left.
-ghost use Rattle.std.specs.Prelude.{◌≡◌, ◌↔◌, ◌≤◌, ◌+◌, ℕ, length, IfOk, IfErr};
+ghost use Rattle.std.specs.Prelude.{◌≡◌, ◌↔◌, ◌≤◌, ◌+◌, length, IfOk, IfErr};
 ghost use Rattle.wrp_pcap.specs.Capture.{order_by, number_at, captured, number_of, name_of};
 ghost use Rattle.wrp_pcap.specs.Capture.{HasHeader, HasHeaderFault, IsFront};
-ghost use Rattle.wrp_pcap.specs.Capture.{IsCaptureOf, IsRefusedAs};
 
 use byteorder::{BigEndian, ByteOrder, LittleEndian};
 
@@ -185,51 +184,4 @@ fn read_front(order: Order, octets: &[u8], ended: bool) -> Front
         };
     }
     Front::Whole(captured)
-}
-
-/// How many packets there are in the capture that the octets are, a whole file's, or where they are
-/// refused.
-pub fn packets(octets: &[u8]) -> Result<usize, Refusal>
-    ensures ok { (count : ℕ) → (result ≡ Ok count) ↔ IsCaptureOf count octets.now }
-    ensures refused { (refusal : Refusal)
-        → (result ≡ Err refusal) ↔ IsRefusedAs refusal octets.now }
-{
-    read_packets(octets)
-}
-
-// Reads the header, and then the packets.
-fn read_packets(octets: &[u8]) -> Result<usize, Refusal>
-    ensures ok { IfOk result (λ count. IsCaptureOf count octets.now) }
-    ensures err { IfErr result (λ refusal. IsRefusedAs refusal octets.now) }
-{
-    match read_header(octets) {
-        Ok(order) => count_packets(order, octets),
-        Err(fault) => Err(Refusal { packet: 0, fault }),
-    }
-}
-
-// Counts the packets behind the header.
-#[tactic(auto, using(crate::proofs::CaptureWalk::walk))]
-fn count_packets(order: Order, octets: &[u8]) -> Result<usize, Refusal>
-    requires { HasHeader order octets.now }
-    ensures ok { IfOk result (λ count. IsCaptureOf count octets.now) }
-    ensures err { IfErr result (λ refusal. IsRefusedAs refusal octets.now) }
-{
-    let mut at = HEADER_LENGTH;
-    let mut count = 0;
-    'packets: loop {
-        match read_front(order, &octets[at..], true) {
-            Front::Whole(captured) => {
-                at += NUMBERS_LENGTH + captured as usize;
-                count += 1;
-            }
-            Front::Refused(fault) => {
-                return Err(Refusal {
-                    packet: count + 1,
-                    fault,
-                });
-            }
-            Front::End | Front::More => return Ok(count),
-        }
-    }
 }

@@ -22,7 +22,7 @@ mod taking;
 mod verdict;
 mod words;
 
-pub use capture::{CaptureFault, Front, Order, Refusal, captured_len, header, in_front, packets};
+pub use capture::{CaptureFault, Front, Order, Refusal, captured_len, header, in_front};
 pub use capture_laws::{
     captures_are_their_packets, files_have_one_reading, packets_stay, readings_go_on,
     worked_captures,

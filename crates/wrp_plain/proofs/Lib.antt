@@ -7,7 +7,6 @@ pub mod Near
 pub mod Worth
 pub mod History
 pub mod Exact
-pub mod LinesRead
 pub mod LinesOnce
 pub mod LinesMore
 pub mod LinesExact

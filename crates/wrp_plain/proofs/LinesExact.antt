@@ -1,6 +1,6 @@
 -- What the record lines of a plain servo mean is exact: they have one text, one refusal and one end.
 use Rattle.std.proofs.Common.{◌≡◌, ◌∙◌, refl, ap, ap₂, sym, subst, append_assoc, append-nil, ℕ, ◌+◌, None, Some, Ok, Err, List, [], ◌∷◌, ◌++◌, length, map, reverse}
-use Rattle.std.proofs.lemmas.List.{map-append, reverse-append, reverse-reverse}
+use Rattle.std.proofs.lemmas.List.{map-append, reverse-append, reverse-reverse, same_from_push}
 use Rattle.wrp_records.specs.declared.machine.Refusal.{Refusal}
 use Rattle.wrp_records.specs.declared.machine.Refusal.TheVariants as refusals
 use Rattle.wrp_records.specs.Refusals.{bad_trace_line}
@@ -14,19 +14,6 @@ use Rattle.wrp_plain.specs.Premises.{broken_after}
 use Rattle.wrp_plain.proofs.LinesOnce.{one_course, read, turned}
 
 -- The newest event of a course
-
--- two lists that end alike
-same_ends : {X : Type 0} (xs ys : List X) (x y : X) → xs ++ x ∷ [] ≡ ys ++ y ∷ [] → (xs ≡ ys) × (x ≡ y)
-same_ends [] [] x y e = (refl, cc)
-same_ends [] (b ∷ []) x y e = absurd (cc)
-same_ends [] (b ∷ c ∷ ys) x y e = absurd (cc)
-same_ends (a ∷ []) [] x y e = absurd (cc)
-same_ends (a ∷ b ∷ xs) [] x y e = absurd (cc)
-same_ends (a ∷ xs) (b ∷ ys) x y e =
-    let head : a ≡ b = cc in
-    let tail : xs ++ x ∷ [] ≡ ys ++ y ∷ [] = cc in
-    let rest = same_ends xs ys x y tail in
-    (ap₂ (λ h t. h ∷ t) head rest.0, rest.1)
 
 none_ends : {X : Type 0} (xs : List X) (x : X) → xs ++ x ∷ [] ≡ [] → ⊥
 none_ends [] x e = cc
@@ -43,7 +30,7 @@ record Newest (first : List ℕ) (lines : List (List ℕ)) (line : List ℕ) (st
 newest_of : (first : List ℕ) (lines : List (List ℕ)) (line : List ℕ) (start : PlainStart) (events : List PlainEvent) → IsCourse first (lines ++ line ∷ []) start events → Newest first lines line start
 newest_of first lines line start [] course = absurd (none_ends (map event_read lines) (event_read line) (sym (map-append event_read lines (line ∷ [])) ∙ course.are))
 newest_of first lines line start (event ∷ before) course =
-    let ends = same_ends (map event_read lines) (map read (reverse before)) (event_read line) (read event)
+    let ends = same_from_push (map event_read lines) (map read (reverse before)) (event_read line) (read event)
     (sym (map-append event_read lines (line ∷ [])) ∙ course.are ∙ turned event before) in
     record {
       newest = event;

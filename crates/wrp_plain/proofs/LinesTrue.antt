@@ -17,7 +17,8 @@ use Rattle.wrp_plain.specs.Report.{kept_reports}
 use Rattle.wrp_plain.specs.Seen.{calls_of, seen_of, told_by}
 use Rattle.wrp_plain.specs.World.{IsLeastOf, IsWithinBound, TellsTruth}
 use Rattle.wrp_plain.proofs.LineRanges.{start_ranges}
-use Rattle.wrp_plain.proofs.LineWords.{SameWord, decimal_word, digits_are_word, first_word, head_of, line_in_front, line_whole, rest_of, signed_word}
+use Rattle.wrp_records.proofs.WordLemmas.{SameWord, decimal_word, first_word, head_of, line_in_front, line_whole, rest_of, signed_word}
+use Rattle.wrp_plain.proofs.LineWords.{digits_are_word}
 use Rattle.wrp_plain.proofs.Worth.{tells_truth}
 
 -- what tells a report in a line, behind its first word
@@ -31,23 +32,23 @@ PlainWords est bound off = codes "plain" ++ 32 ∷ (est ++ 32 ∷ (bound ++ 32 �
 pub report_says : (IsSo : PlainReport → Type 0) (tick : ℕ) (report : PlainReport) (off : ℤ) → IsWithinBound off report → IsSo report → Says IsSo (report_line tick report off)
 report_says IsSo n report truth within so tick est bound off h k l m e =
     let told : List ℕ = TrueOff (signed_decimal truth) in
-    let zero : SameWord (decimal n) tick (PlainWords (signed_decimal report.est) (signed_decimal report.bound) (signed_decimal truth)) (PlainWords est bound off) =
+    let zero : SameWord (decimal n) tick 32 32 (PlainWords (signed_decimal report.est) (signed_decimal report.bound) (signed_decimal truth)) (PlainWords est bound off) =
     first_word (decimal n) tick 32 32 (PlainWords (signed_decimal report.est) (signed_decimal report.bound) (signed_decimal truth)) (PlainWords est bound off) (decimal_word n) (digits_are_word tick h) refl refl e in
     let tail : signed_decimal report.est ++ 32 ∷ (signed_decimal report.bound ++ 32 ∷ told) ≡ est ++ 32 ∷ (bound ++ 32 ∷ TrueOff off) =
     ap (λ (x : List ℕ). rest_of (rest_of (rest_of (rest_of (rest_of (rest_of x)))))) zero.rest in
-    let one : SameWord (signed_decimal report.est) est (signed_decimal report.bound ++ 32 ∷ told) (bound ++ 32 ∷ TrueOff off) =
+    let one : SameWord (signed_decimal report.est) est 32 32 (signed_decimal report.bound ++ 32 ∷ told) (bound ++ 32 ∷ TrueOff off) =
     first_word (signed_decimal report.est) est 32 32 (signed_decimal report.bound ++ 32 ∷ told) (bound ++ 32 ∷ TrueOff off) (signed_word report.est) k refl refl tail in
-    let two : SameWord (signed_decimal report.bound) bound told (TrueOff off) =
+    let two : SameWord (signed_decimal report.bound) bound 32 32 told (TrueOff off) =
     first_word (signed_decimal report.bound) bound 32 32 told (TrueOff off) (signed_word report.bound) l refl refl one.rest in
     let last : signed_decimal truth ++ 10 ∷ [] ≡ off ++ 10 ∷ [] = ap (λ (x : List ℕ). rest_of (rest_of (rest_of (rest_of (rest_of x))))) two.rest in
-    let three : SameWord (signed_decimal truth) off [] [] = first_word (signed_decimal truth) off 10 10 [] [] (signed_word truth) m refl refl last in
+    let three : SameWord (signed_decimal truth) off 10 10 [] [] = first_word (signed_decimal truth) off 10 10 [] [] (signed_word truth) m refl refl last in
     (record { report = report; offset = truth; est_is = one.word; bound_is = two.word; off_is = three.word; within = within }, so)
 
 -- the line of a command says none
 pub step_says : (IsSo : PlainReport → Type 0) (tick : ℕ) (by : ℤ) → Says IsSo (step_line tick by)
 step_says IsSo n by tick est bound off h k l m e =
     let words : List ℕ = codes "step" ++ 32 ∷ (signed_decimal by ++ 10 ∷ []) in
-    let zero : SameWord (decimal n) tick words (PlainWords est bound off) = first_word (decimal n) tick 32 32 words (PlainWords est bound off) (decimal_word n) (digits_are_word tick h) refl refl e in
+    let zero : SameWord (decimal n) tick 32 32 words (PlainWords est bound off) = first_word (decimal n) tick 32 32 words (PlainWords est bound off) (decimal_word n) (digits_are_word tick h) refl refl e in
     absurd (let f : 115 ≡ 112 = ap head_of zero.rest in omega (arith, f))
 
 -- Events

@@ -3,14 +3,13 @@ use Rattle.std.proofs.Common.{◌≡◌, refl, sym, subst, append_assoc, append-
 use Rattle.std.specs.Prelude.{IfSome}
 use Rattle.std.specs.Fmt.{decimal, signed_decimal}
 use Rattle.wrp_base.specs.declared.fault.TraceFault.{TraceFault}
-use Rattle.wrp_base.specs.declared.fault.TraceFault.TheVariants.{Fields, Kind, Number, Name, Memory}
 use Rattle.wrp_records.specs.declared.machine.Refusal.{Refusal}
 use Rattle.wrp_records.specs.declared.machine.Refusal.TheVariants as refusals
 use Rattle.wrp_records.specs.declared.status.Status.{Status}
 use Rattle.wrp_records.specs.declared.status.Status.TheVariants.{Done, BadTrace, Broken, TooLarge, BadCalib}
 use Rattle.wrp_records.specs.Lines.{IsWhole, content_of, lines_of}
 use Rattle.wrp_records.specs.RecordsAnswer.{RecordsAnswer, StandsFirst}
-use Rattle.wrp_records.specs.Refusals.{bad_trace_line, code_of, field_of, name_of}
+use Rattle.wrp_records.specs.Refusals.{bad_trace_line}
 use Rattle.wrp_records.specs.Stream.{large_line}
 use Rattle.wrp_plain.specs.declared.event.PlainBroken.{PlainBroken}
 use Rattle.wrp_plain.specs.declared.event.PlainEvent.{PlainEvent}
@@ -18,9 +17,11 @@ use Rattle.wrp_plain.specs.declared.settings.PlainReport.{PlainReport}
 use Rattle.wrp_plain.specs.declared.settings.PlainSet.{PlainSet}
 use Rattle.wrp_plain.specs.LineCourse.{PlainAccepts, PlainRefuses, plain_meaning}
 use Rattle.wrp_plain.specs.LineText.{broken_line, event_text, events_text, premise_name, tick_count}
-use Rattle.wrp_plain.specs.LineTruth.{AllAreWithin, AreTrue, IsWord, OutputTellsTruth, Says}
+use Rattle.wrp_plain.specs.LineTruth.{AllAreWithin, AreTrue, OutputTellsTruth, Says}
 use Rattle.wrp_plain.specs.Seen.{seen_of}
-use Rattle.wrp_plain.proofs.LineWords.{decimal_word, either_word, line_in_front, line_whole, says_none, signed_word}
+use Rattle.wrp_records.specs.Words.{IsWord}
+use Rattle.wrp_records.proofs.WordLemmas.{decimal_word, either_word, large_line_whole, line_in_front, line_whole, signed_word, trace_line_whole}
+use Rattle.wrp_plain.proofs.LineWords.{says_none}
 use Rattle.wrp_plain.proofs.LinesTrue.{records_tell_truth_holds, seen_in_front}
 
 -- a report of which nothing more is asked
@@ -54,19 +55,9 @@ records_in_front (first ∷ lines) written rest accepted behind =
 alone : (line : List ℕ) → IsWhole line → Says IsAny line → AllAreWithin line
 alone line whole says = subst AllAreWithin (append-nil line) (line_in_front (Says IsAny) line [] whole says tt)
 
-fault_word : (fault : TraceFault) → IsWord (name_of fault)
-fault_word Fields = refl
-fault_word Kind = refl
-fault_word (Number field) = refl
-fault_word (Name field) = refl
-fault_word (Memory e) = refl
-
 trace_so : (number : ℕ) (fault : TraceFault) → AllAreWithin (bad_trace_line number fault)
 trace_so number fault =
-    alone (bad_trace_line number fault)
-    (line_whole (codes "bad-trace" ∷ decimal number ∷ decimal (code_of fault) ∷ name_of fault ∷ decimal (field_of fault) ∷ [])
-    (refl, (decimal_word number, (decimal_word (code_of fault), (fault_word fault, (decimal_word (field_of fault), tt))))))
-    (λ tick est bound off h k l m e. absurd (says_none 98 _ tick _ refl refl h e))
+    alone (bad_trace_line number fault) (trace_line_whole number fault) (λ tick est bound off h k l m e. absurd (says_none 98 _ tick _ refl refl h e))
 
 premise_word : (premise : ℕ) → IsWord (premise_name premise)
 unfolding premise_name
@@ -85,11 +76,8 @@ broken_so number broken =
     (refl, (decimal_word number, (decimal_word broken.premise, (premise_word broken.premise, (signed_word broken.shown, (signed_word broken.bound, tt)))))))
     (λ tick est bound off h k l m e. absurd (says_none 98 _ tick _ refl refl h e))
 
-large_whole : (number : ℕ) → IsWhole (large_line number)
-large_whole number = line_whole (codes "too-large" ∷ decimal number ∷ []) (refl, (decimal_word number, tt))
-
 large_so : (number : ℕ) → AllAreWithin (large_line number)
-large_so number = alone (large_line number) (large_whole number) (λ tick est bound off h k l m e. absurd (says_none 116 _ tick _ refl refl h e))
+large_so number = alone (large_line number) (large_line_whole number) (λ tick est bound off h k l m e. absurd (says_none 116 _ tick _ refl refl h e))
 
 refusal_so : (lines : List (List ℕ)) (line last : List ℕ) (refusal : Refusal) → PlainRefuses lines line refusal last → AllAreWithin last
 refusal_so [] line last refusals.BadTrace refused = subst AllAreWithin (sym refused.2) (trace_so 1 refused.0)

@@ -1,7 +1,7 @@
 -- What the lines that the command writes are worth: each report that is printed is within its bound of the true offset
 -- that is printed with it, and that bound is the least that a kept measurement gives; no exchange is too short to be
 -- measured (this project's profile).
-use Rattle.std.specs.Prelude.{◌≡◌, ◌==◌, ◌&&◌, not, true, ℕ, ℤ, List, [], ◌∷◌, codes}
+use Rattle.std.specs.Prelude.{◌≡◌, true, ℕ, ℤ, List, [], ◌∷◌, codes}
 use Rattle.std.specs.Char.{is_ascii_digit}
 use Rattle.std.specs.Fmt.{signed_decimal}
 use Rattle.std.specs.List.{AllByRecursion, list_all}
@@ -9,7 +9,7 @@ use Rattle.wrp_io.specs.declared.link.LinkCall.{LinkCall}
 use Rattle.wrp_records.specs.declared.status.Status.{Status}
 use Rattle.wrp_records.specs.ByLines.{of_lines}
 use Rattle.wrp_records.specs.Lines.{lines_of}
-use Rattle.wrp_records.specs.Words.{line_of}
+use Rattle.wrp_records.specs.Words.{IsWord, line_of}
 use Rattle.wrp_plain.specs.declared.event.PlainEvent.{PlainEvent}
 use Rattle.wrp_plain.specs.declared.settings.PlainReport.{PlainReport}
 use Rattle.wrp_plain.specs.declared.settings.PlainSet.{PlainSet}
@@ -19,10 +19,6 @@ use Rattle.wrp_plain.specs.LineText.{event_text}
 use Rattle.wrp_plain.specs.Report.{kept_reports}
 use Rattle.wrp_plain.specs.Seen.{calls_of, seen_of, told_by}
 use Rattle.wrp_plain.specs.World.{IsLeastOf, IsWithinBound, TellsTruth}
-
--- a word: it has no space and no LF
-abbrev pub IsWord : List ℕ → Type 0
-IsWord octets = list_all (λ c. not (c == 32) && not (c == 10)) octets ≡ true
 
 -- only digits
 abbrev pub AreDigits : List ℕ → Type 0

@@ -1,11 +1,9 @@
 -- What a machine of the lines of a plain servo stands for: the lines that it has taken (this project's profile).
-use Rattle.std.specs.Prelude.{◌≡◌, ◌≤◌, ℕ, ℤ, IfSome, Option, None, Some, List, [], ◌∷◌, ◌++◌}
+use Rattle.std.specs.Prelude.{◌≡◌, ◌≤◌, ℕ, ℤ, IfSome, Option, None, Some, List, [], ◌∷◌}
 use Rattle.std.specs.Option.{option_map_or}
-use Rattle.wrp_base.specs.declared.fault.TraceFault.{TraceFault}
 use Rattle.wrp_records.specs.declared.machine.Refusal.TheVariants as refusal
 use Rattle.wrp_records.specs.declared.machine.Taken.{Taken}
 use Rattle.wrp_records.specs.declared.machine.Taken.TheVariants as taken
-use Rattle.wrp_records.specs.Refusals.{bad_trace_line}
 use Rattle.wrp_plain.specs.declared.event.PlainEvent.{PlainEvent}
 use Rattle.wrp_plain.specs.declared.event.PlainBroken.{PlainBroken}
 use Rattle.wrp_plain.specs.declared.settings.PlainSet.{PlainSet}
@@ -60,15 +58,3 @@ Happens set off events event number new text taken.Accepted =
 Happens set off events event number new text (taken.Refused refusal.Broken) =
     (broken : PlainBroken) × (broken_after set off events event ≡ Some broken) × (text ≡ broken_line number broken)
 Happens set off events event number new text _ = ⊥
-
--- the line of a fault is told, or there is no memory for it
-abbrev pub TellsLine : TraceFault → ℕ → List ℕ → List ℕ → Taken → Type 0
-TellsLine fault number old new (taken.Refused refusal.BadTrace) = new ≡ old ++ bad_trace_line number fault
-TellsLine fault number old new taken.Memory = Unit {0}
-TellsLine fault number old new _ = ⊥
-
--- the line of a broken premise is told, or there is no memory for it
-abbrev pub TellsBroken : PlainBroken → ℕ → List ℕ → List ℕ → Taken → Type 0
-TellsBroken broken number old new (taken.Refused refusal.Broken) = new ≡ old ++ broken_line number broken
-TellsBroken broken number old new taken.Memory = Unit {0}
-TellsBroken broken number old new _ = ⊥

@@ -1,5 +1,5 @@
 //! The lines of a plain servo: the first says how its world starts, each behind it an event.
-ghost use Rattle.std.specs.Prelude.{◌≡◌, ◌+◌, ◌++◌, ◌∷◌, [], ◌^◌, ◌<◌, ◌≤◌, ℕ, List, None, length};
+ghost use Rattle.std.specs.Prelude.{◌≡◌, ◌+◌, ◌++◌, ◌∷◌, [], ◌^◌, ◌<◌, ◌≤◌, ℕ, List, None, IfOk, length};
 ghost use Rattle.wrp_records.specs.Split.{IsSplit};
 ghost use Rattle.wrp_records.specs.declared.machine.Refusal.{Refusal};
 ghost use Rattle.wrp_records.specs.declared.machine.Taken.{Taken};
@@ -17,10 +17,9 @@ mod refusals;
 use course::Course;
 use csv::ByteRecord;
 use reading::{read_event, read_start};
-use refusals::refuse;
-use std::alloc::Global;
+use std::alloc::{AllocError, Global};
 use wrp_io::{Sink, Source};
-use wrp_records::{Closing, Machine, Status, Taken, run_all_lines};
+use wrp_records::{Closing, Machine, Status, Taken, refuse, run_all_lines};
 
 /// The command `plain`: it takes the records of a source, from its first octet on, a line each, and
 /// writes what they make to a sink before more is asked for. The first line is
@@ -61,25 +60,22 @@ impl PlainLines {
         parts: Option<&ByteRecord>,
         number: u32,
         text: &mut Vec<u8>,
-    ) -> Taken
+    ) -> Result<Taken, AllocError>
         requires split { IsSplit line.now parts }
         requires before { self.old.course ≡ None }
         requires none { text.old.items ≡ [] }
         ensures ready { CanTake self.new }
         ensures count { event_count self.new ≤ 0 }
-        ensures accepted { result ≡ Taken.Accepted
-            → HasTaken self.new (line.now ∷ []) × PlainAccepts (line.now ∷ []) text.new.items }
-        ensures refused { (refusal : Refusal) → result ≡ Taken.Refused refusal
-            → number ≡ 1 → PlainRefuses [] line.now refusal text.new.items }
+        ensures accepted { IfOk result (λ taken. taken ≡ Taken.Accepted
+            → HasTaken self.new (line.now ∷ []) × PlainAccepts (line.now ∷ []) text.new.items) }
+        ensures refused { (refusal : Refusal) → IfOk result (λ taken. taken ≡ Taken.Refused refusal
+            → number ≡ 1 → PlainRefuses [] line.now refusal text.new.items) }
     {
         match read_start(line, parts) {
-            Ok(start) => match Course::new(alloc, start) {
-                Ok(course) => {
-                    self.course = Some(course);
-                    Taken::Accepted
-                }
-                Err(_) => Taken::Memory,
-            },
+            Ok(start) => {
+                self.course = Some(Course::new(alloc, start)?);
+                Ok(Taken::Accepted)
+            }
             Err(fault) => refuse(alloc, number, &fault, text),
         }
     }
@@ -93,21 +89,22 @@ fn go_on(
     parts: Option<&ByteRecord>,
     number: u32,
     text: &mut Vec<u8>,
-) -> Taken
+) -> Result<Taken, AllocError>
     requires split { IsSplit line.now parts }
     requires counts { CountsTicks course.old }
     requires few { course.old.world.events + 1 < 2 ^ 32 }
     requires none { text.old.items ≡ [] }
     ensures counts { CountsTicks course.new }
     ensures few { course.new.world.events ≤ course.old.world.events + 1 }
-    ensures accepted { (first : List ℕ) (lines : List (List ℕ)) (before : List ℕ) → result ≡ Taken.Accepted
+    ensures accepted { (first : List ℕ) (lines : List (List ℕ)) (before : List ℕ) → IfOk result (λ taken.
+        taken ≡ Taken.Accepted
         → HasTakenSo course.old first lines → PlainAccepts (first ∷ lines) before
         → HasTakenSo course.new first (lines ++ line.now ∷ [])
-        × PlainAccepts (first ∷ lines ++ line.now ∷ []) (before ++ text.new.items) }
-    ensures refused { (first : List ℕ) (lines : List (List ℕ)) (refusal : Refusal)
-        → result ≡ Taken.Refused refusal → HasTakenSo course.old first lines
+        × PlainAccepts (first ∷ lines ++ line.now ∷ []) (before ++ text.new.items)) }
+    ensures refused { (first : List ℕ) (lines : List (List ℕ)) (refusal : Refusal) → IfOk result (λ taken.
+        taken ≡ Taken.Refused refusal → HasTakenSo course.old first lines
         → number ≡ length (first ∷ lines) + 1
-        → PlainRefuses (first ∷ lines) line.now refusal text.new.items }
+        → PlainRefuses (first ∷ lines) line.now refusal text.new.items) }
 {
     match read_event(line, parts) {
         Ok(event) => course.happen(alloc, &event, number, text),
@@ -145,14 +142,14 @@ impl Machine for PlainLines {
         parts: Option<&ByteRecord>,
         number: u32,
         text: &mut Vec<u8>,
-    ) -> Taken {
+    ) -> Result<Taken, AllocError> {
         match &mut self.course {
             Some(course) => go_on(course, alloc, line, parts, number, text),
             None => self.begin(alloc, line, parts, number, text),
         }
     }
 
-    fn close(&self, _alloc: Global, _text: &mut Vec<u8>) -> Closing {
-        Closing::Closed
+    fn close(&self, _alloc: Global, _text: &mut Vec<u8>) -> Result<Closing, AllocError> {
+        Ok(Closing::Closed)
     }
 }

@@ -1,6 +1,7 @@
 pub mod Feeds
 pub mod FirstFeed
 pub mod LineEnds
+pub mod LineParts
 pub mod NextLines
 pub mod Passed
 pub mod Passing
@@ -10,3 +11,4 @@ pub mod Reaching
 pub mod ReaderLemmas
 pub mod Telling
 pub mod Unique
+pub mod WordLemmas

@@ -4,7 +4,6 @@ use Rattle.std.specs.List.{concat}
 use Rattle.std.specs.Io.KnownBytes.{Appends, Consumes}
 use Rattle.std.proofs.KnownBytes.{Appends-trans}
 use Rattle.wrp_records.specs.declared.machine.Refusal.{Refusal}
-use Rattle.wrp_records.specs.declared.machine.Refusal.TheVariants as refusals
 use Rattle.wrp_records.specs.declared.status.Status.{Status}
 use Rattle.wrp_records.specs.declared.status.Status.TheVariants.{Done, BadTrace, Broken, ReadFault, WriteFault, TooLarge, OutOfMemory, BadCalib}
 use Rattle.wrp_records.specs.LinesAfter.{BrokenAt, Closed, ClosesWith, DoneAt, DueAt, LinesAfter}
@@ -13,7 +12,6 @@ use Rattle.wrp_records.specs.Lines.{lines_of, onto, content_of, HasNoFeed}
 use Rattle.wrp_records.specs.LineMeaning.{LineMeaning}
 use Rattle.wrp_records.specs.Reader.{ReaderAt, IsLast}
 use Rattle.wrp_records.specs.RecordsAnswer.{BreaksOff, IsWholly, IsRefused, IsLarge, RecordsAnswer, AreFirst, StandsFirst}
-use Rattle.wrp_records.specs.Statuses.{is_answer}
 use Rattle.wrp_records.specs.Stream.{Handles, size_of, RefusedAt, TooLargeAt, Due, Outcome, FirstHandled}
 use Rattle.wrp_records.proofs.Feeds.{size_plain}
 use Rattle.wrp_records.proofs.NextLines.{next_line, cut_line}
@@ -113,10 +111,6 @@ broken_told M status octets r text at more goes =
     let same : lines_of octets ≡ lines_of (octets ++ more) = ap lines_of (sym (ap (λ l. octets ++ l) (goes at.end.ended) ∙ append-nil octets)) in
     subst (λ (ls : List (List ℕ)). BreaksOff M status ls text) same at.breaks
 
--- an answer, or what stands first
-abbrev pub DueOf : LineMeaning → List (List ℕ) → Status → List ℕ → Type 0
-DueOf M lines status text = RecordsAnswer M lines status text ⊎ StandsFirst M lines text
-
 pub large_told : (M : LineMeaning) (octets : List ℕ) (r : ReaderAt) (text : List ℕ) → TooLargeAt M.accepts octets r text ⊎ BrokenAt M octets r TooLarge text
     → (more : List ℕ) → (r.ended ≡ true → more ≡ []) → RecordsAnswer M (lines_of (octets ++ more)) TooLarge text
 large_told M octets r text (inl at) more goes = inl (too_large_told M octets r text at more goes)
@@ -126,29 +120,6 @@ pub stands_told : (M : LineMeaning) (octets : List ℕ) (r : ReaderAt) (text : L
     → (more : List ℕ) → (r.ended ≡ true → more ≡ []) → StandsFirst M (lines_of (octets ++ more)) text
 stands_told M octets r text (inl at) more goes = inl (first_told M octets r text at more goes)
 stands_told M octets r text (inr at) more goes = inr (broken_told M OutOfMemory octets r text at more goes)
-
-pub due_told : (M : LineMeaning) (octets : List ℕ) (r : ReaderAt) (status : Status) (text : List ℕ) → DueAt M octets r status text
-    → (more : List ℕ) → (r.ended ≡ true → more ≡ []) → DueOf M (lines_of (octets ++ more)) status text
-due_told M octets r Done text at more goes = inl (done_told M octets r text at more goes)
-due_told M octets r BadTrace text at more goes = inl (refused_told M refusals.BadTrace octets r text at more goes)
-due_told M octets r Broken text at more goes = inl (refused_told M refusals.Broken octets r text at more goes)
-due_told M octets r TooLarge text at more goes = inl (large_told M octets r text at more goes)
-due_told M octets r OutOfMemory text at more goes = inr (stands_told M octets r text at more goes)
-due_told M octets r BadCalib text at more goes = inl (broken_told M BadCalib octets r text at more goes)
-due_told M octets r _ text at more goes = absurd at
-
--- what stands at an answer is told
-pub answer_told : (M : LineMeaning) (octets : List ℕ) (r : ReaderAt) (status : Status) (text : List ℕ) → LinesAfter M octets r status text → is_answer status ≡ true
-    → (more : List ℕ) → (r.ended ≡ true → more ≡ []) → RecordsAnswer M (lines_of (octets ++ more)) status text
-answer_told M octets r Done text at is more goes = done_told M octets r text at more goes
-answer_told M octets r BadTrace text at is more goes = refused_told M refusals.BadTrace octets r text at more goes
-answer_told M octets r Broken text at is more goes = refused_told M refusals.Broken octets r text at more goes
-answer_told M octets r TooLarge text at is more goes = large_told M octets r text at more goes
-answer_told M octets r ReadFault text at is more goes = absurd (cc)
-answer_told M octets r WriteFault text at is more goes = absurd (cc)
-answer_told M octets r OutOfMemory text at is more goes = absurd (cc)
-answer_told M octets r BadCalib text at is more goes = broken_told M BadCalib octets r text at more goes
-answer_told M octets r _ text at is more goes = absurd at
 
 -- what is due before the end
 due_before : (M : LineMeaning) (octets : List ℕ) (r : ReaderAt) (status : Status) (text : List ℕ) → Due M.accepts M.refuses octets r status text → DueAt M octets r status text

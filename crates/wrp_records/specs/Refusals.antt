@@ -1,8 +1,11 @@
 -- The lines that name what is refused (this project's profile).
-use Rattle.std.specs.Prelude.{ℕ, ℤ, ◌==◌, if◌then◌else◌, List, [], ◌∷◌, codes}
+use Rattle.std.specs.Prelude.{◌≡◌, ℕ, ℤ, ◌==◌, if◌then◌else◌, Bool, true, false, List, [], ◌∷◌, ◌++◌, codes}
 use Rattle.std.specs.Fmt.{decimal, signed_decimal}
 use Rattle.wrp_base.specs.declared.fault.TraceFault.{TraceFault}
 use Rattle.wrp_base.specs.declared.fault.TraceFault.TheVariants.{Fields, Kind, Number, Name, Memory}
+use Rattle.wrp_records.specs.declared.machine.Refusal.TheVariants.{BadTrace}
+use Rattle.wrp_records.specs.declared.machine.Taken.{Taken}
+use Rattle.wrp_records.specs.declared.machine.Taken.TheVariants.{Refused}
 use Rattle.wrp_records.specs.Words.{line_of}
 
 -- the only line where a text in front of all records is too large
@@ -58,6 +61,17 @@ bad_trace_line number fault =
     line_of
     (codes "bad-trace" ∷ decimal number ∷ decimal (code_of fault) ∷ name_of fault
     ∷ decimal (field_of fault) ∷ [])
+
+-- whether a fault is lack of memory, and says nothing of the line
+abbrev pub is_memory : TraceFault → Bool
+is_memory (Memory e) = true
+is_memory _ = false
+
+-- a record is refused for a fault that its line has, and the line that names it is appended
+pub record RefusesLine (fault : TraceFault) (number : ℕ) (old new : List ℕ) (taken : Taken) : Type 0 where
+  pub refused : taken ≡ Refused BadTrace
+  pub cause : is_memory fault ≡ false
+  pub line : new ≡ old ++ bad_trace_line number fault
 
 -- the last line where a record, counted from 1, breaks a premise of this number and name: what is shown, and
 -- its bound

@@ -213,42 +213,15 @@ fn handle_line<M: Machine>(
         result }
 {
     text.clear();
-    let taken = machine.take(alloc, said, parts, number, text);
-    if taken == Taken::Memory || waiting.extend_from_slice(text).is_err() {
+    let Ok(taken) = machine.take(alloc, said, parts, number, text) else {
+        return Some(Ended::Memory);
+    };
+    if waiting.extend_from_slice(text).is_err() {
         return Some(Ended::Memory);
     }
     match taken {
+        Taken::Accepted => None,
         Taken::Refused(refusal) => Some(Ended::Refused(refusal)),
-        _ => None,
-    }
-}
-
-// Handles what a line says that stands alone, the record of this number, by this record of `csv`.
-fn handle_by<M: Machine>(
-    alloc: Global,
-    machine: &mut M,
-    said: &[u8],
-    row: &mut ByteRecord,
-    number: u32,
-    text: &mut Vec<u8>,
-    waiting: &mut Vec<u8>,
-) -> Option<Ended>
-    requires ready { M.is_ready machine.old }
-    requires room { M.count machine.old + 1 < 2 ^ 32 }
-    ensures ready { M.is_ready machine.new }
-    ensures count { M.count machine.new ≤ M.count machine.old + 1 }
-    ensures setting { M.setting machine.new ≡ M.setting machine.old }
-    ensures stands { (lines : List (List ℕ)) (before : List ℕ)
-        → M.has_taken machine.old lines → M.accepts (M.setting machine.old) lines before
-        → number ≡ length lines + 1
-        → LineOutcome (M.accepts (M.setting machine.old)) (M.refuses (M.setting machine.old))
-        (M.has_taken machine.new) lines said.now before waiting.old.items waiting.new.items
-        result }
-{
-    match split(alloc, said, row) {
-        Ok(true) => handle_line(alloc, machine, said, Some(&*row), number, text, waiting),
-        Ok(false) => handle_line(alloc, machine, said, None, number, text, waiting),
-        Err(_) => Some(Ended::Memory),
     }
 }
 
@@ -273,8 +246,11 @@ fn handle_alone<M: Machine>(
         (M.has_taken machine.new) lines said.now before waiting.old.items waiting.new.items
         result }
 {
-    let mut row = ByteRecord::new(alloc);
-    handle_by(alloc, machine, said, &mut row, number, text, waiting)
+    match split(alloc, said) {
+        Ok(Some(row)) => handle_line(alloc, machine, said, Some(&row), number, text, waiting),
+        Ok(None) => handle_line(alloc, machine, said, None, number, text, waiting),
+        Err(_) => Some(Ended::Memory),
+    }
 }
 
 // Writes what waits, and answers the status that a run ends with.

@@ -20,7 +20,7 @@ pub use engine::{append_large, handle_records};
 pub use line::content;
 pub use machine::{Closing, Machine, Refusal, Taken};
 pub use reader::{Next, Reader};
-pub use refusals::{TOO_LARGE_LINE, append_bad_trace, append_broken_words, bad_network};
+pub use refusals::{TOO_LARGE_LINE, append_broken_words, bad_network, refuse};
 pub use running::{run_all_lines, run_lines};
 pub use status::Status;
 pub use words::append_words;

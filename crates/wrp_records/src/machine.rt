@@ -1,10 +1,10 @@
 //! What handles the records of a command, a line each, and the end of its input.
-ghost use Rattle.std.specs.Prelude.{◌≡◌, ℕ, ◌+◌, ◌^◌, ◌<◌, ◌≤◌, List, [], ◌∷◌, ◌++◌, length};
+ghost use Rattle.std.specs.Prelude.{◌≡◌, ℕ, ◌+◌, ◌^◌, ◌<◌, ◌≤◌, List, [], ◌∷◌, ◌++◌, length, IfOk};
 ghost use Rattle.wrp_records.specs.declared.machine.Refusal.{Refusal};
 ghost use Rattle.wrp_records.specs.Split.{IsSplit};
 
 use csv::ByteRecord;
-use std::alloc::Global;
+use std::alloc::{AllocError, Global};
 
 /// Why a record is refused.
 #[derive(Clone, Copy, Debug, PartialEq, Eq)]
@@ -22,19 +22,15 @@ pub enum Taken {
     Accepted,
     /// It is refused, and the line that names it is given.
     Refused(Refusal),
-    /// There was no memory.
-    Memory,
 }
 
 /// What a machine answers to the end of the input.
 #[derive(Clone, Copy, Debug, PartialEq, Eq)]
 pub enum Closing {
-    /// What is written behind all records is given.
+    /// What is written after all records is given.
     Closed,
     /// The records as a whole give no answer, and the line that names it is given.
     BadCalib,
-    /// There was no memory.
-    Memory,
 }
 
 /// What handles the records of a command.
@@ -67,7 +63,7 @@ pub trait Machine {
     ghost bars: { Self.Setting → List (List ℕ) → List ℕ → Type 0 };
 
     /// Takes what a line says, the record of this number, by the parts that `csv` gives, and appends
-    /// what it writes to `text`. A line that is not plain has no parts.
+    /// what it writes to `text`. A line that is not plain has no parts. The error is lack of memory.
     fn take(
         &mut self,
         alloc: Global,
@@ -75,7 +71,7 @@ pub trait Machine {
         parts: Option<&ByteRecord>,
         number: u32,
         text: &mut Vec<u8>,
-    ) -> Taken
+    ) -> Result<Taken, AllocError>
         requires split { IsSplit line.now parts }
         requires ready { is_ready self.old }
         requires none { text.old.items ≡ [] }
@@ -83,21 +79,25 @@ pub trait Machine {
         ensures ready { is_ready self.new }
         ensures count { count self.new ≤ count self.old + 1 }
         ensures setting { setting self.new ≡ setting self.old }
-        ensures accepted { (lines : List (List ℕ)) (before : List ℕ) → result ≡ Taken.Accepted
+        ensures accepted { (lines : List (List ℕ)) (before : List ℕ) → IfOk result (λ taken.
+            taken ≡ Taken.Accepted
             → has_taken self.old lines → accepts (setting self.old) lines before
             → has_taken self.new (lines ++ line.now ∷ [])
-            × accepts (setting self.old) (lines ++ line.now ∷ []) (before ++ text.new.items) }
-        ensures refused { (lines : List (List ℕ)) (refusal : Refusal)
-            → result ≡ Taken.Refused refusal
+            × accepts (setting self.old) (lines ++ line.now ∷ []) (before ++ text.new.items)) }
+        ensures refused { (lines : List (List ℕ)) (refusal : Refusal) → IfOk result (λ taken.
+            taken ≡ Taken.Refused refusal
             → has_taken self.old lines → number ≡ length lines + 1
-            → refuses (setting self.old) lines line.now refusal text.new.items };
+            → refuses (setting self.old) lines line.now refusal text.new.items) };
 
-    /// Takes the end of the input, and appends what is written behind all records to `text`.
-    fn close(&self, alloc: Global, text: &mut Vec<u8>) -> Closing
+    /// Takes the end of the input, and appends what is written after all records to `text`. The error is
+    /// lack of memory.
+    fn close(&self, alloc: Global, text: &mut Vec<u8>) -> Result<Closing, AllocError>
         requires ready { is_ready self.now }
         requires none { text.old.items ≡ [] }
-        ensures closed { (lines : List (List ℕ)) → result ≡ Closing.Closed
-            → has_taken self.now lines → closes (setting self.now) lines text.new.items }
-        ensures barred { (lines : List (List ℕ)) → result ≡ Closing.BadCalib
-            → has_taken self.now lines → bars (setting self.now) lines text.new.items };
+        ensures closed { (lines : List (List ℕ)) → IfOk result (λ closing.
+            closing ≡ Closing.Closed
+            → has_taken self.now lines → closes (setting self.now) lines text.new.items) }
+        ensures barred { (lines : List (List ℕ)) → IfOk result (λ closing.
+            closing ≡ Closing.BadCalib
+            → has_taken self.now lines → bars (setting self.now) lines text.new.items) };
 }

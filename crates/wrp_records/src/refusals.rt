@@ -2,8 +2,9 @@
 ghost use Rattle.std.specs.Prelude.{◌≡◌, ◌++◌, IfOk};
 ghost use Rattle.std.specs.Fmt.{signed_decimal};
 ghost use Rattle.std.specs.String.{string_bytes};
-ghost use Rattle.wrp_records.specs.Refusals.{bad_network_line, bad_trace_line, broken_words, code_name, code_of, field_of, name_of};
+ghost use Rattle.wrp_records.specs.Refusals.{RefusesLine, bad_network_line, bad_trace_line, broken_words, code_name, code_of, field_of, name_of};
 
+use crate::machine::{Refusal, Taken};
 use std::alloc::{AllocError, Global};
 use wrp_base::{Tau, TraceFault};
 
@@ -84,8 +85,8 @@ fn bad_trace(alloc: Global, number: u32, fault: &TraceFault) -> Result<String, A
     format!(in alloc; "bad-trace {number} {code} {name} {field}\n")
 }
 
-/// Appends the line of a record that is refused.
-pub fn append_bad_trace(
+// Appends the line of a record that is refused.
+fn append_bad_trace(
     alloc: Global,
     text: &mut Vec<u8>,
     number: u32,
@@ -95,6 +96,24 @@ pub fn append_bad_trace(
 {
     let line = bad_trace(alloc, number, fault)?;
     text.extend_from_slice(line.as_bytes())
+}
+
+/// Refuses a record for a fault of its line, and appends the line that names it. A fault that is lack of
+/// memory is an error instead.
+pub fn refuse(
+    alloc: Global,
+    number: u32,
+    fault: &TraceFault,
+    text: &mut Vec<u8>,
+) -> Result<Taken, AllocError>
+    ensures { IfOk result (RefusesLine fault.now number text.old.items text.new.items) }
+{
+    match fault {
+        TraceFault::Memory(_) => return Err(AllocError),
+        _ => {}
+    }
+    append_bad_trace(alloc, text, number, fault)?;
+    Ok(Taken::Refused(Refusal::BadTrace))
 }
 
 // A side of a comparison in decimal, in the unit of its premise.

@@ -28,9 +28,9 @@ fn close<M: Machine, K: Sink>(alloc: Global, machine: &M, sink: &mut K) -> Statu
 {
     let mut text = Vec::new(alloc);
     match machine.close(alloc, &mut text) {
-        Closing::Closed => answer(sink, Status::Done, &text),
-        Closing::BadCalib => answer(sink, Status::BadCalib, &text),
-        Closing::Memory => Status::OutOfMemory,
+        Ok(Closing::Closed) => answer(sink, Status::Done, &text),
+        Ok(Closing::BadCalib) => answer(sink, Status::BadCalib, &text),
+        Err(_) => Status::OutOfMemory,
     }
 }
 

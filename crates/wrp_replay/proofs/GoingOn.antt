@@ -30,7 +30,6 @@ use Rattle.wrp_trace.specs.Inputs.{read_of}
 use Rattle.wrp_fields.specs.Reading.{IsReading}
 use Rattle.wrp_trace.specs.LineSetting.{LineSetting}
 use Rattle.wrp_records.specs.declared.machine.Refusal.{Refusal}
-use Rattle.wrp_records.specs.declared.machine.Refusal.TheVariants as refusals
 use Rattle.wrp_records.specs.declared.machine.Taken as machine
 use Rattle.wrp_records.specs.declared.machine.Taken.TheVariants.{Refused}
 use Rattle.wrp_replay.specs.declared.replayed_node.ReplayedNode.{ReplayedNode}
@@ -38,9 +37,10 @@ use Rattle.wrp_replay.specs.declared.replayed.Replayed.{Replayed}
 use Rattle.wrp_replay.specs.DownLaw.{AnswersBy, IsLawAt, least_over, greatest_over, law_at, node_setting_at}
 use Rattle.wrp_replay.specs.LinkLaw.{IsLawOver}
 use Rattle.wrp_replay.specs.NodeText.{Writes, node_counts}
-use Rattle.wrp_records.specs.Refusals.{bad_trace_line}
+use Rattle.wrp_records.specs.Refusals.{RefusesLine}
+use Rattle.wrp_records.proofs.LineParts.{read_fault, refused_line}
 use Rattle.wrp_replay.specs.Replays.{AreInputs, Accepts, Closes, Refuses}
-use Rattle.wrp_replay.specs.StandsFor.{HasTaken, IsReady, OwnsPorts, Tells, TookInput, line_setting_at}
+use Rattle.wrp_replay.specs.StandsFor.{HasTaken, IsReady, OwnsPorts, TookInput, line_setting_at}
 use Rattle.wrp_replay.proofs.BareSetting.{bare_setting, fixed_bare, law_bare, port_bare, read_bare, set_bare}
 use Rattle.wrp_replay.proofs.OneReplay.{one_more, one_text}
 use Rattle.wrp_replay.proofs.OwnPorts.{is_among_own}
@@ -185,15 +185,12 @@ closes_so held old text ready none counts lines taken =
 
 -- A refusal
 
-pub refuses_so : (site : LineSetting) (lines : List (List ℕ)) (line old new : List ℕ) (number : ℕ) (fault : TraceFault) (taken : machine.Taken) (refusal : Refusal) → Tells fault number old new taken → old ≡ []
+pub refuses_so : (site : LineSetting) (lines : List (List ℕ)) (line old new : List ℕ) (number : ℕ) (fault : TraceFault) (taken : machine.Taken) (refusal : Refusal) → RefusesLine fault number old new taken → old ≡ []
     → IsReading (read_of site line) (Err fault) → taken ≡ Refused refusal → number ≡ length lines + 1 → Refuses (bare_setting site) lines line refusal new
-refuses_so site lines line old new number fault taken refusals.BadTrace tells none reads is counts = (
-  fault,
-  read_bare site line ∙ tells.only (read_of site line) reads,
-  tells.line ∙ ap₂ (λ (k : List ℕ) (n : ℕ). k ++ bad_trace_line n fault) none counts,
-)
-refuses_so site lines line old new number fault taken refusals.Broken tells none reads is counts =
-    let both : Refused refusals.BadTrace ≡ Refused refusals.Broken = sym tells.refused ∙ is in absurd (cc)
+refuses_so site lines line old new number fault taken refusal refuses none reads is counts =
+    let told = refused_line fault number (length lines + 1) old new taken refusal refuses is none counts in
+    subst (λ (r : Refusal). Refuses (bare_setting site) lines line r new) told.0
+    (fault, read_bare site line ∙ read_fault (read_of site line) fault refuses.cause reads, told.1)
 
 -- The law of a node
 

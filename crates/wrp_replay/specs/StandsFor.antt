@@ -1,6 +1,5 @@
 -- What a replayed node stands for: the lines that it has taken (this project's profile).
-use Rattle.std.specs.Prelude.{◌≡◌, ℕ, ℤ, pos, true, IfSome, Result, Err, List, ◌∷◌, ◌++◌}
-use Rattle.wrp_base.specs.declared.fault.TraceFault.{TraceFault}
+use Rattle.std.specs.Prelude.{◌≡◌, ℕ, ℤ, pos, true, IfSome, List, ◌∷◌}
 use Rattle.wrp_base.specs.Network.{name_at}
 use Rattle.wrp_bounds.specs.Bounds.{path_of}
 use Rattle.wrp_config.specs.Same.{bare_cfg}
@@ -14,16 +13,11 @@ use Rattle.wrp_node.specs.NodeRun.{NodeRun, node_after}
 use Rattle.wrp_node.specs.OneRun.{answers_by}
 use Rattle.wrp_node.specs.Parts.{is_among}
 use Rattle.wrp_node.specs.StandsFor.{NodeOf, StandsFor}
-use Rattle.wrp_fields.specs.Reading.{IsReading}
 use Rattle.wrp_trace.specs.LineSetting.{LineSetting, has_port}
-use Rattle.wrp_records.specs.declared.machine.Refusal.TheVariants.{BadTrace}
-use Rattle.wrp_records.specs.declared.machine.Taken as machine
-use Rattle.wrp_records.specs.declared.machine.Taken.TheVariants.{Refused}
 use Rattle.wrp_replay.specs.declared.replayed_node.ReplayedNode.{ReplayedNode}
 use Rattle.wrp_replay.specs.declared.replayed.Replayed.{Replayed}
 use Rattle.wrp_replay.specs.DownLaw.{AnswersBy, law_at, node_setting_at}
 use Rattle.wrp_replay.specs.NodeText.{Writes, output_lines}
-use Rattle.wrp_records.specs.Refusals.{bad_trace_line}
 use Rattle.wrp_replay.specs.Replays.{AreInputs}
 
 -- the ports that links name are among these
@@ -69,9 +63,3 @@ pub record TookInput {F : Type 0} (post : F → ℤ → ℤ → Type 0) (held : 
   pub run : NodeRun (answers_by (law_at (line_setting_at held.replayed))) (node_setting_at (line_setting_at held.replayed)) inputs taken outs
   pub wrote : text ≡ output_lines (line_setting_at held.replayed) (node_after (node_setting_at (line_setting_at held.replayed)) (taken ∷ inputs)).ticks outs
 
--- a fault that is no want of memory is told: a line that is read with it has it
-pub record Tells (fault : TraceFault) (number : ℕ) (old new : List ℕ) (taken : machine.Taken)
-    : Type 0 where
-  pub refused : taken ≡ Refused BadTrace
-  pub only : (read : Result Input TraceFault) → IsReading read (Err fault) → read ≡ Err fault
-  pub line : new ≡ old ++ bad_trace_line number fault

@@ -1,5 +1,5 @@
 //! The replay of one node's recorded inputs.
-ghost use Rattle.std.specs.Prelude.{pos, ◌≡◌, ◌<◌, ◌≤◌, ◌+◌, ◌++◌, ◌∷◌, [], ◌^◌, ℕ, List, None, IfOk, OnOk, length};
+ghost use Rattle.std.specs.Prelude.{pos, ◌≡◌, ◌<◌, ◌≤◌, ◌+◌, ◌++◌, [], ◌^◌, List, None, IfOk, OnOk};
 ghost use Rattle.std.specs.List.{flat_map};
 ghost use Rattle.wrp_base.specs.Network.{name_at, node_count};
 ghost use Rattle.wrp_bounds.specs.Bounds.{path_of};
@@ -10,12 +10,9 @@ ghost use Rattle.wrp_node.specs.StandsFor.{StandsFor};
 ghost use Rattle.wrp_trace.specs.InputAt.{IsInputAt};
 ghost use Rattle.wrp_trace.specs.Inputs.{read_of, IsReadInto};
 ghost use Rattle.wrp_trace.specs.LineSetting.{line_setting_of};
-ghost use Rattle.wrp_records.specs.declared.machine.Refusal.{Refusal};
-ghost use Rattle.wrp_records.specs.declared.machine.Taken.{Taken};
 ghost use Rattle.wrp_replay.specs.DownLaw.{IsLawAt, node_setting_at};
-ghost use Rattle.wrp_replay.specs.Replays.{Accepts, Refuses, Closes};
 ghost use Rattle.wrp_records.specs.Split.{IsSplit};
-ghost use Rattle.wrp_replay.specs.StandsFor.{HasTaken, IsReady, Tells, TookInput, line_setting_at};
+ghost use Rattle.wrp_replay.specs.StandsFor.{HasTaken, IsReady, TookInput, line_setting_at};
 
 use crate::counting::append_counts;
 use crate::replayed::Replayed;
@@ -26,7 +23,7 @@ use wrp_bounds::path;
 use wrp_law::DelayLaw;
 use wrp_lines::append_line;
 use wrp_node::{Input, Node, Output, Outputs, node_set, one_run};
-use wrp_records::{Closing, Machine, Refusal, Taken, append_bad_trace};
+use wrp_records::{Closing, Machine, Taken, refuse};
 use wrp_trace::read_input_fields;
 
 /// A node as far as it is replayed: the node, what its lines say of it, and a place for an input and
@@ -86,54 +83,6 @@ impl<'a, F: Fn(i64) -> i64> ReplayedNode<'a, F> {
         let ticks = self.node.ticks();
         append_outputs(alloc, self.name, ticks, self.bound, &self.outs, text)
     }
-
-    // Takes what a line says, and appends what it writes, or the line that names it.
-    fn handle(
-        &mut self,
-        alloc: Global,
-        line: &[u8],
-        parts: Option<&ByteRecord>,
-        number: u32,
-        text: &mut Vec<u8>,
-    ) -> Result<Taken, AllocError>
-        requires split { IsSplit line.now parts }
-        requires ready { IsReady F.pre F.post self.old }
-        requires none { text.old.items ≡ [] }
-        requires room { self.old.node.parts.ticks + 1 < 2 ^ 32 }
-        ensures ready { IsReady F.pre F.post self.new }
-        ensures same { self.new.replayed ≡ self.old.replayed }
-        ensures count { self.new.node.parts.ticks ≤ self.old.node.parts.ticks + 1 }
-        ensures accepted { (lines : List (List ℕ)) (before : List ℕ)
-            → IfOk result (λ taken. taken ≡ Taken.Accepted
-            → HasTaken F.post self.old lines → Accepts (line_setting_at self.old.replayed) lines before
-            → HasTaken F.post self.new (lines ++ line.now ∷ [])
-            × Accepts (line_setting_at self.old.replayed) (lines ++ line.now ∷ [])
-            (before ++ text.new.items)) }
-        ensures refused { (lines : List (List ℕ)) (refusal : Refusal)
-            → IfOk result (λ taken. taken ≡ Taken.Refused refusal
-            → HasTaken F.post self.old lines → number ≡ length lines + 1
-            → Refuses (line_setting_at self.old.replayed) lines line.now refusal text.new.items) }
-        ensures enough { IfOk result (λ taken. taken ≡ Taken.Memory → ⊥) }
-    {
-        one_run();
-        match read_parts(line, parts, self.replayed, &mut self.input) {
-            Ok(()) => {
-                self.write(alloc, text)?;
-                Ok(Taken::Accepted)
-            }
-            Err(fault) => refuse(alloc, number, &fault, text),
-        }
-    }
-
-    // Appends the lines that close the records.
-    fn append_last(&self, text: &mut Vec<u8>) -> Result<(), AllocError>
-        requires ready { IsReady F.pre F.post self.now }
-        requires none { text.old.items ≡ [] }
-        ensures { IfOk result (λ _. (lines : List (List ℕ)) → HasTaken F.post self.now lines
-            → Closes (line_setting_at self.now.replayed) lines text.new.items) }
-    {
-        append_counts(self.replayed, self.name, &self.node, text)
-    }
 }
 
 impl<'a, F: Fn(i64) -> i64> Machine for ReplayedNode<'a, F> {
@@ -166,19 +115,20 @@ impl<'a, F: Fn(i64) -> i64> Machine for ReplayedNode<'a, F> {
         parts: Option<&ByteRecord>,
         number: u32,
         text: &mut Vec<u8>,
-    ) -> Taken {
-        match self.handle(alloc, line, parts, number, text) {
-            Ok(taken) => taken,
-            Err(_) => Taken::Memory,
+    ) -> Result<Taken, AllocError> {
+        one_run();
+        match read_parts(line, parts, self.replayed, &mut self.input) {
+            Ok(()) => {
+                self.write(alloc, text)?;
+                Ok(Taken::Accepted)
+            }
+            Err(fault) => refuse(alloc, number, &fault, text),
         }
     }
 
-    fn close(&self, alloc: Global, text: &mut Vec<u8>) -> Closing {
-        let _alloc = alloc;
-        match self.append_last(text) {
-            Ok(()) => Closing::Closed,
-            Err(_) => Closing::Memory,
-        }
+    fn close(&self, _alloc: Global, text: &mut Vec<u8>) -> Result<Closing, AllocError> {
+        append_counts(self.replayed, self.name, &self.node, text)?;
+        Ok(Closing::Closed)
     }
 }
 
@@ -201,23 +151,6 @@ fn read_parts(
         Some(row) => read_input_fields(row, replayed.net, replayed.node, input),
         None => Err(TraceFault::Fields),
     }
-}
-
-// Appends the line of a record that is refused. Want of memory is no refusal.
-fn refuse(
-    alloc: Global,
-    number: u32,
-    fault: &TraceFault,
-    text: &mut Vec<u8>,
-) -> Result<Taken, AllocError>
-    ensures { IfOk result (λ taken. Tells fault.now number text.old.items text.new.items taken) }
-{
-    match fault {
-        TraceFault::Memory(_) => return Err(AllocError),
-        _ => {}
-    }
-    append_bad_trace(alloc, text, number, fault)?;
-    Ok(Taken::Refused(Refusal::BadTrace))
 }
 
 /// The name of the node.

@@ -1,5 +1,5 @@
 //! The replay of a node over the records that a reader gives.
-ghost use Rattle.std.specs.Prelude.{◌≡◌, ◌≤ℤ◌, ◌<◌, [], ℕ, true, is_some};
+ghost use Rattle.std.specs.Prelude.{◌≡◌, ◌≤ℤ◌, ◌<◌, [], true, is_some};
 ghost use Rattle.std.specs.Io.KnownBytes.{IsAtEnd};
 ghost use Rattle.wrp_base.specs.Network.{link_above, node_count};
 ghost use Rattle.wrp_config.specs.Accepted.{IsAccepted};

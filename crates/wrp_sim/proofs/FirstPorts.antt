@@ -20,7 +20,8 @@ use Rattle.wrp_sim.specs.declared.sim.departing.Departure.{Departure}
 use Rattle.wrp_sim.specs.Departures.{departing_at, departing_over, departure_from, first_of_two, standing, told_end}
 use Rattle.wrp_sim.specs.Rules.{departs_now, is_now, is_tellable, ports_of}
 use Rattle.wrp_sim.proofs.Ends.{end_found}
-use Rattle.wrp_sim.proofs.SimLists.{find_append, find_map}
+use Rattle.std.proofs.lemmas.List.Folds.{find-append}
+use Rattle.wrp_sim.proofs.SimLists.{find_map}
 
 -- Numbers one after another
 
@@ -46,14 +47,14 @@ flat_none : {A : Type 0} (p : A → Bool) (f : ℕ → List A) (count first : �
     find p (flat_map f (from_on count first)) ≡ None
 flat_none p f zero first h = refl
 flat_none p f (suc count) first h =
-    find_append p (f first) (flat_map f (from_on count (first + 1)))
+    find-append p (f first) (flat_map f (from_on count (first + 1)))
     ∙ ap₂ (λ a b. option_or a b) (h first (omega arith) (omega arith)) (flat_none p f count (first + 1) (λ n a b. h n (omega (arith, a)) (omega (arith, b))))
 
 flat_first : {A : Type 0} (p : A → Bool) (f : ℕ → List A) (count first n : ℕ) (x : A) → first ≤ n → n < first + count → find p (f n) ≡ Some x →
     ((m : ℕ) → first ≤ m → m < n → find p (f m) ≡ None) → find p (flat_map f (from_on count first)) ≡ Some x
 flat_first p f zero first n x a b e h = absurd (omega (arith, a, b))
 flat_first p f (suc count) first n x a b e h =
-    find_append p (f first) (flat_map f (from_on count (first + 1)))
+    find-append p (f first) (flat_map f (from_on count (first + 1)))
     ∙ elim (first_or first n a) [
       | inl same ↦ ap (λ u. option_or u (find p (flat_map f (from_on count (first + 1))))) (ap (λ m. find p (f m)) (sym same) ∙ e)
       | inr more ↦

@@ -1,6 +1,5 @@
 -- Lists by their places, and numbers one after another.
 use Rattle.std.proofs.Common.{◌≡◌, ◌∙◌, refl, ap, sym, subst, ℕ, zero, suc, ◌+◌, ◌-◌, ◌<◌, ◌≤◌, ℤ, Bool, true, false, cond, List, [], ◌∷◌, ◌++◌, map, find, fold, take, drop, remove, slice_set, None, Some, option_map, slice_get, arith}
-use Rattle.std.specs.Option.{option_or}
 use Rattle.std.proofs.lemmas.Option.{none-some, same_Some}
 use Rattle.wrp_base.proofs.Lists.{append_assoc}
 use Rattle.wrp_plant.specs.Plant.{Each}
@@ -41,14 +40,6 @@ found_at p count i h e = find_more p count i h ∙ ap (λ b. cond b (Some i) (fi
 
 pub passed_at : (p : ℕ → Bool) (count i : ℕ) → i < count → p i ≡ false → find p (from_on (count - i) i) ≡ find p (from_on (count - (i + 1)) (i + 1))
 passed_at p count i h e = find_more p count i h ∙ ap (λ b. cond b (Some i) (find p (from_on (count - (i + 1)) (i + 1)))) e
-
-pub find_append : {A : Type 0} (p : A → Bool) (xs ys : List A) → find p (xs ++ ys) ≡ option_or (find p xs) (find p ys)
-find_append p [] ys = refl
-find_append p (x ∷ xs) ys =
-    elim (p x) as (λ b. cond b (Some x) (find p (xs ++ ys)) ≡ option_or (cond b (Some x) (find p xs)) (find p ys)) [
-      | true ↦ refl
-      | false ↦ find_append p xs ys
-    ]
 
 pub find_map : {A B : Type 0} (p : B → Bool) (f : A → B) (xs : List A) → find p (map f xs) ≡ option_map f (find (λ x. p (f x)) xs)
 find_map p f [] = refl

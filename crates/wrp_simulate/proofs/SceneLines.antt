@@ -1,37 +1,19 @@
 -- What a line says of a scenario, by its parts.
-use Rattle.std.proofs.Common.{◌≡◌, ◌∙◌, refl, ap, sym, subst, ℕ, true, false, Result, Ok, Err, List, [], ◌∷◌, ◌++◌}
-use Rattle.csv.specs.Records.{Row, fields_of}
-use Rattle.wrp_base.specs.declared.configuration.NetCfg.{NetCfg}
+use Rattle.std.proofs.Common.{◌≡◌, refl, sym, subst, ap, ℕ, ◌+◌, Ok, Err, List, [], ◌∷◌, ◌++◌, length, ◌∙◌}
 use Rattle.wrp_base.specs.declared.fault.TraceFault.{TraceFault}
-use Rattle.wrp_base.specs.declared.fault.TraceFault.TheVariants.{Fields}
-use Rattle.wrp_base.specs.Lines.{parts_of}
 use Rattle.wrp_config.specs.declared.network.Network.{Network}
-use Rattle.wrp_fields.specs.Lines.{IsLine}
-use Rattle.wrp_fields.specs.Reading.{is_plain}
-use Rattle.wrp_fields.proofs.PlainLemmas.{line_passes}
-use Rattle.wrp_sim.specs.Scenario.{SceneAt, new_scene}
-use Rattle.wrp_sim.specs.ScenarioLines.{scene_of, scene_read}
+use Rattle.wrp_sim.specs.Scenario.{new_scene}
+use Rattle.wrp_sim.specs.ScenarioLines.{scene_read}
 use Rattle.wrp_simulate.specs.declared.scenario.ScenarioLines.{ScenarioLines}
 use Rattle.wrp_audit.specs.AuditStands.{setting_in}
 use Rattle.wrp_simulate.specs.SimStands.{SaysScenario}
-use Rattle.wrp_simulate.specs.Simulates.{Changes, IsScenario, SimAccepts}
-use Rattle.wrp_records.specs.Split.{HasParts}
+use Rattle.wrp_simulate.specs.Simulates.{Changes, IsScenario, SimAccepts, SimRefuses}
+use Rattle.wrp_records.specs.declared.machine.Refusal.{Refusal}
+use Rattle.wrp_records.specs.declared.machine.Taken.{Taken}
+use Rattle.wrp_records.specs.declared.machine.Taken.TheVariants.{Refused}
+use Rattle.wrp_records.specs.Refusals.{RefusesLine}
+use Rattle.wrp_records.proofs.LineParts.{refused_line}
 use Rattle.wrp_simulate.proofs.OneSim.{joined}
-use Rattle.wrp_replay.proofs.PlainLines.{other_fails}
-
-passes : (cfg : NetCfg) (scene : SceneAt) (line : List ℕ) → is_plain line ≡ true → scene_read cfg scene line ≡ scene_of cfg scene (parts_of line)
-passes cfg scene line is = rw is refl
-
-fails : (cfg : NetCfg) (scene : SceneAt) (line : List ℕ) → is_plain line ≡ false → scene_read cfg scene line ≡ Err Fields
-fails cfg scene line is = rw is refl
-
--- a line with parts says what they do
-pub said_by : (cfg : NetCfg) (scene : SceneAt) (line : List ℕ) (row : Row) (answer : Result SceneAt TraceFault) → HasParts line row → answer ≡ scene_of cfg scene (fields_of row) → answer ≡ scene_read cfg scene line
-said_by cfg scene line row answer parts is = is ∙ ap (scene_of cfg scene) parts.1 ∙ sym (passes cfg scene line (line_passes line parts.0))
-
--- and one without parts has no fields
-pub said_none : (cfg : NetCfg) (scene : SceneAt) (line : List ℕ) → (IsLine line → ⊥) → Err Fields ≡ scene_read cfg scene line
-said_none cfg scene line other = sym (fails cfg scene line (other_fails line other))
 
 -- the scenario with a line more
 pub says_more : (held now : ScenarioLines) (lines : List (List ℕ)) (line : List ℕ) → Ok now.scene ≡ scene_read held.net.now.cfg held.scene line → now.net.now ≡ held.net.now → SaysScenario held lines → SaysScenario now (lines ++ line ∷ [])
@@ -45,3 +27,11 @@ pub accepts_more : (net : Network) (held now : ScenarioLines) (lines : List (Lis
     → SimAccepts (setting_in net) (lines ++ line ∷ []) (before ++ text)
 accepts_more net held now lines line before text was is said accepted none =
     (now.scene, subst (λ (k : Network). IsScenario (setting_in k) (lines ++ line ∷ []) now.scene) is said, ap (λ (l : List ℕ). l ++ text) accepted.2 ∙ none)
+
+-- a refusal for a fault refuses its line
+pub refuses_so : (held : ScenarioLines) (lines : List (List ℕ)) (line : List ℕ) (fault : TraceFault) (number : ℕ) (old new : List ℕ) (answer : Taken) (refusal : Refusal)
+    → RefusesLine fault number old new answer → answer ≡ Refused refusal → old ≡ [] → number ≡ length lines + 1 → Err fault ≡ scene_read held.net.now.cfg held.scene line → SaysScenario held lines
+    → SimRefuses (setting_in held.net.now) lines line refusal new
+refuses_so held lines line fault number old new answer refusal refuses is none counts reads said =
+    let told = refused_line fault number (length lines + 1) old new answer refusal refuses is none counts in
+    subst (λ (r : Refusal). SimRefuses (setting_in held.net.now) lines line r new) told.0 (held.scene, said, fault, sym reads, told.1)

@@ -1,21 +1,15 @@
 //! The scenario that the record lines of a simulation say.
-ghost use Rattle.std.specs.Prelude.{◌≡◌, ◌+◌, ◌++◌, ◌∷◌, [], ℕ, List, IfOk, length};
-ghost use Rattle.wrp_base.specs.Lines.{parts_of};
+ghost use Rattle.std.specs.Prelude.{◌≡◌, []};
 ghost use Rattle.wrp_base.specs.Network.{HasRanges};
-ghost use Rattle.wrp_sim.specs.Scenario.{IsSceneOf};
 ghost use Rattle.wrp_sim.specs.ScenarioLines.{outcome, scene_read};
-ghost use Rattle.wrp_records.specs.declared.machine.Refusal.{Refusal};
-ghost use Rattle.wrp_records.specs.declared.machine.Taken.{Taken};
-ghost use Rattle.wrp_audit.specs.AuditStands.{setting_in};
-ghost use Rattle.wrp_simulate.specs.SimStands.{CanRead, SaysScenario, TellsLine};
-ghost use Rattle.wrp_simulate.specs.Simulates.{SimAccepts, SimRefuses};
+ghost use Rattle.wrp_simulate.specs.SimStands.{CanRead, SaysScenario};
 ghost use Rattle.wrp_records.specs.Split.{IsSplit};
 
 use csv::ByteRecord;
 use std::alloc::{AllocError, Global};
 use wrp_base::TraceFault;
 use wrp_config::Network;
-use wrp_records::{Closing, Machine, Refusal, Taken, append_bad_trace};
+use wrp_records::{Closing, Machine, Taken, refuse};
 use wrp_sim::Scene;
 
 /// The scenario of a network, as far as its lines were read.
@@ -97,26 +91,14 @@ impl<'a> Machine for ScenarioLines<'a> {
         parts: Option<&ByteRecord>,
         number: u32,
         text: &mut Vec<u8>,
-    ) -> Taken {
+    ) -> Result<Taken, AllocError> {
         match self.read(line, parts) {
-            Ok(()) => Taken::Accepted,
+            Ok(()) => Ok(Taken::Accepted),
             Err(fault) => refuse(alloc, number, &fault, text),
         }
     }
 
-    fn close(&self, alloc: Global, text: &mut Vec<u8>) -> Closing {
-        let _alloc = alloc;
-        let _text = text;
-        Closing::Closed
-    }
-}
-
-// Appends the line of a record that says nothing of a scenario.
-fn refuse(alloc: Global, number: u32, fault: &TraceFault, text: &mut Vec<u8>) -> Taken
-    ensures { TellsLine fault.now number text.old.items text.new.items result }
-{
-    match append_bad_trace(alloc, text, number, fault) {
-        Ok(()) => Taken::Refused(Refusal::BadTrace),
-        Err(_) => Taken::Memory,
+    fn close(&self, _alloc: Global, _text: &mut Vec<u8>) -> Result<Closing, AllocError> {
+        Ok(Closing::Closed)
     }
 }

@@ -43,7 +43,7 @@ impl Course {
         event: &PlainEvent,
         number: u32,
         text: &mut Vec<u8>,
-    ) -> Taken
+    ) -> Result<Taken, AllocError>
         requires counts { CountsTicks self.old }
         requires few { self.old.world.events + 1 < 2 ^ 32 }
         requires fields { HasFields event.now }
@@ -51,16 +51,13 @@ impl Course {
         ensures counts { CountsTicks self.new }
         ensures few { self.new.world.events ≤ self.old.world.events + 1 }
         ensures happens { (set : PlainSet) (off : ℤ) (events : List PlainEvent) → HasRun set off self.old events
-            → (result ≡ Taken.Memory → ⊥)
-            → Happens set off events event.now number self.new text.new.items result }
+            → IfOk result (Happens set off events event.now number self.new text.new.items) }
     {
         match self.world.step(event) {
             Ok(seen) => {
                 self.ticks = with_tick(self.ticks, event);
-                match append_seen(alloc, self.ticks, seen, text) {
-                    Ok(()) => Taken::Accepted,
-                    Err(_) => Taken::Memory,
-                }
+                append_seen(alloc, self.ticks, seen, text)?;
+                Ok(Taken::Accepted)
             }
             Err(broken) => refuse_broken(alloc, number, broken, text),
         }

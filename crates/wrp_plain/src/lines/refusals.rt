@@ -1,29 +1,23 @@
-//! The lines that name a record which is refused.
-ghost use Rattle.std.specs.Prelude.{◌≡◌};
-ghost use Rattle.wrp_plain.specs.LineText.{premise_name};
-ghost use Rattle.wrp_plain.specs.LinesHeld.{TellsLine, TellsBroken};
+//! The line that names a record whose event breaks a premise.
+ghost use Rattle.std.specs.Prelude.{◌≡◌, ◌++◌, IfOk};
+ghost use Rattle.wrp_plain.specs.LineText.{broken_line, premise_name};
 
 use crate::event::PlainBroken;
-use std::alloc::Global;
-use wrp_base::TraceFault;
-use wrp_records::{Refusal, Taken, append_bad_trace, append_broken_words};
-
-/// Appends the line of a record that says nothing.
-pub fn refuse(alloc: Global, number: u32, fault: &TraceFault, text: &mut Vec<u8>) -> Taken
-    ensures { TellsLine fault.now number text.old.items text.new.items result }
-{
-    match append_bad_trace(alloc, text, number, fault) {
-        Ok(()) => Taken::Refused(Refusal::BadTrace),
-        Err(_) => Taken::Memory,
-    }
-}
+use std::alloc::{AllocError, Global};
+use wrp_records::{Refusal, Taken, append_broken_words};
 
 /// Appends the line of a record whose event breaks a premise.
-pub fn refuse_broken(alloc: Global, number: u32, broken: PlainBroken, text: &mut Vec<u8>) -> Taken
-    ensures { TellsBroken broken number text.old.items text.new.items result }
+pub fn refuse_broken(
+    alloc: Global,
+    number: u32,
+    broken: PlainBroken,
+    text: &mut Vec<u8>,
+) -> Result<Taken, AllocError>
+    ensures { IfOk result (λ taken. (taken ≡ Taken.Refused Refusal.Broken)
+        × (text.new.items ≡ text.old.items ++ broken_line number broken)) }
 {
     let name = premise_name(broken.premise);
-    match append_broken_words(
+    append_broken_words(
         alloc,
         text,
         number,
@@ -31,10 +25,8 @@ pub fn refuse_broken(alloc: Global, number: u32, broken: PlainBroken, text: &mut
         name,
         broken.shown,
         broken.bound,
-    ) {
-        Ok(()) => Taken::Refused(Refusal::Broken),
-        Err(_) => Taken::Memory,
-    }
+    )?;
+    Ok(Taken::Refused(Refusal::Broken))
 }
 
 // The name of a premise, by its number.

@@ -1,5 +1,5 @@
 //! The parts of lines, by readers of `csv`.
-ghost use Rattle.std.specs.Prelude.{◌≡◌, ◌++◌, List, ℕ, Some, true, false, IfOk};
+ghost use Rattle.std.specs.Prelude.{◌≡◌, ◌++◌, List, ℕ, Some, IfOk, MatchOption};
 ghost use Rattle.wrp_fields.specs.Lines.{IsLine};
 ghost use Rattle.wrp_records.specs.Lines.{content_of, IsWhole};
 ghost use Rattle.wrp_records.specs.Split.{HasParts};
@@ -8,17 +8,17 @@ use csv::ByteRecord;
 use std::alloc::{AllocError, Global};
 use wrp_fields::{Block, is_plain};
 
-/// Puts the parts of a line that stands alone into `row`, and answers whether it is plain.
+/// The parts of a line that is alone. A line that is not plain has none.
 #[tactic(auto, using(crate::proofs::LineEnds::starts_plain))]
-pub fn split(alloc: Global, line: &[u8], row: &mut ByteRecord) -> Result<bool, AllocError>
-    ensures plain { IfOk result (λ is. is ≡ true → HasParts line.now row.new) }
-    ensures other { IfOk result (λ is. is ≡ false → IsLine line.now → ⊥) }
+pub fn split(alloc: Global, line: &[u8]) -> Result<Option<ByteRecord>, AllocError>
+    ensures { IfOk result (λ parts. MatchOption parts (IsLine line.now → ⊥) (HasParts line.now)) }
 {
     if !is_plain(line) {
-        return Ok(false);
+        return Ok(None);
     }
-    let _found = Block::new(alloc, line).next(row)?;
-    Ok(true)
+    let mut row = ByteRecord::new(alloc);
+    let _found = Block::new(alloc, line).next(&mut row)?;
+    Ok(Some(row))
 }
 
 /// Puts the parts of the next line of a block, which is this, into `row`.

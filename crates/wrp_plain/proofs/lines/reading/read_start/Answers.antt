@@ -1,9 +1,11 @@
 -- A plain line says what its parts say, and any other is refused.
-use Rattle.wrp_plain.proofs.LinesRead.{start_by, start_none}
+use Rattle.std.proofs.Common.{◌∙◌, sym}
+use Rattle.wrp_records.proofs.LineParts.{read_none, read_parts}
+use Rattle.wrp_plain.specs.LineReading.{first_of}
 use Rattle.wrp_plain.proofs.lines.reading.read_start.Goals as goal
 
 pub returns-in-Some-clause-value : goal.returns-in-Some-clause-value
-returns-in-Some-clause-value c = start_by c.args.line.now c.in-Some.row.now _ (rw c.in-Some.is at c.requires) c.first_of.ensures.value
+returns-in-Some-clause-value c = c.first_of.ensures.value ∙ sym (read_parts first_of c.args.line.now c.in-Some.row.now (rw c.in-Some.is at c.requires))
 
 pub returns-in-None-clause-value : goal.returns-in-None-clause-value
-returns-in-None-clause-value c = start_none c.args.line.now (rw c.in-None.is at c.requires)
+returns-in-None-clause-value c = sym (read_none first_of c.args.line.now (rw c.in-None.is at c.requires))

@@ -5,7 +5,7 @@ use Rattle.wrp_config.specs.declared.network.Network.{Network}
 use Rattle.wrp_trace.specs.Events.{plain}
 use Rattle.wrp_trace.specs.Places.{IsPlaceOf, event_in}
 use Rattle.wrp_audit.proofs.AuditSteps.{accepted_so, refused_so, trace_so}
-use Rattle.wrp_audit.proofs.audit_lines.AuditLines.handle.Goals as goal
+use Rattle.wrp_audit.proofs.audit_lines.AuditLinesMachine.take.Goals as goal
 
 pub read_parts-requires-clause-names : goal.read_parts-requires-clause-names
 read_parts-requires-clause-names g c = c.requires.ready.network.valid.plant.accepted.names

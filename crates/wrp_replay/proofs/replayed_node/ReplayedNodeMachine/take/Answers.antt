@@ -6,7 +6,7 @@ use Rattle.wrp_replay.proofs.BareSetting.{read_bare}
 use Rattle.wrp_trace.proofs.ReadingLemmas.{is_reading}
 use Rattle.wrp_trace.proofs.ReadInto.{read_into, fault_into}
 use Rattle.wrp_replay.proofs.GoingOn.{goes_on, refuses_so, taken_with}
-use Rattle.wrp_replay.proofs.replayed_node.ReplayedNode.handle.Goals as goal
+use Rattle.wrp_replay.proofs.replayed_node.ReplayedNodeMachine.take.Goals as goal
 
 pub returns-in_ok-write-in-Ok-clause-accepted : goal.returns-in_ok-write-in-Ok-clause-accepted
 returns-in_ok-write-in-Ok-clause-accepted g c = λ lines before is taken accepted.

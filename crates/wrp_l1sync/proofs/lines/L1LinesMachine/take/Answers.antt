@@ -1,6 +1,6 @@
 -- The pair begins with the first line, and goes on with each later one.
 use Rattle.wrp_l1sync.proofs.LineTakingLaws.{goes_on, goes_wrong, begins_on, begins_wrong}
-use Rattle.wrp_l1sync.proofs.lines.L1Lines.handle.Goals as goal
+use Rattle.wrp_l1sync.proofs.lines.L1LinesMachine.take.Goals as goal
 
 pub returns-in-Some-clause-accepted : goal.returns-in-Some-clause-accepted
 returns-in-Some-clause-accepted c =
