@@ -91,4 +91,3 @@ abbrev pub Happens : {F : Type 0} → (F → ℤ → ℤ → Type 0) → Option 
 Happens post emit s w e number new text taken.Accepted = Took post emit s w e new text
 Happens post emit s w e number new text (taken.Refused refusal.Broken) = Broke s w e number text
 Happens post emit s w e number new text _ = ⊥
-

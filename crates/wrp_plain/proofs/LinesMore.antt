@@ -1,5 +1,5 @@
 -- What a machine of the lines stands for with a line more.
-use Rattle.std.proofs.Common.{◌≡◌, ◌∙◌, sym, ap, ap₂, subst, length, ◌+◌, ℕ, ℤ, Result, Ok, Err, IfOk, Some, Option, List, [], ◌∷◌, ◌++◌}
+use Rattle.std.proofs.Common.{◌≡◌, ◌∙◌, sym, ap, ap₂, subst, length, ◌+◌, ℕ, ℤ, Result, Ok, Err, IfOk, Some, None, Option, List, [], ◌∷◌, ◌++◌}
 use Rattle.wrp_base.specs.declared.fault.TraceFault.{TraceFault}
 use Rattle.wrp_records.specs.declared.machine.Refusal.{Refusal}
 use Rattle.wrp_records.specs.declared.machine.Refusal.TheVariants as refusals
@@ -101,3 +101,20 @@ breaks_so old new line text event number (Err e) reads happens first lines refus
 breaks_so old new line text event number (Ok answer) reads happens first lines refusal = λ is has counts.
     breaks_by new first lines line text event number has.start has.events refusal has.is (sym reads)
     (subst (Happens has.start.set has.start.off has.events event number new text) is (happens has.start.set has.start.off has.events has.run)) counts
+
+-- so it is for the machine
+pub refuses_more : {E : Type 0} (old : Option Course) (course : Course) (line text : List ℕ) (number : ℕ) (result : Result Taken E) → old ≡ Some course →
+    ((first : List ℕ) (lines : List (List ℕ)) (refusal : Refusal) → IfOk result (λ taken. taken ≡ Refused refusal → HasTakenSo course first lines → number ≡ length (first ∷ lines) + 1 →
+    PlainRefuses (first ∷ lines) line refusal text)) →
+    (lines : List (List ℕ)) (refusal : Refusal) → IfOk result (λ taken. taken ≡ Refused refusal → HasTakenBy old lines → number ≡ length lines + 1 → PlainRefuses lines line refusal text)
+refuses_more old course line text number (Err e) is more lines refusal = tt
+refuses_more old course line text number (Ok answer) is more [] refusal = λ so has counts. absurd (subst (λ (o : Option Course). HasTakenBy o []) is has)
+refuses_more old course line text number (Ok answer) is more (first ∷ lines) refusal = λ so has counts.
+    more first lines refusal so (subst (λ (o : Option Course). HasTakenBy o (first ∷ lines)) is has) counts
+
+pub begins_wrong : {E : Type 0} (old : Option Course) (line text : List ℕ) (number : ℕ) (result : Result Taken E) → old ≡ None →
+    ((refusal : Refusal) → IfOk result (λ taken. taken ≡ Refused refusal → number ≡ 1 → PlainRefuses [] line refusal text)) →
+    (lines : List (List ℕ)) (refusal : Refusal) → IfOk result (λ taken. taken ≡ Refused refusal → HasTakenBy old lines → number ≡ length lines + 1 → PlainRefuses lines line refusal text)
+begins_wrong old line text number (Err e) is begins lines refusal = tt
+begins_wrong old line text number (Ok answer) is begins [] refusal = λ so has counts. begins refusal so counts
+begins_wrong old line text number (Ok answer) is begins (first ∷ lines) refusal = λ so has counts. absurd (subst (λ (o : Option Course). HasTakenBy o (first ∷ lines)) is has)

@@ -62,4 +62,3 @@ pub record TookInput {F : Type 0} (post : F → ℤ → ℤ → Type 0) (held : 
   pub stands : StandsFor post (node_setting_at (line_setting_at held.replayed)) new (taken ∷ inputs)
   pub run : NodeRun (answers_by (law_at (line_setting_at held.replayed))) (node_setting_at (line_setting_at held.replayed)) inputs taken outs
   pub wrote : text ≡ output_lines (line_setting_at held.replayed) (node_after (node_setting_at (line_setting_at held.replayed)) (taken ∷ inputs)).ticks outs
-

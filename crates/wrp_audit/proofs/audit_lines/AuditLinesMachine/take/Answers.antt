@@ -20,7 +20,8 @@ pub returns-in-Ok-clause-accepted : goal.returns-in-Ok-clause-accepted
 returns-in-Ok-clause-accepted g c = λ lines before.
     IfOk-weaker c.happen.result _ _
     (λ answer happens is has accepted.
-    accepted_so c.one_audit.ensures c.args.self.now.network c.happen.new.self lines c.args.line.now before c.happen.new.text.items (plain (event_in c.read_parts.new.place)) c.args.number answer
+    accepted_so c.one_audit.ensures c.args.self.now.network c.happen.new.self lines c.args.line.now before c.happen.new.text.items
+    (plain (event_in c.read_parts.new.place)) c.args.number answer
     (sym c.in-Ok.ensures.value) c.happen.ensures.net c.happen.ensures.ready happens is has accepted)
     c.happen.ensures.happens
 
@@ -28,7 +29,8 @@ pub returns-in-Ok-clause-refused : goal.returns-in-Ok-clause-refused
 returns-in-Ok-clause-refused g c = λ lines refusal.
     IfOk-weaker c.happen.result _ _
     (λ answer happens is has counts.
-    refused_so c.args.self.now.network c.happen.new.self.world lines c.args.line.now c.happen.new.text.items (plain (event_in c.read_parts.new.place)) c.args.number answer refusal
+    refused_so c.args.self.now.network c.happen.new.self.world lines c.args.line.now c.happen.new.text.items (plain (event_in c.read_parts.new.place))
+    c.args.number answer refusal
     (sym c.in-Ok.ensures.value) counts happens is has)
     c.happen.ensures.happens
 
@@ -36,6 +38,7 @@ pub returns-in-Err-clause-refused : goal.returns-in-Err-clause-refused
 returns-in-Err-clause-refused g c = λ lines refusal.
     IfOk-weaker c.refuse.result _ _
     (λ answer tells is has counts.
-    trace_so c.args.self.now.network.emit c.args.self.now.network.world.plant.net lines c.args.line.now c.args.text.now.items c.refuse.new.text.items c.in-Err.fault c.args.number answer refusal tells c.requires.none
+    trace_so c.args.self.now.network.emit c.args.self.now.network.world.plant.net lines c.args.line.now c.args.text.now.items c.refuse.new.text.items
+    c.in-Err.fault c.args.number answer refusal tells c.requires.none
     c.in-Err.ensures.value is counts)
     c.refuse.ensures
