@@ -1,12 +1,16 @@
 mod PortLaws
 mod PairLaws
-mod TheoremLaws
 mod PremiseLaws
+mod TimeLaws
+mod HeardLaws
+mod SentLaws
+mod TheoremLaws
 mod LineReadingLaws
 mod LineLists
 pub mod LineExact
 mod LineTakingLaws
 mod LineWords
+mod PrintedLaws
 pub mod LineTheoremLaws
 pub mod LineAnswerLaws
 pub mod LineDecided
