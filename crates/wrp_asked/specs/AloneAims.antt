@@ -22,6 +22,8 @@ use Rattle.wrp_plain.specs.declared.event.PlainEvent.{PlainEvent}
 use Rattle.wrp_plain.specs.declared.settings.PlainStart.{PlainStart}
 use Rattle.wrp_plain.specs.LineCourse.{IsCourse}
 use Rattle.wrp_plain.specs.LineTruth.{AllAreWithin, AreTrue}
+use Rattle.wrp_plain.specs.Said.{WritesSo}
+use Rattle.wrp_plain.specs.Steered.{AreSteered}
 use Rattle.wrp_records.specs.Lines.{content_of, lines_of}
 use Rattle.wrp_records.specs.declared.status.Status.{Status}
 use Rattle.wrp_records.specs.declared.status.Status.TheVariants.{Done, BadTrace, Broken, ReadFault, TooLarge, OutOfMemory, BadCapture}
@@ -44,8 +46,10 @@ MigratesSo input status octets = Unit {0}
 abbrev pub CalibratesSo : List ℕ → Status → List ℕ → Type 0
 CalibratesSo input status octets = (true : Delays) → SayTruly input true → TellsSo status octets true
 
--- after each record an end whose last printed state is up has a peer whose message of at most the timeout's ticks and a
--- life ago asks the same and, with what the end tells of itself, holds each bit; each printed state is the look back's
+-- after each record each printed state is the one that looking back finds; an end whose last printed state is up was handed a
+-- message since it was enabled, which its peer sent at most the timeout's ticks and a life ago; it requires the same, and each
+-- required bit holds at the end and in the message; and both ends require the same now where the peer's own message was not
+-- set since
 abbrev pub SynchronisesSo : List ℕ → Status → List ℕ → Type 0
 SynchronisesSo input Done octets = ShowsBy Done input octets
 SynchronisesSo input BadTrace octets = ShowsBy BadTrace input octets
@@ -82,21 +86,22 @@ InspectsSo input TooLarge octets = IsTooMany input octets × JudgesHandshakes in
 InspectsSo input status octets = JudgesHandshakes input
 
 -- the first records of an input: what each event gives is true, and so is each line that is written of it: a report is
--- within its bound of the true offset, the bound is the least that a kept measurement gives, and no exchange is too
--- short to be measured
+-- within its bound of the true offset, the bound is the least that a kept measurement gives, and no exchange is too short to
+-- be measured; the command of an exchange moves the true offset against the estimate; and each report holds until the next tick
 abbrev pub TellsTruly : List ℕ → Type 0
 TellsTruly input =
     (first : List ℕ) (lines rest : List (List ℕ)) → map content_of (lines_of input) ≡ first ∷ (lines ++ rest)
     → (start : PlainStart) (events : List PlainEvent) → IsCourse first lines start events
-    → AreTrue start.set start.off events
+    → AreTrue start.set start.off events × AreSteered start.set start.off events
 
--- so it is whatever a plain servo is told; and each report, as it is printed, is within its printed bound of the printed
--- true offset; where a write failed the last line may stand in part, and nothing is said of what stands
+-- so it is whatever a plain servo is told; each report, as it is printed, is within its printed bound of the printed true
+-- offset; and of the lines of reports and steps each report, moved with the printed steps, stays within its bound up to the
+-- next tick; where a write failed the last line may be cut, and nothing is said of what was written
 abbrev pub BoundsSo : List ℕ → Status → List ℕ → Type 0
-BoundsSo input Done octets = AllAreWithin octets × TellsTruly input
-BoundsSo input BadTrace octets = AllAreWithin octets × TellsTruly input
-BoundsSo input Broken octets = AllAreWithin octets × TellsTruly input
-BoundsSo input TooLarge octets = AllAreWithin octets × TellsTruly input
-BoundsSo input ReadFault octets = AllAreWithin octets × TellsTruly input
-BoundsSo input OutOfMemory octets = AllAreWithin octets × TellsTruly input
+BoundsSo input Done octets = AllAreWithin octets × WritesSo input Done octets × TellsTruly input
+BoundsSo input BadTrace octets = AllAreWithin octets × WritesSo input BadTrace octets × TellsTruly input
+BoundsSo input Broken octets = AllAreWithin octets × WritesSo input Broken octets × TellsTruly input
+BoundsSo input TooLarge octets = AllAreWithin octets × WritesSo input TooLarge octets × TellsTruly input
+BoundsSo input ReadFault octets = AllAreWithin octets × WritesSo input ReadFault octets × TellsTruly input
+BoundsSo input OutOfMemory octets = AllAreWithin octets × WritesSo input OutOfMemory octets × TellsTruly input
 BoundsSo input status octets = TellsTruly input

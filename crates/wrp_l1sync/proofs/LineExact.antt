@@ -23,7 +23,7 @@ accepted_front limits [] older are = are
 accepted_front limits (event ∷ newer) older are = accepted_front limits newer older are.1
 
 -- and what is written of them stands first
-text_front : (limits : Limits) (newer older : List L1Event) → (more : List ℕ) × (text_of limits (newer ++ older) ≡ text_of limits older ++ more)
+pub text_front : (limits : Limits) (newer older : List L1Event) → (more : List ℕ) × (text_of limits (newer ++ older) ≡ text_of limits older ++ more)
 text_front limits [] older = ([], sym (append-nil (text_of limits older)))
 text_front limits (event ∷ newer) older =
     let rest = text_front limits newer older in (

@@ -25,7 +25,8 @@ use Rattle.wrp_l1sync.proofs.LineExact.{accepts_front}
 use Rattle.wrp_records.specs.Words.{IsWord}
 use Rattle.wrp_records.proofs.WordLemmas.{AreWords, decimal_word}
 use Rattle.wrp_l1sync.proofs.LineWords.{line_first, words_joined}
-use Rattle.wrp_l1sync.proofs.TheoremLaws.{up_is_carried}
+use Rattle.wrp_l1sync.proofs.PrintedLaws.{shows_up}
+use Rattle.wrp_l1sync.proofs.TheoremLaws.{one_up, two_up}
 
 -- ---- what a text tells of an end
 
@@ -218,11 +219,19 @@ shows : (limits : Limits) (events : List L1Event) (text : List ℕ) → Happen l
 shows limits events text happened side =
     let is : shown side text ≡ state_of limits.timeout (inputs_of (handed side (history limits.interval events))) =
     ap (λ (t : List ℕ). shown side t) happened.wrote ∙ shown_is limits side events ∙ told_state_is limits side events in
-    record { state = is; up = λ up. up_is_carried limits events side happened.accepted (sym is ∙ up) }
+    record { state = is; up = λ up. shows_up limits events text side happened.wrote (one_up limits events side happened.accepted (sym is ∙ up)) }
 
 shows_both : (first : List ℕ) (later : List (List ℕ)) (text : List ℕ) → Accepts (first ∷ later) text → ShowsBoth (first ∷ later) text
 shows_both first later text accepted =
-    (accepted.0, accepted.1, accepted.2, λ side. shows accepted.0 accepted.1 text accepted.3 side)
+    let limits : Limits = accepted.0 in
+    let events : List L1Event = accepted.1 in
+    let each = λ (side : Side). shows limits events text accepted.3 side in (
+      limits,
+      events,
+      accepted.2,
+      each,
+      (λ a b. two_up limits events accepted.3.accepted (sym (each A).state ∙ a) (sym (each B).state ∙ b)),
+    )
 
 -- after each record what is written shows how both ends stand
 pub text_shows_the_pair : TextShowsThePair

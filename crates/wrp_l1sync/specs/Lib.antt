@@ -3,6 +3,7 @@ pub mod Inputs
 pub mod PortAt
 pub mod Pair
 pub mod Theorem
+pub mod Agreement
 pub mod Premises
 pub mod LineKinds
 pub mod LineFields

@@ -1,20 +1,20 @@
--- What the text of `l1sync` shows of its ends: the state of each, and what an end that is up knows of its
--- peer (this project's profile).
+-- What the text of `l1sync` shows of its ends: the state of each, which message carries the `up` of an end, and what both ends
+-- then require (this project's profile).
 use Rattle.std.specs.Prelude.{◌≡◌, ℕ, ◌==◌, if◌then◌else◌, Option, None, unwrap_or, List, [], ◌∷◌, ◌++◌}
 use Rattle.std.specs.List.{find, slice_split}
 use Rattle.std.specs.Option.{option_or}
 use Rattle.wrp_l1sync.specs.declared.event.L1Event.{L1Event}
 use Rattle.wrp_l1sync.specs.declared.event.Limits.{Limits}
-use Rattle.wrp_l1sync.specs.declared.event.Sent.{Sent}
 use Rattle.wrp_l1sync.specs.declared.event.Side.{Side}
+use Rattle.wrp_l1sync.specs.declared.event.Side.TheVariants.{A, B}
 use Rattle.wrp_l1sync.specs.declared.interface.L1State.{L1State}
 use Rattle.wrp_l1sync.specs.declared.interface.L1State.TheVariants.{Disabled, Idle, LinkAlive, ConfigMatch, Up}
+use Rattle.wrp_l1sync.specs.Agreement.{AreUpBy, IsUpBy}
 use Rattle.wrp_l1sync.specs.Inputs.{state_of}
 use Rattle.wrp_l1sync.specs.LineKinds.{same_word}
 use Rattle.wrp_l1sync.specs.LineRecords.{Say, Accepts}
-use Rattle.wrp_l1sync.specs.LineText.{end_word, state_word}
-use Rattle.wrp_l1sync.specs.Pair.{handed, history, inputs_of}
-use Rattle.wrp_l1sync.specs.Theorem.{Carries}
+use Rattle.wrp_l1sync.specs.LineText.{end_word, send_line, state_word, text_of}
+use Rattle.wrp_l1sync.specs.Pair.{handed, history, inputs_of, other}
 
 -- the lines of a text, which LF (octet 10) keeps apart
 abbrev pub lines_in : List ℕ → List (List ℕ)
@@ -47,20 +47,25 @@ last_told side (line ∷ later) = option_or (last_told side later) (told_by side
 abbrev pub shown : Side → List ℕ → L1State
 shown side text = unwrap_or (last_told side (lines_in text)) Disabled
 
--- a text shows how an end stands after these events, newest first: in the state that looking back over what
--- it was handed finds, and where that is `up` its peer sent, at most timeout·dmax + life ago, a message with
--- the same requirement, and each required bit holds at the end and in the message
+-- a text shows an end up by a message: it has the line with which the peer sent it, after what the events before that tick write
+pub record ShowsUp (limits : Limits) (events : List L1Event) (text : List ℕ) (side : Side) : Type 0 where
+  pub by : IsUpBy limits events side
+  pub tick : ℕ
+  pub back : List ℕ
+  pub printed : text ≡ text_of limits by.sent.older ++ (send_line (other side) tick by.k by.message.msg ++ back)
+
+-- a text shows how an end is after these events, newest first: in the state that looking back over what it was handed finds;
+-- and where that is `up`, by a message that its peer sent and that it was handed since it was enabled
 pub record Shows (limits : Limits) (events : List L1Event) (text : List ℕ) (side : Side) : Type 0 where
   pub state : shown side text ≡ state_of limits.timeout (inputs_of (handed side (history limits.interval events)))
-  pub up : shown side text ≡ Up →
-      (message : Sent)
-      × Carries limits (history limits.interval events) side (inputs_of (handed side (history limits.interval events))) message
+  pub up : shown side text ≡ Up → ShowsUp limits events text side
 
--- it shows so of both ends after the events that some lines say
+-- it shows so of both ends after the events that some lines say; and where both are `up`, when they agree
 abbrev pub ShowsBoth : List (List ℕ) → List ℕ → Type 0
 ShowsBoth lines text =
     (limits : Limits) × (events : List L1Event) × Say lines limits events
     × ((side : Side) → Shows limits events text side)
+    × (shown A text ≡ Up → shown B text ≡ Up → AreUpBy limits events)
 
 -- after each of some records: what the first of them write stands first, and shows so of both ends
 abbrev pub ShowsAfterEach : List (List ℕ) → List ℕ → Type 0

@@ -1,12 +1,23 @@
 //! What is true of all events and of all lines. The functions here compute nothing: their contracts are
 //! laws over all events or records, and their proofs show that the laws hold.
+ghost use Rattle.wrp_l1sync.specs.Agreement.{UpEndsAgree};
 ghost use Rattle.wrp_l1sync.specs.LineAnswers.{AnswersShowThePair, WhatStandsShowsThePair};
 ghost use Rattle.wrp_l1sync.specs.LineTheorem.{TextShowsThePair};
 ghost use Rattle.wrp_l1sync.specs.Premises.{EventsAreTakenExactly};
 
+/// An end that is up was handed a message while it was enabled, and since then it was neither disabled nor
+/// handed another. Its peer sent that message at most timeout·dmax + life ago; it has the same requirement,
+/// and each required bit holds at the end and in the message. Where the peer's own message was not set since
+/// it sent that message, both ends require the same now, and each required bit holds at both. So two ends
+/// that are up agree where one of them has not set its own message since it sent the one by which the other
+/// is up. Without that they need not: an example has two ends that are up and require 1 and 3.
+pub fn up_ends_agree()
+    ensures { UpEndsAgree }
+{}
+
 /// After each record the last state that is printed for an end is the one that looking back over what
-/// it was handed finds; and where that is `up` its peer sent, at most timeout·dmax + life ago, a
-/// message with the same requirement, and each required bit holds at the end and in the message.
+/// it was handed finds. Where that is `up`, or both ends are, `up_ends_agree` holds of the events that the
+/// records say, and the message by which an end is up is printed in a line of its peer.
 pub fn text_shows_the_pair()
     ensures { TextShowsThePair }
 {}

@@ -17,7 +17,7 @@ mod port;
 pub use event::{L1Event, L1Refused};
 pub use interface::{L1In, L1Out, L1State};
 pub use laws::{
-    answers_show_the_pair, events_are_taken_exactly, text_shows_the_pair,
+    answers_show_the_pair, events_are_taken_exactly, text_shows_the_pair, up_ends_agree,
     what_stands_shows_the_pair,
 };
 pub use lines::{L1Lines, l1sync};

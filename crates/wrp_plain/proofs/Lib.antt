@@ -13,7 +13,10 @@ pub mod LinesExact
 pub mod LineRanges
 pub mod LineWords
 pub mod LinesTrue
+pub mod Steering
+mod Saying
 pub mod OutputTrue
+pub mod SaidOutput
 pub mod EventFits
 pub mod LinesDecided
 pub mod Reading

@@ -26,7 +26,7 @@ widened : (a : ℕ) (base : ℤ) (more bound : ℕ) → pos a ≤ℤ (base +ℤ 
 widened a base more bound h k = omega (arith, ints)
 
 -- what is near is within the bound of its report
-within : (set : PlainSet) (off : ℤ) (since : ℕ) → since ≤ unsigned_abs set.dmax → (mark : Mark) → IsNear set off since mark →
+pub within : (set : PlainSet) (off : ℤ) (since : ℕ) → since ≤ unsigned_abs set.dmax → (mark : Mark) → IsNear set off since mark →
     IsWithinBound off (report_at set mark)
 within set off since h mark is =
     widened (unsigned_abs (mark.est -ℤ off)) mark.base is.more (moves_within set.rate ((mark.ticks + 1) * unsigned_abs set.dmax)) is.near
@@ -55,7 +55,7 @@ found_at {X} p y ys x behind true e =
     subst P same (contains_first ys y)
 found_at p y ys x behind false e = contains_later y ys x (behind e)
 
-found : {X : Type 0} (p : X → Bool) (xs : List X) (x : X) → find p xs ≡ Some x → Contains xs x
+pub found : {X : Type 0} (p : X → Bool) (xs : List X) (x : X) → find p xs ≡ Some x → Contains xs x
 found p [] x e = absurd (cc e)
 found p (y ∷ ys) x e = found_at p y ys x (found p ys x) (p y) e
 
@@ -96,7 +96,7 @@ least_of reports None e = tt
 least_of reports (Some report) e =
     (found (is_least reports) reports report e, none_less reports report (passed (is_least reports) reports report e))
 
-some_kept : (n : ℕ) (m : Mark) (ms : List Mark) → 1 ≤ n → take n (m ∷ ms) ≢ []
+pub some_kept : (n : ℕ) (m : Mark) (ms : List Mark) → 1 ≤ n → take n (m ∷ ms) ≢ []
 some_kept zero m ms h e = absurd (omega arith)
 some_kept (suc n) m ms h e = cc
 

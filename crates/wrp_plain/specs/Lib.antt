@@ -15,3 +15,5 @@ pub mod LineText
 pub mod LineCourse
 pub mod LinesHeld
 pub mod LineTruth
+pub mod Steered
+pub mod Said

@@ -1,6 +1,8 @@
 //! What a measurement is worth, which events are taken, and what the lines of the command are, as laws.
 ghost use Rattle.wrp_plain.specs.Exact.{EventsAreTakenExactly, MeasurementsAreExact};
 ghost use Rattle.wrp_plain.specs.LineTruth.{OutputTellsTruth, RecordsTellTruth};
+ghost use Rattle.wrp_plain.specs.Said.{OutputHoldsUntilTick};
+ghost use Rattle.wrp_plain.specs.Steered.{ReportsHoldUntilTick};
 ghost use Rattle.wrp_plain.specs.Truth.{MeasuredWithinBound};
 
 /// The error statement of a measurement, for all settings, delays, offsets and stamps: where the stamps
@@ -36,4 +38,23 @@ pub fn records_tell_truth()
 /// the true offset. It does nothing when it runs.
 pub fn output_tells_truth()
     ensures { OutputTellsTruth }
+{}
+
+/// What a command does to the true offset, and for how long a report holds, whatever the records say. The
+/// command of an exchange takes the whole estimate back where that is at most STEP, and is STEP towards 0
+/// where it is not; by it the true offset moves, and by nothing else but its drift. Where the command takes
+/// the whole estimate back, the true offset is at most the bound afterwards. And each report, moved with the
+/// commands since, is within its bound of the true offset until the next tick. It does nothing when it runs.
+pub fn reports_hold_until_tick()
+    ensures { ReportsHoldUntilTick }
+{}
+
+/// What the printed lines show of the true offset between ticks, whatever the input is and wherever its
+/// output ends. The records write the lines of reports, and after each at most one step line, which is the
+/// command against the estimate. Where a step takes the whole estimate back, the true offset with that step
+/// is at most the bound. And each report, moved with the printed steps, is within its bound of each true
+/// offset that is printed up to the next tick, that of the tick's report among them. It does nothing when it
+/// runs.
+pub fn output_holds_until_tick()
+    ensures { OutputHoldsUntilTick }
 {}
