@@ -31,7 +31,7 @@ use Rattle.wrp_course.proofs.RunNetwork.{LinkEnd, end_with, place_end}
 use Rattle.wrp_loop.specs.declared.routes.Route.{Route}
 use Rattle.wrp_loop.specs.Datagrams.{IsWayOf, end_number}
 use Rattle.wrp_loop.specs.LoopStands.{Flies, IsRouteOf, way_by}
-use Rattle.wrp_loop.proofs.Accepting.{end_found}
+use Rattle.wrp_sim.proofs.Ends.{end_found}
 
 -- Octets of frames are few
 

@@ -1,0 +1,10 @@
+-- A line more is read, and nothing is written of it.
+use Rattle.std.proofs.Common.{ap, refl}
+use Rattle.wrp_scene_records.proofs.SceneLines.{accepts_more, says_more}
+use Rattle.wrp_scene_records.proofs.scenario.ScenarioLinesMachine.take.Goals as goal
+
+pub returns-in-Ok-clause-accepted : goal.returns-in-Ok-clause-accepted
+returns-in-Ok-clause-accepted c = λ lines before is has accepted.
+    let net = ap (λ n. n.now) c.read.ensures.net in
+    let more = says_more c.args.self.now c.read.new.self lines c.args.line.now c.in-Ok.ensures.value net has in
+    (more, accepts_more c.args.self.now.net.now c.args.self.now c.read.new.self lines c.args.line.now before c.args.text.now.items refl net more accepted c.requires.none)
