@@ -14,7 +14,8 @@ use Rattle.wrp_records.specs.Lines.{lines_of}
 use Rattle.wrp_records.specs.declared.machine.Refusal.TheVariants as refusals
 use Rattle.wrp_records.specs.RecordsAnswer.{IsLarge, IsRefused, RecordsAnswer}
 use Rattle.wrp_records.specs.Refusals.{bad_network_line, too_large_line}
-use Rattle.wrp_simulate.specs.Simulates.{scenario_of, simulation_of}
+use Rattle.wrp_scene_records.specs.Scenarios.{scenario_of}
+use Rattle.wrp_simulate.specs.Simulates.{simulation_of}
 use Rattle.wrp_course.specs.Setting.{Setting}
 use Rattle.wrp_trace.specs.LineSetting.{LineSetting}
 use Rattle.wrp_asked.specs.declared.alone.Alone.{Alone}

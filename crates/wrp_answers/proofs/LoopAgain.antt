@@ -23,7 +23,7 @@ use Rattle.wrp_audit.specs.AuditText.{all_counts, audit_lines, event_lines}
 use Rattle.wrp_asked.specs.Headline.{CarriesRun}
 use Rattle.wrp_asked.specs.Input.{behind_separator, network_limit, network_text}
 use Rattle.wrp_asked.specs.LoopHeadline.{IsLoopDue, IsToldApart, LoopOf, LoopedEventsCarryParts, came_lines}
-use Rattle.wrp_simulate.specs.Loops.{plan_of}
+use Rattle.wrp_loop.specs.Loops.{plan_of}
 use Rattle.wrp_asked.specs.Tasks.{Audit, IsAuditing, IsLooping}
 use Rattle.wrp_asked.proofs.LoopedParts.{loops_few}
 use Rattle.wrp_asked.proofs.LoopTold.{answer_due, told_apart}

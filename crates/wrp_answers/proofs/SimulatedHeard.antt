@@ -14,11 +14,11 @@ use Rattle.wrp_course.specs.Runs.{AllEvents, IsRun}
 use Rattle.wrp_course.specs.Setting.{Setting, above, link_of, nodes_of}
 use Rattle.wrp_course.specs.WorldAt.{WorldAt, has_carrier}
 use Rattle.wrp_due.proofs.Heard.{AllHandOn, HandsOn, all_heard}
-use Rattle.wrp_sim.specs.declared.scene.fault.FaultKind.{FaultKind}
-use Rattle.wrp_sim.specs.declared.scene.fault.FaultKind.TheVariants as kind
+use Rattle.wrp_scene.specs.declared.scene.fault.FaultKind.{FaultKind}
+use Rattle.wrp_scene.specs.declared.scene.fault.FaultKind.TheVariants as kind
 use Rattle.wrp_sim.specs.Keeps.{SimRunsAreRuns}
 use Rattle.wrp_sim.specs.Rules.{Next, arrives, begins, delivers, departs, departs_from, departs_now, fails, fault_of, first_of, is_over, next_fault, next_of, passes, ports_of, raw_of, rest_of, samples, tick_of, ticks, ticks_now}
-use Rattle.wrp_sim.specs.Scenario.{SceneAt}
+use Rattle.wrp_scene.specs.Scenario.{SceneAt}
 use Rattle.wrp_sim.specs.SimAt.{SimAt}
 use Rattle.wrp_sim.specs.SimRun.{IsSimRun}
 use Rattle.wrp_simulate.proofs.ScenesFit.{scenario_fits}

@@ -8,12 +8,13 @@ use Rattle.wrp_records.specs.declared.status.Status.TheVariants.{Done, TooLarge}
 use Rattle.wrp_records.specs.Refusals.{bad_trace_line}
 use Rattle.wrp_records.specs.Stream.{large_line}
 use Rattle.wrp_sim.specs.Rules.{Next, next_of}
-use Rattle.wrp_sim.specs.Scenario.{SceneAt, new_scene}
-use Rattle.wrp_sim.specs.ScenarioLines.{scene_read}
+use Rattle.wrp_scene.specs.Scenario.{SceneAt, new_scene}
+use Rattle.wrp_scene.specs.ScenarioLines.{scene_read}
 use Rattle.wrp_sim.specs.SimAt.{SimAt, new_sim}
 use Rattle.wrp_sim.specs.SimRun.{Gives}
-use Rattle.wrp_loop.specs.LoopRun.{event_limit}
-use Rattle.wrp_simulate.specs.Simulates.{Changes, IsScenario, IsSimulated, SimAccepts, Simulates, simulation_of}
+use Rattle.wrp_scene.specs.EventLimit.{event_limit}
+use Rattle.wrp_scene_records.specs.Scenarios.{Changes, IsScenario, SimAccepts}
+use Rattle.wrp_simulate.specs.Simulates.{IsSimulated, Simulates, simulation_of}
 use Rattle.wrp_trace.specs.LineSetting.{line_setting_in}
 use Rattle.wrp_replay.specs.DownLaw.{law_at}
 use Rattle.wrp_simulate.specs.SimText.{sim_lines, sum_lines}
@@ -24,7 +25,7 @@ use Rattle.wrp_due.specs.Due.{HasAnswer}
 
 -- Scenarios
 
-changes_more : (s : Setting) (scene last next : SceneAt) (lines : List (List ℕ)) (line : List ℕ) → Changes s scene lines last → scene_read s.cfg last line ≡ Ok next → Changes s scene (lines ++ line ∷ []) next
+changes_more : (s : Setting) (scene last next : SceneAt) (lines : List (List ℕ)) (line : List ℕ) → Changes s.cfg scene lines last → scene_read s.cfg last line ≡ Ok next → Changes s.cfg scene (lines ++ line ∷ []) next
 changes_more s scene last next [] line changes reads = (next, subst (λ (x : SceneAt). scene_read s.cfg x line ≡ Ok next) changes reads, refl)
 changes_more s scene last next (first ∷ lines) line changes reads = (changes.0, changes.1, changes_more s changes.0 last next lines line changes.2 reads)
 

@@ -10,14 +10,15 @@ use Rattle.wrp_frame.specs.declared.fault.FrameFault.{FrameFault}
 use Rattle.wrp_records.specs.declared.status.Status.TheVariants.{Done}
 use Rattle.wrp_records.specs.Lines.{content_of, lines_of}
 use Rattle.wrp_records.specs.Stream.{IsWithin, number_limit}
-use Rattle.wrp_sim.specs.Scenario.{SceneAt}
+use Rattle.wrp_scene.specs.Scenario.{SceneAt}
 use Rattle.wrp_sim.specs.SimAt.{SimAt}
 use Rattle.wrp_trace.specs.Events.{event_read}
 use Rattle.wrp_asked.specs.Answer.{Answer}
 use Rattle.wrp_audit.specs.Audited.{AllHeard, AreEvents, IsAudit, IsSettingOf, answers_in}
 use Rattle.wrp_audit.specs.AuditText.{all_counts, audit_lines}
 use Rattle.wrp_asked.specs.Input.{behind_separator, network_text}
-use Rattle.wrp_simulate.specs.Simulates.{IsScenario, IsSimulated}
+use Rattle.wrp_scene_records.specs.Scenarios.{IsScenario}
+use Rattle.wrp_simulate.specs.Simulates.{IsSimulated}
 use Rattle.wrp_asked.specs.Tasks.{AsksFor, Audit}
 
 -- the line says an event that keeps all premises behind those that the lines before it say

@@ -9,9 +9,9 @@ use Rattle.wrp_asked.specs.Alone.{alone_meaning}
 use Rattle.wrp_asked.specs.Answer.{Answer}
 use Rattle.wrp_asked.specs.Input.{behind_separator, network_text}
 use Rattle.wrp_replay.specs.Replays.{meaning_of}
-use Rattle.wrp_simulate.specs.Simulates.{IsScenario}
+use Rattle.wrp_scene_records.specs.Scenarios.{IsScenario}
 use Rattle.wrp_asked.specs.Tasks.{AsksFor, Loop}
-use Rattle.wrp_sim.specs.Scenario.{SceneAt}
+use Rattle.wrp_scene.specs.Scenario.{SceneAt}
 use Rattle.wrp_trace.specs.LineSetting.{LineSetting}
 
 -- for the record lines of each replay

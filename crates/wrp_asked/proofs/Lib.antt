@@ -2,6 +2,7 @@ pub mod AloneCommand
 pub mod AloneTable
 pub mod AloneTold
 pub mod Asking
+pub mod BareLoop
 pub mod DueTold
 pub mod EmitTold
 pub mod EventLines

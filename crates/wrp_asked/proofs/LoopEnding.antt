@@ -16,9 +16,9 @@ use Rattle.wrp_records.specs.Stream.{Handles}
 use Rattle.wrp_asked.specs.Answer.{Answer, FirstAnswer, LoopBroken, PartAnswer}
 use Rattle.wrp_asked.specs.Ends.{Ends, EndsUnlinked, begun_at}
 use Rattle.wrp_asked.specs.Input.{behind_separator, network_text}
-use Rattle.wrp_simulate.specs.LoopPasses.{LoopPasses, RanDue, RanSo}
-use Rattle.wrp_simulate.specs.Loops.{LoopBreaks, loop_of}
-use Rattle.wrp_simulate.specs.Simulates.{SimAccepts}
+use Rattle.wrp_loop.specs.LoopPasses.{LoopPasses, RanDue, RanSo}
+use Rattle.wrp_loop.specs.Loops.{LoopBreaks, loop_of}
+use Rattle.wrp_scene_records.specs.Scenarios.{SimAccepts}
 use Rattle.wrp_asked.specs.Tasks.{Task, Loop, AsksFor}
 use Rattle.wrp_asked.proofs.Asking.{TookNetwork, lines_told, networked_of, records_end}
 

@@ -9,7 +9,8 @@ use Rattle.wrp_course.specs.Setting.{Setting}
 use Rattle.wrp_io.specs.declared.link.LinkCall.{LinkCall}
 use Rattle.wrp_loop.specs.Calls.{Adds}
 use Rattle.wrp_loop.specs.Laws.{Large, LoopIsAudited, Over}
-use Rattle.wrp_loop.specs.LoopRun.{Full, Going, Loops, On, Plan, event_limit, events_at, place}
+use Rattle.wrp_loop.specs.LoopRun.{Full, Going, Loops, On, Plan, events_at, place}
+use Rattle.wrp_scene.specs.EventLimit.{event_limit}
 use Rattle.wrp_loop.specs.LoopText as texts
 use Rattle.wrp_loop.specs.LoopText.{forged_lines, loop_text, marked_in, others_in}
 use Rattle.wrp_records.specs.declared.machine.Refusal.TheVariants as refusals
@@ -25,8 +26,8 @@ use Rattle.wrp_asked.specs.Ends.{Called, Ends, Run}
 use Rattle.wrp_asked.specs.Input.{behind_separator, network_text}
 use Rattle.wrp_asked.specs.Headline.{CarriesRun}
 use Rattle.wrp_asked.specs.LoopHeadline.{IsLoopDue, IsToldApart, LacksScene, LoopHeadline, LoopOf, LoopedEventsCarryParts, PrintsTheLoop, TellsApart, came_lines}
-use Rattle.wrp_simulate.specs.Loops.{LoopEnded, LoopFailed, LoopShort, IsShort, closing_lines, loop_of, plan_of}
-use Rattle.wrp_simulate.specs.Simulates.{SimRefuses, scenario_of}
+use Rattle.wrp_loop.specs.Loops.{LoopEnded, LoopFailed, LoopShort, IsShort, closing_lines, loop_of, plan_of}
+use Rattle.wrp_scene_records.specs.Scenarios.{SimRefuses, scenario_of}
 use Rattle.wrp_asked.specs.Tasks.{Task, Replay, Audit, Emit, Simulate, Loop, AsksFor, IsLooping, meaning_at}
 use Rattle.wrp_asked.proofs.LoopedParts.{frames_first}
 use Rattle.wrp_asked.proofs.ToldApart.{all_text, came_text, count_lines, counts_plain, counts_text, steps_text}

@@ -20,14 +20,14 @@ use Rattle.wrp_loop.specs.declared.fate.Fate.TheVariants.{Handed, Forged, Noisy}
 use Rattle.wrp_loop.specs.Laws.{LoopKeepsTheBounds}
 use Rattle.wrp_loop.specs.LoopRun.{Carried, ComesBetween, Dropped, FollowsFate, Full, Goes, Going, HandlesAll, IsFull, IsRound, LoopAt, Loops, On, Plain, Plan, Round, events_at, place}
 use Rattle.wrp_asked.specs.LoopHeadline.{LoopedEventsCarryParts}
-use Rattle.wrp_simulate.specs.Loops.{plan_of}
+use Rattle.wrp_loop.specs.Loops.{plan_of}
 use Rattle.wrp_asked.proofs.HeadlineParts.{network_of, parts_of}
 use Rattle.wrp_simulate.proofs.MadeFit.{FitsSave, event_fits, fewer, given_fits, numbered}
 use Rattle.wrp_simulate.proofs.ScenesFit.{scenario_fits}
 use Rattle.wrp_asked.proofs.TracksHold.{RunsNear, laws_of, tracks_hold}
 use Rattle.wrp_asked.specs.Input.{network_text}
 use Rattle.wrp_sim.specs.Keeps.{Between, Comes, IsDriven, LeftOut, Silent, Turn, events_of}
-use Rattle.wrp_sim.specs.Scenario.{SceneAt}
+use Rattle.wrp_scene.specs.Scenario.{SceneAt}
 use Rattle.wrp_sim.specs.SimAt.{SimAt}
 use Rattle.wrp_truth.specs.Chains.{AllFit}
 use Rattle.wrp_world.specs.EventHolds.{LinksHoldInRuns, TracksHoldInRuns}

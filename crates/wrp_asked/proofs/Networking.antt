@@ -8,7 +8,7 @@ use Rattle.std.proofs.lemmas.Slice.Eq.{bytes_eq-Decides}
 use Rattle.std.proofs.lemmas.List.{reverse-reverse, nil_from_length}
 use Rattle.std.specs.Io.KnownBytes.{Consumes}
 use Rattle.std.proofs.KnownBytes.{Consumes-nil}
-use Rattle.wrp_sim.proofs.SceneLemmas.{all_more}
+use Rattle.wrp_scene.proofs.SceneLemmas.{all_more}
 use Rattle.wrp_records.specs.Lines.{lines_of, content_of, without_end, HasNoFeed, IsWhole}
 use Rattle.wrp_asked.specs.Input.{is_separator, before_separator, behind_separator, network_text, network_limit, IsDivided, IsTooLong, IsUndivided, BeginsSeparator, NetworkOutcome}
 use Rattle.wrp_asked.specs.declared.network_text.End.{End}

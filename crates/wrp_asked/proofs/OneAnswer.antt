@@ -25,7 +25,7 @@ use Rattle.wrp_audit.specs.AuditLaws.{OneAudit}
 use Rattle.wrp_audit.specs.Audits.{audit_of, emission_of}
 use Rattle.wrp_asked.specs.Tasks.{Task, Replay, Audit, Emit, Simulate, Loop, AsksFor, IsEmission, IsReplay, meaning_at}
 use Rattle.wrp_asked.specs.Ends.{Run, Called, Ends, IsToldOf, Wrote}
-use Rattle.wrp_simulate.specs.Loops.{loop_of}
+use Rattle.wrp_loop.specs.Loops.{loop_of}
 use Rattle.wrp_records.specs.Statuses.{is_answer}
 use Rattle.wrp_asked.specs.Input.{network_text, behind_separator, network_limit}
 use Rattle.wrp_records.specs.Lines.{lines_of}
@@ -37,8 +37,8 @@ use Rattle.wrp_simulate.specs.Simulates.{simulation_of}
 use Rattle.wrp_asked.proofs.AloneTable.{facts_of}
 use Rattle.wrp_asked.proofs.Asking.{networked_of}
 use Rattle.wrp_audit.proofs.BareAudit.{bare_is, bare_setting}
-use Rattle.wrp_simulate.proofs.BareRuns.{bare_answer, bare_emission}
-use Rattle.wrp_simulate.proofs.BareLoop.{bare_loop}
+use Rattle.wrp_audit.proofs.BareRuns.{bare_answer, bare_emission}
+use Rattle.wrp_asked.proofs.BareLoop.{bare_loop}
 use Rattle.wrp_simulate.proofs.BareSim.{bare_simulation}
 use Rattle.wrp_replay.proofs.BareSetting.{named_bare}
 use Rattle.wrp_audit.proofs.ExactAudit.{exact_audit, exact_emission}

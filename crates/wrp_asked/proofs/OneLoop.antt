@@ -8,7 +8,8 @@ use Rattle.wrp_course.specs.WorldAt.{WorldAt}
 use Rattle.wrp_io.specs.declared.link.LinkCall.{LinkCall}
 use Rattle.wrp_io.specs.declared.link.LinkCall.TheVariants.{Start}
 use Rattle.wrp_loop.specs.Laws.{Ending, EndsAs, Large, Over}
-use Rattle.wrp_loop.specs.LoopRun.{LoopAt, event_limit, events_at, place}
+use Rattle.wrp_loop.specs.LoopRun.{LoopAt, events_at, place}
+use Rattle.wrp_scene.specs.EventLimit.{event_limit}
 use Rattle.wrp_loop.specs.LoopText.{forged_lines, loop_text}
 use Rattle.wrp_loop.proofs.Told.{one_loop}
 use Rattle.wrp_records.specs.declared.status.Status.{Status}
@@ -18,14 +19,14 @@ use Rattle.wrp_records.specs.Stream.{large_line}
 use Rattle.wrp_records.proofs.Unique.{EndsWith, IsExact, never_barred}
 use Rattle.wrp_asked.specs.Answer.{LoopDue}
 use Rattle.wrp_audit.specs.AuditText.{all_counts}
-use Rattle.wrp_audit.proofs.OneWorld.{laws_in}
-use Rattle.wrp_simulate.specs.Loops.{LoopEnded, closing_lines, loop_of, plan_of}
+use Rattle.wrp_audit.specs.Audited.{laws_in}
+use Rattle.wrp_loop.specs.Loops.{LoopEnded, closing_lines, loop_of, plan_of}
 use Rattle.wrp_replay.specs.NodeText.{port_counts, port_numbers}
-use Rattle.wrp_simulate.specs.Simulates.{scenario_of}
-use Rattle.wrp_simulate.proofs.BareRuns.{due_so}
-use Rattle.wrp_simulate.proofs.OneSim.{never_refused, one_refused, scenes_one}
+use Rattle.wrp_scene_records.specs.Scenarios.{scenario_of}
+use Rattle.wrp_audit.proofs.BareRuns.{due_so}
+use Rattle.wrp_scene_records.proofs.OneScenario.{never_refused, one_refused, scenes_one}
 use Rattle.wrp_servo.specs.Told.{ToldLast}
-use Rattle.wrp_sim.specs.Scenario.{SceneAt, new_scene}
+use Rattle.wrp_scene.specs.Scenario.{SceneAt, new_scene}
 use Rattle.wrp_trace.specs.LineSetting.{has_port, line_setting_in}
 
 -- What is due by the records, and by the calls
@@ -69,7 +70,7 @@ record Both (s : Setting) (first second : Ending) (a b : LoopAt) : Type 0 where
 both_of : ToldLast → (s : Setting) (seed : ℕ) (calls : List LinkCall) (lines : List (List ℕ)) (first second : Ending) (p : LoopEnded s seed lines calls first) (q : LoopEnded s seed lines calls second) →
     Both s first second (place p.last) (place q.last)
 both_of last s seed calls lines first second p q =
-    let scene : q.scene ≡ p.scene = scenes_one s (new_scene s.cfg) lines q.scene p.scene q.said p.said in
+    let scene : q.scene ≡ p.scene = scenes_one s.cfg (new_scene s.cfg) lines q.scene p.scene q.said p.said in
     let own : EndsAs (plan_of s p.scene seed) calls second q.last = subst (λ (scene : SceneAt). EndsAs (plan_of s scene seed) calls second q.last) scene q.ends in
     let one = one_loop last (laws_in s) (plan_of s p.scene seed) calls p.last q.last first second p.ends own p.answered q.answered in
     record {

@@ -22,7 +22,8 @@ use Rattle.wrp_data.specs.Reason.{number_of, reasons}
 use Rattle.wrp_io.specs.declared.link.LinkCall.{LinkCall}
 use Rattle.wrp_lines.specs.Lines.{sum_line_of, sum_words}
 use Rattle.wrp_lines.specs.Words.{reason_word, servo_word}
-use Rattle.wrp_loop.specs.LoopRun.{Going, LoopAt, Plan, event_limit, events_at, place}
+use Rattle.wrp_loop.specs.LoopRun.{Going, LoopAt, Plan, events_at, place}
+use Rattle.wrp_scene.specs.EventLimit.{event_limit}
 use Rattle.wrp_loop.specs.LoopText.{forged_lines, marked_line}
 use Rattle.wrp_node.specs.declared.interface.Output.{Output}
 use Rattle.wrp_node.specs.NodeAt.{state_of}
@@ -51,9 +52,9 @@ use Rattle.wrp_asked.proofs.TakenLines.{HoldsInFront, taken_lines}
 use Rattle.wrp_asked.proofs.ToldApart.{count_if, count_lines, counts_text, flat_all, node_lines, port_if}
 use Rattle.wrp_asked.proofs.ToldWhole.{counts_whole, forged_whole}
 use Rattle.wrp_asked.proofs.TrackTold.{line_true}
-use Rattle.wrp_sim.specs.Scenario.{SceneAt}
+use Rattle.wrp_scene.specs.Scenario.{SceneAt}
 use Rattle.wrp_sim.specs.SimAt.{SimAt}
-use Rattle.wrp_simulate.specs.Loops.{closing_lines, plan_of}
+use Rattle.wrp_loop.specs.Loops.{closing_lines, plan_of}
 use Rattle.wrp_simulate.specs.SimText.{count_of, is_printed, node_sum, sim_lines, sum_lines, tracked, worst_of}
 use Rattle.wrp_truth.specs.Bounds.{IsTrueOutput, IsTrueStep}
 use Rattle.wrp_trace.specs.EventPrinting.{event_text}

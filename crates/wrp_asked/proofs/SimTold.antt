@@ -15,7 +15,8 @@ use Rattle.wrp_records.specs.Lines.{content_of, lines_of}
 use Rattle.wrp_records.specs.RecordsAnswer.{BreaksOff, IsLarge, IsRefused, IsWholly, RecordsAnswer, StandsFirst}
 use Rattle.wrp_asked.specs.SimHeadline.{LacksScenario, Made, MadeEventsCarryParts, RunOf, SimHeadline}
 use Rattle.wrp_simulate.specs.SimText.{sim_lines, sum_lines}
-use Rattle.wrp_simulate.specs.Simulates.{SimRefuses, Simulates, simulation_of}
+use Rattle.wrp_scene_records.specs.Scenarios.{SimRefuses}
+use Rattle.wrp_simulate.specs.Simulates.{Simulates, simulation_of}
 use Rattle.wrp_records.specs.Stream.{CutHandled, large_line}
 use Rattle.wrp_asked.specs.Tasks.{Task, Replay, Audit, Emit, Simulate, Loop, AsksFor, IsSimulation, meaning_at}
 use Rattle.wrp_asked.proofs.DueTold.{IsDueSo, PrintsDue, prints}

@@ -17,13 +17,14 @@ use Rattle.wrp_audit.specs.Audited.{IsSettingOf, answers_in}
 use Rattle.wrp_asked.specs.Headline.{Came}
 use Rattle.wrp_asked.specs.Input.{network_text}
 use Rattle.wrp_asked.specs.SimHeadline.{Made}
-use Rattle.wrp_loop.specs.LoopRun.{event_limit}
+use Rattle.wrp_scene.specs.EventLimit.{event_limit}
 use Rattle.wrp_asked.specs.TrackLines.{IsTrueAt, TracksAreWithin}
 use Rattle.wrp_asked.proofs.HeadlineParts.{events_said, run_of, setting_asked, writes}
 use Rattle.wrp_audit.proofs.LawsNear.{LawsAreNear, answers_near, laws_near}
 use Rattle.wrp_audit.proofs.LinesFit.{line_fits}
 use Rattle.wrp_simulate.proofs.MadeFit.{made_fit}
-use Rattle.wrp_audit.proofs.OneWorld as worlds
+use Rattle.wrp_audit.specs.Audited.{laws_in}
+use Rattle.wrp_one_world_laws.proofs.OneWorld.{before_newest}
 use Rattle.wrp_asked.proofs.MadeRuns.{made_run}
 use Rattle.wrp_asked.proofs.TrackTold.{lines_are_true}
 
@@ -39,7 +40,7 @@ runs_before : (s : Setting) (h : Happened) (before : List Happened) → RunsNear
 runs_before s h before runs = record {
   run = run_before s h before runs.run;
   fit = runs.fit.1;
-  answered = worlds.before_newest (worlds.laws_in s) s h before runs.answered;
+  answered = before_newest (laws_in s) s h before runs.answered;
   near = runs.near;
 }
 

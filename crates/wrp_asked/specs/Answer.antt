@@ -17,7 +17,7 @@ use Rattle.wrp_records.specs.Stream.{CutHandled}
 use Rattle.wrp_asked.specs.declared.alone.Alone.{Alone}
 use Rattle.wrp_asked.specs.Alone.{IsAlone, alone_meaning}
 use Rattle.wrp_asked.specs.Input.{network_text, behind_separator, network_limit, Divides, IsUndivided}
-use Rattle.wrp_simulate.specs.Loops.{loop_of}
+use Rattle.wrp_loop.specs.Loops.{loop_of}
 use Rattle.wrp_asked.specs.Refusals.{usage_line}
 use Rattle.wrp_replay.specs.Replays.{IsRefusedBy}
 use Rattle.wrp_asked.specs.Tasks.{Task, Loop, AsksFor, IsAuditing, IsEmission, IsLooping, IsReplay, IsSimulation, meaning_at}

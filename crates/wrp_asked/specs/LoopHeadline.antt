@@ -11,7 +11,8 @@ use Rattle.wrp_course.specs.Setting.{Setting}
 use Rattle.wrp_io.specs.declared.link.LinkCall.{LinkCall}
 use Rattle.wrp_loop.specs.Calls.{IsFrameCall}
 use Rattle.wrp_loop.specs.LoopEnds.{CallFails, IsOver, IsOverrun}
-use Rattle.wrp_loop.specs.LoopRun.{Going, Loops, Plan, event_limit, events_at, place}
+use Rattle.wrp_loop.specs.LoopRun.{Going, Loops, Plan, events_at, place}
+use Rattle.wrp_scene.specs.EventLimit.{event_limit}
 use Rattle.wrp_loop.specs.LoopText.{forged_lines, marked_in, marked_line, others_in, told_lines}
 use Rattle.wrp_records.specs.declared.status.Status.{Status}
 use Rattle.wrp_records.specs.declared.status.Status.TheVariants.{Done, LinkFault, TooLarge, OutOfMemory}
@@ -20,11 +21,11 @@ use Rattle.wrp_records.specs.Stream.{large_line}
 use Rattle.wrp_audit.specs.AuditText.{all_counts, audit_lines, event_lines}
 use Rattle.wrp_asked.specs.Headline.{CarriesRun, Prints, ReachesNone}
 use Rattle.wrp_asked.specs.Input.{behind_separator, network_text}
-use Rattle.wrp_simulate.specs.Loops.{IsLawful, IsShort, closing_lines, plan_of}
+use Rattle.wrp_loop.specs.Loops.{IsLawful, IsShort, closing_lines, plan_of}
 use Rattle.wrp_asked.specs.SimHeadline.{NamesLine}
-use Rattle.wrp_simulate.specs.Simulates.{IsScenario}
+use Rattle.wrp_scene_records.specs.Scenarios.{IsScenario}
 use Rattle.wrp_asked.specs.Tasks.{Loop, AsksFor}
-use Rattle.wrp_sim.specs.Scenario.{SceneAt}
+use Rattle.wrp_scene.specs.Scenario.{SceneAt}
 
 -- Which events came
 

@@ -6,7 +6,7 @@
 use Rattle.std.specs.Prelude.{◌≡◌, ◌⊎◌, ℕ, ◌+◌, None, Some, List, [], ◌∷◌, ◌++◌, length, map}
 use Rattle.std.specs.List.{flat_map}
 use Rattle.wrp_sim.specs.Rules.{Next}
-use Rattle.wrp_sim.specs.Scenario.{SceneAt}
+use Rattle.wrp_scene.specs.Scenario.{SceneAt}
 use Rattle.wrp_sim.specs.SimAt.{SimAt}
 use Rattle.wrp_sim.specs.SimRun.{Gives}
 use Rattle.wrp_course.specs.Run.{Happened, steps_at, world_after}
@@ -17,8 +17,9 @@ use Rattle.wrp_records.specs.declared.status.Status.TheVariants.{Done, BadTrace,
 use Rattle.wrp_asked.specs.Headline.{CarriesRun, Prints, ReachesNone}
 use Rattle.wrp_asked.specs.Input.{behind_separator, network_text}
 use Rattle.wrp_records.specs.Lines.{content_of, lines_of}
-use Rattle.wrp_loop.specs.LoopRun.{event_limit}
-use Rattle.wrp_simulate.specs.Simulates.{IsScenario, IsSimulated, SimRefuses}
+use Rattle.wrp_scene.specs.EventLimit.{event_limit}
+use Rattle.wrp_scene_records.specs.Scenarios.{IsScenario, SimRefuses}
+use Rattle.wrp_simulate.specs.Simulates.{IsSimulated}
 use Rattle.wrp_simulate.specs.SimText.{printed_lines, sim_lines, sum_lines}
 use Rattle.wrp_records.specs.Stream.{IsTooLarge, large_line}
 use Rattle.wrp_asked.specs.Tasks.{Simulate, AsksFor}

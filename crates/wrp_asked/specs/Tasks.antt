@@ -9,7 +9,8 @@ use Rattle.wrp_asked.specs.CommandLine.{IsCommandWith, IsSeeded}
 use Rattle.wrp_asked.specs.Input.{network_limit}
 use Rattle.wrp_records.specs.LineMeaning.{LineMeaning}
 use Rattle.wrp_replay.specs.Replays.{IsNetworkOf, meaning_of}
-use Rattle.wrp_simulate.specs.Simulates.{scenario_of, simulation_of}
+use Rattle.wrp_scene_records.specs.Scenarios.{scenario_of}
+use Rattle.wrp_simulate.specs.Simulates.{simulation_of}
 
 -- the replay of a node, the audit of a network, the inputs of a node in it, its simulation from a seed, or
 -- its run over a link from a seed

@@ -2,6 +2,8 @@ pub mod AuditCounts
 pub mod AuditPlaces
 pub mod AuditSteps
 pub mod BareAudit
+pub mod BareEvents
+pub mod BareRuns
 pub mod BoundLemmas
 pub mod ExactAudit
 pub mod FieldsRead
@@ -11,5 +13,4 @@ pub mod LinesFit
 pub mod NewAudit
 pub mod NodesWithin
 pub mod OneAudit
-pub mod OneWorld
 pub mod PlainEvents

@@ -63,6 +63,12 @@ setting_is {pre = pre} {post = post} net laws fit tree = λ i. record {
   hi = λ n. high_is {pre = pre} {post = post} net laws fit tree n i;
 }
 
+-- a world before its first event stands for that of the network's setting
+pub new_stands : {F : Type 0} {pre : F → ℤ → Type 0} {post : F → ℤ → ℤ → Type 0} (net : Network) (laws : List (Option (LawOf F))) (world : WorldOf F) → LawsFit pre post net laws → IsTree net.cfg
+    → StandsFor post (setting_of net.cfg net.db laws) (new_world (setting_of net.cfg net.db laws)) world → StandsFor post (setting_in net) (new_world (setting_in net)) world
+new_stands {pre = pre} {post = post} net laws world fit tree stands =
+    subst (λ s. StandsFor post s (new_world s) world) (setting_is {pre = pre} {post = post} net laws fit tree) stands
+
 -- The laws of the nodes
 
 pub laws_are : {F : Type 0} {pre : F → ℤ → Type 0} {post : F → ℤ → ℤ → Type 0} (net : Network) (laws : List (Option (LawOf F))) (world : WorldOf F) → LawsFit pre post net laws → HasLaws laws world
@@ -90,8 +96,7 @@ new_can {pre = pre} {post = post} net laws held fit valid has is emit bounds = r
 pub new_has : {F : Type 0} {pre : F → ℤ → Type 0} {post : F → ℤ → ℤ → Type 0} (net : Network) (laws : List (Option (LawOf F))) (held : AuditedNetwork F) → LawsFit pre post net laws → IsTree net.cfg
     → StandsFor post (setting_of net.cfg net.db laws) (new_world (setting_of net.cfg net.db laws)) held.world → held.world.plant.net ≡ net → HasAudited post held []
 new_has {pre = pre} {post = post} net laws held fit tree stands is =
-    let own : StandsFor post (setting_in net) (new_world (setting_in net)) held.world =
-    subst (λ s. StandsFor post s (new_world s) held.world) (setting_is {pre = pre} {post = post} net laws fit tree) stands in (
+    let own : StandsFor post (setting_in net) (new_world (setting_in net)) held.world = new_stands {pre = pre} {post = post} net laws held.world fit tree stands in (
       [],
       record {
         audit = nothing_audited (setting_in held.world.plant.net);

@@ -12,7 +12,9 @@ use Rattle.wrp_course.specs.WorldAt.{WorldAt}
 use Rattle.wrp_audit.specs.Audited.{AreEvents, answers_in}
 use Rattle.wrp_audit.specs.AuditLaws.{OneAudit}
 use Rattle.wrp_audit.specs.AuditText.{audit_lines, all_counts, given_line, given_lines, step_lines}
-use Rattle.wrp_audit.proofs.OneWorld.{Alike, SameEvents, alike_after, before_newest, checks_one, laws_in, steps_after}
+use Rattle.wrp_one_world_laws.specs.OneWorld.{Alike, SameEvents}
+use Rattle.wrp_one_world_laws.proofs.OneWorld.{alike_after, before_newest, checks_one, steps_after}
+use Rattle.wrp_audit.specs.Audited.{laws_in}
 
 -- Lines
 

@@ -32,9 +32,13 @@ pub record IsSettingOf (text : List ℕ) (s : Setting) : Type 0 where
   pub reads : IsReadingOf text (Ok net)
   pub is : s ≡ setting_at net.cfg net.db
 
--- what the laws of the links answer, by the node below each
+-- the laws of the links, by the node below each
+abbrev pub laws_in : Setting → ℕ → ℤ → ℤ
+laws_in s n = law_at (line_setting_in s n)
+
+-- what they answer
 abbrev pub answers_in : Setting → ℕ → ℤ → ℤ → Type 0
-answers_in s n = answers_by (law_at (line_setting_in s n))
+answers_in s n = answers_by (laws_in s n)
 
 -- each line says its event; the events stand newest first
 abbrev pub AreEvents : Setting → List (List ℕ) → List Happened → Type 0

@@ -2,7 +2,7 @@
 ghost use Rattle.std.specs.Prelude.{◌≡◌, ◌≤◌, ◌^◌, IfOk, unsigned_abs};
 ghost use Rattle.wrp_base.specs.Network.{HasRanges};
 ghost use Rattle.wrp_law.specs.Law.{KeepsFact};
-ghost use Rattle.wrp_sim.specs.Scenario.{IsSceneOf};
+ghost use Rattle.wrp_scene.specs.Scenario.{IsSceneOf};
 ghost use Rattle.wrp_sim.specs.Sim.{FitsSim};
 ghost use Rattle.wrp_world.specs.StandsFor.{IsValid};
 

@@ -1,9 +1,8 @@
 -- Events that keep all premises: a frame that has arrived and is young, and octets that say no message of the peer, over a link that
 -- has its carrier; and what an arrival and these events leave of it.
-use Rattle.std.proofs.Common.{◌≡◌, ◌∙◌, refl, ap, ap₂, sym, subst, ℕ, zero, suc, ◌+◌, ◌<◌, ◌==◌, ◌&&◌, ℤ, pos, ◌-ℤ◌, ◌≤ℤ◌, not, Bool, true, false, if◌then◌else◌, List, [], ◌∷◌, Option, None, Some, option_map, slice_get, Result, Ok, Err, eq-eqb, arith}
+use Rattle.std.proofs.Common.{◌≡◌, ◌∙◌, refl, ap, sym, subst, ℕ, ◌<◌, ℤ, pos, ◌-ℤ◌, ◌≤ℤ◌, not, Bool, true, false, List, [], ◌∷◌, Option, None, Some, Result, Ok, Err, arith}
 use Rattle.std.proofs.lemmas.Bool.{not-false}
 use Rattle.std.proofs.lemmas.Int.{ints}
-use Rattle.std.proofs.lemmas.Option.{none-some, same_Some}
 use Rattle.std.specs.Int.Signed.{le_z}
 use Rattle.std.specs.Option.{is_some}
 use Rattle.arrayvec.specs.ArrayVec.{ArrayVec}
@@ -28,12 +27,12 @@ use Rattle.wrp_course.specs.Moved.{moved}
 use Rattle.wrp_course.specs.Premises.{Accepts, arrive_checks, deliver_by, deliver_checks, is_forged, noise_checks, received}
 use Rattle.wrp_course.specs.Run.{IsSaid}
 use Rattle.wrp_course.specs.Runs.{IsNetwork}
-use Rattle.wrp_course.specs.Setting.{Setting, end_at, end_of, place_among, place_of}
+use Rattle.wrp_course.specs.Setting.{Setting, end_at, end_of}
 use Rattle.wrp_course.specs.WorldAt.{Arrival, FrameAt, WorldAt, has_carrier, is_on_fibre}
-use Rattle.wrp_course.proofs.RunNetwork.{LinkEnd, are_apart, link_end, place_end}
+use Rattle.wrp_sim.proofs.Ends.{end_found}
+use Rattle.wrp_course.proofs.RunNetwork.{LinkEnd, link_end}
 use Rattle.wrp_course.proofs.RunSettled.{all_given_carrier}
 use Rattle.wrp_course.proofs.RunTimes.{all_right}
-use Rattle.wrp_config.specs.Names.{is_lower_end, is_upper_end}
 use Rattle.wrp_loop.specs.Datagrams.{IsOfPeer, IsSuch, Way}
 use Rattle.wrp_loop.specs.LoopRun.{noise_stamp}
 
@@ -58,49 +57,7 @@ deliver_accepted s w way octets i says such lit =
     subst (λ (o : Option FrameAt). AllHold (deliver_checks s w i o)) (sym such.is)
     (by_arrival s w i such.frame such.frame.arrival such.arrived such.young (ap (has_carrier s w) such.link_is ∙ lit))
 
--- The place of a port
-
-found_none : (a b : Bool) (x y : Place) (rest : Option Place) → (if a then Some x else (if b then Some y else rest)) ≡ None → (a ≡ false) × (b ≡ false) × (rest ≡ None)
-found_none true b x y rest e = absurd (none-some x (sym e))
-found_none false true x y rest e = absurd (none-some y (sym e))
-found_none false false x y rest e = (refl, refl, e)
-
-both_are : (a b : Bool) → a ≡ true → b ≡ true → (a && b) ≡ false → ⊥
-both_are true true e f g = cc
-both_are true false e f g = cc
-both_are false b e f g = cc
-
-not_end : (r : Role) (n p : ℕ) (link : LinkCfg) (end : End) → end_of r link ≡ end → end.node ≡ n → end.port ≡ p →
-    is_upper_end n p link ≡ false → is_lower_end n p link ≡ false → ⊥
-not_end Master n p link end e f g upper lower =
-    both_are (link.upper == n) (link.upper_port == p) (eq-eqb link.upper n (ap (λ (x : End). x.node) e ∙ f)) (eq-eqb link.upper_port p (ap (λ (x : End). x.port) e ∙ g)) upper
-not_end Slave n p link end e f g upper lower =
-    both_are (link.lower == n) (link.lower_port == p) (eq-eqb link.lower n (ap (λ (x : End). x.node) e ∙ f)) (eq-eqb link.lower_port p (ap (λ (x : End). x.port) e ∙ g)) lower
-
-some_place : (n p k : ℕ) (links : List LinkCfg) (i : ℕ) (link : LinkCfg) (r : Role) (end : End) → slice_get links i ≡ Some link → end_of r link ≡ end →
-    end.node ≡ n → end.port ≡ p → place_among n p k links ≡ None → ⊥
-some_place n p k [] i link r end e f g h none = none-some link e
-some_place n p k (l ∷ links) zero link r end e f g h none =
-    let no = found_none (is_upper_end n p l) (is_lower_end n p l) (record { link = k; role = Master }) (record { link = k; role = Slave }) (place_among n p (k + 1) links) none in
-    not_end r n p l end (ap (end_of r) (same_Some l link e) ∙ f) g h no.0 no.1
-some_place n p k (l ∷ links) (suc i) link r end e f g h none =
-    let no = found_none (is_upper_end n p l) (is_lower_end n p l) (record { link = k; role = Master }) (record { link = k; role = Slave }) (place_among n p (k + 1) links) none in
-    some_place n p (k + 1) links i link r end e f g h no.2
-
-found : (s : Setting) → IsNetwork s → (k : ℕ) (r : Role) (end : End) → end_at s k r ≡ Some end → (o : Option Place) → place_of s end.node end.port ≡ o →
-    o ≡ Some (record { link = k; role = r })
-found s net k r end e None f =
-    let x : LinkEnd s k r end = link_end s k r end e in
-    absurd (some_place end.node end.port 0 s.cfg.links.items k x.link r end x.there x.end_is refl refl f)
-found s net k r end e (Some place) f =
-    let x : LinkEnd s place.link place.role end = place_end s end.node end.port place f in
-    let there : end_at s place.link place.role ≡ Some end = ap (option_map (end_of place.role)) x.there ∙ ap Some x.end_is in
-    let one = are_apart s net place.link k place.role r end there e in
-    ap₂ (λ l q. Some (record { link = l; role = q })) one.0 one.1
-
--- an end of a link is found by its port
-pub end_found : (s : Setting) → IsNetwork s → (k : ℕ) (r : Role) (end : End) → end_at s k r ≡ Some end → place_of s end.node end.port ≡ Some (record { link = k; role = r })
-end_found s net k r end e = found s net k r end e (place_of s end.node end.port) refl
+-- The node of an end
 
 by_role : (n : ℕ) (r : Role) (link : LinkCfg) → (link.upper < n) × (link.lower < n) → (end_of r link).node < n
 by_role n Master link h = h.0

@@ -19,7 +19,8 @@ use Rattle.wrp_loop.specs.declared.routes.Route.{Route}
 use Rattle.wrp_loop.specs.Calls.{Adds, AreCutCalls, IsFrame, IsFrameCall, arrival_calls}
 use Rattle.wrp_loop.specs.Datagrams.{IsWayOf, Way, end_number, receiving_end, sending_end}
 use Rattle.wrp_loop.specs.Index.{Forgets, IsIndex, came_at}
-use Rattle.wrp_loop.specs.LoopRun.{Carried, FrameArrives, GivesNext, HandlesAll, LoopAt, On, Plan, event_limit, events_at, happened, with_event, world_at}
+use Rattle.wrp_loop.specs.LoopRun.{Carried, FrameArrives, GivesNext, HandlesAll, LoopAt, On, Plan, events_at, happened, with_event, world_at}
+use Rattle.wrp_scene.specs.EventLimit.{event_limit}
 use Rattle.wrp_loop.specs.LoopStands.{ArrivalCalls, ArrivalFails, Carries, CarriedOn, CutOff, CutOffBy, Exchanged, ExchangedBy, FitsCourse, Flies, HandledAll, Happens, HasNext, IsRouteOf, NextArrives, RoundCame, RoutesNext, SomeFlies, going, way_by}
 use Rattle.wrp_loop.proofs.Adding.{all_received}
 use Rattle.wrp_loop.proofs.Accepting.{IsStill, arriving, still_carrier}

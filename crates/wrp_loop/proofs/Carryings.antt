@@ -10,7 +10,8 @@ use Rattle.wrp_loop.specs.declared.network.LoopedNetwork.{LoopedNetwork}
 use Rattle.wrp_loop.specs.declared.routes.Route.{Route}
 use Rattle.wrp_loop.specs.Datagrams.{Way}
 use Rattle.wrp_loop.specs.Index.{Forgets, came_at}
-use Rattle.wrp_loop.specs.LoopRun.{LoopAt, Plan, event_limit, happened, with_event}
+use Rattle.wrp_loop.specs.LoopRun.{LoopAt, Plan, happened, with_event}
+use Rattle.wrp_scene.specs.EventLimit.{event_limit}
 use Rattle.wrp_loop.specs.LoopStands.{ArrivalFails, Carries, CarriedOn, CutOffBy, ExchangedBy, HandledAll, Happens, HasNext, IsArrivalOf, IsCarried, IsNext, NextArrives, RoundCame, RoutesNext, SomeFlies, way_by}
 use Rattle.wrp_loop.specs.SoFar.{RoundLacks}
 use Rattle.wrp_loop.proofs.Arrivals.{carried_on, carried_round, carried_start, failing_round, forgets_next, lacking_round, routes_next, some_flies}

@@ -9,7 +9,7 @@ use Rattle.wrp_sim.specs.declared.sim.state.State.{State}
 use Rattle.wrp_sim.specs.HandsOver.{HandsOver}
 use Rattle.wrp_sim.specs.Keeps.{EventsAreAccepted}
 use Rattle.wrp_sim.specs.Rules.{Next, rest_of}
-use Rattle.wrp_sim.specs.Scenario.{SceneAt}
+use Rattle.wrp_scene.specs.Scenario.{SceneAt}
 use Rattle.wrp_sim.specs.Sim.{FollowsRules, Gave, GaveNext, SimIs, put}
 use Rattle.wrp_sim.specs.SimAt.{SimAt}
 use Rattle.wrp_sim.specs.SimRun.{Gives, GivesEvent}
@@ -23,7 +23,8 @@ use Rattle.wrp_loop.specs.declared.outcome.LoopFault.TheVariants as faults
 use Rattle.wrp_loop.specs.Calls.{Adds}
 use Rattle.wrp_loop.specs.Index.{IsIndex}
 use Rattle.wrp_loop.specs.LoopEnds.{NextIsTooMany}
-use Rattle.wrp_loop.specs.LoopRun.{Dropped, GivesNext, IsCounted, IsPlain, LoopAt, Plain, Plan, event_limit, events_at, without_frame, world_at}
+use Rattle.wrp_loop.specs.LoopRun.{Dropped, GivesNext, IsCounted, IsPlain, LoopAt, Plain, Plan, events_at, without_frame, world_at}
+use Rattle.wrp_scene.specs.EventLimit.{event_limit}
 use Rattle.wrp_loop.specs.LoopStands.{CamePlain, CanHappen, FitsCourse, HasNext, IsArrivalOf, IsInLoop, IsNext, RoundCame, StandsAt}
 use Rattle.wrp_loop.specs.SoFar.{Arrivals, MovesOn, RoundLacks, RoundStays, Rounds, rounds_left}
 use Rattle.wrp_loop.proofs.Growing.{grows_none}

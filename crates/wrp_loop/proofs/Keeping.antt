@@ -15,7 +15,7 @@ use Rattle.wrp_course.specs.Setting.{end_at}
 use Rattle.wrp_course.specs.WorldAt.{FrameAt, has_carrier}
 use Rattle.std.proofs.lemmas.Option.{same_Some}
 use Rattle.wrp_sim.specs.Keeps.{EventsAreAccepted, IsDriven, MayBeBetween}
-use Rattle.wrp_sim.specs.Scenario.{IsSceneOf}
+use Rattle.wrp_scene.specs.Scenario.{IsSceneOf}
 use Rattle.wrp_sim.specs.SimAt.{SimAt}
 use Rattle.wrp_loop.specs.declared.fate.Fate.{Fate}
 use Rattle.wrp_loop.specs.declared.fate.Fate.TheVariants.{Handed, Forged, Noisy}

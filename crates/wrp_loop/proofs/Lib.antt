@@ -17,7 +17,7 @@ pub mod Keeping
 pub mod Lacking
 pub mod Leading
 pub mod Listing
-pub mod OneRule
+pub mod LoopSteps
 pub mod Receptions
 pub mod Saying
 pub mod Searching

@@ -28,7 +28,8 @@ use Rattle.wrp_loop.specs.declared.network.LoopedNetwork.{LoopedNetwork}
 use Rattle.wrp_loop.specs.declared.routes.Route.{Route}
 use Rattle.wrp_loop.specs.Datagrams.{IsOfPeer, IsSuch, Way, end_number, hands}
 use Rattle.wrp_loop.specs.Index.{HasArrived, IsIndex, came_at}
-use Rattle.wrp_loop.specs.LoopRun.{HasRoom, IsPlain, LoopAt, Plan, event_limit, events_at, happened, noise_stamp, with_between, with_event, world_at}
+use Rattle.wrp_loop.specs.LoopRun.{HasRoom, IsPlain, LoopAt, Plan, events_at, happened, noise_stamp, with_between, with_event, world_at}
+use Rattle.wrp_scene.specs.EventLimit.{event_limit}
 use Rattle.wrp_loop.specs.LoopStands.{CameOne, CamePlain, CanHappen, Carries, FitsCourse, Grows, Happens, HasLooped, HasNext, StandsAt, port_of_route}
 use Rattle.wrp_loop.proofs.Accepting.{IsStill, deliver_accepted, noise_accepted, noise_is_event, still_carrier}
 use Rattle.wrp_loop.proofs.Frames.{IsArrivalAt}

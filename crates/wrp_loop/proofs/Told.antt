@@ -26,9 +26,10 @@ use Rattle.wrp_loop.specs.LoopEnds.{IsOver, IsOverrun}
 use Rattle.wrp_loop.specs.LoopRun.{Carried, ComesBetween, Dropped, FollowsFate, FrameCarried, Full, GivesNext, Goes, Going, HandlesAll, IsCounted, IsPlain, IsRound, LoopAt, Loops, On, Plain, Plan, Round, events_at, happened, loop_start, noise_stamp, place, with_between, with_event, without_frame, world_at}
 use Rattle.wrp_loop.specs.LoopText.{loop_lines, marked_line, step_lines, steps_lines}
 use Rattle.wrp_loop.proofs.Choices.{choice_of, choice_same, one_chosen}
-use Rattle.wrp_loop.proofs.OneRule.{gives_one}
+use Rattle.wrp_sim.proofs.OneRule.{gives_one}
 use Rattle.wrp_loop.proofs.Receptions.{same_taken, tails}
-use Rattle.wrp_audit.proofs.OneWorld.{Alike, SameEvents, alike_after, answers_of, before_newest, steps_after}
+use Rattle.wrp_one_world_laws.specs.OneWorld.{Alike, SameEvents, answers_of}
+use Rattle.wrp_one_world_laws.proofs.OneWorld.{alike_after, before_newest, steps_after}
 
 -- What is told of events
 

@@ -6,7 +6,7 @@ use Rattle.wrp_course.specs.Run.{Happened, IsAnswered, world_after}
 use Rattle.wrp_course.specs.Runs.{IsNetwork, IsRun}
 use Rattle.wrp_course.specs.Setting.{Setting}
 use Rattle.wrp_sim.specs.Keeps.{IsDriven}
-use Rattle.wrp_sim.specs.Scenario.{IsSceneOf}
+use Rattle.wrp_scene.specs.Scenario.{IsSceneOf}
 use Rattle.wrp_loop.specs.declared.index.Came.{Came}
 use Rattle.wrp_loop.specs.Datagrams.{IsFrameOf, Way, sending_end}
 use Rattle.wrp_loop.specs.Index.{IsIndex, chosen, fits, has_number, no_choice, with_all}

@@ -3,7 +3,9 @@ pub mod Datagrams
 pub mod Index
 pub mod Laws
 pub mod LoopEnds
+pub mod LoopPasses
 pub mod LoopRun
 pub mod LoopStands
 pub mod LoopText
+pub mod Loops
 pub mod SoFar

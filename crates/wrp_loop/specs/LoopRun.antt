@@ -1,7 +1,7 @@
 -- Runs of a loop: the events and the forged datagrams that come of what a link told (this project's profile). The simulator gives
 -- events; its arrivals make calls of the link, and what the link then gives is handled. Events and turns are newest first, rounds
 -- and calls oldest first.
-use Rattle.std.specs.Prelude.{◌≡◌, ℕ, ℤ, ◌+◌, ◌*◌, ◌-◌, ◌^◌, ◌<◌, ◌≤◌, ◌⊎◌, List, [], ◌∷◌, ◌++◌, length, Some, Result}
+use Rattle.std.specs.Prelude.{◌≡◌, ℕ, ℤ, ◌+◌, ◌*◌, ◌-◌, ◌<◌, ◌≤◌, ◌⊎◌, List, [], ◌∷◌, ◌++◌, length, Some, Result}
 use Rattle.arrayvec.specs.ArrayVec.{ArrayVec}
 use Rattle.wrp_base.specs.declared.message.PtpMsg.{PtpMsg}
 use Rattle.wrp_base.specs.declared.time.Raw.{Raw}
@@ -15,7 +15,8 @@ use Rattle.wrp_course.specs.Run.{AllSaid, Happened, IsSaid, world_after}
 use Rattle.wrp_course.specs.Setting.{Setting}
 use Rattle.wrp_course.specs.WorldAt.{FrameAt, WorldAt}
 use Rattle.wrp_sim.specs.Keeps.{Between, Comes, LeftOut, Turn, events_of}
-use Rattle.wrp_sim.specs.Scenario.{SceneAt}
+use Rattle.wrp_scene.specs.EventLimit.{event_limit}
+use Rattle.wrp_scene.specs.Scenario.{SceneAt}
 use Rattle.wrp_sim.specs.SimAt.{SimAt, new_sim}
 use Rattle.wrp_sim.specs.SimRun.{GivesEvent}
 use Rattle.wrp_loop.specs.Calls.{arrival_calls, most_taken}
@@ -46,10 +47,6 @@ abbrev pub world_at : Plan → LoopAt → WorldAt
 world_at x l = world_after x.setting (events_at l)
 
 -- Numbers of events
-
--- the number that no event may reach; events are counted from 1
-abbrev pub event_limit : ℕ
-event_limit = 2 ^ 32 - 1
 
 -- the next event has a number that it may have, or it has not
 abbrev pub HasRoom : LoopAt → Type 0

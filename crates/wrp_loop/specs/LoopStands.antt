@@ -18,7 +18,7 @@ use Rattle.wrp_course.specs.Runs.{IsNetwork}
 use Rattle.wrp_course.specs.Setting.{Setting, end_at}
 use Rattle.wrp_course.specs.WorldAt.{FrameAt, WorldAt, has_carrier, is_on_fibre}
 use Rattle.wrp_sim.specs.Keeps.{IsDriven}
-use Rattle.wrp_sim.specs.Scenario.{IsSceneOf}
+use Rattle.wrp_scene.specs.Scenario.{IsSceneOf}
 use Rattle.wrp_sim.specs.Sim.{FitsSim, SimIs}
 use Rattle.wrp_sim.specs.SimAt.{SimAt}
 use Rattle.wrp_world.specs.StandsFor.{IsValid, StandsFor, WorldOf}
@@ -28,7 +28,8 @@ use Rattle.wrp_loop.specs.declared.routes.Route.{Route}
 use Rattle.wrp_loop.specs.Calls.{Adds, AreCutCalls, IsFrame, IsFrameCall, arrival_calls}
 use Rattle.wrp_loop.specs.Datagrams.{IsOfPeer, IsSuch, Way, end_number, receiving_end, sending_end}
 use Rattle.wrp_loop.specs.Index.{IsIndex}
-use Rattle.wrp_loop.specs.LoopRun.{ComesBetween, FrameArrives, GivesNext, Going, On, Full, Handles, HandlesAll, IsRound, LoopAt, Plan, PlainComes, Round, event_limit, events_at, happened, with_event, world_at}
+use Rattle.wrp_loop.specs.LoopRun.{ComesBetween, FrameArrives, GivesNext, Going, On, Full, Handles, HandlesAll, IsRound, LoopAt, Plan, PlainComes, Round, events_at, happened, with_event, world_at}
+use Rattle.wrp_scene.specs.EventLimit.{event_limit}
 use Rattle.wrp_loop.specs.LoopText.{loop_text, marked_line, step_lines}
 
 -- Events

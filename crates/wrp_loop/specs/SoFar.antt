@@ -6,7 +6,7 @@ use Rattle.wrp_io.specs.declared.link.LinkCall.{LinkCall}
 use Rattle.wrp_course.specs.declared.event.Event.{Event}
 use Rattle.wrp_course.specs.declared.event.Event.TheVariants.{Deliver}
 use Rattle.wrp_course.specs.WorldAt.{new_world}
-use Rattle.wrp_sim.specs.Scenario.{IsSceneOf}
+use Rattle.wrp_scene.specs.Scenario.{IsSceneOf}
 use Rattle.wrp_sim.specs.Sim.{SimIs}
 use Rattle.wrp_sim.specs.SimAt.{new_sim}
 use Rattle.wrp_sim.specs.SimRun.{Gives}

@@ -6,10 +6,11 @@ ghost use Rattle.wrp_loop.specs.LoopRun.{LoopAt, Plan, noise_stamp, world_at};
 ghost use Rattle.wrp_loop.specs.LoopStands.{CameOne, CanDeliver, CanLoop, CanSound, Carries, FitsCourse};
 ghost use Rattle.wrp_world.specs.Taking.{laws_of};
 
-use crate::network::{LAST_EVENT, LoopCourse, LoopedNetwork};
+use crate::network::{LoopCourse, LoopedNetwork};
 use crate::routes::Route;
 use std::alloc::{AllocError, Global};
 use wrp_base::{Frame, Raw};
+use wrp_scene::LAST_EVENT;
 use wrp_world::Event;
 
 /// A frame that has arrived is handed over, unless its event has too great a number. Answers whether the

@@ -19,6 +19,7 @@ mod outcome;
 mod plain;
 mod rounds;
 mod routes;
+mod running;
 
 pub use arrival::{Taken, exchange};
 pub use fate::Fate;
@@ -31,3 +32,4 @@ pub use looping::{start_loop, take_round};
 pub use network::{LoopCourse, LoopedNetwork};
 pub use outcome::{LoopFault, Rounded};
 pub use routes::{Route, route_of};
+pub use running::run_over;

@@ -3,7 +3,7 @@ ghost use Rattle.std.specs.Prelude.{◌≡◌, ◌+◌, ◌++◌, [], IfOk, OnOk
 ghost use Rattle.std.specs.List.{concat, flat_map};
 ghost use Rattle.wrp_base.specs.Network.{node_count};
 ghost use Rattle.wrp_config.specs.Accepted.{IsAccepted};
-ghost use Rattle.wrp_sim.specs.Scenario.{IsSceneOf};
+ghost use Rattle.wrp_scene.specs.Scenario.{IsSceneOf};
 ghost use Rattle.wrp_sim.specs.Sim.{FitsSim, SimIs};
 ghost use Rattle.wrp_sim.specs.SimAt.{new_sim};
 ghost use Rattle.wrp_plant.specs.Plant.{Each};
@@ -23,11 +23,9 @@ use std::alloc::{AllocError, Global};
 use wrp_config::Network;
 use wrp_course::accepted_is_unbroken;
 use wrp_law::DelayLaw;
-use wrp_sim::{Scene, Sim};
+use wrp_scene::Scene;
+use wrp_sim::Sim;
 use wrp_world::{Event, NodeOut, Refused, World};
-
-/// The greatest number of an event.
-pub const LAST_EVENT: u32 = u32::MAX - 1;
 
 /// A network that runs over a link: its world, and a place for the steps of an event.
 #[derive(Drop)]

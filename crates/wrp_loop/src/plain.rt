@@ -6,9 +6,10 @@ ghost use Rattle.wrp_loop.specs.LoopStands.{CamePlain, CanLoop, FitsCourse, HasN
 ghost use Rattle.wrp_loop.specs.SoFar.{Rounds};
 ghost use Rattle.wrp_world.specs.Taking.{laws_of};
 
-use crate::network::{LAST_EVENT, LoopCourse, LoopedNetwork};
+use crate::network::{LoopCourse, LoopedNetwork};
 use crate::outcome::{LoopFault, Rounded};
 use std::alloc::{AllocError, Global};
+use wrp_scene::LAST_EVENT;
 use wrp_sim::simulator_keeps_the_bounds;
 
 // It comes.

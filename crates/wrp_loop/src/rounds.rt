@@ -7,11 +7,12 @@ ghost use Rattle.wrp_loop.specs.SoFar.{IsComing, IsReady, MovesOn, Rounds, round
 ghost use Rattle.wrp_world.specs.Taking.{laws_of};
 
 use crate::carrying::carry;
-use crate::network::{LAST_EVENT, LoopCourse, LoopedNetwork};
+use crate::network::{LoopCourse, LoopedNetwork};
 use crate::outcome::{LoopFault, Rounded};
 use crate::plain::come_next;
 use std::alloc::Global;
 use wrp_io::Link;
+use wrp_scene::LAST_EVENT;
 use wrp_world::Event;
 
 /// What the simulator's next event is.

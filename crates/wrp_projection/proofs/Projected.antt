@@ -39,8 +39,8 @@ use Rattle.wrp_asked.specs.declared.command_line.Form.TheVariants as forms
 use Rattle.wrp_asked.specs.Tasks.{AsksFor, Audit, Emit, IsAuditing, IsEmission, IsReplay, Loop, Replay, Simulate, Task, meaning_at}
 use Rattle.wrp_audit.proofs.AuditSteps.{made_after}
 use Rattle.wrp_audit.proofs.BareAudit.{after_bare, bare_is, bare_setting}
-use Rattle.wrp_simulate.proofs.BareEvents.{line_bare}
-use Rattle.wrp_simulate.proofs.BareRuns.{counts_text, inputs_text, lines_text, run_bare}
+use Rattle.wrp_audit.proofs.BareEvents.{line_bare}
+use Rattle.wrp_audit.proofs.BareRuns.{counts_text, inputs_text, lines_text, run_bare}
 use Rattle.wrp_replay.proofs.BareSetting.{name_bare, named_bare, read_bare}
 use Rattle.wrp_asked.proofs.OneAnswer.{one_setting}
 use Rattle.wrp_audit.proofs.OneAudit.{read}

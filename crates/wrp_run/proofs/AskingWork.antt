@@ -10,7 +10,7 @@ use Rattle.wrp_config.specs.Reading.{IsReadingOf}
 use Rattle.wrp_config.specs.Same.{IsSameNetwork, bare_cfg}
 use Rattle.wrp_course.specs.Setting.{Setting}
 use Rattle.wrp_records.specs.LineMeaning.{LineMeaning}
-use Rattle.wrp_sim.specs.Scenario.{new_scene}
+use Rattle.wrp_scene.specs.Scenario.{new_scene}
 use Rattle.wrp_run.specs.declared.network.Work.{Work}
 use Rattle.wrp_run.specs.declared.network.Work.TheVariants as works
 use Rattle.wrp_asked.specs.declared.parse.Asked.{Asked}

@@ -13,7 +13,7 @@ ghost use Rattle.wrp_asked.specs.Answer.{Answer, IsCommand};
 ghost use Rattle.wrp_run.specs.Asked.{AsksSo};
 ghost use Rattle.wrp_asked.specs.EmitHeadline.{EmitHeadline};
 ghost use Rattle.wrp_asked.specs.Ends.{Ends, IsToldOf};
-ghost use Rattle.wrp_simulate.specs.LoopPasses.{IsUncalled};
+ghost use Rattle.wrp_loop.specs.LoopPasses.{IsUncalled};
 ghost use Rattle.wrp_asked.specs.Headline.{Headline};
 ghost use Rattle.wrp_asked.specs.LoopHeadline.{LoopHeadline};
 ghost use Rattle.wrp_asked.specs.PrintedTracks.{ReportsTrueOffsets, TracksAreWithinBounds};

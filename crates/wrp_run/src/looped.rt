@@ -11,7 +11,7 @@ ghost use Rattle.wrp_records.specs.Passages.{FailsBy, passage};
 ghost use Rattle.wrp_run.specs.Asked.{IsFront};
 ghost use Rattle.wrp_audit.specs.AuditStands.{setting_in};
 ghost use Rattle.wrp_asked.specs.Ends.{Ends, begun_at};
-ghost use Rattle.wrp_simulate.specs.LoopPasses.{IsUncalled, LoopPasses};
+ghost use Rattle.wrp_loop.specs.LoopPasses.{IsUncalled, LoopPasses};
 ghost use Rattle.wrp_asked.specs.Tasks.{IsLooping};
 ghost use Rattle.wrp_asked.specs.Words.{texts_of};
 
@@ -21,9 +21,9 @@ use wrp_audit::count_of;
 use wrp_config::Network;
 use wrp_io::{Link, Sink, Source};
 use wrp_law::DelayLaw;
+use wrp_loop::run_over;
 use wrp_records::{Reader, Status, refuse_network};
 use wrp_replay::{Replayed, asked, kept_if, law_above};
-use wrp_simulate::run_over;
 
 // Runs a network over a link by the records that a reader gives. The laws look into one network, and the
 // world has another that is the same. All of them are one closure, which is made here.

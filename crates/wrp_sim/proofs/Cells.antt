@@ -14,7 +14,7 @@ use Rattle.wrp_course.specs.Setting.{Setting, end_at}
 use Rattle.wrp_course.specs.WorldAt.{WorldAt, reading}
 use Rattle.wrp_sim.specs.Numbers.{is_within, raw_at}
 use Rattle.wrp_sim.specs.Rules.{first_entry, raw_by, raw_to}
-use Rattle.wrp_sim.specs.Scenario.{IsFree}
+use Rattle.wrp_scene.specs.Scenario.{IsFree}
 
 -- readings that a stamp can tell
 

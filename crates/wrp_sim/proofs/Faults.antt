@@ -4,7 +4,7 @@ use Rattle.std.specs.List.{AllByRecursion}
 use Rattle.wrp_base.proofs.Lists.{append_assoc}
 use Rattle.wrp_course.specs.Setting.{Setting}
 use Rattle.wrp_course.specs.WorldAt.{WorldAt}
-use Rattle.wrp_sim.specs.declared.scene.fault.Fault.{Fault}
+use Rattle.wrp_scene.specs.declared.scene.fault.Fault.{Fault}
 use Rattle.wrp_sim.specs.Rules.{applies, faults_left, has_come, next_fault}
 use Rattle.wrp_sim.proofs.SimLists.{drop_at, drop_removed, take_more, take_removed}
 

@@ -11,14 +11,14 @@ use Rattle.wrp_course.specs.Setting.{Setting, above, link_of, nodes_of}
 use Rattle.wrp_course.specs.WorldAt.{WorldAt, has_carrier}
 use Rattle.wrp_plant.specs.Plant.{Each}
 use Rattle.wrp_world.specs.StandsFor.{IsValid, WorldOf}
-use Rattle.wrp_sim.specs.declared.scene.fault.Fault.{Fault}
-use Rattle.wrp_sim.specs.declared.scene.fault.FaultKind.{FaultKind}
-use Rattle.wrp_sim.specs.declared.scene.fault.FaultKind.TheVariants as kind
+use Rattle.wrp_scene.specs.declared.scene.fault.Fault.{Fault}
+use Rattle.wrp_scene.specs.declared.scene.fault.FaultKind.{FaultKind}
+use Rattle.wrp_scene.specs.declared.scene.fault.FaultKind.TheVariants as kind
 use Rattle.wrp_sim.specs.declared.sim.state.Handed.{Handed}
 use Rattle.wrp_sim.specs.declared.sim.state.State.{State}
 use Rattle.wrp_sim.specs.HandsOver.{HandedOnce, HandsOver}
 use Rattle.wrp_sim.specs.Rules.{Next, after_arrival, arrives, arrives_by, begins, comes, delivers, departs, departs_now, fails, fault_of, first_of, is_over, moments, next_fault, next_moment, next_of, pass_of, passes, ports_of, raw_of, rest_of, samples, ticks, ticks_now}
-use Rattle.wrp_sim.specs.Scenario.{SceneAt}
+use Rattle.wrp_scene.specs.Scenario.{SceneAt}
 use Rattle.wrp_sim.specs.Sim.{FollowsRules, Gave, GaveNext, SimIs, StaysFit, FitsSim}
 use Rattle.wrp_sim.specs.SimAt.{SimAt}
 

@@ -15,7 +15,7 @@ use Rattle.wrp_course.specs.Setting.{Setting, node_setting_of, from_on, links_of
 use Rattle.wrp_course.specs.WorldAt.{WorldAt}
 use Rattle.wrp_sim.specs.Numbers.{drift_at, held_to}
 use Rattle.wrp_sim.specs.Rules.{clock_rate, drift_over}
-use Rattle.wrp_sim.specs.Scenario.{IsFree, IsSceneOf, SceneAt, free_of}
+use Rattle.wrp_scene.specs.Scenario.{IsFree, IsSceneOf, SceneAt, free_of}
 use Rattle.wrp_sim.proofs.KeepsDac.{dac_small}
 use Rattle.wrp_sim.proofs.KeepsNumbers.{drift_within, held_less, held_most}
 use Rattle.wrp_sim.proofs.KeepsChecks.{listed_at, not_more}

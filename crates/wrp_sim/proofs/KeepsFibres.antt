@@ -20,10 +20,10 @@ use Rattle.wrp_course.specs.Setting.{Setting, link_of, sends_nm}
 use Rattle.wrp_course.specs.WorldAt.{WorldAt, delay_from, first_name}
 use Rattle.wrp_plant.proofs.TriedModules.{module_has}
 use Rattle.wrp_sim.specs.Rules.{first_entry}
-use Rattle.wrp_sim.specs.Scenario.{IsSceneOf, IsSum, SceneAt, fibre_room, kappa_of, ms_of, sm_of, sum_of}
+use Rattle.wrp_scene.specs.Scenario.{IsSceneOf, IsSum, SceneAt, fibre_room, kappa_of, ms_of, sm_of, sum_of}
 use Rattle.wrp_sim.proofs.KeepsEntries.{module_small}
 use Rattle.wrp_sim.proofs.KeepsMoves.{FirstModules, SceneFibres}
-use Rattle.wrp_sim.proofs.KeepsNumbers.{IsSplit, split}
+use Rattle.wrp_scene.proofs.FibreSplit.{IsSplit, split}
 use Rattle.wrp_sim.proofs.KeepsChecks.{listed_at, not_more, not_over, nowhere, where_hold}
 
 -- Numbers of the modules that the file names

@@ -28,7 +28,7 @@ use Rattle.wrp_course.specs.WorldAt.{Arrival, FrameAt, Sending, WorldAt, has_car
 use Rattle.wrp_course.proofs.RunNetwork.{LinkEnd, link_end}
 use Rattle.wrp_sim.specs.Numbers.{drawn_stamp}
 use Rattle.wrp_sim.specs.Rules.{after_arrival, after_draw, arrives, arrives_by, comes, delivers, departs, departs_from, departs_now, first_entry, is_now, is_tellable, ports_of, raw_by, raw_of, raw_to, stamp_room, true_raw}
-use Rattle.wrp_sim.specs.Scenario.{SceneAt}
+use Rattle.wrp_scene.specs.Scenario.{SceneAt}
 use Rattle.wrp_sim.specs.SimAt.{SimAt}
 use Rattle.wrp_sim.proofs.KeepsChecks.{both_hold, not_more, not_over, stands_holds}
 use Rattle.wrp_sim.proofs.KeepsFibres.{Joined, joined_fits, transition_small}

@@ -27,7 +27,7 @@ use Rattle.wrp_course.specs.Setting.{Setting, from_on, link_of, nodes_of, of_nod
 use Rattle.wrp_course.specs.WorldAt.{FrameAt, WorldAt, ends_are_up, has_carrier}
 use Rattle.wrp_sim.specs.Draws.{drawn, drawn_from}
 use Rattle.wrp_sim.specs.Rules.{Next, drawn_tick}
-use Rattle.wrp_sim.specs.Scenario.{IsSceneOf, SceneAt}
+use Rattle.wrp_scene.specs.Scenario.{IsSceneOf, SceneAt}
 use Rattle.wrp_sim.specs.SimAt.{SimAt}
 use Rattle.wrp_sim.proofs.KeepsLit.{IsLit}
 use Rattle.wrp_sim.proofs.KeepsNumbers.{drawn_most}

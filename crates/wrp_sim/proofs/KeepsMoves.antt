@@ -32,7 +32,7 @@ use Rattle.wrp_course.specs.WorldAt.{Arrival, EndAt, FrameAt, Sending, WorldAt, 
 use Rattle.wrp_course.proofs.RunGifts.{AllGiven, all_if, comes_all, delivered_all, goes_all, ports_all, sent_all}
 use Rattle.wrp_course.proofs.RunTimes.{all_given_module, one_module, same_module}
 use Rattle.wrp_sim.specs.Rules.{first_entry}
-use Rattle.wrp_sim.specs.Scenario.{SceneAt, ms_of, sm_of}
+use Rattle.wrp_scene.specs.Scenario.{SceneAt, ms_of, sm_of}
 
 -- Clocks: which nodes are up, and when each ticked last
 

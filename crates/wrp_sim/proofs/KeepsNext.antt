@@ -14,7 +14,7 @@ use Rattle.wrp_course.specs.WorldAt.{WorldAt}
 use Rattle.wrp_sim.specs.declared.sim.state.State.{State}
 use Rattle.wrp_sim.specs.Keeps.{Comes, EventsAreAccepted, IsDriven, LeftOut, Silent, Turn, events_of}
 use Rattle.wrp_sim.specs.Rules.{Next, rest_of}
-use Rattle.wrp_sim.specs.Scenario.{IsSceneOf}
+use Rattle.wrp_scene.specs.Scenario.{IsSceneOf}
 use Rattle.wrp_sim.specs.Sim.{FitsSim, FollowsRules, Gave, GaveNext, StaysFit}
 use Rattle.wrp_sim.specs.SimAt.{SimAt}
 use Rattle.wrp_sim.specs.SimRun.{Gives, GivesEvent}

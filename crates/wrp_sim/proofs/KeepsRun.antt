@@ -17,7 +17,7 @@ use Rattle.wrp_course.specs.Views.{IsNextArrival}
 use Rattle.wrp_course.specs.WorldAt.{WorldAt}
 use Rattle.wrp_sim.specs.Keeps.{Between, Comes, EventsAreAccepted, IsDriven, LeftOut, MayBeBetween, Silent, SimRunsAreRuns, Turn, events_of}
 use Rattle.wrp_sim.specs.Rules.{Next, arrives, begins, delivers, departs, fails, first_of, later_rules, next_of, passes, rest_of, samples, ticks}
-use Rattle.wrp_sim.specs.Scenario.{IsSceneOf, SceneAt}
+use Rattle.wrp_scene.specs.Scenario.{IsSceneOf, SceneAt}
 use Rattle.wrp_sim.specs.SimAt.{SimAt}
 use Rattle.wrp_sim.specs.SimRun.{GivesEvent, IsSimRun}
 use Rattle.wrp_sim.proofs.KeepsFrames.{arrives_good, delivers_good, departs_good}

@@ -15,7 +15,7 @@ use Rattle.wrp_course.specs.WorldAt.{WorldAt, delay_from, has_carrier}
 use Rattle.wrp_sim.specs.Draws.{drawn, drawn_from}
 use Rattle.wrp_sim.specs.Numbers.{base_before, bits_behind, drawn_zeros}
 use Rattle.wrp_sim.specs.Rules.{after_draw, comes, delay_down, first_entry, sample_below, sample_of, samples, step_below}
-use Rattle.wrp_sim.specs.Scenario.{SceneAt, ms_of}
+use Rattle.wrp_scene.specs.Scenario.{SceneAt, ms_of}
 use Rattle.wrp_sim.specs.SimAt.{SimAt}
 use Rattle.wrp_sim.proofs.KeepsChecks.{beat_holds, both_hold, of_node_within, stands_holds, where_hold}
 use Rattle.wrp_sim.proofs.KeepsGood.{GoodIf, Moment, carried, good, if_good, then_good}

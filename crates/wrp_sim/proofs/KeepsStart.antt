@@ -22,17 +22,17 @@ use Rattle.wrp_course.specs.Moved.{moved}
 use Rattle.wrp_course.specs.Premises.{Accepts, fibre_kept}
 use Rattle.wrp_course.specs.Setting.{Setting, link_of, links_of}
 use Rattle.wrp_course.specs.WorldAt.{WorldAt}
-use Rattle.wrp_sim.specs.declared.scene.fault.Fault.{Fault}
-use Rattle.wrp_sim.specs.declared.scene.fault.FaultKind.{FaultKind}
-use Rattle.wrp_sim.specs.declared.scene.fault.FaultKind.TheVariants as kind
+use Rattle.wrp_scene.specs.declared.scene.fault.Fault.{Fault}
+use Rattle.wrp_scene.specs.declared.scene.fault.FaultKind.{FaultKind}
+use Rattle.wrp_scene.specs.declared.scene.fault.FaultKind.TheVariants as kind
 use Rattle.wrp_sim.specs.Rules.{applies, begins, comes, drawn_tick, fails, fault_of, faults_left, has_come, join_event, next_fault, one_begun, rest_of, up_event, wakes, with_tick}
-use Rattle.wrp_sim.specs.Scenario.{IsFault, IsFaultKind, IsOffset, SceneAt, fibre_room, ms_of, offset_of, sm_of}
+use Rattle.wrp_scene.specs.Scenario.{IsFault, IsFaultKind, IsOffset, SceneAt, fibre_room, ms_of, offset_of, sm_of}
 use Rattle.wrp_sim.specs.SimAt.{SimAt}
 use Rattle.wrp_sim.proofs.KeepsChecks.{both_hold, flat_hold, listed_at, stands_holds}
 use Rattle.wrp_sim.proofs.KeepsFibres.{fibre_holds, fibre_split}
 use Rattle.wrp_sim.proofs.KeepsGood.{GoodIf, Moment, below_told, found, good, if_good, not_below_told, then_good, tick_is_drawn, tick_where}
 use Rattle.wrp_sim.proofs.KeepsMoves.{moved_first, moved_scene}
-use Rattle.wrp_sim.proofs.KeepsNumbers.{IsSplit}
+use Rattle.wrp_scene.proofs.FibreSplit.{IsSplit}
 use Rattle.wrp_sim.proofs.KeepsState.{AllQuiet, HandsOver, Keeps, TicksAfter, step_hands}
 
 -- A link is joined

@@ -23,9 +23,9 @@ use Rattle.wrp_course.specs.Setting.{Setting, place_of}
 use Rattle.wrp_course.specs.WorldAt.{Arrival, FrameAt, Sending, WorldAt, has_carrier, new_world}
 use Rattle.wrp_course.proofs.RunSettled.{all_given_carrier, sampled_carrier}
 use Rattle.wrp_course.proofs.RunTimes.{all_given_time}
-use Rattle.wrp_sim.specs.declared.scene.fault.Fault.{Fault}
+use Rattle.wrp_scene.specs.declared.scene.fault.Fault.{Fault}
 use Rattle.wrp_sim.specs.Rules.{fault_time}
-use Rattle.wrp_sim.specs.Scenario.{IsFault, IsSceneOf, SceneAt}
+use Rattle.wrp_scene.specs.Scenario.{IsFault, IsSceneOf, SceneAt}
 use Rattle.wrp_sim.specs.SimAt.{SimAt, new_sim}
 use Rattle.wrp_sim.proofs.KeepsWaits.{still_joined}
 use Rattle.wrp_sim.proofs.KeepsMoves.{DepartsYoung, FirstModules, FrameKept, FramesYoung, MovesNoFibre, NoSwaps, SceneFibres, all_given_fibre, last_after, new_fibres, new_modules, new_young, step_fibre, step_last, step_modules, step_up, step_young, up_after}

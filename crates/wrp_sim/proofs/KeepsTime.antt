@@ -23,7 +23,7 @@ use Rattle.wrp_course.specs.Premises.{Accepts, fibre_kept, fibre_rate, rate_kept
 use Rattle.wrp_course.specs.Setting.{Setting, links_of, nodes_of}
 use Rattle.wrp_course.specs.WorldAt.{WorldAt}
 use Rattle.wrp_sim.specs.Rules.{comes, drawn_tick, drift_over, due_times, end_time, fault_time, is_over, moments, next_moment, pass_of, passes, sooner, tick_of, tick_times, ticks, ticks_now, with_tick}
-use Rattle.wrp_sim.specs.Scenario.{SceneAt}
+use Rattle.wrp_scene.specs.Scenario.{SceneAt}
 use Rattle.wrp_sim.specs.SimAt.{SimAt}
 use Rattle.wrp_sim.proofs.KeepsChecks.{all_mapped, both_hold, flat_hold, mapped_length, not_early, not_late, stands_holds}
 use Rattle.wrp_sim.proofs.KeepsDrifts.{drift_small, fibres_hold, rate_holds, still_fibres}

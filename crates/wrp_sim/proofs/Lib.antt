@@ -1,10 +1,8 @@
 pub mod Cells
 pub mod Ends
 pub mod Faults
-pub mod FibreDelays
 pub mod FirstPorts
 pub mod Handing
-pub mod KeepsBasics
 pub mod KeepsBeat
 pub mod KeepsChecks
 pub mod KeepsDac
@@ -29,8 +27,8 @@ pub mod KeepsWaits
 pub mod Leaving
 pub mod Moments
 pub mod Numbers
+pub mod OneRule
 pub mod RuleCases
-pub mod SceneLemmas
 pub mod Seen
 pub mod SimLists
 pub mod TickTimes

@@ -9,9 +9,9 @@ use Rattle.wrp_base.specs.declared.configuration.NetCfg.{NetCfg}
 use Rattle.wrp_course.specs.Setting.{Setting, from_on}
 use Rattle.wrp_course.specs.WorldAt.{WorldAt}
 use Rattle.wrp_world.proofs.AllTake.{all_at}
-use Rattle.wrp_sim.specs.declared.scene.fault.Fault.{Fault}
+use Rattle.wrp_scene.specs.declared.scene.fault.Fault.{Fault}
 use Rattle.wrp_sim.specs.Rules.{due_times, end_time, fault_time, moments, next_moment, sooner, tick_times}
-use Rattle.wrp_sim.specs.Scenario.{IsFault, SceneAt}
+use Rattle.wrp_scene.specs.Scenario.{IsFault, SceneAt}
 use Rattle.wrp_sim.specs.SimAt.{SimAt}
 use Rattle.wrp_sim.proofs.SimLists.{fold_append}
 

@@ -6,10 +6,10 @@ use Rattle.wrp_course.specs.declared.event.Event.TheVariants.{Arrive, Deliver, P
 use Rattle.wrp_course.specs.EventAt.{link_count}
 use Rattle.wrp_course.specs.Setting.{Setting, above, link_of, nodes_of}
 use Rattle.wrp_course.specs.WorldAt.{WorldAt, has_carrier}
-use Rattle.wrp_sim.specs.declared.scene.fault.Fault.{Fault}
-use Rattle.wrp_sim.specs.declared.scene.fault.FaultKind.{FaultKind}
+use Rattle.wrp_scene.specs.declared.scene.fault.Fault.{Fault}
+use Rattle.wrp_scene.specs.declared.scene.fault.FaultKind.{FaultKind}
 use Rattle.wrp_sim.specs.Rules.{Next, after_arrival, after_draw, arrives_by, begins, comes, delivers, is_over, join_event, moments, next_moment, one_begun, pass_of, passes, raw_of, sample_below, sample_of, samples, tick_of, ticks, ticks_now, wakes}
-use Rattle.wrp_sim.specs.Scenario.{SceneAt}
+use Rattle.wrp_scene.specs.Scenario.{SceneAt}
 use Rattle.wrp_sim.specs.SimAt.{SimAt}
 
 -- 1

@@ -10,7 +10,7 @@ use Rattle.wrp_course.specs.Run.{Happened, world_after}
 use Rattle.wrp_course.specs.Runs.{IsNetwork, IsRun}
 use Rattle.wrp_course.specs.Setting.{Setting}
 use Rattle.wrp_sim.specs.Rules.{rest_of}
-use Rattle.wrp_sim.specs.Scenario.{IsSceneOf, SceneAt}
+use Rattle.wrp_scene.specs.Scenario.{IsSceneOf, SceneAt}
 use Rattle.wrp_sim.specs.SimAt.{SimAt, new_sim}
 use Rattle.wrp_sim.specs.SimRun.{Gives, GivesEvent, IsSimRun}
 

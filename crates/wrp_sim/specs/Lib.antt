@@ -4,9 +4,6 @@ pub mod HandsOver
 pub mod Keeps
 pub mod Numbers
 pub mod Rules
-pub mod Scenario
-pub mod ScenarioKinds
-pub mod ScenarioLines
 pub mod Sim
 pub mod SimAt
 pub mod SimRun

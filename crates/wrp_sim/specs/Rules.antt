@@ -20,12 +20,12 @@ use Rattle.wrp_course.specs.Premises.{rate_of, transition_of}
 use Rattle.wrp_course.specs.Setting.{Setting, above, end_at, entry_at, node_setting_of, from_on, link_of, links_of, nodes_of, of_node, start_of}
 use Rattle.wrp_course.specs.Views.{waiting_of}
 use Rattle.wrp_course.specs.WorldAt.{WorldAt, first_name, has_carrier, reading}
-use Rattle.wrp_sim.specs.declared.scene.fault.Fault.{Fault}
-use Rattle.wrp_sim.specs.declared.scene.fault.FaultKind.{FaultKind}
-use Rattle.wrp_sim.specs.declared.scene.fault.FaultKind.TheVariants as kind
+use Rattle.wrp_scene.specs.declared.scene.fault.Fault.{Fault}
+use Rattle.wrp_scene.specs.declared.scene.fault.FaultKind.{FaultKind}
+use Rattle.wrp_scene.specs.declared.scene.fault.FaultKind.TheVariants as kind
 use Rattle.wrp_sim.specs.Draws.{drawn_from, next_state}
 use Rattle.wrp_sim.specs.Numbers.{base_before, bits_behind, drawn_stamp, drawn_zeros, drift_at, held_to, is_drawn, is_within, own_rate, raw_at, thousands}
-use Rattle.wrp_sim.specs.Scenario.{SceneAt, free_of, ms_of, offset_of, sm_of}
+use Rattle.wrp_scene.specs.Scenario.{SceneAt, free_of, ms_of, offset_of, sm_of}
 use Rattle.wrp_sim.specs.SimAt.{SimAt}
 
 -- the event that comes, and what has been drawn and done then

@@ -11,7 +11,7 @@ use Rattle.wrp_world.specs.StandsFor.{StandsFor, WorldOf}
 use Rattle.wrp_course.specs.WorldAt.{WorldAt, is_on_fibre}
 use Rattle.wrp_sim.specs.declared.sim.state.State.{State}
 use Rattle.wrp_sim.specs.Rules.{Next, rest_of}
-use Rattle.wrp_sim.specs.Scenario.{IsFault, IsSceneOf, SceneAt}
+use Rattle.wrp_scene.specs.Scenario.{IsFault, IsSceneOf, SceneAt}
 use Rattle.wrp_sim.specs.SimAt.{SimAt}
 use Rattle.wrp_sim.specs.SimRun.{Gives}
 

@@ -1,8 +1,8 @@
 -- What a simulator has drawn and done so far (this project's profile).
 use Rattle.std.specs.Prelude.{ℕ, ℤ, pos, List, Option, None}
-use Rattle.wrp_sim.specs.declared.scene.fault.Fault.{Fault}
+use Rattle.wrp_scene.specs.declared.scene.fault.Fault.{Fault}
 use Rattle.wrp_sim.specs.declared.sim.state.Handed.{Handed}
-use Rattle.wrp_sim.specs.Scenario.{SceneAt}
+use Rattle.wrp_scene.specs.Scenario.{SceneAt}
 
 pub record SimAt : Type 0 where
   -- the state of the generator

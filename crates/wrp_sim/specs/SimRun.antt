@@ -6,7 +6,7 @@ use Rattle.wrp_course.specs.Setting.{Setting}
 use Rattle.wrp_course.specs.Views.{IsNextArrival}
 use Rattle.wrp_course.specs.WorldAt.{WorldAt}
 use Rattle.wrp_sim.specs.Rules.{Next, next_of}
-use Rattle.wrp_sim.specs.Scenario.{SceneAt}
+use Rattle.wrp_scene.specs.Scenario.{SceneAt}
 use Rattle.wrp_sim.specs.SimAt.{SimAt, new_sim}
 
 -- in this world the rules give this, over the frame that is due first

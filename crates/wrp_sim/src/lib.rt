@@ -4,10 +4,9 @@
 
 mod draws;
 mod laws;
-mod scene;
 mod sim;
 
 pub use draws::known_numbers_are_drawn;
 pub use laws::simulator_keeps_the_bounds;
-pub use scene::{Fault, FaultKind, Scene, SceneKind};
 pub use sim::Sim;
+pub use wrp_scene::{Fault, FaultKind, Scene, SceneKind};

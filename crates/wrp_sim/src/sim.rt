@@ -2,7 +2,7 @@
 ghost use Rattle.std.specs.Prelude.{◌≡◌, IfOk, IfSome, length, pos, true};
 ghost use Rattle.wrp_base.specs.declared.configuration.NetCfg.{NetCfg};
 ghost use Rattle.wrp_sim.specs.HandsOver.{HandsOver};
-ghost use Rattle.wrp_sim.specs.Scenario.{IsSceneOf};
+ghost use Rattle.wrp_scene.specs.Scenario.{IsSceneOf};
 ghost use Rattle.wrp_sim.specs.Sim.{FitsSim, FollowsRules, SimIs, StaysFit, put};
 ghost use Rattle.wrp_sim.specs.SimAt.{new_sim};
 ghost use Rattle.wrp_sim.specs.TakesTurns.{TakesTurns};
@@ -22,11 +22,11 @@ mod ticking;
 
 use crate::draws::Draws;
 use crate::laws::simulator_keeps_the_bounds;
-use crate::scene::Scene;
 use state::{Handed, State};
 use std::alloc::{AllocError, Global};
 use std::marker::Model;
 use wrp_base::Tau;
+use wrp_scene::Scene;
 use wrp_world::{Event, World};
 
 /// A simulator of a network: it makes the events of a world, one after the other, from a scenario and

@@ -3,24 +3,22 @@ use Rattle.std.proofs.Common.{◌≡◌, ◌∙◌, refl, ap, ℕ, pos, Bool, if
 use Rattle.std.specs.Prelude.{is_none}
 use Rattle.wrp_base.specs.declared.configuration.NetCfg.{NetCfg}
 use Rattle.wrp_base.specs.declared.fault.TraceFault.{TraceFault}
-use Rattle.wrp_base.specs.declared.network.LinkCfg.{LinkCfg}
 use Rattle.wrp_base.specs.Lines.{parts_of}
 use Rattle.wrp_base.specs.Network.{link_above}
-use Rattle.wrp_caldb.specs.Name.{same_name}
 use Rattle.wrp_config.proofs.Bare.{above_bare}
-use Rattle.wrp_config.proofs.Lists.{position-map}
 use Rattle.wrp_config.specs.Config.{bare_link, bare_node}
 use Rattle.wrp_config.specs.Same.{bare_cfg}
-use Rattle.wrp_names.specs.Fields.{link_at, node_at}
+use Rattle.wrp_names.specs.Fields.{node_at}
 use Rattle.wrp_fields.specs.Reading.{field_of, name_or_fault, ◌>>=◌}
-use Rattle.wrp_sim.specs.declared.scene.fault.FaultKind.{FaultKind}
-use Rattle.wrp_sim.specs.declared.scene.fault.FaultKind.TheVariants as faults
-use Rattle.wrp_sim.specs.declared.scene.kinds.SceneKind.{SceneKind}
-use Rattle.wrp_sim.specs.declared.scene.kinds.SceneKind.TheVariants as kinds
-use Rattle.wrp_sim.specs.Scenario.{SceneAt, new_scene}
-use Rattle.wrp_sim.specs.ScenarioKinds.{kind_of}
-use Rattle.wrp_sim.specs.ScenarioLines.{below, counted_of, fault_at, fault_kind, line_of_kind, link_fault, lower_at, node_fault, scene_of, scene_read}
-use Rattle.wrp_replay.proofs.BareSetting.{bind_same, named_bare, none_over}
+use Rattle.wrp_scene.specs.declared.scene.fault.FaultKind.{FaultKind}
+use Rattle.wrp_scene.specs.declared.scene.fault.FaultKind.TheVariants as faults
+use Rattle.wrp_scene.specs.declared.scene.kinds.SceneKind.{SceneKind}
+use Rattle.wrp_scene.specs.declared.scene.kinds.SceneKind.TheVariants as kinds
+use Rattle.wrp_scene.specs.Scenario.{SceneAt, new_scene}
+use Rattle.wrp_scene.specs.ScenarioKinds.{kind_of}
+use Rattle.wrp_scene.specs.ScenarioLines.{below, counted_of, fault_at, fault_kind, line_of_kind, link_fault, lower_at, node_fault, scene_of, scene_read}
+use Rattle.wrp_replay.proofs.BareSetting.{bind_same, none_over}
+use Rattle.wrp_audit.proofs.BareEvents.{link_read, node_read}
 
 -- A new scenario
 
@@ -36,13 +34,6 @@ new_scene_bare cfg = λ i. record (new_scene cfg) {
 }
 
 -- Names
-
-pub node_read : (cfg : NetCfg) (place : ℕ) (fields : List (List ℕ)) → node_at (bare_cfg cfg) place fields ≡ node_at cfg place fields
-node_read cfg place fields = ap (name_or_fault place) (named_bare cfg (field_of place fields))
-
-pub link_read : (cfg : NetCfg) (place : ℕ) (fields : List (List ℕ)) → link_at (bare_cfg cfg) place fields ≡ link_at cfg place fields
-link_read cfg place fields =
-    ap (name_or_fault place) (position-map (λ (link : LinkCfg). same_name link.name.bytes (field_of place fields)) bare_link cfg.links.items)
 
 below_bare : (cfg : NetCfg) (place node : ℕ) → below (bare_cfg cfg) place node ≡ below cfg place node
 below_bare cfg place node =

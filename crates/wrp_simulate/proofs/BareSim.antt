@@ -15,11 +15,11 @@ use Rattle.wrp_config.specs.Same.{bare_cfg}
 use Rattle.wrp_lines.specs.Lines.{output_line_of, sum_line_of}
 use Rattle.wrp_node.specs.NodeAt.{dac_of, state_of}
 use Rattle.wrp_phase.specs.BeatPattern.{true_step}
-use Rattle.wrp_sim.specs.declared.scene.fault.FaultKind.{FaultKind}
-use Rattle.wrp_sim.specs.declared.scene.fault.FaultKind.TheVariants as kind
+use Rattle.wrp_scene.specs.declared.scene.fault.FaultKind.{FaultKind}
+use Rattle.wrp_scene.specs.declared.scene.fault.FaultKind.TheVariants as kind
 use Rattle.wrp_sim.specs.Numbers.{base_before, bits_behind, drawn_stamp, drawn_zeros, drift_at, held_to, own_rate, thousands}
 use Rattle.wrp_sim.specs.Rules.{Next, after_arrival, after_draw, arrives, begins, comes, delay_down, delivers, departs, due_times, end_time, fails, fault_of, fault_time, first_entry, first_of, is_now, is_over, is_tellable, join_event, next_fault, next_moment, next_of, one_begun, passes, raw_to, rest_of, sample_below, sample_of, samples, tick_of, ticks, ticks_now, true_raw, up_event, with_tick}
-use Rattle.wrp_sim.specs.Scenario.{SceneAt, delta_ms, delta_sm, free_of, kappa_of, new_scene, sum_of}
+use Rattle.wrp_scene.specs.Scenario.{SceneAt, delta_ms, delta_sm, free_of, kappa_of, new_scene, sum_of}
 use Rattle.wrp_sim.specs.SimAt.{SimAt}
 use Rattle.wrp_sim.specs.SimRun.{Gives, IsSimRun}
 use Rattle.wrp_course.specs.declared.event.Event.TheVariants.{Pass, Sample, Depart, Arrive, Join}
@@ -36,10 +36,11 @@ use Rattle.wrp_records.specs.declared.status.Status.{Status}
 use Rattle.wrp_records.specs.declared.status.Status.TheVariants.{TooLarge, OutOfMemory}
 use Rattle.wrp_records.specs.RecordsAnswer.{RecordsAnswer}
 use Rattle.wrp_simulate.specs.SimText.{count_of, is_printed, node_sum, offsets_in, printed_lines, sim_lines, sum_lines, tracked, worst_of}
-use Rattle.wrp_simulate.specs.Simulates.{Changes, IsScenario, SimBreaks, SimCloses, SimRefuses, Simulates, simulation_of}
+use Rattle.wrp_scene_records.specs.Scenarios.{Changes, IsScenario, SimRefuses}
+use Rattle.wrp_simulate.specs.Simulates.{SimBreaks, SimCloses, Simulates, simulation_of}
 use Rattle.wrp_records.specs.Stream.{large_line}
 use Rattle.wrp_audit.proofs.BareAudit.{aboves_bare, after_bare, bare_setting, carriers_bare, ends_bare, entries_bare, link_bare, names_bare, nodes_bare, number_bare, places_bare, rates_bare, steps_at_bare}
-use Rattle.wrp_simulate.proofs.BareRuns.{answered_bare, due_so}
+use Rattle.wrp_audit.proofs.BareRuns.{answered_bare, due_so}
 use Rattle.wrp_simulate.proofs.BareScene.{scene_bare, new_scene_bare}
 use Rattle.wrp_replay.proofs.BareSetting.{name_bare, path_bare}
 
@@ -185,13 +186,13 @@ run_bare scene s seed [] at p = p
 run_bare scene s seed (h ∷ before) at p =
     (p.0, run_bare scene s seed before p.0 p.1, gives_after scene s before p.0 (Some (record { event = h.event; at = at })) p.2)
 
-changes_bare : (s : Setting) (scene : SceneAt) (lines : List (List ℕ)) (last : SceneAt) → Changes s scene lines last → Changes (bare_setting s) scene lines last
+changes_bare : (s : Setting) (scene : SceneAt) (lines : List (List ℕ)) (last : SceneAt) → Changes s.cfg scene lines last → Changes (bare_cfg s.cfg) scene lines last
 changes_bare s scene [] last p = p
 changes_bare s scene (line ∷ lines) last p = (p.0, scene_bare s.cfg scene line ∙ p.1, changes_bare s p.0 lines last p.2)
 
 pub said_bare : (s : Setting) (lines : List (List ℕ)) (scene : SceneAt) → IsScenario s lines scene → IsScenario (bare_setting s) lines scene
 said_bare s lines scene p =
-    subst (λ (first : SceneAt). Changes (bare_setting s) first lines scene) (sym (new_scene_bare s.cfg)) (changes_bare s (new_scene s.cfg) lines scene p)
+    subst (λ (first : SceneAt). Changes (bare_cfg s.cfg) first lines scene) (sym (new_scene_bare s.cfg)) (changes_bare s (new_scene s.cfg) lines scene p)
 
 simulates_bare : (s : Setting) (seed : ℕ) (lines : List (List ℕ)) → Simulates s seed lines → Simulates (bare_setting s) seed lines
 simulates_bare s seed lines p = record {

@@ -1,13 +1,9 @@
-pub mod BareEvents
-pub mod BareLoop
-pub mod BareRuns
 pub mod BareScene
 pub mod BareSim
-pub mod LoopSteps
+pub mod Counting
 pub mod MadeFit
 pub mod NewSim
 pub mod OneSim
-pub mod SceneLines
 pub mod ScenesFit
 pub mod SimLines
 pub mod SimSteps

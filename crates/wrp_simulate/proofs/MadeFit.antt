@@ -11,12 +11,12 @@ use Rattle.wrp_base.specs.Network.{node_count}
 use Rattle.wrp_base.proofs.Lists.{all_append}
 use Rattle.wrp_base.proofs.Naturals.{below_word}
 use Rattle.wrp_frame.specs.declared.fault.FrameFault.{FrameFault}
-use Rattle.wrp_sim.specs.declared.scene.fault.Fault.{Fault}
-use Rattle.wrp_sim.specs.declared.scene.fault.FaultKind.{FaultKind}
-use Rattle.wrp_sim.specs.declared.scene.fault.FaultKind.TheVariants as kind
+use Rattle.wrp_scene.specs.declared.scene.fault.Fault.{Fault}
+use Rattle.wrp_scene.specs.declared.scene.fault.FaultKind.{FaultKind}
+use Rattle.wrp_scene.specs.declared.scene.fault.FaultKind.TheVariants as kind
 use Rattle.wrp_sim.specs.Numbers.{bits_behind}
 use Rattle.wrp_sim.specs.Rules.{Next, after_arrival, after_draw, arrives, arrives_by, begins, comes, delivers, departs, departs_from, departs_now, fails, fault_of, first_of, is_over, join_event, moments, next_fault, next_moment, next_of, one_begun, pass_of, passes, ports_of, raw_of, rest_of, rules, sample_below, sample_of, samples, tick_of, ticks, ticks_now, up_event, wakes, with_tick}
-use Rattle.wrp_sim.specs.Scenario.{SceneAt}
+use Rattle.wrp_scene.specs.Scenario.{SceneAt}
 use Rattle.wrp_sim.specs.SimAt.{SimAt}
 use Rattle.wrp_sim.specs.SimRun.{GivesEvent, IsSimRun}
 use Rattle.wrp_truth.specs.Chains.{AllFit}

@@ -1,21 +1,19 @@
 -- A network that is simulated: before its first event, and behind each that it took.
 use Rattle.std.proofs.Common.{◌≡◌, ◌∙◌, ap, sym, subst, ℤ, List, Option, map}
-use Rattle.wrp_base.specs.Network.{IsTree, node_count}
+use Rattle.wrp_base.specs.Network.{node_count}
 use Rattle.wrp_config.specs.declared.network.Network.{Network}
 use Rattle.wrp_law.specs.Law.{LawOf}
 use Rattle.wrp_node.specs.Control.{law_in}
 use Rattle.wrp_node.specs.StandsFor.{NodeOf}
 use Rattle.wrp_world.specs.HasLaws.{HasLaws}
-use Rattle.wrp_world.specs.New.{setting_of}
-use Rattle.wrp_world.specs.StandsFor.{IsValid, StandsFor, WorldOf}
-use Rattle.wrp_course.specs.WorldAt.{new_world}
+use Rattle.wrp_world.specs.StandsFor.{IsValid}
 use Rattle.wrp_simulate.specs.declared.simulation.SimulatedNetwork.{SimulatedNetwork}
 use Rattle.wrp_audit.specs.AuditStands.{HasLawOf, setting_in}
 use Rattle.wrp_audit.specs.LawsFit.{LawsFit}
 use Rattle.wrp_audit.specs.Bounds.{AreBounds}
 use Rattle.wrp_simulate.specs.SimStands.{CanRun}
 use Rattle.wrp_audit.proofs.AuditSteps.{laws_stay}
-use Rattle.wrp_audit.proofs.NewAudit.{laws_are, setting_is}
+use Rattle.wrp_audit.proofs.NewAudit.{laws_are}
 
 pub new_runs : {F : Type 0} {pre : F → ℤ → Type 0} {post : F → ℤ → ℤ → Type 0} (net : Network) (laws : List (Option (LawOf F))) (network : SimulatedNetwork F) → LawsFit pre post net laws → IsValid pre post network.world → HasLaws laws network.world
     → network.world.plant.net ≡ net → AreBounds net.cfg network.bounds.items → CanRun pre post network
@@ -25,11 +23,6 @@ new_runs {pre = pre} {post = post} net laws network fit valid has is bounds = re
       (laws_are {pre = pre} {post = post} net laws network.world fit has (valid.node_count ∙ ap (λ (k : Network). node_count k.cfg) is));
   bounds = subst (λ (k : Network). AreBounds k.cfg network.bounds.items) (sym is) bounds;
 }
-
-pub new_stands : {F : Type 0} {pre : F → ℤ → Type 0} {post : F → ℤ → ℤ → Type 0} (net : Network) (laws : List (Option (LawOf F))) (world : WorldOf F) → LawsFit pre post net laws → IsTree net.cfg
-    → StandsFor post (setting_of net.cfg net.db laws) (new_world (setting_of net.cfg net.db laws)) world → StandsFor post (setting_in net) (new_world (setting_in net)) world
-new_stands {pre = pre} {post = post} net laws world fit tree stands =
-    subst (λ s. StandsFor post s (new_world s) world) (setting_is {pre = pre} {post = post} net laws fit tree) stands
 
 -- behind an event it can take another
 pub run_stays : {F : Type 0} {pre : F → ℤ → Type 0} {post : F → ℤ → ℤ → Type 0} (held now : SimulatedNetwork F) → CanRun pre post held → IsValid pre post now.world → now.world.plant.net ≡ held.world.plant.net

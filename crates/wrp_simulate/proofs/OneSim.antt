@@ -1,32 +1,31 @@
 -- A scenario and a seed are one run of a network: the same events come, and the same is written.
-use Rattle.std.proofs.Common.{◌≡◌, ◌∙◌, refl, ap, ap₂, sym, subst, ℕ, ℤ, ◌+◌, ◌<◌, ◌≤◌, Bool, true, false, None, Some, Result, Ok, Err, List, [], ◌∷◌, ◌++◌, length, flat_map, arith}
+use Rattle.std.proofs.Common.{◌≡◌, ◌∙◌, refl, ap, ap₂, sym, subst, ℕ, ℤ, ◌+◌, ◌<◌, ◌≤◌, Bool, true, false, None, Some, List, [], ◌∷◌, ◌++◌, length, flat_map, arith}
 use Rattle.std.proofs.lemmas.Bool.Decides.{nat_tests}
 use Rattle.std.specs.Prelude.{nat_lt}
 use Rattle.std.proofs.lemmas.Option.{none-some, same_Some}
-use Rattle.wrp_base.specs.declared.fault.TraceFault.{TraceFault}
 use Rattle.wrp_lines.specs.Lines.{sum_line}
 use Rattle.wrp_servo.specs.Told.{ToldLast}
-use Rattle.wrp_sim.specs.Rules.{Next, comes, ticks}
-use Rattle.wrp_sim.specs.Scenario.{SceneAt, new_scene}
-use Rattle.wrp_sim.specs.ScenarioLines.{scene_read}
+use Rattle.wrp_sim.specs.Rules.{Next, comes}
+use Rattle.wrp_scene.specs.Scenario.{SceneAt, new_scene}
 use Rattle.wrp_sim.specs.SimAt.{SimAt}
 use Rattle.wrp_sim.specs.SimRun.{Gives, GivesEvent, IsSimRun}
 use Rattle.wrp_course.specs.Given.{NodeStepAt}
 use Rattle.wrp_course.specs.Run.{AllSaid, Happened, IsAnswered, steps_at, world_after}
 use Rattle.wrp_course.specs.Setting.{Setting, node_setting_of, nodes_of}
 use Rattle.wrp_course.specs.WorldAt.{WorldAt}
-use Rattle.wrp_records.specs.declared.machine.Refusal.{Refusal}
 use Rattle.wrp_records.specs.declared.machine.Refusal.TheVariants as refusals
 use Rattle.wrp_records.specs.declared.status.Status.{Status}
 use Rattle.wrp_records.specs.declared.status.Status.TheVariants.{Done, TooLarge}
 use Rattle.wrp_audit.specs.Audited.{answers_in}
-use Rattle.wrp_records.specs.Refusals.{bad_trace_line}
+use Rattle.wrp_scene_records.proofs.OneScenario.{never_refused, one_refused, scenes_one}
 use Rattle.wrp_simulate.specs.SimText.{count_of, node_sum, offsets_in, printed_lines, sim_lines, sum_by, sum_lines, tracked, worst_of}
-use Rattle.wrp_simulate.specs.Simulates.{Changes, IsOver, IsSimulated, Overruns, SimAccepts, SimRefuses, Simulates, simulation_of}
+use Rattle.wrp_simulate.specs.Simulates.{IsOver, IsSimulated, Overruns, Simulates, simulation_of}
 use Rattle.wrp_records.specs.Stream.{large_line}
 use Rattle.wrp_replay.proofs.BareSetting.{flat_map_same}
-use Rattle.wrp_audit.proofs.OneWorld.{Alike, SameEvents, alike_after, before_newest, laws_in, state_same, steps_after}
-use Rattle.wrp_loop.proofs.OneRule.{gives_one}
+use Rattle.wrp_one_world_laws.specs.OneWorld.{Alike, SameEvents}
+use Rattle.wrp_one_world_laws.proofs.OneWorld.{alike_after, before_newest, state_same, steps_after}
+use Rattle.wrp_audit.specs.Audited.{laws_in}
+use Rattle.wrp_sim.proofs.OneRule.{gives_one}
 use Rattle.wrp_records.proofs.Unique.{EndsWith, IsExact}
 
 -- Runs
@@ -149,49 +148,6 @@ same_size m n p q = go (nat_lt m n) (nat_lt n m) refl refl
         let other : m ≤ n = grind (arith, nat_tests, also) in
         omega (arith, one, other)
 
--- Scenarios
-
-ok_scene : (a b : SceneAt) → (read : Result SceneAt TraceFault) → read ≡ Ok a → read ≡ Ok b → a ≡ b
-ok_scene a b read p q = let both : Ok a ≡ Ok b = sym p ∙ q in cc
-
-pub scenes_one : (s : Setting) (scene : SceneAt) (lines : List (List ℕ)) (a b : SceneAt) → Changes s scene lines a → Changes s scene lines b → a ≡ b
-scenes_one s scene [] a b p q = p ∙ sym q
-scenes_one s scene (line ∷ lines) a b p q =
-    let same : p.0 ≡ q.0 = ok_scene p.0 q.0 (scene_read s.cfg scene line) p.1 q.1 in
-    scenes_one s p.0 lines a b p.2 (subst (λ (n : SceneAt). Changes s n lines b) (sym same) q.2)
-
--- what the lines in front say, and what the rest changes
-pub parted : (s : Setting) (scene : SceneAt) (front back : List (List ℕ)) (last : SceneAt) → Changes s scene (front ++ back) last → (mid : SceneAt) × Changes s scene front mid × Changes s mid back last
-parted s scene [] back last p = (scene, refl, p)
-parted s scene (line ∷ front) back last p =
-    let rest = parted s p.0 front back last p.2 in
-    (rest.0, (p.0, p.1, rest.1), rest.2)
-
-pub joined : (s : Setting) (scene : SceneAt) (front back : List (List ℕ)) (mid last : SceneAt) → Changes s scene front mid → Changes s mid back last → Changes s scene (front ++ back) last
-joined s scene [] back mid last p q = subst (λ (n : SceneAt). Changes s n back last) p q
-joined s scene (line ∷ front) back mid last p q = (p.0, p.1, joined s p.0 front back mid last p.2 q)
-
-err_ok : (fault : TraceFault) (scene : SceneAt) → Err fault ≡ Ok scene → ⊥
-err_ok fault scene e = cc
-
-pub never_refused : (s : Setting) (before behind : List (List ℕ)) (line text last : List ℕ) (refusal : Refusal) → SimAccepts s (before ++ line ∷ behind) text → SimRefuses s before line refusal last → ⊥
-never_refused s before behind line text last refusals.BadTrace p q =
-    let parts = parted s (new_scene s.cfg) before (line ∷ behind) p.0 p.1 in
-    let same : parts.0 ≡ q.0 = scenes_one s (new_scene s.cfg) before parts.0 q.0 parts.1 q.1 in
-    err_ok q.2 parts.2.0 (sym q.3 ∙ ap (λ (n : SceneAt). scene_read s.cfg n line) (sym same) ∙ parts.2.1)
-never_refused s before behind line text last refusals.Broken p q = q
-
-one_fault : (a b : TraceFault) (read : Result SceneAt TraceFault) → read ≡ Err a → read ≡ Err b → a ≡ b
-one_fault a b read p q = let both : Err a ≡ Err b = sym p ∙ q in cc
-
-pub one_refused : (s : Setting) (before : List (List ℕ)) (line t u : List ℕ) (a b : Refusal) → SimRefuses s before line a t → SimRefuses s before line b u → (a ≡ b) × (t ≡ u)
-one_refused s before line t u refusals.BadTrace refusals.BadTrace p q =
-    let scene : p.0 ≡ q.0 = scenes_one s (new_scene s.cfg) before p.0 q.0 p.1 q.1 in
-    let fault : p.2 ≡ q.2 = one_fault p.2 q.2 (scene_read s.cfg q.0 line) (ap (λ (n : SceneAt). scene_read s.cfg n line) (sym scene) ∙ p.3) q.3 in
-    (refl, p.4 ∙ ap (bad_trace_line (length before + 1)) fault ∙ sym q.4)
-one_refused s before line t u refusals.BadTrace refusals.Broken p q = absurd q
-one_refused s before line t u refusals.Broken b p q = absurd p
-
 -- Ends
 
 told_of : (s : Setting) (scene : SceneAt) (seed : ℕ) (events : List Happened) (at : SimAt) → IsSimulated s scene seed events at → Told s events
@@ -200,7 +156,7 @@ told_of s scene seed events at h = record { said = h.said; answered = h.answered
 -- a run of one scenario as a run of another that is the same
 moved_run : (s : Setting) (seed : ℕ) (lines : List (List ℕ)) (p q : Simulates s seed lines) → IsSimRun p.scene s seed q.events q.at
 moved_run s seed lines p q =
-    subst (λ (n : SceneAt). IsSimRun n s seed q.events q.at) (scenes_one s (new_scene s.cfg) lines q.scene p.scene q.said p.said) q.simulated.run
+    subst (λ (n : SceneAt). IsSimRun n s seed q.events q.at) (scenes_one s.cfg (new_scene s.cfg) lines q.scene p.scene q.said p.said) q.simulated.run
 
 told_at : (s : Setting) (seed : ℕ) (lines : List (List ℕ)) (p : Simulates s seed lines) → Told s p.events
 told_at s seed lines p = told_of s p.scene seed p.events p.at p.simulated
@@ -238,7 +194,7 @@ not_both_ends last s seed lines p q over run = go (nat_lt (length p.events) (len
         let most = p.simulated.count in
         let number = run.number in
         let both : Both s seed lines p q = both_of last s seed lines p q (omega (arith, least, most, number)) in
-        let scene : q.scene ≡ p.scene = scenes_one s (new_scene s.cfg) lines q.scene p.scene q.said p.said in
+        let scene : q.scene ≡ p.scene = scenes_one s.cfg (new_scene s.cfg) lines q.scene p.scene q.said p.said in
         none-some run.next
         (gives_one p.scene s (world_after s p.events) (world_after s q.events) p.at None (Some run.next) both.alike over
         (subst (λ (o : SimAt). Gives p.scene s (world_after s q.events) o (Some run.next)) (sym both.at)

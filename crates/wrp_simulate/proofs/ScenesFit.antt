@@ -11,19 +11,19 @@ use Rattle.wrp_caldb.specs.Name.{same_name}
 use Rattle.wrp_names.specs.Fields.{link_at, node_at}
 use Rattle.wrp_fields.specs.Numbers.{number_in}
 use Rattle.wrp_fields.specs.Reading.{◌>>=◌, field_of, is_plain}
-use Rattle.wrp_sim.specs.declared.scene.fault.Fault.{Fault}
-use Rattle.wrp_sim.specs.declared.scene.fault.FaultKind.{FaultKind}
-use Rattle.wrp_sim.specs.declared.scene.fault.FaultKind.TheVariants.{Down, Up, Cut, Join}
-use Rattle.wrp_sim.specs.declared.scene.kinds.SceneKind.{SceneKind}
-use Rattle.wrp_sim.specs.declared.scene.kinds.SceneKind.TheVariants as kinds
-use Rattle.wrp_sim.specs.Scenario.{IsFault, IsFaultKind, IsFree, IsOffset, IsSceneOf, IsSum, SceneAt, fibre_room, new_scene, off_of_ns, tau_of_ms}
-use Rattle.wrp_sim.specs.ScenarioKinds.{field_count, kind_of}
-use Rattle.wrp_sim.specs.ScenarioLines.{below, counted_of, fault_at, fault_kind, fault_line, fibre_line, free_line, length_line, line_of_kind, link_fault, loss_line, lower_at, node_fault, ns_at, offset_line, permille_at, rate_at, repeat_line, scene_of, scene_read, sum_at, time_at, with_fault}
-use Rattle.wrp_sim.proofs.SceneLemmas as scenes
+use Rattle.wrp_scene.specs.declared.scene.fault.Fault.{Fault}
+use Rattle.wrp_scene.specs.declared.scene.fault.FaultKind.{FaultKind}
+use Rattle.wrp_scene.specs.declared.scene.fault.FaultKind.TheVariants.{Down, Up, Cut, Join}
+use Rattle.wrp_scene.specs.declared.scene.kinds.SceneKind.{SceneKind}
+use Rattle.wrp_scene.specs.declared.scene.kinds.SceneKind.TheVariants as kinds
+use Rattle.wrp_scene.specs.Scenario.{IsFault, IsFaultKind, IsFree, IsOffset, IsSceneOf, IsSum, SceneAt, fibre_room, new_scene, off_of_ns, tau_of_ms}
+use Rattle.wrp_scene.specs.ScenarioKinds.{field_count, kind_of}
+use Rattle.wrp_scene.specs.ScenarioLines.{below, counted_of, fault_at, fault_kind, fault_line, fibre_line, free_line, length_line, line_of_kind, link_fault, loss_line, lower_at, node_fault, ns_at, offset_line, permille_at, rate_at, repeat_line, scene_of, scene_read, sum_at, time_at, with_fault}
+use Rattle.wrp_scene.proofs.SceneLemmas as scenes
 use Rattle.wrp_course.specs.EventAt.{link_count}
 use Rattle.wrp_course.specs.Setting.{Setting}
 use Rattle.wrp_trace.proofs.EventsFit.{found, link_there, node_there, number_in_range, number_read}
-use Rattle.wrp_simulate.specs.Simulates.{Changes, IsScenario}
+use Rattle.wrp_scene_records.specs.Scenarios.{Changes, IsScenario}
 use Rattle.wrp_audit.proofs.FieldsRead.{both, none_if, ok_same, read_if}
 
 -- Fields
@@ -153,10 +153,10 @@ line_fits cfg scene next line is e =
 
 -- Scenarios
 
-changes_fit : (s : Setting) (scene last : SceneAt) (lines : List (List ℕ)) → IsSceneOf s.cfg scene → Changes s scene lines last → IsSceneOf s.cfg last
-changes_fit s scene last [] is same = subst (IsSceneOf s.cfg) (sym same) is
-changes_fit s scene last (line ∷ lines) is c = changes_fit s c.0 last lines (line_fits s.cfg scene c.0 line is c.1) c.2
+changes_fit : (cfg : NetCfg) (scene last : SceneAt) (lines : List (List ℕ)) → IsSceneOf cfg scene → Changes cfg scene lines last → IsSceneOf cfg last
+changes_fit cfg scene last [] is same = subst (IsSceneOf cfg) (sym same) is
+changes_fit cfg scene last (line ∷ lines) is c = changes_fit cfg c.0 last lines (line_fits cfg scene c.0 line is c.1) c.2
 
 -- a scenario that lines say is one of its network
 pub scenario_fits : (s : Setting) (lines : List (List ℕ)) (scene : SceneAt) → IsScenario s lines scene → IsSceneOf s.cfg scene
-scenario_fits s lines scene said = changes_fit s (new_scene s.cfg) scene lines (scenes.new_is_scene s.cfg) said
+scenario_fits s lines scene said = changes_fit s.cfg (new_scene s.cfg) scene lines (scenes.new_is_scene s.cfg) said

@@ -13,7 +13,7 @@ use Rattle.wrp_frame.specs.declared.fault.FrameFault.TheVariants.{Short}
 use Rattle.wrp_sim.specs.declared.sim.state.State.{State}
 use Rattle.wrp_sim.specs.Keeps.{SimRunsAreRuns}
 use Rattle.wrp_sim.specs.Rules.{Next, rest_of}
-use Rattle.wrp_sim.specs.Scenario.{IsSceneOf, SceneAt}
+use Rattle.wrp_scene.specs.Scenario.{IsSceneOf, SceneAt}
 use Rattle.wrp_sim.specs.Sim.{FitsSim, FollowsRules, Gave, GaveNext, SimIs, put}
 use Rattle.wrp_sim.specs.SimAt.{SimAt, new_sim}
 use Rattle.wrp_sim.specs.SimRun.{Gives, IsSimRun}
@@ -36,15 +36,16 @@ use Rattle.wrp_records.specs.LineMeaning.{LineMeaning}
 use Rattle.wrp_records.specs.LinesAfter.{Closed}
 use Rattle.wrp_audit.specs.Audited.{answers_in}
 use Rattle.wrp_audit.specs.AuditStands.{setting_in}
-use Rattle.wrp_records.specs.Engine.{Finishes}
-use Rattle.wrp_simulate.specs.SimStands.{AreTotals, Begins, CanRun, ClosesLarge, ClosesRun, FitsCourse, HasRun, Running, RunsOn}
+use Rattle.wrp_simulate.specs.SimStands.{AreTotals, Begins, CanRun, ClosesRun, FitsCourse, HasRun, Running, RunsOn}
+use Rattle.wrp_scene_records.specs.ScenarioStands.{ClosesLarge}
 use Rattle.wrp_simulate.specs.SimText.{offsets_in, printed_lines, sum_lines, tracked}
-use Rattle.wrp_loop.specs.LoopRun.{event_limit}
-use Rattle.wrp_simulate.specs.Simulates.{IsScenario, simulation_of}
+use Rattle.wrp_scene.specs.EventLimit.{event_limit}
+use Rattle.wrp_scene_records.specs.Scenarios.{IsScenario}
+use Rattle.wrp_simulate.specs.Simulates.{simulation_of}
 use Rattle.wrp_records.specs.Stream.{large_line}
 use Rattle.wrp_records.specs.Taking.{AppendsPart}
 use Rattle.wrp_audit.proofs.AuditSteps.{answered, made_after}
-use Rattle.wrp_records.proofs.Reaching.{take_two}
+use Rattle.wrp_scene_records.proofs.Finishing.{finishes_after}
 
 -- The event that comes
 
@@ -230,12 +231,6 @@ writes_on seed s scene network course before mid now waiting left so_far (inr al
 
 -- Ends
 
--- a text that is written behind another
-pub finishes_behind : (due given : Status) (before mid now : Option (List ℕ)) (written text : List ℕ) → Appends before mid written → Finishes due given mid now text → Finishes due given before now (written ++ text)
-finishes_behind due given before mid now written text wrote (inl all) = inl (all.0, Appends-trans before mid now written text wrote all.1)
-finishes_behind due given before mid now written text wrote (inr part) =
-    inr (part.0, (length written + part.1.0, subst (Appends before now) (take_two written text part.1.0) (Appends-trans before mid now written (take part.1.0 text) wrote part.1.1)))
-
 -- what closes the lines that say more closes those that say less
 pub closed_by : (L : LineMeaning) (T U : List (List ℕ) → Type 0) (status : Status) (before now : Option (List ℕ)) → ((lines : List (List ℕ)) → T lines → U lines) → Closed U L status before now → Closed T L status before now
 closed_by L T U status before now means (inl memory) = inl memory
@@ -258,7 +253,7 @@ unwritten seed s scene network course before mid now waiting r part = inr (
   OutOfMemory,
   r.written ++ waiting,
   λ lines said. (record { scene = scene; said = said; events = r.events; at = r.at; simulated = r.run.simulated }, sym r.lines),
-  finishes_behind OutOfMemory WriteFault before mid now r.written waiting r.wrote (inr (refl, part)),
+  finishes_after OutOfMemory WriteFault before mid now r.written waiting r.wrote (inr (refl, part)),
 )
 
 -- where no event comes any more the lines that sum up stand too
@@ -277,7 +272,7 @@ over_closed seed s scene network course before mid now waiting status r over (in
     over,
     sym (append_assoc r.written waiting (sum_lines s r.events)) ∙ ap (λ (l : List ℕ). l ++ sum_lines s r.events) (sym r.lines),
   ),
-  finishes_behind Done status before mid now r.written (waiting ++ sum_lines s r.events) r.wrote ends,
+  finishes_after Done status before mid now r.written (waiting ++ sum_lines s r.events) r.wrote ends,
 )
 
 -- where an event has too great a number the line that names it does
@@ -297,7 +292,7 @@ large_closed seed s scene network course before mid now waiting status r comes g
     sym (append_assoc r.written waiting (large_line event_limit))
         ∙ ap₂ (λ (l : List ℕ) (n : ℕ). l ++ large_line n) (sym r.lines) (sym number),
   ),
-  finishes_behind TooLarge status before mid now r.written (waiting ++ large_line event_limit) r.wrote ends,
+  finishes_after TooLarge status before mid now r.written (waiting ++ large_line event_limit) r.wrote ends,
 )
 
 -- before the first event there is no memory

@@ -1,5 +1,4 @@
-pub mod LoopPasses
-pub mod Loops
+pub mod Laws
 pub mod SimStands
 pub mod SimText
 pub mod Simulates

@@ -3,11 +3,11 @@
 use Rattle.std.specs.Prelude.{◌≡◌, ◌<◌, ◌+◌, ◌⊎◌, ℕ, ℤ, if◌then◌else◌, None, Some, Option, List, [], ◌∷◌, ◌++◌, length}
 use Rattle.std.specs.Io.KnownBytes.{Appends}
 use Rattle.std.specs.List.{flat_map}
-use Rattle.wrp_base.specs.Network.{HasRanges, node_count}
+use Rattle.wrp_base.specs.Network.{node_count}
 use Rattle.wrp_lines.specs.Lines.{output_line_of}
 use Rattle.wrp_node.specs.declared.interface.Output.{Output}
 use Rattle.wrp_sim.specs.Rules.{Next}
-use Rattle.wrp_sim.specs.Scenario.{IsSceneOf, SceneAt}
+use Rattle.wrp_scene.specs.Scenario.{SceneAt}
 use Rattle.wrp_sim.specs.Sim.{FitsSim, SimIs}
 use Rattle.wrp_sim.specs.SimAt.{SimAt}
 use Rattle.wrp_sim.specs.SimRun.{Gives}
@@ -16,32 +16,21 @@ use Rattle.wrp_course.specs.Run.{Happened, steps_at, world_after}
 use Rattle.wrp_course.specs.Setting.{Setting, nodes_of}
 use Rattle.wrp_world.specs.StandsFor.{IsValid, StandsFor}
 use Rattle.wrp_course.specs.WorldAt.{WorldAt}
+use Rattle.wrp_records.specs.declared.machine.Refusal.TheVariants as refusal
+use Rattle.wrp_records.specs.declared.machine.Taken.TheVariants as taken
 use Rattle.wrp_audit.specs.Bounds.{AreBounds}
-use Rattle.wrp_simulate.specs.declared.scenario.ScenarioLines.{ScenarioLines}
 use Rattle.wrp_simulate.specs.declared.simulating.Stepped.{Stepped}
 use Rattle.wrp_simulate.specs.declared.simulating.Stepped.TheVariants as stepped
 use Rattle.wrp_simulate.specs.declared.simulation.Course.{Course}
 use Rattle.wrp_simulate.specs.declared.simulation.SimulatedNetwork.{SimulatedNetwork}
 use Rattle.wrp_simulate.specs.declared.totals.Total.{Total}
 use Rattle.wrp_records.specs.declared.status.Status.{Status}
-use Rattle.wrp_records.specs.declared.status.Status.TheVariants.{Done, TooLarge, OutOfMemory}
+use Rattle.wrp_records.specs.declared.status.Status.TheVariants.{Done, OutOfMemory}
 use Rattle.wrp_audit.specs.AuditStands.{HasLawOf, setting_in}
 use Rattle.wrp_records.specs.Engine.{Finishes}
-use Rattle.wrp_loop.specs.LoopRun.{event_limit}
-use Rattle.wrp_simulate.specs.Simulates.{IsScenario, IsSimulated}
+use Rattle.wrp_scene.specs.EventLimit.{event_limit}
+use Rattle.wrp_simulate.specs.Simulates.{IsSimulated}
 use Rattle.wrp_simulate.specs.SimText.{count_of, is_printed, printed_lines, sim_lines, sum_by, tracked, worst_of}
-use Rattle.wrp_records.specs.Stream.{large_line}
-
--- The lines of a scenario
-
--- it can take a line: its scenario is one of its network
-pub record CanRead (held : ScenarioLines) : Type 0 where
-  pub ranges : HasRanges held.net.now.cfg
-  pub scene : IsSceneOf held.net.now.cfg held.scene
-
--- it holds the scenario that the lines say
-abbrev pub SaysScenario : ScenarioLines → List (List ℕ) → Type 0
-SaysScenario held lines = IsScenario (setting_in held.net.now) lines held.scene
 
 -- The run
 
@@ -137,12 +126,6 @@ abbrev pub ClosesRun : Setting → WorldAt → (ℕ → List ℤ) → Status →
     → List ℕ → Type 0
 ClosesRun s w offs status before now waiting =
     ((status ≡ OutOfMemory) × (now ≡ before)) ⊎ Finishes Done status before now (waiting ++ sums_by s w offs)
-
--- the same of the line that names an event whose number is too great
-abbrev pub ClosesLarge : Status → Option (List ℕ) → Option (List ℕ) → List ℕ → Type 0
-ClosesLarge status before now waiting =
-    ((status ≡ OutOfMemory) × (now ≡ before))
-    ⊎ Finishes TooLarge status before now (waiting ++ large_line event_limit)
 
 -- a run has come so far: the lines of its first events are written, and the rest of its lines waits
 pub record Running {F : Type 0} (post : F → ℤ → ℤ → Type 0) (seed : ℕ) (s : Setting) (scene : SceneAt)

@@ -1,36 +1,20 @@
--- What the record lines of a simulation mean: the scenario that they say, and behind them what the network
+-- What the record lines of a simulation mean: the scenario that they say, and after them what the network
 -- writes as it runs by it from a seed (this project's profile).
-use Rattle.std.specs.Prelude.{◌≡◌, ℕ, ◌+◌, ◌<◌, None, Some, Ok, Err, List, [], ◌∷◌, ◌++◌, length}
-use Rattle.wrp_base.specs.declared.fault.TraceFault.{TraceFault}
+use Rattle.std.specs.Prelude.{◌≡◌, ℕ, ◌+◌, ◌<◌, None, Some, List, ◌++◌, length}
 use Rattle.wrp_sim.specs.Rules.{Next}
-use Rattle.wrp_sim.specs.Scenario.{SceneAt, new_scene}
-use Rattle.wrp_sim.specs.ScenarioLines.{scene_read}
+use Rattle.wrp_scene.specs.Scenario.{SceneAt}
 use Rattle.wrp_sim.specs.SimAt.{SimAt}
 use Rattle.wrp_sim.specs.SimRun.{Gives, IsSimRun}
 use Rattle.wrp_course.specs.Run.{AllSaid, Happened, IsAnswered, world_after}
 use Rattle.wrp_course.specs.Setting.{Setting}
-use Rattle.wrp_loop.specs.LoopRun.{event_limit}
-use Rattle.wrp_records.specs.declared.machine.Refusal.{Refusal}
-use Rattle.wrp_records.specs.declared.machine.Refusal.TheVariants.{BadTrace, Broken}
+use Rattle.wrp_scene.specs.EventLimit.{event_limit}
 use Rattle.wrp_records.specs.declared.status.Status.{Status}
 use Rattle.wrp_records.specs.declared.status.Status.TheVariants.{TooLarge, OutOfMemory}
 use Rattle.wrp_audit.specs.Audited.{answers_in}
-use Rattle.wrp_records.specs.LineMeaning.{LineMeaning, bars_none, meaning_by}
-use Rattle.wrp_records.specs.Refusals.{bad_trace_line}
+use Rattle.wrp_records.specs.LineMeaning.{LineMeaning}
+use Rattle.wrp_scene_records.specs.Scenarios.{IsScenario, SimAccepts, SimRefuses}
 use Rattle.wrp_simulate.specs.SimText.{sim_lines, sum_lines}
 use Rattle.wrp_records.specs.Stream.{large_line}
-
--- Scenarios
-
--- each line changes the scenario by what it says, from this one on, and this one comes of it
-abbrev pub Changes : Setting → SceneAt → List (List ℕ) → SceneAt → Type 0
-Changes s scene [] last = last ≡ scene
-Changes s scene (line ∷ lines) last =
-    (next : SceneAt) × (scene_read s.cfg scene line ≡ Ok next) × Changes s next lines last
-
--- the lines are those of a scenario, which is this
-abbrev pub IsScenario : Setting → List (List ℕ) → SceneAt → Type 0
-IsScenario s lines scene = Changes s (new_scene s.cfg) lines scene
 
 -- Runs
 
@@ -64,17 +48,6 @@ pub record Overruns (s : Setting) (seed : ℕ) (lines : List (List ℕ)) (run : 
 
 -- What the lines mean
 
--- the lines are those of a scenario; nothing is written yet
-abbrev pub SimAccepts : Setting → List (List ℕ) → List ℕ → Type 0
-SimAccepts s lines text = (scene : SceneAt) × IsScenario s lines scene × (text ≡ [])
-
--- behind those of a scenario a line is none; no premise can be broken
-abbrev pub SimRefuses : Setting → List (List ℕ) → List ℕ → Refusal → List ℕ → Type 0
-SimRefuses s lines line BadTrace last =
-    (scene : SceneAt) × IsScenario s lines scene × (fault : TraceFault)
-    × (scene_read s.cfg scene line ≡ Err fault) × (last ≡ bad_trace_line (length lines + 1) fault)
-SimRefuses s lines line Broken last = ⊥
-
 -- at the end the network runs to the scenario's end: the lines of all events are written, and then those
 -- that sum up
 abbrev pub SimCloses : Setting → ℕ → List (List ℕ) → List ℕ → Type 0
@@ -100,8 +73,3 @@ simulation_of s seed = record {
   closes = SimCloses s seed;
   breaks_off = SimBreaks s seed;
 }
-
--- what they mean where the network runs over a link: a scenario. What is written behind it is told by the calls of the
--- link too (Loops.antt).
-abbrev pub scenario_of : Setting → LineMeaning
-scenario_of s = meaning_by (SimAccepts s) (SimRefuses s) bars_none bars_none

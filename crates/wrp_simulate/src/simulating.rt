@@ -3,7 +3,7 @@ ghost use Rattle.std.specs.Prelude.{◌≡◌, ◌⊎◌, ◌+◌, ◌++◌, [],
 ghost use Rattle.std.specs.Io.KnownBytes.{Appends, Consumes, IsAtEnd};
 ghost use Rattle.wrp_config.specs.Accepted.{IsAccepted};
 ghost use Rattle.wrp_io.specs.Faults.{Rose};
-ghost use Rattle.wrp_sim.specs.Scenario.{IsSceneOf, SceneAt};
+ghost use Rattle.wrp_scene.specs.Scenario.{IsSceneOf, SceneAt};
 ghost use Rattle.wrp_sim.specs.SimAt.{SimAt};
 ghost use Rattle.wrp_course.specs.Run.{Happened};
 ghost use Rattle.wrp_course.specs.Setting.{Setting};
@@ -15,25 +15,25 @@ ghost use Rattle.wrp_records.specs.LinesAfter.{Closed};
 ghost use Rattle.wrp_records.specs.Passages.{Passes, passage};
 ghost use Rattle.wrp_audit.specs.AuditStands.{setting_in};
 ghost use Rattle.wrp_audit.specs.LawsFit.{LawsFit};
-ghost use Rattle.wrp_simulate.specs.SimStands.{AreTotals, Begins, CanRun, ClosesLarge, ClosesRun, FitsCourse, HasRun, IsInRun, Steps};
-ghost use Rattle.wrp_simulate.specs.Simulates.{IsScenario, simulation_of};
+ghost use Rattle.wrp_simulate.specs.SimStands.{AreTotals, Begins, CanRun, ClosesRun, FitsCourse, HasRun, IsInRun, Steps};
+ghost use Rattle.wrp_scene_records.specs.ScenarioStands.{ClosesLarge};
+ghost use Rattle.wrp_scene_records.specs.Scenarios.{IsScenario};
+ghost use Rattle.wrp_simulate.specs.Simulates.{simulation_of};
 ghost use Rattle.wrp_records.specs.Taking.{AppendsPart};
 
-use crate::scenario::ScenarioLines;
 use crate::simulation::{Course, SimulatedNetwork};
 use crate::totals::add_tracks;
 use std::alloc::{AllocError, Global};
 use wrp_config::Network;
 use wrp_io::{Sink, Source};
 use wrp_law::DelayLaw;
-use wrp_records::{Reader, Status, answer, append_large, handle_records, write_all};
-use wrp_sim::{Scene, simulator_keeps_the_bounds};
+use wrp_records::{Reader, Status, answer, handle_records};
+use wrp_scene::{LAST_EVENT, Scene};
+use wrp_scene_records::{ScenarioLines, overrun, write_waiting};
+use wrp_sim::simulator_keeps_the_bounds;
 
 // From how many octets on those that wait are written, behind an event.
 const PIECE: usize = 65_536;
-
-// The greatest number of an event.
-const LAST_EVENT: u32 = u32::MAX - 1;
 
 /// What became of a step of a run.
 #[derive(Clone, Copy)]
@@ -92,11 +92,7 @@ fn flush<K: Sink>(sink: &mut K, text: &mut Vec<u8>) -> bool
     if text.len() < PIECE {
         return true;
     }
-    if !write_all(sink, text) {
-        return false;
-    }
-    text.clear();
-    true
+    write_waiting(sink, text)
 }
 
 // Writes what waits, and the lines that sum up.
@@ -117,19 +113,6 @@ fn close<F: Fn(i64) -> i64, K: Sink>(
 {
     match network.append_sums(&course.totals, text) {
         Ok(()) => answer(sink, Status::Done, text),
-        Err(_) => Status::OutOfMemory,
-    }
-}
-
-/// Writes what waits, and the line that names the event whose number is too great.
-pub fn overrun<K: Sink>(alloc: Global, text: &mut Vec<u8>, sink: &mut K) -> Status
-    ensures closes { ClosesLarge result (K.held sink.old) (K.held sink.new) text.old.items }
-    ensures rose { result ≡ Status.WriteFault → Rose (K.faults sink.old) (K.faults sink.new) }
-    ensures kept { (result ≡ Status.WriteFault → ⊥) → K.faults sink.new ≡ K.faults sink.old }
-    ensures never { result ≡ Status.ReadFault → ⊥ }
-{
-    match append_large(alloc, text, u64::from(u32::MAX)) {
-        Ok(()) => answer(sink, Status::TooLarge, text),
         Err(_) => Status::OutOfMemory,
     }
 }

@@ -4,7 +4,7 @@ ghost use Rattle.std.specs.List.{flat_map};
 ghost use Rattle.wrp_base.specs.Network.{node_count};
 ghost use Rattle.wrp_bounds.specs.Bounds.{path_of};
 ghost use Rattle.wrp_config.specs.Accepted.{IsAccepted};
-ghost use Rattle.wrp_sim.specs.Scenario.{IsSceneOf};
+ghost use Rattle.wrp_scene.specs.Scenario.{IsSceneOf};
 ghost use Rattle.wrp_sim.specs.Sim.{FitsSim, SimIs};
 ghost use Rattle.wrp_sim.specs.SimAt.{new_sim};
 ghost use Rattle.wrp_course.specs.Setting.{Setting};
@@ -27,7 +27,8 @@ use wrp_config::Network;
 use wrp_law::DelayLaw;
 use wrp_lines::{Sum, append_line, append_sum_line};
 use wrp_node::Output;
-use wrp_sim::{Scene, Sim};
+use wrp_scene::Scene;
+use wrp_sim::Sim;
 use wrp_world::{Event, NodeOut, World};
 
 /// A network that is simulated: its world, the bounds of its nodes in TRACK, and a place for the steps of

@@ -4,7 +4,7 @@ ghost use Rattle.std.specs.List as list;
 ghost use Rattle.std.specs.List.{AllByRecursion};
 ghost use Rattle.wrp_base.specs.declared.configuration.NetCfg.{NetCfg};
 ghost use Rattle.wrp_sim.specs.Rules as rule;
-ghost use Rattle.wrp_sim.specs.Scenario.{IsFault, IsFaultKind};
+ghost use Rattle.wrp_scene.specs.Scenario.{IsFault, IsFaultKind};
 ghost use Rattle.wrp_sim.specs.Sim.{FitsSim, Follows, Gave, SimIs, StaysFit, put};
 ghost use Rattle.wrp_sim.specs.SimAt.{SimAt};
 ghost use Rattle.wrp_course.specs.Setting.{Setting};
@@ -13,8 +13,8 @@ ghost use Rattle.wrp_course.specs.WorldAt.{WorldAt};
 
 use super::pure::is_by;
 use super::state::State;
-use crate::scene::{Fault, FaultKind};
 use wrp_base::sum;
+use wrp_scene::{Fault, FaultKind};
 use wrp_world::{Event, World, start_of};
 
 // Whether a fault applies: what it does has not been done yet.

@@ -3,7 +3,7 @@ ghost use Rattle.std.specs.Prelude.{◌≡◌, ◌<◌, ◌≤◌, ◌++◌, ◌
 ghost use Rattle.std.specs.List.{AllByRecursion};
 ghost use Rattle.wrp_sim.specs.Numbers.{drift_at};
 ghost use Rattle.wrp_sim.specs.Rules as rule;
-ghost use Rattle.wrp_sim.specs.Scenario.{IsFree, free_of};
+ghost use Rattle.wrp_scene.specs.Scenario.{IsFree, free_of};
 ghost use Rattle.wrp_sim.specs.Sim.{FitsSim, Follows, HasDrifts, IsPassOf, SimIs, StaysFit, as_is, put};
 ghost use Rattle.wrp_sim.specs.SimAt.{SimAt};
 ghost use Rattle.wrp_course.specs.Setting.{Setting, from_on, nodes_of};

@@ -1,7 +1,7 @@
 //! What a simulator holds.
 use crate::draws::Draws;
-use crate::scene::{Fault, Scene};
 use wrp_base::Tau;
+use wrp_scene::{Fault, Scene};
 
 /// The frame that arrived last.
 #[derive(Clone, Copy)]

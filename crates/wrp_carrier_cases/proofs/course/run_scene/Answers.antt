@@ -1,6 +1,6 @@
 -- The simulator is one of the network that its scenario is of.
 use Rattle.std.proofs.Common.{subst}
-use Rattle.wrp_sim.specs.Scenario.{IsSceneOf}
+use Rattle.wrp_scene.specs.Scenario.{IsSceneOf}
 use Rattle.wrp_carrier_cases.proofs.course.run_scene.Goals as goal
 
 -- src/course.rt:135:5

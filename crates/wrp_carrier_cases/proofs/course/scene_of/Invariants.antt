@@ -1,5 +1,5 @@
 -- The scenario stays one of the network.
-use Rattle.wrp_sim.specs.Scenario.{IsSceneOf}
+use Rattle.wrp_scene.specs.Scenario.{IsSceneOf}
 use Rattle.wrp_carrier_cases.proofs.course.scene_of.Given as goal
 
 abbrev pub invariant-loop-line : goal.invariant-loop-line

@@ -10,7 +10,7 @@ use Rattle.wrp_plant.proofs.EachLists.{each_none, each_push, length_push}
 use Rattle.wrp_audit.specs.AuditStands.{setting_in}
 use Rattle.wrp_audit.specs.LawsFit.{IsMade}
 use Rattle.wrp_audit.proofs.LawsMade.{fits_all, made_next}
-use Rattle.wrp_simulate.proofs.LoopSteps.{passes_none}
+use Rattle.wrp_loop.proofs.LoopSteps.{passes_none}
 use Rattle.wrp_run.proofs.looped.run_on.Goals as goal
 
 pub loop-n-init : goal.loop-n-init

@@ -1,9 +1,9 @@
 -- The lines of the events so far are written, or wait.
 use Rattle.std.proofs.Common.{◌≡◌, ◌-◌, ℕ}
-use Rattle.wrp_sim.specs.Scenario.{SceneAt}
+use Rattle.wrp_scene.specs.Scenario.{SceneAt}
 use Rattle.wrp_course.specs.Setting.{Setting}
 use Rattle.wrp_simulate.specs.SimStands.{Begins, CanRun, FitsCourse, IsInRun, Running}
-use Rattle.wrp_loop.specs.LoopRun.{event_limit}
+use Rattle.wrp_scene.specs.EventLimit.{event_limit}
 use Rattle.wrp_simulate.proofs.simulating.run_events.Given as goal
 
 abbrev pub invariant-events : goal.invariant-events

@@ -1,15 +1,16 @@
 -- What stands behind the scenario, and where it is refused.
 use Rattle.std.proofs.Common.{◌≡◌, ◌∙◌, [], refl, subst, sym, ℕ, List}
 use Rattle.wrp_config.specs.declared.network.Network.{Network}
-use Rattle.wrp_sim.specs.Scenario.{SceneAt}
+use Rattle.wrp_scene.specs.Scenario.{SceneAt}
 use Rattle.wrp_records.specs.declared.status.Status.TheVariants.{Done, ReadFault, WriteFault}
 use Rattle.wrp_records.specs.ByLines.{of_lines}
 use Rattle.wrp_records.specs.LinesAfter.{Closed}
 use Rattle.wrp_records.specs.Passages.{Passes, passage}
 use Rattle.wrp_records.proofs.Passed.{passes_closed, passes_stopped}
 use Rattle.wrp_audit.specs.AuditStands.{setting_in}
-use Rattle.wrp_simulate.specs.Simulates.{IsScenario, simulation_of}
-use Rattle.wrp_simulate.specs.SimStands.{SaysScenario}
+use Rattle.wrp_scene_records.specs.Scenarios.{IsScenario}
+use Rattle.wrp_simulate.specs.Simulates.{simulation_of}
+use Rattle.wrp_scene_records.specs.ScenarioStands.{SaysScenario}
 use Rattle.wrp_simulate.proofs.SimSteps.{closed_by}
 use Rattle.wrp_simulate.proofs.simulating.simulate.Goals as goal
 

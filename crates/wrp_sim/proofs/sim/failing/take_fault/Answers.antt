@@ -1,7 +1,7 @@
 use Rattle.std.proofs.Common.{◌∙◌, ap, sym, subst, option_map}
 use Rattle.std.specs.List.{AllByRecursion}
 use Rattle.wrp_world.proofs.AllTake.{all_at}
-use Rattle.wrp_sim.specs.Scenario.{IsFault}
+use Rattle.wrp_scene.specs.Scenario.{IsFault}
 use Rattle.wrp_sim.proofs.Faults.{Left, all_removed, first_taken, left_dropped, left_taken, left_waiting}
 use Rattle.wrp_sim.proofs.sim.failing.take_fault.Goals as goal
 

@@ -4,7 +4,7 @@ use Rattle.std.specs.List.{AllByRecursion}
 use Rattle.wrp_course.specs.Setting.{Setting}
 use Rattle.wrp_world.specs.StandsFor.{StandsFor}
 use Rattle.wrp_course.specs.WorldAt.{WorldAt}
-use Rattle.wrp_sim.specs.Scenario.{IsFault}
+use Rattle.wrp_scene.specs.Scenario.{IsFault}
 use Rattle.wrp_sim.proofs.Faults.{Left}
 use Rattle.wrp_sim.proofs.sim.failing.take_fault.Given as goal
 

@@ -5,7 +5,7 @@ use Rattle.std.specs.Option.{option_map_or}
 use Rattle.wrp_base.specs.declared.configuration.NetCfg.{NetCfg}
 use Rattle.wrp_base.specs.declared.link.Module.{Module}
 use Rattle.wrp_config.specs.declared.network.Network.{Network}
-use Rattle.wrp_sim.specs.Scenario.{ms_of}
+use Rattle.wrp_scene.specs.Scenario.{ms_of}
 use Rattle.wrp_plant.proofs.SignedReads.{read}
 use Rattle.wrp_sim.proofs.sim.state.State.delay_down.Goals as goal
 

@@ -1,6 +1,6 @@
 use Rattle.std.proofs.Common.{◌≡◌, sym, subst, ◌≤◌, unsigned_abs, arith}
 use Rattle.std.proofs.lemmas.Int.{ints}
-use Rattle.wrp_sim.specs.Scenario.{free_of}
+use Rattle.wrp_scene.specs.Scenario.{free_of}
 use Rattle.wrp_sim.proofs.Cells.{small_free}
 use Rattle.wrp_sim.proofs.sim.state.State.free.Goals as goal
 

@@ -4,7 +4,7 @@ use Rattle.wrp_base.specs.declared.configuration.NetCfg.{NetCfg}
 use Rattle.wrp_config.specs.declared.network.Network.{Network}
 use Rattle.wrp_course.specs.declared.event.Event.TheVariants.{Join}
 use Rattle.wrp_plant.proofs.SignedReads.{read}
-use Rattle.wrp_sim.specs.Scenario.{ms_of, sm_of}
+use Rattle.wrp_scene.specs.Scenario.{ms_of, sm_of}
 use Rattle.wrp_sim.proofs.sim.state.State.join_event.Goals as goal
 
 pub returns : goal.returns

@@ -1,6 +1,6 @@
 use Rattle.std.proofs.Common.{◌∙◌, subst, Some}
 use Rattle.wrp_sim.specs.Rules.{arrives, delivers, departs, passes, samples, ticks}
-use Rattle.wrp_sim.specs.Scenario.{SceneAt}
+use Rattle.wrp_scene.specs.Scenario.{SceneAt}
 use Rattle.wrp_sim.specs.Sim.{Gave, put}
 use Rattle.wrp_sim.proofs.Turns.{by_last, by_later, first_gave, passes_on, put_none, put_one}
 use Rattle.wrp_sim.proofs.sim.state.State.later.Goals as goal

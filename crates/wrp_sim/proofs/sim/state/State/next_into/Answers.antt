@@ -1,6 +1,6 @@
 use Rattle.std.proofs.Common.{◌∙◌, refl, subst, Some}
 use Rattle.wrp_sim.specs.Rules.{begins, fails, first_of, later_rules, next_of, rest_of}
-use Rattle.wrp_sim.specs.Scenario.{SceneAt}
+use Rattle.wrp_scene.specs.Scenario.{SceneAt}
 use Rattle.wrp_sim.specs.Sim.{Gave, put}
 use Rattle.wrp_sim.proofs.Ends.{due_on}
 use Rattle.wrp_sim.proofs.Turns.{by_later, first_gave, passes_on, put_none, put_one, whatever_stays}

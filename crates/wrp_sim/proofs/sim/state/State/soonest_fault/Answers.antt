@@ -6,10 +6,10 @@ use Rattle.wrp_base.specs.declared.configuration.NetCfg.{NetCfg}
 use Rattle.wrp_base.specs.Clock.{second}
 use Rattle.wrp_config.specs.declared.network.Network.{Network}
 use Rattle.wrp_plant.proofs.SignedReads.{read}
-use Rattle.wrp_sim.specs.declared.scene.fault.Fault.{Fault}
-use Rattle.wrp_sim.specs.declared.scene.fault.FaultKind.TheVariants.{Down}
+use Rattle.wrp_scene.specs.declared.scene.fault.Fault.{Fault}
+use Rattle.wrp_scene.specs.declared.scene.fault.FaultKind.TheVariants.{Down}
 use Rattle.wrp_sim.specs.Rules.{fault_time, sooner}
-use Rattle.wrp_sim.specs.Scenario.{IsFault}
+use Rattle.wrp_scene.specs.Scenario.{IsFault}
 use Rattle.wrp_sim.proofs.Moments.{small_fault, tried_all, tried_one}
 use Rattle.wrp_sim.proofs.sim.state.State.soonest_fault.Goals as goal
 

@@ -1,0 +1,4 @@
+pub mod FibreDelays
+pub mod FibreSplit
+pub mod SceneLemmas
+pub mod SignedReads

@@ -1,0 +1,4 @@
+pub mod EventLimit
+pub mod Scenario
+pub mod ScenarioKinds
+pub mod ScenarioLines

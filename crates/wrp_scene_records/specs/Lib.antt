@@ -1,0 +1,2 @@
+pub mod ScenarioStands
+pub mod Scenarios

@@ -1,1 +1,0 @@
--- Booleans, options and numbers, for the other files.

@@ -1,0 +1,8 @@
+//! Laws of simulations: functions whose contracts are the laws.
+ghost use Rattle.wrp_simulate.specs.Laws.{EventsAreNumbered};
+
+/// No event of a simulation has the number 4,294,967,295, and a simulation whose next event would have it has
+/// had an event of each number below.
+pub fn events_are_numbered()
+    ensures { EventsAreNumbered }
+{}
