@@ -13,6 +13,7 @@ pub mod CompleteJudged
 pub mod ContentExact
 pub mod Due
 pub mod Handshakes
+pub mod InspectAim
 pub mod Judging
 pub mod LookingBack
 pub mod OneInspection

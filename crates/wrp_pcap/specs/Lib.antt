@@ -15,5 +15,6 @@ pub mod PacketLines
 pub mod InspectLaws
 pub mod Handshakes
 pub mod Inspected
+pub mod InspectAim
 pub mod InspectionAt
 pub mod Inspecting
