@@ -10,6 +10,7 @@ pub mod StandsFor
 pub mod Words
 pub mod Worked
 pub mod WorkedMarks
+pub mod WorkedInspection
 pub mod Content
 pub mod PacketLines
 pub mod InspectLaws

@@ -5,6 +5,7 @@ ghost use Rattle.wrp_pcap.specs.Handshakes.{CompleteNamesHandshake};
 ghost use Rattle.wrp_pcap.specs.InspectAim.{CutsAreFirst, JudgesHandshakes, VerdictsAreDue};
 ghost use Rattle.wrp_pcap.specs.InspectLaws.{OneIsDue, RefusalsStay, CompleteIsJudged};
 ghost use Rattle.wrp_pcap.specs.InspectLaws.{PacketsAreLimited};
+ghost use Rattle.wrp_pcap.specs.WorkedInspection.{WorkedInspection};
 
 /// Of each input one status and one text are due.
 pub fn one_is_due()
@@ -51,4 +52,10 @@ pub fn handshakes_are_judged()
 /// input goes on.
 pub fn cuts_are_first()
     ensures { CutsAreFirst }
+{}
+
+/// A capture of one packet that is inspected: what stands when it was read whole, when the source failed, when
+/// there was no memory, and when a write failed.
+pub fn worked_inspection()
+    ensures { WorkedInspection }
 {}
