@@ -1,5 +1,5 @@
 -- What the tables of an accepted text weigh at least, by the database that they give.
-use Rattle.std.proofs.Common.{◌≡◌, ◌≤◌, ◌<◌, ◌+◌, ◌*◌, ◌==◌, ◌&&◌, not, cond, ℕ, ℤ, pos, negsuc, min, unsigned_abs, Ordering, Less, Equal, Greater, nat_cmp, is_eq, true, false, Bool, List, [], ◌∷◌, ◌++◌, length, map, take, codes, decimal, bytes_eq, Option, Some, None, option_map, option_and_then, refl, sym, ap, ◌∙◌, subst, inl, inr, ◌⊎◌, arith, lit<}
+use Rattle.std.proofs.Common.{◌≡◌, ◌≤◌, ◌<◌, ◌+◌, ◌*◌, ◌&&◌, not, ℕ, ℤ, pos, negsuc, min, unsigned_abs, Ordering, Less, Equal, Greater, nat_cmp, is_eq, true, false, Bool, List, [], ◌∷◌, length, map, take, codes, bytes_eq, Option, Some, None, option_map, option_and_then, refl, sym, ap, ◌∙◌, subst, inl, inr, ◌⊎◌, arith, lit<}
 use Rattle.std.proofs.lemmas.Bool.{and_parts, cases_Bool, false≢true, not-false}
 use Rattle.std.proofs.lemmas.Fmt.{decimal_nonempty, length-decimal-le}
 use Rattle.std.proofs.lemmas.Map.Text.{is_eq-slice_cmp}

@@ -1,15 +1,15 @@
 -- How many octets the text of a database has at most.
-use Rattle.std.proofs.Common.{◌≡◌, ◌≤◌, ◌<◌, ◌+◌, ◌==◌, ◌&&◌, ◌||◌, not, cond, ℕ, ℤ, pos, min, true, false, Bool, List, [], ◌∷◌, ◌++◌, length, map, nat_lt, codes, Option, Some, None, refl, sym, ap, ◌∙◌, subst, inl, inr, arith, length-append, lit<}
-use Rattle.std.proofs.lemmas.Bool.{and_parts, cases_Bool}
+use Rattle.std.proofs.Common.{◌≡◌, ◌≤◌, ◌<◌, ◌+◌, ◌==◌, cond, ℕ, ℤ, pos, min, true, false, Bool, List, [], ◌∷◌, ◌++◌, length, map, codes, Option, Some, None, refl, ap, subst, arith, length-append, lit<}
+use Rattle.std.proofs.lemmas.Bool.{and_parts}
 use Rattle.std.proofs.lemmas.Fmt.{length-decimal-le}
 use Rattle.std.proofs.lemmas.Bool.Decides.{nat_tests}
 use Rattle.std.specs.Fmt.{signed_decimal}
 use Rattle.std.specs.List.{AllByRecursion, list_all, list_any}
-use Rattle.toml.specs.Data.{Data, string, integer, float, boolean, datetime, array, table, Items, no_items, item, Members, no_members, member}
+use Rattle.toml.specs.Data.{Data, string, integer, float, boolean, datetime, array, table, Items, no_items, item, Members}
 use Rattle.toml.specs.Tables.{Definition, key_value, std_table, array_table, Expression}
-use Rattle.toml.specs.Text.{IsValueText, IsItemsText, IsLineText, IsLinesText, before_item, breaks_lines, gap, header_open, header_close, is_section, are_tables, has_items, pairs, sections, section, elements, expressions}
+use Rattle.toml.specs.Text.{IsValueText, IsItemsText, IsLineText, IsLinesText, before_item, breaks_lines, gap, header_open, header_close, are_tables, pairs, sections, elements, expressions}
 use Rattle.toml.specs.View.{items_of}
-use Rattle.toml_writer.specs.Text.{dotted_text, escaped, encoding_of, has, is_control, key_text, needs_escape, quotes_after, string_text}
+use Rattle.toml_writer.specs.Text.{dotted_text, escaped, encoding_of, is_control, key_text, needs_escape, quotes_after, string_text}
 use Rattle.wrp_caldb.specs.Database.{Database, ModuleAt, FibreAt, TableAt, name_or_none}
 use Rattle.wrp_caldb.specs.Name.{is_letter, is_name, is_name_octet}
 use Rattle.wrp_caldb.specs.Text.{linear_members, number, pair_members, module_members, point_data, table_members, fibre_members, document_of, IsTextDue}

@@ -1,7 +1,7 @@
 -- How large the text is that `migrate` writes.
-use Rattle.std.proofs.Common.{◌≡◌, ◌≤◌, ◌+◌, ◌*◌, ◌/◌, max, ℕ, List, [], length, Ok, codes, refl, sym, ap, subst, inl, inr, ◌⊎◌, arith}
+use Rattle.std.proofs.Common.{◌≤◌, ℕ, List, length, codes, refl, subst, inl, inr, arith}
 use Rattle.wrp_caldb.specs.Calibration.{version_of}
-use Rattle.wrp_caldb.specs.Database.{Database, fibre_of, module_of, database_of}
+use Rattle.wrp_caldb.specs.Database.{fibre_of, module_of, database_of}
 use Rattle.wrp_caldb.specs.Repeats.{name_in}
 use Rattle.wrp_caldb.specs.Rows.{tables_at}
 use Rattle.wrp_caldb.specs.Text.{IsTextDue}
@@ -11,7 +11,7 @@ use Rattle.wrp_migrate.specs.Sizes.{MigrationSize, SmallTextsFit, most_octets}
 use Rattle.wrp_migrate.proofs.Keeping.{keeps}
 use Rattle.wrp_migrate.proofs.Listed.{document_light}
 use Rattle.wrp_migrate.proofs.PlainNames.{each_has}
-use Rattle.wrp_migrate.proofs.Printed.{IsShortName, document_octets, printed_le, read_short}
+use Rattle.wrp_migrate.proofs.Printed.{IsShortName, printed_le, read_short}
 use Rattle.wrp_migrate.proofs.WeightTexts.{weight_le}
 
 migrated_size : (input text : List ℕ) → IsMigrated input text → length text ≤ most_octets (length input)

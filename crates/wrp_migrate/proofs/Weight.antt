@@ -2,7 +2,7 @@
 -- text cannot do without twice: keys, `=`, quotes, brackets and what ends a value; of a number half its digits.
 use Rattle.std.specs.Prelude.{◌+◌, ◌*◌, ℕ, List, length}
 use Rattle.std.specs.Fmt.{signed_decimal}
-use Rattle.toml.specs.Data.{Data, string, integer, float, boolean, datetime, array, table, Items, no_items, item, Members, no_members, member}
+use Rattle.toml.specs.Data.{Data, string, integer, array, table, Items, no_items, item, Members, no_members, member}
 
 -- what an inline table has more than its members: two braces
 abbrev pub brace_weight : Data → ℕ

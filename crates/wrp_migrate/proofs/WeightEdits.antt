@@ -1,10 +1,9 @@
 -- What an edit of a table adds to its weight.
-use Rattle.std.proofs.Common.{◌≡◌, ◌≤◌, ◌+◌, ◌*◌, ℕ, Ordering, Less, Equal, Greater, nat_cmp, is_eq, true, false, Bool, List, [], ◌∷◌, ◌++◌, length, Option, Some, None, option_map, refl, sym, ap, ◌∙◌, inl, inr, ◌⊎◌, arith}
+use Rattle.std.proofs.Common.{◌≡◌, ◌≤◌, ◌+◌, ◌*◌, ℕ, Ordering, Less, Equal, Greater, nat_cmp, List, [], ◌∷◌, ◌++◌, length, Option, Some, None, option_map, refl, ap, inl, inr, ◌⊎◌, arith}
 use Rattle.std.proofs.lemmas.Bool.{cases_Bool}
 use Rattle.std.proofs.lemmas.Option.{none-some, same_Some}
 use Rattle.std.specs.Cmp.Lexicographic.{slice_cmp}
-use Rattle.std.specs.Ordering.{match_ordering}
-use Rattle.toml.specs.Data.{Data, array, table, Items, no_items, item, Members, push_item, same_key}
+use Rattle.toml.specs.Data.{Data, table, Items, no_items, item, push_item, same_key}
 use Rattle.toml.specs.Tables.{Node, Nodes, no_nodes, node, value, open_table, open_array, Origin, implicit, dotted, header, get_node, insert, replace, close_node, close, Edit, header_node, dot_node, by_header, by_dot, along_header, along_dots, Definition, key_value, std_table, array_table, new_node, redefine, at_found, at_key, put, Document, Expression, define_as, define}
 use Rattle.wrp_migrate.proofs.Weight.{brace_weight, key_weight, weight, items_weight, members_weight}
 

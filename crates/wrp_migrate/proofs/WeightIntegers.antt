@@ -1,10 +1,10 @@
 -- How many digits a number has that a text writes.
-use Rattle.std.proofs.Common.{◌≡◌, ◌≤◌, ◌<◌, ◌+◌, ◌-◌, ◌*◌, ◌^◌, ◌==◌, ◌&&◌, ◌||◌, not, cond, ℕ, ℤ, pos, negsuc, neg_ℤ, zero, suc, true, false, Bool, List, [], ◌∷◌, ◌++◌, length, take, drop, filter, Option, Some, None, option_map, nat_lt, nat_le, decimal, codes, bytes_eq, refl, sym, ap, ◌∙◌, subst, inl, inr, arith, length-append, lit<}
+use Rattle.std.proofs.Common.{◌≡◌, ◌≤◌, ◌<◌, ◌+◌, ◌-◌, ◌*◌, ◌^◌, ◌==◌, ◌&&◌, ◌||◌, not, cond, ℕ, ℤ, pos, neg_ℤ, zero, suc, true, false, Bool, List, [], ◌∷◌, ◌++◌, length, take, drop, filter, Option, Some, None, option_map, nat_lt, codes, bytes_eq, refl, sym, ap, ◌∙◌, subst, inl, inr, arith}
 use Rattle.std.proofs.lemmas.Bool.{cases_Bool, and_parts}
 use Rattle.std.proofs.lemmas.Bool.Decides.{nat_tests}
 use Rattle.std.proofs.lemmas.Fmt.{length-decimal-le}
 use Rattle.std.proofs.lemmas.Int.Digits.{digits_value-lt}
-use Rattle.std.proofs.lemmas.List.{length-drop, length-take}
+use Rattle.std.proofs.lemmas.List.{length-take}
 use Rattle.std.proofs.Math.Nat.{pow-le-pow_left}
 use Rattle.std.proofs.lemmas.Nat.{mul-pow, pow-add}
 use Rattle.std.proofs.lemmas.Option.{none-some, same_Some}
@@ -14,7 +14,6 @@ use Rattle.std.specs.Char.{digit_value, is_digit, is_ascii_digit}
 use Rattle.std.specs.Float.Numeral.{Parts, scan_numeral, numeral_digits, nearest_float}
 use Rattle.std.specs.Fmt.{signed_decimal}
 use Rattle.std.specs.List.{prefix_len, list_all}
-use Rattle.std.specs.Prelude.{slice_index, slice_range}
 use Rattle.std.specs.Str.Parse.{AllDigits, digits_value}
 use Rattle.toml_parser.specs.Lexical.{first}
 use Rattle.toml_parser.specs.Numbers.{radix_of, prefixed_integer, is_decimal, integer_of, float_of, decimal_number, plain_number, number, underscores_fit, underscore_radix, looks_like_datetime, word_value, unquoted, word_len}

@@ -1,17 +1,16 @@
 -- How many octets the text of a string or of a key has at least.
-use Rattle.std.proofs.Common.{◌≡◌, ◌≤◌, ◌<◌, ◌+◌, ◌-◌, ◌==◌, ◌&&◌, ◌||◌, not, cond, ℕ, zero, suc, true, false, Bool, List, [], ◌∷◌, ◌++◌, length, take, drop, Option, Some, None, option_map, option_and_then, is_some, unwrap_or, nat_lt, nat_le, encode_utf8, refl, sym, ap, ◌∙◌, subst, inl, inr, arith, length-append, eqb-true}
+use Rattle.std.proofs.Common.{◌≡◌, ◌≤◌, ◌<◌, ◌+◌, ◌-◌, ◌==◌, ◌&&◌, cond, ℕ, zero, suc, true, false, Bool, List, [], ◌∷◌, ◌++◌, length, take, drop, Option, Some, None, option_map, option_and_then, is_some, unwrap_or, nat_lt, nat_le, encode_utf8, refl, sym, ap, ◌∙◌, subst, inl, inr, arith, length-append, eqb-true}
 use Rattle.std.proofs.lemmas.Bool.{cases_Bool, and_parts}
 use Rattle.std.proofs.lemmas.Bool.Decides.{nat_tests}
 use Rattle.std.proofs.lemmas.List.{length-drop, take-append-drop}
 use Rattle.std.proofs.lemmas.Option.{none-some, same_Some}
 use Rattle.std.proofs.lemmas.Str.{length-encode, len_utf8_bounds, len_utf8_ascii}
-use Rattle.std.specs.Char.{len_utf8, is_digit}
+use Rattle.std.specs.Char.{is_digit}
 use Rattle.std.specs.List.{prefix_len, list_all}
 use Rattle.std.specs.Prelude.{slice_index}
 use Rattle.std.specs.Str.Parse.{digits_value}
-use Rattle.toml_parser.proofs.StringsLemmas.{key_after_turn}
-use Rattle.toml_parser.specs.Lexical.{Read, first, skip_ws, skip_from, skip_turn, skip_blank, skip_lines, split_while, is_bare, is_ws, starts_newline}
-use Rattle.toml_parser.specs.Strings.{Key, simple_escape, hex_len, hex_escape, is_scalar, escape_char, escape, is_plain, at_delims, special, prepend, after_piece, body, trim_newline, one_line, quoted, starts_string, simple_key, key_after, key}
+use Rattle.toml_parser.specs.Lexical.{Read, first, skip_ws, skip_from, skip_turn, skip_lines, split_while, is_bare, is_ws, starts_newline}
+use Rattle.toml_parser.specs.Strings.{Key, simple_escape, hex_len, hex_escape, is_scalar, escape_char, escape, is_plain, at_delims, special, after_piece, body, trim_newline, one_line, quoted, starts_string, simple_key, key_after, key}
 
 -- ---- options
 

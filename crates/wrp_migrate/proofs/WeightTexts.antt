@@ -1,13 +1,12 @@
 -- A text has at least half the octets that the table that it writes weighs.
-use Rattle.std.proofs.Common.{◌≡◌, ◌≤◌, ◌<◌, ◌+◌, ◌-◌, ◌*◌, ◌==◌, ◌&&◌, ◌||◌, ◌⊎◌, not, cond, ℕ, zero, suc, true, false, Bool, List, [], ◌∷◌, ◌++◌, length, take, drop, Option, Some, None, option_map, option_and_then, is_some, unwrap_or, refl, sym, ap, ◌∙◌, subst, inl, inr, arith, eqb-true}
+use Rattle.std.proofs.Common.{◌≡◌, ◌≤◌, ◌<◌, ◌+◌, ◌-◌, ◌*◌, ◌==◌, ◌&&◌, ◌||◌, cond, ℕ, zero, suc, true, false, Bool, List, [], ◌∷◌, length, drop, Some, None, option_map, option_and_then, is_some, unwrap_or, refl, sym, ap, ◌∙◌, subst, inl, inr, arith, eqb-true}
 use Rattle.std.proofs.lemmas.Bool.{cases_Bool, and_parts}
 use Rattle.std.proofs.lemmas.Bool.Decides.{nat_tests}
-use Rattle.std.proofs.lemmas.List.{length-drop}
 use Rattle.std.proofs.lemmas.Option.{none-some, same_Some}
 use Rattle.std.specs.Prelude.{slice_index}
-use Rattle.toml.specs.Data.{Data, string, integer, float, boolean, datetime, array, table, Items, no_items, item, Members, no_members, member, push_item}
+use Rattle.toml.specs.Data.{Data, string, array, table, Items, no_items, Members, push_item}
 use Rattle.toml.specs.Parse.{after_byte, after_element, key_equals, keyval, items, members, scalar_data, atom, val, header_key, expression, ends_line, line, lines, skip_bom, parse_document}
-use Rattle.toml.specs.Tables.{Nodes, no_nodes, close, Definition, key_value, std_table, array_table, Document, Expression, put, define}
+use Rattle.toml.specs.Tables.{Nodes, no_nodes, close, key_value, std_table, array_table, Document, Expression, put, define}
 use Rattle.toml_parser.specs.Lexical.{Read, first, skip_ws, skip_from, skip_turn, skip_blank, is_ws}
 use Rattle.toml_parser.specs.Numbers.{unquoted}
 use Rattle.toml_parser.proofs.LexicalLemmas.{skip_ws_none}
@@ -17,7 +16,7 @@ use Rattle.toml_parser.specs.declared.scalar.Scalar.TheVariants.{Boolean, Intege
 use Rattle.wrp_migrate.proofs.Weight.{brace_weight, key_weight, weight, items_weight, members_weight}
 use Rattle.wrp_migrate.proofs.WeightEdits.{define_adds, line_weight, nodes_weight, push_weight, put_adds}
 use Rattle.wrp_migrate.proofs.WeightIntegers.{IsShort, unquoted_short}
-use Rattle.wrp_migrate.proofs.WeightStrings.{byte_there, chained, drop_le, first_there, key_fits, mapped, quoted_fits, skip_from_le, skip_ws_le}
+use Rattle.wrp_migrate.proofs.WeightStrings.{byte_there, chained, drop_le, key_fits, mapped, quoted_fits, skip_from_le, skip_ws_le}
 
 -- ---- what stands between values
 

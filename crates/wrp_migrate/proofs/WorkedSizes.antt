@@ -1,5 +1,5 @@
 -- The texts that are worked out.
-use Rattle.std.proofs.Common.{◌≡◌, ◌≤◌, ◌<◌, ℕ, ℤ, pos, Bool, true, false, List, [], ◌∷◌, ◌++◌, length, codes, Some, refl, lit<, arith}
+use Rattle.std.proofs.Common.{◌≡◌, ◌<◌, ℕ, pos, Bool, true, false, List, [], ◌∷◌, ◌++◌, codes, Some, refl, lit<, arith}
 use Rattle.std.proofs.ByRecursion.{IsAscii-from_all}
 use Rattle.std.proofs.lemmas.Int.{fits_signed_from_abs}
 use Rattle.std.proofs.lemmas.Str.{IsUtf8-from_ascii}
@@ -13,7 +13,7 @@ use Rattle.toml.specs.Tables.{Expression}
 use Rattle.toml.specs.Text.{IsLineText, IsLinesText, IsValueText, expressions}
 use Rattle.toml_writer.specs.Text.{encoding_of, escaped, key_text, needs_escape, quotes_after, string_text}
 use Rattle.wrp_caldb.specs.Calibration.{IsAccepted}
-use Rattle.wrp_caldb.specs.Database.{Database, database_of}
+use Rattle.wrp_caldb.specs.Database.{database_of}
 use Rattle.wrp_caldb.specs.Text.{IsTextDue, document_of, number}
 use Rattle.wrp_caldb.specs.declared.keys.Others.TheVariants.{Refused}
 use Rattle.wrp_caldb.specs.declared.row.Code.TheVariants as co
