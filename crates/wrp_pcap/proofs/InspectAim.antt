@@ -1,11 +1,10 @@
 -- What an inspection shows: each verdict is the one that is due, and each `complete` names a handshake of the capture.
-use Rattle.std.proofs.Common.{◌≡◌, ◌+◌, ◌&&◌, true, Bool, ℕ, Option, None, Some, List, [], ◌∷◌, ◌++◌, length, ap, ap₂, inl, inr, refl, sym, ◌∙◌, subst}
+use Rattle.std.proofs.Common.{◌≡◌, ◌+◌, true, ℕ, Some, List, ◌∷◌, ◌++◌, length, inl, inr, refl, subst}
 use Rattle.std.proofs.lemmas.Option.{same_Some}
 use Rattle.std.specs.Prelude.{IsSome}
 use Rattle.wrp_base.specs.declared.message.Body.{Body}
 use Rattle.wrp_base.specs.declared.message.Body.TheVariants.{Signal}
 use Rattle.wrp_base.specs.declared.message.PortIdentity.{PortIdentity}
-use Rattle.wrp_base.specs.declared.message.PtpMsg.{PtpMsg}
 use Rattle.wrp_base.specs.declared.message.WrMsg.TheVariants.{ModeOn as WR_MODE_ON}
 use Rattle.wrp_pcap.specs.declared.content.Content.{Content}
 use Rattle.wrp_pcap.specs.declared.content.Content.TheVariants.{Other, Message, Fault}

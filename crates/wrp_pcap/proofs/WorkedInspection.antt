@@ -1,5 +1,5 @@
 -- A capture of one packet, inspected.
-use Rattle.std.proofs.Common.{◌≡◌, ◌⊎◌, ◌<◌, ◌+◌, ◌^◌, true, ℕ, zero, suc, Option, None, Some, List, [], ◌∷◌, ◌++◌, length, map, take, drop, reverse, ap, inl, inr, refl, sym, ◌∙◌, subst, arith, append_assoc}
+use Rattle.std.proofs.Common.{◌≡◌, ◌⊎◌, ◌<◌, true, ℕ, zero, suc, Some, List, [], ◌∷◌, ◌++◌, take, drop, ap, inl, inr, refl, sym, ◌∙◌, subst, arith, append_assoc}
 use Rattle.std.proofs.lemmas.List.{take-append-drop}
 use Rattle.std.proofs.lemmas.Option.{same_Some}
 use Rattle.std.specs.Fmt.{digits}
@@ -10,21 +10,19 @@ use Rattle.wrp_base.specs.declared.message.WrMsg.TheVariants.{ModeOn as WR_MODE_
 use Rattle.wrp_frame.specs.declared.fault.FrameFault.{FrameFault}
 use Rattle.wrp_frame.specs.declared.fault.FrameFault.TheVariants.{Short, Version, Kind, Length, Time, Tlv, BadWr, OneStep}
 use Rattle.wrp_frame.specs.Faults.{fault_number}
-use Rattle.wrp_records.specs.declared.status.Status.{Status}
-use Rattle.wrp_records.specs.declared.status.Status.TheVariants.{Done, ReadFault, WriteFault, OutOfMemory}
+use Rattle.wrp_records.specs.declared.status.Status.TheVariants.{Done}
 use Rattle.wrp_pcap.specs.declared.capture.Order.{Order}
 use Rattle.wrp_pcap.specs.declared.capture.Order.TheVariants.{Little}
 use Rattle.wrp_pcap.specs.declared.content.Content.{Content}
 use Rattle.wrp_pcap.specs.declared.content.Content.TheVariants.{Fault}
 use Rattle.wrp_pcap.specs.declared.verdict.Verdict8.TheVariants.{Missing}
-use Rattle.wrp_pcap.specs.Capture.{Begins, HasHeader, IsFile, IsWhole, StoredPacket, order_of}
+use Rattle.wrp_pcap.specs.Capture.{Begins, HasHeader, IsWhole, StoredPacket}
 use Rattle.wrp_pcap.specs.CaptureRows.{worked_packet}
 use Rattle.wrp_pcap.specs.Certificate.{carries, verdict_on}
-use Rattle.wrp_pcap.specs.Content.{HaveContents}
 use Rattle.wrp_pcap.specs.Ethernet.{CarriesFault}
 use Rattle.wrp_pcap.specs.Handshakes.{is_mode_on}
-use Rattle.wrp_pcap.specs.InspectAim.{InspectLeaves, InspectPart}
-use Rattle.wrp_pcap.specs.Inspected.{Carry, FirstPackets, InspectAnswer, InspectFirst, IsInspected}
+use Rattle.wrp_pcap.specs.InspectAim.{InspectPart}
+use Rattle.wrp_pcap.specs.Inspected.{Carry, InspectFirst, IsInspected}
 use Rattle.wrp_pcap.specs.PacketLines.{text_of}
 use Rattle.wrp_pcap.specs.WorkedInspection.{WorkedInspection, one_line, one_packet, one_sum, short_numbers}
 use Rattle.wrp_pcap.proofs.ContentExact.{one_contents}
