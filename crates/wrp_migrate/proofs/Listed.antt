@@ -1,5 +1,5 @@
 -- What the tables of an accepted text weigh at least, by the database that they give.
-use Rattle.std.proofs.Common.{◌≡◌, ◌≤◌, ◌<◌, ◌+◌, ◌*◌, ◌&&◌, not, ℕ, ℤ, pos, negsuc, min, unsigned_abs, Ordering, Less, Equal, Greater, nat_cmp, is_eq, true, false, Bool, List, [], ◌∷◌, length, map, take, codes, bytes_eq, Option, Some, None, option_map, option_and_then, refl, sym, ap, ◌∙◌, subst, inl, inr, ◌⊎◌, arith, lit<}
+use Rattle.std.proofs.Common.{◌≡◌, ◌≤◌, ◌+◌, ◌*◌, ◌&&◌, not, ℕ, ℤ, pos, negsuc, min, unsigned_abs, Ordering, Less, Equal, Greater, nat_cmp, is_eq, true, false, Bool, List, [], ◌∷◌, length, map, take, codes, bytes_eq, Option, Some, None, option_map, option_and_then, refl, sym, ap, ◌∙◌, subst, inl, inr, ◌⊎◌, arith, lit<}
 use Rattle.std.proofs.lemmas.Bool.{and_parts, cases_Bool, false≢true, not-false}
 use Rattle.std.proofs.lemmas.Fmt.{decimal_nonempty, length-decimal-le}
 use Rattle.std.proofs.lemmas.Map.Text.{is_eq-slice_cmp}
@@ -64,7 +64,8 @@ taken_weight k d (member l e ms) found =
       | inr (inl tie) ↦
           let here : e ≡ d = same_Some e d (rw tie at found) in
           let same = tied_same k l tie in
-          let weighs : key_weight l e + weight e ≡ key_weight k d + weight d = ap (λ x. key_weight l x + weight x) here ∙ ap (λ x. key_weight x d + weight d) (sym same) in
+          let weighs : key_weight l e + weight e ≡ key_weight k d + weight d = ap (λ x. key_weight l x + weight x) here
+          ∙ ap (λ x. key_weight x d + weight d) (sym same) in
           rw tie (omega (arith, weighs))
       | inr (inr more) ↦ let on = taken_weight k d ms (rw more at found) in rw more (omega (arith, on))
     ]
@@ -185,7 +186,8 @@ fitting_number_at : (test : Option ℤ → Bool) → IsSmallTest test → (d : D
 fitting_number_at test is d fits =
     let found = passing test is (as_integer d) fits in
     let read : unsigned_abs (unwrap_or (if test (as_integer d) then as_integer d else None) (pos 0)) ≡ found.0 =
-    ap (λ (b : Bool). unsigned_abs (unwrap_or (if b then as_integer d else None) (pos 0))) fits ∙ ap (λ (o : Option ℤ). unsigned_abs (unwrap_or o (pos 0))) found.1 in
+    ap (λ (b : Bool). unsigned_abs (unwrap_or (if b then as_integer d else None) (pos 0))) fits
+    ∙ ap (λ (o : Option ℤ). unsigned_abs (unwrap_or o (pos 0))) found.1 in
     let there : Some d ≡ Some (integer (pos found.0)) = ap Some (integer_is d (pos found.0) found.1) in
     subst (λ (n : ℕ). IsNumber n (Some d)) (sym read) (record { is = there; small = found.2 })
 
@@ -241,7 +243,8 @@ delay_entries t =
     ∷ (codes "transition", integer (pos (natural_at transition_key t))) ∷ (codes "err", integer (pos (natural_at module_err_key t))) ∷ []
 
 delays_hold : (t : Members) → HasDelays t → Holds (delay_entries t) t
-delays_hold t has = let tx = has.tx.is in let rx = has.rx.is in let transition = has.transition.is in let err = has.err.is in (tx, (rx, (transition, (err, tt))))
+delays_hold t has = let tx = has.tx.is in let rx = has.rx.is in let transition = has.transition.is in let err = has.err.is in
+    (tx, (rx, (transition, (err, tt))))
 
 pair_light : (owner : ℕ) (pairs : List Data) (n : ℕ) (p : Members) → ((code : Code) → place_in_pair code owner pairs n p ≡ None)
     → 80 * pair_octets (entry_of p) ≤ 97 * (4 + members_weight p)
@@ -367,7 +370,8 @@ one_light t missing range =
 pairs_there : (found : Option Data) → has_fault co.Missing array_of_pairs found ≡ false → has_fault co.Range array_of_pairs found ≡ false → IsArray found
 pairs_there None missing range = cc missing
 pairs_there (Some (array elements)) missing range =
-    let all = (and_parts (list_all (λ d. is_some (as_table d)) (list_of elements)) _ (not-false (is_array_of_tables 1 (Some 16) (values_of (array elements))) range)).0 in
+    let all = (and_parts (list_all (λ d. is_some (as_table d)) (list_of elements)) _
+    (not-false (is_array_of_tables 1 (Some 16) (values_of (array elements))) range)).0 in
     record { elements = elements; is = refl; tables = rw all refl }
 pairs_there (Some (string s)) missing range = cc range
 pairs_there (Some (integer z)) missing range = cc range
@@ -420,7 +424,8 @@ module_light v modules n t none =
     let at = tables.Module (n + 1) in
     let parts = λ (code : Code). none_parts (place_in_table code at (module_keys v) t)
     (option_or (place_of_name code at (take n modules) t) (place_in_pairs v code (n + 1) (tables_at (codes "pair") t))) (none code) in
-    let pairs = λ (code : Code). (none_parts (place_of_name code at (take n modules) t) (place_in_pairs v code (n + 1) (tables_at (codes "pair") t)) (parts code).1).1 in
+    let pairs = λ (code : Code).
+    (none_parts (place_of_name code at (take n modules) t) (place_in_pairs v code (n + 1) (tables_at (codes "pair") t)) (parts code).1).1 in
     let keys = λ (code : Code). no_key code at (module_keys v) t (parts code).0 in
     either_light v (n + 1) t (keys co.Missing) (keys co.Range) pairs
 
@@ -441,8 +446,10 @@ both_parts (Some x) (Some y) p is = let same = same_Some (x, y) p is in (ap (λ 
 array_light : (x y : Data) (p : ℤ × ℤ) → both (as_integer x) (as_integer y) ≡ Some p → point_octets p ≤ weight (array (item x (item y no_items)))
 array_light x y p is =
     let parts = both_parts (as_integer x) (as_integer y) p is in
-    let first_is : brace_weight x + weight x ≡ brace_weight (integer p.0) + weight (integer p.0) = ap (λ d. brace_weight d + weight d) (integer_is x p.0 parts.0) in
-    let second_is : brace_weight y + weight y ≡ brace_weight (integer p.1) + weight (integer p.1) = ap (λ d. brace_weight d + weight d) (integer_is y p.1 parts.1) in
+    let first_is : brace_weight x + weight x ≡ brace_weight (integer p.0) + weight (integer p.0) = ap (λ d. brace_weight d + weight d)
+    (integer_is x p.0 parts.0) in
+    let second_is : brace_weight y + weight y ≡ brace_weight (integer p.1) + weight (integer p.1) = ap (λ d. brace_weight d + weight d)
+    (integer_is y p.1 parts.1) in
     omega (arith, first_is, second_is)
 
 point_light : (d : Data) (p : ℤ × ℤ) → point_of d ≡ Some p → point_octets p ≤ brace_weight d + weight d
@@ -515,7 +522,8 @@ kappa_there (Some d) missing range =
 
 -- the error of points, which may be missing
 optional_there : (found : Option Data)
-    → (digits (unsigned_abs (unwrap_or (number_in table_err_key found) (pos 0))) ≤ 1) ⊎ IsNumber (unsigned_abs (unwrap_or (number_in table_err_key found) (pos 0))) found
+    → (digits (unsigned_abs (unwrap_or (number_in table_err_key found) (pos 0))) ≤ 1)
+    ⊎ IsNumber (unsigned_abs (unwrap_or (number_in table_err_key found) (pos 0))) found
 optional_there None = inl zero_digit
 optional_there (Some d) = elim (cases_Bool (in_range (pos 0) (pos 1_000_000_000) (as_integer d))) [
   | inl fits ↦ inr (fitting_number_at (in_range (pos 0) (pos 1_000_000_000)) (in_range_small 0 1_000_000_000 (omega arith)) d fits)
@@ -532,7 +540,8 @@ record HasLine (t : Members) : Type 0 where
   err : IsNumber (natural_at fibre_err_key t) (get_member (codes "err") t)
 
 abbrev line_entries : Members → Entries
-line_entries t = (codes "name", string (name_at t)) ∷ (codes "kappa", integer (number_at kappa_key t)) ∷ (codes "err", integer (pos (natural_at fibre_err_key t))) ∷ []
+line_entries t = (codes "name", string (name_at t)) ∷ (codes "kappa", integer (number_at kappa_key t))
+    ∷ (codes "err", integer (pos (natural_at fibre_err_key t))) ∷ []
 
 line_holds : (t : Members) → HasLine t → Holds (line_entries t) t
 line_holds t has = let err = has.err.is in (name_there t has.name, (has.kappa, (err, tt)))
@@ -541,7 +550,8 @@ abbrev table_made : Members → List (ℤ × ℤ) → TableAt
 table_made t ps = record { points = ps; err = natural_at table_err_key t }
 
 fibre_by : (t : Members) (o : Option (List (ℤ × ℤ))) → option_and_then stored_points (get_member (codes "table") t) ≡ o → HasLine t
-    → 80 * (((37 + length (name_at t)) + (digits (natural_at fibre_err_key t) + length (signed_decimal (number_at kappa_key t)))) + table_octets (option_map (table_made t) o)) + 370
+    → 80 * (((37 + length (name_at t)) + (digits (natural_at fibre_err_key t) + length (signed_decimal (number_at kappa_key t))))
+    + table_octets (option_map (table_made t) o)) + 370
     ≤ 97 * (4 + members_weight t)
 fibre_by t None is has =
     let heavy = entries_le (line_entries t) t refl (line_holds t has) in
@@ -562,7 +572,8 @@ fibre_by t (Some ps) is has =
       | inr number ↦
           let n = natural_at table_err_key t in
           let there : get_member (codes "table_err") t ≡ Some (integer (pos n)) = number.is in
-          let heavy = entries_le ((codes "table_err", integer (pos n)) ∷ (codes "table", array stored.elements) ∷ line_entries t) t refl (there, (stored.is, line_holds t has)) in
+          let heavy = entries_le ((codes "table_err", integer (pos n)) ∷ (codes "table", array stored.elements) ∷ line_entries t) t refl
+          (there, (stored.is, line_holds t has)) in
           let b = number_weight n number.small in
           omega (arith, heavy, a, b, long, inside, light)
     ]
@@ -572,7 +583,8 @@ fibre_light : (fibres : List Data) (n : ℕ) (t : Members) → ((code : Code) �
 fibre_light fibres n t none =
     let at = tables.Fibre (n + 1) in
     let more = table_key (law_of t) ∷ (if is_some (get_member (codes "table") t) then table_err_key ∷ [] else []) in
-    let rows = λ (code : Code). no_key code at (fibre_keys t) t (none_parts (place_in_table code at (fibre_keys t) t) (place_of_name code at (take n fibres) t) (none code)).0 in
+    let rows = λ (code : Code). no_key code at (fibre_keys t) t
+    (none_parts (place_in_table code at (fibre_keys t) t) (place_of_name code at (take n fibres) t) (none code)).0 in
     let behind_name = λ (code : Code). first_passed (at_fault code t) name_key (kappa_key ∷ fibre_err_key ∷ more) (rows code) in
     let behind_kappa = λ (code : Code). first_passed (at_fault code t) kappa_key (fibre_err_key ∷ more) (behind_name code).1 in
     let behind_err = λ (code : Code). first_passed (at_fault code t) fibre_err_key more (behind_kappa code).1 in
@@ -604,8 +616,10 @@ modules_light v found none =
     let values = option_and_then values_of found in
     let ts = members_in (tables_of values) in
     let listed = λ (code : Code). subst (λ ds. place_in_modules v code ds ≡ None) (tables_of-members values) (none code) in
-    let light = all_light (λ code. place_in_module v code (map table ts)) (λ t. 80 * module_octets (module_of v t)) (module_light v (map table ts)) 0 ts listed in
-    let same : each_table (module_of v) (tables_of values) ≡ map (module_of v) ts = ap (each_table (module_of v)) (tables_of-members values) ∙ each_table-map (module_of v) ts in
+    let light = all_light (λ code. place_in_module v code (map table ts)) (λ t. 80 * module_octets (module_of v t))
+    (module_light v (map table ts)) 0 ts listed in
+    let same : each_table (module_of v) (tables_of values) ≡ map (module_of v) ts = ap (each_table (module_of v)) (tables_of-members values)
+    ∙ each_table-map (module_of v) ts in
     elim (modules_are (each_table (module_of v) (tables_of values))) [
       | inl none_listed ↦ inl none_listed
       | inr some ↦ elim (array_there found) [
@@ -623,7 +637,8 @@ fibres_are : (fs : List FibreAt) → (fibres_part fs ≡ 11) ⊎ ((fibres_part f
 fibres_are [] = inl refl
 fibres_are (f ∷ fs) = inr (refl, omega arith)
 
-fibres_slack : (ts : List Members) → 1 ≤ length (map fibre_of ts) → 80 * fibres_octets (map fibre_of ts) + 370 ≤ sum_of (λ t. 80 * fibre_octets (fibre_of t) + 370) ts
+fibres_slack : (ts : List Members) → 1 ≤ length (map fibre_of ts)
+    → 80 * fibres_octets (map fibre_of ts) + 370 ≤ sum_of (λ t. 80 * fibre_octets (fibre_of t) + 370) ts
 fibres_slack [] some = absurd (omega (arith, some))
 fibres_slack (t ∷ ts) some = let more = fibres_sum ts in omega (arith, more)
 
@@ -652,7 +667,8 @@ fibres_light found none =
     ]
 
 -- of both lists
-lists_light : (doc : Members) (fibres modules : ℕ) → IsPart 11 370 fibres (get_member (codes "fibre") doc) → IsPart 12 0 modules (get_member (codes "module") doc)
+lists_light : (doc : Members) (fibres modules : ℕ) → IsPart 11 370 fibres (get_member (codes "fibre") doc)
+    → IsPart 12 0 modules (get_member (codes "module") doc)
     → ((12 + fibres) + modules ≤ 35) ⊎ (80 * ((12 + fibres) + modules) ≤ 97 * members_weight doc + 94)
 lists_light doc fibres modules (inl f) (inl m) = inl (omega (arith, f, m))
 lists_light doc fibres modules (inl f) (inr (elements, is, light)) =
@@ -674,7 +690,8 @@ document_light others doc accepted =
     let fibres = tables_at (codes "fibre") doc in
     let lists = λ (code : Code). (none_parts (place_in_top others code doc) (place_in_lists code doc) (accepted code)).1 in
     let behind = λ (code : Code). (none_parts (place_of_keys code tables.Top (module_key ∷ []) doc)
-    (option_or (place_in_modules v code modules) (option_or (place_of_keys code tables.Top (fibre_key ∷ []) doc) (place_in_fibres code fibres))) (lists code)).1 in
+    (option_or (place_in_modules v code modules) (option_or (place_of_keys code tables.Top (fibre_key ∷ []) doc) (place_in_fibres code fibres)))
+    (lists code)).1 in
     let parts = λ (code : Code). none_parts (place_in_modules v code modules)
     (option_or (place_of_keys code tables.Top (fibre_key ∷ []) doc) (place_in_fibres code fibres)) (behind code) in
     let last = λ (code : Code). (none_parts (place_of_keys code tables.Top (fibre_key ∷ []) doc) (place_in_fibres code fibres) (parts code).1).1 in

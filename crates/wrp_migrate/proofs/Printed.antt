@@ -1,5 +1,5 @@
 -- How many octets the text of a database has at most.
-use Rattle.std.proofs.Common.{◌≡◌, ◌≤◌, ◌<◌, ◌+◌, ◌==◌, cond, ℕ, ℤ, pos, min, true, false, Bool, List, [], ◌∷◌, ◌++◌, length, map, codes, Option, Some, None, refl, ap, subst, arith, length-append, lit<}
+use Rattle.std.proofs.Common.{◌≡◌, ◌≤◌, ◌+◌, ◌==◌, cond, ℕ, ℤ, pos, min, true, false, Bool, List, [], ◌∷◌, ◌++◌, length, map, codes, Option, Some, None, refl, ap, subst, arith, length-append, lit<}
 use Rattle.std.proofs.lemmas.Bool.{and_parts}
 use Rattle.std.proofs.lemmas.Fmt.{length-decimal-le}
 use Rattle.std.proofs.lemmas.Bool.Decides.{nat_tests}
@@ -166,7 +166,8 @@ pairs_octets (e ∷ es) = pair_octets e + pairs_octets es
 abbrev pair_key : List (List ℕ) × List ℕ
 pair_key = (codes "module" ∷ [], codes "pair")
 
-pair_within : (e : Entry) → AreWithin (pair_octets e) ((pair_key, array_table) ∷ (pairs (pair_members e) ++ sections (codes "module" ∷ codes "pair" ∷ []) (pair_members e)))
+pair_within : (e : Entry)
+    → AreWithin (pair_octets e) ((pair_key, array_table) ∷ (pairs (pair_members e) ++ sections (codes "module" ∷ codes "pair" ∷ []) (pair_members e)))
 unfolding key_text
 pair_within e = record { counted = (tt, (tt, (tt, (tt, (tt, (tt, (tt, tt))))))); octets = omega arith }
 
@@ -200,7 +201,8 @@ module_key = ([], codes "module")
 abbrev element : List (List ℕ) × List ℕ → Members → List Expression
 element key ms = (key, array_table) ∷ (pairs ms ++ sections (key.0 ++ key.1 ∷ []) ms)
 
-module_lines : (name : List ℕ) (es : List Entry) → IsShortName name → AreWithin ((22 + length name) + entries_octets es) (element module_key (module_members (record { name = name; entries = es })))
+module_lines : (name : List ℕ) (es : List Entry) → IsShortName name
+    → AreWithin ((22 + length name) + entries_octets es) (element module_key (module_members (record { name = name; entries = es })))
 unfolding key_text
 module_lines name [] short = record { counted = (tt, (tt, (tt, tt))); octets = omega (arith, short) }
 module_lines name (e ∷ es) short =
@@ -209,7 +211,8 @@ module_lines name (e ∷ es) short =
     record { counted = (tt, (tt, tt)); octets = omega (arith, short) } in
     let more = joined (elements pair_key (item (table (pair_members e)) ds)) [] (pairs_octets (e ∷ es)) 0 (pairs_within (e ∷ es)) no_lines in
     rw (are_pairs es) (within ((22 + length name) + (pairs_octets (e ∷ es) + 0)) ((22 + length name) + pairs_octets (e ∷ es))
-    (((module_key, array_table) ∷ (([], codes "name"), key_value (string name)) ∷ []) ++ (elements pair_key (item (table (pair_members e)) ds) ++ [])) (omega arith)
+    (((module_key, array_table) ∷ (([], codes "name"), key_value (string name)) ∷ []) ++ (elements pair_key (item (table (pair_members e)) ds) ++ []))
+    (omega arith)
     (joined ((module_key, array_table) ∷ (([], codes "name"), key_value (string name)) ∷ []) (elements pair_key (item (table (pair_members e)) ds) ++ [])
     (22 + length name) (pairs_octets (e ∷ es) + 0) first_lines more))
 
@@ -220,7 +223,8 @@ modules_octets (m ∷ ms) = module_octets m + modules_octets ms
 abbrev pub HaveShortNames : List ModuleAt → Type 0
 HaveShortNames ms = AllByRecursion (λ m. IsShortName m.name) ms
 
-modules_within : (ms : List ModuleAt) → HaveShortNames ms → AreWithin (modules_octets ms) (elements module_key (items_of (map (λ m. table (module_members m)) ms)))
+modules_within : (ms : List ModuleAt) → HaveShortNames ms
+    → AreWithin (modules_octets ms) (elements module_key (items_of (map (λ m. table (module_members m)) ms)))
 modules_within [] short = no_lines
 modules_within (m ∷ ms) short =
     joined (element module_key (module_members m)) (elements module_key (items_of (map (λ m. table (module_members m)) ms)))
@@ -310,14 +314,16 @@ unfolding key_text
 document_within [] [] short names = record { counted = (tt, (tt, (tt, tt))); octets = omega (arith, two_octets) }
 document_within [] (m ∷ ms) short names =
     let lines = elements module_key (items_of (map (λ m. table (module_members m)) (m ∷ ms))) in
-    let front : AreWithin 23 ((([], codes "fibre"), key_value (array no_items)) ∷ version_lines) = record { counted = (tt, (tt, tt)); octets = omega (arith, two_octets) } in
+    let front : AreWithin 23
+    ((([], codes "fibre"), key_value (array no_items)) ∷ version_lines) = record { counted = (tt, (tt, tt)); octets = omega (arith, two_octets) } in
     let behind = joined lines [] (modules_octets (m ∷ ms)) 0 (modules_within (m ∷ ms) names) no_lines in
     rw (are_modules ms) (within (23 + (modules_octets (m ∷ ms) + 0)) ((12 + 11) + modules_octets (m ∷ ms))
     (((([], codes "fibre"), key_value (array no_items)) ∷ version_lines) ++ (lines ++ [])) (omega arith)
     (joined ((([], codes "fibre"), key_value (array no_items)) ∷ version_lines) (lines ++ []) 23 (modules_octets (m ∷ ms) + 0) front behind))
 document_within (f ∷ fs) [] short names =
     let lines = elements fibre_key (items_of (map (λ f. table (fibre_members f)) (f ∷ fs))) in
-    let front : AreWithin 24 ((([], codes "module"), key_value (array no_items)) ∷ version_lines) = record { counted = (tt, (tt, tt)); octets = omega (arith, two_octets) } in
+    let front : AreWithin 24
+    ((([], codes "module"), key_value (array no_items)) ∷ version_lines) = record { counted = (tt, (tt, tt)); octets = omega (arith, two_octets) } in
     let behind = joined lines [] (fibres_octets (f ∷ fs)) 0 (fibres_within (f ∷ fs) short) no_lines in
     rw (are_fibres fs) (within (24 + (fibres_octets (f ∷ fs) + 0)) ((12 + fibres_octets (f ∷ fs)) + 12)
     (((([], codes "module"), key_value (array no_items)) ∷ version_lines) ++ (lines ++ [])) (omega arith)
@@ -328,7 +334,8 @@ document_within (f ∷ fs) (m ∷ ms) short names =
     let front : AreWithin 12 version_lines = record { counted = (tt, tt); octets = omega (arith, two_octets) } in
     let last = joined more [] (modules_octets (m ∷ ms)) 0 (modules_within (m ∷ ms) names) no_lines in
     let behind = joined lines (more ++ []) (fibres_octets (f ∷ fs)) (modules_octets (m ∷ ms) + 0) (fibres_within (f ∷ fs) short) last in
-    rw (are_fibres fs, are_modules ms) (within (12 + (fibres_octets (f ∷ fs) + (modules_octets (m ∷ ms) + 0))) ((12 + fibres_octets (f ∷ fs)) + modules_octets (m ∷ ms))
+    rw (are_fibres fs, are_modules ms)
+    (within (12 + (fibres_octets (f ∷ fs) + (modules_octets (m ∷ ms) + 0))) ((12 + fibres_octets (f ∷ fs)) + modules_octets (m ∷ ms))
     (version_lines ++ (lines ++ (more ++ []))) (omega arith)
     (joined version_lines (lines ++ (more ++ [])) 12 (fibres_octets (f ∷ fs) + (modules_octets (m ∷ ms) + 0)) front behind))
 

@@ -134,7 +134,8 @@ decimal_short negative octets word fits =
     (λ is. float_short octets negative p) (λ whole.
     let point = or_first p.point (nat_lt 0 (length p.exponent)) whole in
     let front = (and_parts (p.len == length word) (is_decimal p) (not_true sound is_sound)).1 in
-    let lengths = (and_parts (nat_lt 0 (length p.whole) && (length p.whole == 1 || not (first p.whole == 48))) (not p.point || nat_lt 0 (length p.fraction)) front).0 in
+    let lengths = (and_parts (nat_lt 0 (length p.whole) && (length p.whole == 1 || not (first p.whole == 48)))
+    (not p.point || nat_lt 0 (length p.fraction)) front).0 in
     let some : nat_lt 0 (length p.whole) ≡ true = (and_parts (nat_lt 0 (length p.whole)) (length p.whole == 1 || not (first p.whole == 48)) lengths).0 in
     let all : p.whole ++ p.fraction ≡ take digits word = ap (λ f. p.whole ++ f) (no_fraction word point) ∙ append_nil p.whole ∙ whole_is word in
     let taken = length-take digits word in
@@ -191,7 +192,8 @@ plain_short octets word fits =
 
 filter_le : (p : ℕ → Bool) (xs : List ℕ) → length (filter p xs) ≤ length xs
 filter_le p [] = omega arith
-filter_le p (x ∷ xs) = let more = filter_le p xs in elim (cases_Bool (p x)) [ inl passes ↦ rw passes (omega (arith, more)) | inr other ↦ rw other (omega (arith, more)) ]
+filter_le p (x ∷ xs) = let more = filter_le p xs in
+    elim (cases_Bool (p x)) [ inl passes ↦ rw passes (omega (arith, more)) | inr other ↦ rw other (omega (arith, more)) ]
 
 number_short : (word : List ℕ) → Short (length word) (number word)
 unfolding number

@@ -1,5 +1,5 @@
 -- How many octets the text of a string or of a key has at least.
-use Rattle.std.proofs.Common.{◌≡◌, ◌≤◌, ◌<◌, ◌+◌, ◌-◌, ◌==◌, ◌&&◌, cond, ℕ, zero, suc, true, false, Bool, List, [], ◌∷◌, ◌++◌, length, take, drop, Option, Some, None, option_map, option_and_then, is_some, unwrap_or, nat_lt, nat_le, encode_utf8, refl, sym, ap, ◌∙◌, subst, inl, inr, arith, length-append, eqb-true}
+use Rattle.std.proofs.Common.{◌≡◌, ◌≤◌, ◌<◌, ◌+◌, ◌==◌, ◌&&◌, cond, ℕ, zero, suc, true, false, Bool, List, [], ◌∷◌, ◌++◌, length, take, drop, Option, Some, None, option_map, option_and_then, is_some, unwrap_or, nat_lt, nat_le, encode_utf8, refl, sym, ap, ◌∙◌, subst, inl, inr, arith, length-append, eqb-true}
 use Rattle.std.proofs.lemmas.Bool.{cases_Bool, and_parts}
 use Rattle.std.proofs.lemmas.Bool.Decides.{nat_tests}
 use Rattle.std.proofs.lemmas.List.{length-drop, take-append-drop}
@@ -145,7 +145,8 @@ delims_fit delim text piece next one e =
       | inl three ↦ piece_is (None, drop 3 text) (piece, next) text (same_Some (None, drop 3 text) (piece, next) (rw three at e)) (omega (arith, less, one))
       | inr other ↦ elim (cases_Bool (nat_lt count 6)) [
         | inl few ↦
-            piece_is (Some (delim ∷ []), drop 1 text) (piece, next) text (same_Some (Some (delim ∷ []), drop 1 text) (piece, next) (rw (other, few) at e)) (omega (arith, one))
+            piece_is (Some (delim ∷ []), drop 1 text) (piece, next) text (same_Some (Some (delim ∷ []), drop 1 text) (piece, next) (rw (other, few) at e))
+            (omega (arith, one))
         | inr many ↦ absurd (none-some (piece, next) (rw (other, many) at e))
       ]
     ]
@@ -176,7 +177,8 @@ special_fits delim multi text piece next h e =
       ]
     ]
   where
-    ending : (multi : Bool) → length (drop 1 text) + 1 ≡ length text → cond multi (at_delims delim text) (Some (None, drop 1 text)) ≡ Some (piece, next) → PieceFits piece next text
+    ending : (multi : Bool) → length (drop 1 text) + 1 ≡ length text → cond multi (at_delims delim text) (Some (None, drop 1 text)) ≡ Some (piece, next)
+        → PieceFits piece next text
     ending true one is = delims_fit delim text piece next one is
     ending false one is = piece_is (None, drop 1 text) (piece, next) text (same_Some (None, drop 1 text) (piece, next) is) (omega (arith, one))
 
@@ -238,7 +240,10 @@ trim_le text =
     let two = drop_le 2 text in
     elim (cases_Bool (first text == 10)) [
       | inl line ↦ rw line one
-      | inr other ↦ elim (cases_Bool (first text == 13 && slice_index text 1 == 10)) [ inl both ↦ rw (other, both) two | inr none ↦ rw (other, none) (omega arith) ]
+      | inr other ↦ elim (cases_Bool (first text == 13 && slice_index text 1 == 10)) [
+        | inl both ↦ rw (other, both) two
+        | inr none ↦ rw (other, none) (omega arith)
+      ]
     ]
 
 pub quoted_fits : (text s rest : List ℕ) → starts_string text ≡ true → quoted text ≡ Some (s, rest) → (length s + 2) + length rest ≤ length text
@@ -279,7 +284,8 @@ unfolding key_after
 key_after_fits zero path text k rest e = absurd (none-some (k, rest) e)
 key_after_fits (suc n) path text k rest e =
     let found = chained
-    (λ (part : List ℕ × List ℕ). cond (first (skip_ws part.1) == 46) (key_after n (path ++ part.0 ∷ []) (skip_ws (drop 1 (skip_ws part.1)))) (Some ((path, part.0), skip_ws part.1)))
+    (λ (part : List ℕ × List ℕ). cond (first (skip_ws part.1) == 46) (key_after n (path ++ part.0 ∷ []) (skip_ws (drop 1 (skip_ws part.1))))
+    (Some ((path, part.0), skip_ws part.1)))
     (simple_key text) (k, rest) e in
     let part = found.0 in
     let fits = simple_key_fits text part.0 part.1 found.1 in

@@ -1,5 +1,5 @@
 -- A text has at least half the octets that the table that it writes weighs.
-use Rattle.std.proofs.Common.{◌≡◌, ◌≤◌, ◌<◌, ◌+◌, ◌-◌, ◌*◌, ◌==◌, ◌&&◌, ◌||◌, cond, ℕ, zero, suc, true, false, Bool, List, [], ◌∷◌, length, drop, Some, None, option_map, option_and_then, is_some, unwrap_or, refl, sym, ap, ◌∙◌, subst, inl, inr, arith, eqb-true}
+use Rattle.std.proofs.Common.{◌≡◌, ◌≤◌, ◌<◌, ◌+◌, ◌*◌, ◌==◌, ◌&&◌, ◌||◌, cond, ℕ, zero, suc, true, false, Bool, List, [], ◌∷◌, length, drop, Some, None, option_map, option_and_then, is_some, unwrap_or, refl, sym, ap, ◌∙◌, subst, inl, inr, arith, eqb-true}
 use Rattle.std.proofs.lemmas.Bool.{cases_Bool, and_parts}
 use Rattle.std.proofs.lemmas.Bool.Decides.{nat_tests}
 use Rattle.std.proofs.lemmas.Option.{none-some, same_Some}
@@ -103,7 +103,8 @@ items_fit value (suc n) found text ds rest fits e =
           let there : end_weight 93 text ≡ 2 = rw ends refl in
           omega (arith, is, left, one, less, there)
       | inr more ↦
-          let first_value = chained (λ v. option_and_then (items value n (push_item found v.0)) (after_element 93 v.1)) (value start) (ds, rest) (rw more at e) in
+          let first_value = chained (λ v. option_and_then (items value n (push_item found v.0)) (after_element 93 v.1)) (value start) (ds, rest)
+          (rw more at e) in
           let v = first_value.0 in
           let next = chained (items value n (push_item found v.0)) (after_element 93 v.1) (ds, rest) first_value.2 in
           let on = items_fit value n (push_item found v.0) next.0 ds rest fits next.2 in

@@ -1,5 +1,5 @@
 -- The texts that are worked out.
-use Rattle.std.proofs.Common.{◌≡◌, ◌<◌, ℕ, pos, Bool, true, false, List, [], ◌∷◌, ◌++◌, codes, Some, refl, lit<, arith}
+use Rattle.std.proofs.Common.{◌≡◌, ℕ, pos, Bool, true, false, List, [], ◌∷◌, ◌++◌, codes, Some, refl, lit<, arith}
 use Rattle.std.proofs.ByRecursion.{IsAscii-from_all}
 use Rattle.std.proofs.lemmas.Int.{fits_signed_from_abs}
 use Rattle.std.proofs.lemmas.Str.{IsUtf8-from_ascii}
@@ -73,7 +73,8 @@ one_members =
     member (codes "module")
     (array (item (table (member (codes "err") (integer (pos 0))
     (member (codes "name") (string (codes "a"))
-    (member (codes "rx") (integer (pos 0)) (member (codes "transition") (integer (pos 0)) (member (codes "tx") (integer (pos 0)) no_members)))))) no_items)) no_members
+    (member (codes "rx") (integer (pos 0))
+    (member (codes "transition") (integer (pos 0)) (member (codes "tx") (integer (pos 0)) no_members)))))) no_items)) no_members
 
 one_read : parse_document one_module ≡ Some one_members
 unfolding toml_on_literals
@@ -107,7 +108,13 @@ one_due =
             (codes "\"a\"", refl, name_text),
             (
               refl,
-              ((codes "0", refl, zero_text), ((codes "0", refl, zero_text), ((codes "0", refl, zero_text), ((codes "0", refl, zero_text), ((codes "0", refl, zero_text), ((codes "0", refl, zero_text), tt)))))),
+              (
+                (codes "0", refl, zero_text),
+                (
+                  (codes "0", refl, zero_text),
+                  ((codes "0", refl, zero_text), ((codes "0", refl, zero_text), ((codes "0", refl, zero_text), ((codes "0", refl, zero_text), tt)))),
+                ),
+              ),
             ),
           ),
         ),
