@@ -1,9 +1,9 @@
 -- What is shown of each command that stands alone, for all that is told of it above.
-use Rattle.std.proofs.Common.{◌≡◌, ◌⊎◌, if◌then◌else◌, true, ℕ, Option, None, Some, List, [], ◌∷◌, ◌++◌, bytes_eq}
+use Rattle.std.proofs.Common.{◌≡◌, ◌⊎◌, if◌then◌else◌, true, ℕ, Option, None, Some, List, [], ◌∷◌, ◌++◌, bytes_eq, take}
 use Rattle.wrp_io.specs.declared.link.LinkCall.{LinkCall}
 use Rattle.wrp_records.specs.Meaning.{Meaning}
 use Rattle.wrp_records.specs.declared.status.Status.{Status}
-use Rattle.wrp_records.specs.declared.status.Status.TheVariants.{Usage, ReadFault, OutOfMemory}
+use Rattle.wrp_records.specs.declared.status.Status.TheVariants.{Usage, ReadFault, WriteFault, LinkFault, OutOfMemory}
 use Rattle.wrp_records.specs.Statuses.{is_answer}
 use Rattle.wrp_asked.specs.declared.alone.Alone.{Alone}
 use Rattle.wrp_asked.specs.Alone.{HasAim, MayAnswer, alone_commands, alone_meaning, alone_row}
@@ -13,11 +13,23 @@ abbrev pub first_with : List ℕ → List Alone → Option Alone
 first_with word [] = None
 first_with word (alone ∷ more) = if bytes_eq (alone_row alone).word word then Some alone else first_with word more
 
--- what a run left of an input: an answer that is due, or what stands where the source failed, or without memory
+-- the first records of an input write this, or nothing is written
+abbrev pub IsFirstOf : Meaning → List ℕ → List ℕ → Type 0
+IsFirstOf M input octets = (octets ≡ []) ⊎ ((calls : List LinkCall) × M.first input calls octets)
+
+-- the first octets of an answer that is due, or of what the first records write
+abbrev pub IsPartOf : Meaning → List ℕ → List ℕ → Type 0
+IsPartOf M input octets =
+    (whole : List ℕ) × (count : ℕ) × (octets ≡ take count whole)
+    × (((status : Status) × M.answers input [] status whole) ⊎ IsFirstOf M input whole)
+
+-- what a run left of an input: an answer that is due, or what stands where the source failed, without memory, or where a write failed; no link fails
 pub record Leaves (M : Meaning) (input : List ℕ) (status : Status) (octets : List ℕ) : Type 0 where
   pub answer : is_answer status ≡ true → M.answers input [] status octets
   pub cut : status ≡ ReadFault → (taken : List ℕ) × (left : List ℕ) × (input ≡ taken ++ left) × M.cut taken octets
-  pub first : status ≡ OutOfMemory → (octets ≡ []) ⊎ ((calls : List LinkCall) × M.first input calls octets)
+  pub first : status ≡ OutOfMemory → IsFirstOf M input octets
+  pub part : status ≡ WriteFault → IsPartOf M input octets
+  pub linked : status ≡ LinkFault → ⊥
 
 -- no command before it has its word; one status and one text are due for an input and some calls, of no call, and the status is one
 -- of its own; no link fails; and what a run left has the aim

@@ -1,5 +1,5 @@
 -- What a command that stands alone wrote is what is due for its input, and so its aim holds of it.
-use Rattle.std.proofs.Common.{◌≡◌, ◌∙◌, ◌⊎◌, ap, inl, inr, refl, sym, subst, true, false, ℕ, Option, None, Some, IfSome, List, [], ◌++◌}
+use Rattle.std.proofs.Common.{◌≡◌, ◌∙◌, ap, inl, inr, refl, sym, subst, true, false, ℕ, Option, None, Some, IfSome, List, ◌++◌}
 use Rattle.std.specs.Io.KnownBytes.{Appends, Consumes}
 use Rattle.wrp_io.specs.declared.link.LinkCall.{LinkCall}
 use Rattle.wrp_records.specs.declared.status.Status.{Status}
@@ -7,9 +7,9 @@ use Rattle.wrp_records.specs.declared.status.Status.TheVariants.{Done, Usage, Ba
 use Rattle.wrp_records.specs.Statuses.{is_answer}
 use Rattle.wrp_asked.specs.declared.alone.Alone.{Alone}
 use Rattle.wrp_asked.specs.Alone.{HasAim, IsAlone, alone_meaning}
-use Rattle.wrp_asked.specs.Answer.{Answer, CutAnswer, FirstAnswer, RecordsDue}
+use Rattle.wrp_asked.specs.Answer.{Answer, CutAnswer, FirstAnswer, PartAnswer, RecordsDue}
 use Rattle.wrp_asked.specs.Ends.{Run, Ends, Wrote}
-use Rattle.wrp_asked.proofs.AloneCommand.{Leaves}
+use Rattle.wrp_asked.proofs.AloneCommand.{IsFirstOf, IsPartOf, Leaves}
 use Rattle.wrp_asked.proofs.AloneTable.{facts_of}
 use Rattle.wrp_asked.proofs.Asking.{networked_of}
 use Rattle.wrp_asked.proofs.OneAnswer.{given_of}
@@ -45,12 +45,22 @@ own_cut words alone taken octets is (inl network) = absurd (alone_unnetworked wo
 own_cut words alone taken octets is (inr own) = subst (λ (a : Alone). (alone_meaning a).cut taken octets) (one_alone words own.0 alone own.1 is) own.2
 
 own_first : (words : List (List ℕ)) (alone : Alone) (input octets : List ℕ) (calls : List LinkCall) → IsAlone words alone → FirstAnswer words input calls octets
-    → (octets ≡ []) ⊎ ((calls : List LinkCall) × (alone_meaning alone).first input calls octets)
+    → IsFirstOf (alone_meaning alone) input octets
 own_first words alone input octets calls is (inl none) = inl none.0
 own_first words alone input octets calls is (inr (inl task)) = absurd (alone_unnetworked words alone is (networked_of words _ task.0 task.1))
 own_first words alone input octets calls is (inr (inr (inr looped))) = absurd (alone_unnetworked words alone is (inr (inr (inr (looped.1, looped.2.1)))))
 own_first words alone input octets calls is (inr (inr (inl own))) =
     inr (calls, subst (λ (a : Alone). (alone_meaning a).first input calls octets) (one_alone words own.0 alone own.1 is) own.2)
+
+-- and so is a part of it
+own_part : (words : List (List ℕ)) (alone : Alone) (input octets : List ℕ) (calls : List LinkCall) → IsAlone words alone → PartAnswer words input calls octets
+    → IsPartOf (alone_meaning alone) input octets
+own_part words alone input octets calls is (whole, count, octets_are, inl (status, due)) =
+    let own = answer_alone words alone input calls status whole is due in
+    let uncalled = subst (λ (cs : List LinkCall). (alone_meaning alone).answers input cs status whole) ((facts_of alone).uncalled input calls status whole own) own in
+    (whole, count, octets_are, inl (status, uncalled))
+own_part words alone input octets calls is (whole, count, octets_are, inr first) =
+    (whole, count, octets_are, inr (own_first words alone input whole calls is first))
 
 -- what was taken stands first in the input
 taken_front : (before now : Option (List ℕ)) (input taken : List ℕ) → before ≡ Some input → Consumes before now taken → (left : List ℕ) × (input ≡ taken ++ left)
@@ -73,6 +83,8 @@ answered run alone input status is told ends answer =
             ((facts_of alone).uncalled input given.1 status given.0 own) own;
         cut = λ e. let bad : false ≡ true = sym (ap is_answer e) ∙ answer in absurd (cc);
         first = λ e. let bad : false ≡ true = sym (ap is_answer e) ∙ answer in absurd (cc);
+        part = λ e. let bad : false ≡ true = sym (ap is_answer e) ∙ answer in absurd (cc);
+        linked = λ e. let bad : false ≡ true = sym (ap is_answer e) ∙ answer in absurd (cc);
       },
     )
 
@@ -85,12 +97,20 @@ told run alone input ReadFault is known ends =
         answer = λ e. absurd (cc);
         cut = λ e. (ends.1, front.0, front.1, own_cut run.words alone ends.1 ends.2 is ends.5);
         first = λ e. absurd (cc);
+        part = λ e. absurd (cc);
+        linked = λ e. absurd (cc);
       },
     )
 told run alone input WriteFault is known ends = (
   ends.1,
   ends.3,
-  record { answer = λ e. absurd (cc); cut = λ e. absurd (cc); first = λ e. absurd (cc) },
+  record {
+    answer = λ e. absurd (cc);
+    cut = λ e. absurd (cc);
+    first = λ e. absurd (cc);
+    part = λ e. own_part run.words alone input ends.1 ends.2 is (subst (λ (o : Option (List ℕ)). IfSome o (λ (i : List ℕ). PartAnswer run.words i ends.2 ends.1)) known ends.5);
+    linked = λ e. absurd (cc);
+  },
 )
 told run alone input OutOfMemory is known ends = (
   ends.0,
@@ -99,6 +119,8 @@ told run alone input OutOfMemory is known ends = (
     answer = λ e. absurd (cc);
     cut = λ e. absurd (cc);
     first = λ e. own_first run.words alone input ends.0 ends.1 is (subst (λ (o : Option (List ℕ)). IfSome o (λ (i : List ℕ). FirstAnswer run.words i ends.1 ends.0)) known ends.4);
+    part = λ e. absurd (cc);
+    linked = λ e. absurd (cc);
   },
 )
 told run alone input LinkFault is known ends = absurd (alone_unnetworked run.words alone is (inr (inr (inr ends.1))))

@@ -4,6 +4,7 @@ use Rattle.std.specs.Prelude.{◌≡◌, List, [], ◌∷◌, ℕ, Contains, cod
 use Rattle.wrp_calib.specs.LinesMeaning.{calibration}
 use Rattle.wrp_l1sync.specs.LineRecords.{meaning as synchronisation}
 use Rattle.wrp_migrate.specs.Migration.{migration}
+use Rattle.wrp_pcap.specs.InspectAim.{InspectsSo}
 use Rattle.wrp_pcap.specs.Inspected.{capture}
 use Rattle.wrp_plain.specs.LineCourse.{plain_meaning}
 use Rattle.wrp_records.specs.ByLines.{of_lines}
@@ -12,7 +13,7 @@ use Rattle.wrp_records.specs.declared.status.Status.{Status}
 use Rattle.wrp_records.specs.declared.status.Status.TheVariants.{Done, BadNetwork, BadTrace, Broken, TooLarge, BadCapture, BadCalib}
 use Rattle.wrp_asked.specs.declared.alone.Alone.{Alone}
 use Rattle.wrp_asked.specs.declared.alone.Alone.TheVariants.{Migrate, Inspect, L1Sync, Calibrate, Plain}
-use Rattle.wrp_asked.specs.AloneAims.{BoundsSo, CalibratesSo, InspectsSo, MigratesSo, SynchronisesSo}
+use Rattle.wrp_asked.specs.AloneAims.{BoundsSo, CalibratesSo, MigratesSo, SynchronisesSo}
 
 -- What a command is: the only word of its line; what the octets of its input mean; the statuses with which it may
 -- answer, but for faults of the outside and want of memory; and its aim, of an input, the status and what was written.
