@@ -12,7 +12,7 @@ use Rattle.wrp_records.specs.declared.status.Status.TheVariants.{Done}
 use Rattle.wrp_records.specs.ByLines.{of_lines}
 use Rattle.wrp_records.specs.LineMeaning.{LineMeaning}
 use Rattle.wrp_records.specs.Lines.{lines_of}
-use Rattle.wrp_asked.specs.declared.alone.Alone.TheVariants.{Migrate, Inspect, L1Sync, Calibrate, Plain}
+use Rattle.wrp_commands.specs.declared.alone.Alone.TheVariants.{Migrate, Inspect, L1Sync, Calibrate, Plain}
 use Rattle.wrp_due.proofs.Inspecting.{each_is_inspected}
 use Rattle.wrp_due.proofs.LinesAnswered.{IsTotal, lines_answered}
 use Rattle.wrp_due.specs.Due.{HasAnswer}

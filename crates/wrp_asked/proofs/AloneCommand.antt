@@ -1,17 +1,12 @@
 -- What is shown of each command that stands alone, for all that is told of it above.
-use Rattle.std.proofs.Common.{◌≡◌, ◌⊎◌, if◌then◌else◌, true, ℕ, Option, None, Some, List, [], ◌∷◌, ◌++◌, bytes_eq}
+use Rattle.std.proofs.Common.{◌≡◌, ◌⊎◌, true, ℕ, List, [], ◌++◌}
 use Rattle.wrp_io.specs.declared.link.LinkCall.{LinkCall}
 use Rattle.wrp_records.specs.Meaning.{Meaning}
 use Rattle.wrp_records.specs.declared.status.Status.{Status}
 use Rattle.wrp_records.specs.declared.status.Status.TheVariants.{Usage, ReadFault, OutOfMemory}
 use Rattle.wrp_records.specs.Statuses.{is_answer}
-use Rattle.wrp_asked.specs.declared.alone.Alone.{Alone}
-use Rattle.wrp_asked.specs.Alone.{HasAim, MayAnswer, alone_commands, alone_meaning, alone_row}
-
--- the first of some commands that has this word
-abbrev pub first_with : List ℕ → List Alone → Option Alone
-first_with word [] = None
-first_with word (alone ∷ more) = if bytes_eq (alone_row alone).word word then Some alone else first_with word more
+use Rattle.wrp_commands.specs.declared.alone.Alone.{Alone}
+use Rattle.wrp_asked.specs.Alone.{HasAim, MayAnswer, alone_meaning}
 
 -- what a run left of an input: an answer that is due, or what stands where the source failed, or without memory
 pub record Leaves (M : Meaning) (input : List ℕ) (status : Status) (octets : List ℕ) : Type 0 where
@@ -19,10 +14,9 @@ pub record Leaves (M : Meaning) (input : List ℕ) (status : Status) (octets : L
   pub cut : status ≡ ReadFault → (taken : List ℕ) × (left : List ℕ) × (input ≡ taken ++ left) × M.cut taken octets
   pub first : status ≡ OutOfMemory → (octets ≡ []) ⊎ ((calls : List LinkCall) × M.first input calls octets)
 
--- no command before it has its word; one status and one text are due for an input and some calls, of no call, and the status is one
+-- one status and one text are due for an input and some calls, of no call, and the status is one
 -- of its own; no link fails; and what a run left has the aim
 pub record IsAloneCommand (alone : Alone) : Type 0 where
-  pub found : first_with (alone_row alone).word alone_commands ≡ Some alone
   pub one :
       (input : List ℕ) (calls : List LinkCall) (s t : Status) (o u : List ℕ) → (alone_meaning alone).answers input calls s o →
       (alone_meaning alone).answers input calls t u → (s ≡ t) × (o ≡ u)

@@ -19,7 +19,6 @@ pub mod Networking
 pub mod NoTrack
 pub mod OneAnswer
 pub mod OneLoop
-pub mod ParsingLemmas
 pub mod PartsCarried
 pub mod PlaceWords
 pub mod PrintedRuns

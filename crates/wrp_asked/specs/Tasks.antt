@@ -1,11 +1,12 @@
--- What the words of the command line ask for (this project's profile).
-use Rattle.std.specs.Prelude.{◌≡◌, ℕ, ◌≤◌, Some, List, [], ◌∷◌, length, codes}
+-- What is asked for in a network: a task (this project's profile).
+use Rattle.std.specs.Prelude.{◌≡◌, ℕ, ◌≤◌, Some, List, length}
 use Rattle.wrp_config.specs.Names.{node_named}
 use Rattle.wrp_trace.specs.LineSetting.{LineSetting}
 use Rattle.wrp_course.specs.Setting.{Setting}
 use Rattle.wrp_audit.specs.Audited.{IsSettingOf}
 use Rattle.wrp_audit.specs.Audits.{audit_of, emission_of}
-use Rattle.wrp_asked.specs.CommandLine.{IsCommandWith, IsSeeded}
+use Rattle.wrp_commands.specs.Request.{CommandLine}
+use Rattle.wrp_commands.specs.Request as requests
 use Rattle.wrp_asked.specs.Input.{network_limit}
 use Rattle.wrp_records.specs.LineMeaning.{LineMeaning}
 use Rattle.wrp_replay.specs.Replays.{IsNetworkOf, meaning_of}
@@ -28,39 +29,39 @@ meaning_at (Emit setting node) = emission_of setting node
 meaning_at (Simulate setting seed) = simulation_of setting seed
 meaning_at (Loop setting seed) = scenario_of setting
 
--- the words ask for the replay of a node of this name
-abbrev pub IsReplay : List (List ℕ) → List ℕ → Type 0
-IsReplay words name = IsCommandWith (codes "replay") (codes "--node") words name
+-- a command line asks for the replay of a node of this name
+abbrev pub IsReplay : CommandLine → List ℕ → Type 0
+IsReplay asked name = asked.request ≡ Some (requests.Replay name)
 
--- the words ask for an audit
-abbrev pub IsAuditing : List (List ℕ) → Type 0
-IsAuditing words = words ≡ codes "audit" ∷ []
+-- for an audit
+abbrev pub IsAuditing : CommandLine → Type 0
+IsAuditing asked = asked.request ≡ Some requests.Audit
 
--- the words ask for the inputs of a node of this name
-abbrev pub IsEmission : List (List ℕ) → List ℕ → Type 0
-IsEmission words name = IsCommandWith (codes "audit") (codes "--emit") words name
+-- for the inputs of a node of this name
+abbrev pub IsEmission : CommandLine → List ℕ → Type 0
+IsEmission asked name = asked.request ≡ Some (requests.Emit name)
 
--- the words ask for a simulation from this seed
-abbrev pub IsSimulation : List (List ℕ) → ℕ → Type 0
-IsSimulation words seed = IsSeeded (codes "simulate") words seed
+-- for a simulation from this seed
+abbrev pub IsSimulation : CommandLine → ℕ → Type 0
+IsSimulation asked seed = asked.request ≡ Some (requests.Simulate seed)
 
--- the words ask for a run over a link from this seed
-abbrev pub IsLooping : List (List ℕ) → ℕ → Type 0
-IsLooping words seed = IsSeeded (codes "loop") words seed
+-- for a run over a link from this seed
+abbrev pub IsLooping : CommandLine → ℕ → Type 0
+IsLooping asked seed = asked.request ≡ Some (requests.Loop seed)
 
--- the words ask for a task in the network that this text describes; a node is the first of its name
-abbrev pub AsksFor : List (List ℕ) → List ℕ → Task → Type 0
-AsksFor words text (Replay site) =
+-- for a task in the network that this text describes; a node is the first of its name
+abbrev pub AsksFor : CommandLine → List ℕ → Task → Type 0
+AsksFor asked text (Replay site) =
     (length text ≤ network_limit)
-    × (name : List ℕ) × IsReplay words name × IsNetworkOf text site
+    × (name : List ℕ) × IsReplay asked name × IsNetworkOf text site
     × (node_named site.cfg name ≡ Some site.node)
-AsksFor words text (Audit setting) =
-    (length text ≤ network_limit) × IsAuditing words × IsSettingOf text setting
-AsksFor words text (Emit setting node) =
+AsksFor asked text (Audit setting) =
+    (length text ≤ network_limit) × IsAuditing asked × IsSettingOf text setting
+AsksFor asked text (Emit setting node) =
     (length text ≤ network_limit)
-    × (name : List ℕ) × IsEmission words name × IsSettingOf text setting
+    × (name : List ℕ) × IsEmission asked name × IsSettingOf text setting
     × (node_named setting.cfg name ≡ Some node)
-AsksFor words text (Simulate setting seed) =
-    (length text ≤ network_limit) × IsSimulation words seed × IsSettingOf text setting
-AsksFor words text (Loop setting seed) =
-    (length text ≤ network_limit) × IsLooping words seed × IsSettingOf text setting
+AsksFor asked text (Simulate setting seed) =
+    (length text ≤ network_limit) × IsSimulation asked seed × IsSettingOf text setting
+AsksFor asked text (Loop setting seed) =
+    (length text ≤ network_limit) × IsLooping asked seed × IsSettingOf text setting

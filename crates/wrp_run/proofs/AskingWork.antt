@@ -1,5 +1,5 @@
 -- What the words ask for, and the words of an audit and of a simulation.
-use Rattle.std.proofs.Common.{◌≡◌, ◌∙◌, refl, sym, ap, subst, inl, inr, ℕ, ◌<◌, ◌≤◌, Option, None, Some, Ok, List, [], length}
+use Rattle.std.proofs.Common.{◌≡◌, ◌∙◌, refl, sym, ap, subst, inl, inr, ℕ, ◌<◌, ◌≤◌, Option, None, Some, option_map, Ok, List, [], length}
 use Rattle.wrp_config.specs.declared.network.Network.{Network}
 use Rattle.wrp_base.specs.declared.configuration.NetCfg.{NetCfg}
 use Rattle.wrp_base.specs.Network.{node_count}
@@ -13,14 +13,14 @@ use Rattle.wrp_records.specs.LineMeaning.{LineMeaning}
 use Rattle.wrp_sim.specs.Scenario.{new_scene}
 use Rattle.wrp_run.specs.declared.network.Work.{Work}
 use Rattle.wrp_run.specs.declared.network.Work.TheVariants as works
-use Rattle.wrp_asked.specs.declared.parse.Asked.{Asked}
-use Rattle.wrp_asked.specs.declared.parse.Asked.TheVariants as asked
-use Rattle.wrp_asked.specs.declared.parse.Command.{Command}
-use Rattle.wrp_asked.specs.declared.parse.Command.TheVariants as command
+use Rattle.wrp_commands.specs.declared.command.Asked.{Asked}
+use Rattle.wrp_commands.specs.declared.command.Asked.TheVariants as wanted
+use Rattle.wrp_commands.specs.declared.command.Command.{Command}
+use Rattle.wrp_commands.specs.declared.command.Command.TheVariants as command
 use Rattle.wrp_asked.specs.Answer.{IsNetworked}
-use Rattle.wrp_run.specs.Asked.{AsksSo, AsksWork, FitsWork, task_by, task_of}
+use Rattle.wrp_run.specs.Asked.{AsksSo, AsksWork, FitsWork, IsAsked, task_by, task_of}
 use Rattle.wrp_audit.specs.AuditStands.{setting_in}
-use Rattle.wrp_asked.specs.CommandLine.{IsAsked, IsCommandOf}
+use Rattle.wrp_commands.specs.Request.{CommandLine, request_of}
 use Rattle.wrp_asked.specs.Input.{network_limit}
 use Rattle.wrp_asked.specs.Tasks.{AsksFor, meaning_at}
 use Rattle.wrp_asked.proofs.WordLemmas.{asks_nothing}
@@ -28,40 +28,40 @@ use Rattle.wrp_audit.proofs.AuditSteps.{nothing_accepted}
 use Rattle.wrp_replay.proofs.BareSetting.{named_bare}
 
 -- what is asked for, by the command that the words are
-pub asks_so : (words : List (List ℕ)) (found : Option Command) → IsCommandOf words found → AsksSo words found
-asks_so words None never = asks_nothing words never
-asks_so words (Some (command.OnNetwork what)) is = is
-asks_so words (Some (command.Alone alone)) is = is
-asks_so words (Some (command.Loop seed)) is = is
+pub asks_so : (asked : CommandLine) (found : Option Command) → asked.request ≡ option_map request_of found → AsksSo asked found
+asks_so asked None never = asks_nothing asked never
+asks_so asked (Some (command.OnNetwork what)) is = is
+asks_so asked (Some (command.Alone alone)) is = is
+asks_so asked (Some (command.Loop seed)) is = is
 
 -- the work that the words ask for is their task
-pub work_task : (words : List (List ℕ)) (text : List ℕ) (work : Work) (net : Network) → AsksWork words net work → length text ≤ network_limit → IsReadingOf text (Ok net)
-    → AsksFor words text (task_by work (setting_in net))
-work_task words text (works.Audit None) net asks within reads = (within, asks, record { net = net; reads = reads; is = refl })
-work_task words text (works.Audit (Some n)) net asks within reads = (within, asks.0, asks.1, record { net = net; reads = reads; is = refl }, asks.2)
-work_task words text (works.Simulate seed) net asks within reads = (within, asks, record { net = net; reads = reads; is = refl })
+pub work_task : (asked : CommandLine) (text : List ℕ) (work : Work) (net : Network) → AsksWork asked net work → length text ≤ network_limit → IsReadingOf text (Ok net)
+    → AsksFor asked text (task_by work (setting_in net))
+work_task asked text (works.Audit None) net asks within reads = (within, asks, record { net = net; reads = reads; is = refl })
+work_task asked text (works.Audit (Some n)) net asks within reads = (within, asks.0, asks.1, record { net = net; reads = reads; is = refl }, asks.2)
+work_task asked text (works.Simulate seed) net asks within reads = (within, asks, record { net = net; reads = reads; is = refl })
 
 -- they are a command on a network
-pub work_networked : (words : List (List ℕ)) (net : Network) (work : Work) → AsksWork words net work → IsNetworked words
-work_networked words net (works.Audit None) asks = inl asks
-work_networked words net (works.Audit (Some n)) asks = inr (inl (asks.0, inr asks.1))
-work_networked words net (works.Simulate seed) asks = inr (inr (inl (seed, asks)))
+pub work_networked : (asked : CommandLine) (net : Network) (work : Work) → AsksWork asked net work → IsNetworked asked
+work_networked asked net (works.Audit None) asks = inl asks
+work_networked asked net (works.Audit (Some n)) asks = inr (inl (asks.0, inr asks.1))
+work_networked asked net (works.Simulate seed) asks = inr (inr (inl (seed, asks)))
 
-pub asked_networked : (words : List (List ℕ)) (what : Asked) → IsAsked words what → IsNetworked words
-asked_networked words asked.Audit asks = inl asks
-asked_networked words (asked.Emit name) asks = inr (inl (name.now, inr asks))
-asked_networked words (asked.Replay name) asks = inr (inl (name.now, inl asks))
-asked_networked words (asked.Simulate seed) asks = inr (inr (inl (seed, asks)))
+pub asked_networked : (asked : CommandLine) (what : Asked) → IsAsked asked what → IsNetworked asked
+asked_networked asked wanted.Audit asks = inl asks
+asked_networked asked (wanted.Emit name) asks = inr (inl (name.now, inr asks))
+asked_networked asked (wanted.Replay name) asks = inr (inl (name.now, inl asks))
+asked_networked asked (wanted.Simulate seed) asks = inr (inr (inl (seed, asks)))
 
 -- of two networks that are the same they ask for the same work
 
 named_same : (a b : NetCfg) (name : List ℕ) → bare_cfg a ≡ bare_cfg b → node_named b name ≡ node_named a name
 named_same a b name same = sym (named_bare b name) ∙ ap (λ (c : NetCfg). node_named c name) (sym same) ∙ named_bare a name
 
-pub asks_same : (words : List (List ℕ)) (net own : Network) (work : Work) → IsSameNetwork net own → AsksWork words net work → AsksWork words own work
-asks_same words net own (works.Audit None) same asks = asks
-asks_same words net own (works.Audit (Some n)) same asks = (asks.0, asks.1, named_same net.cfg own.cfg asks.0 same.0 ∙ asks.2)
-asks_same words net own (works.Simulate seed) same asks = asks
+pub asks_same : (asked : CommandLine) (net own : Network) (work : Work) → IsSameNetwork net own → AsksWork asked net work → AsksWork asked own work
+asks_same asked net own (works.Audit None) same asks = asks
+asks_same asked net own (works.Audit (Some n)) same asks = (asks.0, asks.1, named_same net.cfg own.cfg asks.0 same.0 ∙ asks.2)
+asks_same asked net own (works.Simulate seed) same asks = asks
 
 pub fits_same : (net own : Network) (work : Work) → IsSameNetwork net own → FitsWork net work → FitsWork own work
 fits_same net own (works.Audit None) same fits = tt

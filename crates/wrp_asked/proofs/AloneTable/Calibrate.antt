@@ -8,7 +8,7 @@ use Rattle.wrp_records.specs.ByLines.{of_lines}
 use Rattle.wrp_records.specs.Lines.{lines_of}
 use Rattle.wrp_records.specs.declared.status.Status.{Status}
 use Rattle.wrp_records.specs.declared.status.Status.TheVariants.{Done, BadTrace, Broken, TooLarge, BadCalib}
-use Rattle.wrp_asked.specs.declared.alone.Alone.TheVariants.{Calibrate}
+use Rattle.wrp_commands.specs.declared.alone.Alone.TheVariants.{Calibrate}
 use Rattle.wrp_asked.specs.Alone.{MayAnswer}
 use Rattle.wrp_asked.specs.AloneAims.{CalibratesSo}
 use Rattle.wrp_asked.proofs.AloneCommand.{IsAloneCommand, Leaves}
@@ -31,7 +31,6 @@ aim input _ octets at = λ true say. tt
 
 pub facts : IsAloneCommand Calibrate
 facts = record {
-  found = refl;
   one = λ input calls s t o u p q. one_records_answer calibration exact (lines_of input) s t o u p.1 q.1;
   uncalled = λ input calls status octets at. at.0;
   unlinked = λ input octets at. at;

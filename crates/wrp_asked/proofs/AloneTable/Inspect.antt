@@ -6,7 +6,7 @@ use Rattle.wrp_pcap.proofs.OneInspection.{one_answer}
 use Rattle.wrp_pcap.specs.Inspected.{capture}
 use Rattle.wrp_records.specs.declared.status.Status.{Status}
 use Rattle.wrp_records.specs.declared.status.Status.TheVariants.{Done, BadCapture, TooLarge}
-use Rattle.wrp_asked.specs.declared.alone.Alone.TheVariants.{Inspect}
+use Rattle.wrp_commands.specs.declared.alone.Alone.TheVariants.{Inspect}
 use Rattle.wrp_asked.specs.Alone.{MayAnswer}
 use Rattle.wrp_asked.specs.AloneAims.{InspectsSo, JudgesHandshakes}
 use Rattle.wrp_asked.proofs.AloneCommand.{IsAloneCommand, Leaves}
@@ -32,7 +32,6 @@ aim input _ octets at = judges input
 
 pub facts : IsAloneCommand Inspect
 facts = record {
-  found = refl;
   one = one_answer;
   uncalled = λ input calls status octets at. at.0;
   unlinked = λ input octets at. at;

@@ -9,7 +9,7 @@ use Rattle.wrp_records.specs.ByLines.{of_lines}
 use Rattle.wrp_records.specs.Lines.{lines_of}
 use Rattle.wrp_records.specs.declared.status.Status.{Status}
 use Rattle.wrp_records.specs.declared.status.Status.TheVariants.{Done, BadTrace, Broken, TooLarge, ReadFault, OutOfMemory, BadCalib}
-use Rattle.wrp_asked.specs.declared.alone.Alone.TheVariants.{L1Sync}
+use Rattle.wrp_commands.specs.declared.alone.Alone.TheVariants.{L1Sync}
 use Rattle.wrp_asked.specs.Alone.{MayAnswer}
 use Rattle.wrp_asked.specs.AloneAims.{SynchronisesSo}
 use Rattle.wrp_asked.proofs.AloneCommand.{IsAloneCommand, Leaves}
@@ -37,7 +37,6 @@ aim input _ octets at = tt
 
 pub facts : IsAloneCommand L1Sync
 facts = record {
-  found = refl;
   one = λ input calls s t o u p q. one_records_answer synchronisation exact (lines_of input) s t o u p.1 q.1;
   uncalled = λ input calls status octets at. at.0;
   unlinked = λ input octets at. at;

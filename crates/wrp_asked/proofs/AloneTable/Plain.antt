@@ -10,7 +10,7 @@ use Rattle.wrp_records.specs.ByLines.{of_lines}
 use Rattle.wrp_records.specs.Lines.{lines_of}
 use Rattle.wrp_records.specs.declared.status.Status.{Status}
 use Rattle.wrp_records.specs.declared.status.Status.TheVariants.{Done, BadTrace, Broken, TooLarge, ReadFault, OutOfMemory, BadCalib}
-use Rattle.wrp_asked.specs.declared.alone.Alone.TheVariants.{Plain}
+use Rattle.wrp_commands.specs.declared.alone.Alone.TheVariants.{Plain}
 use Rattle.wrp_asked.specs.Alone.{MayAnswer}
 use Rattle.wrp_asked.specs.AloneAims.{BoundsSo, TellsTruly}
 use Rattle.wrp_asked.proofs.AloneCommand.{IsAloneCommand, Leaves}
@@ -44,7 +44,6 @@ aim input _ octets at = tells_truly input
 
 pub facts : IsAloneCommand Plain
 facts = record {
-  found = refl;
   one = λ input calls s t o u p q. one_records_answer plain_meaning exact (lines_of input) s t o u p.1 q.1;
   uncalled = λ input calls status octets at. at.0;
   unlinked = λ input octets at. at;
