@@ -17,8 +17,6 @@ use Rattle.wrp_records.specs.Refusals.{bad_network_line, too_large_line}
 use Rattle.wrp_simulate.specs.Simulates.{scenario_of, simulation_of}
 use Rattle.wrp_course.specs.Setting.{Setting}
 use Rattle.wrp_trace.specs.LineSetting.{LineSetting}
-use Rattle.wrp_commands.specs.declared.alone.Alone.{Alone}
-use Rattle.wrp_commands.specs.declared.alone.Alone.TheVariants.{Migrate, Inspect, L1Sync, Calibrate, Plain}
 use Rattle.wrp_commands.specs.Request.{CommandLine, Request}
 use Rattle.wrp_commands.specs.Request as requests
 use Rattle.wrp_asked.specs.Alone.{IsAlone, alone_meaning}
@@ -28,6 +26,7 @@ use Rattle.wrp_asked.specs.Input.{behind_separator, network_limit, network_text}
 use Rattle.wrp_asked.specs.Tasks.{AsksFor, Audit, Emit, IsAuditing, IsEmission, IsLooping, IsReplay, IsSimulation, Loop, Replay, Simulate, Task, meaning_at}
 use Rattle.wrp_replay.proofs.BareSetting.{named_bare}
 use Rattle.wrp_answers.proofs.Auditing.{IsOfNetwork, audit_answered, emission_answered}
+use Rattle.wrp_asked.proofs.AloneTable.{facts_of}
 use Rattle.wrp_asked.proofs.WordLemmas.{asks_nothing}
 use Rattle.wrp_answers.proofs.Replaying.{each_replay_has_answer}
 use Rattle.wrp_answers.proofs.Simulating.{simulation_answered}
@@ -57,15 +56,8 @@ due_of_task asked input OutOfMemory octets due = inl due
 due_of_task asked input BadCapture octets due = inl due
 due_of_task asked input BadCalib octets due = inl due
 
-no_usage : (alone : Alone) (input octets : List ℕ) → (alone_meaning alone).answers input [] Usage octets → ⊥
-no_usage Migrate input octets due = due.1
-no_usage Inspect input octets due = due.1
-no_usage L1Sync input octets due = due.1
-no_usage Calibrate input octets due = due.1
-no_usage Plain input octets due = due.1
-
 due_alone : (asked : CommandLine) (input : List ℕ) (status : Status) (octets : List ℕ) → AloneAnswer asked input [] status octets → Answer asked input [] status octets
-due_alone asked input Usage octets due = absurd (no_usage due.0 input octets due.2)
+due_alone asked input Usage octets due = absurd ((facts_of due.0).no_usage input octets due.2)
 due_alone asked input BadNetwork octets due = inr due
 due_alone asked input TooLarge octets due = inr (inr (inl due))
 due_alone asked input Done octets due = inr (inl due)
@@ -95,18 +87,18 @@ network_of accepted text net reads = record { accepted = accepted text net reads
 
 replay_in : (asked : CommandLine) (input name : List ℕ) (net : Network) → IsReplay asked name → length (network_text input) ≤ network_limit → IsReadingOf (network_text input) (Ok net)
     → (o : Option ℕ) → node_named net.cfg name ≡ o → Answered asked input
-replay_in asked input name net asks within reads None is = unnamed asked input name net (inl asks) within reads is
+replay_in asked input name net asks within reads None is = unnamed asked input name net (requests.Replay name, asks, refl) within reads is
 replay_in asked input name net asks within reads (Some node) is =
     let site : LineSetting = record { cfg = bare_cfg net.cfg; db = net.db; node = node } in
-    of_task asked input (Replay site) (within, name, asks, record { net = net; reads = reads; cfg = refl; db = refl }, named_bare net.cfg name ∙ is)
+    of_task asked input (Replay name site) (within, asks, (record { net = net; reads = reads; cfg = refl; db = refl }, named_bare net.cfg name ∙ is))
     (each_replay_has_answer site (behind_separator (lines_of input)))
 
 emission_in : ReadingIsAccepted → (asked : CommandLine) (input name : List ℕ) (net : Network) → IsEmission asked name → length (network_text input) ≤ network_limit → IsReadingOf (network_text input) (Ok net)
     → (o : Option ℕ) → node_named net.cfg name ≡ o → Answered asked input
-emission_in accepted asked input name net asks within reads None is = unnamed asked input name net (inr asks) within reads is
+emission_in accepted asked input name net asks within reads None is = unnamed asked input name net (requests.Emit name, asks, refl) within reads is
 emission_in accepted asked input name net asks within reads (Some node) is =
     let s : Setting = setting_at net.cfg net.db in
-    of_task asked input (Emit s node) (within, name, asks, record { net = net; reads = reads; is = refl }, is)
+    of_task asked input (Emit name s node) (within, asks, (record { net = net; reads = reads; is = refl }, is))
     (emission_answered s (network_of accepted (network_text input) net reads) node (behind_separator (lines_of input)))
 
 audit_in : ReadingIsAccepted → (asked : CommandLine) (input : List ℕ) (net : Network) → IsAuditing asked → length (network_text input) ≤ network_limit → IsReadingOf (network_text input) (Ok net) → Answered asked input
@@ -195,13 +187,13 @@ each_has_answer accepted asked input = go asked.request refl
   where
     go : (request : Option Request) → asked.request ≡ request → Settled asked input
     go None is = inl (Usage, asked.usage, (inl (asks_nothing asked is), refl, refl))
-    go (Some requests.Audit) is = networked asked input (inl is) (λ net within reads. inl (audit_in accepted asked input net is within reads))
-    go (Some (requests.Replay name)) is =
-        networked asked input (inr (inl (name, inl is))) (λ net within reads. inl (replay_in asked input name net is within reads (node_named net.cfg name) refl))
-    go (Some (requests.Emit name)) is =
-        networked asked input (inr (inl (name, inr is))) (λ net within reads. inl (emission_in accepted asked input name net is within reads (node_named net.cfg name) refl))
-    go (Some (requests.Simulate seed)) is = networked asked input (inr (inr (inl (seed, is)))) (λ net within reads. inl (simulation_in asked input seed net is within reads))
-    go (Some (requests.Loop seed)) is = networked asked input (inr (inr (inr (seed, is)))) (λ net within reads. loop_in asked input seed net is within reads)
+    go (Some (requests.OnNetwork requests.Audit)) is = networked asked input (requests.Audit, is) (λ net within reads. inl (audit_in accepted asked input net is within reads))
+    go (Some (requests.OnNetwork (requests.Replay name))) is =
+        networked asked input (requests.Replay name, is) (λ net within reads. inl (replay_in asked input name net is within reads (node_named net.cfg name) refl))
+    go (Some (requests.OnNetwork (requests.Emit name))) is =
+        networked asked input (requests.Emit name, is) (λ net within reads. inl (emission_in accepted asked input name net is within reads (node_named net.cfg name) refl))
+    go (Some (requests.OnNetwork (requests.Simulate seed))) is = networked asked input (requests.Simulate seed, is) (λ net within reads. inl (simulation_in asked input seed net is within reads))
+    go (Some (requests.OnNetwork (requests.Loop seed))) is = networked asked input (requests.Loop seed, is) (λ net within reads. loop_in asked input seed net is within reads)
     go (Some (requests.StandAlone alone)) is =
         let due = each_stands_alone_with_answer alone input in
         inl (due.0, due.1, due_alone asked input due.0 due.1 (alone, is, due.2))

@@ -27,7 +27,7 @@ use Rattle.wrp_asked.specs.LoopHeadline.{IsLoopDue, IsToldApart, LoopOf, LoopedE
 use Rattle.wrp_simulate.specs.Loops.{plan_of}
 use Rattle.wrp_asked.specs.Tasks.{Audit, IsAuditing, IsLooping}
 use Rattle.wrp_asked.proofs.LoopedParts.{loops_few}
-use Rattle.wrp_asked.proofs.LoopTold.{answer_due, told_apart}
+use Rattle.wrp_asked.proofs.LoopTold.{loop_answer, told_apart}
 use Rattle.wrp_answers.proofs.AcceptedLines.{run_of_lines_is_audit}
 use Rattle.wrp_answers.proofs.EventRecords.{told_count, told_says, told_whole, told_within}
 use Rattle.wrp_answers.proofs.EventSizes.{small_network}
@@ -43,7 +43,7 @@ the_loop asked input octets calls (inr (inr (inl link))) = absurd link
 the_loop asked input octets calls (inr (inr (inr loop))) = loop
 
 loop_due : (asked : CommandLine) (seed : ℕ) (input octets : List ℕ) (calls : List LinkCall) → IsLooping asked seed → Answer asked input calls Done octets → LoopOf asked input calls Done octets
-loop_due asked seed input octets calls looping answer = the_loop asked input octets calls (answer_due asked seed input calls Done octets looping answer)
+loop_due asked seed input octets calls looping answer = the_loop asked input octets calls (loop_answer asked seed input calls Done octets looping answer)
 
 -- The audit
 

@@ -30,6 +30,6 @@ tells_none w h node tick kind more e = no_gap w node (line_of (tick ∷ kind ∷
 
 pub tells_no_output : ReadingIsAccepted → EmissionTellsNoOutput
 tells_no_output accepted asked input status octets inputs =
-    let net = of_text accepted (network_text input) inputs.setting inputs.asks.3 in
+    let net = of_text accepted (network_text input) inputs.setting inputs.asks.2.0 in
     subst (λ (l : List ℕ). AllByRecursion TellsNoOutput (lines_of l)) (append-nil (given_lines inputs.setting inputs.node inputs.events))
     (pass_events TellsNoOutput tells_none inputs.setting inputs.node inputs.events net.accepted.database [] tt)

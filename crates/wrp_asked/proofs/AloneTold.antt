@@ -7,28 +7,30 @@ use Rattle.wrp_records.specs.declared.status.Status.TheVariants.{Done, Usage, Ba
 use Rattle.wrp_records.specs.Statuses.{is_answer}
 use Rattle.wrp_commands.specs.declared.alone.Alone.{Alone}
 use Rattle.wrp_commands.specs.Request.{CommandLine}
+use Rattle.wrp_commands.specs.Request as requests
 use Rattle.wrp_asked.specs.Alone.{HasAim, IsAlone, alone_meaning}
 use Rattle.wrp_asked.specs.Answer.{Answer, CutAnswer, FirstAnswer, RecordsDue}
 use Rattle.wrp_asked.specs.Ends.{Run, Ends, Wrote}
+use Rattle.wrp_asked.specs.Tasks.{Loop}
 use Rattle.wrp_asked.proofs.AloneCommand.{Leaves}
 use Rattle.wrp_asked.proofs.AloneTable.{facts_of}
 use Rattle.wrp_asked.proofs.Asking.{networked_of}
 use Rattle.wrp_asked.proofs.OneAnswer.{given_of}
-use Rattle.wrp_asked.proofs.WordLemmas.{alone_unnetworked, one_alone}
+use Rattle.wrp_asked.proofs.WordLemmas.{alone_command, alone_unnetworked, one_alone}
 
 -- an answer for its word is its own
 due_alone : (asked : CommandLine) (alone : Alone) (input : List ℕ) (calls : List LinkCall) (status : Status) (octets : List ℕ) → IsAlone asked alone → RecordsDue asked input calls status octets
     → (alone_meaning alone).answers input calls status octets
 due_alone asked alone input calls status octets is (inl task) = absurd (alone_unnetworked asked alone is (networked_of asked _ task.0 task.1))
-due_alone asked alone input calls status octets is (inr (inr looped)) = absurd (alone_unnetworked asked alone is (inr (inr (inr (looped.1, looped.2.1)))))
+due_alone asked alone input calls status octets is (inr (inr looped)) = absurd (alone_unnetworked asked alone is (networked_of asked _ (Loop looped.0 looped.1) looped.2))
 due_alone asked alone input calls status octets is (inr (inl own)) = subst (λ (a : Alone). (alone_meaning a).answers input calls status octets) (one_alone asked own.0 alone own.1 is) own.2
 
 -- and no refusal stands in front of it
 answer_alone : (asked : CommandLine) (alone : Alone) (input : List ℕ) (calls : List LinkCall) (status : Status) (octets : List ℕ) → IsAlone asked alone → Answer asked input calls status octets
     → (alone_meaning alone).answers input calls status octets
 answer_alone asked alone input calls Usage octets is h = elim h.0 [
-  | inl none ↦ absurd (none (inr (alone, is)))
-  | inr node ↦ absurd (alone_unnetworked asked alone is (inr (inl (node.name, node.asks))))
+  | inl none ↦ absurd (none (alone_command asked alone is))
+  | inr node ↦ absurd (alone_unnetworked asked alone is (node.asks.0, node.asks.1))
 ]
 answer_alone asked alone input calls BadNetwork octets is h = elim h [
   | inl bad ↦ absurd (alone_unnetworked asked alone is bad.0)
@@ -49,7 +51,7 @@ own_first : (asked : CommandLine) (alone : Alone) (input octets : List ℕ) (cal
     → (octets ≡ []) ⊎ ((calls : List LinkCall) × (alone_meaning alone).first input calls octets)
 own_first asked alone input octets calls is (inl none) = inl none.0
 own_first asked alone input octets calls is (inr (inl task)) = absurd (alone_unnetworked asked alone is (networked_of asked _ task.0 task.1))
-own_first asked alone input octets calls is (inr (inr (inr looped))) = absurd (alone_unnetworked asked alone is (inr (inr (inr (looped.1, looped.2.1)))))
+own_first asked alone input octets calls is (inr (inr (inr looped))) = absurd (alone_unnetworked asked alone is (networked_of asked _ (Loop looped.0 looped.1) looped.2))
 own_first asked alone input octets calls is (inr (inr (inl own))) =
     inr (calls, subst (λ (a : Alone). (alone_meaning a).first input calls octets) (one_alone asked own.0 alone own.1 is) own.2)
 
@@ -102,7 +104,7 @@ told run alone input OutOfMemory is known ends = (
     first = λ e. own_first run.asked alone input ends.0 ends.1 is (subst (λ (o : Option (List ℕ)). IfSome o (λ (i : List ℕ). FirstAnswer run.asked i ends.1 ends.0)) known ends.4);
   },
 )
-told run alone input LinkFault is known ends = absurd (alone_unnetworked run.asked alone is (inr (inr (inr ends.1))))
+told run alone input LinkFault is known ends = absurd (alone_unnetworked run.asked alone is (requests.Loop ends.1.0, ends.1.1))
 told run alone input Done is known ends = answered run alone input Done is known ends refl
 told run alone input Usage is known ends = answered run alone input Usage is known ends refl
 told run alone input BadNetwork is known ends = answered run alone input BadNetwork is known ends refl

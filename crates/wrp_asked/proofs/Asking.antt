@@ -28,8 +28,9 @@ use Rattle.wrp_asked.specs.Answer.{Answer, AsksNone, IsCommand, IsNetworked, Fir
 use Rattle.wrp_asked.specs.Ends.{Run, AsksEvents, Called, Ends, EndsRefused, EndsRefusedAs, EndsUnlinked, TakesPiece, Wrote, begun_at}
 use Rattle.wrp_asked.specs.Input.{network_text, behind_separator, network_limit, IsDivided, IsTooLong, IsUndivided}
 use Rattle.wrp_replay.specs.Replays.{IsRefusedBy}
-use Rattle.wrp_asked.specs.Tasks.{Task, Replay, Audit, Emit, Simulate, Loop, AsksFor, meaning_at}
+use Rattle.wrp_asked.specs.Tasks.{Task, Replay, Audit, Emit, Simulate, Loop, AsksFor, meaning_at, task_row}
 use Rattle.wrp_asked.proofs.AloneTable.{facts_of}
+use Rattle.wrp_asked.proofs.NetworkTable.{task_facts}
 
 -- what is due for the records is due for the words and the input
 answer_of : (asked : CommandLine) (input : List ℕ) (task : Task) (status : Status) (octets : List ℕ) → AsksFor asked (network_text input) task
@@ -264,30 +265,18 @@ cut_told asked network given text octets r task divided asks goes cut =
       | inr (end, same, none) ↦ absurd (goes end.ended)
     ]
 
--- words that ask for a task are a command on a network
+-- what asks for a task is a command on a network
 pub networked_of : (asked : CommandLine) (text : List ℕ) (task : Task) → AsksFor asked text task → IsNetworked asked
-networked_of asked text (Replay site) asks = inr (inl (asks.1, inl asks.2))
-networked_of asked text (Audit setting) asks = inl asks.1
-networked_of asked text (Emit setting node) asks = inr (inl (asks.1, inr asks.2))
-networked_of asked text (Simulate setting seed) asks = inr (inr (inl (seed, asks.1)))
-networked_of asked text (Loop setting seed) asks = inr (inr (inr (seed, asks.1)))
+networked_of asked text task asks = ((task_row task).command, asks.1)
 
 -- a premise is broken only where events are audited
 broken_asks : (asked : CommandLine) (text : List ℕ) (task : Task) (lines : List (List ℕ)) (due : List ℕ) → AsksFor asked text task
     → RecordsAnswer (meaning_at task) lines Broken due → AsksEvents asked
-broken_asks asked text (Replay site) lines due asks at = absurd at.refused
+broken_asks asked text (Replay name site) lines due asks at = absurd at.refused
 broken_asks asked text (Audit setting) lines due asks at = inl asks.1
-broken_asks asked text (Emit setting node) lines due asks at = inr (asks.1, asks.2)
+broken_asks asked text (Emit name setting node) lines due asks at = inr (name, asks.1)
 broken_asks asked text (Simulate setting seed) lines due asks at = absurd at.refused
 broken_asks asked text (Loop setting seed) lines due asks at = absurd at.refused
-
--- records on a network always give an answer
-never_barred : (task : Task) (lines : List (List ℕ)) (octets : List ℕ) → BreaksOff (meaning_at task) BadCalib lines octets → ⊥
-never_barred (Replay site) lines octets at = at.broken
-never_barred (Audit setting) lines octets at = at.broken
-never_barred (Emit setting node) lines octets at = at.broken
-never_barred (Simulate setting seed) lines octets at = at.broken
-never_barred (Loop setting seed) lines octets at = at.broken
 
 -- what is due at the end is due however the input goes on
 due_at_end : (M : LineMeaning) (taken : List ℕ) (ended : Bool) (octets : List ℕ) → After (of_lines M) taken ended [] Done octets → IsDue (of_lines M) taken ended [] Done octets
@@ -337,7 +326,7 @@ records_end asked first source sink text r ended task OutOfMemory net at link sa
 records_end asked first source sink text r ended task LinkFault net at link same = absurd at.stands.1
 records_end asked first source sink text r ended task BadCapture net at link same = absurd (at.stands.0 [] (λ e. refl)).1
 records_end asked first source sink text r ended task BadCalib net at link same =
-    absurd (never_barred task (lines_of ((r.rest ++ at.given) ++ [])) at.octets (at.stands.1 [] (λ e. refl)).1)
+    absurd ((task_facts task).ends (lines_of ((r.rest ++ at.given) ++ [])) at.octets (at.stands.1 [] (λ e. refl)).1)
 records_end asked first source sink text r ended task Usage net at link same = absurd (at.stands [] (λ e. refl)).1
 records_end asked first source sink text r ended task BadNetwork net at link same = absurd (at.stands [] (λ e. refl)).1
 

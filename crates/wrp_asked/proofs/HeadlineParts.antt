@@ -69,7 +69,7 @@ network_of accepted text s h =
 
 -- the text describes the network of the events that are asked for
 pub setting_asked : (asked : CommandLine) (text : List ℕ) (s : Setting) → AsksEventsOf asked text s → IsSettingOf text s
-setting_asked asked text s asks = elim asks [ inl audit ↦ audit.2 | inr emission ↦ emission.1.3 ]
+setting_asked asked text s asks = elim asks [ inl audit ↦ audit.2 | inr emission ↦ emission.2.2.0 ]
 
 pub run_of : EventsCanCome → ReadingIsAccepted → (asked : CommandLine) (input : List ℕ) (s : Setting) (events : List Happened) → Came asked input s events → IsRun s events
 run_of can accepted asked input s events came = record {

@@ -21,33 +21,26 @@ use Rattle.wrp_records.specs.RecordsAnswer.{BreaksOff, IsLarge, IsRefused, IsWho
 use Rattle.wrp_records.specs.Stream.{CutHandled, large_line}
 use Rattle.wrp_audit.specs.AuditText.{all_counts, audit_lines, event_lines}
 use Rattle.wrp_commands.specs.Request.{CommandLine}
-use Rattle.wrp_asked.specs.Answer.{Answer, AsksNone, CutAnswer, FirstAnswer, LoopAnswer, LoopBroken, PartAnswer, RecordsDue, TaskAnswer}
-use Rattle.wrp_asked.specs.Ends.{Called, Ends, Run}
+use Rattle.wrp_commands.specs.Request as requests
+use Rattle.wrp_asked.specs.Answer.{Answer, CutTask, LoopAnswer}
+use Rattle.wrp_asked.specs.Ends.{Ends, Run}
 use Rattle.wrp_asked.specs.Input.{behind_separator, network_text}
 use Rattle.wrp_asked.specs.Headline.{CarriesRun}
 use Rattle.wrp_asked.specs.LoopHeadline.{IsLoopDue, IsToldApart, LacksScene, LoopHeadline, LoopOf, LoopedEventsCarryParts, PrintsTheLoop, TellsApart, came_lines}
 use Rattle.wrp_simulate.specs.Loops.{LoopEnded, LoopFailed, LoopShort, IsShort, closing_lines, loop_of, plan_of}
 use Rattle.wrp_simulate.specs.Simulates.{SimRefuses, scenario_of}
-use Rattle.wrp_asked.specs.Tasks.{Task, Replay, Audit, Emit, Simulate, Loop, AsksFor, IsLooping, meaning_at}
+use Rattle.wrp_asked.specs.Tasks.{Task, Loop, AsksFor, IsLooping, meaning_at, task_row}
+use Rattle.wrp_asked.proofs.DueTold.{IsDueSo, answer_due, prints}
 use Rattle.wrp_asked.proofs.LoopedParts.{frames_first}
 use Rattle.wrp_asked.proofs.ToldApart.{all_text, came_text, count_lines, counts_plain, counts_text, steps_text}
 use Rattle.wrp_asked.proofs.ToldWhole.{all_whole, audit_whole, counts_whole}
-use Rattle.wrp_asked.proofs.WordLemmas.{alone_unnetworked, audit_unlooped, emission_unlooped, replay_unlooped, simulation_unlooped}
+use Rattle.wrp_asked.proofs.WordLemmas.{lacks_none, one_command}
 
--- where the words ask for a loop, what holds of every task holds if it does of a loop
+-- where a loop is asked for, what holds of every task holds if it does of a loop
 only_loop : (asked : CommandLine) (text : List ℕ) (seed : ℕ) (P : Task → Type 0) (Q : Type 0) → IsLooping asked seed → ((s : Setting) (own : ℕ) → AsksFor asked text (Loop s own) → P (Loop s own) → Q) → (task : Task) →
     AsksFor asked text task → P task → Q
-only_loop asked text seed P Q looping f (Replay site) asks h = absurd (replay_unlooped asked asks.1 asks.2 seed looping)
-only_loop asked text seed P Q looping f (Audit s) asks h = absurd (audit_unlooped asked asks.1 seed looping)
-only_loop asked text seed P Q looping f (Emit s n) asks h = absurd (emission_unlooped asked asks.1 asks.2 seed looping)
-only_loop asked text seed P Q looping f (Simulate s own) asks h = absurd (simulation_unlooped asked own asks.1 seed looping)
 only_loop asked text seed P Q looping f (Loop s own) asks h = f s own asks h
-
-asks_node : (asked : CommandLine) (text : List ℕ) (seed : ℕ) → IsLooping asked seed → AsksNone asked text → ⊥
-asks_node asked text seed looping none = elim none.asks [
-  | inl replay ↦ replay_unlooped asked none.name replay seed looping
-  | inr emission ↦ emission_unlooped asked none.name emission seed looping
-]
+only_loop asked text seed P Q looping f task asks h = let bad : requests.Loop seed ≡ (task_row task).command = one_command asked (requests.Loop seed) (task_row task).command looping asks.1 in absurd (cc)
 
 -- Records
 
@@ -227,92 +220,46 @@ looped_due asked input calls _ octets h = absurd h.3
 
 -- What is due
 
-task_due : (asked : CommandLine) (seed : ℕ) (input : List ℕ) (calls : List LinkCall) (status : Status) (octets : List ℕ) → IsLooping asked seed → TaskAnswer asked input calls status octets → IsLoopDue asked input calls status octets
-task_due asked seed input calls status octets looping h =
-    only_loop asked (network_text input) seed (λ task. RecordsAnswer (meaning_at task) (behind_separator (lines_of input)) status octets) (IsLoopDue asked input calls status octets) looping
-    (λ s own asks due. scene_due asked input calls status octets s own asks h.3 due) h.0 h.1 h.2
+task_due : (asked : CommandLine) (seed : ℕ) (input : List ℕ) (status : Status) (octets : List ℕ) (task : Task) → IsLooping asked seed → AsksFor asked (network_text input) task →
+    RecordsAnswer (meaning_at task) (behind_separator (lines_of input)) status octets → IsLoopDue asked input [] status octets
+task_due asked seed input status octets task looping asks due =
+    only_loop asked (network_text input) seed (λ t. RecordsAnswer (meaning_at t) (behind_separator (lines_of input)) status octets) (IsLoopDue asked input [] status octets) looping
+    (λ s own a due. scene_due asked input [] status octets s own a refl due) task asks due
 
-records_due : (asked : CommandLine) (seed : ℕ) (input : List ℕ) (calls : List LinkCall) (status : Status) (octets : List ℕ) → IsLooping asked seed → RecordsDue asked input calls status octets → IsLoopDue asked input calls status octets
-records_due asked seed input calls status octets looping (inl task) = task_due asked seed input calls status octets looping task
-records_due asked seed input calls status octets looping (inr (inl alone)) = absurd (alone_unnetworked asked alone.0 alone.1 (inr (inr (inr (seed, looping)))))
-records_due asked seed input calls status octets looping (inr (inr looped)) = looped_due asked input calls status octets looped
+scene_first : (asked : CommandLine) (input octets : List ℕ) (s : Setting) → StandsFirst (scenario_of s) (behind_separator (lines_of input)) octets → IsLoopDue asked input [] OutOfMemory octets
+scene_first asked input octets s (inl first) = inl (first.handled.accepted.2, refl)
+scene_first asked input octets s (inr off) = absurd off.broken
 
-pub answer_due : (asked : CommandLine) (seed : ℕ) (input : List ℕ) (calls : List LinkCall) (status : Status) (octets : List ℕ) → IsLooping asked seed → Answer asked input calls status octets → IsLoopDue asked input calls status octets
-answer_due asked seed input calls Usage octets looping h = elim h.0 [
-  | inl none ↦ absurd (none (inl (inr (inr (inr (seed, looping))))))
-  | inr node ↦ absurd (asks_node asked (network_text input) seed looping node)
-]
-answer_due asked seed input calls BadNetwork octets looping h = elim h [
-  | inl bad ↦ inl ((bad.1, bad.2), bad.3)
-  | inr alone ↦ absurd (alone_unnetworked asked alone.0 alone.1 (inr (inr (inr (seed, looping)))))
-]
-answer_due asked seed input calls TooLarge octets looping h = elim h [
-  | inl long ↦ inl ((long.1, long.2), long.3)
-  | inr due ↦ records_due asked seed input calls TooLarge octets looping due
-]
-answer_due asked seed input calls status octets looping h = records_due asked seed input calls status octets looping h
-
-scene_first : (asked : CommandLine) (input octets : List ℕ) (calls : List LinkCall) (s : Setting) → calls ≡ [] → StandsFirst (scenario_of s) (behind_separator (lines_of input)) octets → IsLoopDue asked input calls OutOfMemory octets
-scene_first asked input octets calls s none (inl first) = inl (first.handled.accepted.2, none)
-scene_first asked input octets calls s none (inr off) = absurd off.broken
-
-first_due : (asked : CommandLine) (seed : ℕ) (input : List ℕ) (calls : List LinkCall) (octets : List ℕ) → IsLooping asked seed → FirstAnswer asked input calls octets → IsLoopDue asked input calls OutOfMemory octets
-first_due asked seed input calls octets looping (inl none) = inl none
-first_due asked seed input calls octets looping (inr (inl h)) =
-    only_loop asked (network_text input) seed (λ task. StandsFirst (meaning_at task) (behind_separator (lines_of input)) octets) (IsLoopDue asked input calls OutOfMemory octets) looping
-    (λ s own asks first. scene_first asked input octets calls s h.3 first) h.0 h.1 h.2
-first_due asked seed input calls octets looping (inr (inr (inl alone))) = absurd (alone_unnetworked asked alone.0 alone.1 (inr (inr (inr (seed, looping)))))
-first_due asked seed input calls octets looping (inr (inr (inr looped))) = inr (inr (inr (short asked input octets calls looped.0 looped.1 looped.2 looped.3)))
+first_due : (asked : CommandLine) (seed : ℕ) (input octets : List ℕ) (task : Task) → IsLooping asked seed → AsksFor asked (network_text input) task → StandsFirst (meaning_at task) (behind_separator (lines_of input)) octets →
+    IsLoopDue asked input [] OutOfMemory octets
+first_due asked seed input octets task looping asks first =
+    only_loop asked (network_text input) seed (λ t. StandsFirst (meaning_at t) (behind_separator (lines_of input)) octets) (IsLoopDue asked input [] OutOfMemory octets) looping
+    (λ s own a first. scene_first asked input octets s first) task asks first
 
 -- where the source failed, nothing was written
-cut_due : (asked : CommandLine) (seed : ℕ) (input taken octets : List ℕ) → IsLooping asked seed → CutAnswer asked taken octets → IsLoopDue asked input [] ReadFault octets
-cut_due asked seed input taken octets looping (inl h) = elim h.1 [
-  | inl none ↦ inl (none.1, refl)
-  | inr cut ↦
-      only_loop asked cut.text seed (λ task. CutHandled (meaning_at task).accepts cut.back octets) (IsLoopDue asked input [] ReadFault octets) looping
-      (λ s own asks at. inl (at.handled.accepted.2, refl)) cut.task cut.asks cut.handled
-]
-cut_due asked seed input taken octets looping (inr alone) = absurd (alone_unnetworked asked alone.0 alone.1 (inr (inr (inr (seed, looping)))))
+cut_due : (asked : CommandLine) (seed : ℕ) (input taken octets : List ℕ) → IsLooping asked seed → CutTask asked taken octets → IsLoopDue asked input [] ReadFault octets
+cut_due asked seed input taken octets looping cut =
+    only_loop asked cut.text seed (λ task. CutHandled (meaning_at task).accepts cut.back octets) (IsLoopDue asked input [] ReadFault octets) looping
+    (λ s own asks at. inl (at.handled.accepted.2, refl)) cut.task cut.asks cut.handled
 
 -- A run
 
--- it wrote some octets, and these calls of its link tell of them
-abbrev LoopPrints : Run → Status → List ℕ → Type 0
-LoopPrints run status input =
-    (octets : List ℕ) × (calls : List LinkCall) × Appends run.sink.before run.sink.now octets × Called run calls × PrintsTheLoop run.asked input calls status octets
+loop_so : (asked : CommandLine) (seed : ℕ) → IsLooping asked seed → IsDueSo asked (IsLoopDue asked)
+loop_so asked seed looping = record {
+  command = requests.Loop seed;
+  on = looping;
+  no_node = λ input none. absurd (lacks_none asked (network_text input) (requests.Loop seed) looping refl none);
+  none = λ input status octets none. inl (none, refl);
+  task = λ input status octets task asks due. task_due asked seed input status octets task looping asks due;
+  first = λ input octets task asks first. first_due asked seed input octets task looping asks first;
+  cut = λ input taken left octets all cut. cut_due asked seed input taken octets looping cut;
+  linked = λ input calls status octets loop. looped_due asked input calls status octets loop;
+  short = λ input calls octets loop. inr (inr (inr (short asked input octets calls loop.0 loop.1 loop.2 loop.3)));
+  failed = λ input calls octets loop. failed asked input octets calls loop.0 loop.1 loop.2 loop.3;
+}
 
-answered : (run : Run) (seed : ℕ) (input : List ℕ) (status : Status) (octets : List ℕ) (calls : List LinkCall) → IsLooping run.asked seed → run.source.before ≡ Some input
-    → IfSome run.source.before (λ input. Answer run.asked input calls status octets) → IsLoopDue run.asked input calls status octets
-answered run seed input status octets calls looping is h =
-    answer_due run.asked seed input calls status octets looping (subst (λ (o : Option (List ℕ)). IfSome o (λ (i : List ℕ). Answer run.asked i calls status octets)) is h)
-
-part : (asked : CommandLine) (seed : ℕ) (input : List ℕ) (calls : List LinkCall) (octets : List ℕ) → IsLooping asked seed → PartAnswer asked input calls octets → PrintsTheLoop asked input calls WriteFault octets
-part asked seed input calls octets looping h = elim h.3 [
-  | inl answer ↦ (answer.0, h.0, h.1, h.2, answer_due asked seed input calls answer.0 h.0 looping answer.1)
-  | inr first ↦ (OutOfMemory, h.0, h.1, h.2, first_due asked seed input calls h.0 looping first)
-]
-
-prints : (run : Run) (seed : ℕ) (input : List ℕ) (status : Status) → IsLooping run.asked seed → run.source.before ≡ Some input → Ends run status → LoopPrints run status input
-prints run seed input Done looping is h = (h.0.1, h.0.2, h.0.3, h.0.4, answered run seed input Done h.0.1 h.0.2 looping is h.0.5)
-prints run seed input BadNetwork looping is h = (h.1, h.2, h.3, h.4, answered run seed input BadNetwork h.1 h.2 looping is h.5)
-prints run seed input TooLarge looping is h = (h.1, h.2, h.3, h.4, answered run seed input TooLarge h.1 h.2 looping is h.5)
-prints run seed input BadTrace looping is h = (h.0.1, h.0.2, h.0.3, h.0.4, answered run seed input BadTrace h.0.1 h.0.2 looping is h.0.5)
-prints run seed input Broken looping is h = (h.0.1, h.0.2, h.0.3, h.0.4, answered run seed input Broken h.0.1 h.0.2 looping is h.0.5)
-prints run seed input Usage looping is h = elim h.1 [
-  | inl none ↦ absurd (none (inl (inr (inr (inr (seed, looping))))))
-  | inr node ↦
-      absurd (asks_node run.asked (network_text input) seed looping (subst (λ (o : Option (List ℕ)). IfSome o (λ (i : List ℕ). AsksNone run.asked (network_text i))) is node.1))
-]
-prints run seed input ReadFault looping is h = (h.2, [], h.4, h.6, cut_due run.asked seed input h.1 h.2 looping h.5)
-prints run seed input WriteFault looping is h =
-    (h.1, h.2, h.3, h.4, part run.asked seed input h.2 h.1 looping (subst (λ (o : Option (List ℕ)). IfSome o (λ (i : List ℕ). PartAnswer run.asked i h.2 h.1)) is h.5))
-prints run seed input OutOfMemory looping is h =
-    (h.0, h.1, h.2, h.3, first_due run.asked seed input h.1 h.0 looping (subst (λ (o : Option (List ℕ)). IfSome o (λ (i : List ℕ). FirstAnswer run.asked i h.1 h.0)) is h.4))
-prints run seed input LinkFault looping is h =
-    let broken : LoopBroken run.asked input h.4 LinkFault h.3 = subst (λ (o : Option (List ℕ)). IfSome o (λ (i : List ℕ). LoopBroken run.asked i h.4 LinkFault h.3)) is h.7 in
-    (h.3, h.4, h.5, h.6, failed run.asked input h.3 h.4 broken.0 broken.1 broken.2 broken.3)
-prints run seed input BadCapture looping is h = absurd (alone_unnetworked run.asked h.2.0 h.2.1 (inr (inr (inr (seed, looping)))))
-prints run seed input BadCalib looping is h = absurd (alone_unnetworked run.asked h.1.0 h.1.1 (inr (inr (inr (seed, looping)))))
+pub loop_answer : (asked : CommandLine) (seed : ℕ) (input : List ℕ) (calls : List LinkCall) (status : Status) (octets : List ℕ) → IsLooping asked seed → Answer asked input calls status octets → IsLoopDue asked input calls status octets
+loop_answer asked seed input calls status octets looping h = answer_due asked input calls status octets (IsLoopDue asked) (loop_so asked seed looping) h
 
 -- The audit of its events
 
@@ -361,7 +308,7 @@ looped_told parts audited run status seed ends looping = go run.source.before re
     go : (o : Option (List ℕ)) → run.source.before ≡ o → IfSome o (IsLoopedSo run status)
     go None is = tt
     go (Some input) is =
-        let h = prints run seed input status looping is ends in (
+        let h = prints run input status (IsLoopDue run.asked) (loop_so run.asked seed looping) is ends in (
           h.0,
           h.1,
           h.2,

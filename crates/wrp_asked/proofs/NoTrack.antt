@@ -199,7 +199,7 @@ sound_in accepted text s setting = subst (λ (t : Setting). IsSoundDatabase t.db
 
 inputs_tell : ReadingIsAccepted → (asked : CommandLine) (input : List ℕ) (status : Status) (octets : List ℕ) → InputsOf asked input status octets → AllByRecursion TellsNoTrack (lines_of octets)
 inputs_tell accepted asked input status octets inputs =
-    let sound = sound_in accepted (network_text input) inputs.setting inputs.asks.3 in
+    let sound = sound_in accepted (network_text input) inputs.setting inputs.asks.2.0 in
     let last = last_tells status inputs.setting inputs.came.front inputs.came.behind [] inputs.last tt inputs.ends in
     told_as octets _ inputs.is (pass_events TellsNoTrack one_word inputs.setting inputs.node inputs.events sound inputs.last last)
 

@@ -3,11 +3,12 @@ use Rattle.std.proofs.Common.{◌≡◌, ◌⊎◌, inl, inr, ◌∙◌, refl, a
 use Rattle.std.specs.Io.KnownBytes.{Appends}
 use Rattle.wrp_course.specs.Setting.{Setting}
 use Rattle.wrp_commands.specs.Request.{CommandLine}
+use Rattle.wrp_commands.specs.Request as requests
 use Rattle.wrp_records.specs.declared.machine.Refusal.TheVariants as refusals
 use Rattle.wrp_records.specs.declared.status.Status.{Status}
 use Rattle.wrp_records.specs.declared.status.Status.TheVariants.{Done, BadTrace, Broken, ReadFault, TooLarge, OutOfMemory, BadCalib}
 use Rattle.wrp_io.specs.declared.link.LinkCall.{LinkCall}
-use Rattle.wrp_asked.specs.Answer.{AsksNone, CutTask, TaskAnswer}
+use Rattle.wrp_asked.specs.Answer.{CutTask}
 use Rattle.wrp_asked.specs.Ends.{Ends, Run}
 use Rattle.wrp_asked.specs.Headline.{ReachesNone}
 use Rattle.wrp_asked.specs.Input.{behind_separator, network_text}
@@ -17,29 +18,23 @@ use Rattle.wrp_asked.specs.SimHeadline.{LacksScenario, Made, MadeEventsCarryPart
 use Rattle.wrp_simulate.specs.SimText.{sim_lines, sum_lines}
 use Rattle.wrp_simulate.specs.Simulates.{SimRefuses, Simulates, simulation_of}
 use Rattle.wrp_records.specs.Stream.{CutHandled, large_line}
-use Rattle.wrp_asked.specs.Tasks.{Task, Replay, Audit, Emit, Simulate, Loop, AsksFor, IsSimulation, meaning_at}
-use Rattle.wrp_asked.proofs.DueTold.{IsDueSo, PrintsDue, prints}
-use Rattle.wrp_asked.proofs.WordLemmas.{emission_unsimulated, no_simulation, replay_unsimulated, simulation_unlooped}
+use Rattle.wrp_asked.specs.Tasks.{Task, Simulate, AsksFor, IsSimulation, meaning_at, task_row}
+use Rattle.wrp_asked.proofs.DueTold.{IsDueSo, PrintsDue, not_linked, prints}
+use Rattle.wrp_asked.proofs.WordLemmas.{lacks_none, one_command}
 
 -- The task of a simulation
 
-abbrev pub IsRunDue : CommandLine → List ℕ → Status → List ℕ → Type 0
-IsRunDue asked input status due = ReachesNone input status due ⊎ (LacksScenario asked input status due ⊎ RunOf asked input status due)
+abbrev pub IsRunDue : CommandLine → List ℕ → List LinkCall → Status → List ℕ → Type 0
+IsRunDue asked input calls status due = ReachesNone input status due ⊎ (LacksScenario asked input status due ⊎ RunOf asked input status due)
 
--- where the words ask for a simulation, what holds of every task holds if it does of a simulation
+-- where a simulation is asked for, what holds of every task holds if it does of a simulation
 only_simulation : (asked : CommandLine) (text : List ℕ) (seed : ℕ) (P : Task → Type 0) (Q : Type 0) → IsSimulation asked seed → ((s : Setting) (own : ℕ) → AsksFor asked text (Simulate s own) → P (Simulate s own) → Q) →
     (task : Task) → AsksFor asked text task → P task → Q
-only_simulation asked text seed P Q simulates f (Replay site) asks h = absurd (replay_unsimulated asked asks.1 asks.2 seed simulates)
-only_simulation asked text seed P Q simulates f (Audit s) asks h = absurd (no_simulation asked seed asks.1 simulates)
-only_simulation asked text seed P Q simulates f (Emit s n) asks h = absurd (emission_unsimulated asked asks.1 asks.2 seed simulates)
 only_simulation asked text seed P Q simulates f (Simulate s own) asks h = f s own asks h
-only_simulation asked text seed P Q simulates f (Loop s own) asks h = absurd (simulation_unlooped asked seed simulates own asks.1)
+only_simulation asked text seed P Q simulates f task asks h = let bad : requests.Simulate seed ≡ (task_row task).command = one_command asked (requests.Simulate seed) (task_row task).command simulates asks.1 in absurd (cc)
 
-asks_node : (asked : CommandLine) (text : List ℕ) (seed : ℕ) → IsSimulation asked seed → AsksNone asked text → ⊥
-asks_node asked text seed simulates none = elim none.asks [
-  | inl replay ↦ replay_unsimulated asked none.name replay seed simulates
-  | inr emission ↦ emission_unsimulated asked none.name emission seed simulates
-]
+unlooped : (seed own : ℕ) → requests.Simulate seed ≡ requests.Loop own → ⊥
+unlooped seed own e = cc
 
 -- Records
 
@@ -114,12 +109,12 @@ first_events asked input octets s seed asks h = record {
 }
 
 stand_first : (asked : CommandLine) (input octets : List ℕ) (s : Setting) (seed : ℕ) → AsksFor asked (network_text input) (Simulate s seed) → StandsFirst (simulation_of s seed) (behind_separator (lines_of input)) octets →
-    IsRunDue asked input OutOfMemory octets
+    IsRunDue asked input [] OutOfMemory octets
 stand_first asked input octets s seed asks (inl first) = inl first.handled.accepted.2
 stand_first asked input octets s seed asks (inr off) = inr (inr (first_events asked input octets s seed asks off))
 
 records_due : (asked : CommandLine) (input : List ℕ) (status : Status) (octets : List ℕ) (s : Setting) (seed : ℕ) → AsksFor asked (network_text input) (Simulate s seed) →
-    RecordsAnswer (simulation_of s seed) (behind_separator (lines_of input)) status octets → IsRunDue asked input status octets
+    RecordsAnswer (simulation_of s seed) (behind_separator (lines_of input)) status octets → IsRunDue asked input [] status octets
 records_due asked input Done octets s seed asks h = inr (inr (wholly asked input octets s seed asks h))
 records_due asked input BadTrace octets s seed asks h = inr (inl (refused asked input octets s seed asks h))
 records_due asked input Broken octets s seed asks h = absurd h.refused
@@ -128,47 +123,51 @@ records_due asked input TooLarge octets s seed asks (inr off) = inr (inr (overru
 records_due asked input BadCalib octets s seed asks h = absurd h.broken
 records_due asked input _ octets s seed asks h = absurd h
 
-task_due : (asked : CommandLine) (seed : ℕ) (input : List ℕ) (status : Status) (octets : List ℕ) (calls : List LinkCall) → IsSimulation asked seed → TaskAnswer asked input calls status octets → IsRunDue asked input status octets
-task_due asked seed input status octets calls simulates h =
-    only_simulation asked (network_text input) seed (λ task. RecordsAnswer (meaning_at task) (behind_separator (lines_of input)) status octets) (IsRunDue asked input status octets) simulates
-    (λ s own asks due. records_due asked input status octets s own asks due) h.0 h.1 h.2
+task_due : (asked : CommandLine) (seed : ℕ) (input : List ℕ) (status : Status) (octets : List ℕ) (task : Task) → IsSimulation asked seed → AsksFor asked (network_text input) task →
+    RecordsAnswer (meaning_at task) (behind_separator (lines_of input)) status octets → IsRunDue asked input [] status octets
+task_due asked seed input status octets task simulates asks due =
+    only_simulation asked (network_text input) seed (λ t. RecordsAnswer (meaning_at t) (behind_separator (lines_of input)) status octets) (IsRunDue asked input [] status octets) simulates
+    (λ s own a due. records_due asked input status octets s own a due) task asks due
 
 first_due : (asked : CommandLine) (seed : ℕ) (input octets : List ℕ) (task : Task) → IsSimulation asked seed → AsksFor asked (network_text input) task → StandsFirst (meaning_at task) (behind_separator (lines_of input)) octets →
-    IsRunDue asked input OutOfMemory octets
+    IsRunDue asked input [] OutOfMemory octets
 first_due asked seed input octets task simulates asks first =
-    only_simulation asked (network_text input) seed (λ t. StandsFirst (meaning_at t) (behind_separator (lines_of input)) octets) (IsRunDue asked input OutOfMemory octets) simulates
+    only_simulation asked (network_text input) seed (λ t. StandsFirst (meaning_at t) (behind_separator (lines_of input)) octets) (IsRunDue asked input [] OutOfMemory octets) simulates
     (λ s own a due. stand_first asked input octets s own a due) task asks first
 
 -- where the source failed, no event was made
-cut_due : (asked : CommandLine) (seed : ℕ) (input taken octets : List ℕ) → IsSimulation asked seed → CutTask asked taken octets → IsRunDue asked input ReadFault octets
+cut_due : (asked : CommandLine) (seed : ℕ) (input taken octets : List ℕ) → IsSimulation asked seed → CutTask asked taken octets → IsRunDue asked input [] ReadFault octets
 cut_due asked seed input taken octets simulates h =
-    only_simulation asked h.text seed (λ task. CutHandled (meaning_at task).accepts h.back octets) (IsRunDue asked input ReadFault octets) simulates
+    only_simulation asked h.text seed (λ task. CutHandled (meaning_at task).accepts h.back octets) (IsRunDue asked input [] ReadFault octets) simulates
     (λ s own asks cut. inl cut.handled.accepted.2) h.task h.asks h.handled
 
 -- A run
 
 run_so : (asked : CommandLine) (seed : ℕ) → IsSimulation asked seed → IsDueSo asked (IsRunDue asked)
 run_so asked seed simulates = record {
-  networked = inr (inr (inl (seed, simulates)));
-  unlooped = simulation_unlooped asked seed simulates;
-  no_node = λ input none. absurd (asks_node asked (network_text input) seed simulates none);
+  command = requests.Simulate seed;
+  on = simulates;
+  no_node = λ input none. absurd (lacks_none asked (network_text input) (requests.Simulate seed) simulates refl none);
   none = λ input status octets none. inl none;
-  task = λ input status octets calls answer. task_due asked seed input status octets calls simulates answer;
+  task = λ input status octets task asks due. task_due asked seed input status octets task simulates asks due;
   first = λ input octets task asks first. first_due asked seed input octets task simulates asks first;
   cut = λ input taken left octets all cut. cut_due asked seed input taken octets simulates cut;
+  linked = λ input calls status octets loop. absurd (not_linked asked (requests.Simulate seed) simulates (unlooped seed) loop.1 loop.2.1);
+  short = λ input calls octets loop. absurd (not_linked asked (requests.Simulate seed) simulates (unlooped seed) loop.1 loop.2.1);
+  failed = λ input calls octets loop. absurd (not_linked asked (requests.Simulate seed) simulates (unlooped seed) loop.1 loop.2.1);
 }
 
 -- a simulation ended with this status, and wrote what the aim says
 abbrev pub IsMadeSo : CommandLine → (held now : Option (List ℕ)) → Status → List ℕ → Type 0
 IsMadeSo asked held now status input = (octets : List ℕ) × Appends held now octets × SimHeadline asked input status octets
 
-headline_of : MadeEventsCarryParts → (asked : CommandLine) (input : List ℕ) (held now : Option (List ℕ)) (status : Status) → PrintsDue (IsRunDue asked) held now input status → IsMadeSo asked held now status input
-headline_of parts asked input held now status h = (h.0, h.1, record { prints = h.2; carries = λ s events made. parts asked input s events made })
+headline_of : MadeEventsCarryParts → (run : Run) (input : List ℕ) (status : Status) → PrintsDue (IsRunDue run.asked) run status input → IsMadeSo run.asked run.sink.before run.sink.now status input
+headline_of parts run input status h = (h.0, h.2, record { prints = h.4; carries = λ s events made. parts run.asked input s events made })
 
 run_told : MadeEventsCarryParts → (run : Run) (status : Status) (seed : ℕ) (o : Option (List ℕ)) → Ends run status → IsSimulation run.asked seed → run.source.before ≡ o → IfSome o (IsMadeSo run.asked run.sink.before run.sink.now status)
 run_told parts run status seed None ends simulates is = tt
 run_told parts run status seed (Some input) ends simulates is =
-    headline_of parts run.asked input run.sink.before run.sink.now status (prints run input status (IsRunDue run.asked) (run_so run.asked seed simulates) is ends)
+    headline_of parts run input status (prints run input status (IsRunDue run.asked) (run_so run.asked seed simulates) is ends)
 
 pub simulation_told : MadeEventsCarryParts → (run : Run) (status : Status) (seed : ℕ) → Ends run status → IsSimulation run.asked seed → IfSome run.source.before (IsMadeSo run.asked run.sink.before run.sink.now status)
 simulation_told parts run status seed ends simulates = run_told parts run status seed run.source.before ends simulates refl

@@ -2,7 +2,7 @@
 -- answered: one status and the octets that are written (this project's profile). The first refusal decides: no command, the size of
 -- the network text, the network, the node's name, and then the records, one by one. A command that stands alone has its own records
 -- and refusals.
-use Rattle.std.specs.Prelude.{◌≡◌, ◌⊎◌, ℕ, ◌<◌, ◌≤◌, None, Ok, List, [], ◌++◌, length, take}
+use Rattle.std.specs.Prelude.{◌≡◌, ◌⊎◌, ℕ, ◌<◌, ◌≤◌, None, Some, Ok, List, [], ◌++◌, length, take}
 use Rattle.wrp_config.specs.declared.network.Network.{Network}
 use Rattle.wrp_config.specs.Names.{node_named}
 use Rattle.wrp_config.specs.Reading.{IsReadingOf}
@@ -15,27 +15,24 @@ use Rattle.wrp_records.specs.RecordsAnswer.{BreaksOff, IsWholly, RecordsAnswer, 
 use Rattle.wrp_records.specs.Refusals.{too_large_line}
 use Rattle.wrp_records.specs.Stream.{CutHandled}
 use Rattle.wrp_commands.specs.declared.alone.Alone.{Alone}
-use Rattle.wrp_commands.specs.Request.{CommandLine}
+use Rattle.wrp_commands.specs.Request.{CommandLine, Networked, Request}
 use Rattle.wrp_asked.specs.Alone.{IsAlone, alone_meaning}
 use Rattle.wrp_asked.specs.Input.{network_text, behind_separator, network_limit, Divides, IsUndivided}
 use Rattle.wrp_simulate.specs.Loops.{loop_of}
 use Rattle.wrp_replay.specs.Replays.{IsRefusedBy}
-use Rattle.wrp_asked.specs.Tasks.{Task, Loop, AsksFor, IsAuditing, IsEmission, IsLooping, IsReplay, IsSimulation, meaning_at}
+use Rattle.wrp_asked.specs.Tasks.{Task, Loop, AsksFor, IsOnNetwork, meaning_at, node_of}
 
 -- what is asked for needs a node of this name
 abbrev pub IsOfNode : CommandLine → List ℕ → Type 0
-IsOfNode asked name = IsReplay asked name ⊎ IsEmission asked name
+IsOfNode asked name = (command : Networked) × IsOnNetwork asked command × (node_of command ≡ Some name)
 
 -- it is a command with a network text before its records
 abbrev pub IsNetworked : CommandLine → Type 0
-IsNetworked asked =
-    IsAuditing asked
-    ⊎ (((name : List ℕ) × IsOfNode asked name)
-    ⊎ (((seed : ℕ) × IsSimulation asked seed) ⊎ ((seed : ℕ) × IsLooping asked seed)))
+IsNetworked asked = (command : Networked) × IsOnNetwork asked command
 
 -- it is a command
 abbrev pub IsCommand : CommandLine → Type 0
-IsCommand asked = IsNetworked asked ⊎ ((alone : Alone) × IsAlone asked alone)
+IsCommand asked = (request : Request) × (asked.request ≡ Some request)
 
 -- what is asked for needs a node, and the network that this text describes has none of that name
 pub record AsksNone (asked : CommandLine) (text : List ℕ) : Type 0 where

@@ -20,9 +20,10 @@ use Rattle.wrp_asked.specs.Tasks.{Emit, AsksFor}
 
 -- the inputs that events which came give the node that is asked for, and what stands behind them: no counters
 pub record InputsOf (asked : CommandLine) (input : List ℕ) (status : Status) (octets : List ℕ) : Type 0 where
+  pub name : List ℕ
   pub setting : Setting
   pub node : ℕ
-  pub asks : AsksFor asked (network_text input) (Emit setting node)
+  pub asks : AsksFor asked (network_text input) (Emit name setting node)
   pub events : List Happened
   pub came : Came asked input setting events
   pub last : List ℕ

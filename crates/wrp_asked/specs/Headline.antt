@@ -38,7 +38,7 @@ use Rattle.wrp_truth.specs.Chains.{AllFit}
 
 -- the audit of a network that this text describes is asked for, or the inputs of a node in it
 abbrev pub AsksEventsOf : CommandLine → List ℕ → Setting → Type 0
-AsksEventsOf asked text s = AsksFor asked text (Audit s) ⊎ ((n : ℕ) × AsksFor asked text (Emit s n))
+AsksEventsOf asked text s = AsksFor asked text (Audit s) ⊎ ((name : List ℕ) × (n : ℕ) × AsksFor asked text (Emit name s n))
 
 -- the first lines of the records say these events, which kept all premises one after another, in the network that the text
 -- before the records describes

@@ -11,7 +11,7 @@ use Rattle.wrp_asked.specs.EventLines.{IsWord}
 -- nothing else than an audit, the inputs of a node in one, a simulation or a run over a link is asked for: neither a replay, nor a
 -- command that stands alone
 abbrev pub ReportsOffsets : Option Request → Type 0
-ReportsOffsets (Some (requests.Replay name)) = ⊥
+ReportsOffsets (Some (requests.OnNetwork (requests.Replay name))) = ⊥
 ReportsOffsets (Some (requests.StandAlone alone)) = ⊥
 ReportsOffsets _ = Unit {0}
 

@@ -2,7 +2,7 @@
 use Rattle.std.proofs.Common.{◌≡◌, inl, inr, refl, sym, subst, ℕ, ◌≤◌, drop, Option, None, Some, option_map, List, [], ◌∷◌, codes, arith}
 use Rattle.std.specs.Prelude.{option_and_then}
 use Rattle.std.specs.Borrow.{Bor}
-use Rattle.wrp_commands.specs.Request.{Loop, Simulate}
+use Rattle.wrp_commands.specs.Request.{Loop, OnNetwork, Simulate}
 use Rattle.wrp_words.specs.Fields.{seed_of}
 use Rattle.wrp_words.specs.Refusals.{usage_line}
 use Rattle.wrp_words.specs.Requests.{ReportsTrueOffsets, asked_in, request_in, value_given}
@@ -20,7 +20,7 @@ emission_reports : (given : Option (List ℕ)) → ReportsOffsets (option_and_th
 emission_reports None = tt
 emission_reports (Some name) = tt
 
-simulated : (seed : Option ℕ) → ReportsOffsets (option_map Simulate seed)
+simulated : (seed : Option ℕ) → ReportsOffsets (option_map (λ own. OnNetwork (Simulate own)) seed)
 simulated None = tt
 simulated (Some seed) = tt
 
@@ -28,7 +28,7 @@ simulation_reports : (given : Option (List ℕ)) → ReportsOffsets (option_and_
 simulation_reports None = tt
 simulation_reports (Some text) = simulated (seed_of text)
 
-looped : (seed : Option ℕ) → ReportsOffsets (option_map Loop seed)
+looped : (seed : Option ℕ) → ReportsOffsets (option_map (λ own. OnNetwork (Loop own)) seed)
 looped None = tt
 looped (Some seed) = tt
 

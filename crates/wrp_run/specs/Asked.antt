@@ -7,7 +7,10 @@ use Rattle.wrp_config.specs.declared.network.Network.{Network}
 use Rattle.wrp_config.specs.Names.{node_named}
 use Rattle.wrp_config.specs.Reading.{IsReadingOf}
 use Rattle.wrp_course.specs.Setting.{Setting}
+use Rattle.wrp_records.specs.LineMeaning.{LineMeaning}
 use Rattle.wrp_records.specs.Reader.{ReaderAt}
+use Rattle.wrp_audit.specs.Audits.{meaning_for}
+use Rattle.wrp_simulate.specs.Simulates.{simulation_of}
 use Rattle.wrp_commands.specs.declared.command.Asked.{Asked}
 use Rattle.wrp_commands.specs.declared.command.Command.{Command}
 use Rattle.wrp_commands.specs.declared.command.Command.TheVariants as command
@@ -17,7 +20,7 @@ use Rattle.wrp_run.specs.declared.network.Work.TheVariants as works
 use Rattle.wrp_asked.specs.Alone.{IsAlone}
 use Rattle.wrp_asked.specs.Answer.{IsCommand}
 use Rattle.wrp_asked.specs.Input.{IsDivided, network_limit}
-use Rattle.wrp_asked.specs.Tasks.{Task, Audit, Emit, Simulate, IsAuditing, IsEmission, IsLooping, IsSimulation}
+use Rattle.wrp_asked.specs.Tasks.{IsAuditing, IsEmission, IsLooping, IsSimulation}
 
 -- this is asked of a network
 abbrev pub IsAsked : CommandLine → Asked → Type 0
@@ -42,14 +45,10 @@ abbrev pub FitsWork : Network → work.Work → Type 0
 FitsWork net (works.Audit emit) = IfSome emit (λ n. n < node_count net.cfg)
 FitsWork net (works.Simulate seed) = Unit {0}
 
--- the task of a work: the inputs of a node, where they are asked for, or else the lines of all; or a simulation
-abbrev pub task_of : Option ℕ → Setting → Task
-task_of None s = Audit s
-task_of (Some n) s = Emit s n
-
-abbrev pub task_by : work.Work → Setting → Task
-task_by (works.Audit emit) s = task_of emit s
-task_by (works.Simulate seed) s = Simulate s seed
+-- what record lines mean in a work: the inputs of a node, where they are asked for, or else the lines of all; or a simulation
+abbrev pub work_meaning : work.Work → Setting → LineMeaning
+work_meaning (works.Audit emit) s = meaning_for emit s
+work_meaning (works.Simulate seed) s = simulation_of s seed
 
 -- What stands in front of the records came: of what the source had first, the octets up to the line that ends the
 -- network text, or to the end, were taken, and the text describes this network; the reader holds what follows.

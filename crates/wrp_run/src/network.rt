@@ -12,11 +12,11 @@ ghost use Rattle.wrp_records.specs.declared.status.Status.{Status};
 ghost use Rattle.wrp_records.specs.ByLines.{of_lines};
 ghost use Rattle.wrp_records.specs.Passages.{FailsBy, Passes, passage};
 ghost use Rattle.wrp_asked.specs.Answer.{IsOfNode};
-ghost use Rattle.wrp_run.specs.Asked.{AsksWork, FitsWork, IsAsked, IsFront, task_by};
+ghost use Rattle.wrp_run.specs.Asked.{AsksWork, FitsWork, IsAsked, IsFront, work_meaning};
 ghost use Rattle.wrp_audit.specs.AuditStands.{setting_in};
 ghost use Rattle.wrp_asked.specs.Ends.{EndsUnlinked, begun_at};
 ghost use Rattle.wrp_audit.specs.LawsFit.{LawsFit};
-ghost use Rattle.wrp_asked.specs.Tasks.{IsReplay, meaning_at};
+ghost use Rattle.wrp_asked.specs.Tasks.{IsReplay};
 ghost use Rattle.wrp_words.specs.Requests.{asked_in};
 
 use crate::front::{Front, new_reader, read_network, take_front};
@@ -54,7 +54,7 @@ fn work_by<F: Fn(i64) -> i64, S: Source, K: Sink>(
     requires accepted { IsAccepted net.value.cfg net.value.db }
     requires laws { LawsFit F.pre F.post net.value laws.items }
     requires work { FitsWork net.value work }
-    ensures passes { Passes (of_lines (meaning_at (task_by work (setting_in net.value))))
+    ensures passes { Passes (of_lines (work_meaning work (setting_in net.value)))
         (passage S.left S.faults source.old source.new) (passage K.held K.faults sink.old sink.new)
         reader.old.rest reader.old.ended reader.new.ended [] result }
 {
@@ -80,7 +80,7 @@ fn work_on<S: Source, K: Sink>(
     requires own { IsAccepted own.value.cfg own.value.db }
     requires same { IsSameNetwork net.now own.value }
     requires work { FitsWork own.value work }
-    ensures passes { Passes (of_lines (meaning_at (task_by work (setting_in own.value))))
+    ensures passes { Passes (of_lines (work_meaning work (setting_in own.value)))
         (passage S.left S.faults source.old source.new) (passage K.held K.faults sink.old sink.new)
         reader.old.rest reader.old.ended reader.new.ended [] result }
 {

@@ -7,7 +7,7 @@ use Rattle.std.proofs.lemmas.Option.{same_Some}
 use Rattle.std.proofs.lemmas.Slice.Eq.{bytes_eq-Decides}
 use Rattle.wrp_commands.specs.declared.alone.Alone.{Alone}
 use Rattle.wrp_commands.specs.declared.alone.Alone.TheVariants.{Migrate, Inspect, L1Sync, Calibrate, Plain}
-use Rattle.wrp_commands.specs.Request.{Request, Audit, StandAlone}
+use Rattle.wrp_commands.specs.Request.{Request, Audit, OnNetwork, StandAlone}
 use Rattle.wrp_words.specs.declared.command_line.Form.{Form}
 use Rattle.wrp_words.specs.declared.command_line.Form.TheVariants as forms
 use Rattle.wrp_words.specs.Alone.{IsAlone}
@@ -93,7 +93,7 @@ may_ask bare name option text asks (first ∷ word ∷ rest) value row is =
     ∙ ap (option_and_then (λ (r : Row). request_behind r.behind (word ∷ rest))) row
     ∙ ap (option_and_then asks) (given_so (codes "--" ++ option) (word ∷ rest) value is.1)
 
-pub audit_asks : (words : List (List ℕ)) → words ≡ codes "audit" ∷ [] → request_in words ≡ Some Audit
+pub audit_asks : (words : List (List ℕ)) → words ≡ codes "audit" ∷ [] → request_in words ≡ Some (OnNetwork Audit)
 unfolding request_in
 audit_asks words is = ap request_in is
 
@@ -139,7 +139,7 @@ bare_sound alone (word ∷ rest) request asked = absurd (cc)
 
 rows_sound : AllByRecursion IsSound rows
 rows_sound = (
-  may_sound forms.Audit forms.Emit Audit (codes "audit") (codes "emit") (codes "NODE") emission ([], (refl, refl)) (λ rest value is. is),
+  may_sound forms.Audit forms.Emit (OnNetwork Audit) (codes "audit") (codes "emit") (codes "NODE") emission ([], (refl, refl)) (λ rest value is. is),
   (
     must_sound forms.Replay (codes "replay") (codes "node") (codes "NODE") replay (λ rest value is. is),
     (

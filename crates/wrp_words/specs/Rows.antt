@@ -2,7 +2,7 @@
 use Rattle.std.specs.Prelude.{◌≡◌, ◌⊎◌, ◌↔◌, ℕ, true, false, Option, Some, option_map, List, [], ◌∷◌, ◌++◌, map, codes}
 use Rattle.clap.specs.Words.{App, with_subcommand}
 use Rattle.wrp_commands.specs.declared.alone.Alone.{Alone}
-use Rattle.wrp_commands.specs.Request.{Request, Audit, Emit, Replay, Simulate, Loop, StandAlone}
+use Rattle.wrp_commands.specs.Request.{Request, Audit, Emit, Replay, Simulate, Loop, OnNetwork, StandAlone}
 use Rattle.wrp_words.specs.declared.command_line.Form.{Form}
 use Rattle.wrp_words.specs.Alone.{alone_commands, alone_word}
 use Rattle.wrp_words.specs.CommandLine.{HasForm, IsCommandWith}
@@ -24,17 +24,17 @@ pub record Row : Type 0 where
 
 -- the name of a node
 abbrev pub emission : List ℕ → Option Request
-emission name = Some (Emit name)
+emission name = Some (OnNetwork (Emit name))
 
 abbrev pub replay : List ℕ → Option Request
-replay name = Some (Replay name)
+replay name = Some (OnNetwork (Replay name))
 
 -- a seed
 abbrev pub simulation : List ℕ → Option Request
-simulation text = option_map Simulate (seed_of text)
+simulation text = option_map (λ seed. OnNetwork (Simulate seed)) (seed_of text)
 
 abbrev pub looping : List ℕ → Option Request
-looping text = option_map Loop (seed_of text)
+looping text = option_map (λ seed. OnNetwork (Loop seed)) (seed_of text)
 
 -- a command that stands alone: its word is its line
 abbrev pub bare_row : Alone → Row
@@ -43,7 +43,7 @@ bare_row alone = record { name = alone_word alone; behind = Bare (StandAlone alo
 -- the commands: those with an option, and those that stand alone
 abbrev pub rows : List Row
 rows =
-    record { name = codes "audit"; behind = May Audit (codes "emit") (codes "NODE") emission }
+    record { name = codes "audit"; behind = May (OnNetwork Audit) (codes "emit") (codes "NODE") emission }
     ∷ record { name = codes "replay"; behind = Must (codes "node") (codes "NODE") replay }
     ∷ record { name = codes "simulate"; behind = Must (codes "seed") (codes "N") simulation }
     ∷ record { name = codes "loop"; behind = Must (codes "seed") (codes "N") looping }

@@ -11,11 +11,11 @@ use Rattle.wrp_run.proofs.command.run.Goals as goal
 
 pub returns-clause-due : goal.returns-clause-due
 returns-clause-due g c = λ status octets calls is told.
-    told_one c.one_run.ensures.run c.one_run.ensures.node c.one_audit.ensures c.told_last.ensures _ c.run_command.result status octets calls c.run_command.ensures.ends is told
+    told_one (record { run = c.one_run.ensures.run; node = c.one_run.ensures.node; audit = c.one_audit.ensures; last = c.told_last.ensures }) _ c.run_command.result status octets calls c.run_command.ensures.ends is told
 
 pub returns-clause-complete : goal.returns-clause-complete
 returns-clause-complete g c = λ status octets calls memory reads writes links told.
-    told_one c.one_run.ensures.run c.one_run.ensures.node c.one_audit.ensures c.told_last.ensures _ c.run_command.result status octets calls c.run_command.ensures.ends
+    told_one (record { run = c.one_run.ensures.run; node = c.one_run.ensures.node; audit = c.one_audit.ensures; last = c.told_last.ensures }) _ c.run_command.result status octets calls c.run_command.ensures.ends
     (ends_answered _ c.run_command.result c.run_command.ensures.ends memory reads writes links) told
 
 pub returns-clause-headline : goal.returns-clause-headline

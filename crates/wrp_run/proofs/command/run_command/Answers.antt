@@ -9,6 +9,8 @@ use Rattle.wrp_words.specs.Requests.{asked_in}
 use Rattle.wrp_asked.proofs.Asking.{memory_ends, uncalled, usage_ends}
 use Rattle.wrp_run.proofs.AskingWork.{asked_networked}
 use Rattle.wrp_asked.proofs.LoopEnding.{unlinked}
+use Rattle.wrp_asked.proofs.WordLemmas.{alone_command, networked_command}
+use Rattle.wrp_commands.specs.Request as requests
 use Rattle.wrp_run.proofs.command.run_command.Goals as goal
 
 pub returns-in-Ok-Some-OnNetwork-clause-ends : goal.returns-in-Ok-Some-OnNetwork-clause-ends
@@ -20,7 +22,7 @@ returns-in-Ok-Some-OnNetwork-clause-linked g c = unlinked _ _ _ c.run_network.re
 pub returns-in-Ok-Some-OnNetwork-clause-unread : goal.returns-in-Ok-Some-OnNetwork-clause-unread
 returns-in-Ok-Some-OnNetwork-clause-unread g c = λ none.
     let has = subst (AsksSo (asked_in c.args.words.now)) (c.in-Ok-Some-OnNetwork.field-0-is ∙ ap Some c.in-Ok-Some-OnNetwork.field-0-0-is) c.in-Ok-Some-OnNetwork.ensures in
-    absurd (none (inl (asked_networked (asked_in c.args.words.now) c.in-Ok-Some-OnNetwork.asked has)))
+    absurd (none (networked_command (asked_in c.args.words.now) (asked_networked (asked_in c.args.words.now) c.in-Ok-Some-OnNetwork.asked has)))
 
 pub returns-in-Ok-Some-Alone-clause-ends : goal.returns-in-Ok-Some-Alone-clause-ends
 returns-in-Ok-Some-Alone-clause-ends g c = c.run_alone.ensures.ends (passage g.N.Link.told g.N.Link.faults c.args.link.now c.args.link.now) refl
@@ -31,7 +33,7 @@ returns-in-Ok-Some-Alone-clause-linked g c = unlinked _ _ _ c.run_alone.result _
 pub returns-in-Ok-Some-Alone-clause-unread : goal.returns-in-Ok-Some-Alone-clause-unread
 returns-in-Ok-Some-Alone-clause-unread g c = λ none.
     let has = subst (AsksSo (asked_in c.args.words.now)) (c.in-Ok-Some-Alone.field-0-is ∙ ap Some c.in-Ok-Some-Alone.field-0-0-is) c.in-Ok-Some-Alone.ensures in
-    absurd (none (inr (c.in-Ok-Some-Alone.alone, has)))
+    absurd (none (alone_command (asked_in c.args.words.now) c.in-Ok-Some-Alone.alone has))
 
 pub run_loop-requires : goal.run_loop-requires
 run_loop-requires g c = subst (AsksSo (asked_in c.args.words.now)) (c.in-Ok-Some-Loop.field-0-is ∙ ap Some c.in-Ok-Some-Loop.field-0-0-is) c.in-Ok-Some-Loop.ensures
@@ -39,7 +41,7 @@ run_loop-requires g c = subst (AsksSo (asked_in c.args.words.now)) (c.in-Ok-Some
 pub returns-in-Ok-Some-Loop-clause-unread : goal.returns-in-Ok-Some-Loop-clause-unread
 returns-in-Ok-Some-Loop-clause-unread g c = λ none.
     let has = subst (AsksSo (asked_in c.args.words.now)) (c.in-Ok-Some-Loop.field-0-is ∙ ap Some c.in-Ok-Some-Loop.field-0-0-is) c.in-Ok-Some-Loop.ensures in
-    absurd (none (inl (inr (inr (inr (c.in-Ok-Some-Loop.seed, has))))))
+    absurd (none (networked_command (asked_in c.args.words.now) (requests.Loop c.in-Ok-Some-Loop.seed, has)))
 
 pub returns-in-Ok-Some-Loop-clause-unlinked : goal.returns-in-Ok-Some-Loop-clause-unlinked
 returns-in-Ok-Some-Loop-clause-unlinked g c = λ other.

@@ -11,6 +11,7 @@ use Rattle.wrp_asked.specs.Tasks.{Loop}
 use Rattle.wrp_words.specs.Requests.{asked_in}
 use Rattle.wrp_asked.proofs.Asking.{TookNetwork, refused_ends, uncalled}
 use Rattle.wrp_asked.proofs.LoopEnding.{loop_ends, refused_unlinked, refused_unread}
+use Rattle.wrp_commands.specs.Request as requests
 use Rattle.wrp_run.proofs.looped.run_behind.Goals as goal
 
 pub returns-in-Err-clause-ends : goal.returns-in-Err-clause-ends
@@ -24,7 +25,7 @@ returns-in-Err-clause-ends g c = λ first front.
       link = passage g.N.Link.told g.N.Link.faults c.args.link.now c.args.link.now;
     } in
     let reads = subst (λ (t : List ℕ). IsReadingOf t (Err c.in-Err.fault)) c.deref.ensures.value c.in-Err.ensures.refused in
-    refused_ends run c.refuse_network.result front.network text c.in-Err.fault c.args.reader.now (inr (inr (inr (c.args.seed, c.requires.asks)))) front.taken front.divided front.within
+    refused_ends run c.refuse_network.result front.network text c.in-Err.fault c.args.reader.now (requests.Loop c.args.seed, c.requires.asks) front.taken front.divided front.within
     front.at_end reads c.refuse_network.ensures.how c.refuse_network.ensures.rose (uncalled run.link refl)
 
 pub returns-in-Err-clause-read : goal.returns-in-Err-clause-read

@@ -5,10 +5,11 @@ use Rattle.wrp_records.specs.Passages.{passage}
 use Rattle.wrp_asked.specs.Ends.{Ends}
 use Rattle.wrp_words.specs.Requests.{asked_in}
 use Rattle.wrp_asked.proofs.LoopEnding.{unlinked}
+use Rattle.wrp_commands.specs.Request as requests
 use Rattle.wrp_run.proofs.looped.run_read.Goals as goal
 
 pub take_front-requires-clause-networked : goal.take_front-requires-clause-networked
-take_front-requires-clause-networked g c = inr (inr (inr (c.args.seed, c.requires.asks)))
+take_front-requires-clause-networked g c = (requests.Loop c.args.seed, c.requires.asks)
 
 pub returns-in-Ok-clause-ends : goal.returns-in-Ok-clause-ends
 returns-in-Ok-clause-ends g c =

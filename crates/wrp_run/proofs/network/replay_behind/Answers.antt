@@ -22,18 +22,16 @@ returns-clause-ends g c = λ first front.
     let asked = asked_in c.args.words.now in
     let text = c.args.front.text.items in
     let site : LineSetting = bare_setting (line_setting_of c.args.front.net.value c.args.node) in
-    let asks : AsksFor asked text (Replay site) = (
+    let asks : AsksFor asked text (Replay c.args.name.now site) = (
       front.within,
-      c.args.name.now,
       c.requires.asks,
-      record { net = c.args.front.net.value; reads = front.reads; cfg = refl; db = refl },
-      named_bare c.args.front.net.value.cfg c.args.name.now ∙ c.requires.named,
+      (record { net = c.args.front.net.value; reads = front.reads; cfg = refl; db = refl }, named_bare c.args.front.net.value.cfg c.args.name.now ∙ c.requires.named),
     ) in
-    let network : TookNetwork asked first (g.S.Source.left c.args.source.now) text c.args.reader.now (Replay site) =
+    let network : TookNetwork asked first (g.S.Source.left c.args.source.now) text c.args.reader.now (Replay c.args.name.now site) =
     record { network = front.network; taken = front.taken; divided = front.divided; at_end = front.at_end; asks = asks } in
     let passes = subst
     (λ (net : Network). Passes (of_lines (meaning_of (bare_setting (line_setting_of net c.args.node)))) (passage g.S.Source.left g.S.Source.faults c.args.source.now c.replay.new.source)
     (passage g.K.Sink.held g.K.Sink.faults c.args.sink.now c.replay.new.sink) c.args.reader.now.rest c.args.reader.now.ended c.replay.new.reader.ended [] c.replay.result)
     c.deref-net.ensures c.replay.ensures.passes in
     records_end asked first (passage g.S.Source.left g.S.Source.faults c.args.source.now c.replay.new.source) (passage g.K.Sink.held g.K.Sink.faults c.args.sink.now c.replay.new.sink)
-    text c.args.reader.now c.replay.new.reader.ended (Replay site) c.replay.result network passes
+    text c.args.reader.now c.replay.new.reader.ended (Replay c.args.name.now site) c.replay.result network passes

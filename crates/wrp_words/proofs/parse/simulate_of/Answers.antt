@@ -1,6 +1,6 @@
 -- The seed is that of the only value.
 use Rattle.std.proofs.Common.{◌∙◌, refl, sym, ap, codes, option_map}
-use Rattle.wrp_commands.specs.Request.{Simulate}
+use Rattle.wrp_commands.specs.Request.{Simulate, OnNetwork}
 use Rattle.wrp_words.specs.Fields.{seed_of}
 use Rattle.wrp_words.specs.Rows.{simulation}
 use Rattle.wrp_words.specs.Words.{texts_of}
@@ -18,7 +18,7 @@ returns-in-Some c =
     let read = c.in_ok-seed.ensures in
     let same = one_read words (codes "seed") has.0 read.0 (simulate_read words has.0 has.1) read.1 in
     must_ask (codes "simulate") (codes "seed") (codes "N") simulation words has.0 refl has.1
-    ∙ ap (option_map Simulate) (ap seed_of same ∙ sym read.2 ∙ c.in-Some.is)
+    ∙ ap (option_map (λ seed. OnNetwork (Simulate seed))) (ap seed_of same ∙ sym read.2 ∙ c.in-Some.is)
 
 pub returns-in-None : goal.returns-in-None
 returns-in-None c =
@@ -27,4 +27,4 @@ returns-in-None c =
     let read = c.in_ok-seed.ensures in
     let same = one_read words (codes "seed") has.0 read.0 (simulate_read words has.0 has.1) read.1 in
     must_ask (codes "simulate") (codes "seed") (codes "N") simulation words has.0 refl has.1
-    ∙ ap (option_map Simulate) (ap seed_of same ∙ sym read.2 ∙ c.in-None.is)
+    ∙ ap (option_map (λ seed. OnNetwork (Simulate seed))) (ap seed_of same ∙ sym read.2 ∙ c.in-None.is)
