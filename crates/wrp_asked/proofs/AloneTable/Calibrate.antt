@@ -1,5 +1,6 @@
 -- The command `calibrate`.
 use Rattle.std.proofs.Common.{refl, ℕ, List, [], arith}
+use Rattle.wrp_calib.proofs.InputsAnswered.{each_input_has_answer}
 use Rattle.wrp_calib.proofs.InputsTelling.{inputs_tell_truth}
 use Rattle.wrp_calib.proofs.LinesExact.{exact}
 use Rattle.wrp_calib.specs.LinesMeaning.{calibration}
@@ -11,7 +12,7 @@ use Rattle.wrp_records.specs.declared.status.Status.TheVariants.{Done, BadTrace,
 use Rattle.wrp_commands.specs.declared.alone.Alone.TheVariants.{Calibrate}
 use Rattle.wrp_asked.specs.Alone.{MayAnswer}
 use Rattle.wrp_asked.specs.AloneAims.{CalibratesSo}
-use Rattle.wrp_asked.proofs.AloneCommand.{IsAloneCommand, Leaves}
+use Rattle.wrp_asked.proofs.AloneCommand.{IsAloneCommand, Leaves, by_lines}
 
 may : (input : List ℕ) (status : Status) (octets : List ℕ) → (of_lines calibration).answers input [] status octets → MayAnswer Calibrate status
 may input Done octets at = (0, omega arith, refl)
@@ -35,6 +36,7 @@ facts = record {
   uncalled = λ input calls status octets at. at.0;
   unlinked = λ input octets at. at;
   no_usage = λ input octets at. at.1;
+  answered = λ input. by_lines calibration input (each_input_has_answer input);
   may = may;
   aim = aim;
 }

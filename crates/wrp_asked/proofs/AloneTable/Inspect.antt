@@ -1,5 +1,6 @@
 -- The command `inspect`.
 use Rattle.std.proofs.Common.{refl, ℕ, List, [], arith}
+use Rattle.wrp_due.proofs.Inspecting.{each_is_inspected}
 use Rattle.wrp_pcap.proofs.CompleteJudged.{complete_is_judged}
 use Rattle.wrp_pcap.proofs.Handshakes.{complete_names_handshake}
 use Rattle.wrp_pcap.proofs.OneInspection.{one_answer}
@@ -36,6 +37,7 @@ facts = record {
   uncalled = λ input calls status octets at. at.0;
   unlinked = λ input octets at. at;
   no_usage = λ input octets at. at.1;
+  answered = each_is_inspected;
   may = may;
   aim = aim;
 }

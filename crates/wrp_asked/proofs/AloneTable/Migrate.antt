@@ -1,5 +1,6 @@
 -- The command `migrate`.
 use Rattle.std.proofs.Common.{refl, ℕ, List, [], arith}
+use Rattle.wrp_migrate.proofs.EachAnswer.{each_has_migration}
 use Rattle.wrp_migrate.proofs.Keeping.{keeps}
 use Rattle.wrp_migrate.proofs.Unique.{one_migration}
 use Rattle.wrp_migrate.specs.Migration.{migration}
@@ -31,6 +32,7 @@ facts = record {
   uncalled = λ input calls status octets at. at.0;
   unlinked = λ input octets at. at;
   no_usage = λ input octets at. at.1;
+  answered = each_has_migration;
   may = may;
   aim = aim;
 }
