@@ -18,7 +18,7 @@ use Rattle.wrp_records.specs.Meaning.{Meaning}
 use Rattle.wrp_records.specs.Lines.{lines_of}
 use Rattle.wrp_records.specs.Passages.{Failed, Passage, Passes, PassesAll}
 use Rattle.wrp_records.specs.Reader.{ReaderAt, piece_limit}
-use Rattle.wrp_records.specs.RecordsAnswer.{RecordsAnswer, StandsFirst, BreaksOff, IsRefused}
+use Rattle.wrp_records.specs.RecordsAnswer.{RecordsAnswer, StandsFirst, IsRefused}
 use Rattle.wrp_records.specs.Refusals.{bad_network_line, too_large_line}
 use Rattle.wrp_records.specs.Stream.{CutHandled}
 use Rattle.wrp_commands.specs.declared.alone.Alone.{Alone}

@@ -1,6 +1,6 @@
 -- What a run wrote is what is due for what is asked, its input, the calls of its link and its status, whichever command on a network it
 -- is; where the sink failed, the first octets of what is due for another status.
-use Rattle.std.proofs.Common.{◌≡◌, ◌⊎◌, inl, inr, refl, sym, subst, ℕ, Option, None, Some, IfSome, List, [], ◌++◌}
+use Rattle.std.proofs.Common.{◌≡◌, ◌⊎◌, inl, inr, sym, subst, ℕ, Option, None, Some, IfSome, List, [], ◌++◌}
 use Rattle.std.specs.Io.KnownBytes.{Appends, Consumes}
 use Rattle.wrp_commands.specs.Request.{CommandLine, Networked}
 use Rattle.wrp_commands.specs.Request as requests

@@ -14,7 +14,7 @@ use Rattle.wrp_loop.specs.LoopText as texts
 use Rattle.wrp_loop.specs.LoopText.{forged_lines, loop_text, marked_in, others_in}
 use Rattle.wrp_records.specs.declared.machine.Refusal.TheVariants as refusals
 use Rattle.wrp_records.specs.declared.status.Status.{Status}
-use Rattle.wrp_records.specs.declared.status.Status.TheVariants.{Done, Usage, BadNetwork, BadTrace, Broken, ReadFault, WriteFault, LinkFault, TooLarge, OutOfMemory, BadCapture, BadCalib}
+use Rattle.wrp_records.specs.declared.status.Status.TheVariants.{Done, BadTrace, Broken, ReadFault, LinkFault, TooLarge, OutOfMemory, BadCalib}
 use Rattle.wrp_records.specs.Lines.{IsWhole, content_of, lines_of}
 use Rattle.wrp_records.proofs.Reaching.{lines_alone}
 use Rattle.wrp_records.specs.RecordsAnswer.{BreaksOff, IsLarge, IsRefused, IsWholly, RecordsAnswer, StandsFirst}

@@ -9,7 +9,7 @@ use Rattle.wrp_node.specs.OneRun.{OneNode, OneRun}
 use Rattle.wrp_records.specs.LineMeaning.{LineMeaning}
 use Rattle.wrp_records.specs.RecordsAnswer.{BreaksOff, RecordsAnswer}
 use Rattle.wrp_records.specs.declared.status.Status.{Status}
-use Rattle.wrp_records.specs.declared.status.Status.TheVariants.{Broken, BadCalib}
+use Rattle.wrp_records.specs.declared.status.Status.TheVariants.{BadCalib}
 use Rattle.wrp_records.proofs.Unique.{IsExact}
 use Rattle.wrp_replay.specs.Replays.{IsAccepted}
 use Rattle.wrp_servo.specs.Told.{ToldLast}

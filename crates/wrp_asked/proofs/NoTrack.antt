@@ -12,7 +12,7 @@ use Rattle.wrp_config.specs.Same.{ReadingIsAccepted}
 use Rattle.wrp_course.specs.declared.breach.Breach.{Breach}
 use Rattle.wrp_course.specs.Setting.{Setting}
 use Rattle.wrp_records.specs.declared.status.Status.{Status}
-use Rattle.wrp_records.specs.declared.status.Status.TheVariants.{Done, Usage, BadNetwork, BadTrace, Broken, ReadFault, WriteFault, LinkFault, TooLarge, OutOfMemory, BadCapture, BadCalib}
+use Rattle.wrp_records.specs.declared.status.Status.TheVariants.{Done, Usage, BadNetwork, BadTrace, Broken, ReadFault, WriteFault, TooLarge, OutOfMemory}
 use Rattle.wrp_records.specs.Lines.{IsWhole, lines_of}
 use Rattle.wrp_records.specs.Refusals.{bad_network_line, bad_trace_line, code_name, code_of, field_of, name_of, too_large_line}
 use Rattle.wrp_records.specs.Stream.{large_line}
@@ -20,7 +20,7 @@ use Rattle.wrp_records.specs.Words.{line_of}
 use Rattle.wrp_records.proofs.Feeds.{lines_of-whole}
 use Rattle.wrp_audit.specs.Audited.{IsSettingOf}
 use Rattle.wrp_commands.specs.Request.{CommandLine}
-use Rattle.wrp_asked.specs.EmitHeadline.{EmissionsTellNoTrack, HasPlainUsage, InputsOf, LacksNode, PrintsTheInputs, TellsNoTrack}
+use Rattle.wrp_asked.specs.EmitHeadline.{EmissionsTellNoTrack, HasPlainUsage, InputsOf, LacksNode, TellsNoTrack}
 use Rattle.wrp_asked.specs.EventLines.{IsWord}
 use Rattle.wrp_asked.specs.Headline.{EndsEvents, ReachesNone}
 use Rattle.wrp_asked.specs.Input.{network_text}

@@ -1,6 +1,6 @@
 -- What a run wrote of an audit, a simulation or a run over a link has no track line past its bound: one of these is asked for, or what
 -- is written has no track line.
-use Rattle.std.proofs.Common.{◌≡◌, ◌⊎◌, inl, inr, ◌∙◌, refl, ap, sym, subst, ℕ, Option, None, Some, IfSome, List, [], ◌∷◌, take, codes, arith}
+use Rattle.std.proofs.Common.{◌≡◌, ◌⊎◌, inl, inr, refl, subst, ℕ, Option, None, Some, IfSome, List, take}
 use Rattle.std.specs.List.{AllByRecursion}
 use Rattle.wrp_audit.specs.AuditLaws.{OneAudit}
 use Rattle.wrp_config.specs.Same.{ReadingIsAccepted}

@@ -7,7 +7,6 @@ use Rattle.wrp_config.specs.declared.network.Network.{Network}
 use Rattle.wrp_course.specs.Setting.{Setting}
 use Rattle.wrp_audit.proofs.BareAudit.{bare_setting}
 use Rattle.wrp_audit.proofs.ExactAudit.{exact_emission}
-use Rattle.wrp_audit.specs.Audited.{IsSettingOf}
 use Rattle.wrp_commands.specs.Request as requests
 use Rattle.wrp_simulate.proofs.BareRuns.{bare_emission}
 use Rattle.wrp_asked.specs.Tasks.{Task, Emit, task_row}
