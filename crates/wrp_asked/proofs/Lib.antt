@@ -16,11 +16,13 @@ pub mod LoopEnding
 pub mod LoopTold
 pub mod LoopedParts
 pub mod MadeRuns
+pub mod NetworkCommand
+pub mod NetworkTable
 pub mod Networking
 pub mod NoTrack
 pub mod OneAnswer
 pub mod OneLoop
-pub mod ParsingLemmas
+pub mod OneSetting
 pub mod PartsCarried
 pub mod PlaceWords
 pub mod PrintedRuns

@@ -172,7 +172,7 @@ pub frames_first : (calls first later : List LinkCall) → calls ≡ first ++ la
 frames_first calls first later all are = (all_parts first later (subst (AllByRecursion IsFrameCall) all are)).0
 
 pub looped_events_carry_parts : LoopKeepsTheBounds → ReadingIsAccepted → LinksHoldInRuns → TracksHoldInRuns → LoopedEventsCarryParts
-looped_events_carry_parts keeps accepted links tracks words input calls s last came =
+looped_events_carry_parts keeps accepted links tracks asked input calls s last came =
     let x : Plan = plan_of s came.scene came.seed in
     let net : IsNetwork s = network_of accepted (network_text input) s came.asks.2 in
     let kept = keeps x came.first last net (scenario_fits s _ came.scene came.said) came.loops in

@@ -15,7 +15,7 @@ use wrp_sim::simulator_keeps_the_bounds;
 use wrp_trace::events_can_come;
 use wrp_world::events_hold;
 
-/// For words, an input and the calls of a link one status and one text are due.
+/// For what is asked, an input and the calls of a link one status and one text are due.
 pub fn one_answer()
     ensures { OneAnswer }
 {
@@ -63,9 +63,8 @@ pub fn emissions_tell_no_track()
     reading_is_accepted();
 }
 
-/// In each line NODE TICK track EST BOUND true OFF that a run wrote whose words begin with `audit`, `simulate` or
-/// `loop`, the size of OFF is at most BOUND, whatever its status is. A line that was cut off before its LF is no such
-/// line.
+/// In each line NODE TICK track EST BOUND true OFF that a run wrote of an audit, a simulation or a run over a link, the size
+/// of OFF is at most BOUND, whatever its status is. A line that was cut off before its LF is no such line.
 pub fn runs_print_within_bounds()
     ensures { RunsPrintWithinBounds }
 {

@@ -1,12 +1,13 @@
 -- The command `inspect`.
 use Rattle.std.proofs.Common.{inl, inr, refl, ℕ, List, [], arith}
+use Rattle.wrp_due.proofs.Inspecting.{each_is_inspected}
 use Rattle.wrp_pcap.proofs.InspectAim.{judges}
 use Rattle.wrp_pcap.proofs.OneInspection.{one_answer}
 use Rattle.wrp_pcap.specs.InspectAim.{InspectLeaves, InspectPart, InspectsSo}
 use Rattle.wrp_pcap.specs.Inspected.{InspectFirst, capture}
 use Rattle.wrp_records.specs.declared.status.Status.{Status}
 use Rattle.wrp_records.specs.declared.status.Status.TheVariants.{Done, Usage, BadNetwork, BadTrace, Broken, ReadFault, WriteFault, LinkFault, TooLarge, OutOfMemory, BadCapture, BadCalib}
-use Rattle.wrp_asked.specs.declared.alone.Alone.TheVariants.{Inspect}
+use Rattle.wrp_commands.specs.declared.alone.Alone.TheVariants.{Inspect}
 use Rattle.wrp_asked.specs.Alone.{MayAnswer}
 use Rattle.wrp_asked.proofs.AloneCommand.{IsAloneCommand, IsFirstOf, IsPartOf, Leaves}
 
@@ -43,11 +44,11 @@ aim input status octets at = (leaves input status octets at, judges input)
 
 pub facts : IsAloneCommand Inspect
 facts = record {
-  found = refl;
   one = one_answer;
   uncalled = λ input calls status octets at. at.0;
   unlinked = λ input octets at. at;
   no_usage = λ input octets at. at.1;
+  answered = each_is_inspected;
   may = may;
   aim = aim;
 }
