@@ -8,11 +8,13 @@ pub mod Ends
 pub mod EventLines
 pub mod Fields
 pub mod Headline
+pub mod HopByHop
 pub mod Input
 pub mod LoopHeadline
 pub mod Parsing
 pub mod PrintedTracks
 pub mod Refusals
+pub mod ReplayHeadline
 pub mod ReportLines
 pub mod Rows
 pub mod SimHeadline

@@ -17,8 +17,9 @@ ghost use Rattle.wrp_simulate.specs.LoopPasses.{IsUncalled};
 ghost use Rattle.wrp_asked.specs.Headline.{Headline};
 ghost use Rattle.wrp_asked.specs.LoopHeadline.{LoopHeadline};
 ghost use Rattle.wrp_asked.specs.PrintedTracks.{ReportsTrueOffsets, TracksAreWithinBounds};
+ghost use Rattle.wrp_asked.specs.ReplayHeadline.{ReplayHeadline};
 ghost use Rattle.wrp_asked.specs.SimHeadline.{SimHeadline};
-ghost use Rattle.wrp_asked.specs.Tasks.{IsAuditing, IsEmission, IsLooping, IsSimulation};
+ghost use Rattle.wrp_asked.specs.Tasks.{IsAuditing, IsEmission, IsLooping, IsReplay, IsSimulation};
 ghost use Rattle.wrp_asked.specs.Words.{texts_of};
 
 use crate::alone::run_alone;
@@ -27,7 +28,7 @@ use crate::network::run_network;
 use std::alloc::{AllocError, Global};
 use wrp_asked::{
     Command, USAGE_LINE, emissions_tell_no_track, events_carry_parts, looped_events_carry_parts,
-    made_events_carry_parts, read_words, runs_print_within_bounds,
+    made_events_carry_parts, read_words, replays_are_told, runs_print_within_bounds,
 };
 use wrp_audit::one_audit;
 use wrp_io::{Link, Sink, Source};
@@ -123,6 +124,12 @@ pub fn run<S: Source, K: Sink, N: Link>(
         (octets : List ℕ) × Appends (K.held sink.old) (K.held sink.new) octets
         × EmitHeadline (texts_of words.now) input result octets) }
 
+    // Of a replay, for each status: it wrote what its node puts out at the inputs that the records say, and a frame
+    // that the node drops for one of the reasons 1 to 12 leaves one counter raised and nothing else changed.
+    ensures replayed { (name : List ℕ) → IsReplay (texts_of words.now) name → IfSome (S.left source.old) (λ input.
+        (octets : List ℕ) × Appends (K.held sink.old) (K.held sink.new) octets
+        × ReplayHeadline (texts_of words.now) input result octets) }
+
     // The same of a simulation, whose events keep all premises: they are a run of the network.
     ensures simulated { (seed : ℕ) → IsSimulation (texts_of words.now) seed → IfSome (S.left source.old) (λ input.
         (octets : List ℕ) × Appends (K.held sink.old) (K.held sink.new) octets
@@ -160,6 +167,7 @@ pub fn run<S: Source, K: Sink, N: Link>(
     emissions_tell_no_track();
     made_events_carry_parts();
     looped_events_carry_parts();
+    replays_are_told();
     runs_print_within_bounds();
     loop_is_audited();
     told_last();
