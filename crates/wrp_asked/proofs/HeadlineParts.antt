@@ -23,6 +23,7 @@ use Rattle.wrp_audit.specs.Audited.{AreEvents, IsSettingOf}
 use Rattle.wrp_commands.specs.Request.{CommandLine}
 use Rattle.wrp_asked.specs.EventLines.{AtEachEvent, Writing}
 use Rattle.wrp_asked.specs.Headline.{AsksEventsOf, CarriesParts, Came, DropsCountAt, IsEarnedAt, OnlyCounts, OnlyCountsIf}
+use Rattle.wrp_asked.specs.HopByHop.{HopByHop}
 use Rattle.wrp_asked.specs.Input.{network_text}
 use Rattle.wrp_asked.specs.TrackLines.{TracksAreWithin}
 use Rattle.wrp_asked.proofs.EventLines.{lines_by, no_lines}
@@ -118,10 +119,11 @@ earned_at has_line s h before holds run = record {
 -- All parts
 
 -- whichever outputs have a line
-pub parts_of : (has_line : Output → Bool) → LinksHoldInRuns → (s : Setting) (events : List Happened) → IsRun s events → TracksAreWithin (writes has_line) s events →
+pub parts_of : (has_line : Output → Bool) → LinksHoldInRuns → (s : Setting) (events : List Happened) → IsRun s events → TracksAreWithin (writes has_line) s events → HopByHop s events →
     CarriesParts (writes has_line) s events
-parts_of has_line links s events run tracks = record {
+parts_of has_line links s events run tracks hops = record {
   tracks = tracks;
+  hops = hops;
   link_on = at_each s (IsEarnedAt (writes has_line) s) (λ h before r. earned_at has_line s h before (links s h before r) r) events run;
   drops = at_each s (DropsCountAt (writes has_line) s) (λ h before r. all_count has_line s before h (given_at s before h) (links s h before r).drops) events run;
 }

@@ -10,6 +10,7 @@ pub mod EventWords
 pub mod EventsTold
 pub mod HeadlineParts
 pub mod HeadlineTold
+pub mod HopsHold
 pub mod InputLines
 pub mod LinkOnLines
 pub mod LoopEnding
@@ -27,6 +28,7 @@ pub mod PartsCarried
 pub mod PlaceWords
 pub mod PrintedRuns
 pub mod PrintedTracks
+pub mod ReplayTold
 pub mod ReportLines
 pub mod SimTold
 pub mod TakenLines

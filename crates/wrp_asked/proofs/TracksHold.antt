@@ -37,7 +37,7 @@ pub record RunsNear (s : Setting) (events : List Happened) : Type 0 where
   pub answered : IsAnswered (answers_in s) s (world_after s events)
   pub near : LawsAreNear s
 
-runs_before : (s : Setting) (h : Happened) (before : List Happened) → RunsNear s (h ∷ before) → RunsNear s before
+pub runs_before : (s : Setting) (h : Happened) (before : List Happened) → RunsNear s (h ∷ before) → RunsNear s before
 runs_before s h before runs = record {
   run = run_before s h before runs.run;
   fit = runs.fit.1;
@@ -45,7 +45,7 @@ runs_before s h before runs = record {
   near = runs.near;
 }
 
-true_run : (s : Setting) (events : List Happened) → RunsNear s events → TrueRun s events
+pub true_run : (s : Setting) (events : List Happened) → RunsNear s events → TrueRun s events
 true_run s events runs = record { run = runs.run; fit = runs.fit; answered = answers_near s (world_after s events) runs.near runs.answered }
 
 -- At each event

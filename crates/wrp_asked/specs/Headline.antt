@@ -1,7 +1,8 @@
 -- The aim of the project, part by part, of what an audit wrote, for each status: it printed exactly the nodes' steps
 -- (`PrintsTheSteps`); no port was in WR_LINK_ON unless its peer had passed the required steps of that same handshake
--- (`LinkOnIsEarned`); every track line's true offset is at most its printed bound (`TracksAreWithin`, in TrackLines.antt); and
--- a malformed or foreign frame changed only a counter (`DropsOnlyCount`). This project's profile.
+-- (`LinkOnIsEarned`); every track line's true offset is at most its printed bound (`TracksAreWithin`, in TrackLines.antt);
+-- a malformed or foreign frame changed only a counter (`DropsOnlyCount`); and each node in TRACK was within its hop of its parent, with
+-- what follows of that (`HopByHop`, in HopByHop.antt). This project's profile.
 use Rattle.std.specs.Prelude.{◌≡◌, ◌⊎◌, ℕ, ◌+◌, ◌<◌, ◌≤◌, Some, List, [], ◌∷◌, ◌++◌, length, map, take, codes}
 use Rattle.std.specs.Fmt.{decimal}
 use Rattle.std.specs.List.{AllByRecursion}
@@ -25,6 +26,7 @@ use Rattle.wrp_audit.specs.Audits.{AuditRefuses}
 use Rattle.wrp_audit.specs.AuditText.{all_counts, audit_lines, event_lines}
 use Rattle.wrp_commands.specs.Request.{CommandLine}
 use Rattle.wrp_asked.specs.EventLines.{AtEachEvent, IsWord, Writing}
+use Rattle.wrp_asked.specs.HopByHop.{HopByHop}
 use Rattle.wrp_asked.specs.Input.{network_text, behind_separator, network_limit}
 use Rattle.wrp_records.specs.Lines.{lines_of, content_of}
 use Rattle.wrp_records.specs.Refusals.{too_large_line}
@@ -146,6 +148,7 @@ pub record CarriesParts (write : Writing) (s : Setting) (events : List Happened)
   pub link_on : LinkOnIsEarned write s events
   pub tracks : TracksAreWithin write s events
   pub drops : DropsOnlyCount write s events
+  pub hops : HopByHop s events
 
 -- these events are a run of their network, so they kept all premises, their numbers are such as a line says, and they carry the
 -- other parts

@@ -7,9 +7,11 @@ pub mod EmitHeadline
 pub mod Ends
 pub mod EventLines
 pub mod Headline
+pub mod HopByHop
 pub mod Input
 pub mod LoopHeadline
 pub mod PrintedTracks
+pub mod ReplayHeadline
 pub mod ReportLines
 pub mod SimHeadline
 pub mod Tasks

@@ -9,6 +9,7 @@ mod network_text;
 
 pub use laws::{
     emissions_tell_no_track, events_carry_parts, looped_events_carry_parts,
-    made_events_carry_parts, one_answer, runs_print_within_bounds, track_reports_have_lines,
+    made_events_carry_parts, one_answer, replays_are_told, runs_print_within_bounds,
+    track_reports_have_lines,
 };
 pub use network_text::{End, NetworkText, take_network};

@@ -17,8 +17,9 @@ ghost use Rattle.wrp_loop.specs.LoopPasses.{IsUncalled};
 ghost use Rattle.wrp_asked.specs.Headline.{Headline};
 ghost use Rattle.wrp_asked.specs.LoopHeadline.{LoopHeadline};
 ghost use Rattle.wrp_asked.specs.PrintedTracks.{TracksAreWithinBounds};
+ghost use Rattle.wrp_asked.specs.ReplayHeadline.{ReplayHeadline};
 ghost use Rattle.wrp_asked.specs.SimHeadline.{SimHeadline};
-ghost use Rattle.wrp_asked.specs.Tasks.{IsAuditing, IsEmission, IsLooping, IsSimulation};
+ghost use Rattle.wrp_asked.specs.Tasks.{IsAuditing, IsEmission, IsLooping, IsReplay, IsSimulation};
 ghost use Rattle.wrp_words.specs.Requests.{ReportsTrueOffsets, asked_in};
 ghost use Rattle.wrp_words.specs.Words.{texts_of};
 
@@ -28,7 +29,7 @@ use crate::network::run_network;
 use std::alloc::{AllocError, Global};
 use wrp_asked::{
     emissions_tell_no_track, events_carry_parts, looped_events_carry_parts,
-    made_events_carry_parts, runs_print_within_bounds,
+    made_events_carry_parts, replays_are_told, runs_print_within_bounds,
 };
 use wrp_audit::one_audit;
 use wrp_commands::Command;
@@ -126,6 +127,12 @@ pub fn run<S: Source, K: Sink, N: Link>(
         (octets : List ℕ) × Appends (K.held sink.old) (K.held sink.new) octets
         × EmitHeadline (asked_in words.now) input result octets) }
 
+    // Of a replay, for each status: it wrote what its node puts out at the inputs that the records say, and a frame
+    // that the node drops for one of the reasons 1 to 12 leaves one counter raised and nothing else changed.
+    ensures replayed { (name : List ℕ) → IsReplay (asked_in words.now) name → IfSome (S.left source.old) (λ input.
+        (octets : List ℕ) × Appends (K.held sink.old) (K.held sink.new) octets
+        × ReplayHeadline (asked_in words.now) input result octets) }
+
     // The same of a simulation, whose events keep all premises: they are a run of the network.
     ensures simulated { (seed : ℕ) → IsSimulation (asked_in words.now) seed → IfSome (S.left source.old) (λ input.
         (octets : List ℕ) × Appends (K.held sink.old) (K.held sink.new) octets
@@ -163,6 +170,7 @@ pub fn run<S: Source, K: Sink, N: Link>(
     emissions_tell_no_track();
     made_events_carry_parts();
     looped_events_carry_parts();
+    replays_are_told();
     runs_print_within_bounds();
     loop_is_audited();
     told_last();

@@ -24,6 +24,9 @@ returns-clause-headline g c = λ audits. headline_told c.events_carry_parts.ensu
 pub returns-clause-emitted : goal.returns-clause-emitted
 returns-clause-emitted g c = λ name emits. emission_told c.events_carry_parts.ensures c.emissions_tell_no_track.ensures _ c.run_command.result name c.run_command.ensures.ends (usage_is_plain c.args.words.now) emits
 
+pub returns-clause-replayed : goal.returns-clause-replayed
+returns-clause-replayed g c = λ name replays. c.replays_are_told.ensures _ c.run_command.result name c.run_command.ensures.ends replays
+
 pub returns-clause-simulated : goal.returns-clause-simulated
 returns-clause-simulated g c = λ seed simulates. simulation_told c.made_events_carry_parts.ensures _ c.run_command.result seed c.run_command.ensures.ends simulates
 
