@@ -1,1 +1,2 @@
 pub mod AskingWork
+pub mod Shown
