@@ -11,6 +11,7 @@ ghost use Rattle.wrp_commands.specs.declared.alone.Alone.{Alone};
 ghost use Rattle.wrp_asked.specs.Alone.{HasAim, IsAlone};
 ghost use Rattle.wrp_asked.specs.Answer.{Answer, IsCommand};
 ghost use Rattle.wrp_run.specs.Asked.{AsksSo};
+ghost use Rattle.wrp_run.specs.Shown.{AuditFollows, LoopFollows};
 ghost use Rattle.wrp_asked.specs.EmitHeadline.{EmitHeadline};
 ghost use Rattle.wrp_asked.specs.Ends.{Ends, IsToldOf};
 ghost use Rattle.wrp_loop.specs.LoopPasses.{IsUncalled};
@@ -33,11 +34,14 @@ use wrp_asked::{
 };
 use wrp_audit::one_audit;
 use wrp_commands::Command;
+use wrp_config::reading_is_accepted;
 use wrp_io::{Link, Sink, Source};
 use wrp_loop::loop_is_audited;
 use wrp_node::one_run;
+use wrp_printed_laws::offsets_follow;
 use wrp_records::{Status, answer};
 use wrp_servo::told_last;
+use wrp_trace::events_can_come;
 use wrp_words::{USAGE_LINE, read_words};
 
 // The command that the words name, or None.
@@ -157,6 +161,16 @@ pub fn run<S: Source, K: Sink, N: Link>(
     ensures tracks { ReportsTrueOffsets (texts_of words.now) → IfSome (S.left source.old) (λ input.
         (octets : List ℕ) × Appends (K.held sink.old) (K.held sink.new) octets × TracksAreWithinBounds octets) }
 
+    // Of an audit, for each status: in each such line BOUND is that of the node's path in the network file, and OFF is the
+    // offset of the node's last `up` event, and to it are added the drift of each `pass` since and a period for each of the
+    // CYCLES of each `step` line of the node since. The event lines are those of the input.
+    ensures follows { IsAuditing (asked_in words.now) → IfSome (S.left source.old) (λ input.
+        (octets : List ℕ) × Appends (K.held sink.old) (K.held sink.new) octets × AuditFollows input octets) }
+
+    // The same of a run over a link, whose event lines are those that it writes behind `= `.
+    ensures looped_follows { (seed : ℕ) → IsLooping (asked_in words.now) seed → IfSome (S.left source.old) (λ input.
+        (octets : List ℕ) × Appends (K.held sink.old) (K.held sink.new) octets × LoopFollows input octets) }
+
     // Words that are no command are refused with nothing read. No link is used but by a loop, and by a loop not where
     // the status tells of its words, its network, a record or the source. That it is used only behind the whole scenario,
     // also where memory lacked, a line was too large or a write failed, stands in `ends`, of a link that tells its calls.
@@ -174,5 +188,8 @@ pub fn run<S: Source, K: Sink, N: Link>(
     runs_print_within_bounds();
     loop_is_audited();
     told_last();
+    reading_is_accepted();
+    events_can_come();
+    offsets_follow();
     run_command(alloc, words, source, sink, link)
 }

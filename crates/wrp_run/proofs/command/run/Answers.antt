@@ -7,6 +7,7 @@ use Rattle.wrp_asked.proofs.OneAnswer.{told_one, ends_answered}
 use Rattle.wrp_asked.proofs.SimTold.{simulation_told}
 use Rattle.wrp_words.specs.Words.{texts_of}
 use Rattle.wrp_run.proofs.Reporting.{offsets_reported, usage_is_plain}
+use Rattle.wrp_run.proofs.Shown.{audit_told, loop_told}
 use Rattle.wrp_run.proofs.command.run.Goals as goal
 
 pub returns-clause-due : goal.returns-clause-due
@@ -39,3 +40,11 @@ returns-clause-aimed g c = aimed _ c.run_command.result c.run_command.ensures.en
 pub returns-clause-tracks : goal.returns-clause-tracks
 returns-clause-tracks g c = λ reports. c.runs_print_within_bounds.ensures _ c.run_command.result c.run_command.ensures.ends
     (offsets_reported (texts_of c.args.words.now) reports) (usage_is_plain c.args.words.now)
+
+pub returns-clause-follows : goal.returns-clause-follows
+returns-clause-follows g c = λ audits.
+    audit_told c.reading_is_accepted.ensures c.events_can_come.ensures c.offsets_follow.ensures c.events_carry_parts.ensures c.one_audit.ensures _ c.run_command.result c.run_command.ensures.ends audits
+
+pub returns-clause-looped_follows : goal.returns-clause-looped_follows
+returns-clause-looped_follows g c = λ seed looping.
+    loop_told c.offsets_follow.ensures c.looped_events_carry_parts.ensures c.loop_is_audited.ensures _ c.run_command.result seed c.run_command.ensures.ends looping
