@@ -49,7 +49,7 @@ run_of_lines_is_audit accepted text s lines events setting are run =
     record { are = are; run = run; heard = λ n below. all_heard s net.accepted net.set events (lines_hand_on s.cfg events (all_said s lines events are)) run.said n }
 
 pub accepted_is_done : ReadingIsAccepted → AcceptedIsDone
-accepted_is_done accepted words input s asks sizes count each =
+accepted_is_done accepted asked input s asks sizes count each =
     let lines : List (List ℕ) = map content_of (behind_separator (lines_of input)) in
     let audited : Audited s lines = accepted_on s (of_text accepted _ s asks.2) lines [] [] (no_events s) each in (
       audited.0,

@@ -1,6 +1,5 @@
 pub mod AcceptedLines
 pub mod Auditing
-pub mod Commands
 pub mod EachAnswered
 pub mod EventRecords
 pub mod EventSizes

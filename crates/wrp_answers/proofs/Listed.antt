@@ -11,13 +11,15 @@ use Rattle.wrp_records.specs.declared.status.Status.TheVariants.{Done}
 use Rattle.wrp_records.specs.Lines.{content_of, lines_of}
 use Rattle.wrp_records.specs.RecordsAnswer.{RecordsAnswer}
 use Rattle.wrp_records.specs.Stream.{IsWithin, number_limit}
+use Rattle.wrp_commands.specs.Request.{CommandLine}
+use Rattle.wrp_commands.specs.Request as requests
 use Rattle.wrp_asked.specs.Answer.{Answer}
 use Rattle.wrp_audit.specs.Audited.{IsAudit, IsSettingOf}
 use Rattle.wrp_audit.specs.AuditText.{given_lines}
 use Rattle.wrp_asked.specs.Input.{behind_separator, network_limit, network_text}
-use Rattle.wrp_asked.specs.Tasks.{AsksFor, Audit, Emit, IsAuditing, IsEmission, Loop, Replay, Simulate, Task, meaning_at}
+use Rattle.wrp_asked.specs.Tasks.{AsksFor, Audit, Emit, IsAuditing, IsEmission, Task, meaning_at, task_row}
 use Rattle.wrp_replay.proofs.BareSetting.{named_bare}
-use Rattle.wrp_asked.proofs.WordLemmas.{alone_no_audit, audit_alone, audit_unlooped, no_option, no_simulation}
+use Rattle.wrp_asked.proofs.WordLemmas.{alone_unnetworked, one_command}
 use Rattle.wrp_answers.specs.Listed.{IsListed, ReplayOfListedInputs}
 
 -- an audit that ends with Done
@@ -30,18 +32,17 @@ record DoneAudit (input : List ℕ) : Type 0 where
   events : List Happened
   audit : IsAudit s (map content_of (behind_separator (lines_of input))) events
 
-audited : (words : List (List ℕ)) (input audit : List ℕ) → IsAuditing words → Answer words input [] Done audit → DoneAudit input
-audited words input audit asks (inr (inl alone)) = absurd (alone_no_audit words alone.0 alone.1 asks)
-audited words input audit asks (inr (inr looped)) = absurd (audit_unlooped words asks looped.1 looped.2.1)
-audited words input audit asks (inl p) = go p.0 p.1 p.2
+audited : (asked : CommandLine) (input audit : List ℕ) → IsAuditing asked → Answer asked input [] Done audit → DoneAudit input
+audited asked input audit asks (inr (inl alone)) = absurd (alone_unnetworked asked alone.0 alone.1 (requests.Audit, asks))
+audited asked input audit asks (inr (inr looped)) =
+    let bad : requests.Audit ≡ requests.Loop looped.1 = one_command asked requests.Audit (requests.Loop looped.1) asks looped.2.1 in
+    absurd (cc)
+audited asked input audit asks (inl p) = go p.0 p.1 p.2
   where
-    go : (task : Task) → AsksFor words (network_text input) task → RecordsAnswer (meaning_at task) (behind_separator (lines_of input)) Done audit → DoneAudit input
-    go (Replay site) q h = absurd (audit_alone words q.1 asks q.2)
-    go (Emit s n) q h = absurd (no_option words q.1 asks q.2)
-    go (Simulate s seed) q h = absurd (no_simulation words seed asks q.1)
-    go (Loop s seed) q h = absurd (audit_unlooped words asks seed q.1)
+    go : (task : Task) → AsksFor asked (network_text input) task → RecordsAnswer (meaning_at task) (behind_separator (lines_of input)) Done audit → DoneAudit input
     go (Audit s) q h =
         record { s = s; setting = q.2; within = q.0; sizes = h.handled.sizes; count = h.handled.count; events = h.handled.accepted.0; audit = h.handled.accepted.1 }
+    go task q h = let bad : requests.Audit ≡ (task_row task).command = one_command asked requests.Audit (task_row task).command asks q.1 in absurd (cc)
 
 -- the node that is listed is that of the audit's network
 named_there : (input name : List ℕ) (a : DoneAudit input) (listed : IsListed (network_text input) name) → node_named a.s.cfg name ≡ Some listed.node
@@ -51,12 +52,12 @@ named_there input name a listed =
     ∙ named_bare listed.net.cfg name ∙ listed.named
 
 -- the inputs of the node
-emitted : (words : List (List ℕ)) (input name : List ℕ) (a : DoneAudit input) (n : ℕ) → IsEmission words name → node_named a.s.cfg name ≡ Some n
-    → Answer words input [] Done (given_lines a.s n a.events)
-emitted words input name a n asks named =
+emitted : (asked : CommandLine) (input name : List ℕ) (a : DoneAudit input) (n : ℕ) → IsEmission asked name → node_named a.s.cfg name ≡ Some n
+    → Answer asked input [] Done (given_lines a.s n a.events)
+emitted asked input name a n asks named =
     inl (
-      Emit a.s n,
-      (a.within, name, asks, a.setting, named),
+      Emit name a.s n,
+      (a.within, asks, (a.setting, named)),
       record {
         written = given_lines a.s n a.events;
         last = [];

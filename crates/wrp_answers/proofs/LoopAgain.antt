@@ -16,6 +16,7 @@ use Rattle.wrp_records.specs.declared.status.Status.TheVariants.{Done}
 use Rattle.wrp_records.specs.Lines.{content_of, lines_of}
 use Rattle.wrp_records.specs.RecordsAnswer.{IsWholly}
 use Rattle.wrp_records.specs.Stream.{IsWithin}
+use Rattle.wrp_commands.specs.Request.{CommandLine}
 use Rattle.wrp_asked.specs.Answer.{Answer}
 use Rattle.wrp_audit.specs.Audited.{IsAudit, IsSettingOf, answers_in}
 use Rattle.wrp_audit.specs.Audits.{audit_of}
@@ -26,7 +27,7 @@ use Rattle.wrp_asked.specs.LoopHeadline.{IsLoopDue, IsToldApart, LoopOf, LoopedE
 use Rattle.wrp_loop.specs.Loops.{plan_of}
 use Rattle.wrp_asked.specs.Tasks.{Audit, IsAuditing, IsLooping}
 use Rattle.wrp_asked.proofs.LoopedParts.{loops_few}
-use Rattle.wrp_asked.proofs.LoopTold.{answer_due, told_apart}
+use Rattle.wrp_asked.proofs.LoopTold.{loop_answer, told_apart}
 use Rattle.wrp_answers.proofs.AcceptedLines.{run_of_lines_is_audit}
 use Rattle.wrp_answers.proofs.EventRecords.{told_count, told_says, told_whole, told_within}
 use Rattle.wrp_answers.proofs.EventSizes.{small_network}
@@ -35,21 +36,21 @@ use Rattle.wrp_answers.specs.LoopAgain.{IsAuditedAgain, LoopIsAuditedAgain, even
 
 -- What is due for the run
 
-the_loop : (words : List (List ℕ)) (input octets : List ℕ) (calls : List LinkCall) → IsLoopDue words input calls Done octets → LoopOf words input calls Done octets
-the_loop words input octets calls (inl none) = absurd none.0
-the_loop words input octets calls (inr (inl scene)) = absurd scene.is
-the_loop words input octets calls (inr (inr (inl link))) = absurd link
-the_loop words input octets calls (inr (inr (inr loop))) = loop
+the_loop : (asked : CommandLine) (input octets : List ℕ) (calls : List LinkCall) → IsLoopDue asked input calls Done octets → LoopOf asked input calls Done octets
+the_loop asked input octets calls (inl none) = absurd none.0
+the_loop asked input octets calls (inr (inl scene)) = absurd scene.is
+the_loop asked input octets calls (inr (inr (inl link))) = absurd link
+the_loop asked input octets calls (inr (inr (inr loop))) = loop
 
-loop_due : (words : List (List ℕ)) (seed : ℕ) (input octets : List ℕ) (calls : List LinkCall) → IsLooping words seed → Answer words input calls Done octets → LoopOf words input calls Done octets
-loop_due words seed input octets calls looping answer = the_loop words input octets calls (answer_due words seed input calls Done octets looping answer)
+loop_due : (asked : CommandLine) (seed : ℕ) (input octets : List ℕ) (calls : List LinkCall) → IsLooping asked seed → Answer asked input calls Done octets → LoopOf asked input calls Done octets
+loop_due asked seed input octets calls looping answer = the_loop asked input octets calls (loop_answer asked seed input calls Done octets looping answer)
 
 -- The audit
 
 -- the events that came, as their lines say them, are an audit
-audit_is : ReadingIsAccepted → (words : List (List ℕ)) (input octets : List ℕ) (calls : List LinkCall) (loop : LoopOf words input calls Done octets) → CarriesRun event_lines loop.setting (events_at (place loop.last)) →
+audit_is : ReadingIsAccepted → (asked : CommandLine) (input octets : List ℕ) (calls : List LinkCall) (loop : LoopOf asked input calls Done octets) → CarriesRun event_lines loop.setting (events_at (place loop.last)) →
     IsAudit loop.setting (map content_of (told_lines loop.setting (events_at (place loop.last)))) (plain_events (events_at (place loop.last)))
-audit_is accepted words input octets calls loop carried =
+audit_is accepted asked input octets calls loop carried =
     let s : Setting = loop.setting in
     let events : List Happened = events_at (place loop.last) in
     let names : HasNames s.cfg = carried.run.network.accepted.names in
@@ -72,9 +73,9 @@ wholly s lines events text audit sizes count is = record {
   is = is;
 }
 
-again_due : ReadingIsAccepted → (words auditing : List (List ℕ)) (input again octets : List ℕ) (calls : List LinkCall) (loop : LoopOf words input calls Done octets) → IsAuditing auditing →
+again_due : ReadingIsAccepted → (asked auditing : CommandLine) (input again octets : List ℕ) (calls : List LinkCall) (loop : LoopOf asked input calls Done octets) → IsAuditing auditing →
     CarriesRun event_lines loop.setting (events_at (place loop.last)) → IsToldApart loop.setting loop.last octets → HasRecords input (event_records octets) again → IsAuditedAgain auditing again octets (place loop.last).forged
-again_due accepted words auditing input again octets calls loop audits carried apart has =
+again_due accepted asked auditing input again octets calls loop audits carried apart has =
     let s : Setting = loop.setting in
     let events : List Happened = events_at (place loop.last) in
     let names : HasNames s.cfg = carried.run.network.accepted.names in
@@ -85,7 +86,7 @@ again_due accepted words auditing input again octets calls loop audits carried a
     subst (λ (n : ℕ). n < 2 ^ 32) (sym (told_count s events)) (loops_few (plan_of s loop.came.scene loop.came.seed) loop.came.first loop.last loop.came.loops) in
     let text : List ℕ = audit_lines s events ++ all_counts s (world_after s events) in
     let due : IsWholly (audit_of s) told text =
-    wholly s told (plain_events events) text (audit_is accepted words input octets calls loop carried)
+    wholly s told (plain_events events) text (audit_is accepted asked input octets calls loop carried)
     (told_within s names (small_network (network_text input) s loop.came.asks.2) events carried.run.each carried.fit) few
     (ap₂ (λ (lines : List ℕ) (w : WorldAt). lines ++ all_counts s w) (sym (plain_lines s events)) (sym (plain_world s events))) in
     record {

@@ -29,7 +29,7 @@ tells_none : (w : List ℕ) → IsWord w → TellsNoOutput (w ++ 10 ∷ [])
 tells_none w h node tick kind more e = no_gap w node (line_of (tick ∷ kind ∷ more)) h e
 
 pub tells_no_output : ReadingIsAccepted → EmissionTellsNoOutput
-tells_no_output accepted words input status octets inputs =
-    let net = of_text accepted (network_text input) inputs.setting inputs.asks.3 in
+tells_no_output accepted asked input status octets inputs =
+    let net = of_text accepted (network_text input) inputs.setting inputs.asks.2.0 in
     subst (λ (l : List ℕ). AllByRecursion TellsNoOutput (lines_of l)) (append-nil (given_lines inputs.setting inputs.node inputs.events))
     (pass_events TellsNoOutput tells_none inputs.setting inputs.node inputs.events net.accepted.database [] tt)

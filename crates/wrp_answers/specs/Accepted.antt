@@ -13,6 +13,7 @@ use Rattle.wrp_records.specs.Stream.{IsWithin, number_limit}
 use Rattle.wrp_scene.specs.Scenario.{SceneAt}
 use Rattle.wrp_sim.specs.SimAt.{SimAt}
 use Rattle.wrp_trace.specs.Events.{event_read}
+use Rattle.wrp_commands.specs.Request.{CommandLine}
 use Rattle.wrp_asked.specs.Answer.{Answer}
 use Rattle.wrp_audit.specs.Audited.{AllHeard, AreEvents, IsAudit, IsSettingOf, answers_in}
 use Rattle.wrp_audit.specs.AuditText.{all_counts, audit_lines}
@@ -51,13 +52,13 @@ SimulatedIsHeard =
     (text : List ℕ) (s : Setting) (lines : List (List ℕ)) (scene : SceneAt) (seed : ℕ) (events : List Happened) (at : SimAt) →
     IsSettingOf text s → IsScenario s lines scene → IsSimulated s scene seed events at → AllHeard s (world_after s events)
 
--- where the words ask for an audit of the network that the text in front describes, each record is a line that is not too
+-- where an audit is asked for of the network that the text in front describes, each record is a line that is not too
 -- large and they are not too many, and each says an event that is accepted in its turn, then Done is due, and the lines of
 -- the nodes' steps and their counters
 abbrev pub AcceptedIsDone : Type 0
 AcceptedIsDone =
-    (words : List (List ℕ)) (input : List ℕ) (s : Setting) → AsksFor words (network_text input) (Audit s) →
+    (asked : CommandLine) (input : List ℕ) (s : Setting) → AsksFor asked (network_text input) (Audit s) →
     AllByRecursion IsWithin (behind_separator (lines_of input)) → length (behind_separator (lines_of input)) < number_limit →
     EachIsAccepted s (map content_of (behind_separator (lines_of input))) →
     (events : List Happened) × IsAudit s (map content_of (behind_separator (lines_of input))) events
-    × Answer words input [] Done (audit_lines s events ++ all_counts s (world_after s events))
+    × Answer asked input [] Done (audit_lines s events ++ all_counts s (world_after s events))

@@ -4,7 +4,8 @@ use Rattle.wrp_course.specs.Setting.{Setting}
 use Rattle.wrp_records.specs.Lines.{content_of, lines_of}
 use Rattle.wrp_records.specs.declared.status.Status.{Status}
 use Rattle.wrp_due.specs.Due.{HasAnswer}
-use Rattle.wrp_asked.specs.declared.alone.Alone.{Alone}
+use Rattle.wrp_commands.specs.declared.alone.Alone.{Alone}
+use Rattle.wrp_commands.specs.Request.{CommandLine}
 use Rattle.wrp_asked.specs.Alone.{alone_meaning}
 use Rattle.wrp_asked.specs.Answer.{Answer}
 use Rattle.wrp_asked.specs.Input.{behind_separator, network_text}
@@ -24,16 +25,16 @@ EachStandsAloneWithAnswer =
     (alone : Alone) (input : List ℕ) → (status : Status) × (octets : List ℕ)
     × (alone_meaning alone).answers input [] status octets
 
--- the words ask for a run over a link, of an accepted network, by records that are all those of a scenario: the calls of the link
+-- a run over a link is asked for, of an accepted network, by records that are all those of a scenario: the calls of the link
 -- tell what is due
-abbrev pub NeedsCalls : List (List ℕ) → List ℕ → Type 0
-NeedsCalls words input =
-    (s : Setting) × (seed : ℕ) × (scene : SceneAt) × AsksFor words (network_text input) (Loop s seed)
+abbrev pub NeedsCalls : CommandLine → List ℕ → Type 0
+NeedsCalls asked input =
+    (s : Setting) × (seed : ℕ) × (scene : SceneAt) × AsksFor asked (network_text input) (Loop s seed)
     × IsScenario s (map content_of (behind_separator (lines_of input))) scene
 
--- for words and an input some status and octets are due without a call of a link, unless they need such calls; whether an answer
+-- for what is asked and an input some status and octets are due without a call of a link, unless they need such calls; whether an answer
 -- is due for the calls that a link may tell is not said here
 abbrev pub EachHasAnswer : Type 0
 EachHasAnswer =
-    (words : List (List ℕ)) (input : List ℕ) →
-    ((status : Status) × (octets : List ℕ) × Answer words input [] status octets) ⊎ NeedsCalls words input
+    (asked : CommandLine) (input : List ℕ) →
+    ((status : Status) × (octets : List ℕ) × Answer asked input [] status octets) ⊎ NeedsCalls asked input

@@ -7,6 +7,7 @@ use Rattle.wrp_projection.specs.Law.{HasRecords}
 use Rattle.wrp_projection.specs.Projection.{IsProjectionTo}
 use Rattle.wrp_records.specs.declared.status.Status.TheVariants.{Done}
 use Rattle.wrp_records.specs.Lines.{lines_of}
+use Rattle.wrp_commands.specs.Request.{CommandLine}
 use Rattle.wrp_asked.specs.Answer.{Answer}
 use Rattle.wrp_asked.specs.Input.{network_text}
 use Rattle.wrp_asked.specs.Tasks.{IsAuditing, IsEmission, IsReplay}
@@ -20,7 +21,7 @@ pub record IsListed (text name : List ℕ) : Type 0 where
 
 -- the replay of a node on these records, behind the network text of an input: where they are fewer than 2^32, it is due
 -- to end with Done, and to write the node's lines of the audit of the input
-abbrev pub IsReplayedSo : List (List ℕ) → (name input audit records : List ℕ) → Type 0
+abbrev pub IsReplayedSo : CommandLine → (name input audit records : List ℕ) → Type 0
 IsReplayedSo replaying name input audit records =
     (replayed : List ℕ) → length (lines_of records) < 2 ^ 32 → HasRecords input records replayed →
     (text : List ℕ) × Answer replaying replayed [] Done text × IsProjectionTo (network_text input) name audit text
@@ -29,7 +30,7 @@ IsReplayedSo replaying name input audit records =
 -- are due to end with Done, and so is the replay of the node on these inputs, which writes the node's lines of the audit
 abbrev pub ReplayOfListedInputs : Type 0
 ReplayOfListedInputs =
-    (auditing emitting replaying : List (List ℕ)) (name input audit : List ℕ) →
+    (auditing emitting replaying : CommandLine) (name input audit : List ℕ) →
     IsAuditing auditing → IsEmission emitting name → IsReplay replaying name →
     Answer auditing input [] Done audit → IsListed (network_text input) name →
     (records : List ℕ) × Answer emitting input [] Done records × IsReplayedSo replaying name input audit records

@@ -5,6 +5,7 @@ use Rattle.wrp_records.specs.declared.status.Status.{Status}
 use Rattle.wrp_records.specs.Lines.{lines_of}
 use Rattle.wrp_records.specs.Words.{line_of}
 use Rattle.wrp_audit.specs.AuditText.{given_lines}
+use Rattle.wrp_commands.specs.Request.{CommandLine}
 use Rattle.wrp_asked.specs.EmitHeadline.{InputsOf}
 
 -- the line is not NODE TICK KIND and more, as that of each output of a node is
@@ -14,5 +15,5 @@ TellsNoOutput line = (node tick kind : List ℕ) (more : List (List ℕ)) → li
 -- so it is with each line that an emission prints of events
 abbrev pub EmissionTellsNoOutput : Type 0
 EmissionTellsNoOutput =
-    (words : List (List ℕ)) (input : List ℕ) (status : Status) (octets : List ℕ) (inputs : InputsOf words input status octets) →
+    (asked : CommandLine) (input : List ℕ) (status : Status) (octets : List ℕ) (inputs : InputsOf asked input status octets) →
     AllByRecursion TellsNoOutput (lines_of (given_lines inputs.setting inputs.node inputs.events))

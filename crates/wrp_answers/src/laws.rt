@@ -21,8 +21,8 @@ pub fn each_stands_alone_with_answer()
     ensures { EachStandsAloneWithAnswer }
 {}
 
-/// For words and an input some status and octets are due, whatever the words and the octets are; but where the words
-/// ask for a run over a link by a whole scenario, the calls of the link tell what is due, and of these nothing is said
+/// For what is asked and an input some status and octets are due, whatever is asked and whatever the octets are; but where a
+/// run over a link is asked for by a whole scenario, the calls of the link tell what is due, and of these nothing is said
 /// here. No other status and no other octets are due: that is `one_answer`.
 pub fn each_has_answer()
     ensures { EachHasAnswer }

@@ -4,8 +4,8 @@ pub mod Inspect
 pub mod L1Sync
 pub mod Migrate
 pub mod Plain
-use Rattle.wrp_asked.specs.declared.alone.Alone.{Alone}
-use Rattle.wrp_asked.specs.declared.alone.Alone.TheVariants as commands
+use Rattle.wrp_commands.specs.declared.alone.Alone.{Alone}
+use Rattle.wrp_commands.specs.declared.alone.Alone.TheVariants as commands
 use Rattle.wrp_asked.proofs.AloneCommand.{IsAloneCommand}
 use Rattle.wrp_asked.proofs.AloneTable.Calibrate.{facts as calibrate}
 use Rattle.wrp_asked.proofs.AloneTable.Inspect.{facts as inspect}

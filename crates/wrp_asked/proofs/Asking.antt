@@ -18,28 +18,29 @@ use Rattle.wrp_records.specs.Meaning.{Meaning}
 use Rattle.wrp_records.specs.Lines.{lines_of}
 use Rattle.wrp_records.specs.Passages.{Failed, Passage, Passes, PassesAll}
 use Rattle.wrp_records.specs.Reader.{ReaderAt, piece_limit}
-use Rattle.wrp_records.specs.RecordsAnswer.{RecordsAnswer, StandsFirst, BreaksOff, IsRefused}
+use Rattle.wrp_records.specs.RecordsAnswer.{RecordsAnswer, StandsFirst, IsRefused}
 use Rattle.wrp_records.specs.Refusals.{bad_network_line, too_large_line}
 use Rattle.wrp_records.specs.Stream.{CutHandled}
-use Rattle.wrp_asked.specs.declared.alone.Alone.{Alone}
+use Rattle.wrp_commands.specs.declared.alone.Alone.{Alone}
+use Rattle.wrp_commands.specs.Request.{CommandLine}
 use Rattle.wrp_asked.specs.Alone.{IsAlone, MayAnswer, alone_meaning}
 use Rattle.wrp_asked.specs.Answer.{Answer, AsksNone, IsCommand, IsNetworked, FirstAnswer, PartAnswer, CutTask}
 use Rattle.wrp_asked.specs.Ends.{Run, AsksEvents, Called, Ends, EndsRefused, EndsRefusedAs, EndsUnlinked, TakesPiece, Wrote, begun_at}
 use Rattle.wrp_asked.specs.Input.{network_text, behind_separator, network_limit, IsDivided, IsTooLong, IsUndivided}
-use Rattle.wrp_asked.specs.Refusals.{usage_line}
 use Rattle.wrp_replay.specs.Replays.{IsRefusedBy}
-use Rattle.wrp_asked.specs.Tasks.{Task, Replay, Audit, Emit, Simulate, Loop, AsksFor, meaning_at}
+use Rattle.wrp_asked.specs.Tasks.{Task, Replay, Audit, Emit, Simulate, Loop, AsksFor, meaning_at, task_row}
 use Rattle.wrp_asked.proofs.AloneTable.{facts_of}
+use Rattle.wrp_asked.proofs.NetworkTable.{task_facts}
 
 -- what is due for the records is due for the words and the input
-answer_of : (words : List (List ℕ)) (input : List ℕ) (task : Task) (status : Status) (octets : List ℕ) → AsksFor words (network_text input) task
-    → RecordsAnswer (meaning_at task) (behind_separator (lines_of input)) status octets → Answer words input [] status octets
-answer_of words input task Done octets has due = inl (task, has, due, refl)
-answer_of words input task BadTrace octets has due = inl (task, has, due, refl)
-answer_of words input task Broken octets has due = inl (task, has, due, refl)
-answer_of words input task TooLarge octets has due = inr (inl (task, has, due, refl))
-answer_of words input task BadCalib octets has due = inl (task, has, due, refl)
-answer_of words input task _ octets has due = absurd due
+answer_of : (asked : CommandLine) (input : List ℕ) (task : Task) (status : Status) (octets : List ℕ) → AsksFor asked (network_text input) task
+    → RecordsAnswer (meaning_at task) (behind_separator (lines_of input)) status octets → Answer asked input [] status octets
+answer_of asked input task Done octets has due = inl (task, has, due, refl)
+answer_of asked input task BadTrace octets has due = inl (task, has, due, refl)
+answer_of asked input task Broken octets has due = inl (task, has, due, refl)
+answer_of asked input task TooLarge octets has due = inr (inl (task, has, due, refl))
+answer_of asked input task BadCalib octets has due = inl (task, has, due, refl)
+answer_of asked input task _ octets has due = absurd due
 
 -- no call leaves the calls that a link tells
 pub uncalled : (link : Passage (List LinkCall)) → link.now ≡ link.before → link.now ≡ option_map (λ told. told ++ []) link.before
@@ -88,64 +89,64 @@ both_parts P (Some input) (Some middle) (Some left) network given text r ended o
     ]
 
 -- what was taken of the network text
-pub record TookNetwork (words : List (List ℕ)) (first middle : Option (List ℕ)) (text : List ℕ) (r : ReaderAt) (task : Task) : Type 0 where
+pub record TookNetwork (asked : CommandLine) (first middle : Option (List ℕ)) (text : List ℕ) (r : ReaderAt) (task : Task) : Type 0 where
   pub network : List ℕ
   pub taken : Consumes first middle network
   pub divided : IsDivided network text r
   pub at_end : r.ended ≡ true → IsAtEnd middle
-  pub asks : AsksFor words text task
+  pub asks : AsksFor asked text task
 
 -- the node that is asked for, in the whole input
-asks_told : (words : List (List ℕ)) (text other : List ℕ) (task : Task) → other ≡ text → AsksFor words text task → AsksFor words other task
-asks_told words text other task same asks = subst (λ (t : List ℕ). AsksFor words t task) (sym same) asks
+asks_told : (asked : CommandLine) (text other : List ℕ) (task : Task) → other ≡ text → AsksFor asked text task → AsksFor asked other task
+asks_told asked text other task same asks = subst (λ (t : List ℕ). AsksFor asked t task) (sym same) asks
 
 -- a fact of all record lines, in the whole input
-pub lines_told : (P : List (List ℕ) → Type 0) (words : List (List ℕ)) (first : Option (List ℕ)) (source : Passage (List ℕ)) (text given : List ℕ) (r : ReaderAt) (ended : Bool) (task : Task)
-    → TookNetwork words first source.before text r task → Consumes source.before source.now given → (ended ≡ true → IsAtEnd source.now)
+pub lines_told : (P : List (List ℕ) → Type 0) (asked : CommandLine) (first : Option (List ℕ)) (source : Passage (List ℕ)) (text given : List ℕ) (r : ReaderAt) (ended : Bool) (task : Task)
+    → TookNetwork asked first source.before text r task → Consumes source.before source.now given → (ended ≡ true → IsAtEnd source.now)
     → ((more : List ℕ) → GoesOn ended more → P (lines_of ((r.rest ++ given) ++ more)))
-    → IfSome first (λ input. AsksFor words (network_text input) task × P (behind_separator (lines_of input)))
-lines_told P words None source text given r ended task net taken at_end told = tt
-lines_told P words (Some input) source text given r ended task net taken at_end told =
+    → IfSome first (λ input. AsksFor asked (network_text input) task × P (behind_separator (lines_of input)))
+lines_told P asked None source text given r ended task net taken at_end told = tt
+lines_told P asked (Some input) source text given r ended task net taken at_end told =
     let both = both_parts P (Some input) source.before source.now net.network given text r ended net.taken taken net.divided net.at_end at_end told in
-    (asks_told words text (network_text input) task both.0 net.asks, both.1)
+    (asks_told asked text (network_text input) task both.0 net.asks, both.1)
 
 -- an answer
-answered : (words : List (List ℕ)) (first : Option (List ℕ)) (source : Passage (List ℕ)) (text given octets : List ℕ) (r : ReaderAt) (ended : Bool) (task : Task) (status : Status)
-    → TookNetwork words first source.before text r task → Consumes source.before source.now given → (ended ≡ true → IsAtEnd source.now)
-    → IsDue (of_lines (meaning_at task)) (r.rest ++ given) ended [] status octets → IfSome first (λ input. Answer words input [] status octets)
-answered words None source text given octets r ended task status net taken at_end due = tt
-answered words (Some input) source text given octets r ended task status net taken at_end due =
-    let has = lines_told (λ (ls : List (List ℕ)). RecordsAnswer (meaning_at task) ls status octets) words (Some input) source text given r ended task net taken at_end (λ more on. (due more on).1) in
-    answer_of words input task status octets has.0 has.1
+answered : (asked : CommandLine) (first : Option (List ℕ)) (source : Passage (List ℕ)) (text given octets : List ℕ) (r : ReaderAt) (ended : Bool) (task : Task) (status : Status)
+    → TookNetwork asked first source.before text r task → Consumes source.before source.now given → (ended ≡ true → IsAtEnd source.now)
+    → IsDue (of_lines (meaning_at task)) (r.rest ++ given) ended [] status octets → IfSome first (λ input. Answer asked input [] status octets)
+answered asked None source text given octets r ended task status net taken at_end due = tt
+answered asked (Some input) source text given octets r ended task status net taken at_end due =
+    let has = lines_told (λ (ls : List (List ℕ)). RecordsAnswer (meaning_at task) ls status octets) asked (Some input) source text given r ended task net taken at_end (λ more on. (due more on).1) in
+    answer_of asked input task status octets has.0 has.1
 
 -- the first lines
-firsts : (words : List (List ℕ)) (first : Option (List ℕ)) (source : Passage (List ℕ)) (text given octets : List ℕ) (r : ReaderAt) (ended : Bool) (task : Task)
-    → TookNetwork words first source.before text r task → Consumes source.before source.now given → (ended ≡ true → IsAtEnd source.now)
-    → IsFirst (of_lines (meaning_at task)) (r.rest ++ given) ended [] octets → IfSome first (λ input. FirstAnswer words input [] octets)
-firsts words None source text given octets r ended task net taken at_end due = tt
-firsts words (Some input) source text given octets r ended task net taken at_end due =
-    let has = lines_told (λ (ls : List (List ℕ)). StandsFirst (meaning_at task) ls octets) words (Some input) source text given r ended task net taken at_end (λ more on. (due more on).1) in
+firsts : (asked : CommandLine) (first : Option (List ℕ)) (source : Passage (List ℕ)) (text given octets : List ℕ) (r : ReaderAt) (ended : Bool) (task : Task)
+    → TookNetwork asked first source.before text r task → Consumes source.before source.now given → (ended ≡ true → IsAtEnd source.now)
+    → IsFirst (of_lines (meaning_at task)) (r.rest ++ given) ended [] octets → IfSome first (λ input. FirstAnswer asked input [] octets)
+firsts asked None source text given octets r ended task net taken at_end due = tt
+firsts asked (Some input) source text given octets r ended task net taken at_end due =
+    let has = lines_told (λ (ls : List (List ℕ)). StandsFirst (meaning_at task) ls octets) asked (Some input) source text given r ended task net taken at_end (λ more on. (due more on).1) in
     inr (inl (task, has.0, has.1, refl))
 
 -- a part of what is due
-part_told : (words : List (List ℕ)) (first : Option (List ℕ)) (status : Status) (due : List ℕ) (count : ℕ)
-    → IfSome first (λ input. Answer words input [] status due) → IfSome first (λ input. PartAnswer words input [] (take count due))
-part_told words None status due count has = tt
-part_told words (Some input) status due count has = (due, count, refl, inl (status, has))
+part_told : (asked : CommandLine) (first : Option (List ℕ)) (status : Status) (due : List ℕ) (count : ℕ)
+    → IfSome first (λ input. Answer asked input [] status due) → IfSome first (λ input. PartAnswer asked input [] (take count due))
+part_told asked None status due count has = tt
+part_told asked (Some input) status due count has = (due, count, refl, inl (status, has))
 
-part_first : (words : List (List ℕ)) (first : Option (List ℕ)) (due : List ℕ) (count : ℕ)
-    → IfSome first (λ input. FirstAnswer words input [] due) → IfSome first (λ input. PartAnswer words input [] (take count due))
-part_first words None due count has = tt
-part_first words (Some input) due count has = (due, count, refl, inr has)
+part_first : (asked : CommandLine) (first : Option (List ℕ)) (due : List ℕ) (count : ℕ)
+    → IfSome first (λ input. FirstAnswer asked input [] due) → IfSome first (λ input. PartAnswer asked input [] (take count due))
+part_first asked None due count has = tt
+part_first asked (Some input) due count has = (due, count, refl, inr has)
 
-parts : (words : List (List ℕ)) (first : Option (List ℕ)) (source : Passage (List ℕ)) (text given octets : List ℕ) (r : ReaderAt) (ended : Bool) (task : Task)
-    → TookNetwork words first source.before text r task → Consumes source.before source.now given → (ended ≡ true → IsAtEnd source.now)
-    → After (of_lines (meaning_at task)) (r.rest ++ given) ended [] WriteFault octets → IfSome first (λ input. PartAnswer words input [] octets)
-parts words first source text given octets r ended task net taken at_end at =
-    subst (λ (o : List ℕ). IfSome first (λ input. PartAnswer words input [] o)) (sym at.2)
+parts : (asked : CommandLine) (first : Option (List ℕ)) (source : Passage (List ℕ)) (text given octets : List ℕ) (r : ReaderAt) (ended : Bool) (task : Task)
+    → TookNetwork asked first source.before text r task → Consumes source.before source.now given → (ended ≡ true → IsAtEnd source.now)
+    → After (of_lines (meaning_at task)) (r.rest ++ given) ended [] WriteFault octets → IfSome first (λ input. PartAnswer asked input [] octets)
+parts asked first source text given octets r ended task net taken at_end at =
+    subst (λ (o : List ℕ). IfSome first (λ input. PartAnswer asked input [] o)) (sym at.2)
     (elim at.3 [
-      | inl due ↦ part_told words first due.0 at.0 at.1 (answered words first source text given at.0 r ended task due.0 net taken at_end due.1)
-      | inr due ↦ part_first words first at.0 at.1 (firsts words first source text given at.0 r ended task net taken at_end due)
+      | inl due ↦ part_told asked first due.0 at.0 at.1 (answered asked first source text given at.0 r ended task due.0 net taken at_end due.1)
+      | inr due ↦ part_first asked first at.0 at.1 (firsts asked first source text given at.0 r ended task net taken at_end due)
     ])
 
 -- nothing in two parts
@@ -173,18 +174,18 @@ refused_behind M refusal lines others text same at last = (
   last,
 )
 
-ends_refused : (words : List (List ℕ)) (task : Task) (refusal : Refusal) (network text front : List ℕ) → ((more : List ℕ) → (network_text (network ++ more) ≡ text) × (behind_separator (lines_of (network ++ more)) ≡ lines_of more))
-    → AsksFor words text task → LastRefused (meaning_at task) refusal front → EndsRefused words (network ++ front) refusal
-ends_refused words task refusal network text front divides asks at =
+ends_refused : (asked : CommandLine) (task : Task) (refusal : Refusal) (network text front : List ℕ) → ((more : List ℕ) → (network_text (network ++ more) ≡ text) × (behind_separator (lines_of (network ++ more)) ≡ lines_of more))
+    → AsksFor asked text task → LastRefused (meaning_at task) refusal front → EndsRefused asked (network ++ front) refusal
+ends_refused asked task refusal network text front divides asks at =
     let here = refused_behind (meaning_at task) refusal (lines_of front) (behind_separator (lines_of (network ++ front))) at.text (divides front).1 at.refused at.last in
-    record { task = task; octets = at.text; asks = asks_told words text (network_text (network ++ front)) task (divides front).0 asks; refused = here.0; last = here.1 }
+    record { task = task; octets = at.text; asks = asks_told asked text (network_text (network ++ front)) task (divides front).0 asks; refused = here.0; last = here.1 }
 
 -- the refused one among these statuses
-ends_as : (words : List (List ℕ)) (task : Task) (status : Status) (network text front : List ℕ) → ((more : List ℕ) → (network_text (network ++ more) ≡ text) × (behind_separator (lines_of (network ++ more)) ≡ lines_of more))
-    → AsksFor words text task → LastRefusedAs (meaning_at task) status front → EndsRefusedAs words (network ++ front) status
-ends_as words task BadTrace network text front divides asks at = inl (ends_refused words task refusals.BadTrace network text front divides asks at)
-ends_as words task Broken network text front divides asks at = inl (ends_refused words task refusals.Broken network text front divides asks at)
-ends_as words task _ network text front divides asks at = absurd at
+ends_as : (asked : CommandLine) (task : Task) (status : Status) (network text front : List ℕ) → ((more : List ℕ) → (network_text (network ++ more) ≡ text) × (behind_separator (lines_of (network ++ more)) ≡ lines_of more))
+    → AsksFor asked text task → LastRefusedAs (meaning_at task) status front → EndsRefusedAs asked (network ++ front) status
+ends_as asked task BadTrace network text front divides asks at = inl (ends_refused asked task refusals.BadTrace network text front divides asks at)
+ends_as asked task Broken network text front divides asks at = inl (ends_refused asked task refusals.Broken network text front divides asks at)
+ends_as asked task _ network text front divides asks at = absurd at
 
 -- no line of none is refused
 none_refused : (M : LineMeaning) (status : Status) (front : List ℕ) → front ≡ [] → LastRefusedAs M status front → ⊥
@@ -206,15 +207,15 @@ first_of_none [] past e = refl
 first_of_none (octet ∷ front) past e = absurd (cc)
 
 -- a refused line ends what was taken but for the rest of its piece
-refused_past : (words : List (List ℕ)) (task : Task) (status : Status) (network given text : List ℕ) (r : ReaderAt) → IsDivided network text r
-    → AsksFor words text task → StopsNear (of_lines (meaning_at task)) status (r.rest ++ given) → (r.ended ≡ true → r.rest ≡ [] → r.rest ++ given ≡ [])
-    → (front : List ℕ) × (past : List ℕ) × (network ++ given ≡ front ++ past) × (length past ≤ piece_limit) × EndsRefusedAs words front status
-refused_past words task status network given text r divided asks at empty =
+refused_past : (asked : CommandLine) (task : Task) (status : Status) (network given text : List ℕ) (r : ReaderAt) → IsDivided network text r
+    → AsksFor asked text task → StopsNear (of_lines (meaning_at task)) status (r.rest ++ given) → (r.ended ≡ true → r.rest ≡ [] → r.rest ++ given ≡ [])
+    → (front : List ℕ) × (past : List ℕ) × (network ++ given ≡ front ++ past) × (length past ≤ piece_limit) × EndsRefusedAs asked front status
+refused_past asked task status network given text r divided asks at empty =
     elim divided [
       | inl (front, goes, divides) ↦
           let all : network ++ given ≡ (front ++ at.front) ++ at.past =
           ap (λ l. l ++ given) goes ∙ append_assoc front r.rest given ∙ ap (λ l. front ++ l) at.all ∙ sym (append_assoc front at.front at.past) in
-          (front ++ at.front, at.past, all, at.piece, ends_as words task status front text at.front divides asks at.refused)
+          (front ++ at.front, at.past, all, at.piece, ends_as asked task status front text at.front divides asks at.refused)
       | inr (end, same, none) ↦
           let nothing : [] ≡ at.front ++ at.past = sym (empty end.ended end.none) ∙ at.all in
           absurd (none_refused (meaning_at task) status at.front (first_of_none at.front at.past nothing) at.refused)
@@ -222,7 +223,7 @@ refused_past words task status network given text r divided asks at empty =
 
 -- where a record is refused
 past_told : (run : Run) (middle : Option (List ℕ)) (text given : List ℕ) (r : ReaderAt) (task : Task) (status : Status)
-    → TookNetwork run.words run.source.before middle text r task → Consumes middle run.source.now given
+    → TookNetwork run.asked run.source.before middle text r task → Consumes middle run.source.now given
     → StopsNear (of_lines (meaning_at task)) status (r.rest ++ given) → IfSome run.source.before (TakesPiece run status)
 past_told run middle text given r task status net taken at =
     go run.source.before middle run.source.now net.taken taken net.at_end refl refl
@@ -235,7 +236,7 @@ past_told run middle text given r task status net taken at =
     go (Some input) (Some mid) (Some left) one two rest_at_end is ends =
         let empty : r.ended ≡ true → r.rest ≡ [] → r.rest ++ given ≡ [] =
         λ ended none. ap (λ l. l ++ given) none ∙ none_of_two given left (sym (rest_at_end ended) ∙ two) in
-        let found = refused_past run.words task status net.network given text r net.divided net.asks at empty in
+        let found = refused_past run.asked task status net.network given text r net.divided net.asks at empty in
         record {
           front = found.0;
           past = found.1;
@@ -247,9 +248,9 @@ past_told run middle text given r task status net taken at =
         }
 
 -- where the source failed behind the network text
-cut_told : (words : List (List ℕ)) (network given text octets : List ℕ) (r : ReaderAt) (task : Task) → IsDivided network text r → AsksFor words text task
-    → (r.ended ≡ true → ⊥) → CutHandled (meaning_at task).accepts (r.rest ++ given) octets → CutTask words (network ++ given) octets
-cut_told words network given text octets r task divided asks goes cut =
+cut_told : (asked : CommandLine) (network given text octets : List ℕ) (r : ReaderAt) (task : Task) → IsDivided network text r → AsksFor asked text task
+    → (r.ended ≡ true → ⊥) → CutHandled (meaning_at task).accepts (r.rest ++ given) octets → CutTask asked (network ++ given) octets
+cut_told asked network given text octets r task divided asks goes cut =
     elim divided [
       | inl (front, all, divides) ↦ record {
         front = front;
@@ -264,30 +265,18 @@ cut_told words network given text octets r task divided asks goes cut =
       | inr (end, same, none) ↦ absurd (goes end.ended)
     ]
 
--- words that ask for a task are a command on a network
-pub networked_of : (words : List (List ℕ)) (text : List ℕ) (task : Task) → AsksFor words text task → IsNetworked words
-networked_of words text (Replay site) asks = inr (inl (asks.1, inl asks.2))
-networked_of words text (Audit setting) asks = inl asks.1
-networked_of words text (Emit setting node) asks = inr (inl (asks.1, inr asks.2))
-networked_of words text (Simulate setting seed) asks = inr (inr (inl (seed, asks.1)))
-networked_of words text (Loop setting seed) asks = inr (inr (inr (seed, asks.1)))
+-- what asks for a task is a command on a network
+pub networked_of : (asked : CommandLine) (text : List ℕ) (task : Task) → AsksFor asked text task → IsNetworked asked
+networked_of asked text task asks = ((task_row task).command, asks.1)
 
 -- a premise is broken only where events are audited
-broken_asks : (words : List (List ℕ)) (text : List ℕ) (task : Task) (lines : List (List ℕ)) (due : List ℕ) → AsksFor words text task
-    → RecordsAnswer (meaning_at task) lines Broken due → AsksEvents words
-broken_asks words text (Replay site) lines due asks at = absurd at.refused
-broken_asks words text (Audit setting) lines due asks at = inl asks.1
-broken_asks words text (Emit setting node) lines due asks at = inr (asks.1, asks.2)
-broken_asks words text (Simulate setting seed) lines due asks at = absurd at.refused
-broken_asks words text (Loop setting seed) lines due asks at = absurd at.refused
-
--- records on a network always give an answer
-never_barred : (task : Task) (lines : List (List ℕ)) (octets : List ℕ) → BreaksOff (meaning_at task) BadCalib lines octets → ⊥
-never_barred (Replay site) lines octets at = at.broken
-never_barred (Audit setting) lines octets at = at.broken
-never_barred (Emit setting node) lines octets at = at.broken
-never_barred (Simulate setting seed) lines octets at = at.broken
-never_barred (Loop setting seed) lines octets at = at.broken
+broken_asks : (asked : CommandLine) (text : List ℕ) (task : Task) (lines : List (List ℕ)) (due : List ℕ) → AsksFor asked text task
+    → RecordsAnswer (meaning_at task) lines Broken due → AsksEvents asked
+broken_asks asked text (Replay name site) lines due asks at = absurd at.refused
+broken_asks asked text (Audit setting) lines due asks at = inl asks.1
+broken_asks asked text (Emit name setting node) lines due asks at = inr (name, asks.1)
+broken_asks asked text (Simulate setting seed) lines due asks at = absurd at.refused
+broken_asks asked text (Loop setting seed) lines due asks at = absurd at.refused
 
 -- what is due at the end is due however the input goes on
 due_at_end : (M : LineMeaning) (taken : List ℕ) (ended : Bool) (octets : List ℕ) → After (of_lines M) taken ended [] Done octets → IsDue (of_lines M) taken ended [] Done octets
@@ -295,121 +284,121 @@ due_at_end M taken ended octets at more on =
     (refl, subst (λ (l : List ℕ). RecordsAnswer M (lines_of l) Done octets) (sym (ap (λ l. taken ++ l) (on at.0) ∙ append-nil taken)) at.1.1)
 
 -- how a run ends that came to the records
-pub records_end : (words : List (List ℕ)) (first : Option (List ℕ)) (source sink : Passage (List ℕ)) (text : List ℕ) (r : ReaderAt) (ended : Bool) (task : Task) (status : Status)
-    → TookNetwork words first source.before text r task → Passes (of_lines (meaning_at task)) source sink r.rest r.ended ended [] status
-    → EndsUnlinked words (begun_at first source) sink status
-records_end words first source sink text r ended task Done net at link same = (
+pub records_end : (asked : CommandLine) (first : Option (List ℕ)) (source sink : Passage (List ℕ)) (text : List ℕ) (r : ReaderAt) (ended : Bool) (task : Task) (status : Status)
+    → TookNetwork asked first source.before text r task → Passes (of_lines (meaning_at task)) source sink r.rest r.ended ended [] status
+    → EndsUnlinked asked (begun_at first source) sink status
+records_end asked first source sink text r ended task Done net at link same = (
   (
-    inl (networked_of words text task net.asks),
+    inl (networked_of asked text task net.asks),
     at.octets,
     [],
     at.wrote,
     uncalled link same,
-    answered words first source text at.given at.octets r ended task Done net at.taken at.at_end (due_at_end (meaning_at task) (r.rest ++ at.given) ended at.octets at.stands),
+    answered asked first source text at.given at.octets r ended task Done net at.taken at.at_end (due_at_end (meaning_at task) (r.rest ++ at.given) ended at.octets at.stands),
   ),
   at.at_end at.stands.0,
 )
-records_end words first source sink text r ended task BadTrace net at link same = (
-  (inl (networked_of words text task net.asks), at.octets, [], at.wrote, uncalled link same, answered words first source text at.given at.octets r ended task BadTrace net at.taken at.at_end at.stands.0),
-  past_told (record { words = words; source = begun_at first source; sink = sink; link = link }) source.before text at.given r task BadTrace net at.taken at.stands.1,
+records_end asked first source sink text r ended task BadTrace net at link same = (
+  (inl (networked_of asked text task net.asks), at.octets, [], at.wrote, uncalled link same, answered asked first source text at.given at.octets r ended task BadTrace net at.taken at.at_end at.stands.0),
+  past_told (record { asked = asked; source = begun_at first source; sink = sink; link = link }) source.before text at.given r task BadTrace net at.taken at.stands.1,
 )
-records_end words first source sink text r ended task Broken net at link same = (
-  (inl (networked_of words text task net.asks), at.octets, [], at.wrote, uncalled link same, answered words first source text at.given at.octets r ended task Broken net at.taken at.at_end at.stands.0),
-  past_told (record { words = words; source = begun_at first source; sink = sink; link = link }) source.before text at.given r task Broken net at.taken at.stands.1,
-  inl (broken_asks words text task (lines_of ((r.rest ++ at.given) ++ [])) at.octets net.asks (at.stands.0 [] (λ e. refl)).1),
+records_end asked first source sink text r ended task Broken net at link same = (
+  (inl (networked_of asked text task net.asks), at.octets, [], at.wrote, uncalled link same, answered asked first source text at.given at.octets r ended task Broken net at.taken at.at_end at.stands.0),
+  past_told (record { asked = asked; source = begun_at first source; sink = sink; link = link }) source.before text at.given r task Broken net at.taken at.stands.1,
+  inl (broken_asks asked text task (lines_of ((r.rest ++ at.given) ++ [])) at.octets net.asks (at.stands.0 [] (λ e. refl)).1),
 )
-records_end words first source sink text r ended task TooLarge net at link same =
-    (inl (networked_of words text task net.asks), at.octets, [], at.wrote, uncalled link same, answered words first source text at.given at.octets r ended task TooLarge net at.taken at.at_end at.stands)
-records_end words first source sink text r ended task ReadFault net at link same =
+records_end asked first source sink text r ended task TooLarge net at link same =
+    (inl (networked_of asked text task net.asks), at.octets, [], at.wrote, uncalled link same, answered asked first source text at.given at.octets r ended task TooLarge net at.taken at.at_end at.stands)
+records_end asked first source sink text r ended task ReadFault net at link same =
     let open_ : r.ended ≡ true → ⊥ = λ is. let bad : true ≡ false = sym (at.stays is) ∙ at.stands.0 in cc in (
       at.read.failed refl,
       net.network ++ at.given,
       at.octets,
       Consumes-trans first source.before source.now net.network at.given net.taken at.taken,
       at.wrote,
-      inl (networked_of words text task net.asks, inr (cut_told words net.network at.given text at.octets r task net.divided net.asks open_ at.stands.2)),
+      inl (networked_of asked text task net.asks, inr (cut_told asked net.network at.given text at.octets r task net.divided net.asks open_ at.stands.2)),
       uncalled link same,
     )
-records_end words first source sink text r ended task WriteFault net at link same =
-    (at.write.failed refl, at.octets, [], at.wrote, uncalled link same, parts words first source text at.given at.octets r ended task net at.taken at.at_end at.stands)
-records_end words first source sink text r ended task OutOfMemory net at link same =
-    (at.octets, [], at.wrote, uncalled link same, firsts words first source text at.given at.octets r ended task net at.taken at.at_end at.stands)
-records_end words first source sink text r ended task LinkFault net at link same = absurd at.stands.1
-records_end words first source sink text r ended task BadCapture net at link same = absurd (at.stands.0 [] (λ e. refl)).1
-records_end words first source sink text r ended task BadCalib net at link same =
-    absurd (never_barred task (lines_of ((r.rest ++ at.given) ++ [])) at.octets (at.stands.1 [] (λ e. refl)).1)
-records_end words first source sink text r ended task Usage net at link same = absurd (at.stands [] (λ e. refl)).1
-records_end words first source sink text r ended task BadNetwork net at link same = absurd (at.stands [] (λ e. refl)).1
+records_end asked first source sink text r ended task WriteFault net at link same =
+    (at.write.failed refl, at.octets, [], at.wrote, uncalled link same, parts asked first source text at.given at.octets r ended task net at.taken at.at_end at.stands)
+records_end asked first source sink text r ended task OutOfMemory net at link same =
+    (at.octets, [], at.wrote, uncalled link same, firsts asked first source text at.given at.octets r ended task net at.taken at.at_end at.stands)
+records_end asked first source sink text r ended task LinkFault net at link same = absurd at.stands.1
+records_end asked first source sink text r ended task BadCapture net at link same = absurd (at.stands.0 [] (λ e. refl)).1
+records_end asked first source sink text r ended task BadCalib net at link same =
+    absurd ((task_facts task).ends (lines_of ((r.rest ++ at.given) ++ [])) at.octets (at.stands.1 [] (λ e. refl)).1)
+records_end asked first source sink text r ended task Usage net at link same = absurd (at.stands [] (λ e. refl)).1
+records_end asked first source sink text r ended task BadNetwork net at link same = absurd (at.stands [] (λ e. refl)).1
 
 -- how a run ends whose only line is a refusal
 pub line_ends : (run : Run) (due given : Status) (line : List ℕ) → Finishes due given run.sink.before run.sink.now line → (given ≡ WriteFault → Failed run.sink) → Called run []
-    → IfSome run.source.before (λ input. Answer run.words input [] due line) → (Wrote run line → Ends run due) → Ends run given
+    → IfSome run.source.before (λ input. Answer run.asked input [] due line) → (Wrote run line → Ends run due) → Ends run given
 line_ends run due given line how writes called told ends =
     elim how [
       | inl all ↦ subst (Ends run) (sym all.0) (ends all.1)
       | inr part ↦ subst (Ends run) (sym part.0)
-          (writes part.0, take part.1.0 line, [], part.1.1, called, part_told run.words run.source.before due line part.1.0 told)
+          (writes part.0, take part.1.0 line, [], part.1.1, called, part_told run.asked run.source.before due line part.1.0 told)
     ]
 
 -- the network text is too long
-pub told_too_long : (words : List (List ℕ)) (first middle : Option (List ℕ)) (network : List ℕ) (r : ReaderAt) → IsNetworked words → Consumes first middle network → IsTooLong network r
-    → (r.ended ≡ true → IsAtEnd middle) → IfSome first (λ input. Answer words input [] TooLarge too_large_line)
-told_too_long words None middle network r networked one long at_end = tt
-told_too_long words (Some input) None network r networked one long at_end = absurd one
-told_too_long words (Some input) (Some middle) network r networked one long at_end =
+pub told_too_long : (asked : CommandLine) (first middle : Option (List ℕ)) (network : List ℕ) (r : ReaderAt) → IsNetworked asked → Consumes first middle network → IsTooLong network r
+    → (r.ended ≡ true → IsAtEnd middle) → IfSome first (λ input. Answer asked input [] TooLarge too_large_line)
+told_too_long asked None middle network r networked one long at_end = tt
+told_too_long asked (Some input) None network r networked one long at_end = absurd one
+told_too_long asked (Some input) (Some middle) network r networked one long at_end =
     inl (networked, subst (λ (l : List ℕ). network_limit < length (network_text l)) (sym one) (long middle at_end), refl, refl)
 
 -- the network text is refused
-pub told_bad_network : (words : List (List ℕ)) (first : Option (List ℕ)) (text line : List ℕ) → IfSome first (λ input. network_text input ≡ text) → length text ≤ network_limit
-    → IsRefusedBy text line → IsNetworked words → IfSome first (λ input. Answer words input [] BadNetwork line)
-told_bad_network words None text line told fits bad networked = tt
-told_bad_network words (Some input) text line told fits bad networked =
+pub told_bad_network : (asked : CommandLine) (first : Option (List ℕ)) (text line : List ℕ) → IfSome first (λ input. network_text input ≡ text) → length text ≤ network_limit
+    → IsRefusedBy text line → IsNetworked asked → IfSome first (λ input. Answer asked input [] BadNetwork line)
+told_bad_network asked None text line told fits bad networked = tt
+told_bad_network asked (Some input) text line told fits bad networked =
     inl (networked, subst (λ (t : List ℕ). length t ≤ network_limit) (sym told) fits, subst (λ (t : List ℕ). IsRefusedBy t line) (sym told) bad, refl)
 
 -- the network has no node of this name
-pub told_no_node : (words : List (List ℕ)) (first : Option (List ℕ)) (text : List ℕ) → IfSome first (λ input. network_text input ≡ text)
-    → AsksNone words text → IfSome first (λ input. AsksNone words (network_text input))
-told_no_node words None text told none = tt
-told_no_node words (Some input) text told none = subst (AsksNone words) (sym told) none
+pub told_no_node : (asked : CommandLine) (first : Option (List ℕ)) (text : List ℕ) → IfSome first (λ input. network_text input ≡ text)
+    → AsksNone asked text → IfSome first (λ input. AsksNone asked (network_text input))
+told_no_node asked None text told none = tt
+told_no_node asked (Some input) text told none = subst (AsksNone asked) (sym told) none
 
-pub told_no_usage : (words : List (List ℕ)) (first : Option (List ℕ)) → IfSome first (λ input. AsksNone words (network_text input))
-    → IfSome first (λ input. Answer words input [] Usage usage_line)
-told_no_usage words None none = tt
-told_no_usage words (Some input) none = (inr none, refl, refl)
+pub told_no_usage : (asked : CommandLine) (first : Option (List ℕ)) → IfSome first (λ input. AsksNone asked (network_text input))
+    → IfSome first (λ input. Answer asked input [] Usage asked.usage)
+told_no_usage asked None none = tt
+told_no_usage asked (Some input) none = (inr none, refl, refl)
 
 -- where the words are no command
-pub told_usage : (words : List (List ℕ)) (first : Option (List ℕ)) → (IsCommand words → ⊥) → IfSome first (λ input. Answer words input [] Usage usage_line)
-told_usage words None none = tt
-told_usage words (Some input) none = (inl none, refl, refl)
+pub told_usage : (asked : CommandLine) (first : Option (List ℕ)) → (IsCommand asked → ⊥) → IfSome first (λ input. Answer asked input [] Usage asked.usage)
+told_usage asked None none = tt
+told_usage asked (Some input) none = (inl none, refl, refl)
 
 -- where nothing was written
-pub nothing_first : (words : List (List ℕ)) (first : Option (List ℕ)) → IfSome first (λ input. FirstAnswer words input [] [])
-nothing_first words None = tt
-nothing_first words (Some input) = inl (refl, refl)
+pub nothing_first : (asked : CommandLine) (first : Option (List ℕ)) → IfSome first (λ input. FirstAnswer asked input [] [])
+nothing_first asked None = tt
+nothing_first asked (Some input) = inl (refl, refl)
 
 -- how a run ends before its records
-pub size_ends : (run : Run) (given : Status) (network : List ℕ) (r : ReaderAt) → IsNetworked run.words → Consumes run.source.before run.source.now network → IsTooLong network r
+pub size_ends : (run : Run) (given : Status) (network : List ℕ) (r : ReaderAt) → IsNetworked run.asked → Consumes run.source.before run.source.now network → IsTooLong network r
     → (r.ended ≡ true → IsAtEnd run.source.now) → Finishes TooLarge given run.sink.before run.sink.now too_large_line → (given ≡ WriteFault → Failed run.sink) → Called run [] → Ends run given
 size_ends run given network r networked one long at_end how writes called =
-    let told = told_too_long run.words run.source.before run.source.now network r networked one long at_end in
+    let told = told_too_long run.asked run.source.before run.source.now network r networked one long at_end in
     line_ends run TooLarge given too_large_line how writes called told (λ wrote. (inl networked, too_large_line, [], wrote, called, told))
 
 pub memory_ends : (run : Run) → Wrote run [] → Called run [] → Ends run OutOfMemory
-memory_ends run wrote called = ([], [], wrote, called, nothing_first run.words run.source.before)
+memory_ends run wrote called = ([], [], wrote, called, nothing_first run.asked run.source.before)
 
 without_memory : (run : Run) (given : Status) → given ≡ OutOfMemory → run.sink.now ≡ run.sink.before → Called run [] → Ends run given
 without_memory run given memory same called =
     subst (Ends run) (sym memory) (memory_ends run (subst (λ (now : Option (List ℕ)). Appends run.sink.before now []) (sym same) (Appends-nil run.sink.before)) called)
 
-pub bad_network_ends : (run : Run) (given : Status) (network text line : List ℕ) (r : ReaderAt) → IsNetworked run.words → Consumes run.source.before run.source.now network
+pub bad_network_ends : (run : Run) (given : Status) (network text line : List ℕ) (r : ReaderAt) → IsNetworked run.asked → Consumes run.source.before run.source.now network
     → IsDivided network text r → length text ≤ network_limit → (r.ended ≡ true → IsAtEnd run.source.now) → IsRefusedBy text line
     → Finishes BadNetwork given run.sink.before run.sink.now line → (given ≡ WriteFault → Failed run.sink) → Called run [] → Ends run given
 bad_network_ends run given network text line r networked one divided fits at_end bad how writes called =
-    let told = told_bad_network run.words run.source.before text line (told_text run.source.before run.source.now network text r one divided at_end) fits bad networked in
+    let told = told_bad_network run.asked run.source.before text line (told_text run.source.before run.source.now network text r one divided at_end) fits bad networked in
     line_ends run BadNetwork given line how writes called told (λ wrote. (inl networked, line, [], wrote, called, told))
 
 -- the network is refused, or there was no memory for its line
-pub refused_ends : (run : Run) (given : Status) (network text : List ℕ) (fault : ConfFault) (r : ReaderAt) → IsNetworked run.words → Consumes run.source.before run.source.now network
+pub refused_ends : (run : Run) (given : Status) (network text : List ℕ) (fault : ConfFault) (r : ReaderAt) → IsNetworked run.asked → Consumes run.source.before run.source.now network
     → IsDivided network text r → length text ≤ network_limit → (r.ended ≡ true → IsAtEnd run.source.now) → IsReadingOf text (Err fault)
     → RefusesNetwork fault given run.sink.before run.sink.now → (given ≡ WriteFault → Failed run.sink) → Called run [] → Ends run given
 refused_ends run given network text (Fault code place) r networked one divided fits at_end reads how writes called =
@@ -419,19 +408,19 @@ refused_ends run given network text (Fault code place) r networked one divided f
     ]
 refused_ends run given network text (Memory e) r networked one divided fits at_end reads how writes called = without_memory run given how.0 how.1 called
 
-pub no_node_ends : (run : Run) (given : Status) (network text : List ℕ) (r : ReaderAt) → AsksNone run.words text → Consumes run.source.before run.source.now network
-    → IsDivided network text r → (r.ended ≡ true → IsAtEnd run.source.now) → Finishes Usage given run.sink.before run.sink.now usage_line → (given ≡ WriteFault → Failed run.sink)
+pub no_node_ends : (run : Run) (given : Status) (network text : List ℕ) (r : ReaderAt) → AsksNone run.asked text → Consumes run.source.before run.source.now network
+    → IsDivided network text r → (r.ended ≡ true → IsAtEnd run.source.now) → Finishes Usage given run.sink.before run.sink.now run.asked.usage → (given ≡ WriteFault → Failed run.sink)
     → Called run [] → Ends run given
 no_node_ends run given network text r none one divided at_end how writes called =
-    let told = told_no_node run.words run.source.before text (told_text run.source.before run.source.now network text r one divided at_end) none in
-    line_ends run Usage given usage_line how writes called (told_no_usage run.words run.source.before told) (λ wrote. (wrote, inr ((none.name, none.words_are), told), called))
+    let told = told_no_node run.asked run.source.before text (told_text run.source.before run.source.now network text r one divided at_end) none in
+    line_ends run Usage given run.asked.usage how writes called (told_no_usage run.asked run.source.before told) (λ wrote. (wrote, inr ((none.name, none.asks), told), called))
 
-pub usage_ends : (run : Run) (given : Status) → (IsCommand run.words → ⊥) → Finishes Usage given run.sink.before run.sink.now usage_line → (given ≡ WriteFault → Failed run.sink)
+pub usage_ends : (run : Run) (given : Status) → (IsCommand run.asked → ⊥) → Finishes Usage given run.sink.before run.sink.now run.asked.usage → (given ≡ WriteFault → Failed run.sink)
     → Called run [] → Ends run given
 usage_ends run given none how writes called =
-    line_ends run Usage given usage_line how writes called (told_usage run.words run.source.before none) (λ wrote. (wrote, inl none, called))
+    line_ends run Usage given run.asked.usage how writes called (told_usage run.asked run.source.before none) (λ wrote. (wrote, inl none, called))
 
-pub network_fails : (run : Run) (network : List ℕ) → IsNetworked run.words → Consumes run.source.before run.source.now network → IsUndivided network → Wrote run [] → Failed run.source
+pub network_fails : (run : Run) (network : List ℕ) → IsNetworked run.asked → Consumes run.source.before run.source.now network → IsUndivided network → Wrote run [] → Failed run.source
     → Called run [] → Ends run ReadFault
 network_fails run network networked taken cut wrote rose called = (rose, network, [], taken, wrote, inl (networked, inl (cut, refl)), called)
 
@@ -448,36 +437,36 @@ whole_told P source given ended taken at_end told = go source.before source.now 
     go (Some input) (Some left) taken at_end = subst P (sym taken) (told left at_end)
 
 -- what it answers is due for its word
-alone_answers : (words : List (List ℕ)) (alone : Alone) (input : List ℕ) (status : Status) (due : List ℕ) → IsAlone words alone → (alone_meaning alone).answers input [] status due → Answer words input [] status due
-alone_answers words alone input Usage due is has = absurd ((facts_of alone).no_usage input due has)
-alone_answers words alone input BadNetwork due is has = inr (alone, is, has)
-alone_answers words alone input TooLarge due is has = inr (inr (inl (alone, is, has)))
-alone_answers words alone input status due is has = inr (inl (alone, is, has))
+alone_answers : (asked : CommandLine) (alone : Alone) (input : List ℕ) (status : Status) (due : List ℕ) → IsAlone asked alone → (alone_meaning alone).answers input [] status due → Answer asked input [] status due
+alone_answers asked alone input Usage due is has = absurd ((facts_of alone).no_usage input due has)
+alone_answers asked alone input BadNetwork due is has = inr (alone, is, has)
+alone_answers asked alone input TooLarge due is has = inr (inr (inl (alone, is, has)))
+alone_answers asked alone input status due is has = inr (inl (alone, is, has))
 
 -- of the whole input
-told_alone : (words : List (List ℕ)) (alone : Alone) (source : Passage (List ℕ)) (given octets : List ℕ) (ended : Bool) (status : Status) → IsAlone words alone → Consumes source.before source.now given
-    → (ended ≡ true → IsAtEnd source.now) → IsDue (alone_meaning alone) given ended [] status octets → IfSome source.before (λ input. Answer words input [] status octets)
-told_alone words alone source given octets ended status is taken at_end due =
-    whole_told (λ input. Answer words input [] status octets) source given ended taken at_end (λ more on. alone_answers words alone (given ++ more) status octets is (due more on))
+told_alone : (asked : CommandLine) (alone : Alone) (source : Passage (List ℕ)) (given octets : List ℕ) (ended : Bool) (status : Status) → IsAlone asked alone → Consumes source.before source.now given
+    → (ended ≡ true → IsAtEnd source.now) → IsDue (alone_meaning alone) given ended [] status octets → IfSome source.before (λ input. Answer asked input [] status octets)
+told_alone asked alone source given octets ended status is taken at_end due =
+    whole_told (λ input. Answer asked input [] status octets) source given ended taken at_end (λ more on. alone_answers asked alone (given ++ more) status octets is (due more on))
 
-first_alone : (words : List (List ℕ)) (alone : Alone) (source : Passage (List ℕ)) (given octets : List ℕ) (ended : Bool) → IsAlone words alone → Consumes source.before source.now given
-    → (ended ≡ true → IsAtEnd source.now) → IsFirst (alone_meaning alone) given ended [] octets → IfSome source.before (λ input. FirstAnswer words input [] octets)
-first_alone words alone source given octets ended is taken at_end due =
-    whole_told (λ input. FirstAnswer words input [] octets) source given ended taken at_end (λ more on. inr (inr (inl (alone, is, due more on))))
+first_alone : (asked : CommandLine) (alone : Alone) (source : Passage (List ℕ)) (given octets : List ℕ) (ended : Bool) → IsAlone asked alone → Consumes source.before source.now given
+    → (ended ≡ true → IsAtEnd source.now) → IsFirst (alone_meaning alone) given ended [] octets → IfSome source.before (λ input. FirstAnswer asked input [] octets)
+first_alone asked alone source given octets ended is taken at_end due =
+    whole_told (λ input. FirstAnswer asked input [] octets) source given ended taken at_end (λ more on. inr (inr (inl (alone, is, due more on))))
 
 -- a part of what is due
-part_alone : (words : List (List ℕ)) (alone : Alone) (source : Passage (List ℕ)) (given octets : List ℕ) (ended : Bool) → IsAlone words alone → Consumes source.before source.now given
-    → (ended ≡ true → IsAtEnd source.now) → After (alone_meaning alone) given ended [] WriteFault octets → IfSome source.before (λ input. PartAnswer words input [] octets)
-part_alone words alone source given octets ended is taken at_end at =
-    subst (λ (o : List ℕ). IfSome source.before (λ input. PartAnswer words input [] o)) (sym at.2)
+part_alone : (asked : CommandLine) (alone : Alone) (source : Passage (List ℕ)) (given octets : List ℕ) (ended : Bool) → IsAlone asked alone → Consumes source.before source.now given
+    → (ended ≡ true → IsAtEnd source.now) → After (alone_meaning alone) given ended [] WriteFault octets → IfSome source.before (λ input. PartAnswer asked input [] octets)
+part_alone asked alone source given octets ended is taken at_end at =
+    subst (λ (o : List ℕ). IfSome source.before (λ input. PartAnswer asked input [] o)) (sym at.2)
     (elim at.3 [
-      | inl due ↦ part_told words source.before due.0 at.0 at.1 (told_alone words alone source given at.0 ended due.0 is taken at_end due.1)
-      | inr due ↦ part_first words source.before at.0 at.1 (first_alone words alone source given at.0 ended is taken at_end due)
+      | inl due ↦ part_told asked source.before due.0 at.0 at.1 (told_alone asked alone source given at.0 ended due.0 is taken at_end due.1)
+      | inr due ↦ part_first asked source.before at.0 at.1 (first_alone asked alone source given at.0 ended is taken at_end due)
     ])
 
 -- a refused record ends what was taken but for the rest of its piece
-past_alone : (run : Run) (alone : Alone) (given : List ℕ) (status : Status) → IsAlone run.words alone → Consumes run.source.before run.source.now given → StopsNear (alone_meaning alone) status given
-    → ((front : List ℕ) → (alone_meaning alone).refused status front → EndsRefusedAs run.words front status) → IfSome run.source.before (TakesPiece run status)
+past_alone : (run : Run) (alone : Alone) (given : List ℕ) (status : Status) → IsAlone run.asked alone → Consumes run.source.before run.source.now given → StopsNear (alone_meaning alone) status given
+    → ((front : List ℕ) → (alone_meaning alone).refused status front → EndsRefusedAs run.asked front status) → IfSome run.source.before (TakesPiece run status)
 past_alone run alone given status is taken at means = go run.source.before run.source.now taken refl
   where
     go : (before now : Option (List ℕ)) → Consumes before now given → now ≡ run.source.now → IfSome before (TakesPiece run status)
@@ -501,51 +490,51 @@ alone_done M taken ended octets at more on = subst (λ (l : List ℕ). M.answers
 may_alone : (alone : Alone) (given octets : List ℕ) (ended : Bool) (status : Status) → IsDue (alone_meaning alone) given ended [] status octets → MayAnswer alone status
 may_alone alone given octets ended status due = (facts_of alone).may (given ++ []) status octets (due [] (λ e. refl))
 
-ends_alone : (words : List (List ℕ)) (alone : Alone) (source sink : Passage (List ℕ)) (ended : Bool) (status : Status) → IsAlone words alone
-    → Passes (alone_meaning alone) source sink [] false ended [] status → EndsUnlinked words source sink status
-ends_alone words alone source sink ended Done is at link same = (
+ends_alone : (asked : CommandLine) (alone : Alone) (source sink : Passage (List ℕ)) (ended : Bool) (status : Status) → IsAlone asked alone
+    → Passes (alone_meaning alone) source sink [] false ended [] status → EndsUnlinked asked source sink status
+ends_alone asked alone source sink ended Done is at link same = (
   (
     inr (alone, is, may_alone alone at.given at.octets ended Done (alone_done (alone_meaning alone) at.given ended at.octets at.stands)),
     at.octets,
     [],
     at.wrote,
     uncalled link same,
-    told_alone words alone source at.given at.octets ended Done is at.taken at.at_end (alone_done (alone_meaning alone) at.given ended at.octets at.stands),
+    told_alone asked alone source at.given at.octets ended Done is at.taken at.at_end (alone_done (alone_meaning alone) at.given ended at.octets at.stands),
   ),
   at.at_end at.stands.0,
 )
-ends_alone words alone source sink ended BadNetwork is at link same =
-    (inr (alone, is, may_alone alone at.given at.octets ended BadNetwork at.stands), at.octets, [], at.wrote, uncalled link same, told_alone words alone source at.given at.octets ended BadNetwork is at.taken at.at_end at.stands)
-ends_alone words alone source sink ended TooLarge is at link same =
-    (inr (alone, is, may_alone alone at.given at.octets ended TooLarge at.stands), at.octets, [], at.wrote, uncalled link same, told_alone words alone source at.given at.octets ended TooLarge is at.taken at.at_end at.stands)
-ends_alone words alone source sink ended BadCalib is at link same = (
-  (inr (alone, is, may_alone alone at.given at.octets ended BadCalib at.stands.1), at.octets, [], at.wrote, uncalled link same, told_alone words alone source at.given at.octets ended BadCalib is at.taken at.at_end at.stands.1),
+ends_alone asked alone source sink ended BadNetwork is at link same =
+    (inr (alone, is, may_alone alone at.given at.octets ended BadNetwork at.stands), at.octets, [], at.wrote, uncalled link same, told_alone asked alone source at.given at.octets ended BadNetwork is at.taken at.at_end at.stands)
+ends_alone asked alone source sink ended TooLarge is at link same =
+    (inr (alone, is, may_alone alone at.given at.octets ended TooLarge at.stands), at.octets, [], at.wrote, uncalled link same, told_alone asked alone source at.given at.octets ended TooLarge is at.taken at.at_end at.stands)
+ends_alone asked alone source sink ended BadCalib is at link same = (
+  (inr (alone, is, may_alone alone at.given at.octets ended BadCalib at.stands.1), at.octets, [], at.wrote, uncalled link same, told_alone asked alone source at.given at.octets ended BadCalib is at.taken at.at_end at.stands.1),
   (alone, is, may_alone alone at.given at.octets ended BadCalib at.stands.1),
   at.at_end at.stands.0,
 )
-ends_alone words alone source sink ended BadTrace is at link same = (
-  (inr (alone, is, may_alone alone at.given at.octets ended BadTrace at.stands.0), at.octets, [], at.wrote, uncalled link same, told_alone words alone source at.given at.octets ended BadTrace is at.taken at.at_end at.stands.0),
-  past_alone (record { words = words; source = source; sink = sink; link = link }) alone at.given BadTrace is at.taken at.stands.1 (λ front has. inr (alone, is, has)),
+ends_alone asked alone source sink ended BadTrace is at link same = (
+  (inr (alone, is, may_alone alone at.given at.octets ended BadTrace at.stands.0), at.octets, [], at.wrote, uncalled link same, told_alone asked alone source at.given at.octets ended BadTrace is at.taken at.at_end at.stands.0),
+  past_alone (record { asked = asked; source = source; sink = sink; link = link }) alone at.given BadTrace is at.taken at.stands.1 (λ front has. inr (alone, is, has)),
 )
-ends_alone words alone source sink ended Broken is at link same = (
-  (inr (alone, is, may_alone alone at.given at.octets ended Broken at.stands.0), at.octets, [], at.wrote, uncalled link same, told_alone words alone source at.given at.octets ended Broken is at.taken at.at_end at.stands.0),
-  past_alone (record { words = words; source = source; sink = sink; link = link }) alone at.given Broken is at.taken at.stands.1 (λ front has. inr (alone, is, has)),
+ends_alone asked alone source sink ended Broken is at link same = (
+  (inr (alone, is, may_alone alone at.given at.octets ended Broken at.stands.0), at.octets, [], at.wrote, uncalled link same, told_alone asked alone source at.given at.octets ended Broken is at.taken at.at_end at.stands.0),
+  past_alone (record { asked = asked; source = source; sink = sink; link = link }) alone at.given Broken is at.taken at.stands.1 (λ front has. inr (alone, is, has)),
   inr (alone, is, may_alone alone at.given at.octets ended Broken at.stands.0),
 )
-ends_alone words alone source sink ended BadCapture is at link same = (
-  (inr (alone, is, may_alone alone at.given at.octets ended BadCapture at.stands.0), at.octets, [], at.wrote, uncalled link same, told_alone words alone source at.given at.octets ended BadCapture is at.taken at.at_end at.stands.0),
-  past_alone (record { words = words; source = source; sink = sink; link = link }) alone at.given BadCapture is at.taken at.stands.1 (λ front has. (alone, is, has)),
+ends_alone asked alone source sink ended BadCapture is at link same = (
+  (inr (alone, is, may_alone alone at.given at.octets ended BadCapture at.stands.0), at.octets, [], at.wrote, uncalled link same, told_alone asked alone source at.given at.octets ended BadCapture is at.taken at.at_end at.stands.0),
+  past_alone (record { asked = asked; source = source; sink = sink; link = link }) alone at.given BadCapture is at.taken at.stands.1 (λ front has. (alone, is, has)),
   (alone, is, may_alone alone at.given at.octets ended BadCapture at.stands.0),
 )
-ends_alone words alone source sink ended ReadFault is at link same =
+ends_alone asked alone source sink ended ReadFault is at link same =
     (at.read.failed refl, at.given, at.octets, at.taken, at.wrote, inr (alone, is, at.stands.2), uncalled link same)
-ends_alone words alone source sink ended WriteFault is at link same =
-    (at.write.failed refl, at.octets, [], at.wrote, uncalled link same, part_alone words alone source at.given at.octets ended is at.taken at.at_end at.stands)
-ends_alone words alone source sink ended OutOfMemory is at link same =
-    (at.octets, [], at.wrote, uncalled link same, first_alone words alone source at.given at.octets ended is at.taken at.at_end at.stands)
-ends_alone words alone source sink ended Usage is at link same = absurd ((facts_of alone).no_usage (at.given ++ []) at.octets (at.stands [] (λ e. refl)))
-ends_alone words alone source sink ended LinkFault is at link same = absurd ((facts_of alone).unlinked at.given at.octets at.stands.1)
+ends_alone asked alone source sink ended WriteFault is at link same =
+    (at.write.failed refl, at.octets, [], at.wrote, uncalled link same, part_alone asked alone source at.given at.octets ended is at.taken at.at_end at.stands)
+ends_alone asked alone source sink ended OutOfMemory is at link same =
+    (at.octets, [], at.wrote, uncalled link same, first_alone asked alone source at.given at.octets ended is at.taken at.at_end at.stands)
+ends_alone asked alone source sink ended Usage is at link same = absurd ((facts_of alone).no_usage (at.given ++ []) at.octets (at.stands [] (λ e. refl)))
+ends_alone asked alone source sink ended LinkFault is at link same = absurd ((facts_of alone).unlinked at.given at.octets at.stands.1)
 
-pub alone_ends : (words : List (List ℕ)) (alone : Alone) (source sink : Passage (List ℕ)) (status : Status) → IsAlone words alone → PassesAll (alone_meaning alone) source sink status
-    → EndsUnlinked words source sink status
-alone_ends words alone source sink status is at = ends_alone words alone source sink at.0 status is at.1
+pub alone_ends : (asked : CommandLine) (alone : Alone) (source sink : Passage (List ℕ)) (status : Status) → IsAlone asked alone → PassesAll (alone_meaning alone) source sink status
+    → EndsUnlinked asked source sink status
+alone_ends asked alone source sink status is at = ends_alone asked alone source sink at.0 status is at.1

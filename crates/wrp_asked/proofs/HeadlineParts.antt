@@ -20,8 +20,10 @@ use Rattle.wrp_course.specs.Runs.{AllEvents, IsNetwork, IsRun}
 use Rattle.wrp_course.specs.Setting.{Setting}
 use Rattle.wrp_world.specs.EventHolds.{LinksHold, LinksHoldInRuns}
 use Rattle.wrp_audit.specs.Audited.{AreEvents, IsSettingOf}
+use Rattle.wrp_commands.specs.Request.{CommandLine}
 use Rattle.wrp_asked.specs.EventLines.{AtEachEvent, Writing}
 use Rattle.wrp_asked.specs.Headline.{AsksEventsOf, CarriesParts, Came, DropsCountAt, IsEarnedAt, OnlyCounts, OnlyCountsIf}
+use Rattle.wrp_asked.specs.HopByHop.{HopByHop}
 use Rattle.wrp_asked.specs.Input.{network_text}
 use Rattle.wrp_asked.specs.TrackLines.{TracksAreWithin}
 use Rattle.wrp_asked.proofs.EventLines.{lines_by, no_lines}
@@ -67,12 +69,12 @@ network_of accepted text s h =
     (record { accepted = accepted text h.net h.reads; set = λ n. refl })
 
 -- the text describes the network of the events that are asked for
-pub setting_asked : (words : List (List ℕ)) (text : List ℕ) (s : Setting) → AsksEventsOf words text s → IsSettingOf text s
-setting_asked words text s asks = elim asks [ inl audit ↦ audit.2 | inr emission ↦ emission.1.3 ]
+pub setting_asked : (asked : CommandLine) (text : List ℕ) (s : Setting) → AsksEventsOf asked text s → IsSettingOf text s
+setting_asked asked text s asks = elim asks [ inl audit ↦ audit.2 | inr emission ↦ emission.2.2.0 ]
 
-pub run_of : EventsCanCome → ReadingIsAccepted → (words : List (List ℕ)) (input : List ℕ) (s : Setting) (events : List Happened) → Came words input s events → IsRun s events
-run_of can accepted words input s events came = record {
-  network = network_of accepted (network_text input) s (setting_asked words (network_text input) s came.asks);
+pub run_of : EventsCanCome → ReadingIsAccepted → (asked : CommandLine) (input : List ℕ) (s : Setting) (events : List Happened) → Came asked input s events → IsRun s events
+run_of can accepted asked input s events came = record {
+  network = network_of accepted (network_text input) s (setting_asked asked (network_text input) s came.asks);
   each = all_events s.cfg events (events_said (IsEventOf s.cfg) s (can s.cfg) _ events came.audit.are);
   accepted = came.audit.run.accepted;
 }
@@ -117,10 +119,11 @@ earned_at has_line s h before holds run = record {
 -- All parts
 
 -- whichever outputs have a line
-pub parts_of : (has_line : Output → Bool) → LinksHoldInRuns → (s : Setting) (events : List Happened) → IsRun s events → TracksAreWithin (writes has_line) s events →
+pub parts_of : (has_line : Output → Bool) → LinksHoldInRuns → (s : Setting) (events : List Happened) → IsRun s events → TracksAreWithin (writes has_line) s events → HopByHop s events →
     CarriesParts (writes has_line) s events
-parts_of has_line links s events run tracks = record {
+parts_of has_line links s events run tracks hops = record {
   tracks = tracks;
+  hops = hops;
   link_on = at_each s (IsEarnedAt (writes has_line) s) (λ h before r. earned_at has_line s h before (links s h before r) r) events run;
   drops = at_each s (DropsCountAt (writes has_line) s) (λ h before r. all_count has_line s before h (given_at s before h) (links s h before r).drops) events run;
 }

@@ -13,6 +13,7 @@ use Rattle.wrp_records.specs.Passages.{FailsBy, IsSound, Passage}
 use Rattle.wrp_records.specs.Reader.{ReaderAt}
 use Rattle.wrp_records.specs.RecordsAnswer.{BreaksOff, IsWholly}
 use Rattle.wrp_records.specs.Stream.{Handles}
+use Rattle.wrp_commands.specs.Request.{CommandLine}
 use Rattle.wrp_asked.specs.Answer.{Answer, FirstAnswer, LoopBroken, PartAnswer}
 use Rattle.wrp_asked.specs.Ends.{Ends, EndsUnlinked, begun_at}
 use Rattle.wrp_asked.specs.Input.{behind_separator, network_text}
@@ -29,15 +30,15 @@ abbrev still : Passage (List LinkCall)
 still = record { before = None; now = None; faults = 0; faults_now = 0 }
 
 -- a run that calls no link does not end with a fault of one
-pub never_linked : (words : List (List ℕ)) (source sink : Passage (List ℕ)) → EndsUnlinked words source sink LinkFault → ⊥
-never_linked words source sink ends = elim (ends still refl).0 [
+pub never_linked : (asked : CommandLine) (source sink : Passage (List ℕ)) → EndsUnlinked asked source sink LinkFault → ⊥
+never_linked asked source sink ends = elim (ends still refl).0 [
   | inl rose ↦ omega (arith, rose)
   | inr greatest ↦ let none = greatest.0 in omega (arith, none)
 ]
 
-pub unlinked : (words : List (List ℕ)) (source sink : Passage (List ℕ)) (status : Status) (link : Passage (List LinkCall)) → EndsUnlinked words source sink status → IsSound link → FailsBy LinkFault status link
-unlinked words source sink status link ends sound = record {
-  failed = λ is. absurd (never_linked words source sink (subst (EndsUnlinked words source sink) is ends));
+pub unlinked : (asked : CommandLine) (source sink : Passage (List ℕ)) (status : Status) (link : Passage (List LinkCall)) → EndsUnlinked asked source sink status → IsSound link → FailsBy LinkFault status link
+unlinked asked source sink status link ends sound = record {
+  failed = λ is. absurd (never_linked asked source sink (subst (EndsUnlinked asked source sink) is ends));
   sound = λ other. sound;
 }
 
@@ -77,12 +78,12 @@ refused_unlinked fault given before now link how sound =
 -- What is told of all records
 
 -- what holds of all record lines, where the input ended, in the whole input
-both_told : (P : List (List ℕ) → Type 0) (Q : List ℕ → Type 0) (words : List (List ℕ)) (first : Option (List ℕ)) (source : Passage (List ℕ)) (text given : List ℕ) (r : ReaderAt) (ended : Bool) (task : Task)
-    → TookNetwork words first source.before text r task → Consumes source.before source.now given → (ended ≡ true → IsAtEnd source.now) → ended ≡ true → P (lines_of (r.rest ++ given))
-    → ((input : List ℕ) → AsksFor words (network_text input) task → P (behind_separator (lines_of input)) → Q input) → IfSome first Q
-both_told P Q words None source text given r ended task net taken at_end is here means = tt
-both_told P Q words (Some input) source text given r ended task net taken at_end is here means =
-    let has = lines_told P words (Some input) source text given r ended task net taken at_end
+both_told : (P : List (List ℕ) → Type 0) (Q : List ℕ → Type 0) (asked : CommandLine) (first : Option (List ℕ)) (source : Passage (List ℕ)) (text given : List ℕ) (r : ReaderAt) (ended : Bool) (task : Task)
+    → TookNetwork asked first source.before text r task → Consumes source.before source.now given → (ended ≡ true → IsAtEnd source.now) → ended ≡ true → P (lines_of (r.rest ++ given))
+    → ((input : List ℕ) → AsksFor asked (network_text input) task → P (behind_separator (lines_of input)) → Q input) → IfSome first Q
+both_told P Q asked None source text given r ended task net taken at_end is here means = tt
+both_told P Q asked (Some input) source text given r ended task net taken at_end is here means =
+    let has = lines_told P asked (Some input) source text given r ended task net taken at_end
     (λ more on. subst (λ (l : List ℕ). P (lines_of l)) (sym (ap (λ m. (r.rest ++ given) ++ m) (on is) ∙ append-nil (r.rest ++ given))) here) in
     means input has.0 has.1
 
@@ -100,29 +101,29 @@ broken_at s seed calls status text lines handled broken =
     record { written = []; last = text; handled = record { sizes = handled.sizes; count = handled.count; accepted = handled.accepted }; broken = broken; is = refl }
 
 -- what is due then
-answer_at : (words : List (List ℕ)) (input : List ℕ) (s : Setting) (seed : ℕ) (calls : List LinkCall) (status : Status) (text : List ℕ) → AsksFor words (network_text input) (Loop s seed)
-    → RanAt s seed calls status text (behind_separator (lines_of input)) → ((own : Status) × Answer words input calls own text) ⊎ FirstAnswer words input calls text
-answer_at words input s seed calls Done text asks h = inl (Done, inr (inr (s, seed, asks, done_at s seed calls text (behind_separator (lines_of input)) h)))
-answer_at words input s seed calls TooLarge text asks h = inl (TooLarge, inr (inr (inr (s, seed, asks, broken_at s seed calls TooLarge text (behind_separator (lines_of input)) h.0 h.1))))
-answer_at words input s seed calls OutOfMemory text asks (handled, inl none) = inr (inl (none.1, none.0))
-answer_at words input s seed calls OutOfMemory text asks (handled, inr broken) =
+answer_at : (asked : CommandLine) (input : List ℕ) (s : Setting) (seed : ℕ) (calls : List LinkCall) (status : Status) (text : List ℕ) → AsksFor asked (network_text input) (Loop s seed)
+    → RanAt s seed calls status text (behind_separator (lines_of input)) → ((own : Status) × Answer asked input calls own text) ⊎ FirstAnswer asked input calls text
+answer_at asked input s seed calls Done text asks h = inl (Done, inr (inr (s, seed, asks, done_at s seed calls text (behind_separator (lines_of input)) h)))
+answer_at asked input s seed calls TooLarge text asks h = inl (TooLarge, inr (inr (inr (s, seed, asks, broken_at s seed calls TooLarge text (behind_separator (lines_of input)) h.0 h.1))))
+answer_at asked input s seed calls OutOfMemory text asks (handled, inl none) = inr (inl (none.1, none.0))
+answer_at asked input s seed calls OutOfMemory text asks (handled, inr broken) =
     inr (inr (inr (inr (s, seed, asks, broken_at s seed calls OutOfMemory text (behind_separator (lines_of input)) handled broken))))
-answer_at words input s seed calls _ text asks h = absurd h.1
+answer_at asked input s seed calls _ text asks h = absurd h.1
 
-first_at : (words : List (List ℕ)) (input : List ℕ) (s : Setting) (seed : ℕ) (calls : List LinkCall) (text : List ℕ) → AsksFor words (network_text input) (Loop s seed)
-    → RanAt s seed calls OutOfMemory text (behind_separator (lines_of input)) → FirstAnswer words input calls text
-first_at words input s seed calls text asks (handled, inl none) = inl (none.1, none.0)
-first_at words input s seed calls text asks (handled, inr broken) =
+first_at : (asked : CommandLine) (input : List ℕ) (s : Setting) (seed : ℕ) (calls : List LinkCall) (text : List ℕ) → AsksFor asked (network_text input) (Loop s seed)
+    → RanAt s seed calls OutOfMemory text (behind_separator (lines_of input)) → FirstAnswer asked input calls text
+first_at asked input s seed calls text asks (handled, inl none) = inl (none.1, none.0)
+first_at asked input s seed calls text asks (handled, inr broken) =
     inr (inr (inr (s, seed, asks, broken_at s seed calls OutOfMemory text (behind_separator (lines_of input)) handled broken)))
 
 -- all lines are those of a scenario, and the sink failed behind them
 abbrev WroteAt : Setting → ℕ → List LinkCall → List ℕ → List (List ℕ) → Type 0
 WroteAt s seed calls text lines = Handles (SimAccepts s) lines [] × RanSo s seed (map content_of lines) calls WriteFault text
 
-part_at : (words : List (List ℕ)) (input : List ℕ) (s : Setting) (seed : ℕ) (calls : List LinkCall) (text : List ℕ) → AsksFor words (network_text input) (Loop s seed)
-    → WroteAt s seed calls text (behind_separator (lines_of input)) → PartAnswer words input calls text
-part_at words input s seed calls text asks (handled, inl none) = ([], 0, none.1, inr (inl (refl, none.0)))
-part_at words input s seed calls text asks (handled, inr so) = (so.1, so.2, so.3, answer_at words input s seed calls so.0 so.1 asks (handled, so.4))
+part_at : (asked : CommandLine) (input : List ℕ) (s : Setting) (seed : ℕ) (calls : List LinkCall) (text : List ℕ) → AsksFor asked (network_text input) (Loop s seed)
+    → WroteAt s seed calls text (behind_separator (lines_of input)) → PartAnswer asked input calls text
+part_at asked input s seed calls text asks (handled, inl none) = ([], 0, none.1, inr (inl (refl, none.0)))
+part_at asked input s seed calls text asks (handled, inr so) = (so.1, so.2, so.3, answer_at asked input s seed calls so.0 so.1 asks (handled, so.4))
 
 -- How it ends
 
@@ -136,39 +137,39 @@ kept link calls called none =
     same (Some calls) = ap Some (append-nil calls)
 
 -- the network ran
-ran_ends : (words : List (List ℕ)) (first : Option (List ℕ)) (source sink : Passage (List ℕ)) (link : Passage (List LinkCall)) (text : List ℕ) (r : ReaderAt) (ended : Bool) (s : Setting) (seed : ℕ) (status : Status)
-    → TookNetwork words first source.before text r (Loop s seed) → (at : LoopPasses s seed source sink link r.rest r.ended ended status) → ended ≡ true → Handles (SimAccepts s) (lines_of (r.rest ++ at.given)) []
-    → RanSo s seed (map content_of (lines_of (r.rest ++ at.given))) at.calls status at.octets → Ends (record { words = words; source = begun_at first source; sink = sink; link = link }) status
-ran_ends words first source sink link text r ended s seed Done net at is handled so = (
+ran_ends : (asked : CommandLine) (first : Option (List ℕ)) (source sink : Passage (List ℕ)) (link : Passage (List LinkCall)) (text : List ℕ) (r : ReaderAt) (ended : Bool) (s : Setting) (seed : ℕ) (status : Status)
+    → TookNetwork asked first source.before text r (Loop s seed) → (at : LoopPasses s seed source sink link r.rest r.ended ended status) → ended ≡ true → Handles (SimAccepts s) (lines_of (r.rest ++ at.given)) []
+    → RanSo s seed (map content_of (lines_of (r.rest ++ at.given))) at.calls status at.octets → Ends (record { asked = asked; source = begun_at first source; sink = sink; link = link }) status
+ran_ends asked first source sink link text r ended s seed Done net at is handled so = (
   (
-    inl (networked_of words text (Loop s seed) net.asks),
+    inl (networked_of asked text (Loop s seed) net.asks),
     at.octets,
     at.calls,
     at.wrote,
     at.called,
-    both_told (RanAt s seed at.calls Done at.octets) (λ input. Answer words input at.calls Done at.octets) words first source text at.given r ended (Loop s seed) net at.taken at.at_end is (handled, so)
+    both_told (RanAt s seed at.calls Done at.octets) (λ input. Answer asked input at.calls Done at.octets) asked first source text at.given r ended (Loop s seed) net at.taken at.at_end is (handled, so)
         (λ input asks h. inr (inr (s, seed, asks, done_at s seed at.calls at.octets (behind_separator (lines_of input)) h))),
   ),
   at.at_end is,
 )
-ran_ends words first source sink link text r ended s seed TooLarge net at is handled so = (
-  inl (networked_of words text (Loop s seed) net.asks),
+ran_ends asked first source sink link text r ended s seed TooLarge net at is handled so = (
+  inl (networked_of asked text (Loop s seed) net.asks),
   at.octets,
   at.calls,
   at.wrote,
   at.called,
-  both_told (RanAt s seed at.calls TooLarge at.octets) (λ input. Answer words input at.calls TooLarge at.octets) words first source text at.given r ended (Loop s seed) net at.taken at.at_end is (handled, so)
+  both_told (RanAt s seed at.calls TooLarge at.octets) (λ input. Answer asked input at.calls TooLarge at.octets) asked first source text at.given r ended (Loop s seed) net at.taken at.at_end is (handled, so)
       (λ input asks h. inr (inr (inr (s, seed, asks, broken_at s seed at.calls TooLarge at.octets (behind_separator (lines_of input)) h.0 h.1)))),
 )
-ran_ends words first source sink link text r ended s seed OutOfMemory net at is handled so = (
+ran_ends asked first source sink link text r ended s seed OutOfMemory net at is handled so = (
   at.octets,
   at.calls,
   at.wrote,
   at.called,
-  both_told (RanAt s seed at.calls OutOfMemory at.octets) (λ input. FirstAnswer words input at.calls at.octets) words first source text at.given r ended (Loop s seed) net at.taken at.at_end is (handled, so)
-      (λ input asks h. first_at words input s seed at.calls at.octets asks h),
+  both_told (RanAt s seed at.calls OutOfMemory at.octets) (λ input. FirstAnswer asked input at.calls at.octets) asked first source text at.given r ended (Loop s seed) net at.taken at.at_end is (handled, so)
+      (λ input asks h. first_at asked input s seed at.calls at.octets asks h),
 )
-ran_ends words first source sink link text r ended s seed LinkFault net at is handled so = (
+ran_ends asked first source sink link text r ended s seed LinkFault net at is handled so = (
   at.linked.failed refl,
   (seed, net.asks.1),
   at.at_end is,
@@ -176,26 +177,26 @@ ran_ends words first source sink link text r ended s seed LinkFault net at is ha
   at.calls,
   at.wrote,
   at.called,
-  both_told (λ lines. Handles (SimAccepts s) lines [] × LoopBreaks s seed at.calls (map content_of lines) LinkFault at.octets) (λ input. LoopBroken words input at.calls LinkFault at.octets) words first source text at.given r ended
+  both_told (λ lines. Handles (SimAccepts s) lines [] × LoopBreaks s seed at.calls (map content_of lines) LinkFault at.octets) (λ input. LoopBroken asked input at.calls LinkFault at.octets) asked first source text at.given r ended
       (Loop s seed) net at.taken at.at_end is (handled, so)
       (λ input asks h. (s, seed, asks, broken_at s seed at.calls LinkFault at.octets (behind_separator (lines_of input)) h.0 h.1)),
 )
-ran_ends words first source sink link text r ended s seed WriteFault net at is handled so = (
+ran_ends asked first source sink link text r ended s seed WriteFault net at is handled so = (
   at.write.failed refl,
   at.octets,
   at.calls,
   at.wrote,
   at.called,
-  both_told (WroteAt s seed at.calls at.octets) (λ input. PartAnswer words input at.calls at.octets) words first source text at.given r ended (Loop s seed) net at.taken at.at_end is (handled, so)
-      (λ input asks h. part_at words input s seed at.calls at.octets asks h),
+  both_told (WroteAt s seed at.calls at.octets) (λ input. PartAnswer asked input at.calls at.octets) asked first source text at.given r ended (Loop s seed) net at.taken at.at_end is (handled, so)
+      (λ input asks h. part_at asked input s seed at.calls at.octets asks h),
 )
-ran_ends words first source sink link text r ended s seed _ net at is handled so = absurd so
+ran_ends asked first source sink link text r ended s seed _ net at is handled so = absurd so
 
-pub loop_ends : (words : List (List ℕ)) (first : Option (List ℕ)) (source sink : Passage (List ℕ)) (link : Passage (List LinkCall)) (text : List ℕ) (r : ReaderAt) (ended : Bool) (s : Setting) (seed : ℕ) (status : Status)
-    → TookNetwork words first source.before text r (Loop s seed) → LoopPasses s seed source sink link r.rest r.ended ended status → Ends (record { words = words; source = begun_at first source; sink = sink; link = link }) status
-loop_ends words first source sink link text r ended s seed status net at = elim at.stands [
+pub loop_ends : (asked : CommandLine) (first : Option (List ℕ)) (source sink : Passage (List ℕ)) (link : Passage (List LinkCall)) (text : List ℕ) (r : ReaderAt) (ended : Bool) (s : Setting) (seed : ℕ) (status : Status)
+    → TookNetwork asked first source.before text r (Loop s seed) → LoopPasses s seed source sink link r.rest r.ended ended status → Ends (record { asked = asked; source = begun_at first source; sink = sink; link = link }) status
+loop_ends asked first source sink link text r ended s seed status net at = elim at.stands [
   | inl stopped ↦
-      records_end words first source sink text r ended (Loop s seed) status net
+      records_end asked first source sink text r ended (Loop s seed) status net
       (record {
         given = at.given;
         octets = at.octets;
@@ -207,5 +208,5 @@ loop_ends words first source sink link text r ended s seed status net at = elim 
         read = at.read;
         write = at.write;
       }) link (kept link at.calls at.called stopped.0)
-  | inr ran ↦ ran_ends words first source sink link text r ended s seed status net at ran.0 ran.1 ran.2
+  | inr ran ↦ ran_ends asked first source sink link text r ended s seed status net at ran.0 ran.1 ran.2
 ]

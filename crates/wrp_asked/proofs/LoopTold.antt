@@ -15,39 +15,33 @@ use Rattle.wrp_loop.specs.LoopText as texts
 use Rattle.wrp_loop.specs.LoopText.{forged_lines, loop_text, marked_in, others_in}
 use Rattle.wrp_records.specs.declared.machine.Refusal.TheVariants as refusals
 use Rattle.wrp_records.specs.declared.status.Status.{Status}
-use Rattle.wrp_records.specs.declared.status.Status.TheVariants.{Done, Usage, BadNetwork, BadTrace, Broken, ReadFault, WriteFault, LinkFault, TooLarge, OutOfMemory, BadCapture, BadCalib}
+use Rattle.wrp_records.specs.declared.status.Status.TheVariants.{Done, BadTrace, Broken, ReadFault, LinkFault, TooLarge, OutOfMemory, BadCalib}
 use Rattle.wrp_records.specs.Lines.{IsWhole, content_of, lines_of}
 use Rattle.wrp_records.proofs.Reaching.{lines_alone}
 use Rattle.wrp_records.specs.RecordsAnswer.{BreaksOff, IsLarge, IsRefused, IsWholly, RecordsAnswer, StandsFirst}
 use Rattle.wrp_records.specs.Stream.{CutHandled, large_line}
 use Rattle.wrp_audit.specs.AuditText.{all_counts, audit_lines, event_lines}
-use Rattle.wrp_asked.specs.Answer.{Answer, AsksNone, CutAnswer, FirstAnswer, LoopAnswer, LoopBroken, PartAnswer, RecordsDue, TaskAnswer}
-use Rattle.wrp_asked.specs.Ends.{Called, Ends, Run}
+use Rattle.wrp_commands.specs.Request.{CommandLine}
+use Rattle.wrp_commands.specs.Request as requests
+use Rattle.wrp_asked.specs.Answer.{Answer, CutTask, LoopAnswer}
+use Rattle.wrp_asked.specs.Ends.{Ends, Run}
 use Rattle.wrp_asked.specs.Input.{behind_separator, network_text}
 use Rattle.wrp_asked.specs.Headline.{CarriesRun}
 use Rattle.wrp_asked.specs.LoopHeadline.{IsLoopDue, IsToldApart, LacksScene, LoopHeadline, LoopOf, LoopedEventsCarryParts, PrintsTheLoop, TellsApart, came_lines}
 use Rattle.wrp_loop.specs.Loops.{LoopEnded, LoopFailed, LoopShort, IsShort, closing_lines, loop_of, plan_of}
 use Rattle.wrp_scene_records.specs.Scenarios.{SimRefuses, scenario_of}
-use Rattle.wrp_asked.specs.Tasks.{Task, Replay, Audit, Emit, Simulate, Loop, AsksFor, IsLooping, meaning_at}
+use Rattle.wrp_asked.specs.Tasks.{Task, Loop, AsksFor, IsLooping, meaning_at, task_row}
+use Rattle.wrp_asked.proofs.DueTold.{IsDueSo, answer_due, prints}
 use Rattle.wrp_asked.proofs.LoopedParts.{frames_first}
 use Rattle.wrp_asked.proofs.ToldApart.{all_text, came_text, count_lines, counts_plain, counts_text, steps_text}
 use Rattle.wrp_asked.proofs.ToldWhole.{all_whole, audit_whole, counts_whole}
-use Rattle.wrp_asked.proofs.WordLemmas.{alone_unnetworked, audit_unlooped, emission_unlooped, replay_unlooped, simulation_unlooped}
+use Rattle.wrp_asked.proofs.WordLemmas.{lacks_none, one_command}
 
--- where the words ask for a loop, what holds of every task holds if it does of a loop
-only_loop : (words : List (List ℕ)) (text : List ℕ) (seed : ℕ) (P : Task → Type 0) (Q : Type 0) → IsLooping words seed → ((s : Setting) (own : ℕ) → AsksFor words text (Loop s own) → P (Loop s own) → Q) → (task : Task) →
-    AsksFor words text task → P task → Q
-only_loop words text seed P Q looping f (Replay site) asks h = absurd (replay_unlooped words asks.1 asks.2 seed looping)
-only_loop words text seed P Q looping f (Audit s) asks h = absurd (audit_unlooped words asks.1 seed looping)
-only_loop words text seed P Q looping f (Emit s n) asks h = absurd (emission_unlooped words asks.1 asks.2 seed looping)
-only_loop words text seed P Q looping f (Simulate s own) asks h = absurd (simulation_unlooped words own asks.1 seed looping)
-only_loop words text seed P Q looping f (Loop s own) asks h = f s own asks h
-
-asks_node : (words : List (List ℕ)) (text : List ℕ) (seed : ℕ) → IsLooping words seed → AsksNone words text → ⊥
-asks_node words text seed looping none = elim none.words_are [
-  | inl replay ↦ replay_unlooped words none.name replay seed looping
-  | inr emission ↦ emission_unlooped words none.name emission seed looping
-]
+-- where a loop is asked for, what holds of every task holds if it does of a loop
+only_loop : (asked : CommandLine) (text : List ℕ) (seed : ℕ) (P : Task → Type 0) (Q : Type 0) → IsLooping asked seed → ((s : Setting) (own : ℕ) → AsksFor asked text (Loop s own) → P (Loop s own) → Q) → (task : Task) →
+    AsksFor asked text task → P task → Q
+only_loop asked text seed P Q looping f (Loop s own) asks h = f s own asks h
+only_loop asked text seed P Q looping f task asks h = let bad : requests.Loop seed ≡ (task_row task).command = one_command asked (requests.Loop seed) (task_row task).command looping asks.1 in absurd (cc)
 
 -- Records
 
@@ -55,9 +49,9 @@ asks_node words text seed looping none = elim none.words_are [
 only_last : (written last octets : List ℕ) → written ≡ [] → octets ≡ written ++ last → octets ≡ last
 only_last written last octets none is = is ∙ ap (λ (l : List ℕ). l ++ last) none
 
-refused : (words : List (List ℕ)) (input octets : List ℕ) (calls : List LinkCall) (s : Setting) (seed : ℕ) → AsksFor words (network_text input) (Loop s seed) → calls ≡ [] →
-    IsRefused (scenario_of s) refusals.BadTrace (behind_separator (lines_of input)) octets → LacksScene words input calls BadTrace octets
-refused words input octets calls s seed asks none h = record {
+refused : (asked : CommandLine) (input octets : List ℕ) (calls : List LinkCall) (s : Setting) (seed : ℕ) → AsksFor asked (network_text input) (Loop s seed) → calls ≡ [] →
+    IsRefused (scenario_of s) refusals.BadTrace (behind_separator (lines_of input)) octets → LacksScene asked input calls BadTrace octets
+refused asked input octets calls s seed asks none h = record {
   setting = s;
   seed = seed;
   asks = asks;
@@ -71,9 +65,9 @@ refused words input octets calls s seed asks none h = record {
   uncalled = none;
 }
 
-large : (words : List (List ℕ)) (input octets : List ℕ) (calls : List LinkCall) (s : Setting) (seed : ℕ) → AsksFor words (network_text input) (Loop s seed) → calls ≡ [] → IsLarge (scenario_of s) (behind_separator (lines_of input)) octets →
-    LacksScene words input calls TooLarge octets
-large words input octets calls s seed asks none h = record {
+large : (asked : CommandLine) (input octets : List ℕ) (calls : List LinkCall) (s : Setting) (seed : ℕ) → AsksFor asked (network_text input) (Loop s seed) → calls ≡ [] → IsLarge (scenario_of s) (behind_separator (lines_of input)) octets →
+    LacksScene asked input calls TooLarge octets
+large asked input octets calls s seed asks none h = record {
   setting = s;
   seed = seed;
   asks = asks;
@@ -87,15 +81,15 @@ large words input octets calls s seed asks none h = record {
   uncalled = none;
 }
 
-scene_due : (words : List (List ℕ)) (input : List ℕ) (calls : List LinkCall) (status : Status) (octets : List ℕ) (s : Setting) (seed : ℕ) → AsksFor words (network_text input) (Loop s seed) → calls ≡ [] →
-    RecordsAnswer (scenario_of s) (behind_separator (lines_of input)) status octets → IsLoopDue words input calls status octets
-scene_due words input calls BadTrace octets s seed asks none h = inr (inl (refused words input octets calls s seed asks none h))
-scene_due words input calls TooLarge octets s seed asks none (inl one) = inr (inl (large words input octets calls s seed asks none one))
-scene_due words input calls TooLarge octets s seed asks none (inr off) = absurd off.broken
-scene_due words input calls Done octets s seed asks none h = absurd h.closed
-scene_due words input calls Broken octets s seed asks none h = absurd h.refused
-scene_due words input calls BadCalib octets s seed asks none h = absurd h.broken
-scene_due words input calls _ octets s seed asks none h = absurd h
+scene_due : (asked : CommandLine) (input : List ℕ) (calls : List LinkCall) (status : Status) (octets : List ℕ) (s : Setting) (seed : ℕ) → AsksFor asked (network_text input) (Loop s seed) → calls ≡ [] →
+    RecordsAnswer (scenario_of s) (behind_separator (lines_of input)) status octets → IsLoopDue asked input calls status octets
+scene_due asked input calls BadTrace octets s seed asks none h = inr (inl (refused asked input octets calls s seed asks none h))
+scene_due asked input calls TooLarge octets s seed asks none (inl one) = inr (inl (large asked input octets calls s seed asks none one))
+scene_due asked input calls TooLarge octets s seed asks none (inr off) = absurd off.broken
+scene_due asked input calls Done octets s seed asks none h = absurd h.closed
+scene_due asked input calls Broken octets s seed asks none h = absurd h.refused
+scene_due asked input calls BadCalib octets s seed asks none h = absurd h.broken
+scene_due asked input calls _ octets s seed asks none h = absurd h
 
 -- A loop
 
@@ -105,9 +99,9 @@ behind_events : (s : Setting) (last : Going) (written end_text octets text : Lis
 behind_events s last written end_text octets text none is ends =
     only_last written end_text octets none is ∙ ends ∙ ap (λ (l : List ℕ). l ++ text) (came_text s (events_at (place last)))
 
-over : (words : List (List ℕ)) (input octets : List ℕ) (calls : List LinkCall) (s : Setting) (seed : ℕ) → AsksFor words (network_text input) (Loop s seed) → IsWholly (loop_of s seed calls) (behind_separator (lines_of input)) octets →
-    LoopOf words input calls Done octets
-over words input octets calls s seed asks h =
+over : (asked : CommandLine) (input octets : List ℕ) (calls : List LinkCall) (s : Setting) (seed : ℕ) → AsksFor asked (network_text input) (Loop s seed) → IsWholly (loop_of s seed calls) (behind_separator (lines_of input)) octets →
+    LoopOf asked input calls Done octets
+over asked input octets calls s seed asks h =
     let loop : LoopEnded s seed (map content_of (behind_separator (lines_of input))) calls Over = h.closed.0 in
     record {
       setting = s;
@@ -129,9 +123,9 @@ over words input octets calls s seed asks h =
       is = behind_events s loop.last h.written h.last octets (closing_lines s (place loop.last)) h.handled.accepted.2 h.is h.closed.1;
     }
 
-overrun : (words : List (List ℕ)) (input octets : List ℕ) (calls : List LinkCall) (s : Setting) (seed : ℕ) → AsksFor words (network_text input) (Loop s seed) → BreaksOff (loop_of s seed calls) TooLarge (behind_separator (lines_of input)) octets →
-    LoopOf words input calls TooLarge octets
-overrun words input octets calls s seed asks h =
+overrun : (asked : CommandLine) (input octets : List ℕ) (calls : List LinkCall) (s : Setting) (seed : ℕ) → AsksFor asked (network_text input) (Loop s seed) → BreaksOff (loop_of s seed calls) TooLarge (behind_separator (lines_of input)) octets →
+    LoopOf asked input calls TooLarge octets
+overrun asked input octets calls s seed asks h =
     let loop : LoopEnded s seed (map content_of (behind_separator (lines_of input))) calls Large = h.broken.0 in
     record {
       setting = s;
@@ -158,9 +152,9 @@ first_calls : (x : Plan) (calls : List LinkCall) (last : Going) → IsShort x ca
 first_calls x calls (On l) h = (h.before, h.made, h.all, h.loops)
 first_calls x calls (Full l) h = (calls, [], sym (append-nil calls), h)
 
-short : (words : List (List ℕ)) (input octets : List ℕ) (calls : List LinkCall) (s : Setting) (seed : ℕ) → AsksFor words (network_text input) (Loop s seed) → BreaksOff (loop_of s seed calls) OutOfMemory (behind_separator (lines_of input)) octets →
-    LoopOf words input calls OutOfMemory octets
-short words input octets calls s seed asks h =
+short : (asked : CommandLine) (input octets : List ℕ) (calls : List LinkCall) (s : Setting) (seed : ℕ) → AsksFor asked (network_text input) (Loop s seed) → BreaksOff (loop_of s seed calls) OutOfMemory (behind_separator (lines_of input)) octets →
+    LoopOf asked input calls OutOfMemory octets
+short asked input octets calls s seed asks h =
     let loop : LoopShort s seed (map content_of (behind_separator (lines_of input))) calls = h.broken.0 in
     let part = first_calls (plan_of s loop.scene seed) calls loop.last loop.short in
     record {
@@ -183,9 +177,9 @@ short words input octets calls s seed asks h =
       is = behind_events s loop.last h.written h.last octets [] h.handled.accepted.2 h.is (h.broken.1 ∙ sym (append-nil (loop_text s (events_at (place loop.last)))));
     }
 
-cut_off : (words : List (List ℕ)) (input octets written last : List ℕ) (calls : List LinkCall) (s : Setting) (seed : ℕ) → AsksFor words (network_text input) (Loop s seed) →
-    (loop : LoopFailed s seed (map content_of (behind_separator (lines_of input))) calls) → written ≡ [] → octets ≡ written ++ last → last ≡ loop_text s (events_at loop.at) → LoopOf words input calls LinkFault octets
-cut_off words input octets written last calls s seed asks loop none is ends = record {
+cut_off : (asked : CommandLine) (input octets written last : List ℕ) (calls : List LinkCall) (s : Setting) (seed : ℕ) → AsksFor asked (network_text input) (Loop s seed) →
+    (loop : LoopFailed s seed (map content_of (behind_separator (lines_of input))) calls) → written ≡ [] → octets ≡ written ++ last → last ≡ loop_text s (events_at loop.at) → LoopOf asked input calls LinkFault octets
+cut_off asked input octets written last calls s seed asks loop none is ends = record {
   setting = s;
   last = On loop.at;
   came = record {
@@ -205,9 +199,9 @@ cut_off words input octets written last calls s seed asks loop none is ends = re
   is = behind_events s (On loop.at) written last octets [] none is (ends ∙ sym (append-nil (loop_text s (events_at loop.at))));
 }
 
-failed : (words : List (List ℕ)) (input octets : List ℕ) (calls : List LinkCall) (s : Setting) (seed : ℕ) → AsksFor words (network_text input) (Loop s seed) → BreaksOff (loop_of s seed calls) LinkFault (behind_separator (lines_of input)) octets →
-    IsLoopDue words input calls LinkFault octets
-failed words input octets calls s seed asks h = elim h.broken [
+failed : (asked : CommandLine) (input octets : List ℕ) (calls : List LinkCall) (s : Setting) (seed : ℕ) → AsksFor asked (network_text input) (Loop s seed) → BreaksOff (loop_of s seed calls) LinkFault (behind_separator (lines_of input)) octets →
+    IsLoopDue asked input calls LinkFault octets
+failed asked input octets calls s seed asks h = elim h.broken [
   | inl none ↦ inr (inr (inl (record {
     setting = s;
     seed = seed;
@@ -217,102 +211,56 @@ failed words input octets calls s seed asks h = elim h.broken [
     uncalled = none.0;
     none = only_last h.written h.last octets h.handled.accepted.2 h.is ∙ none.1;
   })))
-  | inr loop ↦ inr (inr (inr (cut_off words input octets h.written h.last calls s seed asks loop.0 h.handled.accepted.2 h.is loop.1)))
+  | inr loop ↦ inr (inr (inr (cut_off asked input octets h.written h.last calls s seed asks loop.0 h.handled.accepted.2 h.is loop.1)))
 ]
 
-looped_due : (words : List (List ℕ)) (input : List ℕ) (calls : List LinkCall) (status : Status) (octets : List ℕ) → LoopAnswer words input calls status octets → IsLoopDue words input calls status octets
-looped_due words input calls Done octets h = inr (inr (inr (over words input octets calls h.0 h.1 h.2 h.3)))
-looped_due words input calls TooLarge octets h = inr (inr (inr (overrun words input octets calls h.0 h.1 h.2 h.3)))
-looped_due words input calls _ octets h = absurd h.3
+looped_due : (asked : CommandLine) (input : List ℕ) (calls : List LinkCall) (status : Status) (octets : List ℕ) → LoopAnswer asked input calls status octets → IsLoopDue asked input calls status octets
+looped_due asked input calls Done octets h = inr (inr (inr (over asked input octets calls h.0 h.1 h.2 h.3)))
+looped_due asked input calls TooLarge octets h = inr (inr (inr (overrun asked input octets calls h.0 h.1 h.2 h.3)))
+looped_due asked input calls _ octets h = absurd h.3
 
 -- What is due
 
-task_due : (words : List (List ℕ)) (seed : ℕ) (input : List ℕ) (calls : List LinkCall) (status : Status) (octets : List ℕ) → IsLooping words seed → TaskAnswer words input calls status octets → IsLoopDue words input calls status octets
-task_due words seed input calls status octets looping h =
-    only_loop words (network_text input) seed (λ task. RecordsAnswer (meaning_at task) (behind_separator (lines_of input)) status octets) (IsLoopDue words input calls status octets) looping
-    (λ s own asks due. scene_due words input calls status octets s own asks h.3 due) h.0 h.1 h.2
+task_due : (asked : CommandLine) (seed : ℕ) (input : List ℕ) (status : Status) (octets : List ℕ) (task : Task) → IsLooping asked seed → AsksFor asked (network_text input) task →
+    RecordsAnswer (meaning_at task) (behind_separator (lines_of input)) status octets → IsLoopDue asked input [] status octets
+task_due asked seed input status octets task looping asks due =
+    only_loop asked (network_text input) seed (λ t. RecordsAnswer (meaning_at t) (behind_separator (lines_of input)) status octets) (IsLoopDue asked input [] status octets) looping
+    (λ s own a due. scene_due asked input [] status octets s own a refl due) task asks due
 
-records_due : (words : List (List ℕ)) (seed : ℕ) (input : List ℕ) (calls : List LinkCall) (status : Status) (octets : List ℕ) → IsLooping words seed → RecordsDue words input calls status octets → IsLoopDue words input calls status octets
-records_due words seed input calls status octets looping (inl task) = task_due words seed input calls status octets looping task
-records_due words seed input calls status octets looping (inr (inl alone)) = absurd (alone_unnetworked words alone.0 alone.1 (inr (inr (inr (seed, looping)))))
-records_due words seed input calls status octets looping (inr (inr looped)) = looped_due words input calls status octets looped
+scene_first : (asked : CommandLine) (input octets : List ℕ) (s : Setting) → StandsFirst (scenario_of s) (behind_separator (lines_of input)) octets → IsLoopDue asked input [] OutOfMemory octets
+scene_first asked input octets s (inl first) = inl (first.handled.accepted.2, refl)
+scene_first asked input octets s (inr off) = absurd off.broken
 
-pub answer_due : (words : List (List ℕ)) (seed : ℕ) (input : List ℕ) (calls : List LinkCall) (status : Status) (octets : List ℕ) → IsLooping words seed → Answer words input calls status octets → IsLoopDue words input calls status octets
-answer_due words seed input calls Usage octets looping h = elim h.0 [
-  | inl none ↦ absurd (none (inl (inr (inr (inr (seed, looping))))))
-  | inr node ↦ absurd (asks_node words (network_text input) seed looping node)
-]
-answer_due words seed input calls BadNetwork octets looping h = elim h [
-  | inl bad ↦ inl ((bad.1, bad.2), bad.3)
-  | inr alone ↦ absurd (alone_unnetworked words alone.0 alone.1 (inr (inr (inr (seed, looping)))))
-]
-answer_due words seed input calls TooLarge octets looping h = elim h [
-  | inl long ↦ inl ((long.1, long.2), long.3)
-  | inr due ↦ records_due words seed input calls TooLarge octets looping due
-]
-answer_due words seed input calls status octets looping h = records_due words seed input calls status octets looping h
-
-scene_first : (words : List (List ℕ)) (input octets : List ℕ) (calls : List LinkCall) (s : Setting) → calls ≡ [] → StandsFirst (scenario_of s) (behind_separator (lines_of input)) octets → IsLoopDue words input calls OutOfMemory octets
-scene_first words input octets calls s none (inl first) = inl (first.handled.accepted.2, none)
-scene_first words input octets calls s none (inr off) = absurd off.broken
-
-first_due : (words : List (List ℕ)) (seed : ℕ) (input : List ℕ) (calls : List LinkCall) (octets : List ℕ) → IsLooping words seed → FirstAnswer words input calls octets → IsLoopDue words input calls OutOfMemory octets
-first_due words seed input calls octets looping (inl none) = inl none
-first_due words seed input calls octets looping (inr (inl h)) =
-    only_loop words (network_text input) seed (λ task. StandsFirst (meaning_at task) (behind_separator (lines_of input)) octets) (IsLoopDue words input calls OutOfMemory octets) looping
-    (λ s own asks first. scene_first words input octets calls s h.3 first) h.0 h.1 h.2
-first_due words seed input calls octets looping (inr (inr (inl alone))) = absurd (alone_unnetworked words alone.0 alone.1 (inr (inr (inr (seed, looping)))))
-first_due words seed input calls octets looping (inr (inr (inr looped))) = inr (inr (inr (short words input octets calls looped.0 looped.1 looped.2 looped.3)))
+first_due : (asked : CommandLine) (seed : ℕ) (input octets : List ℕ) (task : Task) → IsLooping asked seed → AsksFor asked (network_text input) task → StandsFirst (meaning_at task) (behind_separator (lines_of input)) octets →
+    IsLoopDue asked input [] OutOfMemory octets
+first_due asked seed input octets task looping asks first =
+    only_loop asked (network_text input) seed (λ t. StandsFirst (meaning_at t) (behind_separator (lines_of input)) octets) (IsLoopDue asked input [] OutOfMemory octets) looping
+    (λ s own a first. scene_first asked input octets s first) task asks first
 
 -- where the source failed, nothing was written
-cut_due : (words : List (List ℕ)) (seed : ℕ) (input taken octets : List ℕ) → IsLooping words seed → CutAnswer words taken octets → IsLoopDue words input [] ReadFault octets
-cut_due words seed input taken octets looping (inl h) = elim h.1 [
-  | inl none ↦ inl (none.1, refl)
-  | inr cut ↦
-      only_loop words cut.text seed (λ task. CutHandled (meaning_at task).accepts cut.back octets) (IsLoopDue words input [] ReadFault octets) looping
-      (λ s own asks at. inl (at.handled.accepted.2, refl)) cut.task cut.asks cut.handled
-]
-cut_due words seed input taken octets looping (inr alone) = absurd (alone_unnetworked words alone.0 alone.1 (inr (inr (inr (seed, looping)))))
+cut_due : (asked : CommandLine) (seed : ℕ) (input taken octets : List ℕ) → IsLooping asked seed → CutTask asked taken octets → IsLoopDue asked input [] ReadFault octets
+cut_due asked seed input taken octets looping cut =
+    only_loop asked cut.text seed (λ task. CutHandled (meaning_at task).accepts cut.back octets) (IsLoopDue asked input [] ReadFault octets) looping
+    (λ s own asks at. inl (at.handled.accepted.2, refl)) cut.task cut.asks cut.handled
 
 -- A run
 
--- it wrote some octets, and these calls of its link tell of them
-abbrev LoopPrints : Run → Status → List ℕ → Type 0
-LoopPrints run status input =
-    (octets : List ℕ) × (calls : List LinkCall) × Appends run.sink.before run.sink.now octets × Called run calls × PrintsTheLoop run.words input calls status octets
+loop_so : (asked : CommandLine) (seed : ℕ) → IsLooping asked seed → IsDueSo asked (IsLoopDue asked)
+loop_so asked seed looping = record {
+  command = requests.Loop seed;
+  on = looping;
+  no_node = λ input none. absurd (lacks_none asked (network_text input) (requests.Loop seed) looping refl none);
+  none = λ input status octets none. inl (none, refl);
+  task = λ input status octets task asks due. task_due asked seed input status octets task looping asks due;
+  first = λ input octets task asks first. first_due asked seed input octets task looping asks first;
+  cut = λ input taken left octets all cut. cut_due asked seed input taken octets looping cut;
+  linked = λ input calls status octets loop. looped_due asked input calls status octets loop;
+  short = λ input calls octets loop. inr (inr (inr (short asked input octets calls loop.0 loop.1 loop.2 loop.3)));
+  failed = λ input calls octets loop. failed asked input octets calls loop.0 loop.1 loop.2 loop.3;
+}
 
-answered : (run : Run) (seed : ℕ) (input : List ℕ) (status : Status) (octets : List ℕ) (calls : List LinkCall) → IsLooping run.words seed → run.source.before ≡ Some input
-    → IfSome run.source.before (λ input. Answer run.words input calls status octets) → IsLoopDue run.words input calls status octets
-answered run seed input status octets calls looping is h =
-    answer_due run.words seed input calls status octets looping (subst (λ (o : Option (List ℕ)). IfSome o (λ (i : List ℕ). Answer run.words i calls status octets)) is h)
-
-part : (words : List (List ℕ)) (seed : ℕ) (input : List ℕ) (calls : List LinkCall) (octets : List ℕ) → IsLooping words seed → PartAnswer words input calls octets → PrintsTheLoop words input calls WriteFault octets
-part words seed input calls octets looping h = elim h.3 [
-  | inl answer ↦ (answer.0, h.0, h.1, h.2, answer_due words seed input calls answer.0 h.0 looping answer.1)
-  | inr first ↦ (OutOfMemory, h.0, h.1, h.2, first_due words seed input calls h.0 looping first)
-]
-
-prints : (run : Run) (seed : ℕ) (input : List ℕ) (status : Status) → IsLooping run.words seed → run.source.before ≡ Some input → Ends run status → LoopPrints run status input
-prints run seed input Done looping is h = (h.0.1, h.0.2, h.0.3, h.0.4, answered run seed input Done h.0.1 h.0.2 looping is h.0.5)
-prints run seed input BadNetwork looping is h = (h.1, h.2, h.3, h.4, answered run seed input BadNetwork h.1 h.2 looping is h.5)
-prints run seed input TooLarge looping is h = (h.1, h.2, h.3, h.4, answered run seed input TooLarge h.1 h.2 looping is h.5)
-prints run seed input BadTrace looping is h = (h.0.1, h.0.2, h.0.3, h.0.4, answered run seed input BadTrace h.0.1 h.0.2 looping is h.0.5)
-prints run seed input Broken looping is h = (h.0.1, h.0.2, h.0.3, h.0.4, answered run seed input Broken h.0.1 h.0.2 looping is h.0.5)
-prints run seed input Usage looping is h = elim h.1 [
-  | inl none ↦ absurd (none (inl (inr (inr (inr (seed, looping))))))
-  | inr node ↦
-      absurd (asks_node run.words (network_text input) seed looping (subst (λ (o : Option (List ℕ)). IfSome o (λ (i : List ℕ). AsksNone run.words (network_text i))) is node.1))
-]
-prints run seed input ReadFault looping is h = (h.2, [], h.4, h.6, cut_due run.words seed input h.1 h.2 looping h.5)
-prints run seed input WriteFault looping is h =
-    (h.1, h.2, h.3, h.4, part run.words seed input h.2 h.1 looping (subst (λ (o : Option (List ℕ)). IfSome o (λ (i : List ℕ). PartAnswer run.words i h.2 h.1)) is h.5))
-prints run seed input OutOfMemory looping is h =
-    (h.0, h.1, h.2, h.3, first_due run.words seed input h.1 h.0 looping (subst (λ (o : Option (List ℕ)). IfSome o (λ (i : List ℕ). FirstAnswer run.words i h.1 h.0)) is h.4))
-prints run seed input LinkFault looping is h =
-    let broken : LoopBroken run.words input h.4 LinkFault h.3 = subst (λ (o : Option (List ℕ)). IfSome o (λ (i : List ℕ). LoopBroken run.words i h.4 LinkFault h.3)) is h.7 in
-    (h.3, h.4, h.5, h.6, failed run.words input h.3 h.4 broken.0 broken.1 broken.2 broken.3)
-prints run seed input BadCapture looping is h = absurd (alone_unnetworked run.words h.2.0 h.2.1 (inr (inr (inr (seed, looping)))))
-prints run seed input BadCalib looping is h = absurd (alone_unnetworked run.words h.1.0 h.1.1 (inr (inr (inr (seed, looping)))))
+pub loop_answer : (asked : CommandLine) (seed : ℕ) (input : List ℕ) (calls : List LinkCall) (status : Status) (octets : List ℕ) → IsLooping asked seed → Answer asked input calls status octets → IsLoopDue asked input calls status octets
+loop_answer asked seed input calls status octets looping h = answer_due asked input calls status octets (IsLoopDue asked) (loop_so asked seed looping) h
 
 -- The audit of its events
 
@@ -338,37 +286,37 @@ told_apart audited s last octets carried is =
       others = ap others_in lines ∙ law.1 ∙ ap (λ (l : List (List ℕ)). l ++ forged_lines forged) (sym rest);
     }
 
-apart_at : LoopedEventsCarryParts → LoopIsAudited → (words : List (List ℕ)) (input : List ℕ) (calls : List LinkCall) (octets : List ℕ) → IsLoopDue words input calls Done octets → TellsApart words input calls Done octets
-apart_at parts audited words input calls octets (inl none) = absurd none.0
-apart_at parts audited words input calls octets (inr (inl scene)) = absurd scene.is
-apart_at parts audited words input calls octets (inr (inr (inl link))) = absurd link
-apart_at parts audited words input calls octets (inr (inr (inr loop))) =
-    let run = parts words input calls loop.setting loop.last loop.came in
+apart_at : LoopedEventsCarryParts → LoopIsAudited → (asked : CommandLine) (input : List ℕ) (calls : List LinkCall) (octets : List ℕ) → IsLoopDue asked input calls Done octets → TellsApart asked input calls Done octets
+apart_at parts audited asked input calls octets (inl none) = absurd none.0
+apart_at parts audited asked input calls octets (inr (inl scene)) = absurd scene.is
+apart_at parts audited asked input calls octets (inr (inr (inl link))) = absurd link
+apart_at parts audited asked input calls octets (inr (inr (inr loop))) =
+    let run = parts asked input calls loop.setting loop.last loop.came in
     (loop, told_apart audited loop.setting loop.last octets run (loop.is ∙ ap (λ (l : List ℕ). came_lines loop.setting (events_at (place loop.last)) ++ l) loop.ends.2))
 
-apart : LoopedEventsCarryParts → LoopIsAudited → (words : List (List ℕ)) (input : List ℕ) (calls : List LinkCall) (status : Status) (octets : List ℕ) → PrintsTheLoop words input calls status octets → TellsApart words input calls status octets
-apart parts audited words input calls Done octets h = apart_at parts audited words input calls octets h
-apart parts audited words input calls _ octets h = tt
+apart : LoopedEventsCarryParts → LoopIsAudited → (asked : CommandLine) (input : List ℕ) (calls : List LinkCall) (status : Status) (octets : List ℕ) → PrintsTheLoop asked input calls status octets → TellsApart asked input calls status octets
+apart parts audited asked input calls Done octets h = apart_at parts audited asked input calls octets h
+apart parts audited asked input calls _ octets h = tt
 
 -- a run over a link ended with this status, and wrote what the aim says
 abbrev pub IsLoopedSo : Run → Status → List ℕ → Type 0
 IsLoopedSo run status input =
-    (octets : List ℕ) × (calls : List LinkCall) × Appends run.sink.before run.sink.now octets × Adds run.link.before run.link.now calls × LoopHeadline run.words input calls status octets
+    (octets : List ℕ) × (calls : List LinkCall) × Appends run.sink.before run.sink.now octets × Adds run.link.before run.link.now calls × LoopHeadline run.asked input calls status octets
 
-pub looped_told : LoopedEventsCarryParts → LoopIsAudited → (run : Run) (status : Status) (seed : ℕ) → Ends run status → IsLooping run.words seed → IfSome run.source.before (IsLoopedSo run status)
+pub looped_told : LoopedEventsCarryParts → LoopIsAudited → (run : Run) (status : Status) (seed : ℕ) → Ends run status → IsLooping run.asked seed → IfSome run.source.before (IsLoopedSo run status)
 looped_told parts audited run status seed ends looping = go run.source.before refl
   where
     go : (o : Option (List ℕ)) → run.source.before ≡ o → IfSome o (IsLoopedSo run status)
     go None is = tt
     go (Some input) is =
-        let h = prints run seed input status looping is ends in (
+        let h = prints run input status (IsLoopDue run.asked) (loop_so run.asked seed looping) is ends in (
           h.0,
           h.1,
           h.2,
           h.3,
           record {
             prints = h.4;
-            carries = λ s last came. parts run.words input h.1 s last came;
-            apart = apart parts audited run.words input h.1 status h.0 h.4;
+            carries = λ s last came. parts run.asked input h.1 s last came;
+            apart = apart parts audited run.asked input h.1 status h.0 h.4;
           },
         )

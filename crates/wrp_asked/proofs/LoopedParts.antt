@@ -24,6 +24,7 @@ use Rattle.wrp_loop.specs.Loops.{plan_of}
 use Rattle.wrp_asked.proofs.HeadlineParts.{network_of, parts_of}
 use Rattle.wrp_simulate.proofs.MadeFit.{FitsSave, event_fits, fewer, given_fits, numbered}
 use Rattle.wrp_simulate.proofs.ScenesFit.{scenario_fits}
+use Rattle.wrp_asked.proofs.HopsHold.{HopLaws, hops_hold}
 use Rattle.wrp_asked.proofs.TracksHold.{RunsNear, laws_of, tracks_hold}
 use Rattle.wrp_asked.specs.Input.{network_text}
 use Rattle.wrp_sim.specs.Keeps.{Between, Comes, IsDriven, LeftOut, Silent, Turn, events_of}
@@ -171,8 +172,8 @@ loops_few x calls last loops = goes_few x _ loops.rounds loops.later last loops.
 pub frames_first : (calls first later : List LinkCall) → calls ≡ first ++ later → AllByRecursion IsFrameCall calls → AllByRecursion IsFrameCall first
 frames_first calls first later all are = (all_parts first later (subst (AllByRecursion IsFrameCall) all are)).0
 
-pub looped_events_carry_parts : LoopKeepsTheBounds → ReadingIsAccepted → LinksHoldInRuns → TracksHoldInRuns → LoopedEventsCarryParts
-looped_events_carry_parts keeps accepted links tracks words input calls s last came =
+pub looped_events_carry_parts : LoopKeepsTheBounds → ReadingIsAccepted → LinksHoldInRuns → TracksHoldInRuns → HopLaws → LoopedEventsCarryParts
+looped_events_carry_parts keeps accepted links tracks hops asked input calls s last came =
     let x : Plan = plan_of s came.scene came.seed in
     let net : IsNetwork s = network_of accepted (network_text input) s came.asks.2 in
     let kept = keeps x came.first last net (scenario_fits s _ came.scene came.said) came.loops in
@@ -182,4 +183,9 @@ looped_events_carry_parts keeps accepted links tracks words input calls s last c
       answered = came.answered;
       near = laws_of accepted (network_text input) s came.asks.2;
     } in
-    record { run = kept.0; fit = near.fit; parts = parts_of (λ o. true) links s (events_at (place last)) kept.0 (tracks_hold tracks (λ o. true) s (events_at (place last)) near) }
+    let events : List Happened = events_at (place last) in
+    record {
+      run = kept.0;
+      fit = near.fit;
+      parts = parts_of (λ o. true) links s events kept.0 (tracks_hold tracks (λ o. true) s events near) (hops_hold hops s events near);
+    }

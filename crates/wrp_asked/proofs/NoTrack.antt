@@ -1,6 +1,6 @@
 -- No line that an emission prints begins as that of an estimate in TRACK does: the lines of inputs are one word, and the third
 -- word of each other line begins with a digit, a capital or an `a`.
-use Rattle.std.proofs.Common.{◌≡◌, ◌⊎◌, inl, inr, refl, sym, ap, ◌∙◌, subst, append-nil, append_assoc, ℕ, zero, suc, ◌+◌, ◌/◌, ◌%◌, ◌<◌, ◌≤◌, ◌==◌, nat_lt, Bool, true, false, if◌then◌else◌, List, [], ◌∷◌, ◌++◌, drop, length, codes, arith}
+use Rattle.std.proofs.Common.{◌≡◌, ◌⊎◌, inl, inr, refl, sym, ap, ◌∙◌, subst, append-nil, append_assoc, ℕ, zero, suc, ◌+◌, ◌/◌, ◌%◌, ◌<◌, ◌≤◌, ◌==◌, nat_lt, Bool, true, false, if◌then◌else◌, List, [], ◌∷◌, ◌++◌, length, codes, arith}
 use Rattle.std.specs.Prelude.{nat_le}
 use Rattle.std.specs.Fmt.{decimal, digit_glyph, digits, digits_onto, signed_decimal}
 use Rattle.std.specs.List.{AllByRecursion}
@@ -12,19 +12,19 @@ use Rattle.wrp_config.specs.Same.{ReadingIsAccepted}
 use Rattle.wrp_course.specs.declared.breach.Breach.{Breach}
 use Rattle.wrp_course.specs.Setting.{Setting}
 use Rattle.wrp_records.specs.declared.status.Status.{Status}
-use Rattle.wrp_records.specs.declared.status.Status.TheVariants.{Done, Usage, BadNetwork, BadTrace, Broken, ReadFault, WriteFault, LinkFault, TooLarge, OutOfMemory, BadCapture, BadCalib}
+use Rattle.wrp_records.specs.declared.status.Status.TheVariants.{Done, Usage, BadNetwork, BadTrace, Broken, ReadFault, WriteFault, TooLarge, OutOfMemory}
 use Rattle.wrp_records.specs.Lines.{IsWhole, lines_of}
 use Rattle.wrp_records.specs.Refusals.{bad_network_line, bad_trace_line, code_name, code_of, field_of, name_of, too_large_line}
 use Rattle.wrp_records.specs.Stream.{large_line}
 use Rattle.wrp_records.specs.Words.{line_of}
 use Rattle.wrp_records.proofs.Feeds.{lines_of-whole}
 use Rattle.wrp_audit.specs.Audited.{IsSettingOf}
-use Rattle.wrp_asked.specs.EmitHeadline.{EmissionsTellNoTrack, InputsOf, LacksNode, PrintsTheInputs, TellsNoTrack}
+use Rattle.wrp_commands.specs.Request.{CommandLine}
+use Rattle.wrp_asked.specs.EmitHeadline.{EmissionsTellNoTrack, HasPlainUsage, InputsOf, LacksNode, TellsNoTrack}
 use Rattle.wrp_asked.specs.EventLines.{IsWord}
 use Rattle.wrp_asked.specs.Headline.{EndsEvents, ReachesNone}
 use Rattle.wrp_asked.specs.Input.{network_text}
 use Rattle.wrp_audit.specs.Broken.{broken_line, premise_name}
-use Rattle.wrp_asked.specs.Refusals.{usage_line}
 use Rattle.wrp_replay.specs.Replays.{IsRefusedBy}
 use Rattle.wrp_asked.proofs.EventLines.{decimal_word, either_word, first_word, head_of, line_whole, signed_word}
 use Rattle.wrp_asked.proofs.InputLines.{pass_events}
@@ -81,7 +81,7 @@ two_words a b h k node tick rest p q e =
     let same : 10 ≡ 32 = two.gap in
     omega (arith, same)
 
-third_low : (a b third : List ℕ) → IsWord a → IsWord b → IsLow third → TellsNoTrack (a ++ 32 ∷ (b ++ 32 ∷ third))
+pub third_low : (a b third : List ℕ) → IsWord a → IsWord b → IsLow third → TellsNoTrack (a ++ 32 ∷ (b ++ 32 ∷ third))
 third_low a b third h k low node tick rest p q e =
     let one = first_word a node 32 32 (b ++ 32 ∷ third) (tick ++ 32 ∷ (codes "track" ++ rest)) h p refl refl e in
     let two = first_word b tick 32 32 third (codes "track" ++ rest) k q refl refl one.rest in
@@ -107,11 +107,6 @@ pub told_as : (last line : List ℕ) → last ≡ line → AllByRecursion TellsN
 told_as last line is told = subst (λ (l : List ℕ). AllByRecursion TellsNoTrack (lines_of l)) (sym is) told
 
 -- Lines that name what is refused
-
-pub usage : AllByRecursion TellsNoTrack (lines_of usage_line)
-usage =
-    let low : 97 ≤ 115 = omega arith in
-    (third_low (codes "usage:") (codes "wrnet") (drop 13 usage_line) refl refl low, tt)
 
 too_large : AllByRecursion TellsNoTrack (lines_of too_large_line)
 too_large = (two_words (codes "too-large") (codes "0") refl refl, tt)
@@ -202,15 +197,15 @@ last_tells status s front behind counts last none ends = absurd ends
 sound_in : ReadingIsAccepted → (text : List ℕ) (s : Setting) → IsSettingOf text s → IsSoundDatabase s.db
 sound_in accepted text s setting = subst (λ (t : Setting). IsSoundDatabase t.db) (sym setting.is) (accepted text setting.net setting.reads).database
 
-inputs_tell : ReadingIsAccepted → (words : List (List ℕ)) (input : List ℕ) (status : Status) (octets : List ℕ) → InputsOf words input status octets → AllByRecursion TellsNoTrack (lines_of octets)
-inputs_tell accepted words input status octets inputs =
-    let sound = sound_in accepted (network_text input) inputs.setting inputs.asks.3 in
+inputs_tell : ReadingIsAccepted → (asked : CommandLine) (input : List ℕ) (status : Status) (octets : List ℕ) → InputsOf asked input status octets → AllByRecursion TellsNoTrack (lines_of octets)
+inputs_tell accepted asked input status octets inputs =
+    let sound = sound_in accepted (network_text input) inputs.setting inputs.asks.2.0 in
     let last = last_tells status inputs.setting inputs.came.front inputs.came.behind [] inputs.last tt inputs.ends in
     told_as octets _ inputs.is (pass_events TellsNoTrack one_word inputs.setting inputs.node inputs.events sound inputs.last last)
 
-lacks_tells : (words : List (List ℕ)) (input : List ℕ) (status : Status) (octets : List ℕ) → LacksNode words input status octets → AllByRecursion TellsNoTrack (lines_of octets)
-lacks_tells words input Usage octets lacks = told_as octets usage_line lacks.1 usage
-lacks_tells words input status octets lacks = absurd lacks
+lacks_tells : (asked : CommandLine) (input : List ℕ) (status : Status) (octets : List ℕ) → HasPlainUsage asked → LacksNode asked input status octets → AllByRecursion TellsNoTrack (lines_of octets)
+lacks_tells asked input Usage octets plain lacks = told_as octets asked.usage lacks.1 plain
+lacks_tells asked input status octets plain lacks = absurd lacks
 
 pub none_tells : (input : List ℕ) (status : Status) (octets : List ℕ) → ReachesNone input status octets → AllByRecursion TellsNoTrack (lines_of octets)
 none_tells input BadNetwork octets none = refused (network_text input) octets none.1
@@ -219,13 +214,13 @@ none_tells input ReadFault octets none = no_line octets none
 none_tells input OutOfMemory octets none = no_line octets none
 none_tells input status octets none = absurd none
 
-abbrev IsInputDue : List (List ℕ) → List ℕ → Status → List ℕ → Type 0
-IsInputDue words input status due = LacksNode words input status due ⊎ (ReachesNone input status due ⊎ InputsOf words input status due)
+abbrev IsInputDue : CommandLine → List ℕ → Status → List ℕ → Type 0
+IsInputDue asked input status due = LacksNode asked input status due ⊎ (ReachesNone input status due ⊎ InputsOf asked input status due)
 
-due_tells : ReadingIsAccepted → (words : List (List ℕ)) (input : List ℕ) (status : Status) (octets : List ℕ) → IsInputDue words input status octets → AllByRecursion TellsNoTrack (lines_of octets)
-due_tells accepted words input status octets (inl lacks) = lacks_tells words input status octets lacks
-due_tells accepted words input status octets (inr (inl none)) = none_tells input status octets none
-due_tells accepted words input status octets (inr (inr inputs)) = inputs_tell accepted words input status octets inputs
+due_tells : ReadingIsAccepted → (asked : CommandLine) (input : List ℕ) (status : Status) (octets : List ℕ) → HasPlainUsage asked → IsInputDue asked input status octets → AllByRecursion TellsNoTrack (lines_of octets)
+due_tells accepted asked input status octets plain (inl lacks) = lacks_tells asked input status octets plain lacks
+due_tells accepted asked input status octets plain (inr (inl none)) = none_tells input status octets none
+due_tells accepted asked input status octets plain (inr (inr inputs)) = inputs_tell accepted asked input status octets inputs
 
 -- a line that is cut begins as the whole one
 pub longer : (node tick rest more : List ℕ) → (node ++ 32 ∷ (tick ++ 32 ∷ (codes "track" ++ rest))) ++ more ≡ node ++ 32 ∷ (tick ++ 32 ∷ (codes "track" ++ (rest ++ more)))
@@ -238,6 +233,6 @@ in_front line more told node tick rest p q e =
     told node tick (rest ++ more) p q (ap (λ (l : List ℕ). l ++ more) e ∙ longer node tick rest more)
 
 pub emissions_tell_no_track : ReadingIsAccepted → EmissionsTellNoTrack
-emissions_tell_no_track accepted words input WriteFault octets (status, due, count, is, so) =
-    told_as octets _ is (taken_lines TellsNoTrack in_front due count (due_tells accepted words input status due so))
-emissions_tell_no_track accepted words input status octets prints = due_tells accepted words input status octets prints
+emissions_tell_no_track accepted asked input WriteFault octets plain (status, due, count, is, so) =
+    told_as octets _ is (taken_lines TellsNoTrack in_front due count (due_tells accepted asked input status due plain so))
+emissions_tell_no_track accepted asked input status octets plain prints = due_tells accepted asked input status octets plain prints

@@ -35,6 +35,7 @@ use Rattle.wrp_records.specs.Words.{line_of}
 use Rattle.wrp_records.proofs.Reaching.{lines_alone}
 use Rattle.wrp_replay.specs.NodeText.{port_numbers}
 use Rattle.wrp_audit.specs.AuditText.{all_counts, audit_lines, event_lines}
+use Rattle.wrp_commands.specs.Request.{CommandLine}
 use Rattle.wrp_asked.specs.EmitHeadline.{EmitHeadline, TellsNoTrack}
 use Rattle.wrp_asked.specs.EventLines.{AtEachEvent, IsWord, Writing}
 use Rattle.wrp_asked.specs.Headline.{Came, CarriesParts, CarriesRun, Headline, Prints, ReachesNone, StepsOf}
@@ -231,26 +232,26 @@ none_within input status octets none = untold octets (none_tells input status oc
 
 -- of an audit
 
-abbrev AuditCarries : List (List ℕ) → List ℕ → Type 0
-AuditCarries words input = (s : Setting) (events : List Happened) → Came words input s events → CarriesParts event_lines s events
+abbrev AuditCarries : CommandLine → List ℕ → Type 0
+AuditCarries asked input = (s : Setting) (events : List Happened) → Came asked input s events → CarriesParts event_lines s events
 
-steps_within : ReadingIsAccepted → (words : List (List ℕ)) (input : List ℕ) → AuditCarries words input → (status : Status) (octets : List ℕ) → StepsOf words input status octets → AllByRecursion BeginsWithin (lines_of octets)
-steps_within accepted words input carries status octets steps =
+steps_within : ReadingIsAccepted → (asked : CommandLine) (input : List ℕ) → AuditCarries asked input → (status : Status) (octets : List ℕ) → StepsOf asked input status octets → AllByRecursion BeginsWithin (lines_of octets)
+steps_within accepted asked input carries status octets steps =
     let s : Setting = steps.setting in
     let w : WorldAt = world_after s steps.events in
-    let net : IsNetwork s = network_of accepted (network_text input) s (setting_asked words (network_text input) s steps.came.asks) in
+    let net : IsNetwork s = network_of accepted (network_text input) s (setting_asked asked (network_text input) s steps.came.asks) in
     let last : AllByRecursion TellsNoTrack (lines_of steps.last) = last_tells status s steps.came.front steps.came.behind (all_counts s w) steps.last (all_told s net w) steps.ends in
     pass_end (audit_lines s steps.events) steps.last octets steps.is
     (audit_pass event_lines s steps.events net.accepted.names (carries s steps.events steps.came).tracks) (untold steps.last last)
 
-pub audit_within : ReadingIsAccepted → (words : List (List ℕ)) (input : List ℕ) (status : Status) (octets : List ℕ) → Headline words input status octets → TracksAreWithinBounds octets
-audit_within accepted words input status octets head =
-    prints_within (λ due text. ReachesNone input due text ⊎ StepsOf words input due text)
-    (λ due text so. elim so [ inl none ↦ none_within input due text none | inr steps ↦ steps_within accepted words input head.carries due text steps ])
+pub audit_within : ReadingIsAccepted → (asked : CommandLine) (input : List ℕ) (status : Status) (octets : List ℕ) → Headline asked input status octets → TracksAreWithinBounds octets
+audit_within accepted asked input status octets head =
+    prints_within (λ due text. ReachesNone input due text ⊎ StepsOf asked input due text)
+    (λ due text so. elim so [ inl none ↦ none_within input due text none | inr steps ↦ steps_within accepted asked input head.carries due text steps ])
     status octets head.prints
 
-pub inputs_within : (words : List (List ℕ)) (input : List ℕ) (status : Status) (octets : List ℕ) → EmitHeadline words input status octets → TracksAreWithinBounds octets
-inputs_within words input status octets head = untold_within octets head.untracked
+pub inputs_within : (asked : CommandLine) (input : List ℕ) (status : Status) (octets : List ℕ) → EmitHeadline asked input status octets → TracksAreWithinBounds octets
+inputs_within asked input status octets head = untold_within octets head.untracked
 
 -- of a simulation
 
@@ -265,25 +266,25 @@ names_tells BadTrace s front line octets is = told_as octets _ is.4 (bad_trace _
 names_tells TooLarge s front line octets is = told_as octets (large_line (length front + 1)) is.1 (large (length front + 1))
 names_tells status s front line octets is = absurd is
 
-abbrev SimulationCarries : List (List ℕ) → List ℕ → Type 0
-SimulationCarries words input = (s : Setting) (events : List Happened) → Made words input s events → CarriesRun run_lines s events
+abbrev SimulationCarries : CommandLine → List ℕ → Type 0
+SimulationCarries asked input = (s : Setting) (events : List Happened) → Made asked input s events → CarriesRun run_lines s events
 
-run_within : ReadingIsAccepted → (words : List (List ℕ)) (input : List ℕ) → SimulationCarries words input → (status : Status) (octets : List ℕ) → RunOf words input status octets → AllByRecursion BeginsWithin (lines_of octets)
-run_within accepted words input carries status octets run =
+run_within : ReadingIsAccepted → (asked : CommandLine) (input : List ℕ) → SimulationCarries asked input → (status : Status) (octets : List ℕ) → RunOf asked input status octets → AllByRecursion BeginsWithin (lines_of octets)
+run_within accepted asked input carries status octets run =
     let s : Setting = run.setting in
     let net : IsNetwork s = network_of accepted (network_text input) s run.made.asks.2 in
     pass_end (sim_lines s run.events) run.last octets run.is
     (run_pass run_lines s run.events net.accepted.names (carries s run.events run.made).parts.tracks)
     (untold run.last (after_tells status s run.made.scene run.events run.made.at run.last net run.ends))
 
-pub simulation_within : ReadingIsAccepted → (words : List (List ℕ)) (input : List ℕ) (status : Status) (octets : List ℕ) → SimHeadline words input status octets → TracksAreWithinBounds octets
-simulation_within accepted words input status octets head =
-    prints_within (λ due text. ReachesNone input due text ⊎ (LacksScenario words input due text ⊎ RunOf words input due text))
+pub simulation_within : ReadingIsAccepted → (asked : CommandLine) (input : List ℕ) (status : Status) (octets : List ℕ) → SimHeadline asked input status octets → TracksAreWithinBounds octets
+simulation_within accepted asked input status octets head =
+    prints_within (λ due text. ReachesNone input due text ⊎ (LacksScenario asked input due text ⊎ RunOf asked input due text))
     (λ due text so. elim so [
       | inl none ↦ none_within input due text none
       | inr some ↦ elim some [
         | inl lacks ↦ untold text (names_tells due lacks.setting lacks.front lacks.line text lacks.is)
-        | inr run ↦ run_within accepted words input head.carries due text run
+        | inr run ↦ run_within accepted asked input head.carries due text run
       ]
     ])
     status octets head.prints
@@ -297,11 +298,11 @@ behind_tells LinkFault x calls later last text net ends = no_line text ends.1
 behind_tells OutOfMemory x calls later last text net ends = no_line text ends.1
 behind_tells status x calls later last text net ends = absurd ends
 
-abbrev LoopCarries : List (List ℕ) → List ℕ → List LinkCall → Type 0
-LoopCarries words input calls = (s : Setting) (last : Going) → Looped words input calls s last → CarriesRun event_lines s (events_at (place last))
+abbrev LoopCarries : CommandLine → List ℕ → List LinkCall → Type 0
+LoopCarries asked input calls = (s : Setting) (last : Going) → Looped asked input calls s last → CarriesRun event_lines s (events_at (place last))
 
-loop_within : (words : List (List ℕ)) (input : List ℕ) (calls : List LinkCall) → LoopCarries words input calls → (status : Status) (octets : List ℕ) → LoopOf words input calls status octets → AllByRecursion BeginsWithin (lines_of octets)
-loop_within words input calls carries status octets loop =
+loop_within : (asked : CommandLine) (input : List ℕ) (calls : List LinkCall) → LoopCarries asked input calls → (status : Status) (octets : List ℕ) → LoopOf asked input calls status octets → AllByRecursion BeginsWithin (lines_of octets)
+loop_within asked input calls carries status octets loop =
     let s : Setting = loop.setting in
     let events : List Happened = events_at (place loop.last) in
     let carried : CarriesRun event_lines s events = carries s loop.last loop.came in
@@ -309,20 +310,20 @@ loop_within words input calls carries status octets loop =
     (came_pass event_lines s events carried.run.network.accepted.names carried.run.each carried.parts.tracks)
     (untold loop.behind (behind_tells status (plan_of s loop.came.scene loop.came.seed) calls loop.came.later loop.last loop.behind carried.run.network loop.ends))
 
-link_tells : (words : List (List ℕ)) (input : List ℕ) (calls : List LinkCall) (status : Status) (octets : List ℕ) → LacksLink words input calls status octets → AllByRecursion TellsNoTrack (lines_of octets)
-link_tells words input calls LinkFault octets lacks = no_line octets lacks.none
-link_tells words input calls status octets lacks = absurd lacks
+link_tells : (asked : CommandLine) (input : List ℕ) (calls : List LinkCall) (status : Status) (octets : List ℕ) → LacksLink asked input calls status octets → AllByRecursion TellsNoTrack (lines_of octets)
+link_tells asked input calls LinkFault octets lacks = no_line octets lacks.none
+link_tells asked input calls status octets lacks = absurd lacks
 
-pub looped_within : (words : List (List ℕ)) (input : List ℕ) (calls : List LinkCall) (status : Status) (octets : List ℕ) → LoopHeadline words input calls status octets → TracksAreWithinBounds octets
-looped_within words input calls status octets head =
-    prints_within (λ due text. IsLoopDue words input calls due text)
+pub looped_within : (asked : CommandLine) (input : List ℕ) (calls : List LinkCall) (status : Status) (octets : List ℕ) → LoopHeadline asked input calls status octets → TracksAreWithinBounds octets
+looped_within asked input calls status octets head =
+    prints_within (λ due text. IsLoopDue asked input calls due text)
     (λ due text so. elim so [
       | inl none ↦ none_within input due text none.0
       | inr some ↦ elim some [
         | inl scene ↦ untold text (names_tells due scene.setting scene.front scene.line text scene.is)
         | inr more ↦ elim more [
-          | inl link ↦ untold text (link_tells words input calls due text link)
-          | inr loop ↦ loop_within words input calls head.carries due text loop
+          | inl link ↦ untold text (link_tells asked input calls due text link)
+          | inr loop ↦ loop_within asked input calls head.carries due text loop
         ]
       ]
     ])

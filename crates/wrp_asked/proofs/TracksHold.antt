@@ -14,6 +14,7 @@ use Rattle.wrp_course.specs.Setting.{Setting}
 use Rattle.wrp_truth.proofs.Runs.Suffixes.{run_before}
 use Rattle.wrp_world.specs.EventHolds.{TracksHold, TracksHoldInRuns}
 use Rattle.wrp_audit.specs.Audited.{IsSettingOf, answers_in}
+use Rattle.wrp_commands.specs.Request.{CommandLine}
 use Rattle.wrp_asked.specs.Headline.{Came}
 use Rattle.wrp_asked.specs.Input.{network_text}
 use Rattle.wrp_asked.specs.SimHeadline.{Made}
@@ -36,7 +37,7 @@ pub record RunsNear (s : Setting) (events : List Happened) : Type 0 where
   pub answered : IsAnswered (answers_in s) s (world_after s events)
   pub near : LawsAreNear s
 
-runs_before : (s : Setting) (h : Happened) (before : List Happened) → RunsNear s (h ∷ before) → RunsNear s before
+pub runs_before : (s : Setting) (h : Happened) (before : List Happened) → RunsNear s (h ∷ before) → RunsNear s before
 runs_before s h before runs = record {
   run = run_before s h before runs.run;
   fit = runs.fit.1;
@@ -44,7 +45,7 @@ runs_before s h before runs = record {
   near = runs.near;
 }
 
-true_run : (s : Setting) (events : List Happened) → RunsNear s events → TrueRun s events
+pub true_run : (s : Setting) (events : List Happened) → RunsNear s events → TrueRun s events
 true_run s events runs = record { run = runs.run; fit = runs.fit; answered = answers_near s (world_after s events) runs.near runs.answered }
 
 -- At each event
@@ -72,12 +73,12 @@ all_fit : (events : List Happened) → AllByRecursion (λ (h : Happened). FitsEv
 all_fit [] h = tt
 all_fit (k ∷ events) h = (h.0, all_fit events h.1)
 
-pub audit_runs : EventsCanCome → ReadingIsAccepted → (words : List (List ℕ)) (input : List ℕ) (s : Setting) (events : List Happened) → Came words input s events → RunsNear s events
-audit_runs can accepted words input s events came = record {
-  run = run_of can accepted words input s events came;
+pub audit_runs : EventsCanCome → ReadingIsAccepted → (asked : CommandLine) (input : List ℕ) (s : Setting) (events : List Happened) → Came asked input s events → RunsNear s events
+audit_runs can accepted asked input s events came = record {
+  run = run_of can accepted asked input s events came;
   fit = all_fit events (events_said FitsEvent s (line_fits s.cfg) _ events came.audit.are);
   answered = came.audit.run.answered;
-  near = laws_of accepted (network_text input) s (setting_asked words (network_text input) s came.asks);
+  near = laws_of accepted (network_text input) s (setting_asked asked (network_text input) s came.asks);
 }
 
 -- Simulations
@@ -85,9 +86,9 @@ audit_runs can accepted words input s events came = record {
 pub few_events : (events : List Happened) → length events < event_limit → length events < 2 ^ 32
 few_events events few = omega (arith, few)
 
-pub simulation_runs : SimRunsAreRuns → ReadingIsAccepted → (words : List (List ℕ)) (input : List ℕ) (s : Setting) (events : List Happened) → Made words input s events → RunsNear s events
-simulation_runs runs accepted words input s events made =
-    let run : IsRun s events = made_run runs accepted words input s events made in
+pub simulation_runs : SimRunsAreRuns → ReadingIsAccepted → (asked : CommandLine) (input : List ℕ) (s : Setting) (events : List Happened) → Made asked input s events → RunsNear s events
+simulation_runs runs accepted asked input s events made =
+    let run : IsRun s events = made_run runs accepted asked input s events made in
     record {
       run = run;
       fit = made_fit made.scene s made.seed events made.at made.simulated.run run.accepted (few_events events made.simulated.count);

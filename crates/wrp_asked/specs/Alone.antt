@@ -1,23 +1,23 @@
--- Commands that stand alone: no network text stands in front of their records (this project's profile). Each has one row
--- of a table.
-use Rattle.std.specs.Prelude.{◌≡◌, List, [], ◌∷◌, ℕ, Contains, codes}
+-- Commands that stand alone: no network text comes before their records (this project's profile). Each has one row of a table.
+use Rattle.std.specs.Prelude.{◌≡◌, List, [], ◌∷◌, ℕ, Contains, Some}
 use Rattle.wrp_calib.specs.LinesMeaning.{calibration}
 use Rattle.wrp_l1sync.specs.LineRecords.{meaning as synchronisation}
 use Rattle.wrp_migrate.specs.Migration.{migration}
+use Rattle.wrp_pcap.specs.InspectAim.{InspectsSo}
 use Rattle.wrp_pcap.specs.Inspected.{capture}
 use Rattle.wrp_plain.specs.LineCourse.{plain_meaning}
 use Rattle.wrp_records.specs.ByLines.{of_lines}
 use Rattle.wrp_records.specs.Meaning.{Meaning}
 use Rattle.wrp_records.specs.declared.status.Status.{Status}
 use Rattle.wrp_records.specs.declared.status.Status.TheVariants.{Done, BadNetwork, BadTrace, Broken, TooLarge, BadCapture, BadCalib}
-use Rattle.wrp_asked.specs.declared.alone.Alone.{Alone}
-use Rattle.wrp_asked.specs.declared.alone.Alone.TheVariants.{Migrate, Inspect, L1Sync, Calibrate, Plain}
-use Rattle.wrp_asked.specs.AloneAims.{BoundsSo, CalibratesSo, InspectsSo, MigratesSo, SynchronisesSo}
+use Rattle.wrp_commands.specs.declared.alone.Alone.{Alone}
+use Rattle.wrp_commands.specs.declared.alone.Alone.TheVariants.{Migrate, Inspect, L1Sync, Calibrate, Plain}
+use Rattle.wrp_commands.specs.Request.{CommandLine, StandAlone}
+use Rattle.wrp_asked.specs.AloneAims.{BoundsSo, CalibratesSo, MigratesSo, SynchronisesSo}
 
--- What a command is: the only word of its line; what the octets of its input mean; the statuses with which it may
--- answer, but for faults of the outside and want of memory; and its aim, of an input, the status and what was written.
+-- What a command is: what the octets of its input mean; the statuses with which it may answer, but for faults of the outside and
+-- lack of memory; and its aim, of an input, the status and what was written.
 pub record AloneRow : Type 1 where
-  pub word : List ℕ
   pub meaning : Meaning
   pub statuses : List Status
   pub aim : List ℕ → Status → List ℕ → Type 0
@@ -25,43 +25,34 @@ pub record AloneRow : Type 1 where
 -- the table
 abbrev pub alone_row : Alone → AloneRow
 alone_row Migrate = record {
-  word = codes "migrate";
   meaning = migration;
   statuses = Done ∷ BadNetwork ∷ TooLarge ∷ [];
   aim = MigratesSo;
 }
 alone_row Inspect = record {
-  word = codes "inspect";
   meaning = capture;
   statuses = Done ∷ BadCapture ∷ TooLarge ∷ [];
   aim = InspectsSo;
 }
 alone_row L1Sync = record {
-  word = codes "l1sync";
   meaning = of_lines synchronisation;
   statuses = Done ∷ BadTrace ∷ Broken ∷ TooLarge ∷ [];
   aim = SynchronisesSo;
 }
 alone_row Calibrate = record {
-  word = codes "calibrate";
   meaning = of_lines calibration;
   statuses = Done ∷ BadTrace ∷ BadCalib ∷ TooLarge ∷ [];
   aim = CalibratesSo;
 }
 alone_row Plain = record {
-  word = codes "plain";
   meaning = of_lines plain_meaning;
   statuses = Done ∷ BadTrace ∷ Broken ∷ TooLarge ∷ [];
   aim = BoundsSo;
 }
 
--- all of them, in the order of the usage line
-abbrev pub alone_commands : List Alone
-alone_commands = Migrate ∷ Inspect ∷ L1Sync ∷ Calibrate ∷ Plain ∷ []
-
--- the words ask for a command
-abbrev pub IsAlone : List (List ℕ) → Alone → Type 0
-IsAlone words alone = words ≡ (alone_row alone).word ∷ []
+-- a command line asks for a command
+abbrev pub IsAlone : CommandLine → Alone → Type 0
+IsAlone asked alone = asked.request ≡ Some (StandAlone alone)
 
 -- what the octets of its input mean
 abbrev pub alone_meaning : Alone → Meaning

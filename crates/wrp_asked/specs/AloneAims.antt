@@ -1,23 +1,12 @@
 -- The aims of the commands that stand alone, of what they wrote, for each status (this project's profile).
-use Rattle.std.specs.Prelude.{◌≡◌, ℕ, ◌+◌, List, ◌∷◌, ◌++◌, length, map, drop, reverse, Some, Ok, Result}
+use Rattle.std.specs.Prelude.{◌≡◌, ℕ, List, ◌∷◌, ◌++◌, map, Ok, Result}
 use Rattle.wrp_base.specs.declared.fault.ConfFault.{ConfFault}
-use Rattle.wrp_base.specs.declared.link.Role.TheVariants.{Master, Slave}
 use Rattle.wrp_calib.specs.LinesTold.{SayTruly, TellsSo}
 use Rattle.wrp_calib.specs.Truth.{Delays}
 use Rattle.wrp_caldb.specs.Database.{Database}
 use Rattle.wrp_caldb.specs.Reading.{IsReadingOf}
-use Rattle.wrp_check.specs.Judged.{Judges}
 use Rattle.wrp_l1sync.specs.LineAnswers.{ShowsBy, ShowsFront, ShowsWhole}
 use Rattle.wrp_migrate.specs.Laws.{IsKept}
-use Rattle.wrp_pcap.specs.declared.capture.Order.{Order}
-use Rattle.wrp_pcap.specs.declared.content.Content.{Content}
-use Rattle.wrp_pcap.specs.declared.verdict.Verdict8.TheVariants.{Complete}
-use Rattle.wrp_pcap.specs.Capture.{Begins, HasHeader, StoredPacket}
-use Rattle.wrp_pcap.specs.Content.{messages_of}
-use Rattle.wrp_pcap.specs.Handshakes.{AreHandshake}
-use Rattle.wrp_pcap.specs.Inspected.{Carry, IsBadCapture, IsInspected, IsTooMany}
-use Rattle.wrp_pcap.specs.Marks.{Rises, slave_marks, master_marks}
-use Rattle.wrp_pcap.specs.PacketLines.{told_of}
 use Rattle.wrp_plain.specs.declared.event.PlainEvent.{PlainEvent}
 use Rattle.wrp_plain.specs.declared.settings.PlainStart.{PlainStart}
 use Rattle.wrp_plain.specs.LineCourse.{IsCourse}
@@ -26,7 +15,7 @@ use Rattle.wrp_plain.specs.Said.{WritesSo}
 use Rattle.wrp_plain.specs.Steered.{AreSteered}
 use Rattle.wrp_records.specs.Lines.{content_of, lines_of}
 use Rattle.wrp_records.specs.declared.status.Status.{Status}
-use Rattle.wrp_records.specs.declared.status.Status.TheVariants.{Done, BadTrace, Broken, ReadFault, TooLarge, OutOfMemory, BadCapture}
+use Rattle.wrp_records.specs.declared.status.Status.TheVariants.{Done, BadTrace, Broken, ReadFault, TooLarge, OutOfMemory}
 
 -- the octets are a calibration text of the database that the input is a text of: read again, they give a database in
 -- which each name, and each pair of wavelengths, finds the same, and which is the same
@@ -59,31 +48,6 @@ SynchronisesSo input ReadFault octets =
     (taken : List ℕ) × (left : List ℕ) × (input ≡ taken ++ left) × ShowsWhole taken octets
 SynchronisesSo input OutOfMemory octets = ShowsFront input octets
 SynchronisesSo input status octets = Unit {0}
-
--- the numbers of a certificate rise, and by the marks of these numbers both ends passed the same handshake
-abbrev pub AreJudged : List ℕ → Type 0
-AreJudged numbers =
-    Rises numbers
-    × Judges Slave (reverse (slave_marks numbers)) (reverse (master_marks numbers)) (Ok tt)
-    × Judges Master (reverse (master_marks numbers)) (reverse (slave_marks numbers)) (Ok tt)
-
--- each `complete` that follows one of the first packets of a capture names eight packets of that capture which carry the
--- messages of one handshake, and by their marks both ends passed it
-abbrev pub JudgesHandshakes : List ℕ → Type 0
-JudgesHandshakes input =
-    (order : Order) (packets : List StoredPacket) (rest : List ℕ) → HasHeader order input
-    → Begins order packets rest (drop 24 input)
-    → (newer before : List Content) (content : Content) (numbers : List ℕ) → Carry packets (newer ++ content ∷ before)
-    → told_of (length before + 1) (messages_of before) content ≡ Some (Complete numbers)
-    → AreJudged numbers × AreHandshake packets numbers
-
--- so it is whatever a capture has; and where it was read to its end, or to what is refused, the octets are the lines of
--- its packets, by the certificate, and then the counts, or the refusal
-abbrev pub InspectsSo : List ℕ → Status → List ℕ → Type 0
-InspectsSo input Done octets = IsInspected input octets × JudgesHandshakes input
-InspectsSo input BadCapture octets = IsBadCapture input octets × JudgesHandshakes input
-InspectsSo input TooLarge octets = IsTooMany input octets × JudgesHandshakes input
-InspectsSo input status octets = JudgesHandshakes input
 
 -- the first records of an input: what each event gives is true, and so is each line that is written of it: a report is
 -- within its bound of the true offset, the bound is the least that a kept measurement gives, and no exchange is too short to

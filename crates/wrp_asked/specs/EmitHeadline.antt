@@ -8,37 +8,38 @@ use Rattle.wrp_course.specs.Setting.{Setting}
 use Rattle.wrp_records.specs.declared.status.Status.{Status}
 use Rattle.wrp_records.specs.declared.status.Status.TheVariants.{Usage}
 use Rattle.wrp_records.specs.Lines.{lines_of}
+use Rattle.wrp_commands.specs.Request.{CommandLine}
 use Rattle.wrp_asked.specs.Answer.{AsksNone}
 use Rattle.wrp_audit.specs.AuditText.{event_lines, given_lines}
 use Rattle.wrp_asked.specs.EventLines.{IsWord}
 use Rattle.wrp_asked.specs.Headline.{Came, CarriesParts, EndsEvents, Prints, ReachesNone}
 use Rattle.wrp_asked.specs.Input.{network_text}
-use Rattle.wrp_asked.specs.Refusals.{usage_line}
 use Rattle.wrp_asked.specs.Tasks.{Emit, AsksFor}
 
 -- The first part
 
 -- the inputs that events which came give the node that is asked for, and what stands behind them: no counters
-pub record InputsOf (words : List (List ℕ)) (input : List ℕ) (status : Status) (octets : List ℕ) : Type 0 where
+pub record InputsOf (asked : CommandLine) (input : List ℕ) (status : Status) (octets : List ℕ) : Type 0 where
+  pub name : List ℕ
   pub setting : Setting
   pub node : ℕ
-  pub asks : AsksFor words (network_text input) (Emit setting node)
+  pub asks : AsksFor asked (network_text input) (Emit name setting node)
   pub events : List Happened
-  pub came : Came words input setting events
+  pub came : Came asked input setting events
   pub last : List ℕ
   pub ends : EndsEvents status setting came.front came.behind [] last
   pub is : octets ≡ given_lines setting node events ++ last
 
 -- where the network has no node of the name that is asked for
-abbrev pub LacksNode : List (List ℕ) → List ℕ → Status → List ℕ → Type 0
-LacksNode words input Usage octets = AsksNone words (network_text input) × (octets ≡ usage_line)
-LacksNode words input _ octets = ⊥
+abbrev pub LacksNode : CommandLine → List ℕ → Status → List ℕ → Type 0
+LacksNode asked input Usage octets = AsksNone asked (network_text input) × (octets ≡ asked.usage)
+LacksNode asked input _ octets = ⊥
 
 -- an audit that is asked for the inputs of a node prints exactly these
-abbrev pub PrintsTheInputs : List (List ℕ) → List ℕ → Status → List ℕ → Type 0
-PrintsTheInputs words input status octets =
+abbrev pub PrintsTheInputs : CommandLine → List ℕ → Status → List ℕ → Type 0
+PrintsTheInputs asked input status octets =
     Prints
-    (λ due text. LacksNode words input due text ⊎ (ReachesNone input due text ⊎ InputsOf words input due text))
+    (λ due text. LacksNode asked input due text ⊎ (ReachesNone input due text ⊎ InputsOf asked input due text))
     status octets
 
 -- No track line
@@ -48,16 +49,20 @@ abbrev pub TellsNoTrack : List ℕ → Type 0
 TellsNoTrack line =
     (node tick rest : List ℕ) → IsWord node → IsWord tick → line ≡ node ++ 32 ∷ (tick ++ 32 ∷ (codes "track" ++ rest)) → ⊥
 
--- what prints the inputs of a node prints no such line, nor the front of one
+-- no line that is written where a command line is refused begins so
+abbrev pub HasPlainUsage : CommandLine → Type 0
+HasPlainUsage asked = AllByRecursion TellsNoTrack (lines_of asked.usage)
+
+-- what prints the inputs of a node then prints no such line, nor the front of one
 abbrev pub EmissionsTellNoTrack : Type 0
 EmissionsTellNoTrack =
-    (words : List (List ℕ)) (input : List ℕ) (status : Status) (octets : List ℕ) → PrintsTheInputs words input status octets →
-    AllByRecursion TellsNoTrack (lines_of octets)
+    (asked : CommandLine) (input : List ℕ) (status : Status) (octets : List ℕ) → HasPlainUsage asked →
+    PrintsTheInputs asked input status octets → AllByRecursion TellsNoTrack (lines_of octets)
 
 -- All parts
 
 -- of an audit that was asked for the inputs of a node, ended with this status and wrote these octets
-pub record EmitHeadline (words : List (List ℕ)) (input : List ℕ) (status : Status) (octets : List ℕ) : Type 0 where
-  pub prints : PrintsTheInputs words input status octets
+pub record EmitHeadline (asked : CommandLine) (input : List ℕ) (status : Status) (octets : List ℕ) : Type 0 where
+  pub prints : PrintsTheInputs asked input status octets
   pub untracked : AllByRecursion TellsNoTrack (lines_of octets)
-  pub carries : (s : Setting) (events : List Happened) → Came words input s events → CarriesParts event_lines s events
+  pub carries : (s : Setting) (events : List Happened) → Came asked input s events → CarriesParts event_lines s events

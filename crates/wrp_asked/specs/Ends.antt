@@ -11,17 +11,17 @@ use Rattle.wrp_records.specs.Lines.{lines_of}
 use Rattle.wrp_records.specs.Passages.{Failed, Passage}
 use Rattle.wrp_records.specs.Reader.{piece_limit}
 use Rattle.wrp_records.specs.RecordsAnswer.{IsRefused}
-use Rattle.wrp_asked.specs.declared.alone.Alone.{Alone}
+use Rattle.wrp_commands.specs.declared.alone.Alone.{Alone}
+use Rattle.wrp_commands.specs.Request.{CommandLine}
 use Rattle.wrp_asked.specs.Alone.{IsAlone, MayAnswer, alone_meaning}
 use Rattle.wrp_asked.specs.Answer.{IsCommand, IsNetworked, IsOfNode, AsksNone, Answer, FirstAnswer, LoopBroken, PartAnswer, CutAnswer}
 use Rattle.wrp_asked.specs.Input.{network_text, behind_separator}
-use Rattle.wrp_asked.specs.Refusals.{usage_line}
 use Rattle.wrp_asked.specs.Tasks.{Task, AsksFor, IsAuditing, IsEmission, IsLooping, meaning_at}
 
--- what a run was given and what passed in it between it and the outside: the words; what the source has left;
+-- what a run was given and what passed in it between it and the outside: what was asked; what the source has left;
 -- what the sink holds; the calls of the link; and how often each of the three had failed, before and after
 pub record Run : Type 0 where
-  pub words : List (List ℕ)
+  pub asked : CommandLine
   pub source : Passage (List ℕ)
   pub sink : Passage (List ℕ)
   pub link : Passage (List LinkCall)
@@ -45,40 +45,40 @@ IsToldOf link calls =
     (calls ≡ [])
     ⊎ ((told : List LinkCall) × (link.before ≡ Some told) × (link.now ≡ Some (told ++ calls)))
 
--- the words ask for a command that stands alone, which may answer this
-abbrev pub AsksAlone : List (List ℕ) → Status → Type 0
-AsksAlone words status = (alone : Alone) × IsAlone words alone × MayAnswer alone status
+-- a command that stands alone is asked for, which may answer this
+abbrev pub AsksAlone : CommandLine → Status → Type 0
+AsksAlone asked status = (alone : Alone) × IsAlone asked alone × MayAnswer alone status
 
--- the words are a command: one on a network, or one that stands alone and may answer this
-abbrev pub AsksSome : List (List ℕ) → Status → Type 0
-AsksSome words status = IsNetworked words ⊎ AsksAlone words status
+-- a command is asked for: one on a network, or one that stands alone and may answer this
+abbrev pub AsksSome : CommandLine → Status → Type 0
+AsksSome asked status = IsNetworked asked ⊎ AsksAlone asked status
 
--- the words are a command, and what is due for this status was written
+-- a command is asked for, and what is due for this status was written
 abbrev pub Answered : Run → Status → Type 0
 Answered run status =
-    AsksSome run.words status × (octets : List ℕ) × (calls : List LinkCall) × Wrote run octets × Called run calls
-    × IfSome run.source.before (λ input. Answer run.words input calls status octets)
+    AsksSome run.asked status × (octets : List ℕ) × (calls : List LinkCall) × Wrote run octets × Called run calls
+    × IfSome run.source.before (λ input. Answer run.asked input calls status octets)
 
 -- behind a network text the line of a refused record ends these octets
-pub record EndsRefused (words : List (List ℕ)) (front : List ℕ) (refusal : Refusal) : Type 0 where
+pub record EndsRefused (asked : CommandLine) (front : List ℕ) (refusal : Refusal) : Type 0 where
   pub task : Task
   pub octets : List ℕ
-  pub asks : AsksFor words (network_text front) task
+  pub asks : AsksFor asked (network_text front) task
   pub refused : IsRefused (meaning_at task) refusal (behind_separator (lines_of front)) octets
   pub last : refused.behind ≡ []
 
 -- a refused record of a command that stands alone ends these octets
-abbrev pub EndsRefusedAlone : List (List ℕ) → List ℕ → Status → Type 0
-EndsRefusedAlone words front status =
-    (alone : Alone) × IsAlone words alone × (alone_meaning alone).refused status front
+abbrev pub EndsRefusedAlone : CommandLine → List ℕ → Status → Type 0
+EndsRefusedAlone asked front status =
+    (alone : Alone) × IsAlone asked alone × (alone_meaning alone).refused status front
 
 -- a record that is refused with this status ends these octets
-abbrev pub EndsRefusedAs : List (List ℕ) → List ℕ → Status → Type 0
-EndsRefusedAs words front BadTrace =
-    EndsRefused words front refusals.BadTrace ⊎ EndsRefusedAlone words front BadTrace
-EndsRefusedAs words front Broken =
-    EndsRefused words front refusals.Broken ⊎ EndsRefusedAlone words front Broken
-EndsRefusedAs words front status = EndsRefusedAlone words front status
+abbrev pub EndsRefusedAs : CommandLine → List ℕ → Status → Type 0
+EndsRefusedAs asked front BadTrace =
+    EndsRefused asked front refusals.BadTrace ⊎ EndsRefusedAlone asked front BadTrace
+EndsRefusedAs asked front Broken =
+    EndsRefused asked front refusals.Broken ⊎ EndsRefusedAlone asked front Broken
+EndsRefusedAs asked front status = EndsRefusedAlone asked front status
 
 -- of an input the octets up to the end of a refused record were taken, and at most one piece behind them
 pub record TakesPiece (run : Run) (status : Status) (input : List ℕ) : Type 0 where
@@ -88,22 +88,22 @@ pub record TakesPiece (run : Run) (status : Status) (input : List ℕ) : Type 0 
   pub all : input ≡ front ++ (past ++ left)
   pub now : run.source.now ≡ Some left
   pub piece : length past ≤ piece_limit
-  pub refused : EndsRefusedAs run.words front status
+  pub refused : EndsRefusedAs run.asked front status
 
--- the words ask for an audit, or for the inputs of a node in one
-abbrev pub AsksEvents : List (List ℕ) → Type 0
-AsksEvents words = IsAuditing words ⊎ ((name : List ℕ) × IsEmission words name)
+-- an audit is asked for, or the inputs of a node in one
+abbrev pub AsksEvents : CommandLine → Type 0
+AsksEvents asked = IsAuditing asked ⊎ ((name : List ℕ) × IsEmission asked name)
 
 -- how a run ends
 abbrev pub Ends : Run → Status → Type 0
 -- the input was read to its end, and what is due is written
 Ends run Done = Answered run Done × IsAtEnd run.source.now
--- the usage line stands alone: the words are no command, or they name a node and no node of the network has the name
+-- the usage line is all that is written: no command is asked for, or one that needs a node whose name no node of the network has
 Ends run Usage =
-    Wrote run usage_line
-    × ((IsCommand run.words → ⊥)
-    ⊎ (((name : List ℕ) × IsOfNode run.words name)
-    × IfSome run.source.before (λ input. AsksNone run.words (network_text input))))
+    Wrote run run.asked.usage
+    × ((IsCommand run.asked → ⊥)
+    ⊎ (((name : List ℕ) × IsOfNode run.asked name)
+    × IfSome run.source.before (λ input. AsksNone run.asked (network_text input))))
     × Called run []
 -- a record is refused: at most one piece behind its line was taken
 Ends run BadTrace =
@@ -111,41 +111,41 @@ Ends run BadTrace =
 -- a record breaks a premise: the same, and only of a command whose records have premises
 Ends run Broken =
     Answered run Broken × IfSome run.source.before (TakesPiece run Broken)
-    × (AsksEvents run.words ⊎ AsksAlone run.words Broken)
+    × (AsksEvents run.asked ⊎ AsksAlone run.asked Broken)
 -- a capture is refused: the same, and only where one is read
 Ends run BadCapture =
     Answered run BadCapture × IfSome run.source.before (TakesPiece run BadCapture)
-    × AsksAlone run.words BadCapture
+    × AsksAlone run.asked BadCapture
 -- the records of a calibration as a whole give no answer: the input was read to its end
 Ends run BadCalib =
-    Answered run BadCalib × AsksAlone run.words BadCalib × IsAtEnd run.source.now
+    Answered run BadCalib × AsksAlone run.asked BadCalib × IsAtEnd run.source.now
 -- the source failed: the lines of the whole records among what was taken stand, and no refusal
 -- stands in it
 Ends run ReadFault =
     Failed run.source × (taken : List ℕ) × (octets : List ℕ)
-    × Took run taken × Wrote run octets × CutAnswer run.words taken octets × Called run []
+    × Took run taken × Wrote run octets × CutAnswer run.asked taken octets × Called run []
 -- the sink failed: the first octets of what is due stand
 Ends run WriteFault =
     Failed run.sink × (octets : List ℕ) × (calls : List LinkCall) × Wrote run octets × Called run calls
-    × IfSome run.source.before (λ input. PartAnswer run.words input calls octets)
+    × IfSome run.source.before (λ input. PartAnswer run.asked input calls octets)
 -- there was no memory: the lines of the first records stand
 Ends run OutOfMemory =
     (octets : List ℕ) × (calls : List LinkCall) × Wrote run octets × Called run calls
-    × IfSome run.source.before (λ input. FirstAnswer run.words input calls octets)
+    × IfSome run.source.before (λ input. FirstAnswer run.asked input calls octets)
 -- the link failed, which only a loop calls: the input was read to its end, and the lines of all events before the one
 -- whose call failed stand
 Ends run LinkFault =
-    Failed run.link × ((seed : ℕ) × IsLooping run.words seed) × IsAtEnd run.source.now
+    Failed run.link × ((seed : ℕ) × IsLooping run.asked seed) × IsAtEnd run.source.now
     × (octets : List ℕ) × (calls : List LinkCall) × Wrote run octets × Called run calls
-    × IfSome run.source.before (λ input. LoopBroken run.words input calls LinkFault octets)
+    × IfSome run.source.before (λ input. LoopBroken run.asked input calls LinkFault octets)
 -- the network or a size is refused, and its line is written behind those of the records before it
 Ends run status = Answered run status
 
 -- so it ends, over this source and this sink, where it calls no link
-abbrev pub EndsUnlinked : List (List ℕ) → Passage (List ℕ) → Passage (List ℕ) → Status → Type 0
-EndsUnlinked words source sink status =
+abbrev pub EndsUnlinked : CommandLine → Passage (List ℕ) → Passage (List ℕ) → Status → Type 0
+EndsUnlinked asked source sink status =
     (link : Passage (List LinkCall)) → link.now ≡ link.before
-    → Ends (record { words = words; source = source; sink = sink; link = link }) status
+    → Ends (record { asked = asked; source = source; sink = sink; link = link }) status
 
 -- the passage of an object that had more before some of it was taken
 abbrev pub begun_at : {A : Type 0} → Option A → Passage A → Passage A

@@ -1,7 +1,8 @@
 -- The aim of the project, part by part, of what an audit wrote, for each status: it printed exactly the nodes' steps
 -- (`PrintsTheSteps`); no port was in WR_LINK_ON unless its peer had passed the required steps of that same handshake
--- (`LinkOnIsEarned`); every track line's true offset is at most its printed bound (`TracksAreWithin`, in TrackLines.antt); and
--- a malformed or foreign frame changed only a counter (`DropsOnlyCount`). This project's profile.
+-- (`LinkOnIsEarned`); every track line's true offset is at most its printed bound (`TracksAreWithin`, in TrackLines.antt);
+-- a malformed or foreign frame changed only a counter (`DropsOnlyCount`); and each node in TRACK was within its hop of its parent, with
+-- what follows of that (`HopByHop`, in HopByHop.antt). This project's profile.
 use Rattle.std.specs.Prelude.{◌≡◌, ◌⊎◌, ℕ, ◌+◌, ◌<◌, ◌≤◌, Some, List, [], ◌∷◌, ◌++◌, length, map, take, codes}
 use Rattle.std.specs.Fmt.{decimal}
 use Rattle.std.specs.List.{AllByRecursion}
@@ -23,7 +24,9 @@ use Rattle.wrp_records.specs.declared.status.Status.TheVariants.{Done, BadNetwor
 use Rattle.wrp_audit.specs.Audited.{IsAudit}
 use Rattle.wrp_audit.specs.Audits.{AuditRefuses}
 use Rattle.wrp_audit.specs.AuditText.{all_counts, audit_lines, event_lines}
+use Rattle.wrp_commands.specs.Request.{CommandLine}
 use Rattle.wrp_asked.specs.EventLines.{AtEachEvent, IsWord, Writing}
+use Rattle.wrp_asked.specs.HopByHop.{HopByHop}
 use Rattle.wrp_asked.specs.Input.{network_text, behind_separator, network_limit}
 use Rattle.wrp_records.specs.Lines.{lines_of, content_of}
 use Rattle.wrp_records.specs.Refusals.{too_large_line}
@@ -35,14 +38,14 @@ use Rattle.wrp_truth.specs.Chains.{AllFit}
 
 -- Which events came
 
--- the words ask for the audit of a network that this text describes, or for the inputs of a node in it
-abbrev pub AsksEventsOf : List (List ℕ) → List ℕ → Setting → Type 0
-AsksEventsOf words text s = AsksFor words text (Audit s) ⊎ ((n : ℕ) × AsksFor words text (Emit s n))
+-- the audit of a network that this text describes is asked for, or the inputs of a node in it
+abbrev pub AsksEventsOf : CommandLine → List ℕ → Setting → Type 0
+AsksEventsOf asked text s = AsksFor asked text (Audit s) ⊎ ((name : List ℕ) × (n : ℕ) × AsksFor asked text (Emit name s n))
 
 -- the first lines of the records say these events, which kept all premises one after another, in the network that the text
 -- before the records describes
-pub record Came (words : List (List ℕ)) (input : List ℕ) (s : Setting) (events : List Happened) : Type 0 where
-  pub asks : AsksEventsOf words (network_text input) s
+pub record Came (asked : CommandLine) (input : List ℕ) (s : Setting) (events : List Happened) : Type 0 where
+  pub asks : AsksEventsOf asked (network_text input) s
   pub front : List (List ℕ)
   pub behind : List (List ℕ)
   pub divided : behind_separator (lines_of input) ≡ front ++ behind
@@ -69,10 +72,10 @@ EndsEvents OutOfMemory s front behind counts last = last ≡ []
 EndsEvents _ s front behind counts last = ⊥
 
 -- the lines of the nodes' steps in events that came, and what stands behind them
-pub record StepsOf (words : List (List ℕ)) (input : List ℕ) (status : Status) (octets : List ℕ) : Type 0 where
+pub record StepsOf (asked : CommandLine) (input : List ℕ) (status : Status) (octets : List ℕ) : Type 0 where
   pub setting : Setting
   pub events : List Happened
-  pub came : Came words input setting events
+  pub came : Came asked input setting events
   pub last : List ℕ
   pub ends : EndsEvents status setting came.front came.behind (all_counts setting (world_after setting events)) last
   pub is : octets ≡ audit_lines setting events ++ last
@@ -94,9 +97,9 @@ Prints IsDue WriteFault octets =
 Prints IsDue status octets = IsDue status octets
 
 -- an audit prints exactly the nodes' steps
-abbrev pub PrintsTheSteps : List (List ℕ) → List ℕ → Status → List ℕ → Type 0
-PrintsTheSteps words input status octets =
-    Prints (λ due text. ReachesNone input due text ⊎ StepsOf words input due text) status octets
+abbrev pub PrintsTheSteps : CommandLine → List ℕ → Status → List ℕ → Type 0
+PrintsTheSteps asked input status octets =
+    Prints (λ due text. ReachesNone input due text ⊎ StepsOf asked input due text) status octets
 
 -- The second part
 
@@ -145,6 +148,7 @@ pub record CarriesParts (write : Writing) (s : Setting) (events : List Happened)
   pub link_on : LinkOnIsEarned write s events
   pub tracks : TracksAreWithin write s events
   pub drops : DropsOnlyCount write s events
+  pub hops : HopByHop s events
 
 -- these events are a run of their network, so they kept all premises, their numbers are such as a line says, and they carry the
 -- other parts
@@ -156,10 +160,10 @@ pub record CarriesRun (write : Writing) (s : Setting) (events : List Happened) :
 -- whatever events came
 abbrev pub EventsCarryParts : Type 0
 EventsCarryParts =
-    (words : List (List ℕ)) (input : List ℕ) (s : Setting) (events : List Happened) → Came words input s events →
+    (asked : CommandLine) (input : List ℕ) (s : Setting) (events : List Happened) → Came asked input s events →
     CarriesParts event_lines s events
 
 -- of an audit that ended with this status and wrote these octets
-pub record Headline (words : List (List ℕ)) (input : List ℕ) (status : Status) (octets : List ℕ) : Type 0 where
-  pub prints : PrintsTheSteps words input status octets
-  pub carries : (s : Setting) (events : List Happened) → Came words input s events → CarriesParts event_lines s events
+pub record Headline (asked : CommandLine) (input : List ℕ) (status : Status) (octets : List ℕ) : Type 0 where
+  pub prints : PrintsTheSteps asked input status octets
+  pub carries : (s : Setting) (events : List Happened) → Came asked input s events → CarriesParts event_lines s events

@@ -1,21 +1,18 @@
+use Rattle.wrp_commands.specs.Request.{CommandLine}
 pub mod Alone
 pub mod AloneAims
 pub mod Answer
 pub mod AnswerLaws
-pub mod CommandLine
 pub mod EmitHeadline
 pub mod Ends
 pub mod EventLines
-pub mod Fields
 pub mod Headline
+pub mod HopByHop
 pub mod Input
 pub mod LoopHeadline
-pub mod Parsing
 pub mod PrintedTracks
-pub mod Refusals
+pub mod ReplayHeadline
 pub mod ReportLines
-pub mod Rows
 pub mod SimHeadline
 pub mod Tasks
 pub mod TrackLines
-pub mod Words

@@ -19,6 +19,7 @@ use Rattle.wrp_records.specs.declared.status.Status.TheVariants.{Done, LinkFault
 use Rattle.wrp_records.specs.Lines.{content_of, lines_of}
 use Rattle.wrp_records.specs.Stream.{large_line}
 use Rattle.wrp_audit.specs.AuditText.{all_counts, audit_lines, event_lines}
+use Rattle.wrp_commands.specs.Request.{CommandLine}
 use Rattle.wrp_asked.specs.Headline.{CarriesRun, Prints, ReachesNone}
 use Rattle.wrp_asked.specs.Input.{behind_separator, network_text}
 use Rattle.wrp_loop.specs.Loops.{IsLawful, IsShort, closing_lines, plan_of}
@@ -29,12 +30,12 @@ use Rattle.wrp_scene.specs.Scenario.{SceneAt}
 
 -- Which events came
 
--- the words name this seed, the records say this scenario of the network that the text before them describes, and a loop by both
+-- this seed is asked for, the records say this scenario of the network that the text before them describes, and a loop by both
 -- came to here, of which the link told the first of these calls
-pub record Looped (words : List (List ℕ)) (input : List ℕ) (calls : List LinkCall) (s : Setting) (last : Going)
+pub record Looped (asked : CommandLine) (input : List ℕ) (calls : List LinkCall) (s : Setting) (last : Going)
     : Type 0 where
   pub seed : ℕ
-  pub asks : AsksFor words (network_text input) (Loop s seed)
+  pub asks : AsksFor asked (network_text input) (Loop s seed)
   pub scene : SceneAt
   pub said : IsScenario s (map content_of (behind_separator (lines_of input))) scene
   pub first : List LinkCall
@@ -63,21 +64,21 @@ StandsBehind OutOfMemory x calls later last text = IsShort x calls last × (text
 StandsBehind _ x calls later last text = ⊥
 
 -- the lines of the events that came, and what stands behind them
-pub record LoopOf (words : List (List ℕ)) (input : List ℕ) (calls : List LinkCall) (status : Status) (octets : List ℕ)
+pub record LoopOf (asked : CommandLine) (input : List ℕ) (calls : List LinkCall) (status : Status) (octets : List ℕ)
     : Type 0 where
   pub setting : Setting
   pub last : Going
-  pub came : Looped words input calls setting last
+  pub came : Looped asked input calls setting last
   pub behind : List ℕ
   pub ends : StandsBehind status (plan_of setting came.scene came.seed) calls came.later last behind
   pub is : octets ≡ came_lines setting (events_at (place last)) ++ behind
 
 -- a line of its records is refused, or too large: its line stands alone behind lines of a scenario, and no call is made
-pub record LacksScene (words : List (List ℕ)) (input : List ℕ) (calls : List LinkCall) (status : Status) (octets : List ℕ)
+pub record LacksScene (asked : CommandLine) (input : List ℕ) (calls : List LinkCall) (status : Status) (octets : List ℕ)
     : Type 0 where
   pub setting : Setting
   pub seed : ℕ
-  pub asks : AsksFor words (network_text input) (Loop setting seed)
+  pub asks : AsksFor asked (network_text input) (Loop setting seed)
   pub front : List (List ℕ)
   pub line : List ℕ
   pub behind : List (List ℕ)
@@ -88,29 +89,29 @@ pub record LacksScene (words : List (List ℕ)) (input : List ℕ) (calls : List
   pub uncalled : calls ≡ []
 
 -- behind a whole scenario the link did not start, and nothing is written
-pub record NotStarted (words : List (List ℕ)) (input : List ℕ) (calls : List LinkCall) (octets : List ℕ) : Type 0 where
+pub record NotStarted (asked : CommandLine) (input : List ℕ) (calls : List LinkCall) (octets : List ℕ) : Type 0 where
   pub setting : Setting
   pub seed : ℕ
-  pub asks : AsksFor words (network_text input) (Loop setting seed)
+  pub asks : AsksFor asked (network_text input) (Loop setting seed)
   pub scene : SceneAt
   pub said : IsScenario setting (map content_of (behind_separator (lines_of input))) scene
   pub uncalled : calls ≡ []
   pub none : octets ≡ []
 
-abbrev pub LacksLink : List (List ℕ) → List ℕ → List LinkCall → Status → List ℕ → Type 0
-LacksLink words input calls LinkFault octets = NotStarted words input calls octets
-LacksLink words input calls _ octets = ⊥
+abbrev pub LacksLink : CommandLine → List ℕ → List LinkCall → Status → List ℕ → Type 0
+LacksLink asked input calls LinkFault octets = NotStarted asked input calls octets
+LacksLink asked input calls _ octets = ⊥
 
 -- what is due for a status; where no record was reached, no call was made
-abbrev pub IsLoopDue : List (List ℕ) → List ℕ → List LinkCall → Status → List ℕ → Type 0
-IsLoopDue words input calls status octets =
+abbrev pub IsLoopDue : CommandLine → List ℕ → List LinkCall → Status → List ℕ → Type 0
+IsLoopDue asked input calls status octets =
     (ReachesNone input status octets × (calls ≡ []))
-    ⊎ (LacksScene words input calls status octets
-    ⊎ (LacksLink words input calls status octets ⊎ LoopOf words input calls status octets))
+    ⊎ (LacksScene asked input calls status octets
+    ⊎ (LacksLink asked input calls status octets ⊎ LoopOf asked input calls status octets))
 
 -- a run over a link prints exactly its events and the nodes' steps in them, and never tells of a broken premise
-abbrev pub PrintsTheLoop : List (List ℕ) → List ℕ → List LinkCall → Status → List ℕ → Type 0
-PrintsTheLoop words input calls status octets = Prints (λ due text. IsLoopDue words input calls due text) status octets
+abbrev pub PrintsTheLoop : CommandLine → List ℕ → List LinkCall → Status → List ℕ → Type 0
+PrintsTheLoop asked input calls status octets = Prints (λ due text. IsLoopDue asked input calls due text) status octets
 
 -- The audit of its events
 
@@ -123,22 +124,22 @@ pub record IsToldApart (s : Setting) (last : Going) (octets : List ℕ) : Type 0
       ++ forged_lines (place last).forged
 
 -- so it is of what was written where the run was done
-abbrev pub TellsApart : List (List ℕ) → List ℕ → List LinkCall → Status → List ℕ → Type 0
-TellsApart words input calls Done octets =
-    (loop : LoopOf words input calls Done octets) × IsToldApart loop.setting loop.last octets
-TellsApart words input calls status octets = Unit {0}
+abbrev pub TellsApart : CommandLine → List ℕ → List LinkCall → Status → List ℕ → Type 0
+TellsApart asked input calls Done octets =
+    (loop : LoopOf asked input calls Done octets) × IsToldApart loop.setting loop.last octets
+TellsApart asked input calls status octets = Unit {0}
 
 -- All parts
 
 -- whatever events came
 abbrev pub LoopedEventsCarryParts : Type 0
 LoopedEventsCarryParts =
-    (words : List (List ℕ)) (input : List ℕ) (calls : List LinkCall) (s : Setting) (last : Going) →
-    Looped words input calls s last → CarriesRun event_lines s (events_at (place last))
+    (asked : CommandLine) (input : List ℕ) (calls : List LinkCall) (s : Setting) (last : Going) →
+    Looped asked input calls s last → CarriesRun event_lines s (events_at (place last))
 
 -- of a run over a link that ended with this status and wrote these octets, where the link told these calls
-pub record LoopHeadline (words : List (List ℕ)) (input : List ℕ) (calls : List LinkCall) (status : Status) (octets : List ℕ)
+pub record LoopHeadline (asked : CommandLine) (input : List ℕ) (calls : List LinkCall) (status : Status) (octets : List ℕ)
     : Type 0 where
-  pub prints : PrintsTheLoop words input calls status octets
-  pub carries : (s : Setting) (last : Going) → Looped words input calls s last → CarriesRun event_lines s (events_at (place last))
-  pub apart : TellsApart words input calls status octets
+  pub prints : PrintsTheLoop asked input calls status octets
+  pub carries : (s : Setting) (last : Going) → Looped asked input calls s last → CarriesRun event_lines s (events_at (place last))
+  pub apart : TellsApart asked input calls status octets

@@ -1,16 +1,19 @@
 -- The track lines of what was printed: in each that has its LF, the true offset is at most the bound (this project's profile).
-use Rattle.std.specs.Prelude.{◌≡◌, ◌⊎◌, ◌≤◌, ℕ, ℤ, unsigned_abs, List, [], ◌∷◌, codes}
+use Rattle.std.specs.Prelude.{◌≡◌, ◌≤◌, ℕ, ℤ, unsigned_abs, Option, Some, List, [], ◌∷◌, codes}
 use Rattle.std.specs.Fmt.{decimal, signed_decimal}
 use Rattle.std.specs.List.{AllByRecursion}
 use Rattle.wrp_records.specs.Lines.{lines_of}
 use Rattle.wrp_records.specs.Words.{line_of}
+use Rattle.wrp_commands.specs.Request.{Request}
+use Rattle.wrp_commands.specs.Request as requests
 use Rattle.wrp_asked.specs.EventLines.{IsWord}
 
--- the first word of the command line is that of a command which reports true offsets, whatever the other words are
-abbrev pub ReportsTrueOffsets : List (List ℕ) → Type 0
-ReportsTrueOffsets words =
-    (first : List ℕ) × (others : List (List ℕ)) × (words ≡ first ∷ others)
-    × ((first ≡ codes "audit") ⊎ ((first ≡ codes "simulate") ⊎ (first ≡ codes "loop")))
+-- nothing else than an audit, the inputs of a node in one, a simulation or a run over a link is asked for: neither a replay, nor a
+-- command that stands alone
+abbrev pub ReportsOffsets : Option Request → Type 0
+ReportsOffsets (Some (requests.OnNetwork (requests.Replay name))) = ⊥
+ReportsOffsets (Some (requests.StandAlone alone)) = ⊥
+ReportsOffsets _ = Unit {0}
 
 -- where the line is NODE TICK track EST BOUND true OFF, with its LF, BOUND and OFF are numbers in tau, and the size of OFF is at
 -- most BOUND

@@ -14,6 +14,7 @@ use Rattle.wrp_course.specs.Setting.{Setting}
 use Rattle.wrp_records.specs.declared.machine.Refusal.TheVariants as refusals
 use Rattle.wrp_records.specs.declared.status.Status.{Status}
 use Rattle.wrp_records.specs.declared.status.Status.TheVariants.{Done, BadTrace, TooLarge, OutOfMemory}
+use Rattle.wrp_commands.specs.Request.{CommandLine}
 use Rattle.wrp_asked.specs.Headline.{CarriesRun, Prints, ReachesNone}
 use Rattle.wrp_asked.specs.Input.{behind_separator, network_text}
 use Rattle.wrp_records.specs.Lines.{content_of, lines_of}
@@ -26,11 +27,11 @@ use Rattle.wrp_asked.specs.Tasks.{Simulate, AsksFor}
 
 -- Which events are made
 
--- the words name this seed, the records say this scenario of the network that the text before them describes, and the
+-- this seed is asked for, the records say this scenario of the network that the text before them describes, and the
 -- simulator's rules make these events of both
-pub record Made (words : List (List ℕ)) (input : List ℕ) (s : Setting) (events : List Happened) : Type 0 where
+pub record Made (asked : CommandLine) (input : List ℕ) (s : Setting) (events : List Happened) : Type 0 where
   pub seed : ℕ
-  pub asks : AsksFor words (network_text input) (Simulate s seed)
+  pub asks : AsksFor asked (network_text input) (Simulate s seed)
   pub scene : SceneAt
   pub said : IsScenario s (map content_of (behind_separator (lines_of input))) scene
   pub at : SimAt
@@ -54,10 +55,10 @@ StandsAfter OutOfMemory s scene events at last = last ≡ []
 StandsAfter _ s scene events at last = ⊥
 
 -- the lines of the nodes' steps in events that are made, and what stands behind them
-pub record RunOf (words : List (List ℕ)) (input : List ℕ) (status : Status) (octets : List ℕ) : Type 0 where
+pub record RunOf (asked : CommandLine) (input : List ℕ) (status : Status) (octets : List ℕ) : Type 0 where
   pub setting : Setting
   pub events : List Happened
-  pub made : Made words input setting events
+  pub made : Made asked input setting events
   pub last : List ℕ
   pub ends : StandsAfter status setting made.scene events made.at last
   pub is : octets ≡ sim_lines setting events ++ last
@@ -69,10 +70,10 @@ NamesLine TooLarge s front line octets = IsTooLarge line (length front) × (octe
 NamesLine _ s front line octets = ⊥
 
 -- it stands alone behind lines of a scenario: no event is made
-pub record LacksScenario (words : List (List ℕ)) (input : List ℕ) (status : Status) (octets : List ℕ) : Type 0 where
+pub record LacksScenario (asked : CommandLine) (input : List ℕ) (status : Status) (octets : List ℕ) : Type 0 where
   pub setting : Setting
   pub seed : ℕ
-  pub asks : AsksFor words (network_text input) (Simulate setting seed)
+  pub asks : AsksFor asked (network_text input) (Simulate setting seed)
   pub front : List (List ℕ)
   pub line : List ℕ
   pub behind : List (List ℕ)
@@ -82,10 +83,10 @@ pub record LacksScenario (words : List (List ℕ)) (input : List ℕ) (status : 
   pub is : NamesLine status setting front line octets
 
 -- a simulation prints exactly the nodes' steps, and never tells of a broken premise
-abbrev pub PrintsTheRun : List (List ℕ) → List ℕ → Status → List ℕ → Type 0
-PrintsTheRun words input status octets =
+abbrev pub PrintsTheRun : CommandLine → List ℕ → Status → List ℕ → Type 0
+PrintsTheRun asked input status octets =
     Prints
-    (λ due text. ReachesNone input due text ⊎ (LacksScenario words input due text ⊎ RunOf words input due text))
+    (λ due text. ReachesNone input due text ⊎ (LacksScenario asked input due text ⊎ RunOf asked input due text))
     status octets
 
 -- All parts
@@ -93,10 +94,10 @@ PrintsTheRun words input status octets =
 -- whatever events are made
 abbrev pub MadeEventsCarryParts : Type 0
 MadeEventsCarryParts =
-    (words : List (List ℕ)) (input : List ℕ) (s : Setting) (events : List Happened) → Made words input s events →
+    (asked : CommandLine) (input : List ℕ) (s : Setting) (events : List Happened) → Made asked input s events →
     CarriesRun run_lines s events
 
 -- of a simulation that ended with this status and wrote these octets
-pub record SimHeadline (words : List (List ℕ)) (input : List ℕ) (status : Status) (octets : List ℕ) : Type 0 where
-  pub prints : PrintsTheRun words input status octets
-  pub carries : (s : Setting) (events : List Happened) → Made words input s events → CarriesRun run_lines s events
+pub record SimHeadline (asked : CommandLine) (input : List ℕ) (status : Status) (octets : List ℕ) : Type 0 where
+  pub prints : PrintsTheRun asked input status octets
+  pub carries : (s : Setting) (events : List Happened) → Made asked input s events → CarriesRun run_lines s events

@@ -1,67 +1,97 @@
--- What the words of the command line ask for (this project's profile).
-use Rattle.std.specs.Prelude.{◌≡◌, ℕ, ◌≤◌, Some, List, [], ◌∷◌, length, codes}
+-- What is asked of a network, and the task that it is there: a table with a row for each (this project's profile).
+use Rattle.std.specs.Prelude.{◌≡◌, ℕ, ◌≤◌, Option, None, Some, List, length}
 use Rattle.wrp_config.specs.Names.{node_named}
 use Rattle.wrp_trace.specs.LineSetting.{LineSetting}
 use Rattle.wrp_course.specs.Setting.{Setting}
 use Rattle.wrp_audit.specs.Audited.{IsSettingOf}
 use Rattle.wrp_audit.specs.Audits.{audit_of, emission_of}
-use Rattle.wrp_asked.specs.CommandLine.{IsCommandWith, IsSeeded}
+use Rattle.wrp_commands.specs.Request.{CommandLine, Networked, OnNetwork}
+use Rattle.wrp_commands.specs.Request as requests
 use Rattle.wrp_asked.specs.Input.{network_limit}
 use Rattle.wrp_records.specs.LineMeaning.{LineMeaning}
 use Rattle.wrp_replay.specs.Replays.{IsNetworkOf, meaning_of}
 use Rattle.wrp_scene_records.specs.Scenarios.{scenario_of}
 use Rattle.wrp_simulate.specs.Simulates.{simulation_of}
 
--- the replay of a node, the audit of a network, the inputs of a node in it, its simulation from a seed, or
+-- the replay of the node of a name, the audit of a network, the inputs of the node of a name in it, its simulation from a seed, or
 -- its run over a link from a seed
 pub data Task : Type 0 where
-  Replay : (site : LineSetting) → Task
+  Replay : (name : List ℕ) (site : LineSetting) → Task
   Audit : (setting : Setting) → Task
-  Emit : (setting : Setting) (node : ℕ) → Task
+  Emit : (name : List ℕ) (setting : Setting) (node : ℕ) → Task
   Simulate : (setting : Setting) (seed : ℕ) → Task
   Loop : (setting : Setting) (seed : ℕ) → Task
 
+-- What a task is: the command that asks for it; which network texts describe its network, where a node is the first of its name;
+-- and what the record lines mean there, by themselves.
+pub record TaskRow : Type 1 where
+  pub command : Networked
+  pub IsIn : List ℕ → Type 0
+  pub meaning : LineMeaning
+
+-- the table
+abbrev pub task_row : Task → TaskRow
+task_row (Replay name site) = record {
+  command = requests.Replay name;
+  IsIn = λ text. IsNetworkOf text site × (node_named site.cfg name ≡ Some site.node);
+  meaning = meaning_of site;
+}
+task_row (Audit setting) = record {
+  command = requests.Audit;
+  IsIn = λ text. IsSettingOf text setting;
+  meaning = audit_of setting;
+}
+task_row (Emit name setting node) = record {
+  command = requests.Emit name;
+  IsIn = λ text. IsSettingOf text setting × (node_named setting.cfg name ≡ Some node);
+  meaning = emission_of setting node;
+}
+task_row (Simulate setting seed) = record {
+  command = requests.Simulate seed;
+  IsIn = λ text. IsSettingOf text setting;
+  meaning = simulation_of setting seed;
+}
+task_row (Loop setting seed) = record {
+  command = requests.Loop seed;
+  IsIn = λ text. IsSettingOf text setting;
+  meaning = scenario_of setting;
+}
+
 -- what the record lines mean there, by themselves
 abbrev pub meaning_at : Task → LineMeaning
-meaning_at (Replay site) = meaning_of site
-meaning_at (Audit setting) = audit_of setting
-meaning_at (Emit setting node) = emission_of setting node
-meaning_at (Simulate setting seed) = simulation_of setting seed
-meaning_at (Loop setting seed) = scenario_of setting
+meaning_at task = (task_row task).meaning
 
--- the words ask for the replay of a node of this name
-abbrev pub IsReplay : List (List ℕ) → List ℕ → Type 0
-IsReplay words name = IsCommandWith (codes "replay") (codes "--node") words name
+-- the name of the node that a command needs, or none
+abbrev pub node_of : Networked → Option (List ℕ)
+node_of (requests.Replay name) = Some name
+node_of (requests.Emit name) = Some name
+node_of _ = None
 
--- the words ask for an audit
-abbrev pub IsAuditing : List (List ℕ) → Type 0
-IsAuditing words = words ≡ codes "audit" ∷ []
+-- a command line asks for a command on a network
+abbrev pub IsOnNetwork : CommandLine → Networked → Type 0
+IsOnNetwork asked command = asked.request ≡ Some (OnNetwork command)
 
--- the words ask for the inputs of a node of this name
-abbrev pub IsEmission : List (List ℕ) → List ℕ → Type 0
-IsEmission words name = IsCommandWith (codes "audit") (codes "--emit") words name
+-- for the replay of a node of this name
+abbrev pub IsReplay : CommandLine → List ℕ → Type 0
+IsReplay asked name = IsOnNetwork asked (requests.Replay name)
 
--- the words ask for a simulation from this seed
-abbrev pub IsSimulation : List (List ℕ) → ℕ → Type 0
-IsSimulation words seed = IsSeeded (codes "simulate") words seed
+-- for an audit
+abbrev pub IsAuditing : CommandLine → Type 0
+IsAuditing asked = IsOnNetwork asked requests.Audit
 
--- the words ask for a run over a link from this seed
-abbrev pub IsLooping : List (List ℕ) → ℕ → Type 0
-IsLooping words seed = IsSeeded (codes "loop") words seed
+-- for the inputs of a node of this name
+abbrev pub IsEmission : CommandLine → List ℕ → Type 0
+IsEmission asked name = IsOnNetwork asked (requests.Emit name)
 
--- the words ask for a task in the network that this text describes; a node is the first of its name
-abbrev pub AsksFor : List (List ℕ) → List ℕ → Task → Type 0
-AsksFor words text (Replay site) =
-    (length text ≤ network_limit)
-    × (name : List ℕ) × IsReplay words name × IsNetworkOf text site
-    × (node_named site.cfg name ≡ Some site.node)
-AsksFor words text (Audit setting) =
-    (length text ≤ network_limit) × IsAuditing words × IsSettingOf text setting
-AsksFor words text (Emit setting node) =
-    (length text ≤ network_limit)
-    × (name : List ℕ) × IsEmission words name × IsSettingOf text setting
-    × (node_named setting.cfg name ≡ Some node)
-AsksFor words text (Simulate setting seed) =
-    (length text ≤ network_limit) × IsSimulation words seed × IsSettingOf text setting
-AsksFor words text (Loop setting seed) =
-    (length text ≤ network_limit) × IsLooping words seed × IsSettingOf text setting
+-- for a simulation from this seed
+abbrev pub IsSimulation : CommandLine → ℕ → Type 0
+IsSimulation asked seed = IsOnNetwork asked (requests.Simulate seed)
+
+-- for a run over a link from this seed
+abbrev pub IsLooping : CommandLine → ℕ → Type 0
+IsLooping asked seed = IsOnNetwork asked (requests.Loop seed)
+
+-- for a task in the network that this text describes
+abbrev pub AsksFor : CommandLine → List ℕ → Task → Type 0
+AsksFor asked text task =
+    (length text ≤ network_limit) × IsOnNetwork asked (task_row task).command × (task_row task).IsIn text

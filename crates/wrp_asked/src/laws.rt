@@ -3,19 +3,22 @@ ghost use Rattle.wrp_asked.specs.AnswerLaws.{OneAnswer, RunsPrintWithinBounds};
 ghost use Rattle.wrp_asked.specs.EmitHeadline.{EmissionsTellNoTrack};
 ghost use Rattle.wrp_asked.specs.Headline.{EventsCarryParts};
 ghost use Rattle.wrp_asked.specs.LoopHeadline.{LoopedEventsCarryParts};
+ghost use Rattle.wrp_asked.specs.ReplayHeadline.{ReplaysAreTold};
 ghost use Rattle.wrp_asked.specs.ReportLines.{TrackReportsHaveLines};
 ghost use Rattle.wrp_asked.specs.SimHeadline.{MadeEventsCarryParts};
 
 use wrp_audit::one_audit;
 use wrp_config::reading_is_accepted;
+use wrp_lookback::drops_only_count;
 use wrp_loop::{loop_is_audited, loop_keeps_the_bounds};
 use wrp_node::one_run;
 use wrp_servo::told_last;
 use wrp_sim::simulator_keeps_the_bounds;
 use wrp_trace::events_can_come;
+use wrp_truth::hops_are_kept;
 use wrp_world::events_hold;
 
-/// For words, an input and the calls of a link one status and one text are due.
+/// For what is asked, an input and the calls of a link one status and one text are due.
 pub fn one_answer()
     ensures { OneAnswer }
 {
@@ -26,14 +29,15 @@ pub fn one_answer()
 
 /// In each event that the first records of an audit say, each port in WR_LINK_ON has earned it, and so has
 /// each that is reported to be; each node is within its bound of true time in TRACK and in HOLDOVER, and each
-/// track line is true; and a frame that is dropped as no message, or as a foreign one, changes a counter
-/// alone, and nothing is written of it.
+/// track line is true; a frame that is dropped as no message, or as a foreign one, changes a counter alone, and
+/// nothing is written of it; and after the event each node in TRACK is within its hop of its parent.
 pub fn events_carry_parts()
     ensures { EventsCarryParts }
 {
     reading_is_accepted();
     events_can_come();
     events_hold();
+    hops_are_kept();
 }
 
 /// The same holds in each event that a simulation makes, whatever its scenario and its seed: none can break a
@@ -44,6 +48,7 @@ pub fn made_events_carry_parts()
     reading_is_accepted();
     simulator_keeps_the_bounds();
     events_hold();
+    hops_are_kept();
 }
 
 /// The same holds in each event of a run over a link, whatever the link does: they are a run of the network.
@@ -53,6 +58,7 @@ pub fn looped_events_carry_parts()
     reading_is_accepted();
     loop_keeps_the_bounds();
     events_hold();
+    hops_are_kept();
 }
 
 /// No line that an audit prints which is asked for the inputs of a node begins as a `track` line does, whatever its
@@ -63,9 +69,18 @@ pub fn emissions_tell_no_track()
     reading_is_accepted();
 }
 
-/// In each line NODE TICK track EST BOUND true OFF that a run wrote whose words begin with `audit`, `simulate` or
-/// `loop`, the size of OFF is at most BOUND, whatever its status is. A line that was cut off before its LF is no such
-/// line.
+/// What a run wrote of a replay, whatever its status is: the lines of what the node puts out at the
+/// inputs that the records say, and what is written after them. A frame that the node drops for one of the reasons 1
+/// to 12 leaves one counter raised and nothing else changed, and nothing is put out.
+pub fn replays_are_told()
+    ensures { ReplaysAreTold }
+{
+    drops_only_count();
+    one_run();
+}
+
+/// In each line NODE TICK track EST BOUND true OFF that a run wrote of an audit, a simulation or a run over a link, the size
+/// of OFF is at most BOUND, whatever its status is. A line that was cut off before its LF is no such line.
 pub fn runs_print_within_bounds()
     ensures { RunsPrintWithinBounds }
 {

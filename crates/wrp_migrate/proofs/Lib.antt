@@ -1,6 +1,15 @@
 pub mod Answering
 pub mod EachAnswer
 pub mod Keeping
+pub mod Listed
 pub mod PlainNames
 pub mod PlainOctets
+pub mod Printed
+pub mod Sizes
 pub mod Unique
+pub mod Weight
+pub mod WeightEdits
+pub mod WeightIntegers
+pub mod WeightStrings
+pub mod WeightTexts
+pub mod WorkedSizes

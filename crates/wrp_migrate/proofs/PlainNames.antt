@@ -17,7 +17,7 @@ use Rattle.wrp_caldb.specs.declared.database.Entry.{Entry}
 use Rattle.wrp_migrate.proofs.PlainOctets.{AreLow, IsLow, ItemsArePlain, MembersArePlain, utf8_document}
 
 -- octets that are below 128 by a test
-all_low : (cs : List ℕ) → list_all (λ c. nat_lt c 128) cs ≡ true → AreLow cs
+pub all_low : (cs : List ℕ) → list_all (λ c. nat_lt c 128) cs ≡ true → AreLow cs
 all_low [] is = tt
 all_low (c ∷ cs) is =
     let parts = and_parts (nat_lt c 128) (list_all (λ o. nat_lt o 128) cs) is in
@@ -56,7 +56,7 @@ added : {X : Type 0} (P : X → Type 0) (f : Members → X) → ((t : Members) �
 added P f h None xs all = all
 added P f h (Some t) xs all = (h t, all)
 
-each_has : {X : Type 0} (P : X → Type 0) (f : Members → X) → ((t : Members) → P (f t)) → (ds : List Data) → AllByRecursion P (each_table f ds)
+pub each_has : {X : Type 0} (P : X → Type 0) (f : Members → X) → ((t : Members) → P (f t)) → (ds : List Data) → AllByRecursion P (each_table f ds)
 each_has P f h [] = tt
 each_has P f h (d ∷ ds) = added P f h (as_table d) (each_table f ds) (each_has P f h ds)
 

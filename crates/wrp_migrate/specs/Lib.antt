@@ -1,3 +1,5 @@
 pub mod Input
 pub mod Laws
 pub mod Migration
+pub mod Sizes
+pub mod WorkedSizes

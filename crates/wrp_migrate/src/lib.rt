@@ -6,5 +6,7 @@ mod input;
 mod laws;
 mod migrating;
 
-pub use laws::{each_has_migration, migration_keeps, one_migration};
+pub use laws::{
+    each_has_migration, migration_keeps, migration_size, one_migration, small_texts_fit,
+};
 pub use migrating::migrate;

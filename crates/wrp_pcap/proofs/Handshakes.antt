@@ -182,7 +182,7 @@ same_number n = grind (arith)
 same_self : (port : PortIdentity) → same_port port port ≡ true
 same_self port = ap₂ (λ (a b : Bool). a && b) (same_number port.clock) (same_number port.port)
 
-is_sent_on : (source target : PortIdentity) (body : Body) → body ≡ Signal target (Some WR_MODE_ON) →
+pub is_sent_on : (source target : PortIdentity) (body : Body) → body ≡ Signal target (Some WR_MODE_ON) →
     carries source is_mode_on source target body ≡ true
 is_sent_on source target body is =
     ap (carries source is_mode_on source target) is ∙ ap₂ (λ (a b : Bool). a && b) (same_self source) (same_self target)

@@ -12,6 +12,7 @@ pub mod CompleteJudged
 pub mod ContentExact
 pub mod Due
 pub mod Handshakes
+pub mod InspectAim
 pub mod Judging
 pub mod LookingBack
 pub mod OneInspection
@@ -21,3 +22,4 @@ pub mod Rising
 pub mod Standing
 pub mod Table
 pub mod TakingPackets
+pub mod WorkedInspection

@@ -10,10 +10,12 @@ pub mod StandsFor
 pub mod Words
 pub mod Worked
 pub mod WorkedMarks
+pub mod WorkedInspection
 pub mod Content
 pub mod PacketLines
 pub mod InspectLaws
 pub mod Handshakes
 pub mod Inspected
+pub mod InspectAim
 pub mod InspectionAt
 pub mod Inspecting

@@ -1,8 +1,11 @@
 //! What holds of every inspection. The functions here do nothing: their contracts are laws, and their
 //! proofs show that the laws hold.
+ghost use Rattle.std.specs.Prelude.{ℕ, List};
 ghost use Rattle.wrp_pcap.specs.Handshakes.{CompleteNamesHandshake};
+ghost use Rattle.wrp_pcap.specs.InspectAim.{CutsAreFirst, JudgesHandshakes, VerdictsAreDue};
 ghost use Rattle.wrp_pcap.specs.InspectLaws.{OneIsDue, RefusalsStay, CompleteIsJudged};
 ghost use Rattle.wrp_pcap.specs.InspectLaws.{PacketsAreLimited};
+ghost use Rattle.wrp_pcap.specs.WorkedInspection.{WorkedInspection};
 
 /// Of each input one status and one text are due.
 pub fn one_is_due()
@@ -31,4 +34,28 @@ pub fn complete_is_judged()
 /// eight messages of a handshake of one master and its slave, each from the port that sends it to the other.
 pub fn complete_names_handshake()
     ensures { CompleteNamesHandshake }
+{}
+
+/// Each verdict that is printed is the one that is due after the messages of the packets before it, and each
+/// WR_MODE_ON has a verdict.
+pub fn verdicts_are_due()
+    ensures { VerdictsAreDue }
+{}
+
+/// Whatever the octets are, each verdict on one of the packets that they begin with is the one that is due,
+/// and each `complete` names eight packets of theirs that carry the messages of one handshake.
+pub fn handshakes_are_judged()
+    ensures { (input : List ℕ) → JudgesHandshakes input }
+{}
+
+/// The lines that an inspection leaves where its source failed are those of the first packets, however the
+/// input goes on.
+pub fn cuts_are_first()
+    ensures { CutsAreFirst }
+{}
+
+/// A capture of one packet that is inspected: what stands when it was read whole, when the source failed, when
+/// there was no memory, and when a write failed.
+pub fn worked_inspection()
+    ensures { WorkedInspection }
 {}

@@ -31,7 +31,8 @@ pub use content::{Content, content_of};
 pub use ethernet::{frame_of, message_in};
 pub use histories::marks;
 pub use inspect_laws::{
-    complete_is_judged, complete_names_handshake, one_is_due, packets_are_limited, refusals_stay,
+    complete_is_judged, complete_names_handshake, cuts_are_first, handshakes_are_judged,
+    one_is_due, packets_are_limited, refusals_stay, verdicts_are_due, worked_inspection,
 };
 pub use inspecting::inspect;
 pub use inspection::Inspection;

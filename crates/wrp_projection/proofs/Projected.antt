@@ -25,6 +25,8 @@ use Rattle.wrp_course.specs.Run.{Happened, world_after}
 use Rattle.wrp_course.specs.Setting.{Setting}
 use Rattle.wrp_course.specs.WorldAt.{WorldAt}
 use Rattle.wrp_records.specs.declared.status.Status.TheVariants.{Done}
+use Rattle.wrp_commands.specs.Request.{CommandLine}
+use Rattle.wrp_commands.specs.Request as requests
 use Rattle.wrp_asked.specs.Answer.{Answer}
 use Rattle.wrp_audit.specs.Audited.{AreEvents, IsAudit, IsSettingOf, setting_at}
 use Rattle.wrp_audit.specs.AuditLaws.{OneAudit}
@@ -35,17 +37,16 @@ use Rattle.wrp_records.specs.Lines.{content_of, lines_of}
 use Rattle.wrp_replay.specs.NodeText.{node_counts}
 use Rattle.wrp_records.specs.RecordsAnswer.{IsWholly, RecordsAnswer}
 use Rattle.wrp_replay.specs.Replays.{Accepts, AreInputs, Closes, IsNetworkOf, meaning_of}
-use Rattle.wrp_asked.specs.declared.command_line.Form.TheVariants as forms
-use Rattle.wrp_asked.specs.Tasks.{AsksFor, Audit, Emit, IsAuditing, IsEmission, IsReplay, Loop, Replay, Simulate, Task, meaning_at}
+use Rattle.wrp_asked.specs.Tasks.{AsksFor, Audit, Emit, IsAuditing, IsEmission, IsReplay, Replay, Task, meaning_at, task_row}
 use Rattle.wrp_audit.proofs.AuditSteps.{made_after}
 use Rattle.wrp_audit.proofs.BareAudit.{after_bare, bare_is, bare_setting}
 use Rattle.wrp_audit.proofs.BareEvents.{line_bare}
 use Rattle.wrp_audit.proofs.BareRuns.{counts_text, inputs_text, lines_text, run_bare}
 use Rattle.wrp_replay.proofs.BareSetting.{name_bare, named_bare, read_bare}
-use Rattle.wrp_asked.proofs.OneAnswer.{one_setting}
+use Rattle.wrp_asked.proofs.OneSetting.{one_setting}
 use Rattle.wrp_audit.proofs.OneAudit.{read}
 use Rattle.wrp_records.proofs.Reaching.{lines_alone}
-use Rattle.wrp_asked.proofs.WordLemmas.{alone_no_audit, alone_unnetworked, audit_alone, audit_unlooped, emission_alone, emission_unlooped, no_option, no_simulation, one_value, simulation_alone}
+use Rattle.wrp_asked.proofs.WordLemmas.{alone_unnetworked, one_command}
 use Rattle.wrp_projection.specs.Law.{FrontWithRecords, HasRecords, ReplayOfEmittedInputs}
 use Rattle.wrp_projection.specs.Projection.{IsProjection, IsProjectionTo}
 use Rattle.wrp_projection.proofs.Own.{audit_is, given_are, own_lines, put_out_by}
@@ -53,7 +54,7 @@ use Rattle.wrp_projection.proofs.Shown.{by_octets, named_alone, names_are_words}
 use Rattle.wrp_projection.proofs.Texts.{IsWord}
 use Rattle.wrp_projection.proofs.Written.{AllRecorded, all_turned, are_inputs, records_of, said_records, whole_records, within_records, writes, written}
 
--- What the words ask for
+-- What is asked for
 
 -- an audit that ends with Done: its run, and its text
 record TheAudit (input audit : List ℕ) : Type 0 where
@@ -65,16 +66,14 @@ record TheAudit (input audit : List ℕ) : Type 0 where
   run : IsAudit s (map content_of (behind_separator (lines_of input))) events
   is : audit ≡ audit_lines s events ++ all_counts s (world_after s events)
 
-audited : OneAudit → (words : List (List ℕ)) (input audit : List ℕ) → IsAuditing words → Answer words input [] Done audit → TheAudit input audit
-audited one words input audit asks (inr (inl alone)) = absurd (alone_no_audit words alone.0 alone.1 asks)
-audited one words input audit asks (inr (inr looped)) = absurd (audit_unlooped words asks looped.1 looped.2.1)
-audited one words input audit asks (inl p) = go p.0 p.1 p.2
+audited : OneAudit → (asked : CommandLine) (input audit : List ℕ) → IsAuditing asked → Answer asked input [] Done audit → TheAudit input audit
+audited one asked input audit asks (inr (inl alone)) = absurd (alone_unnetworked asked alone.0 alone.1 (requests.Audit, asks))
+audited one asked input audit asks (inr (inr looped)) =
+    let bad : requests.Audit ≡ requests.Loop looped.1 = one_command asked requests.Audit (requests.Loop looped.1) asks looped.2.1 in
+    absurd (cc)
+audited one asked input audit asks (inl p) = go p.0 p.1 p.2
   where
-    go : (task : Task) → AsksFor words (network_text input) task → RecordsAnswer (meaning_at task) (behind_separator (lines_of input)) Done audit → TheAudit input audit
-    go (Replay site) q h = absurd (audit_alone words q.1 asks q.2)
-    go (Emit s n) q h = absurd (no_option words q.1 asks q.2)
-    go (Simulate s seed) q h = absurd (no_simulation words seed asks q.1)
-    go (Loop s seed) q h = absurd (audit_unlooped words asks seed q.1)
+    go : (task : Task) → AsksFor asked (network_text input) task → RecordsAnswer (meaning_at task) (behind_separator (lines_of input)) Done audit → TheAudit input audit
     go (Audit s) q h = record {
       s = s;
       setting = q.2;
@@ -86,6 +85,7 @@ audited one words input audit asks (inl p) = go p.0 p.1 p.2
           ∙ ap₂ (λ (a b : List ℕ). a ++ b) h.handled.accepted.2
           (h.closed.2 ∙ (one s (map content_of (behind_separator (lines_of input))) h.closed.0 h.handled.accepted.0 h.closed.1 h.handled.accepted.1).counts);
     }
+    go task q h = let bad : requests.Audit ≡ (task_row task).command = one_command asked requests.Audit (task_row task).command asks q.1 in absurd (cc)
 
 -- the inputs of a node in an audit that ends with Done
 record TheEmission (input name records : List ℕ) : Type 0 where
@@ -97,27 +97,27 @@ record TheEmission (input name records : List ℕ) : Type 0 where
   run : IsAudit s (map content_of (behind_separator (lines_of input))) events
   is : records ≡ given_lines s node events
 
-emitted : (words : List (List ℕ)) (input name records : List ℕ) → IsEmission words name → Answer words input [] Done records → TheEmission input name records
-emitted words input name records asks (inr (inl alone)) = absurd (alone_unnetworked words alone.0 alone.1 (inr (inl (name, inr asks))))
-emitted words input name records asks (inr (inr looped)) = absurd (emission_unlooped words name asks looped.1 looped.2.1)
-emitted words input name records asks (inl p) = go p.0 p.1 p.2
+emitted : (asked : CommandLine) (input name records : List ℕ) → IsEmission asked name → Answer asked input [] Done records → TheEmission input name records
+emitted asked input name records asks (inr (inl alone)) = absurd (alone_unnetworked asked alone.0 alone.1 (requests.Emit name, asks))
+emitted asked input name records asks (inr (inr looped)) =
+    let bad : requests.Emit name ≡ requests.Loop looped.1 = one_command asked (requests.Emit name) (requests.Loop looped.1) asks looped.2.1 in
+    absurd (cc)
+emitted asked input name records asks (inl p) = go p.0 p.1 p.2
   where
-    go : (task : Task) → AsksFor words (network_text input) task → RecordsAnswer (meaning_at task) (behind_separator (lines_of input)) Done records → TheEmission input name records
-    go (Replay site) q h = absurd (emission_alone words name q.1 asks q.2)
-    go (Audit s) q h = absurd (no_option words name q.1 asks)
-    go (Simulate s seed) q h = absurd (simulation_alone forms.Emit words name seed asks (λ e. omega (arith, e)) q.1)
-    go (Loop s seed) q h = absurd (emission_unlooped words name asks seed q.1)
-    go (Emit s n) q h =
-        let same : q.1 ≡ name = one_value (codes "audit") (codes "--emit") words q.1 name q.2 asks in
+    go : (task : Task) → AsksFor asked (network_text input) task → RecordsAnswer (meaning_at task) (behind_separator (lines_of input)) Done records → TheEmission input name records
+    go (Emit own s n) q h =
+        let same : requests.Emit own ≡ requests.Emit name = one_command asked (requests.Emit own) (requests.Emit name) q.1 asks in
+        let names : own ≡ name = cc in
         record {
           s = s;
           node = n;
-          setting = q.3;
-          named = subst (λ (m : List ℕ). node_named s.cfg m ≡ Some n) same q.4;
+          setting = q.2.0;
+          named = subst (λ (m : List ℕ). node_named s.cfg m ≡ Some n) names q.2.1;
           events = h.handled.accepted.0;
           run = h.handled.accepted.1;
           is = h.is ∙ ap₂ (λ (a b : List ℕ). a ++ b) h.handled.accepted.2 h.closed ∙ append-nil (given_lines s n h.handled.accepted.0);
         }
+    go task q h = let bad : requests.Emit name ≡ (task_row task).command = one_command asked (requests.Emit name) (task_row task).command asks q.1 in absurd (cc)
 
 -- The events of an audit are a run that lines say
 
@@ -265,7 +265,7 @@ both_of inputs accepted one input name audit records a e =
 
 -- The law
 
-replay_is : (replaying : List (List ℕ)) (name input replayed audit records : List ℕ) → IsReplay replaying name → length (network_text input) ≤ network_limit
+replay_is : (replaying : CommandLine) (name input replayed audit records : List ℕ) → IsReplay replaying name → length (network_text input) ≤ network_limit
     → length (lines_of records) < 2 ^ 32 → HasRecords input records replayed → OneOfBoth input name audit records
     → (text : List ℕ) × Answer replaying replayed [] Done text × IsProjectionTo (network_text input) name audit text
 replay_is replaying name input replayed audit records asks within few has b =
@@ -291,13 +291,11 @@ replay_is replaying name input replayed audit records asks within few has b =
     } in (
       written site taken ++ node_counts site (w.node n),
       inl (
-        Replay site,
+        Replay name site,
         (
           subst (λ (t : List ℕ). length t ≤ network_limit) (sym has.network) within,
-          name,
           asks,
-          subst (λ (t : List ℕ). IsNetworkOf t site) (sym has.network) network,
-          named,
+          (subst (λ (t : List ℕ). IsNetworkOf t site) (sym has.network) network, named),
         ),
         due,
         refl,

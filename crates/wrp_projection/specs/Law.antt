@@ -2,6 +2,7 @@
 -- lines of the audit again (this project's profile).
 use Rattle.std.specs.Prelude.{◌≡◌, ℕ, ◌<◌, ◌^◌, List, [], ◌++◌, length}
 use Rattle.wrp_records.specs.declared.status.Status.TheVariants.{Done}
+use Rattle.wrp_commands.specs.Request.{CommandLine}
 use Rattle.wrp_asked.specs.Answer.{Answer}
 use Rattle.wrp_asked.specs.Input.{Divides, network_text, behind_separator}
 use Rattle.wrp_records.specs.Lines.{lines_of}
@@ -23,7 +24,7 @@ FrontWithRecords =
 -- node's lines of the audit
 abbrev pub ReplayOfEmittedInputs : Type 0
 ReplayOfEmittedInputs =
-    (auditing emitting replaying : List (List ℕ)) (name input replayed audit records : List ℕ) →
+    (auditing emitting replaying : CommandLine) (name input replayed audit records : List ℕ) →
     IsAuditing auditing → IsEmission emitting name → IsReplay replaying name →
     Answer auditing input [] Done audit → Answer emitting input [] Done records →
     length (lines_of records) < 2 ^ 32 → HasRecords input records replayed →

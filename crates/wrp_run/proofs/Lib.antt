@@ -1,1 +1,3 @@
 pub mod AskingWork
+pub mod Reporting
+pub mod Shown

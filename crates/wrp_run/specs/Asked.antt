@@ -7,44 +7,48 @@ use Rattle.wrp_config.specs.declared.network.Network.{Network}
 use Rattle.wrp_config.specs.Names.{node_named}
 use Rattle.wrp_config.specs.Reading.{IsReadingOf}
 use Rattle.wrp_course.specs.Setting.{Setting}
+use Rattle.wrp_records.specs.LineMeaning.{LineMeaning}
 use Rattle.wrp_records.specs.Reader.{ReaderAt}
-use Rattle.wrp_asked.specs.declared.parse.Command.{Command}
-use Rattle.wrp_asked.specs.declared.parse.Command.TheVariants as command
+use Rattle.wrp_audit.specs.Audits.{meaning_for}
+use Rattle.wrp_simulate.specs.Simulates.{simulation_of}
+use Rattle.wrp_commands.specs.declared.command.Asked.{Asked}
+use Rattle.wrp_commands.specs.declared.command.Command.{Command}
+use Rattle.wrp_commands.specs.declared.command.Command.TheVariants as command
+use Rattle.wrp_commands.specs.Request.{CommandLine, request_of}
 use Rattle.wrp_run.specs.declared.network.Work as work
 use Rattle.wrp_run.specs.declared.network.Work.TheVariants as works
 use Rattle.wrp_asked.specs.Alone.{IsAlone}
 use Rattle.wrp_asked.specs.Answer.{IsCommand}
-use Rattle.wrp_asked.specs.CommandLine.{IsAsked}
 use Rattle.wrp_asked.specs.Input.{IsDivided, network_limit}
-use Rattle.wrp_asked.specs.Tasks.{Task, Audit, Emit, Simulate, IsAuditing, IsEmission, IsLooping, IsSimulation}
+use Rattle.wrp_asked.specs.Tasks.{IsAuditing, IsEmission, IsLooping, IsSimulation}
 
--- the words are this command, or none
-abbrev pub AsksSo : List (List ℕ) → Option Command → Type 0
-AsksSo words (Some (command.OnNetwork asked)) = IsAsked words asked
-AsksSo words (Some (command.Alone alone)) = IsAlone words alone
-AsksSo words (Some (command.Loop seed)) = IsLooping words seed
-AsksSo words None = IsCommand words → ⊥
+-- this is asked of a network
+abbrev pub IsAsked : CommandLine → Asked → Type 0
+IsAsked asked what = asked.request ≡ Some (request_of (command.OnNetwork what))
 
--- the words ask for this work on a whole network; a node whose inputs are asked for is the first of its name
-abbrev pub AsksWork : List (List ℕ) → Network → work.Work → Type 0
-AsksWork words net (works.Audit None) = IsAuditing words
-AsksWork words net (works.Audit (Some n)) =
-    (name : List ℕ) × IsEmission words name × (node_named net.cfg name ≡ Some n)
-AsksWork words net (works.Simulate seed) = IsSimulation words seed
+-- this command is asked for, or none
+abbrev pub AsksSo : CommandLine → Option Command → Type 0
+AsksSo asked (Some (command.OnNetwork what)) = IsAsked asked what
+AsksSo asked (Some (command.Alone alone)) = IsAlone asked alone
+AsksSo asked (Some (command.Loop seed)) = IsLooping asked seed
+AsksSo asked None = IsCommand asked → ⊥
+
+-- this work on a whole network is asked for; a node whose inputs are asked for is the first of its name
+abbrev pub AsksWork : CommandLine → Network → work.Work → Type 0
+AsksWork asked net (works.Audit None) = IsAuditing asked
+AsksWork asked net (works.Audit (Some n)) =
+    (name : List ℕ) × IsEmission asked name × (node_named net.cfg name ≡ Some n)
+AsksWork asked net (works.Simulate seed) = IsSimulation asked seed
 
 -- the work is one on this network: a node whose inputs are asked for is one of it
 abbrev pub FitsWork : Network → work.Work → Type 0
 FitsWork net (works.Audit emit) = IfSome emit (λ n. n < node_count net.cfg)
 FitsWork net (works.Simulate seed) = Unit {0}
 
--- the task of a work: the inputs of a node, where they are asked for, or else the lines of all; or a simulation
-abbrev pub task_of : Option ℕ → Setting → Task
-task_of None s = Audit s
-task_of (Some n) s = Emit s n
-
-abbrev pub task_by : work.Work → Setting → Task
-task_by (works.Audit emit) s = task_of emit s
-task_by (works.Simulate seed) s = Simulate s seed
+-- what record lines mean in a work: the inputs of a node, where they are asked for, or else the lines of all; or a simulation
+abbrev pub work_meaning : work.Work → Setting → LineMeaning
+work_meaning (works.Audit emit) s = meaning_for emit s
+work_meaning (works.Simulate seed) s = simulation_of s seed
 
 -- What stands in front of the records came: of what the source had first, the octets up to the line that ends the
 -- network text, or to the end, were taken, and the text describes this network; the reader holds what follows.

@@ -1,14 +1,14 @@
 //! Commands that stand alone: each is handed to its machine.
 ghost use Rattle.wrp_records.specs.declared.status.Status.{Status};
 ghost use Rattle.wrp_records.specs.Passages.{FailsBy, PassesAll, passage};
-ghost use Rattle.wrp_asked.specs.declared.alone.Alone.{Alone};
+ghost use Rattle.wrp_commands.specs.declared.alone.Alone.{Alone};
 ghost use Rattle.wrp_asked.specs.Alone.{IsAlone, alone_meaning};
 ghost use Rattle.wrp_asked.specs.Ends.{EndsUnlinked};
-ghost use Rattle.wrp_asked.specs.Words.{texts_of};
+ghost use Rattle.wrp_words.specs.Requests.{asked_in};
 
 use std::alloc::Global;
-use wrp_asked::Alone;
 use wrp_calib::calibrate;
+use wrp_commands::Alone;
 use wrp_io::{Sink, Source};
 use wrp_l1sync::l1sync;
 use wrp_migrate::migrate;
@@ -39,12 +39,12 @@ pub fn run_alone<S: Source, K: Sink>(
     source: &mut S,
     sink: &mut K,
 ) -> Status
-    requires { IsAlone (texts_of words.now) alone }
-    ensures ends { EndsUnlinked (texts_of words.now) (passage S.left S.faults source.old source.new)
+    requires { IsAlone (asked_in words.now) alone }
+    ensures ends { EndsUnlinked (asked_in words.now) (passage S.left S.faults source.old source.new)
         (passage K.held K.faults sink.old sink.new) result }
     ensures read { FailsBy Status.ReadFault result (passage S.left S.faults source.old source.new) }
     ensures write { FailsBy Status.WriteFault result (passage K.held K.faults sink.old sink.new) }
 {
-    let _words = words;
+    let _asked = asked;
     handle(alloc, alone, source, sink)
 }

@@ -7,38 +7,46 @@ ghost use Rattle.wrp_loop.specs.Calls.{Adds};
 ghost use Rattle.wrp_records.specs.declared.status.Status.{Status};
 ghost use Rattle.wrp_records.specs.Passages.{FailsBy, passage};
 ghost use Rattle.wrp_records.specs.Statuses.{is_answer};
-ghost use Rattle.wrp_asked.specs.declared.alone.Alone.{Alone};
+ghost use Rattle.wrp_commands.specs.declared.alone.Alone.{Alone};
 ghost use Rattle.wrp_asked.specs.Alone.{HasAim, IsAlone};
 ghost use Rattle.wrp_asked.specs.Answer.{Answer, IsCommand};
 ghost use Rattle.wrp_run.specs.Asked.{AsksSo};
+ghost use Rattle.wrp_run.specs.Shown.{AuditFollows, LoopFollows};
 ghost use Rattle.wrp_asked.specs.EmitHeadline.{EmitHeadline};
 ghost use Rattle.wrp_asked.specs.Ends.{Ends, IsToldOf};
 ghost use Rattle.wrp_loop.specs.LoopPasses.{IsUncalled};
 ghost use Rattle.wrp_asked.specs.Headline.{Headline};
 ghost use Rattle.wrp_asked.specs.LoopHeadline.{LoopHeadline};
-ghost use Rattle.wrp_asked.specs.PrintedTracks.{ReportsTrueOffsets, TracksAreWithinBounds};
+ghost use Rattle.wrp_asked.specs.PrintedTracks.{TracksAreWithinBounds};
+ghost use Rattle.wrp_asked.specs.ReplayHeadline.{ReplayHeadline};
 ghost use Rattle.wrp_asked.specs.SimHeadline.{SimHeadline};
-ghost use Rattle.wrp_asked.specs.Tasks.{IsAuditing, IsEmission, IsLooping, IsSimulation};
-ghost use Rattle.wrp_asked.specs.Words.{texts_of};
+ghost use Rattle.wrp_asked.specs.Tasks.{IsAuditing, IsEmission, IsLooping, IsReplay, IsSimulation};
+ghost use Rattle.wrp_words.specs.Requests.{ReportsTrueOffsets, asked_in};
+ghost use Rattle.wrp_words.specs.Words.{texts_of};
 
 use crate::alone::run_alone;
 use crate::looped::run_loop;
 use crate::network::run_network;
 use std::alloc::{AllocError, Global};
 use wrp_asked::{
-    Command, USAGE_LINE, emissions_tell_no_track, events_carry_parts, looped_events_carry_parts,
-    made_events_carry_parts, read_words, runs_print_within_bounds,
+    emissions_tell_no_track, events_carry_parts, looped_events_carry_parts,
+    made_events_carry_parts, replays_are_told, runs_print_within_bounds,
 };
 use wrp_audit::one_audit;
+use wrp_commands::Command;
+use wrp_config::reading_is_accepted;
 use wrp_io::{Link, Sink, Source};
 use wrp_loop::loop_is_audited;
 use wrp_node::one_run;
+use wrp_printed_laws::offsets_follow;
 use wrp_records::{Status, answer};
 use wrp_servo::told_last;
+use wrp_trace::events_can_come;
+use wrp_words::{USAGE_LINE, read_words};
 
 // The command that the words name, or None.
 fn read_command<'a>(alloc: Global, words: &'a [&'a str]) -> Result<Option<Command<'a>>, AllocError>
-    ensures { IfOk result (AsksSo (texts_of words.now)) }
+    ensures { IfOk result (AsksSo (asked_in words.now)) }
 {
     read_words(alloc, words)
 }
@@ -52,7 +60,7 @@ fn run_command<S: Source, K: Sink, N: Link>(
     link: &mut N,
 ) -> Status
     ensures ends { Ends (record {
-      words = texts_of words.now;
+      asked = asked_in words.now;
       source = passage S.left S.faults source.old source.new;
       sink = passage K.held K.faults sink.old sink.new;
       link = passage N.told N.faults link.old link.new;
@@ -61,8 +69,8 @@ fn run_command<S: Source, K: Sink, N: Link>(
     ensures write { FailsBy Status.WriteFault result (passage K.held K.faults sink.old sink.new) }
     ensures linked { FailsBy Status.LinkFault result
         (passage N.told N.faults link.old link.new) }
-    ensures unread { (IsCommand (texts_of words.now) → ⊥) → source.new ≡ source.old }
-    ensures unlinked { ((seed : ℕ) → IsLooping (texts_of words.now) seed → ⊥) → link.new ≡ link.old }
+    ensures unread { (IsCommand (asked_in words.now) → ⊥) → source.new ≡ source.old }
+    ensures unlinked { ((seed : ℕ) → IsLooping (asked_in words.now) seed → ⊥) → link.new ≡ link.old }
     ensures unstarted { IsUncalled result → link.new ≡ link.old }
 {
     match read_command(alloc, words) {
@@ -85,7 +93,7 @@ pub fn run<S: Source, K: Sink, N: Link>(
 ) -> Status
     // How it ends, for each status.
     ensures ends { Ends (record {
-      words = texts_of words.now;
+      asked = asked_in words.now;
       source = passage S.left S.faults source.old source.new;
       sink = passage K.held K.faults sink.old sink.new;
       link = passage N.told N.faults link.old link.new;
@@ -102,7 +110,7 @@ pub fn run<S: Source, K: Sink, N: Link>(
     // What is due is what is answered and written, but for a fault and for want of memory.
     ensures due { (status : Status) (octets : List ℕ) (calls : List LinkCall) → is_answer result ≡ true
         → IsToldOf (passage N.told N.faults link.old link.new) calls
-        → IfSome (S.left source.old) (λ input. Answer (texts_of words.now) input calls status octets
+        → IfSome (S.left source.old) (λ input. Answer (asked_in words.now) input calls status octets
         → (result ≡ status) × Appends (K.held sink.old) (K.held sink.new) octets) }
     ensures complete { (status : Status) (octets : List ℕ) (calls : List LinkCall)
         → (result ≡ Status.OutOfMemory → ⊥)
@@ -110,48 +118,64 @@ pub fn run<S: Source, K: Sink, N: Link>(
         → (Rose (K.faults sink.old) (K.faults sink.new) → ⊥)
         → (Rose (N.faults link.old) (N.faults link.new) → ⊥)
         → IsToldOf (passage N.told N.faults link.old link.new) calls
-        → IfSome (S.left source.old) (λ input. Answer (texts_of words.now) input calls status octets
+        → IfSome (S.left source.old) (λ input. Answer (asked_in words.now) input calls status octets
         → (result ≡ status) × Appends (K.held sink.old) (K.held sink.new) octets) }
 
     // The aim of an audit, of what is written, for each status.
-    ensures headline { IsAuditing (texts_of words.now) → IfSome (S.left source.old) (λ input.
+    ensures headline { IsAuditing (asked_in words.now) → IfSome (S.left source.old) (λ input.
         (octets : List ℕ) × Appends (K.held sink.old) (K.held sink.new) octets
-        × Headline (texts_of words.now) input result octets) }
+        × Headline (asked_in words.now) input result octets) }
 
     // The same of an audit that is asked for the inputs of a node, which prints no track line.
-    ensures emitted { (name : List ℕ) → IsEmission (texts_of words.now) name → IfSome (S.left source.old) (λ input.
+    ensures emitted { (name : List ℕ) → IsEmission (asked_in words.now) name → IfSome (S.left source.old) (λ input.
         (octets : List ℕ) × Appends (K.held sink.old) (K.held sink.new) octets
-        × EmitHeadline (texts_of words.now) input result octets) }
+        × EmitHeadline (asked_in words.now) input result octets) }
+
+    // Of a replay, for each status: it wrote what its node puts out at the inputs that the records say, and a frame
+    // that the node drops for one of the reasons 1 to 12 leaves one counter raised and nothing else changed.
+    ensures replayed { (name : List ℕ) → IsReplay (asked_in words.now) name → IfSome (S.left source.old) (λ input.
+        (octets : List ℕ) × Appends (K.held sink.old) (K.held sink.new) octets
+        × ReplayHeadline (asked_in words.now) input result octets) }
 
     // The same of a simulation, whose events keep all premises: they are a run of the network.
-    ensures simulated { (seed : ℕ) → IsSimulation (texts_of words.now) seed → IfSome (S.left source.old) (λ input.
+    ensures simulated { (seed : ℕ) → IsSimulation (asked_in words.now) seed → IfSome (S.left source.old) (λ input.
         (octets : List ℕ) × Appends (K.held sink.old) (K.held sink.new) octets
-        × SimHeadline (texts_of words.now) input result octets) }
+        × SimHeadline (asked_in words.now) input result octets) }
 
     // The aim of a command that stands alone, as its row of the table has it: what a migration wrote is a text
     // of the same database; what an inspection wrote shows the handshakes of the capture; what the
     // synchronisation of two ends wrote shows both, record by record; what a calibration wrote holds the
     // truth; and each report of a plain servo is within its bound.
-    ensures aimed { (alone : Alone) → IsAlone (texts_of words.now) alone → IfSome (S.left source.old) (λ input.
+    ensures aimed { (alone : Alone) → IsAlone (asked_in words.now) alone → IfSome (S.left source.old) (λ input.
         (octets : List ℕ) × Appends (K.held sink.old) (K.held sink.new) octets
         × HasAim alone input result octets) }
 
     // The same of a run over a link: what it wrote is told by some calls that the link told more.
-    ensures looped { (seed : ℕ) → IsLooping (texts_of words.now) seed → IfSome (S.left source.old) (λ input.
+    ensures looped { (seed : ℕ) → IsLooping (asked_in words.now) seed → IfSome (S.left source.old) (λ input.
         (octets : List ℕ) × (calls : List LinkCall) × Appends (K.held sink.old) (K.held sink.new) octets
         × Adds (N.told link.old) (N.told link.new) calls
-        × LoopHeadline (texts_of words.now) input calls result octets) }
+        × LoopHeadline (asked_in words.now) input calls result octets) }
 
     // Of an audit, a simulation and a run over a link, for each status: in each line NODE TICK track EST BOUND true OFF that
     // is written, with its LF, the size of OFF is at most BOUND.
     ensures tracks { ReportsTrueOffsets (texts_of words.now) → IfSome (S.left source.old) (λ input.
         (octets : List ℕ) × Appends (K.held sink.old) (K.held sink.new) octets × TracksAreWithinBounds octets) }
 
+    // Of an audit, for each status: in each such line BOUND is that of the node's path in the network file, and OFF is the
+    // offset of the node's last `up` event, and to it are added the drift of each `pass` since and a period for each of the
+    // CYCLES of each `step` line of the node since. The event lines are those of the input.
+    ensures follows { IsAuditing (asked_in words.now) → IfSome (S.left source.old) (λ input.
+        (octets : List ℕ) × Appends (K.held sink.old) (K.held sink.new) octets × AuditFollows input octets) }
+
+    // The same of a run over a link, whose event lines are those that it writes behind `= `.
+    ensures looped_follows { (seed : ℕ) → IsLooping (asked_in words.now) seed → IfSome (S.left source.old) (λ input.
+        (octets : List ℕ) × Appends (K.held sink.old) (K.held sink.new) octets × LoopFollows input octets) }
+
     // Words that are no command are refused with nothing read. No link is used but by a loop, and by a loop not where
     // the status tells of its words, its network, a record or the source. That it is used only behind the whole scenario,
     // also where memory lacked, a line was too large or a write failed, stands in `ends`, of a link that tells its calls.
-    ensures unread { (IsCommand (texts_of words.now) → ⊥) → source.new ≡ source.old }
-    ensures link { ((seed : ℕ) → IsLooping (texts_of words.now) seed → ⊥) → link.new ≡ link.old }
+    ensures unread { (IsCommand (asked_in words.now) → ⊥) → source.new ≡ source.old }
+    ensures link { ((seed : ℕ) → IsLooping (asked_in words.now) seed → ⊥) → link.new ≡ link.old }
     ensures unstarted { IsUncalled result → link.new ≡ link.old }
 {
     one_run();
@@ -160,8 +184,12 @@ pub fn run<S: Source, K: Sink, N: Link>(
     emissions_tell_no_track();
     made_events_carry_parts();
     looped_events_carry_parts();
+    replays_are_told();
     runs_print_within_bounds();
     loop_is_audited();
     told_last();
+    reading_is_accepted();
+    events_can_come();
+    offsets_follow();
     run_command(alloc, words, source, sink, link)
 }

@@ -8,7 +8,7 @@ ghost use Rattle.wrp_records.specs.Passages.{FailsBy, passage};
 ghost use Rattle.wrp_asked.specs.Answer.{IsNetworked};
 ghost use Rattle.wrp_run.specs.Asked.{IsFront};
 ghost use Rattle.wrp_asked.specs.Ends.{EndsUnlinked};
-ghost use Rattle.wrp_asked.specs.Words.{texts_of};
+ghost use Rattle.wrp_words.specs.Requests.{asked_in};
 
 use std::alloc::{AllocError, Global};
 use wrp_asked::{End, NetworkText, take_network};
@@ -60,20 +60,20 @@ pub fn take_front<S: Source, K: Sink>(
     sink: &mut K,
 ) -> Result<Front, Status>
     requires fresh { (reader.old.rest ≡ []) × (reader.old.ended ≡ false) }
-    requires networked { IsNetworked (texts_of words.now) }
+    requires networked { IsNetworked (asked_in words.now) }
     ensures front { IfOk result (λ front. IsFront (S.left source.old) (S.left source.new)
         front.text.items reader.new front.net.value) }
     ensures accepted { IfOk result (λ front. IsAccepted front.net.value.cfg front.net.value.db) }
     ensures source { OnOk result (S.faults source.new ≡ S.faults source.old) }
     ensures sink { OnOk result (sink.new ≡ sink.old) }
-    ensures ends { IfErr result (EndsUnlinked (texts_of words.now)
+    ensures ends { IfErr result (EndsUnlinked (asked_in words.now)
         (passage S.left S.faults source.old source.new) (passage K.held K.faults sink.old sink.new)) }
     ensures read { IfErr result (λ status. FailsBy Status.ReadFault status
         (passage S.left S.faults source.old source.new)) }
     ensures write { IfErr result (λ status. FailsBy Status.WriteFault status
         (passage K.held K.faults sink.old sink.new)) }
 {
-    let _words = words;
+    let _asked = asked;
     let NetworkText { text, end } = take_network(alloc, reader, source);
     match end {
         End::TooLong => return Err(answer(sink, Status::TooLarge, TOO_LARGE_LINE.as_bytes())),

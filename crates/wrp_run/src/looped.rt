@@ -13,7 +13,7 @@ ghost use Rattle.wrp_audit.specs.AuditStands.{setting_in};
 ghost use Rattle.wrp_asked.specs.Ends.{Ends, begun_at};
 ghost use Rattle.wrp_loop.specs.LoopPasses.{IsUncalled, LoopPasses};
 ghost use Rattle.wrp_asked.specs.Tasks.{IsLooping};
-ghost use Rattle.wrp_asked.specs.Words.{texts_of};
+ghost use Rattle.wrp_words.specs.Requests.{asked_in};
 
 use crate::front::{Front, new_reader, read_network, take_front};
 use std::alloc::Global;
@@ -89,11 +89,11 @@ fn run_behind<S: Source, K: Sink, N: Link>(
     requires at_end { reader.old.ended ≡ true → IsAtEnd (S.left source.old) }
     requires reads { IsReadingOf front.text.items (Ok front.net.value) }
     requires accepted { IsAccepted front.net.value.cfg front.net.value.db }
-    requires asks { IsLooping (texts_of words.now) seed }
+    requires asks { IsLooping (asked_in words.now) seed }
     ensures ends { (first : Option (List ℕ))
         → IsFront first (S.left source.old) front.text.items reader.old front.net.value
         → Ends (record {
-          words = texts_of words.now;
+          asked = asked_in words.now;
           source = begun_at first (passage S.left S.faults source.old source.new);
           sink = passage K.held K.faults sink.old sink.new;
           link = passage N.told N.faults link.old link.new;
@@ -103,7 +103,7 @@ fn run_behind<S: Source, K: Sink, N: Link>(
     ensures linked { FailsBy Status.LinkFault result (passage N.told N.faults link.old link.new) }
     ensures unstarted { IsUncalled result → link.new ≡ link.old }
 {
-    let _words = words;
+    let _asked = asked;
     let own = match read_network(alloc, &front.text) {
         Ok(own) => own,
         Err(fault) => return refuse_network(alloc, sink, &fault),
@@ -121,10 +121,10 @@ fn run_read<S: Source, K: Sink, N: Link>(
     sink: &mut K,
     link: &mut N,
 ) -> Status
-    requires asks { IsLooping (texts_of words.now) seed }
+    requires asks { IsLooping (asked_in words.now) seed }
     requires fresh { (reader.old.rest ≡ []) × (reader.old.ended ≡ false) }
     ensures ends { Ends (record {
-      words = texts_of words.now;
+      asked = asked_in words.now;
       source = passage S.left S.faults source.old source.new;
       sink = passage K.held K.faults sink.old sink.new;
       link = passage N.told N.faults link.old link.new;
@@ -150,9 +150,9 @@ pub fn run_loop<S: Source, K: Sink, N: Link>(
     sink: &mut K,
     link: &mut N,
 ) -> Status
-    requires { IsLooping (texts_of words.now) seed }
+    requires { IsLooping (asked_in words.now) seed }
     ensures ends { Ends (record {
-      words = texts_of words.now;
+      asked = asked_in words.now;
       source = passage S.left S.faults source.old source.new;
       sink = passage K.held K.faults sink.old sink.new;
       link = passage N.told N.faults link.old link.new;

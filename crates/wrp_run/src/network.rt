@@ -12,24 +12,24 @@ ghost use Rattle.wrp_records.specs.declared.status.Status.{Status};
 ghost use Rattle.wrp_records.specs.ByLines.{of_lines};
 ghost use Rattle.wrp_records.specs.Passages.{FailsBy, Passes, passage};
 ghost use Rattle.wrp_asked.specs.Answer.{IsOfNode};
-ghost use Rattle.wrp_run.specs.Asked.{AsksWork, FitsWork, IsFront, task_by};
+ghost use Rattle.wrp_run.specs.Asked.{AsksWork, FitsWork, IsAsked, IsFront, work_meaning};
 ghost use Rattle.wrp_audit.specs.AuditStands.{setting_in};
-ghost use Rattle.wrp_asked.specs.CommandLine.{IsAsked};
 ghost use Rattle.wrp_asked.specs.Ends.{EndsUnlinked, begun_at};
 ghost use Rattle.wrp_audit.specs.LawsFit.{LawsFit};
-ghost use Rattle.wrp_asked.specs.Tasks.{IsReplay, meaning_at};
-ghost use Rattle.wrp_asked.specs.Words.{texts_of};
+ghost use Rattle.wrp_asked.specs.Tasks.{IsReplay};
+ghost use Rattle.wrp_words.specs.Requests.{asked_in};
 
 use crate::front::{Front, new_reader, read_network, take_front};
 use std::alloc::Global;
-use wrp_asked::{Asked, USAGE_LINE};
 use wrp_audit::{audit_by, count_of};
+use wrp_commands::Asked;
 use wrp_config::Network;
 use wrp_io::{Sink, Source};
 use wrp_law::DelayLaw;
 use wrp_records::{Reader, Status, answer, refuse_network};
 use wrp_replay::{Replayed, asked, kept_if, law_above, replay};
 use wrp_simulate::simulate;
+use wrp_words::USAGE_LINE;
 
 /// What is done on a whole network.
 #[derive(Clone, Copy)]
@@ -54,7 +54,7 @@ fn work_by<F: Fn(i64) -> i64, S: Source, K: Sink>(
     requires accepted { IsAccepted net.value.cfg net.value.db }
     requires laws { LawsFit F.pre F.post net.value laws.items }
     requires work { FitsWork net.value work }
-    ensures passes { Passes (of_lines (meaning_at (task_by work (setting_in net.value))))
+    ensures passes { Passes (of_lines (work_meaning work (setting_in net.value)))
         (passage S.left S.faults source.old source.new) (passage K.held K.faults sink.old sink.new)
         reader.old.rest reader.old.ended reader.new.ended [] result }
 {
@@ -80,7 +80,7 @@ fn work_on<S: Source, K: Sink>(
     requires own { IsAccepted own.value.cfg own.value.db }
     requires same { IsSameNetwork net.now own.value }
     requires work { FitsWork own.value work }
-    ensures passes { Passes (of_lines (meaning_at (task_by work (setting_in own.value))))
+    ensures passes { Passes (of_lines (work_meaning work (setting_in own.value)))
         (passage S.left S.faults source.old source.new) (passage K.held K.faults sink.old sink.new)
         reader.old.rest reader.old.ended reader.new.ended [] result }
 {
@@ -126,16 +126,16 @@ fn work_behind<S: Source, K: Sink>(
     requires at_end { reader.old.ended ≡ true → IsAtEnd (S.left source.old) }
     requires reads { IsReadingOf front.text.items (Ok front.net.value) }
     requires accepted { IsAccepted front.net.value.cfg front.net.value.db }
-    requires asks { AsksWork (texts_of words.now) front.net.value work }
+    requires asks { AsksWork (asked_in words.now) front.net.value work }
     requires fits { FitsWork front.net.value work }
     ensures ends { (first : Option (List ℕ))
         → IsFront first (S.left source.old) front.text.items reader.old front.net.value
-        → EndsUnlinked (texts_of words.now) (begun_at first (passage S.left S.faults source.old source.new))
+        → EndsUnlinked (asked_in words.now) (begun_at first (passage S.left S.faults source.old source.new))
         (passage K.held K.faults sink.old sink.new) result }
     ensures read { FailsBy Status.ReadFault result (passage S.left S.faults source.old source.new) }
     ensures write { FailsBy Status.WriteFault result (passage K.held K.faults sink.old sink.new) }
 {
-    let _words = words;
+    let _asked = asked;
     let own = match read_network(alloc, &front.text) {
         Ok(own) => own,
         Err(fault) => return refuse_network(alloc, sink, &fault),
@@ -158,16 +158,16 @@ fn replay_behind<S: Source, K: Sink>(
     requires at_end { reader.old.ended ≡ true → IsAtEnd (S.left source.old) }
     requires reads { IsReadingOf front.text.items (Ok front.net.value) }
     requires accepted { IsAccepted front.net.value.cfg front.net.value.db }
-    requires asks { IsReplay (texts_of words.now) name.now }
+    requires asks { IsReplay (asked_in words.now) name.now }
     requires named { node_named front.net.value.cfg name.now ≡ Some node }
     ensures ends { (first : Option (List ℕ))
         → IsFront first (S.left source.old) front.text.items reader.old front.net.value
-        → EndsUnlinked (texts_of words.now) (begun_at first (passage S.left S.faults source.old source.new))
+        → EndsUnlinked (asked_in words.now) (begun_at first (passage S.left S.faults source.old source.new))
         (passage K.held K.faults sink.old sink.new) result }
     ensures read { FailsBy Status.ReadFault result (passage S.left S.faults source.old source.new) }
     ensures write { FailsBy Status.WriteFault result (passage K.held K.faults sink.old sink.new) }
 {
-    let _words = words;
+    let _asked = asked;
     let _name = name;
     let net = &*front.net;
     replay(alloc, Replayed { net, node }, reader, source, sink)
@@ -182,16 +182,16 @@ fn lacks_node<S: Source, K: Sink>(
     source: &mut S,
     sink: &mut K,
 ) -> Status
-    requires asks { IsOfNode (texts_of words.now) name.now }
+    requires asks { IsOfNode (asked_in words.now) name.now }
     requires none { node_named front.net.value.cfg name.now ≡ None }
     ensures ends { (first : Option (List ℕ))
         → IsFront first (S.left source.old) front.text.items reader.old front.net.value
-        → EndsUnlinked (texts_of words.now) (begun_at first (passage S.left S.faults source.old source.new))
+        → EndsUnlinked (asked_in words.now) (begun_at first (passage S.left S.faults source.old source.new))
         (passage K.held K.faults sink.old sink.new) result }
     ensures read { FailsBy Status.ReadFault result (passage S.left S.faults source.old source.new) }
     ensures write { FailsBy Status.WriteFault result (passage K.held K.faults sink.old sink.new) }
 {
-    let _words = words;
+    let _asked = asked;
     let _name = name;
     let _front = front;
     let _reader = reader;
@@ -212,10 +212,10 @@ fn run_behind<S: Source, K: Sink>(
     requires at_end { reader.old.ended ≡ true → IsAtEnd (S.left source.old) }
     requires reads { IsReadingOf front.text.items (Ok front.net.value) }
     requires accepted { IsAccepted front.net.value.cfg front.net.value.db }
-    requires asks { IsAsked (texts_of words.now) asked }
+    requires asks { IsAsked (asked_in words.now) asked }
     ensures ends { (first : Option (List ℕ))
         → IsFront first (S.left source.old) front.text.items reader.old front.net.value
-        → EndsUnlinked (texts_of words.now) (begun_at first (passage S.left S.faults source.old source.new))
+        → EndsUnlinked (asked_in words.now) (begun_at first (passage S.left S.faults source.old source.new))
         (passage K.held K.faults sink.old sink.new) result }
     ensures read { FailsBy Status.ReadFault result (passage S.left S.faults source.old source.new) }
     ensures write { FailsBy Status.WriteFault result (passage K.held K.faults sink.old sink.new) }
@@ -263,9 +263,9 @@ fn run_read<S: Source, K: Sink>(
     source: &mut S,
     sink: &mut K,
 ) -> Status
-    requires asked { IsAsked (texts_of words.now) asked }
+    requires asked { IsAsked (asked_in words.now) asked }
     requires fresh { (reader.old.rest ≡ []) × (reader.old.ended ≡ false) }
-    ensures ends { EndsUnlinked (texts_of words.now) (passage S.left S.faults source.old source.new)
+    ensures ends { EndsUnlinked (asked_in words.now) (passage S.left S.faults source.old source.new)
         (passage K.held K.faults sink.old sink.new) result }
     ensures read { FailsBy Status.ReadFault result (passage S.left S.faults source.old source.new) }
     ensures write { FailsBy Status.WriteFault result (passage K.held K.faults sink.old sink.new) }
@@ -285,8 +285,8 @@ pub fn run_network<S: Source, K: Sink>(
     source: &mut S,
     sink: &mut K,
 ) -> Status
-    requires { IsAsked (texts_of words.now) asked }
-    ensures ends { EndsUnlinked (texts_of words.now) (passage S.left S.faults source.old source.new)
+    requires { IsAsked (asked_in words.now) asked }
+    ensures ends { EndsUnlinked (asked_in words.now) (passage S.left S.faults source.old source.new)
         (passage K.held K.faults sink.old sink.new) result }
     ensures read { FailsBy Status.ReadFault result (passage S.left S.faults source.old source.new) }
     ensures write { FailsBy Status.WriteFault result (passage K.held K.faults sink.old sink.new) }

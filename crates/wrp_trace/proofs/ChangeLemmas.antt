@@ -78,11 +78,6 @@ nothing_is_said cfg = record {
   move = nothing_fits IsMove cfg.links.items;
 }
 
-pub said_nothing : (cfg : NetCfg) (drifts : List (Option ℤ)) (moves : List (Option (ℤ × ℤ)))
-    → drifts ≡ map (λ node. None) cfg.nodes.items → moves ≡ map (λ link. None) cfg.links.items
-    → IsSaid cfg (record { drifts = drifts; moves = moves })
-said_nothing cfg drifts moves e1 e2 = rw (e1, e2) (nothing_is_said cfg)
-
 pub none_said : (cfg : NetCfg) → said_count (nothing_said cfg) ≡ 0
 none_said cfg = omega (arith, of_none ℤ cfg.nodes.items, of_none (ℤ × ℤ) cfg.links.items)
 

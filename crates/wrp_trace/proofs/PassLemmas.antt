@@ -1,5 +1,5 @@
 -- What is said of all nodes and links makes a `pass`.
-use Rattle.std.proofs.Common.{◌≡◌, ◌∙◌, ℤ, pos, List, [], ◌∷◌, Option, None, Some, map, arith}
+use Rattle.std.proofs.Common.{◌∙◌, ℤ, pos, List, [], ◌∷◌, Option, None, Some, map, arith}
 use Rattle.std.specs.Prelude.{unwrap_or}
 use Rattle.std.specs.List.{AllByRecursion}
 use Rattle.std.proofs.lemmas.List.{length-map}
@@ -31,8 +31,3 @@ passes cfg dt said span is = record {
   drift = drift said.drifts is.drift;
   move = move said.moves is.move;
 }
-
-pub passes_as : (cfg : NetCfg) (dt : ℤ) (said : SaidAt) (drifts : List ℤ) (moves : List (ℤ × ℤ))
-    → drifts ≡ all_drifts said → moves ≡ all_moves said
-    → IsFromTo 1 9_223_372_036_854_775_807 dt → IsSaid cfg said → IsPass cfg dt drifts moves
-passes_as cfg dt said drifts moves e1 e2 span is = rw (e1, e2) (passes cfg dt said span is)

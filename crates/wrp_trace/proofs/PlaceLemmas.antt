@@ -20,7 +20,7 @@ use Rattle.wrp_trace.specs.declared.events.marks.Marks.{Marks}
 use Rattle.wrp_trace.specs.Changes.{SaidAt, change_in, change_said, changes_said, drift_said, is_said, move_in, move_said, named_said, nothing_said, outcome, said_count, said_once, with_drift, with_move}
 use Rattle.wrp_trace.specs.EventFields.{before, behind, span_at}
 use Rattle.wrp_trace.specs.Events.{pass_of, pass_with, plain, told_in}
-use Rattle.wrp_trace.specs.Places.{AreClocks, AreFibres, AsPass, Holds, IsPassing, NoneMarked, OnlyDrifts, OnlyMoves, RestsAt, drifts_in, is_marked, moves_in, said_also, said_by, said_in, said_then, span_in}
+use Rattle.wrp_trace.specs.Places.{AreClocks, AreFibres, AsPass, FindsEach, Holds, IsPassing, NoneMarked, OnlyDrifts, OnlyMoves, RestsAt, drifts_in, is_marked, moves_in, said_also, said_by, said_in, said_then, span_in}
 use Rattle.wrp_trace.proofs.ChangeLemmas.{few, one_more_drift, one_more_move}
 use Rattle.wrp_trace.proofs.EventsFit.{both, ok_same, pass_fits, within}
 
@@ -133,11 +133,11 @@ new_holds cfg marks drifts moves e1 e2 e3 e4 = record {
   fibres_rest = rw (e2, e4) (at_rest (pos 0, pos 0) cfg.links.items);
 }
 
-pub nothing_holds : (cfg : NetCfg) (marks : Marks) (dt : ℤ) (drifts : Items ℤ) (moves : Items (ℤ × ℤ))
+pub nothing_holds : (cfg : NetCfg) (marks : Marks) (dt : ℤ) (drifts : Items ℤ) (moves : Items (ℤ × ℤ)) → (marks.apart ≡ true → FindsEach cfg)
     → marks.nodes.items ≡ map (λ node. false) cfg.nodes.items → marks.links.items ≡ map (λ link. false) cfg.links.items
     → drifts.items ≡ map (λ node. pos 0) cfg.nodes.items → moves.items ≡ map (λ link. (pos 0, pos 0)) cfg.links.items
     → IsPassing cfg marks (events.Pass dt drifts moves)
-nothing_holds cfg marks dt drifts moves e1 e2 e3 e4 = record { pass = tt; holds = new_holds cfg marks drifts.items moves.items e1 e2 e3 e4 }
+nothing_holds cfg marks dt drifts moves finds e1 e2 e3 e4 = record { pass = tt; holds = new_holds cfg marks drifts.items moves.items e1 e2 e3 e4; found = finds }
 
 -- One field
 
@@ -359,6 +359,7 @@ clocks_pass cfg old new before after h k = record {
   pass = k.only.pass h.pass;
   holds = subst (Holds cfg new (drifts_in after)) (sym k.only.moves)
       (drift_holds cfg old new (drifts_in before) (drifts_in after) (moves_in before) h.holds k.marks k.count k.rest k.links);
+  found = λ is. h.found (sym k.apart ∙ is);
 }
 
 pub fibres_pass : (cfg : NetCfg) (old new : Marks) (before after : Event) → IsPassing cfg old before → AreFibres old new before after → IsPassing cfg new after
@@ -366,6 +367,7 @@ fibres_pass cfg old new before after h k = record {
   pass = k.only.pass h.pass;
   holds = subst (λ (drifts : List ℤ). Holds cfg new drifts (moves_in after)) (sym k.only.drifts)
       (move_holds cfg old new (drifts_in before) (moves_in before) (moves_in after) h.holds k.marks k.count k.rest k.nodes);
+  found = λ is. h.found (sym k.apart ∙ is);
 }
 
 -- a drift and its mark
@@ -374,14 +376,15 @@ pub put_said : (old new : List Bool) (before after : List ℤ) (n k m : ℕ) (dr
 put_said old new before after n k m drift e f below within marks changes =
     ap₂ said_in (marks ∙ ap (λ i. slice_set old i true) f) (changes ∙ ap (λ i. slice_set before i drift) e) ∙ says_more old before n drift below within
 
-pub put_clocks : (old new : Marks) (before after : Event) (n k m : ℕ) (drift : ℤ) → k ≡ n → m ≡ n → RestsAt (pos 0) old.nodes.items (drifts_in before) → OnlyDrifts before after → new.links ≡ old.links
+pub put_clocks : (old new : Marks) (before after : Event) (n k m : ℕ) (drift : ℤ) → k ≡ n → m ≡ n → RestsAt (pos 0) old.nodes.items (drifts_in before) → OnlyDrifts before after → new.links ≡ old.links → new.apart ≡ old.apart
     → new.nodes.items ≡ slice_set old.nodes.items m true → drifts_in after ≡ slice_set (drifts_in before) k drift → AreClocks old new before after
-put_clocks old new before after n k m drift e f rest only links marks changes = record {
+put_clocks old new before after n k m drift e f rest only links apart marks changes = record {
   marks = ap length marks ∙ length-set old.nodes.items m true;
   count = ap length changes ∙ length-set (drifts_in before) k drift;
   rest = rw (marks ∙ ap (λ i. slice_set old.nodes.items i true) f, changes ∙ ap (λ i. slice_set (drifts_in before) i drift) e)
       (rests_marked (pos 0) old.nodes.items (drifts_in before) n drift rest);
   links = links;
+  apart = apart;
   only = only;
 }
 
@@ -391,14 +394,15 @@ pub move_said_in : (old new : List Bool) (before after : List (ℤ × ℤ)) (l k
 move_said_in old new before after l k m move e f below within marks changes =
     ap₂ said_in (marks ∙ ap (λ i. slice_set old i true) f) (changes ∙ ap (λ i. slice_set before i move) e) ∙ says_more old before l move below within
 
-pub put_fibres : (old new : Marks) (before after : Event) (l k m : ℕ) (move : ℤ × ℤ) → k ≡ l → m ≡ l → RestsAt (pos 0, pos 0) old.links.items (moves_in before) → OnlyMoves before after → new.nodes ≡ old.nodes
+pub put_fibres : (old new : Marks) (before after : Event) (l k m : ℕ) (move : ℤ × ℤ) → k ≡ l → m ≡ l → RestsAt (pos 0, pos 0) old.links.items (moves_in before) → OnlyMoves before after → new.nodes ≡ old.nodes → new.apart ≡ old.apart
     → new.links.items ≡ slice_set old.links.items m true → moves_in after ≡ slice_set (moves_in before) k move → AreFibres old new before after
-put_fibres old new before after l k m move e f rest only nodes marks changes = record {
+put_fibres old new before after l k m move e f rest only nodes apart marks changes = record {
   marks = ap length marks ∙ length-set old.links.items m true;
   count = ap length changes ∙ length-set (moves_in before) k move;
   rest = rw (marks ∙ ap (λ i. slice_set old.links.items i true) f, changes ∙ ap (λ i. slice_set (moves_in before) i move) e)
       (rests_marked (pos 0, pos 0) old.links.items (moves_in before) l move rest);
   nodes = nodes;
+  apart = apart;
   only = only;
 }
 

@@ -5,7 +5,6 @@ use Rattle.wrp_base.specs.declared.configuration.NetCfg.{NetCfg}
 use Rattle.wrp_base.specs.declared.fault.TraceFault.{TraceFault}
 use Rattle.wrp_base.specs.declared.fault.TraceFault.TheVariants.{Name}
 use Rattle.wrp_config.specs.Names.{node_named, link_named}
-use Rattle.wrp_trace.specs.declared.events.changes.Said.{Said}
 use Rattle.wrp_trace.specs.EventFields.{before, behind}
 use Rattle.wrp_fields.specs.Numbers.{number_in}
 use Rattle.wrp_fields.specs.Reading.{◌>>=◌, number_or_fault}
@@ -99,16 +98,7 @@ all_drifts said = map (λ drift. unwrap_or drift (pos 0)) said.drifts
 abbrev pub all_moves : SaidAt → List (ℤ × ℤ)
 all_moves said = map (λ move. unwrap_or move (pos 0, pos 0)) said.moves
 
--- what the code holds of it
-abbrev pub said_of : Said → SaidAt
-said_of said = record { drifts = said.drifts.items; moves = said.moves.items }
-
 -- what is said behind a call that may end in a fault
 abbrev pub outcome : Result (Unit {0}) TraceFault → SaidAt → Result SaidAt TraceFault
 outcome (Ok done) said = Ok said
 outcome (Err fault) said = Err fault
-
--- what is said, or the fault
-abbrev pub reading : Result Said TraceFault → Result SaidAt TraceFault
-reading (Ok said) = Ok (said_of said)
-reading (Err fault) = Err fault

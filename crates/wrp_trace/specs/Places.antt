@@ -1,10 +1,12 @@
 -- A `pass` that is written where its changes stay: which changes it holds, and of which nodes and links something is
 -- said (this project's profile).
-use Rattle.std.specs.Prelude.{◌≡◌, ◌<◌, ℕ, ℤ, pos, if◌then◌else◌, Bool, false, Option, None, Some, unwrap_or, Result, Ok, Err, List, [], ◌∷◌, length, slice_get, slice_set}
+use Rattle.std.specs.Prelude.{◌≡◌, ◌<◌, ℕ, ℤ, pos, if◌then◌else◌, Bool, true, false, Option, None, Some, unwrap_or, Result, Ok, Err, List, [], ◌∷◌, length, slice_get, slice_set}
 use Rattle.std.specs.List.{AllByRecursion}
 use Rattle.wrp_base.specs.declared.configuration.NetCfg.{NetCfg}
 use Rattle.wrp_base.specs.declared.fault.TraceFault.{TraceFault}
-use Rattle.wrp_base.specs.Network.{node_count}
+use Rattle.wrp_base.specs.declared.network.LinkCfg.{LinkCfg}
+use Rattle.wrp_base.specs.declared.network.NodeCfg.{NodeCfg}
+use Rattle.wrp_base.specs.Network.{IsLink, IsNode, node_count}
 use Rattle.wrp_config.specs.Names.{node_named, link_named}
 use Rattle.wrp_course.specs.declared.event.Event.{Event}
 use Rattle.wrp_course.specs.declared.event.Event.TheVariants.{Pass}
@@ -74,6 +76,19 @@ StandsFor cfg name (Link l) =
     (l < link_count cfg) × (node_named cfg name ≡ None) × (link_named cfg name ≡ Some l)
 StandsFor cfg name Nothing = (node_named cfg name ≡ None) × (link_named cfg name ≡ None)
 
+-- the name of each node stands for that node
+abbrev pub FindsNodes : NetCfg → Type 0
+FindsNodes cfg = (n : ℕ) (node : NodeCfg) → IsNode cfg n node → StandsFor cfg node.name.bytes (Node n)
+
+-- the name of each link stands for that link
+abbrev pub FindsLinks : NetCfg → Type 0
+FindsLinks cfg = (l : ℕ) (link : LinkCfg) → IsLink cfg l link → StandsFor cfg link.name.bytes (Link l)
+
+-- both
+pub record FindsEach (cfg : NetCfg) : Type 0 where
+  pub nodes : FindsNodes cfg
+  pub links : FindsLinks cfg
+
 -- The parts of a `pass`
 
 -- how far the clocks move; an event that is no `pass` has no drifts
@@ -114,6 +129,7 @@ pub record AreClocks (old new : Marks) (before after : Event) : Type 0 where
   pub count : length (drifts_in after) ≡ length (drifts_in before)
   pub rest : RestsAt (pos 0) new.nodes.items (drifts_in after)
   pub links : new.links ≡ old.links
+  pub apart : new.apart ≡ old.apart
   pub only : OnlyDrifts before after
 
 -- the same of the fibres
@@ -122,14 +138,17 @@ pub record AreFibres (old new : Marks) (before after : Event) : Type 0 where
   pub count : length (moves_in after) ≡ length (moves_in before)
   pub rest : RestsAt (pos 0, pos 0) new.links.items (moves_in after)
   pub nodes : new.nodes ≡ old.nodes
+  pub apart : new.apart ≡ old.apart
   pub only : OnlyMoves before after
 
 -- Places
 
--- it is a `pass` of this network, of which something is said where it is marked
+-- it is a `pass` of this network, of which something is said where it is marked, and names are taken for apart only
+-- where they are
 pub record IsPassing (cfg : NetCfg) (marks : Marks) (e : Event) : Type 0 where
   pub pass : AsPass e
   pub holds : Holds cfg marks (drifts_in e) (moves_in e)
+  pub found : marks.apart ≡ true → FindsEach cfg
 
 -- the place is one for the events of this network
 abbrev pub IsPlaceOf : NetCfg → EventPlace → Type 0

@@ -1,11 +1,7 @@
 //! Event lines: what happens in a world, read from a line.
-ghost use Rattle.std.specs.Prelude.{◌≡◌, ◌≤◌, IfOk, OnOk, true, length};
+ghost use Rattle.std.specs.Prelude.{◌≡◌, ◌≤◌, IfOk, OnOk, length};
 ghost use Rattle.csv.specs.Records.{fields_of};
-ghost use Rattle.wrp_base.specs.Network.{IsFromTo};
-ghost use Rattle.wrp_trace.specs.Changes.{said_of};
-ghost use Rattle.wrp_trace.specs.EventAt.{IsSaid};
-ghost use Rattle.wrp_trace.specs.EventKinds.{may_have};
-ghost use Rattle.wrp_trace.specs.Events.{pass_with, pass_of, tick_of, sample_of, depart_of, arrive_of, deliver_of, noise_of, down_of, up_of, cut_of, join_of, fields_of_kind, event_of, event_read, told, told_in};
+ghost use Rattle.wrp_trace.specs.Events.{tick_of, sample_of, depart_of, arrive_of, deliver_of, noise_of, down_of, up_of, cut_of, join_of, event_of, event_read, told, told_in};
 ghost use Rattle.wrp_fields.specs.Reading.{IsReading};
 ghost use Rattle.wrp_course.specs.EventAt.{IsEventOf};
 
@@ -19,11 +15,9 @@ mod printing;
 mod swaps;
 
 use crate::fields::{bits_at, long_at, octets_at, raw_from, short_at, step_at, time_at};
-use changes::{Said, changes_at};
 use csv::ByteRecord;
-use fields::{delay_at, offset_at, span_at};
+use fields::{delay_at, offset_at};
 pub use kinds::EventKind;
-use kinds::kind_of;
 pub use place::{EventPlace, read_event_into};
 pub use printing::event_line;
 use std::alloc::Global;
@@ -31,11 +25,20 @@ use swaps::swaps_at;
 use wrp_base::{NetCfg, TraceFault};
 use wrp_config::Network;
 use wrp_course::Event;
-use wrp_fields::{field, is_plain, split};
+use wrp_fields::{is_plain, split};
 use wrp_names::{link_at, node_at};
 
-// The place of the first field.
-const KIND: u32 = 1;
+// What the fields of a line say.
+fn read_row(row: &ByteRecord, net: &Network) -> Result<Event, TraceFault>
+    ensures value { told result ≡ event_of net.now.cfg (fields_of row.now) }
+    ensures event { IfOk result (IsEventOf net.now.cfg) }
+{
+    let mut place = EventPlace::new(&net.cfg);
+    match read_event_into(row, net, &mut place) {
+        Ok(()) => Ok(place.into_event()),
+        Err(fault) => Err(fault),
+    }
+}
 
 /// What a line says.
 pub fn read_event(alloc: Global, line: &[u8], net: &Network) -> Result<Event, TraceFault>
@@ -47,96 +50,9 @@ pub fn read_event(alloc: Global, line: &[u8], net: &Network) -> Result<Event, Tr
     }
     let mut row = ByteRecord::new(alloc);
     match split(alloc, line, &mut row) {
-        Ok(()) => read_event_fields(&row, net),
+        Ok(()) => read_row(&row, net),
         Err(e) => Err(TraceFault::Memory(e)),
     }
-}
-
-/// What the fields of a line say.
-pub fn read_event_fields(row: &ByteRecord, net: &Network) -> Result<Event, TraceFault>
-    ensures value { told result ≡ event_of net.now.cfg (fields_of row.now) }
-    ensures event { IfOk result (IsEventOf net.now.cfg) }
-{
-    match kind_of(field(row, KIND)) {
-        Some(kind) if kind.may_have(row.len()) => read_kind(kind, row, &net.cfg),
-        Some(_) => Err(TraceFault::Fields),
-        None => Err(TraceFault::Kind),
-    }
-}
-
-// What the fields of a line of a kind say.
-fn read_kind(kind: EventKind, row: &ByteRecord, cfg: &NetCfg) -> Result<Event, TraceFault>
-    requires { may_have kind (length (fields_of row.now)) ≡ true }
-    ensures value { told result ≡ fields_of_kind cfg.now kind (fields_of row.now) }
-    ensures event { IfOk result (IsEventOf cfg.now) }
-{
-    let mut event = Event::Tick { node: 0 };
-    match kind_into(kind, row, cfg, &mut event) {
-        Ok(()) => Ok(event),
-        Err(fault) => Err(fault),
-    }
-}
-
-// Puts what the fields of a line of a kind say into `event`.
-fn kind_into(
-    kind: EventKind,
-    row: &ByteRecord,
-    cfg: &NetCfg,
-    event: &mut Event,
-) -> Result<(), TraceFault>
-    requires { may_have kind (length (fields_of row.now)) ≡ true }
-    ensures value { told_in result event.new ≡ fields_of_kind cfg.now kind (fields_of row.now) }
-    ensures event { OnOk result (IsEventOf cfg.now event.new) }
-{
-    match kind {
-        EventKind::Pass => pass_anew(row, cfg, event),
-        EventKind::Tick => tick(row, cfg, event),
-        EventKind::Sample => sample(row, cfg, event),
-        EventKind::Depart => depart(row, cfg, event),
-        EventKind::Arrive => arrive(row, cfg, event),
-        EventKind::Deliver => deliver(row, cfg, event),
-        EventKind::Noise => noise(row, cfg, event),
-        EventKind::Down => down(row, cfg, event),
-        EventKind::Up => up(row, cfg, event),
-        EventKind::Cut => cut(row, cfg, event),
-        EventKind::Join => join(row, cfg, event),
-    }
-}
-
-// A `pass` in place of another event.
-fn pass_anew(row: &ByteRecord, cfg: &NetCfg, event: &mut Event) -> Result<(), TraceFault>
-    ensures value { told_in result event.new ≡ pass_of cfg.now (fields_of row.now) }
-    ensures event { OnOk result (IsEventOf cfg.now event.new) }
-{
-    match pass(row, cfg) {
-        Ok(pass) => {
-            *event = pass;
-            Ok(())
-        }
-        Err(fault) => Err(fault),
-    }
-}
-
-// `pass,DT[,NODE=DRIFT][,LINK=MS/SM]`.
-fn pass(row: &ByteRecord, cfg: &NetCfg) -> Result<Event, TraceFault>
-    ensures value { told result ≡ pass_of cfg.now (fields_of row.now) }
-    ensures event { IfOk result (IsEventOf cfg.now) }
-{
-    let dt = span_at(row, 2)?;
-    let said = changes_at(row, cfg)?;
-    Ok(passing(dt, &said, cfg))
-}
-
-// Time passes, with what is said of the nodes and the links.
-fn passing(dt: i64, said: &Said, cfg: &NetCfg) -> Event
-    requires span { IsFromTo 1 9_223_372_036_854_775_807 dt }
-    requires said { IsSaid cfg.now (said_of said.now) }
-    ensures value { result ≡ pass_with dt (said_of said.now) }
-    ensures event { IsEventOf cfg.now result }
-{
-    let drifts = said.all_drifts();
-    let fibres = said.all_moves();
-    Event::Pass { dt, drifts, fibres }
 }
 
 // `tick,NODE`.

@@ -12,9 +12,7 @@ mod line_setting;
 mod printing;
 mod times;
 
-pub use events::{
-    EventKind, EventPlace, event_line, read_event, read_event_fields, read_event_into,
-};
+pub use events::{EventKind, EventPlace, event_line, read_event, read_event_into};
 pub use inputs::{read_input, read_input_fields};
 pub use kinds::InputKind;
 pub use laws::events_can_come;

@@ -1,5 +1,7 @@
 -- The command `l1sync`.
 use Rattle.std.proofs.Common.{refl, sym, subst, inl, inr, ℕ, List, [], arith}
+use Rattle.wrp_due.proofs.LinesAnswered.{IsTotal, lines_answered}
+use Rattle.wrp_l1sync.proofs.LineDecided.{decided}
 use Rattle.wrp_l1sync.proofs.LineAnswerLaws.{answers_show_the_pair, what_stands_shows_the_pair}
 use Rattle.wrp_l1sync.proofs.LineExact.{exact}
 use Rattle.wrp_l1sync.specs.LineAnswers.{ShowsFront}
@@ -9,10 +11,10 @@ use Rattle.wrp_records.specs.ByLines.{of_lines}
 use Rattle.wrp_records.specs.Lines.{lines_of}
 use Rattle.wrp_records.specs.declared.status.Status.{Status}
 use Rattle.wrp_records.specs.declared.status.Status.TheVariants.{Done, BadTrace, Broken, TooLarge, ReadFault, OutOfMemory, BadCalib}
-use Rattle.wrp_asked.specs.declared.alone.Alone.TheVariants.{L1Sync}
+use Rattle.wrp_commands.specs.declared.alone.Alone.TheVariants.{L1Sync}
 use Rattle.wrp_asked.specs.Alone.{MayAnswer}
 use Rattle.wrp_asked.specs.AloneAims.{SynchronisesSo}
-use Rattle.wrp_asked.proofs.AloneCommand.{IsAloneCommand, Leaves}
+use Rattle.wrp_asked.proofs.AloneCommand.{IsAloneCommand, Leaves, by_lines}
 
 may : (input : List ℕ) (status : Status) (octets : List ℕ) → (of_lines synchronisation).answers input [] status octets → MayAnswer L1Sync status
 may input Done octets at = (0, omega arith, refl)
@@ -35,13 +37,20 @@ aim input OutOfMemory octets at = elim (at.first refl) [
 ]
 aim input _ octets at = tt
 
+total : IsTotal synchronisation
+total = record {
+  starts = refl;
+  decides = λ lines line text accepted. decided lines text line accepted;
+  ends = λ lines text accepted. (Done, [], refl);
+}
+
 pub facts : IsAloneCommand L1Sync
 facts = record {
-  found = refl;
   one = λ input calls s t o u p q. one_records_answer synchronisation exact (lines_of input) s t o u p.1 q.1;
   uncalled = λ input calls status octets at. at.0;
   unlinked = λ input octets at. at;
   no_usage = λ input octets at. at.1;
+  answered = λ input. by_lines synchronisation input (lines_answered synchronisation total (lines_of input));
   may = may;
   aim = aim;
 }

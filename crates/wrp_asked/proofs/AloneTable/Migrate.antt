@@ -1,11 +1,12 @@
 -- The command `migrate`.
 use Rattle.std.proofs.Common.{refl, ℕ, List, [], arith}
+use Rattle.wrp_migrate.proofs.EachAnswer.{each_has_migration}
 use Rattle.wrp_migrate.proofs.Keeping.{keeps}
 use Rattle.wrp_migrate.proofs.Unique.{one_migration}
 use Rattle.wrp_migrate.specs.Migration.{migration}
 use Rattle.wrp_records.specs.declared.status.Status.{Status}
 use Rattle.wrp_records.specs.declared.status.Status.TheVariants.{Done, BadNetwork, TooLarge}
-use Rattle.wrp_asked.specs.declared.alone.Alone.TheVariants.{Migrate}
+use Rattle.wrp_commands.specs.declared.alone.Alone.TheVariants.{Migrate}
 use Rattle.wrp_asked.specs.Alone.{MayAnswer}
 use Rattle.wrp_asked.specs.AloneAims.{MigratesSo}
 use Rattle.wrp_asked.proofs.AloneCommand.{IsAloneCommand, Leaves}
@@ -27,11 +28,11 @@ aim input _ octets at = tt
 
 pub facts : IsAloneCommand Migrate
 facts = record {
-  found = refl;
   one = one_migration;
   uncalled = λ input calls status octets at. at.0;
   unlinked = λ input octets at. at;
   no_usage = λ input octets at. at.1;
+  answered = each_has_migration;
   may = may;
   aim = aim;
 }

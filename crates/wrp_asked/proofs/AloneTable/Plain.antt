@@ -1,5 +1,7 @@
 -- The command `plain`.
 use Rattle.std.proofs.Common.{refl, sym, subst, inl, inr, ℕ, List, [], arith}
+use Rattle.wrp_due.proofs.LinesAnswered.{IsTotal, lines_answered}
+use Rattle.wrp_plain.proofs.LinesDecided.{decided}
 use Rattle.wrp_plain.proofs.LinesExact.{exact}
 use Rattle.wrp_plain.proofs.LinesTrue.{records_tell_truth_holds}
 use Rattle.wrp_plain.proofs.OutputTrue.{output_tells_truth_holds}
@@ -13,10 +15,10 @@ use Rattle.wrp_records.specs.ByLines.{of_lines}
 use Rattle.wrp_records.specs.Lines.{lines_of}
 use Rattle.wrp_records.specs.declared.status.Status.{Status}
 use Rattle.wrp_records.specs.declared.status.Status.TheVariants.{Done, BadTrace, Broken, TooLarge, ReadFault, OutOfMemory, BadCalib}
-use Rattle.wrp_asked.specs.declared.alone.Alone.TheVariants.{Plain}
+use Rattle.wrp_commands.specs.declared.alone.Alone.TheVariants.{Plain}
 use Rattle.wrp_asked.specs.Alone.{MayAnswer}
 use Rattle.wrp_asked.specs.AloneAims.{BoundsSo, TellsTruly}
-use Rattle.wrp_asked.proofs.AloneCommand.{IsAloneCommand, Leaves}
+use Rattle.wrp_asked.proofs.AloneCommand.{IsAloneCommand, Leaves, by_lines}
 
 may : (input : List ℕ) (status : Status) (octets : List ℕ) → (of_lines plain_meaning).answers input [] status octets → MayAnswer Plain status
 may input Done octets at = (0, omega arith, refl)
@@ -62,13 +64,20 @@ aim input Broken octets at = answered input Broken octets (at.answer refl)
 aim input TooLarge octets at = answered input TooLarge octets (at.answer refl)
 aim input _ octets at = tells_truly input
 
+total : IsTotal plain_meaning
+total = record {
+  starts = refl;
+  decides = λ lines line text accepted. decided lines line text accepted;
+  ends = λ lines text accepted. (Done, [], refl);
+}
+
 pub facts : IsAloneCommand Plain
 facts = record {
-  found = refl;
   one = λ input calls s t o u p q. one_records_answer plain_meaning exact (lines_of input) s t o u p.1 q.1;
   uncalled = λ input calls status octets at. at.0;
   unlinked = λ input octets at. at;
   no_usage = λ input octets at. at.1;
+  answered = λ input. by_lines plain_meaning input (lines_answered plain_meaning total (lines_of input));
   may = may;
   aim = aim;
 }

@@ -1,13 +1,12 @@
 //! The further fields of a `pass`, written where its changes stay: NODE=DRIFT and LINK=MS/SM.
-ghost use Rattle.std.specs.Prelude.{◌≡◌, ◌<◌, ◌≤◌, pos, IfSome, Some, length, map, drop, slice_set, false};
+ghost use Rattle.std.specs.Prelude.{◌≡◌, ◌<◌, ◌≤◌, pos, IfSome, Some, length, map, drop, slice_set, true, false};
 ghost use Rattle.csv.specs.Records.{fields_of};
 ghost use Rattle.wrp_base.specs.Network.{node_count};
 ghost use Rattle.wrp_caldb.specs.Name.{same_name};
-ghost use Rattle.wrp_config.specs.Accepted.{HasNames};
 ghost use Rattle.wrp_config.specs.Names.{node_named, link_named};
 ghost use Rattle.wrp_course.specs.EventAt.{link_count};
 ghost use Rattle.wrp_trace.specs.Changes.{nothing_said, change_in, move_in, change_said, changes_said, outcome};
-ghost use Rattle.wrp_trace.specs.Places.{AreClocks, AreFibres, IsPassing, NoneMarked, OnlyDrifts, OnlyMoves, RestsAt, StandsFor, drifts_in, is_marked, moves_in, said_also, said_by, said_in, said_then, span_in};
+ghost use Rattle.wrp_trace.specs.Places.{AreClocks, AreFibres, FindsEach, FindsLinks, FindsNodes, IsPassing, NoneMarked, OnlyDrifts, OnlyMoves, RestsAt, StandsFor, drifts_in, is_marked, moves_in, said_also, said_by, said_in, said_then, span_in};
 
 use super::changes::{change_in, move_in, place_of};
 use super::names::parts_at;
@@ -32,6 +31,8 @@ pub struct Marks {
     links: ArrayVec<bool, 63>,
     next_node: usize,
     next_link: usize,
+    // Whether a search for the name of each node and each link finds it, so that the next may be looked at first.
+    apart: bool,
 }
 
 /// What a name stands for.
@@ -108,12 +109,57 @@ fn has_text(own: &Name, name: &[u8]) -> bool
     own.as_str().as_bytes() == name
 }
 
+// What a name stands for.
+fn by_name(cfg: &NetCfg, name: &[u8]) -> Named
+    ensures { StandsFor cfg.now name.now result }
+{
+    match node_named(cfg, name) {
+        Some(n) => Named::Node(n),
+        None => match link_named(cfg, name) {
+            Some(l) => Named::Link(l),
+            None => Named::Nothing,
+        },
+    }
+}
+
+// Whether a search for the name of each node finds it.
+fn finds_nodes(cfg: &NetCfg) -> bool
+    ensures { result ≡ true → FindsNodes cfg.now }
+{
+    for at in 0..cfg.nodes.len() {
+        match by_name(cfg, cfg.nodes[at].name.as_str().as_bytes()) {
+            Named::Node(n) if usize::from(n) == at => {}
+            _ => return false,
+        }
+    }
+    true
+}
+
+// Whether a search for the name of each link finds it.
+fn finds_links(cfg: &NetCfg) -> bool
+    ensures { result ≡ true → FindsLinks cfg.now }
+{
+    for at in 0..cfg.links.len() {
+        match by_name(cfg, cfg.links[at].name.as_str().as_bytes()) {
+            Named::Link(l) if usize::from(l) == at => {}
+            _ => return false,
+        }
+    }
+    true
+}
+
+// Whether a search for the name of each finds it.
+fn finds_each(cfg: &NetCfg) -> bool
+    ensures { result ≡ true → FindsEach cfg.now }
+{
+    finds_nodes(cfg) && finds_links(cfg)
+}
+
 // The node of this number, where it has this name.
 #[tactic(auto, using(crate::proofs::PlaceNames::next_node_is))]
 fn node_here(cfg: &NetCfg, at: usize, name: &[u8]) -> Option<u8>
-    requires names { HasNames cfg.now }
-    ensures value { IfSome result (λ n. node_named cfg.now name.now ≡ Some n) }
-    ensures within { IfSome result (λ n. n < node_count cfg.now) }
+    requires { FindsEach cfg.now }
+    ensures { IfSome result (λ n. StandsFor cfg.now name.now (Named.Node n)) }
 {
     if at < cfg.nodes.len() && has_text(&cfg.nodes[at].name, name) {
         Some(at as u8)
@@ -125,26 +171,13 @@ fn node_here(cfg: &NetCfg, at: usize, name: &[u8]) -> Option<u8>
 // The link of this number, where it has this name.
 #[tactic(auto, using(crate::proofs::PlaceNames::next_link_is))]
 fn link_here(cfg: &NetCfg, at: usize, name: &[u8]) -> Option<u8>
-    requires names { HasNames cfg.now }
-    ensures value { IfSome result (λ l. StandsFor cfg.now name.now (Named.Link l)) }
+    requires { FindsEach cfg.now }
+    ensures { IfSome result (λ l. StandsFor cfg.now name.now (Named.Link l)) }
 {
     if at < cfg.links.len() && has_text(&cfg.links[at].name, name) {
         Some(at as u8)
     } else {
         None
-    }
-}
-
-// What a name stands for.
-fn by_name(cfg: &NetCfg, name: &[u8]) -> Named
-    ensures { StandsFor cfg.now name.now result }
-{
-    match node_named(cfg, name) {
-        Some(n) => Named::Node(n),
-        None => match link_named(cfg, name) {
-            Some(l) => Named::Link(l),
-            None => Named::Nothing,
-        },
     }
 }
 
@@ -249,12 +282,14 @@ impl Marks {
     pub fn new(cfg: &NetCfg) -> Marks
         ensures nodes { result.nodes.items ≡ map (λ node. false) cfg.now.nodes.items }
         ensures links { result.links.items ≡ map (λ link. false) cfg.now.links.items }
+        ensures found { result.apart ≡ true → FindsEach cfg.now }
     {
         Marks {
             nodes: unmarked_nodes(&cfg.nodes),
             links: unmarked_links(&cfg.links),
             next_node: 0,
             next_link: 0,
+            apart: finds_each(cfg),
         }
     }
 
@@ -275,9 +310,12 @@ impl Marks {
     // What a name stands for. Names mostly stand in file order: those behind the ones that were named last
     // are looked at first, and then all.
     fn find(&self, cfg: &NetCfg, name: &[u8]) -> Named
-        requires { HasNames cfg.now }
+        requires { self.now.apart ≡ true → FindsEach cfg.now }
         ensures { StandsFor cfg.now name.now result }
     {
+        if !self.apart {
+            return by_name(cfg, name);
+        }
         if let Some(n) = node_here(cfg, self.next_node, name) {
             return Named::Node(n);
         }
@@ -380,7 +418,6 @@ impl Marks {
         event: &mut Event,
     ) -> Result<(), TraceFault>
         requires place { 0 < place }
-        requires names { HasNames cfg.now }
         requires passing { IsPassing cfg.now self.old event.old }
         ensures value { outcome result (said_by self.new (drifts_in event.new) (moves_in event.new))
             ≡ change_said cfg.now place (said_by self.old (drifts_in event.old) (moves_in event.old)) text.now }
@@ -412,7 +449,6 @@ pub fn changes_into(
     marks: &mut Marks,
     event: &mut Event,
 ) -> Result<(), TraceFault>
-    requires names { HasNames cfg.now }
     requires passing { IsPassing cfg.now marks.old event.old }
     ensures value { outcome result (said_by marks.new (drifts_in event.new) (moves_in event.new))
         ≡ changes_said cfg.now 3 (nothing_said cfg.now) (drop 2 (fields_of row.now)) }

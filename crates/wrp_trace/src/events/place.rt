@@ -1,21 +1,23 @@
 //! A place that event lines are read into, one after another.
 ghost use Rattle.std.specs.Prelude.{◌≡◌, OnOk, true, false, length, map};
 ghost use Rattle.csv.specs.Records.{fields_of};
-ghost use Rattle.wrp_config.specs.Accepted.{HasNames};
 ghost use Rattle.wrp_course.specs.EventAt.{IsEventOf};
 ghost use Rattle.wrp_trace.specs.EventKinds.{may_have};
 ghost use Rattle.wrp_trace.specs.Events.{event_of, fields_of_kind, pass_of, told_in};
-ghost use Rattle.wrp_trace.specs.Places.{AsPass, IsPassing, IsPlaceOf, drifts_in, event_in, moves_in, span_in};
+ghost use Rattle.wrp_trace.specs.Places.{AsPass, FindsEach, IsPassing, IsPlaceOf, drifts_in, event_in, moves_in, span_in};
 
 use super::fields::span_at;
 use super::kinds::{EventKind, kind_of};
 use super::marks::{Marks, changes_into, still_clocks, still_fibres};
-use super::{KIND, kind_into};
+use super::{arrive, cut, deliver, depart, down, join, noise, sample, tick, up};
 use csv::ByteRecord;
 use wrp_base::{NetCfg, TraceFault};
 use wrp_config::Network;
 use wrp_course::Event;
 use wrp_fields::field;
+
+// The place of the first field.
+const KIND: u32 = 1;
 
 /// A place for the events of a network's lines, which serves line after line: an event has room for the changes
 /// of 64 nodes and 63 links. Of a `pass` only what it names is written, and what the one before it named.
@@ -35,6 +37,7 @@ pub struct EventPlace {
 fn still(cfg: &NetCfg, marks: &Marks) -> Event
     requires nodes { marks.now.nodes.items ≡ map (λ node. false) cfg.now.nodes.items }
     requires links { marks.now.links.items ≡ map (λ link. false) cfg.now.links.items }
+    requires found { marks.now.apart ≡ true → FindsEach cfg.now }
     ensures { IsPassing cfg.now marks.now result }
 {
     let _none = marks;
@@ -72,6 +75,17 @@ impl EventPlace {
             &self.other
         }
     }
+
+    /// The event that was read last, alone.
+    pub fn into_event(self) -> Event
+        ensures { result ≡ event_in self }
+    {
+        if self.is_pass {
+            self.passing
+        } else {
+            self.other
+        }
+    }
 }
 
 // So much time passes.
@@ -96,7 +110,6 @@ fn pass_into(
     event: &mut Event,
     marks: &mut Marks,
 ) -> Result<(), TraceFault>
-    requires names { HasNames cfg.now }
     requires passing { IsPassing cfg.now marks.old event.old }
     ensures value { told_in result event.new ≡ pass_of cfg.now (fields_of row.now) }
     ensures event { OnOk result (IsEventOf cfg.now event.new) }
@@ -115,32 +128,36 @@ fn read_kind_into(
     place: &mut EventPlace,
 ) -> Result<(), TraceFault>
     requires count { may_have kind (length (fields_of row.now)) ≡ true }
-    requires names { HasNames cfg.now }
     requires place { IsPlaceOf cfg.now place.old }
     ensures value { told_in result (event_in place.new) ≡ fields_of_kind cfg.now kind (fields_of row.now) }
     ensures event { OnOk result (IsEventOf cfg.now (event_in place.new)) }
     ensures place { IsPlaceOf cfg.now place.new }
 {
+    place.is_pass = false;
     match kind {
         EventKind::Pass => {
             place.is_pass = true;
             pass_into(row, cfg, &mut place.passing, &mut place.marks)
         }
-        _ => {
-            place.is_pass = false;
-            kind_into(kind, row, cfg, &mut place.other)
-        }
+        EventKind::Tick => tick(row, cfg, &mut place.other),
+        EventKind::Sample => sample(row, cfg, &mut place.other),
+        EventKind::Depart => depart(row, cfg, &mut place.other),
+        EventKind::Arrive => arrive(row, cfg, &mut place.other),
+        EventKind::Deliver => deliver(row, cfg, &mut place.other),
+        EventKind::Noise => noise(row, cfg, &mut place.other),
+        EventKind::Down => down(row, cfg, &mut place.other),
+        EventKind::Up => up(row, cfg, &mut place.other),
+        EventKind::Cut => cut(row, cfg, &mut place.other),
+        EventKind::Join => join(row, cfg, &mut place.other),
     }
 }
 
-/// Puts what the fields of a line say into a place, of whose event nothing is said where they say none. The
-/// network is one whose names are all different, as those of an accepted network are.
+/// Puts what the fields of a line say into a place, of whose event nothing is said where they say none.
 pub fn read_event_into(
     row: &ByteRecord,
     net: &Network,
     place: &mut EventPlace,
 ) -> Result<(), TraceFault>
-    requires names { HasNames net.now.cfg }
     requires place { IsPlaceOf net.now.cfg place.old }
     ensures value { told_in result (event_in place.new) ≡ event_of net.now.cfg (fields_of row.now) }
     ensures event { OnOk result (IsEventOf net.now.cfg (event_in place.new)) }

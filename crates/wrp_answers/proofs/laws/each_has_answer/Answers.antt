@@ -1,4 +1,4 @@
--- Words by words, and then line by line.
+-- Request by request, and then line by line.
 use Rattle.wrp_answers.proofs.EachAnswered.{each_has_answer}
 use Rattle.wrp_answers.proofs.laws.each_has_answer.Goals as goal
 

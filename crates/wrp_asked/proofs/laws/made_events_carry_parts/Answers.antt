@@ -5,3 +5,4 @@ use Rattle.wrp_asked.proofs.laws.made_events_carry_parts.Goals as goal
 pub returns : goal.returns
 returns c =
     made_events_carry_parts c.simulator_keeps_the_bounds.ensures.runs c.reading_is_accepted.ensures c.events_hold.ensures.links c.events_hold.ensures.tracks
+    (record { follows = c.hops_are_kept.ensures.follows; siblings = c.hops_are_kept.ensures.siblings; way = c.hops_are_kept.ensures.way })

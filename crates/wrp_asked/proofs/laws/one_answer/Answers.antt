@@ -3,4 +3,4 @@ use Rattle.wrp_asked.proofs.OneAnswer.{one_answer}
 use Rattle.wrp_asked.proofs.laws.one_answer.Goals as goal
 
 pub returns : goal.returns
-returns c = one_answer c.one_run.ensures.run c.one_run.ensures.node c.one_audit.ensures c.told_last.ensures
+returns c = one_answer (record { run = c.one_run.ensures.run; node = c.one_run.ensures.node; audit = c.one_audit.ensures; last = c.told_last.ensures })

@@ -1,10 +1,10 @@
 -- A run of a command that stands alone ends as its records do.
-use Rattle.wrp_asked.specs.Words.{texts_of}
+use Rattle.wrp_words.specs.Requests.{asked_in}
 use Rattle.wrp_asked.proofs.Asking.{alone_ends}
 use Rattle.wrp_run.proofs.alone.run_alone.Goals as goal
 
 pub returns-clause-ends : goal.returns-clause-ends
-returns-clause-ends g c = alone_ends (texts_of c.args.words.now) c.args.alone _ _ c.handle.result c.requires c.handle.ensures
+returns-clause-ends g c = alone_ends (asked_in c.args.words.now) c.args.alone _ _ c.handle.result c.requires c.handle.ensures
 
 pub returns-clause-read : goal.returns-clause-read
 returns-clause-read g c = c.handle.ensures.1.read

@@ -6,14 +6,14 @@ use Rattle.wrp_asked.specs.declared.network_text.End.{End}
 use Rattle.wrp_asked.specs.Ends.{Run}
 use Rattle.wrp_asked.specs.Input.{NetworkOutcome}
 use Rattle.wrp_records.specs.Passages.{passage}
-use Rattle.wrp_asked.specs.Words.{texts_of}
+use Rattle.wrp_words.specs.Requests.{asked_in}
 use Rattle.wrp_asked.proofs.Asking.{size_ends, refused_ends, network_fails, uncalled}
 use Rattle.wrp_run.proofs.front.take_front.Goals as goal
 
 pub returns-in-TooLong-clause-ends : goal.returns-in-TooLong-clause-ends
 returns-in-TooLong-clause-ends g c = λ link same.
     let run : Run = record {
-      words = texts_of c.args.words.now;
+      asked = asked_in c.args.words.now;
       source = passage g.S.Source.left g.S.Source.faults c.args.source.now c.take_network-text.new.source;
       sink = passage g.K.Sink.held g.K.Sink.faults c.args.sink.now c.answer.new.sink;
       link = link;
@@ -26,7 +26,7 @@ returns-in-TooLong-clause-ends g c = λ link same.
 pub returns-in-Failed-clause-ends : goal.returns-in-Failed-clause-ends
 returns-in-Failed-clause-ends g c = λ link same.
     let run : Run = record {
-      words = texts_of c.args.words.now;
+      asked = asked_in c.args.words.now;
       source = passage g.S.Source.left g.S.Source.faults c.args.source.now c.take_network-text.new.source;
       sink = passage g.K.Sink.held g.K.Sink.faults c.args.sink.now c.args.sink.now;
       link = link;
@@ -51,7 +51,7 @@ returns-in-Ok-clause-front g c =
 pub returns-in-Err-clause-ends : goal.returns-in-Err-clause-ends
 returns-in-Err-clause-ends g c = λ link same.
     let run : Run = record {
-      words = texts_of c.args.words.now;
+      asked = asked_in c.args.words.now;
       source = passage g.S.Source.left g.S.Source.faults c.args.source.now c.take_network-text.new.source;
       sink = passage g.K.Sink.held g.K.Sink.faults c.args.sink.now c.refuse_network.new.sink;
       link = link;

@@ -3,12 +3,13 @@ use Rattle.std.proofs.Common.{◌∙◌, inr, refl, ℕ, subst}
 use Rattle.wrp_io.specs.Faults.{Rose}
 use Rattle.wrp_records.specs.Passages.{passage}
 use Rattle.wrp_asked.specs.Ends.{Ends}
-use Rattle.wrp_asked.specs.Words.{texts_of}
+use Rattle.wrp_words.specs.Requests.{asked_in}
 use Rattle.wrp_asked.proofs.LoopEnding.{unlinked}
+use Rattle.wrp_commands.specs.Request as requests
 use Rattle.wrp_run.proofs.looped.run_read.Goals as goal
 
 pub take_front-requires-clause-networked : goal.take_front-requires-clause-networked
-take_front-requires-clause-networked g c = inr (inr (inr (c.args.seed, c.requires.asks)))
+take_front-requires-clause-networked g c = (requests.Loop c.args.seed, c.requires.asks)
 
 pub returns-in-Ok-clause-ends : goal.returns-in-Ok-clause-ends
 returns-in-Ok-clause-ends g c =
@@ -16,7 +17,7 @@ returns-in-Ok-clause-ends g c =
     let link = passage g.N.Link.told g.N.Link.faults c.args.link.now c.run_behind.new.link in
     let source = subst
     (λ (n : ℕ). Ends (record {
-      words = texts_of c.args.words.now;
+      asked = asked_in c.args.words.now;
       source = record { before = g.S.Source.left c.args.source.now; now = g.S.Source.left c.run_behind.new.source; faults = n; faults_now = g.S.Source.faults c.run_behind.new.source };
       sink = passage g.K.Sink.held g.K.Sink.faults c.take_front.new.sink c.run_behind.new.sink;
       link = link;
@@ -24,7 +25,7 @@ returns-in-Ok-clause-ends g c =
     c.in-Ok.ensures.source ends in
     subst
     (λ k. Ends (record {
-      words = texts_of c.args.words.now;
+      asked = asked_in c.args.words.now;
       source = passage g.S.Source.left g.S.Source.faults c.args.source.now c.run_behind.new.source;
       sink = passage g.K.Sink.held g.K.Sink.faults k c.run_behind.new.sink;
       link = link;

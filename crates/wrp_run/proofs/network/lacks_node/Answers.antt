@@ -2,21 +2,21 @@
 use Rattle.wrp_records.specs.Passages.{passage}
 use Rattle.wrp_asked.specs.Answer.{AsksNone}
 use Rattle.wrp_asked.specs.Ends.{Run, begun_at}
-use Rattle.wrp_asked.specs.Words.{texts_of}
+use Rattle.wrp_words.specs.Requests.{asked_in}
 use Rattle.wrp_asked.proofs.Asking.{no_node_ends, uncalled}
 use Rattle.wrp_run.proofs.network.lacks_node.Goals as goal
 
 pub returns-clause-ends : goal.returns-clause-ends
 returns-clause-ends g c = λ first front link same.
     let run : Run = record {
-      words = texts_of c.args.words.now;
+      asked = asked_in c.args.words.now;
       source = begun_at first (passage g.S.Source.left g.S.Source.faults c.args.source.now c.args.source.now);
       sink = passage g.K.Sink.held g.K.Sink.faults c.args.sink.now c.answer.new.sink;
       link = link;
     } in
-    let none : AsksNone (texts_of c.args.words.now) c.args.front.text.items = record {
+    let none : AsksNone (asked_in c.args.words.now) c.args.front.text.items = record {
       name = c.args.name.now;
-      words_are = c.requires.asks;
+      asks = c.requires.asks;
       within = front.within;
       net = c.args.front.net.value;
       reads = front.reads;

@@ -8,7 +8,7 @@ use Rattle.wrp_records.specs.ByLines.{of_lines}
 use Rattle.wrp_records.specs.Passages.{Passes, passage}
 use Rattle.wrp_replay.specs.Replays.{meaning_of}
 use Rattle.wrp_asked.specs.Tasks.{Replay, AsksFor}
-use Rattle.wrp_asked.specs.Words.{texts_of}
+use Rattle.wrp_words.specs.Requests.{asked_in}
 use Rattle.wrp_asked.proofs.Asking.{TookNetwork, records_end}
 use Rattle.wrp_replay.proofs.BareSetting.{bare_setting, named_bare}
 use Rattle.wrp_run.proofs.network.replay_behind.Goals as goal
@@ -19,21 +19,19 @@ replay-requires-clause-node g c =
 
 pub returns-clause-ends : goal.returns-clause-ends
 returns-clause-ends g c = λ first front.
-    let words = texts_of c.args.words.now in
+    let asked = asked_in c.args.words.now in
     let text = c.args.front.text.items in
     let site : LineSetting = bare_setting (line_setting_of c.args.front.net.value c.args.node) in
-    let asks : AsksFor words text (Replay site) = (
+    let asks : AsksFor asked text (Replay c.args.name.now site) = (
       front.within,
-      c.args.name.now,
       c.requires.asks,
-      record { net = c.args.front.net.value; reads = front.reads; cfg = refl; db = refl },
-      named_bare c.args.front.net.value.cfg c.args.name.now ∙ c.requires.named,
+      (record { net = c.args.front.net.value; reads = front.reads; cfg = refl; db = refl }, named_bare c.args.front.net.value.cfg c.args.name.now ∙ c.requires.named),
     ) in
-    let network : TookNetwork words first (g.S.Source.left c.args.source.now) text c.args.reader.now (Replay site) =
+    let network : TookNetwork asked first (g.S.Source.left c.args.source.now) text c.args.reader.now (Replay c.args.name.now site) =
     record { network = front.network; taken = front.taken; divided = front.divided; at_end = front.at_end; asks = asks } in
     let passes = subst
     (λ (net : Network). Passes (of_lines (meaning_of (bare_setting (line_setting_of net c.args.node)))) (passage g.S.Source.left g.S.Source.faults c.args.source.now c.replay.new.source)
     (passage g.K.Sink.held g.K.Sink.faults c.args.sink.now c.replay.new.sink) c.args.reader.now.rest c.args.reader.now.ended c.replay.new.reader.ended [] c.replay.result)
     c.deref-net.ensures c.replay.ensures.passes in
-    records_end words first (passage g.S.Source.left g.S.Source.faults c.args.source.now c.replay.new.source) (passage g.K.Sink.held g.K.Sink.faults c.args.sink.now c.replay.new.sink)
-    text c.args.reader.now c.replay.new.reader.ended (Replay site) c.replay.result network passes
+    records_end asked first (passage g.S.Source.left g.S.Source.faults c.args.source.now c.replay.new.source) (passage g.K.Sink.held g.K.Sink.faults c.args.sink.now c.replay.new.sink)
+    text c.args.reader.now c.replay.new.reader.ended (Replay c.args.name.now site) c.replay.result network passes

@@ -5,27 +5,25 @@ use Rattle.wrp_config.specs.declared.network.Network.{Network}
 use Rattle.wrp_config.specs.Reading.{IsReadingOf}
 use Rattle.wrp_config.specs.Same.{IsSameNetwork}
 use Rattle.wrp_records.specs.Passages.{passage}
-use Rattle.wrp_run.specs.Asked.{task_by}
 use Rattle.wrp_audit.specs.AuditStands.{setting_in}
 use Rattle.wrp_asked.specs.Ends.{Run, begun_at}
-use Rattle.wrp_asked.specs.Tasks.{Task}
-use Rattle.wrp_asked.specs.Words.{texts_of}
+use Rattle.wrp_words.specs.Requests.{asked_in}
 use Rattle.wrp_asked.proofs.Asking.{TookNetwork, records_end, refused_ends, uncalled}
-use Rattle.wrp_run.proofs.AskingWork.{asks_same, fits_same, work_networked, work_task}
+use Rattle.wrp_run.proofs.AskingWork.{WorkTask, asks_same, fits_same, work_networked, work_task}
 use Rattle.wrp_run.proofs.network.work_behind.Goals as goal
 
 pub returns-in-Err-clause-ends : goal.returns-in-Err-clause-ends
 returns-in-Err-clause-ends g c = λ first front link same.
-    let words = texts_of c.args.words.now in
+    let asked = asked_in c.args.words.now in
     let text = c.args.front.text.items in
     let run : Run = record {
-      words = words;
+      asked = asked;
       source = begun_at first (passage g.S.Source.left g.S.Source.faults c.args.source.now c.args.source.now);
       sink = passage g.K.Sink.held g.K.Sink.faults c.args.sink.now c.refuse_network.new.sink;
       link = link;
     } in
     let reads = subst (λ (t : List ℕ). IsReadingOf t (Err c.in-Err.fault)) c.deref.ensures.value c.in-Err.ensures.refused in
-    refused_ends run c.refuse_network.result front.network text c.in-Err.fault c.args.reader.now (work_networked words c.args.front.net.value c.args.work c.requires.asks) front.taken front.divided front.within
+    refused_ends run c.refuse_network.result front.network text c.in-Err.fault c.args.reader.now (work_networked asked c.args.front.net.value c.args.work c.requires.asks) front.taken front.divided front.within
     front.at_end reads c.refuse_network.ensures.how c.refuse_network.ensures.rose (uncalled link same)
 
 pub work_on-requires-clause-same : goal.work_on-requires-clause-same
@@ -40,17 +38,18 @@ work_on-requires-clause-work g c =
 
 pub returns-clause-ends : goal.returns-clause-ends
 returns-clause-ends g c = λ first front.
-    let words = texts_of c.args.words.now in
+    let asked = asked_in c.args.words.now in
     let text = c.args.front.text.items in
     let own = subst (λ (t : List ℕ). IsReadingOf t (Ok c.in-Ok.own.value)) c.deref.ensures.value c.in-Ok.ensures.reads in
     let same = one_reading text (Ok c.args.front.net.value) (Ok c.in-Ok.own.value) c.requires.reads own in
-    let task : Task = task_by c.args.work (setting_in c.in-Ok.own.value) in
-    let network : TookNetwork words first (g.S.Source.left c.args.source.now) text c.args.reader.now task = record {
+    let what : WorkTask asked text c.args.work (setting_in c.in-Ok.own.value) =
+    work_task asked text c.args.work c.in-Ok.own.value (asks_same asked c.args.front.net.value c.in-Ok.own.value c.args.work same c.requires.asks) front.within own in
+    let network : TookNetwork asked first (g.S.Source.left c.args.source.now) text c.args.reader.now what.task = record {
       network = front.network;
       taken = front.taken;
       divided = front.divided;
       at_end = front.at_end;
-      asks = work_task words text c.args.work c.in-Ok.own.value (asks_same words c.args.front.net.value c.in-Ok.own.value c.args.work same c.requires.asks) front.within own;
+      asks = what.asks;
     } in
-    records_end words first (passage g.S.Source.left g.S.Source.faults c.args.source.now c.work_on.new.source) (passage g.K.Sink.held g.K.Sink.faults c.args.sink.now c.work_on.new.sink)
-    text c.args.reader.now c.work_on.new.reader.ended task c.work_on.result network c.work_on.ensures.passes
+    records_end asked first (passage g.S.Source.left g.S.Source.faults c.args.source.now c.work_on.new.source) (passage g.K.Sink.held g.K.Sink.faults c.args.sink.now c.work_on.new.sink)
+    text c.args.reader.now c.work_on.new.reader.ended what.task c.work_on.result network (what.due _ _ _ _ _ _ c.work_on.ensures.passes)

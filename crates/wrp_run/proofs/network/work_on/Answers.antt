@@ -8,10 +8,9 @@ use Rattle.wrp_base.specs.Network.{node_count}
 use Rattle.wrp_config.proofs.Bare.{count_bare}
 use Rattle.wrp_plant.proofs.EachLists.{each_none, each_push, length_push}
 use Rattle.wrp_records.proofs.Passed.{passes_nothing}
-use Rattle.wrp_run.specs.Asked.{task_by}
+use Rattle.wrp_run.specs.Asked.{work_meaning}
 use Rattle.wrp_audit.specs.AuditStands.{setting_in}
 use Rattle.wrp_audit.specs.LawsFit.{IsMade}
-use Rattle.wrp_asked.specs.Tasks.{meaning_at}
 use Rattle.wrp_run.proofs.AskingWork.{nothing_done}
 use Rattle.wrp_audit.proofs.LawsMade.{fits_all, made_next}
 use Rattle.wrp_run.proofs.network.work_on.Goals as goal
@@ -54,6 +53,6 @@ work_by-requires-clause-laws g c =
 
 pub returns-in-Err : goal.returns-in-Err
 returns-in-Err g c = record {
-  passes = passes_nothing (meaning_at (task_by c.args.work (setting_in c.args.own.value))) _ _ c.args.reader.now.rest c.args.reader.now.ended (nothing_done c.args.work (setting_in c.args.own.value))
+  passes = passes_nothing (work_meaning c.args.work (setting_in c.args.own.value)) _ _ c.args.reader.now.rest c.args.reader.now.ended (nothing_done c.args.work (setting_in c.args.own.value))
       (Consumes-nil _) (Appends-nil _) c.requires.at_end refl refl;
 }

@@ -1,4 +1,4 @@
--- The link has the name, and no other has.
+-- The link has the name, which stands for it.
 use Rattle.std.proofs.Common.{◌∙◌, ◌<◌, List, ap, arith, get_or, length, sym}
 use Rattle.wrp_base.specs.declared.network.LinkCfg.{LinkCfg}
 use Rattle.wrp_caldb.specs.Name.{same_name}
@@ -10,4 +10,4 @@ returns-then-has_text c =
     let below : c.args.at < length c.args.cfg.now.links.items = omega (arith, c.if-at-len.true, c.len.ensures.value) in
     let is = c.index-deref-at.is ∙ ap (λ (links : List LinkCfg). get_or links c.args.at c.index-deref-at.result) c.deref.ensures.0 in
     let same = ap (λ (link : LinkCfg). same_name link.name.bytes c.args.name.now) c.index-deref-at.is ∙ sym c.has_text.ensures ∙ c.if-has_text.true in
-    record { value = next_link_is c.args.cfg.now c.args.at c.index-deref-at.result c.args.name.now c.requires.names below is same }
+    next_link_is c.args.cfg.now c.args.at c.index-deref-at.result c.args.name.now c.requires below is same

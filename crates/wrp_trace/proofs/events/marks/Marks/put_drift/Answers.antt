@@ -13,4 +13,4 @@ returns-clause-said c =
 pub returns-clause-clocks : goal.returns-clause-clocks
 returns-clause-clocks c =
     put_clocks c.args.self.now _ c.args.event.now c.write_drift.new.event c.args.n c.from.result c.from-2.result c.args.drift
-    c.from.ensures c.from-2.ensures c.requires.rest c.write_drift.ensures.only refl c.set_mark.ensures (c.write_drift.ensures.set ∙ ap (λ z. slice_set (drifts_in c.args.event.now) c.from.result z) (to_z-of_z w64 c.args.drift c.ranges.drift))
+    c.from.ensures c.from-2.ensures c.requires.rest c.write_drift.ensures.only refl refl c.set_mark.ensures (c.write_drift.ensures.set ∙ ap (λ z. slice_set (drifts_in c.args.event.now) c.from.result z) (to_z-of_z w64 c.args.drift c.ranges.drift))

@@ -12,4 +12,4 @@ returns-clause-said c =
 pub returns-clause-fibres : goal.returns-clause-fibres
 returns-clause-fibres c =
     put_fibres c.args.self.now _ c.args.event.now c.write_move.new.event c.args.l c.from.result c.from-2.result c.args.moving
-    c.from.ensures c.from-2.ensures c.requires.rest c.write_move.ensures.only refl c.set_mark.ensures c.write_move.ensures.set
+    c.from.ensures c.from-2.ensures c.requires.rest c.write_move.ensures.only refl refl c.set_mark.ensures c.write_move.ensures.set

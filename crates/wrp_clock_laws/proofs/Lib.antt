@@ -1,0 +1,4 @@
+pub mod Forward
+pub mod Worked
+pub mod WorkedNetwork
+pub mod WorkedRun

@@ -1,0 +1,10 @@
+pub mod Words
+pub mod Names
+pub mod Outputs
+pub mod Events
+pub mod Clocks
+pub mod Fields
+pub mod Following
+pub mod Commands
+pub mod Within
+pub mod Syncing

@@ -1,0 +1,4 @@
+pub mod Words
+pub mod Offsets
+pub mod Steps
+pub mod Laws
