@@ -1,4 +1,5 @@
--- What is asked of a network, and the task that it is there: a table with a row for each (this project's profile).
+-- What is asked of a network, and the task that it is there: a table with a row for each, and what its record lines mean (this
+-- project's profile).
 use Rattle.std.specs.Prelude.{◌≡◌, ℕ, ◌≤◌, Option, None, Some, List, length}
 use Rattle.wrp_config.specs.Names.{node_named}
 use Rattle.wrp_trace.specs.LineSetting.{LineSetting}
@@ -22,44 +23,41 @@ pub data Task : Type 0 where
   Simulate : (setting : Setting) (seed : ℕ) → Task
   Loop : (setting : Setting) (seed : ℕ) → Task
 
--- What a task is: the command that asks for it; which network texts describe its network, where a node is the first of its name;
--- and what the record lines mean there, by themselves.
+-- What a task is: the command that asks for it, and which network texts describe its network, where a node is the first of its name.
 pub record TaskRow : Type 1 where
   pub command : Networked
   pub IsIn : List ℕ → Type 0
-  pub meaning : LineMeaning
 
 -- the table
 abbrev pub task_row : Task → TaskRow
 task_row (Replay name site) = record {
   command = requests.Replay name;
   IsIn = λ text. IsNetworkOf text site × (node_named site.cfg name ≡ Some site.node);
-  meaning = meaning_of site;
 }
 task_row (Audit setting) = record {
   command = requests.Audit;
   IsIn = λ text. IsSettingOf text setting;
-  meaning = audit_of setting;
 }
 task_row (Emit name setting node) = record {
   command = requests.Emit name;
   IsIn = λ text. IsSettingOf text setting × (node_named setting.cfg name ≡ Some node);
-  meaning = emission_of setting node;
 }
 task_row (Simulate setting seed) = record {
   command = requests.Simulate seed;
   IsIn = λ text. IsSettingOf text setting;
-  meaning = simulation_of setting seed;
 }
 task_row (Loop setting seed) = record {
   command = requests.Loop seed;
   IsIn = λ text. IsSettingOf text setting;
-  meaning = scenario_of setting;
 }
 
 -- what the record lines mean there, by themselves
 abbrev pub meaning_at : Task → LineMeaning
-meaning_at task = (task_row task).meaning
+meaning_at (Replay name site) = meaning_of site
+meaning_at (Audit setting) = audit_of setting
+meaning_at (Emit name setting node) = emission_of setting node
+meaning_at (Simulate setting seed) = simulation_of setting seed
+meaning_at (Loop setting seed) = scenario_of setting
 
 -- the name of the node that a command needs, or none
 abbrev pub node_of : Networked → Option (List ℕ)
