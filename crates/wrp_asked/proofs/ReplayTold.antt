@@ -28,6 +28,7 @@ use Rattle.wrp_commands.specs.Request.{CommandLine}
 use Rattle.wrp_commands.specs.Request as requests
 use Rattle.wrp_asked.specs.Answer.{CutTask}
 use Rattle.wrp_asked.specs.EmitHeadline.{LacksNode}
+use Rattle.wrp_asked.specs.Ends.{Run}
 use Rattle.wrp_asked.specs.Headline.{ReachesNone}
 use Rattle.wrp_asked.specs.Input.{Divides, behind_separator, network_text}
 use Rattle.wrp_asked.specs.ReplayHeadline.{EndsInputs, FramesOnlyCount, InputsCame, LeavesOneCountIf, OutputsOf, ReplayHeadline, ReplaysAreTold}

@@ -45,6 +45,6 @@ pub fn run_alone<S: Source, K: Sink>(
     ensures read { FailsBy Status.ReadFault result (passage S.left S.faults source.old source.new) }
     ensures write { FailsBy Status.WriteFault result (passage K.held K.faults sink.old sink.new) }
 {
-    let _asked = asked;
+    let _words = words;
     handle(alloc, alone, source, sink)
 }

@@ -73,7 +73,7 @@ pub fn take_front<S: Source, K: Sink>(
     ensures write { IfErr result (λ status. FailsBy Status.WriteFault status
         (passage K.held K.faults sink.old sink.new)) }
 {
-    let _asked = asked;
+    let _words = words;
     let NetworkText { text, end } = take_network(alloc, reader, source);
     match end {
         End::TooLong => return Err(answer(sink, Status::TooLarge, TOO_LARGE_LINE.as_bytes())),

@@ -103,7 +103,7 @@ fn run_behind<S: Source, K: Sink, N: Link>(
     ensures linked { FailsBy Status.LinkFault result (passage N.told N.faults link.old link.new) }
     ensures unstarted { IsUncalled result → link.new ≡ link.old }
 {
-    let _asked = asked;
+    let _words = words;
     let own = match read_network(alloc, &front.text) {
         Ok(own) => own,
         Err(fault) => return refuse_network(alloc, sink, &fault),

@@ -135,7 +135,7 @@ fn work_behind<S: Source, K: Sink>(
     ensures read { FailsBy Status.ReadFault result (passage S.left S.faults source.old source.new) }
     ensures write { FailsBy Status.WriteFault result (passage K.held K.faults sink.old sink.new) }
 {
-    let _asked = asked;
+    let _words = words;
     let own = match read_network(alloc, &front.text) {
         Ok(own) => own,
         Err(fault) => return refuse_network(alloc, sink, &fault),
@@ -167,7 +167,7 @@ fn replay_behind<S: Source, K: Sink>(
     ensures read { FailsBy Status.ReadFault result (passage S.left S.faults source.old source.new) }
     ensures write { FailsBy Status.WriteFault result (passage K.held K.faults sink.old sink.new) }
 {
-    let _asked = asked;
+    let _words = words;
     let _name = name;
     let net = &*front.net;
     replay(alloc, Replayed { net, node }, reader, source, sink)
@@ -191,7 +191,7 @@ fn lacks_node<S: Source, K: Sink>(
     ensures read { FailsBy Status.ReadFault result (passage S.left S.faults source.old source.new) }
     ensures write { FailsBy Status.WriteFault result (passage K.held K.faults sink.old sink.new) }
 {
-    let _asked = asked;
+    let _words = words;
     let _name = name;
     let _front = front;
     let _reader = reader;

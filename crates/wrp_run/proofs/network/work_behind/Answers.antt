@@ -1,5 +1,5 @@
 -- The work on a network, told of the whole input; or its text cannot be read once more.
-use Rattle.std.proofs.Common.{ℕ, List, Ok, Err, subst, sym}
+use Rattle.std.proofs.Common.{ℕ, List, Ok, Err, refl, subst, sym}
 use Rattle.wrp_config.proofs.OneReading.{one_reading}
 use Rattle.wrp_config.specs.declared.network.Network.{Network}
 use Rattle.wrp_config.specs.Reading.{IsReadingOf}
@@ -9,6 +9,7 @@ use Rattle.wrp_audit.specs.AuditStands.{setting_in}
 use Rattle.wrp_asked.specs.Ends.{Run, begun_at}
 use Rattle.wrp_words.specs.Requests.{asked_in}
 use Rattle.wrp_asked.proofs.Asking.{TookNetwork, records_end, refused_ends, uncalled}
+use Rattle.wrp_asked.proofs.LoopEnding.{refused_unread}
 use Rattle.wrp_run.proofs.AskingWork.{WorkTask, asks_same, fits_same, work_networked, work_task}
 use Rattle.wrp_run.proofs.network.work_behind.Goals as goal
 
@@ -25,6 +26,9 @@ returns-in-Err-clause-ends g c = λ first front link same.
     let reads = subst (λ (t : List ℕ). IsReadingOf t (Err c.in-Err.fault)) c.deref.ensures.value c.in-Err.ensures.refused in
     refused_ends run c.refuse_network.result front.network text c.in-Err.fault c.args.reader.now (work_networked asked c.args.front.net.value c.args.work c.requires.asks) front.taken front.divided front.within
     front.at_end reads c.refuse_network.ensures.how c.refuse_network.ensures.rose (uncalled link same)
+
+pub returns-in-Err-clause-read : goal.returns-in-Err-clause-read
+returns-in-Err-clause-read g c = refused_unread c.in-Err.fault c.refuse_network.result _ _ _ c.refuse_network.ensures.how refl
 
 pub work_on-requires-clause-same : goal.work_on-requires-clause-same
 work_on-requires-clause-same g c =
