@@ -2,6 +2,11 @@
 //! sockets, handed to `run`. The process ends with the status's number.
 #![tactic(auto)]
 
+ghost use Rattle.std.specs.Prelude.{◌≡◌, IfOk, IfErr, drop, map, string_bytes};
+ghost use Rattle.std.specs.Process.{exit_status};
+ghost use Rattle.wrp_words.specs.Words.{texts_of};
+ghost use Rattle.wrp_records.specs.Statuses.{number_of};
+
 use std::alloc::{AllocError, Global};
 use std::net::Net;
 use std::process::ExitCode;
@@ -20,13 +25,25 @@ fn run_words<R: AllocGlobal + Input + Print + Net>(rt: &R, words: &[&str]) -> St
     run(alloc, words, &mut source, &mut sink, &mut link)
 }
 
-/// The words after the program's name, by reference.
-fn borrowed<'a>(alloc: Global, words: &'a [String]) -> Result<Vec<&'a str>, AllocError> {
+/// Words by reference, in their order.
+fn lent<'a>(alloc: Global, words: &'a [String]) -> Result<Vec<&'a str>, AllocError>
+    ensures { IfOk result (λ texts. texts_of texts.items ≡ map string_bytes words.now) }
+{
     let mut texts = Vec::new(alloc);
-    for word in words.iter().skip(1) {
+    for word in words {
         texts.push(word.as_str())?;
     }
     Ok(texts)
+}
+
+/// The words after the program's name, by reference, in their order.
+fn borrowed<'a>(alloc: Global, words: &'a [String]) -> Result<Vec<&'a str>, AllocError>
+    ensures { IfOk result (λ texts. texts_of texts.items ≡ drop 1 (map string_bytes words.now)) }
+{
+    match words {
+        [] => Ok(Vec::new(alloc)),
+        [_, rest @ ..] => lent(alloc, rest),
+    }
 }
 
 /// Runs the program. Words that are no UTF-8 are no command.
@@ -42,6 +59,14 @@ fn status<R: AllocGlobal + Env + Input + Print + Net>(rt: &R) -> Result<Status, 
     }
 }
 
+/// The status's number; that of OutOfMemory where there was no memory for the words.
+fn exit_code(ended: Result<Status, AllocError>) -> ExitCode
+    ensures ended { IfOk ended (λ status. exit_status result ≡ number_of status) }
+    ensures memory { IfErr ended (λ error. exit_status result ≡ 9) }
+{
+    ExitCode::from(ended.unwrap_or(Status::OutOfMemory).number())
+}
+
 fn main(rt: HostRuntime) -> ExitCode {
-    ExitCode::from(status(&rt).unwrap_or(Status::OutOfMemory).number())
+    exit_code(status(&rt))
 }
