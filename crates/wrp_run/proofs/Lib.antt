@@ -1,3 +1,4 @@
 pub mod AskingWork
 pub mod Reporting
 pub mod Shown
+pub mod Synced

@@ -1,5 +1,5 @@
 -- Words whose command reports true offsets ask for nothing else, and the line for words that are refused has no track line.
-use Rattle.std.proofs.Common.{◌≡◌, inl, inr, refl, sym, subst, ℕ, ◌≤◌, drop, Option, None, Some, option_map, List, [], ◌∷◌, codes, arith}
+use Rattle.std.proofs.Common.{inl, inr, refl, sym, subst, ℕ, ◌≤◌, drop, Option, None, Some, option_map, List, [], ◌∷◌, codes, arith}
 use Rattle.std.specs.Prelude.{option_and_then}
 use Rattle.std.specs.Borrow.{Bor}
 use Rattle.wrp_commands.specs.Request.{Loop, OnNetwork, Simulate}

@@ -1,35 +1,31 @@
 -- What an audit and a run over a link wrote is divided into the lines of its event lines, each of which says its event: so each track
 -- line follows from them, by the law of all runs.
-use Rattle.std.proofs.Common.{◌≡◌, ◌⊎◌, inl, inr, ◌∙◌, refl, ap, ap₂, sym, subst, append-nil, append_assoc, ℕ, ◌+◌, ◌==◌, pos, Bool, true, false, if◌then◌else◌, List, [], ◌∷◌, ◌++◌, map, flat_map, reverse, take, drop, length, Option, None, Some, Result, Ok, arith, codes}
+use Rattle.std.proofs.Common.{◌≡◌, ◌⊎◌, inl, inr, ◌∙◌, refl, ap, ap₂, sym, subst, append-nil, ℕ, ◌+◌, ◌==◌, pos, Bool, true, false, if◌then◌else◌, List, [], ◌∷◌, ◌++◌, map, flat_map, reverse, take, drop, length, Option, None, Some, Result, Ok, codes}
 use Rattle.std.specs.Prelude.{IfSome, slice_get}
 use Rattle.std.specs.Fmt.{decimal}
 use Rattle.std.specs.Io.KnownBytes.{Appends}
 use Rattle.std.specs.List.{AllByRecursion, concat}
 use Rattle.std.proofs.lemmas.List.{map-append, reverse-append, reverse-reverse, take-append-drop}
-use Rattle.std.proofs.lemmas.List.Folds.{concat-append}
 use Rattle.toml.specs.Data.{Members}
-use Rattle.wrp_base.specs.declared.configuration.NetCfg.{NetCfg}
 use Rattle.wrp_base.specs.declared.fault.TraceFault.{TraceFault}
 use Rattle.wrp_base.specs.Network.{name_at}
 use Rattle.wrp_base.proofs.Lists.{all_append, heads, tails}
 use Rattle.wrp_bounds.specs.Bounds.{path_of}
 use Rattle.wrp_config.specs.Accepted.{HasNames}
 use Rattle.wrp_config.specs.Config.{IsNetworkOf}
-use Rattle.wrp_config.specs.declared.network.Network.{Network}
-use Rattle.wrp_config.specs.Reading.{IsAnswerOf}
 use Rattle.wrp_config.specs.Same.{ReadingIsAccepted}
 use Rattle.wrp_caldb.specs.Reading.{IsTextOf}
 use Rattle.wrp_course.specs.declared.event.Event.{Event}
 use Rattle.wrp_course.specs.Given.{NodeStepAt}
 use Rattle.wrp_course.specs.Run.{Happened, steps_at, world_after}
-use Rattle.wrp_course.specs.Runs.{AllEvents, IsNetwork, IsRun}
+use Rattle.wrp_course.specs.Runs.{AllEvents, IsNetwork}
 use Rattle.wrp_course.specs.Setting.{Setting, nodes_of}
 use Rattle.wrp_course.specs.WorldAt.{WorldAt}
 use Rattle.wrp_data.specs.Counters.{count_at}
 use Rattle.wrp_data.specs.declared.reason.Reason.{Reason}
 use Rattle.wrp_data.specs.Reason.{number_of, reasons}
 use Rattle.wrp_io.specs.declared.link.LinkCall.{LinkCall}
-use Rattle.wrp_lines.specs.Lines.{count_words, output_line, output_words}
+use Rattle.wrp_lines.specs.Lines.{output_line, output_words}
 use Rattle.wrp_lines.specs.Words.{reason_word}
 use Rattle.wrp_loop.specs.Laws.{LoopIsAudited}
 use Rattle.wrp_loop.specs.LoopRun.{Going, Plan, events_at, place}
@@ -51,16 +47,16 @@ use Rattle.wrp_trace.specs.Events.{EventsCanCome, event_read}
 use Rattle.wrp_trace.specs.LineSetting.{has_port, line_setting_in}
 use Rattle.wrp_trace.proofs.EventsReadBack.{events_back}
 use Rattle.wrp_truth.specs.Chains.{AllFit}
-use Rattle.wrp_audit.specs.Audited.{AreEvents, IsSettingOf, setting_at}
+use Rattle.wrp_audit.specs.Audited.{AreEvents, IsSettingOf}
 use Rattle.wrp_audit.specs.AuditLaws.{OneAudit}
-use Rattle.wrp_audit.specs.AuditText.{all_counts, audit_lines, event_lines}
+use Rattle.wrp_audit.specs.AuditText.{all_counts, event_lines}
 use Rattle.wrp_printed_laws.specs.Laws.{AreSeen, OffsetsFollow, lines_at, output_lines, step_lines}
-use Rattle.wrp_printed_laws.specs.Offsets.{AllFollow, Seen}
+use Rattle.wrp_printed_laws.specs.Offsets.{Seen}
 use Rattle.wrp_commands.specs.Request.{CommandLine}
 use Rattle.wrp_asked.specs.EmitHeadline.{TellsNoTrack}
 use Rattle.wrp_asked.specs.Ends.{Ends, Run}
 use Rattle.wrp_asked.specs.Headline.{Came, CarriesRun, EventsCarryParts, Headline, Prints, ReachesNone, StepsOf}
-use Rattle.wrp_asked.specs.Input.{behind_separator, network_text}
+use Rattle.wrp_asked.specs.Input.{network_text}
 use Rattle.wrp_asked.specs.LoopHeadline.{IsLoopDue, LacksLink, LoopHeadline, LoopOf, Looped, LoopedEventsCarryParts, StandsBehind}
 use Rattle.wrp_asked.specs.SimHeadline.{NamesLine}
 use Rattle.wrp_asked.specs.Tasks.{IsAuditing, IsLooping}
@@ -84,7 +80,7 @@ each_same : {A : Type 0} (f g : A → List (List ℕ)) → ((a : A) → f a ≡ 
 each_same f g same [] = refl
 each_same f g same (x ∷ xs) = ap₂ (λ (a b : List (List ℕ)). a ++ b) (same x) (each_same f g same xs)
 
-same_lines : (s : Setting) (before : List Happened) (h : Happened) → lines_at (λ o. true) s before h ≡ steps_lines s before h
+pub same_lines : (s : Setting) (before : List Happened) (h : Happened) → lines_at (λ o. true) s before h ≡ steps_lines s before h
 same_lines s before h =
     let w : WorldAt = world_after s (h ∷ before) in
     each_same (step_lines (λ o. true) s w) (looped.step_lines s w)
@@ -283,7 +279,7 @@ front_all : {A : Type 0} (P : A → Type 0) (xs ys : List A) → AllByRecursion 
 front_all P [] ys h = tt
 front_all P (x ∷ xs) ys h = (h.0, front_all P xs ys h.1)
 
-loop_whole : (s : Setting) → IsNetwork s → (events : List Happened) → AllEvents s.cfg events → AllFit events → AllByRecursion IsWhole (loop_lines s events)
+pub loop_whole : (s : Setting) → IsNetwork s → (events : List Happened) → AllEvents s.cfg events → AllFit events → AllByRecursion IsWhole (loop_lines s events)
 loop_whole s net events each fit =
     let counts : List (List ℕ) = count_lines s (world_after s events) in
     front_all IsWhole (loop_lines s events) counts (front_all IsWhole (loop_lines s events ++ counts) (forged_lines 0) (all_whole s net events each fit 0))

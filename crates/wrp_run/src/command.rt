@@ -12,6 +12,7 @@ ghost use Rattle.wrp_asked.specs.Alone.{HasAim, IsAlone};
 ghost use Rattle.wrp_asked.specs.Answer.{Answer, IsCommand};
 ghost use Rattle.wrp_run.specs.Asked.{AsksSo};
 ghost use Rattle.wrp_run.specs.Shown.{AuditFollows, LoopFollows};
+ghost use Rattle.wrp_run.specs.Synced.{RunsNetwork, StepsComeInSync};
 ghost use Rattle.wrp_asked.specs.EmitHeadline.{EmitHeadline};
 ghost use Rattle.wrp_asked.specs.Ends.{Ends, IsToldOf};
 ghost use Rattle.wrp_loop.specs.LoopPasses.{IsUncalled};
@@ -38,7 +39,7 @@ use wrp_config::reading_is_accepted;
 use wrp_io::{Link, Sink, Source};
 use wrp_loop::loop_is_audited;
 use wrp_node::one_run;
-use wrp_printed_laws::offsets_follow;
+use wrp_printed_laws::{offsets_follow, steps_come_synced};
 use wrp_records::{Status, answer};
 use wrp_servo::told_last;
 use wrp_trace::events_can_come;
@@ -171,6 +172,13 @@ pub fn run<S: Source, K: Sink, N: Link>(
     ensures looped_follows { (seed : ℕ) → IsLooping (asked_in words.now) seed → IfSome (S.left source.old) (λ input.
         (octets : List ℕ) × Appends (K.held sink.old) (K.held sink.new) octets × LoopFollows input octets) }
 
+    // Of an audit, a simulation and a run over a link, for each status: each line NODE TICK step CYCLES
+    // that is written, with its LF, comes while the last line NODE TICK servo STATE of this node before
+    // it says sync-tai or sync-nsec.
+    ensures synced { RunsNetwork (asked_in words.now) → IfSome (S.left source.old) (λ input.
+        (octets : List ℕ) × Appends (K.held sink.old) (K.held sink.new) octets
+        × StepsComeInSync octets) }
+
     // Words that are no command are refused with nothing read. No link is used but by a loop, and by a loop not where
     // the status tells of its words, its network, a record or the source. That it is used only behind the whole scenario,
     // also where memory lacked, a line was too large or a write failed, stands in `ends`, of a link that tells its calls.
@@ -191,5 +199,6 @@ pub fn run<S: Source, K: Sink, N: Link>(
     reading_is_accepted();
     events_can_come();
     offsets_follow();
+    steps_come_synced();
     run_command(alloc, words, source, sink, link)
 }

@@ -8,6 +8,7 @@ use Rattle.wrp_asked.proofs.SimTold.{simulation_told}
 use Rattle.wrp_words.specs.Words.{texts_of}
 use Rattle.wrp_run.proofs.Reporting.{offsets_reported, usage_is_plain}
 use Rattle.wrp_run.proofs.Shown.{audit_told, loop_told}
+use Rattle.wrp_run.proofs.Synced.{steps_synced}
 use Rattle.wrp_run.proofs.command.run.Goals as goal
 
 pub returns-clause-due : goal.returns-clause-due
@@ -48,3 +49,17 @@ returns-clause-follows g c = λ audits.
 pub returns-clause-looped_follows : goal.returns-clause-looped_follows
 returns-clause-looped_follows g c = λ seed looping.
     loop_told c.offsets_follow.ensures c.looped_events_carry_parts.ensures c.loop_is_audited.ensures _ c.run_command.result seed c.run_command.ensures.ends looping
+
+pub returns-clause-synced : goal.returns-clause-synced
+returns-clause-synced g c = λ asks.
+    steps_synced
+    (record {
+      accepted = c.reading_is_accepted.ensures;
+      can = c.events_can_come.ensures;
+      law = c.steps_come_synced.ensures;
+      audits = c.events_carry_parts.ensures;
+      simulations = c.made_events_carry_parts.ensures;
+      loops = c.looped_events_carry_parts.ensures;
+      one = c.one_audit.ensures;
+      apart = c.loop_is_audited.ensures;
+    }) _ c.run_command.result c.run_command.ensures.ends asks
