@@ -1,3 +1,4 @@
 pub mod AskingWork
+pub mod Ending
 pub mod Reporting
 pub mod Shown
