@@ -4,6 +4,7 @@
 
 ghost use Rattle.std.specs.Prelude.{◌≡◌, IfOk, IfErr, drop, map, string_bytes};
 ghost use Rattle.std.specs.Process.{exit_status};
+ghost use Rattle.wrnet.specs.Ending.{MayEndOf};
 ghost use Rattle.wrp_words.specs.Words.{texts_of};
 ghost use Rattle.wrp_records.specs.Statuses.{number_of};
 
@@ -16,8 +17,10 @@ use wrp_io::{StdSink, StdSource, UdpLink};
 use wrp_run::{Status, run};
 
 /// Hands words to `run`, with standard input, standard output and a link over sockets, which has no
-/// ends until it is started.
-fn run_words<R: AllocGlobal + Input + Print + Net>(rt: &R, words: &[&str]) -> Status {
+/// ends until it is started. The status is one with which a run of these words may end.
+fn run_words<R: AllocGlobal + Input + Print + Net>(rt: &R, words: &[&str]) -> Status
+    ensures { MayEndOf (texts_of words.now) result }
+{
     let alloc = rt.alloc();
     let mut source = StdSource::new(rt.reader());
     let mut sink = StdSink::new(io::writer(rt));
@@ -46,13 +49,22 @@ fn borrowed<'a>(alloc: Global, words: &'a [String]) -> Result<Vec<&'a str>, Allo
     }
 }
 
+/// Runs the words after the program's name, which comes first.
+fn run_args<R: AllocGlobal + Input + Print + Net>(
+    rt: &R,
+    args: &[String],
+) -> Result<Status, AllocError>
+    ensures { IfOk result (MayEndOf (drop 1 (map string_bytes args.now))) }
+{
+    Ok(run_words(rt, &borrowed(rt.alloc(), args)?))
+}
+
 /// Runs the program. Words that are no UTF-8 are no command.
 fn status<R: AllocGlobal + Env + Input + Print + Net>(rt: &R) -> Result<Status, AllocError> {
-    let alloc = rt.alloc();
     match env::args(rt) {
         Ok(args) => {
-            let words: Vec<String> = args.collect(alloc)?;
-            Ok(run_words(rt, &borrowed(alloc, &words)?))
+            let words: Vec<String> = args.collect(rt.alloc())?;
+            run_args(rt, &words)
         }
         Err(error) if error.kind() == io::ErrorKind::OutOfMemory => Err(AllocError),
         Err(_) => Ok(run_words(rt, &[])),

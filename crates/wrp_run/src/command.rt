@@ -11,6 +11,7 @@ ghost use Rattle.wrp_commands.specs.declared.alone.Alone.{Alone};
 ghost use Rattle.wrp_asked.specs.Alone.{HasAim, IsAlone};
 ghost use Rattle.wrp_asked.specs.Answer.{Answer, IsCommand};
 ghost use Rattle.wrp_run.specs.Asked.{AsksSo};
+ghost use Rattle.wrp_run.specs.Ending.{MayEnd};
 ghost use Rattle.wrp_run.specs.Shown.{AuditFollows, LoopFollows};
 ghost use Rattle.wrp_run.specs.Synced.{RunsNetwork, StepsComeInSync};
 ghost use Rattle.wrp_asked.specs.EmitHeadline.{EmitHeadline};
@@ -99,6 +100,10 @@ pub fn run<S: Source, K: Sink, N: Link>(
       sink = passage K.held K.faults sink.old sink.new;
       link = passage N.told N.faults link.old link.new;
     }) result }
+
+    // The status by what the words ask for: words that are no command end with Usage, but for a
+    // failed write and for want of memory, and each other status needs a command that may answer it.
+    ensures may { MayEnd (asked_in words.now) result }
 
     // A fault is told: where the source, the sink or the link failed in this run, the status says so.
     ensures read_kept { (result ≡ Status.ReadFault → ⊥)

@@ -6,10 +6,14 @@ use Rattle.wrp_asked.proofs.LoopTold.{looped_told}
 use Rattle.wrp_asked.proofs.OneAnswer.{told_one, ends_answered}
 use Rattle.wrp_asked.proofs.SimTold.{simulation_told}
 use Rattle.wrp_words.specs.Words.{texts_of}
+use Rattle.wrp_run.proofs.Ending.{may_end}
 use Rattle.wrp_run.proofs.Reporting.{offsets_reported, usage_is_plain}
 use Rattle.wrp_run.proofs.Shown.{audit_told, loop_told}
 use Rattle.wrp_run.proofs.Synced.{steps_synced}
 use Rattle.wrp_run.proofs.command.run.Goals as goal
+
+pub returns-clause-may : goal.returns-clause-may
+returns-clause-may g c = may_end _ c.run_command.result c.run_command.ensures.ends
 
 pub returns-clause-due : goal.returns-clause-due
 returns-clause-due g c = λ status octets calls is told.
