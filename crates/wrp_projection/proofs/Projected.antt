@@ -1,5 +1,5 @@
 -- An audit and the inputs that it gives a node are of one run, and the replay on these inputs is the node's part of it.
-use Rattle.std.proofs.Common.{◌≡◌, ◌∙◌, inl, inr, refl, ap, ap₂, sym, subst, append-nil, ℕ, ◌<◌, ◌≤◌, ◌^◌, ◌==◌, Some, Ok, List, [], ◌∷◌, ◌++◌, map, reverse, length, codes, arith}
+use Rattle.std.proofs.Common.{◌≡◌, ◌∙◌, inl, inr, refl, ap, ap₂, sym, subst, append-nil, ℕ, ◌<◌, ◌≤◌, ◌^◌, ◌==◌, Some, Ok, List, [], ◌∷◌, ◌++◌, map, reverse, length, arith}
 use Rattle.std.specs.List.{AllByRecursion}
 use Rattle.std.proofs.lemmas.List.{length-map, length-reverse, reverse-reverse}
 use Rattle.wrp_base.specs.declared.configuration.NetCfg.{NetCfg}

@@ -1,5 +1,5 @@
 -- The run over a link, told of the whole input; or its text cannot be read once more.
-use Rattle.std.proofs.Common.{inr, ℕ, List, Ok, Err, subst, refl, sym}
+use Rattle.std.proofs.Common.{ℕ, List, Ok, Err, subst, refl, sym}
 use Rattle.wrp_config.proofs.OneReading.{one_reading}
 use Rattle.wrp_config.specs.declared.network.Network.{Network}
 use Rattle.wrp_config.specs.Reading.{IsReadingOf}

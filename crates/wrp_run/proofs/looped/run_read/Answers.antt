@@ -1,5 +1,5 @@
 -- What stands behind the front is told of the whole input.
-use Rattle.std.proofs.Common.{◌∙◌, inr, refl, ℕ, subst}
+use Rattle.std.proofs.Common.{◌∙◌, refl, ℕ, subst}
 use Rattle.wrp_io.specs.Faults.{Rose}
 use Rattle.wrp_records.specs.Passages.{passage}
 use Rattle.wrp_asked.specs.Ends.{Ends}
