@@ -30,8 +30,8 @@ use Rattle.wrp_audit.specs.Broken.{broken_line}
 use Rattle.wrp_audit.proofs.OneAudit.{one_line, read}
 use Rattle.wrp_due.proofs.Happening.{event_answered, event_said, event_tried}
 use Rattle.wrp_due.proofs.Heard.{all_heard, lines_hand_on}
-use Rattle.wrp_due.proofs.LinesAnswered.{GoesOn, IsTotal, Refused, lines_answered}
-use Rattle.wrp_due.specs.Due.{HasAnswer}
+use Rattle.wrp_records.proofs.LinesAnswered.{GoesOn, IsTotal, Refused, lines_answered}
+use Rattle.wrp_records.specs.RecordsAnswer.{HasAnswer}
 
 -- Lines that say events
 

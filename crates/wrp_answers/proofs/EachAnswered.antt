@@ -12,7 +12,7 @@ use Rattle.wrp_records.specs.declared.status.Status.{Status}
 use Rattle.wrp_records.specs.declared.status.Status.TheVariants.{Done, Usage, BadNetwork, BadTrace, Broken, ReadFault, WriteFault, LinkFault, TooLarge, OutOfMemory, BadCapture, BadCalib}
 use Rattle.wrp_records.specs.Lines.{lines_of}
 use Rattle.wrp_records.specs.declared.machine.Refusal.TheVariants as refusals
-use Rattle.wrp_records.specs.RecordsAnswer.{IsLarge, IsRefused, RecordsAnswer}
+use Rattle.wrp_records.specs.RecordsAnswer.{IsLarge, IsRefused, RecordsAnswer, HasAnswer}
 use Rattle.wrp_records.specs.Refusals.{bad_network_line, too_large_line}
 use Rattle.wrp_scene_records.specs.Scenarios.{scenario_of}
 use Rattle.wrp_simulate.specs.Simulates.{simulation_of}
@@ -31,7 +31,6 @@ use Rattle.wrp_asked.proofs.WordLemmas.{asks_nothing}
 use Rattle.wrp_answers.proofs.Replaying.{each_replay_has_answer}
 use Rattle.wrp_answers.proofs.Simulating.{simulation_answered}
 use Rattle.wrp_answers.proofs.StandingAlone.{each_stands_alone_with_answer}
-use Rattle.wrp_due.specs.Due.{HasAnswer}
 use Rattle.wrp_answers.specs.EachAnswer.{EachHasAnswer, NeedsCalls}
 
 abbrev Answered : CommandLine → List ℕ → Type 0

@@ -4,9 +4,8 @@ use Rattle.std.specs.List.{AllByRecursion, list_all}
 use Rattle.std.proofs.lemmas.Bool.{and_parts, not-true, true≢false}
 use Rattle.wrp_config.specs.Same.{ReadingIsAccepted}
 use Rattle.wrp_records.specs.Lines.{lines_of}
-use Rattle.wrp_records.specs.Words.{line_of}
+use Rattle.wrp_records.specs.Words.{line_of, IsWord, is_word_octet}
 use Rattle.wrp_audit.specs.AuditText.{given_lines}
-use Rattle.wrp_asked.specs.EventLines.{IsWord, is_word_octet}
 use Rattle.wrp_asked.specs.Input.{network_text}
 use Rattle.wrp_asked.proofs.InputLines.{pass_events}
 use Rattle.wrp_answers.proofs.AcceptedLines.{of_text}

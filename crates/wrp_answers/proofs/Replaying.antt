@@ -19,9 +19,9 @@ use Rattle.wrp_replay.specs.DownLaw.{law_at, node_setting_at}
 use Rattle.wrp_replay.specs.NodeText.{Writes, node_counts, output_lines}
 use Rattle.wrp_replay.specs.Replays.{Accepts, meaning_of}
 use Rattle.wrp_replay.proofs.OneReplay.{one_more}
-use Rattle.wrp_due.proofs.LinesAnswered.{Ends, GoesOn, IsTotal, Refused, lines_answered}
+use Rattle.wrp_records.proofs.LinesAnswered.{Ends, GoesOn, IsTotal, Refused, lines_answered}
 use Rattle.wrp_due.proofs.Measuring.{step_answered}
-use Rattle.wrp_due.proofs.Saying.{each_says}
+use Rattle.wrp_frame.proofs.Saying.{each_says}
 use Rattle.wrp_answers.specs.EachAnswer.{EachReplayHasAnswer}
 
 -- what an input says, where it is a frame

@@ -20,8 +20,8 @@ use Rattle.wrp_replay.specs.DownLaw.{law_at}
 use Rattle.wrp_simulate.specs.SimText.{sim_lines, sum_lines}
 use Rattle.wrp_due.proofs.Arriving.{next_arrival}
 use Rattle.wrp_due.proofs.Happening.{event_answered, event_said}
-use Rattle.wrp_due.proofs.LinesAnswered.{Ends, GoesOn, IsTotal, Refused, lines_answered}
-use Rattle.wrp_due.specs.Due.{HasAnswer}
+use Rattle.wrp_records.proofs.LinesAnswered.{Ends, GoesOn, IsTotal, Refused, lines_answered}
+use Rattle.wrp_records.specs.RecordsAnswer.{HasAnswer}
 
 -- Scenarios
 

@@ -3,7 +3,7 @@ use Rattle.std.specs.Prelude.{◌⊎◌, ℕ, List, [], map}
 use Rattle.wrp_course.specs.Setting.{Setting}
 use Rattle.wrp_records.specs.Lines.{content_of, lines_of}
 use Rattle.wrp_records.specs.declared.status.Status.{Status}
-use Rattle.wrp_due.specs.Due.{HasAnswer}
+use Rattle.wrp_records.specs.RecordsAnswer.{HasAnswer}
 use Rattle.wrp_commands.specs.declared.alone.Alone.{Alone}
 use Rattle.wrp_commands.specs.Request.{CommandLine}
 use Rattle.wrp_asked.specs.Alone.{alone_meaning}

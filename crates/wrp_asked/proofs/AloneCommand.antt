@@ -1,7 +1,7 @@
 -- What is shown of each command that stands alone, for all that is told of it above.
 use Rattle.std.proofs.Common.{◌≡◌, ◌⊎◌, refl, true, ℕ, List, [], ◌++◌, take}
 use Rattle.wrp_io.specs.declared.link.LinkCall.{LinkCall}
-use Rattle.wrp_due.specs.Due.{HasAnswer}
+use Rattle.wrp_records.specs.RecordsAnswer.{HasAnswer}
 use Rattle.wrp_records.specs.ByLines.{of_lines}
 use Rattle.wrp_records.specs.LineMeaning.{LineMeaning}
 use Rattle.wrp_records.specs.Lines.{lines_of}

@@ -16,8 +16,9 @@ use Rattle.wrp_course.specs.declared.event.Event.TheVariants.{Pass, Tick, Sample
 use Rattle.wrp_course.specs.declared.event.Swap.{Swap}
 use Rattle.wrp_course.specs.EventAt.{IsEventOf, IsSwap}
 use Rattle.wrp_trace.specs.EventPrinting.{drift_text, drift_texts, drift_words, event_text, event_texts, link_text, move_text, move_texts, move_words, swap_text}
-use Rattle.wrp_asked.specs.EventLines.{IsWord, is_word_octet}
-use Rattle.wrp_asked.proofs.EventLines.{AreWords, at_word, decimal_word, hex_word, name_word, onto_word, signed_word}
+use Rattle.wrp_records.specs.Words.{IsWord, is_word_octet}
+use Rattle.wrp_lines.proofs.LineWords.{at_word, hex_word, name_word}
+use Rattle.wrp_records.proofs.WordLemmas.{AreWords, decimal_word, onto_word, signed_word}
 use Rattle.wrp_asked.proofs.InputLines.{joined_word, word_append}
 
 -- Texts of two parts, and texts that may be none

@@ -21,8 +21,9 @@ use Rattle.wrp_records.proofs.Feeds.{lines_of-whole}
 use Rattle.wrp_trace.specs.LineSetting.{LineSetting, has_values, line_setting_in, module_of}
 use Rattle.wrp_trace.specs.Printing.{line_of as input_line, message_text, module_text, texts_of}
 use Rattle.wrp_audit.specs.AuditText.{given_line, given_lines}
-use Rattle.wrp_asked.specs.EventLines.{IsWord, is_word_octet}
-use Rattle.wrp_asked.proofs.EventLines.{AreWords, decimal_word, hex_word, name_word, signed_word, word_plain}
+use Rattle.wrp_records.specs.Words.{IsWord, is_word_octet}
+use Rattle.wrp_lines.proofs.LineWords.{hex_word, name_word}
+use Rattle.wrp_records.proofs.WordLemmas.{AreWords, decimal_word, signed_word, word_plain}
 
 -- Words
 

@@ -10,7 +10,7 @@ use Rattle.wrp_base.proofs.Lists.{all_weaker}
 use Rattle.wrp_bounds.specs.Bounds.{path_of}
 use Rattle.wrp_config.specs.Accepted.{HasNames}
 use Rattle.wrp_lines.specs.Lines.{output_line, output_words}
-use Rattle.wrp_records.specs.Words.{line_of}
+use Rattle.wrp_records.specs.Words.{line_of, IsWord}
 use Rattle.wrp_lines.specs.Words.{link_word}
 use Rattle.wrp_node.specs.declared.interface.Output.{Output}
 use Rattle.wrp_node.specs.declared.interface.Output.TheVariants.{Send, Step, Dac, Report}
@@ -19,10 +19,11 @@ use Rattle.wrp_course.specs.Earned.{AreTrueReports, IsOn, IsTrueReport}
 use Rattle.wrp_course.specs.Given.{NodeStepAt}
 use Rattle.wrp_course.specs.Setting.{Setting}
 use Rattle.wrp_course.specs.WorldAt.{WorldAt}
-use Rattle.wrp_asked.specs.EventLines.{IsWord}
 use Rattle.wrp_asked.specs.Headline.{IsEarnedLine}
 use Rattle.wrp_records.specs.Lines.{lines_of}
-use Rattle.wrp_asked.proofs.EventLines.{SameWord, at_word, behind_two, decimal_word, first_word, head_of, line_at, lines_by, next_of, rest_of, steps_lines}
+use Rattle.wrp_asked.proofs.EventLines.{line_at, lines_by, next_of, steps_lines}
+use Rattle.wrp_lines.proofs.LineWords.{at_word, behind_two}
+use Rattle.wrp_records.proofs.WordLemmas.{SameWord, decimal_word, first_word, head_of, rest_of}
 
 -- the line that says that a link is on, behind the first two words
 abbrev OnLine : List ℕ → List ℕ

@@ -16,17 +16,16 @@ use Rattle.wrp_records.specs.declared.status.Status.TheVariants.{Done, Usage, Ba
 use Rattle.wrp_records.specs.Lines.{IsWhole, lines_of}
 use Rattle.wrp_records.specs.Refusals.{bad_network_line, bad_trace_line, code_name, code_of, field_of, name_of, too_large_line}
 use Rattle.wrp_records.specs.Stream.{large_line}
-use Rattle.wrp_records.specs.Words.{line_of}
+use Rattle.wrp_records.specs.Words.{line_of, IsWord}
 use Rattle.wrp_records.proofs.Feeds.{lines_of-whole}
 use Rattle.wrp_audit.specs.Audited.{IsSettingOf}
 use Rattle.wrp_commands.specs.Request.{CommandLine}
 use Rattle.wrp_asked.specs.EmitHeadline.{EmissionsTellNoTrack, HasPlainUsage, InputsOf, LacksNode, TellsNoTrack}
-use Rattle.wrp_asked.specs.EventLines.{IsWord}
 use Rattle.wrp_asked.specs.Headline.{EndsEvents, ReachesNone}
 use Rattle.wrp_asked.specs.Input.{network_text}
 use Rattle.wrp_audit.specs.Broken.{broken_line, premise_name}
 use Rattle.wrp_replay.specs.Replays.{IsRefusedBy}
-use Rattle.wrp_asked.proofs.EventLines.{decimal_word, either_word, first_word, head_of, line_whole, signed_word}
+use Rattle.wrp_records.proofs.WordLemmas.{decimal_word, either_word, first_word, head_of, line_whole, signed_word}
 use Rattle.wrp_asked.proofs.InputLines.{pass_events}
 use Rattle.wrp_asked.proofs.PlaceWords.{place_word}
 use Rattle.wrp_asked.proofs.TakenLines.{HoldsInFront, taken_lines}

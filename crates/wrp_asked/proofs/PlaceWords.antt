@@ -27,8 +27,8 @@ use Rattle.wrp_config.specs.Keys.{clock_in, link_key, network_in, network_key, n
 use Rattle.wrp_config.specs.Links.{Context, LinkKey, has_link_fault, link_keys, place_in_link_table}
 use Rattle.wrp_config.specs.Places.{context_of, first_place, no_node, place_at_links, place_at_nodes, place_in_head, place_in_link, place_in_links, place_in_node, place_in_nodes, place_of_identity, place_of_port, has_text_of, repeats_lower, repeats_upper}
 use Rattle.wrp_config.specs.Reading.{IsReadingOf, clash_text}
-use Rattle.wrp_asked.specs.EventLines.{IsWord, is_word_octet}
-use Rattle.wrp_asked.proofs.EventLines.{decimal_word, signed_word}
+use Rattle.wrp_records.specs.Words.{IsWord, is_word_octet}
+use Rattle.wrp_records.proofs.WordLemmas.{decimal_word, signed_word}
 use Rattle.wrp_asked.proofs.InputLines.{word_append}
 
 -- A place that there is, is a word

@@ -31,20 +31,22 @@ use Rattle.wrp_records.specs.declared.status.Status.{Status}
 use Rattle.wrp_records.specs.declared.status.Status.TheVariants.{Done, BadTrace, LinkFault, OutOfMemory, TooLarge, WriteFault}
 use Rattle.wrp_records.specs.Lines.{HasNoFeed, IsWhole, lines_of}
 use Rattle.wrp_records.specs.Stream.{large_line}
-use Rattle.wrp_records.specs.Words.{line_of}
+use Rattle.wrp_records.specs.Words.{line_of, IsWord}
 use Rattle.wrp_records.proofs.Reaching.{lines_alone}
 use Rattle.wrp_replay.specs.NodeText.{port_numbers}
 use Rattle.wrp_audit.specs.AuditText.{all_counts, audit_lines, event_lines}
 use Rattle.wrp_commands.specs.Request.{CommandLine}
 use Rattle.wrp_asked.specs.EmitHeadline.{EmitHeadline, TellsNoTrack}
-use Rattle.wrp_asked.specs.EventLines.{AtEachEvent, IsWord, Writing}
+use Rattle.wrp_asked.specs.EventLines.{AtEachEvent, Writing}
 use Rattle.wrp_asked.specs.Headline.{Came, CarriesParts, CarriesRun, Headline, Prints, ReachesNone, StepsOf}
 use Rattle.wrp_asked.specs.Input.{network_text}
 use Rattle.wrp_asked.specs.LoopHeadline.{IsLoopDue, LacksLink, LoopHeadline, LoopOf, Looped, StandsBehind, came_lines}
 use Rattle.wrp_asked.specs.PrintedTracks.{IsWithinItsBound, TracksAreWithinBounds}
 use Rattle.wrp_asked.specs.SimHeadline.{LacksScenario, Made, NamesLine, RunOf, SimHeadline, StandsAfter, run_lines}
 use Rattle.wrp_asked.specs.TrackLines.{IsTrueAt, IsTrueLine, TellsTruth}
-use Rattle.wrp_asked.proofs.EventLines.{at_word, decimal_word, line_at, line_in_front, line_whole, lines_by, outs_lines, servo_are, signed_word, whole_line, word_plain}
+use Rattle.wrp_asked.proofs.EventLines.{line_at, lines_by, outs_lines, whole_line}
+use Rattle.wrp_lines.proofs.LineWords.{at_word, servo_are}
+use Rattle.wrp_records.proofs.WordLemmas.{decimal_word, line_in_front, line_whole, signed_word, word_plain}
 use Rattle.wrp_asked.proofs.EventWords.{event_word}
 use Rattle.wrp_asked.proofs.HeadlineParts.{network_of, setting_asked, writes}
 use Rattle.wrp_asked.proofs.InputLines.{Passes, pass_both}

@@ -27,10 +27,11 @@ use Rattle.wrp_lines.specs.Words.{reason_word}
 use Rattle.wrp_loop.specs.LoopText.{all_lines, audit_lines, forged_lines, loop_lines, marked_line, step_lines, steps_lines}
 use Rattle.wrp_node.specs.declared.interface.Output.{Output}
 use Rattle.wrp_records.specs.Lines.{HasNoFeed, IsWhole}
-use Rattle.wrp_records.specs.Words.{line_of}
-use Rattle.wrp_asked.specs.EventLines.{IsWord}
+use Rattle.wrp_records.specs.Words.{line_of, IsWord}
 use Rattle.wrp_replay.specs.NodeText.{port_numbers}
-use Rattle.wrp_asked.proofs.EventLines.{at_word, decimal_word, line_whole, whole_line}
+use Rattle.wrp_asked.proofs.EventLines.{whole_line}
+use Rattle.wrp_lines.proofs.LineWords.{at_word}
+use Rattle.wrp_records.proofs.WordLemmas.{decimal_word, line_whole}
 use Rattle.wrp_asked.proofs.ToldApart.{count_if, count_lines, flat_all, node_lines, port_if}
 use Rattle.wrp_trace.proofs.EventsReadBack.{events_back}
 use Rattle.wrp_trace.specs.EventPrinting.{event_text}

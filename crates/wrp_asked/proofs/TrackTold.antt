@@ -7,7 +7,7 @@ use Rattle.wrp_base.specs.Network.{name_at}
 use Rattle.wrp_bounds.specs.Bounds.{path_of}
 use Rattle.wrp_config.specs.Accepted.{HasNames}
 use Rattle.wrp_lines.specs.Lines.{output_words}
-use Rattle.wrp_records.specs.Words.{line_of}
+use Rattle.wrp_records.specs.Words.{line_of, IsWord}
 use Rattle.wrp_node.specs.declared.interface.Output.{Output}
 use Rattle.wrp_node.specs.declared.interface.Output.TheVariants.{Send, Step, Dac, Report}
 use Rattle.wrp_node.specs.declared.interface.Report.TheVariants.{Link, Servo, Track}
@@ -15,10 +15,11 @@ use Rattle.wrp_truth.specs.Bounds.{IsTrueOutput, IsTrueReport, IsTrueStep}
 use Rattle.wrp_course.specs.Given.{NodeStepAt}
 use Rattle.wrp_course.specs.Setting.{Setting}
 use Rattle.wrp_course.specs.WorldAt.{WorldAt}
-use Rattle.wrp_asked.specs.EventLines.{IsWord}
 use Rattle.wrp_records.specs.Lines.{lines_of}
 use Rattle.wrp_asked.specs.TrackLines.{IsTrueLine}
-use Rattle.wrp_asked.proofs.EventLines.{SameWord, at_word, behind_two, decimal_word, first_word, head_of, line_at, lines_by, rest_of, signed_word, steps_lines}
+use Rattle.wrp_asked.proofs.EventLines.{line_at, lines_by, steps_lines}
+use Rattle.wrp_lines.proofs.LineWords.{at_word, behind_two}
+use Rattle.wrp_records.proofs.WordLemmas.{SameWord, decimal_word, first_word, head_of, rest_of, signed_word}
 
 -- what tells of TRACK in a line, behind the first two words
 abbrev TrueLine : (off : List ℕ) → List ℕ

@@ -11,7 +11,7 @@ use Rattle.wrp_records.specs.Lines.{lines_of}
 use Rattle.wrp_commands.specs.Request.{CommandLine}
 use Rattle.wrp_asked.specs.Answer.{AsksNone}
 use Rattle.wrp_audit.specs.AuditText.{event_lines, given_lines}
-use Rattle.wrp_asked.specs.EventLines.{IsWord}
+use Rattle.wrp_records.specs.Words.{IsWord}
 use Rattle.wrp_asked.specs.Headline.{Came, CarriesParts, EndsEvents, Prints, ReachesNone}
 use Rattle.wrp_asked.specs.Input.{network_text}
 use Rattle.wrp_asked.specs.Tasks.{Emit, AsksFor}

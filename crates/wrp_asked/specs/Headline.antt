@@ -7,7 +7,7 @@ use Rattle.std.specs.Prelude.{◌≡◌, ◌⊎◌, ℕ, ◌+◌, ◌<◌, ◌�
 use Rattle.std.specs.Fmt.{decimal}
 use Rattle.std.specs.List.{AllByRecursion}
 use Rattle.wrp_base.specs.Network.{name_at}
-use Rattle.wrp_records.specs.Words.{line_of}
+use Rattle.wrp_records.specs.Words.{line_of, IsWord}
 use Rattle.wrp_node.specs.declared.interface.Input.{Input}
 use Rattle.wrp_node.specs.declared.interface.Input.TheVariants.{Frame}
 use Rattle.wrp_node.specs.Laws.{reason_of}
@@ -25,7 +25,7 @@ use Rattle.wrp_audit.specs.Audited.{IsAudit}
 use Rattle.wrp_audit.specs.Audits.{AuditRefuses}
 use Rattle.wrp_audit.specs.AuditText.{all_counts, audit_lines, event_lines}
 use Rattle.wrp_commands.specs.Request.{CommandLine}
-use Rattle.wrp_asked.specs.EventLines.{AtEachEvent, IsWord, Writing}
+use Rattle.wrp_asked.specs.EventLines.{AtEachEvent, Writing}
 use Rattle.wrp_asked.specs.HopByHop.{HopByHop}
 use Rattle.wrp_asked.specs.Input.{network_text, behind_separator, network_limit}
 use Rattle.wrp_records.specs.Lines.{lines_of, content_of}

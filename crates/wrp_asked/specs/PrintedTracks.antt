@@ -3,10 +3,9 @@ use Rattle.std.specs.Prelude.{◌≡◌, ◌≤◌, ℕ, ℤ, unsigned_abs, Opti
 use Rattle.std.specs.Fmt.{decimal, signed_decimal}
 use Rattle.std.specs.List.{AllByRecursion}
 use Rattle.wrp_records.specs.Lines.{lines_of}
-use Rattle.wrp_records.specs.Words.{line_of}
+use Rattle.wrp_records.specs.Words.{line_of, IsWord}
 use Rattle.wrp_commands.specs.Request.{Request}
 use Rattle.wrp_commands.specs.Request as requests
-use Rattle.wrp_asked.specs.EventLines.{IsWord}
 
 -- nothing else than an audit, the inputs of a node in one, a simulation or a run over a link is asked for: neither a replay, nor a
 -- command that stands alone

@@ -6,12 +6,12 @@ use Rattle.std.specs.Fmt.{signed_decimal}
 use Rattle.std.specs.List.{AllByRecursion}
 use Rattle.wrp_base.specs.Network.{name_at}
 use Rattle.wrp_bounds.specs.Bounds.{path_of}
-use Rattle.wrp_records.specs.Words.{line_of}
+use Rattle.wrp_records.specs.Words.{line_of, IsWord}
 use Rattle.wrp_truth.specs.Bounds.{AllAreBounded, IsTrueReport, IsTrueStep}
 use Rattle.wrp_course.specs.Run.{Happened, steps_at, world_after}
 use Rattle.wrp_course.specs.Setting.{Setting}
 use Rattle.wrp_course.specs.WorldAt.{WorldAt}
-use Rattle.wrp_asked.specs.EventLines.{AtEachEvent, IsWord, Writing}
+use Rattle.wrp_asked.specs.EventLines.{AtEachEvent, Writing}
 use Rattle.wrp_records.specs.Lines.{lines_of}
 
 -- these words are a node's name, an estimate, a bound and an offset from true time: the bound is that of the node's path, the

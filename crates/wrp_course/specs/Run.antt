@@ -3,7 +3,7 @@
 use Rattle.std.specs.Prelude.{ℤ, ℕ, List, [], ◌∷◌, Result}
 use Rattle.wrp_base.specs.declared.message.PtpMsg.{PtpMsg}
 use Rattle.wrp_frame.specs.declared.fault.FrameFault.{FrameFault}
-use Rattle.wrp_node.specs.NodeRun.{Says}
+use Rattle.wrp_frame.specs.Saying.{Says}
 use Rattle.wrp_servo.specs.Servo.{AllAnswered}
 use Rattle.wrp_node.specs.NodeAt.{servo_setting_of}
 use Rattle.wrp_course.specs.declared.event.Event.{Event}

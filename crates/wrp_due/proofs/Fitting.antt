@@ -43,7 +43,7 @@ use Rattle.wrp_node.proofs.Sound.{AllSound, sends_sound}
 use Rattle.wrp_node.specs.declared.interface.Input.{Input}
 use Rattle.wrp_node.specs.declared.interface.Input.TheVariants as inputs
 use Rattle.wrp_node.specs.NodeAt.{NodeAt, NodeSetting, Taken, line_at, link_at, setting_of}
-use Rattle.wrp_node.specs.NodeRun.{Says}
+use Rattle.wrp_frame.specs.Saying.{Says}
 use Rattle.wrp_node.specs.NodeStep.{heard_unless, message_of, node_step, servo_ticked, stepped, tick_of, transition_of}
 use Rattle.wrp_port.specs.declared.interface.PortIn.{PortIn}
 use Rattle.wrp_port.specs.declared.interface.PortIn.TheVariants.{Msg, Lease, Tick, Sent, Carrier, Sample, Chain, Reset}

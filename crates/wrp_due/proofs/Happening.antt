@@ -30,7 +30,7 @@ use Rattle.wrp_course.specs.Setting.{Setting, end_at, entry_at, node_setting_of,
 use Rattle.wrp_course.specs.WorldAt.{Arrival, FrameAt, Sending, WorldAt, has_carrier}
 use Rattle.wrp_course.proofs.Unbroken.{accepted_is_unbroken}
 use Rattle.wrp_due.proofs.Measuring.{plain_answered, step_answered}
-use Rattle.wrp_due.proofs.Saying.{each_says}
+use Rattle.wrp_frame.proofs.Saying.{each_says}
 
 -- What the octets of an event say
 

@@ -2,9 +2,6 @@ pub mod Arriving
 pub mod Fitting
 pub mod Happening
 pub mod Heard
-pub mod Inspecting
-pub mod LinesAnswered
 pub mod LinkFitting
 pub mod Measuring
-pub mod Saying
 pub mod SetFitting

@@ -8,20 +8,15 @@ use Rattle.wrp_course.specs.Views.{IsNextArrival}
 use Rattle.wrp_frame.specs.declared.fault.FrameFault.{FrameFault}
 use Rattle.wrp_node.specs.declared.interface.Input.{Input}
 use Rattle.wrp_node.specs.NodeAt.{NodeAt, NodeSetting, servo_setting_of}
-use Rattle.wrp_node.specs.NodeRun.{AllSaid, Says}
+use Rattle.wrp_node.specs.NodeRun.{AllSaid}
+use Rattle.wrp_frame.specs.Saying.{Says}
 use Rattle.wrp_node.specs.NodeStep.{node_step}
 use Rattle.wrp_node.specs.OneRun.{answers_by}
 use Rattle.wrp_node.specs.Set.{set_of}
 use Rattle.wrp_pcap.specs.Inspected.{capture}
 use Rattle.wrp_recorded.specs.Recorded.{AllSaidByLines}
 use Rattle.wrp_records.specs.declared.status.Status.{Status}
-use Rattle.wrp_records.specs.LineMeaning.{LineMeaning}
-use Rattle.wrp_records.specs.RecordsAnswer.{RecordsAnswer}
 use Rattle.wrp_servo.specs.Servo.{AllAnswered}
-
--- for record lines of this meaning some status and octets are due
-abbrev pub HasAnswer : LineMeaning → List (List ℕ) → Type 0
-HasAnswer M lines = (status : Status) × (octets : List ℕ) × RecordsAnswer M lines status octets
 
 -- each octets say a message or have a first fault
 abbrev pub EachSays : Type 0

@@ -5,3 +5,4 @@ pub mod Exact
 pub mod Numbers
 pub mod Encoded
 pub mod SoundMessages
+pub mod Saying

@@ -8,3 +8,4 @@ pub mod MessageTypes
 pub mod Fitting
 pub mod Sent
 pub mod SentOctets
+pub mod Saying

@@ -12,7 +12,8 @@ use Rattle.wrp_node.specs.declared.interface.Input.{Input}
 use Rattle.wrp_node.specs.declared.interface.Input.TheVariants.{Tick, Sample, Frame, Sent, Carrier, Reset}
 use Rattle.wrp_node.specs.declared.interface.Output.{Output}
 use Rattle.wrp_node.specs.NodeAt.{Taken, NodeSetting, NodeAt, slave_of, numbers_of, setting_of, line_at, link_at, servo_setting_of, servo_at, is_fresh_in, deltas_in}
-use Rattle.wrp_node.specs.NodeRun.{Says, IsSaid, AllSaid, node_after, outputs_of, step_out, dac_out, servo_out, port_out, track_out, est_out}
+use Rattle.wrp_node.specs.NodeRun.{IsSaid, AllSaid, node_after, outputs_of, step_out, dac_out, servo_out, port_out, track_out, est_out}
+use Rattle.wrp_frame.specs.Saying.{Says}
 use Rattle.wrp_node.specs.NodeStep.{counted_tick, lease_ticked, servo_ticked, ports_ticked, message_of, used, measurement_by, measured_at, heard_unless, heard, handed, is_slave_port, stepped, node_step}
 use Rattle.wrp_node.specs.OneRun.{SameInputs, answers_by, OneRun, OneNode}
 use Rattle.wrp_node.specs.Telling.{Step, step_from, tell, answer_of, called, for_slave, number_of, is_changed, lease_change, link_change, with_lease, with_link, settled, told_all, told_by, counted_by, newest_step}

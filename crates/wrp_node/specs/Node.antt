@@ -15,7 +15,8 @@ use Rattle.wrp_node.specs.declared.interface.Input.{Input}
 use Rattle.wrp_node.specs.declared.interface.Input.TheVariants.{Tick, Sample, Frame, Sent, Carrier, Reset}
 use Rattle.wrp_node.specs.declared.interface.Output.{Output}
 use Rattle.wrp_node.specs.NodeAt.{Taken, NodeSetting, NodeAt, link_at}
-use Rattle.wrp_node.specs.NodeRun.{IsSaid, Says, node_after, step_out, dac_out, servo_out, est_out}
+use Rattle.wrp_node.specs.NodeRun.{IsSaid, node_after, step_out, dac_out, servo_out, est_out}
+use Rattle.wrp_frame.specs.Saying.{Says}
 use Rattle.wrp_node.specs.NodeStep.{servo_ticked, ports_ticked, stepped, handed, carried, restarted, heard}
 use Rattle.wrp_node.specs.Parts.{FitsRaw, is_among}
 use Rattle.wrp_node.specs.Place.{place_out}

@@ -6,8 +6,7 @@ use Rattle.wrp_base.specs.declared.link.ServoState.TheVariants.{Uninit, SyncTai,
 use Rattle.wrp_base.specs.declared.message.PtpMsg.{PtpMsg}
 use Rattle.wrp_data.specs.Counters.{no_counts}
 use Rattle.wrp_frame.specs.declared.fault.FrameFault.{FrameFault}
-use Rattle.wrp_frame.specs.Faults.{IsFirstFault}
-use Rattle.wrp_frame.specs.Grammar.{Spells}
+use Rattle.wrp_frame.specs.Saying.{Says}
 use Rattle.wrp_frame.specs.SentOctets.{octets_of}
 use Rattle.wrp_link.specs.Table.{word_of}
 use Rattle.wrp_node.specs.declared.interface.Input.{Input}
@@ -90,11 +89,6 @@ node_after fixed (t ∷ before) = (node_step fixed t (node_after fixed before)).
 abbrev pub outputs_at : NodeSetting → List Taken → Taken → List Output
 outputs_at fixed before t =
     outputs_of fixed t.input (node_after fixed before) (node_step fixed t (node_after fixed before))
-
--- the octets say a message, or have this first fault
-abbrev pub Says : List ℕ → Result PtpMsg FrameFault → Type 0
-Says octets (Ok message) = Spells octets message
-Says octets (Err fault) = IsFirstFault fault octets
 
 -- what is noted beside an input as said by its octets is what they say
 abbrev pub IsSaid : Input → Result PtpMsg FrameFault → Type 0

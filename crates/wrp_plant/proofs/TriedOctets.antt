@@ -17,7 +17,7 @@ use Rattle.wrp_frame.specs.Faults.{IsFirstFault}
 use Rattle.wrp_frame.specs.Grammar.{Spells}
 use Rattle.wrp_node.specs.declared.interface.NodeSet.{NodeSet}
 use Rattle.wrp_node.specs.NodeAt.{port_of, port_or_none}
-use Rattle.wrp_node.specs.NodeRun.{Says}
+use Rattle.wrp_frame.specs.Saying.{Says}
 use Rattle.wrp_node.specs.Set.{master_at, ports_at, set_of, slave_at}
 use Rattle.wrp_course.specs.Checks.{told_of, stands}
 use Rattle.wrp_course.specs.declared.breach.Breach.{Breach}

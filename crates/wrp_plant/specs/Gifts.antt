@@ -5,7 +5,7 @@ use Rattle.wrp_base.specs.declared.message.PtpMsg.{PtpMsg}
 use Rattle.wrp_frame.specs.declared.fault.FrameFault.{FrameFault}
 use Rattle.wrp_node.specs.declared.interface.Input.{Input}
 use Rattle.wrp_node.specs.declared.interface.Input.TheVariants.{Frame}
-use Rattle.wrp_node.specs.NodeRun.{Says}
+use Rattle.wrp_frame.specs.Saying.{Says}
 use Rattle.wrp_course.specs.declared.event.Event.{Event}
 use Rattle.wrp_course.specs.declared.node_out.NodeOut.{NodeOut}
 use Rattle.wrp_course.specs.Given.{Given, given_by}

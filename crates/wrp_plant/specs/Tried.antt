@@ -15,7 +15,7 @@ use Rattle.wrp_base.specs.Message.{is_port}
 use Rattle.wrp_bounds.specs.Times.{frame_life}
 use Rattle.wrp_servo.specs.Sampling.{is_holdover}
 use Rattle.wrp_frame.specs.declared.fault.FrameFault.{FrameFault}
-use Rattle.wrp_node.specs.NodeRun.{Says}
+use Rattle.wrp_frame.specs.Saying.{Says}
 use Rattle.wrp_node.specs.Set.{lower_of, set_of, upper_of}
 use Rattle.wrp_course.specs.Checks.{Check, at_most, size_of, stands, told_of}
 use Rattle.wrp_course.specs.declared.breach.Breach.{Breach}

@@ -41,7 +41,8 @@ use Rattle.wrp_printed_laws.specs.Words.{gap_parts}
 use Rattle.wrp_printed_laws.proofs.Events.{drift_by, start_by}
 use Rattle.wrp_printed_laws.proofs.Names.{number_is, same_names}
 use Rattle.wrp_printed_laws.proofs.Outputs.{Others, outputs_all, outputs_total, periods, track_all}
-use Rattle.wrp_printed_laws.proofs.Words.{at_word, output_reads}
+use Rattle.wrp_printed_laws.proofs.Words.{output_reads}
+use Rattle.wrp_lines.proofs.LineWords.{at_word}
 
 -- Sums
 

@@ -40,7 +40,8 @@ use Rattle.wrp_printed_laws.proofs.Clocks.{cycles_at, cycles_of, drifts_on, star
 use Rattle.wrp_printed_laws.proofs.Events.{count_by, drift_by, event_count, event_stands, no_tick_given, start_by, tick_by}
 use Rattle.wrp_printed_laws.proofs.Fields.{TellsEvent, event_fields}
 use Rattle.wrp_printed_laws.proofs.Outputs.{IsNoTick, IsOther, no_track, outputs_all, track_all}
-use Rattle.wrp_printed_laws.proofs.Words.{at_word, output_reads}
+use Rattle.wrp_printed_laws.proofs.Words.{output_reads}
+use Rattle.wrp_lines.proofs.LineWords.{at_word}
 
 -- Since the last start
 

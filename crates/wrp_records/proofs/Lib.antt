@@ -12,3 +12,4 @@ pub mod ReaderLemmas
 pub mod Telling
 pub mod Unique
 pub mod WordLemmas
+pub mod LinesAnswered

@@ -72,3 +72,7 @@ pub record AreFirst (M : LineMeaning) (lines : List (List ℕ)) (octets : List �
 -- what the first so many records write; or what all do, and the first of what is written at the end
 abbrev pub StandsFirst : LineMeaning → List (List ℕ) → List ℕ → Type 0
 StandsFirst M lines octets = AreFirst M lines octets ⊎ BreaksOff M OutOfMemory lines octets
+
+-- for record lines of this meaning some status and octets are expected
+abbrev pub HasAnswer : LineMeaning → List (List ℕ) → Type 0
+HasAnswer M lines = (status : Status) × (octets : List ℕ) × RecordsAnswer M lines status octets

@@ -60,7 +60,8 @@ use Rattle.wrp_asked.specs.Input.{network_text}
 use Rattle.wrp_asked.specs.LoopHeadline.{IsLoopDue, LacksLink, LoopHeadline, LoopOf, Looped, LoopedEventsCarryParts, StandsBehind}
 use Rattle.wrp_asked.specs.SimHeadline.{NamesLine}
 use Rattle.wrp_asked.specs.Tasks.{IsAuditing, IsLooping}
-use Rattle.wrp_asked.proofs.EventLines.{at_word, decimal_word}
+use Rattle.wrp_lines.proofs.LineWords.{at_word}
+use Rattle.wrp_records.proofs.WordLemmas.{decimal_word}
 use Rattle.wrp_asked.proofs.HeadlineParts.{network_of, run_of, setting_asked}
 use Rattle.wrp_asked.proofs.HeadlineTold.{IsTold, headline_told}
 use Rattle.wrp_asked.proofs.LoopTold.{IsLoopedSo, looped_told}

@@ -39,7 +39,7 @@ use Rattle.wrp_records.specs.declared.status.Status.TheVariants.{Done, BadNetwor
 use Rattle.wrp_records.specs.Lines.{IsWhole, lines_of}
 use Rattle.wrp_records.specs.Refusals.{bad_trace_line, code_name, code_of, field_of, name_of, too_large_line}
 use Rattle.wrp_records.specs.Stream.{large_line}
-use Rattle.wrp_records.specs.Words.{line_of}
+use Rattle.wrp_records.specs.Words.{line_of, IsWord, is_word_octet}
 use Rattle.wrp_records.proofs.Reaching.{lines_alone, lines_behind}
 use Rattle.wrp_replay.specs.NodeText.{port_numbers}
 use Rattle.wrp_replay.specs.Replays.{IsRefusedBy}
@@ -54,16 +54,17 @@ use Rattle.wrp_audit.specs.Broken.{broken_line, premise_name}
 use Rattle.wrp_printed_laws.specs.Laws.{PrintsStates, StepsComeSynced, lines_at, lines_in, output_lines, step_lines}
 use Rattle.wrp_printed_laws.specs.Steps.{IsLastState, SaysState, StepsAreSynced}
 use Rattle.wrp_printed_laws.specs.Words.{Reads, is_gap}
-use Rattle.wrp_printed_laws.proofs.Words as printed
+use Rattle.wrp_printed_laws.proofs.Words.{reads as reads_as}
 use Rattle.wrp_commands.specs.Request.{CommandLine}
 use Rattle.wrp_asked.specs.Ends.{Ends, Run}
-use Rattle.wrp_asked.specs.EventLines.{IsWord, is_word_octet}
 use Rattle.wrp_asked.specs.Headline.{CarriesRun, EndsEvents, EventsCarryParts, Prints, ReachesNone, StepsOf}
 use Rattle.wrp_asked.specs.Input.{network_text}
 use Rattle.wrp_asked.specs.LoopHeadline.{IsLoopDue, LacksLink, LoopHeadline, LoopOf, LoopedEventsCarryParts, StandsBehind}
 use Rattle.wrp_asked.specs.SimHeadline.{LacksScenario, MadeEventsCarryParts, NamesLine, RunOf, SimHeadline, run_lines}
 use Rattle.wrp_asked.specs.Tasks.{IsAuditing, IsLooping, IsSimulation}
-use Rattle.wrp_asked.proofs.EventLines.{AreWords, at_word, decimal_word, either_word, line_whole, servo_are, signed_word, whole_line}
+use Rattle.wrp_asked.proofs.EventLines.{whole_line}
+use Rattle.wrp_lines.proofs.LineWords.{at_word, servo_are}
+use Rattle.wrp_records.proofs.WordLemmas.{AreWords, decimal_word, either_word, line_whole, signed_word}
 use Rattle.wrp_asked.proofs.EventWords.{event_word}
 use Rattle.wrp_asked.proofs.HeadlineParts.{run_of}
 use Rattle.wrp_asked.proofs.HeadlineTold.{IsTold, headline_told}
@@ -76,19 +77,6 @@ use Rattle.wrp_run.specs.Synced.{RunsNetwork, StepsComeInSync}
 use Rattle.wrp_run.proofs.Shown.{loop_whole, same_lines}
 
 -- Lines of words
-
-not_either : (a b : Bool) → (not a && not b) ≡ true → not (a || b) ≡ true
-not_either true b h = h
-not_either false b h = h
-
-word_as : (word : List ℕ) → IsWord word → printed.IsWord word
-word_as [] h = refl
-word_as (c ∷ cs) h =
-    let both = and_parts (is_word_octet c) (list_all is_word_octet cs) h in
-    and_from (not (is_gap c)) (list_all (λ d. not (is_gap d)) cs) (not_either (c == 32) (c == 10) both.0) (word_as cs both.1)
-
-reads_as : (word : List ℕ) (words : List (List ℕ)) → AreWords (word ∷ words) → Reads (line_of (word ∷ words)) (word ∷ words)
-reads_as word words are = printed.reads word words (all_weaker IsWord printed.IsWord word_as (word ∷ words) are)
 
 -- a line that has not four words
 abbrev NotFour : List ℕ → Type 0

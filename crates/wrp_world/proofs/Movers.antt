@@ -9,7 +9,7 @@ use Rattle.wrp_frame.specs.declared.message_type.MessageType.TheVariants.{Sync, 
 use Rattle.wrp_frame.specs.Grammar.{Spells}
 use Rattle.wrp_frame.specs.Header.{kind_of}
 use Rattle.wrp_frame.specs.MessageTypes.{kind_numbered}
-use Rattle.wrp_node.specs.NodeRun.{Says}
+use Rattle.wrp_frame.specs.Saying.{Says}
 use Rattle.wrp_course.specs.Given.{in_body, in_frame}
 use Rattle.wrp_world.specs.Taking.{is_signaling}
 

@@ -1,6 +1,6 @@
 -- The command `l1sync`.
 use Rattle.std.proofs.Common.{refl, sym, subst, inl, inr, ℕ, List, [], arith}
-use Rattle.wrp_due.proofs.LinesAnswered.{IsTotal, lines_answered}
+use Rattle.wrp_records.proofs.LinesAnswered.{IsTotal, lines_answered}
 use Rattle.wrp_l1sync.proofs.LineDecided.{decided}
 use Rattle.wrp_l1sync.proofs.LineAnswerLaws.{answers_show_the_pair, what_stands_shows_the_pair}
 use Rattle.wrp_l1sync.proofs.LineExact.{exact}

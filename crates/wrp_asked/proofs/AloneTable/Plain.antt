@@ -1,6 +1,6 @@
 -- The command `plain`.
 use Rattle.std.proofs.Common.{refl, sym, subst, inl, inr, ℕ, List, [], arith}
-use Rattle.wrp_due.proofs.LinesAnswered.{IsTotal, lines_answered}
+use Rattle.wrp_records.proofs.LinesAnswered.{IsTotal, lines_answered}
 use Rattle.wrp_plain.proofs.LinesDecided.{decided}
 use Rattle.wrp_plain.proofs.LinesExact.{exact}
 use Rattle.wrp_plain.proofs.LinesTrue.{records_tell_truth_holds}

@@ -3,7 +3,7 @@ ghost use Rattle.std.specs.Prelude.{◌≤◌, length};
 ghost use Rattle.wrp_base.specs.Octets.{AreOctets};
 ghost use Rattle.wrp_course.specs.EventAt.{FitsEvent};
 ghost use Rattle.wrp_course.specs.Run.{IsSaid};
-ghost use Rattle.wrp_node.specs.NodeRun.{Says};
+ghost use Rattle.wrp_frame.specs.Saying.{Says};
 
 use wrp_base::{Frame, PtpMsg};
 use wrp_course::Event;

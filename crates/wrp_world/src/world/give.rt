@@ -5,7 +5,7 @@ ghost use Rattle.wrp_base.specs.declared.message.PtpMsg.{PtpMsg};
 ghost use Rattle.wrp_frame.specs.declared.fault.FrameFault.{FrameFault};
 ghost use Rattle.wrp_node.specs.Control.{law_in};
 ghost use Rattle.wrp_node.specs.Node.{FitsInput, IsValid as NodeIsValid, is_tick};
-ghost use Rattle.wrp_node.specs.NodeRun.{Says};
+ghost use Rattle.wrp_frame.specs.Saying.{Says};
 ghost use Rattle.wrp_node.specs.StandsFor.{Took};
 ghost use Rattle.wrp_plant.specs.FitsGifts.{FitsGift};
 ghost use Rattle.wrp_plant.specs.Gifts.{IsRead};

@@ -1,5 +1,5 @@
 -- By the lemma of its own.
-use Rattle.wrp_due.proofs.Saying.{each_says}
+use Rattle.wrp_frame.proofs.Saying.{each_says}
 use Rattle.wrp_due.proofs.laws.each_says.Goals as goal
 
 pub returns : goal.returns

@@ -1,5 +1,5 @@
 use Rattle.std.proofs.Common.{subst, ℕ, List}
-use Rattle.wrp_node.specs.NodeRun.{Says}
+use Rattle.wrp_frame.specs.Saying.{Says}
 use Rattle.wrp_plant.proofs.TriedOctets.{says_it}
 use Rattle.wrp_plant.proofs.plant.Plant.noise_broken.Goals as goal
 

@@ -16,7 +16,7 @@ use Rattle.wrp_frame.specs.Header.{HasHeader, kind_of, message_length, version_o
 use Rattle.wrp_frame.specs.MessageTypes.{has_timestamp, least_length, reads_white_rabbit}
 use Rattle.wrp_frame.proofs.Filling.{BeginsWith, fills_begin, fills_on, first_end, first_tlv}
 use Rattle.wrp_frame.proofs.FirstFaults.{first_bad, first_high, first_kind, first_low, first_one_step, first_short, first_time, first_tlv as first_unfilled, first_version}
-use Rattle.wrp_node.specs.NodeRun.{Says}
+use Rattle.wrp_frame.specs.Saying.{Says}
 use Rattle.wrp_tlv.specs.Octets.{number_at}
 use Rattle.wrp_tlv.specs.TlvList.{Fills, IsFilledByNone, TypedValue}
 use Rattle.wrp_tlv.specs.WhiteRabbitList.{is_bad, read_of}

@@ -12,7 +12,7 @@ use Rattle.wrp_records.specs.LineMeaning.{LineMeaning}
 use Rattle.wrp_records.specs.Lines.{content_of}
 use Rattle.wrp_records.specs.Stream.{Handles, IsTooLarge, IsWithin, large_line, line_limit, number_limit, size_of}
 use Rattle.wrp_records.proofs.Unique.{EndsWith}
-use Rattle.wrp_due.specs.Due.{HasAnswer}
+use Rattle.wrp_records.specs.RecordsAnswer.{HasAnswer}
 
 -- a line more is a record, and writes more
 abbrev pub GoesOn : LineMeaning → List (List ℕ) → (line text : List ℕ) → Type 0
