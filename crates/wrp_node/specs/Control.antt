@@ -60,9 +60,12 @@ AddsTold post old new call out =
 abbrev pub lease_call : Bool → List Call → Option Call
 lease_call fresh calls = if is_changed (lease_told calls) fresh then Some (CallLease fresh) else None
 
+-- the call that tells the servo whether the link is on, with its four delays in tau, or off: only where this differs
+-- from what the servo was told last
 abbrev pub link_call : Option Deltas → List Call → Option Call
 link_call on calls = if is_changed (is_some (link_told calls)) (is_some on) then Some (CallLink on) else None
 
+-- the call that tells the servo that a carrier came or went: only where its port is the slave port
 abbrev pub carrier_call : Bool → Bool → Option Call
 carrier_call slave up = if slave then Some (CallCarrier up) else None
 
@@ -84,18 +87,22 @@ HasTick c = IfSome c.told (λ t. t.servo.core.ticks + 1 < 2 ^ 32)
 
 -- ---- what a servo's part tells of itself
 
+-- the state of the servo; UNINIT where the node has none
 abbrev pub state_in : {F : Type 0} → Option (ToldServo F) → ServoState
 state_in None = Uninit
 state_in (Some t) = t.servo.core.state
 
+-- whether the lock detector of the servo is locked; false where the node has no servo
 abbrev pub locked_in : {F : Type 0} → Option (ToldServo F) → Bool
 locked_in None = false
 locked_in (Some t) = t.servo.core.phase.lock.locked
 
+-- whether the node's time is certain: it has no servo, or its servo is in TRACK
 abbrev pub certain_in : {F : Type 0} → Option (ToldServo F) → Bool
 certain_in None = true
 certain_in (Some t) = is_track t.servo.core.state
 
+-- the DAC value that the loop of the servo holds; the bias where the node has no servo
 abbrev pub dac_in : {F : Type 0} → ℕ → Option (ToldServo F) → ℕ
 dac_in bias None = bias
 dac_in bias (Some t) = t.servo.core.phase.dac

@@ -28,6 +28,7 @@ pub record LeavesACount (fixed : NodeSetting) (t : Taken) (n : NodeAt) (p reason
   pub node : node_step fixed t n ≡ dropped p reason n
   pub silent : outputs_of fixed t.input n (node_step fixed t n) ≡ []
 
+-- so it is for every frame with such a reason, at a node with nothing to tell its servo
 abbrev pub DroppedLeavesACount : Type 0
 DroppedLeavesACount =
     (fixed : NodeSetting) (t : Taken) (n : NodeAt) (p : ℕ) (octets : List ℕ) (raw : Raw) (sample reason : ℕ) →

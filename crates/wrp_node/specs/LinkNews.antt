@@ -20,6 +20,7 @@ pub data LinkNews : Type 0 where
   Given : (input : LinkIn) → LinkNews
   Renewed : LinkNews
 
+-- an input of the handshake table, if there is one, as what it is to the link
 abbrev pub news_of : Option LinkIn → LinkNews
 news_of None = Nothing
 news_of (Some input) = Given input

@@ -61,13 +61,16 @@ abbrev pub NodeTakes : {F : Type 0} → (F → ℤ → ℤ → Type 0) → (Node
 NodeTakes post taken old new =
     (fixed : NodeSetting) (n : NodeAt) → IsIn post fixed n (step_from n) old → IsIn post fixed n (taken fixed n) new
 
--- the servo's tick, its sample, and the ports' tick
+-- the servo has its tick
 abbrev pub servo_has_tick : NodeSetting → Step → Step
 servo_has_tick fixed s = tell fixed (for_slave fixed (Some CallTick)) s
 
+-- the servo gets a sample of the phase detector: its number, the tag at which its bits begin, in steps of the detector,
+-- and its 64 beat bits
 abbrev pub servo_has_sample : ℕ → ℕ → ℕ → NodeSetting → NodeAt → Step
 servo_has_sample number base bits fixed n = tell fixed (for_slave fixed (Some (CallSample number base bits))) (step_from n)
 
+-- the whole of a tick: the count, the lease and the servo have their turn, then the ports
 abbrev pub ticked : NodeSetting → NodeAt → Step
 ticked fixed n = ports_ticked fixed (servo_ticked fixed n)
 
@@ -77,9 +80,12 @@ PortsTick post old new =
     (fixed : NodeSetting) (before : NodeAt) (s : Step) → ((p : ℕ) → s.sends p ≡ []) → IsIn post fixed before s old →
     IsIn post fixed before (ports_ticked fixed s) new
 
+-- a reset comes: nothing is commanded, and nothing sent
 abbrev pub restarts : NodeSetting → NodeAt → Step
 restarts fixed n = step_from (restarted fixed n)
 
+-- a frame comes to a port: what its octets say, its raw stamp, the number of the last sample, and the answer of the law
+-- should it make a measurement
 abbrev pub heard_at : ℕ → Result PtpMsg FrameFault → Raw → ℕ → ℤ → NodeSetting → NodeAt → Step
 heard_at p says raw sample answer fixed n = heard fixed p says raw sample answer n
 
@@ -92,9 +98,11 @@ TakesFrame post p octets raw sample old new =
 abbrev pub TakesMessage : {F : Type 0} → (F → ℤ → ℤ → Type 0) → ℕ → PtpMsg → Raw → ℕ → NodeOf F → NodeOf F → Type 0
 TakesMessage post p message raw sample old new = (answer : ℤ) × NodeTakes post (heard_at p (Ok message) raw sample answer) old new
 
+-- the stamp of a Delay_Req (`delay` is true) or a Sync that a port sent is told to this port, with the node's tick count
 abbrev pub sent_at : ℕ → ℕ → Bool → Stamp → NodeSetting → NodeAt → Step
 sent_at p seq delay stamp fixed n = handed fixed p (PortSent delay seq stamp n.ticks) n
 
+-- the carrier of a port comes or goes; the port's module is there where the calibration database lists it
 abbrev pub carried_at : ℕ → Bool → Option Module → NodeSetting → NodeAt → Step
 carried_at p up own_module fixed n = carried fixed p up own_module n
 
@@ -109,26 +117,33 @@ Takes post input old new =
 abbrev pub track_in : {F : Type 0} → Bool → NodeOf F → Option ℤ
 track_in tick node = if tick && (node.parts.ticks % node.report == 0) then tracked_in node.control.told else None
 
+-- all that is put out after an input, in its order: the step of the clock, the DAC value, the state of the servo where
+-- it changed, the word and the frames of each port, and the track report
 abbrev pub puts_out : {F : Type 0} → ServoState → Bool → NodeOf F → List Output
 puts_out before tick node =
     step_out node.parts.cycles ++ dac_out node.parts.dac ++ servo_out before (state_in node.control.told)
     ++ flat_map place_out node.parts.ports ++ est_out (track_in tick node)
 
+-- whether an input is a tick
 abbrev pub is_tick : Input → Bool
 is_tick Tick = true
 is_tick _ = false
 
 -- ---- what it tells of itself, for each list of inputs that it stands for
 
+-- a result is the value of the node after any list of inputs that it stands for
 abbrev pub Tells : {F A : Type 0} → (F → ℤ → ℤ → Type 0) → (NodeSetting → NodeAt → A) → NodeOf F → A → Type 0
 Tells post value node result =
     (fixed : NodeSetting) (inputs : List Taken) → StandsFor post fixed node inputs → result ≡ value fixed (node_after fixed inputs)
 
+-- the word of a port
 abbrev pub word_at : ℕ → NodeSetting → NodeAt → LinkWord
 word_at p fixed n = word_of (link_at fixed.set n p)
 
+-- how often a port dropped something for the reason of this number
 abbrev pub count_of : ℕ → ℕ → NodeSetting → NodeAt → ℕ
 count_of p reason fixed n = count_at (n.counters p) reason
 
+-- the ticks since the last reset
 abbrev pub ticks_at : NodeSetting → NodeAt → ℕ
 ticks_at fixed n = n.ticks

@@ -67,6 +67,7 @@ in_order (ds ∷ ports) = placed ds (in_order ports)
 abbrev pub numbers_of : NodeSet → List ℕ
 numbers_of set = map (λ ds. ds.own.port) (in_order set.ports.items)
 
+-- whether a role is the slave's
 abbrev pub is_slave : Role → Bool
 is_slave Master = false
 is_slave Slave = true
@@ -75,6 +76,7 @@ is_slave Slave = true
 abbrev pub slave_in : List PortDs → Option ℕ
 slave_in ports = option_map (λ ds. ds.own.port) (find (λ ds. is_slave ds.role) ports)
 
+-- the number of the slave port among the ports that a node is set to; a node without one has no servo
 abbrev pub slave_of : NodeSet → Option ℕ
 slave_of set = slave_in set.ports.items
 
@@ -82,6 +84,7 @@ slave_of set = slave_in set.ports.items
 abbrev pub no_port : PortDs
 no_port = record { own = record { clock = 0; port = 0 }; peer = record { clock = 0; port = 0 }; role = Master; wr = false }
 
+-- a port that was looked for, or the one in its place where none was found
 abbrev pub port_or_none : Option PortDs → PortDs
 port_or_none None = no_port
 port_or_none (Some ds) = ds
@@ -95,6 +98,7 @@ abbrev pub setting_by : NodeSet → PortDs → Setting
 setting_by set ds =
     record { own = set.own; ds = ds; link = record set.link { wr = ds.wr }; sched = set.sched; ring = set.ring }
 
+-- what the port of a number is set to
 abbrev pub setting_of : NodeSet → ℕ → Setting
 setting_of set p = setting_by set (port_of set p)
 
@@ -104,6 +108,7 @@ setting_of set p = setting_by set (port_of set p)
 abbrev pub line_at : NodeSet → NodeAt → ℕ → Line
 line_at set n p = line_of (setting_of set p) (n.told p)
 
+-- the link of a port, as link setup has left it
 abbrev pub link_at : NodeSet → NodeAt → ℕ → LinkAt
 link_at set n p = (line_at set n p).link
 
@@ -123,9 +128,11 @@ servo_at fixed n = run (servo_setting_of fixed) n.calls
 abbrev pub state_of : NodeSetting → NodeAt → ServoState
 state_of fixed n = if is_some (slave_of fixed.set) then (servo_at fixed n).state else Uninit
 
+-- whether the lock detector is locked; false for a node without a servo
 abbrev pub locked_of : NodeSetting → NodeAt → Bool
 locked_of fixed n = if is_some (slave_of fixed.set) then (servo_at fixed n).phase.lock.locked else false
 
+-- the DAC value that the loop of the servo holds; the bias for a node without a servo
 abbrev pub dac_of : NodeSetting → NodeAt → ℕ
 dac_of fixed n = if is_some (slave_of fixed.set) then (servo_at fixed n).phase.dac else fixed.set.servo.bias
 
@@ -142,6 +149,7 @@ abbrev pub is_fresh_at : NodeSet → NodeAt → Option ℕ → Bool
 is_fresh_at set n None = false
 is_fresh_at set n (Some p) = is_fresh (setting_of set p) (n.told p)
 
+-- whether the lease of the node's slave port is fresh; false where it has none
 abbrev pub is_fresh_in : NodeSet → NodeAt → Bool
 is_fresh_in set n = is_fresh_at set n (slave_of set)
 
@@ -150,5 +158,6 @@ abbrev pub deltas_at : NodeSet → NodeAt → Option ℕ → Option Deltas
 deltas_at set n None = None
 deltas_at set n (Some p) = port_deltas_of (port_of set p).role (link_at set n p)
 
+-- the four delays, in tau, of the link of the node's slave port, in WR_LINK_ON alone
 abbrev pub deltas_in : NodeSet → NodeAt → Option Deltas
 deltas_in set n = deltas_at set n (slave_of set)

@@ -27,6 +27,7 @@ use Rattle.wrp_servo.specs.Table.{is_track}
 abbrev pub step_out : ℤ → List Output
 step_out cycles = if unsigned_abs cycles == 0 then [] else StepOf cycles ∷ []
 
+-- the DAC value, where the input brought a new one
 abbrev pub dac_out : Option ℕ → List Output
 dac_out None = []
 dac_out (Some value) = Dac value ∷ []
@@ -58,6 +59,7 @@ abbrev pub port_out : NodeSetting → NodeAt → Step → ℕ → List Output
 port_out fixed before s p =
     word_out p (word_of (link_at fixed.set before p)) (word_of (link_at fixed.set s.node p)) ++ map (frame_out p) (s.sends p)
 
+-- the track report of an offset from the parent, in tau, if there is one
 abbrev pub est_out : Option ℤ → List Output
 est_out None = []
 est_out (Some est) = ReportOf (TrackReport est) ∷ []

@@ -29,16 +29,20 @@ handed fixed p input n =
 
 -- ---- a tick: it is counted; then the lease, of which the servo is told; then the servo's tick; then the ports
 
+-- the slave port is told something, if there is one
 abbrev pub told_slave : Option ℕ → PortIn → (ℕ → List PortIn) → ℕ → List PortIn
 told_slave None input told q = told q
 told_slave (Some p) input told q = told_at told p input q
 
+-- first: the tick is counted, and the lease of the slave port has its turn
 abbrev pub counted_tick : NodeSetting → NodeAt → NodeAt
 counted_tick fixed n = record n { ticks = n.ticks + 1; told = told_slave (slave_of fixed.set) Lease n.told }
 
+-- second: the servo is told of the lease, where this changed
 abbrev pub lease_ticked : NodeSetting → NodeAt → Step
 lease_ticked fixed n = with_lease fixed (step_from (counted_tick fixed n))
 
+-- third: the servo has its tick
 abbrev pub servo_ticked : NodeSetting → NodeAt → Step
 servo_ticked fixed n = tell fixed (for_slave fixed (Some CallTick)) (lease_ticked fixed n)
 
@@ -46,6 +50,7 @@ servo_ticked fixed n = tell fixed (for_slave fixed (Some CallTick)) (lease_ticke
 abbrev pub tick_of : NodeSetting → NodeAt → PortIn
 tick_of fixed n = PortTick (locked_of fixed n) (certain_of fixed n)
 
+-- last: every port has its tick, and sends what comes of it
 abbrev pub ports_ticked : NodeSetting → Step → Step
 ports_ticked fixed s = record s {
   node = record s.node { told = told_all s.node.told (tick_of fixed s.node) };
@@ -83,6 +88,7 @@ counted_use fixed p input n =
       counters = counted_at n.counters p (drop_of (setting_of fixed.set p) (line_at fixed.set n p) (pieces_at fixed.set n p) input);
     }
 
+-- a port takes a message, and sends what comes of it
 abbrev pub used : NodeSetting → ℕ → PortIn → NodeAt → Step
 used fixed p input n =
     record (step_from (counted_use fixed p input n)) {
@@ -94,17 +100,21 @@ abbrev pub measurement_by : Option Four → ℤ → Option Call
 measurement_by None answer = None
 measurement_by (Some four) answer = Some (CallMeasured four answer)
 
+-- the four stamps of the measurement that a message makes at a port, if it makes one
 abbrev pub measured_at : NodeSetting → NodeAt → ℕ → PortIn → Option Four
 measured_at fixed n p input = measured_by (setting_of fixed.set p) (line_at fixed.set n p) (pieces_at fixed.set n p) input
 
+-- a port takes a message; where this makes a measurement, the servo is told of it
 abbrev pub measured : NodeSetting → ℕ → PortIn → ℤ → NodeAt → Step
 measured fixed p input answer n =
     tell fixed (for_slave fixed (measurement_by (measured_at fixed n p input) answer)) (used fixed p input n)
 
+-- a message is dropped for the reason given, or taken where there is none
 abbrev pub heard_unless : Option Reason → NodeSetting → ℕ → PortIn → ℤ → NodeAt → Step
 heard_unless None fixed p input answer n = measured fixed p input answer n
 heard_unless (Some reason) fixed p input answer n = dropped p (reason_number reason) n
 
+-- a frame that came to a port: it is dropped for its first fault; without a fault, its message is dropped or taken
 abbrev pub heard : NodeSetting → ℕ → Result PtpMsg FrameFault → Raw → ℕ → ℤ → NodeAt → Step
 heard fixed p (Err fault) raw sample answer n = dropped p (fault_number fault) n
 heard fixed p (Ok message) raw sample answer n =
@@ -113,6 +123,7 @@ heard fixed p (Ok message) raw sample answer n =
 
 -- ---- a carrier, and a reset
 
+-- whether a number is the slave port's, if there is one
 abbrev pub is_slave_port : Option ℕ → ℕ → Bool
 is_slave_port None p = false
 is_slave_port (Some q) p = q == p
@@ -122,10 +133,11 @@ abbrev pub carried : NodeSetting → ℕ → Bool → Option Module → NodeAt �
 carried fixed p up own_module n =
     tell fixed (for_slave fixed (if is_slave_port (slave_of fixed.set) p then Some (CallCarrier up) else None)) (handed fixed p (PortCarrier up own_module) n)
 
--- a reset clears everything but the counters
+-- the servo is told of a reset, if the node has one
 abbrev pub called_reset : NodeSetting → List Call → List Call
 called_reset fixed calls = called (for_slave fixed (Some CallReset)) calls
 
+-- the node after a reset: its tick count is 0, every port and the servo are reset, and the counters stay
 abbrev pub restarted : NodeSetting → NodeAt → NodeAt
 restarted fixed n =
     record { ticks = 0; told = told_all n.told PortReset; calls = called_reset fixed n.calls; counters = n.counters }

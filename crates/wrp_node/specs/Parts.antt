@@ -67,6 +67,7 @@ pub record PartsIn (fixed : NodeSetting) (before : NodeAt) (s : Step) (parts : P
 abbrev pub Leads : (NodeSetting → Step → Step) → Parts → Parts → Type 0
 Leads moved old new = (fixed : NodeSetting) (before : NodeAt) (s : Step) → PartsIn fixed before s old → PartsIn fixed before (moved fixed s) new
 
+-- an input begins: nothing is commanded, and nothing sent yet
 abbrev pub Begun : Parts → Parts → Type 0
 Begun old new = (fixed : NodeSetting) (n : NodeAt) → PartsAt fixed n old → PartsIn fixed n (step_from n) new
 
@@ -87,9 +88,12 @@ given to input fixed s = record s {
 abbrev pub told_only : ℕ → (List PortIn → List PortIn) → NodeSetting → Step → Step
 told_only p more fixed s = record s { node = record s.node { told = λ q. if q == p then more (s.node.told q) else s.node.told q } }
 
+-- a reason was counted at one port, if there is one
 abbrev pub reason_counted : ℕ → Option ℕ → NodeSetting → Step → Step
 reason_counted p reason fixed s = record s { node = record s.node { counters = counted_at s.node.counters p reason } }
 
+-- an answer of the servo was taken over: its step of the clock, in periods, where it is not 0, and its DAC value, if it
+-- has one
 abbrev pub commanded : ServoOut → NodeSetting → Step → Step
 commanded out fixed s = record s { cycles = newest_step out.cycles s.cycles; dac = option_or out.dac s.dac }
 
@@ -133,10 +137,12 @@ abbrev pub taken_unless : Option Reason → NodeSetting → ℕ → PortIn → N
 taken_unless None fixed p input n = used fixed p input n
 taken_unless (Some reason) fixed p input n = dropped p (reason_number reason) n
 
+-- the four stamps of the measurement that a message makes, if any: a message that is dropped makes none
 abbrev pub four_unless : Option Reason → NodeSetting → ℕ → PortIn → NodeAt → Option Four
 four_unless None fixed p input n = measured_at fixed n p input
 four_unless (Some reason) fixed p input n = None
 
+-- the reason for which a port drops a message whatever its kind, if one applies
 abbrev pub reason_at : NodeSetting → NodeAt → ℕ → PtpMsg → Option Reason
 reason_at fixed n p message = early_reason (setting_of fixed.set p) (link_at fixed.set n p) message
 
@@ -145,6 +151,7 @@ pub record HearsAt (fixed : NodeSetting) (n : NodeAt) (p : ℕ) (message : PtpMs
   pub parts : PartsIn fixed n (taken_unless (reason_at fixed n p message) fixed p (message_of fixed n p message raw sample) n) new
   pub four_is : four ≡ four_unless (reason_at fixed n p message) fixed p (message_of fixed n p message raw sample) n
 
+-- a call handed a message to one of the ports, as the first that an input made of the node
 abbrev pub Hears : ℕ → PtpMsg → Raw → ℕ → Parts → Parts → Option Four → Type 0
 Hears p message raw sample old new four =
     (fixed : NodeSetting) (n : NodeAt) → PartsIn fixed n (step_from n) old → is_among p old.ports ≡ true → HearsAt fixed n p message raw sample new four

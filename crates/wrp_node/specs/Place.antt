@@ -42,6 +42,7 @@ abbrev pub is_to : To → ℕ → Bool
 is_to Every p = true
 is_to (One q) p = p == q
 
+-- a port is given an input where the input is for it, and else stays as it is
 abbrev pub GivenWhere : Bool → PortIn → Place → Place → Type 0
 GivenWhere true input old new = Gives input old new
 GivenWhere false input old new = new ≡ old
@@ -54,6 +55,7 @@ GivesTo to input old new = GivenWhere (is_to to old.number) input old new
 abbrev pub place_counted : ℕ → ℕ → Place → Place
 place_counted p reason place = if place.number == p then record place { counters = counted (Some reason) place.counters } else place
 
+-- a call counted a reason at the port, if the port has this number
 abbrev pub Counts : ℕ → ℕ → Place → Place → Type 0
 Counts p reason old new = new ≡ place_counted p reason old
 

@@ -19,6 +19,7 @@ use Rattle.wrp_port.specs.Messages.{signals_of}
 
 -- ---- link setup
 
+-- whether a body is a Signaling, which carries a message of link setup
 abbrev pub is_signal : Body → Bool
 is_signal (Signal target message) = true
 is_signal _ = false

@@ -45,10 +45,11 @@ own_of net n = record {
 
 -- ---- its ports
 
--- portIdentity of the ends of a link
+-- portIdentity of the upper end of a link
 abbrev pub upper_of : NetCfg → LinkCfg → PortIdentity
 upper_of net link = record { clock = identity_of net link.upper; port = link.upper_port }
 
+-- portIdentity of the lower end of a link
 abbrev pub lower_of : NetCfg → LinkCfg → PortIdentity
 lower_of net link = record { clock = identity_of net link.lower; port = link.lower_port }
 
@@ -56,6 +57,7 @@ lower_of net link = record { clock = identity_of net link.lower; port = link.low
 abbrev pub master_at : NetCfg → LinkCfg → PortDs
 master_at net link = record { own = upper_of net link; peer = lower_of net link; role = Master; wr = link.wr }
 
+-- the port at the lower end of a link: the slave of the port at the upper end
 abbrev pub slave_at : NetCfg → LinkCfg → PortDs
 slave_at net link = record { own = lower_of net link; peer = upper_of net link; role = Slave; wr = link.wr }
 

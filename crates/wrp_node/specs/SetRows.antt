@@ -13,6 +13,8 @@ use Rattle.wrp_node.specs.Set.{set_of}
 
 -- ---- the network
 
+-- a node with this clockIdentity; its errors `e_tx` and `e_tag` are in tau, `beat` in steps of the detector, and the rates
+-- `slew` and `held` in 10^-12
 abbrev pub node_cfg : ℕ → NodeCfg
 node_cfg identity = record {
   name = record { bytes = []; spare = [] };
@@ -24,6 +26,8 @@ node_cfg identity = record {
   held = 10;
 }
 
+-- a link between these ports of the nodes at these places in the file, the first at 0; `wr` is whether it may leave plain
+-- PTP; its errors are in tau
 abbrev pub link_cfg : (upper upper_port lower lower_port : ℕ) → Bool → LinkCfg
 link_cfg upper upper_port lower lower_port wr = record {
   name = record { bytes = []; spare = [] };
@@ -43,6 +47,8 @@ link_cfg upper upper_port lower lower_port wr = record {
   law_err = 1;
 }
 
+-- a grandmaster, a switch and a leaf: port 1 of the grandmaster leads to port 1 of the switch by a White Rabbit link, and
+-- port 2 of the switch to port 1 of the leaf by a link of plain PTP
 abbrev pub three_nodes : NetCfg
 three_nodes = record {
   epoch = pos 1_000_000;
@@ -112,9 +118,12 @@ set_with own ports = record {
   report = 99;
 }
 
+-- portIdentity: the clockIdentity of the node, and the number of the port
 abbrev pub port : (clock number : ℕ) → PortIdentity
 port clock number = record { clock = clock; port = number }
 
+-- what each of the three nodes is set to: how many steps it is below the grandmaster, and its ports with their peers and
+-- roles
 pub record WorkedSets : Type 0 where
   pub grandmaster :
       set_of three_nodes 0

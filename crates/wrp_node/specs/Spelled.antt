@@ -6,9 +6,11 @@ use Rattle.wrp_frame.specs.Grammar.{Spells}
 use Rattle.wrp_frame.specs.SentOctets.{octets_of}
 use Rattle.wrp_node.specs.declared.place.Place.{Place}
 
+-- the octets that are sent for a message spell that message
 abbrev pub IsSpelled : PtpMsg → Type 0
 IsSpelled message = Spells (octets_of message) message
 
+-- so it is for each of these messages
 abbrev pub AreSpelled : List PtpMsg → Type 0
 AreSpelled messages = AllByRecursion IsSpelled messages
 

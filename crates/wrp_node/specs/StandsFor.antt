@@ -49,6 +49,7 @@ Took post old new input put_out =
 
 -- ---- on the way through an input
 
+-- each part of a node stands for what the input has made of it so far; `before` is the node as the input found it
 pub record IsIn {F : Type 0} (post : F → ℤ → ℤ → Type 0) (fixed : NodeSetting) (before : NodeAt) (s : Step) (node : NodeOf F) : Type 0 where
   pub parts : PartsIn fixed before s node.parts
   pub control : ControlStands post fixed s.node.calls node.control

@@ -7,6 +7,7 @@ use Rattle.wrp_node.specs.declared.interface.Input.TheVariants.{Tick, Frame, Res
 use Rattle.wrp_node.specs.NodeAt.{Taken, NodeSetting, NodeAt}
 use Rattle.wrp_node.specs.NodeStep.{node_step}
 
+-- whether an input is a frame
 abbrev pub is_frame : Input → Bool
 is_frame (Frame p octets raw sample) = true
 is_frame _ = false
@@ -22,6 +23,7 @@ pub record CommandIsHeld (fixed : NodeSetting) (t : Taken) (n : NodeAt) : Type 0
   pub by_frame : is_frame t.input ≡ false → (node_step fixed t n).cycles ≡ pos 0
   pub held : unsigned_abs (node_step fixed t n).cycles ≤ 2 ^ 62
 
+-- so it is for every input at every node
 abbrev pub CommandsAreHeld : Type 0
 CommandsAreHeld = (fixed : NodeSetting) (t : Taken) (n : NodeAt) → CommandIsHeld fixed t n
 
@@ -35,5 +37,6 @@ ticks_by Tick ticks = ticks + 1
 ticks_by Reset ticks = 0
 ticks_by _ ticks = ticks
 
+-- a tick raises the tick count by 1, a reset sets it to 0, and each other input leaves it as it is
 abbrev pub TicksAreCounted : Type 0
 TicksAreCounted = (fixed : NodeSetting) (t : Taken) (n : NodeAt) → (node_step fixed t n).node.ticks ≡ ticks_by t.input n.ticks

@@ -49,10 +49,12 @@ counted_at counters p reason q = if q == p then counted reason (counters q) else
 
 -- ---- what an answer of the servo is to the slave port: first what became of the chain, then the sample
 
+-- what became of the chain of good samples is told, unless the chain is as it was
 abbrev pub with_news : ChainNews → List PortIn → List PortIn
 with_news Same told = told
 with_news news told = Chain news ∷ told
 
+-- a good sample is told, if there is one: its number, and its unwrapped phase in tau
 abbrev pub with_sample : Option ℤ → ℕ → List PortIn → List PortIn
 with_sample None number told = told
 with_sample (Some phase) number told = Sample number phase ∷ told
@@ -62,13 +64,16 @@ abbrev pub number_of : Option Call → ℕ
 number_of (Some (CallSample n base bits)) = n
 number_of _ = 0
 
+-- all that the slave port is told of an answer; `number` is the sample's
 abbrev pub heard_of : ServoOut → ℕ → List PortIn → List PortIn
 heard_of out number told = with_sample out.unwrapped number (with_news out.chain told)
 
+-- an answer is told to the slave port, if there is one, and to no other port
 abbrev pub told_by : Option ℕ → ServoOut → ℕ → (ℕ → List PortIn) → ℕ → List PortIn
 told_by None out number told q = told q
 told_by (Some p) out number told q = if q == p then heard_of out number (told q) else told q
 
+-- the reason for which the servo refused a measurement (14) or a sample (15), if it did, is counted at the slave port
 abbrev pub counted_by : Option ℕ → ServoOut → (ℕ → List ℕ) → ℕ → List ℕ
 counted_by None out counters q = counters q
 counted_by (Some p) out counters q = counted_at counters p out.refused q
@@ -88,6 +93,7 @@ abbrev pub answer_of : NodeSetting → Option Call → List Call → ServoOut
 answer_of fixed None calls = no_answer
 answer_of fixed (Some call) calls = answer_to (servo_setting_of fixed) (run (servo_setting_of fixed) calls) call
 
+-- the calls of the servo, newest first, with one more, if there is one
 abbrev pub called : Option Call → List Call → List Call
 called None calls = calls
 called (Some call) calls = call ∷ calls
@@ -112,6 +118,7 @@ tell fixed call s = record {
 
 -- ---- a changed lease, and a changed WR_LINK_ON
 
+-- whether what holds now differs from what was told last
 abbrev pub is_changed : Bool → Bool → Bool
 is_changed true now = not now
 is_changed false now = now
@@ -128,9 +135,11 @@ link_change fixed n =
     for_slave fixed
     (if is_changed (is_some (link_told n.calls)) (is_some (deltas_in fixed.set n)) then Some (CallLink (deltas_in fixed.set n)) else None)
 
+-- the servo is told of the lease, where this changed
 abbrev pub with_lease : NodeSetting → Step → Step
 with_lease fixed s = tell fixed (lease_change fixed s.node) s
 
+-- the servo is told of WR_LINK_ON, where this changed
 abbrev pub with_link : NodeSetting → Step → Step
 with_link fixed s = tell fixed (link_change fixed s.node) s
 

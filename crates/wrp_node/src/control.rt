@@ -205,7 +205,8 @@ impl<F: Fn(i64) -> i64> Control<F> {
         }
     }
 
-    /// The offset from the parent, in tau, in TRACK alone.
+    /// The offset from the parent, in tau, in TRACK alone. None where the node has no servo, where its
+    /// servo is in another state, and where it has no measurement to reckon from; nothing changes.
     pub fn tracked(&self) -> Option<Tau>
         ensures { result ≡ tracked_in self.now.told }
     {

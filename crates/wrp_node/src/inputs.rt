@@ -52,7 +52,8 @@ impl Parts {
         }
     }
 
-    /// The four delays of the slave port's link, where it is in WR_LINK_ON.
+    /// The four delays of the slave port's link, where it is in WR_LINK_ON. None where the link is in
+    /// another state, and where the node has no slave port; nothing changes.
     pub fn deltas(&self) -> Option<Deltas>
         ensures { TellsDeltas self.now result }
     {
@@ -112,7 +113,10 @@ impl Parts {
     }
 
     /// Hands a message to the port that it came to. It is dropped and counted, or taken; answers the
-    /// four stamps of the measurement that it may make.
+    /// four stamps of the measurement that it may make. None where it is dropped whatever its kind
+    /// (reasons 9 to 12): then the port counts it, and nothing else changes. None where it is taken and
+    /// makes no measurement: then the port was told it, and counts it if it was of no use there. None
+    /// where no port has the number: then nothing changes.
     pub fn hear(&mut self, port: u16, message: PtpMsg, raw: &Raw, sample: u32) -> Option<Four>
         requires sound { IsSound message }
         requires raw { FitsRaw raw.now }

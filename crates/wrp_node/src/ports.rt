@@ -103,7 +103,9 @@ impl Ports {
     }
 
     /// Hands a message that came to the port of a number, which is looked up once: with the stamp of its
-    /// reception there and the node's tick count. Answers the measurement that it may make.
+    /// reception there and the node's tick count. Answers the measurement that it may make. None where
+    /// no port has the number: then nothing changes. None where the message makes no measurement: then
+    /// the port was told it, and counts it if it drops it.
     pub fn hear(
         &mut self,
         number: u16,
@@ -142,7 +144,7 @@ impl Ports {
         }
     }
 
-    /// The port of a number.
+    /// The port of a number; None where no port has it.
     pub fn place(&self, number: u16) -> Option<&Place>
         ensures { option_map (λ place. place.now) result ≡ place_of number self.now }
     {

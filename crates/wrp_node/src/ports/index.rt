@@ -19,7 +19,7 @@ pub fn index_of(places: &[Place]) -> Index
     index
 }
 
-/// Where the port of a number stands, looked for from the first port on.
+/// Where the port of a number stands, looked for from the first port on; None where no port has it.
 pub fn look_for(number: u16, places: &[Place]) -> Option<u8>
     requires { length places.now ≤ 18 }
     ensures { IsWhere number (numbers_in places.now) result }
