@@ -23,7 +23,7 @@ use Rattle.wrp_trace.specs.Digits.{bits_of, few, frame_of, octets_of}
 use Rattle.wrp_trace.specs.EventFields.{delay_at, offset_at, span_at}
 use Rattle.wrp_trace.specs.EventKinds.{kind_of, may_have}
 use Rattle.wrp_trace.specs.Events.{arrive_of, counted_of, cut_of, deliver_of, depart_of, down_of, event_of, event_read, fields_of_kind, join_of, noise_of, pass_of, pass_with, sample_of, tick_of, up_of}
-use Rattle.wrp_trace.specs.Fields.{bits_at, long_at, octets_at, raw_from, short_at, step_at, time_at}
+use Rattle.wrp_trace.specs.Fields.{bits_at, u32_at, octets_at, raw_from, u16_at, step_at, time_at}
 use Rattle.wrp_trace.specs.Swaps.{swap_said, swaps_said}
 use Rattle.wrp_course.specs.declared.event.Event.{Event}
 use Rattle.wrp_course.specs.declared.event.Event.TheVariants as events
@@ -72,10 +72,10 @@ bits_fit place fields bits e = bits_in (field_of place fields) bits (octets_of (
 
 -- Numbers
 
-short_fits : (place : ℕ) (fields : List (List ℕ)) (n : ℕ) → short_at place fields ≡ Ok n → n < 2 ^ 16
+short_fits : (place : ℕ) (fields : List (List ℕ)) (n : ℕ) → u16_at place fields ≡ Ok n → n < 2 ^ 16
 short_fits place fields n e = let most : n ≤ 65_535 = (number_read 0 65_535 place fields n e).1 in omega (arith, most)
 
-long_fits : (place : ℕ) (fields : List (List ℕ)) (n : ℕ) → long_at place fields ≡ Ok n → n < 2 ^ 32
+long_fits : (place : ℕ) (fields : List (List ℕ)) (n : ℕ) → u32_at place fields ≡ Ok n → n < 2 ^ 32
 long_fits place fields n e = let most : n ≤ 4_294_967_295 = (number_read 0 4_294_967_295 place fields n e).1 in omega (arith, most)
 
 -- Modules that are put in place
@@ -120,26 +120,26 @@ sample_fits cfg fields e h =
 
 depart_fits : (cfg : NetCfg) (fields : List (List ℕ)) (e : Event) → depart_of cfg fields ≡ Ok e → FitsEvent e
 depart_fits cfg fields e h =
-    let a = both (node_at cfg 2 fields) (λ node. short_at 3 fields >>= (λ port. time_at 4 fields >>= (λ stamp. Ok (events.Depart node port stamp)))) e h in
-    let b = both (short_at 3 fields) (λ port. time_at 4 fields >>= (λ stamp. Ok (events.Depart a.first port stamp))) e a.rest in
+    let a = both (node_at cfg 2 fields) (λ node. u16_at 3 fields >>= (λ port. time_at 4 fields >>= (λ stamp. Ok (events.Depart node port stamp)))) e h in
+    let b = both (u16_at 3 fields) (λ port. time_at 4 fields >>= (λ stamp. Ok (events.Depart a.first port stamp))) e a.rest in
     let d = both (time_at 4 fields) (λ stamp. Ok (events.Depart a.first b.first stamp)) e b.rest in
     subst FitsEvent (ok_same (events.Depart a.first b.first d.first) e d.rest) (short_fits 3 fields b.first b.is)
 
 arrive_fits : (fields : List (List ℕ)) (e : Event) → arrive_of fields ≡ Ok e → FitsEvent e
 arrive_fits fields e h =
-    let a = both (long_at 2 fields) (λ frame. raw_from 3 fields >>= (λ raw. Ok (events.Arrive frame raw))) e h in
+    let a = both (u32_at 2 fields) (λ frame. raw_from 3 fields >>= (λ raw. Ok (events.Arrive frame raw))) e h in
     let b = both (raw_from 3 fields) (λ raw. Ok (events.Arrive a.first raw)) e a.rest in
     subst FitsEvent (ok_same (events.Arrive a.first b.first) e b.rest) (long_fits 2 fields a.first a.is)
 
 deliver_fits : (fields : List (List ℕ)) (e : Event) → deliver_of fields ≡ Ok e → FitsEvent e
 deliver_fits fields e h =
-    let a = both (long_at 2 fields) (λ frame. Ok (events.Deliver frame)) e h in
+    let a = both (u32_at 2 fields) (λ frame. Ok (events.Deliver frame)) e h in
     subst FitsEvent (ok_same (events.Deliver a.first) e a.rest) (long_fits 2 fields a.first a.is)
 
 noise_fits : (cfg : NetCfg) (fields : List (List ℕ)) (e : Event) → noise_of cfg fields ≡ Ok e → FitsEvent e
 noise_fits cfg fields e h =
-    let a = both (node_at cfg 2 fields) (λ node. short_at 3 fields >>= (λ port. octets_at 4 fields >>= (λ octets. raw_from 5 fields >>= (λ raw. Ok (events.Noise node port octets raw))))) e h in
-    let b = both (short_at 3 fields) (λ port. octets_at 4 fields >>= (λ octets. raw_from 5 fields >>= (λ raw. Ok (events.Noise a.first port octets raw)))) e a.rest in
+    let a = both (node_at cfg 2 fields) (λ node. u16_at 3 fields >>= (λ port. octets_at 4 fields >>= (λ octets. raw_from 5 fields >>= (λ raw. Ok (events.Noise node port octets raw))))) e h in
+    let b = both (u16_at 3 fields) (λ port. octets_at 4 fields >>= (λ octets. raw_from 5 fields >>= (λ raw. Ok (events.Noise a.first port octets raw)))) e a.rest in
     let d = both (octets_at 4 fields) (λ octets. raw_from 5 fields >>= (λ raw. Ok (events.Noise a.first b.first octets raw))) e b.rest in
     let f = both (raw_from 5 fields) (λ raw. Ok (events.Noise a.first b.first d.first raw)) e d.rest in
     subst FitsEvent (ok_same (events.Noise a.first b.first d.first f.first) e f.rest) (short_fits 3 fields b.first b.is, frame_fits 4 fields d.first d.is)

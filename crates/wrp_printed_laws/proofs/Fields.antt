@@ -31,7 +31,7 @@ use Rattle.wrp_trace.specs.declared.events.kinds.EventKind.TheVariants as kinds
 use Rattle.wrp_trace.specs.EventFields.{before, behind, delay_at, offset_at, span_at}
 use Rattle.wrp_trace.specs.EventKinds.{all_kinds, kind_of, may_have, word_of}
 use Rattle.wrp_trace.specs.Events.{counted_of, event_of, event_read, fields_of_kind, pass_of, pass_with, plain, tick_of, up_of}
-use Rattle.wrp_trace.specs.Fields.{bits_at, long_at, octets_at, raw_from, short_at, step_at, time_at}
+use Rattle.wrp_trace.specs.Fields.{bits_at, u32_at, octets_at, raw_from, u16_at, step_at, time_at}
 use Rattle.wrp_trace.specs.Swaps.{swaps_said}
 use Rattle.wrp_trace.proofs.EventsFit.{Both, both, found, ok_same, read_as}
 use Rattle.wrp_trace.proofs.Listed.{IsFound, found as kind_found}
@@ -110,20 +110,20 @@ other_kind cfg kinds.Sample fields e h word =
     let d = both (bits_at 4 fields) (λ bits. Ok (events.Sample a.first b.first bits)) e b.rest in
     ends_other (events.Sample a.first b.first d.first) e d.rest tt
 other_kind cfg kinds.Depart fields e h word =
-    let a = both (node_at cfg 2 fields) (λ node. short_at 3 fields >>= (λ port. time_at 4 fields >>= (λ stamp. Ok (events.Depart node port stamp)))) e h in
-    let b = both (short_at 3 fields) (λ port. time_at 4 fields >>= (λ stamp. Ok (events.Depart a.first port stamp))) e a.rest in
+    let a = both (node_at cfg 2 fields) (λ node. u16_at 3 fields >>= (λ port. time_at 4 fields >>= (λ stamp. Ok (events.Depart node port stamp)))) e h in
+    let b = both (u16_at 3 fields) (λ port. time_at 4 fields >>= (λ stamp. Ok (events.Depart a.first port stamp))) e a.rest in
     let d = both (time_at 4 fields) (λ stamp. Ok (events.Depart a.first b.first stamp)) e b.rest in
     ends_other (events.Depart a.first b.first d.first) e d.rest tt
 other_kind cfg kinds.Arrive fields e h word =
-    let a = both (long_at 2 fields) (λ frame. raw_from 3 fields >>= (λ raw. Ok (events.Arrive frame raw))) e h in
+    let a = both (u32_at 2 fields) (λ frame. raw_from 3 fields >>= (λ raw. Ok (events.Arrive frame raw))) e h in
     let b = both (raw_from 3 fields) (λ raw. Ok (events.Arrive a.first raw)) e a.rest in
     ends_other (events.Arrive a.first b.first) e b.rest tt
 other_kind cfg kinds.Deliver fields e h word =
-    let a = both (long_at 2 fields) (λ frame. Ok (events.Deliver frame)) e h in
+    let a = both (u32_at 2 fields) (λ frame. Ok (events.Deliver frame)) e h in
     ends_other (events.Deliver a.first) e a.rest tt
 other_kind cfg kinds.Noise fields e h word =
-    let a = both (node_at cfg 2 fields) (λ node. short_at 3 fields >>= (λ port. octets_at 4 fields >>= (λ octets. raw_from 5 fields >>= (λ raw. Ok (events.Noise node port octets raw))))) e h in
-    let b = both (short_at 3 fields) (λ port. octets_at 4 fields >>= (λ octets. raw_from 5 fields >>= (λ raw. Ok (events.Noise a.first port octets raw)))) e a.rest in
+    let a = both (node_at cfg 2 fields) (λ node. u16_at 3 fields >>= (λ port. octets_at 4 fields >>= (λ octets. raw_from 5 fields >>= (λ raw. Ok (events.Noise node port octets raw))))) e h in
+    let b = both (u16_at 3 fields) (λ port. octets_at 4 fields >>= (λ octets. raw_from 5 fields >>= (λ raw. Ok (events.Noise a.first port octets raw)))) e a.rest in
     let d = both (octets_at 4 fields) (λ octets. raw_from 5 fields >>= (λ raw. Ok (events.Noise a.first b.first octets raw))) e b.rest in
     let f = both (raw_from 5 fields) (λ raw. Ok (events.Noise a.first b.first d.first raw)) e d.rest in
     ends_other (events.Noise a.first b.first d.first f.first) e f.rest tt

@@ -25,7 +25,7 @@ use Rattle.wrp_trace.specs.EventFields.{span_at, delay_at, offset_at}
 use Rattle.wrp_trace.specs.EventKinds.{kind_of, may_have}
 use Rattle.wrp_trace.specs.Events.{arrive_of, counted_of, depart_of, event_of, event_read, fields_of_kind, join_of, noise_of, pass_of, pass_with, sample_of, up_of}
 use Rattle.wrp_fields.specs.Fields.{number_at}
-use Rattle.wrp_trace.specs.Fields.{bits_at, counter_at, long_at, octets_at, raw_from, short_at, step_at, time_at}
+use Rattle.wrp_trace.specs.Fields.{bits_at, counter_at, u32_at, octets_at, raw_from, u16_at, step_at, time_at}
 use Rattle.wrp_fields.specs.Numbers.{kept_in, natural_in, number_of}
 use Rattle.wrp_trace.specs.Times.{time_of}
 use Rattle.wrp_fields.specs.Reading.{field_of, is_plain, ◌>>=◌}
@@ -162,21 +162,21 @@ sample_ranged cfg fields e is =
 
 depart_ranged : (cfg : NetCfg) (fields : List (List ℕ)) (e : Event) → depart_of cfg fields ≡ Ok e → IsRanged e
 depart_ranged cfg fields e is =
-    let a = bound (node_at cfg 2 fields) (λ node. short_at 3 fields >>= (λ port. time_at 4 fields >>= (λ stamp. Ok (events.Depart node port stamp)))) e is in
-    let b = bound (short_at 3 fields) (λ port. time_at 4 fields >>= (λ stamp. Ok (events.Depart a.value port stamp))) e a.rest in
+    let a = bound (node_at cfg 2 fields) (λ node. u16_at 3 fields >>= (λ port. time_at 4 fields >>= (λ stamp. Ok (events.Depart node port stamp)))) e is in
+    let b = bound (u16_at 3 fields) (λ port. time_at 4 fields >>= (λ stamp. Ok (events.Depart a.value port stamp))) e a.rest in
     let c = bound (time_at 4 fields) (λ stamp. Ok (events.Depart a.value b.value stamp)) e b.rest in
     subst IsRanged (ok_same (events.Depart a.value b.value c.value) e c.rest) (time_range 4 c.value fields c.is)
 
 arrive_ranged : (fields : List (List ℕ)) (e : Event) → arrive_of fields ≡ Ok e → IsRanged e
 arrive_ranged fields e is =
-    let a = bound (long_at 2 fields) (λ frame. raw_from 3 fields >>= (λ raw. Ok (events.Arrive frame raw))) e is in
+    let a = bound (u32_at 2 fields) (λ frame. raw_from 3 fields >>= (λ raw. Ok (events.Arrive frame raw))) e is in
     let b = bound (raw_from 3 fields) (λ raw. Ok (events.Arrive a.value raw)) e a.rest in
     subst IsRanged (ok_same (events.Arrive a.value b.value) e b.rest) (raw_range 3 b.value fields b.is)
 
 noise_ranged : (cfg : NetCfg) (fields : List (List ℕ)) (e : Event) → noise_of cfg fields ≡ Ok e → IsRanged e
 noise_ranged cfg fields e is =
-    let a = bound (node_at cfg 2 fields) (λ node. short_at 3 fields >>= (λ port. octets_at 4 fields >>= (λ octets. raw_from 5 fields >>= (λ raw. Ok (events.Noise node port octets raw))))) e is in
-    let b = bound (short_at 3 fields) (λ port. octets_at 4 fields >>= (λ octets. raw_from 5 fields >>= (λ raw. Ok (events.Noise a.value port octets raw)))) e a.rest in
+    let a = bound (node_at cfg 2 fields) (λ node. u16_at 3 fields >>= (λ port. octets_at 4 fields >>= (λ octets. raw_from 5 fields >>= (λ raw. Ok (events.Noise node port octets raw))))) e is in
+    let b = bound (u16_at 3 fields) (λ port. octets_at 4 fields >>= (λ octets. raw_from 5 fields >>= (λ raw. Ok (events.Noise a.value port octets raw)))) e a.rest in
     let c = bound (octets_at 4 fields) (λ octets. raw_from 5 fields >>= (λ raw. Ok (events.Noise a.value b.value octets raw))) e b.rest in
     let d = bound (raw_from 5 fields) (λ raw. Ok (events.Noise a.value b.value c.value raw)) e c.rest in
     subst IsRanged (ok_same (events.Noise a.value b.value c.value d.value) e d.rest) (frame_fits 4 c.value fields c.is, raw_range 5 d.value fields d.is)
@@ -214,7 +214,7 @@ kind_ranged cfg kinds.Tick fields e is = one_ranged (node_at cfg 2 fields) (λ n
 kind_ranged cfg kinds.Sample fields e is = sample_ranged cfg fields e is
 kind_ranged cfg kinds.Depart fields e is = depart_ranged cfg fields e is
 kind_ranged cfg kinds.Arrive fields e is = arrive_ranged fields e is
-kind_ranged cfg kinds.Deliver fields e is = one_ranged (long_at 2 fields) (λ i. events.Deliver i) e (λ i. tt) is
+kind_ranged cfg kinds.Deliver fields e is = one_ranged (u32_at 2 fields) (λ i. events.Deliver i) e (λ i. tt) is
 kind_ranged cfg kinds.Noise fields e is = noise_ranged cfg fields e is
 kind_ranged cfg kinds.Down fields e is = one_ranged (node_at cfg 2 fields) (λ n. events.Down n) e (λ n. tt) is
 kind_ranged cfg kinds.Up fields e is = up_ranged cfg fields e is

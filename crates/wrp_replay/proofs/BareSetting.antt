@@ -23,7 +23,7 @@ use Rattle.wrp_config.specs.Same.{bare_cfg}
 use Rattle.wrp_node.specs.Set.{identity_of, ports_at, ports_of, set_of, steps_up, top_up}
 use Rattle.wrp_trace.specs.declared.kinds.InputKind.{InputKind}
 use Rattle.wrp_trace.specs.declared.kinds.InputKind.TheVariants as kinds
-use Rattle.wrp_trace.specs.Fields.{module_at as module_in, own_port, port_at, short_at}
+use Rattle.wrp_trace.specs.Fields.{module_at as module_in, own_port, port_at, u16_at}
 use Rattle.wrp_trace.specs.Inputs.{counted_of, fields_of_kind, input_of, read_of, up_of}
 use Rattle.wrp_trace.specs.Kinds.{kind_of}
 use Rattle.wrp_fields.specs.Reading.{field_of, name_or_fault, ◌>>=◌}
@@ -92,7 +92,7 @@ own_port_bare site place port = ap (λ (b : Bool). name_or_fault place (if b the
 
 port_read_bare : (site : LineSetting) (place : ℕ) (fields : List (List ℕ)) → port_at (bare_setting site) place fields ≡ port_at site place fields
 port_read_bare site place fields =
-    bind_same (short_at place fields) (own_port (bare_setting site) place) (own_port site place) (λ port. own_port_bare site place port)
+    bind_same (u16_at place fields) (own_port (bare_setting site) place) (own_port site place) (λ port. own_port_bare site place port)
 
 named_module_bare : (site : LineSetting) (port : ℕ) (name : List ℕ) → named_at (bare_setting site) port name ≡ named_at site port name
 named_module_bare site port name = rw (pair_bare site.cfg site.node port) refl

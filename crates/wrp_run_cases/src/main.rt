@@ -10,13 +10,13 @@
 mod calls;
 mod carried;
 mod cuts;
-mod drops;
 mod migrated;
 mod projections;
 mod running;
 mod runs;
 mod scripted;
-mod sips;
+mod slow_sink;
+mod slow_source;
 mod statuses;
 mod texts;
 mod tracks;

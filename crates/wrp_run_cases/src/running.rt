@@ -1,6 +1,6 @@
 //! Runs of the top call.
-use crate::drops::Drops;
-use crate::sips::Sips;
+use crate::slow_sink::SlowSink;
+use crate::slow_source::SlowSource;
 use std::alloc::{AllocError, Global};
 use wrp_io::{Link, MemLink};
 use wrp_run::{Status, run};
@@ -66,8 +66,8 @@ pub fn borrowed<'a>(alloc: Global, words: &'a [String]) -> Result<Vec<&'a str>, 
 fn status_of<N: Link>(
     alloc: Global,
     words: &[&str],
-    source: &mut Drops<'_>,
-    sink: &mut Sips,
+    source: &mut SlowSource<'_>,
+    sink: &mut SlowSink,
     link: &mut N,
 ) -> Status {
     run(alloc, words, source, sink, link)
@@ -81,8 +81,8 @@ pub fn ran_over<N: Link>(
     way: Way,
     link: &mut N,
 ) -> Result<Ended, AllocError> {
-    let mut source = Drops::new(input, way.gives, way.source, way.breaks);
-    let mut sink = Sips::new(alloc, way.room, way.takes, way.sink);
+    let mut source = SlowSource::new(input, way.gives, way.source, way.breaks);
+    let mut sink = SlowSink::new(alloc, way.room, way.takes, way.sink);
     let status = status_of(alloc, words, &mut source, &mut sink, link);
     let (octets, before) = sink.into_parts();
     Ok(Ended {

@@ -31,7 +31,7 @@ use Rattle.wrp_fields.specs.Reading.{◌>>=◌, field_of, is_plain, number_or_fa
 use Rattle.wrp_trace.specs.EventFields.{before, behind, delay_at, offset_at, span_at}
 use Rattle.wrp_trace.specs.EventKinds.{kind_of, may_have}
 use Rattle.wrp_trace.specs.Events.{EventsCanCome, arrive_of, counted_of, cut_of, deliver_of, depart_of, down_of, event_of, fields_of_kind, join_of, noise_of, pass_of, pass_with, sample_of, tick_of, up_of}
-use Rattle.wrp_trace.specs.Fields.{bits_at, counter_at, long_at, octets_at, raw_from, short_at, step_at, time_at}
+use Rattle.wrp_trace.specs.Fields.{bits_at, counter_at, u32_at, octets_at, raw_from, u16_at, step_at, time_at}
 use Rattle.wrp_trace.specs.Times.{time_of}
 use Rattle.wrp_trace.specs.Swaps.{module_name, new_port, own_port, swap_at_port, swap_said, swaps_said, true_delay}
 use Rattle.wrp_trace.proofs.ChangeLemmas.{drift_fits, move_fits, nothing_is_said}
@@ -279,27 +279,27 @@ sample_fits cfg fields e h =
 
 depart_fits : (cfg : NetCfg) (fields : List (List ℕ)) (e : Event) → depart_of cfg fields ≡ Ok e → IsEventOf cfg e
 depart_fits cfg fields e h =
-    let a = both (node_at cfg 2 fields) (λ node. short_at 3 fields >>= (λ port. time_at 4 fields >>= (λ stamp. Ok (events.Depart node port stamp)))) e h in
-    let b = both (short_at 3 fields) (λ port. time_at 4 fields >>= (λ stamp. Ok (events.Depart a.first port stamp))) e a.rest in
+    let a = both (node_at cfg 2 fields) (λ node. u16_at 3 fields >>= (λ port. time_at 4 fields >>= (λ stamp. Ok (events.Depart node port stamp)))) e h in
+    let b = both (u16_at 3 fields) (λ port. time_at 4 fields >>= (λ stamp. Ok (events.Depart a.first port stamp))) e a.rest in
     let d = both (time_at 4 fields) (λ stamp. Ok (events.Depart a.first b.first stamp)) e b.rest in
     subst (IsEventOf cfg) (ok_same (events.Depart a.first b.first d.first) e d.rest)
     (node_there cfg 2 fields a.first a.is, time_range (field_of 4 fields) d.first (found (Number 4) (time_of (field_of 4 fields)) d.first d.is))
 
 arrive_fits : (cfg : NetCfg) (fields : List (List ℕ)) (e : Event) → arrive_of fields ≡ Ok e → IsEventOf cfg e
 arrive_fits cfg fields e h =
-    let a = both (long_at 2 fields) (λ frame. raw_from 3 fields >>= (λ raw. Ok (events.Arrive frame raw))) e h in
+    let a = both (u32_at 2 fields) (λ frame. raw_from 3 fields >>= (λ raw. Ok (events.Arrive frame raw))) e h in
     let b = both (raw_from 3 fields) (λ raw. Ok (events.Arrive a.first raw)) e a.rest in
     subst (IsEventOf cfg) (ok_same (events.Arrive a.first b.first) e b.rest) (raw_read 3 fields b.first b.is)
 
 deliver_fits : (cfg : NetCfg) (fields : List (List ℕ)) (e : Event) → deliver_of fields ≡ Ok e → IsEventOf cfg e
 deliver_fits cfg fields e h =
-    let a = both (long_at 2 fields) (λ frame. Ok (events.Deliver frame)) e h in
+    let a = both (u32_at 2 fields) (λ frame. Ok (events.Deliver frame)) e h in
     subst (IsEventOf cfg) (ok_same (events.Deliver a.first) e a.rest) tt
 
 noise_fits : (cfg : NetCfg) (fields : List (List ℕ)) (e : Event) → noise_of cfg fields ≡ Ok e → IsEventOf cfg e
 noise_fits cfg fields e h =
-    let a = both (node_at cfg 2 fields) (λ node. short_at 3 fields >>= (λ port. octets_at 4 fields >>= (λ octets. raw_from 5 fields >>= (λ raw. Ok (events.Noise node port octets raw))))) e h in
-    let b = both (short_at 3 fields) (λ port. octets_at 4 fields >>= (λ octets. raw_from 5 fields >>= (λ raw. Ok (events.Noise a.first port octets raw)))) e a.rest in
+    let a = both (node_at cfg 2 fields) (λ node. u16_at 3 fields >>= (λ port. octets_at 4 fields >>= (λ octets. raw_from 5 fields >>= (λ raw. Ok (events.Noise node port octets raw))))) e h in
+    let b = both (u16_at 3 fields) (λ port. octets_at 4 fields >>= (λ octets. raw_from 5 fields >>= (λ raw. Ok (events.Noise a.first port octets raw)))) e a.rest in
     let d = both (octets_at 4 fields) (λ octets. raw_from 5 fields >>= (λ raw. Ok (events.Noise a.first b.first octets raw))) e b.rest in
     let f = both (raw_from 5 fields) (λ raw. Ok (events.Noise a.first b.first d.first raw)) e d.rest in
     subst (IsEventOf cfg) (ok_same (events.Noise a.first b.first d.first f.first) e f.rest)

@@ -26,7 +26,7 @@ use Rattle.wrp_names.specs.Fields.{node_at, link_at}
 use Rattle.wrp_trace.specs.EventFields.{span_at, delay_at, offset_at}
 use Rattle.wrp_trace.specs.EventPrinting.{link_text, drift_words, drift_texts, move_words, move_texts, swap_text, pass_texts, event_text}
 use Rattle.wrp_trace.specs.Events.{pass_with, pass_of, tick_of, sample_of, depart_of, arrive_of, deliver_of, noise_of, down_of, up_of, cut_of, join_of, event_of, event_read, plain}
-use Rattle.wrp_trace.specs.Fields.{short_at, long_at, step_at, bits_at, octets_at, time_at, raw_from}
+use Rattle.wrp_trace.specs.Fields.{u16_at, u32_at, step_at, bits_at, octets_at, time_at, raw_from}
 use Rattle.wrp_fields.specs.Numbers.{number_in}
 use Rattle.wrp_trace.specs.Printing.{bits_text}
 use Rattle.wrp_fields.specs.Reading.{field_of, number_or_fault, name_or_fault}
@@ -228,7 +228,7 @@ sample_back cfg n base bits is low few =
     line_says cfg 115 (codes "ample") texts (refl, (is.text, (short_text base (omega (arith, low)), (hex_text (big_bytes 8 bits) (number_octets 8 bits), tt))))
     ∙ sample_read cfg fields n base bits (node_read cfg 2 n fields is refl) (step_read 3 base fields low refl) (bits_read 4 bits fields few refl)
 
-depart_read : (cfg : NetCfg) (fields : List (List ℕ)) (n port : ℕ) (stamp : ℤ) → node_at cfg 2 fields ≡ Ok n → short_at 3 fields ≡ Ok port → time_at 4 fields ≡ Ok stamp
+depart_read : (cfg : NetCfg) (fields : List (List ℕ)) (n port : ℕ) (stamp : ℤ) → node_at cfg 2 fields ≡ Ok n → u16_at 3 fields ≡ Ok port → time_at 4 fields ≡ Ok stamp
     → depart_of cfg fields ≡ Ok (events.Depart n port stamp)
 depart_read cfg fields n port stamp e1 e2 e3 = rw (e1, e2, e3) refl
 
@@ -240,7 +240,7 @@ depart_back cfg n port stamp is small time =
     line_says cfg 100 (codes "epart") texts (refl, (is.text, (short_text port (omega (arith, small)), (signed_text stamp (omega (arith, time.greatest)), tt))))
     ∙ depart_read cfg fields n port stamp (node_read cfg 2 n fields is refl) (short_read 3 port fields small refl) (time_read 4 stamp fields time refl)
 
-arrive_read : (fields : List (List ℕ)) (frame : ℕ) (raw : Raw) → long_at 2 fields ≡ Ok frame → raw_from 3 fields ≡ Ok raw → arrive_of fields ≡ Ok (events.Arrive frame raw)
+arrive_read : (fields : List (List ℕ)) (frame : ℕ) (raw : Raw) → u32_at 2 fields ≡ Ok frame → raw_from 3 fields ≡ Ok raw → arrive_of fields ≡ Ok (events.Arrive frame raw)
 arrive_read fields frame raw e1 e2 = rw (e1, e2) refl
 
 arrive_back : (cfg : NetCfg) (frame : ℕ) (raw : Raw) → frame < 2 ^ 32 → IsRaw raw
@@ -253,7 +253,7 @@ arrive_back cfg frame raw small is =
     ∙ arrive_read fields frame raw (long_read 2 frame fields small refl)
     (raw_read 3 fields raw (counter_read 3 raw.rising fields is.rising.0 is.rising.1 refl) (counter_read 4 raw.falling fields is.falling.0 is.falling.1 refl) (step_read 5 raw.tag fields is.tag refl))
 
-deliver_read : (fields : List (List ℕ)) (frame : ℕ) → long_at 2 fields ≡ Ok frame → deliver_of fields ≡ Ok (events.Deliver frame)
+deliver_read : (fields : List (List ℕ)) (frame : ℕ) → u32_at 2 fields ≡ Ok frame → deliver_of fields ≡ Ok (events.Deliver frame)
 deliver_read fields frame e = rw e refl
 
 deliver_back : (cfg : NetCfg) (frame : ℕ) → frame < 2 ^ 32 → event_read cfg (event_text cfg (events.Deliver frame)) ≡ Ok (events.Deliver frame)
@@ -263,7 +263,7 @@ deliver_back cfg frame small =
     ∙ deliver_read (codes "deliver" ∷ texts) frame (long_read 2 frame (codes "deliver" ∷ texts) small refl)
 
 noise_read : (cfg : NetCfg) (fields : List (List ℕ)) (n port : ℕ) (octets : ArrayVec ℕ) (raw : Raw)
-    → node_at cfg 2 fields ≡ Ok n → short_at 3 fields ≡ Ok port → octets_at 4 fields ≡ Ok octets → raw_from 5 fields ≡ Ok raw
+    → node_at cfg 2 fields ≡ Ok n → u16_at 3 fields ≡ Ok port → octets_at 4 fields ≡ Ok octets → raw_from 5 fields ≡ Ok raw
     → noise_of cfg fields ≡ Ok (events.Noise n port octets raw)
 noise_read cfg fields n port octets raw e1 e2 e3 e4 = rw (e1, e2, e3, e4) refl
 

@@ -14,7 +14,7 @@ use Rattle.wrp_node.specs.declared.interface.Input.{Input}
 use Rattle.wrp_node.specs.declared.interface.Input.TheVariants as inputs
 use Rattle.wrp_trace.specs.Digits.{frame_of as frame_octets, bits_of}
 use Rattle.wrp_fields.specs.Fields.{number_at}
-use Rattle.wrp_trace.specs.Fields.{short_at, long_at, step_at, counter_at, bits_at, octets_at, time_at, raw_from, stamp_from, message_at, own_port, port_at, module_at}
+use Rattle.wrp_trace.specs.Fields.{u16_at, u32_at, step_at, counter_at, bits_at, octets_at, time_at, raw_from, stamp_from, message_at, own_port, port_at, module_at}
 use Rattle.wrp_trace.specs.Inputs.{sample_of, frame_of, sent_of, up_of, down_of, input_of, read_of}
 use Rattle.wrp_fields.specs.Numbers.{natural_in}
 use Rattle.wrp_trace.specs.Times.{time_of}
@@ -36,10 +36,10 @@ number_read least greatest place n fields low high small e =
     ap (λ text. number_or_fault place (natural_in least greatest text)) e
     ∙ ap (number_or_fault place) (natural_back least greatest n low high small)
 
-pub short_read : (place n : ℕ) (fields : List (List ℕ)) → n < 2 ^ 16 → field_of place fields ≡ decimal n → short_at place fields ≡ Ok n
+pub short_read : (place n : ℕ) (fields : List (List ℕ)) → n < 2 ^ 16 → field_of place fields ≡ decimal n → u16_at place fields ≡ Ok n
 short_read place n fields small e = number_read 0 65_535 place n fields (omega arith) (omega arith) (omega arith) e
 
-pub long_read : (place n : ℕ) (fields : List (List ℕ)) → n < 2 ^ 32 → field_of place fields ≡ decimal n → long_at place fields ≡ Ok n
+pub long_read : (place n : ℕ) (fields : List (List ℕ)) → n < 2 ^ 32 → field_of place fields ≡ decimal n → u32_at place fields ≡ Ok n
 long_read place n fields small e = number_read 0 4_294_967_295 place n fields (omega arith) (omega arith) (omega arith) e
 
 pub step_read : (place n : ℕ) (fields : List (List ℕ)) → n ≤ 16_383 → field_of place fields ≡ decimal n → step_at place fields ≡ Ok n
@@ -71,7 +71,7 @@ port_read site place port fields small has e =
 
 -- Lines
 
-sample_read : (fields : List (List ℕ)) (n base bits : ℕ) → long_at 2 fields ≡ Ok n → step_at 3 fields ≡ Ok base → bits_at 4 fields ≡ Ok bits
+sample_read : (fields : List (List ℕ)) (n base bits : ℕ) → u32_at 2 fields ≡ Ok n → step_at 3 fields ≡ Ok base → bits_at 4 fields ≡ Ok bits
     → sample_of fields ≡ Ok (inputs.Sample n base bits)
 sample_read fields n base bits e1 e2 e3 = rw (e1, e2, e3) refl
 
@@ -81,16 +81,16 @@ pub raw_read : (place : ℕ) (fields : List (List ℕ)) (raw : Raw) → counter_
 raw_read place fields raw e1 e2 e3 = rw (e1, e2, e3) refl
 
 frame_read : (site : LineSetting) (fields : List (List ℕ)) (port : ℕ) (frame : ArrayVec ℕ) (raw : Raw) (sample : ℕ)
-    → port_at site 2 fields ≡ Ok port → octets_at 3 fields ≡ Ok frame → raw_from 4 fields ≡ Ok raw → long_at 7 fields ≡ Ok sample
+    → port_at site 2 fields ≡ Ok port → octets_at 3 fields ≡ Ok frame → raw_from 4 fields ≡ Ok raw → u32_at 7 fields ≡ Ok sample
     → frame_of site fields ≡ Ok (inputs.Frame port frame raw sample)
 frame_read site fields port frame raw sample e1 e2 e3 e4 = rw (e1, e2, e3, e4) refl
 
 stamp_read : (place : ℕ) (fields : List (List ℕ)) (stamp : Stamp) → time_at place fields ≡ Ok stamp.value
-    → long_at (place + 1) fields ≡ Ok stamp.sample → stamp_from place fields ≡ Ok stamp
+    → u32_at (place + 1) fields ≡ Ok stamp.sample → stamp_from place fields ≡ Ok stamp
 stamp_read place fields stamp e1 e2 = rw (e1, e2) refl
 
 sent_read : (site : LineSetting) (fields : List (List ℕ)) (port seq : ℕ) (delay : Bool) (stamp : Stamp)
-    → port_at site 2 fields ≡ Ok port → message_at 3 fields ≡ Ok delay → short_at 4 fields ≡ Ok seq → stamp_from 5 fields ≡ Ok stamp
+    → port_at site 2 fields ≡ Ok port → message_at 3 fields ≡ Ok delay → u16_at 4 fields ≡ Ok seq → stamp_from 5 fields ≡ Ok stamp
     → sent_of site fields ≡ Ok (inputs.Sent port seq delay stamp)
 sent_read site fields port seq delay stamp e1 e2 e3 e4 = rw (e1, e2, e3, e4) refl
 

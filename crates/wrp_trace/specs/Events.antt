@@ -14,7 +14,7 @@ use Rattle.wrp_trace.specs.Changes.{SaidAt, nothing_said, changes_said, all_drif
 use Rattle.wrp_names.specs.Fields.{node_at, link_at}
 use Rattle.wrp_trace.specs.EventFields.{span_at, delay_at, offset_at}
 use Rattle.wrp_trace.specs.EventKinds.{may_have, kind_of}
-use Rattle.wrp_trace.specs.Fields.{short_at, long_at, step_at, bits_at, octets_at, time_at, raw_from}
+use Rattle.wrp_trace.specs.Fields.{u16_at, u32_at, step_at, bits_at, octets_at, time_at, raw_from}
 use Rattle.wrp_fields.specs.Reading.{◌>>=◌, field_of, is_plain}
 use Rattle.wrp_trace.specs.Swaps.{plain_swap, swaps_said}
 
@@ -48,28 +48,28 @@ sample_of cfg fields = do
 abbrev pub depart_of : NetCfg → List (List ℕ) → Result Event TraceFault
 depart_of cfg fields = do
   node ← node_at cfg 2 fields
-  port ← short_at 3 fields
+  port ← u16_at 3 fields
   stamp ← time_at 4 fields
   Ok (events.Depart node port stamp)
 
 -- `arrive,K,RISING,FALLING,TAG`
 abbrev pub arrive_of : List (List ℕ) → Result Event TraceFault
 arrive_of fields = do
-  frame ← long_at 2 fields
+  frame ← u32_at 2 fields
   raw ← raw_from 3 fields
   Ok (events.Arrive frame raw)
 
 -- `deliver,K`
 abbrev pub deliver_of : List (List ℕ) → Result Event TraceFault
 deliver_of fields = do
-  frame ← long_at 2 fields
+  frame ← u32_at 2 fields
   Ok (events.Deliver frame)
 
 -- `noise,NODE,PORT,HEX,RISING,FALLING,TAG`
 abbrev pub noise_of : NetCfg → List (List ℕ) → Result Event TraceFault
 noise_of cfg fields = do
   node ← node_at cfg 2 fields
-  port ← short_at 3 fields
+  port ← u16_at 3 fields
   octets ← octets_at 4 fields
   raw ← raw_from 5 fields
   Ok (events.Noise node port octets raw)

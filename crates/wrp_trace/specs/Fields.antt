@@ -13,12 +13,12 @@ use Rattle.wrp_trace.specs.Times.{time_of}
 use Rattle.wrp_trace.specs.LineSetting.{LineSetting, has_port, named_at}
 
 -- a number of 16 bits
-abbrev pub short_at : ℕ → List (List ℕ) → Result ℕ TraceFault
-short_at place fields = number_at 0 65_535 place fields
+abbrev pub u16_at : ℕ → List (List ℕ) → Result ℕ TraceFault
+u16_at place fields = number_at 0 65_535 place fields
 
 -- a number of 32 bits
-abbrev pub long_at : ℕ → List (List ℕ) → Result ℕ TraceFault
-long_at place fields = number_at 0 4_294_967_295 place fields
+abbrev pub u32_at : ℕ → List (List ℕ) → Result ℕ TraceFault
+u32_at place fields = number_at 0 4_294_967_295 place fields
 
 -- a place in the period, in detector steps
 abbrev pub step_at : ℕ → List (List ℕ) → Result ℕ TraceFault
@@ -52,7 +52,7 @@ raw_from place fields = do
 abbrev pub stamp_from : ℕ → List (List ℕ) → Result Stamp TraceFault
 stamp_from place fields = do
   value ← time_at place fields
-  sample ← long_at (place + 1) fields
+  sample ← u32_at (place + 1) fields
   Ok (record { value = value; sample = sample })
 
 -- whether a sent message is a Delay_Req; else it is a Sync
@@ -74,7 +74,7 @@ own_port site place port =
 -- the port in the field of a place: a number first, and then one of the node's
 abbrev pub port_at : LineSetting → ℕ → List (List ℕ) → Result ℕ TraceFault
 port_at site place fields = do
-  port ← short_at place fields
+  port ← u16_at place fields
   own_port site place port
 
 -- the module in the field of a place, at this port of the node

@@ -8,7 +8,7 @@ use Rattle.wrp_node.specs.declared.interface.Input.{Input}
 use Rattle.wrp_node.specs.declared.interface.Input.TheVariants as inputs
 use Rattle.wrp_trace.specs.declared.kinds.InputKind.{InputKind}
 use Rattle.wrp_trace.specs.declared.kinds.InputKind.TheVariants as kinds
-use Rattle.wrp_trace.specs.Fields.{short_at, long_at, step_at, bits_at, octets_at, raw_from, stamp_from, message_at, port_at, module_at}
+use Rattle.wrp_trace.specs.Fields.{u16_at, u32_at, step_at, bits_at, octets_at, raw_from, stamp_from, message_at, port_at, module_at}
 use Rattle.wrp_trace.specs.Kinds.{field_count, kind_of}
 use Rattle.wrp_fields.specs.Reading.{◌>>=◌, field_of, is_plain}
 use Rattle.wrp_trace.specs.LineSetting.{LineSetting}
@@ -16,7 +16,7 @@ use Rattle.wrp_trace.specs.LineSetting.{LineSetting}
 -- `sample,N,BASE,BITS`
 abbrev pub sample_of : List (List ℕ) → Result Input TraceFault
 sample_of fields = do
-  n ← long_at 2 fields
+  n ← u32_at 2 fields
   base ← step_at 3 fields
   bits ← bits_at 4 fields
   Ok (inputs.Sample n base bits)
@@ -27,7 +27,7 @@ frame_of site fields = do
   port ← port_at site 2 fields
   octets ← octets_at 3 fields
   raw ← raw_from 4 fields
-  sample ← long_at 7 fields
+  sample ← u32_at 7 fields
   Ok (inputs.Frame port octets raw sample)
 
 -- `sent,PORT,sync,SEQ,STAMP,SAMPLE`, and the same with `delay`
@@ -35,7 +35,7 @@ abbrev pub sent_of : LineSetting → List (List ℕ) → Result Input TraceFault
 sent_of site fields = do
   port ← port_at site 2 fields
   delay ← message_at 3 fields
-  seq ← short_at 4 fields
+  seq ← u16_at 4 fields
   stamp ← stamp_from 5 fields
   Ok (inputs.Sent port seq delay stamp)
 

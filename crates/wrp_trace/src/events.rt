@@ -14,7 +14,7 @@ mod place;
 mod printing;
 mod swaps;
 
-use crate::fields::{bits_at, long_at, octets_at, raw_from, short_at, step_at, time_at};
+use crate::fields::{bits_at, octets_at, raw_from, step_at, time_at, u16_at, u32_at};
 use csv::ByteRecord;
 use fields::{delay_at, offset_at};
 pub use kinds::EventKind;
@@ -83,7 +83,7 @@ fn depart(row: &ByteRecord, cfg: &NetCfg, event: &mut Event) -> Result<(), Trace
     ensures event { OnOk result (IsEventOf cfg.now event.new) }
 {
     let node = node_at(row, 2, cfg)?;
-    let port = short_at(row, 3)?;
+    let port = u16_at(row, 3)?;
     let stamp = time_at(row, 4)?;
     *event = Event::Depart { node, port, stamp };
     Ok(())
@@ -95,7 +95,7 @@ fn arrive(row: &ByteRecord, cfg: &NetCfg, event: &mut Event) -> Result<(), Trace
     ensures event { OnOk result (IsEventOf cfg.now event.new) }
 {
     let _any = cfg;
-    let frame = long_at(row, 2)?;
+    let frame = u32_at(row, 2)?;
     let raw = raw_from(row, 3)?;
     *event = Event::Arrive { frame, raw };
     Ok(())
@@ -107,7 +107,7 @@ fn deliver(row: &ByteRecord, cfg: &NetCfg, event: &mut Event) -> Result<(), Trac
     ensures event { OnOk result (IsEventOf cfg.now event.new) }
 {
     let _any = cfg;
-    let frame = long_at(row, 2)?;
+    let frame = u32_at(row, 2)?;
     *event = Event::Deliver { frame };
     Ok(())
 }
@@ -118,7 +118,7 @@ fn noise(row: &ByteRecord, cfg: &NetCfg, event: &mut Event) -> Result<(), TraceF
     ensures event { OnOk result (IsEventOf cfg.now event.new) }
 {
     let node = node_at(row, 2, cfg)?;
-    let port = short_at(row, 3)?;
+    let port = u16_at(row, 3)?;
     let bytes = octets_at(row, 4)?;
     let raw = raw_from(row, 5)?;
     *event = Event::Noise {

@@ -1,7 +1,7 @@
 //! The fields of a line, by their places from 1: what each says, or its fault.
 ghost use Rattle.std.specs.Prelude.{◌≡◌, ◌<◌, ◌≤◌, ◌^◌, IfOk, true};
 ghost use Rattle.csv.specs.Records.{fields_of};
-ghost use Rattle.wrp_trace.specs.Fields.{short_at, long_at, step_at, counter_at, bits_at, octets_at, time_at, raw_from, stamp_from, port_at, message_at, module_at};
+ghost use Rattle.wrp_trace.specs.Fields.{u16_at, u32_at, step_at, counter_at, bits_at, octets_at, time_at, raw_from, stamp_from, port_at, message_at, module_at};
 ghost use Rattle.wrp_trace.specs.InputAt.{IsListed};
 ghost use Rattle.wrp_trace.specs.LineSetting.{line_setting_of, has_port};
 ghost use Rattle.wrp_base.specs.Network.{IsAmong};
@@ -28,18 +28,18 @@ const LAST_STEP: u64 = 16_383;
 const MOST_COUNT: u64 = (1 << 63) - 1;
 
 /// A number of 16 bits.
-pub fn short_at(row: &ByteRecord, place: u32) -> Result<u16, TraceFault>
+pub fn u16_at(row: &ByteRecord, place: u32) -> Result<u16, TraceFault>
     requires { 0 < place }
-    ensures { result ≡ short_at place (fields_of row.now) }
+    ensures { result ≡ u16_at place (fields_of row.now) }
 {
     let number = number_at(row, place, 0, MOST_SHORT)?;
     Ok(number as u16)
 }
 
 /// A number of 32 bits.
-pub fn long_at(row: &ByteRecord, place: u32) -> Result<u32, TraceFault>
+pub fn u32_at(row: &ByteRecord, place: u32) -> Result<u32, TraceFault>
     requires { 0 < place }
-    ensures { result ≡ long_at place (fields_of row.now) }
+    ensures { result ≡ u32_at place (fields_of row.now) }
 {
     let number = number_at(row, place, 0, MOST_LONG)?;
     Ok(number as u32)
@@ -121,7 +121,7 @@ pub fn stamp_from(row: &ByteRecord, place: u32) -> Result<Stamp, TraceFault>
     ensures range { IfOk result (λ stamp. IsTime stamp.value) }
 {
     let value = time_at(row, place)?;
-    let sample = long_at(row, place + 1)?;
+    let sample = u32_at(row, place + 1)?;
     Ok(Stamp { value, sample })
 }
 
@@ -132,7 +132,7 @@ pub fn port_at(row: &ByteRecord, place: u32, net: &Network, node: u8) -> Result<
     ensures range { IfOk result (λ port.
         has_port (line_setting_of net.now node) port ≡ true) }
 {
-    let port = short_at(row, place)?;
+    let port = u16_at(row, place)?;
     if has_port(net, node, port) {
         Ok(port)
     } else {

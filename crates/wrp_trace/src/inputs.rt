@@ -8,8 +8,8 @@ ghost use Rattle.wrp_fields.specs.Reading.{IsReading};
 ghost use Rattle.wrp_trace.specs.LineSetting.{line_setting_of, is_grandmaster};
 
 use crate::fields::{
-    bits_at, long_at, message_at, module_at, octets_at, port_at, raw_from, short_at, stamp_from,
-    step_at,
+    bits_at, message_at, module_at, octets_at, port_at, raw_from, stamp_from, step_at, u16_at,
+    u32_at,
 };
 use crate::kinds::{InputKind, kind_of};
 use csv::ByteRecord;
@@ -72,7 +72,7 @@ fn sample(row: &ByteRecord, net: &Network, node: u8, input: &mut Input) -> Resul
     ensures value { IsReadInto (sample_of (fields_of row.now)) result input.old input.new }
     ensures input { OnOk result (IsInputAt (line_setting_of net.now node) input.new) }
 {
-    let n = long_at(row, 2)?;
+    let n = u32_at(row, 2)?;
     let base = step_at(row, 3)?;
     let bits = bits_at(row, 4)?;
     *input = Input::Sample { n, base, bits };
@@ -87,7 +87,7 @@ fn frame(row: &ByteRecord, net: &Network, node: u8, input: &mut Input) -> Result
     let port = port_at(row, 2, net, node)?;
     let bytes = octets_at(row, 3)?;
     let raw = raw_from(row, 4)?;
-    let sample = long_at(row, 7)?;
+    let sample = u32_at(row, 7)?;
     *input = Input::Frame {
         port,
         bytes,
@@ -104,7 +104,7 @@ fn sent(row: &ByteRecord, net: &Network, node: u8, input: &mut Input) -> Result<
 {
     let port = port_at(row, 2, net, node)?;
     let delay = message_at(row, 3)?;
-    let seq = short_at(row, 4)?;
+    let seq = u16_at(row, 4)?;
     let stamp = stamp_from(row, 5)?;
     *input = Input::Sent {
         port,

@@ -7,7 +7,7 @@ use wrp_io::{Failed, Sink};
 /// A sink with room for so many octets, that takes at most so many a call, and whose call of one number, counted from 1,
 /// fails. So does a call of which it can take nothing.
 #[derive(Drop)]
-pub struct Sips {
+pub struct SlowSink {
     taken: Vec<u8>,
     // How many octets it held before each call that did not fail.
     before: Vec<usize>,
@@ -18,10 +18,10 @@ pub struct Sips {
     faults: u64,
 }
 
-impl Sips {
+impl SlowSink {
     /// A sink that has taken nothing.
-    pub fn new(alloc: Global, room: usize, most: usize, fails: u32) -> Sips {
-        Sips {
+    pub fn new(alloc: Global, room: usize, most: usize, fails: u32) -> SlowSink {
+        SlowSink {
             taken: Vec::new(alloc),
             before: Vec::new(alloc),
             room,
@@ -34,7 +34,7 @@ impl Sips {
 
     /// What it took, and how many octets it held before each call that did not fail.
     pub fn into_parts(self) -> (Vec<u8>, Vec<usize>) {
-        let Sips { taken, before, .. } = self;
+        let SlowSink { taken, before, .. } = self;
         (taken, before)
     }
 
@@ -55,7 +55,7 @@ impl Sips {
     }
 }
 
-impl Sink for Sips {
+impl Sink for SlowSink {
     ghost faults = { λ s. s.faults };
 
     fn write(&mut self, piece: &[u8]) -> Result<usize, Failed> {

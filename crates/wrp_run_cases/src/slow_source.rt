@@ -6,7 +6,7 @@ use wrp_io::{Failed, Source};
 /// A source of octets, that gives at most so many a call, and whose call of one number, counted from 1, fails. Where it
 /// breaks off, each call fails that comes when all octets were given.
 #[derive(Drop)]
-pub struct Drops<'a> {
+pub struct SlowSource<'a> {
     octets: &'a [u8],
     most: usize,
     fails: u32,
@@ -15,10 +15,10 @@ pub struct Drops<'a> {
     faults: u64,
 }
 
-impl<'a> Drops<'a> {
+impl<'a> SlowSource<'a> {
     /// A source of these octets.
-    pub fn new(octets: &'a [u8], most: usize, fails: u32, breaks: bool) -> Drops<'a> {
-        Drops {
+    pub fn new(octets: &'a [u8], most: usize, fails: u32, breaks: bool) -> SlowSource<'a> {
+        SlowSource {
             octets,
             most,
             fails,
@@ -49,7 +49,7 @@ fn give<'a>(octets: &'a [u8], buf: &mut [u8], most: usize) -> (&'a [u8], usize)
     (left, count)
 }
 
-impl<'a> Source for Drops<'a> {
+impl<'a> Source for SlowSource<'a> {
     ghost faults = { λ s. s.faults };
 
     fn read(&mut self, buf: &mut [u8]) -> Result<usize, Failed> {
