@@ -40,5 +40,6 @@ pub record AreParts (marks : List Mark) (parts : List (List Mark)) : Type 0 wher
   pub outside : AllByRecursion (λ part. IsOutside part) parts
   pub ended : AllEnded parts
 
+-- for each history, the stretches that the recursion finds are its parts outside IDLE
 abbrev pub StretchesAreParts : Type 0
 StretchesAreParts = (marks : List Mark) → IsHistory marks → AreParts marks (stretches_of marks)

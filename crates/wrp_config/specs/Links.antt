@@ -40,10 +40,11 @@ first_of (Some d) = as_integer d
 abbrev pub first_in : Members → Option ℤ
 first_in link = first_of (get_member (codes "down_nm") link)
 
--- the wavelengths of a link
+-- the wavelength of a link's way down, in nm: 0 for any
 abbrev pub down_in : Members → ℕ
 down_in link = natural_at down_key link
 
+-- the wavelength of a link's way up, in nm: 0 for any
 abbrev pub up_in : Members → ℕ
 up_in link = natural_at (up_key (first_in link)) link
 
@@ -51,10 +52,11 @@ up_in link = natural_at (up_key (first_in link)) link
 abbrev pub wr_key : Key
 wr_key = optional_key (codes "wr") so.Flag
 
--- the ends, each a port of a node
+-- the upper end, which gives the time: a port of a node
 abbrev pub upper_key : Key
 upper_key = required_key (codes "upper") so.Text
 
+-- the lower end, which follows the upper one: a port of a node
 abbrev pub lower_key : Key
 lower_key = required_key (codes "lower") so.Text
 
@@ -62,10 +64,11 @@ lower_key = required_key (codes "lower") so.Text
 abbrev pub fibre_key : Key
 fibre_key = required_key (codes "fibre") so.Name
 
--- the modules
+-- the module at the upper end
 abbrev pub upper_module_key : Key
 upper_module_key = required_key (codes "upper_module") so.ModuleName
 
+-- the module at the lower end
 abbrev pub lower_module_key : Key
 lower_module_key = required_key (codes "lower_module") so.ModuleName
 

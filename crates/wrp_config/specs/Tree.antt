@@ -51,6 +51,7 @@ abbrev pub is_over_8 : Option ℕ → Bool
 is_over_8 None = false
 is_over_8 (Some depth) = nat_lt 8 depth
 
+-- the walk from the node takes more than 8 links to a node without a link above it; false where it does not end
 abbrev pub is_too_deep : NetCfg → ℕ → Bool
 is_too_deep cfg n = is_over_8 (depth_of cfg n)
 

@@ -3,6 +3,8 @@
 use Rattle.std.specs.Prelude.{ℕ, ℤ}
 use Rattle.wrp_base.specs.declared.time.Stamp.{Stamp}
 
+-- a call: the servo's chain starts at a good sample, or ends; a good sample with its unwrapped phase; and the pieces of both
+-- pairs by sequenceId. Phases and times are in tau, `correction` is as the correctionField has it, `tick` counts node ticks
 pub data Call : Type 0 where
   CallStart : (first : ℕ) → Call
   CallClear : Call

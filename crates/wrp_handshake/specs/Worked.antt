@@ -12,10 +12,11 @@ use Rattle.wrp_link.specs.declared.interface.LinkIn.TheVariants.{Msg, Announce, 
 use Rattle.wrp_link.specs.declared.interface.LinkSet.{LinkSet}
 use Rattle.wrp_handshake.specs.Ends.{Ends, Change, Passes, Hears, Starts, Lights, OutlivesFrames, AllMayCome, ends_after, new_ends}
 
--- the modules at the master and at the slave
+-- the module at the master, whose delays are 5 tau to send and 6 tau to receive
 abbrev pub blue : Module
 blue = record { tx = 5; rx = 6; transition = 0; err = 0 }
 
+-- the module at the slave, whose delays are 7 tau to send and 8 tau to receive
 abbrev pub violet : Module
 violet = record { tx = 7; rx = 8; transition = 0; err = 0 }
 
@@ -53,10 +54,11 @@ worked_changes =
     (Starts Master ∷
     [])))))))))))))))))))))))
 
--- the link before all that, and after it
+-- both ends before all that
 abbrev pub before_it : Ends
 before_it = new_ends set set (pos 100)
 
+-- both ends once all that has happened
 abbrev pub after_it : Ends
 after_it = ends_after before_it worked_changes
 

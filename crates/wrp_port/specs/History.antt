@@ -20,6 +20,7 @@ use Rattle.wrp_port.specs.Outputs.{call_of, with_call}
 
 -- ---- the link
 
+-- what a message is to the link: nothing where there is a reason to drop it early
 abbrev pub input_unless : Option Reason → Option LinkIn → Option LinkIn
 input_unless None input = input
 input_unless (Some reason) input = None
@@ -36,6 +37,7 @@ to_link set l _ = None
 abbrev pub link_by : Setting → List LinkIn → LinkAt
 link_by set inputs = run_of (new_link set.ds.role set.link) inputs
 
+-- these inputs with one more in front, if there is one
 abbrev pub with_input : Option LinkIn → List LinkIn → List LinkIn
 with_input None inputs = inputs
 with_input (Some input) inputs = input ∷ inputs
@@ -57,6 +59,7 @@ link_of set inputs = link_by set (link_inputs set inputs)
 abbrev pub renews_at : Setting → LinkAt → PtpMsg → Bool
 renews_at set l message = is_none (early_reason set l message) && renews set.ds.role message.head message.body
 
+-- the turns of the lease since it was renewed: 0 where a message renews it now, else as they were
 abbrev pub zero_where : Bool → Option ℕ → Option ℕ
 zero_where renewed turns = if renewed then Some 0 else turns
 
@@ -69,6 +72,7 @@ since_renewal set (Lease ∷ before) = option_map (λ turns. turns + 1) (since_r
 since_renewal set (Msg message stamp tick ∷ before) = zero_where (renews_at set (link_of set before) message) (since_renewal set before)
 since_renewal set (_ ∷ before) = since_renewal set before
 
+-- the lease was renewed, fewer turns ago than it has; one that nothing renewed is not fresh
 abbrev pub is_fresh_at : ℕ → Option ℕ → Bool
 is_fresh_at lease None = false
 is_fresh_at lease (Some turns) = nat_lt turns lease
@@ -77,12 +81,14 @@ is_fresh_at lease (Some turns) = nat_lt turns lease
 abbrev pub is_fresh : Setting → List PortIn → Bool
 is_fresh set inputs = is_fresh_at set.sched.lease (since_renewal set inputs)
 
+-- the turns for which the lease is still fresh: 0 where nothing renewed it, or all its turns passed
 abbrev pub left_of : ℕ → Option ℕ → ℕ
 left_of lease None = 0
 left_of lease (Some turns) = lease - turns
 
 -- ---- the schedule
 
+-- the ticks of the schedule: 0 where the port is not open, since the schedule begins again
 abbrev pub while_open : LinkAt → ℕ → ℕ
 while_open l ticks = if is_open l then ticks else 0
 
@@ -105,6 +111,7 @@ is_due_in set every inputs = is_due (link_of set inputs) (ticks_open set inputs 
 
 -- ---- sequenceIds: how many messages of a kind were sent since the last reset
 
+-- a count of sent messages, with one more where one is sent
 abbrev pub one_more_where : Bool → ℕ → ℕ
 one_more_where sent n = if sent then n + 1 else n
 
@@ -121,16 +128,20 @@ abbrev pub at_master : Role → ℕ → ℕ
 at_master Master n = n
 at_master Slave n = 0
 
+-- a count at a slave, and 0 at a master
 abbrev pub at_slave : Role → ℕ → ℕ
 at_slave Master n = 0
 at_slave Slave n = n
 
+-- the Announces that the port sent since the last reset: none at a slave
 abbrev pub announces : Setting → List PortIn → ℕ
 announces set inputs = at_master set.ds.role (sent_each set.sched.announce set inputs)
 
+-- the Syncs that the port sent since the last reset: none at a slave
 abbrev pub syncs : Setting → List PortIn → ℕ
 syncs set inputs = at_master set.ds.role (sent_each set.sched.sync set inputs)
 
+-- the Delay_Reqs that the port sent since the last reset: none at a master
 abbrev pub requests : Setting → List PortIn → ℕ
 requests set inputs = at_slave set.ds.role (sent_each set.sched.delay set inputs)
 
@@ -153,10 +164,12 @@ newest_of set (Tick locked certain ∷ before) =
     newest_where (is_due_in set set.sched.sync (Tick locked certain ∷ before)) (syncs set before % 65536) (newest_of set before)
 newest_of set (_ ∷ before) = newest_of set before
 
+-- the sequenceId of the newest Sync at a master; a slave sends none
 abbrev pub only_at_master : Role → Option ℕ → Option ℕ
 only_at_master Master newest = newest
 only_at_master Slave newest = None
 
+-- the sequenceId of the newest Sync that the port sent since the last reset: None where it sent none
 abbrev pub newest_sync : Setting → List PortIn → Option ℕ
 newest_sync set inputs = only_at_master set.ds.role (newest_of set inputs)
 

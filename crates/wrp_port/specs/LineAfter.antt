@@ -81,12 +81,15 @@ ticked set line locked =
 abbrev pub is_due : LinkAt → ℕ → Bool
 is_due l turn = is_open l && (turn == 0)
 
+-- an Announce is due on this line, if it is a master's
 abbrev pub announces_on : Line → Bool
 announces_on line = is_due line.link line.turns.announce
 
+-- a Sync is due on this line, if it is a master's
 abbrev pub syncs_on : Line → Bool
 syncs_on line = is_due line.link line.turns.sync
 
+-- a Delay_Req is due on this line, if it is a slave's
 abbrev pub requests_on : Line → Bool
 requests_on line = is_due line.link line.turns.delay
 

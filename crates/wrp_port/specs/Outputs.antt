@@ -70,6 +70,7 @@ heard_sends set line message stamp =
     signals_of set line.ids.signal (link_sends line.link (link_input set.ds.role message.body))
     ++ response_to set set.ds.role message.head message.body stamp
 
+-- what a message makes the port send: nothing where there is a reason to drop it early
 abbrev pub sends_unless : Option Reason → Setting → Line → PtpMsg → Stamp → List PtpMsg
 sends_unless None set line message stamp = heard_sends set line message stamp
 sends_unless (Some reason) set line message stamp = []
@@ -104,6 +105,7 @@ chain_call Same = None
 chain_call (Started first) = Some (CallStart first)
 chain_call Ended = Some CallClear
 
+-- the piece of the exchange that a message is: none where there is a reason to drop it early
 abbrev pub piece_unless : Option Reason → Option Call → Option Call
 piece_unless None piece = piece
 piece_unless (Some reason) piece = None
@@ -172,6 +174,7 @@ abbrev pub reason_by : Option Reason → Bool → Option Reason
 reason_by (Some reason) used = Some reason
 reason_by None used = if used then None else Some Unmatched
 
+-- the number of the reason for which a message is dropped: None where it is not
 abbrev pub number_by : Option Reason → Option ℕ
 number_by None = None
 number_by (Some reason) = Some (number_of reason)

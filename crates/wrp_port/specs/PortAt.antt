@@ -47,11 +47,12 @@ pub record StandsFor (port : PortAt) (inputs : List PortIn) : Type 0 where
   pub line : port.line ≡ line_of port.set inputs
   pub exchange : ExchangeStandsFor port.set.ring port.exchange (calls_of port.set inputs)
 
--- a delay of a module, and 0 where it is not listed
+-- the transmission delay of a module, in tau: 0 where the module is not listed
 abbrev pub tx_of : Option Module → ℕ
 tx_of None = 0
 tx_of (Some own_module) = own_module.tx
 
+-- the reception delay of a module, in tau: 0 where the module is not listed
 abbrev pub rx_of : Option Module → ℕ
 rx_of None = 0
 rx_of (Some own_module) = own_module.rx
@@ -61,6 +62,7 @@ abbrev pub deltas_by : Option (ℕ × ℕ) → Option Module → Deltas
 deltas_by None own_module = record { txm = 0; rxm = 0; txs = tx_of own_module; rxs = rx_of own_module }
 deltas_by (Some (tx, rx)) own_module = record { txm = tx; rxm = rx; txs = tx_of own_module; rxs = rx_of own_module }
 
+-- the four delays of a link, by role and state: a slave in WR_LINK_ON has them, and no other port
 abbrev pub deltas_in : Role → LinkState → LinkAt → Option Deltas
 deltas_in Slave LinkOn l = Some (deltas_by l.deltas l.own_module)
 deltas_in role state l = None

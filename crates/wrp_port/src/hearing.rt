@@ -31,7 +31,9 @@ fn is_addressed(ds: &PortDs, body: &Body) -> bool
     }
 }
 
-/// The reason for which a message is dropped whatever its kind: the first that applies.
+/// The reason for which a message is dropped whatever its kind, the first that applies: Domain, of
+/// another domain; Stranger, not from the peer; NotForUs, a Signaling or Delay_Resp for another port;
+/// Quiet, at a port that is not open. None where there is no such reason. Nothing changes.
 pub fn early_reason(set: &Setting, link: &Link, message: &PtpMsg) -> Option<Reason>
     ensures { result ≡ early_reason set.now link.now message.now }
 {

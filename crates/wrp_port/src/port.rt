@@ -53,7 +53,8 @@ struct Answer {
 
 impl Port {
     /// A port without carrier, whose exchange knows the last `ring` good samples: 1 to 4096. It takes
-    /// all the memory that it will need. `default` is what its node knows of itself.
+    /// all the memory that it will need. `default` is what its node knows of itself. AllocError where
+    /// the memory of the exchange is not to be had: then there is no port.
     pub fn new(
         alloc: Global,
         ds: PortDs,
@@ -92,6 +93,11 @@ impl Port {
 
     /// Takes one input, and answers the new word, what the port sends, why a message was dropped, and
     /// a new measurement. A stamp's value is 0 to `2^93`.
+    /// `word` is None where the word stays, `drop` where no message was dropped, `measured` where the
+    /// input made no pair or the other pair is missing. A message that is dropped for the reasons 9 to
+    /// 12 leaves the port as it was. One that is dropped for 13, as of no use, leaves link, lease,
+    /// schedule, sequenceIds and both pairs as they were; but a Follow_Up takes the Sync of its
+    /// sequenceId that waits for it away, where the sample of that Sync is no longer known.
     pub fn step(&mut self, input: PortIn) -> PortOut
         requires { IsFit input }
         ensures set { self.new.set ≡ self.old.set }
@@ -117,7 +123,8 @@ impl Port {
         out
     }
 
-    /// Takes one input, and fills `out` with what `step` answers. What `out` had before is gone.
+    /// Takes one input, and fills `out` with what `step` answers. What `out` had before is gone. What a
+    /// None says, and what a dropped message leaves, is as `step` has it.
     pub fn step_into(&mut self, input: PortIn, out: &mut PortOut)
         requires { IsFit input }
         ensures set { self.new.set ≡ self.old.set }
@@ -156,7 +163,8 @@ impl Port {
     }
 
     /// The four delays of the link, each in tau: Some exactly for a slave port in WR_LINK_ON. The
-    /// master's are those that it told in this handshake.
+    /// master's are those that it told in this handshake. None at a master, and in each other state of
+    /// the link. The port stays as it is.
     pub fn deltas(&self) -> Option<Deltas>
         ensures value { result ≡ deltas_of self.now.set.ds.role self.now.line.link }
         ensures told { (inputs : List PortIn) → StandsFor self.now inputs →
@@ -181,7 +189,8 @@ impl Port {
         self.line.link.state()
     }
 
-    /// The port's module, where the calibration database lists it.
+    /// The port's module. None without a carrier, and where the calibration database does not list it.
+    /// The port stays as it is.
     pub fn own_module(&self) -> Option<Module>
         ensures { result ≡ self.now.line.link.own_module }
     {

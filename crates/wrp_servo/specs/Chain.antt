@@ -29,6 +29,7 @@ steps_in v est SyncTai = not (is_below_second est && is_half v est)
 steps_in v est SyncNsec = not (is_half v est)
 steps_in v est _ = false
 
+-- a measurement that commands a step: the link's deltas are known, x is in the law's range, and est is too large for the state
 abbrev pub steps : ServoSetting → Core → Four → ℤ → Option Deltas → Bool
 steps x v f y None = false
 steps x v f y (Some d) = is_in x.lo x.hi (x_of d f) && steps_in v (est_of v.phase.u (record { four = f; delay = delay_of d y })) v.state
@@ -69,6 +70,7 @@ starts_by v (Some tag) =
     not (is_far (with_tag v tag).phase.u)
     && ((followed (with_tag v tag)).phase.lock.locked && (is_some v.signals.link && v.signals.lease))
 
+-- a call starts a chain: a sample that is not ignored and whose tag starts one; no other kind of call does
 abbrev pub starts : ServoSetting → Core → Call → Bool
 starts x v (CallSample n base bits) = hears v && starts_by v (good_tag v.last n base bits)
 starts x v _ = false

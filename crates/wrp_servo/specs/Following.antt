@@ -49,6 +49,7 @@ taken l tag = record l {
 abbrev pub moved_toward : ℤ → ℤ → ℤ → ℤ
 moved_toward step s goal = s +ℤ held_within step (goal -ℤ s)
 
+-- the loop with its setpoint at most `step` tau nearer to its goal
 abbrev pub approached : ℤ → PhaseLoop → PhaseLoop
 approached step l = record l { s = moved_toward step l.s l.goal }
 
@@ -60,6 +61,7 @@ e_tau l = l.u -ℤ l.s
 abbrev pub held_error : ℤ → ℤ
 held_error steps = held_within (pos (2 ^ 20)) steps
 
+-- an error in tau as the controller and the lock detector take it: whole steps of 1,000 tau, rounded down, within 2^20
 abbrev pub error_of : ℤ → ℤ
 error_of e = held_error (floor_quotient e (pos 1000))
 

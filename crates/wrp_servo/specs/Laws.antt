@@ -40,6 +40,7 @@ pub record InTrack (v : Core) : Type 0 where
   pub calm : is_calm v ≡ true
   pub near : is_near v.set.track_tau v.phase v.kept ≡ true
 
+-- after any list of calls that ends in TRACK, a four stands and both limits of TRACK are kept
 abbrev pub TrackIsNear : Type 0
 TrackIsNear = (x : ServoSetting) (calls : List Call) → is_track (run x calls).state ≡ true → InTrack (run x calls)
 
@@ -49,6 +50,7 @@ pub record InChain (v : Core) : Type 0 where
   pub locked : (v.phase.lock.locked || v.phase.fresh) ≡ true
   pub state : is_holdover v.state ≡ false
 
+-- after any list of calls with a chain, the lock detector holds it, and the state is not HOLDOVER
 abbrev pub ChainIsHeld : Type 0
 ChainIsHeld = (x : ServoSetting) (calls : List Call) → is_some (run x calls).first ≡ true → InChain (run x calls)
 
@@ -58,6 +60,7 @@ pub record HasSignals (calls : List Call) : Type 0 where
   pub link : is_some (link_told calls) ≡ true
   pub lease : lease_told calls ≡ true
 
+-- after any list of calls with a chain, the carrier is there, the link is on and the lease is fresh
 abbrev pub ChainHasSignals : Type 0
 ChainHasSignals = (x : ServoSetting) (calls : List Call) → is_some (run x calls).first ≡ true → HasSignals calls
 

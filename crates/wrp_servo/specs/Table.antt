@@ -46,9 +46,11 @@ abbrev pub restarted_outside_holdover : Core → ServoState → Core
 restarted_outside_holdover v Holdover = v
 restarted_outside_holdover v _ = record v { phase = restarted v.phase }
 
+-- the servo after a reset: all but its settings is as in a new one
 abbrev pub by_reset : Core → Core
 by_reset v = new_core v.set
 
+-- the servo with this word on the carrier noted, and nothing else changed
 abbrev pub with_carrier : Core → Bool → Core
 with_carrier v up = record v { signals = record v.signals { carrier = up } }
 
@@ -56,24 +58,32 @@ with_carrier v up = record v { signals = record v.signals { carrier = up } }
 abbrev pub carrier_gone : Core → Core
 carrier_gone v = record (with_carrier v false) { phase = unlocked v.phase }
 
+-- the servo after a word on the carrier. It came: outside HOLDOVER the loop restarts. It went: the lock detector restarts, the
+-- chain ends, which makes HOLDOVER of TRACK, and then each state but HOLDOVER becomes UNINIT
 abbrev pub by_carrier : Core → Bool → Core
 by_carrier v true = restarted_outside_holdover (with_carrier v true) v.state
 by_carrier v false = uninit_outside_holdover (ended (carrier_gone v)) (ended (carrier_gone v)).state
 
+-- the servo with this word on the link noted: its fixed delays where it is on, None where it is off
 abbrev pub with_link : Core → Option Deltas → Core
 with_link v on = record v { signals = record v.signals { link = on } }
 
+-- the link is on: UNINIT goes to SYNC_TAI, and each other state stays
 abbrev pub linked : Core → ServoState → Core
 linked v Uninit = record v { state = SyncTai }
 linked v _ = v
 
+-- the servo after a word on the link. On: UNINIT goes to SYNC_TAI. Off: the chain ends, which makes HOLDOVER of TRACK,
+-- and then each state but HOLDOVER becomes UNINIT
 abbrev pub by_link : Core → Option Deltas → Core
 by_link v (Some d) = linked (with_link v (Some d)) v.state
 by_link v None = uninit_outside_holdover (ended (with_link v None)) (ended (with_link v None)).state
 
+-- the servo with this word on the lease noted, and nothing else changed
 abbrev pub with_lease : Core → Bool → Core
 with_lease v fresh = record v { signals = record v.signals { lease = fresh } }
 
+-- the servo after a word on the lease: where it lapsed, the chain ends
 abbrev pub by_lease : Core → Bool → Core
 by_lease v true = with_lease v true
 by_lease v false = ended (with_lease v false)
@@ -89,6 +99,7 @@ holdover_ticked v =
 abbrev pub is_past_gap : Core → Bool
 is_past_gap v = nat_lt v.set.gap (v.ticks - v.good_tick)
 
+-- the chain ends where more than `gap` ticks passed since the last good sample
 abbrev pub ended_by_gap : Core → Core
 ended_by_gap v = cond (is_past_gap v) (ended v) v
 
@@ -97,22 +108,29 @@ abbrev pub too_old : ℕ → ℕ → Option Measurement → Bool
 too_old age ticks None = false
 too_old age ticks (Some k) = nat_lt age (ticks - k.four.tick)
 
+-- the four that stands is more than `age` ticks old; without a four this is false
 abbrev pub is_old : Core → Bool
 is_old v = too_old v.set.age v.ticks v.kept
 
+-- the state is TRACK
 abbrev pub is_track : ServoState → Bool
 is_track Track = true
 is_track _ = false
 
+-- in TRACK the chain ends, which enters HOLDOVER, where the four is too old
 abbrev pub ended_by_age : Core → Core
 ended_by_age v = cond (is_track v.state && is_old v) (ended v) v
 
+-- what a tick that was counted does, by the state: HOLDOVER may be over; elsewhere the chain may end, by the gap first and then
+-- by the age of the four
 abbrev pub ticked_in : Core → ServoState → Core
 ticked_in v Holdover = holdover_ticked v
 ticked_in v _ = ended_by_age (ended_by_gap v)
 
+-- the servo with one more tick counted
 abbrev pub one_tick : Core → Core
 one_tick v = record v { ticks = v.ticks + 1 }
 
+-- the servo after a tick: it is counted, and then the state acts on it
 abbrev pub by_tick : Core → Core
 by_tick v = ticked_in (one_tick v) v.state

@@ -36,5 +36,6 @@ pub record HasTaken (x : ServoSetting) (v : Core) (ts : List ℕ) : Type 0 where
   pub fresh : v.phase.fresh ≡ is_empty ts
   pub u : is_empty ts ≡ false → v.phase.u ≡ unwrapped x.set.clock ts
 
+-- after any list of calls the loop has taken exactly the good tags since its last restart, and u, in tau, is what they add up to
 abbrev pub PhaseIsSum : Type 0
 PhaseIsSum = (x : ServoSetting) (calls : List Call) → HasTaken x (run x calls) (tags x calls)

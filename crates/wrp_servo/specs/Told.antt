@@ -40,6 +40,7 @@ pub record IsTold (v : Core) (calls : List Call) : Type 0 where
   pub lease : v.signals.lease ≡ lease_told calls
   pub ticks : v.ticks ≡ ticks_told calls
 
+-- after any list of calls the servo has carrier, link, lease and ticks as looking back over the list finds them
 abbrev pub ToldLast : Type 0
 ToldLast = (x : ServoSetting) (calls : List Call) → IsTold (run x calls) calls
 

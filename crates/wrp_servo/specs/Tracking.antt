@@ -8,6 +8,7 @@ use Rattle.wrp_servo.specs.declared.machine.Core.{Core}
 use Rattle.wrp_servo.specs.Measuring.{deltas_in_chain, is_in, x_of, delay_of, may_track}
 use Rattle.wrp_servo.specs.Call.{Call, CallMeasured, ServoSetting}
 
+-- the state is WAIT_STABLE, from which alone TRACK is entered
 abbrev pub is_wait_stable : ServoState → Bool
 is_wait_stable WaitStable = true
 is_wait_stable _ = false
@@ -21,6 +22,7 @@ enters_by x v f y (Some d) =
     && (is_in x.lo x.hi (x_of d f)
     && (nat_le v.set.stable v.calm && may_track v (record { four = f; delay = delay_of d y })))
 
+-- a call enters TRACK: a measurement can, where a chain stands; no other kind of call does
 abbrev pub enters : ServoSetting → Core → Call → Bool
 enters x v (CallMeasured f y) = enters_by x v f y (deltas_in_chain v)
 enters x v _ = false

@@ -5,6 +5,7 @@ use Rattle.wrp_servo.specs.Table.{is_track}
 use Rattle.wrp_servo.specs.Sizes.{IsSafe}
 use Rattle.wrp_servo.specs.Laws.{InTrack}
 
+-- a servo as calls can leave it: its numbers are in their ranges, and in TRACK it has what TRACK needs
 pub record IsValid (v : Core) : Type 0 where
   -- its numbers keep their sizes
   pub safe : IsSafe v

@@ -18,7 +18,7 @@ use wrp_base::{
 /// One second.
 const SECOND: Tau = 65_536_000_000_000_000;
 
-/// What the fibre takes both ways.
+/// What the fibre takes both ways, in tau: the round trip less the four fixed delays.
 pub fn x_by(deltas: &Deltas, four: &Four) -> Tau
     requires { FitsTimes four.now }
     ensures value { result ≡ x_of deltas.now four.now }
@@ -34,7 +34,7 @@ pub fn x_by(deltas: &Deltas, four: &Four) -> Tau
     difference(mm(four), ports)
 }
 
-// The round trip.
+// The round trip, in tau, at the slave's phase.
 fn mm(four: &Four) -> Tau
     requires { FitsTimes four.now }
     ensures value { result ≡ mm_of four.now }
@@ -45,7 +45,8 @@ fn mm(four: &Four) -> Tau
     sum(down, up)
 }
 
-/// The delay down.
+/// The delay down, in tau: the law's answer for the fibre, the transmission delay of the master and the
+/// reception delay of the slave added up.
 pub fn delay_by(deltas: &Deltas, answer: i64) -> Tau
     ensures value { result ≡ delay_of deltas.now answer }
     ensures size { unsigned_abs result ≤ 2 ^ 67 }
@@ -56,7 +57,8 @@ pub fn delay_by(deltas: &Deltas, answer: i64) -> Tau
     )
 }
 
-// Whole seconds, in periods.
+// The step of whole seconds, counted in periods and held within `2^62`: the whole seconds of est,
+// rounded towards zero, with the opposite sign. It is negative where the slave's clock is ahead.
 fn seconds(clock: Clock, est: Tau) -> i64
     requires { unsigned_abs est ≤ 2 ^ 110 }
     ensures { result ≡ second_cycles clock est }
@@ -74,7 +76,8 @@ fn whole_seconds(est: Tau) -> i128
     trunc_div(est, SECOND)
 }
 
-// Whole periods.
+// The step of whole periods, held within `2^62`: est in periods, to the nearest, with the opposite sign.
+// It is negative where the slave's clock is ahead.
 fn periods(clock: Clock, est: Tau) -> i64
     requires { unsigned_abs est ≤ 2 ^ 110 }
     ensures { result ≡ period_cycles clock est }
@@ -114,7 +117,8 @@ fn is_below_second(est: Tau) -> bool
 }
 
 impl Core {
-    /// The deltas by which a four is measured, where a chain stands.
+    /// The fixed delays of the link, in tau, by which a four is measured. None where no chain stands or
+    /// the link is off. The servo stays as it is.
     pub fn deltas_in_chain(&self) -> Option<Deltas>
         ensures { result ≡ deltas_in_chain self.now }
     {

@@ -56,6 +56,9 @@ impl<F: Fn(i64) -> i64> Servo<F> {
     /// A phase sample with number `n`, base 0 to 16383 and 64 beat bits. It is ignored without a carrier
     /// and in HOLDOVER, and refused (15) where it is glitched or not newer than an earlier one. Any other
     /// is good: it moves the phase, the setpoint and the loop, and may start or end the chain.
+    /// An ignored one changes nothing. Of a refused one the number is noted, where it is the greatest so
+    /// far, and nothing else changes. Both have neither `dac` nor `unwrapped`. A good one whose phase is
+    /// `2^60` tau or more either way has no `dac`: the chain ends, and the loop restarts.
     pub fn sample(&mut self, n: u32, base: u16, bits: u64) -> ServoOut
         requires base { base < 16384 }
         ensures value { self.new ≡ after_call self.old (CallSample n base bits) }
@@ -100,6 +103,8 @@ impl<F: Fn(i64) -> i64> Servo<F> {
     /// A four of stamps, each time strictly between `-2^105` and `2^105` tau. Without a chain it is
     /// ignored. Where the delay both ways is out of the law's range it is refused (14) and the chain ends.
     /// Else it stands, and the state makes of it a step, a goal of the setpoint, or nothing.
+    /// An ignored one changes nothing. After a refused one there are no chain and no four, TRACK went to
+    /// HOLDOVER, and SYNC_NSEC, SYNC_PHASE and WAIT_STABLE went to SYNC_TAI.
     pub fn measured(&mut self, four: &Four) -> ServoOut
         requires law { KeepsFact F.pre F.post self.old.law }
         requires four { FitsTimes four.now }
@@ -266,7 +271,7 @@ impl<F: Fn(i64) -> i64> Servo<F> {
     }
 
     /// The offset of the slave's clock, in tau, by the four that stands and the phase since; None where
-    /// no four stands.
+    /// no four stands. The servo stays as it is.
     pub fn est(&self) -> Option<Tau>
         ensures { result ≡ est_now self.now.core }
     {

@@ -49,7 +49,7 @@ impl Machine {
         self.core.reset();
     }
 
-    /// sample
+    /// Takes a sample, and answers what became of it; `Core::sample` says what each case leaves.
     pub fn sample(&mut self, n: u32, base: u16, bits: u64) -> Heard
         requires { base < 16384 }
         ensures state { self.new ≡ by_sample self.old n base bits }
@@ -87,7 +87,8 @@ impl Machine {
         self.core.lease(fresh);
     }
 
-    /// The deltas by which a four is measured.
+    /// The fixed delays of the link, in tau, by which a four is measured. None where no chain stands or
+    /// the link is off. The machine stays as it is.
     pub fn deltas_in_chain(&self) -> Option<Deltas>
         ensures { result ≡ deltas_in_chain self.now }
     {
@@ -112,7 +113,7 @@ impl Machine {
         self.core.place(kept_by(four, deltas, answer))
     }
 
-    /// The chain's first sample.
+    /// The number of the chain's first sample; None where no chain stands.
     pub fn first(&self) -> Option<u32>
         ensures { result ≡ self.now.first }
     {
@@ -147,7 +148,8 @@ impl Machine {
         self.core.phase.lock.locked()
     }
 
-    /// est, where a four stands.
+    /// The offset of the slave's clock, in tau, by the four that stands and the phase since; None where
+    /// no four stands. The machine stays as it is.
     pub fn est(&self) -> Option<Tau>
         ensures { result ≡ est_now self.now }
     {
