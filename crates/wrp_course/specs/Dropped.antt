@@ -52,5 +52,7 @@ DropsLeaveACount s before h n g _ = Unit {0}
 abbrev pub AllDropsLeaveACount : Setting → List Happened → Happened → Type 0
 AllDropsLeaveACount s before h = AllByRecursion (λ (g : Given). DropsLeaveACount s before h g.to g g.input) (given_at s before h)
 
+-- in whatever event, after whatever others: a frame that its node drops for one of the reasons 1 to 12 raises one counter of
+-- that node, up to 2^32 - 1, and changes nothing else, and no node outputs anything
 abbrev pub DroppedFramesLeaveACount : Type 0
 DroppedFramesLeaveACount = (s : Setting) (h : Happened) (before : List Happened) → AllDropsLeaveACount s before h
