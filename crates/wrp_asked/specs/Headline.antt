@@ -117,6 +117,7 @@ pub record IsEarnedAt (write : Writing) (s : Setting) (before : List Happened) (
   pub ports : AllHaveEarned s (world_after s (h ∷ before))
   pub lines : AllByRecursion (IsEarnedLine s (world_after s (h ∷ before))) (lines_of (write s before h))
 
+-- after each event, each port in WR_LINK_ON has earned it, and so has each of which the event's lines say link-on
 abbrev pub LinkOnIsEarned : Writing → Setting → List Happened → Type 0
 LinkOnIsEarned write s events = AtEachEvent (IsEarnedAt write s) events
 
@@ -138,6 +139,8 @@ OnlyCountsIf write s before h g _ = Unit {0}
 abbrev pub DropsCountAt : Writing → Setting → List Happened → Happened → Type 0
 DropsCountAt write s before h = AllByRecursion (λ (g : Given). OnlyCountsIf write s before h g g.input) (given_at s before h)
 
+-- in each event, a frame that its node drops for one of the reasons 1 to 12 raises one counter, up to 2^32 - 1, and changes
+-- nothing else; no node outputs anything, and no line is written of the event
 abbrev pub DropsOnlyCount : Writing → Setting → List Happened → Type 0
 DropsOnlyCount write s events = AtEachEvent (DropsCountAt write s) events
 

@@ -44,5 +44,6 @@ pub record IsTrueAt (write : Writing) (s : Setting) (before : List Happened) (h 
   pub reports : AllByRecursion (IsTrueStep s (world_after s (h ∷ before))) (steps_at s before h)
   pub lines : AllByRecursion (IsTrueLine s (world_after s (h ∷ before))) (lines_of (write s before h))
 
+-- after each event, each node keeps its bound, and each report of TRACK in the event and each line written of one is true
 abbrev pub TracksAreWithin : Writing → Setting → List Happened → Type 0
 TracksAreWithin write s events = AtEachEvent (IsTrueAt write s) events

@@ -25,6 +25,7 @@ at_least premise shown bound =
 abbrev pub only_where : Bool → Check → Check
 only_where exists check = record check { fails = exists && check.fails }
 
+-- the size of a difference, without its sign, in the same unit
 abbrev pub size_of : ℤ → ℤ
 size_of x = pos (unsigned_abs x)
 
@@ -36,6 +37,7 @@ stands holds = record { premise = 13; fails = not holds; shown = pos 0; bound = 
 abbrev pub not_sent : ℕ → ℕ → Check
 not_sent number last = record { premise = 11; fails = true; shown = pos number; bound = pos last }
 
+-- a check holds: its comparison does not fail
 abbrev pub Holds : Check → Type 0
 Holds check = check.fails ≡ false
 

@@ -1,13 +1,13 @@
 -- What a frame changes that is dropped whatever its kind, as no message or as a foreign one, in every event of every run (this
 -- project's profile).
-use Rattle.std.specs.Prelude.{◌≡◌, ◌≢◌, ℕ, List, [], ◌∷◌, Some}
+use Rattle.std.specs.Prelude.{◌≡◌, ◌≢◌, ℕ, ◌==◌, if◌then◌else◌, List, [], ◌∷◌, Some}
 use Rattle.std.specs.List.{AllByRecursion}
 use Rattle.wrp_base.specs.declared.link.Role.{Role}
+use Rattle.wrp_data.specs.Counters.{counts_after}
 use Rattle.wrp_node.specs.declared.interface.Input.{Input}
 use Rattle.wrp_node.specs.declared.interface.Input.TheVariants.{Frame}
 use Rattle.wrp_node.specs.Laws.{reason_of}
 use Rattle.wrp_node.specs.NodeAt.{NodeAt}
-use Rattle.wrp_node.specs.Telling.{counted_at}
 use Rattle.wrp_course.specs.Given.{Given, given_by}
 use Rattle.wrp_course.specs.Moved.{moved}
 use Rattle.wrp_course.specs.Run.{Happened, steps_at, world_after}
@@ -18,9 +18,10 @@ use Rattle.wrp_course.specs.WorldAt.{WorldAt}
 abbrev pub given_at : Setting → List Happened → Happened → List Given
 given_at s before h = given_by s (world_after s before) (moved s (world_after s before) h.event) h.says h.event
 
--- a node whose counter of a reason at a port is one more, or stays at its greatest value; nothing else is changed
+-- a node that dropped one frame more at port p: its counter of the reason there is one more, as the table of counters says, or
+-- stays if it is at 2^32 - 1, its greatest value; its other counters, at all ports, and all else of the node stay as they are
 abbrev pub with_count : ℕ → ℕ → NodeAt → NodeAt
-with_count p reason n = record n { counters = counted_at n.counters p (Some reason) }
+with_count p reason n = record n { counters = λ q. if q == p then counts_after (n.counters q) reason else n.counters q }
 
 -- a world in which that counter of a node is one more, or stays at its greatest value, and nothing else is changed, but that one
 -- more event came, of which its node took an input: no node, no clock, no fibre, no frame, nor how many departed, and at the end
@@ -51,5 +52,7 @@ DropsLeaveACount s before h n g _ = Unit {0}
 abbrev pub AllDropsLeaveACount : Setting → List Happened → Happened → Type 0
 AllDropsLeaveACount s before h = AllByRecursion (λ (g : Given). DropsLeaveACount s before h g.to g g.input) (given_at s before h)
 
+-- in whatever event, after whatever others: a frame that its node drops for one of the reasons 1 to 12 raises one counter of
+-- that node, up to 2^32 - 1, and changes nothing else, and no node outputs anything
 abbrev pub DroppedFramesLeaveACount : Type 0
 DroppedFramesLeaveACount = (s : Setting) (h : Happened) (before : List Happened) → AllDropsLeaveACount s before h

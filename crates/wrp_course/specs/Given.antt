@@ -47,6 +47,7 @@ given n input says = record { to = n; input = input; says = says; at = pos 0 }
 abbrev pub unread : Result PtpMsg FrameFault
 unread = Err Short
 
+-- an input for which no octets are read: each kind but a frame
 abbrev pub given_plain : ℕ → Input → Given
 given_plain n input = given n input unread
 
@@ -58,6 +59,8 @@ told_sending n p seq stamp samples (DelayReq origin) =
     given_plain n (Sent p seq true (record { value = stamp; sample = samples })) ∷ []
 told_sending n p seq stamp samples _ = []
 
+-- what a node is given as the oldest frame of these, which wait at its port, departs: its send stamp, in tau, with the number
+-- of the node's last sample, if it is a Sync or a Delay_Req; nothing if it is another message, or if no frame waits
 abbrev pub sent_oldest : (n p : ℕ) (stamp : ℤ) (samples : ℕ) → List Sending → List Given
 sent_oldest n p stamp samples [] = []
 sent_oldest n p stamp samples (oldest ∷ rest) =
@@ -73,11 +76,13 @@ delivered_to f arrival n p =
       at = f.sending.at;
     } ∷ []
 
+-- a frame as it is handed over: nothing if it has not arrived, else one input of the node at the end that did not send it
 abbrev pub delivered_by : Setting → FrameAt → Option Arrival → List Given
 delivered_by s f None = []
 delivered_by s f (Some arrival) =
     option_map_or (λ end. delivered_to f arrival end.node end.port) (end_at s f.link (other_of f.by)) []
 
+-- the same of the frame that is asked for: nothing if no frame of this number departed
 abbrev pub delivered : Setting → Option FrameAt → List Given
 delivered s None = []
 delivered s (Some f) = delivered_by s f f.arrival
@@ -87,6 +92,8 @@ abbrev pub goes_at : Setting → ℕ → Role → List Given
 goes_at s k r =
     option_map_or (λ end. given_plain end.node (Carrier end.port false None) ∷ []) (end_at s k r) []
 
+-- the carrier comes at one end: the port there is given the database entry of the module in place, or none if the module is
+-- not listed
 abbrev pub comes_at : Setting → WorldAt → ℕ → Role → List Given
 comes_at s w k r =
     option_map_or (λ end. given_plain end.node (Carrier end.port true (entry_at s k r (w.end_at k r).name)) ∷ [])
@@ -96,6 +103,7 @@ comes_at s w k r =
 abbrev pub goes_from : Setting → ℕ → Role → List Given
 goes_from s k r = goes_at s k r ++ goes_at s k (other_of r)
 
+-- the carrier comes at this end of a link, and then at the other
 abbrev pub comes_from : Setting → WorldAt → ℕ → Role → List Given
 comes_from s w k r = comes_at s w k r ++ comes_at s w k (other_of r)
 
@@ -124,6 +132,7 @@ given_by s w v says _ = []
 
 -- What a node's step does to the world
 
+-- a message as it is sent now: with the true time, in tau, and the number of its event
 abbrev pub sending : WorldAt → PtpMsg → Sending
 sending v message = record { message = message; at = v.time; moment = v.count }
 
@@ -137,10 +146,14 @@ abbrev pub in_body : Body → ℤ → Option (WrMsg × ℤ)
 in_body (Signal target message) at = option_map (λ m. (m, at)) message
 in_body _ at = None
 
+-- the White Rabbit message that a frame's octets say, with the true time at which it was sent, in tau; None if they say no
+-- message, or one of another kind
 abbrev pub in_frame : Result PtpMsg FrameFault → ℤ → Option (WrMsg × ℤ)
 in_frame (Err fault) at = None
 in_frame (Ok message) at = in_body message.body at
 
+-- the White Rabbit message that an input is, which is what may move a link's state, with the true time at which it was sent;
+-- None for every other input
 abbrev pub mover_of : Given → Input → Option (WrMsg × ℤ)
 mover_of g (Frame p octets raw sample) = in_frame g.says g.at
 mover_of g _ = None
@@ -157,6 +170,7 @@ end_told v g old new messages e = record e {
 abbrev pub taken_of : ℤ → Given → Taken
 taken_of y g = record { input = g.input; says = g.says; answer = y }
 
+-- the step that a node makes of an input, from its state in world v; y is the delay law's answer, should it be asked
 abbrev pub step_of : Setting → ℤ → WorldAt → Given → Step
 step_of s y v g = node_step (node_setting_of s g.to) (taken_of y g) (v.node g.to)
 
@@ -172,11 +186,13 @@ clock_told s v g cycles c = record c {
   ticked = ticked_by g.input v.time c.ticked;
 }
 
+-- an end of the node, at its port p, after the node's step: with what that port sent, and with the change of its link's state
 abbrev pub end_given : Setting → WorldAt → Given → Step → ℕ → Role → ℕ → EndAt
 end_given s v g step k r p =
     end_told v g (link_at (s.set g.to) (v.node g.to) p).state (link_at (s.set g.to) step.node p).state (step.sends p)
     (v.end_at k r)
 
+-- an end of a link after a node's step: changed by it if it is an end of that node, else as it was
 abbrev pub end_by : Setting → WorldAt → Given → Step → ℕ → Role → EndAt
 end_by s v g step k r =
     if is_of g.to (end_at s k r) then option_map_or (λ end. end_given s v g step k r end.port) (end_at s k r) (v.end_at k r)
@@ -191,9 +207,11 @@ stepped_by s v g taken step = record v {
   end_at = end_by s v g step;
 }
 
+-- the world once a node took one input and made its step; y is the delay law's answer, should it be asked
 abbrev pub gives : Setting → ℤ → WorldAt → Given → WorldAt
 gives s y v g = stepped_by s v g (taken_of y g) (step_of s y v g)
 
+-- the world once the nodes took these inputs, one after the other
 abbrev pub gives_all : Setting → ℤ → WorldAt → List Given → WorldAt
 gives_all s y v [] = v
 gives_all s y v (g ∷ gs) = gives_all s y (gives s y v g) gs
@@ -204,6 +222,7 @@ pub record NodeStepAt : Type 0 where
   pub input : Input
   pub outs : List Output
 
+-- the step that a node makes of an input, as it is seen from outside: the node, the input, and what the node outputs
 abbrev pub node_step_of : Setting → ℤ → WorldAt → Given → NodeStepAt
 node_step_of s y v g = record {
   node = g.to;

@@ -31,6 +31,7 @@ pub record IsStill (s : Setting) (w : WorldAt) : Type 0 where
   pub octets : (i : ℕ) → octets_at s w i ≡ None
   pub senders : (i : ℕ) → sender_of s w i ≡ None
 
+-- the world of any setting is still before its first event
 abbrev pub NewWorldIsStill : Type 0
 NewWorldIsStill = (s : Setting) → IsStill s (new_world s)
 

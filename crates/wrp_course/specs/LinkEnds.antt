@@ -11,6 +11,7 @@ use Rattle.wrp_course.specs.Given.{in_body}
 use Rattle.wrp_course.specs.Setting.{Setting, end_of, entry_at}
 use Rattle.wrp_course.specs.WorldAt.{Sending, WorldAt}
 
+-- the White Rabbit messages that were sent, the newest first, with one more if there is one
 abbrev pub sent_with : Option Message → List Message → List Message
 sent_with None sent = sent
 sent_with (Some m) sent = m ∷ sent

@@ -17,6 +17,7 @@ use Rattle.wrp_course.specs.WorldAt.{WorldAt, EndAt, Sending, FrameAt, delay_fro
 
 -- Time and clocks
 
+-- true time after an event, in tau: only a Pass moves it, by its dt
 abbrev pub time_after : WorldAt → Event → ℤ
 time_after w (Pass dt drifts fibres) = w.time +ℤ dt
 time_after w _ = w.time
@@ -25,6 +26,8 @@ time_after w _ = w.time
 abbrev pub drift_of : List ℤ → ℕ → ℤ
 drift_of drifts n = option_map_or (λ drift. drift) (slice_get drifts n) (pos 0)
 
+-- the clock of node m after an event: a Pass moves its offset by the drift, in tau; a Sample counts one more sample; Down takes
+-- the node down; Up starts it with a new offset, no sample, and the present time as its last tick's
 abbrev pub clock_after : WorldAt → Event → ℕ → ClockState
 clock_after w (Pass dt drifts fibres) m =
     record (w.clock m) { off = (w.clock m).off +ℤ drift_of drifts.items m }
@@ -41,6 +44,8 @@ clock_after w _ m = w.clock m
 abbrev pub move_of : List (ℤ × ℤ) → ℕ → ℤ × ℤ
 move_of moves k = option_map_or (λ move. move) (slice_get moves k) (pos 0, pos 0)
 
+-- the fibre of link l after an event: a Pass moves its two one-way delays, in tau; a Cut takes it apart and leaves the delays
+-- as they are; a Join joins it with new ones
 abbrev pub fibre_after : WorldAt → Event → ℕ → FibreState
 fibre_after w (Pass dt drifts fibres) l =
     record (w.fibre l) {
@@ -67,10 +72,12 @@ loses s _ k = false
 abbrev pub swap_at : ℕ → List Swap → Option Swap
 swap_at p swaps = find (λ swap. swap.port == p) swaps
 
+-- an end after a swap at its port: with the new module's name and true delays, in tau; as it was if there is no swap
 abbrev pub with_swap : Option Swap → EndAt → EndAt
 with_swap None e = e
 with_swap (Some swap) e = record e { name = swap.name.bytes; tx = swap.tx; rx = swap.rx }
 
+-- the number of the port at an end of a link; 0 if there is no such link
 abbrev pub port_number : Setting → ℕ → Role → ℕ
 port_number s k r = option_map_or (λ end. end.port) (end_at s k r) 0
 
@@ -79,10 +86,13 @@ abbrev pub is_place : Option Place → ℕ → Role → Bool
 is_place None k r = false
 is_place (Some place) k r = (place.link == k) && is_role place.role r
 
+-- the frames that still wait once the oldest departed
 abbrev pub behind_first : List Sending → List Sending
 behind_first [] = []
 behind_first (first ∷ rest) = rest
 
+-- an end of a link after an event: a Depart at its port takes the oldest waiting frame from it; an Up of its node swaps the
+-- module if a swap names its port; where the link loses its frames (Down of a node at it, Cut), none waits any more
 abbrev pub end_after : Setting → WorldAt → Event → ℕ → Role → EndAt
 end_after s w (Depart n p stamp) k r =
     if is_place (place_of s n p) k r
@@ -127,6 +137,7 @@ arriving s w j raw g i f =
       gone = f.gone || (is_on_fibre (Some f) && (nat_lt i j && ((f.link == g.link) && is_role f.by g.by)));
     }
 
+-- the frame of number i after the arrival of frame j; nothing changes where there is no frame j, or none of number i
 abbrev pub arrived : Setting → WorldAt → ℕ → Raw → Option FrameAt → ℕ → Option FrameAt → Option FrameAt
 arrived s w j raw (Some g) i (Some f) = Some (arriving s w j raw g i f)
 arrived s w j raw _ i f = f
@@ -135,21 +146,27 @@ arrived s w j raw _ i f = f
 abbrev pub removed : Setting → Event → FrameAt → FrameAt
 removed s e f = record f { gone = f.gone || (loses s e f.link && is_on_fibre (Some f)) }
 
+-- the frame of number i after an event: a Depart gives the oldest that waits the next number; an Arrive notes the arrival and
+-- removes the older frames of its direction from the fibre; where the link loses its frames (Down, Cut), they never arrive
 abbrev pub frame_after : Setting → WorldAt → Event → ℕ → Option FrameAt
 frame_after s w (Depart n p stamp) i = departing w (place_of s n p) stamp (waiting_at w (place_of s n p)) i
 frame_after s w (Arrive j raw) i = arrived s w j raw (w.frame j) i (w.frame i)
 frame_after s w e i = option_map (removed s e) (w.frame i)
 
+-- a count after the first of these frames departed: one more, or as it was if none waits
 abbrev pub one_more : List Sending → ℕ → ℕ
 one_more [] count = count
 one_more (first ∷ rest) count = count + 1
 
+-- how many frames departed in all after an event: one more after a Depart at a port where a frame waits
 abbrev pub departed_after : Setting → WorldAt → Event → ℕ
 departed_after s w (Depart n p stamp) = one_more (waiting_at w (place_of s n p)) w.departed
 departed_after s w _ = w.departed
 
 -- The world that an event makes by itself
 
+-- time, clocks, fibres, ends and frames as the event leaves them, and one more event; the nodes have not taken their inputs yet,
+-- so they are as they were
 abbrev pub moved : Setting → WorldAt → Event → WorldAt
 moved s w e = record {
   time = time_after w e;

@@ -48,6 +48,8 @@ AwakePortsWereLitLongAgo =
     (s : Setting) (events : List Happened) (k : ℕ) (r : Role) (link : LinkCfg) → IsRun s events → link_of s k ≡ Some link →
     IsAwake (port_after s k r link events) → LitLongAgo s k r link events
 
+-- in every run, a port that has its carrier, and whose quiet time is over, has not come back to IDLE within the last two lives of
+-- a frame
 abbrev pub AwakePortsLeftLongAgo : Type 0
 AwakePortsLeftLongAgo =
     (s : Setting) (events : List Happened) (k : ℕ) (r : Role) (link : LinkCfg) → IsRun s events → link_of s k ≡ Some link →

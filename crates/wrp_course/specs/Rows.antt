@@ -27,12 +27,16 @@ use Rattle.wrp_course.specs.WorldAt.{WorldAt}
 
 -- The network
 
+-- module blue: 225 ns in each direction, to within 20 ps; its period begins at tag 0
 abbrev pub blue : Module
 blue = record { tx = 14_745_600_000; rx = 14_745_600_000; transition = 0; err = 1_310_720 }
 
+-- module violet: 226 ns as it sends, 227 ns as it receives, to within 20 ps; its period begins at tag 0
 abbrev pub violet : Module
 violet = record { tx = 14_811_136_000; rx = 14_876_672_000; transition = 0; err = 1_310_720 }
 
+-- the calibration database: both modules, each with one entry for any wavelengths, and a fibre smf without a table, whose delay
+-- down is within 20 ps of its share
 abbrev pub database : Database
 database = record {
   modules =
@@ -41,6 +45,8 @@ database = record {
   fibres = record { name = codes "smf"; fibre = record { kappa = pos 73_622_176; err = 1_310_720 }; table = None } ∷ [];
 }
 
+-- a node of the file without keys: send stamps to within 10 ps, tags to within 64,000 tau, 4 beat steps on either side, and a
+-- clock rate of 500 * 10^-12 where it is locked, of 10 * 10^-12 in HOLDOVER
 abbrev pub node_cfg : List ℕ → ℕ → NodeCfg
 node_cfg name identity = record {
   name = record { bytes = name; spare = [] };
@@ -52,6 +58,7 @@ node_cfg name identity = record {
   held = 10;
 }
 
+-- the link f1, White Rabbit on: port 1 of the grandmaster with module blue, over fibre smf, port 1 of the switch with violet
 abbrev pub the_link : LinkCfg
 the_link = record {
   name = record { bytes = codes "f1"; spare = [] };
@@ -71,6 +78,8 @@ the_link = record {
   law_err = 1;
 }
 
+-- the network, at 125 MHz: ticks 9 to 11 ms apart, a frame's life of 100 ms and a reach of 100 us; timers are in ticks,
+-- track_tau, loop_tau and phase_step in tau, threshold in 1,000 tau
 abbrev pub network : NetCfg
 network = record {
   epoch = pos 1_000_000;
@@ -111,6 +120,7 @@ network = record {
   rx_max = 14_876_672_000;
 }
 
+-- the servo of each node, with the network's numbers; threshold is in 1,000 tau, kp and ki are in 1/4096
 abbrev pub servo_set : ServoSet
 servo_set = record {
   holdover = 320;
@@ -129,6 +139,7 @@ servo_set = record {
   clock = Mhz125;
 }
 
+-- what a node is set to, with its identity, how many links it is from the grandmaster, and its one port
 abbrev pub node_set : ℕ → ℕ → PortDs → NodeSet
 node_set identity steps ds = record {
   own = record { identity = identity; domain = 0; gm = 1; steps = steps };
@@ -140,12 +151,15 @@ node_set identity steps ds = record {
   report = 100;
 }
 
+-- port 1 of the grandmaster: the master of the link
 abbrev pub upper_ds : PortDs
 upper_ds = record { own = record { clock = 1; port = 1 }; peer = record { clock = 2; port = 1 }; role = Master; wr = true }
 
+-- port 1 of the switch: its slave
 abbrev pub lower_ds : PortDs
 lower_ds = record { own = record { clock = 2; port = 1 }; peer = record { clock = 1; port = 1 }; role = Slave; wr = true }
 
+-- the setting of all rows; the delay law of each node is asked for fibre delays, both ways together, of -2^30 to 2^53 tau
 abbrev pub two_nodes : Setting
 two_nodes = record {
   cfg = network;
@@ -165,15 +179,19 @@ plain event = record { event = event; says = Err Short; answer = pos 0 }
 abbrev pub still : ℕ → Event
 still dt = Pass (pos dt) (record { items = [] }) (record { items = [] })
 
+-- a node comes up with true time and with the modules that it had
 abbrev pub comes_up : ℕ → Event
 comes_up n = Up n (pos 0) (record { items = [] })
 
+-- the world after these events, the newest first
 abbrev pub after : List Event → WorldAt
 after events = world_after two_nodes (map plain events)
 
+-- the check that refuses an event after these others; None if it is accepted
 abbrev pub refused_by : List Event → Event → Option Check
 refused_by events event = broken two_nodes (after events) (Err Short) event
 
+-- the answer that this premise is broken, with both sides, times in tau
 abbrev pub is_broken : ℕ → ℤ → ℤ → Option Check
 is_broken premise shown bound = Some (record { premise = premise; fails = true; shown = shown; bound = bound })
 
@@ -181,11 +199,14 @@ is_broken premise shown bound = Some (record { premise = premise; fails = true; 
 abbrev pub joined : List Event
 joined = comes_up 0 ∷ (Join 0 (pos 0) (pos 0) ∷ [])
 
+-- the word for the link's state at port 1 of a node, once the link is joined and both nodes are up
 abbrev pub word_at : ℕ → LinkWord
 word_at n = word_of (link_at (two_nodes.set n) ((after (comes_up 1 ∷ joined)).node n) 1)
 
 -- The rows
 
+-- what is computed: the first four rows say which premise an event breaks, if it breaks one, the last three what comes with the
+-- carrier
 pub record WorkedRows : Type 0 where
   -- a node that is down does not tick
   pub down : refused_by [] (Tick 1) ≡ is_broken 13 (pos 0) (pos 1)

@@ -43,6 +43,7 @@ abbrev pub IsSaid : Event → Result PtpMsg FrameFault → Type 0
 IsSaid (Noise n p octets raw) says = Says octets.items says
 IsSaid _ says = Unit {0}
 
+-- the same of each of these events
 abbrev pub AllSaid : List Happened → Type 0
 AllSaid [] = Unit {0}
 AllSaid (h ∷ before) = IsSaid h.event h.says × AllSaid before

@@ -29,6 +29,7 @@ pub record HasTimes (w : WorldAt) (f : FrameAt) : Type 0 where
   pub departed_before : f.moment ≤ w.count
   pub arrived : IfSome f.arrival (λ a. (f.at ≤ℤ a.at) × (a.at ≤ℤ w.time) × (f.moment ≤ a.moment) × (a.moment ≤ w.count) × (a.at ≡ f.due))
 
+-- so it is with each frame that departed, after every event of every run
 abbrev pub FramesHaveTimes : Type 0
 FramesHaveTimes =
     (s : Setting) (events : List Happened) (i : ℕ) (f : FrameAt) → IsRun s events → (world_after s events).frame i ≡ Some f →
@@ -41,6 +42,8 @@ TickOrStart least n old now (Tick m) = (m ≡ n) × ((old +ℤ pos least) ≤ℤ
 TickOrStart least n old now (Up m off swaps) = m ≡ n
 TickOrStart least n old now _ = ⊥
 
+-- in every event of every run, the time of a node's last tick or start stays as it was, or is now, since the node ticks, no
+-- sooner than dmin after its last, or starts
 abbrev pub TicksAreApart : Type 0
 TicksAreApart =
     (s : Setting) (h : Happened) (before : List Happened) (n : ℕ) → IsRun s (h ∷ before) →

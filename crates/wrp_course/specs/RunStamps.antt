@@ -39,6 +39,7 @@ pub record ArrivedSo (s : Setting) (events : List Happened) (f : FrameAt) (a : A
   pub sample : a.sample ≡ ((world_after s older).clock end.node).samples
   pub carried : has_carrier s (world_after s older) f.link ≡ true
 
+-- each frame that departed in a run departed so, and each that arrived arrived so
 abbrev pub FramesAreStamped : Type 0
 FramesAreStamped =
     (s : Setting) (events : List Happened) (i : ℕ) (f : FrameAt) → IsRun s events → (world_after s events).frame i ≡ Some f →

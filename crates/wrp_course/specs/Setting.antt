@@ -38,9 +38,11 @@ from_on (suc count) first = first ∷ from_on count (first + 1)
 abbrev pub nodes_of : Setting → List ℕ
 nodes_of s = from_on (node_count s.cfg) 0
 
+-- the numbers of the links, from 0, in file order
 abbrev pub links_of : Setting → List ℕ
 links_of s = from_on (length s.cfg.links.items) 0
 
+-- the link of a number; None if there is no such link
 abbrev pub link_of : Setting → ℕ → Option LinkCfg
 link_of s k = slice_get s.cfg.links.items k
 
@@ -54,6 +56,7 @@ start_of s = s.cfg.epoch *ℤ second
 
 -- Ends of links
 
+-- two roles are the same
 abbrev pub is_role : Role → Role → Bool
 is_role Master Master = true
 is_role Slave Slave = true
@@ -92,6 +95,7 @@ place_among n p k (link ∷ links) =
     if is_upper_end n p link then Some (record { link = k; role = Master })
     else (if is_lower_end n p link then Some (record { link = k; role = Slave }) else place_among n p (k + 1) links)
 
+-- which end of which link port p of node n is; None if no link has that port
 abbrev pub place_of : Setting → (n p : ℕ) → Option Place
 place_of s n p = place_among n p 0 s.cfg.links.items
 

@@ -61,5 +61,6 @@ kept_count s w = count_by (λ i. is_kept s w (w.frame i)) (from_on w.departed 1)
 abbrev pub octets_at : Setting → WorldAt → ℕ → Option (List ℕ)
 octets_at s w i = option_map (λ f. octets_of f.sending.message) (kept_frame s w i)
 
+-- the port that sent a frame, as its node and number; None if the frame is not kept
 abbrev pub sender_of : Setting → WorldAt → ℕ → Option End
 sender_of s w i = option_and_then (λ f. end_at s f.link f.by) (kept_frame s w i)

@@ -56,6 +56,7 @@ pub record EndAt : Type 0 where
   -- the history of the link's state
   pub marks : List Mark
 
+-- a network at a moment; nodes and links are by number, and times are in tau
 pub record WorldAt : Type 0 where
   -- true time, and the events so far
   pub time : ℤ
@@ -78,6 +79,7 @@ abbrev pub named_at : Role → LinkCfg → List ℕ
 named_at Master link = link.upper_module.bytes
 named_at Slave link = link.lower_module.bytes
 
+-- the module in place at an end of link k before any event; no name if there is no such link
 abbrev pub first_name : Setting → ℕ → Role → List ℕ
 first_name s k r = option_map_or (named_at r) (link_of s k) []
 
@@ -108,6 +110,7 @@ new_world s = record {
 
 -- What holds at a moment
 
+-- the nodes at both ends of a link are up; false if there is no such link
 abbrev pub ends_are_up : (ℕ → ClockState) → Option LinkCfg → Bool
 ends_are_up clock None = false
 ends_are_up clock (Some link) = (clock link.upper).up && (clock link.lower).up
