@@ -14,29 +14,10 @@ use Rattle.wrp_data.specs.declared.datasets.PortDs.{PortDs}
 use Rattle.wrp_config.proofs.Reached.{lower_has, upper_has}
 use Rattle.wrp_node.specs.NodeAt.{in_order, is_before, numbers_of, placed}
 use Rattle.wrp_node.specs.Set.{master_at, slave_at, ports_at, ports_of, set_of}
-use Rattle.wrp_node.proofs.OwnPorts.{AllApart, HasNoRepeat, InRange, numbers_in, with_number, zero_or_more}
+use Rattle.wrp_node.proofs.OwnPorts.{AllApart, InRange, apart, numbers-are, numbers_at, numbers_in, with_number}
 use Rattle.wrp_course.specs.declared.place.Place.{Place}
 use Rattle.wrp_course.specs.Setting.{has_port}
 use Rattle.wrp_course.specs.Setting.{end_of, from_on, place_among}
-
--- The numbers, as the ends of the links have them
-
-abbrev numbers_at : ℕ → List End → List ℕ
-numbers_at n [] = []
-numbers_at n (end ∷ ends) = with_number (end.node == n) end.port (numbers_at n ends)
-
-numbers-link : (net : NetCfg) (link : LinkCfg) (rest : List PortDs) (ns : List ℕ) (a b : Bool) → numbers_in rest ≡ ns →
-    numbers_in (((if a then master_at net link ∷ [] else []) ++ (if b then slave_at net link ∷ [] else [])) ++ rest)
-    ≡ with_number a link.upper_port (with_number b link.lower_port ns)
-numbers-link net link rest ns true true e = ap (λ (qs : List ℕ). link.upper_port ∷ (link.lower_port ∷ qs)) e
-numbers-link net link rest ns true false e = ap (λ (qs : List ℕ). link.upper_port ∷ qs) e
-numbers-link net link rest ns false true e = ap (λ (qs : List ℕ). link.lower_port ∷ qs) e
-numbers-link net link rest ns false false e = e
-
-numbers-are : (net : NetCfg) (n : ℕ) (links : List LinkCfg) → numbers_in (flat_map (ports_at net n) links) ≡ numbers_at n (flat_map ends_of links)
-numbers-are net n [] = refl
-numbers-are net n (link ∷ links) =
-    numbers-link net link (flat_map (ports_at net n) links) (numbers_at n (flat_map ends_of links)) (link.upper == n) (link.lower == n) (numbers-are net n links)
 
 -- In order
 
@@ -152,35 +133,6 @@ placed_end k (suc i) (other ∷ links) link role e =
 pub has_end : (cfg : NetCfg) (i : ℕ) (link : LinkCfg) (role : Role) → slice_get cfg.links.items i ≡ Some link →
     has_port cfg (end_of role link).node (end_of role link).port ≡ true
 has_end cfg i link role e = has-place cfg (end_of role link).node (end_of role link).port ∙ placed_end 0 i cfg.links.items link role e
-
--- No two are equal
-
-abbrev end_with : ℕ → ℕ → End
-end_with node port = record { node = node; port = port }
-
-away-where : (n p : ℕ) (end : End) (ns : List ℕ) (b : Bool) → (end.node == n) ≡ b → (end.node ≡ n → end.port ≢ p) → AllByRecursion (λ q. q ≢ p) ns →
-    AllByRecursion (λ q. q ≢ p) (with_number b end.port ns)
-away-where n p end ns true is other rest = (other (eqb-true end.node n is), rest)
-away-where n p end ns false is other rest = rest
-
--- where none of the ends is this port of the node
-away : (n p : ℕ) (ends : List End) → ((k : ℕ) → slice_get ends k ≢ Some (end_with n p)) → AllByRecursion (λ q. q ≢ p) (numbers_at n ends)
-away n p [] none = tt
-away n p (end ∷ ends) none =
-    away-where n p end (numbers_at n ends) (end.node == n) refl
-    (λ same_node same_port. none 0 (ap₂ (λ (a b : ℕ). Some (end_with a b)) same_node same_port))
-    (away n p ends (λ k. none (suc k)))
-
-apart-where : (n : ℕ) (end : End) (ns : List ℕ) (b : Bool) → (end.node == n) ≡ b → (end.node ≡ n → AllByRecursion (λ q. q ≢ end.port) ns) → AllApart ns → AllApart (with_number b end.port ns)
-apart-where n end ns true is others rest = (others (eqb-true end.node n is), rest)
-apart-where n end ns false is others rest = rest
-
-apart : (n : ℕ) (ends : List End) → HasNoRepeat ends → AllApart (numbers_at n ends)
-apart n [] once = tt
-apart n (end ∷ ends) once =
-    apart-where n end (numbers_at n ends) (end.node == n) refl
-    (λ same. away n end.port ends (λ k is. zero_or_more k (once 0 (suc k) end refl (is ∙ ap (λ (m : ℕ). Some (end_with m end.port)) (sym same)))))
-    (apart n ends (λ i j other at_i at_j. same_suc i j (once (suc i) (suc j) other at_i at_j)))
 
 -- From 1 to 18
 

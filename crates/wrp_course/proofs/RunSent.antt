@@ -85,7 +85,7 @@ record PutBy (s : Setting) (v : WorldAt) (end : End) (x : Sending) (steps : List
   now : (x.moment ≡ v.count) × (x.at ≡ v.time)
 
 -- the end of a link is as it was, or what its node's step sends is put out there
-told_there : (Q : EndAt → Type 0) (s : Setting) (y : ℤ) (v : WorldAt) (g : Given) (k : ℕ) (r : Role) (link : LinkCfg) → link_of s k ≡ Some link → Q (v.end_at k r) →
+pub told_there : (Q : EndAt → Type 0) (s : Setting) (y : ℤ) (v : WorldAt) (g : Given) (k : ℕ) (r : Role) (link : LinkCfg) → link_of s k ≡ Some link → Q (v.end_at k r) →
     ((end_of r link).node ≡ g.to → Q (end_given s v g (step_of s y v g) k r (end_of r link).port)) → Q ((gives s y v g).end_at k r)
 told_there Q s y v g k r link is old new =
     let step : Step = step_of s y v g in

@@ -16,7 +16,7 @@ use Rattle.wrp_node.proofs.Lists.{all_of}
 
 -- ---- the numbers of a node's ports, as the ends of the links have them
 
-abbrev numbers_at : ℕ → List End → List ℕ
+abbrev pub numbers_at : ℕ → List End → List ℕ
 numbers_at n [] = []
 numbers_at n (end ∷ ends) = if end.node == n then end.port ∷ numbers_at n ends else numbers_at n ends
 
@@ -35,7 +35,7 @@ numbers-link net link rest ns true false e = ap (λ (qs : List ℕ). link.upper_
 numbers-link net link rest ns false true e = ap (λ (qs : List ℕ). link.lower_port ∷ qs) e
 numbers-link net link rest ns false false e = e
 
-numbers-are : (net : NetCfg) (n : ℕ) (links : List LinkCfg) → numbers_in (flat_map (ports_at net n) links) ≡ numbers_at n (flat_map ends_of links)
+pub numbers-are : (net : NetCfg) (n : ℕ) (links : List LinkCfg) → numbers_in (flat_map (ports_at net n) links) ≡ numbers_at n (flat_map ends_of links)
 numbers-are net n [] = refl
 numbers-are net n (link ∷ links) =
     numbers-link net link (flat_map (ports_at net n) links) (numbers_at n (flat_map ends_of links)) (link.upper == n) (link.lower == n) (numbers-are net n links)
@@ -59,7 +59,7 @@ away-where n p end ns true is other rest = (other (eqb-true end.node n is), rest
 away-where n p end ns false is other rest = rest
 
 -- where none of the ends is this port of the node
-away : (n p : ℕ) (ends : List End) → ((k : ℕ) → slice_get ends k ≢ Some (end_with n p)) → AllByRecursion (λ q. q ≢ p) (numbers_at n ends)
+pub away : (n p : ℕ) (ends : List End) → ((k : ℕ) → slice_get ends k ≢ Some (end_with n p)) → AllByRecursion (λ q. q ≢ p) (numbers_at n ends)
 away n p [] none = tt
 away n p (end ∷ ends) none =
     away-where n p end (numbers_at n ends) (end.node == n) refl
@@ -73,7 +73,7 @@ apart-where n end ns false is others rest = rest
 pub zero_or_more : (k : ℕ) → 0 ≡ suc k → ⊥
 zero_or_more k e = omega (arith, e)
 
-apart : (n : ℕ) (ends : List End) → HasNoRepeat ends → AllApart (numbers_at n ends)
+pub apart : (n : ℕ) (ends : List End) → HasNoRepeat ends → AllApart (numbers_at n ends)
 apart n [] once = tt
 apart n (end ∷ ends) once =
     apart-where n end (numbers_at n ends) (end.node == n) refl

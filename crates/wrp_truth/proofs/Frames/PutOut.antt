@@ -21,20 +21,10 @@ use Rattle.wrp_course.specs.WorldAt.{EndAt, Sending, WorldAt}
 use Rattle.wrp_course.proofs.RunFrames.{moved_sent, sent_stays, new_put}
 use Rattle.wrp_course.proofs.RunGiven.{end_is}
 use Rattle.wrp_course.proofs.RunPorts.{told_end}
+use Rattle.wrp_course.proofs.RunSent.{told_there}
 use Rattle.wrp_truth.proofs.Nodes.Inputs.{GivesTo, To, gives_to}
 
--- An end of a link
-
--- it is as it was, or what its node's step sends is put out there
-pub told_there : (Q : EndAt → Type 0) (s : Setting) (y : ℤ) (v : WorldAt) (g : Given) (k : ℕ) (r : Role) (link : LinkCfg) → link_of s k ≡ Some link → Q (v.end_at k r) →
-    ((end_of r link).node ≡ g.to → Q (end_given s v g (step_of s y v g) k r (end_of r link).port)) → Q ((gives s y v g).end_at k r)
-told_there Q s y v g k r link is old new =
-    let step : Step = step_of s y v g in
-    subst Q (sym (ap (told_end s v g step k r) (end_is s k r link is)))
-    (elim (eqb_tells (end_of r link).node g.to) [
-      | inl x ↦ subst (λ b. Q (if b then end_given s v g step k r (end_of r link).port else v.end_at k r)) (sym x.0) (new x.1)
-      | inr x ↦ subst (λ b. Q (if b then end_given s v g step k r (end_of r link).port else v.end_at k r)) (sym x.0) old
-    ])
+-- An end of a link is as it was, or what its node's step sends is put out there
 
 pub given_put : (s : Setting) (y : ℤ) (v : WorldAt) (g : Given) (k : ℕ) (r : Role) (link : LinkCfg) (x : Sending) → link_of s k ≡ Some link → WasPutOut x ((gives s y v g).end_at k r).sent →
     WasPutOut x (v.end_at k r).sent ⊎ (((end_of r link).node ≡ g.to) × WasPutOut x (map (sending v) ((step_of s y v g).sends (end_of r link).port)))

@@ -30,7 +30,7 @@ use Rattle.wrp_truth.specs.SequenceIds.{IsTimed}
 use Rattle.wrp_truth.proofs.Schedules.IdsSent.{NoneSent, Where}
 use Rattle.wrp_truth.proofs.Frames.InOrder.{Numbered, all_numbered}
 use Rattle.wrp_truth.proofs.Nodes.Inputs.{IsNoTick, IsNoTickOf, To, gives_to, no_tick_to, tick_or_not}
-use Rattle.wrp_truth.proofs.Frames.PutOut.{told_there}
+use Rattle.wrp_course.proofs.RunSent.{told_there}
 use Rattle.wrp_truth.proofs.Runs.Suffixes.{run_before}
 use Rattle.wrp_truth.proofs.Frames.TimedTicks.{SendsOne, is_due_then, no_tick_where, sends_then, timed_then}
 
