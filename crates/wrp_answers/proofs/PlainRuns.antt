@@ -11,7 +11,7 @@ use Rattle.wrp_course.specs.WorldAt.{WorldAt}
 use Rattle.wrp_base.specs.declared.configuration.NetCfg.{NetCfg}
 use Rattle.wrp_trace.proofs.EventsReadBack.{events_back}
 use Rattle.wrp_trace.specs.EventPrinting.{event_text}
-use Rattle.wrp_trace.specs.Events.{plain}
+use Rattle.wrp_trace.specs.Events.{bare}
 use Rattle.wrp_truth.specs.Chains.{AllFit}
 use Rattle.wrp_audit.specs.Audited.{AreEvents}
 use Rattle.wrp_audit.specs.AuditText.{audit_lines, event_lines, step_lines}
@@ -20,7 +20,7 @@ use Rattle.wrp_audit.proofs.PlainEvents.{same_checks, same_said, same_steps, sam
 
 -- an event as its line says it
 abbrev pub plain_of : Happened → Happened
-plain_of h = record h { event = plain h.event }
+plain_of h = record h { event = bare h.event }
 
 abbrev pub plain_events : List Happened → List Happened
 plain_events [] = []
@@ -31,12 +31,12 @@ plain_events (h ∷ before) = plain_of h ∷ plain_events before
 pub plain_world : (s : Setting) (events : List Happened) → world_after s (plain_events events) ≡ world_after s events
 plain_world s [] = refl
 plain_world s (h ∷ before) =
-    ap (λ (w : WorldAt). world_step s h.says h.answer w (plain h.event)) (plain_world s before)
+    ap (λ (w : WorldAt). world_step s h.says h.answer w (bare h.event)) (plain_world s before)
     ∙ same_world s h.says h.answer (world_after s before) h.event
 
 plain_steps : (s : Setting) (before : List Happened) (h : Happened) → steps_at s (plain_events before) (plain_of h) ≡ steps_at s before h
 plain_steps s before h =
-    ap (λ (w : WorldAt). event_steps s h.says h.answer w (plain h.event)) (plain_world s before)
+    ap (λ (w : WorldAt). event_steps s h.says h.answer w (bare h.event)) (plain_world s before)
     ∙ same_steps s h.says h.answer (world_after s before) h.event
 
 -- Premises
@@ -44,7 +44,7 @@ plain_steps s before h =
 pub plain_accepted : (s : Setting) (events : List Happened) → AllAccepted s events → AllAccepted s (plain_events events)
 plain_accepted s [] all = tt
 plain_accepted s (h ∷ before) all = (
-  subst (λ (w : WorldAt). Accepts s w h.says (plain h.event)) (sym (plain_world s before))
+  subst (λ (w : WorldAt). Accepts s w h.says (bare h.event)) (sym (plain_world s before))
       (subst AllHold (sym (same_checks s (world_after s before) h.says h.event)) all.0),
   plain_accepted s before all.1,
 )

@@ -15,7 +15,7 @@ use Rattle.wrp_lines.specs.Words.{link_word}
 use Rattle.wrp_node.specs.declared.interface.Output.{Output}
 use Rattle.wrp_node.specs.declared.interface.Output.TheVariants.{Send, Step, Dac, Report}
 use Rattle.wrp_node.specs.declared.interface.Report.TheVariants.{Link, Servo, Track}
-use Rattle.wrp_course.specs.Earned.{AreTrueReports, IsOn, IsTrueReport}
+use Rattle.wrp_course.specs.Earned.{AreTrueReports, IsOn, IsEarnedReport}
 use Rattle.wrp_course.specs.Given.{NodeStepAt}
 use Rattle.wrp_course.specs.Setting.{Setting}
 use Rattle.wrp_course.specs.WorldAt.{WorldAt}
@@ -65,10 +65,10 @@ says (Report (Link p word)) bound truth port h e = link_says p word port h e
 says (Report (Servo state)) bound truth port h e = absurd (let f : 115 ≡ 108 = ap head_of e in omega (arith, f))
 says (Report (Track est)) bound truth port h e = absurd (let f : 116 ≡ 108 = ap head_of e in omega (arith, f))
 
-on_there : (s : Setting) (w : WorldAt) (n : ℕ) (o : Output) (port : List ℕ) → IsTrueReport s w n o → (h : SaysOn o port) → IsOn s w n h.number
-on_there s w n o port true_ h = subst (IsTrueReport s w n) h.is true_
+on_there : (s : Setting) (w : WorldAt) (n : ℕ) (o : Output) (port : List ℕ) → IsEarnedReport s w n o → (h : SaysOn o port) → IsOn s w n h.number
+on_there s w n o port true_ h = subst (IsEarnedReport s w n) h.is true_
 
-line_earned : (s : Setting) (w : WorldAt) (n tick : ℕ) (o : Output) (truth : Option ℤ) → HasNames s.cfg → IsTrueReport s w n o → IsEarnedLine s w (output_line s.cfg n tick o truth)
+line_earned : (s : Setting) (w : WorldAt) (n tick : ℕ) (o : Output) (truth : Option ℤ) → HasNames s.cfg → IsEarnedReport s w n o → IsEarnedLine s w (output_line s.cfg n tick o truth)
 line_earned s w n tick o truth names true_ = λ node at port a b c e.
     let bound : ℤ = pos (path_of s.cfg n) in
     let parts : name_at s.cfg n ++ 32 ∷ (decimal tick ++ 32 ∷ line_of (output_words o bound truth)) ≡ node ++ 32 ∷ (at ++ 32 ∷ OnLine port) =
@@ -82,7 +82,7 @@ line_earned s w n tick o truth names true_ = λ node at port a b c e.
 
 step_earned : (s : Setting) (w : WorldAt) (step : NodeStepAt) → HasNames s.cfg → AreTrueReports s w step → AllByRecursion (λ (o : Output). IsEarnedLine s w (line_at s w step.node o)) step.outs
 step_earned s w step names are =
-    all_weaker (IsTrueReport s w step.node) (λ (o : Output). IsEarnedLine s w (line_at s w step.node o))
+    all_weaker (IsEarnedReport s w step.node) (λ (o : Output). IsEarnedLine s w (line_at s w step.node o))
     (λ o true_. line_earned s w step.node (w.node step.node).ticks o (Some (w.clock step.node).off) names true_) step.outs are
 
 -- each line of the steps of an event

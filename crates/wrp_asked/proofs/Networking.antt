@@ -11,8 +11,8 @@ use Rattle.std.proofs.KnownBytes.{Consumes-nil}
 use Rattle.wrp_scene.proofs.SceneLemmas.{all_more}
 use Rattle.wrp_records.specs.Lines.{lines_of, content_of, without_end, HasNoFeed, IsWhole}
 use Rattle.wrp_asked.specs.Input.{is_separator, before_separator, behind_separator, network_text, network_limit, IsDivided, IsTooLong, IsUndivided, BeginsSeparator, NetworkOutcome}
-use Rattle.wrp_asked.specs.declared.network_text.End.{End}
-use Rattle.wrp_asked.specs.declared.network_text.End.TheVariants.{Whole, TooLong, Failed, Memory}
+use Rattle.wrp_asked.specs.declared.network_text.HowItEnded.{HowItEnded}
+use Rattle.wrp_asked.specs.declared.network_text.HowItEnded.TheVariants.{Whole, TooLong, Failed, Memory}
 use Rattle.wrp_records.specs.Reader.{ReaderAt, Takes, IsNext, IsCut, IsLast}
 use Rattle.wrp_records.proofs.Feeds.{lines_of-whole, lines_of-open}
 use Rattle.wrp_records.specs.Reached.{Reached}
@@ -247,7 +247,7 @@ goes_on_network line text r left rest waiting number so_far next other is same =
 }
 
 -- what is known when the reading ended
-abbrev pub NetworkEnded : End → List ℕ → ReaderAt → Option (List ℕ) → Option (List ℕ) → Type 0
+abbrev pub NetworkEnded : HowItEnded → List ℕ → ReaderAt → Option (List ℕ) → Option (List ℕ) → Type 0
 NetworkEnded end text s left further = (given : List ℕ) × Consumes left further given × NetworkOutcome end given text s
 
 pub network_ends : (line text : List ℕ) (r s : ReaderAt) (left rest further : Option (List ℕ)) → Networked r left rest text → Takes rest further r.rest r.ended s line

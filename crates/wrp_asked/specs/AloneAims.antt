@@ -9,7 +9,7 @@ use Rattle.wrp_l1sync.specs.LineAnswers.{ShowsBy, ShowsFront, ShowsWhole}
 use Rattle.wrp_migrate.specs.Laws.{IsKept}
 use Rattle.wrp_plain.specs.declared.event.PlainEvent.{PlainEvent}
 use Rattle.wrp_plain.specs.declared.settings.PlainStart.{PlainStart}
-use Rattle.wrp_plain.specs.LineCourse.{IsCourse}
+use Rattle.wrp_plain.specs.LineCourse.{IsPlainRun}
 use Rattle.wrp_plain.specs.LineTruth.{AllAreWithin, AreTrue}
 use Rattle.wrp_plain.specs.Said.{WritesSo}
 use Rattle.wrp_plain.specs.Steered.{AreSteered}
@@ -55,7 +55,7 @@ SynchronisesSo input status octets = Unit {0}
 abbrev pub TellsTruly : List ℕ → Type 0
 TellsTruly input =
     (first : List ℕ) (lines rest : List (List ℕ)) → map content_of (lines_of input) ≡ first ∷ (lines ++ rest)
-    → (start : PlainStart) (events : List PlainEvent) → IsCourse first lines start events
+    → (start : PlainStart) (events : List PlainEvent) → IsPlainRun first lines start events
     → AreTrue start.set start.off events × AreSteered start.set start.off events
 
 -- so it is whatever a plain servo is told; each report, as it is printed, is within its printed bound of the printed true

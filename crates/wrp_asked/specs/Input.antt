@@ -4,8 +4,8 @@ use Rattle.std.specs.Prelude.{◌≡◌, ◌⊎◌, ℕ, ◌<◌, ◌≤◌, Boo
 use Rattle.std.specs.Io.{StartsWith}
 use Rattle.std.specs.List.{concat, AllByRecursion}
 use Rattle.std.specs.Str.{bytes_eq}
-use Rattle.wrp_asked.specs.declared.network_text.End.{End}
-use Rattle.wrp_asked.specs.declared.network_text.End.TheVariants.{Whole, TooLong, Failed, Memory}
+use Rattle.wrp_asked.specs.declared.network_text.HowItEnded.{HowItEnded}
+use Rattle.wrp_asked.specs.declared.network_text.HowItEnded.TheVariants.{Whole, TooLong, Failed, Memory}
 use Rattle.wrp_records.specs.Lines.{lines_of, content_of, HasNoFeed, IsWhole}
 use Rattle.wrp_records.specs.Reader.{ReaderAt, IsLast}
 
@@ -66,7 +66,7 @@ pub record IsUndivided (taken : List ℕ) : Type 0 where
   pub cut_fits : (length taken ≤ network_limit) ⊎ BeginsSeparator cut
 
 -- what is known of the network text, by the way its reading ended
-abbrev pub NetworkOutcome : End → List ℕ → List ℕ → ReaderAt → Type 0
+abbrev pub NetworkOutcome : HowItEnded → List ℕ → List ℕ → ReaderAt → Type 0
 NetworkOutcome Whole taken text r = IsDivided taken text r × (length text ≤ network_limit)
 NetworkOutcome TooLong taken text r = IsTooLong taken r
 NetworkOutcome Failed taken text r = IsUndivided taken

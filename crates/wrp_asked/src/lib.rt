@@ -12,4 +12,4 @@ pub use laws::{
     made_events_carry_parts, one_answer, replays_are_told, runs_print_within_bounds,
     track_reports_have_lines,
 };
-pub use network_text::{End, NetworkText, take_network};
+pub use network_text::{HowItEnded, NetworkText, take_network};

@@ -14,7 +14,7 @@ const NETWORK_LIMIT: usize = 262_144;
 
 /// How the reading of the network text ended.
 #[derive(Clone, Copy, Debug, PartialEq, Eq)]
-pub enum End {
+pub enum HowItEnded {
     /// At its end.
     Whole,
     /// It is over the limit.
@@ -31,7 +31,7 @@ pub struct NetworkText {
     /// The octets.
     pub text: Vec<u8>,
     /// How the reading ended.
-    pub end: End,
+    pub end: HowItEnded,
 }
 
 // Whether a line ends the network text.
@@ -95,8 +95,8 @@ pub fn take_network<S: Source>(alloc: Global, reader: &mut Reader, source: &mut 
     ensures taken { (given : List ℕ) × Consumes (S.left source.old) (S.left source.new) given
         × NetworkOutcome result.end given result.text.items reader.new }
     ensures at_end { reader.new.ended ≡ true → IsAtEnd (S.left source.new) }
-    ensures rose { result.end ≡ End.Failed → Rose (S.faults source.old) (S.faults source.new) }
-    ensures kept { (result.end ≡ End.Failed → ⊥)
+    ensures rose { result.end ≡ HowItEnded.Failed → Rose (S.faults source.old) (S.faults source.new) }
+    ensures kept { (result.end ≡ HowItEnded.Failed → ⊥)
         → S.faults source.new ≡ S.faults source.old }
 {
     let mut text = Vec::new(alloc);
@@ -111,32 +111,32 @@ fn take_lines<S: Source>(
     source: &mut S,
     text: &mut Vec<u8>,
     line: &mut Vec<u8>,
-) -> End
+) -> HowItEnded
     requires fresh { (reader.old.rest ≡ []) × (reader.old.ended ≡ false) }
     requires none { text.old.items ≡ [] }
     ensures taken { (given : List ℕ) × Consumes (S.left source.old) (S.left source.new) given
         × NetworkOutcome result given text.new.items reader.new }
     ensures at_end { reader.new.ended ≡ true → IsAtEnd (S.left source.new) }
-    ensures rose { result ≡ End.Failed → Rose (S.faults source.old) (S.faults source.new) }
-    ensures kept { (result ≡ End.Failed → ⊥) → S.faults source.new ≡ S.faults source.old }
+    ensures rose { result ≡ HowItEnded.Failed → Rose (S.faults source.old) (S.faults source.new) }
+    ensures kept { (result ≡ HowItEnded.Failed → ⊥) → S.faults source.new ≡ S.faults source.old }
 {
     'lines: loop {
         let left = NETWORK_LIMIT - text.len();
         match next_line(reader, source, line, left) {
-            Next::End => return End::Whole,
-            Next::TooLong => return End::TooLong,
-            Next::Failed => return End::Failed,
-            Next::Memory => return End::Memory,
+            Next::End => return HowItEnded::Whole,
+            Next::TooLong => return HowItEnded::TooLong,
+            Next::Failed => return HowItEnded::Failed,
+            Next::Memory => return HowItEnded::Memory,
             Next::Line => {}
         }
         if ends_network(line) {
-            return End::Whole;
+            return HowItEnded::Whole;
         }
         if line.len() > left {
-            return End::TooLong;
+            return HowItEnded::TooLong;
         }
         if text.extend_from_slice(line).is_err() {
-            return End::Memory;
+            return HowItEnded::Memory;
         }
     }
 }

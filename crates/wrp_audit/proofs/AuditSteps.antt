@@ -22,7 +22,7 @@ use Rattle.wrp_node.specs.Set.{ports_of}
 use Rattle.wrp_node.specs.StandsFor.{NodeOf, StandsFor as NodeStandsFor}
 use Rattle.wrp_node.proofs.OwnPorts.{slave_is_above}
 use Rattle.wrp_servo.specs.Servo.{AllAnswered}
-use Rattle.wrp_trace.specs.Events.{event_read, plain}
+use Rattle.wrp_trace.specs.Events.{event_read, bare}
 use Rattle.wrp_trace.specs.LineSetting.{line_setting_in}
 use Rattle.wrp_fields.specs.Reading.{IsReading}
 use Rattle.wrp_course.specs.Checks.{AllHold, told_of}
@@ -200,23 +200,23 @@ goes_on {F} {pre} {post} one held now lines line before text e reads kept ready 
 -- What a step of the world answers
 
 pub took_of : {F : Type 0} (post : F → ℤ → ℤ → Type 0) (emit : Option ℕ) (s : Setting) (w : WorldAt) (e : Event) (old new : WorldOf F) (outs : List NodeOut) (text : List ℕ) → StandsFor post s w old → Stepped post e old new outs
-    → ((v : WorldAt) → StandsFor post s v new → text ≡ flat_map (line_by emit s v) (map step_seen outs)) → Took post emit s w (plain e) new text
+    → ((v : WorldAt) → StandsFor post s v new → text ≡ flat_map (line_by emit s v) (map step_seen outs)) → Took post emit s w (bare e) new text
 took_of {F} post emit s w e old new outs text stood stepped wrote =
     let says = stepped.0 in
     let answer : ℤ = stepped.1 in
-    let stands : StandsFor post s (world_step s says answer w (plain e)) new = subst (λ (v : WorldAt). StandsFor post s v new) (sym (same_world s says answer w e)) (stepped.2.stands s w stood) in
+    let stands : StandsFor post s (world_step s says answer w (bare e)) new = subst (λ (v : WorldAt). StandsFor post s v new) (sym (same_world s says answer w e)) (stepped.2.stands s w stood) in
     record {
       says = says;
       answer = answer;
       said = same_said e says stepped.2.said;
       accepted = subst AllHold (sym (same_checks s w says e)) (stepped.2.accepted s w stood);
       stands = stands;
-      wrote = wrote (world_step s says answer w (plain e)) stands
-          ∙ ap (flat_map (line_by emit s (world_step s says answer w (plain e)))) (stepped.2.seen s w stood ∙ sym (same_steps s says answer w e));
+      wrote = wrote (world_step s says answer w (bare e)) stands
+          ∙ ap (flat_map (line_by emit s (world_step s says answer w (bare e)))) (stepped.2.seen s w stood ∙ sym (same_steps s says answer w e));
     }
 
 pub broke_of : {F : Type 0} (post : F → ℤ → ℤ → Type 0) (s : Setting) (w : WorldAt) (e : Event) (old : WorldOf F) (premise : ℕ) (shown bound : ℤ) (number : ℕ) (text : List ℕ) → StandsFor post s w old
-    → IsRefusal post e old (Broken premise shown bound) → text ≡ broken_line number (record { premise = premise; shown = shown; bound = bound }) → Broke s w (plain e) number text
+    → IsRefusal post e old (Broken premise shown bound) → text ≡ broken_line number (record { premise = premise; shown = shown; bound = bound }) → Broke s w (bare e) number text
 broke_of post s w e old premise shown bound number text stood refused wrote = record {
   says = refused.0;
   said = same_said e refused.0 refused.1;

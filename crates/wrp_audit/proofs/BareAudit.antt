@@ -22,7 +22,7 @@ use Rattle.wrp_config.specs.Same.{bare_cfg}
 use Rattle.wrp_frame.specs.declared.fault.FrameFault.{FrameFault}
 use Rattle.wrp_node.specs.declared.interface.Input.TheVariants.{Carrier, Reset}
 use Rattle.wrp_node.specs.NodeAt.{locked_of, numbers_of, state_of}
-use Rattle.wrp_course.specs.Checks.{at_most, only_where, size_of, stands}
+use Rattle.wrp_course.specs.Checks.{at_most, only_where, size_of, needs}
 use Rattle.wrp_course.specs.declared.clocks.ClockState.{ClockState}
 use Rattle.wrp_course.specs.declared.event.Event.{Event}
 use Rattle.wrp_course.specs.declared.event.Event.TheVariants.{Pass, Tick, Sample, Depart, Arrive, Deliver, Noise, Down, Up, Cut, Join}
@@ -277,7 +277,7 @@ modules_bare s n = λ i swap.
     module_checks swap ((ap (entry_for (bare_setting s) swap) (λ j. places_bare s j n swap.port) ∙ entry_for_bare s swap (place_of s n swap.port)) i)
 
 swaps_bare : (s : Setting) (n : ℕ) → swap_stands (bare_setting s) n ≡ swap_stands s n
-swaps_bare s n = λ i swap. stands (is_some (places_bare s i n swap.port))
+swaps_bare s n = λ i swap. needs (is_some (places_bare s i n swap.port))
 
 pass_bare : (s : Setting) (w v : WorldAt) (dt : ℤ) (drifts : List ℤ) (moves : List (ℤ × ℤ)) → pass_checks (bare_setting s) w v dt drifts moves ≡ pass_checks s w v dt drifts moves
 pass_bare s w v dt drifts moves = λ i.
@@ -296,14 +296,14 @@ sample_bare s w n base bits None = refl
 sample_bare s w n base bits (Some k) = λ i.
     map (only_where (carriers_bare s i w k))
     ((ap (λ (o : Option LinkCfg). option_map_or (beat_checks (bare_setting s) w n base bits k) o []) (link_bare s k) ∙ beats_over s w n base bits k (link_of s k)) i)
-    ++ (stands (carriers_bare s i w k) ∷ [])
+    ++ (needs (carriers_bare s i w k) ∷ [])
 
 depart_bare : (s : Setting) (w : WorldAt) (n : ℕ) (stamp : ℤ) (o : Option Place) (waiting : List Sending) → depart_checks (bare_setting s) w n stamp o waiting ≡ depart_checks s w n stamp o waiting
 depart_bare s w n stamp None waiting = refl
 depart_bare s w n stamp (Some place) [] = refl
 depart_bare s w n stamp (Some place) (oldest ∷ rest) = λ i.
     at_most 7 (size_of (stamp -ℤ reading w n)) (pos (number_bare (λ node. node.e_tx) (λ node. refl) s i n))
-    ∷ (too_old s.cfg w.time oldest ∷ (stands (carriers_bare s i w place.link) ∷ []))
+    ∷ (too_old s.cfg w.time oldest ∷ (needs (carriers_bare s i w place.link) ∷ []))
 
 received_bare : (s : Setting) (w : WorldAt) (f : FrameAt) (raw : Raw) → received (bare_setting s) w f raw ≡ received s w f raw
 received_bare s w f raw = λ i.
@@ -314,7 +314,7 @@ received_bare s w f raw = λ i.
     (ends_bare s i f.link (other_of f.by)) []
 
 arrive_bare : (s : Setting) (w : WorldAt) (j : ℕ) (raw : Raw) (b : Bool) (o : Option FrameAt) → arrive_checks (bare_setting s) w j raw b o ≡ arrive_checks s w j raw b o
-arrive_bare s w j raw true (Some f) = λ i. at_most 8 (size_of (w.time -ℤ f.due)) (pos 0) ∷ (received_bare s w f raw i ++ (stands (carriers_bare s i w f.link) ∷ []))
+arrive_bare s w j raw true (Some f) = λ i. at_most 8 (size_of (w.time -ℤ f.due)) (pos 0) ∷ (received_bare s w f raw i ++ (needs (carriers_bare s i w f.link) ∷ []))
 arrive_bare s w j raw true None = refl
 arrive_bare s w j raw false o = refl
 
@@ -324,12 +324,12 @@ deliver_bare s w j (Some f) = go f.arrival
   where
     go : (a : Option Arrival) → deliver_by (bare_setting s) w j f a ≡ deliver_by s w j f a
     go None = refl
-    go (Some arrival) = λ i. too_old s.cfg w.time f.sending ∷ (stands (carriers_bare s i w f.link) ∷ [])
+    go (Some arrival) = λ i. too_old s.cfg w.time f.sending ∷ (needs (carriers_bare s i w f.link) ∷ [])
 
 noise_bare : (s : Setting) (w : WorldAt) (n p : ℕ) (says : Result PtpMsg FrameFault) (o : Option Place) → noise_checks (bare_setting s) w n p says o ≡ noise_checks s w n p says o
 noise_bare s w n p says None = refl
 noise_bare s w n p says (Some place) = λ i.
-    record { premise = 12; fails = is_forged s n p says; shown = pos 1; bound = pos 0 } ∷ (stands (carriers_bare s i w place.link) ∷ [])
+    record { premise = 12; fails = is_forged s n p says; shown = pos 1; bound = pos 0 } ∷ (needs (carriers_bare s i w place.link) ∷ [])
 
 tried_bare : (s : Setting) (w v : WorldAt) (says : Result PtpMsg FrameFault) (e : Event) → checks (bare_setting s) w v says e ≡ checks s w v says e
 tried_bare s w v says (Pass dt drifts fibres) = pass_bare s w v dt drifts.items fibres.items
@@ -345,9 +345,9 @@ tried_bare s w v says (Up n off swaps) = λ i.
     top_bare s n off i
     ∷ (flat_map (fibres_bare s i v) (links_bare s i)
     ++ (flat_map (modules_bare s n i) swaps.items
-    ++ (map (swaps_bare s n i) swaps.items ++ (stands (not (w.clock n).up) ∷ []))))
+    ++ (map (swaps_bare s n i) swaps.items ++ (needs (not (w.clock n).up) ∷ []))))
 tried_bare s w v says (Cut k) = refl
-tried_bare s w v says (Join k ms sm) = λ i. fibres_bare s i v k ++ (stands (not (w.fibre k).joined) ∷ [])
+tried_bare s w v says (Join k ms sm) = λ i. fibres_bare s i v k ++ (needs (not (w.fibre k).joined) ∷ [])
 
 pub checks_bare : (s : Setting) (w : WorldAt) (says : Result PtpMsg FrameFault) (e : Event) → checks_of (bare_setting s) w says e ≡ checks_of s w says e
 checks_bare s w says e = tried_bare s w (moved (bare_setting s) w e) says e ∙ ap (λ (v : WorldAt). checks s w v says e) (moved_bare s w e)

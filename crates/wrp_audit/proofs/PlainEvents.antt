@@ -3,9 +3,9 @@ use Rattle.std.proofs.Common.{◌≡◌, ◌∙◌, refl, ap, ap₂, not, ℕ, �
 use Rattle.wrp_base.specs.declared.link.Role.{Role}
 use Rattle.wrp_base.specs.declared.message.PtpMsg.{PtpMsg}
 use Rattle.wrp_frame.specs.declared.fault.FrameFault.{FrameFault}
-use Rattle.wrp_trace.specs.Events.{plain}
-use Rattle.wrp_trace.specs.Swaps.{plain_swap}
-use Rattle.wrp_course.specs.Checks.{Check, stands}
+use Rattle.wrp_trace.specs.Events.{bare}
+use Rattle.wrp_trace.specs.Swaps.{bare_swap}
+use Rattle.wrp_course.specs.Checks.{Check, needs}
 use Rattle.wrp_course.specs.declared.event.Event.{Event}
 use Rattle.wrp_course.specs.declared.event.Event.TheVariants.{Pass, Tick, Sample, Depart, Arrive, Deliver, Noise, Down, Up, Cut, Join}
 use Rattle.wrp_course.specs.declared.event.Swap.{Swap}
@@ -19,20 +19,20 @@ use Rattle.wrp_course.specs.WorldAt.{EndAt, WorldAt}
 
 -- The module that a swap puts in place
 
-found_if : (b : Bool) (swap : Swap) (rest other : Option Swap) → rest ≡ option_map plain_swap other → cond b (Some (plain_swap swap)) rest ≡ option_map plain_swap (cond b (Some swap) other)
+found_if : (b : Bool) (swap : Swap) (rest other : Option Swap) → rest ≡ option_map bare_swap other → cond b (Some (bare_swap swap)) rest ≡ option_map bare_swap (cond b (Some swap) other)
 found_if true swap rest other e = refl
 found_if false swap rest other e = e
 
-swap_found : (p : ℕ) (swaps : List Swap) → swap_at p (map plain_swap swaps) ≡ option_map plain_swap (swap_at p swaps)
+swap_found : (p : ℕ) (swaps : List Swap) → swap_at p (map bare_swap swaps) ≡ option_map bare_swap (swap_at p swaps)
 swap_found p [] = refl
-swap_found p (swap ∷ swaps) = found_if (swap.port == p) swap (swap_at p (map plain_swap swaps)) (swap_at p swaps) (swap_found p swaps)
+swap_found p (swap ∷ swaps) = found_if (swap.port == p) swap (swap_at p (map bare_swap swaps)) (swap_at p swaps) (swap_found p swaps)
 
-swapped : (swap : Option Swap) (e : EndAt) → with_swap (option_map plain_swap swap) e ≡ with_swap swap e
+swapped : (swap : Option Swap) (e : EndAt) → with_swap (option_map bare_swap swap) e ≡ with_swap swap e
 swapped None e = refl
 swapped (Some swap) e = refl
 
 end_same : (s : Setting) (w : WorldAt) (n : ℕ) (swaps : List Swap) (k : ℕ) (r : Role) →
-    (if is_of n (end_at s k r) then with_swap (swap_at (port_number s k r) (map plain_swap swaps)) (w.end_at k r) else w.end_at k r)
+    (if is_of n (end_at s k r) then with_swap (swap_at (port_number s k r) (map bare_swap swaps)) (w.end_at k r) else w.end_at k r)
     ≡ (if is_of n (end_at s k r) then with_swap (swap_at (port_number s k r) swaps) (w.end_at k r) else w.end_at k r)
 end_same s w n swaps k r =
     ap (λ (e : EndAt). if is_of n (end_at s k r) then e else w.end_at k r)
@@ -40,7 +40,7 @@ end_same s w n swaps k r =
 
 -- the same event by its parts
 abbrev plain_up : (n : ℕ) (off : ℤ) → List Swap → Event
-plain_up n off swaps = Up n off (record { items = map plain_swap swaps })
+plain_up n off swaps = Up n off (record { items = map bare_swap swaps })
 
 moved_up : (s : Setting) (w : WorldAt) (n : ℕ) (off : ℤ) (swaps : List Swap) → moved s w (plain_up n off swaps) ≡ moved s w (Up n off (record { items = swaps }))
 moved_up s w n off swaps =
@@ -48,7 +48,7 @@ moved_up s w n off swaps =
 
 -- The world after it, and the steps
 
-pub same_world : (s : Setting) (says : Result PtpMsg FrameFault) (y : ℤ) (w : WorldAt) (e : Event) → world_step s says y w (plain e) ≡ world_step s says y w e
+pub same_world : (s : Setting) (says : Result PtpMsg FrameFault) (y : ℤ) (w : WorldAt) (e : Event) → world_step s says y w (bare e) ≡ world_step s says y w e
 same_world s says y w (Pass dt drifts fibres) = refl
 same_world s says y w (Tick n) = refl
 same_world s says y w (Sample n base bits) = refl
@@ -61,7 +61,7 @@ same_world s says y w (Up n off swaps) = ap (λ (v : WorldAt). gives_all s y v (
 same_world s says y w (Cut k) = refl
 same_world s says y w (Join k ms sm) = refl
 
-pub same_steps : (s : Setting) (says : Result PtpMsg FrameFault) (y : ℤ) (w : WorldAt) (e : Event) → event_steps s says y w (plain e) ≡ event_steps s says y w e
+pub same_steps : (s : Setting) (says : Result PtpMsg FrameFault) (y : ℤ) (w : WorldAt) (e : Event) → event_steps s says y w (bare e) ≡ event_steps s says y w e
 same_steps s says y w (Pass dt drifts fibres) = refl
 same_steps s says y w (Tick n) = refl
 same_steps s says y w (Sample n base bits) = refl
@@ -76,20 +76,20 @@ same_steps s says y w (Join k ms sm) = refl
 
 -- Premises
 
-swap_checks : (s : Setting) (n : ℕ) (swaps : List Swap) → map (swap_stands s n) (map plain_swap swaps) ≡ map (swap_stands s n) swaps
+swap_checks : (s : Setting) (n : ℕ) (swaps : List Swap) → map (swap_stands s n) (map bare_swap swaps) ≡ map (swap_stands s n) swaps
 swap_checks s n [] = refl
 swap_checks s n (swap ∷ swaps) = ap (λ (rest : List Check). swap_stands s n swap ∷ rest) (swap_checks s n swaps)
 
-module_checks_same : (s : Setting) (n : ℕ) (swaps : List Swap) → flat_map (module_kept s n) (map plain_swap swaps) ≡ flat_map (module_kept s n) swaps
+module_checks_same : (s : Setting) (n : ℕ) (swaps : List Swap) → flat_map (module_kept s n) (map bare_swap swaps) ≡ flat_map (module_kept s n) swaps
 module_checks_same s n [] = refl
 module_checks_same s n (swap ∷ swaps) = ap (λ (rest : List Check). module_kept s n swap ++ rest) (module_checks_same s n swaps)
 
 up_same : (s : Setting) (w : WorldAt) (says : Result PtpMsg FrameFault) (n : ℕ) (off : ℤ) (swaps : List Swap) → checks_of s w says (plain_up n off swaps) ≡ checks_of s w says (Up n off (record { items = swaps }))
 up_same s w says n off swaps =
     ap₂ (λ (v : WorldAt) (rest : List Check). true_at_top s n off ∷ (flat_map (fibre_kept s v) (links_of s) ++ rest)) (moved_up s w n off swaps)
-    (ap₂ (λ (modules ports : List Check). modules ++ (ports ++ (stands (not (w.clock n).up) ∷ []))) (module_checks_same s n swaps) (swap_checks s n swaps))
+    (ap₂ (λ (modules ports : List Check). modules ++ (ports ++ (needs (not (w.clock n).up) ∷ []))) (module_checks_same s n swaps) (swap_checks s n swaps))
 
-pub same_checks : (s : Setting) (w : WorldAt) (says : Result PtpMsg FrameFault) (e : Event) → checks_of s w says (plain e) ≡ checks_of s w says e
+pub same_checks : (s : Setting) (w : WorldAt) (says : Result PtpMsg FrameFault) (e : Event) → checks_of s w says (bare e) ≡ checks_of s w says e
 same_checks s w says (Pass dt drifts fibres) = refl
 same_checks s w says (Tick n) = refl
 same_checks s w says (Sample n base bits) = refl
@@ -102,7 +102,7 @@ same_checks s w says (Up n off swaps) = up_same s w says n off swaps.items
 same_checks s w says (Cut k) = refl
 same_checks s w says (Join k ms sm) = refl
 
-pub same_said : (e : Event) (says : Result PtpMsg FrameFault) → IsSaid e says → IsSaid (plain e) says
+pub same_said : (e : Event) (says : Result PtpMsg FrameFault) → IsSaid e says → IsSaid (bare e) says
 same_said (Pass dt drifts fibres) says h = h
 same_said (Tick n) says h = h
 same_said (Sample n base bits) says h = h

@@ -4,7 +4,7 @@ ghost use Rattle.std.specs.List.{AllByRecursion, flat_map};
 ghost use Rattle.wrp_base.specs.Network.{name_at, node_count};
 ghost use Rattle.wrp_config.specs.Accepted.{IsAccepted};
 ghost use Rattle.wrp_lines.specs.Lines.{output_line_of};
-ghost use Rattle.wrp_trace.specs.Events.{plain};
+ghost use Rattle.wrp_trace.specs.Events.{bare};
 ghost use Rattle.wrp_trace.specs.Places.{event_in};
 ghost use Rattle.wrp_course.specs.declared.node_out.NodeOut.{NodeOut};
 ghost use Rattle.wrp_course.specs.EventAt.{IsEventOf};
@@ -108,7 +108,7 @@ impl<F: Fn(i64) -> i64> AuditedNetwork<F> {
         ensures count { self.new.world.plant.events ≤ self.old.world.plant.events + 1 }
         ensures happens { IfOk result (λ taken. (w : WorldAt)
             → StandsFor F.post (setting_in self.old.world.plant.net) w self.old.world
-            → Happens F.post self.old.emit (setting_in self.old.world.plant.net) w (plain (event_in place.now))
+            → Happens F.post self.old.emit (setting_in self.old.world.plant.net) w (bare (event_in place.now))
             number self.new.world text.new.items taken) }
     {
         match self.world.step_into(place.event(), &mut self.outs) {

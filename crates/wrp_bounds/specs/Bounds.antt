@@ -6,7 +6,7 @@ use Rattle.wrp_base.specs.declared.configuration.NetCfg.{NetCfg}
 use Rattle.wrp_base.specs.declared.network.NodeCfg.{NodeCfg}
 use Rattle.wrp_base.specs.declared.network.LinkCfg.{LinkCfg}
 use Rattle.wrp_base.specs.Network.{HasLinkRanges, link_above, node_count}
-use Rattle.wrp_bounds.specs.declared.numbers.End.{End}
+use Rattle.wrp_bounds.specs.declared.numbers.NodeNumbers.{NodeNumbers}
 use Rattle.wrp_bounds.specs.declared.numbers.HopNumbers.{HopNumbers}
 use Rattle.wrp_bounds.specs.Hop.{hop_bound}
 use Rattle.wrp_bounds.specs.Motion.{motion}
@@ -17,7 +17,7 @@ abbrev pub rate_of : NetCfg → ℕ → NodeCfg → ℕ
 rate_of net n node = if is_some (link_above net n) then max node.slew node.held else 0
 
 -- what a node brings to the bound of a hop
-abbrev pub end_of : NetCfg → ℕ → NodeCfg → End
+abbrev pub end_of : NetCfg → ℕ → NodeCfg → NodeNumbers
 end_of net n node = record { e_tx = node.e_tx; e_tag = node.e_tag; rate = rate_of net n node }
 
 -- what the bound of a hop is made of: the two nodes', the link's and the network's numbers; there

@@ -1,7 +1,7 @@
 -- The bound of one hop: how far a node in TRACK may be from its parent (this project's profile).
 use Rattle.std.specs.Prelude.{ℕ, ℤ, pos, ◌+◌, ◌*◌, ◌^◌, ◌≤◌, ◌+ℤ◌, unsigned_abs}
 use Rattle.wrp_base.specs.Clock.{step_of}
-use Rattle.wrp_bounds.specs.declared.numbers.End.{End}
+use Rattle.wrp_bounds.specs.declared.numbers.NodeNumbers.{NodeNumbers}
 use Rattle.wrp_bounds.specs.declared.numbers.HopNumbers.{HopNumbers}
 use Rattle.wrp_bounds.specs.Motion.{motion, rounded_up}
 
@@ -58,7 +58,7 @@ abbrev pub hop_bound : HopNumbers → ℕ
 hop_bound hop = hop.track_tau + hop.loop_tau + estimate_error hop
 
 -- the numbers of one end are in ranges at which all sums fit
-pub record EndIsInRange (e : End) : Type 0 where
+pub record EndIsInRange (e : NodeNumbers) : Type 0 where
   pub e_tx : e.e_tx ≤ 2 ^ 30
   pub e_tag : e.e_tag ≤ 2 ^ 30
   pub rate : e.rate ≤ 2 ^ 30

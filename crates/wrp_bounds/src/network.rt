@@ -8,7 +8,7 @@ ghost use Rattle.wrp_bounds.specs.Bounds as spec;
 ghost use Rattle.wrp_bounds.specs.Bounds.{IsPlaced};
 
 use crate::motion::motion;
-use crate::numbers::{End, HopNumbers};
+use crate::numbers::{HopNumbers, NodeNumbers};
 use crate::times::{age_time, count, gap_time, held_time, reach};
 use wrp_base::{LinkCfg, NetCfg, NodeCfg};
 
@@ -40,7 +40,7 @@ fn node_at<'a>(cfg: &'a NetCfg, n: u8) -> &'a NodeCfg
 }
 
 // What a node brings to the bound of a hop.
-fn end_of(cfg: &NetCfg, n: u8, node: &NodeCfg) -> End
+fn end_of(cfg: &NetCfg, n: u8, node: &NodeCfg) -> NodeNumbers
     requires ranges { HasRanges cfg.now }
     requires tree { IsTree cfg.now }
     requires node { HasNodeRanges cfg.now.clock node.now }
@@ -52,7 +52,7 @@ fn end_of(cfg: &NetCfg, n: u8, node: &NodeCfg) -> End
     } else {
         0
     };
-    End {
+    NodeNumbers {
         e_tx: node.e_tx,
         e_tag: node.e_tag,
         rate,

@@ -11,7 +11,7 @@ const FIBRE_RATE: u128 = 2;
 
 /// What one end of a hop brings to its bound.
 #[derive(Clone, Copy, Debug)]
-pub struct End {
+pub struct NodeNumbers {
     /// The bound on a send stamp's error, in tau.
     pub e_tx: u64,
     /// The bound on a tag's error, in tau.
@@ -30,9 +30,9 @@ pub struct HopNumbers {
     /// The limit on the loop's error, in tau.
     pub loop_tau: u64,
     /// The node.
-    pub own: End,
+    pub own: NodeNumbers,
     /// The node above it.
-    pub parent: End,
+    pub parent: NodeNumbers,
     /// How far from the edge the node's beat bits may flicker, in detector steps.
     pub beat: u16,
     /// The asymmetry of the link's fibre.

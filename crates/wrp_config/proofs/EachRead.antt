@@ -31,7 +31,7 @@ use Rattle.wrp_config.specs.Same.{IsSettled, EachIsRead}
 use Rattle.wrp_config.specs.Tree as tree
 use Rattle.wrp_config.specs.Tree.{has_fault, NoneBefore, HasNoFault}
 use Rattle.wrp_config.specs.declared.network.Network.{Network}
-use Rattle.wrp_config.specs.declared.settings.Setting.TheVariants as se
+use Rattle.wrp_config.specs.declared.settings.NetworkKey.TheVariants as se
 use Rattle.wrp_config.specs.declared.tree.TreeFault.{TreeFault}
 use Rattle.wrp_config.specs.declared.tree.TreeFault.TheVariants.{NotATree, TwoSlaves, TooDeep}
 

@@ -14,7 +14,7 @@ use Rattle.wrp_config.specs.Accepted.{greatest, error_at_ends, law_error, all_de
 use Rattle.wrp_config.specs.Ends.{end_in, text_at}
 use Rattle.wrp_config.specs.Keys.{key_of, network_in, clock_in, e_tx_key, e_tag_key, beat_key, slew_key, held_key}
 use Rattle.wrp_config.specs.Links.{down_in, up_in}
-use Rattle.wrp_config.specs.declared.settings.Setting.TheVariants as se
+use Rattle.wrp_config.specs.declared.settings.NetworkKey.TheVariants as se
 
 -- Names, without what stands in their unused room
 

@@ -8,8 +8,8 @@ use Rattle.wrp_caldb.specs.Calibration.{version_key, module_key, fibre_key}
 use Rattle.wrp_caldb.specs.Database.{number_at}
 use Rattle.wrp_caldb.specs.Key.{Key, required_key, optional_key, default_key, defaulted_key, name_key}
 use Rattle.wrp_caldb.specs.declared.row.Sort.TheVariants as so
-use Rattle.wrp_config.specs.declared.settings.Setting.{Setting}
-use Rattle.wrp_config.specs.declared.settings.Setting.TheVariants as se
+use Rattle.wrp_config.specs.declared.settings.NetworkKey.{NetworkKey}
+use Rattle.wrp_config.specs.declared.settings.NetworkKey.TheVariants as se
 
 -- the text
 
@@ -37,7 +37,7 @@ abbrev pub number : List ℕ → ℕ → ℕ → ℕ → Key
 number name least greatest default = default_key name (pos least) (pos greatest) (pos default)
 
 -- the row of a number of `network`
-abbrev pub key_of : Setting → Key
+abbrev pub key_of : NetworkKey → Key
 key_of se.Epoch = number (codes "epoch") 1_000_000 34_359_738_368 1_000_000
 key_of se.Domain = number (codes "domain") 0 255 0
 key_of se.DminNs = number (codes "dmin_ns") 1_000 1_000_000_000 9_000_000

@@ -8,13 +8,13 @@ ghost use Rattle.wrp_caldb.specs.Name.{is_hex_digit};
 ghost use Rattle.wrp_config.specs.Config.{bare_node, hex_value, hex_number, identity_of, node_of, IsNetworkOf};
 ghost use Rattle.wrp_config.specs.Keys.{network_in, key_of, beat_key};
 ghost use Rattle.wrp_config.specs.Places.{IsTaken};
-ghost use Rattle.wrp_config.specs.declared.settings.Setting.TheVariants as se;
+ghost use Rattle.wrp_config.specs.declared.settings.NetworkKey.TheVariants as se;
 
 use crate::ends::text_at;
 use crate::greatest::Greatest;
 use crate::keys::{beat_row, clock_in, e_tag_row, e_tx_row, held_row, slew_row};
 use crate::links::links_of;
-use crate::settings::Setting;
+use crate::settings::NetworkKey;
 use arrayvec::ArrayVec;
 use toml::{Table, Value};
 use wrp_base::{Clock, NetCfg, NodeCfg};
@@ -98,7 +98,7 @@ fn nodes_of(clock: Clock, nodes: &[Value]) -> ArrayVec<NodeCfg, 64>
 }
 
 // A number of `network`.
-fn setting(network: &Table, setting: Setting) -> i64
+fn setting(network: &Table, setting: NetworkKey) -> i64
     ensures { result ≡ number_at (key_of setting) (table_view network.now) }
 {
     number(network, &setting.row())
@@ -124,18 +124,18 @@ fn servo_numbers(network: &Table) -> NetCfg
     ensures report { result.report ≡ number_at (key_of se.Report) (table_view network.now) }
 {
     NetCfg {
-        ring: setting(network, Setting::Ring),
-        track_tau: setting(network, Setting::TrackTau),
-        loop_tau: setting(network, Setting::LoopTau),
-        phase_step: setting(network, Setting::PhaseStep),
-        kp: setting(network, Setting::Kp),
-        ki: setting(network, Setting::Ki),
-        bias: setting(network, Setting::Bias),
-        threshold: setting(network, Setting::Threshold),
-        lock_samples: setting(network, Setting::LockSamples),
-        delock_samples: setting(network, Setting::DelockSamples),
-        stable: setting(network, Setting::Stable),
-        report: setting(network, Setting::Report),
+        ring: setting(network, NetworkKey::Ring),
+        track_tau: setting(network, NetworkKey::TrackTau),
+        loop_tau: setting(network, NetworkKey::LoopTau),
+        phase_step: setting(network, NetworkKey::PhaseStep),
+        kp: setting(network, NetworkKey::Kp),
+        ki: setting(network, NetworkKey::Ki),
+        bias: setting(network, NetworkKey::Bias),
+        threshold: setting(network, NetworkKey::Threshold),
+        lock_samples: setting(network, NetworkKey::LockSamples),
+        delock_samples: setting(network, NetworkKey::DelockSamples),
+        stable: setting(network, NetworkKey::Stable),
+        report: setting(network, NetworkKey::Report),
         ..NetCfg::default()
     }
 }
@@ -152,24 +152,24 @@ fn gathered(doc: &Table, network: &Table, lists: &Lists) -> NetCfg
     let nodes = tables_at(doc, "node");
     let greatest = Greatest::of_lists(lists);
     NetCfg {
-        epoch: setting(network, Setting::Epoch),
-        domain: setting(network, Setting::Domain),
-        dmin_ns: setting(network, Setting::DminNs),
-        dmax_ns: setting(network, Setting::DmaxNs),
-        life_ns: setting(network, Setting::LifeNs),
-        reach_ns: setting(network, Setting::ReachNs),
-        quiet: setting(network, Setting::Quiet),
-        holdover: setting(network, Setting::Holdover),
-        wait: setting(network, Setting::Wait),
-        lock_wait: setting(network, Setting::LockWait),
-        holdoff: setting(network, Setting::Holdoff),
-        lease: setting(network, Setting::Lease),
-        age: setting(network, Setting::Age),
-        retries: setting(network, Setting::Retries),
-        gap: setting(network, Setting::Gap),
-        announce: setting(network, Setting::Announce),
-        sync: setting(network, Setting::Sync),
-        delay: setting(network, Setting::Delay),
+        epoch: setting(network, NetworkKey::Epoch),
+        domain: setting(network, NetworkKey::Domain),
+        dmin_ns: setting(network, NetworkKey::DminNs),
+        dmax_ns: setting(network, NetworkKey::DmaxNs),
+        life_ns: setting(network, NetworkKey::LifeNs),
+        reach_ns: setting(network, NetworkKey::ReachNs),
+        quiet: setting(network, NetworkKey::Quiet),
+        holdover: setting(network, NetworkKey::Holdover),
+        wait: setting(network, NetworkKey::Wait),
+        lock_wait: setting(network, NetworkKey::LockWait),
+        holdoff: setting(network, NetworkKey::Holdoff),
+        lease: setting(network, NetworkKey::Lease),
+        age: setting(network, NetworkKey::Age),
+        retries: setting(network, NetworkKey::Retries),
+        gap: setting(network, NetworkKey::Gap),
+        announce: setting(network, NetworkKey::Announce),
+        sync: setting(network, NetworkKey::Sync),
+        delay: setting(network, NetworkKey::Delay),
         clock,
         nodes: nodes_of(clock, nodes),
         links: links_of(nodes, lists, tables_at(doc, "link")),

@@ -14,7 +14,7 @@ use Rattle.wrp_phase.specs.Beat.{beat_bit}
 use Rattle.wrp_phase.specs.BeatPattern.{KeepsBeatPattern, true_step, steps_past}
 use Rattle.wrp_stamp.specs.Merge.{quarter_of}
 use Rattle.wrp_stamp.specs.StampBound.{KeepsStampBound, true_place, MayUseRising, MayUseFalling}
-use Rattle.wrp_course.specs.Checks.{Check, AllHold, only_where, stands}
+use Rattle.wrp_course.specs.Checks.{Check, AllHold, only_where, needs}
 use Rattle.wrp_course.specs.Laws.{ArrivalKeepsStampBound, SampleKeepsBeatPattern}
 use Rattle.wrp_course.specs.Premises.{bit_check, beat_by, beat_checks, sample_checks, raw_checks, received, received_at, arrive_checks, transition_of, may_rise, may_fall}
 use Rattle.wrp_course.specs.Setting.{Setting, entry_at, from_on, link_of, of_node}
@@ -39,7 +39,7 @@ holds_from f k i h l =
     subst (λ n. (f n).fails ≡ false) e (holds_at f k 0 i h l)
 
 -- what the event needs stands
-stood : (b : Bool) → AllHold (stands b ∷ []) → b ≡ true
+stood : (b : Bool) → AllHold (needs b ∷ []) → b ≡ true
 stood true h = refl
 stood false h = absurd (true≢false h.0)
 
@@ -81,9 +81,9 @@ pattern clock beat base bits phase h = record {
       (right_of _ _ _ (holds_from (bit_check (steps_past (true_step clock phase) base) beat bits) 64 i h l) (is_at_most _ _ e));
 }
 
-sample_beats : (s : Setting) (w : WorldAt) (n base bits k : ℕ) (b : Bool) (beats : List Check) → AllHold (map (only_where b) beats ++ (stands b ∷ [])) → AllHold beats
+sample_beats : (s : Setting) (w : WorldAt) (n base bits k : ℕ) (b : Bool) (beats : List Check) → AllHold (map (only_where b) beats ++ (needs b ∷ [])) → AllHold beats
 sample_beats s w n base bits k b beats h =
-    let parts : AllHold (map (only_where b) beats) × AllHold (stands b ∷ []) = split (map (only_where b) beats) (stands b ∷ []) h in
+    let parts : AllHold (map (only_where b) beats) × AllHold (needs b ∷ []) = split (map (only_where b) beats) (needs b ∷ []) h in
     subst AllHold (ap (λ c. map (only_where c) beats) (stood b parts.1) ∙ made beats) parts.0
 
 pub sample_keeps : SampleKeepsBeatPattern
@@ -122,7 +122,7 @@ bound clock e_tag transition at raw h = record {
 }
 
 on_fibre : (s : Setting) (w : WorldAt) (i : ℕ) (raw : Raw) (f : FrameAt) (b : Bool) → AllHold (arrive_checks s w i raw b (Some f)) → AllHold (received s w f raw)
-on_fibre s w i raw f true h = (split (received s w f raw) (stands (has_carrier s w f.link) ∷ []) h.1).0
+on_fibre s w i raw f true h = (split (received s w f raw) (needs (has_carrier s w f.link) ∷ []) h.1).0
 on_fibre s w i raw f false h = absurd (true≢false h.0)
 
 pub arrival_keeps : ArrivalKeepsStampBound

@@ -22,7 +22,7 @@ use Rattle.wrp_node.specs.NodeAt.{NodeAt, link_at, numbers_of}
 use Rattle.wrp_course.specs.declared.event.Event.{Event}
 use Rattle.wrp_course.specs.declared.event.Event.TheVariants.{Pass, Tick, Sample, Depart, Arrive, Deliver, Noise, Down, Up, Cut, Join}
 use Rattle.wrp_course.specs.declared.place.Place.{Place}
-use Rattle.wrp_course.specs.Earned.{AllHaveEarned, AreTrueReports, IsTrueReport, LinkOnIsEarned, ReportsAreTrue}
+use Rattle.wrp_course.specs.Earned.{AllHaveEarned, AreTrueReports, IsEarnedReport, EveryLinkOnIsEarned, ReportsAreTrue}
 use Rattle.wrp_course.specs.Setting.{has_port}
 use Rattle.wrp_course.proofs.DroppedFrames.{NoFrame}
 use Rattle.wrp_course.specs.Given.{Given, comes_from, delivered, delivered_by, delivered_to, event_steps, given_by, gives, gives_all, goes_from, node_step_of, step_of, steps_of, taken_of, world_step}
@@ -45,7 +45,7 @@ slave_on s w n p r own link at same slave on =
     let is : end_of Slave link ≡ end_with n p = ap (end_of Slave) (sym same) ∙ ap (λ (q : Role). end_of q own) (sym slave) ∙ at in
     subst (λ (end : End). (link_at (s.set end.node) (w.node end.node) end.port).state ≡ LinkOn) (sym is) on
 
-pub link_on_is_earned : LinkOnInTheSameHandshake → LinkOnWithTheDeltas → LinkOnIsEarned
+pub link_on_is_earned : LinkOnInTheSameHandshake → LinkOnWithTheDeltas → EveryLinkOnIsEarned
 link_on_is_earned handshake deltas s events run n p place at on = record {
   handshake = handshake s events n p place run at on;
   deltas = λ link slave is.
@@ -56,14 +56,14 @@ link_on_is_earned handshake deltas s events run n p place at on = record {
 
 -- Inputs that are no frames
 
-true_report : (s : Setting) (w : WorldAt) (n : ℕ) (o : Output) → NotOn o → IsTrueReport s w n o
+true_report : (s : Setting) (w : WorldAt) (n : ℕ) (o : Output) → NotOn o → IsEarnedReport s w n o
 true_report s w n (Report (Link p (In LinkOn))) h = absurd h
 true_report s w n _ h = tt
 
 quiet_steps : StepGivesLinks → (s : Setting) (y : ℤ) (w : WorldAt) (gs : List Given) (v : WorldAt) → AllGiven NoFrame gs → AllByRecursion (AreTrueReports s w) (steps_of s y v gs)
 quiet_steps links s y w [] v h = tt
 quiet_steps links s y w (g ∷ gs) v h = (
-  all_weaker NotOn (IsTrueReport s w g.to) (true_report s w g.to) (node_step_of s y v g).outs (quiet_step links (node_setting_of s g.to) (taken_of y g) (v.node g.to) h.0),
+  all_weaker NotOn (IsEarnedReport s w g.to) (true_report s w g.to) (node_step_of s y v g).outs (quiet_step links (node_setting_of s g.to) (taken_of y g) (v.node g.to) h.0),
   quiet_steps links s y w gs (gives s y v g) h.1,
 )
 
@@ -82,7 +82,7 @@ node_here : (s : Setting) (y : ℤ) (v : WorldAt) (g : Given) → (gives s y v g
 node_here s y v g = ap (λ (b : Bool). if b then (step_of s y v g).node else v.node g.to) (eq_self g.to)
 
 reported : (s : Setting) (y : ℤ) (v : WorldAt) (g : Given) → IsNetwork s → AllHaveEarned s (gives s y v g) → (o : Output) → WordSo (node_setting_of s g.to) (v.node g.to) (step_of s y v g) o →
-    IsTrueReport s (gives s y v g) g.to o
+    IsEarnedReport s (gives s y v g) g.to o
 reported s y v g net earned (Report (Link p (In LinkOn))) h =
     let at : (place : Place) × (place_of s g.to p ≡ Some place) = placed_port s g.to p net h.port in
     let on : state_at s (gives s y v g) g.to p ≡ LinkOn =
@@ -92,7 +92,7 @@ reported s y v g net earned _ h = tt
 
 one_step : (s : Setting) (y : ℤ) (v : WorldAt) (g : Given) → IsNetwork s → AllHaveEarned s (gives s y v g) → AllByRecursion (AreTrueReports s (gives s y v g)) (steps_of s y v (g ∷ []))
 one_step s y v g net earned = (
-  all_weaker (WordSo (node_setting_of s g.to) (v.node g.to) (step_of s y v g)) (IsTrueReport s (gives s y v g) g.to) (reported s y v g net earned) (node_step_of s y v g).outs
+  all_weaker (WordSo (node_setting_of s g.to) (v.node g.to) (step_of s y v g)) (IsEarnedReport s (gives s y v g) g.to) (reported s y v g net earned) (node_step_of s y v g).outs
       (outputs_so (node_setting_of s g.to) g.input (v.node g.to) (step_of s y v g)),
   tt,
 )
@@ -139,6 +139,6 @@ event_true links s says y w (Join k ms sm) net earned =
     let v : WorldAt = moved s w (Join k ms sm) in
     quiet links s says y w (Join k ms sm) (all_if NoFrame (has_carrier s v k) (comes_from s v k Master) (comes_all NoFrame (λ p m. refl) s v k Master))
 
-pub reports_are_true : StepGivesLinks → LinkOnIsEarned → ReportsAreTrue
+pub reports_are_true : StepGivesLinks → EveryLinkOnIsEarned → ReportsAreTrue
 reports_are_true links earned s h before run =
     event_true links s h.says h.answer (world_after s before) h.event run.network (earned s (h ∷ before) run)

@@ -8,7 +8,7 @@ use Rattle.wrp_base.specs.declared.network.LinkCfg.{LinkCfg}
 use Rattle.wrp_base.specs.Network.{End, other_of}
 use Rattle.wrp_base.proofs.Naturals.{eq_self}
 use Rattle.wrp_bounds.specs.Times.{shortest_tick, frame_life}
-use Rattle.wrp_handshake.specs.Ends.{heard}
+use Rattle.wrp_handshake.specs.Ends.{after_input}
 use Rattle.wrp_link.specs.declared.interface.LinkIn.TheVariants as link_in
 use Rattle.wrp_node.specs.declared.interface.Input.TheVariants.{Carrier}
 use Rattle.wrp_node.specs.LinkNews.{Nothing, Given as Handed, StepGivesLinks}
@@ -29,7 +29,7 @@ end_alike a b n p = λ i. record { node = n i; port = p i }
 
 -- the port that it comes to
 pub lit_here : StepGivesLinks → SignalsAreOfLink → (s : Setting) (y : ℤ) (v : WorldAt) (end : End) (m : Option Module) (k : ℕ) (r : Role) → end_at s k r ≡ Some end →
-    port_at s (gives s y v (comes_to end m)) k r end ≡ heard v.time (port_at s v k r end) (link_in.CarrierUp m) (pos 0)
+    port_at s (gives s y v (comes_to end m)) k r end ≡ after_input v.time (port_at s v k r end) (link_in.CarrierUp m) (pos 0)
 lit_here links signals s y v end m k r is =
     port_given links signals s y v (comes_to end m) k r end is refl
     ∙ ap (λ b. port_by_news v.time (port_at s v k r end) (pos 0) (if b then Handed (link_in.CarrierUp m) else Nothing)) (eq_self end.port)
@@ -68,7 +68,7 @@ pair_lights links signals s placed y v k link Master m n is two can =
     (lit_other links signals s y first (end_of Slave link) (end_of Master link) n k Master up (nodes_apart link two)
     ∙ lit_here links signals s y v (end_of Master link) m k Master up)
     (lit_here links signals s y first (end_of Slave link) n k Slave low
-    ∙ ap (λ q. heard v.time q (link_in.CarrierUp n) (pos 0)) (lit_other links signals s y v (end_of Master link) (end_of Slave link) m k Slave low (λ e. nodes_apart link two (sym e))))
+    ∙ ap (λ q. after_input v.time q (link_in.CarrierUp n) (pos 0)) (lit_other links signals s y v (end_of Master link) (end_of Slave link) m k Slave low (λ e. nodes_apart link two (sym e))))
     (carriers_come (frame_life s.cfg) (shortest_tick s.cfg) placed (ends_at s v k link) m n can)
 pair_lights links signals s placed y v k link Slave m n is two can =
     let up : end_at s k Master ≡ Some (end_of Master link) = end_is s k Master link is in
@@ -76,7 +76,7 @@ pair_lights links signals s placed y v k link Slave m n is two can =
     let first : WorldAt = gives s y v (comes_to (end_of Slave link) m) in
     with_ports s (of_both n m) (gives s y first (comes_to (end_of Master link) n)) k link v.time _ _ refl
     (lit_here links signals s y first (end_of Master link) n k Master up
-    ∙ ap (λ q. heard v.time q (link_in.CarrierUp n) (pos 0)) (lit_other links signals s y v (end_of Slave link) (end_of Master link) m k Master up (nodes_apart link two)))
+    ∙ ap (λ q. after_input v.time q (link_in.CarrierUp n) (pos 0)) (lit_other links signals s y v (end_of Slave link) (end_of Master link) m k Master up (nodes_apart link two)))
     (lit_other links signals s y first (end_of Master link) (end_of Slave link) n k Slave low (λ e. nodes_apart link two (sym e))
     ∙ lit_here links signals s y v (end_of Slave link) m k Slave low)
     (carriers_come (frame_life s.cfg) (shortest_tick s.cfg) placed (ends_at s v k link) n m can)

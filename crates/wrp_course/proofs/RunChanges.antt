@@ -17,7 +17,7 @@ use Rattle.wrp_course.specs.declared.event.Event.{Event}
 use Rattle.wrp_course.specs.declared.event.Event.TheVariants.{Down, Up, Cut, Join}
 use Rattle.wrp_course.specs.declared.event.Swap.{Swap}
 use Rattle.wrp_course.specs.declared.fibres.FibreState.{FibreState}
-use Rattle.wrp_course.specs.Checks.{Holds, stands}
+use Rattle.wrp_course.specs.Checks.{Holds, needs}
 use Rattle.wrp_course.specs.EventAt.{IsEventOf}
 use Rattle.wrp_course.specs.Given.{Given, at_ports, comes_from, given_plain, gives, gives_all, goes_from, world_step}
 use Rattle.wrp_course.specs.Moved.{moved}
@@ -173,7 +173,7 @@ join_carrier s w l ms sm k out =
     ap (λ b. (if b then record { joined = true; ms = ms; sm = sm } else w.fibre k).joined && ends_are_up w.clock (link_of s k)) (not_equal k l out)
 
 pub not_joined : (s : Setting) (w : WorldAt) (says : Result PtpMsg FrameFault) (l : ℕ) (ms sm : ℤ) → Accepts s w says (Join l ms sm) → not (not (w.fibre l).joined) ≡ false
-not_joined s w says l ms sm a = (all_right Holds (fibre_kept s (moved s w (Join l ms sm)) l) (stands (not (w.fibre l).joined) ∷ []) a).0
+not_joined s w says l ms sm a = (all_right Holds (fibre_kept s (moved s w (Join l ms sm)) l) (needs (not (w.fibre l).joined) ∷ []) a).0
 
 was_dark : (j up : Bool) → not (not j) ≡ false → (j && up) ≡ false
 was_dark true up e = absurd (not_both true refl e)

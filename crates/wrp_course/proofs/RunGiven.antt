@@ -14,7 +14,7 @@ use Rattle.wrp_base.specs.Network.{End, other_of}
 use Rattle.wrp_bounds.specs.Times.{shortest_tick, frame_life}
 use Rattle.wrp_data.specs.declared.reason.Reason.{Reason}
 use Rattle.wrp_frame.specs.declared.fault.FrameFault.{FrameFault}
-use Rattle.wrp_handshake.specs.Ends.{Port, Ends, Sending as Message, Change, Passes, Hears, Starts, Lights, IsAmong, IsNoCarrier, MayHear, MayCome, CanBe, placed_at, placed_by, changed, heard, marked, port_by, with_end, end_of as port_of}
+use Rattle.wrp_handshake.specs.Ends.{Port, BothPorts, Sending as Message, Change, Passes, Hears, Starts, Lights, IsAmong, IsNoCarrier, MayHear, MayCome, CanBe, placed_at, placed_by, changed, after_input, marked, port_by, with_end, end_of as port_of}
 use Rattle.wrp_link.specs.declared.interface.LinkIn.TheVariants as link_in
 use Rattle.wrp_link.specs.LinkAt.{LinkAt, new_link}
 use Rattle.wrp_link.specs.Rows.{CarrierGoes, under}
@@ -35,11 +35,11 @@ use Rattle.wrp_course.proofs.RunPorts.{link_dark, port_by_news, port_given, port
 -- A link that can be, and one change more
 
 -- a link that can be, at whose ends these modules were in place as the carriers last came
-pub record CanHave (life dmin : ℕ) (placed : Role → Option Module) (ends : Ends) : Type 0 where
+pub record CanHave (life dmin : ℕ) (placed : Role → Option Module) (ends : BothPorts) : Type 0 where
   pub can : CanBe life dmin ends
   pub modules : (r : Role) → placed_at can.changes r ≡ placed r
 
-pub same_can : (life dmin : ℕ) (placed : Role → Option Module) (ends other : Ends) → other ≡ ends → CanHave life dmin placed ends → CanHave life dmin placed other
+pub same_can : (life dmin : ℕ) (placed : Role → Option Module) (ends other : BothPorts) → other ≡ ends → CanHave life dmin placed ends → CanHave life dmin placed other
 same_can life dmin placed ends other e h = record {
   can = record {
     of_master = h.can.of_master;
@@ -65,7 +65,7 @@ stay_placed (Hears role input at) r before h = refl
 stay_placed (Starts role) r before h = refl
 stay_placed (Lights of_master of_slave) r before h = absurd h
 
-abbrev with_change : (life dmin : ℕ) (ends : Ends) (change : Change) → CanBe life dmin ends → MayCome life dmin ends change → CanBe life dmin (changed ends change)
+abbrev with_change : (life dmin : ℕ) (ends : BothPorts) (change : Change) → CanBe life dmin ends → MayCome life dmin ends change → CanBe life dmin (changed ends change)
 with_change life dmin ends change can may = record {
   of_master = can.of_master;
   of_slave = can.of_slave;
@@ -77,7 +77,7 @@ with_change life dmin ends change can may = record {
   is = ap (λ e. changed e change) can.is;
 }
 
-pub one_more : (life dmin : ℕ) (placed : Role → Option Module) (ends : Ends) (change : Change) → LightsNone change → CanHave life dmin placed ends → MayCome life dmin ends change →
+pub one_more : (life dmin : ℕ) (placed : Role → Option Module) (ends : BothPorts) (change : Change) → LightsNone change → CanHave life dmin placed ends → MayCome life dmin ends change →
     CanHave life dmin placed (changed ends change)
 one_more life dmin placed ends change none h may = record {
   can = with_change life dmin ends change h.can may;
@@ -93,7 +93,7 @@ now_placed : (m n before : Option Module) (r : Role) → placed_by (Lights m n) 
 now_placed m n before Master = refl
 now_placed m n before Slave = refl
 
-pub carriers_come : (life dmin : ℕ) (placed : Role → Option Module) (ends : Ends) (m n : Option Module) → CanHave life dmin placed ends → CanHave life dmin (of_both m n) (changed ends (Lights m n))
+pub carriers_come : (life dmin : ℕ) (placed : Role → Option Module) (ends : BothPorts) (m n : Option Module) → CanHave life dmin placed ends → CanHave life dmin (of_both m n) (changed ends (Lights m n))
 carriers_come life dmin placed ends m n h = record {
   can = with_change life dmin ends (Lights m n) h.can tt;
   modules = λ r. now_placed m n (placed_at h.can.changes r) r;
@@ -108,7 +108,7 @@ NewsMay life dmin time q peer at Renewed = Unit {0}
 
 -- to begin anew is to lose the carrier, or nothing where there is none
 
-begins_lit : (time : ℤ) (q : Port) (at : ℤ) → q.link.carrier ≡ true → port_by_news time q at Renewed ≡ heard time q link_in.CarrierDown at
+begins_lit : (time : ℤ) (q : Port) (at : ℤ) → q.link.carrier ≡ true → port_by_news time q at Renewed ≡ after_input time q link_in.CarrierDown at
 begins_lit time q at e = sym (ap (λ b. port_by time q link_in.CarrierDown at (under b CarrierGoes)) e)
 
 begins_dark : (time : ℤ) (q : Port) (at : ℤ) → IsDark q.link → q.link.carrier ≡ false → port_by_news time q at Renewed ≡ q
@@ -116,20 +116,20 @@ begins_dark time q at dark e =
     let new : q.link ≡ new_link q.link.role q.link.set = dark e in
     port_is (port_by_news time q at Renewed) q (sym new) refl (ap (λ (l : LinkAt). marked time l.state Idle None q.marks) new) refl
 
-same_ends : (life dmin : ℕ) (placed : Role → Option Module) (ends : Ends) (role : Role) (q : Port) → q ≡ port_of ends role → CanHave life dmin placed ends → CanHave life dmin placed (with_end ends role q)
+same_ends : (life dmin : ℕ) (placed : Role → Option Module) (ends : BothPorts) (role : Role) (q : Port) → q ≡ port_of ends role → CanHave life dmin placed ends → CanHave life dmin placed (with_end ends role q)
 same_ends life dmin placed ends Master q e h = same_can life dmin placed ends (with_end ends Master q) (ap (with_end ends Master) e) h
 same_ends life dmin placed ends Slave q e h = same_can life dmin placed ends (with_end ends Slave q) (ap (with_end ends Slave) e) h
 
-renewed_keeps : (life dmin : ℕ) (placed : Role → Option Module) (ends : Ends) (role : Role) (at : ℤ) (b : Bool) → (port_of ends role).link.carrier ≡ b → CanHave life dmin placed ends → IsDark (port_of ends role).link →
+renewed_keeps : (life dmin : ℕ) (placed : Role → Option Module) (ends : BothPorts) (role : Role) (at : ℤ) (b : Bool) → (port_of ends role).link.carrier ≡ b → CanHave life dmin placed ends → IsDark (port_of ends role).link →
     CanHave life dmin placed (with_end ends role (port_by_news ends.time (port_of ends role) at Renewed))
 renewed_keeps life dmin placed ends role at true e h dark =
-    same_can life dmin placed (with_end ends role (heard ends.time (port_of ends role) link_in.CarrierDown at)) (with_end ends role (port_by_news ends.time (port_of ends role) at Renewed))
+    same_can life dmin placed (with_end ends role (after_input ends.time (port_of ends role) link_in.CarrierDown at)) (with_end ends role (port_by_news ends.time (port_of ends role) at Renewed))
     (ap (with_end ends role) (begins_lit ends.time (port_of ends role) at e))
     (one_more life dmin placed ends (Hears role link_in.CarrierDown at) tt h (tt, tt))
 renewed_keeps life dmin placed ends role at false e h dark =
     same_ends life dmin placed ends role (port_by_news ends.time (port_of ends role) at Renewed) (begins_dark ends.time (port_of ends role) at dark e) h
 
-pub news_keep : (life dmin : ℕ) (placed : Role → Option Module) (ends : Ends) (role : Role) (at : ℤ) (news : LinkNews) → CanHave life dmin placed ends → IsDark (port_of ends role).link →
+pub news_keep : (life dmin : ℕ) (placed : Role → Option Module) (ends : BothPorts) (role : Role) (at : ℤ) (news : LinkNews) → CanHave life dmin placed ends → IsDark (port_of ends role).link →
     NewsMay life dmin ends.time (port_of ends role) (port_of ends (other_of role)) at news → CanHave life dmin placed (with_end ends role (port_by_news ends.time (port_of ends role) at news))
 news_keep life dmin placed ends role at Nothing h dark may = same_ends life dmin placed ends role (port_of ends role) refl h
 news_keep life dmin placed ends role at (Handed input) h dark may = one_more life dmin placed ends (Hears role input at) tt h may
@@ -213,7 +213,7 @@ input_may s v g Reset k r end peer is e sent f = tt
 abbrev pub LinkCan : Setting → (Role → Option Module) → WorldAt → ℕ → LinkCfg → Type 0
 LinkCan s placed w k link = CanHave (frame_life s.cfg) (shortest_tick s.cfg) placed (ends_at s w k link)
 
-abbrev pub ends_with : ℤ → Port → Port → Ends
+abbrev pub ends_with : ℤ → Port → Port → BothPorts
 ends_with time master slave = record { time = time; master = master; slave = slave }
 
 pub with_ports : (s : Setting) (placed : Role → Option Module) (w : WorldAt) (k : ℕ) (link : LinkCfg) (time : ℤ) (master slave : Port) → w.time ≡ time → port_at s w k Master (end_of Master link) ≡ master →

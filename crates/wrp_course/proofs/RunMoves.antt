@@ -7,7 +7,7 @@ use Rattle.wrp_base.specs.declared.link.Role.TheVariants.{Master, Slave}
 use Rattle.wrp_base.specs.declared.network.LinkCfg.{LinkCfg}
 use Rattle.wrp_base.specs.Network.{End}
 use Rattle.wrp_bounds.specs.Times.{shortest_tick, frame_life}
-use Rattle.wrp_handshake.specs.Ends.{Port, Ends, Passes, Starts, with_end, end_of as port_of}
+use Rattle.wrp_handshake.specs.Ends.{Port, BothPorts, Passes, Starts, with_end, end_of as port_of}
 use Rattle.wrp_course.specs.declared.clocks.ClockState.{ClockState}
 use Rattle.wrp_course.specs.declared.event.Event.{Event}
 use Rattle.wrp_course.specs.declared.event.Event.TheVariants.{Pass, Tick, Sample, Depart, Arrive, Deliver, Noise, Down, Up, Cut, Join}
@@ -50,7 +50,7 @@ moved_port s w e k r end =
 
 -- The nodes of a link that start
 
-starts_if : (life dmin : ℕ) (placed : Role → Option Module) (ends : Ends) (role : Role) (b : Bool) → CanHave life dmin placed ends →
+starts_if : (life dmin : ℕ) (placed : Role → Option Module) (ends : BothPorts) (role : Role) (b : Bool) → CanHave life dmin placed ends →
     CanHave life dmin placed (with_end ends role (with_tick (port_of ends role) (if b then ends.time else (port_of ends role).ticked)))
 starts_if life dmin placed ends Master true can = one_more life dmin placed ends (Starts Master) tt can tt
 starts_if life dmin placed ends Master false can = can

@@ -12,7 +12,7 @@ use Rattle.wrp_base.specs.Network.{End}
 use Rattle.wrp_base.proofs.Naturals.{eq_self}
 use Rattle.wrp_data.specs.declared.reason.Reason.{Reason}
 use Rattle.wrp_frame.specs.declared.fault.FrameFault.{FrameFault}
-use Rattle.wrp_handshake.specs.Ends.{Port, Sending as Message, stamped, mover_of as mover_in, marked, heard}
+use Rattle.wrp_handshake.specs.Ends.{Port, Sending as Message, stamped, mover_of as mover_in, marked, after_input}
 use Rattle.wrp_link.specs.declared.interface.LinkIn.TheVariants as link_in
 use Rattle.wrp_link.specs.LinkAt.{new_link}
 use Rattle.wrp_link.specs.Table.{by_row}
@@ -53,7 +53,7 @@ link_dark s v n p = run_dark (setting_of (s.set n) p).ds.role (setting_of (s.set
 
 abbrev pub port_by_news : ℤ → Port → ℤ → LinkNews → Port
 port_by_news time q at Nothing = q
-port_by_news time q at (Handed input) = heard time q input at
+port_by_news time q at (Handed input) = after_input time q input at
 port_by_news time q at Renewed = record q { link = new_link q.link.role q.link.set; marks = marked time q.link.state Idle None q.marks }
 
 link_by_news : (time : ℤ) (set : PortSetting) (q : Port) (at : ℤ) (news : LinkNews) → q.link.role ≡ set.ds.role → q.link.set ≡ set.link →

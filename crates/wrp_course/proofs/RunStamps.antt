@@ -13,7 +13,7 @@ use Rattle.wrp_frame.specs.declared.fault.FrameFault.{FrameFault}
 use Rattle.wrp_course.specs.declared.event.Event.{Event}
 use Rattle.wrp_course.specs.declared.event.Event.TheVariants.{Pass, Tick, Sample, Depart, Arrive, Deliver, Noise, Down, Up, Cut, Join}
 use Rattle.wrp_course.specs.declared.place.Place.{Place}
-use Rattle.wrp_course.specs.Checks.{AllHold, Holds, stands}
+use Rattle.wrp_course.specs.Checks.{AllHold, Holds, needs}
 use Rattle.wrp_course.specs.Given.{Given, given_by, gives, gives_all}
 use Rattle.wrp_course.specs.Laws.{ArrivalKeepsStampBound}
 use Rattle.wrp_course.specs.Moved.{arrived, departing, frame_after, moved, removed, samples_at, waiting_at}
@@ -163,7 +163,7 @@ arrives_by bound s before h says j i raw f g gone true e a is_g is_f c k =
 arrives_by bound s before h says j i raw f g gone false e a is_g is_f c k = told_more s before h f gone k
 
 carried_of : (s : Setting) (w : WorldAt) (j : ℕ) (raw : Raw) (b : Bool) (g : FrameAt) → AllHold (arrive_checks s w j raw b (Some g)) → has_carrier s w g.link ≡ true
-carried_of s w j raw true g a = not-false (has_carrier s w g.link) (all_right Holds (received s w g raw) (stands (has_carrier s w g.link) ∷ []) a.1).0
+carried_of s w j raw true g a = not-false (has_carrier s w g.link) (all_right Holds (received s w g raw) (needs (has_carrier s w g.link) ∷ []) a.1).0
 carried_of s w j raw false g a = absurd (true≢false a.0)
 
 arrives : ArrivalKeepsStampBound → (s : Setting) (before : List Happened) (h : Happened) (says : Result PtpMsg FrameFault) (j i : ℕ) (raw : Raw) (o p : Option FrameAt) →

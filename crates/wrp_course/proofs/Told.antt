@@ -2,7 +2,7 @@
 use Rattle.std.proofs.Common.{◌≡◌, ◌∙◌, refl, ap, sym, ℕ, zero, suc, ◌+◌, ◌-◌, ◌<◌, ◌≤◌, Bool, true, false, if◌then◌else◌, List, [], ◌∷◌, ◌++◌, map, flat_map, drop, length, slice_index_or, Option, None, Some, option_map, arith}
 use Rattle.std.specs.Option.{option_or}
 use Rattle.wrp_frame.proofs.Walk.{or_none}
-use Rattle.wrp_course.specs.Checks.{Check, first_broken, breach_of, told_of, only_where, stands}
+use Rattle.wrp_course.specs.Checks.{Check, first_broken, breach_of, told_of, only_where, needs}
 use Rattle.wrp_course.specs.declared.breach.Breach.{Breach}
 use Rattle.wrp_course.specs.Setting.{from_on}
 
@@ -34,8 +34,8 @@ told_three a b c =
     ∙ or_or (told_of (a ∷ [])) (told_of (b ∷ [])) (told_of (c ∷ []))
 
 -- where what the event needs stands, the other checks are told
-pub told_standing : (xs : List Check) → told_of (xs ++ (stands true ∷ [])) ≡ told_of xs
-told_standing xs = told_append xs (stands true ∷ []) ∙ or_none (told_of xs)
+pub told_standing : (xs : List Check) → told_of (xs ++ (needs true ∷ [])) ≡ told_of xs
+told_standing xs = told_append xs (needs true ∷ []) ∙ or_none (told_of xs)
 
 -- checks that are made, and checks that are not
 pub made : (checks : List Check) → map (only_where true) checks ≡ checks

@@ -30,8 +30,8 @@ abbrev pub size_of : ℤ → ℤ
 size_of x = pos (unsigned_abs x)
 
 -- 13, NotUp: what the event needs stands
-abbrev pub stands : Bool → Check
-stands holds = record { premise = 13; fails = not holds; shown = pos 0; bound = pos 1 }
+abbrev pub needs : Bool → Check
+needs holds = record { premise = 13; fails = not holds; shown = pos 0; bound = pos 1 }
 
 -- 11, NotSent: there is no such frame; shown is its number, and bound the last number that was given
 abbrev pub not_sent : ℕ → ℕ → Check

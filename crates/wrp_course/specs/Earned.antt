@@ -43,17 +43,17 @@ pub record IsOn (s : Setting) (w : WorldAt) (n p : ℕ) : Type 0 where
   pub earned : HasEarned s w place
 
 -- what a node puts out is no report of WR_LINK_ON, or one of a port that is there and has earned it
-abbrev pub IsTrueReport : Setting → WorldAt → ℕ → Output → Type 0
-IsTrueReport s w n (Report (Link p (In LinkOn))) = IsOn s w n p
-IsTrueReport s w n _ = Unit {0}
+abbrev pub IsEarnedReport : Setting → WorldAt → ℕ → Output → Type 0
+IsEarnedReport s w n (Report (Link p (In LinkOn))) = IsOn s w n p
+IsEarnedReport s w n _ = Unit {0}
 
 -- the same of all that a node puts out in a step
 abbrev pub AreTrueReports : Setting → WorldAt → NodeStepAt → Type 0
-AreTrueReports s w step = AllByRecursion (IsTrueReport s w step.node) step.outs
+AreTrueReports s w step = AllByRecursion (IsEarnedReport s w step.node) step.outs
 
 -- after every event each port in WR_LINK_ON has earned it
-abbrev pub LinkOnIsEarned : Type 0
-LinkOnIsEarned = (s : Setting) (events : List Happened) → IsRun s events → AllHaveEarned s (world_after s events)
+abbrev pub EveryLinkOnIsEarned : Type 0
+EveryLinkOnIsEarned = (s : Setting) (events : List Happened) → IsRun s events → AllHaveEarned s (world_after s events)
 
 -- whatever port the nodes report to be in WR_LINK_ON in an event is there after it, and has earned it
 abbrev pub ReportsAreTrue : Type 0

@@ -5,7 +5,7 @@ use Rattle.wrp_base.specs.declared.link.Role.{Role}
 use Rattle.wrp_base.specs.declared.link.Role.TheVariants.{Master, Slave}
 use Rattle.wrp_base.specs.declared.network.LinkCfg.{LinkCfg}
 use Rattle.wrp_base.specs.Network.{End}
-use Rattle.wrp_handshake.specs.Ends.{Port, Ends, Sending as Message}
+use Rattle.wrp_handshake.specs.Ends.{Port, BothPorts, Sending as Message}
 use Rattle.wrp_node.specs.NodeAt.{link_at}
 use Rattle.wrp_course.specs.Given.{in_body}
 use Rattle.wrp_course.specs.Setting.{Setting, end_of, entry_at}
@@ -31,7 +31,7 @@ port_at s w k r end = record {
 }
 
 -- both ends of a link
-abbrev pub ends_at : Setting → WorldAt → ℕ → LinkCfg → Ends
+abbrev pub ends_at : Setting → WorldAt → ℕ → LinkCfg → BothPorts
 ends_at s w k link =
     record { time = w.time; master = port_at s w k Master (end_of Master link); slave = port_at s w k Slave (end_of Slave link) }
 

@@ -29,7 +29,7 @@ use Rattle.wrp_course.specs.declared.event.Event.TheVariants.{Pass, Tick, Sample
 use Rattle.wrp_course.specs.declared.event.Swap.{Swap}
 use Rattle.wrp_course.specs.declared.clocks.ClockState.{ClockState}
 use Rattle.wrp_course.specs.declared.fibres.FibreState.{FibreState}
-use Rattle.wrp_course.specs.Checks.{Check, at_most, at_least, only_where, size_of, stands, not_sent, AllHold, first_broken}
+use Rattle.wrp_course.specs.Checks.{Check, at_most, at_least, only_where, size_of, needs, not_sent, AllHold, first_broken}
 use Rattle.wrp_course.specs.Moved.{moved, waiting_at, drift_of, move_of}
 use Rattle.wrp_course.specs.declared.place.Place.{Place}
 use Rattle.wrp_course.specs.Setting.{Setting, above, end_at, entry_at, node_setting_of, from_on, link_of, links_of, nodes_of, of_node, place_of}
@@ -145,11 +145,11 @@ too_old cfg now sending = at_most 10 (now -ℤ sending.at) (pos (frame_life cfg)
 -- the checks of a Depart: a port at no link breaks 13, one where nothing waits breaks 11; else the stamp is within e_tx
 -- of the node's reading, in tau (7), the frame is not too old (10), and the link has its carrier (13)
 abbrev pub depart_checks : Setting → WorldAt → ℕ → ℤ → Option Place → List Sending → List Check
-depart_checks s w n stamp None waiting = stands false ∷ []
+depart_checks s w n stamp None waiting = needs false ∷ []
 depart_checks s w n stamp (Some place) [] = not_sent 0 w.departed ∷ []
 depart_checks s w n stamp (Some place) (oldest ∷ rest) =
     at_most 7 (size_of (stamp -ℤ reading w n)) (pos (of_node (λ node. node.e_tx) s n))
-    ∷ (too_old s.cfg w.time oldest ∷ (stands (has_carrier s w place.link) ∷ []))
+    ∷ (too_old s.cfg w.time oldest ∷ (needs (has_carrier s w place.link) ∷ []))
 
 -- 8, RxRaw: a frame arrives when it is due; its tag is within e_tag of the true place in the period, and each counter is
 -- right where a merge may use it
@@ -199,7 +199,7 @@ received s w f raw =
 abbrev pub arrive_checks : Setting → WorldAt → ℕ → Raw → Bool → Option FrameAt → List Check
 arrive_checks s w i raw true (Some f) =
     at_most 8 (size_of (w.time -ℤ f.due)) (pos 0)
-    ∷ (received s w f raw ++ (stands (has_carrier s w f.link) ∷ []))
+    ∷ (received s w f raw ++ (needs (has_carrier s w f.link) ∷ []))
 arrive_checks s w i raw _ _ = not_sent i w.departed ∷ []
 
 -- 9, Beat: no beat bit is wrong; shown is the first that is, and bound the true step's distance from the base
@@ -228,10 +228,10 @@ beat_checks s w n base bits k link =
 -- the checks of a Sample: a node without a link above, such as the grandmaster, breaks 13; else the link above has its carrier
 -- (13), and where it has, no beat bit is wrong (9, tried first)
 abbrev pub sample_checks : Setting → WorldAt → (n base bits : ℕ) → Option ℕ → List Check
-sample_checks s w n base bits None = stands false ∷ []
+sample_checks s w n base bits None = needs false ∷ []
 sample_checks s w n base bits (Some k) =
     map (only_where (has_carrier s w k)) (option_map_or (beat_checks s w n base bits k) (link_of s k) [])
-    ++ (stands (has_carrier s w k) ∷ [])
+    ++ (needs (has_carrier s w k) ∷ [])
 
 -- 10, TooOld; 11, NotSent; 13, NotUp: of a frame that is handed over
 
@@ -239,7 +239,7 @@ sample_checks s w n base bits (Some k) =
 -- carrier (13)
 abbrev pub deliver_by : Setting → WorldAt → ℕ → FrameAt → Option Arrival → List Check
 deliver_by s w i f None = too_old s.cfg w.time f.sending ∷ (not_sent i w.departed ∷ [])
-deliver_by s w i f (Some arrival) = too_old s.cfg w.time f.sending ∷ (stands (has_carrier s w f.link) ∷ [])
+deliver_by s w i f (Some arrival) = too_old s.cfg w.time f.sending ∷ (needs (has_carrier s w f.link) ∷ [])
 
 -- the checks of a Deliver: a number that no frame has breaks 11
 abbrev pub deliver_checks : Setting → WorldAt → ℕ → Option FrameAt → List Check
@@ -256,10 +256,10 @@ is_forged s n p (Ok message) = is_port message.head.source (port_of (s.set n) p)
 -- the checks of a Noise: a port at no link breaks 13; else the octets are not forged (12, shown as 1 against 0), and the link
 -- has its carrier (13)
 abbrev pub noise_checks : Setting → WorldAt → (n p : ℕ) → Result PtpMsg FrameFault → Option Place → List Check
-noise_checks s w n p says None = stands false ∷ []
+noise_checks s w n p says None = needs false ∷ []
 noise_checks s w n p says (Some place) =
     record { premise = 12; fails = is_forged s n p says; shown = pos 1; bound = pos 0 }
-    ∷ (stands (has_carrier s w place.link) ∷ [])
+    ∷ (needs (has_carrier s w place.link) ∷ [])
 
 -- All checks of an event, by premise and then in file order; v is the world that it would make by itself
 
@@ -274,7 +274,7 @@ pass_checks s w v dt drifts moves =
 
 -- a swap is at a port of a link
 abbrev pub swap_stands : Setting → ℕ → Swap → Check
-swap_stands s n swap = stands (is_some (place_of s n swap.port))
+swap_stands s n swap = needs (is_some (place_of s n swap.port))
 
 -- the checks of an Up: the grandmaster's offset (3), the fibres with the new modules (5), the modules (6), and that
 -- each swap is at a port of a link and the node is down (13)
@@ -283,21 +283,21 @@ up_checks s w v n off swaps =
     true_at_top s n off
     ∷ (flat_map (fibre_kept s v) (links_of s)
     ++ (flat_map (module_kept s n) swaps
-    ++ (map (swap_stands s n) swaps ++ (stands (not (w.clock n).up) ∷ []))))
+    ++ (map (swap_stands s n) swaps ++ (needs (not (w.clock n).up) ∷ []))))
 
 -- the checks of each kind of event, in order; says is what the octets of a Noise say
 abbrev pub checks : Setting → (w v : WorldAt) → Result PtpMsg FrameFault → Event → List Check
 checks s w v says (Pass dt drifts moves) = pass_checks s w v dt drifts.items moves.items
-checks s w v says (Tick n) = tick_early s w n ∷ (stands (w.clock n).up ∷ [])
+checks s w v says (Tick n) = tick_early s w n ∷ (needs (w.clock n).up ∷ [])
 checks s w v says (Sample n base bits) = sample_checks s w n base bits (above s n)
 checks s w v says (Depart n p stamp) = depart_checks s w n stamp (place_of s n p) (waiting_at w (place_of s n p))
 checks s w v says (Arrive i raw) = arrive_checks s w i raw (is_on_fibre (w.frame i)) (w.frame i)
 checks s w v says (Deliver i) = deliver_checks s w i (w.frame i)
 checks s w v says (Noise n p octets raw) = noise_checks s w n p says (place_of s n p)
-checks s w v says (Down n) = stands (w.clock n).up ∷ []
+checks s w v says (Down n) = needs (w.clock n).up ∷ []
 checks s w v says (Up n off swaps) = up_checks s w v n off swaps.items
-checks s w v says (Cut k) = stands (w.fibre k).joined ∷ []
-checks s w v says (Join k ms sm) = fibre_kept s v k ++ (stands (not (w.fibre k).joined) ∷ [])
+checks s w v says (Cut k) = needs (w.fibre k).joined ∷ []
+checks s w v says (Join k ms sm) = fibre_kept s v k ++ (needs (not (w.fibre k).joined) ∷ [])
 
 -- all checks of an event in world w, with the world that it makes by itself
 abbrev pub checks_of : Setting → WorldAt → Result PtpMsg FrameFault → Event → List Check

@@ -1,7 +1,7 @@
 //! Laws of every run of an accepted network: functions whose contracts are the laws, and whose bodies call
 //! the laws that they stand on.
 ghost use Rattle.wrp_course.specs.Dropped.{DroppedFramesLeaveACount};
-ghost use Rattle.wrp_course.specs.Earned.{LinkOnIsEarned, ReportsAreTrue};
+ghost use Rattle.wrp_course.specs.Earned.{EveryLinkOnIsEarned, ReportsAreTrue};
 ghost use Rattle.wrp_course.specs.FramesMayCome.{FramesMayCome};
 ghost use Rattle.wrp_course.specs.Judged.{PortsAreJudged};
 ghost use Rattle.wrp_course.specs.PeersStay.{PeersStayInTheHandshake};
@@ -78,7 +78,7 @@ pub fn ports_wake_late()
 /// steps of that same handshake, and a slave knows the deltas of the modules that are in place. And
 /// whatever port a node reports to be in WR_LINK_ON in an event is there after it, and has earned it.
 pub fn reported_link_on_is_earned()
-    ensures earned { LinkOnIsEarned }
+    ensures earned { EveryLinkOnIsEarned }
     ensures reports { ReportsAreTrue }
 {
     step_gives_links();

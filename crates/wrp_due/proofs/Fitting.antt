@@ -47,10 +47,10 @@ use Rattle.wrp_frame.specs.Saying.{Says}
 use Rattle.wrp_node.specs.NodeStep.{heard_unless, message_of, node_step, servo_ticked, stepped, tick_of, transition_of}
 use Rattle.wrp_port.specs.declared.interface.PortIn.{PortIn}
 use Rattle.wrp_port.specs.declared.interface.PortIn.TheVariants.{Msg, Lease, Tick, Sent, Carrier, Sample, Chain, Reset}
-use Rattle.wrp_port.specs.declared.line.Line.{Line}
+use Rattle.wrp_port.specs.declared.line.Rest.{Rest}
 use Rattle.wrp_port.specs.declared.setting.Setting.{Setting}
 use Rattle.wrp_port.specs.Hearing.{early_reason, is_open, link_input}
-use Rattle.wrp_port.specs.History.{line_of, link_of}
+use Rattle.wrp_port.specs.History.{rest_after, link_of}
 use Rattle.wrp_port.specs.LineAfter.{announces_on, requests_on, syncs_on, ticked}
 use Rattle.wrp_port.specs.Messages.{announce_flags, announce_of, follow_up_of, head_of, next_id, request_of, response_of, signals_of, sync_of}
 use Rattle.wrp_port.specs.Outputs.{is_newest, link_sends, response_to, scheduled_sends, sends_of, sends_unless, where_due}
@@ -239,21 +239,21 @@ response_rest set fits Master head (DelayResp receive requesting) stamp reply = 
 response_rest set fits Master head (Announce origin utc p1 quality p2 gm steps source suffix) stamp reply = tt
 response_rest set fits Master head (Signal target message) stamp reply = tt
 
-scheduled_rest : (set : Setting) → FitsPort set → (told : List PortIn) (role : Role) (locked certain : Bool) → AllRest (scheduled_sends set role (ticked set (line_of set told) locked) certain)
+scheduled_rest : (set : Setting) → FitsPort set → (told : List PortIn) (role : Role) (locked certain : Bool) → AllRest (scheduled_sends set role (ticked set (rest_after set told) locked) certain)
 scheduled_rest set fits told Master locked certain =
-    let line : Line = ticked set (line_of set told) locked in
+    let line : Rest = ticked set (rest_after set told) locked in
     all_append FitsRest (where_due (announces_on line) (announce_of set line.link certain line.ids.announce)) (where_due (syncs_on line) (sync_of set line.ids.sync))
     (where_rest (announces_on line) (announce_of set line.link certain line.ids.announce) (announce_rest set fits line.link certain line.ids.announce (round_small _)))
     (where_rest (syncs_on line) (sync_of set line.ids.sync) (sync_rest set fits line.ids.sync (round_small _)))
 scheduled_rest set fits told Slave locked certain =
-    let line : Line = ticked set (line_of set told) locked in
+    let line : Rest = ticked set (rest_after set told) locked in
     where_rest (requests_on line) (request_of set line.ids.request) (request_rest set fits line.ids.request (round_small _))
 
 heard_rest : (set : Setting) → FitsPort set → (told : List PortIn) → LinkFits (link_of set told) → (m : PtpMsg) (stamp : Stamp) → FitsReply m.head → (o : Option Reason)
-    → AllRest (sends_unless o set (line_of set told) m stamp)
+    → AllRest (sends_unless o set (rest_after set told) m stamp)
 heard_rest set fits told linked m stamp reply (Some reason) = tt
 heard_rest set fits told linked m stamp reply None =
-    let line : Line = line_of set told in
+    let line : Rest = rest_after set told in
     all_append FitsRest (signals_of set line.ids.signal (link_sends line.link (link_input set.ds.role m.body))) (response_to set set.ds.role m.head m.body stamp)
     (signals_rest set fits line.ids.signal (round_small _) (link_sends line.link (link_input set.ds.role m.body)) (heard_fits line.link linked set.ds.role m.body))
     (response_rest set fits set.ds.role m.head m.body stamp reply)
@@ -274,15 +274,15 @@ is_fit (Sample n u) h = tt
 is_fit (Chain news) h = tt
 is_fit Reset h = tt
 
-sends_rest : (set : Setting) → FitsPort set → (told : List PortIn) → LinkFits (link_of set told) → (input : PortIn) → PortFits input → AllRest (sends_of set (line_of set told) input)
-sends_rest set fits told linked (Msg m stamp tick) h = heard_rest set fits told linked m stamp h.2 (early_reason set (line_of set told).link m)
+sends_rest : (set : Setting) → FitsPort set → (told : List PortIn) → LinkFits (link_of set told) → (input : PortIn) → PortFits input → AllRest (sends_of set (rest_after set told) input)
+sends_rest set fits told linked (Msg m stamp tick) h = heard_rest set fits told linked m stamp h.2 (early_reason set (rest_after set told).link m)
 sends_rest set fits told linked (Tick locked certain) h =
-    let line : Line = line_of set told in
+    let line : Rest = rest_after set told in
     all_append FitsRest (signals_of set line.ids.signal (link_sends_of line.link (link_in.Tick locked))) (scheduled_sends set set.ds.role (ticked set line locked) certain)
     (signals_rest set fits line.ids.signal (round_small _) (link_sends_of line.link (link_in.Tick locked)) (ticked_fits line.link linked locked))
     (scheduled_rest set fits told set.ds.role locked certain)
 sends_rest set fits told linked (Sent false seq stamp tick) h =
-    let line : Line = line_of set told in
+    let line : Rest = rest_after set told in
     where_rest (is_newest line.ids.newest_sync seq && is_open line.link) (follow_up_of set seq stamp) (follow_up_rest set fits seq stamp h.1)
 sends_rest set fits told linked (Sent true seq stamp tick) h = tt
 sends_rest set fits told linked Lease h = tt
@@ -291,9 +291,9 @@ sends_rest set fits told linked (Sample n u) h = tt
 sends_rest set fits told linked (Chain news) h = tt
 sends_rest set fits told linked Reset h = tt
 
-port_sendable : (set : Setting) → FitsPort set → (told : List PortIn) → LinkFits (link_of set told) → (input : PortIn) → PortFits input → AllSendable (sends_of set (line_of set told) input)
+port_sendable : (set : Setting) → FitsPort set → (told : List PortIn) → LinkFits (link_of set told) → (input : PortIn) → PortFits input → AllSendable (sends_of set (rest_after set told) input)
 port_sendable set fits told linked input h =
-    all_sendable (sends_of set (line_of set told) input) (sends_sound set (line_of set told) input (is_fit input h)) (sends_rest set fits told linked input h)
+    all_sendable (sends_of set (rest_after set told) input) (sends_sound set (rest_after set told) input (is_fit input h)) (sends_rest set fits told linked input h)
 
 -- What octets say
 

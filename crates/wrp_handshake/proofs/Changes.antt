@@ -10,7 +10,7 @@ use Rattle.wrp_link.specs.declared.interface.LinkIn.TheVariants.{CarrierUp}
 use Rattle.wrp_link.specs.declared.interface.LinkSet.{LinkSet}
 use Rattle.wrp_link.specs.Rows.{row_of}
 use Rattle.wrp_link.proofs.Orders.{idle_belongs}
-use Rattle.wrp_handshake.specs.Ends.{Port, Ends, Change, Passes, Hears, Starts, Lights, end_of, with_end, heard, MayHear, changed, MayCome, ends_after, AllMayCome, new_port, new_ends, OutlivesFrames, CanBe}
+use Rattle.wrp_handshake.specs.Ends.{Port, BothPorts, Change, Passes, Hears, Starts, Lights, end_of, with_end, after_input, MayHear, changed, MayCome, ends_after, AllMayCome, new_port, new_ends, OutlivesFrames, CanBe}
 use Rattle.wrp_link.proofs.Runs.{by_row_role}
 use Rattle.wrp_handshake.proofs.Stages.{engaged, bound}
 use Rattle.wrp_handshake.proofs.Times.{calm_later}
@@ -20,7 +20,7 @@ use Rattle.wrp_handshake.proofs.Ports.{stays, passes_port}
 use Rattle.wrp_handshake.proofs.Moves.{Peers, Moved}
 use Rattle.wrp_handshake.proofs.Inputs.{heard_moves}
 
-pub record EndsKeep (life dmin : ℕ) (w : Ends) : Type 0 where
+pub record EndsKeep (life dmin : ℕ) (w : BothPorts) : Type 0 where
   pub of_master : Ghost
   pub of_slave : Ghost
   pub master : PortKeeps life dmin w.time (view_of w.master) of_master
@@ -30,7 +30,7 @@ pub record EndsKeep (life dmin : ℕ) (w : Ends) : Type 0 where
   pub is_master : w.master.link.role ≡ Master
   pub is_slave : w.slave.link.role ≡ Slave
 
-pub from_master : (life dmin : ℕ) (w : Ends) (k : EndsKeep life dmin w) → Peers life dmin w.time (view_of w.master) k.of_master (view_of w.slave) k.of_slave
+pub from_master : (life dmin : ℕ) (w : BothPorts) (k : EndsKeep life dmin w) → Peers life dmin w.time (view_of w.master) k.of_master (view_of w.slave) k.of_slave
 from_master life dmin w k =
     record {
       keeps = k.master;
@@ -40,7 +40,7 @@ from_master life dmin w k =
       roles = k.is_slave ∙ sym (ap (λ (r : Role). other_of r) k.is_master);
     }
 
-pub from_slave : (life dmin : ℕ) (w : Ends) (k : EndsKeep life dmin w) → Peers life dmin w.time (view_of w.slave) k.of_slave (view_of w.master) k.of_master
+pub from_slave : (life dmin : ℕ) (w : BothPorts) (k : EndsKeep life dmin w) → Peers life dmin w.time (view_of w.slave) k.of_slave (view_of w.master) k.of_master
 from_slave life dmin w k =
     record {
       keeps = k.slave;
@@ -57,11 +57,11 @@ started life dmin time p g k =
 
 -- a port is given an input
 pub hears_keeps :
-    (life dmin : ℕ) (w : Ends) (role : Role) (input : LinkIn) (at : ℤ) →
+    (life dmin : ℕ) (w : BothPorts) (role : Role) (input : LinkIn) (at : ℤ) →
     MayHear life dmin w.time (end_of w role) (end_of w (other_of role)) input at →
-    EndsKeep life dmin w → EndsKeep life dmin (with_end w role (heard w.time (end_of w role) input at))
+    EndsKeep life dmin w → EndsKeep life dmin (with_end w role (after_input w.time (end_of w role) input at))
 hears_keeps life dmin w Master input at h k =
-    let m : Moved life dmin w.time (view_of (heard w.time w.master input at)) (view_of w.slave) k.of_slave =
+    let m : Moved life dmin w.time (view_of (after_input w.time w.master input at)) (view_of w.slave) k.of_slave =
     heard_moves life dmin w.time w.master k.of_master w.slave k.of_slave input at (from_master life dmin w k) h in
     record {
       of_master = m.ghost;
@@ -74,7 +74,7 @@ hears_keeps life dmin w Master input at h k =
       is_slave = k.is_slave;
     }
 hears_keeps life dmin w Slave input at h k =
-    let m : Moved life dmin w.time (view_of (heard w.time w.slave input at)) (view_of w.master) k.of_master =
+    let m : Moved life dmin w.time (view_of (after_input w.time w.slave input at)) (view_of w.master) k.of_master =
     heard_moves life dmin w.time w.slave k.of_slave w.master k.of_master input at (from_slave life dmin w k) h in
     record {
       of_master = k.of_master;
@@ -87,7 +87,7 @@ hears_keeps life dmin w Slave input at h k =
       is_slave = by_row_role w.slave.link (row_of w.slave.link input) ∙ k.is_slave;
     }
 
-pub starts_keeps : (life dmin : ℕ) (w : Ends) (role : Role) → EndsKeep life dmin w → EndsKeep life dmin (changed w (Starts role))
+pub starts_keeps : (life dmin : ℕ) (w : BothPorts) (role : Role) → EndsKeep life dmin w → EndsKeep life dmin (changed w (Starts role))
 starts_keeps life dmin w Master k =
     record {
       of_master = k.of_master;
@@ -111,7 +111,7 @@ starts_keeps life dmin w Slave k =
       is_slave = k.is_slave;
     }
 
-pub passes_keeps : (life dmin : ℕ) (w : Ends) (dt : ℕ) → EndsKeep life dmin w → EndsKeep life dmin (changed w (Passes dt))
+pub passes_keeps : (life dmin : ℕ) (w : BothPorts) (dt : ℕ) → EndsKeep life dmin w → EndsKeep life dmin (changed w (Passes dt))
 passes_keeps life dmin w dt k =
     record {
       of_master = k.of_master;
@@ -124,12 +124,12 @@ passes_keeps life dmin w dt k =
       is_slave = k.is_slave;
     }
 
-changed_keeps : (life dmin : ℕ) (w : Ends) (c : Change) → MayCome life dmin w c → EndsKeep life dmin w → EndsKeep life dmin (changed w c)
+changed_keeps : (life dmin : ℕ) (w : BothPorts) (c : Change) → MayCome life dmin w c → EndsKeep life dmin w → EndsKeep life dmin (changed w c)
 changed_keeps life dmin w (Passes dt) h k = passes_keeps life dmin w dt k
 changed_keeps life dmin w (Hears role input at) h k = hears_keeps life dmin w role input at h.1 k
 changed_keeps life dmin w (Starts role) h k = starts_keeps life dmin w role k
 changed_keeps life dmin w (Lights of_master of_slave) h k =
-    hears_keeps life dmin (with_end w Master (heard w.time w.master (CarrierUp of_master) (pos 0))) Slave (CarrierUp of_slave) (pos 0) tt
+    hears_keeps life dmin (with_end w Master (after_input w.time w.master (CarrierUp of_master) (pos 0))) Slave (CarrierUp of_slave) (pos 0) tt
     (hears_keeps life dmin w Master (CarrierUp of_master) (pos 0) tt k)
 
 new_ghost : ℤ → Ghost
@@ -178,15 +178,15 @@ start_keeps life dmin time of_master of_slave hm hs =
     }
 
 pub all_keep :
-    (life dmin : ℕ) (ends : Ends) (changes : List Change) → AllMayCome life dmin ends changes → EndsKeep life dmin ends →
+    (life dmin : ℕ) (ends : BothPorts) (changes : List Change) → AllMayCome life dmin ends changes → EndsKeep life dmin ends →
     EndsKeep life dmin (ends_after ends changes)
 all_keep life dmin ends [] h k = k
 all_keep life dmin ends (change ∷ older) h k =
     changed_keeps life dmin (ends_after ends older) change h.0 (all_keep life dmin ends older h.1 k)
 
 -- of all ends that can be
-pub can_keep : (life dmin : ℕ) (ends : Ends) → CanBe life dmin ends → EndsKeep life dmin ends
+pub can_keep : (life dmin : ℕ) (ends : BothPorts) → CanBe life dmin ends → EndsKeep life dmin ends
 can_keep life dmin ends h =
-    subst (λ (e : Ends). EndsKeep life dmin e) (sym h.is)
+    subst (λ (e : BothPorts). EndsKeep life dmin e) (sym h.is)
     (all_keep life dmin (new_ends h.of_master h.of_slave h.start) h.changes h.come
     (start_keeps life dmin h.start h.of_master h.of_slave h.master_quiet h.slave_quiet))

@@ -8,9 +8,9 @@ use Rattle.wrp_base.specs.declared.link.Role.TheVariants.{Master, Slave}
 use Rattle.wrp_link.specs.declared.interface.LinkIn.{LinkIn}
 use Rattle.wrp_link.specs.declared.interface.LinkIn.TheVariants.{CarrierUp}
 use Rattle.wrp_link.specs.Rows.{row_of}
-use Rattle.wrp_link.specs.Table.{is_same, place_of, by_row}
+use Rattle.wrp_link.specs.Table.{is_same, rank_of, by_row}
 use Rattle.wrp_link.proofs.Deltas.{differs}
-use Rattle.wrp_handshake.specs.Ends.{Sending, Port, Ends, Change, Passes, Hears, Starts, Lights, marked, mover_of, heard, changed, ends_after, new_ends, CanBe}
+use Rattle.wrp_handshake.specs.Ends.{Sending, Port, BothPorts, Change, Passes, Hears, Starts, Lights, marked, mover_of, after_input, changed, ends_after, new_ends, CanBe}
 use Rattle.wrp_handshake.specs.Laws.{LeadsTo}
 use Rattle.wrp_handshake.proofs.Parts.{by_bool}
 use Rattle.wrp_handshake.proofs.Inputs.{marked_new, marked_same}
@@ -21,7 +21,7 @@ state_at n =
     cond (eqb n 1) Present (cond (eqb n 2) SLock (cond (eqb n 3) MLock (cond (eqb n 4) Locked
     (cond (eqb n 5) Calibration (cond (eqb n 6) Calibrated (cond (eqb n 7) RespCalib (cond (eqb n 8) LinkOn Idle)))))))
 
-back : (s : LinkState) → state_at (place_of s) ≡ s
+back : (s : LinkState) → state_at (rank_of s) ≡ s
 unfolding state_at
 back Idle = refl
 back Present = refl
@@ -34,7 +34,7 @@ back RespCalib = refl
 back LinkOn = refl
 
 same_is : (a b : LinkState) → is_same a b ≡ true → a ≡ b
-same_is a b e = sym (back a) ∙ ap state_at (eqb-true (place_of a) (place_of b) e) ∙ back b
+same_is a b e = sym (back a) ∙ ap state_at (eqb-true (rank_of a) (rank_of b) e) ∙ back b
 
 leads_now : (time : ℤ) (old new : LinkState) (by : Option Sending) (marks : List Mark) → LeadsTo old marks → LeadsTo new (marked time old new by marks)
 leads_now time old new by marks h =
@@ -47,14 +47,14 @@ leads_now time old new by marks h =
     (record { history = (sym h.leads, differs old new other, h.history); leads = refl }))
 
 -- of both ends
-pub record EndsLead (ends : Ends) : Type 0 where
+pub record EndsLead (ends : BothPorts) : Type 0 where
   pub master : LeadsTo ends.master.link.state ends.master.marks
   pub slave : LeadsTo ends.slave.link.state ends.slave.marks
 
-heard_leads : (time : ℤ) (p : Port) (input : LinkIn) (at : ℤ) → LeadsTo p.link.state p.marks → LeadsTo (heard time p input at).link.state (heard time p input at).marks
+heard_leads : (time : ℤ) (p : Port) (input : LinkIn) (at : ℤ) → LeadsTo p.link.state p.marks → LeadsTo (after_input time p input at).link.state (after_input time p input at).marks
 heard_leads time p input at h = leads_now time p.link.state (by_row p.link (row_of p.link input)).state (mover_of input at) p.marks h
 
-changed_leads : (ends : Ends) (change : Change) → EndsLead ends → EndsLead (changed ends change)
+changed_leads : (ends : BothPorts) (change : Change) → EndsLead ends → EndsLead (changed ends change)
 changed_leads ends (Passes dt) k = record { master = k.master; slave = k.slave }
 changed_leads ends (Hears Master input at) k = record { master = heard_leads ends.time ends.master input at k.master; slave = k.slave }
 changed_leads ends (Hears Slave input at) k = record { master = k.master; slave = heard_leads ends.time ends.slave input at k.slave }
@@ -66,13 +66,13 @@ changed_leads ends (Lights of_master of_slave) k =
       slave = heard_leads ends.time ends.slave (CarrierUp of_slave) (pos 0) k.slave;
     }
 
-all_lead : (ends : Ends) (changes : List Change) → EndsLead ends → EndsLead (ends_after ends changes)
+all_lead : (ends : BothPorts) (changes : List Change) → EndsLead ends → EndsLead (ends_after ends changes)
 all_lead ends [] k = k
 all_lead ends (change ∷ older) k = changed_leads (ends_after ends older) change (all_lead ends older k)
 
 -- of all ends that can be
-pub can_lead : (life dmin : ℕ) (ends : Ends) → CanBe life dmin ends → EndsLead ends
+pub can_lead : (life dmin : ℕ) (ends : BothPorts) → CanBe life dmin ends → EndsLead ends
 can_lead life dmin ends h =
-    subst (λ (e : Ends). EndsLead e) (sym h.is)
+    subst (λ (e : BothPorts). EndsLead e) (sym h.is)
     (all_lead (new_ends h.of_master h.of_slave h.start) h.changes
     (record { master = record { history = tt; leads = refl }; slave = record { history = tt; leads = refl } }))

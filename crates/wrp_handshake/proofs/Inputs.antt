@@ -17,7 +17,7 @@ use Rattle.wrp_link.specs.Table.{is_same, counted}
 use Rattle.wrp_link.proofs.Fits.{Belongs}
 use Rattle.wrp_check.specs.Stretches.{movers_of, with_mover}
 use Rattle.wrp_link.proofs.Deltas.{is_same_self}
-use Rattle.wrp_handshake.specs.Ends.{Sending, Port, stamped, mover_of, ticked_by, marked, port_by, heard, MayHear}
+use Rattle.wrp_handshake.specs.Ends.{Sending, Port, stamped, mover_of, ticked_by, marked, port_by, after_input, MayHear}
 use Rattle.wrp_link.proofs.Orders.{idle_belongs}
 use Rattle.wrp_handshake.proofs.Stages.{engaged, bound, numbered, opens, SendsAll, Kind, opening, engaging, answering, binding, going_on, FitsMove}
 use Rattle.wrp_handshake.proofs.RowFits.{RowFits, row_fits}
@@ -326,6 +326,6 @@ row_moves life dmin time p g q gq input at CarrierGoes c h f =
 pub heard_moves :
     (life dmin : ℕ) (time : ℤ) (p : Port) (g : Ghost) (q : Port) (gq : Ghost) (input : LinkIn) (at : ℤ) →
     Peers life dmin time (view_of p) g (view_of q) gq → MayHear life dmin time p q input at →
-    Moved life dmin time (view_of (heard time p input at)) (view_of q) gq
+    Moved life dmin time (view_of (after_input time p input at)) (view_of q) gq
 heard_moves life dmin time p g q gq input at c h =
     row_moves life dmin time p g q gq input at (row_of p.link input) c h (row_fits p.link input c.keeps.belongs)

@@ -24,7 +24,7 @@ use Rattle.wrp_link.specs.LinkAt.{wait_of}
 use Rattle.wrp_link.proofs.Fits.{Fits, knows, row_fits as link_fits}
 use Rattle.wrp_link.proofs.Orders.{IsOrdered, after_ordered, new_ordered}
 use Rattle.wrp_link.proofs.Deltas.{is_same_self, out_of_idle}
-use Rattle.wrp_handshake.specs.Ends.{Sending, Port, Ends, Change, Passes, Hears, Starts, Lights, end_of, with_end, IsAmong, stamped, mover_of, ticked_by, marked, port_by, heard, MayHear, IsNoCarrier, changed, MayCome, ends_after, AllMayCome, new_ends, lit_by, lit_at, placed_by, placed_at, OutlivesFrames, CanBe}
+use Rattle.wrp_handshake.specs.Ends.{Sending, Port, BothPorts, Change, Passes, Hears, Starts, Lights, end_of, with_end, IsAmong, stamped, mover_of, ticked_by, marked, port_by, after_input, MayHear, IsNoCarrier, changed, MayCome, ends_after, AllMayCome, new_ends, lit_by, lit_at, placed_by, placed_at, OutlivesFrames, CanBe}
 use Rattle.wrp_link.proofs.Runs.{by_row_role}
 use Rattle.wrp_handshake.specs.Deltas.{KnowsDeltas}
 use Rattle.wrp_handshake.specs.Laws.{IsAwake, IsLongAgo}
@@ -349,7 +349,7 @@ lit_row life dmin time lit placed p q input at CarrierGoes k h n f g o own =
 
 lit_heard :
     (life dmin : ℕ) (time lit : ℤ) (placed : Option Module) (p q : Port) (input : LinkIn) (at : ℤ) →
-    LitAt life dmin time lit placed p → MayHear life dmin time p q input at → IsNoCarrier input → LitAt life dmin time lit placed (heard time p input at)
+    LitAt life dmin time lit placed p → MayHear life dmin time p q input at → IsNoCarrier input → LitAt life dmin time lit placed (after_input time p input at)
 lit_heard life dmin time lit placed p q input at k h n =
     lit_row life dmin time lit placed p q input at (row_of p.link input) k h n
     (row_fits p.link input k.ordered.belongs)
@@ -440,7 +440,7 @@ lit_long_ago life dmin time lit placed p k h =
       | inr out ↦ k.awake out
     ]
 
-pub record LitKeeps (life dmin : ℕ) (w : Ends) (lit : ℤ) (placed : Role → Option Module) : Type 0 where
+pub record LitKeeps (life dmin : ℕ) (w : BothPorts) (lit : ℤ) (placed : Role → Option Module) : Type 0 where
   pub master : LitAt life dmin w.time lit (placed Master) w.master
   pub slave : LitAt life dmin w.time lit (placed Slave) w.slave
   pub down : LitPair w.master (placed Slave)
@@ -449,9 +449,9 @@ pub record LitKeeps (life dmin : ℕ) (w : Ends) (lit : ℤ) (placed : Role → 
   pub is_slave : w.slave.link.role ≡ Slave
 
 lit_hears :
-    (life dmin : ℕ) (w : Ends) (lit : ℤ) (placed : Role → Option Module) (role : Role) (input : LinkIn) (at : ℤ) →
+    (life dmin : ℕ) (w : BothPorts) (lit : ℤ) (placed : Role → Option Module) (role : Role) (input : LinkIn) (at : ℤ) →
     MayHear life dmin w.time (end_of w role) (end_of w (other_of role)) input at → IsNoCarrier input →
-    LitKeeps life dmin w lit placed → LitKeeps life dmin (with_end w role (heard w.time (end_of w role) input at)) lit placed
+    LitKeeps life dmin w lit placed → LitKeeps life dmin (with_end w role (after_input w.time (end_of w role) input at)) lit placed
 lit_hears life dmin w lit placed Master input at h n k =
     let f : RowFits w.master.link.role w.master.link.state w.master.link input (row_of w.master.link input) =
     row_fits w.master.link input k.master.ordered.belongs in
@@ -519,7 +519,7 @@ never a b h k = omega (arith, ints)
 
 lit_comes :
     (life dmin : ℕ) (time lit : ℤ) (placed : Option Module) (p : Port) (fitted : Option Module) →
-    LitAt life dmin time lit placed p → LitAt life dmin time time fitted (heard time p (CarrierUp fitted) (pos 0))
+    LitAt life dmin time lit placed p → LitAt life dmin time time fitted (after_input time p (CarrierUp fitted) (pos 0))
 lit_comes life dmin time lit placed p fitted k =
     lit_idle life dmin time time fitted (with_carrier p.link fitted) p.ticked
     (marked time p.link.state Idle None p.marks) p.sent
@@ -528,7 +528,7 @@ lit_comes life dmin time lit placed p fitted k =
     (λ f i new. absurd (never f.1 time (k.past f i) new))
 
 lit_changes :
-    (life dmin : ℕ) (w : Ends) (lit : ℤ) (placed : Role → Option Module) (c : Change) → MayCome life dmin w c → LitKeeps life dmin w lit placed →
+    (life dmin : ℕ) (w : BothPorts) (lit : ℤ) (placed : Role → Option Module) (c : Change) → MayCome life dmin w c → LitKeeps life dmin w lit placed →
     LitKeeps life dmin (changed w c) (lit_by w c lit) (λ role. placed_by c role (placed role))
 lit_changes life dmin w lit placed (Passes dt) h k =
     record {
@@ -588,7 +588,7 @@ lit_start life dmin time of_master of_slave hm hs =
     }
 
 lit_all :
-    (life dmin : ℕ) (ends : Ends) (changes : List Change) → AllMayCome life dmin ends changes → LitKeeps life dmin ends ends.time (placed_at []) →
+    (life dmin : ℕ) (ends : BothPorts) (changes : List Change) → AllMayCome life dmin ends changes → LitKeeps life dmin ends ends.time (placed_at []) →
     LitKeeps life dmin (ends_after ends changes) (lit_at ends changes) (placed_at changes)
 lit_all life dmin ends [] h k = k
 lit_all life dmin ends (change ∷ older) h k =
@@ -596,10 +596,10 @@ lit_all life dmin ends (change ∷ older) h k =
 
 -- of all ends that can be
 pub can_keep_lit :
-    (life dmin : ℕ) (ends : Ends) (can : CanBe life dmin ends) →
+    (life dmin : ℕ) (ends : BothPorts) (can : CanBe life dmin ends) →
     LitKeeps life dmin ends (lit_at (new_ends can.of_master can.of_slave can.start) can.changes) (placed_at can.changes)
 can_keep_lit life dmin ends h =
-    subst (λ (e : Ends). LitKeeps life dmin e (lit_at (new_ends h.of_master h.of_slave h.start) h.changes) (placed_at h.changes)) (sym h.is)
+    subst (λ (e : BothPorts). LitKeeps life dmin e (lit_at (new_ends h.of_master h.of_slave h.start) h.changes) (placed_at h.changes)) (sym h.is)
     (lit_all life dmin (new_ends h.of_master h.of_slave h.start) h.changes h.come
     (lit_start life dmin h.start h.of_master h.of_slave h.master_quiet h.slave_quiet))
 
@@ -612,7 +612,7 @@ listed_in_place placed l x at e =
     elim at [ inl same ↦ sym same ∙ e | inr none ↦ (let no : None ≡ Some x = sym none.0 ∙ e in absurd cc) ]
 
 pub deltas_by :
-    (life dmin : ℕ) (w : Ends) (lit : ℤ) (placed : Role → Option Module) → LitKeeps life dmin w lit placed → w.slave.link.state ≡ LinkOn →
+    (life dmin : ℕ) (w : BothPorts) (lit : ℤ) (placed : Role → Option Module) → LitKeeps life dmin w lit placed → w.slave.link.state ≡ LinkOn →
     KnowsDeltas w.slave (placed Master) (placed Slave)
 deltas_by life dmin w lit placed k on =
     let out : w.slave.link.state ≢ Idle = λ i. (let x : LinkOn ≡ Idle = sym on ∙ i in cc) in

@@ -8,7 +8,7 @@ use Rattle.wrp_base.specs.declared.link.Role.TheVariants.{Master, Slave}
 use Rattle.wrp_base.specs.declared.message.WrMsg.TheVariants.{Lock as LOCK, Locked as LOCKED}
 use Rattle.wrp_base.specs.Network.{other_of}
 use Rattle.wrp_check.specs.Handshake.{SameHandshake}
-use Rattle.wrp_handshake.specs.Ends.{Ends, end_of, placed_at}
+use Rattle.wrp_handshake.specs.Ends.{BothPorts, end_of, placed_at}
 use Rattle.wrp_handshake.specs.Laws.{OnInTheSameHandshake, OnWithTheDeltas, CarrierWithItsModule, LeadsTo, MarksAreAHistory, IsAwake, IsLongAgo, QuietTimeOutlivesFrames, MasterStaysFromLock, SlaveStaysFromLocked, SlaveOnWithItsMaster}
 use Rattle.wrp_handshake.proofs.Keeps.{view_of}
 use Rattle.wrp_handshake.proofs.Changes.{EndsKeep, from_master, from_slave, can_keep}
@@ -20,7 +20,7 @@ use Rattle.wrp_handshake.proofs.Staying.{can_stay}
 use Rattle.wrp_handshake.proofs.Together.{master_on}
 
 at_end :
-    (life dmin : ℕ) (ends : Ends) (role : Role) → EndsKeep life dmin ends → (end_of ends role).link.state ≡ LinkOn →
+    (life dmin : ℕ) (ends : BothPorts) (role : Role) → EndsKeep life dmin ends → (end_of ends role).link.state ≡ LinkOn →
     SameHandshake role (end_of ends role).marks (end_of ends (other_of role)).marks
 at_end life dmin ends Master k on =
     subst (λ (r : Role). SameHandshake r ends.master.marks ends.slave.marks) k.is_master
@@ -35,7 +35,7 @@ on_in_the_same_handshake life dmin ends role can on = at_end life dmin ends role
 pub on_with_the_deltas : OnWithTheDeltas
 on_with_the_deltas life dmin ends can on = deltas_by life dmin ends _ (placed_at can.changes) (can_keep_lit life dmin ends can) on
 
-module_at : (life dmin : ℕ) (ends : Ends) (role : Role) (lit : ℤ) (placed : Role → Option Module) → LitKeeps life dmin ends lit placed →
+module_at : (life dmin : ℕ) (ends : BothPorts) (role : Role) (lit : ℤ) (placed : Role → Option Module) → LitKeeps life dmin ends lit placed →
     (end_of ends role).link.carrier ≡ true → (end_of ends role).link.own_module ≡ placed role
 module_at life dmin ends Master lit placed k h = module_in_place (placed Master) ends.master.link k.master.in_place h
 module_at life dmin ends Slave lit placed k h = module_in_place (placed Slave) ends.slave.link k.slave.in_place h
@@ -43,14 +43,14 @@ module_at life dmin ends Slave lit placed k h = module_in_place (placed Slave) e
 pub carrier_with_its_module : CarrierWithItsModule
 carrier_with_its_module life dmin ends role can h = module_at life dmin ends role _ (placed_at can.changes) (can_keep_lit life dmin ends can) h
 
-leads_at : (ends : Ends) (role : Role) → EndsLead ends → LeadsTo (end_of ends role).link.state (end_of ends role).marks
+leads_at : (ends : BothPorts) (role : Role) → EndsLead ends → LeadsTo (end_of ends role).link.state (end_of ends role).marks
 leads_at ends Master h = h.master
 leads_at ends Slave h = h.slave
 
 pub marks_are_a_history : MarksAreAHistory
 marks_are_a_history life dmin ends role can = leads_at ends role (can_lead life dmin ends can)
 
-long_ago_at : (life dmin : ℕ) (ends : Ends) (role : Role) (lit : ℤ) (placed : Role → Option Module) → EndsKeep life dmin ends → LitKeeps life dmin ends lit placed → IsAwake (end_of ends role) →
+long_ago_at : (life dmin : ℕ) (ends : BothPorts) (role : Role) (lit : ℤ) (placed : Role → Option Module) → EndsKeep life dmin ends → LitKeeps life dmin ends lit placed → IsAwake (end_of ends role) →
     IsLongAgo life ends.time lit × AllByRecursion (λ mark. mark.to ≡ Idle → IsLongAgo life ends.time mark.at) (end_of ends role).marks
 long_ago_at life dmin ends Master lit placed k l h =
     (lit_long_ago life dmin ends.time lit (placed Master) ends.master l.master h, left_long_ago life dmin ends.time ends.master k.of_master k.master h)

@@ -19,7 +19,7 @@ use Rattle.wrp_link.specs.Table.{counted, ticked, retried, sent_by}
 use Rattle.wrp_check.specs.Required.{required_of}
 use Rattle.wrp_check.specs.Stretches.{joined, stretches_of, newest_of, BeganBy, Entered}
 use Rattle.wrp_link.proofs.Deltas.{is_same_self}
-use Rattle.wrp_handshake.specs.Ends.{Sending, Port, Ends, Change, Passes, Hears, Starts, Lights, IsAmong, stamped, mover_of, ticked_by, marked, port_by, MayHear, IsNoCarrier, changed, MayCome, AllMayCome, ends_after, new_ends, lit_by, lit_at, CanBe}
+use Rattle.wrp_handshake.specs.Ends.{Sending, Port, BothPorts, Change, Passes, Hears, Starts, Lights, IsAmong, stamped, mover_of, ticked_by, marked, port_by, MayHear, IsNoCarrier, changed, MayCome, AllMayCome, ends_after, new_ends, lit_by, lit_at, CanBe}
 use Rattle.wrp_handshake.proofs.Stages.{engaged, bound, opens, way_of, Sends, SendsAll, bound_sends}
 use Rattle.wrp_handshake.proofs.RowFits.{RowFits, row_fits}
 use Rattle.wrp_handshake.proofs.Failing.{FailsBy, row_fails}
@@ -307,7 +307,7 @@ peer_more life dmin lit time p peer ms k =
 
 -- each change
 stay_changes :
-    (life dmin : ℕ) (ends : Ends) (lit : ℤ) (change : Change) → MayCome life dmin ends change → EndsKeep life dmin ends →
+    (life dmin : ℕ) (ends : BothPorts) (lit : ℤ) (change : Change) → MayCome life dmin ends change → EndsKeep life dmin ends →
     StaysAt life dmin lit ends.master ends.slave →
     StaysAt life dmin (lit_by ends change lit) (changed ends change).master (changed ends change).slave
 stay_changes life dmin ends lit (Passes dt) h e k = k
@@ -330,7 +330,7 @@ stay_changes life dmin ends lit (Lights of_master of_slave) h e k =
     record { timed = λ on. cc; left = λ _ _ w i b. inl (e.master.frames (WR_MODE_ON, w) i).past }
 
 stay_all :
-    (life dmin : ℕ) (ends : Ends) (changes : List Change) → AllMayCome life dmin ends changes → EndsKeep life dmin ends →
+    (life dmin : ℕ) (ends : BothPorts) (changes : List Change) → AllMayCome life dmin ends changes → EndsKeep life dmin ends →
     StaysAt life dmin ends.time ends.master ends.slave →
     StaysAt life dmin (lit_at ends changes) (ends_after ends changes).master (ends_after ends changes).slave
 stay_all life dmin ends [] h e k = k
@@ -340,10 +340,10 @@ stay_all life dmin ends (change ∷ older) h e k =
 
 -- of all ends that can be
 pub can_stay :
-    (life dmin : ℕ) (ends : Ends) (can : CanBe life dmin ends) →
+    (life dmin : ℕ) (ends : BothPorts) (can : CanBe life dmin ends) →
     StaysAt life dmin (lit_at (new_ends can.of_master can.of_slave can.start) can.changes) ends.master ends.slave
 can_stay life dmin ends can =
-    let new : Ends = new_ends can.of_master can.of_slave can.start in
-    subst (λ (x : Ends). StaysAt life dmin (lit_at new can.changes) x.master x.slave) (sym can.is)
+    let new : BothPorts = new_ends can.of_master can.of_slave can.start in
+    subst (λ (x : BothPorts). StaysAt life dmin (lit_at new can.changes) x.master x.slave) (sym can.is)
     (stay_all life dmin new can.changes can.come (start_keeps life dmin can.start can.of_master can.of_slave can.master_quiet can.slave_quiet)
     (record { timed = λ on. cc; left = λ _ lit_now. cc }))

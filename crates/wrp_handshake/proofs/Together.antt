@@ -9,7 +9,7 @@ use Rattle.wrp_base.specs.declared.link.Role.{Role}
 use Rattle.wrp_base.specs.declared.link.Role.TheVariants.{Slave}
 use Rattle.wrp_base.specs.declared.message.WrMsg.TheVariants.{Present as SLAVE_PRESENT, ModeOn as WR_MODE_ON}
 use Rattle.wrp_check.specs.Stretches.{stretches_of, newest_of, BeganBy, movers_of}
-use Rattle.wrp_handshake.specs.Ends.{Ends, IsAmong}
+use Rattle.wrp_handshake.specs.Ends.{BothPorts, IsAmong}
 use Rattle.wrp_handshake.proofs.Stages.{engaged, bound, opens}
 use Rattle.wrp_handshake.proofs.Keeps.{view_of, Ghost, Current, FromLatest, Bond}
 use Rattle.wrp_handshake.proofs.Parts.{by_bool, not_opening}
@@ -39,7 +39,7 @@ last_began role marks g w none c =
 
 -- a slave in WR_LINK_ON was not chased, and its messages are of the carriers in place
 not_left :
-    (life dmin : ℕ) (ends : Ends) (lit w : ℤ) (placed : Role → Option Module) (k : EndsKeep life dmin ends) → LitKeeps life dmin ends lit placed →
+    (life dmin : ℕ) (ends : BothPorts) (lit w : ℤ) (placed : Role → Option Module) (k : EndsKeep life dmin ends) → LitKeeps life dmin ends lit placed →
     ends.slave.link.state ≡ LinkOn → ends.slave.link.state ≢ Idle → IsAmong (WR_MODE_ON, w) (movers_of (newest_of (stretches_of ends.slave.marks))) →
     (w ≤ℤ lit) ⊎ Chased life ends.slave.sent ends.master.sent → ⊥
 not_left life dmin ends lit w placed k l on out among left =
@@ -54,7 +54,7 @@ not_left life dmin ends lit w placed k l on out among left =
     ]
 
 pub master_on :
-    (life dmin : ℕ) (ends : Ends) (lit : ℤ) (placed : Role → Option Module) → EndsKeep life dmin ends → LitKeeps life dmin ends lit placed → StaysAt life dmin lit ends.master ends.slave →
+    (life dmin : ℕ) (ends : BothPorts) (lit : ℤ) (placed : Role → Option Module) → EndsKeep life dmin ends → LitKeeps life dmin ends lit placed → StaysAt life dmin lit ends.master ends.slave →
     ends.slave.link.state ≡ LinkOn → ends.master.link.carrier ≡ true → ends.master.link.state ≡ LinkOn
 master_on life dmin ends lit placed k l o on lit_now =
     let out : ends.slave.link.state ≢ Idle = λ i. (let x : LinkOn ≡ Idle = sym on ∙ i in cc) in

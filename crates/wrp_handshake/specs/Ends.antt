@@ -30,19 +30,19 @@ pub record Port : Type 0 where
   -- the messages that it ever sent, the newest first
   pub sent : List Sending
 
--- the two ends of a link at a true time
-pub record Ends : Type 0 where
+-- both ports of a link at a true time
+pub record BothPorts : Type 0 where
   pub time : ℤ
   pub master : Port
   pub slave : Port
 
 -- the port of this role
-abbrev pub end_of : Ends → Role → Port
+abbrev pub end_of : BothPorts → Role → Port
 end_of ends Master = ends.master
 end_of ends Slave = ends.slave
 
 -- the ends with another port of this role
-abbrev pub with_end : Ends → Role → Port → Ends
+abbrev pub with_end : BothPorts → Role → Port → BothPorts
 with_end ends Master port = record ends { master = port }
 with_end ends Slave port = record ends { slave = port }
 
@@ -82,8 +82,8 @@ port_by time port input at row =
     }
 
 -- a port after an input
-abbrev pub heard : ℤ → Port → LinkIn → ℤ → Port
-heard time port input at = port_by time port input at (row_of port.link input)
+abbrev pub after_input : ℤ → Port → LinkIn → ℤ → Port
+after_input time port input at = port_by time port input at (row_of port.link input)
 
 -- what a port may be given: a message that its peer sent at most a frame's life before, a tick not sooner
 -- than dmin after the last, and anything else freely
@@ -109,18 +109,18 @@ pub data Change : Type 0 where
   Lights : Option Module → Option Module → Change
 
 -- the ends after a change
-abbrev pub changed : Ends → Change → Ends
+abbrev pub changed : BothPorts → Change → BothPorts
 changed ends (Passes dt) = record ends { time = ends.time +ℤ pos dt }
-changed ends (Hears role input at) = with_end ends role (heard ends.time (end_of ends role) input at)
+changed ends (Hears role input at) = with_end ends role (after_input ends.time (end_of ends role) input at)
 changed ends (Starts role) = with_end ends role (record (end_of ends role) { ticked = ends.time })
 changed ends (Lights of_master of_slave) =
     record ends {
-      master = heard ends.time ends.master (CarrierUp of_master) (pos 0);
-      slave = heard ends.time ends.slave (CarrierUp of_slave) (pos 0);
+      master = after_input ends.time ends.master (CarrierUp of_master) (pos 0);
+      slave = after_input ends.time ends.slave (CarrierUp of_slave) (pos 0);
     }
 
 -- a change that may come: a carrier comes at both ends alone
-abbrev pub MayCome : (life dmin : ℕ) → Ends → Change → Type 0
+abbrev pub MayCome : (life dmin : ℕ) → BothPorts → Change → Type 0
 MayCome life dmin ends (Passes dt) = Unit {0}
 MayCome life dmin ends (Hears role input at) =
     IsNoCarrier input × MayHear life dmin ends.time (end_of ends role) (end_of ends (other_of role)) input at
@@ -128,12 +128,12 @@ MayCome life dmin ends (Starts role) = Unit {0}
 MayCome life dmin ends (Lights of_master of_slave) = Unit {0}
 
 -- the ends after a list of changes, the newest first
-abbrev pub ends_after : Ends → List Change → Ends
+abbrev pub ends_after : BothPorts → List Change → BothPorts
 ends_after ends [] = ends
 ends_after ends (change ∷ older) = changed (ends_after ends older) change
 
 -- each of a list of changes, the newest first, may come when it does
-abbrev pub AllMayCome : (life dmin : ℕ) → Ends → List Change → Type 0
+abbrev pub AllMayCome : (life dmin : ℕ) → BothPorts → List Change → Type 0
 AllMayCome life dmin ends [] = Unit {0}
 AllMayCome life dmin ends (change ∷ older) =
     MayCome life dmin (ends_after ends older) change × AllMayCome life dmin ends older
@@ -143,7 +143,7 @@ abbrev pub new_port : Role → LinkSet → ℤ → Port
 new_port role set time = record { link = new_link role set; ticked = time; marks = []; sent = [] }
 
 -- a link before its first change
-abbrev pub new_ends : LinkSet → LinkSet → ℤ → Ends
+abbrev pub new_ends : LinkSet → LinkSet → ℤ → BothPorts
 new_ends of_master of_slave time =
     record { time = time; master = new_port Master of_master time; slave = new_port Slave of_slave time }
 
@@ -152,7 +152,7 @@ abbrev pub OutlivesFrames : (life dmin : ℕ) → LinkSet → Type 0
 OutlivesFrames life dmin set = 2 * life < (set.quiet - 1) * dmin
 
 -- ends that a list of changes, each of which may come, can lead to
-pub record CanBe (life dmin : ℕ) (ends : Ends) : Type 0 where
+pub record CanBe (life dmin : ℕ) (ends : BothPorts) : Type 0 where
   pub of_master : LinkSet
   pub of_slave : LinkSet
   pub start : ℤ
@@ -163,12 +163,12 @@ pub record CanBe (life dmin : ℕ) (ends : Ends) : Type 0 where
   pub is : ends ≡ ends_after (new_ends of_master of_slave start) changes
 
 -- when the carriers last came, once a change came too
-abbrev pub lit_by : Ends → Change → ℤ → ℤ
+abbrev pub lit_by : BothPorts → Change → ℤ → ℤ
 lit_by ends (Lights of_master of_slave) before = ends.time
 lit_by ends _ before = before
 
 -- when the carriers last came, over a list of changes, the newest first; the start, where they never did
-abbrev pub lit_at : Ends → List Change → ℤ
+abbrev pub lit_at : BothPorts → List Change → ℤ
 lit_at ends [] = ends.time
 lit_at ends (change ∷ older) = lit_by (ends_after ends older) change (lit_at ends older)
 

@@ -14,12 +14,12 @@ use Rattle.wrp_check.specs.Handshake.{SameHandshake}
 use Rattle.wrp_check.specs.Laws.{state_after, IsHistory}
 use Rattle.wrp_check.specs.Stretches.{stretches_of, newest_of, movers_of}
 use Rattle.wrp_handshake.specs.Deltas.{KnowsDeltas}
-use Rattle.wrp_handshake.specs.Ends.{Ends, Port, CanBe, new_ends, end_of, IsAmong, lit_at, placed_at}
+use Rattle.wrp_handshake.specs.Ends.{BothPorts, Port, CanBe, new_ends, end_of, IsAmong, lit_at, placed_at}
 
 -- a port in WR_LINK_ON is in the same handshake as its peer
 abbrev pub OnInTheSameHandshake : Type 0
 OnInTheSameHandshake =
-    (life dmin : ℕ) (ends : Ends) (role : Role) →
+    (life dmin : ℕ) (ends : BothPorts) (role : Role) →
     CanBe life dmin ends →
     (end_of ends role).link.state ≡ LinkOn →
     SameHandshake role (end_of ends role).marks (end_of ends (other_of role)).marks
@@ -27,14 +27,14 @@ OnInTheSameHandshake =
 -- a slave in WR_LINK_ON knows the deltas of the modules in place at both ends
 abbrev pub OnWithTheDeltas : Type 0
 OnWithTheDeltas =
-    (life dmin : ℕ) (ends : Ends) (can : CanBe life dmin ends) →
+    (life dmin : ℕ) (ends : BothPorts) (can : CanBe life dmin ends) →
     ends.slave.link.state ≡ LinkOn →
     KnowsDeltas ends.slave (placed_at can.changes Master) (placed_at can.changes Slave)
 
 -- a port with its carrier has the module in place
 abbrev pub CarrierWithItsModule : Type 0
 CarrierWithItsModule =
-    (life dmin : ℕ) (ends : Ends) (role : Role) (can : CanBe life dmin ends) →
+    (life dmin : ℕ) (ends : BothPorts) (role : Role) (can : CanBe life dmin ends) →
     (end_of ends role).link.carrier ≡ true →
     (end_of ends role).link.own_module ≡ placed_at can.changes role
 
@@ -46,7 +46,7 @@ pub record LeadsTo (state : LinkState) (marks : List Mark) : Type 0 where
 -- the marks of a port are a history, which leads to its state
 abbrev pub MarksAreAHistory : Type 0
 MarksAreAHistory =
-    (life dmin : ℕ) (ends : Ends) (role : Role) →
+    (life dmin : ℕ) (ends : BothPorts) (role : Role) →
     CanBe life dmin ends →
     LeadsTo (end_of ends role).link.state (end_of ends role).marks
 
@@ -63,7 +63,7 @@ IsLongAgo life time before = (before +ℤ pos (2 * life)) <ℤ time
 -- sent before can be heard any more, nor any that its peer sent when it heard one of these
 abbrev pub QuietTimeOutlivesFrames : Type 0
 QuietTimeOutlivesFrames =
-    (life dmin : ℕ) (ends : Ends) (role : Role) (can : CanBe life dmin ends) →
+    (life dmin : ℕ) (ends : BothPorts) (role : Role) (can : CanBe life dmin ends) →
     IsAwake (end_of ends role) →
     IsLongAgo life ends.time (lit_at (new_ends can.of_master can.of_slave can.start) can.changes)
     × AllByRecursion (λ mark. mark.to ≡ Idle → IsLongAgo life ends.time mark.at) (end_of ends role).marks
@@ -76,7 +76,7 @@ pub record Moved (port : Port) (message : WrMsg) (at : ℤ) : Type 0 where
 -- from the LOCK that moved a slave on, its master begins no new stretch while the slave stays in its own
 abbrev pub MasterStaysFromLock : Type 0
 MasterStaysFromLock =
-    (life dmin : ℕ) (ends : Ends) (at : ℤ) →
+    (life dmin : ℕ) (ends : BothPorts) (at : ℤ) →
     CanBe life dmin ends →
     Moved ends.slave LOCK at →
     AllByRecursion (λ mark. mark.from ≡ Idle → mark.at ≤ℤ at) ends.master.marks
@@ -85,7 +85,7 @@ MasterStaysFromLock =
 -- while the master stays in its own
 abbrev pub SlaveStaysFromLocked : Type 0
 SlaveStaysFromLocked =
-    (life dmin : ℕ) (ends : Ends) (at : ℤ) →
+    (life dmin : ℕ) (ends : BothPorts) (at : ℤ) →
     CanBe life dmin ends →
     Moved ends.master LOCKED at →
     AllByRecursion (λ mark. mark.from ≡ Present → mark.to ≡ SLock → mark.at ≤ℤ at) ends.slave.marks
@@ -93,7 +93,7 @@ SlaveStaysFromLocked =
 -- a slave in WR_LINK_ON whose master has its carrier has its master in WR_LINK_ON
 abbrev pub SlaveOnWithItsMaster : Type 0
 SlaveOnWithItsMaster =
-    (life dmin : ℕ) (ends : Ends) →
+    (life dmin : ℕ) (ends : BothPorts) →
     CanBe life dmin ends →
     ends.slave.link.state ≡ LinkOn →
     ends.master.link.carrier ≡ true →

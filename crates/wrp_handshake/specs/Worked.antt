@@ -10,7 +10,7 @@ use Rattle.wrp_base.specs.declared.message.WrMsg.TheVariants.{Present as SLAVE_P
 use Rattle.wrp_check.specs.Handshake.{SameHandshake}
 use Rattle.wrp_link.specs.declared.interface.LinkIn.TheVariants.{Msg, Announce, Tick}
 use Rattle.wrp_link.specs.declared.interface.LinkSet.{LinkSet}
-use Rattle.wrp_handshake.specs.Ends.{Ends, Change, Passes, Hears, Starts, Lights, OutlivesFrames, AllMayCome, ends_after, new_ends}
+use Rattle.wrp_handshake.specs.Ends.{BothPorts, Change, Passes, Hears, Starts, Lights, OutlivesFrames, AllMayCome, ends_after, new_ends}
 
 -- the module at the master, whose delays are 5 tau to send and 6 tau to receive
 abbrev pub blue : Module
@@ -55,11 +55,11 @@ worked_changes =
     [])))))))))))))))))))))))
 
 -- both ends before all that
-abbrev pub before_it : Ends
+abbrev pub before_it : BothPorts
 before_it = new_ends set set (pos 100)
 
 -- both ends once all that has happened
-abbrev pub after_it : Ends
+abbrev pub after_it : BothPorts
 after_it = ends_after before_it worked_changes
 
 -- M_LOCK in the place of CALIBRATION

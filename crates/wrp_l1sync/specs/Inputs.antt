@@ -68,17 +68,17 @@ send_of interval before Tick =
     if is_enabled before && ((ticks_of before + 1) % interval == 0) then Some (own_of before) else None
 send_of interval before _ = None
 
--- the place of a state in the list of states
-abbrev pub place_of : L1State → ℕ
-place_of Disabled = 0
-place_of Idle = 1
-place_of LinkAlive = 2
-place_of ConfigMatch = 3
-place_of Up = 4
+-- the rank of a state in the list of states
+abbrev pub rank_of : L1State → ℕ
+rank_of Disabled = 0
+rank_of Idle = 1
+rank_of LinkAlive = 2
+rank_of ConfigMatch = 3
+rank_of Up = 4
 
 -- the second of two states, where it differs from the first
 abbrev pub change_of : L1State → L1State → Option L1State
-change_of from to = if place_of from == place_of to then None else Some to
+change_of from to = if rank_of from == rank_of to then None else Some to
 
 -- what a port answers to an input after these
 abbrev pub out_of : (timeout interval : ℕ) → List L1In → L1In → L1Out

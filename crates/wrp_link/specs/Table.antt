@@ -76,21 +76,21 @@ abbrev pub is_used : LinkAt → LinkIn → Bool
 is_used l (Msg message) = is_row (row_of l (Msg message))
 is_used l _ = true
 
--- the place of a state in the list of states
-abbrev pub place_of : LinkState → ℕ
-place_of Idle = 0
-place_of Present = 1
-place_of SLock = 2
-place_of MLock = 3
-place_of Locked = 4
-place_of Calibration = 5
-place_of Calibrated = 6
-place_of RespCalib = 7
-place_of LinkOn = 8
+-- the rank of a state in the list of states
+abbrev pub rank_of : LinkState → ℕ
+rank_of Idle = 0
+rank_of Present = 1
+rank_of SLock = 2
+rank_of MLock = 3
+rank_of Locked = 4
+rank_of Calibration = 5
+rank_of Calibrated = 6
+rank_of RespCalib = 7
+rank_of LinkOn = 8
 
 -- whether two states are one
 abbrev pub is_same : LinkState → LinkState → Bool
-is_same a b = place_of a == place_of b
+is_same a b = rank_of a == rank_of b
 
 -- the second of two states, where it differs from the first
 abbrev pub change_of : LinkState → LinkState → Option LinkState

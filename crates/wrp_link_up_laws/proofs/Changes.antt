@@ -14,7 +14,7 @@ use Rattle.wrp_link.specs.Rows.{Row, NoRow, Stays, Moves, Keeps, Resends, Fails,
 use Rattle.wrp_link.specs.Table.{counted, by_row, sent_by}
 use Rattle.wrp_link.proofs.Fits.{Belongs}
 use Rattle.wrp_link.proofs.Orders.{counted_state}
-use Rattle.wrp_handshake.specs.Ends.{Sending, Port, Ends, Change, Passes, Hears, stamped, ticked_by, MayHear, changed, ends_after}
+use Rattle.wrp_handshake.specs.Ends.{Sending, Port, BothPorts, Change, Passes, Hears, stamped, ticked_by, MayHear, changed, ends_after}
 use Rattle.wrp_handshake.specs.Laws.{IsAwake}
 use Rattle.wrp_handshake.proofs.Failing.{row_fails}
 use Rattle.wrp_handshake.proofs.RowFits.{RowFits, row_fits}
@@ -28,7 +28,7 @@ use Rattle.wrp_link_up_laws.proofs.Sums.{on_long, since_lit, below}
 use Rattle.wrp_link_up_laws.proofs.Tells.{IsTick, RowTells, row_tells}
 
 -- where a link stands since the carriers came: it comes up, or its slave is in WR_LINK_ON
-pub data Standing (g : Given) (first : Ends) (changes : List Change) (lit : ℤ) (ends : Ends) : Type 0 where
+pub data Standing (g : Given) (first : BothPorts) (changes : List Change) (lit : ℤ) (ends : BothPorts) : Type 0 where
   coming :
       (me : ℤ) → (se : ℤ) → PortUp g ends.time lit Master ends.master.link ends.master.ticked ends.master.sent me →
       PortUp g ends.time lit Slave ends.slave.link ends.slave.ticked ends.slave.sent se →
@@ -36,7 +36,7 @@ pub data Standing (g : Given) (first : Ends) (changes : List Change) (lit : ℤ)
   is_on : ends.slave.link.state ≡ LinkOn → ends.slave.link.role ≡ Slave → ends.master.link.carrier ≡ true → Standing g first changes lit ends
 
 -- what is owed at a moment, for a link that comes up
-pub prompt_of : (g : Given) (first : Ends) (older : List Change) → IsPrompt g.pace first older →
+pub prompt_of : (g : Given) (first : BothPorts) (older : List Change) → IsPrompt g.pace first older →
     Prompt g first older (ends_after first older).time (ends_after first older).master.ticked (ends_after first older).slave.ticked
 prompt_of g first older p = record { master = p.ticks Master; slave = p.ticks Slave; hears = p.hears; offers_come = p.offered; locks = p.locks }
 
@@ -65,7 +65,7 @@ passes_up g time lit dt role l tick sent e u =
     }
 
 passes_exchange :
-    (g : Given) (first : Ends) (older : List Change) (dt : ℕ) (taker : Role) (gl rl : LinkAt) (ge re : ℤ) (slack : ℕ) (by : ℤ) →
+    (g : Given) (first : BothPorts) (older : List Change) (dt : ℕ) (taker : Role) (gl rl : LinkAt) (ge re : ℤ) (slack : ℕ) (by : ℤ) →
     Exchange g first older taker gl rl ge re slack by → Exchange g first (Passes dt ∷ older) taker gl rl ge re slack by
 passes_exchange g first older dt taker gl rl ge re slack by (calls gs rs a b c o) = calls gs rs a b c (inr (o, λ h. h))
 passes_exchange g first older dt taker gl rl ge re slack by (answers gs rs a b) = answers gs rs a b
@@ -75,7 +75,7 @@ passes_exchange g first older dt taker gl rl ge re slack by (waits gs rs a b whi
     waits gs rs a b (elim which [ inl f ↦ inl f | inr o ↦ inr (o.0, (o.1.0, (o.1.1.0, (o.1.1.1.0, inr (o.1.1.1.1, λ h. h))))) ])
 
 pub passes_stage :
-    (g : Given) (first : Ends) (older : List Change) (dt : ℕ) (lit : ℤ) (ml sl : LinkAt) (me se : ℤ) (sent : List Sending) →
+    (g : Given) (first : BothPorts) (older : List Change) (dt : ℕ) (lit : ℤ) (ml sl : LinkAt) (me se : ℤ) (sent : List Sending) →
     Stage g first older lit ml sl me se sent → Stage g first (Passes dt ∷ older) lit ml sl me se sent
 passes_stage g first older dt lit ml sl me se sent (resting mi si w) =
     resting mi si
@@ -188,7 +188,7 @@ before_not_on Slave l is on = not_on l Locked is (λ e. cc) on
 before_not_on Master l is on = not_on l Calibrated is (λ e. cc) on
 
 exchange_not_on :
-    (g : Given) (first : Ends) (older : List Change) (taker : Role) (gl rl : LinkAt) (ge re : ℤ) (slack : ℕ) (by : ℤ) →
+    (g : Given) (first : BothPorts) (older : List Change) (taker : Role) (gl rl : LinkAt) (ge re : ℤ) (slack : ℕ) (by : ℤ) →
     Exchange g first older taker gl rl ge re slack by → (gl.state ≡ LinkOn → ⊥) × (rl.state ≡ LinkOn → ⊥)
 exchange_not_on g first older taker gl rl ge re slack by (calls gs rs a b c o) = (not_on gl Calibration gs (λ e. cc), before_not_on taker rl rs)
 exchange_not_on g first older taker gl rl ge re slack by (answers gs rs a b) = (not_on gl Calibration gs (λ e. cc), not_on rl RespCalib rs (λ e. cc))
@@ -197,7 +197,7 @@ exchange_not_on g first older taker gl rl ge re slack by (waits gs rs a b which)
 
 -- the master is not chased out of WR_LINK_ON
 master_safe :
-    (g : Given) (first : Ends) (older : List Change) (time lit : ℤ) (p q : Port) (me se : ℤ) (input : LinkIn) (at0 : ℤ) →
+    (g : Given) (first : BothPorts) (older : List Change) (time lit : ℤ) (p q : Port) (me se : ℤ) (input : LinkIn) (at0 : ℤ) →
     Holds g Master → PortUp g time lit Master p.link p.ticked p.sent me → MayHear g.life g.dmin time p q input at0 →
     Stage g first older lit p.link q.link me se q.sent →
     p.link.state ≡ LinkOn → input ≡ Msg SLAVE_PRESENT → p.link.set.quiet ≤ p.link.on_ticks → ⊥
@@ -216,7 +216,7 @@ master_safe g first older time lit p q me se input at0 h u may (turning mi si a 
     (subst (λ (s : LinkSet). s.quiet ≤ p.link.on_ticks) u.same_set long) (u.on on) u.ticked told.1 (f (SLAVE_PRESENT, at0) told.0 refl)
 
 slave_safe :
-    (g : Given) (first : Ends) (older : List Change) (lit : ℤ) (ml sl : LinkAt) (me se : ℤ) (sent : List Sending) →
+    (g : Given) (first : BothPorts) (older : List Change) (lit : ℤ) (ml sl : LinkAt) (me se : ℤ) (sent : List Sending) →
     Stage g first older lit ml sl me se sent → sl.state ≡ LinkOn → ⊥
 slave_safe g first older lit ml sl me se sent (resting mi si w) on = not_on sl Idle si (λ e. cc) on
 slave_safe g first older lit ml sl me se sent (offered mi z si a o) on = not_on sl Present si (λ e. cc) on
@@ -242,7 +242,7 @@ outcome_of g time lit role p e input st u =
 
 -- the master is given an input
 pub master_hears :
-    (g : Given) (first : Ends) (older : List Change) (lit : ℤ) (input : LinkIn) (at0 : ℤ) (me se : ℤ) → BothHold g →
+    (g : Given) (first : BothPorts) (older : List Change) (lit : ℤ) (input : LinkIn) (at0 : ℤ) (me se : ℤ) → BothHold g →
     PortUp g (ends_after first older).time lit Master (ends_after first older).master.link (ends_after first older).master.ticked (ends_after first older).master.sent me →
     PortUp g (ends_after first older).time lit Slave (ends_after first older).slave.link (ends_after first older).slave.ticked (ends_after first older).slave.sent se →
     Stage g first older lit (ends_after first older).master.link (ends_after first older).slave.link me se (ends_after first older).slave.sent →
@@ -250,7 +250,7 @@ pub master_hears :
     MayHear g.life g.dmin (ends_after first older).time (ends_after first older).master (ends_after first older).slave input at0 →
     Standing g first (Hears Master input at0 ∷ older) lit (changed (ends_after first older) (Hears Master input at0))
 master_hears g first older lit input at0 me se h um us s p leaves turn may =
-    let ends : Ends = ends_after first older in
+    let ends : BothPorts = ends_after first older in
     let pr : Prompt g first older ends.time ends.master.ticked ends.slave.ticked = prompt_of g first older p in
     let st : Step g Master ends.time ends.master.link ends.master.ticked me input =
     record {
@@ -285,7 +285,7 @@ awake_quiet p a idle = elim a.over [ inl out ↦ absurd (out idle) | inr q ↦ q
 
 -- the slave is given an input
 pub slave_hears :
-    (g : Given) (first : Ends) (older : List Change) (lit : ℤ) (input : LinkIn) (at0 : ℤ) (me se : ℤ) → BothHold g →
+    (g : Given) (first : BothPorts) (older : List Change) (lit : ℤ) (input : LinkIn) (at0 : ℤ) (me se : ℤ) → BothHold g →
     PortUp g (ends_after first older).time lit Master (ends_after first older).master.link (ends_after first older).master.ticked (ends_after first older).master.sent me →
     PortUp g (ends_after first older).time lit Slave (ends_after first older).slave.link (ends_after first older).slave.ticked (ends_after first older).slave.sent se →
     Stage g first older lit (ends_after first older).master.link (ends_after first older).slave.link me se (ends_after first older).slave.sent →
@@ -293,7 +293,7 @@ pub slave_hears :
     MayHear g.life g.dmin (ends_after first older).time (ends_after first older).slave (ends_after first older).master input at0 →
     Standing g first (Hears Slave input at0 ∷ older) lit (changed (ends_after first older) (Hears Slave input at0))
 slave_hears g first older lit input at0 me se h um us s p steady turn may =
-    let ends : Ends = ends_after first older in
+    let ends : BothPorts = ends_after first older in
     let pr : Prompt g first older ends.time ends.master.ticked ends.slave.ticked = prompt_of g first older p in
     let st : Step g Slave ends.time ends.slave.link ends.slave.ticked se input =
     record {

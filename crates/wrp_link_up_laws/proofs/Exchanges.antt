@@ -13,7 +13,7 @@ use Rattle.wrp_link.specs.declared.interface.LinkIn.{LinkIn}
 use Rattle.wrp_link.specs.declared.interface.LinkIn.TheVariants.{Msg}
 use Rattle.wrp_link.specs.LinkAt.{LinkAt, wait_of}
 use Rattle.wrp_link.specs.Rows.{own_calibrate, own_calibrated, resent}
-use Rattle.wrp_handshake.specs.Ends.{Sending, Ends, Change, Hears, IsAmong, stamped}
+use Rattle.wrp_handshake.specs.Ends.{Sending, BothPorts, Change, Hears, IsAmong, stamped}
 use Rattle.wrp_link_up_laws.specs.Pace.{InTurn, IsUnheard, IsHeard}
 use Rattle.wrp_link_up_laws.proofs.Ports.{Given, Holds, BothHold, PortUp, IsFresh, Outcome, stays, moves, reached, told_from, Runs, same_waiting}
 use Rattle.wrp_link_up_laws.proofs.Sums.{le_self}
@@ -113,7 +113,7 @@ told_now l role input to time ms m =
     (o.0, (o.1.0, subst (λ (xs : List WrMsg). IsAmong (CALIBRATED o.0 o.1.0, time) (stamped time xs [])) (sym (says_calibrated role l input to ms m)) (inl (ap (λ (x : WrMsg). (x, time)) (sym o.1.1)))))
 
 -- a CALIBRATED that was told is not heard before its CALIBRATE
-not_before : (g : Given) (first : Ends) (older : List Change) (taker : Role) (input : LinkIn) (at0 c ge : ℤ) (tx rx : ℕ) →
+not_before : (g : Given) (first : BothPorts) (older : List Change) (taker : Role) (input : LinkIn) (at0 c ge : ℤ) (tx rx : ℕ) →
     InTurn first older (Hears taker input at0) → c ≤ℤ ge → IsUnheard first taker own_calibrate older c → IsHeard taker (CALIBRATED tx rx, ge) (Hears taker input at0) → ⊥
 not_before g first older taker input at0 c ge tx rx turn le o i =
     turn tx rx 0 0 0 c i.1.0 (subst (λ (t : ℤ). c ≤ℤ t) (sym i.1.1) le) o
@@ -127,7 +127,7 @@ first_wait g time lit role l tick sent e u is due fresh =
     first_wait_by g role (g.set role).wait l e tick time (u.timer (g.set role).wait timed) fresh due
 
 pub giver_patient :
-    (g : Given) (first : Ends) (older : List Change) (taker : Role) (time lit : ℤ) (gl rl : LinkAt) (tick : ℤ) (sent : List Sending) (ge re : ℤ) (slack : ℕ) (by : ℤ) →
+    (g : Given) (first : BothPorts) (older : List Change) (taker : Role) (time lit : ℤ) (gl rl : LinkAt) (tick : ℤ) (sent : List Sending) (ge re : ℤ) (slack : ℕ) (by : ℤ) →
     Holds g (other_of taker) → PortUp g time lit (other_of taker) gl tick sent ge → time ≤ℤ (tick +ℤ pos g.pace.dmax) →
     ((m : WrMsg) (at : ℤ) → IsUnheard first taker m older at → time ≤ℤ (at +ℤ pos g.pace.delay)) →
     Exchange g first older taker gl rl ge re slack by → IsPatient g (other_of taker) time gl ge
@@ -145,7 +145,7 @@ patient_before g Slave l e time h s t = patient_at g Slave Locked l e time h s t
 patient_before g Master l e time h s t = patient_at g Master Calibrated l e time h s t
 
 pub taker_patient :
-    (g : Given) (first : Ends) (older : List Change) (taker : Role) (time lit : ℤ) (gl rl : LinkAt) (tick : ℤ) (sent : List Sending) (ge re : ℤ) (slack : ℕ) (by : ℤ) →
+    (g : Given) (first : BothPorts) (older : List Change) (taker : Role) (time lit : ℤ) (gl rl : LinkAt) (tick : ℤ) (sent : List Sending) (ge re : ℤ) (slack : ℕ) (by : ℤ) →
     BothHold g → PortUp g time lit (other_of taker) gl tick sent ge → time ≤ℤ (tick +ℤ pos g.pace.dmax) → slack ≤ g.slowest + g.pace.delay →
     ((m : WrMsg) (at : ℤ) → IsUnheard first taker m older at → time ≤ℤ (at +ℤ pos g.pace.delay)) →
     Exchange g first older taker gl rl ge re slack by → IsPatient g taker time rl re
@@ -162,18 +162,18 @@ taker_patient g first older taker time lit gl rl tick sent ge re slack by h u du
     (exchange_soon g first older taker time tick gl ge hears (first_wait g time lit (other_of taker) gl tick sent ge u gs due) which) (omega (arith, (h (other_of taker)).slower)))
 
 -- what a step of the giver makes
-pub record GiverStepped (g : Given) (first : Ends) (changes : List Change) (taker : Role) (time lit : ℤ) (gl rl : LinkAt) (tick : ℤ) (sent : List Sending) (re : ℤ) (slack : ℕ) (by : ℤ) : Type 0 where
+pub record GiverStepped (g : Given) (first : BothPorts) (changes : List Change) (taker : Role) (time lit : ℤ) (gl rl : LinkAt) (tick : ℤ) (sent : List Sending) (re : ℤ) (slack : ℕ) (by : ℤ) : Type 0 where
   pub e : ℤ
   pub up : PortUp g time lit (other_of taker) gl tick sent e
   pub exchange : Exchange g first changes taker gl rl e re slack by
 
 -- the change of a giver is not heard by the taker
-unheard_still : (first : Ends) (older : List Change) (taker : Role) (input : LinkIn) (at0 : ℤ) (m : WrMsg) (at : ℤ) →
+unheard_still : (first : BothPorts) (older : List Change) (taker : Role) (input : LinkIn) (at0 : ℤ) (m : WrMsg) (at : ℤ) →
     IsUnheard first taker m older at → IsUnheard first taker m (Hears (other_of taker) input at0 ∷ older) at
 unheard_still first older taker input at0 m at o = inr (o, λ h. not_self taker h.0)
 
 pub giver_steps :
-    (g : Given) (first : Ends) (older : List Change) (taker : Role) (time lit : ℤ) (gl rl next : LinkAt) (tick later : ℤ) (sent more : List Sending) (ge re : ℤ) (slack : ℕ) (by : ℤ) (input : LinkIn) (at0 : ℤ) (ms : List WrMsg) →
+    (g : Given) (first : BothPorts) (older : List Change) (taker : Role) (time lit : ℤ) (gl rl next : LinkAt) (tick later : ℤ) (sent more : List Sending) (ge re : ℤ) (slack : ℕ) (by : ℤ) (input : LinkIn) (at0 : ℤ) (ms : List WrMsg) →
     Holds g (other_of taker) → PortUp g time lit (other_of taker) gl tick sent ge → time ≤ℤ (tick +ℤ pos g.pace.dmax) → re ≤ℤ time →
     ((m : WrMsg) (at : ℤ) → IsUnheard first taker m older at → time ≤ℤ (at +ℤ pos g.pace.delay)) →
     ((m : WrMsg) → input ≡ Msg m → told_from taker m ≤ reached taker rl.state) →
@@ -265,13 +265,13 @@ pub record Taken (g : Given) (taker : Role) (time lit : ℤ) (gl rl next : LinkA
   pub soon : time ≤ℤ (ge +ℤ pos (a_wait g (other_of taker)))
   pub early : ge ≤ℤ (by +ℤ pos g.pace.dmax)
 
-pub record TakerStepped (g : Given) (first : Ends) (changes : List Change) (taker : Role) (time lit : ℤ) (gl rl : LinkAt) (later : ℤ) (more : List Sending) (ge : ℤ) (slack : ℕ) (by : ℤ) : Type 0 where
+pub record TakerStepped (g : Given) (first : BothPorts) (changes : List Change) (taker : Role) (time lit : ℤ) (gl rl : LinkAt) (later : ℤ) (more : List Sending) (ge : ℤ) (slack : ℕ) (by : ℤ) : Type 0 where
   pub e : ℤ
   pub up : PortUp g time lit taker rl later more e
   pub exchange : Exchange g first changes taker gl rl ge e slack by
 
 pub taker_steps :
-    (g : Given) (first : Ends) (older : List Change) (taker : Role) (time lit : ℤ) (gl rl next : LinkAt) (tick later : ℤ) (sent more : List Sending) (ge re : ℤ) (slack : ℕ) (by : ℤ) (input : LinkIn) (at0 : ℤ) (ms : List WrMsg) →
+    (g : Given) (first : BothPorts) (older : List Change) (taker : Role) (time lit : ℤ) (gl rl next : LinkAt) (tick later : ℤ) (sent more : List Sending) (ge re : ℤ) (slack : ℕ) (by : ℤ) (input : LinkIn) (at0 : ℤ) (ms : List WrMsg) →
     PortUp g time lit (other_of taker) gl tick sent ge → time ≤ℤ (tick +ℤ pos g.pace.dmax) →
     ((m : WrMsg) (at : ℤ) → IsUnheard first taker m older at → time ≤ℤ (at +ℤ pos g.pace.delay)) →
     ((m : WrMsg) → input ≡ Msg m → told_from (other_of taker) m ≤ reached (other_of taker) gl.state) →

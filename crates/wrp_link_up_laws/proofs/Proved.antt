@@ -11,7 +11,7 @@ use Rattle.wrp_link.specs.LinkAt.{LinkAt, with_carrier}
 use Rattle.wrp_link.specs.Rows.{row_of}
 use Rattle.wrp_link.proofs.Orders.{idle_belongs}
 use Rattle.wrp_link.proofs.Runs.{by_row_role, by_row_set}
-use Rattle.wrp_handshake.specs.Ends.{Sending, Port, Ends, Change, Passes, Hears, Starts, Lights, IsAmong, MayCome, AllMayCome, CanBe, changed, ends_after}
+use Rattle.wrp_handshake.specs.Ends.{Sending, Port, BothPorts, Change, Passes, Hears, Starts, Lights, IsAmong, MayCome, AllMayCome, CanBe, changed, ends_after}
 use Rattle.wrp_handshake.proofs.Changes.{EndsKeep, all_keep, start_keeps}
 use Rattle.wrp_handshake.proofs.Proved as handshake
 use Rattle.wrp_link_up_laws.specs.Laws.{LinkRun, lights, new, changes, dark, lit, last, IsServed, BothOutlast, BothInTurn, IsPast, IsUp, ComesUp, ComesUpInTurn}
@@ -25,11 +25,11 @@ use Rattle.wrp_link_up_laws.proofs.Tells.{row_tells}
 
 -- each change
 changed_stands :
-    (g : Given) (first : Ends) (older : List Change) (lit : ℤ) (change : Change) → BothHold g → EndsKeep g.life g.dmin (ends_after first older) →
+    (g : Given) (first : BothPorts) (older : List Change) (lit : ℤ) (change : Change) → BothHold g → EndsKeep g.life g.dmin (ends_after first older) →
     MayCome g.life g.dmin (ends_after first older) change → IsSteady (ends_after first older) change → IsPrompt g.pace first older → (g.in_turn ≡ true → InTurn first older change) →
     Standing g first older lit (ends_after first older) → Standing g first (change ∷ older) lit (changed (ends_after first older) change)
 changed_stands g first older lit (Passes dt) h k may steady p turn (coming me se um us s) =
-    let ends : Ends = ends_after first older in
+    let ends : BothPorts = ends_after first older in
     coming me se (passes_up g ends.time lit dt Master ends.master.link ends.master.ticked ends.master.sent me um)
     (passes_up g ends.time lit dt Slave ends.slave.link ends.slave.ticked ends.slave.sent se us)
     (passes_stage g first older dt lit ends.master.link ends.slave.link me se ends.slave.sent s)
@@ -47,12 +47,12 @@ changed_stands g first older lit (Hears Slave input at) h k may steady p turn (i
 changed_stands g first older lit (Starts role) h k may steady p turn s = absurd steady
 changed_stands g first older lit (Lights of_master of_slave) h k may steady p turn s = absurd steady
 
-prompt_at : (pace : Pace) (first : Ends) (changes : List Change) → IsGood pace first changes → IsPrompt pace first changes
+prompt_at : (pace : Pace) (first : BothPorts) (changes : List Change) → IsGood pace first changes → IsPrompt pace first changes
 prompt_at pace first [] good = good
 prompt_at pace first (change ∷ older) good = good.1.0
 
 all_stand :
-    (g : Given) (first : Ends) (lit : ℤ) (since : List Change) → BothHold g → EndsKeep g.life g.dmin first → AllMayCome g.life g.dmin first since →
+    (g : Given) (first : BothPorts) (lit : ℤ) (since : List Change) → BothHold g → EndsKeep g.life g.dmin first → AllMayCome g.life g.dmin first since →
     IsGood g.pace first since → (g.in_turn ≡ true → AllInTurn first since) → Standing g first [] lit first → Standing g first since lit (ends_after first since)
 all_stand g first lit [] h k come good turn s = s
 all_stand g first lit (change ∷ older) h k come good turn s =
@@ -60,11 +60,11 @@ all_stand g first lit (change ∷ older) h k come good turn s =
     (all_stand g first lit older h k come.1 good.1.1 (λ e. (turn e).1) s)
 
 -- both ends keep their counts
-record BothSet (g : Given) (ends : Ends) : Type 0 where
+record BothSet (g : Given) (ends : BothPorts) : Type 0 where
   master : ends.master.link.set ≡ g.set Master
   slave : ends.slave.link.set ≡ g.set Slave
 
-set_changed : (g : Given) (ends : Ends) (change : Change) → BothSet g ends → BothSet g (changed ends change)
+set_changed : (g : Given) (ends : BothPorts) (change : Change) → BothSet g ends → BothSet g (changed ends change)
 set_changed g ends (Passes dt) b = record { master = b.master; slave = b.slave }
 set_changed g ends (Hears Master input at) b = record { master = by_row_set ends.master.link (row_of ends.master.link input) ∙ b.master; slave = b.slave }
 set_changed g ends (Hears Slave input at) b = record { master = b.master; slave = by_row_set ends.slave.link (row_of ends.slave.link input) ∙ b.slave }
@@ -72,7 +72,7 @@ set_changed g ends (Starts Master) b = record { master = b.master; slave = b.sla
 set_changed g ends (Starts Slave) b = record { master = b.master; slave = b.slave }
 set_changed g ends (Lights of_master of_slave) b = record { master = b.master; slave = b.slave }
 
-all_set : (g : Given) (ends : Ends) (changes : List Change) → BothSet g ends → BothSet g (ends_after ends changes)
+all_set : (g : Given) (ends : BothPorts) (changes : List Change) → BothSet g ends → BothSet g (ends_after ends changes)
 all_set g ends [] b = b
 all_set g ends (change ∷ older) b = set_changed g (ends_after ends older) change (all_set g ends older b)
 
@@ -106,7 +106,7 @@ some_quiet life zero dmin h = absurd (omega (arith, h))
 some_quiet life (suc q) dmin h = omega arith
 
 lights_stand :
-    (g : Given) (before : Ends) (of_master of_slave : Module) → BothHold g → EndsKeep g.life g.dmin before → BothSet g before →
+    (g : Given) (before : BothPorts) (of_master of_slave : Module) → BothHold g → EndsKeep g.life g.dmin before → BothSet g before →
     Standing g (changed before (Lights (Some of_master) (Some of_slave))) [] before.time (changed before (Lights (Some of_master) (Some of_slave)))
 lights_stand g before of_master of_slave h k b =
     coming before.time before.time
@@ -115,16 +115,16 @@ lights_stand g before of_master of_slave h k b =
     (resting refl refl (inl (subst (λ (s : LinkSet). 1 ≤ s.quiet) (sym b.master) (some_quiet g.life (g.set Master).quiet g.dmin (h Master).outlives))))
 
 -- a run in two parts
-run_split : (ends : Ends) (since before : List Change) → ends_after ends (since ++ before) ≡ ends_after (ends_after ends before) since
+run_split : (ends : BothPorts) (since before : List Change) → ends_after ends (since ++ before) ≡ ends_after (ends_after ends before) since
 run_split ends [] before = refl
-run_split ends (change ∷ since) before = ap (λ (e : Ends). changed e change) (run_split ends since before)
+run_split ends (change ∷ since) before = ap (λ (e : BothPorts). changed e change) (run_split ends since before)
 
-may_after : (life dmin : ℕ) (ends : Ends) (since before : List Change) → AllMayCome life dmin ends (since ++ before) → AllMayCome life dmin (ends_after ends before) since
+may_after : (life dmin : ℕ) (ends : BothPorts) (since before : List Change) → AllMayCome life dmin ends (since ++ before) → AllMayCome life dmin (ends_after ends before) since
 may_after life dmin ends [] before h = tt
 may_after life dmin ends (change ∷ since) before h =
-    (subst (λ (e : Ends). MayCome life dmin e change) (run_split ends since before) h.0, may_after life dmin ends since before h.1)
+    (subst (λ (e : BothPorts). MayCome life dmin e change) (run_split ends since before) h.0, may_after life dmin ends since before h.1)
 
-may_before : (life dmin : ℕ) (ends : Ends) (since before : List Change) → AllMayCome life dmin ends (since ++ before) → AllMayCome life dmin ends before
+may_before : (life dmin : ℕ) (ends : BothPorts) (since before : List Change) → AllMayCome life dmin ends (since ++ before) → AllMayCome life dmin ends before
 may_before life dmin ends [] before h = h
 may_before life dmin ends (change ∷ since) before h = may_before life dmin ends since before h.1
 
@@ -150,12 +150,12 @@ one_times n d = omega arith
 
 -- by the last stage's time
 up_by :
-    (g : Given) (first : Ends) (since : List Change) (lit : ℤ) → BothHold g → IsGood g.pace first since → Standing g first since lit (ends_after first since) →
+    (g : Given) (first : BothPorts) (since : List Change) (lit : ℤ) → BothHold g → IsGood g.pace first since → Standing g first since lit (ends_after first since) →
     (lit +ℤ pos (by_four g + g.pace.delay)) <ℤ (ends_after first since).time →
     ((ends_after first since).slave.link.state ≡ LinkOn) × ((ends_after first since).master.link.carrier ≡ true)
 up_by g first since lit h good (is_on on role carrier) late = (on, carrier)
 up_by g first since lit h good (coming me se um us s) late =
-    let ends : Ends = ends_after first since in
+    let ends : BothPorts = ends_after first since in
     let soon : ends.time ≤ℤ (lit +ℤ pos (by_four g + g.pace.delay)) =
     all_soon g first since ends.time lit ends.master.link ends.slave.link ends.master.ticked ends.slave.ticked ends.master.sent ends.slave.sent me se h um us
     (prompt_of g first since (prompt_at g.pace first since good)) s in
@@ -195,9 +195,9 @@ is_up life dmin pace run turns slow slowest h served turn late =
     (lights_stand g (dark run) run.at_master run.at_slave h kept sets) in
     let is : last run ≡ ends_after (lit run) run.since = run_split (new run) run.since (lights run ∷ run.before) in
     let came : ((ends_after (lit run) run.since).slave.link.state ≡ LinkOn) × ((ends_after (lit run) run.since).master.link.carrier ≡ true) =
-    up_by g (lit run) run.since (dark run).time h served.good stands (subst (λ (e : Ends). ((dark run).time +ℤ pos (by_four g + pace.delay)) <ℤ e.time) is late) in
-    let on : (last run).slave.link.state ≡ LinkOn = ap (λ (e : Ends). e.slave.link.state) is ∙ came.0 in
-    let carrier : (last run).master.link.carrier ≡ true = ap (λ (e : Ends). e.master.link.carrier) is ∙ came.1 in
+    up_by g (lit run) run.since (dark run).time h served.good stands (subst (λ (e : BothPorts). ((dark run).time +ℤ pos (by_four g + pace.delay)) <ℤ e.time) is late) in
+    let on : (last run).slave.link.state ≡ LinkOn = ap (λ (e : BothPorts). e.slave.link.state) is ∙ came.0 in
+    let carrier : (last run).master.link.carrier ≡ true = ap (λ (e : BothPorts). e.master.link.carrier) is ∙ came.1 in
     let can : CanBe life dmin (last run) =
     record {
       of_master = run.of_master;

@@ -10,7 +10,7 @@ use Rattle.wrp_base.specs.declared.message.WrMsg.TheVariants.{Present as SLAVE_P
 use Rattle.wrp_base.specs.Network.{other_of}
 use Rattle.wrp_link.specs.LinkAt.{LinkAt, wait_of}
 use Rattle.wrp_link.specs.Rows.{own_calibrate}
-use Rattle.wrp_handshake.specs.Ends.{Sending, Ends, Change, IsAmong}
+use Rattle.wrp_handshake.specs.Ends.{Sending, BothPorts, Change, IsAmong}
 use Rattle.wrp_link_up_laws.specs.Pace.{patience, IsUnheard, IsUnoffered, IsUnlocked}
 use Rattle.wrp_link_up_laws.proofs.Ports.{Given, Holds, SentAgain, IsFresh, some_is}
 
@@ -37,11 +37,11 @@ before_calibrate Slave = Locked
 before_calibrate Master = Calibrated
 
 -- the delays were told, and are not yet heard
-abbrev pub Told : Given → Ends → Role → List Change → ℤ → Type 0
+abbrev pub Told : Given → BothPorts → Role → List Change → ℤ → Type 0
 Told g first taker changes at = (g.in_turn ≡ true) × ((tx : ℕ) × ((rx : ℕ) × IsUnheard first taker (CALIBRATED tx rx) changes at))
 
 -- one end tells its delays, and the other, of this role, takes them
-pub data Exchange (g : Given) (first : Ends) (changes : List Change) (taker : Role) (gl rl : LinkAt) (ge re : ℤ) (slack : ℕ) (by : ℤ) : Type 0 where
+pub data Exchange (g : Given) (first : BothPorts) (changes : List Change) (taker : Role) (gl rl : LinkAt) (ge re : ℤ) (slack : ℕ) (by : ℤ) : Type 0 where
   calls :
       gl.state ≡ Calibration → rl.state ≡ before_calibrate taker → re ≤ℤ ge → ge ≤ℤ (re +ℤ pos slack) → ge ≤ℤ by →
       IsUnheard first taker own_calibrate changes ge → Exchange g first changes taker gl rl ge re slack by
@@ -56,12 +56,12 @@ pub data Exchange (g : Given) (first : Ends) (changes : List Change) (taker : Ro
       Exchange g first changes taker gl rl ge re slack by
 
 -- both ends are awake, and wait for an Announce
-abbrev pub BothWait : Given → Ends → List Change → ℤ → LinkAt → LinkAt → Type 0
+abbrev pub BothWait : Given → BothPorts → List Change → ℤ → LinkAt → LinkAt → Type 0
 BothWait g first changes lit ml sl =
     (ml.quiet ≡ 0) × ((sl.quiet ≡ 0) × ((at : ℤ) × ((at ≤ℤ (lit +ℤ pos (g.quiet * g.pace.dmax))) × IsUnoffered first changes at)))
 
 -- where a link stands that comes up
-pub data Stage (g : Given) (first : Ends) (changes : List Change) (lit : ℤ) (ml sl : LinkAt) (me se : ℤ) (sent : List Sending) : Type 0 where
+pub data Stage (g : Given) (first : BothPorts) (changes : List Change) (lit : ℤ) (ml sl : LinkAt) (me se : ℤ) (sent : List Sending) : Type 0 where
   resting :
       ml.state ≡ Idle → sl.state ≡ Idle → (1 ≤ ml.quiet) ⊎ ((1 ≤ sl.quiet) ⊎ BothWait g first changes lit ml sl) →
       Stage g first changes lit ml sl me se sent
@@ -84,7 +84,7 @@ pub data Stage (g : Given) (first : Ends) (changes : List Change) (lit : ℤ) (m
       ((f : Sending) → IsAmong f sent → f.0 ≡ SLAVE_PRESENT → f.1 ≤ℤ me) → Stage g first changes lit ml sl me se sent
 
 -- what is owed at a moment
-pub record Prompt (g : Given) (first : Ends) (older : List Change) (time mtick stick : ℤ) : Type 0 where
+pub record Prompt (g : Given) (first : BothPorts) (older : List Change) (time mtick stick : ℤ) : Type 0 where
   pub master : time ≤ℤ (mtick +ℤ pos g.pace.dmax)
   pub slave : time ≤ℤ (stick +ℤ pos g.pace.dmax)
   pub hears : (role : Role) (m : WrMsg) (at : ℤ) → IsUnheard first role m older at → time ≤ℤ (at +ℤ pos g.pace.delay)
@@ -139,7 +139,7 @@ soon_y b time y z t le = omega (arith, ints)
 
 -- by when an exchange is done
 pub exchange_soon :
-    (g : Given) (first : Ends) (older : List Change) (taker : Role) (time tick : ℤ) (gl : LinkAt) (ge : ℤ) →
+    (g : Given) (first : BothPorts) (older : List Change) (taker : Role) (time tick : ℤ) (gl : LinkAt) (ge : ℤ) →
     ((m : WrMsg) (at : ℤ) → IsUnheard first taker m older at → time ≤ℤ (at +ℤ pos g.pace.delay)) →
     (fresh : (IsFresh g (other_of taker) gl → time ≤ℤ (ge +ℤ pos ((g.set (other_of taker)).wait * g.pace.dmax)))) →
     (IsFresh g (other_of taker) gl × SentAgain g (other_of taker)) ⊎ ((at : ℤ) × ((tx : ℕ) × ((rx : ℕ) × ((at ≤ℤ (ge +ℤ pos (g.slow (other_of taker)))) × IsUnheard first taker (CALIBRATED tx rx) older at)))) →

@@ -13,7 +13,7 @@ use Rattle.wrp_link.specs.declared.interface.LinkIn.{LinkIn}
 use Rattle.wrp_link.specs.declared.interface.LinkIn.TheVariants.{Msg, Announce, Tick}
 use Rattle.wrp_link.specs.LinkAt.{LinkAt}
 use Rattle.wrp_link.specs.Rows.{may_leave_idle, offers, own_calibrate}
-use Rattle.wrp_handshake.specs.Ends.{Sending, Ends, Change, Hears, IsAmong, stamped}
+use Rattle.wrp_handshake.specs.Ends.{Sending, BothPorts, Change, Hears, IsAmong, stamped}
 use Rattle.wrp_link_up_laws.specs.Pace.{InTurn, IsUnheard, IsOffered, AreAwake}
 use Rattle.wrp_link_up_laws.proofs.Ports.{Given, Holds, BothHold, PortUp, Outcome, stays, moves, reached, told_from}
 use Rattle.wrp_link_up_laws.proofs.Sums.{quiet_soon}
@@ -26,7 +26,7 @@ use Rattle.wrp_link_up_laws.proofs.Stages.{a_wait, by_one, by_two, by_three, by_
 
 -- no port is kept beyond its patience
 pub master_patient :
-    (g : Given) (first : Ends) (older : List Change) (time lit : ℤ) (ml sl : LinkAt) (mtick stick : ℤ) (msent ssent : List Sending) (me se : ℤ) →
+    (g : Given) (first : BothPorts) (older : List Change) (time lit : ℤ) (ml sl : LinkAt) (mtick stick : ℤ) (msent ssent : List Sending) (me se : ℤ) →
     BothHold g → PortUp g time lit Master ml mtick msent me → PortUp g time lit Slave sl stick ssent se → Prompt g first older time mtick stick →
     Stage g first older lit ml sl me se ssent → IsPatient g Master time ml me
 master_patient g first older time lit ml sl mtick stick msent ssent me se h um us p (resting mi si w) = untimed g Master Idle ml me time mi refl
@@ -44,7 +44,7 @@ master_patient g first older time lit ml sl mtick stick msent ssent me se h um u
 master_patient g first older time lit ml sl mtick stick msent ssent me se h um us p (turning mi si a b o f) = untimed g Master LinkOn ml me time mi refl
 
 pub slave_patient :
-    (g : Given) (first : Ends) (older : List Change) (time lit : ℤ) (ml sl : LinkAt) (mtick stick : ℤ) (msent ssent : List Sending) (me se : ℤ) →
+    (g : Given) (first : BothPorts) (older : List Change) (time lit : ℤ) (ml sl : LinkAt) (mtick stick : ℤ) (msent ssent : List Sending) (me se : ℤ) →
     BothHold g → PortUp g time lit Master ml mtick msent me → PortUp g time lit Slave sl stick ssent se → Prompt g first older time mtick stick →
     Stage g first older lit ml sl me se ssent → IsPatient g Slave time sl se
 slave_patient g first older time lit ml sl mtick stick msent ssent me se h um us p (resting mi si w) = untimed g Slave Idle sl se time si refl
@@ -70,7 +70,7 @@ called_by : (ge lit time : ℤ) (by dmax z : ℕ) → ge ≤ℤ (lit +ℤ pos by
 called_by ge lit time by dmax z h k le = omega (arith, ints)
 
 exchange_by :
-    (g : Given) (first : Ends) (older : List Change) (taker : Role) (time lit : ℤ) (gl rl : LinkAt) (tick : ℤ) (sent : List Sending) (ge re : ℤ) (slack : ℕ) (by z : ℕ) →
+    (g : Given) (first : BothPorts) (older : List Change) (taker : Role) (time lit : ℤ) (gl rl : LinkAt) (tick : ℤ) (sent : List Sending) (ge re : ℤ) (slack : ℕ) (by z : ℕ) →
     PortUp g time lit (other_of taker) gl tick sent ge → time ≤ℤ (tick +ℤ pos g.pace.dmax) →
     ((m : WrMsg) (at : ℤ) → IsUnheard first taker m older at → time ≤ℤ (at +ℤ pos g.pace.delay)) →
     Exchange g first older taker gl rl ge re slack (lit +ℤ pos by) → by + g.pace.dmax + a_wait g (other_of taker) ≤ z → time ≤ℤ (lit +ℤ pos z)
@@ -95,7 +95,7 @@ quiet_by g role l tick lit time h some soon due =
 
 -- by when a link that is not up stands at the latest
 pub all_soon :
-    (g : Given) (first : Ends) (older : List Change) (time lit : ℤ) (ml sl : LinkAt) (mtick stick : ℤ) (msent ssent : List Sending) (me se : ℤ) →
+    (g : Given) (first : BothPorts) (older : List Change) (time lit : ℤ) (ml sl : LinkAt) (mtick stick : ℤ) (msent ssent : List Sending) (me se : ℤ) →
     BothHold g → PortUp g time lit Master ml mtick msent me → PortUp g time lit Slave sl stick ssent se → Prompt g first older time mtick stick →
     Stage g first older lit ml sl me se ssent → time ≤ℤ (lit +ℤ pos (by_four g + g.pace.delay))
 all_soon g first older time lit ml sl mtick stick msent ssent me se h um us p (resting mi si w) =
@@ -130,7 +130,7 @@ all_soon g first older time lit ml sl mtick stick msent ssent me se h um us p (t
     soon_x me lit time (by_four g) g.pace.delay (by_four g + g.pace.delay) b (p.hears Slave WR_MODE_ON me o) (omega arith)
 
 -- what a step makes of a link that comes up
-pub record Stepped (g : Given) (first : Ends) (changes : List Change) (time lit : ℤ) (ml sl : LinkAt) (mtick stick : ℤ) (msent ssent : List Sending) : Type 0 where
+pub record Stepped (g : Given) (first : BothPorts) (changes : List Change) (time lit : ℤ) (ml sl : LinkAt) (mtick stick : ℤ) (msent ssent : List Sending) : Type 0 where
   pub me : ℤ
   pub se : ℤ
   pub master : PortUp g time lit Master ml mtick msent me
@@ -143,7 +143,7 @@ zero_or_some (suc n) = inr (omega arith)
 
 -- what two resting ends wait for, once a change came
 still_rest :
-    (g : Given) (first : Ends) (older : List Change) (change : Change) (time lit : ℤ) (ml sl ml' sl' : LinkAt) →
+    (g : Given) (first : BothPorts) (older : List Change) (change : Change) (time lit : ℤ) (ml sl ml' sl' : LinkAt) →
     ((1 ≤ ml.quiet) → time ≤ℤ (lit +ℤ pos (g.quiet * g.pace.dmax))) → ((1 ≤ sl.quiet) → time ≤ℤ (lit +ℤ pos (g.quiet * g.pace.dmax))) →
     (BothWait g first older lit ml sl → IsOffered change → ⊥) →
     (ml'.quiet ≡ 0 → sl'.quiet ≡ 0 → AreAwake first (change ∷ older) time) →
@@ -214,7 +214,7 @@ state_out l s is out = λ i. out (sym is ∙ i)
 
 -- no end of an exchange is in IDLE
 exchange_out :
-    (g : Given) (first : Ends) (older : List Change) (taker : Role) (gl rl : LinkAt) (ge re : ℤ) (slack : ℕ) (by : ℤ) →
+    (g : Given) (first : BothPorts) (older : List Change) (taker : Role) (gl rl : LinkAt) (ge re : ℤ) (slack : ℕ) (by : ℤ) →
     Exchange g first older taker gl rl ge re slack by → (gl.state ≢ Idle) × (rl.state ≢ Idle)
 exchange_out g first older taker gl rl ge re slack by (calls gs rs a b c o) = (state_out gl Calibration gs (λ e. cc), before_out taker rl rs)
 exchange_out g first older taker gl rl ge re slack by (answers gs rs a b) = (state_out gl Calibration gs (λ e. cc), state_out rl RespCalib rs (λ e. cc))
@@ -223,7 +223,7 @@ exchange_out g first older taker gl rl ge re slack by (waits gs rs a b which) = 
 
 -- an input at the master
 pub master_steps :
-    (g : Given) (first : Ends) (older : List Change) (time lit : ℤ) (ml sl next : LinkAt) (mtick stick later : ℤ) (msent ssent more : List Sending) (me se : ℤ) (input : LinkIn) (at0 : ℤ) (ms : List WrMsg) →
+    (g : Given) (first : BothPorts) (older : List Change) (time lit : ℤ) (ml sl next : LinkAt) (mtick stick later : ℤ) (msent ssent more : List Sending) (me se : ℤ) (input : LinkIn) (at0 : ℤ) (ms : List WrMsg) →
     BothHold g → PortUp g time lit Master ml mtick msent me → PortUp g time lit Slave sl stick ssent se → Prompt g first older time mtick stick →
     ((ml.state ≡ Idle → ml.quiet ≡ 0) → (m : WrMsg) → input ≡ Msg m → told_from Slave m ≤ reached Slave sl.state) →
     ((m : WrMsg) → IsAmong (m, time) (stamped time ms []) → IsUnheard first Slave m (Hears Master input at0 ∷ older) time) →
@@ -328,7 +328,7 @@ slave_no_present WR_MODE_ON s e = s
 
 -- an input at the slave: the link still comes up, or the slave is in WR_LINK_ON
 pub slave_steps :
-    (g : Given) (first : Ends) (older : List Change) (time lit : ℤ) (ml sl next : LinkAt) (mtick stick later : ℤ) (msent ssent : List Sending) (me se : ℤ) (input : LinkIn) (at0 : ℤ) (ms : List WrMsg) →
+    (g : Given) (first : BothPorts) (older : List Change) (time lit : ℤ) (ml sl next : LinkAt) (mtick stick later : ℤ) (msent ssent : List Sending) (me se : ℤ) (input : LinkIn) (at0 : ℤ) (ms : List WrMsg) →
     BothHold g → PortUp g time lit Master ml mtick msent me → PortUp g time lit Slave sl stick ssent se → Prompt g first older time mtick stick →
     ((sl.state ≡ Idle → sl.quiet ≡ 0) → (m : WrMsg) → input ≡ Msg m → told_from Master m ≤ reached Master ml.state) →
     ((m : WrMsg) → IsAmong (m, time) (stamped time ms []) → IsUnheard first Master m (Hears Slave input at0 ∷ older) time) →

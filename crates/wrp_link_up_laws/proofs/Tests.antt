@@ -15,7 +15,7 @@ use Rattle.wrp_base.specs.Network.{other_of}
 use Rattle.wrp_link.specs.declared.interface.LinkIn.TheVariants.{Msg, Announce, Tick, CarrierDown, CarrierUp}
 use Rattle.wrp_link.specs.Rows.{offers, row_of}
 use Rattle.wrp_link.specs.Table.{sent_by, is_same}
-use Rattle.wrp_handshake.specs.Ends.{Sending, Ends, Change, Passes, Hears, Starts, Lights, end_of, IsAmong, stamped, MayCome, AllMayCome, changed, ends_after}
+use Rattle.wrp_handshake.specs.Ends.{Sending, BothPorts, Change, Passes, Hears, Starts, Lights, end_of, IsAmong, stamped, MayCome, AllMayCome, changed, ends_after}
 use Rattle.wrp_link_up_laws.specs.Pace.{Pace, IsOwed, IsSentBy, IsHeard, IsUnheard, AreAwake, IsOffered, IsLocking, IsLockedTick, IsPrompt, IsSteady, IsGood, InTurn, AllInTurn}
 
 -- parts of a test
@@ -127,7 +127,7 @@ abbrev to_role : Role → List Sending → List Due
 to_role role [] = []
 to_role role (f ∷ fs) = (role, f) ∷ to_role role fs
 
-abbrev sends_to : Ends → Change → List Due
+abbrev sends_to : BothPorts → Change → List Due
 sends_to ends (Hears hearer input at) = to_role (other_of hearer) (stamped ends.time (sent_by (row_of (end_of ends hearer).link input)) [])
 sends_to ends _ = []
 
@@ -146,7 +146,7 @@ the_other Slave Master e = refl
 the_other Master Master e = cc
 the_other Slave Slave e = cc
 
-sent_in : (ends : Ends) (role : Role) (change : Change) (f : Sending) → IsSentBy ends (other_of role) change f → InList (role, f) (sends_to ends change)
+sent_in : (ends : BothPorts) (role : Role) (change : Change) (f : Sending) → IsSentBy ends (other_of role) change f → InList (role, f) (sends_to ends change)
 sent_in ends role (Hears hearer input at) f s =
     subst (λ (r : Role). InList (r, f) (to_role (other_of hearer) (stamped ends.time (sent_by (row_of (end_of ends hearer).link input)) []))) (sym (the_other hearer role s.0))
     (in_role (other_of hearer) f (stamped ends.time (sent_by (row_of (end_of ends hearer).link input)) []) s.1)
@@ -179,12 +179,12 @@ is_over_by Idle quiet o = elim o [ inl f ↦ absurd (f refl) | inr z ↦ ap (λ 
 is_over_by _ quiet o = refl
 
 -- both ends are awake, and the slave is in IDLE
-abbrev awaits : Ends → Bool
+abbrev awaits : BothPorts → Bool
 awaits ends = is_same ends.slave.link.state Idle && (is_over ends.slave.link.state ends.slave.link.quiet && is_over ends.master.link.state ends.master.link.quiet)
 
-awaits_begins : (first : Ends) (changes : List Change) (at : ℤ) → AreAwake first changes at → (awaits (ends_after first changes) ≡ true) × (at ≡ (ends_after first changes).time)
+awaits_begins : (first : BothPorts) (changes : List Change) (at : ℤ) → AreAwake first changes at → (awaits (ends_after first changes) ≡ true) × (at ≡ (ends_after first changes).time)
 awaits_begins first changes at a =
-    let ends : Ends = ends_after first changes in
+    let ends : BothPorts = ends_after first changes in
     let idle : is_same ends.slave.link.state Idle ≡ true = ap (λ s. is_same s Idle) a.idle in
     let mine : is_over ends.slave.link.state ends.slave.link.quiet ≡ true = is_over_by ends.slave.link.state ends.slave.link.quiet a.slave.over in
     let masters : is_over ends.master.link.state ends.master.link.quiet ≡ true = is_over_by ends.master.link.state ends.master.link.quiet a.master.over in
@@ -199,10 +199,10 @@ offers_met (Hears Slave (Announce suffix) at) e = (refl, (suffix, (refl, e)))
 offers_met _ e = cc
 
 -- the slave is in S_LOCK
-abbrev locks_on : Ends → Bool
+abbrev locks_on : BothPorts → Bool
 locks_on ends = is_same ends.slave.link.state SLock
 
-locks_begins : (first : Ends) (changes : List Change) (at : ℤ) → IsLocking first changes at → (locks_on (ends_after first changes) ≡ true) × (at ≡ (ends_after first changes).time)
+locks_begins : (first : BothPorts) (changes : List Change) (at : ℤ) → IsLocking first changes at → (locks_on (ends_after first changes) ≡ true) × (at ≡ (ends_after first changes).time)
 locks_begins first changes at l = (ap (λ s. is_same s SLock) l.locking, l.now)
 
 abbrev locks_now : Change → Bool
@@ -215,7 +215,7 @@ locks_met _ e = cc
 
 -- what is known of a run after a list of changes: its ends, and what is owed
 record At : Type 0 where
-  ends : Ends
+  ends : BothPorts
   unheard : List Due
   -- the times since which an offer is owed, and a tick with the lock detector locked
   unoffered : List ℤ
@@ -233,26 +233,26 @@ next_at a change =
       unlocked = begun (locks_on (changed a.ends change)) (changed a.ends change).time ++ cond (locks_now change) [] a.unlocked;
     }
 
-abbrev first_at : Ends → At
+abbrev first_at : BothPorts → At
 first_at first = record { ends = first; unheard = []; unoffered = []; unlocked = [] }
 
-abbrev at_after : Ends → List Change → At
+abbrev at_after : BothPorts → List Change → At
 at_after first [] = first_at first
 at_after first (change ∷ older) = next_at (at_after first older) change
 
-same_ends : (first : Ends) (changes : List Change) → (at_after first changes).ends ≡ ends_after first changes
+same_ends : (first : BothPorts) (changes : List Change) → (at_after first changes).ends ≡ ends_after first changes
 same_ends first [] = refl
-same_ends first (change ∷ older) = ap (λ (e : Ends). changed e change) (same_ends first older)
+same_ends first (change ∷ older) = ap (λ (e : BothPorts). changed e change) (same_ends first older)
 
 -- each message that is unheard is in the list
-unheard_all : (first : Ends) (changes : List Change) (role : Role) (m : WrMsg) (at : ℤ) → IsUnheard first role m changes at → InList (role, (m, at)) (at_after first changes).unheard
+unheard_all : (first : BothPorts) (changes : List Change) (role : Role) (m : WrMsg) (at : ℤ) → IsUnheard first role m changes at → InList (role, (m, at)) (at_after first changes).unheard
 unheard_all first [] role m at o = absurd o
 unheard_all first (change ∷ older) role m at o =
     let a : At = at_after first older in
     elim o [
       | inl now ↦
           in_left (role, (m, at)) (sends_to a.ends change) (unheard_by change a.unheard)
-          (sent_in a.ends role change (m, at) (subst (λ (e : Ends). IsSentBy e (other_of role) change (m, at)) (sym (same_ends first older)) now))
+          (sent_in a.ends role change (m, at) (subst (λ (e : BothPorts). IsSentBy e (other_of role) change (m, at)) (sym (same_ends first older)) now))
       | inr before ↦
           in_right (role, (m, at)) (sends_to a.ends change) (unheard_by change a.unheard)
           (unheard_in change role (m, at) a.unheard before.1 (unheard_all first older role m at before.0))
@@ -280,7 +280,7 @@ unmet_within false time n ts unmet h = h
 
 -- a thing whose times are kept in this way is owed for no longer than the longest of them
 owed_within :
-    (Begins : List Change → ℤ → Type 0) (Meets : Change → Type 0) (begins : Ends → Bool) (meets : Change → Bool) (kept : At → List ℤ) (first : Ends) →
+    (Begins : List Change → ℤ → Type 0) (Meets : Change → Type 0) (begins : BothPorts → Bool) (meets : Change → Bool) (kept : At → List ℤ) (first : BothPorts) →
     ((a : At) (change : Change) → kept (next_at a change) ≡ begun (begins (changed a.ends change)) (changed a.ends change).time ++ cond (meets change) [] (kept a)) →
     ((changes : List Change) (at : ℤ) → Begins changes at → (begins (ends_after first changes) ≡ true) × (at ≡ (ends_after first changes).time)) →
     ((change : Change) → meets change ≡ true → Meets change) →
@@ -289,8 +289,8 @@ owed_within :
 owed_within Begins Meets begins meets kept first steps begins_so met [] time n e at o = absurd o
 owed_within Begins Meets begins meets kept first steps begins_so met (change ∷ older) time n e at o =
     let a : At = at_after first older in
-    let now : Ends = changed a.ends change in
-    let same : now ≡ ends_after first (change ∷ older) = ap (λ (e : Ends). changed e change) (same_ends first older) in
+    let now : BothPorts = changed a.ends change in
+    let same : now ≡ ends_after first (change ∷ older) = ap (λ (e : BothPorts). changed e change) (same_ends first older) in
     let split : all_within time n (begun (begins now) now.time ++ cond (meets change) [] (kept a)) ≡ true =
     subst (λ (ts : List ℤ). all_within time n ts ≡ true) (steps a change) e in
     let parts : (all_within time n (begun (begins now) now.time) ≡ true) × (all_within time n (cond (meets change) [] (kept a)) ≡ true) =
@@ -298,7 +298,7 @@ owed_within Begins Meets begins meets kept first steps begins_so met (change ∷
     elim o [
       | inl b ↦
           let x : (begins now ≡ true) × (at ≡ now.time) =
-          subst (λ (e : Ends). (begins e ≡ true) × (at ≡ e.time)) (sym same) (begins_so (change ∷ older) at b) in
+          subst (λ (e : BothPorts). (begins e ≡ true) × (at ≡ e.time)) (sym same) (begins_so (change ∷ older) at b) in
           subst (λ (t : ℤ). time ≤ℤ (t +ℤ pos n)) (sym x.1) (begun_within (begins now) time now.time n x.0 parts.0)
       | inr before ↦
           owed_within Begins Meets begins meets kept first steps begins_so met older time n
@@ -313,12 +313,12 @@ prompt pace a =
     && (all_due (λ d. int_le a.ends.time (d.1.1 +ℤ pos pace.delay)) a.unheard
     && (all_within a.ends.time pace.announce a.unoffered && all_within a.ends.time pace.lock a.unlocked)))
 
-both_ticks : (pace : Pace) (ends : Ends) → ends.time ≤ℤ (ends.master.ticked +ℤ pos pace.dmax) → ends.time ≤ℤ (ends.slave.ticked +ℤ pos pace.dmax) →
+both_ticks : (pace : Pace) (ends : BothPorts) → ends.time ≤ℤ (ends.master.ticked +ℤ pos pace.dmax) → ends.time ≤ℤ (ends.slave.ticked +ℤ pos pace.dmax) →
     (role : Role) → ends.time ≤ℤ ((end_of ends role).ticked +ℤ pos pace.dmax)
 both_ticks pace ends m s Master = m
 both_ticks pace ends m s Slave = s
 
-is_prompt : (pace : Pace) (first : Ends) (changes : List Change) → prompt pace (at_after first changes) ≡ true → IsPrompt pace first changes
+is_prompt : (pace : Pace) (first : BothPorts) (changes : List Change) → prompt pace (at_after first changes) ≡ true → IsPrompt pace first changes
 is_prompt pace first changes e =
     let a : At = at_after first changes in
     let time : ℤ = a.ends.time in
@@ -329,21 +329,21 @@ is_prompt pace first changes e =
     let t4 = both (all_within time pace.announce a.unoffered) (all_within time pace.lock a.unlocked) t3.1 in
     record {
       ticks =
-          subst (λ (x : Ends). (role : Role) → x.time ≤ℤ ((end_of x role).ticked +ℤ pos pace.dmax)) now
+          subst (λ (x : BothPorts). (role : Role) → x.time ≤ℤ ((end_of x role).ticked +ℤ pos pace.dmax)) now
           (both_ticks pace a.ends (in_order time (a.ends.master.ticked +ℤ pos pace.dmax) t1.0) (in_order time (a.ends.slave.ticked +ℤ pos pace.dmax) t2.0));
       hears =
-          λ role m at o. subst (λ (x : Ends). x.time ≤ℤ (at +ℤ pos pace.delay)) now
+          λ role m at o. subst (λ (x : BothPorts). x.time ≤ℤ (at +ℤ pos pace.delay)) now
           (in_order time (at +ℤ pos pace.delay) (one_due (λ x. int_le time (x.1.1 +ℤ pos pace.delay)) (role, (m, at)) a.unheard t3.0 (unheard_all first changes role m at o)));
       offered =
-          λ at o. subst (λ (x : Ends). x.time ≤ℤ (at +ℤ pos pace.announce)) now
+          λ at o. subst (λ (x : BothPorts). x.time ≤ℤ (at +ℤ pos pace.announce)) now
           (owed_within (AreAwake first) IsOffered awaits offers_now (λ x. x.unoffered) first (λ b c. refl) (awaits_begins first) offers_met changes time pace.announce t4.0 at o);
       locks =
-          λ at o. subst (λ (x : Ends). x.time ≤ℤ (at +ℤ pos pace.lock)) now
+          λ at o. subst (λ (x : BothPorts). x.time ≤ℤ (at +ℤ pos pace.lock)) now
           (owed_within (IsLocking first) IsLockedTick locks_on locks_now (λ x. x.unlocked) first (λ b c. refl) (locks_begins first) locks_met changes time pace.lock t4.1 at o);
     }
 
 -- whether a change is steady
-abbrev steady : Ends → Change → Bool
+abbrev steady : BothPorts → Change → Bool
 steady ends (Passes dt) = true
 steady ends (Hears Slave (Announce suffix) at) = ends.master.link.carrier && is_over ends.master.link.state ends.master.link.quiet
 steady ends (Hears role CarrierDown at) = false
@@ -352,7 +352,7 @@ steady ends (Hears role input at) = true
 steady ends (Starts role) = false
 steady ends (Lights a b) = false
 
-is_steady : (ends : Ends) (change : Change) → steady ends change ≡ true → IsSteady ends change
+is_steady : (ends : BothPorts) (change : Change) → steady ends change ≡ true → IsSteady ends change
 is_steady ends (Passes dt) e = tt
 is_steady ends (Hears Slave (Announce suffix) at) e =
     let x = both _ _ e in
@@ -370,16 +370,16 @@ is_steady ends (Starts role) e = cc
 is_steady ends (Lights a b) e = cc
 
 -- whether the delivery is good over a list of changes
-abbrev pub good : Pace → Ends → List Change → Bool
+abbrev pub good : Pace → BothPorts → List Change → Bool
 good pace first [] = prompt pace (first_at first)
 good pace first (change ∷ older) = steady (at_after first older).ends change && (prompt pace (at_after first (change ∷ older)) && good pace first older)
 
-pub is_good : (pace : Pace) (first : Ends) (changes : List Change) → good pace first changes ≡ true → IsGood pace first changes
+pub is_good : (pace : Pace) (first : BothPorts) (changes : List Change) → good pace first changes ≡ true → IsGood pace first changes
 is_good pace first [] e = is_prompt pace first [] e
 is_good pace first (change ∷ older) e =
     let a = both (steady (at_after first older).ends change) _ e in
     let b = both (prompt pace (at_after first (change ∷ older))) (good pace first older) a.1 in (
-      subst (λ (x : Ends). IsSteady x change) (same_ends first older) (is_steady (at_after first older).ends change a.0),
+      subst (λ (x : BothPorts). IsSteady x change) (same_ends first older) (is_steady (at_after first older).ends change a.0),
       (is_prompt pace first (change ∷ older) b.0, is_good pace first older b.1),
     )
 
@@ -395,11 +395,11 @@ no_calibrate : (role : Role) (pattern retry period : ℕ) (sent : ℤ) → not (
 no_calibrate Master pattern retry period sent e = cc
 no_calibrate Slave pattern retry period sent e = cc
 
-abbrev turn : Ends → List Change → Change → Bool
+abbrev turn : BothPorts → List Change → Change → Bool
 turn first older (Hears role (Msg (CALIBRATED tx rx)) at) = all_due (λ d. not (calibrates role d)) (at_after first older).unheard
 turn first older _ = true
 
-is_turn : (first : Ends) (older : List Change) (change : Change) → turn first older change ≡ true → InTurn first older change
+is_turn : (first : BothPorts) (older : List Change) (change : Change) → turn first older change ≡ true → InTurn first older change
 is_turn first older (Hears role (Msg (CALIBRATED tx rx)) at) e =
     λ a b pattern retry period sent is le o.
     no_calibrate role pattern retry period sent
@@ -417,11 +417,11 @@ is_turn first older (Passes dt) e = tt
 is_turn first older (Starts role) e = tt
 is_turn first older (Lights a b) e = tt
 
-abbrev pub turns : Ends → List Change → Bool
+abbrev pub turns : BothPorts → List Change → Bool
 turns first [] = true
 turns first (change ∷ older) = turn first older change && turns first older
 
-pub are_turns : (first : Ends) (changes : List Change) → turns first changes ≡ true → AllInTurn first changes
+pub are_turns : (first : BothPorts) (changes : List Change) → turns first changes ≡ true → AllInTurn first changes
 are_turns first [] e = tt
 are_turns first (change ∷ older) e =
     let a = both (turn first older change) (turns first older) e in
@@ -450,13 +450,13 @@ is_among : (f : Sending) (fs : List Sending) → among f fs ≡ true → IsAmong
 is_among f [] e = cc
 is_among f (g ∷ gs) e = among_by (same_message f.0 g.0 && int_eq f.1 g.1) f g gs (same_sending f g) (is_among f gs) e
 
-abbrev may : (life dmin : ℕ) → Ends → Change → Bool
+abbrev may : (life dmin : ℕ) → BothPorts → Change → Bool
 may life dmin ends (Hears role (Msg m) at) = among (m, at) (end_of ends (other_of role)).sent && int_le ends.time (at +ℤ pos life)
 may life dmin ends (Hears role (Tick locked) at) = int_le ((end_of ends role).ticked +ℤ pos dmin) ends.time
 may life dmin ends (Hears role (CarrierUp fitted) at) = false
 may life dmin ends _ = true
 
-may_come : (life dmin : ℕ) (ends : Ends) (change : Change) → may life dmin ends change ≡ true → MayCome life dmin ends change
+may_come : (life dmin : ℕ) (ends : BothPorts) (change : Change) → may life dmin ends change ≡ true → MayCome life dmin ends change
 may_come life dmin ends (Hears role (Msg m) at) e =
     let a = both (among (m, at) (end_of ends (other_of role)).sent) _ e in
     (tt, (is_among (m, at) (end_of ends (other_of role)).sent a.0, in_order ends.time (at +ℤ pos life) a.1))
@@ -468,11 +468,11 @@ may_come life dmin ends (Passes dt) e = tt
 may_come life dmin ends (Starts role) e = tt
 may_come life dmin ends (Lights a b) e = tt
 
-abbrev pub come : (life dmin : ℕ) → Ends → List Change → Bool
+abbrev pub come : (life dmin : ℕ) → BothPorts → List Change → Bool
 come life dmin ends [] = true
 come life dmin ends (change ∷ older) = may life dmin (ends_after ends older) change && come life dmin ends older
 
-pub all_come : (life dmin : ℕ) (ends : Ends) (changes : List Change) → come life dmin ends changes ≡ true → AllMayCome life dmin ends changes
+pub all_come : (life dmin : ℕ) (ends : BothPorts) (changes : List Change) → come life dmin ends changes ≡ true → AllMayCome life dmin ends changes
 all_come life dmin ends [] e = tt
 all_come life dmin ends (change ∷ older) e =
     let a = both (may life dmin (ends_after ends older) change) (come life dmin ends older) e in

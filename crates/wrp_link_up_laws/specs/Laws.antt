@@ -3,7 +3,7 @@ use Rattle.std.specs.Prelude.{◌≡◌, ℕ, ℤ, pos, ◌+ℤ◌, ◌<ℤ◌, 
 use Rattle.wrp_base.specs.declared.link.LinkState.TheVariants.{LinkOn}
 use Rattle.wrp_base.specs.declared.link.Module.{Module}
 use Rattle.wrp_link.specs.declared.interface.LinkSet.{LinkSet}
-use Rattle.wrp_handshake.specs.Ends.{Ends, Change, Lights, AllMayCome, OutlivesFrames, ends_after, new_ends}
+use Rattle.wrp_handshake.specs.Ends.{BothPorts, Change, Lights, AllMayCome, OutlivesFrames, ends_after, new_ends}
 use Rattle.wrp_link_up_laws.specs.Pace.{Pace, Outlasts, OutlastsInTurn, IsGood, AllInTurn, time_to_up, time_in_turn}
 
 -- a link from its first change on, with all that happens before its carriers come and since, the newest first
@@ -22,7 +22,7 @@ abbrev pub lights : LinkRun → Change
 lights run = Lights (Some run.at_master) (Some run.at_slave)
 
 -- the ends before anything happened
-abbrev pub new : LinkRun → Ends
+abbrev pub new : LinkRun → BothPorts
 new run = new_ends run.of_master run.of_slave run.start
 
 -- all that happens, the newest first
@@ -30,13 +30,13 @@ abbrev pub changes : LinkRun → List Change
 changes run = run.since ++ lights run ∷ run.before
 
 -- the ends before the carriers come, as they came, and after all
-abbrev pub dark : LinkRun → Ends
+abbrev pub dark : LinkRun → BothPorts
 dark run = ends_after (new run) run.before
 
-abbrev pub lit : LinkRun → Ends
+abbrev pub lit : LinkRun → BothPorts
 lit run = ends_after (new run) (lights run ∷ run.before)
 
-abbrev pub last : LinkRun → Ends
+abbrev pub last : LinkRun → BothPorts
 last run = ends_after (new run) (changes run)
 
 -- what both laws ask: White Rabbit at both ends, quiet times that outlive two frames, changes that may come,
@@ -65,7 +65,7 @@ abbrev pub IsPast : LinkRun → ℕ → Type 0
 IsPast run time = ((dark run).time +ℤ pos time) <ℤ (last run).time
 
 -- both ends of a link are in WR_LINK_ON
-pub record IsUp (ends : Ends) : Type 0 where
+pub record IsUp (ends : BothPorts) : Type 0 where
   pub master : ends.master.link.state ≡ LinkOn
   pub slave : ends.slave.link.state ≡ LinkOn
 

@@ -11,7 +11,7 @@ use Rattle.wrp_link.specs.declared.interface.LinkIn.TheVariants.{Msg, Announce, 
 use Rattle.wrp_link.specs.declared.interface.LinkSet.{LinkSet}
 use Rattle.wrp_link.specs.Rows.{offers, row_of}
 use Rattle.wrp_link.specs.Table.{sent_by}
-use Rattle.wrp_handshake.specs.Ends.{Sending, Ends, Change, Passes, Hears, Starts, Lights, end_of, IsAmong, stamped, ends_after}
+use Rattle.wrp_handshake.specs.Ends.{Sending, BothPorts, Change, Passes, Hears, Starts, Lights, end_of, IsAmong, stamped, ends_after}
 use Rattle.wrp_handshake.specs.Laws.{IsAwake}
 
 -- the longest waits of a link, in tau
@@ -53,13 +53,13 @@ IsOwed Begins Meets (change ∷ older) at =
     Begins (change ∷ older) at ⊎ (IsOwed Begins Meets older at × (Meets change → ⊥))
 
 -- the port of a role sends a message by a change
-abbrev pub IsSentBy : Ends → Role → Change → Sending → Type 0
+abbrev pub IsSentBy : BothPorts → Role → Change → Sending → Type 0
 IsSentBy ends role (Hears hearer input at) f =
     (hearer ≡ role) × IsAmong f (stamped ends.time (sent_by (row_of (end_of ends hearer).link input)) [])
 IsSentBy ends role _ f = ⊥
 
 -- it sends it by the newest of a list of changes
-abbrev pub SendsNow : Ends → Role → WrMsg → List Change → ℤ → Type 0
+abbrev pub SendsNow : BothPorts → Role → WrMsg → List Change → ℤ → Type 0
 SendsNow first role m [] at = ⊥
 SendsNow first role m (change ∷ older) at = IsSentBy (ends_after first older) role change (m, at)
 
@@ -70,11 +70,11 @@ IsHeard role f _ = ⊥
 
 -- the peer of the port of a role sent a message at this time, since the carriers came, and the port has not
 -- heard it yet; one hearing is enough, others may come later, and messages of before are never owed
-abbrev pub IsUnheard : Ends → Role → WrMsg → List Change → ℤ → Type 0
+abbrev pub IsUnheard : BothPorts → Role → WrMsg → List Change → ℤ → Type 0
 IsUnheard first role m changes at = IsOwed (SendsNow first (other_of role) m) (IsHeard role (m, at)) changes at
 
 -- at this time both ends are awake, and the slave is in IDLE
-pub record AreAwake (first : Ends) (changes : List Change) (at : ℤ) : Type 0 where
+pub record AreAwake (first : BothPorts) (changes : List Change) (at : ℤ) : Type 0 where
   pub master : IsAwake (ends_after first changes).master
   pub slave : IsAwake (ends_after first changes).slave
   pub idle : (ends_after first changes).slave.link.state ≡ Idle
@@ -87,11 +87,11 @@ IsOffered (Hears hearer input at) =
 IsOffered _ = ⊥
 
 -- both ends were awake at a time, with the slave in IDLE, and no Announce has offered White Rabbit since
-abbrev pub IsUnoffered : Ends → List Change → ℤ → Type 0
+abbrev pub IsUnoffered : BothPorts → List Change → ℤ → Type 0
 IsUnoffered first changes at = IsOwed (AreAwake first) IsOffered changes at
 
 -- at this time the slave is in S_LOCK
-pub record IsLocking (first : Ends) (changes : List Change) (at : ℤ) : Type 0 where
+pub record IsLocking (first : BothPorts) (changes : List Change) (at : ℤ) : Type 0 where
   pub locking : (ends_after first changes).slave.link.state ≡ SLock
   pub now : at ≡ (ends_after first changes).time
 
@@ -101,15 +101,15 @@ IsLockedTick (Hears hearer input at) = (hearer ≡ Slave) × (input ≡ Tick tru
 IsLockedTick _ = ⊥
 
 -- the slave was in S_LOCK at a time, and has had no tick with its lock detector locked since
-abbrev pub IsUnlocked : Ends → List Change → ℤ → Type 0
+abbrev pub IsUnlocked : BothPorts → List Change → ℤ → Type 0
 IsUnlocked first changes at = IsOwed (IsLocking first) IsLockedTick changes at
 
 -- the time after a list of changes, the newest first
-abbrev pub time_after : Ends → List Change → ℤ
+abbrev pub time_after : BothPorts → List Change → ℤ
 time_after first changes = (ends_after first changes).time
 
 -- at this moment nothing is owed for longer than the pace allows
-pub record IsPrompt (pace : Pace) (first : Ends) (changes : List Change) : Type 0 where
+pub record IsPrompt (pace : Pace) (first : BothPorts) (changes : List Change) : Type 0 where
   pub ticks : (role : Role) → time_after first changes ≤ℤ ((end_of (ends_after first changes) role).ticked +ℤ pos pace.dmax)
   pub hears : (role : Role) (m : WrMsg) (at : ℤ) → IsUnheard first role m changes at → time_after first changes ≤ℤ (at +ℤ pos pace.delay)
   pub offered : (at : ℤ) → IsUnoffered first changes at → time_after first changes ≤ℤ (at +ℤ pos pace.announce)
@@ -123,7 +123,7 @@ LeavesCarrier _ = Unit {0}
 
 -- a slave that is awake hears an offer only while its master is awake: a master in quiet time sends nothing,
 -- and what it sent before that is too old by then; in its own quiet time a slave may hear any
-abbrev pub OffersAwake : Ends → Role → LinkIn → Type 0
+abbrev pub OffersAwake : BothPorts → Role → LinkIn → Type 0
 OffersAwake ends hearer input =
     hearer ≡ Slave →
     (suffix : Option ℕ) → input ≡ Announce suffix → offers suffix ≡ true →
@@ -131,28 +131,28 @@ OffersAwake ends hearer input =
     IsAwake ends.master
 
 -- a change that leaves both carriers alone, starts no node, and brings no offer of a master that is not awake
-abbrev pub IsSteady : Ends → Change → Type 0
+abbrev pub IsSteady : BothPorts → Change → Type 0
 IsSteady ends (Passes dt) = Unit {0}
 IsSteady ends (Hears role input at) = LeavesCarrier input × OffersAwake ends role input
 IsSteady ends (Starts role) = ⊥
 IsSteady ends (Lights of_master of_slave) = ⊥
 
 -- the delivery is good over a list of changes, the newest first: each is steady, and nothing is late after it
-abbrev pub IsGood : Pace → Ends → List Change → Type 0
+abbrev pub IsGood : Pace → BothPorts → List Change → Type 0
 IsGood pace first [] = IsPrompt pace first []
 IsGood pace first (change ∷ older) =
     IsSteady (ends_after first older) change × (IsPrompt pace first (change ∷ older) × IsGood pace first older)
 
 -- by this change no CALIBRATED overtakes a CALIBRATE: a port hears one only once it has heard each CALIBRATE
 -- that its peer sent earlier or at the same time
-abbrev pub InTurn : Ends → List Change → Change → Type 0
+abbrev pub InTurn : BothPorts → List Change → Change → Type 0
 InTurn first older (Hears role input at) =
     (tx rx pattern retry period : ℕ) (sent : ℤ) → input ≡ Msg (CALIBRATED tx rx) → sent ≤ℤ at →
     IsUnheard first role (CALIBRATE pattern retry period) older sent → ⊥
 InTurn first older _ = Unit {0}
 
 -- so it is with each of a list of changes, the newest first
-abbrev pub AllInTurn : Ends → List Change → Type 0
+abbrev pub AllInTurn : BothPorts → List Change → Type 0
 AllInTurn first [] = Unit {0}
 AllInTurn first (change ∷ older) = InTurn first older change × AllInTurn first older
 

@@ -20,7 +20,7 @@ use Rattle.wrp_frame.specs.Saying.{Says}
 use Rattle.wrp_course.specs.declared.event.Event.{Event}
 use Rattle.wrp_course.specs.declared.event.Event.TheVariants.{Arrive, Deliver, Noise}
 use Rattle.wrp_course.specs.declared.place.Place.{Place}
-use Rattle.wrp_course.specs.Checks.{AllHold, Holds, stands}
+use Rattle.wrp_course.specs.Checks.{AllHold, Holds, needs}
 use Rattle.wrp_course.specs.EventAt.{IsEventOf}
 use Rattle.wrp_course.specs.Given.{given_by, world_step}
 use Rattle.wrp_course.specs.Moved.{moved}
@@ -41,7 +41,7 @@ use Rattle.wrp_loop.specs.LoopRun.{noise_stamp}
 not_over : (a b : ℤ) → a ≤ℤ b → not (le_z a b) ≡ false
 not_over a b h = grind (arith, ints)
 
-stands_holds : (b : Bool) → b ≡ true → Holds (stands b)
+stands_holds : (b : Bool) → b ≡ true → Holds (needs b)
 stands_holds b e = ap not e
 
 -- A frame that is handed over
@@ -98,7 +98,7 @@ pub record Arriving (s : Setting) (w : WorldAt) (i : ℕ) : Type 0 where
   pub lit : has_carrier s w frame.link ≡ true
 
 carried_of : (s : Setting) (w : WorldAt) (i : ℕ) (raw : Raw) (b : Bool) (o : Option FrameAt) → AllHold (arrive_checks s w i raw b o) → (f : FrameAt) × (o ≡ Some f) × (b ≡ true) × (has_carrier s w f.link ≡ true)
-carried_of s w i raw true (Some f) a = (f, refl, refl, not-false (has_carrier s w f.link) (all_right Holds (received s w f raw) (stands (has_carrier s w f.link) ∷ []) a.1).0)
+carried_of s w i raw true (Some f) a = (f, refl, refl, not-false (has_carrier s w f.link) (all_right Holds (received s w f raw) (needs (has_carrier s w f.link) ∷ []) a.1).0)
 carried_of s w i raw true None a = absurd (let e : true ≡ false = a.0 in cc)
 carried_of s w i raw false (Some f) a = absurd (let e : true ≡ false = a.0 in cc)
 carried_of s w i raw false None a = absurd (let e : true ≡ false = a.0 in cc)

@@ -4,15 +4,15 @@ use Rattle.std.specs.Io.KnownBytes.{IsAtEnd}
 use Rattle.wrp_caldb.specs.Database.{Database}
 use Rattle.wrp_caldb.specs.Text.{IsTextDue}
 use Rattle.wrp_migrate.specs.Migration.{IsAnswer, IsWithin}
-use Rattle.wrp_migrate.specs.declared.input.End.{End}
-use Rattle.wrp_migrate.specs.declared.input.End.TheVariants.{Whole, TooLong, Failed, Memory}
+use Rattle.wrp_migrate.specs.declared.input.HowItEnded.{HowItEnded}
+use Rattle.wrp_migrate.specs.declared.input.HowItEnded.TheVariants.{Whole, TooLong, Failed, Memory}
 use Rattle.wrp_records.specs.Engine.{Finishes}
 use Rattle.wrp_records.specs.declared.status.Status.{Status}
 use Rattle.wrp_records.specs.declared.status.Status.TheVariants.{Done, OutOfMemory}
 
 -- what was taken where the taking ends so: at the end of the input all of it, behind a failed read no more
 -- than a text may have
-abbrev pub TextTaken : End → Option (List ℕ) → List ℕ → List ℕ → Type 0
+abbrev pub TextTaken : HowItEnded → Option (List ℕ) → List ℕ → List ℕ → Type 0
 TextTaken Whole left given text = IsAtEnd left × (text ≡ given) × IsWithin given
 TextTaken TooLong left given text = 262_144 < length given
 TextTaken Failed left given text = IsWithin given

@@ -14,7 +14,7 @@ const PIECE: usize = 65_536;
 
 /// How the taking of a text ended.
 #[derive(Clone, Copy)]
-pub enum End {
+pub enum HowItEnded {
     /// At the end of the input.
     Whole,
     /// The input is over the limit.
@@ -26,24 +26,24 @@ pub enum End {
 }
 
 /// Takes all octets of a source. A source that gave more than a text may have is not asked again.
-pub fn take_text<S: Source>(source: &mut S, text: &mut Vec<u8>) -> End
+pub fn take_text<S: Source>(source: &mut S, text: &mut Vec<u8>) -> HowItEnded
     requires none { text.old.items ≡ [] }
     ensures taken { (given : List ℕ) × Consumes (S.left source.old) (S.left source.new) given
         × TextTaken result (S.left source.new) given text.new.items }
-    ensures rose { result ≡ End.Failed → Rose (S.faults source.old) (S.faults source.new) }
-    ensures kept { (result ≡ End.Failed → ⊥) → S.faults source.new ≡ S.faults source.old }
+    ensures rose { result ≡ HowItEnded.Failed → Rose (S.faults source.old) (S.faults source.new) }
+    ensures kept { (result ≡ HowItEnded.Failed → ⊥) → S.faults source.new ≡ S.faults source.old }
 {
     let mut piece = [0; PIECE];
     while text.len() <= TEXT_LIMIT {
         match source.read(&mut piece) {
-            Err(_) => return End::Failed,
-            Ok(0) => return End::Whole,
+            Err(_) => return HowItEnded::Failed,
+            Ok(0) => return HowItEnded::Whole,
             Ok(size) => {
                 if text.extend_from_slice(&piece[..size]).is_err() {
-                    return End::Memory;
+                    return HowItEnded::Memory;
                 }
             }
         }
     }
-    End::TooLong
+    HowItEnded::TooLong
 }

@@ -5,7 +5,7 @@ ghost use Rattle.wrp_migrate.specs.Input.{GivesText, GivesAnswer};
 ghost use Rattle.wrp_migrate.specs.Migration.{migration};
 ghost use Rattle.wrp_records.specs.Passages.{PassesAll, passage};
 
-use crate::input::{End, take_text};
+use crate::input::{HowItEnded, take_text};
 use std::alloc::Global;
 use wrp_caldb::CalDb;
 use wrp_io::{Sink, Source};
@@ -48,9 +48,9 @@ pub fn migrate<S: Source, K: Sink>(alloc: Global, source: &mut S, sink: &mut K) 
 {
     let mut input = Vec::new(alloc);
     match take_text(source, &mut input) {
-        End::Whole => answer_text(alloc, sink, &input),
-        End::TooLong => answer(sink, Status::TooLarge, TOO_LARGE_LINE.as_bytes()),
-        End::Failed => Status::ReadFault,
-        End::Memory => Status::OutOfMemory,
+        HowItEnded::Whole => answer_text(alloc, sink, &input),
+        HowItEnded::TooLong => answer(sink, Status::TooLarge, TOO_LARGE_LINE.as_bytes()),
+        HowItEnded::Failed => Status::ReadFault,
+        HowItEnded::Memory => Status::OutOfMemory,
     }
 }

@@ -17,13 +17,13 @@ use Rattle.wrp_node.specs.declared.interface.Input.TheVariants.{Frame}
 use Rattle.wrp_node.specs.declared.interface.Output.{Output}
 use Rattle.wrp_node.specs.Laws.{IsSettled, reason_of, DroppedLeavesACount}
 use Rattle.wrp_node.specs.NodeAt.{NodeSetting, NodeAt, numbers_of, slave_of, state_of, setting_of, link_at}
-use Rattle.wrp_node.specs.NodeRun.{place_of, servo_out, word_out, port_out, outputs_of}
+use Rattle.wrp_node.specs.NodeRun.{rank_of, servo_out, word_out, port_out, outputs_of}
 use Rattle.wrp_node.specs.NodeStep.{dropped, heard, heard_unless, message_of, stepped, node_step}
 use Rattle.wrp_node.specs.Telling.{Step, tell, settled, with_lease, link_change}
 use Rattle.wrp_node.proofs.Telling.{told_none, counted_none}
 use Rattle.wrp_port.specs.declared.interface.PortIn.{PortIn}
 use Rattle.wrp_port.specs.Hearing.{early_reason}
-use Rattle.wrp_port.specs.Outputs.{place_of as place_of_word}
+use Rattle.wrp_port.specs.Outputs.{rank_of as rank_of_word}
 use Rattle.wrp_servo.specs.Call.{Call}
 
 tell_nothing : (fixed : NodeSetting) (s : Step) → tell fixed None s ≡ s
@@ -55,10 +55,10 @@ heard_dropped fixed p (Ok m) raw sample y n reason e =
     unless_dropped fixed p (message_of fixed n p m raw sample) y n (early_reason (setting_of fixed.set p) (link_at fixed.set n p) m) reason e
 
 no_servo_out : (s : ServoState) → servo_out s s ≡ []
-no_servo_out s = rw (eq_self (place_of s)) refl
+no_servo_out s = rw (eq_self (rank_of s)) refl
 
 no_word_out : (q : ℕ) (w : LinkWord) → word_out q w w ≡ []
-no_word_out q w = rw (eq_self (place_of_word w)) refl
+no_word_out q w = rw (eq_self (rank_of_word w)) refl
 
 no_port_out : (fixed : NodeSetting) (n : NodeAt) (p reason : ℕ) (numbers : List ℕ) → flat_map (port_out fixed n (dropped p reason n)) numbers ≡ []
 no_port_out fixed n p reason [] = refl

@@ -3,11 +3,11 @@ use Rattle.std.proofs.Common.{◌≡◌, ◌∙◌, refl, ap, ap₂, sym, subst,
 use Rattle.std.specs.List.{AllByRecursion, AllZip, list_any}
 use Rattle.wrp_base.specs.declared.message.PtpMsg.{PtpMsg}
 use Rattle.wrp_node.specs.declared.parts.Parts.{Parts}
-use Rattle.wrp_node.specs.declared.place.Place.{Place}
+use Rattle.wrp_node.specs.declared.place.PortPlace.{PortPlace}
 use Rattle.wrp_node.specs.declared.ports.To.{To}
 use Rattle.wrp_link.specs.Table.{word_of}
 use Rattle.wrp_node.specs.NodeAt.{NodeSetting, NodeAt, setting_of, line_at, link_at, pieces_at}
-use Rattle.wrp_port.specs.declared.line.Line.{Line}
+use Rattle.wrp_port.specs.declared.line.Rest.{Rest}
 use Rattle.wrp_node.specs.Parts.{PlaceStands, PlaceIn, PartsAt, PartsIn, given, reason_counted, commanded}
 use Rattle.wrp_node.specs.Place.{Gives, GivenWhere, GivesTo, Begins, Counts, is_to, newest_sends}
 use Rattle.wrp_node.specs.Telling.{Step, step_from, counted, newest_step}
@@ -17,7 +17,7 @@ use Rattle.wrp_node.proofs.Lists.{zip_all, zip_map, all_of}
 use Rattle.wrp_node.proofs.Sound.{AllSound, sends_sound}
 use Rattle.wrp_port.specs.declared.interface.PortIn.{PortIn}
 use Rattle.wrp_port.specs.declared.setting.Setting.{Setting}
-use Rattle.wrp_port.specs.History.{line_of, calls_of}
+use Rattle.wrp_port.specs.History.{rest_after, calls_of}
 use Rattle.wrp_port.specs.Outputs.{sends_of, drop_of}
 use Rattle.wrp_port.specs.PortAt.{IsFit, StandsFor as PortStandsFor}
 
@@ -28,7 +28,7 @@ pub record SameAt (s t : Step) : Type 0 where
   pub counters : (q : ℕ) → s.node.counters q ≡ t.node.counters q
   pub sends : (q : ℕ) → s.sends q ≡ t.sends q
 
-pub place_same : (fixed : NodeSetting) (before : NodeAt) (s t : Step) → SameAt s t → (place : Place) → PlaceIn fixed before s place → PlaceIn fixed before t place
+pub place_same : (fixed : NodeSetting) (before : NodeAt) (s t : Step) → SameAt s t → (place : PortPlace) → PlaceIn fixed before s place → PlaceIn fixed before t place
 place_same fixed before s t e place h = record {
   stands = record {
     set = h.stands.set;
@@ -60,10 +60,10 @@ sound_newest [] ys h k = k
 sound_newest (x ∷ xs) ys h k = h
 
 -- the line and the pieces of a port are those of the node
-pub line_is : (fixed : NodeSetting) (n : NodeAt) (place : Place) → PlaceStands fixed n place → place.port.line ≡ line_at fixed.set n place.number
-line_is fixed n place h = h.told.line ∙ ap (λ (x : Setting). line_of x (n.told place.number)) h.set
+pub line_is : (fixed : NodeSetting) (n : NodeAt) (place : PortPlace) → PlaceStands fixed n place → place.port.line ≡ line_at fixed.set n place.number
+line_is fixed n place h = h.told.line ∙ ap (λ (x : Setting). rest_after x (n.told place.number)) h.set
 
-told_place : (fixed : NodeSetting) (before : NodeAt) (s : Step) (to : To) (input : PortIn) (old new : Place) → IsFit input → is_to to old.number ≡ true → Gives input old new →
+told_place : (fixed : NodeSetting) (before : NodeAt) (s : Step) (to : To) (input : PortIn) (old new : PortPlace) → IsFit input → is_to to old.number ≡ true → Gives input old new →
     PlaceIn fixed before s old → PlaceIn fixed before (given to input fixed s) new
 told_place fixed before s to input old new fit e g h =
     let t : List PortIn = s.node.told old.number in
@@ -88,7 +88,7 @@ told_place fixed before s to input old new fit e g h =
     }
 
 -- one that is not stays as it is
-left_place : (fixed : NodeSetting) (before : NodeAt) (s : Step) (to : To) (input : PortIn) (old : Place) → is_to to old.number ≡ false →
+left_place : (fixed : NodeSetting) (before : NodeAt) (s : Step) (to : To) (input : PortIn) (old : PortPlace) → is_to to old.number ≡ false →
     PlaceIn fixed before s old → PlaceIn fixed before (given to input fixed s) old
 left_place fixed before s to input old e h = record {
   stands = record {
@@ -102,30 +102,30 @@ left_place fixed before s to input old e h = record {
   sound = h.sound;
 }
 
-given_where : (fixed : NodeSetting) (before : NodeAt) (s : Step) (to : To) (input : PortIn) (old new : Place) (b : Bool) → IsFit input → is_to to old.number ≡ b → GivenWhere b input old new →
+given_where : (fixed : NodeSetting) (before : NodeAt) (s : Step) (to : To) (input : PortIn) (old new : PortPlace) (b : Bool) → IsFit input → is_to to old.number ≡ b → GivenWhere b input old new →
     PlaceIn fixed before s old → PlaceIn fixed before (given to input fixed s) new
 given_where fixed before s to input old new true fit e g h = told_place fixed before s to input old new fit e g h
 given_where fixed before s to input old new false fit e g h =
-    subst (λ (x : Place). PlaceIn fixed before (given to input fixed s) x) (sym g) (left_place fixed before s to input old e h)
+    subst (λ (x : PortPlace). PlaceIn fixed before (given to input fixed s) x) (sym g) (left_place fixed before s to input old e h)
 
-number_where : (input : PortIn) (old new : Place) (b : Bool) → GivenWhere b input old new → new.number ≡ old.number
+number_where : (input : PortIn) (old new : PortPlace) (b : Bool) → GivenWhere b input old new → new.number ≡ old.number
 number_where input old new true g = g.number
-number_where input old new false g = ap (λ (x : Place). x.number) g
+number_where input old new false g = ap (λ (x : PortPlace). x.number) g
 
-pub numbers_given : (to : To) (input : PortIn) (xs ys : List Place) → AllZip (GivesTo to input) xs ys → map (λ (x : Place). x.number) ys ≡ map (λ (x : Place). x.number) xs
-numbers_given to input xs ys z = zip_map (GivesTo to input) (λ (x : Place). x.number) xs ys (λ x y g. number_where input x y (is_to to x.number) g) z
+pub numbers_given : (to : To) (input : PortIn) (xs ys : List PortPlace) → AllZip (GivesTo to input) xs ys → map (λ (x : PortPlace). x.number) ys ≡ map (λ (x : PortPlace). x.number) xs
+numbers_given to input xs ys z = zip_map (GivesTo to input) (λ (x : PortPlace). x.number) xs ys (λ x y g. number_where input x y (is_to to x.number) g) z
 
-pub places_given : (fixed : NodeSetting) (before : NodeAt) (s : Step) (to : To) (input : PortIn) (xs ys : List Place) → IsFit input → AllZip (GivesTo to input) xs ys →
+pub places_given : (fixed : NodeSetting) (before : NodeAt) (s : Step) (to : To) (input : PortIn) (xs ys : List PortPlace) → IsFit input → AllZip (GivesTo to input) xs ys →
     AllByRecursion (PlaceIn fixed before s) xs → AllByRecursion (PlaceIn fixed before (given to input fixed s)) ys
 places_given fixed before s to input xs ys fit z h =
     zip_all (GivesTo to input) (PlaceIn fixed before s) (PlaceIn fixed before (given to input fixed s)) xs ys
     (λ x y g k. given_where fixed before s to input x y (is_to to x.number) fit refl g k) z h
 
 -- the ports were told, and nothing else changed
-pub parts_given : (fixed : NodeSetting) (before : NodeAt) (s : Step) (to : To) (input : PortIn) (old : Parts) (ys : List Place) → IsFit input → AllZip (GivesTo to input) old.ports ys →
+pub parts_given : (fixed : NodeSetting) (before : NodeAt) (s : Step) (to : To) (input : PortIn) (old : Parts) (ys : List PortPlace) → IsFit input → AllZip (GivesTo to input) old.ports ys →
     PartsIn fixed before s old → PartsIn fixed before (given to input fixed s) (record old { ports = ys })
 parts_given fixed before s to input old ys fit z h =
-    let numbers : map (λ (x : Place). x.number) ys ≡ map (λ (x : Place). x.number) old.ports = numbers_given to input old.ports ys z in
+    let numbers : map (λ (x : PortPlace). x.number) ys ≡ map (λ (x : PortPlace). x.number) old.ports = numbers_given to input old.ports ys z in
     record {
       numbers = numbers ∙ h.numbers;
       places = places_given fixed before s to input old.ports ys fit z h.places;
@@ -139,11 +139,11 @@ parts_given fixed before s to input old ys fit z h =
 
 -- ---- counting
 
-counted_number : (p reason : ℕ) (place : Place) (b : Bool) → (if b then record place { counters = counted (Some reason) place.counters } else place).number ≡ place.number
+counted_number : (p reason : ℕ) (place : PortPlace) (b : Bool) → (if b then record place { counters = counted (Some reason) place.counters } else place).number ≡ place.number
 counted_number p reason place true = refl
 counted_number p reason place false = refl
 
-counted_place : (fixed : NodeSetting) (before : NodeAt) (s : Step) (p reason : ℕ) (place : Place) (b : Bool) → (place.number == p) ≡ b → PlaceIn fixed before s place →
+counted_place : (fixed : NodeSetting) (before : NodeAt) (s : Step) (p reason : ℕ) (place : PortPlace) (b : Bool) → (place.number == p) ≡ b → PlaceIn fixed before s place →
     PlaceIn fixed before (reason_counted p (Some reason) fixed s) (if b then record place { counters = counted (Some reason) place.counters } else place)
 counted_place fixed before s p reason place true e h = record {
   stands = record {
@@ -168,16 +168,16 @@ counted_place fixed before s p reason place false e h = record {
   sound = h.sound;
 }
 
-counted_so : (fixed : NodeSetting) (before : NodeAt) (s : Step) (p reason : ℕ) (old new : Place) → Counts p reason old new → PlaceIn fixed before s old →
+counted_so : (fixed : NodeSetting) (before : NodeAt) (s : Step) (p reason : ℕ) (old new : PortPlace) → Counts p reason old new → PlaceIn fixed before s old →
     PlaceIn fixed before (reason_counted p (Some reason) fixed s) new
 counted_so fixed before s p reason old new g h =
-    subst (λ (x : Place). PlaceIn fixed before (reason_counted p (Some reason) fixed s) x) (sym g) (counted_place fixed before s p reason old (old.number == p) refl h)
+    subst (λ (x : PortPlace). PlaceIn fixed before (reason_counted p (Some reason) fixed s) x) (sym g) (counted_place fixed before s p reason old (old.number == p) refl h)
 
-pub parts_counted : (fixed : NodeSetting) (before : NodeAt) (s : Step) (p reason : ℕ) (old : Parts) (ys : List Place) → AllZip (Counts p reason) old.ports ys →
+pub parts_counted : (fixed : NodeSetting) (before : NodeAt) (s : Step) (p reason : ℕ) (old : Parts) (ys : List PortPlace) → AllZip (Counts p reason) old.ports ys →
     PartsIn fixed before s old → PartsIn fixed before (reason_counted p (Some reason) fixed s) (record old { ports = ys })
 parts_counted fixed before s p reason old ys z h =
-    let numbers : map (λ (x : Place). x.number) ys ≡ map (λ (x : Place). x.number) old.ports =
-    zip_map (Counts p reason) (λ (x : Place). x.number) old.ports ys (λ x y g. ap (λ (v : Place). v.number) g ∙ counted_number p reason x (x.number == p)) z in
+    let numbers : map (λ (x : PortPlace). x.number) ys ≡ map (λ (x : PortPlace). x.number) old.ports =
+    zip_map (Counts p reason) (λ (x : PortPlace). x.number) old.ports ys (λ x y g. ap (λ (v : PortPlace). v.number) g ∙ counted_number p reason x (x.number == p)) z in
     record {
       numbers = numbers ∙ h.numbers;
       places = zip_all (Counts p reason) (PlaceIn fixed before s) (PlaceIn fixed before (reason_counted p (Some reason) fixed s)) old.ports ys (counted_so fixed before s p reason) z h.places;
@@ -201,26 +201,26 @@ counted_none fixed before s p parts h =
 
 -- ---- before an input
 
-begun_place : (fixed : NodeSetting) (n : NodeAt) (old new : Place) → Begins old new → PlaceStands fixed n old → PlaceIn fixed n (step_from n) new
+begun_place : (fixed : NodeSetting) (n : NodeAt) (old new : PortPlace) → Begins old new → PlaceStands fixed n old → PlaceIn fixed n (step_from n) new
 begun_place fixed n old new g h = record {
   stands = record {
     set = ap (λ p. p.set) g.port ∙ h.set ∙ ap (setting_of fixed.set) (sym g.number);
     told = subst (λ (q : ℕ). PortStandsFor new.port (n.told q)) (sym g.number) (subst (λ p. PortStandsFor p (n.told old.number)) (sym g.port) h.told);
     counters = g.counters ∙ h.counters ∙ ap n.counters (sym g.number);
   };
-  word = g.word ∙ ap (λ (l : Line). word_of l.link) (line_is fixed n old h) ∙ ap (λ (q : ℕ). word_of (link_at fixed.set n q)) (sym g.number);
+  word = g.word ∙ ap (λ (l : Rest). word_of l.link) (line_is fixed n old h) ∙ ap (λ (q : ℕ). word_of (link_at fixed.set n q)) (sym g.number);
   sends = g.sends;
   sound = subst AllSound (sym g.sends) tt;
 }
 
-pub numbers_begun : (xs ys : List Place) → AllZip Begins xs ys → map (λ (x : Place). x.number) ys ≡ map (λ (x : Place). x.number) xs
-numbers_begun xs ys z = zip_map Begins (λ (x : Place). x.number) xs ys (λ x y g. g.number) z
+pub numbers_begun : (xs ys : List PortPlace) → AllZip Begins xs ys → map (λ (x : PortPlace). x.number) ys ≡ map (λ (x : PortPlace). x.number) xs
+numbers_begun xs ys z = zip_map Begins (λ (x : PortPlace). x.number) xs ys (λ x y g. g.number) z
 
-pub parts_begun : (fixed : NodeSetting) (n : NodeAt) (old : Parts) (ys : List Place) → AllZip Begins old.ports ys → PartsAt fixed n old →
+pub parts_begun : (fixed : NodeSetting) (n : NodeAt) (old : Parts) (ys : List PortPlace) → AllZip Begins old.ports ys → PartsAt fixed n old →
     PartsIn fixed n (step_from n) (record old { ports = ys; cycles = pos 0; dac = None })
 parts_begun fixed n old ys z h =
-    let numbers : map (λ (x : Place). x.number) ys ≡ map (λ (x : Place). x.number) old.ports =
-    zip_map Begins (λ (x : Place). x.number) old.ports ys (λ x y g. g.number) z in
+    let numbers : map (λ (x : PortPlace). x.number) ys ≡ map (λ (x : PortPlace). x.number) old.ports =
+    zip_map Begins (λ (x : PortPlace). x.number) old.ports ys (λ x y g. g.number) z in
     record {
       numbers = numbers ∙ h.numbers;
       places = zip_all Begins (PlaceStands fixed n) (PlaceIn fixed n (step_from n)) old.ports ys (begun_place fixed n) z h.places;

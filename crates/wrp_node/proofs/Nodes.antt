@@ -20,7 +20,7 @@ use Rattle.wrp_node.specs.declared.interface.Input.{Input}
 use Rattle.wrp_node.specs.declared.interface.Input.TheVariants.{Tick, Sample, Frame, Sent, Carrier, Reset}
 use Rattle.wrp_node.specs.declared.interface.Output.{Output}
 use Rattle.wrp_node.specs.declared.parts.Parts.{Parts}
-use Rattle.wrp_node.specs.declared.place.Place.{Place}
+use Rattle.wrp_node.specs.declared.place.PortPlace.{PortPlace}
 use Rattle.wrp_node.specs.declared.ports.To.TheVariants.{Every, One}
 use Rattle.wrp_node.specs.Node.{track_in, puts_out, is_tick}
 use Rattle.wrp_node.specs.NodeAt.{NodeSetting, NodeAt, slave_of, state_of, locked_of, certain_of, est_of, servo_at, setting_of, line_at, is_fresh_in, deltas_in}
@@ -35,7 +35,7 @@ use Rattle.wrp_node.proofs.Hearing.{sent_here, newest_alone}
 use Rattle.wrp_node.proofs.Telling.{nothing_told, either_same}
 use Rattle.wrp_port.specs.declared.interface.PortIn.{PortIn}
 use Rattle.wrp_port.specs.declared.interface.PortIn.TheVariants.{Sent as PortSent, Carrier as PortCarrier, Tick as PortTick}
-use Rattle.wrp_port.specs.declared.line.Line.{Line}
+use Rattle.wrp_port.specs.declared.line.Rest.{Rest}
 use Rattle.wrp_port.specs.Outputs.{sends_of}
 use Rattle.wrp_servo.specs.Call.{Call, CallSample, CallMeasured, CallLease, CallLink, CallCarrier}
 use Rattle.wrp_servo.specs.Told.{lease_told, link_told}
@@ -197,14 +197,14 @@ tracked_by post fixed n (Some t) h =
 
 -- ---- what is put out
 
-place_puts : (fixed : NodeSetting) (before : NodeAt) (s : Step) (place : Place) → PlaceIn fixed before s place → place_out place ≡ port_out fixed before s place.number
+place_puts : (fixed : NodeSetting) (before : NodeAt) (s : Step) (place : PortPlace) → PlaceIn fixed before s place → place_out place ≡ port_out fixed before s place.number
 place_puts fixed before s place h =
     ap₂ (λ (a b : List Output). a ++ b)
-    (ap₂ (λ (v w : LinkWord). word_out place.number v w) h.word (ap (λ (l : Line). word_of l.link) (line_is fixed s.node place h.stands)))
+    (ap₂ (λ (v w : LinkWord). word_out place.number v w) h.word (ap (λ (l : Rest). word_of l.link) (line_is fixed s.node place h.stands)))
     (ap (λ (ms : List PtpMsg). map (frame_out place.number) ms) h.sends)
 
-places_put : (fixed : NodeSetting) (before : NodeAt) (s : Step) (places : List Place) → AllByRecursion (PlaceIn fixed before s) places →
-    flat_map place_out places ≡ flat_map (port_out fixed before s) (map (λ (x : Place). x.number) places)
+places_put : (fixed : NodeSetting) (before : NodeAt) (s : Step) (places : List PortPlace) → AllByRecursion (PlaceIn fixed before s) places →
+    flat_map place_out places ≡ flat_map (port_out fixed before s) (map (λ (x : PortPlace). x.number) places)
 places_put fixed before s [] h = refl
 places_put fixed before s (x ∷ xs) h = ap₂ (λ (a b : List Output). a ++ b) (place_puts fixed before s x h.0) (places_put fixed before s xs h.1)
 
@@ -237,14 +237,14 @@ all_put {post} fixed before s node input state h e =
     (places_put fixed before s node.parts.ports h.parts.places ∙ ap (λ (ns : List ℕ). flat_map (port_out fixed before s) ns) h.parts.numbers))
     (track_put post fixed before s node input h)
 
-pub all_sound : (fixed : NodeSetting) (before : NodeAt) (s : Step) (places : List Place) → AllByRecursion (PlaceIn fixed before s) places →
-    AllByRecursion (λ (x : Place). AllByRecursion IsSound x.sends.items) places
+pub all_sound : (fixed : NodeSetting) (before : NodeAt) (s : Step) (places : List PortPlace) → AllByRecursion (PlaceIn fixed before s) places →
+    AllByRecursion (λ (x : PortPlace). AllByRecursion IsSound x.sends.items) places
 all_sound fixed before s [] h = tt
 all_sound fixed before s (x ∷ xs) h = (h.0.sound, all_sound fixed before s xs h.1)
 
 -- ---- between inputs
 
-place_at : (fixed : NodeSetting) (before : NodeAt) (s : Step) (places : List Place) → AllByRecursion (PlaceIn fixed before s) places → AllByRecursion (PlaceStands fixed s.node) places
+place_at : (fixed : NodeSetting) (before : NodeAt) (s : Step) (places : List PortPlace) → AllByRecursion (PlaceIn fixed before s) places → AllByRecursion (PlaceStands fixed s.node) places
 place_at fixed before s [] h = tt
 place_at fixed before s (x ∷ xs) h = (h.0.stands, place_at fixed before s xs h.1)
 

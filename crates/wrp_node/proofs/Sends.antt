@@ -33,17 +33,17 @@ use Rattle.wrp_node.specs.declared.interface.Report.TheVariants.{Link, Servo}
 use Rattle.wrp_node.specs.LinkNews.{LinkNews, Nothing, Given, news_of, frame_news, news_at}
 use Rattle.wrp_node.specs.New.{OfDifferentNumbers}
 use Rattle.wrp_node.specs.NodeAt.{NodeSetting, NodeAt, is_before, placed, in_order, numbers_of, slave_of, setting_of, line_at, link_at, locked_of, certain_of, state_of, est_of}
-use Rattle.wrp_node.specs.NodeRun.{step_out, dac_out, servo_out, place_of, word_out, frame_out, port_out, est_out, track_out}
+use Rattle.wrp_node.specs.NodeRun.{step_out, dac_out, servo_out, rank_of, word_out, frame_out, port_out, est_out, track_out}
 use Rattle.wrp_node.specs.NodeStep.{counted_tick, lease_ticked, servo_ticked, told_slave, stamp_of, heard_unless, heard, stepped, node_step, tick_of}
 use Rattle.wrp_node.specs.Sends.{is_signal, signals_in, link_sends, signals_at, SignalsAreOfLink, frames_at, is_port, SendsArePutOut}
 use Rattle.wrp_node.specs.Telling.{Step, step_from, with_news, with_sample, heard_of, told_by, answer_of, number_of, for_slave, tell, lease_change}
 use Rattle.wrp_node.proofs.Links.{before_ports}
 use Rattle.wrp_port.specs.declared.interface.PortIn.{PortIn}
 use Rattle.wrp_port.specs.declared.interface.PortIn.TheVariants.{Msg, Lease, Sent as PortSent}
-use Rattle.wrp_port.specs.declared.line.Line.{Line}
+use Rattle.wrp_port.specs.declared.line.Rest.{Rest}
 use Rattle.wrp_port.specs.declared.setting.Setting.{Setting}
 use Rattle.wrp_port.specs.Hearing.{is_open, early_reason, link_input}
-use Rattle.wrp_port.specs.History.{line_of, input_unless}
+use Rattle.wrp_port.specs.History.{rest_after, input_unless}
 use Rattle.wrp_port.specs.LineAfter.{ticked, announces_on, syncs_on, requests_on}
 use Rattle.wrp_port.specs.Messages.{next_id, signal_of, signals_of, announce_of, sync_of, request_of, follow_up_of}
 use Rattle.wrp_port.specs.Outputs.{is_word, where_due, scheduled_sends, link_sends as sends_by_link, response_to, sends_unless, is_newest, sends_of}
@@ -54,7 +54,7 @@ use Rattle.wrp_servo.specs.Table.{is_track}
 -- ---- what the servo answers, and a turn of the lease, leave the next sequenceId of link setup as it was
 
 abbrev next_signal : Setting → List PortIn → ℕ
-next_signal set told = (line_of set told).ids.signal
+next_signal set told = (rest_after set told).ids.signal
 
 heard_next : (set : Setting) (o : Option ℤ) (k : ℕ) (news : ChainNews) (told : List PortIn) → next_signal set (with_sample o k (with_news news told)) ≡ next_signal set told
 heard_next set None k Same told = refl
@@ -110,7 +110,7 @@ due_none : (b : Bool) (m : PtpMsg) → is_signal m.body ≡ false → signals_in
 due_none true m h = ap (λ (k : Bool). if k then m ∷ [] else []) h
 due_none false m h = refl
 
-no_schedule : (set : Setting) (role : Role) (line : Line) (certain : Bool) → signals_in (scheduled_sends set role line certain) ≡ []
+no_schedule : (set : Setting) (role : Role) (line : Rest) (certain : Bool) → signals_in (scheduled_sends set role line certain) ≡ []
 no_schedule set Master line certain =
     signals_append (where_due (announces_on line) (announce_of set line.link certain line.ids.announce)) (where_due (syncs_on line) (sync_of set line.ids.sync))
     ∙ ap₂ (λ (a b : List PtpMsg). a ++ b) (due_none (announces_on line) (announce_of set line.link certain line.ids.announce) refl) (due_none (syncs_on line) (sync_of set line.ids.sync) refl)
@@ -131,7 +131,7 @@ link_is : (l : LinkAt) (o : Option LinkIn) → sends_by_link l o ≡ link_sends 
 link_is l None = refl
 link_is l (Some input) = refl
 
-unless_sent : (set : Setting) (line : Line) (m : PtpMsg) (stamp : Stamp) (r : Option Reason) →
+unless_sent : (set : Setting) (line : Rest) (m : PtpMsg) (stamp : Stamp) (r : Option Reason) →
     signals_in (sends_unless r set line m stamp) ≡ signals_of set line.ids.signal (link_sends line.link (news_of (input_unless r (link_input set.ds.role m.body))))
 unless_sent set line m stamp None =
     signals_first set line.ids.signal (sends_by_link line.link (link_input set.ds.role m.body)) (response_to set set.ds.role m.head m.body stamp) (no_response set set.ds.role m.head m.body stamp)
@@ -170,7 +170,7 @@ heard_signals fixed n p q (Ok m) raw sample y =
     unless_signals fixed n p q m (stamp_of fixed n p raw sample) y (early_reason (setting_of fixed.set p) (link_at fixed.set n p) m) refl
 
 -- the sending of a frame is told: a Follow_Up, or nothing
-sent_none : (set : Setting) (line : Line) (delay : Bool) (seq : ℕ) (stamp : Stamp) (tick : ℕ) → signals_in (sends_of set line (PortSent delay seq stamp tick)) ≡ []
+sent_none : (set : Setting) (line : Rest) (delay : Bool) (seq : ℕ) (stamp : Stamp) (tick : ℕ) → signals_in (sends_of set line (PortSent delay seq stamp tick)) ≡ []
 sent_none set line true seq stamp tick = refl
 sent_none set line false seq stamp tick = due_none (is_newest line.ids.newest_sync seq && is_open line.link) (follow_up_of set seq stamp) refl
 
@@ -184,7 +184,7 @@ ticked_signals : (fixed : NodeSetting) (n : NodeAt) (p : ℕ) →
 ticked_signals fixed n p =
     let s : NodeAt = (servo_ticked fixed n).node in
     let set : Setting = setting_of fixed.set p in
-    let line : Line = line_at fixed.set s p in
+    let line : Rest = line_at fixed.set s p in
     let told : LinkNews = Given (link.Tick (locked_of fixed s)) in
     signals_first set line.ids.signal (link_sends line.link told) (scheduled_sends set set.ds.role (ticked set line (locked_of fixed s)) (certain_of fixed s))
     (no_schedule set set.ds.role (ticked set line (locked_of fixed s)) (certain_of fixed s))
@@ -356,7 +356,7 @@ sends_are_put_out fixed t n p h =
     let s : Step = node_step fixed t n in
     frames_of_fourth p (step_out s.cycles) (dac_out s.dac) (servo_out (state_of fixed n) (state_of fixed s.node)) (flat_map (port_out fixed n s) (numbers_of fixed.set)) (track_out fixed t.input s.node)
     (no_step p s.cycles) (no_dac p s.dac)
-    (no_report p (place_of (state_of fixed n) == place_of (state_of fixed s.node)) (Servo (state_of fixed s.node))) (no_track p fixed t.input s.node)
+    (no_report p (rank_of (state_of fixed n) == rank_of (state_of fixed s.node)) (Servo (state_of fixed s.node))) (no_track p fixed t.input s.node)
     ∙ ports_frames p fixed n s (in_order fixed.set.ports.items)
     ∙ ap (λ (k : ℕ). repeated k (map octets_of (s.sends p))) (times_ordered p fixed.set.ports.items ∙ times_once p fixed.set.ports.items h)
     ∙ once_or_not (is_port fixed p) (map octets_of (s.sends p))

@@ -17,7 +17,7 @@ use Rattle.wrp_link.specs.declared.interface.LinkIn.TheVariants as link
 use Rattle.wrp_link.specs.Table.{sends_of as link_sends_of}
 use Rattle.wrp_port.specs.declared.interface.PortIn.{PortIn}
 use Rattle.wrp_port.specs.declared.interface.PortIn.TheVariants.{Msg, Lease, Tick, Sent, Carrier, Sample, Chain, Reset}
-use Rattle.wrp_port.specs.declared.line.Line.{Line}
+use Rattle.wrp_port.specs.declared.line.Rest.{Rest}
 use Rattle.wrp_port.specs.declared.setting.Setting.{Setting}
 use Rattle.wrp_port.specs.Hearing.{is_open, early_reason, link_input}
 use Rattle.wrp_port.specs.LineAfter.{ticked, announces_on, syncs_on, requests_on}
@@ -56,7 +56,7 @@ stamp_fits stamp h = (seconds_fit (unsigned_abs stamp.value) (abs_fits stamp.val
 two_steps : HasTwoStepFlag 0x0200 (Sync no_time)
 two_steps e = absurd (omega (arith, e))
 
-sound_scheduled : (set : Setting) (role : Role) (line : Line) (certain : Bool) → AllSound (scheduled_sends set role line certain)
+sound_scheduled : (set : Setting) (role : Role) (line : Rest) (certain : Bool) → AllSound (scheduled_sends set role line certain)
 sound_scheduled set Master line certain =
     sound_append (where_due (announces_on line) (announce_of set line.link certain line.ids.announce)) (where_due (syncs_on line) (sync_of set line.ids.sync))
     (sound_where (announces_on line) (announce_of set line.link certain line.ids.announce) (record { times = (lit< tt, lit< tt); two_step = tt }))
@@ -68,14 +68,14 @@ sound_response : (set : Setting) (role : Role) (head : Head) (body : Body) (stam
 sound_response set Master head (DelayReq origin) stamp h = (record { times = stamp_fits stamp h; two_step = tt }, tt)
 sound_response set role head body stamp h = tt
 
-sound_unless : (reason : Option Reason) (set : Setting) (line : Line) (message : PtpMsg) (stamp : Stamp) → IsStamp stamp → AllSound (sends_unless reason set line message stamp)
+sound_unless : (reason : Option Reason) (set : Setting) (line : Rest) (message : PtpMsg) (stamp : Stamp) → IsStamp stamp → AllSound (sends_unless reason set line message stamp)
 sound_unless None set line message stamp h =
     sound_append (signals_of set line.ids.signal (link_sends line.link (link_input set.ds.role message.body))) (response_to set set.ds.role message.head message.body stamp)
     (sound_signals set line.ids.signal (link_sends line.link (link_input set.ds.role message.body)))
     (sound_response set set.ds.role message.head message.body stamp h)
 sound_unless (Some reason) set line message stamp h = tt
 
-pub sends_sound : (set : Setting) (line : Line) (input : PortIn) → IsFit input → AllSound (sends_of set line input)
+pub sends_sound : (set : Setting) (line : Rest) (input : PortIn) → IsFit input → AllSound (sends_of set line input)
 sends_sound set line (Msg message stamp tick) h = sound_unless (early_reason set line.link message) set line message stamp h.1
 sends_sound set line (Tick locked certain) h =
     sound_append (signals_of set line.ids.signal (link_sends_of line.link (link.Tick locked))) (scheduled_sends set set.ds.role (ticked set line locked) certain)

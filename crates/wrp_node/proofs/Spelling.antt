@@ -3,7 +3,7 @@ use Rattle.std.proofs.Common.{◌≡◌, ◌∙◌, refl, ap, subst, ℕ, ◌==�
 use Rattle.std.specs.List.{AllByRecursion, list_any}
 use Rattle.wrp_data.specs.declared.datasets.PortDs.{PortDs}
 use Rattle.wrp_node.specs.declared.parts.Parts.{Parts}
-use Rattle.wrp_node.specs.declared.place.Place.{Place}
+use Rattle.wrp_node.specs.declared.place.PortPlace.{PortPlace}
 use Rattle.wrp_node.specs.NodeAt.{NodeSetting, NodeAt, is_before, placed, in_order, numbers_of}
 use Rattle.wrp_node.specs.Parts.{PlaceIn, PartsIn, is_among}
 use Rattle.wrp_node.specs.Sends.{is_port}
@@ -40,7 +40,7 @@ has_ordered p (ds ∷ ports) = has_placed p ds (in_order ports) ∙ ap (λ (c : 
 pub number_is_port : (fixed : NodeSetting) (p : ℕ) → list_any (λ (q : ℕ). q == p) (numbers_of fixed.set) ≡ is_port fixed p
 number_is_port fixed p = has_ordered p fixed.set.ports.items
 
-pub among_is_port : (fixed : NodeSetting) (places : List Place) (p : ℕ) → map (λ (place : Place). place.number) places ≡ numbers_of fixed.set →
+pub among_is_port : (fixed : NodeSetting) (places : List PortPlace) (p : ℕ) → map (λ (place : PortPlace). place.number) places ≡ numbers_of fixed.set →
     is_among p places ≡ is_port fixed p
 among_is_port fixed places p e = ap (list_any (λ (q : ℕ). q == p)) e ∙ number_is_port fixed p
 
@@ -53,8 +53,8 @@ both_all P Q (x ∷ xs) h k = ((h.0, k.0), both_all P Q xs h.1 k.1)
 pub spelled_at : (fixed : NodeSetting) (before : NodeAt) (s : Step) (parts : Parts) (p : ℕ) → PartsIn fixed before s parts → AllSpelled parts.ports →
     is_port fixed p ≡ true → AreSpelled (s.sends p)
 spelled_at fixed before s parts p h k e =
-    let P : Place → Type 0 = PlaceIn fixed before s in
-    let Q : Place → Type 0 = λ (place : Place). AreSpelled place.sends.items in
-    let f : Found (λ (place : Place). P place × Q place) p parts.ports =
-    found (λ (place : Place). P place × Q place) p parts.ports (both_all P Q parts.ports h.places k) (among_is_port fixed parts.ports p h.numbers ∙ e) in
+    let P : PortPlace → Type 0 = PlaceIn fixed before s in
+    let Q : PortPlace → Type 0 = λ (place : PortPlace). AreSpelled place.sends.items in
+    let f : Found (λ (place : PortPlace). P place × Q place) p parts.ports =
+    found (λ (place : PortPlace). P place × Q place) p parts.ports (both_all P Q parts.ports h.places k) (among_is_port fixed parts.ports p h.numbers ∙ e) in
     subst AreSpelled (f.holds.0.sends ∙ ap s.sends f.number) f.holds.1

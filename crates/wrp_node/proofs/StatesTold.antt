@@ -3,7 +3,7 @@ use Rattle.std.proofs.Common.{◌≡◌, ◌∙◌, refl, ap, ℕ, ◌==◌, Boo
 use Rattle.wrp_base.specs.declared.link.LinkState.{LinkState}
 use Rattle.wrp_base.specs.declared.link.LinkState.TheVariants.{Idle}
 use Rattle.wrp_node.specs.declared.parts.Parts.{Parts}
-use Rattle.wrp_node.specs.declared.place.Place.{Place}
+use Rattle.wrp_node.specs.declared.place.PortPlace.{PortPlace}
 use Rattle.wrp_node.specs.declared.ports.states.PortState.{PortState}
 use Rattle.wrp_node.specs.NodeAt.{NodeSetting, NodeAt}
 use Rattle.wrp_node.specs.Parts.{PlaceStands, PartsAt, is_among}
@@ -11,18 +11,18 @@ use Rattle.wrp_node.specs.Place.{place_of}
 use Rattle.wrp_node.specs.States.{port_state, state_in, state_at}
 use Rattle.wrp_node.proofs.Finding.{Found, found}
 use Rattle.wrp_node.proofs.Giving.{line_is}
-use Rattle.wrp_port.specs.declared.line.Line.{Line}
+use Rattle.wrp_port.specs.declared.line.Rest.{Rest}
 
-abbrev state_of : Option Place → LinkState
+abbrev state_of : Option PortPlace → LinkState
 state_of None = Idle
 state_of (Some place) = place.port.line.link.state
 
-found_where : (p : ℕ) (x : Place) (xs : List Place) (b : Bool) → (x.number == p) ≡ b → state_in p (map port_state xs) ≡ state_of (place_of p xs) →
+found_where : (p : ℕ) (x : PortPlace) (xs : List PortPlace) (b : Bool) → (x.number == p) ≡ b → state_in p (map port_state xs) ≡ state_of (place_of p xs) →
     state_in p (map port_state (x ∷ xs)) ≡ state_of (place_of p (x ∷ xs))
 found_where p x xs true e h = rw e refl
 found_where p x xs false e h = rw e h
 
-state_found : (p : ℕ) (places : List Place) → state_in p (map port_state places) ≡ state_of (place_of p places)
+state_found : (p : ℕ) (places : List PortPlace) → state_in p (map port_state places) ≡ state_of (place_of p places)
 state_found p [] = refl
 state_found p (x ∷ xs) = found_where p x xs (x.number == p) refl (state_found p xs)
 
@@ -32,10 +32,10 @@ state_told fixed n parts p h e =
     let f : Found (PlaceStands fixed n) p parts.ports = found (PlaceStands fixed n) p parts.ports h.places e in
     state_found p parts.ports
     ∙ ap state_of f.is
-    ∙ ap (λ (l : Line). l.link.state) (line_is fixed n f.place f.holds)
+    ∙ ap (λ (l : Rest). l.link.state) (line_is fixed n f.place f.holds)
     ∙ ap (λ (q : ℕ). state_at q fixed n) f.number
 
 -- the rows of these ports have their numbers
-pub row_numbers : (places : List Place) → map (λ (row : PortState). row.port) (map port_state places) ≡ map (λ (place : Place). place.number) places
+pub row_numbers : (places : List PortPlace) → map (λ (row : PortState). row.port) (map port_state places) ≡ map (λ (place : PortPlace). place.number) places
 row_numbers [] = refl
 row_numbers (x ∷ xs) = ap (λ (ns : List ℕ). x.number ∷ ns) (row_numbers xs)

@@ -37,7 +37,7 @@ use Rattle.wrp_node.specs.StepLaws.{is_frame, OnlyFramesSay, CommandsAreHeld, Se
 use Rattle.wrp_node.specs.Telling.{Step, step_from, tell, answer_of, for_slave, is_changed, newest_step, lease_change, link_change, with_lease, settled}
 use Rattle.wrp_port.specs.declared.interface.PortIn.{PortIn}
 use Rattle.wrp_port.specs.declared.interface.PortIn.TheVariants.{Msg, Tick as PortTick, Sent as PortSent, Carrier as PortCarrier}
-use Rattle.wrp_port.specs.declared.line.Line.{Line}
+use Rattle.wrp_port.specs.declared.line.Rest.{Rest}
 use Rattle.wrp_port.specs.declared.setting.Setting.{Setting}
 use Rattle.wrp_port.specs.Hearing.{is_open, early_reason, link_input}
 use Rattle.wrp_port.specs.LineAfter.{ticked, announces_on, syncs_on, requests_on}
@@ -303,7 +303,7 @@ due_few : (b : Bool) (m : PtpMsg) → few 1 (where_due b m) ≡ true
 due_few true m = refl
 due_few false m = refl
 
-scheduled_few : (set : Setting) (role : Role) (line : Line) (certain : Bool) → length (scheduled_sends set role line certain) ≤ 2
+scheduled_few : (set : Setting) (role : Role) (line : Rest) (certain : Bool) → length (scheduled_sends set role line certain) ≤ 2
 scheduled_few set Master line certain =
     both_few 1 1 (where_due (announces_on line) (announce_of set line.link certain line.ids.announce)) (where_due (syncs_on line) (sync_of set line.ids.sync))
     (few_of {A = PtpMsg} 1 _ (due_few (announces_on line) (announce_of set line.link certain line.ids.announce)))
@@ -320,14 +320,14 @@ response_few : (set : Setting) (role : Role) (head : Head) (body : Body) (stamp 
 response_few set Master head (DelayReq origin) stamp = refl
 response_few set role head body stamp = refl
 
-unless_few : (reason : Option Reason) (set : Setting) (line : Line) (m : PtpMsg) (stamp : Stamp) → length (sends_unless reason set line m stamp) ≤ 3
+unless_few : (reason : Option Reason) (set : Setting) (line : Rest) (m : PtpMsg) (stamp : Stamp) → length (sends_unless reason set line m stamp) ≤ 3
 unless_few None set line m stamp =
     both_few 2 1 (signals_of set line.ids.signal (link_sends line.link (link_input set.ds.role m.body))) (response_to set set.ds.role m.head m.body stamp)
     (signals_few set line.ids.signal (link_sends line.link (link_input set.ds.role m.body)) (by_link_few line.link (link_input set.ds.role m.body)))
     (few_of {A = PtpMsg} 1 _ (response_few set set.ds.role m.head m.body stamp))
 unless_few (Some reason) set line m stamp = few_of {A = PtpMsg} 3 [] refl
 
-sends_few : (set : Setting) (line : Line) (input : PortIn) → length (sends_of set line input) ≤ 4
+sends_few : (set : Setting) (line : Rest) (input : PortIn) → length (sends_of set line input) ≤ 4
 sends_few set line (Msg m stamp tick) =
     let three : length (sends_unless (early_reason set line.link m) set line m stamp) ≤ 3 = unless_few (early_reason set line.link m) set line m stamp in
     omega (arith, three)

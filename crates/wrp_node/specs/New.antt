@@ -5,7 +5,7 @@ use Rattle.wrp_data.specs.Counters.{no_counts}
 use Rattle.wrp_data.specs.declared.datasets.PortDs.{PortDs}
 use Rattle.wrp_law.specs.Law.{LawOf}
 use Rattle.wrp_node.specs.declared.interface.NodeSet.{NodeSet}
-use Rattle.wrp_node.specs.declared.place.Place.{Place}
+use Rattle.wrp_node.specs.declared.place.PortPlace.{PortPlace}
 use Rattle.wrp_node.specs.NodeAt.{NodeSetting, setting_by}
 use Rattle.wrp_port.specs.PortAt.{StandsFor as PortStandsFor}
 use Rattle.wrp_servo.specs.Sizes.{FitsServoSet}
@@ -49,7 +49,7 @@ abbrev pub node_setting_of : {F : Type 0} → NodeSet → Option (LawOf F) → N
 node_setting_of set law = record { set = set; lo = low_of law; hi = high_of law }
 
 -- a port that was told nothing
-pub record IsNewPlace (set : NodeSet) (ds : PortDs) (place : Place) : Type 0 where
+pub record IsNewPlace (set : NodeSet) (ds : PortDs) (place : PortPlace) : Type 0 where
   pub number : place.number ≡ ds.own.port
   pub set_is : place.port.set ≡ setting_by set ds
   pub told : PortStandsFor place.port []

@@ -15,9 +15,9 @@ use Rattle.wrp_link.specs.LinkAt.{LinkAt}
 use Rattle.wrp_node.specs.declared.interface.Input.{Input}
 use Rattle.wrp_node.specs.declared.interface.NodeSet.{NodeSet}
 use Rattle.wrp_port.specs.declared.interface.PortIn.{PortIn}
-use Rattle.wrp_port.specs.declared.line.Line.{Line}
+use Rattle.wrp_port.specs.declared.line.Rest.{Rest}
 use Rattle.wrp_port.specs.declared.setting.Setting.{Setting}
-use Rattle.wrp_port.specs.History.{line_of, calls_of, is_fresh}
+use Rattle.wrp_port.specs.History.{rest_after, calls_of, is_fresh}
 use Rattle.wrp_port.specs.PortAt.{deltas_of as port_deltas_of}
 use Rattle.wrp_servo.specs.Call.{Call, ServoSetting, run}
 use Rattle.wrp_servo.specs.declared.machine.Core.{Core}
@@ -105,8 +105,8 @@ setting_of set p = setting_by set (port_of set p)
 -- ---- what its parts have come to
 
 -- a port: its link, its lease, its schedule and its sequenceIds
-abbrev pub line_at : NodeSet → NodeAt → ℕ → Line
-line_at set n p = line_of (setting_of set p) (n.told p)
+abbrev pub line_at : NodeSet → NodeAt → ℕ → Rest
+line_at set n p = rest_after (setting_of set p) (n.told p)
 
 -- the link of a port, as link setup has left it
 abbrev pub link_at : NodeSet → NodeAt → ℕ → LinkAt

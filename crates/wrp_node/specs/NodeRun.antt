@@ -32,19 +32,19 @@ abbrev pub dac_out : Option ℕ → List Output
 dac_out None = []
 dac_out (Some value) = Dac value ∷ []
 
--- the place of a state in the list of states
-abbrev pub place_of : ServoState → ℕ
-place_of Uninit = 0
-place_of SyncTai = 1
-place_of SyncNsec = 2
-place_of SyncPhase = 3
-place_of WaitStable = 4
-place_of Track = 5
-place_of Holdover = 6
+-- the rank of a state in the list of states
+abbrev pub rank_of : ServoState → ℕ
+rank_of Uninit = 0
+rank_of SyncTai = 1
+rank_of SyncNsec = 2
+rank_of SyncPhase = 3
+rank_of WaitStable = 4
+rank_of Track = 5
+rank_of Holdover = 6
 
 -- the state of the servo, where it differs from the one before the input
 abbrev pub servo_out : ServoState → ServoState → List Output
-servo_out before after = if place_of before == place_of after then [] else ReportOf (Servo after) ∷ []
+servo_out before after = if rank_of before == rank_of after then [] else ReportOf (Servo after) ∷ []
 
 -- the word of a port, where it differs from the one before the input
 abbrev pub word_out : ℕ → LinkWord → LinkWord → List Output

@@ -11,7 +11,7 @@ use Rattle.wrp_data.specs.declared.reason.Reason.{Reason}
 use Rattle.wrp_data.specs.Reason.{number_of as reason_number}
 use Rattle.wrp_link.specs.Table.{word_of}
 use Rattle.wrp_node.specs.declared.parts.Parts.{Parts}
-use Rattle.wrp_node.specs.declared.place.Place.{Place}
+use Rattle.wrp_node.specs.declared.place.PortPlace.{PortPlace}
 use Rattle.wrp_node.specs.declared.ports.To.{To}
 use Rattle.wrp_node.specs.NodeAt.{NodeSetting, NodeAt, numbers_of, slave_of, setting_of, line_at, link_at, pieces_at, is_fresh_in, deltas_in}
 use Rattle.wrp_node.specs.NodeStep.{counted_tick, message_of, dropped, used, measured_at}
@@ -26,17 +26,17 @@ use Rattle.wrp_servo.specs.Call.{Call}
 use Rattle.wrp_servo.specs.declared.interface.ServoOut.{ServoOut}
 
 -- whether a number is that of one of these ports
-abbrev pub is_among : ℕ → List Place → Bool
+abbrev pub is_among : ℕ → List PortPlace → Bool
 is_among p places = list_any (λ q. q == p) (map (λ place. place.number) places)
 
 -- a port stands for what it was told
-pub record PlaceStands (fixed : NodeSetting) (n : NodeAt) (place : Place) : Type 0 where
+pub record PlaceStands (fixed : NodeSetting) (n : NodeAt) (place : PortPlace) : Type 0 where
   pub set : place.port.set ≡ setting_of fixed.set place.number
   pub told : PortStandsFor place.port (n.told place.number)
   pub counters : place.counters ≡ n.counters place.number
 
 -- and what it is about to put out
-pub record PlaceIn (fixed : NodeSetting) (before : NodeAt) (s : Step) (place : Place) : Type 0 where
+pub record PlaceIn (fixed : NodeSetting) (before : NodeAt) (s : Step) (place : PortPlace) : Type 0 where
   pub stands : PlaceStands fixed s.node place
   pub word : place.word ≡ word_of (link_at fixed.set before place.number)
   pub sends : place.sends.items ≡ s.sends place.number

@@ -7,7 +7,7 @@ use Rattle.wrp_exch.specs.Call.{Call}
 use Rattle.wrp_exch.specs.Exchange.{StandsFor as ExchangeStandsFor, HasTimes}
 use Rattle.wrp_link.specs.Table.{word_of}
 use Rattle.wrp_node.specs.declared.interface.Output.{Output}
-use Rattle.wrp_node.specs.declared.place.Place.{Place}
+use Rattle.wrp_node.specs.declared.place.PortPlace.{PortPlace}
 use Rattle.wrp_node.specs.declared.ports.To.{To}
 use Rattle.wrp_node.specs.declared.ports.To.TheVariants.{Every, One}
 use Rattle.wrp_node.specs.NodeRun.{word_out, frame_out}
@@ -22,7 +22,7 @@ newest_sends [] before = before
 newest_sends (message ∷ messages) before = message ∷ messages
 
 -- the port was told one input more: it counts why it dropped a message, and keeps what it is to send
-pub record Gives (input : PortIn) (old new : Place) : Type 0 where
+pub record Gives (input : PortIn) (old new : PortPlace) : Type 0 where
   pub number : new.number ≡ old.number
   pub word : new.word ≡ old.word
   pub set : new.port.set ≡ old.port.set
@@ -43,24 +43,24 @@ is_to Every p = true
 is_to (One q) p = p == q
 
 -- a port is given an input where the input is for it, and else stays as it is
-abbrev pub GivenWhere : Bool → PortIn → Place → Place → Type 0
+abbrev pub GivenWhere : Bool → PortIn → PortPlace → PortPlace → Type 0
 GivenWhere true input old new = Gives input old new
 GivenWhere false input old new = new ≡ old
 
 -- an input for some ports: it is given to these, and the others stay as they are
-abbrev pub GivesTo : To → PortIn → Place → Place → Type 0
+abbrev pub GivesTo : To → PortIn → PortPlace → PortPlace → Type 0
 GivesTo to input old new = GivenWhere (is_to to old.number) input old new
 
 -- a reason was counted at the ports of a number
-abbrev pub place_counted : ℕ → ℕ → Place → Place
+abbrev pub place_counted : ℕ → ℕ → PortPlace → PortPlace
 place_counted p reason place = if place.number == p then record place { counters = counted (Some reason) place.counters } else place
 
 -- a call counted a reason at the port, if the port has this number
-abbrev pub Counts : ℕ → ℕ → Place → Place → Type 0
+abbrev pub Counts : ℕ → ℕ → PortPlace → PortPlace → Type 0
 Counts p reason old new = new ≡ place_counted p reason old
 
 -- a port before an input: its word is noted, and nothing is sent yet
-pub record Begins (old new : Place) : Type 0 where
+pub record Begins (old new : PortPlace) : Type 0 where
   pub number : new.number ≡ old.number
   pub port : new.port ≡ old.port
   pub counters : new.counters ≡ old.counters
@@ -68,10 +68,10 @@ pub record Begins (old new : Place) : Type 0 where
   pub sends : new.sends.items ≡ []
 
 -- what a port puts out: its word, where it changed, and its frames
-abbrev pub place_out : Place → List Output
+abbrev pub place_out : PortPlace → List Output
 place_out place =
     word_out place.number place.word (word_of place.port.line.link) ++ map (frame_out place.number) place.sends.items
 
 -- the port of a number among these
-abbrev pub place_of : ℕ → List Place → Option Place
+abbrev pub place_of : ℕ → List PortPlace → Option PortPlace
 place_of p places = find (λ place. place.number == p) places

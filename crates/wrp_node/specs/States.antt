@@ -2,12 +2,12 @@
 use Rattle.std.specs.Prelude.{ℕ, ◌==◌, if◌then◌else◌, List, [], ◌∷◌}
 use Rattle.wrp_base.specs.declared.link.LinkState.{LinkState}
 use Rattle.wrp_base.specs.declared.link.LinkState.TheVariants.{Idle}
-use Rattle.wrp_node.specs.declared.place.Place.{Place}
+use Rattle.wrp_node.specs.declared.place.PortPlace.{PortPlace}
 use Rattle.wrp_node.specs.declared.ports.states.PortState.{PortState}
 use Rattle.wrp_node.specs.NodeAt.{NodeSetting, NodeAt, link_at}
 
 -- a port and the state of its link
-abbrev pub port_state : Place → PortState
+abbrev pub port_state : PortPlace → PortState
 port_state place = record { port = place.number; state = place.port.line.link.state }
 
 -- the state of a port among these, IDLE where it is not among them

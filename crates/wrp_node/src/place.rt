@@ -22,7 +22,7 @@ use wrp_stamp::merge;
 
 /// A port of a node.
 #[derive(Drop)]
-pub struct Place {
+pub struct PortPlace {
     /// Its number.
     pub number: u16,
     /// The port.
@@ -39,15 +39,15 @@ pub struct Place {
     pub lent: PortOut,
 }
 
-impl Place {
+impl PortPlace {
     /// A port that was told nothing, and counted nothing.
-    pub fn new(number: u16, port: Port) -> Place
+    pub fn new(number: u16, port: Port) -> PortPlace
         ensures number { result.number ≡ number }
         ensures port { result.port ≡ port }
         ensures counters { result.counters ≡ no_counts }
     {
         let word = port.word();
-        Place {
+        PortPlace {
             number,
             port,
             counters: Counters::new(),

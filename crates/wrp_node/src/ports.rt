@@ -16,7 +16,7 @@ ghost use Rattle.wrp_port.specs.declared.interface.PortIn.TheVariants.{Msg};
 ghost use Rattle.wrp_port.specs.PortAt.{IsFit, IsStamp};
 
 use crate::Outputs;
-use crate::place::Place;
+use crate::place::PortPlace;
 use index::{Index, index_of, look_for};
 pub use states::{PortState, PortStates};
 use std::marker::Model;
@@ -35,16 +35,16 @@ pub enum To {
 /// The ports of a node.
 #[derive(Drop)]
 pub struct Ports {
-    places: Vec<Place>,
+    places: Vec<PortPlace>,
     index: Index,
 }
 
 impl Model for Ports {
     ghost use Rattle.std.specs.Prelude.{List};
-    ghost use Rattle.wrp_node.specs.declared.place.Place.{Place};
+    ghost use Rattle.wrp_node.specs.declared.place.PortPlace.{PortPlace};
     ghost use Rattle.wrp_node.specs.Index.{AreIndexed};
 
-    ghost Value = { List Place };
+    ghost Value = { List PortPlace };
 
     ghost view = { λ p. p.places.items };
 
@@ -53,7 +53,7 @@ impl Model for Ports {
 
 impl Ports {
     /// These ports, of different numbers.
-    pub fn of(places: Vec<Place>) -> Ports
+    pub fn of(places: Vec<PortPlace>) -> Ports
         requires few { length places.items ≤ 18 }
         requires different { AreDifferent (numbers_in places.items) }
         ensures { result ≡ places.items }
@@ -145,7 +145,7 @@ impl Ports {
     }
 
     /// The port of a number; None where no port has it.
-    pub fn place(&self, number: u16) -> Option<&Place>
+    pub fn place(&self, number: u16) -> Option<&PortPlace>
         ensures { option_map (λ place. place.now) result ≡ place_of number self.now }
     {
         match self.at(number) {

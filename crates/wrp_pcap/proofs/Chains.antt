@@ -5,9 +5,9 @@ use Rattle.wrp_base.specs.declared.message.Body.TheVariants.{Signal}
 use Rattle.wrp_base.specs.declared.message.PortIdentity.{PortIdentity}
 use Rattle.wrp_base.specs.declared.message.WrMsg.{WrMsg}
 use Rattle.wrp_base.specs.declared.message.WrMsg.TheVariants.{Present as SLAVE_PRESENT, Lock as LOCK, Locked as LOCKED, Calibrate as CALIBRATE, Calibrated as CALIBRATED, ModeOn as WR_MODE_ON}
-use Rattle.wrp_pcap.specs.declared.chain.Chain.{Chain}
+use Rattle.wrp_pcap.specs.declared.chain.Trail.{Trail}
 use Rattle.wrp_pcap.specs.Certificate.{Captured, is_present, is_lock, is_locked, is_calibrate, is_calibrated, goes, carries, is_sent, IsAbove, to_lock, to_locked, to_master_calibrate, to_master_calibrated, to_slave_calibrate}
-use Rattle.wrp_pcap.specs.Chain.{chain_of, followed, locked_behind, begun_again, after_master, after_slave}
+use Rattle.wrp_pcap.specs.Chain.{trail_of, followed, locked_behind, begun_again, after_master, after_slave}
 use Rattle.wrp_pcap.specs.StandsFor.{kept_at}
 use Rattle.wrp_pcap.proofs.LookingBack.{behind_after, present_after, lock_after}
 
@@ -22,7 +22,7 @@ record Tests : Type 0 where
   slave_calibrated : Bool
 
 -- a chain with a message
-abbrev stepped : Tests → ℕ → Chain → Chain
+abbrev stepped : Tests → ℕ → Trail → Trail
 stepped t n chain =
     record {
       present = if t.present then Some n else chain.present;
@@ -58,8 +58,8 @@ apart kind source from to master slave (Signal target (Some SLAVE_PRESENT)) othe
 apart kind source from to master slave _ other is = refl
 
 chain_stepped : (master slave : PortIdentity) (newest : Captured) (before : List Captured) → IsAbove newest.number before →
-    chain_of master slave (newest ∷ before)
-    ≡ stepped (tests master slave newest.message.head.source newest.message.body) newest.number (chain_of master slave before)
+    trail_of master slave (newest ∷ before)
+    ≡ stepped (tests master slave newest.message.head.source newest.message.body) newest.number (trail_of master slave before)
 chain_stepped master slave newest before above =
     let source = newest.message.head.source in
     let body = newest.message.body in
@@ -88,12 +88,12 @@ chain_stepped master slave newest before above =
     }
 
 -- a White Rabbit message, as its master's where it goes from the master to the slave, and as its slave's where it goes back
-abbrev heard_by : WrMsg → (forth back : Bool) → ℕ → Chain → Chain
+abbrev heard_by : WrMsg → (forth back : Bool) → ℕ → Trail → Trail
 heard_by message forth back n chain =
     let after = if forth then after_master message n chain else chain in
     if back then after_slave message n after else after
 
-stepped_is : (message : WrMsg) (forth back : Bool) (n : ℕ) (chain : Chain) →
+stepped_is : (message : WrMsg) (forth back : Bool) (n : ℕ) (chain : Trail) →
     stepped (record {
       present = is_present message && back;
       lock = is_lock message && forth;
@@ -129,7 +129,7 @@ stepped_is WR_MODE_ON true false n chain = refl
 stepped_is WR_MODE_ON false true n chain = refl
 stepped_is WR_MODE_ON false false n chain = refl
 
-stepped_by : (master slave source : PortIdentity) (n : ℕ) (body : Body) (chain : Chain) →
+stepped_by : (master slave source : PortIdentity) (n : ℕ) (body : Body) (chain : Trail) →
     stepped (tests master slave source body) n chain ≡ kept_at source n master slave body chain
 stepped_by master slave source n (Signal target (Some message)) chain =
     stepped_is message (goes source target master slave) (goes source target slave master) n chain
@@ -137,8 +137,8 @@ stepped_by master slave source n _ chain = refl
 
 -- looking back over one message more
 pub chain_after : (master slave : PortIdentity) (newest : Captured) (before : List Captured) → IsAbove newest.number before →
-    chain_of master slave (newest ∷ before)
-    ≡ kept_at newest.message.head.source newest.number master slave newest.message.body (chain_of master slave before)
+    trail_of master slave (newest ∷ before)
+    ≡ kept_at newest.message.head.source newest.number master slave newest.message.body (trail_of master slave before)
 chain_after master slave newest before above =
     chain_stepped master slave newest before above
-    ∙ stepped_by master slave newest.message.head.source newest.number newest.message.body (chain_of master slave before)
+    ∙ stepped_by master slave newest.message.head.source newest.number newest.message.body (trail_of master slave before)

@@ -7,7 +7,7 @@ use Rattle.wrp_base.specs.declared.message.WrMsg.TheVariants.{ModeOn as WR_MODE_
 use Rattle.wrp_pcap.specs.declared.pairs.Pairs.{Pairs}
 use Rattle.wrp_pcap.specs.Certificate.{Captured, Back, lacks, finds, look_back, first_above, lock_of, is_present, is_sent, to_slave_calibrated, told_by, unless_restarted, certificate, verdict_on, IsAbove}
 use Rattle.wrp_pcap.specs.Chain.{kept, behind_of, verdict_behind}
-use Rattle.wrp_pcap.specs.StandsFor.{StandsFor, Kept, chain_at, kept_at, told_at}
+use Rattle.wrp_pcap.specs.StandsFor.{StandsFor, Kept, trail_at, kept_at, told_at}
 use Rattle.wrp_pcap.proofs.Chains.{chain_after}
 use Rattle.wrp_pcap.proofs.LookingBack.{HasCount, count_is}
 
@@ -24,7 +24,7 @@ verdict_kept master slave n before (finds numbers) long =
 
 -- the verdict of a chain is the certificate's
 verdict_is : (pairs : Pairs) (before : List Captured) (master slave : PortIdentity) (n : ℕ) → StandsFor pairs before →
-    verdict_behind n (chain_at pairs master slave).slave_calibrated ≡ certificate master slave n before
+    verdict_behind n (trail_at pairs master slave).slave_calibrated ≡ certificate master slave n before
 verdict_is pairs before master slave n stands =
     ap (λ chain. verdict_behind n chain.slave_calibrated) (stands.chains master slave)
     ∙ verdict_kept master slave n before (look_back (to_slave_calibrated master slave) before) (count_is (to_slave_calibrated master slave) before)

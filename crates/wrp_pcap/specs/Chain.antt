@@ -5,7 +5,7 @@ use Rattle.wrp_base.specs.declared.message.WrMsg.{WrMsg}
 use Rattle.wrp_base.specs.declared.message.WrMsg.TheVariants.{Present as SLAVE_PRESENT, Lock as LOCK, Locked as LOCKED, Calibrate as CALIBRATE, Calibrated as CALIBRATED}
 use Rattle.wrp_pcap.specs.declared.chain.Behind.{Behind}
 use Rattle.wrp_pcap.specs.declared.chain.Behind.TheVariants as behind
-use Rattle.wrp_pcap.specs.declared.chain.Chain.{Chain}
+use Rattle.wrp_pcap.specs.declared.chain.Trail.{Trail}
 use Rattle.wrp_pcap.specs.declared.verdict.Verdict8.{Verdict8}
 use Rattle.wrp_pcap.specs.declared.verdict.Verdict8.TheVariants.{Missing}
 use Rattle.wrp_pcap.specs.Certificate.{Captured, is_present, is_sent, to_present, to_lock, to_locked, to_master_calibrate, to_master_calibrated, to_slave_calibrate, to_slave_calibrated, Back, lacks, finds, look_back, first_above, lock_of, unless_restarted}
@@ -28,8 +28,8 @@ behind_of present captured (finds numbers) = behind.Whole (kept numbers) (first_
 abbrev pub behind_at : (Captured → Bool) → List (Captured → Bool) → List Captured → Behind
 behind_at present steps captured = behind_of present captured (look_back steps captured)
 
-abbrev pub chain_of : (master slave : PortIdentity) → List Captured → Chain
-chain_of master slave captured =
+abbrev pub trail_of : (master slave : PortIdentity) → List Captured → Trail
+trail_of master slave captured =
     let present = is_sent is_present slave master in
     record {
       present = present_of (look_back (to_present master slave) captured);
@@ -59,7 +59,7 @@ begun_again number (behind.Missing place) = behind.Missing place
 begun_again number (behind.Whole numbers None) = behind.Whole numbers (Some number)
 begun_again number (behind.Whole numbers (Some first)) = behind.Whole numbers (Some first)
 
-abbrev pub presented : ℕ → Chain → Chain
+abbrev pub presented : ℕ → Trail → Trail
 presented number chain =
     record {
       present = Some number;
@@ -72,14 +72,14 @@ presented number chain =
     }
 
 -- a message from the master to the slave
-abbrev pub after_master : WrMsg → ℕ → Chain → Chain
+abbrev pub after_master : WrMsg → ℕ → Trail → Trail
 after_master LOCK number chain = record chain { lock = locked_behind number chain.present }
 after_master (CALIBRATE _ _ _) number chain = record chain { master_calibrate = followed number chain.locked }
 after_master (CALIBRATED _ _) number chain = record chain { master_calibrated = followed number chain.master_calibrate }
 after_master _ number chain = chain
 
 -- a message from the slave to the master
-abbrev pub after_slave : WrMsg → ℕ → Chain → Chain
+abbrev pub after_slave : WrMsg → ℕ → Trail → Trail
 after_slave SLAVE_PRESENT number chain = presented number chain
 after_slave LOCKED number chain = record chain { locked = followed number chain.lock }
 after_slave (CALIBRATE _ _ _) number chain = record chain { slave_calibrate = followed number chain.master_calibrated }

@@ -8,11 +8,11 @@ use Rattle.wrp_base.specs.declared.message.Body.TheVariants.{Signal}
 use Rattle.wrp_base.specs.declared.message.PortIdentity.{PortIdentity}
 use Rattle.wrp_base.specs.declared.message.WrMsg.{WrMsg}
 use Rattle.wrp_base.specs.declared.message.WrMsg.TheVariants.{ModeOn as WR_MODE_ON}
-use Rattle.wrp_pcap.specs.declared.chain.Chain.{Chain}
+use Rattle.wrp_pcap.specs.declared.chain.Trail.{Trail}
 use Rattle.wrp_pcap.specs.declared.pairs.Pairs.{Pairs}
 use Rattle.wrp_pcap.specs.declared.verdict.Verdict8.{Verdict8}
 use Rattle.wrp_pcap.specs.Certificate.{Captured, Falls, goes}
-use Rattle.wrp_pcap.specs.Chain.{chain_of, after_master, after_slave, verdict_behind}
+use Rattle.wrp_pcap.specs.Chain.{trail_of, after_master, after_slave, verdict_behind}
 
 -- a master and its slave as a key: clock and port of each
 abbrev pub Key : Type 0
@@ -27,14 +27,14 @@ port_cmp a b = ordering_then (nat_cmp a.0 b.0) (nat_cmp a.1 b.1)
 abbrev pub key_cmp : Key → Key → Ordering
 key_cmp a b = ordering_then (port_cmp a.0 b.0) (port_cmp a.1 b.1)
 
--- the chain of a master and its slave, which is that of no message where the table has none
-abbrev pub chain_at : Pairs → (master slave : PortIdentity) → Chain
-chain_at pairs master slave = unwrap_or (tree.get key_cmp pairs.chains (key master slave)) (chain_of master slave [])
+-- the trail of a master and its slave, which is that of no message where the table has none
+abbrev pub trail_at : Pairs → (master slave : PortIdentity) → Trail
+trail_at pairs master slave = unwrap_or (tree.get key_cmp pairs.chains (key master slave)) (trail_of master slave [])
 
 -- a table stands for these messages, whose numbers rise: each of its chains is what looking back over them finds
 pub record StandsFor (pairs : Pairs) (captured : List Captured) : Type 0 where
   pub falls : Falls captured
-  pub chains : (master slave : PortIdentity) → chain_at pairs master slave ≡ chain_of master slave captured
+  pub chains : (master slave : PortIdentity) → trail_at pairs master slave ≡ trail_of master slave captured
 
 -- ---- what the steps of keeping a message leave
 
@@ -47,30 +47,30 @@ KeepsRoom old new = (master slave : PortIdentity) → HasRoom master slave old �
 
 -- the chains are what they were, and what had room has it
 pub record Opened (old new : Pairs) : Type 0 where
-  pub chains : (master slave : PortIdentity) → chain_at new master slave ≡ chain_at old master slave
+  pub chains : (master slave : PortIdentity) → trail_at new master slave ≡ trail_at old master slave
   pub room : KeepsRoom old new
 
 -- a chain was written in the place of its pair's
-abbrev pub Written : (master slave : PortIdentity) → Chain → Pairs → Pairs → Type 0
+abbrev pub Written : (master slave : PortIdentity) → Trail → Pairs → Pairs → Type 0
 Written master slave chain old new =
-    (m s : PortIdentity) → chain_at new m s ≡ (if goes master slave m s then chain else chain_at old m s)
+    (m s : PortIdentity) → trail_at new m s ≡ (if goes master slave m s then chain else trail_at old m s)
 
 -- what a message from one port to another makes of the chains of which the one is the master and the other the slave
 abbrev pub HeardAsMaster : (source target : PortIdentity) → WrMsg → ℕ → Pairs → Pairs → Type 0
 HeardAsMaster source target message number old new =
     (master slave : PortIdentity) →
-    chain_at new master slave
-    ≡ (if goes source target master slave then after_master message number (chain_at old master slave) else chain_at old master slave)
+    trail_at new master slave
+    ≡ (if goes source target master slave then after_master message number (trail_at old master slave) else trail_at old master slave)
 
 -- and of those of which the one is the slave and the other the master
 abbrev pub HeardAsSlave : (source target : PortIdentity) → WrMsg → ℕ → Pairs → Pairs → Type 0
 HeardAsSlave source target message number old new =
     (master slave : PortIdentity) →
-    chain_at new master slave
-    ≡ (if goes source target slave master then after_slave message number (chain_at old master slave) else chain_at old master slave)
+    trail_at new master slave
+    ≡ (if goes source target slave master then after_slave message number (trail_at old master slave) else trail_at old master slave)
 
 -- what it makes of a chain
-abbrev pub heard_at : (source target : PortIdentity) → WrMsg → ℕ → (master slave : PortIdentity) → Chain → Chain
+abbrev pub heard_at : (source target : PortIdentity) → WrMsg → ℕ → (master slave : PortIdentity) → Trail → Trail
 heard_at source target message number master slave chain =
     let after = if goes source target master slave then after_master message number chain else chain in
     if goes source target slave master then after_slave message number after else after
@@ -78,20 +78,20 @@ heard_at source target message number master slave chain =
 abbrev pub Heard : (source target : PortIdentity) → WrMsg → ℕ → Pairs → Pairs → Type 0
 Heard source target message number old new =
     (master slave : PortIdentity) →
-    chain_at new master slave ≡ heard_at source target message number master slave (chain_at old master slave)
+    trail_at new master slave ≡ heard_at source target message number master slave (trail_at old master slave)
 
 -- what a captured message makes of a chain
-abbrev pub kept_at : PortIdentity → ℕ → (master slave : PortIdentity) → Body → Chain → Chain
+abbrev pub kept_at : PortIdentity → ℕ → (master slave : PortIdentity) → Body → Trail → Trail
 kept_at source number master slave (Signal target (Some message)) chain = heard_at source target message number master slave chain
 kept_at source number master slave _ chain = chain
 
 abbrev pub Kept : ℕ → PortIdentity → Body → Pairs → Pairs → Type 0
 Kept number source body old new =
-    (master slave : PortIdentity) → chain_at new master slave ≡ kept_at source number master slave body (chain_at old master slave)
+    (master slave : PortIdentity) → trail_at new master slave ≡ kept_at source number master slave body (trail_at old master slave)
 
 -- what is told of a captured message
 abbrev pub told_at : Pairs → ℕ → PortIdentity → Body → Option Verdict8
-told_at pairs number source (Signal target (Some WR_MODE_ON)) = Some (verdict_behind number (chain_at pairs source target).slave_calibrated)
+told_at pairs number source (Signal target (Some WR_MODE_ON)) = Some (verdict_behind number (trail_at pairs source target).slave_calibrated)
 told_at pairs number source _ = None
 
 -- a body whose message may need room: a White Rabbit message that is no WR_MODE_ON

@@ -1,7 +1,7 @@
 //! The messages between one master and its slave, as far as a later WR_MODE_ON asks for them.
 ghost use Rattle.std.specs.Prelude.{◌≡◌, []};
 ghost use Rattle.wrp_base.specs.declared.message.PortIdentity.{PortIdentity};
-ghost use Rattle.wrp_pcap.specs.Chain.{after_master, after_slave, begun_again, chain_of, followed, locked_behind, presented, verdict_behind};
+ghost use Rattle.wrp_pcap.specs.Chain.{after_master, after_slave, begun_again, trail_of, followed, locked_behind, presented, verdict_behind};
 
 use crate::Verdict8;
 use wrp_base::WrMsg;
@@ -90,7 +90,7 @@ impl Behind {
 /// The messages between one master and its slave: of each place of a handshake the last one, with what
 /// stands behind it.
 #[derive(Clone, Copy, Debug, PartialEq, Eq)]
-pub(crate) struct Chain {
+pub(crate) struct Trail {
     /// The last SLAVE_PRESENT of the slave.
     pub present: Option<u32>,
     /// The last LOCK of the master.
@@ -107,12 +107,12 @@ pub(crate) struct Chain {
     pub slave_calibrated: Behind,
 }
 
-impl Chain {
+impl Trail {
     /// No message yet.
-    pub fn new() -> Chain
-        ensures { (master slave : PortIdentity) → result ≡ chain_of master slave [] }
+    pub fn new() -> Trail
+        ensures { (master slave : PortIdentity) → result ≡ trail_of master slave [] }
     {
-        Chain {
+        Trail {
             present: None,
             lock: Behind::Missing(2),
             locked: Behind::Missing(3),
@@ -124,19 +124,19 @@ impl Chain {
     }
 
     /// With a message from the master to the slave.
-    pub fn after_master(self, message: WrMsg, n: u32) -> Chain
+    pub fn after_master(self, message: WrMsg, n: u32) -> Trail
         ensures { result ≡ after_master message n self }
     {
         match message {
-            WrMsg::Lock => Chain {
+            WrMsg::Lock => Trail {
                 lock: Behind::locked(self.present, n),
                 ..self
             },
-            WrMsg::Calibrate { .. } => Chain {
+            WrMsg::Calibrate { .. } => Trail {
                 master_calibrate: self.locked.followed(n),
                 ..self
             },
-            WrMsg::Calibrated { .. } => Chain {
+            WrMsg::Calibrated { .. } => Trail {
                 master_calibrated: self.master_calibrate.followed(n),
                 ..self
             },
@@ -145,20 +145,20 @@ impl Chain {
     }
 
     /// With a message from the slave to the master.
-    pub fn after_slave(self, message: WrMsg, n: u32) -> Chain
+    pub fn after_slave(self, message: WrMsg, n: u32) -> Trail
         ensures { result ≡ after_slave message n self }
     {
         match message {
             WrMsg::Present => self.presented(n),
-            WrMsg::Locked => Chain {
+            WrMsg::Locked => Trail {
                 locked: self.lock.followed(n),
                 ..self
             },
-            WrMsg::Calibrate { .. } => Chain {
+            WrMsg::Calibrate { .. } => Trail {
                 slave_calibrate: self.master_calibrated.followed(n),
                 ..self
             },
-            WrMsg::Calibrated { .. } => Chain {
+            WrMsg::Calibrated { .. } => Trail {
                 slave_calibrated: self.slave_calibrate.followed(n),
                 ..self
             },
@@ -167,10 +167,10 @@ impl Chain {
     }
 
     // With a SLAVE_PRESENT of the slave.
-    fn presented(self, n: u32) -> Chain
+    fn presented(self, n: u32) -> Trail
         ensures { result ≡ presented n self }
     {
-        Chain {
+        Trail {
             present: Some(n),
             lock: self.lock.begun_again(n),
             locked: self.locked.begun_again(n),

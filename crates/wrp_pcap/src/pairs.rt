@@ -2,10 +2,10 @@
 ghost use Rattle.std.specs.Prelude.{◌≡◌, ◌≢◌, true, [], ◌∷◌, List, IsOk, IsErr, IfOk};
 ghost use Rattle.wrp_pcap.specs.Certificate.{Captured, IsAbove, verdict_of};
 ghost use Rattle.wrp_pcap.specs.Chain.{is_masters, is_slaves};
-ghost use Rattle.wrp_pcap.specs.StandsFor.{StandsFor, HasRoom, Heard, HeardAsMaster, HeardAsSlave, Kept, KeepsRoom, NeedsRoom, Opened, Written, chain_at, key, told_at};
+ghost use Rattle.wrp_pcap.specs.StandsFor.{StandsFor, HasRoom, Heard, HeardAsMaster, HeardAsSlave, Kept, KeepsRoom, NeedsRoom, Opened, Written, trail_at, key, told_at};
 
 use crate::Verdict8;
-use crate::chain::Chain;
+use crate::chain::Trail;
 use std::alloc::{AllocError, Global};
 use std::collections::BTreeMap;
 use wrp_base::{Body, PortIdentity, PtpMsg, WrMsg};
@@ -43,7 +43,7 @@ fn is_slaves(message: WrMsg) -> bool
 /// master and slave of which a message came, and each place of a handshake.
 #[derive(Debug, Drop)]
 pub struct Pairs {
-    chains: BTreeMap<Key, Chain>,
+    chains: BTreeMap<Key, Trail>,
 }
 
 impl Pairs {
@@ -109,12 +109,12 @@ impl Pairs {
     }
 
     // The chain of a master and its slave.
-    fn chain(&self, master: PortIdentity, slave: PortIdentity) -> Chain
-        ensures { result ≡ chain_at self.now master slave }
+    fn chain(&self, master: PortIdentity, slave: PortIdentity) -> Trail
+        ensures { result ≡ trail_at self.now master slave }
     {
         match self.chains.get(&key(master, slave)) {
             Some(chain) => *chain,
-            None => Chain::new(),
+            None => Trail::new(),
         }
     }
 
@@ -188,13 +188,13 @@ impl Pairs {
     {
         let key = key(master, slave);
         if !self.chains.contains_key(&key) {
-            self.chains.insert(key, Chain::new())?;
+            self.chains.insert(key, Trail::new())?;
         }
         Ok(())
     }
 
     // Writes a chain for which there is room.
-    fn write(&mut self, master: PortIdentity, slave: PortIdentity, chain: Chain)
+    fn write(&mut self, master: PortIdentity, slave: PortIdentity, chain: Trail)
         requires { HasRoom master slave self.old }
         ensures chains { Written master slave chain self.old self.new }
         ensures room { KeepsRoom self.old self.new }

@@ -7,7 +7,7 @@ use Rattle.wrp_base.specs.Calls.{Adds}
 use Rattle.wrp_plain.specs.declared.settings.PlainSet.{PlainSet}
 use Rattle.wrp_plain.specs.declared.kept.Kept.{Kept}
 use Rattle.wrp_plain.specs.Measurement.{est_of, base_of, round_of}
-use Rattle.wrp_plain.specs.Call.{Call, CallMeasured, CallTick, CallCommand, Mark, marks}
+use Rattle.wrp_plain.specs.Call.{Call, CallMeasured, CallTick, CallCommand, Standing, standings}
 use Rattle.wrp_plain.specs.Report.{report_at, least_report, report_of}
 use Rattle.wrp_plain.specs.StandsFor.{PlainAt, mark_of, marks_from, marks_at, StandsFor, IsKept, AreKept}
 use Rattle.wrp_plain.proofs.Marks.{later, moved_by, marks_before-tick, marks_before-moved, marks_from-tick, marks_from-moved, marks_from-take, take-cons, AreKept-take, ticked}
@@ -21,7 +21,7 @@ Adds-tick told ring last ticks old is are set calls stands =
     record {
       set_is = known.set_is;
       marks_are =
-          marks_from-tick last ticks ring are ∙ ap (map later) known.marks_are ∙ sym (take-map later set.ring (marks set calls))
+          marks_from-tick last ticks ring are ∙ ap (map later) known.marks_are ∙ sym (take-map later set.ring (standings set calls))
           ∙ ap (take set.ring) (sym (marks_before-tick set (pos 0) 0 calls));
       ticks_are = ap (λ n. n + 1) known.ticks_are;
     }
@@ -41,7 +41,7 @@ Adds-command told ring last by ticks old is resting set calls stands =
       marks_are =
           ap (λ (a : ℤ). marks_from a ticks ring) (sym (none_moved by)) ∙ marks_from-moved (pos 0) by ticks ring
           ∙ ap (λ (a : ℤ). map (moved_by by) (marks_from a ticks ring)) (sym rest)
-          ∙ ap (map (moved_by by)) known.marks_are ∙ sym (take-map (moved_by by) set.ring (marks set calls))
+          ∙ ap (map (moved_by by)) known.marks_are ∙ sym (take-map (moved_by by) set.ring (standings set calls))
           ∙ ap (take set.ring) (sym (marks_before-moved set (pos 0) by 0 calls));
       ticks_are = known.ticks_are;
     }
@@ -65,15 +65,15 @@ Adds-measured told ring new last ticks est base round old is pushed based set t1
     let mark_is : mark_of (pos 0) ticks kept ≡ ticked (est_of t1 t2 t3 t4 +ℤ pos 0) (base_of set (round_of t1 t2 t3 t4)) 0 =
     ap (λ (a : ℤ). ticked a base (ticks - ticks)) est_is ∙ ap (λ (b : ℤ). ticked (est_of t1 t2 t3 t4 +ℤ pos 0) b (ticks - ticks)) base_is
     ∙ ap (ticked (est_of t1 t2 t3 t4 +ℤ pos 0) (base_of set (round_of t1 t2 t3 t4))) (none_since ticks) in
-    let rest_are : marks_from (pos 0 +ℤ last) ticks ring ≡ take set.ring (marks set calls) =
+    let rest_are : marks_from (pos 0 +ℤ last) ticks ring ≡ take set.ring (standings set calls) =
     ap (λ (a : ℤ). marks_from a ticks ring) (none_moved last) ∙ known.marks_are in
     record {
       set_is = known.set_is;
       marks_are =
           ap (marks_from (pos 0) ticks) pushed ∙ marks_from-take (pos 0) ticks told.ring (kept ∷ ring)
           ∙ ap (λ (n : ℕ). take n (marks_from (pos 0) ticks (kept ∷ ring))) (ap (λ (s : PlainSet). s.ring) known.set_is)
-          ∙ ap₂ (λ (m : Mark) (ms : List Mark). take set.ring (m ∷ ms)) mark_is rest_are
-          ∙ take-cons set.ring (ticked (est_of t1 t2 t3 t4 +ℤ pos 0) (base_of set (round_of t1 t2 t3 t4)) 0) (marks set calls);
+          ∙ ap₂ (λ (m : Standing) (ms : List Standing). take set.ring (m ∷ ms)) mark_is rest_are
+          ∙ take-cons set.ring (ticked (est_of t1 t2 t3 t4 +ℤ pos 0) (base_of set (round_of t1 t2 t3 t4)) 0) (standings set calls);
       ticks_are = known.ticks_are;
     }
 
@@ -81,7 +81,7 @@ Adds-measured told ring new last ticks est base round old is pushed based set t1
 pub report_of-is : (set : PlainSet) (plain : PlainAt) (calls : List Call) → StandsFor set plain calls →
     least_report (map (report_at plain.set) (marks_at plain)) ≡ report_of set calls
 report_of-is set plain calls stands =
-    ap₂ (λ (s : PlainSet) (ms : List Mark). least_report (map (report_at s) ms)) stands.set_is stands.marks_are
+    ap₂ (λ (s : PlainSet) (ms : List Standing). least_report (map (report_at s) ms)) stands.set_is stands.marks_are
 
 -- a full ring stays within its length when one more measurement is kept
 pub pushed : (new : Buffer Kept) (cap n ticks : ℕ) (kept : Kept) (ring : List Kept) → new ≡ buffer (take cap (kept ∷ ring)) cap →

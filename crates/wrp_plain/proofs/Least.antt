@@ -7,7 +7,7 @@ use Rattle.wrp_base.proofs.Booleans.{and_first as left_of, and_second as right_o
 use Rattle.wrp_plain.specs.declared.settings.PlainReport.{PlainReport}
 use Rattle.wrp_plain.specs.declared.settings.PlainSet.{PlainSet}
 use Rattle.wrp_plain.specs.declared.kept.Kept.{Kept}
-use Rattle.wrp_plain.specs.Call.{Mark}
+use Rattle.wrp_plain.specs.Call.{Standing}
 use Rattle.wrp_plain.specs.Report.{report_at, is_least, least_report}
 use Rattle.wrp_plain.specs.StandsFor.{PlainAt, marks_from, marks_at, AreKept, HasSmallEst, better}
 
@@ -117,7 +117,7 @@ fold-some b [] = search rules
 fold-some b (x ∷ rs) = some_case b x rs (fold-some x rs) (fold-some b rs) (int_lt x.bound b.bound)
 
 -- one of some reports is the least
-pub least_report_some : (set : PlainSet) (ms : List Mark) → ms ≢ [] → IsSome (least_report (map (report_at set) ms))
+pub least_report_some : (set : PlainSet) (ms : List Standing) → ms ≢ [] → IsSome (least_report (map (report_at set) ms))
 least_report_some set [] some = absurd (some refl)
 least_report_some set (m ∷ ms) some =
     let P : Option PlainReport → Type 0 = λ o. IsSome o in

@@ -7,7 +7,7 @@ use Rattle.wrp_records.specs.Refusals.{bad_trace_line}
 use Rattle.wrp_plain.specs.declared.event.PlainEvent.{PlainEvent}
 use Rattle.wrp_plain.specs.declared.event.PlainBroken.{PlainBroken}
 use Rattle.wrp_plain.specs.declared.settings.PlainStart.{PlainStart}
-use Rattle.wrp_plain.specs.LineCourse.{IsCourse, PlainAccepts, PlainRefuses}
+use Rattle.wrp_plain.specs.LineCourse.{IsPlainRun, PlainAccepts, PlainRefuses}
 use Rattle.wrp_plain.specs.LineReading.{event_read, start_read}
 use Rattle.wrp_plain.specs.LineText.{broken_line, event_text, events_text}
 use Rattle.wrp_plain.specs.Premises.{broken_after}
@@ -28,7 +28,7 @@ start_decided line before (Ok start) none e =
 start_decided line before (Err fault) none e = inr (refusals.BadTrace, bad_trace_line 1 fault, (fault, e, refl))
 
 broken_decided : (first : List ℕ) (lines : List (List ℕ)) (line before : List ℕ) (start : PlainStart) (events : List PlainEvent) (event : PlainEvent) (broken : Option PlainBroken) →
-    before ≡ events_text start.set start.off events → IsCourse first lines start events → event_read line ≡ Ok event → broken_after start.set start.off events event ≡ broken →
+    before ≡ events_text start.set start.off events → IsPlainRun first lines start events → event_read line ≡ Ok event → broken_after start.set start.off events event ≡ broken →
     Goes (first ∷ lines) line before ⊎ Stops (first ∷ lines) line
 broken_decided first lines line before start events event None text course reads kept =
     inl (

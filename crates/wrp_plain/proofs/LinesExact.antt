@@ -7,7 +7,7 @@ use Rattle.wrp_records.specs.Refusals.{bad_trace_line}
 use Rattle.wrp_records.proofs.Unique.{IsExact, ends_once, never_barred}
 use Rattle.wrp_plain.specs.declared.event.PlainEvent.{PlainEvent}
 use Rattle.wrp_plain.specs.declared.settings.PlainStart.{PlainStart}
-use Rattle.wrp_plain.specs.LineCourse.{IsCourse, PlainAccepts, PlainRefuses, plain_meaning}
+use Rattle.wrp_plain.specs.LineCourse.{IsPlainRun, PlainAccepts, PlainRefuses, plain_meaning}
 use Rattle.wrp_plain.specs.LineReading.{event_read}
 use Rattle.wrp_plain.specs.LineText.{broken_line, events_text}
 use Rattle.wrp_plain.specs.Premises.{broken_after}
@@ -23,11 +23,11 @@ none_ends (y ∷ xs) x e = cc
 record Newest (first : List ℕ) (lines : List (List ℕ)) (line : List ℕ) (start : PlainStart) : Type 0 where
   newest : PlainEvent
   before : List PlainEvent
-  course : IsCourse first lines start before
+  course : IsPlainRun first lines start before
   reads : event_read line ≡ Ok newest
   kept : broken_after start.set start.off before newest ≡ None
 
-newest_of : (first : List ℕ) (lines : List (List ℕ)) (line : List ℕ) (start : PlainStart) (events : List PlainEvent) → IsCourse first (lines ++ line ∷ []) start events → Newest first lines line start
+newest_of : (first : List ℕ) (lines : List (List ℕ)) (line : List ℕ) (start : PlainStart) (events : List PlainEvent) → IsPlainRun first (lines ++ line ∷ []) start events → Newest first lines line start
 newest_of first lines line start [] course = absurd (none_ends (map event_read lines) (event_read line) (sym (map-append event_read lines (line ∷ [])) ∙ course.are))
 newest_of first lines line start (event ∷ before) course =
     let ends = same_from_push (map event_read lines) (map read (reverse before)) (event_read line) (read event)
@@ -41,20 +41,20 @@ newest_of first lines line start (event ∷ before) course =
     }
 
 -- the first lines of a course are a course
-first_lines : (first : List ℕ) (front back : List (List ℕ)) (start : PlainStart) (events : List PlainEvent) → IsCourse first (front ++ reverse back) start events →
-    (older : List PlainEvent) × IsCourse first front start older
-first_lines first front [] start events course = (events, subst (λ (ls : List (List ℕ)). IsCourse first ls start events) (append-nil front) course)
+first_lines : (first : List ℕ) (front back : List (List ℕ)) (start : PlainStart) (events : List PlainEvent) → IsPlainRun first (front ++ reverse back) start events →
+    (older : List PlainEvent) × IsPlainRun first front start older
+first_lines first front [] start events course = (events, subst (λ (ls : List (List ℕ)). IsPlainRun first ls start events) (append-nil front) course)
 first_lines first front (line ∷ back) start events course =
     let split : front ++ reverse (line ∷ back) ≡ (front ++ reverse back) ++ line ∷ [] =
     ap (λ (ls : List (List ℕ)). front ++ ls) (reverse-append (line ∷ []) back) ∙ sym (append_assoc front (reverse back) (line ∷ [])) in
-    let n : Newest first (front ++ reverse back) line start = newest_of first (front ++ reverse back) line start events (subst (λ (ls : List (List ℕ)). IsCourse first ls start events) split course) in
+    let n : Newest first (front ++ reverse back) line start = newest_of first (front ++ reverse back) line start events (subst (λ (ls : List (List ℕ)). IsPlainRun first ls start events) split course) in
     first_lines first front back start n.before n.course
 
 -- a line among those of a course
-among : (first : List ℕ) (before behind : List (List ℕ)) (line : List ℕ) (start : PlainStart) (events : List PlainEvent) → IsCourse first (before ++ line ∷ behind) start events → Newest first before line start
+among : (first : List ℕ) (before behind : List (List ℕ)) (line : List ℕ) (start : PlainStart) (events : List PlainEvent) → IsPlainRun first (before ++ line ∷ behind) start events → Newest first before line start
 among first before behind line start events course =
     let older = first_lines first (before ++ line ∷ []) (reverse behind) start events
-    (subst (λ (ls : List (List ℕ)). IsCourse first ls start events)
+    (subst (λ (ls : List (List ℕ)). IsPlainRun first ls start events)
     (sym (append_assoc before (line ∷ []) behind) ∙ ap (λ (ls : List (List ℕ)). (before ++ line ∷ []) ++ ls) (sym (reverse-reverse behind))) course) in
     newest_of first before line start older.0 older.1
 
@@ -69,7 +69,7 @@ one_text (first ∷ lines) t u p q =
 -- One refusal
 
 -- an event is the one that a line says, and breaks the same premise behind the same lines
-same_broken : (first : List ℕ) (lines : List (List ℕ)) (line : List ℕ) (s t : PlainStart) (a b : List PlainEvent) (x y : PlainEvent) → IsCourse first lines s a → IsCourse first lines t b →
+same_broken : (first : List ℕ) (lines : List (List ℕ)) (line : List ℕ) (s t : PlainStart) (a b : List PlainEvent) (x y : PlainEvent) → IsPlainRun first lines s a → IsPlainRun first lines t b →
     event_read line ≡ Ok x → event_read line ≡ Ok y → broken_after s.set s.off a x ≡ broken_after t.set t.off b y
 same_broken first lines line s t a b x y p q h k =
     let one = one_course first lines s t a b p q in

@@ -4,7 +4,7 @@ use Rattle.std.proofs.lemmas.List.{map-append, reverse-append, reverse-reverse}
 use Rattle.wrp_base.specs.declared.fault.TraceFault.{TraceFault}
 use Rattle.wrp_plain.specs.declared.event.PlainEvent.{PlainEvent}
 use Rattle.wrp_plain.specs.declared.settings.PlainStart.{PlainStart}
-use Rattle.wrp_plain.specs.LineCourse.{AreEvents, IsCourse}
+use Rattle.wrp_plain.specs.LineCourse.{AreEvents, IsPlainRun}
 use Rattle.wrp_plain.specs.LineReading.{event_read}
 use Rattle.wrp_plain.specs.Premises.{Accepts}
 
@@ -39,15 +39,15 @@ one_list lines a b p q =
     same_reads a b (sym (reverse-reverse (map read a)) ∙ ap reverse both ∙ reverse-reverse (map read b))
 
 -- two courses of the same lines are one
-pub one_course : (first : List ℕ) (lines : List (List ℕ)) (s t : PlainStart) (a b : List PlainEvent) → IsCourse first lines s a → IsCourse first lines t b → (s ≡ t) × (a ≡ b)
+pub one_course : (first : List ℕ) (lines : List (List ℕ)) (s t : PlainStart) (a b : List PlainEvent) → IsPlainRun first lines s a → IsPlainRun first lines t b → (s ≡ t) × (a ≡ b)
 one_course first lines s t a b p q =
     let both : Ok s ≡ Ok t = sym p.starts ∙ q.starts in
     let start : s ≡ t = cc in
     (start, one_list lines a b p.are q.are)
 
 -- a line more says an event more
-pub course_more : (first : List ℕ) (lines : List (List ℕ)) (start : PlainStart) (events : List PlainEvent) (line : List ℕ) (event : PlainEvent) → IsCourse first lines start events → event_read line ≡ Ok event →
-    Accepts start.set start.off (event ∷ events) → IsCourse first (lines ++ line ∷ []) start (event ∷ events)
+pub course_more : (first : List ℕ) (lines : List (List ℕ)) (start : PlainStart) (events : List PlainEvent) (line : List ℕ) (event : PlainEvent) → IsPlainRun first lines start events → event_read line ≡ Ok event →
+    Accepts start.set start.off (event ∷ events) → IsPlainRun first (lines ++ line ∷ []) start (event ∷ events)
 course_more first lines start events line event course is kept = record {
   starts = course.starts;
   are =

@@ -7,7 +7,7 @@ use Rattle.wrp_plain.specs.declared.settings.PlainSet.{PlainSet}
 use Rattle.wrp_plain.specs.declared.event.PlainEvent.{PlainEvent}
 use Rattle.wrp_plain.specs.declared.event.PlainEvent.TheVariants.{Pass, Tick, Exch}
 use Rattle.wrp_plain.specs.declared.event.PlainSeen.{PlainSeen}
-use Rattle.wrp_plain.specs.Call.{Call, CallTick, Mark, marks}
+use Rattle.wrp_plain.specs.Call.{Call, CallTick, Standing, standings}
 use Rattle.wrp_plain.specs.LineText.{event_text, events_text, report_line, report_text, step_text, tick_count}
 use Rattle.wrp_plain.specs.Measurement.{HasRanges}
 use Rattle.wrp_plain.specs.Premises.{Accepts}
@@ -67,31 +67,31 @@ events_written set off (event ∷ before) ranges accepted said =
 -- ---- a measurement is kept for good
 
 abbrev pub HasMark : PlainSet → List Call → Type 0
-HasMark set calls = (mark : Mark) × (more : List Mark) × (marks set calls ≡ mark ∷ more)
+HasMark set calls = (mark : Standing) × (more : List Standing) × (standings set calls ≡ mark ∷ more)
 
-reports_by : (set : PlainSet) (calls : List Call) (mark : Mark) (more : List Mark) → 1 ≤ set.ring → marks set calls ≡ mark ∷ more → IsSome (report_of set calls)
+reports_by : (set : PlainSet) (calls : List Call) (mark : Standing) (more : List Standing) → 1 ≤ set.ring → standings set calls ≡ mark ∷ more → IsSome (report_of set calls)
 reports_by set calls mark more one is =
-    least_report_some set (take set.ring (marks set calls))
-    (subst (λ (ms : List Mark). take set.ring ms ≢ []) (sym is) (some_kept set.ring mark more one))
+    least_report_some set (take set.ring (standings set calls))
+    (subst (λ (ms : List Standing). take set.ring ms ≢ []) (sym is) (some_kept set.ring mark more one))
 
 -- so a tick has a report
 tick_reports : (set : PlainSet) (calls : List Call) → 1 ≤ set.ring → HasMark set calls → IsSome (report_of set (CallTick ∷ calls))
 tick_reports set calls one has =
     reports_by set (CallTick ∷ calls) (later has.0) (map later has.1) one (marks_before-tick set (pos 0) 0 calls ∙ ap (map later) has.2)
 
-abbrev no_marks : List Mark
+abbrev no_marks : List Standing
 no_marks = []
 
 take_none : (n : ℕ) → take n no_marks ≡ []
 take_none zero = refl
 take_none (suc n) = refl
 
-mark_of : (set : PlainSet) (calls : List Call) (ms : List Mark) → marks set calls ≡ ms → (report : PlainReport) →
+mark_of : (set : PlainSet) (calls : List Call) (ms : List Standing) → standings set calls ≡ ms → (report : PlainReport) →
     report_of set calls ≡ Some report → HasMark set calls
 mark_of set calls [] is report e =
     let none : report_of set calls ≡ None =
-    ap (λ (ms : List Mark). least_report (map (report_at set) (take set.ring ms))) is
-    ∙ ap (λ (ms : List Mark). least_report (map (report_at set) ms)) (take_none set.ring) in
+    ap (λ (ms : List Standing). least_report (map (report_at set) (take set.ring ms))) is
+    ∙ ap (λ (ms : List Standing). least_report (map (report_at set) ms)) (take_none set.ring) in
     absurd cc
 mark_of set calls (mark ∷ more) is report e = (mark, more, is)
 
@@ -202,7 +202,7 @@ kept_behind : (set : PlainSet) (off : ℤ) (base : List PlainEvent) (event : Pla
     (seen_of set off base event).report ≡ Some report →
     HasMark set (calls_of set (event ∷ base))
 kept_behind set off base (Pass dt drift) report e = absurd cc
-kept_behind set off base Tick report e = mark_of set (CallTick ∷ calls_of set base) (marks set (CallTick ∷ calls_of set base)) refl report e
+kept_behind set off base Tick report e = mark_of set (CallTick ∷ calls_of set base) (standings set (CallTick ∷ calls_of set base)) refl report e
 kept_behind set off base (Exch span dms dsm o2 o3 t) report e = (_, _, refl)
 
 at_report : (P : PlainReport → Type 0) (o : Option PlainReport) (report : PlainReport) → o ≡ Some report → IfSome o P → P report

@@ -8,7 +8,7 @@ use Rattle.wrp_plain.specs.declared.settings.PlainReport.{PlainReport}
 use Rattle.wrp_plain.specs.declared.settings.PlainSet.{PlainSet}
 use Rattle.wrp_plain.specs.declared.event.PlainEvent.{PlainEvent}
 use Rattle.wrp_plain.specs.declared.event.PlainEvent.TheVariants.{Pass, Tick, Exch}
-use Rattle.wrp_plain.specs.Call.{Call, Mark, marks}
+use Rattle.wrp_plain.specs.Call.{Call, Standing, standings}
 use Rattle.wrp_plain.specs.Event.{drifts, time_since_tick}
 use Rattle.wrp_plain.specs.Measurement.{HasRanges}
 use Rattle.wrp_plain.specs.Premises.{Accepts}
@@ -71,15 +71,15 @@ assoc : (a b c : ℤ) → (a +ℤ b) +ℤ c ≡ a +ℤ (b +ℤ c)
 assoc a b c = omega (arith, ints)
 
 -- a mark that is moved
-abbrev at : Mark → ℤ → Mark
+abbrev at : Standing → ℤ → Standing
 at mark est = record mark { est = est }
 
-near_same : (set : PlainSet) (since : ℕ) (mark : Mark) (off now est moved : ℤ) → off ≡ now → est ≡ moved →
+near_same : (set : PlainSet) (since : ℕ) (mark : Standing) (off now est moved : ℤ) → off ≡ now → est ≡ moved →
     IsNear set off since (at mark est) → IsNear set now since (at mark moved)
 near_same set since mark off now est moved same so near =
     subst (λ (a : ℤ). IsNear set a since (at mark moved)) same (subst (λ (e : ℤ). IsNear set off since (at mark e)) so near)
 
-near_later : (set : PlainSet) (off : ℤ) (later base : List PlainEvent) (mark : Mark) → HasNoTick later → Accepts set off (later ++ base) →
+near_later : (set : PlainSet) (off : ℤ) (later base : List PlainEvent) (mark : Standing) → HasNoTick later → Accepts set off (later ++ base) →
     IsNear set (true_offset set off base) (time_since_tick base) mark →
     IsNear set (true_offset set off (later ++ base)) (time_since_tick (later ++ base)) (moved_by (moved_in set off later base) mark)
 near_later set off [] base mark none accepted near =
@@ -110,7 +110,7 @@ near_later set off (Exch span dms dsm o2 o3 t ∷ later) base mark none (fields,
 
 -- the report of a measurement that is kept at an event holds after it
 mark_holds : (set : PlainSet) (off : ℤ) (before : List PlainEvent) (event : PlainEvent) (later : List PlainEvent) →
-    HasNoTick later → Accepts set off (later ++ event ∷ before) → (mark : Mark) →
+    HasNoTick later → Accepts set off (later ++ event ∷ before) → (mark : Standing) →
     IsNear set (offset_before_command set off before event) (time_since_tick (event ∷ before)) mark →
     IsWithinBound (true_offset set off (later ++ event ∷ before))
     (moved_with ((seen_of set off before event).command +ℤ moved_in set off later (event ∷ before)) (report_at set mark))
@@ -152,11 +152,11 @@ holds set off before event kept later none accepted =
     let by : ℤ = (seen_of set off before event).command +ℤ moved_in set off later (event ∷ before) in
     let now : ℤ = true_offset set off (later ++ event ∷ before) in
     due_event (λ report. IsWithinBound now (moved_with by report)) set event calls
-    (All-map (λ report. IsWithinBound now (moved_with by report)) (report_at set) (take set.ring (marks set calls))
-    (All-take (λ mark. IsWithinBound now (moved_with by (report_at set mark))) set.ring (marks set calls)
+    (All-map (λ report. IsWithinBound now (moved_with by report)) (report_at set) (take set.ring (standings set calls))
+    (All-take (λ mark. IsWithinBound now (moved_with by (report_at set mark))) set.ring (standings set calls)
     (All-weaker (IsNear set (offset_before_command set off before event) (time_since_tick (event ∷ before)))
     (λ mark. IsWithinBound now (moved_with by (report_at set mark)))
-    (mark_holds set off before event later none accepted) (marks set calls)
+    (mark_holds set off before event later none accepted) (standings set calls)
     (near_told set off before kept.2 event kept.0 kept.1))))
 
 -- ---- what is left

@@ -9,7 +9,7 @@ use Rattle.wrp_plain.specs.declared.settings.PlainReport.{PlainReport}
 use Rattle.wrp_plain.specs.declared.event.PlainEvent.{PlainEvent}
 use Rattle.wrp_plain.specs.declared.event.PlainEvent.TheVariants.{Pass, Tick, Exch}
 use Rattle.wrp_plain.specs.Measurement.{HasRanges, moves_within, est_of, base_of, round_of}
-use Rattle.wrp_plain.specs.Call.{Call, CallTick, Mark, marks}
+use Rattle.wrp_plain.specs.Call.{Call, CallTick, Standing, standings}
 use Rattle.wrp_plain.specs.Report.{report_at, is_least, least_report, report_of, kept_reports}
 use Rattle.wrp_plain.specs.Event.{t1_of, t2_of, t3_of, t4_of, time_since_tick, HasFields}
 use Rattle.wrp_plain.specs.Seen.{told_by, calls_of, true_offset, offset_before_command, seen_of}
@@ -26,7 +26,7 @@ widened : (a : ℕ) (base : ℤ) (more bound : ℕ) → pos a ≤ℤ (base +ℤ 
 widened a base more bound h k = omega (arith, ints)
 
 -- what is near is within the bound of its report
-pub within : (set : PlainSet) (off : ℤ) (since : ℕ) → since ≤ unsigned_abs set.dmax → (mark : Mark) → IsNear set off since mark →
+pub within : (set : PlainSet) (off : ℤ) (since : ℕ) → since ≤ unsigned_abs set.dmax → (mark : Standing) → IsNear set off since mark →
     IsWithinBound off (report_at set mark)
 within set off since h mark is =
     widened (unsigned_abs (mark.est -ℤ off)) mark.base is.more (moves_within set.rate ((mark.ticks + 1) * unsigned_abs set.dmax)) is.near
@@ -34,11 +34,11 @@ within set off since h mark is =
     (by_next set.rate mark.ticks (unsigned_abs set.dmax) since is.more h is.slow))
 
 all_within : (set : PlainSet) (off : ℤ) (since : ℕ) (calls : List Call) → since ≤ unsigned_abs set.dmax →
-    AreNear set off since (marks set calls) → All (IsWithinBound off) (kept_reports set calls)
+    AreNear set off since (standings set calls) → All (IsWithinBound off) (kept_reports set calls)
 all_within set off since calls h are =
-    All-map (IsWithinBound off) (report_at set) (take set.ring (marks set calls))
-    (All-take (λ m. IsWithinBound off (report_at set m)) set.ring (marks set calls)
-    (All-weaker (IsNear set off since) (λ m. IsWithinBound off (report_at set m)) (within set off since h) (marks set calls) are))
+    All-map (IsWithinBound off) (report_at set) (take set.ring (standings set calls))
+    (All-take (λ m. IsWithinBound off (report_at set m)) set.ring (standings set calls)
+    (All-weaker (IsNear set off since) (λ m. IsWithinBound off (report_at set m)) (within set off since h) (standings set calls) are))
 
 -- what is found is in the list, and passes
 contains_later : {X : Type 0} (y : X) (ys : List X) (x : X) → Contains ys x → Contains (y ∷ ys) x
@@ -96,7 +96,7 @@ least_of reports None e = tt
 least_of reports (Some report) e =
     (found (is_least reports) reports report e, none_less reports report (passed (is_least reports) reports report e))
 
-pub some_kept : (n : ℕ) (m : Mark) (ms : List Mark) → 1 ≤ n → take n (m ∷ ms) ≢ []
+pub some_kept : (n : ℕ) (m : Standing) (ms : List Standing) → 1 ≤ n → take n (m ∷ ms) ≢ []
 some_kept zero m ms h e = absurd (omega arith)
 some_kept (suc n) m ms h e = cc
 
@@ -118,12 +118,12 @@ tells_truth set off events ranges accepted (Exch span dms dsm o2 o3 t) fields ke
     let event : PlainEvent = Exch span dms dsm o2 o3 t in
     let calls : List Call = told_by event (calls_of set events) in
     let all = all_within set (offset_before_command set off events event) (time_since_tick events) calls (since_small set off events accepted) (near_told set off events accepted event fields kept) in
-    let new : Mark = record { est = est_of (t1_of t) (t2_of t) (t3_of t) (t4_of t) +ℤ pos 0; base = base_of set (round_of (t1_of t) (t2_of t) (t3_of t) (t4_of t)); ticks = 0 } in
+    let new : Standing = record { est = est_of (t1_of t) (t2_of t) (t3_of t) (t4_of t) +ℤ pos 0; base = base_of set (round_of (t1_of t) (t2_of t) (t3_of t) (t4_of t)); ticks = 0 } in
     record {
       within = least_within (offset_before_command set off events event) (kept_reports set calls) all (report_of set calls) refl;
       least = least_of (kept_reports set calls) (report_of set calls) refl;
       never_short = (
         is_long set (true_offset set off events) (time_since_tick events) span dms dsm o2 o3 t fields.0.0 kept,
-        least_report_some set (take set.ring (marks set calls)) (some_kept set.ring new (marks set (calls_of set events)) ranges.ring.0),
+        least_report_some set (take set.ring (standings set calls)) (some_kept set.ring new (standings set (calls_of set events)) ranges.ring.0),
       );
     }

@@ -10,14 +10,14 @@ pub data Call : Type 0 where
   CallCommand : (by : ℤ) → Call
 
 -- what a measurement stands for: the offset, how far the true one was from it at most, and the ticks since
-pub record Mark : Type 0 where
+pub record Standing : Type 0 where
   pub est : ℤ
   pub base : ℤ
   pub ticks : ℕ
 
 -- what the measurements among these calls stand for, where later commands moved the clock by `moved` and `ticks` ticks
 -- came later: each measured offset is moved by all commands since
-abbrev pub marks_before : PlainSet → ℤ → ℕ → List Call → List Mark
+abbrev pub marks_before : PlainSet → ℤ → ℕ → List Call → List Standing
 marks_before set moved ticks [] = []
 marks_before set moved ticks (CallMeasured t1 t2 t3 t4 ∷ calls) =
     record { est = est_of t1 t2 t3 t4 +ℤ moved; base = base_of set (round_of t1 t2 t3 t4); ticks = ticks } ∷
@@ -26,8 +26,8 @@ marks_before set moved ticks (CallTick ∷ calls) = marks_before set moved (tick
 marks_before set moved ticks (CallCommand by ∷ calls) = marks_before set (moved +ℤ by) ticks calls
 
 -- what the measurements stand for now, the newest first
-abbrev pub marks : PlainSet → List Call → List Mark
-marks set calls = marks_before set (pos 0) 0 calls
+abbrev pub standings : PlainSet → List Call → List Standing
+standings set calls = marks_before set (pos 0) 0 calls
 
 -- how many ticks came
 abbrev pub ticks_in : List Call → ℕ

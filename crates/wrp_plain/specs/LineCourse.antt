@@ -19,7 +19,7 @@ AreEvents lines events = map event_read lines ≡ map (λ (event : PlainEvent). 
 
 -- the first line says the settings and the true offset at the start; those behind it say these events, and each keeps the
 -- premises after those before it
-pub record IsCourse (first : List ℕ) (lines : List (List ℕ)) (start : PlainStart) (events : List PlainEvent) : Type 0 where
+pub record IsPlainRun (first : List ℕ) (lines : List (List ℕ)) (start : PlainStart) (events : List PlainEvent) : Type 0 where
   pub starts : start_read first ≡ Ok start
   pub are : AreEvents lines events
   pub kept : Accepts start.set start.off events
@@ -28,14 +28,14 @@ pub record IsCourse (first : List ℕ) (lines : List (List ℕ)) (start : PlainS
 abbrev pub PlainAccepts : List (List ℕ) → List ℕ → Type 0
 PlainAccepts [] text = text ≡ []
 PlainAccepts (first ∷ lines) text =
-    (start : PlainStart) × (events : List PlainEvent) × IsCourse first lines start events ×
+    (start : PlainStart) × (events : List PlainEvent) × IsPlainRun first lines start events ×
     (text ≡ events_text start.set start.off events)
 
 -- behind records a line says an event that breaks a premise: the first that it breaks is told
 pub record Breaks (first : List ℕ) (lines : List (List ℕ)) (line last : List ℕ) : Type 0 where
   pub start : PlainStart
   pub events : List PlainEvent
-  pub course : IsCourse first lines start events
+  pub course : IsPlainRun first lines start events
   pub event : PlainEvent
   pub reads : event_read line ≡ Ok event
   pub broken : PlainBroken

@@ -14,7 +14,7 @@ use Rattle.wrp_plain.specs.declared.event.PlainEvent.{PlainEvent}
 use Rattle.wrp_plain.specs.declared.settings.PlainReport.{PlainReport}
 use Rattle.wrp_plain.specs.declared.settings.PlainSet.{PlainSet}
 use Rattle.wrp_plain.specs.declared.settings.PlainStart.{PlainStart}
-use Rattle.wrp_plain.specs.LineCourse.{IsCourse, plain_meaning}
+use Rattle.wrp_plain.specs.LineCourse.{IsPlainRun, plain_meaning}
 use Rattle.wrp_plain.specs.LineText.{event_text}
 use Rattle.wrp_plain.specs.Report.{kept_reports}
 use Rattle.wrp_plain.specs.Seen.{calls_of, seen_of, told_by}
@@ -58,7 +58,7 @@ AreTrue set off (event ∷ before) = IsTrueAt set off before event × AreTrue se
 abbrev pub RecordsTellTruth : Type 0
 RecordsTellTruth =
     (first : List ℕ) (lines : List (List ℕ)) (start : PlainStart) (events : List PlainEvent) →
-    IsCourse first lines start events → AreTrue start.set start.off events
+    IsPlainRun first lines start events → AreTrue start.set start.off events
 
 -- each line of a text: where it says a report, the estimate is within the bound of the offset
 abbrev pub AllAreWithin : List ℕ → Type 0

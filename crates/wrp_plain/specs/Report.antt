@@ -5,10 +5,10 @@ use Rattle.wrp_base.specs.Held.{held_within}
 use Rattle.wrp_plain.specs.declared.settings.PlainSet.{PlainSet}
 use Rattle.wrp_plain.specs.declared.settings.PlainReport.{PlainReport}
 use Rattle.wrp_plain.specs.Measurement.{moves_within}
-use Rattle.wrp_plain.specs.Call.{Call, Mark, marks}
+use Rattle.wrp_plain.specs.Call.{Call, Standing, standings}
 
 -- what a measurement reports now: since it, the offset may have moved for all the ticks since and one more
-abbrev pub report_at : PlainSet → Mark → PlainReport
+abbrev pub report_at : PlainSet → Standing → PlainReport
 report_at set mark = record {
   est = mark.est;
   bound = mark.base +ℤ pos (moves_within set.rate ((mark.ticks + 1) * unsigned_abs set.dmax));
@@ -16,7 +16,7 @@ report_at set mark = record {
 
 -- what the kept measurements report, the newest first: the last `ring` ones are kept
 abbrev pub kept_reports : PlainSet → List Call → List PlainReport
-kept_reports set calls = map (report_at set) (take set.ring (marks set calls))
+kept_reports set calls = map (report_at set) (take set.ring (standings set calls))
 
 -- no report of the list has a lesser bound
 abbrev pub is_least : List PlainReport → PlainReport → Bool

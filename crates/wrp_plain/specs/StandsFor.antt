@@ -3,7 +3,7 @@ use Rattle.std.specs.Prelude.{ℕ, ℤ, ◌≡◌, ◌-◌, ◌^◌, ◌≤◌, 
 use Rattle.wrp_plain.specs.declared.settings.PlainSet.{PlainSet}
 use Rattle.wrp_plain.specs.declared.settings.PlainReport.{PlainReport}
 use Rattle.wrp_plain.specs.declared.kept.Kept.{Kept}
-use Rattle.wrp_plain.specs.Call.{Call, Mark, marks, ticks_in}
+use Rattle.wrp_plain.specs.Call.{Call, Standing, standings, ticks_in}
 
 -- what a plain servo keeps: its settings, the kept measurements with the newest first, the last command since, and the
 -- tick count
@@ -14,22 +14,22 @@ pub record PlainAt : Type 0 where
   pub ticks : ℕ
 
 -- what a kept measurement stands for
-abbrev pub mark_of : ℤ → ℕ → Kept → Mark
+abbrev pub mark_of : ℤ → ℕ → Kept → Standing
 mark_of moved ticks kept = record { est = kept.est +ℤ moved; base = kept.base; ticks = ticks - kept.ticks }
 
 -- what the kept measurements stand for, where later commands moved the clock by `moved`
-abbrev pub marks_from : ℤ → ℕ → List Kept → List Mark
+abbrev pub marks_from : ℤ → ℕ → List Kept → List Standing
 marks_from moved ticks [] = []
 marks_from moved ticks (kept ∷ rest) = mark_of moved ticks kept ∷ marks_from (moved +ℤ kept.before) ticks rest
 
 -- what they stand for now
-abbrev pub marks_at : PlainAt → List Mark
+abbrev pub marks_at : PlainAt → List Standing
 marks_at plain = marks_from plain.last plain.ticks plain.ring
 
 -- a servo with these settings was given these calls
 pub record StandsFor (set : PlainSet) (plain : PlainAt) (calls : List Call) : Type 0 where
   pub set_is : plain.set ≡ set
-  pub marks_are : marks_at plain ≡ take set.ring (marks set calls)
+  pub marks_are : marks_at plain ≡ take set.ring (standings set calls)
   pub ticks_are : plain.ticks ≡ ticks_in calls
 
 -- a kept measurement is within its ranges

@@ -7,7 +7,7 @@ use Rattle.wrp_plain.specs.declared.event.PlainEvent.{PlainEvent}
 use Rattle.wrp_plain.specs.declared.event.PlainEvent.TheVariants.{Pass, Tick, Exch}
 use Rattle.wrp_plain.specs.declared.event.PlainSeen.{PlainSeen}
 use Rattle.wrp_plain.specs.Event.{drifts}
-use Rattle.wrp_plain.specs.LineCourse.{IsCourse}
+use Rattle.wrp_plain.specs.LineCourse.{IsPlainRun}
 use Rattle.wrp_plain.specs.Premises.{Accepts}
 use Rattle.wrp_plain.specs.Seen.{seen_of, true_offset}
 use Rattle.wrp_plain.specs.World.{IsWithinBound}
@@ -71,4 +71,4 @@ AreSteered set off (event ∷ before) = IsSteeredAt set off before event × AreS
 abbrev pub ReportsHoldUntilTick : Type 0
 ReportsHoldUntilTick =
     (first : List ℕ) (lines : List (List ℕ)) (start : PlainStart) (events : List PlainEvent) →
-    IsCourse first lines start events → AreSteered start.set start.off events
+    IsPlainRun first lines start events → AreSteered start.set start.off events

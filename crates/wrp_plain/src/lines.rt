@@ -14,7 +14,7 @@ mod printing;
 mod reading;
 mod refusals;
 
-use course::Course;
+use course::PlainRun;
 use csv::ByteRecord;
 use reading::{read_event, read_start};
 use std::alloc::{AllocError, Global};
@@ -39,7 +39,7 @@ pub fn plain<S: Source, K: Sink>(alloc: Global, source: &mut S, sink: &mut K) ->
 /// which says how it starts.
 #[derive(Drop)]
 pub struct PlainLines {
-    course: Option<Course>,
+    course: Option<PlainRun>,
 }
 
 impl PlainLines {
@@ -73,7 +73,7 @@ impl PlainLines {
     {
         match read_start(line, parts) {
             Ok(start) => {
-                self.course = Some(Course::new(alloc, start)?);
+                self.course = Some(PlainRun::new(alloc, start)?);
                 Ok(Taken::Accepted)
             }
             Err(fault) => refuse(alloc, number, &fault, text),
@@ -83,7 +83,7 @@ impl PlainLines {
 
 // Takes a line behind the first.
 fn go_on(
-    course: &mut Course,
+    course: &mut PlainRun,
     alloc: Global,
     line: &[u8],
     parts: Option<&ByteRecord>,

@@ -4,7 +4,7 @@ ghost use Rattle.wrp_base.specs.Calls.{Adds};
 ghost use Rattle.wrp_base.specs.Division.{ceil_quotient};
 ghost use Rattle.wrp_base.specs.Held.{held_within};
 ghost use Rattle.wrp_plain.specs.Measurement.{HasRanges, moves_within, exchange_move, round_of, least_round, est_of, base_of};
-ghost use Rattle.wrp_plain.specs.Call.{Call, CallMeasured, CallTick, CallCommand, Mark};
+ghost use Rattle.wrp_plain.specs.Call.{Call, CallMeasured, CallTick, CallCommand, Standing};
 ghost use Rattle.wrp_plain.specs.Report.{report_at, least_report, report_of, command_of};
 ghost use Rattle.wrp_plain.specs.Out.{IsOut, IsTaken, HasSmallCommand, calls_after};
 ghost use Rattle.wrp_plain.specs.StandsFor.{StandsFor, mark_of, marks_at, IsKept, HasSmallEst, better};

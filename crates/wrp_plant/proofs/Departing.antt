@@ -19,7 +19,7 @@ use Rattle.wrp_course.specs.declared.place.Place.{Place}
 use Rattle.wrp_plant.specs.declared.plant.Plant.{Plant}
 use Rattle.wrp_plant.specs.Flights.{LosesOldest, TakesOldest, delay_in, departed_of, leaving}
 use Rattle.wrp_course.specs.Moved.{behind_first, departing, is_place, moved, one_more, waiting_at}
-use Rattle.wrp_plant.specs.Moves.{At, Changed, Same, SameFrames, Turns, Where}
+use Rattle.wrp_plant.specs.Moves.{At, Changed, Same, SameFrames, EachBecame, Where}
 use Rattle.wrp_plant.specs.Plant.{DepartedIs, Each, EndIs, FitsDeparted, FitsEnd, FitsFrames, FitsPlant, FitsSpan, FramesAre, MaybeIs, PlantIs, PutOutIs, SpanIs, end_in, kept_since}
 use Rattle.wrp_plant.specs.Room.{HasEndRoom, HasRoom, HasSpanRoom}
 use Rattle.wrp_course.specs.Setting.{Setting, is_role, place_of}
@@ -157,7 +157,7 @@ span_of w place k x y r h =
     (taken_span (k == place.link) place.role (w.fibre k) (w.end_at k Master) (w.end_at k Slave) x y r h.fibre h.master h.slave)
 
 pub depart_is : (s : Setting) (w : WorldAt) (n p : ℕ) (stamp : ℤ) (place : Place) (d : Option Departed) (old new : Plant) →
-    Changed Same (Turns (At place.link (TakesOldest place.role))) (Departs d) old.time old new → place_of s n p ≡ Some place →
+    Changed Same (EachBecame (At place.link (TakesOldest place.role))) (Departs d) old.time old new → place_of s n p ≡ Some place →
     MaybeIs DepartedIs (leaving w place stamp (w.end_at place.link place.role).waiting) d → PlantIs s w old → PlantIs s (moved s w (Depart n p stamp)) new
 depart_is s w n p stamp place d old new c e k h =
     let frames : FramesOf s w (place_of s n p) stamp new.frames =
@@ -290,7 +290,7 @@ departs_fit : (links e : ℕ) (d : Option Departed) (old new : FramesAt) → Dep
 departs_fit links e None old new p k f = subst (FitsFrames links (e + 1)) (sym p) (frames_more links e old f)
 departs_fit links e (Some d) old new p k f = one_fits links e d old new p k f
 
-pub depart_fits : (place : Place) (d : Option Departed) (old new : Plant) → Changed Same (Turns (At place.link (TakesOldest place.role))) (Departs d) old.time old new →
+pub depart_fits : (place : Place) (d : Option Departed) (old new : Plant) → Changed Same (EachBecame (At place.link (TakesOldest place.role))) (Departs d) old.time old new →
     IfSome d (FitsDeparted (length old.net.cfg.links.items) (old.events + 1)) → old.events + 1 < 2 ^ 32 → FitsPlant old → FitsPlant new
 depart_fits place d old new c k few f =
     plant_fits _ _ _ _ old new c f few (time_more old.events old.time f.time) (ap length c.of_clocks) c.of_spans.0
@@ -311,7 +311,7 @@ span_room k role x y r h = record {
   slave = where_fits (is_role role Slave) LosesOldest (HasEndRoom k) (HasEndRoom k) x.slave y.slave r.slave (end_room k x.slave y.slave) (λ q. q) h.slave;
 }
 
-pub depart_room : (place : Place) (d : Option Departed) (old new : Plant) → Changed Same (Turns (At place.link (TakesOldest place.role))) (Departs d) old.time old new →
+pub depart_room : (place : Place) (d : Option Departed) (old new : Plant) → Changed Same (EachBecame (At place.link (TakesOldest place.role))) (Departs d) old.time old new →
     (k : ℕ) → HasRoom k old → HasRoom k new
 depart_room place d old new c k h =
     each_turned (At place.link (TakesOldest place.role)) (λ i. HasSpanRoom k) (λ i. HasSpanRoom k) old.spans.items new.spans.items c.of_spans

@@ -19,7 +19,7 @@ use Rattle.wrp_flights.specs.Losing.{is_at_node, loses_link, loses_node}
 use Rattle.wrp_flights.proofs.Staying.{CameFrom, came_from, kept_is_it}
 use Rattle.wrp_plant.specs.declared.plant.Plant.{Plant}
 use Rattle.wrp_course.specs.Moved.{drift_of, move_of, swap_at}
-use Rattle.wrp_plant.specs.Moves.{Turns, Same, SameFrames, Where, At, Changed, Drifts, Samples, GoesDown, Moves, Joins, Empties, Cuts, Drops, DropsAt, touches_in, ComesUp, Swapped, SwapsIn, SwapsAt}
+use Rattle.wrp_plant.specs.Moves.{EachBecame, Same, SameFrames, Where, At, Changed, Drifts, Samples, GoesDown, Moves, Joins, Empties, Cuts, Drops, DropsAt, touches_in, ComesUp, Swapped, SwapsIn, SwapsAt}
 use Rattle.wrp_plant.specs.Plant.{Each, FitsClock, FitsDeparted, FitsEnd, FitsFrames, FitsPlant, FitsSpan}
 use Rattle.wrp_plant.specs.Sizes.{IsTimeBy, IsHorizonBy, IsOffBy, IsDelayBy, IsDueBy}
 use Rattle.wrp_plant.proofs.Turned.{each_turned, each_same}
@@ -207,14 +207,14 @@ tick_fits old new c few f =
     (same_frames (length old.net.cfg.links.items) old.events old.frames new.frames c.of_frames f.frames)
 
 pub pass_fits : (drifts : List ℤ) (moves : List (ℤ × ℤ)) (dt : ℤ) (old new : Plant) → unsigned_abs dt ≤ 2 ^ 63 →
-    Changed (Turns (Drifts drifts)) (Turns (Moves moves)) (Passes (old.frames.horizon +ℤ dt)) (old.time +ℤ dt) old new → old.events + 1 < 2 ^ 32 → FitsPlant old → FitsPlant new
+    Changed (EachBecame (Drifts drifts)) (EachBecame (Moves moves)) (Passes (old.frames.horizon +ℤ dt)) (old.time +ℤ dt) old new → old.events + 1 < 2 ^ 32 → FitsPlant old → FitsPlant new
 pass_fits drifts moves dt old new h c few f =
     plant_fits _ _ _ _ old new c f few (time_later old.events old.time dt f.time h) c.of_clocks.0 c.of_spans.0
     (each_turned (Drifts drifts) (λ n. FitsClock old.events) (λ n. FitsClock (old.events + 1)) old.clocks.items new.clocks.items c.of_clocks (λ n x y r k. drift_fits old.events drifts n x y r k) f.clocks)
     (each_turned (Moves moves) (λ n. FitsSpan old.events) (λ n. FitsSpan (old.events + 1)) old.spans.items new.spans.items c.of_spans (λ n x y r k. move_fits old.events moves n x y r k) f.spans)
     (passed_fit (length old.net.cfg.links.items) old.events dt old.frames new.frames c.of_frames h f.frames)
 
-pub sampled_fits : (n : ℕ) (old new : Plant) → Changed (Turns (At n Samples)) Same SameFrames old.time old new → old.events + 1 < 2 ^ 32 → FitsPlant old → FitsPlant new
+pub sampled_fits : (n : ℕ) (old new : Plant) → Changed (EachBecame (At n Samples)) Same SameFrames old.time old new → old.events + 1 < 2 ^ 32 → FitsPlant old → FitsPlant new
 sampled_fits n old new c few f =
     plant_fits _ _ _ _ old new c f few (time_more old.events old.time f.time) c.of_clocks.0 (ap length c.of_spans)
     (each_turned (At n Samples) (λ n. FitsClock old.events) (λ n. FitsClock (old.events + 1)) old.clocks.items new.clocks.items c.of_clocks
@@ -223,7 +223,7 @@ sampled_fits n old new c few f =
     (same_frames (length old.net.cfg.links.items) old.events old.frames new.frames c.of_frames f.frames)
 
 pub joined_fits : (l : ℕ) (ms sm : ℤ) (old new : Plant) → unsigned_abs ms ≤ 2 ^ 63 → unsigned_abs sm ≤ 2 ^ 63 →
-    Changed Same (Turns (At l (Joins ms sm))) SameFrames old.time old new → old.events + 1 < 2 ^ 32 → FitsPlant old → FitsPlant new
+    Changed Same (EachBecame (At l (Joins ms sm))) SameFrames old.time old new → old.events + 1 < 2 ^ 32 → FitsPlant old → FitsPlant new
 joined_fits l ms sm old new a b c few f =
     plant_fits _ _ _ _ old new c f few (time_more old.events old.time f.time) (ap length c.of_clocks) c.of_spans.0
     (same_clocks old.events old.clocks.items new.clocks.items c.of_clocks f.clocks)
@@ -231,7 +231,7 @@ joined_fits l ms sm old new a b c few f =
     (λ m x y r k. where_fits (m == l) (Joins ms sm) (FitsSpan old.events) (FitsSpan (old.events + 1)) x y r (join_fits old.events ms sm x y a b) (span_more old.events x) k) f.spans)
     (same_frames (length old.net.cfg.links.items) old.events old.frames new.frames c.of_frames f.frames)
 
-pub cut_off_fits : (l : ℕ) (old new : Plant) → Changed Same (Turns (At l Cuts)) (Turned (loses_link l)) old.time old new → old.events + 1 < 2 ^ 32 → FitsPlant old → FitsPlant new
+pub cut_off_fits : (l : ℕ) (old new : Plant) → Changed Same (EachBecame (At l Cuts)) (Turned (loses_link l)) old.time old new → old.events + 1 < 2 ^ 32 → FitsPlant old → FitsPlant new
 cut_off_fits l old new c few f =
     plant_fits _ _ _ _ old new c f few (time_more old.events old.time f.time) (ap length c.of_clocks) c.of_spans.0
     (same_clocks old.events old.clocks.items new.clocks.items c.of_clocks f.clocks)
@@ -241,7 +241,7 @@ cut_off_fits l old new c few f =
     (λ i d k. lost_fits (length old.net.cfg.links.items) old.events (d.link == l) d (loses_link l i d) refl k) f.frames)
 
 pub gone_down_fits : (n : ℕ) (links : List LinkCfg) (old new : Plant) →
-    Changed (Turns (At n GoesDown)) (Turns (DropsAt n links)) (Turned (loses_node n links)) old.time old new → old.events + 1 < 2 ^ 32 → FitsPlant old → FitsPlant new
+    Changed (EachBecame (At n GoesDown)) (EachBecame (DropsAt n links)) (Turned (loses_node n links)) old.time old new → old.events + 1 < 2 ^ 32 → FitsPlant old → FitsPlant new
 gone_down_fits n links old new c few f =
     plant_fits _ _ _ _ old new c f few (time_more old.events old.time f.time) c.of_clocks.0 c.of_spans.0
     (each_turned (At n GoesDown) (λ n. FitsClock old.events) (λ n. FitsClock (old.events + 1)) old.clocks.items new.clocks.items c.of_clocks
@@ -278,7 +278,7 @@ up_fits e off now x y a b r =
     subst (FitsClock (e + 1)) (sym r) (record { off = off_first e off a; ticked = time_more e now b; samples = omega arith })
 
 pub come_up_fits : (n : ℕ) (off : ℤ) (swaps : List Swap) (links : List LinkCfg) (old new : Plant) → unsigned_abs off ≤ 2 ^ 90 →
-    Changed (Turns (At n (ComesUp off old.time))) (Turns (SwapsAt n swaps links)) SameFrames old.time old new → old.events + 1 < 2 ^ 32 → FitsPlant old → FitsPlant new
+    Changed (EachBecame (At n (ComesUp off old.time))) (EachBecame (SwapsAt n swaps links)) SameFrames old.time old new → old.events + 1 < 2 ^ 32 → FitsPlant old → FitsPlant new
 come_up_fits n off swaps links old new a c few f =
     plant_fits _ _ _ _ old new c f few (time_more old.events old.time f.time) c.of_clocks.0 c.of_spans.0
     (each_turned (At n (ComesUp off old.time)) (λ n. FitsClock old.events) (λ n. FitsClock (old.events + 1)) old.clocks.items new.clocks.items c.of_clocks

@@ -8,7 +8,7 @@ use Rattle.wrp_bounds.specs.Times.{frame_life}
 use Rattle.wrp_flights.specs.declared.departed.Departed.{Departed}
 use Rattle.wrp_flights.specs.declared.departed.Reception.{Reception}
 use Rattle.wrp_flights.specs.Frames.{FramesAt, at, sent_at}
-use Rattle.wrp_course.specs.Checks.{Check, breach_of, told_of, at_most, stands, not_sent}
+use Rattle.wrp_course.specs.Checks.{Check, breach_of, told_of, at_most, needs, not_sent}
 use Rattle.wrp_course.specs.declared.breach.Breach.{Breach}
 use Rattle.wrp_plant.specs.Plant.{MaybeIs, DepartedIs, ReceptionIs, FramesAre, is_kept_since, kept_since}
 use Rattle.wrp_course.specs.Premises.{too_old, deliver_by, deliver_checks}
@@ -23,12 +23,12 @@ use Rattle.wrp_course.proofs.Told.{told_cons}
 
 arrived_by : (s : Setting) (w : WorldAt) (n : ℕ) (f : FrameAt) (a : Option Arrival) (r : Option Reception) (b : Option Breach) →
     MaybeIs ReceptionIs a r → is_some r ≡ true → told_of (too_old s.cfg w.time f.sending ∷ []) ≡ None →
-    b ≡ told_of (stands (has_carrier s w f.link) ∷ []) → b ≡ told_of (deliver_by s w n f a)
+    b ≡ told_of (needs (has_carrier s w f.link) ∷ []) → b ≡ told_of (deliver_by s w n f a)
 arrived_by s w n f a None b m i e g = absurd (false≢true i)
 arrived_by s w n f None (Some r) b m i e g = absurd m
 arrived_by s w n f (Some a) (Some r) b m i e g =
-    g ∙ ap (λ o. option_or o (told_of (stands (has_carrier s w f.link) ∷ []))) (sym e)
-    ∙ sym (told_cons (too_old s.cfg w.time f.sending) (stands (has_carrier s w f.link) ∷ []))
+    g ∙ ap (λ o. option_or o (told_of (needs (has_carrier s w f.link) ∷ []))) (sym e)
+    ∙ sym (told_cons (too_old s.cfg w.time f.sending) (needs (has_carrier s w f.link) ∷ []))
 
 waiting_by : (s : Setting) (w : WorldAt) (n : ℕ) (f : FrameAt) (a : Option Arrival) (r : Option Reception) (b : Option Breach) →
     MaybeIs ReceptionIs a r → is_some r ≡ false → told_of (too_old s.cfg w.time f.sending ∷ []) ≡ None →
@@ -41,9 +41,9 @@ waiting_by s w n f None None b m i e g =
 
 pub arrived_told : (s : Setting) (w : WorldAt) (n : ℕ) (f : FrameAt) (d : Departed) (b : Option Breach) → DepartedIs f d → is_some d.arrival ≡ true →
     told_of (too_old s.cfg w.time f.sending ∷ []) ≡ None →
-    b ≡ told_of (stands (has_carrier s w d.link) ∷ []) → b ≡ told_of (deliver_by s w n f f.arrival)
+    b ≡ told_of (needs (has_carrier s w d.link) ∷ []) → b ≡ told_of (deliver_by s w n f f.arrival)
 arrived_told s w n f d b h i e g =
-    arrived_by s w n f f.arrival d.arrival b h.arrival i e (g ∙ ap (λ k. told_of (stands (has_carrier s w k) ∷ [])) h.link)
+    arrived_by s w n f f.arrival d.arrival b h.arrival i e (g ∙ ap (λ k. told_of (needs (has_carrier s w k) ∷ [])) h.link)
 
 pub waiting_told : (s : Setting) (w : WorldAt) (n : ℕ) (f : FrameAt) (d : Departed) (b : Option Breach) → DepartedIs f d → is_some d.arrival ≡ false →
     told_of (too_old s.cfg w.time f.sending ∷ []) ≡ None →
@@ -109,7 +109,7 @@ old_by : (s : Setting) (w : WorldAt) (n : ℕ) (f : FrameAt) (a : Option Arrival
 old_by s w n f None breach e =
     ap (λ o. option_or o (told_of (not_sent n w.departed ∷ []))) e ∙ sym (told_cons (too_old s.cfg w.time f.sending) (not_sent n w.departed ∷ []))
 old_by s w n f (Some a) breach e =
-    ap (λ o. option_or o (told_of (stands (has_carrier s w f.link) ∷ []))) e ∙ sym (told_cons (too_old s.cfg w.time f.sending) (stands (has_carrier s w f.link) ∷ []))
+    ap (λ o. option_or o (told_of (needs (has_carrier s w f.link) ∷ []))) e ∙ sym (told_cons (too_old s.cfg w.time f.sending) (needs (has_carrier s w f.link) ∷ []))
 
 pub old_told : (s : Setting) (w : WorldAt) (n : ℕ) (frames : FramesAt) (t : ℤ) (age : Option Breach) (breach : Breach) → FramesAre s w frames → sent_at n frames.sent ≡ Some t →
     age ≡ told_of (at_most 10 (w.time -ℤ t) (pos (frame_life s.cfg)) ∷ []) → age ≡ Some breach → Some breach ≡ told_of (deliver_checks s w n (w.frame n))

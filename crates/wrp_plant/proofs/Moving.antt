@@ -25,7 +25,7 @@ use Rattle.wrp_flights.specs.Frames.{FramesAt, Passes, Turned}
 use Rattle.wrp_flights.specs.Losing.{is_at_node, loses_link, loses_node, touches as touches_link}
 use Rattle.wrp_plant.specs.declared.plant.Plant.{Plant}
 use Rattle.wrp_course.specs.Moved.{moved, removed, loses, touches, drift_of, move_of, swap_at, with_swap}
-use Rattle.wrp_plant.specs.Moves.{Turns, Same, SameFrames, Where, At, Changed, Drifts, Samples, GoesDown, Moves, Joins, Empties, Loses, Cuts, Drops, DropsAt, touches_in, ComesUp, Swapped, SwapsIn, SwapsAt}
+use Rattle.wrp_plant.specs.Moves.{EachBecame, Same, SameFrames, Where, At, Changed, Drifts, Samples, GoesDown, Moves, Joins, Empties, Loses, Cuts, Drops, DropsAt, touches_in, ComesUp, Swapped, SwapsIn, SwapsAt}
 use Rattle.wrp_plant.specs.Plant.{Each, EndIs, PutOutIs, SpanIs, DepartedIs, FramesAre, PlantIs}
 use Rattle.wrp_course.specs.Setting.{Setting, end_of, is_of}
 use Rattle.wrp_course.specs.WorldAt.{WorldAt, EndAt, FrameAt}
@@ -112,7 +112,7 @@ noise_is s w n p octets raw old new c h =
 -- Time
 
 pub pass_is : (s : Setting) (w : WorldAt) (dt : ℤ) (drifts : ArrayVec ℤ) (moves : ArrayVec (ℤ × ℤ)) (old new : Plant) → pos 0 ≤ℤ dt →
-    Changed (Turns (Drifts drifts.items)) (Turns (Moves moves.items)) (Passes (old.frames.horizon +ℤ dt)) (old.time +ℤ dt) old new → PlantIs s w old →
+    Changed (EachBecame (Drifts drifts.items)) (EachBecame (Moves moves.items)) (Passes (old.frames.horizon +ℤ dt)) (old.time +ℤ dt) old new → PlantIs s w old →
     PlantIs s (moved s w (Pass dt drifts moves)) new
 pass_is s w dt drifts moves old new later c h =
     plant_is s w (moved s w (Pass dt drifts moves)) _ _ _ _ old new c h (ap (λ t. t +ℤ dt) h.time) refl
@@ -133,7 +133,7 @@ where_clock true g x y k r e = r ∙ ap g e
 where_clock false g x y k r e = r ∙ e
 
 pub sample_is : (s : Setting) (w : WorldAt) (n base bits : ℕ) (old new : Plant) →
-    Changed (Turns (At n Samples)) Same SameFrames old.time old new → PlantIs s w old → PlantIs s (moved s w (Sample n base bits)) new
+    Changed (EachBecame (At n Samples)) Same SameFrames old.time old new → PlantIs s w old → PlantIs s (moved s w (Sample n base bits)) new
 sample_is s w n base bits old new c h =
     plant_is s w (moved s w (Sample n base bits)) _ _ _ _ old new c h h.time refl
     (each_turned (At n Samples) (λ m clock. clock ≡ w.clock m) (λ m clock. clock ≡ (moved s w (Sample n base bits)).clock m) old.clocks.items new.clocks.items c.of_clocks
@@ -155,7 +155,7 @@ joins_by true ms sm x y r = (r.fibre, r.master, r.slave)
 joins_by false ms sm x y r = r
 
 pub join_is : (s : Setting) (w : WorldAt) (k : ℕ) (ms sm : ℤ) (old new : Plant) →
-    Changed Same (Turns (At k (Joins ms sm))) SameFrames old.time old new → PlantIs s w old → PlantIs s (moved s w (Join k ms sm)) new
+    Changed Same (EachBecame (At k (Joins ms sm))) SameFrames old.time old new → PlantIs s w old → PlantIs s (moved s w (Join k ms sm)) new
 join_is s w k ms sm old new c h =
     plant_is s w (moved s w (Join k ms sm)) _ _ _ _ old new c h h.time refl
     (each_same (λ m clock. clock ≡ w.clock m) (λ m clock. clock ≡ (moved s w (Join k ms sm)).clock m) old.clocks.items new.clocks.items c.of_clocks (λ m x e. e) h.clocks)
@@ -187,7 +187,7 @@ lose_span false g f m a x y r e p q =
     (ap (λ (z : Span). z.fibre) r ∙ e, subst (λ (z : Span). EndIs m z.master) (sym r) p, subst (λ (z : Span). EndIs a z.slave) (sym r) q)
 
 pub cut_is : (s : Setting) (w : WorldAt) (k : ℕ) (old new : Plant) →
-    Changed Same (Turns (At k Cuts)) (Turned (loses_link k)) old.time old new → PlantIs s w old → PlantIs s (moved s w (Cut k)) new
+    Changed Same (EachBecame (At k Cuts)) (Turned (loses_link k)) old.time old new → PlantIs s w old → PlantIs s (moved s w (Cut k)) new
 cut_is s w k old new c h =
     plant_is s w (moved s w (Cut k)) _ _ _ _ old new c h h.time refl
     (each_same (λ m clock. clock ≡ w.clock m) (λ m clock. clock ≡ (moved s w (Cut k)).clock m) old.clocks.items new.clocks.items c.of_clocks (λ m x e. e) h.clocks)
@@ -206,7 +206,7 @@ at_node n None = refl
 at_node n (Some link) = refl
 
 pub down_is : (s : Setting) (w : WorldAt) (n : ℕ) (old new : Plant) →
-    Changed (Turns (At n GoesDown)) (Turns (DropsAt n old.net.cfg.links.items)) (Turned (loses_node n old.net.cfg.links.items)) old.time old new → PlantIs s w old →
+    Changed (EachBecame (At n GoesDown)) (EachBecame (DropsAt n old.net.cfg.links.items)) (Turned (loses_node n old.net.cfg.links.items)) old.time old new → PlantIs s w old →
     PlantIs s (moved s w (Down n)) new
 down_is s w n old new c h =
     plant_is s w (moved s w (Down n)) _ _ _ _ old new c h h.time refl
@@ -255,7 +255,7 @@ abbrev fresh : ℤ → ℤ → ClockState
 fresh off now = record { up = true; off = off; ticked = now; samples = 0 }
 
 pub up_is : (s : Setting) (w : WorldAt) (n : ℕ) (off : ℤ) (swaps : ArrayVec Swap) (old new : Plant) →
-    Changed (Turns (At n (ComesUp off old.time))) (Turns (SwapsAt n swaps.items old.net.cfg.links.items)) SameFrames old.time old new → PlantIs s w old →
+    Changed (EachBecame (At n (ComesUp off old.time))) (EachBecame (SwapsAt n swaps.items old.net.cfg.links.items)) SameFrames old.time old new → PlantIs s w old →
     PlantIs s (moved s w (Up n off swaps)) new
 up_is s w n off swaps old new c h =
     plant_is s w (moved s w (Up n off swaps)) _ _ _ _ old new c h h.time refl

@@ -9,7 +9,7 @@ use Rattle.wrp_course.specs.declared.fibres.FibreState.{FibreState}
 use Rattle.wrp_flights.specs.Frames.{FramesAt}
 use Rattle.wrp_plant.specs.declared.plant.Plant.{Plant}
 use Rattle.wrp_course.specs.Moved.{swap_at}
-use Rattle.wrp_plant.specs.Moves.{Turns, Same, Where, At, Changed, HasFibre, Moves, Joins, Empties, Loses, Cuts, Drops, DropsAt, touches_in, Swapped, SwapsIn, SwapsAt}
+use Rattle.wrp_plant.specs.Moves.{EachBecame, Same, Where, At, Changed, HasFibre, Moves, Joins, Empties, Loses, Cuts, Drops, DropsAt, touches_in, Swapped, SwapsIn, SwapsAt}
 use Rattle.wrp_plant.specs.Plant.{Each, FitsPlant}
 use Rattle.wrp_plant.specs.PlantTold.{NoneStepped}
 use Rattle.wrp_plant.specs.Room.{HasEndRoom, HasRoom, HasSpanRoom}
@@ -57,27 +57,27 @@ Frames = FramesAt → FramesAt → Type 0
 pub same_room : (C : Clocks) (F : Frames) (t : ℤ) (old new : Plant) → Changed C Same F t old new → (k : ℕ) → HasRoom k old → HasRoom k new
 same_room C F t old new c k h = subst (Each (λ i. HasSpanRoom k)) (sym c.of_spans) h
 
-turned_room : (R : ℕ → Span → Span → Type 0) (C : Clocks) (F : Frames) (t : ℤ) (old new : Plant) → Changed C (Turns R) F t old new → (k : ℕ) →
+turned_room : (R : ℕ → Span → Span → Type 0) (C : Clocks) (F : Frames) (t : ℤ) (old new : Plant) → Changed C (EachBecame R) F t old new → (k : ℕ) →
     ((i : ℕ) (x y : Span) → R i x y → HasSpanRoom k x → HasSpanRoom k y) → HasRoom k old → HasRoom k new
 turned_room R C F t old new c k f h = each_turned R (λ i. HasSpanRoom k) (λ i. HasSpanRoom k) old.spans.items new.spans.items c.of_spans f h
 
-pub pass_room : (moves : List (ℤ × ℤ)) (C : Clocks) (F : Frames) (t : ℤ) (old new : Plant) → Changed C (Turns (Moves moves)) F t old new → (k : ℕ) → HasRoom k old → HasRoom k new
+pub pass_room : (moves : List (ℤ × ℤ)) (C : Clocks) (F : Frames) (t : ℤ) (old new : Plant) → Changed C (EachBecame (Moves moves)) F t old new → (k : ℕ) → HasRoom k old → HasRoom k new
 pass_room moves C F t old new c k h = turned_room (Moves moves) C F t old new c k (λ i x y r p. same_span k _ x y r.span p) h
 
-pub join_room : (l : ℕ) (ms sm : ℤ) (C : Clocks) (F : Frames) (t : ℤ) (old new : Plant) → Changed C (Turns (At l (Joins ms sm))) F t old new → (k : ℕ) → HasRoom k old → HasRoom k new
+pub join_room : (l : ℕ) (ms sm : ℤ) (C : Clocks) (F : Frames) (t : ℤ) (old new : Plant) → Changed C (EachBecame (At l (Joins ms sm))) F t old new → (k : ℕ) → HasRoom k old → HasRoom k new
 join_room l ms sm C F t old new c k h =
     turned_room (At l (Joins ms sm)) C F t old new c k (λ i x y r p. where_room (i == l) (Joins ms sm) (HasSpanRoom k) x y r (λ q. same_span k _ x y q) p) h
 
-pub cut_room : (l : ℕ) (C : Clocks) (F : Frames) (t : ℤ) (old new : Plant) → Changed C (Turns (At l Cuts)) F t old new → (k : ℕ) → HasRoom k old → HasRoom k new
+pub cut_room : (l : ℕ) (C : Clocks) (F : Frames) (t : ℤ) (old new : Plant) → Changed C (EachBecame (At l Cuts)) F t old new → (k : ℕ) → HasRoom k old → HasRoom k new
 cut_room l C F t old new c k h =
     turned_room (At l Cuts) C F t old new c k (λ i x y r p. where_room (i == l) Cuts (HasSpanRoom k) x y r (λ q. lost_span k _ x y q) p) h
 
-pub down_room : (n : ℕ) (links : List LinkCfg) (C : Clocks) (F : Frames) (t : ℤ) (old new : Plant) → Changed C (Turns (DropsAt n links)) F t old new → (k : ℕ) → HasRoom k old → HasRoom k new
+pub down_room : (n : ℕ) (links : List LinkCfg) (C : Clocks) (F : Frames) (t : ℤ) (old new : Plant) → Changed C (EachBecame (DropsAt n links)) F t old new → (k : ℕ) → HasRoom k old → HasRoom k new
 down_room n links C F t old new c k h =
     turned_room (DropsAt n links) C F t old new c k
     (λ i x y r p. where_room (touches_in n (slice_get links i)) Drops (HasSpanRoom k) x y r (λ q. lost_span k _ x y q) p) h
 
-pub up_room : (n : ℕ) (swaps : List Swap) (links : List LinkCfg) (C : Clocks) (F : Frames) (t : ℤ) (old new : Plant) → Changed C (Turns (SwapsAt n swaps links)) F t old new → (k : ℕ) → HasRoom k old → HasRoom k new
+pub up_room : (n : ℕ) (swaps : List Swap) (links : List LinkCfg) (C : Clocks) (F : Frames) (t : ℤ) (old new : Plant) → Changed C (EachBecame (SwapsAt n swaps links)) F t old new → (k : ℕ) → HasRoom k old → HasRoom k new
 up_room n swaps links C F t old new c k h =
     turned_room (SwapsAt n swaps links) C F t old new c k (λ i x y r p. swaps_room k n swaps (slice_get links i) x y r p) h
 

@@ -7,7 +7,7 @@ use Rattle.wrp_plant.specs.declared.ends.PutOut.{PutOut}
 use Rattle.wrp_plant.specs.declared.ends.Span.{Span}
 use Rattle.wrp_course.specs.declared.fibres.FibreState.{FibreState}
 use Rattle.wrp_plant.specs.declared.plant.Plant.{Plant}
-use Rattle.wrp_plant.specs.Moves.{Turns}
+use Rattle.wrp_plant.specs.Moves.{EachBecame}
 use Rattle.wrp_plant.specs.Plant.{Each, EndIs, FitsEnd, FitsPlant, FitsSpan, FramesAre, PlantIs, PutOutIs, SpanIs}
 use Rattle.wrp_plant.specs.Room.{HasEndRoom, HasSpanRoom, SameEnd, SameSpan}
 use Rattle.wrp_course.specs.Setting.{Setting}
@@ -37,7 +37,7 @@ pub at_any : (i j : ℕ) (x y : Span) → SameSpan i x y → SameSpan j x y
 at_any i j x y h = record { fibre = h.fibre; master = h.master; slave = h.slave }
 
 -- all of them, where it has come to the end
-pub took_all : (steps : ℕ) (xs ys : List Span) → Turns (Takes steps) xs ys → Each (λ i. HasSpanRoom steps) ys
+pub took_all : (steps : ℕ) (xs ys : List Span) → EachBecame (Takes steps) xs ys → Each (λ i. HasSpanRoom steps) ys
 took_all steps xs ys t n y e = let it : Came (Takes steps) xs n y = t.1 n y e in it.2.room
 
 -- as far as it has come
@@ -52,13 +52,13 @@ kept_at : (i n : ℕ) (xs ys : List Span) (y : Span) → TurnedTo Keeps xs ys i 
 kept_at i n xs ys y t (inl l) e = t.done n y l e
 kept_at i n xs ys y t (inr l) e = (y, sym (t.left n l) ∙ e, keeps_itself n y)
 
-pub kept_all : (i : ℕ) (xs ys : List Span) → TurnedTo Keeps xs ys i → Turns Keeps xs ys
+pub kept_all : (i : ℕ) (xs ys : List Span) → TurnedTo Keeps xs ys i → EachBecame Keeps xs ys
 kept_all i xs ys t = (t.count, λ n y e. kept_at i n xs ys y t (cases_lt n i) e)
 
-pub same_of_kept : (xs ys : List Span) → Turns Keeps xs ys → Turns SameSpan xs ys
+pub same_of_kept : (xs ys : List Span) → EachBecame Keeps xs ys → EachBecame SameSpan xs ys
 same_of_kept xs ys t = (t.0, λ n y e. let it : Came Keeps xs n y = t.1 n y e in (it.0, it.1, it.2.same))
 
-pub room_of_kept : (k : ℕ) (xs ys : List Span) → Turns Keeps xs ys → Each (λ i. HasSpanRoom k) xs → Each (λ i. HasSpanRoom k) ys
+pub room_of_kept : (k : ℕ) (xs ys : List Span) → EachBecame Keeps xs ys → Each (λ i. HasSpanRoom k) xs → Each (λ i. HasSpanRoom k) ys
 room_of_kept k xs ys t h = each_turned Keeps (λ i. HasSpanRoom k) (λ i. HasSpanRoom k) xs ys t (λ i x y r p. r.kept k p) h
 
 -- Where there is no step, all has the memory that it needs, and is as it was
@@ -69,7 +69,7 @@ end_room end = record { waiting = omega (arith, end.waiting.ok.1); marks = omega
 pub no_steps : (steps : ℕ) (spans : List Span) → steps ≡ 0 → Each (λ i. HasSpanRoom steps) spans
 no_steps steps spans e n span at = subst (λ k. HasSpanRoom k span) (sym e) (record { master = end_room span.master; slave = end_room span.slave })
 
-pub same_spans : (spans : List Span) → Turns SameSpan spans spans
+pub same_spans : (spans : List Span) → EachBecame SameSpan spans spans
 same_spans spans = (refl, λ n y e. (y, e, record { fibre = refl; master = same_end y.master; slave = same_end y.slave }))
 
 -- What the plant stands for, and its sizes
@@ -84,7 +84,7 @@ end_is at x y r h = record {
 }
 
 pub same_is : (s : Setting) (w : WorldAt) (old new : Plant) → new.net ≡ old.net → new.time ≡ old.time → new.events ≡ old.events → new.clocks ≡ old.clocks →
-    new.frames ≡ old.frames → Turns SameSpan old.spans.items new.spans.items → PlantIs s w old → PlantIs s w new
+    new.frames ≡ old.frames → EachBecame SameSpan old.spans.items new.spans.items → PlantIs s w old → PlantIs s w new
 same_is s w old new n t e c f r h = record {
   cfg = ap (λ k. k.cfg) n ∙ h.cfg;
   db = ap (λ k. k.db) n ∙ h.db;
@@ -108,7 +108,7 @@ span_fits e k x y r h = record {
   slave = end_fits e x.slave y.slave r.slave h.slave;
 }
 
-pub same_fits : (old : Plant) (ys : Plant) → ys ≡ record old { spans = ys.spans } → Turns SameSpan old.spans.items ys.spans.items → FitsPlant old → FitsPlant ys
+pub same_fits : (old : Plant) (ys : Plant) → ys ≡ record old { spans = ys.spans } → EachBecame SameSpan old.spans.items ys.spans.items → FitsPlant old → FitsPlant ys
 same_fits old ys same r f =
     subst FitsPlant (sym same)
     (record {

@@ -6,7 +6,7 @@ use Rattle.wrp_base.specs.declared.link.Role.{Role}
 use Rattle.wrp_base.specs.declared.link.Role.TheVariants.{Master, Slave}
 use Rattle.wrp_base.specs.declared.time.Clock.{Clock}
 use Rattle.wrp_bounds.specs.Times.{shortest_tick, longest_tick}
-use Rattle.wrp_course.specs.Checks.{Check, told_of, stands, only_where}
+use Rattle.wrp_course.specs.Checks.{Check, told_of, needs, only_where}
 use Rattle.wrp_course.specs.declared.breach.Breach.{Breach}
 use Rattle.wrp_course.specs.declared.clocks.ClockState.{ClockState}
 use Rattle.wrp_plant.specs.declared.ends.Span.{Span}
@@ -34,15 +34,15 @@ pub up_told : (clock : ℕ → ClockState) (o : Option LinkCfg) (link : LinkCfg)
 up_told clock o link a b e f g = ap₂ (λ x y. x && y) f g ∙ sym (ap (ends_are_up clock) e)
 
 -- a sample over a link that has its carrier, and over one that has none
-carried : (b : Bool) (checks : List Check) → b ≡ true → told_of (map (only_where b) checks ++ (stands b ∷ [])) ≡ told_of checks
+carried : (b : Bool) (checks : List Check) → b ≡ true → told_of (map (only_where b) checks ++ (needs b ∷ [])) ≡ told_of checks
 carried b checks e = rw e (told_standing (map (only_where true) checks) ∙ ap told_of (made checks))
 
 none_or : {A : Type 0} (a b : Option A) → a ≡ None → option_or a b ≡ b
 none_or a b e = rw e refl
 
-pub dark : (b : Bool) (checks : List Check) → b ≡ false → told_of (map (only_where b) checks ++ (stands b ∷ [])) ≡ told_of (stands false ∷ [])
+pub dark : (b : Bool) (checks : List Check) → b ≡ false → told_of (map (only_where b) checks ++ (needs b ∷ [])) ≡ told_of (needs false ∷ [])
 dark b checks e =
-    rw e (told_append (map (only_where false) checks) (stands false ∷ []) ∙ none_or (told_of (map (only_where false) checks)) (told_of (stands false ∷ [])) (not_made checks))
+    rw e (told_append (map (only_where false) checks) (needs false ∷ []) ∙ none_or (told_of (map (only_where false) checks)) (told_of (needs false ∷ [])) (not_made checks))
 
 pub beat_told : (s : Setting) (w : WorldAt) (n base bits k : ℕ) (link : LinkCfg) (clock : Clock) (beat : ℕ) (phase : ℤ) (r : Option Breach) →
     r ≡ told_of (beat_by clock beat base bits phase) → has_carrier s w k ≡ true → link_of s k ≡ Some link → clock ≡ s.cfg.clock →
@@ -54,7 +54,7 @@ beat_told s w n base bits k link clock beat phase r e up l f g h =
     ∙ ap (λ o. told_of (option_map_or (beat_checks s w n base bits k) o [])) l)
 
 pub beat_dark : (s : Setting) (w : WorldAt) (n base bits k : ℕ) (r : Option Breach) →
-    r ≡ told_of (stands false ∷ []) → has_carrier s w k ≡ false → r ≡ told_of (sample_checks s w n base bits (Some k))
+    r ≡ told_of (needs false ∷ []) → has_carrier s w k ≡ false → r ≡ told_of (sample_checks s w n base bits (Some k))
 beat_dark s w n base bits k r e off =
     e ∙ sym (dark (has_carrier s w k) (option_map_or (beat_checks s w n base bits k) (link_of s k) []) off)
 

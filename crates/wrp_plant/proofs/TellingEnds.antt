@@ -26,7 +26,7 @@ use Rattle.wrp_course.specs.declared.fibres.FibreState.{FibreState}
 use Rattle.wrp_plant.specs.declared.plant.told.News.{News}
 use Rattle.wrp_plant.proofs.Listing.{zip_append}
 use Rattle.wrp_course.specs.Given.{Given, end_told, mover_of, sending}
-use Rattle.wrp_plant.specs.Moves.{Turns, Where}
+use Rattle.wrp_plant.specs.Moves.{EachBecame, Where}
 use Rattle.wrp_plant.specs.Plant.{EndIs, PutOutIs}
 use Rattle.wrp_plant.specs.PlantTold.{IsPortOf, IsSent, TellsAt, TellsIn, TellsPort, mark_of, put_at}
 use Rattle.wrp_plant.specs.Room.{HasSpanRoom}
@@ -116,5 +116,5 @@ pub record TellsWithRoom (now : ℤ) (news : News) (outs : List Output) (links :
   pub room : (j : ℕ) → HasSpanRoom (j + 1) old → HasSpanRoom j new
 
 pub told_of_turned : (now : ℤ) (news : News) (outs : List Output) (links : List LinkCfg) (xs ys : List Span) →
-    Turns (TellsWithRoom now news outs links) xs ys → Turns (TellsAt now news outs links) xs ys
+    EachBecame (TellsWithRoom now news outs links) xs ys → EachBecame (TellsAt now news outs links) xs ys
 told_of_turned now news outs links xs ys t = (t.0, λ n y e. let it = t.1 n y e in (it.0, it.1, it.2.told))

@@ -7,7 +7,7 @@ use Rattle.wrp_base.specs.declared.link.Role.{Role}
 use Rattle.wrp_base.specs.declared.time.Clock.{Clock}
 use Rattle.wrp_base.specs.declared.time.Raw.{Raw}
 use Rattle.wrp_base.specs.Network.{End, other_of}
-use Rattle.wrp_course.specs.Checks.{Check, told_of, at_most, not_sent, size_of, stands}
+use Rattle.wrp_course.specs.Checks.{Check, told_of, at_most, not_sent, size_of, needs}
 use Rattle.wrp_course.specs.declared.breach.Breach.{Breach}
 use Rattle.wrp_plant.specs.declared.ends.PutOut.{PutOut}
 use Rattle.wrp_plant.specs.declared.ends.Span.{Span}
@@ -99,13 +99,13 @@ raw_told s w to raw n clock e_tag transition at r e c t m a h =
 pub landing_told : (s : Setting) (w : WorldAt) (i : ℕ) (raw : Raw) (f : FrameAt) (d : Departed) (due stamp r : Option Breach) → DepartedIs f d →
     due ≡ told_of (at_most 8 (size_of (w.time -ℤ d.due)) (pos 0) ∷ []) →
     stamp ≡ told_of (received_to s w (record { link = d.link; role = other_of d.by }) raw) →
-    r ≡ option_or (option_or due stamp) (told_of (stands (has_carrier s w d.link) ∷ [])) → r ≡ told_of (arrive_checks s w i raw true (Some f))
+    r ≡ option_or (option_or due stamp) (told_of (needs (has_carrier s w d.link) ∷ [])) → r ≡ told_of (arrive_checks s w i raw true (Some f))
 landing_told s w i raw f d due stamp r h u v e =
-    e ∙ ap (λ k. option_or (option_or due stamp) (told_of (stands (has_carrier s w k) ∷ []))) h.link
-    ∙ ap₂ (λ a b. option_or (option_or a b) (told_of (stands (has_carrier s w f.link) ∷ [])))
+    e ∙ ap (λ k. option_or (option_or due stamp) (told_of (needs (has_carrier s w k) ∷ []))) h.link
+    ∙ ap₂ (λ a b. option_or (option_or a b) (told_of (needs (has_carrier s w f.link) ∷ [])))
     (u ∙ ap (λ t. told_of (at_most 8 (size_of (w.time -ℤ t)) (pos 0) ∷ [])) h.due)
     (v ∙ ap₂ (λ k b. told_of (received_to s w (record { link = k; role = other_of b }) raw)) h.link h.by)
-    ∙ sym (told_middle (at_most 8 (size_of (w.time -ℤ f.due)) (pos 0)) (received s w f raw) (stands (has_carrier s w f.link) ∷ []))
+    ∙ sym (told_middle (at_most 8 (size_of (w.time -ℤ f.due)) (pos 0)) (received s w f raw) (needs (has_carrier s w f.link) ∷ []))
 
 -- whether it is on a fibre
 pub flight_told : (s : Setting) (w : WorldAt) (i : ℕ) (raw : Raw) (f : FrameAt) (d : Departed) (r : Option Breach) → DepartedIs f d → is_on d ≡ true →

@@ -19,7 +19,7 @@ use Rattle.wrp_node.specs.declared.interface.NodeSet.{NodeSet}
 use Rattle.wrp_node.specs.NodeAt.{port_of, port_or_none}
 use Rattle.wrp_frame.specs.Saying.{Says}
 use Rattle.wrp_node.specs.Set.{master_at, ports_at, set_of, slave_at}
-use Rattle.wrp_course.specs.Checks.{told_of, stands}
+use Rattle.wrp_course.specs.Checks.{told_of, needs}
 use Rattle.wrp_course.specs.declared.breach.Breach.{Breach}
 use Rattle.wrp_course.specs.declared.place.Place.{Place}
 use Rattle.wrp_course.specs.Premises.{is_forged, noise_checks}
@@ -109,13 +109,13 @@ forged_is s n p (Ok message) peer e = ap (λ q. is_by q (Ok message)) (sym e)
 
 pub noise_told : (s : Setting) (w : WorldAt) (n p : ℕ) (says : Result PtpMsg FrameFault) (place : Place) (link : LinkCfg) (peer : PortIdentity) (b : Bool) (forged r : Option Breach) →
     s.set n ≡ set_of s.cfg n → place_of s n p ≡ Some place → link_of s place.link ≡ Some link → peer ≡ identity_at s.cfg (other_of place.role) link →
-    b ≡ is_by peer says → forged ≡ told_of (forged_by b ∷ []) → r ≡ option_or forged (told_of (stands (has_carrier s w place.link) ∷ [])) →
+    b ≡ is_by peer says → forged ≡ told_of (forged_by b ∷ []) → r ≡ option_or forged (told_of (needs (has_carrier s w place.link) ∷ [])) →
     r ≡ told_of (noise_checks s w n p says (Some place))
 noise_told s w n p says place link peer b forged r set at l q e f g =
     let same : (port_of (s.set n) p).peer ≡ peer = ap (λ (x : NodeSet). (port_of x p).peer) set ∙ peer_told s.cfg n p place link at l ∙ sym q in
     let truth : b ≡ is_forged s n p says = e ∙ forged_is s n p says peer same in
-    g ∙ ap (λ o. option_or o (told_of (stands (has_carrier s w place.link) ∷ []))) (f ∙ ap (λ t. told_of (forged_by t ∷ [])) truth)
-    ∙ sym (told_cons (forged_by (is_forged s n p says)) (stands (has_carrier s w place.link) ∷ []))
+    g ∙ ap (λ o. option_or o (told_of (needs (has_carrier s w place.link) ∷ []))) (f ∙ ap (λ t. told_of (forged_by t ∷ [])) truth)
+    ∙ sym (told_cons (forged_by (is_forged s n p says)) (needs (has_carrier s w place.link) ∷ []))
 
 -- what octets say, as they were read
 pub says_it : (octets : List ℕ) (says : Result PtpMsg FrameFault) → ((message : PtpMsg) → says ≡ Ok message → Spells octets message) →

@@ -3,7 +3,7 @@ use Rattle.std.proofs.Common.{◌≡◌, ◌∙◌, refl, ap, sym, subst, ℕ, z
 use Rattle.std.proofs.lemmas.Option.{slice_get-get_or, slice_get_within}
 use Rattle.std.proofs.lemmas.Bool.{eqb-true}
 use Rattle.std.proofs.lemmas.Option.{none-some, same_Some}
-use Rattle.wrp_plant.specs.Moves.{Turns, Where, At, Stays}
+use Rattle.wrp_plant.specs.Moves.{EachBecame, Where, At, Stays}
 use Rattle.wrp_plant.specs.Plant.{Each}
 use Rattle.wrp_plant.proofs.EachLists.{each_of}
 use Rattle.wrp_course.proofs.LinkPorts.{other_number}
@@ -71,7 +71,7 @@ turned_next R xs ys i x v h e r t =
     let next : suc i ≡ i + 1 = omega arith in
     subst (TurnedTo R xs (slice_set ys i v)) next (turned_suc R xs ys i x v h (subst (λ y. R i y v) e r) t)
 
-pub turned_all : {A : Type 0} (R : ℕ → A → A → Type 0) (xs ys : List A) (i : ℕ) → length ys ≤ i → TurnedTo R xs ys i → Turns R xs ys
+pub turned_all : {A : Type 0} (R : ℕ → A → A → Type 0) (xs ys : List A) (i : ℕ) → length ys ≤ i → TurnedTo R xs ys i → EachBecame R xs ys
 turned_all R xs ys i h t = (t.count, λ n y e. let l : n < length ys = slice_get_within ys n y e in t.done n y (omega (arith, h, l)) e)
 
 -- what the loop has not come to is as it was
@@ -80,11 +80,11 @@ pub still : {A : Type 0} (R : ℕ → A → A → Type 0) (xs ys : List A) (i : 
 still R xs ys i x h e t = sym (t.left i (omega arith)) ∙ slice_get-get_or ys i x h ∙ ap (λ y. Some y) (sym e)
 
 -- what holds of each, of each that it became
-pub each_turned : {A : Type 0} (R : ℕ → A → A → Type 0) (P Q : ℕ → A → Type 0) (xs ys : List A) → Turns R xs ys →
+pub each_turned : {A : Type 0} (R : ℕ → A → A → Type 0) (P Q : ℕ → A → Type 0) (xs ys : List A) → EachBecame R xs ys →
     ((n : ℕ) (x y : A) → R n x y → P n x → Q n y) → Each P xs → Each Q ys
 each_turned R P Q xs ys t f p n y e = let it : Came R xs n y = t.1 n y e in f n it.0 y it.2 (p n it.0 it.1)
 
-pub all_stay : {A : Type 0} (xs : List A) → Turns Stays xs xs
+pub all_stay : {A : Type 0} (xs : List A) → EachBecame Stays xs xs
 all_stay xs = (refl, λ n y e. (y, e, refl))
 
 at_one : {A : Type 0} (C : A → A → Type 0) (xs : List A) (i n : ℕ) (d v y : A) (b : Bool) → (n == i) ≡ b → i < length xs →
@@ -99,14 +99,14 @@ at_one C xs i n d v y false e h r f =
     (y, sym (put_else xs i n v (other_number n i e)) ∙ f, refl)
 
 pub turned_at : {A : Type 0} (C : A → A → Type 0) (xs : List A) (i : ℕ) (d v : A) → i < length xs →
-    C (slice_index_or xs i d) v → Turns (At i C) xs (slice_set xs i v)
+    C (slice_index_or xs i d) v → EachBecame (At i C) xs (slice_set xs i v)
 turned_at C xs i d v h r =
     (length_put xs i v, λ n y e. at_one C xs i n d v y (n == i) refl h r e)
 
 pub turned_place : {A : Type 0} (C : A → A → Type 0) (xs : List A) (i k : ℕ) (x v : A) → i ≡ k → i < length xs → x ≡ slice_index_or xs i x →
-    C x v → Turns (At k C) xs (slice_set xs i v)
+    C x v → EachBecame (At k C) xs (slice_set xs i v)
 turned_place C xs i k x v same h e r =
-    subst (λ j. Turns (At j C) xs (slice_set xs i v)) same (turned_at C xs i x v h (subst (λ y. C y v) e r))
+    subst (λ j. EachBecame (At j C) xs (slice_set xs i v)) same (turned_at C xs i x v h (subst (λ y. C y v) e r))
 
 pub each_same : {A : Type 0} (P Q : ℕ → A → Type 0) (xs ys : List A) → ys ≡ xs → ((n : ℕ) (x : A) → P n x → Q n x) → Each P xs → Each Q ys
 each_same P Q xs ys e f p = subst (Each Q) (sym e) (each_of P Q xs f p)

@@ -13,8 +13,8 @@ use Rattle.wrp_course.specs.Moved.{drift_of, move_of, swap_at}
 use Rattle.wrp_course.specs.Setting.{end_of, is_of}
 
 -- each of a list became what stands at its place: from what it was, by its number
-abbrev pub Turns : {A : Type 0} → (ℕ → A → A → Type 0) → List A → List A → Type 0
-Turns {A} R xs ys = (length ys ≡ length xs) × ((n : ℕ) (y : A) → slice_get ys n ≡ Some y → (x : A) × (slice_get xs n ≡ Some x) × R n x y)
+abbrev pub EachBecame : {A : Type 0} → (ℕ → A → A → Type 0) → List A → List A → Type 0
+EachBecame {A} R xs ys = (length ys ≡ length xs) × ((n : ℕ) (y : A) → slice_get ys n ≡ Some y → (x : A) × (slice_get xs n ≡ Some x) × R n x y)
 
 -- one that changes where it is so, and else stays
 abbrev pub Where : {A : Type 0} → Bool → (A → A → Type 0) → A → A → Type 0

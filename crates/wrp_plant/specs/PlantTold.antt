@@ -26,7 +26,7 @@ use Rattle.wrp_plant.specs.declared.ends.Span.{Span}
 use Rattle.wrp_plant.specs.declared.plant.Plant.{Plant}
 use Rattle.wrp_plant.specs.declared.plant.told.News.{News}
 use Rattle.wrp_course.specs.Given.{Given, mover_of}
-use Rattle.wrp_plant.specs.Moves.{Turns, Where, At}
+use Rattle.wrp_plant.specs.Moves.{EachBecame, Where, At}
 use Rattle.wrp_plant.specs.Plant.{Each}
 use Rattle.wrp_course.specs.Setting.{Setting, end_at}
 use Rattle.wrp_course.specs.WorldAt.{WorldAt}
@@ -87,8 +87,8 @@ pub record Told (news : News) (outs : List Output) (old new : Plant) : Type 0 wh
   pub db : new.net.db ≡ old.net.db
   pub time : new.time ≡ old.time
   pub count : new.events ≡ old.events
-  pub of_clocks : Turns (At news.node (Steps (cycles_in outs) old.time (period_of old.net.cfg.clock) news.ticked)) old.clocks.items new.clocks.items
-  pub of_spans : Turns (TellsAt old.time news outs old.net.cfg.links.items) old.spans.items new.spans.items
+  pub of_clocks : EachBecame (At news.node (Steps (cycles_in outs) old.time (period_of old.net.cfg.clock) news.ticked)) old.clocks.items new.clocks.items
+  pub of_spans : EachBecame (TellsAt old.time news outs old.net.cfg.links.items) old.spans.items new.spans.items
   pub of_frames : new.frames ≡ old.frames
 
 -- The step of the definition that this is

@@ -17,7 +17,7 @@ use Rattle.wrp_servo.specs.Sampling.{is_holdover}
 use Rattle.wrp_frame.specs.declared.fault.FrameFault.{FrameFault}
 use Rattle.wrp_frame.specs.Saying.{Says}
 use Rattle.wrp_node.specs.Set.{lower_of, set_of, upper_of}
-use Rattle.wrp_course.specs.Checks.{Check, at_most, size_of, stands, told_of}
+use Rattle.wrp_course.specs.Checks.{Check, at_most, size_of, needs, told_of}
 use Rattle.wrp_course.specs.declared.breach.Breach.{Breach}
 use Rattle.wrp_plant.specs.declared.ends.Delays.{Delays}
 use Rattle.wrp_plant.specs.declared.ends.EndState.{EndState}
@@ -67,7 +67,7 @@ pub record LinkHas (v : WorldAt) (k : ℕ) (over : FibreState) (upper lower : De
 abbrev pub departs_by : Setting → WorldAt → (n k : ℕ) → (stamp sent : ℤ) → List Check
 departs_by s w n k stamp sent =
     at_most 7 (size_of (stamp -ℤ reading w n)) (pos (of_node (λ node. node.e_tx) s n))
-    ∷ (at_most 10 (w.time -ℤ sent) (pos (frame_life s.cfg)) ∷ (stands (has_carrier s w k) ∷ []))
+    ∷ (at_most 10 (w.time -ℤ sent) (pos (frame_life s.cfg)) ∷ (needs (has_carrier s w k) ∷ []))
 
 -- what is compared at the end that receives a frame
 abbrev pub received_to : Setting → WorldAt → Place → Raw → List Check

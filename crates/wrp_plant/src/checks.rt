@@ -43,7 +43,7 @@ pub fn at_least(premise: u8, shown: Tau, bound: Tau) -> Option<Breach>
 
 /// What the event needs stands.
 pub fn stands(holds: bool) -> Option<Breach>
-    ensures { result ≡ told_of (spec.stands holds ∷ []) }
+    ensures { result ≡ told_of (spec.needs holds ∷ []) }
 {
     if holds {
         None

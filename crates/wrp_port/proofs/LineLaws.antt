@@ -18,11 +18,11 @@ use Rattle.wrp_port.specs.declared.interface.PortIn.{PortIn}
 use Rattle.wrp_port.specs.declared.interface.PortIn.TheVariants.{Msg, Lease, Tick, Sent, Carrier, Sample, Chain, Reset}
 use Rattle.wrp_port.specs.declared.interface.Sched.{Sched}
 use Rattle.wrp_port.specs.declared.line.Ids.{Ids}
-use Rattle.wrp_port.specs.declared.line.Line.{Line}
+use Rattle.wrp_port.specs.declared.line.Rest.{Rest}
 use Rattle.wrp_port.specs.declared.line.Turns.{Turns}
 use Rattle.wrp_port.specs.declared.setting.Setting.{Setting}
 use Rattle.wrp_port.specs.Hearing.{is_open, early_reason, link_input, renews}
-use Rattle.wrp_port.specs.History.{link_by, with_input, input_unless, link_inputs, link_of, since_renewal, zero_where, left_of, while_open, ticks_told, ticks_open, sent_each, one_more_where, at_master, at_slave, only_at_master, signals_told, signals, newest_of, line_of, calls_of}
+use Rattle.wrp_port.specs.History.{link_by, with_input, input_unless, link_inputs, link_of, since_renewal, zero_where, left_of, while_open, ticks_told, ticks_open, sent_each, one_more_where, at_master, at_slave, only_at_master, signals_told, signals, newest_of, rest_after, calls_of}
 use Rattle.wrp_port.specs.LineAfter.{first_turns, next_turns, first_ids, new_line, turns_while, told, told_if, heard_unless, ticked, is_due, next_where, newest_where, scheduled, after}
 use Rattle.wrp_port.specs.Outputs.{calls_after}
 use Rattle.wrp_port.specs.PortAt.{PortAt, StandsFor}
@@ -74,7 +74,7 @@ ids_of role announces syncs requests sent newest =
       newest_sync = only_at_master role newest;
     }
 
-abbrev line_by : Sched → Role → LinkAt → (lease k announces syncs requests sent : ℕ) → Option ℕ → Line
+abbrev line_by : Sched → Role → LinkAt → (lease k announces syncs requests sent : ℕ) → Option ℕ → Rest
 line_by sched role l lease k announces syncs requests sent newest =
     record { link = l; lease = lease; turns = turns_of sched k; ids = ids_of role announces syncs requests sent newest }
 
@@ -126,7 +126,7 @@ left-turn : (lease : ℕ) (since : Option ℕ) → left_of lease since - 1 ≡ l
 left-turn lease None = refl
 left-turn lease (Some turns) = omega arith
 
-abbrev with_lease : ℕ → Line → Line
+abbrev with_lease : ℕ → Rest → Rest
 with_lease lease line = record line { lease = lease }
 
 -- ---- a message
@@ -212,13 +212,13 @@ scheduled-line sched Slave l lease k na ns nr sent newest =
 
 -- ---- any input
 
-line_of-step : (set : Setting) (input : PortIn) (before : List PortIn) → after set (line_of set before) input ≡ line_of set (input ∷ before)
-line_of-step set (Msg message stamp tick) before =
+rest_after-step : (set : Setting) (input : PortIn) (before : List PortIn) → after set (rest_after set before) input ≡ rest_after set (input ∷ before)
+rest_after-step set (Msg message stamp tick) before =
     heard-line set (link_inputs set before) (since_renewal set before) (ticks_open set before)
     (sent_each set.sched.announce set before) (sent_each set.sched.sync set before) (sent_each set.sched.delay set before)
     (signals set before) (newest_of set before) message (early_reason set (link_of set before) message)
-line_of-step set Lease before = ap (λ (n : ℕ). with_lease n (line_of set before)) (left-turn set.sched.lease (since_renewal set before))
-line_of-step set (Tick locked certain) before =
+rest_after-step set Lease before = ap (λ (n : ℕ). with_lease n (rest_after set before)) (left-turn set.sched.lease (since_renewal set before))
+rest_after-step set (Tick locked certain) before =
     ap (scheduled set.ds.role)
     (ticked-line set (link_of set before) (left_of set.sched.lease (since_renewal set before)) (ticks_open set before)
     (sent_each set.sched.announce set before) (sent_each set.sched.sync set before) (sent_each set.sched.delay set before)
@@ -227,22 +227,22 @@ line_of-step set (Tick locked certain) before =
     (ticks_open set (Tick locked certain ∷ before))
     (sent_each set.sched.announce set before) (sent_each set.sched.sync set before) (sent_each set.sched.delay set before)
     (signals set (Tick locked certain ∷ before)) (newest_of set before)
-line_of-step set (Sent delay seq stamp tick) before = refl
-line_of-step set (Carrier true own_module) before =
+rest_after-step set (Sent delay seq stamp tick) before = refl
+rest_after-step set (Carrier true own_module) before =
     told-line set.sched set.ds.role (link_of set before) (left_of set.sched.lease (since_renewal set before)) (ticks_open set before)
     (sent_each set.sched.announce set before) (sent_each set.sched.sync set before) (sent_each set.sched.delay set before)
     (signals set before) (newest_of set before) (link.CarrierUp own_module)
-line_of-step set (Carrier false own_module) before =
+rest_after-step set (Carrier false own_module) before =
     ap (with_lease 0)
     (told-line set.sched set.ds.role (link_of set before) (left_of set.sched.lease (since_renewal set before)) (ticks_open set before)
     (sent_each set.sched.announce set before) (sent_each set.sched.sync set before) (sent_each set.sched.delay set before)
     (signals set before) (newest_of set before) link.CarrierDown)
-line_of-step set (Sample number phase) before = refl
-line_of-step set (Chain news) before = refl
-line_of-step set Reset before = new-line set
+rest_after-step set (Sample number phase) before = refl
+rest_after-step set (Chain news) before = refl
+rest_after-step set Reset before = new-line set
 
 -- the calls of the exchange are those before, with that of the input
-calls_of-step : (set : Setting) (input : PortIn) (before : List PortIn) → calls_after set (line_of set before) input (calls_of set before) ≡ calls_of set (input ∷ before)
+calls_of-step : (set : Setting) (input : PortIn) (before : List PortIn) → calls_after set (rest_after set before) input (calls_of set before) ≡ calls_of set (input ∷ before)
 calls_of-step set Reset before = refl
 calls_of-step set _ before = refl
 
@@ -254,12 +254,12 @@ pub Adds-after :
     ((calls : List Call) → ExchangeStandsFor old.set.ring old.exchange calls → ExchangeStandsFor old.set.ring new.exchange (calls_after old.set old.line input calls)) →
     Adds StandsFor old new input
 Adds-after old new input same line exchange inputs stands =
-    let moved : new.line ≡ line_of old.set (input ∷ inputs) = line ∙ ap (λ v. after old.set v input) stands.line ∙ line_of-step old.set input inputs in
+    let moved : new.line ≡ rest_after old.set (input ∷ inputs) = line ∙ ap (λ v. after old.set v input) stands.line ∙ rest_after-step old.set input inputs in
     let grown : calls_after old.set old.line input (calls_of old.set inputs) ≡ calls_of old.set (input ∷ inputs) =
     ap (λ v. calls_after old.set v input (calls_of old.set inputs)) stands.line ∙ calls_of-step old.set input inputs in
     let given : ExchangeStandsFor old.set.ring new.exchange (calls_of old.set (input ∷ inputs)) =
     subst (λ calls. ExchangeStandsFor old.set.ring new.exchange calls) grown (exchange (calls_of old.set inputs) stands.exchange) in
     record {
-      line = subst (λ s. new.line ≡ line_of s (input ∷ inputs)) (sym same) moved;
+      line = subst (λ s. new.line ≡ rest_after s (input ∷ inputs)) (sym same) moved;
       exchange = subst (λ s. ExchangeStandsFor s.ring new.exchange (calls_of s (input ∷ inputs))) (sym same) given;
     }

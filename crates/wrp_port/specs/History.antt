@@ -12,7 +12,7 @@ use Rattle.wrp_link.specs.LinkAt.{LinkAt, new_link}
 use Rattle.wrp_link.specs.Table.{after as link_after, run_of, sends_of}
 use Rattle.wrp_port.specs.declared.interface.PortIn.{PortIn}
 use Rattle.wrp_port.specs.declared.interface.PortIn.TheVariants.{Msg, Lease, Tick, Carrier, Reset}
-use Rattle.wrp_port.specs.declared.line.Line.{Line}
+use Rattle.wrp_port.specs.declared.line.Rest.{Rest}
 use Rattle.wrp_port.specs.declared.setting.Setting.{Setting}
 use Rattle.wrp_port.specs.Hearing.{is_open, early_reason, link_input, renews}
 use Rattle.wrp_port.specs.LineAfter.{is_due, newest_where}
@@ -176,8 +176,8 @@ newest_sync set inputs = only_at_master set.ds.role (newest_of set inputs)
 -- ---- the port
 
 -- the line that looking back finds
-abbrev pub line_of : Setting → List PortIn → Line
-line_of set inputs =
+abbrev pub rest_after : Setting → List PortIn → Rest
+rest_after set inputs =
     record {
       link = link_of set inputs;
       lease = left_of set.sched.lease (since_renewal set inputs);
@@ -201,4 +201,4 @@ line_of set inputs =
 abbrev pub calls_of : Setting → List PortIn → List Call
 calls_of set [] = []
 calls_of set (Reset ∷ before) = []
-calls_of set (input ∷ before) = with_call (call_of set (line_of set before) input) (calls_of set before)
+calls_of set (input ∷ before) = with_call (call_of set (rest_after set before) input) (calls_of set before)

@@ -23,32 +23,32 @@ use Rattle.wrp_exch.specs.SyncPair.{kept_sync, followed_pair}
 use Rattle.wrp_link.specs.declared.interface.LinkIn.{LinkIn}
 use Rattle.wrp_link.specs.declared.interface.LinkIn.TheVariants as link
 use Rattle.wrp_link.specs.LinkAt.{LinkAt}
-use Rattle.wrp_link.specs.Table.{sends_of as link_sends_of, is_used, place_of as place_of_state}
+use Rattle.wrp_link.specs.Table.{sends_of as link_sends_of, is_used, rank_of as rank_of_state}
 use Rattle.wrp_port.specs.declared.interface.PortIn.{PortIn}
 use Rattle.wrp_port.specs.declared.interface.PortIn.TheVariants.{Msg, Tick, Sent, Sample, Chain, Reset}
-use Rattle.wrp_port.specs.declared.line.Line.{Line}
+use Rattle.wrp_port.specs.declared.line.Rest.{Rest}
 use Rattle.wrp_port.specs.declared.setting.Setting.{Setting}
 use Rattle.wrp_port.specs.Hearing.{is_open, early_reason, link_input, piece_of, is_of_use}
 use Rattle.wrp_port.specs.LineAfter.{ticked, announces_on, syncs_on, requests_on}
 use Rattle.wrp_port.specs.Messages.{signals_of, announce_of, sync_of, request_of, follow_up_of, response_of}
 
--- the place of a word in the list of words
-abbrev pub place_of : LinkWord → ℕ
-place_of Down = 0
-place_of Quiet = 1
-place_of Ptp = 2
-place_of (In state) = 3 + place_of_state state
+-- the rank of a word in the list of words
+abbrev pub rank_of : LinkWord → ℕ
+rank_of Down = 0
+rank_of Quiet = 1
+rank_of Ptp = 2
+rank_of (In state) = 3 + rank_of_state state
 
 -- whether two words are one
 abbrev pub is_word : LinkWord → LinkWord → Bool
-is_word a b = place_of a == place_of b
+is_word a b = rank_of a == rank_of b
 
 -- a list of one, where it holds
 abbrev pub where_due : Bool → PtpMsg → List PtpMsg
 where_due due message = if due then message ∷ [] else []
 
 -- what the schedule sends on a line: Announce and Sync at a master, Delay_Req at a slave
-abbrev pub scheduled_sends : Setting → Role → Line → Bool → List PtpMsg
+abbrev pub scheduled_sends : Setting → Role → Rest → Bool → List PtpMsg
 scheduled_sends set Master line certain =
     where_due (announces_on line) (announce_of set line.link certain line.ids.announce)
     ++ where_due (syncs_on line) (sync_of set line.ids.sync)
@@ -65,13 +65,13 @@ response_to set Master head (DelayReq origin) stamp = response_of set head stamp
 response_to set role head body stamp = []
 
 -- what a message that is not dropped early makes the port send
-abbrev pub heard_sends : Setting → Line → PtpMsg → Stamp → List PtpMsg
+abbrev pub heard_sends : Setting → Rest → PtpMsg → Stamp → List PtpMsg
 heard_sends set line message stamp =
     signals_of set line.ids.signal (link_sends line.link (link_input set.ds.role message.body))
     ++ response_to set set.ds.role message.head message.body stamp
 
 -- what a message makes the port send: nothing where there is a reason to drop it early
-abbrev pub sends_unless : Option Reason → Setting → Line → PtpMsg → Stamp → List PtpMsg
+abbrev pub sends_unless : Option Reason → Setting → Rest → PtpMsg → Stamp → List PtpMsg
 sends_unless None set line message stamp = heard_sends set line message stamp
 sends_unless (Some reason) set line message stamp = []
 
@@ -81,12 +81,12 @@ is_newest None seq = false
 is_newest (Some newest) seq = newest == seq
 
 -- the sending of the newest Sync, told while the port is open, gives its Follow_Up
-abbrev pub follow_ups : Setting → Line → ℕ → Stamp → List PtpMsg
+abbrev pub follow_ups : Setting → Rest → ℕ → Stamp → List PtpMsg
 follow_ups set line seq stamp =
     where_due (is_newest line.ids.newest_sync seq && is_open line.link) (follow_up_of set seq stamp)
 
 -- the messages that an input makes the port send, in their order
-abbrev pub sends_of : Setting → Line → PortIn → List PtpMsg
+abbrev pub sends_of : Setting → Rest → PortIn → List PtpMsg
 sends_of set line (Msg message stamp tick) = sends_unless (early_reason set line.link message) set line message stamp
 sends_of set line (Tick locked certain) =
     signals_of set line.ids.signal (link_sends_of line.link (link.Tick locked)) ++ scheduled_sends set set.ds.role (ticked set line locked) certain
@@ -116,7 +116,7 @@ only_slave Master call = None
 only_slave Slave call = call
 
 -- a slave's Delay_Req that is due
-abbrev pub due_request : Role → Line → Option Call
+abbrev pub due_request : Role → Rest → Option Call
 due_request role line = only_slave role (if requests_on line then Some (CallReqOut line.ids.request) else None)
 
 -- the sending of a slave's Delay_Req
@@ -132,7 +132,7 @@ abbrev pub news_call : Role → ChainNews → Option Call
 news_call role news = only_slave role (chain_call news)
 
 -- what an input is to the exchange of a port
-abbrev pub call_of : Setting → Line → PortIn → Option Call
+abbrev pub call_of : Setting → Rest → PortIn → Option Call
 call_of set line (Msg message stamp tick) =
     piece_unless (early_reason set line.link message) (piece_of set.ds.role message.head message.body stamp tick)
 call_of set line (Tick locked certain) = due_request set.ds.role (ticked set line locked)
@@ -180,7 +180,7 @@ number_by None = None
 number_by (Some reason) = Some (number_of reason)
 
 -- the number of the reason for which an input's message is dropped; the exchange stands for these calls
-abbrev pub drop_of : Setting → Line → List Call → PortIn → Option ℕ
+abbrev pub drop_of : Setting → Rest → List Call → PortIn → Option ℕ
 drop_of set line calls (Msg message stamp tick) =
     number_by (reason_by (early_reason set line.link message)
     (is_of_use set.ds.role message.body
@@ -189,16 +189,16 @@ drop_of set line calls (Msg message stamp tick) =
 drop_of set line calls _ = None
 
 -- the four stamps of a new measurement that an input's message makes
-abbrev pub measured_by : Setting → Line → List Call → PortIn → Option Four
+abbrev pub measured_by : Setting → Rest → List Call → PortIn → Option Four
 measured_by set line calls (Msg message stamp tick) = four_by set.ring calls (call_of set line (Msg message stamp tick))
 measured_by set line calls _ = None
 
 -- the exchange's calls after an input: none since a reset
-abbrev pub calls_after : Setting → Line → PortIn → List Call → List Call
+abbrev pub calls_after : Setting → Rest → PortIn → List Call → List Call
 calls_after set line Reset calls = []
 calls_after set line input calls = with_call (call_of set line input) calls
 
 -- an input's message is dropped whatever its kind
-abbrev pub is_dropped_early : Setting → Line → PortIn → Bool
+abbrev pub is_dropped_early : Setting → Rest → PortIn → Bool
 is_dropped_early set line (Msg message stamp tick) = is_some (early_reason set line.link message)
 is_dropped_early set line _ = false

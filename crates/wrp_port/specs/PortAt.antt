@@ -12,14 +12,14 @@ use Rattle.wrp_exch.specs.Exchange.{ExchangeAt, StandsFor as ExchangeStandsFor}
 use Rattle.wrp_link.specs.LinkAt.{LinkAt}
 use Rattle.wrp_port.specs.declared.interface.PortIn.{PortIn}
 use Rattle.wrp_port.specs.declared.interface.PortIn.TheVariants.{Msg, Sent}
-use Rattle.wrp_port.specs.declared.line.Line.{Line}
+use Rattle.wrp_port.specs.declared.line.Rest.{Rest}
 use Rattle.wrp_port.specs.declared.setting.Setting.{Setting}
-use Rattle.wrp_port.specs.History.{line_of, calls_of}
+use Rattle.wrp_port.specs.History.{rest_after, calls_of}
 
 -- what a port is seen as: its setting, its line and its exchange
 pub record PortAt : Type 0 where
   pub set : Setting
-  pub line : Line
+  pub line : Rest
   pub exchange : ExchangeAt
 
 -- each count that a port is set to is at least 1
@@ -44,7 +44,7 @@ IsFit _ = Unit {0}
 
 -- the port stands for these inputs, newest first: it is what looking back over them finds
 pub record StandsFor (port : PortAt) (inputs : List PortIn) : Type 0 where
-  pub line : port.line ≡ line_of port.set inputs
+  pub line : port.line ≡ rest_after port.set inputs
   pub exchange : ExchangeStandsFor port.set.ring port.exchange (calls_of port.set inputs)
 
 -- the transmission delay of a module, in tau: 0 where the module is not listed

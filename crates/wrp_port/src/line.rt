@@ -41,7 +41,7 @@ pub struct Ids {
 
 /// The link of a port, its lease, its schedule and its sequenceIds.
 #[derive(Debug, Drop)]
-pub struct Line {
+pub struct Rest {
     /// Link setup.
     pub link: Link,
     /// The turns for which the lease is still fresh.
@@ -102,13 +102,13 @@ impl Ids {
     }
 }
 
-impl Line {
+impl Rest {
     /// A line before any input.
-    pub fn new(set: &Setting) -> Line
+    pub fn new(set: &Setting) -> Rest
         requires { IsSetting set.now }
         ensures { result ≡ new_line set.now }
     {
-        Line {
+        Rest {
             link: Link::new(set.ds.role, set.link),
             lease: 0,
             turns: Turns::new(),

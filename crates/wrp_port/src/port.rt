@@ -14,7 +14,7 @@ ghost use Rattle.wrp_port.specs.History.{link_inputs, is_fresh};
 ghost use Rattle.wrp_port.specs.Outputs.{sends_of, drop_of, measured_by, changed_word, is_dropped_early};
 ghost use Rattle.wrp_port.specs.PortAt.{IsFit, StandsFor, deltas_of};
 
-use crate::line::Line;
+use crate::line::Rest;
 use crate::setting::Setting;
 use crate::{PortIn, PortOut, Sched};
 use std::alloc::{AllocError, Global};
@@ -28,7 +28,7 @@ use wrp_link::LinkSet;
 #[derive(Debug, Drop)]
 pub struct Port {
     set: Setting,
-    line: Line,
+    line: Rest,
     exchange: Exchange,
 }
 
@@ -85,7 +85,7 @@ impl Port {
             ring,
         };
         Ok(Port {
-            line: Line::new(&set),
+            line: Rest::new(&set),
             set,
             exchange,
         })

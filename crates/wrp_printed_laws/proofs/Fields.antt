@@ -30,7 +30,7 @@ use Rattle.wrp_trace.specs.declared.events.kinds.EventKind.{EventKind}
 use Rattle.wrp_trace.specs.declared.events.kinds.EventKind.TheVariants as kinds
 use Rattle.wrp_trace.specs.EventFields.{before, behind, delay_at, offset_at, span_at}
 use Rattle.wrp_trace.specs.EventKinds.{all_kinds, kind_of, may_have, word_of}
-use Rattle.wrp_trace.specs.Events.{counted_of, event_of, event_read, fields_of_kind, pass_of, pass_with, plain, tick_of, up_of}
+use Rattle.wrp_trace.specs.Events.{counted_of, event_of, event_read, fields_of_kind, pass_of, pass_with, bare, tick_of, up_of}
 use Rattle.wrp_trace.specs.Fields.{bits_at, u32_at, octets_at, raw_from, u16_at, step_at, time_at}
 use Rattle.wrp_trace.specs.Swaps.{swaps_said}
 use Rattle.wrp_trace.proofs.EventsFit.{Both, both, found, ok_same, read_as}
@@ -397,7 +397,7 @@ line_tells cfg names n below line e h =
     counted_tells cfg names n below (parts_of line) (kind_of (field_of 1 (parts_of line))) e refl it.rest
 
 -- names past their end say nothing
-as_plain : (node : List ℕ) (n : ℕ) (fields : List (List ℕ)) (e : Event) → TellsEvent node n fields (plain e) → TellsEvent node n fields e
+as_plain : (node : List ℕ) (n : ℕ) (fields : List (List ℕ)) (e : Event) → TellsEvent node n fields (bare e) → TellsEvent node n fields e
 as_plain node n fields (events.Up m off swaps) h = record { starts = h.starts; passes = h.passes; ticks = h.ticks }
 as_plain node n fields (events.Pass dt drifts fibres) h = h
 as_plain node n fields (events.Tick m) h = h
@@ -412,4 +412,4 @@ as_plain node n fields (events.Join k ms sm) h = h
 
 pub event_fields : (cfg : NetCfg) (line : List ℕ) (e : Event) (n : ℕ) → HasNames cfg → n < node_count cfg → SaysEvent cfg line e → TellsEvent (name_at cfg n) n (parts_of line) e
 event_fields cfg line e n names below (inl reads) = line_tells cfg names n below line e reads
-event_fields cfg line e n names below (inr reads) = as_plain (name_at cfg n) n (parts_of line) e (line_tells cfg names n below line (plain e) reads)
+event_fields cfg line e n names below (inr reads) = as_plain (name_at cfg n) n (parts_of line) e (line_tells cfg names n below line (bare e) reads)

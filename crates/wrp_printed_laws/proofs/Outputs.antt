@@ -14,7 +14,7 @@ use Rattle.wrp_node.specs.declared.interface.Output.{Output}
 use Rattle.wrp_node.specs.declared.interface.Output.TheVariants.{Send, Step as StepOf, Dac, Report}
 use Rattle.wrp_node.specs.declared.interface.Report.TheVariants.{Link, Servo, Track}
 use Rattle.wrp_node.specs.NodeAt.{NodeAt, NodeSetting, est_of, link_at, numbers_of, state_of}
-use Rattle.wrp_node.specs.NodeRun.{dac_out, est_out, frame_out, outputs_of, place_of, port_out, servo_out, step_out, track_out, word_out}
+use Rattle.wrp_node.specs.NodeRun.{dac_out, est_out, frame_out, outputs_of, rank_of, port_out, servo_out, step_out, track_out, word_out}
 use Rattle.wrp_node.specs.Telling.{Step}
 use Rattle.wrp_port.specs.Outputs.{is_word}
 use Rattle.wrp_servo.specs.Table.{is_track}
@@ -75,7 +75,7 @@ servo_if P h true state = tt
 servo_if P h false state = (h state, tt)
 
 servo_all : (P : Output → Type 0) → ((state : ServoState) → P (Report (Servo state))) → (before after : ServoState) → AllByRecursion P (servo_out before after)
-servo_all P h before after = servo_if P h (place_of before == place_of after) after
+servo_all P h before after = servo_if P h (rank_of before == rank_of after) after
 
 step_if : (P : Output → Type 0) (cycles : ℤ) → P (StepOf cycles) → (b : Bool) → AllByRecursion P (if b then [] else StepOf cycles ∷ [])
 step_if P cycles h true = tt

@@ -20,7 +20,7 @@ use Rattle.wrp_node.specs.declared.interface.Output.{Output}
 use Rattle.wrp_node.specs.declared.interface.Output.TheVariants.{Send, Step as StepOf, Dac, Report}
 use Rattle.wrp_node.specs.declared.interface.Report.TheVariants.{Link, Servo, Track}
 use Rattle.wrp_node.specs.NodeAt.{NodeAt, NodeSetting, numbers_of, slave_of, state_of}
-use Rattle.wrp_node.specs.NodeRun.{dac_out, new_node, outputs_of, place_of, port_out, servo_out, step_out, track_out}
+use Rattle.wrp_node.specs.NodeRun.{dac_out, new_node, outputs_of, rank_of, port_out, servo_out, step_out, track_out}
 use Rattle.wrp_node.specs.StepLaws.{CommandsAreHeld}
 use Rattle.wrp_node.specs.Telling.{Step}
 use Rattle.wrp_course.specs.Given.{Given, given_by, gives, gives_all, node_step_of, step_of, steps_of, taken_of}
@@ -269,7 +269,7 @@ state_in k =
     else (if k == 4 then WaitStable
     else (if k == 5 then Tracking else Holdover)))))
 
-in_place : (state : ServoState) → state_in (place_of state) ≡ state
+in_place : (state : ServoState) → state_in (rank_of state) ≡ state
 in_place Uninit = refl
 in_place SyncTai = refl
 in_place SyncNsec = refl
@@ -278,14 +278,14 @@ in_place WaitStable = refl
 in_place Tracking = refl
 in_place Holdover = refl
 
-place_one : (a b : ServoState) → place_of a ≡ place_of b → a ≡ b
+place_one : (a b : ServoState) → rank_of a ≡ rank_of b → a ≡ b
 place_one a b e = sym (in_place a) ∙ ap state_in e ∙ in_place b
 
-servo_by : (p : Output → Bool) (s : Setting) (w : WorldAt) (m : ℕ) (state next : ℕ → ServoState) (before after : ServoState) (lines : List (List ℕ)) (b : Bool) → (place_of before == place_of after) ≡ b → PrintsStates p → HasNames s.cfg → state m ≡ before →
+servo_by : (p : Output → Bool) (s : Setting) (w : WorldAt) (m : ℕ) (state next : ℕ → ServoState) (before after : ServoState) (lines : List (List ℕ)) (b : Bool) → (rank_of before == rank_of after) ≡ b → PrintsStates p → HasNames s.cfg → state m ≡ before →
     Becomes m after state next → Holds s lines state → Holds s (lines ++ flat_map (output_lines p s w m) (if b then [] else Report (Servo after) ∷ [])) next
 servo_by p s w m state next before after lines true is prints names was becomes holds =
     subst (λ (l : List (List ℕ)). Holds s l next) (sym (append-nil lines))
-    (same_states s lines m state next after (was ∙ place_one before after (eqb-true (place_of before) (place_of after) is)) becomes holds)
+    (same_states s lines m state next after (was ∙ place_one before after (eqb-true (rank_of before) (rank_of after) is)) becomes holds)
 servo_by p s w m state next before after lines false is prints names was becomes holds =
     let x : List ℕ = line_at s w m (Report (Servo after)) in
     subst (λ (b : Bool). Holds s (lines ++ ((if b then x ∷ [] else []) ++ [])) next) (sym (prints.states after))
@@ -313,7 +313,7 @@ outputs_hold p s w m state next fixed input before step lines prints names below
     behind p s w m state lines a dac (quiet_outs p s w m state dac (lines ++ flat_map f a) names (dac_all IsQuiet others_quiet step.dac) stepped) in
     let changed : Holds s (lines ++ flat_map f (a ++ dac ++ servo)) next =
     behind p s w m next lines (a ++ dac) servo
-    (servo_by p s w m state next (state_of fixed before) (state_of fixed step.node) (lines ++ flat_map f (a ++ dac)) (place_of (state_of fixed before) == place_of (state_of fixed step.node)) refl prints names was becomes driven) in
+    (servo_by p s w m state next (state_of fixed before) (state_of fixed step.node) (lines ++ flat_map f (a ++ dac)) (rank_of (state_of fixed before) == rank_of (state_of fixed step.node)) refl prints names was becomes driven) in
     let told : Holds s (lines ++ flat_map f (a ++ dac ++ servo ++ ports)) next =
     behind p s w m next lines (a ++ dac ++ servo) ports
     (quiet_outs p s w m next ports (lines ++ flat_map f (a ++ dac ++ servo)) names (ports_all IsQuiet others_quiet fixed before step (numbers_of fixed.set)) changed) in

@@ -13,7 +13,7 @@ use Rattle.wrp_lines.specs.Lines.{output_line}
 use Rattle.wrp_node.specs.declared.interface.Output.{Output}
 use Rattle.wrp_node.specs.declared.interface.Output.TheVariants.{Step, Report}
 use Rattle.wrp_node.specs.declared.interface.Report.TheVariants.{Servo}
-use Rattle.wrp_trace.specs.Events.{event_read, plain}
+use Rattle.wrp_trace.specs.Events.{event_read, bare}
 use Rattle.wrp_printed_laws.specs.Offsets.{AllFollow, Seen}
 use Rattle.wrp_printed_laws.specs.Steps.{StepsAreSynced}
 
@@ -36,7 +36,7 @@ lines_in is_printed s (h ∷ before) = lines_in is_printed s before ++ lines_at 
 
 -- the line says the event, or the same with names that are told by their texts alone
 abbrev pub SaysEvent : NetCfg → List ℕ → Event → Type 0
-SaysEvent cfg line e = (event_read cfg line ≡ Ok e) ⊎ (event_read cfg line ≡ Ok (plain e))
+SaysEvent cfg line e = (event_read cfg line ≡ Ok e) ⊎ (event_read cfg line ≡ Ok (bare e))
 
 -- these event lines say these events, and all lines of each event are printed
 abbrev pub AreSeen : Setting → List Seen → List Happened → Type 0

@@ -21,7 +21,7 @@ use Rattle.wrp_port.specs.declared.interface.PortIn.{PortIn}
 use Rattle.wrp_port.specs.declared.interface.PortIn.TheVariants.{Msg, Lease, Tick, Sent, Carrier, Sample, Chain, Reset}
 use Rattle.wrp_port.specs.declared.setting.Setting.{Setting}
 use Rattle.wrp_port.specs.Hearing.{early_reason, link_input}
-use Rattle.wrp_port.specs.History.{line_of}
+use Rattle.wrp_port.specs.History.{rest_after}
 use Rattle.wrp_port.specs.LineAfter.{announces_on, requests_on, syncs_on, ticked}
 use Rattle.wrp_port.specs.Messages.{announce_of, next_id, request_of, signals_of, sync_of}
 use Rattle.wrp_port.specs.Outputs.{link_sends, response_to, scheduled_sends, sends_of, sends_unless, where_due}
@@ -70,27 +70,27 @@ response_short set Master head (Signal target message) stamp = tt
 round_short : (n : ℕ) → n % 65536 < 2 ^ 16
 round_short n = omega arith
 
-scheduled_short : (set : Setting) (told : List PortIn) (role : Role) (locked certain : Bool) → AreShort (scheduled_sends set role (ticked set (line_of set told) locked) certain)
+scheduled_short : (set : Setting) (told : List PortIn) (role : Role) (locked certain : Bool) → AreShort (scheduled_sends set role (ticked set (rest_after set told) locked) certain)
 scheduled_short set told Master locked certain =
-    let line = ticked set (line_of set told) locked in
+    let line = ticked set (rest_after set told) locked in
     all_and (where_due (announces_on line) (announce_of set line.link certain line.ids.announce)) (where_due (syncs_on line) (sync_of set line.ids.sync))
     (where_short (announces_on line) (announce_of set line.link certain line.ids.announce) tt)
     (where_short (syncs_on line) (sync_of set line.ids.sync) (round_short _))
 scheduled_short set told Slave locked certain =
-    let line = ticked set (line_of set told) locked in
+    let line = ticked set (rest_after set told) locked in
     where_short (requests_on line) (request_of set line.ids.request) (round_short _)
 
-heard_short : (set : Setting) (told : List PortIn) (message : PtpMsg) (stamp : Stamp) (o : Option Reason) → AreShort (sends_unless o set (line_of set told) message stamp)
+heard_short : (set : Setting) (told : List PortIn) (message : PtpMsg) (stamp : Stamp) (o : Option Reason) → AreShort (sends_unless o set (rest_after set told) message stamp)
 heard_short set told message stamp (Some reason) = tt
 heard_short set told message stamp None =
-    let line = line_of set told in
+    let line = rest_after set told in
     all_and (signals_of set line.ids.signal (link_sends line.link (link_input set.ds.role message.body))) (response_to set set.ds.role message.head message.body stamp)
     (signals_short set line.ids.signal (link_sends line.link (link_input set.ds.role message.body))) (response_short set set.ds.role message.head message.body stamp)
 
-port_short : (set : Setting) (told : List PortIn) (input : PortIn) → AreShort (sends_of set (line_of set told) input)
-port_short set told (Msg message stamp tick) = heard_short set told message stamp (early_reason set (line_of set told).link message)
+port_short : (set : Setting) (told : List PortIn) (input : PortIn) → AreShort (sends_of set (rest_after set told) input)
+port_short set told (Msg message stamp tick) = heard_short set told message stamp (early_reason set (rest_after set told).link message)
 port_short set told (Tick locked certain) =
-    let line = line_of set told in
+    let line = rest_after set told in
     all_and (signals_of set line.ids.signal (link_sends_of line.link (link.Tick locked))) (scheduled_sends set set.ds.role (ticked set line locked) certain)
     (signals_short set line.ids.signal (link_sends_of line.link (link.Tick locked))) (scheduled_short set told set.ds.role locked certain)
 port_short set told (Sent false seq stamp tick) = where_short _ _ tt

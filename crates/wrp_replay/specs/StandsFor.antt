@@ -6,7 +6,7 @@ use Rattle.wrp_config.specs.Same.{bare_cfg}
 use Rattle.wrp_node.specs.Control.{law_in}
 use Rattle.wrp_node.specs.declared.interface.Input.{Input}
 use Rattle.wrp_node.specs.declared.interface.Output.{Output}
-use Rattle.wrp_node.specs.declared.place.Place.{Place}
+use Rattle.wrp_node.specs.declared.place.PortPlace.{PortPlace}
 use Rattle.wrp_node.specs.Node.{IsValid}
 use Rattle.wrp_node.specs.NodeAt.{Taken}
 use Rattle.wrp_node.specs.NodeRun.{NodeRun, node_after}
@@ -21,7 +21,7 @@ use Rattle.wrp_replay.specs.NodeText.{Writes, output_lines}
 use Rattle.wrp_replay.specs.Replays.{AreInputs}
 
 -- the ports that links name are among these
-abbrev pub OwnsPorts : LineSetting → List Place → Type 0
+abbrev pub OwnsPorts : LineSetting → List PortPlace → Type 0
 OwnsPorts site places = (p : ℕ) → has_port site p ≡ true → is_among p places ≡ true
 
 -- the node that is replayed, of the network without what stands in the unused room of its names

@@ -11,7 +11,7 @@ ghost use Rattle.wrp_asked.specs.Ends.{EndsUnlinked};
 ghost use Rattle.wrp_words.specs.Requests.{asked_in};
 
 use std::alloc::{AllocError, Global};
-use wrp_asked::{End, NetworkText, take_network};
+use wrp_asked::{HowItEnded, NetworkText, take_network};
 use wrp_base::ConfFault;
 use wrp_config::Network;
 use wrp_io::{Sink, Source};
@@ -76,10 +76,14 @@ pub fn take_front<S: Source, K: Sink>(
     let _words = words;
     let NetworkText { text, end } = take_network(alloc, reader, source);
     match end {
-        End::TooLong => return Err(answer(sink, Status::TooLarge, TOO_LARGE_LINE.as_bytes())),
-        End::Failed => return Err(Status::ReadFault),
-        End::Memory => return Err(Status::OutOfMemory),
-        End::Whole => {}
+        HowItEnded::TooLong => return Err(answer(
+            sink,
+            Status::TooLarge,
+            TOO_LARGE_LINE.as_bytes(),
+        )),
+        HowItEnded::Failed => return Err(Status::ReadFault),
+        HowItEnded::Memory => return Err(Status::OutOfMemory),
+        HowItEnded::Whole => {}
     }
     match read_network(alloc, &text) {
         Ok(net) => Ok(Front { net, text }),

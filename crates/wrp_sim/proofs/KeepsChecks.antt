@@ -9,7 +9,7 @@ use Rattle.wrp_base.specs.declared.network.NodeCfg.{NodeCfg}
 use Rattle.wrp_base.specs.declared.time.Clock.{Clock}
 use Rattle.wrp_phase.specs.BeatPattern.{true_step}
 use Rattle.wrp_course.specs.declared.clocks.ClockState.{ClockState}
-use Rattle.wrp_course.specs.Checks.{AllHold, Check, Holds, only_where, stands}
+use Rattle.wrp_course.specs.Checks.{AllHold, Check, Holds, only_where, needs}
 use Rattle.wrp_course.specs.Premises.{beat_by, bit_check, early_by, late_by}
 use Rattle.wrp_course.specs.Setting.{Setting, from_on, of_node}
 use Rattle.wrp_sim.specs.Numbers.{base_before, bits_behind}
@@ -39,7 +39,7 @@ pub flat_hold : (f : ℕ → List Check) (ks : List ℕ) → ((k : ℕ) → AllH
 flat_hold f [] h = tt
 flat_hold f (k ∷ ks) h = both_hold (f k) (flat_map f ks) (h k) (flat_hold f ks h)
 
-pub stands_holds : (b : Bool) → b ≡ true → Holds (stands b)
+pub stands_holds : (b : Bool) → b ≡ true → Holds (needs b)
 stands_holds b e = ap not e
 
 -- Lists of numbers

@@ -18,7 +18,7 @@ use Rattle.wrp_bounds.specs.Times.{frame_life, reach}
 use Rattle.wrp_course.specs.EventAt.{IsRaw}
 use Rattle.wrp_course.specs.declared.event.Event.TheVariants.{Depart, Arrive, Deliver}
 use Rattle.wrp_course.specs.declared.place.Place.{Place}
-use Rattle.wrp_course.specs.Checks.{AllHold, stands}
+use Rattle.wrp_course.specs.Checks.{AllHold, needs}
 use Rattle.wrp_course.specs.Moved.{arrived, arriving, moved, waiting_at}
 use Rattle.wrp_course.specs.Premises.{arrive_checks, deliver_by, deliver_checks, depart_checks, received, received_at, transition_of}
 use Rattle.wrp_course.specs.RunLaws.{HasTimes}
@@ -216,7 +216,7 @@ arrive_holds scene s w at i f end m h is on due end_is told =
     subst (λ b. AllHold (arrive_checks s w i raw b (w.frame i))) (sym on)
     (subst (λ o. AllHold (arrive_checks s w i raw true o)) (sym is) (
       not_more (unsigned_abs (w.time -ℤ f.due)) 0 (no_distance w.time f.due (sym due)),
-      both_hold (received s w f raw) (stands (has_carrier s w k) ∷ []) here (stands_holds (has_carrier s w k) lit, tt),
+      both_hold (received s w f raw) (needs (has_carrier s w k) ∷ []) here (stands_holds (has_carrier s w k) lit, tt),
     ))
 
 -- the frame that arrived is here

@@ -8,7 +8,7 @@ use Rattle.wrp_base.specs.declared.network.LinkCfg.{LinkCfg}
 use Rattle.wrp_base.specs.Network.{node_count}
 use Rattle.wrp_base.proofs.Integers.{le_plus}
 use Rattle.wrp_base.proofs.Naturals.{nat_le_self}
-use Rattle.wrp_course.specs.Checks.{AllHold, only_where, stands}
+use Rattle.wrp_course.specs.Checks.{AllHold, only_where, needs}
 use Rattle.wrp_course.specs.Premises.{beat_by, beat_checks, sample_checks}
 use Rattle.wrp_course.specs.Setting.{Setting, above, link_of, of_node}
 use Rattle.wrp_course.specs.WorldAt.{WorldAt, delay_from, has_carrier}
@@ -55,7 +55,7 @@ sample_holds scene s w at n k state link m h lit there is =
     subst (λ d. AllHold (beat_by s.cfg.clock beat base bits (off +ℤ d))) (sym (delay_is scene s w at k h joined))
     (beat_holds s.cfg.clock beat (drawn_zeros beat state) (off +ℤ delay_down scene s k) fit.0 fit.1 fit.2) in
     subst (λ o. AllHold (sample_checks s w n base bits o)) (sym is)
-    (both_hold (map (only_where (has_carrier s w k)) (option_map_or (beat_checks s w n base bits k) (link_of s k) [])) (stands (has_carrier s w k) ∷ [])
+    (both_hold (map (only_where (has_carrier s w k)) (option_map_or (beat_checks s w n base bits k) (link_of s k) [])) (needs (has_carrier s w k) ∷ [])
     (where_hold (has_carrier s w k) (option_map_or (beat_checks s w n base bits k) (link_of s k) [])
     (subst (λ o. AllHold (option_map_or (beat_checks s w n base bits k) o [])) (sym there) beats))
     (stands_holds (has_carrier s w k) lit, tt))

@@ -21,7 +21,7 @@ use Rattle.wrp_node.specs.NodeAt.{Taken, NodeSetting, NodeAt, setting_of, line_a
 use Rattle.wrp_node.specs.NodeStep.{heard, heard_unless, node_step, servo_ticked, stamp_of, stepped, tick_of}
 use Rattle.wrp_node.proofs.Links.{before_ports}
 use Rattle.wrp_port.specs.declared.interface.PortIn.TheVariants.{Msg, Sent as PortSent}
-use Rattle.wrp_port.specs.declared.line.Line.{Line}
+use Rattle.wrp_port.specs.declared.line.Rest.{Rest}
 use Rattle.wrp_port.specs.declared.setting.Setting.{Setting}
 use Rattle.wrp_port.specs.Hearing.{early_reason, is_addressed, is_open, is_open_word}
 use Rattle.wrp_port.specs.LineAfter.{ticked}
@@ -36,14 +36,14 @@ dark_open l e = ap (λ b. is_open_word (if b then word_in l.state l.quiet else D
 dark_stays : (l : LinkAt) (locked : Bool) → l.carrier ≡ false → after l (link.Tick locked) ≡ l
 dark_stays l locked e = ap (λ b. by_row l (under b (tick_row l l.state locked))) e
 
-shut_schedule : (set : Setting) (role : Role) (line : Line) (certain : Bool) → is_open line.link ≡ false → scheduled_sends set role line certain ≡ []
+shut_schedule : (set : Setting) (role : Role) (line : Rest) (certain : Bool) → is_open line.link ≡ false → scheduled_sends set role line certain ≡ []
 shut_schedule set Master line certain e =
     ap
     (λ b. where_due (b && (line.turns.announce == 0)) (announce_of set line.link certain line.ids.announce)
     ++ where_due (b && (line.turns.sync == 0)) (sync_of set line.ids.sync)) e
 shut_schedule set Slave line certain e = ap (λ b. where_due (b && (line.turns.delay == 0)) (request_of set line.ids.request)) e
 
-dark_tick : (set : Setting) (line : Line) (locked certain : Bool) → line.link.carrier ≡ false →
+dark_tick : (set : Setting) (line : Rest) (locked certain : Bool) → line.link.carrier ≡ false →
     signals_of set line.ids.signal (sent_by (under line.link.carrier (tick_row line.link line.link.state locked))) ++ scheduled_sends set set.ds.role (ticked set line locked) certain ≡ []
 dark_tick set line locked certain e =
     let shut : is_open (ticked set line locked).link ≡ false = ap is_open (dark_stays line.link locked e) ∙ dark_open line.link e in
@@ -51,14 +51,14 @@ dark_tick set line locked certain e =
     ∙ shut_schedule set set.ds.role (ticked set line locked) certain shut
 
 -- a message finds the port shut, if it is for it at all
-any_reason : (set : Setting) (line : Line) (m : PtpMsg) (stamp : Stamp) (a b c : Bool) →
+any_reason : (set : Setting) (line : Rest) (m : PtpMsg) (stamp : Stamp) (a b c : Bool) →
     sends_unless (if a then (if b then (if c then (if false then None else Some Quiet) else Some NotForUs) else Some Stranger) else Some Domain) set line m stamp ≡ []
 any_reason set line m stamp true true true = refl
 any_reason set line m stamp true true false = refl
 any_reason set line m stamp true false c = refl
 any_reason set line m stamp false b c = refl
 
-dark_heard : (set : Setting) (line : Line) (m : PtpMsg) (stamp : Stamp) → is_open line.link ≡ false → sends_unless (early_reason set line.link m) set line m stamp ≡ []
+dark_heard : (set : Setting) (line : Rest) (m : PtpMsg) (stamp : Stamp) → is_open line.link ≡ false → sends_unless (early_reason set line.link m) set line m stamp ≡ []
 dark_heard set line m stamp e =
     ap
     (λ d. sends_unless
@@ -70,7 +70,7 @@ not_due : (b : Bool) (m : PtpMsg) → where_due (b && false) m ≡ []
 not_due true m = refl
 not_due false m = refl
 
-dark_sent : (set : Setting) (line : Line) (delay : Bool) (seq : ℕ) (stamp : Stamp) (tick : ℕ) → is_open line.link ≡ false → sends_of set line (PortSent delay seq stamp tick) ≡ []
+dark_sent : (set : Setting) (line : Rest) (delay : Bool) (seq : ℕ) (stamp : Stamp) (tick : ℕ) → is_open line.link ≡ false → sends_of set line (PortSent delay seq stamp tick) ≡ []
 dark_sent set line true seq stamp tick e = refl
 dark_sent set line false seq stamp tick e =
     ap (λ b. where_due (is_newest line.ids.newest_sync seq && b) (follow_up_of set seq stamp)) e

@@ -16,7 +16,7 @@ use Rattle.wrp_bounds.specs.Times.{longest_tick, reach, shortest_tick}
 use Rattle.wrp_frame.specs.declared.fault.FrameFault.{FrameFault}
 use Rattle.wrp_config.proofs.Taken.{none_at}
 use Rattle.wrp_course.specs.declared.event.Event.TheVariants.{Down, Cut}
-use Rattle.wrp_course.specs.Checks.{stands}
+use Rattle.wrp_course.specs.Checks.{needs}
 use Rattle.wrp_course.specs.EventAt.{IsEventOf, link_count}
 use Rattle.wrp_course.specs.Moved.{moved}
 use Rattle.wrp_course.specs.Premises.{Accepts, fibre_kept}
@@ -40,7 +40,7 @@ use Rattle.wrp_sim.proofs.KeepsState.{AllQuiet, HandsOver, Keeps, TicksAfter, st
 pub join_accepted : (scene : SceneAt) (s : Setting) (w : WorldAt) (at : SimAt) (k : ℕ) → Moment scene s w → Keeps scene s w at → (w.fibre k).joined ≡ false → (says : Result PtpMsg FrameFault) → Accepts s w says (join_event scene s k)
 join_accepted scene s w at k m h cut says =
     let v : WorldAt = moved s w (join_event scene s k) in
-    both_hold (fibre_kept s v k) (stands (not (w.fibre k).joined) ∷ [])
+    both_hold (fibre_kept s v k) (needs (not (w.fibre k).joined) ∷ [])
     (fibre_holds scene s m.net m.fits v (moved_first s w (join_event scene s k) tt h.modules) (moved_scene scene s w (join_event scene s k) (refl, refl) h.fibres) k)
     (stands_holds (not (w.fibre k).joined) (not_from_false (w.fibre k).joined cut), tt)
 
@@ -75,7 +75,7 @@ pub up_accepted : (scene : SceneAt) (s : Setting) (w : WorldAt) (at : SimAt) (n 
 up_accepted scene s w at n m h below down says =
     let v : WorldAt = moved s w (up_event scene n) in (
       top_holds (link_above s.cfg n) (offset_of scene n) (λ e. m.fits.grandmaster n (below, e)),
-      both_hold (flat_map (fibre_kept s v) (links_of s)) (stands (not (w.clock n).up) ∷ [])
+      both_hold (flat_map (fibre_kept s v) (links_of s)) (needs (not (w.clock n).up) ∷ [])
           (flat_hold (fibre_kept s v) (links_of s)
           (fibre_holds scene s m.net m.fits v (moved_first s w (up_event scene n) refl h.modules) (moved_scene scene s w (up_event scene n) tt h.fibres)))
           (stands_holds (not (w.clock n).up) (not_from_false (w.clock n).up down), tt),

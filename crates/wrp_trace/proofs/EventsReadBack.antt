@@ -25,12 +25,12 @@ use Rattle.wrp_trace.specs.Changes.{SaidAt, nothing_said, changes_said}
 use Rattle.wrp_names.specs.Fields.{node_at, link_at}
 use Rattle.wrp_trace.specs.EventFields.{span_at, delay_at, offset_at}
 use Rattle.wrp_trace.specs.EventPrinting.{link_text, drift_words, drift_texts, move_words, move_texts, swap_text, pass_texts, event_text}
-use Rattle.wrp_trace.specs.Events.{pass_with, pass_of, tick_of, sample_of, depart_of, arrive_of, deliver_of, noise_of, down_of, up_of, cut_of, join_of, event_of, event_read, plain}
+use Rattle.wrp_trace.specs.Events.{pass_with, pass_of, tick_of, sample_of, depart_of, arrive_of, deliver_of, noise_of, down_of, up_of, cut_of, join_of, event_of, event_read, bare}
 use Rattle.wrp_trace.specs.Fields.{u16_at, u32_at, step_at, bits_at, octets_at, time_at, raw_from}
 use Rattle.wrp_fields.specs.Numbers.{number_in}
 use Rattle.wrp_trace.specs.Printing.{bits_text}
 use Rattle.wrp_fields.specs.Reading.{field_of, number_or_fault, name_or_fault}
-use Rattle.wrp_trace.specs.Swaps.{plain_swap, swaps_said}
+use Rattle.wrp_trace.specs.Swaps.{bare_swap, swaps_said}
 use Rattle.wrp_trace.proofs.DigitLemmas.{number_octets}
 use Rattle.wrp_trace.proofs.EventParts.{name_part, signed_part, part_text, both_text}
 use Rattle.wrp_trace.proofs.NamesFound.{node_found, link_found}
@@ -283,23 +283,23 @@ up_read : (cfg : NetCfg) (fields : List (List ℕ)) (n : ℕ) (off : ℤ) (swaps
 up_read cfg fields n off swaps e1 e2 e3 = rw (e1, e2, e3) refl
 
 up_says : (cfg : NetCfg) (n : ℕ) (off : ℤ) (swaps : ArrayVec Swap) → IsNodeText cfg n → unsigned_abs off ≤ 2 ^ 90 → AreSwaps swaps.items → length swaps.items ≤ 18
-    → event_of cfg (codes "up" ∷ name_at cfg n ∷ signed_decimal off ∷ map swap_text swaps.items) ≡ Ok (plain (events.Up n off swaps))
+    → event_of cfg (codes "up" ∷ name_at cfg n ∷ signed_decimal off ∷ map swap_text swaps.items) ≡ Ok (bare (events.Up n off swaps))
 up_says cfg n off swaps named near are few =
     let fields : List (List ℕ) = codes "up" ∷ name_at cfg n ∷ signed_decimal off ∷ map swap_text swaps.items in
     let size : length (map swap_text swaps.items) ≤ 18 = omega (arith, length-map swaps.items swap_text, few) in
     rw (le-leb 3 (length fields) (omega arith), le-leb (length fields) 21 (omega (arith, size)))
-    (up_read cfg fields n off (map plain_swap swaps.items) (node_read cfg 2 n fields named refl) (offset_read 3 off fields near refl)
+    (up_read cfg fields n off (map bare_swap swaps.items) (node_read cfg 2 n fields named refl) (offset_read 3 off fields near refl)
     (swaps_back 4 [] swaps.items are.each are.apart))
 
 up_back : (cfg : NetCfg) (n : ℕ) (off : ℤ) (swaps : ArrayVec Swap) → IsNodeText cfg n → unsigned_abs off ≤ 2 ^ 90 → AreSwaps swaps.items → length swaps.items ≤ 18
-    → event_read cfg (event_text cfg (events.Up n off swaps)) ≡ Ok (plain (events.Up n off swaps))
+    → event_read cfg (event_text cfg (events.Up n off swaps)) ≡ Ok (bare (events.Up n off swaps))
 up_back cfg n off swaps named near are few =
     line_says cfg 117 (codes "p") (name_at cfg n ∷ signed_decimal off ∷ map swap_text swaps.items)
     (refl, (named.text, (signed_text off (omega (arith, near)), swap_texts_are swaps.items are.each)))
     ∙ up_says cfg n off swaps named near are few
 
 -- each event that can be printed reads back
-pub events_back : (cfg : NetCfg) (e : Event) → HasNames cfg → IsEventOf cfg e → FitsEvent e → event_read cfg (event_text cfg e) ≡ Ok (plain e)
+pub events_back : (cfg : NetCfg) (e : Event) → HasNames cfg → IsEventOf cfg e → FitsEvent e → event_read cfg (event_text cfg e) ≡ Ok (bare e)
 events_back cfg (events.Pass dt drifts moves) names is fits = pass_back cfg names dt drifts moves is
 events_back cfg (events.Tick n) names is fits = tick_back cfg n (node_is cfg names n is)
 events_back cfg (events.Sample n base bits) names is fits = sample_back cfg n base bits (node_is cfg names n is.0) is.1 fits

@@ -19,7 +19,7 @@ use Rattle.wrp_fields.specs.Reading.{◌>>=◌, number_or_fault}
 use Rattle.wrp_trace.specs.declared.events.marks.Marks.{Marks}
 use Rattle.wrp_trace.specs.Changes.{SaidAt, change_in, change_said, changes_said, drift_said, is_said, move_in, move_said, named_said, nothing_said, outcome, said_count, said_once, with_drift, with_move}
 use Rattle.wrp_trace.specs.EventFields.{before, behind, span_at}
-use Rattle.wrp_trace.specs.Events.{pass_of, pass_with, plain, told_in}
+use Rattle.wrp_trace.specs.Events.{pass_of, pass_with, bare, told_in}
 use Rattle.wrp_trace.specs.Places.{AreClocks, AreFibres, AsPass, FindsEach, Holds, IsPassing, NoneMarked, OnlyDrifts, OnlyMoves, RestsAt, drifts_in, is_marked, moves_in, said_also, said_by, said_in, said_then, span_in}
 use Rattle.wrp_trace.proofs.ChangeLemmas.{few, one_more_drift, one_more_move}
 use Rattle.wrp_trace.proofs.EventsFit.{both, ok_same, pass_fits, within}
@@ -336,7 +336,7 @@ pub pass_comes : (cfg : NetCfg) (fields : List (List ℕ)) (marks : Marks) (e : 
 pass_comes cfg fields marks e answer u passing told ok =
     let is = as_pass e passing.pass in
     let own : pass_of cfg fields ≡ as_read (events.Pass (span_in e) (record { items = drifts_in e }) (record { items = moves_in e })) =
-    sym told ∙ ap (λ (r : Result (Unit {0}) TraceFault). told_in r e) ok ∙ ap (λ x. as_read (plain x)) is in
+    sym told ∙ ap (λ (r : Result (Unit {0}) TraceFault). told_in r e) ok ∙ ap (λ x. as_read (bare x)) is in
     subst (IsEventOf cfg) (sym is) (pass_fits cfg fields (events.Pass (span_in e) (record { items = drifts_in e }) (record { items = moves_in e })) own)
 
 -- Only the drifts, or only the moves, became others

@@ -10,46 +10,46 @@ use Rattle.wrp_course.specs.declared.event.Swap.{Swap}
 use Rattle.wrp_fields.specs.Reading.{field_of, ◌>>=◌, number_or_fault, name_or_fault}
 use Rattle.wrp_fields.specs.Numbers.{natural_in}
 use Rattle.wrp_trace.specs.EventFields.{before, behind}
-use Rattle.wrp_trace.specs.Swaps.{plain_swap, own_port, swap_at_port, swap_said, swaps_said}
+use Rattle.wrp_trace.specs.Swaps.{bare_swap, own_port, swap_at_port, swap_said, swaps_said}
 use Rattle.wrp_trace.proofs.ChangeLemmas.{field_here}
 use Rattle.wrp_course.specs.EventAt.{IsSwap, AreSwaps}
 
-any_plain : (port : ℕ) (swaps : List Swap) → list_any (λ swap. swap.port == port) (map plain_swap swaps) ≡ list_any (λ swap. swap.port == port) swaps
+any_plain : (port : ℕ) (swaps : List Swap) → list_any (λ swap. swap.port == port) (map bare_swap swaps) ≡ list_any (λ swap. swap.port == port) swaps
 any_plain port [] = refl
 any_plain port (s ∷ swaps) = ap (λ b. (s.port == port) || b) (any_plain port swaps)
 
 own_plain : (place : ℕ) (swaps : List Swap) (read : Result ℕ TraceFault) (next : ℕ → Result Swap TraceFault)
-    → ((read >>= (λ port. own_port place (map plain_swap swaps) port)) >>= next) ≡ ((read >>= (λ port. own_port place swaps port)) >>= next)
+    → ((read >>= (λ port. own_port place (map bare_swap swaps) port)) >>= next) ≡ ((read >>= (λ port. own_port place swaps port)) >>= next)
 own_plain place swaps (Ok port) next = ap (λ b. name_or_fault place (if b then None else Some port) >>= next) (any_plain port swaps)
 own_plain place swaps (Err fault) next = refl
 
 -- whether a port is new is told by the ports alone
-pub said_plain : (place : ℕ) (swaps : List Swap) (text : List ℕ) → swap_said place (map plain_swap swaps) text ≡ swap_said place swaps text
+pub said_plain : (place : ℕ) (swaps : List Swap) (text : List ℕ) → swap_said place (map bare_swap swaps) text ≡ swap_said place swaps text
 said_plain place swaps text =
     own_plain place swaps (number_or_fault place (natural_in 0 65_535 (before 58 text))) (λ port. swap_at_port place port (behind 58 text))
 
 step : (fields : List (List ℕ)) (at place : ℕ) (swaps : List Swap) (text : List ℕ) (answer : Result Swap TraceFault)
     → at < length fields → place ≡ at + 1 → text ≡ field_of place fields → answer ≡ swap_said place swaps text
-    → swaps_said (at + 1) (map plain_swap swaps) (drop at fields)
-    ≡ (answer >>= (λ swap. swaps_said (at + 1 + 1) (map plain_swap swaps ++ swap ∷ []) (drop (at + 1) fields)))
+    → swaps_said (at + 1) (map bare_swap swaps) (drop at fields)
+    ≡ (answer >>= (λ swap. swaps_said (at + 1 + 1) (map bare_swap swaps ++ swap ∷ []) (drop (at + 1) fields)))
 step fields at place swaps text answer below here is e =
-    ap (swaps_said (at + 1) (map plain_swap swaps)) (drop_more fields at [] below)
-    ∙ ap (λ r. r >>= (λ swap. swaps_said (at + 1 + 1) (map plain_swap swaps ++ swap ∷ []) (drop (at + 1) fields)))
-    (ap₂ (λ p t. swap_said p (map plain_swap swaps) t) (sym here) (field_here fields at place text here is) ∙ said_plain place swaps text ∙ sym e)
+    ap (swaps_said (at + 1) (map bare_swap swaps)) (drop_more fields at [] below)
+    ∙ ap (λ r. r >>= (λ swap. swaps_said (at + 1 + 1) (map bare_swap swaps ++ swap ∷ []) (drop (at + 1) fields)))
+    (ap₂ (λ p t. swap_said p (map bare_swap swaps) t) (sym here) (field_here fields at place text here is) ∙ said_plain place swaps text ∙ sym e)
 
 -- a field that says nothing is the fault of all
 pub stops : (fields : List (List ℕ)) (at place : ℕ) (swaps : List Swap) (text : List ℕ) (fault : TraceFault)
     → at < length fields → place ≡ at + 1 → text ≡ field_of place fields → Err fault ≡ swap_said place swaps text
-    → swaps_said (at + 1) (map plain_swap swaps) (drop at fields) ≡ Err fault
+    → swaps_said (at + 1) (map bare_swap swaps) (drop at fields) ≡ Err fault
 stops fields at place swaps text fault below here is e = step fields at place swaps text (Err fault) below here is e
 
 -- and behind one that says something the others say the rest
 pub goes : (fields : List (List ℕ)) (at place : ℕ) (swaps : List Swap) (swap : Swap) (text : List ℕ)
-    → at < length fields → place ≡ at + 1 → text ≡ field_of place fields → Ok (plain_swap swap) ≡ swap_said place swaps text
-    → swaps_said (at + 1) (map plain_swap swaps) (drop at fields) ≡ swaps_said (at + 1 + 1) (map plain_swap (swaps ++ swap ∷ [])) (drop (at + 1) fields)
+    → at < length fields → place ≡ at + 1 → text ≡ field_of place fields → Ok (bare_swap swap) ≡ swap_said place swaps text
+    → swaps_said (at + 1) (map bare_swap swaps) (drop at fields) ≡ swaps_said (at + 1 + 1) (map bare_swap (swaps ++ swap ∷ [])) (drop (at + 1) fields)
 goes fields at place swaps swap text below here is e =
-    step fields at place swaps text (Ok (plain_swap swap)) below here is e
-    ∙ ap (λ l. swaps_said (at + 1 + 1) l (drop (at + 1) fields)) (sym (map-append plain_swap swaps (swap ∷ [])))
+    step fields at place swaps text (Ok (bare_swap swap)) below here is e
+    ∙ ap (λ l. swaps_said (at + 1 + 1) l (drop (at + 1) fields)) (sym (map-append bare_swap swaps (swap ∷ [])))
 
 -- Ports
 

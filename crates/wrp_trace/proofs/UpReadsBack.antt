@@ -8,7 +8,7 @@ use Rattle.std.proofs.lemmas.List.{append_assoc, append-nil, map-append, get_or_
 use Rattle.wrp_course.specs.declared.event.Swap.{Swap}
 use Rattle.wrp_trace.specs.EventPrinting.{swap_text}
 use Rattle.wrp_fields.specs.Reading.{◌>>=◌}
-use Rattle.wrp_trace.specs.Swaps.{plain_swap, swap_said, swaps_said}
+use Rattle.wrp_trace.specs.Swaps.{bare_swap, swap_said, swaps_said}
 use Rattle.wrp_trace.proofs.EventParts.{decimal_part, name_part, lacks_colon, before_part, behind_part}
 use Rattle.wrp_trace.proofs.NumberLemmas.{natural_back}
 use Rattle.wrp_trace.proofs.SwapLemmas.{no_pass, said_plain}
@@ -33,7 +33,7 @@ last_is_new front swap rest apart =
     (λ e. apart k (length front) d below (reaches front swap rest) (ap (λ s. s.port) left ∙ e ∙ sym (ap (λ s. s.port) last))))
 
 one_back : (place : ℕ) (front : List Swap) (swap : Swap) → IsSwap swap → list_any (λ other. other.port == swap.port) front ≡ false
-    → swap_said place front (swap_text swap) ≡ Ok (plain_swap swap)
+    → swap_said place front (swap_text swap) ≡ Ok (bare_swap swap)
 one_back place front swap is new =
     let tail = swap.name.bytes ++ 58 ∷ (decimal swap.tx ++ 58 ∷ decimal swap.rx) in
     let delays = decimal swap.tx ++ 58 ∷ decimal swap.rx in
@@ -56,12 +56,12 @@ one_back place front swap is new =
     refl
 
 pub swaps_back : (place : ℕ) (front swaps : List Swap) → AllByRecursion IsSwap swaps → ArePortsApart (front ++ swaps)
-    → swaps_said place (map plain_swap front) (map swap_text swaps) ≡ Ok (map plain_swap (front ++ swaps))
-swaps_back place front [] are apart = ap (λ l. Ok (map plain_swap l)) (sym (append-nil front))
+    → swaps_said place (map bare_swap front) (map swap_text swaps) ≡ Ok (map bare_swap (front ++ swaps))
+swaps_back place front [] are apart = ap (λ l. Ok (map bare_swap l)) (sym (append-nil front))
 swaps_back place front (swap ∷ swaps) are apart =
     let shift = append_assoc front (swap ∷ []) swaps in
     let one = said_plain place front (swap_text swap) ∙ one_back place front swap are.0 (last_is_new front swap swaps apart) in
-    ap (λ r. r >>= (λ more. swaps_said (place + 1) (map plain_swap front ++ more ∷ []) (map swap_text swaps))) one
-    ∙ ap (λ l. swaps_said (place + 1) l (map swap_text swaps)) (sym (map-append plain_swap front (swap ∷ [])))
+    ap (λ r. r >>= (λ more. swaps_said (place + 1) (map bare_swap front ++ more ∷ []) (map swap_text swaps))) one
+    ∙ ap (λ l. swaps_said (place + 1) l (map swap_text swaps)) (sym (map-append bare_swap front (swap ∷ [])))
     ∙ swaps_back (place + 1) (front ++ swap ∷ []) swaps are.1 (subst ArePortsApart (sym shift) apart)
-    ∙ ap (λ l. Ok (map plain_swap l)) shift
+    ∙ ap (λ l. Ok (map bare_swap l)) shift

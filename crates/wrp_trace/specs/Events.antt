@@ -16,7 +16,7 @@ use Rattle.wrp_trace.specs.EventFields.{span_at, delay_at, offset_at}
 use Rattle.wrp_trace.specs.EventKinds.{may_have, kind_of}
 use Rattle.wrp_trace.specs.Fields.{u16_at, u32_at, step_at, bits_at, octets_at, time_at, raw_from}
 use Rattle.wrp_fields.specs.Reading.{◌>>=◌, field_of, is_plain}
-use Rattle.wrp_trace.specs.Swaps.{plain_swap, swaps_said}
+use Rattle.wrp_trace.specs.Swaps.{bare_swap, swaps_said}
 
 -- so much time passes, with what is said of the nodes and the links
 abbrev pub pass_with : ℤ → SaidAt → Event
@@ -131,18 +131,18 @@ abbrev pub event_read : NetCfg → List ℕ → Result Event TraceFault
 event_read cfg line = if is_plain line then event_of cfg (parts_of line) else Err Fields
 
 -- an event whose names are told by their texts alone: room past the end of a name is no part of it
-abbrev pub plain : Event → Event
-plain (events.Up node off swaps) = events.Up node off (record { items = map plain_swap swaps.items })
-plain e = e
+abbrev pub bare : Event → Event
+bare (events.Up node off swaps) = events.Up node off (record { items = map bare_swap swaps.items })
+bare e = e
 
 -- the same of a reading
 abbrev pub told : Result Event TraceFault → Result Event TraceFault
-told (Ok e) = Ok (plain e)
+told (Ok e) = Ok (bare e)
 told (Err fault) = Err fault
 
 -- the same of a reading into a place, which has this event then
 abbrev pub told_in : Result (Unit {0}) TraceFault → Event → Result Event TraceFault
-told_in (Ok done) e = Ok (plain e)
+told_in (Ok done) e = Ok (bare e)
 told_in (Err fault) e = Err fault
 
 -- an event that a line says can come to the network

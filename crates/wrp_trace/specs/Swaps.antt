@@ -13,8 +13,8 @@ use Rattle.wrp_fields.specs.Numbers.{natural_in}
 use Rattle.wrp_fields.specs.Reading.{◌>>=◌, number_or_fault, name_or_fault}
 
 -- a swap with its module's name alone
-abbrev pub plain_swap : Swap → Swap
-plain_swap swap = record swap { name = bare swap.name.bytes }
+abbrev pub bare_swap : Swap → Swap
+bare_swap swap = record swap { name = bare swap.name.bytes }
 
 -- PORT: one that no swap before has
 abbrev pub own_port : ℕ → List Swap → ℕ → Result ℕ TraceFault
@@ -64,10 +64,10 @@ name_read (Err fault) = Err fault
 
 -- a swap, or the fault
 abbrev pub swap_read : Result Swap TraceFault → Result Swap TraceFault
-swap_read (Ok swap) = Ok (plain_swap swap)
+swap_read (Ok swap) = Ok (bare_swap swap)
 swap_read (Err fault) = Err fault
 
 -- swaps, or the fault
 abbrev pub swaps_read : Result (ArrayVec Swap) TraceFault → Result (List Swap) TraceFault
-swaps_read (Ok swaps) = Ok (map plain_swap swaps.items)
+swaps_read (Ok swaps) = Ok (map bare_swap swaps.items)
 swaps_read (Err fault) = Err fault

@@ -13,8 +13,8 @@ with_option command option is_required = with_rule (new_app command) (option_rul
 
 -- no command yet: the words are those after the program's name, one names a command, and none asks for
 -- help
-abbrev pub bare : App
-bare = on_top (λ s. record s { subcommand_required = true })
+abbrev pub without_command : App
+without_command = on_top (λ s. record s { subcommand_required = true })
     (on_top (λ s. record s { disable_help_subcommand = true })
     (on_top (λ s. record s { disable_help_flag = true })
     (on_top (λ s. record s { no_binary_name = true }) (new_app (codes "wrnet")))))
@@ -25,7 +25,7 @@ wrnet =
     with_subcommand
     (with_subcommand
     (with_subcommand
-    (with_subcommand bare (with_option (codes "audit") (codes "emit") false).top)
+    (with_subcommand without_command (with_option (codes "audit") (codes "emit") false).top)
     (with_option (codes "replay") (codes "node") true).top)
     (with_option (codes "simulate") (codes "seed") true).top)
     (with_option (codes "loop") (codes "seed") true).top

@@ -7,7 +7,7 @@ use Rattle.wrp_words.specs.declared.command_line.Form.{Form}
 use Rattle.wrp_words.specs.Alone.{alone_commands, alone_word}
 use Rattle.wrp_words.specs.CommandLine.{HasForm, IsCommandWith}
 use Rattle.wrp_words.specs.Fields.{seed_of}
-use Rattle.wrp_words.specs.Parsing.{bare, with_option, wrnet}
+use Rattle.wrp_words.specs.Parsing.{without_command, with_option, wrnet}
 use Rattle.wrp_words.specs.Refusals.{usage_line}
 
 -- What comes after a command's name, and what is then asked for: nothing, or one option with a value, which may be left out or
@@ -90,4 +90,4 @@ with_rows app (row ∷ more) = with_rows (with_row app row.name row.behind) more
 pub record LinesAreOfRows : Type 0 where
   pub usage : usage_line ≡ codes "usage: wrnet " ++ rows_text rows ++ codes "\n"
   pub forms : (words : List (List ℕ)) → ((form : Form) × HasForm words form) ↔ IsLineOf rows words
-  pub parser : wrnet ≡ with_rows bare rows
+  pub parser : wrnet ≡ with_rows without_command rows

@@ -7,7 +7,7 @@ ghost use Rattle.wrp_words.specs.declared.command_line.Form.{Form};
 ghost use Rattle.wrp_words.specs.CommandLine.{HasForm};
 ghost use Rattle.wrp_words.specs.Requests.{AsksFor};
 ghost use Rattle.wrp_words.specs.Fields.{seed_of};
-ghost use Rattle.wrp_words.specs.Parsing.{bare, option_rule, wrnet, value_of_option, IsRead};
+ghost use Rattle.wrp_words.specs.Parsing.{without_command, option_rule, wrnet, value_of_option, IsRead};
 ghost use Rattle.wrp_words.specs.Words.{texts_of};
 
 use crate::command_line::{Form, form_of};
@@ -26,7 +26,7 @@ fn option<'a>(alloc: Global, name: &'a str, is_required: bool) -> Arg<'a>
 
 // A command line with no command yet.
 fn bare_parser<'a>(alloc: Global) -> Parser<'a>
-    ensures { app_of result ≡ bare }
+    ensures { app_of result ≡ without_command }
 {
     Parser::new(alloc, "wrnet")
         .no_binary_name(true)

@@ -22,7 +22,7 @@ use Rattle.wrp_node.specs.declared.interface.Output.{Output}
 use Rattle.wrp_node.specs.declared.interface.Output.TheVariants.{Send, Step as StepOf, Dac, Report as ReportOf}
 use Rattle.wrp_node.specs.declared.interface.Report.TheVariants.{Servo}
 use Rattle.wrp_node.specs.NodeAt.{NodeSetting, NodeAt, Taken, numbers_of, link_at, state_of}
-use Rattle.wrp_node.specs.NodeRun.{IsSaid, dac_out, est_out, node_after, outputs_of, port_out, servo_out, step_out, track_out, word_out, place_of as place_in, frame_out}
+use Rattle.wrp_node.specs.NodeRun.{IsSaid, dac_out, est_out, node_after, outputs_of, port_out, servo_out, step_out, track_out, word_out, rank_of as place_in, frame_out}
 use Rattle.wrp_node.specs.Node.{is_tick}
 use Rattle.wrp_node.specs.NodeStep.{node_step}
 use Rattle.wrp_node.specs.New.{OfDifferentNumbers}

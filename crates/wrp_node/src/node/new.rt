@@ -13,7 +13,7 @@ use crate::NodeSet;
 use crate::control::Control;
 use crate::order::{in_order, slave_of};
 use crate::parts::Parts;
-use crate::place::Place;
+use crate::place::PortPlace;
 use crate::ports::Ports;
 use std::alloc::{AllocError, Global};
 use wrp_data::PortDs;
@@ -65,12 +65,12 @@ fn new_ports(alloc: Global, cfg: &NodeSet) -> Result<Ports, AllocError>
 }
 
 // A port of a node.
-fn new_place(alloc: Global, cfg: &NodeSet, ds: &PortDs) -> Result<Place, AllocError>
+fn new_place(alloc: Global, cfg: &NodeSet, ds: &PortDs) -> Result<PortPlace, AllocError>
     requires { FitsPorts cfg.now }
     ensures { IfOk result (IsNewPlace cfg.now ds.now) }
 {
     let port = Port::new(alloc, *ds, cfg.own, link_set(cfg, ds), cfg.sched, cfg.ring)?;
-    Ok(Place::new(ds.own.port, port))
+    Ok(PortPlace::new(ds.own.port, port))
 }
 
 // What the link of a port is set to.

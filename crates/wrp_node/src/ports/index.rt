@@ -2,13 +2,13 @@
 ghost use Rattle.std.specs.Prelude.{◌≤◌, length};
 ghost use Rattle.wrp_node.specs.Index.{numbers_in, IsWhere, Indexes};
 
-use crate::place::Place;
+use crate::place::PortPlace;
 
 /// For each number from 1 to 18, where the port of that number stands; None where no port has it.
 pub type Index = [Option<u8>; 18];
 
 /// The index of these ports.
-pub fn index_of(places: &[Place]) -> Index
+pub fn index_of(places: &[PortPlace]) -> Index
     requires { length places.now ≤ 18 }
     ensures { Indexes result (numbers_in places.now) }
 {
@@ -20,7 +20,7 @@ pub fn index_of(places: &[Place]) -> Index
 }
 
 /// Where the port of a number stands, looked for from the first port on; None where no port has it.
-pub fn look_for(number: u16, places: &[Place]) -> Option<u8>
+pub fn look_for(number: u16, places: &[PortPlace]) -> Option<u8>
     requires { length places.now ≤ 18 }
     ensures { IsWhere number (numbers_in places.now) result }
 {

@@ -3,7 +3,7 @@ ghost use Rattle.std.specs.Prelude.{◌≡◌, map};
 ghost use Rattle.wrp_node.specs.States.{port_state};
 
 use super::Ports;
-use crate::place::Place;
+use crate::place::PortPlace;
 use arrayvec::ArrayVec;
 use wrp_base::LinkState;
 
@@ -19,7 +19,7 @@ pub struct PortState {
 /// The link states of a node's ports, in ascending order of the ports.
 pub type PortStates = ArrayVec<PortState, 18>;
 
-impl Place {
+impl PortPlace {
     /// Its number, and the state of its link.
     pub fn state(&self) -> PortState
         ensures { result ≡ port_state self.now }

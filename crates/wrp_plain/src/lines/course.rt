@@ -17,14 +17,14 @@ use wrp_records::Taken;
 
 /// A world with a plain servo, and how many of its lines were ticks.
 #[derive(Drop)]
-pub struct Course {
+pub struct PlainRun {
     world: PlainWorld,
     ticks: u32,
 }
 
-impl Course {
+impl PlainRun {
     /// A world before the line of its first event.
-    pub fn new(alloc: Global, start: PlainStart) -> Result<Course, AllocError>
+    pub fn new(alloc: Global, start: PlainStart) -> Result<PlainRun, AllocError>
         requires set { HasRanges start.set }
         requires off { unsigned_abs start.off ≤ 2 ^ 62 }
         ensures run { IfOk result (λ course. HasRun start.set start.off course []) }
@@ -32,7 +32,7 @@ impl Course {
         ensures none { IfOk result (λ course. course.world.events ≡ 0) }
     {
         let world = PlainWorld::new(alloc, start.set, start.off)?;
-        Ok(Course { world, ticks: 0 })
+        Ok(PlainRun { world, ticks: 0 })
     }
 
     /// Takes the event that the record of this number says, and appends what it writes, or the line that

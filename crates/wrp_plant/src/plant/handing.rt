@@ -92,7 +92,7 @@ impl Plant {
         requires fits { FitsPlant self.now }
         requires link { k < length self.now.net.cfg.links.items }
         ensures { (s : Setting) (w : WorldAt) → PlantIs s w self.now
-            → result ≡ option_or so_far (told_of (spec.stands (has_carrier s w k) ∷ [])) }
+            → result ≡ option_or so_far (told_of (spec.needs (has_carrier s w k) ∷ [])) }
     {
         let carrier = self.has_carrier(k);
         so_far.or(stands(carrier))

@@ -1,6 +1,6 @@
 //! Memory that is taken before it is used.
 ghost use Rattle.std.specs.Prelude.{◌≡◌, ◌≤◌, ◌+◌, ℕ, OnOk};
-ghost use Rattle.wrp_plant.specs.Moves.{Turns};
+ghost use Rattle.wrp_plant.specs.Moves.{EachBecame};
 ghost use Rattle.wrp_plant.specs.Plant.{Each, FitsPlant, PlantIs};
 ghost use Rattle.wrp_plant.specs.Room.{HasEndRoom, HasRoom, HasSpanRoom, SameEnd, SameSpan};
 ghost use Rattle.wrp_course.specs.Setting.{Setting};
@@ -34,7 +34,7 @@ fn reserve_span(span: &mut Span, steps: u8) -> Result<(), AllocError>
 
 // Places for so many steps at all ends.
 fn reserve(spans: &mut Vec<Span>, steps: u8) -> Result<(), AllocError>
-    ensures same { Turns SameSpan spans.old.items spans.new.items }
+    ensures same { EachBecame SameSpan spans.old.items spans.new.items }
     ensures room { OnOk result (Each (λ i. HasSpanRoom steps) spans.new.items) }
     ensures kept { (k : ℕ) → Each (λ i. HasSpanRoom k) spans.old.items
         → Each (λ i. HasSpanRoom k) spans.new.items }
@@ -59,7 +59,7 @@ impl Plant {
         ensures time { self.new.time ≡ self.old.time }
         ensures events { self.new.events ≡ self.old.events }
         ensures clocks { self.new.clocks ≡ self.old.clocks }
-        ensures spans { Turns SameSpan self.old.spans.items self.new.spans.items }
+        ensures spans { EachBecame SameSpan self.old.spans.items self.new.spans.items }
         ensures frames { self.new.frames ≡ self.old.frames }
     {
         if steps == 0 {

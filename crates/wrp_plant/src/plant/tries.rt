@@ -69,7 +69,7 @@ impl Plant {
         requires fits { FitsPlant self.now }
         requires node { n < length self.now.net.cfg.nodes.items }
         ensures { (s : Setting) (w : WorldAt) → PlantIs s w self.now
-            → result ≡ told_of (premise.tick_early s w n ∷ (spec.stands (w.clock n).up ∷ [])) }
+            → result ≡ told_of (premise.tick_early s w n ∷ (spec.needs (w.clock n).up ∷ [])) }
     {
         let least = shortest_tick(self.cfg());
         let now = self.now();
@@ -83,7 +83,7 @@ impl Plant {
         requires fits { FitsPlant self.now }
         requires node { n < length self.now.net.cfg.nodes.items }
         ensures { (s : Setting) (w : WorldAt) → PlantIs s w self.now
-            → result ≡ told_of (spec.stands (w.clock n).up ∷ []) }
+            → result ≡ told_of (spec.needs (w.clock n).up ∷ []) }
     {
         stands(self.is_up(n))
     }
@@ -93,7 +93,7 @@ impl Plant {
         requires fits { FitsPlant self.now }
         requires link { k < length self.now.net.cfg.links.items }
         ensures { (s : Setting) (w : WorldAt) → PlantIs s w self.now
-            → result ≡ told_of (spec.stands (w.fibre k).joined ∷ []) }
+            → result ≡ told_of (spec.needs (w.fibre k).joined ∷ []) }
     {
         stands(self.joined(k))
     }

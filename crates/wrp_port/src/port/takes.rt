@@ -10,7 +10,7 @@ ghost use Rattle.wrp_port.specs.PortAt.{IsFit, IsStamp};
 use super::{Answer, Port};
 use crate::PortIn;
 use crate::hearing::is_open;
-use crate::line::Line;
+use crate::line::Rest;
 use crate::messages::{Sends, follow_up, send_signals};
 use wrp_base::{ChainNews, Module, Role, Stamp};
 use wrp_link::LinkIn;
@@ -216,7 +216,7 @@ impl Port {
         ensures exchange { (calls : List Call) → ExchangeStandsFor self.old.set.ring self.old.exchange calls →
             ExchangeStandsFor self.old.set.ring self.new.exchange [] }
     {
-        self.line = Line::new(&self.set);
+        self.line = Rest::new(&self.set);
         self.exchange.reset();
     }
 }

@@ -7,7 +7,7 @@ ghost use Rattle.wrp_base.specs.Network.{name_at, node_count};
 ghost use Rattle.wrp_base.specs.Octets.{AreOctets};
 ghost use Rattle.wrp_config.specs.Accepted.{IsAccepted};
 ghost use Rattle.wrp_trace.specs.EventPrinting.{link_text, drift_words, drift_piece, drift_texts, move_words, move_piece, move_texts, swap_text, pass_texts, raw_texts, event_texts, event_text, further};
-ghost use Rattle.wrp_trace.specs.Events.{event_read, plain};
+ghost use Rattle.wrp_trace.specs.Events.{event_read, bare};
 ghost use Rattle.wrp_trace.specs.Printing.{bits_text, joined};
 ghost use Rattle.wrp_course.specs.EventAt.{link_count, IsEventOf, FitsEvent};
 
@@ -24,7 +24,7 @@ pub fn event_line(alloc: Global, e: &Event, net: &Network) -> Result<Vec<u8>, Al
     requires printable { IsEventOf net.now.cfg e.now }
     ensures text { IfOk result (λ line. line.items ≡ event_text net.now.cfg e.now) }
     ensures reads_back { IfOk result (λ line.
-        event_read net.now.cfg line.items ≡ Ok (plain e.now)) }
+        event_read net.now.cfg line.items ≡ Ok (bare e.now)) }
 {
     let text = text_of(alloc, e, &net.cfg)?;
     Ok(octets_of(text))

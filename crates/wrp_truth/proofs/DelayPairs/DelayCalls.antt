@@ -21,7 +21,7 @@ use Rattle.wrp_port.specs.declared.interface.PortIn.{PortIn}
 use Rattle.wrp_port.specs.declared.interface.PortIn.TheVariants.{Msg, Sent as PortSent, Tick as PortTick, Sample as PortSample}
 use Rattle.wrp_port.specs.declared.setting.Setting.{Setting}
 use Rattle.wrp_port.specs.Hearing.{early_reason, piece_of}
-use Rattle.wrp_port.specs.History.{calls_of, line_of}
+use Rattle.wrp_port.specs.History.{calls_of, rest_after}
 use Rattle.wrp_port.specs.LineAfter.{requests_on, ticked}
 use Rattle.wrp_port.specs.Outputs.{only_slave, piece_unless, with_call}
 use Rattle.wrp_port.specs.Wire.{earlier_by}
@@ -123,7 +123,7 @@ unless_kept P (Some reason) piece calls new old = old
 
 pub message_asked : (R : ℕ → Option Sent → Type 0) (S : DelayPair → Type 0) (set : Setting) (told : List PortIn) (m : PtpMsg) (stamp : Stamp) (tick : ℕ) → MessageFits R S m.head m.body → AskedOf R S set told → AskedOf R S set (Msg m stamp tick ∷ told)
 message_asked R S set told m stamp tick fits h =
-    unless_kept (Asked R S set.ring) (early_reason set (line_of set told).link m) (piece_of set.ds.role m.head m.body stamp tick) (calls_of set told)
+    unless_kept (Asked R S set.ring) (early_reason set (rest_after set told).link m) (piece_of set.ds.role m.head m.body stamp tick) (calls_of set told)
     (piece_asked R S set.ring set.ds.role m.head m.body stamp tick (calls_of set told) fits h) h
 
 -- a sending
@@ -141,11 +141,11 @@ due_asked R S ring id Slave false calls slave new old pair = (old refl, pair)
 due_asked R S ring id Master due calls slave new old pair = absurd cc
 
 pub tick_asked : (R : ℕ → Option Sent → Type 0) (S : DelayPair → Type 0) (set : Setting) (told : List PortIn) (locked certain : Bool) → set.ds.role ≡ Slave →
-    (requests_on (ticked set (line_of set told) locked) ≡ true → R (ticked set (line_of set told) locked).ids.request None) →
-    (requests_on (ticked set (line_of set told) locked) ≡ false → IfSome (last_request (calls_of set told)) (λ i. R i (first_sent set.ring (calls_of set told)))) → IfSome (delay_pair set.ring (calls_of set told)) S →
+    (requests_on (ticked set (rest_after set told) locked) ≡ true → R (ticked set (rest_after set told) locked).ids.request None) →
+    (requests_on (ticked set (rest_after set told) locked) ≡ false → IfSome (last_request (calls_of set told)) (λ i. R i (first_sent set.ring (calls_of set told)))) → IfSome (delay_pair set.ring (calls_of set told)) S →
     AskedOf R S set (PortTick locked certain ∷ told)
 tick_asked R S set told locked certain slave new old pair =
-    due_asked R S set.ring (ticked set (line_of set told) locked).ids.request set.ds.role (requests_on (ticked set (line_of set told) locked)) (calls_of set told) slave new old pair
+    due_asked R S set.ring (ticked set (rest_after set told) locked).ids.request set.ds.role (requests_on (ticked set (rest_after set told) locked)) (calls_of set told) slave new old pair
 
 -- it stands where it follows
 pub asked_less : (R Q : ℕ → Option Sent → Type 0) (S T : DelayPair → Type 0) (ring : ℕ) (calls : List Call) → ((id : ℕ) (o : Option Sent) → R id o → Q id o) → ((p : DelayPair) → S p → T p) → Asked R S ring calls → Asked Q T ring calls

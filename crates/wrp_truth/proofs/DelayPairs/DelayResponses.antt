@@ -12,7 +12,7 @@ use Rattle.wrp_node.specs.declared.interface.Input.{Input}
 use Rattle.wrp_node.specs.declared.interface.Input.TheVariants.{Tick, Sample, Frame, Sent, Carrier, Reset}
 use Rattle.wrp_node.specs.NodeAt.{NodeSetting, NodeAt, Taken, certain_of, line_at, locked_of, setting_of}
 use Rattle.wrp_node.specs.NodeStep.{node_step, servo_ticked, stamp_of}
-use Rattle.wrp_port.specs.declared.line.Line.{Line}
+use Rattle.wrp_port.specs.declared.line.Rest.{Rest}
 use Rattle.wrp_port.specs.declared.setting.Setting.{Setting}
 use Rattle.wrp_port.specs.LineAfter.{ticked}
 use Rattle.wrp_port.specs.Messages.{response_of}
@@ -41,7 +41,7 @@ abbrev pub IsAnswerTo : NodeSetting → NodeAt → ℕ → Input → Result PtpM
 IsAnswerTo fixed n p (Frame q octets raw sample) says z = (p ≡ q) × Answers fixed n p says raw sample z
 IsAnswerTo fixed n p _ says z = ⊥
 
-scheduled_resp : (C : PtpMsg → Type 0) (set : Setting) (role : Role) (line : Line) (certain : Bool) → ScheduledAll (λ m. IsResponse m.body → C m) set role line certain
+scheduled_resp : (C : PtpMsg → Type 0) (set : Setting) (role : Role) (line : Rest) (certain : Bool) → ScheduledAll (λ m. IsResponse m.body → C m) set role line certain
 scheduled_resp C set Master line certain = (λ e a. absurd a, λ e a. absurd a)
 scheduled_resp C set Slave line certain = λ e a. absurd a
 

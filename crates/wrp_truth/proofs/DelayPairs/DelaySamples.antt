@@ -28,7 +28,7 @@ use Rattle.wrp_port.specs.declared.interface.PortIn.{PortIn}
 use Rattle.wrp_port.specs.declared.interface.PortIn.TheVariants.{Msg, Sample as PortSample, Sent as PortSent, Tick as PortTick}
 use Rattle.wrp_port.specs.declared.setting.Setting.{Setting as PortSetting}
 use Rattle.wrp_port.specs.Hearing.{early_reason, piece_of}
-use Rattle.wrp_port.specs.History.{calls_of, line_of}
+use Rattle.wrp_port.specs.History.{calls_of, rest_after}
 use Rattle.wrp_port.specs.LineAfter.{requests_on, ticked}
 use Rattle.wrp_port.specs.Outputs.{only_slave, with_call}
 use Rattle.wrp_servo.specs.declared.interface.ServoOut.{ServoOut}
@@ -94,7 +94,7 @@ piece_each B Master head body stamp tick calls h = h
 
 message_each : (B : GoodSample → Type 0) (set : PortSetting) (told : List PortIn) (m : PtpMsg) (stamp : Stamp) (tick : ℕ) → EachOf B set told → EachOf B set (Msg m stamp tick ∷ told)
 message_each B set told m stamp tick h =
-    unless_kept (EachIn B) (early_reason set (line_of set told).link m) (piece_of set.ds.role m.head m.body stamp tick) (calls_of set told) (piece_each B set.ds.role m.head m.body stamp tick (calls_of set told) h) h
+    unless_kept (EachIn B) (early_reason set (rest_after set told).link m) (piece_of set.ds.role m.head m.body stamp tick) (calls_of set told) (piece_each B set.ds.role m.head m.body stamp tick (calls_of set told) h) h
 
 sending_each : (B : GoodSample → Type 0) (set : PortSetting) (told : List PortIn) (seq tick : ℕ) (delay : Bool) (stamp : Stamp) → EachOf B set told → EachOf B set (PortSent delay seq stamp tick ∷ told)
 sending_each B set told seq tick true stamp h = only_kept (EachIn B) set.ds.role (Some (CallReqSent seq stamp tick)) (calls_of set told) h h
@@ -106,7 +106,7 @@ due_each B Slave false id calls h = h
 due_each B Master due id calls h = h
 
 tick_each : (B : GoodSample → Type 0) (set : PortSetting) (told : List PortIn) (locked certain : Bool) → EachOf B set told → EachOf B set (PortTick locked certain ∷ told)
-tick_each B set told locked certain h = due_each B set.ds.role (requests_on (ticked set (line_of set told) locked)) (ticked set (line_of set told) locked).ids.request (calls_of set told) h
+tick_each B set told locked certain h = due_each B set.ds.role (requests_on (ticked set (rest_after set told) locked)) (ticked set (rest_after set told) locked).ids.request (calls_of set told) h
 
 each_brings : (B : GoodSample → Type 0) (set : PortSetting) (s : Setting) (w : WorldAt) (says : Result PtpMsg FrameFault) (n p : ℕ) (e : Event) → IsNoSampleOf n e → EachOf B set ((w.node n).told p) → Brings (EachOf B set) s w says n p e
 each_brings B set s w says n p (Tick m) none h = λ is.

@@ -19,10 +19,10 @@ use Rattle.wrp_node.proofs.Links.{before_ports}
 use Rattle.wrp_port.specs.declared.interface.PortIn.{PortIn}
 use Rattle.wrp_port.specs.declared.interface.PortIn.TheVariants.{Tick as PortTick}
 use Rattle.wrp_port.specs.declared.line.Ids.{Ids}
-use Rattle.wrp_port.specs.declared.line.Line.{Line}
+use Rattle.wrp_port.specs.declared.line.Rest.{Rest}
 use Rattle.wrp_port.specs.declared.setting.Setting.{Setting as PortSetting}
 use Rattle.wrp_port.specs.Hearing.{is_open}
-use Rattle.wrp_port.specs.History.{line_of}
+use Rattle.wrp_port.specs.History.{rest_after}
 use Rattle.wrp_port.specs.LineAfter.{announces_on, syncs_on, ticked}
 use Rattle.wrp_port.specs.Messages.{announce_of, signals_of, sync_of}
 use Rattle.wrp_port.specs.Outputs.{scheduled_sends, sends_of, where_due}
@@ -67,11 +67,11 @@ pub record SendsOne (r : Role) (sends : List PtpMsg) (due : Bool) (timed : PtpMs
   pub none : Where NoneSent r before
   pub is : sends ≡ before ++ where_due due timed
 
-tick_sends : (set : PortSetting) (r : Role) (line : Line) (locked certain : Bool) → set.ds.role ≡ r →
+tick_sends : (set : PortSetting) (r : Role) (line : Rest) (locked certain : Bool) → set.ds.role ≡ r →
     SendsOne r (sends_of set line (PortTick locked certain)) (is_due_on r (ticked set line locked)) (timed_of r set (ticked set line locked).ids)
 tick_sends set Master line locked certain master =
     let signals : List PtpMsg = signals_of set line.ids.signal (link_sends_of line.link (link_in.Tick locked)) in
-    let now : Line = ticked set line locked in
+    let now : Rest = ticked set line locked in
     let announce : List PtpMsg = where_due (announces_on now) (announce_of set now.link certain now.ids.announce) in
     record {
       before = signals ++ announce;
@@ -99,8 +99,8 @@ abbrev pub certain_then : Setting → WorldAt → ℕ → Bool
 certain_then s w n = certain_of (node_setting_of s n) (servo_ticked (node_setting_of s n) (w.node n)).node
 
 -- its line once it ticked, and whether one is due
-abbrev pub line_then : Setting → WorldAt → Role → LinkCfg → Line
-line_then s w r link = ticked (set_at s r link) (line_of (set_at s r link) (port_then s w r link)) (locked_then s w (end_of r link).node)
+abbrev pub line_then : Setting → WorldAt → Role → LinkCfg → Rest
+line_then s w r link = ticked (set_at s r link) (rest_after (set_at s r link) (port_then s w r link)) (locked_then s w (end_of r link).node)
 
 abbrev pub is_due_then : Setting → WorldAt → Role → LinkCfg → Bool
 is_due_then s w r link = is_due_on r (line_then s w r link)
@@ -113,7 +113,7 @@ tick_of_it s w y r link = (step_of s y (moved s w (Tick (end_of r link).node)) (
 
 pub sends_then : EndsAreSet → (s : Setting) → IsNetwork s → (w : WorldAt) (y : ℤ) (k : ℕ) (r : Role) (link : LinkCfg) → link_of s k ≡ Some link → SendsOne r (tick_of_it s w y r link) (is_due_then s w r link) (timed_then s w r link)
 sends_then ends s net w y k r link is =
-    tick_sends (set_at s r link) r (line_of (set_at s r link) (port_then s w r link)) (locked_then s w (end_of r link).node) (certain_then s w (end_of r link).node) (role_is ends s net k r link is)
+    tick_sends (set_at s r link) r (rest_after (set_at s r link) (port_then s w r link)) (locked_then s w (end_of r link).node) (certain_then s w (end_of r link).node) (role_is ends s net k r link is)
 
 in_last : (v : WorldAt) (x : Sending) (a b : List PtpMsg) → WasPutOut x (map (sending v) b) → WasPutOut x (map (sending v) (a ++ b))
 in_last v x [] b h = h
@@ -155,7 +155,7 @@ new_timed links s h before r link x new =
     let w : WorldAt = world_after s before in
     let fixed : NodeSetting = node_setting_of s n in
     let mid : NodeAt = (servo_ticked fixed (w.node n)).node in
-    let line : Line = ticked (setting_of (s.set n) (end_of r link).port) (line_at (s.set n) mid (end_of r link).port) (locked_of fixed mid) in
+    let line : Rest = ticked (setting_of (s.set n) (end_of r link).port) (line_at (s.set n) mid (end_of r link).port) (locked_of fixed mid) in
     let opens : is_open line.link ≡ true = (due_at line.link (turn_of r line.turns) new.1.2.1).0 in
     let opened : is_open (after (link_at (s.set n) (w.node n) (end_of r link).port) (link_in.Tick (locked_of fixed mid))) ≡ true =
     ap (λ (l : LinkAt). is_open (after l (link_in.Tick (locked_of fixed mid)))) (sym (before_ports fixed (w.node n) (end_of r link).port)) ∙ opens in

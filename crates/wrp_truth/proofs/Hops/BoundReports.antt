@@ -18,7 +18,7 @@ use Rattle.wrp_node.specs.declared.interface.Output.{Output}
 use Rattle.wrp_node.specs.declared.interface.Output.TheVariants as output
 use Rattle.wrp_node.specs.declared.interface.Report.TheVariants as report
 use Rattle.wrp_node.specs.NodeAt.{NodeSetting, NodeAt, est_of, link_at, numbers_of as ports_of, state_of}
-use Rattle.wrp_node.specs.NodeRun.{dac_out, est_out, outputs_of, place_of, port_out, servo_out, step_out, track_out, word_out, frame_out}
+use Rattle.wrp_node.specs.NodeRun.{dac_out, est_out, outputs_of, rank_of, port_out, servo_out, step_out, track_out, word_out, frame_out}
 use Rattle.wrp_node.specs.Telling.{Step}
 use Rattle.wrp_port.specs.Outputs.{is_word}
 use Rattle.wrp_servo.specs.Laws.{TrackHasChain}
@@ -93,7 +93,7 @@ outs_true s w n fixed input before step h =
     (all_both s w n second ports
     (all_both s w n first (servo_out old new)
     (all_both s w n (step_out step.cycles) (dac_out step.dac) (step_true s w n (unsigned_abs step.cycles == 0) step.cycles) (dac_true s w n step.dac))
-    (servo_true s w n (place_of old == place_of new) new))
+    (servo_true s w n (rank_of old == rank_of new) new))
     (ports_true s w n fixed before step (ports_of fixed.set))) h
 
 -- Inputs that are no tick

@@ -13,7 +13,7 @@ use Rattle.wrp_base.specs.declared.network.LinkCfg.{LinkCfg}
 use Rattle.wrp_base.specs.Network.{End}
 use Rattle.wrp_base.specs.Closeness.{IsWithin}
 use Rattle.wrp_frame.specs.declared.fault.FrameFault.{FrameFault}
-use Rattle.wrp_course.specs.Checks.{AllHold, Check, Holds, stands}
+use Rattle.wrp_course.specs.Checks.{AllHold, Check, Holds, needs}
 use Rattle.wrp_course.specs.declared.event.Event.{Event}
 use Rattle.wrp_course.specs.declared.event.Event.TheVariants.{Depart, Down, Up, Cut}
 use Rattle.wrp_course.specs.declared.event.Swap.{Swap}
@@ -124,7 +124,7 @@ record AreChecked (s : Setting) (n : ℕ) (swaps : List Swap) : Type 0 where
 up_checked : (s : Setting) (w : WorldAt) (says : Result PtpMsg FrameFault) (n : ℕ) (off : ℤ) (swaps : Items Swap) → Accepts s w says (Up n off swaps) → AreChecked s n swaps.items
 up_checked s w says n off swaps a =
     let v : WorldAt = moved s w (Up n off swaps) in
-    let last : List Check = stands (not (w.clock n).up) ∷ [] in
+    let last : List Check = needs (not (w.clock n).up) ∷ [] in
     let rest : AllHold (flat_map (module_kept s n) swaps.items ++ (map (swap_stands s n) swaps.items ++ last)) =
     all_right Holds (flat_map (fibre_kept s v) (links_of s)) (flat_map (module_kept s n) swaps.items ++ (map (swap_stands s n) swaps.items ++ last)) a.1 in
     record {

@@ -17,7 +17,7 @@ use Rattle.wrp_node.specs.Telling.{Step, is_changed, number_of, settled, tell, w
 use Rattle.wrp_port.specs.declared.interface.PortIn.{PortIn}
 use Rattle.wrp_port.specs.declared.interface.PortIn.TheVariants.{Msg}
 use Rattle.wrp_port.specs.Hearing.{early_reason}
-use Rattle.wrp_port.specs.History.{calls_of, line_of}
+use Rattle.wrp_port.specs.History.{calls_of, rest_after}
 use Rattle.wrp_port.specs.Outputs.{measured_by}
 use Rattle.wrp_servo.specs.Call.{Call, CallMeasured, CallLease, CallLink, ServoSetting, run}
 use Rattle.wrp_servo.specs.declared.machine.Measurement.{Measurement}
@@ -57,7 +57,7 @@ settled_new fixed p old s slave h =
 -- A frame
 
 brought_new : (fixed : NodeSetting) (p ticks : ℕ) (told : List PortIn) (calls : List Call) (m : PtpMsg) (stamp : Stamp) (four : Four) (answer : ℤ) →
-    measured_by (setting_of fixed.set p) (line_of (setting_of fixed.set p) told) (calls_of (setting_of fixed.set p) told) (Msg m stamp ticks) ≡ Some four →
+    measured_by (setting_of fixed.set p) (rest_after (setting_of fixed.set p) told) (calls_of (setting_of fixed.set p) told) (Msg m stamp ticks) ≡ Some four →
     IsNew fixed p (run (servo_setting_of fixed) calls).kept ticks (answered fixed (Msg m stamp ticks ∷ told) calls (CallMeasured four answer)) (CallMeasured four answer ∷ calls)
 brought_new fixed p ticks told calls m stamp four answer by k is = elim (measured_before (servo_setting_of fixed) calls four answer k is) [
   | inl old ↦ inl old

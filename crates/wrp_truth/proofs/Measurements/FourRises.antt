@@ -24,10 +24,10 @@ use Rattle.wrp_node.specs.NodeRun.{node_after}
 use Rattle.wrp_node.specs.Telling.{heard_of, number_of, with_news, with_sample}
 use Rattle.wrp_port.specs.declared.interface.PortIn.{PortIn}
 use Rattle.wrp_port.specs.declared.interface.PortIn.TheVariants.{Chain, Msg, Lease, Tick, Sample, Sent, Carrier, Reset}
-use Rattle.wrp_port.specs.declared.line.Line.{Line}
+use Rattle.wrp_port.specs.declared.line.Rest.{Rest}
 use Rattle.wrp_port.specs.declared.setting.Setting.{Setting}
 use Rattle.wrp_port.specs.Hearing.{early_reason, piece_of}
-use Rattle.wrp_port.specs.History.{calls_of, line_of}
+use Rattle.wrp_port.specs.History.{calls_of, rest_after}
 use Rattle.wrp_port.specs.LineAfter.{requests_on, ticked}
 use Rattle.wrp_port.specs.Outputs.{call_of, due_request, is_kept, measured_by, news_call, only_slave, pairs, piece_unless, sample_call, sent_call, with_call}
 use Rattle.wrp_servo.specs.Call.{Call, CallSample, CallMeasured, CallTick, CallLease, CallLink, CallCarrier, CallReset, ServoSetting, run}
@@ -122,11 +122,11 @@ PiecesAfter set ticks told input = (o : Option ExchangeCall) × (calls_of set (i
 
 plain_pieces : (set : Setting) (ticks : ℕ) (told : List PortIn) (input : PortIn) → IsPlain ticks input → PiecesAfter set ticks told input
 plain_pieces set ticks told (Msg message stamp tick) h =
-    let o : Option ExchangeCall = call_of set (line_of set told) (Msg message stamp tick) in
-    (o, refl, subst (λ (t : ℕ). IfSome o (TellsOnly t)) h (unless_tells (early_reason set (line_of set told).link message) tick (piece_of set.ds.role message.head message.body stamp tick) (message_tells set.ds.role message.head message.body stamp tick)))
+    let o : Option ExchangeCall = call_of set (rest_after set told) (Msg message stamp tick) in
+    (o, refl, subst (λ (t : ℕ). IfSome o (TellsOnly t)) h (unless_tells (early_reason set (rest_after set told).link message) tick (piece_of set.ds.role message.head message.body stamp tick) (message_tells set.ds.role message.head message.body stamp tick)))
 plain_pieces set ticks told Lease h = (None, refl, tt)
 plain_pieces set ticks told (Tick locked certain) h =
-    let line : Line = ticked set (line_of set told) locked in
+    let line : Rest = ticked set (rest_after set told) locked in
     (due_request set.ds.role line, refl, due_tells set.ds.role (requests_on line) line.ids.request ticks)
 plain_pieces set ticks told (Sent true seq stamp tick) h = (sent_call set.ds.role seq stamp tick, refl, subst (λ (t : ℕ). IfSome (sent_call set.ds.role seq stamp tick) (TellsOnly t)) h (sent_tells set.ds.role seq stamp tick))
 plain_pieces set ticks told (Sent false seq stamp tick) h = (None, refl, tt)
@@ -175,10 +175,10 @@ four_told true ring calls o four e = e
 four_told false ring calls o four e = absurd (none-some four e)
 
 -- it is of all pieces that its message leaves
-pub four_measured : (set : Setting) (told : List PortIn) (message : PtpMsg) (stamp : Stamp) (tick : ℕ) (four : Four) → measured_by set (line_of set told) (calls_of set told) (Msg message stamp tick) ≡ Some four →
+pub four_measured : (set : Setting) (told : List PortIn) (message : PtpMsg) (stamp : Stamp) (tick : ℕ) (four : Four) → measured_by set (rest_after set told) (calls_of set told) (Msg message stamp tick) ≡ Some four →
     four_of set.ring (calls_of set (Msg message stamp tick ∷ told)) ≡ Some four
 four_measured set told message stamp tick four e =
-    let o : Option ExchangeCall = call_of set (line_of set told) (Msg message stamp tick) in
+    let o : Option ExchangeCall = call_of set (rest_after set told) (Msg message stamp tick) in
     four_told (pairs o && is_kept set.ring (calls_of set told) o) set.ring (calls_of set told) o four e
 
 -- and so not older than the one that stands

@@ -23,7 +23,7 @@ use Rattle.wrp_port.specs.declared.interface.PortIn.{PortIn}
 use Rattle.wrp_port.specs.declared.interface.PortIn.TheVariants.{Chain, Msg, Lease, Sample as PortSample, Sent as PortSent, Carrier as PortCarrier, Reset as PortReset}
 use Rattle.wrp_port.specs.declared.setting.Setting.{Setting}
 use Rattle.wrp_port.specs.Hearing.{early_reason, piece_of}
-use Rattle.wrp_port.specs.History.{calls_of, line_of}
+use Rattle.wrp_port.specs.History.{calls_of, rest_after}
 use Rattle.wrp_port.specs.Outputs.{four_by, measured_by, piece_unless}
 use Rattle.wrp_servo.specs.Call.{Call, CallSample, CallMeasured, CallTick, CallLease, CallLink, CallCarrier, CallReset, run}
 use Rattle.wrp_servo.specs.declared.interface.ServoOut.{ServoOut}
@@ -61,7 +61,7 @@ pub record KeptByEach (fixed : NodeSetting) (p : ℕ) (P : ℕ → List PortIn �
   pub call : (ticks : ℕ) (told : List PortIn) (calls : List Call) (c : Call) → IsFree c → P ticks told calls → P ticks (answered fixed told calls c) (c ∷ calls)
   pub measured :
       (ticks : ℕ) (told : List PortIn) (calls : List Call) (message : PtpMsg) (stamp : Stamp) (four : Four) (answer : ℤ) →
-      measured_by (setting_of fixed.set p) (line_of (setting_of fixed.set p) told) (calls_of (setting_of fixed.set p) told) (Msg message stamp ticks) ≡ Some four →
+      measured_by (setting_of fixed.set p) (rest_after (setting_of fixed.set p) told) (calls_of (setting_of fixed.set p) told) (Msg message stamp ticks) ≡ Some four →
       P ticks told calls → P ticks (answered fixed (Msg message stamp ticks ∷ told) calls (CallMeasured four answer)) (CallMeasured four answer ∷ calls)
   pub reset : (ticks : ℕ) (told : List PortIn) (calls : List Call) → P ticks told calls → P 0 (PortReset ∷ told) (CallReset ∷ calls)
 

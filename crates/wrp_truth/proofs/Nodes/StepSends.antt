@@ -18,7 +18,7 @@ use Rattle.wrp_node.specs.declared.interface.Input.TheVariants.{Tick, Sample, Fr
 use Rattle.wrp_node.specs.NodeAt.{NodeSetting, NodeAt, Taken, certain_of, line_at, link_at, locked_of, setting_of}
 use Rattle.wrp_node.specs.NodeStep.{heard, heard_unless, node_step, servo_ticked, stamp_of, stepped}
 use Rattle.wrp_port.specs.declared.interface.PortIn.TheVariants.{Msg, Tick as PortTick, Sent as PortSent}
-use Rattle.wrp_port.specs.declared.line.Line.{Line}
+use Rattle.wrp_port.specs.declared.line.Rest.{Rest}
 use Rattle.wrp_port.specs.declared.setting.Setting.{Setting}
 use Rattle.wrp_port.specs.Hearing.{early_reason, is_open, link_input}
 use Rattle.wrp_port.specs.LineAfter.{announces_on, requests_on, syncs_on, ticked}
@@ -58,18 +58,18 @@ signals_each P set signals seq (m ∷ ms) = (signals seq m, signals_each P set s
 -- A port
 
 -- what the schedule sends on a line
-abbrev pub ScheduledAll : (PtpMsg → Type 0) → Setting → Role → Line → Bool → Type 0
+abbrev pub ScheduledAll : (PtpMsg → Type 0) → Setting → Role → Rest → Bool → Type 0
 ScheduledAll P set Master line certain =
     (announces_on line ≡ true → P (announce_of set line.link certain line.ids.announce)) × (syncs_on line ≡ true → P (sync_of set line.ids.sync))
 ScheduledAll P set Slave line certain = requests_on line ≡ true → P (request_of set line.ids.request)
 
-scheduled_each : (P : PtpMsg → Type 0) (set : Setting) (role : Role) (line : Line) (certain : Bool) → ScheduledAll P set role line certain → Each P (scheduled_sends set role line certain)
+scheduled_each : (P : PtpMsg → Type 0) (set : Setting) (role : Role) (line : Rest) (certain : Bool) → ScheduledAll P set role line certain → Each P (scheduled_sends set role line certain)
 scheduled_each P set Master line certain h =
     both_each P (where_due (announces_on line) (announce_of set line.link certain line.ids.announce)) (where_due (syncs_on line) (sync_of set line.ids.sync))
     (due_each P (announces_on line) (announce_of set line.link certain line.ids.announce) h.0) (due_each P (syncs_on line) (sync_of set line.ids.sync) h.1)
 scheduled_each P set Slave line certain h = due_each P (requests_on line) (request_of set line.ids.request) h
 
-tick_each : (P : PtpMsg → Type 0) (set : Setting) (line : Line) (locked certain : Bool) → Signals P set → ScheduledAll P set set.ds.role (ticked set line locked) certain → Each P (sends_of set line (PortTick locked certain))
+tick_each : (P : PtpMsg → Type 0) (set : Setting) (line : Rest) (locked certain : Bool) → Signals P set → ScheduledAll P set set.ds.role (ticked set line locked) certain → Each P (sends_of set line (PortTick locked certain))
 tick_each P set line locked certain signals h =
     both_each P (signals_of set line.ids.signal _) (scheduled_sends set set.ds.role (ticked set line locked) certain)
     (signals_each P set signals line.ids.signal _) (scheduled_each P set set.ds.role (ticked set line locked) certain h)
@@ -83,13 +83,13 @@ response_each P set Master head (Announce origin utc p1 quality p2 gm steps sour
 response_each P set Master head (Signal target message) stamp h = tt
 response_each P set Slave head body stamp h = tt
 
-heard_each : (P : PtpMsg → Type 0) (set : Setting) (line : Line) (m : PtpMsg) (stamp : Stamp) (reason : Option Reason) → Signals P set → (IsRequest m.body → P (response_of set m.head stamp)) → Each P (sends_unless reason set line m stamp)
+heard_each : (P : PtpMsg → Type 0) (set : Setting) (line : Rest) (m : PtpMsg) (stamp : Stamp) (reason : Option Reason) → Signals P set → (IsRequest m.body → P (response_of set m.head stamp)) → Each P (sends_unless reason set line m stamp)
 heard_each P set line m stamp None signals h =
     both_each P (signals_of set line.ids.signal (link_sends line.link (link_input set.ds.role m.body))) (response_to set set.ds.role m.head m.body stamp)
     (signals_each P set signals line.ids.signal (link_sends line.link (link_input set.ds.role m.body))) (response_each P set set.ds.role m.head m.body stamp h)
 heard_each P set line m stamp (Some reason) signals h = tt
 
-sent_each : (P : PtpMsg → Type 0) (set : Setting) (line : Line) (delay : Bool) (seq : ℕ) (stamp : Stamp) (tick : ℕ) → (delay ≡ false → P (follow_up_of set seq stamp)) → Each P (sends_of set line (PortSent delay seq stamp tick))
+sent_each : (P : PtpMsg → Type 0) (set : Setting) (line : Rest) (delay : Bool) (seq : ℕ) (stamp : Stamp) (tick : ℕ) → (delay ≡ false → P (follow_up_of set seq stamp)) → Each P (sends_of set line (PortSent delay seq stamp tick))
 sent_each P set line true seq stamp tick h = tt
 sent_each P set line false seq stamp tick h = due_each P (is_newest line.ids.newest_sync seq && is_open line.link) (follow_up_of set seq stamp) (λ e. h refl)
 

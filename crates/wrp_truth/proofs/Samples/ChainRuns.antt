@@ -38,7 +38,7 @@ use Rattle.wrp_tracking.specs.Moment.{Moment, phase_at}
 use Rattle.wrp_tracking.proofs.Histories.{was_one}
 use Rattle.wrp_course.specs.declared.event.Event.{Event}
 use Rattle.wrp_course.specs.declared.event.Event.TheVariants.{Pass, Tick, Sample, Depart, Arrive, Deliver, Noise, Down, Up, Cut, Join}
-use Rattle.wrp_course.specs.Checks.{AllHold, Holds, only_where, stands}
+use Rattle.wrp_course.specs.Checks.{AllHold, Holds, only_where, needs}
 use Rattle.wrp_course.specs.EventAt.{FitsEvent}
 use Rattle.wrp_truth.proofs.Hops.HeldRuns.{one_turn}
 use Rattle.wrp_truth.proofs.Motion.NodeSteps.{Stands}
@@ -214,7 +214,7 @@ same_phase laws s says y before m base bits k link run carried =
 carried_by : (s : Setting) (w : WorldAt) (says : Result PtpMsg FrameFault) (m base bits k : ℕ) → above s m ≡ Some k → Accepts s w says (Sample m base bits) → has_carrier s w k ≡ true
 carried_by s w says m base bits k at a =
     let h : AllHold (sample_checks s w m base bits (Some k)) = subst (λ o. AllHold (sample_checks s w m base bits o)) at a in
-    not-false (has_carrier s w k) (all_right Holds (map (only_where (has_carrier s w k)) (option_map_or (beat_checks s w m base bits k) (link_of s k) [])) (stands (has_carrier s w k) ∷ []) h).0
+    not-false (has_carrier s w k) (all_right Holds (map (only_where (has_carrier s w k)) (option_map_or (beat_checks s w m base bits k) (link_of s k) [])) (needs (has_carrier s w k) ∷ []) h).0
 
 tag_tells : ChainRunLaws → (s : Setting) (says : Result PtpMsg FrameFault) (y : ℤ) (before : List Happened) (m base bits k tag : ℕ) (link : LinkCfg) (hop : HopNumbers) → IsRun s (record { event = Sample m base bits; says = says; answer = y } ∷ before) → bits < 2 ^ 64 →
     link_of s k ≡ Some link → numbers_of s.cfg link.lower ≡ Some hop → link.lower ≡ m → heard_in s before link.lower base bits ≡ Some tag → TagTells hop tag (moment_at k link (world_step s says y (world_after s before) (Sample m base bits)))

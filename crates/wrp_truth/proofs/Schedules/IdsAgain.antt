@@ -17,7 +17,7 @@ use Rattle.wrp_port.specs.declared.interface.PortIn.{PortIn}
 use Rattle.wrp_port.specs.declared.interface.Sched.{Sched}
 use Rattle.wrp_port.specs.declared.setting.Setting.{Setting as PortSetting}
 use Rattle.wrp_port.specs.Hearing.{is_open}
-use Rattle.wrp_port.specs.History.{at_master, at_slave, is_due_in, line_of, link_of as link_told, one_more_where, sent_each, ticks_open}
+use Rattle.wrp_port.specs.History.{at_master, at_slave, is_due_in, rest_after, link_of as link_told, one_more_where, sent_each, ticks_open}
 use Rattle.wrp_port.specs.LineAfter.{ticked}
 use Rattle.wrp_course.specs.declared.event.Event.{Event}
 use Rattle.wrp_course.specs.declared.event.Event.TheVariants.{Tick}
@@ -141,7 +141,7 @@ one_put s w link r =
     let set : PortSetting = setting_of (s.set (end_of r link).node) (end_of r link).port in
     let node : NodeAt = (servo_ticked (node_setting_of s (end_of r link).node) (w.node (end_of r link).node)).node in
     sending (moved s w (Tick (end_of r link).node))
-    (timed_of r set (ticked set (line_of set (node.told (end_of r link).port)) (locked_of (node_setting_of s (end_of r link).node) node)).ids)
+    (timed_of r set (ticked set (rest_after set (node.told (end_of r link).port)) (locked_of (node_setting_of s (end_of r link).node) node)).ids)
 
 is_one : (s : Setting) (w : WorldAt) (link : LinkCfg) (r : Role) (e : Event) (x : Sending) → NewIn s w link r e x → x ≡ one_put s w link r
 is_one s w link r e x new = new.1.1 ∙ ap (sending (moved s w (Tick (end_of r link).node))) new.1.2.2
@@ -169,7 +169,7 @@ record OnTick (s : Setting) (q : PortOf) (r : Role) (w : WorldAt) (x : Sending) 
   due : is_due_in (set_at s q) (every_at s q r) (tick_then s q w ∷ told_then s q w) ≡ true
   seq : x.message.head.seq ≡ sent_each (every_at s q r) (set_at s q) (told_then s q w) % 65536
 
-seq_is : (r : Role) (set : PortSetting) (told : List PortIn) (locked : Bool) → set.ds.role ≡ r → (timed_of r set (ticked set (line_of set told) locked).ids).head.seq ≡ sent_each (every_of r set.sched) set told % 65536
+seq_is : (r : Role) (set : PortSetting) (told : List PortIn) (locked : Bool) → set.ds.role ≡ r → (timed_of r set (ticked set (rest_after set told) locked).ids).head.seq ≡ sent_each (every_of r set.sched) set told % 65536
 seq_is Master set told locked e = ap (λ (x : Role). at_master x (sent_each set.sched.sync set told) % 65536) e
 seq_is Slave set told locked e = ap (λ (x : Role). at_slave x (sent_each set.sched.delay set told) % 65536) e
 

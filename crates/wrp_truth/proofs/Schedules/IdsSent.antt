@@ -13,7 +13,7 @@ use Rattle.wrp_node.specs.declared.interface.Input.TheVariants.{Tick, Sample, Fr
 use Rattle.wrp_node.specs.NodeAt.{NodeSetting, NodeAt, Taken, certain_of, setting_of, line_at, locked_of}
 use Rattle.wrp_node.specs.NodeStep.{servo_ticked, stamp_of, node_step}
 use Rattle.wrp_port.specs.declared.line.Ids.{Ids}
-use Rattle.wrp_port.specs.declared.line.Line.{Line}
+use Rattle.wrp_port.specs.declared.line.Rest.{Rest}
 use Rattle.wrp_port.specs.declared.setting.Setting.{Setting}
 use Rattle.wrp_port.specs.LineAfter.{ticked}
 use Rattle.wrp_port.specs.Messages.{follow_up_of, request_of, signals_of, sync_of, signal_of, response_of}
@@ -45,16 +45,16 @@ signals_where Q r set seq ms = signals_each (λ m. IsTimed r m.body → Q m) set
 -- A tick of a port
 
 -- it is due on a port's line, and has the sequenceId of that line
-abbrev pub Scheduled : Setting → (role r : Role) → Line → PtpMsg → Type 0
+abbrev pub Scheduled : Setting → (role r : Role) → Rest → PtpMsg → Type 0
 Scheduled set role r line m = (role ≡ r) × (is_due_on r line ≡ true) × (m ≡ timed_of r set line.ids)
 
-scheduled_timed : (set : Setting) (role r : Role) (line : Line) (certain : Bool) → ScheduledAll (λ m. IsTimed r m.body → Scheduled set role r line m) set role line certain
+scheduled_timed : (set : Setting) (role r : Role) (line : Rest) (certain : Bool) → ScheduledAll (λ m. IsTimed r m.body → Scheduled set role r line m) set role line certain
 scheduled_timed set Master Master line certain = (λ e t. absurd t, λ e t. (refl, e, refl))
 scheduled_timed set Master Slave line certain = (λ e t. absurd t, λ e t. absurd t)
 scheduled_timed set Slave Master line certain = λ e t. absurd t
 scheduled_timed set Slave Slave line certain = λ e t. (refl, e, refl)
 
-abbrev pub TickSends : Setting → Role → Line → (locked : Bool) → PtpMsg → Type 0
+abbrev pub TickSends : Setting → Role → Rest → (locked : Bool) → PtpMsg → Type 0
 TickSends set r line locked = Scheduled set set.ds.role r (ticked set line locked)
 
 -- An input of a node

@@ -11,11 +11,11 @@ use Rattle.wrp_link.specs.LinkAt.{LinkAt}
 use Rattle.wrp_port.specs.declared.interface.PortIn.{PortIn}
 use Rattle.wrp_port.specs.declared.interface.PortIn.TheVariants.{Msg, Lease, Tick, Sent, Carrier, Sample, Chain, Reset}
 use Rattle.wrp_port.specs.declared.interface.Sched.{Sched}
-use Rattle.wrp_port.specs.declared.line.Line.{Line}
+use Rattle.wrp_port.specs.declared.line.Rest.{Rest}
 use Rattle.wrp_port.specs.declared.line.Turns.{Turns}
 use Rattle.wrp_port.specs.declared.setting.Setting.{Setting}
 use Rattle.wrp_port.specs.Hearing.{is_open}
-use Rattle.wrp_port.specs.History.{is_due_in, line_of, link_by, link_inputs, link_of, one_more_where, sent_each, ticks_open, ticks_told, to_link, with_input}
+use Rattle.wrp_port.specs.History.{is_due_in, rest_after, link_by, link_inputs, link_of, one_more_where, sent_each, ticks_open, ticks_told, to_link, with_input}
 use Rattle.wrp_port.specs.LineAfter.{first_turns, is_due, next_turns, ticked}
 use Rattle.wrp_truth.proofs.Schedules.ScheduleLinks.{IsNoTickThere, was_open}
 use Rattle.wrp_truth.proofs.Schedules.ScheduleTold.{IsAside, KeptIn}
@@ -32,7 +32,7 @@ turn_of Master turns = turns.sync
 turn_of Slave turns = turns.delay
 
 -- one is due on a line
-abbrev pub is_due_on : Role → Line → Bool
+abbrev pub is_due_on : Role → Rest → Bool
 is_due_on r line = is_due line.link (turn_of r line.turns)
 
 abbrev turns_by : Sched → ℕ → Turns
@@ -48,7 +48,7 @@ turn_ticked Slave sched k true false = sym (zero-mod sched.delay)
 turn_ticked Slave sched k false was = sym (zero-mod sched.delay)
 
 -- the turn that a tick finds
-pub due_in : (r : Role) (set : Setting) (told : List PortIn) (locked certain : Bool) → is_due_on r (ticked set (line_of set told) locked) ≡ is_due_in set (every_of r set.sched) (Tick locked certain ∷ told)
+pub due_in : (r : Role) (set : Setting) (told : List PortIn) (locked certain : Bool) → is_due_on r (ticked set (rest_after set told) locked) ≡ is_due_in set (every_of r set.sched) (Tick locked certain ∷ told)
 due_in r set told locked certain =
     let next : LinkAt = link_of set (Tick locked certain ∷ told) in
     ap (is_due next) (turn_ticked r set.sched (ticks_open set told) (is_open next) (is_open (link_of set told)))

@@ -9,7 +9,7 @@ use Rattle.wrp_node.specs.declared.interface.Input.{Input}
 use Rattle.wrp_node.specs.declared.interface.Input.TheVariants.{Tick, Sample, Frame, Sent, Carrier, Reset}
 use Rattle.wrp_node.specs.NodeAt.{NodeSetting, NodeAt, Taken, certain_of, setting_of, line_at, locked_of}
 use Rattle.wrp_node.specs.NodeStep.{servo_ticked, node_step}
-use Rattle.wrp_port.specs.declared.line.Line.{Line}
+use Rattle.wrp_port.specs.declared.line.Rest.{Rest}
 use Rattle.wrp_port.specs.declared.setting.Setting.{Setting}
 use Rattle.wrp_port.specs.LineAfter.{ticked}
 use Rattle.wrp_port.specs.Messages.{announce_flags}
@@ -32,7 +32,7 @@ abbrev pub MayAnnounce : NodeSetting → NodeAt → Input → Type 0
 MayAnnounce fixed n Tick = certain_of fixed (servo_ticked fixed n).node ≡ true
 MayAnnounce fixed n _ = ⊥
 
-scheduled_certain : (C : Type 0) (set : Setting) (role : Role) (line : Line) (certain : Bool) → (certain ≡ true → C) → ScheduledAll (λ m. IsCertainAnnounce m → C) set role line certain
+scheduled_certain : (C : Type 0) (set : Setting) (role : Role) (line : Rest) (certain : Bool) → (certain ≡ true → C) → ScheduledAll (λ m. IsCertainAnnounce m → C) set role line certain
 scheduled_certain C set Master line certain h = (λ e a. h (certain_flags certain a.certain), λ e a. absurd a.announce)
 scheduled_certain C set Slave line certain h = λ e a. absurd a.announce
 

@@ -31,7 +31,7 @@ use Rattle.wrp_port.specs.declared.interface.PortIn.{PortIn}
 use Rattle.wrp_port.specs.declared.interface.PortIn.TheVariants.{Chain, Lease, Msg, Tick as PortTick, Sample as PortSample, Sent as PortSent, Carrier as PortCarrier, Reset as PortReset}
 use Rattle.wrp_port.specs.declared.setting.Setting.{Setting as PortSetting}
 use Rattle.wrp_port.specs.Hearing.{early_reason, piece_of}
-use Rattle.wrp_port.specs.History.{calls_of, line_of}
+use Rattle.wrp_port.specs.History.{calls_of, rest_after}
 use Rattle.wrp_port.specs.LineAfter.{requests_on, ticked}
 use Rattle.wrp_port.specs.Outputs.{call_of, only_slave, piece_unless, sample_call, sent_call, with_call}
 use Rattle.wrp_servo.specs.Call.{Call, CallSample, CallMeasured, CallTick, CallLease, CallLink, CallCarrier, CallReset, ServoSetting, after, run}
@@ -89,13 +89,13 @@ piece_within Master head body stamp tick = tt
 -- then it is as it was
 plain_stays : (set : PortSetting) (input : PortIn) (told : List PortIn) → IsPlain input → first_sample (calls_of set (input ∷ told)) ≡ first_sample (calls_of set told)
 plain_stays set (Msg m stamp tick) told h =
-    first_stays (calls_of set told) (call_of set (line_of set told) (Msg m stamp tick))
-    (unless_within (early_reason set (line_of set told).link m) (piece_of set.ds.role m.head m.body stamp tick) (piece_within set.ds.role m.head m.body stamp tick))
+    first_stays (calls_of set told) (call_of set (rest_after set told) (Msg m stamp tick))
+    (unless_within (early_reason set (rest_after set told).link m) (piece_of set.ds.role m.head m.body stamp tick) (piece_within set.ds.role m.head m.body stamp tick))
 plain_stays set Lease told h = refl
 plain_stays set (PortTick locked certain) told h =
-    first_stays (calls_of set told) (call_of set (line_of set told) (PortTick locked certain))
-    (slave_within set.ds.role (if requests_on (ticked set (line_of set told) locked) then Some (CallReqOut (ticked set (line_of set told) locked).ids.request) else None)
-    (if_within (requests_on (ticked set (line_of set told) locked)) (CallReqOut (ticked set (line_of set told) locked).ids.request) tt))
+    first_stays (calls_of set told) (call_of set (rest_after set told) (PortTick locked certain))
+    (slave_within set.ds.role (if requests_on (ticked set (rest_after set told) locked) then Some (CallReqOut (ticked set (rest_after set told) locked).ids.request) else None)
+    (if_within (requests_on (ticked set (rest_after set told) locked)) (CallReqOut (ticked set (rest_after set told) locked).ids.request) tt))
 plain_stays set (PortSent true seq stamp tick) told h =
     first_stays (calls_of set told) (sent_call set.ds.role seq stamp tick) (slave_within set.ds.role (Some (CallReqSent seq stamp tick)) tt)
 plain_stays set (PortSent false seq stamp tick) told h = refl

@@ -4,7 +4,7 @@ use Rattle.wrp_base.specs.declared.link.LinkState.TheVariants.{LinkOn}
 use Rattle.wrp_base.specs.declared.link.Role.TheVariants.{Master}
 use Rattle.wrp_base.specs.declared.network.LinkCfg.{LinkCfg}
 use Rattle.wrp_bounds.specs.Times.{frame_life, shortest_tick}
-use Rattle.wrp_handshake.specs.Ends.{Ends}
+use Rattle.wrp_handshake.specs.Ends.{BothPorts}
 use Rattle.wrp_handshake.specs.Laws.{SlaveOnWithItsMaster}
 use Rattle.wrp_link.specs.LinkAt.{LinkAt}
 use Rattle.wrp_node.specs.NodeAt.{link_at}
@@ -39,7 +39,7 @@ master_open laws s events k link run is chain =
     let carried : IsCarried s k events = subst (IsCarried s k) (sym f.splits) (at_newest (IsCarried s k) f.newer f.older f.carried) in
     let m : LinkAt = link_at (s.set link.upper) (w.node link.upper) link.upper_port in
     let lit : m.carrier ≡ true = laws.chains.lease.quiet.carriers s events k Master link run is ∙ carried in
-    let ends : Ends = ends_at s w k link in
+    let ends : BothPorts = ends_at s w k link in
     on_open m m.carrier refl lit (laws.together (frame_life s.cfg) (shortest_tick s.cfg) ends (laws.links s events k link run is) below lit)
 
 pub master_open_each : MasterLaws → (s : Setting) (newer older : List Happened) (k : ℕ) (link : LinkCfg) → IsRun s (newer ++ older) → link_of s k ≡ Some link → AtEach (HasChain s link.lower) newer older → AtEach (IsOpenAt s link Master) newer older

@@ -27,7 +27,7 @@ use Rattle.wrp_port.specs.declared.interface.PortIn.{PortIn}
 use Rattle.wrp_port.specs.declared.interface.PortIn.TheVariants.{Msg, Lease, Tick, Sent as PortSent, Carrier as PortCarrier, Sample, Chain, Reset as PortReset}
 use Rattle.wrp_port.specs.declared.setting.Setting.{Setting as PortSetting}
 use Rattle.wrp_port.specs.Hearing.{early_reason, piece_of}
-use Rattle.wrp_port.specs.History.{calls_of, line_of}
+use Rattle.wrp_port.specs.History.{calls_of, rest_after}
 use Rattle.wrp_port.specs.LineAfter.{requests_on, ticked}
 use Rattle.wrp_port.specs.Outputs.{only_slave, piece_unless, with_call}
 use Rattle.wrp_servo.specs.declared.interface.ServoOut.{ServoOut}
@@ -92,9 +92,9 @@ abbrev Holds : ℕ → PortSetting → List PortIn → Type 0
 Holds n set told = AtMost n (calls_of set told)
 
 told_more : (n : ℕ) (set : PortSetting) (x : PortIn) (told : List PortIn) → IsSmall n x → Holds n set told → Holds n set (x ∷ told)
-told_more n set (Msg m stamp tick) told p h = one_more n _ (calls_of set told) (piece_plain n (early_reason set (line_of set told).link m) set.ds.role m.head m.body stamp tick) h
+told_more n set (Msg m stamp tick) told p h = one_more n _ (calls_of set told) (piece_plain n (early_reason set (rest_after set told).link m) set.ds.role m.head m.body stamp tick) h
 told_more n set Lease told p h = h
-told_more n set (Tick locked certain) told p h = one_more n _ (calls_of set told) (slave_plain n set.ds.role _ (if_plain n (requests_on (ticked set (line_of set told) locked)) (Some (CallReqOut _)) tt)) h
+told_more n set (Tick locked certain) told p h = one_more n _ (calls_of set told) (slave_plain n set.ds.role _ (if_plain n (requests_on (ticked set (rest_after set told) locked)) (Some (CallReqOut _)) tt)) h
 told_more n set (PortSent true seq stamp tick) told p h = one_more n _ (calls_of set told) (slave_plain n set.ds.role (Some (CallReqSent seq stamp tick)) tt) h
 told_more n set (PortSent false seq stamp tick) told p h = h
 told_more n set (PortCarrier up own_module) told p h = h

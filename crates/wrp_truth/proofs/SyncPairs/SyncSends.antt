@@ -13,7 +13,7 @@ use Rattle.wrp_node.specs.declared.interface.Input.{Input}
 use Rattle.wrp_node.specs.declared.interface.Input.TheVariants.{Tick as TickInput, Sample as SampleInput, Frame, Sent, Carrier, Reset}
 use Rattle.wrp_node.specs.NodeAt.{NodeSetting, NodeAt, Taken, certain_of, line_at, locked_of, setting_of}
 use Rattle.wrp_node.specs.NodeStep.{node_step, servo_ticked}
-use Rattle.wrp_port.specs.declared.line.Line.{Line}
+use Rattle.wrp_port.specs.declared.line.Rest.{Rest}
 use Rattle.wrp_port.specs.declared.setting.Setting.{Setting as PortSetting}
 use Rattle.wrp_port.specs.LineAfter.{ticked}
 use Rattle.wrp_port.specs.Messages.{follow_up_of}
@@ -51,7 +51,7 @@ abbrev pub FollowsFrom : NodeSetting → ℕ → Input → PtpMsg → Type 0
 FollowsFrom fixed p (Sent q seq false stamp) m = (p ≡ q) × (m ≡ follow_up_of (setting_of fixed.set p) seq stamp)
 FollowsFrom fixed p _ m = ⊥
 
-scheduled_follow : (Q : PtpMsg → Type 0) (set : PortSetting) (role : Role) (line : Line) (certain : Bool) → ScheduledAll (λ m. IsFollowUp m.body → Q m) set role line certain
+scheduled_follow : (Q : PtpMsg → Type 0) (set : PortSetting) (role : Role) (line : Rest) (certain : Bool) → ScheduledAll (λ m. IsFollowUp m.body → Q m) set role line certain
 scheduled_follow Q set Master line certain = (λ e f. absurd f, λ e f. absurd f)
 scheduled_follow Q set Slave line certain = λ e f. absurd f
 

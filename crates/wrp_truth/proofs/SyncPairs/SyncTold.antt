@@ -21,10 +21,10 @@ use Rattle.wrp_node.specs.NodeStep.{carried, counted_tick, handed, heard, heard_
 use Rattle.wrp_node.specs.Telling.{Step, answer_of, called, for_slave, heard_of, lease_change, link_change, no_answer, number_of, settled, step_from, tell, told_at, told_by, with_lease, with_news, with_sample}
 use Rattle.wrp_port.specs.declared.interface.PortIn.{PortIn}
 use Rattle.wrp_port.specs.declared.interface.PortIn.TheVariants.{Lease, Msg, Sample as PortSample, Sent as PortSent, Carrier as PortCarrier}
-use Rattle.wrp_port.specs.declared.line.Line.{Line}
+use Rattle.wrp_port.specs.declared.line.Rest.{Rest}
 use Rattle.wrp_port.specs.declared.setting.Setting.{Setting}
 use Rattle.wrp_port.specs.Hearing.{early_reason}
-use Rattle.wrp_port.specs.History.{calls_of, line_of}
+use Rattle.wrp_port.specs.History.{calls_of, rest_after}
 use Rattle.wrp_port.specs.LineAfter.{requests_on, ticked}
 use Rattle.wrp_port.specs.Outputs.{call_of, due_request, only_slave, sample_call, sent_call, with_call}
 use Rattle.wrp_servo.specs.Call.{Call, CallSample, CallMeasured, CallTick, CallLease, CallLink, CallCarrier, CallReset, ServoSetting, after, run}
@@ -174,9 +174,9 @@ tick_adds law fixed n p slave now =
     unmoved law fixed (lease_change fixed first.node) first p slave (if_none (is_some (slave_of fixed.set)) _ (change_none _ (CallLease _) tt)) ticked_servo.stood in
     let told : mid.node.told p ≡ Lease ∷ n.told p = ticked_servo.told ∙ leased.told ∙ lease_there (slave_of fixed.set) p n.told slave in
     let set : Setting = setting_of fixed.set p in
-    let o : Option Piece = due_request set.ds.role (ticked set (line_of set (mid.node.told p)) _) in (
+    let o : Option Piece = due_request set.ds.role (ticked set (rest_after set (mid.node.told p)) _) in (
       o,
-      request_other (requests_on (ticked set (line_of set (mid.node.told p)) _)) set.ds.role _,
+      request_other (requests_on (ticked set (rest_after set (mid.node.told p)) _)) set.ds.role _,
       after_all fixed n s (settled fixed s) p o last
           (record { stood = leased.stood; adds = ap (λ l. with_call o (calls_of set l)) told }),
     )
@@ -219,7 +219,7 @@ abbrev pub frame_piece : NodeSetting → NodeAt → ℕ → Result PtpMsg FrameF
 frame_piece fixed n p (Err fault) raw sample = None
 frame_piece fixed n p (Ok m) raw sample = call_of (setting_of fixed.set p) (line_at fixed.set n p) (message_of fixed n p m raw sample)
 
-dropped_piece : (set : Setting) (line : Line) (m : PtpMsg) (stamp : Stamp) (tick : ℕ) (reason : Reason) → early_reason set line.link m ≡ Some reason → call_of set line (Msg m stamp tick) ≡ None
+dropped_piece : (set : Setting) (line : Rest) (m : PtpMsg) (stamp : Stamp) (tick : ℕ) (reason : Reason) → early_reason set line.link m ≡ Some reason → call_of set line (Msg m stamp tick) ≡ None
 dropped_piece set line m stamp tick reason e = rw e refl
 
 measured_none : (o : Option _) (answer : ℤ) → NoSampleIn (measurement_by o answer)

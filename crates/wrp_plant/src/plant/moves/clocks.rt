@@ -1,7 +1,7 @@
 //! Clocks that move away from true time.
 ghost use Rattle.std.specs.Prelude.{◌≡◌, ◌<◌, ◌≤◌, ◌+◌, ◌+ℤ◌, ◌^◌, length, unsigned_abs};
 ghost use Rattle.wrp_course.specs.Moved.{drift_of};
-ghost use Rattle.wrp_plant.specs.Moves.{At, ComesUp, Drifts, GoesDown, Samples, Turns};
+ghost use Rattle.wrp_plant.specs.Moves.{At, ComesUp, Drifts, GoesDown, Samples, EachBecame};
 ghost use Rattle.wrp_plant.specs.Plant.{Each};
 ghost use Rattle.wrp_plant.specs.Sizes.{IsOff};
 
@@ -38,7 +38,7 @@ fn drift_one(clock: &mut ClockState, drifts: &[i64], n: usize)
 /// Each clock moves by its own of the drifts.
 pub fn drift(clocks: &mut Vec<ClockState>, drifts: &[i64])
     requires { Each (λ n clock. IsOff clock.off) clocks.old.items }
-    ensures { Turns (Drifts drifts.now) clocks.old.items clocks.new.items }
+    ensures { EachBecame (Drifts drifts.now) clocks.old.items clocks.new.items }
 {
     for n in 0..clocks.len() {
         drift_one(&mut clocks[n], drifts, n);
@@ -49,7 +49,7 @@ pub fn drift(clocks: &mut Vec<ClockState>, drifts: &[i64])
 pub fn sampled(clocks: &mut Vec<ClockState>, n: u8)
     requires node { n < length clocks.old.items }
     requires few { Each (λ k clock. clock.samples + 1 < 2 ^ 32) clocks.old.items }
-    ensures { Turns (At n Samples) clocks.old.items clocks.new.items }
+    ensures { EachBecame (At n Samples) clocks.old.items clocks.new.items }
 {
     clocks[usize::from(n)].samples += 1;
 }
@@ -57,7 +57,7 @@ pub fn sampled(clocks: &mut Vec<ClockState>, n: u8)
 /// A node's clock is down.
 pub fn go_down(clocks: &mut Vec<ClockState>, n: u8)
     requires { n < length clocks.old.items }
-    ensures { Turns (At n GoesDown) clocks.old.items clocks.new.items }
+    ensures { EachBecame (At n GoesDown) clocks.old.items clocks.new.items }
 {
     clocks[usize::from(n)].up = false;
 }
@@ -65,7 +65,7 @@ pub fn go_down(clocks: &mut Vec<ClockState>, n: u8)
 /// A node's clock comes up with this offset.
 pub fn come_up(clocks: &mut Vec<ClockState>, n: u8, off: Tau, now: Tau)
     requires { n < length clocks.old.items }
-    ensures { Turns (At n (ComesUp off now)) clocks.old.items clocks.new.items }
+    ensures { EachBecame (At n (ComesUp off now)) clocks.old.items clocks.new.items }
 {
     clocks[usize::from(n)] = ClockState {
         up: true,

@@ -5,7 +5,7 @@ ghost use Rattle.wrp_flights.specs.Departed.{is_on};
 ghost use Rattle.wrp_flights.specs.Frames.{Departs};
 ghost use Rattle.wrp_plant.specs.Flights.{LosesOldest, TakesOldest, delay_in, departed_of, leaving};
 ghost use Rattle.wrp_course.specs.Moved.{moved};
-ghost use Rattle.wrp_plant.specs.Moves.{At, Changed, Same, Turns};
+ghost use Rattle.wrp_plant.specs.Moves.{At, Changed, Same, EachBecame};
 ghost use Rattle.wrp_plant.specs.Plant.{FitsDeparted, FitsPlant, MaybeIs, DepartedIs, PlantIs};
 ghost use Rattle.wrp_plant.specs.Room.{HasRoom};
 ghost use Rattle.wrp_course.specs.Setting.{Setting, place_of as place_in};
@@ -41,7 +41,7 @@ fn take_oldest(span: &mut Span, role: Role)
 
 fn take_at(spans: &mut Vec<Span>, place: Place)
     requires { place.link < length spans.old.items }
-    ensures { Turns (At place.link (TakesOldest place.role)) spans.old.items spans.new.items }
+    ensures { EachBecame (At place.link (TakesOldest place.role)) spans.old.items spans.new.items }
 {
     take_oldest(&mut spans[usize::from(place.link)], place.role);
 }
@@ -85,7 +85,7 @@ fn depart(plant: &mut Plant, place: Place, frame: Option<Departed>) -> Result<()
     requires few { plant.old.events + 1 < 2 ^ 32 }
     requires count { length plant.old.frames.sent ≤ plant.old.events }
     requires on { IfSome frame (λ d. is_on d ≡ true) }
-    ensures ok { OnOk result (Changed Same (Turns (At place.link (TakesOldest place.role))) (Departs frame)
+    ensures ok { OnOk result (Changed Same (EachBecame (At place.link (TakesOldest place.role))) (Departs frame)
         plant.old.time plant.old plant.new) }
     ensures err { OnErr result (plant.new ≡ plant.old) }
 {

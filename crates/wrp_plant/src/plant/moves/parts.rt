@@ -1,6 +1,6 @@
 //! What an event changes of each part of a plant.
 ghost use Rattle.std.specs.Prelude.{◌≡◌, ◌<◌, ◌≤◌, ◌+◌, ◌+ℤ◌, ◌≤ℤ◌, ◌^◌, pos, length};
-ghost use Rattle.wrp_plant.specs.Moves.{At, Changed, ComesUp, Cuts, Drifts, DropsAt, GoesDown, Joins, Moves, Same, SameFrames, Samples, SwapsAt, Turns};
+ghost use Rattle.wrp_plant.specs.Moves.{At, Changed, ComesUp, Cuts, Drifts, DropsAt, GoesDown, Joins, Moves, Same, SameFrames, Samples, SwapsAt, EachBecame};
 ghost use Rattle.wrp_flights.specs.Frames.{Passes, Turned};
 ghost use Rattle.wrp_flights.specs.Losing.{loses_link, loses_node};
 ghost use Rattle.wrp_plant.specs.Plant.{FitsPlant};
@@ -48,7 +48,7 @@ pub fn pass(
     requires fits { FitsPlant plant.old }
     requires few { plant.old.events + 1 < 2 ^ 32 }
     requires later { pos 0 ≤ℤ dt }
-    ensures { Changed (Turns (Drifts drifts.now.items)) (Turns (Moves moves.now.items))
+    ensures { Changed (EachBecame (Drifts drifts.now.items)) (EachBecame (Moves moves.now.items))
         (Passes (plant.old.frames.horizon +ℤ dt)) (plant.old.time +ℤ dt) plant.old plant.new }
 {
     clocks::drift(&mut plant.clocks, drifts.as_slice());
@@ -62,7 +62,7 @@ pub fn sample(plant: &mut Plant, n: u8)
     requires fits { FitsPlant plant.old }
     requires node { n < length plant.old.clocks.items }
     requires few { plant.old.events + 1 < 2 ^ 32 }
-    ensures { Changed (Turns (At n Samples)) Same SameFrames plant.old.time plant.old plant.new }
+    ensures { Changed (EachBecame (At n Samples)) Same SameFrames plant.old.time plant.old plant.new }
 {
     clocks::sampled(&mut plant.clocks, n);
     count(plant);
@@ -72,7 +72,7 @@ pub fn sample(plant: &mut Plant, n: u8)
 pub fn join(plant: &mut Plant, k: u8, ms: Tau, sm: Tau)
     requires link { k < length plant.old.spans.items }
     requires few { plant.old.events + 1 < 2 ^ 32 }
-    ensures { Changed Same (Turns (At k (Joins ms sm))) SameFrames plant.old.time plant.old plant.new }
+    ensures { Changed Same (EachBecame (At k (Joins ms sm))) SameFrames plant.old.time plant.old plant.new }
 {
     spans::join(&mut plant.spans, k, ms, sm);
     count(plant);
@@ -82,7 +82,7 @@ pub fn join(plant: &mut Plant, k: u8, ms: Tau, sm: Tau)
 pub fn cut(plant: &mut Plant, k: u8)
     requires link { k < length plant.old.spans.items }
     requires few { plant.old.events + 1 < 2 ^ 32 }
-    ensures { Changed Same (Turns (At k Cuts)) (Turned (loses_link k)) plant.old.time plant.old plant.new }
+    ensures { Changed Same (EachBecame (At k Cuts)) (Turned (loses_link k)) plant.old.time plant.old plant.new }
 {
     spans::cut(&mut plant.spans, k);
     plant.frames.lose_link(k);
@@ -93,7 +93,7 @@ pub fn cut(plant: &mut Plant, k: u8)
 pub fn go_down(plant: &mut Plant, n: u8)
     requires node { n < length plant.old.clocks.items }
     requires few { plant.old.events + 1 < 2 ^ 32 }
-    ensures { Changed (Turns (At n GoesDown)) (Turns (DropsAt n plant.old.net.cfg.links.items)) (Turned (loses_node n plant.old.net.cfg.links.items)) plant.old.time plant.old plant.new }
+    ensures { Changed (EachBecame (At n GoesDown)) (EachBecame (DropsAt n plant.old.net.cfg.links.items)) (Turned (loses_node n plant.old.net.cfg.links.items)) plant.old.time plant.old plant.new }
 {
     clocks::go_down(&mut plant.clocks, n);
     spans::drop_at(&mut plant.spans, &plant.net.cfg, n);
@@ -106,8 +106,8 @@ pub fn come_up(plant: &mut Plant, n: u8, off: Tau, swaps: &ArrayVec<Swap, 18>)
     requires node { n < length plant.old.clocks.items }
     requires time { IsTime plant.old.time }
     requires few { plant.old.events + 1 < 2 ^ 32 }
-    ensures { Changed (Turns (At n (ComesUp off plant.old.time)))
-        (Turns (SwapsAt n swaps.now.items plant.old.net.cfg.links.items)) SameFrames plant.old.time plant.old plant.new }
+    ensures { Changed (EachBecame (At n (ComesUp off plant.old.time)))
+        (EachBecame (SwapsAt n swaps.now.items plant.old.net.cfg.links.items)) SameFrames plant.old.time plant.old plant.new }
 {
     clocks::come_up(&mut plant.clocks, n, off, plant.time);
     swaps::put_modules(&mut plant.spans, &plant.net.cfg, n, swaps.as_slice());

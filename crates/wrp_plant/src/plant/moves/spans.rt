@@ -1,7 +1,7 @@
 //! Fibres that move, are joined and are cut, and frames that are lost as they wait.
 ghost use Rattle.std.specs.Prelude.{◌≡◌, ◌<◌, ◌≤◌, ◌+ℤ◌, ◌^◌, length, slice_get, Some, unsigned_abs};
 ghost use Rattle.wrp_course.specs.Moved.{move_of};
-ghost use Rattle.wrp_plant.specs.Moves.{At, Cuts, Drops, DropsAt, Empties, Joins, Moves, Turns, Where, touches_in};
+ghost use Rattle.wrp_plant.specs.Moves.{At, Cuts, Drops, DropsAt, Empties, Joins, Moves, EachBecame, Where, touches_in};
 ghost use Rattle.wrp_plant.specs.Plant.{Each};
 ghost use Rattle.wrp_plant.specs.Sizes.{IsDelay};
 ghost use Rattle.wrp_plant.specs.Tried.{moved_fibre};
@@ -68,7 +68,7 @@ fn move_one(span: &mut Span, moves: &[(i64, i64)], k: usize)
 /// The delays of each link move by its own of the moves.
 pub fn move_fibres(spans: &mut Vec<Span>, moves: &[(i64, i64)])
     requires { Each (λ k span. IsDelay span.fibre.ms × IsDelay span.fibre.sm) spans.old.items }
-    ensures { Turns (Moves moves.now) spans.old.items spans.new.items }
+    ensures { EachBecame (Moves moves.now) spans.old.items spans.new.items }
 {
     for k in 0..spans.len() {
         move_one(&mut spans[k], moves, k);
@@ -78,7 +78,7 @@ pub fn move_fibres(spans: &mut Vec<Span>, moves: &[(i64, i64)])
 /// A link is joined.
 pub fn join(spans: &mut Vec<Span>, k: u8, ms: Tau, sm: Tau)
     requires { k < length spans.old.items }
-    ensures { Turns (At k (Joins ms sm)) spans.old.items spans.new.items }
+    ensures { EachBecame (At k (Joins ms sm)) spans.old.items spans.new.items }
 {
     spans[usize::from(k)].fibre = FibreState {
         joined: true,
@@ -113,7 +113,7 @@ fn cut_span(span: &mut Span)
 /// A link is cut, and what waits at its ends is lost.
 pub fn cut(spans: &mut Vec<Span>, k: u8)
     requires { k < length spans.old.items }
-    ensures { Turns (At k Cuts) spans.old.items spans.new.items }
+    ensures { EachBecame (At k Cuts) spans.old.items spans.new.items }
 {
     cut_span(&mut spans[usize::from(k)]);
 }
@@ -146,7 +146,7 @@ fn drop_where(span: &mut Span, lost: bool)
 
 /// What waits at the ends of a node's links is lost.
 pub fn drop_at(spans: &mut Vec<Span>, cfg: &NetCfg, n: u8)
-    ensures { Turns (DropsAt n cfg.now.links.items) spans.old.items spans.new.items }
+    ensures { EachBecame (DropsAt n cfg.now.links.items) spans.old.items spans.new.items }
 {
     for k in 0..spans.len() {
         drop_where(&mut spans[k], touches(cfg, k, n));

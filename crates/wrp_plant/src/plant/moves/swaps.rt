@@ -2,7 +2,7 @@
 ghost use Rattle.std.specs.Prelude.{◌≡◌, option_map, true};
 ghost use Rattle.wrp_plant.specs.Giving.{name_with as name_by};
 ghost use Rattle.wrp_course.specs.Moved.{swap_at};
-ghost use Rattle.wrp_plant.specs.Moves.{Put, Swapped, SwapsAt, SwapsIn, SwapsSpan, Turns, Where};
+ghost use Rattle.wrp_plant.specs.Moves.{Put, Swapped, SwapsAt, SwapsIn, SwapsSpan, EachBecame, Where};
 
 use crate::ends::{EndState, Span};
 use wrp_base::{LinkCfg, Name, NetCfg};
@@ -77,7 +77,7 @@ fn put_at_number(span: &mut Span, cfg: &NetCfg, k: usize, n: u8, swaps: &[Swap])
 
 /// The modules for the ports of a node are put in place.
 pub fn put_modules(spans: &mut Vec<Span>, cfg: &NetCfg, n: u8, swaps: &[Swap])
-    ensures { Turns (SwapsAt n swaps.now cfg.now.links.items) spans.old.items spans.new.items }
+    ensures { EachBecame (SwapsAt n swaps.now cfg.now.links.items) spans.old.items spans.new.items }
 {
     for k in 0..spans.len() {
         put_at_number(&mut spans[k], cfg, k, n, swaps);

@@ -1,7 +1,7 @@
 //! A clock that is stepped, and that ticks.
 ghost use Rattle.std.specs.Prelude.{◌≡◌, ◌<◌, ◌≤◌, ◌+ℤ◌, ◌*ℤ◌, ◌^◌, pos, length, unsigned_abs, if◌then◌else◌};
 ghost use Rattle.wrp_base.specs.Clock.{period_of};
-ghost use Rattle.wrp_plant.specs.Moves.{At, Turns};
+ghost use Rattle.wrp_plant.specs.Moves.{At, EachBecame};
 ghost use Rattle.wrp_plant.specs.Plant.{Each};
 ghost use Rattle.wrp_plant.specs.PlantTold.{Steps};
 ghost use Rattle.wrp_plant.specs.Sizes.{IsOff};
@@ -47,7 +47,7 @@ fn told_one(clock: &mut ClockState, cycles: i64, kind: Clock, ticked: bool, now:
 pub fn step(clocks: &mut Vec<ClockState>, n: u8, cycles: i64, kind: Clock, ticked: bool, now: Tau)
     requires node { n < length clocks.old.items }
     requires off { Each (λ n clock. IsOff clock.off) clocks.old.items }
-    ensures { Turns (At n (Steps cycles now (period_of kind) ticked)) clocks.old.items clocks.new.items }
+    ensures { EachBecame (At n (Steps cycles now (period_of kind) ticked)) clocks.old.items clocks.new.items }
 {
     told_one(&mut clocks[usize::from(n)], cycles, kind, ticked, now);
 }

@@ -1,7 +1,7 @@
 //! The ends of links at which a node's frames wait and its link states are marked.
 ghost use Rattle.std.specs.Prelude.{◌≡◌, ◌<◌, ◌≤◌, ◌+◌, ◌++◌, ◌∷◌, [], ℕ, length, map, slice_get, Some, vec_len, vec_capacity};
 ghost use Rattle.wrp_node.specs.Sends.{frames_at};
-ghost use Rattle.wrp_plant.specs.Moves.{Turns, Where};
+ghost use Rattle.wrp_plant.specs.Moves.{EachBecame, Where};
 ghost use Rattle.wrp_plant.specs.Plant.{Each};
 ghost use Rattle.wrp_plant.specs.PlantTold.{SendsFew, TellsAt, TellsPort, TellsSpan, mark_of, put_at};
 ghost use Rattle.wrp_plant.specs.Room.{HasEndRoom, HasSpanRoom};
@@ -147,7 +147,7 @@ fn tell_number(span: &mut Span, cfg: &NetCfg, k: usize, now: Tau, news: &News, o
 pub fn tell(spans: &mut Vec<Span>, cfg: &NetCfg, now: Tau, news: &News, outs: &[Output])
     requires few { SendsFew outs.now }
     requires room { Each (λ k. HasSpanRoom 1) spans.old.items }
-    ensures told { Turns (TellsAt now news.now outs.now cfg.now.links.items) spans.old.items spans.new.items }
+    ensures told { EachBecame (TellsAt now news.now outs.now cfg.now.links.items) spans.old.items spans.new.items }
     ensures room { (k : ℕ) → Each (λ i. HasSpanRoom (k + 1)) spans.old.items
         → Each (λ i. HasSpanRoom k) spans.new.items }
 {

@@ -123,7 +123,7 @@ impl Plant {
         requires fits { FitsPlant self.now }
         requires node { n < length self.now.net.cfg.nodes.items }
         ensures { (s : Setting) (w : WorldAt) → PlantIs s w self.now
-            → result ≡ told_of (spec.stands (not (w.clock n).up) ∷ []) }
+            → result ≡ told_of (spec.needs (not (w.clock n).up) ∷ []) }
     {
         let up = self.is_up(n);
         stands(!up)

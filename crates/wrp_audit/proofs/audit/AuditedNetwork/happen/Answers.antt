@@ -7,7 +7,7 @@ use Rattle.wrp_base.specs.Network.{IsTree, node_count}
 use Rattle.wrp_config.specs.declared.network.Network.{Network}
 use Rattle.wrp_course.specs.declared.event.Event.{Event}
 use Rattle.wrp_course.specs.declared.node_out.NodeOut.{NodeOut}
-use Rattle.wrp_trace.specs.Events.{plain}
+use Rattle.wrp_trace.specs.Events.{bare}
 use Rattle.wrp_trace.specs.Places.{event_in}
 use Rattle.wrp_course.specs.EventAt.{IsEventOf}
 use Rattle.wrp_world.specs.Step.{IsRefusal}
@@ -67,7 +67,7 @@ returns-in_ok-write-in-Ok-clause-happens g c = λ w stood.
 
 pub returns-in_ok-append_broken-in-Err-Broken-clause-happens : goal.returns-in_ok-append_broken-in-Err-Broken-clause-happens
 returns-in_ok-append_broken-in-Err-Broken-clause-happens g c = λ w stood.
-    subst (λ (e : Event). Broke (setting_in c.args.self.now.world.plant.net) w (plain e) c.args.number c.append_broken.new.text.items) c.event.ensures
+    subst (λ (e : Event). Broke (setting_in c.args.self.now.world.plant.net) w (bare e) c.args.number c.append_broken.new.text.items) c.event.ensures
     (broke_of _ (setting_in c.args.self.now.world.plant.net) w c.event.result.now c.args.self.now.world _ _ _ c.args.number c.append_broken.new.text.items stood
     (subst (IsRefusal _ c.event.result.now c.args.self.now.world) c.in-Err-Broken.field-0-is c.in-Err-Broken.ensures.refusal)
     (let line = behind_none c.in_ok-append_broken-in-Err-Broken.ensures c.requires.none in search (line, to_z-of_z, rules)))

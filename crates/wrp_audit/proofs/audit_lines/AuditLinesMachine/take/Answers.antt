@@ -2,7 +2,7 @@
 use Rattle.std.proofs.Common.{subst, sym}
 use Rattle.std.proofs.lemmas.Result.{IfOk-weaker}
 use Rattle.wrp_config.specs.declared.network.Network.{Network}
-use Rattle.wrp_trace.specs.Events.{plain}
+use Rattle.wrp_trace.specs.Events.{bare}
 use Rattle.wrp_trace.specs.Places.{IsPlaceOf, event_in}
 use Rattle.wrp_audit.proofs.AuditSteps.{accepted_so, refused_so, trace_so}
 use Rattle.wrp_audit.proofs.audit_lines.AuditLinesMachine.take.Goals as goal
@@ -21,7 +21,7 @@ returns-in-Ok-clause-accepted g c = λ lines before.
     IfOk-weaker c.happen.result _ _
     (λ answer happens is has accepted.
     accepted_so c.one_audit.ensures c.args.self.now.network c.happen.new.self lines c.args.line.now before c.happen.new.text.items
-    (plain (event_in c.read_parts.new.place)) c.args.number answer
+    (bare (event_in c.read_parts.new.place)) c.args.number answer
     (sym c.in-Ok.ensures.value) c.happen.ensures.net c.happen.ensures.ready happens is has accepted)
     c.happen.ensures.happens
 
@@ -29,7 +29,7 @@ pub returns-in-Ok-clause-refused : goal.returns-in-Ok-clause-refused
 returns-in-Ok-clause-refused g c = λ lines refusal.
     IfOk-weaker c.happen.result _ _
     (λ answer happens is has counts.
-    refused_so c.args.self.now.network c.happen.new.self.world lines c.args.line.now c.happen.new.text.items (plain (event_in c.read_parts.new.place))
+    refused_so c.args.self.now.network c.happen.new.self.world lines c.args.line.now c.happen.new.text.items (bare (event_in c.read_parts.new.place))
     c.args.number answer refusal
     (sym c.in-Ok.ensures.value) counts happens is has)
     c.happen.ensures.happens

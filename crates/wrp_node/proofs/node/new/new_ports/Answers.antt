@@ -3,7 +3,7 @@ use Rattle.std.proofs.Common.{◌≡◌, ◌∙◌, ap, sym, subst, ℕ, ◌+◌
 use Rattle.std.proofs.lemmas.List.{length-append}
 use Rattle.std.specs.List.{AllZip}
 use Rattle.wrp_data.specs.declared.datasets.PortDs.{PortDs}
-use Rattle.wrp_node.specs.declared.place.Place.{Place}
+use Rattle.wrp_node.specs.declared.place.PortPlace.{PortPlace}
 use Rattle.wrp_node.specs.New.{IsNewPlace}
 use Rattle.wrp_node.specs.NodeAt.{in_order, no_port}
 use Rattle.wrp_node.proofs.Lists.{zip_more, zip_all_of}
@@ -16,7 +16,7 @@ loop-ds-preserved c =
     let ordered : List PortDs = in_order c.args.cfg.now.ports.items in
     let is : c.as_slice-ds-items.result.now ≡ ordered = c.as_slice-ds-items.ensures.value ∙ c.in_order-ordered.ensures in
     let below : i < length ordered = omega (arith, ap length is) in (
-      subst (λ (ys : List Place). AllZip (IsNewPlace c.args.cfg.now) (take (i + 1) ordered) ys) (sym c.in_ok-push.ensures.items)
+      subst (λ (ys : List PortPlace). AllZip (IsNewPlace c.args.cfg.now) (take (i + 1) ordered) ys) (sym c.in_ok-push.ensures.items)
           (zip_more (IsNewPlace c.args.cfg.now) ordered c.loop-ds.places.items i no_port c.in_ok-new_place.field-0 below
           (subst (λ (xs : List PortDs). IsNewPlace c.args.cfg.now (slice_index_or xs i no_port) c.in_ok-new_place.field-0) is c.in_ok-new_place.ensures)
           c.loop-ds.invariant.0),

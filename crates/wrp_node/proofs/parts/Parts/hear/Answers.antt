@@ -5,7 +5,7 @@ use Rattle.wrp_base.specs.declared.measurement.Four.{Four}
 use Rattle.wrp_base.specs.declared.time.Clock.{Clock}
 use Rattle.wrp_base.specs.declared.time.Stamp.{Stamp}
 use Rattle.wrp_exch.specs.Exchange.{HasTimes}
-use Rattle.wrp_node.specs.declared.place.Place.{Place}
+use Rattle.wrp_node.specs.declared.place.PortPlace.{PortPlace}
 use Rattle.wrp_node.specs.declared.ports.To.TheVariants.{One}
 use Rattle.wrp_node.specs.Inputs.{stamp_in}
 use Rattle.wrp_node.specs.NodeStep.{message_of, stamp_of}
@@ -30,8 +30,8 @@ returns-clause-hears c fixed n h a =
     ap₂ (λ (t : Stamp) (k : ℕ). Msg c.args.message t k) stamp_is h.ticks in
     let there : Found (PlaceIn fixed n (step_from n)) c.args.port c.args.self.now.ports = found (PlaceIn fixed n (step_from n)) c.args.port c.args.self.now.ports h.places a in
     let in_range : IsStamp stamp =
-    subst (λ (o : Option Place). IsStamp (stamp_in c.args.self.now.clock raw c.args.sample o)) (sym there.is)
-    (subst (λ (o : Option Place). IfSome o (λ place. IsStamp (stamp_in c.args.self.now.clock raw c.args.sample (Some place)))) there.is c.hear.ensures.fits) in
+    subst (λ (o : Option PortPlace). IsStamp (stamp_in c.args.self.now.clock raw c.args.sample o)) (sym there.is)
+    (subst (λ (o : Option PortPlace). IfSome o (λ place. IsStamp (stamp_in c.args.self.now.clock raw c.args.sample (Some place)))) there.is c.hear.ensures.fits) in
     subst (λ (f : Option Four). HearsAt fixed n c.args.port c.args.message raw c.args.sample (record c.args.self.now { ports = c.hear.new.self }) f) (sym c.hear.ensures.measured)
     (hears_at fixed n c.args.port c.args.message raw c.args.sample c.args.self.now c.hear.new.self (subst IsFit is (c.requires.sound, in_range))
     (subst (λ (x : PortIn). AllZip (GivesTo (One c.args.port) x) c.args.self.now.ports c.hear.new.self) is c.hear.ensures.given) h a)

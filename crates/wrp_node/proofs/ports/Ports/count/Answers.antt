@@ -1,6 +1,6 @@
 -- The port of the number counts, and no other.
 use Rattle.std.proofs.Common.{ap}
-use Rattle.wrp_node.specs.declared.place.Place.{Place}
+use Rattle.wrp_node.specs.declared.place.PortPlace.{PortPlace}
 use Rattle.wrp_node.specs.Index.{numbers_in}
 use Rattle.wrp_node.specs.Place.{Counts}
 use Rattle.wrp_node.proofs.Indexing.{Here, here, indexed_here, done_here, done_nowhere, nowhere, counted_not, counted_is}
@@ -10,7 +10,7 @@ pub invariant_of-self : goal.invariant_of-self
 invariant_of-self c =
     let h : Here c.args.number c.self.inside.places.items c.from.result c.index_mut.result.now =
     here c.args.number c.in-Some.at c.from.result c.self.inside.places.items c.args.self.now c.index_mut.result.now (ap numbers_in c.self.view_is) c.from.ensures c.in-Some.ensures c.index_mut.ensures.value in
-    indexed_here c.args.number c.from.result c.self.inside.places.items c.index_mut.result.now c.count.new.self c.self.inside.index h (ap (λ (z : Place). z.number) c.count.ensures) c.self.invariant
+    indexed_here c.args.number c.from.result c.self.inside.places.items c.index_mut.result.now c.count.new.self c.self.inside.index h (ap (λ (z : PortPlace). z.number) c.count.ensures) c.self.invariant
 
 pub returns-in-Some : goal.returns-in-Some
 returns-in-Some c =

@@ -1,7 +1,7 @@
 -- One port more; the ports keep their numbers, and with them their index.
 use Rattle.std.proofs.Common.{◌≡◌, ◌∙◌, ◌++◌, ap, sym, List, take, drop, length, arith}
 use Rattle.std.specs.List.{AllZip}
-use Rattle.wrp_node.specs.declared.place.Place.{Place}
+use Rattle.wrp_node.specs.declared.place.PortPlace.{PortPlace}
 use Rattle.wrp_node.specs.declared.ports.To.TheVariants.{Every}
 use Rattle.wrp_node.specs.Index.{numbers_in}
 use Rattle.wrp_node.specs.Place.{GivesTo}
@@ -16,7 +16,7 @@ loop-place-preserved c =
 
 pub invariant_of-self : goal.invariant_of-self
 invariant_of-self c =
-    let after : List Place = take c.self.inside.places.len (c.loop-place.place-items ++ drop (length c.loop-place.place-items) c.self.inside.places.items) in
+    let after : List PortPlace = take c.self.inside.places.len (c.loop-place.place-items ++ drop (length c.loop-place.place-items) c.self.inside.places.items) in
     let whole : length c.loop-place.place-items ≡ c.self.inside.places.len = omega arith in
     let end : c.loop-place.place-index ≡ length c.loop-place.place-items = omega arith in
     let zip : AllZip (GivesTo Every c.args.input) c.args.self.now after =

@@ -2,7 +2,7 @@
 use Rattle.std.proofs.Common.{◌≡◌, ◌∙◌, refl, ap, sym, subst, List, slice_set, Option, Some, IfSome}
 use Rattle.std.specs.List.{AllZip}
 use Rattle.wrp_base.specs.declared.time.Stamp.{Stamp}
-use Rattle.wrp_node.specs.declared.place.Place.{Place}
+use Rattle.wrp_node.specs.declared.place.PortPlace.{PortPlace}
 use Rattle.wrp_node.specs.declared.ports.To.TheVariants.{One}
 use Rattle.wrp_node.specs.Index.{numbers_in, AreDifferent, IsWhere}
 use Rattle.wrp_node.specs.Inputs.{stamp_in, measured_in}
@@ -20,7 +20,7 @@ returns-in_err-at-clause-given c =
 
 pub returns-in_err-at-clause-fits : goal.returns-in_err-at-clause-fits
 returns-in_err-at-clause-fits c =
-    subst (λ (o : Option Place). IfSome o (λ place. IsStamp (stamp_in c.args.clock c.args.raw.now c.args.sample (Some place))))
+    subst (λ (o : Option PortPlace). IfSome o (λ place. IsStamp (stamp_in c.args.clock c.args.raw.now c.args.sample (Some place))))
     (sym (place_nowhere c.args.number c.args.self.now (subst (IsWhere c.args.number (numbers_in c.args.self.now)) c.in_err-at.was c.at.ensures))) tt
 
 pub returns-in_err-at-clause-measured : goal.returns-in_err-at-clause-measured
@@ -56,7 +56,7 @@ returns-clause-fits c =
     let read : Here c.args.number c.self.inside.places.items c.from-at.result c.index.result.now =
     here c.args.number c.in_ok-at.field-0 c.from-at.result c.self.inside.places.items c.args.self.now c.index.result.now (ap numbers_in c.self.view_is) c.from-at.ensures at c.index.ensures in
     let found = place_here c.args.number c.from-at.result c.self.inside.places.items c.args.self.now c.index.result.now c.self.view_is read c.self.invariant.different in
-    subst (λ (o : Option Place). IfSome o (λ place. IsStamp (stamp_in c.args.clock c.args.raw.now c.args.sample (Some place)))) (sym found)
+    subst (λ (o : Option PortPlace). IfSome o (λ place. IsStamp (stamp_in c.args.clock c.args.raw.now c.args.sample (Some place)))) (sym found)
     (subst IsStamp c.stamp-stamp.ensures.value c.stamp-stamp.ensures.fits)
 
 pub returns-clause-measured : goal.returns-clause-measured
@@ -64,7 +64,7 @@ returns-clause-measured c =
     let at = subst (IsWhere c.args.number (numbers_in c.args.self.now)) c.in_ok-at.was c.at.ensures in
     let h : Here c.args.number c.self.inside.places.items c.from-at.result c.index_mut.result.now =
     here c.args.number c.in_ok-at.field-0 c.from-at.result c.self.inside.places.items c.args.self.now c.index_mut.result.now (ap numbers_in c.self.view_is) c.from-at.ensures at c.index_mut.ensures.value in
-    let after : List Place = slice_set c.self.inside.places.items c.from-at.result c.tell.new.self in
+    let after : List PortPlace = slice_set c.self.inside.places.items c.from-at.result c.tell.new.self in
     let same : numbers_in after ≡ numbers_in c.self.inside.places.items =
     numbers_here c.args.number c.from-at.result c.self.inside.places.items c.index_mut.result.now c.tell.new.self h c.tell.ensures.number in
     let read : Here c.args.number after c.from-at.result c.index-2.result.now =

@@ -1,7 +1,7 @@
 use Rattle.std.proofs.Common.{subst, ap₂}
 use Rattle.std.proofs.lemmas.Int.{to_z-of_z}
 use Rattle.std.specs.Int.{w128}
-use Rattle.wrp_plant.specs.Moves.{At, Changed, ComesUp, SameFrames, SwapsAt, Turns}
+use Rattle.wrp_plant.specs.Moves.{At, Changed, ComesUp, SameFrames, SwapsAt, EachBecame}
 use Rattle.wrp_plant.proofs.Fitting.{come_up_fits}
 use Rattle.wrp_plant.proofs.Moving.{up_is}
 use Rattle.wrp_plant.proofs.Sizing.{time_size}
@@ -17,13 +17,13 @@ come_up-requires-clause-time c = time_size c.args.self.now.events c.args.self.no
 pub returns-clause-is : goal.returns-clause-is
 returns-clause-is c s w h =
     up_is s w c.args.n c.args.off c.args.swaps.now c.args.self.now c.come_up.new.plant
-    (subst (λ z. Changed (Turns (At c.args.n (ComesUp z c.args.self.now.time))) (Turns (SwapsAt c.args.n c.args.swaps.now.items c.args.self.now.net.cfg.links.items)) SameFrames c.args.self.now.time c.args.self.now c.come_up.new.plant)
+    (subst (λ z. Changed (EachBecame (At c.args.n (ComesUp z c.args.self.now.time))) (EachBecame (SwapsAt c.args.n c.args.swaps.now.items c.args.self.now.net.cfg.links.items)) SameFrames c.args.self.now.time c.args.self.now c.come_up.new.plant)
     (to_z-of_z w128 c.args.off c.ranges.off) c.come_up.ensures) h
 
 pub returns-clause-fits : goal.returns-clause-fits
 returns-clause-fits c =
     come_up_fits c.args.n c.args.off c.args.swaps.now.items c.args.self.now.net.cfg.links.items c.args.self.now c.come_up.new.plant c.requires.off
-    (subst (λ z. Changed (Turns (At c.args.n (ComesUp z c.args.self.now.time))) (Turns (SwapsAt c.args.n c.args.swaps.now.items c.args.self.now.net.cfg.links.items)) SameFrames c.args.self.now.time c.args.self.now c.come_up.new.plant)
+    (subst (λ z. Changed (EachBecame (At c.args.n (ComesUp z c.args.self.now.time))) (EachBecame (SwapsAt c.args.n c.args.swaps.now.items c.args.self.now.net.cfg.links.items)) SameFrames c.args.self.now.time c.args.self.now c.come_up.new.plant)
     (to_z-of_z w128 c.args.off c.ranges.off) c.come_up.ensures) c.requires.few c.requires.fits
 
 pub returns-clause-room : goal.returns-clause-room

@@ -2,17 +2,17 @@ use Rattle.std.proofs.Common.{◌≡◌, ℕ, ℤ, subst, to_z, of_z, ap₂}
 use Rattle.std.proofs.lemmas.Int.{to_z-of_z}
 use Rattle.std.specs.Int.{w128}
 use Rattle.wrp_plant.specs.declared.plant.Plant.{Plant}
-use Rattle.wrp_plant.specs.Moves.{At, Changed, Joins, Same, SameFrames, Turns}
+use Rattle.wrp_plant.specs.Moves.{At, Changed, Joins, Same, SameFrames, EachBecame}
 use Rattle.wrp_plant.proofs.Fitting.{joined_fits}
 use Rattle.wrp_plant.proofs.Moving.{join_is}
 use Rattle.wrp_plant.proofs.RoomKept.{join_room}
 use Rattle.wrp_plant.proofs.plant.Plant.join.Goals as goal
 
-read_both : (k : ℕ) (ms sm y z : ℤ) (old new : Plant) → y ≡ ms → z ≡ sm → Changed Same (Turns (At k (Joins y z))) SameFrames old.time old new →
-    Changed Same (Turns (At k (Joins ms sm))) SameFrames old.time old new
+read_both : (k : ℕ) (ms sm y z : ℤ) (old new : Plant) → y ≡ ms → z ≡ sm → Changed Same (EachBecame (At k (Joins y z))) SameFrames old.time old new →
+    Changed Same (EachBecame (At k (Joins ms sm))) SameFrames old.time old new
 read_both k ms sm y z old new e f c =
-    subst (λ a. Changed Same (Turns (At k (Joins a sm))) SameFrames old.time old new) e
-    (subst (λ b. Changed Same (Turns (At k (Joins y b))) SameFrames old.time old new) f c)
+    subst (λ a. Changed Same (EachBecame (At k (Joins a sm))) SameFrames old.time old new) e
+    (subst (λ b. Changed Same (EachBecame (At k (Joins y b))) SameFrames old.time old new) f c)
 
 pub join-requires-clause-link : goal.join-requires-clause-link
 join-requires-clause-link c = rw c.requires.fits.span_count c.requires.link

@@ -2,7 +2,7 @@ use Rattle.std.proofs.Common.{◌+ℤ◌, ◌≤◌, ◌^◌, unsigned_abs, subs
 use Rattle.std.proofs.lemmas.Int.{ints, to_z-of_z}
 use Rattle.std.specs.Int.{w64}
 use Rattle.wrp_flights.specs.Frames.{Passes}
-use Rattle.wrp_plant.specs.Moves.{Changed, Drifts, Moves, Turns}
+use Rattle.wrp_plant.specs.Moves.{Changed, Drifts, Moves, EachBecame}
 use Rattle.wrp_plant.proofs.Fitting.{pass_fits}
 use Rattle.wrp_plant.proofs.Moving.{pass_is}
 use Rattle.wrp_plant.proofs.RoomKept.{pass_room}
@@ -11,14 +11,14 @@ use Rattle.wrp_plant.proofs.plant.Plant.pass.Goals as goal
 pub returns-clause-is : goal.returns-clause-is
 returns-clause-is c s w h =
     pass_is s w c.args.dt c.args.drifts.now c.args.moves.now c.args.self.now c.pass.new.plant c.requires.later
-    (subst (λ d. Changed (Turns (Drifts c.args.drifts.now.items)) (Turns (Moves c.args.moves.now.items)) (Passes (c.args.self.now.frames.horizon +ℤ d)) (c.args.self.now.time +ℤ d) c.args.self.now c.pass.new.plant)
+    (subst (λ d. Changed (EachBecame (Drifts c.args.drifts.now.items)) (EachBecame (Moves c.args.moves.now.items)) (Passes (c.args.self.now.frames.horizon +ℤ d)) (c.args.self.now.time +ℤ d) c.args.self.now c.pass.new.plant)
     (to_z-of_z w64 c.args.dt c.ranges.dt) c.pass.ensures) h
 
 pub returns-clause-fits : goal.returns-clause-fits
 returns-clause-fits c =
     let size : unsigned_abs c.args.dt ≤ 2 ^ 63 = omega (arith, ints, c.ranges.dt) in
     pass_fits c.args.drifts.now.items c.args.moves.now.items c.args.dt c.args.self.now c.pass.new.plant size
-    (subst (λ d. Changed (Turns (Drifts c.args.drifts.now.items)) (Turns (Moves c.args.moves.now.items)) (Passes (c.args.self.now.frames.horizon +ℤ d)) (c.args.self.now.time +ℤ d) c.args.self.now c.pass.new.plant)
+    (subst (λ d. Changed (EachBecame (Drifts c.args.drifts.now.items)) (EachBecame (Moves c.args.moves.now.items)) (Passes (c.args.self.now.frames.horizon +ℤ d)) (c.args.self.now.time +ℤ d) c.args.self.now c.pass.new.plant)
     (to_z-of_z w64 c.args.dt c.ranges.dt) c.pass.ensures) c.requires.few c.requires.fits
 
 pub returns-clause-room : goal.returns-clause-room

@@ -2,7 +2,7 @@ use Rattle.std.proofs.Common.{◌∙◌, sym, ap, ap₂, ◌∷◌, [], pos, ari
 use Rattle.std.specs.Option.{option_or}
 use Rattle.wrp_base.specs.declared.configuration.NetCfg.{NetCfg}
 use Rattle.wrp_bounds.specs.Times.{shortest_tick}
-use Rattle.wrp_course.specs.Checks.{told_of, stands}
+use Rattle.wrp_course.specs.Checks.{told_of, needs}
 use Rattle.wrp_course.specs.Premises.{tick_early}
 use Rattle.wrp_plant.proofs.SignedReads.{read}
 use Rattle.wrp_plant.proofs.Standing.{early_told}
@@ -17,5 +17,5 @@ returns c s w h =
     ∙ ap (λ (cfg : NetCfg). pos (shortest_tick cfg)) (c.cfg.ensures.value ∙ h.cfg))
     (read c.now-now.result (omega (arith, c.now-now.ensures.size)) ∙ c.now-now.ensures.value ∙ h.time)
     (c.clock-clock.ensures.value s w h))
-    (c.stands.ensures ∙ ap (λ b. told_of (stands b ∷ [])) (c.is_up-up.ensures s w h))
-    ∙ sym (told_cons (tick_early s w c.args.n) (stands (w.clock c.args.n).up ∷ []))
+    (c.stands.ensures ∙ ap (λ b. told_of (needs b ∷ [])) (c.is_up-up.ensures s w h))
+    ∙ sym (told_cons (tick_early s w c.args.n) (needs (w.clock c.args.n).up ∷ []))

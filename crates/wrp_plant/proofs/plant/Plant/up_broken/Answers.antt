@@ -1,6 +1,6 @@
 use Rattle.std.proofs.Common.{◌∙◌, sym, ap, ap₂, ◌∷◌, [], not, map, flat_map, arith}
 use Rattle.std.specs.Option.{option_or}
-use Rattle.wrp_course.specs.Checks.{told_of, stands}
+use Rattle.wrp_course.specs.Checks.{told_of, needs}
 use Rattle.wrp_course.specs.declared.event.Event.TheVariants.{Up}
 use Rattle.wrp_course.specs.Moved.{moved}
 use Rattle.wrp_course.specs.Premises.{fibre_kept, module_kept, swap_stands, true_at_top}
@@ -21,4 +21,4 @@ returns c s w says h =
     (c.ports_broken-ports.ensures s w h ∙ ap (λ xs. told_of (map (swap_stands s c.args.n) xs)) c.as_slice-2.ensures.value))
     (c.up_again_broken-up.ensures s w h)
     ∙ sym (told_five (true_at_top s c.args.n c.args.off) (flat_map (fibre_kept s (moved s w (Up c.args.n c.args.off c.args.swaps.now))) (links_of s))
-    (flat_map (module_kept s c.args.n) c.args.swaps.now.items) (map (swap_stands s c.args.n) c.args.swaps.now.items) (stands (not (w.clock c.args.n).up) ∷ []))
+    (flat_map (module_kept s c.args.n) c.args.swaps.now.items) (map (swap_stands s c.args.n) c.args.swaps.now.items) (needs (not (w.clock c.args.n).up) ∷ []))

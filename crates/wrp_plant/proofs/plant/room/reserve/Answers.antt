@@ -1,11 +1,11 @@
 use Rattle.std.proofs.Common.{◌+◌, slice_set, arith}
 use Rattle.wrp_plant.proofs.Roomy.{Keeps, Takes, at_any, kept_all, kept_so_far, room_of_kept, same_of_kept, took_all}
 use Rattle.wrp_plant.proofs.Turned.{turned_all, turned_next}
-use Rattle.wrp_plant.specs.Moves.{Turns}
+use Rattle.wrp_plant.specs.Moves.{EachBecame}
 use Rattle.wrp_plant.proofs.plant.room.reserve.Goals as goal
 
 -- where memory could not be had at a link
-stopped : (c : goal.After-from_residual) → Turns Keeps c.args.spans.now.items (slice_set c.loop-k.spans.items c.loop-k.k c.reserve_span.new.span)
+stopped : (c : goal.After-from_residual) → EachBecame Keeps c.args.spans.now.items (slice_set c.loop-k.spans.items c.loop-k.k c.reserve_span.new.span)
 stopped c =
     kept_all (c.loop-k.k + 1) c.args.spans.now.items (slice_set c.loop-k.spans.items c.loop-k.k c.reserve_span.new.span)
     (turned_next Keeps c.args.spans.now.items c.loop-k.spans.items c.loop-k.k c.index_mut.result.now c.reserve_span.new.span (omega arith) c.index_mut.ensures.value

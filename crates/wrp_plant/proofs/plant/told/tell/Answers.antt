@@ -3,16 +3,16 @@ use Rattle.std.proofs.lemmas.Int.{to_z-of_z}
 use Rattle.std.specs.Int.{w64, w128}
 use Rattle.wrp_base.specs.Clock.{period_of}
 use Rattle.wrp_course.specs.declared.clocks.ClockState.{ClockState}
-use Rattle.wrp_plant.specs.Moves.{At, Turns}
+use Rattle.wrp_plant.specs.Moves.{At, EachBecame}
 use Rattle.wrp_plant.specs.PlantTold.{Steps, TellsAt, cycles_in}
 use Rattle.wrp_plant.proofs.SignedReads.{read}
 use Rattle.wrp_plant.proofs.Sizing.{time_size}
 use Rattle.wrp_plant.proofs.plant.told.tell.Goals as goal
 
 read_both : (n : ℕ) (cycles now y z : ℤ) (period : ℕ) (ticked : Bool) (xs ys : List ClockState) → y ≡ cycles → z ≡ now →
-    Turns (At n (Steps y z period ticked)) xs ys → Turns (At n (Steps cycles now period ticked)) xs ys
+    EachBecame (At n (Steps y z period ticked)) xs ys → EachBecame (At n (Steps cycles now period ticked)) xs ys
 read_both n cycles now y z period ticked xs ys e f r =
-    subst (λ q. Turns (At n (Steps q now period ticked)) xs ys) e (subst (λ t. Turns (At n (Steps y t period ticked)) xs ys) f r)
+    subst (λ q. EachBecame (At n (Steps q now period ticked)) xs ys) e (subst (λ t. EachBecame (At n (Steps y t period ticked)) xs ys) f r)
 
 pub returns-clause-told : goal.returns-clause-told
 returns-clause-told c =
@@ -28,7 +28,7 @@ returns-clause-told c =
           c.args.plant.now.clocks.items c.step.new.clocks.items
           (to_z-of_z w64 c.cycles_in-cycles.result (record { sfits = c.cycles_in-cycles.type_inv }) ∙ c.cycles_in-cycles.ensures) now c.step.ensures;
       of_spans =
-          subst (λ t. Turns (TellsAt t c.args.news.now c.args.outs.now c.args.plant.now.net.cfg.links.items) c.args.plant.now.spans.items c.tell.new.spans.items)
+          subst (λ t. EachBecame (TellsAt t c.args.news.now c.args.outs.now c.args.plant.now.net.cfg.links.items) c.args.plant.now.spans.items c.tell.new.spans.items)
           now c.tell.ensures.told;
       of_frames = refl;
     }

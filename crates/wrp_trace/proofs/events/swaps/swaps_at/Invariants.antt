@@ -1,6 +1,6 @@
 use Rattle.std.proofs.Common.{◌≡◌, ◌+◌, [], length, map, drop}
 use Rattle.csv.specs.Records.{fields_of}
-use Rattle.wrp_trace.specs.Swaps.{plain_swap, swaps_said}
+use Rattle.wrp_trace.specs.Swaps.{bare_swap, swaps_said}
 use Rattle.wrp_trace.proofs.events.swaps.swaps_at.Given as goal
 use Rattle.wrp_course.specs.EventAt.{AreSwaps}
 
@@ -8,5 +8,5 @@ use Rattle.wrp_course.specs.EventAt.{AreSwaps}
 abbrev pub invariant-loop-at : goal.invariant-loop-at
 invariant-loop-at l =
     (swaps_said 4 [] (drop 3 (fields_of l.row))
-    ≡ swaps_said (l.at + 1) (map plain_swap l.swaps.items) (drop l.at (fields_of l.row)))
+    ≡ swaps_said (l.at + 1) (map bare_swap l.swaps.items) (drop l.at (fields_of l.row)))
     × AreSwaps l.swaps.items × (length l.swaps.items + 3 ≡ l.at)

@@ -2,13 +2,13 @@ use Rattle.std.proofs.Common.{◌≡◌, ℕ, ℤ, List, refl, sym, subst, to_z,
 use Rattle.std.proofs.lemmas.Int.{to_z-of_z}
 use Rattle.std.specs.Int.{w128}
 use Rattle.wrp_course.specs.declared.clocks.ClockState.{ClockState}
-use Rattle.wrp_plant.specs.Moves.{At, Changed, ComesUp, SwapsAt, Turns}
+use Rattle.wrp_plant.specs.Moves.{At, Changed, ComesUp, SwapsAt, EachBecame}
 use Rattle.wrp_plant.proofs.SignedReads.{read}
 use Rattle.wrp_plant.proofs.plant.moves.parts.come_up.Goals as goal
 
-read_both : (k : ℕ) (xs ys : List ClockState) (off now y z : ℤ) → y ≡ off → z ≡ now → Turns (At k (ComesUp y z)) xs ys → Turns (At k (ComesUp off now)) xs ys
+read_both : (k : ℕ) (xs ys : List ClockState) (off now y z : ℤ) → y ≡ off → z ≡ now → EachBecame (At k (ComesUp y z)) xs ys → EachBecame (At k (ComesUp off now)) xs ys
 read_both k xs ys off now y z e f t =
-    subst (λ a. Turns (At k (ComesUp a now)) xs ys) e (subst (λ b. Turns (At k (ComesUp y b)) xs ys) f t)
+    subst (λ a. EachBecame (At k (ComesUp a now)) xs ys) e (subst (λ b. EachBecame (At k (ComesUp y b)) xs ys) f t)
 
 pub returns : goal.returns
 returns c =
@@ -23,7 +23,7 @@ returns c =
           (to_z w128 (of_z w128 c.args.off)) (to_z w128 (of_z w128 c.args.plant.now.time))
           (to_z-of_z w128 c.args.off c.ranges.off) (read c.args.plant.now.time (omega (arith, c.requires.time))) c.come_up.ensures;
       of_spans =
-          subst (λ l. Turns (SwapsAt c.args.n l c.args.plant.now.net.cfg.links.items) c.args.plant.now.spans.items c.put_modules.new.spans.items)
+          subst (λ l. EachBecame (SwapsAt c.args.n l c.args.plant.now.net.cfg.links.items) c.args.plant.now.spans.items c.put_modules.new.spans.items)
           c.as_slice.ensures.value c.put_modules.ensures;
       of_frames = refl;
     })

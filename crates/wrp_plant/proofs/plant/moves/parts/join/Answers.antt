@@ -1,7 +1,7 @@
 use Rattle.std.proofs.Common.{refl, sym, subst, to_z, of_z}
 use Rattle.std.proofs.lemmas.Int.{to_z-of_z}
 use Rattle.std.specs.Int.{w128}
-use Rattle.wrp_plant.specs.Moves.{At, Changed, Joins, Turns}
+use Rattle.wrp_plant.specs.Moves.{At, Changed, Joins, EachBecame}
 use Rattle.wrp_plant.proofs.plant.moves.parts.join.Goals as goal
 
 pub returns : goal.returns
@@ -14,7 +14,7 @@ returns c =
       count = refl;
       of_clocks = refl;
       of_spans =
-          subst (λ z. Turns (At c.args.k (Joins z c.args.sm)) c.args.plant.now.spans.items c.join.new.spans.items) (to_z-of_z w128 c.args.ms c.ranges.ms)
-          (subst (λ z. Turns (At c.args.k (Joins (to_z w128 (of_z w128 c.args.ms)) z)) c.args.plant.now.spans.items c.join.new.spans.items) (to_z-of_z w128 c.args.sm c.ranges.sm) c.join.ensures);
+          subst (λ z. EachBecame (At c.args.k (Joins z c.args.sm)) c.args.plant.now.spans.items c.join.new.spans.items) (to_z-of_z w128 c.args.ms c.ranges.ms)
+          (subst (λ z. EachBecame (At c.args.k (Joins (to_z w128 (of_z w128 c.args.ms)) z)) c.args.plant.now.spans.items c.join.new.spans.items) (to_z-of_z w128 c.args.sm c.ranges.sm) c.join.ensures);
       of_frames = refl;
     })

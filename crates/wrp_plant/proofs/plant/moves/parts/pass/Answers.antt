@@ -2,7 +2,7 @@ use Rattle.std.proofs.Common.{refl, sym, subst, ap, ◌+ℤ◌}
 use Rattle.std.proofs.lemmas.Int.{to_z-of_z}
 use Rattle.std.specs.Int.{w64}
 use Rattle.wrp_flights.specs.Frames.{Passes}
-use Rattle.wrp_plant.specs.Moves.{Changed, Drifts, Moves, Turns}
+use Rattle.wrp_plant.specs.Moves.{Changed, Drifts, Moves, EachBecame}
 use Rattle.wrp_plant.proofs.Sizing.{delay_size, time_size}
 use Rattle.wrp_plant.proofs.plant.moves.parts.pass.Goals as goal
 
@@ -21,7 +21,7 @@ returns c =
       db = refl;
       time = ap (λ d. c.args.plant.now.time +ℤ d) (to_z-of_z w64 c.args.dt c.ranges.dt);
       count = refl;
-      of_clocks = subst (λ l. Turns (Drifts l) c.args.plant.now.clocks.items c.drift.new.clocks.items) c.as_slice.ensures.value c.drift.ensures;
-      of_spans = subst (λ l. Turns (Moves l) c.args.plant.now.spans.items c.move_fibres.new.spans.items) c.as_slice-2.ensures.value c.move_fibres.ensures;
+      of_clocks = subst (λ l. EachBecame (Drifts l) c.args.plant.now.clocks.items c.drift.new.clocks.items) c.as_slice.ensures.value c.drift.ensures;
+      of_spans = subst (λ l. EachBecame (Moves l) c.args.plant.now.spans.items c.move_fibres.new.spans.items) c.as_slice-2.ensures.value c.move_fibres.ensures;
       of_frames = subst (λ d. Passes (c.args.plant.now.frames.horizon +ℤ d) c.args.plant.now.frames c.pass.new.self) (to_z-of_z w64 c.args.dt c.ranges.dt) c.pass.ensures;
     })

@@ -1,7 +1,7 @@
 use Rattle.std.proofs.Common.{subst, to_z, of_z, ◌+◌, arith}
 use Rattle.std.proofs.lemmas.Int.{to_z-of_z}
 use Rattle.std.specs.Int.{w128}
-use Rattle.wrp_plant.specs.Moves.{Turns}
+use Rattle.wrp_plant.specs.Moves.{EachBecame}
 use Rattle.wrp_plant.specs.PlantTold.{TellsAt}
 use Rattle.wrp_plant.specs.Room.{HasSpanRoom}
 use Rattle.wrp_plant.proofs.TellingEnds.{TellsWithRoom, told_of_turned}
@@ -16,7 +16,7 @@ loop-k-preserved c =
 
 pub returns-clause-told : goal.returns-clause-told
 returns-clause-told c =
-    subst (λ t. Turns (TellsAt t c.args.news.now c.args.outs.now c.args.cfg.now.links.items) c.args.spans.now.items c.loop-k.spans.items) (to_z-of_z w128 c.args.now c.ranges.now)
+    subst (λ t. EachBecame (TellsAt t c.args.news.now c.args.outs.now c.args.cfg.now.links.items) c.args.spans.now.items c.loop-k.spans.items) (to_z-of_z w128 c.args.now c.ranges.now)
     (told_of_turned (to_z w128 (of_z w128 c.args.now)) c.args.news.now c.args.outs.now c.args.cfg.now.links.items c.args.spans.now.items c.loop-k.spans.items
     (turned_all (TellsWithRoom (to_z w128 (of_z w128 c.args.now)) c.args.news.now c.args.outs.now c.args.cfg.now.links.items) c.args.spans.now.items c.loop-k.spans.items c.loop-k.k (omega arith) c.loop-k.invariant))
 

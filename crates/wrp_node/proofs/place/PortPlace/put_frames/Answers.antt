@@ -6,7 +6,7 @@ use Rattle.wrp_node.specs.declared.interface.Output.{Output}
 use Rattle.wrp_node.specs.NodeRun.{frame_out}
 use Rattle.wrp_node.specs.Spelled.{IsSpelled}
 use Rattle.wrp_node.proofs.Lists.{all_more, pushed_more}
-use Rattle.wrp_node.proofs.place.Place.put_frames.Goals as goal
+use Rattle.wrp_node.proofs.place.PortPlace.put_frames.Goals as goal
 
 -- the message that stands in an unused place
 abbrev nothing : PtpMsg

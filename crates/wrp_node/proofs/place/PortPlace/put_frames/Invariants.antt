@@ -2,7 +2,7 @@
 use Rattle.std.proofs.Common.{◌≡◌, ◌+◌, ◌++◌, length, take, map}
 use Rattle.wrp_node.specs.NodeRun.{frame_out}
 use Rattle.wrp_node.specs.Spelled.{AreSpelled}
-use Rattle.wrp_node.proofs.place.Place.put_frames.Given as goal
+use Rattle.wrp_node.proofs.place.PortPlace.put_frames.Given as goal
 
 abbrev pub invariant-loop-message : goal.invariant-loop-message
 invariant-loop-message l =

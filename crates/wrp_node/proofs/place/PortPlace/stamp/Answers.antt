@@ -2,7 +2,7 @@
 use Rattle.std.proofs.Common.{◌∙◌, ap, ℕ, ℤ, pos, rules, FitsSigned}
 use Rattle.std.proofs.lemmas.Int.{to_z-of_z}
 use Rattle.std.specs.Int.{w128}
-use Rattle.wrp_node.proofs.place.Place.stamp.Goals as goal
+use Rattle.wrp_node.proofs.place.PortPlace.stamp.Goals as goal
 use Rattle.wrp_stamp.specs.Merge.{merged}
 
 pub returns-clause-value : goal.returns-clause-value
