@@ -23,4 +23,4 @@ pub mod Standing
 pub mod Table
 pub mod TakingPackets
 pub mod WorkedInspection
-pub mod Inspecting
+pub mod EachInspected

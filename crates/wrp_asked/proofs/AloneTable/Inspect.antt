@@ -1,6 +1,6 @@
 -- The command `inspect`.
 use Rattle.std.proofs.Common.{inl, inr, refl, ℕ, List, [], arith}
-use Rattle.wrp_pcap.proofs.Inspecting.{each_is_inspected}
+use Rattle.wrp_pcap.proofs.EachInspected.{each_is_inspected}
 use Rattle.wrp_pcap.proofs.InspectAim.{judges}
 use Rattle.wrp_pcap.proofs.OneInspection.{one_answer}
 use Rattle.wrp_pcap.specs.InspectAim.{InspectLeaves, InspectPart, InspectsSo}

@@ -1,5 +1,5 @@
 -- By the lemma of its own.
-use Rattle.wrp_pcap.proofs.Inspecting.{each_is_inspected}
+use Rattle.wrp_pcap.proofs.EachInspected.{each_is_inspected}
 use Rattle.wrp_due.proofs.laws.each_is_inspected.Goals as goal
 
 pub returns : goal.returns
