@@ -16,6 +16,7 @@ pub mod LinesTrue
 pub mod Steering
 mod Saying
 pub mod OutputTrue
+pub mod ReportLines
 pub mod SaidOutput
 pub mod EventFits
 pub mod LinesDecided

@@ -15,5 +15,6 @@ pub mod LineText
 pub mod LineCourse
 pub mod LinesHeld
 pub mod LineTruth
+pub mod ReportLines
 pub mod Steered
 pub mod Said

@@ -1,6 +1,7 @@
 //! What a measurement is worth, which events are taken, and what the lines of the command are, as laws.
 ghost use Rattle.wrp_plain.specs.Exact.{EventsAreTakenExactly, MeasurementsAreExact};
 ghost use Rattle.wrp_plain.specs.LineTruth.{OutputTellsTruth, RecordsTellTruth};
+ghost use Rattle.wrp_plain.specs.ReportLines.{ReportsHaveLines};
 ghost use Rattle.wrp_plain.specs.Said.{OutputHoldsUntilTick};
 ghost use Rattle.wrp_plain.specs.Steered.{ReportsHoldUntilTick};
 ghost use Rattle.wrp_plain.specs.Truth.{MeasuredWithinBound};
@@ -38,6 +39,13 @@ pub fn records_tell_truth()
 /// the true offset. It does nothing when it runs.
 pub fn output_tells_truth()
     ensures { OutputTellsTruth }
+{}
+
+/// Each report of an event has its line among those that the records write: the tick count, the estimate,
+/// the bound and the true offset. This holds whatever follows what they write. So the law above speaks of
+/// some line wherever there is a report. It does nothing when it runs.
+pub fn reports_have_lines()
+    ensures { ReportsHaveLines }
 {}
 
 /// What a command does to the true offset, and for how long a report holds, whatever the records say. The

@@ -16,7 +16,8 @@ mod world;
 pub use event::{PlainBroken, PlainEvent, PlainSeen};
 pub use law::{
     events_are_taken_exactly, measured_within_bound, measurements_are_exact,
-    output_holds_until_tick, output_tells_truth, records_tell_truth, reports_hold_until_tick,
+    output_holds_until_tick, output_tells_truth, records_tell_truth, reports_have_lines,
+    reports_hold_until_tick,
 };
 pub use servo::Plain;
 pub use settings::{PlainOut, PlainReport, PlainSet, PlainStart};
