@@ -1,11 +1,10 @@
 -- Each track line follows from the event lines and the step lines since the last start of its node.
-use Rattle.std.proofs.Common.{◌≡◌, ◌⊎◌, inl, inr, ◌∙◌, refl, ap, ap₂, sym, subst, ℕ, ◌+◌, ◌<◌, ◌==◌, ℤ, pos, ◌+ℤ◌, ◌*ℤ◌, not, Bool, true, false, if◌then◌else◌, List, [], ◌∷◌, ◌++◌, flat_map, sum_by, Option, None, Some, Result, arith, codes}
+use Rattle.std.proofs.Common.{◌≡◌, ◌⊎◌, inl, inr, ◌∙◌, refl, ap, ap₂, sym, subst, ℕ, ◌+◌, ◌<◌, ◌==◌, ℤ, pos, ◌+ℤ◌, ◌*ℤ◌, not, Bool, true, false, if◌then◌else◌, List, [], ◌∷◌, ◌++◌, flat_map, Option, None, Some, Result, arith, codes}
 use Rattle.std.specs.Fmt.{decimal, signed_decimal}
 use Rattle.std.specs.List.{AllByRecursion}
 use Rattle.std.proofs.lemmas.Bool.{true≢false}
 use Rattle.std.proofs.lemmas.Bool.Decides.{eqb_tells}
 use Rattle.std.proofs.lemmas.Int.{ints}
-use Rattle.std.proofs.lemmas.List.Sums.{sum_by-cons}
 use Rattle.std.proofs.lemmas.Option.{none-some}
 use Rattle.wrp_base.specs.Clock.{period_of}
 use Rattle.wrp_base.specs.declared.message.PtpMsg.{PtpMsg}
@@ -16,7 +15,6 @@ use Rattle.wrp_base.proofs.Naturals.{eq_self}
 use Rattle.wrp_bounds.specs.Bounds.{path_of}
 use Rattle.wrp_config.specs.Accepted.{HasNames}
 use Rattle.wrp_frame.specs.declared.fault.FrameFault.{FrameFault}
-use Rattle.wrp_lines.specs.Lines.{output_line, output_words}
 use Rattle.wrp_node.specs.declared.interface.Input.TheVariants.{Tick as TickInput}
 use Rattle.wrp_node.specs.declared.interface.Output.{Output}
 use Rattle.wrp_node.specs.declared.interface.Output.TheVariants.{Send, Step, Dac, Report}
@@ -34,24 +32,23 @@ use Rattle.wrp_course.specs.Setting.{Setting, node_setting_of}
 use Rattle.wrp_course.specs.WorldAt.{WorldAt}
 use Rattle.wrp_course.proofs.RunGifts.{AllGiven}
 use Rattle.wrp_printed_laws.specs.Laws.{AreSeen, OffsetsFollow, SaysEvent, lines_at, output_lines, step_lines}
-use Rattle.wrp_printed_laws.specs.Offsets.{AllFollow, Follows, IsSince, Seen, TracksFollow, moved_by, ticks_in, total}
+use Rattle.wrp_printed_laws.specs.Offsets.{AllFollow, Follows, IsSince, Seen, TellsTicks, TracksFollow, moved_by, ticks_in, total}
 use Rattle.wrp_printed_laws.specs.Words.{Reads}
 use Rattle.wrp_printed_laws.proofs.Clocks.{cycles_at, cycles_of, drifts_on, starts_at}
-use Rattle.wrp_printed_laws.proofs.Events.{count_by, drift_by, event_count, event_stands, no_tick_given, start_by, tick_by}
+use Rattle.wrp_printed_laws.proofs.Events.{drift_by, event_stands, no_tick_given, start_by}
 use Rattle.wrp_printed_laws.proofs.Fields.{TellsEvent, event_fields}
 use Rattle.wrp_printed_laws.proofs.Outputs.{IsNoTick, IsOther, no_track, outputs_all, track_all}
-use Rattle.wrp_printed_laws.proofs.Words.{output_reads}
-use Rattle.wrp_lines.proofs.LineWords.{at_word}
+use Rattle.wrp_printed_laws.proofs.Ticks.{all_counted, event_tells}
+use Rattle.wrp_printed_laws.proofs.Words.{at_reads, line_at, words_at}
 
 -- Since the last start
 
--- what is seen since the last start of a node that is up: its offset and its ticks
+-- what is seen since the last start of a node that is up: its offset
 record Since (s : Setting) (w : WorldAt) (seen : List Seen) (n : ℕ) : Type 0 where
   since : List Seen
   start : ℤ
   is : IsSince (name_at s.cfg n) seen since start
   off : (w.clock n).off ≡ start +ℤ total (moved_by (period_of s.cfg.clock) (name_at s.cfg n)) since
-  ticks : (w.node n).ticks ≡ sum_by (λ (it : Seen). ticks_in (name_at s.cfg n) (parts_of it.event)) since
 
 abbrev IfUp : Setting → WorldAt → List Seen → ℕ → Type 0
 IfUp s w seen n = (w.clock n).up ≡ true → Since s w seen n
@@ -90,28 +87,6 @@ stays_up w (Noise m p octets raw) n none up = up
 stays_up w (Cut k) n none up = up
 stays_up w (Join k ms sm) n none up = up
 
--- and counts its ticks
-counts_on : (e : Event) (n ticks : ℕ) → start_by e n ≡ None → count_by e n ticks ≡ tick_by e n + ticks
-counts_on (Tick m) n ticks none = by (n == m)
-  where
-    by : (b : Bool) → (if b then ticks + 1 else ticks) ≡ (if b then 1 else 0) + ticks
-    by true = omega arith
-    by false = omega arith
-counts_on (Up m off swaps) n ticks none = by (n == m) none
-  where
-    by : (b : Bool) → (if b then Some off else None) ≡ None → (if b then 0 else ticks) ≡ 0 + ticks
-    by true f = absurd (none-some off (sym f))
-    by false f = omega arith
-counts_on (Pass dt drifts fibres) n ticks none = omega arith
-counts_on (Sample m base bits) n ticks none = omega arith
-counts_on (Depart m p stamp) n ticks none = omega arith
-counts_on (Arrive i raw) n ticks none = omega arith
-counts_on (Deliver i) n ticks none = omega arith
-counts_on (Noise m p octets raw) n ticks none = omega arith
-counts_on (Down m) n ticks none = omega arith
-counts_on (Cut k) n ticks none = omega arith
-counts_on (Join k ms sm) n ticks none = omega arith
-
 -- What a start and another event make of it
 
 -- an event line and what is printed of it
@@ -123,51 +98,49 @@ tells : (s : Setting) (it : Seen) (before : List Happened) (h : Happened) (n : �
 tells s it before h n names below seen = event_fields s.cfg it.event h.event n names below seen.says
 
 abbrev Started : Setting → List Happened → Happened → ℕ → ℤ → Type 0
-Started s before h n off = (((world_after s (h ∷ before)).clock n).off ≡ off) × (((world_after s (h ∷ before)).node n).ticks ≡ 0)
+Started s before h n off = ((world_after s (h ∷ before)).clock n).off ≡ off
 
-started : CommandsAreHeld → TicksAreCounted → (s : Setting) (before : List Happened) (says : Result PtpMsg FrameFault) (y : ℤ) (e : Event) (n : ℕ) (off : ℤ) → start_by e n ≡ Some off → Started s before (record { event = e; says = says; answer = y }) n off
-started commands counted s before says y (Up m started_with swaps) n off is = elim (eqb_tells n m) [
+started : CommandsAreHeld → (s : Setting) (before : List Happened) (says : Result PtpMsg FrameFault) (y : ℤ) (e : Event) (n : ℕ) (off : ℤ) → start_by e n ≡ Some off →
+    Started s before (record { event = e; says = says; answer = y }) n off
+started commands s before says y (Up m started_with swaps) n off is = elim (eqb_tells n m) [
   | inl x ↦
       let w : WorldAt = world_after s before in
       let same : Some started_with ≡ Some off = sym (ap (λ (b : Bool). if b then Some started_with else None) x.0) ∙ is in
-      let with_off : started_with ≡ off = cc in (
-        ap (λ (i : ℕ). ((world_step s says y w (Up m started_with swaps)).clock i).off) x.1 ∙ starts_at commands s says y w m started_with swaps ∙ with_off,
-        event_count counted s says y w (Up m started_with swaps) n ∙ ap (λ (b : Bool). if b then 0 else (w.node n).ticks) x.0,
-      )
+      let with_off : started_with ≡ off = cc in
+      ap (λ (i : ℕ). ((world_step s says y w (Up m started_with swaps)).clock i).off) x.1 ∙ starts_at commands s says y w m started_with swaps ∙ with_off
   | inr x ↦ absurd (none-some off (sym (ap (λ (b : Bool). if b then Some started_with else None) x.0) ∙ is))
 ]
-started commands counted s before says y (Pass dt drifts fibres) n off is = absurd (none-some off is)
-started commands counted s before says y (Tick m) n off is = absurd (none-some off is)
-started commands counted s before says y (Sample m base bits) n off is = absurd (none-some off is)
-started commands counted s before says y (Depart m p stamp) n off is = absurd (none-some off is)
-started commands counted s before says y (Arrive i raw) n off is = absurd (none-some off is)
-started commands counted s before says y (Deliver i) n off is = absurd (none-some off is)
-started commands counted s before says y (Noise m p octets raw) n off is = absurd (none-some off is)
-started commands counted s before says y (Down m) n off is = absurd (none-some off is)
-started commands counted s before says y (Cut k) n off is = absurd (none-some off is)
-started commands counted s before says y (Join k ms sm) n off is = absurd (none-some off is)
+started commands s before says y (Pass dt drifts fibres) n off is = absurd (none-some off is)
+started commands s before says y (Tick m) n off is = absurd (none-some off is)
+started commands s before says y (Sample m base bits) n off is = absurd (none-some off is)
+started commands s before says y (Depart m p stamp) n off is = absurd (none-some off is)
+started commands s before says y (Arrive i raw) n off is = absurd (none-some off is)
+started commands s before says y (Deliver i) n off is = absurd (none-some off is)
+started commands s before says y (Noise m p octets raw) n off is = absurd (none-some off is)
+started commands s before says y (Down m) n off is = absurd (none-some off is)
+started commands s before says y (Cut k) n off is = absurd (none-some off is)
+started commands s before says y (Join k ms sm) n off is = absurd (none-some off is)
 
 start_alone : (start off : ℤ) → off ≡ start → off ≡ start +ℤ pos 0
 start_alone start off e = omega (arith, ints, e)
 
-at_start : CommandsAreHeld → TicksAreCounted → (s : Setting) (before : List Happened) (h : Happened) (it : Seen) (older : List Seen) (n : ℕ) (off : ℤ) →
+at_start : CommandsAreHeld → (s : Setting) (before : List Happened) (h : Happened) (it : Seen) (older : List Seen) (n : ℕ) (off : ℤ) →
     TellsEvent (name_at s.cfg n) n (parts_of it.event) h.event → start_by h.event n ≡ Some off → Since s (world_after s (h ∷ before)) (it ∷ older) n
-at_start commands counted s before h it older n off told is =
-    let now : Started s before h n off = started commands counted s before h.says h.answer h.event n off is in
+at_start commands s before h it older n off told is =
+    let now : Started s before h n off = started commands s before h.says h.answer h.event n off is in
     record {
       since = [];
       start = off;
       is = record { up = it; earlier = older; divided = refl; starts = told.starts ∙ is; last = tt };
-      off = start_alone off ((world_after s (h ∷ before)).clock n).off now.0;
-      ticks = now.1;
+      off = start_alone off ((world_after s (h ∷ before)).clock n).off now;
     }
 
 added : (start sum more off after : ℤ) → off ≡ start +ℤ sum → after ≡ off +ℤ more → after ≡ start +ℤ (more +ℤ sum)
 added start sum more off after e f = omega (arith, ints, e, f)
 
-later : CommandsAreHeld → TicksAreCounted → (s : Setting) (before : List Happened) (h : Happened) (it : Seen) (older : List Seen) (n : ℕ) → HasNames s.cfg → n < node_count s.cfg → IsSeen s it before h →
+later : CommandsAreHeld → (s : Setting) (before : List Happened) (h : Happened) (it : Seen) (older : List Seen) (n : ℕ) → HasNames s.cfg → n < node_count s.cfg → IsSeen s it before h →
     TellsEvent (name_at s.cfg n) n (parts_of it.event) h.event → start_by h.event n ≡ None → Since s (world_after s before) older n → Since s (world_after s (h ∷ before)) (it ∷ older) n
-later commands counted s before h it older n names below seen told none old =
+later commands s before h it older n names below seen told none old =
     let node : List ℕ = name_at s.cfg n in
     let period : ℕ = period_of s.cfg.clock in
     let drift : drift_by h.event n +ℤ (cycles_at s before h n *ℤ pos period) ≡ moved_by period node it =
@@ -186,31 +159,26 @@ later commands counted s before h it older n names below seen told none old =
             last = (told.starts ∙ none, old.is.last);
           };
       off = added old.start (total (moved_by period node) old.since) (moved_by period node it) ((world_after s before).clock n).off ((world_after s (h ∷ before)).clock n).off old.off moves;
-      ticks =
-          event_count counted s h.says h.answer (world_after s before) h.event n
-          ∙ counts_on h.event n ((world_after s before).node n).ticks none
-          ∙ ap₂ (λ (x y : ℕ). x + y) (sym told.ticks) old.ticks
-          ∙ sym (sum_by-cons (λ (x : Seen). ticks_in node (parts_of x.event)) it old.since);
     }
 
-next_since : CommandsAreHeld → TicksAreCounted → (s : Setting) (before : List Happened) (h : Happened) (it : Seen) (older : List Seen) (n : ℕ) → HasNames s.cfg → n < node_count s.cfg → IsSeen s it before h →
+next_since : CommandsAreHeld → (s : Setting) (before : List Happened) (h : Happened) (it : Seen) (older : List Seen) (n : ℕ) → HasNames s.cfg → n < node_count s.cfg → IsSeen s it before h →
     IfUp s (world_after s before) older n → IfUp s (world_after s (h ∷ before)) (it ∷ older) n
-next_since commands counted s before h it older n names below seen old up =
+next_since commands s before h it older n names below seen old up =
     let told : TellsEvent (name_at s.cfg n) n (parts_of it.event) h.event = tells s it before h n names below seen in
     let w : WorldAt = world_after s before in
     elim (start_or_not h.event n) [
-      | inl start ↦ at_start commands counted s before h it older n start.0 told start.1
+      | inl start ↦ at_start commands s before h it older n start.0 told start.1
       | inr none ↦
-          later commands counted s before h it older n names below seen told none
+          later commands s before h it older n names below seen told none
           (old (stays_up w h.event n none (sym (event_stands s h.says h.answer w h.event n) ∙ up)))
     ]
 
-all_since : CommandsAreHeld → TicksAreCounted → (s : Setting) (events : List Happened) (seen : List Seen) (n : ℕ) → HasNames s.cfg → n < node_count s.cfg → AreSeen s seen events → IfUp s (world_after s events) seen n
-all_since commands counted s [] [] n names below are up = absurd (true≢false (sym up))
-all_since commands counted s [] (it ∷ seen) n names below are up = absurd are
-all_since commands counted s (h ∷ before) [] n names below are up = absurd are
-all_since commands counted s (h ∷ before) (it ∷ seen) n names below are up =
-    next_since commands counted s before h it seen n names below (record { says = are.0; lines = are.1 }) (all_since commands counted s before seen n names below are.2) up
+all_since : CommandsAreHeld → (s : Setting) (events : List Happened) (seen : List Seen) (n : ℕ) → HasNames s.cfg → n < node_count s.cfg → AreSeen s seen events → IfUp s (world_after s events) seen n
+all_since commands s [] [] n names below are up = absurd (true≢false (sym up))
+all_since commands s [] (it ∷ seen) n names below are up = absurd are
+all_since commands s (h ∷ before) [] n names below are up = absurd are
+all_since commands s (h ∷ before) (it ∷ seen) n names below are up =
+    next_since commands s before h it seen n names below (record { says = are.0; lines = are.1 }) (all_since commands s before seen n names below are.2) up
 
 -- Track lines
 
@@ -218,16 +186,7 @@ all_since commands counted s (h ∷ before) (it ∷ seen) n names below are up =
 abbrev Claims : Setting → Seen → List Seen → List ℕ → Type 0
 Claims s it older line =
     (node tick est bound off : List ℕ) → Reads line (node ∷ tick ∷ codes "track" ∷ est ∷ bound ∷ codes "true" ∷ off ∷ []) →
-    Follows s.cfg it older node tick bound off
-
-abbrev words_at : Setting → WorldAt → ℕ → Output → List (List ℕ)
-words_at s w m o = name_at s.cfg m ∷ decimal (w.node m).ticks ∷ output_words o (pos (path_of s.cfg m)) (Some (w.clock m).off)
-
-abbrev line_at : Setting → WorldAt → ℕ → Output → List ℕ
-line_at s w m o = output_line s.cfg m (w.node m).ticks o (Some (w.clock m).off)
-
-at_reads : (s : Setting) (w : WorldAt) (m : ℕ) (o : Output) → HasNames s.cfg → Reads (line_at s w m o) (words_at s w m o)
-at_reads s w m o names = output_reads (name_at s.cfg m) (w.node m).ticks o (pos (path_of s.cfg m)) (Some (w.clock m).off) (at_word s.cfg names m)
+    Follows s.cfg it older node bound off
 
 abbrev first_of : List (List ℕ) → List ℕ
 first_of [] = []
@@ -279,11 +238,10 @@ track_claims s w it older m est names ticked node tick words bound off is =
     let same : words_at s w m (Report (Track est)) ++ [] ∷ [] ≡ (node ∷ tick ∷ codes "track" ∷ words ∷ bound ∷ codes "true" ∷ off ∷ []) ++ [] ∷ [] =
     sym (at_reads s w m (Report (Track est)) names) ∙ is in
     let node_is : name_at s.cfg m ≡ node = ap first_of same in
-    let tick_is : decimal (w.node m).ticks ≡ tick = ap (λ (l : List (List ℕ)). first_of (rest_of l)) same in
     let bound_is : decimal (path_of s.cfg m) ≡ bound = ap (λ (l : List (List ℕ)). first_of (rest_of (rest_of (rest_of (rest_of l))))) same in
     let off_is : signed_decimal (w.clock m).off ≡ off = ap (λ (l : List (List ℕ)). first_of (rest_of (rest_of (rest_of (rest_of (rest_of (rest_of l))))))) same in
     let since : Since s w (it ∷ older) m = ticked.since in
-    subst (λ (name : List ℕ). Follows s.cfg it older name tick bound off) node_is
+    subst (λ (name : List ℕ). Follows s.cfg it older name bound off) node_is
     (record {
       number = m;
       there = ticked.there;
@@ -292,7 +250,6 @@ track_claims s w it older m est names ticked node tick words bound off is =
       start = since.start;
       is_since = since.is;
       ticks = ticked.tick;
-      tick_is = ap decimal (sym since.ticks) ∙ tick_is;
       bound_is = bound_is;
       off_is = ap signed_decimal (sym since.off) ∙ off_is;
     })
@@ -364,9 +321,11 @@ follow commands counted s [] [] run are = tt
 follow commands counted s [] (it ∷ seen) run are = absurd are
 follow commands counted s (h ∷ before) [] run are = absurd are
 follow commands counted s (h ∷ before) (it ∷ seen) run are = (
+  subst (AllByRecursion (TellsTicks s.cfg (it ∷ seen))) (sym are.1)
+      (event_tells s before h (it ∷ seen) run.network run.each.0 (all_counted counted s (h ∷ before) (it ∷ seen) run.network.accepted.names are)),
   claims_are s it seen (lines_at (λ o. true) s before h) are.1
       (event_claims s before h.says h.answer h.event it seen run.network.accepted.names run.each.0 run.accepted.0 are.0
-      (λ n below. all_since commands counted s (h ∷ before) (it ∷ seen) n run.network.accepted.names below are)),
+      (λ n below. all_since commands s (h ∷ before) (it ∷ seen) n run.network.accepted.names below are)),
   follow commands counted s before seen (record { network = run.network; each = run.each.1; accepted = run.accepted.1 }) are.2,
 )
 

@@ -4,6 +4,8 @@ pub mod Outputs
 pub mod Events
 pub mod Clocks
 pub mod Fields
+pub mod There
+pub mod Ticks
 pub mod Following
 pub mod Commands
 pub mod Within

@@ -1,5 +1,6 @@
--- How the offset in a `track` line follows from the event lines and the `step` lines up to it (this project's profile).
-use Rattle.std.specs.Prelude.{◌≡◌, ℕ, ℤ, pos, ◌+ℤ◌, ◌*ℤ◌, ◌<◌, ◌&&◌, if◌then◌else◌, unwrap_or, sum_by, List, [], ◌∷◌, ◌++◌, Option, None, Some, codes}
+-- How the offset in a `track` line follows from the event lines and the `step` lines up to it, and how the tick count in each
+-- line follows from the event lines (this project's profile).
+use Rattle.std.specs.Prelude.{◌≡◌, ℕ, ◌+◌, ℤ, pos, ◌+ℤ◌, ◌*ℤ◌, ◌<◌, ◌&&◌, if◌then◌else◌, is_some, unwrap_or, List, [], ◌∷◌, ◌++◌, Option, None, Some, codes}
 use Rattle.std.specs.Fmt.{decimal, signed_decimal}
 use Rattle.std.specs.List.{AllByRecursion}
 use Rattle.wrp_base.specs.Clock.{period_of}
@@ -60,6 +61,26 @@ abbrev pub moved_by : (period : ℕ) → List ℕ → Seen → ℤ
 moved_by period node seen =
     passed_in node (parts_of seen.event) +ℤ (total (λ line. cycles_in node (gap_parts line)) seen.lines *ℤ pos period)
 
+-- Tick counts
+
+-- of what is seen, the newest first, the ticks of the node since its last `up`
+abbrev pub ticks_since : List ℕ → List Seen → ℕ
+ticks_since node [] = 0
+ticks_since node (it ∷ older) =
+    if is_some (start_in node (parts_of it.event)) then 0
+    else ticks_in node (parts_of it.event) + ticks_since node older
+
+-- the line reads NODE TICK and more: NODE is a node of the network, and TICK counts its ticks since its last start
+abbrev pub TellsTicks : NetCfg → List Seen → List ℕ → Type 0
+TellsTicks cfg seen line =
+    (number : ℕ) × (more : List (List ℕ)) × (number < node_count cfg)
+    × (gap_parts line ≡ name_at cfg number ∷ decimal (ticks_since (name_at cfg number) seen) ∷ more)
+
+-- so it is with each line that is printed of the newest event line. Thus a `step` line from before a start of its node is counted after
+-- it only at an event line where the node has as many ticks again
+abbrev pub TicksFollow : NetCfg → Seen → List Seen → Type 0
+TicksFollow cfg newest older = AllByRecursion (TellsTicks cfg (newest ∷ older)) newest.lines
+
 -- Since the last start
 
 -- of what is seen, the newest first, this is all since the last `up` of the node, which started its clock with this offset
@@ -72,9 +93,9 @@ pub record IsSince (node : List ℕ) (seen since : List Seen) (start : ℤ) : Ty
 
 -- Track lines
 
--- these words are what a `track` line of the newest event line says: the event is a tick of the node, TICK counts its ticks since its
--- last start, BOUND is the bound of its path in the network, and OFF its start and all by which its clock moved since
-pub record Follows (cfg : NetCfg) (newest : Seen) (older : List Seen) (node tick bound off : List ℕ) : Type 0 where
+-- these words are what a `track` line of the newest event line says: the event is a tick of the node, BOUND is the bound of its path
+-- in the network, and OFF its start and all by which its clock moved since
+pub record Follows (cfg : NetCfg) (newest : Seen) (older : List Seen) (node bound off : List ℕ) : Type 0 where
   pub number : ℕ
   pub there : number < node_count cfg
   pub name : name_at cfg number ≡ node
@@ -82,7 +103,6 @@ pub record Follows (cfg : NetCfg) (newest : Seen) (older : List Seen) (node tick
   pub start : ℤ
   pub is_since : IsSince node (newest ∷ older) since start
   pub ticks : ticks_in node (parts_of newest.event) ≡ 1
-  pub tick_is : decimal (sum_by (λ it. ticks_in node (parts_of it.event)) since) ≡ tick
   pub bound_is : decimal (path_of cfg number) ≡ bound
   pub off_is : signed_decimal (start +ℤ total (moved_by (period_of cfg.clock) node) since) ≡ off
 
@@ -92,10 +112,10 @@ TracksFollow cfg newest older =
     AllByRecursion
     (λ line. (node tick est bound off : List ℕ) →
     Reads line (node ∷ tick ∷ codes "track" ∷ est ∷ bound ∷ codes "true" ∷ off ∷ []) →
-    Follows cfg newest older node tick bound off)
+    Follows cfg newest older node bound off)
     newest.lines
 
 -- and of each event line; the newest is first
 abbrev pub AllFollow : NetCfg → List Seen → Type 0
 AllFollow cfg [] = Unit {0}
-AllFollow cfg (newest ∷ older) = TracksFollow cfg newest older × AllFollow cfg older
+AllFollow cfg (newest ∷ older) = TicksFollow cfg newest older × TracksFollow cfg newest older × AllFollow cfg older

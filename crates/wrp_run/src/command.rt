@@ -169,7 +169,8 @@ pub fn run<S: Source, K: Sink, N: Link>(
 
     // Of an audit, for each status: in each such line BOUND is that of the node's path in the network file, and OFF is the
     // offset of the node's last `up` event, and to it are added the drift of each `pass` since and a period for each of the
-    // CYCLES of each `step` line of the node since. The event lines are those of the input.
+    // CYCLES of each `step` line of the node since. TICK of each line counts the `tick` events of its node since the last
+    // `up`. The event lines are those of the input.
     ensures follows { IsAuditing (asked_in words.now) → IfSome (S.left source.old) (λ input.
         (octets : List ℕ) × Appends (K.held sink.old) (K.held sink.new) octets × AuditFollows input octets) }
 
