@@ -12,7 +12,7 @@ use Rattle.wrp_course.specs.Given.{NodeStepAt}
 use Rattle.wrp_course.specs.Setting.{Setting}
 use Rattle.wrp_course.specs.WorldAt.{WorldAt}
 use Rattle.wrp_records.specs.Lines.{IsWhole, lines_of}
-use Rattle.wrp_records.proofs.WordLemmas.{head_of, line_in_front, line_whole}
+use Rattle.wrp_records.proofs.WordLemmas.{decimal_word, head_of, line_in_front, line_whole}
 
 -- the second octet of a text
 abbrev pub next_of : List ℕ → ℕ
