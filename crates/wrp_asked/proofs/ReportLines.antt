@@ -1,7 +1,9 @@
--- The lines of an event are those of its outputs, one by one, so that of each report of TRACK is among them.
-use Rattle.std.proofs.Common.{◌≡◌, ◌∙◌, refl, ap, sym, subst, ℕ, ℤ, Bool, true, false, if◌then◌else◌, List, [], ◌∷◌, ◌++◌, append_assoc, flat_map, Some, arith}
+-- The lines of an event are those of its outputs, one by one, so the line of each report is among them.
+use Rattle.std.proofs.Common.{◌≡◌, ◌∙◌, refl, ap, sym, subst, ℕ, Bool, true, false, if◌then◌else◌, List, [], ◌∷◌, ◌++◌, append_assoc, flat_map, Some, arith}
 use Rattle.std.specs.List.{AllByRecursion, Contains}
 use Rattle.std.proofs.lemmas.List.Elements.{Contains-append_left, Contains-append_right}
+use Rattle.wrp_base.specs.declared.link.LinkState.TheVariants.{LinkOn}
+use Rattle.wrp_base.specs.declared.link.LinkWord.TheVariants.{In}
 use Rattle.wrp_base.proofs.Lists.{all_weaker}
 use Rattle.wrp_config.specs.Accepted.{HasNames}
 use Rattle.wrp_course.specs.Given.{NodeStepAt}
@@ -9,12 +11,13 @@ use Rattle.wrp_course.specs.Run.{Happened, steps_at, world_after}
 use Rattle.wrp_course.specs.Setting.{Setting}
 use Rattle.wrp_course.specs.WorldAt.{WorldAt}
 use Rattle.wrp_node.specs.declared.interface.Output.{Output}
-use Rattle.wrp_node.specs.declared.interface.Output.TheVariants.{Send, Step, Dac, Report}
-use Rattle.wrp_node.specs.declared.interface.Report.TheVariants.{Link, Servo, Track}
+use Rattle.wrp_node.specs.declared.interface.Output.TheVariants.{Report as ReportOf}
+use Rattle.wrp_node.specs.declared.interface.Report.{Report}
+use Rattle.wrp_node.specs.declared.interface.Report.TheVariants.{Link, Track}
 use Rattle.wrp_records.specs.Lines.{IsWhole, lines_of}
 use Rattle.wrp_records.proofs.Feeds.{lines_of-whole}
 use Rattle.wrp_simulate.specs.SimText.{is_printed}
-use Rattle.wrp_asked.specs.ReportLines.{HasTrackLine, ReportsHaveLines, TrackReportsHaveLines}
+use Rattle.wrp_asked.specs.ReportLines.{HasLinkOnLine, HasTrackLine, LineOf, LinkOnReportsHaveLines, ReportsHaveLines, TrackReportsHaveLines}
 use Rattle.wrp_asked.proofs.EventLines.{line_at, lines_by, whole_line}
 use Rattle.wrp_asked.proofs.HeadlineParts.{writes}
 
@@ -48,66 +51,94 @@ steps_cut has_line s w (step ∷ steps) names =
     outs_cut has_line s w step.node step.outs (flat_map (lines_by has_line s w) steps) names
     ∙ ap (λ (l : List (List ℕ)). step_lines has_line s w step ++ l) (steps_cut has_line s w steps names)
 
--- Reports
+-- each output that has a line has it among these
+abbrev HasOwnLine : (Output → Bool) → LineOf
+HasOwnLine has_line s w lines n o = has_line o ≡ true → Contains lines (line_at s w n o)
 
--- each report of TRACK has a line
-abbrev TellsTracks : (Output → Bool) → Type 0
-TellsTracks has_line = (est : ℤ) → has_line (Report (Track est)) ≡ true
+abbrev HaveOwnLines : (Output → Bool) → Setting → WorldAt → List (List ℕ) → List NodeStepAt → Type 0
+HaveOwnLines has_line s w lines steps =
+    AllByRecursion (λ (step : NodeStepAt). AllByRecursion (HasOwnLine has_line s w lines step.node) step.outs) steps
 
-more_lines : (s : Setting) (w : WorldAt) (some lines : List (List ℕ)) (n : ℕ) (o : Output) → ((line : List ℕ) → Contains some line → Contains lines line) → HasTrackLine s w some n o → HasTrackLine s w lines n o
-more_lines s w some lines n (Send p frame) f h = tt
-more_lines s w some lines n (Step cycles) f h = tt
-more_lines s w some lines n (Dac value) f h = tt
-more_lines s w some lines n (Report (Link p word)) f h = tt
-more_lines s w some lines n (Report (Servo state)) f h = tt
-more_lines s w some lines n (Report (Track est)) f h = f _ h
+outs_more : (has_line : Output → Bool) (s : Setting) (w : WorldAt) (some lines : List (List ℕ)) (n : ℕ) (outs : List Output) →
+    ((line : List ℕ) → Contains some line → Contains lines line) → AllByRecursion (HasOwnLine has_line s w some n) outs →
+    AllByRecursion (HasOwnLine has_line s w lines n) outs
+outs_more has_line s w some lines n outs f have =
+    all_weaker (HasOwnLine has_line s w some n) (HasOwnLine has_line s w lines n) (λ o has is. f (line_at s w n o) (has is)) outs have
 
 alone : (line : List ℕ) → Contains (line ∷ []) line
 alone line = (0, omega arith, refl)
 
-out_told : (has_line : Output → Bool) (s : Setting) (w : WorldAt) (n : ℕ) (o : Output) → TellsTracks has_line → HasTrackLine s w (out_lines has_line s w n o) n o
-out_told has_line s w n (Send p frame) tells = tt
-out_told has_line s w n (Step cycles) tells = tt
-out_told has_line s w n (Dac value) tells = tt
-out_told has_line s w n (Report (Link p word)) tells = tt
-out_told has_line s w n (Report (Servo state)) tells = tt
-out_told has_line s w n (Report (Track est)) tells =
-    let line : List ℕ = line_at s w n (Report (Track est)) in
-    subst (λ (b : Bool). Contains (if b then line ∷ [] else []) line) (sym (tells est)) (alone line)
+own_told : (has : Bool) (line : List ℕ) → has ≡ true → Contains (if has then line ∷ [] else []) line
+own_told has line is = subst (λ (b : Bool). Contains (if b then line ∷ [] else []) line) (sym is) (alone line)
 
-outs_told : (has_line : Output → Bool) (s : Setting) (w : WorldAt) (n : ℕ) (outs : List Output) → TellsTracks has_line → AllByRecursion (HasTrackLine s w (flat_map (out_lines has_line s w n) outs) n) outs
-outs_told has_line s w n [] tells = tt
-outs_told has_line s w n (o ∷ outs) tells =
+outs_told : (has_line : Output → Bool) (s : Setting) (w : WorldAt) (n : ℕ) (outs : List Output) →
+    AllByRecursion (HasOwnLine has_line s w (flat_map (out_lines has_line s w n) outs) n) outs
+outs_told has_line s w n [] = tt
+outs_told has_line s w n (o ∷ outs) =
     let one : List (List ℕ) = out_lines has_line s w n o in
     let others : List (List ℕ) = flat_map (out_lines has_line s w n) outs in (
-      more_lines s w one (one ++ others) n o (λ line h. Contains-append_left one others line h) (out_told has_line s w n o tells),
-      all_weaker (HasTrackLine s w others n) (HasTrackLine s w (one ++ others) n) (λ x h. more_lines s w others (one ++ others) n x (λ line k. Contains-append_right one others line k) h) outs
-          (outs_told has_line s w n outs tells),
+      (λ is. Contains-append_left one others (line_at s w n o) (own_told (has_line o) (line_at s w n o) is)),
+      outs_more has_line s w others (one ++ others) n outs (λ line has. Contains-append_right one others line has) (outs_told has_line s w n outs),
     )
 
--- each report of these steps has its line among these
-abbrev AllHaveLines : Setting → WorldAt → List (List ℕ) → List NodeStepAt → Type 0
-AllHaveLines s w lines steps = AllByRecursion (λ (step : NodeStepAt). AllByRecursion (HasTrackLine s w lines step.node) step.outs) steps
-
-among_more : (s : Setting) (w : WorldAt) (some lines : List (List ℕ)) (n : ℕ) (outs : List Output) → ((line : List ℕ) → Contains some line → Contains lines line) → AllByRecursion (HasTrackLine s w some n) outs → AllByRecursion (HasTrackLine s w lines n) outs
-among_more s w some lines n outs f h = all_weaker (HasTrackLine s w some n) (HasTrackLine s w lines n) (λ x k. more_lines s w some lines n x f k) outs h
-
-steps_told : (has_line : Output → Bool) (s : Setting) (w : WorldAt) (steps : List NodeStepAt) → TellsTracks has_line → AllHaveLines s w (flat_map (step_lines has_line s w) steps) steps
-steps_told has_line s w [] tells = tt
-steps_told has_line s w (step ∷ steps) tells =
+steps_told : (has_line : Output → Bool) (s : Setting) (w : WorldAt) (steps : List NodeStepAt) →
+    HaveOwnLines has_line s w (flat_map (step_lines has_line s w) steps) steps
+steps_told has_line s w [] = tt
+steps_told has_line s w (step ∷ steps) =
     let one : List (List ℕ) = step_lines has_line s w step in
     let others : List (List ℕ) = flat_map (step_lines has_line s w) steps in (
-      among_more s w one (one ++ others) step.node step.outs (λ line h. Contains-append_left one others line h) (outs_told has_line s w step.node step.outs tells),
-      all_weaker (λ (x : NodeStepAt). AllByRecursion (HasTrackLine s w others x.node) x.outs) (λ (x : NodeStepAt). AllByRecursion (HasTrackLine s w (one ++ others) x.node) x.outs)
-          (λ x h. among_more s w others (one ++ others) x.node x.outs (λ line k. Contains-append_right one others line k) h) steps (steps_told has_line s w steps tells),
+      outs_more has_line s w one (one ++ others) step.node step.outs (λ line has. Contains-append_left one others line has)
+          (outs_told has_line s w step.node step.outs),
+      all_weaker (λ (x : NodeStepAt). AllByRecursion (HasOwnLine has_line s w others x.node) x.outs)
+          (λ (x : NodeStepAt). AllByRecursion (HasOwnLine has_line s w (one ++ others) x.node) x.outs)
+          (λ x have. outs_more has_line s w others (one ++ others) x.node x.outs (λ line has. Contains-append_right one others line has) have) steps
+          (steps_told has_line s w steps),
     )
 
-event_told : (has_line : Output → Bool) (s : Setting) (before : List Happened) (h : Happened) → HasNames s.cfg → TellsTracks has_line → ReportsHaveLines (writes has_line) s before h
-event_told has_line s before h names tells =
+event_told : (has_line : Output → Bool) (s : Setting) (before : List Happened) (h : Happened) → HasNames s.cfg →
+    HaveOwnLines has_line s (world_after s (h ∷ before)) (lines_of (writes has_line s before h)) (steps_at s before h)
+event_told has_line s before h names =
     let w : WorldAt = world_after s (h ∷ before) in
-    subst (λ (lines : List (List ℕ)). AllHaveLines s w lines (steps_at s before h)) (sym (steps_cut has_line s w (steps_at s before h) names))
-    (steps_told has_line s w (steps_at s before h) tells)
+    subst (λ (lines : List (List ℕ)). HaveOwnLines has_line s w lines (steps_at s before h)) (sym (steps_cut has_line s w (steps_at s before h) names))
+    (steps_told has_line s w (steps_at s before h))
+
+-- Reports
+
+-- the line of an output is the line of its report
+abbrev TellsOf : (Output → Bool) → LineOf → Type 0
+TellsOf has_line HasLine =
+    (s : Setting) (w : WorldAt) (lines : List (List ℕ)) (n : ℕ) (o : Output) → HasOwnLine has_line s w lines n o → HasLine s w lines n o
+
+reports_told : (has_line : Output → Bool) (HasLine : LineOf) → TellsOf has_line HasLine → (s : Setting) (before : List Happened) (h : Happened) →
+    HasNames s.cfg → ReportsHaveLines HasLine (writes has_line) s before h
+reports_told has_line HasLine tells s before h names =
+    let w : WorldAt = world_after s (h ∷ before) in
+    let lines : List (List ℕ) = lines_of (writes has_line s before h) in
+    all_weaker (λ (step : NodeStepAt). AllByRecursion (HasOwnLine has_line s w lines step.node) step.outs)
+    (λ (step : NodeStepAt). AllByRecursion (HasLine s w lines step.node) step.outs)
+    (λ step have. all_weaker (HasOwnLine has_line s w lines step.node) (HasLine s w lines step.node) (tells s w lines step.node) step.outs have)
+    (steps_at s before h) (event_told has_line s before h names)
+
+-- a report has a line
+report_told : (has_line : Output → Bool) (s : Setting) (w : WorldAt) (lines : List (List ℕ)) (n : ℕ) (o : Output) (report : Report) →
+    has_line (ReportOf report) ≡ true → HasOwnLine has_line s w lines n o → o ≡ ReportOf report → Contains lines (line_at s w n (ReportOf report))
+report_told has_line s w lines n o report printed own is = subst (HasOwnLine has_line s w lines n) is own printed
+
+tracks_told : (has_line : Output → Bool) → ((report : Report) → has_line (ReportOf report) ≡ true) → TellsOf has_line HasTrackLine
+tracks_told has_line printed s w lines n o own est is = report_told has_line s w lines n o (Track est) (printed (Track est)) own is
+
+links_told : (has_line : Output → Bool) → ((report : Report) → has_line (ReportOf report) ≡ true) → TellsOf has_line HasLinkOnLine
+links_told has_line printed s w lines n o own p is =
+    report_told has_line s w lines n o (Link p (In LinkOn)) (printed (Link p (In LinkOn))) own is
 
 pub track_reports_have_lines : TrackReportsHaveLines
-track_reports_have_lines s before h net =
-    (event_told (λ o. true) s before h net.accepted.names (λ est. refl), event_told is_printed s before h net.accepted.names (λ est. refl))
+track_reports_have_lines s before h net = (
+  reports_told (λ o. true) HasTrackLine (tracks_told (λ o. true) (λ report. refl)) s before h net.accepted.names,
+  reports_told is_printed HasTrackLine (tracks_told is_printed (λ report. refl)) s before h net.accepted.names,
+)
+
+pub link_on_reports_have_lines : LinkOnReportsHaveLines
+link_on_reports_have_lines s before h net = (
+  reports_told (λ o. true) HasLinkOnLine (links_told (λ o. true) (λ report. refl)) s before h net.accepted.names,
+  reports_told is_printed HasLinkOnLine (links_told is_printed (λ report. refl)) s before h net.accepted.names,
+)

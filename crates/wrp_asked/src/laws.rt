@@ -4,7 +4,7 @@ ghost use Rattle.wrp_asked.specs.EmitHeadline.{EmissionsTellNoTrack};
 ghost use Rattle.wrp_asked.specs.Headline.{EventsCarryParts};
 ghost use Rattle.wrp_asked.specs.LoopHeadline.{LoopedEventsCarryParts};
 ghost use Rattle.wrp_asked.specs.ReplayHeadline.{ReplaysAreTold};
-ghost use Rattle.wrp_asked.specs.ReportLines.{TrackReportsHaveLines};
+ghost use Rattle.wrp_asked.specs.ReportLines.{LinkOnReportsHaveLines, TrackReportsHaveLines};
 ghost use Rattle.wrp_asked.specs.SimHeadline.{MadeEventsCarryParts};
 
 use wrp_audit::one_audit;
@@ -98,4 +98,10 @@ pub fn runs_print_within_bounds()
 /// offset from true time. So the law above speaks of some line wherever a node reports TRACK.
 pub fn track_reports_have_lines()
     ensures { TrackReportsHaveLines }
+{}
+
+/// So it is with each report that a link is on: among these lines is the one with the name and the tick count of the
+/// node and the port. So what the aim says of such lines speaks of some line wherever a node reports that a link is on.
+pub fn link_on_reports_have_lines()
+    ensures { LinkOnReportsHaveLines }
 {}

@@ -8,8 +8,8 @@ mod laws;
 mod network_text;
 
 pub use laws::{
-    emissions_tell_no_track, events_carry_parts, looped_events_carry_parts,
-    made_events_carry_parts, one_answer, replays_are_told, runs_print_within_bounds,
-    track_reports_have_lines,
+    emissions_tell_no_track, events_carry_parts, link_on_reports_have_lines,
+    looped_events_carry_parts, made_events_carry_parts, one_answer, replays_are_told,
+    runs_print_within_bounds, track_reports_have_lines,
 };
 pub use network_text::{HowItEnded, NetworkText, take_network};
