@@ -9,7 +9,8 @@ use Rattle.wrp_due.proofs.Happening.{event_answered, event_said}
 use Rattle.wrp_due.proofs.Heard.{all_heard, lines_hand_on}
 use Rattle.wrp_records.specs.Lines.{content_of, lines_of}
 use Rattle.wrp_trace.specs.LineSetting.{line_setting_in}
-use Rattle.wrp_audit.specs.Audited.{IsAudit, IsSettingOf}
+use Rattle.wrp_audit.specs.Audited.{IsAudit}
+use Rattle.wrp_network_world.specs.NetworkSetting.{IsSettingOf}
 use Rattle.wrp_replay.specs.DownLaw.{law_at}
 use Rattle.wrp_asked.specs.Input.{behind_separator}
 use Rattle.wrp_asked.specs.Tasks.{Audit}

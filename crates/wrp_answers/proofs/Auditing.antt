@@ -21,11 +21,13 @@ use Rattle.wrp_records.specs.declared.status.Status.TheVariants.{Done}
 use Rattle.wrp_records.specs.Refusals.{bad_trace_line}
 use Rattle.wrp_recorded.specs.Recorded.{AllSaidByLines}
 use Rattle.wrp_trace.specs.Events.{event_read}
-use Rattle.wrp_audit.specs.Audited.{AreEvents, IsAudit, answers_in}
+use Rattle.wrp_audit.specs.Audited.{AreEvents, IsAudit}
+use Rattle.wrp_network_world.specs.NetworkSetting.{answers_in}
 use Rattle.wrp_audit.specs.Audits.{Audits, Breaks, Emits, audit_of, emission_of}
 use Rattle.wrp_trace.specs.LineSetting.{line_setting_in}
 use Rattle.wrp_replay.specs.DownLaw.{law_at}
-use Rattle.wrp_audit.specs.AuditText.{all_counts, event_lines, given_line}
+use Rattle.wrp_audit.specs.AuditText.{event_lines, given_line}
+use Rattle.wrp_network_world.specs.Counts.{all_counts}
 use Rattle.wrp_audit.specs.Broken.{broken_line}
 use Rattle.wrp_audit.proofs.OneAudit.{one_line, read}
 use Rattle.wrp_due.proofs.Happening.{event_answered, event_said, event_tried}

@@ -21,7 +21,7 @@ use Rattle.wrp_trace.specs.LineSetting.{LineSetting}
 use Rattle.wrp_commands.specs.Request.{CommandLine, Request}
 use Rattle.wrp_commands.specs.Request as requests
 use Rattle.wrp_asked.specs.Answer.{AloneAnswer, Answer, IsNetworked, IsOfNode, TaskAnswer}
-use Rattle.wrp_audit.specs.Audited.{setting_at}
+use Rattle.wrp_network_world.specs.NetworkSetting.{setting_at}
 use Rattle.wrp_asked.specs.Input.{behind_separator, network_limit, network_text}
 use Rattle.wrp_asked.specs.Tasks.{AsksFor, Audit, Emit, IsAuditing, IsEmission, IsLooping, IsReplay, IsSimulation, Loop, Replay, Simulate, Task, meaning_at}
 use Rattle.wrp_replay.proofs.BareSetting.{named_bare}

@@ -31,7 +31,7 @@ use Rattle.wrp_course.specs.Setting.{Setting}
 use Rattle.wrp_trace.proofs.PassReadsBack.{AreLinksFrom, AreNodesFrom, all_links, all_nodes}
 use Rattle.wrp_trace.specs.EventPrinting.{drift_texts, drift_words, event_text, event_texts, link_text, move_texts, move_words, swap_text}
 use Rattle.wrp_trace.specs.Printing.{bits_text}
-use Rattle.wrp_audit.specs.Audited.{IsSettingOf}
+use Rattle.wrp_network_world.specs.NetworkSetting.{IsSettingOf}
 
 -- How many nodes and links
 

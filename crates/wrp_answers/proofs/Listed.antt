@@ -14,7 +14,8 @@ use Rattle.wrp_records.specs.Stream.{IsWithin, number_limit}
 use Rattle.wrp_commands.specs.Request.{CommandLine}
 use Rattle.wrp_commands.specs.Request as requests
 use Rattle.wrp_asked.specs.Answer.{Answer}
-use Rattle.wrp_audit.specs.Audited.{IsAudit, IsSettingOf}
+use Rattle.wrp_audit.specs.Audited.{IsAudit}
+use Rattle.wrp_network_world.specs.NetworkSetting.{IsSettingOf}
 use Rattle.wrp_audit.specs.AuditText.{given_lines}
 use Rattle.wrp_asked.specs.Input.{behind_separator, network_limit, network_text}
 use Rattle.wrp_asked.specs.Tasks.{AsksFor, Audit, Emit, IsAuditing, IsEmission, Task, meaning_at, task_row}

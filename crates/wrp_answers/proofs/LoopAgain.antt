@@ -18,9 +18,11 @@ use Rattle.wrp_records.specs.RecordsAnswer.{IsWholly}
 use Rattle.wrp_records.specs.Stream.{IsWithin}
 use Rattle.wrp_commands.specs.Request.{CommandLine}
 use Rattle.wrp_asked.specs.Answer.{Answer}
-use Rattle.wrp_audit.specs.Audited.{IsAudit, IsSettingOf, answers_in}
+use Rattle.wrp_audit.specs.Audited.{IsAudit}
+use Rattle.wrp_network_world.specs.NetworkSetting.{IsSettingOf, answers_in}
 use Rattle.wrp_audit.specs.Audits.{audit_of}
-use Rattle.wrp_audit.specs.AuditText.{all_counts, audit_lines, event_lines}
+use Rattle.wrp_audit.specs.AuditText.{audit_lines, event_lines}
+use Rattle.wrp_network_world.specs.Counts.{all_counts}
 use Rattle.wrp_asked.specs.Headline.{CarriesRun}
 use Rattle.wrp_asked.specs.Input.{behind_separator, network_limit, network_text}
 use Rattle.wrp_asked.specs.LoopHeadline.{IsLoopDue, IsToldApart, LoopOf, LoopedEventsCarryParts, came_lines}

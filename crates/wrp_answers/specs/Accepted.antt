@@ -15,8 +15,10 @@ use Rattle.wrp_sim.specs.SimAt.{SimAt}
 use Rattle.wrp_trace.specs.Events.{event_read}
 use Rattle.wrp_commands.specs.Request.{CommandLine}
 use Rattle.wrp_asked.specs.Answer.{Answer}
-use Rattle.wrp_audit.specs.Audited.{AllHeard, AreEvents, IsAudit, IsSettingOf, answers_in}
-use Rattle.wrp_audit.specs.AuditText.{all_counts, audit_lines}
+use Rattle.wrp_audit.specs.Audited.{AllHeard, AreEvents, IsAudit}
+use Rattle.wrp_network_world.specs.NetworkSetting.{IsSettingOf, answers_in}
+use Rattle.wrp_audit.specs.AuditText.{audit_lines}
+use Rattle.wrp_network_world.specs.Counts.{all_counts}
 use Rattle.wrp_asked.specs.Input.{behind_separator, network_text}
 use Rattle.wrp_scene_records.specs.Scenarios.{IsScenario}
 use Rattle.wrp_simulate.specs.Simulates.{IsSimulated}

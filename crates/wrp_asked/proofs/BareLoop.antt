@@ -34,8 +34,8 @@ use Rattle.wrp_records.specs.declared.status.Status.TheVariants.{LinkFault, OutO
 use Rattle.wrp_records.specs.RecordsAnswer.{RecordsAnswer}
 use Rattle.wrp_records.specs.Stream.{large_line}
 use Rattle.wrp_loop.specs.Loops.{IsShort, LoopBreaks, LoopCloses, LoopEnded, LoopFailed, LoopShort, closing_lines, loop_of, plan_of}
-use Rattle.wrp_audit.proofs.BareAudit.{after_bare, bare_setting, ends_bare, steps_at_bare}
-use Rattle.wrp_audit.proofs.BareRuns.{answered_bare, counts_text, due_so}
+use Rattle.wrp_network_world.proofs.BareWorld.{after_bare, bare_setting, ends_bare, steps_at_bare, answered_bare, counts_text}
+use Rattle.wrp_network_world.proofs.Leads.{due_so}
 use Rattle.wrp_replay.proofs.BareSetting.{name_bare, path_bare}
 use Rattle.wrp_simulate.proofs.BareSim.{gives_after, links_count, refuses_bare, said_bare}
 use Rattle.wrp_scene.specs.Scenario.{SceneAt}

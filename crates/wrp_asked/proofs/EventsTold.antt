@@ -11,7 +11,8 @@ use Rattle.wrp_records.specs.declared.status.Status.TheVariants.{Done, BadTrace,
 use Rattle.wrp_audit.specs.Audited.{IsAudit}
 use Rattle.wrp_audit.specs.AuditLaws.{OneAudit}
 use Rattle.wrp_audit.specs.Audits.{AuditRefuses, audit_of, emission_of}
-use Rattle.wrp_audit.specs.AuditText.{all_counts, audit_lines, given_lines}
+use Rattle.wrp_audit.specs.AuditText.{audit_lines, given_lines}
+use Rattle.wrp_network_world.specs.Counts.{all_counts}
 use Rattle.wrp_asked.specs.Headline.{EndsEvents}
 use Rattle.wrp_asked.specs.Input.{Divides, behind_separator, network_text}
 use Rattle.wrp_records.specs.Lines.{content_of, lines_of}

@@ -19,7 +19,8 @@ use Rattle.wrp_course.specs.Run.{Happened, steps_at, world_after}
 use Rattle.wrp_course.specs.Runs.{AllEvents, IsNetwork, IsRun}
 use Rattle.wrp_course.specs.Setting.{Setting}
 use Rattle.wrp_world.specs.EventHolds.{LinksHold, LinksHoldInRuns}
-use Rattle.wrp_audit.specs.Audited.{AreEvents, IsSettingOf}
+use Rattle.wrp_audit.specs.Audited.{AreEvents}
+use Rattle.wrp_network_world.specs.NetworkSetting.{IsSettingOf}
 use Rattle.wrp_commands.specs.Request.{CommandLine}
 use Rattle.wrp_asked.specs.EventLines.{AtEachEvent, Writing}
 use Rattle.wrp_asked.specs.Headline.{AsksEventsOf, CarriesParts, Came, DropsCountAt, IsEarnedAt, OnlyCounts, OnlyCountsIf}

@@ -20,7 +20,8 @@ use Rattle.wrp_records.specs.Lines.{IsWhole, content_of, lines_of}
 use Rattle.wrp_records.proofs.Reaching.{lines_alone}
 use Rattle.wrp_records.specs.RecordsAnswer.{BreaksOff, IsLarge, IsRefused, IsWholly, RecordsAnswer, StandsFirst}
 use Rattle.wrp_records.specs.Stream.{CutHandled, large_line}
-use Rattle.wrp_audit.specs.AuditText.{all_counts, audit_lines, event_lines}
+use Rattle.wrp_audit.specs.AuditText.{audit_lines, event_lines}
+use Rattle.wrp_network_world.specs.Counts.{all_counts}
 use Rattle.wrp_commands.specs.Request.{CommandLine}
 use Rattle.wrp_commands.specs.Request as requests
 use Rattle.wrp_asked.specs.Answer.{Answer, CutTask, LoopAnswer}

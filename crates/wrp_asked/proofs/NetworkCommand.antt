@@ -14,7 +14,7 @@ use Rattle.wrp_records.proofs.Unique.{IsExact}
 use Rattle.wrp_replay.specs.Replays.{IsAccepted}
 use Rattle.wrp_servo.specs.Told.{ToldLast}
 use Rattle.wrp_loop.specs.Loops.{loop_of}
-use Rattle.wrp_audit.proofs.BareAudit.{bare_setting}
+use Rattle.wrp_network_world.proofs.BareWorld.{bare_setting}
 use Rattle.wrp_asked.specs.Tasks.{Task, Replay, Audit, Emit, Simulate, Loop, meaning_at, node_of, task_row}
 
 -- the laws by which a run, an audit and a servo are one

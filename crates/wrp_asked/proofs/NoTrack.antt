@@ -18,7 +18,7 @@ use Rattle.wrp_records.specs.Refusals.{bad_network_line, bad_trace_line, code_na
 use Rattle.wrp_records.specs.Stream.{large_line}
 use Rattle.wrp_records.specs.Words.{line_of, IsWord}
 use Rattle.wrp_records.proofs.Feeds.{lines_of-whole}
-use Rattle.wrp_audit.specs.Audited.{IsSettingOf}
+use Rattle.wrp_network_world.specs.NetworkSetting.{IsSettingOf}
 use Rattle.wrp_commands.specs.Request.{CommandLine}
 use Rattle.wrp_asked.specs.EmitHeadline.{EmissionsTellNoTrack, HasPlainUsage, InputsOf, LacksNode, TellsNoTrack}
 use Rattle.wrp_asked.specs.Headline.{EndsEvents, ReachesNone}

@@ -18,12 +18,12 @@ use Rattle.wrp_records.specs.RecordsAnswer.{RecordsAnswer}
 use Rattle.wrp_records.specs.Stream.{large_line}
 use Rattle.wrp_records.proofs.Unique.{EndsWith, IsExact, never_barred}
 use Rattle.wrp_asked.specs.Answer.{LoopDue}
-use Rattle.wrp_audit.specs.AuditText.{all_counts}
-use Rattle.wrp_audit.specs.Audited.{laws_in}
+use Rattle.wrp_network_world.specs.Counts.{all_counts}
+use Rattle.wrp_network_world.specs.NetworkSetting.{laws_in}
 use Rattle.wrp_loop.specs.Loops.{LoopEnded, closing_lines, loop_of, plan_of}
 use Rattle.wrp_replay.specs.NodeText.{port_counts, port_numbers}
 use Rattle.wrp_scene_records.specs.Scenarios.{scenario_of}
-use Rattle.wrp_audit.proofs.BareRuns.{due_so}
+use Rattle.wrp_network_world.proofs.Leads.{due_so}
 use Rattle.wrp_scene_records.proofs.OneScenario.{never_refused, one_refused, scenes_one}
 use Rattle.wrp_servo.specs.Told.{ToldLast}
 use Rattle.wrp_scene.specs.Scenario.{SceneAt, new_scene}

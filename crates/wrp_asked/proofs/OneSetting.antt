@@ -7,8 +7,8 @@ use Rattle.wrp_config.specs.Names.{node_named}
 use Rattle.wrp_config.specs.Reading.{IsReadingOf}
 use Rattle.wrp_config.specs.declared.network.Network.{Network}
 use Rattle.wrp_course.specs.Setting.{Setting}
-use Rattle.wrp_audit.specs.Audited.{IsSettingOf, setting_at}
-use Rattle.wrp_audit.proofs.BareAudit.{bare_is, bare_setting}
+use Rattle.wrp_network_world.specs.NetworkSetting.{IsSettingOf, setting_at}
+use Rattle.wrp_network_world.proofs.BareWorld.{bare_is, bare_setting}
 use Rattle.wrp_replay.proofs.BareSetting.{named_bare}
 use Rattle.wrp_replay.specs.Replays.{IsAccepted}
 

@@ -34,7 +34,8 @@ use Rattle.wrp_records.specs.Stream.{large_line}
 use Rattle.wrp_records.specs.Words.{line_of, IsWord}
 use Rattle.wrp_records.proofs.Reaching.{lines_alone}
 use Rattle.wrp_replay.specs.NodeText.{port_numbers}
-use Rattle.wrp_audit.specs.AuditText.{all_counts, audit_lines, event_lines}
+use Rattle.wrp_audit.specs.AuditText.{audit_lines, event_lines}
+use Rattle.wrp_network_world.specs.Counts.{all_counts}
 use Rattle.wrp_commands.specs.Request.{CommandLine}
 use Rattle.wrp_asked.specs.EmitHeadline.{EmitHeadline, TellsNoTrack}
 use Rattle.wrp_asked.specs.EventLines.{AtEachEvent, Writing}

@@ -19,7 +19,8 @@ use Rattle.wrp_loop.specs.LoopText as looped
 use Rattle.wrp_loop.specs.LoopText.{NoneIsMarked, all_lines, forged_lines, is_marked, loop_lines, loop_text, marked_line, steps_lines}
 use Rattle.wrp_loop.proofs.Audited.{at_name}
 use Rattle.wrp_records.specs.Words.{line_of}
-use Rattle.wrp_audit.specs.AuditText.{all_counts, audit_lines, event_lines, step_lines}
+use Rattle.wrp_audit.specs.AuditText.{audit_lines, event_lines, step_lines}
+use Rattle.wrp_network_world.specs.Counts.{all_counts}
 use Rattle.wrp_replay.specs.NodeText.{nonzero_line, port_counts, port_numbers}
 use Rattle.wrp_asked.specs.LoopHeadline.{came_lines}
 use Rattle.wrp_trace.specs.LineSetting.{has_port, line_setting_in}

@@ -13,7 +13,7 @@ use Rattle.wrp_course.specs.Runs.{IsRun}
 use Rattle.wrp_course.specs.Setting.{Setting}
 use Rattle.wrp_truth.proofs.Runs.Suffixes.{run_before}
 use Rattle.wrp_world.specs.EventHolds.{TracksHold, TracksHoldInRuns}
-use Rattle.wrp_audit.specs.Audited.{IsSettingOf, answers_in}
+use Rattle.wrp_network_world.specs.NetworkSetting.{IsSettingOf, answers_in, laws_in}
 use Rattle.wrp_commands.specs.Request.{CommandLine}
 use Rattle.wrp_asked.specs.Headline.{Came}
 use Rattle.wrp_asked.specs.Input.{network_text}
@@ -21,10 +21,9 @@ use Rattle.wrp_asked.specs.SimHeadline.{Made}
 use Rattle.wrp_scene.specs.EventLimit.{event_limit}
 use Rattle.wrp_asked.specs.TrackLines.{IsTrueAt, TracksAreWithin}
 use Rattle.wrp_asked.proofs.HeadlineParts.{events_said, run_of, setting_asked, writes}
-use Rattle.wrp_audit.proofs.LawsNear.{LawsAreNear, answers_near, laws_near}
+use Rattle.wrp_network_world.proofs.LawsNear.{LawsAreNear, answers_near, laws_near}
 use Rattle.wrp_audit.proofs.LinesFit.{line_fits}
 use Rattle.wrp_simulate.proofs.MadeFit.{made_fit}
-use Rattle.wrp_audit.specs.Audited.{laws_in}
 use Rattle.wrp_one_world_laws.proofs.OneWorld.{before_newest}
 use Rattle.wrp_asked.proofs.MadeRuns.{made_run}
 use Rattle.wrp_asked.proofs.TrackTold.{lines_are_true}

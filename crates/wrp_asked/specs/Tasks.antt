@@ -4,7 +4,7 @@ use Rattle.std.specs.Prelude.{◌≡◌, ℕ, ◌≤◌, Option, None, Some, Lis
 use Rattle.wrp_config.specs.Names.{node_named}
 use Rattle.wrp_trace.specs.LineSetting.{LineSetting}
 use Rattle.wrp_course.specs.Setting.{Setting}
-use Rattle.wrp_audit.specs.Audited.{IsSettingOf}
+use Rattle.wrp_network_world.specs.NetworkSetting.{IsSettingOf}
 use Rattle.wrp_audit.specs.Audits.{audit_of, emission_of}
 use Rattle.wrp_commands.specs.Request.{CommandLine, Networked, OnNetwork}
 use Rattle.wrp_commands.specs.Request as requests

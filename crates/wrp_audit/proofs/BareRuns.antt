@@ -1,36 +1,28 @@
 -- What is due for the record lines of an audit does not see the unused room of names.
-use Rattle.std.proofs.Common.{◌≡◌, ◌∙◌, inl, inr, refl, ap, ap₂, sym, subst, ℕ, ℤ, pos, ◌==◌, ◌++◌, if◌then◌else◌, Some, List, [], ◌∷◌, map, flat_map, arith}
+use Rattle.std.proofs.Common.{◌≡◌, ◌∙◌, refl, ap, ap₂, sym, subst, ℕ, pos, ◌==◌, ◌++◌, if◌then◌else◌, Some, List, [], ◌∷◌, map, flat_map, arith}
 use Rattle.std.proofs.lemmas.List.{length-map}
 use Rattle.wrp_base.specs.Network.{node_count}
 use Rattle.wrp_config.specs.Config.{bare_node}
 use Rattle.wrp_config.specs.Same.{bare_cfg}
 use Rattle.wrp_lines.specs.Lines.{output_line_of}
-use Rattle.wrp_node.specs.NodeAt.{servo_setting_of}
 use Rattle.wrp_node.specs.NodeRun.{AllSaid}
-use Rattle.wrp_node.specs.OneRun.{answers_by}
-use Rattle.wrp_servo.specs.Servo.{AllAnswered}
 use Rattle.wrp_trace.specs.LineSetting.{line_setting_in}
 use Rattle.wrp_course.specs.Checks.{AllHold, told_of}
 use Rattle.wrp_course.specs.Premises.{checks_of}
-use Rattle.wrp_course.specs.Run.{AllAccepted, Happened, IsAnswered, world_after}
-use Rattle.wrp_course.specs.Setting.{Setting, node_setting_of}
+use Rattle.wrp_course.specs.Run.{AllAccepted, Happened, world_after}
+use Rattle.wrp_course.specs.Setting.{Setting}
 use Rattle.wrp_course.specs.WorldAt.{WorldAt}
 use Rattle.wrp_records.specs.declared.machine.Refusal.{Refusal}
 use Rattle.wrp_records.specs.declared.machine.Refusal.TheVariants as refusals
 use Rattle.wrp_records.specs.declared.status.Status.{Status}
-use Rattle.wrp_records.specs.declared.status.Status.TheVariants.{Done, BadTrace, Broken, TooLarge, BadCalib}
-use Rattle.wrp_audit.specs.Audited.{AllHeard, IsAudit, answers_in}
+use Rattle.wrp_audit.specs.Audited.{AllHeard, IsAudit}
 use Rattle.wrp_audit.specs.Audits.{AuditRefuses, audit_of, emission_of}
-use Rattle.wrp_audit.specs.AuditText.{all_counts, audit_lines, given_line, given_lines, step_lines}
-use Rattle.wrp_records.specs.Lines.{content_of}
-use Rattle.wrp_replay.specs.DownLaw.{law_at}
-use Rattle.wrp_records.specs.LineMeaning.{LineMeaning}
+use Rattle.wrp_audit.specs.AuditText.{audit_lines, given_line, given_lines, step_lines}
 use Rattle.wrp_records.specs.RecordsAnswer.{RecordsAnswer}
-use Rattle.wrp_records.specs.Stream.{Handles}
-use Rattle.wrp_audit.proofs.AuditCounts.{counts_bare}
-use Rattle.wrp_audit.proofs.BareAudit.{after_bare, bare_setting, checks_bare, nodes_bare, steps_at_bare}
-use Rattle.wrp_audit.proofs.BareEvents.{event_bare, line_bare}
-use Rattle.wrp_replay.proofs.BareSetting.{law_bare, name_bare, path_bare}
+use Rattle.wrp_network_world.proofs.BareWorld.{after_bare, bare_setting, checks_bare, steps_at_bare, answered_bare, counts_text}
+use Rattle.wrp_network_world.proofs.BareEvents.{event_bare, line_bare}
+use Rattle.wrp_replay.proofs.BareSetting.{name_bare, path_bare}
+use Rattle.wrp_network_world.proofs.Leads.{due_so}
 
 -- The run
 
@@ -40,12 +32,6 @@ tried_after s before h = ap (λ (w : WorldAt). checks_of (bare_setting s) w h.sa
 accepted_bare : (s : Setting) (events : List Happened) → AllAccepted s events → AllAccepted (bare_setting s) events
 accepted_bare s [] all = tt
 accepted_bare s (h ∷ before) all = (subst AllHold (sym (tried_after s before h)) all.0, accepted_bare s before all.1)
-
-pub answered_bare : (s : Setting) (events : List Happened) → IsAnswered (answers_in s) s (world_after s events) → IsAnswered (answers_in (bare_setting s)) (bare_setting s) (world_after (bare_setting s) events)
-answered_bare s events all n =
-    let laws : law_at (line_setting_in s n) ≡ law_at (line_setting_in (bare_setting s) n) = sym (λ i x. law_bare (line_setting_in s n) x i) in
-    subst (λ (w : WorldAt). AllAnswered (answers_in (bare_setting s) n) (servo_setting_of (node_setting_of s n)) (w.node n).calls) (sym (after_bare s events))
-    (subst (λ (law : ℤ → ℤ). AllAnswered (answers_by law) (servo_setting_of (node_setting_of s n)) ((world_after s events).node n).calls) laws (all n))
 
 heard_bare : (s : Setting) (events : List Happened) → AllHeard s (world_after s events) → AllHeard (bare_setting s) (world_after (bare_setting s) events)
 heard_bare s events all n below =
@@ -82,9 +68,6 @@ inputs_text s n [] = refl
 inputs_text s n (h ∷ before) =
     ap₂ (λ (earlier lines : List ℕ). earlier ++ lines) (inputs_text s n before) (λ i. flat_map (given_text s n i) (steps_at_bare s before h i))
 
-pub counts_text : (s : Setting) (events : List Happened) → all_counts (bare_setting s) (world_after (bare_setting s) events) ≡ all_counts s (world_after s events)
-counts_text s events = λ i. flat_map (λ n. counts_bare (line_setting_in s n) ((after_bare s events i).node n) i) (nodes_bare s i)
-
 refused_bare : (s : Setting) (lines : List (List ℕ)) (line last : List ℕ) (refusal : Refusal) → AuditRefuses s lines line refusal last → AuditRefuses (bare_setting s) lines line refusal last
 refused_bare s lines line last refusals.BadTrace h = (h.0, event_bare s.cfg line ∙ h.1, h.2)
 refused_bare s lines line last refusals.Broken h = record {
@@ -100,76 +83,6 @@ refused_bare s lines line last refusals.Broken h = record {
 }
 
 -- What is due
-
--- what is due by one meaning is due by another that it leads to
-pub record Leads (M N : LineMeaning) : Type 0 where
-  pub accepts : (lines : List (List ℕ)) (text : List ℕ) → M.accepts lines text → N.accepts lines text
-  pub refuses : (lines : List (List ℕ)) (line last : List ℕ) (refusal : Refusal) → M.refuses lines line refusal last → N.refuses lines line refusal last
-  pub closes : (lines : List (List ℕ)) (last : List ℕ) → M.closes lines last → N.closes lines last
-  pub breaks_off : (lines : List (List ℕ)) (status : Status) (last : List ℕ) → M.breaks_off lines status last → N.breaks_off lines status last
-
-handles_so : (M N : LineMeaning) → Leads M N → (lines : List (List ℕ)) (text : List ℕ) → Handles M.accepts lines text → Handles N.accepts lines text
-handles_so M N leads lines text h = record { sizes = h.sizes; count = h.count; accepted = leads.accepts (map content_of lines) text h.accepted }
-
-pub due_so : (M N : LineMeaning) → Leads M N → (lines : List (List ℕ)) (status : Status) (octets : List ℕ) → RecordsAnswer M lines status octets → RecordsAnswer N lines status octets
-due_so M N leads lines Done octets h = record {
-  written = h.written;
-  last = h.last;
-  handled = handles_so M N leads lines h.written h.handled;
-  closed = leads.closes (map content_of lines) h.last h.closed;
-  is = h.is;
-}
-due_so M N leads lines BadTrace octets h = record {
-  before = h.before;
-  line = h.line;
-  behind = h.behind;
-  written = h.written;
-  last = h.last;
-  divided = h.divided;
-  handled = handles_so M N leads h.before h.written h.handled;
-  within = h.within;
-  number = h.number;
-  refused = leads.refuses (map content_of h.before) (content_of h.line) h.last refusals.BadTrace h.refused;
-  is = h.is;
-}
-due_so M N leads lines Broken octets h = record {
-  before = h.before;
-  line = h.line;
-  behind = h.behind;
-  written = h.written;
-  last = h.last;
-  divided = h.divided;
-  handled = handles_so M N leads h.before h.written h.handled;
-  within = h.within;
-  number = h.number;
-  refused = leads.refuses (map content_of h.before) (content_of h.line) h.last refusals.Broken h.refused;
-  is = h.is;
-}
-due_so M N leads lines TooLarge octets (inl h) = inl (record {
-  before = h.before;
-  line = h.line;
-  behind = h.behind;
-  written = h.written;
-  divided = h.divided;
-  handled = handles_so M N leads h.before h.written h.handled;
-  large = h.large;
-  is = h.is;
-})
-due_so M N leads lines TooLarge octets (inr h) = inr (record {
-  written = h.written;
-  last = h.last;
-  handled = handles_so M N leads lines h.written h.handled;
-  broken = leads.breaks_off (map content_of lines) TooLarge h.last h.broken;
-  is = h.is;
-})
-due_so M N leads lines BadCalib octets h = record {
-  written = h.written;
-  last = h.last;
-  handled = handles_so M N leads lines h.written h.handled;
-  broken = leads.breaks_off (map content_of lines) BadCalib h.last h.broken;
-  is = h.is;
-}
-due_so M N leads lines _ octets h = absurd h
 
 pub bare_answer : (s : Setting) (lines : List (List ℕ)) (status : Status) (octets : List ℕ) → RecordsAnswer (audit_of s) lines status octets → RecordsAnswer (audit_of (bare_setting s)) lines status octets
 bare_answer s = due_so (audit_of s) (audit_of (bare_setting s)) (record {

@@ -21,7 +21,7 @@ use Rattle.wrp_audit.specs.Broken.{broken_line}
 use Rattle.wrp_records.specs.Refusals.{bad_trace_line}
 use Rattle.wrp_audit.proofs.OneAudit.{read}
 use Rattle.wrp_one_world_laws.proofs.OneWorld.{before_newest}
-use Rattle.wrp_audit.specs.Audited.{laws_in}
+use Rattle.wrp_network_world.specs.NetworkSetting.{laws_in}
 use Rattle.wrp_records.proofs.Unique.{IsExact, ends_once, never_barred}
 
 -- The newest event of a run

@@ -1,14 +1,7 @@
-pub mod AuditCounts
 pub mod AuditPlaces
 pub mod AuditSteps
-pub mod BareAudit
-pub mod BareEvents
 pub mod BareRuns
-pub mod BoundLemmas
 pub mod ExactAudit
-pub mod FieldsRead
-pub mod LawsMade
-pub mod LawsNear
 pub mod LinesFit
 pub mod NewAudit
 pub mod NodesWithin

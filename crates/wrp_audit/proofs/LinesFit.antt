@@ -30,7 +30,7 @@ use Rattle.wrp_course.specs.declared.event.Event.TheVariants as events
 use Rattle.wrp_course.specs.declared.event.Swap.{Swap}
 use Rattle.wrp_course.specs.EventAt.{FitsEvent}
 use Rattle.wrp_trace.proofs.EventsFit.{found, number_read}
-use Rattle.wrp_audit.proofs.FieldsRead.{both, ok_same, read_if, some_if}
+use Rattle.wrp_network_world.proofs.FieldsRead.{both, ok_same, read_if, some_if}
 
 -- Octets
 

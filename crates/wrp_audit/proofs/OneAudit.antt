@@ -9,12 +9,13 @@ use Rattle.wrp_course.specs.Given.{NodeStepAt}
 use Rattle.wrp_course.specs.Run.{AllSaid, Happened, IsAnswered, world_after, steps_at}
 use Rattle.wrp_course.specs.Setting.{Setting}
 use Rattle.wrp_course.specs.WorldAt.{WorldAt}
-use Rattle.wrp_audit.specs.Audited.{AreEvents, answers_in}
+use Rattle.wrp_audit.specs.Audited.{AreEvents}
+use Rattle.wrp_network_world.specs.NetworkSetting.{answers_in, laws_in}
 use Rattle.wrp_audit.specs.AuditLaws.{OneAudit}
-use Rattle.wrp_audit.specs.AuditText.{audit_lines, all_counts, given_line, given_lines, step_lines}
+use Rattle.wrp_audit.specs.AuditText.{audit_lines, given_line, given_lines, step_lines}
+use Rattle.wrp_network_world.specs.Counts.{all_counts}
 use Rattle.wrp_one_world_laws.specs.OneWorld.{Alike, SameEvents}
 use Rattle.wrp_one_world_laws.proofs.OneWorld.{alike_after, before_newest, checks_one, steps_after}
-use Rattle.wrp_audit.specs.Audited.{laws_in}
 
 -- Lines
 

@@ -7,7 +7,8 @@ use Rattle.wrp_course.specs.Premises.{checks_of}
 use Rattle.wrp_course.specs.Run.{Happened, IsSaid, world_after}
 use Rattle.wrp_course.specs.Setting.{Setting}
 use Rattle.wrp_audit.specs.Audited.{IsAudit}
-use Rattle.wrp_audit.specs.AuditText.{audit_lines, all_counts, given_lines}
+use Rattle.wrp_audit.specs.AuditText.{audit_lines, given_lines}
+use Rattle.wrp_network_world.specs.Counts.{all_counts}
 
 -- two runs write the same, leave the same counters, and try each event alike
 pub record AreOneAudit (s : Setting) (events others : List Happened) : Type 0 where

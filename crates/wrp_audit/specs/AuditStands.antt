@@ -3,33 +3,25 @@ use Rattle.std.specs.Prelude.{◌≡◌, ◌<◌, ℕ, ℤ, Option, None, Some, 
 use Rattle.std.specs.List.{flat_map}
 use Rattle.wrp_base.specs.declared.message.PtpMsg.{PtpMsg}
 use Rattle.wrp_base.specs.Network.{node_count}
-use Rattle.wrp_config.specs.declared.network.Network.{Network}
 use Rattle.wrp_frame.specs.declared.fault.FrameFault.{FrameFault}
-use Rattle.wrp_node.specs.Control.{law_in}
 use Rattle.wrp_course.specs.Checks.{told_of}
 use Rattle.wrp_course.specs.declared.breach.Breach.{Breach}
 use Rattle.wrp_course.specs.declared.event.Event.{Event}
 use Rattle.wrp_course.specs.Given.{NodeStepAt, event_steps, world_step}
-use Rattle.wrp_plant.specs.Plant.{Each}
 use Rattle.wrp_course.specs.Premises.{Accepts, checks_of}
 use Rattle.wrp_course.specs.Run.{Happened, IsSaid, world_after}
 use Rattle.wrp_course.specs.Setting.{Setting}
 use Rattle.wrp_world.specs.StandsFor.{IsValid, StandsFor, WorldOf}
 use Rattle.wrp_course.specs.WorldAt.{WorldAt}
-use Rattle.wrp_trace.specs.LineSetting.{line_setting_in}
 use Rattle.wrp_audit.specs.declared.audit.AuditedNetwork.{AuditedNetwork}
 use Rattle.wrp_records.specs.declared.machine.Refusal.TheVariants as refusal
 use Rattle.wrp_records.specs.declared.machine.Taken.{Taken}
 use Rattle.wrp_records.specs.declared.machine.Taken.TheVariants as taken
-use Rattle.wrp_audit.specs.Audited.{IsAudit, setting_at}
+use Rattle.wrp_audit.specs.Audited.{IsAudit}
+use Rattle.wrp_network_world.specs.NetworkSetting.{setting_in, HasLawOf}
 use Rattle.wrp_audit.specs.AuditText.{audit_lines, given_line, given_lines, step_lines}
-use Rattle.wrp_audit.specs.Bounds.{AreBounds}
-use Rattle.wrp_replay.specs.DownLaw.{AnswersBy, law_at}
+use Rattle.wrp_network_world.specs.Bounds.{AreBounds}
 use Rattle.wrp_audit.specs.Broken.{broken_line}
-
--- the setting of a network
-abbrev pub setting_in : Network → Setting
-setting_in net = setting_at net.cfg net.db
 
 -- what is written of a node's step in an event that left this world, and of all events: the input that it gave the node whose
 -- inputs are asked for, or else its lines
@@ -51,11 +43,6 @@ pub record AuditedSo {F : Type 0} (post : F → ℤ → ℤ → Type 0) (held : 
 
 abbrev pub HasAudited : {F : Type 0} → (F → ℤ → ℤ → Type 0) → AuditedNetwork F → List (List ℕ) → Type 0
 HasAudited post held lines = (events : List Happened) × AuditedSo post held lines events
-
--- the law of a node is that of the link above it
-abbrev pub HasLawOf : {F : Type 0} → (F → ℤ → ℤ → Type 0) → Setting → WorldOf F → Type 0
-HasLawOf post s world =
-    Each (λ n node. IfSome (law_in node.control) (AnswersBy post (law_at (line_setting_in s n)))) world.nodes
 
 -- it can take an event: its world is one that its calls made, the law of each node is that of the link
 -- above it, the node whose inputs are asked for is one of the network, and the nodes' bounds are at hand

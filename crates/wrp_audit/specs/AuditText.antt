@@ -7,9 +7,8 @@ use Rattle.wrp_trace.specs.Printing.{line_of}
 use Rattle.wrp_trace.specs.LineSetting.{line_setting_in}
 use Rattle.wrp_course.specs.Given.{NodeStepAt}
 use Rattle.wrp_course.specs.Run.{Happened, world_after, steps_at}
-use Rattle.wrp_course.specs.Setting.{Setting, nodes_of}
+use Rattle.wrp_course.specs.Setting.{Setting}
 use Rattle.wrp_course.specs.WorldAt.{WorldAt}
-use Rattle.wrp_replay.specs.NodeText.{node_counts}
 
 -- the lines of what a node put out in an event that left this world: its tick count there, and how far
 -- its clock is there from true time
@@ -27,10 +26,6 @@ event_lines s before h = flat_map (step_lines s (world_after s (h ∷ before))) 
 abbrev pub audit_lines : Setting → List Happened → List ℕ
 audit_lines s [] = []
 audit_lines s (h ∷ before) = audit_lines s before ++ event_lines s before h
-
--- the counters of all nodes, by node, port and reason
-abbrev pub all_counts : Setting → WorldAt → List ℕ
-all_counts s w = flat_map (λ n. node_counts (line_setting_in s n) (w.node n)) (nodes_of s)
 
 -- The inputs of one node
 

@@ -14,7 +14,8 @@ use Rattle.wrp_course.specs.Setting.{Setting}
 use Rattle.wrp_records.specs.declared.machine.Refusal.{Refusal}
 use Rattle.wrp_records.specs.declared.machine.Refusal.TheVariants.{BadTrace, Broken}
 use Rattle.wrp_audit.specs.Audited.{IsAudit}
-use Rattle.wrp_audit.specs.AuditText.{audit_lines, all_counts, given_lines}
+use Rattle.wrp_audit.specs.AuditText.{audit_lines, given_lines}
+use Rattle.wrp_network_world.specs.Counts.{all_counts}
 use Rattle.wrp_records.specs.LineMeaning.{LineMeaning, bars_none, meaning_by}
 use Rattle.wrp_audit.specs.Broken.{broken_line}
 use Rattle.wrp_records.specs.Refusals.{bad_trace_line}

@@ -4,6 +4,4 @@ pub mod AuditStands
 pub mod AuditText
 pub mod Audited
 pub mod Audits
-pub mod Bounds
 pub mod Broken
-pub mod LawsFit

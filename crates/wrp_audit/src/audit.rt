@@ -1,7 +1,7 @@
 //! A network that is audited: its world, stepped by events.
 ghost use Rattle.std.specs.Prelude.{◌≡◌, ◌<◌, ◌≤◌, ◌+◌, ◌++◌, [], ◌^◌, ℕ, List, IfOk, IfSome, map};
 ghost use Rattle.std.specs.List.{AllByRecursion, flat_map};
-ghost use Rattle.wrp_base.specs.Network.{name_at, node_count};
+ghost use Rattle.wrp_base.specs.Network.{node_count};
 ghost use Rattle.wrp_config.specs.Accepted.{IsAccepted};
 ghost use Rattle.wrp_lines.specs.Lines.{output_line_of};
 ghost use Rattle.wrp_trace.specs.Events.{bare};
@@ -12,20 +12,20 @@ ghost use Rattle.wrp_course.specs.Setting.{Setting};
 ghost use Rattle.wrp_world.specs.StandsFor.{IsValid, StandsFor};
 ghost use Rattle.wrp_world.specs.Step.{step_seen};
 ghost use Rattle.wrp_course.specs.WorldAt.{WorldAt};
-ghost use Rattle.wrp_audit.specs.AuditStands.{CanAudit, Happens, HasAudited, line_by, setting_in};
+ghost use Rattle.wrp_audit.specs.AuditStands.{CanAudit, Happens, HasAudited, line_by};
+ghost use Rattle.wrp_network_world.specs.NetworkSetting.{setting_in};
 ghost use Rattle.wrp_audit.specs.AuditText.{given_line, step_lines};
-ghost use Rattle.wrp_audit.specs.Bounds.{AreBounds};
-ghost use Rattle.wrp_audit.specs.LawsFit.{LawsFit};
+ghost use Rattle.wrp_network_world.specs.Bounds.{AreBounds};
+ghost use Rattle.wrp_network_world.specs.LawsFit.{LawsFit};
 ghost use Rattle.wrp_audit.specs.Audits.{meaning_for};
 
-use crate::audit_counts::append_all_counts;
-use crate::bounds::bounds_of;
 use crate::broken::append_broken;
 use std::alloc::{AllocError, Global};
 use wrp_base::Tau;
 use wrp_config::Network;
 use wrp_law::DelayLaw;
 use wrp_lines::append_line;
+use wrp_network_world::{append_all_counts, bounds_of, name_of};
 use wrp_node::Output;
 use wrp_records::{Refusal, Taken};
 use wrp_trace::{EventPlace, append_input_line};
@@ -217,14 +217,6 @@ fn append_step<F: Fn(i64) -> i64>(
     let name = name_of(net, out.node);
     let bound = bounds[usize::from(out.node)];
     append_outputs(alloc, name, ticks, bound, Some(off), &out.outs, text)
-}
-
-/// The name of a node.
-pub fn name_of(net: &Network, node: u8) -> &str
-    requires { node < node_count net.now.cfg }
-    ensures { result.now ≡ name_at net.now.cfg node }
-{
-    net.cfg.nodes[usize::from(node)].name.as_str()
 }
 
 // Appends the lines of a node's outputs at a tick, with its true offset where that is known.

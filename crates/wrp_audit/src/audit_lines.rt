@@ -9,7 +9,7 @@ ghost use Rattle.wrp_trace.specs.Events.{event_read, told_in};
 ghost use Rattle.wrp_trace.specs.Places.{IsPlaceOf, event_in};
 ghost use Rattle.wrp_audit.specs.AuditLines.{CanRead};
 ghost use Rattle.wrp_audit.specs.AuditStands.{HasAudited};
-ghost use Rattle.wrp_audit.specs.LawsFit.{LawsFit};
+ghost use Rattle.wrp_network_world.specs.LawsFit.{LawsFit};
 
 use crate::audit::AuditedNetwork;
 use crate::laws::one_audit;
@@ -56,8 +56,9 @@ impl<F: Fn(i64) -> i64> AuditLines<F> {
 impl<F: Fn(i64) -> i64> Machine for AuditLines<F> {
     ghost use Rattle.wrp_records.specs.LineMeaning.{bars_none};
     ghost use Rattle.wrp_audit.specs.AuditLines.{CanRead};
-    ghost use Rattle.wrp_audit.specs.AuditStands.{HasAudited, setting_in};
+    ghost use Rattle.wrp_audit.specs.AuditStands.{HasAudited};
     ghost use Rattle.wrp_audit.specs.Audits.{meaning_for};
+    ghost use Rattle.wrp_network_world.specs.NetworkSetting.{setting_in};
 
     type Setting = (Network, Option<u8>);
 

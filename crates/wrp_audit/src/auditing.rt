@@ -5,8 +5,8 @@ ghost use Rattle.wrp_base.specs.Network.{node_count};
 ghost use Rattle.wrp_config.specs.Accepted.{IsAccepted};
 ghost use Rattle.wrp_records.specs.ByLines.{of_lines};
 ghost use Rattle.wrp_records.specs.Passages.{Passes, passage};
-ghost use Rattle.wrp_audit.specs.AuditStands.{setting_in};
-ghost use Rattle.wrp_audit.specs.LawsFit.{LawsFit};
+ghost use Rattle.wrp_network_world.specs.NetworkSetting.{setting_in};
+ghost use Rattle.wrp_network_world.specs.LawsFit.{LawsFit};
 ghost use Rattle.wrp_audit.specs.Audits.{meaning_for};
 
 use crate::audit_lines::AuditLines;

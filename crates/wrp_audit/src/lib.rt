@@ -3,15 +3,10 @@
 #![tactic(auto)]
 
 mod audit;
-mod audit_counts;
 mod audit_lines;
 mod auditing;
-mod bounds;
 mod broken;
 mod laws;
 
-pub use audit::name_of;
-pub use audit_counts::{append_all_counts, count_of};
 pub use auditing::audit_by;
-pub use bounds::bounds_of;
 pub use laws::one_audit;

@@ -17,8 +17,8 @@ use Rattle.wrp_records.specs.declared.status.Status.{Status}
 use Rattle.wrp_records.specs.declared.status.Status.TheVariants.{LinkFault, OutOfMemory, TooLarge}
 use Rattle.wrp_records.specs.LineMeaning.{LineMeaning}
 use Rattle.wrp_records.specs.Stream.{large_line}
-use Rattle.wrp_audit.specs.Audited.{answers_in}
-use Rattle.wrp_audit.specs.AuditText.{all_counts}
+use Rattle.wrp_network_world.specs.NetworkSetting.{answers_in}
+use Rattle.wrp_network_world.specs.Counts.{all_counts}
 use Rattle.wrp_scene_records.specs.Scenarios.{IsScenario, SimAccepts, SimRefuses}
 use Rattle.wrp_scene.specs.Scenario.{SceneAt}
 

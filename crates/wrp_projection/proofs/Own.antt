@@ -35,11 +35,11 @@ use Rattle.wrp_course.specs.Moved.{moved, waiting_at}
 use Rattle.wrp_course.specs.Run.{Happened, steps_at, world_after}
 use Rattle.wrp_course.specs.Setting.{Setting, end_at, entry_at, node_setting_of, place_of}
 use Rattle.wrp_course.specs.WorldAt.{Arrival, FrameAt, Sending, WorldAt, has_carrier}
-use Rattle.wrp_audit.specs.Audited.{setting_at}
+use Rattle.wrp_network_world.specs.NetworkSetting.{setting_at}
 use Rattle.wrp_audit.specs.AuditText.{audit_lines, given_line, given_lines, step_lines}
 use Rattle.wrp_replay.specs.DownLaw.{node_setting_at}
 use Rattle.wrp_replay.specs.NodeText.{output_lines}
-use Rattle.wrp_audit.proofs.AuditSteps.{made_after, made_given}
+use Rattle.wrp_network_world.proofs.WorldRuns.{made_after, made_given}
 use Rattle.wrp_records.proofs.Reaching.{concat-snoc}
 use Rattle.wrp_projection.specs.Projection.{PutOut, audit_line, of_node, replay_line}
 use Rattle.wrp_projection.proofs.Written.{record_of, records_of, written}

@@ -28,9 +28,11 @@ use Rattle.wrp_records.specs.declared.status.Status.TheVariants.{Done}
 use Rattle.wrp_commands.specs.Request.{CommandLine}
 use Rattle.wrp_commands.specs.Request as requests
 use Rattle.wrp_asked.specs.Answer.{Answer}
-use Rattle.wrp_audit.specs.Audited.{AreEvents, IsAudit, IsSettingOf, setting_at}
+use Rattle.wrp_audit.specs.Audited.{AreEvents, IsAudit}
+use Rattle.wrp_network_world.specs.NetworkSetting.{IsSettingOf, setting_at}
 use Rattle.wrp_audit.specs.AuditLaws.{OneAudit}
-use Rattle.wrp_audit.specs.AuditText.{all_counts, audit_lines, given_lines}
+use Rattle.wrp_audit.specs.AuditText.{audit_lines, given_lines}
+use Rattle.wrp_network_world.specs.Counts.{all_counts}
 use Rattle.wrp_replay.specs.DownLaw.{node_setting_at, law_at}
 use Rattle.wrp_asked.specs.Input.{behind_separator, network_limit, network_text}
 use Rattle.wrp_records.specs.Lines.{content_of, lines_of}
@@ -38,10 +40,10 @@ use Rattle.wrp_replay.specs.NodeText.{node_counts}
 use Rattle.wrp_records.specs.RecordsAnswer.{IsWholly, RecordsAnswer}
 use Rattle.wrp_replay.specs.Replays.{Accepts, AreInputs, Closes, IsNetworkOf, meaning_of}
 use Rattle.wrp_asked.specs.Tasks.{AsksFor, Audit, Emit, IsAuditing, IsEmission, IsReplay, Replay, Task, meaning_at, task_row}
-use Rattle.wrp_audit.proofs.AuditSteps.{made_after}
-use Rattle.wrp_audit.proofs.BareAudit.{after_bare, bare_is, bare_setting}
-use Rattle.wrp_audit.proofs.BareEvents.{line_bare}
-use Rattle.wrp_audit.proofs.BareRuns.{counts_text, inputs_text, lines_text, run_bare}
+use Rattle.wrp_network_world.proofs.WorldRuns.{made_after}
+use Rattle.wrp_network_world.proofs.BareWorld.{after_bare, bare_is, bare_setting, counts_text}
+use Rattle.wrp_network_world.proofs.BareEvents.{line_bare}
+use Rattle.wrp_audit.proofs.BareRuns.{inputs_text, lines_text, run_bare}
 use Rattle.wrp_replay.proofs.BareSetting.{name_bare, named_bare, read_bare}
 use Rattle.wrp_asked.proofs.OneSetting.{one_setting}
 use Rattle.wrp_audit.proofs.OneAudit.{read}

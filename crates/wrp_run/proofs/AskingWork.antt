@@ -20,7 +20,7 @@ use Rattle.wrp_commands.specs.declared.command.Command.{Command}
 use Rattle.wrp_commands.specs.declared.command.Command.TheVariants as command
 use Rattle.wrp_asked.specs.Answer.{IsNetworked}
 use Rattle.wrp_run.specs.Asked.{AsksSo, AsksWork, FitsWork, IsAsked, work_meaning}
-use Rattle.wrp_audit.specs.AuditStands.{setting_in}
+use Rattle.wrp_network_world.specs.NetworkSetting.{setting_in}
 use Rattle.wrp_commands.specs.Request.{CommandLine, request_of}
 use Rattle.wrp_commands.specs.Request as requests
 use Rattle.wrp_asked.specs.Input.{network_limit}

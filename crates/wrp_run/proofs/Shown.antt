@@ -47,9 +47,11 @@ use Rattle.wrp_trace.specs.Events.{EventsCanCome, event_read}
 use Rattle.wrp_trace.specs.LineSetting.{has_port, line_setting_in}
 use Rattle.wrp_trace.proofs.EventsReadBack.{events_back}
 use Rattle.wrp_truth.specs.Chains.{AllFit}
-use Rattle.wrp_audit.specs.Audited.{AreEvents, IsSettingOf}
+use Rattle.wrp_audit.specs.Audited.{AreEvents}
+use Rattle.wrp_network_world.specs.NetworkSetting.{IsSettingOf}
 use Rattle.wrp_audit.specs.AuditLaws.{OneAudit}
-use Rattle.wrp_audit.specs.AuditText.{all_counts, event_lines}
+use Rattle.wrp_audit.specs.AuditText.{event_lines}
+use Rattle.wrp_network_world.specs.Counts.{all_counts}
 use Rattle.wrp_printed_laws.specs.Laws.{AreSeen, OffsetsFollow, lines_at, output_lines, step_lines}
 use Rattle.wrp_printed_laws.specs.Offsets.{Seen}
 use Rattle.wrp_commands.specs.Request.{CommandLine}

@@ -49,7 +49,8 @@ use Rattle.wrp_trace.specs.EventPrinting.{event_text}
 use Rattle.wrp_trace.specs.Events.{EventsCanCome}
 use Rattle.wrp_trace.specs.LineSetting.{has_port, line_setting_in}
 use Rattle.wrp_audit.specs.AuditLaws.{OneAudit}
-use Rattle.wrp_audit.specs.AuditText.{all_counts, event_lines}
+use Rattle.wrp_audit.specs.AuditText.{event_lines}
+use Rattle.wrp_network_world.specs.Counts.{all_counts}
 use Rattle.wrp_audit.specs.Broken.{broken_line, premise_name}
 use Rattle.wrp_printed_laws.specs.Laws.{PrintsStates, StepsComeSynced, lines_at, lines_in, output_lines, step_lines}
 use Rattle.wrp_printed_laws.specs.Steps.{IsLastState, SaysState, StepsAreSynced}

@@ -9,7 +9,7 @@ ghost use Rattle.wrp_law.specs.LinkLaw.{IsSound, down_of, error_of, kind_of, lea
 ghost use Rattle.wrp_records.specs.declared.status.Status.{Status};
 ghost use Rattle.wrp_records.specs.Passages.{FailsBy, passage};
 ghost use Rattle.wrp_run.specs.Asked.{IsFront};
-ghost use Rattle.wrp_audit.specs.AuditStands.{setting_in};
+ghost use Rattle.wrp_network_world.specs.NetworkSetting.{setting_in};
 ghost use Rattle.wrp_asked.specs.Ends.{Ends, begun_at};
 ghost use Rattle.wrp_loop.specs.LoopPasses.{IsUncalled, LoopPasses};
 ghost use Rattle.wrp_asked.specs.Tasks.{IsLooping};
@@ -17,11 +17,11 @@ ghost use Rattle.wrp_words.specs.Requests.{asked_in};
 
 use crate::front::{Front, new_reader, read_network, take_front};
 use std::alloc::Global;
-use wrp_audit::count_of;
 use wrp_config::Network;
 use wrp_io::{Link, Sink, Source};
 use wrp_law::DelayLaw;
 use wrp_loop::run_over;
+use wrp_network_world::count_of;
 use wrp_records::{Reader, Status, refuse_network};
 use wrp_replay::{Replayed, asked, kept_if, law_above};
 

@@ -18,7 +18,7 @@ use Rattle.wrp_scene.specs.Scenario.{SceneAt, new_scene}
 use Rattle.wrp_scene.specs.ScenarioKinds.{kind_of}
 use Rattle.wrp_scene.specs.ScenarioLines.{below, counted_of, fault_at, fault_kind, line_of_kind, link_fault, lower_at, node_fault, scene_of, scene_read}
 use Rattle.wrp_replay.proofs.BareSetting.{bind_same, none_over}
-use Rattle.wrp_audit.proofs.BareEvents.{link_read, node_read}
+use Rattle.wrp_network_world.proofs.BareEvents.{link_read, node_read}
 
 -- A new scenario
 

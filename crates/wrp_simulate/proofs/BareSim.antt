@@ -39,8 +39,8 @@ use Rattle.wrp_simulate.specs.SimText.{count_of, is_printed, node_sum, offsets_i
 use Rattle.wrp_scene_records.specs.Scenarios.{Changes, IsScenario, SimRefuses}
 use Rattle.wrp_simulate.specs.Simulates.{SimBreaks, SimCloses, Simulates, simulation_of}
 use Rattle.wrp_records.specs.Stream.{large_line}
-use Rattle.wrp_audit.proofs.BareAudit.{aboves_bare, after_bare, bare_setting, carriers_bare, ends_bare, entries_bare, link_bare, names_bare, nodes_bare, number_bare, places_bare, rates_bare, steps_at_bare}
-use Rattle.wrp_audit.proofs.BareRuns.{answered_bare, due_so}
+use Rattle.wrp_network_world.proofs.BareWorld.{aboves_bare, after_bare, bare_setting, carriers_bare, ends_bare, entries_bare, link_bare, names_bare, nodes_bare, number_bare, places_bare, rates_bare, steps_at_bare, answered_bare}
+use Rattle.wrp_network_world.proofs.Leads.{due_so}
 use Rattle.wrp_simulate.proofs.BareScene.{scene_bare, new_scene_bare}
 use Rattle.wrp_replay.proofs.BareSetting.{name_bare, path_bare}
 

@@ -8,12 +8,12 @@ use Rattle.wrp_node.specs.StandsFor.{NodeOf}
 use Rattle.wrp_world.specs.HasLaws.{HasLaws}
 use Rattle.wrp_world.specs.StandsFor.{IsValid}
 use Rattle.wrp_simulate.specs.declared.simulation.SimulatedNetwork.{SimulatedNetwork}
-use Rattle.wrp_audit.specs.AuditStands.{HasLawOf, setting_in}
-use Rattle.wrp_audit.specs.LawsFit.{LawsFit}
-use Rattle.wrp_audit.specs.Bounds.{AreBounds}
+use Rattle.wrp_network_world.specs.NetworkSetting.{HasLawOf, setting_in}
+use Rattle.wrp_network_world.specs.LawsFit.{LawsFit}
+use Rattle.wrp_network_world.specs.Bounds.{AreBounds}
 use Rattle.wrp_simulate.specs.SimStands.{CanRun}
-use Rattle.wrp_audit.proofs.AuditSteps.{laws_stay}
-use Rattle.wrp_audit.proofs.NewAudit.{laws_are}
+use Rattle.wrp_network_world.proofs.WorldRuns.{laws_stay}
+use Rattle.wrp_network_world.proofs.NewWorld.{laws_are}
 
 pub new_runs : {F : Type 0} {pre : F → ℤ → Type 0} {post : F → ℤ → ℤ → Type 0} (net : Network) (laws : List (Option (LawOf F))) (network : SimulatedNetwork F) → LawsFit pre post net laws → IsValid pre post network.world → HasLaws laws network.world
     → network.world.plant.net ≡ net → AreBounds net.cfg network.bounds.items → CanRun pre post network

@@ -16,7 +16,7 @@ use Rattle.wrp_course.specs.WorldAt.{WorldAt}
 use Rattle.wrp_records.specs.declared.machine.Refusal.TheVariants as refusals
 use Rattle.wrp_records.specs.declared.status.Status.{Status}
 use Rattle.wrp_records.specs.declared.status.Status.TheVariants.{Done, TooLarge}
-use Rattle.wrp_audit.specs.Audited.{answers_in}
+use Rattle.wrp_network_world.specs.NetworkSetting.{answers_in, laws_in}
 use Rattle.wrp_scene_records.proofs.OneScenario.{never_refused, one_refused, scenes_one}
 use Rattle.wrp_simulate.specs.SimText.{count_of, node_sum, offsets_in, printed_lines, sim_lines, sum_by, sum_lines, tracked, worst_of}
 use Rattle.wrp_simulate.specs.Simulates.{IsOver, IsSimulated, Overruns, Simulates, simulation_of}
@@ -24,7 +24,6 @@ use Rattle.wrp_records.specs.Stream.{large_line}
 use Rattle.wrp_replay.proofs.BareSetting.{flat_map_same}
 use Rattle.wrp_one_world_laws.specs.OneWorld.{Alike, SameEvents}
 use Rattle.wrp_one_world_laws.proofs.OneWorld.{alike_after, before_newest, state_same, steps_after}
-use Rattle.wrp_audit.specs.Audited.{laws_in}
 use Rattle.wrp_sim.proofs.OneRule.{gives_one}
 use Rattle.wrp_records.proofs.Unique.{EndsWith, IsExact}
 

@@ -24,7 +24,7 @@ use Rattle.wrp_course.specs.EventAt.{link_count}
 use Rattle.wrp_course.specs.Setting.{Setting}
 use Rattle.wrp_trace.proofs.EventsFit.{found, link_there, node_there, number_in_range, number_read}
 use Rattle.wrp_scene_records.specs.Scenarios.{Changes, IsScenario}
-use Rattle.wrp_audit.proofs.FieldsRead.{both, none_if, ok_same, read_if}
+use Rattle.wrp_network_world.proofs.FieldsRead.{both, none_if, ok_same, read_if}
 
 -- Fields
 

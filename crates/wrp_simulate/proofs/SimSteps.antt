@@ -34,8 +34,7 @@ use Rattle.wrp_records.specs.declared.status.Status.{Status}
 use Rattle.wrp_records.specs.declared.status.Status.TheVariants.{Done, WriteFault, TooLarge, OutOfMemory}
 use Rattle.wrp_records.specs.LineMeaning.{LineMeaning}
 use Rattle.wrp_records.specs.LinesAfter.{Closed}
-use Rattle.wrp_audit.specs.Audited.{answers_in}
-use Rattle.wrp_audit.specs.AuditStands.{setting_in}
+use Rattle.wrp_network_world.specs.NetworkSetting.{answers_in, setting_in}
 use Rattle.wrp_simulate.specs.SimStands.{AreTotals, Begins, CanRun, ClosesRun, FitsCourse, HasRun, Running, RunsOn}
 use Rattle.wrp_scene_records.specs.ScenarioStands.{ClosesLarge}
 use Rattle.wrp_simulate.specs.SimText.{offsets_in, printed_lines, sum_lines, tracked}
@@ -44,7 +43,7 @@ use Rattle.wrp_scene_records.specs.Scenarios.{IsScenario}
 use Rattle.wrp_simulate.specs.Simulates.{simulation_of}
 use Rattle.wrp_records.specs.Stream.{large_line}
 use Rattle.wrp_records.specs.Taking.{AppendsPart}
-use Rattle.wrp_audit.proofs.AuditSteps.{answered, made_after}
+use Rattle.wrp_network_world.proofs.WorldRuns.{answered, made_after}
 use Rattle.wrp_scene_records.proofs.Finishing.{finishes_after}
 
 -- The event that comes

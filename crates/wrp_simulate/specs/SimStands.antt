@@ -18,7 +18,7 @@ use Rattle.wrp_world.specs.StandsFor.{IsValid, StandsFor}
 use Rattle.wrp_course.specs.WorldAt.{WorldAt}
 use Rattle.wrp_records.specs.declared.machine.Refusal.TheVariants as refusal
 use Rattle.wrp_records.specs.declared.machine.Taken.TheVariants as taken
-use Rattle.wrp_audit.specs.Bounds.{AreBounds}
+use Rattle.wrp_network_world.specs.Bounds.{AreBounds}
 use Rattle.wrp_simulate.specs.declared.simulating.Stepped.{Stepped}
 use Rattle.wrp_simulate.specs.declared.simulating.Stepped.TheVariants as stepped
 use Rattle.wrp_simulate.specs.declared.simulation.Course.{Course}
@@ -26,7 +26,7 @@ use Rattle.wrp_simulate.specs.declared.simulation.SimulatedNetwork.{SimulatedNet
 use Rattle.wrp_simulate.specs.declared.totals.Total.{Total}
 use Rattle.wrp_records.specs.declared.status.Status.{Status}
 use Rattle.wrp_records.specs.declared.status.Status.TheVariants.{Done, OutOfMemory}
-use Rattle.wrp_audit.specs.AuditStands.{HasLawOf, setting_in}
+use Rattle.wrp_network_world.specs.NetworkSetting.{HasLawOf, setting_in}
 use Rattle.wrp_records.specs.Engine.{Finishes}
 use Rattle.wrp_scene.specs.EventLimit.{event_limit}
 use Rattle.wrp_simulate.specs.Simulates.{IsSimulated}

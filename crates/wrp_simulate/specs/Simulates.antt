@@ -10,7 +10,7 @@ use Rattle.wrp_course.specs.Setting.{Setting}
 use Rattle.wrp_scene.specs.EventLimit.{event_limit}
 use Rattle.wrp_records.specs.declared.status.Status.{Status}
 use Rattle.wrp_records.specs.declared.status.Status.TheVariants.{TooLarge, OutOfMemory}
-use Rattle.wrp_audit.specs.Audited.{answers_in}
+use Rattle.wrp_network_world.specs.NetworkSetting.{answers_in}
 use Rattle.wrp_records.specs.LineMeaning.{LineMeaning}
 use Rattle.wrp_scene_records.specs.Scenarios.{IsScenario, SimAccepts, SimRefuses}
 use Rattle.wrp_simulate.specs.SimText.{sim_lines, sum_lines}

@@ -1,9 +1,9 @@
 -- The audit of a network.
 use Rattle.std.proofs.Common.{◌≡◌, ap, ℕ, Some, None, List}
 use Rattle.wrp_course.specs.Setting.{Setting}
-use Rattle.wrp_audit.proofs.BareAudit.{bare_setting}
+use Rattle.wrp_network_world.proofs.BareWorld.{bare_setting}
 use Rattle.wrp_audit.proofs.ExactAudit.{exact_audit}
-use Rattle.wrp_audit.specs.Audited.{IsSettingOf}
+use Rattle.wrp_network_world.specs.NetworkSetting.{IsSettingOf}
 use Rattle.wrp_commands.specs.Request as requests
 use Rattle.wrp_audit.proofs.BareRuns.{bare_answer}
 use Rattle.wrp_asked.specs.Tasks.{Task, Audit, task_row}

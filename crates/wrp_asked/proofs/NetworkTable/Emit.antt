@@ -5,7 +5,7 @@ use Rattle.wrp_config.specs.Names.{node_named}
 use Rattle.wrp_config.specs.Reading.{IsReadingOf}
 use Rattle.wrp_config.specs.declared.network.Network.{Network}
 use Rattle.wrp_course.specs.Setting.{Setting}
-use Rattle.wrp_audit.proofs.BareAudit.{bare_setting}
+use Rattle.wrp_network_world.proofs.BareWorld.{bare_setting}
 use Rattle.wrp_audit.proofs.ExactAudit.{exact_emission}
 use Rattle.wrp_commands.specs.Request as requests
 use Rattle.wrp_audit.proofs.BareRuns.{bare_emission}

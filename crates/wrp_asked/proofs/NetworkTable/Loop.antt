@@ -1,8 +1,8 @@
 -- The run of a network over a link from a seed.
 use Rattle.std.proofs.Common.{◌≡◌, ap₂, ℕ, Some, None, List}
 use Rattle.wrp_course.specs.Setting.{Setting}
-use Rattle.wrp_audit.proofs.BareAudit.{bare_setting}
-use Rattle.wrp_audit.specs.Audited.{IsSettingOf}
+use Rattle.wrp_network_world.proofs.BareWorld.{bare_setting}
+use Rattle.wrp_network_world.specs.NetworkSetting.{IsSettingOf}
 use Rattle.wrp_commands.specs.Request as requests
 use Rattle.wrp_asked.proofs.BareLoop.{bare_loop}
 use Rattle.wrp_asked.specs.Tasks.{Task, Loop, task_row}

@@ -5,7 +5,7 @@ use Rattle.wrp_config.specs.declared.network.Network.{Network}
 use Rattle.wrp_records.specs.ByLines.{of_lines}
 use Rattle.wrp_records.specs.Passages.{Passage, Passes, passage}
 use Rattle.wrp_records.proofs.Passed.{passes_nothing}
-use Rattle.wrp_audit.specs.AuditStands.{setting_in}
+use Rattle.wrp_network_world.specs.NetworkSetting.{setting_in}
 use Rattle.wrp_audit.specs.Audits.{meaning_for}
 use Rattle.wrp_audit.proofs.AuditSteps.{audit_passes, nothing_accepted}
 use Rattle.wrp_audit.proofs.auditing.audit_by.Goals as goal

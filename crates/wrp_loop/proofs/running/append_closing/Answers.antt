@@ -3,7 +3,7 @@ use Rattle.std.proofs.Common.{◌∙◌, ◌++◌, ap, append_assoc, IfOk, List,
 use Rattle.std.specs.List.{concat}
 use Rattle.std.specs.Result.{OnOk}
 use Rattle.wrp_loop.specs.LoopText.{forged_lines}
-use Rattle.wrp_audit.specs.AuditText.{all_counts}
+use Rattle.wrp_network_world.specs.Counts.{all_counts}
 use Rattle.wrp_loop.proofs.running.append_closing.Goals as goal
 
 if_ok : {T E : Type 0} (P Q : Type 0) (r : Result T E) → OnOk r Q → (Q → P) → IfOk r (λ value. P)

@@ -6,7 +6,7 @@ use Rattle.wrp_loop.specs.LoopRun.{events_at}
 use Rattle.wrp_loop.specs.LoopText.{forged_lines}
 use Rattle.wrp_records.specs.declared.status.Status.TheVariants.{Done}
 use Rattle.wrp_records.specs.Engine.{Finishes}
-use Rattle.wrp_audit.specs.AuditText.{all_counts}
+use Rattle.wrp_network_world.specs.Counts.{all_counts}
 use Rattle.wrp_loop.proofs.running.close.Goals as goal
 
 pub returns-in-Ok-clause-closes : goal.returns-in-Ok-clause-closes

@@ -5,7 +5,7 @@ use Rattle.wrp_scene.specs.Scenario.{SceneAt}
 use Rattle.wrp_records.specs.declared.status.Status.TheVariants.{Done, ReadFault, WriteFault}
 use Rattle.wrp_records.specs.Lines.{content_of, lines_of}
 use Rattle.wrp_records.specs.Passages.{passage}
-use Rattle.wrp_audit.specs.AuditStands.{setting_in}
+use Rattle.wrp_network_world.specs.NetworkSetting.{setting_in}
 use Rattle.wrp_loop.specs.LoopPasses.{LoopPasses, Ran}
 use Rattle.wrp_scene_records.specs.Scenarios.{IsScenario}
 use Rattle.wrp_scene_records.specs.ScenarioStands.{SaysScenario}

@@ -8,9 +8,9 @@ use Rattle.wrp_records.specs.declared.status.Status.TheVariants.{LinkFault, OutO
 use Rattle.wrp_loop.specs.declared.outcome.Rounded.{Rounded}
 use Rattle.wrp_loop.specs.LoopRun.{Plan, place}
 use Rattle.wrp_loop.specs.SoFar.{Leads, Rounds}
-use Rattle.wrp_audit.specs.AuditStands.{setting_in}
+use Rattle.wrp_network_world.specs.NetworkSetting.{setting_in}
 use Rattle.wrp_loop.specs.Loops.{plan_of}
-use Rattle.wrp_audit.proofs.AuditSteps.{laws_stay}
+use Rattle.wrp_network_world.proofs.WorldRuns.{laws_stay}
 use Rattle.wrp_loop.proofs.LoopSteps.{begins_rounding, came_by, large_ran, large_unlinked, lawful_here, over_ran, round_failed, round_lacks, unwritten, writes_all}
 use Rattle.wrp_loop.proofs.running.run_rounds.Goals as goal
 

@@ -8,7 +8,7 @@ use Rattle.wrp_loop.specs.declared.outcome.LoopFault.{LoopFault}
 use Rattle.wrp_loop.specs.declared.outcome.LoopFault.TheVariants as faults
 use Rattle.wrp_loop.specs.SoFar.{Starts}
 use Rattle.wrp_records.specs.declared.status.Status.TheVariants.{LinkFault, OutOfMemory}
-use Rattle.wrp_audit.specs.AuditStands.{setting_in}
+use Rattle.wrp_network_world.specs.NetworkSetting.{setting_in}
 use Rattle.wrp_loop.specs.LoopPasses.{Ran}
 use Rattle.wrp_loop.specs.Loops.{plan_of}
 use Rattle.wrp_loop.proofs.LoopSteps.{first_loop, no_calls, not_open, not_started, nothing_ran, own_laws, ran_open}

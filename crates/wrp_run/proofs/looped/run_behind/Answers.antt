@@ -5,7 +5,7 @@ use Rattle.wrp_config.specs.declared.network.Network.{Network}
 use Rattle.wrp_config.specs.Reading.{IsReadingOf}
 use Rattle.wrp_config.specs.Same.{IsSameNetwork}
 use Rattle.wrp_records.specs.Passages.{passage}
-use Rattle.wrp_audit.specs.AuditStands.{setting_in}
+use Rattle.wrp_network_world.specs.NetworkSetting.{setting_in}
 use Rattle.wrp_asked.specs.Ends.{Run, begun_at}
 use Rattle.wrp_asked.specs.Tasks.{Loop}
 use Rattle.wrp_words.specs.Requests.{asked_in}

@@ -7,9 +7,9 @@ use Rattle.std.proofs.KnownBytes.{Appends-nil, Consumes-nil}
 use Rattle.wrp_base.specs.Network.{node_count}
 use Rattle.wrp_config.proofs.Bare.{count_bare}
 use Rattle.wrp_plant.proofs.EachLists.{each_none, each_push, length_push}
-use Rattle.wrp_audit.specs.AuditStands.{setting_in}
-use Rattle.wrp_audit.specs.LawsFit.{IsMade}
-use Rattle.wrp_audit.proofs.LawsMade.{fits_all, made_next}
+use Rattle.wrp_network_world.specs.NetworkSetting.{setting_in}
+use Rattle.wrp_network_world.specs.LawsFit.{IsMade}
+use Rattle.wrp_network_world.proofs.LawsMade.{fits_all, made_next}
 use Rattle.wrp_loop.proofs.LoopSteps.{passes_none}
 use Rattle.wrp_run.proofs.looped.run_on.Goals as goal
 

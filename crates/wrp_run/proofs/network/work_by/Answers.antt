@@ -4,7 +4,7 @@ use Rattle.wrp_records.specs.ByLines.{of_lines}
 use Rattle.wrp_records.specs.Passages.{Passes, passage}
 use Rattle.wrp_run.specs.declared.network.Work.{Work}
 use Rattle.wrp_run.specs.Asked.{work_meaning}
-use Rattle.wrp_audit.specs.AuditStands.{setting_in}
+use Rattle.wrp_network_world.specs.NetworkSetting.{setting_in}
 use Rattle.wrp_run.proofs.network.work_by.Goals as goal
 
 pub returns-in-Audit : goal.returns-in-Audit

@@ -9,10 +9,10 @@ use Rattle.wrp_config.proofs.Bare.{count_bare}
 use Rattle.wrp_plant.proofs.EachLists.{each_none, each_push, length_push}
 use Rattle.wrp_records.proofs.Passed.{passes_nothing}
 use Rattle.wrp_run.specs.Asked.{work_meaning}
-use Rattle.wrp_audit.specs.AuditStands.{setting_in}
-use Rattle.wrp_audit.specs.LawsFit.{IsMade}
+use Rattle.wrp_network_world.specs.NetworkSetting.{setting_in}
+use Rattle.wrp_network_world.specs.LawsFit.{IsMade}
 use Rattle.wrp_run.proofs.AskingWork.{nothing_done}
-use Rattle.wrp_audit.proofs.LawsMade.{fits_all, made_next}
+use Rattle.wrp_network_world.proofs.LawsMade.{fits_all, made_next}
 use Rattle.wrp_run.proofs.network.work_on.Goals as goal
 
 pub loop-n-init : goal.loop-n-init

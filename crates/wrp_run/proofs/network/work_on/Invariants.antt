@@ -2,7 +2,7 @@
 use Rattle.std.proofs.Common.{◌≡◌, ◌≤◌, ◌-◌, length}
 use Rattle.wrp_base.specs.Network.{node_count}
 use Rattle.wrp_plant.specs.Plant.{Each}
-use Rattle.wrp_audit.specs.LawsFit.{IsMade}
+use Rattle.wrp_network_world.specs.LawsFit.{IsMade}
 use Rattle.wrp_run.proofs.network.work_on.Given as goal
 
 abbrev pub invariant-loop-n : goal.invariant-loop-n

@@ -6,7 +6,7 @@ use Rattle.wrp_sim.specs.Sim.{FitsSim}
 use Rattle.wrp_world.specs.StandsFor.{StandsFor}
 use Rattle.wrp_course.specs.WorldAt.{new_world}
 use Rattle.wrp_records.specs.LinesAfter.{Closed}
-use Rattle.wrp_audit.specs.AuditStands.{setting_in}
+use Rattle.wrp_network_world.specs.NetworkSetting.{setting_in}
 use Rattle.wrp_scene_records.specs.Scenarios.{IsScenario}
 use Rattle.wrp_simulate.specs.Simulates.{simulation_of}
 use Rattle.wrp_simulate.proofs.SimSteps.{first_run, nothing_run}

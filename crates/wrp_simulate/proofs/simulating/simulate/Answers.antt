@@ -7,7 +7,7 @@ use Rattle.wrp_records.specs.ByLines.{of_lines}
 use Rattle.wrp_records.specs.LinesAfter.{Closed}
 use Rattle.wrp_records.specs.Passages.{Passes, passage}
 use Rattle.wrp_records.proofs.Passed.{passes_closed, passes_stopped}
-use Rattle.wrp_audit.specs.AuditStands.{setting_in}
+use Rattle.wrp_network_world.specs.NetworkSetting.{setting_in}
 use Rattle.wrp_scene_records.specs.Scenarios.{IsScenario}
 use Rattle.wrp_simulate.specs.Simulates.{simulation_of}
 use Rattle.wrp_scene_records.specs.ScenarioStands.{SaysScenario}

@@ -3,8 +3,8 @@ use Rattle.std.proofs.Common.{◌∙◌, ◌<◌, ap, arith}
 use Rattle.wrp_base.specs.Network.{node_count}
 use Rattle.wrp_config.specs.declared.network.Network.{Network}
 use Rattle.wrp_simulate.specs.SimStands.{IsTotal}
-use Rattle.wrp_audit.proofs.BoundLemmas.{bound_at}
-use Rattle.wrp_audit.proofs.BoundLemmas.{each_at}
+use Rattle.wrp_network_world.proofs.BoundLemmas.{bound_at}
+use Rattle.wrp_network_world.proofs.BoundLemmas.{each_at}
 use Rattle.wrp_simulate.proofs.SimLines.{all_sums, no_sum_less, sum_less}
 use Rattle.wrp_simulate.proofs.simulation.append_all_sums.Goals as goal
 

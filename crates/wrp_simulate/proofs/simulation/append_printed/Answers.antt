@@ -3,7 +3,7 @@ use Rattle.std.proofs.Common.{◌∙◌, ap, rules}
 use Rattle.std.proofs.lemmas.Result.{IfOk-weaker}
 use Rattle.wrp_base.specs.Network.{name_at}
 use Rattle.wrp_config.specs.declared.network.Network.{Network}
-use Rattle.wrp_audit.proofs.BoundLemmas.{bound_at}
+use Rattle.wrp_network_world.proofs.BoundLemmas.{bound_at}
 use Rattle.wrp_simulate.proofs.SimLines.{printed_text}
 use Rattle.wrp_simulate.proofs.simulation.append_printed.Goals as goal
 

@@ -11,7 +11,8 @@ use Rattle.wrp_trace.specs.Events.{bare}
 use Rattle.wrp_trace.specs.Places.{event_in}
 use Rattle.wrp_course.specs.EventAt.{IsEventOf}
 use Rattle.wrp_world.specs.Step.{IsRefusal}
-use Rattle.wrp_audit.specs.AuditStands.{Broke, setting_in}
+use Rattle.wrp_audit.specs.AuditStands.{Broke}
+use Rattle.wrp_network_world.specs.NetworkSetting.{setting_in}
 use Rattle.wrp_audit.proofs.AuditSteps.{behind_none, broke_of, can_stay, counts_none, counts_one}
 use Rattle.wrp_audit.proofs.AuditPlaces.{took_at}
 use Rattle.wrp_audit.proofs.NodesWithin.{nodes_within}

@@ -1,6 +1,6 @@
 -- The world is new, and its laws are those of the links.
 use Rattle.wrp_simulate.proofs.NewSim.{new_runs}
-use Rattle.wrp_audit.proofs.NewAudit.{new_stands}
+use Rattle.wrp_network_world.proofs.NewWorld.{new_stands}
 use Rattle.wrp_simulate.proofs.simulation.SimulatedNetwork.new.Goals as goal
 
 pub returns-clause-ready : goal.returns-clause-ready

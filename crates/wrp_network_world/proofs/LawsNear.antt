@@ -21,7 +21,7 @@ use Rattle.wrp_course.specs.Setting.{Setting, node_setting_of}
 use Rattle.wrp_course.specs.WorldAt.{WorldAt}
 use Rattle.wrp_truth.proofs.Runs.NearAnswers.{HopOf, hop_of, near_calls}
 use Rattle.wrp_world.proofs.NearLaws.{share_of}
-use Rattle.wrp_audit.specs.Audited.{answers_in, setting_at}
+use Rattle.wrp_network_world.specs.NetworkSetting.{answers_in, setting_at}
 use Rattle.wrp_replay.specs.DownLaw.{down_by, down_over, greatest_by, greatest_over, least_by, least_over}
 use Rattle.wrp_replay.proofs.LinkLaws.{above_is, kappa_fits, table_fits}
 

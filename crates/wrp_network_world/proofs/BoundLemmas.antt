@@ -6,7 +6,7 @@ use Rattle.std.specs.Int.{w128}
 use Rattle.wrp_base.specs.Network.{node_count}
 use Rattle.wrp_base.specs.declared.configuration.NetCfg.{NetCfg}
 use Rattle.wrp_bounds.specs.Bounds.{path_of}
-use Rattle.wrp_audit.specs.Bounds.{AreBounds}
+use Rattle.wrp_network_world.specs.Bounds.{AreBounds}
 use Rattle.wrp_plant.specs.Plant.{Each}
 
 -- each of some numbers has its place

@@ -2,8 +2,8 @@
 use Rattle.std.proofs.Common.{◌∙◌, ◌<◌, ap, arith}
 use Rattle.wrp_base.specs.Network.{node_count}
 use Rattle.wrp_config.specs.declared.network.Network.{Network}
-use Rattle.wrp_audit.proofs.AuditCounts.{all_nodes, node_less, no_node_less}
-use Rattle.wrp_audit.proofs.audit_counts.append_all_counts.Goals as goal
+use Rattle.wrp_network_world.proofs.Counts.{all_nodes, node_less, no_node_less}
+use Rattle.wrp_network_world.proofs.counts.append_all_counts.Goals as goal
 
 pub loop-node-init : goal.loop-node-init
 loop-node-init g c = record { within = omega arith; lacks = λ s w stands. all_nodes s w _ _ }

@@ -1,15 +1,15 @@
-//! The lines that close an audit: the counters of all nodes that are not 0, by node, port and reason.
+//! The lines that close the records over a world: the counters of all nodes that are not 0, by node, port and reason.
 ghost use Rattle.std.specs.Prelude.{◌≡◌, ◌<◌, ◌++◌, IfOk};
 ghost use Rattle.wrp_base.specs.Network.{node_count};
 ghost use Rattle.wrp_course.specs.Setting.{Setting};
 ghost use Rattle.wrp_world.specs.StandsFor.{IsValid, StandsFor};
 ghost use Rattle.wrp_course.specs.WorldAt.{WorldAt};
 ghost use Rattle.wrp_trace.specs.LineSetting.{line_setting_in};
-ghost use Rattle.wrp_audit.specs.AuditText.{all_counts};
+ghost use Rattle.wrp_network_world.specs.Counts.{all_counts};
 ghost use Rattle.wrp_replay.specs.NodeText.{node_counts};
 
+use crate::nodes::count_of;
 use std::alloc::AllocError;
-use wrp_config::Network;
 use wrp_replay::{Replayed, append_counts, name_of};
 use wrp_world::World;
 
@@ -30,13 +30,6 @@ fn append_node<F: Fn(i64) -> i64>(
     };
     let name = name_of(replayed);
     append_counts(replayed, name, world.node(node), text)
-}
-
-/// How many nodes a network has.
-pub fn count_of(net: &Network) -> u8
-    ensures { result ≡ node_count net.now.cfg }
-{
-    net.cfg.nodes.len() as u8
 }
 
 /// Appends those of all nodes.

@@ -1,9 +1,9 @@
 //! The bounds of the nodes of a network in TRACK, worked out once.
 ghost use Rattle.std.specs.Prelude.{◌≡◌, IfOk};
 ghost use Rattle.wrp_base.specs.Network.{HasRanges, IsTree};
-ghost use Rattle.wrp_audit.specs.Bounds.{AreBounds};
+ghost use Rattle.wrp_network_world.specs.Bounds.{AreBounds};
 
-use crate::audit_counts::count_of;
+use crate::nodes::count_of;
 use std::alloc::{AllocError, Global};
 use wrp_base::Tau;
 use wrp_bounds::path;

@@ -1,5 +1,5 @@
--- An audit does not see what stands in the unused room of names.
-use Rattle.std.proofs.Common.{◌≡◌, ◌∙◌, refl, ap, ap₂, ℕ, ℤ, pos, not, ◌==◌, ◌+◌, ◌-ℤ◌, Bool, true, false, ◌&&◌, ◌||◌, if◌then◌else◌, List, [], ◌∷◌, ◌++◌, flat_map, map, Option, None, Some, is_some, option_map, Result}
+-- A world does not see what is in the unused room of names.
+use Rattle.std.proofs.Common.{◌≡◌, ◌∙◌, refl, ap, ap₂, ℕ, ℤ, pos, not, ◌==◌, ◌+◌, ◌-ℤ◌, Bool, true, false, ◌&&◌, ◌||◌, if◌then◌else◌, List, [], ◌∷◌, ◌++◌, flat_map, map, Option, None, Some, is_some, option_map, Result, sym, subst}
 use Rattle.std.specs.Prelude.{slice_get, option_and_then, nat_lt}
 use Rattle.std.specs.Option.{option_map_or}
 use Rattle.std.proofs.lemmas.List.{length-map}
@@ -21,7 +21,7 @@ use Rattle.wrp_config.specs.Names.{is_lower_end, is_upper_end}
 use Rattle.wrp_config.specs.Same.{bare_cfg}
 use Rattle.wrp_frame.specs.declared.fault.FrameFault.{FrameFault}
 use Rattle.wrp_node.specs.declared.interface.Input.TheVariants.{Carrier, Reset}
-use Rattle.wrp_node.specs.NodeAt.{locked_of, numbers_of, state_of}
+use Rattle.wrp_node.specs.NodeAt.{locked_of, numbers_of, state_of, servo_setting_of}
 use Rattle.wrp_course.specs.Checks.{at_most, only_where, size_of, needs}
 use Rattle.wrp_course.specs.declared.clocks.ClockState.{ClockState}
 use Rattle.wrp_course.specs.declared.event.Event.{Event}
@@ -29,13 +29,19 @@ use Rattle.wrp_course.specs.declared.event.Event.TheVariants.{Pass, Tick, Sample
 use Rattle.wrp_course.specs.declared.event.Swap.{Swap}
 use Rattle.wrp_course.specs.declared.place.Place.{Place}
 use Rattle.wrp_course.specs.Given.{Given, NodeStepAt, at_ports, comes_from, delivered, delivered_by, delivered_to, end_given, event_steps, given_by, given_plain, gives, gives_all, goes_from, if_carried, node_step_of, sent_oldest, step_of, steps_of, world_step}
-use Rattle.wrp_course.specs.Run.{Happened, steps_at, world_after}
+use Rattle.wrp_course.specs.Run.{Happened, steps_at, world_after, IsAnswered}
 use Rattle.wrp_course.specs.Moved.{moved, arrived, behind_first, departing, drift_of, is_place, one_more, samples_at, swap_at, with_swap, waiting_at}
 use Rattle.wrp_course.specs.Premises.{arrive_checks, beat_by, beat_checks, checks, checks_of, deliver_by, deliver_checks, depart_checks, entry_for, fibre_checks, fibre_kept, fibre_rate, is_forged, module_checks, module_kept, noise_checks, pass_checks, rate_checks, rate_of, raw_checks, received, sample_checks, swap_stands, tick_late, too_old, transition_of, true_at_top}
 use Rattle.wrp_course.specs.Setting.{Setting, above, end_at, end_of, entry_at, node_setting_of, from_on, is_of, is_role, link_of, links_of, nodes_of, of_node, place_among, place_of, sends_nm}
 use Rattle.wrp_course.specs.WorldAt.{Arrival, FrameAt, Sending, WorldAt, ends_are_up, first_name, has_carrier, is_on_fibre, named_at, new_end, new_world, phase_of, reading}
-use Rattle.wrp_audit.specs.Audited.{setting_at}
-use Rattle.wrp_replay.proofs.BareSetting.{fixed_bare, flat_map_same, set_bare}
+use Rattle.wrp_network_world.specs.NetworkSetting.{setting_at, answers_in}
+use Rattle.wrp_replay.proofs.BareSetting.{fixed_bare, flat_map_same, set_bare, law_bare}
+use Rattle.wrp_node.specs.OneRun.{answers_by}
+use Rattle.wrp_servo.specs.Servo.{AllAnswered}
+use Rattle.wrp_trace.specs.LineSetting.{line_setting_in}
+use Rattle.wrp_network_world.specs.Counts.{all_counts}
+use Rattle.wrp_replay.specs.DownLaw.{law_at}
+use Rattle.wrp_network_world.proofs.Counts.{counts_bare}
 
 -- a setting whose network's names stand without their unused room
 abbrev pub bare_setting : Setting → Setting
@@ -362,3 +368,14 @@ bare_is cfg db = λ i. record {
   lo = λ n. (fixed_bare (record { cfg = cfg; db = db; node = n }) i).lo;
   hi = λ n. (fixed_bare (record { cfg = cfg; db = db; node = n }) i).hi;
 }
+
+-- What is answered in a run, and its counters
+
+pub answered_bare : (s : Setting) (events : List Happened) → IsAnswered (answers_in s) s (world_after s events) → IsAnswered (answers_in (bare_setting s)) (bare_setting s) (world_after (bare_setting s) events)
+answered_bare s events all n =
+    let laws : law_at (line_setting_in s n) ≡ law_at (line_setting_in (bare_setting s) n) = sym (λ i x. law_bare (line_setting_in s n) x i) in
+    subst (λ (w : WorldAt). AllAnswered (answers_in (bare_setting s) n) (servo_setting_of (node_setting_of s n)) (w.node n).calls) (sym (after_bare s events))
+    (subst (λ (law : ℤ → ℤ). AllAnswered (answers_by law) (servo_setting_of (node_setting_of s n)) ((world_after s events).node n).calls) laws (all n))
+
+pub counts_text : (s : Setting) (events : List Happened) → all_counts (bare_setting s) (world_after (bare_setting s) events) ≡ all_counts s (world_after s events)
+counts_text s events = λ i. flat_map (λ n. counts_bare (line_setting_in s n) ((after_bare s events i).node n) i) (nodes_bare s i)

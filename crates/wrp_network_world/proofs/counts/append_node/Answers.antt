@@ -1,7 +1,7 @@
 -- The counters are those of the node in the world.
 use Rattle.std.proofs.lemmas.Result.{IfOk-weaker}
-use Rattle.wrp_audit.proofs.AuditCounts.{counted_node, owns_ports_of}
-use Rattle.wrp_audit.proofs.audit_counts.append_node.Goals as goal
+use Rattle.wrp_network_world.proofs.Counts.{counted_node, owns_ports_of}
+use Rattle.wrp_network_world.proofs.counts.append_node.Goals as goal
 
 pub append_counts-requires-clause-ports : goal.append_counts-requires-clause-ports
 append_counts-requires-clause-ports g c =

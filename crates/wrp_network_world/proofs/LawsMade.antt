@@ -16,11 +16,11 @@ use Rattle.wrp_law.specs.Law.{IsNear, KeepsFact, LawOf}
 use Rattle.wrp_law.specs.LinkLaw.{IsSound, down_of, error_of, kind_of, least_of, most_of}
 use Rattle.wrp_node.specs.Set.{set_of}
 use Rattle.wrp_trace.specs.LineSetting.{line_setting_in}
-use Rattle.wrp_audit.specs.AuditStands.{setting_in}
+use Rattle.wrp_network_world.specs.NetworkSetting.{setting_in}
 use Rattle.wrp_replay.specs.DownLaw.{node_setting_at}
-use Rattle.wrp_audit.specs.LawsFit.{FitsAt, HasNumbers, IsMade, LawsFit}
+use Rattle.wrp_network_world.specs.LawsFit.{FitsAt, HasNumbers, IsMade, LawsFit}
 use Rattle.wrp_replay.specs.LinkLaw.{IsLawOver, error_over, kind_over}
-use Rattle.wrp_audit.proofs.AuditSteps.{found_in, Found}
+use Rattle.wrp_network_world.proofs.WorldRuns.{found_in, Found}
 
 -- A law that is made
 

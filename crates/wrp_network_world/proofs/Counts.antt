@@ -15,7 +15,7 @@ use Rattle.wrp_config.specs.declared.network.Network.{Network}
 use Rattle.wrp_course.specs.Setting.{Setting, node_setting_of, from_on}
 use Rattle.wrp_world.specs.StandsFor.{StandsFor, WorldOf}
 use Rattle.wrp_course.specs.WorldAt.{WorldAt}
-use Rattle.wrp_audit.specs.AuditText.{all_counts}
+use Rattle.wrp_network_world.specs.Counts.{all_counts}
 use Rattle.wrp_replay.specs.NodeText.{node_counts, port_counts, port_numbers}
 use Rattle.wrp_replay.specs.StandsFor.{OwnsPorts}
 use Rattle.wrp_replay.proofs.BareSetting.{bare_setting, flat_map_same, name_bare, port_bare, set_bare}

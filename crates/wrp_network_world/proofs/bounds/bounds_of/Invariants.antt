@@ -3,7 +3,7 @@ use Rattle.std.proofs.Common.{◌≡◌, ◌<◌, ◌≤◌, ◌-◌, ◌^◌, l
 use Rattle.wrp_base.specs.Network.{node_count}
 use Rattle.wrp_bounds.specs.Bounds.{path_of}
 use Rattle.wrp_plant.specs.Plant.{Each}
-use Rattle.wrp_audit.proofs.bounds.bounds_of.Given as goal
+use Rattle.wrp_network_world.proofs.bounds.bounds_of.Given as goal
 
 abbrev pub invariant-loop-node : goal.invariant-loop-node
 invariant-loop-node l =

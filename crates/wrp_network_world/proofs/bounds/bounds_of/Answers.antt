@@ -5,8 +5,8 @@ use Rattle.std.specs.Int.{w128}
 use Rattle.wrp_bounds.specs.Bounds.{path_of}
 use Rattle.wrp_plant.proofs.EachLists.{each_push, length_push}
 use Rattle.wrp_plant.specs.Plant.{Each}
-use Rattle.wrp_audit.proofs.BoundLemmas.{small_path}
-use Rattle.wrp_audit.proofs.bounds.bounds_of.Goals as goal
+use Rattle.wrp_network_world.proofs.BoundLemmas.{small_path}
+use Rattle.wrp_network_world.proofs.bounds.bounds_of.Goals as goal
 
 pub loop-node-preserved : goal.loop-node-preserved
 loop-node-preserved c =

@@ -8,7 +8,7 @@ use Rattle.wrp_law.specs.LinkLaw.{error_of, kind_of, least_of, most_of}
 use Rattle.wrp_world.specs.New.{FitsLaw}
 use Rattle.wrp_plant.specs.Plant.{Each}
 use Rattle.wrp_trace.specs.LineSetting.{line_setting_in}
-use Rattle.wrp_audit.specs.AuditStands.{setting_in}
+use Rattle.wrp_network_world.specs.NetworkSetting.{setting_in}
 use Rattle.wrp_replay.specs.DownLaw.{IsLawAt}
 use Rattle.wrp_replay.specs.LinkLaw.{IsLawOver}
 
