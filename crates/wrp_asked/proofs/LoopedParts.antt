@@ -18,7 +18,7 @@ use Rattle.wrp_loop.specs.Datagrams.{Way}
 use Rattle.wrp_loop.specs.declared.fate.Fate.{Fate}
 use Rattle.wrp_loop.specs.declared.fate.Fate.TheVariants.{Handed, Forged, Noisy}
 use Rattle.wrp_loop.specs.Laws.{LoopKeepsTheBounds}
-use Rattle.wrp_loop.specs.LoopRun.{Carried, ComesBetween, Dropped, FollowsFate, Full, Goes, Going, HandlesAll, IsFull, IsRound, LoopAt, Loops, On, Plain, Plan, Round, events_at, place}
+use Rattle.wrp_loop.specs.LoopRun.{Carried, ComesBetween, Dropped, FollowsFate, Full, Goes, Going, HandlesAll, IsRound, LoopAt, Loops, On, Plain, Plan, Round, events_at, place}
 use Rattle.wrp_asked.specs.LoopHeadline.{LoopedEventsCarryParts}
 use Rattle.wrp_loop.specs.Loops.{plan_of}
 use Rattle.wrp_asked.proofs.HeadlineParts.{network_of, parts_of}
@@ -135,9 +135,6 @@ driven_fit scene s seed (Between h ∷ turns) at driven accepted few fit =
 
 abbrev pub FewAt : Going → Type 0
 FewAt now = length (events_at (place now)) < 2 ^ 32
-
-full_few : (l : LoopAt) → IsFull l → length (events_at l) < 2 ^ 32
-full_few l full = omega (arith, full)
 
 between_few : (l : LoopAt) (e : Event) (next : Going) → ComesBetween l e next → FewAt (On l) → FewAt next
 between_few l e next (inl full) h = subst FewAt (sym full.1) h

@@ -144,21 +144,6 @@ moves_idle l Master Calibrated input next ms e h = cc
 moves_idle l Master RespCalib input next ms e h = cc
 moves_idle l _ _ input next ms e h = absurd h
 
--- a tick moves a port on from CALIBRATION
-calibration_turns : (l : LinkAt) (role : Role) (from : LinkState) (input : LinkIn) →
-    Belongs role from → from ≡ Calibration → IsTick input → StaysBy l role from input → ⊥
-calibration_turns l Slave Calibration (Tick locked) b e t s = s tt
-calibration_turns l Master Calibration (Tick locked) b e t s = s tt
-calibration_turns l role Idle input b e t s = cc
-calibration_turns l role Present input b e t s = cc
-calibration_turns l role SLock input b e t s = cc
-calibration_turns l role MLock input b e t s = cc
-calibration_turns l role Locked input b e t s = cc
-calibration_turns l role Calibrated input b e t s = cc
-calibration_turns l role RespCalib input b e t s = cc
-calibration_turns l role LinkOn input b e t s = cc
-calibration_turns l role Calibration _ b e t s = absurd t
-
 pub some_is : {a b : ℕ} → Some a ≡ Some b → a ≡ b
 some_is e = cc
 

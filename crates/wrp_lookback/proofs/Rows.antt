@@ -93,9 +93,6 @@ same v = inl (record { held = record { last = refl; s = refl }; first = refl; ke
 
 -- ---- the end of a chain
 
-same-held : (v : Core) → Held v v
-same-held v = record { last = refl; s = refl }
-
 ended-at : (v : Core) (first : Option ℕ) (s : ServoState) → Moves (record v { state = s; first = first }) (ended (record v { state = s; first = first }))
 ended-at v None s = same (record v { state = s; first = None })
 ended-at v (Some m) Track = inr (record { held = record { last = refl; s = refl }; first = refl; kept = refl; lock = inr (refl, refl) })

@@ -104,9 +104,6 @@ line_cycles s w m n o names below held =
 
 -- All lines of a step
 
-abbrev all_printed : Output → Bool
-all_printed o = true
-
 outs_cycles : (s : Setting) (w : WorldAt) (m n : ℕ) (outs : List Output) → HasNames s.cfg → n < node_count s.cfg → AllByRecursion IsHeld outs →
     total (cycles_of (name_at s.cfg n)) (flat_map (output_lines (λ o. true) s w m) outs) ≡ own (n == m) (total periods outs)
 outs_cycles s w m n [] names below held = either_nothing (n == m)

@@ -8,5 +8,4 @@ pub mod There
 pub mod Ticks
 pub mod Following
 pub mod Commands
-pub mod Within
 pub mod Syncing

@@ -35,7 +35,7 @@ use Rattle.wrp_printed_laws.specs.Words.{Reads}
 use Rattle.wrp_printed_laws.proofs.Commands.{IsMeant, IsSync, commands_meant}
 use Rattle.wrp_printed_laws.proofs.Names.{same_node}
 use Rattle.wrp_printed_laws.proofs.Outputs.{Others, dac_all, ports_all, track_all}
-use Rattle.wrp_printed_laws.proofs.Within.{AllWithin, given_within}
+use Rattle.wrp_trace.proofs.GivenWithin.{AllWithin, given_within}
 use Rattle.wrp_printed_laws.proofs.Words.{output_reads}
 use Rattle.wrp_lines.proofs.LineWords.{at_word}
 

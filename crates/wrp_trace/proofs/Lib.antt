@@ -22,3 +22,4 @@ pub mod PlaceLemmas
 pub mod PlaceNames
 pub mod PlaceParts
 pub mod FirstOfName
+pub mod GivenWithin

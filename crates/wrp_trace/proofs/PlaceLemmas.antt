@@ -66,12 +66,6 @@ rests_cleared rest (mark ∷ marks) [] (suc n) h = tt
 rests_cleared rest (mark ∷ marks) (y ∷ changes) zero h = (λ e. refl, h.1)
 rests_cleared rest (mark ∷ marks) (y ∷ changes) (suc n) h = (h.0, rests_cleared rest marks changes n h.1)
 
--- a mark that is not there need not be cleared
-pub clear_already : (marks : List Bool) (n : ℕ) → is_marked marks n ≡ false → marks ≡ slice_set marks n false
-clear_already [] n e = refl
-clear_already (mark ∷ marks) zero e = ap (λ m. m ∷ marks) e
-clear_already (mark ∷ marks) (suc n) e = ap (λ ms. mark ∷ ms) (clear_already marks n e)
-
 -- No mark
 
 -- none is marked before this place
@@ -108,13 +102,6 @@ nothing_in (mark ∷ marks) (x ∷ changes) (y ∷ ys) none e f =
 
 abbrev as_said : List (Option ℤ) → List (Option (ℤ × ℤ)) → SaidAt
 as_said drifts moves = record { drifts = drifts; moves = moves }
-
-pub nothing_by : (cfg : NetCfg) (marks : Marks) (drifts : List ℤ) (moves : List (ℤ × ℤ)) → Holds cfg marks drifts moves
-    → NoneMarked marks.nodes.items → NoneMarked marks.links.items → said_by marks drifts moves ≡ nothing_said cfg
-nothing_by cfg marks drifts moves h nodes links =
-    ap₂ as_said
-    (nothing_in marks.nodes.items drifts cfg.nodes.items nodes h.nodes h.clocks)
-    (nothing_in marks.links.items moves cfg.links.items links h.links h.fibres)
 
 -- no mark and no change
 at_rest : {X Y : Type 0} (rest : X) (ys : List Y) → RestsAt rest (map (λ y. false) ys) (map (λ y. rest) ys)
@@ -204,30 +191,6 @@ pub nothing_taken : (cfg : NetCfg) (place : ℕ) (said : SaidAt) (name text : Li
     → name ≡ before 61 text → node_named cfg name ≡ None → link_named cfg name ≡ None → Err (Name place) ≡ change_said cfg place said text
 nothing_taken cfg place said name text e node link =
     sym (ap₂ (λ (n k : Option ℕ). named_said place said n k (behind 61 text)) (ap (node_named cfg) (sym e) ∙ node) (ap (link_named cfg) (sym e) ∙ link))
-
-pub drift_holds : (cfg : NetCfg) (marks new : Marks) (drifts more : List ℤ) (moves : List (ℤ × ℤ)) → Holds cfg marks drifts moves
-    → length new.nodes.items ≡ length marks.nodes.items → length more ≡ length drifts → RestsAt (pos 0) new.nodes.items more → new.links ≡ marks.links
-    → Holds cfg new more moves
-drift_holds cfg marks new drifts more moves h count counted rests same = record {
-  nodes = count ∙ h.nodes;
-  links = ap (λ (links : Items Bool). length links.items) same ∙ h.links;
-  clocks = counted ∙ h.clocks;
-  fibres = h.fibres;
-  clocks_rest = rests;
-  fibres_rest = subst (λ (links : Items Bool). RestsAt (pos 0, pos 0) links.items moves) (sym same) h.fibres_rest;
-}
-
-pub move_holds : (cfg : NetCfg) (marks new : Marks) (drifts : List ℤ) (moves more : List (ℤ × ℤ)) → Holds cfg marks drifts moves
-    → length new.links.items ≡ length marks.links.items → length more ≡ length moves → RestsAt (pos 0, pos 0) new.links.items more → new.nodes ≡ marks.nodes
-    → Holds cfg new drifts more
-move_holds cfg marks new drifts moves more h count counted rests same = record {
-  nodes = ap (λ (nodes : Items Bool). length nodes.items) same ∙ h.nodes;
-  links = count ∙ h.links;
-  clocks = h.clocks;
-  fibres = counted ∙ h.fibres;
-  clocks_rest = subst (λ (nodes : Items Bool). RestsAt (pos 0) nodes.items drifts) (sym same) h.clocks_rest;
-  fibres_rest = rests;
-}
 
 -- How much is said
 
@@ -352,23 +315,6 @@ drifts_stay e = record { moves = refl; span = refl; pass = λ is. is }
 
 pub moves_stay : (e : Event) → OnlyMoves e e
 moves_stay e = record { drifts = refl; span = refl; pass = λ is. is }
-
--- a field of a node's clock leaves a `pass`
-pub clocks_pass : (cfg : NetCfg) (old new : Marks) (before after : Event) → IsPassing cfg old before → AreClocks old new before after → IsPassing cfg new after
-clocks_pass cfg old new before after h k = record {
-  pass = k.only.pass h.pass;
-  holds = subst (Holds cfg new (drifts_in after)) (sym k.only.moves)
-      (drift_holds cfg old new (drifts_in before) (drifts_in after) (moves_in before) h.holds k.marks k.count k.rest k.links);
-  found = λ is. h.found (sym k.apart ∙ is);
-}
-
-pub fibres_pass : (cfg : NetCfg) (old new : Marks) (before after : Event) → IsPassing cfg old before → AreFibres old new before after → IsPassing cfg new after
-fibres_pass cfg old new before after h k = record {
-  pass = k.only.pass h.pass;
-  holds = subst (λ (drifts : List ℤ). Holds cfg new drifts (moves_in after)) (sym k.only.drifts)
-      (move_holds cfg old new (drifts_in before) (moves_in before) (moves_in after) h.holds k.marks k.count k.rest k.nodes);
-  found = λ is. h.found (sym k.apart ∙ is);
-}
 
 -- a drift and its mark
 pub put_said : (old new : List Bool) (before after : List ℤ) (n k m : ℕ) (drift : ℤ) → k ≡ n → m ≡ n → n < length old → n < length before

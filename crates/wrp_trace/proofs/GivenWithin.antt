@@ -30,7 +30,8 @@ each_within s f (x ∷ xs) all = all_append (λ (g : Given). g.to < node_count s
 
 -- at the ends of links
 
-end_within : (s : Setting) (k : ℕ) (r : Role) (f : End → List Given) → IsTree s.cfg → ((end : End) → end.node < node_count s.cfg → AllWithin s (f end)) → AllWithin s (option_map_or f (end_at s k r) [])
+end_within : (s : Setting) (k : ℕ) (r : Role) (f : End → List Given) → IsTree s.cfg
+    → ((end : End) → end.node < node_count s.cfg → AllWithin s (f end)) → AllWithin s (option_map_or f (end_at s k r) [])
 end_within s k r f tree all = go (link_of s k) refl r
   where
     go : (o : Option LinkCfg) → link_of s k ≡ o → (r : Role) → AllWithin s (option_map_or f (option_map (end_of r) (link_of s k)) [])
@@ -40,31 +41,37 @@ end_within s k r f tree all = go (link_of s k) refl r
 
 goes_both : (s : Setting) → IsTree s.cfg → (k : ℕ) (r : Role) → AllWithin s (goes_from s k r)
 goes_both s tree k r =
-    all_append (λ (g : Given). g.to < node_count s.cfg) (goes_at s k r) (goes_at s k (other_of r)) (end_within s k r _ tree (λ end h. (h, tt))) (end_within s k (other_of r) _ tree (λ end h. (h, tt)))
+    all_append (λ (g : Given). g.to < node_count s.cfg) (goes_at s k r) (goes_at s k (other_of r))
+    (end_within s k r _ tree (λ end h. (h, tt))) (end_within s k (other_of r) _ tree (λ end h. (h, tt)))
 
 comes_both : (s : Setting) (w : WorldAt) → IsTree s.cfg → (k : ℕ) (r : Role) → AllWithin s (comes_from s w k r)
 comes_both s w tree k r =
-    all_append (λ (g : Given). g.to < node_count s.cfg) (comes_at s w k r) (comes_at s w k (other_of r)) (end_within s k r _ tree (λ end h. (h, tt))) (end_within s k (other_of r) _ tree (λ end h. (h, tt)))
+    all_append (λ (g : Given). g.to < node_count s.cfg) (comes_at s w k r) (comes_at s w k (other_of r))
+    (end_within s k r _ tree (λ end h. (h, tt))) (end_within s k (other_of r) _ tree (λ end h. (h, tt)))
 
 if_within : (s : Setting) (b : Bool) (gs : List Given) → AllWithin s gs → AllWithin s (if b then gs else [])
 if_within s true gs all = all
 if_within s false gs all = tt
 
-carried_within : (s : Setting) (w : WorldAt) (f : ℕ → Role → List Given) (o : Option Place) → ((k : ℕ) (r : Role) → AllWithin s (f k r)) → AllWithin s (if_carried s w f o)
+carried_within : (s : Setting) (w : WorldAt) (f : ℕ → Role → List Given) (o : Option Place)
+    → ((k : ℕ) (r : Role) → AllWithin s (f k r)) → AllWithin s (if_carried s w f o)
 carried_within s w f None all = tt
 carried_within s w f (Some place) all = if_within s (has_carrier s w place.link) (f place.link place.role) (all place.link place.role)
 
 ports_within : (s : Setting) (w : WorldAt) (f : ℕ → Role → List Given) (n : ℕ) → ((k : ℕ) (r : Role) → AllWithin s (f k r)) → AllWithin s (at_ports s w f n)
-ports_within s w f n all = each_within s (λ p. if_carried s w f (place_of s n p)) (numbers_of (s.set n)) (λ p. carried_within s w f (place_of s n p) all)
+ports_within s w f n all =
+    each_within s (λ p. if_carried s w f (place_of s n p)) (numbers_of (s.set n)) (λ p. carried_within s w f (place_of s n p) all)
 
 -- by each event
 
-told_within : (s : Setting) (n p seq : ℕ) (stamp : ℤ) (samples : ℕ) (body : Body) → n < node_count s.cfg → AllWithin s (told_sending n p seq stamp samples body)
+told_within : (s : Setting) (n p seq : ℕ) (stamp : ℤ) (samples : ℕ) (body : Body) → n < node_count s.cfg
+    → AllWithin s (told_sending n p seq stamp samples body)
 told_within s n p seq stamp samples (bodies.Sync origin) h = (h, tt)
 told_within s n p seq stamp samples (bodies.DelayReq origin) h = (h, tt)
 told_within s n p seq stamp samples _ h = tt
 
-sent_within : (s : Setting) (n p : ℕ) (stamp : ℤ) (samples : ℕ) (waiting : List Sending) → n < node_count s.cfg → AllWithin s (sent_oldest n p stamp samples waiting)
+sent_within : (s : Setting) (n p : ℕ) (stamp : ℤ) (samples : ℕ) (waiting : List Sending) → n < node_count s.cfg
+    → AllWithin s (sent_oldest n p stamp samples waiting)
 sent_within s n p stamp samples [] h = tt
 sent_within s n p stamp samples (oldest ∷ rest) h = told_within s n p oldest.message.head.seq stamp samples oldest.message.body h
 
@@ -76,7 +83,8 @@ delivered_within s (Some f) tree = go f.arrival
     go None = tt
     go (Some arrival) = end_within s f.link (other_of f.by) _ tree (λ end h. (h, tt))
 
-pub given_within : (s : Setting) (w v : WorldAt) (says : Result PtpMsg FrameFault) (e : Event) → IsTree s.cfg → IsEventOf s.cfg e → AllWithin s (given_by s w v says e)
+pub given_within : (s : Setting) (w v : WorldAt) (says : Result PtpMsg FrameFault) (e : Event) → IsTree s.cfg → IsEventOf s.cfg e
+    → AllWithin s (given_by s w v says e)
 given_within s w v says (Pass dt drifts fibres) tree is = tt
 given_within s w v says (Tick n) tree is = (is, tt)
 given_within s w v says (Sample n base bits) tree is = (is.0, tt)
