@@ -14,7 +14,8 @@ use Rattle.wrp_network_world.specs.NetworkSetting.{IsSettingOf}
 use Rattle.wrp_replay.specs.DownLaw.{law_at}
 use Rattle.wrp_asked.specs.Input.{behind_separator}
 use Rattle.wrp_asked.specs.Tasks.{Audit}
-use Rattle.wrp_answers.proofs.Auditing.{IsOfNetwork, all_said, no_events, one_more}
+use Rattle.wrp_answers.proofs.Auditing.{IsOfNetwork, no_events, one_more}
+use Rattle.wrp_projection.proofs.Projected.{all_said}
 use Rattle.wrp_answers.specs.Accepted.{AcceptedIsAudit, AcceptedIsDone, EachIsAccepted, IsAccepted, RunOfLinesIsAudit}
 
 -- the setting of a text that is read is that of an accepted network

@@ -1,10 +1,6 @@
 -- Events of lines, each accepted in its turn, are an audit; and for the lines of each audit, and of the inputs that a node is
 -- given in it, an answer is due.
-use Rattle.std.proofs.Common.{◌≡◌, ◌⊎◌, inl, inr, refl, sym, ap, subst, ℕ, ◌+◌, List, [], ◌∷◌, ◌++◌, flat_map, length, map, reverse, Some, Result, Ok, Err}
-use Rattle.std.specs.List.{AllByRecursion}
-use Rattle.std.proofs.lemmas.List.{reverse-append, reverse-reverse}
-use Rattle.wrp_base.proofs.Lists.{all_append}
-use Rattle.wrp_base.specs.declared.configuration.NetCfg.{NetCfg}
+use Rattle.std.proofs.Common.{◌≡◌, ◌⊎◌, inl, inr, refl, ap, ℕ, ◌+◌, List, [], ◌∷◌, ◌++◌, flat_map, length, Some, Result, Ok, Err}
 use Rattle.wrp_base.specs.declared.fault.TraceFault.{TraceFault}
 use Rattle.wrp_base.specs.declared.message.PtpMsg.{PtpMsg}
 use Rattle.wrp_config.specs.Accepted.{IsAccepted}
@@ -19,7 +15,6 @@ use Rattle.wrp_course.specs.Setting.{Setting}
 use Rattle.wrp_records.specs.declared.machine.Refusal.TheVariants as refusals
 use Rattle.wrp_records.specs.declared.status.Status.TheVariants.{Done}
 use Rattle.wrp_records.specs.Refusals.{bad_trace_line}
-use Rattle.wrp_recorded.specs.Recorded.{AllSaidByLines}
 use Rattle.wrp_trace.specs.Events.{event_read}
 use Rattle.wrp_audit.specs.Audited.{AreEvents, IsAudit}
 use Rattle.wrp_network_world.specs.NetworkSetting.{answers_in}
@@ -29,34 +24,12 @@ use Rattle.wrp_replay.specs.DownLaw.{law_at}
 use Rattle.wrp_audit.specs.AuditText.{event_lines, given_line}
 use Rattle.wrp_network_world.specs.Counts.{all_counts}
 use Rattle.wrp_audit.specs.Broken.{broken_line}
-use Rattle.wrp_audit.proofs.OneAudit.{one_line, read}
+use Rattle.wrp_audit.proofs.OneAudit.{one_line}
+use Rattle.wrp_projection.proofs.Projected.{all_said}
 use Rattle.wrp_due.proofs.Happening.{event_answered, event_said, event_tried}
 use Rattle.wrp_due.proofs.Heard.{all_heard, lines_hand_on}
 use Rattle.wrp_records.proofs.LinesAnswered.{GoesOn, IsTotal, Refused, lines_answered}
 use Rattle.wrp_records.specs.RecordsAnswer.{HasAnswer}
-
--- Lines that say events
-
-abbrev SaidByLine : NetCfg → Happened → Type 0
-SaidByLine cfg h = (line : List ℕ) × (event_read cfg line ≡ Ok h.event)
-
-said_each : (cfg : NetCfg) (lines : List (List ℕ)) (events : List Happened) → map (event_read cfg) lines ≡ map read events → AllByRecursion (SaidByLine cfg) events
-said_each cfg [] [] e = tt
-said_each cfg [] (h ∷ events) e = absurd (cc)
-said_each cfg (line ∷ lines) [] e = absurd (cc)
-said_each cfg (line ∷ lines) (h ∷ events) e =
-    let head : event_read cfg line ≡ read h = cc in
-    let rest : map (event_read cfg) lines ≡ map read events = cc in
-    ((line, head), said_each cfg lines events rest)
-
-turned : {A : Type 0} (P : A → Type 0) (xs : List A) → AllByRecursion P xs → AllByRecursion P (reverse xs)
-turned P [] h = tt
-turned P (x ∷ xs) h = subst (AllByRecursion P) (sym (reverse-append (x ∷ []) xs)) (all_append P (reverse xs) (x ∷ []) (turned P xs h.1) (h.0, tt))
-
-pub all_said : (s : Setting) (lines : List (List ℕ)) (events : List Happened) → AreEvents s lines events → AllSaidByLines s.cfg events
-all_said s lines events are =
-    subst (AllByRecursion (SaidByLine s.cfg)) (reverse-reverse events)
-    (turned (SaidByLine s.cfg) (reverse events) (said_each s.cfg lines (reverse events) are))
 
 -- A setting of an accepted network
 

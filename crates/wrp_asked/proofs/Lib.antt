@@ -37,3 +37,4 @@ pub mod ToldWhole
 pub mod TrackTold
 pub mod TracksHold
 pub mod WordLemmas
+pub mod LastLines

@@ -135,7 +135,7 @@ said_each cfg (line ∷ lines) (h ∷ events) e =
     let rest : map (event_read cfg) lines ≡ map read events = cc in
     ((line, head), said_each cfg lines events rest)
 
-all_said : (s : Setting) (lines : List (List ℕ)) (events : List Happened) → AreEvents s lines events → AllSaidByLines s.cfg events
+pub all_said : (s : Setting) (lines : List (List ℕ)) (events : List Happened) → AreEvents s lines events → AllSaidByLines s.cfg events
 all_said s lines events are =
     subst (AllByRecursion (SaidByLine s.cfg)) (reverse-reverse events)
     (all_turned (SaidByLine s.cfg) (reverse events) (said_each s.cfg lines (reverse events) are))

@@ -1,6 +1,6 @@
 -- What an audit and a run over a link wrote is divided into the lines of its event lines, each of which says its event: so each track
 -- line follows from them, by the law of all runs.
-use Rattle.std.proofs.Common.{◌≡◌, ◌⊎◌, inl, inr, ◌∙◌, refl, ap, ap₂, sym, subst, append-nil, ℕ, ◌+◌, ◌==◌, pos, Bool, true, false, if◌then◌else◌, List, [], ◌∷◌, ◌++◌, map, flat_map, reverse, take, drop, length, Option, None, Some, Result, Ok, codes}
+use Rattle.std.proofs.Common.{◌≡◌, ◌⊎◌, inl, inr, ◌∙◌, refl, ap, ap₂, sym, subst, append-nil, ℕ, ◌+◌, pos, true, false, List, [], ◌∷◌, ◌++◌, map, flat_map, reverse, take, drop, Option, None, Some, Result, Ok}
 use Rattle.std.specs.Prelude.{IfSome, slice_get}
 use Rattle.std.specs.Fmt.{decimal}
 use Rattle.std.specs.Io.KnownBytes.{Appends}
@@ -8,8 +8,7 @@ use Rattle.std.specs.List.{AllByRecursion, concat}
 use Rattle.std.proofs.lemmas.List.{map-append, reverse-append, reverse-reverse, take-append-drop}
 use Rattle.toml.specs.Data.{Members}
 use Rattle.wrp_base.specs.declared.fault.TraceFault.{TraceFault}
-use Rattle.wrp_base.specs.Network.{name_at}
-use Rattle.wrp_base.proofs.Lists.{all_append, heads, tails}
+use Rattle.wrp_base.proofs.Lists.{heads, tails}
 use Rattle.wrp_bounds.specs.Bounds.{path_of}
 use Rattle.wrp_config.specs.Accepted.{HasNames}
 use Rattle.wrp_config.specs.Config.{IsNetworkOf}
@@ -19,32 +18,24 @@ use Rattle.wrp_course.specs.declared.event.Event.{Event}
 use Rattle.wrp_course.specs.Given.{NodeStepAt}
 use Rattle.wrp_course.specs.Run.{Happened, steps_at, world_after}
 use Rattle.wrp_course.specs.Runs.{AllEvents, IsNetwork}
-use Rattle.wrp_course.specs.Setting.{Setting, nodes_of}
+use Rattle.wrp_course.specs.Setting.{Setting}
 use Rattle.wrp_course.specs.WorldAt.{WorldAt}
-use Rattle.wrp_data.specs.Counters.{count_at}
-use Rattle.wrp_data.specs.declared.reason.Reason.{Reason}
-use Rattle.wrp_data.specs.Reason.{number_of, reasons}
 use Rattle.wrp_io.specs.declared.link.LinkCall.{LinkCall}
 use Rattle.wrp_lines.specs.Lines.{output_line, output_words}
-use Rattle.wrp_lines.specs.Words.{reason_word}
 use Rattle.wrp_loop.specs.Laws.{LoopIsAudited}
-use Rattle.wrp_loop.specs.LoopRun.{Going, Plan, events_at, place}
-use Rattle.wrp_scene.specs.EventLimit.{event_limit}
+use Rattle.wrp_loop.specs.LoopRun.{Going, events_at, place}
 use Rattle.wrp_loop.specs.LoopText as looped
 use Rattle.wrp_loop.specs.LoopText.{NoneIsMarked, forged_lines, is_marked, loop_lines, steps_lines}
 use Rattle.wrp_loop.proofs.Audited.{at_name}
 use Rattle.wrp_node.specs.declared.interface.Output.{Output}
 use Rattle.wrp_records.specs.declared.status.Status.{Status}
-use Rattle.wrp_records.specs.declared.status.Status.TheVariants.{Done, BadTrace, LinkFault, OutOfMemory, TooLarge, WriteFault}
+use Rattle.wrp_records.specs.declared.status.Status.TheVariants.{WriteFault}
 use Rattle.wrp_records.specs.Lines.{IsWhole, content_of, lines_of}
-use Rattle.wrp_records.specs.Stream.{large_line}
 use Rattle.wrp_records.specs.Words.{line_of}
-use Rattle.wrp_records.proofs.Reaching.{lines_alone, lines_behind}
-use Rattle.wrp_replay.specs.NodeText.{port_numbers}
-use Rattle.wrp_loop.specs.Loops.{closing_lines, plan_of}
+use Rattle.wrp_records.proofs.Reaching.{lines_behind}
+use Rattle.wrp_loop.specs.Loops.{plan_of}
 use Rattle.wrp_trace.specs.EventPrinting.{event_text}
 use Rattle.wrp_trace.specs.Events.{EventsCanCome, event_read}
-use Rattle.wrp_trace.specs.LineSetting.{has_port, line_setting_in}
 use Rattle.wrp_trace.proofs.EventsReadBack.{events_back}
 use Rattle.wrp_truth.specs.Chains.{AllFit}
 use Rattle.wrp_audit.specs.Audited.{AreEvents}
@@ -59,19 +50,17 @@ use Rattle.wrp_asked.specs.EmitHeadline.{TellsNoTrack}
 use Rattle.wrp_asked.specs.Ends.{Ends, Run}
 use Rattle.wrp_asked.specs.Headline.{Came, CarriesRun, EventsCarryParts, Headline, Prints, ReachesNone, StepsOf}
 use Rattle.wrp_asked.specs.Input.{network_text}
-use Rattle.wrp_asked.specs.LoopHeadline.{IsLoopDue, LacksLink, LoopHeadline, LoopOf, Looped, LoopedEventsCarryParts, StandsBehind}
-use Rattle.wrp_asked.specs.SimHeadline.{NamesLine}
+use Rattle.wrp_asked.specs.LoopHeadline.{IsLoopDue, LoopHeadline, LoopOf, Looped, LoopedEventsCarryParts}
 use Rattle.wrp_asked.specs.Tasks.{IsAuditing, IsLooping}
-use Rattle.wrp_lines.proofs.LineWords.{at_word}
-use Rattle.wrp_records.proofs.WordLemmas.{decimal_word}
 use Rattle.wrp_asked.proofs.HeadlineParts.{network_of, run_of, setting_asked}
 use Rattle.wrp_asked.proofs.HeadlineTold.{IsTold, headline_told}
 use Rattle.wrp_asked.proofs.LoopTold.{IsLoopedSo, looped_told}
-use Rattle.wrp_asked.proofs.NoTrack.{bad_trace, decimal_low, fourth, in_front, large, last_tells, no_line, none_tells, told_as, two_words}
+use Rattle.wrp_asked.proofs.NoTrack.{in_front, last_tells, none_tells}
 use Rattle.wrp_asked.proofs.TakenLines.{taken_lines}
-use Rattle.wrp_asked.proofs.ToldApart.{came_text, count_if, count_lines, counts_text, flat_all, node_lines, port_if, steps_text}
-use Rattle.wrp_asked.proofs.ToldWhole.{all_whole, audit_whole, counts_whole, forged_whole}
+use Rattle.wrp_asked.proofs.ToldApart.{came_text, count_lines, flat_all, steps_text}
+use Rattle.wrp_asked.proofs.ToldWhole.{all_whole, audit_whole}
 use Rattle.wrp_run.specs.Shown.{AreTold, AuditFollows, ComeFrom, LoopFollows, Shows, ShowsNone, in_order, marked}
+use Rattle.wrp_asked.proofs.LastLines.{all_told, loop_tells, link_tells, names_tells}
 
 -- Lines of steps
 
@@ -147,41 +136,6 @@ network_is text s h = record {
   is = h.reads.1;
   network = subst (λ (t : Setting). IsNetworkOf h.reads.0 t.cfg) (sym h.is) h.reads.2.1;
 }
-
--- Counters, and lines that name what is refused
-
-count_told : (s : Setting) → IsNetwork s → (n port : ℕ) (reason : Reason) (none : Bool) (value : ℕ) → AllByRecursion TellsNoTrack (count_if (name_at s.cfg n) port reason none value)
-count_told s net n port reason true value = tt
-count_told s net n port reason false value =
-    (fourth (name_at s.cfg n) (codes "count") (decimal port) (reason_word (number_of reason)) (decimal value ∷ []) (at_word s.cfg net.accepted.names n) refl (decimal_low port), tt)
-
-port_told : (s : Setting) → IsNetwork s → (n : ℕ) (has : Bool) (port : ℕ) (counters : List ℕ) → AllByRecursion TellsNoTrack (port_if (name_at s.cfg n) has port counters)
-port_told s net n true port counters =
-    flat_all TellsNoTrack (λ reason. count_if (name_at s.cfg n) port reason (count_at counters (number_of reason) == 0) (count_at counters (number_of reason)))
-    (λ reason. count_told s net n port reason (count_at counters (number_of reason) == 0) (count_at counters (number_of reason))) reasons
-port_told s net n false port counters = tt
-
-counts_told : (s : Setting) → IsNetwork s → (w : WorldAt) → AllByRecursion TellsNoTrack (count_lines s w)
-counts_told s net w =
-    flat_all TellsNoTrack (node_lines s w)
-    (λ n. flat_all TellsNoTrack (λ port. port_if (name_at s.cfg n) (has_port (line_setting_in s n) port) port ((w.node n).counters port))
-    (λ port. port_told s net n (has_port (line_setting_in s n) port) port ((w.node n).counters port)) port_numbers) (nodes_of s)
-
-all_told : (s : Setting) → IsNetwork s → (w : WorldAt) → AllByRecursion TellsNoTrack (lines_of (all_counts s w))
-all_told s net w =
-    subst (AllByRecursion TellsNoTrack) (sym (ap lines_of (sym (counts_text s w)) ∙ lines_alone (count_lines s w) (counts_whole s net w))) (counts_told s net w)
-
-forged_told : (count : ℕ) (none : Bool) → AllByRecursion TellsNoTrack (if none then [] else line_of (codes "forged" ∷ decimal count ∷ []) ∷ [])
-forged_told count true = tt
-forged_told count false = (two_words (codes "forged") (decimal count) refl (decimal_word count), tt)
-
-closing_told : (s : Setting) → IsNetwork s → (w : WorldAt) (forged : ℕ) → AllByRecursion TellsNoTrack (lines_of (all_counts s w ++ concat (forged_lines forged)))
-closing_told s net w forged =
-    let cut : lines_of (all_counts s w ++ concat (forged_lines forged)) ≡ count_lines s w ++ forged_lines forged =
-    ap (λ (l : List ℕ). lines_of (l ++ concat (forged_lines forged))) (sym (counts_text s w))
-    ∙ lines_behind (count_lines s w) (concat (forged_lines forged)) (counts_whole s net w)
-    ∙ ap (λ (l : List (List ℕ)). count_lines s w ++ l) (lines_alone (forged_lines forged) (forged_whole forged (forged == 0))) in
-    subst (AllByRecursion TellsNoTrack) (sym cut) (all_append TellsNoTrack (count_lines s w) (forged_lines forged) (counts_told s net w) (forged_told forged (forged == 0)))
 
 -- The front of a text
 
@@ -287,14 +241,6 @@ loop_whole s net events each fit =
     let counts : List (List ℕ) = count_lines s (world_after s events) in
     front_all IsWhole (loop_lines s events) counts (front_all IsWhole (loop_lines s events ++ counts) (forged_lines 0) (all_whole s net events each fit 0))
 
-behind_tells : (status : Status) (x : Plan) (calls later : List LinkCall) (last : Going) (text : List ℕ) → IsNetwork x.setting → StandsBehind status x calls later last text → AllByRecursion TellsNoTrack (lines_of text)
-behind_tells Done x calls later last text net ends =
-    told_as text (closing_lines x.setting (place last)) ends.2 (closing_told x.setting net (world_after x.setting (events_at (place last))) (place last).forged)
-behind_tells TooLarge x calls later last text net ends = told_as text (large_line event_limit) ends.2 (large event_limit)
-behind_tells LinkFault x calls later last text net ends = no_line text ends.1
-behind_tells OutOfMemory x calls later last text net ends = no_line text ends.1
-behind_tells status x calls later last text net ends = absurd ends
-
 loop_shows : OffsetsFollow → (asked : CommandLine) (input : List ℕ) (calls : List LinkCall) (status : Status) (due octets : List ℕ) (loop : LoopOf asked input calls status due) →
     CarriesRun event_lines loop.setting (events_at (place loop.last)) → IsFront due octets → Shows AreTold (λ it. marked it ∷ it.lines) input octets
 loop_shows follow asked input calls status due octets loop carried front =
@@ -316,18 +262,9 @@ loop_shows follow asked input calls status due octets loop carried front =
           ap lines_of (front.is ∙ text)
           ∙ lines_behind (loop_lines s events) loop.behind (loop_whole s net events carried.run.each carried.fit)
           ∙ ap (λ (l : List (List ℕ)). l ++ lines_of loop.behind) (sym (loop_shown s events));
-      closing = behind_tells status (plan_of s loop.came.scene loop.came.seed) calls loop.came.later loop.last loop.behind net loop.ends;
+      closing = loop_tells status (plan_of s loop.came.scene loop.came.seed) calls loop.came.later loop.last loop.behind net loop.ends;
       follow = follow s events (came_by s events) carried.run (are_came s events net.accepted.names carried.run.each carried.fit);
     }
-
-names_tells : (status : Status) (s : Setting) (front : List (List ℕ)) (line octets : List ℕ) → NamesLine status s front line octets → ShowsNone octets
-names_tells BadTrace s front line octets is = told_as octets _ is.4 (bad_trace _ is.2)
-names_tells TooLarge s front line octets is = told_as octets (large_line (length front + 1)) is.1 (large (length front + 1))
-names_tells status s front line octets is = absurd is
-
-link_tells : (asked : CommandLine) (input : List ℕ) (calls : List LinkCall) (status : Status) (octets : List ℕ) → LacksLink asked input calls status octets → ShowsNone octets
-link_tells asked input calls LinkFault octets lacks = no_line octets lacks.none
-link_tells asked input calls status octets lacks = absurd lacks
 
 -- what is due shows no track line, or is that of events
 loop_due : (asked : CommandLine) (input : List ℕ) (calls : List LinkCall) (status : Status) (due : List ℕ) → IsLoopDue asked input calls status due → ShowsNone due ⊎ LoopOf asked input calls status due
