@@ -37,7 +37,8 @@ use Rattle.wrp_records.specs.declared.machine.Refusal.TheVariants as refusals
 use Rattle.wrp_records.specs.declared.machine.Taken.{Taken}
 use Rattle.wrp_records.specs.declared.machine.Taken.TheVariants as taken
 use Rattle.wrp_audit.specs.Audited.{AllHeard, IsAudit}
-use Rattle.wrp_network_world.specs.NetworkSetting.{HasLawOf, setting_in}
+use Rattle.wrp_network_world.specs.NetworkSetting.{setting_in}
+use Rattle.wrp_network_world.specs.LawsFit.{HasLawOf}
 use Rattle.wrp_audit.specs.AuditLaws.{OneAudit}
 use Rattle.wrp_audit.specs.Audits.{Breaks}
 use Rattle.wrp_audit.specs.AuditStands.{Broke, CanAudit, Happens, HasAudited, Took, line_by, lines_by}

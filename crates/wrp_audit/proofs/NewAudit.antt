@@ -9,9 +9,9 @@ use Rattle.wrp_world.specs.StandsFor.{IsValid, StandsFor}
 use Rattle.wrp_course.specs.WorldAt.{new_world}
 use Rattle.wrp_audit.specs.declared.audit.AuditedNetwork.{AuditedNetwork}
 use Rattle.wrp_audit.specs.AuditStands.{CanAudit, HasAudited}
-use Rattle.wrp_network_world.specs.NetworkSetting.{HasLawOf, setting_in}
+use Rattle.wrp_network_world.specs.NetworkSetting.{setting_in}
 use Rattle.wrp_network_world.specs.Bounds.{AreBounds}
-use Rattle.wrp_network_world.specs.LawsFit.{LawsFit}
+use Rattle.wrp_network_world.specs.LawsFit.{LawsFit, HasLawOf}
 use Rattle.wrp_audit.proofs.AuditSteps.{nothing_audited}
 use Rattle.wrp_network_world.proofs.NewWorld.{laws_are, new_stands}
 

@@ -18,7 +18,8 @@ use Rattle.wrp_records.specs.declared.machine.Refusal.TheVariants as refusal
 use Rattle.wrp_records.specs.declared.machine.Taken.{Taken}
 use Rattle.wrp_records.specs.declared.machine.Taken.TheVariants as taken
 use Rattle.wrp_audit.specs.Audited.{IsAudit}
-use Rattle.wrp_network_world.specs.NetworkSetting.{setting_in, HasLawOf}
+use Rattle.wrp_network_world.specs.NetworkSetting.{setting_in}
+use Rattle.wrp_network_world.specs.LawsFit.{HasLawOf}
 use Rattle.wrp_audit.specs.AuditText.{audit_lines, given_line, given_lines, step_lines}
 use Rattle.wrp_network_world.specs.Bounds.{AreBounds}
 use Rattle.wrp_audit.specs.Broken.{broken_line}

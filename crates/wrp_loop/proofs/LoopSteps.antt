@@ -34,12 +34,12 @@ use Rattle.wrp_records.specs.Reader.{ReaderAt}
 use Rattle.wrp_records.specs.Stream.{Handles, Handling, large_line}
 use Rattle.wrp_records.specs.Taking.{AppendsPart}
 use Rattle.wrp_records.proofs.Passed.{passes_nothing, passes_stopped}
-use Rattle.wrp_network_world.specs.NetworkSetting.{HasLawOf, setting_in}
+use Rattle.wrp_network_world.specs.NetworkSetting.{setting_in}
 use Rattle.wrp_loop.specs.LoopPasses.{ClosesLoop, IsUncalled, LoopPasses, Ran, RanDue, RanSo, Rounding}
 use Rattle.wrp_loop.specs.Loops.{IsLawful, IsShort, closing_lines, plan_of}
 use Rattle.wrp_scene_records.specs.ScenarioStands.{ClosesLarge}
 use Rattle.wrp_scene_records.specs.Scenarios.{IsScenario, SimAccepts, SimRefuses, scenario_of}
-use Rattle.wrp_network_world.specs.LawsFit.{LawsFit}
+use Rattle.wrp_network_world.specs.LawsFit.{LawsFit, HasLawOf}
 use Rattle.wrp_network_world.proofs.WorldRuns.{answered, made_after}
 use Rattle.wrp_network_world.proofs.NewWorld.{laws_are, new_stands}
 use Rattle.wrp_scene_records.proofs.Finishing.{finishes_after}

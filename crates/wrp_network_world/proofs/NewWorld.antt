@@ -16,10 +16,10 @@ use Rattle.wrp_world.specs.New.{law_at, setting_of}
 use Rattle.wrp_world.specs.StandsFor.{StandsFor, WorldOf}
 use Rattle.wrp_course.specs.WorldAt.{new_world}
 use Rattle.wrp_trace.specs.LineSetting.{line_setting_in}
-use Rattle.wrp_network_world.specs.NetworkSetting.{HasLawOf, setting_in}
+use Rattle.wrp_network_world.specs.NetworkSetting.{setting_in}
 use Rattle.wrp_replay.specs.DownLaw.{AnswersBy, greatest_over, least_over}
 use Rattle.wrp_replay.specs.DownLaw as down
-use Rattle.wrp_network_world.specs.LawsFit.{LawsFit}
+use Rattle.wrp_network_world.specs.LawsFit.{LawsFit, HasLawOf}
 use Rattle.wrp_network_world.proofs.WorldRuns.{below_count}
 
 -- The range of each law

@@ -24,7 +24,8 @@ use Rattle.wrp_course.specs.Run.{Happened, IsAnswered, world_after}
 use Rattle.wrp_course.specs.Setting.{Setting, node_setting_of}
 use Rattle.wrp_world.specs.StandsFor.{StandsFor, WorldOf}
 use Rattle.wrp_course.specs.WorldAt.{WorldAt}
-use Rattle.wrp_network_world.specs.NetworkSetting.{answers_in, HasLawOf, setting_in}
+use Rattle.wrp_network_world.specs.NetworkSetting.{answers_in, setting_in}
+use Rattle.wrp_network_world.specs.LawsFit.{HasLawOf}
 use Rattle.wrp_replay.specs.DownLaw.{AnswersBy, law_at}
 use Rattle.wrp_replay.proofs.Runs.{no_calls, run_of}
 

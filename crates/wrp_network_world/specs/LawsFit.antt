@@ -7,9 +7,12 @@ use Rattle.wrp_law.specs.Law.{LawOf}
 use Rattle.wrp_law.specs.LinkLaw.{error_of, kind_of, least_of, most_of}
 use Rattle.wrp_world.specs.New.{FitsLaw}
 use Rattle.wrp_plant.specs.Plant.{Each}
+use Rattle.wrp_course.specs.Setting.{Setting}
+use Rattle.wrp_node.specs.Control.{law_in}
+use Rattle.wrp_world.specs.StandsFor.{WorldOf}
 use Rattle.wrp_trace.specs.LineSetting.{line_setting_in}
 use Rattle.wrp_network_world.specs.NetworkSetting.{setting_in}
-use Rattle.wrp_replay.specs.DownLaw.{IsLawAt}
+use Rattle.wrp_replay.specs.DownLaw.{AnswersBy, IsLawAt, law_at}
 use Rattle.wrp_replay.specs.LinkLaw.{IsLawOver}
 
 -- a kept law that has the numbers of a link's law
@@ -36,3 +39,8 @@ pub record LawsFit {F : Type 0} (pre : F → ℤ → Type 0) (post : F → ℤ �
     (laws : List (Option (LawOf F))) : Type 0 where
   pub count : length laws ≡ node_count net.cfg
   pub each : Each (FitsAt pre post net) laws
+
+-- of a world: the law of each node is that of the link above it
+abbrev pub HasLawOf : {F : Type 0} → (F → ℤ → ℤ → Type 0) → Setting → WorldOf F → Type 0
+HasLawOf post s world =
+    Each (λ n node. IfSome (law_in node.control) (AnswersBy post (law_at (line_setting_in s n)))) world.nodes

@@ -1,5 +1,5 @@
 -- The setting of a network's world, and the delay laws of its links (this project's profile).
-use Rattle.std.specs.Prelude.{◌≡◌, ℕ, ℤ, IfSome, Ok, List}
+use Rattle.std.specs.Prelude.{◌≡◌, ℕ, ℤ, Ok, List}
 use Rattle.wrp_base.specs.declared.configuration.NetCfg.{NetCfg}
 use Rattle.wrp_base.specs.Network.{link_above}
 use Rattle.wrp_caldb.specs.Database.{Database}
@@ -9,10 +9,7 @@ use Rattle.wrp_node.specs.OneRun.{answers_by}
 use Rattle.wrp_node.specs.Set.{set_of}
 use Rattle.wrp_trace.specs.LineSetting.{line_setting_in}
 use Rattle.wrp_course.specs.Setting.{Setting}
-use Rattle.wrp_replay.specs.DownLaw.{AnswersBy, law_at, least_over, greatest_over}
-use Rattle.wrp_node.specs.Control.{law_in}
-use Rattle.wrp_plant.specs.Plant.{Each}
-use Rattle.wrp_world.specs.StandsFor.{WorldOf}
+use Rattle.wrp_replay.specs.DownLaw.{law_at, least_over, greatest_over}
 
 -- the setting of a network: each node is set to its part of it, and its delay law is that of the link
 -- above it
@@ -42,8 +39,3 @@ laws_in s n = law_at (line_setting_in s n)
 -- what they answer
 abbrev pub answers_in : Setting → ℕ → ℤ → ℤ → Type 0
 answers_in s n = answers_by (laws_in s n)
-
--- the law of a node is that of the link above it
-abbrev pub HasLawOf : {F : Type 0} → (F → ℤ → ℤ → Type 0) → Setting → WorldOf F → Type 0
-HasLawOf post s world =
-    Each (λ n node. IfSome (law_in node.control) (AnswersBy post (law_at (line_setting_in s n)))) world.nodes

@@ -8,8 +8,8 @@ use Rattle.wrp_node.specs.StandsFor.{NodeOf}
 use Rattle.wrp_world.specs.HasLaws.{HasLaws}
 use Rattle.wrp_world.specs.StandsFor.{IsValid}
 use Rattle.wrp_simulate.specs.declared.simulation.SimulatedNetwork.{SimulatedNetwork}
-use Rattle.wrp_network_world.specs.NetworkSetting.{HasLawOf, setting_in}
-use Rattle.wrp_network_world.specs.LawsFit.{LawsFit}
+use Rattle.wrp_network_world.specs.NetworkSetting.{setting_in}
+use Rattle.wrp_network_world.specs.LawsFit.{LawsFit, HasLawOf}
 use Rattle.wrp_network_world.specs.Bounds.{AreBounds}
 use Rattle.wrp_simulate.specs.SimStands.{CanRun}
 use Rattle.wrp_network_world.proofs.WorldRuns.{laws_stay}

@@ -26,7 +26,8 @@ use Rattle.wrp_simulate.specs.declared.simulation.SimulatedNetwork.{SimulatedNet
 use Rattle.wrp_simulate.specs.declared.totals.Total.{Total}
 use Rattle.wrp_records.specs.declared.status.Status.{Status}
 use Rattle.wrp_records.specs.declared.status.Status.TheVariants.{Done, OutOfMemory}
-use Rattle.wrp_network_world.specs.NetworkSetting.{HasLawOf, setting_in}
+use Rattle.wrp_network_world.specs.NetworkSetting.{setting_in}
+use Rattle.wrp_network_world.specs.LawsFit.{HasLawOf}
 use Rattle.wrp_records.specs.Engine.{Finishes}
 use Rattle.wrp_scene.specs.EventLimit.{event_limit}
 use Rattle.wrp_simulate.specs.Simulates.{IsSimulated}

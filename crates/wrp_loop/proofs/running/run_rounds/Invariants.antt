@@ -2,7 +2,8 @@
 use Rattle.std.proofs.Common.{◌≡◌, [], ℕ, List, Option}
 use Rattle.wrp_io.specs.declared.link.LinkCall.{LinkCall}
 use Rattle.wrp_loop.specs.SoFar.{CameSoFar, IsReady, rounds_left}
-use Rattle.wrp_network_world.specs.NetworkSetting.{HasLawOf, setting_in}
+use Rattle.wrp_network_world.specs.NetworkSetting.{setting_in}
+use Rattle.wrp_network_world.specs.LawsFit.{HasLawOf}
 use Rattle.wrp_loop.specs.LoopPasses.{Rounding}
 use Rattle.wrp_loop.specs.Loops.{plan_of}
 use Rattle.wrp_scene.specs.Scenario.{SceneAt}
